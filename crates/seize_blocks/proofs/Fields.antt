@@ -1,18 +1,21 @@
 -- How the words and a seat are stored: the words are one address, and a seat has no bytes.
-use Rattle.std.proofs.Common.{T, ◌≡◌, List, [], ◌∷◌, ◌++◌, refl, ap, ◌∙◌}
+use Rattle.std.proofs.Common.{T, ◌≡◌, ℕ, ◌<◌, ◌^◌, List, [], ◌∷◌, ◌++◌, refl, ap, ◌∙◌, w64}
 use mir.Syntax.{ty_ptr, ty_struct, tcons, tnil}
-use mir.Val.{Val, vstruct, vcons, vnil, of_list, has_ty, WT}
+use mir.Val.{Val, vint, vstruct, vcons, vnil, of_list, has_ty, WT}
 use seplogic.Ra.Ura.{Ura}
 use base.Logic.{ent, emp}
 use types.Logic.{Logic, sem}
+use types.Kit.{◌$◌, ◌∵◌, !, qed, fjoin, fpack, feq_i, flt_i, done}
 use denote.Shadow.{makes_shadow}
-use denote.RattleType.{RattleType}
+use denote.RattleType.{RattleType, Valss}
+use denote.Builtin.{u64}
+use denote.Steps.{nothing}
 use denote.RawPtr.{Ptr, block_ptr, null_ptr, ptr_val}
 use denote.Laws.{Is}
 use denote.Opens.{Opens}
 use denote.Copied.{Struct-Copied}
 use denote.Struct.Laws.{RawPtr-copy, field_copy}
-use denote.Struct.Struct.{Struct}
+use denote.Struct.Struct.{Struct, within}
 use denote.Struct.Owning.{shape}
 use denote.Struct.Tuple.{Tuple}
 use Rattle.core.proofs.atomic.Steps.{Ptr-Good}
@@ -21,6 +24,8 @@ use Rattle.seize_blocks.specs.declared.rule.Rule.{Ghosts}
 use Rattle.seize_blocks.specs.contracts.words.Words as words
 use Rattle.seize_blocks.specs.contracts.seat.Seat as seat
 use Rattle.seize_blocks.specs.contracts.row.Row as row
+use Rattle.seize_blocks.specs.contracts.claim.Claim as claim
+use Rattle.seize_blocks.specs.contracts.place.Place as place
 
 -- an address and no more
 abbrev pub hand_of : Ptr → Val
@@ -85,6 +90,13 @@ pub one_good : (p : Ptr) → T (has_ty (ty_struct [] (tcons ty_ptr tnil)) (one_o
 one_good (block_ptr b o) = (tt, (tt, tt))
 one_good null_ptr = (tt, ((Ptr-Good null_ptr).1, tt))
 
+pub pair_good : (p q : Ptr) → T (has_ty (ty_struct [] (tcons (ty_struct [] (tcons ty_ptr tnil)) (tcons (ty_struct [] (tcons ty_ptr tnil)) tnil)))
+    (vstruct (vcons (one_of p) (vcons (one_of q) vnil)))) × WT (vstruct (vcons (one_of p) (vcons (one_of q) vnil)))
+pair_good (block_ptr b o) (block_ptr c u) = (tt, ((tt, tt), ((tt, tt), tt)))
+pair_good (block_ptr b o) null_ptr = (tt, ((tt, tt), (((Ptr-Good null_ptr).1, tt), tt)))
+pair_good null_ptr (block_ptr c u) = (tt, (((Ptr-Good null_ptr).1, tt), ((tt, tt), tt)))
+pair_good null_ptr null_ptr = (tt, (((Ptr-Good null_ptr).1, tt), (((Ptr-Good null_ptr).1, tt), tt)))
+
 pub hand_good : (p : Ptr) → T (has_ty (ty_struct [] (tcons ty_ptr (tcons (ty_struct [] tnil) tnil))) (hand_of p)) × WT (hand_of p)
 hand_good (block_ptr b o) = (tt, (tt, (tt, tt)))
 hand_good null_ptr = (tt, ((Ptr-Good null_ptr).1, (tt, tt)))
@@ -98,3 +110,30 @@ module _ (X R V F : RattleType) (g : Ghosts R.Denot X.Denot V.Denot F.Denot) whe
     ),
     (refl, (refl, ((tt, (refl, tt)), tt))),
   )
+
+-- what an attempt to claim a number found
+abbrev pub claim_of : ℕ → Val
+claim_of n = vstruct (vcons (vint w64 n) vnil)
+
+abbrev pub ClaimData : RattleType
+ClaimData = Struct (shape claim.the_type)
+
+pub claim_told : (n : ℕ) (vs : List Val) → Is ClaimData (n, tt) vs → (vs ≡ claim_of n ∷ []) × (n < 2 ^ 64)
+claim_told n vs is = (is.1.0 ∙ ap (λ (ws : List Val). vstruct (of_list (ws ++ [])) ∷ []) is.1.1.0.0, is.1.1.0.1)
+
+pub claim_made : {M : Type 1} {𝓤 : Ura M} (𝓛 : Logic 𝓤) (n : ℕ) → n < 2 ^ 64 → ent 𝓤 (emp 𝓤) (sem 𝓛 (ClaimData.own_val (n, tt) (claim_of n ∷ [])))
+claim_made 𝓛 n fits = qed 𝓛 [] ∵ nothing ! $ flt_i ! n (2 ^ 64) fits $ feq_i ! (List Val) (vint w64 n ∷ []) (vint w64 n ∷ []) refl $ fjoin ! $ fjoin ! $
+    feq_i ! (List Val) (claim_of n ∷ []) (claim_of n ∷ []) refl $ fjoin ! $
+    fpack ! (Valss (u64 ∷ [])) (within (shape claim.the_type) (n, tt) (claim_of n ∷ [])) (vint w64 n ∷ [], tt) $ done !
+
+-- the address of the places
+module _ (R : RattleType) where
+  pub place_made : {M : Type 1} {𝓤 : Ura M} (𝓛 : Logic 𝓤) (p : Ptr) → ent 𝓤 (emp 𝓤) (sem 𝓛 ((place.the_row R).own_val record { at = p } (one_of p ∷ [])))
+  place_made 𝓛 p = makes_shadow 𝓛 ((place.the_row R).own_val record { at = p } (one_of p ∷ [])) (λ vss. (tt, (tt, tt))) ((ptr_val p ∷ [], tt), (refl, (refl, tt)))
+
+pub words_good : (p q : Ptr) → T (has_ty (ty_struct [] (tcons (ty_struct [] (tcons ty_ptr (tcons (ty_struct [] tnil) tnil))) (tcons (ty_struct [] (tcons ty_ptr tnil)) tnil)))
+    (vstruct (vcons (hand_of p) (vcons (one_of q) vnil)))) × WT (vstruct (vcons (hand_of p) (vcons (one_of q) vnil)))
+words_good (block_ptr b o) (block_ptr c u) = (tt, ((tt, (tt, tt)), ((tt, tt), tt)))
+words_good (block_ptr b o) null_ptr = (tt, ((tt, (tt, tt)), (((Ptr-Good null_ptr).1, tt), tt)))
+words_good null_ptr (block_ptr c u) = (tt, (((Ptr-Good null_ptr).1, (tt, tt)), ((tt, tt), tt)))
+words_good null_ptr null_ptr = (tt, (((Ptr-Good null_ptr).1, (tt, tt)), (((Ptr-Good null_ptr).1, tt), tt)))

@@ -1,5 +1,6 @@
 -- Slots give up their places, and places are slots again: one call each. Assumes `Logic`.
 use Rattle.std.proofs.Common.{◌≡◌, ℕ, zero, suc, ◌+◌, ◌*◌, ◌^◌, ◌<◌, Bool, true, false, T, List, [], ◌∷◌, ◌++◌, length, get_or, refl, sym, ap, ◌∙◌, subst, arith}
+use Rattle.std.specs.Prelude.{Option, None, slice_index_or, replicate}
 use Rattle.std.proofs.lemmas.List.{length-replicate}
 use seplogic.Ra.Ura.{Ura}
 use mir.Val.{Val, WT, has_ty, vint, vptr, vstruct, of_list}
@@ -20,6 +21,7 @@ use denote.Param.{layout}
 use denote.Plain.{uint_in, uint_out}
 use denote.RawPtr.{Ptr, block_ptr, block_of, count_of, at_block, InBlock, in_block, in_a_block}
 use denote.Steps.{only, heard, nothing}
+use denote.Memory.{part_at}
 use denote.Struct.Tuple.{Tuple}
 use denote.Triple.Spec.{triple_of}
 use denote.Triple.Statement.{Contract}
@@ -36,7 +38,8 @@ use Rattle.core.proofs.slots.Slots.into_raw_parts.Met as parting_met
 use Rattle.core.proofs.mem.Param.{El, R, args, el_x}
 use Rattle.core.proofs.slots.Opens.{Sr, words_val, row_val, row_had, row_made}
 use Rattle.std.proofs.raw_atomic.Calls.{fm}
-use Rattle.seize_seats.specs.Owned.{row}
+use Rattle.core.specs.contracts.option.Option.{the_row as OptionOf}
+use Rattle.seize_seats.specs.Owned.{row, stride, places}
 use Rattle.seize_blocks.specs.Placed.{all_full}
 
 full_is : (fs : List Bool) → Filled fs 0 (length fs) → fs ≡ all_full (length fs)
@@ -170,3 +173,42 @@ module _ {M : Type 1} {𝓤 : Ura M} (𝓛 : Logic 𝓤) (p : Ptr) (xs : List �
       use1 𝓛 (‵ (slots u64 (block_ptr (block_of p) (count_of p)) xs (all_full (length xs)))) (words_in 𝓛 (block_of p) xs (count_of p)) $
       flt_i ! (length xs * 8) (2 ^ 63) fits.1 $ fjoin ! $
       rewrite ! 0 (λ (r : Ptr). ‵ (owned u64 r (length xs) xs (all_full (length xs)))) (sym at) refl $ done !
+
+-- places for values are places side by side, and the other way round
+module _ {M : Type 1} {𝓤 : Ura M} (𝓛 : Logic 𝓤) (Y : RattleType) where
+  abbrev Slotted : ℕ → ℕ → List (Option Y.Denot) → Fml
+  Slotted b o xs = slots (OptionOf Y) (block_ptr b o) xs (all_full (length xs))
+
+  places_out : (b : ℕ) (xs : List (Option Y.Denot)) (o : ℕ) → ent 𝓤 (sem 𝓛 (Slotted b o xs)) (sem 𝓛 (places Y b o xs))
+  places_out b [] o = id⊢ 𝓤 (emp 𝓤)
+  places_out b (x ∷ xs) o = mono∗ 𝓤 (id⊢ 𝓤 (sem 𝓛 (part_at (OptionOf Y) full_share x b o))) (places_out b xs (o + stride Y))
+
+  places_in : (b : ℕ) (xs : List (Option Y.Denot)) (o : ℕ) → ent 𝓤 (sem 𝓛 (places Y b o xs)) (sem 𝓛 (Slotted b o xs))
+  places_in b [] o = id⊢ 𝓤 (emp 𝓤)
+  places_in b (x ∷ xs) o = mono∗ 𝓤 (id⊢ 𝓤 (sem 𝓛 (part_at (OptionOf Y) full_share x b o))) (places_in b xs (o + stride Y))
+
+  module _ (p : Ptr) (xs : List (Option Y.Denot)) where
+    abbrev pub Values : Fml
+    Values = owned (OptionOf Y) p (length xs) xs (all_full (length xs))
+
+    abbrev pub Roomy : Type 0
+    Roomy = InBlock p × (length xs * stride Y < 2 ^ 63)
+
+    pub values_out : ent 𝓤 (sem 𝓛 Values) (guard 𝓤 Roomy (sem 𝓛 (places Y (block_of p) (count_of p) xs)))
+    values_out = qed 𝓛 (‵ Values ∷ []) ∵ fsplit ! $
+        flt_l ! (λ fit. in_a_block ! p (λ (r : Ptr). in_block r (slots (OptionOf Y) r xs (all_full (length xs)))) (id⊢ 𝓤 (never 𝓤)) (λ b o at.
+        check ! (subst InBlock (sym at) tt, fit) $ use1 𝓛 (‵ (places Y b o xs)) (places_out b xs o) $
+        rewrite ! 0 (λ (t : ℕ × ℕ). ‵ (places Y t.0 t.1 xs)) (λ i. (block_of (sym at i), count_of (sym at i))) refl $ done !))
+
+    pub values_in : Roomy → ent 𝓤 (sem 𝓛 (places Y (block_of p) (count_of p) xs)) (sem 𝓛 Values)
+    values_in fits = let at : p ≡ block_ptr (block_of p) (count_of p) = at_block p fits.0 in qed 𝓛 (‵ (places Y (block_of p) (count_of p) xs) ∷ []) ∵
+        use1 𝓛 (‵ (Slotted (block_of p) (count_of p) xs)) (places_in (block_of p) xs (count_of p)) $
+        flt_i ! (length xs * stride Y) (2 ^ 63) fits.1 $ fjoin ! $
+        rewrite ! 0 (λ (r : Ptr). ‵ (owned (OptionOf Y) r (length xs) xs (all_full (length xs)))) (sym at) refl $ done !
+
+-- each place holds none
+pub nones_are : {X : Type 0} (n : ℕ) (xs : List (Option X)) → length xs ≡ n → ((k : ℕ) → slice_index_or xs k None ≡ None) → xs ≡ replicate n None
+nones_are zero [] l none = refl
+nones_are zero (x ∷ xs) l none = absurd (omega (arith, l))
+nones_are (suc n) [] l none = absurd (omega (arith, l))
+nones_are (suc n) (x ∷ xs) l none = let first : x ≡ None = none 0 in let rest = nones_are n xs (omega (arith, l)) (λ k. none (suc k)) in cc (first, rest)

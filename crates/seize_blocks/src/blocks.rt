@@ -1,91 +1,30 @@
-//! The memory as a whole: its words, and the right to give their memory back.
-ghost use Rattle.std.specs.Prelude.{◌≡◌, ◌+◌, ◌*◌, ◌≤◌, ◌<◌, ◌^◌, ℕ, length, slice_index, IfOk};
-ghost use Rattle.core.specs.Mem.Slots.{slots_items, slots_ptr, slots_len, lease_ptr, lease_len, lease_heap, IsFull};
-ghost use Rattle.seize_words.specs.Op.{Load, Store, Swap, Add, Or, Exchange, Room, Found, Stored, Exchanged, Roomed};
-ghost use Rattle.seize_seats.specs.State.{Allows, Turns, Comes, Starts};
-ghost use Rattle.seize_seats.specs.Lines.{long, IsWord};
-ghost use Rattle.seize_seats.specs.Owned.{BaseId};
+//! The memory as a whole, as those use it who share it.
+ghost use Rattle.std.specs.Prelude.{◌≡◌, ◌+◌, ◌*◌, ◌≤◌, ◌<◌, ◌^◌, IfSome};
+ghost use Rattle.seize_words.specs.Op.{Load, Store, Swap, Add, Or, Exchange, Make, Take, Room, Found, Stored, Exchanged, Made, Taken, Roomed};
+ghost use Rattle.seize_seats.specs.State.{Allows, Turns, Comes};
+ghost use Rattle.seize_seats.specs.Lines.{long};
 ghost use Rattle.seize_blocks.specs.Placed.{IsItsPlace};
 
-use crate::row::Row;
+use crate::claim::Claim;
+use crate::place::Place;
 use crate::rule::{Rule, Turn};
 use crate::seat::Seat;
 use crate::words::Words;
-use core::slots::{Lease, Slots, release, reserve};
 use seize_words::{At, Fault};
-use std::alloc::{AllocError, Global};
+use std::sync::atomic::AtomicU64;
+use std::sync::atomic::Ordering::SeqCst;
 
-/// A memory that threads share under a rule. It has words of roots and of the slots of the first bucket, and no blocks yet.
+/// A memory that threads share under a rule. It has words of roots and of the slots of the first bucket, and numbers for so many blocks, which have no
+/// words of their own yet.
 pub struct Blocks<T, R: Rule<T>> {
     pub words: Words<T, R>,
-    roots: u64,
-    ghost counted: { words.id.roots ≡ roots },
-    ghost few: { roots ≤ 65536 },
-}
-
-/// A memory with the right to give its words back. It stays with the thread that made it, and lends the memory to others.
-pub struct Home<T, R: Rule<T>> {
-    pub blocks: Blocks<T, R>,
-    ground: Ground,
-    ghost place: { lease_ptr ground.lease ≡ blocks.words.words },
-    ghost size: { lease_len ground.lease ≡ long blocks.words.id.roots },
-}
-
-/// The right to give the memory of words back.
-pub struct Ground {
-    alloc: Global,
-    lease: Lease<u64, Global>,
-    ghost leased: { lease_heap lease ≡ alloc },
-}
-
-/// Each place holds 0.
-fn fill(slots: &mut Slots<u64>, count: usize)
-    requires { slots_len slots.old ≡ count }
-    ensures full { IsFull slots.new }
-    ensures zeros { (k : ℕ) → slice_index (slots_items slots.new) k ≡ 0 }
-    ensures same { (slots_ptr slots.new ≡ slots_ptr slots.old) × (slots_len slots.new ≡ slots_len slots.old) }
-{
-    for index in 0..count {
-        slots.put(index, 0);
-    }
-}
-
-/// As many words, each 0, with the right to give them back.
-fn lay(alloc: Global, count: usize) -> Result<(Row<u64>, Ground), AllocError>
-    ensures zeros { IfOk result (λ p. ((k : ℕ) → slice_index p.0.items k ≡ 0) × (length p.0.items ≡ count)) }
-    ensures lease { IfOk result (λ p. (lease_ptr p.1.lease ≡ p.0.at) × (lease_len p.1.lease ≡ count)) }
-{
-    let like = vec![in alloc; 0; count]?;
-    let (mut slots, lease) = (unsafe { reserve(&alloc, like.as_slice()) })?;
-    fill(&mut slots, count);
-    Ok((Row::of(slots), Ground { alloc, lease }))
-}
-
-impl<T, R: Rule<T>> Home<T, R> {
-    /// A memory of so many roots, with no seat yet. The slots have no words yet.
-    pub fn open(alloc: Global, roots: u64, fixed: &R::Fixed) -> Result<Self, AllocError>
-        requires few { roots ≤ 65536 }
-        requires starts { Starts (R.holds fixed.now) roots }
-        ensures { IfOk result (λ home. home.blocks.words.fixed ≡ fixed.now) }
-    {
-        let (row, ground) = lay(alloc, ((roots + roots + 32) * 16) as usize)?;
-        let words = Words::open(row, roots, fixed);
-        Ok(Home {
-            blocks: Blocks { words, roots },
-            ground,
-        })
-    }
-}
-
-impl<T, R: Rule<T>> Drop for Home<T, R> {
-    fn drop(self) {
-        let Home { blocks, ground } = self;
-        let Blocks { words, roots } = blocks;
-        let Ground { alloc, lease } = ground;
-        let row = words.close();
-        let slots = row.into_slots(((roots + roots + 32) * 16) as usize);
-        release(&alloc, slots, lease);
-    }
+    pub(crate) roots: u64,
+    pub(crate) count: u64,
+    pub(crate) values: Place<T>,
+    pub(crate) next: AtomicU64,
+    ghost counted: { (words.id.roots ≡ roots) × (words.id.count ≡ count) },
+    ghost lies: { words.id.values ≡ values.at },
+    ghost few: { (roots ≤ 65536) × (count ≤ 2 ^ 32) },
 }
 
 impl<T, R: Rule<T>> Blocks<T, R> {
@@ -98,8 +37,19 @@ impl<T, R: Rule<T>> Blocks<T, R> {
             At::Used(root) if root < self.roots => (self.roots + root) * 16,
             At::Slot(slot, field) if slot < 32 && field < 2 => (self.roots + self.roots + slot) * 16
                 + field,
+            At::Entry(block, word) if block > 0 && block <= self.count && word < 4 => self.first_of(
+                block - 1,
+            ) + word,
             _ => 0,
         }
+    }
+
+    /// Where the words of a number lie: the first of them.
+    fn first_of(&self, index: u64) -> u64
+        requires { index ≤ 2 ^ 32 }
+        ensures { result ≡ index * 5 + long self.now.words.id.roots }
+    {
+        index * 5 + (self.roots + self.roots + 32) * 16
     }
 
     /// A seat more.
@@ -200,5 +150,78 @@ impl<T, R: Rule<T>> Blocks<T, R> {
     {
         let place = self.place_of(at);
         self.words.exchange(seat, &at, place, old, new)
+    }
+
+    /// A number that was free and is claimed now, for a block without words of its own. One after the other is tried, from that on which
+    /// follows the last one that was claimed.
+    fn number(&self, words: u64) -> Option<(u64, Claim)>
+        ensures { IfSome result (λ c. (words ≡ 0) × (c.0 < self.now.words.id.count) × (c.1.found ≡ 0)
+            × (c.1.base ≡ self.now.words.id.hands_name) × (c.1.index ≡ c.0)) }
+    {
+        if words != 0 || self.count == 0 {
+            return None;
+        }
+        let mut from = self.next.load(SeqCst);
+        for _ in 0..self.count {
+            let index = if from < self.count { from } else { 0 };
+            let (found, claim) = self.words.claim(index, self.first_of(index) + 4);
+            if found == 0 {
+                self.next.store(index + 1, SeqCst);
+                return Some((index, claim));
+            }
+            from = index + 1;
+        }
+        None
+    }
+
+    /// Makes a block of a value and as many words, each 0, and answers its number. There are no blocks with words of their own yet. Where such
+    /// a block is asked for, or no number is free, the value comes back.
+    pub fn make(&self, seat: &mut Seat<T, R>, value: T, words: u64) -> Result<u64, T>
+        requires own { seat.old.base ≡ self.now.words.id.views_name }
+        requires may { Allows (R.holds self.now.words.fixed) R.keeps seat.old.id seat.old.view (Make value words) (R.then seat.old.view (Make value words)) }
+        ensures same { (seat.new.base ≡ seat.old.base) × (seat.new.id ≡ seat.old.id) }
+        ensures goes { R.then seat.old.view (Make value words) (Made result) seat.new.view }
+    {
+        match self.number(words) {
+            Some((index, claim)) => {
+                self.words
+                    .put(seat, claim, index, self.values.at, value, words);
+                Ok(index + 1)
+            }
+            None => {
+                self.words.refuse(seat, &value, words);
+                Err(value)
+            }
+        }
+    }
+
+    /// Takes a block away, and answers its value. Its number is free from then on.
+    pub fn take(&self, seat: &mut Seat<T, R>, block: u64) -> T
+        requires own { seat.old.base ≡ self.now.words.id.views_name }
+        requires may { Allows (R.holds self.now.words.fixed) R.keeps seat.old.id seat.old.view (Take block) (R.then seat.old.view (Take block)) }
+        ensures same { (seat.new.base ≡ seat.old.base) × (seat.new.id ≡ seat.old.id) }
+        ensures goes { R.then seat.old.view (Take block) (Taken result) seat.new.view }
+    {
+        let index = if block > 0 && block <= self.count {
+            block - 1
+        } else {
+            0
+        };
+        let first = self.first_of(index);
+        let value = self.words.take(
+            seat,
+            block,
+            index,
+            self.values.at,
+            first,
+            first + 1,
+            first + 2,
+            first + 3,
+            first + 4,
+        );
+        match value {
+            Some(value) => value,
+            None => unreachable!(),
+        }
     }
 }

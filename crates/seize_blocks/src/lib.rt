@@ -2,12 +2,16 @@
 #![tactic(auto)]
 
 mod blocks;
+mod claim;
+mod home;
+mod place;
 mod row;
 mod rule;
 mod seat;
 mod words;
 
-pub use blocks::{Blocks, Home};
+pub use blocks::Blocks;
+pub use home::Home;
 pub use rule::{Rule, Turn};
 pub use seat::Seat;
 pub use words::Words;

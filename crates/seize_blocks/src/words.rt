@@ -1,12 +1,14 @@
 //! The words, and what one step of a seat does to them: one atomic operation on a word, or none.
-ghost use Rattle.std.specs.Prelude.{◌≡◌, ℕ, length, slice_index};
-ghost use Rattle.seize_words.specs.Op.{Load, Store, Swap, Add, Or, Exchange, Room, Found, Stored, Exchanged, Roomed};
+ghost use Rattle.std.specs.Prelude.{◌≡◌, ℕ, ◌+◌, ◌-◌, ◌*◌, ◌^◌, ◌<◌, ◌≤◌, Some, None, Ok, Err, length, slice_index, slice_index_or};
+ghost use Rattle.seize_words.specs.Op.{Load, Store, Swap, Add, Or, Exchange, Make, Take, Room, Found, Stored, Exchanged, Made, Taken, Roomed};
 ghost use Rattle.seize_seats.specs.State.{Allows, Turns, Comes, Starts};
-ghost use Rattle.seize_seats.specs.Lines.{long};
+ghost use Rattle.seize_seats.specs.Lines.{whole, long};
 ghost use Rattle.seize_seats.specs.Steps.{roomed};
 ghost use Rattle.seize_seats.specs.Owned.{BaseId, base_id_coded, words_own, words_share};
-ghost use Rattle.seize_blocks.specs.Placed.{IsItsPlace};
+ghost use Rattle.seize_blocks.specs.Placed.{IsItsPlace, IsItsSign};
 
+use crate::claim::Claim;
+use crate::place::Place;
 use crate::row::Row;
 use crate::rule::{Rule, Turn};
 use crate::seat::Seat;
@@ -24,30 +26,44 @@ pub struct Words<T, R: Rule<T>> {
 }
 
 impl<T, R: Rule<T>> Model for Words<T, R> {
-    ghost also_owns = { λ s. words_own T.row.Denot R.View.row.coded.code (R.holds s.fixed) s.words s.id };
+    ghost also_owns = { λ s. words_own T.row R.View.row.coded.code (R.holds s.fixed) s.words s.id };
 
-    ghost also_shares = { λ s _ κ. words_share T.row.Denot R.View.row.coded.code (R.holds s.fixed) s.words s.id κ };
+    ghost also_shares = { λ s _ κ. words_share T.row R.View.row.coded.code (R.holds s.fixed) s.words s.id κ };
 }
 
 impl<T, R: Rule<T>> Words<T, R> {
-    /// The words, each 0, of so many roots go under the rule.
-    pub(crate) fn open(row: Row<u64>, _roots: u64, fixed: &R::Fixed) -> Self
-        requires { ((k : ℕ) → slice_index row.items k ≡ 0) × (length row.items ≡ long _roots) × Starts (R.holds fixed.now) _roots }
-        ensures { (result.words ≡ row.at) × (result.id.roots ≡ _roots) × (result.fixed ≡ fixed.now) }
+    /// The words, each 0, of so many roots go under the rule, with places for so many values, each of them empty.
+    pub(crate) fn open(
+        row: Row<u64>,
+        values: Row<Option<T>>,
+        _roots: u64,
+        _count: u64,
+        fixed: &R::Fixed,
+    ) -> (Self, Place<T>)
+        requires { ((k : ℕ) → slice_index row.items k ≡ 0) × (length row.items ≡ whole _roots _count) × Starts (R.holds fixed.now) _roots
+            × ((k : ℕ) → slice_index_or values.items k None ≡ None) × (length values.items ≡ _count) }
+        ensures { (result.0.words ≡ row.at) × (result.0.id.roots ≡ _roots) × (result.0.id.count ≡ _count) × (result.0.id.values ≡ values.at)
+            × (result.0.fixed ≡ fixed.now) × (result.1.at ≡ values.at) }
     {
         let Row { at } = row;
-        Words {
-            words: at,
-            marker: PhantomData,
-        }
+        let Row { at: places } = values;
+        (
+            Words {
+                words: at,
+                marker: PhantomData,
+            },
+            Place { at: places },
+        )
     }
 
-    /// The words come back from under the rule.
-    pub(crate) fn close(self) -> Row<u64>
-        ensures { (result.at ≡ self.words) × (length result.items ≡ long self.id.roots) }
+    /// The words and the values come back from under the rule.
+    pub(crate) fn close(self, values: *mut Option<T>) -> (Row<u64>, Row<Option<T>>)
+        requires { values ≡ self.id.values }
+        ensures { (result.0.at ≡ self.words) × (length result.0.items ≡ whole self.id.roots self.id.count) × (result.1.at ≡ values)
+            × (length result.1.items ≡ self.id.count) }
     {
         let Words { words, marker: _ } = self;
-        Row { at: words }
+        (Row { at: words }, Row { at: values })
     }
 
     /// A seat more.
@@ -65,6 +81,78 @@ impl<T, R: Rule<T>> Words<T, R> {
         requires { (seat.old.base ≡ self.now.id.views_name)
             × Turns (R.holds self.now.fixed) R.keeps seat.old.id seat.old.view (M.to seat.old.view) }
         ensures { (seat.new.base ≡ seat.old.base) × (seat.new.id ≡ seat.old.id) × M.to seat.old.view seat.new.view }
+    {}
+
+    /// Tries to claim a number, whose sign lies at this place: it was free where 0 is found.
+    pub(crate) fn claim(&self, _index: u64, place: u64) -> (u64, Claim)
+        requires { IsItsSign self.now.id _index place }
+        ensures { (result.1.base ≡ self.now.id.hands_name) × (result.1.index ≡ _index) × (result.1.found ≡ result.0) }
+    {
+        let found = unsafe { raw::fetch_or::<Brand>(self.words.add(place as usize), 1, SeqCst) };
+        (found, Claim { found })
+    }
+
+    /// Makes a block of a value, without words of its own, under a number that was claimed.
+    pub(crate) fn put(
+        &self,
+        seat: &mut Seat<T, R>,
+        claim: Claim,
+        index: u64,
+        values: *mut Option<T>,
+        value: T,
+        _words: u64,
+    )
+        requires { (seat.old.base ≡ self.now.id.views_name) × (claim.base ≡ self.now.id.hands_name) × (claim.found ≡ 0) × (claim.index ≡ index)
+            × (index < self.now.id.count) × (index + 1 < 2 ^ 53) × (values ≡ self.now.id.values)
+            × (_words ≡ 0)
+            × Allows (R.holds self.now.fixed) R.keeps seat.old.id seat.old.view (Make value _words) (R.then seat.old.view (Make value _words)) }
+        ensures { (seat.new.base ≡ seat.old.base) × (seat.new.id ≡ seat.old.id)
+            × R.then seat.old.view (Make value _words) (Made (Ok (index + 1))) seat.new.view }
+    {
+        let Claim { found: _ } = claim;
+        unsafe { values.add(index as usize).write(Some(value)) }
+    }
+
+    /// Takes a block away, and answers its value. The index is that of its number, if there is such a block, and its words lie at these places.
+    pub(crate) fn take(
+        &self,
+        seat: &mut Seat<T, R>,
+        block: u64,
+        index: u64,
+        values: *mut Option<T>,
+        first: u64,
+        second: u64,
+        third: u64,
+        fourth: u64,
+        sign: u64,
+    ) -> Option<T>
+        requires { (seat.old.base ≡ self.now.id.views_name) × (0 < block → block ≤ self.now.id.count → index ≡ block - 1)
+            × (values ≡ self.now.id.values)
+            × (first ≡ index * 5 + long self.now.id.roots) × (second ≡ first + 1) × (third ≡ first + 2) × (fourth ≡ first + 3) × (sign ≡ first + 4)
+            × (sign < 2 ^ 60)
+            × Allows (R.holds self.now.fixed) R.keeps seat.old.id seat.old.view (Take block) (R.then seat.old.view (Take block)) }
+        ensures { (seat.new.base ≡ seat.old.base) × (seat.new.id ≡ seat.old.id) × ((x : T) × (result ≡ Some x) × R.then seat.old.view (Take block) (Taken x) seat.new.view) }
+    {
+        unsafe {
+            let words = self.words;
+            let place = values.add(index as usize);
+            let value = place.read();
+            place.write(None);
+            words.add(first as usize).write(0);
+            words.add(second as usize).write(0);
+            words.add(third as usize).write(0);
+            words.add(fourth as usize).write(0);
+            raw::store::<Brand>(words.add(sign as usize), 0, SeqCst);
+            value
+        }
+    }
+
+    /// A block is refused, and its value stays with its maker.
+    pub(crate) fn refuse(&self, seat: &mut Seat<T, R>, value: &T, words: u64)
+        requires { (seat.old.base ≡ self.now.id.views_name)
+            × Allows (R.holds self.now.fixed) R.keeps seat.old.id seat.old.view (Make value.now words) (R.then seat.old.view (Make value.now words)) }
+        ensures { (seat.new.base ≡ seat.old.base) × (seat.new.id ≡ seat.old.id)
+            × R.then seat.old.view (Make value.now words) (Made (Err value.now)) seat.new.view }
     {}
 
     /// Asks for the words of a bucket of slots: those of the first are there from now on.

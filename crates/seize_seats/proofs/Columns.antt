@@ -1,12 +1,10 @@
 -- Words and their places: another word at a place is another word of its name.
-use Rattle.std.specs.Prelude.{◌≡◌, ◌≢◌, ℕ, zero, suc, ◌+◌, ◌*◌, ◌-◌, ◌<◌, ◌≤◌, ◌==◌, ◌⊎◌, Bool, true, false, if◌then◌else◌, List, [], length, Option, Some, None, slice_get, slice_index, slice_index_or, slice_set}
+use Rattle.std.specs.Prelude.{◌≡◌, ◌≢◌, ℕ, zero, suc, ◌+◌, ◌*◌, ◌-◌, ◌<◌, ◌≤◌, ◌==◌, ◌⊎◌, List, [], length, Some, slice_get, slice_index, slice_set}
 use Rattle.std.proofs.Common.{refl, ap, ◌∙◌, arith, inl, inr, length-set}
 use Rattle.std.proofs.lemmas.List.{get_or-set_same, get_or-set_other}
-use Rattle.seize_words.specs.Mem.{block_of, entry_in, word_in}
-use Rattle.seize_words.specs.declared.block.Block.{Block}
 use Rattle.seize_words.specs.SlotWords.{slot_word, with_slot_word}
 use Rattle.seize_words.specs.declared.at.At.TheVariants.{Root, Used, Slot, Entry, Word}
-use Rattle.seize_seats.specs.Lines.{column, slots_from, memory_of, AreLaid}
+use Rattle.seize_seats.specs.Lines.{Parts, column, slots_from, memory_of, AreLaid}
 use Rattle.seize_seats.specs.Laws.{WordsLie, WordsAreApart}
 
 column_get : (k : ℕ) (ws : List ℕ) (o i w : ℕ) → slice_get (column k ws o) i ≡ Some w → (i < k) × (slice_index ws (i * 16 + o) ≡ w)
@@ -78,78 +76,83 @@ slots_set (suc k) ws o (suc s) f w lt le fits =
     let rest = slots_set k ws (o + 16) s f w (omega (arith, lt)) le (omega (arith, fits, same)) in
     ap (λ q. slots_from (suc k) (slice_set ws q w) o) same ∙ cc (first, second, rest)
 
-slots_bound : (roots slots : ℕ) (ws : List ℕ) → AreLaid roots slots ws → slots ≤ 32
-slots_bound roots slots ws laid = elim laid.slots_are as (λ _. slots ≤ 32) [
-  | inl none ↦ omega (arith, none.0)
-  | inr some ↦ omega (arith, some)
-]
+module _ {T : Type 0} (roots count : ℕ) (s : Parts T) (laid : AreLaid roots count s) where
+  slots_bound : s.slots ≤ 32
+  slots_bound = elim laid.slots_are as (λ _. s.slots ≤ 32) [
+    | inl none ↦ omega (arith, none.0)
+    | inr some ↦ omega (arith, some)
+  ]
 
--- there is no block
-none_is : (T : Type 0) (roots slots : ℕ) (ws : List ℕ) (b : ℕ) → block_of (memory_of {T = T} roots slots ws) b ≡ None
-none_is T roots slots ws b = by (b == 0)
-  where
-    by : (y : Bool) → (if y then None else slice_index_or {A = Option (Block T)} [] (b - 1) None) ≡ None
-    by true = refl
-    by false = refl
+  abbrev with_words : List ℕ → Parts T
+  with_words ws = record { words = ws; slots = s.slots; cells = s.cells; given = s.given }
+
+  abbrev Slots : List ℕ → Type 0
+  Slots ws = ((s.slots ≡ 0) × ((k : ℕ) → (roots + roots) * 16 ≤ k → slice_index ws k ≡ 0)) ⊎ (s.slots ≡ 32)
+
+  -- other words of slots, and all else is as it was
+  laid_as : (p w : ℕ) → Slots (slice_set s.words p w) → AreLaid roots count (with_words (slice_set s.words p w))
+  laid_as p w are = record {
+    all = length-set s.words p w ∙ laid.all;
+    slots_are = are;
+    counted = laid.counted;
+    within = laid.within;
+    rest = laid.rest;
+    fours = laid.fours;
+  }
+
+  -- what lies before the slots changes none of them
+  laid_before : (p w : ℕ) → p < (roots + roots) * 16 → AreLaid roots count (with_words (slice_set s.words p w))
+  laid_before p w lt = laid_as p w (elim laid.slots_are as (λ _. Slots (slice_set s.words p w)) [
+    | inl none ↦ inl (none.0, λ k le. get_or-set_other s.words p k w 0 (λ e. omega (arith, e, le, lt)) ∙ none.1 k le)
+    | inr some ↦ inr some
+  ])
 
 pub words_lie : (T : Type 0) → WordsLie T
-words_lie T roots slots ws (Root r) w laid e =
-    let g = column_get roots ws 0 r w e in let lt : r < roots = g.0 in
-    (lt, omega (arith, laid.all, lt), ap (slice_index ws) (let s : r * 16 ≡ r * 16 + 0 = omega arith in s) ∙ g.1)
-words_lie T roots slots ws (Used r) w laid e =
-    let g = column_get roots ws (roots * 16) r w e in let lt : r < roots = g.0 in
-    (lt, omega (arith, laid.all, lt), ap (slice_index ws) (let s : (roots + r) * 16 ≡ r * 16 + roots * 16 = omega arith in s) ∙ g.1)
-words_lie T roots slots ws (Slot s f) w laid e =
-    let g = slots_get slots ws ((roots + roots) * 16) s f w e in let lt : s < slots = g.0 in let low : f < 2 = g.1 in
-    let few = slots_bound roots slots ws laid in (
+words_lie T roots count s (Root r) w laid fixed e =
+    let g = column_get roots s.words 0 r w e in let lt : r < roots = g.0 in
+    (lt, omega (arith, laid.all, lt), ap (slice_index s.words) (let q : r * 16 ≡ r * 16 + 0 = omega arith in q) ∙ g.1)
+words_lie T roots count s (Used r) w laid fixed e =
+    let g = column_get roots s.words (roots * 16) r w e in let lt : r < roots = g.0 in
+    (lt, omega (arith, laid.all, lt), ap (slice_index s.words) (let q : (roots + r) * 16 ≡ r * 16 + roots * 16 = omega arith in q) ∙ g.1)
+words_lie T roots count s (Slot n f) w laid fixed e =
+    let g = slots_get s.slots s.words ((roots + roots) * 16) n f w e in let lt : n < s.slots = g.0 in let low : f < 2 = g.1 in
+    let few = slots_bound roots count s laid in (
       (omega (arith, lt, few), low),
       omega (arith, laid.all, lt, low, few),
-      ap (slice_index ws) (let q : (roots + roots + s) * 16 + f ≡ s * 16 + (roots + roots) * 16 + f = omega arith in q) ∙ g.2,
+      ap (slice_index s.words) (let q : (roots + roots + n) * 16 + f ≡ n * 16 + (roots + roots) * 16 + f = omega arith in q) ∙ g.2,
     )
-words_lie T roots slots ws (Entry b i) w laid e = absurd (let n = ap (λ x. entry_in x i) (none_is T roots slots ws b) in cc (e, n))
-words_lie T roots slots ws (Word b i) w laid e = absurd (let n = ap (λ x. word_in x i) (none_is T roots slots ws b) in cc (e, n))
-
--- what lies before the slots changes none of them
-laid_before : (roots slots : ℕ) (ws : List ℕ) (p w : ℕ) → AreLaid roots slots ws → p < (roots + roots) * 16 → AreLaid roots slots (slice_set ws p w)
-laid_before roots slots ws p w laid lt = record {
-  all = length-set ws p w ∙ laid.all;
-  slots_are = elim laid.slots_are as (λ _. ((slots ≡ 0) × ((k : ℕ) → (roots + roots) * 16 ≤ k → slice_index (slice_set ws p w) k ≡ 0)) ⊎ (slots ≡ 32)) [
-    | inl none ↦ inl (none.0, λ k le. get_or-set_other ws p k w 0 (λ e. omega (arith, e, le, lt)) ∙ none.1 k le)
-    | inr some ↦ inr some
-  ];
-}
+words_lie T roots count s (Entry b i) w laid fixed e = absurd fixed
+words_lie T roots count s (Word b i) w laid fixed e = absurd fixed
 
 pub words_are_apart : (T : Type 0) → WordsAreApart T
-words_are_apart T roots slots ws (Root r) w new laid e =
-    let g = words_lie T roots slots ws (Root r) w laid e in let lt : r < roots = g.0 in
+words_are_apart T roots count s (Root r) w new laid fixed e =
+    let g = words_lie T roots count s (Root r) w laid tt e in let lt : r < roots = g.0 in let ws : List ℕ = s.words in
     let p : ℕ = r * 16 in let same : r * 16 ≡ r * 16 + 0 = omega arith in
     let here = ap (λ q. column roots (slice_set ws q new) 0) same ∙ column_set roots ws 0 r new lt (omega (arith, laid.all, lt)) in
     let used = column_else roots ws (roots * 16) p new (λ i le q. omega (arith, q, lt, le)) in
-    let rest = slots_else slots ws ((roots + roots) * 16) p new (λ s f le low q. omega (arith, q, lt)) in
-    (laid_before roots slots ws p new laid (omega (arith, lt)), cc (here, used, rest))
-words_are_apart T roots slots ws (Used r) w new laid e =
-    let g = words_lie T roots slots ws (Used r) w laid e in let lt : r < roots = g.0 in
+    let rest = slots_else s.slots ws ((roots + roots) * 16) p new (λ n f le low q. omega (arith, q, lt)) in
+    (laid_before roots count s laid p new (omega (arith, lt)), cc (here, used, rest))
+words_are_apart T roots count s (Used r) w new laid fixed e =
+    let g = words_lie T roots count s (Used r) w laid tt e in let lt : r < roots = g.0 in let ws : List ℕ = s.words in
     let p : ℕ = (roots + r) * 16 in let same : (roots + r) * 16 ≡ r * 16 + roots * 16 = omega arith in
     let here = ap (λ q. column roots (slice_set ws q new) (roots * 16)) same ∙ column_set roots ws (roots * 16) r new lt (omega (arith, laid.all, lt)) in
     let links = column_else roots ws 0 p new (λ i le q. omega (arith, q, lt, le)) in
-    let rest = slots_else slots ws ((roots + roots) * 16) p new (λ s f le low q. omega (arith, q, lt)) in
-    (laid_before roots slots ws p new laid (omega (arith, lt)), cc (here, links, rest))
-words_are_apart T roots slots ws (Slot s f) w new laid e =
-    let h = slots_get slots ws ((roots + roots) * 16) s f w e in
-    let g = words_lie T roots slots ws (Slot s f) w laid e in let lt : s < slots = h.0 in let low : f < 2 = h.1 in
-    let p : ℕ = (roots + roots + s) * 16 + f in let same : (roots + roots + s) * 16 + f ≡ s * 16 + (roots + roots) * 16 + f = omega arith in
-    let here = ap (λ q. slots_from slots (slice_set ws q new)
-    ((roots + roots) * 16)) same ∙ slots_set slots ws ((roots + roots) * 16) s f new lt low (omega (arith, g.1, same)) in
+    let rest = slots_else s.slots ws ((roots + roots) * 16) p new (λ n f le low q. omega (arith, q, lt)) in
+    (laid_before roots count s laid p new (omega (arith, lt)), cc (here, links, rest))
+words_are_apart T roots count s (Slot n f) w new laid fixed e =
+    let h = slots_get s.slots s.words ((roots + roots) * 16) n f w e in let ws : List ℕ = s.words in
+    let g = words_lie T roots count s (Slot n f) w laid tt e in let lt : n < s.slots = h.0 in let low : f < 2 = h.1 in
+    let p : ℕ = (roots + roots + n) * 16 + f in let same : (roots + roots + n) * 16 + f ≡ n * 16 + (roots + roots) * 16 + f = omega arith in
+    let here = ap (λ q. slots_from s.slots (slice_set ws q new)
+    ((roots + roots) * 16)) same ∙ slots_set s.slots ws ((roots + roots) * 16) n f new lt low (omega (arith, g.1, same)) in
     let links = column_else roots ws 0 p new (λ i le q. omega (arith, q, le)) in
     let used = column_else roots ws (roots * 16) p new (λ i le q. omega (arith, q, le)) in
-    (record { all = length-set ws p new ∙ laid.all; slots_are = some laid lt }, cc (here, links, used))
+    (laid_as roots count s laid p new (some lt), cc (here, links, used))
   where
-    some : AreLaid roots slots ws → s < slots
-        → ((slots ≡ 0) × ((k : ℕ) → (roots + roots) * 16 ≤ k → slice_index (slice_set ws ((roots + roots + s) * 16 + f) new) k ≡ 0)) ⊎ (slots ≡ 32)
-    some laid lt = elim laid.slots_are as (λ _. ((slots ≡ 0) × ((k : ℕ) → (roots + roots) * 16 ≤ k
-        → slice_index (slice_set ws ((roots + roots + s) * 16 + f) new) k ≡ 0)) ⊎ (slots ≡ 32)) [
-          | inl none ↦ absurd (let z = none.0 in omega (arith, z, lt))
-          | inr all ↦ inr all
-        ]
-words_are_apart T roots slots ws (Entry b i) w new laid e = absurd (words_lie T roots slots ws (Entry b i) w laid e).0
-words_are_apart T roots slots ws (Word b i) w new laid e = absurd (words_lie T roots slots ws (Word b i) w laid e).0
+    some : n < s.slots → Slots roots count s laid (slice_set s.words ((roots + roots + n) * 16 + f) new)
+    some lt = elim laid.slots_are as (λ _. Slots roots count s laid (slice_set s.words ((roots + roots + n) * 16 + f) new)) [
+      | inl none ↦ absurd (let z = none.0 in omega (arith, z, lt))
+      | inr all ↦ inr all
+    ]
+words_are_apart T roots count s (Entry b i) w new laid fixed e = absurd fixed
+words_are_apart T roots count s (Word b i) w new laid fixed e = absurd fixed

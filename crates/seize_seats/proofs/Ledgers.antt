@@ -56,13 +56,13 @@ module _ {M : Type 1} {𝓤 : Ura M} (𝓛 : Logic 𝓤) {V : Type 0} (cv : Code
   Led = ledger c γ
 
   -- the quarter and the other three of one view, in halves that say the same
-  cuts : (k : ℕ) (u : V) → ⟦ Sn full_share k u ⟧ ⊢ ⟦ Sn quarter k u ⟧ ∗ ⟦ Sn three_quarters k u ⟧
+  pub cuts : (k : ℕ) (u : V) → ⟦ Sn full_share k u ⟧ ⊢ ⟦ Sn quarter k u ⟧ ∗ ⟦ Sn three_quarters k u ⟧
   cuts k u = entry_cut shared_view 𝓛 γ k (quarter, c u) (three_quarters, c u) (full_share, c u)
       (Prod.mk-mem-op Share.op (Ag.op (SetCoded-set (coded itself))) {a = quarter} {a' = three_quarters} {x = full_share} {b = c u} {b' = c u} {y =
       c u} Share.quarters (Ag.idem (SetCoded-set (coded itself)) (c u)))
 
   -- two shares of one view say the same, whatever they are
-  agree : (k : ℕ) (q : Share) (w v : V) → ⟦ Sn quarter k w ⟧ ∗ ⟦ Sn q k v ⟧ ⊢ guard 𝓤 (w ≡ v) (⟦ Sn quarter k w ⟧ ∗ ⟦ Sn q k v ⟧)
+  pub agree : (k : ℕ) (q : Share) (w v : V) → ⟦ Sn quarter k w ⟧ ∗ ⟦ Sn q k v ⟧ ⊢ guard 𝓤 (w ≡ v) (⟦ Sn quarter k w ⟧ ∗ ⟦ Sn q k v ⟧)
   agree k q w v = let F : Share × Gv → Pr = λ x. guard 𝓤 (x ∈ shared_view.op (quarter, c w) (q, c v)) ⟦ entry shared_view γ k x ⟧ in
       let Both : Pr = ⟦ Sn quarter k w ⟧ ∗ ⟦ Sn q k v ⟧ in
       via 𝓤 (ex 𝓤 F) (entry_glue shared_view 𝓛 γ k (quarter, c w) (q, c v)) (ex_e 𝓤 F (λ x. guard_e 𝓤 (x ∈ shared_view.op (quarter, c w) (
@@ -72,7 +72,7 @@ module _ {M : Type 1} {𝓤 : Ura M} (𝓛 : Logic 𝓤) {V : Type 0} (cv : Code
       via 𝓤 Both (entry_cut shared_view 𝓛 γ k (quarter, c w) (q, c v) x m) (guard_i 𝓤 (w ≡ v) Both (cv.inj w v m.0.1)))))
 
   -- the one who has all of it but what stands in the list sets it
-  sets : (k : ℕ) (w v u : V) → ⟦ Sn quarter k w ⟧ ∗ ⟦ Sn three_quarters k v ⟧ ⊢ upd 𝓤 (⟦ Sn quarter k u ⟧ ∗ ⟦ Sn three_quarters k u ⟧)
+  pub sets : (k : ℕ) (w v u : V) → ⟦ Sn quarter k w ⟧ ∗ ⟦ Sn three_quarters k v ⟧ ⊢ upd 𝓤 (⟦ Sn quarter k u ⟧ ∗ ⟦ Sn three_quarters k u ⟧)
   sets k w v u = let Z : Pr = ⟦ Sn quarter k u ⟧ ∗ ⟦ Sn three_quarters k u ⟧ in
       let F : Share × Gv → Pr = λ x. guard 𝓤 (x ∈ shared_view.op (quarter, c w) (three_quarters, c v)) ⟦ entry shared_view γ k x ⟧ in
       via 𝓤 (ex 𝓤 F) (entry_glue shared_view 𝓛 γ k (quarter, c w) (three_quarters, c v)) (ex_e 𝓤 F (λ x. guard_e 𝓤 (x ∈ shared_view.op (
@@ -87,6 +87,25 @@ module _ {M : Type 1} {𝓤 : Ura M} (𝓛 : Logic 𝓤) {V : Type 0} (cv : Code
           via 𝓤 (upd 𝓤 (ex 𝓤 F)) (entry_set shared_view 𝓛 γ k (full_share, g) B ∣ ((full_share, c u), refl) ∣₁ (λ f d. absurd (not-OpDef-full_share f.0 d.0)))
           (upd_mono 𝓤 {P = ex 𝓤 F} {Q = Z} (ex_e 𝓤 F (λ y. guard_e 𝓤 (B y) ⟦ entry shared_view γ k y ⟧ (λ e. subst (λ (t : Share ×
           Gv). ⟦ entry shared_view γ k t ⟧ ⊢ Z) (sym e) (cuts k u)))))
+
+  -- the two shares are the whole of one view
+  pub glues : (k : ℕ) (w v : V) → ⟦ Sn quarter k w ⟧ ∗ ⟦ Sn three_quarters k v ⟧ ⊢ guard 𝓤 (w ≡ v) ⟦ Sn full_share k w ⟧
+  glues k w v = let F : Share × Gv → Pr = λ x. guard 𝓤 (x ∈ shared_view.op (quarter, c w) (three_quarters, c v)) ⟦ entry shared_view γ k x ⟧ in
+      let Z : Pr = guard 𝓤 (w ≡ v) ⟦ Sn full_share k w ⟧ in
+      via 𝓤 (ex 𝓤 F) (entry_glue shared_view 𝓛 γ k (quarter, c w) (three_quarters, c v)) (ex_e 𝓤 F (λ x. guard_e 𝓤 (x ∈ shared_view.op (
+        quarter,
+        c w,
+      ) (three_quarters, c v)) ⟦ entry shared_view γ k x ⟧ (λ m.
+      subst (λ (y : Share × Gv). ⟦ entry shared_view γ k y ⟧ ⊢ Z) m.1 (guard_i 𝓤 (w ≡ v) ⟦ Sn full_share k w ⟧ (cv.inj w v m.0.1)))))
+
+  -- who has the whole of it is alone with it
+  pub alone : (k : ℕ) (q : Share) (w v : V) → ⟦ Sn full_share k w ⟧ ∗ ⟦ Sn q k v ⟧ ⊢ guard 𝓤 ⊥ (⟦ Sn full_share k w ⟧ ∗ ⟦ Sn q k v ⟧)
+  alone k q w v = let F : Share × Gv → Pr = λ x. guard 𝓤 (x ∈ shared_view.op (full_share, c w) (q, c v)) ⟦ entry shared_view γ k x ⟧ in
+      let Both : Pr = ⟦ Sn full_share k w ⟧ ∗ ⟦ Sn q k v ⟧ in
+      via 𝓤 (ex 𝓤 F) (entry_glue shared_view 𝓛 γ k (full_share, c w) (q, c v)) (ex_e 𝓤 F (λ x. guard_e 𝓤 (x ∈ shared_view.op (full_share, c w) (
+        q,
+        c v,
+      )) ⟦ entry shared_view γ k x ⟧ (λ m. absurd (not-OpDef-full_share q m.0.0))))
 
   -- a share of a view is of one of the list, and the list says the same
   listed : (vs : List V) (k i j n : ℕ) (q : Share) (v d : V) → j ≡ k + i → n ≡ k + length vs → ⟦ All k vs ⟧ ∗ ⟦ Rest n d ⟧ ∗ ⟦ Sn q j v ⟧

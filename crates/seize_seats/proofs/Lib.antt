@@ -1,7 +1,10 @@
+pub mod Cells
 pub mod Columns
 pub mod Rows
 pub mod Ledgers
+pub mod Numbers
 pub mod Moves
+pub mod Makings
 pub mod Steps
 pub mod Opening
 pub mod Shown

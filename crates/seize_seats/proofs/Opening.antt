@@ -1,19 +1,25 @@
--- Words that are 0 go under a rule that holds of them, and come back at the end. Assumes `Logic`.
+-- Words that are 0 and places without a value go under a rule that holds of them, and come back at the end. Assumes `Logic`.
 use Rattle.std.specs.Prelude.{slice_index, replicate}
-use Rattle.std.proofs.Common.{◌≡◌, ℕ, zero, suc, ◌+◌, ◌*◌, List, [], ◌∷◌, length, refl, sym, subst, inl}
+use Rattle.std.proofs.Common.{◌≡◌, ℕ, zero, suc, ◌+◌, ◌*◌, List, [], ◌∷◌, ◌++◌, length, refl, sym, ap, ◌∙◌, subst, inl, arith, Option, None, Some, length-append}
+use Rattle.std.proofs.lemmas.List.{length-replicate}
 use seplogic.Ra.Ura.{Ura}
+use base.Fraction.{full_share}
 use base.Stored.{Coded}
-use base.Logic.{SProp, ent, ex, guard, via}
-use base.Fml.{Lft, Fml, ftrue, fbor, finv}
+use base.Logic.{SProp, ent, sep, ex, guard, via, never, never_e, emp}
+use base.Fml.{Lft, Share, Fml, ftrue, fsep, flft, fbor, finv, fdead}
 use types.Logic.{Logic, sem}
 use types.Owned.{basic}
+use types.Keyed.{entries_take, entries_new}
 use types.Tokens.{lft_new, lft_end, bor_new, lent_back}
-use types.Kit.{‵, some as items, later, ◌$◌, ◌∵◌, !, qed, move, keep, drop, fsplit, fsplit3, fjoin, fjoin3, fpick, fpack, pick, check, show, use0, use1, updating, await, now, done}
+use types.Kit.{‵, raw, ◌⊛◌, some as items, given, later, ◌$◌, ◌∵◌, !, qed, by, move, keep, drop as leave, split, join, fsplit, fsplit3, fjoin, fjoin3, fpick, fpack, pick, learn, check, show, use0, use1, use2, use3, rewrite, updating, await, now, done}
+use denote.RattleType.{RattleType}
 use denote.RawPtr.{Ptr, block_of, count_of}
 use denote.Steps.{nothing}
+use Rattle.core.specs.Sync.RawAtomic.{word}
 use Rattle.seize_seats.specs.State.{State, Starts}
-use Rattle.seize_seats.specs.Lines.{column, long, AreLaid}
-use Rattle.seize_seats.specs.Owned.{row, ledger, BaseId, Inside, state_of, IsPlaced, standing, inner, words_own}
+use Rattle.seize_seats.specs.Cells.{Cell, Free, Claimed, Out, Has, block_in, cell_at, sign_of}
+use Rattle.seize_seats.specs.Lines.{Parts, column, long, whole, memory_of, AreLaid}
+use Rattle.seize_seats.specs.Owned.{row, unborn, ledger, shared_view, hand_coded, resting, zeros, stride, place, places, hand, kept, under, numbers, BaseId, Inside, state_of, IsPlaced, standing, inner, words_own}
 use Rattle.seize_seats.proofs.Ledgers as Ledgers
 
 -- each word is 0
@@ -24,57 +30,210 @@ column_zeros : (k : ℕ) (ws : List ℕ) (o : ℕ) → AreZeros ws → column k 
 column_zeros zero ws o none = refl
 column_zeros (suc k) ws o none = let first = none o in let rest = column_zeros k ws (o + 16) none in cc (first, rest)
 
-module _ {M : Type 1} {𝓤 : Ura M} (𝓛 : Logic 𝓤) (T : Type 0) {V W : Type 0} (cv : Coded V) (holds : State T V W → Type 0) (p : Ptr) where
+-- five words for each number
+abbrev fives : ℕ → List ℕ
+fives zero = []
+fives (suc n) = 0 ∷ 0 ∷ 0 ∷ 0 ∷ 0 ∷ fives n
+
+fives_are : (n : ℕ) (ws : List ℕ) → length ws ≡ n * 5 → AreZeros ws → ws ≡ fives n
+fives_are zero [] l none = refl
+fives_are zero (a ∷ ws) l none = absurd (omega (arith, l))
+fives_are (suc n) [] l none = absurd (omega (arith, l))
+fives_are (suc n) (a ∷ []) l none = absurd (omega (arith, l))
+fives_are (suc n) (a ∷ b ∷ []) l none = absurd (omega (arith, l))
+fives_are (suc n) (a ∷ b ∷ c ∷ []) l none = absurd (omega (arith, l))
+fives_are (suc n) (a ∷ b ∷ c ∷ d ∷ []) l none = absurd (omega (arith, l))
+fives_are (suc n) (a ∷ b ∷ c ∷ d ∷ e ∷ ws) l none =
+    let p : a ≡ 0 = none 0 in let q : b ≡ 0 = none 1 in let r : c ≡ 0 = none 2 in let s : d ≡ 0 = none 3 in let t : e ≡ 0 = none 4 in
+    let rest = fives_are n ws (omega (arith, l)) (λ k. none (suc (suc (suc (suc (suc k)))))) in cc (p, q, r, s, t, rest)
+
+module _ {M : Type 1} {𝓤 : Ura M} (𝓛 : Logic 𝓤) (b : ℕ) where
+  pub row_splits : (xs ys : List ℕ) (o e : ℕ) → e ≡ length xs * 8 + o → ent 𝓤 (sem 𝓛 (row b o (xs ++ ys))) (sep 𝓤 (sem 𝓛 (row b o xs)) (sem 𝓛 (row b e ys)))
+  row_splits [] ys o e is = let here : o ≡ e = omega (arith, is) in qed 𝓛 (‵ (row b o ys) ∷ []) ∵ rewrite ! 0 (λ (k : ℕ). ‵ (row b k ys)) here refl $ nothing ! $ done !
+  row_splits (x ∷ xs) ys o e is = qed 𝓛 (‵ (word b o x) ∷ ‵ (row b (o + 8) (xs ++ ys)) ∷ []) ∵ move ! (1 ∷ []) $
+      use1 𝓛 (‵ (row b (o + 8) xs) ⊛ ‵ (row b e ys)) (row_splits xs ys (o + 8) e (omega (arith, is))) $ split ! $ move ! (2 ∷ 0 ∷ []) $ fjoin ! $ done !
+
+  pub row_joins : (xs ys : List ℕ) (o e : ℕ) → e ≡ length xs * 8 + o → ent 𝓤 (sep 𝓤 (sem 𝓛 (row b o xs)) (sem 𝓛 (row b e ys))) (sem 𝓛 (row b o (xs ++ ys)))
+  row_joins [] ys o e is = let here : e ≡ o = omega (arith, is) in qed 𝓛 (‵ ftrue ∷ ‵ (row b e ys) ∷ []) ∵
+      rewrite ! 1 (λ (k : ℕ). ‵ (row b k ys)) here refl $ move ! (1 ∷ []) $ keep ! (0 ∷ []) $ done !
+  row_joins (x ∷ xs) ys o e is = qed 𝓛 ((‵ (word b o x) ⊛ ‵ (row b (o + 8) xs)) ∷ ‵ (row b e ys) ∷ []) ∵ split ! $ move ! (1 ∷ 2 ∷ []) $
+      use2 𝓛 (‵ (row b (o + 8) (xs ++ ys))) (row_joins xs ys (o + 8) e (omega (arith, is))) $ move ! (1 ∷ 0 ∷ []) $ fjoin ! $ done !
+
+module _ {M : Type 1} {𝓤 : Ura M} (𝓛 : Logic 𝓤) (R : RattleType) (α : Lft) (δ b b' : ℕ) where
+  abbrev Unborn : ℕ → Fml
+  Unborn i = unborn hand_coded.code δ i resting
+
+  -- so many numbers, each of them free
+  abbrev free : ℕ → List (Cell R.Denot)
+  free n = replicate n Free
+
+  builds : (n i o o' : ℕ) → ent 𝓤 (sep 𝓤 (sem 𝓛 (row b o (fives n))) (sep 𝓤 (sem 𝓛 (places R b' o' (replicate n None))) (sem 𝓛 (Unborn i))))
+      (sem 𝓛 (numbers R α δ b o b' o' i (free n)))
+  builds zero i o o' = qed 𝓛 (‵ ftrue ∷ ‵ ftrue ∷ ‵ (Unborn i) ∷ []) ∵ keep ! (0 ∷ []) $ done !
+  builds (suc n) i o o' =
+      let P : Fml = place R α δ b' o' None in let Ps : Fml = places R b' (o' + stride R) (replicate n None) in
+      let at : o + 8 + 8 + 8 + 8 ≡ o + 32 = omega arith in let on : o + 8 + 8 + 8 + 8 + 8 ≡ o + 40 = omega arith in
+      qed 𝓛 (‵ (row b o (fives (suc n))) ∷ ‵ (fsep P Ps) ∷ ‵ (Unborn i) ∷ []) ∵
+      fsplit ! $ move ! (1 ∷ []) $ fsplit ! $ move ! (1 ∷ []) $ fsplit ! $ move ! (1 ∷ []) $ fsplit ! $ move ! (1 ∷ []) $ fsplit ! $
+      -- [sign; the rest; w3; w2; w1; w0; places; hands]
+      rewrite ! 0 (λ (k : ℕ). ‵ (word b k 0)) at refl $ rewrite ! 1 (λ (k : ℕ). ‵ (row b k (fives n))) on refl $ move ! (6 ∷ []) $ fsplit ! $
+      move ! (8 ∷ []) $ use1 𝓛 (‵ (hand R α δ full_share i resting) ⊛ ‵ (Unborn (suc i))) (entries_take shared_view 𝓛 δ i (λ _. (
+        full_share,
+        hand_coded.code resting,
+      ))) $ split ! $
+      -- [hand; hands; place; places; sign; the rest; w3; w2; w1; w0]
+      move ! (5 ∷ 3 ∷ 1 ∷ []) $ use3 𝓛 (‵ (numbers R α δ b (o + 40) b' (o' + stride R) (suc i) (free n))) (builds n (suc i) (o + 40) (o' + stride R)) $
+      -- [numbers; hand; place; sign; w3; w2; w1; w0]
+      nothing ! $ move ! (5 ∷ 0 ∷ []) $ fjoin ! $ move ! (5 ∷ 0 ∷ []) $ fjoin ! $ move ! (5 ∷ 0 ∷ []) $ fjoin ! $ move ! (5 ∷ 0 ∷ []) $ fjoin ! $
+      -- [the entry; numbers; hand; place; sign]
+      move ! (0 ∷ 3 ∷ []) $ fjoin ! $ move ! (2 ∷ 0 ∷ []) $ fjoin ! $ move ! (2 ∷ 0 ∷ []) $ fjoin ! $ fjoin ! $ done !
+
+  -- what comes back of so many numbers
+  abbrev Torn : ℕ → ℕ → ℕ → List ℕ × List (Option R.Denot) → SProp 𝓤
+  Torn n o o' u = guard 𝓤 ((length u.0 ≡ n * 5) × (length u.1 ≡ n)) (sep 𝓤 (sem 𝓛 (row b o u.0)) (sem 𝓛 (places R b' o' u.1)))
+
+  abbrev torn_item : ℕ → ℕ → ℕ → List ℕ × List (Option R.Denot) → types.Kit.Item 𝓤
+  torn_item n o o' u = given ((length u.0 ≡ n * 5) × (length u.1 ≡ n)) (‵ (row b o u.0) ⊛ ‵ (places R b' o' u.1))
+
+  -- four words, a sign and the place, before those of further numbers
+  stacks : (n o o' s : ℕ) (ws : List ℕ) (x : Option R.Denot) → length ws ≡ 4 → (u : List ℕ × List (Option R.Denot)) → (length u.0 ≡ n * 5) × (length u.1 ≡ n)
+      → ent 𝓤 (sep 𝓤 (sem 𝓛 (word b (o + 32) s)) (sep 𝓤 (sem 𝓛 (fsep (row b o ws) (place R α δ b' o' x))) (sep 𝓤 (sem 𝓛 (row b (o + 40) u.0)) (sem 𝓛 (places R b' (o' + stride R) u.1)))))
+      (ex 𝓤 (Torn (suc n) o o'))
+  stacks n o o' s ws x four u long_are =
+      let on : o + 40 ≡ o + 32 + 8 = omega arith in let l = long_are.0 in let m = long_are.1 in
+      let all : length (ws ++ s ∷ u.0) ≡ suc n * 5 = length-append ws (s ∷ u.0) ∙ omega (arith, four, l) in
+      qed 𝓛 (‵ (word b (o + 32) s) ∷ ‵ (fsep (row b o ws) (place R α δ b' o' x)) ∷ ‵ (row b (o + 40) u.0) ∷ ‵ (places R b' (o' + stride R) u.1) ∷ []) ∵
+      move ! (2 ∷ []) $ rewrite ! 0 (λ (k : ℕ). ‵ (row b k u.0)) on refl $ move ! (1 ∷ 0 ∷ []) $ fjoin ! $ move ! (1 ∷ []) $ fsplit ! $
+      -- [the entry; the place; the sign and the rest; places]
+      move ! (0 ∷ 2 ∷ []) $ use2 𝓛 (‵ (row b o (ws ++ s ∷ u.0))) (row_joins 𝓛 b ws (s ∷ u.0) o (o + 32) (omega (arith, four))) $ move ! (1 ∷ 2 ∷ []) $ fjoin ! $
+      show ! (Torn (suc n) o o') (ws ++ s ∷ u.0, x ∷ u.1) $ check ! (all, omega (arith, m)) $ move ! (1 ∷ 0 ∷ []) $ done !
+
+  tears : (cs : List (Cell R.Denot)) (o o' i : ℕ) → ((k : ℕ) (x : R.Denot) (ws : List ℕ) → cell_at cs k ≡ Has x ws → length ws ≡ 4)
+      → ent 𝓤 (sep 𝓤 (sem 𝓛 (numbers R α δ b o b' o' i cs)) (sem 𝓛 (fdead α))) (ex 𝓤 (Torn (length cs) o o'))
+  tears [] o o' i fours = qed 𝓛 (‵ ftrue ∷ ‵ (fdead α) ∷ []) ∵ show ! (Torn 0 o o') ([], []) $ check ! (refl, refl) $ leave ! $ leave ! $ nothing ! $ nothing ! $ done !
+  tears (c ∷ cs) o o' i fours =
+      qed 𝓛 ((‵ (under R α δ b o b' o' i c) ⊛ ‵ (numbers R α δ b (o + 40) b' (o' + stride R) (suc i) cs)) ∷ ‵ (fdead α) ∷ []) ∵ split ! $ move ! (2 ∷ []) $
+      use1 𝓛 (‵ (fdead α) ⊛ ‵ (fdead α)) (𝓛.lfts.dead_dup α) $ split ! $ move ! (3 ∷ 0 ∷ []) $
+      use2 𝓛 (items (torn_item (length cs) (o + 40) (o' + stride R))) (tears cs (o + 40) (o' + stride R) (suc i) (λ k. fours (suc k))) $
+      pick ! (λ u. learn ! (λ l. split ! $ move ! (3 ∷ 2 ∷ []) $ fsplit ! $ by ! (parts c (λ x ws e. fours 0 x ws e) u l)))
+    where
+      parts : (c : Cell R.Denot) → ((x : R.Denot) (ws : List ℕ) → c ≡ Has x ws → length ws ≡ 4) → (u : List ℕ × List (Option R.Denot))
+          → (length u.0 ≡ length cs * 5) × (length u.1 ≡ length cs)
+          → ent 𝓤 (sep 𝓤 (sem 𝓛 (word b (o + 32) (sign_of c))) (sep 𝓤 (sem 𝓛 (kept R α δ b o b' o' i c)) (sep 𝓤 (sem 𝓛 (fdead α))
+          (sep 𝓤 (sem 𝓛 (row b (o + 40) u.0)) (sem 𝓛 (places R b' (o' + stride R) u.1)))))) (ex 𝓤 (Torn (suc (length cs)) o o'))
+      parts Free four u l =
+          qed 𝓛 (‵ (word b (o + 32) 0) ∷ ‵ (kept R α δ b o b' o' i Free) ∷ ‵ (fdead α) ∷ ‵ (row b (o + 40) u.0) ∷ ‵ (places R b' (o' + stride R) u.1) ∷ []) ∵
+          move ! (1 ∷ []) $ fsplit ! $ keep ! (2 ∷ 1 ∷ 4 ∷ 5 ∷ []) $ by ! (stacks (length cs) o o' 0 zeros None refl u l)
+      parts Claimed four u l =
+          qed 𝓛 (‵ (word b (o + 32) 1) ∷ ‵ (kept R α δ b o b' o' i Claimed) ∷ ‵ (fdead α) ∷ ‵ (row b (o + 40) u.0) ∷ ‵ (places R b' (o' + stride R) u.1) ∷ []) ∵
+          move ! (1 ∷ []) $ fsplit ! $ keep ! (2 ∷ 1 ∷ 4 ∷ 5 ∷ []) $ by ! (stacks (length cs) o o' 1 zeros None refl u l)
+      parts (Has x ws) four u l =
+          qed 𝓛 (‵ (word b (o + 32) 1) ∷ ‵ (kept R α δ b o b' o' i (Has x ws)) ∷ ‵ (fdead α) ∷ ‵ (row b (o + 40) u.0) ∷ ‵ (places R b' (o' + stride R) u.1) ∷
+          []) ∵
+          move ! (1 ∷ []) $ fsplit ! $ keep ! (2 ∷ 1 ∷ 4 ∷ 5 ∷ []) $ by ! (stacks (length cs) o o' 1 ws (Some x) (four x ws refl) u l)
+      parts (Out s) four u l =
+          qed 𝓛 (‵ (word b (o + 32) 1) ∷ ‵ (kept R α δ b o b' o' i (Out s)) ∷ ‵ (fdead α) ∷ ‵ (row b (o + 40) u.0) ∷ ‵ (places R b' (o' + stride R) u.1) ∷ []) ∵
+          move ! (1 ∷ []) $ fsplit ! $ move ! (1 ∷ 3 ∷ []) $ use2 𝓛 (raw (never 𝓤)) (𝓛.lfts.lft-dead α s) $ keep ! (0 ∷ []) $
+          by ! (never_e 𝓤 (ex 𝓤 (Torn (suc (length cs)) o o')))
+
+zeros_of : (n k : ℕ) → slice_index (replicate n 0) k ≡ 0
+zeros_of zero k = refl
+zeros_of (suc n) zero = refl
+zeros_of (suc n) (suc k) = zeros_of n k
+
+frees_of : {T : Type 0} (n k : ℕ) → cell_at {T = T} (replicate n Free) k ≡ Free
+frees_of zero k = refl
+frees_of (suc n) zero = refl
+frees_of (suc n) (suc k) = frees_of n k
+
+zeros_are : (n m : ℕ) (ws : List ℕ) → length ws ≡ n + m * 5 → AreZeros ws → ws ≡ replicate n 0 ++ fives m
+zeros_are zero m ws l none = fives_are m ws (omega (arith, l)) none
+zeros_are (suc n) m [] l none = absurd (omega (arith, l))
+zeros_are (suc n) m (a ∷ ws) l none = let first : a ≡ 0 = none 0 in let rest = zeros_are n m ws (omega (arith, l)) (λ k. none (suc k)) in cc (first, rest)
+
+module _ {M : Type 1} {𝓤 : Ura M} (𝓛 : Logic 𝓤) (R : RattleType) {V W : Type 0} (cv : Coded V) (holds : State R.Denot V W → Type 0) (p pv : Ptr) where
   open 𝓛 use {H, A}
 
   abbrev ⟦◌⟧ : Fml → SProp 𝓤
   ⟦ P ⟧ = sem 𝓛 P
 
-  module _ (roots : ℕ) (blank : V) (ws : List ℕ) (none : AreZeros ws) (all : length ws ≡ long roots) (placed : IsPlaced p record {
-    atom = 0;
-    views_name =
-        0;
-    roots = roots;
-  }) (starts : Starts holds roots) where
+  -- which words these are, but for names
+  abbrev pub named : ℕ → ℕ → ℕ → ℕ → ℕ → BaseId
+  named a γ δ roots count = record { atom = a; views_name = γ; hands_name = δ; roots = roots; count = count; values = pv }
+
+  module _ (roots count : ℕ) (blank : V) (ws : List ℕ) (none : AreZeros ws) (all : length ws ≡ whole roots count) (placed : IsPlaced R p (named 0 0 0 roots count))
+      (starts : Starts holds roots) where
     abbrev pub Opened : BaseId → SProp 𝓤
-    Opened z = guard 𝓤 (z.roots ≡ roots) ⟦ words_own T cv.code holds p z ⟧
+    Opened z = guard 𝓤 ((z.roots ≡ roots) × (z.count ≡ count) × (z.values ≡ pv)) ⟦ words_own R cv.code holds p z ⟧
 
-    abbrev first : Inside V W
-    first = record { words = ws; slots = 0; blank = blank; views = []; world = starts.0 }
+    abbrev parts : Parts R.Denot
+    parts = record { words = replicate (long roots) 0; slots = 0; cells = replicate count Free; given = 0 }
 
-    pub opens : ent 𝓤 ⟦ row (block_of p) (count_of p) ws ⟧ (H.⇛ (ex 𝓤 Opened))
-    opens = qed 𝓛 (‵ (row (block_of p) (count_of p) ws) ∷ []) ∵ updating ! $ lft_new ! tt (λ a. let α : Lft = a ∷ [] in
-        use0 𝓛 (later (items (λ (γ : ℕ). ‵ (ledger cv.code γ blank [])))) (via 𝓤 _ (Ledgers.begins 𝓛 cv 0 blank)
-        (basic 𝓛 (ex 𝓤 (λ (γ : ℕ). ⟦ ledger cv.code γ blank [] ⟧)))) $ await ! tt $ pick ! (λ γ.
-        -- [the views; the token; the words]
-        let z : BaseId = record { atom = a; views_name = γ; roots = roots } in let I : Fml = inner T cv.code holds p z in
-        let links = column_zeros roots ws 0 none in let used = column_zeros roots ws (roots * 16) none in
-        let so : holds (state_of T z first) = subst (λ (m : List ℕ × List ℕ). holds record {
-          memory = record {
-            roots = m.0;
-            used = m.1;
-            slots = [];
-            blocks =
-                [];
-            choices = [];
-          };
+    abbrev first : Inside R.Denot V W
+    first = record { parts = parts; blank = blank; views = []; world = starts.0 }
+
+    laid : AreLaid roots count parts
+    laid = record {
+      all = length-replicate (long roots) 0;
+      slots_are = inl (refl, λ k le. zeros_of (long roots) k);
+      counted = length-replicate count Free;
+      within = omega arith;
+      rest = λ k le. ap block_in (frees_of count k);
+      fours = λ k x us e. absurd (let f : cell_at {T = R.Denot} (replicate count Free) k ≡ Free = frees_of count k in cc (e, f));
+    }
+
+    begins : holds record { memory = memory_of roots parts; views = []; world = starts.0 }
+    begins = let links = column_zeros roots (replicate (long roots) 0) 0 (zeros_of (long roots)) in
+        let used = column_zeros roots (replicate (long roots) 0) (roots * 16) (zeros_of (long roots)) in
+        subst (λ (m : List ℕ × List ℕ). holds record {
+          memory = record { roots = m.0; used = m.1; slots = []; blocks = []; choices = [] };
           views = [];
           world = starts.0;
-        })
-        (λ i. (sym links i, sym used i)) starts.1 in
-        let laid : AreLaid roots 0 ws = record { all = all; slots_are = inl (refl, λ k le. none k) } in
-        nothing ! $ fpack ! (holds (state_of T z first) × AreLaid z.roots 0 ws) (λ _. ftrue) (so, laid) $ move ! (3 ∷ 1 ∷ 0 ∷ []) $ fjoin3 ! $
-        fpack ! (Inside V W) (standing T cv.code holds p z) first $
+        }) (λ i. (sym links i, sym used i)) starts.1
+
+    hands_new : ent 𝓤 (emp 𝓤) (H.⇛ (ex 𝓤 (λ (δ : ℕ). ⟦ unborn hand_coded.code δ 0 resting ⟧)))
+    hands_new = via 𝓤 _ (entries_new shared_view 𝓛 0 (λ _. (full_share, hand_coded.code resting)))
+        (basic 𝓛 (ex 𝓤 (λ (δ : ℕ). ⟦ unborn hand_coded.code δ 0 resting ⟧)))
+
+    pub opens : ent 𝓤 (sep 𝓤 ⟦ row (block_of p) (count_of p) ws ⟧ ⟦ places R (block_of pv) (count_of pv) (replicate count None) ⟧) (H.⇛ (ex 𝓤 Opened))
+    opens = let b : ℕ = block_of p in let o : ℕ = count_of p in let b' : ℕ = block_of pv in let o' : ℕ = count_of pv in let f : ℕ = long roots * 8 + o in
+        let head : List ℕ = replicate (long roots) 0 in let l = length-replicate {A = ℕ} (long roots) 0 in
+        qed 𝓛 (‵ (row b o ws) ∷ ‵ (places R b' o' (replicate count None)) ∷ []) ∵ updating ! $ lft_new ! tt (λ a. let α : Lft = a ∷ [] in
+        use0 𝓛 (later (items (λ (γ : ℕ). ‵ (ledger cv.code γ blank [])))) (via 𝓤 _ (Ledgers.begins 𝓛 cv 0 blank)
+        (basic 𝓛 (ex 𝓤 (λ (γ : ℕ). ⟦ ledger cv.code γ blank [] ⟧)))) $ await ! tt $ pick ! (λ γ.
+        use0 𝓛 (later (items (λ (δ : ℕ). ‵ (unborn hand_coded.code δ 0 resting)))) hands_new $ await ! tt $ pick ! (λ δ.
+        -- [the hands; the views; the token; the words; the places]
+        let z : BaseId = named a γ δ roots count in let I : Fml = inner R cv.code holds p z in
+        let N : Fml = numbers R α δ b f b' o' 0 (replicate count Free) in
+        move ! (3 ∷ []) $ rewrite ! 0 (λ (us : List ℕ). ‵ (row b o us)) (zeros_are (long roots) count ws all none) refl $
+        use1 𝓛 (‵ (row b o head) ⊛ ‵ (row b f (fives count))) (row_splits 𝓛 b head (fives count) o f (omega (arith, l))) $ split ! $
+        -- [the first words; the others; the hands; the views; the token; the places]
+        move ! (1 ∷ 5 ∷ 2 ∷ []) $ use3 𝓛 (‵ N) (builds 𝓛 R α δ b b' count 0 f o') $ move ! (1 ∷ 0 ∷ []) $ fjoin ! $
+        -- [the memory; the views; the token]
+        nothing ! $ fpack ! (holds (state_of z first) × AreLaid z.roots z.count parts) (λ _. ftrue) (begins, laid) $ move ! (1 ∷ 2 ∷ 0 ∷ []) $ fjoin3 ! $
+        fpack ! (Inside R.Denot V W) (standing R cv.code holds p z) first $
         bor_new ! tt α $ use1 𝓛 (later (‵ (finv (fbor α I)))) (𝓛.invs.inv_new (fbor α I)) $ await ! tt $
-        nothing ! $ fpack ! (IsPlaced p z) (λ _. ftrue) placed $ move ! (0 ∷ 1 ∷ []) $ fjoin ! $ move ! (0 ∷ 1 ∷ []) $ fjoin ! $ move ! (1 ∷ 0 ∷ []) $ fjoin ! $
-        now ! $ show ! Opened z $ check ! refl $ done !))
+        nothing ! $ fpack ! (IsPlaced R p z) (λ _. ftrue) placed $ move ! (0 ∷ 1 ∷ []) $ fjoin ! $ move ! (0 ∷ 1 ∷ []) $ fjoin ! $ move ! (1 ∷ 0 ∷ []) $ fjoin ! $
+        now ! $ show ! Opened z $ check ! (refl, refl, refl) $ done !)))
 
   module _ (z : BaseId) where
-    abbrev pub Closed : List ℕ → SProp 𝓤
-    Closed ws = guard 𝓤 ((length ws ≡ long z.roots) × IsPlaced p z) ⟦ row (block_of p) (count_of p) ws ⟧
+    abbrev pub Closed : List ℕ × List (Option R.Denot) → SProp 𝓤
+    Closed u =
+        guard 𝓤 ((length u.0 ≡ whole z.roots z.count) × (length u.1 ≡ z.count) × IsPlaced R p z)
+        (sep 𝓤 ⟦ row (block_of p) (count_of p) u.0 ⟧ ⟦ places R (block_of z.values) (count_of z.values) u.1 ⟧)
 
-    pub closes : ent 𝓤 ⟦ words_own T cv.code holds p z ⟧ (H.⇛ (ex 𝓤 Closed))
-    closes = qed 𝓛 (‵ (words_own T cv.code holds p z) ∷ []) ∵ updating ! $ fsplit3 ! $ move ! (1 ∷ []) $ fsplit ! $ fpick ! (λ placed. drop ! $ drop ! $
+    pub closes : ent 𝓤 ⟦ words_own R cv.code holds p z ⟧ (H.⇛ (ex 𝓤 Closed))
+    closes = let α : Lft = z.atom ∷ [] in let b : ℕ = block_of p in let o : ℕ = count_of p in let b' : ℕ = block_of z.values in let o' : ℕ = count_of z.values in
+        let f : ℕ = long z.roots * 8 + o in
+        qed 𝓛 (‵ (words_own R cv.code holds p z) ∷ []) ∵ updating ! $ fsplit3 ! $ move ! (1 ∷ []) $ fsplit ! $ fpick ! (λ placed. leave ! $ leave ! $
         -- [the token; what was lent]
-        lft_end ! tt $ lent_back ! tt $ fpick ! (λ t. fsplit3 ! $ move ! (2 ∷ []) $ fpick ! (λ so. drop ! $
-        now ! $ show ! Closed t.words $ check ! (so.1.all, placed) $ keep ! (0 ∷ []) $ done !)))
+        lft_end ! tt $ use1 𝓛 (‵ (fdead α) ⊛ ‵ (fdead α)) (𝓛.lfts.dead_dup α) $ split ! $ move ! (0 ∷ 2 ∷ []) $ lent_back ! tt $
+        fpick ! (λ t. fsplit3 ! $ move ! (2 ∷ []) $ fpick ! (λ so. leave ! $
+        -- [the memory; the views; dead]
+        let ws : List ℕ = t.parts.words in let cs : List (Cell R.Denot) = t.parts.cells in fsplit ! $ move ! (1 ∷ 3 ∷ []) $
+        use2 𝓛 (items (torn_item 𝓛 R α z.hands_name b b' (length cs) f o')) (tears 𝓛 R α z.hands_name b b' cs f o' 0 so.1.fours) $ pick ! (λ u. learn ! (λ l. split ! $
+        -- [the others; the places; the first words; the views]
+        let head = so.1.all in let all_of = so.1.counted in let l0 = l.0 in let l1 = l.1 in
+        let long_is : length (ws ++ u.0) ≡ whole z.roots z.count = length-append ws u.0 ∙ omega (arith, head, l0, all_of) in
+        move ! (2 ∷ 0 ∷ []) $ use2 𝓛 (‵ (row b o (ws ++ u.0))) (row_joins 𝓛 b ws u.0 o f (omega (arith, head))) $
+        now ! $ show ! Closed (ws ++ u.0, u.1) $ check ! (long_is, omega (arith, l1, all_of), placed) $ keep ! (0 ∷ 1 ∷ []) $ done !)))))

@@ -8,7 +8,7 @@ use Rattle.seize_words.specs.Op.{Room, Roomed}
 use Rattle.seize_words.specs.Place.{capacity}
 use Rattle.seize_words.specs.SlotWords.{with_bucket}
 use Rattle.seize_words.specs.declared.fault.Fault.TheVariants.{Memory}
-use Rattle.seize_seats.specs.Lines.{slots_from, memory_of, AreLaid}
+use Rattle.seize_seats.specs.Lines.{Parts, slots_from, memory_of, AreLaid}
 use Rattle.seize_seats.specs.Steps.{roomed}
 
 slots_long : (k : ℕ) (ws : List ℕ) (o : ℕ) → length (slots_from k ws o) ≡ k
@@ -30,51 +30,55 @@ wide : (bucket : ℕ) → bucket ≢ 0 → 64 ≤ capacity bucket
 wide zero ne = absurd (ne refl)
 wide (suc b) ne = let r = power b in let e : 2 ^ suc b ≡ 2 * 2 ^ b = simp unary_clauses (omega arith) in omega (arith, r, e)
 
-module _ (T : Type 0) (roots : ℕ) (ws : List ℕ) (bucket : ℕ) where
+module _ {T : Type 0} (roots count : ℕ) (s : Parts T) (bucket : ℕ) where
+  abbrev pub with_slots : ℕ → Parts T
+  with_slots n = record { words = s.words; slots = n; cells = s.cells; given = s.given }
+
   abbrev Mo : ℕ → Mem T
-  Mo slots = memory_of roots slots ws
+  Mo n = memory_of roots (with_slots n)
 
   abbrev Roomy : ℕ → Type 0
-  Roomy slots = (new : ℕ) × AreLaid roots new ws × Took (Mo slots) (Room bucket) (Roomed (roomed bucket)) (Mo new)
+  Roomy n = (new : ℕ) × AreLaid roots count (with_slots new) × Took (Mo n) (Room bucket) (Roomed (roomed bucket)) (Mo new)
 
-  pub rooms : (slots : ℕ) → AreLaid roots slots ws → Can (Mo slots) (Room bucket) → Roomy slots
-  rooms slots laid can = by (cases_eq bucket 0) laid.slots_are
+  pub rooms : AreLaid roots count s → Can (memory_of roots s) (Room bucket) → Roomy s.slots
+  rooms laid can = by s.slots laid can (cases_eq bucket 0) laid.slots_are
     where
-      long_is : length (Mo slots).slots ≡ slots
-      long_is = slots_long slots ws ((roots + roots) * 16)
+      long_is : (n : ℕ) → length (Mo n).slots ≡ n
+      long_is n = slots_long n s.words ((roots + roots) * 16)
 
       -- where the first bucket is there, it stays as it is
-      same : slots ≡ 32 → (slots_are : List (List ℕ)) → length slots_are ≡ slots → with_bucket slots_are 0 ≡ slots_are
-      same e l is = ap (λ (y : Bool). if y then l ++ replicate (capacity 0) (replicate 2 0) else l) (ne_eqb (length l + 32) (capacity 0)
+      same : (n : ℕ) → n ≡ 32 → (slots_are : List (List ℕ)) → length slots_are ≡ n → with_bucket slots_are 0 ≡ slots_are
+      same n e l is = ap (λ (y : Bool). if y then l ++ replicate (capacity 0) (replicate 2 0) else l) (ne_eqb (length l + 32) (capacity 0)
           (λ q. let c : capacity 0 ≡ 32 = refl in omega (arith, q, c, is, e)))
 
-      made : slots ≡ 0 → ((k : ℕ) → (roots + roots) * 16 ≤ k → slice_index ws k ≡ 0) → Mo 32 ≡ with_room (Mo slots) 0
-      made e none =
-          let there : slots_from 32 ws ((roots + roots) * 16) ≡ replicate 32 (replicate 2 0) = slots_zeros 32 ws ((roots + roots) * 16) none in
+      made : (n : ℕ) → n ≡ 0 → ((k : ℕ) → (roots + roots) * 16 ≤ k → slice_index s.words k ≡ 0) → Mo 32 ≡ with_room (Mo n) 0
+      made n e none =
+          let there : slots_from 32 s.words ((roots + roots) * 16) ≡ replicate 32 (replicate 2 0) = slots_zeros 32 s.words ((roots + roots) * 16) none in
           subst (λ (k : ℕ). Mo 32 ≡ with_room (Mo k) 0) (sym e) (ap (λ (l : List (List ℕ)). record (Mo 0) { slots = l }) there)
 
-      by : (bucket ≡ 0) ⊎ (bucket ≢ 0) → ((slots ≡ 0) × ((k : ℕ) → (roots + roots) * 16 ≤ k → slice_index ws k ≡ 0)) ⊎ (slots ≡ 32) → Roomy slots
-      by (inl e) (inl none) = (
+      as_laid : (n : ℕ) → ((n ≡ 0) × ((k : ℕ) → (roots + roots) * 16 ≤ k → slice_index s.words k ≡ 0)) ⊎ (n ≡ 32) → AreLaid roots count (with_slots n)
+      as_laid n are = record { all = laid.all; slots_are = are; counted = laid.counted; within = laid.within; rest = laid.rest; fours = laid.fours }
+
+      by : (n : ℕ) → AreLaid roots count s → Can (Mo n) (Room bucket) → (bucket ≡ 0) ⊎ (bucket ≢ 0)
+          → ((n ≡ 0) × ((k : ℕ) → (roots + roots) * 16 ≤ k → slice_index s.words k ≡ 0)) ⊎ (n ≡ 32) → Roomy n
+      by n laid can (inl e) (inl none) = (
         32,
-        record {
-          all = laid.all;
-          slots_are =
-              inr refl;
-        },
-        subst (λ (k : ℕ). Took (Mo slots) (Room k) (Roomed (roomed k)) (Mo 32)) (sym e) (tt, made none.0 none.1),
+        as_laid 32 (inr refl),
+        subst (λ (k : ℕ). Took (Mo n) (Room k) (Roomed (roomed k)) (Mo 32)) (sym e) (tt, made n none.0 none.1),
       )
-      by (inl e) (inr all) = (
-        slots,
-        laid,
-        subst (λ (k : ℕ). Took (Mo slots) (Room k) (Roomed (roomed k)) (Mo slots)) (sym e)
-            (tt, sym (ap (λ (l : List (List ℕ)). record (Mo slots) { slots = l }) (same all (Mo slots).slots long_is))),
+      by n laid can (inl e) (inr all) = (
+        n,
+        as_laid n (inr all),
+        subst (λ (k : ℕ). Took (Mo n) (Room k) (Roomed (roomed k)) (Mo n)) (sym e)
+            (tt, sym (ap (λ (l : List (List ℕ)). record (Mo n) { slots = l }) (same n all (Mo n).slots (long_is n)))),
       )
-      by (inr ne) (inl none) = let w = wide bucket ne in let c = can.1 in let z = none.0 in absurd (omega (arith, w, c, long_is, z))
-      by (inr ne) (inr all) =
-          let w = wide bucket ne in let c = can.1 in (
-            slots,
-            laid,
-            subst (λ (r : Result Unit _). Took (Mo slots) (Room bucket) (Roomed r) (Mo slots)) (sym (ap (λ (y : Bool). if y then Ok tt else Err Memory)
+      by n laid can (inr ne) (inl none) =
+          let w = wide bucket ne in let c = can.1 in let z = none.0 in let l = long_is n in absurd (omega (arith, w, c, l, z))
+      by n laid can (inr ne) (inr all) =
+          let w = wide bucket ne in let c = can.1 in let l = long_is n in (
+            n,
+            as_laid n (inr all),
+            subst (λ (r : Result Unit _). Took (Mo n) (Room bucket) (Roomed r) (Mo n)) (sym (ap (λ (y : Bool). if y then Ok tt else Err Memory)
                 (ne_eqb bucket 0 ne)))
-                ((refl, omega (arith, w, c, long_is, all)), refl),
+                ((refl, omega (arith, w, c, l, all)), refl),
           )

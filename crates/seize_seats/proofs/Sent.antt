@@ -1,12 +1,18 @@
 -- The words may be shared, and a seat may go to another thread: nothing of them is tied to one. Assumes nothing.
-use Rattle.std.proofs.Common.{ℕ, suc, ◌+◌, List, [], ◌∷◌, length}
+use Rattle.std.proofs.Common.{ℕ, suc, ◌+◌, ◌*◌, List, [], ◌∷◌, length, None, Some}
+use base.Fraction.{full_share}
 use base.Stored.{Gv}
 use base.Fml.{Lft}
 use base.Shift.{Keyless}
 use denote.RawPtr.{Ptr, block_of, count_of}
+use denote.RattleType.{RattleType}
+use denote.Param.Send.{IsSend, part_keyless}
 use types.Keyed.{entry_keyless, entries_keyless}
+use Rattle.core.specs.contracts.option.Option.{the_row as OptionOf}
 use Rattle.seize_seats.specs.State.{State}
-use Rattle.seize_seats.specs.Owned.{shared_view, row, quarters, BaseId, inner, words_own, words_share, seat_owns}
+use Rattle.seize_seats.specs.Cells.{Cell, Free, Claimed, Out, Has}
+use Rattle.seize_seats.specs.Lines.{long}
+use Rattle.seize_seats.specs.Owned.{shared_view, row, quarters, zeros, stride, kept, numbers, BaseId, age, inner, words_own, words_share, seat_owns}
 
 row_keyless : (b o : ℕ) (ns : List ℕ) → Keyless (row b o ns)
 row_keyless b o [] = tt
@@ -20,10 +26,24 @@ module _ {V : Type 0} (c : V → Gv) (γ : ℕ) where
   pub seat_keyless : (id : ℕ) (v : V) → Keyless (seat_owns c γ id v)
   seat_keyless id v = entry_keyless shared_view γ id _
 
-module _ (T : Type 0) {V W : Type 0} (c : V → Gv) (holds : State T V W → Type 0) (p : Ptr) (z : BaseId) where
-  inner_keyless : Keyless (inner T c holds p z)
+module _ (R : RattleType) (sent : IsSend (OptionOf R)) (α : Lft) (δ b b' : ℕ) where
+  kept_keyless : (o o' i : ℕ) (c : Cell R.Denot) → Keyless (kept R α δ b o b' o' i c)
+  kept_keyless o o' i Free = (entry_keyless shared_view δ i _, (row_keyless b o zeros, part_keyless (OptionOf R) sent full_share None b' o'))
+  kept_keyless o o' i Claimed = (entry_keyless shared_view δ i _, (row_keyless b o zeros, part_keyless (OptionOf R) sent full_share None b' o'))
+  kept_keyless o o' i (Out e) = (entry_keyless shared_view δ i _, tt)
+  kept_keyless o o' i (Has x ws) = (entry_keyless shared_view δ i _, (row_keyless b o ws, part_keyless (OptionOf R) sent full_share (Some x) b' o'))
+
+  numbers_keyless : (cs : List (Cell R.Denot)) (o o' i : ℕ) → Keyless (numbers R α δ b o b' o' i cs)
+  numbers_keyless [] o o' i = tt
+  numbers_keyless (c ∷ cs) o o' i = ((tt, kept_keyless o o' i c), numbers_keyless cs (o + 40) (o' + stride R) (suc i))
+
+module _ (R : RattleType) (sent : IsSend (OptionOf R)) {V W : Type 0} (c : V → Gv) (holds : State R.Denot V W → Type 0) (p : Ptr) (z : BaseId) where
+  inner_keyless : Keyless (inner R c holds p z)
   inner_keyless = λ t. (
-    row_keyless (block_of p) (count_of p) t.words,
+    (
+      row_keyless (block_of p) (count_of p) t.parts.words,
+      numbers_keyless R sent (age z) z.hands_name (block_of p) (block_of z.values) t.parts.cells (long z.roots * 8 + count_of p) (count_of z.values) 0,
+    ),
     (
       (
         quarters_keyless c z.views_name 0 t.views,
@@ -33,8 +53,8 @@ module _ (T : Type 0) {V W : Type 0} (c : V → Gv) (holds : State T V W → Typ
     ),
   )
 
-  pub owns_keyless : Keyless (words_own T c holds p z)
+  pub owns_keyless : Keyless (words_own R c holds p z)
   owns_keyless = (tt, (((λ _. tt), inner_keyless), inner_keyless))
 
-  pub shares_keyless : (ν : Lft) → Keyless (words_share T c holds p z ν)
+  pub shares_keyless : (ν : Lft) → Keyless (words_share R c holds p z ν)
   shares_keyless ν = ((λ _. tt), ((λ _. tt), inner_keyless))

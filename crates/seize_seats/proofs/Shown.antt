@@ -9,6 +9,7 @@ use types.Logic.{Logic, sem, lfts}
 use types.Kit.{‵, raw, ◌⊛◌, later, ◌$◌, ◌∵◌, !, qed, move, drop, split, fsplit, fjoin, fpick, fpack, check, use1, use2, updating, await, now, done}
 use types.Tokens.{bor_fracture}
 use base.Logic.{guard}
+use denote.RattleType.{RattleType}
 use denote.RawPtr.{Ptr}
 use denote.Sharing.{ShrLaws, one, said}
 use denote.SharingLaws.{beside_shr_laws, one_shr_laws}
@@ -17,28 +18,28 @@ use denote.Struct.Lending.{Lends, Lends-both}
 use Rattle.seize_seats.specs.State.{State}
 use Rattle.seize_seats.specs.Owned.{BaseId, age, IsPlaced, inner, common, words_own, words_share}
 
-module _ (T : Type 0) {V W : Type 0} (cv : Coded V) (holds : State T V W → Type 0) (p : Ptr) (z : BaseId) where
+module _ (R : RattleType) {V W : Type 0} (cv : Coded V) (holds : State R.Denot V W → Type 0) (p : Ptr) (z : BaseId) where
   abbrev α : Lft
   α = age z
 
   abbrev I : Fml
-  I = inner T cv.code holds p z
+  I = inner R cv.code holds p z
 
   abbrev C : Fml
-  C = common T cv.code holds p z
+  C = common R cv.code holds p z
 
   abbrev Φ : Share → Fml
   Φ q = flft α q
 
   -- where the words lie is told, and stays
-  pub placed : {M : Type 1} {𝓤 : Ura M} (𝓛 : Logic 𝓤) → ent 𝓤 (sem 𝓛 C) (guard 𝓤 (IsPlaced p z) (sem 𝓛 C))
-  placed 𝓛 = qed 𝓛 (‵ C ∷ []) ∵ fsplit ! $ fpick ! (λ i. drop ! $ check ! i $ nothing ! $ fpack ! (IsPlaced p z) (λ _. ftrue) i $ fjoin ! $ done !)
+  pub placed : {M : Type 1} {𝓤 : Ura M} (𝓛 : Logic 𝓤) → ent 𝓤 (sem 𝓛 C) (guard 𝓤 (IsPlaced R p z) (sem 𝓛 C))
+  placed 𝓛 = qed 𝓛 (‵ C ∷ []) ∵ fsplit ! $ fpick ! (λ i. drop ! $ check ! i $ nothing ! $ fpack ! (IsPlaced R p z) (λ _. ftrue) i $ fjoin ! $ done !)
 
   twice : {M : Type 1} {𝓤 : Ura M} (𝓛 : Logic 𝓤) → ent 𝓤 (sem 𝓛 C) (sep 𝓤 (sem 𝓛 C) (sem 𝓛 C))
   twice 𝓛 = qed 𝓛 (‵ C ∷ []) ∵ fsplit ! $ fpick ! (λ i. drop ! $ use1 𝓛 (‵ (finv (fbor α I)) ⊛ ‵ (finv (fbor α I))) (𝓛.invs.inv_dup (fbor α I)) $ split ! $
-      nothing ! $ fpack ! (IsPlaced p z) (λ _. ftrue) i $ fjoin ! $ move ! (1 ∷ []) $ nothing ! $ fpack ! (IsPlaced p z) (λ _. ftrue) i $ fjoin ! $ done !)
+      nothing ! $ fpack ! (IsPlaced R p z) (λ _. ftrue) i $ fjoin ! $ move ! (1 ∷ []) $ nothing ! $ fpack ! (IsPlaced R p z) (λ _. ftrue) i $ fjoin ! $ done !)
 
-  pub words_laws : ShrLaws (words_share T cv.code holds p z)
+  pub words_laws : ShrLaws (words_share R cv.code holds p z)
   words_laws = beside_shr_laws (one Φ) (said C) (one_shr_laws Φ) record {
     contraction = λ M 𝓤 𝓛 ν. twice 𝓛;
     mono =
@@ -59,5 +60,5 @@ module _ (T : Type 0) {V W : Type 0} (cv : Coded V) (holds : State T V W → Typ
         use1 𝓛 (‵ C ⊛ ‵ C) (twice 𝓛) $ split ! $ move ! (0 ∷ 2 ∷ []) $ fjoin ! $ move ! (0 ∷ 2 ∷ []) $
         use2 𝓛 (later (‵ (fbor ν P) ⊛ raw (lfts 𝓛 ts))) (apply∗ 𝓤 (sem 𝓛 P) Back) $ await ! tt $ split ! $ drop ! $ move ! (1 ∷ 0 ∷ []) $ now ! $ done !)
 
-    pub lends_words : Lends 𝓛 (words_own T cv.code holds p z) (words_share T cv.code holds p z) l
+    pub lends_words : Lends 𝓛 (words_own R cv.code holds p z) (words_share R cv.code holds p z) l
     lends_words = Lends-both 𝓛 (Φ full_share) (fsep C (flent α I)) (one Φ) (said C) l token knowledge

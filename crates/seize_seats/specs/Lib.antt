@@ -1,3 +1,4 @@
+pub mod Cells
 pub mod State
 pub mod Lines
 pub mod Steps

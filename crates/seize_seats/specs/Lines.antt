@@ -1,8 +1,10 @@
--- Where the words of roots and of slots lie: each root's on lines of their own, and each slot's on one. A line has 16 words, which are 128 bytes.
-use Rattle.std.specs.Prelude.{◌≡◌, ℕ, zero, suc, ◌+◌, ◌*◌, ◌<◌, ◌≤◌, ◌⊎◌, List, [], ◌∷◌, length, slice_index}
+-- Where the words of a memory lie: each root's on lines of their own, each slot's on one, and then those of the blocks' entries. A line has 16 words, which
+-- are 128 bytes.
+use Rattle.std.specs.Prelude.{◌≡◌, ℕ, zero, suc, ◌+◌, ◌-◌, ◌*◌, ◌<◌, ◌≤◌, ◌⊎◌, List, [], ◌∷◌, Option, None, length, slice_index}
 use Rattle.seize_words.specs.Mem.{Mem}
 use Rattle.seize_words.specs.declared.at.At.{At}
-use Rattle.seize_words.specs.declared.at.At.TheVariants.{Root, Used, Slot}
+use Rattle.seize_words.specs.declared.at.At.TheVariants.{Root, Used, Slot, Entry, Word}
+use Rattle.seize_seats.specs.Cells.{Cell, Has, block_in, blocks_in, cell_at}
 
 -- the first word of each of so many lines, from a word on
 abbrev pub column : ℕ → List ℕ → ℕ → List ℕ
@@ -18,31 +20,53 @@ slots_from (suc slots) words from = (slice_index words from ∷ slice_index word
 abbrev pub long : ℕ → ℕ
 long roots = (roots + roots + 32) * 16
 
+-- how many with those of so many numbers of blocks: four of the entry, and one that says whether the number is free
+abbrev pub whole : ℕ → ℕ → ℕ
+whole roots count = long roots + count * 5
+
 -- where the word of a name lies
 abbrev pub place_of : ℕ → At → ℕ
 place_of roots (Root r) = r * 16
 place_of roots (Used r) = (roots + r) * 16
 place_of roots (Slot s field) = (roots + roots + s) * 16 + field
-place_of roots _ = 0
+place_of roots (Entry b i) = (b - 1) * 5 + long roots + i
+place_of roots (Word b i) = 0
 
--- there is such a word, once the slots of the first bucket have theirs
-abbrev pub IsWord : ℕ → At → Type 0
-IsWord roots (Root r) = r < roots
-IsWord roots (Used r) = r < roots
-IsWord roots (Slot s field) = (s < 32) × (field < 2)
-IsWord roots _ = ⊥
+-- there is such a word, once the slots of the first bucket have theirs, and a block of the number is there
+abbrev pub IsWord : ℕ → ℕ → At → Type 0
+IsWord roots count (Root r) = r < roots
+IsWord roots count (Used r) = r < roots
+IsWord roots count (Slot s field) = (s < 32) × (field < 2)
+IsWord roots count (Entry b i) = (0 < b) × (b ≤ count) × (i < 4)
+IsWord roots count (Word b i) = ⊥
 
--- the memory that the words are, of which so many slots have theirs
-abbrev pub memory_of : {T : Type 0} → ℕ → ℕ → List ℕ → Mem T
-memory_of roots slots words = record {
-  roots = column roots words 0;
-  used = column roots words (roots * 16);
-  slots = slots_from slots words ((roots + roots) * 16);
-  blocks = [];
+-- it is no block's
+abbrev pub IsNoBlocks : At → Type 0
+IsNoBlocks (Entry b i) = ⊥
+IsNoBlocks (Word b i) = ⊥
+IsNoBlocks _ = Unit {0}
+
+-- What a memory is made of: the words of roots and slots, how many slots have theirs, what lies under each number, and how many numbers were given so far.
+pub record Parts (T : Type 0) : Type 0 where
+  pub words : List ℕ
+  pub slots : ℕ
+  pub cells : List (Cell T)
+  pub given : ℕ
+
+abbrev pub memory_of : {T : Type 0} → ℕ → Parts T → Mem T
+memory_of roots s = record {
+  roots = column roots s.words 0;
+  used = column roots s.words (roots * 16);
+  slots = slots_from s.slots s.words ((roots + roots) * 16);
+  blocks = blocks_in s.given s.cells;
   choices = [];
 }
 
--- All words are there. Either no slot has its words, and they are 0, or those of the first bucket have.
-pub record AreLaid (roots slots : ℕ) (words : List ℕ) : Type 0 where
-  pub all : length words ≡ long roots
-  pub slots_are : ((slots ≡ 0) × ((k : ℕ) → (roots + roots) * 16 ≤ k → slice_index words k ≡ 0)) ⊎ (slots ≡ 32)
+-- All words are there. Either no slot has its words, and they are 0, or those of the first bucket have. There is no block of a number that was not given.
+pub record AreLaid {T : Type 0} (roots count : ℕ) (s : Parts T) : Type 0 where
+  pub all : length s.words ≡ long roots
+  pub slots_are : ((s.slots ≡ 0) × ((k : ℕ) → (roots + roots) * 16 ≤ k → slice_index s.words k ≡ 0)) ⊎ (s.slots ≡ 32)
+  pub counted : length s.cells ≡ count
+  pub within : s.given ≤ count
+  pub rest : (k : ℕ) → s.given ≤ k → block_in (cell_at s.cells k) ≡ None
+  pub fours : (k : ℕ) (x : T) (ws : List ℕ) → cell_at s.cells k ≡ Has x ws → length ws ≡ 4

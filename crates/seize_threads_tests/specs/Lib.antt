@@ -1,1 +1,2 @@
 pub mod Root
+pub mod Theirs

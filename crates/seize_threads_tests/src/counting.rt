@@ -54,7 +54,7 @@ fn exchange(blocks: &Blocks<u64, OneRoot>, times: u64) -> u64 {
 /// If one thread were served after the other, this would pass too: it shows that an addition is one step, not that threads run at once.
 #[test]
 fn no_addition_of_two_threads_is_lost(rt: HostRuntime) -> Result<(), Fail> {
-    let home = Home::<u64, OneRoot>::open(rt.alloc(), 1, &())?;
+    let home = Home::<u64, OneRoot>::open(rt.alloc(), 1, 0, &())?;
     let blocks = &home.blocks;
     let (first, second) = thread::join(&rt, || add(blocks, 20_000), || add(blocks, 20_000));
     assert!(rt; first >= 20_000 && second >= 20_000);
@@ -65,7 +65,7 @@ fn no_addition_of_two_threads_is_lost(rt: HostRuntime) -> Result<(), Fail> {
 /// If one thread were served after the other, each exchange would succeed, and the count would be right too.
 #[test]
 fn each_exchange_that_succeeds_counts_once(rt: HostRuntime) -> Result<(), Fail> {
-    let home = Home::<u64, OneRoot>::open(rt.alloc(), 1, &())?;
+    let home = Home::<u64, OneRoot>::open(rt.alloc(), 1, 0, &())?;
     let blocks = &home.blocks;
     let (first, second) = thread::join(
         &rt,
@@ -91,7 +91,7 @@ pub(crate) fn sees(blocks: &Blocks<u64, OneRoot>, word: u64) -> bool {
 /// If one thread were served after the other, the first would wait for the second in vain, and the test would fail.
 #[test]
 fn two_threads_answer_each_other(rt: HostRuntime) -> Result<(), Fail> {
-    let home = Home::<u64, OneRoot>::open(rt.alloc(), 1, &())?;
+    let home = Home::<u64, OneRoot>::open(rt.alloc(), 1, 0, &())?;
     let blocks = &home.blocks;
     let (first, second) = thread::join(
         &rt,

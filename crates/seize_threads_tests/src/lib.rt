@@ -4,4 +4,6 @@
 #[cfg(test)]
 mod counting;
 #[cfg(test)]
+mod owning;
+#[cfg(test)]
 mod sections;

@@ -9,6 +9,7 @@ use std::test::Fail;
 use std::thread;
 
 /// A value that keeps no list of further values.
+#[derive(Drop)]
 struct Plain;
 
 impl Defers for Plain {
@@ -56,6 +57,7 @@ fn two_threads_enter_and_leave(rt: HostRuntime) -> Result<(), Fail> {
     let home = Home::<Plain, OfRows>::open(
         rt.alloc(),
         1,
+        0,
         &Fixed {
             batch_size: 32,
             roots: 1,
@@ -73,12 +75,13 @@ fn one_is_within_a_section_while_another_enters_and_leaves(rt: HostRuntime) -> R
     let home = Home::<Plain, OfRows>::open(
         rt.alloc(),
         1,
+        0,
         &Fixed {
             batch_size: 32,
             roots: 1,
         },
     )?;
-    let gate = Home::<u64, OneRoot>::open(rt.alloc(), 1, &())?;
+    let gate = Home::<u64, OneRoot>::open(rt.alloc(), 1, 0, &())?;
     let blocks = &home.blocks;
     let bell = &gate.blocks;
     let (first, second) = thread::join(&rt, || stay(blocks, bell), || pass(blocks, bell));

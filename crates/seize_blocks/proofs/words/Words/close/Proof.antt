@@ -1,33 +1,37 @@
 -- `close` ends the lifetime of the words, and they come back.
-use Rattle.std.proofs.Common.{◌≡◌, ℕ, List, [], ◌∷◌, length, ◌*◌, ◌^◌, ◌<◌, sym, refl, subst}
+use Rattle.std.proofs.Common.{◌≡◌, ℕ, List, [], ◌∷◌, length, ◌*◌, ◌^◌, ◌<◌, sym, refl, subst, Option}
 use mir.Syntax.{dcons, dnil, a_type}
 use mir.MapTy.{inst_fn}
-use mir.Val.{Val}
+use mir.Val.{Val, vstruct, vcons, vnil}
 use base.Logic.{SProp, emp}
-use types.Kit.{‵, raw, ◌⊛◌, some as items, given, later, ◌$◌, ◌∵◌, !, qed, by, move, keep, split, fsplit, fjoin, pick, learn, use0, use1, await}
+use types.Kit.{‵, raw, ◌⊛◌, some as items, given, later, ◌$◌, ◌∵◌, !, qed, by, move, keep, split, fsplit, fjoin, fjoin3, fpack, feq_i, pick, learn, use0, use1, rewrite, await}
 use types.Run.{stop, fld, of_opd, no_more, and_then, returns, enter}
 use types.ByLocal.{alloc_all, pass_all, free_all, look_at, get, get_in, sets}
 use types.Part.{agg, sub, whole}
 use contract.Running.{tables}
 use contract.Monad.{fact, fact_i}
-use denote.Exit.{no}
-use denote.RattleType.{RattleType, owns}
+use denote.Exit.{yes, no}
+use denote.RattleType.{RattleType, Valss, owns}
+use denote.Struct.Struct.{within}
+use denote.Struct.Declared as declared
+use denote.Struct.Tuple.{tuple_type}
 use denote.Signature.{types_at, plain}
-use denote.RawPtr.{Ptr, block_of, count_of}
-use denote.Steps.{nothing}
+use denote.RawPtr.{Ptr, block_of, count_of, ptr_val, rawptr_vals, rawptr_Tells}
+use denote.Steps.{nothing, heard}
 use denote.Param.{param, bounded}
-use denote.Builtin.{u64}
+use denote.Builtin.{u64, RawPtr}
 use denote.Triple.Walked.{Stays, stay_dropped, walk_of, Goes-dropped}
 use denote.Triple.Entry.{alive}
 use Rattle.core.proofs.atomic.Steps.{Ptr-Good}
 use Rattle.std.proofs.raw_atomic.Walks.{proved, leaves}
-use Rattle.seize_seats.specs.Lines.{long}
-use Rattle.seize_seats.specs.Owned.{BaseId, IsPlaced, words_own}
+use Rattle.seize_seats.specs.Lines.{whole as all_words}
+use Rattle.core.specs.contracts.option.Option.{the_row as OptionOf}
+use Rattle.seize_seats.specs.Owned.{BaseId, IsPlaced, words_own, stride, places}
 use Rattle.seize_seats.specs.Owned as Owned
 use Rattle.seize_blocks.specs.contracts.words.Words as words
 use Rattle.seize_blocks.specs.contracts.row.Row as row
-use Rattle.seize_blocks.proofs.Fields.{hand_of, told, hand_good, one_of, one_good, Places, places_made}
-use Rattle.seize_blocks.proofs.Placing.{whole_in}
+use Rattle.seize_blocks.proofs.Fields.{hand_of, told, hand_good, one_of, one_good, pair_good, Places, places_made}
+use Rattle.seize_blocks.proofs.Placing.{whole_in, Values, values_in}
 use Rattle.seize_blocks.proofs.Placing as Placing
 use Rattle.seize_seats.proofs.Opening.{closes}
 use Rattle.seize_blocks.specs.contracts.words.Words.close.{ended, clauses}
@@ -41,22 +45,46 @@ close_spec 𝓤 𝓛 𝓜 𝓡 wired X P U F LX LP LU LF g d _ =
     let R₃ : RattleType = param 3 F in
     let En = ended X P U F g d in let c = clauses X P U F g d 𝓛 𝓜.mem 𝓡.returns in
     let inst = bounded (a_type ∷ a_type ∷ a_type ∷ a_type ∷ []) (X, (P, (U, (F, tt)))) (dcons d dnil) in let fn = inst_fn inst code.function in
-    let Row : RattleType = words.the_row R₀ R₁ R₂ R₃ g in let Rw : RattleType = row.the_row u64 in
-    let hs : Stays En.signature.params En.kept = (stay_dropped (plain (λ _. Row)) no, tt) in
-    proved 𝓛 En hs c 𝓜 𝓡 (Goes-dropped 𝓛 4 (plain (λ _. Row)) no (λ κs x f. refl), tt)
+    let Row : RattleType = words.the_row R₀ R₁ R₂ R₃ g in let Rw : RattleType = row.the_row u64 in let O : RattleType = OptionOf R₀ in
+    let Ro : RattleType = row.the_row O in
+    let hs : Stays En.signature.params En.kept = (stay_dropped (plain (λ _. Row)) no, (stay_dropped (plain (λ _. RawPtr)) yes, tt)) in
+    proved 𝓛 En hs c 𝓜 𝓡 (
+      Goes-dropped 𝓛 4 (plain (λ _. Row)) no (λ κs x f. refl),
+      (
+        Goes-dropped 𝓛 4 (plain (λ _. RawPtr)) yes (λ κs x f. refl),
+        tt,
+      ),
+    )
     (#self inst) fn (code.unfolded 𝓤 H 𝓜 𝓡 wired (X, (P, (U, (F, tt)))) d)
-    (λ κs. ((λ x. hand_of x.words ∷ []), tt)) (λ κs. ((λ x vs so. told R₀ R₁ R₂ R₃ g x.words vs so.0), tt)) (λ κs qs bounds a gh are.
-    let p : Ptr = a.0.words in let z : BaseId = a.0.id in let cv = R₂.coded in let holds = g.holds a.0.fixed in
-    let y : (walk_of 𝓛 En hs c).Ghost = ((κs, qs, bounds, a, (hand_of p ∷ [], tt)), gh) in let Post : Val → SProp 𝓤 = (walk_of 𝓛 En hs c).post y in
-    qed 𝓛 ((raw (alive 𝓛 En.signature κs qs) ⊛ ‵ (owns (types_at En.signature.params κs) a y.0.4)) ∷ raw ((c κs a).requires gh) ∷ []) ∵
-    split ! $ move ! (1 ∷ []) $ fsplit ! $ fsplit ! $ keep ! (1 ∷ 3 ∷ []) $
-    enter ! 𝓣.C 𝓣.Λ fn (hand_of p ∷ []) Post $ alloc_all ! (λ l. pass_all ! refl (hand_good p, tt) $
-    use1 𝓛 (later (items (λ (ws : List ℕ). given ((length ws ≡ long z.roots) ×
-    IsPlaced p z) (‵ (Owned.row (block_of p) (count_of p) ws))))) (closes 𝓛 X.Denot cv holds p z) $ await ! tt $ pick ! (λ ws. learn ! (λ is.
-    use1 𝓛 (‵ (Placing.Whole 𝓛 p ws)) (whole_in 𝓛 p ws (is.1.0, subst (λ (n : ℕ). n * 8 < 2 ^ 63) (sym is.0) is.1.1)) $
+    (λ κs. ((λ x. hand_of x.words ∷ []), (rawptr_vals, tt)))
+    (λ κs. ((λ x vs so. told R₀ R₁ R₂ R₃ g x.words vs so.0), (rawptr_Tells, tt))) (λ κs qs bounds a gh are.
+    let p : Ptr = a.0.words in let z : BaseId = a.0.id in let pv : Ptr = a.1.0 in let cv = R₂.coded in let holds = g.holds a.0.fixed in
+    let Asked : Type 0 = pv ≡ z.values in
+    let y : (walk_of 𝓛 En hs c).Ghost = ((κs, qs, bounds, a, (hand_of p ∷ [], (ptr_val pv ∷ [], tt))), gh) in
+    let Post : Val → SProp 𝓤 = (walk_of 𝓛 En hs c).post y in
+    qed 𝓛 ((raw (alive 𝓛 En.signature κs qs) ⊛ ‵ (owns (types_at En.signature.params κs) a y.0.4)) ∷ raw (fact 𝓤 _) ∷ raw (fact 𝓤 _) ∷ raw (fact 𝓤 _) ∷
+    raw (fact 𝓤 _) ∷ raw (fact 𝓤 Asked) ∷ []) ∵
+    keep ! (5 ∷ 0 ∷ []) $ heard ! Asked (λ asked. split ! $ move ! (1 ∷ []) $ fsplit ! $ fsplit ! $ keep ! (1 ∷ 3 ∷ []) $
+    enter ! 𝓣.C 𝓣.Λ fn (hand_of p ∷ ptr_val pv ∷ []) Post $ alloc_all ! (λ l. pass_all ! refl (hand_good p, (Ptr-Good pv, tt)) $
+    use1 𝓛 (later (items (λ (u : List ℕ × List (Option X.Denot)). given ((length u.0 ≡ all_words z.roots z.count) × (length u.1 ≡ z.count) × IsPlaced R₀ p z)
+    (‵ (Owned.row (block_of p) (count_of p) u.0) ⊛ ‵ (places R₀ (block_of z.values) (count_of z.values) u.1)))))
+    (closes 𝓛 R₀ cv holds p z.values z) $ await ! tt $ pick ! (λ u. learn ! (λ is. split ! $
+    let ws : List ℕ = u.0 in let xs : List (Option X.Denot) = u.1 in let placed = is.2 in
+    use1 𝓛 (‵ (Placing.Whole 𝓛 p ws)) (whole_in 𝓛 p ws (placed.0, subst (λ (n : ℕ). n * 8 < 2 ^ 63) (sym is.0) placed.1)) $ move ! (1 ∷ []) $
+    use1 𝓛 (‵ (Values 𝓛 R₀ z.values xs)) (values_in 𝓛 R₀ z.values xs (placed.2, subst (λ (n : ℕ). n * stride R₀ < 2 ^ 63) (sym is.1) placed.3)) $
+    rewrite ! 0 (λ (r : Ptr). ‵ (Values 𝓛 R₀ r xs)) (sym asked) refl $
+    -- [the values; the words; alive]
+    let r₁ : Rw.Denot = record { at = p; items = ws } in let r₂ : Ro.Denot = record { at = pv; items = xs } in
+    let pair : Val = vstruct (vcons (one_of p) (vcons (one_of pv) vnil)) in
     sets ! (of_opd ! (get_in ! (fld ! refl (stop !)) (sub ! 0 refl (whole !)))) refl (Ptr-Good p) $
     sets ! (agg ! (and_then ! (get ! refl) (no_more !))) refl (one_good p) $
-    let r : Rw.Denot = record { at = p; items = ws } in let Told : Type 0 = (p ≡ p) × (length ws ≡ long z.roots) in
+    sets ! (agg ! (and_then ! (get ! refl) (no_more !))) refl (one_good pv) $
+    sets ! (agg ! (and_then ! (get ! refl) (and_then ! (get ! refl) (no_more !)))) refl (pair_good p pv) $
+    let Told : Type 0 = (p ≡ p) × (length ws ≡ all_words z.roots z.count) × (pv ≡ pv) × (length xs ≡ z.count) in
+    use0 𝓛 (‵ ((Places O).own_val (pv, tt) (one_of pv ∷ []))) (places_made O 𝓛 pv) $ fjoin ! $ move ! (1 ∷ []) $
     use0 𝓛 (‵ ((Places u64).own_val (p, tt) (one_of p ∷ []))) (places_made u64 𝓛 p) $ fjoin ! $
-    nothing ! $ nothing ! $ fjoin ! $ use0 𝓛 (raw (fact 𝓤 Told)) (fact_i 𝓤 Told (emp 𝓤) (refl, is.0)) $
-    returns ! (look_at ! 0 refl) $ free_all ! refl $ keep ! (3 ∷ 1 ∷ 2 ∷ 0 ∷ []) $ by ! (leaves 𝓛 En hs c y (one_of p) r (tt, tt) (tt, tt))))))
+    nothing ! $ move ! (1 ∷ 2 ∷ 0 ∷ []) $ fjoin3 ! $ feq_i ! (List Val) (pair ∷ []) (pair ∷ []) refl $ fjoin ! $
+    fpack ! (Valss (Rw ∷ Ro ∷ [])) (within (declared.shape (tuple_type (Rw ∷ Ro ∷ []))) (r₁, (r₂, tt)) (pair ∷ [])) (one_of p ∷ [], (one_of pv ∷ [], tt)) $
+    use0 𝓛 (raw (fact 𝓤 Told)) (fact_i 𝓤 Told (emp 𝓤) (refl, is.0, refl, is.1)) $ nothing ! $ nothing ! $ fjoin ! $ nothing ! $ fjoin ! $
+    returns ! (look_at ! 0 refl) $ free_all ! refl $ keep ! (3 ∷ 0 ∷ 2 ∷ 1 ∷ []) $
+    by ! (leaves 𝓛 En hs c y pair (r₁, r₂) (tt, (tt, tt)) (tt, (tt, tt))))))))

@@ -60,14 +60,14 @@ seat_spec 𝓤 𝓛 𝓜 𝓡 wired X P U F LX LP LU LF g d _ =
     raw (fact 𝓤 _) ∷ raw (fact 𝓤 Asked) ∷ []) ∵
     keep ! (5 ∷ 0 ∷ []) $ heard ! Asked (λ asked. split ! $ split ! $ move ! (2 ∷ []) $ fsplit ! $ fsplit ! $ keep ! (1 ∷ 3 ∷ 4 ∷ []) $
     enter ! 𝓣.C 𝓣.Λ fn (vptr b o ∷ []) Post $ alloc_all ! (λ l. pass_all ! refl ((tt, tt), tt) $ let Ev = env fn.locals l in
-    use1 𝓛 (‵ (hidden_shr D κ (p, (tt, tt)) b o) ⊛ ‵ (fhide (words_share X.Denot cv.code holds p z κ)))
+    use1 𝓛 (‵ (hidden_shr D κ (p, (tt, tt)) b o) ⊛ ‵ (fhide (words_share R₀ cv.code holds p z κ)))
     (lent_out 𝓛 (words.struct R₀ R₁ R₂ R₃ g)
     (words.the_codes X.Denot P.Denot U.Denot F.Denot R₀.coded R₁.coded R₂.coded R₃.coded (marker.the_row (Tuple (R₀ ∷ R₁ ∷
     []))).coded) (words.the_heap R₀ R₁ R₂ R₃ g) (words.the_lent R₀ R₁ R₂ R₃ g) κ t b o) $
     split ! $ drop ! $ unhide ! $
     -- [what the words share; the token; the others]
     nothing ! $ move ! (1 ∷ 2 ∷ 0 ∷ []) $
-    use3 𝓛 (later (‵ (newcomer 𝓛 X.Denot cv holds g.keeps p z v) ⊛ ‵ (flft κ qs.0))) (comes 𝓛 X.Denot cv holds g.keeps p z κ qs.0 v asked) $
+    use3 𝓛 (later (‵ (newcomer 𝓛 R₀ cv holds g.keeps p z v) ⊛ ‵ (flft κ qs.0))) (comes 𝓛 R₀ cv holds g.keeps p z κ qs.0 v asked) $
     await ! tt $ split ! $ fpick ! (λ id.
     sets ! (agg ! (no_more !)) refl (tt, tt) $ sets ! (agg ! (and_then ! (get ! refl) (no_more !))) refl (tt, (tt, tt)) $
     let r : Sr.Denot = record { marker = record {}; base = z.views_name; id = id; view = v } in let Told : Type 0 = (z.views_name ≡ z.views_name) × (v ≡ v) in

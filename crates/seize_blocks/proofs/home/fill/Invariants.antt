@@ -2,7 +2,7 @@ use Rattle.std.proofs.Common.{◌≡◌, ◌<◌, ℕ}
 use Rattle.std.specs.Prelude.{slice_index}
 use Rattle.core.specs.Mem.Slots.{slots_items, slots_filled, slots_ptr, slots_len}
 use Rattle.core.specs.Mem.Slots.Ownership.{Filled}
-use Rattle.seize_blocks.proofs.blocks.fill.Given as goal
+use Rattle.seize_blocks.proofs.home.fill.Given as goal
 
 -- the places so far hold 0
 abbrev pub invariant-loop-index : goal.invariant-loop-index

@@ -1,0 +1,197 @@
+-- `put` takes the place of a claimed number out, writes the value there, and gives it back as a block.
+use Rattle.std.proofs.Common.{◌≡◌, ℕ, List, [], ◌∷◌, ◌++◌, ◌+◌, ◌*◌, ◌^◌, ◌<◌, ◌≤◌, sym, refl, ap, ◌∙◌, subst, w64, arith, Option, None, Some, Ok}
+use mir.Syntax.{dcons, dnil, a_type, named}
+use mir.MapTy.{inst_fn}
+use mir.Raw.{raw as bare}
+use mir.Val.{Val, vint, vptr, vunit, of_list}
+use prog.Wp.{WpFn}
+use base.Fraction.{full_share}
+use base.Share
+use base.Share.{three_quarters}
+use base.Logic.{SProp, ent, sep, emp, id⊢}
+use types.Logic.{sem}
+use base.Fml.{Lft, Share, Fml, ftrue, fsep, flft, fhide, froom, fat, fbor, finv}
+use types.Kit.{‵, raw, ◌⊛◌, given, later, at_ret, ◌$◌, ◌∵◌, !, qed, by, move, keep, drop, split, split3, join, fsplit, fsplit3, fjoin, fjoin3, fpick, learn, use0, use1, use2, use3, await, suffices, rewrite, feq_i}
+use types.Match.{live}
+use types.Part.{agg}
+use types.Run.{stop, lit, unit_lit, no_more, and_then, size_word, of_opd, bin, first, blocks, exec, returns, enter, init, assigns_last}
+use types.ByLocal.{alloc_all, pass_all, free_all, look_at, get, through, sets, is, env}
+use types.Tokens.{shr_bor-open, obor_close}
+use types.Within.{tokens_halve}
+use contract.Running.{tables}
+use contract.Monad.{fact, fact_i}
+use denote.Exit.{yes, no}
+use denote.RattleType.{RattleType, owns}
+use denote.Signature.{types_at, plain}
+use denote.RawPtr.{Ptr, InBlock, block_ptr, block_of, count_of, at_block, ptr_val}
+use denote.Laws.{Is, shows}
+use denote.Steps.{nothing, peeks, heard, opens, closes}
+use denote.Opens.{unhide}
+use denote.Memory.{lone, hidden_shr}
+use denote.Param.{param, bounded, layout}
+use denote.Param.Laws.{Laws, param_laws}
+use denote.Builtin.{RefOf, RawPtr, u64}
+use denote.Struct.Members.{Member}
+use denote.Struct.Tuple.{Tuple}
+use denote.Struct.Lending.{lent_out}
+use denote.Triple.Walked.{Stays, stay_dropped, stay_ref, walk_of, Goes-dropped, Goes-ref}
+use Rattle.core.proofs.atomic.Steps.{tail, Ptr-Good}
+use Rattle.core.proofs.cell.Inside.{one, spread, gather}
+use Rattle.core.proofs.option.Made.{Some-of}
+use Rattle.core.proofs.option.Option.TheLaws.{the_row_laws as option_laws}
+use Rattle.core.specs.contracts.option.Option.{the_row as OptionOf}
+use Rattle.std.specs.contracts.marker.PhantomData as marker
+use Rattle.std.proofs.raw_atomic.Walks.{proved_at, leaves}
+use Rattle.seize_words.specs.Op.{Out, Make, Made}
+use Rattle.seize_seats.specs.State.{Allows}
+use Rattle.seize_seats.specs.Lines.{long}
+use Rattle.seize_seats.specs.Owned.{BaseId, IsPlaced, Hand, age, common, inner, claim_owns, hand, resting, busy, zeros, place, row, stride, words_share, seat_owns}
+use Rattle.seize_seats.proofs.Shown.{placed}
+use Rattle.seize_seats.proofs.Moves.{reach, seat as seat_of, gone_on}
+use Rattle.seize_seats.proofs.Makings.{hands, contents, withdraws, publishes}
+use Rattle.seize_blocks.specs.contracts.words.Words as words
+use Rattle.seize_blocks.specs.contracts.seat.Seat as seat
+use Rattle.seize_blocks.specs.contracts.claim.Claim as claim
+use Rattle.seize_blocks.proofs.Fields.{Data, claim_of, claim_told}
+use Rattle.seize_blocks.proofs.Values.{uncapped, indexed}
+use Rattle.seize_blocks.specs.contracts.words.Words.put.{ended, clauses}
+use Rattle.seize_blocks.specs.contracts.words.Words.put.Key.{name as #self}
+use Rattle.seize_blocks.proofs.words.Words.put.Statement.{statement}
+use Rattle.seize_blocks.proofs.words.Words.put.Code as code
+
+pub put_spec : {M : Type 1} → statement M
+put_spec 𝓤 𝓛 𝓜 𝓡 wired X P U F LX LP LU LF g d _ =
+    let H = 𝓛.H in let 𝓣 = tables 𝓤 H 𝓜 𝓡 𝓡.env in let R₀ : RattleType = param 0 X in let R₁ : RattleType = param 1 P in let R₂ : RattleType = param 2 U in
+    let R₃ : RattleType = param 3 F in
+    let En = ended X P U F g d in let c = clauses X P U F g d 𝓛 𝓜.mem 𝓡.returns in
+    let inst = bounded (a_type ∷ a_type ∷ a_type ∷ a_type ∷ []) (X, (P, (U, (F, tt)))) (dcons d dnil) in let fn = inst_fn inst code.function in
+    let Row : RattleType = words.the_row R₀ R₁ R₂ R₃ g in let Sr : RattleType = seat.the_row R₀ R₁ R₂ R₃ g in let D : RattleType = Data R₀ R₁ R₂ R₃ g in
+    let Cl : RattleType = claim.the_row in let O : RattleType = OptionOf R₀ in let LO : Laws O = option_laws R₀ (param_laws 0 X LX) in
+    let LR = LO.lawful 𝓛 in let LX₀ = (param_laws 0 X LX).lawful 𝓛 in let m : Member = record { row = O; ty = lone O.mir } in
+    let self = RefOf (0 ∷ []) tt (plain (λ _. Row)) (λ _. tt) in let sitter = plain (λ _. Sr) in let num = plain (λ _. u64) in
+    let hs : Stays En.signature.params En.kept = (
+      stay_dropped self yes,
+      (
+        stay_ref (1 ∷ []) tt sitter,
+        (
+          stay_dropped (plain (λ _. Cl)) yes,
+          (stay_dropped num yes, (stay_dropped (plain (λ _. RawPtr)) yes, (stay_dropped (plain (λ _. R₀)) no, (stay_dropped num yes, tt)))),
+        ),
+      ),
+    ) in
+    proved_at 𝓛 En hs c 𝓜 𝓡 (
+      Goes-dropped 𝓛 6 self yes (λ κs x f. refl),
+      (
+        Goes-ref 𝓛 6 1 tt sitter,
+        (
+          Goes-dropped 𝓛 6 (plain (λ _. Cl)) yes (λ κs x f. refl),
+          (
+            Goes-dropped 𝓛 6 num yes (λ κs x f. refl),
+            (
+              Goes-dropped 𝓛 6 (plain (λ _. RawPtr)) yes (λ κs x f. refl),
+              (Goes-dropped 𝓛 6 (plain (λ _. R₀)) no (λ κs x f. refl), (Goes-dropped 𝓛 6 num yes (λ κs x f. refl), tt)),
+            ),
+          ),
+        ),
+      ),
+    )
+    (#self inst) fn (code.unfolded 𝓤 H 𝓜 𝓡 wired (X, (P, (U, (F, tt)))) d) (λ y are.
+    let κs = y.0.0 in let qs = y.0.1 in let a = y.0.3 in let vss = y.0.4 in let Post : Val → SProp 𝓤 = (walk_of 𝓛 En hs c).post y in
+    let b : ℕ = a.0.ref_ptr.0 in let o : ℕ = a.0.ref_ptr.1 in let b' : ℕ = a.1.0.ref_ptr.0 in let o' : ℕ = a.1.0.ref_ptr.1 in let κ : Lft = κs.0 in
+    let t : Row.Denot = a.0.now in let p : Ptr = t.words in let z : BaseId = t.id in let h : Sr.Denot = a.1.0.now in let cl : Cl.Denot = a.1.1.0 in
+    let j : ℕ = a.1.1.1.0 in let pv : Ptr = a.1.1.1.1.0 in let new : X.Denot = a.1.1.1.1.1.0 in let count : ℕ = a.1.1.1.1.1.1.0 in
+    let id : ℕ = h.id in let v : U.Denot = h.view in let cv = R₂.coded in let α : Lft = age z in let holds = g.holds t.fixed in
+    let bv : ℕ = block_of pv in let ov : ℕ = count_of pv in let sz : ℕ = stride R₀ in let e : ℕ = j * sz + ov in
+    let others : Fml = fsep (flft κs.1.1.0 qs.1.1.0) (fsep (flft κs.1.1.1.0 qs.1.1.1.0) (fsep (flft κs.1.1.1.1.0 qs.1.1.1.1.0)
+    (fsep (flft κs.1.1.1.1.1.0 qs.1.1.1.1.1.0) ftrue))) in
+    let Asked : Type 0 = (h.base ≡ z.views_name) × (cl.base ≡ z.hands_name) × (cl.found ≡ 0) × (cl.index ≡ j) × (j < z.count) × (j + 1 < 2 ^ 53) ×
+    (pv ≡ z.values) × (count ≡ 0) × Allows holds g.keeps id v (Make new count) (g.then v (Make new count)) in
+    let got = one (layout X) vss.1.1.1.1.1.0 (LX₀.typed new vss.1.1.1.1.1.0 are.1.1.1.1.1.0) in let vy : Val = got.0 in
+    let sv : Val = live 1 (of_list (vy ∷ [])) in
+    let ct = claim_told cl.found vss.1.1.0 are.1.1.0.0 in
+    qed 𝓛 (((‵ (flft κs.0 qs.0) ⊛ ‵ (flft κs.1.0 qs.1.0) ⊛ ‵ others) ⊛ ‵ (owns (types_at En.signature.params κs) a vss)) ∷ raw (fact 𝓤 _) ∷
+    raw (fact 𝓤 _) ∷ raw (fact 𝓤 _) ∷ raw (fact 𝓤 _) ∷ raw (fact 𝓤 Asked) ∷ []) ∵
+    keep ! (5 ∷ 0 ∷ []) $ heard ! Asked (λ asked. split ! $ split3 ! $ move ! (3 ∷ []) $ fsplit3 ! $ fsplit ! $ move ! (2 ∷ []) $ fsplit3 ! $
+    -- [the seat's address; the seat, by two; the address of self; self; the rest; the tokens; the others]
+    keep ! (4 ∷ 6 ∷ 1 ∷ 2 ∷ 7 ∷ 8 ∷ 5 ∷ []) $ move ! (6 ∷ []) $ fsplit3 ! $ move ! (2 ∷ []) $ fsplit3 ! $ keep ! (3 ∷ 1 ∷ 5 ∷ 6 ∷ 7 ∷ 8 ∷ 9 ∷ 10 ∷ []) $
+    -- [the claim; the value; self; its token; the seat, by two; its token; the others]
+    fsplit ! $ drop ! $ rewrite ! 0 (λ (u : ℕ × ℕ × ℕ). ‵ (claim_owns u.0 u.1 u.2)) (λ i. (asked.1 i, asked.3 i, asked.2 i)) refl $
+    rewrite ! 1 (λ (ws : List Val). ‵ (R₀.own_val new ws)) got.1 refl $
+    let so : Out X.Denot → U.Denot → Type 0 = g.then v (Make new 0) in let allowed = subst (λ (w : ℕ). Allows holds g.keeps id v (Make new w) (g.then v (Make new w))) asked.7 asked.8 in
+    let p' : Ptr = block_ptr bv ov in let us : List Val = vptr b o ∷ vptr b' o' ∷ claim_of cl.found ∷ vint w64 j ∷ ptr_val p' ∷ vy ∷ vint w64 count ∷ [] in
+    let Run : List Val → SProp 𝓤 = λ ws. WpFn 𝓤 H 𝓣.C 𝓣.Λ fn ws Post in
+    move ! (2 ∷ []) $
+    use1 𝓛 (‵ (hidden_shr D κ (p, (tt, tt)) b o) ⊛ ‵ (fhide (words_share R₀ cv.code holds p z κ)))
+    (lent_out 𝓛 (words.struct R₀ R₁ R₂ R₃ g)
+    (words.the_codes X.Denot P.Denot U.Denot F.Denot R₀.coded R₁.coded R₂.coded R₃.coded (marker.the_row (Tuple (R₀ ∷ R₁ ∷
+    []))).coded) (words.the_heap R₀ R₁ R₂ R₃ g) (words.the_lent R₀ R₁ R₂ R₃ g) κ t b o) $
+    split ! $ drop ! $ unhide ! $ fsplit ! $ move ! (1 ∷ []) $
+    use1 𝓛 (given (IsPlaced R₀ p z) (‵ (common R₀ cv.code holds p z))) (placed R₀ cv holds p z 𝓛) $ learn ! (λ there. fsplit ! $ drop ! $
+    let room : z.count * sz < 2 ^ 63 = there.3 in let small : j * sz < 2 ^ 64 = indexed j z.count sz asked.4 room in
+    let at_v : pv ≡ p' = at_block pv (subst InBlock (sym asked.6) there.2) in
+    let linked : vss.1.1.1.1.0 ≡ ptr_val p' ∷ [] = are.1.1.1.1.0 ∙ ap (λ (u : Ptr). ptr_val u ∷ []) at_v in
+    suffices ! (Run us) (subst (λ (ws : List Val). ent 𝓤 (Run us) (Run ws))
+    (sym (λ i. are.0.0 i ++ (are.1.0.0 i ++ (ct.0 i ++ (are.1.1.1.0.0 i ++ (linked i ++ (got.1 i ++ (are.1.1.1.1.1.1.0.0 i ++ [])))))))) (id⊢ 𝓤 (Run us))) $
+    enter ! 𝓣.C 𝓣.Λ fn us Post $ alloc_all ! (λ l. pass_all ! refl (
+      (tt, tt),
+      (
+        (tt, tt),
+        (
+          (tt, (record { fits = ct.1 }, tt)),
+          ((tt, record { fits = are.1.1.1.0.1 }), (Ptr-Good p', (got.2, ((tt, record { fits = are.1.1.1.1.1.1.0.1 }), tt)))),
+        ),
+      ),
+    ) $ let Ev = env fn.locals l in let I : Fml = inner R₀ cv.code holds p z in
+    -- [the invariant; its lifetime lasts; the claim; the value; the token; the seat, by two; its token; the others]
+    use1 𝓛 (‵ (finv (fbor α I)) ⊛ ‵ (finv (fbor α I))) (𝓛.invs.inv_dup (fbor α I)) $ split ! $ move ! (2 ∷ 5 ∷ []) $
+    shr_bor-open ! tt (tokens_halve 𝓛 α) (λ s. let q₁ : Share = Share.left s in let q₂ : Share = Share.right s in move ! (1 ∷ []) $
+    use1 𝓛 (‵ (flft α q₁) ⊛ ‵ (flft α q₂)) (𝓛.lfts.lft_split α s) $ split ! $
+    let Hs : Hand → Fml = λ u. hands 𝓛 R₀ cv holds g.keeps p z three_quarters j u in
+    let Cs : Option X.Denot → Fml = λ u. contents 𝓛 R₀ cv holds g.keeps p z j zeros u in
+    -- [its token, by two; open; the invariant, twice; the claim; the value; the seat, by two; its token; the others]
+    move ! (5 ∷ 1 ∷ []) $ join ! $ move ! (3 ∷ 1 ∷ 0 ∷ []) $
+    use3 𝓛 (later ((‵ (Hs (busy q₂)) ⊛ ‵ (Cs None)) ⊛ ‵ (flft α q₁)))
+    (reach 𝓛 R₀ cv holds g.keeps p z q₁ (sep 𝓤 (sem 𝓛 (Hs resting)) (sem 𝓛 (flft α q₂))) (sep 𝓤 (sem 𝓛 (Hs (busy q₂))) (sem 𝓛 (Cs None))) (withdraws 𝓛 R₀ cv holds g.keeps p z j q₂ asked.4)) $ await ! tt $ split ! $ split ! $ move ! (1 ∷ []) $ fsplit ! $
+    -- [the entry; the place; the hand; its token; open; the invariant; the value; the seat, by two; its token; the others]
+    move ! (1 ∷ []) $ rewrite ! 0 (λ (r : Ptr). ‵ (place R₀ α z.hands_name (block_of r) (j * sz + count_of r) None)) (sym asked.6) refl $
+    spread m ! LR None bv e (λ w good.
+    use1 𝓛 (‵ (froom (bare (lone O.mir)) bv e)) (𝓛.laws.at_room (bare (lone O.mir)) bv e w) $
+    use1 𝓛 (‵ (froom (lone O.mir) bv e)) (𝓛.laws.raw-room (lone O.mir) bv e) $ first ! $ blocks ! $
+    sets ! (of_opd ! (get ! refl)) refl (tt, record { fits = are.1.1.1.0.1 }) $
+    sets ! (is ! (bin ! (get ! refl) (size_word !) (record { fits = subst (λ (k : ℕ). k < 2 ^ 64) (sym (uncapped j sz small)) small })) (ap (vint w64)
+    (uncapped j sz small))) refl (tt, record { fits = small }) $
+    sets ! (bin ! (get ! refl) (get ! refl) tt) refl (tt, tt) $
+    move ! (7 ∷ []) $ use1 𝓛 (‵ (O.own_val (Some new) (sv ∷ []))) (Some-of 𝓛 R₀ new vy) $
+    peeks ! O (Is O) (shows 𝓛 O) (Some new) (sv ∷ []) (λ is_so. let fine = (LR.typed (Some new) (sv ∷ []) is_so).0 in move ! (1 ∷ []) $
+    -- [room for it; the value; what the place held; the entry; the hand; its token; open; the invariant; the seat, by two; its token; the others]
+    sets ! (of_opd ! (get ! refl)) refl got.2 $ sets ! (agg ! (and_then ! (lit ! tt) (and_then ! (get ! refl) (no_more !)))) refl fine $
+    assigns_last ! (of_opd ! (get ! refl)) (through ! refl (stop !)) (init ! 0 refl fine) $
+    exec ! 𝓣.C 𝓣.Λ Ev (tail fn.body) (at_ret Ev Post) $ sets ! (of_opd ! (unit_lit !)) refl (tt, tt) $
+    use1 𝓛 (‵ (fat full_share (bare (lone O.mir)) bv e sv)) (𝓛.laws.at_raw full_share (lone O.mir) bv e sv) $
+    gather m ! (Some new) sv bv e $
+    rewrite ! 0 (λ (u : Ptr). ‵ (place R₀ α z.hands_name (block_of u) (j * sz + count_of u) (Some new))) asked.6 refl $
+    move ! (2 ∷ 0 ∷ []) $ fjoin ! $ move ! (2 ∷ 0 ∷ []) $ join ! $
+    -- [hand and contents; what it held; its token; open; the invariant; the seat, by two; its token; the others]
+    move ! (5 ∷ 6 ∷ 7 ∷ []) $ opens ! tt Sr b' o' (λ ts. move ! (1 ∷ []) $ fsplit ! $
+    rewrite ! 1 (λ (u : ℕ). ‵ (seat_owns cv.code u id v)) asked.0 refl $
+    -- [the seat's fields; the seat; four of it; hand and contents; what it held; its token; open; the invariant; ..]
+    move ! (1 ∷ 6 ∷ []) $ join ! $ move ! (9 ∷ 7 ∷ 0 ∷ []) $
+    use3 𝓛 (later ((‵ (gone_on 𝓛 R₀ cv holds g.keeps p z id (so (Made (Ok (j + 1))))) ⊛ ‵ (flft α q₂)) ⊛ ‵ (flft α q₁)))
+    (reach 𝓛 R₀ cv holds g.keeps p z q₁
+    (sep 𝓤 (sem 𝓛 (seat_of 𝓛 R₀ cv holds g.keeps p z id v)) (sep 𝓤 (sem 𝓛 (Hs (busy q₂))) (sem 𝓛 (Cs (Some new)))))
+    (sep 𝓤 (sem 𝓛 (gone_on 𝓛 R₀ cv holds g.keeps p z id (so (Made (Ok (j + 1)))))) (sem 𝓛 (flft α q₂))) (publishes 𝓛 R₀ cv holds g.keeps p z id v j q₂ new so asked.4 asked.5 allowed)) $ await ! tt $ split ! $ split ! $
+    -- [the seat; the two parts of the token; the fields; four; what it held; open; its token; the others]
+    move ! (2 ∷ 1 ∷ []) $ use2 𝓛 (‵ (flft α s)) (𝓛.lfts.lft_join α s) $ move ! (8 ∷ 0 ∷ []) $ obor_close ! tt $ drop ! $
+    move ! (1 ∷ []) $ fpick ! (λ v'. fsplit ! $ fpick ! (λ such. drop ! $
+    let h' : Sr.Denot = record { marker = h.marker; base = z.views_name; id = id; view = v' } in
+    let Told : Type 0 = (z.views_name ≡ h.base) × (id ≡ id) × g.then v (Make new count) (Made (Ok (j + 1))) v' in
+    let told_is = subst (λ (w : ℕ). g.then v (Make new w) (Made (Ok (j + 1))) v') (sym asked.7) such in
+    -- [the seat; the token; the fields; four; what it held; its token; the others]
+    move ! (2 ∷ 0 ∷ []) $ fjoin ! $ move ! (2 ∷ 0 ∷ 3 ∷ 4 ∷ 5 ∷ []) $ closes ! tt Sr h' ts b' o' $
+    feq_i ! (List Val) vss.1.0 (vptr b' o' ∷ []) are.1.0.0 $ fjoin3 ! $
+    nothing ! $ nothing ! $ fjoin ! $ nothing ! $ fjoin ! $ nothing ! $ fjoin ! $ nothing ! $ fjoin ! $ nothing ! $ fjoin ! $ move ! (1 ∷ 0 ∷ []) $ fjoin ! $ nothing ! $ fjoin ! $
+    -- [what is left; its token; the token; what it held; the others]
+    move ! (1 ∷ 4 ∷ []) $ join ! $ move ! (2 ∷ 0 ∷ []) $ join ! $
+    use0 𝓛 (raw (fact 𝓤 Told)) (fact_i 𝓤 Told (emp 𝓤) (sym asked.0, refl, told_is)) $ feq_i ! (List Val) (vunit ∷ []) (vunit ∷ []) refl $
+    returns ! (look_at ! 0 refl) $ free_all ! refl $ keep ! (2 ∷ 3 ∷ 0 ∷ 1 ∷ []) $
+    by ! (leaves 𝓛 En hs c y vunit tt (tt, (h', (tt, (tt, (tt, (tt, (tt, tt))))))) (tt, (tt, (tt, (tt, (tt, (tt, (tt, tt))))))))))))))))))

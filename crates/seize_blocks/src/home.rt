@@ -1,0 +1,168 @@
+//! The memory with the right to give back what it is made of.
+ghost use Rattle.std.specs.Prelude.{◌≡◌, ℕ, None, ◌+◌, ◌*◌, ◌≤◌, ◌^◌, length, slice_index, slice_index_or, IfOk};
+ghost use Rattle.core.specs.Mem.Slots.{slots_items, slots_filled, slots_ptr, slots_len, lease_ptr, lease_len, lease_heap, IsFull};
+ghost use Rattle.seize_seats.specs.State.{Starts};
+ghost use Rattle.seize_seats.specs.Lines.{whole};
+
+use crate::blocks::Blocks;
+use crate::place::Place;
+use crate::row::Row;
+use crate::rule::Rule;
+use crate::words::Words;
+use core::slots::{Lease, Slots, release, reserve};
+use std::alloc::{AllocError, Global};
+use std::sync::atomic::AtomicU64;
+
+/// A memory with the right to give its words and places back. It stays with the thread that made it, and lends the memory to others.
+pub struct Home<T: Drop, R: Rule<T>> {
+    pub blocks: Blocks<T, R>,
+    ground: Ground<u64>,
+    places: Ground<Option<T>>,
+    ghost lies: { (lease_ptr ground.lease ≡ blocks.words.words) × (lease_ptr places.lease ≡ blocks.values.at) },
+    ghost size: { (lease_len ground.lease ≡ whole blocks.words.id.roots blocks.words.id.count) × (lease_len places.lease ≡ blocks.words.id.count) },
+}
+
+/// The right to give memory back.
+pub struct Ground<E> {
+    alloc: Global,
+    lease: Lease<E, Global>,
+    ghost leased: { lease_heap lease ≡ alloc },
+}
+
+/// Each place holds 0.
+fn fill(slots: &mut Slots<u64>, count: usize)
+    requires { slots_len slots.old ≡ count }
+    ensures full { IsFull slots.new }
+    ensures zeros { (k : ℕ) → slice_index (slots_items slots.new) k ≡ 0 }
+    ensures same { (slots_ptr slots.new ≡ slots_ptr slots.old) × (slots_len slots.new ≡ slots_len slots.old) }
+{
+    for index in 0..count {
+        slots.put(index, 0);
+    }
+}
+
+/// Each place holds none.
+fn empty<T>(slots: &mut Slots<Option<T>>, count: usize)
+    requires { slots_len slots.old ≡ count }
+    ensures full { IsFull slots.new }
+    ensures nones { (k : ℕ) → slice_index_or (slots_items slots.new) k None ≡ None }
+    ensures same { (slots_ptr slots.new ≡ slots_ptr slots.old) × (slots_len slots.new ≡ slots_len slots.old) }
+{
+    for index in 0..count {
+        slots.put(index, None);
+    }
+}
+
+/// What each place holds is dropped.
+fn drain<T: Drop>(slots: &mut Slots<Option<T>>, count: usize)
+    requires { (slots_len slots.old ≡ count) × IsFull slots.old }
+    ensures { (slots_ptr slots.new ≡ slots_ptr slots.old) × (slots_len slots.new ≡ slots_len slots.old) }
+{
+    for index in 0..count {
+        drop(slots.take(index));
+    }
+}
+
+/// As many words, each 0, with the right to give them back.
+fn lay(alloc: Global, count: usize) -> Result<(Row<u64>, Ground<u64>), AllocError>
+    ensures zeros { IfOk result (λ p. ((k : ℕ) → slice_index p.0.items k ≡ 0) × (length p.0.items ≡ count)) }
+    ensures lease { IfOk result (λ p. (lease_ptr p.1.lease ≡ p.0.at) × (lease_len p.1.lease ≡ count)) }
+{
+    let like = vec![in alloc; 0; count]?;
+    let (mut slots, lease) = (unsafe { reserve(&alloc, like.as_slice()) })?;
+    fill(&mut slots, count);
+    Ok((Row::of(slots), Ground { alloc, lease }))
+}
+
+/// As many times none.
+fn nones<T: Drop>(alloc: Global, count: usize) -> Result<Vec<Option<T>>, AllocError>
+    ensures { IfOk result (λ v. length v.items ≡ count) }
+{
+    let mut all = Vec::with_capacity(alloc, count)?;
+    for _ in 0..count {
+        all.push(None)?;
+    }
+    Ok(all)
+}
+
+/// As many places, each of which holds none, with the right to give them back.
+fn lay_empty<T: Drop>(
+    alloc: Global,
+    count: usize,
+) -> Result<(Row<Option<T>>, Ground<Option<T>>), AllocError>
+    ensures nones { IfOk result (λ p. ((k : ℕ) → slice_index_or p.0.items k None ≡ None) × (length p.0.items ≡ count)) }
+    ensures lease { IfOk result (λ p. (lease_ptr p.1.lease ≡ p.0.at) × (lease_len p.1.lease ≡ count)) }
+{
+    let like = nones::<T>(alloc, count)?;
+    let (mut slots, lease) = (unsafe { reserve(&alloc, like.as_slice()) })?;
+    empty(&mut slots, count);
+    Ok((Row::of(slots), Ground { alloc, lease }))
+}
+
+/// Gives memory back.
+fn give_back<E>(ground: Ground<E>, slots: Slots<E>)
+    requires { (lease_ptr ground.lease ≡ slots_ptr slots) × (lease_len ground.lease ≡ slots_len slots) }
+{
+    let Ground { alloc, lease } = ground;
+    release(&alloc, slots, lease);
+}
+
+impl<T: Drop, R: Rule<T>> Home<T, R> {
+    /// A memory of so many roots and numbers for blocks, with no seat yet. The slots have no words yet.
+    pub fn open(alloc: Global, roots: u64, count: u64, fixed: &R::Fixed) -> Result<Self, AllocError>
+        requires few { (roots ≤ 65536) × (count ≤ 2 ^ 32) }
+        requires starts { Starts (R.holds fixed.now) roots }
+        ensures { IfOk result (λ home. home.blocks.words.fixed ≡ fixed.now) }
+    {
+        let long = ((roots + roots + 32) * 16 + count * 5) as usize;
+        let (row, ground) = lay(alloc, long)?;
+        match lay_empty::<T>(alloc, count as usize) {
+            Ok((empty, places)) => {
+                let (words, values) = Words::open(row, empty, roots, count, fixed);
+                let next = AtomicU64::new(0);
+                let blocks = Blocks {
+                    words,
+                    roots,
+                    count,
+                    values,
+                    next,
+                };
+                Ok(Home {
+                    blocks,
+                    ground,
+                    places,
+                })
+            }
+            Err(refused) => {
+                give_back(ground, row.into_slots(long));
+                Err(refused)
+            }
+        }
+    }
+}
+
+impl<T: Drop, R: Rule<T>> Drop for Home<T, R> {
+    fn drop(self) {
+        let Home {
+            blocks,
+            ground,
+            places,
+        } = self;
+        let Blocks {
+            words,
+            roots,
+            count,
+            values,
+            next: _,
+        } = blocks;
+        let Place { at } = values;
+        let (row, kept) = words.close(at);
+        give_back(
+            ground,
+            row.into_slots(((roots + roots + 32) * 16 + count * 5) as usize),
+        );
+        let mut slots = kept.into_slots(count as usize);
+        drain(&mut slots, count as usize);
+        give_back(places, slots);
+    }
+}

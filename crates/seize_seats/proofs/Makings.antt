@@ -1,0 +1,411 @@
+-- How a block comes and goes: a number is claimed, its place taken out, a block published, taken away, and its number is free again. Assumes `Logic`.
+use Rattle.std.specs.Prelude.{slice_get, slice_set}
+use Rattle.std.proofs.Common.{◌≡◌, ℕ, zero, suc, ◌+◌, ◌-◌, ◌*◌, ◌^◌, ◌<◌, List, [], ◌∷◌, ◌++◌, length, refl, sym, ap, ◌∙◌, subst, arith, inl, inr, Option, Some, None, Ok}
+use Rattle.std.specs.Prelude.{bit_or, IsSome}
+use seplogic.Ra.Ura.{Ura}
+use base.Fraction.{full_share}
+use base.Share.{quarter, three_quarters}
+use base.Stored.{Coded}
+use base.Logic.{SProp, ent, sep, ex, all, guard, upd, emp, apply∗, all_e, upd_i}
+use base.Fml.{Lft, Share, Fml, ftrue, fsep, fex, flft, fbor, finv}
+use types.Logic.{Logic, sem}
+use types.Kit.{‵, raw, ◌⊛◌, given, ◌$◌, ◌∵◌, !, qed, by, move, keep, drop, split, split3, fsplit, fsplit3, fjoin, fjoin3, fpick, fpack, pick, learn, show, frame, each, assume, suffices, settle, use1, use2, use3, rewrite, done}
+use denote.RattleType.{RattleType}
+use denote.RawPtr.{Ptr, block_ptr, block_of, count_of}
+use denote.Steps.{nothing}
+use Rattle.core.specs.Sync.RawAtomic.{word, asks, always}
+use Rattle.core.proofs.raw_atomic.Asked.{borrowed, Lies, Again}
+use Rattle.seize_words.specs.Mem.{Mem, value_at, value_in, fresh, after, with_made, IsFreeNumber}
+use Rattle.seize_words.specs.Op.{Make, Take, Made, Taken}
+use Rattle.seize_words.specs.Op as Op
+use Rattle.seize_words.specs.declared.block.Block.{Block}
+use Rattle.seize_seats.specs.State.{State, Goes, Allows}
+use Rattle.seize_seats.specs.Cells.{Cell, Free, Claimed, Out, Has, block_in, blocks_in, cell_at, sign_of}
+use Rattle.seize_seats.specs.Lines.{Parts, long, memory_of, AreLaid}
+use Rattle.seize_seats.specs.Owned.{fact, ledger, claim_owns, Hand, hand_coded, resting, busy, zeros, stride, hand, inside, kept, BaseId, age, Inside, state_of, standing, inner}
+use Rattle.seize_seats.proofs.Cells.{recelled, laid_same, laid_with, block_is, blocks_made, blocks_set, low_number, cell_beyond}
+use Rattle.seize_seats.proofs.Numbers as Numbers
+use Rattle.seize_seats.proofs.Ledgers as Ledgers
+use Rattle.seize_seats.proofs.Moves as Moves
+
+module _ {M : Type 1} {𝓤 : Ura M} (𝓛 : Logic 𝓤) (R : RattleType) {V W : Type 0} (cv : Coded V) (holds : State R.Denot V W → Type 0) (keeps : V → V → W → ℕ
+    → Type 0) (p : Ptr) (z : BaseId) where
+  open 𝓛 use {H, A}
+
+  abbrev Pr : Type 2
+  Pr = SProp 𝓤
+
+  abbrev ◌⊢◌ : Pr → Pr → Type 1
+  P ⊢ Q = ent 𝓤 P Q
+
+  abbrev ◌∗◌ : Pr → Pr → Pr
+  P ∗ Q = sep 𝓤 P Q
+
+  abbrev ⟦◌⟧ : Fml → Pr
+  ⟦ P ⟧ = sem 𝓛 P
+
+  infix 26 ◌⊢◌
+  infixr 35 ◌∗◌
+  abbrev α : Lft
+  α = age z
+
+  abbrev I : Fml
+  I = inner R cv.code holds p z
+
+  abbrev In : Type 0
+  In = Inside R.Denot V W
+
+  abbrev b : ℕ
+  b = block_of p
+
+  abbrev o : ℕ
+  o = long z.roots * 8 + count_of p
+
+  abbrev Led : In → Fml
+  Led t = ledger cv.code z.views_name t.blank t.views
+
+  abbrev seat : ℕ → V → Fml
+  seat = Moves.seat 𝓛 R cv holds keeps p z
+
+  abbrev gone_on : ℕ → (V → Type 0) → Fml
+  gone_on = Moves.gone_on 𝓛 R cv holds keeps p z
+
+  abbrev Ws : List ℕ → List (Cell R.Denot) → Fml
+  Ws = Numbers.Ws 𝓛 R p z
+
+  abbrev cell_of : ℕ → Cell R.Denot → Fml
+  cell_of = Numbers.cell_of 𝓛 R p z
+
+  abbrev Recells : In → ℕ → Cell R.Denot → Pr
+  Recells t i = Numbers.Recells 𝓛 R p z t.parts.words t.parts.cells i
+
+  -- a share of who has a number, and what lies under it
+  abbrev pub hands : Share → ℕ → Hand → Fml
+  hands q i h = hand R α z.hands_name q i h
+
+  abbrev pub contents : ℕ → List ℕ → Option R.Denot → Fml
+  contents i ws x = inside R α z.hands_name b (i * 40 + o) (block_of z.values) (i * stride R + count_of z.values) ws x
+
+  abbrev Sound : In → Type 0
+  Sound t = holds (state_of z t) × AreLaid z.roots z.count t.parts
+
+  abbrev At_inside : In → Fml
+  At_inside = standing R cv.code holds p z
+
+  module _ (t : In) (sound : Sound t) where
+    -- another cell with the same block
+    recell : (i : ℕ) (d : Cell R.Denot) → block_in d ≡ block_in (cell_at t.parts.cells i) → ((x : R.Denot) (ws : List ℕ) → d ≡ Has x ws → length ws ≡ 4)
+        → ⟦ cell_of i d ⟧ ∗ all 𝓤 (Recells t i) ∗ ⟦ Led t ⟧ ⊢ ⟦ I ⟧
+    recell i d same four =
+        let ws : List ℕ = t.parts.words in let cs : List (Cell R.Denot) = slice_set t.parts.cells i d in
+        let l = laid_same z.roots z.count t.parts sound.1 i d same four in
+        let n : In = record { parts = recelled z.roots z.count t.parts sound.1 i d t.parts.given; blank = t.blank; views = t.views; world = t.world } in
+        let so : holds (state_of z n) = subst (λ (m : Mem R.Denot). holds record { memory = m; views = t.views; world = t.world }) (sym l.1) sound.0 in
+        qed 𝓛 (‵ (cell_of i d) ∷ raw (all 𝓤 (Recells t i)) ∷ ‵ (Led t) ∷ []) ∵ move ! (1 ∷ []) $ use1 𝓛 (raw (Recells t i d)) (all_e 𝓤 (Recells t i) d) $
+        move ! (1 ∷ 0 ∷ []) $ use2 𝓛 (‵ (Ws ws cs)) (apply∗ 𝓤 ⟦ cell_of i d ⟧ ⟦ Ws ws cs ⟧) $
+        nothing ! $ fpack ! (holds (state_of z n) × AreLaid z.roots z.count n.parts) (λ _. ftrue) (so, l.0) $ move ! (1 ∷ 2 ∷ 0 ∷ []) $ fjoin3 ! $
+        fpack ! In At_inside n $ done !
+
+    few : (i : ℕ) → i < z.count → i < length t.parts.cells
+    few i lt = let all = sound.1.counted in omega (arith, lt, all)
+
+  -- the cell of a number
+  opens : (X : Pr) (Z : Pr) (i : ℕ) → i < z.count
+      → ((t : In) (sound : Sound t) (c : Cell R.Denot) → cell_at t.parts.cells i ≡ c → ⟦ cell_of i c ⟧ ∗ all 𝓤 (Recells t i) ∗ ⟦ Led t ⟧ ∗ X ⊢ Z)
+      → ⟦ I ⟧ ∗ X ⊢ Z
+  opens X Z i lt then = qed 𝓛 (‵ I ∷ raw X ∷ []) ∵ fpick ! (λ t. fsplit3 ! $ move ! (2 ∷ []) $ fpick ! (λ sound. drop ! $ move ! (0 ∷ []) $
+      -- [the memory; the views; X]
+      let cs : List (Cell R.Denot) = t.parts.cells in let c : Cell R.Denot = cell_at cs i in
+      use1 𝓛 (‵ (cell_of i c) ⊛ raw (all 𝓤 (Recells t i))) (Numbers.celled 𝓛 R p z t.parts.words cs i c (few t sound i lt) refl) $ split ! $
+      by ! (then t sound c refl)))
+
+  -- ---- A NUMBER IS CLAIMED: bit 0 of its sign is set, and who has set it has the number
+  abbrev claimed : ℕ → ℕ → Fml
+  claimed i n = claim_owns z.hands_name i n
+
+  module _ (q : Share) (i e : ℕ) (lt : i < z.count) (at : i * 40 + o + 32 ≡ e) where
+    abbrev f : ℕ → ℕ
+    f n = bit_or n 1
+
+    abbrev Li : ℕ → Pr
+    Li = Lies 𝓛 α q I b e f always (claimed i)
+
+    abbrev Ag : ℕ → Pr
+    Ag = Again 𝓛 α q I b e f always (claimed i)
+
+    -- it was not free
+    had : (t : In) (sound : Sound t) (c : Cell R.Denot) → cell_at t.parts.cells i ≡ c → sign_of c ≡ 1 → ((x : R.Denot) (ws : List ℕ) → c ≡ Has x ws → length ws ≡ 4)
+        → ⟦ cell_of i c ⟧ ∗ all 𝓤 (Recells t i) ∗ ⟦ Led t ⟧ ∗ emp 𝓤 ⊢ upd 𝓤 (ex 𝓤 Li)
+    had t sound c is sign four = let Z : Pr = ⟦ I ⟧ ∗ emp 𝓤 in
+        qed 𝓛 (‵ (cell_of i c) ∷ raw (all 𝓤 (Recells t i)) ∷ ‵ (Led t) ∷ ‵ ftrue ∷ []) ∵ suffices ! _ (upd_i 𝓤 (ex 𝓤 Li)) $ fsplit ! $
+        rewrite ! 0 (λ (u : ℕ × ℕ). ‵ (word b u.0 u.1)) (λ j. (at j, sign j)) refl $ show ! Li 1 $ frame ! $
+        each ! (λ (_ : Unit {0}). Ag 1) (λ _. assume ! (‵ (word b e 1)) $
+        rewrite ! 0 (λ (u : ℕ × ℕ). ‵ (word b u.0 u.1)) (λ j. (sym at j, sym sign j)) refl $ fjoin ! $
+        -- [the cell; the others; the views; nothing]
+        suffices ! _ (upd_i 𝓤 Z) $ use3 𝓛 (‵ I) (recell t sound i c (sym (ap block_in is)) four) $ done !)
+
+    grants : (t : In) (sound : Sound t) (c : Cell R.Denot) → cell_at t.parts.cells i ≡ c
+        → ⟦ cell_of i c ⟧ ∗ all 𝓤 (Recells t i) ∗ ⟦ Led t ⟧ ∗ emp 𝓤 ⊢ upd 𝓤 (ex 𝓤 Li)
+    grants t sound Claimed is = had t sound Claimed is refl (λ x ws e. absurd (cc e))
+    grants t sound (Out s) is = had t sound (Out s) is refl (λ x ws e. absurd (cc e))
+    grants t sound (Has x ws) is = had t sound (Has x ws) is refl (λ y us e. sound.1.fours i y us (is ∙ e))
+    grants t sound Free is = let Z : Pr = ⟦ I ⟧ ∗ ⟦ hands three_quarters i resting ⟧ in
+        qed 𝓛 (‵ (cell_of i Free) ∷ raw (all 𝓤 (Recells t i)) ∷ ‵ (Led t) ∷ ‵ ftrue ∷ []) ∵ suffices ! _ (upd_i 𝓤 (ex 𝓤 Li)) $ fsplit ! $
+        rewrite ! 0 (λ (k : ℕ). ‵ (word b k 0)) at refl $ show ! Li 0 $ frame ! $
+        each ! (λ (_ : Unit {0}). Ag 0) (λ _. assume ! (‵ (word b e 1)) $
+        rewrite ! 0 (λ (k : ℕ). ‵ (word b k 1)) (sym at) refl $ move ! (1 ∷ []) $ fsplit ! $
+        -- [the hand; the contents; the sign; the others; the views; nothing]
+        use1 𝓛 (‵ (hands quarter i resting) ⊛ ‵ (hands three_quarters i resting)) (Ledgers.cuts 𝓛 hand_coded z.hands_name i resting) $ split ! $
+        move ! (0 ∷ 2 ∷ []) $ fjoin ! $ move ! (2 ∷ 0 ∷ []) $ fjoin ! $
+        -- [the cell; three quarters; the others; the views; nothing]
+        suffices ! _ (upd_i 𝓤 Z) $ move ! (0 ∷ 2 ∷ 3 ∷ []) $
+        use3 𝓛 (‵ I) (recell t sound i Claimed (sym (ap block_in is)) (λ x ws e. absurd (cc e))) $ keep ! (0 ∷ 1 ∷ []) $ done !)
+
+    pub claims : ⟦ finv (fbor α I) ⟧ ∗ (A.lft α q ∗ emp 𝓤) ⊢ asks 𝓛 (block_ptr b e) f always (λ n. fsep (flft α q) (claim_owns z.hands_name i n))
+    claims = borrowed 𝓛 α q I b e f always (claimed i) (emp 𝓤) (opens (emp 𝓤) (upd 𝓤 (ex 𝓤 Li)) i lt grants)
+
+  -- who has a number is not alone with it where the number is free, or a block has it
+  clash : (i : ℕ) (h w : Hand) → ⟦ hands full_share i w ⟧ ∗ ⟦ hands three_quarters i h ⟧ ⊢ guard 𝓤 ⊥ (⟦ hands full_share i w ⟧ ∗ ⟦ hands three_quarters i h ⟧)
+  clash i h w = Ledgers.alone 𝓛 hand_coded z.hands_name i three_quarters w h
+
+  same_hand : (i : ℕ) (h w : Hand) → ⟦ hands quarter i w ⟧ ∗ ⟦ hands three_quarters i h ⟧
+      ⊢ guard 𝓤 (w ≡ h) (⟦ hands quarter i w ⟧ ∗ ⟦ hands three_quarters i h ⟧)
+  same_hand i h w = Ledgers.agree 𝓛 hand_coded z.hands_name i three_quarters w h
+
+  turns_hand : (i : ℕ) (w h u : Hand) → ⟦ hands quarter i w ⟧ ∗ ⟦ hands three_quarters i h ⟧ ⊢ upd 𝓤 (⟦ hands quarter i u ⟧ ∗ ⟦ hands three_quarters i u ⟧)
+  turns_hand i w h u = Ledgers.sets 𝓛 hand_coded z.hands_name i w h u
+
+  resting_is_not : (e : Share) → busy e ≡ resting → ⊥
+  resting_is_not e same = let q : 1 ≡ 0 = ap (λ (h : Hand). h.0) same in absurd (omega (arith, q))
+
+  -- ---- ITS PLACE IS TAKEN OUT, for a share of the lifetime
+  module _ (i : ℕ) (e : Share) (lt : i < z.count) where
+    abbrev Withdrawn : Pr
+    Withdrawn = ⟦ I ⟧ ∗ (⟦ hands three_quarters i (busy e) ⟧ ∗ ⟦ contents i zeros None ⟧)
+
+    abbrev Asking : Pr
+    Asking = ⟦ hands three_quarters i resting ⟧ ∗ ⟦ flft α e ⟧
+
+    takes_out : (t : In) (sound : Sound t) (c : Cell R.Denot) → cell_at t.parts.cells i ≡ c
+        → ⟦ cell_of i c ⟧ ∗ all 𝓤 (Recells t i) ∗ ⟦ Led t ⟧ ∗ Asking ⊢ upd 𝓤 Withdrawn
+    takes_out t sound Free is =
+        qed 𝓛 (‵ (cell_of i Free) ∷ raw (all 𝓤 (Recells t i)) ∷ ‵ (Led t) ∷ (‵ (hands three_quarters i resting) ⊛ ‵ (flft α e)) ∷ []) ∵ move ! (3 ∷ []) $
+        split ! $ move ! (2 ∷ []) $ fsplit ! $ move ! (1 ∷ []) $ fsplit ! $ move ! (0 ∷ 3 ∷ []) $
+        use2 𝓛 (given ⊥ (‵ (hands full_share i resting) ⊛ ‵ (hands three_quarters i resting))) (clash i resting resting) $ learn ! (λ no. absurd no)
+    takes_out t sound (Has x ws) is =
+        qed 𝓛 (‵ (cell_of i (Has x ws)) ∷ raw (all 𝓤 (Recells t i)) ∷ ‵ (Led t) ∷ (‵ (hands three_quarters i resting) ⊛ ‵ (flft α e)) ∷ []) ∵ move ! (3 ∷ []) $
+        split ! $ move ! (2 ∷ []) $ fsplit ! $ move ! (1 ∷ []) $ fsplit ! $ move ! (0 ∷ 3 ∷ []) $
+        use2 𝓛 (given ⊥ (‵ (hands full_share i resting) ⊛ ‵ (hands three_quarters i resting))) (clash i resting resting) $ learn ! (λ no. absurd no)
+    takes_out t sound (Out s) is =
+        qed 𝓛 (‵ (cell_of i (Out s)) ∷ raw (all 𝓤 (Recells t i)) ∷ ‵ (Led t) ∷ (‵ (hands three_quarters i resting) ⊛ ‵ (flft α e)) ∷ []) ∵ move ! (3 ∷ []) $
+        split ! $ move ! (2 ∷ []) $ fsplit ! $ move ! (1 ∷ []) $ fsplit ! $ move ! (0 ∷ 3 ∷ []) $
+        use2 𝓛 (given (busy s ≡ resting) (‵ (hands quarter i (busy s)) ⊛ ‵ (hands three_quarters i resting))) (same_hand i resting (busy s)) $
+        learn ! (λ same. absurd (resting_is_not s same))
+    takes_out t sound Claimed is =
+        qed 𝓛 (‵ (cell_of i Claimed) ∷ raw (all 𝓤 (Recells t i)) ∷ ‵ (Led t) ∷ (‵ (hands three_quarters i resting) ⊛ ‵ (flft α e)) ∷ []) ∵ move ! (3 ∷ []) $
+        split ! $ move ! (2 ∷ []) $ fsplit ! $ move ! (1 ∷ []) $ fsplit ! $ move ! (0 ∷ 3 ∷ []) $
+        -- [the hand, by two; the contents; the sign; the share; the others; the views]
+        use2 𝓛 (raw (upd 𝓤 (⟦ hands quarter i (busy e) ⟧ ∗ ⟦ hands three_quarters i (busy e) ⟧))) (turns_hand i resting resting (busy e)) $
+        settle 𝓛 Withdrawn (‵ (hands quarter i (busy e)) ⊛ ‵ (hands three_quarters i (busy e))) $ split ! $ suffices ! _ (upd_i 𝓤 Withdrawn) $
+        move ! (0 ∷ 4 ∷ []) $ fjoin ! $ move ! (3 ∷ 0 ∷ []) $ fjoin ! $
+        -- [the cell; three quarters; the contents; the others; the views]
+        move ! (0 ∷ 3 ∷ 4 ∷ []) $ use3 𝓛 (‵ I) (recell t sound i (Out e) (sym (ap block_in is)) (λ x ws q. absurd (cc q))) $ done !
+
+    pub withdraws : ⟦ I ⟧ ∗ Asking ⊢ upd 𝓤 Withdrawn
+    withdraws = opens Asking (upd 𝓤 Withdrawn) i lt takes_out
+
+  -- ---- ITS NUMBER IS FREE AGAIN: the sign becomes 0, and the share comes back
+  module _ (q : Share) (i : ℕ) (e : Share) (k : ℕ) (lt : i < z.count) (at : i * 40 + o + 32 ≡ k) where
+    abbrev g : ℕ → ℕ
+    g _ = 0
+
+    abbrev due : ℕ → Fml
+    due _ = flft α e
+
+    abbrev Lf : ℕ → Pr
+    Lf = Lies 𝓛 α q I b k g always due
+
+    abbrev Returning : Pr
+    Returning = ⟦ hands three_quarters i (busy e) ⟧ ∗ ⟦ contents i zeros None ⟧
+
+    returns : (t : In) (sound : Sound t) (c : Cell R.Denot) → cell_at t.parts.cells i ≡ c
+        → ⟦ cell_of i c ⟧ ∗ all 𝓤 (Recells t i) ∗ ⟦ Led t ⟧ ∗ Returning ⊢ upd 𝓤 (ex 𝓤 Lf)
+    returns t sound Free is =
+        qed 𝓛 (‵ (cell_of i Free) ∷ raw (all 𝓤 (Recells t i)) ∷ ‵ (Led t) ∷ (‵ (hands three_quarters i (busy e)) ⊛ ‵ (contents i zeros None)) ∷ []) ∵
+        move ! (3 ∷ []) $ split ! $ move ! (2 ∷ []) $ fsplit ! $ move ! (1 ∷ []) $ fsplit ! $ move ! (0 ∷ 3 ∷ []) $
+        use2 𝓛 (given ⊥ (‵ (hands full_share i resting) ⊛ ‵ (hands three_quarters i (busy e)))) (clash i (busy e) resting) $ learn ! (λ no. absurd no)
+    returns t sound (Has x ws) is =
+        qed 𝓛 (‵ (cell_of i (Has x ws)) ∷ raw (all 𝓤 (Recells t i)) ∷ ‵ (Led t) ∷ (‵ (hands three_quarters i (busy e)) ⊛ ‵ (contents i zeros None)) ∷ []) ∵
+        move ! (3 ∷ []) $ split ! $ move ! (2 ∷ []) $ fsplit ! $ move ! (1 ∷ []) $ fsplit ! $ move ! (0 ∷ 3 ∷ []) $
+        use2 𝓛 (given ⊥ (‵ (hands full_share i resting) ⊛ ‵ (hands three_quarters i (busy e)))) (clash i (busy e) resting) $ learn ! (λ no. absurd no)
+    returns t sound Claimed is =
+        qed 𝓛 (‵ (cell_of i Claimed) ∷ raw (all 𝓤 (Recells t i)) ∷ ‵ (Led t) ∷ (‵ (hands three_quarters i (busy e)) ⊛ ‵ (contents i zeros None)) ∷ []) ∵
+        move ! (3 ∷ []) $ split ! $ move ! (2 ∷ []) $ fsplit ! $ move ! (1 ∷ []) $ fsplit ! $ move ! (0 ∷ 3 ∷ []) $
+        use2 𝓛 (given (resting ≡ busy e) (‵ (hands quarter i resting) ⊛ ‵ (hands three_quarters i (busy e)))) (same_hand i (busy e) resting) $
+        learn ! (λ same. absurd (resting_is_not e (sym same)))
+    returns t sound (Out s) is = let Z : Pr = ⟦ I ⟧ ∗ ⟦ flft α e ⟧ in
+        qed 𝓛 (‵ (cell_of i (Out s)) ∷ raw (all 𝓤 (Recells t i)) ∷ ‵ (Led t) ∷ (‵ (hands three_quarters i (busy e)) ⊛ ‵ (contents i zeros None)) ∷ []) ∵
+        suffices ! _ (upd_i 𝓤 (ex 𝓤 Lf)) $ fsplit ! $ rewrite ! 0 (λ (n : ℕ). ‵ (word b n 1)) at refl $ show ! Lf 1 $ frame ! $
+        each ! (λ (_ : Unit {0}). Again 𝓛 α q I b k g always due 1) (λ _. assume ! (‵ (word b k 0)) $
+        rewrite ! 0 (λ (n : ℕ). ‵ (word b n 0)) (sym at) refl $ move ! (1 ∷ []) $ fsplit ! $ move ! (5 ∷ []) $ split ! $ move ! (2 ∷ 0 ∷ []) $
+        -- [the hand, by two; the contents; the share; the sign; the others; the views]
+        use2 𝓛 (given (busy s ≡ busy e) (‵ (hands quarter i (busy s)) ⊛ ‵ (hands three_quarters i (busy e)))) (same_hand i (busy e) (busy s)) $
+        learn ! (λ same. split ! $
+        use2 𝓛 (raw (upd 𝓤 (⟦ hands quarter i resting ⟧ ∗ ⟦ hands three_quarters i resting ⟧))) (turns_hand i (busy s) (busy e) resting) $
+        settle 𝓛 Z (‵ (hands quarter i resting) ⊛ ‵ (hands three_quarters i resting)) $ split ! $ suffices ! _ (upd_i 𝓤 Z) $
+        use2 𝓛 (given (resting ≡ resting) (‵ (hands full_share i resting))) (Ledgers.glues 𝓛 hand_coded z.hands_name i resting resting) $ learn ! (λ _.
+        -- [the hand; the contents; the share; the sign; the others; the views]
+        fjoin ! $ move ! (2 ∷ 0 ∷ []) $ fjoin ! $ move ! (0 ∷ 2 ∷ 3 ∷ []) $
+        use3 𝓛 (‵ I) (recell t sound i Free (sym (ap block_in is)) (λ x ws v. absurd (cc v))) $
+        move ! (1 ∷ []) $ rewrite ! 0 (λ (u : Share). ‵ (flft α u)) (ap (λ (h : Hand). h.1) same) refl $ move ! (1 ∷ 0 ∷ []) $ done !)))
+
+    pub frees : ⟦ finv (fbor α I) ⟧ ∗ (A.lft α q ∗ Returning) ⊢ asks 𝓛 (block_ptr b k) g always (λ n. fsep (flft α q) (due n))
+    frees = borrowed 𝓛 α q I b k g always due Returning (opens Returning (upd 𝓤 (ex 𝓤 Lf)) i lt returns)
+
+  abbrev back : (id : ℕ) (v : V) (t : In) (s : Parts R.Denot) (so : V → Type 0) → AreLaid z.roots z.count s → slice_get t.views id ≡ Some v
+      → Goes holds keeps (state_of z t) (memory_of z.roots s) id so → ⟦ Ws s.words s.cells ⟧ ∗ ⟦ Led t ⟧ ∗ ⟦ seat id v ⟧ ⊢ upd 𝓤 (⟦ I ⟧ ∗ ⟦ gone_on id so ⟧)
+  back = Moves.back 𝓛 R cv holds keeps p z
+
+  abbrev Stands : ℕ → V → In → Type 0
+  Stands = Moves.Stands 𝓛 R cv holds keeps p z
+
+  -- the cell of a number, as a seat sees it
+  opens_seated : (id : ℕ) (v : V) (X Z : Pr)
+      → ((t : In) (g : Stands id v t) → ⟦ Ws t.parts.words t.parts.cells ⟧ ∗ ⟦ Led t ⟧ ∗ ⟦ seat id v ⟧ ∗ X ⊢ Z) → ⟦ I ⟧ ∗ (⟦ seat id v ⟧ ∗ X) ⊢ Z
+  opens_seated id v X Z then = qed 𝓛 (‵ I ∷ (‵ (seat id v) ⊛ raw X) ∷ []) ∵ move ! (1 ∷ []) $ split ! $ move ! (2 ∷ 0 ∷ []) $
+      use2 𝓛 (Moves.opening 𝓛 R cv holds keeps p z id v) (Moves.opened 𝓛 R cv holds keeps p z id v) $ pick ! (λ t. learn ! (λ g. split3 ! $ by ! (then t g)))
+
+  -- ---- A BLOCK IS MADE of a value in its place
+  module _ (id : ℕ) (v : V) (i : ℕ) (e : Share) (x : R.Denot) (so : Op.Out R.Denot → V → Type 0) (lt : i < z.count) (small : i + 1 < 2 ^ 53) (law : Allows holds keeps id v (Make x 0) so) where
+    abbrev d : Cell R.Denot
+    d = Has x zeros
+
+    abbrev Published : Pr
+    Published = ⟦ I ⟧ ∗ (⟦ gone_on id (so (Made (Ok (i + 1)))) ⟧ ∗ ⟦ flft α e ⟧)
+
+    abbrev Ready : Pr
+    Ready = ⟦ hands three_quarters i (busy e) ⟧ ∗ ⟦ contents i zeros (Some x) ⟧
+
+    made : (t : In) (g : Stands id v t) → block_in (cell_at t.parts.cells i) ≡ None
+        → (n : ℕ) × AreLaid z.roots z.count (recelled z.roots z.count t.parts g.1 i d n)
+        × Goes holds keeps (state_of z t) (memory_of z.roots (recelled z.roots z.count t.parts g.1 i d n)) id (so (Made (Ok (i + 1))))
+    made t g none = let laid = g.1 in let cs : List (Cell R.Denot) = t.parts.cells in let same : i + 1 - 1 ≡ i = omega arith in
+        let all = laid.counted in let within = laid.within in
+        let m = blocks_made t.parts.given (i + 1) cs (fresh x 0) d refl (omega (arith, within, all)) (omega arith) (omega (arith, lt, all)) laid.rest in
+        let mo : Mem R.Denot = memory_of z.roots t.parts in
+        let free : IsFreeNumber mo (i + 1) =
+        (block_is z.roots z.count t.parts laid (i + 1) (omega arith) ∙ ap (λ (k : ℕ). block_in (cell_at cs k)) same ∙ none, omega arith) in
+        let is : memory_of z.roots (recelled z.roots z.count t.parts laid i d m.0) ≡ after mo (Make x 0) (Made (Ok (i + 1))) =
+        ap (λ (l : List (Option (Block R.Denot))). record mo { blocks = l }) (ap (λ (k : ℕ). blocks_in m.0 (slice_set cs k d)) (sym same) ∙ m.4) in (
+          m.0,
+          laid_with z.roots z.count t.parts laid i d m.0 m.1 (let h = m.3 in omega (arith, h, all)) (inr (let h = m.2 in omega (arith, h))) (λ y ws q.
+              let us : zeros ≡ ws = cc q in ap length (sym us)),
+          (law (state_of z t) g.0 g.2).1 (Made (Ok (i + 1))) (memory_of z.roots (recelled z.roots z.count t.parts laid i d m.0)) ((free, small), is),
+        )
+
+    puts : (t : In) (g : Stands id v t) (c : Cell R.Denot) → cell_at t.parts.cells i ≡ c
+        → ⟦ cell_of i c ⟧ ∗ all 𝓤 (Recells t i) ∗ ⟦ Led t ⟧ ∗ ⟦ seat id v ⟧ ∗ Ready ⊢ upd 𝓤 Published
+    puts t g Free is =
+        qed 𝓛 (‵ (cell_of i Free) ∷ raw (all 𝓤 (Recells t i)) ∷ ‵ (Led t) ∷ ‵ (seat id v) ∷
+        (‵ (hands three_quarters i (busy e)) ⊛ ‵ (contents i zeros (Some x))) ∷ []) ∵
+        move ! (4 ∷ []) $ split ! $ move ! (2 ∷ []) $ fsplit ! $ move ! (1 ∷ []) $ fsplit ! $ move ! (0 ∷ 3 ∷ []) $
+        use2 𝓛 (given ⊥ (‵ (hands full_share i resting) ⊛ ‵ (hands three_quarters i (busy e)))) (clash i (busy e) resting) $ learn ! (λ no. absurd no)
+    puts t g (Has y ws) is =
+        qed 𝓛 (‵ (cell_of i (Has y ws)) ∷ raw (all 𝓤 (Recells t i)) ∷ ‵ (Led t) ∷ ‵ (seat id v) ∷
+        (‵ (hands three_quarters i (busy e)) ⊛ ‵ (contents i zeros (Some x))) ∷ []) ∵
+        move ! (4 ∷ []) $ split ! $ move ! (2 ∷ []) $ fsplit ! $ move ! (1 ∷ []) $ fsplit ! $ move ! (0 ∷ 3 ∷ []) $
+        use2 𝓛 (given ⊥ (‵ (hands full_share i resting) ⊛ ‵ (hands three_quarters i (busy e)))) (clash i (busy e) resting) $ learn ! (λ no. absurd no)
+    puts t g Claimed is =
+        qed 𝓛 (‵ (cell_of i Claimed) ∷ raw (all 𝓤 (Recells t i)) ∷ ‵ (Led t) ∷ ‵ (seat id v) ∷
+        (‵ (hands three_quarters i (busy e)) ⊛ ‵ (contents i zeros (Some x))) ∷ []) ∵
+        move ! (4 ∷ []) $ split ! $ move ! (2 ∷ []) $ fsplit ! $ move ! (1 ∷ []) $ fsplit ! $ move ! (0 ∷ 3 ∷ []) $
+        use2 𝓛 (given (resting ≡ busy e) (‵ (hands quarter i resting) ⊛ ‵ (hands three_quarters i (busy e)))) (same_hand i (busy e) resting) $
+        learn ! (λ same. absurd (resting_is_not e (sym same)))
+    puts t g (Out s) is = let r = made t g (ap block_in is) in let cs : List (Cell R.Denot) = slice_set t.parts.cells i d in let ws : List ℕ = t.parts.words in
+        qed 𝓛 (‵ (cell_of i (Out s)) ∷ raw (all 𝓤 (Recells t i)) ∷ ‵ (Led t) ∷ ‵ (seat id v) ∷
+        (‵ (hands three_quarters i (busy e)) ⊛ ‵ (contents i zeros (Some x))) ∷ []) ∵
+        move ! (4 ∷ []) $ split ! $ move ! (2 ∷ []) $ fsplit ! $ move ! (1 ∷ []) $ fsplit ! $ move ! (0 ∷ 3 ∷ []) $
+        -- [the hand, by two; the share; the sign; the contents; the others; the views; the seat]
+        use2 𝓛 (given (busy s ≡ busy e) (‵ (hands quarter i (busy s)) ⊛ ‵ (hands three_quarters i (busy e)))) (same_hand i (busy e) (busy s)) $
+        learn ! (λ same. split ! $
+        use2 𝓛 (raw (upd 𝓤 (⟦ hands quarter i resting ⟧ ∗ ⟦ hands three_quarters i resting ⟧))) (turns_hand i (busy s) (busy e) resting) $
+        settle 𝓛 Published (‵ (hands quarter i resting) ⊛ ‵ (hands three_quarters i resting)) $ split ! $
+        use2 𝓛 (given (resting ≡ resting) (‵ (hands full_share i resting))) (Ledgers.glues 𝓛 hand_coded z.hands_name i resting resting) $ learn ! (λ _.
+        -- [the hand; the share; the sign; the contents; the others; the views; the seat]
+        move ! (0 ∷ 3 ∷ []) $ fjoin ! $ move ! (2 ∷ 0 ∷ []) $ fjoin ! $
+        -- [the cell; the share; the others; the views; the seat]
+        move ! (2 ∷ []) $ use1 𝓛 (raw (Recells t i d)) (all_e 𝓤 (Recells t i) d) $ move ! (1 ∷ 0 ∷ []) $
+        use2 𝓛 (‵ (Ws ws cs)) (apply∗ 𝓤 ⟦ cell_of i d ⟧ ⟦ Ws ws cs ⟧) $ move ! (0 ∷ 2 ∷ 3 ∷ []) $
+        use3 𝓛 (raw (upd 𝓤 (⟦ I ⟧ ∗ ⟦ gone_on id (so (Made (Ok (i + 1)))) ⟧)))
+        (back id v t (recelled z.roots z.count t.parts g.1 i d r.0) (so (Made (Ok (i + 1)))) r.1 g.2 r.2) $
+        settle 𝓛 Published (‵ I ⊛ ‵ (gone_on id (so (Made (Ok (i + 1)))))) $ split ! $ suffices ! _ (upd_i 𝓤 Published) $
+        move ! (2 ∷ []) $ rewrite ! 0 (λ (u : Share). ‵ (flft α u)) (ap (λ (h : Hand). h.1) same) refl $ move ! (1 ∷ 2 ∷ 0 ∷ []) $ done !))
+
+    pub publishes : ⟦ I ⟧ ∗ (⟦ seat id v ⟧ ∗ Ready) ⊢ upd 𝓤 Published
+    publishes = opens_seated id v Ready (upd 𝓤 Published) (λ t g. let cs : List (Cell R.Denot) = t.parts.cells in let c : Cell R.Denot = cell_at cs i in
+        qed 𝓛 (‵ (Ws t.parts.words cs) ∷ ‵ (Led t) ∷ ‵ (seat id v) ∷ raw Ready ∷ []) ∵
+        use1 𝓛 (‵ (cell_of i c) ⊛ raw (all 𝓤 (Recells t i))) (Numbers.celled 𝓛 R p z t.parts.words cs i c (few t (g.0, g.1) i lt) refl) $ split ! $
+        by ! (puts t g c refl))
+
+  -- ---- A BLOCK IS TAKEN AWAY, and its place is taken out for a share of the lifetime
+  module _ (id : ℕ) (v : V) (n : ℕ) (e : Share) (so : Op.Out R.Denot → V → Type 0) (law : Allows holds keeps id v (Take n) so) where
+    abbrev pub Taking : R.Denot × List ℕ → Fml
+    Taking u =
+        fsep (fact ((0 < n) × (n - 1 < z.count) × (length u.1 ≡ 4)))
+        (fsep (gone_on id (so (Taken u.0))) (fsep (hands three_quarters (n - 1) (busy e)) (contents (n - 1) u.1 (Some u.0))))
+
+    abbrev TakenOut : Pr
+    TakenOut = ⟦ I ⟧ ∗ ⟦ fex (R.Denot × List ℕ) Taking ⟧
+
+    -- the block is there
+    abbrev There : In → Type 0
+    There t = (x : R.Denot) × (ws : List ℕ) × (cell_at t.parts.cells (n - 1) ≡ Has x ws) × (0 < n)
+
+    there : (t : In) → Stands id v t → There t
+    there t g = let can = (law (state_of z t) g.0 g.2).0 in let low = numbered n can in
+        by low (cell_at t.parts.cells (n - 1)) refl (subst IsSome (ap value_in (block_is z.roots z.count t.parts g.1 n low)) can)
+      where
+        numbered : (k : ℕ) → IsSome (value_at (memory_of z.roots t.parts) k) → 0 < k
+        numbered zero some = absurd (cc some)
+        numbered (suc k) some = omega arith
+
+        by : 0 < n → (c : Cell R.Denot) → cell_at t.parts.cells (n - 1) ≡ c → IsSome (value_in (block_in c)) → There t
+        by low Free is some = absurd (cc some)
+        by low Claimed is some = absurd (cc some)
+        by low (Out s) is some = absurd (cc some)
+        by low (Has x ws) is some = (x, ws, is, low)
+
+    abbrev left : (t : In) (g : Stands id v t) → Parts R.Denot
+    left t g = recelled z.roots z.count t.parts g.1 (n - 1) (Out e) t.parts.given
+
+    taken : (t : In) (g : Stands id v t) (th : There t) → AreLaid z.roots z.count (left t g)
+        × Goes holds keeps (state_of z t) (memory_of z.roots (left t g)) id (so (Taken th.0))
+    taken t g th = let mo : Mem R.Denot = memory_of z.roots t.parts in
+        let has : value_at mo n ≡ Some th.0 = ap value_in (block_is z.roots z.count t.parts g.1 n th.3 ∙ ap block_in th.2) in (
+          laid_with z.roots z.count t.parts g.1 (n - 1) (Out e) t.parts.given (omega arith) g.1.within (inl refl) (λ x ws q. absurd (cc q)),
+          (law (state_of z t) g.0 g.2).1 (Taken th.0) (memory_of z.roots (left t g))
+              (has, ap (λ (l : List (Option (Block R.Denot))). record mo { blocks = l }) (blocks_set t.parts.given t.parts.cells (n - 1) (Out e))),
+        )
+
+    pub leaves : ⟦ I ⟧ ∗ (⟦ seat id v ⟧ ∗ ⟦ flft α e ⟧) ⊢ upd 𝓤 TakenOut
+    leaves = opens_seated id v ⟦ flft α e ⟧ (upd 𝓤 TakenOut) (λ t g. let cs : List (Cell R.Denot) = t.parts.cells in let th = there t g in let i : ℕ = n - 1 in
+        let d : Cell R.Denot = Out e in let ds : List (Cell R.Denot) = slice_set cs i d in let ws : List ℕ = t.parts.words in
+        let lt = cell_beyond cs i (Has th.0 th.1) th.2 (λ q. absurd (cc q)) in let all_of = g.1.counted in let r = taken t g th in
+        let told : V → Type 0 = so (Taken th.0) in
+        let facts : (0 < n) × (i < z.count) × (length th.1 ≡ 4) = (th.3, omega (arith, lt, all_of), g.1.fours i th.0 th.1 th.2) in
+        qed 𝓛 (‵ (Ws ws cs) ∷ ‵ (Led t) ∷ ‵ (seat id v) ∷ ‵ (flft α e) ∷ []) ∵
+        use1 𝓛 (‵ (cell_of i (Has th.0 th.1)) ⊛ raw (all 𝓤 (Recells t i))) (Numbers.celled 𝓛 R p z ws cs i (Has th.0 th.1) lt th.2) $ split ! $
+        fsplit ! $ move ! (1 ∷ []) $ fsplit ! $
+        -- [the hand; the contents; the sign; the others; the views; the seat; the share]
+        use1 𝓛 (‵ (hands quarter i resting) ⊛ ‵ (hands three_quarters i resting)) (Ledgers.cuts 𝓛 hand_coded z.hands_name i resting) $ split ! $
+        use2 𝓛 (raw (upd 𝓤 (⟦ hands quarter i (busy e) ⟧ ∗ ⟦ hands three_quarters i (busy e) ⟧))) (turns_hand i resting resting (busy e)) $
+        settle 𝓛 TakenOut (‵ (hands quarter i (busy e)) ⊛ ‵ (hands three_quarters i (busy e))) $ split ! $
+        move ! (0 ∷ 7 ∷ []) $ fjoin ! $ move ! (3 ∷ 0 ∷ []) $ fjoin ! $
+        -- [the cell; three quarters; the contents; the others; the views; the seat]
+        move ! (3 ∷ []) $ use1 𝓛 (raw (Recells t i d)) (all_e 𝓤 (Recells t i) d) $ move ! (1 ∷ 0 ∷ []) $
+        use2 𝓛 (‵ (Ws ws ds)) (apply∗ 𝓤 ⟦ cell_of i d ⟧ ⟦ Ws ws ds ⟧) $ move ! (0 ∷ 3 ∷ 4 ∷ []) $
+        use3 𝓛 (raw (upd 𝓤 (⟦ I ⟧ ∗ ⟦ gone_on id told ⟧))) (back id v t (left t g) told r.0 g.2 r.1) $
+        settle 𝓛 TakenOut (‵ I ⊛ ‵ (gone_on id told)) $ split ! $ suffices ! _ (upd_i 𝓤 TakenOut) $ frame ! $
+        -- [the seat; three quarters; the contents]
+        move ! (1 ∷ 2 ∷ []) $ fjoin ! $ move ! (1 ∷ 0 ∷ []) $ fjoin ! $
+        nothing ! $ fpack ! ((0 < n) × (i < z.count) × (length th.1 ≡ 4)) (λ _. ftrue) facts $ fjoin ! $ fpack ! (R.Denot × List ℕ) Taking (th.0, th.1) $ done !)

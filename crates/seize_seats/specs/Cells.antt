@@ -1,0 +1,36 @@
+-- What lies under the number of each block: whose the number is, and the block that is there.
+use Rattle.std.specs.Prelude.{ℕ, zero, suc, List, [], ◌∷◌, Option, Some, None, slice_index_or}
+use base.Fml.{Share}
+use Rattle.seize_words.specs.declared.block.Block.{Block}
+
+-- `Claimed` is of a number that somebody has, and `Out` of one whose place a call has in its hand: it has left that share of the memory's lifetime for it.
+-- `Has` is of a block, with the words of its entry.
+pub data Cell (T : Type 0) : Type 0 where
+  Free : Cell T
+  Claimed : Cell T
+  Out : Share → Cell T
+  Has : T → List ℕ → Cell T
+
+module _ {T : Type 0} where
+  -- the block that is there
+  abbrev pub block_in : Cell T → Option (Block T)
+  block_in Free = None
+  block_in Claimed = None
+  block_in (Out e) = None
+  block_in (Has x ws) = Some record { value = x; entry = ws; words = [] }
+
+  -- the blocks of so many numbers, from the first one on
+  abbrev pub blocks_in : ℕ → List (Cell T) → List (Option (Block T))
+  blocks_in zero cells = []
+  blocks_in (suc k) [] = []
+  blocks_in (suc k) (c ∷ cells) = block_in c ∷ blocks_in k cells
+
+  abbrev pub cell_at : List (Cell T) → ℕ → Cell T
+  cell_at cells i = slice_index_or cells i Free
+
+  -- the word that says whether the number is free: 0 if so
+  abbrev pub sign_of : Cell T → ℕ
+  sign_of Free = 0
+  sign_of Claimed = 1
+  sign_of (Out e) = 1
+  sign_of (Has x ws) = 1

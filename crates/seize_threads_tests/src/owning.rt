@@ -1,0 +1,56 @@
+//! Two threads make blocks and take them away: each finds the values that it has put in.
+ghost use Rattle.std.specs.Prelude.{◌≡◌, Option, None};
+ghost use Rattle.seize_threads_tests.specs.Theirs.{Own, AreTheirs, tells};
+
+use seize_blocks::{Blocks, Home, Rule};
+use std::test::Fail;
+use std::thread;
+
+/// Each seat has one block or none.
+pub(crate) struct OneEach;
+
+impl Rule<u64> for OneEach {
+    type View = Option<(u64, u64)>;
+
+    type Fixed = ();
+
+    ghost World = { Unit {0} };
+
+    ghost holds = { λ _. AreTheirs };
+
+    ghost keeps = { λ _ _ _ _. ⊥ };
+
+    ghost then = { tells };
+
+    ghost newcomer = { λ _. None };
+}
+
+/// Makes a block and takes it away, so many times, each time with another value. It answers how many blocks were made, or none where another value came back
+/// than was put in.
+fn make_and_take(blocks: &Blocks<u64, OneEach>, from: u64, times: u64) -> Option<u64> {
+    let mut seat = blocks.seat();
+    let mut made = 0;
+    for turn in 0..times {
+        let value = from.wrapping_add(turn);
+        if let Ok(number) = blocks.make(&mut seat, value, 0) {
+            made += 1;
+            if blocks.take(&mut seat, number) != value {
+                return None;
+            }
+        }
+    }
+    Some(made)
+}
+
+#[test]
+fn two_threads_find_the_values_of_their_blocks(rt: HostRuntime) -> Result<(), Fail> {
+    let home = Home::<u64, OneEach>::open(rt.alloc(), 0, 8, &())?;
+    let blocks = &home.blocks;
+    let (first, second) = thread::join(
+        &rt,
+        || make_and_take(blocks, 0, 20_000),
+        || make_and_take(blocks, 1_000_000, 20_000),
+    );
+    assert!(rt; first == Some(20_000) && second == Some(20_000));
+    Ok(())
+}
