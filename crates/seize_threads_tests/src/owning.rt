@@ -42,6 +42,8 @@ fn make_and_take(blocks: &Blocks<u64, OneEach>, from: u64, times: u64) -> Option
     Some(made)
 }
 
+// Were one thread served after the other, each would find its values as well. What would show itself is a number that both have at once: one of them would
+// find the value of the other, or none.
 #[test]
 fn two_threads_find_the_values_of_their_blocks(rt: HostRuntime) -> Result<(), Fail> {
     let home = Home::<u64, OneEach>::open(rt.alloc(), 0, 8, &())?;
