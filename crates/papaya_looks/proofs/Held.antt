@@ -60,7 +60,7 @@ has_it j (Cutting i) = i == j
 has_it j Handed = false
 has_it j (LeftTo i) = false
 
-has : (j : ℕ) (hand : Hand) → IsHeldBy j hand → has_it j hand ≡ true
+pub has : (j : ℕ) (hand : Hand) → IsHeldBy j hand → has_it j hand ≡ true
 has j NoBlock held = absurd held
 has j (Making i) held = eq-eqb i j held
 has j (InUse o) held = absurd held
@@ -69,7 +69,7 @@ has j (Cutting i) held = eq-eqb i j held
 has j Handed held = absurd held
 has j (LeftTo i) held = absurd held
 
-is_held : (j : ℕ) (hand : Hand) → has_it j hand ≡ true → IsHeldBy j hand
+pub is_held : (j : ℕ) (hand : Hand) → has_it j hand ≡ true → IsHeldBy j hand
 is_held j NoBlock e = cc e
 is_held j (Making i) e = eqb-true i j e
 is_held j (InUse o) e = cc e

@@ -2,4 +2,5 @@ mod Restricted
 mod There
 mod Held
 mod Looks
+mod Makings
 mod Plans

@@ -4,6 +4,7 @@ use Rattle.papaya_finishes.specs.Given.SeizeWords.Mem.{value_at}
 use Rattle.papaya_finishes.specs.Given.Seize.Law.{holds}
 use Rattle.papaya_finishes.specs.Given.Seize.World.{World}
 use Rattle.papaya_finishes.specs.Given.Tables.declared.node.Node.{Node}
+use Rattle.papaya_finishes.specs.Given.Resize.NewMap.{new_map_plan}
 use Rattle.papaya_finishes.specs.Given.Raw.Machine.{machine_plan}
 use Rattle.papaya_finishes.specs.Given.Rule.InWorld.{IsHeldBy}
 use Rattle.papaya_finishes.specs.Given.Points.Told.{IsRowOfCall}
@@ -38,3 +39,12 @@ module _ {K Q : Type 0} (V : Type 0) (same : K → K → Bool) (asks : Q → K �
       → (m : ℕ) (s : Standing K) → maps m ≡ Some s → (i : ℕ) (u : UnderWay K V Q) → calls m i ≡ Some u
       → (b : ℕ) → LooksAt b w.memory (machine_plan asks same s.hash (machine_of u))
       → (IsSome (value_at w.memory b) × (IsAtRow u ⊎ IsHeldFor w (slot i) i s.setting.counter b)) ⊎ MayMake b w.memory (machine_plan asks same s.hash (machine_of u))
+
+  -- And so it is of the making of a map: each block that its next step looks at is there, and is its caller's own, or the step makes it.
+  abbrev pub MakingsLookAtTheirOwn : Type 0
+  MakingsLookAtTheirOwn =
+      (w : World (Node K V)) (maps : ℕ → Option (Standing K)) (calls : ℕ → ℕ → Option (UnderWay K V Q))
+      (makers : ℕ → Option (Beginning K)) (enders : ℕ → Option (Finishing K V))
+      → EndingsTogether V same asks batch_size roots slot w maps calls makers enders
+      → (i : ℕ) (making : Beginning K) → makers i ≡ Some making → (b : ℕ) → LooksAt b w.memory (new_map_plan {K = K} {V = V} making.machine)
+      → (IsSome (value_at w.memory b) × IsHeldBy i (w.hand b)) ⊎ MayMake b w.memory (new_map_plan {K = K} {V = V} making.machine)

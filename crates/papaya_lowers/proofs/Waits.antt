@@ -53,7 +53,8 @@ use Rattle.papaya_whole.specs.Given.Waits.Waits as waits
 use Rattle.papaya_whole.specs.Given.Waits.Waits.{CallAwaits, AnotherHolds}
 use Rattle.papaya_whole.proofs.Given.Waits.Laws as laws
 use Rattle.papaya_whole.proofs.Given.Waits.Promised.{map_of}
-use Rattle.papaya_whole.proofs.Rows.Kinds.{disposal_decided, copier_decided, row_decided}
+use Rattle.papaya_whole.proofs.Rows.Kinds.{copier_decided, row_decided}
+use Rattle.papaya_whole.proofs.Sweeps.Leads.{sweep_decided}
 use Rattle.papaya_lowers.specs.Numbers.{row_within}
 use Rattle.papaya_lowers.specs.Waits.{AwaitsItsPair, AwaitsACopying, StepsWait}
 use Rattle.papaya_lowers.proofs.ItsPair.{waits_for_its_pair}
@@ -104,19 +105,6 @@ room_decided (reserving.Follows table need) = inr (λ h. h)
 room_decided (reserving.Grows table making) = inr (λ h. h)
 room_decided reserving.Over = inr (λ h. h)
 room_decided (reserving.Refused fault) = inr (λ h. h)
-
-sweep_decided : (x : Sweeping) → IsRowOfSweep x ⊎ (IsRowOfSweep x → ⊥)
-sweep_decided (sweeping.Copies copier) = copier_decided copier.stands
-sweep_decided (sweeping.Disposes d) = disposal_decided d.stands
-sweep_decided sweeping.Reads = inr (λ h. h)
-sweep_decided sweeping.Follows = inr (λ h. h)
-sweep_decided sweeping.Ready = inr (λ h. h)
-sweep_decided sweeping.Words = inr (λ h. h)
-sweep_decided (sweeping.Asks word) = inr (λ h. h)
-sweep_decided (sweeping.Tries word) = inr (λ h. h)
-sweep_decided (sweeping.Counts removed) = inr (λ h. h)
-sweep_decided sweeping.Over = inr (λ h. h)
-sweep_decided (sweeping.Refused fault) = inr (λ h. h)
 
 -- the row within a sweep, by either name
 same_row : (slot : ℕ) (x : Sweeping) → waits.row_of_sweep slot x ≡ row_of_sweep slot x
