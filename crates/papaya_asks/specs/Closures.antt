@@ -17,8 +17,8 @@ use Rattle.papaya_asks.specs.declared.computing.Computed.{Computed}
 use Rattle.papaya_asks.specs.declared.computing.Computed.TheVariants as computed
 use Rattle.papaya_asks.specs.declared.computing.Operation.{Operation}
 use Rattle.papaya_asks.specs.declared.computing.Operation.TheVariants as operation
-use Rattle.papaya_asks.specs.declared.refused.RefusedKey.{RefusedKey}
-use Rattle.papaya_asks.specs.declared.refused.Refused.{Refused}
+use Rattle.seize_words.specs.declared.refused.RefusedKey.{RefusedKey}
+use Rattle.seize_words.specs.declared.refused.Refused.{Refused}
 
 -- a test may answer so of a pair
 abbrev pub TestsAs : {F K V : Type 0} → Once F (Bor K × (Bor V × Unit {0})) Bool → F → K × V → Bool → Type 0

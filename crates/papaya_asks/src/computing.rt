@@ -7,12 +7,11 @@ ghost use Rattle.papaya_owned.specs.Calling.{HasStopped};
 ghost use Rattle.papaya_owned.specs.Owned.{Holds, IsWordOf, found_by, hashed_by};
 
 use crate::asking::{key_of, start};
-use crate::refused::RefusedKey;
 use crate::updates::replied;
 use papaya_owned::{OnKey, Stop, pair_at};
 use papaya_raw::machines::{KeyAnswer, KeyCall, Reply};
 use papaya_tables::{Hashes, Node, Setting};
-use seize_words::Plain;
+use seize_words::{Plain, RefusedKey};
 use std::hash::{BuildHasher, Hash};
 
 /// What a computing gives, by the pair that is there, or where there is none.

@@ -5,11 +5,10 @@ mod asking;
 mod computing;
 pub mod law;
 mod lent;
-mod refused;
 mod removals;
 mod updates;
 
 pub use computing::{Computed, Operation, compute};
-pub use refused::{Refused, RefusedKey};
 pub use removals::{remove, remove_if};
+pub use seize_words::{Refused, RefusedKey};
 pub use updates::{insert_with, update, update_or_insert, update_or_insert_with};

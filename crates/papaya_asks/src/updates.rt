@@ -12,11 +12,10 @@ ghost use Rattle.papaya_raw.specs.declared.machines.asking.Reply.TheVariants as 
 ghost use Rattle.papaya_raw.specs.declared.machines.asking.Takes.TheVariants as takes;
 
 use crate::asking::{finish, key_of, pair_of, start};
-use crate::refused::{Refused, RefusedKey};
 use papaya_owned::{OnKey, Stop, pair_at};
 use papaya_raw::machines::{KeyAnswer, KeyCall, Reply};
 use papaya_tables::{Hashes, Node, Setting};
-use seize_words::{Fault, Plain};
+use seize_words::{Fault, Plain, Refused, RefusedKey};
 use std::hash::{BuildHasher, Hash};
 
 /// Tells a call what it has asked, and runs it to its end.

@@ -8,7 +8,7 @@ use Rattle.papaya_asks.specs.declared.computing.Computed.TheVariants as computed
 use Rattle.papaya_owned.specs.Calling.{stop_by}
 use Rattle.papaya_owned.specs.declared.machines.Stop.{Stop}
 use Rattle.papaya_asks.specs.Closures.{computing_stop}
-use Rattle.papaya_asks.specs.declared.refused.RefusedKey.{RefusedKey}
+use Rattle.seize_words.specs.declared.refused.RefusedKey.{RefusedKey}
 use Rattle.papaya_resting.specs.Asking.{ended_by, computing_ended_by}
 use Rattle.papaya_resting.specs.declared.change.Change.{Change}
 use Rattle.papaya_resting.specs.declared.change.Compute.{Compute}

@@ -15,8 +15,8 @@ use Rattle.papaya_asks.specs.Closures.{ComesTo, ComesToWith, ComputesTo, Computi
 use Rattle.papaya_asks.specs.declared.computing.Computed.{Computed}
 use Rattle.papaya_asks.specs.declared.computing.Computed.TheVariants as computed
 use Rattle.papaya_asks.specs.declared.computing.Operation.{Operation}
-use Rattle.papaya_asks.specs.declared.refused.RefusedKey.{RefusedKey}
-use Rattle.papaya_asks.specs.declared.refused.Refused.{Refused}
+use Rattle.seize_words.specs.declared.refused.RefusedKey.{RefusedKey}
+use Rattle.seize_words.specs.declared.refused.Refused.{Refused}
 use Rattle.papaya_sifts.specs.Given.Shown.Chain.{CannotGrowIn}
 use Rattle.papaya_owned.specs.Owned.{found_by}
 use Rattle.papaya_resting.specs.Asking.{HasDone, IsRefusedFor, ComesToIt, ComputesToIt, changed_by, ended_by, computing_ended_by}

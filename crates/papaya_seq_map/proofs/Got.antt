@@ -5,7 +5,7 @@ use Rattle.std.specs.Option.{unwrap_or}
 use Rattle.std.proofs.Common.{◌≡◌, Bool, [], ◌∷◌, ◌++◌, Option, Some, None, Result, Ok, Err, refl, sym, ◌∙◌, ap, subst}
 use Rattle.std.proofs.lemmas.List.{append-nil}
 use Rattle.papaya_asks.specs.Closures.{Storing}
-use Rattle.papaya_asks.specs.declared.refused.Refused.{Refused}
+use Rattle.seize_words.specs.declared.refused.Refused.{Refused}
 use Rattle.papaya_resting.specs.Asking.{HasDone}
 use Rattle.papaya_resting.specs.Given.{found_by}
 use Rattle.papaya_resting.specs.Held.{as_list, if_tried, stored_as}

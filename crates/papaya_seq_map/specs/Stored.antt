@@ -3,7 +3,7 @@ use Rattle.std.specs.Prelude.{◌≡◌, Bool, List, [], ◌∷◌, Option, None
 use Rattle.std.specs.Iterator.{Drains}
 use Rattle.std.specs.List.{AllZip}
 use Rattle.std.specs.List.Sorted.{IsPermutation}
-use Rattle.papaya_asks.specs.declared.refused.Refused.{Refused}
+use Rattle.seize_words.specs.declared.refused.Refused.{Refused}
 use Rattle.papaya_resting.specs.Given.{Balanced, found_by}
 use Rattle.papaya_pairs.specs.Puts.{Gave, IsCloneOf, last_put, last_taken, put, put_all}
 use Rattle.papaya_seq_map.specs.Maps.{Keeps, LastTook, Map}

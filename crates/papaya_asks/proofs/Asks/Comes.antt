@@ -22,8 +22,8 @@ use Rattle.papaya_owned.specs.Owned.{Holds, IsWordOf, found_by}
 use Rattle.papaya_owned.specs.declared.machines.OnKey.{OnKey}
 use Rattle.papaya_owned.specs.declared.machines.Stop.{Stop}
 use Rattle.papaya_owned.specs.declared.machines.Stop.TheVariants as stop
-use Rattle.papaya_asks.specs.declared.refused.RefusedKey.{RefusedKey}
-use Rattle.papaya_asks.specs.declared.refused.Refused.{Refused}
+use Rattle.seize_words.specs.declared.refused.RefusedKey.{RefusedKey}
+use Rattle.seize_words.specs.declared.refused.Refused.{Refused}
 use Rattle.papaya_asks.proofs.Asks.Calls.{answers_as, refused_as, unasked_as, told_as}
 
 module _ {K V Q S : Type 0} (asks : Q → K → Bool) (same : K → K → Bool) (hashes : S → K → ℕ) (b : Bor S) (setting : Setting) (kind : Kind) (its : Option K) (keys : K → Bool) (xs : List (K × V)) (x : OnKey K V Q S)

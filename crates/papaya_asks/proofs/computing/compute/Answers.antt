@@ -5,7 +5,7 @@ use Rattle.papaya_raw.specs.declared.machines.asking.Reply.TheVariants as reply
 use Rattle.papaya_owned.specs.Given.Callers.Kind.{computes}
 use Rattle.papaya_owned.specs.Given.Callers.Pairs.{IsTold}
 use Rattle.papaya_asks.specs.Closures.{ComesTo, ComputesAs, Computing}
-use Rattle.papaya_asks.specs.declared.refused.RefusedKey.{RefusedKey}
+use Rattle.seize_words.specs.declared.refused.RefusedKey.{RefusedKey}
 use Rattle.papaya_owned.specs.Calling.{HasStopped, stop_by}
 use Rattle.papaya_owned.specs.Owned.{hashed_by, found_by}
 use Rattle.papaya_asks.proofs.Asks.Begins.{computes_so}

@@ -3,7 +3,7 @@ use Rattle.std.specs.Fn.{FnOnceReturns}
 use Rattle.papaya_asks.specs.Closures.{Storing}
 use Rattle.papaya_owned.specs.Owned.{hashed_by}
 use Rattle.papaya_resting.proofs.Done.{comes_as, key_comes_back, key_capacity}
-use Rattle.papaya_asks.specs.declared.refused.RefusedKey.{RefusedKey}
+use Rattle.seize_words.specs.declared.refused.RefusedKey.{RefusedKey}
 use Rattle.papaya_resting.proofs.Keeps.{change_holds_on}
 use Rattle.std.specs.Prelude.{[], Some}
 use Rattle.papaya_sifts.specs.Given.Callers.Kind.{tries_to_insert_with}

@@ -4,7 +4,7 @@ use Rattle.std.specs.Fn.{FnOnceReturnsAt}
 use Rattle.papaya_asks.specs.Closures.{UpdatingOrStoring}
 use Rattle.papaya_owned.specs.Owned.{hashed_by}
 use Rattle.papaya_resting.proofs.Done.{with_as, pair_comes_back, pair_capacity}
-use Rattle.papaya_asks.specs.declared.refused.Refused.{Refused}
+use Rattle.seize_words.specs.declared.refused.Refused.{Refused}
 use Rattle.papaya_resting.proofs.Keeps.{change_holds_on}
 use Rattle.std.specs.Prelude.{[], Some}
 use Rattle.papaya_sifts.specs.Given.Callers.Kind.{updates_or_inserts}

@@ -1,5 +1,5 @@
 -- By what the insertion comes to in the order in which its pairs were stored.
-use Rattle.papaya_asks.specs.declared.refused.Refused.{Refused}
+use Rattle.seize_words.specs.declared.refused.Refused.{Refused}
 use Rattle.papaya_seq_map.proofs.Kept.{either_rested, either_shown, holds_err, holds_ok, ok_taken}
 use Rattle.papaya_seq_map.proofs.Shows.{capacity_shown, counts, seen_first, seen_found, seen_held, seen_keeps, shows_done, shows_refused, told_same}
 use Rattle.papaya_seq_map.proofs.map.HashMap.insert.Goals as goal

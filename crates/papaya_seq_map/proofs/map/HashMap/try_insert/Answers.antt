@@ -1,5 +1,5 @@
 -- By what the insertion comes to in the order in which its pairs were stored.
-use Rattle.papaya_asks.specs.declared.refused.Refused.{Refused}
+use Rattle.seize_words.specs.declared.refused.Refused.{Refused}
 use Rattle.papaya_seq_map.proofs.Kept.{each_rested, each_shown, holds_err, holds_found, holds_stored}
 use Rattle.papaya_seq_map.proofs.Shows.{capacity_shown, counts, seen_first, seen_held, seen_keeps, shows_found, shows_refused, shows_stored}
 use Rattle.papaya_seq_map.proofs.map.HashMap.try_insert.Goals as goal

@@ -3,7 +3,7 @@ use Rattle.std.specs.Prelude.{Some}
 use Rattle.std.specs.Fn.{FnOnceReturns, FnOnceReturnsAt}
 use Rattle.std.proofs.Common.{◌∙◌}
 use Rattle.papaya_asks.specs.Closures.{UpdatingOrStoring}
-use Rattle.papaya_asks.specs.declared.refused.RefusedKey.{RefusedKey}
+use Rattle.seize_words.specs.declared.refused.RefusedKey.{RefusedKey}
 use Rattle.papaya_resting.specs.Given.{hashed_by}
 use Rattle.papaya_seq_map.proofs.Done.{comes_rests, room_alone, shows_changed, shows_unchanged}
 use Rattle.papaya_seq_map.proofs.Shows.{capacity_shown, counts, seen_first, seen_held, seen_keeps}
