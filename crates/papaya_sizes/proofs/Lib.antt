@@ -1,0 +1,16 @@
+-- How many pairs maps have is what is counted of them.
+mod Sums
+mod Balance
+mod Places
+mod Counting
+mod Storing
+mod Settled
+mod Beginning
+mod Ending
+mod Words
+mod Events
+mod Sizes
+mod Lens
+mod WholeLens
+mod Once
+mod Samples

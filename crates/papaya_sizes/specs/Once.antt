@@ -1,0 +1,17 @@
+-- Where all pairs of a run are: among those that it gave back, or among those that it has kept.
+use Rattle.std.specs.Prelude.{◌≡◌, ℕ, ◌&&◌, nat_le, Bool, List, ◌++◌, if◌then◌else◌}
+use Rattle.papaya_finds.specs.Given.Runs.LifeCycle.{times}
+use Rattle.papaya_finds.specs.Given.Runs.Pairs.{numbers}
+use Rattle.papaya_finds.specs.Given.Schedules.declared.event.Event.{Event}
+use Rattle.papaya_finds.specs.Given.Schedules.declared.record.Run.{Run}
+use Rattle.papaya_finds.specs.Given.Schedules.Runs.{IsRunOf}
+use Rattle.papaya_finds.specs.Given.Schedules.Terms.{Terms}
+
+module _ {K V : Type 0} where
+  -- Each number, from 1 to how many pairs were stored, stands there once, and no other one does.
+  abbrev pub HasEachOnce : Run K V → Type 0
+  HasEachOnce run = (n : ℕ) → times n (numbers (run.given_back ++ run.kept)) ≡ (if nat_le 1 n && nat_le n run.stored then 1 else 0)
+
+-- The promise: so it is of each run of a schedule.
+abbrev pub RunsHaveEachOnce : Type 0 → Type 0 → Type 0
+RunsHaveEachOnce K V = (eq : K → K → Bool) (terms : Terms) (schedule : List (Event K V)) (run : Run K V) → IsRunOf eq terms schedule run → HasEachOnce run
