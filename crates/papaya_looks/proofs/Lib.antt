@@ -1,0 +1,5 @@
+mod Restricted
+mod There
+mod Held
+mod Looks
+mod Plans

@@ -1,0 +1,135 @@
+-- Each block that a step of a call looks at is there; and at no row it is held for it.
+use Rattle.std.specs.Prelude.{◌≡◌, ℕ, Bool, Option, Some, IsSome, ◌⊎◌}
+use Rattle.std.specs.Int.{IsPowerOfTwo}
+use Rattle.std.proofs.Common.{inl, inr}
+use Rattle.papaya_finishes.specs.Given.SeizeWords.Mem.{Mem, Can, Took, value_at}
+use Rattle.papaya_finishes.specs.Given.SeizeWords.Plan.{May}
+use Rattle.papaya_finishes.proofs.Given.SeizeWords.Plans.{as_may}
+use Rattle.papaya_finishes.specs.Given.Seize.World.{World, IsInside}
+use Rattle.papaya_finishes.specs.Given.Tables.declared.node.Node.{Node}
+use Rattle.papaya_finishes.specs.Given.Resize.Sum.{sum_plan}
+use Rattle.papaya_finishes.specs.Given.Resize.declared.copier.Copying.{Copying}
+use Rattle.papaya_finishes.specs.Given.Resize.declared.copier.Copying.TheVariants as copies
+use Rattle.papaya_finishes.specs.Given.Resize.declared.dispose.Disposing.{Disposing}
+use Rattle.papaya_finishes.specs.Given.Resize.declared.dispose.Disposing.TheVariants as disposes
+use Rattle.papaya_finishes.specs.Given.Reserves.Reserve.{reserve_plan}
+use Rattle.papaya_finishes.specs.Given.Reserves.declared.reserve.Reserving.{Reserving}
+use Rattle.papaya_finishes.specs.Given.Reserves.declared.reserve.Reserving.TheVariants as reserving
+use Rattle.papaya_finishes.specs.Given.Sweeps.Sweep.{sweep_plan}
+use Rattle.papaya_finishes.specs.Given.Sweeps.declared.sweep.Sweeping.{Sweeping}
+use Rattle.papaya_finishes.specs.Given.Sweeps.declared.sweep.Sweeping.TheVariants as sweeping
+use Rattle.papaya_finishes.specs.Given.Raw.Call.{call_plan}
+use Rattle.papaya_finishes.specs.Given.Raw.Machine as machines
+use Rattle.papaya_finishes.specs.Given.Raw.Machine.{machine_plan}
+use Rattle.papaya_finishes.specs.Given.Raw.declared.machines.call.Calling.{Calling}
+use Rattle.papaya_finishes.specs.Given.Raw.declared.machines.call.Calling.TheVariants as at
+use Rattle.papaya_finishes.specs.Given.Points.Steps.{AreLawful}
+use Rattle.papaya_finishes.specs.Given.Points.Told.{IsRowOf, IsRowOfCopier, IsRowOfCall}
+use Rattle.papaya_finishes.specs.Given.Late.ToldReserves.{IsRowOfReserve}
+use Rattle.papaya_finishes.specs.Given.Late.ToldSweeps.{IsRowOfSweep}
+use Rattle.papaya_finishes.specs.Given.Callers.Together.{UnderWay, OnKey, ForRoom, Counting, OverAll, Together}
+use Rattle.papaya_finishes.specs.Endings.{Finishing, EndingsTogether}
+use Rattle.papaya_finishes.specs.Machines.{machine_of}
+use Rattle.papaya_finishes.specs.Makings.{Beginning}
+use Rattle.papaya_finishes.specs.Maps.{Standing}
+use Rattle.papaya_finishes.proofs.Among.Machines.{machines_stand_among}
+use Rattle.papaya_looks.specs.Blocks.{LooksAt, MayMake}
+use Rattle.papaya_looks.specs.Looks.{IsAtRow, IsHeldFor, StepsLookAtWhatIsHeld}
+use Rattle.papaya_looks.proofs.Held.{keep, held_for, may_key, may_room, may_sweep, may_count}
+use Rattle.papaya_looks.proofs.Restricted.{restricted, looks_kept}
+use Rattle.papaya_looks.proofs.There.{blocks_there}
+
+-- a call is at a row, or at none
+abbrev Decided : Type 0 → Type 0
+Decided X = X ⊎ (X → ⊥)
+
+copier_decided : (x : Copying) → Decided (IsRowOfCopier x)
+copier_decided (copies.Retires settle rest) = inl tt
+copier_decided _ = inr (λ row. row)
+
+disposal_decided : (x : Disposing) → Decided (IsRowOf x)
+disposal_decided (disposes.Settles settle) = inl tt
+disposal_decided (disposes.Defers defer) = inl tt
+disposal_decided _ = inr (λ row. row)
+
+call_decided : (x : Calling) → Decided (IsRowOfCall x)
+call_decided (at.Disposes dispose answer) = disposal_decided dispose.stands
+call_decided (at.Helps copier goal) = copier_decided copier.stands
+call_decided (at.Copies copier) = copier_decided copier.stands
+call_decided _ = inr (λ row. row)
+
+room_decided : (x : Reserving) → Decided (IsRowOfReserve x)
+room_decided (reserving.Copies copier) = copier_decided copier.stands
+room_decided _ = inr (λ row. row)
+
+sweep_decided : (x : Sweeping) → Decided (IsRowOfSweep x)
+sweep_decided (sweeping.Copies copier) = copier_decided copier.stands
+sweep_decided (sweeping.Disposes dispose) = disposal_decided dispose.stands
+sweep_decided _ = inr (λ row. row)
+
+module _ {K Q : Type 0} (V : Type 0) (same : K → K → Bool) (asks : Q → K → Bool) (batch_size roots : ℕ) (slot : ℕ → ℕ) where
+  module _ (w : World (Node K V)) (maps : ℕ → Option (Standing K)) (calls : ℕ → ℕ → Option (UnderWay K V Q)) (makers : ℕ → Option (Beginning K)) (enders : ℕ → Option (Finishing K V))
+      (all : EndingsTogether V same asks batch_size roots slot w maps calls makers enders) (m : ℕ) (s : Standing K) (here : maps m ≡ Some s) (i : ℕ) where
+    stands : Together V same s.hash asks s.setting slot w s.chart s.blocks s.sights (calls m)
+    stands = all.makings.standing.each m s here
+
+    lawful : AreLawful same s.hash
+    lawful = (all.makings.standing.fit m s here).0
+
+    initial : IsPowerOfTwo s.setting.initial
+    initial = (all.makings.standing.fit m s here).1
+
+    module _ (b : ℕ) (u : UnderWay K V Q) (has : calls m i ≡ Some u) (looks : LooksAt b w.memory (machine_plan asks same s.hash (machine_of u))) where
+      inside : IsInside (w.uses (slot i))
+      inside = stands.inside i u has
+
+      abbrev Looks : Type 0
+      Looks = (IsSome (value_at w.memory b) × (IsAtRow u ⊎ IsHeldFor w (slot i) i s.setting.counter b)) ⊎ MayMake b w.memory (machine_plan asks same s.hash (machine_of u))
+
+      abbrev here_keep : ℕ → Bool
+      here_keep = keep same s.hash asks s.setting slot lawful initial w s.chart s.blocks s.sights (calls m) stands i inside
+
+      -- at a row
+      at_row : IsAtRow u → Looks
+      at_row row =
+          elim (blocks_there _ _ w.memory (machine_plan asks same s.hash (machine_of u)) (machines_stand_among V same asks batch_size roots slot w maps calls makers enders all m s here i u has).0 b looks) as (λ _. Looks) [
+            | inl is ↦ inl (is, inl row)
+            | inr made ↦ inr made
+          ]
+
+      -- and at none
+      at_none : May Can Took value_at (restricted here_keep w.memory) (machine_plan asks same s.hash (machine_of u)) → Looks
+      at_none may =
+          elim (looks_kept here_keep w.memory (machine_plan asks same s.hash (machine_of u)) may b looks) as (λ _. Looks) [
+            | inl is ↦ inl (is.1, inr (held_for same s.hash asks s.setting slot lawful initial w s.chart s.blocks s.sights (calls m) stands i inside b is.0))
+            | inr made ↦ inr made
+          ]
+
+    abbrev less : (u : UnderWay K V Q) → calls m i ≡ Some u → Mem (Node K V)
+    less u has = restricted (keep same s.hash asks s.setting slot lawful initial w s.chart s.blocks s.sights (calls m) stands i (stands.inside i u has)) w.memory
+
+    each : (b : ℕ) (u : UnderWay K V Q) (has : calls m i ≡ Some u) (looks : LooksAt b w.memory (machine_plan asks same s.hash (machine_of u))) → Looks b u has looks
+    each b (OnKey u) has looks = elim (call_decided u.call.stands) as (λ _. Looks b (OnKey u) has looks) [
+      | inl row ↦ at_row b (OnKey u) has looks row
+      | inr none ↦ at_none b (OnKey u) has looks
+          (as_may machines.called Can Took value_at (less (OnKey u) has) (call_plan asks same s.hash u.call)
+          (may_key same s.hash asks s.setting slot lawful initial w s.chart s.blocks s.sights (calls m) stands i (stands.inside i (OnKey u) has) u has none))
+    ]
+    each b (ForRoom r) has looks = elim (room_decided r.reserve.stands) as (λ _. Looks b (ForRoom r) has looks) [
+      | inl row ↦ at_row b (ForRoom r) has looks row
+      | inr none ↦ at_none b (ForRoom r) has looks
+          (as_may machines.reserved Can Took value_at (less (ForRoom r) has) (reserve_plan s.hash r.reserve)
+          (may_room same s.hash asks s.setting slot lawful initial w s.chart s.blocks s.sights (calls m) stands i (stands.inside i (ForRoom r) has) r has none))
+    ]
+    each b (Counting sum) has looks = at_none b (Counting sum) has looks
+        (as_may machines.counted Can Took value_at (less (Counting sum) has) (sum_plan sum)
+        (may_count same s.hash asks s.setting slot lawful initial w s.chart s.blocks s.sights (calls m) stands i (stands.inside i (Counting sum) has) sum has))
+    each b (OverAll o) has looks = elim (sweep_decided o.sweep.stands) as (λ _. Looks b (OverAll o) has looks) [
+      | inl row ↦ at_row b (OverAll o) has looks row
+      | inr none ↦ at_none b (OverAll o) has looks
+          (as_may machines.swept Can Took value_at (less (OverAll o) has) (sweep_plan s.hash o.sweep)
+          (may_sweep same s.hash asks s.setting slot lawful initial w s.chart s.blocks s.sights (calls m) stands i (stands.inside i (OverAll o) has) o has none))
+    ]
+
+  pub steps_look : StepsLookAtWhatIsHeld V same asks batch_size roots slot
+  steps_look w maps calls makers enders all m s here i u has b looks = each w maps calls makers enders all m s here i b u has looks

@@ -1,0 +1,50 @@
+-- A wrong plan beside the law of what steps look at: stepped in a world of a few blocks, where the law's clause is false of it.
+use Rattle.std.specs.Prelude.{ℕ, zero, suc, [], IsSome, ◌⊎◌}
+use Rattle.std.proofs.Common.{inl, inr, refl, arith}
+use Rattle.papaya_finishes.specs.Given.SeizeWords.Mem.{Mem, Took, value_at}
+use Rattle.papaya_finishes.specs.Given.SeizeWords.Op.{Load, Found}
+use Rattle.papaya_finishes.specs.Given.SeizeWords.Plan.{Plan, Do, Now, Steps}
+use Rattle.papaya_finishes.specs.Given.SeizeWords.declared.at.At.TheVariants.{Word}
+use Rattle.papaya_finishes.specs.Given.Seize.World.{World, Rests, Vacant, Hand, NoBlock, Making, InUse}
+use Rattle.papaya_finishes.specs.Given.Tables.declared.node.Node.{Node}
+use Rattle.papaya_finishes.specs.Given.Raw.CallPoints.{entering, inserting}
+use Rattle.papaya_finishes.specs.Given.Raw.declared.machines.answer.Called.{Called}
+use Rattle.papaya_finishes.specs.Given.Raw.declared.machines.answer.Called.TheVariants as called
+use Rattle.papaya_finishes.specs.Given.Raw.declared.machines.call.KeyCall.{KeyCall}
+use Rattle.papaya_finishes.proofs.Given.Late.Plans.FewBlocks.{setting, memory, new}
+use Rattle.papaya_looks.specs.Blocks.{LooksAt, MayMake}
+use Rattle.papaya_looks.specs.Looks.{IsHeldFor}
+
+-- A call that loads the link of a table which it has left: the first one of that world.
+abbrev looks_back : KeyCall ℕ ℕ ℕ → Plan (Node ℕ ℕ) (KeyCall ℕ ℕ ℕ × Called (Node ℕ ℕ))
+looks_back p = Do (Load (Word 2 0)) (λ out. Now (p, called.Goes))
+
+-- block 1 is the counter, and the others are linked
+abbrev hand_of : ℕ → Hand
+hand_of zero = NoBlock
+hand_of (suc zero) = Making 0
+hand_of (suc (suc b)) = InUse 1
+
+-- No section is open there, and so none holds that table.
+abbrev world : World (Node ℕ ℕ)
+world = record { memory = memory; row = λ i. Rests; uses = λ s. Vacant; hand = hand_of; log = [] }
+
+abbrev insertion : KeyCall ℕ ℕ ℕ
+insertion = (entering (inserting setting 0 7 9) new).0
+
+back_steps : (m : Mem (Node ℕ ℕ)) × (end : KeyCall ℕ ℕ ℕ × Called (Node ℕ ℕ)) × Steps Took value_at memory (looks_back insertion) m end
+back_steps = (memory, (insertion, called.Goes), (Found 6144, (refl, refl), refl))
+
+back_looks : LooksAt 2 memory (looks_back insertion)
+back_looks = inl refl
+
+not_held : (slot caller : ℕ) → IsHeldFor world slot caller setting.counter 2 → ⊥
+not_held slot caller (inl held) = cc held
+not_held slot caller (inr (inl own)) = own
+not_held slot caller (inr (inr counter)) = omega (arith, counter)
+
+-- It stands at no row, and makes no block.
+back_is_refused : (slot caller : ℕ) → (IsSome (value_at memory 2) × (⊥ ⊎ IsHeldFor world slot caller setting.counter 2)) ⊎ MayMake 2 memory (looks_back insertion) → ⊥
+back_is_refused slot caller (inl (there, inl row)) = row
+back_is_refused slot caller (inl (there, inr held)) = not_held slot caller held
+back_is_refused slot caller (inr made) = made

@@ -1,0 +1,6 @@
+-- Each block that a step looks at.
+use Rattle.papaya_looks.proofs.Looks.{steps_look}
+use Rattle.papaya_looks.proofs.law.steps_look_at_what_is_held.Goals as goal
+
+pub returns : goal.returns
+returns c d = record { held = steps_look _ }

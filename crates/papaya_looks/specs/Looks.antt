@@ -1,0 +1,40 @@
+-- What is promised of the blocks that a step of any call looks at.
+use Rattle.std.specs.Prelude.{◌≡◌, ℕ, Bool, true, Option, Some, IsSome, ◌⊎◌}
+use Rattle.papaya_finishes.specs.Given.SeizeWords.Mem.{value_at}
+use Rattle.papaya_finishes.specs.Given.Seize.Law.{holds}
+use Rattle.papaya_finishes.specs.Given.Seize.World.{World}
+use Rattle.papaya_finishes.specs.Given.Tables.declared.node.Node.{Node}
+use Rattle.papaya_finishes.specs.Given.Raw.Machine.{machine_plan}
+use Rattle.papaya_finishes.specs.Given.Rule.InWorld.{IsHeldBy}
+use Rattle.papaya_finishes.specs.Given.Points.Told.{IsRowOfCall}
+use Rattle.papaya_finishes.specs.Given.Late.ToldReserves.{IsRowOfReserve}
+use Rattle.papaya_finishes.specs.Given.Late.ToldSweeps.{IsRowOfSweep}
+use Rattle.papaya_finishes.specs.Given.Callers.Together.{UnderWay, OnKey, ForRoom, Counting, OverAll}
+use Rattle.papaya_finishes.specs.Endings.{Finishing, EndingsTogether}
+use Rattle.papaya_finishes.specs.Machines.{machine_of}
+use Rattle.papaya_finishes.specs.Makings.{Beginning}
+use Rattle.papaya_finishes.specs.Maps.{Standing}
+use Rattle.papaya_looks.specs.Blocks.{LooksAt, MayMake}
+
+-- the call stands at a row of the collector
+abbrev pub IsAtRow : {K V Q : Type 0} → UnderWay K V Q → Type 0
+IsAtRow (OnKey u) = IsRowOfCall u.call.stands
+IsAtRow (ForRoom r) = IsRowOfReserve r.reserve.stands
+IsAtRow (Counting sum) = ⊥
+IsAtRow (OverAll o) = IsRowOfSweep o.sweep.stands
+
+-- The open section of this slot holds the block, or the caller has it, having made it or taken it out of its map; or it is the counter of the map.
+abbrev pub IsHeldFor : {T : Type 0} → World T → ℕ → ℕ → ℕ → ℕ → Type 0
+IsHeldFor w slot caller counter b = (holds slot b w.log ≡ true) ⊎ IsHeldBy caller (w.hand b) ⊎ (b ≡ counter)
+
+module _ {K Q : Type 0} (V : Type 0) (same : K → K → Bool) (asks : Q → K → Bool) (batch_size roots : ℕ) (slot : ℕ → ℕ) where
+  -- The promise: each block that the next step of a call under way looks at is there, whichever call that is, on whichever map, and whatever others have under way;
+  -- and at no row, its section holds it, or its caller has it, or it is the map's counter. Or the step makes it.
+  abbrev pub StepsLookAtWhatIsHeld : Type 0
+  StepsLookAtWhatIsHeld =
+      (w : World (Node K V)) (maps : ℕ → Option (Standing K)) (calls : ℕ → ℕ → Option (UnderWay K V Q))
+      (makers : ℕ → Option (Beginning K)) (enders : ℕ → Option (Finishing K V))
+      → EndingsTogether V same asks batch_size roots slot w maps calls makers enders
+      → (m : ℕ) (s : Standing K) → maps m ≡ Some s → (i : ℕ) (u : UnderWay K V Q) → calls m i ≡ Some u
+      → (b : ℕ) → LooksAt b w.memory (machine_plan asks same s.hash (machine_of u))
+      → (IsSome (value_at w.memory b) × (IsAtRow u ⊎ IsHeldFor w (slot i) i s.setting.counter b)) ⊎ MayMake b w.memory (machine_plan asks same s.hash (machine_of u))

@@ -1,0 +1,18 @@
+//! What is promised of the blocks that a step looks at.
+ghost use Rattle.std.specs.Prelude.{ℕ, Bool};
+ghost use Rattle.papaya_looks.specs.Looks.{StepsLookAtWhatIsHeld};
+ghost use Rattle.papaya_looks.specs.There.{BlocksAreThere, WordsAreThere};
+
+/// Any callers have calls under way on any maps of one collector, in either mode, and make and end others. Whichever block the next step of one looks at, by its
+/// operation or for its value, is there; and unless the step is one of a row of the collector, its caller's open section holds it, or its caller has it, having made
+/// it or taken it out of its map, or it is the counter of the map. So no step looks at a block that was given back.
+pub fn steps_look_at_what_is_held<K, V, Q>()
+    ensures held { (same : K → K → Bool) (asks : Q → K → Bool) (batch_size roots : ℕ) (slot : ℕ → ℕ) → StepsLookAtWhatIsHeld V same asks batch_size roots slot }
+{}
+
+/// A step that may be taken, be it of a call, of a row, or of the making or the end of a map, names words that are there, and looks at no block that is not there, unless
+/// it makes it. Whose step may be taken the laws of each say.
+pub fn steps_look_at_what_is_there<T, R>()
+    ensures blocks { BlocksAreThere T R }
+    ensures words { WordsAreThere T R }
+{}

@@ -1,0 +1,14 @@
+mod Widened
+mod Own
+mod Swept
+mod Kept
+mod Within
+mod Rows
+mod KeyRows
+mod RoomRows
+mod SweepRows
+mod Machines
+mod Stays
+mod Waits
+mod Looks
+mod Plans

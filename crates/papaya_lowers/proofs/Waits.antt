@@ -1,0 +1,235 @@
+-- A step that answers that its machine waits: for a copying, or at a row for whoever has the batch of its slot in hand; and the machine stands where it stood.
+use Rattle.std.specs.Prelude.{◌≡◌, ℕ, Bool, Option, Some, ◌⊎◌}
+use Rattle.std.proofs.Common.{inl, inr, refl, ap, sym, subst, ◌∙◌}
+use Rattle.papaya_maps.specs.Given.SeizeWords.Mem.{Mem, Took, value_at}
+use Rattle.papaya_maps.specs.Given.SeizeWords.Plan.{Steps}
+use Rattle.papaya_maps.proofs.Given.SeizeRule.Rows.Leaving.{steps_back}
+use Rattle.papaya_maps.specs.Given.Seize.World.{World, Rests}
+use Rattle.papaya_maps.specs.Given.Seize.declared.progress.Progress.{Progress as Counted}
+use Rattle.papaya_maps.specs.Given.Seize.declared.progress.Progress.TheVariants as counted
+use Rattle.papaya_maps.specs.Given.Tables.declared.node.Node.{Node}
+use Rattle.papaya_maps.specs.Given.Resize.Sum.{sum_plan}
+use Rattle.papaya_maps.specs.Given.Resize.declared.outcome.Outcome.{Outcome}
+use Rattle.papaya_maps.specs.Given.Resize.declared.outcome.Outcome.TheVariants as outcome
+use Rattle.papaya_maps.specs.Given.Resize.declared.sum.Sum.{Sum}
+use Rattle.papaya_maps.specs.Given.Raw.Call.{call_plan}
+use Rattle.papaya_maps.specs.Given.Raw.Machine as machines
+use Rattle.papaya_maps.specs.Given.Raw.Machine.{machine_plan}
+use Rattle.papaya_maps.specs.Given.Raw.Progress.{of_called, of_outcome, of_swept, of_counting}
+use Rattle.papaya_maps.specs.Given.Raw.declared.machines.answer.Called.{Called}
+use Rattle.papaya_maps.specs.Given.Raw.declared.machines.answer.Called.TheVariants as called
+use Rattle.papaya_maps.specs.Given.Raw.declared.machines.call.KeyCall.{KeyCall}
+use Rattle.papaya_maps.specs.Given.Raw.declared.machines.machine.Machine.{Machine}
+use Rattle.papaya_maps.specs.Given.Raw.declared.machines.machine.Machine.TheVariants as kinds
+use Rattle.papaya_maps.specs.Given.Raw.declared.machines.progress.Progress.{Progress}
+use Rattle.papaya_maps.specs.Given.Raw.declared.machines.progress.Progress.TheVariants as progress
+use Rattle.papaya_maps.specs.Given.Reserves.Reserve.{reserve_plan}
+use Rattle.papaya_maps.specs.Given.Reserves.declared.reserve.Reserve.{Reserve}
+use Rattle.papaya_maps.specs.Given.Reserves.declared.reserve.Reserving.{Reserving}
+use Rattle.papaya_maps.specs.Given.Reserves.declared.reserve.Reserving.TheVariants as reserving
+use Rattle.papaya_maps.specs.Given.Sweeps.Sweep.{sweep_plan}
+use Rattle.papaya_maps.specs.Given.Sweeps.declared.sweep.Sweep.{Sweep}
+use Rattle.papaya_maps.specs.Given.Sweeps.declared.sweep.Sweeping.{Sweeping}
+use Rattle.papaya_maps.specs.Given.Sweeps.declared.sweep.Sweeping.TheVariants as sweeping
+use Rattle.papaya_maps.specs.Given.Sweeps.declared.sweep.Swept.{Swept}
+use Rattle.papaya_maps.specs.Given.Sweeps.declared.sweep.Swept.TheVariants as swept
+use Rattle.papaya_maps.specs.Given.Points.Steps.{AreLawful}
+use Rattle.papaya_maps.specs.Given.Late.ToldReserves.{IsRowOfReserve}
+use Rattle.papaya_maps.specs.Given.Late.ToldSweeps.{IsRowOfSweep}
+use Rattle.papaya_maps.specs.Given.Callers.OverAll.{CallOverAll, row_of_sweep}
+use Rattle.papaya_maps.specs.Given.Callers.Rooms.{CallForRoom}
+use Rattle.papaya_maps.specs.Given.Callers.Sights.{seen_by}
+use Rattle.papaya_maps.specs.Given.Callers.Together.{UnderWay, CallOnKey, OnKey, ForRoom, Counting, OverAll, in_slot, Stands, Together}
+use Rattle.papaya_maps.proofs.Given.Callers.Together.Countings.{countings_stand_together}
+use Rattle.papaya_maps.specs.Given.Finishes.Endings.{Finishing, EndingsTogether}
+use Rattle.papaya_maps.specs.Given.Finishes.Machines.{machine_of}
+use Rattle.papaya_maps.specs.Given.Finishes.Makings.{Beginning}
+use Rattle.papaya_maps.specs.Given.Finishes.Maps.{Standing}
+use Rattle.papaya_whole.specs.Given.Waits.Waits as waits
+use Rattle.papaya_whole.specs.Given.Waits.Waits.{AnotherHolds}
+use Rattle.papaya_whole.proofs.Given.Waits.Laws as laws
+use Rattle.papaya_whole.proofs.Given.Waits.Promised.{map_of}
+use Rattle.papaya_whole.proofs.Rows.Kinds.{disposal_decided, copier_decided, row_decided}
+use Rattle.papaya_lowers.specs.Numbers.{row_within}
+use Rattle.papaya_lowers.specs.Waits.{AwaitsACopying, StepsWait}
+use Rattle.papaya_lowers.proofs.Stays.{key_stays, room_stays, sweep_stays}
+
+-- What tells that its machine waits waits.
+
+called_waits : {T : Type 0} (x : Called T) → of_called x ≡ progress.Waits → x ≡ called.Waits
+called_waits called.Goes e = absurd (cc e)
+called_waits called.Waits e = refl
+called_waits (called.Gave value) e = absurd (cc e)
+called_waits (called.Unstored value) e = absurd (cc e)
+called_waits (called.Asks asked) e = absurd (cc e)
+called_waits (called.Done answer) e = absurd (cc e)
+called_waits (called.Refused fault) e = absurd (cc e)
+
+outcome_waits : {T : Type 0} (x : Outcome T Unit) → of_outcome x ≡ progress.Waits → x ≡ outcome.Waits
+outcome_waits outcome.Goes e = absurd (cc e)
+outcome_waits outcome.Waits e = refl
+outcome_waits (outcome.Gave value) e = absurd (cc e)
+outcome_waits (outcome.Done end) e = absurd (cc e)
+outcome_waits (outcome.Refused fault) e = absurd (cc e)
+
+swept_waits : {T : Type 0} (x : Swept T) → of_swept x ≡ progress.Waits → x ≡ swept.Waits
+swept_waits swept.Goes e = absurd (cc e)
+swept_waits swept.Waits e = refl
+swept_waits (swept.Gave value) e = absurd (cc e)
+swept_waits swept.Ready e = absurd (cc e)
+swept_waits (swept.Pair word) e = absurd (cc e)
+swept_waits (swept.Asks word) e = absurd (cc e)
+swept_waits swept.Done e = absurd (cc e)
+swept_waits (swept.Refused fault) e = absurd (cc e)
+
+counted_waits : {T : Type 0} (x : Counted ℕ) → ◌≡◌ {A = Progress T} (of_counting x) progress.Waits → x ≡ counted.Waits
+counted_waits counted.Goes e = absurd (cc e)
+counted_waits counted.Waits e = refl
+counted_waits (counted.Done sum) e = absurd (cc e)
+counted_waits (counted.Refused fault) e = absurd (cc e)
+
+-- it is at a row, or at none
+room_decided : (x : Reserving) → IsRowOfReserve x ⊎ (IsRowOfReserve x → ⊥)
+room_decided (reserving.Copies copier) = copier_decided copier.stands
+room_decided reserving.Reads = inr (λ h. h)
+room_decided (reserving.Makes making) = inr (λ h. h)
+room_decided (reserving.Sums table sum) = inr (λ h. h)
+room_decided (reserving.Follows table need) = inr (λ h. h)
+room_decided (reserving.Grows table making) = inr (λ h. h)
+room_decided reserving.Over = inr (λ h. h)
+room_decided (reserving.Refused fault) = inr (λ h. h)
+
+sweep_decided : (x : Sweeping) → IsRowOfSweep x ⊎ (IsRowOfSweep x → ⊥)
+sweep_decided (sweeping.Copies copier) = copier_decided copier.stands
+sweep_decided (sweeping.Disposes d) = disposal_decided d.stands
+sweep_decided sweeping.Reads = inr (λ h. h)
+sweep_decided sweeping.Follows = inr (λ h. h)
+sweep_decided sweeping.Ready = inr (λ h. h)
+sweep_decided sweeping.Words = inr (λ h. h)
+sweep_decided (sweeping.Asks word) = inr (λ h. h)
+sweep_decided (sweeping.Tries word) = inr (λ h. h)
+sweep_decided (sweeping.Counts removed) = inr (λ h. h)
+sweep_decided sweeping.Over = inr (λ h. h)
+sweep_decided (sweeping.Refused fault) = inr (λ h. h)
+
+-- the row within a sweep, by either name
+same_row : (slot : ℕ) (x : Sweeping) → waits.row_of_sweep slot x ≡ row_of_sweep slot x
+same_row slot (sweeping.Copies copier) = refl
+same_row slot (sweeping.Disposes d) = refl
+same_row slot sweeping.Reads = refl
+same_row slot sweeping.Follows = refl
+same_row slot sweeping.Ready = refl
+same_row slot sweeping.Words = refl
+same_row slot (sweeping.Asks word) = refl
+same_row slot (sweeping.Tries word) = refl
+same_row slot (sweeping.Counts removed) = refl
+same_row slot sweeping.Over = refl
+same_row slot (sweeping.Refused fault) = refl
+
+module _ {K Q : Type 0} (V : Type 0) (same : K → K → Bool) (asks : Q → K → Bool) (batch_size roots : ℕ) (slot : ℕ → ℕ) where
+  module _ (w : World (Node K V)) (maps : ℕ → Option (Standing K)) (calls : ℕ → ℕ → Option (UnderWay K V Q)) (makers : ℕ → Option (Beginning K)) (enders : ℕ → Option (Finishing K V))
+      (all : EndingsTogether V same asks batch_size roots slot w maps calls makers enders) (m : ℕ) (s : Standing K) (here : maps m ≡ Some s) (i : ℕ)
+      (m2 : Mem (Node K V)) (machine : Machine K V Q) where
+    stands : Together V same s.hash asks s.setting slot w s.chart s.blocks s.sights (calls m)
+    stands = all.makings.standing.each m s here
+
+    lawful : AreLawful same s.hash
+    lawful = (all.makings.standing.fit m s here).0
+
+    abbrev Reason : UnderWay K V Q → Type 0
+    Reason u = (machine ≡ machine_of u) × (AwaitsACopying s (machine_of u) ⊎ AnotherHolds w i (row_within (slot i) (machine_of u)))
+
+    abbrev Steps' : UnderWay K V Q → Type 0
+    Steps' u = Steps Took value_at w.memory (machine_plan asks same s.hash (machine_of u)) m2 (machine, progress.Waits)
+
+    at_key : (u : CallOnKey K V Q) → calls m i ≡ Some (OnKey u) → Steps' (OnKey u) → Reason (OnKey u)
+    at_key u has st = elim (row_decided u.call.stands) as (λ _. Reason (OnKey u)) [
+      | inl row ↦ (
+        machine_is ∙ ap kinds.Key (key_stays w.memory m2 s.hash same asks u.call row e.0.0 waiting),
+        inr (laws.call_rows_wait_for_a_holder V same s.hash asks s.setting slot w s.chart s.blocks s.sights (calls m) stands i u has row m2 e.0.0 waiting),
+      )
+      | inr none ↦
+          (let h = laws.calls_wait_for_a_copying V same s.hash asks s.setting slot lawful w s.chart s.blocks s.sights (calls m) stands i u has none m2 e.0.0 waiting in
+          (machine_is ∙ ap kinds.Key h.0, inl h.1))
+    ]
+      where
+        e : (e : KeyCall K V Q × Called (Node K V)) × Steps Took value_at w.memory (call_plan asks same s.hash u.call) m2 e × ((machine, progress.Waits) ≡ machines.called e)
+        e = steps_back machines.called w.memory m2 (call_plan asks same s.hash u.call) (machine, progress.Waits) st
+
+        machine_is : machine ≡ kinds.Key e.0.0
+        machine_is = ap (λ (x : Machine K V Q × Progress (Node K V)). x.0) e.2
+
+        waiting : Steps Took value_at w.memory (call_plan asks same s.hash u.call) m2 (e.0.0, called.Waits)
+        waiting = subst (λ (x : Called (Node K V)). Steps Took value_at w.memory (call_plan asks same s.hash u.call) m2 (e.0.0, x))
+            (called_waits e.0.1 (sym (ap (λ (x : Machine K V Q × Progress (Node K V)). x.1) e.2))) e.1
+
+    at_room : (r : CallForRoom) → calls m i ≡ Some (ForRoom r) → Steps' (ForRoom r) → Reason (ForRoom r)
+    at_room r has st = elim (room_decided r.reserve.stands) as (λ _. Reason (ForRoom r)) [
+      | inl row ↦ (
+        machine_is ∙ ap kinds.Reserve (room_stays w.memory m2 s.hash r.reserve row e.0.0 waiting),
+        inr (laws.room_rows_wait_for_a_holder V same s.hash asks s.setting slot w s.chart s.blocks s.sights (calls m) stands i r has row m2 e.0.0 waiting),
+      )
+      | inr none ↦
+          (let h = laws.rooms_wait_for_a_copying V same s.hash asks s.setting slot lawful w s.chart s.blocks s.sights (calls m) stands i r has none m2 e.0.0 waiting in
+          (machine_is ∙ ap kinds.Reserve h.0, inl h.1))
+    ]
+      where
+        e : (e : Reserve × Outcome (Node K V) Unit) × Steps Took value_at w.memory (reserve_plan s.hash r.reserve) m2 e × ((machine, progress.Waits) ≡ machines.reserved e)
+        e = steps_back machines.reserved w.memory m2 (reserve_plan s.hash r.reserve) (machine, progress.Waits) st
+
+        machine_is : machine ≡ kinds.Reserve e.0.0
+        machine_is = ap (λ (x : Machine K V Q × Progress (Node K V)). x.0) e.2
+
+        waiting : Steps Took value_at w.memory (reserve_plan s.hash r.reserve) m2 (e.0.0, outcome.Waits)
+        waiting = subst (λ (x : Outcome (Node K V) Unit). Steps Took value_at w.memory (reserve_plan s.hash r.reserve) m2 (e.0.0, x))
+            (outcome_waits e.0.1 (sym (ap (λ (x : Machine K V Q × Progress (Node K V)). x.1) e.2))) e.1
+
+    at_sweep : (o : CallOverAll) → calls m i ≡ Some (OverAll o) → Steps' (OverAll o) → Reason (OverAll o)
+    at_sweep o has st = elim (sweep_decided o.sweep.stands) as (λ _. Reason (OverAll o)) [
+      | inl row ↦ (
+        machine_is ∙ ap kinds.Sweep (sweep_stays w.memory m2 s.hash o.sweep row e.0.0 waiting),
+        inr (subst (AnotherHolds w i) (same_row (slot i) o.sweep.stands)
+            (laws.sweep_rows_wait_for_a_holder V same s.hash slot s.setting.batch_size w stands.ground.came i o.sweep row (its_row (stands.stand i (OverAll o) has)) m2 e.0.0 waiting)),
+      )
+      | inr none ↦ by none (stands.stand i (OverAll o) has)
+    ]
+      where
+        e : (e : Sweep × Swept (Node K V)) × Steps Took value_at w.memory (sweep_plan s.hash o.sweep) m2 e × ((machine, progress.Waits) ≡ machines.swept e)
+        e = steps_back machines.swept w.memory m2 (sweep_plan s.hash o.sweep) (machine, progress.Waits) st
+
+        machine_is : machine ≡ kinds.Sweep e.0.0
+        machine_is = ap (λ (x : Machine K V Q × Progress (Node K V)). x.0) e.2
+
+        waiting : Steps Took value_at w.memory (sweep_plan s.hash o.sweep) m2 (e.0.0, swept.Waits)
+        waiting = subst (λ (x : Swept (Node K V)). Steps Took value_at w.memory (sweep_plan s.hash o.sweep) m2 (e.0.0, x))
+            (swept_waits e.0.1 (sym (ap (λ (x : Machine K V Q × Progress (Node K V)). x.1) e.2))) e.1
+
+        StandsSo : Type 0
+        StandsSo = Stands V same s.hash asks s.setting slot w s.chart (seen_by s.blocks (s.sights (slot i))) i (OverAll o)
+
+        its_row : StandsSo → (w.row i ≡ Rests) ⊎ (w.row i ≡ waits.row_of_sweep (slot i) o.sweep.stands)
+        its_row (inl h) = inl h.0
+        its_row (inr h) = inr (h.0 ∙ sym (same_row (slot i) o.sweep.stands))
+
+        by : (IsRowOfSweep o.sweep.stands → ⊥) → StandsSo → Reason (OverAll o)
+        by none (inl h) =
+            let a = laws.sweeps_wait_for_a_copying V same s.hash lawful (in_slot s.setting (slot i)) w i s.chart (seen_by s.blocks (s.sights (slot i))) o.began o.sweep
+            (map_of V same s.hash asks s.setting slot w s.chart s.blocks s.sights (calls m) stands i (OverAll o) has) h.1.facts none m2 e.0.0 waiting in
+            (machine_is ∙ ap kinds.Sweep a.0, inl a.1)
+        by none (inr h) = absurd (none h.1)
+
+    -- a counting never waits
+    at_sum : (sum : Sum) → calls m i ≡ Some (Counting sum) → Steps' (Counting sum) → Reason (Counting sum)
+    at_sum sum has st =
+        let e = steps_back machines.counted w.memory m2 (sum_plan sum) (machine, progress.Waits) st in
+        absurd (((countings_stand_together same s.hash asks s.setting slot w s.chart s.blocks s.sights (calls m) stands i sum has).1 m2 e.0.0 e.0.1 e.1).1
+        (counted_waits {T = Node K V} e.0.1 (sym (ap (λ (x : Machine K V Q × Progress (Node K V)). x.1) e.2))))
+
+    reason : (u : UnderWay K V Q) → calls m i ≡ Some u → Steps' u → Reason u
+    reason (OnKey u) has st = at_key u has st
+    reason (ForRoom r) has st = at_room r has st
+    reason (Counting sum) has st = at_sum sum has st
+    reason (OverAll o) has st = at_sweep o has st
+
+  pub steps_wait : StepsWait V same asks batch_size roots slot
+  steps_wait w maps calls makers enders all m s here i u has m2 machine st = reason w maps calls makers enders all m s here i m2 machine u has st

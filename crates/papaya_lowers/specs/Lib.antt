@@ -1,0 +1,4 @@
+pub mod Numbers
+pub mod Lowers
+pub mod Waits
+pub mod Looks
