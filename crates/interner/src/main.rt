@@ -38,7 +38,7 @@ fn in_numbers(numbers: &mut Numbers, alloc: Global, line: &str) -> io::Result<St
         if !text.is_empty() {
             text.push(' ')?;
         }
-        let number = intern(numbers, alloc, word).map_err(|fault| io::Error::other(fault.name()))?;
+        let number = intern(numbers, alloc, word)?;
         text.push_str(number.to_string(alloc)?.as_str())?;
     }
     Ok(text)
@@ -69,6 +69,6 @@ fn run<R: Input + Print>(rt: &R, alloc: Global, numbers: &mut Numbers) -> io::Re
 }
 
 fn main(rt: HostRuntime) -> io::Result<()> {
-    let mut numbers = Numbers::new(rt.alloc()).map_err(|fault| io::Error::other(fault.name()))?;
+    let mut numbers = Numbers::new(rt.alloc())?;
     run(&rt, rt.alloc(), &mut numbers)
 }

@@ -67,7 +67,7 @@ fn print_numbers<R: Input + Print>(rt: &R, alloc: Global, memo: &mut Memo) -> io
 {
     for line in rt.lines(alloc) {
         let n = place(line?.as_str())?;
-        let number = fibonacci(memo, n).map_err(|fault| io::Error::other(fault.name()))?;
+        let number = fibonacci(memo, n)?;
         println!(rt; "{n}: {number}")?;
     }
     println!(rt; "{} known", memo.len())?;
@@ -75,6 +75,6 @@ fn print_numbers<R: Input + Print>(rt: &R, alloc: Global, memo: &mut Memo) -> io
 }
 
 fn main(rt: HostRuntime) -> io::Result<()> {
-    let mut memo = Memo::new(rt.alloc()).map_err(|fault| io::Error::other(fault.name()))?;
+    let mut memo = Memo::new(rt.alloc())?;
     print_numbers(&rt, rt.alloc(), &mut memo)
 }

@@ -45,7 +45,7 @@ fn read<R: Input>(rt: &R, alloc: Global, counts: &mut Counts) -> io::Result<Vec<
             match count(counts, alloc, word) {
                 Ok(1) => words.push(String::from_str(alloc, word)?)?,
                 Ok(_) => {}
-                Err(fault) => return Err(io::Error::other(fault.name())),
+                Err(fault) => return Err(fault.into()),
             }
         }
     }
@@ -68,6 +68,6 @@ fn run<R: Input + Print>(rt: &R, alloc: Global, counts: &mut Counts) -> io::Resu
 }
 
 fn main(rt: HostRuntime) -> io::Result<()> {
-    let mut counts = Counts::new(rt.alloc()).map_err(|fault| io::Error::other(fault.name()))?;
+    let mut counts = Counts::new(rt.alloc())?;
     run(&rt, rt.alloc(), &mut counts)
 }
