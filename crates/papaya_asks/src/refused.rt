@@ -1,4 +1,5 @@
 //! What a call on a key hands back where it was refused.
+ghost use Rattle.std.specs.Prelude.{◌≡◌};
 
 use seize_words::Fault;
 
@@ -20,4 +21,20 @@ pub struct Refused<K, V> {
     pub key: K,
     /// The value.
     pub value: V,
+}
+
+impl<K: Drop> From<RefusedKey<K>> for Fault {
+    ghost from_gives = { λ refused fault. fault ≡ refused.fault };
+
+    fn from(refused: RefusedKey<K>) -> Fault {
+        refused.fault
+    }
+}
+
+impl<K: Drop, V: Drop> From<Refused<K, V>> for Fault {
+    ghost from_gives = { λ refused fault. fault ≡ refused.fault };
+
+    fn from(refused: Refused<K, V>) -> Fault {
+        refused.fault
+    }
 }
