@@ -108,6 +108,17 @@ def stepped(lines):
         left -= 64
 
 
+def begun(lines):
+    """Half of the lines begin calls that store distinct keys, all of which are under way at once, under one guard; then each is told to go on, in the order of their coming."""
+    yield from BEGIN
+    yield "enter g a"
+    calls = (lines - 3) // 2
+    for call in range(calls):
+        yield f"begin c{call} g m insert {call} v{call}"
+    for call in range(calls):
+        yield f"go c{call}"
+
+
 KINDS = {
     "stored": stored,
     "replaced": replaced,
@@ -115,6 +126,7 @@ KINDS = {
     "looked up": looked_up,
     "crowded": crowded,
     "stepped": stepped,
+    "begun": begun,
 }
 
 

@@ -41,7 +41,7 @@ use Rattle.papaya_folded.proofs.Given.Logged.ReclaimsRun.{same_setting}
 use Rattle.papaya_scheduler.specs.AllWorks.{WorksOnAll}
 use Rattle.papaya_scheduler.specs.Played.{IsPlayed, entry_of}
 use Rattle.papaya_scheduler.specs.Reclaiming.{MayGiveAll, are_gone}
-use Rattle.papaya_folded.specs.Given.Named.declared.caller.Callers.{Callers}
+use Rattle.papaya_folded.specs.Given.Named.declared.caller.Caller.{Caller}
 use Rattle.papaya_scheduler.specs.declared.played.Played.{Played}
 use Rattle.papaya_scheduler.specs.declared.scheduler.Scheduler.{Scheduler}
 use Rattle.papaya_mapping.proofs.AllGiven.{may_reclaim, nobody_has}
@@ -132,7 +132,7 @@ module _ {K V S : Type 0} (same : K → K → Bool) (hash : K → ℕ) (terms : 
   KeepsAs e = IsPlayed same hash terms (e ∷ log) new → ComesRight terms log e → Keeps e
 
   -- its steps have come to their end
-  module _ (calls : new.calls ≡ old.calls) (gone : are_gone old.there old.calls.items.items ≡ true) (ran : ReclaimingGone taken [] played.effects.items old.logged new.logged) where
+  module _ (calls : new.calls ≡ old.calls) (gone : are_gone old.there old.calls ≡ true) (ran : ReclaimingGone taken [] played.effects.items old.logged new.logged) where
     abbrev e : Entry K V
     e = entry event Done played.steps played.effects.items
 
@@ -196,8 +196,8 @@ module _ {K V S : Type 0} (same : K → K → Bool) (hash : K → ℕ) (terms : 
     there : IsAt same hash new.logged.executor last_scene
     there = over_there same hash terms 0 mid end y.now y.scene y.lists y.under_way y.roots ran.5 done
 
-    named : AreNamed name new.calls.items.items
-    named = subst (λ (c : Callers V). AreNamed name c.items.items) (sym calls) (its_named same hash terms m old run.stands)
+    named : AreNamed name new.calls
+    named = subst (λ (cs : List (Caller V)). AreNamed name cs) (sym calls) (its_named same hash terms m old run.stands)
 
     -- each map stands as it stood
     stood : (k : ℕ) → slice_index_or new.logged.executor.maps.items k None ≡ slice_index_or old.logged.executor.maps.items k None
@@ -215,10 +215,10 @@ module _ {K V S : Type 0} (same : K → K → Bool) (hash : K → ℕ) (terms : 
         by r (inl root) = inl (inl root)
         by r (inr free) = inr free
 
-    values : HaveValues (moment (e ∷ log)) last_scene new.calls.items.items
+    values : HaveValues (moment (e ∷ log)) last_scene new.calls
     values =
-        subst (λ (c : Callers V). HaveValues (moment (e ∷ log)) last_scene c.items.items) (sym calls)
-        (have_values_then m (moment (e ∷ log)) (nobody_says e m (busy_still log s.world event of_all 0).no_call) s last_scene y.calls old.calls.items.items run.values)
+        subst (λ (cs : List (Caller V)). HaveValues (moment (e ∷ log)) last_scene cs) (sym calls)
+        (have_values_then m (moment (e ∷ log)) (nobody_says e m (busy_still log s.world event of_all 0).no_call) s last_scene y.calls old.calls run.values)
 
     -- no bucket of slots is forgotten
     grows : (known old.logged.notes).buckets ≤ (known new.logged.notes).buckets

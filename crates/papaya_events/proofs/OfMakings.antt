@@ -254,7 +254,7 @@ module _ {K V S : Type 0} (same : K → K → Bool) (hash : K → ℕ) (terms : 
     named_so =
         ap (option_map (λ (f : MapThere). f.number)) (found_last (λ (f : MapThere). is_same f.name own) m.maps there (none_named (map_of own m) refl) (same_refl own)) ∙ ap Some (sym map_is)
       where
-        none_by : (o : Option ℕ) → number_named own old.maps.items ≡ o → o ≡ None
+        none_by : (o : Option ℕ) → number_named own old.maps ≡ o → o ≡ None
         none_by None is = refl
         none_by (Some n) is = absurd (let had = sym (ap is_none is) ∙ d.free in cc had)
 
@@ -262,7 +262,7 @@ module _ {K V S : Type 0} (same : K → K → Bool) (hash : K → ℕ) (terms : 
         none_named None is = is
         none_named (Some f) is = absurd (
             let some = sym (number_is same hash terms m old run.stands own) ∙ ap (option_map (λ (g : MapThere). g.number)) is in
-            let none = none_by (number_named own old.maps.items) refl in
+            let none = none_by (number_named own old.maps) refl in
             cc (some, none))
 
     -- it has its table

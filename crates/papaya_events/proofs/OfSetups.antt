@@ -134,7 +134,7 @@ module _ {K V S : Type 0} (same : K → K → Bool) (hash : K → ℕ) (terms : 
         stands = stands_in same hash terms (moment (e ∷ log)) chosen after name s shown_then (its_named same hash terms (moment log) old run.stands);
         shows = it.1;
         come = events_bring_things K V terms log e run.come it.0.life.finds;
-        values = have_values_then (moment log) (moment (e ∷ log)) (nobody_says e (moment log) refl) run.stands.scene s refl old.calls.items.items run.values;
+        values = have_values_then (moment log) (moment (e ∷ log)) (nobody_says e (moment log) refl) run.stands.scene s refl old.calls run.values;
         taken = run.taken;
         size = run.size;
         shards = run.shards;

@@ -66,7 +66,7 @@ module _ {K V S : Type 0} (same : K → K → Bool) (hash : K → ℕ) (terms : 
   StandsNamed z = (standing : Standing K) × (t.maps z.1 ≡ Some standing)
 
   all_stand : AllStand m t
-  all_stand = all_back named StandsNamed m.maps (subst (AllByRecursion StandsNamed) (sym plays.maps.listed) (all_seen named_of StandsNamed p.maps.items plays.maps.stand))
+  all_stand = all_back named StandsNamed m.maps (subst (AllByRecursion StandsNamed) (sym plays.maps.listed) (all_seen named_of StandsNamed p.maps plays.maps.stand))
 
   -- so roots are taken as the moment says, and what is behind them may all be reclaimed, where each map is found by its number
   module _ (found : AreFound m) where

@@ -62,7 +62,7 @@ module _ {K V S : Type 0} (same : K → K → Bool) (hash : K → ℕ) where
     pub stands : IsPlayed same hash terms log p
     pub shows : ShowsRun same stands.name terms log (known p.logged.notes) stands.scene
     pub come : HaveCome (things_in log) (moment log)
-    pub values : HaveValues (moment log) stands.scene p.calls.items.items
+    pub values : HaveValues (moment log) stands.scene p.calls
     pub taken : SlotsTaken stands.scene.world.memory (moment log).slots
     pub size : p.logged.executor.batch_size ≡ terms.batch_size
     pub shards : HaveShards terms p.logged.executor

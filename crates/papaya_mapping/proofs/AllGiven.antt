@@ -68,20 +68,20 @@ module _ {K V S : Type 0} (same : K → K → Bool) (hash : K → ℕ) (terms : 
   abbrev s : Scene K V
   s = stands.scene
 
-  pub gone_is : is_left m ≡ are_gone p.there p.calls.items.items
+  pub gone_is : is_left m ≡ are_gone p.there p.calls
   gone_is =
       ap (λ (x : Present). is_empty x.registrations && all_forgotten x.guards && is_empty m.calls) stands.there
       ∙ ap (λ (q : Bool). q && all_forgotten p.there.guards && is_empty m.calls) (empty_is p.there.registrations)
-      ∙ ap (λ (q : Bool). (length p.there.registrations == 0) && all_forgotten p.there.guards && q) (empty_alike seen seen_of m.calls p.calls.items.items stands.calls.listed)
+      ∙ ap (λ (q : Bool). (length p.there.registrations == 0) && all_forgotten p.there.guards && q) (empty_alike seen seen_of m.calls p.calls stands.calls.listed)
 
-  pub no_maps : is_empty m.maps ≡ (length p.maps.items == 0)
-  no_maps = empty_alike named named_of m.maps p.maps.items stands.maps.listed
+  pub no_maps : is_empty m.maps ≡ (length p.maps == 0)
+  no_maps = empty_alike named named_of m.maps p.maps stands.maps.listed
 
-  module _ (gone : are_gone p.there p.calls.items.items ≡ true) where
-    no_callers : p.calls.items.items ≡ []
+  module _ (gone : are_gone p.there p.calls ≡ true) where
+    no_callers : p.calls ≡ []
     no_callers =
-        none_in p.calls.items.items
-        (both_true ((length p.there.registrations == 0) && all_forgotten p.there.guards) (length p.calls.items.items == 0) gone).1
+        none_in p.calls
+        (both_true ((length p.there.registrations == 0) && all_forgotten p.there.guards) (length p.calls == 0) gone).1
 
     none_called : (n i : ℕ) (o : Option (UnderWay K V K)) → s.calls n i ≡ o → s.calls n i ≡ None
     none_called n i None e = e
@@ -162,7 +162,7 @@ module _ {K V S : Type 0} (same : K → K → Bool) (hash : K → ℕ) (terms : 
             };
             maps = record {
               listed = maps_named None None ran.0 m ∙ stands.maps.listed;
-              stand = all_so (λ t. (standing : Standing K) × (s.maps t.number ≡ Some standing)) (λ t. (standing : Standing K) × (s2.maps t.number ≡ Some standing)) stands_still p.maps.items stands.maps.stand;
+              stand = all_so (λ t. (standing : Standing K) × (s.maps t.number ≡ Some standing)) (λ t. (standing : Standing K) × (s2.maps t.number ≡ Some standing)) stands_still p.maps stands.maps.stand;
             };
             slots = λ t. used_once (use_at new.executor t) used.Vacant (s2.world.uses t) (u.3.is_at.uses t) (u.2.nothing.2 t);
             rests = λ j none.
@@ -177,13 +177,13 @@ module _ {K V S : Type 0} (same : K → K → Bool) (hash : K → ℕ) (terms : 
   now = moment log
 
   module _ (due : IsDue same hash terms log ReclaimAll p) where
-    pub not_left : are_gone p.there p.calls.items.items ≡ false → Plays same hash terms log (quiet ReclaimAll (Refused Busy)) p
+    pub not_left : are_gone p.there p.calls ≡ false → Plays same hash terms log (quiet ReclaimAll (Refused Busy)) p
     not_left there =
         let e = quiet ReclaimAll (Refused Busy) in
         plays same hash terms log ReclaimAll p due e refl (out_of_turn IsDone (is_left now) (Refused Busy) (gone_is same hash terms now p due.played ∙ there) refl)
         (stands_on same hash terms now p due.played (now.events + 1) (now.is_alone && is_alone_on e now) now.slots now.sheltered)
 
-    module _ (gone : are_gone p.there p.calls.items.items ≡ true) (may : MayGiveAll p due.played.scene) (new : Logged K V S) (before after : List Effect) (empty : before ≡ [])
+    module _ (gone : are_gone p.there p.calls ≡ true) (may : MayGiveAll p due.played.scene) (new : Logged K V S) (before after : List Effect) (empty : before ≡ [])
         (ran : ReclaimingRan (nat_lt 0 (known p.logged.notes).buckets) before after p.logged new) (roots : new.executor.roots ≡ p.logged.executor.roots) where
       pub all_reclaimed : (p2 : Scheduler K V S) → p2 ≡ record p { logged = new; there = nobody } → Plays same hash terms log (entry ReclaimAll Done 0 after) p2
       all_reclaimed p2 is =
@@ -197,21 +197,21 @@ module _ {K V S : Type 0} (same : K → K → Bool) (hash : K → ℕ) (terms : 
     abbrev turn : Bool
     turn = is_left now && is_empty now.maps
 
-    turn_is : turn ≡ (are_gone p.there p.calls.items.items && (length p.maps.items == 0))
-    turn_is = ap (λ (q : Bool). q && is_empty now.maps) (gone_is same hash terms now p due.played) ∙ ap (λ (q : Bool). are_gone p.there p.calls.items.items && q) (no_maps same hash terms now p due.played)
+    turn_is : turn ≡ (are_gone p.there p.calls && (length p.maps == 0))
+    turn_is = ap (λ (q : Bool). q && is_empty now.maps) (gone_is same hash terms now p due.played) ∙ ap (λ (q : Bool). are_gone p.there p.calls && q) (no_maps same hash terms now p due.played)
 
-    pub not_closed : (are_gone p.there p.calls.items.items && (length p.maps.items == 0)) ≡ false → Plays same hash terms log (quiet Close (Refused Busy)) p
+    pub not_closed : (are_gone p.there p.calls && (length p.maps == 0)) ≡ false → Plays same hash terms log (quiet Close (Refused Busy)) p
     not_closed out =
         let e = quiet Close (Refused Busy) in
         plays same hash terms log Close p due e refl (out_of_turn IsDone turn (Refused Busy) (turn_is ∙ out) refl)
         (stands_on same hash terms now p due.played (now.events + 1) (now.is_alone && is_alone_on e now) now.slots now.sheltered)
 
-    module _ (gone : are_gone p.there p.calls.items.items ≡ true) (none : (length p.maps.items == 0) ≡ true) (may : MayGiveAll p due.played.scene) (new : Logged K V S) (before after : List Effect)
+    module _ (gone : are_gone p.there p.calls ≡ true) (none : (length p.maps == 0) ≡ true) (may : MayGiveAll p due.played.scene) (new : Logged K V S) (before after : List Effect)
         (empty : before ≡ []) (ran : ReclaimingRan (nat_lt 0 (known p.logged.notes).buckets) before after p.logged new) (roots : new.executor.roots ≡ p.logged.executor.roots) where
       pub has_closed : (p2 : Scheduler K V S) → p2 ≡ record p { logged = new; there = nobody; is_closed = true } → Plays same hash terms log (entry Close Done 0 after) p2
       has_closed p2 is =
           let e = entry Close Done 0 after in
-          plays same hash terms log Close p2 due e refl (in_turn IsDone turn Done (turn_is ∙ ap (λ (q : Bool). q && (length p.maps.items == 0)) gone ∙ none) refl)
+          plays same hash terms log Close p2 due e refl (in_turn IsDone turn Done (turn_is ∙ ap (λ (q : Bool). q && (length p.maps == 0)) gone ∙ none) refl)
           (stands_then same hash terms now p due.played gone may.lists (nat_lt 0 (known p.logged.notes).buckets) (may_reclaim same hash terms now p due.played gone may) new before after empty ran roots
           (now.events + 1) true (now.is_alone && is_alone_on e now) p2 (is ∙ ap (λ (b : Bool). record p { logged = new; there = nobody; is_closed = b }) (sym (ap (λ (x : Scheduler K V S). x.is_closed) is)))
           (sym (ap (λ (x : Scheduler K V S). x.is_closed) is)))

@@ -18,7 +18,7 @@ module _ {K V S : Type 0} (old : Scheduler K V S) (played : Played V) where
   did_wait is none = (refl, inl (is, (none, refl)))
 
   -- or all was reclaimed
-  pub did_all : (new : Scheduler K V S) → new.calls ≡ old.calls → played.outcome ≡ Done → are_gone old.there old.calls.items.items ≡ true → (before after : List Effect) → before ≡ []
+  pub did_all : (new : Scheduler K V S) → new.calls ≡ old.calls → played.outcome ≡ Done → are_gone old.there old.calls ≡ true → (before after : List Effect) → before ≡ []
       → played.effects.items ≡ after → (q : Logged K V S) → new.logged ≡ q → ReclaimingGone (nat_lt 0 (known old.logged.notes).buckets) before after old.logged q → WorksOnAll played old new
   did_all new calls done gone before after nothing effects q is ran = (
     calls,

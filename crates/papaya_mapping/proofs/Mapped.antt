@@ -31,7 +31,7 @@ module _ {K V S : Type 0} (same : K → K → Bool) (hash : K → ℕ) (terms : 
   same_calls n i = ap (λ (f : ℕ → ℕ → Option (UnderWay K V K)). f n i) calls
 
   module _ (p2 : Scheduler K V S) (is : p2 ≡ record p { logged = new; maps = p2.maps; is_mapped = p2.is_mapped }) where
-    pub stands_mapped : (is_mapped : Bool) → is_mapped ≡ p2.is_mapped → map named w.maps ≡ map named_of p2.maps.items → AllByRecursion Stands p2.maps.items → (there : Present) → there ≡ p.there
+    pub stands_mapped : (is_mapped : Bool) → is_mapped ≡ p2.is_mapped → map named w.maps ≡ map named_of p2.maps → AllByRecursion Stands p2.maps → (there : Present) → there ≡ p.there
         → (events : ℕ) (is_alone : Bool) (slots : ℕ) (sheltered : List Sheltered) (remains : List Remains) → remains ≡ w.remains
         → StandsFor same hash terms (elsewhere events is_mapped m.is_closed is_alone there slots sheltered remains w) p2
     stands_mapped is_mapped mapped listed stand there same_there events is_alone slots sheltered remains alike =
@@ -52,7 +52,7 @@ module _ {K V S : Type 0} (same : K → K → Bool) (hash : K → ℕ) (terms : 
             listed = ap (λ (l : List (CallThere K V)). map seen l) no_call ∙ c.listed;
             once = c.once;
             each = all_so (IsUnderWay stands.name stands.scene p.there) (IsUnderWay stands.name s2 p.there)
-                (λ d way. (way.0, same_calls d.map d.number ∙ way.1, way.2, way.3, way.4)) p.calls.items.items c.each;
+                (λ d way. (way.0, same_calls d.map d.number ∙ way.1, way.2, way.3, way.4)) p.calls c.each;
             only = λ n i u is. c.only n i u (sym (same_calls n i) ∙ is);
           };
           maps = record { listed = listed; stand = stand };

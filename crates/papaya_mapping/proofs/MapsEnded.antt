@@ -102,35 +102,35 @@ module _ {K V S : Type 0} (same : K → K → Bool) (hash : K → ℕ) (terms : 
       (stands_on same hash terms m p stands (m.events + 1) (m.is_alone && is_alone_on e m) m.slots m.sheltered)
 
   -- it is not there
-  pub not_there : number_named own p.maps.items ≡ None → Plays same hash terms log (quiet (EndMap own) (Refused Busy)) p
+  pub not_there : number_named own p.maps ≡ None → Plays same hash terms log (quiet (EndMap own) (Refused Busy)) p
   not_there none = busy (ap (λ (q : Bool). q && not (is_called (number_of own m) m)) (map_some same hash terms m p stands own ∙ ap is_some none))
 
-  module _ (number : ℕ) (found : number_named own p.maps.items ≡ Some number) where
-    called_is : is_called (number_of own m) m ≡ list_any (λ d. d.map == number) p.calls.items.items
+  module _ (number : ℕ) (found : number_named own p.maps ≡ Some number) where
+    called_is : is_called (number_of own m) m ≡ list_any (λ d. d.map == number) p.calls
     called_is =
         ap (λ (o : Option ℕ). is_called o m) (number_is same hash terms m p stands own ∙ found)
-        ∙ any_alike seen seen_of m.calls p.calls.items.items stands.calls.listed (λ z. z.map == number)
+        ∙ any_alike seen seen_of m.calls p.calls stands.calls.listed (λ z. z.map == number)
 
     there_is : is_some (map_of own m) ≡ true
     there_is = map_some same hash terms m p stands own ∙ ap is_some found
 
     -- a call is on it
-    pub has_calls : list_any (λ d. d.map == number) p.calls.items.items ≡ true → Plays same hash terms log (quiet (EndMap own) (Refused Busy)) p
+    pub has_calls : list_any (λ d. d.map == number) p.calls ≡ true → Plays same hash terms log (quiet (EndMap own) (Refused Busy)) p
     has_calls some = busy (ap (λ (q : Bool). q && not (is_called (number_of own m) m)) there_is ∙ ap not (called_is ∙ some))
 
-    module _ (none : list_any (λ d. d.map == number) p.calls.items.items ≡ false) where
+    module _ (none : list_any (λ d. d.map == number) p.calls ≡ false) where
       in_its_turn : turn ≡ true
       in_its_turn = ap (λ (q : Bool). q && not (is_called (number_of own m) m)) there_is ∙ ap not (called_is ∙ none)
 
-      apart : AllByRecursion (λ d. (d.map == number) ≡ false) p.calls.items.items
+      apart : AllByRecursion (λ d. (d.map == number) ≡ false) p.calls
       apart =
-          all_but (λ d. Unit {0}) (λ d. (d.map == number) ≡ false) (λ d. d.map == number) (λ d e it. e) p.calls.items.items none
-          (all_so (IsUnderWay stands.name s p.there) (λ d. Unit {0}) (λ d way. tt) p.calls.items.items stands.calls.each)
+          all_but (λ d. Unit {0}) (λ d. (d.map == number) ≡ false) (λ d. d.map == number) (λ d e it. e) p.calls none
+          (all_so (IsUnderWay stands.name s p.there) (λ d. Unit {0}) (λ d way. tt) p.calls stands.calls.each)
 
       no_call_there : (j : ℕ) (o : Option (UnderWay K V K)) → s.calls number j ≡ o → s.calls number j ≡ None
       no_call_there j None e = e
       no_call_there j (Some u) e =
-          let d = one_of (λ d. (d.map == number) ≡ false) (λ d. (d.map == number) && (d.number == j)) p.calls.items.items (stands.calls.only number j u e) apart in
+          let d = one_of (λ d. (d.map == number) ≡ false) (λ d. (d.map == number) && (d.number == j)) p.calls (stands.calls.only number j u e) apart in
           absurd (let one = (both_true (d.0.map == number) (d.0.number == j) d.2).0 in let none = d.1 in cc (one, none))
 
       pub no_call : NoCallOn p.logged.executor number
@@ -213,9 +213,9 @@ module _ {K V S : Type 0} (same : K → K → Bool) (hash : K → ℕ) (terms : 
               let one : its.0 ≡ f = cc both in
               sym (ap (λ (x : MapThere). is_same x.name own) one) ∙ found_passes (λ f. is_same f.name own) m.maps its.0 its.1
 
-          all_apart : AllByRecursion (λ t. IsApart (named_of t)) p.maps.items
+          all_apart : AllByRecursion (λ t. IsApart (named_of t)) p.maps
           all_apart =
-              all_back named_of IsApart p.maps.items
+              all_back named_of IsApart p.maps
               (subst (AllByRecursion IsApart) stands.maps.listed
               (all_seen named IsApart m.maps (all_so (λ f. map_at f.number m ≡ Some f) (λ f. IsApart (named f)) one_named m.maps (by_recursion (λ f. map_at f.number m ≡ Some f) m.maps are.numbers.found))))
 
@@ -333,18 +333,18 @@ module _ {K V S : Type 0} (same : K → K → Bool) (hash : K → ℕ) (terms : 
               elsewhere (m.events + 1) m.is_mapped m.is_closed (m.is_alone && is_alone_on e m) x.there m.slots x.sheltered left (without_map own left x)
 
           pub ended : (p2 : Scheduler K V S) → p2 ≡ record p { logged = new; maps = p2.maps; is_mapped = p2.is_mapped } → p2.is_mapped ≡ p.is_mapped
-              → p2.maps.items ≡ filter (λ t. not (is_same t.name own)) p.maps.items → Plays same hash terms log (entry (EndMap own) Done 0 after) p2
+              → p2.maps ≡ filter (λ t. not (is_same t.name own)) p.maps → Plays same hash terms log (entry (EndMap own) Done 0 after) p2
           ended p2 is mapped kept =
               plays same hash terms log (EndMap own) p2 due e refl (in_turn IsDone turn Done in_its_turn refl)
               (subst (λ (x : Option ℕ). StandsFor same hash terms (Then x after) p2) (sym acts_on)
               (subst (λ (xs : List Effect). StandsFor same hash terms (Then (Some number) xs) p2) (sym did_is)
               (stands_mapped same hash terms m p stands new w s2 shown_then u.2.calls u.2.rows u.2.uses (λ j none_there. ap (λ (g : ℕ → Option (Beginning K)). g j) u.2.makers ∙ none_there) enders_then
               (calls_none (Some number) ran.0 m) p2 is m.is_mapped (stands.mapped ∙ sym mapped)
-              (kept_map named keeps v.maps ∙ ap (λ (ms : List MapThere). filter keeps (map named ms)) same_maps ∙ ap (filter keeps) stands.maps.listed ∙ sym (kept_map named_of keeps p.maps.items)
+              (kept_map named keeps v.maps ∙ ap (λ (ms : List MapThere). filter keeps (map named ms)) same_maps ∙ ap (filter keeps) stands.maps.listed ∙ sym (kept_map named_of keeps p.maps)
               ∙ ap (map named_of) (sym kept))
               (subst (AllByRecursion (λ t. (standing : Standing K) × (s2.maps t.number ≡ Some standing))) (sym kept)
               (kept_of (λ t. (standing : Standing K) × (s.maps t.number ≡ Some standing)) (λ t. IsApart (named_of t)) (λ t. (standing : Standing K) × (s2.maps t.number ≡ Some standing))
-              (λ t. not (is_same t.name own)) stands_still p.maps.items stands.maps.stand all_apart))
+              (λ t. not (is_same t.name own)) stands_still p.maps stands.maps.stand all_apart))
               v.there (there_stays None (Some number) ran.0 m ∙ stands.there) (m.events + 1) (m.is_alone && is_alone_on e m) m.slots v.sheltered left refl)))
             where
               stands_still : (t : NamedMap) → not (is_same t.name own) ≡ true → ((standing : Standing K) × (s.maps t.number ≡ Some standing)) → IsApart (named_of t)

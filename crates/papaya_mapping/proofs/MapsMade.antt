@@ -100,17 +100,17 @@ module _ {K V S : Type 0} (same : K → K → Bool) (hash : K → ℕ) (terms : 
   roots_are : terms.roots ≡ p.logged.executor.roots
   roots_are = sym (ap (λ (t : Terms). t.roots) stands.given) ∙ sym counts.roots
 
-  may_make_is : is_none (map_of own m) ≡ is_none (number_named own p.maps.items)
+  may_make_is : is_none (map_of own m) ≡ is_none (number_named own p.maps)
   may_make_is = ap not (map_some same hash terms m p stands own)
 
   module _ (none : map_fault mode capacity ≡ None) where
     faultless : (did : List Effect) (o : Outcome V) → InTurn (is_none (map_of own m)) (Wanted did) o → Comes did o (map_fault mode capacity)
     faultless did o turn = subst (Comes did o) (sym none) turn
 
-    pub not_now : is_none (number_named own p.maps.items) ≡ false → Plays same hash terms log (quiet event (Refused Busy)) p1
+    pub not_now : is_none (number_named own p.maps) ≡ false → Plays same hash terms log (quiet event (Refused Busy)) p1
     not_now out = refused Busy (faultless [] (Refused Busy) (out_of_turn (Wanted []) (is_none (map_of own m)) (Refused Busy) (may_make_is ∙ out) refl))
 
-    module _ (in_its_turn : is_none (number_named own p.maps.items) ≡ true) where
+    module _ (in_its_turn : is_none (number_named own p.maps) ≡ true) where
       turns : (did : List Effect) (o : Outcome V) → Wanted did o → Comes did o (map_fault mode capacity)
       turns did o so = faultless did o (in_turn (Wanted did) (is_none (map_of own m)) o (may_make_is ∙ in_its_turn) so)
 
@@ -223,7 +223,7 @@ module _ {K V S : Type 0} (same : K → K → Bool) (hash : K → ℕ) (terms : 
                 let x = with_effects None (number_of own m) did m in
                 elsewhere (m.events + 1) true m.is_closed (m.is_alone && is_alone_on refusal m) x.there m.slots x.sheltered m.remains x
 
-            pub not_made : (p2 : Scheduler K V S) → p2 ≡ record p { logged = new; maps = p2.maps; is_mapped = p2.is_mapped } → p2.is_mapped ≡ true → p2.maps.items ≡ p.maps.items
+            pub not_made : (p2 : Scheduler K V S) → p2 ≡ record p { logged = new; maps = p2.maps; is_mapped = p2.is_mapped } → p2.is_mapped ≡ true → p2.maps ≡ p.maps
                 → Plays same hash terms log (entry event (Refused fault) 0 after) p2
             not_made p2 is mapped kept =
                 plays same hash terms log event p2 may.due refusal refl (turns after (Refused fault) (right_by fault (found no_map new before after empty ran finds)))
@@ -233,7 +233,7 @@ module _ {K V S : Type 0} (same : K → K → Bool) (hash : K → ℕ) (terms : 
                 (maps_named None (number_of own m) ran.0 m ∙ stands.maps.listed ∙ ap (map named_of) (sym kept))
                 (subst (AllByRecursion (λ t. (standing : Standing K) × (went.0.maps t.number ≡ Some standing))) (sym kept)
                 (all_so (λ t. (standing : Standing K) × (s.maps t.number ≡ Some standing)) (λ t. (standing : Standing K) × (went.0.maps t.number ≡ Some standing))
-                (λ t st. (st.0, ap (λ (g : ℕ → Option (Standing K)). g t.number) went.1.maps ∙ st.1)) p.maps.items stands.maps.stand))
+                (λ t st. (st.0, ap (λ (g : ℕ → Option (Standing K)). g t.number) went.1.maps ∙ st.1)) p.maps stands.maps.stand))
                 (with_effects None (number_of own m) ran.0 m).there (there_stays None (number_of own m) ran.0 m ∙ stands.there) (m.events + 1) (m.is_alone && is_alone_on refusal m) m.slots
                 (with_effects None (number_of own m) ran.0 m).sheltered m.remains (sym (remains_stay None (number_of own m) ran.0 m))))
 
@@ -295,16 +295,16 @@ module _ {K V S : Type 0} (same : K → K → Bool) (hash : K → ℕ) (terms : 
                 (st.0, u.1.maps.others t.number (λ one. (let gone = ap s.maps one ∙ shown_mid.is_at.together.makings.coming i b here in let is = st.1 in cc (gone, is))) ∙ st.1)
 
             pub made : (p2 : Scheduler K V S) → p2 ≡ record p { logged = new; maps = p2.maps; is_mapped = p2.is_mapped } → p2.is_mapped ≡ true
-                → p2.maps.items ≡ p.maps.items ++ record { name = own; number = number } ∷ [] → Plays same hash terms log (entry event Done 0 after) p2
+                → p2.maps ≡ p.maps ++ record { name = own; number = number } ∷ [] → Plays same hash terms log (entry event Done 0 after) p2
             made p2 is mapped kept =
                 plays same hash terms log event p2 may.due e refl (turns after Done (one_free after Done setting.root its_root.0 (inl refl)))
                 (subst (λ (xs : List Effect). StandsFor same hash terms (Then xs) p2) (sym (did_is told new before after empty ran finds))
                 (stands_mapped same hash terms m p stands new v u.0 u.2 u.1.calls u.1.rows u.1.uses (makers_then told new before after empty ran finds u.0 u.1 u.1.maker)
                 (enders_then told new before after empty ran finds u.0 u.1 u.1.maker) (calls_none of ran.0 bm) p2 is true (sym mapped)
                 (maps_named None of ran.0 bm ∙ map-append named m.maps (there ∷ []) ∙ ap (λ (zs : List (List ℕ × ℕ)). zs ++ (own, m.made) ∷ []) stands.maps.listed
-                ∙ ap (λ (n : ℕ). map named_of p.maps.items ++ (own, n) ∷ []) (sym is_next) ∙ sym (map-append named_of p.maps.items (record { name = own; number = number } ∷ [])) ∙ ap (map named_of) (sym kept))
+                ∙ ap (λ (n : ℕ). map named_of p.maps ++ (own, n) ∷ []) (sym is_next) ∙ sym (map-append named_of p.maps (record { name = own; number = number } ∷ [])) ∙ ap (map named_of) (sym kept))
                 (subst (AllByRecursion (λ t. (standing : Standing K) × (u.0.maps t.number ≡ Some standing))) (sym kept)
-                (all_push (λ t. (standing : Standing K) × (u.0.maps t.number ≡ Some standing)) p.maps.items (record { name = own; number = number })
-                (all_so (λ t. (standing : Standing K) × (s.maps t.number ≡ Some standing)) (λ t. (standing : Standing K) × (u.0.maps t.number ≡ Some standing)) stood p.maps.items stands.maps.stand)
+                (all_push (λ t. (standing : Standing K) × (u.0.maps t.number ≡ Some standing)) p.maps (record { name = own; number = number })
+                (all_so (λ t. (standing : Standing K) × (s.maps t.number ≡ Some standing)) (λ t. (standing : Standing K) × (u.0.maps t.number ≡ Some standing)) stood p.maps stands.maps.stand)
                 (u.1.maps.standing, ap u.0.maps is_number ∙ u.1.maps.there)))
                 v.there (there_stays None of ran.0 bm ∙ stands.there) (m.events + 1) (m.is_alone && is_alone_on e m) m.slots v.sheltered m.remains (sym (remains_stay None of ran.0 bm))))

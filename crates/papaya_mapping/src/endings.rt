@@ -1,6 +1,5 @@
 //! Maps end.
-ghost use Rattle.std.specs.Prelude.{◌≡◌, ℕ, Bool, not, filter, IfOk};
-ghost use Rattle.papaya_runs.specs.Same.{is_same};
+ghost use Rattle.std.specs.Prelude.{◌≡◌, ℕ, Bool, IfOk};
 ghost use Rattle.papaya_schedules.specs.declared.event.Event.TheVariants as event;
 ghost use Rattle.papaya_scheduler.specs.Given.Executor.IsAt.{KeepsGiven};
 ghost use Rattle.papaya_scheduler.specs.Back.{GivesBack};
@@ -9,20 +8,12 @@ ghost use Rattle.papaya_scheduler.specs.Played.{MayPlay};
 ghost use Rattle.papaya_scheduler.specs.Quiet.{IsQuiet};
 ghost use Rattle.papaya_scheduler.specs.Works.{WorksOnEnd};
 
-use papaya_named::named_map::NamedMap;
 use papaya_runs::record::Pair;
 use papaya_runs::token::Token;
 use papaya_scheduler::played::Played;
 use papaya_scheduler::scheduler::Scheduler;
 use papaya_schedules::outcome::Outcome;
 use std::alloc::AllocError;
-
-/// The map of this name is there no more.
-fn without(maps: &mut Vec<NamedMap>, own: &Token)
-    ensures { maps.new.items ≡ filter (λ there. not (is_same there.name own.now)) maps.old.items }
-{
-    maps.retain(|there| !there.name.is(own));
-}
 
 /// Ends a map on which no call is under way: the pairs that are still in it are reclaimed, and then its tables. What waits behind these waits behind its root from then on.
 /// On an error nothing is said of the state after it: lists or notes of the run found no memory.
@@ -50,7 +41,7 @@ pub fn end_map<K: Drop, V: Drop, S>(
     scheduler
         .logged
         .run_end(caller, number, &mut effects, back)?;
-    without(&mut scheduler.maps, map);
+    scheduler.maps.remove(map);
     Ok(Played {
         outcome: Outcome::Done,
         steps: 0,

@@ -22,7 +22,7 @@ use std::alloc::AllocError;
 
 /// Whether a map of this name can be made: none has it.
 fn may_make<K: Drop, V: Drop, S>(scheduler: &Scheduler<K, V, S>, map: &Token) -> bool
-    ensures { result ≡ is_none (number_named map.now scheduler.now.maps.items) }
+    ensures { result ≡ is_none (number_named map.now scheduler.now.maps) }
 {
     scheduler.number_of(map).is_none()
 }

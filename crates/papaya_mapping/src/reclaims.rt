@@ -24,9 +24,9 @@ use std::alloc::AllocError;
 
 /// Whether nobody is there but guards that were forgotten, and no call is under way.
 fn are_gone<K: Drop, V: Drop, S>(scheduler: &Scheduler<K, V, S>) -> bool
-    ensures { result ≡ are_gone scheduler.now.there scheduler.now.calls.items.items }
+    ensures { result ≡ are_gone scheduler.now.there scheduler.now.calls }
 {
-    scheduler.there.is_left() && scheduler.calls.items.is_empty()
+    scheduler.there.is_left() && scheduler.calls.is_empty()
 }
 
 /// Everything that waits is reclaimed, and nobody is there any more.

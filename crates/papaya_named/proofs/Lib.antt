@@ -1,3 +1,4 @@
 pub mod Called
-pub mod Takes
+pub mod Roll
 pub mod FirstLens
+pub mod Takes

@@ -1,3 +1,4 @@
+pub mod Roll
 pub mod Seen
 pub mod Machines
 pub mod Telling

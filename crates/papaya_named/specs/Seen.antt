@@ -1,5 +1,5 @@
 -- What is seen of calls and maps by name, in a moment of a run and in the scheduler.
-use Rattle.std.specs.Prelude.{ℕ, Bool, true, false, not, ◌&&◌, List, find, position, Option, Some, None, option_map, slice_get, slice_index_or, if◌then◌else◌}
+use Rattle.std.specs.Prelude.{◌≡◌, ℕ, Bool, true, false, not, ◌&&◌, List, find, position, Option, Some, None, option_map, slice_get, slice_index_or, if◌then◌else◌}
 use Rattle.std.specs.List.{list_any}
 use Rattle.papaya_follows.specs.Given.Tables.declared.setting.Setting.{Setting}
 use Rattle.papaya_runs.specs.Present.{Present, guard_of, living_slot}
@@ -114,6 +114,10 @@ module _ {V : Type 0} where
 
   abbrev pub ready_place : List ℕ → List (Caller V) → Option ℕ
   ready_place own calls = if_ready calls (position (is_named own) calls)
+
+  -- the walk of this name has this number, and shows pairs
+  abbrev pub IsReadyAt : List ℕ → List (Caller V) → ℕ → Type 0
+  IsReadyAt own calls number = (place : ℕ) × (whose : Caller V) × (ready_place own calls ≡ Some place) × (slice_get calls place ≡ Some whose) × (number ≡ whose.number)
 
   -- the slot of a guard that lives, and that no call uses
   abbrev pub free_slot : List ℕ → Present → List (Caller V) → Option ℕ

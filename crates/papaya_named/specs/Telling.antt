@@ -16,6 +16,8 @@ use Rattle.papaya_effects.specs.declared.role.Role.{Role}
 use Rattle.papaya_effects.specs.declared.role.Role.TheVariants as role
 use Rattle.papaya_named.specs.declared.kind.Kind.{Kind}
 use Rattle.papaya_named.specs.declared.kind.Kind.TheVariants as kind
+use Rattle.papaya_named.specs.declared.callers.Keeps.{Keeps}
+use Rattle.papaya_named.specs.declared.callers.Keeps.TheVariants as keeps
 
 -- the number of the pair that a word links to
 abbrev pub number_in : Role → ℕ
@@ -34,6 +36,13 @@ value_of _ = None
 abbrev pub kept : {K V : Type 0} → Kind → Node K V → Option V → Option V
 kept kind.TriesToInsert unstored value = value_of unstored
 kept _ unstored value = value
+
+-- what becomes of the value that a call keeps
+abbrev pub kept_by : {V : Type 0} → Keeps V → Kind → Option V → Option V
+kept_by keeps.Same kind value = value
+kept_by (keeps.Is other) kind value = other
+kept_by (keeps.Unstored unstored) kind.TriesToInsert value = unstored
+kept_by (keeps.Unstored unstored) _ value = value
 
 -- whether a call goes on by itself
 abbrev pub goes_on : {V : Type 0} → Outcome V → Bool

@@ -2,6 +2,7 @@
 #![tactic(auto)]
 
 pub mod caller;
+pub mod callers;
 pub mod kind;
 pub mod machines;
 pub mod named_map;

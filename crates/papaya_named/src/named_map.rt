@@ -1,5 +1,6 @@
 //! Maps by name.
 
+use papaya_present::crowd::HasName;
 use papaya_runs::token::Token;
 
 /// A map that is there.
@@ -9,4 +10,12 @@ pub struct NamedMap {
     pub name: Token,
     /// Its number.
     pub number: u64,
+}
+
+impl HasName for NamedMap {
+    ghost name_of = { λ map. map.name };
+
+    fn name(&self) -> &Token {
+        &self.name
+    }
 }

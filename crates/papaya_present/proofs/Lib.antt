@@ -1,1 +1,1 @@
-mod Crowds
+pub mod Crowds

@@ -1,3 +1,4 @@
 pub mod Counted
+pub mod Counts
 pub mod Crowd
 pub mod Places

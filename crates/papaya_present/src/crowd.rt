@@ -1,5 +1,5 @@
 //! Those who are there, each under a name of its own, in the order of their coming.
-ghost use Rattle.std.specs.Prelude.{◌≡◌, ◌==◌, ◌∷◌, ◌++◌, ◌+◌, ◌<◌, ◌^◌, ℕ, List, [], Some, true, MatchOption, OnOk, OnErr};
+ghost use Rattle.std.specs.Prelude.{◌≡◌, ◌==◌, ◌∷◌, ◌++◌, ◌+◌, ◌<◌, ◌^◌, ℕ, List, [], Some, true, MatchOption, IfOk, OnOk, OnErr};
 ghost use Rattle.std.specs.Prelude.{find, filter, not, length, option_copied};
 ghost use Rattle.papaya_present.specs.Crowd.{IsAbsent, IsHome, LeadsHome, count_of, count_some, is_living, is_named, weigh};
 ghost use Rattle.papaya_runs.specs.Present.{forgotten_if, guard_of, guards_on, living_on, living_slot};
@@ -38,8 +38,18 @@ impl<T: HasName> Model for Crowd<T> {
     ghost invariant = { λ c. LeadsHome T.name_of c.comers.items c.places × (c.count ≡ length (kept c.comers.items)) };
 }
 
+/// Whether the item of this name stands at this place.
+pub fn is_at<T: HasName>(comers: &[Option<T>], place: usize, name: &Token) -> bool
+    ensures yes { result ≡ true → IsHome T.name_of name.now comers.now place }
+{
+    match comers.get(place) {
+        Some(Some(comer)) => comer.name().is(name),
+        _ => false,
+    }
+}
+
 /// Where the item of this name stands.
-fn place_in<T: HasName>(comers: &[Option<T>], places: &Places, name: &Token) -> Option<usize>
+pub fn place_in<T: HasName>(comers: &[Option<T>], places: &Places, name: &Token) -> Option<usize>
     requires { LeadsHome T.name_of comers.now places.now }
     ensures { MatchOption result (IsAbsent T.name_of name.now comers.now) (IsHome T.name_of name.now comers.now) }
 {
@@ -59,6 +69,11 @@ impl<T: HasName> Crowd<T> {
             places: Places::new(alloc),
             count: 0,
         }
+    }
+
+    /// Where its lists find memory.
+    pub fn alloc(&self) -> Global {
+        *self.comers.allocator()
     }
 
     /// Whether nobody is there.
@@ -103,6 +118,19 @@ impl<T: HasName> Crowd<T> {
         self.places.remove(name);
         self.count -= 1;
         self.comers[place].take()
+    }
+
+    /// Those who are there.
+    pub fn into_items(self) -> Result<Vec<T>, AllocError>
+        ensures { IfOk result (λ items. items.items ≡ self) }
+    {
+        let mut items = Vec::new(*self.comers.allocator());
+        for held in self.comers {
+            if let Some(comer) = held {
+                items.push(comer)?;
+            }
+        }
+        Ok(items)
     }
 
     /// Nobody is there any more.

@@ -1,9 +1,10 @@
 //! Who is there in a run: registrations and guards, found by their names and counted by their slots.
 #![tactic(auto)]
 
-mod crowd;
-mod places;
+pub mod counts;
+pub mod crowd;
+pub mod places;
 mod present;
-mod tally;
+pub mod tally;
 
 pub use present::Present;

@@ -160,7 +160,7 @@ module _ {K V S : Type 0} (same : K → K → Bool) (hash : K → ℕ) (setup : 
         (its_named same hash (terms_given setup) start p stands);
     shows = runs_begin_in K V same (terms_given setup) stands.name (known p.logged.notes) first.world (first.shown stands.name).shows (first.shown stands.name).kept first.came;
     come = nothing_has_come K V;
-    values = no_values p.calls.items.items stands.calls.listed;
+    values = no_values p.calls stands.calls.listed;
     taken = none_taken;
     size = begins.begun.batches;
     shards = no_shards;

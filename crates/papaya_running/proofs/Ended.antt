@@ -48,7 +48,7 @@ module _ {K V S : Type 0} (same : K → K → Bool) (hash : K → ℕ) (terms : 
       let st = so.holds.stands in
       subst (λ (x : Mem (Node K V)). HoldPairs noted.roles (value_at x)) st.shown.is_at.memory (hold_pairs m noted st.scene.world st.shown.shows.all.shown.blocks)
 
-  module _ (run : Run K V) (living : map shown_of run.maps.items ≡ map (told_map tally) p.maps.items) (waits : run.waiting.items ≡ numbers_at (passes None) 0 tally.pairs.items)
+  module _ (run : Run K V) (living : map shown_of run.maps.items ≡ map (told_map tally) p.maps) (waits : run.waiting.items ≡ numbers_at (passes None) 0 tally.pairs.items)
       (tables : run.tables ≡ counted tally.tables.items) (stored : run.stored ≡ noted.stored)
       (left : (blocks : ℕ) × ((b : ℕ) → blocks ≤ b → noted.roles b ≡ Free) × (run.kept ≡ noted_below noted.roles (value_at memory) blocks)) where
     kept_is : run.kept ≡ noted_below noted.roles (value_at so.holds.stands.scene.world.memory) left.0
@@ -70,7 +70,7 @@ module _ {K V S : Type 0} (same : K → K → Bool) (hash : K → ℕ) (terms : 
         let st = so.holds.stands in
         record {
           stored = stored ∙ st.shown.shows.all.shown.blocks.stored;
-          maps = maps_shown m tally so.told run.maps.items p.maps.items m.maps living st.maps.listed;
+          maps = maps_shown m tally so.told run.maps.items p.maps m.maps living st.maps.listed;
           waiting = subst (λ (l : List ℕ). Lists l is_waiting m) (sym waits) (lists_waiting tally m so.told);
           ascending = subst (IsSorted nat_cmp) (sym waits) (ascending (passes None) refl tally.pairs.items);
           tables = tables ∙ tables_told m tally so.told;

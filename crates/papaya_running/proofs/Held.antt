@@ -53,12 +53,12 @@ module _ {K V S : Type 0} (same : K → K → Bool) (hash : K → ℕ) (terms : 
       by (Some st) there = subst (λ (k : ℕ). n < k) holds.counts.next (standing_below same hash p.logged.executor s holds.stands.shown.is_at n st there)
 
   called_below : (own : List ℕ) (n : ℕ) → option_map (λ c. c.map) (call_of own m) ≡ Some n → n < m.made
-  called_below own n is = by (find (is_named own) p.calls.items.items) refl (sym (called_so same hash terms m p holds.stands holds.counts.next own) ∙ is)
+  called_below own n is = by (find (is_named own) p.calls) refl (sym (called_so same hash terms m p holds.stands holds.counts.next own) ∙ is)
     where
-      by : (o : Option (Caller V)) → find (is_named own) p.calls.items.items ≡ o → option_map (λ (d : Caller V). d.map) o ≡ Some n → n < m.made
+      by : (o : Option (Caller V)) → find (is_named own) p.calls ≡ o → option_map (λ (d : Caller V). d.map) o ≡ Some n → n < m.made
       by None found e = absurd (cc e)
       by (Some d) found e =
-          let way = found_has (IsUnderWay holds.stands.name s p.there) (is_named own) p.calls.items.items d found holds.stands.calls.each in
+          let way = found_has (IsUnderWay holds.stands.name s p.there) (is_named own) p.calls d found holds.stands.calls.each in
           let one : d.map ≡ n = cc e in
           subst (λ (k : ℕ). k < m.made) one (call_below d.map d.number way.0 way.1)
 

@@ -8,6 +8,7 @@ mod LawfulKeys
 mod Left
 mod Logs
 mod AsRun
+mod CallerFound
 mod Turns
 mod Counts
 mod Held

@@ -149,8 +149,8 @@ found_last p f x is (y ∷ xs) = by (p y) (found_last p f x is xs)
 module _ {K V S : Type 0} (same : K → K → Bool) (hash : K → ℕ) (terms : Terms) (m : Moment K V) (p : Scheduler K V S) (stands : StandsFor same hash terms m p) (next : length p.logged.executor.maps.items ≡ m.made) where
   pub called_so : (own : List ℕ) → option_map (λ c. c.map) (call_of own m) ≡ called_map own p
   called_so own =
-      sym (seen_map (call_of own m)) ∙ ap (option_map (λ (z : Seen). z.map)) (found_alike seen seen_of m.calls p.calls.items.items stands.calls.listed (λ z. is_same z.name own))
-      ∙ seen_map_of (find (is_named own) p.calls.items.items)
+      sym (seen_map (call_of own m)) ∙ ap (option_map (λ (z : Seen). z.map)) (found_alike seen seen_of m.calls p.calls stands.calls.listed (λ z. is_same z.name own))
+      ∙ seen_map_of (find (is_named own) p.calls)
 
   -- a whole call acts on its map, once it has begun
   begun_so : (g n : List ℕ) (call : Call K V) (number : Option ℕ) → option_map (λ c. c.map) (call_of nameless (with_call nameless g call number m)) ≡ or_else number (called_map nameless p)
@@ -167,7 +167,7 @@ module _ {K V S : Type 0} (same : K → K → Bool) (hash : K → ℕ) (terms : 
       by (OneCall g n call) o = whole (is_busy o)
         where
           whole : (b : Bool) → option_map (λ c. c.map) (call_of nameless (if b then m else with_call nameless g call (number_of n m) m))
-              ≡ (if b then called_map nameless p else or_else (number_named n p.maps.items) (called_map nameless p))
+              ≡ (if b then called_map nameless p else or_else (number_named n p.maps) (called_map nameless p))
           whole true = called_so nameless
           whole false = begun_so g n call (number_of n m) ∙ ap (λ (x : Option ℕ). or_else x (called_map nameless p)) (number_is same hash terms m p stands n)
       by (MakeMap n mode c) Done =

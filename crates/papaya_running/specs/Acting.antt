@@ -17,15 +17,15 @@ use Rattle.papaya_running.specs.declared.acting.Traced.TheVariants.{Whole, Begin
 module _ {K V S : Type 0} where
   -- the map that the call of this name is on
   abbrev pub called_map : List ℕ → Scheduler K V S → Option ℕ
-  called_map own p = option_map (λ d. d.map) (find (is_named own) p.calls.items.items)
+  called_map own p = option_map (λ d. d.map) (find (is_named own) p.calls)
 
   abbrev pub acting_of : Event K V → Scheduler K V S → Acting
   acting_of (Step caller refuse) p = On (called_map caller p)
   acting_of (Go caller refuse) p = On (called_map caller p)
   acting_of (Next caller) p = On (called_map caller p)
-  acting_of (OneCall guard name call) p = Calls (number_named name p.maps.items) (called_map nameless p)
-  acting_of (MakeMap name mode capacity) p = Makes (length p.logged.executor.maps.items) (number_named name p.maps.items)
-  acting_of (EndMap name) p = On (number_named name p.maps.items)
+  acting_of (OneCall guard name call) p = Calls (number_named name p.maps) (called_map nameless p)
+  acting_of (MakeMap name mode capacity) p = Makes (length p.logged.executor.maps.items) (number_named name p.maps)
+  acting_of (EndMap name) p = On (number_named name p.maps)
   acting_of _ p = On None
 
 -- the first of two, if there is one

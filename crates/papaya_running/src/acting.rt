@@ -57,8 +57,8 @@ pub fn traced_as<K, V>(event: &Event<K, V>) -> Traced
 fn called_map<K: Drop, V: Drop, S>(scheduler: &Scheduler<K, V, S>, caller: &Token) -> Option<u64>
     ensures { result ≡ called_map caller.now scheduler.now }
 {
-    match scheduler.calls.items.iter().find(|it| it.name.is(caller)) {
-        Some(it) => Some(it.map),
+    match scheduler.calls.get(caller) {
+        Some(called) => Some(called.map),
         None => None,
     }
 }
@@ -75,7 +75,7 @@ pub fn acting_of<K: Drop, V: Drop, S>(
         Event::Go { caller, .. } => Ok(Acting::On(called_map(scheduler, caller))),
         Event::Next { caller } => Ok(Acting::On(called_map(scheduler, caller))),
         Event::OneCall { map, .. } => {
-            let nameless = Token::copy_of(*scheduler.maps.allocator(), b"-")?;
+            let nameless = Token::copy_of(scheduler.maps.alloc(), b"-")?;
             Ok(Acting::Calls(scheduler.number_of(map), called_map(scheduler, &nameless)))
         }
         Event::MakeMap { map, .. } => Ok(Acting::Makes(

@@ -11,9 +11,10 @@ use std::alloc::{AllocError, Global};
 pub fn living(alloc: Global, maps: Vec<NamedMap>, tally: &Tally) -> Result<Vec<Living>, AllocError>
     ensures { IfOk result (λ living. map shown_of living.items ≡ map (told_map tally.now) maps.items) }
 {
+    let by_map = tally.by_map(alloc)?;
     let mut living = Vec::new(alloc);
     for named in maps {
-        let pairs = tally.pairs_of(alloc, named.number)?;
+        let pairs = by_map.pairs_of(alloc, named.number)?;
         living.push(Living {
             name: named.name,
             pairs,

@@ -136,6 +136,7 @@ fn end<K: Drop, V: Drop, S: Drop>(
 {
     let Scheduler { logged, maps, .. } = scheduler;
     let Logged { executor, notes } = logged;
+    let maps = maps.into_items()?;
     let living = living(alloc, maps, &tally)?;
     let waiting = tally.waiting(alloc)?;
     let kept = pairs_left(alloc, executor.memory.memory, &notes)?;

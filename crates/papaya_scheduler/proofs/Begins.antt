@@ -31,7 +31,6 @@ use Rattle.papaya_named.specs.Machines.{IsAsFar, machine_for}
 use Rattle.papaya_scheduler.specs.Played.{BeginsSo, CallsAre, IsUnderWay, StandsFor}
 use Rattle.papaya_named.specs.Seen.{Seen, is_named, kind_of, seen, seen_of, setting_named}
 use Rattle.papaya_named.specs.declared.caller.Caller.{Caller}
-use Rattle.papaya_named.specs.declared.caller.Callers.{Callers}
 use Rattle.papaya_named.specs.declared.caller.Stands.TheVariants as far
 use Rattle.papaya_scheduler.specs.declared.scheduler.Scheduler.{Scheduler}
 use Rattle.papaya_named.proofs.Called.{begins_for_room, begun_call, begins_so, is_as_far, is_begun_for, is_called, its_machine}
@@ -46,7 +45,7 @@ and_parts false b e = absurd (cc e)
 
 module _ {K V S : Type 0} (same : K → K → Bool) (hash : K → ℕ) (terms : Terms) (m : Moment K V) (p : Scheduler K V S) (stands : StandsFor same hash terms m p) where
   abbrev calls : List (Caller V)
-  calls = p.calls.items.items
+  calls = p.calls
 
   abbrev s : Scene K V
   s = stands.scene
@@ -74,7 +73,7 @@ module _ {K V S : Type 0} (same : K → K → Bool) (hash : K → ℕ) (terms : 
     not_begun fails = record { so = sym fails; none = λ e. refl; stands = λ e. absurd (cc e); led = λ e. absurd (cc e) }
 
     module _ (free : list_any (is_named own) calls ≡ false) (slot : ℕ) (lives : living_slot (guard_of guard p.there.guards) ≡ Some slot) (number : ℕ) (setting : Setting)
-        (found : setting_named name p.maps.items p.logged.executor.maps.items ≡ Some (number, setting)) where
+        (found : setting_named name p.maps p.logged.executor.maps.items ≡ Some (number, setting)) where
       pub may_begin : (is_none (call_of own m) && is_living guard m.there && is_some (map_of name m)) ≡ true
       may_begin =
           let a = ap not (called_is own ∙ free) in
@@ -225,7 +224,7 @@ module _ {K V S : Type 0} (same : K → K → Bool) (hash : K → ℕ) (terms : 
                 no_work_at same hash new.executor then_at shown.is_at j none (no_making_of same hash p.logged.executor s at j before) (no_ending_of same hash p.logged.executor s at j before)
                 (row_rests same hash p.logged.executor s at j before)
 
-        stands_then : (calls2 : Callers V) → calls2.items.items ≡ caller ∷ calls → StandsFor same hash terms (with_call own guard call (Some number) m) (record p { logged = new; calls = calls2 })
+        stands_then : (calls2 : List (Caller V)) → calls2 ≡ caller ∷ calls → StandsFor same hash terms (with_call own guard call (Some number) m) (record p { logged = new; calls = calls2 })
         stands_then calls2 items = record {
           name = names;
           scene = then_at;
@@ -246,7 +245,7 @@ module _ {K V S : Type 0} (same : K → K → Bool) (hash : K → ℕ) (terms : 
           names = stands.names;
         }
 
-        pub begun : (calls2 : Callers V) → calls2.items.items ≡ caller ∷ calls → new.notes ≡ p.logged.notes → BeginsSo same hash terms m own guard name call true p (record p { logged = new; calls = calls2 })
+        pub begun : (calls2 : List (Caller V)) → calls2 ≡ caller ∷ calls → new.notes ≡ p.logged.notes → BeginsSo same hash terms m own guard name call true p (record p { logged = new; calls = calls2 })
         begun calls2 items kept = record {
           so = sym may_begin;
           none = λ e. absurd (cc e);

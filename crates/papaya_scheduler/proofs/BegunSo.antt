@@ -19,7 +19,6 @@ use Rattle.papaya_named.specs.Machines.{machine_for}
 use Rattle.papaya_scheduler.specs.Played.{BeginsSo, StandsFor}
 use Rattle.papaya_named.specs.Seen.{Seen, is_named, kind_of, setting_named}
 use Rattle.papaya_named.specs.declared.caller.Caller.{Caller}
-use Rattle.papaya_named.specs.declared.caller.Callers.{Callers}
 use Rattle.papaya_named.specs.declared.caller.Stands.TheVariants as far
 use Rattle.papaya_named.specs.declared.kind.Kind.{Kind}
 use Rattle.papaya_scheduler.specs.declared.scheduler.Scheduler.{Scheduler}
@@ -30,7 +29,7 @@ use Rattle.papaya_scheduler.proofs.Maps.{setting_some}
 module _ {K V S : Type 0} (same : K → K → Bool) (hash : K → ℕ) (terms : Terms) (m : Moment K V) (p : Scheduler K V S) (stands : StandsFor same hash terms m p) (own guard name : List ℕ)
     (call : Call K V) where
   abbrev calls : List (Caller V)
-  calls = p.calls.items.items
+  calls = p.calls
 
   abbrev three : Bool
   three = not (is_some (call_of own m)) && is_living guard m.there && is_some (map_of name m)
@@ -60,7 +59,7 @@ module _ {K V S : Type 0} (same : K → K → Bool) (hash : K → ℕ) (terms : 
       no_second false b c e = refl
 
   -- the map is not there
-  pub no_map : setting_named name p.maps.items p.logged.executor.maps.items ≡ None → BeginsSo same hash terms m own guard name call false p p
+  pub no_map : setting_named name p.maps p.logged.executor.maps.items ≡ None → BeginsSo same hash terms m own guard name call false p p
   no_map none =
       not_begun same hash terms m p stands own guard name call
       (no_third (not (is_some (call_of own m))) (is_living guard m.there) (is_some (map_of name m)) (sym (setting_some same hash terms m p stands name) ∙ ap is_some none))
@@ -72,10 +71,10 @@ module _ {K V S : Type 0} (same : K → K → Bool) (hash : K → ℕ) (terms : 
 
   -- it begins
   pub has_begun : list_any (is_named own) calls ≡ false → (slot : ℕ) → living_slot (guard_of guard p.there.guards) ≡ Some slot → (number : ℕ) (setting : Setting)
-      → setting_named name p.maps.items p.logged.executor.maps.items ≡ Some (number, setting) → (i : ℕ) → i ≡ length p.logged.executor.workers.items * SLOTS + slot
+      → setting_named name p.maps p.logged.executor.maps.items ≡ Some (number, setting) → (i : ℕ) → i ≡ length p.logged.executor.workers.items * SLOTS + slot
       → (machine : Machine K V K) → machine ≡ machine_for (record setting { slot = slot }) hash call → (kind : Kind) → kind ≡ kind_of call → (new : Logged K V S)
       → ((names : ℕ → List ℕ) (v : Moment K V) (t : Scene K V) → IsShown same hash names v p.logged t → CallBegins same hash names v t i number machine p.logged new)
-      → (calls2 : Callers V) → calls2.items.items ≡ record { name = own; guard = guard; map = number; number = i; kind = kind; stands = far.Goes; value = None } ∷ calls
+      → (calls2 : List (Caller V)) → calls2 ≡ record { name = own; guard = guard; map = number; number = i; kind = kind; stands = far.Goes; value = None } ∷ calls
       → new.notes ≡ p.logged.notes → BeginsSo same hash terms m own guard name call true p (record p { logged = new; calls = calls2 })
   has_begun free slot lives number setting found i is_i machine is_machine kind is_kind new leads calls2 items kept =
       begun same hash terms m p stands own guard name call free slot lives number setting found new

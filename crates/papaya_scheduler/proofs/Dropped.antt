@@ -77,22 +77,22 @@ module _ {K V S : Type 0} (same : K → K → Bool) (hash : K → ℕ) (terms : 
     fits = slot_fits same hash p.logged.executor stands.scene stands.shown.is_at slot (λ e. let h = sym inside ∙ e in cc h)
 
   -- and so it is of one that no call uses
-  module _ (free : free_slot guard p.there p.calls.items.items ≡ Some slot) where
-    none : list_any (λ d. is_same d.guard guard) p.calls.items.items ≡ false
+  module _ (free : free_slot guard p.there p.calls ≡ Some slot) where
+    none : list_any (λ d. is_same d.guard guard) p.calls ≡ false
     none = none_uses same hash terms m p stands guard (ap is_some free)
 
     pub free_lives : living_slot (guard_of guard p.there.guards) ≡ Some slot
-    free_lives = by (list_any (λ d. is_same d.guard guard) p.calls.items.items) free
+    free_lives = by (list_any (λ d. is_same d.guard guard) p.calls) free
       where
         by : (b : Bool) → (if b then None else living_slot (guard_of guard p.there.guards)) ≡ Some slot → living_slot (guard_of guard p.there.guards) ≡ Some slot
         by true e = absurd (cc e)
         by false e = e
 
     -- each call has its guard still without it,
-    pub each_left : AllByRecursion (IsUnderWay stands.name stands.scene (drops guard p.there)) p.calls.items.items
+    pub each_left : AllByRecursion (IsUnderWay stands.name stands.scene (drops guard p.there)) p.calls
     each_left =
         all_but (IsUnderWay stands.name stands.scene p.there) (IsUnderWay stands.name stands.scene (drops guard p.there)) (λ d. is_same d.guard guard)
-        (λ d other way. (way.0, way.1, way.2, ap living_slot (others_left guard d.guard p.there.guards other) ∙ way.3, way.4)) p.calls.items.items none stands.calls.each
+        (λ d other way. (way.0, way.1, way.2, ap living_slot (others_left guard d.guard p.there.guards other) ∙ way.3, way.4)) p.calls none stands.calls.each
 
     -- and nobody is in its slot where it is the only one there
     pub nobody_else : guards_on slot p.there.guards ≡ 1 → NobodyIn p.logged.executor slot

@@ -62,7 +62,7 @@ module _ {K V S : Type 0} (same : K → K → Bool) (hash : K → ℕ) (terms : 
   abbrev stands : StandsFor same hash terms m p
   stands = due.played
 
-  pub not_free : free_slot guard p.there p.calls.items.items ≡ None → Plays same hash terms log (quiet (DropGuard guard) (Refused Busy)) p
+  pub not_free : free_slot guard p.there p.calls ≡ None → Plays same hash terms log (quiet (DropGuard guard) (Refused Busy)) p
   not_free none =
       let e = quiet (DropGuard guard) (Refused Busy) in
       plays same hash terms log (DropGuard guard) p due e refl (out_of_turn IsDone (is_free_guard guard m) (Refused Busy) (free_is same hash terms m p stands guard ∙ ap is_some none) refl)
@@ -71,14 +71,14 @@ module _ {K V S : Type 0} (same : K → K → Bool) (hash : K → ℕ) (terms : 
   abbrev pub less : Present
   less = drops guard p.there
 
-  module _ (slot : ℕ) (free : free_slot guard p.there p.calls.items.items ≡ Some slot) where
+  module _ (slot : ℕ) (free : free_slot guard p.there p.calls ≡ Some slot) where
     its_lives : living_slot (guard_of guard p.there.guards) ≡ Some slot
     its_lives = free_lives same hash terms m p stands guard slot free
 
     is_turn : is_free_guard guard m ≡ true
     is_turn = free_is same hash terms m p stands guard ∙ ap is_some free
 
-    each_now : AllByRecursion (IsUnderWay stands.name stands.scene less) p.calls.items.items
+    each_now : AllByRecursion (IsUnderWay stands.name stands.scene less) p.calls
     each_now = each_left same hash terms m p stands guard slot free
 
     -- while others are on its slot, that is used as before
@@ -167,7 +167,7 @@ module _ {K V S : Type 0} (same : K → K → Bool) (hash : K → ℕ) (terms : 
 
 -- so it is, by what the code does
 module _ {K V S : Type 0} (same : K → K → Bool) (hash : K → ℕ) (terms : Terms) (log : List (Entry K V)) (p : Scheduler K V S) (guard : List ℕ)
-    (due : IsDue same hash terms log (DropGuard guard) p) (slot : ℕ) (free : free_slot guard p.there p.calls.items.items ≡ Some slot) (p2 : Scheduler K V S) (effects : List Effect)
+    (due : IsDue same hash terms log (DropGuard guard) p) (slot : ℕ) (free : free_slot guard p.there p.calls ≡ Some slot) (p2 : Scheduler K V S) (effects : List Effect)
     (there : Present) (is : there ≡ drops guard p2.there) where
   abbrev Comes : Scheduler K V S → List Effect → Type 0
   Comes q did = Plays same hash terms log (entry (DropGuard guard) Done 0 did) (record q { there = there })

@@ -152,10 +152,10 @@ module _ {K V S : Type 0} (same : K → K → Bool) (hash : K → ℕ) (terms : 
     there_now there is =
         ap (λ (x : Present). enters_slot guard (slot_of_registration registration x) x) is ∙ ap (λ (x : ℕ). enters_slot guard x p.there) (slot_is registration p.there slot found)
 
-    each_now : AllByRecursion (IsUnderWay stands.name stands.scene there2) p.calls.items.items
+    each_now : AllByRecursion (IsUnderWay stands.name stands.scene there2) p.calls
     each_now =
         all_so (IsUnderWay stands.name stands.scene p.there) (IsUnderWay stands.name stands.scene there2)
-        (λ d way. (way.0, way.1, way.2, found_more d.guard p.there.guards (record { name = guard; slot = slot; forgotten = false } ∷ []) (slot_of d.number) way.3, way.4)) p.calls.items.items stands.calls.each
+        (λ d way. (way.0, way.1, way.2, found_more d.guard p.there.guards (record { name = guard; slot = slot; forgotten = false } ∷ []) (slot_of d.number) way.3, way.4)) p.calls stands.calls.each
 
     -- another guard is on the slot
     pub entered : nat_lt (guards_on slot p.there.guards) MOST_GUARDS ≡ true → guards_on slot p.there.guards ≢ 0 → (there : Present) → there ≡ there2

@@ -17,7 +17,7 @@ use Rattle.papaya_rows.proofs.Names.{nobody_named}
 
 module _ {K V S : Type 0} (same : K → K → Bool) (hash : K → ℕ) (p : Scheduler K V S) (roots : ℕ)
     (shown : (name : ℕ → List ℕ) → IsShown {K = K} {V = V} {S = S} same hash name start p.logged (at_first roots))
-    (there : p.there ≡ nobody) (maps : p.maps.items ≡ []) (calls : p.calls.items.items ≡ []) (mapped : p.is_mapped ≡ false) (closed : p.is_closed ≡ false) where
+    (there : p.there ≡ nobody) (maps : p.maps ≡ []) (calls : p.calls ≡ []) (mapped : p.is_mapped ≡ false) (closed : p.is_closed ≡ false) where
   name : ℕ → List ℕ
   name i = []
 

@@ -60,7 +60,7 @@ some_call (Some u) machine e = (u, refl)
 
 module _ {K V S : Type 0} (same : K → K → Bool) (hash : K → ℕ) (terms : Terms) (m : Moment K V) (p : Scheduler K V S) (stands : StandsFor same hash terms m p) where
   abbrev calls : List (Caller V)
-  calls = p.calls.items.items
+  calls = p.calls
 
   -- who has the batch has a call under way,
   pub has_call : (j slot : ℕ) → has_batch slot (stands.scene.world.row j) ≡ true → (map : ℕ) × (u : UnderWay K V K) × (stands.scene.calls map j ≡ Some u)

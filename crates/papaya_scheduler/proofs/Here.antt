@@ -17,7 +17,7 @@ use Rattle.papaya_rows.proofs.Lists.{got, as_some, both_some, found_alike, found
 module _ {K V S : Type 0} (Far : Caller V → Machine K V K → Type 0) (same : K → K → Bool) (hash : K → ℕ) (terms : Terms) (m : Moment K V) (p : Scheduler K V S)
     (stands : StandsAs Far same hash terms m p) (own : List ℕ) where
   abbrev calls : List (Caller V)
-  calls = p.calls.items.items
+  calls = p.calls
 
   abbrev place_there : Option ℕ
   place_there = position (is_named own) calls
@@ -74,11 +74,11 @@ module _ {K V S : Type 0} (same : K → K → Bool) (hash : K → ℕ) (terms : 
   abbrev pub Here : ℕ → Type 0
   Here = HereAs AsFar same hash terms m p stands own
 
-  pub there_is : (place : Option ℕ) → place ≡ position (is_named own) p.calls.items.items → is_some (call_of own m) ≡ is_some place
+  pub there_is : (place : Option ℕ) → place ≡ position (is_named own) p.calls → is_some (call_of own m) ≡ is_some place
   there_is = there_is_as AsFar same hash terms m p stands own
 
-  abbrev pub here_at : (place : ℕ) → Some place ≡ position (is_named own) p.calls.items.items → Here place
+  abbrev pub here_at : (place : ℕ) → Some place ≡ position (is_named own) p.calls → Here place
   here_at = here_as_at AsFar same hash terms m p stands own
 
-  pub read_here : (place : ℕ) (here : Here place) (x : Caller V) → x ≡ slice_index_or p.calls.items.items place x → x ≡ here.caller
+  pub read_here : (place : ℕ) (here : Here place) (x : Caller V) → x ≡ slice_index_or p.calls place x → x ≡ here.caller
   read_here = read_as AsFar same hash terms m p stands own

@@ -89,10 +89,10 @@ module _ {K V S : Type 0} (same : K → K → Bool) (hash : K → ℕ) (terms : 
       names = none_is (guard_of guard p.there.guards) found
 
       -- calls have their guards still
-      each : AllByRecursion (IsUnderWay stands.name stands.scene there2) p.calls.items.items
+      each : AllByRecursion (IsUnderWay stands.name stands.scene there2) p.calls
       each =
           all_so (IsUnderWay stands.name stands.scene p.there) (IsUnderWay stands.name stands.scene there2)
-          (λ d way. (way.0, way.1, way.2, found_more d.guard p.there.guards (record { name = guard; slot = slot; forgotten = false } ∷ []) (slot_of d.number) way.3, way.4)) p.calls.items.items stands.calls.each
+          (λ d way. (way.0, way.1, way.2, found_more d.guard p.there.guards (record { name = guard; slot = slot; forgotten = false } ∷ []) (slot_of d.number) way.3, way.4)) p.calls stands.calls.each
 
       inside : used_as slot there2 ≡ used.Inside
       inside = by (used_now guard slot p.there slot)

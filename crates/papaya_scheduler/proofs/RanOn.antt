@@ -66,7 +66,7 @@ both_true false b e = absurd (cc e)
 
 module _ {K V S : Type 0} (same : K → K → Bool) (hash : K → ℕ) (terms : Terms) (m : Moment K V) (p : Scheduler K V S) (stands : StandsFor same hash terms m p) where
   -- while no guard of calls is on a slot, nobody has anything under way in it
-  pub nobody_by : (there : Present) → AllByRecursion (IsUnderWay stands.name stands.scene there) p.calls.items.items → (slot : ℕ) → guards_on slot there.guards ≡ 0 → NobodyIn p.logged.executor slot
+  pub nobody_by : (there : Present) → AllByRecursion (IsUnderWay stands.name stands.scene there) p.calls → (slot : ℕ) → guards_on slot there.guards ≡ 0 → NobodyIn p.logged.executor slot
   nobody_by there each slot none i at = stands.rests i no_call
     where
       no_call : (n : ℕ) → stands.scene.calls n i ≡ None
@@ -75,7 +75,7 @@ module _ {K V S : Type 0} (same : K → K → Bool) (hash : K → ℕ) (terms : 
           by : (o : Option (UnderWay K V K)) → stands.scene.calls n i ≡ o → stands.scene.calls n i ≡ None
           by None is = is
           by (Some u) is =
-              let d = one_of (IsUnderWay stands.name stands.scene there) (λ d. (d.map == n) && (d.number == i)) p.calls.items.items (stands.calls.only n i u is) each in
+              let d = one_of (IsUnderWay stands.name stands.scene there) (λ d. (d.map == n) && (d.number == i)) p.calls (stands.calls.only n i u is) each in
               let number = eqb-true d.0.number i (both_true (d.0.map == n) (d.0.number == i) d.2).1 in
               absurd (on_its_slot d.0.guard there.guards slot (d.1.3 ∙ ap Some (ap slot_of number ∙ at)) none)
 
@@ -110,7 +110,7 @@ module _ {K V S : Type 0} (same : K → K → Bool) (hash : K → ℕ) (terms : 
             no_work_at same hash new.executor (record stands.scene { world = led.w; maps = led.maps }) led.at j none (no_making_of same hash p.logged.executor stands.scene at j idle)
             (no_ending_of same hash p.logged.executor stands.scene at j idle) (led.rows j ne ∙ row_rests same hash p.logged.executor stands.scene at j idle)
 
-    pub stands_ran : (there2 : Present) → AllByRecursion (IsUnderWay stands.name stands.scene there2) p.calls.items.items → ((t : ℕ) → use_at new.executor t ≡ used_as t there2) → HaveNames there2
+    pub stands_ran : (there2 : Present) → AllByRecursion (IsUnderWay stands.name stands.scene there2) p.calls → ((t : ℕ) → use_at new.executor t ≡ used_as t there2) → HaveNames there2
         → (there : Present) → there ≡ there2 → (events : ℕ) (is_alone : Bool) (slots : ℕ) (sheltered : List Sheltered) (remains : List Remains) → remains ≡ m.remains
         → StandsFor same hash terms (elsewhere events m.is_mapped m.is_closed is_alone there slots sheltered remains w) (record p { logged = new; there = there2 })
     stands_ran there2 each used names there is events is_alone slots sheltered remains alike = record {
@@ -134,7 +134,7 @@ module _ {K V S : Type 0} (same : K → K → Bool) (hash : K → ℕ) (terms : 
       };
       maps = let c = stands.maps in record {
         listed = maps_named None None ran.did m ∙ c.listed;
-        stand = all_so (λ t. (standing : Standing K) × (stands.scene.maps t.number ≡ Some standing)) (λ t. (standing : Standing K) × (then_at.maps t.number ≡ Some standing)) stand_then p.maps.items c.stand;
+        stand = all_so (λ t. (standing : Standing K) × (stands.scene.maps t.number ≡ Some standing)) (λ t. (standing : Standing K) × (then_at.maps t.number ≡ Some standing)) stand_then p.maps c.stand;
       };
       slots = used;
       rests = rests_then;

@@ -47,13 +47,13 @@ module _ {K V S : Type 0} (same : K → K → Bool) (hash : K → ℕ) (terms : 
   abbrev stands : StandsFor same hash terms m p
   stands = due.played
 
-  pub not_free : free_slot guard p.there p.calls.items.items ≡ None → Plays same hash terms log (quiet (Refresh guard) (Refused Busy)) p
+  pub not_free : free_slot guard p.there p.calls ≡ None → Plays same hash terms log (quiet (Refresh guard) (Refused Busy)) p
   not_free none =
       let e = quiet (Refresh guard) (Refused Busy) in
       plays same hash terms log (Refresh guard) p due e refl (out_of_turn IsDone (is_free_guard guard m) (Refused Busy) (free_is same hash terms m p stands guard ∙ ap is_some none) refl)
       (stands_on same hash terms m p stands (m.events + 1) (m.is_alone && is_alone_on e m) m.slots m.sheltered)
 
-  module _ (slot : ℕ) (free : free_slot guard p.there p.calls.items.items ≡ Some slot) where
+  module _ (slot : ℕ) (free : free_slot guard p.there p.calls ≡ Some slot) where
     -- while others are on its slot, the slot's section goes on
     pub beside : Plays same hash terms log (quiet (Refresh guard) Done) p
     beside =
@@ -115,7 +115,7 @@ module _ {K V S : Type 0} (same : K → K → Bool) (hash : K → ℕ) (terms : 
 
 -- so it is, by what the code does
 module _ {K V S : Type 0} (same : K → K → Bool) (hash : K → ℕ) (terms : Terms) (log : List (Entry K V)) (p : Scheduler K V S) (guard : List ℕ)
-    (due : IsDue same hash terms log (Refresh guard) p) (slot : ℕ) (free : free_slot guard p.there p.calls.items.items ≡ Some slot) (p2 : Scheduler K V S) (effects : List Effect) where
+    (due : IsDue same hash terms log (Refresh guard) p) (slot : ℕ) (free : free_slot guard p.there p.calls ≡ Some slot) (p2 : Scheduler K V S) (effects : List Effect) where
   abbrev Comes : Scheduler K V S → List Effect → Type 0
   Comes q did = Plays same hash terms log (entry (Refresh guard) Done 0 did) q
 

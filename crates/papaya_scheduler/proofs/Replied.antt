@@ -64,7 +64,6 @@ use Rattle.papaya_named.specs.Machines.{IsAsFar, IsFor, RefusedForRoom}
 use Rattle.papaya_scheduler.specs.Played.{CallsAre, IsDue, IsUnderWay, Plays, StandsFor}
 use Rattle.papaya_named.specs.Seen.{Seen, asks, far_of, fits, is_named, kind_of, kind_on, seen, seen_of, takes}
 use Rattle.papaya_named.specs.declared.caller.Caller.{Caller}
-use Rattle.papaya_named.specs.declared.caller.Callers.{Callers}
 use Rattle.papaya_named.specs.declared.caller.Stands.{Stands as HowFar}
 use Rattle.papaya_named.specs.declared.caller.Stands.TheVariants as far
 use Rattle.papaya_named.specs.declared.kind.Kind.{Kind}
@@ -179,7 +178,7 @@ module _ {K V S : Type 0} (same : K → K → Bool) (hash : K → ℕ) (terms : 
   s = stands.scene
 
   abbrev calls : List (Caller V)
-  calls = p.calls.items.items
+  calls = p.calls
 
   abbrev wanted : Outcome V → Type 0
   wanted o = o ≡ Goes
@@ -406,7 +405,7 @@ module _ {K V S : Type 0} (same : K → K → Bool) (hash : K → ℕ) (terms : 
                   no_work_at same hash new.executor then_at shown.is_at j none (no_making_of same hash p.logged.executor s at_s j before) (no_ending_of same hash p.logged.executor s at_s j before)
                   (row_rests same hash p.logged.executor s at_s j before)
 
-          stands_then : (callers : Callers V) → callers.items.items ≡ calls2 → StandsFor same hash terms then_m (record p { logged = new; calls = callers })
+          stands_then : (callers : List (Caller V)) → callers ≡ calls2 → StandsFor same hash terms then_m (record p { logged = new; calls = callers })
           stands_then callers items = record {
             name = stands.name;
             scene = then_at;
@@ -427,7 +426,7 @@ module _ {K V S : Type 0} (same : K → K → Bool) (hash : K → ℕ) (terms : 
             names = stands.names;
           }
 
-          pub told : (callers : Callers V) → callers.items.items ≡ calls2 → Plays same hash terms log (quiet (Replied own reply) Goes) (record p { logged = new; calls = callers })
+          pub told : (callers : List (Caller V)) → callers ≡ calls2 → Plays same hash terms log (quiet (Replied own reply) Goes) (record p { logged = new; calls = callers })
           told callers items =
               let e = quiet (Replied own reply) Goes in
               let p2 = record p { logged = new; calls = callers } in

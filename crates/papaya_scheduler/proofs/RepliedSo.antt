@@ -18,7 +18,6 @@ use Rattle.papaya_logged.specs.declared.logged.Logged.{Logged}
 use Rattle.papaya_scheduler.specs.Played.{IsDue, Plays}
 use Rattle.papaya_named.specs.Seen.{is_named, takes}
 use Rattle.papaya_named.specs.declared.caller.Caller.{Caller}
-use Rattle.papaya_named.specs.declared.caller.Callers.{Callers}
 use Rattle.papaya_named.specs.declared.caller.Stands.TheVariants as far
 use Rattle.papaya_scheduler.specs.declared.scheduler.Scheduler.{Scheduler}
 use Rattle.papaya_scheduler.proofs.Here.{Here, here_at, read_here}
@@ -26,8 +25,8 @@ use Rattle.papaya_scheduler.proofs.Replied.{has_call, result_is, told}
 use Rattle.papaya_scheduler.proofs.Rights.{quiet}
 
 module _ {K V S : Type 0} (same : K → K → Bool) (hash : K → ℕ) (terms : Terms) (log : List (Entry K V)) (p : Scheduler K V S) (own : List ℕ) (reply : Reply V)
-    (due : IsDue same hash terms log (Replied own reply) p) (place : ℕ) (placed : Some place ≡ position (is_named own) p.calls.items.items) (x : Caller V)
-    (reads : x ≡ slice_index_or p.calls.items.items place x) (taken : takes x reply ≡ true) (y : Caller V) (reads_y : y ≡ slice_index_or p.calls.items.items place y) where
+    (due : IsDue same hash terms log (Replied own reply) p) (place : ℕ) (placed : Some place ≡ position (is_named own) p.calls) (x : Caller V)
+    (reads : x ≡ slice_index_or p.calls place x) (taken : takes x reply ≡ true) (y : Caller V) (reads_y : y ≡ slice_index_or p.calls place y) where
   abbrev m : Moment K V
   m = moment log
 
@@ -59,7 +58,7 @@ module _ {K V S : Type 0} (same : K → K → Bool) (hash : K → ℕ) (terms : 
     pub is_taken : is_err result ≡ false
     is_taken = ap (λ (r : Result Unit (MachineReply V)). is_err r) (result_is same hash terms log p own reply due place placed takes_it result new leads_it takes_so_it)
 
-    pub goes_on : (value : Option V) (callers : Callers V)
-        → ((c : Caller V) → slice_get p.calls.items.items place ≡ Some c → callers.items.items ≡ slice_set p.calls.items.items place (record c { stands = far.Goes; value = value }))
+    pub goes_on : (value : Option V) (callers : List (Caller V))
+        → ((c : Caller V) → slice_get p.calls place ≡ Some c → callers ≡ slice_set p.calls place (record c { stands = far.Goes; value = value }))
         → Plays same hash terms log (quiet (Replied own reply) Goes) (record p { logged = new; calls = callers })
     goes_on value callers resumed = told same hash terms log p own reply due place placed takes_it result new leads_it takes_so_it value callers (resumed here.caller here.at)

@@ -27,7 +27,7 @@ use Rattle.papaya_scheduler.proofs.Rights.{in_turn, out_of_turn, plays, quiet}
 
 module _ {K V S : Type 0} (same : K → K → Bool) (hash : K → ℕ) (terms : Terms) (m : Moment K V) (p : Scheduler K V S) (stands : StandsFor same hash terms m p) where
   -- others are there, each call has its guard still, and slots are used as before
-  pub stands_there : (there2 : Present) → AllByRecursion (IsUnderWay stands.name stands.scene there2) p.calls.items.items → ((slot : ℕ) → used_as slot there2 ≡ used_as slot p.there) → HaveNames there2
+  pub stands_there : (there2 : Present) → AllByRecursion (IsUnderWay stands.name stands.scene there2) p.calls → ((slot : ℕ) → used_as slot there2 ≡ used_as slot p.there) → HaveNames there2
       → (there : Present) → there ≡ there2 → (events : ℕ) (is_alone : Bool) (slots : ℕ) (sheltered : List Sheltered)
       → StandsFor same hash terms (elsewhere events m.is_mapped m.is_closed is_alone there slots sheltered m.remains m) (record p { there = there2 })
   stands_there there2 each used names there is events is_alone slots sheltered = record {
@@ -51,14 +51,14 @@ module _ {K V S : Type 0} (same : K → K → Bool) (hash : K → ℕ) (terms : 
   }
 
   -- whether a guard lives that no call uses
-  pub uses_alike : (guard : List ℕ) → list_any (λ c. is_same c.guard guard) m.calls ≡ list_any (λ d. is_same d.guard guard) p.calls.items.items
-  uses_alike guard = any_alike seen seen_of m.calls p.calls.items.items stands.calls.listed (λ (z : Seen). is_same z.guard guard)
+  pub uses_alike : (guard : List ℕ) → list_any (λ c. is_same c.guard guard) m.calls ≡ list_any (λ d. is_same d.guard guard) p.calls
+  uses_alike guard = any_alike seen seen_of m.calls p.calls stands.calls.listed (λ (z : Seen). is_same z.guard guard)
 
-  pub free_is : (guard : List ℕ) → is_free_guard guard m ≡ is_some (free_slot guard p.there p.calls.items.items)
+  pub free_is : (guard : List ℕ) → is_free_guard guard m ≡ is_some (free_slot guard p.there p.calls)
   free_is guard =
       ap (λ (b : Bool). b && not (list_any (λ c. is_same c.guard guard) m.calls)) (ap (is_living guard) stands.there ∙ living_is guard p.there (stands.names.guards guard))
       ∙ ap (λ (b : Bool). is_some (living_slot (guard_of guard p.there.guards)) && not b) (uses_alike guard)
-      ∙ by (list_any (λ d. is_same d.guard guard) p.calls.items.items) (living_slot (guard_of guard p.there.guards))
+      ∙ by (list_any (λ d. is_same d.guard guard) p.calls) (living_slot (guard_of guard p.there.guards))
     where
       by : (b : Bool) (o : Option ℕ) → (is_some o && not b) ≡ is_some (if b then None else o)
       by true None = refl
@@ -67,11 +67,11 @@ module _ {K V S : Type 0} (same : K → K → Bool) (hash : K → ℕ) (terms : 
       by false (Some slot) = refl
 
   -- one that is free has no call
-  pub none_uses : (guard : List ℕ) → is_some (free_slot guard p.there p.calls.items.items) ≡ true → list_any (λ d. is_same d.guard guard) p.calls.items.items ≡ false
-  none_uses guard free = by (list_any (λ d. is_same d.guard guard) p.calls.items.items) refl free
+  pub none_uses : (guard : List ℕ) → is_some (free_slot guard p.there p.calls) ≡ true → list_any (λ d. is_same d.guard guard) p.calls ≡ false
+  none_uses guard free = by (list_any (λ d. is_same d.guard guard) p.calls) refl free
     where
-      by : (b : Bool) → list_any (λ d. is_same d.guard guard) p.calls.items.items ≡ b → is_some (if b then None else living_slot (guard_of guard p.there.guards)) ≡ true
-          → list_any (λ d. is_same d.guard guard) p.calls.items.items ≡ false
+      by : (b : Bool) → list_any (λ d. is_same d.guard guard) p.calls ≡ b → is_some (if b then None else living_slot (guard_of guard p.there.guards)) ≡ true
+          → list_any (λ d. is_same d.guard guard) p.calls ≡ false
       by true e f = absurd (cc f)
       by false e f = e
 
@@ -82,13 +82,13 @@ module _ {K V S : Type 0} (same : K → K → Bool) (hash : K → ℕ) (terms : 
   abbrev stands : StandsFor same hash terms m p
   stands = due.played
 
-  pub not_forgotten : is_some (free_slot guard p.there p.calls.items.items) ≡ false → Plays same hash terms log (quiet (Forget guard) (Refused Busy)) p
+  pub not_forgotten : is_some (free_slot guard p.there p.calls) ≡ false → Plays same hash terms log (quiet (Forget guard) (Refused Busy)) p
   not_forgotten none =
       let e = quiet (Forget guard) (Refused Busy) in
       plays same hash terms log (Forget guard) p due e refl (out_of_turn IsDone (is_free_guard guard m) (Refused Busy) (free_is same hash terms m p stands guard ∙ none) refl)
       (stands_on same hash terms m p stands (m.events + 1) (m.is_alone && is_alone_on e m) m.slots m.sheltered)
 
-  pub forgotten : is_some (free_slot guard p.there p.calls.items.items) ≡ true → (there2 : Present) → there2 ≡ forgets guard p.there
+  pub forgotten : is_some (free_slot guard p.there p.calls) ≡ true → (there2 : Present) → there2 ≡ forgets guard p.there
       → Plays same hash terms log (quiet (Forget guard) Done) (record p { there = there2 })
   forgotten free there2 is =
       let e = quiet (Forget guard) Done in
@@ -96,6 +96,6 @@ module _ {K V S : Type 0} (same : K → K → Bool) (hash : K → ℕ) (terms : 
       (plays same hash terms log (Forget guard) (record p { there = forgets guard p.there }) due e refl (in_turn IsDone (is_free_guard guard m) Done (free_is same hash terms m p stands guard ∙ free) refl)
       (stands_there same hash terms m p stands (forgets guard p.there)
       (all_but (IsUnderWay stands.name stands.scene p.there) (IsUnderWay stands.name stands.scene (forgets guard p.there)) (λ d. is_same d.guard guard)
-      (λ d other way. (way.0, way.1, way.2, ap living_slot (others_found guard d.guard p.there.guards other) ∙ way.3, way.4)) p.calls.items.items
+      (λ d other way. (way.0, way.1, way.2, ap living_slot (others_found guard d.guard p.there.guards other) ∙ way.3, way.4)) p.calls
       (none_uses same hash terms m p stands guard free) stands.calls.each)
       (λ slot. forgets_used guard slot p.there) (forgets_named guard p.there stands.names) (forgets guard m.there) (ap (forgets guard) stands.there) (m.events + 1) (m.is_alone && is_alone_on e m) m.slots m.sheltered))

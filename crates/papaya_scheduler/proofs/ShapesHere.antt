@@ -95,7 +95,7 @@ module _ {K V S : Type 0} (same : K → K → Bool) (hash : K → ℕ) (terms : 
   m = moment log
 
   abbrev found : Option (ℕ × Setting)
-  found = setting_named own p.maps.items p.logged.executor.maps.items
+  found = setting_named own p.maps p.logged.executor.maps.items
 
   module _ (stands : StandsFor same hash terms m p) (number : ℕ) (setting : Setting) (is : found ≡ Some (number, setting)) where
     abbrev its : (number_of own m ≡ Some number) × (standing : Standing K) × (stands.scene.maps number ≡ Some standing) × (standing.setting ≡ setting)

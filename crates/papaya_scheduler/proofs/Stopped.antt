@@ -39,7 +39,6 @@ use Rattle.papaya_named.specs.Machines.{IsAsFar}
 use Rattle.papaya_scheduler.specs.Played.{CallsAre, IsDue, IsUnderWay, Plays, StandsFor}
 use Rattle.papaya_named.specs.Seen.{Seen, far_of, if_ready, is_named, is_ready as is_ready_there, ready_place, seen, seen_of, shows}
 use Rattle.papaya_named.specs.declared.caller.Caller.{Caller}
-use Rattle.papaya_named.specs.declared.caller.Callers.{Callers}
 use Rattle.papaya_named.specs.declared.caller.Stands.{Stands as HowFar}
 use Rattle.papaya_named.specs.declared.caller.Stands.TheVariants as far
 use Rattle.papaya_named.specs.declared.kind.Kind.{Kind}
@@ -73,7 +72,7 @@ module _ {K V S : Type 0} (same : K → K → Bool) (hash : K → ℕ) (terms : 
   m = moment log
 
   abbrev calls : List (Caller V)
-  calls = p.calls.items.items
+  calls = p.calls
 
   module _ (stands : StandsFor same hash terms m p) where
     -- a walk of this name shows pairs just where it has a place
@@ -288,7 +287,7 @@ module _ {K V S : Type 0} (same : K → K → Bool) (hash : K → ℕ) (terms : 
                 no_work_at same hash new.executor then_at shown.is_at j none (no_making_of same hash p.logged.executor s at_s j before) (no_ending_of same hash p.logged.executor s at_s j before)
                 (row_rests same hash p.logged.executor s at_s j before)
 
-        stands_then : (callers : Callers V) → callers.items.items ≡ calls2 → StandsFor same hash terms then_m (record p { logged = new; calls = callers })
+        stands_then : (callers : List (Caller V)) → callers ≡ calls2 → StandsFor same hash terms then_m (record p { logged = new; calls = callers })
         stands_then callers items = record {
           name = stands.name;
           scene = then_at;
@@ -310,7 +309,7 @@ module _ {K V S : Type 0} (same : K → K → Bool) (hash : K → ℕ) (terms : 
           names = stands.names;
         }
 
-        pub done : (callers : Callers V) → callers.items.items ≡ calls2 → Plays same hash terms log (quiet (Stop own) Done) (record p { logged = new; calls = callers })
+        pub done : (callers : List (Caller V)) → callers ≡ calls2 → Plays same hash terms log (quiet (Stop own) Done) (record p { logged = new; calls = callers })
         done callers items =
             let e = quiet (Stop own) Done in
             let p2 = record p { logged = new; calls = callers } in

@@ -15,5 +15,5 @@ module _ {K V S : Type 0} (played : Played V) (old new : Scheduler K V S) where
   WorksOnAll =
       (new.calls ≡ old.calls)
       × (((played.outcome ≡ Refused Busy) × DidNothing played old new)
-      ⊎ ((played.outcome ≡ Done) × (are_gone old.there old.calls.items.items ≡ true)
+      ⊎ ((played.outcome ≡ Done) × (are_gone old.there old.calls ≡ true)
       × ReclaimingGone (nat_lt 0 (known old.logged.notes).buckets) [] played.effects.items old.logged new.logged))

@@ -88,8 +88,8 @@ pub record StandsAs {K V S : Type 0} (Far : Caller V → Machine K V K → Type 
   pub there : m.there ≡ p.there
   pub mapped : m.is_mapped ≡ p.is_mapped
   pub closed : m.is_closed ≡ p.is_closed
-  pub calls : CallsAs Far name scene p.there m p.calls.items.items
-  pub maps : MapsAre scene m p.maps.items
+  pub calls : CallsAs Far name scene p.there m p.calls
+  pub maps : MapsAre scene m p.maps
   pub slots : (slot : ℕ) → use_at p.logged.executor slot ≡ used_as slot p.there
   pub rests : (i : ℕ) → ((map : ℕ) → scene.calls map i ≡ None) → work_of p.logged.executor i ≡ None
   pub names : HaveNames p.there
@@ -125,18 +125,18 @@ module _ {K V S : Type 0} (same : K → K → Bool) (hash : K → ℕ) where
 
   -- How a call has begun: its caller is the first of all, by a name that no call has, under a guard that lives, on a map that is there; and the executor has begun it in the slot of the guard.
   pub record HasBegun (own guard name : List ℕ) (call : Call K V) (old new : Scheduler K V S) : Type 0 where
-    pub free : list_any (is_named own) old.calls.items.items ≡ false
+    pub free : list_any (is_named own) old.calls ≡ false
     pub slot : ℕ
     pub lives : living_slot (guard_of guard old.there.guards) ≡ Some slot
     pub number : ℕ
     pub setting : Setting
-    pub found : setting_named name old.maps.items old.logged.executor.maps.items ≡ Some (number, setting)
+    pub found : setting_named name old.maps old.logged.executor.maps.items ≡ Some (number, setting)
     pub leads : (names : ℕ → List ℕ) (v : Moment K V) (t : Scene K V) → IsShown same hash names v old.logged t
         → CallBegins same hash names v t (length old.logged.executor.workers.items * SLOTS + slot) number (machine_for (record setting { slot = slot }) hash call) old.logged new.logged
     pub caller : Caller V
     pub is : seen_of caller ≡ record { name = own; guard = guard; map = number; kind = kind_of call; far = far.Goes }
     pub numbered : caller.number ≡ length old.logged.executor.workers.items * SLOTS + slot
-    pub items : new.calls.items.items ≡ caller ∷ old.calls.items.items
+    pub items : new.calls ≡ caller ∷ old.calls
     pub rest : new ≡ record old { logged = new.logged; calls = new.calls }
     pub notes : new.logged.notes ≡ old.logged.notes
 
@@ -156,12 +156,12 @@ module _ {K V S : Type 0} (same : K → K → Bool) (hash : K → ℕ) where
   -- How a reply was told: to the call of this name, which takes it, at its place; the executor has gone on by it.
   pub record HasReplied (own : List ℕ) (reply : Reply V) (old new : Scheduler K V S) : Type 0 where
     pub place : ℕ
-    pub placed : Some place ≡ position (is_named own) old.calls.items.items
+    pub placed : Some place ≡ position (is_named own) old.calls
     pub asked : Caller V
-    pub reads : asked ≡ slice_index_or old.calls.items.items place asked
+    pub reads : asked ≡ slice_index_or old.calls place asked
     pub taken : takes asked reply ≡ true
     pub whose : Caller V
-    pub reads_whose : whose ≡ slice_index_or old.calls.items.items place whose
+    pub reads_whose : whose ≡ slice_index_or old.calls place whose
     pub as_it : MachineReply V
     pub is_told : as_it ≡ as_told reply
     pub result : Result Unit (MachineReply V)
@@ -169,8 +169,8 @@ module _ {K V S : Type 0} (same : K → K → Bool) (hash : K → ℕ) where
     pub leads : (s : Scene K V) → IsAt same hash old.logged.executor s → ReplyLeads same hash whose.number as_it result s old.logged.executor new.logged.executor
     pub value : Option V
     pub value_is : value ≡ aborted_by reply
-    pub calls : (d : Caller V) → slice_get old.calls.items.items place ≡ Some d
-        → new.calls.items.items ≡ slice_set old.calls.items.items place (record d { stands = far.Goes; value = value })
+    pub calls : (d : Caller V) → slice_get old.calls place ≡ Some d
+        → new.calls ≡ slice_set old.calls place (record d { stands = far.Goes; value = value })
     pub notes : new.logged.notes ≡ old.logged.notes
 
   abbrev pub Replies : List ℕ → Reply V → Played V → (old new : Scheduler K V S) → Type 0
@@ -179,12 +179,12 @@ module _ {K V S : Type 0} (same : K → K → Bool) (hash : K → ℕ) where
   -- How a walk was given up that was ready: its caller is there no more, and the executor has given it up.
   pub record HasStopped (own : List ℕ) (old new : Scheduler K V S) : Type 0 where
     pub place : ℕ
-    pub ready : Some place ≡ ready_place own old.calls.items.items
+    pub ready : Some place ≡ ready_place own old.calls
     pub whose : Caller V
-    pub reads : whose ≡ slice_index_or old.calls.items.items place whose
+    pub reads : whose ≡ slice_index_or old.calls place whose
     pub stopped : Bool
     pub leads : (s : Scene K V) → IsAt same hash old.logged.executor s → StopLeads same hash whose.number stopped s old.logged.executor new.logged.executor
-    pub calls : new.calls.items.items ≡ remove old.calls.items.items place
+    pub calls : new.calls ≡ remove old.calls place
     pub notes : new.logged.notes ≡ old.logged.notes
 
   abbrev pub Stops : List ℕ → Played V → (old new : Scheduler K V S) → Type 0

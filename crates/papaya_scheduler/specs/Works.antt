@@ -46,8 +46,8 @@ module _ {K V S : Type 0} where
       (option_map (λ r. r.slot) (registration_of registration p.there.registrations) ≡ Some slot) × ((living_on slot p.there.guards == 0) ≡ true)
   IsAbout (Enter guard registration) p slot =
       (is_some (guard_of guard p.there.guards) ≡ false) × (option_map (λ r. r.slot) (registration_of registration p.there.registrations) ≡ Some slot)
-  IsAbout (Refresh guard) p slot = free_slot guard p.there p.calls.items.items ≡ Some slot
-  IsAbout (DropGuard guard) p slot = free_slot guard p.there p.calls.items.items ≡ Some slot
+  IsAbout (Refresh guard) p slot = free_slot guard p.there p.calls ≡ Some slot
+  IsAbout (DropGuard guard) p slot = free_slot guard p.there p.calls ≡ Some slot
   IsAbout (Flush guard) p slot = living_slot (guard_of guard p.there.guards) ≡ Some slot
   IsAbout _ p slot = ⊥
 
@@ -108,7 +108,7 @@ module _ {K V S : Type 0} (played : Played V) (old new : Scheduler K V S) where
     pub caller : ℕ
     pub fresh : caller ≡ length old.logged.executor.workers.items * SLOTS + 0
     pub faultless : map_fault mode capacity ≡ None
-    pub free : is_none (number_named own old.maps.items) ≡ true
+    pub free : is_none (number_named own old.maps) ≡ true
     pub places : ℕ
     pub given : Setting
     pub places_are : places ≡ first_places capacity
@@ -138,8 +138,8 @@ module _ {K V S : Type 0} (played : Played V) (old new : Scheduler K V S) where
     pub caller : ℕ
     pub fresh : caller ≡ length old.logged.executor.workers.items * SLOTS + 0
     pub number : ℕ
-    pub found : number_named own old.maps.items ≡ Some number
-    pub free : list_any (λ d. d.map == number) old.calls.items.items ≡ false
+    pub found : number_named own old.maps ≡ Some number
+    pub free : list_any (λ d. d.map == number) old.calls ≡ false
     pub began : Logged K V S
     pub begins : (same : K → K → Bool) (hash : K → ℕ) (name : ℕ → List ℕ) (m : Moment K V) (s : Scene K V) → IsShown same hash name m old.logged s
         → EndIsBegun same hash name m s number caller old.logged began

@@ -1,5 +1,5 @@
 //! Calls begin, get replies, and are given up.
-ghost use Rattle.std.specs.Prelude.{◌≡◌, ℕ, Bool, List, IfOk};
+ghost use Rattle.std.specs.Prelude.{◌≡◌, ℕ, Bool, List, None, IfOk, MatchOption};
 ghost use Rattle.papaya_schedules.specs.declared.event.Event.TheVariants as event;
 ghost use Rattle.papaya_schedules.specs.Moment.{Moment};
 ghost use Rattle.papaya_schedules.specs.Terms.{Terms};
@@ -8,7 +8,7 @@ ghost use Rattle.papaya_executor.specs.IsAt.{KeepsGiven};
 ghost use Rattle.papaya_named.specs.Machines.{aborted_by};
 ghost use Rattle.papaya_scheduler.specs.Played.{Began, BeginsSo, MayPlay, PlaysAt, Replies, StandsFor, Stops};
 ghost use Rattle.papaya_scheduler.specs.Quiet.{IsQuiet, StaysBusy};
-ghost use Rattle.papaya_named.specs.Seen.{ready_place};
+ghost use Rattle.papaya_named.specs.Seen.{IsReadyAt, ready_place};
 
 use crate::played::Played;
 use crate::scheduler::Scheduler;
@@ -50,7 +50,7 @@ impl<K: Eq + Hash + Drop, V: Drop, S: Hashes<K>> Scheduler<K, V, S> {
             → BeginsSo K.eq (S.hash self.old.logged.executor.hasher) terms m name guard map.now call begun self.old self.new) }
         ensures given { KeepsGiven self.old.logged.executor self.new.logged.executor }
     {
-        if self.calls.place_of(&name).is_some() {
+        if self.calls.has(&name) {
             return Ok(false);
         }
         let Some(slot) = self.there.slot_of_living(&guard) else {
@@ -109,27 +109,27 @@ impl<K: Drop, V: Drop, S> Scheduler<K, V, S> {
         ensures stays { (same : K → K → Bool) (hash : K → ℕ) → StaysBusy same hash (event.Replied caller.now reply) result self.old self.new }
         ensures given { KeepsGiven self.old.logged.executor self.new.logged.executor }
     {
-        let Some(place) = self.calls.place_of(caller) else {
+        let Some(called) = self.calls.get(caller) else {
             return self.busy();
         };
-        if !self.calls.items[place].takes(&reply) {
+        if !called.takes(&reply) {
             return self.busy();
         }
-        let number = self.calls.items[place].number;
+        let number = called.number;
         let (told, value) = told_by(reply);
         if self.logged.reply(number, told).is_err() {
             return self.busy();
         }
-        self.calls.resume(place, value);
+        self.calls.resume(caller, value);
         self.quietly(Outcome::Goes)
     }
 
-    /// The place of the caller of this name, if its call is a walk that shows pairs.
-    pub fn place_of_ready(&self, caller: &Token) -> Option<usize>
-        ensures { result ≡ ready_place caller.now self.now.calls.items.items }
+    /// The number of the call of the caller of this name, if it is a walk that shows pairs.
+    pub fn ready_number(&self, caller: &Token) -> Option<u64>
+        ensures { MatchOption result (ready_place caller.now self.now.calls ≡ None) (IsReadyAt caller.now self.now.calls) }
     {
-        match self.calls.place_of(caller) {
-            Some(place) if self.calls.items[place].shows() => Some(place),
+        match self.calls.get(caller) {
+            Some(called) if called.shows() => Some(called.number),
             _ => None,
         }
     }
@@ -144,12 +144,11 @@ impl<K: Drop, V: Drop, S> Scheduler<K, V, S> {
         ensures stays { (same : K → K → Bool) (hash : K → ℕ) → StaysBusy same hash (event.Stop caller.now) result self.old self.new }
         ensures given { KeepsGiven self.old.logged.executor self.new.logged.executor }
     {
-        let Some(place) = self.place_of_ready(caller) else {
+        let Some(number) = self.ready_number(caller) else {
             return self.busy();
         };
-        let number = self.calls.items[place].number;
         self.logged.stop(number);
-        self.calls.items.remove(place);
+        self.calls.remove(caller);
         self.quietly(Outcome::Done)
     }
 }

@@ -15,9 +15,10 @@ ghost use Rattle.seize_words.specs.declared.fault.Fault.TheVariants.{Busy};
 use crate::played::Played;
 use papaya_executor::row::{RowTold, SlotCall};
 use papaya_logged::logged::Logged;
-use papaya_named::caller::Callers;
+use papaya_named::callers::Callers;
 use papaya_named::named_map::NamedMap;
 use papaya_present::Present;
+use papaya_present::crowd::Crowd;
 use papaya_raw::{Node, Setting};
 use papaya_runs::event::Setup;
 use papaya_runs::record::Pair;
@@ -36,7 +37,7 @@ pub struct Scheduler<K, V, S> {
     /// The registrations and the guards.
     pub there: Present,
     /// The maps that are there, in the order in which they were made.
-    pub maps: Vec<NamedMap>,
+    pub maps: Crowd<NamedMap>,
     /// The callers that have a call under way.
     pub calls: Callers<V>,
     /// Whether an event was to make a map.
@@ -57,7 +58,7 @@ impl<K: Drop, V: Drop, S: Drop> Scheduler<K, V, S> {
             logged: Logged::new(alloc, hasher, setup.batch_size, setup.roots)?,
             setup,
             there: Present::nobody(alloc),
-            maps: Vec::new(alloc),
+            maps: Crowd::new(alloc),
             calls: Callers::nobody(alloc),
             is_mapped: false,
             is_closed: false,
@@ -70,7 +71,7 @@ impl<K, V, S> Scheduler<K, V, S> {
     pub fn no_effects(&self) -> Vec<Effect>
         ensures { result.items ≡ [] }
     {
-        Vec::new(*self.maps.allocator())
+        Vec::new(self.maps.alloc())
     }
 
     /// An event came to this, and did nothing.
@@ -79,7 +80,7 @@ impl<K, V, S> Scheduler<K, V, S> {
         ensures steps { result.steps ≡ 0 }
         ensures effects { result.effects.items ≡ [] }
     {
-        Played::quietly(*self.maps.allocator(), outcome)
+        Played::quietly(self.maps.alloc(), outcome)
     }
 
     /// An event was out of turn.
@@ -88,14 +89,14 @@ impl<K, V, S> Scheduler<K, V, S> {
         ensures steps { result.steps ≡ 0 }
         ensures effects { result.effects.items ≡ [] }
     {
-        Played::busy(*self.maps.allocator())
+        Played::busy(self.maps.alloc())
     }
 
     /// The number of the map of this name.
     pub fn number_of(&self, map: &Token) -> Option<u64>
-        ensures { result ≡ number_named map.now self.now.maps.items }
+        ensures { result ≡ number_named map.now self.now.maps }
     {
-        match self.maps.iter().find(|there| there.name.is(map)) {
+        match self.maps.get(map) {
             Some(there) => Some(there.number),
             None => None,
         }
@@ -105,7 +106,7 @@ impl<K, V, S> Scheduler<K, V, S> {
 impl<K: Drop, V: Drop, S> Scheduler<K, V, S> {
     /// The number of the map of this name, and with what its calls work.
     pub fn setting_of(&self, map: &Token) -> Option<(u64, Setting)>
-        ensures { result ≡ setting_named map.now self.now.maps.items self.now.logged.executor.maps.items }
+        ensures { result ≡ setting_named map.now self.now.maps self.now.logged.executor.maps.items }
     {
         let number = self.number_of(map)?;
         match self.logged.executor.maps.get(number as usize) {
@@ -116,7 +117,7 @@ impl<K: Drop, V: Drop, S> Scheduler<K, V, S> {
 
     /// The slot of the guard of this name, where it lives, and no call under way uses it.
     pub fn slot_of_free(&self, guard: &Token) -> Option<u64>
-        ensures { result ≡ free_slot guard.now self.now.there self.now.calls.items.items }
+        ensures { result ≡ free_slot guard.now self.now.there self.now.calls }
     {
         if self.calls.uses(guard) {
             return None;

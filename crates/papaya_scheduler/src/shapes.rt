@@ -59,7 +59,7 @@ impl<K: Drop, V: Drop, S> Scheduler<K, V, S> {
         match self.setting_of(map) {
             Some((_, setting)) => {
                 let memory = &self.logged.executor.memory.memory;
-                let shapes = shapes(*self.maps.allocator(), memory, setting)?;
+                let shapes = shapes(self.maps.alloc(), memory, setting)?;
                 Ok(self.quietly(Outcome::Shape(shapes)))
             }
             None => Ok(self.busy()),

@@ -49,7 +49,7 @@ module _ {K V S : Type 0} (same : K → K → Bool) (hash : K → ℕ) (terms : 
   d = here.caller
 
   abbrev calls : List (Caller V)
-  calls = p.calls.items.items
+  calls = p.calls
 
   abbrev change : CallThere K V → CallThere K V
   change x = comes_to outcome (record x { steps = x.steps + counted })

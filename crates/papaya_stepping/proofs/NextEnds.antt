@@ -43,10 +43,9 @@ use Rattle.papaya_named.specs.Machines.{IsFor}
 use Rattle.papaya_scheduler.specs.Played.{AsFar, IsDue, StandsAs, StandsFor}
 use Rattle.papaya_named.specs.Seen.{Seen, is_named, is_ready as is_ready_there, ready_place, seen, seen_of}
 use Rattle.papaya_scheduler.specs.Quiet.{IsQuiet}
-use Rattle.papaya_stepping.specs.Stepping.{IsMidWalk, IsStepOf, PlaysNext, ReadyAt, WalkComes, WalksFar, callers_then, outcome_of}
+use Rattle.papaya_stepping.specs.Stepping.{IsMidWalk, IsPlaced, IsStepOf, PlaysNext, ReadyAt, WalkComes, WalksFar, callers_then, outcome_of}
 use Rattle.papaya_named.specs.Telling.{answer_of, number_by, swept}
 use Rattle.papaya_named.specs.declared.caller.Caller.{Caller}
-use Rattle.papaya_named.specs.declared.caller.Callers.{Callers}
 use Rattle.papaya_named.specs.declared.caller.Stands.{Stands as HowFar}
 use Rattle.papaya_named.specs.declared.caller.Stands.TheVariants as far
 use Rattle.papaya_named.specs.declared.kind.Kind.{Kind}
@@ -75,7 +74,7 @@ module _ {K V S : Type 0} (same : K → K → Bool) (hash : K → ℕ) (terms : 
   d = its.caller
 
   abbrev calls : List (Caller V)
-  calls = p.calls.items.items
+  calls = p.calls
 
   abbrev Leads : Progress (Node K V) → Logged K V S → (before after : List Effect) → Type 0
   Leads said new before after = CallGoesOn same hash stands.name w stands.scene d.number d.map said before after p.logged new
@@ -84,7 +83,7 @@ module _ {K V S : Type 0} (same : K → K → Bool) (hash : K → ℕ) (terms : 
   others : (x : Caller V) → is_named own x ≡ false → (machine : Machine K V K) → WalksFar own n x machine → AsFar x machine
   others x apart machine is = is.1 apart
 
-  module _ (new : Logged K V S) (before after : List Effect) (callers : Callers V) (counted : ℕ) where
+  module _ (new : Logged K V S) (before after : List Effect) (callers : List (Caller V)) (counted : ℕ) where
     abbrev by : Known
     by = known new.notes
 
@@ -95,7 +94,7 @@ module _ {K V S : Type 0} (same : K → K → Bool) (hash : K → ℕ) (terms : 
     p2 = record p { logged = new; calls = callers }
 
     -- it shows a pair, and is ready
-    shows_pair : (word : ℕ) → Leads (progress.Pair word) new before after → callers.items.items ≡ callers_then {K = K} by place d (progress.Pair word) calls
+    shows_pair : (word : ℕ) → Leads (progress.Pair word) new before after → callers ≡ callers_then {K = K} by place d (progress.Pair word) calls
         → StandsFor same hash terms (come_to own (Shows (number_by by word)) counted w2) p2
     shows_pair word leads_so items =
         going_on (WalksFar own n) AsFar own others same hash terms w p stands place its (progress.Pair word) new (leads_so its.way.0 its.way.1).0
@@ -142,7 +141,7 @@ module _ {K V S : Type 0} (same : K → K → Bool) (hash : K → ℕ) (terms : 
             }
 
     -- it has shown all, and is under way no more
-    shows_none : Leads (progress.Done answers.Swept) new before after → callers.items.items ≡ callers_then {K = K} by place d (progress.Done answers.Swept) calls
+    shows_none : Leads (progress.Done answers.Swept) new before after → callers ≡ callers_then {K = K} by place d (progress.Done answers.Swept) calls
         → StandsFor same hash terms (come_to own (Answered (answer_of by d.kind d.value answers.Swept)) counted w2) p2
     shows_none leads_so items =
         has_gone (WalksFar own n) AsFar own others same hash terms w p stands place its (progress.Done answers.Swept) new (leads_so its.way.0 its.way.1).0
@@ -181,11 +180,11 @@ module _ {K V S : Type 0} (same : K → K → Bool) (hash : K → ℕ) (terms : 
       pub is_next : IsNext (outcome_of by d.kind d.value said)
       pub stands_told : StandsFor same hash terms (come_to own (outcome_of by d.kind d.value said) counted w2) p2
 
-    pub walk_ends : (said : Progress (Node K V)) → (said ≡ progress.Goes → ⊥) → Leads said new before after → callers.items.items ≡ callers_then by place d said calls → Ends said
+    pub walk_ends : (said : Progress (Node K V)) → (said ≡ progress.Goes → ⊥) → Leads said new before after → callers ≡ callers_then by place d said calls → Ends said
     walk_ends said never leads_so items =
         let so = saying same hash terms own n w p stands place at_place said new before after leads_so in of said never leads_so items so.0 so.3
       where
-        of : (x : Progress (Node K V)) → (x ≡ progress.Goes → ⊥) → Leads x new before after → callers.items.items ≡ callers_then by place d x calls → (after_it : Sweep)
+        of : (x : Progress (Node K V)) → (x ≡ progress.Goes → ⊥) → Leads x new before after → callers ≡ callers_then by place d x calls → (after_it : Sweep)
             → NextSays (its_sweep same hash terms own n w p stands place at_place).sweep x after_it → Ends x
         of progress.Goes fails l it after_it so = absurd (fails refl)
         of (progress.Pair word) fails l it after_it so = record { is_next = tt; stands_told = shows_pair word l it }
@@ -210,7 +209,7 @@ module _ {K V S : Type 0} (same : K → K → Bool) (hash : K → ℕ) (terms : 
   abbrev m : Moment K V
   m = moment log
 
-  pub next_busy : None ≡ ready_place own old.calls.items.items → PlaysNext same hash terms log (quiet (Next own) (Refused Busy)) old
+  pub next_busy : None ≡ ready_place own old.calls → PlaysNext same hash terms log (quiet (Next own) (Refused Busy)) old
   next_busy none =
       let e = quiet (Next own) (Refused Busy) in record {
         plays = plays same hash terms log (Next own) old due e refl (out_of_turn IsNext (shows_now (call_of own m)) (Refused Busy) (shows_by same hash terms log old own due.played None none) refl)
@@ -223,8 +222,8 @@ module _ {K V S : Type 0} (same : K → K → Bool) (hash : K → ℕ) (terms : 
       }
 
   -- the walk is asked for its next pair
-  module _ (place : ℕ) (ready : Some place ≡ ready_place own old.calls.items.items) where
-    abbrev parts : (Some place ≡ position (is_named own) old.calls.items.items) × (is_ready_there (slice_get old.calls.items.items place) ≡ true)
+  module _ (place : ℕ) (ready : Some place ≡ ready_place own old.calls) where
+    abbrev parts : (Some place ≡ position (is_named own) old.calls) × (is_ready_there (slice_get old.calls place) ≡ true)
     parts = ready_parts same hash terms log old own due.played place ready
 
     abbrev pub asked_here : Here same hash terms m old due.played own place
@@ -267,15 +266,18 @@ module _ {K V S : Type 0} (same : K → K → Bool) (hash : K → ℕ) (terms : 
     abbrev did : List Effect
     did = midst.did ++ last_did same hash terms own place m n [] mid effects p walked midst said step
 
-    calls_same : walked.calls.items.items ≡ p.calls.items.items
-    calls_same = ap (λ (x : Scheduler K V S). x.calls.items.items) step.rest
+    calls_same : walked.calls ≡ p.calls
+    calls_same = ap (λ (x : Scheduler K V S). x.calls) step.rest
 
-    pub there : slice_get walked.calls.items.items place ≡ Some at_it.caller
+    pub there : slice_get walked.calls place ≡ Some at_it.caller
     there = ap (λ (l : List (Caller V)). slice_get l place) calls_same ∙ at_it.at
 
-    module _ (ready : Some place ≡ ready_place own old.calls.items.items) (callers : Callers V)
-        (told : (caller : Caller V) → slice_get walked.calls.items.items place ≡ Some caller → callers.items.items ≡ callers_then (known walked.logged.notes) place caller said walked.calls.items.items)
-        (outcome : Outcome V) (comes_to_it : (caller : Caller V) → slice_get walked.calls.items.items place ≡ Some caller → outcome ≡ outcome_of (known walked.logged.notes) caller.kind caller.value said) where
+    pub placed_there : IsPlaced own place walked.calls
+    placed_there = midst.ready.0 ∙ ap (λ (l : List (Caller V)). position (is_named own) l) (sym calls_same)
+
+    module _ (ready : Some place ≡ ready_place own old.calls) (callers : List (Caller V))
+        (told : (caller : Caller V) → slice_get walked.calls place ≡ Some caller → callers ≡ callers_then (known walked.logged.notes) place caller said walked.calls)
+        (outcome : Outcome V) (comes_to_it : (caller : Caller V) → slice_get walked.calls place ≡ Some caller → outcome ≡ outcome_of (known walked.logged.notes) caller.kind caller.value said) where
       ends : Ends same hash terms own n (midst_w same hash terms own place m n [] mid effects p walked midst) p midst.stands place midst.ready walked.logged mid effects callers steps said
       ends = walk_ends same hash terms own n (midst_w same hash terms own place m n [] mid effects p walked midst) p midst.stands place midst.ready walked.logged mid effects callers steps said comes.0
           (leads_is same hash terms own place m n [] mid effects p walked midst said step)

@@ -133,7 +133,7 @@ module _ {K V S : Type 0} (same : K → K → Bool) (hash : K → ℕ) (terms : 
   d = here.caller
 
   abbrev calls : List (Caller V)
-  calls = p.calls.items.items
+  calls = p.calls
 
   pub is_ready : d.stands ≡ far.Ready
   is_ready = ap (λ (x : Caller V). x.stands) (the d at_place.1 (sym here.at ∙ at_place.2)) ∙ at_place.3
@@ -229,8 +229,8 @@ module _ {K V S : Type 0} (same : K → K → Bool) (hash : K → ℕ) (terms : 
         (with_effects (Some own) (Some its.caller.map) did w) (shown same hash terms own n w p stands place at_place progress.Goes new before after leads_so) (there_stays (Some own) (Some its.caller.map) did w)
         (mapped_stays (Some own) (Some its.caller.map) did w) (closed_stays (Some own) (Some its.caller.map) did w) (maps_named (Some own) (Some its.caller.map) did w) more.0 more.1 its.caller.stands its.caller.value
         (goes_far more.0 more.1)
-        (alike same hash terms own n w p stands place at_place progress.Goes new before after leads_so ∙ sym (ap (map seen_of) (set_itself p.calls.items.items place its.caller its.at))) p.calls
-        (sym (set_itself p.calls.items.items place its.caller its.at))
+        (alike same hash terms own n w p stands place at_place progress.Goes new before after leads_so ∙ sym (ap (map seen_of) (set_itself p.calls place its.caller its.at))) p.calls
+        (sym (set_itself p.calls place its.caller its.at))
 
 -- so it is midst its steps
 module _ {K V S : Type 0} (same : K → K → Bool) (hash : K → ℕ) (terms : Terms) (own : List ℕ) (place : ℕ) (m : Moment K V) (n : ℕ) (before mid after : List Effect) (p new : Scheduler K V S)
@@ -296,7 +296,7 @@ module _ {K V S : Type 0} (same : K → K → Bool) (hash : K → ℕ) (terms : 
     w = with_effects (Some own) (Some midst.call.map) midst.did m
 
     -- it may take a step
-    pub may_walk : (x : Caller V) → slice_get p.calls.items.items place ≡ Some x → (s : Scene K V) × IsAt same hash p.logged.executor s × HasCall s x.number
+    pub may_walk : (x : Caller V) → slice_get p.calls place ≡ Some x → (s : Scene K V) × IsAt same hash p.logged.executor s × HasCall s x.number
     may_walk x at_x =
         let it = here same hash terms own n w p midst.stands place midst.ready in
         let same_one : it.caller ≡ x = the it.caller x (sym it.at ∙ at_x) in

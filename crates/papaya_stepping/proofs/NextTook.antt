@@ -15,26 +15,25 @@ use Rattle.papaya_scheduler.specs.Given.Logged.Shown.{IsShown}
 use Rattle.papaya_scheduler.specs.Given.Logged.declared.logged.Logged.{Logged}
 use Rattle.papaya_named.specs.Seen.{ready_place}
 use Rattle.papaya_named.specs.declared.caller.Caller.{Caller}
-use Rattle.papaya_named.specs.declared.caller.Callers.{Callers}
 use Rattle.papaya_scheduler.specs.declared.played.Played.{Played}
 use Rattle.papaya_scheduler.specs.declared.scheduler.Scheduler.{Scheduler}
 use Rattle.papaya_stepping.specs.Stepping.{HasWalked, IsStepOf, IsStepped, TookNext, WalkComes, callers_then, outcome_of}
 use Rattle.papaya_stepping.proofs.StepSays.{the}
 
 module _ {K V S : Type 0} (same : K → K → Bool) (hash : K → ℕ) (place : ℕ) (old : Scheduler K V S) (asked : Logged K V S) (said : Progress (Node K V)) (outcome : Outcome V) (steps : ℕ) (effects : Vec Effect)
-    (walked : Scheduler K V S) (comes : WalkComes same hash place steps said [] effects.items (record old { logged = asked }) walked) (callers : Callers V)
-    (told : (caller : Caller V) → slice_get walked.calls.items.items place ≡ Some caller → callers.items.items ≡ callers_then (known walked.logged.notes) place caller said walked.calls.items.items)
-    (comes_to_it : (caller : Caller V) → slice_get walked.calls.items.items place ≡ Some caller → outcome ≡ outcome_of (known walked.logged.notes) caller.kind caller.value said) where
+    (walked : Scheduler K V S) (comes : WalkComes same hash place steps said [] effects.items (record old { logged = asked }) walked) (callers : List (Caller V))
+    (told : (caller : Caller V) → slice_get walked.calls place ≡ Some caller → callers ≡ callers_then (known walked.logged.notes) place caller said walked.calls)
+    (comes_to_it : (caller : Caller V) → slice_get walked.calls place ≡ Some caller → outcome ≡ outcome_of (known walked.logged.notes) caller.kind caller.value said) where
   abbrev played : Played V
   played = record { outcome = outcome; steps = steps; effects = effects }
 
   abbrev step : IsStepOf same hash place said comes.3 effects.items comes.4 walked
   step = comes.5
 
-  calls_same : walked.calls.items.items ≡ comes.4.calls.items.items
-  calls_same = ap (λ (x : Scheduler K V S). x.calls.items.items) step.rest
+  calls_same : walked.calls ≡ comes.4.calls
+  calls_same = ap (λ (x : Scheduler K V S). x.calls) step.rest
 
-  there : slice_get walked.calls.items.items place ≡ Some step.caller
+  there : slice_get walked.calls place ≡ Some step.caller
   there = ap (λ (l : List (Caller V)). slice_get l place) calls_same ∙ step.at
 
   -- its last step, of which its caller was told
@@ -50,7 +49,7 @@ module _ {K V S : Type 0} (same : K → K → Bool) (hash : K → ℕ) (place : 
     given = step.given;
   }
 
-  has_walked : (caller : Caller V) → slice_get old.calls.items.items place ≡ Some caller → (ready : Bool) (number : ℕ) → number ≡ caller.number
+  has_walked : (caller : Caller V) → slice_get old.calls place ≡ Some caller → (ready : Bool) (number : ℕ) → number ≡ caller.number
       → ((s : Scene K V) → IsAt same hash old.logged.executor s → AskLeads same hash number ready s old.logged.executor asked.executor)
       → ((name : ℕ → List ℕ) (m : Moment K V) (s : Scene K V) → IsShown same hash name m old.logged s → WalkGoesOn same hash name m s number ready old.logged asked)
       → asked.notes ≡ old.logged.notes → KeepsGiven old.logged.executor asked.executor → HasWalked same hash place played old (record walked { calls = callers })
@@ -72,8 +71,8 @@ module _ {K V S : Type 0} (same : K → K → Bool) (hash : K → ℕ) (place : 
   }
 
   -- so it is of an event by which a walk of this name that was ready was asked
-  pub took_next : (own : List ℕ) → Some place ≡ ready_place own old.calls.items.items → (new : Scheduler K V S) → new ≡ record walked { calls = callers }
-      → (caller : Caller V) → slice_get old.calls.items.items place ≡ Some caller → (ready : Bool) (number : ℕ) → number ≡ caller.number
+  pub took_next : (own : List ℕ) → Some place ≡ ready_place own old.calls → (new : Scheduler K V S) → new ≡ record walked { calls = callers }
+      → (caller : Caller V) → slice_get old.calls place ≡ Some caller → (ready : Bool) (number : ℕ) → number ≡ caller.number
       → ((s : Scene K V) → IsAt same hash old.logged.executor s → AskLeads same hash number ready s old.logged.executor asked.executor)
       → ((name : ℕ → List ℕ) (m : Moment K V) (s : Scene K V) → IsShown same hash name m old.logged s → WalkGoesOn same hash name m s number ready old.logged asked)
       → asked.notes ≡ old.logged.notes → KeepsGiven old.logged.executor asked.executor → TookNext same hash own played old new

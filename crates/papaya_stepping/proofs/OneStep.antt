@@ -46,7 +46,6 @@ use Rattle.papaya_named.specs.Seen.{Seen, far_of, is_named, seen, seen_of}
 use Rattle.papaya_stepping.specs.Stepping.{ComesAs, ComesBy, GoesAt, IsStepped, caller_then, callers_then, far_then, outcome_of}
 use Rattle.papaya_named.specs.Telling.{goes_on, kept}
 use Rattle.papaya_named.specs.declared.caller.Caller.{Caller}
-use Rattle.papaya_named.specs.declared.caller.Callers.{Callers}
 use Rattle.papaya_named.specs.declared.caller.Stands.{Stands as HowFar}
 use Rattle.papaya_named.specs.declared.caller.Stands.TheVariants as far
 use Rattle.papaya_named.specs.declared.kind.Kind.{Kind}
@@ -180,7 +179,7 @@ module _ {K V S : Type 0} (same : K → K → Bool) (hash : K → ℕ) (terms : 
   c = here.call
 
   abbrev calls : List (Caller V)
-  calls = p.calls.items.items
+  calls = p.calls
 
   goes : d.stands ≡ far.Goes
   goes = ap (λ (x : Caller V). x.stands) (the d at.1 (sym here.at ∙ at.2)) ∙ at.3
@@ -235,14 +234,14 @@ module _ {K V S : Type 0} (same : K → K → Bool) (hash : K → ℕ) (terms : 
     alike : map seen w.calls ≡ map seen_of calls
     alike = calls_seen own (Some d.map) did m ∙ stands.calls.listed
 
-    module _ (callers : Callers V) (items : callers.items.items ≡ callers_then by place d said calls) where
+    module _ (callers : List (Caller V)) (items : callers ≡ callers_then by place d said calls) where
       abbrev p2 : Scheduler K V S
       p2 = record p { logged = new; calls = callers }
 
-      items_on : has_ended said ≡ false → callers.items.items ≡ slice_set calls place gone_on
+      items_on : has_ended said ≡ false → callers ≡ slice_set calls place gone_on
       items_on on = items ∙ ap (λ (b : Bool). if b then remove calls place else slice_set calls place (caller_then by d said)) on ∙ ap (λ (x : Caller V). slice_set calls place x) (caller_as by d said)
 
-      items_gone : has_ended said ≡ true → callers.items.items ≡ remove calls place
+      items_gone : has_ended said ≡ true → callers ≡ remove calls place
       items_gone over = items ∙ ap (λ (b : Bool). if b then remove calls place else slice_set calls place (caller_then by d said)) over
 
       -- as it goes on by itself, before its outcome is told
@@ -407,9 +406,9 @@ module _ {K V S : Type 0} (same : K → K → Bool) (hash : K → ℕ) (terms : 
   outcome_so = ap (λ (k : Known). outcome_of k its.caller.kind its.caller.value step.said) (sym known_is)
       ∙ ap (λ (x : Caller V). outcome_of (known new.logged.notes) x.kind x.value step.said) (sym caller_is) ∙ sym step.outcome_is
 
-  items_so : new.calls.items.items ≡ callers_then then_known place its.caller step.said p.calls.items.items
-  items_so = step.calls ∙ ap (λ (x : Caller V). callers_then (known new.logged.notes) place x step.said p.calls.items.items) caller_is
-      ∙ ap (λ (k : Known). callers_then k place its.caller step.said p.calls.items.items) known_is
+  items_so : new.calls ≡ callers_then then_known place its.caller step.said p.calls
+  items_so = step.calls ∙ ap (λ (x : Caller V). callers_then (known new.logged.notes) place x step.said p.calls) caller_is
+      ∙ ap (λ (k : Known). callers_then k place its.caller step.said p.calls) known_is
 
   pub step_comes : ComesBy same hash terms own place m 1 outcome before after new
   step_comes =

@@ -31,7 +31,7 @@ module _ {K V S : Type 0} (same : K → K → Bool) (hash : K → ℕ) (terms : 
   m = moment log
 
   -- nobody has that name
-  no_call : (stands : StandsFor same hash terms m p) → position (is_named own) p.calls.items.items ≡ None → is_some (call_of own m) ≡ false
+  no_call : (stands : StandsFor same hash terms m p) → position (is_named own) p.calls ≡ None → is_some (call_of own m) ≡ false
   no_call stands none = there_is same hash terms m p stands own None (sym none)
 
   -- a refusal as out of turn leaves all calls as they were, but for steps that are none
@@ -50,7 +50,7 @@ module _ {K V S : Type 0} (same : K → K → Bool) (hash : K → ℕ) (terms : 
   pub busy_stands : StandsFor same hash terms m p → StandsFor same hash terms (come_to own (Refused Busy) 0 m) p
   busy_stands stands = subst (λ (calls : List (CallThere K V)). StandsFor same hash terms (record m { calls = calls }) p) (sym (calls_same m.calls)) stands
 
-  pub step_busy : (due : IsDue same hash terms log (Step own refuse) p) → position (is_named own) p.calls.items.items ≡ None → PlaysOn same hash terms log (quiet (Step own refuse) (Refused Busy)) p
+  pub step_busy : (due : IsDue same hash terms log (Step own refuse) p) → position (is_named own) p.calls ≡ None → PlaysOn same hash terms log (quiet (Step own refuse) (Refused Busy)) p
   step_busy due none =
       let e = quiet (Step own refuse) (Refused Busy) in record {
         played = stands_elsewhere same hash terms (come_to own (Refused Busy) 0 m) p (busy_stands due.played) (m.events + 1) m.is_mapped m.is_closed (m.is_alone && is_alone_on e m) m.there m.slots m.sheltered m.remains refl refl refl refl;
@@ -61,7 +61,7 @@ module _ {K V S : Type 0} (same : K → K → Bool) (hash : K → ℕ) (terms : 
         is_quiet = refl;
       }
 
-  pub go_busy : (due : IsDue same hash terms log (Go own refuse) p) → position (is_named own) p.calls.items.items ≡ None → PlaysOn same hash terms log (quiet (Go own refuse) (Refused Busy)) p
+  pub go_busy : (due : IsDue same hash terms log (Go own refuse) p) → position (is_named own) p.calls ≡ None → PlaysOn same hash terms log (quiet (Go own refuse) (Refused Busy)) p
   go_busy due none =
       let e = quiet (Go own refuse) (Refused Busy) in record {
         played = stands_elsewhere same hash terms (come_to own (Refused Busy) 0 m) p (busy_stands due.played) (m.events + 1) m.is_mapped m.is_closed (m.is_alone && is_alone_on e m) m.there m.slots m.sheltered m.remains refl refl refl refl;
@@ -73,7 +73,7 @@ module _ {K V S : Type 0} (same : K → K → Bool) (hash : K → ℕ) (terms : 
       }
 
   -- the call at its place
-  module _ (stands : StandsFor same hash terms m p) (place : ℕ) (placed : Some place ≡ position (is_named own) p.calls.items.items) where
+  module _ (stands : StandsFor same hash terms m p) (place : ℕ) (placed : Some place ≡ position (is_named own) p.calls) where
     abbrev here : Here same hash terms m p stands own place
     here = here_at same hash terms m p stands own place placed
 

@@ -62,7 +62,7 @@ stands_elsewhere same hash terms m p stands events is_mapped is_closed is_alone 
 
 -- of the moment at which an event of the log has begun what it begins
 module _ {K V S : Type 0} (same : K → K → Bool) (hash : K → ℕ) (terms : Terms) (log : List (Entry K V)) (m : Moment K V) (own : List ℕ) (old : Scheduler K V S) (stands : StandsFor same hash terms m old) (place : ℕ)
-    (placed : Some place ≡ position (is_named own) old.calls.items.items) (goes : (here_at same hash terms m old stands own place placed).caller.stands ≡ far.Goes)
+    (placed : Some place ≡ position (is_named own) old.calls) (goes : (here_at same hash terms m old stands own place placed).caller.stands ≡ far.Goes)
     (steps : ℕ) (outcome : Outcome V) (effects : List Effect) (new : Scheduler K V S) (comes : ComesBy same hash terms own place m steps outcome [] effects new) where
   abbrev here : Here same hash terms m old stands own place
   here = here_at same hash terms m old stands own place placed
@@ -136,7 +136,7 @@ module _ {K V S : Type 0} (same : K → K → Bool) (hash : K → ℕ) (terms : 
 
 -- of a call that was under way before it
 module _ {K V S : Type 0} (same : K → K → Bool) (hash : K → ℕ) (terms : Terms) (log : List (Entry K V)) (own : List ℕ) (old : Scheduler K V S) (stands : StandsFor same hash terms (moment log) old) (place : ℕ)
-    (placed : Some place ≡ position (is_named own) old.calls.items.items) (goes : (here_at same hash terms (moment log) old stands own place placed).caller.stands ≡ far.Goes)
+    (placed : Some place ≡ position (is_named own) old.calls) (goes : (here_at same hash terms (moment log) old stands own place placed).caller.stands ≡ far.Goes)
     (steps : ℕ) (outcome : Outcome V) (effects : List Effect) (new : Scheduler K V S) (comes : ComesBy same hash terms own place (moment log) steps outcome [] effects new) where
   abbrev m : Moment K V
   m = moment log

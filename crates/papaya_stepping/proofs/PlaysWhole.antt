@@ -68,7 +68,7 @@ module _ {K V S : Type 0} (same : K → K → Bool) (hash : K → ℕ) (terms : 
 
   -- it begins, and takes steps
   module _ (begins : BeginsSo same hash terms m nameless guard name call true old mid) (steps : ℕ) (outcome : Outcome V) (effects : List Effect) (new : Scheduler K V S)
-      (placed : Some 0 ≡ position (is_named nameless) mid.calls.items.items) (goes : (here_at same hash terms m1 mid (begins.stands refl) nameless 0 placed).caller.stands ≡ far.Goes)
+      (placed : Some 0 ≡ position (is_named nameless) mid.calls) (goes : (here_at same hash terms m1 mid (begins.stands refl) nameless 0 placed).caller.stands ≡ far.Goes)
       (comes : ComesBy same hash terms nameless 0 m1 steps outcome [] effects new) (takes : TakesUpTo most_steps steps outcome) where
     never : outcome ≡ Refused Busy → ⊥
     never = never_busy same hash terms log m1 nameless mid (begins.stands refl) 0 placed goes steps outcome effects new comes
@@ -133,8 +133,8 @@ module _ {K V S : Type 0} (same : K → K → Bool) (hash : K → ℕ) (terms : 
   first_of (d ∷ rest) e =
       let head : seen (fresh_call own guard call number m.events) ≡ seen_of d = cc e in (d, rest, refl, ap (λ (z : Seen). z.name) (sym head), ap (λ (z : Seen). z.far) (sym head))
 
-  pub first_there : (d : Caller V) × (rest : List (Caller V)) × (p.calls.items.items ≡ d ∷ rest) × (d.name ≡ own) × (d.stands ≡ far.Goes)
-  first_there = first_of p.calls.items.items stands.calls.listed
+  pub first_there : (d : Caller V) × (rest : List (Caller V)) × (p.calls ≡ d ∷ rest) × (d.name ≡ own) × (d.stands ≡ far.Goes)
+  first_there = first_of p.calls stands.calls.listed
 
 -- so it goes on at the first place
 module _ {K V S : Type 0} (same : K → K → Bool) (hash : K → ℕ) (terms : Terms) (m : Moment K V) (own guard : List ℕ) (call : Call K V) (there : Option ℕ) (some : is_some there ≡ true) (p : Scheduler K V S)

@@ -26,7 +26,6 @@ use Rattle.papaya_scheduler.specs.Given.Logged.declared.logged.Logged.{Logged}
 use Rattle.papaya_scheduler.specs.Played.{CallsAs, IsUnderWayAs, StandsAs}
 use Rattle.papaya_named.specs.Seen.{is_named, named, seen, seen_of}
 use Rattle.papaya_named.specs.declared.caller.Caller.{Caller}
-use Rattle.papaya_named.specs.declared.caller.Callers.{Callers}
 use Rattle.papaya_named.specs.declared.caller.Stands.{Stands as HowFar}
 use Rattle.papaya_named.specs.declared.named_map.NamedMap.{NamedMap}
 use Rattle.papaya_scheduler.specs.declared.scheduler.Scheduler.{Scheduler}
@@ -60,7 +59,7 @@ module _ {K V S : Type 0} (Far Then : Caller V → Machine K V K → Type 0) (ow
   i = d.number
 
   abbrev calls : List (Caller V)
-  calls = p.calls.items.items
+  calls = p.calls
 
   abbrev u : UnderWay K V K
   u = here.way.0
@@ -175,7 +174,7 @@ module _ {K V S : Type 0} (Far Then : Caller V → Machine K V K → Type 0) (ow
         ((leads d.map u under).4.rows j ne ∙ row_rests same hash p.logged.executor s at_s j before)
 
     module _ (there : m2.there ≡ m.there) (mapped : m2.is_mapped ≡ m.is_mapped) (closed : m2.is_closed ≡ m.is_closed) (maps : map named m2.maps ≡ map named m.maps) where
-      with_calls : (callers : Callers V) → CallsAs Then stands.name s2 p.there m2 callers.items.items → ((j : ℕ) → ((n : ℕ) → s2.calls n j ≡ None) → work_of new.executor j ≡ None)
+      with_calls : (callers : List (Caller V)) → CallsAs Then stands.name s2 p.there m2 callers → ((j : ℕ) → ((n : ℕ) → s2.calls n j ≡ None) → work_of new.executor j ≡ None)
           → StandsAs Then same hash terms m2 (record p { logged = new; calls = callers })
       with_calls callers are rests = record {
         name = stands.name;
@@ -188,7 +187,7 @@ module _ {K V S : Type 0} (Far Then : Caller V → Machine K V K → Type 0) (ow
         calls = are;
         maps = record {
           listed = maps ∙ stands.maps.listed;
-          stand = all_so (λ t. (standing : Standing K) × (s.maps t.number ≡ Some standing)) (λ t. (standing : Standing K) × (s2.maps t.number ≡ Some standing)) stand_then p.maps.items stands.maps.stand;
+          stand = all_so (λ t. (standing : Standing K) × (s.maps t.number ≡ Some standing)) (λ t. (standing : Standing K) × (s2.maps t.number ≡ Some standing)) stand_then p.maps stands.maps.stand;
         };
         slots = λ t. slots_then t ∙ stands.slots t;
         rests = rests;
@@ -198,7 +197,7 @@ module _ {K V S : Type 0} (Far Then : Caller V → Machine K V K → Type 0) (ow
       -- it goes on, this far
       pub going_on : (x : UnderWay K V K) → next ≡ Some x → (h : HowFar) (value : Option V) → Then (record d { stands = h; value = value }) (machine_of x)
           → map seen m2.calls ≡ map seen_of (slice_set calls place (record d { stands = h; value = value }))
-          → (callers : Callers V) → callers.items.items ≡ slice_set calls place (record d { stands = h; value = value })
+          → (callers : List (Caller V)) → callers ≡ slice_set calls place (record d { stands = h; value = value })
           → StandsAs Then same hash terms m2 (record p { logged = new; calls = callers })
       going_on x goes h value as_far listed callers items =
           with_calls callers (subst (λ (xs : List (Caller V)). CallsAs Then stands.name s2 p.there m2 xs) (sym items) (record { listed = listed; once = once_then; each = each_then; only = only_then })) rests_then
@@ -236,7 +235,7 @@ module _ {K V S : Type 0} (Far Then : Caller V → Machine K V K → Type 0) (ow
               by (inr ne) = rests_other j ne none
 
       -- it has ended
-      pub has_gone : next ≡ None → map seen m2.calls ≡ map seen_of (remove calls place) → (callers : Callers V) → callers.items.items ≡ remove calls place
+      pub has_gone : next ≡ None → map seen m2.calls ≡ map seen_of (remove calls place) → (callers : List (Caller V)) → callers ≡ remove calls place
           → StandsAs Then same hash terms m2 (record p { logged = new; calls = callers })
       has_gone over listed callers items =
           with_calls callers (subst (λ (xs : List (Caller V)). CallsAs Then stands.name s2 p.there m2 xs) (sym items) (record {

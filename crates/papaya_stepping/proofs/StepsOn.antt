@@ -1,16 +1,17 @@
 -- Many steps of a call: what the loop over them keeps, and what they come to.
 use Rattle.std.specs.Prelude.{◌≡◌, ◌<◌, ◌+◌, ℕ, Bool, true, false, List}
-use Rattle.std.proofs.Common.{refl, sym, subst, arith}
+use Rattle.std.proofs.Common.{refl, sym, subst, ◌∙◌, arith}
 use Rattle.papaya_schedules.specs.declared.effect.Effect.{Effect}
 use Rattle.papaya_schedules.specs.declared.outcome.Outcome.{Outcome}
 use Rattle.papaya_schedules.specs.Moment.{Moment}
 use Rattle.papaya_schedules.specs.Terms.{Terms}
 use Rattle.papaya_scheduler.specs.Played.{StandsFor}
-use Rattle.papaya_stepping.specs.Stepping.{ComesBy, GoesAt, GoneFor, IsMidst, IsStepped, MayStep, StepsCome}
+use Rattle.papaya_stepping.specs.Stepping.{ComesBy, GoesAt, GoneFor, IsMidst, IsPlaced, IsStepped, MayGo, MayStep, StepsCome}
 use Rattle.papaya_named.specs.Telling.{goes_on}
 use Rattle.papaya_scheduler.specs.declared.scheduler.Scheduler.{Scheduler}
 use Rattle.papaya_stepping.proofs.ComesOn.{comes_next, midst_next}
 use Rattle.papaya_scheduler.proofs.Here.{here_at}
+use Rattle.papaya_stepping.proofs.StepSays.{the}
 
 module _ {K V S : Type 0} (same : K → K → Bool) (hash : K → ℕ) (place : ℕ) (first : Scheduler K V S) (before : List Effect) where
   -- whatever moment it stood for, the call goes on after so many steps
@@ -19,11 +20,16 @@ module _ {K V S : Type 0} (same : K → K → Bool) (hash : K → ℕ) (place : 
 
   -- so it may take a step
   pub may_step : (terms : Terms) (m : Moment K V) (own : List ℕ) → StandsFor same hash terms m first → GoesAt own place first → (n : ℕ) (mid : List Effect) (p : Scheduler K V S) → Goes n mid p
-      → MayStep same hash place p
+      → MayStep same hash own p
   may_step terms m own stands at n mid p goes =
       let midst = goes terms m own stands at in
       let here = here_at same hash terms _ p midst.stands own place midst.going.0 in
-      (here.caller, here.at, midst.stands.scene, midst.stands.shown.is_at, (here.caller.map, here.way.0, here.way.1))
+      (place, here.caller, (midst.going.0, here.at), midst.stands.scene, midst.stands.shown.is_at, (here.caller.map, here.way.0, here.way.1))
+
+  -- and stands at its place still
+  pub placed_on : (own : List ℕ) → MayGo same hash own first → IsPlaced own place first.calls → (n : ℕ) (mid : List Effect) (p : Scheduler K V S) → Goes n mid p → IsPlaced own place p.calls
+  placed_on own may placed n mid p goes =
+      let midst = goes may.0 may.1 own may.3 (subst (λ (k : ℕ). GoesAt own k first) (the may.2 place (may.4.0 ∙ sym placed)) may.4) in midst.going.0
 
   module _ (n : ℕ) (mid after : List Effect) (p new : Scheduler K V S) (outcome : Outcome V) (goes : Goes n mid p) (step : IsStepped same hash place outcome mid after p new) where
     pub goes_further : goes_on outcome ≡ true → Goes (n + 1) after new

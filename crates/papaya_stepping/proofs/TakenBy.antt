@@ -23,7 +23,7 @@ use Rattle.papaya_stepping.proofs.PlaysSteps.{plays_go, plays_step}
 use Rattle.papaya_scheduler.proofs.Rights.{entry_is, quiet}
 
 module _ {K V S : Type 0} (same : K → K → Bool) (hash : K → ℕ) (terms : Terms) (log : List (Entry K V)) (own : List ℕ) (refuse : Bool) (old new : Scheduler K V S) (place : ℕ)
-    (placed : Some place ≡ position (is_named own) old.calls.items.items) (played : Played V) where
+    (placed : Some place ≡ position (is_named own) old.calls) (played : Played V) where
   abbrev m : Moment K V
   m = moment log
 

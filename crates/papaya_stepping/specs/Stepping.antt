@@ -114,15 +114,28 @@ module _ {K V : Type 0} where
 abbrev pub may_begin : {K V : Type 0} → (guard map : List ℕ) → Moment K V → Bool
 may_begin guard map m = is_none (call_of nameless m) && is_living guard m.there && is_some (map_of map m)
 
+module _ {V : Type 0} where
+  -- the call of this name is that of the caller at this place,
+  abbrev pub IsPlaced : List ℕ → ℕ → List (Caller V) → Type 0
+  IsPlaced own place calls = Some place ≡ position (is_named own) calls
+
+  -- who is this one
+  abbrev pub IsCaller : List ℕ → ℕ → Caller V → List (Caller V) → Type 0
+  IsCaller own place d calls = IsPlaced own place calls × (slice_get calls place ≡ Some d)
+
+  -- somebody has this name
+  abbrev pub HasCaller : List ℕ → List (Caller V) → Type 0
+  HasCaller own calls = (place : ℕ) × (d : Caller V) × IsCaller own place d calls
+
 -- the call of this name is that of the caller at this place, and goes on
 abbrev pub GoesAt : {K V S : Type 0} → List ℕ → ℕ → Scheduler K V S → Type 0
 GoesAt {K} {V} own place p =
-    (Some place ≡ position (is_named own) p.calls.items.items) × (d : Caller V) × (slice_get p.calls.items.items place ≡ Some d) × (d.stands ≡ far.Goes)
+    (Some place ≡ position (is_named own) p.calls) × (d : Caller V) × (slice_get p.calls place ≡ Some d) × (d.stands ≡ far.Goes)
 
 -- the call of this name is the walk at this place, and is ready to show pairs
 abbrev pub ReadyAt : {K V S : Type 0} → List ℕ → ℕ → Scheduler K V S → Type 0
 ReadyAt {K} {V} own place p =
-    (Some place ≡ position (is_named own) p.calls.items.items) × (d : Caller V) × (slice_get p.calls.items.items place ≡ Some d) × (d.stands ≡ far.Ready)
+    (Some place ≡ position (is_named own) p.calls) × (d : Caller V) × (slice_get p.calls place ≡ Some d) × (d.stands ≡ far.Ready)
 
 module _ {K V : Type 0} where
   -- A walk that was asked for its next pair goes over the places of its table, so many of which at least are behind it; or there are none.
@@ -177,19 +190,19 @@ abbrev pub TakesUpTo : {V : Type 0} → ℕ → ℕ → Outcome V → Type 0
 TakesUpTo most steps outcome = (1 ≤ steps) × (steps ≤ most) × (goes_on outcome ≡ true → steps ≡ most)
 
 module _ {K V S : Type 0} (same : K → K → Bool) (hash : K → ℕ) where
-  -- A call is under way at this place.
-  abbrev pub MayStep : ℕ → Scheduler K V S → Type 0
-  MayStep place p = (d : Caller V) × (slice_get p.calls.items.items place ≡ Some d) × (s : Scene K V) × IsAt same hash p.logged.executor s × HasCall s d.number
+  -- A call of this name is under way.
+  abbrev pub MayStep : List ℕ → Scheduler K V S → Type 0
+  MayStep own p = (place : ℕ) × (d : Caller V) × IsCaller own place d p.calls × (s : Scene K V) × IsAt same hash p.logged.executor s × HasCall s d.number
 
   -- It has taken a step: what that said, and did, where it has led, and how far the call is then.
   pub record IsStepped (place : ℕ) (outcome : Outcome V) (before after : List Effect) (old new : Scheduler K V S) : Type 0 where
     pub caller : Caller V
-    pub at : slice_get old.calls.items.items place ≡ Some caller
+    pub at : slice_get old.calls place ≡ Some caller
     pub said : Progress (Node K V)
     pub leads : (name : ℕ → List ℕ) (m : Moment K V) (s : Scene K V) → IsShown same hash name m old.logged s
         → CallGoesOn same hash name m s caller.number caller.map said before after old.logged new.logged
     pub outcome_is : outcome ≡ outcome_of (known new.logged.notes) caller.kind caller.value said
-    pub calls : new.calls.items.items ≡ callers_then (known new.logged.notes) place caller said old.calls.items.items
+    pub calls : new.calls ≡ callers_then (known new.logged.notes) place caller said old.calls
     pub rest : new ≡ record old { logged = new.logged; calls = new.calls }
     pub given : KeepsGiven old.logged.executor new.logged.executor
 
@@ -204,9 +217,9 @@ module _ {K V S : Type 0} (same : K → K → Bool) (hash : K → ℕ) where
   GoneBy place steps outcome before after old new =
       (n : ℕ) × (steps ≡ n + 1) × (mid : List Effect) × (p : Scheduler K V S) × GoneFor place n before mid old p × IsStepped place outcome mid after p new
 
-  -- What a scheduler at whose place a call goes on is asked for its steps,
-  abbrev pub MayGo : ℕ → Scheduler K V S → Type 0
-  MayGo place p = (terms : Terms) × (m : Moment K V) × (own : List ℕ) × StandsFor same hash terms m p × GoesAt own place p
+  -- What a scheduler is asked for the steps of a call of this name that goes on,
+  abbrev pub MayGo : List ℕ → Scheduler K V S → Type 0
+  MayGo own p = (terms : Terms) × (m : Moment K V) × (place : ℕ) × StandsFor same hash terms m p × GoesAt own place p
 
   -- and what so many of them come to.
   abbrev pub StepsCome : (place most steps : ℕ) → Outcome V → (before after : List Effect) → (old new : Scheduler K V S) → Type 0
@@ -218,7 +231,7 @@ module _ {K V S : Type 0} (same : K → K → Bool) (hash : K → ℕ) where
   -- The machine of the call at this place takes a step, and no caller is told of it.
   pub record IsStepOf (place : ℕ) (said : Progress (Node K V)) (before after : List Effect) (old new : Scheduler K V S) : Type 0 where
     pub caller : Caller V
-    pub at : slice_get old.calls.items.items place ≡ Some caller
+    pub at : slice_get old.calls place ≡ Some caller
     pub leads : (name : ℕ → List ℕ) (m : Moment K V) (s : Scene K V) → IsShown same hash name m old.logged s
         → CallGoesOn same hash name m s caller.number caller.map said before after old.logged new.logged
     pub rest : new ≡ record old { logged = new.logged }
@@ -229,9 +242,9 @@ module _ {K V S : Type 0} (same : K → K → Bool) (hash : K → ℕ) where
   WalkedFor place zero before after old new = (before ≡ after) × (old ≡ new)
   WalkedFor place (suc n) before after old new = (mid : List Effect) × (p : Scheduler K V S) × WalkedFor place n before mid old p × IsStepOf place progress.Goes mid after p new
 
-  -- What a scheduler is asked at whose place a walk was asked for its next pair,
-  abbrev pub MayWalk : ℕ → Scheduler K V S → Type 0
-  MayWalk place p = (terms : Terms) × (m : Moment K V) × (own : List ℕ) × StandsAs (WalksFar own 0) same hash terms m p × ReadyAt own place p
+  -- What a scheduler is asked for the steps of a walk of this name that was asked for its next pair,
+  abbrev pub MayWalk : List ℕ → Scheduler K V S → Type 0
+  MayWalk own p = (terms : Terms) × (m : Moment K V) × (place : ℕ) × StandsAs (WalksFar own 0) same hash terms m p × ReadyAt own place p
 
   -- and where so many steps have led, of which the last one alone did not just go on.
   abbrev pub WalkComes : (place steps : ℕ) → Progress (Node K V) → (before after : List Effect) → (old new : Scheduler K V S) → Type 0
@@ -241,9 +254,9 @@ module _ {K V S : Type 0} (same : K → K → Bool) (hash : K → ℕ) where
       × ((terms : Terms) (m : Moment K V) (own : List ℕ) → StandsAs (WalksFar own 0) same hash terms m old → ReadyAt own place old → IsMidWalk same hash terms own place m n before mid p)
       × (k : ℕ) × (steps ≡ k + 1) × WalkedFor place k before mid old p
 
-  -- A call stands at this place, however far it is: one that asks, or is ready, says so again, and one that goes on takes steps.
-  abbrev pub StandsAt : ℕ → Scheduler K V S → Type 0
-  StandsAt place p = (terms : Terms) × (m : Moment K V) × (own : List ℕ) × StandsFor same hash terms m p × (Some place ≡ position (is_named own) p.calls.items.items)
+  -- What a scheduler is asked for the steps of a call of this name, however far it is: one that asks, or is ready, says so again, and one that goes on takes steps.
+  abbrev pub MayTake : List ℕ → Scheduler K V S → Type 0
+  MayTake own p = (terms : Terms) × (m : Moment K V) × (place : ℕ) × StandsFor same hash terms m p × IsPlaced own place p.calls
 
   abbrev pub SaysAgain : Outcome V → Played V → (old new : Scheduler K V S) → Type 0
   SaysAgain outcome played old new = (played.outcome ≡ outcome) × (played.steps ≡ 0) × (played.effects.items ≡ []) × (new ≡ old)
@@ -254,13 +267,13 @@ module _ {K V S : Type 0} (same : K → K → Bool) (hash : K → ℕ) where
   TakenBy place most far.Goes played old new = StepsCome place most played.steps played.outcome [] played.effects.items old new
 
   abbrev pub TakenAs : (place most : ℕ) → Played V → (old new : Scheduler K V S) → Type 0
-  TakenAs place most played old new = (d : Caller V) → slice_get old.calls.items.items place ≡ Some d → TakenBy place most d.stands played old new
+  TakenAs place most played old new = (d : Caller V) → slice_get old.calls place ≡ Some d → TakenBy place most d.stands played old new
 
   -- The call of this name, if it is there, has taken steps so; and so has one without a name that has begun. Else nothing has happened.
   abbrev pub TookSteps : (most : ℕ) → List ℕ → Played V → (old new : Scheduler K V S) → Type 0
   TookSteps most own played old new =
-      ((place : ℕ) → Some place ≡ position (is_named own) old.calls.items.items → TakenAs place most played old new)
-      × (position (is_named own) old.calls.items.items ≡ None → SaysAgain (Refused Busy) played old new)
+      ((place : ℕ) → Some place ≡ position (is_named own) old.calls → TakenAs place most played old new)
+      × (position (is_named own) old.calls ≡ None → SaysAgain (Refused Busy) played old new)
 
   abbrev pub TookWhole : (guard name : List ℕ) → Call K V → Played V → (old new : Scheduler K V S) → Type 0
   TookWhole guard name call played old new =
@@ -271,7 +284,7 @@ module _ {K V S : Type 0} (same : K → K → Bool) (hash : K → ℕ) where
   -- A walk that is ready was asked for its next pair, and has taken steps since, each of which but the last just went on; by the last one it has come to what it told.
   pub record HasWalked (place : ℕ) (played : Played V) (old new : Scheduler K V S) : Type 0 where
     pub caller : Caller V
-    pub at : slice_get old.calls.items.items place ≡ Some caller
+    pub at : slice_get old.calls place ≡ Some caller
     pub ready : Bool
     pub asked : Logged K V S
     pub leads : (s : Scene K V) → IsAt same hash old.logged.executor s → AskLeads same hash caller.number ready s old.logged.executor asked.executor
@@ -288,8 +301,8 @@ module _ {K V S : Type 0} (same : K → K → Bool) (hash : K → ℕ) where
   -- So it is of an event that asks the walk of this name for its next pair. If none is ready, nothing has happened.
   abbrev pub TookNext : List ℕ → Played V → (old new : Scheduler K V S) → Type 0
   TookNext own played old new =
-      ((place : ℕ) → Some place ≡ ready_place own old.calls.items.items → HasWalked place played old new)
-      × (ready_place own old.calls.items.items ≡ None → SaysAgain (Refused Busy) played old new)
+      ((place : ℕ) → Some place ≡ ready_place own old.calls → HasWalked place played old new)
+      × (ready_place own old.calls ≡ None → SaysAgain (Refused Busy) played old new)
 
   -- What is promised of an event by which a call goes on: the scheduler has played the log with it; it comes to what is right, where it does so in its case; it makes as many steps as it may, and
   -- does not more; and what is refused as busy did nothing.

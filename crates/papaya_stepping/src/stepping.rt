@@ -1,16 +1,17 @@
 //! Calls take steps, one or many.
-ghost use Rattle.std.specs.Prelude.{◌≡◌, ◌<◌, ◌≤◌, [], length, slice_get, Some, IfOk};
+ghost use Rattle.std.specs.Prelude.{◌≡◌, ◌≤◌, ℕ, [], IfOk};
 ghost use Rattle.papaya_schedules.specs.declared.event.Event.TheVariants as event;
 ghost use Rattle.papaya_scheduler.specs.Given.Effects.Known.{known};
 ghost use Rattle.papaya_scheduler.specs.Given.Executor.IsAt.{KeepsGiven};
 ghost use Rattle.papaya_scheduler.specs.Given.Logged.Calling.{MakesNoMore};
 ghost use Rattle.papaya_scheduler.specs.Played.{MayPlay};
 ghost use Rattle.papaya_runs.specs.Stopped.{most_steps};
-ghost use Rattle.papaya_stepping.specs.Stepping.{IsStepped, MayGo, MayStep, PlaysOnAt, StandsAt, StepsCome, TakenAs, TookSteps, TookWhole, callers_then, outcome_of};
+ghost use Rattle.papaya_stepping.specs.Stepping.{HasCaller, IsCaller, IsPlaced, IsStepped, MayGo, MayStep, MayTake, PlaysOnAt, StepsCome, TakenAs, TookSteps, TookWhole, callers_then, outcome_of};
 ghost use Rattle.papaya_named.specs.Telling.{goes_on};
 ghost use Rattle.papaya_named.specs.declared.caller.Caller.{Caller};
 
-use papaya_named::caller::{Caller, Stands};
+use papaya_named::caller::Stands;
+use papaya_named::callers::Callers;
 use papaya_named::telling::{answer_of, number_by};
 use papaya_raw::machines::Progress;
 use papaya_raw::{Hashes, Node};
@@ -33,117 +34,144 @@ fn goes_on<V>(outcome: &Outcome<V>) -> bool
     matches!(outcome, Outcome::Goes)
 }
 
-/// The call at this place has come to this. A walk that has shown a pair is ready.
+/// The number of the call of this name, and that of its map.
+pub(crate) fn way_of<V: Drop>(calls: &Callers<V>, caller: &Token) -> (u64, u64)
+    requires { HasCaller caller.now calls.now }
+    ensures { (place : ℕ) (called : Caller V) → IsCaller caller.now place called calls.now → result ≡ (called.number, called.map) }
+{
+    let Some(called) = calls.get(caller) else {
+        unreachable!()
+    };
+    (called.number, called.map)
+}
+
+/// How far the call of this name is.
+fn far_of<V: Drop>(calls: &Callers<V>, caller: &Token) -> Stands
+    requires { HasCaller caller.now calls.now }
+    ensures { (place : ℕ) (called : Caller V) → IsCaller caller.now place called calls.now → result ≡ called.stands }
+{
+    let Some(called) = calls.get(caller) else {
+        unreachable!()
+    };
+    called.stands
+}
+
+/// The call of this name has come to this. A walk that has shown a pair is ready.
 pub(crate) fn come_to<K: Drop, V: Drop, S>(
     scheduler: &mut Scheduler<K, V, S>,
-    place: usize,
+    caller: &Token,
     progress: Progress<Node<K, V>>,
 ) -> Outcome<V>
-    requires { place < length scheduler.old.calls.items.items }
-    ensures outcome { (caller : Caller V) → slice_get scheduler.old.calls.items.items place ≡ Some caller
-        → result ≡ outcome_of (known scheduler.old.logged.notes) caller.kind caller.value progress }
-    ensures calls { (caller : Caller V) → slice_get scheduler.old.calls.items.items place ≡ Some caller
-        → scheduler.new.calls.items.items ≡ callers_then (known scheduler.old.logged.notes) place caller progress scheduler.old.calls.items.items }
+    requires { HasCaller caller.now scheduler.old.calls }
+    ensures outcome { (place : ℕ) (called : Caller V) → IsCaller caller.now place called scheduler.old.calls
+        → result ≡ outcome_of (known scheduler.old.logged.notes) called.kind called.value progress }
+    ensures calls { (place : ℕ) (called : Caller V) → IsCaller caller.now place called scheduler.old.calls
+        → scheduler.new.calls ≡ callers_then (known scheduler.old.logged.notes) place called progress scheduler.old.calls }
     ensures rest { scheduler.new ≡ record scheduler.old { calls = scheduler.new.calls } }
 {
     match progress {
         Progress::Goes | Progress::Gave(_) => {
-            scheduler.calls.stand(place, Stands::Goes);
+            scheduler.calls.stand(caller, Stands::Goes);
             Outcome::Goes
         }
         Progress::Unstored(node) => {
-            scheduler.calls.keep(place, node);
+            scheduler.calls.keep(caller, node);
             Outcome::Goes
         }
         Progress::Waits => {
-            scheduler.calls.stand(place, Stands::Goes);
+            scheduler.calls.stand(caller, Stands::Goes);
             Outcome::Waits
         }
         Progress::Asks(word) => {
             let question = word.map(|word| number_by(&scheduler.logged.notes, word));
-            scheduler.calls.stand(place, Stands::Asks(question));
+            scheduler.calls.stand(caller, Stands::Asks(question));
             Outcome::Asks(question)
         }
         Progress::Ready => {
-            scheduler.calls.stand(place, Stands::Ready);
+            scheduler.calls.stand(caller, Stands::Ready);
             Outcome::Ready
         }
         Progress::Pair(word) => {
-            scheduler.calls.stand(place, Stands::Ready);
+            scheduler.calls.stand(caller, Stands::Ready);
             Outcome::Shows(number_by(&scheduler.logged.notes, word))
         }
         Progress::Done(said) => {
-            let Caller { kind, value, .. } = scheduler.calls.items.remove(place);
+            let Some((kind, value)) = scheduler.calls.remove(caller) else {
+                unreachable!()
+            };
             Outcome::Answered(answer_of(&scheduler.logged.notes, kind, value, said))
         }
         Progress::Refused(fault) => {
-            scheduler.calls.items.remove(place);
+            scheduler.calls.remove(caller);
             Outcome::Refused(fault)
         }
     }
 }
 
-/// The call at this place takes one step. A growth that it asks for may be refused. What it does is added to the list.
+/// The call of this name takes one step. A growth that it asks for may be refused. What it does is added to the list.
 fn take_step<K: Eq + Hash + Drop, V: Drop, S: Hashes<K>>(
     scheduler: &mut Scheduler<K, V, S>,
-    place: usize,
+    caller: &Token,
     refuse: bool,
     effects: &mut Vec<Effect>,
 ) -> Result<Outcome<V>, AllocError>
-    requires { MayStep K.eq (S.hash scheduler.old.logged.executor.hasher) place scheduler.old }
-    ensures stepped { IfOk result (λ outcome. IsStepped K.eq (S.hash scheduler.old.logged.executor.hasher) place outcome effects.old.items effects.new.items scheduler.old scheduler.new) }
+    requires { MayStep K.eq (S.hash scheduler.old.logged.executor.hasher) caller.now scheduler.old }
+    ensures stepped { IfOk result (λ outcome. (place : ℕ) → IsPlaced caller.now place scheduler.old.calls
+        → IsStepped K.eq (S.hash scheduler.old.logged.executor.hasher) place outcome effects.old.items effects.new.items scheduler.old scheduler.new) }
     ensures refused { IfOk result (λ outcome. MakesNoMore refuse effects.old.items effects.new.items) }
     ensures given { KeepsGiven scheduler.old.logged.executor scheduler.new.logged.executor }
 {
-    let (number, map) = scheduler.calls.way_of(place);
+    let (number, map) = way_of(&scheduler.calls, caller);
     let progress = scheduler.logged.step(number, map, refuse, effects)?;
-    Ok(come_to(scheduler, place, progress))
+    Ok(come_to(scheduler, caller, progress))
 }
 
-/// The call at this place, which goes on, takes at most so many steps, while it does. Growths that it asks for may be refused. What they do is added to the list.
+/// The call of this name, which goes on, takes at most so many steps, while it does. Growths that it asks for may be refused. What they do is added to the list.
 fn go_on<K: Eq + Hash + Drop, V: Drop, S: Hashes<K>>(
     scheduler: &mut Scheduler<K, V, S>,
-    place: usize,
+    caller: &Token,
     most: u64,
     refuse: bool,
     effects: &mut Vec<Effect>,
 ) -> Result<(Outcome<V>, u64), AllocError>
     requires some { 1 ≤ most }
-    requires goes { MayGo K.eq (S.hash scheduler.old.logged.executor.hasher) place scheduler.old }
-    ensures comes { IfOk result (λ come. StepsCome K.eq (S.hash scheduler.old.logged.executor.hasher) place most come.1 come.0 effects.old.items effects.new.items scheduler.old scheduler.new) }
+    requires goes { MayGo K.eq (S.hash scheduler.old.logged.executor.hasher) caller.now scheduler.old }
+    ensures comes { IfOk result (λ come. (place : ℕ) → IsPlaced caller.now place scheduler.old.calls
+        → StepsCome K.eq (S.hash scheduler.old.logged.executor.hasher) place most come.1 come.0 effects.old.items effects.new.items scheduler.old scheduler.new) }
     ensures refused { IfOk result (λ come. MakesNoMore refuse effects.old.items effects.new.items) }
     ensures given { KeepsGiven scheduler.old.logged.executor scheduler.new.logged.executor }
 {
     for steps in 1..most {
-        let outcome = take_step(scheduler, place, refuse, effects)?;
+        let outcome = take_step(scheduler, caller, refuse, effects)?;
         if !goes_on(&outcome) {
             return Ok((outcome, steps));
         }
     }
-    let outcome = take_step(scheduler, place, refuse, effects)?;
+    let outcome = take_step(scheduler, caller, refuse, effects)?;
     Ok((outcome, most))
 }
 
-/// The call at this place takes at most so many steps, while it goes on. Growths that it asks for may be refused.
+/// The call of this name takes at most so many steps, while it goes on. Growths that it asks for may be refused.
 fn take_steps<K: Eq + Hash + Drop, V: Drop, S: Hashes<K>>(
     scheduler: &mut Scheduler<K, V, S>,
-    place: usize,
+    caller: &Token,
     most: u64,
     refuse: bool,
 ) -> Result<Played<V>, AllocError>
     requires some { 1 ≤ most }
-    requires stands { StandsAt K.eq (S.hash scheduler.old.logged.executor.hasher) place scheduler.old }
-    ensures taken { IfOk result (λ played. TakenAs K.eq (S.hash scheduler.old.logged.executor.hasher) place most played scheduler.old scheduler.new) }
+    requires stands { MayTake K.eq (S.hash scheduler.old.logged.executor.hasher) caller.now scheduler.old }
+    ensures taken { IfOk result (λ played. (place : ℕ) → IsPlaced caller.now place scheduler.old.calls
+        → TakenAs K.eq (S.hash scheduler.old.logged.executor.hasher) place most played scheduler.old scheduler.new) }
     ensures refused { IfOk result (λ played. MakesNoMore refuse [] played.effects.items) }
     ensures given { KeepsGiven scheduler.old.logged.executor scheduler.new.logged.executor }
 {
-    match scheduler.calls.far_of(place) {
+    match far_of(&scheduler.calls, caller) {
         Stands::Asks(question) => return Ok(scheduler.quietly(Outcome::Asks(question))),
         Stands::Ready => return Ok(scheduler.quietly(Outcome::Ready)),
         Stands::Goes => {}
     }
     let mut effects = scheduler.no_effects();
-    let come = go_on(scheduler, place, most, refuse, &mut effects)?;
+    let come = go_on(scheduler, caller, most, refuse, &mut effects)?;
     Ok(Played {
         outcome: come.0,
         steps: come.1,
@@ -163,9 +191,10 @@ pub fn step<K: Eq + Hash + Drop, V: Drop, S: Hashes<K>>(
     ensures refused { IfOk result (λ played. MakesNoMore refuse [] played.effects.items) }
     ensures given { KeepsGiven scheduler.old.logged.executor scheduler.new.logged.executor }
 {
-    match scheduler.calls.place_of(caller) {
-        Some(place) => take_steps(scheduler, place, 1, refuse),
-        None => Ok(scheduler.busy()),
+    if scheduler.calls.has(caller) {
+        take_steps(scheduler, caller, 1, refuse)
+    } else {
+        Ok(scheduler.busy())
     }
 }
 
@@ -181,9 +210,10 @@ pub fn go<K: Eq + Hash + Drop, V: Drop, S: Hashes<K>>(
     ensures refused { IfOk result (λ played. MakesNoMore refuse [] played.effects.items) }
     ensures given { KeepsGiven scheduler.old.logged.executor scheduler.new.logged.executor }
 {
-    match scheduler.calls.place_of(caller) {
-        Some(place) => take_steps(scheduler, place, MOST_STEPS, refuse),
-        None => Ok(scheduler.busy()),
+    if scheduler.calls.has(caller) {
+        take_steps(scheduler, caller, MOST_STEPS, refuse)
+    } else {
+        Ok(scheduler.busy())
     }
 }
 
@@ -199,9 +229,10 @@ pub fn one_call<K: Eq + Hash + Drop, V: Drop, S: Hashes<K>>(
     ensures took { IfOk result (λ played. TookWhole K.eq (S.hash scheduler.old.logged.executor.hasher) guard map.now call played scheduler.old scheduler.new) }
     ensures given { KeepsGiven scheduler.old.logged.executor scheduler.new.logged.executor }
 {
-    let nameless = Token::copy_of(*scheduler.maps.allocator(), b"-")?;
-    if scheduler.begins(nameless, guard, map, call)? {
-        take_steps(scheduler, 0, MOST_STEPS, false)
+    let own = Token::copy_of(scheduler.maps.alloc(), b"-")?;
+    let nameless = Token::copy_of(scheduler.maps.alloc(), b"-")?;
+    if scheduler.begins(own, guard, map, call)? {
+        take_steps(scheduler, &nameless, MOST_STEPS, false)
     } else {
         Ok(scheduler.busy())
     }

@@ -1,11 +1,11 @@
 //! Walks show their pairs, one by one.
-ghost use Rattle.std.specs.Prelude.{◌≡◌, ◌↔◌, true, IfOk};
+ghost use Rattle.std.specs.Prelude.{◌≡◌, ◌↔◌, ℕ, true, IfOk};
 ghost use Rattle.papaya_schedules.specs.declared.event.Event.TheVariants as event;
 ghost use Rattle.papaya_scheduler.specs.Given.Executor.IsAt.{KeepsGiven};
 ghost use Rattle.papaya_scheduler.specs.Played.{MayPlay};
-ghost use Rattle.papaya_stepping.specs.Stepping.{MayWalk, PlaysNextAt, TookNext, WalkComes};
+ghost use Rattle.papaya_stepping.specs.Stepping.{IsPlaced, MayWalk, PlaysNextAt, TookNext, WalkComes};
 
-use crate::stepping::come_to;
+use crate::stepping::{come_to, way_of};
 use papaya_raw::machines::Progress;
 use papaya_raw::{Hashes, Node};
 use papaya_runs::token::Token;
@@ -22,17 +22,18 @@ fn just_goes<K, V>(progress: &Progress<Node<K, V>>) -> bool
     matches!(progress, Progress::Goes)
 }
 
-/// The walk at this place, which was asked for its next pair, takes steps until one tells more than that it goes on. What they do is added to the list.
+/// The walk of this name, which was asked for its next pair, takes steps until one tells more than that it goes on. What they do is added to the list.
 fn walk_on<K: Eq + Hash + Drop, V: Drop, S: Hashes<K>>(
     scheduler: &mut Scheduler<K, V, S>,
-    place: usize,
+    caller: &Token,
     effects: &mut Vec<Effect>,
 ) -> Result<(Progress<Node<K, V>>, u64), AllocError>
-    requires { MayWalk K.eq (S.hash scheduler.old.logged.executor.hasher) place scheduler.old }
-    ensures comes { IfOk result (λ come. WalkComes K.eq (S.hash scheduler.old.logged.executor.hasher) place come.1 come.0 effects.old.items effects.new.items scheduler.old scheduler.new) }
+    requires { MayWalk K.eq (S.hash scheduler.old.logged.executor.hasher) caller.now scheduler.old }
+    ensures comes { IfOk result (λ come. (place : ℕ) → IsPlaced caller.now place scheduler.old.calls
+        → WalkComes K.eq (S.hash scheduler.old.logged.executor.hasher) place come.1 come.0 effects.old.items effects.new.items scheduler.old scheduler.new) }
     ensures given { KeepsGiven scheduler.old.logged.executor scheduler.new.logged.executor }
 {
-    let (number, map) = scheduler.calls.way_of(place);
+    let (number, map) = way_of(&scheduler.calls, caller);
     for steps in 1..u64::MAX {
         let progress = scheduler.logged.step(number, map, false, effects)?;
         if !just_goes(&progress) {
@@ -52,14 +53,13 @@ pub fn next<K: Eq + Hash + Drop, V: Drop, S: Hashes<K>>(
     ensures took { IfOk result (λ played. TookNext K.eq (S.hash scheduler.old.logged.executor.hasher) caller.now played scheduler.old scheduler.new) }
     ensures given { KeepsGiven scheduler.old.logged.executor scheduler.new.logged.executor }
 {
-    let Some(place) = scheduler.place_of_ready(caller) else {
+    let Some(number) = scheduler.ready_number(caller) else {
         return Ok(scheduler.busy());
     };
-    let (number, _) = scheduler.calls.way_of(place);
     scheduler.logged.next(number);
     let mut effects = scheduler.no_effects();
-    let come = walk_on(scheduler, place, &mut effects)?;
-    let outcome = come_to(scheduler, place, come.0);
+    let come = walk_on(scheduler, caller, &mut effects)?;
+    let outcome = come_to(scheduler, caller, come.0);
     Ok(Played {
         outcome,
         steps: come.1,

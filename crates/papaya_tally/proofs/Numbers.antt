@@ -124,5 +124,12 @@ module _ (test : Whereabouts → Bool) (all : List ℕ) (numbers : List ℕ) (ws
   pub number_passed : test x ≡ false → numbers ++ numbers_at test (i + 1) (drop (i + 1) ws) ≡ all
   number_passed so = ap (λ l. numbers ++ l) (sym (left ∙ head false so)) ∙ so_far
 
+  pub number_noted : (new : List ℕ) → new ≡ (if test x then numbers ++ i ∷ [] else numbers) → new ++ numbers_at test (i + 1) (drop (i + 1) ws) ≡ all
+  number_noted new is_new = by (test x) refl is_new
+    where
+      by : (b : Bool) → test x ≡ b → new ≡ (if b then numbers ++ i ∷ [] else numbers) → new ++ numbers_at test (i + 1) (drop (i + 1) ws) ≡ all
+      by true so e = number_added so new e
+      by false so e = ap (λ l. l ++ numbers_at test (i + 1) (drop (i + 1) ws)) e ∙ number_passed so
+
 pub numbers_end : (test : Whereabouts → Bool) (all numbers : List ℕ) (ws : List Whereabouts) (i : ℕ) → length ws ≤ i → numbers ++ numbers_at test i (drop i ws) ≡ all → numbers ≡ all
 numbers_end test all numbers ws i past so_far = sym (append-nil numbers) ∙ ap (λ l. numbers ++ l) (sym (at_drop_all (λ l. numbers_at test i l) ws i past)) ∙ so_far

@@ -1,3 +1,4 @@
+pub mod ByMap
 pub mod Places
 pub mod Tally
 pub mod Left

@@ -3,10 +3,12 @@ ghost use Rattle.std.specs.Prelude.{◌≡◌, ◌==◌, ◌<◌, ◌++◌, ◌�
 ghost use Rattle.papaya_schedules.specs.Lists.{is_among};
 ghost use Rattle.papaya_schedules.specs.declared.effect.Effect.TheVariants as effect;
 ghost use Rattle.papaya_schedules.specs.Things.{same_table};
+ghost use Rattle.papaya_tally.specs.ByMap.{numbers_in};
 ghost use Rattle.papaya_tally.specs.Places.{Comes, Leads};
-ghost use Rattle.papaya_tally.specs.Tally.{TellsAll, TellsNext, counted, flagged, is_there, numbers_at, numbers_behind, passes, stored_in, waits};
+ghost use Rattle.papaya_tally.specs.Tally.{TellsAll, TellsNext, counted, flagged, numbers_at, numbers_behind, passes, stored_in, waits};
 ghost use Rattle.papaya_tally.specs.declared.tally.Whereabouts.TheVariants.{Unborn, Waits};
 
+use crate::by_map::ByMap;
 use crate::places::Places;
 use papaya_schedules::effect::{Effect, Table, Thing};
 use std::alloc::{AllocError, Global};
@@ -141,37 +143,13 @@ fn waits(there: Whereabouts) -> bool
     matches!(there, Whereabouts::Waits)
 }
 
-/// Whether a pair is in the map of this number.
-fn is_there(number: u64, there: Whereabouts) -> bool
-    ensures { result ≡ is_there number there }
-{
-    match there {
-        Whereabouts::InMap(map) => number == map,
-        _ => false,
-    }
-}
-
-/// Whether a pair is in this map, or, without one, waits.
-fn passes(wanted: Option<u64>, there: Whereabouts) -> bool
-    ensures { result ≡ passes wanted there }
-{
-    match wanted {
-        Some(number) => is_there(number, there),
-        None => waits(there),
-    }
-}
-
-/// The numbers of the pairs that are in this map, or, without one, wait.
-fn numbers_of(
-    alloc: Global,
-    pairs: &[Whereabouts],
-    wanted: Option<u64>,
-) -> Result<Vec<u64>, AllocError>
-    ensures { IfOk result (λ numbers. numbers.items ≡ numbers_at (passes wanted) 0 pairs.now) }
+/// The numbers of the pairs that wait.
+fn waiting_among(alloc: Global, pairs: &[Whereabouts]) -> Result<Vec<u64>, AllocError>
+    ensures { IfOk result (λ numbers. numbers.items ≡ numbers_at (passes None) 0 pairs.now) }
 {
     let mut numbers = Vec::new(alloc);
     for place in 0..pairs.len() {
-        if passes(wanted, pairs[place]) {
+        if waits(pairs[place]) {
             numbers.push(place as u64)?;
         }
     }
@@ -289,18 +267,18 @@ impl Tally {
         Ok(())
     }
 
-    /// The numbers of the pairs of a map, ascending.
-    pub fn pairs_of(&self, alloc: Global, number: u64) -> Result<Vec<u64>, AllocError>
-        ensures { IfOk result (λ pairs. pairs.items ≡ numbers_at (passes (Some number)) 0 self.now.pairs.items) }
+    /// The numbers of the pairs of each map, ascending.
+    pub fn by_map(&self, alloc: Global) -> Result<ByMap, AllocError>
+        ensures { IfOk result (λ by_map. (map : ℕ) → numbers_in map by_map ≡ numbers_at (passes (Some map)) 0 self.now.pairs.items) }
     {
-        numbers_of(alloc, self.pairs.as_slice(), Some(number))
+        ByMap::of(alloc, self.pairs.as_slice())
     }
 
     /// The numbers of the pairs that wait, ascending.
     pub fn waiting(&self, alloc: Global) -> Result<Vec<u64>, AllocError>
         ensures { IfOk result (λ pairs. pairs.items ≡ numbers_at (passes None) 0 self.now.pairs.items) }
     {
-        numbers_of(alloc, self.pairs.as_slice(), None)
+        waiting_among(alloc, self.pairs.as_slice())
     }
 
     /// How many tables were retired, and not reclaimed.

@@ -78,7 +78,7 @@ module _ {K V : Type 0} (own : List ℕ) (d : Caller V) where
       by false is few there rest = (λ its. absurd (let named = ap (λ (z : Seen). is_same z.name own) both.0 in cc (its, named, is)), rest few there)
 
 module _ {K V S : Type 0} (same : K → K → Bool) (hash : K → ℕ) (terms : Terms) (log : List (Entry K V)) (old : Scheduler K V S) (runs : Runs same hash terms log old) (own : List ℕ) (place : ℕ)
-    (placed : Some place ≡ position (is_named own) old.calls.items.items) where
+    (placed : Some place ≡ position (is_named own) old.calls) where
   abbrev here : Here same hash terms (moment log) old runs.stands own place
   here = here_at same hash terms (moment log) old runs.stands own place placed
 
@@ -116,7 +116,7 @@ module _ {K V S : Type 0} (same : K → K → Bool) (hash : K → ℕ) (terms : 
         here.way.0 here.way.1 here.call (ap (λ (x : List ℕ). call_of x (moment log)) name_is ∙ here.call_is) event (subst (GoesOnBy event) (sym name_is) on) said
         (said_at said is here.call.stands (ap (λ (z : Seen). z.far) here.as_seen)) (λ ready. machine_ready ready)
         (subst (λ (x : List ℕ). AllByRecursion (λ (d : CallThere K V). is_same d.caller x ≡ true → IsSaidSo said d.stands) (moment log).calls) (sym name_is)
-        (all_say said is (moment log).calls (all_far own here.caller (moment log).calls old.calls.items.items runs.stands.calls.listed (runs.stands.calls.once own) here.found)))
+        (all_say said is (moment log).calls (all_far own here.caller (moment log).calls old.calls runs.stands.calls.listed (runs.stands.calls.once own) here.found)))
         (subst (ComesRight terms log) entry_as right)
       where
         machine_ready : said ≡ Ready → (machine_asked (machine_of here.way.0)).1 ≡ true

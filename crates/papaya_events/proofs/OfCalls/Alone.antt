@@ -61,7 +61,7 @@ both_each P Q (x ∷ xs) a b = ((a.0, b.0), both_each P Q xs a.1 b.1)
 
 module _ {K V S : Type 0} (same : K → K → Bool) (hash : K → ℕ) (terms : Terms) (log : List (Entry K V)) (p : Scheduler K V S) (stands : IsPlayed same hash terms log p) where
   abbrev calls : List (Caller V)
-  calls = p.calls.items.items
+  calls = p.calls
 
   -- who has a row under way is a caller
   pub row_of_caller : (j : ℕ) → stands.scene.world.row j ≢ Rests → list_any (λ (d : Caller V). d.number == j) calls ≡ true

@@ -17,7 +17,7 @@ use Rattle.papaya_folded.specs.Given.Reclaims.Left.{LeftAmong}
 use Rattle.papaya_folded.specs.Given.Logged.Shown.{IsShown}
 use Rattle.papaya_folded.specs.Given.Logged.declared.logged.Logged.{Logged}
 use Rattle.papaya_scheduler.specs.Played.{IsPlayed}
-use Rattle.papaya_folded.specs.Given.Named.declared.caller.Callers.{Callers}
+use Rattle.papaya_folded.specs.Given.Named.declared.caller.Caller.{Caller}
 use Rattle.papaya_scheduler.specs.declared.scheduler.Scheduler.{Scheduler}
 use Rattle.papaya_folded.proofs.Steps.{idle_in_order}
 use Rattle.papaya_events.proofs.OfCalls.Worth.{SaidIn, have_values_then}
@@ -51,11 +51,11 @@ module _ {K V S : Type 0} (same : K → K → Bool) (hash : K → ℕ) (terms : 
     hands = idle_in_order log e nothing;
     runs = record {
       stands = stands_in same hash terms (moment (e ∷ log)) new plays runs.stands.name runs.stands.scene shown
-          (subst (λ (cs : Callers V). AreNamed runs.stands.name cs.items.items) (sym calls_are) (its_named same hash terms (moment log) old runs.stands));
+          (subst (λ (cs : List (Caller V)). AreNamed runs.stands.name cs) (sym calls_are) (its_named same hash terms (moment log) old runs.stands));
       shows = subst (λ (l : Logged K V S). ShowsRun same runs.stands.name terms (e ∷ log) (known l.notes) runs.stands.scene) (sym logged_is) run;
       come = events_bring_things K V terms log e runs.come legal.life.finds;
-      values = subst (λ (cs : Callers V). HaveValues (moment (e ∷ log)) runs.stands.scene cs.items.items) (sym calls_are)
-          (have_values_then (moment log) (moment (e ∷ log)) said runs.stands.scene runs.stands.scene refl old.calls.items.items runs.values);
+      values = subst (λ (cs : List (Caller V)). HaveValues (moment (e ∷ log)) runs.stands.scene cs) (sym calls_are)
+          (have_values_then (moment log) (moment (e ∷ log)) said runs.stands.scene runs.stands.scene refl old.calls runs.values);
       taken = subst (SlotsTaken runs.stands.scene.world.memory) (sym no_slot) runs.taken;
       size = ap (λ (l : Logged K V S). l.executor.batch_size) logged_is ∙ runs.size;
       shards = subst (λ (l : Logged K V S). HaveShards terms l.executor) (sym logged_is) runs.shards;

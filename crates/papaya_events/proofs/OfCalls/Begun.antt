@@ -166,9 +166,9 @@ module _ {K V S : Type 0} (same : K → K → Bool) (hash : K → ℕ) (terms : 
   right_here = begun_right same st i call
 
   -- each caller has its name
-  pub named_here : AreNamed names new.calls.items.items
+  pub named_here : AreNamed names new.calls
   named_here = subst (AreNamed names) (sym led.items)
-      (ap names led.numbered ∙ name_here ∙ sym (ap (λ (x : Seen). x.name) led.is), others old.calls.items.items runs.stands.calls.each)
+      (ap names led.numbered ∙ name_here ∙ sym (ap (λ (x : Seen). x.name) led.is), others old.calls runs.stands.calls.each)
     where
       others : (ds : List (Caller V)) → AllByRecursion (IsUnderWay runs.stands.name runs.stands.scene old.there) ds → AreNamed names ds
       others [] all = tt
@@ -200,8 +200,8 @@ module _ {K V S : Type 0} (same : K → K → Bool) (hash : K → ℕ) (terms : 
       (subst (λ (y : UnderWay K V K). KeepsValue call [] (machine_of y) led.caller.value) (sym x_is) (own_worth led.caller.value))
 
   -- and others keep what they must
-  pub olds_worth : HaveValues then_m then_at old.calls.items.items
-  olds_worth = by old.calls.items.items led.free runs.stands.calls.each runs.values
+  pub olds_worth : HaveValues then_m then_at old.calls
+  olds_worth = by old.calls led.free runs.stands.calls.each runs.values
     where
       one : (d : Caller V) → is_named own d ≡ false → IsUnderWay runs.stands.name runs.stands.scene old.there d → IsWorth m runs.stands.scene d → IsWorth then_m then_at d
       one d other way worth x here c is =
@@ -245,10 +245,10 @@ module _ {K V S : Type 0} (same : K → K → Bool) (hash : K → ℕ) (terms : 
       counted_here =
           counted_in same hash terms (moment (e own ∷ log)) new plays then_at shown_begun.is_at shown_begun.counted.remains.lists shown_begun.counted.remains.left
 
-      values : HaveValues (moment (e own ∷ log)) then_at new.calls.items.items
+      values : HaveValues (moment (e own ∷ log)) then_at new.calls
       values =
           have_values_then then_m (moment (e own ∷ log))
-          (subst (λ (o : Option ℕ). SaidIn (with_call own guard call o m).calls (moment (e own ∷ log)).calls) its.0 (event_says (e own) m tt)) then_at then_at refl new.calls.items.items
+          (subst (λ (o : Option ℕ). SaidIn (with_call own guard call o m).calls (moment (e own ∷ log)).calls) its.0 (event_says (e own) m tt)) then_at then_at refl new.calls
           (subst (HaveValues then_m then_at) (sym led.items) (first_worth, olds_worth))
 
       pub begun_on : RunsOn same hash terms log (e own) new

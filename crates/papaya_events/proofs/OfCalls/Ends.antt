@@ -174,9 +174,9 @@ module _ {K V S : Type 0} (same : K → K → Bool) (hash : K → ℕ) (name : �
           (shown_then same hash name terms log event beginning map i c place n mid played.effects.items p new come its).is_at its_left.lists its_left.left;
     }
 
-    values : HaveValues (moment (e ∷ log)) at_end new.calls.items.items
+    values : HaveValues (moment (e ∷ log)) at_end new.calls
     values =
-        have_values_then beginning (moment (e ∷ log)) (subst (λ (v : Moment K V). SaidIn v.calls (moment (e ∷ log)).calls) begins (event_says e (moment log) silent)) at_end at_end refl new.calls.items.items
+        have_values_then beginning (moment (e ∷ log)) (subst (λ (v : Moment K V). SaidIn v.calls (moment (e ∷ log)).calls) begins (event_says e (moment log) silent)) at_end at_end refl new.calls
         (values_then same hash name terms log event beginning map i c place n mid played.effects.items p new played.outcome come step)
 
     grows : (known p.logged.notes).buckets ≤ by.buckets

@@ -91,7 +91,7 @@ module _ {K V S : Type 0} (same : K → K → Bool) (hash : K → ℕ) (old new 
       stop_out own = by_quiet (Stop own) (quiet_on same hash terms log old new runs logged_is calls_are (Stop own) tt tt refl tt refl tt tt)
 
   module _ (terms : Terms) (log : List (Entry K V)) (runs : Runs same hash terms log old) where
-    module _ (event : Event K V) (own : List ℕ) (place : ℕ) (placed : Some place ≡ position (is_named own) old.calls.items.items) (left : ComesRight terms log (entry_of event played))
+    module _ (event : Event K V) (own : List ℕ) (place : ℕ) (placed : Some place ≡ position (is_named own) old.calls) (left : ComesRight terms log (entry_of event played))
         (plays : IsPlayed same hash terms (entry_of event played ∷ log) new) (most : ℕ) (on : GoesOnBy event own) where
       abbrev its_here : Here same hash terms (moment log) old runs.stands own place
       its_here = here_at same hash terms (moment log) old runs.stands own place placed
@@ -104,9 +104,9 @@ module _ {K V S : Type 0} (same : K → K → Bool) (hash : K → ℕ) (old new 
 
     pub step_on : (own : List ℕ) (refuse : Bool) → TookSteps same hash 1 own played old new → MakesNoMore refuse [] played.effects.items → ComesRight terms log (entry_of (Step own refuse) played)
         → IsPlayed same hash terms (entry_of (Step own refuse) played ∷ log) new → RunsOn same hash terms log (entry_of (Step own refuse) played) new
-    step_on own refuse took refused left plays = by (position (is_named own) old.calls.items.items) refl
+    step_on own refuse took refused left plays = by (position (is_named own) old.calls) refl
       where
-        by : (o : Option ℕ) → position (is_named own) old.calls.items.items ≡ o → RunsOn same hash terms log (entry_of (Step own refuse) played) new
+        by : (o : Option ℕ) → position (is_named own) old.calls ≡ o → RunsOn same hash terms log (entry_of (Step own refuse) played) new
         by None is =
             let says = took.1 is in
             step_out terms log runs says.0 says.1 says.2 (logged_as old says.3 refl) (calls_as old says.3 refl) own refuse left plays
@@ -119,9 +119,9 @@ module _ {K V S : Type 0} (same : K → K → Bool) (hash : K → ℕ) (old new 
 
     pub go_on : (own : List ℕ) (refuse : Bool) → TookSteps same hash most_steps own played old new → MakesNoMore refuse [] played.effects.items → ComesRight terms log (entry_of (Go own refuse) played)
         → IsPlayed same hash terms (entry_of (Go own refuse) played ∷ log) new → RunsOn same hash terms log (entry_of (Go own refuse) played) new
-    go_on own refuse took refused left plays = by (position (is_named own) old.calls.items.items) refl
+    go_on own refuse took refused left plays = by (position (is_named own) old.calls) refl
       where
-        by : (o : Option ℕ) → position (is_named own) old.calls.items.items ≡ o → RunsOn same hash terms log (entry_of (Go own refuse) played) new
+        by : (o : Option ℕ) → position (is_named own) old.calls ≡ o → RunsOn same hash terms log (entry_of (Go own refuse) played) new
         by None is =
             let says = took.1 is in
             go_out terms log runs says.0 says.1 says.2 (logged_as old says.3 refl) (calls_as old says.3 refl) own refuse left plays
@@ -171,9 +171,9 @@ module _ {K V S : Type 0} (same : K → K → Bool) (hash : K → ℕ) (old new 
     -- one that asks a walk for its next pair
     pub ask_on : (own : List ℕ) → TookNext same hash own played old new → ComesRight terms log (entry_of (Next own) played) → ComesTo terms log (moment log) (entry_of (Next own) played) (Next own) played.outcome
         → played.effects.items ≡ [] → IsPlayed same hash terms (entry_of (Next own) played ∷ log) new → RunsOn same hash terms log (entry_of (Next own) played) new
-    ask_on own took right comes idle plays = by (ready_place own old.calls.items.items) refl
+    ask_on own took right comes idle plays = by (ready_place own old.calls) refl
       where
-        by : (o : Option ℕ) → ready_place own old.calls.items.items ≡ o → RunsOn same hash terms log (entry_of (Next own) played) new
+        by : (o : Option ℕ) → ready_place own old.calls ≡ o → RunsOn same hash terms log (entry_of (Next own) played) new
         by None is =
             let says = took.1 is in
             next_out terms log runs says.0 says.1 says.2 (logged_as old says.3 refl) (calls_as old says.3 refl) own right plays

@@ -57,9 +57,9 @@ module _ {K V S : Type 0} (same : K → K → Bool) (hash : K → ℕ) (old new 
   by_far event mid place most so far.Goes come = so come
 
   pub step_finds : (own : List ℕ) (refuse : Bool) → TookSteps same hash 1 own played old new → InCase (Step own refuse)
-  step_finds own refuse took = by (position (is_named own) old.calls.items.items) refl
+  step_finds own refuse took = by (position (is_named own) old.calls) refl
     where
-      by : (o : Option ℕ) → position (is_named own) old.calls.items.items ≡ o → ComesInCase terms log (entry_of (Step own refuse) played)
+      by : (o : Option ℕ) → position (is_named own) old.calls ≡ o → ComesInCase terms log (entry_of (Step own refuse) played)
       by None is = quiet_in_case terms log (entry_of (Step own refuse) played) (not_busy played.outcome (took.1 is).0)
       by (Some place) is =
           let placed = sym is in
@@ -68,9 +68,9 @@ module _ {K V S : Type 0} (same : K → K → Bool) (hash : K → ℕ) (old new 
           (λ come. taken_in_case same hash terms log old runs (Step own refuse) own refl refl place placed (λ x. refl) refl played 1 new come) it.caller.stands (took.0 place placed it.caller it.at)
 
   pub go_finds : (own : List ℕ) (refuse : Bool) → TookSteps same hash most_steps own played old new → InCase (Go own refuse)
-  go_finds own refuse took = by (position (is_named own) old.calls.items.items) refl
+  go_finds own refuse took = by (position (is_named own) old.calls) refl
     where
-      by : (o : Option ℕ) → position (is_named own) old.calls.items.items ≡ o → ComesInCase terms log (entry_of (Go own refuse) played)
+      by : (o : Option ℕ) → position (is_named own) old.calls ≡ o → ComesInCase terms log (entry_of (Go own refuse) played)
       by None is = quiet_in_case terms log (entry_of (Go own refuse) played) (not_busy played.outcome (took.1 is).0)
       by (Some place) is =
           let placed = sym is in

@@ -54,14 +54,14 @@ module _ {K V S : Type 0} (same : K → K → Bool) (hash : K → ℕ) (terms : 
 
   -- a call that is there has read no more
   pub reads_of : (own : List ℕ) → caller_of event ≡ Some own → ReadsBriefly log e m
-  reads_of own of_call = by (position (is_named own) old.calls.items.items) refl
+  reads_of own of_call = by (position (is_named own) old.calls) refl
     where
       none_there : call_of own m ≡ None → ReadsBriefly log e m
       none_there none =
           subst (λ (o : Option (CallThere K V)). IfCall (λ (c : CallThere K V). IsBrief c.call c (moments_from c.begun log) m (c.steps + 0)) o)
           (sym (ap (λ (who : Option (List ℕ)). acting who m) of_call ∙ none)) tt
 
-      by : (place : Option ℕ) → place ≡ position (is_named own) old.calls.items.items → ReadsBriefly log e m
+      by : (place : Option ℕ) → place ≡ position (is_named own) old.calls → ReadsBriefly log e m
       by None is = none_there (none_of (call_of own m) (there_is same hash terms m old runs.stands own None is))
       by (Some place) is =
           let here = here_at same hash terms m old runs.stands own place is in

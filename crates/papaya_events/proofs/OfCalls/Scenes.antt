@@ -31,10 +31,10 @@ named_set name calls place x its named = all_set (λ d. name d.number ≡ d.name
 
 module _ {K V S : Type 0} (same : K → K → Bool) (hash : K → ℕ) (terms : Terms) (m : Moment K V) (p : Scheduler K V S) (stands : StandsFor same hash terms m p) where
   -- in its own scene callers have the names of the scene
-  pub its_named : AreNamed stands.name p.calls.items.items
-  its_named = all_so (IsUnderWay stands.name stands.scene p.there) (λ (d : Caller V). stands.name d.number ≡ d.name) (λ d way. way.2) p.calls.items.items stands.calls.each
+  pub its_named : AreNamed stands.name p.calls
+  its_named = all_so (IsUnderWay stands.name stands.scene p.there) (λ (d : Caller V). stands.name d.number ≡ d.name) (λ d way. way.2) p.calls stands.calls.each
 
-  module _ (name : ℕ → List ℕ) (s : Scene K V) (shown : IsShown same hash name m p.logged s) (named : AreNamed name p.calls.items.items) where
+  module _ (name : ℕ → List ℕ) (s : Scene K V) (shown : IsShown same hash name m p.logged s) (named : AreNamed name p.calls) where
     -- a call is under way in one scene just where it is in the other, with the same machine
     pub alike : (n j : ℕ) → option_map machine_of (s.calls n j) ≡ option_map machine_of (stands.scene.calls n j)
     alike n j = shown.is_at.calls n j ∙ sym (stands.shown.is_at.calls n j)
@@ -67,7 +67,7 @@ module _ {K V S : Type 0} (same : K → K → Bool) (hash : K → ℕ) (terms : 
       calls = record {
         listed = stands.calls.listed;
         once = stands.calls.once;
-        each = ways p.calls.items.items named stands.calls.each;
+        each = ways p.calls named stands.calls.each;
         only = λ n j u is.
             let x = both_some machine_of machine_of (stands.scene.calls n j) (s.calls n j) (sym (alike n j)) u is in
             stands.calls.only n j x.0 x.1;
@@ -75,7 +75,7 @@ module _ {K V S : Type 0} (same : K → K → Bool) (hash : K → ℕ) (terms : 
       maps = record {
         listed = stands.maps.listed;
         stand = all_so (λ (t : NamedMap). (standing : Standing K) × (stands.scene.maps t.number ≡ Some standing)) (λ (t : NamedMap). (standing : Standing K) × (s.maps t.number ≡ Some standing)) stands_here
-            p.maps.items stands.maps.stand;
+            p.maps stands.maps.stand;
       };
       slots = stands.slots;
       rests = λ j none. stands.rests j (λ n. both_none machine_of machine_of (stands.scene.calls n j) (s.calls n j) (sym (alike n j)) (none n));

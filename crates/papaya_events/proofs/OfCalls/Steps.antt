@@ -95,7 +95,7 @@ module _ {K V S : Type 0} (same : K → K → Bool) (hash : K → ℕ) where
   -- What a step at a place was, whether its caller was told of it or not.
   pub record IsStep (place : ℕ) (before after : List Effect) (old new : Scheduler K V S) : Type 0 where
     pub caller : Caller V
-    pub at : slice_get old.calls.items.items place ≡ Some caller
+    pub at : slice_get old.calls place ≡ Some caller
     pub said : Progress (Node K V)
     pub leads : (name : ℕ → List ℕ) (m : Moment K V) (s : Scene K V) → IsShown same hash name m old.logged s
         → CallGoesOn same hash name m s caller.number caller.map said before after old.logged new.logged
@@ -113,11 +113,11 @@ module _ {K V S : Type 0} (same : K → K → Bool) (hash : K → ℕ) (name : �
   -- of the call is on the slot of its caller, callers keep their values, and what was handed over was so in order.
   pub record HasCome (steps : ℕ) (did : List Effect) (p : Scheduler K V S) : Type 0 where
     pub caller : Caller V
-    pub at : slice_get p.calls.items.items place ≡ Some caller
+    pub at : slice_get p.calls place ≡ Some caller
     pub number : caller.number ≡ i
     pub on_map : caller.map ≡ map
     pub kind : caller.kind ≡ kind_of c.call
-    pub named : AreNamed name p.calls.items.items
+    pub named : AreNamed name p.calls
     pub size : p.logged.executor.batch_size ≡ terms.batch_size
     pub shards : HaveShards terms p.logged.executor
     pub reached : AreReached (moment log).slots (known p.logged.notes)
@@ -128,9 +128,9 @@ module _ {K V S : Type 0} (same : K → K → Bool) (hash : K → ℕ) (name : �
     pub shown : IsShown same hash name now p.logged scene
     pub slot : (d : CallThere K V) → call_of (name i) now ≡ Some d → slot_of_guard d.guard now.there ≡ slot_of i
     pub c_is : call_of (name i) beginning ≡ Some c
-    pub once : length (filter (is_named (name i)) p.calls.items.items) ≤ 1
+    pub once : length (filter (is_named (name i)) p.calls) ≤ 1
     pub worth : KeepsValue c.call c.replies (machine_of under) caller.value
-    pub others : AreWorth (name i) beginning scene p.calls.items.items
+    pub others : AreWorth (name i) beginning scene p.calls
     pub midst : InCallEvent same name terms log event beginning map i c steps did now (known p.logged.notes) scene under
     pub taken : SlotsTaken scene.world.memory (moment log).slots
     pub hands : HandInOrder (Some (name i)) (Some map) did beginning
@@ -241,8 +241,8 @@ module _ {K V S : Type 0} (same : K → K → Bool) (hash : K → ℕ) (name : �
         (subst (λ (d : Caller V). KeepsValue c.call c.replies (machine_of come.under) d.value) (sym caller_is) come.worth))
 
     -- others keep their values
-    pub others_then : AreWorth (name i) beginning then_scene p.calls.items.items
-    others_then = by p.calls.items.items come.named come.others
+    pub others_then : AreWorth (name i) beginning then_scene p.calls
+    others_then = by p.calls come.named come.others
       where
         there : (d : Caller V) → name d.number ≡ d.name → is_named (name i) d ≡ false → (u : UnderWay K V K) → then_scene.calls d.map d.number ≡ Some u → come.scene.calls d.map d.number ≡ Some u
         there d named other u is = elim (which come.scene.calls map i (leads map come.under its_here).4.next d.map d.number u is) as (λ _. come.scene.calls d.map d.number ≡ Some u) [
@@ -277,9 +277,9 @@ module _ {K V S : Type 0} (same : K → K → Bool) (hash : K → ℕ) (name : �
         step.said leads mid beginning come.midst.worked come.hands
 
     -- where it goes on it has come one step further, if callers have their names then
-    module _ (none : ShowsNone step.said) (on : has_ended step.said ≡ false) (then_caller : Caller V) (there : slice_get new.calls.items.items place ≡ Some then_caller)
-        (number : then_caller.number ≡ step.caller.number) (on_map : then_caller.map ≡ step.caller.map) (kind : then_caller.kind ≡ step.caller.kind) (named : AreNamed name new.calls.items.items)
-        (value : then_caller.value ≡ kept_after step.caller.kind step.said step.caller.value) (once : length (filter (is_named (name i)) new.calls.items.items) ≤ 1) (others : AreWorth (name i) beginning then_scene new.calls.items.items) where
+    module _ (none : ShowsNone step.said) (on : has_ended step.said ≡ false) (then_caller : Caller V) (there : slice_get new.calls place ≡ Some then_caller)
+        (number : then_caller.number ≡ step.caller.number) (on_map : then_caller.map ≡ step.caller.map) (kind : then_caller.kind ≡ step.caller.kind) (named : AreNamed name new.calls)
+        (value : then_caller.value ≡ kept_after step.caller.kind step.said step.caller.value) (once : length (filter (is_named (name i)) new.calls) ≤ 1) (others : AreWorth (name i) beginning then_scene new.calls) where
       next : (x : UnderWay K V K) × ((leads map come.under its_here).4.next ≡ Some x)
       next = let to = leads map come.under its_here in goes_next to.1 step.said to.4.next to.4.goes_on on
 
@@ -321,10 +321,10 @@ module _ {K V S : Type 0} (same : K → K → Bool) (hash : K → ℕ) (name : �
   -- one of which its caller was told
   module _ (n : ℕ) (mid after : List Effect) (p new : Scheduler K V S) (outcome : Outcome V) (come : HasCome n mid p) (step : IsStepped same hash place outcome mid after p new) where
     abbrev calls : List (Caller V)
-    calls = p.calls.items.items
+    calls = p.calls
 
     -- callers have their names still, whether it has ended or not
-    pub named_then : AreNamed name new.calls.items.items
+    pub named_then : AreNamed name new.calls
     named_then =
         subst (AreNamed name) (sym step.calls)
         (by (has_ended step.said))
@@ -361,7 +361,7 @@ module _ {K V S : Type 0} (same : K → K → Bool) (hash : K → ℕ) (name : �
     once_set = subst (λ (k : ℕ). k ≤ 1) (sym (set_count (is_named (name i)) calls place step.caller set_caller step.at (set_named ∙ sym its_named))) come.once
 
     -- after it callers keep their values, whether it has ended or not
-    pub values_then : HaveValues beginning then_at new.calls.items.items
+    pub values_then : HaveValues beginning then_at new.calls
     values_then =
         subst (HaveValues beginning then_at) (sym step.calls) (by (has_ended step.said))
       where
@@ -403,12 +403,12 @@ module _ {K V S : Type 0} (same : K → K → Bool) (hash : K → ℕ) (name : �
       abbrev then_caller : Caller V
       then_caller = record step.caller { stands = far_then (known new.logged.notes) step.said; value = value_then (known new.logged.notes) step.caller.kind step.caller.value step.said }
 
-      set_so : new.calls.items.items ≡ slice_set calls place then_caller
+      set_so : new.calls ≡ slice_set calls place then_caller
       set_so =
           step.calls ∙ ap (λ (q : Bool). if q then remove calls place else slice_set calls place (caller_then (known new.logged.notes) step.caller step.said)) not_ended
           ∙ ap (λ (x : Caller V). slice_set calls place x) (caller_as (known new.logged.notes) step.caller step.said)
 
-      set_now : new.calls.items.items ≡ slice_set calls place set_caller
+      set_now : new.calls ≡ slice_set calls place set_caller
       set_now = step.calls ∙ ap (λ (q : Bool). if q then remove calls place else slice_set calls place set_caller) not_ended
 
       further : HasCome (n + 1) after new
@@ -421,10 +421,10 @@ module _ {K V S : Type 0} (same : K → K → Bool) (hash : K → ℕ) (name : �
   -- one of a walk that was asked for its next pair, which just goes on
   walked_further : (n : ℕ) (mid after : List Effect) (p new : Scheduler K V S) → HasCome n mid p → IsStepOf same hash place progress.Goes mid after p new → HasCome (n + 1) after new
   walked_further n mid after p new come step =
-      come_on n mid after p new come (as_walked same hash step) tt refl step.caller (ap (λ (x : Scheduler K V S). slice_get x.calls.items.items place) step.rest ∙ step.at) refl refl refl
-      (subst (λ (x : Scheduler K V S). AreNamed name x.calls.items.items) (sym step.rest) come.named) refl
-      (subst (λ (x : Scheduler K V S). length (filter (is_named (name i)) x.calls.items.items) ≤ 1) (sym step.rest) come.once)
-      (subst (λ (x : Scheduler K V S). AreWorth (name i) beginning (then_scene n mid after p new come (as_walked same hash step)) x.calls.items.items) (sym step.rest) (others_then n mid after p new come (as_walked same hash step)))
+      come_on n mid after p new come (as_walked same hash step) tt refl step.caller (ap (λ (x : Scheduler K V S). slice_get x.calls place) step.rest ∙ step.at) refl refl refl
+      (subst (λ (x : Scheduler K V S). AreNamed name x.calls) (sym step.rest) come.named) refl
+      (subst (λ (x : Scheduler K V S). length (filter (is_named (name i)) x.calls) ≤ 1) (sym step.rest) come.once)
+      (subst (λ (x : Scheduler K V S). AreWorth (name i) beginning (then_scene n mid after p new come (as_walked same hash step)) x.calls) (sym step.rest) (others_then n mid after p new come (as_walked same hash step)))
 
   -- so it has come wherever its steps have led
   module _ (first : Scheduler K V S) (start : HasCome 0 [] first) where

@@ -54,7 +54,7 @@ steps_tell_none (Replied caller reply) takes outcome = absurd (cc takes)
 steps_tell_none _ takes outcome = tt
 
 module _ {K V S : Type 0} (same : K → K → Bool) (hash : K → ℕ) (terms : Terms) (log : List (Entry K V)) (old : Scheduler K V S) (runs : Runs same hash terms log old)
-    (event : Event K V) (own : List ℕ) (of_call : caller_of event ≡ Some own) (speaks : speaker event ≡ Some own) (place : ℕ) (placed : Some place ≡ position (is_named own) old.calls.items.items) where
+    (event : Event K V) (own : List ℕ) (of_call : caller_of event ≡ Some own) (speaks : speaker event ≡ Some own) (place : ℕ) (placed : Some place ≡ position (is_named own) old.calls) where
   abbrev pub m : Moment K V
   m = moment log
 
@@ -116,9 +116,9 @@ module _ {K V S : Type 0} (same : K → K → Bool) (hash : K → ℕ) (terms : 
     shown = runs.stands.shown;
     slot = slot_is;
     c_is = c_is;
-    once = subst (λ (x : List ℕ). length (filter (is_named x) old.calls.items.items) ≤ 1) (sym name_is) (runs.stands.calls.once own);
-    worth = found_has (λ (d : Caller V). IsWorth m runs.stands.scene d) (is_named own) old.calls.items.items here.caller here.found runs.values u under c (ap (λ (x : List ℕ). call_of x m) here.named ∙ here.call_is);
-    others = all_so (λ (d : Caller V). IsWorth m runs.stands.scene d) (λ (d : Caller V). is_named (name i) d ≡ false → IsWorth m runs.stands.scene d) (λ d worth other. worth) old.calls.items.items runs.values;
+    once = subst (λ (x : List ℕ). length (filter (is_named x) old.calls) ≤ 1) (sym name_is) (runs.stands.calls.once own);
+    worth = found_has (λ (d : Caller V). IsWorth m runs.stands.scene d) (is_named own) old.calls here.caller here.found runs.values u under c (ap (λ (x : List ℕ). call_of x m) here.named ∙ here.call_is);
+    others = all_so (λ (d : Caller V). IsWorth m runs.stands.scene d) (λ (d : Caller V). is_named (name i) d ≡ false → IsWorth m runs.stands.scene d) (λ d worth other. worth) old.calls runs.values;
     midst = call_events_begin_so K V S same hash name terms log m (refl, refl) refl refl refl refl refl runs.shows.tableless (known old.logged.notes) runs.stands.scene old.logged.executor runs.stands.shown.is_at runs.shows.calls
         runs.shows.reading runs.shows.sections runs.shows.follows event map i (of_call ∙ ap Some (sym name_is)) u under c c_is
         (λ alone j goes. only_its_row same hash terms log old runs.stands event own speaks alone map i u under name_is j goes);

@@ -102,8 +102,8 @@ module _ {K V S : Type 0} (same : K → K → Bool) (hash : K → ℕ) (terms : 
 
   -- the run goes on in a scene with the same maps
   module _ (e : Entry K V) (nothing : e.effects ≡ []) (t : Scene K V) (run : ShowsRun same name terms (e ∷ log) (known old.logged.notes) t) (legal : IsLegalBut same terms log e) (is_at : IsAt same hash new.logged.executor t) (maps : t.maps ≡ s.maps)
-      (left : LeftAmong new.logged.executor.roots t.world t.maps t.makers t.enders runs.stands.shown.counted.remains.lists) (notes : new.logged.notes ≡ old.logged.notes) (on_size : new.logged.executor.batch_size ≡ old.logged.executor.batch_size) (named : AreNamed name new.calls.items.items)
-      (values : HaveValues (moment (e ∷ log)) t new.calls.items.items) (plays : IsPlayed same hash terms (e ∷ log) new) (right : ComesRight terms log e) (memory : t.world.memory ≡ s.world.memory) (no_slot : slots_on e.outcome m.slots ≡ m.slots) where
+      (left : LeftAmong new.logged.executor.roots t.world t.maps t.makers t.enders runs.stands.shown.counted.remains.lists) (notes : new.logged.notes ≡ old.logged.notes) (on_size : new.logged.executor.batch_size ≡ old.logged.executor.batch_size) (named : AreNamed name new.calls)
+      (values : HaveValues (moment (e ∷ log)) t new.calls) (plays : IsPlayed same hash terms (e ∷ log) new) (right : ComesRight terms log e) (memory : t.world.memory ≡ s.world.memory) (no_slot : slots_on e.outcome m.slots ≡ m.slots) where
     run_then : ShowsRun same name terms (e ∷ log) (known new.logged.notes) t
     run_then = subst (λ (k : Known). ShowsRun same name terms (e ∷ log) k t) (sym (ap known notes)) run
 
@@ -198,7 +198,7 @@ module _ {K V S : Type 0} (same : K → K → Bool) (hash : K → ℕ) (terms : 
               (subst (λ (v : Option V). KeepsValue here.call.call ((question.0, reply) ∷ here.call.replies) (machine_replied (machine_of u) (as_told reply)).0 v) (sym has.value_is)
               (values_taken K V S same hash name m (known old.logged.notes) s old.logged.executor runs.stands.shown.is_at runs.stands.shown.shows d.map d.number u here.way.1 (leads d.map u here.way.1).0
               (leads d.map u here.way.1).2 here.call (ap (λ (l : List ℕ). call_of l m) name_is ∙ here.call_is) question.0 asking reply takes_ok d.value
-              (found_has (λ (z : Caller V). IsWorth m s z) (is_named own) old.calls.items.items d here.found runs.values u here.way.1 here.call (ap (λ (l : List ℕ). call_of l m) here.named ∙ here.call_is))))))
+              (found_has (λ (z : Caller V). IsWorth m s z) (is_named own) old.calls d here.found runs.values u here.way.1 here.call (ap (λ (l : List ℕ). call_of l m) here.named ∙ here.call_is))))))
           | inr apart ↦ absurd (apart.0 refl refl)
         ]
 
@@ -211,12 +211,12 @@ module _ {K V S : Type 0} (same : K → K → Bool) (hash : K → ℕ) (terms : 
           | inr apart ↦ apart.1
         ]) c (sym (found_unchanged own z.name other (λ (y : CallThere K V). replied reply y y.stands) (λ (y : CallThere K V). replied_name reply y y.stands) m.calls) ∙ is)
 
-    values_told : HaveValues (moment (e own ∷ log)) t new.calls.items.items
+    values_told : HaveValues (moment (e own ∷ log)) t new.calls
     values_told =
         subst (HaveValues (moment (e own ∷ log)) t) (sym (has.calls d here.at))
-        (subst (λ (n : ℕ). HaveValues (moment (e own ∷ log)) t (slice_set old.calls.items.items n told_caller)) (sym here.first)
-        (set_all (λ (z : Caller V). (name z.number ≡ z.name) × IsWorth m s z) (IsWorth (moment (e own ∷ log)) t) (is_named own) told_caller own_worth other_worth old.calls.items.items
-        (both_all old.calls.items.items (its_named same hash terms m old runs.stands) runs.values) (runs.stands.calls.once own)))
+        (subst (λ (n : ℕ). HaveValues (moment (e own ∷ log)) t (slice_set old.calls n told_caller)) (sym here.first)
+        (set_all (λ (z : Caller V). (name z.number ≡ z.name) × IsWorth m s z) (IsWorth (moment (e own ∷ log)) t) (is_named own) told_caller own_worth other_worth old.calls
+        (both_all old.calls (its_named same hash terms m old runs.stands) runs.values) (runs.stands.calls.once own)))
       where
         both_all : (ds : List (Caller V)) → AreNamed name ds → HaveValues m s ds → AllByRecursion (λ (z : Caller V). (name z.number ≡ z.name) × IsWorth m s z) ds
         both_all [] named all = tt
@@ -230,11 +230,11 @@ module _ {K V S : Type 0} (same : K → K → Bool) (hash : K → ℕ) (terms : 
         (ap (λ (x : List ℕ). call_of x m) name_is ∙ here.call_is) question.0 asking led.0 led.2 reply led.1 led.3 takes_ok led.5 taken led.7 0
         (subst (λ (x : List ℕ). ComesRight terms log (e x)) (sym name_is) right)) in
         then_on (e own) refl t on.1 on.0 led.7 refl (behind given) has.notes given.1
-        (subst (AreNamed name) (sym (has.calls d here.at)) (named_set name old.calls.items.items has.place (record d { stands = far.Goes; value = has.value }) here.way.2 (its_named same hash terms m old runs.stands))) values_told plays right refl refl
+        (subst (AreNamed name) (sym (has.calls d here.at)) (named_set name old.calls has.place (record d { stands = far.Goes; value = has.value }) here.way.2 (its_named same hash terms m old runs.stands))) values_told plays right refl refl
 
   -- a walk was given up
   module _ (has : HasStopped same hash own old new) (given : KeepsGiven old.logged.executor new.logged.executor) where
-    placed : (Some has.place ≡ position (is_named own) old.calls.items.items) × (is_ready_there (slice_get old.calls.items.items has.place) ≡ true)
+    placed : (Some has.place ≡ position (is_named own) old.calls) × (is_ready_there (slice_get old.calls has.place) ≡ true)
     placed = ready_parts same hash terms log old own runs.stands has.place has.ready
 
     abbrev there : Here same hash terms m old runs.stands own has.place
@@ -277,12 +277,12 @@ module _ {K V S : Type 0} (same : K → K → Bool) (hash : K → ℕ) (terms : 
     abbrev f : List ℕ → Entry K V
     f x = quiet (Stop x) Done
 
-    values_stopped : HaveValues (moment (f own ∷ log)) after new.calls.items.items
+    values_stopped : HaveValues (moment (f own ∷ log)) after new.calls
     values_stopped =
         subst (λ (cs : List (Caller V)). HaveValues (moment (f own ∷ log)) after cs) (sym has.calls)
-        (all_left (IsWorth (moment (f own ∷ log)) after) old.calls.items.items has.place
+        (all_left (IsWorth (moment (f own ∷ log)) after) old.calls has.place
         (all_so (IsWorth m s) (IsWorth (moment (f own ∷ log)) after)
-        (λ z worth. is_worth_then m (moment (f own ∷ log)) (event_says (f own) m tt) s after z (λ x is. there_still z x is) worth) old.calls.items.items runs.values))
+        (λ z worth. is_worth_then m (moment (f own ∷ log)) (event_says (f own) m tt) s after z (λ x is. there_still z x is) worth) old.calls runs.values))
       where
         there_still : (z : Caller V) (x : UnderWay K V K) → after.calls z.map z.number ≡ Some x → s.calls z.map z.number ≡ Some x
         there_still z x is = elim (which s.calls its.map its.number None z.map z.number x is) as (λ _. s.calls z.map z.number ≡ Some x) [
@@ -296,4 +296,4 @@ module _ {K V S : Type 0} (same : K → K → Bool) (hash : K → ℕ) (terms : 
         (stopped_events_end K V S same hash name terms log (known old.logged.notes) s old.logged.executor new.logged.executor runs.stands.shown.is_at runs.shows its.number led_so its.map there.way.0
         there.way.1 0 none_named (subst (λ (x : List ℕ). ComesRight terms log (f x)) (sym named_so) right)) in
         then_on (f own) refl after on.1 on.0 (led_so its.map there.way.0 there.way.1).2 refl (behind given) has.notes given.1
-        (subst (AreNamed name) (sym has.calls) (named_left name old.calls.items.items has.place (its_named same hash terms m old runs.stands))) values_stopped plays right refl refl
+        (subst (AreNamed name) (sym has.calls) (named_left name old.calls has.place (its_named same hash terms m old runs.stands))) values_stopped plays right refl refl

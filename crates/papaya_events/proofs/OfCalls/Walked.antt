@@ -118,7 +118,7 @@ none_before [] ys is = refl
 none_before (x ∷ xs) ys is = absurd (cc is)
 
 module _ {K V S : Type 0} (same : K → K → Bool) (hash : K → ℕ) (terms : Terms) (log : List (Entry K V)) (old : Scheduler K V S) (runs : Runs same hash terms log old)
-    (own : List ℕ) (place : ℕ) (found : Some place ≡ ready_place own old.calls.items.items) (played : Played V) (new : Scheduler K V S) (walked : HasWalked same hash place played old new) where
+    (own : List ℕ) (place : ℕ) (found : Some place ≡ ready_place own old.calls) (played : Played V) (new : Scheduler K V S) (walked : HasWalked same hash place played old new) where
   abbrev m : Moment K V
   m = moment log
 
@@ -131,7 +131,7 @@ module _ {K V S : Type 0} (same : K → K → Bool) (hash : K → ℕ) (terms : 
   abbrev event : Event K V
   event = Next own
 
-  parts : (Some place ≡ position (is_named own) old.calls.items.items) × (is_ready_there (slice_get old.calls.items.items place) ≡ true)
+  parts : (Some place ≡ position (is_named own) old.calls) × (is_ready_there (slice_get old.calls place) ≡ true)
   parts = ready_parts same hash terms log old own runs.stands place found
 
   abbrev here : Here same hash terms m old runs.stands own place
@@ -273,9 +273,9 @@ module _ {K V S : Type 0} (same : K → K → Bool) (hash : K → ℕ) (terms : 
     shown = shown;
     slot = taken.slot_is same hash terms log old runs event own refl refl place parts.0;
     c_is = c_is;
-    once = subst (λ (x : List ℕ). length (filter (is_named x) old.calls.items.items) ≤ 1) (sym (taken.name_is same hash terms log old runs event own refl refl place parts.0)) (runs.stands.calls.once own);
+    once = subst (λ (x : List ℕ). length (filter (is_named x) old.calls) ≤ 1) (sym (taken.name_is same hash terms log old runs event own refl refl place parts.0)) (runs.stands.calls.once own);
     worth = subst (λ (x : Call K V). KeepsValue x c.replies (machine_of next) d.value) (sym is_walk) tt;
-    others = others_next old.calls.items.items (its_named same hash terms m old runs.stands) runs.values;
+    others = others_next old.calls (its_named same hash terms m old runs.stands) runs.values;
     midst = subst (λ (k : Known). InCallEvent same name terms log event m map i c 0 [] m k then_at next) notes_are midst;
     taken = runs.taken;
     hands = tt;

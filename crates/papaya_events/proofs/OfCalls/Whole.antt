@@ -126,11 +126,11 @@ module _ {K V S : Type 0} (same : K → K → Bool) (hash : K → ℕ) (terms : 
       let yes = ap (is_same led.caller.name) name_is ∙ ap (λ (x : List ℕ). is_same x nameless) (ap (λ (z : Seen). z.name) led.is) in
       let no : is_named (names i) led.caller ≡ true = yes in cc (other, no))
 
-  olds : AllByRecursion (λ (d : Caller V). is_named (names i) d ≡ false → IsWorth m1 (begun.then_at same hash terms log old runs nameless guard on call mid led) d) old.calls.items.items
+  olds : AllByRecursion (λ (d : Caller V). is_named (names i) d ≡ false → IsWorth m1 (begun.then_at same hash terms log old runs nameless guard on call mid led) d) old.calls
   olds =
       all_so (λ (d : Caller V). IsWorth m1 (begun.then_at same hash terms log old runs nameless guard on call mid led) d)
-      (λ (d : Caller V). is_named (names i) d ≡ false → IsWorth m1 (begun.then_at same hash terms log old runs nameless guard on call mid led) d) (λ d worth other. worth) old.calls.items.items
-      (subst (λ (v : Moment K V). HaveValues v (begun.then_at same hash terms log old runs nameless guard on call mid led) old.calls.items.items) (sym m1_is)
+      (λ (d : Caller V). is_named (names i) d ≡ false → IsWorth m1 (begun.then_at same hash terms log old runs nameless guard on call mid led) d) (λ d worth other. worth) old.calls
+      (subst (λ (v : Moment K V). HaveValues v (begun.then_at same hash terms log old runs nameless guard on call mid led) old.calls) (sym m1_is)
       (begun.olds_worth same hash terms log old runs nameless guard on call mid led))
 
   abbrev pub Come : Type 0
@@ -155,7 +155,7 @@ module _ {K V S : Type 0} (same : K → K → Bool) (hash : K → ℕ) (terms : 
     shown = subst (λ (x : Moment K V). IsShown same hash names x mid.logged (begun.then_at same hash terms log old runs nameless guard on call mid led)) (sym m1_is) (begun.shown_begun same hash terms log old runs nameless guard on call mid led);
     slot = slot_is;
     c_is = c_is;
-    once = subst (λ (x : List ℕ). length (filter (is_named x) mid.calls.items.items) ≤ 1) (sym name_is) (mid_stands.calls.once nameless);
+    once = subst (λ (x : List ℕ). length (filter (is_named x) mid.calls) ≤ 1) (sym name_is) (mid_stands.calls.once nameless);
     worth = begun.own_worth same hash terms log old runs nameless guard on call mid led led.caller.value;
     others = subst (λ (l : List (Caller V)). AllByRecursion (λ (d : Caller V). is_named (names i) d ≡ false → IsWorth m1 (begun.then_at same hash terms log old runs nameless guard on call mid led) d) l)
         (sym led.items) (own_named, olds);

@@ -39,4 +39,4 @@ module _ {K V S : Type 0} (same : K → K → Bool) (hash : K → ℕ) (terms : 
       by : FollowsOrRows terms log (known p.logged.notes) run.stands.scene.world → FollowsModel terms.batch_size terms.roots log (known p.logged.notes) run.stands.scene.world
       by (inl follows) = follows
       by (inr (i, row)) =
-          absurd (no_callers p.calls.items.items (sym (ap (map seen) none) ∙ run.stands.calls.listed) i (row_of_caller same hash terms log p run.stands i row.goes))
+          absurd (no_callers p.calls (sym (ap (map seen) none) ∙ run.stands.calls.listed) i (row_of_caller same hash terms log p run.stands i row.goes))

@@ -15,7 +15,7 @@ use Rattle.papaya_folded.specs.Given.Legal.Carried.{ShowsRun}
 use Rattle.papaya_folded.proofs.Given.Legal.Come.{events_bring_things}
 use Rattle.papaya_folded.proofs.Steps.{none_in_order}
 use Rattle.papaya_folded.specs.Given.Reclaims.Left.{LeftAmong}
-use Rattle.papaya_folded.specs.Given.Named.declared.caller.Callers.{Callers}
+use Rattle.papaya_folded.specs.Given.Named.declared.caller.Caller.{Caller}
 use Rattle.papaya_scheduler.specs.Played.{IsPlayed}
 use Rattle.papaya_scheduler.specs.declared.scheduler.Scheduler.{Scheduler}
 use Rattle.papaya_events.specs.Asked.{is_of_calls}
@@ -36,13 +36,13 @@ by_none _ none = refl
 module _ {K V S : Type 0} (same : K → K → Bool) (hash : K → ℕ) (terms : Terms) (log : List (Entry K V)) (e : Entry K V) (old new : Scheduler K V S) (run : Runs same hash terms log old)
     (none : is_of_calls e.event ≡ false) (scene : Scene K V) (at_end : IsAt same hash new.logged.executor scene) (lists : ℕ → List ℕ)
     (left : LeftAmong new.logged.executor.roots scene.world scene.maps scene.makers scene.enders lists) (callers : new.calls ≡ old.calls) (calls : scene.calls ≡ run.stands.scene.calls) where
-  named : AreNamed run.stands.name new.calls.items.items
-  named = subst (λ (c : Callers V). AreNamed run.stands.name c.items.items) (sym callers) (its_named same hash terms (moment log) old run.stands)
+  named : AreNamed run.stands.name new.calls
+  named = subst (λ (cs : List (Caller V)). AreNamed run.stands.name cs) (sym callers) (its_named same hash terms (moment log) old run.stands)
 
-  values : HaveValues (moment (e ∷ log)) scene new.calls.items.items
+  values : HaveValues (moment (e ∷ log)) scene new.calls
   values =
-      subst (λ (c : Callers V). HaveValues (moment (e ∷ log)) scene c.items.items) (sym callers)
-      (have_values_then (moment log) (moment (e ∷ log)) (nobody_says e (moment log) none) run.stands.scene scene calls old.calls.items.items run.values)
+      subst (λ (cs : List (Caller V)). HaveValues (moment (e ∷ log)) scene cs) (sym callers)
+      (have_values_then (moment log) (moment (e ∷ log)) (nobody_says e (moment log) none) run.stands.scene scene calls old.calls run.values)
 
   -- Where callers are as they were, what ended maps left over is behind the roots that the moment says, and the event is legal, and shows in that scene what a run needs, the run goes on with it.
   pub over_runs : IsPlayed same hash terms (e ∷ log) new → ComesRight terms log e → IsLegalBut same terms log e → ShowsRun same run.stands.name terms (e ∷ log) (known new.logged.notes) scene

@@ -43,7 +43,7 @@ returns-clause-plays g c =
     λ same hash terms log due apart.
     ended same hash terms log c.args.scheduler.now c.args.map.now due c.in-Some.number (sym c.number_of.ensures ∙ c.in-Some.is) (sym c.are_on.ensures ∙ c.if-are_on.false) c.begin_end.new.self c.in_ok-caller.caller
     (c.in_ok-caller.ensures.leads same hash due.played.name (moment log) due.played.scene due.played.shown) c.run_end.new.self c.no_effects-effects.result.items c.run_end.new.effects.items
-    c.no_effects-effects.ensures c.in_ok-run_end.ensures.ran c.in_ok-run_end.ensures.over apart _ refl refl c.without.ensures
+    c.no_effects-effects.ensures c.in_ok-run_end.ensures.ran c.in_ok-run_end.ensures.over apart _ refl refl c.remove.ensures.others
 
 pub returns-in_err-run_end-clause-given : goal.returns-in_err-run_end-clause-given
 returns-in_err-run_end-clause-given g c = given_on c.args.scheduler.now.logged.executor c.begin_end.new.self.executor c.run_end.new.self.executor c.begin_end.ensures.given c.run_end.ensures.given

@@ -70,7 +70,7 @@ returns-in_ok-push-in-Done-clause-plays g c =
     (let ne = c.if-scheduler-eq0.false in omega (arith, ne)) c.in-Ok.places c.in-Ok.ensures.first c.setting_for-given.result c.setting_for-given.ensures c.in_ok-caller.caller c.begin_making.new.self
     (c.in_ok-caller.ensures.leads same hash may.due.played.name (moment log) may.due.played.scene may.due.played.shown) c.len-number.result count c.in-Done.field-0 c.run_making.new.self
     c.no_effects-effects.result.items c.run_making.new.effects.items c.no_effects-effects.ensures c.in_ok-caller.ensures.there (subst (λ (x : Progress Setting). MakingRan c.in_ok-caller.caller c.len-number.result x c.no_effects-effects.result.items c.run_making.new.effects.items c.begin_making.new.self c.run_making.new.self) c.in-Done.is c.in_ok-told.ensures.ran)
-    (subst (λ (x : Progress Setting). MakingFinds c.in_ok-caller.caller c.len-number.result x c.no_effects-effects.result.items c.run_making.new.effects.items c.begin_making.new.self c.run_making.new.self) c.in-Done.is c.in_ok-told.ensures.finds) _ refl refl c.in_ok-push-in-Done.ensures.items
+    (subst (λ (x : Progress Setting). MakingFinds c.in_ok-caller.caller c.len-number.result x c.no_effects-effects.result.items c.run_making.new.effects.items c.begin_making.new.self c.run_making.new.self) c.in-Done.is c.in_ok-told.ensures.finds) _ refl refl c.in_ok-push-in-Done.ensures.came
 
 pub returns-in_err-told-clause-given : goal.returns-in_err-told-clause-given
 returns-in_err-told-clause-given g c = stays_on c.args.scheduler.now.logged.executor c.begin_making.new.self.executor c.run_making.new.self.executor c.begin_making.ensures.given c.run_making.ensures.given

@@ -32,20 +32,20 @@ pub returns-then-not-are_gone-clause-plays : goal.returns-then-not-are_gone-clau
 returns-then-not-are_gone-clause-plays g c =
     λ same hash terms log due may.
     so_played same hash terms log c.args.scheduler.now Close c.busy.result (Refused Busy) 0 [] c.busy.ensures.outcome c.busy.ensures.steps c.busy.ensures.effects
-    (not_closed same hash terms log c.args.scheduler.now due (ap (λ (q : Bool). q && (length c.args.scheduler.now.maps.items == 0)) (sym c.are_gone.ensures ∙ c.if-not-are_gone.true)))
+    (not_closed same hash terms log c.args.scheduler.now due (ap (λ (q : Bool). q && (length c.args.scheduler.now.maps == 0)) (sym c.are_gone.ensures ∙ c.if-not-are_gone.true)))
 
 pub returns-then-not-is_empty-clause-plays : goal.returns-then-not-is_empty-clause-plays
 returns-then-not-is_empty-clause-plays g c =
     λ same hash terms log due may.
-    let some : (length c.args.scheduler.now.maps.items == 0) ≡ false = search (rules, c.is_empty.ensures, c.if-not-is_empty.true) in
+    let some : (length c.args.scheduler.now.maps == 0) ≡ false = search (rules, c.is_empty.ensures, c.if-not-is_empty.true) in
     so_played same hash terms log c.args.scheduler.now Close c.busy-then-not-is_empty.result (Refused Busy) 0 [] c.busy-then-not-is_empty.ensures.outcome c.busy-then-not-is_empty.ensures.steps
     c.busy-then-not-is_empty.ensures.effects
-    (not_closed same hash terms log c.args.scheduler.now due (ap (λ (q : Bool). q && (length c.args.scheduler.now.maps.items == 0)) (sym c.are_gone.ensures ∙ c.if-not-are_gone.false) ∙ some))
+    (not_closed same hash terms log c.args.scheduler.now due (ap (λ (q : Bool). q && (length c.args.scheduler.now.maps == 0)) (sym c.are_gone.ensures ∙ c.if-not-are_gone.false) ∙ some))
 
 pub returns-clause-plays : goal.returns-clause-plays
 returns-clause-plays g c =
     λ same hash terms log due may.
-    let none : (length c.args.scheduler.now.maps.items == 0) ≡ true = search (rules, c.is_empty.ensures, c.if-not-is_empty.false) in
+    let none : (length c.args.scheduler.now.maps == 0) ≡ true = search (rules, c.is_empty.ensures, c.if-not-is_empty.false) in
     has_closed same hash terms log c.args.scheduler.now due (sym c.are_gone.ensures ∙ c.if-not-are_gone.false) none may c.give_all_back.new.scheduler.logged c.no_effects-effects.result.items
     c.give_all_back.new.effects.items c.no_effects-effects.ensures c.in_ok-give_all_back.ensures.ran c.give_all_back.ensures.given.2 _ (ap {A = Scheduler _ _ _} {B = Scheduler _ _ _} (λ (x : Scheduler _ _ _). record x { is_closed = true }) c.in_ok-give_all_back.ensures.rest)
 

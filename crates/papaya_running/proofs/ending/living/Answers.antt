@@ -19,7 +19,7 @@ loop-named-preserved c =
     let rest = c.next.new.self.rest.items in
     let next : c.loop-named.named-iterator.rest.items ≡ named ∷ rest = let s = c.in-Some.ensures.steps in search rules in
     let one : Living = record { name = named.name; pairs = c.in_ok-pairs.pairs } in
-    let one_is : shown_of one ≡ told named = ap (λ (l : List ℕ). (named.name, l)) c.in_ok-pairs.ensures in
+    let one_is : shown_of one ≡ told named = ap (λ (l : List ℕ). (named.name, l)) (c.in_ok-pairs.ensures ∙ c.in_ok-by_map.ensures named.number) in
     ap (λ (l : List Living). map shown_of l ++ map told rest) c.in_ok-push.ensures.items
     ∙ ap (λ l. l ++ map told rest) (map-append shown_of c.loop-named.living.items (one ∷ []) ∙ ap (λ x. map shown_of c.loop-named.living.items ++ x ∷ []) one_is)
     ∙ append_assoc (map shown_of c.loop-named.living.items) (told named ∷ []) (map told rest)

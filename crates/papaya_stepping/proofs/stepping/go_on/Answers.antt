@@ -4,7 +4,7 @@ use Rattle.std.proofs.lemmas.List.{append-nil}
 use Rattle.papaya_scheduler.proofs.Given.Logged.KeptGiven.{given_on}
 use Rattle.papaya_stepping.specs.Stepping.{IsStepped, MayStep}
 use Rattle.papaya_stepping.proofs.ComesOn.{midst_first}
-use Rattle.papaya_stepping.proofs.StepsOn.{goes_further, may_step, stops_at, takes_all}
+use Rattle.papaya_stepping.proofs.StepsOn.{goes_further, may_step, placed_on, stops_at, takes_all}
 use Rattle.papaya_stepping.proofs.stepping.go_on.Goals as goal
 
 pub loop-steps-init : goal.loop-steps-init
@@ -12,11 +12,11 @@ loop-steps-init g c = (
   0,
   refl,
   (refl, refl, refl, refl),
-  λ terms m own stands at. midst_first g.K.PartialEq.eq (g.S.Hashes.hash c.args.scheduler.now.logged.executor.hasher) terms own c.args.place m c.args.scheduler.now stands at c.args.effects.now.items
+  λ place placed terms m own stands at. midst_first g.K.PartialEq.eq (g.S.Hashes.hash c.args.scheduler.now.logged.executor.hasher) terms own place m c.args.scheduler.now stands at c.args.effects.now.items
       (sym (append-nil c.args.effects.now.items)),
   0,
   refl,
-  (refl, refl),
+  λ place placed. (refl, refl),
   λ refused. refl,
 )
 
@@ -24,40 +24,47 @@ pub take_step-requires : goal.take_step-requires
 take_step-requires g c =
     let r = c.requires.goes in
     let i = c.loop-steps.invariant in
-    subst (λ h. MayStep g.K.PartialEq.eq (g.S.Hashes.hash h) c.args.place c.loop-steps.scheduler) (sym i.2.0)
-    (may_step g.K.PartialEq.eq (g.S.Hashes.hash c.args.scheduler.now.logged.executor.hasher) c.args.place c.args.scheduler.now c.args.effects.now.items r.0 r.1 r.2 r.3 r.4 i.0 c.loop-steps.effects.items c.loop-steps.scheduler i.3)
+    subst (λ h. MayStep g.K.PartialEq.eq (g.S.Hashes.hash h) c.args.caller.now c.loop-steps.scheduler) (sym i.2.0)
+    (may_step g.K.PartialEq.eq (g.S.Hashes.hash c.args.scheduler.now.logged.executor.hasher) r.2 c.args.scheduler.now c.args.effects.now.items r.0 r.1 c.args.caller.now r.3 r.4 i.0 c.loop-steps.effects.items
+    c.loop-steps.scheduler (i.3 r.2 r.4.0))
 
 pub returns-then-not-goes_on-clause-comes : goal.returns-then-not-goes_on-clause-comes
-returns-then-not-goes_on-clause-comes g c =
+returns-then-not-goes_on-clause-comes g c = λ place placed.
     let i = c.loop-steps.invariant in
-    stops_at g.K.PartialEq.eq (g.S.Hashes.hash c.args.scheduler.now.logged.executor.hasher) c.args.place c.args.scheduler.now c.args.effects.now.items i.0 c.loop-steps.effects.items c.take_step.new.effects.items
-    c.loop-steps.scheduler c.take_step.new.scheduler c.in_ok-outcome.outcome i.3
-    (subst (λ h. IsStepped g.K.PartialEq.eq (g.S.Hashes.hash h) c.args.place c.in_ok-outcome.outcome c.loop-steps.effects.items c.take_step.new.effects.items c.loop-steps.scheduler c.take_step.new.scheduler) i.2.0
-    c.in_ok-outcome.ensures.stepped)
-    c.args.most c.loop-steps.steps i.1 c.loop-steps-test.true (sym c.goes_on.ensures ∙ c.if-not-goes_on.true) i.4 i.5 i.6
+    let hash = g.S.Hashes.hash c.args.scheduler.now.logged.executor.hasher in
+    let on = placed_on g.K.PartialEq.eq hash place c.args.scheduler.now c.args.effects.now.items c.args.caller.now c.requires.goes placed i.0 c.loop-steps.effects.items c.loop-steps.scheduler (i.3 place placed) in
+    stops_at g.K.PartialEq.eq hash place c.args.scheduler.now c.args.effects.now.items i.0 c.loop-steps.effects.items c.take_step.new.effects.items
+    c.loop-steps.scheduler c.take_step.new.scheduler c.in_ok-outcome.outcome (i.3 place placed)
+    (subst (λ h. IsStepped g.K.PartialEq.eq (g.S.Hashes.hash h) place c.in_ok-outcome.outcome c.loop-steps.effects.items c.take_step.new.effects.items c.loop-steps.scheduler c.take_step.new.scheduler) i.2.0
+    (c.in_ok-outcome.ensures.stepped place on))
+    c.args.most c.loop-steps.steps i.1 c.loop-steps-test.true (sym c.goes_on.ensures ∙ c.if-not-goes_on.true) i.4 i.5 (i.6 place placed)
 
 pub loop-steps-preserved : goal.loop-steps-preserved
 loop-steps-preserved g c =
-    let i = c.loop-steps.invariant in (
+    let i = c.loop-steps.invariant in
+    let hash = g.S.Hashes.hash c.args.scheduler.now.logged.executor.hasher in (
       i.0 + 1,
       ap (λ k. k + 1) i.1,
       given_on c.args.scheduler.now.logged.executor c.loop-steps.scheduler.logged.executor c.take_step.new.scheduler.logged.executor i.2 c.take_step.ensures.given,
-      (goes_further g.K.PartialEq.eq (g.S.Hashes.hash c.args.scheduler.now.logged.executor.hasher) c.args.place c.args.scheduler.now c.args.effects.now.items i.0 c.loop-steps.effects.items c.take_step.new.effects.items
-          c.loop-steps.scheduler c.take_step.new.scheduler c.in_ok-outcome.outcome i.3
-          (subst (λ h. IsStepped g.K.PartialEq.eq (g.S.Hashes.hash h) c.args.place c.in_ok-outcome.outcome c.loop-steps.effects.items c.take_step.new.effects.items c.loop-steps.scheduler c.take_step.new.scheduler) i.2.0
-          c.in_ok-outcome.ensures.stepped)
-          (sym c.goes_on.ensures ∙ c.if-not-goes_on.false)),
+      λ place placed.
+          let on = placed_on g.K.PartialEq.eq hash place c.args.scheduler.now c.args.effects.now.items c.args.caller.now c.requires.goes placed i.0 c.loop-steps.effects.items c.loop-steps.scheduler (i.3 place placed) in
+          goes_further g.K.PartialEq.eq hash place c.args.scheduler.now c.args.effects.now.items i.0 c.loop-steps.effects.items c.take_step.new.effects.items
+          c.loop-steps.scheduler c.take_step.new.scheduler c.in_ok-outcome.outcome (i.3 place placed)
+          (subst (λ h. IsStepped g.K.PartialEq.eq (g.S.Hashes.hash h) place c.in_ok-outcome.outcome c.loop-steps.effects.items c.take_step.new.effects.items c.loop-steps.scheduler c.take_step.new.scheduler) i.2.0
+          (c.in_ok-outcome.ensures.stepped place on))
+          (sym c.goes_on.ensures ∙ c.if-not-goes_on.false),
       suc i.4,
       (let is = i.5 in omega (arith, is)),
-      (
-        c.loop-steps.effects.items,
-        c.loop-steps.scheduler,
-        c.in_ok-outcome.outcome,
-        i.6,
-        sym c.goes_on.ensures ∙ c.if-not-goes_on.false,
-        subst (λ h. IsStepped g.K.PartialEq.eq (g.S.Hashes.hash h) c.args.place c.in_ok-outcome.outcome c.loop-steps.effects.items c.take_step.new.effects.items c.loop-steps.scheduler c.take_step.new.scheduler) i.2.0
-            c.in_ok-outcome.ensures.stepped,
-      ),
+      λ place placed.
+          let on = placed_on g.K.PartialEq.eq hash place c.args.scheduler.now c.args.effects.now.items c.args.caller.now c.requires.goes placed i.0 c.loop-steps.effects.items c.loop-steps.scheduler (i.3 place placed) in (
+            c.loop-steps.effects.items,
+            c.loop-steps.scheduler,
+            c.in_ok-outcome.outcome,
+            i.6 place placed,
+            sym c.goes_on.ensures ∙ c.if-not-goes_on.false,
+            subst (λ h. IsStepped g.K.PartialEq.eq (g.S.Hashes.hash h) place c.in_ok-outcome.outcome c.loop-steps.effects.items c.take_step.new.effects.items c.loop-steps.scheduler c.take_step.new.scheduler) i.2.0
+                (c.in_ok-outcome.ensures.stepped place on),
+          ),
       λ refused. c.in_ok-outcome.ensures.refused refused ∙ i.7 refused,
     )
 
@@ -65,20 +72,23 @@ pub take_step-requires-2 : goal.take_step-requires-2
 take_step-requires-2 g c =
     let r = c.requires.goes in
     let i = c.loop-steps.invariant in
-    subst (λ h. MayStep g.K.PartialEq.eq (g.S.Hashes.hash h) c.args.place c.loop-steps.scheduler) (sym i.2.0)
-    (may_step g.K.PartialEq.eq (g.S.Hashes.hash c.args.scheduler.now.logged.executor.hasher) c.args.place c.args.scheduler.now c.args.effects.now.items r.0 r.1 r.2 r.3 r.4 i.0 c.loop-steps.effects.items c.loop-steps.scheduler i.3)
+    subst (λ h. MayStep g.K.PartialEq.eq (g.S.Hashes.hash h) c.args.caller.now c.loop-steps.scheduler) (sym i.2.0)
+    (may_step g.K.PartialEq.eq (g.S.Hashes.hash c.args.scheduler.now.logged.executor.hasher) r.2 c.args.scheduler.now c.args.effects.now.items r.0 r.1 c.args.caller.now r.3 r.4 i.0 c.loop-steps.effects.items
+    c.loop-steps.scheduler (i.3 r.2 r.4.0))
 
 pub returns-clause-comes : goal.returns-clause-comes
-returns-clause-comes g c =
+returns-clause-comes g c = λ place placed.
     let i = c.loop-steps.invariant in
+    let hash = g.S.Hashes.hash c.args.scheduler.now.logged.executor.hasher in
     let ended = c.loop-steps-test.false in
     let few = c.loop-steps.auto.steps-end c.requires.some in
     let is = i.1 in
-    takes_all g.K.PartialEq.eq (g.S.Hashes.hash c.args.scheduler.now.logged.executor.hasher) c.args.place c.args.scheduler.now c.args.effects.now.items i.0 c.loop-steps.effects.items c.take_step-2.new.effects.items
-    c.loop-steps.scheduler c.take_step-2.new.scheduler c.in_ok-outcome-2.outcome i.3
-    (subst (λ h. IsStepped g.K.PartialEq.eq (g.S.Hashes.hash h) c.args.place c.in_ok-outcome-2.outcome c.loop-steps.effects.items c.take_step-2.new.effects.items c.loop-steps.scheduler c.take_step-2.new.scheduler) i.2.0
-    c.in_ok-outcome-2.ensures.stepped)
-    c.args.most (omega (arith, ended, few, is)) i.4 (let kept = i.5 in omega (arith, ended, few, kept)) i.6
+    let on = placed_on g.K.PartialEq.eq hash place c.args.scheduler.now c.args.effects.now.items c.args.caller.now c.requires.goes placed i.0 c.loop-steps.effects.items c.loop-steps.scheduler (i.3 place placed) in
+    takes_all g.K.PartialEq.eq hash place c.args.scheduler.now c.args.effects.now.items i.0 c.loop-steps.effects.items c.take_step-2.new.effects.items
+    c.loop-steps.scheduler c.take_step-2.new.scheduler c.in_ok-outcome-2.outcome (i.3 place placed)
+    (subst (λ h. IsStepped g.K.PartialEq.eq (g.S.Hashes.hash h) place c.in_ok-outcome-2.outcome c.loop-steps.effects.items c.take_step-2.new.effects.items c.loop-steps.scheduler c.take_step-2.new.scheduler) i.2.0
+    (c.in_ok-outcome-2.ensures.stepped place on))
+    c.args.most (omega (arith, ended, few, is)) i.4 (let kept = i.5 in omega (arith, ended, few, kept)) (i.6 place placed)
 
 pub returns-then-not-goes_on-clause-refused : goal.returns-then-not-goes_on-clause-refused
 returns-then-not-goes_on-clause-refused g c = λ refused. c.in_ok-outcome.ensures.refused refused ∙ c.loop-steps.invariant.7 refused

@@ -4,13 +4,15 @@ use Rattle.papaya_scheduler.specs.Given.Executor.IsAt.{KeepsGiven}
 use Rattle.papaya_schedules.specs.Moment.{Moment}
 use Rattle.papaya_schedules.specs.Terms.{Terms}
 use Rattle.papaya_scheduler.specs.Played.{StandsAs}
-use Rattle.papaya_stepping.specs.Stepping.{IsMidWalk, ReadyAt, WalkedFor, WalksFar}
+use Rattle.papaya_stepping.specs.Stepping.{IsMidWalk, IsPlaced, ReadyAt, WalkedFor, WalksFar}
 use Rattle.papaya_stepping.proofs.walking.walk_on.Given as goal
 
 abbrev pub invariant-loop-steps : goal.invariant-loop-steps
 invariant-loop-steps g l =
     (n : ℕ) × (l.steps ≡ n + 1) × (l.scheduler ≡ record l.fn.scheduler { logged = l.scheduler.logged }) × KeepsGiven l.fn.scheduler.logged.executor l.scheduler.logged.executor
-    × ((terms : Terms) (m : Moment g.row.K.Denot g.row.V.Denot) (own : List ℕ)
-    → StandsAs (WalksFar own 0) g.K.PartialEq.eq (g.S.Hashes.hash l.fn.scheduler.logged.executor.hasher) terms m l.fn.scheduler → ReadyAt own l.fn.place l.fn.scheduler
-    → IsMidWalk g.K.PartialEq.eq (g.S.Hashes.hash l.fn.scheduler.logged.executor.hasher) terms own l.fn.place m n l.fn.effects.items l.effects.items l.scheduler)
-    × (k : ℕ) × (l.steps ≡ k + 1) × WalkedFor g.K.PartialEq.eq (g.S.Hashes.hash l.fn.scheduler.logged.executor.hasher) l.fn.place k l.fn.effects.items l.effects.items l.fn.scheduler l.scheduler
+    × ((place : ℕ) → IsPlaced l.fn.caller place l.fn.scheduler.calls → (terms : Terms) (m : Moment g.row.K.Denot g.row.V.Denot) (own : List ℕ)
+    → StandsAs (WalksFar own 0) g.K.PartialEq.eq (g.S.Hashes.hash l.fn.scheduler.logged.executor.hasher) terms m l.fn.scheduler → ReadyAt own place l.fn.scheduler
+    → IsMidWalk g.K.PartialEq.eq (g.S.Hashes.hash l.fn.scheduler.logged.executor.hasher) terms own place m n l.fn.effects.items l.effects.items l.scheduler)
+    × (k : ℕ) × (l.steps ≡ k + 1)
+    × ((place : ℕ) → IsPlaced l.fn.caller place l.fn.scheduler.calls
+    → WalkedFor g.K.PartialEq.eq (g.S.Hashes.hash l.fn.scheduler.logged.executor.hasher) place k l.fn.effects.items l.effects.items l.fn.scheduler l.scheduler)

@@ -4,11 +4,10 @@ use Rattle.papaya_scheduler.proofs.Begins.{fits}
 use Rattle.papaya_scheduler.proofs.BegunSo.{has_begun, is_free, is_named_so, no_guard, no_map}
 use Rattle.papaya_scheduler.proofs.scheduler.Scheduler.begins.Goals as goal
 
-pub returns-then-is_some : goal.returns-then-is_some
-returns-then-is_some g c = record {
+pub returns-then-has : goal.returns-then-has
+returns-then-has g c = record {
   begins = λ terms m stands.
-      is_named_so g.K.PartialEq.eq (g.S.Hashes.hash c.args.self.now.logged.executor.hasher) terms m c.args.self.now stands c.args.name c.args.guard c.args.map.now c.args.call c.place_of.result
-      c.place_of.ensures (sym c.is_some.ensures ∙ c.if-is_some.true);
+      is_named_so g.K.PartialEq.eq (g.S.Hashes.hash c.args.self.now.logged.executor.hasher) terms m c.args.self.now stands c.args.name c.args.guard c.args.map.now c.args.call _ refl (sym c.has.ensures ∙ c.if-has.true);
   given = (refl, refl, refl, refl);
 }
 
@@ -31,16 +30,14 @@ returns-in_default-setting_of g c = record {
 pub begin-requires : goal.begin-requires
 begin-requires g c =
     let r = c.requires in
-    let free = is_free g.K.PartialEq.eq (g.S.Hashes.hash c.args.self.now.logged.executor.hasher) r.0 r.1 c.args.self.now r.2 c.args.name c.args.guard c.args.map.now c.args.call c.place_of.result
-    c.place_of.ensures (sym c.is_some.ensures ∙ c.if-is_some.false) in
+    let free = is_free g.K.PartialEq.eq (g.S.Hashes.hash c.args.self.now.logged.executor.hasher) r.0 r.1 c.args.self.now r.2 c.args.name c.args.guard c.args.map.now c.args.call _ refl (sym c.has.ensures ∙ c.if-has.false) in
     fits g.K.PartialEq.eq (g.S.Hashes.hash c.args.self.now.logged.executor.hasher) r.0 r.1 c.args.self.now r.2 c.args.name c.args.guard c.args.map.now c.args.call free c.in-Some.slot
     (sym c.slot_of_living.ensures ∙ c.in-Some.is) c.in-Some-setting_of.map c.in-Some-setting_of.setting (sym c.setting_of.ensures ∙ c.in-Some-setting_of.is)
 
 pub returns : goal.returns
 returns g c = record {
   begins = λ terms m stands.
-      let free = is_free g.K.PartialEq.eq (g.S.Hashes.hash c.args.self.now.logged.executor.hasher) terms m c.args.self.now stands c.args.name c.args.guard c.args.map.now c.args.call c.place_of.result
-      c.place_of.ensures (sym c.is_some.ensures ∙ c.if-is_some.false) in
+      let free = is_free g.K.PartialEq.eq (g.S.Hashes.hash c.args.self.now.logged.executor.hasher) terms m c.args.self.now stands c.args.name c.args.guard c.args.map.now c.args.call _ refl (sym c.has.ensures ∙ c.if-has.false) in
       has_begun g.K.PartialEq.eq (g.S.Hashes.hash c.args.self.now.logged.executor.hasher) terms m c.args.self.now stands c.args.name c.args.guard c.args.map.now c.args.call free c.in-Some.slot
       (sym c.slot_of_living.ensures ∙ c.in-Some.is) c.in-Some-setting_of.map c.in-Some-setting_of.setting (sym c.setting_of.ensures ∙ c.in-Some-setting_of.is) c.in_ok-number.number
       c.in_ok-number.ensures.number c.machine_for-machine.result c.machine_for-machine.ensures c.of-kind.result c.of-kind.ensures c.begin.new.self

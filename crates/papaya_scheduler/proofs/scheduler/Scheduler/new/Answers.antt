@@ -6,7 +6,7 @@ use Rattle.papaya_scheduler.proofs.scheduler.Scheduler.new.Goals as goal
 
 pub returns-clause-played : goal.returns-clause-played
 returns-clause-played g c = λ same hash.
-    stands_first same hash _ c.args.setup.roots (λ name. c.in_ok-new.ensures.shown same hash name) c.nobody.ensures c.new-2.ensures.items c.nobody-2.ensures refl refl
+    stands_first same hash _ c.args.setup.roots (λ name. c.in_ok-new.ensures.shown same hash name) c.nobody.ensures c.new-2.ensures c.nobody-2.ensures refl refl
 
 pub returns-clause-begun : goal.returns-clause-begun
 returns-clause-begun g c =

@@ -1,5 +1,7 @@
 -- A call gets its reply.
+use Rattle.std.specs.Prelude.{option_copied}
 use Rattle.std.proofs.Common.{[], Some, refl, sym, ap, ◌∙◌}
+use Rattle.papaya_named.proofs.Roll.Seats.{called_at, called_out, reads_at}
 use Rattle.seize_words.specs.declared.fault.Fault.TheVariants.{Busy}
 use Rattle.papaya_schedules.specs.After.{moment}
 use Rattle.papaya_schedules.specs.declared.event.Event.TheVariants.{Replied}
@@ -15,17 +17,18 @@ pub returns-in_default-clause-plays : goal.returns-in_default-clause-plays
 returns-in_default-clause-plays g c =
     λ same hash terms log due.
     so_played same hash terms log c.args.self.now (Replied c.args.caller.now c.args.reply) c.busy.result (Refused Busy) 0 [] c.busy.ensures.outcome c.busy.ensures.steps c.busy.ensures.effects
-    (nobody same hash terms log c.args.self.now c.args.caller.now c.args.reply due (sym c.place_of.ensures ∙ c.in_default.is))
+    (nobody same hash terms log c.args.self.now c.args.caller.now c.args.reply due (called_out c.args.caller.now c.args.self.now.calls (sym c.get.ensures ∙ ap option_copied c.in_default.is)))
 
 pub returns-then-not-takes-clause-plays : goal.returns-then-not-takes-clause-plays
 returns-then-not-takes-clause-plays g c =
     λ same hash terms log due.
-    let placed = sym c.in-Some.is ∙ c.place_of.ensures in
-    let here = here_at same hash terms (moment log) c.args.self.now due.played c.args.caller.now c.in-Some.place placed in
+    let it = called_at c.args.caller.now c.args.self.now.calls c.in-Some.called.now (sym c.in-Some.ensures) in
+    let placed = sym it.1 in
+    let here = here_at same hash terms (moment log) c.args.self.now due.played c.args.caller.now (called_at c.args.caller.now c.args.self.now.calls c.in-Some.called.now (sym c.in-Some.ensures)).0 placed in
     so_played same hash terms log c.args.self.now (Replied c.args.caller.now c.args.reply) c.busy-then-not-takes.result (Refused Busy) 0 [] c.busy-then-not-takes.ensures.outcome
     c.busy-then-not-takes.ensures.steps c.busy-then-not-takes.ensures.effects
-    (takes_none same hash terms log c.args.self.now c.args.caller.now c.args.reply due c.in-Some.place placed c.index.result.now
-    (here.at ∙ ap Some (sym (read_here same hash terms (moment log) c.args.self.now due.played c.args.caller.now c.in-Some.place here c.index.result.now c.index.ensures)))
+    (takes_none same hash terms log c.args.self.now c.args.caller.now c.args.reply due (called_at c.args.caller.now c.args.self.now.calls c.in-Some.called.now (sym c.in-Some.ensures)).0 placed c.in-Some.called.now
+    (here.at ∙ ap Some (sym (read_here same hash terms (moment log) c.args.self.now due.played c.args.caller.now (called_at c.args.caller.now c.args.self.now.calls c.in-Some.called.now (sym c.in-Some.ensures)).0 here c.in-Some.called.now (reads_at c.args.self.now.calls (called_at c.args.caller.now c.args.self.now.calls c.in-Some.called.now (sym c.in-Some.ensures)).0 c.in-Some.called.now (called_at c.args.caller.now c.args.self.now.calls c.in-Some.called.now (sym c.in-Some.ensures)).2))))
     (sym c.takes.ensures ∙ c.if-not-takes.true))
 
 pub reply-requires : goal.reply-requires
@@ -35,15 +38,15 @@ reply-requires g c =
       r.1,
       r.2.2.played.scene,
       r.2.2.played.shown.is_at,
-      call_there r.0 r.1 r.2.0 r.2.1 c.args.self.now c.args.caller.now c.args.reply r.2.2 c.in-Some.place (sym c.in-Some.is ∙ c.place_of.ensures) c.index.result.now c.index.ensures
-          (sym c.takes.ensures ∙ c.if-not-takes.false) c.index-2.result.now c.index-2.ensures,
+      call_there r.0 r.1 r.2.0 r.2.1 c.args.self.now c.args.caller.now c.args.reply r.2.2 (called_at c.args.caller.now c.args.self.now.calls c.in-Some.called.now (sym c.in-Some.ensures)).0 (sym (called_at c.args.caller.now c.args.self.now.calls c.in-Some.called.now (sym c.in-Some.ensures)).1) c.in-Some.called.now (reads_at c.args.self.now.calls (called_at c.args.caller.now c.args.self.now.calls c.in-Some.called.now (sym c.in-Some.ensures)).0 c.in-Some.called.now (called_at c.args.caller.now c.args.self.now.calls c.in-Some.called.now (sym c.in-Some.ensures)).2)
+          (sym c.takes.ensures ∙ c.if-not-takes.false) c.in-Some.called.now (reads_at c.args.self.now.calls (called_at c.args.caller.now c.args.self.now.calls c.in-Some.called.now (sym c.in-Some.ensures)).0 c.in-Some.called.now (called_at c.args.caller.now c.args.self.now.calls c.in-Some.called.now (sym c.in-Some.ensures)).2),
     )
 
 pub returns-then-is_err-clause-plays : goal.returns-then-is_err-clause-plays
 returns-then-is_err-clause-plays g c =
     λ same hash terms log due. absurd (
-    let plain = is_taken same hash terms log c.args.self.now c.args.caller.now c.args.reply due c.in-Some.place (sym c.in-Some.is ∙ c.place_of.ensures) c.index.result.now c.index.ensures
-    (sym c.takes.ensures ∙ c.if-not-takes.false) c.index-2.result.now c.index-2.ensures c.told_by-told.result.0 (ap (λ t. t.0) c.told_by-told.ensures) c.reply.result c.reply.new.self
+    let plain = is_taken same hash terms log c.args.self.now c.args.caller.now c.args.reply due (called_at c.args.caller.now c.args.self.now.calls c.in-Some.called.now (sym c.in-Some.ensures)).0 (sym (called_at c.args.caller.now c.args.self.now.calls c.in-Some.called.now (sym c.in-Some.ensures)).1) c.in-Some.called.now (reads_at c.args.self.now.calls (called_at c.args.caller.now c.args.self.now.calls c.in-Some.called.now (sym c.in-Some.ensures)).0 c.in-Some.called.now (called_at c.args.caller.now c.args.self.now.calls c.in-Some.called.now (sym c.in-Some.ensures)).2)
+    (sym c.takes.ensures ∙ c.if-not-takes.false) c.in-Some.called.now (reads_at c.args.self.now.calls (called_at c.args.caller.now c.args.self.now.calls c.in-Some.called.now (sym c.in-Some.ensures)).0 c.in-Some.called.now (called_at c.args.caller.now c.args.self.now.calls c.in-Some.called.now (sym c.in-Some.ensures)).2) c.told_by-told.result.0 (ap (λ t. t.0) c.told_by-told.ensures) c.reply.result c.reply.new.self
     (c.reply.ensures.taken same hash due.played.scene due.played.shown.is_at) (c.reply.ensures.leads same hash due.played.name (moment log) due.played.scene due.played.shown) in
     let yes = sym c.is_err.ensures.value ∙ c.if-is_err.true in
     cc (plain, yes)
@@ -53,10 +56,10 @@ pub returns-clause-plays : goal.returns-clause-plays
 returns-clause-plays g c =
     λ same hash terms log due.
     so_played same hash terms log _ (Replied c.args.caller.now c.args.reply) c.quietly.result Goes 0 [] c.quietly.ensures.outcome c.quietly.ensures.steps c.quietly.ensures.effects
-    (goes_on same hash terms log c.args.self.now c.args.caller.now c.args.reply due c.in-Some.place (sym c.in-Some.is ∙ c.place_of.ensures) c.index.result.now c.index.ensures
-    (sym c.takes.ensures ∙ c.if-not-takes.false) c.index-2.result.now c.index-2.ensures c.told_by-told.result.0 (ap (λ t. t.0) c.told_by-told.ensures) c.reply.result c.reply.new.self
+    (goes_on same hash terms log c.args.self.now c.args.caller.now c.args.reply due (called_at c.args.caller.now c.args.self.now.calls c.in-Some.called.now (sym c.in-Some.ensures)).0 (sym (called_at c.args.caller.now c.args.self.now.calls c.in-Some.called.now (sym c.in-Some.ensures)).1) c.in-Some.called.now (reads_at c.args.self.now.calls (called_at c.args.caller.now c.args.self.now.calls c.in-Some.called.now (sym c.in-Some.ensures)).0 c.in-Some.called.now (called_at c.args.caller.now c.args.self.now.calls c.in-Some.called.now (sym c.in-Some.ensures)).2)
+    (sym c.takes.ensures ∙ c.if-not-takes.false) c.in-Some.called.now (reads_at c.args.self.now.calls (called_at c.args.caller.now c.args.self.now.calls c.in-Some.called.now (sym c.in-Some.ensures)).0 c.in-Some.called.now (called_at c.args.caller.now c.args.self.now.calls c.in-Some.called.now (sym c.in-Some.ensures)).2) c.told_by-told.result.0 (ap (λ t. t.0) c.told_by-told.ensures) c.reply.result c.reply.new.self
     (c.reply.ensures.taken same hash due.played.scene due.played.shown.is_at) (c.reply.ensures.leads same hash due.played.name (moment log) due.played.scene due.played.shown)
-    c.told_by-told.result.1 c.resume.new.self (λ d at. c.resume.ensures d at))
+    c.told_by-told.result.1 c.resume.new.self (λ d at. c.resume.ensures (called_at c.args.caller.now c.args.self.now.calls c.in-Some.called.now (sym c.in-Some.ensures)).0 d (called_at c.args.caller.now c.args.self.now.calls c.in-Some.called.now (sym c.in-Some.ensures)).1 at))
 
 pub returns-in_default-clause-quiet : goal.returns-in_default-clause-quiet
 returns-in_default-clause-quiet g c = none_quiet c.busy.result.outcome c.busy.result.effects.items c.busy.ensures.effects
@@ -82,13 +85,13 @@ returns-then-is_err-clause-told g c = λ same hash is. absurd (let busy = sym is
 pub returns-clause-told : goal.returns-clause-told
 returns-clause-told g c = λ same hash is. (
   record {
-    place = c.in-Some.place;
-    placed = sym c.in-Some.is ∙ c.place_of.ensures;
-    asked = c.index.result.now;
-    reads = c.index.ensures;
+    place = (called_at c.args.caller.now c.args.self.now.calls c.in-Some.called.now (sym c.in-Some.ensures)).0;
+    placed = sym (called_at c.args.caller.now c.args.self.now.calls c.in-Some.called.now (sym c.in-Some.ensures)).1;
+    asked = c.in-Some.called.now;
+    reads = (reads_at c.args.self.now.calls (called_at c.args.caller.now c.args.self.now.calls c.in-Some.called.now (sym c.in-Some.ensures)).0 c.in-Some.called.now (called_at c.args.caller.now c.args.self.now.calls c.in-Some.called.now (sym c.in-Some.ensures)).2);
     taken = sym c.takes.ensures ∙ c.if-not-takes.false;
-    whose = c.index-2.result.now;
-    reads_whose = c.index-2.ensures;
+    whose = c.in-Some.called.now;
+    reads_whose = (reads_at c.args.self.now.calls (called_at c.args.caller.now c.args.self.now.calls c.in-Some.called.now (sym c.in-Some.ensures)).0 c.in-Some.called.now (called_at c.args.caller.now c.args.self.now.calls c.in-Some.called.now (sym c.in-Some.ensures)).2);
     as_it = c.told_by-told.result.0;
     is_told = ap (λ t. t.0) c.told_by-told.ensures;
     result = c.reply.result;
@@ -96,7 +99,7 @@ returns-clause-told g c = λ same hash is. (
     leads = λ s at. c.reply.ensures.taken same hash s at;
     value = c.told_by-told.result.1;
     value_is = ap (λ t. t.1) c.told_by-told.ensures;
-    calls = λ d at. c.resume.ensures d at;
+    calls = λ d at. c.resume.ensures (called_at c.args.caller.now c.args.self.now.calls c.in-Some.called.now (sym c.in-Some.ensures)).0 d (called_at c.args.caller.now c.args.self.now.calls c.in-Some.called.now (sym c.in-Some.ensures)).1 at;
     notes = c.reply.ensures.notes;
   },
   c.quietly.ensures.effects,
@@ -111,8 +114,8 @@ returns-then-not-takes-clause-stays g c = λ same hash terms log due busy. (refl
 pub returns-then-is_err-clause-stays : goal.returns-then-is_err-clause-stays
 returns-then-is_err-clause-stays g c =
     λ same hash terms log due busy. absurd (
-    let plain = is_taken same hash terms log c.args.self.now c.args.caller.now c.args.reply due c.in-Some.place (sym c.in-Some.is ∙ c.place_of.ensures) c.index.result.now c.index.ensures
-    (sym c.takes.ensures ∙ c.if-not-takes.false) c.index-2.result.now c.index-2.ensures c.told_by-told.result.0 (ap (λ t. t.0) c.told_by-told.ensures) c.reply.result c.reply.new.self
+    let plain = is_taken same hash terms log c.args.self.now c.args.caller.now c.args.reply due (called_at c.args.caller.now c.args.self.now.calls c.in-Some.called.now (sym c.in-Some.ensures)).0 (sym (called_at c.args.caller.now c.args.self.now.calls c.in-Some.called.now (sym c.in-Some.ensures)).1) c.in-Some.called.now (reads_at c.args.self.now.calls (called_at c.args.caller.now c.args.self.now.calls c.in-Some.called.now (sym c.in-Some.ensures)).0 c.in-Some.called.now (called_at c.args.caller.now c.args.self.now.calls c.in-Some.called.now (sym c.in-Some.ensures)).2)
+    (sym c.takes.ensures ∙ c.if-not-takes.false) c.in-Some.called.now (reads_at c.args.self.now.calls (called_at c.args.caller.now c.args.self.now.calls c.in-Some.called.now (sym c.in-Some.ensures)).0 c.in-Some.called.now (called_at c.args.caller.now c.args.self.now.calls c.in-Some.called.now (sym c.in-Some.ensures)).2) c.told_by-told.result.0 (ap (λ t. t.0) c.told_by-told.ensures) c.reply.result c.reply.new.self
     (c.reply.ensures.taken same hash due.played.scene due.played.shown.is_at) (c.reply.ensures.leads same hash due.played.name (moment log) due.played.scene due.played.shown) in
     let yes = sym c.is_err.ensures.value ∙ c.if-is_err.true in
     cc (plain, yes)

@@ -1,5 +1,9 @@
 -- A walk is given up.
+use Rattle.std.specs.Prelude.{is_some}
 use Rattle.std.proofs.Common.{[], ℕ, refl, sym, ap, subst, ◌∙◌}
+use Rattle.papaya_named.proofs.Roll.Seats.{reads_at, ready_placed}
+use Rattle.papaya_present.proofs.Crowds.Homes.{none_told}
+use Rattle.papaya_executor.specs.Replying.{StopLeads}
 use Rattle.seize_words.specs.declared.fault.Fault.TheVariants.{Busy}
 use Rattle.papaya_schedules.specs.declared.event.Event.TheVariants.{Stop}
 use Rattle.papaya_schedules.specs.declared.outcome.Outcome.TheVariants.{Done, Refused}
@@ -16,31 +20,31 @@ pub returns-in_default-clause-plays : goal.returns-in_default-clause-plays
 returns-in_default-clause-plays g c =
     λ same hash terms log due.
     so_played same hash terms log c.args.self.now (Stop c.args.caller.now) c.busy.result (Refused Busy) 0 [] c.busy.ensures.outcome c.busy.ensures.steps c.busy.ensures.effects
-    (not_ready same hash terms log c.args.self.now c.args.caller.now due (sym c.in_default.is ∙ c.place_of_ready.ensures))
+    (not_ready same hash terms log c.args.self.now c.args.caller.now due (sym (none_told _ c.ready_number.result (ap is_some c.in_default.is) c.ready_number.ensures)))
 
 pub stop-requires : goal.stop-requires
 stop-requires g c =
     let r = c.requires in
-    let ready = sym c.in-Some.is ∙ c.place_of_ready.ensures in
+    let ready = sym c.in-Some.ensures.2 in
     let own = c.args.caller.now in
-    let numbered = ap (λ x. x.number) (read_here r.0 r.1 r.2.0 (moment r.2.1) c.args.self.now r.2.2.played own c.in-Some.place
-    (here_at r.0 r.1 r.2.0 (moment r.2.1) c.args.self.now r.2.2.played own c.in-Some.place (ready_parts r.0 r.1 r.2.0 r.2.1 c.args.self.now own r.2.2.played c.in-Some.place ready).0)
-    c.index.result.now c.index.ensures) in
-    (r.0, r.1, r.2.2.played.scene, r.2.2.played.shown.is_at, subst (λ (n : ℕ). HasCall r.2.2.played.scene n) (sym numbered) (has_call r.0 r.1 r.2.0 r.2.1 c.args.self.now own r.2.2 c.in-Some.place ready))
+    let numbered = c.in-Some.ensures.4 ∙ ap (λ x. x.number) (read_here r.0 r.1 r.2.0 (moment r.2.1) c.args.self.now r.2.2.played own c.in-Some.ensures.0
+    (here_at r.0 r.1 r.2.0 (moment r.2.1) c.args.self.now r.2.2.played own c.in-Some.ensures.0 (ready_parts r.0 r.1 r.2.0 r.2.1 c.args.self.now own r.2.2.played c.in-Some.ensures.0 ready).0)
+    c.in-Some.ensures.1 (reads_at c.args.self.now.calls c.in-Some.ensures.0 c.in-Some.ensures.1 c.in-Some.ensures.3)) in
+    (r.0, r.1, r.2.2.played.scene, r.2.2.played.shown.is_at, subst (λ (n : ℕ). HasCall r.2.2.played.scene n) (sym numbered) (has_call r.0 r.1 r.2.0 r.2.1 c.args.self.now own r.2.2 c.in-Some.ensures.0 ready))
 
 pub returns-clause-plays : goal.returns-clause-plays
 returns-clause-plays g c =
     λ same hash terms log due.
-    let ready = sym c.in-Some.is ∙ c.place_of_ready.ensures in
+    let ready = sym c.in-Some.ensures.2 in
     let own = c.args.caller.now in
-    let numbered = ap (λ x. x.number) (read_here same hash terms (moment log) c.args.self.now due.played own c.in-Some.place
-    (here_at same hash terms (moment log) c.args.self.now due.played own c.in-Some.place (ready_parts same hash terms log c.args.self.now own due.played c.in-Some.place ready).0)
-    c.index.result.now c.index.ensures) in
+    let numbered = c.in-Some.ensures.4 ∙ ap (λ x. x.number) (read_here same hash terms (moment log) c.args.self.now due.played own c.in-Some.ensures.0
+    (here_at same hash terms (moment log) c.args.self.now due.played own c.in-Some.ensures.0 (ready_parts same hash terms log c.args.self.now own due.played c.in-Some.ensures.0 ready).0)
+    c.in-Some.ensures.1 (reads_at c.args.self.now.calls c.in-Some.ensures.0 c.in-Some.ensures.1 c.in-Some.ensures.3)) in
     so_played same hash terms log _ (Stop own) c.quietly.result Done 0 [] c.quietly.ensures.outcome c.quietly.ensures.steps c.quietly.ensures.effects
-    (done same hash terms log c.args.self.now own due c.in-Some.place ready c.stop.result c.stop.new.self
+    (done same hash terms log c.args.self.now own due c.in-Some.ensures.0 ready c.stop.result c.stop.new.self
     (subst (λ (n : ℕ). WalkStops same hash due.played.name (moment log) due.played.scene n c.stop.result c.args.self.now.logged c.stop.new.self) numbered
     (c.stop.ensures.leads same hash due.played.name (moment log) due.played.scene due.played.shown))
-    (record { items = c.remove.new.self }) c.remove.ensures.items)
+    c.remove.new.self (c.remove.ensures.left c.in-Some.ensures.0 (ready_placed own c.args.self.now.calls c.in-Some.ensures.0 c.in-Some.ensures.2)))
 
 pub returns-in_default-clause-quiet : goal.returns-in_default-clause-quiet
 returns-in_default-clause-quiet g c = none_quiet c.busy.result.outcome c.busy.result.effects.items c.busy.ensures.effects
@@ -54,13 +58,13 @@ returns-in_default-clause-stopped g c = λ same hash is. absurd (let busy = sym 
 pub returns-clause-stopped : goal.returns-clause-stopped
 returns-clause-stopped g c = λ same hash is. (
   record {
-    place = c.in-Some.place;
-    ready = sym c.in-Some.is ∙ c.place_of_ready.ensures;
-    whose = c.index.result.now;
-    reads = c.index.ensures;
+    place = c.in-Some.ensures.0;
+    ready = sym c.in-Some.ensures.2;
+    whose = c.in-Some.ensures.1;
+    reads = (reads_at c.args.self.now.calls c.in-Some.ensures.0 c.in-Some.ensures.1 c.in-Some.ensures.3);
     stopped = c.stop.result;
-    leads = λ s at. c.stop.ensures.stopped same hash s at;
-    calls = c.remove.ensures.items;
+    leads = λ s at. subst (λ (n : ℕ). StopLeads same hash n c.stop.result s c.args.self.now.logged.executor c.stop.new.self.executor) c.in-Some.ensures.4 (c.stop.ensures.stopped same hash s at);
+    calls = c.remove.ensures.left c.in-Some.ensures.0 (ready_placed c.args.caller.now c.args.self.now.calls c.in-Some.ensures.0 c.in-Some.ensures.2);
     notes = c.stop.ensures.notes;
   },
   c.quietly.ensures.effects,

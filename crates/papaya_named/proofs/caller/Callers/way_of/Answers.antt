@@ -1,7 +1,0 @@
--- Who is read at a place.
-use Rattle.std.proofs.Common.{ap, ◌∙◌}
-use Rattle.std.proofs.lemmas.Option.{get_or_from_slice_get}
-use Rattle.papaya_named.proofs.caller.Callers.way_of.Goals as goal
-
-pub returns : goal.returns
-returns g c = λ caller at. ap (λ x. (x.number, x.map)) (c.index-caller.ensures ∙ get_or_from_slice_get c.args.self.now.items.items c.args.place caller c.index-caller.result.now at)

@@ -1,0 +1,25 @@
+use Rattle.std.specs.Prelude.{option_copied, slice_get}
+use Rattle.std.proofs.Common.{ap, sym, arith, ◌∙◌}
+use Rattle.papaya_present.proofs.Crowds.Homes.{stands_read, stands_within}
+use Rattle.papaya_named.specs.Roll.{called}
+use Rattle.papaya_named.proofs.Roll.Found.{called_here, called_none, stands_here}
+use Rattle.papaya_named.proofs.callers.Callers.get.Goals as goal
+
+pub returns-in_err-place : goal.returns-in_err-place
+returns-in_err-place g c =
+    ap (λ r. option_copied r) c.from_residual.ensures
+    ∙ sym (called_none c.args.name.now c.deref.result.now c.self.inside.comers.items c.self.inside.places c.deref.ensures.value c.self.invariant.leads c.in_err-place.ensures)
+    ∙ ap (λ l. called c.args.name.now l) c.self.view_is
+
+pub index-requires : goal.index-requires
+index-requires g c =
+    let h = c.in_ok-place.ensures in
+    omega (arith, stands_within c.deref.result.now c.in_ok-place.place h.0 h.1, c.deref.ensures.len)
+
+pub returns : goal.returns
+returns g c =
+    let comers = c.self.inside.comers.items in
+    let here = stands_here c.args.name.now c.deref.result.now comers c.self.inside.places c.deref.ensures.value c.self.invariant.leads c.in_ok-place.place c.in_ok-place.ensures in
+    c.as_ref.ensures.value ∙ stands_read comers c.in_ok-place.place c.in_ok-place.ensures.0 c.index.result.now here c.index.ensures
+    ∙ sym (called_here c.args.name.now c.deref.result.now comers c.self.inside.places c.deref.ensures.value c.self.invariant.leads c.in_ok-place.place c.in_ok-place.ensures)
+    ∙ ap (λ l. called c.args.name.now l) c.self.view_is
