@@ -14,11 +14,14 @@ loop-item-init g c =
 
 pub loop-item-preserved : goal.loop-item-preserved
 loop-item-preserved g c =
-    let more = c.in_ok-put_clone.ensures.put in let inv = c.loop-item.invariant.0 in (record {
-      clones = inv.clones ++ (more.0 ∷ []);
-      each = all_zip_more g.K.Clone.is_clone c.args.items.now inv.clones c.loop-item.item-index _ more.0 (search rules) c.item-item.is inv.each more.1;
-      made = made_more g.K.PartialEq.eq inv.clones more.0 c.loop-item.set c.put_clone.new.set inv.made more.2;
-    }, subst g.S.Default.is_default (sym c.in_ok-put_clone.ensures.hasher) c.loop-item.invariant.1)
+    let more = c.in_ok-put_clone.ensures.put in let inv = c.loop-item.invariant.0 in (
+      record {
+        clones = inv.clones ++ (more.0 ∷ []);
+        each = all_zip_more g.K.Clone.is_clone c.args.items.now inv.clones c.loop-item.item-index _ more.0 (search rules) c.item-item.is inv.each more.1;
+        made = made_more g.K.PartialEq.eq inv.clones more.0 c.loop-item.set c.put_clone.new.set inv.made more.2;
+      },
+      subst g.S.Default.is_default (sym c.in_ok-put_clone.ensures.hasher) c.loop-item.invariant.1,
+    )
 
 pub returns-clause-clones : goal.returns-clause-clones
 returns-clause-clones g c =
