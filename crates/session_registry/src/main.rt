@@ -8,7 +8,7 @@ ghost use Rattle.papaya_seq.specs.Pairs.{found_by};
 ghost use Rattle.session_registry.specs.Sessions.{AllLast};
 
 use papaya_seq::{Fault, HashMap, Text};
-use std::alloc::{AllocError, Global};
+use std::alloc::Global;
 use std::io;
 
 /// Whose a session is, and until when it lasts.
@@ -22,15 +22,8 @@ struct Session {
 type Sessions = HashMap<Text, Session>;
 
 /// Opens a session, in the place of the one with this token, if there is one.
-fn open(
-    sessions: &mut Sessions,
-    alloc: Global,
-    token: &str,
-    owner: &str,
-    until: u64,
-) -> Result<(), Fault> {
-    let owner = Text::new(alloc, owner)?;
-    sessions.insert(Text::new(alloc, token)?, Session { owner, until })?;
+fn open(sessions: &mut Sessions, token: Text, session: Session) -> Result<(), Fault> {
+    sessions.insert(token, session)?;
     Ok(())
 }
 
@@ -68,7 +61,11 @@ fn obey<R: Print>(rt: &R, alloc: Global, sessions: &mut Sessions, line: &str) ->
     let mut words = line.split_whitespace();
     match (words.next(), words.next(), words.next(), words.next()) {
         (Some("open"), Some(token), Some(owner), Some(until)) => {
-            open(sessions, alloc, token, owner, moment(until)?)?;
+            let session = Session {
+                owner: Text::new(alloc, owner)?,
+                until: moment(until)?,
+            };
+            open(sessions, Text::new(alloc, token)?, session)?;
             println!(rt; "{owner} has {token}")
         }
         (Some("end"), Some(token), None, None) => {
@@ -76,7 +73,7 @@ fn obey<R: Print>(rt: &R, alloc: Global, sessions: &mut Sessions, line: &str) ->
         }
         (Some("expire"), Some(now), None, None) => {
             expire(sessions, moment(now)?)?;
-            println!(rt; "{} last", sessions.len())
+            println!(rt; "{} are left", sessions.len())
         }
         (Some("whose"), Some(token), None, None) => match sessions.get(&token) {
             Some(session) => println!(rt; "{token} is of {}", session.owner),
