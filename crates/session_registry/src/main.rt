@@ -61,16 +61,15 @@ fn obey<R: Print>(rt: &R, alloc: Global, sessions: &mut Sessions, line: &str) ->
     let mut words = line.split_whitespace();
     match (words.next(), words.next(), words.next(), words.next()) {
         (Some("open"), Some(token), Some(owner), Some(until)) => {
+            let (whose, until) = (Text::new(alloc, owner)?, moment(until)?);
             let session = Session {
-                owner: Text::new(alloc, owner)?,
-                until: moment(until)?,
+                owner: whose,
+                until,
             };
             open(sessions, Text::new(alloc, token)?, session)?;
             println!(rt; "{owner} has {token}")
         }
-        (Some("end"), Some(token), None, None) => {
-            println!(rt; "{token} ended: {}", end(sessions, token)?)
-        }
+        (Some("end"), Some(token), None, None) => println!(rt; "ended: {}", end(sessions, token)?),
         (Some("expire"), Some(now), None, None) => {
             expire(sessions, moment(now)?)?;
             println!(rt; "{} are left", sessions.len())
