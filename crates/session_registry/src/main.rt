@@ -22,8 +22,8 @@ struct Session {
 type Sessions = HashMap<Text, Session>;
 
 /// Opens a session, in the place of the one with this token, if there is one.
-fn open(sessions: &mut Sessions, token: Text, session: Session) -> Result<(), Fault> {
-    sessions.insert(token, session)?;
+fn open(sessions: &mut Sessions, token: Text, owner: Text, until: u64) -> Result<(), Fault> {
+    sessions.insert(token, Session { owner, until })?;
     Ok(())
 }
 
@@ -61,12 +61,12 @@ fn obey<R: Print>(rt: &R, alloc: Global, sessions: &mut Sessions, line: &str) ->
     let mut words = line.split_whitespace();
     match (words.next(), words.next(), words.next(), words.next()) {
         (Some("open"), Some(token), Some(owner), Some(until)) => {
-            let (whose, until) = (Text::new(alloc, owner)?, moment(until)?);
-            let session = Session {
-                owner: whose,
-                until,
-            };
-            open(sessions, Text::new(alloc, token)?, session)?;
+            open(
+                sessions,
+                Text::new(alloc, token)?,
+                Text::new(alloc, owner)?,
+                moment(until)?,
+            )?;
             println!(rt; "{owner} has {token}")
         }
         (Some("end"), Some(token), None, None) => println!(rt; "ended: {}", end(sessions, token)?),
