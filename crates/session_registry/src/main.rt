@@ -61,12 +61,8 @@ fn obey<R: Print>(rt: &R, alloc: Global, sessions: &mut Sessions, line: &str) ->
     let mut words = line.split_whitespace();
     match (words.next(), words.next(), words.next(), words.next()) {
         (Some("open"), Some(token), Some(owner), Some(until)) => {
-            open(
-                sessions,
-                Text::new(alloc, token)?,
-                Text::new(alloc, owner)?,
-                moment(until)?,
-            )?;
+            let (key, whose) = (Text::new(alloc, token)?, Text::new(alloc, owner)?);
+            open(sessions, key, whose, moment(until)?)?;
             println!(rt; "{owner} has {token}")
         }
         (Some("end"), Some(token), None, None) => println!(rt; "ended: {}", end(sessions, token)?),
