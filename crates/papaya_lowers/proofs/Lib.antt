@@ -9,6 +9,7 @@ mod RoomRows
 mod SweepRows
 mod Machines
 mod Stays
+mod Unwritten
 mod Waits
 mod Looks
 mod Plans

@@ -1,10 +1,11 @@
 -- Wrong plans beside the laws of steps. Each is stepped in a world of a few blocks, and the clause that refuses it is false of what it leaves.
-use Rattle.std.specs.Prelude.{◌≡◌, ℕ, suc, ◌<◌, List, [], ◌∷◌, length, Option, ◌⊎◌}
-use Rattle.std.proofs.Common.{inl, inr, refl, subst, arith}
-use Rattle.papaya_maps.specs.Given.SeizeWords.Mem.{Mem, Took, value_at}
-use Rattle.papaya_maps.specs.Given.SeizeWords.Op.{Load, Found}
+use Rattle.std.specs.Prelude.{◌≡◌, ℕ, suc, ◌<◌, List, [], ◌∷◌, length, Option, ◌⊎◌, Some}
+use Rattle.std.proofs.Common.{inl, inr, refl, ap, sym, subst, ◌∙◌, arith}
+use Rattle.papaya_maps.specs.Given.SeizeWords.Mem.{Mem, Took, value_at, word_at, with_word}
+use Rattle.papaya_maps.specs.Given.SeizeWords.Op.{Load, Store, Found, Stored}
+use Rattle.papaya_maps.specs.Given.SeizeWords.declared.at.At.TheVariants.{Root}
 use Rattle.papaya_maps.specs.Given.SeizeWords.Plan.{Plan, Do, Now, Steps}
-use Rattle.papaya_maps.proofs.Given.SeizeWords.OneOwner.Operations.{loaded}
+use Rattle.papaya_maps.proofs.Given.SeizeWords.OneOwner.Operations.{loaded, stored}
 use Rattle.papaya_maps.specs.Given.Seize.World.{World, Row, Rests, Vacant, NoBlock}
 use Rattle.papaya_maps.specs.Given.Seize.declared.progress.Progress.{Progress as Stepped}
 use Rattle.papaya_maps.specs.Given.Tables.Trials.{first_trial, place_tried}
@@ -117,6 +118,18 @@ waits_steps = (memory, (insertion, called.Waits), (Found 0, (refl, refl), refl))
 
 waits_is_refused : (i slot : ℕ) → AwaitsACopying {V = ℕ} {Q = ℕ} few (kinds.Key insertion) ⊎ AnotherHolds world i (row_within slot (kinds.Key insertion)) → ⊥
 waits_is_refused i slot = waits_for_nothing few world i slot insertion refl (λ copied. let e = copied.2 in cc e)
+
+-- One that writes a word each time that it waits, for whatever reason.
+abbrev waits_writing : Plan (Node ℕ ℕ) (KeyCall ℕ ℕ ℕ × Called (Node ℕ ℕ))
+waits_writing = Do (Store (Root 0) 0) (λ out. Now (insertion, called.Waits))
+
+writing_steps : (m : Mem (Node ℕ ℕ)) × (end : KeyCall ℕ ℕ ℕ × Called (Node ℕ ℕ)) × Steps Took value_at memory waits_writing m end
+writing_steps = (with_word memory (Root 0) 0, (insertion, called.Waits), (Stored, (tt, refl), refl))
+
+writing_is_refused : (m : Mem (Node ℕ ℕ)) (end : KeyCall ℕ ℕ ℕ × Called (Node ℕ ℕ)) → Steps Took value_at memory waits_writing m end → m ≡ memory → ⊥
+writing_is_refused m end st is =
+    let l = stored memory (λ out. Now (insertion, called.Waits)) (Root 0) 0 m end st in
+    let root : Some 0 ≡ Some 6144 = ap (λ (x : Mem (Node ℕ ℕ)). word_at x (Root 0)) (sym l.0 ∙ is) in cc root
 
 turns_steps : (m : Mem (Node ℕ ℕ)) × (end : KeyCall ℕ ℕ ℕ × Called (Node ℕ ℕ)) × Steps Took value_at memory (turns_on_a_word insertion) m end
 turns_steps = (memory, (insertion, called.Goes), (Found 0, (refl, refl), refl))

@@ -53,6 +53,7 @@ use Rattle.papaya_whole.proofs.Rows.Kinds.{disposal_decided, copier_decided, row
 use Rattle.papaya_lowers.specs.Numbers.{row_within}
 use Rattle.papaya_lowers.specs.Waits.{AwaitsACopying, StepsWait}
 use Rattle.papaya_lowers.proofs.Stays.{key_stays, room_stays, sweep_stays}
+use Rattle.papaya_lowers.proofs.Unwritten.{key_unwritten, room_unwritten, sweep_unwritten}
 
 -- What tells that its machine waits waits.
 
@@ -137,20 +138,21 @@ module _ {K Q : Type 0} (V : Type 0) (same : K → K → Bool) (asks : Q → K �
     lawful = (all.makings.standing.fit m s here).0
 
     abbrev Reason : UnderWay K V Q → Type 0
-    Reason u = (machine ≡ machine_of u) × (AwaitsACopying s (machine_of u) ⊎ AnotherHolds w i (row_within (slot i) (machine_of u)))
+    Reason u = (m2 ≡ w.memory) × (machine ≡ machine_of u) × (AwaitsACopying s (machine_of u) ⊎ AnotherHolds w i (row_within (slot i) (machine_of u)))
 
     abbrev Steps' : UnderWay K V Q → Type 0
     Steps' u = Steps Took value_at w.memory (machine_plan asks same s.hash (machine_of u)) m2 (machine, progress.Waits)
 
     at_key : (u : CallOnKey K V Q) → calls m i ≡ Some (OnKey u) → Steps' (OnKey u) → Reason (OnKey u)
     at_key u has st = elim (row_decided u.call.stands) as (λ _. Reason (OnKey u)) [
-      | inl row ↦ (
-        machine_is ∙ ap kinds.Key (key_stays w.memory m2 s.hash same asks u.call row e.0.0 waiting),
+      | inl row ↦ let k = key_stays w.memory m2 s.hash same asks u.call row e.0.0 waiting in (
+        k.1,
+        machine_is ∙ ap kinds.Key k.0,
         inr (laws.call_rows_wait_for_a_holder V same s.hash asks s.setting slot w s.chart s.blocks s.sights (calls m) stands i u has row m2 e.0.0 waiting),
       )
       | inr none ↦
           (let h = laws.calls_wait_for_a_copying V same s.hash asks s.setting slot lawful w s.chart s.blocks s.sights (calls m) stands i u has none m2 e.0.0 waiting in
-          (machine_is ∙ ap kinds.Key h.0, inl h.1))
+          (key_unwritten w.memory m2 s.hash same asks u.call none e.0.0 waiting, machine_is ∙ ap kinds.Key h.0, inl h.1))
     ]
       where
         e : (e : KeyCall K V Q × Called (Node K V)) × Steps Took value_at w.memory (call_plan asks same s.hash u.call) m2 e × ((machine, progress.Waits) ≡ machines.called e)
@@ -165,13 +167,14 @@ module _ {K Q : Type 0} (V : Type 0) (same : K → K → Bool) (asks : Q → K �
 
     at_room : (r : CallForRoom) → calls m i ≡ Some (ForRoom r) → Steps' (ForRoom r) → Reason (ForRoom r)
     at_room r has st = elim (room_decided r.reserve.stands) as (λ _. Reason (ForRoom r)) [
-      | inl row ↦ (
-        machine_is ∙ ap kinds.Reserve (room_stays w.memory m2 s.hash r.reserve row e.0.0 waiting),
+      | inl row ↦ let k = room_stays w.memory m2 s.hash r.reserve row e.0.0 waiting in (
+        k.1,
+        machine_is ∙ ap kinds.Reserve k.0,
         inr (laws.room_rows_wait_for_a_holder V same s.hash asks s.setting slot w s.chart s.blocks s.sights (calls m) stands i r has row m2 e.0.0 waiting),
       )
       | inr none ↦
           (let h = laws.rooms_wait_for_a_copying V same s.hash asks s.setting slot lawful w s.chart s.blocks s.sights (calls m) stands i r has none m2 e.0.0 waiting in
-          (machine_is ∙ ap kinds.Reserve h.0, inl h.1))
+          (room_unwritten w.memory m2 s.hash r.reserve none e.0.0 waiting, machine_is ∙ ap kinds.Reserve h.0, inl h.1))
     ]
       where
         e : (e : Reserve × Outcome (Node K V) Unit) × Steps Took value_at w.memory (reserve_plan s.hash r.reserve) m2 e × ((machine, progress.Waits) ≡ machines.reserved e)
@@ -186,8 +189,9 @@ module _ {K Q : Type 0} (V : Type 0) (same : K → K → Bool) (asks : Q → K �
 
     at_sweep : (o : CallOverAll) → calls m i ≡ Some (OverAll o) → Steps' (OverAll o) → Reason (OverAll o)
     at_sweep o has st = elim (sweep_decided o.sweep.stands) as (λ _. Reason (OverAll o)) [
-      | inl row ↦ (
-        machine_is ∙ ap kinds.Sweep (sweep_stays w.memory m2 s.hash o.sweep row e.0.0 waiting),
+      | inl row ↦ let k = sweep_stays w.memory m2 s.hash o.sweep row e.0.0 waiting in (
+        k.1,
+        machine_is ∙ ap kinds.Sweep k.0,
         inr (subst (AnotherHolds w i) (same_row (slot i) o.sweep.stands)
             (laws.sweep_rows_wait_for_a_holder V same s.hash slot s.setting.batch_size w stands.ground.came i o.sweep row (its_row (stands.stand i (OverAll o) has)) m2 e.0.0 waiting)),
       )
@@ -215,7 +219,7 @@ module _ {K Q : Type 0} (V : Type 0) (same : K → K → Bool) (asks : Q → K �
         by none (inl h) =
             let a = laws.sweeps_wait_for_a_copying V same s.hash lawful (in_slot s.setting (slot i)) w i s.chart (seen_by s.blocks (s.sights (slot i))) o.began o.sweep
             (map_of V same s.hash asks s.setting slot w s.chart s.blocks s.sights (calls m) stands i (OverAll o) has) h.1.facts none m2 e.0.0 waiting in
-            (machine_is ∙ ap kinds.Sweep a.0, inl a.1)
+            (sweep_unwritten w.memory m2 s.hash o.sweep none e.0.0 waiting, machine_is ∙ ap kinds.Sweep a.0, inl a.1)
         by none (inr h) = absurd (none h.1)
 
     -- a counting never waits

@@ -26,8 +26,8 @@ module _ {K V Q : Type 0} where
   AwaitsACopying s (kinds.Count sum) = ⊥
 
 module _ {K Q : Type 0} (V : Type 0) (same : K → K → Bool) (asks : Q → K → Bool) (batch_size roots : ℕ) (slot : ℕ → ℕ) where
-  -- The promise: a machine that waits stands where it stood. It waits for a copying, or, at a row of the collector, while another caller's row, and just that one, has
-  -- the batch of its slot in hand.
+  -- The promise: a machine that waits has changed no word, and stands where it stood. It waits for a copying, or, at a row of the collector, while another caller's row,
+  -- and just that one, has the batch of its slot in hand.
   abbrev pub StepsWait : Type 0
   StepsWait =
       (w : World (Node K V)) (maps : ℕ → Option (Standing K)) (calls : ℕ → ℕ → Option (UnderWay K V Q))
@@ -36,4 +36,4 @@ module _ {K Q : Type 0} (V : Type 0) (same : K → K → Bool) (asks : Q → K �
       → (m : ℕ) (s : Standing K) → maps m ≡ Some s → (i : ℕ) (u : UnderWay K V Q) → calls m i ≡ Some u
       → (m2 : Mem (Node K V)) (machine : Machine K V Q)
       → Steps Took value_at w.memory (machine_plan asks same s.hash (machine_of u)) m2 (machine, progress.Waits)
-      → (machine ≡ machine_of u) × (AwaitsACopying s (machine_of u) ⊎ AnotherHolds w i (row_within (slot i) (machine_of u)))
+      → (m2 ≡ w.memory) × (machine ≡ machine_of u) × (AwaitsACopying s (machine_of u) ⊎ AnotherHolds w i (row_within (slot i) (machine_of u)))

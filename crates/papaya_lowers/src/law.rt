@@ -13,7 +13,7 @@ pub fn steps_lower_the_numbers<K, V, Q>()
     ensures ends { DescentsEnd }
 {}
 
-/// A step of one answers that it waits only for a reason, and leaves it where it stood. On one key in incremental mode: while the pair that its try has come to is
+/// A step of one answers that it waits only for a reason, and then has changed no word, and leaves it where it stood. On one key in incremental mode: while the pair that its try has come to is
 /// being copied. Else, and in blocking mode: while the copying of a whole table is not over. And at a row of the collector: while just one other row has the batch of its
 /// slot in hand.
 pub fn steps_wait_for_a_reason<K, V, Q>()
