@@ -5,9 +5,21 @@ use Rattle.papaya_finishes.specs.Given.SeizeWords.declared.at.At.{At}
 use Rattle.papaya_finishes.specs.Given.SeizeWords.declared.block.Block.{Block}
 use Rattle.papaya_finishes.specs.Given.SeizeWords.Mem.{Mem, Can, Took, value_at, word_at}
 use Rattle.papaya_finishes.specs.Given.SeizeWords.Op.{Op, Load, Store, Swap, Add, Or, Exchange, Make, Take, Rewrite, Room}
-use Rattle.papaya_finishes.specs.Given.SeizeWords.Plan.{May}
+use Rattle.papaya_finishes.specs.Given.SeizeWords.Plan.{Plan, May}
+use Rattle.papaya_finishes.specs.Given.Seize.Defer.{defer_plan}
+use Rattle.papaya_finishes.specs.Given.Seize.Enter.{enter_plan, unregister_plan}
+use Rattle.papaya_finishes.specs.Given.Seize.Leave.{leave_plan}
+use Rattle.papaya_finishes.specs.Given.Seize.Register.{register_plan}
+use Rattle.papaya_finishes.specs.Given.Seize.Settle.{settle_plan}
+use Rattle.papaya_finishes.specs.Given.Seize.World.{Row, Rests, Registers, Enters, Settles, Leaves, Defers, Frees, MayStep}
+use Rattle.papaya_finishes.proofs.Given.SeizeRule.World.Kept.{rows_may}
+use Rattle.papaya_finishes.specs.Given.Tables.Nodes.{deferred_word}
+use Rattle.papaya_finishes.specs.Given.Tables.declared.node.Node.{Node}
+use Rattle.papaya_finishes.proofs.Among.Machines.{machines_stand_among}
+use Rattle.papaya_finishes.proofs.Among.Makings.{makings_stand_among}
+use Rattle.papaya_finishes.proofs.Among.Own.Steps.{endings_stand}
 use Rattle.papaya_looks.specs.Blocks.{IsOn, MayMake}
-use Rattle.papaya_looks.specs.There.{BlocksAreThere, WordsAreThere}
+use Rattle.papaya_looks.specs.There.{BlocksAreThere, WordsAreThere, LooksThere, RowLooksThere, StepsLookAtWhatIsThere}
 use Rattle.papaya_looks.proofs.Restricted.{kept_from, restricted, looks_kept}
 
 abbrev all_of : ℕ → Bool
@@ -43,3 +55,24 @@ module _ (T R : Type 0) where
 
   pub words_there : WordsAreThere T R
   words_there m op rest may at on = on_there m op at may.0 on
+
+looks_there : {T R : Type 0} (m : Mem T) (plan : Plan T R) → May Can Took value_at m plan → (b : ℕ) → LooksThere b m plan
+looks_there {T} {R} = blocks_there T R
+
+row_there : {K V : Type 0} (m : Mem (Node K V)) (b : ℕ) (row : Row) → MayStep deferred_word row m → RowLooksThere b m row
+row_there m b Rests may = tt
+row_there m b (Registers c) may = looks_there m (register_plan c) may b
+row_there m b (Enters c) may = looks_there m (enter_plan c) may b
+row_there m b (Settles c) may = looks_there m (settle_plan deferred_word c) may b
+row_there m b (Leaves c) may = looks_there m (leave_plan deferred_word c) may b
+row_there m b (Defers s c) may = looks_there m (defer_plan c) may b
+row_there m b (Frees c) may = looks_there m (unregister_plan c) may b
+
+module _ {K Q : Type 0} (V : Type 0) (same : K → K → Bool) (asks : Q → K → Bool) (batch_size roots : ℕ) (slot : ℕ → ℕ) where
+  pub steps_there : StepsLookAtWhatIsThere V same asks batch_size roots slot
+  steps_there w maps calls makers enders all i b = (
+    λ m s u here has. blocks_there _ _ w.memory _ (machines_stand_among V same asks batch_size roots slot w maps calls makers enders all m s here i u has).0 b,
+    λ making is. blocks_there _ _ w.memory _ (makings_stand_among V same asks batch_size roots slot w maps calls makers enders all i making is).0 b,
+    λ ending is. blocks_there _ _ w.memory _ (endings_stand V same asks batch_size roots slot w maps calls makers enders all i ending is).0 b,
+    row_there w.memory b (w.row i) (let came = all.makings.standing.came in rows_may deferred_word batch_size came.0 came.1 w came.2 i),
+  )

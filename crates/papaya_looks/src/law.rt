@@ -1,7 +1,7 @@
 //! What is promised of the blocks that a step looks at.
 ghost use Rattle.std.specs.Prelude.{ℕ, Bool};
 ghost use Rattle.papaya_looks.specs.Looks.{StepsLookAtWhatIsHeld};
-ghost use Rattle.papaya_looks.specs.There.{BlocksAreThere, WordsAreThere};
+ghost use Rattle.papaya_looks.specs.There.{BlocksAreThere, WordsAreThere, StepsLookAtWhatIsThere};
 
 /// Any callers have calls under way on any maps of one collector, in either mode, and make and end others. Whichever block the next step of one looks at, by its
 /// operation or for its value, is there; and unless the step is one of a row of the collector, its caller's open section holds it, or its caller has it, having made
@@ -10,8 +10,13 @@ pub fn steps_look_at_what_is_held<K, V, Q>()
     ensures held { (same : K → K → Bool) (asks : Q → K → Bool) (batch_size roots : ℕ) (slot : ℕ → ℕ) → StepsLookAtWhatIsHeld V same asks batch_size roots slot }
 {}
 
-/// A step that may be taken, be it of a call, of a row, or of the making or the end of a map, names words that are there, and looks at no block that is not there, unless
-/// it makes it. Whose step may be taken the laws of each say.
+/// Where anything is under way, each block that the next step looks at is there, or the step may make it, be it one of a call, of the making or the end of a map, or of a
+/// row of the collector, whoever takes it.
+pub fn all_steps_look_at_what_is_there<K, V, Q>()
+    ensures there { (same : K → K → Bool) (asks : Q → K → Bool) (batch_size roots : ℕ) (slot : ℕ → ℕ) → StepsLookAtWhatIsThere V same asks batch_size roots slot }
+{}
+
+/// It is so of any step that may be taken, in any memory; and the words that it names are there, those of slots and roots, too.
 pub fn steps_look_at_what_is_there<T, R>()
     ensures blocks { BlocksAreThere T R }
     ensures words { WordsAreThere T R }
