@@ -26,7 +26,7 @@ ROOT = os.path.dirname(os.path.dirname(os.path.abspath(__file__)))
 BUILT = os.path.join(ROOT, "crates", "map_bench", "out", "map_bench")
 SOURCE = os.path.join(ROOT, "bench", "maps.rs")
 
-KINDS = ["hit", "miss", "insert", "replace", "in_turn", "iterate"]
+KINDS = ["hit", "miss", "insert", "replace", "in_turn", "window", "iterate"]
 
 
 def compiled(folder):

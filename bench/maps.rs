@@ -84,6 +84,14 @@ fn take_turns(map: &mut Map, kind: &str, keys: u64, turns: u64) -> u64 {
             }
             total(map)
         }
+        "window" => {
+            for oldest in 0..turns {
+                let next = oldest.wrapping_add(keys);
+                map.insert(key(next), next);
+                map.remove(&key(oldest));
+            }
+            total(map)
+        }
         "in_turn" => {
             for _ in 0..turns {
                 let index = leaps.leap();

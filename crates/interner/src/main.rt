@@ -5,14 +5,13 @@ ghost use Rattle.std.specs.Prelude.{◌≡◌, ℕ, Ok, OnErr, IfOk, None, Some}
 ghost use Rattle.std.specs.List.Sorted.{IsPermutation};
 ghost use Rattle.interner.specs.Numbers.{number_of, HasNext};
 
-use papaya_seq::{Fault, HashMap, Text, TextRef};
+use papaya_seq::{Fault, HashMap, Text};
 use serde_json::Value;
 use std::alloc::Global;
-use std::hash::{BuildHasherDefault, FoldHasher};
 use std::io;
 
-/// The number of each word, and the hasher of std's maps.
-type Numbers = HashMap<Text, u64, BuildHasherDefault<FoldHasher>>;
+/// The number of each word.
+type Numbers = HashMap<Text, u64>;
 
 /// The number of this word: the one that it has, or else the next one, which it then has. After a fault each word has the number that it had.
 fn intern(numbers: &mut Numbers, alloc: Global, word: &str) -> Result<u64, Fault>
@@ -21,14 +20,12 @@ fn intern(numbers: &mut Numbers, alloc: Global, word: &str) -> Result<u64, Fault
     ensures refused { OnErr result (IsPermutation numbers.new.pairs numbers.old.pairs) }
 {
     // The map owns its words, and is asked with one that is lent.
-    if let Some(number) = numbers.get(&TextRef::new(word)).copied() {
+    if let Some(number) = numbers.get(&word).copied() {
         return Ok(number);
     }
     let next = numbers.len();
-    match numbers.insert(Text::new(alloc, word)?, next) {
-        Ok(_) => Ok(next),
-        Err(refused) => Err(refused.fault),
-    }
+    numbers.insert(Text::new(alloc, word)?, next)?;
+    Ok(next)
 }
 
 /// The numbers of the words of a line, with spaces between them.
@@ -38,7 +35,7 @@ fn in_numbers(numbers: &mut Numbers, alloc: Global, line: &str) -> io::Result<St
         if !text.is_empty() {
             text.push(' ')?;
         }
-        let number = intern(numbers, alloc, word).map_err(|fault| io::Error::other(fault.name()))?;
+        let number = intern(numbers, alloc, word)?;
         text.push_str(number.to_string(alloc)?.as_str())?;
     }
     Ok(text)
@@ -69,6 +66,6 @@ fn run<R: Input + Print>(rt: &R, alloc: Global, numbers: &mut Numbers) -> io::Re
 }
 
 fn main(rt: HostRuntime) -> io::Result<()> {
-    let mut numbers = Numbers::new(rt.alloc()).map_err(|fault| io::Error::other(fault.name()))?;
+    let mut numbers = Numbers::new(rt.alloc())?;
     run(&rt, rt.alloc(), &mut numbers)
 }

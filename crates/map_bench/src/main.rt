@@ -40,7 +40,7 @@ fn timed_on<C: Clock>(
 ) -> io::Result<(Duration, u64)> {
     match map {
         "owned" => {
-            let mut map = Owned::new(alloc).map_err(|fault| io::Error::other(fault.name()))?;
+            let mut map = Owned::new(alloc)?;
             timed(clock, &mut map, kind, keys, turns)
         }
         "std" => {

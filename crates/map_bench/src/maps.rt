@@ -1,10 +1,9 @@
 //! The maps that are timed, behind one trait.
 
 use std::collections;
-use std::hash::{BuildHasherDefault, FoldHasher};
 
 /// The map for one owner, with the hasher of std's maps.
-pub(crate) type Owned = papaya_seq::HashMap<u64, u64, BuildHasherDefault<FoldHasher>>;
+pub(crate) type Owned = papaya_seq::HashMap<u64, u64>;
 
 /// The standard library's map.
 pub(crate) type Std = collections::HashMap<u64, u64>;

@@ -72,6 +72,16 @@ fn remove_and_store<M: Numbers>(map: &mut M, keys: u64, turns: u64) -> u64 {
     map.total()
 }
 
+/// Moves a window of keys on, one a turn: the next key is stored, and the oldest removed.
+fn slide<M: Numbers>(map: &mut M, keys: u64, turns: u64) -> u64 {
+    for oldest in 0..turns {
+        let next = oldest.wrapping_add(keys);
+        map.store(key(next), next);
+        map.lose(key(oldest));
+    }
+    map.total()
+}
+
 /// The sum of all values, read again and again until so many were read.
 fn walk<M: Numbers>(map: &M, keys: u64, turns: u64) -> u64 {
     let mut sum: u64 = 0;
@@ -82,13 +92,14 @@ fn walk<M: Numbers>(map: &M, keys: u64, turns: u64) -> u64 {
 }
 
 /// Takes so many turns on a map that was filled, and answers the sum of what was found, or of what there is then: a key is looked for that is there, or that is
-/// not; its value is replaced; it is removed and stored again; or a pair of a walk over all is read.
+/// not; its value is replaced; it is removed and stored again; the next one is stored and the oldest removed; or a pair of a walk over all is read.
 pub(crate) fn take<M: Numbers>(map: &mut M, kind: &str, keys: u64, turns: u64) -> u64 {
     match kind {
         "hit" => look(map, 0, keys, turns),
         "miss" => look(map, keys, keys, turns),
         "replace" => replace(map, keys, turns),
         "in_turn" => remove_and_store(map, keys, turns),
+        "window" => slide(map, keys, turns),
         "iterate" => walk(map, keys, turns),
         _ => 0,
     }

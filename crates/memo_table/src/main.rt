@@ -6,14 +6,13 @@ ghost use Rattle.memo_table.specs.Fibonacci.{fibonacci, AreRight};
 
 use papaya_seq::{Fault, HashMap};
 use std::alloc::Global;
-use std::hash::{BuildHasherDefault, FoldHasher};
 use std::io;
 
 /// The last place that is computed: each place below one that is not known yet takes a call inside that of the next.
 const LAST: u64 = 1000;
 
-/// The numbers that are known, by their places, and the hasher of std's maps.
-type Memo = HashMap<u64, u64, BuildHasherDefault<FoldHasher>>;
+/// The numbers that are known, by their places.
+type Memo = HashMap<u64, u64>;
 
 /// The number at this place, if it is known.
 fn known(memo: &Memo, n: u64) -> Option<u64>
@@ -29,10 +28,8 @@ fn keep(memo: &mut Memo, n: u64, number: u64) -> Result<(), Fault>
     requires number { number ≡ fibonacci n % 2 ^ 64 }
     ensures { AreRight memo.new.pairs }
 {
-    match memo.insert(n, number) {
-        Ok(_) => Ok(()),
-        Err(refused) => Err(refused.fault),
-    }
+    memo.insert(n, number)?;
+    Ok(())
 }
 
 /// The number at this place, which is kept. The faults are those of the map; what was kept stays right after one, too.
@@ -67,7 +64,7 @@ fn print_numbers<R: Input + Print>(rt: &R, alloc: Global, memo: &mut Memo) -> io
 {
     for line in rt.lines(alloc) {
         let n = place(line?.as_str())?;
-        let number = fibonacci(memo, n).map_err(|fault| io::Error::other(fault.name()))?;
+        let number = fibonacci(memo, n)?;
         println!(rt; "{n}: {number}")?;
     }
     println!(rt; "{} known", memo.len())?;
@@ -75,6 +72,6 @@ fn print_numbers<R: Input + Print>(rt: &R, alloc: Global, memo: &mut Memo) -> io
 }
 
 fn main(rt: HostRuntime) -> io::Result<()> {
-    let mut memo = Memo::new(rt.alloc()).map_err(|fault| io::Error::other(fault.name()))?;
+    let mut memo = Memo::new(rt.alloc())?;
     print_numbers(&rt, rt.alloc(), &mut memo)
 }

@@ -22,4 +22,4 @@ pub use gathers::Gathers;
 pub use json_form::JsonForm;
 pub use listed::Listed;
 pub use objects::object_of;
-pub use text::{Text, TextRef};
+pub use text::Text;

@@ -1,5 +1,5 @@
 //! Keys that are texts.
-ghost use Rattle.std.specs.Prelude.{◌≡◌, IfOk, ⊤, true, refl};
+ghost use Rattle.std.specs.Prelude.{◌≡◌, IfOk, Some, ⊤, true, refl};
 ghost use Rattle.serde_json.specs.Data.{string};
 ghost use Rattle.papaya_forms.specs.Tells.{text_values_tell};
 ghost use Rattle.std.specs.Str.{bytes_eq};
@@ -33,20 +33,6 @@ impl Model for Text {
     ghost view = { λ text. string_bytes text.text };
 }
 
-/// A lent text, which a map with texts as keys can be asked with. Clauses see the list of its bytes.
-#[derive(Drop)]
-pub struct TextRef<'a> {
-    text: &'a str,
-}
-
-impl<'a> Model for TextRef<'a> {
-    ghost use Rattle.std.specs.Prelude.{ℕ, List};
-
-    ghost Value = { List ℕ };
-
-    ghost view = { λ text. text.text.now };
-}
-
 impl Text {
     /// A copy of this text.
     pub fn new(alloc: Global, text: &str) -> Result<Self, AllocError>
@@ -62,22 +48,6 @@ impl Text {
         ensures { result.now ≡ self.now }
     {
         self.text.as_str()
-    }
-}
-
-impl<'a> TextRef<'a> {
-    /// This text.
-    pub fn new(text: &'a str) -> Self
-        ensures { result ≡ text.now }
-    {
-        TextRef { text }
-    }
-
-    /// The text.
-    pub fn as_str(&self) -> &str
-        ensures { result.now ≡ self.now }
-    {
-        self.text
     }
 }
 
@@ -105,43 +75,20 @@ impl Hash for Text {
     }
 }
 
-impl<'a> PartialEq for TextRef<'a> {
-    ghost eq = { bytes_eq };
-
-    ghost laws = { partial_equiv_from_equiv nat_list_eq_equiv };
-
-    fn eq(&self, other: &Self) -> bool {
-        self.text == other.text
-    }
-}
-
-impl<'a> Eq for TextRef<'a> {
-    ghost laws = { nat_list_eq_equiv };
-}
-
-impl<'a> Hash for TextRef<'a> {
-    ghost hash_input = { fed.str };
-
-    ghost respects_eq = { Prim.search rules };
-
-    fn hash<H: Hasher>(&self, state: &mut H) {
-        self.text.hash(state);
-    }
-}
-
-impl<'a> Equivalent<Text> for TextRef<'a> {
+/// A map whose keys are texts is asked with a lent one.
+impl<'a> Equivalent<Text> for &'a str {
     ghost use Rattle.std.specs.Prelude.{refl};
 
-    ghost stands_for = { λ text. text };
+    ghost stands_for = { λ asked. asked.now };
 
-    ghost equivalent = { bytes_eq };
+    ghost equivalent = { λ asked key. bytes_eq asked.now key };
 
     ghost stands = { λ _ _. refl };
 
     ghost hashed = { λ _. refl };
 
     fn equivalent(&self, key: &Text) -> bool {
-        self.text == key.text.as_str()
+        *self == key.text.as_str()
     }
 }
 
@@ -162,6 +109,14 @@ impl Clone for Text {
         Ok(Text {
             text: self.text.clone()?,
         })
+    }
+}
+
+impl fmt::Display for Text {
+    ghost output = { λ text. Some text };
+
+    fn fmt<W: fmt::Write>(&self, f: &mut fmt::Formatter<W>) -> fmt::Result {
+        f.write_str(self.as_str())
     }
 }
 

@@ -3,7 +3,7 @@
 
 mod set;
 
-pub use papaya_forms::{JsonFault, JsonForm, Text, TextRef};
+pub use papaya_forms::{JsonFault, JsonForm, Text};
 pub use papaya_seq_map::{
     Change, Compute, Equivalent, Fault, HashMap, Keys, Operation, Pairs, Refused, RefusedKey,
     Values, law,

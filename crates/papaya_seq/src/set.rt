@@ -12,7 +12,7 @@ mod making;
 mod sweeps;
 
 use papaya_seq_map::HashMap;
-use std::hash::{BuildHasher, Hash};
+use std::hash::{BuildHasher, BuildHasherDefault, FoldHasher, Hash};
 use std::marker::Model;
 
 /// A hash set for one owner.
@@ -23,7 +23,7 @@ use std::marker::Model;
 /// A contract sees its elements, its hasher, these two elements, what the memory holds, the elements that were stored and not given back, and how many
 /// places its tables have. The elements are in the order in which a walk shows them; a change may put them in any other order.
 #[derive(Drop)]
-pub struct HashSet<K: Eq + Hash, S: BuildHasher> {
+pub struct HashSet<K: Eq + Hash, S: BuildHasher = BuildHasherDefault<FoldHasher>> {
     pub(crate) map: HashMap<K, (), S>,
 }
 

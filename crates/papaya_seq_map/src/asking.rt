@@ -43,11 +43,11 @@ impl<K: Eq + Hash + Drop, V: Drop, S: BuildHasher> HashMap<K, V, S> {
     /// Replaces the value of a key by one that is made of it, if the key is there, and else stores one that is begun. The closure that is called is the
     /// one of the two. It answers `Replaced` or `Stored`. The faults are `Fault::Capacity`, where no table can follow the map's last one, and `Fault::Memory`;
     /// then no pair has changed, and the key comes back.
-    pub fn update_or_insert_with<B: FnOnce() -> V, F: FnOnce(&V) -> V>(
+    pub fn update_or_insert_with<F: FnOnce(&V) -> V, B: FnOnce() -> V>(
         &mut self,
         key: K,
-        begin: B,
         make: F,
+        begin: B,
     ) -> Result<Change, RefusedKey<K>>
         requires begins { ForNone (found_by (K.eq key) self.old.pairs) (B.pre begin) }
         requires makes { ForSome (found_by (K.eq key) self.old.pairs) (λ x. FnOnceTakesAt F.FnOnce make x.1) }
@@ -103,8 +103,8 @@ impl<K: Eq + Hash + Drop, V: Drop, S: BuildHasher> HashMap<K, V, S> {
     pub fn update_or_insert<F: FnOnce(&V) -> V>(
         &mut self,
         key: K,
-        value: V,
         make: F,
+        value: V,
     ) -> Result<Change, Refused<K, V>>
         requires callable { ForSome (found_by (K.eq key) self.old.pairs) (λ x. FnOnceTakesAt F.FnOnce make x.1) }
         ensures done { IfOk result (λ done. HasDone (K.eq key) (Some key) (UpdatingOrStoring (FnOnceReturnsAt F.FnOnce make) (λ new. new ≡ value)) self.old.pairs (HasNow self.new) done) }

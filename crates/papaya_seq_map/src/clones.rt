@@ -51,6 +51,7 @@ impl<K: Eq + Hash + Clone, V: Clone, S: BuildHasher + Default + Drop> HashMap<K,
         ensures clones { IfOk result (λ map. IsMadeOfClones K.eq K.is_clone V.is_clone items.now map) }
         ensures same { ClonesAreSame K.is_clone → ClonesAreSame V.is_clone → IfOk result (λ map. IsPermutation map.pairs (put_all K.eq [] items.now)) }
         ensures fault { IfErr result IsRoom }
+        ensures hasher { IfOk result (λ map. S.is_default map.hasher) }
     {
         let mut map = HashMap::new(alloc)?;
         for item in items {

@@ -42,6 +42,7 @@ impl<K: Eq + Hash + Drop, V: Drop, S: BuildHasher + Default + Drop> HashMap<K, V
         requires { IsFiniteIterable I.into_iter_gives I.IntoIter.can_next I.IntoIter.remaining items }
         ensures collected { IfOk result (λ map. Collects K.eq I.into_iter_gives I.IntoIter.next_gives items map) }
         ensures fault { IfErr result IsRoom }
+        ensures hasher { IfOk result (λ map. S.is_default map.hasher) }
     {
         let rest = items.into_iter();
         let mut map = HashMap::new(alloc)?;

@@ -1,5 +1,5 @@
 //! JSON of a map for one owner: it is written as the object of its pairs, and read of one.
-ghost use Rattle.std.specs.Prelude.{◌⊎◌, IfOk, IfErr, OnOk};
+ghost use Rattle.std.specs.Prelude.{◌≡◌, ◌⊎◌, IfOk, IfErr, OnOk};
 ghost use Rattle.std.specs.List.{All};
 ghost use Rattle.std.specs.List.Sorted.{IsPermutation};
 ghost use Rattle.serde_json.specs.Data.{object};
@@ -40,6 +40,7 @@ fn store_member<K: JsonForm + Hash + Drop, V: JsonForm + Drop, S: BuildHasher>(
     ensures stored { OnOk result ((x : K × V) × IsPairOf K.JsonForm.in_range K.JsonForm.key_text V.JsonForm.in_range V.JsonForm.json_value name.now (view value.now) x
         × HasPut K.eq x map.old map.new) }
     ensures fault { IfErr result (λ why. IsNoPair K.JsonForm.in_range K.JsonForm.key_text V.JsonForm.in_range V.JsonForm.json_value why name.now (view value.now) ⊎ IsRefusal why) }
+    ensures hasher { map.new.hasher ≡ map.old.hasher }
 {
     let (key, value) = pair_of(alloc, name, value)?;
     match store(map, key, value) {
@@ -58,6 +59,7 @@ fn map_of<K: JsonForm + Hash + Drop, V: JsonForm + Drop, S: BuildHasher + Defaul
     ensures held { IfOk result (λ map. IsPermutation map.held map.pairs) }
     ensures last { IfOk result (λ map. LastIsOf K.JsonForm.in_range K.JsonForm.key_text V.JsonForm.in_range V.JsonForm.json_value (object (members_view members.now.entries)) map) }
     ensures fault { IfErr result (λ why. FirstFault K.JsonForm.in_range K.JsonForm.key_text V.JsonForm.in_range V.JsonForm.json_value why (members_view members.now.entries) ⊎ IsRefusal why) }
+    ensures hasher { IfOk result (λ map. S.is_default map.hasher) }
 {
     let mut map = match HashMap::new(alloc) {
         Ok(map) => map,
@@ -93,6 +95,7 @@ impl<K: JsonForm + Hash + Drop, V: JsonForm + Drop, S: BuildHasher + Default + D
         ensures held { IfOk result (λ map. IsPermutation map.held map.pairs) }
         ensures last { IfOk result (λ map. LastIsOf K.JsonForm.in_range K.JsonForm.key_text V.JsonForm.in_range V.JsonForm.json_value (view value.now) map) }
         ensures fault { IfErr result (λ why. IsUnread K.JsonForm.in_range K.JsonForm.key_text V.JsonForm.in_range V.JsonForm.json_value why (view value.now)) }
+        ensures hasher { IfOk result (λ map. S.is_default map.hasher) }
     {
         match value.as_object() {
             Some(members) => map_of(alloc, members),

@@ -1,5 +1,5 @@
 //! Lookups in a map for one owner. They read words and values, and take no memory.
-ghost use Rattle.std.specs.Prelude.{◌≡◌, List, is_some, option_map};
+ghost use Rattle.std.specs.Prelude.{◌≡◌, IsSome, List, Some, is_some, option_map};
 ghost use Rattle.std.specs.List.Sorted.{IsPermutation};
 ghost use Rattle.std.specs.Option.{option_copied};
 ghost use Rattle.papaya_resting.specs.Given.{found_by};
@@ -8,6 +8,7 @@ use crate::map::HashMap;
 use papaya_resting::pair_at;
 use papaya_tables::Equivalent;
 use std::hash::{BuildHasher, Hash};
+use std::ops::Index;
 
 impl<K: Eq + Hash, V, S: BuildHasher> HashMap<K, V, S> {
     /// The value of a key, if the key is in the map.
@@ -46,5 +47,17 @@ impl<K: Eq + Hash, V, S: BuildHasher> HashMap<K, V, S> {
             asked,
         )
         .is_some()
+    }
+}
+
+impl<K: Eq + Hash, V, S: BuildHasher, Q: Equivalent<K>> Index<&Q> for HashMap<K, V, S> {
+    type Output = V;
+
+    ghost can_index = { λ m q. IsSome (found_by (Q.Equivalent.equivalent q.now) m.pairs) };
+
+    ghost index_gives = { λ m q v. option_map (λ x. x.1) (found_by (Q.Equivalent.equivalent q.now) m.pairs) ≡ Some v };
+
+    fn index(&self, asked: &Q) -> &V {
+        self.get(asked).unwrap()
     }
 }

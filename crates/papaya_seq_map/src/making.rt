@@ -20,6 +20,7 @@ impl<K: Eq + Hash + Drop, V: Drop, S: BuildHasher + Default + Drop> HashMap<K, V
         ensures held { IfOk result (λ map. map.held ≡ []) }
         ensures tables { IfOk result (λ map. map.tables ≡ []) }
         ensures fault { IfErr result (λ fault. fault ≡ Memory) }
+        ensures hasher { IfOk result (λ map. S.is_default map.hasher) }
     {
         HashMap::with_hasher(alloc, S::default())
     }
@@ -33,6 +34,7 @@ impl<K: Eq + Hash + Drop, V: Drop, S: BuildHasher + Default + Drop> HashMap<K, V
         ensures tables { IfOk result (λ map. map.tables ≡ tables_for capacity) }
         ensures few { OnOk result (AreTooMany capacity → ⊥) }
         ensures fault { IfErr result (IsUnmade capacity) }
+        ensures hasher { IfOk result (λ map. S.is_default map.hasher) }
     {
         HashMap::with_capacity_and_hasher(alloc, capacity, S::default())
     }

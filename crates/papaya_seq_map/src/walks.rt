@@ -38,3 +38,15 @@ impl<K: Eq + Hash, V, S: BuildHasher> HashMap<K, V, S> {
         Values { pairs: self.iter() }
     }
 }
+
+impl<'a, K: Eq + Hash, V, S: BuildHasher> IntoIterator for &'a HashMap<K, V, S> {
+    type Item = (&'a K, &'a V);
+
+    type IntoIter = Pairs<'a, K, V>;
+
+    ghost into_iter_gives = { λ map walk. can_go_on walk × (pairs_to_come walk ≡ map.now.pairs) × IsDistinct K.eq (keys_of map.now.pairs) };
+
+    fn into_iter(self) -> Pairs<'a, K, V> {
+        self.iter()
+    }
+}

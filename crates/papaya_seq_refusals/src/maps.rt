@@ -123,8 +123,8 @@ fn stored(map: &mut Numbers, call: &str, key: u64) -> Result<(), Fault> {
         "try_insert" => fault_of(map.try_insert(key, 5)),
         "try_insert_with" => fault_of_key(map.try_insert_with(key, five)),
         "update" => fault_of_key(map.update(key, one_more)),
-        "update_or_insert" => fault_of(map.update_or_insert(key, 5, one_more)),
-        "update_or_insert_with" => fault_of_key(map.update_or_insert_with(key, five, one_more)),
+        "update_or_insert" => fault_of(map.update_or_insert(key, one_more, 5)),
+        "update_or_insert_with" => fault_of_key(map.update_or_insert_with(key, one_more, five)),
         "get_or_insert" => {
             map.get_or_insert(key, 5)?;
             Ok(())

@@ -1,7 +1,7 @@
 //! Maps and sets with texts are read of JSON, cloned, and written as it, and looked at by texts that are lent.
 
 use crate::maps::Hashing;
-use papaya_seq::{Fault, HashMap, HashSet, JsonFault, Text, TextRef};
+use papaya_seq::{Fault, HashMap, HashSet, JsonFault, Text};
 use serde_json::Value;
 use std::alloc::Global;
 
@@ -25,7 +25,7 @@ fn value_of(alloc: Global, text: &str) -> Result<Value, JsonFault> {
 /// Whether a map has just the pairs that are written.
 fn has_pairs(map: &Map) -> bool {
     for (key, value) in [("a", 1), ("b", 2), ("c", 3)] {
-        if map.get(&TextRef::new(key)).copied() != Some(value) {
+        if map.get(&key).copied() != Some(value) {
             return false;
         }
     }
@@ -35,7 +35,7 @@ fn has_pairs(map: &Map) -> bool {
 /// Whether a set has just the elements that are written.
 fn has_elements(set: &Set) -> bool {
     for element in ["a", "b", "c"] {
-        if !set.contains(&TextRef::new(element)) {
+        if !set.contains(&element) {
             return false;
         }
     }

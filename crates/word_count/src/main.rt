@@ -5,20 +5,19 @@ ghost use Rattle.std.specs.Prelude.{◌≡◌, ◌+◌, ℕ, List, IfOk, OnOk, O
 ghost use Rattle.std.specs.List.Sorted.{IsPermutation};
 ghost use Rattle.word_count.specs.Counts.{IsCounted, count_of};
 
-use papaya_seq::{Fault, HashMap, Text, TextRef};
+use papaya_seq::{Fault, HashMap, Text};
 use std::alloc::Global;
-use std::hash::{BuildHasherDefault, FoldHasher};
 use std::io;
 
-/// How often each word came, and the hasher of std's maps.
-type Counts = HashMap<Text, u64, BuildHasherDefault<FoldHasher>>;
+/// How often each word came.
+type Counts = HashMap<Text, u64>;
 
 /// How often this word came. The map owns its words, and is asked with one that is lent.
 fn count_of(counts: &Counts, word: &str) -> u64
     ensures count { result ≡ count_of word.now counts.now.pairs }
     ensures in_any_order { (pairs : List (List ℕ × ℕ)) → IsPermutation counts.now.pairs pairs → result ≡ count_of word.now pairs }
 {
-    counts.get(&TextRef::new(word)).copied().unwrap_or(0)
+    counts.get(&word).copied().unwrap_or(0)
 }
 
 /// Counts this word once more, and answers what is found of it then. A count past 64 bits is `Fault::Capacity`, too. After a fault each count is as before.
@@ -31,10 +30,8 @@ fn count(counts: &mut Counts, alloc: Global, word: &str) -> Result<u64, Fault>
     let Some(count) = count_of(counts, word).checked_add(1) else {
         return Err(Fault::Capacity);
     };
-    match counts.insert(Text::new(alloc, word)?, count) {
-        Ok(_) => Ok(count_of(counts, word)),
-        Err(refused) => Err(refused.fault),
-    }
+    counts.insert(Text::new(alloc, word)?, count)?;
+    Ok(count_of(counts, word))
 }
 
 /// Counts the words of the input, and answers each, in the order in which they came first.
@@ -45,7 +42,7 @@ fn read<R: Input>(rt: &R, alloc: Global, counts: &mut Counts) -> io::Result<Vec<
             match count(counts, alloc, word) {
                 Ok(1) => words.push(String::from_str(alloc, word)?)?,
                 Ok(_) => {}
-                Err(fault) => return Err(io::Error::other(fault.name())),
+                Err(fault) => return Err(fault.into()),
             }
         }
     }
@@ -68,6 +65,6 @@ fn run<R: Input + Print>(rt: &R, alloc: Global, counts: &mut Counts) -> io::Resu
 }
 
 fn main(rt: HostRuntime) -> io::Result<()> {
-    let mut counts = Counts::new(rt.alloc()).map_err(|fault| io::Error::other(fault.name()))?;
+    let mut counts = Counts::new(rt.alloc())?;
     run(&rt, rt.alloc(), &mut counts)
 }

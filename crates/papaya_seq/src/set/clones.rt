@@ -47,6 +47,7 @@ impl<K: Eq + Hash + Clone, S: BuildHasher + Default + Drop> HashSet<K, S> {
         ensures clones { IfOk result (λ set. IsSetMadeOfClones K.eq K.is_clone items.now set) }
         ensures same { ClonesAreSame K.is_clone → IfOk result (λ set. IsPermutation set.elements (put_all_in K.eq [] items.now)) }
         ensures fault { IfErr result IsRoom }
+        ensures hasher { IfOk result (λ set. S.is_default set.hasher) }
     {
         let mut set = HashSet::new(alloc)?;
         for item in items {

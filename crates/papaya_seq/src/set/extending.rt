@@ -39,6 +39,7 @@ impl<K: Eq + Hash + Drop, S: BuildHasher + Default + Drop> HashSet<K, S> {
         requires { IsFiniteIterable I.into_iter_gives I.IntoIter.can_next I.IntoIter.remaining items }
         ensures collected { IfOk result (λ set. CollectsSet K.eq I.into_iter_gives I.IntoIter.next_gives items set) }
         ensures fault { IfErr result IsRoom }
+        ensures hasher { IfOk result (λ set. S.is_default set.hasher) }
     {
         let rest = items.into_iter();
         let mut set = HashSet::new(alloc)?;

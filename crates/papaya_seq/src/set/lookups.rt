@@ -56,3 +56,15 @@ impl<K: Eq + Hash, S: BuildHasher> HashSet<K, S> {
         self.map.keys()
     }
 }
+
+impl<'a, K: Eq + Hash, S: BuildHasher> IntoIterator for &'a HashSet<K, S> {
+    type Item = &'a K;
+
+    type IntoIter = Keys<'a, K, ()>;
+
+    ghost into_iter_gives = { λ set walk. can_go_on walk.pairs × (keys_to_come walk ≡ set.now.elements) × IsDistinct K.eq set.now.elements };
+
+    fn into_iter(self) -> Keys<'a, K, ()> {
+        self.iter()
+    }
+}

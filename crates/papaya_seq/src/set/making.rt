@@ -18,6 +18,7 @@ impl<K: Eq + Hash + Drop, S: BuildHasher + Default + Drop> HashSet<K, S> {
         ensures held { IfOk result (λ set. set.held ≡ []) }
         ensures tables { IfOk result (λ set. set.tables ≡ []) }
         ensures fault { IfErr result (λ fault. fault ≡ Memory) }
+        ensures hasher { IfOk result (λ set. S.is_default set.hasher) }
     {
         HashSet::with_hasher(alloc, S::default())
     }
@@ -31,6 +32,7 @@ impl<K: Eq + Hash + Drop, S: BuildHasher + Default + Drop> HashSet<K, S> {
         ensures tables { IfOk result (λ set. set.tables ≡ tables_for capacity) }
         ensures few { OnOk result (AreTooMany capacity → ⊥) }
         ensures fault { IfErr result (IsUnmade capacity) }
+        ensures hasher { IfOk result (λ set. S.is_default set.hasher) }
     {
         HashSet::with_capacity_and_hasher(alloc, capacity, S::default())
     }

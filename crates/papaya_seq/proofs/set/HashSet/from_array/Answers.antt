@@ -1,5 +1,5 @@
 -- The clone of one more was stored, and at the end those of all.
-use Rattle.std.proofs.Common.{[], ◌∷◌, ◌++◌, rules, subst}
+use Rattle.std.proofs.Common.{[], ◌∷◌, ◌++◌, rules, subst, sym}
 use Rattle.std.specs.List.Sorted.{IsPermutation}
 use Rattle.std.proofs.lemmas.List.{take_all}
 use Rattle.std.proofs.lemmas.List.Elements.{all_zip_more, same_from_all_zip}
@@ -10,21 +10,27 @@ use Rattle.papaya_seq.proofs.set.HashSet.from_array.Goals as goal
 
 pub loop-item-init : goal.loop-item-init
 loop-item-init g c =
-    let fresh = c.in_ok-set.ensures in record { clones = []; each = tt; made = made_first g.K.PartialEq.eq c.in_ok-set.set fresh.elements fresh.held fresh.last }
+    let fresh = c.in_ok-set.ensures in (record { clones = []; each = tt; made = made_first g.K.PartialEq.eq c.in_ok-set.set fresh.elements fresh.held fresh.last }, fresh.hasher)
 
 pub loop-item-preserved : goal.loop-item-preserved
 loop-item-preserved g c =
-    let more = c.in_ok-put_clone.ensures.put in let inv = c.loop-item.invariant in record {
-      clones = inv.clones ++ (more.0 ∷ []);
-      each = all_zip_more g.K.Clone.is_clone c.args.items.now inv.clones c.loop-item.item-index _ more.0 (search rules) c.item-item.is inv.each more.1;
-      made = made_more g.K.PartialEq.eq inv.clones more.0 c.loop-item.set c.put_clone.new.set inv.made more.2;
-    }
+    let more = c.in_ok-put_clone.ensures.put in let inv = c.loop-item.invariant.0 in (
+      record {
+        clones = inv.clones ++ (more.0 ∷ []);
+        each = all_zip_more g.K.Clone.is_clone c.args.items.now inv.clones c.loop-item.item-index _ more.0 (search rules) c.item-item.is inv.each more.1;
+        made = made_more g.K.PartialEq.eq inv.clones more.0 c.loop-item.set c.put_clone.new.set inv.made more.2;
+      },
+      subst g.S.Default.is_default (sym c.in_ok-put_clone.ensures.hasher) c.loop-item.invariant.1,
+    )
 
 pub returns-clause-clones : goal.returns-clause-clones
 returns-clause-clones g c =
-    subst (λ l. IsSetMadeOfClones g.K.PartialEq.eq g.K.Clone.is_clone l c.loop-item.set) (take_all c.loop-item.item-index c.args.items.now (search rules)) c.loop-item.invariant
+    subst (λ l. IsSetMadeOfClones g.K.PartialEq.eq g.K.Clone.is_clone l c.loop-item.set) (take_all c.loop-item.item-index c.args.items.now (search rules)) c.loop-item.invariant.0
 
 pub returns-clause-same : goal.returns-clause-same
 returns-clause-same g c = λ same.
     let all = returns-clause-clones g c in
     subst (λ l. IsPermutation c.loop-item.set.elements (put_all_in g.K.PartialEq.eq [] l)) (same_from_all_zip g.K.Clone.is_clone c.args.items.now all.clones all.each same) all.made.elements
+
+pub returns-clause-hasher : goal.returns-clause-hasher
+returns-clause-hasher g c = c.loop-item.invariant.1
