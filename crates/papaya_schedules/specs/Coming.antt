@@ -18,7 +18,6 @@ use Rattle.papaya_schedules.specs.Counts.{Counts}
 use Rattle.papaya_schedules.specs.Moment.{Stands, Asking, IsReady, UnderWay, Moment}
 use Rattle.papaya_schedules.specs.Views.{chain_of}
 use Rattle.papaya_schedules.specs.Growing.{only_looks, is_too_many}
-use Rattle.papaya_schedules.specs.InUse.{may_wait}
 
 abbrev pub is_asking : Stands → Bool
 is_asking (Asking q) = true
@@ -97,11 +96,11 @@ module _ {K V : Type 0} (terms : Terms) where
   abbrev pub FindsNoTable : UnderWay K V → List (Moment K V) → Type 0
   FindsNoTable c moments = (only_looks c.call ≡ false) × (CountsTooMany c.call c moments ⊎ OneOf (λ m. is_at_limit c.map m ≡ true) moments)
 
-  -- what a call that goes on may come to, by how it has worked in this event
+  -- what a call that goes on may come to, by how it has worked in this event; for what it may wait stands in Waiting
   abbrev pub MayCome : UnderWay K V → List (Moment K V) → Moment K V → Outcome V → Type 0
   MayCome c moments now Goes = Unit {0}
   MayCome c moments now (Asks question) = may_ask c.call ≡ true
-  MayCome c moments now Waits = may_wait c now ≡ true
+  MayCome c moments now Waits = Unit {0}
   MayCome c moments now Ready = is_walk c.call ≡ true
   MayCome c moments now (Answered a) = is_answer c.call a ≡ true
   -- it asked for a growth, and nothing was made since

@@ -1,5 +1,5 @@
 -- Which events have which effects, and that a call leaves nothing behind: what it took out it hands over, and what it made it links or gives up.
-use Rattle.std.specs.Prelude.{◌≡◌, ℕ, ◌+◌, ◌==◌, Bool, true, false, not, ◌&&◌, ◌||◌, List, [], ◌∷◌, length, map, flat_map, Option, Some, None, if◌then◌else◌}
+use Rattle.std.specs.Prelude.{◌≡◌, ℕ, ◌+◌, ◌==◌, Bool, true, false, not, ◌&&◌, ◌||◌, List, [], ◌∷◌, length, filter, map, flat_map, Option, Some, None, if◌then◌else◌}
 use Rattle.std.specs.List.{list_any, list_all}
 use Rattle.seize_words.specs.declared.fault.Fault.TheVariants.{Busy, Memory}
 use Rattle.papaya_runs.specs.Present.{slot_of_guard, guards_on}
@@ -49,6 +49,10 @@ is_first_making (Asked ABlock) = true
 is_first_making (TableMade t) = true
 is_first_making (Linked t shape) = true
 is_first_making _ = false
+
+abbrev pub is_table_made : Effect → Bool
+is_table_made (TableMade t) = true
+is_table_made _ = false
 
 abbrev pub is_made : Effect → Bool
 is_made PairMade = true
@@ -125,12 +129,15 @@ module _ {K V : Type 0} where
   tables_named None m = 0
   tables_named (Some map) m = length (tables_of map m)
 
-  -- a map that is made has a table where it has a capacity; and what is refused, and is no call, has done nothing but to ask for growths
+  -- A map that is made has the one table that it made where it has a capacity, and else none, and made none. What is refused has done nothing, but that a making
+  -- which is refused memory has asked for growths.
   abbrev pub IsWhole : Event K V → Outcome V → List Effect → Moment K V → Moment K V → Type 0
   IsWhole (EndMap name) Done effects m w = EndsNamed (number_of name m) effects m w
-  IsWhole (MakeMap name mode capacity) Done effects m w = tables_named (number_of name w) w ≡ (if capacity == 0 then 0 else 1)
+  IsWhole (MakeMap name mode capacity) Done effects m w =
+      (tables_named (number_of name w) w ≡ length (filter is_table_made effects)) × (tables_named (number_of name w) w ≡ (if capacity == 0 then 0 else 1))
   IsWhole event (Refused Busy) effects m w = effects ≡ []
-  IsWhole (MakeMap name mode capacity) (Refused fault) effects m w = list_all is_growth effects ≡ true
+  IsWhole (MakeMap name mode capacity) (Refused Memory) effects m w = list_all is_growth effects ≡ true
+  IsWhole (MakeMap name mode capacity) (Refused fault) effects m w = effects ≡ []
   IsWhole event outcome effects m w = Unit {0}
 
 -- a call at its end

@@ -1,12 +1,10 @@
 -- Which slots are in use, and who may hold what at a moment.
-use Rattle.std.specs.Prelude.{ℕ, ◌==◌, nat_lt, Bool, not, ◌&&◌, ◌||◌, List, ◌++◌, length, map}
+use Rattle.std.specs.Prelude.{ℕ, ◌==◌, Bool, not, ◌&&◌, ◌||◌, List, ◌++◌, map}
 use Rattle.std.specs.List.{list_any}
 use Rattle.papaya_runs.specs.Present.{Present, slot_of_guard, all_forgotten}
 use Rattle.papaya_runs.specs.Same.{is_same}
 use Rattle.papaya_schedules.specs.Lists.{is_empty}
 use Rattle.papaya_schedules.specs.Moment.{UnderWay, Moment}
-use Rattle.papaya_schedules.specs.Views.{chain_of}
-use Rattle.papaya_schedules.specs.Growing.{only_looks}
 
 -- the slots that are in use: of registrations, and of guards, forgotten ones too
 abbrev pub used_slots : Present → List ℕ
@@ -37,13 +35,3 @@ module _ {K V : Type 0} where
 
   abbrev pub is_held : ℕ → Moment K V → Bool
   is_held slot m = list_any (λ c. is_handing c && (slot_of_guard c.guard m.there == slot)) m.calls
-
-  -- A call waits for another one that is under way: on a map that has a second table; or where that one hands something over, on its map or under its slot.
-  abbrev pub may_wait_for : UnderWay K V → Moment K V → UnderWay K V → Bool
-  may_wait_for c m d =
-      not (is_same d.caller c.caller) && not (only_looks d.call)
-      && (((d.map == c.map) && nat_lt 1 (length (chain_of c.map m)))
-      || (is_handing d && ((d.map == c.map) || (slot_of_guard d.guard m.there == slot_of_guard c.guard m.there))))
-
-  abbrev pub may_wait : UnderWay K V → Moment K V → Bool
-  may_wait c m = not (only_looks c.call) && list_any (may_wait_for c m) m.calls

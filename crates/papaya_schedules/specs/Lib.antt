@@ -12,6 +12,7 @@ pub mod Counts
 pub mod Tries
 pub mod Growing
 pub mod InUse
+pub mod Waiting
 pub mod Lives
 pub mod Coming
 pub mod InTurn

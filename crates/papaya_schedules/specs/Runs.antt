@@ -22,6 +22,7 @@ use Rattle.papaya_schedules.specs.Entry.{Entry, is_busy}
 use Rattle.papaya_schedules.specs.After.{moment, AtEachEvent}
 use Rattle.papaya_schedules.specs.InTurn.{ComesRight}
 use Rattle.papaya_schedules.specs.Steps.{TakesSteps}
+use Rattle.papaya_schedules.specs.Waiting.{WaitsLawfully}
 use Rattle.papaya_schedules.specs.Linearizable.{IsLinearizable}
 use Rattle.papaya_schedules.specs.Sweeps.{IsSwept}
 use Rattle.papaya_schedules.specs.Handing.{MovesOn}
@@ -34,6 +35,8 @@ pub record IsLegal {K V : Type 0} (eq : K → K → Bool) (terms : Terms) (log :
   pub right : ComesRight terms log e
   -- each step of a call does one thing at most
   pub steps : TakesSteps log e
+  -- a call waits only where what it is to go on with may be being copied, or another one has still to hand something over
+  pub waits : WaitsLawfully eq log e
   -- each call on one key answers what one finite map answers at a moment within the call, and changes it in one step
   pub linearizable : IsLinearizable eq log e
   -- each call on a whole map does what it is for

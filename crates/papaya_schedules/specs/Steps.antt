@@ -38,12 +38,20 @@ MakesOne steps Waits = steps ≤ 1
 MakesOne steps Ready = steps ≤ 1
 MakesOne steps outcome = steps ≡ 1
 
+-- at least one is made by a call that was going, unless it asks, waits or is ready
+abbrev pub MakesSome : {V : Type 0} → ℕ → Outcome V → Type 0
+MakesSome steps (Asks q) = Unit {0}
+MakesSome steps Waits = Unit {0}
+MakesSome steps Ready = Unit {0}
+MakesSome steps outcome = 1 ≤ steps
+
 -- how far a call is says which steps it makes: none without the reply that it wants, and one that has just got it may need none to go on
 abbrev pub Steps : {V : Type 0} → Bool → Stands → ℕ → Outcome V → Type 0
 Steps single (Asking q) steps outcome = steps ≡ 0
 Steps single IsReady steps outcome = steps ≡ 0
 Steps true Told steps outcome = steps ≤ 1
 Steps true Going steps outcome = MakesOne steps outcome
+Steps false Going steps outcome = MakesSome steps outcome × MakesAll steps outcome
 Steps false stands steps outcome = MakesAll steps outcome
 
 -- each of a call's effects is a step of its own
@@ -61,7 +69,7 @@ module _ {K V : Type 0} where
   MakesSteps (Step caller refuse) stands steps outcome = Steps true stands steps outcome
   MakesSteps (Go caller refuse) stands steps outcome = Steps false stands steps outcome
   MakesSteps (OneCall guard map call) stands steps outcome = (1 ≤ steps) × MakesAll steps outcome
-  MakesSteps (Next caller) stands steps outcome = Unit {0}
+  MakesSteps (Next caller) stands steps outcome = 1 ≤ steps
   MakesSteps _ stands steps outcome = steps ≡ 0
 
 -- a lookup reads the root, and of each table that it enters at most the words up to its last try, and what comes next; it enters none twice

@@ -17,6 +17,7 @@ use Rattle.papaya_schedules.specs.declared.outcome.Outcome.TheVariants.{Done, Go
 use Rattle.papaya_schedules.specs.Entry.{Entry}
 use Rattle.papaya_schedules.specs.InTurn.{ComesRight}
 use Rattle.papaya_schedules.specs.Steps.{TakesSteps}
+use Rattle.papaya_schedules.specs.Waiting.{WaitsLawfully}
 use Rattle.papaya_schedules.specs.Linearizable.{IsLinearizable}
 use Rattle.papaya_schedules.specs.Handing.{MovesOn}
 use Rattle.papaya_schedules.specs.Reclaims.{IsProtected}
@@ -77,17 +78,21 @@ begins_twice : ComesRight small asked begin → ⊥
 begins_twice h = goes_busy h
 
 -- c may wait while the resize is under way and another call, and not alone
-waits_alone : ComesRight small told (go Waits []) → ⊥
+waits_alone : WaitsLawfully nat_eq told (go Waits []) → ⊥
 waits_alone h = no_yes h
 
 abbrev beside : List (Entry ℕ ℕ)
 beside = entry (Begin (codes "d") (codes "g") (codes "m") (On (Remove 3))) Goes 0 [] ∷ told
 
-waits_beside : ComesRight small beside (go Waits [])
+waits_beside : WaitsLawfully nat_eq beside (go Waits [])
 waits_beside = refl
 
-waits_for_lookup : ComesRight small (entry (Begin (codes "d") (codes "g") (codes "m") (On (Get 3))) Goes 0 [] ∷ told) (go Waits []) → ⊥
+waits_for_lookup : WaitsLawfully nat_eq (entry (Begin (codes "d") (codes "g") (codes "m") (On (Get 3))) Goes 0 [] ∷ told) (go Waits []) → ⊥
 waits_for_lookup h = no_yes h
+
+-- and on one key only for the copying of its own pair: d, which is to remove what is not there, has none to wait for
+waits_for_another : WaitsLawfully nat_eq (go Goes [] ∷ beside) (entry (Step (codes "d") false) Waits 0 []) → ⊥
+waits_for_another h = no_yes h
 
 -- wrong: the old pair is retired while the table that it was copied out of is the root, or put behind the one in which it lies
 retires_at_once : MovesOn small told (updates (Retired (APair 1) ∷ [])) → ⊥
@@ -196,3 +201,10 @@ two_at_once h = one_at_most h.does
 
 none_at_once : TakesSteps beside (entry (Step (codes "d") false) Goes 0 []) → ⊥
 none_at_once h = zero_next 0 h.makes
+
+-- nor does a call that goes on by many steps end by none, or a walk go on by none
+none_made : 1 ≤ 0 → ⊥
+none_made few = omega (arith, few)
+
+none_in_all : TakesSteps looks (entry (Go (codes "c") false) (Answered (answer.Found 4)) 0 []) → ⊥
+none_in_all h = none_made h.makes.0

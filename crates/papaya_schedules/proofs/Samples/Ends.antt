@@ -7,7 +7,8 @@ use Rattle.papaya_raw.specs.Given.Tables.declared.resize_mode.ResizeMode.TheVari
 use Rattle.papaya_runs.specs.declared.outcome.TableShape.{TableShape}
 use Rattle.papaya_schedules.specs.declared.event.Event.TheVariants.{Unregister, ReclaimAll, Close, MakeMap, EndMap, ShowShape}
 use Rattle.papaya_schedules.specs.declared.effect.Effect.{Effect}
-use Rattle.papaya_schedules.specs.declared.effect.Effect.TheVariants.{Reclaimed, Ended, Taken}
+use Rattle.papaya_schedules.specs.declared.effect.Effect.TheVariants.{Asked, Reclaimed, Ended, Taken}
+use Rattle.papaya_schedules.specs.declared.effect.Growth.TheVariants.{ABlock}
 use Rattle.papaya_schedules.specs.declared.effect.Table.{Table}
 use Rattle.papaya_schedules.specs.declared.effect.Thing.TheVariants.{APair}
 use Rattle.papaya_schedules.specs.declared.outcome.Outcome.TheVariants.{Done, Shape, Refused}
@@ -85,6 +86,13 @@ reclaim_all effects = entry ReclaimAll Done 0 effects
 
 root_is_held : ComesRight small left_over (entry (MakeMap (codes "n") Blocking 0) (Refused RootsUsedUp) 0 [])
 root_is_held = refl
+
+-- wrong: memory was asked for before the root
+some_effect : (f : Effect) → f ∷ [] ≡ [] → ⊥
+some_effect f h = cc
+
+asks_without_root : MovesOn small left_over (entry (MakeMap (codes "n") Blocking 0) (Refused RootsUsedUp) 0 (Asked ABlock ∷ [])) → ⊥
+asks_without_root h = some_effect (Asked ABlock) h.whole
 
 left_comes_back : IsByModel small left_over (reclaim_all (Reclaimed (APair 1) ∷ []))
 left_comes_back = refl

@@ -1,18 +1,19 @@
 -- A map that eight pairs have filled, one by one.
 use Rattle.std.specs.Prelude.{codes, drop, nat_eq}
-use Rattle.std.proofs.Common.{ℕ, List, [], ◌∷◌, inl, inr, refl, arith}
+use Rattle.std.proofs.Common.{◌≡◌, ℕ, List, [], ◌∷◌, inl, inr, refl, arith}
 use Rattle.papaya_raw.specs.Given.Tables.declared.resize_mode.ResizeMode.TheVariants.{Incremental}
 use Rattle.papaya_schedules.specs.declared.call.Call.TheVariants.{On}
 use Rattle.papaya_schedules.specs.declared.call.OneKey.TheVariants.{Insert}
 use Rattle.papaya_schedules.specs.declared.call.Answer.TheVariants as answer
 use Rattle.papaya_schedules.specs.declared.event.Event.TheVariants.{Enter, MakeMap}
-use Rattle.papaya_schedules.specs.declared.effect.Effect.TheVariants.{Asked, Stored, Counted}
+use Rattle.papaya_schedules.specs.declared.effect.Effect.TheVariants.{Asked, TableMade, Stored, Counted}
 use Rattle.papaya_schedules.specs.declared.effect.Growth.TheVariants.{ABlock}
 use Rattle.papaya_schedules.specs.declared.outcome.Outcome.TheVariants.{Done, Answered}
 use Rattle.papaya_schedules.specs.Sequential.{Puts}
 use Rattle.papaya_schedules.specs.Entry.{Entry}
+use Rattle.papaya_schedules.specs.Handing.{MovesOn}
 use Rattle.papaya_schedules.specs.Runs.{IsLegalLog}
-use Rattle.papaya_schedules.proofs.Samples.Words.{small, entry, spot, shape, makes_pair, makes_table, call, registered}
+use Rattle.papaya_schedules.proofs.Samples.Words.{small, entry, spot, table, shape, makes_pair, makes_table, call, registered}
 
 -- a map with a first table of 8 places, of which a call copies one at a time
 abbrev pub made : List (Entry ℕ ℕ)
@@ -20,6 +21,15 @@ made =
     entry (Enter (codes "g") (codes "r")) Done 0 []
     ∷ entry (MakeMap (codes "m") (Incremental 1) 6) Done 0 (Asked ABlock ∷ makes_table 0 (shape 8 7) [])
     ∷ registered
+
+-- wrong: it is made with two first tables, of which one is forgotten
+one_two_tables : ◌≡◌ {A = ℕ} 1 2 → ⊥
+one_two_tables h = cc
+
+two_firsts :
+    MovesOn small registered (entry (MakeMap (codes "m") (Incremental 1) 6) Done 0 (Asked ABlock ∷ Asked ABlock ∷ TableMade (table 0)
+    ∷ makes_table 0 (shape 8 7) [])) → ⊥
+two_firsts h = one_two_tables (h.whole.0)
 
 -- a pair of this key comes in, at the place of the key
 abbrev pub put_there : ℕ → ℕ → Entry ℕ ℕ
@@ -35,6 +45,7 @@ after_1 = (
   record {
     right = refl;
     steps = record { makes = refl; does = tt; brief = tt };
+    waits = tt;
     linearizable = refl;
     swept = tt;
     life =
@@ -51,6 +62,7 @@ after_2 = (
   record {
     right = inl refl;
     steps = record { makes = refl; does = tt; brief = tt };
+    waits = tt;
     linearizable = refl;
     swept = tt;
     life =
@@ -68,6 +80,7 @@ after_3 = (
   record {
     right = inl refl;
     steps = record { makes = refl; does = tt; brief = tt };
+    waits = tt;
     linearizable = refl;
     swept = tt;
     life =
@@ -77,7 +90,7 @@ after_3 = (
           may = refl;
           granted = refl;
           refuses = refl;
-          whole = refl;
+          whole = (refl, refl);
           leaves = tt;
         };
     protected = refl;
@@ -92,6 +105,7 @@ after_4 = (
   record {
     right = refl;
     steps = record { makes = refl; does = tt; brief = tt };
+    waits = tt;
     linearizable = refl;
     swept = tt;
     life =
@@ -108,6 +122,7 @@ after_5 = (
   record {
     right = refl;
     steps = record { makes = (omega arith, omega arith); does = omega arith; brief = tt };
+    waits = tt;
     linearizable = record { changes = inr (refl, answer.Absent, Puts 10, refl, refl); ends = refl; asks = tt };
     swept = tt;
     life =
@@ -134,6 +149,7 @@ after_6 = (
   record {
     right = refl;
     steps = record { makes = (omega arith, omega arith); does = omega arith; brief = tt };
+    waits = tt;
     linearizable = record { changes = inr (refl, answer.Absent, Puts 10, refl, refl); ends = refl; asks = tt };
     swept = tt;
     life =
@@ -160,6 +176,7 @@ after_7 = (
   record {
     right = refl;
     steps = record { makes = (omega arith, omega arith); does = omega arith; brief = tt };
+    waits = tt;
     linearizable = record { changes = inr (refl, answer.Absent, Puts 10, refl, refl); ends = refl; asks = tt };
     swept = tt;
     life =
@@ -186,6 +203,7 @@ after_8 = (
   record {
     right = refl;
     steps = record { makes = (omega arith, omega arith); does = omega arith; brief = tt };
+    waits = tt;
     linearizable = record { changes = inr (refl, answer.Absent, Puts 10, refl, refl); ends = refl; asks = tt };
     swept = tt;
     life =
@@ -212,6 +230,7 @@ after_9 = (
   record {
     right = refl;
     steps = record { makes = (omega arith, omega arith); does = omega arith; brief = tt };
+    waits = tt;
     linearizable = record { changes = inr (refl, answer.Absent, Puts 10, refl, refl); ends = refl; asks = tt };
     swept = tt;
     life =
@@ -238,6 +257,7 @@ after_10 = (
   record {
     right = refl;
     steps = record { makes = (omega arith, omega arith); does = omega arith; brief = tt };
+    waits = tt;
     linearizable = record { changes = inr (refl, answer.Absent, Puts 10, refl, refl); ends = refl; asks = tt };
     swept = tt;
     life =
@@ -264,6 +284,7 @@ after_11 = (
   record {
     right = refl;
     steps = record { makes = (omega arith, omega arith); does = omega arith; brief = tt };
+    waits = tt;
     linearizable = record { changes = inr (refl, answer.Absent, Puts 10, refl, refl); ends = refl; asks = tt };
     swept = tt;
     life =
@@ -290,6 +311,7 @@ filled_run = (
   record {
     right = refl;
     steps = record { makes = (omega arith, omega arith); does = omega arith; brief = tt };
+    waits = tt;
     linearizable = record { changes = inr (refl, answer.Absent, Puts 10, refl, refl); ends = refl; asks = tt };
     swept = tt;
     life =

@@ -69,6 +69,7 @@ since_1 = (
   record {
     right = inl refl;
     steps = record { makes = refl; does = tt; brief = tt };
+    waits = tt;
     linearizable = refl;
     swept = tt;
     life =
@@ -85,6 +86,7 @@ since_2 = (
   record {
     right = refl;
     steps = record { makes = refl; does = tt; brief = tt };
+    waits = tt;
     linearizable = refl;
     swept = tt;
     life =
@@ -101,6 +103,7 @@ since_3 = (
   record {
     right = refl;
     steps = record { makes = refl; does = tt; brief = tt };
+    waits = tt;
     linearizable = refl;
     swept = tt;
     life =
@@ -117,6 +120,7 @@ since_4 = (
   record {
     right = refl;
     steps = record { makes = omega arith; does = omega arith; brief = tt };
+    waits = tt;
     linearizable = record { changes = inl refl; ends = tt; asks = (refl, inl (refl, refl), inr refl) };
     swept = tt;
     life =
@@ -134,6 +138,7 @@ since_5 = (
   record {
     right = refl;
     steps = record { makes = (omega arith, omega arith); does = omega arith; brief = tt };
+    waits = tt;
     linearizable = record { changes = inr (refl, answer.Absent, Puts 10, refl, refl); ends = refl; asks = tt };
     swept = tt;
     life =
@@ -244,6 +249,7 @@ since_6 = (
   record {
     right = refl;
     steps = record { makes = refl; does = tt; brief = tt };
+    waits = tt;
     linearizable = refl;
     swept = tt;
     life =
@@ -260,6 +266,7 @@ since_7 = (
   record {
     right = refl;
     steps = record { makes = omega arith; does = omega arith; brief = tt };
+    waits = tt;
     linearizable = record { changes = inr (refl, answer.Updated 1 10, Puts 99, refl, refl); ends = refl; asks = tt };
     swept = tt;
     life =
@@ -298,6 +305,7 @@ since_8 = (
   record {
     right = refl;
     steps = record { makes = refl; does = tt; brief = tt };
+    waits = tt;
     linearizable = refl;
     swept = tt;
     life =
@@ -314,6 +322,7 @@ since_9 = (
   record {
     right = refl;
     steps = record { makes = refl; does = tt; brief = tt };
+    waits = tt;
     linearizable = refl;
     swept = tt;
     life =
@@ -330,6 +339,7 @@ since_10 = (
   record {
     right = refl;
     steps = record { makes = refl; does = tt; brief = tt };
+    waits = tt;
     linearizable = refl;
     swept = tt;
     life =
@@ -346,6 +356,7 @@ since_11 = (
   record {
     right = refl;
     steps = record { makes = (omega arith, omega arith); does = omega arith; brief = tt };
+    waits = tt;
     linearizable = record { changes = tt; ends = tt; asks = tt };
     swept = tt;
     life =
@@ -384,6 +395,7 @@ since_12 = (
   record {
     right = refl;
     steps = record { makes = refl; does = tt; brief = tt };
+    waits = tt;
     linearizable = refl;
     swept = tt;
     life =
@@ -400,6 +412,7 @@ two_callers = (
   record {
     right = refl;
     steps = record { makes = refl; does = tt; brief = tt };
+    waits = tt;
     linearizable = refl;
     swept = tt;
     life =

@@ -77,6 +77,7 @@ after_1 = (
   record {
     right = refl;
     steps = record { makes = refl; does = tt; brief = tt };
+    waits = tt;
     linearizable = refl;
     swept = tt;
     life =
@@ -93,6 +94,7 @@ after_2 = (
   record {
     right = inl refl;
     steps = record { makes = refl; does = tt; brief = tt };
+    waits = tt;
     linearizable = refl;
     swept = tt;
     life =
@@ -109,10 +111,11 @@ after_3 = (
   record {
     right = inl refl;
     steps = record { makes = refl; does = tt; brief = tt };
+    waits = tt;
     linearizable = refl;
     swept = tt;
     life =
-        record { finds = (tt, tt); may = refl; granted = refl; refuses = refl; whole = refl; leaves = tt };
+        record { finds = (tt, tt); may = refl; granted = refl; refuses = refl; whole = (refl, refl); leaves = tt };
     protected = refl;
     by_model = refl;
     little = record { bounded = omega arith; orderly = record { pairs = refl; tables = refl }; emptied = tt; torn_down = tt };
@@ -125,10 +128,11 @@ after_4 = (
   record {
     right = inl refl;
     steps = record { makes = refl; does = tt; brief = tt };
+    waits = tt;
     linearizable = refl;
     swept = tt;
     life =
-        record { finds = (tt, tt); may = refl; granted = refl; refuses = refl; whole = refl; leaves = tt };
+        record { finds = (tt, tt); may = refl; granted = refl; refuses = refl; whole = (refl, refl); leaves = tt };
     protected = refl;
     by_model = refl;
     little = record { bounded = omega arith; orderly = record { pairs = refl; tables = refl }; emptied = tt; torn_down = tt };
@@ -141,6 +145,7 @@ after_5 = (
   record {
     right = refl;
     steps = record { makes = refl; does = tt; brief = tt };
+    waits = tt;
     linearizable = refl;
     swept = tt;
     life =
@@ -157,6 +162,7 @@ after_6 = (
   record {
     right = inl refl;
     steps = record { makes = refl; does = tt; brief = tt };
+    waits = tt;
     linearizable = refl;
     swept = tt;
     life =
@@ -174,6 +180,7 @@ after_7 = (
   record {
     right = refl;
     steps = record { makes = (omega arith, omega arith); does = omega arith; brief = tt };
+    waits = tt;
     linearizable = record { changes = inr (refl, answer.Absent, Puts 10, refl, refl); ends = refl; asks = tt };
     swept = tt;
     life =
@@ -213,6 +220,7 @@ after_8 = (
   record {
     right = refl;
     steps = record { makes = (omega arith, omega arith); does = omega arith; brief = tt };
+    waits = tt;
     linearizable = record { changes = inr (refl, answer.Absent, Puts 20, refl, refl); ends = refl; asks = tt };
     swept = tt;
     life =
@@ -251,6 +259,7 @@ after_9 = (
   record {
     right = refl;
     steps = record { makes = (omega arith, omega arith); does = omega arith; brief = inl (omega arith) };
+    waits = tt;
     linearizable = record { changes = inl refl; ends = inl refl; asks = tt };
     swept = tt;
     life =
@@ -275,6 +284,7 @@ after_10 = (
   record {
     right = refl;
     steps = record { makes = (omega arith, omega arith); does = omega arith; brief = tt };
+    waits = tt;
     linearizable = record { changes = inr (refl, answer.Found 1, Takes, refl, refl); ends = refl; asks = tt };
     swept = tt;
     life =
@@ -299,6 +309,7 @@ after_11 = (
   record {
     right = refl;
     steps = record { makes = (omega arith, omega arith); does = omega arith; brief = tt };
+    waits = tt;
     linearizable = record { changes = inr (refl, answer.Found 2, Takes, refl, refl); ends = refl; asks = tt };
     swept = tt;
     life =
@@ -323,6 +334,7 @@ after_12 = (
   record {
     right = refl;
     steps = record { makes = refl; does = tt; brief = tt };
+    waits = tt;
     linearizable = refl;
     swept = tt;
     life =
@@ -339,6 +351,7 @@ two_maps = (
   record {
     right = refl;
     steps = record { makes = refl; does = tt; brief = tt };
+    waits = tt;
     linearizable = refl;
     swept = tt;
     life =

@@ -60,6 +60,7 @@ since_1 = (
   record {
     right = refl;
     steps = record { makes = (omega arith, omega arith); does = omega arith; brief = tt };
+    waits = tt;
     linearizable = record { changes = inr (refl, answer.Absent, Puts 10, refl, refl); ends = refl; asks = tt };
     swept = tt;
     life =
@@ -170,6 +171,7 @@ since_2 = (
   record {
     right = refl;
     steps = record { makes = (omega arith, omega arith); does = omega arith; brief = tt };
+    waits = tt;
     linearizable = record { changes = inr (refl, answer.Found 1, Takes, refl, refl); ends = refl; asks = tt };
     swept = tt;
     life =
@@ -196,6 +198,7 @@ since_3 = (
   record {
     right = refl;
     steps = record { makes = refl; does = tt; brief = tt };
+    waits = tt;
     linearizable = refl;
     swept = tt;
     life =
@@ -212,6 +215,7 @@ since_4 = (
   record {
     right = refl;
     steps = record { makes = refl; does = tt; brief = tt };
+    waits = tt;
     linearizable = refl;
     swept = tt;
     life =
@@ -228,6 +232,7 @@ since_5 = (
   record {
     right = refl;
     steps = record { makes = (omega arith, omega arith); does = omega arith; brief = tt };
+    waits = tt;
     linearizable = record { changes = tt; ends = tt; asks = tt };
     swept = tt;
     life =
@@ -266,6 +271,7 @@ since_6 = (
   record {
     right = refl;
     steps = record { makes = refl; does = tt; brief = tt };
+    waits = tt;
     linearizable = refl;
     swept = tt;
     life =
@@ -282,6 +288,7 @@ resized_run = (
   record {
     right = refl;
     steps = record { makes = refl; does = tt; brief = tt };
+    waits = tt;
     linearizable = refl;
     swept = tt;
     life =

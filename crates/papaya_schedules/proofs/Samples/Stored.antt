@@ -31,6 +31,7 @@ after_1 = (
   record {
     right = refl;
     steps = record { makes = refl; does = tt; brief = tt };
+    waits = tt;
     linearizable = refl;
     swept = tt;
     life =
@@ -47,6 +48,7 @@ after_2 = (
   record {
     right = inl refl;
     steps = record { makes = refl; does = tt; brief = tt };
+    waits = tt;
     linearizable = refl;
     swept = tt;
     life =
@@ -63,10 +65,11 @@ after_3 = (
   record {
     right = inl refl;
     steps = record { makes = refl; does = tt; brief = tt };
+    waits = tt;
     linearizable = refl;
     swept = tt;
     life =
-        record { finds = (tt, tt); may = refl; granted = refl; refuses = refl; whole = refl; leaves = tt };
+        record { finds = (tt, tt); may = refl; granted = refl; refuses = refl; whole = (refl, refl); leaves = tt };
     protected = refl;
     by_model = refl;
     little = record { bounded = omega arith; orderly = record { pairs = refl; tables = refl }; emptied = tt; torn_down = tt };
@@ -79,6 +82,7 @@ after_4 = (
   record {
     right = refl;
     steps = record { makes = refl; does = tt; brief = tt };
+    waits = tt;
     linearizable = refl;
     swept = tt;
     life =
@@ -96,6 +100,7 @@ after_5 = (
   record {
     right = refl;
     steps = record { makes = (omega arith, omega arith); does = omega arith; brief = tt };
+    waits = tt;
     linearizable = record { changes = inr (refl, answer.Absent, Puts 10, refl, refl); ends = refl; asks = tt };
     swept = tt;
     life =
@@ -134,6 +139,7 @@ after_6 = (
   record {
     right = refl;
     steps = record { makes = (omega arith, omega arith); does = omega arith; brief = tt };
+    waits = tt;
     linearizable = record { changes = inr (refl, answer.Found 1, Puts 20, refl, refl); ends = refl; asks = tt };
     swept = tt;
     life =
@@ -160,6 +166,7 @@ stored_run = (
   record {
     right = refl;
     steps = record { makes = refl; does = tt; brief = tt };
+    waits = tt;
     linearizable = refl;
     swept = tt;
     life =

@@ -1,6 +1,6 @@
 -- Walks, `clear`, `retain` and `len`. And wrong runs.
 use Rattle.std.specs.Prelude.{codes, nat_eq}
-use Rattle.std.proofs.Common.{◌≡◌, ℕ, Bool, true, false, List, [], ◌∷◌, inl, refl, Option, Some, None}
+use Rattle.std.proofs.Common.{◌≡◌, ◌≤◌, ℕ, Bool, true, false, List, [], ◌∷◌, inl, refl, arith, Option, Some, None}
 use Rattle.papaya_schedules.specs.declared.call.Call.{Call}
 use Rattle.papaya_schedules.specs.declared.call.Call.TheVariants.{Clear, Retain, Len, Walk}
 use Rattle.papaya_schedules.specs.declared.call.Reply.{Reply}
@@ -14,6 +14,7 @@ use Rattle.papaya_schedules.specs.declared.outcome.Outcome.{Outcome}
 use Rattle.papaya_schedules.specs.declared.outcome.Outcome.TheVariants.{Goes, Asks, Ready, Shows, Answered}
 use Rattle.papaya_schedules.specs.Entry.{Entry}
 use Rattle.papaya_schedules.specs.Linearizable.{IsLinearizable}
+use Rattle.papaya_schedules.specs.Steps.{TakesSteps}
 use Rattle.papaya_schedules.specs.Sweeps.{IsSwept}
 use Rattle.papaya_schedules.proofs.Samples.Words.{no_yes, yes_no, zero_next, either, small, entry, call}
 use Rattle.papaya_schedules.proofs.Samples.Stored.{replaced}
@@ -70,6 +71,13 @@ next outcome = entry (Next (codes "-")) outcome 9 []
 
 shows_two : IsSwept nat_eq small walks (next (Shows 2))
 shows_two = (inl refl, refl)
+
+-- wrong: it goes on by no step
+none_made : 1 ≤ 0 → ⊥
+none_made few = omega (arith, few)
+
+shows_at_once : TakesSteps walks (entry (Next (codes "-")) (Shows 2) 0 []) → ⊥
+shows_at_once h = none_made h.makes
 
 -- wrong: it shows one that left before it began, none at all, or one twice
 shows_one : IsSwept nat_eq small walks (next (Shows 1)) → ⊥
