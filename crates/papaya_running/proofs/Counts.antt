@@ -1,5 +1,5 @@
 -- How many maps have a number after an event, and that names of maps stay apart: an event that makes one adds it, where none of its name was there.
-use Rattle.std.specs.Prelude.{◌≡◌, ◌≤◌, ◌+◌, ◌&&◌, ℕ, Bool, true, false, not, List, [], ◌∷◌, ◌++◌, length, filter, find, map, is_none, is_some, nat_lt, MatchBool, MatchOption, Option, Some, None, Result, Ok, Err, IfOk, if◌then◌else◌}
+use Rattle.std.specs.Prelude.{◌≡◌, ◌≤◌, ◌+◌, ℕ, Bool, true, false, not, List, [], ◌∷◌, ◌++◌, length, filter, find, map, is_none, is_some, nat_lt, MatchBool, MatchOption, Option, Some, None, Result, Ok, Err, IfOk, if◌then◌else◌}
 use Rattle.std.proofs.Common.{refl, ap, sym, subst, ◌∙◌, arith}
 use Rattle.std.proofs.lemmas.List.{length-map}
 use Rattle.seize_words.specs.declared.fault.Fault.{Fault}

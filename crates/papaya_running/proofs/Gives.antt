@@ -6,7 +6,6 @@ use Rattle.papaya_runs.specs.declared.record.Pair.{Pair}
 use Rattle.papaya_schedules.specs.declared.effect.Effect.{Effect}
 use Rattle.papaya_schedules.specs.declared.event.Event.{Event}
 use Rattle.papaya_schedules.specs.declared.event.Event.TheVariants.{Begin, Step, Go, Replied, OneCall, Next, Stop}
-use Rattle.papaya_schedules.specs.After.{moment}
 use Rattle.papaya_schedules.specs.Effects.{pairs_back}
 use Rattle.papaya_logged.specs.Back.{ComesBack}
 use Rattle.papaya_scheduler.specs.Back.{GivesAllBack, GivesBack}

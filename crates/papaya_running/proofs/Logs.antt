@@ -1,5 +1,5 @@
 -- The log of a schedule, one event longer; and the map on which an event acts.
-use Rattle.std.specs.Prelude.{◌≡◌, ℕ, ◌+◌, Bool, true, false, List, [], ◌∷◌, ◌++◌, length, find, map, Option, Some, None, option_map, if◌then◌else◌}
+use Rattle.std.specs.Prelude.{◌≡◌, ℕ, ◌+◌, Bool, true, false, List, [], ◌∷◌, ◌++◌, length, find, Option, Some, None, option_map, if◌then◌else◌}
 use Rattle.std.proofs.Common.{refl, sym, ap, ◌∙◌, arith}
 use Rattle.papaya_runs.specs.declared.outcome.Single.{Single}
 use Rattle.papaya_runs.specs.declared.outcome.Single.TheVariants as single

@@ -1,5 +1,5 @@
 -- One event more, and the end of a schedule.
-use Rattle.std.specs.Prelude.{◌≡◌, ℕ, suc, ◌+◌, Bool, true, false, List, [], ◌∷◌, ◌++◌, length, filter, map, Option, slice_index_or, if◌then◌else◌}
+use Rattle.std.specs.Prelude.{◌≡◌, ℕ, suc, Bool, true, false, List, [], ◌∷◌, ◌++◌, length, filter, map, Option, slice_index_or, if◌then◌else◌}
 use Rattle.std.specs.Global.{Vec}
 use Rattle.std.proofs.Common.{refl, sym, ap, subst, ◌∙◌, arith}
 use Rattle.std.proofs.lemmas.List.{length-append, map-append}
@@ -213,10 +213,8 @@ module _ {K V S : Type 0} (same : K → K → Bool) (hash : K → ℕ) (terms : 
       (subst (λ (l : List (Entry K V)). StoredAreSomewhere (moment l)) (sym same_log) so.runs.shows.order.0.somewhere)
 
   -- each of its events hands over in order, and so each call what it took out
-  pub hands_so : (run : Run K V) → run.outcomes ≡ rec.outcomes → run.steps ≡ rec.steps → run.effects ≡ rec.effects → AtEachEvent HandsOn (log_of events run)
-  hands_so run outcomes steps effects =
-      let same_log : log_of events run ≡ log_so events rec = λ i. log_on [] events (outcomes i).items (steps i).items (map (λ v. v.items) (effects i).items) in
-      subst (AtEachEvent HandsOn) (sym same_log) (all_hand (log_so events rec) so.hands so.legal)
+  pub hands_so : AtEachEvent HandsOn (log_so events rec)
+  hands_so = all_hand (log_so events rec) so.hands so.legal
     where
       all_hand : (log : List (Entry K V)) → AtEachEvent HandsInOrder log → IsLegalLog same terms log → AtEachEvent HandsOn log
       all_hand [] hands legal = tt

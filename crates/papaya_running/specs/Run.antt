@@ -19,11 +19,12 @@ use Rattle.papaya_runs.specs.declared.event.Setup.{Setup}
 use Rattle.papaya_scheduler.specs.Quiet.{IsQuiet}
 use Rattle.papaya_scheduler.specs.declared.scheduler.Scheduler.{Scheduler}
 use Rattle.papaya_events.specs.Asked.{Holds}
-use Rattle.papaya_running.specs.Back.{TellsBack}
+use Rattle.papaya_running.specs.Back.{BackSoFar, TellsBack}
 use Rattle.papaya_events.specs.OfCalls.{Runs}
 use Rattle.papaya_events.specs.Given.Folded.Folded.{HandsAllOver, HandsInOrder}
 use Rattle.papaya_tally.specs.Tally.{TellsMoment}
 use Rattle.papaya_running.specs.declared.record.Record.{Record}
+use Rattle.papaya_running.specs.declared.running.Running.{Running}
 use Rattle.papaya_tally.specs.declared.tally.Tally.{Tally}
 
 -- more processors than these count as so many
@@ -80,3 +81,9 @@ module _ {K V S : Type 0} (same : K → K → Bool) (hash : K → ℕ) where
     pub legal : IsLegalLog same terms (log_so events rec)
     pub hands : AtEachEvent HandsInOrder (log_so events rec)
     pub runs : Runs same hash terms (log_so events rec) p
+
+module _ {K V S : Type 0} (same : K → K → Bool) (hashes : S → K → ℕ) where
+  -- By these events a run has come so far, and what they reclaimed has come back.
+  pub record HasCome (terms : Terms) (events : List (Event K V)) (r : Running K V S) : Type 0 where
+    pub so_far : SoFar same (hashes r.scheduler.logged.executor.hasher) terms events r.written r.tally r.scheduler
+    pub back : BackSoFar (log_so events r.written) r.back.items

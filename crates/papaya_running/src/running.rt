@@ -1,12 +1,12 @@
 //! A schedule runs, event by event.
-ghost use Rattle.std.specs.Prelude.{◌≡◌, ◌++◌, ◌∷◌, [], ℕ, Bool, List, IfOk, IfErr, OnOk};
-ghost use Rattle.papaya_schedules.specs.After.{AtEachEvent, moment};
+ghost use Rattle.std.specs.Prelude.{◌≡◌, ◌++◌, ◌∷◌, [], ℕ, ◌-◌, Bool, List, length, slice_get, IfOk, IfErr, OnOk};
+ghost use Rattle.std.specs.Option.{option_copied};
+ghost use Rattle.papaya_schedules.specs.After.{AtEachEvent};
 ghost use Rattle.papaya_schedules.specs.Runs.{IsRunOf, log_of};
 ghost use Rattle.papaya_schedules.specs.Terms.{Terms};
 ghost use Rattle.papaya_schedules.specs.declared.event.Event.{Event};
 ghost use Rattle.papaya_scheduler.specs.Played.{terms_given};
-ghost use Rattle.papaya_running.specs.Back.{BackSoFar, ReclaimsRight, TellsBack};
-ghost use Rattle.papaya_running.specs.Run.{HandsOn, IsRightRun, SoFar, TellsMost, bounded, log_so};
+ghost use Rattle.papaya_running.specs.Run.{HandsOn, HasCome, IsRightRun, bounded};
 
 use crate::acting::{acting_of, traced_as};
 use crate::ending::living;
@@ -19,6 +19,7 @@ use papaya_runs::pair_list::PairList;
 use papaya_runs::record::Pair;
 use papaya_scheduler::scheduler::Scheduler;
 use papaya_schedules::event::Event;
+use papaya_schedules::outcome::Outcome;
 use papaya_schedules::record::Run;
 use papaya_tally::left::pairs_left;
 use papaya_tally::tally::Tally;
@@ -26,25 +27,111 @@ use seize_words::Fault;
 use std::alloc::{AllocError, Global};
 use std::hash::{BuildHasher, Hash};
 
-/// Lets the next event of a schedule happen, and writes down what it came to and what it did.
-fn take_turn<K: Eq + Hash + Drop, V: Drop, S: Hashes<K> + Drop>(
-    scheduler: &mut Scheduler<K, V, S>,
-    tally: &mut Tally,
-    written: &mut Record<V>,
-    back: &mut Vec<Pair<K, V>>,
-    event: Event<K, V>,
-) -> Result<(), AllocError>
-    requires { (terms : Terms) × (events : List (Event K V)) × SoFar K.eq (S.hash scheduler.old.logged.executor.hasher) terms events written.old tally.old scheduler.old }
-    ensures turn { OnOk result ((terms : Terms) (events : List (Event K V)) → SoFar K.eq (S.hash scheduler.old.logged.executor.hasher) terms events written.old tally.old scheduler.old
-        → SoFar K.eq (S.hash scheduler.new.logged.executor.hasher) terms (events ++ event ∷ []) written.new tally.new scheduler.new) }
-    ensures back { OnOk result ((terms : Terms) (events : List (Event K V)) → SoFar K.eq (S.hash scheduler.old.logged.executor.hasher) terms events written.old tally.old scheduler.old
-        → BackSoFar (log_so events written.old) back.old.items → BackSoFar (log_so (events ++ event ∷ []) written.new) back.new.items) }
-{
-    let traced = traced_as(&event);
-    let acting = acting_of(scheduler, &event)?;
-    let played = happen(scheduler, written.outcomes.is_empty(), event, back)?;
-    tally.note_all(acting.map(&played.outcome), played.effects.as_slice())?;
-    written.add(traced, played)
+/// What a run has come to so far.
+#[derive(Drop)]
+pub struct Running<K, V, S> {
+    /// Who is there, and what is under way.
+    pub scheduler: Scheduler<K, V, S>,
+    /// Where pairs and tables are.
+    pub tally: Tally,
+    /// What the events came to and did.
+    pub written: Record<V>,
+    /// The pairs that were reclaimed, in that order.
+    pub back: Vec<Pair<K, V>>,
+}
+
+impl<K: Eq + Hash + Drop, V: Drop, S: BuildHasher + Drop> Running<K, V, S> {
+    /// Nothing has happened yet. The hasher gives each key its hash. The choices say which free block numbers are used again, before those that events add.
+    pub fn begin(
+        alloc: Global,
+        setup: Setup,
+        hasher: S,
+        choices: Vec<u64>,
+    ) -> Result<Self, AllocError>
+        ensures { IfOk result (HasCome K.eq ⟦<S as Hashes<K>>⟧.hash (terms_given (bounded setup)) []) }
+    {
+        let mut scheduler = Scheduler::new(alloc, bounded(setup), hasher)?;
+        for choice in choices {
+            scheduler.logged.choose(choice)?;
+        }
+        let tally = Tally::nothing(alloc);
+        let written = Record::nothing(alloc);
+        let back = Vec::new(alloc);
+        Ok(Running {
+            scheduler,
+            tally,
+            written,
+            back,
+        })
+    }
+}
+
+impl<K: Eq + Hash + Drop, V: Drop, S: Hashes<K> + Drop> Running<K, V, S> {
+    /// Lets the next event of a schedule happen, and writes down what it came to and what it did. On an error lists or notes of the run found no memory, and nothing is said of
+    /// it from then on.
+    pub fn take_turn(&mut self, event: Event<K, V>) -> Result<(), AllocError>
+        requires { (terms : Terms) × (events : List (Event K V)) × HasCome K.eq S.hash terms events self.old }
+        ensures { OnOk result ((terms : Terms) (events : List (Event K V)) → HasCome K.eq S.hash terms events self.old → HasCome K.eq S.hash terms (events ++ event ∷ []) self.new) }
+    {
+        let traced = traced_as(&event);
+        let acting = acting_of(&self.scheduler, &event)?;
+        let is_first = self.written.outcomes.is_empty();
+        let played = happen(&mut self.scheduler, is_first, event, &mut self.back)?;
+        self.tally
+            .note_all(acting.map(&played.outcome), played.effects.as_slice())?;
+        self.written.add(traced, played)
+    }
+}
+
+impl<K: Drop, V: Drop, S: Drop> Running<K, V, S> {
+    /// What the last event came to, if there was one.
+    pub fn last_outcome(&self) -> Option<&Outcome<V>>
+        ensures { option_copied result ≡ slice_get self.now.written.outcomes.items (length self.now.written.outcomes.items - 1) }
+    {
+        self.written.outcomes.last()
+    }
+
+    /// What gave its keys their hashes.
+    pub fn into_hasher(self) -> S
+        ensures { result ≡ self.scheduler.logged.executor.hasher }
+    {
+        self.scheduler.logged.executor.hasher
+    }
+
+    /// The run that has come to its end.
+    pub fn end(self, alloc: Global) -> Result<Run<K, V>, AllocError>
+        requires { (same : K → K → Bool) × (hashes : S → K → ℕ) × (terms : Terms) × (events : List (Event K V)) × HasCome same hashes terms events self }
+        ensures right { IfOk result (λ run. (same : K → K → Bool) (hashes : S → K → ℕ) (terms : Terms) (events : List (Event K V)) → HasCome same hashes terms events self
+            → IsRightRun terms events run) }
+        ensures whole { IfOk result (λ run. (same : K → K → Bool) (hashes : S → K → ℕ) (terms : Terms) (events : List (Event K V)) → HasCome same hashes terms events self
+            → IsRunOf same terms events run) }
+        ensures hands { IfOk result (λ run. (same : K → K → Bool) (hashes : S → K → ℕ) (terms : Terms) (events : List (Event K V)) → HasCome same hashes terms events self
+            → AtEachEvent HandsOn (log_of events run)) }
+    {
+        let Running {
+            scheduler,
+            tally,
+            written,
+            back,
+        } = self;
+        let Scheduler { logged, maps, .. } = scheduler;
+        let Logged { executor, notes } = logged;
+        let living = living(alloc, maps, &tally)?;
+        let waiting = tally.waiting(alloc)?;
+        let kept = pairs_left(alloc, executor.memory.memory, &notes)?;
+        Ok(Run {
+            outcomes: written.outcomes,
+            steps: written.steps,
+            effects: written.effects,
+            trace: written.trace,
+            maps: living,
+            waiting,
+            tables: tally.waiting_tables(),
+            stored: notes.stored(),
+            given_back: PairList::of(alloc, back)?,
+            kept: PairList::of(alloc, kept)?,
+        })
+    }
 }
 
 /// Runs a schedule. The hasher gives each key its hash. The choices say which free block numbers are used again, before those that events of the schedule add. The one fault is
@@ -79,30 +166,26 @@ pub fn run_refusing<K: Eq + Hash + Drop, V: Drop, S: BuildHasher + Drop>(
     ensures hands { IfOk result (λ run. AtEachEvent HandsOn (log_of schedule.items run)) }
     ensures memory { IfErr result (λ fault. fault ≡ Fault.Memory) }
 {
-    let mut scheduler = Scheduler::new(alloc, bounded(setup), hasher)?;
-    for choice in choices {
-        scheduler.logged.choose(choice)?;
-    }
-    let mut tally = Tally::nothing(alloc);
-    let mut written = Record::nothing(alloc);
-    let mut back = Vec::new(alloc);
+    let mut running = Running::begin(alloc, setup, hasher, choices)?;
     for event in schedule {
-        refuse_as_told(&mut scheduler, growths, written.outcomes.len());
-        take_turn(&mut scheduler, &mut tally, &mut written, &mut back, event)?;
+        refuse_as_told(&mut running, growths);
+        running.take_turn(event)?;
     }
-    Ok(end(alloc, scheduler, tally, written, back)?)
+    Ok(running.end(alloc)?)
 }
 
-/// Tells the memory how many growths it meets from now on, where that is told for this place.
-fn refuse_as_told<K: Drop, V: Drop, S>(
-    scheduler: &mut Scheduler<K, V, S>,
-    growths: &[u64],
-    place: usize,
-)
-    ensures { scheduler.new ≡ scheduler.old }
+/// Tells the memory of a run how many growths it meets from now on, where that is told for the place of the next event.
+fn refuse_as_told<K: Drop, V: Drop, S>(running: &mut Running<K, V, S>, growths: &[u64])
+    ensures { running.new ≡ running.old }
 {
-    if let Some(left) = growths.get(place) {
-        scheduler.logged.executor.memory.memory.refuse_after(*left);
+    if let Some(left) = growths.get(running.written.outcomes.len()) {
+        running
+            .scheduler
+            .logged
+            .executor
+            .memory
+            .memory
+            .refuse_after(*left);
     }
 }
 
@@ -114,41 +197,4 @@ fn bounded(setup: Setup) -> Setup
         processors: setup.processors.min(1 << 63),
         ..setup
     }
-}
-
-/// The run that has come to its end.
-fn end<K: Drop, V: Drop, S: Drop>(
-    alloc: Global,
-    scheduler: Scheduler<K, V, S>,
-    tally: Tally,
-    written: Record<V>,
-    back: Vec<Pair<K, V>>,
-) -> Result<Run<K, V>, AllocError>
-    requires { (same : K → K → Bool) × (hash : K → ℕ) × (terms : Terms) × (events : List (Event K V)) × SoFar same hash terms events written tally scheduler }
-    ensures tells { IfOk result (λ run. (same : K → K → Bool) (hash : K → ℕ) (terms : Terms) (events : List (Event K V)) → SoFar same hash terms events written tally scheduler
-        → TellsMost (moment (log_so events written)) run) }
-    ensures back { IfOk result (λ run. (same : K → K → Bool) (hash : K → ℕ) (terms : Terms) (events : List (Event K V)) → SoFar same hash terms events written tally scheduler
-        → BackSoFar (log_so events written) back.items → AtEachEvent ReclaimsRight (log_so events written) → TellsBack (moment (log_so events written)) run) }
-    ensures outcomes { IfOk result (λ run. run.outcomes ≡ written.outcomes) }
-    ensures steps { IfOk result (λ run. run.steps ≡ written.steps) }
-    ensures effects { IfOk result (λ run. run.effects ≡ written.effects) }
-    ensures trace { IfOk result (λ run. run.trace ≡ written.trace) }
-{
-    let Scheduler { logged, maps, .. } = scheduler;
-    let Logged { executor, notes } = logged;
-    let living = living(alloc, maps, &tally)?;
-    let waiting = tally.waiting(alloc)?;
-    let kept = pairs_left(alloc, executor.memory.memory, &notes)?;
-    Ok(Run {
-        outcomes: written.outcomes,
-        steps: written.steps,
-        effects: written.effects,
-        trace: written.trace,
-        maps: living,
-        waiting,
-        tables: tally.waiting_tables(),
-        stored: notes.stored(),
-        given_back: PairList::of(alloc, back)?,
-        kept: PairList::of(alloc, kept)?,
-    })
 }

@@ -1,0 +1,2 @@
+pub mod Copies
+pub mod Same

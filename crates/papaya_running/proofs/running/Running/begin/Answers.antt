@@ -1,0 +1,33 @@
+-- A run begins.
+use Rattle.std.specs.Prelude.{◌%◌, ◌^◌, ℕ, fold}
+use Rattle.std.proofs.Common.{subst}
+use Rattle.papaya_runs.specs.declared.event.Setup.{Setup}
+use Rattle.papaya_scheduler.specs.Played.{terms_given}
+use Rattle.papaya_running.specs.Run.{bounded}
+use Rattle.papaya_running.proofs.Beginning.{Begins, are_few, begins_first, first_holds, first_runs, still_begins}
+use Rattle.papaya_running.proofs.LawfulKeys.{are_lawful}
+use Rattle.papaya_running.proofs.Turns.{back_first, start_so}
+use Rattle.papaya_running.proofs.running.Running.begin.Goals as goal
+
+pub loop-choice-init : goal.loop-choice-init
+loop-choice-init g c =
+    let made = c.in_ok-scheduler.ensures in
+    subst (λ (setup : Setup). Begins setup c.in_ok-scheduler.scheduler) c.bounded.ensures (begins_first c.bounded.result c.in_ok-scheduler.scheduler made.played made.begun made.shown)
+
+pub loop-choice-preserved : goal.loop-choice-preserved
+loop-choice-preserved g c = still_begins (bounded c.args.setup) c.loop-choice.scheduler c.loop-choice.invariant _ c.choose.new.self c.in_ok-choose.ensures.chosen
+
+pub returns : goal.returns
+returns g c =
+    let hash : g.row.K.Denot → ℕ = λ key. g.S.Hasher.Hasher.finish (fold g.S.Hasher.Hasher.write (g.S.BuildHasher.build_hasher c.loop-choice.scheduler.logged.executor.hasher) (g.K.Hash.hash_input key)) % 2 ^ 64 in
+    record {
+      so_far =
+          start_so g.K.PartialEq.eq hash (terms_given (bounded c.args.setup)) c.nothing-written.result c.nothing-tally.result c.loop-choice.scheduler c.nothing-written.ensures.outcomes c.nothing-written.ensures.steps
+          c.nothing-written.ensures.effects c.nothing-written.ensures.trace c.nothing-tally.ensures.pairs c.nothing-tally.ensures.behind c.nothing-tally.ensures.tables
+          (first_holds g.K.PartialEq.eq hash (bounded c.args.setup) c.loop-choice.scheduler c.loop-choice.invariant
+          (are_lawful g.K.PartialEq.eq g.K.Hash.hash_input g.met.K.Eq.laws g.met.K.Hash.respects_eq
+          (λ writes. g.S.Hasher.Hasher.finish (fold g.S.Hasher.Hasher.write (g.S.BuildHasher.build_hasher c.loop-choice.scheduler.logged.executor.hasher) writes)))
+          (are_few c.args.setup))
+          (first_runs g.K.PartialEq.eq hash (bounded c.args.setup) c.loop-choice.scheduler c.loop-choice.invariant);
+      back = back_first c.nothing-written.result c.new-back.result.items c.nothing-written.ensures.outcomes c.nothing-written.ensures.steps c.nothing-written.ensures.effects c.new-back.ensures.items;
+    }
