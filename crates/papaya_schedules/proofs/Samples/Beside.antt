@@ -21,7 +21,7 @@ use Rattle.papaya_schedules.specs.Waiting.{WaitsLawfully}
 use Rattle.papaya_schedules.specs.Linearizable.{IsLinearizable}
 use Rattle.papaya_schedules.specs.Handing.{MovesOn}
 use Rattle.papaya_schedules.specs.Reclaims.{IsProtected}
-use Rattle.papaya_schedules.proofs.Samples.Words.{no_yes, yes_no, found, one_two, four_two, found_none, goes_busy, done_busy, answered_busy, behind_there, zero_next, nothing_below, nothing_between, either, small, entry, spot, table, shape, makes_pair, makes_table, call}
+use Rattle.papaya_schedules.proofs.Samples.Words.{no_yes, yes_no, found, one_two, four_two, found_none, goes_busy, done_busy, behind_there, zero_next, nothing_below, nothing_between, either, small, entry, spot, table, shape, makes_pair, makes_table, call}
 use Rattle.papaya_schedules.proofs.Samples.Filled.{made, put_there}
 
 -- a map of two pairs; caller c asks about pair 1

@@ -1,12 +1,11 @@
 -- Calls that are stopped in their midst: one on a key may have changed its map once, a sweep many times, and either says so. And wrong runs.
 use Rattle.std.specs.Prelude.{codes, nat_eq}
 use Rattle.std.proofs.Common.{◌≡◌, ℕ, false, List, [], ◌∷◌, inl, inr, refl, arith, Some}
-use Rattle.seize_words.specs.declared.fault.Fault.TheVariants.{ZeroChunk, Busy, Memory}
-use Rattle.papaya_raw.specs.Given.Tables.declared.resize_mode.ResizeMode.TheVariants.{Incremental}
+use Rattle.seize_words.specs.declared.fault.Fault.TheVariants.{Busy, Memory}
 use Rattle.papaya_schedules.specs.declared.call.Call.TheVariants.{On, Clear}
 use Rattle.papaya_schedules.specs.declared.call.OneKey.TheVariants.{Get, Insert}
 use Rattle.papaya_schedules.specs.declared.call.Answer.TheVariants as answer
-use Rattle.papaya_schedules.specs.declared.event.Event.TheVariants.{DropGuard, MakeMap, Enter, Go, OneCall}
+use Rattle.papaya_schedules.specs.declared.event.Event.TheVariants.{DropGuard, Enter, Go, OneCall}
 use Rattle.papaya_schedules.specs.declared.effect.Effect.{Effect}
 use Rattle.papaya_schedules.specs.declared.effect.Effect.TheVariants.{Asked, PairMade, Stored, Replaced, Removed, Counted, Retired}
 use Rattle.papaya_schedules.specs.declared.effect.Growth.TheVariants.{ABlock}
