@@ -79,14 +79,15 @@ module _ {K V : Type 0} (map : ℕ) (known : Known) where
         by (Taken value) e = subst Then (sym e) still
         by (Roomed roomed) e = subst Then (sym e) still
 
+    -- with its counter
+    abbrev counted : ℕ → NewMap
+    counted b = record n { setting = new_map.with_counter n.setting b }
+
     shards_then : n.stands ≡ opens.Shards → (end : NewMap × Progress Setting) (out : Out (Node K V)) → Ends (value_at m2) (new_map.made n out) end → Then end
     shards_then is end out ends = by out ends
       where
         still : MayBeRefused did2 n.stands
         still = subst (MayBeRefused did2) (sym is) tt
-
-        abbrev counted : ℕ → NewMap
-        counted b = record n { setting = new_map.with_counter n.setting b }
 
         with_block : (b : ℕ) (q : Bool) → Then (if q then new_map.done (counted b) else new_map.goes (counted b) (opens.Tables (new_table.first_table (counted b).setting n.len)))
         with_block b true = tt
