@@ -40,9 +40,12 @@ impl Counts {
         ensures others { OnOk result ((other : List ℕ) → IsElsewhere name.now other → count_in other self.new ≡ count_in other self.old) }
         ensures err { OnErr result ((other : List ℕ) → count_in other self.new ≡ count_in other self.old) }
     {
-        let count = self.of(name);
+        if let Some(count) = self.by_name.get_mut(name.as_bytes()) {
+            *count += 1;
+            return Ok(());
+        }
         let name = Vec::from_slice(alloc, name.as_bytes())?;
-        self.by_name.insert(name, count + 1)?;
+        self.by_name.insert(name, 1)?;
         Ok(())
     }
 

@@ -1,4 +1,4 @@
-use Rattle.std.specs.Prelude.{nat_eq, IsSome, Some}
+use Rattle.std.specs.Prelude.{nat_eq, IsSome}
 use Rattle.std.specs.HashMap.{get_by}
 use Rattle.std.specs.Cmp.Lexicographic.{pointwise}
 use Rattle.std.proofs.Common.{◌≡◌, ◌-◌, ap, refl, sym, subst, arith, ◌∙◌}
