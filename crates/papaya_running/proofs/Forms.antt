@@ -1,6 +1,7 @@
--- Which events make no steps, and which forms an event may have.
+-- Which events make no steps, and wait for nothing, and which forms an event may have.
 use Rattle.std.specs.Prelude.{◌≡◌, ℕ, Bool, true, false, List, [], Option, Some, None}
 use Rattle.std.proofs.Common.{refl, sym, subst, arith}
+use Rattle.seize_words.specs.declared.fault.Fault.{Fault}
 use Rattle.seize_words.specs.declared.fault.Fault.TheVariants.{Busy}
 use Rattle.papaya_events.specs.Given.Tables.declared.resize_mode.ResizeMode.{ResizeMode}
 use Rattle.papaya_runs.specs.declared.event.Setup.{Setup}
@@ -12,10 +13,14 @@ use Rattle.papaya_schedules.specs.declared.event.Event.{Event}
 use Rattle.papaya_schedules.specs.declared.event.Event.TheVariants.{Collector, Hash, Choose, Register, Unregister, Enter, Own, Refresh, Flush, DropGuard, Forget, ReclaimAll, Close, MakeMap, EndMap, ShowShape, Begin, Step, Go, Replied, OneCall, Next, Stop}
 use Rattle.papaya_schedules.specs.declared.outcome.Outcome.{Outcome}
 use Rattle.papaya_schedules.specs.declared.outcome.Outcome.TheVariants.{Refused}
-use Rattle.papaya_schedules.specs.Entry.{caller_of}
+use Rattle.papaya_schedules.specs.After.{moment}
+use Rattle.papaya_schedules.specs.Effects.{worked}
+use Rattle.papaya_schedules.specs.Entry.{Entry, IfCall, acting, caller_of}
 use Rattle.papaya_schedules.specs.InTurn.{IsKeptOut}
-use Rattle.papaya_schedules.specs.Moment.{Stands}
+use Rattle.papaya_schedules.specs.Moment.{Moment, Stands, UnderWay}
 use Rattle.papaya_schedules.specs.Steps.{DoesFew, MakesSteps}
+use Rattle.papaya_schedules.specs.Waiting.{WaitsLawfully, WaitsRight}
+use Rattle.papaya_scheduler.proofs.Rights.{entry}
 use Rattle.papaya_events.specs.Asked.{is_of_calls, is_of_maps, takes_steps}
 
 -- what does nothing does few
@@ -54,31 +59,17 @@ module _ {K V : Type 0} where
   pub makes_none : (form : Event K V) → takes_steps form ≡ false → (stand : Stands) (steps : ℕ) → steps ≡ 0 → (o : Outcome V) → MakesSteps form stand steps o
   makes_none form so stand steps none o = subst (λ (n : ℕ). MakesSteps form stand n o) (sym none) (none_made form so stand o)
 
-  -- and its effects are of no call
+  -- it speaks of no call,
+  no_caller : (form : Event K V) → takes_steps form ≡ false → caller_of form ≡ None
+  no_caller (Step c refuse) so = absurd (cc so)
+  no_caller (Go c refuse) so = absurd (cc so)
+  no_caller (OneCall g n call) so = absurd (cc so)
+  no_caller (Next c) so = absurd (cc so)
+  no_caller _ so = refl
+
+  -- and its effects are of none
   pub does_none : (form : Event K V) → takes_steps form ≡ false → (steps : ℕ) (effects : List Effect) → DoesFew (caller_of form) steps effects
-  does_none (Collector setup) so steps effects = tt
-  does_none (Hash by) so steps effects = tt
-  does_none (Choose choice) so steps effects = tt
-  does_none (Register r) so steps effects = tt
-  does_none (Unregister r) so steps effects = tt
-  does_none (Enter g r) so steps effects = tt
-  does_none (Own g) so steps effects = tt
-  does_none (Refresh g) so steps effects = tt
-  does_none (Flush g) so steps effects = tt
-  does_none (DropGuard g) so steps effects = tt
-  does_none (Forget g) so steps effects = tt
-  does_none ReclaimAll so steps effects = tt
-  does_none Close so steps effects = tt
-  does_none (MakeMap n mode c) so steps effects = tt
-  does_none (EndMap n) so steps effects = tt
-  does_none (ShowShape n) so steps effects = tt
-  does_none (Begin c g n call) so steps effects = tt
-  does_none (Replied c reply) so steps effects = tt
-  does_none (Stop c) so steps effects = tt
-  does_none (Step c refuse) so steps effects = absurd (cc so)
-  does_none (Go c refuse) so steps effects = absurd (cc so)
-  does_none (OneCall g n call) so steps effects = absurd (cc so)
-  does_none (Next c) so steps effects = absurd (cc so)
+  does_none form so steps effects = subst (λ (own : Option (List ℕ)). DoesFew own steps effects) (sym (no_caller form so)) tt
 
   busy_makes : (form : Event K V) (stand : Stands) (o : Outcome V) → o ≡ Refused Busy → MakesSteps form stand 0 o
   busy_makes form stand o is = subst (λ (x : Outcome V). MakesSteps form stand 0 x) (sym is) refl
@@ -112,6 +103,22 @@ module _ {K V : Type 0} where
 
   pub makes_out : (form : Event K V) (stand : Stands) (steps : ℕ) → steps ≡ 0 → (o : Outcome V) → IsKeptOut form o → MakesSteps form stand steps o
   makes_out form stand steps none o out = subst (λ (n : ℕ). MakesSteps form stand n o) (sym none) (out_makes form stand o out)
+
+  -- nor does either wait
+  module _ (same : K → K → Bool) where
+    pub waits_none : (form : Event K V) → takes_steps form ≡ false → (o : Outcome V) (steps : ℕ) (effects : List Effect) (log : List (Entry K V)) → WaitsLawfully same log (entry form o steps effects)
+    waits_none form so o steps effects log =
+        let w = worked (entry form o steps effects) (moment log) in
+        subst (λ (own : Option (List ℕ)). IfCall (λ c. WaitsRight same o c w) (acting own w)) (sym (no_caller form so)) tt
+
+    refused_waits : (fault : Fault) (o : Outcome V) → o ≡ Refused fault → (c : Option (UnderWay K V)) (w : Moment K V) → IfCall (λ c. WaitsRight same o c w) c
+    refused_waits fault o is None w = tt
+    refused_waits fault o is (Some c) w = subst (λ (x : Outcome V). WaitsRight same x c w) (sym is) tt
+
+    pub waits_out : (form : Event K V) (o : Outcome V) → IsKeptOut form o → (steps : ℕ) (effects : List Effect) (log : List (Entry K V)) → WaitsLawfully same log (entry form o steps effects)
+    waits_out (MakeMap n mode c) o out steps effects log = waits_none (MakeMap n mode c) refl o steps effects log
+    waits_out form o out steps effects log =
+        let w = worked (entry form o steps effects) (moment log) in refused_waits Busy o out (acting (caller_of form) w) w
 
   -- An event of calls has one of these forms,
   pub some_call : (e : Event K V) → is_of_calls e ≡ true
