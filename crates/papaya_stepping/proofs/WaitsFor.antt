@@ -1,7 +1,7 @@
 -- A call on one key that waits, waits for a call that the moment tells, for which it may wait, in incremental mode for the copying of its key's pair alone; and its step has changed nothing.
 use Rattle.std.specs.Prelude.{Option, Some}
 use Rattle.std.specs.List.{list_any}
-use Rattle.std.proofs.Common.{◌≡◌, ℕ, suc, ◌⊎◌, inl, inr, Bool, true, false, refl, ap, sym, subst}
+use Rattle.std.proofs.Common.{◌≡◌, ℕ, suc, ◌<◌, ◌⊎◌, inl, inr, Bool, true, false, refl, ap, sym, subst, ◌∙◌}
 use Rattle.papaya_scheduler.specs.Given.Waits.Others.{copier_in}
 use Rattle.papaya_scheduler.specs.Given.SeizeWords.Mem.{Mem, Took, value_at}
 use Rattle.papaya_scheduler.specs.Given.SeizeWords.Plan.{Steps}
