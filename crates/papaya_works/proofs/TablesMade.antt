@@ -1,5 +1,5 @@
 -- A making of a map has made as many tables as its map has, and one more while it has that in hand.
-use Rattle.std.specs.Prelude.{◌≡◌, ◌+◌, ◌==◌, ℕ, Bool, true, false, List, [], ◌∷◌, ◌++◌, length, filter, Option, Some, None}
+use Rattle.std.specs.Prelude.{◌≡◌, ◌+◌, ◌==◌, ℕ, Bool, true, false, List, [], ◌∷◌, ◌++◌, length, filter, Option, Some, None, if◌then◌else◌}
 use Rattle.std.specs.List.{list_all}
 use Rattle.std.proofs.Common.{refl, ap, sym, subst, ◌∙◌, arith, length-append}
 use Rattle.std.proofs.lemmas.Bool.{and_parts, eq-eqb}
@@ -35,6 +35,9 @@ use Rattle.papaya_legal.proofs.Given.Owes.Tables.Roles.{of_table, NoneOfTable}
 use Rattle.papaya_works.specs.Makings.{CountsTables, MakingsCountTables, in_hand, table_left}
 use Rattle.papaya_works.proofs.Makings.{makings_do_theirs}
 
+abbrev linked : Table → TableShape → TableThere
+linked t shape = record { table = t; shape = shape; stage = AtLinked }
+
 -- Of the effects of a making those that say nothing of tables make none, and the map has as many as before.
 module _ {K V : Type 0} (map : ℕ) (of : Option ℕ) where
   abbrev LeavesMany : List Effect → Moment K V → Type 0
@@ -55,9 +58,9 @@ module _ {K V : Type 0} (map : ℕ) (of : Option ℕ) where
   -- one that links a table brings it to the map
   one_more : (t : Table) (shape : TableShape) (m : Moment K V) → t.map ≡ map → length (tables_of map (with_effects None of (effect.Linked t shape ∷ []) m)) ≡ length (tables_of map m) + 1
   one_more t shape m its =
-      ap length (filter-append (λ (u : TableThere). u.table.map == map) m.tables (record { table = t; shape = shape; stage = AtLinked } ∷ []))
-      ∙ length-append (tables_of map m) (filter (λ (u : TableThere). u.table.map == map) (record { table = t; shape = shape; stage = AtLinked } ∷ []))
-      ∙ ap (λ (q : Bool). length (tables_of map m) + length (if q then record { table = t; shape = shape; stage = AtLinked } ∷ [] else [])) (eq-eqb t.map map its)
+      ap length (filter-append (λ (u : TableThere). u.table.map == map) m.tables (linked t shape ∷ []))
+      ∙ length-append (tables_of map m) (filter (λ (u : TableThere). u.table.map == map) (linked t shape ∷ []))
+      ∙ ap (λ (q : Bool). length (tables_of map m) + length (if q then linked t shape ∷ [] else [])) (eq-eqb t.map map its)
 
 module _ {K V S : Type 0} (same : K → K → Bool) (hash : K → ℕ) (name : ℕ → List ℕ) (m : Moment K V) (known : Known) (s : Scene K V) (old new : Executor K V S) (at_s : IsAt same hash old s)
     (shown : Shows same name m known s) (tables : ShowsTables name m known s) (i : ℕ) (told : Progress Setting) (leads : MakingLeads same hash i told s old new)

@@ -74,7 +74,7 @@ module _ {K V S : Type 0} (same : K → K → Bool) (hash : K → ℕ) (s : Scen
   is_there (progress.Refused fault) leads = (leads b here).3
 
   -- and until the last step the making is under way, and the map is as new
-  making_on : (said : Progress Setting) (leads : Leads said) → is_over said ≡ false → (next_scene said leads).makers i ≡ Some (record b { machine = (leads b here).0 })
+  pub making_on : (said : Progress Setting) (leads : Leads said) → is_over said ≡ false → (next_scene said leads).makers i ≡ Some (record b { machine = (leads b here).0 })
   making_on progress.Goes leads more = at_same s.makers i (Some (record b { machine = (leads b here).0 })) i refl
   making_on progress.Waits leads more = absurd (leads b here).3
   making_on (progress.Done setting) leads more = absurd (cc more)
