@@ -12,5 +12,6 @@ mod CallerFound
 mod Turns
 mod Counts
 mod Held
+mod Kinds
 pub mod Joined
 mod Classes
