@@ -1,13 +1,8 @@
 -- Which events make no steps, and wait for nothing, and which forms an event may have.
-use Rattle.std.specs.Prelude.{◌≡◌, ℕ, Bool, true, false, List, [], Option, Some, None}
+use Rattle.std.specs.Prelude.{◌≡◌, ℕ, Bool, false, List, [], Option, Some, None}
 use Rattle.std.proofs.Common.{refl, sym, subst, arith}
 use Rattle.seize_words.specs.declared.fault.Fault.{Fault}
 use Rattle.seize_words.specs.declared.fault.Fault.TheVariants.{Busy}
-use Rattle.papaya_events.specs.Given.Tables.declared.resize_mode.ResizeMode.{ResizeMode}
-use Rattle.papaya_runs.specs.declared.event.Setup.{Setup}
-use Rattle.papaya_runs.specs.declared.key_hash.KeyHash.{KeyHash}
-use Rattle.papaya_schedules.specs.declared.call.Call.{Call}
-use Rattle.papaya_schedules.specs.declared.call.Reply.{Reply}
 use Rattle.papaya_schedules.specs.declared.effect.Effect.{Effect}
 use Rattle.papaya_schedules.specs.declared.event.Event.{Event}
 use Rattle.papaya_schedules.specs.declared.event.Event.TheVariants.{Collector, Hash, Choose, Register, Unregister, Enter, Own, Refresh, Flush, DropGuard, Forget, ReclaimAll, Close, MakeMap, EndMap, ShowShape, Begin, Step, Go, Replied, OneCall, Next, Stop}
@@ -21,7 +16,7 @@ use Rattle.papaya_schedules.specs.Moment.{Moment, Stands, UnderWay}
 use Rattle.papaya_schedules.specs.Steps.{DoesFew, MakesSteps}
 use Rattle.papaya_schedules.specs.Waiting.{WaitsLawfully, WaitsRight}
 use Rattle.papaya_scheduler.proofs.Rights.{entry}
-use Rattle.papaya_events.specs.Asked.{is_of_calls, is_of_maps, takes_steps}
+use Rattle.papaya_events.specs.Asked.{takes_steps}
 
 -- what does nothing does few
 pub does_nothing : (own : Option (List ℕ)) (steps : ℕ) (effects : List Effect) → effects ≡ [] → DoesFew own steps effects
@@ -119,87 +114,3 @@ module _ {K V : Type 0} where
     waits_out (MakeMap n mode c) o out steps effects log = waits_none (MakeMap n mode c) refl o steps effects log
     waits_out form o out steps effects log =
         let w = worked (entry form o steps effects) (moment log) in refused_waits Busy o out (acting (caller_of form) w) w
-
-  -- An event of calls has one of these forms,
-  pub some_call : (e : Event K V) → is_of_calls e ≡ true
-      → ((c g n : List ℕ) (call : Call K V) → e ≡ Begin c g n call → ⊥) → ((c : List ℕ) (refuse : Bool) → e ≡ Step c refuse → ⊥) → ((c : List ℕ) (refuse : Bool) → e ≡ Go c refuse → ⊥)
-      → ((c : List ℕ) (reply : Reply V) → e ≡ Replied c reply → ⊥) → ((g n : List ℕ) (call : Call K V) → e ≡ OneCall g n call → ⊥) → ((c : List ℕ) → e ≡ Next c → ⊥) → ((c : List ℕ) → e ≡ Stop c → ⊥) → ⊥
-  some_call (Begin c g n call) is a b d h i j k = a c g n call refl
-  some_call (Step c refuse) is a b d h i j k = b c refuse refl
-  some_call (Go c refuse) is a b d h i j k = d c refuse refl
-  some_call (Replied c reply) is a b d h i j k = h c reply refl
-  some_call (OneCall g n call) is a b d h i j k = i g n call refl
-  some_call (Next c) is a b d h i j k = j c refl
-  some_call (Stop c) is a b d h i j k = k c refl
-  some_call (Collector setup) is a b d h i j k = cc is
-  some_call (Hash by) is a b d h i j k = cc is
-  some_call (Choose choice) is a b d h i j k = cc is
-  some_call (Register r) is a b d h i j k = cc is
-  some_call (Unregister r) is a b d h i j k = cc is
-  some_call (Enter g r) is a b d h i j k = cc is
-  some_call (Own g) is a b d h i j k = cc is
-  some_call (Refresh g) is a b d h i j k = cc is
-  some_call (Flush g) is a b d h i j k = cc is
-  some_call (DropGuard g) is a b d h i j k = cc is
-  some_call (Forget g) is a b d h i j k = cc is
-  some_call ReclaimAll is a b d h i j k = cc is
-  some_call Close is a b d h i j k = cc is
-  some_call (MakeMap n mode c) is a b d h i j k = cc is
-  some_call (EndMap n) is a b d h i j k = cc is
-  some_call (ShowShape n) is a b d h i j k = cc is
-
-  -- one of maps one of these,
-  pub some_map : (e : Event K V) → is_of_maps e ≡ true
-      → ((n : List ℕ) (mode : ResizeMode) (c : ℕ) → e ≡ MakeMap n mode c → ⊥) → ((n : List ℕ) → e ≡ EndMap n → ⊥) → ((n : List ℕ) → e ≡ ShowShape n → ⊥) → (e ≡ ReclaimAll → ⊥) → (e ≡ Close → ⊥) → ⊥
-  some_map (MakeMap n mode c) is a b d h i = a n mode c refl
-  some_map (EndMap n) is a b d h i = b n refl
-  some_map (ShowShape n) is a b d h i = d n refl
-  some_map ReclaimAll is a b d h i = h refl
-  some_map Close is a b d h i = i refl
-  some_map (Collector setup) is a b d h i = cc is
-  some_map (Hash by) is a b d h i = cc is
-  some_map (Choose choice) is a b d h i = cc is
-  some_map (Register r) is a b d h i = cc is
-  some_map (Unregister r) is a b d h i = cc is
-  some_map (Enter g r) is a b d h i = cc is
-  some_map (Own g) is a b d h i = cc is
-  some_map (Refresh g) is a b d h i = cc is
-  some_map (Flush g) is a b d h i = cc is
-  some_map (DropGuard g) is a b d h i = cc is
-  some_map (Forget g) is a b d h i = cc is
-  some_map (Begin c g n call) is a b d h i = cc is
-  some_map (Step c refuse) is a b d h i = cc is
-  some_map (Go c refuse) is a b d h i = cc is
-  some_map (Replied c reply) is a b d h i = cc is
-  some_map (OneCall g n call) is a b d h i = cc is
-  some_map (Next c) is a b d h i = cc is
-  some_map (Stop c) is a b d h i = cc is
-
-  -- and any other one of these.
-  pub some_slot : (e : Event K V) → is_of_maps e ≡ false → is_of_calls e ≡ false
-      → ((setup : Setup) → e ≡ Collector setup → ⊥) → ((by : KeyHash) → e ≡ Hash by → ⊥) → ((choice : ℕ) → e ≡ Choose choice → ⊥) → ((r : List ℕ) → e ≡ Register r → ⊥) → ((r : List ℕ) → e ≡ Unregister r → ⊥)
-      → ((g r : List ℕ) → e ≡ Enter g r → ⊥) → ((g : List ℕ) → e ≡ Own g → ⊥) → ((g : List ℕ) → e ≡ Refresh g → ⊥) → ((g : List ℕ) → e ≡ Flush g → ⊥) → ((g : List ℕ) → e ≡ DropGuard g → ⊥)
-      → ((g : List ℕ) → e ≡ Forget g → ⊥) → ⊥
-  some_slot (Collector setup) no_map no_call a b d f h i j k l m n = a setup refl
-  some_slot (Hash by) no_map no_call a b d f h i j k l m n = b by refl
-  some_slot (Choose choice) no_map no_call a b d f h i j k l m n = d choice refl
-  some_slot (Register r) no_map no_call a b d f h i j k l m n = f r refl
-  some_slot (Unregister r) no_map no_call a b d f h i j k l m n = h r refl
-  some_slot (Enter g r) no_map no_call a b d f h i j k l m n = i g r refl
-  some_slot (Own g) no_map no_call a b d f h i j k l m n = j g refl
-  some_slot (Refresh g) no_map no_call a b d f h i j k l m n = k g refl
-  some_slot (Flush g) no_map no_call a b d f h i j k l m n = l g refl
-  some_slot (DropGuard g) no_map no_call a b d f h i j k l m n = m g refl
-  some_slot (Forget g) no_map no_call a b d f h i j k l m n = n g refl
-  some_slot ReclaimAll no_map no_call a b d f h i j k l m n = cc no_map
-  some_slot Close no_map no_call a b d f h i j k l m n = cc no_map
-  some_slot (MakeMap name mode c) no_map no_call a b d f h i j k l m n = cc no_map
-  some_slot (EndMap name) no_map no_call a b d f h i j k l m n = cc no_map
-  some_slot (ShowShape name) no_map no_call a b d f h i j k l m n = cc no_map
-  some_slot (Begin c g name call) no_map no_call a b d f h i j k l m n = cc no_call
-  some_slot (Step c refuse) no_map no_call a b d f h i j k l m n = cc no_call
-  some_slot (Go c refuse) no_map no_call a b d f h i j k l m n = cc no_call
-  some_slot (Replied c reply) no_map no_call a b d f h i j k l m n = cc no_call
-  some_slot (OneCall g name call) no_map no_call a b d f h i j k l m n = cc no_call
-  some_slot (Next c) no_map no_call a b d f h i j k l m n = cc no_call
-  some_slot (Stop c) no_map no_call a b d f h i j k l m n = cc no_call

@@ -12,6 +12,6 @@ mod CallerFound
 mod Turns
 mod Counts
 mod Held
-mod Kinds
+mod OfKinds
 pub mod Joined
 mod Classes

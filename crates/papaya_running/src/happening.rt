@@ -33,7 +33,7 @@ fn of_maps<K: Eq + Hash + Drop, V: Drop, S: Hashes<K>>(
     requires { MayHappenDue K.eq (S.hash scheduler.old.logged.executor.hasher) (event_of_maps event) scheduler.old }
     ensures happens { IfOk result (λ played. HappensDue K.eq (S.hash scheduler.old.logged.executor.hasher) is_first (event_of_maps event) played scheduler.old scheduler.new) }
     ensures back { IfOk result (λ played. GivesDue K.eq (S.hash scheduler.old.logged.executor.hasher) (event_of_maps event) played scheduler.old back.old.items back.new.items) }
-    ensures count { IfOk result (λ played. length scheduler.new.logged.executor.maps.items ≡ numbers_on (event_of_maps event) played.outcome (length scheduler.old.logged.executor.maps.items)) }
+    ensures count { IfOk result (λ played. length scheduler.new.logged.executor.maps.items ≡ numbers_on (event_of_maps {K = K} {V = V} event) played.outcome (length scheduler.old.logged.executor.maps.items)) }
     ensures rows { IfOk result (λ played. KeepsRun K.eq (S.hash scheduler.old.logged.executor.hasher) (event_of_maps event) played scheduler.old scheduler.new) }
     ensures setups { IfOk result (λ played. KeepsSetup K.eq (S.hash scheduler.old.logged.executor.hasher) (event_of_maps event) played scheduler.old scheduler.new) }
     ensures all { IfOk result (λ played. KeepsAll K.eq (S.hash scheduler.old.logged.executor.hasher) (event_of_maps event) played scheduler.old scheduler.new) }

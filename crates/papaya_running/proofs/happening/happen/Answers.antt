@@ -17,7 +17,7 @@ use Rattle.papaya_events.proofs.OfAll.{all_out, calls_give_none, none_keep, slot
 use Rattle.papaya_events.proofs.OfCalls.Happens.{other_keeps, out_keeps, turn_keeps}
 use Rattle.papaya_events.proofs.OfRows.Kept.{calls_keep, kept_in_turn, kept_out}
 use Rattle.papaya_events.proofs.OfSetups.{calls_set_none, none_set, setup_out}
-use Rattle.papaya_running.proofs.Kinds.{a_call, maps_no_call, no_maps, slots_no_call}
+use Rattle.papaya_running.proofs.OfKinds.{a_call, maps_no_call, no_maps, slots_no_call}
 use Rattle.papaya_running.proofs.happening.happen.Goals as goal
 
 pub returns-then-scheduler : goal.returns-then-scheduler
@@ -83,7 +83,7 @@ returns-in-OfMaps g c =
       back = subst (λ event. IfOk c.of_maps.result (λ played. GivesAt g.K.PartialEq.eq (g.S.Hashes.hash c.args.scheduler.now.logged.executor.hasher) event played c.args.scheduler.now c.args.back.now.items c.of_maps.new.back.items)) is
           (gave_in_turn g.K.PartialEq.eq (g.S.Hashes.hash c.args.scheduler.now.logged.executor.hasher) (event_of_maps c.in-OfMaps.event) c.args.scheduler.now c.of_maps.result c.args.back.now.items c.of_maps.new.back.items c.of_maps.ensures.back c.if-scheduler.false);
       keeps = subst (λ event. IfOk c.of_maps.result (λ played. KeepsAt g.K.PartialEq.eq (g.S.Hashes.hash c.args.scheduler.now.logged.executor.hasher) event played c.args.scheduler.now c.of_maps.new.scheduler)) is
-          (other_keeps g.K.PartialEq.eq (g.S.Hashes.hash c.args.scheduler.now.logged.executor.hasher) (event_of_maps c.in-OfMaps.event) c.args.scheduler.now c.of_maps.new.scheduler (maps_no_call c.in-OfMaps.event) c.of_maps.result);
+          (other_keeps g.K.PartialEq.eq (g.S.Hashes.hash c.args.scheduler.now.logged.executor.hasher) (event_of_maps c.in-OfMaps.event) c.args.scheduler.now c.of_maps.new.scheduler (maps_no_call _ _ c.in-OfMaps.event) c.of_maps.result);
       setups = subst (λ event. IfOk c.of_maps.result (λ played. KeepsSetup g.K.PartialEq.eq (g.S.Hashes.hash c.args.scheduler.now.logged.executor.hasher) event played c.args.scheduler.now c.of_maps.new.scheduler)) is
           (c.of_maps.ensures.setups);
       all = subst (λ event. IfOk c.of_maps.result (λ played. KeepsAll g.K.PartialEq.eq (g.S.Hashes.hash c.args.scheduler.now.logged.executor.hasher) event played c.args.scheduler.now c.of_maps.new.scheduler)) is
@@ -102,14 +102,14 @@ returns-in-OfSlots g c =
       happens = subst (λ event. IfOk c.of_slots.result (λ played. HappensAt g.K.PartialEq.eq (g.S.Hashes.hash c.args.scheduler.now.logged.executor.hasher) c.args.is_first event played c.args.scheduler.now c.of_slots.new.scheduler)) is
           (in_turn_if g.K.PartialEq.eq (g.S.Hashes.hash c.args.scheduler.now.logged.executor.hasher) (event_of_slots c.in-OfSlots.event) c.args.scheduler.now c.args.is_first c.of_slots.new.scheduler c.of_slots.result c.of_slots.ensures.happens c.if-scheduler.false);
       holds = subst (λ event. IfOk c.of_slots.result (λ played. HoldsThen g.K.PartialEq.eq (g.S.Hashes.hash c.args.scheduler.now.logged.executor.hasher) c.args.is_first event played c.args.scheduler.now c.of_slots.new.scheduler)) is
-          (holds_if g.K.PartialEq.eq (g.S.Hashes.hash c.args.scheduler.now.logged.executor.hasher) (event_of_slots c.in-OfSlots.event) c.args.is_first c.args.scheduler.now c.of_slots.new.scheduler (c.of_slots.ensures.given.0, c.of_slots.ensures.given.1, c.of_slots.ensures.given.2) c.of_slots.result (in_turn_if g.K.PartialEq.eq (g.S.Hashes.hash c.args.scheduler.now.logged.executor.hasher) (event_of_slots c.in-OfSlots.event) c.args.scheduler.now c.args.is_first c.of_slots.new.scheduler c.of_slots.result c.of_slots.ensures.happens c.if-scheduler.false) (counts_still (event_of_slots c.in-OfSlots.event) c.of_slots.result (length c.args.scheduler.now.logged.executor.maps.items) (length c.of_slots.new.scheduler.logged.executor.maps.items) (slots_make_none (event_of_slots c.in-OfSlots.event) (no_maps c.in-OfSlots.event)) c.of_slots.ensures.given.3));
+          (holds_if g.K.PartialEq.eq (g.S.Hashes.hash c.args.scheduler.now.logged.executor.hasher) (event_of_slots c.in-OfSlots.event) c.args.is_first c.args.scheduler.now c.of_slots.new.scheduler (c.of_slots.ensures.given.0, c.of_slots.ensures.given.1, c.of_slots.ensures.given.2) c.of_slots.result (in_turn_if g.K.PartialEq.eq (g.S.Hashes.hash c.args.scheduler.now.logged.executor.hasher) (event_of_slots c.in-OfSlots.event) c.args.scheduler.now c.args.is_first c.of_slots.new.scheduler c.of_slots.result c.of_slots.ensures.happens c.if-scheduler.false) (counts_still (event_of_slots c.in-OfSlots.event) c.of_slots.result (length c.args.scheduler.now.logged.executor.maps.items) (length c.of_slots.new.scheduler.logged.executor.maps.items) (slots_make_none (event_of_slots c.in-OfSlots.event) (no_maps _ _ c.in-OfSlots.event)) c.of_slots.ensures.given.3));
       back = subst (λ event. IfOk c.of_slots.result (λ played. GivesAt g.K.PartialEq.eq (g.S.Hashes.hash c.args.scheduler.now.logged.executor.hasher) event played c.args.scheduler.now c.args.back.now.items c.of_slots.new.back.items)) is
           (gave_in_turn g.K.PartialEq.eq (g.S.Hashes.hash c.args.scheduler.now.logged.executor.hasher) (event_of_slots c.in-OfSlots.event) c.args.scheduler.now c.of_slots.result c.args.back.now.items c.of_slots.new.back.items c.of_slots.ensures.back c.if-scheduler.false);
       keeps = subst (λ event. IfOk c.of_slots.result (λ played. KeepsAt g.K.PartialEq.eq (g.S.Hashes.hash c.args.scheduler.now.logged.executor.hasher) event played c.args.scheduler.now c.of_slots.new.scheduler)) is
-          (other_keeps g.K.PartialEq.eq (g.S.Hashes.hash c.args.scheduler.now.logged.executor.hasher) (event_of_slots c.in-OfSlots.event) c.args.scheduler.now c.of_slots.new.scheduler (slots_no_call c.in-OfSlots.event) c.of_slots.result);
+          (other_keeps g.K.PartialEq.eq (g.S.Hashes.hash c.args.scheduler.now.logged.executor.hasher) (event_of_slots c.in-OfSlots.event) c.args.scheduler.now c.of_slots.new.scheduler (slots_no_call _ _ c.in-OfSlots.event) c.of_slots.result);
       setups = subst (λ event. IfOk c.of_slots.result (λ played. KeepsSetup g.K.PartialEq.eq (g.S.Hashes.hash c.args.scheduler.now.logged.executor.hasher) event played c.args.scheduler.now c.of_slots.new.scheduler)) is
           (c.of_slots.ensures.setups);
       all = subst (λ event. IfOk c.of_slots.result (λ played. KeepsAll g.K.PartialEq.eq (g.S.Hashes.hash c.args.scheduler.now.logged.executor.hasher) event played c.args.scheduler.now c.of_slots.new.scheduler)) is
-          (none_keep g.K.PartialEq.eq (g.S.Hashes.hash c.args.scheduler.now.logged.executor.hasher) (event_of_slots c.in-OfSlots.event) c.args.scheduler.now c.of_slots.new.scheduler (slots_give_none (event_of_slots c.in-OfSlots.event) (no_maps c.in-OfSlots.event)) c.of_slots.result);
+          (none_keep g.K.PartialEq.eq (g.S.Hashes.hash c.args.scheduler.now.logged.executor.hasher) (event_of_slots c.in-OfSlots.event) c.args.scheduler.now c.of_slots.new.scheduler (slots_give_none (event_of_slots c.in-OfSlots.event) (no_maps _ _ c.in-OfSlots.event)) c.of_slots.result);
       given = (c.of_slots.ensures.given.0, c.of_slots.ensures.given.1, c.of_slots.ensures.given.2);
     }

@@ -98,8 +98,6 @@ returns-in-Forget-clause-happens g c =
     let plays = c.forget.ensures.plays g.K.PartialEq.eq (g.S.Hashes.hash c.args.scheduler.now.logged.executor.hasher) in
     still g.K.PartialEq.eq (g.S.Hashes.hash c.args.scheduler.now.logged.executor.hasher) (event_of_slots c.args.event) _ (ap event_of_slots c.in-Forget.is) c.args.scheduler.now c.args.is_first c.forget.new.self refl c.forget.result c.forget.ensures.steps c.forget.ensures.quiet
     (λ terms log first holds out. plays terms log (due_so g.K.PartialEq.eq (g.S.Hashes.hash c.args.scheduler.now.logged.executor.hasher) (event_of_slots c.args.event) _ (ap event_of_slots c.in-Forget.is) c.args.scheduler.now terms log holds out))
-    let d = c.in_default in
-    some_slot (event_of_slots c.args.event) c.requires.no_maps c.requires.no_calls d.not-Collector d.not-Hash d.not-Choose d.not-Register d.not-Unregister d.not-Enter d.not-Own d.not-Refresh d.not-Flush d.not-DropGuard d.not-Forget
 
 pub returns-in-Collector-clause-back : goal.returns-in-Collector-clause-back
 returns-in-Collector-clause-back g c = gave_none g.K.PartialEq.eq (g.S.Hashes.hash c.args.scheduler.now.logged.executor.hasher) (event_of_slots c.args.event) _ (ap event_of_slots c.in-Collector.is) c.args.scheduler.now (λ did none. none) c.collector.result c.args.back.now.items
