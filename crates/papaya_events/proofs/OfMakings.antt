@@ -1,5 +1,5 @@
 -- An event that makes a map keeps its promises, and a run goes on with it, whether the map was made or its making was refused.
-use Rattle.std.specs.Prelude.{◌≡◌, ◌≤◌, ◌⊎◌, ◌==◌, ◌&&◌, ◌<◌, ◌+◌, ◌-◌, ◌^◌, ◌++◌, if◌then◌else◌, nat_le, ℕ, suc, Bool, true, false, List, [], ◌∷◌, find, is_none, length, max, not, nat_lt, cond, Option, Some, None, option_map, slice_index_or, Result, Ok, Err, IfOk}
+use Rattle.std.specs.Prelude.{◌≡◌, ◌≤◌, ◌⊎◌, ◌==◌, ◌<◌, ◌+◌, ◌-◌, ◌^◌, ◌++◌, if◌then◌else◌, nat_le, ℕ, suc, Bool, true, false, List, [], ◌∷◌, filter, find, is_none, length, max, cond, Option, Some, None, option_map, slice_index_or, Result, Ok, Err, IfOk}
 use Rattle.std.specs.List.{AllByRecursion}
 use Rattle.std.proofs.Common.{refl, sym, ap, subst, inl, inr, ◌∙◌, arith}
 use Rattle.std.proofs.lemmas.Bool.{eq-eqb, ne_eqb}
@@ -27,7 +27,7 @@ use Rattle.papaya_folded.specs.Given.Schedules.After.{moment}
 use Rattle.papaya_folded.specs.Given.Schedules.Beginning.{used_roots, with_map}
 use Rattle.papaya_folded.specs.Given.Schedules.Effects.{with_effects, worked}
 use Rattle.papaya_folded.specs.Given.Schedules.Entry.{Entry}
-use Rattle.papaya_folded.specs.Given.Schedules.Handing.{IsWhole, is_first_making, may_do, tables_named}
+use Rattle.papaya_folded.specs.Given.Schedules.Handing.{IsWhole, is_first_making, is_table_made, may_do, tables_named}
 use Rattle.papaya_folded.specs.Given.Schedules.InTurn.{ComesRight}
 use Rattle.papaya_folded.specs.Given.Schedules.Lists.{least_free}
 use Rattle.papaya_folded.specs.Given.Schedules.Moment.{MapThere, Moment}
@@ -45,6 +45,7 @@ use Rattle.papaya_folded.specs.Given.Legal.Chains.{Chain as StepChain, Come, Mak
 use Rattle.papaya_folded.specs.Given.Legal.MapEvents.{InMakingEvent}
 use Rattle.papaya_folded.proofs.Given.Legal.Chains.{makings_run_to_their_ends}
 use Rattle.papaya_folded.proofs.Given.Legal.MapsOver.{making_events_begin_so}
+use Rattle.papaya_works.specs.Makings.{CountsTables, table_left}
 use Rattle.papaya_works.proofs.Firsts.{makings_open}
 use Rattle.papaya_folded.specs.Given.Reclaims.Left.{LeftAmong}
 use Rattle.papaya_folded.specs.Given.Logged.Goes.{far}
@@ -71,7 +72,7 @@ use Rattle.papaya_events.specs.OfCalls.{HaveShards, Runs, RunsOn}
 use Rattle.papaya_events.specs.OfRows.{KeepsRun}
 use Rattle.papaya_works.proofs.Reached.{makings_note_more}
 use Rattle.papaya_events.proofs.OfMakings.Begun.{begun_as, begun_in, begun_shown, none_begun}
-use Rattle.papaya_events.proofs.OfMakings.Chain.{HasFound, MakingComes, Midway, comes_on, found_on, makings_come, masks}
+use Rattle.papaya_events.proofs.OfMakings.Chain.{HasFound, MakingComes, Midway, comes_on, counts_on, found_on, makings_come, masks}
 use Rattle.papaya_events.proofs.OfMakings.Unmade.{refused_runs}
 use Rattle.papaya_events.proofs.OfRows.Chain.{come_by}
 use Rattle.papaya_events.proofs.OfRows.Lone.{alone_follows}
@@ -220,6 +221,7 @@ module _ {K V S : Type 0} (same : K → K → Bool) (hash : K → ℕ) (terms : 
         openings = makings_open K V s (λ j c makes. absurd (let none = nobody_makes same hash terms m old run.stands j in cc (none, makes))) i b d.given old.logged.executor.roots d.places refl;
         there_is = there_so;
       },
+      (let none = ap length is_new.no_tables in omega (arith, none)),
     )
 
     prev : Midway same hash terms name log own mode capacity i b bm there d.faultless d.places_are below setting s.maps d.gone.1.0 x d.gone.0
@@ -284,11 +286,26 @@ module _ {K V S : Type 0} (same : K → K → Bool) (hash : K → ℕ) (terms : 
         (found_alike named_of_map named_of_map bw.maps bm.maps (maps_named None (Some b.map) effects bm) (λ (z : List ℕ × ℕ). is_same z.0 own))
         ∙ named_number (map_of own bm) ∙ named_so
 
+    -- and has made no other
+    told_all : CountsTables b.map effects y.now None
+    told_all =
+        subst (λ (t : Progress Setting). CountsTables b.map effects y.now (table_left (d.gone.3.leads same hash prev.0.scene prev.0.is_at (record b { machine = prev.1.0 }) prev.1.1).0 t)) d.gone.4
+        (counts_on same hash terms name log own mode capacity i b bm there d.faultless d.places_are below d.gone.1.0 x d.gone.0 (far effects mid) prev.0 s.maps prev.1 d.gone.3 was setting prev.2 prev.3 prev.4)
+
+    made_tables : length (tables_of b.map bw) ≡ length (filter is_table_made effects)
+    made_tables =
+        let all : length (filter is_table_made effects) ≡ length (tables_of b.map y.now) + 0 = told_all in
+        let same_now = ap (λ (v : Moment K V). length (tables_of b.map v)) y.midst.0.worked in
+        omega (arith, all, same_now)
+
+    abbrev HasTables : Option ℕ → Moment K V → Type 0
+    HasTables o v = (tables_named o v ≡ length (filter is_table_made effects)) × (tables_named o v ≡ (if capacity == 0 then 0 else 1))
+
     whole : IsWhole event Done effects m (worked e m)
     whole =
-        subst (λ (o : Option ℕ). tables_named (number_of own (with_effects None o effects bm)) (with_effects None o effects bm) ≡ (if capacity == 0 then 0 else 1)) (sym named_so)
-        (subst (λ (o : Option ℕ). tables_named o bw ≡ (if capacity == 0 then 0 else 1)) (sym number_still)
-        (has_table ∙ ap (λ (n : ℕ). if n == 0 then 0 else 1) d.places_are ∙ some_places capacity))
+        subst (λ (o : Option ℕ). HasTables (number_of own (with_effects None o effects bm)) (with_effects None o effects bm)) (sym named_so)
+        (subst (λ (o : Option ℕ). HasTables o bw) (sym number_still)
+        (made_tables, has_table ∙ ap (λ (n : ℕ). if n == 0 then 0 else 1) d.places_are ∙ some_places capacity))
 
     it : ComesRight terms log e → IsLegalBut same terms log e × ShowsRun same name terms (e ∷ log) (known mid.notes) y.scene
     it right =

@@ -10,6 +10,7 @@ use Rattle.papaya_folded.specs.Given.Schedules.Entry.{Entry, acting, caller_of}
 use Rattle.papaya_folded.specs.Given.Schedules.Moment.{Moment}
 use Rattle.papaya_folded.specs.Given.Schedules.Steps.{DoesFew, MakesSteps, stands_or}
 use Rattle.papaya_folded.specs.Given.Schedules.Terms.{Terms}
+use Rattle.papaya_folded.specs.Given.Schedules.Waiting.{WaitsLawfully}
 use Rattle.papaya_scheduler.specs.Mapping.{CountsMaps, numbers_made}
 use Rattle.papaya_scheduler.specs.Played.{Plays, StandsFor, entry_of, IsPlayed}
 use Rattle.papaya_scheduler.specs.Quiet.{IsQuiet}
@@ -72,13 +73,14 @@ module _ {K V S : Type 0} (same : K → K → Bool) (hash : K → ℕ) where
     pub counts : CountsMaps m p
     pub gives : MayGiveAll p stands.scene
 
-  -- What is promised of an event: the scheduler has played the log with it; it comes to what is right, where it finds what it must; it makes as many steps as it may, and does not more; and where it
-  -- is refused as busy, it did nothing.
+  -- What is promised of an event: the scheduler has played the log with it; it comes to what is right, where it finds what it must; it makes as many steps as it may, and does not more; it waits
+  -- where it may; and where it is refused as busy, it did nothing.
   pub record Happens (terms : Terms) (log : List (Entry K V)) (e : Entry K V) (p : Scheduler K V S) : Type 0 where
     pub played : IsPlayed same hash terms (e ∷ log) p
     pub plays : FindsRight terms log e → Plays same hash terms log e p
     pub makes : MakesSteps e.event (stands_or (acting (caller_of e.event) (at_work e (moment log)))) e.steps e.outcome
     pub does : DoesFew (caller_of e.event) e.steps e.effects
+    pub waits : WaitsLawfully same log e
     pub is_quiet : IsQuiet e.outcome e.effects
 
   -- an event may happen, kept out or not,

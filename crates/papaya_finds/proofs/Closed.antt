@@ -1,10 +1,10 @@
 -- Once the collector has ended nothing comes any more: each event is refused, and has done nothing but to ask for memory.
-use Rattle.std.specs.Prelude.{◌≡◌, ℕ, Bool, true, false, not, ◌&&◌, ◌||◌, List, [], ◌∷◌, Option, Some, None, MatchBool, MatchOption}
+use Rattle.std.specs.Prelude.{◌≡◌, ℕ, Bool, true, false, not, ◌&&◌, List, [], ◌∷◌, Option, Some, None, MatchBool, MatchOption}
 use Rattle.std.specs.List.{list_all}
 use Rattle.std.proofs.Common.{refl, ap, sym, subst, ◌∙◌}
 use Rattle.std.proofs.lemmas.Bool.{and_parts}
 use Rattle.papaya_settles.specs.Given.SeizeWords.declared.fault.Fault.{Fault}
-use Rattle.papaya_settles.specs.Given.SeizeWords.declared.fault.Fault.TheVariants.{Busy}
+use Rattle.papaya_settles.specs.Given.SeizeWords.declared.fault.Fault.TheVariants.{Busy, Memory}
 use Rattle.papaya_settles.specs.Given.Tables.declared.resize_mode.ResizeMode.{ResizeMode}
 use Rattle.papaya_settles.specs.Given.Runs.Runs.{map_fault}
 use Rattle.papaya_settles.specs.Given.Schedules.declared.effect.Effect.{Effect}
@@ -94,8 +94,9 @@ module _ {K V : Type 0} where
       back_still m (after (entry (event.MakeMap name mode capacity) (Refused fault) steps effects) m) (record { place = leave.0.place; tables = leave.0.tables; maps = leave.0.maps }) (leave.1 ∙ back.0.calls) back
     where
       asks : (f : Fault) → IsWhole (event.MakeMap name mode capacity) (Refused f) effects m w → list_all is_growth effects ≡ true
+      asks Memory its = its
       asks Busy its = ap (list_all is_growth) its
-      asks _ its = its
+      asks _ its = ap (list_all is_growth) its
 
   -- no maps stay none
   none_stay : (acted : Option ℕ) (effects : List Effect) (m : Moment K V) → m.maps ≡ [] → (with_effects None acted effects m).maps ≡ []

@@ -36,8 +36,6 @@ pub mod Shaping
 pub mod Grows
 pub mod StoresNone
 pub mod Linking
-pub mod CopiersNext
-pub mod CopiersAsk
 pub mod Rest
 pub mod Capacities
 pub mod Waits

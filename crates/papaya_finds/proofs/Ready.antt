@@ -141,6 +141,12 @@ none_may : (effects : List Effect) → list_all (λ f. false) effects ≡ true �
 none_may [] e = refl
 none_may (f ∷ effects) e = absurd (cc e)
 
+-- one that is out of turn is busy, and one in turn as is right for it
+pub busy_or : {V : Type 0} (q t : Bool) (came : Outcome V) (A G : Type 0) → MatchBool q (came ≡ outcome.Refused Busy) (MatchBool t G (came ≡ outcome.Refused Busy)) → (came ≡ outcome.Refused Busy → A) → A ⊎ G
+busy_or true t came A G busy so = inl (so busy)
+busy_or false true came A G its so = inr its
+busy_or false false came A G busy so = inl (so busy)
+
 module _ {K V : Type 0} (terms : Terms) (log : List (Entry K V)) where
   abbrev m : Moment K V
   m = moment log
@@ -163,22 +169,17 @@ module _ {K V : Type 0} (terms : Terms) (log : List (Entry K V)) where
   begun_ready (event.MakeMap name mode capacity) outcome.Done ready = ready
   begun_ready _ _ ready = ready
 
-  busy_or : (q t : Bool) (came : Outcome V) (A G : Type 0) → MatchBool q (came ≡ outcome.Refused Busy) (MatchBool t G (came ≡ outcome.Refused Busy)) → (came ≡ outcome.Refused Busy → A) → A ⊎ G
-  busy_or true t came A G busy so = inl (so busy)
-  busy_or false true came A G its so = inr its
-  busy_or false false came A G busy so = inl (so busy)
-
   -- an event of a call has done nothing, or its call goes on as is right
-  did : (its : Event K V) (came : Outcome V) (steps : ℕ) (effects : List Effect) → GoesInOrder terms log (entry its came steps effects) → (own : List ℕ) → caller_of its ≡ Some own
+  pub goes_or_not : (its : Event K V) (came : Outcome V) (steps : ℕ) (effects : List Effect) → GoesInOrder terms log (entry its came steps effects) → (own : List ℕ) → caller_of its ≡ Some own
       → (effects ≡ []) ⊎ ByCall (λ (c : UnderWay K V). Progresses terms c.stands c (moments_from c.begun log) (at_end its came steps effects) came) (acting (caller_of its) (at_end its came steps effects))
-  did (event.Step caller refuse) came steps effects goes own is =
+  goes_or_not (event.Step caller refuse) came steps effects goes own is =
       busy_or _ _ came (effects ≡ []) _ goes.right (λ busy. subst (λ (o : Outcome V). IsWhole (event.Step caller refuse) o effects m (at_end (event.Step caller refuse) came steps effects)) busy goes.life.whole)
-  did (event.Go caller refuse) came steps effects goes own is =
+  goes_or_not (event.Go caller refuse) came steps effects goes own is =
       busy_or _ _ came (effects ≡ []) _ goes.right (λ busy. subst (λ (o : Outcome V). IsWhole (event.Go caller refuse) o effects m (at_end (event.Go caller refuse) came steps effects)) busy goes.life.whole)
-  did (event.OneCall guard name call) came steps effects goes own is =
+  goes_or_not (event.OneCall guard name call) came steps effects goes own is =
       busy_or _ _ came (effects ≡ []) _ goes.right (λ busy. subst (λ (o : Outcome V). IsWhole (event.OneCall guard name call) o effects m (at_end (event.OneCall guard name call) came steps effects)) busy goes.life.whole)
-  did (event.Next caller) came steps effects goes own is = inl (none_may effects goes.life.may)
-  did _ came steps effects goes own is = absurd (cc is)
+  goes_or_not (event.Next caller) came steps effects goes own is = inl (none_may effects goes.life.may)
+  goes_or_not _ came steps effects goes own is = absurd (cc is)
 
   module _ (its : Event K V) (came : Outcome V) (steps : ℕ) (effects : List Effect) (goes : GoesInOrder terms log (entry its came steps effects)) (ready : ReadyOweNone m)
       (apart : AreApart (at_end its came steps effects).calls) where
@@ -195,7 +196,7 @@ module _ {K V : Type 0} (terms : Terms) (log : List (Entry K V)) where
     ready_clear own is comes = none_of_name own w.calls apart (if_clear came (call_of own w) (ap comes_clear comes) (leaves_own own is))
 
     its_ready : (own : List ℕ) → caller_of its ≡ Some own → AllByRecursion (λ d. is_same d.caller own ≡ true → ReadyOwesNone d) w.calls
-    its_ready own is = by (did its came steps effects goes own is)
+    its_ready own is = by (goes_or_not its came steps effects goes own is)
       where
         Goal : Type 0
         Goal = AllByRecursion (λ d. is_same d.caller own ≡ true → ReadyOwesNone d) w.calls

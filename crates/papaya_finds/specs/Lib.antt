@@ -15,7 +15,6 @@ pub mod Endings
 pub mod Within
 pub mod Little
 pub mod Growing
-pub mod Nexts
 pub mod Shaping
 pub mod Linking
 pub mod Rest

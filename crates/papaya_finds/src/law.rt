@@ -13,7 +13,6 @@ ghost use Rattle.papaya_finds.specs.Steps.{StepsDoTheirs, StepsFindPlaces, Steps
 ghost use Rattle.papaya_finds.specs.Bounded.{LittleWaits, NothingRetiredOnceReclaimed};
 ghost use Rattle.papaya_finds.specs.Endings.{NamedAtFirst, EventsKeepNamed, EventsKeepRoots, EventsKeepSomewhere};
 ghost use Rattle.papaya_finds.specs.Growing.{GrowingBegins, GrowingStays, TablesHaveBeen, CallsBeginGrowing, CallsTakeGrowing, WalksGoOnGrowing, CallsGoGrowing, CallsKeepGrowing, KeyCallsMayAsk};
-ghost use Rattle.papaya_finds.specs.Nexts.{CopiersHaveNext, CopiersMayAsk};
 ghost use Rattle.papaya_finds.specs.Linking.{KeyCallsLink};
 ghost use Rattle.papaya_finds.specs.Events.{BeginningsKeepPlaced, EventsKeepPlaced, BeginningsKeepTables, EventsKeepTables};
 ghost use Rattle.papaya_finds.specs.Life.{LifeFindsPlaced, LifeKeepsPlaced};
@@ -170,13 +169,6 @@ pub fn reservations_fit_their_count<K, V, S>()
     ensures steps { RoomsKeepCount K V }
     ensures moments { RoomsCountOn K V }
     ensures asked { (same : K → K → Bool) (hash : K → ℕ) → RoomsMayAsk K V S same hash }
-{}
-
-/// Where a copier makes a further table its map has a second one, into which the root's is copied; or, in blocking mode, the root has left a table at the moment of the map at which the call
-/// began, or since. So a call on one key that copies, and a sweep, may ask for each block that it makes in a step, if its map has a second table then, or had one before.
-pub fn copiers_have_next_tables<K, V, S>()
-    ensures next { (same : K → K → Bool) (hash : K → ℕ) → CopiersHaveNext K V S same hash }
-    ensures asked { (same : K → K → Bool) (hash : K → ℕ) → CopiersMayAsk K V S same hash }
 {}
 
 /// Each map that stands was made for the capacity that the moment says: so it is as a run begins, after each step of a call, of the making of a map that began so, and of a row on a slot, and

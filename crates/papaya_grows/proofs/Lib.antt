@@ -1,3 +1,5 @@
+pub mod CopiersNext
+pub mod CopiersAsk
 pub mod Finding
 pub mod Limits
 pub mod Tries

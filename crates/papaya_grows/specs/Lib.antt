@@ -1,5 +1,6 @@
 pub mod Further
 pub mod Nexts
+pub mod Copiers
 pub mod Tries
 pub mod Finding
 pub mod Rests

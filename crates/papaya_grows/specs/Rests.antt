@@ -21,7 +21,7 @@ use Rattle.papaya_purposes.specs.Given.Finishes.Machines.{machine_of}
 use Rattle.papaya_purposes.specs.Given.Moments.Whole.{ShowsWhole}
 use Rattle.papaya_kept.specs.Kept.{ShowsKept}
 use Rattle.papaya_purposes.specs.Given.Finds.Linking.{FoundFull}
-use Rattle.papaya_purposes.specs.Given.Finds.Nexts.{making_of_copier}
+use Rattle.papaya_grows.specs.Copiers.{making_of_copier}
 use Rattle.papaya_purposes.specs.Given.Finds.Parts.{FindRest}
 use Rattle.papaya_purposes.specs.Given.Finds.Within.{AllIsInOrder, many_of}
 use Rattle.papaya_sources.specs.Sources.{ShowsSources}

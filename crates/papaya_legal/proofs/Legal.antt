@@ -3,9 +3,10 @@ use Rattle.papaya_grows.proofs.Given.Finds.Little.{events_leave_little}
 use Rattle.papaya_legal.specs.Promises.{EventsAreLegal}
 
 pub events_are_legal : (K V : Type 0) → EventsAreLegal K V
-events_are_legal K V same name terms log e known s word right makes does but run reclaims shows = record {
+events_are_legal K V same name terms log e known s word right makes does waits but run reclaims shows = record {
   right = right;
   steps = record { makes = makes; does = does; brief = but.brief };
+  waits = waits;
   linearizable = but.linearizable;
   swept = but.swept;
   life = but.life;

@@ -1,9 +1,9 @@
--- A making that is refused once it has begun just asks for blocks: its event is in its midst at the moment itself, without the map, and once it is over the event keeps its promises and the run goes on.
-use Rattle.std.specs.Prelude.{◌≡◌, ℕ, Bool, true, false, List, [], ◌∷◌, flat_map, Option, Some, None}
+-- A making that is refused once it has begun just asks for blocks, or does nothing where it is not refused memory: its event is in its midst at the moment itself, without the map, and once it is over the event keeps its promises and the run goes on.
+use Rattle.std.specs.Prelude.{◌≡◌, ◌⊎◌, ℕ, Bool, true, false, List, [], ◌∷◌, flat_map, Option, Some, None}
 use Rattle.std.specs.List.{list_all}
-use Rattle.std.proofs.Common.{refl, sym, subst, inl, arith}
+use Rattle.std.proofs.Common.{refl, sym, subst, inl, inr, arith}
 use Rattle.papaya_grows.specs.Given.SeizeWords.declared.fault.Fault.{Fault}
-use Rattle.papaya_grows.specs.Given.SeizeWords.declared.fault.Fault.TheVariants.{Busy}
+use Rattle.papaya_grows.specs.Given.SeizeWords.declared.fault.Fault.TheVariants.{Busy, Memory}
 use Rattle.papaya_grows.specs.Given.Seize.World.{with_at}
 use Rattle.papaya_grows.specs.Given.Tables.declared.resize_mode.ResizeMode.{ResizeMode}
 use Rattle.papaya_grows.specs.Given.Schedules.declared.effect.Effect.{Effect}
@@ -84,7 +84,8 @@ asks_shift (_ ∷ fs) asks = absurd (cc asks)
 
 module _ (K V S : Type 0) (same : K → K → Bool) (name : ℕ → List ℕ) (terms : Terms) (log : List (Entry K V)) (known known2 : Known) (before s : Scene K V) (own : List ℕ) (mode : ResizeMode) (capacity : ℕ) (fault : Fault)
     (steps map : ℕ) (effects : List Effect) (midst : InMakingEvent same name terms log (MakeMap own mode capacity) map (moment log) effects (moment log) known2 s)
-    (asks : list_all is_growth effects ≡ true) (firsts : list_all is_first_making effects ≡ true) (never : is_busy {V = V} (Refused fault) ≡ false) (run : ShowsRun same name terms log known before) where
+    (asks : list_all is_growth effects ≡ true) (or_nothing : (fault ≡ Memory) ⊎ (effects ≡ [])) (firsts : list_all is_first_making effects ≡ true) (never : is_busy {V = V} (Refused fault) ≡ false)
+    (run : ShowsRun same name terms log known before) where
   abbrev e : Entry K V
   e = record { event = MakeMap own mode capacity; outcome = Refused fault; steps = steps; effects = effects }
 
@@ -95,11 +96,13 @@ module _ (K V S : Type 0) (same : K → K → Bool) (name : ℕ → List ℕ) (t
   worked_is = growths_leave (acted_on e.event m) effects m asks
 
   whole : IsWhole e.event (Refused fault) effects m (worked e m)
-  whole = by fault never
+  whole = by fault never or_nothing
     where
-      by : (its : Fault) → is_busy {V = V} (Refused its) ≡ false → IsWhole (MakeMap own mode capacity) (Refused its) effects m (worked e m)
-      by Busy none = absurd (cc none)
-      by _ none = asks
+      by : (its : Fault) → is_busy {V = V} (Refused its) ≡ false → (its ≡ Memory) ⊎ (effects ≡ []) → IsWhole (MakeMap own mode capacity) (Refused its) effects m (worked e m)
+      by Memory none so = asks
+      by Busy none so = absurd (cc none)
+      by _ none (inr nothing) = nothing
+      by _ none (inl is) = absurd (cc is)
 
   follows : IsByModel terms log e × ((moment (e ∷ log)).is_alone ≡ true → FollowsModel terms.batch_size terms.roots (e ∷ log) known2 s.world)
   follows = making_events_follow K V same name terms log map m m known2 s e midst never

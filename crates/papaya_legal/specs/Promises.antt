@@ -7,16 +7,17 @@ use Rattle.papaya_grows.specs.Given.Schedules.InTurn.{ComesRight}
 use Rattle.papaya_grows.specs.Given.Schedules.Runs.{IsLegal}
 use Rattle.papaya_grows.specs.Given.Schedules.Steps.{DoesFew, MakesSteps, stands_or}
 use Rattle.papaya_grows.specs.Given.Schedules.Terms.{Terms}
+use Rattle.papaya_grows.specs.Given.Schedules.Waiting.{WaitsLawfully}
 use Rattle.papaya_grows.specs.Given.Effects.Known.{Known}
 use Rattle.papaya_grows.specs.Given.Executor.IsAt.{Scene}
 use Rattle.papaya_grows.specs.Given.Finds.Little.{ReclaimsAll, ShowsNobody}
 use Rattle.papaya_legal.specs.CallEvents.{IsLegalBut}
 use Rattle.papaya_legal.specs.Carried.{ShowsRun}
 
--- The promise: an event that comes to what is right, makes its steps, and keeps these promises, is legal, where the moment after it shows the scene, all of which is back if it reclaims all, and in
+-- The promise: an event that comes to what is right, makes its steps, waits where it may, and keeps these promises, is legal, where the moment after it shows the scene, all of which is back if it reclaims all, and in
 -- which nobody is under way where nobody is there.
 abbrev pub EventsAreLegal : Type 0 → Type 0 → Type 0
 EventsAreLegal K V =
     (same : K → K → Bool) (name : ℕ → List ℕ) (terms : Terms) (log : List (Entry K V)) (e : Entry K V) (known : Known) (s : Scene K V) → terms.batch_size < 2 ^ 64
     → ComesRight terms log e → MakesSteps e.event (stands_or (acting (caller_of e.event) (at_work e (moment log)))) e.steps e.outcome → DoesFew (caller_of e.event) e.steps e.effects
-    → IsLegalBut same terms log e → ShowsRun same name terms (e ∷ log) known s → ReclaimsAll log e → ShowsNobody terms (after e (moment log)) known s.world → IsLegal same terms log e
+    → WaitsLawfully same log e → IsLegalBut same terms log e → ShowsRun same name terms (e ∷ log) known s → ReclaimsAll log e → ShowsNobody terms (after e (moment log)) known s.world → IsLegal same terms log e

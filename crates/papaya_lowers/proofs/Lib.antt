@@ -10,7 +10,7 @@ mod SweepRows
 mod Machines
 mod Stays
 mod Unwritten
-mod ItsPair
+pub mod ItsPair
 mod Waits
 mod Looks
 mod Plans

@@ -1,5 +1,5 @@
 -- Callers that stand at places of a list, each under its name, and are shown the newest first.
-use Rattle.std.specs.Prelude.{◌≡◌, ◌<◌, ℕ, ◌==◌, Bool, List, [], ◌∷◌, ◌++◌, length, position, slice_get, slice_index, Option, Some, None, if◌then◌else◌}
+use Rattle.std.specs.Prelude.{◌≡◌, ◌<◌, ℕ, ◌==◌, List, [], ◌∷◌, ◌++◌, length, position, slice_get, slice_index, Option, Some, None, if◌then◌else◌}
 use Rattle.papaya_present.specs.Counts.{count_in}
 use Rattle.papaya_present.specs.Crowd.{LeadsHome, StandsAt, kept, weigh}
 use Rattle.papaya_present.specs.declared.counts.Counts.{Counts}

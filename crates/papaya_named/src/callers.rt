@@ -138,13 +138,16 @@ impl<V: Drop> Callers<V> {
     pub fn has(&self, name: &Token) -> bool
         ensures { result ≡ is_some (position (is_named name.now) self.now) }
     {
-        place_of(&self.comers, &self.places, self.last, name).is_some()
+        self.count > 0 && place_of(&self.comers, &self.places, self.last, name).is_some()
     }
 
     /// The caller of this name.
     pub fn get(&self, name: &Token) -> Option<&Caller<V>>
         ensures { option_copied result ≡ called name.now self.now }
     {
+        if self.count == 0 {
+            return None;
+        }
         let place = place_of(&self.comers, &self.places, self.last, name)?;
         self.comers[place].as_ref()
     }
@@ -153,7 +156,7 @@ impl<V: Drop> Callers<V> {
     pub fn uses(&self, guard: &Token) -> bool
         ensures { result ≡ list_any (λ caller. is_same caller.guard guard.now) self.now }
     {
-        self.under.of(guard) > 0
+        self.count > 0 && self.under.of(guard) > 0
     }
 
     /// Whether a call on the map of this number is under way.

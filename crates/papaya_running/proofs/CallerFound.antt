@@ -1,6 +1,6 @@
 -- Who stands at the place of a name is who is found by it.
-use Rattle.std.specs.Prelude.{◌≡◌, ℕ, Bool, true, false, List, find, position, is_some, Option, Some, None}
-use Rattle.std.proofs.Common.{refl, sym, ap, ◌∙◌}
+use Rattle.std.specs.Prelude.{◌≡◌, ℕ, false, List, find, position, is_some, Option, Some, None}
+use Rattle.std.proofs.Common.{refl, sym, ◌∙◌}
 use Rattle.papaya_events.proofs.Given.Rows.Lists.{is_found, place_found, place_some}
 use Rattle.papaya_named.specs.Roll.{at_place, called}
 use Rattle.papaya_named.specs.Seen.{is_named}

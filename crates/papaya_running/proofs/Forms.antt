@@ -1,22 +1,22 @@
--- Which events make no steps, and which forms an event may have.
-use Rattle.std.specs.Prelude.{◌≡◌, ℕ, Bool, true, false, List, [], Option, Some, None}
+-- Which events make no steps, and wait for nothing, and which forms an event may have.
+use Rattle.std.specs.Prelude.{◌≡◌, ℕ, Bool, false, List, [], Option, Some, None}
 use Rattle.std.proofs.Common.{refl, sym, subst, arith}
+use Rattle.seize_words.specs.declared.fault.Fault.{Fault}
 use Rattle.seize_words.specs.declared.fault.Fault.TheVariants.{Busy}
-use Rattle.papaya_events.specs.Given.Tables.declared.resize_mode.ResizeMode.{ResizeMode}
-use Rattle.papaya_runs.specs.declared.event.Setup.{Setup}
-use Rattle.papaya_runs.specs.declared.key_hash.KeyHash.{KeyHash}
-use Rattle.papaya_schedules.specs.declared.call.Call.{Call}
-use Rattle.papaya_schedules.specs.declared.call.Reply.{Reply}
 use Rattle.papaya_schedules.specs.declared.effect.Effect.{Effect}
 use Rattle.papaya_schedules.specs.declared.event.Event.{Event}
 use Rattle.papaya_schedules.specs.declared.event.Event.TheVariants.{Collector, Hash, Choose, Register, Unregister, Enter, Own, Refresh, Flush, DropGuard, Forget, ReclaimAll, Close, MakeMap, EndMap, ShowShape, Begin, Step, Go, Replied, OneCall, Next, Stop}
 use Rattle.papaya_schedules.specs.declared.outcome.Outcome.{Outcome}
 use Rattle.papaya_schedules.specs.declared.outcome.Outcome.TheVariants.{Refused}
-use Rattle.papaya_schedules.specs.Entry.{caller_of}
+use Rattle.papaya_schedules.specs.After.{moment}
+use Rattle.papaya_schedules.specs.Effects.{worked}
+use Rattle.papaya_schedules.specs.Entry.{Entry, IfCall, acting, caller_of}
 use Rattle.papaya_schedules.specs.InTurn.{IsKeptOut}
-use Rattle.papaya_schedules.specs.Moment.{Stands}
+use Rattle.papaya_schedules.specs.Moment.{Moment, Stands, UnderWay}
 use Rattle.papaya_schedules.specs.Steps.{DoesFew, MakesSteps}
-use Rattle.papaya_events.specs.Asked.{is_of_calls, is_of_maps, takes_steps}
+use Rattle.papaya_schedules.specs.Waiting.{WaitsLawfully, WaitsRight}
+use Rattle.papaya_scheduler.proofs.Rights.{entry}
+use Rattle.papaya_events.specs.Asked.{takes_steps}
 
 -- what does nothing does few
 pub does_nothing : (own : Option (List ℕ)) (steps : ℕ) (effects : List Effect) → effects ≡ [] → DoesFew own steps effects
@@ -54,31 +54,17 @@ module _ {K V : Type 0} where
   pub makes_none : (form : Event K V) → takes_steps form ≡ false → (stand : Stands) (steps : ℕ) → steps ≡ 0 → (o : Outcome V) → MakesSteps form stand steps o
   makes_none form so stand steps none o = subst (λ (n : ℕ). MakesSteps form stand n o) (sym none) (none_made form so stand o)
 
-  -- and its effects are of no call
+  -- it speaks of no call,
+  no_caller : (form : Event K V) → takes_steps form ≡ false → caller_of form ≡ None
+  no_caller (Step c refuse) so = absurd (cc so)
+  no_caller (Go c refuse) so = absurd (cc so)
+  no_caller (OneCall g n call) so = absurd (cc so)
+  no_caller (Next c) so = absurd (cc so)
+  no_caller _ so = refl
+
+  -- and its effects are of none
   pub does_none : (form : Event K V) → takes_steps form ≡ false → (steps : ℕ) (effects : List Effect) → DoesFew (caller_of form) steps effects
-  does_none (Collector setup) so steps effects = tt
-  does_none (Hash by) so steps effects = tt
-  does_none (Choose choice) so steps effects = tt
-  does_none (Register r) so steps effects = tt
-  does_none (Unregister r) so steps effects = tt
-  does_none (Enter g r) so steps effects = tt
-  does_none (Own g) so steps effects = tt
-  does_none (Refresh g) so steps effects = tt
-  does_none (Flush g) so steps effects = tt
-  does_none (DropGuard g) so steps effects = tt
-  does_none (Forget g) so steps effects = tt
-  does_none ReclaimAll so steps effects = tt
-  does_none Close so steps effects = tt
-  does_none (MakeMap n mode c) so steps effects = tt
-  does_none (EndMap n) so steps effects = tt
-  does_none (ShowShape n) so steps effects = tt
-  does_none (Begin c g n call) so steps effects = tt
-  does_none (Replied c reply) so steps effects = tt
-  does_none (Stop c) so steps effects = tt
-  does_none (Step c refuse) so steps effects = absurd (cc so)
-  does_none (Go c refuse) so steps effects = absurd (cc so)
-  does_none (OneCall g n call) so steps effects = absurd (cc so)
-  does_none (Next c) so steps effects = absurd (cc so)
+  does_none form so steps effects = subst (λ (own : Option (List ℕ)). DoesFew own steps effects) (sym (no_caller form so)) tt
 
   busy_makes : (form : Event K V) (stand : Stands) (o : Outcome V) → o ≡ Refused Busy → MakesSteps form stand 0 o
   busy_makes form stand o is = subst (λ (x : Outcome V). MakesSteps form stand 0 x) (sym is) refl
@@ -113,86 +99,18 @@ module _ {K V : Type 0} where
   pub makes_out : (form : Event K V) (stand : Stands) (steps : ℕ) → steps ≡ 0 → (o : Outcome V) → IsKeptOut form o → MakesSteps form stand steps o
   makes_out form stand steps none o out = subst (λ (n : ℕ). MakesSteps form stand n o) (sym none) (out_makes form stand o out)
 
-  -- An event of calls has one of these forms,
-  pub some_call : (e : Event K V) → is_of_calls e ≡ true
-      → ((c g n : List ℕ) (call : Call K V) → e ≡ Begin c g n call → ⊥) → ((c : List ℕ) (refuse : Bool) → e ≡ Step c refuse → ⊥) → ((c : List ℕ) (refuse : Bool) → e ≡ Go c refuse → ⊥)
-      → ((c : List ℕ) (reply : Reply V) → e ≡ Replied c reply → ⊥) → ((g n : List ℕ) (call : Call K V) → e ≡ OneCall g n call → ⊥) → ((c : List ℕ) → e ≡ Next c → ⊥) → ((c : List ℕ) → e ≡ Stop c → ⊥) → ⊥
-  some_call (Begin c g n call) is a b d h i j k = a c g n call refl
-  some_call (Step c refuse) is a b d h i j k = b c refuse refl
-  some_call (Go c refuse) is a b d h i j k = d c refuse refl
-  some_call (Replied c reply) is a b d h i j k = h c reply refl
-  some_call (OneCall g n call) is a b d h i j k = i g n call refl
-  some_call (Next c) is a b d h i j k = j c refl
-  some_call (Stop c) is a b d h i j k = k c refl
-  some_call (Collector setup) is a b d h i j k = cc is
-  some_call (Hash by) is a b d h i j k = cc is
-  some_call (Choose choice) is a b d h i j k = cc is
-  some_call (Register r) is a b d h i j k = cc is
-  some_call (Unregister r) is a b d h i j k = cc is
-  some_call (Enter g r) is a b d h i j k = cc is
-  some_call (Own g) is a b d h i j k = cc is
-  some_call (Refresh g) is a b d h i j k = cc is
-  some_call (Flush g) is a b d h i j k = cc is
-  some_call (DropGuard g) is a b d h i j k = cc is
-  some_call (Forget g) is a b d h i j k = cc is
-  some_call ReclaimAll is a b d h i j k = cc is
-  some_call Close is a b d h i j k = cc is
-  some_call (MakeMap n mode c) is a b d h i j k = cc is
-  some_call (EndMap n) is a b d h i j k = cc is
-  some_call (ShowShape n) is a b d h i j k = cc is
+  -- nor does either wait
+  module _ (same : K → K → Bool) where
+    pub waits_none : (form : Event K V) → takes_steps form ≡ false → (o : Outcome V) (steps : ℕ) (effects : List Effect) (log : List (Entry K V)) → WaitsLawfully same log (entry form o steps effects)
+    waits_none form so o steps effects log =
+        let w = worked (entry form o steps effects) (moment log) in
+        subst (λ (own : Option (List ℕ)). IfCall (λ c. WaitsRight same o c w) (acting own w)) (sym (no_caller form so)) tt
 
-  -- one of maps one of these,
-  pub some_map : (e : Event K V) → is_of_maps e ≡ true
-      → ((n : List ℕ) (mode : ResizeMode) (c : ℕ) → e ≡ MakeMap n mode c → ⊥) → ((n : List ℕ) → e ≡ EndMap n → ⊥) → ((n : List ℕ) → e ≡ ShowShape n → ⊥) → (e ≡ ReclaimAll → ⊥) → (e ≡ Close → ⊥) → ⊥
-  some_map (MakeMap n mode c) is a b d h i = a n mode c refl
-  some_map (EndMap n) is a b d h i = b n refl
-  some_map (ShowShape n) is a b d h i = d n refl
-  some_map ReclaimAll is a b d h i = h refl
-  some_map Close is a b d h i = i refl
-  some_map (Collector setup) is a b d h i = cc is
-  some_map (Hash by) is a b d h i = cc is
-  some_map (Choose choice) is a b d h i = cc is
-  some_map (Register r) is a b d h i = cc is
-  some_map (Unregister r) is a b d h i = cc is
-  some_map (Enter g r) is a b d h i = cc is
-  some_map (Own g) is a b d h i = cc is
-  some_map (Refresh g) is a b d h i = cc is
-  some_map (Flush g) is a b d h i = cc is
-  some_map (DropGuard g) is a b d h i = cc is
-  some_map (Forget g) is a b d h i = cc is
-  some_map (Begin c g n call) is a b d h i = cc is
-  some_map (Step c refuse) is a b d h i = cc is
-  some_map (Go c refuse) is a b d h i = cc is
-  some_map (Replied c reply) is a b d h i = cc is
-  some_map (OneCall g n call) is a b d h i = cc is
-  some_map (Next c) is a b d h i = cc is
-  some_map (Stop c) is a b d h i = cc is
+    refused_waits : (fault : Fault) (o : Outcome V) → o ≡ Refused fault → (c : Option (UnderWay K V)) (w : Moment K V) → IfCall (λ c. WaitsRight same o c w) c
+    refused_waits fault o is None w = tt
+    refused_waits fault o is (Some c) w = subst (λ (x : Outcome V). WaitsRight same x c w) (sym is) tt
 
-  -- and any other one of these.
-  pub some_slot : (e : Event K V) → is_of_maps e ≡ false → is_of_calls e ≡ false
-      → ((setup : Setup) → e ≡ Collector setup → ⊥) → ((by : KeyHash) → e ≡ Hash by → ⊥) → ((choice : ℕ) → e ≡ Choose choice → ⊥) → ((r : List ℕ) → e ≡ Register r → ⊥) → ((r : List ℕ) → e ≡ Unregister r → ⊥)
-      → ((g r : List ℕ) → e ≡ Enter g r → ⊥) → ((g : List ℕ) → e ≡ Own g → ⊥) → ((g : List ℕ) → e ≡ Refresh g → ⊥) → ((g : List ℕ) → e ≡ Flush g → ⊥) → ((g : List ℕ) → e ≡ DropGuard g → ⊥)
-      → ((g : List ℕ) → e ≡ Forget g → ⊥) → ⊥
-  some_slot (Collector setup) no_map no_call a b d f h i j k l m n = a setup refl
-  some_slot (Hash by) no_map no_call a b d f h i j k l m n = b by refl
-  some_slot (Choose choice) no_map no_call a b d f h i j k l m n = d choice refl
-  some_slot (Register r) no_map no_call a b d f h i j k l m n = f r refl
-  some_slot (Unregister r) no_map no_call a b d f h i j k l m n = h r refl
-  some_slot (Enter g r) no_map no_call a b d f h i j k l m n = i g r refl
-  some_slot (Own g) no_map no_call a b d f h i j k l m n = j g refl
-  some_slot (Refresh g) no_map no_call a b d f h i j k l m n = k g refl
-  some_slot (Flush g) no_map no_call a b d f h i j k l m n = l g refl
-  some_slot (DropGuard g) no_map no_call a b d f h i j k l m n = m g refl
-  some_slot (Forget g) no_map no_call a b d f h i j k l m n = n g refl
-  some_slot ReclaimAll no_map no_call a b d f h i j k l m n = cc no_map
-  some_slot Close no_map no_call a b d f h i j k l m n = cc no_map
-  some_slot (MakeMap name mode c) no_map no_call a b d f h i j k l m n = cc no_map
-  some_slot (EndMap name) no_map no_call a b d f h i j k l m n = cc no_map
-  some_slot (ShowShape name) no_map no_call a b d f h i j k l m n = cc no_map
-  some_slot (Begin c g name call) no_map no_call a b d f h i j k l m n = cc no_call
-  some_slot (Step c refuse) no_map no_call a b d f h i j k l m n = cc no_call
-  some_slot (Go c refuse) no_map no_call a b d f h i j k l m n = cc no_call
-  some_slot (Replied c reply) no_map no_call a b d f h i j k l m n = cc no_call
-  some_slot (OneCall g name call) no_map no_call a b d f h i j k l m n = cc no_call
-  some_slot (Next c) no_map no_call a b d f h i j k l m n = cc no_call
-  some_slot (Stop c) no_map no_call a b d f h i j k l m n = cc no_call
+    pub waits_out : (form : Event K V) (o : Outcome V) → IsKeptOut form o → (steps : ℕ) (effects : List Effect) (log : List (Entry K V)) → WaitsLawfully same log (entry form o steps effects)
+    waits_out (MakeMap n mode c) o out steps effects log = waits_none (MakeMap n mode c) refl o steps effects log
+    waits_out form o out steps effects log =
+        let w = worked (entry form o steps effects) (moment log) in refused_waits Busy o out (acting (caller_of form) w) w

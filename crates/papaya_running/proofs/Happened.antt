@@ -19,7 +19,7 @@ use Rattle.papaya_scheduler.specs.declared.scheduler.Scheduler.{Scheduler}
 use Rattle.papaya_stepping.specs.Stepping.{ComesInCase, PlaysNextAt, PlaysOnAt}
 use Rattle.papaya_scheduler.proofs.Busy.{none_quiet}
 use Rattle.papaya_events.specs.Asked.{FindsRight, Happens, HappensAt, HappensDue, Holds, MayHappenDue, takes_steps}
-use Rattle.papaya_running.proofs.Forms.{does_none, does_nothing, makes_none, makes_out}
+use Rattle.papaya_running.proofs.Forms.{does_none, does_nothing, makes_none, makes_out, waits_none, waits_out}
 
 module _ {K V S : Type 0} (same : K → K → Bool) (hash : K → ℕ) (event form : Event K V) (is : event ≡ form) (old : Scheduler K V S) where
   -- it may happen in this form, too
@@ -53,6 +53,7 @@ module _ {K V S : Type 0} (same : K → K → Bool) (hash : K → ℕ) (event fo
           plays = λ finds. plays terms log first holds out;
           makes = makes_none form so (stands_or (acting (caller_of form) (at_work (entry_of form played) (moment log)))) played.steps none played.outcome;
           does = does_none form so played.steps played.effects.items;
+          waits = waits_none same form so played.outcome played.steps played.effects.items log;
           is_quiet = busy;
         })
 
@@ -70,6 +71,7 @@ module _ {K V S : Type 0} (same : K → K → Bool) (hash : K → ℕ) (event fo
           plays = λ finds. on.plays (case_of terms log played finds);
           makes = on.makes;
           does = on.does;
+          waits = on.waits;
           is_quiet = on.is_quiet;
         })
     goes_if case_of (Err x) plays = tt
@@ -79,7 +81,14 @@ module _ {K V S : Type 0} (same : K → K → Bool) (hash : K → ℕ) (event : 
   pub next_if : {X : Type 0} (result : Result (Played V) X) → IfOk result (λ played. PlaysNextAt same hash own played old new) → IfOk result (λ played. HappensDue same hash is_first event played old new)
   next_if (Ok played) plays = λ terms log first holds out.
       let on = plays terms log (due_so same hash event (Next own) is old terms log holds out) in
-      subst (λ (x : Event K V). Happens same hash terms log (entry_of x played) new) (sym is) (record { played = on.plays.played; plays = λ finds. on.plays; makes = on.makes; does = on.does; is_quiet = on.is_quiet })
+      subst (λ (x : Event K V). Happens same hash terms log (entry_of x played) new) (sym is) (record {
+        played = on.plays.played;
+        plays = λ finds. on.plays;
+        makes = on.makes;
+        does = on.does;
+        waits = on.waits;
+        is_quiet = on.is_quiet;
+      })
   next_if (Err x) plays = tt
 
 -- An event is kept out, or in turn.
@@ -92,6 +101,7 @@ module _ {K V S : Type 0} (same : K → K → Bool) (hash : K → ℕ) (event : 
       plays = λ finds. plays terms log holds.stands out;
       makes = makes_out event (stands_or (acting (caller_of event) (at_work (entry_of event played) (moment log)))) played.steps none played.outcome kept;
       does = does_nothing (caller_of event) played.steps played.effects.items nothing;
+      waits = waits_out same event played.outcome kept played.steps played.effects.items log;
       is_quiet = none_quiet played.outcome played.effects.items nothing;
     }
 

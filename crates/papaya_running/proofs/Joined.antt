@@ -90,7 +90,7 @@ module _ {K V S : Type 0} (same : K → K → Bool) (hash : K → ℕ) (is_first
   legal_on calls rows setups all =
       let on = goes_on calls rows setups all in (
         events_are_legal K V same on.0.runs.stands.name terms log e (known new.logged.notes) on.0.runs.stands.scene (is_word same hash terms (e ∷ log) new on.0.runs) (right calls) it.makes
-            it.does on.0.legal on.0.runs.shows on.1 (shows_nobody same hash terms (e ∷ log) new on.0.runs),
+            it.does it.waits on.0.legal on.0.runs.shows on.1 (shows_nobody same hash terms (e ∷ log) new on.0.runs),
         on.0.runs,
         on.0.hands,
       )

@@ -12,5 +12,6 @@ mod CallerFound
 mod Turns
 mod Counts
 mod Held
+mod OfKinds
 pub mod Joined
 mod Classes

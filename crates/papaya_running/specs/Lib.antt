@@ -1,3 +1,4 @@
+pub mod Kinds
 pub mod Classes
 pub mod Back
 pub mod Ending

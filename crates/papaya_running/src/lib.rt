@@ -4,6 +4,7 @@
 pub mod acting;
 pub mod ending;
 pub mod happening;
+mod kinds;
 pub mod law;
 pub mod record;
 pub mod running;

@@ -31,7 +31,8 @@ use Rattle.papaya_finds.proofs.Lists.{all_both, all_so, each_is, passes_each}
 use Rattle.papaya_finds.proofs.Over.{calls_stay}
 use Rattle.papaya_finds.proofs.Tables.{all_kept}
 use Rattle.papaya_sizes.proofs.Balance.{IsWorth, Moves, minus_is, minus_of, moves_none, none_either, plus_is, plus_of, there}
-use Rattle.papaya_sizes.proofs.Settled.{CountsNone, IsSettled, Its, comes_worth, in_turn_or, its_clear, named, told_worth}
+use Rattle.papaya_finds.proofs.Ready.{busy_or}
+use Rattle.papaya_sizes.proofs.Settled.{CountsNone, IsSettled, Its, comes_worth, its_clear, named, told_worth}
 use Rattle.papaya_sizes.proofs.Sums.{all_weigh, gone_weigh}
 
 -- the effect ends no pair of this map
@@ -168,7 +169,7 @@ module _ {K V : Type 0} (terms : Terms) (log : List (Entry K V)) where
   pub all_spared : (its : Event K V) (came : Outcome V) (steps : ℕ) (effects : List Effect) → GoesInOrder terms log (entry its came steps effects) → AllIsInOrder m
       → AllByRecursion (λ (f : MapThere). AllByRecursion (SparesIt f.number (acted_on its (begun its came m))) effects) (maps_on its came (at_end its came steps effects).maps)
   all_spared (event.EndMap name) came steps effects goes h =
-      by (in_turn_or _ _ came (came ≡ outcome.Done) (effects ≡ []) goes.right (λ busy. subst (λ (o : Outcome V). IsWhole (event.EndMap name) o effects m (at_end (event.EndMap name) came steps effects)) busy goes.life.whole))
+      by (busy_or _ _ came (effects ≡ []) (came ≡ outcome.Done) goes.right (λ busy. subst (λ (o : Outcome V). IsWhole (event.EndMap name) o effects m (at_end (event.EndMap name) came steps effects)) busy goes.life.whole))
     where
       Spared : List Effect → MapThere → Type 0
       Spared fs f = AllByRecursion (SparesIt f.number (number_of name m)) fs

@@ -1,8 +1,7 @@
 -- Between events no call has a pair to replace, and a walk that is ready has nothing to count.
-use Rattle.std.specs.Prelude.{◌≡◌, ℕ, ◌+◌, Bool, true, false, not, ◌⊎◌, List, [], ◌∷◌, find, map, MatchBool, Option, Some, None, if◌then◌else◌}
-use Rattle.std.specs.List.{AllByRecursion, list_all, list_any}
+use Rattle.std.specs.Prelude.{◌≡◌, ℕ, ◌+◌, Bool, true, false, not, ◌⊎◌, List, [], ◌∷◌, find, map, Option, Some, None, if◌then◌else◌}
+use Rattle.std.specs.List.{AllByRecursion, list_any}
 use Rattle.std.proofs.Common.{refl, ap, sym, subst, ◌∙◌, inl, inr}
-use Rattle.papaya_finds.specs.Given.SeizeWords.declared.fault.Fault.TheVariants.{Busy}
 use Rattle.papaya_finds.specs.Given.Runs.Same.{is_same}
 use Rattle.papaya_finds.specs.Given.Schedules.declared.call.Reply.{Reply}
 use Rattle.papaya_finds.specs.Given.Schedules.declared.effect.Effect.{Effect}
@@ -15,7 +14,7 @@ use Rattle.papaya_finds.specs.Given.Schedules.Beginning.{begun, with_call}
 use Rattle.papaya_finds.specs.Given.Schedules.Coming.{Progresses, is_ready}
 use Rattle.papaya_finds.specs.Given.Schedules.Effects.{call_by, with_effect, with_effects, worked}
 use Rattle.papaya_finds.specs.Given.Schedules.Entry.{ByCall, Entry, IfCall, acting, caller_of, ends_call, is_busy, nameless}
-use Rattle.papaya_finds.specs.Given.Schedules.Handing.{IsWhole, LeavesOf, comes_clear}
+use Rattle.papaya_finds.specs.Given.Schedules.Handing.{LeavesOf, comes_clear}
 use Rattle.papaya_finds.specs.Given.Schedules.Moment.{Stands, Going, Asking, Told, IsReady, UnderWay, Moment}
 use Rattle.papaya_finds.specs.Given.Schedules.Terms.{Terms}
 use Rattle.papaya_finds.specs.Given.Schedules.Views.{call_of, number_of}
@@ -25,6 +24,7 @@ use Rattle.papaya_finds.specs.Within.{GoesInOrder}
 use Rattle.papaya_finds.proofs.Endings.{entry}
 use Rattle.papaya_finds.proofs.Grown.{any_found, only_one}
 use Rattle.papaya_finds.proofs.Lists.{all_both, all_so, none_of_them}
+use Rattle.papaya_finds.proofs.Ready.{goes_or_not}
 use Rattle.papaya_finds.proofs.Tables.{all_kept, all_under}
 use Rattle.papaya_sizes.proofs.Balance.{IsWorth}
 
@@ -172,17 +172,6 @@ module _ {K V : Type 0} where
   over_settled (event.Stop caller) outcome.Done steps calls clear all = fewer_settled caller calls all
   over_settled its came steps calls clear all = stepped_settled (caller_of its) came steps calls clear all
 
--- an event that is out of turn is busy, and one in turn as is right for it
-pub in_turn_or : {V : Type 0} (closed turn : Bool) (came : Outcome V) (Goes Nothing : Type 0) → MatchBool closed (came ≡ outcome.Refused Busy) (MatchBool turn Goes (came ≡ outcome.Refused Busy))
-    → (came ≡ outcome.Refused Busy → Nothing) → Nothing ⊎ Goes
-in_turn_or true turn came Goes Nothing right busy = inl (busy right)
-in_turn_or false true came Goes Nothing right busy = inr right
-in_turn_or false false came Goes Nothing right busy = inl (busy right)
-
-no_effects : (effects : List Effect) → list_all (λ f. false) effects ≡ true → effects ≡ []
-no_effects [] may = refl
-no_effects (f ∷ effects) may = absurd (cc may)
-
 module _ {K V : Type 0} (terms : Terms) (log : List (Entry K V)) where
   abbrev m : Moment K V
   m = moment log
@@ -210,17 +199,6 @@ module _ {K V : Type 0} (terms : Terms) (log : List (Entry K V)) where
     abbrev Goes : Event K V → Type 0
     Goes its = ByCall (λ (c : UnderWay K V). Progresses terms c.stands c (moments_from c.begun log) (at_end its came steps effects) came) (acting (caller_of its) (at_end its came steps effects))
 
-    -- an event of a call that is out of turn does nothing, and by another one its call goes on as is right
-    goes_or_not : (its : Event K V) → GoesInOrder terms log (entry its came steps effects) → (own : List ℕ) → caller_of its ≡ Some own → (effects ≡ []) ⊎ Goes its
-    goes_or_not (event.Step caller refuse) goes own is =
-        in_turn_or _ _ came _ (effects ≡ []) goes.right (λ busy. subst (λ (o : Outcome V). IsWhole (event.Step caller refuse) o effects m (at_end (event.Step caller refuse) came steps effects)) busy goes.life.whole)
-    goes_or_not (event.Go caller refuse) goes own is =
-        in_turn_or _ _ came _ (effects ≡ []) goes.right (λ busy. subst (λ (o : Outcome V). IsWhole (event.Go caller refuse) o effects m (at_end (event.Go caller refuse) came steps effects)) busy goes.life.whole)
-    goes_or_not (event.OneCall guard name call) goes own is =
-        in_turn_or _ _ came _ (effects ≡ []) goes.right (λ busy. subst (λ (o : Outcome V). IsWhole (event.OneCall guard name call) o effects m (at_end (event.OneCall guard name call) came steps effects)) busy goes.life.whole)
-    goes_or_not (event.Next caller) goes own is = inl (no_effects effects goes.life.may)
-    goes_or_not _ goes own is = absurd (cc is)
-
     module _ (its : Event K V) (goes : GoesInOrder terms log (entry its came steps effects)) (apart : AreApart (at_end its came steps effects).calls) where
       abbrev w : Moment K V
       w = at_end its came steps effects
@@ -239,7 +217,7 @@ module _ {K V : Type 0} (terms : Terms) (log : List (Entry K V)) where
 
       -- and so has one that was ready
       pub its_ready : AllByRecursion IsSettled (begun its came m).calls → (own : List ℕ) → caller_of its ≡ Some own → Its ReadyCountsNone own w.calls
-      its_ready settled own is = by (goes_or_not its goes own is)
+      its_ready settled own is = by (goes_or_not terms log its came steps effects goes own is)
         where
           by : (effects ≡ []) ⊎ Goes its → Its ReadyCountsNone own w.calls
           by (inl none) =

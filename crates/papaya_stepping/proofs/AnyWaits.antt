@@ -25,10 +25,10 @@ use Rattle.papaya_scheduler.specs.Given.Callers.OverAll.{CallOverAll}
 use Rattle.papaya_scheduler.specs.Given.Callers.Rooms.{CallForRoom}
 use Rattle.papaya_scheduler.specs.Given.Callers.Together.{CallOnKey, UnderWay, OnKey, ForRoom, Counting, OverAll}
 use Rattle.papaya_schedules.specs.declared.effect.Effect.{Effect}
-use Rattle.papaya_schedules.specs.InUse.{may_wait_for}
 use Rattle.papaya_schedules.specs.Moment.{UnderWay as CallThere, Moment}
 use Rattle.papaya_schedules.specs.Terms.{Terms}
 use Rattle.papaya_schedules.specs.Views.{call_of}
+use Rattle.papaya_schedules.specs.Waiting.{may_wait_for}
 use Rattle.papaya_scheduler.specs.Given.Effects.Effects.{effects_of}
 use Rattle.papaya_scheduler.specs.Given.Effects.Known.{known}
 use Rattle.papaya_scheduler.specs.Given.Effects.declared.acting.Acting.TheVariants as acts
@@ -143,5 +143,5 @@ module _ {K V S : Type 0} (same : K → K → Bool) (hash : K → ℕ) (terms : 
   pub any_quiet : did ≡ []
   any_quiet = said.0
 
-  pub any_waits_for : list_any (may_wait_for c m) m.calls ≡ true
-  any_waits_for = subst (λ (d : CallThere K V). list_any (may_wait_for d m) m.calls ≡ true) (same_call its.0 its.1) said.1
+  pub any_waits_for : list_any (may_wait_for same c m) m.calls ≡ true
+  any_waits_for = subst (λ (d : CallThere K V). list_any (may_wait_for same d m) m.calls ≡ true) (same_call its.0 its.1) said.1

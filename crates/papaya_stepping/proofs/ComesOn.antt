@@ -8,10 +8,10 @@ use Rattle.papaya_schedules.specs.declared.effect.Effect.{Effect}
 use Rattle.papaya_schedules.specs.declared.outcome.Outcome.{Outcome}
 use Rattle.papaya_schedules.specs.Effects.{with_effects}
 use Rattle.papaya_schedules.specs.Growing.{only_looks}
-use Rattle.papaya_schedules.specs.InUse.{may_wait_for}
 use Rattle.papaya_schedules.specs.Moment.{UnderWay as CallThere, Moment}
 use Rattle.papaya_schedules.specs.Terms.{Terms}
 use Rattle.papaya_schedules.specs.Views.{call_of}
+use Rattle.papaya_schedules.specs.Waiting.{may_wait_for}
 use Rattle.papaya_scheduler.specs.Given.Follows.Calling.{come_to}
 use Rattle.papaya_scheduler.proofs.Given.Hands.Replacing.{IsOn, calls_after}
 use Rattle.papaya_scheduler.proofs.Given.Moments.After.{effects_after}
@@ -63,7 +63,7 @@ module _ {K V S : Type 0} (same : K → K → Bool) (hash : K → ℕ) (terms : 
       few = parts_add_up steps 1 midst.did last.did midst.few last.few;
       comes = subst (λ (x : Call K V). ComesAs x outcome) call_on.call last.comes;
       works = λ waits. subst (λ (x : Call K V). only_looks x ≡ false) call_on.call (last.works waits);
-      waits = λ waits. subst (λ (x : Moment K V). (d : CallThere K V) → call_of own x ≡ Some d → list_any (may_wait_for d x) x.calls ≡ true) all_did (last.waits waits);
+      waits = λ waits. subst (λ (x : Moment K V). (d : CallThere K V) → call_of own x ≡ Some d → list_any (may_wait_for same d x) x.calls ≡ true) all_did (last.waits waits);
       memory = λ refused d d_is. last.memory refused d (ap (λ (x : Moment K V). call_of own x) all_did ∙ d_is);
       goes = λ on. (subst (λ (x : Moment K V). StandsFor same hash terms x new) all_did (last.goes on).0, (last.goes on).1);
       stands = λ never counted. subst (λ (x : Moment K V). StandsFor same hash terms (come_to own outcome counted x) new) all_did (last.stands never counted);

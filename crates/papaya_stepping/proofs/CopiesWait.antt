@@ -39,10 +39,10 @@ use Rattle.papaya_scheduler.specs.Given.Callers.Sights.{IsSight, seen_by}
 use Rattle.papaya_scheduler.specs.Given.Callers.Together.{CallOnKey, UnderWay, OnKey, ForRoom, Counting, OverAll, Together, in_slot}
 use Rattle.papaya_scheduler.proofs.Given.Waits.Awaited.{HasOther}
 use Rattle.papaya_scheduler.proofs.Given.Waits.Claimed.{chosen}
-use Rattle.papaya_schedules.specs.InUse.{may_wait_for}
 use Rattle.papaya_schedules.specs.Moment.{UnderWay as CallThere, Moment}
 use Rattle.papaya_schedules.specs.Terms.{Terms}
 use Rattle.papaya_schedules.specs.Views.{call_of}
+use Rattle.papaya_schedules.specs.Waiting.{may_wait_for}
 use Rattle.papaya_scheduler.specs.Given.Effects.Known.{Known, known}
 use Rattle.papaya_scheduler.specs.Given.Effects.declared.role.Role.{Role}
 use Rattle.papaya_scheduler.specs.Given.Effects.declared.role.Role.TheVariants as role
@@ -59,7 +59,7 @@ use Rattle.papaya_schedules.specs.Effects.{passed}
 use Rattle.papaya_scheduler.specs.Played.{StandsFor}
 use Rattle.papaya_scheduler.specs.declared.scheduler.Scheduler.{Scheduler}
 use Rattle.papaya_stepping.proofs.StepSays.{the}
-use Rattle.papaya_stepping.proofs.Waiting.{owing_hands, waits_for_copier, waits_for_handing}
+use Rattle.papaya_stepping.proofs.Waiting.{IsForResizes, owing_hands, waits_for_copier, waits_for_handing}
 use Rattle.papaya_scheduler.proofs.Given.Waits.Works.{OnlyLooks, works}
 
 -- the row of a call that copies is its copier's
@@ -253,9 +253,10 @@ module _ {K V S : Type 0} (same : K → K → Bool) (hash : K → ℕ) (terms : 
           | inr late ↦ at_last late.0 late.1
         ]
 
-  module _ (i : ℕ) (x : UnderWay K V K) (under : stands.scene.calls of i ≡ Some x) where
+  -- a call that waits for whichever copying of a table
+  module _ (i : ℕ) (x : UnderWay K V K) (under : stands.scene.calls of i ≡ Some x) (resizes : IsForResizes same m (stands.shown.shows.all.shown.calls of i x under).0) where
     abbrev Waits : Type 0
-    Waits = list_any (may_wait_for (stands.shown.shows.all.shown.calls of i x under).0 m) m.calls ≡ true
+    Waits = list_any (may_wait_for same (stands.shown.shows.all.shown.calls of i x under).0 m) m.calls ≡ true
 
     -- another one, that is to say that a copying is over, hands over the table that it has unlinked
     module _ (k : ℕ) (u : UnderWay K V K) (has : stands.scene.calls of k ≡ Some u) (other : k ≡ i → ⊥) (q : Copier) (within : copier_of u ≡ Some q) where
@@ -273,17 +274,17 @@ module _ {K V S : Type 0} (same : K → K → Bool) (hash : K → ℕ) (terms : 
           ∙ tables_named by_notes q q.source.link (st.chart.len cut.0) (table_of of cut.0) (table_there k u has cut.0 q.source cut.3) (noted_table k u has cut.0 q.source cut.3) in
           let first : passed of cut.0 q.target.turn ≡ numbered of cut.0 ∷ passed of (suc cut.0) q.target.turn =
           passed_first of cut.0 q.target.turn (let behind = cut.2 in let turn = cut.4 in omega (arith, behind, turn)) in
-          waits_for_handing same hash terms m p stands of of i k x u under has other refl never
+          waits_for_handing same hash terms m p stands of of i k x u under has other resizes refl never
           (owing_hands same hash terms m p stands of of i k x u under has other (numbered of cut.0) (passed of (suc cut.0) q.target.turn) (owes ∙ first))
 
       at_its_end : (t : ℕ) → t < st.chart.past → EndsAt st.chart q q.stands t → Waits
       at_its_end t made ends = by q.stands refl ends
         where
           by : (s : Copying) → q.stands ≡ s → EndsAt st.chart q s t → Waits
-          by copies.Promotes here (turn, behind) = waits_for_copier same hash terms m p stands of of i k x u under has other refl never st is (omega (arith, behind, made))
+          by copies.Promotes here (turn, behind) = waits_for_copier same hash terms m p stands of of i k x u under has other resizes refl never st is (omega (arith, behind, made))
           by copies.Announces here (turn, upto) = announcing here
           by _ here none = absurd none
 
     pub other_waits : HasOther st.chart calls_on i → Waits
-    other_waits (k, u, has, other, inl (linked, works)) = waits_for_copier same hash terms m p stands of of i k x u under has other refl (λ looks. works (only_looks_by u looks)) st is linked
+    other_waits (k, u, has, other, inl (linked, works)) = waits_for_copier same hash terms m p stands of of i k x u under has other resizes refl (λ looks. works (only_looks_by u looks)) st is linked
     other_waits (k, u, has, other, inr (t, made, q, within, ends)) = at_its_end k u has other q within t made ends

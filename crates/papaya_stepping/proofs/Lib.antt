@@ -2,6 +2,7 @@ pub mod AfterEffects
 pub mod Again
 mod AnySays
 mod AnyWaits
+mod BeingCopied
 mod ByName
 mod ComesOn
 mod CopiesWait

@@ -59,6 +59,7 @@ use Rattle.papaya_stepping.proofs.NextSays.{NextSays}
 use Rattle.papaya_stepping.proofs.OneStep.{over_next}
 use Rattle.papaya_stepping.proofs.PlaysAgain.{busy_stands}
 use Rattle.papaya_stepping.proofs.PlaysSteps.{stands_elsewhere}
+use Rattle.papaya_stepping.proofs.RightSteps.{waits_never}
 use Rattle.papaya_scheduler.proofs.RanOn.{maps_named, there_stays}
 use Rattle.papaya_scheduler.proofs.Rights.{entry, in_turn, out_of_turn, plays, quiet}
 use Rattle.papaya_stepping.proofs.StepSays.{asks_nothing, the}
@@ -195,10 +196,10 @@ module _ {K V S : Type 0} (same : K → K → Bool) (hash : K → ℕ) (terms : 
         of _ fails l it after_it so = absurd so
 
 module _ (K V : Type 0) where
-  makes_next : (own : List ℕ) (stand : Stands) (steps : ℕ) (o : Outcome V) → IsNext o → MakesSteps {K = K} {V = V} (Next own) stand steps o
-  makes_next own stand steps (Shows pair) is = tt
-  makes_next own stand steps (Answered Absent) is = tt
-  makes_next own stand steps _ is = absurd is
+  makes_next : (own : List ℕ) (stand : Stands) (steps : ℕ) (o : Outcome V) → IsNext o → 1 ≤ steps → MakesSteps {K = K} {V = V} (Next own) stand steps o
+  makes_next own stand steps (Shows pair) is some = some
+  makes_next own stand steps (Answered Absent) is some = some
+  makes_next own stand steps _ is some = absurd is
 
   next_quiet : (effects : List Effect) (o : Outcome V) → IsNext o → IsQuiet o effects
   next_quiet effects (Shows pair) is = tt
@@ -218,6 +219,7 @@ module _ {K V S : Type 0} (same : K → K → Bool) (hash : K → ℕ) (terms : 
         idle = refl;
         makes = refl;
         does = omega arith;
+        waits = waits_never same m (Refused Busy) (λ e. cc e) (call_of own m);
         is_quiet = refl;
       }
 
@@ -323,7 +325,8 @@ module _ {K V S : Type 0} (same : K → K → Bool) (hash : K → ℕ) (terms : 
                 w.sheltered m.remains (sym (mapped_stays (Some own) (option_map (λ x. x.map) (call_of own m)) effects m)) (sym (closed_stays (Some own) (option_map (λ x. x.map) (call_of own m)) effects m)) refl
                 (sym (remains_stay (Some own) (option_map (λ x. x.map) (call_of own m)) effects m)));
             idle = idle;
-            makes = makes_next K V own (stands_or (call_of own m)) steps outcome is_next;
+            makes = makes_next K V own (stands_or (call_of own m)) steps outcome is_next (let more = comes.2 in omega (arith, more));
             does = subst (λ (l : List Effect). sum_by weight l ≤ steps) (sym idle) (omega arith);
+            waits = waits_never same w outcome (λ e. subst (λ (o : Outcome V). IsNext o) e is_next) (call_of own w);
             is_quiet = next_quiet K V effects outcome is_next;
           }

@@ -18,10 +18,10 @@ use Rattle.papaya_schedules.specs.After.{asks_on, comes_to}
 use Rattle.papaya_schedules.specs.Effects.{with_effects}
 use Rattle.papaya_schedules.specs.Entry.{ends_call}
 use Rattle.papaya_schedules.specs.Growing.{only_looks}
-use Rattle.papaya_schedules.specs.InUse.{may_wait_for}
 use Rattle.papaya_schedules.specs.Moment.{Stands, Going, Asking, Told, IsReady, UnderWay as CallThere, Moment}
 use Rattle.papaya_schedules.specs.Terms.{Terms}
 use Rattle.papaya_schedules.specs.Views.{call_of}
+use Rattle.papaya_schedules.specs.Waiting.{may_wait_for}
 use Rattle.papaya_scheduler.specs.Given.Callers.Together.{UnderWay}
 use Rattle.papaya_scheduler.specs.Given.Finishes.Machines.{GoesOnAs, machine_of}
 use Rattle.papaya_scheduler.specs.Given.Effects.Known.{Known, known}
@@ -367,13 +367,13 @@ module _ {K V S : Type 0} (same : K → K → Bool) (hash : K → ℕ) (terms : 
 
           -- one that waits has done nothing, and waits for one that it may wait for
           by_waits : said ≡ progress.Waits → (x : CallThere K V) → call_of own (with_effects (Some own) (Some c.map) did m) ≡ Some x
-              → list_any (may_wait_for x (with_effects (Some own) (Some c.map) did m)) (with_effects (Some own) (Some c.map) did m).calls ≡ true
+              → list_any (may_wait_for same x (with_effects (Some own) (Some c.map) did m)) (with_effects (Some own) (Some c.map) did m).calls ≡ true
           by_waits waits x x_is = subst Right (sym nothing) right x x_is
             where
               Right : List Effect → Type 0
               Right l =
                   (y : CallThere K V) → call_of own (with_effects (Some own) (Some c.map) l m) ≡ Some y
-                  → list_any (may_wait_for y (with_effects (Some own) (Some c.map) l m)) (with_effects (Some own) (Some c.map) l m).calls ≡ true
+                  → list_any (may_wait_for same y (with_effects (Some own) (Some c.map) l m)) (with_effects (Some own) (Some c.map) l m).calls ≡ true
 
               its_step : StepsFrom same hash (machine_of here.way.0) p.logged.executor new.executor (leads d.map here.way.0 here.way.1).1 progress.Waits
               its_step = subst (λ (y : Progress (Node K V)). StepsFrom same hash (machine_of here.way.0) p.logged.executor new.executor (leads d.map here.way.0 here.way.1).1 y) waits (leads d.map here.way.0 here.way.1).3

@@ -22,6 +22,7 @@ use Rattle.papaya_scheduler.specs.declared.scheduler.Scheduler.{Scheduler}
 use Rattle.papaya_stepping.proofs.Again.{asks_again, far_ready, ready_again}
 use Rattle.papaya_scheduler.proofs.Here.{Here, here_at, there_is}
 use Rattle.papaya_stepping.proofs.PlaysSteps.{stands_elsewhere}
+use Rattle.papaya_stepping.proofs.RightSteps.{waits_never}
 use Rattle.papaya_scheduler.proofs.Quiet.{stands_on}
 use Rattle.papaya_scheduler.proofs.Replied.{far_asks}
 use Rattle.papaya_scheduler.proofs.Rights.{in_turn, out_of_turn, plays, quiet}
@@ -58,6 +59,7 @@ module _ {K V S : Type 0} (same : K → K → Bool) (hash : K → ℕ) (terms : 
             (stands_elsewhere same hash terms (come_to own (Refused Busy) 0 m) p (busy_stands due.played) (m.events + 1) m.is_mapped m.is_closed (m.is_alone && is_alone_on e m) m.there m.slots m.sheltered m.remains refl refl refl refl);
         makes = refl;
         does = omega arith;
+        waits = waits_never same m (Refused Busy) (λ e. cc e) (call_of own m);
         is_quiet = refl;
       }
 
@@ -69,6 +71,7 @@ module _ {K V S : Type 0} (same : K → K → Bool) (hash : K → ℕ) (terms : 
             (stands_elsewhere same hash terms (come_to own (Refused Busy) 0 m) p (busy_stands due.played) (m.events + 1) m.is_mapped m.is_closed (m.is_alone && is_alone_on e m) m.there m.slots m.sheltered m.remains refl refl refl refl);
         makes = refl;
         does = omega arith;
+        waits = waits_never same m (Refused Busy) (λ e. cc e) (call_of own m);
         is_quiet = refl;
       }
 
@@ -100,6 +103,7 @@ module _ {K V S : Type 0} (same : K → K → Bool) (hash : K → ℕ) (terms : 
                 (stands_on same hash terms (come_to own (Asks question) 0 m) p (asks_again same hash terms m p stands own place here 0 question is) (m.events + 1) (m.is_alone && is_alone_on e m) m.slots m.sheltered);
             makes = subst (λ (x : Stands). MakesSteps {K = K} {V = V} (Step own refuse) x 0 (Asks question)) (sym stands_or_is) refl;
             does = omega arith;
+            waits = waits_never same m (Asks question) (λ e. cc e) (call_of own m);
             is_quiet = tt;
           }
 
@@ -111,6 +115,7 @@ module _ {K V S : Type 0} (same : K → K → Bool) (hash : K → ℕ) (terms : 
                 (stands_on same hash terms (come_to own (Asks question) 0 m) p (asks_again same hash terms m p stands own place here 0 question is) (m.events + 1) (m.is_alone && is_alone_on e m) m.slots m.sheltered);
             makes = subst (λ (x : Stands). MakesSteps {K = K} {V = V} (Go own refuse) x 0 (Asks question)) (sym stands_or_is) refl;
             does = omega arith;
+            waits = waits_never same m (Asks question) (λ e. cc e) (call_of own m);
             is_quiet = tt;
           }
 
@@ -134,6 +139,7 @@ module _ {K V S : Type 0} (same : K → K → Bool) (hash : K → ℕ) (terms : 
                 (stands_on same hash terms (come_to own Ready 0 m) p (ready_again same hash terms m p stands own place here 0 is) (m.events + 1) (m.is_alone && is_alone_on e m) m.slots m.sheltered);
             makes = subst (λ (x : Stands). MakesSteps {K = K} {V = V} (Step own refuse) x 0 Ready) (sym stands_or_ready) refl;
             does = omega arith;
+            waits = waits_never same m Ready (λ e. cc e) (call_of own m);
             is_quiet = tt;
           }
 
@@ -145,5 +151,6 @@ module _ {K V S : Type 0} (same : K → K → Bool) (hash : K → ℕ) (terms : 
                 (stands_on same hash terms (come_to own Ready 0 m) p (ready_again same hash terms m p stands own place here 0 is) (m.events + 1) (m.is_alone && is_alone_on e m) m.slots m.sheltered);
             makes = subst (λ (x : Stands). MakesSteps {K = K} {V = V} (Go own refuse) x 0 Ready) (sym stands_or_ready) refl;
             does = omega arith;
+            waits = waits_never same m Ready (λ e. cc e) (call_of own m);
             is_quiet = tt;
           }

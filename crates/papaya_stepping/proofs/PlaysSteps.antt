@@ -16,11 +16,11 @@ use Rattle.papaya_schedules.specs.Effects.{with_effects}
 use Rattle.papaya_schedules.specs.Entry.{ByCall, Entry, IfCall}
 use Rattle.papaya_schedules.specs.Growing.{only_looks}
 use Rattle.papaya_schedules.specs.InTurn.{GoesOn}
-use Rattle.papaya_schedules.specs.InUse.{may_wait_for}
 use Rattle.papaya_schedules.specs.Moment.{Remains, Sheltered, UnderWay as CallThere, Moment}
 use Rattle.papaya_schedules.specs.Steps.{stands_or, weight}
 use Rattle.papaya_schedules.specs.Terms.{Terms}
 use Rattle.papaya_schedules.specs.Views.{call_of}
+use Rattle.papaya_schedules.specs.Waiting.{WaitsRight, may_wait_for}
 use Rattle.papaya_scheduler.specs.Given.Effects.Known.{known}
 use Rattle.papaya_scheduler.specs.Given.Follows.Calling.{come_to}
 use Rattle.papaya_scheduler.proofs.Given.Hands.Replacing.{IsOn, calls_after}
@@ -33,7 +33,7 @@ use Rattle.papaya_stepping.proofs.AfterEffects.{closed_stays, mapped_stays}
 use Rattle.papaya_scheduler.proofs.Given.Remains.Stays.{remains_stay}
 use Rattle.papaya_scheduler.proofs.Given.Rows.Elsewhere.{elsewhere, shown_elsewhere, kept_elsewhere, counted_elsewhere}
 use Rattle.papaya_scheduler.proofs.Here.{Here, here_at}
-use Rattle.papaya_stepping.proofs.RightSteps.{makes_many, makes_one, may_come, never_quiet, not_busy, progresses}
+use Rattle.papaya_stepping.proofs.RightSteps.{makes_many, makes_one, may_come, never_quiet, not_busy, progresses, waits_right}
 use Rattle.papaya_scheduler.proofs.Rights.{entry, in_turn, plays}
 
 -- it stands for a moment that is elsewhere as it says
@@ -99,8 +99,8 @@ module _ {K V S : Type 0} (same : K → K → Bool) (hash : K → ℕ) (terms : 
   d_works : outcome ≡ Waits → only_looks d.call ≡ false
   d_works waits = subst (λ (x : Call K V). only_looks x ≡ false) (sym d_on.call) (comes.works waits)
 
-  d_waits : outcome ≡ Waits → list_any (may_wait_for d w) w.calls ≡ true
-  d_waits waits = subst (λ (x : Moment K V). list_any (may_wait_for d x) x.calls ≡ true) worked_is
+  d_waits : outcome ≡ Waits → list_any (may_wait_for same d w) w.calls ≡ true
+  d_waits waits = subst (λ (x : Moment K V). list_any (may_wait_for same d x) x.calls ≡ true) worked_is
       (comes.waits waits d (calls_after own c.map own comes.did m c comes.call_is).1)
 
   d_short : outcome ≡ Refused Memory → d.is_short ≡ true
@@ -123,7 +123,10 @@ module _ {K V S : Type 0} (same : K → K → Bool) (hash : K → ℕ) (terms : 
 
     pub goes_right : ByCall (λ x. Progresses terms x.stands x (moments_from x.begun log) w outcome) (call_of own w)
     goes_right = subst (λ (o : Option (CallThere K V)). ByCall (λ x. Progresses terms x.stands x (moments_from x.begun log) w outcome) o) (sym d_is)
-        (progresses terms d (moments_from d.begun log) w d.stands (ap far_of d_on.stands ∙ call_goes) outcome (may_come terms d (moments_from d.begun log) w outcome d_comes d_works d_waits d_short case_of))
+        (progresses terms d (moments_from d.begun log) w d.stands (ap far_of d_on.stands ∙ call_goes) outcome (may_come terms d (moments_from d.begun log) w outcome d_comes d_short case_of))
+
+  pub waits_so : IfCall (λ x. WaitsRight same outcome x w) (call_of own w)
+  waits_so = subst (λ (o : Option (CallThere K V)). IfCall (λ x. WaitsRight same outcome x w) o) (sym d_is) (waits_right same w d outcome d_works d_waits)
 
   pub few_steps : sum_by weight effects ≤ steps
   few_steps = subst (λ (l : List Effect). sum_by weight l ≤ steps) (sym comes.follows) comes.few
@@ -150,6 +153,7 @@ module _ {K V S : Type 0} (same : K → K → Bool) (hash : K → ℕ) (terms : 
             (stands_then same hash terms log m own old stands place placed goes steps outcome effects new comes (m.events + 1) m.is_mapped m.is_closed (m.is_alone && is_alone_on e m) (slots_on outcome m.slots) m.remains refl refl refl);
         makes = makes_one K V own refuse (stands_or (call_of own m)) (stand_is same hash terms log m own old stands place placed goes steps outcome effects new comes) steps one outcome (never_busy same hash terms log m own old stands place placed goes steps outcome effects new comes);
         does = few_steps same hash terms log m own old stands place placed goes steps outcome effects new comes;
+        waits = waits_so same hash terms log m own old stands place placed goes steps outcome effects new comes;
         is_quiet = never_quiet outcome effects (never_busy same hash terms log m own old stands place placed goes steps outcome effects new comes);
       }
 
@@ -162,5 +166,6 @@ module _ {K V S : Type 0} (same : K → K → Bool) (hash : K → ℕ) (terms : 
             (stands_then same hash terms log m own old stands place placed goes steps outcome effects new comes (m.events + 1) m.is_mapped m.is_closed (m.is_alone && is_alone_on e m) (slots_on outcome m.slots) m.remains refl refl refl);
         makes = makes_many K V own refuse (stands_or (call_of own m)) (stand_is same hash terms log m own old stands place placed goes steps outcome effects new comes) steps outcome takes (never_busy same hash terms log m own old stands place placed goes steps outcome effects new comes);
         does = few_steps same hash terms log m own old stands place placed goes steps outcome effects new comes;
+        waits = waits_so same hash terms log m own old stands place placed goes steps outcome effects new comes;
         is_quiet = never_quiet outcome effects (never_busy same hash terms log m own old stands place placed goes steps outcome effects new comes);
       }

@@ -20,6 +20,7 @@ use Rattle.papaya_schedules.specs.Moment.{MapThere, Moment}
 use Rattle.papaya_schedules.specs.Steps.{stands_or}
 use Rattle.papaya_schedules.specs.Terms.{Terms}
 use Rattle.papaya_schedules.specs.Views.{call_of, map_of, number_of}
+use Rattle.papaya_schedules.specs.Waiting.{WaitsRight}
 use Rattle.papaya_scheduler.specs.Given.Follows.Calling.{come_to}
 use Rattle.papaya_scheduler.proofs.Given.Follows.Calling.{is_same_refl}
 use Rattle.papaya_scheduler.specs.Played.{BeginsSo, IsDue, StandsFor, entry_of}
@@ -34,8 +35,8 @@ use Rattle.papaya_scheduler.proofs.Given.Rows.Elsewhere.{elsewhere}
 use Rattle.papaya_scheduler.proofs.Here.{Here, here_at}
 use Rattle.papaya_scheduler.proofs.Given.Rows.Lists.{first_position}
 use Rattle.papaya_stepping.proofs.PlaysAgain.{busy_stands}
-use Rattle.papaya_stepping.proofs.PlaysSteps.{few_steps, goes_right, never_busy, stands_elsewhere, stands_then}
-use Rattle.papaya_stepping.proofs.RightSteps.{makes_whole, never_quiet}
+use Rattle.papaya_stepping.proofs.PlaysSteps.{few_steps, goes_right, never_busy, stands_elsewhere, stands_then, waits_so}
+use Rattle.papaya_stepping.proofs.RightSteps.{makes_whole, never_quiet, waits_never}
 use Rattle.papaya_scheduler.proofs.Rights.{entry, in_turn, out_of_turn, plays, quiet}
 use Rattle.papaya_stepping.proofs.StepSays.{the}
 
@@ -63,6 +64,7 @@ module _ {K V S : Type 0} (same : K → K → Bool) (hash : K → ℕ) (terms : 
             (m.is_alone && is_alone_on e m) m.there m.slots m.sheltered m.remains refl refl refl refl);
         makes = refl;
         does = omega arith;
+        waits = waits_never same m (Refused Busy) (λ e. cc e) (call_of nameless m);
         is_quiet = refl;
       })
 
@@ -90,6 +92,9 @@ module _ {K V S : Type 0} (same : K → K → Bool) (hash : K → ℕ) (terms : 
 
     abbrev Right : Moment K V → Type 0
     Right x = ByCall (λ c. Progresses terms c.stands c (moments_from c.begun log) (worked x) outcome) (call_of nameless (worked x))
+
+    abbrev Waiting : Moment K V → Type 0
+    Waiting x = IfCall (λ c. WaitsRight same outcome c (worked x)) (call_of nameless (worked x))
 
     mapped_with : (o : Option ℕ) → m.is_mapped ≡ (with_call nameless guard call o m).is_mapped
     mapped_with None = refl
@@ -121,6 +126,7 @@ module _ {K V S : Type 0} (same : K → K → Bool) (hash : K → ℕ) (terms : 
           (slots_on outcome m.slots) m.remains (mapped_with (number_of name m)) (closed_with (number_of name m)) (remains_with (number_of name m))));
       makes = makes_whole guard name call (stands_or (call_of nameless b)) steps outcome takes never;
       does = few_steps same hash terms log m1 nameless mid (begins.stands refl) 0 placed goes steps outcome effects new comes;
+      waits = subst Waiting b_is (waits_so same hash terms log m1 nameless mid (begins.stands refl) 0 placed goes steps outcome effects new comes);
       is_quiet = never_quiet outcome effects never;
     }
 

@@ -1,5 +1,5 @@
 -- An event of steps of a call comes to what is right, where it does so in its case, and makes as many steps as it may.
-use Rattle.std.specs.Prelude.{◌≡◌, ◌⊎◌, ◌&&◌, ℕ, Bool, true, false, not, List}
+use Rattle.std.specs.Prelude.{◌≡◌, ◌⊎◌, ◌&&◌, ℕ, Bool, true, false, not, List, Option, Some, None}
 use Rattle.std.specs.List.{list_any}
 use Rattle.std.proofs.Common.{refl, sym, ap, subst, ◌∙◌, arith, inl, inr}
 use Rattle.papaya_scheduler.specs.Given.SeizeWords.declared.fault.Fault.{Fault}
@@ -12,11 +12,12 @@ use Rattle.papaya_schedules.specs.declared.event.Event.TheVariants.{Go, OneCall,
 use Rattle.papaya_schedules.specs.declared.outcome.Outcome.{Outcome}
 use Rattle.papaya_schedules.specs.declared.outcome.Outcome.TheVariants.{Answered, Asks, Goes, Ready, Refused, Waits}
 use Rattle.papaya_schedules.specs.Coming.{MayCome, Progresses, is_compute}
+use Rattle.papaya_schedules.specs.Entry.{IfCall}
 use Rattle.papaya_schedules.specs.Growing.{only_looks}
-use Rattle.papaya_schedules.specs.InUse.{may_wait_for}
 use Rattle.papaya_schedules.specs.Moment.{Stands, Going, Asking, Told, IsReady, UnderWay as CallThere, Moment}
 use Rattle.papaya_schedules.specs.Steps.{MakesSteps}
 use Rattle.papaya_schedules.specs.Terms.{Terms}
+use Rattle.papaya_schedules.specs.Waiting.{WaitsRight, may_wait_for}
 use Rattle.papaya_scheduler.specs.Quiet.{IsQuiet}
 use Rattle.papaya_named.specs.Seen.{far_of}
 use Rattle.papaya_stepping.specs.Stepping.{ComesAs, IsInCase, TakesUpTo}
@@ -58,19 +59,17 @@ module _ {K V : Type 0} where
   not_busy call o comes is = let it = (other_fault call Busy (subst (λ (x : Outcome V). ComesAs call x) is comes) (λ e. cc e) (λ e. cc e)).0 in cc it
 
   module _ (terms : Terms) (c : CallThere K V) (moments : List (Moment K V)) (now : Moment K V) where
-    pub may_come : (o : Outcome V) → ComesAs c.call o → (o ≡ Waits → only_looks c.call ≡ false) → (o ≡ Waits → list_any (may_wait_for c now) now.calls ≡ true)
-        → (o ≡ Refused Memory → c.is_short ≡ true) → IsInCase terms c moments now o → MayCome terms c moments now o
-    may_come Goes comes works known short within = tt
-    may_come (Asks question) comes works known short within = comes
-    may_come Waits comes works known short within =
-        ap (λ (b : Bool). not b && list_any (may_wait_for c now) now.calls) (works refl) ∙ known refl
-    may_come Ready comes works known short within = comes
-    may_come (Answered a) comes works known short within = comes
-    may_come (Refused Memory) comes works known short within = short refl
-    may_come (Refused Capacity) comes works known short within = (works_so c.call Capacity comes, within)
-    may_come (Refused RemoveNothing) comes works known short within = (other_fault c.call RemoveNothing comes (λ e. cc e) (λ e. cc e)).1
-    may_come (Refused fault) comes works known short within = absurd (let it = (other_fault c.call fault comes (λ e. cc e) (λ e. cc e)).0 in cc it)
-    may_come _ comes works known short within = absurd comes
+    pub may_come : (o : Outcome V) → ComesAs c.call o → (o ≡ Refused Memory → c.is_short ≡ true) → IsInCase terms c moments now o → MayCome terms c moments now o
+    may_come Goes comes short within = tt
+    may_come (Asks question) comes short within = comes
+    may_come Waits comes short within = tt
+    may_come Ready comes short within = comes
+    may_come (Answered a) comes short within = comes
+    may_come (Refused Memory) comes short within = short refl
+    may_come (Refused Capacity) comes short within = (works_so c.call Capacity comes, within)
+    may_come (Refused RemoveNothing) comes short within = (other_fault c.call RemoveNothing comes (λ e. cc e) (λ e. cc e)).1
+    may_come (Refused fault) comes short within = absurd (let it = (other_fault c.call fault comes (λ e. cc e) (λ e. cc e)).0 in cc it)
+    may_come _ comes short within = absurd comes
 
     -- so it progresses, as far as it was
     pub progresses : (stand : Stands) → far_of stand ≡ far.Goes → (o : Outcome V) → MayCome terms c moments now o → Progresses terms stand c moments now o
@@ -78,6 +77,16 @@ module _ {K V : Type 0} where
     progresses Told is o may = may
     progresses (Asking question) is o may = absurd (cc is)
     progresses IsReady is o may = absurd (cc is)
+
+  -- where it waits, it may
+  module _ (same : K → K → Bool) (now : Moment K V) where
+    pub waits_right : (c : CallThere K V) (o : Outcome V) → (o ≡ Waits → only_looks c.call ≡ false) → (o ≡ Waits → list_any (may_wait_for same c now) now.calls ≡ true) → WaitsRight same o c now
+    waits_right c Waits works known = ap (λ (b : Bool). not b && list_any (may_wait_for same c now) now.calls) (works refl) ∙ known refl
+    waits_right c _ works known = tt
+
+    pub waits_never : (o : Outcome V) → (o ≡ Waits → ⊥) → (there : Option (CallThere K V)) → IfCall (λ c. WaitsRight same o c now) there
+    waits_never o never None = tt
+    waits_never o never (Some c) = waits_right c o (λ e. absurd (never e)) (λ e. absurd (never e))
 
   pub makes_whole : (guard map : List ℕ) (call : Call K V) (stand : Stands) (steps : ℕ) (o : Outcome V) → TakesUpTo most_steps steps o → (o ≡ Refused Busy → ⊥) → MakesSteps (OneCall guard map call) stand steps o
   makes_whole guard map call stand steps (Refused Busy) takes never = absurd (never refl)
@@ -99,14 +108,17 @@ module _ (K V : Type 0) (own : List ℕ) (refuse : Bool) where
       of Going far_is Ready fails = omega arith
       of Going far_is y fails = refl
 
-  -- or all that it may
+  -- or all that it may, one at least
   pub makes_many : (stand : Stands) → far_of stand ≡ far.Goes → (steps : ℕ) (o : Outcome V) → TakesUpTo most_steps steps o → (o ≡ Refused Busy → ⊥) → MakesSteps {K = K} {V = V} (Go own refuse) stand steps o
   makes_many stand is steps (Refused Busy) takes never = absurd (never refl)
   makes_many (Asking question) is steps o takes never = absurd (cc is)
   makes_many IsReady is steps o takes never = absurd (cc is)
-  makes_many Going is steps Goes takes never = takes.2 refl
+  makes_many Going is steps Goes takes never = (takes.0, takes.2 refl)
   makes_many Told is steps Goes takes never = takes.2 refl
-  makes_many Going is steps o takes never = takes.1
+  makes_many Going is steps (Asks question) takes never = (tt, takes.1)
+  makes_many Going is steps Waits takes never = (tt, takes.1)
+  makes_many Going is steps Ready takes never = (tt, takes.1)
+  makes_many Going is steps o takes never = (takes.0, takes.1)
   makes_many Told is steps o takes never = takes.1
 
 -- what is never refused as busy

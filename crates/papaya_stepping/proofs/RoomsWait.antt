@@ -51,9 +51,10 @@ use Rattle.papaya_scheduler.proofs.Given.Waits.Awaited.{by_copier}
 use Rattle.papaya_scheduler.proofs.Given.Waits.Laws.{rooms_wait_for_a_copying, room_rows_wait_for_a_holder, sweeps_wait_for_a_copying, sweep_rows_wait_for_a_holder}
 use Rattle.papaya_scheduler.proofs.Given.Waits.Promised.{map_of}
 use Rattle.papaya_schedules.specs.declared.effect.Table.{Table as Numbered}
-use Rattle.papaya_schedules.specs.InUse.{may_wait_for}
-use Rattle.papaya_schedules.specs.Moment.{Moment}
+use Rattle.papaya_schedules.specs.Moment.{UnderWay as CallThere, Moment}
 use Rattle.papaya_schedules.specs.Terms.{Terms}
+use Rattle.papaya_schedules.specs.Views.{call_of}
+use Rattle.papaya_schedules.specs.Waiting.{may_wait_for}
 use Rattle.papaya_scheduler.specs.Given.Effects.Effects.{effects_of}
 use Rattle.papaya_scheduler.specs.Given.Effects.Known.{known}
 use Rattle.papaya_scheduler.specs.Given.Effects.declared.acting.Acting.TheVariants as acts
@@ -62,6 +63,7 @@ use Rattle.papaya_scheduler.specs.Given.Teller.declared.changed.Changed.{Changed
 use Rattle.papaya_scheduler.specs.Given.Teller.declared.changed.Changed.TheVariants as changed
 use Rattle.papaya_scheduler.specs.Given.Finishes.Maps.{Standing}
 use Rattle.papaya_scheduler.specs.Given.Executor.IsAt.{slot_of}
+use Rattle.papaya_scheduler.specs.Given.Follows.Calls.{IsCalled}
 use Rattle.papaya_scheduler.specs.Given.Follows.Maps.{table_of}
 use Rattle.papaya_scheduler.proofs.Given.Executor.Forgotten.{as_step}
 use Rattle.papaya_scheduler.proofs.Given.Owes.Tables.Hosts.{Step}
@@ -69,7 +71,7 @@ use Rattle.papaya_scheduler.specs.Played.{StandsFor}
 use Rattle.papaya_scheduler.specs.declared.scheduler.Scheduler.{Scheduler}
 use Rattle.papaya_stepping.proofs.CopiesWait.{all_together, copier_knows, is_lawful, noted_table, other_waits}
 use Rattle.papaya_stepping.proofs.QuietCopies.{IsQuiet, quiet_does, room_copier_told, room_row_quiet, sweep_copier_told, sweep_row_quiet}
-use Rattle.papaya_stepping.proofs.Waiting.{waits_for_holder}
+use Rattle.papaya_stepping.proofs.Waiting.{IsForResizes, room_for_resizes, sweep_for_resizes, waits_for_holder}
 use Rattle.papaya_scheduler.specs.Given.Points.FactsCopiesBlocking.{CopierFactsBlocking, CopyingFactsBlocking}
 use Rattle.papaya_scheduler.specs.Given.Late.LateCopies.{LateCopierFacts, LateCopying}
 use Rattle.papaya_scheduler.specs.Given.Kept.Ends.{HaveEndsIn}
@@ -119,8 +121,11 @@ module _ {K V S : Type 0} (same : K → K → Bool) (hash : K → ℕ) (terms : 
     abbrev its_setting : Setting
     its_setting = in_slot st.setting (slot_of i)
 
+    abbrev its : (c : CallThere K V) × (call_of (stands.name i) m ≡ Some c) × (c.map ≡ of) × IsCalled same x c.call
+    its = stands.shown.shows.all.shown.calls of i x under
+
     abbrev Waits : Type 0
-    Waits = list_any (may_wait_for (stands.shown.shows.all.shown.calls of i x under).0 m) m.calls ≡ true
+    Waits = list_any (may_wait_for same its.0 m) m.calls ≡ true
 
     abbrev Nothing : Changed → Type 0
     Nothing told = effects_of (acts.Call i of) (known p.logged.notes) told ≡ []
@@ -202,27 +207,30 @@ module _ {K V S : Type 0} (same : K → K → Bool) (hash : K → ℕ) (terms : 
       ends_in : (b : Bool) → is_incremental st.setting.mode ≡ b → HaveEndsIn b st.chart calls_on
       ends_in b mode = subst (λ (n : Bool). HaveEndsIn n st.chart calls_on) mode (stands.shown.kept.ends of st is)
 
+      abbrev Resizes : Type 0
+      Resizes = IsForResizes same m its.0
+
       -- in blocking mode it waits where it asks
-      at_once : is_incremental st.setting.mode ≡ false → Waits
-      at_once mode = by copier.stands refl awaits
+      at_once : Resizes → is_incremental st.setting.mode ≡ false → Waits
+      at_once resizes mode = by copier.stands refl awaits
         where
           by : (q : Copying) → copier.stands ≡ q → CopierAwaits st.chart (is_incremental st.setting.mode) copier q → Waits
           by copies.Asks here (spent, unfinished) =
-              other_waits same hash terms m p stands of st is i x under
+              other_waits same hash terms m p stands of st is i x under resizes
               (asked_at_once V same hash same st.setting slot_of w st.chart st.blocks st.sights calls_on together mode (ends_in false mode) i x under copier within here spent unfinished)
           by copies.Marks here (incremental, being, open_still) = absurd (cc (incremental, mode))
           by _ here awaits_so = absurd awaits_so
 
-      pub copier_waits : Waits
-      copier_waits = by (is_incremental st.setting.mode) refl
+      pub copier_waits : Resizes → Waits
+      copier_waits resizes = by (is_incremental st.setting.mode) refl
         where
           by : (b : Bool) → is_incremental st.setting.mode ≡ b → Waits
           by true mode =
-              other_waits same hash terms m p stands of st is i x under
+              other_waits same hash terms m p stands of st is i x under resizes
               (by_copier V same hash same st.setting slot_of w st.chart st.blocks st.sights calls_on together mode (ends_in true mode) i x under copier within seen
               (copier_knows same hash terms m p stands of st is i x under mode copier none within)
               (subst (λ (n : Bool). CopierAwaits st.chart n copier copier.stands) mode awaits))
-          by false mode = at_once mode
+          by false mode = at_once resizes mode
 
     -- what is said of it: its step does nothing, and it waits for one that it may wait for
     abbrev pub SaysWaits : Changed → Type 0
@@ -270,7 +278,7 @@ module _ {K V S : Type 0} (same : K → K → Bool) (hash : K → ℕ) (terms : 
         by (reserves.Copies copier) here awaits t = (
           does_nothing i (ForRoom r) under copier (ap copier_in_room here) awaits told
               (room_copier_told before m2 told hash r.reserve st.chart (is_incremental st.setting.mode) copier awaits (p2, outcome.Waits) t),
-          copier_waits i (ForRoom r) under copier (ap copier_in_room here) awaits,
+          copier_waits i (ForRoom r) under copier (ap copier_in_room here) awaits (room_for_resizes same m r (its i (ForRoom r) under).0 (its i (ForRoom r) under).3),
         )
         by _ here none t = absurd none
 
@@ -324,6 +332,6 @@ module _ {K V S : Type 0} (same : K → K → Bool) (hash : K → ℕ) (terms : 
         by (sweeps.Copies copier) here awaits t = (
           does_nothing i (OverAll o) under copier (ap copier_in_sweep here) awaits told
               (sweep_copier_told before m2 told hash o.sweep st.chart (is_incremental st.setting.mode) copier awaits (p2, swept.Waits) t),
-          copier_waits i (OverAll o) under copier (ap copier_in_sweep here) awaits,
+          copier_waits i (OverAll o) under copier (ap copier_in_sweep here) awaits (sweep_for_resizes same m o (its i (OverAll o) under).0 (its i (OverAll o) under).3),
         )
         by _ here none t = absurd none

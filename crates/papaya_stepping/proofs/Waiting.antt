@@ -1,11 +1,12 @@
--- Which call another one may wait for, by the moment that shows them: one that copies on its map, or that has the batch of its slot in hand.
-use Rattle.std.specs.Prelude.{◌∷◌, ◌-◌, ◌==◌, ◌&&◌, ◌||◌, nat_le, nat_lt, not, length, filter, map, Some}
+-- Which call another one may wait for, by the moment that shows them: one that works on its map while that is as it waits for, or that has the batch of its slot in hand.
+use Rattle.std.specs.Prelude.{◌∷◌, ◌-◌, ◌==◌, ◌&&◌, ◌||◌, nat_le, nat_lt, not, length, filter, map, Some, if◌then◌else◌}
 use Rattle.std.specs.List.{list_any}
 use Rattle.std.proofs.Common.{◌≡◌, ℕ, zero, suc, ◌≤◌, ◌<◌, Bool, true, false, List, refl, sym, ap, ◌∙◌, inl, inr, arith}
 use Rattle.std.proofs.lemmas.Bool.{eq-eqb}
 use Rattle.std.proofs.lemmas.List.{length-map}
 use Rattle.papaya_scheduler.specs.Given.Seize.World.{Rests}
 use Rattle.papaya_scheduler.specs.Given.SeizeEnds.Holders.{has_batch}
+use Rattle.papaya_scheduler.specs.Given.Tables.Chunks.{is_incremental}
 use Rattle.papaya_raw.specs.declared.machines.call.Calling.{Calling}
 use Rattle.papaya_raw.specs.declared.machines.call.Calling.TheVariants as at
 use Rattle.papaya_scheduler.specs.Given.Rule.Chart.{Chart}
@@ -13,16 +14,23 @@ use Rattle.papaya_scheduler.specs.Given.Rule.Words.{Blocks}
 use Rattle.papaya_scheduler.specs.Given.Shown.Shown.{tables_on}
 use Rattle.papaya_runs.specs.Present.{slot_of_guard}
 use Rattle.papaya_runs.specs.Same.{is_same}
+use Rattle.papaya_schedules.specs.declared.call.Call.{Call}
+use Rattle.papaya_schedules.specs.declared.call.Call.TheVariants.{Clear, On, Reserve, Retain, Walk}
+use Rattle.papaya_schedules.specs.declared.call.OneKey.{OneKey}
 use Rattle.papaya_schedules.specs.declared.effect.Thing.{Thing}
 use Rattle.papaya_schedules.specs.Growing.{only_looks}
-use Rattle.papaya_schedules.specs.InUse.{is_handing, may_wait_for}
+use Rattle.papaya_schedules.specs.InUse.{is_handing}
 use Rattle.papaya_schedules.specs.Lists.{is_empty}
 use Rattle.papaya_schedules.specs.Moment.{TableThere, UnderWay as CallThere, Moment}
 use Rattle.papaya_schedules.specs.Terms.{Terms}
-use Rattle.papaya_schedules.specs.Views.{call_of, chain_of, first_of, first_or, tables_of}
+use Rattle.papaya_schedules.specs.Sequential.{key_of}
+use Rattle.papaya_schedules.specs.Views.{call_of, chain_of, finite_map, first_of, first_or, grows_in_chunks, map_at, tables_of}
+use Rattle.papaya_schedules.specs.Waiting.{is_resizing, is_to_be_copied, may_wait_for, waits_on_map}
 use Rattle.papaya_scheduler.specs.Given.Late.Kinds.{LooksAt}
 use Rattle.papaya_scheduler.specs.Given.Points.Told.{IsRowOfCall}
-use Rattle.papaya_scheduler.specs.Given.Callers.Together.{UnderWay, OnKey, ForRoom, Counting, OverAll}
+use Rattle.papaya_scheduler.specs.Given.Callers.OverAll.{CallOverAll}
+use Rattle.papaya_scheduler.specs.Given.Callers.Rooms.{CallForRoom}
+use Rattle.papaya_scheduler.specs.Given.Callers.Together.{CallOnKey, UnderWay, OnKey, ForRoom, Counting, OverAll}
 use Rattle.papaya_scheduler.specs.Given.Finishes.Machines.{machine_of}
 use Rattle.papaya_scheduler.specs.Given.Finishes.Maps.{Standing}
 use Rattle.papaya_scheduler.specs.Given.Executor.IsAt.{slot_of}
@@ -48,7 +56,7 @@ all_true false b c x y z = absurd (cc x)
 all_true true false c x y z = absurd (cc y)
 all_true true true false x y z = absurd (cc z)
 
-both_true : (a b : Bool) → a ≡ true → b ≡ true → (a && b) ≡ true
+pub both_true : (a b : Bool) → a ≡ true → b ≡ true → (a && b) ≡ true
 both_true true true x y = refl
 both_true false b x y = absurd (cc x)
 both_true true false x y = absurd (cc y)
@@ -68,15 +76,58 @@ no_row (at.Looks lookup) looks row = row
 no_row (at.Over end) looks row = row
 no_row _ looks row = absurd looks
 
+-- For what a call waits on its map, by what was called.
+module _ {K V : Type 0} (same : K → K → Bool) (m : Moment K V) where
+  -- it waits for whichever copying of a table,
+  abbrev pub IsForResizes : CallThere K V → Type 0
+  IsForResizes c = (d : CallThere K V) → waits_on_map same c.call c m d ≡ is_resizing c.map m d
+
+  -- as one does that is not on one key,
+  module _ (c d : CallThere K V) where
+    room_so : (r : CallForRoom) (call : Call K V) → IsCalled same (ForRoom r) call → waits_on_map same call c m d ≡ is_resizing c.map m d
+    room_so r (Reserve more) called = refl
+    room_so r _ called = absurd called
+
+    sweep_so : (o : CallOverAll) (call : Call K V) → IsCalled same (OverAll o) call → waits_on_map same call c m d ≡ is_resizing c.map m d
+    sweep_so o Clear called = refl
+    sweep_so o Retain called = refl
+    sweep_so o Walk called = refl
+    sweep_so o _ called = absurd called
+
+    at_once_so : grows_in_chunks (map_at c.map m) ≡ false → (call : Call K V) → waits_on_map same call c m d ≡ is_resizing c.map m d
+    at_once_so blocking (On one) = ap (λ (b : Bool). if b then is_to_be_copied c.map m (finite_map same c.map m (key_of one)) else is_resizing c.map m d) blocking
+    at_once_so blocking _ = refl
+
+    -- or, on one key, for the copying of its pair alone
+    pub for_pair : grows_in_chunks (map_at c.map m) ≡ true → (u : CallOnKey K V K) (call : Call K V) → IsCalled same (OnKey u) call
+        → ((one : OneKey K V) → u.keys ≡ same (key_of one) → is_to_be_copied c.map m (finite_map same c.map m (key_of one)) ≡ true) → waits_on_map same call c m d ≡ true
+    for_pair chunks u (On one) called copied = ap (λ (b : Bool). if b then is_to_be_copied c.map m (finite_map same c.map m (key_of one)) else is_resizing c.map m d) chunks ∙ copied one called
+    for_pair chunks u _ called copied = absurd called
+
+  pub room_for_resizes : (r : CallForRoom) (c : CallThere K V) → IsCalled same (ForRoom r) c.call → IsForResizes c
+  room_for_resizes r c called d = room_so c d r c.call called
+
+  pub sweep_for_resizes : (o : CallOverAll) (c : CallThere K V) → IsCalled same (OverAll o) c.call → IsForResizes c
+  sweep_for_resizes o c called d = sweep_so c d o c.call called
+
+  pub at_once_for_resizes : (c : CallThere K V) → grows_in_chunks (map_at c.map m) ≡ false → IsForResizes c
+  at_once_for_resizes c blocking d = at_once_so c d blocking c.call
+
 module _ {K V S : Type 0} (same : K → K → Bool) (hash : K → ℕ) (terms : Terms) (m : Moment K V) (p : Scheduler K V S) (stands : StandsFor same hash terms m p) where
-  -- the tables of a map from its root on are counted by its chart
   module _ (number : ℕ) (st : Standing K) (is : stands.scene.maps number ≡ Some st) where
+    -- the moment says how a map grows, and which table is its root's
+    pub grows_as : grows_in_chunks (map_at number m) ≡ is_incremental st.setting.mode
+    grows_as = let shows = stands.shown.shows.all.shown.maps number st is in ap grows_in_chunks shows.there.is ∙ ap is_incremental shows.there.mode
+
+    pub first_as : first_of number m ≡ st.chart.first
+    first_as = let shows = stands.shown.shows.all.shown.maps number st is in ap first_or shows.there.is ∙ shows.there.first
+
+    -- and its tables from the root on are counted by its chart
     chain_length : st.chart.first ≤ st.chart.past → length (chain_of number m) ≡ st.chart.past - st.chart.first
     chain_length upto =
         let shows = stands.shown.shows.all.shown.maps number st is in
-        let first : first_of number m ≡ st.chart.first = ap first_or shows.there.is ∙ shows.there.first in
         sym (length-map (chain_of number m) (λ t. t.shape))
-        ∙ ap length (ap (λ (f : ℕ). map (λ t. t.shape) (filter (λ t. nat_le f t.table.turn) (tables_of number m))) first
+        ∙ ap length (ap (λ (f : ℕ). map (λ t. t.shape) (filter (λ t. nat_le f t.table.turn) (tables_of number m))) first_as
         ∙ ap (λ (xs : List TableThere). map (λ t. t.shape) (filter (λ t. nat_le st.chart.first t.table.turn) xs)) shows.tables.listed
         ∙ shapes_from st.chart st.blocks number shows.tables.stage st.chart.first st.chart.past upto)
         ∙ length-map (tables_on st.chart st.blocks st.chart.first (st.chart.past - st.chart.first)) shape_of
@@ -115,25 +166,27 @@ module _ {K V S : Type 0} (same : K → K → Bool) (hash : K → ℕ) (terms : 
 
     -- it passes as one to wait for
     passes : only_looks one.0.call ≡ false
-        → ((((one.0.map == its.0.map) && nat_lt 1 (length (chain_of its.0.map m)))
-        || (is_handing one.0 && ((one.0.map == its.0.map) || (slot_of_guard one.0.guard m.there == slot_of_guard its.0.guard m.there)))) ≡ true)
-        → list_any (may_wait_for its.0 m) m.calls ≡ true
+        → ((((one.0.map == its.0.map) && waits_on_map same its.0.call its.0 m one.0)
+        || (is_handing one.0 && (slot_of_guard one.0.guard m.there == slot_of_guard its.0.guard m.there))) ≡ true)
+        → list_any (may_wait_for same its.0 m) m.calls ≡ true
     passes looks so =
-        one_passes (λ c. is_same c.caller (stands.name j)) (may_wait_for its.0 m) m.calls one.0 one.1
+        one_passes (λ c. is_same c.caller (stands.name j)) (may_wait_for same its.0 m) m.calls one.0 one.1
         (all_true (not (is_same one.0.caller its.0.caller)) (not (only_looks one.0.call)) _ (ap not apart) (ap not looks) so)
 
-    -- one that copies on its map, which has a second table
-    pub waits_for_copier : n ≡ of → (IsLooking (machine_of x) → ⊥) → (st : Standing K) → stands.scene.maps of ≡ Some st → suc st.chart.first < st.chart.past → list_any (may_wait_for its.0 m) m.calls ≡ true
-    waits_for_copier on never st is more =
-        passes (works never)
-        (or_left _ _
-        (ap (λ (b : Bool). b && nat_lt 1 (length (chain_of its.0.map m))) (eq-eqb one.0.map its.0.map (one.2 ∙ on ∙ sym its.2))
-        ∙ ap (λ (k : ℕ). nat_lt 1 (length (chain_of k m))) its.2 ∙ chain_longer of st is more))
+    -- one that works on its map, while that is as it waits for
+    pub waits_for_worker : waits_on_map same its.0.call its.0 m one.0 ≡ true → n ≡ of → (IsLooking (machine_of x) → ⊥) → list_any (may_wait_for same its.0 m) m.calls ≡ true
+    waits_for_worker so on never = passes (works never) (or_left _ _ (both_true _ _ (eq-eqb one.0.map its.0.map (one.2 ∙ on ∙ sym its.2)) so))
 
-    -- one on its map that hands something over
-    pub waits_for_handing : n ≡ of → (IsLooking (machine_of x) → ⊥) → is_handing one.0 ≡ true → list_any (may_wait_for its.0 m) m.calls ≡ true
-    waits_for_handing on never handing =
-        passes (works never) (or_right _ _ (both_true _ _ handing (or_left _ _ (eq-eqb one.0.map its.0.map (one.2 ∙ on ∙ sym its.2)))))
+    module _ (resizes : IsForResizes same m its.0) where
+      -- one that copies on its map, which has a second table
+      pub waits_for_copier : n ≡ of → (IsLooking (machine_of x) → ⊥) → (st : Standing K) → stands.scene.maps of ≡ Some st → suc st.chart.first < st.chart.past
+          → list_any (may_wait_for same its.0 m) m.calls ≡ true
+      waits_for_copier on never st is more =
+          waits_for_worker (resizes one.0 ∙ or_left _ _ (ap (λ (k : ℕ). nat_lt 1 (length (chain_of k m))) its.2 ∙ chain_longer of st is more)) on never
+
+      -- one on its map that hands something over
+      pub waits_for_handing : n ≡ of → (IsLooking (machine_of x) → ⊥) → is_handing one.0 ≡ true → list_any (may_wait_for same its.0 m) m.calls ≡ true
+      waits_for_handing on never handing = waits_for_worker (resizes one.0 ∙ or_right _ _ handing) on never
 
     -- as one does that owes something
     pub owing_hands : (thing : Thing) (rest : List Thing) → one.0.owes ≡ thing ∷ rest → is_handing one.0 ≡ true
@@ -155,7 +208,7 @@ module _ {K V S : Type 0} (same : K → K → Bool) (hash : K → ℕ) (terms : 
 
   -- one that has the batch of its slot in hand
   pub waits_for_holder : (of i j : ℕ) (u : UnderWay K V K) (under : stands.scene.calls of i ≡ Some u) → has_batch (slot_of i) (stands.scene.world.row j) ≡ true → (j ≡ i → ⊥)
-      → list_any (may_wait_for (stands.shown.shows.all.shown.calls of i u under).0 m) m.calls ≡ true
+      → list_any (may_wait_for same (stands.shown.shows.all.shown.calls of i u under).0 m) m.calls ≡ true
   waits_for_holder of i j u under has other =
       let call = has_call same hash terms m p stands j (slot_of i) has in
       let busy : stands.scene.world.row j ≡ Rests → ⊥ = λ rests. (let none = ap (has_batch (slot_of i)) rests in cc (none, has)) in
@@ -164,4 +217,4 @@ module _ {K V S : Type 0} (same : K → K → Bool) (hash : K → ℕ) (terms : 
       let handing = stands.shown.kept.handing call.0 j call.1 call.2 busy (stands.shown.shows.all.shown.calls call.0 j call.1 call.2).0 (stands.shown.shows.all.shown.calls call.0 j call.1 call.2).1 in
       passes of call.0 i j u call.1 under call.2 other (works of call.0 i j u call.1 under call.2 other (λ looks. busy (looks_rest call.0 j call.1 call.2 looks)))
       (or_right _ _
-      (both_true _ _ handing (or_right _ _ (eq-eqb _ _ (theirs ∙ sym mine)))))
+      (both_true _ _ handing (eq-eqb _ _ (theirs ∙ sym mine))))

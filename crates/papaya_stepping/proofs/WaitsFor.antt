@@ -1,7 +1,7 @@
--- A call on one key that waits, waits for a call that the moment tells, for which it may wait; and its step has changed nothing.
+-- A call on one key that waits, waits for a call that the moment tells, for which it may wait, in incremental mode for the copying of its key's pair alone; and its step has changed nothing.
 use Rattle.std.specs.Prelude.{Option, Some}
 use Rattle.std.specs.List.{list_any}
-use Rattle.std.proofs.Common.{◌≡◌, ℕ, suc, ◌⊎◌, inl, inr, Bool, true, false, refl, ap, sym, subst}
+use Rattle.std.proofs.Common.{◌≡◌, ℕ, suc, ◌<◌, ◌⊎◌, inl, inr, Bool, true, false, refl, ap, sym, subst, ◌∙◌}
 use Rattle.papaya_scheduler.specs.Given.Waits.Others.{copier_in}
 use Rattle.papaya_scheduler.specs.Given.SeizeWords.Mem.{Mem, Took, value_at}
 use Rattle.papaya_scheduler.specs.Given.SeizeWords.Plan.{Steps}
@@ -31,22 +31,29 @@ use Rattle.papaya_scheduler.specs.Given.Callers.Together.{CallOnKey, UnderWay, O
 use Rattle.papaya_scheduler.proofs.Given.Whole.Rows.Kinds.{row_decided}
 use Rattle.papaya_scheduler.specs.Given.Waits.Waits.{AnotherHolds, CallAwaits, CopierAwaits, IsBeingCopied}
 use Rattle.papaya_scheduler.proofs.Given.Waits.Claimed.{pairs_are_copied_by_calls}
+use Rattle.papaya_lowers.proofs.ItsPair.{waits_for_its_pair}
 use Rattle.papaya_scheduler.proofs.Given.Waits.Laws.{calls_wait_for_a_copying, call_rows_wait_for_a_holder}
+use Rattle.papaya_scheduler.proofs.Given.Waits.Promised.{map_of}
 use Rattle.papaya_scheduler.proofs.Given.Waits.Works.{not_idle, works}
-use Rattle.papaya_schedules.specs.InUse.{may_wait_for}
-use Rattle.papaya_schedules.specs.Moment.{Moment}
+use Rattle.papaya_schedules.specs.declared.call.OneKey.{OneKey}
+use Rattle.papaya_schedules.specs.Moment.{UnderWay as CallThere, Moment}
+use Rattle.papaya_schedules.specs.Sequential.{key_of}
 use Rattle.papaya_schedules.specs.Terms.{Terms}
+use Rattle.papaya_schedules.specs.Views.{call_of, finite_map, grows_in_chunks, map_at}
+use Rattle.papaya_schedules.specs.Waiting.{is_to_be_copied, may_wait_for, waits_on_map}
 use Rattle.papaya_scheduler.specs.Given.Teller.declared.changed.Changed.{Changed}
 use Rattle.papaya_scheduler.specs.Given.Teller.declared.changed.Changed.TheVariants as changed
 use Rattle.papaya_scheduler.specs.Given.Finishes.Maps.{Standing}
 use Rattle.papaya_scheduler.specs.Given.Executor.IsAt.{slot_of}
+use Rattle.papaya_scheduler.specs.Given.Follows.Calls.{IsCalled}
 use Rattle.papaya_scheduler.proofs.Given.Executor.Forgotten.{as_step}
 use Rattle.papaya_scheduler.proofs.Given.Owes.Tables.Hosts.{Step}
 use Rattle.papaya_scheduler.specs.Played.{StandsFor}
 use Rattle.papaya_scheduler.specs.declared.scheduler.Scheduler.{Scheduler}
 use Rattle.papaya_stepping.proofs.CopiesWait.{only_looks_by}
+use Rattle.papaya_stepping.proofs.BeingCopied.{may_be_copied}
 use Rattle.papaya_stepping.proofs.QuietWaits.{asked_quiet, row_quiet, try_quiet}
-use Rattle.papaya_stepping.proofs.Waiting.{waits_for_copier, waits_for_holder}
+use Rattle.papaya_stepping.proofs.Waiting.{at_once_for_resizes, for_pair, grows_as, waits_for_holder, waits_for_worker}
 use Rattle.papaya_stepping.proofs.RoomsWait.{at_once_on, copier_on, copier_waits, dispose_on, late_on, on_slot}
 
 module _ {K V S : Type 0} (same : K → K → Bool) (hash : K → ℕ) (terms : Terms) (m : Moment K V) (p : Scheduler K V S) (stands : StandsFor same hash terms m p) (of i : ℕ) (u : CallOnKey K V K)
@@ -72,8 +79,14 @@ module _ {K V S : Type 0} (same : K → K → Bool) (hash : K → ℕ) (terms : 
   lawful : AreLawful same hash
   lawful = subst (λ (h : K → ℕ). AreLawful same h) hash_is (stands.shown.is_at.together.makings.standing.fit of st is).0
 
+  abbrev its : (c : CallThere K V) × (call_of (stands.name i) m ≡ Some c) × (c.map ≡ of) × IsCalled same (OnKey u) c.call
+  its = stands.shown.shows.all.shown.calls of i (OnKey u) under
+
+  grows : grows_in_chunks (map_at its.0.map m) ≡ is_incremental st.setting.mode
+  grows = ap (λ (n : ℕ). grows_in_chunks (map_at n m)) its.2 ∙ grows_as same hash terms m p stands of st is
+
   abbrev Waits : Type 0
-  Waits = list_any (may_wait_for (stands.shown.shows.all.shown.calls of i (OnKey u) under).0 m) m.calls ≡ true
+  Waits = list_any (may_wait_for same its.0 m) m.calls ≡ true
 
   module _ (mode : is_incremental st.setting.mode ≡ true) where
     -- in incremental mode it goes on in the tables from the root on
@@ -82,14 +95,18 @@ module _ {K V S : Type 0} (same : K → K → Bool) (hash : K → ℕ) (terms : 
     fresh_of (inl fresh) = fresh
     fresh_of (inr (same_change, late)) = absurd (let blocking = late.blocking in cc (mode, blocking))
 
-    -- at its try it has claimed no place
-    none_claimed : u.call.stands ≡ at.Probes → (j : ℕ) → st.chart.share (suc st.chart.first) j ≡ Claimed i → ⊥
-    none_claimed here j claimed = elim (together.stand i (OnKey u) under) as (λ _. ⊥) [
-      | inl rests ↦
-          not_idle same hash same st.setting slot_of w st.chart st.blocks st.sights calls_on together mode i j seen
-          ((fresh_of rests.1.facts).idle (λ copying. subst (λ (q : Calling). IsCopying q) here copying)) (inl claimed)
-      | inr within ↦ subst (λ (q : Calling). IsRowOfCall q) here within.1
+    -- so it does at its try,
+    knows : u.call.stands ≡ at.Probes → CallFacts same hash same w i its_setting st.chart seen u.keys u.change u.call
+    knows here = elim (together.stand i (OnKey u) under) as (λ _. CallFacts same hash same w i its_setting st.chart seen u.keys u.change u.call) [
+      | inl rests ↦ fresh_of rests.1.facts
+      | inr within ↦ absurd (subst (λ (q : Calling). IsRowOfCall q) here within.1)
     ]
+
+    -- where it has claimed no place
+    none_claimed : u.call.stands ≡ at.Probes → (j : ℕ) → st.chart.share (suc st.chart.first) j ≡ Claimed i → ⊥
+    none_claimed here j claimed =
+        not_idle same hash same st.setting slot_of w st.chart st.blocks st.sights calls_on together mode i j seen
+        ((knows here).idle (λ copying. subst (λ (q : Calling). IsCopying q) here copying)) (inl claimed)
 
   -- the row that it stands at, which it has under way or is about to begin, works on its slot
   begins_on : (q : Calling) → CallingFacts same hash same w i its_setting st.chart seen u.keys u.change u.call q → IsRowOn (slot_of i) (row_of (slot_of i) q)
@@ -119,20 +136,32 @@ module _ {K V S : Type 0} (same : K → K → Bool) (hash : K → ℕ) (terms : 
       waits_for_holder same hash terms m p stands of i j (OnKey u) under
       (subst (λ (n : ℕ). has_batch n (w.row j) ≡ true) (on_slot (slot_of i) s (row_of (slot_of i) u.call.stands) its_row_on on) has) other
 
-  module _ (mode : is_incremental st.setting.mode ≡ true) where
-    -- another call copies the pair that it has come to
-    by_copier : u.call.stands ≡ at.Probes → (t place : ℕ) → IsBeingCopied st.chart t place → Waits
-    by_copier here t place being =
-        let pair = pairs_are_copied_by_calls V same hash same st.setting slot_of w st.chart st.blocks st.sights calls_on together mode t place being in
-        waits_for_copier same hash terms m p stands of of i pair.2 (OnKey u) pair.3 under pair.4
-        (λ e. none_claimed mode here place (subst (λ (n : ℕ). st.chart.share (suc st.chart.first) place ≡ Claimed n) e pair.5)) refl
-        (λ looks. works same hash same st.setting slot_of w st.chart st.blocks st.sights calls_on together mode pair.2 place pair.3 pair.4 (inl pair.5) (only_looks_by pair.3 looks))
-        st is pair.1
-
   module _ (m2 : Mem (Node K V)) (told : Changed) (p2 : KeyCall K V K) (s : Step p.logged.executor.memory.memory m2 told (call_plan same same hash u.call) (p2, says.Waits)) where
     steps : Steps Took value_at w.memory (call_plan same same hash u.call) m2 (p2, says.Waits)
     steps = subst (λ (x : Mem (Node K V)). Steps Took value_at x (call_plan same same hash u.call) m2 (p2, says.Waits)) (sym stands.shown.is_at.memory)
         (as_step p.logged.executor.memory.memory changed.Nothing (call_plan same same hash u.call) m2 told (p2, says.Waits) s)
+
+    module _ (mode : is_incremental st.setting.mode ≡ true) (here : u.call.stands ≡ at.Probes) where
+      -- it waits for its key's pair, which the map has, and which is being copied out of the root
+      for_its_pair : suc st.chart.first < st.chart.past → (d : CallThere K V) → waits_on_map same its.0.call its.0 m d ≡ true
+      for_its_pair linked d = for_pair same m its.0 d (grows ∙ mode) u its.0.call its.3 of_key
+        where
+          of_key : (one : OneKey K V) → u.keys ≡ same (key_of one) → is_to_be_copied its.0.map m (finite_map same its.0.map m (key_of one)) ≡ true
+          of_key one keys =
+              let pair =
+              waits_for_its_pair same hash same i its_setting u.keys lawful w st.chart seen (map_of V same hash same st.setting slot_of w st.chart st.blocks st.sights calls_on together i (OnKey u) under)
+              u.call u.change (knows mode here) here m2 p2 steps in
+              subst (λ (n : ℕ). is_to_be_copied n m (finite_map same n m (key_of one)) ≡ true) (sym its.2)
+              (may_be_copied same hash terms m p stands of st is (key_of one) pair.0 u.call.trial.probe.i pair.1 pair.2 pair.3 pair.4 pair.5 (sym (ap (λ (f : K → Bool). f pair.4) keys) ∙ pair.6) linked)
+
+      -- another call copies it
+      by_copier : (t place : ℕ) → IsBeingCopied st.chart t place → Waits
+      by_copier t place being =
+          let pair = pairs_are_copied_by_calls V same hash same st.setting slot_of w st.chart st.blocks st.sights calls_on together mode t place being in
+          let its_copier = stands.shown.shows.all.shown.calls of pair.2 pair.3 pair.4 in
+          waits_for_worker same hash terms m p stands of of i pair.2 (OnKey u) pair.3 under pair.4
+          (λ e. none_claimed mode here place (subst (λ (n : ℕ). st.chart.share (suc st.chart.first) place ≡ Claimed n) e pair.5)) (for_its_pair pair.1 its_copier.0) refl
+          (λ looks. works same hash same st.setting slot_of w st.chart st.blocks st.sights calls_on together mode pair.2 place pair.3 pair.4 (inl pair.5) (only_looks_by pair.3 looks))
 
     -- its step has changed nothing
     pub quiet : told ≡ changed.Nothing
@@ -163,5 +192,6 @@ module _ {K V S : Type 0} (same : K → K → Bool) (hash : K → ℕ) (terms : 
       where
         by : (q : Calling) → u.call.stands ≡ q → CallAwaits st.chart (is_incremental st.setting.mode) u.call q → Waits
         by at.Probes here (incremental, being) = by_copier incremental here u.call.trial.table.turn u.call.trial.probe.i being
-        by (at.Copies copier) here (blocking, awaits) = copier_waits same hash terms m p stands of st is i (OnKey u) under copier (ap copier_in here) awaits
+        by (at.Copies copier) here (blocking, awaits) =
+            copier_waits same hash terms m p stands of st is i (OnKey u) under copier (ap copier_in here) awaits (at_once_for_resizes same m its.0 (grows ∙ blocking))
         by _ here none = absurd none

@@ -24,7 +24,7 @@ use Rattle.papaya_schedules.specs.Beginning.{at_work}
 use Rattle.papaya_schedules.specs.Coming.{CountsTooMany, is_answer, is_at_limit, is_compute, is_walk, may_ask}
 use Rattle.papaya_schedules.specs.Effects.{with_effects, worked}
 use Rattle.papaya_schedules.specs.Entry.{Entry, IfCall, acting, caller_of, nameless}
-use Rattle.papaya_schedules.specs.InUse.{is_living, may_wait_for}
+use Rattle.papaya_schedules.specs.InUse.{is_living}
 use Rattle.papaya_schedules.specs.Growing.{only_looks}
 use Rattle.papaya_schedules.specs.Lists.{OneOf}
 use Rattle.papaya_schedules.specs.Moment.{UnderWay as CallThere, Moment}
@@ -32,6 +32,7 @@ use Rattle.papaya_schedules.specs.Sequential.{is_lookup}
 use Rattle.papaya_schedules.specs.Steps.{DoesFew, MakesSteps, stands_or, weight}
 use Rattle.papaya_schedules.specs.Terms.{Terms}
 use Rattle.papaya_schedules.specs.Views.{call_of, map_of}
+use Rattle.papaya_schedules.specs.Waiting.{WaitsLawfully, may_wait_for}
 use Rattle.papaya_scheduler.specs.Given.Late.Faults.{IsRoom}
 use Rattle.papaya_scheduler.specs.Given.Effects.Known.{Known, known}
 use Rattle.papaya_scheduler.specs.Given.Executor.IsAt.{HasCall, IsAt, KeepsGiven, Scene}
@@ -160,7 +161,7 @@ module _ {K V S : Type 0} (same : K → K → Bool) (hash : K → ℕ) (terms : 
     -- one that waits does more than look, and waits for one that it may wait for; one that is refused for want of memory has asked for a growth, and nothing was made since
     pub works : outcome ≡ Waits → only_looks call.call ≡ false
     pub waits : outcome ≡ Waits → (let w = with_effects (Some own) (Some call.map) did m in
-        (d : CallThere K V) → call_of own w ≡ Some d → list_any (may_wait_for d w) w.calls ≡ true)
+        (d : CallThere K V) → call_of own w ≡ Some d → list_any (may_wait_for same d w) w.calls ≡ true)
     pub memory : outcome ≡ Refused Memory → (d : CallThere K V) → call_of own (with_effects (Some own) (Some call.map) did m) ≡ Some d → d.is_short ≡ true
     pub goes : goes_on outcome ≡ true → StandsFor same hash terms (with_effects (Some own) (Some call.map) did m) new × GoesAt own place new
     pub stands : (outcome ≡ Refused Busy → ⊥) → (counted : ℕ) → StandsFor same hash terms (come_to own outcome counted (with_effects (Some own) (Some call.map) did m)) new
@@ -305,12 +306,13 @@ module _ {K V S : Type 0} (same : K → K → Bool) (hash : K → ℕ) where
       × (ready_place own old.calls ≡ None → SaysAgain (Refused Busy) played old new)
 
   -- What is promised of an event by which a call goes on: the scheduler has played the log with it; it comes to what is right, where it does so in its case; it makes as many steps as it may, and
-  -- does not more; and what is refused as busy did nothing.
+  -- does not more; it waits only where it may; and what is refused as busy did nothing.
   pub record PlaysOn (terms : Terms) (log : List (Entry K V)) (e : Entry K V) (p : Scheduler K V S) : Type 0 where
     pub played : IsPlayed same hash terms (e ∷ log) p
     pub plays : ComesInCase terms log e → Plays same hash terms log e p
     pub makes : MakesSteps e.event (stands_or (acting (caller_of e.event) (at_work e (moment log)))) e.steps e.outcome
     pub does : DoesFew (caller_of e.event) e.steps e.effects
+    pub waits : WaitsLawfully same log e
     pub is_quiet : IsQuiet e.outcome e.effects
 
   abbrev pub PlaysOnAt : Event K V → Played V → (old new : Scheduler K V S) → Type 0
@@ -322,6 +324,7 @@ module _ {K V S : Type 0} (same : K → K → Bool) (hash : K → ℕ) where
     pub idle : e.effects ≡ []
     pub makes : MakesSteps e.event (stands_or (acting (caller_of e.event) (at_work e (moment log)))) e.steps e.outcome
     pub does : DoesFew (caller_of e.event) e.steps e.effects
+    pub waits : WaitsLawfully same log e
     pub is_quiet : IsQuiet e.outcome e.effects
 
   abbrev pub PlaysNextAt : List ℕ → Played V → (old new : Scheduler K V S) → Type 0

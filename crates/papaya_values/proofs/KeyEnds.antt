@@ -2,7 +2,7 @@
 use Rattle.std.specs.Prelude.{◌==◌, Option, Some, None, Ok, Err, if◌then◌else◌}
 use Rattle.std.proofs.Common.{◌≡◌, ℕ, Bool, true, false, eqb-true, refl, sym, subst}
 use Rattle.papaya_moments.specs.Given.SeizeWords.Mem.{Mem, Took, value_at}
-use Rattle.papaya_moments.specs.Given.SeizeWords.Op.{Out, Found, Stored, Exchanged, Made, Taken}
+use Rattle.papaya_moments.specs.Given.SeizeWords.Op.{Out, Found, Exchanged, Made, Taken}
 use Rattle.papaya_moments.specs.Given.SeizeWords.Plan.{Steps}
 use Rattle.papaya_moments.specs.Given.SeizeWords.Word.{block_in}
 use Rattle.papaya_moments.specs.Given.Seize.declared.rows.settle.Settled.{Settled}

@@ -39,7 +39,6 @@ use Rattle.papaya_moments.specs.Given.Schedules.declared.call.Reply.TheVariants.
 use Rattle.papaya_moments.specs.Given.Schedules.Moment.{Asking, UnderWay as CallThere, Moment}
 use Rattle.papaya_moments.specs.Given.Schedules.Things.{same_question}
 use Rattle.papaya_moments.specs.Given.Schedules.Views.{call_of, reply_to}
-use Rattle.papaya_moments.specs.Given.Points.FactsCalls.{Stored, Replaced, Removed}
 use Rattle.papaya_moments.specs.Given.Callers.Kind.{Kind, tries_to_insert}
 use Rattle.papaya_moments.specs.Given.Callers.Pairs.{Begun, Given, HandsBack}
 use Rattle.papaya_moments.specs.Given.Callers.Together.{CallOnKey, UnderWay, OnKey, ForRoom, Counting, OverAll}

@@ -2,6 +2,8 @@ pub mod Flushes
 pub mod Steps
 pub mod Mays
 pub mod Makings
+pub mod TablesMade
+pub mod Refusals
 pub mod Ends
 pub mod Registering
 pub mod Reached

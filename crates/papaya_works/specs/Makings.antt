@@ -1,11 +1,15 @@
 -- What the making of a map does: it asks for blocks, makes the map's first table, and links it.
-use Rattle.std.specs.Prelude.{◌≡◌, ℕ, Bool, true, false, List, [], Option, Some, None}
+use Rattle.std.specs.Prelude.{◌≡◌, ℕ, ◌+◌, Bool, true, false, List, [], ◌++◌, length, filter, Option, Some, None}
 use Rattle.std.specs.List.{list_all}
 use Rattle.papaya_legal.specs.Given.Seize.declared.progress.Progress.{Progress}
+use Rattle.papaya_legal.specs.Given.Seize.declared.progress.Progress.TheVariants as progress
 use Rattle.papaya_legal.specs.Given.Tables.declared.setting.Setting.{Setting}
+use Rattle.papaya_legal.specs.Given.Tables.declared.table.Table.{Table as Planned}
+use Rattle.papaya_legal.specs.Given.Resize.declared.new_map.NewMap.{NewMap}
 use Rattle.papaya_legal.specs.Given.Runs.Runs.{map_fault}
+use Rattle.papaya_legal.specs.Given.Schedules.declared.effect.Effect.{Effect}
 use Rattle.papaya_legal.specs.Given.Schedules.Effects.{AtEachEffect, with_effects}
-use Rattle.papaya_legal.specs.Given.Schedules.Handing.{is_first_making}
+use Rattle.papaya_legal.specs.Given.Schedules.Handing.{is_first_making, is_table_made}
 use Rattle.papaya_legal.specs.Given.Schedules.Lives.{EventFinds}
 use Rattle.papaya_legal.specs.Given.Schedules.Moment.{MapThere, Moment}
 use Rattle.papaya_legal.specs.Given.Schedules.Views.{map_at, tables_of}
@@ -18,9 +22,23 @@ use Rattle.papaya_legal.specs.Given.Executor.declared.executor.Executor.{Executo
 use Rattle.papaya_legal.specs.Given.Finishes.Makings.{Beginning}
 use Rattle.papaya_legal.specs.Given.Follows.Shows.{Shows}
 use Rattle.papaya_legal.specs.Given.Others.Makings.{NotesCounter, making_after}
-use Rattle.papaya_legal.specs.Given.Owes.Tables.{ShowsTables}
+use Rattle.papaya_legal.specs.Given.Owes.Making.{making_in_opening}
+use Rattle.papaya_legal.specs.Given.Owes.Tables.{ShowsTables, table_made}
 use Rattle.papaya_works.specs.Firsts.{ShowsOpenings}
 use Rattle.papaya_legal.specs.Given.Named.Places.{first_places}
+
+-- the table that a making has made and not linked, by what it has told: one that is over has none
+abbrev pub table_left : NewMap → Progress Setting → Option Planned
+table_left n progress.Goes = table_made (making_in_opening n.stands)
+table_left n _ = None
+
+abbrev pub in_hand : Option Planned → ℕ
+in_hand None = 0
+in_hand (Some table) = 1
+
+-- By these effects as many tables were made as the map has, and one more if the making has that in hand.
+abbrev pub CountsTables : {K V : Type 0} → ℕ → List Effect → Moment K V → Option Planned → Type 0
+CountsTables map effects m left = length (filter is_table_made effects) ≡ length (tables_of map m) + in_hand left
 
 module _ (K V S : Type 0) (same : K → K → Bool) (hash : K → ℕ) where
   -- The promise: a step of the making of a map does nothing else, if its counter is noted.
@@ -40,3 +58,14 @@ module _ (K V S : Type 0) (same : K → K → Bool) (hash : K → ℕ) where
       let effects = effects_of (acts.Making b.map) known new.memory.changed in
       Shows same name (with_effects None of effects m) (known_after (acts.Making b.map) new.memory.changed known) (making_after same hash s old new i b to.0 to.2.step.w2 told to.3)
       → AtEachEffect (EventFinds (Some b.map) false) None of effects m)
+
+  -- And so it is of the tables that it has told, if it was so before it.
+  abbrev pub MakingsCountTables : Type 0
+  MakingsCountTables =
+      (name : ℕ → List ℕ) (m : Moment K V) (known : Known) (s : Scene K V) (old new : Executor K V S) → IsAt same hash old s → Shows same name m known s → ShowsTables name m known s
+      → (i : ℕ) (told : Progress Setting) (leads : MakingLeads same hash i told s old new) (b : Beginning K) (here : s.makers i ≡ Some b) → NotesCounter known b → (of : Option ℕ)
+      → (done : List Effect) → CountsTables b.map done m (table_left b.machine progress.Goes)
+      → (let to = leads b here in
+      let effects = effects_of (acts.Making b.map) known new.memory.changed in
+      Shows same name (with_effects None of effects m) (known_after (acts.Making b.map) new.memory.changed known) (making_after same hash s old new i b to.0 to.2.step.w2 told to.3)
+      → CountsTables b.map (done ++ effects) (with_effects None of effects m) (table_left to.0 told))

@@ -1,7 +1,7 @@
 //! What is promised of what rows on slots, makings of maps and their ends do.
 ghost use Rattle.std.specs.Prelude.{Bool, ℕ};
 ghost use Rattle.papaya_works.specs.Rows.{RowsDoTheirs};
-ghost use Rattle.papaya_works.specs.Makings.{MakingsDoTheirs, MakingsFindTheirs};
+ghost use Rattle.papaya_works.specs.Makings.{MakingsCountTables, MakingsDoTheirs, MakingsFindTheirs};
 ghost use Rattle.papaya_works.specs.Ends.{EndsFindAll};
 ghost use Rattle.papaya_works.specs.Firsts.{OpeningsBegin, OpeningsStay, MakingsOpen, FirstsAreAll, MakingsGoOn, MakingsLinkFirst};
 
@@ -10,10 +10,12 @@ pub fn rows_do_theirs<K, V, S>()
     ensures does { (same : K → K → Bool) (hash : K → ℕ) → RowsDoTheirs K V S same hash }
 {}
 
-/// The making of a map does nothing but to ask for blocks, to make the map's first table, and to link it; and it finds what it must.
+/// The making of a map does nothing but to ask for blocks, to make the map's first table, and to link it; and it finds what it must. Its map has as many tables as it has made, but for one
+/// that the making has in hand.
 pub fn makings_do_theirs<K, V, S>()
     ensures does { (same : K → K → Bool) (hash : K → ℕ) → MakingsDoTheirs K V S same hash }
     ensures finds { (same : K → K → Bool) (hash : K → ℕ) → MakingsFindTheirs K V S same hash }
+    ensures counts { (same : K → K → Bool) (hash : K → ℕ) → MakingsCountTables K V S same hash }
 {}
 
 /// Where all of a map ends each pair is in the map, and each table is linked.

@@ -18,7 +18,7 @@ use Rattle.papaya_folded.specs.Given.Finishes.Machines.{machine_of}
 use Rattle.papaya_folded.specs.Given.Finishes.Maps.{Standing}
 use Rattle.papaya_folded.specs.Given.Follows.Calls.{IsCalled}
 use Rattle.papaya_folded.proofs.Given.Histories.Begun.{effects_begun}
-use Rattle.papaya_folded.specs.Given.Finds.Nexts.{making_of_copier}
+use Rattle.papaya_folded.specs.Given.Grows.Copiers.{making_of_copier}
 use Rattle.papaya_folded.specs.Given.Finds.Parts.{FindAll, FindRest}
 use Rattle.papaya_folded.proofs.Given.Finds.Joined.{several_find_all}
 use Rattle.papaya_folded.specs.Given.Schedules.Lives.{Finds}

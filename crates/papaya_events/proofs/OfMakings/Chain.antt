@@ -45,6 +45,7 @@ use Rattle.papaya_folded.proofs.Given.Legal.Maps.{unmade_maps}
 use Rattle.papaya_folded.proofs.Given.Grows.Finding.Alike.{made_still}
 use Rattle.papaya_folded.proofs.Given.Legal.Slots.{each_join}
 use Rattle.papaya_works.specs.Firsts.{ShowsOpenings}
+use Rattle.papaya_works.specs.Makings.{CountsTables, table_left}
 use Rattle.papaya_works.proofs.Firsts.{makings_go_on}
 use Rattle.papaya_folded.proofs.Given.Remains.Numbered.{made_stays}
 use Rattle.papaya_folded.specs.Given.Logged.Goes.{Far, GoesFor, MakingGoes, MakingOn}
@@ -54,6 +55,7 @@ use Rattle.papaya_folded.proofs.Given.Logged.Counted.{counted_making_steps}
 use Rattle.papaya_folded.proofs.Given.Logged.LeftNoted.{makings_note_left}
 use Rattle.papaya_folded.specs.Given.Named.Places.{first_places}
 use Rattle.papaya_works.proofs.Makings.{makings_do_theirs, makings_find_theirs}
+use Rattle.papaya_works.proofs.TablesMade.{makings_count_tables}
 use Rattle.papaya_events.proofs.OfRows.Chain.{come_as, come_by}
 
 -- By what a step of a making told: it goes on as another machine, of the same map.
@@ -72,11 +74,17 @@ module _ {K V S : Type 0} (same : K → K → Bool) (hash : K → ℕ) (s : Scen
   is_there (progress.Refused fault) leads = (leads b here).3
 
   -- and until the last step the making is under way, and the map is as new
-  making_on : (said : Progress Setting) (leads : Leads said) → is_over said ≡ false → (next_scene said leads).makers i ≡ Some (record b { machine = (leads b here).0 })
+  pub making_on : (said : Progress Setting) (leads : Leads said) → is_over said ≡ false → (next_scene said leads).makers i ≡ Some (record b { machine = (leads b here).0 })
   making_on progress.Goes leads more = at_same s.makers i (Some (record b { machine = (leads b here).0 })) i refl
   making_on progress.Waits leads more = absurd (leads b here).3
   making_on (progress.Done setting) leads more = absurd (cc more)
   making_on (progress.Refused fault) leads more = absurd (cc more)
+
+  pub just_goes : (said : Progress Setting) → Leads said → is_over said ≡ false → said ≡ progress.Goes
+  just_goes progress.Goes leads more = refl
+  just_goes progress.Waits leads more = absurd (leads b here).3
+  just_goes (progress.Done setting) leads more = absurd (cc more)
+  just_goes (progress.Refused fault) leads more = absurd (cc more)
 
   pub calls_still : (said : Progress Setting) (leads : Leads said) → (next_scene said leads).calls ≡ s.calls
   calls_still progress.Goes leads = refl
@@ -184,7 +192,7 @@ module _ {K V S : Type 0} (same : K → K → Bool) (hash : K → ℕ) (terms : 
         makings_do_theirs K V S same hash name y.now (known mid.logged.notes) y.scene mid.logged.executor to.logged.executor y.is_at y.midst.0.calls.whole.all.shown i step.said leads d it.1
         (y.midst.0.calls.whole.counters i d it.1)
 
-    pub making_under : is_over step.said ≡ false → IsUnder i b stood next
+    abbrev pub making_under : is_over step.said ≡ false → IsUnder i b stood next
     making_under more = (
       (leads d it.1).0,
       making_on same hash y.scene mid.logged.executor to.logged.executor i d it.1 step.said leads more,
@@ -274,14 +282,28 @@ module _ {K V S : Type 0} (same : K → K → Bool) (hash : K → ℕ) (terms : 
         there_is = ap (λ (fs : List MapThere). find (λ (f : MapThere). f.number == b.map) fs) (maps_as_before (Some b.map) did_now y.now (step_firsts n x mid to y stood it step)) ∙ so.there_is;
       }
 
+      -- the map has as many tables as were made, but for one that the making has in hand
+      pub counts_on : CountsTables b.map mid.effects y.now (table_left it.0 progress.Goes) → CountsTables b.map to.effects comes_on.now (table_left (goes its it.1).0 step.said)
+      counts_on counts =
+          subst (λ (fs : List Effect). CountsTables b.map fs comes_on.now (table_left (goes its it.1).0 step.said)) (sym step.is_noted.did)
+          (makings_count_tables K V S same hash name y.now (known mid.logged.notes) y.scene mid.logged.executor to.logged.executor y.is_at y.midst.0.calls.whole.all.shown y.midst.0.calls.kept.tables
+          i step.said goes its it.1 (y.midst.0.calls.whole.counters i its it.1) (Some b.map) mid.effects counts shown_then)
+
+      counts_still : is_over step.said ≡ false → CountsTables b.map mid.effects y.now (table_left it.0 progress.Goes) → CountsTables b.map to.effects comes_on.now (table_left (goes its it.1).0 progress.Goes)
+      counts_still more counts =
+          subst (λ (said : Progress Setting). CountsTables b.map to.effects comes_on.now (table_left (goes its it.1).0 said))
+          (just_goes same hash y.scene mid.logged.executor to.logged.executor i its it.1 step.said goes more) (counts_on counts)
+
       new_on : is_over step.said ≡ false → IsNew b.map setting comes_on.now
       new_on more =
           new_still same hash y.scene mid.logged.executor to.logged.executor i its it.1 name y.now (known mid.logged.notes) y.is_at y.midst.0.calls.whole.all.shown (Some b.map) setting step.said goes more is_new
 
     module _ (setting : Setting) (stood : ℕ → Option (Standing K)) where
-      -- It is on its way, and the map is as new.
+      -- It is on its way, the map is as new, and its tables are those that were made.
       abbrev pub Midway : ℕ → Come K V S → Far K V S → Type 0
-      Midway n x f = (y : MakingComes n x f) × IsUnder i b stood y.scene × IsNew b.map setting y.now × HasFound b began there f.effects y.now y.scene
+      Midway n x f =
+          (y : MakingComes n x f) × (z : IsUnder i b stood y.scene) × IsNew b.map setting y.now × HasFound b began there f.effects y.now y.scene
+          × CountsTables b.map f.effects y.now (table_left z.0 progress.Goes)
 
       pub makings_come : (n : ℕ) (x : Come K V S) (from to : Far K V S) → GoesFor (MakingOn i b.map) n from to → Midway 0 x from → Midway n x to
       makings_come zero x from to is at = subst (Midway 0 x) is at
@@ -292,4 +314,5 @@ module _ {K V S : Type 0} (same : K → K → Bool) (hash : K → ℕ) (terms : 
             making_under n x mid to z.0 stood z.1 on.0 on.1,
             new_on n x mid to z.0 stood z.1 on.0 was setting z.2 z.3 on.1,
             found_on n x mid to z.0 stood z.1 on.0 was setting z.2 z.3,
+            counts_still n x mid to z.0 stood z.1 on.0 was setting z.2 z.3 on.1 z.4,
           )

@@ -1,5 +1,5 @@
 -- An event whose making was refused once it had begun keeps its promises, and a run goes on with it: it just asks for blocks, so the moment stays as it is, without the map.
-use Rattle.std.specs.Prelude.{◌≡◌, ◌≤◌, ◌++◌, ℕ, zero, suc, Bool, true, false, List, [], ◌∷◌, length, Option, Some, None, option_map}
+use Rattle.std.specs.Prelude.{◌≡◌, ◌≤◌, ◌⊎◌, ◌^◌, ◌++◌, ℕ, zero, suc, max, Bool, true, false, List, [], ◌∷◌, length, Option, Some, None, option_map}
 use Rattle.std.specs.List.{list_all}
 use Rattle.std.proofs.Common.{refl, sym, ap, subst, inr, ◌∙◌, arith}
 use Rattle.std.proofs.lemmas.List.Folds.{list_all-append}
@@ -11,11 +11,13 @@ use Rattle.papaya_folded.specs.Given.Tables.declared.setting.Setting.{Setting}
 use Rattle.papaya_folded.proofs.Given.Callers.Together.At.{at_same}
 use Rattle.papaya_folded.proofs.Given.Spots.Unreclaimed.{and_both}
 use Rattle.papaya_folded.specs.Given.Executor.IsAt.{Scene, IsAt}
+use Rattle.papaya_folded.specs.Given.Executor.Making.{MakingLeads}
 use Rattle.papaya_folded.specs.Given.Executor.declared.executor.Executor.{Executor}
 use Rattle.papaya_folded.specs.Given.Finishes.Makings.{Beginning}
 use Rattle.papaya_folded.specs.Given.Finishes.Maps.{Standing}
 use Rattle.papaya_folded.specs.Given.Others.Makings.{WasNew}
 use Rattle.papaya_folded.specs.Given.SeizeWords.declared.fault.Fault.{Fault}
+use Rattle.papaya_folded.specs.Given.SeizeWords.declared.fault.Fault.TheVariants.{Memory}
 use Rattle.papaya_folded.specs.Given.Schedules.declared.effect.Effect.{Effect}
 use Rattle.papaya_folded.specs.Given.Schedules.declared.event.Event.TheVariants.{MakeMap}
 use Rattle.papaya_folded.specs.Given.Schedules.declared.outcome.Outcome.TheVariants.{Refused}
@@ -39,7 +41,7 @@ use Rattle.papaya_folded.proofs.Given.Legal.Maps.{unmade_maps}
 use Rattle.papaya_folded.proofs.Given.Legal.Refused.{refused_begins, refused_ends}
 use Rattle.papaya_folded.specs.Given.Reclaims.Left.{LeftAmong}
 use Rattle.papaya_folded.specs.Given.Logged.Goes.{Far, GoesFor, MakingGoes, MakingOn, far}
-use Rattle.papaya_folded.specs.Given.Logged.Makings.{MakingCame, MakingIsBegun, given_back}
+use Rattle.papaya_folded.specs.Given.Logged.Makings.{MakingCame, MakingIsBegun, given_back, is_over}
 use Rattle.papaya_folded.specs.Given.Logged.declared.logged.Logged.{Logged}
 use Rattle.papaya_folded.proofs.Given.Logged.GivenBack.{at_given}
 use Rattle.papaya_folded.proofs.Given.Logged.MakingsRun.{came_on}
@@ -51,10 +53,11 @@ use Rattle.papaya_scheduler.specs.declared.scheduler.Scheduler.{Scheduler}
 use Rattle.papaya_scheduler.proofs.Rights.{entry}
 use Rattle.papaya_mapping.proofs.MapsMade.{refused_never}
 use Rattle.papaya_works.proofs.Reached.{makings_note_more}
+use Rattle.papaya_works.proofs.Refusals.{IsRefusedSo, MayBeRefused, refused_so}
 use Rattle.papaya_events.specs.Asked.{Holds}
 use Rattle.papaya_events.specs.OfCalls.{HaveShards, Runs, RunsOn}
 use Rattle.papaya_events.proofs.OfMakings.Begun.{begun_as, begun_in, begun_shown, none_begun}
-use Rattle.papaya_events.proofs.OfMakings.Chain.{IsUnder, MakingComes, making_comes_on, making_under, none_made, none_new}
+use Rattle.papaya_events.proofs.OfMakings.Chain.{IsUnder, MakingComes, just_goes, making_comes_on, making_under, none_made, none_new}
 use Rattle.papaya_events.proofs.OfRows.Chain.{come_by}
 use Rattle.papaya_events.proofs.OfRows.Lone.{alone_follows}
 use Rattle.papaya_events.proofs.OfRows.Over.{over_runs}
@@ -69,9 +72,10 @@ module _ {K V S : Type 0} (same : K → K → Bool) (hash : K → ℕ) (terms : 
   abbrev Comes : ℕ → Come K V S → Far K V S → Type 0
   Comes n x f = MakingComes same hash terms name log own mode capacity i b (moment log) n x f
 
-  -- it is on its way
+  -- it is on its way, and may be refused for want of memory alone if it has done anything
   abbrev Midway : ℕ → Come K V S → Far K V S → Type 0
-  Midway n x f = (y : MakingComes same hash terms name log own mode capacity i b (moment log) n x f) × IsUnder i b stood y.scene × (y.now ≡ moment log)
+  Midway n x f =
+      (y : MakingComes same hash terms name log own mode capacity i b (moment log) n x f) × (z : IsUnder i b stood y.scene) × (y.now ≡ moment log) × MayBeRefused f.effects z.0.stands
 
   module _ (n : ℕ) (x : Come K V S) (mid to : Far K V S) (z : Midway n x mid) (step : MakingGoes i b.map mid to) (was_new : WasNew b.map step.said z.0.now) (none : HasNotMade step.said)
       (asks : list_all is_growth to.effects ≡ true) where
@@ -87,16 +91,36 @@ module _ {K V S : Type 0} (same : K → K → Bool) (hash : K → ℕ) (terms : 
     still_there : refused_on.now ≡ moment log
     still_there = growths_leave (Some b.map) did z.0.now did_ask ∙ z.2
 
-  refused_come : (n : ℕ) (x : Come K V S) (from to : Far K V S) → GoesFor (MakingOn i b.map) n from to → list_all is_growth to.effects ≡ true → Midway 0 x from → Midway n x to
-  refused_come zero x from to is asks at = subst (Midway 0 x) is at
-  refused_come (suc n) x from to (mid, went, on) asks at =
+  module _ (few : max b.places 8 ≤ 2 ^ 48) (n : ℕ) (x : Come K V S) (mid to : Far K V S) (z : Midway n x mid) (step : MakingGoes i b.map mid to) where
+    abbrev d : Beginning K
+    d = record b { machine = z.1.0 }
+
+    abbrev goes : MakingLeads same hash i step.said z.0.scene mid.logged.executor to.logged.executor
+    goes = step.leads same hash z.0.scene z.0.is_at
+
+    -- by what a step of it told
+    refused_by : IsRefusedSo to.effects ((goes d z.1.1).0, step.said)
+    refused_by =
+        subst (λ (fs : List Effect). IsRefusedSo fs ((goes d z.1.1).0, step.said)) (sym step.is_noted.did)
+        (refused_so b.map (known mid.logged.notes) mid.effects mid.logged.executor.memory.memory to.logged.executor.memory.memory to.logged.executor.memory.changed z.1.0
+        (subst (λ (k : ℕ). max k 8 ≤ 2 ^ 48) (sym (z.0.is_at.together.makings.facts i d z.1.1).len_is) few) z.3 ((goes d z.1.1).0, step.said) (goes d z.1.1).1)
+
+    may_still : is_over step.said ≡ false → MayBeRefused to.effects (goes d z.1.1).0.stands
+    may_still more =
+        subst (λ (said : Progress Setting). IsRefusedSo to.effects ((goes d z.1.1).0, said))
+        (just_goes same hash z.0.scene mid.logged.executor to.logged.executor i d z.1.1 step.said goes more) refused_by
+
+  refused_come : max b.places 8 ≤ 2 ^ 48 → (n : ℕ) (x : Come K V S) (from to : Far K V S) → GoesFor (MakingOn i b.map) n from to → list_all is_growth to.effects ≡ true → Midway 0 x from → Midway n x to
+  refused_come few zero x from to is asks at = subst (Midway 0 x) is at
+  refused_come few (suc n) x from to (mid, went, on) asks at =
       let before = effects_of (acts.Making b.map) (known mid.logged.notes) to.logged.executor.memory.changed in
-      let z = refused_come n x from mid went (asked_before mid.effects before to.effects on.0.is_noted.did asks).0 at in
+      let z = refused_come few n x from mid went (asked_before mid.effects before to.effects on.0.is_noted.did asks).0 at in
       let was = none_new b.map on.0.said z.0.now on.1 in
       let none = none_made on.0.said on.1 in (
         refused_on n x mid to z on.0 was none asks,
         making_under same hash terms name log own mode capacity i b (moment log) n x mid to z.0 stood z.1 on.0 on.1,
         still_there n x mid to z on.0 was none asks,
+        may_still few n x mid to z on.0 on.1,
       )
 
 module _ {K V S : Type 0} (same : K → K → Bool) (hash : K → ℕ) (terms : Terms) (log : List (Entry K V)) (own : List ℕ) (mode : ResizeMode) (capacity : ℕ) (played : Played V) (old new : Scheduler K V S)
@@ -174,6 +198,7 @@ module _ {K V S : Type 0} (same : K → K → Bool) (hash : K → ℕ) (terms : 
     },
     (b.machine, at_same s.makers i (Some b) i refl, refl),
     refl,
+    refl,
   )
 
   abbrev prev : Far K V S
@@ -189,7 +214,7 @@ module _ {K V S : Type 0} (same : K → K → Bool) (hash : K → ℕ) (terms : 
   last_did = effects_of (acts.Making b.map) (known prev.logged.notes) mid.executor.memory.changed
 
   z : Midway same hash terms name log own mode capacity i b s.maps d.gone.1.0 x prev
-  z = refused_come same hash terms name log own mode capacity i b s.maps d.gone.1.0 x (far [] d.began) prev d.gone.1.1 (asked_before prev.effects last_did effects last.is_noted.did asks).0 first
+  z = refused_come same hash terms name log own mode capacity i b s.maps d.first.1.most d.gone.1.0 x (far [] d.began) prev d.gone.1.1 (asked_before prev.effects last_did effects last.is_noted.did asks).0 first
 
   -- its last step
   none : HasNotMade last.said
@@ -242,10 +267,16 @@ module _ {K V S : Type 0} (same : K → K → Bool) (hash : K → ℕ) (terms : 
       (makings_note_more same hash terms (known old.logged.notes) i b.map (suc d.gone.1.0) x (come_by (far effects mid) y.now y.scene) y.chain
       (subst (λ (k : Known). (known old.logged.notes).buckets ≤ k.buckets) (sym (ap known d.noted)) (omega arith)))
 
+  -- it did nothing, unless it was refused memory
+  or_nothing : (fault ≡ Memory) ⊎ (effects ≡ [])
+  or_nothing =
+      subst (λ (said : Progress Setting). IsRefusedSo effects ((last.leads same hash z.0.scene z.0.is_at its z.1.1).0, said)) d.gone.4
+      (refused_by same hash terms name log own mode capacity i b s.maps d.first.1.most d.gone.1.0 x prev (far effects mid) z last)
+
   ends : ComesRight terms log e → IsLegalBut same terms log e × ShowsRun same name terms (e ∷ log) (known mid.notes) y.scene
   ends right =
       refused_ends K V S same name terms log (known old.logged.notes) (known mid.notes) s y.scene own mode capacity fault played.steps b.map effects
-      (subst (λ (v : Moment K V). InMakingEvent same name terms log (MakeMap own mode capacity) b.map m effects v (known mid.notes) y.scene) still y.midst) asks y.firsts never run.shows right
+      (subst (λ (v : Moment K V). InMakingEvent same name terms log (MakeMap own mode capacity) b.map m effects v (known mid.notes) y.scene) still y.midst) asks or_nothing y.firsts never run.shows right
 
   pub refused_runs : IsPlayed same hash terms (e ∷ log) new → ComesRight terms log e → RunsOn same hash terms log e new
   refused_runs so right =

@@ -8,7 +8,7 @@ use Rattle.papaya_folded.specs.Given.Schedules.declared.event.Event.{Event}
 use Rattle.papaya_folded.specs.Given.Schedules.declared.event.Event.TheVariants.{Begin, DropGuard, EndMap, Enter, Flush, Go, MakeMap, Next, OneCall, Own, Refresh, Register, Replied, Step, Stop, Unregister}
 use Rattle.papaya_folded.specs.Given.Schedules.declared.outcome.Outcome.{Outcome}
 use Rattle.papaya_folded.specs.Given.Schedules.declared.outcome.Outcome.TheVariants.{Refused}
-use Rattle.papaya_folded.specs.Given.Schedules.After.{mapped_on, moment}
+use Rattle.papaya_folded.specs.Given.Schedules.After.{mapped_on}
 use Rattle.papaya_folded.specs.Given.Schedules.Entry.{Entry}
 use Rattle.papaya_folded.specs.Given.Schedules.InTurn.{ComesRight, IsKeptOut}
 use Rattle.papaya_scheduler.specs.Played.{IsPlayed}

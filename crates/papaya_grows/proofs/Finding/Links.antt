@@ -46,7 +46,7 @@ use Rattle.papaya_purposes.proofs.Given.Owes.Tables.Held.{shape_of, some_making}
 use Rattle.papaya_purposes.proofs.Given.Owes.Tables.Leaves.{IsGivenUp, IsLinked, IsMade, Stays}
 use Rattle.papaya_purposes.proofs.Given.Owes.Tables.Step.{left_tables}
 use Rattle.papaya_purposes.specs.Given.Finds.Linking.{FindShapes, IsMadeFor}
-use Rattle.papaya_purposes.specs.Given.Finds.Nexts.{MakesByCopier, copier_in_calling, copier_in_reserving, making_of_copier}
+use Rattle.papaya_grows.specs.Copiers.{MakesByCopier, copier_in_calling, copier_in_reserving, making_of_copier}
 use Rattle.papaya_purposes.specs.Given.Finds.Within.{many_of}
 use Rattle.papaya_purposes.proofs.Given.Finds.Linking.{made_so, none_shaped, one_shaped, two_shaped}
 use Rattle.papaya_purposes.proofs.Given.Finds.Steps.{steps_find_places}

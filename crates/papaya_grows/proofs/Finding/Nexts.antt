@@ -44,7 +44,7 @@ use Rattle.papaya_purposes.specs.Given.Follows.Calls.{ShowsCalls as IsThere}
 use Rattle.papaya_purposes.proofs.Given.Follows.Steps.{WentTo, went_to}
 use Rattle.papaya_purposes.specs.Given.Others.Walks.{given_up}
 use Rattle.papaya_purposes.specs.Given.Moments.Whole.{ShowsWhole}
-use Rattle.papaya_purposes.proofs.Given.Finds.CopiersNext.{second_there}
+use Rattle.papaya_grows.proofs.CopiersNext.{second_there}
 use Rattle.papaya_grows.specs.Further.{MachineMakes}
 use Rattle.papaya_grows.specs.Nexts.{MayFollow, OthersHadNext, ShowsNexts}
 use Rattle.papaya_grows.proofs.Finding.Making.Ahead.{IsFollowed, begins_ahead}

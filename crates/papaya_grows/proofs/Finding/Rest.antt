@@ -35,8 +35,8 @@ use Rattle.papaya_kept.proofs.Calls.{own_made}
 use Rattle.papaya_purposes.specs.Given.Finds.Growing.{FindAsked}
 use Rattle.papaya_purposes.specs.Given.Finds.Linking.{FindShapes, FoundFull}
 use Rattle.papaya_purposes.specs.Given.Finds.Within.{many_of}
-use Rattle.papaya_purposes.specs.Given.Finds.Nexts.{MakesByCopier, making_of_copier}
-use Rattle.papaya_purposes.proofs.Given.Finds.CopiersAsk.{copiers_may_ask}
+use Rattle.papaya_grows.specs.Copiers.{MakesByCopier, making_of_copier}
+use Rattle.papaya_grows.proofs.CopiersAsk.{copiers_may_ask}
 use Rattle.papaya_purposes.proofs.Given.Finds.Grows.Asked.{Asks, made_of, may_ask}
 use Rattle.papaya_purposes.proofs.Given.Finds.Grows.Steps.{key_calls_may_ask}
 use Rattle.papaya_purposes.proofs.Given.Finds.Linking.{key_calls_link}

@@ -63,7 +63,7 @@ use Rattle.papaya_purposes.specs.Given.Owes.Tables.{ShowsTables, of_map, table_i
 use Rattle.papaya_purposes.proofs.Given.Owes.Tables.Held.{shape_of, some_making}
 use Rattle.papaya_purposes.specs.Given.Finds.Growing.{FindAsked}
 use Rattle.papaya_purposes.specs.Given.Finds.Linking.{FindShapes, IsMadeFor}
-use Rattle.papaya_purposes.specs.Given.Finds.Nexts.{copier_in_reserving, making_of_copier}
+use Rattle.papaya_grows.specs.Copiers.{copier_in_reserving, making_of_copier}
 use Rattle.papaya_purposes.specs.Given.Finds.Reserving.{MakesFirst}
 use Rattle.papaya_purposes.specs.Given.Finds.Shaping.{ShapedAt}
 use Rattle.papaya_purposes.specs.Given.Finds.Within.{many_of}

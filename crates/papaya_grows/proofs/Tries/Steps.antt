@@ -70,7 +70,6 @@ use Rattle.papaya_purposes.proofs.Given.Finds.Steps.{steps_do_theirs}
 use Rattle.papaya_sources.specs.Sources.{ShowsSources}
 use Rattle.papaya_grows.specs.Tries.{HasTaken, MachineTried, OthersHadTried, ShowsTries}
 use Rattle.papaya_grows.proofs.Since as since
-use Rattle.papaya_grows.proofs.Since.{HasSamePairs}
 use Rattle.papaya_grows.proofs.Tries.Facts.{at_try, moves_none, takes_here}
 use Rattle.papaya_grows.proofs.Tries.More.{Tried, machine_more}
 use Rattle.papaya_grows.proofs.Tries.Off.{same_pairs}

@@ -1,7 +1,7 @@
 -- What is counted of callers that are kept.
-use Rattle.std.specs.Prelude.{◌<◌, ◌+◌, nat_lt, ◌||◌, Option, Some, None, if◌then◌else◌}
+use Rattle.std.specs.Prelude.{◌+◌, nat_lt, ◌||◌, Option, Some, None, if◌then◌else◌}
 use Rattle.std.specs.List.{list_any}
-use Rattle.std.proofs.lemmas.Bool.{lt-ltb, le-ltb}
+use Rattle.std.proofs.lemmas.Bool.{lt-ltb}
 use Rattle.std.proofs.Common.{◌≡◌, ℕ, Bool, true, false, List, [], ◌∷◌, ◌++◌, length, refl, sym, ap, arith, ◌∙◌}
 use Rattle.papaya_present.specs.Crowd.{kept, weigh}
 use Rattle.papaya_named.specs.Roll.{newest}
@@ -50,3 +50,8 @@ pub newest_length : {T : Type 0} (comers : List (Option T)) → length (newest c
 newest_length [] = refl
 newest_length (None ∷ comers) = newest_length comers
 newest_length (Some t ∷ comers) = let one = longer (newest comers) t in let rest = newest_length comers in omega (arith, one, rest)
+
+-- where nobody is counted, nobody is there
+pub nobody_there : {T : Type 0} (comers : List (Option T)) (l : List T) → newest comers ≡ l → length (kept comers) ≡ 0 → l ≡ []
+nobody_there comers [] is none = refl
+nobody_there comers (t ∷ l) is none = let two = newest_length comers ∙ none in let many = ap length is in absurd (omega (arith, two, many))

@@ -2,7 +2,7 @@
 use Rattle.std.specs.Prelude.{◌<◌, nat_lt, cond, position, slice_get, slice_index_or, Option, Some, None, if◌then◌else◌}
 use Rattle.std.specs.List.{position_or_len}
 use Rattle.std.proofs.lemmas.Bool.{ltb-true}
-use Rattle.std.proofs.Common.{◌≡◌, ℕ, zero, suc, Bool, true, false, List, [], ◌∷◌, length, refl, sym, subst, arith}
+use Rattle.std.proofs.Common.{◌≡◌, ℕ, zero, suc, Bool, true, false, List, [], ◌∷◌, length, refl, arith}
 use Rattle.papaya_named.specs.Roll.{at_place, called}
 use Rattle.papaya_named.specs.Seen.{if_ready, is_named, is_ready, ready_place}
 use Rattle.papaya_named.specs.declared.caller.Caller.{Caller}

@@ -1,7 +1,14 @@
 -- An event is kept out, or happens by its kind.
-use Rattle.std.proofs.Common.{length, refl, sym, ap, ◌∙◌}
+use Rattle.std.specs.Prelude.{IfOk}
+use Rattle.std.proofs.Common.{length, refl, sym, ap, subst, ◌∙◌}
 use Rattle.papaya_events.specs.Given.Executor.IsAt.{StaysGiven}
-use Rattle.papaya_events.specs.Asked.{HappensAt}
+use Rattle.papaya_events.specs.Asked.{HappensAt, HoldsThen}
+use Rattle.papaya_events.specs.OfAll.{KeepsAll}
+use Rattle.papaya_events.specs.OfCalls.{KeepsAt}
+use Rattle.papaya_events.specs.OfRows.{KeepsRunAt}
+use Rattle.papaya_events.specs.OfSetups.{KeepsSetup}
+use Rattle.papaya_running.specs.Back.{GivesAt}
+use Rattle.papaya_running.specs.Kinds.{event_of, event_of_call, event_of_maps, event_of_slots}
 use Rattle.papaya_running.proofs.Counts.{calls_make_none, counts_still, out_counts, slots_make_none}
 use Rattle.papaya_running.proofs.Gives.{calls_reclaim_none, gave_in_turn, gave_none_if, gave_out}
 use Rattle.papaya_running.proofs.Happened.{in_turn_if, stays_out}
@@ -10,6 +17,7 @@ use Rattle.papaya_events.proofs.OfAll.{all_out, calls_give_none, none_keep, slot
 use Rattle.papaya_events.proofs.OfCalls.Happens.{other_keeps, out_keeps, turn_keeps}
 use Rattle.papaya_events.proofs.OfRows.Kept.{calls_keep, kept_in_turn, kept_out}
 use Rattle.papaya_events.proofs.OfSetups.{calls_set_none, none_set, setup_out}
+use Rattle.papaya_running.proofs.OfKinds.{a_call, maps_no_call, no_maps, slots_no_call}
 use Rattle.papaya_running.proofs.happening.happen.Goals as goal
 
 pub returns-then-scheduler : goal.returns-then-scheduler
@@ -38,90 +46,70 @@ returns-then-scheduler g c =
     }
 
 pub of_calls-requires : goal.of_calls-requires
-of_calls-requires g c =
-    let r = c.requires in record {
-      due = (r.0, r.1, r.2, r.2.stands.closed ∙ c.if-scheduler.false);
-      calls = sym c.is_of_calls.ensures ∙ c.if-is_of_calls.true;
-    }
+of_calls-requires g c = let r = c.requires in (r.0, r.1, r.2, r.2.stands.closed ∙ c.if-scheduler.false)
 
-pub returns-then-is_of_calls : goal.returns-then-is_of_calls
-returns-then-is_of_calls g c = record {
-  rows =
-      kept_in_turn g.K.PartialEq.eq (g.S.Hashes.hash c.args.scheduler.now.logged.executor.hasher) c.args.event c.args.scheduler.now c.of_calls.new.scheduler c.of_calls.result
-      (calls_keep g.K.PartialEq.eq (g.S.Hashes.hash c.args.scheduler.now.logged.executor.hasher) c.args.event (sym c.is_of_calls.ensures ∙ c.if-is_of_calls.true) c.args.scheduler.now c.of_calls.new.scheduler c.of_calls.result)
-      c.if-scheduler.false;
-  happens =
-      in_turn_if g.K.PartialEq.eq (g.S.Hashes.hash c.args.scheduler.now.logged.executor.hasher) c.args.event c.args.scheduler.now c.args.is_first c.of_calls.new.scheduler c.of_calls.result
-      c.of_calls.ensures.happens c.if-scheduler.false;
-  holds =
-      holds_if g.K.PartialEq.eq (g.S.Hashes.hash c.args.scheduler.now.logged.executor.hasher) c.args.event c.args.is_first c.args.scheduler.now c.of_calls.new.scheduler (c.of_calls.ensures.given.0, c.of_calls.ensures.given.1, c.of_calls.ensures.given.2) c.of_calls.result
-      (in_turn_if g.K.PartialEq.eq (g.S.Hashes.hash c.args.scheduler.now.logged.executor.hasher) c.args.event c.args.scheduler.now c.args.is_first c.of_calls.new.scheduler c.of_calls.result
-      c.of_calls.ensures.happens c.if-scheduler.false)
-      (counts_still c.args.event c.of_calls.result (length c.args.scheduler.now.logged.executor.maps.items) (length c.of_calls.new.scheduler.logged.executor.maps.items) (calls_make_none c.args.event (sym c.is_of_calls.ensures ∙ c.if-is_of_calls.true)) c.of_calls.ensures.given.3);
-  back =
-      gave_in_turn g.K.PartialEq.eq (g.S.Hashes.hash c.args.scheduler.now.logged.executor.hasher) c.args.event c.args.scheduler.now c.of_calls.result c.args.back.now.items c.args.back.now.items
-      (gave_none_if g.K.PartialEq.eq (g.S.Hashes.hash c.args.scheduler.now.logged.executor.hasher) c.args.event c.args.event refl c.args.scheduler.now
-      (calls_reclaim_none c.args.event (sym c.is_of_calls.ensures ∙ c.if-is_of_calls.true)) c.of_calls.result c.args.back.now.items) c.if-scheduler.false;
-  keeps = turn_keeps g.K.PartialEq.eq (g.S.Hashes.hash c.args.scheduler.now.logged.executor.hasher) c.args.event c.args.scheduler.now c.of_calls.new.scheduler c.of_calls.result c.of_calls.ensures.keeps
-      c.if-scheduler.false;
-  setups = none_set g.K.PartialEq.eq (g.S.Hashes.hash c.args.scheduler.now.logged.executor.hasher) c.args.event c.args.scheduler.now c.of_calls.new.scheduler (calls_set_none c.args.event (sym c.is_of_calls.ensures ∙ c.if-is_of_calls.true)) c.of_calls.result;
-  all = none_keep g.K.PartialEq.eq (g.S.Hashes.hash c.args.scheduler.now.logged.executor.hasher) c.args.event c.args.scheduler.now c.of_calls.new.scheduler (calls_give_none c.args.event (sym c.is_of_calls.ensures ∙ c.if-is_of_calls.true)) c.of_calls.result;
-  given = (c.of_calls.ensures.given.0, c.of_calls.ensures.given.1, c.of_calls.ensures.given.2);
-}
+pub returns-in-OfCall : goal.returns-in-OfCall
+returns-in-OfCall g c =
+    let is = sym (ap event_of c.in-OfCall.is) ∙ c.kind_of.ensures in record {
+      rows = subst (λ event. IfOk c.of_calls.result (λ played. KeepsRunAt g.K.PartialEq.eq (g.S.Hashes.hash c.args.scheduler.now.logged.executor.hasher) event played c.args.scheduler.now c.of_calls.new.scheduler)) is
+          (kept_in_turn g.K.PartialEq.eq (g.S.Hashes.hash c.args.scheduler.now.logged.executor.hasher) (event_of_call c.in-OfCall.event) c.args.scheduler.now c.of_calls.new.scheduler c.of_calls.result (calls_keep g.K.PartialEq.eq (g.S.Hashes.hash c.args.scheduler.now.logged.executor.hasher) (event_of_call c.in-OfCall.event) (a_call c.in-OfCall.event) c.args.scheduler.now c.of_calls.new.scheduler c.of_calls.result) c.if-scheduler.false);
+      happens = subst (λ event. IfOk c.of_calls.result (λ played. HappensAt g.K.PartialEq.eq (g.S.Hashes.hash c.args.scheduler.now.logged.executor.hasher) c.args.is_first event played c.args.scheduler.now c.of_calls.new.scheduler)) is
+          (in_turn_if g.K.PartialEq.eq (g.S.Hashes.hash c.args.scheduler.now.logged.executor.hasher) (event_of_call c.in-OfCall.event) c.args.scheduler.now c.args.is_first c.of_calls.new.scheduler c.of_calls.result c.of_calls.ensures.happens c.if-scheduler.false);
+      holds = subst (λ event. IfOk c.of_calls.result (λ played. HoldsThen g.K.PartialEq.eq (g.S.Hashes.hash c.args.scheduler.now.logged.executor.hasher) c.args.is_first event played c.args.scheduler.now c.of_calls.new.scheduler)) is
+          (holds_if g.K.PartialEq.eq (g.S.Hashes.hash c.args.scheduler.now.logged.executor.hasher) (event_of_call c.in-OfCall.event) c.args.is_first c.args.scheduler.now c.of_calls.new.scheduler (c.of_calls.ensures.given.0, c.of_calls.ensures.given.1, c.of_calls.ensures.given.2) c.of_calls.result (in_turn_if g.K.PartialEq.eq (g.S.Hashes.hash c.args.scheduler.now.logged.executor.hasher) (event_of_call c.in-OfCall.event) c.args.scheduler.now c.args.is_first c.of_calls.new.scheduler c.of_calls.result c.of_calls.ensures.happens c.if-scheduler.false) (counts_still (event_of_call c.in-OfCall.event) c.of_calls.result (length c.args.scheduler.now.logged.executor.maps.items) (length c.of_calls.new.scheduler.logged.executor.maps.items) (calls_make_none (event_of_call c.in-OfCall.event) (a_call c.in-OfCall.event)) c.of_calls.ensures.given.3));
+      back = subst (λ event. IfOk c.of_calls.result (λ played. GivesAt g.K.PartialEq.eq (g.S.Hashes.hash c.args.scheduler.now.logged.executor.hasher) event played c.args.scheduler.now c.args.back.now.items c.args.back.now.items)) is
+          (gave_in_turn g.K.PartialEq.eq (g.S.Hashes.hash c.args.scheduler.now.logged.executor.hasher) (event_of_call c.in-OfCall.event) c.args.scheduler.now c.of_calls.result c.args.back.now.items c.args.back.now.items (gave_none_if g.K.PartialEq.eq (g.S.Hashes.hash c.args.scheduler.now.logged.executor.hasher) (event_of_call c.in-OfCall.event) (event_of_call c.in-OfCall.event) refl c.args.scheduler.now (calls_reclaim_none (event_of_call c.in-OfCall.event) (a_call c.in-OfCall.event)) c.of_calls.result c.args.back.now.items) c.if-scheduler.false);
+      keeps = subst (λ event. IfOk c.of_calls.result (λ played. KeepsAt g.K.PartialEq.eq (g.S.Hashes.hash c.args.scheduler.now.logged.executor.hasher) event played c.args.scheduler.now c.of_calls.new.scheduler)) is
+          (turn_keeps g.K.PartialEq.eq (g.S.Hashes.hash c.args.scheduler.now.logged.executor.hasher) (event_of_call c.in-OfCall.event) c.args.scheduler.now c.of_calls.new.scheduler c.of_calls.result c.of_calls.ensures.keeps c.if-scheduler.false);
+      setups = subst (λ event. IfOk c.of_calls.result (λ played. KeepsSetup g.K.PartialEq.eq (g.S.Hashes.hash c.args.scheduler.now.logged.executor.hasher) event played c.args.scheduler.now c.of_calls.new.scheduler)) is
+          (none_set g.K.PartialEq.eq (g.S.Hashes.hash c.args.scheduler.now.logged.executor.hasher) (event_of_call c.in-OfCall.event) c.args.scheduler.now c.of_calls.new.scheduler (calls_set_none (event_of_call c.in-OfCall.event) (a_call c.in-OfCall.event)) c.of_calls.result);
+      all = subst (λ event. IfOk c.of_calls.result (λ played. KeepsAll g.K.PartialEq.eq (g.S.Hashes.hash c.args.scheduler.now.logged.executor.hasher) event played c.args.scheduler.now c.of_calls.new.scheduler)) is
+          (none_keep g.K.PartialEq.eq (g.S.Hashes.hash c.args.scheduler.now.logged.executor.hasher) (event_of_call c.in-OfCall.event) c.args.scheduler.now c.of_calls.new.scheduler (calls_give_none (event_of_call c.in-OfCall.event) (a_call c.in-OfCall.event)) c.of_calls.result);
+      given = (c.of_calls.ensures.given.0, c.of_calls.ensures.given.1, c.of_calls.ensures.given.2);
+    }
 
 pub of_maps-requires : goal.of_maps-requires
-of_maps-requires g c =
-    let r = c.requires in record {
-      due = (r.0, r.1, r.2, r.2.stands.closed ∙ c.if-scheduler.false);
-      maps = sym c.is_of_maps.ensures ∙ c.if-is_of_maps.true;
-    }
+of_maps-requires g c = let r = c.requires in (r.0, r.1, r.2, r.2.stands.closed ∙ c.if-scheduler.false)
 
-pub returns-then-is_of_maps : goal.returns-then-is_of_maps
-returns-then-is_of_maps g c = record {
-  rows = kept_in_turn g.K.PartialEq.eq (g.S.Hashes.hash c.args.scheduler.now.logged.executor.hasher) c.args.event c.args.scheduler.now c.of_maps.new.scheduler c.of_maps.result c.of_maps.ensures.rows
-      c.if-scheduler.false;
-  happens =
-      in_turn_if g.K.PartialEq.eq (g.S.Hashes.hash c.args.scheduler.now.logged.executor.hasher) c.args.event c.args.scheduler.now c.args.is_first c.of_maps.new.scheduler c.of_maps.result
-      c.of_maps.ensures.happens c.if-scheduler.false;
-  holds =
-      holds_if g.K.PartialEq.eq (g.S.Hashes.hash c.args.scheduler.now.logged.executor.hasher) c.args.event c.args.is_first c.args.scheduler.now c.of_maps.new.scheduler c.of_maps.ensures.given c.of_maps.result
-      (in_turn_if g.K.PartialEq.eq (g.S.Hashes.hash c.args.scheduler.now.logged.executor.hasher) c.args.event c.args.scheduler.now c.args.is_first c.of_maps.new.scheduler c.of_maps.result
-      c.of_maps.ensures.happens c.if-scheduler.false)
-      c.of_maps.ensures.count;
-  back =
-      gave_in_turn g.K.PartialEq.eq (g.S.Hashes.hash c.args.scheduler.now.logged.executor.hasher) c.args.event c.args.scheduler.now c.of_maps.result c.args.back.now.items c.of_maps.new.back.items c.of_maps.ensures.back
-      c.if-scheduler.false;
-  keeps = other_keeps g.K.PartialEq.eq (g.S.Hashes.hash c.args.scheduler.now.logged.executor.hasher) c.args.event c.args.scheduler.now c.of_maps.new.scheduler (sym c.is_of_calls.ensures ∙ c.if-is_of_calls.false) c.of_maps.result;
-  setups = c.of_maps.ensures.setups;
-  all = c.of_maps.ensures.all;
-  given = c.of_maps.ensures.given;
-}
+pub returns-in-OfMaps : goal.returns-in-OfMaps
+returns-in-OfMaps g c =
+    let is = sym (ap event_of c.in-OfMaps.is) ∙ c.kind_of.ensures in record {
+      rows = subst (λ event. IfOk c.of_maps.result (λ played. KeepsRunAt g.K.PartialEq.eq (g.S.Hashes.hash c.args.scheduler.now.logged.executor.hasher) event played c.args.scheduler.now c.of_maps.new.scheduler)) is
+          (kept_in_turn g.K.PartialEq.eq (g.S.Hashes.hash c.args.scheduler.now.logged.executor.hasher) (event_of_maps c.in-OfMaps.event) c.args.scheduler.now c.of_maps.new.scheduler c.of_maps.result c.of_maps.ensures.rows c.if-scheduler.false);
+      happens = subst (λ event. IfOk c.of_maps.result (λ played. HappensAt g.K.PartialEq.eq (g.S.Hashes.hash c.args.scheduler.now.logged.executor.hasher) c.args.is_first event played c.args.scheduler.now c.of_maps.new.scheduler)) is
+          (in_turn_if g.K.PartialEq.eq (g.S.Hashes.hash c.args.scheduler.now.logged.executor.hasher) (event_of_maps c.in-OfMaps.event) c.args.scheduler.now c.args.is_first c.of_maps.new.scheduler c.of_maps.result c.of_maps.ensures.happens c.if-scheduler.false);
+      holds = subst (λ event. IfOk c.of_maps.result (λ played. HoldsThen g.K.PartialEq.eq (g.S.Hashes.hash c.args.scheduler.now.logged.executor.hasher) c.args.is_first event played c.args.scheduler.now c.of_maps.new.scheduler)) is
+          (holds_if g.K.PartialEq.eq (g.S.Hashes.hash c.args.scheduler.now.logged.executor.hasher) (event_of_maps c.in-OfMaps.event) c.args.is_first c.args.scheduler.now c.of_maps.new.scheduler c.of_maps.ensures.given c.of_maps.result (in_turn_if g.K.PartialEq.eq (g.S.Hashes.hash c.args.scheduler.now.logged.executor.hasher) (event_of_maps c.in-OfMaps.event) c.args.scheduler.now c.args.is_first c.of_maps.new.scheduler c.of_maps.result c.of_maps.ensures.happens c.if-scheduler.false) c.of_maps.ensures.count);
+      back = subst (λ event. IfOk c.of_maps.result (λ played. GivesAt g.K.PartialEq.eq (g.S.Hashes.hash c.args.scheduler.now.logged.executor.hasher) event played c.args.scheduler.now c.args.back.now.items c.of_maps.new.back.items)) is
+          (gave_in_turn g.K.PartialEq.eq (g.S.Hashes.hash c.args.scheduler.now.logged.executor.hasher) (event_of_maps c.in-OfMaps.event) c.args.scheduler.now c.of_maps.result c.args.back.now.items c.of_maps.new.back.items c.of_maps.ensures.back c.if-scheduler.false);
+      keeps = subst (λ event. IfOk c.of_maps.result (λ played. KeepsAt g.K.PartialEq.eq (g.S.Hashes.hash c.args.scheduler.now.logged.executor.hasher) event played c.args.scheduler.now c.of_maps.new.scheduler)) is
+          (other_keeps g.K.PartialEq.eq (g.S.Hashes.hash c.args.scheduler.now.logged.executor.hasher) (event_of_maps c.in-OfMaps.event) c.args.scheduler.now c.of_maps.new.scheduler (maps_no_call _ _ c.in-OfMaps.event) c.of_maps.result);
+      setups = subst (λ event. IfOk c.of_maps.result (λ played. KeepsSetup g.K.PartialEq.eq (g.S.Hashes.hash c.args.scheduler.now.logged.executor.hasher) event played c.args.scheduler.now c.of_maps.new.scheduler)) is
+          (c.of_maps.ensures.setups);
+      all = subst (λ event. IfOk c.of_maps.result (λ played. KeepsAll g.K.PartialEq.eq (g.S.Hashes.hash c.args.scheduler.now.logged.executor.hasher) event played c.args.scheduler.now c.of_maps.new.scheduler)) is
+          (c.of_maps.ensures.all);
+      given = c.of_maps.ensures.given;
+    }
 
 pub of_slots-requires : goal.of_slots-requires
-of_slots-requires g c =
-    let r = c.requires in record {
-      due = (r.0, r.1, r.2, r.2.stands.closed ∙ c.if-scheduler.false);
-      no_maps = sym c.is_of_maps.ensures ∙ c.if-is_of_maps.false;
-      no_calls = sym c.is_of_calls.ensures ∙ c.if-is_of_calls.false;
-    }
+of_slots-requires g c = let r = c.requires in (r.0, r.1, r.2, r.2.stands.closed ∙ c.if-scheduler.false)
 
-pub returns : goal.returns
-returns g c = record {
-  rows = kept_in_turn g.K.PartialEq.eq (g.S.Hashes.hash c.args.scheduler.now.logged.executor.hasher) c.args.event c.args.scheduler.now c.of_slots.new.scheduler c.of_slots.result c.of_slots.ensures.rows
-      c.if-scheduler.false;
-  happens =
-      in_turn_if g.K.PartialEq.eq (g.S.Hashes.hash c.args.scheduler.now.logged.executor.hasher) c.args.event c.args.scheduler.now c.args.is_first c.of_slots.new.scheduler c.of_slots.result
-      c.of_slots.ensures.happens c.if-scheduler.false;
-  holds =
-      holds_if g.K.PartialEq.eq (g.S.Hashes.hash c.args.scheduler.now.logged.executor.hasher) c.args.event c.args.is_first c.args.scheduler.now c.of_slots.new.scheduler (c.of_slots.ensures.given.0, c.of_slots.ensures.given.1, c.of_slots.ensures.given.2) c.of_slots.result
-      (in_turn_if g.K.PartialEq.eq (g.S.Hashes.hash c.args.scheduler.now.logged.executor.hasher) c.args.event c.args.scheduler.now c.args.is_first c.of_slots.new.scheduler c.of_slots.result
-      c.of_slots.ensures.happens c.if-scheduler.false)
-      (counts_still c.args.event c.of_slots.result (length c.args.scheduler.now.logged.executor.maps.items) (length c.of_slots.new.scheduler.logged.executor.maps.items) (slots_make_none c.args.event (sym c.is_of_maps.ensures ∙ c.if-is_of_maps.false)) c.of_slots.ensures.given.3);
-  back =
-      gave_in_turn g.K.PartialEq.eq (g.S.Hashes.hash c.args.scheduler.now.logged.executor.hasher) c.args.event c.args.scheduler.now c.of_slots.result c.args.back.now.items c.of_slots.new.back.items c.of_slots.ensures.back
-      c.if-scheduler.false;
-  keeps = other_keeps g.K.PartialEq.eq (g.S.Hashes.hash c.args.scheduler.now.logged.executor.hasher) c.args.event c.args.scheduler.now c.of_slots.new.scheduler (sym c.is_of_calls.ensures ∙ c.if-is_of_calls.false) c.of_slots.result;
-  setups = c.of_slots.ensures.setups;
-  all = none_keep g.K.PartialEq.eq (g.S.Hashes.hash c.args.scheduler.now.logged.executor.hasher) c.args.event c.args.scheduler.now c.of_slots.new.scheduler (slots_give_none c.args.event (sym c.is_of_maps.ensures ∙ c.if-is_of_maps.false)) c.of_slots.result;
-  given = (c.of_slots.ensures.given.0, c.of_slots.ensures.given.1, c.of_slots.ensures.given.2);
-}
+pub returns-in-OfSlots : goal.returns-in-OfSlots
+returns-in-OfSlots g c =
+    let is = sym (ap event_of c.in-OfSlots.is) ∙ c.kind_of.ensures in record {
+      rows = subst (λ event. IfOk c.of_slots.result (λ played. KeepsRunAt g.K.PartialEq.eq (g.S.Hashes.hash c.args.scheduler.now.logged.executor.hasher) event played c.args.scheduler.now c.of_slots.new.scheduler)) is
+          (kept_in_turn g.K.PartialEq.eq (g.S.Hashes.hash c.args.scheduler.now.logged.executor.hasher) (event_of_slots c.in-OfSlots.event) c.args.scheduler.now c.of_slots.new.scheduler c.of_slots.result c.of_slots.ensures.rows c.if-scheduler.false);
+      happens = subst (λ event. IfOk c.of_slots.result (λ played. HappensAt g.K.PartialEq.eq (g.S.Hashes.hash c.args.scheduler.now.logged.executor.hasher) c.args.is_first event played c.args.scheduler.now c.of_slots.new.scheduler)) is
+          (in_turn_if g.K.PartialEq.eq (g.S.Hashes.hash c.args.scheduler.now.logged.executor.hasher) (event_of_slots c.in-OfSlots.event) c.args.scheduler.now c.args.is_first c.of_slots.new.scheduler c.of_slots.result c.of_slots.ensures.happens c.if-scheduler.false);
+      holds = subst (λ event. IfOk c.of_slots.result (λ played. HoldsThen g.K.PartialEq.eq (g.S.Hashes.hash c.args.scheduler.now.logged.executor.hasher) c.args.is_first event played c.args.scheduler.now c.of_slots.new.scheduler)) is
+          (holds_if g.K.PartialEq.eq (g.S.Hashes.hash c.args.scheduler.now.logged.executor.hasher) (event_of_slots c.in-OfSlots.event) c.args.is_first c.args.scheduler.now c.of_slots.new.scheduler (c.of_slots.ensures.given.0, c.of_slots.ensures.given.1, c.of_slots.ensures.given.2) c.of_slots.result (in_turn_if g.K.PartialEq.eq (g.S.Hashes.hash c.args.scheduler.now.logged.executor.hasher) (event_of_slots c.in-OfSlots.event) c.args.scheduler.now c.args.is_first c.of_slots.new.scheduler c.of_slots.result c.of_slots.ensures.happens c.if-scheduler.false) (counts_still (event_of_slots c.in-OfSlots.event) c.of_slots.result (length c.args.scheduler.now.logged.executor.maps.items) (length c.of_slots.new.scheduler.logged.executor.maps.items) (slots_make_none (event_of_slots c.in-OfSlots.event) (no_maps _ _ c.in-OfSlots.event)) c.of_slots.ensures.given.3));
+      back = subst (λ event. IfOk c.of_slots.result (λ played. GivesAt g.K.PartialEq.eq (g.S.Hashes.hash c.args.scheduler.now.logged.executor.hasher) event played c.args.scheduler.now c.args.back.now.items c.of_slots.new.back.items)) is
+          (gave_in_turn g.K.PartialEq.eq (g.S.Hashes.hash c.args.scheduler.now.logged.executor.hasher) (event_of_slots c.in-OfSlots.event) c.args.scheduler.now c.of_slots.result c.args.back.now.items c.of_slots.new.back.items c.of_slots.ensures.back c.if-scheduler.false);
+      keeps = subst (λ event. IfOk c.of_slots.result (λ played. KeepsAt g.K.PartialEq.eq (g.S.Hashes.hash c.args.scheduler.now.logged.executor.hasher) event played c.args.scheduler.now c.of_slots.new.scheduler)) is
+          (other_keeps g.K.PartialEq.eq (g.S.Hashes.hash c.args.scheduler.now.logged.executor.hasher) (event_of_slots c.in-OfSlots.event) c.args.scheduler.now c.of_slots.new.scheduler (slots_no_call _ _ c.in-OfSlots.event) c.of_slots.result);
+      setups = subst (λ event. IfOk c.of_slots.result (λ played. KeepsSetup g.K.PartialEq.eq (g.S.Hashes.hash c.args.scheduler.now.logged.executor.hasher) event played c.args.scheduler.now c.of_slots.new.scheduler)) is
+          (c.of_slots.ensures.setups);
+      all = subst (λ event. IfOk c.of_slots.result (λ played. KeepsAll g.K.PartialEq.eq (g.S.Hashes.hash c.args.scheduler.now.logged.executor.hasher) event played c.args.scheduler.now c.of_slots.new.scheduler)) is
+          (none_keep g.K.PartialEq.eq (g.S.Hashes.hash c.args.scheduler.now.logged.executor.hasher) (event_of_slots c.in-OfSlots.event) c.args.scheduler.now c.of_slots.new.scheduler (slots_give_none (event_of_slots c.in-OfSlots.event) (no_maps _ _ c.in-OfSlots.event)) c.of_slots.result);
+      given = (c.of_slots.ensures.given.0, c.of_slots.ensures.given.1, c.of_slots.ensures.given.2);
+    }

@@ -2,6 +2,7 @@
 use Rattle.std.specs.Prelude.{◌≡◌, ◌++◌, ◌∷◌, ◌%◌, ◌^◌, List, [], fold}
 use Rattle.std.proofs.Common.{rules, arith, ap, subst, sym, ◌∙◌, append_assoc}
 use Rattle.std.proofs.lemmas.List.{append-nil, nil_from_length}
+use Rattle.std.proofs.lemmas.Result.{err_from_is_err_and}
 use Rattle.papaya_schedules.specs.declared.event.Event.{Event}
 use Rattle.papaya_schedules.specs.After.{AtEachEvent}
 use Rattle.papaya_schedules.specs.Runs.{IsRunOf, log_of}
@@ -78,3 +79,7 @@ returns-clause-hands g c =
     subst (λ (l : List (Event g.row.K.Denot g.row.V.Denot)). AtEachEvent HandsOn (log_of l c.in_ok-end.field-0)) all
     (c.in_ok-end.ensures.hands g.K.PartialEq.eq (λ hasher key. g.S.Hasher.Hasher.finish (fold g.S.Hasher.Hasher.write (g.S.BuildHasher.build_hasher hasher) (g.K.Hash.hash_input key)) % 2 ^ 64)
     (terms_given (bounded c.args.setup)) events c.loop-event.invariant.2)
+
+pub returns-in_err-take_turn-clause-memory : goal.returns-in_err-take_turn-clause-memory
+returns-in_err-take_turn-clause-memory g c =
+    let p = err_from_is_err_and c.from_residual-in_err-take_turn.result c.from_residual-in_err-take_turn.ensures.1 in rw (p.1) p.2

@@ -1,4 +1,4 @@
-use Rattle.std.specs.Prelude.{is_some, position, slice_get, slice_set, Some}
+use Rattle.std.specs.Prelude.{is_some, position, slice_get, slice_set}
 use Rattle.std.proofs.Common.{refl, sym, ap, subst, ◌∙◌}
 use Rattle.papaya_present.proofs.Crowds.Homes.{none_told, stands_read}
 use Rattle.papaya_named.specs.Roll.{AreKept, newest}

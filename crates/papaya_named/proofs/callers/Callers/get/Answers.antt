@@ -1,9 +1,14 @@
-use Rattle.std.specs.Prelude.{option_copied, slice_get}
+use Rattle.std.specs.Prelude.{option_copied}
 use Rattle.std.proofs.Common.{ap, sym, arith, ◌∙◌}
 use Rattle.papaya_present.proofs.Crowds.Homes.{stands_read, stands_within}
 use Rattle.papaya_named.specs.Roll.{called}
 use Rattle.papaya_named.proofs.Roll.Found.{called_here, called_none, stands_here}
+use Rattle.papaya_named.proofs.Roll.Kept.{nobody_there}
 use Rattle.papaya_named.proofs.callers.Callers.get.Goals as goal
+
+pub returns-then-self-eq0 : goal.returns-then-self-eq0
+returns-then-self-eq0 g c =
+    ap (λ l. called c.args.name.now l) (sym (nobody_there c.self.inside.comers.items c.args.self.now c.self.view_is (sym c.self.invariant.count_so ∙ c.if-self-eq0.true)))
 
 pub returns-in_err-place : goal.returns-in_err-place
 returns-in_err-place g c =

@@ -1,4 +1,4 @@
-use Rattle.std.specs.Prelude.{◌==◌, option_map, position, slice_get, slice_set, take, if◌then◌else◌, None, Some}
+use Rattle.std.specs.Prelude.{option_map, position, slice_set, take, None}
 use Rattle.std.specs.List.{remove}
 use Rattle.std.proofs.Common.{◌≡◌, ◌-◌, ◌+◌, ap, sym, subst, arith, ◌∙◌}
 use Rattle.papaya_present.specs.Crowd.{StandsAt}

@@ -1,5 +1,5 @@
 -- A list is added, while there are too few.
-use Rattle.std.proofs.Common.{sym, ap, ◌∙◌}
+use Rattle.std.proofs.Common.{ap, ◌∙◌}
 use Rattle.papaya_tally.specs.ByMap.{list_at}
 use Rattle.papaya_tally.proofs.MapLists.{list_more}
 use Rattle.papaya_tally.proofs.by_map.ByMap.reach.Goals as goal

@@ -1,38 +1,38 @@
 -- A call that copies pairs may ask for each block that it makes, as its map has a second table.
 use Rattle.std.specs.Prelude.{◌≡◌, ℕ, Bool, List, ◌∷◌, Some}
 use Rattle.std.proofs.Common.{refl, sym, subst, ◌∙◌, inl, inr}
-use Rattle.papaya_settles.specs.Given.Tables.declared.node.Node.{Node}
-use Rattle.papaya_settles.specs.Given.Raw.Call.{call_plan}
-use Rattle.papaya_settles.specs.Given.Raw.Machine.{called as of_key, swept as of_sweep}
-use Rattle.papaya_settles.specs.Given.Raw.declared.machines.call.Calling.{Calling}
-use Rattle.papaya_settles.specs.Given.Raw.declared.machines.call.Calling.TheVariants as calling
-use Rattle.papaya_settles.specs.Given.Raw.declared.machines.progress.Progress.{Progress}
-use Rattle.papaya_settles.specs.Given.Resize.declared.new_table.NewTable.{NewTable}
-use Rattle.papaya_settles.specs.Given.Sweeps.Sweep.{sweep_plan}
-use Rattle.papaya_settles.specs.Given.Schedules.declared.call.Call.{Call}
-use Rattle.papaya_settles.specs.Given.Schedules.declared.call.Call.TheVariants as call
-use Rattle.papaya_settles.specs.Given.Schedules.Growing.{HasNext, MayGrow}
-use Rattle.papaya_settles.specs.Given.Schedules.Lists.{OneOf}
-use Rattle.papaya_settles.specs.Given.Schedules.Moment.{UnderWay as CallThere, Moment}
-use Rattle.papaya_settles.specs.Given.Schedules.Terms.{Terms}
-use Rattle.papaya_settles.specs.Given.Schedules.Views.{call_of}
-use Rattle.papaya_settles.specs.Given.Teller.declared.changed.Changed.{Changed}
-use Rattle.papaya_settles.specs.Given.Points.FactsCalls.{IsCopying}
-use Rattle.papaya_settles.specs.Given.Callers.OverAll.{CallOverAll}
-use Rattle.papaya_settles.specs.Given.Callers.Together.{CallOnKey, UnderWay, OnKey, ForRoom, Counting, OverAll}
-use Rattle.papaya_settles.specs.Given.Effects.Known.{Known}
-use Rattle.papaya_settles.specs.Given.Executor.IsAt.{Scene, IsAt}
-use Rattle.papaya_settles.specs.Given.Executor.Stepping.{StepsFrom, StepLeads}
-use Rattle.papaya_settles.specs.Given.Executor.declared.executor.Executor.{Executor}
-use Rattle.papaya_settles.specs.Given.Finishes.Machines.{machine_of}
-use Rattle.papaya_settles.specs.Given.Follows.Calls.{IsCalled}
-use Rattle.papaya_settles.proofs.Given.Follows.Steps.{WentTo, went_to}
-use Rattle.papaya_settles.specs.Given.Moments.Whole.{ShowsWhole}
-use Rattle.papaya_settles.proofs.Given.Others.Outcomes.{told_in}
-use Rattle.papaya_owes.specs.Making.{making_in_calling, making_in_sweeping}
-use Rattle.papaya_owes.proofs.Walks.{IsToOwn, call_makes, sweep_makes}
-use Rattle.papaya_finds.specs.Nexts.{copier_in_calling, making_of_copier, MakesByCopier, CopiersMayAsk}
-use Rattle.papaya_finds.proofs.Grows.Asked.{Asks, made_of, may_ask}
+use Rattle.papaya_purposes.specs.Given.Tables.declared.node.Node.{Node}
+use Rattle.papaya_purposes.specs.Given.Raw.Call.{call_plan}
+use Rattle.papaya_purposes.specs.Given.Raw.Machine.{called as of_key, swept as of_sweep}
+use Rattle.papaya_purposes.specs.Given.Raw.declared.machines.call.Calling.{Calling}
+use Rattle.papaya_purposes.specs.Given.Raw.declared.machines.call.Calling.TheVariants as calling
+use Rattle.papaya_purposes.specs.Given.Raw.declared.machines.progress.Progress.{Progress}
+use Rattle.papaya_purposes.specs.Given.Resize.declared.new_table.NewTable.{NewTable}
+use Rattle.papaya_purposes.specs.Given.Sweeps.Sweep.{sweep_plan}
+use Rattle.papaya_purposes.specs.Given.Schedules.declared.call.Call.{Call}
+use Rattle.papaya_purposes.specs.Given.Schedules.declared.call.Call.TheVariants as call
+use Rattle.papaya_purposes.specs.Given.Schedules.Growing.{HasNext, MayGrow}
+use Rattle.papaya_purposes.specs.Given.Schedules.Lists.{OneOf}
+use Rattle.papaya_purposes.specs.Given.Schedules.Moment.{UnderWay as CallThere, Moment}
+use Rattle.papaya_purposes.specs.Given.Schedules.Terms.{Terms}
+use Rattle.papaya_purposes.specs.Given.Schedules.Views.{call_of}
+use Rattle.papaya_purposes.specs.Given.Teller.declared.changed.Changed.{Changed}
+use Rattle.papaya_purposes.specs.Given.Points.FactsCalls.{IsCopying}
+use Rattle.papaya_purposes.specs.Given.Callers.OverAll.{CallOverAll}
+use Rattle.papaya_purposes.specs.Given.Callers.Together.{CallOnKey, UnderWay, OnKey, ForRoom, Counting, OverAll}
+use Rattle.papaya_purposes.specs.Given.Effects.Known.{Known}
+use Rattle.papaya_purposes.specs.Given.Executor.IsAt.{Scene, IsAt}
+use Rattle.papaya_purposes.specs.Given.Executor.Stepping.{StepsFrom, StepLeads}
+use Rattle.papaya_purposes.specs.Given.Executor.declared.executor.Executor.{Executor}
+use Rattle.papaya_purposes.specs.Given.Finishes.Machines.{machine_of}
+use Rattle.papaya_purposes.specs.Given.Follows.Calls.{IsCalled}
+use Rattle.papaya_purposes.proofs.Given.Follows.Steps.{WentTo, went_to}
+use Rattle.papaya_purposes.specs.Given.Moments.Whole.{ShowsWhole}
+use Rattle.papaya_purposes.proofs.Given.Others.Outcomes.{told_in}
+use Rattle.papaya_purposes.specs.Given.Owes.Making.{making_in_calling, making_in_sweeping}
+use Rattle.papaya_purposes.proofs.Given.Owes.Walks.{IsToOwn, call_makes, sweep_makes}
+use Rattle.papaya_grows.specs.Copiers.{copier_in_calling, making_of_copier, MakesByCopier, CopiersMayAsk}
+use Rattle.papaya_purposes.proofs.Given.Finds.Grows.Asked.{Asks, made_of, may_ask}
 
 -- a call that copies makes no block for a pair, and no table but its copier's
 

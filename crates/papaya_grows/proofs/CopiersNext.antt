@@ -3,50 +3,50 @@ use Rattle.std.specs.Prelude.{◌≡◌, ℕ, zero, suc, ◌+◌, ◌<◌, ◌�
 use Rattle.std.proofs.Common.{refl, ap, ◌∙◌, inl, inr, arith, length-append}
 use Rattle.std.proofs.lemmas.Bool.{leb-false}
 use Rattle.std.proofs.lemmas.List.Elements.{filter-append}
-use Rattle.papaya_settles.specs.Given.Seize.World.{World}
-use Rattle.papaya_settles.specs.Given.Tables.Chunks.{is_incremental}
-use Rattle.papaya_settles.specs.Given.Tables.declared.node.Node.{Node}
-use Rattle.papaya_settles.specs.Given.Tables.declared.setting.Setting.{Setting}
-use Rattle.papaya_settles.specs.Given.Resize.declared.copier.Copier.{Copier}
-use Rattle.papaya_settles.specs.Given.Resize.declared.copier.Copying.{Copying}
-use Rattle.papaya_settles.specs.Given.Resize.declared.copier.Copying.TheVariants as copying
-use Rattle.papaya_settles.specs.Given.Resize.declared.new_table.NewTable.{NewTable}
-use Rattle.papaya_settles.specs.Given.Reserves.declared.reserve.Reserving.{Reserving}
-use Rattle.papaya_settles.specs.Given.Reserves.declared.reserve.Reserving.TheVariants as reserving
-use Rattle.papaya_settles.specs.Given.Sweeps.declared.sweep.Sweep.{Sweep}
-use Rattle.papaya_settles.specs.Given.Sweeps.declared.sweep.Sweeping.{Sweeping}
-use Rattle.papaya_settles.specs.Given.Sweeps.declared.sweep.Sweeping.TheVariants as sweeping
-use Rattle.papaya_settles.specs.Given.Raw.declared.machines.call.Calling.{Calling}
-use Rattle.papaya_settles.specs.Given.Raw.declared.machines.call.Calling.TheVariants as calling
-use Rattle.papaya_settles.specs.Given.Raw.declared.machines.call.KeyCall.{KeyCall}
-use Rattle.papaya_settles.specs.Given.Schedules.Growing.{HasNext}
-use Rattle.papaya_settles.specs.Given.Schedules.Moment.{Stage, TableThere, Moment}
-use Rattle.papaya_settles.specs.Given.Schedules.Views.{first_of, chain_of}
-use Rattle.papaya_settles.specs.Given.Rule.Chart.{Chart}
-use Rattle.papaya_settles.specs.Given.Rule.Words.{Blocks}
-use Rattle.papaya_settles.specs.Given.Points.FactsCalls.{Change, CallingFacts}
-use Rattle.papaya_settles.specs.Given.Points.FactsCopies.{CopyingFacts, CopierFacts}
-use Rattle.papaya_settles.specs.Given.Points.FactsCopiesBlocking.{CopyingFactsBlocking, CopierFactsBlocking}
-use Rattle.papaya_settles.specs.Given.Late.FactsReserves.{IsEnding, CopiesWhole, ReservingFacts}
-use Rattle.papaya_settles.specs.Given.Late.FactsSweeps.{CopiesTable, SweepingFacts}
-use Rattle.papaya_settles.specs.Given.Late.LateCalls.{LateCalling}
-use Rattle.papaya_settles.specs.Given.Late.LateCopies.{LateCopying, LateCopierFacts}
-use Rattle.papaya_settles.specs.Given.Late.LateReserves.{LateReserving}
-use Rattle.papaya_settles.specs.Given.Late.Left.{Left}
-use Rattle.papaya_settles.specs.Given.Callers.Sights.{seen_by}
-use Rattle.papaya_settles.specs.Given.Callers.Together.{UnderWay, OnKey, ForRoom, Counting, OverAll, in_slot, Together}
-use Rattle.papaya_settles.specs.Given.Effects.Known.{Known}
-use Rattle.papaya_settles.specs.Given.Executor.IsAt.{Scene, IsAt, slot_of}
-use Rattle.papaya_settles.specs.Given.Executor.declared.executor.Executor.{Executor}
-use Rattle.papaya_settles.proofs.Given.Executor.Changed.{standing_is}
-use Rattle.papaya_settles.specs.Given.Finishes.Machines.{machine_of}
-use Rattle.papaya_settles.specs.Given.Finishes.Maps.{Standing}
-use Rattle.papaya_settles.specs.Given.Follows.Maps.{table_of, shape_at, tables_to, ShowsMap}
-use Rattle.papaya_settles.specs.Given.Follows.Shows.{Shows}
-use Rattle.papaya_settles.proofs.Given.Follows.Finds.{first_is}
-use Rattle.papaya_owes.specs.Making.{making_in_copying, making_in_calling, making_in_reserving, making_in_sweeping}
-use Rattle.papaya_owes.proofs.Machines.{call_none, room_none, sweep_none}
-use Rattle.papaya_finds.specs.Nexts.{copier_in_calling, copier_in_reserving, making_of_copier, RootHasLeft, CopiersHaveNext}
+use Rattle.papaya_purposes.specs.Given.Seize.World.{World}
+use Rattle.papaya_purposes.specs.Given.Tables.Chunks.{is_incremental}
+use Rattle.papaya_purposes.specs.Given.Tables.declared.node.Node.{Node}
+use Rattle.papaya_purposes.specs.Given.Tables.declared.setting.Setting.{Setting}
+use Rattle.papaya_purposes.specs.Given.Resize.declared.copier.Copier.{Copier}
+use Rattle.papaya_purposes.specs.Given.Resize.declared.copier.Copying.{Copying}
+use Rattle.papaya_purposes.specs.Given.Resize.declared.copier.Copying.TheVariants as copying
+use Rattle.papaya_purposes.specs.Given.Resize.declared.new_table.NewTable.{NewTable}
+use Rattle.papaya_purposes.specs.Given.Reserves.declared.reserve.Reserving.{Reserving}
+use Rattle.papaya_purposes.specs.Given.Reserves.declared.reserve.Reserving.TheVariants as reserving
+use Rattle.papaya_purposes.specs.Given.Sweeps.declared.sweep.Sweep.{Sweep}
+use Rattle.papaya_purposes.specs.Given.Sweeps.declared.sweep.Sweeping.{Sweeping}
+use Rattle.papaya_purposes.specs.Given.Sweeps.declared.sweep.Sweeping.TheVariants as sweeping
+use Rattle.papaya_purposes.specs.Given.Raw.declared.machines.call.Calling.{Calling}
+use Rattle.papaya_purposes.specs.Given.Raw.declared.machines.call.Calling.TheVariants as calling
+use Rattle.papaya_purposes.specs.Given.Raw.declared.machines.call.KeyCall.{KeyCall}
+use Rattle.papaya_purposes.specs.Given.Schedules.Growing.{HasNext}
+use Rattle.papaya_purposes.specs.Given.Schedules.Moment.{Stage, TableThere, Moment}
+use Rattle.papaya_purposes.specs.Given.Schedules.Views.{first_of, chain_of}
+use Rattle.papaya_purposes.specs.Given.Rule.Chart.{Chart}
+use Rattle.papaya_purposes.specs.Given.Rule.Words.{Blocks}
+use Rattle.papaya_purposes.specs.Given.Points.FactsCalls.{Change, CallingFacts}
+use Rattle.papaya_purposes.specs.Given.Points.FactsCopies.{CopyingFacts, CopierFacts}
+use Rattle.papaya_purposes.specs.Given.Points.FactsCopiesBlocking.{CopyingFactsBlocking, CopierFactsBlocking}
+use Rattle.papaya_purposes.specs.Given.Late.FactsReserves.{IsEnding, CopiesWhole, ReservingFacts}
+use Rattle.papaya_purposes.specs.Given.Late.FactsSweeps.{CopiesTable, SweepingFacts}
+use Rattle.papaya_purposes.specs.Given.Late.LateCalls.{LateCalling}
+use Rattle.papaya_purposes.specs.Given.Late.LateCopies.{LateCopying, LateCopierFacts}
+use Rattle.papaya_purposes.specs.Given.Late.LateReserves.{LateReserving}
+use Rattle.papaya_purposes.specs.Given.Late.Left.{Left}
+use Rattle.papaya_purposes.specs.Given.Callers.Sights.{seen_by}
+use Rattle.papaya_purposes.specs.Given.Callers.Together.{UnderWay, OnKey, ForRoom, Counting, OverAll, in_slot, Together}
+use Rattle.papaya_purposes.specs.Given.Effects.Known.{Known}
+use Rattle.papaya_purposes.specs.Given.Executor.IsAt.{Scene, IsAt, slot_of}
+use Rattle.papaya_purposes.specs.Given.Executor.declared.executor.Executor.{Executor}
+use Rattle.papaya_purposes.proofs.Given.Executor.Changed.{standing_is}
+use Rattle.papaya_purposes.specs.Given.Finishes.Machines.{machine_of}
+use Rattle.papaya_purposes.specs.Given.Finishes.Maps.{Standing}
+use Rattle.papaya_purposes.specs.Given.Follows.Maps.{table_of, shape_at, tables_to, ShowsMap}
+use Rattle.papaya_purposes.specs.Given.Follows.Shows.{Shows}
+use Rattle.papaya_purposes.proofs.Given.Follows.Finds.{first_is}
+use Rattle.papaya_purposes.specs.Given.Owes.Making.{making_in_copying, making_in_calling, making_in_reserving, making_in_sweeping}
+use Rattle.papaya_purposes.proofs.Given.Owes.Machines.{call_none, room_none, sweep_none}
+use Rattle.papaya_grows.specs.Copiers.{copier_in_calling, copier_in_reserving, making_of_copier, RootHasLeft, CopiersHaveNext}
 
 -- Of so many tables of a map no more lie before a turn than that says.
 

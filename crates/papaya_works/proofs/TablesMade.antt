@@ -1,0 +1,112 @@
+-- A making of a map has made as many tables as its map has, and one more while it has that in hand.
+use Rattle.std.specs.Prelude.{◌≡◌, ◌+◌, ◌==◌, ℕ, Bool, true, false, List, [], ◌∷◌, ◌++◌, length, filter, Option, Some, None, if◌then◌else◌}
+use Rattle.std.specs.List.{list_all}
+use Rattle.std.proofs.Common.{refl, ap, sym, subst, ◌∙◌, arith, length-append}
+use Rattle.std.proofs.lemmas.Bool.{and_parts, eq-eqb}
+use Rattle.std.proofs.lemmas.List.Elements.{filter-append}
+use Rattle.papaya_legal.specs.Given.Seize.declared.progress.Progress.{Progress}
+use Rattle.papaya_legal.specs.Given.Seize.declared.progress.Progress.TheVariants as progress
+use Rattle.papaya_legal.specs.Given.Tables.declared.setting.Setting.{Setting}
+use Rattle.papaya_legal.specs.Given.Tables.declared.table.Table.{Table as Planned}
+use Rattle.papaya_legal.specs.Given.Runs.declared.outcome.TableShape.{TableShape}
+use Rattle.papaya_legal.specs.Given.Schedules.declared.effect.Effect.{Effect}
+use Rattle.papaya_legal.specs.Given.Schedules.declared.effect.Effect.TheVariants as effect
+use Rattle.papaya_legal.specs.Given.Schedules.declared.effect.Growth.TheVariants.{ABlock}
+use Rattle.papaya_legal.specs.Given.Schedules.declared.effect.Table.{Table}
+use Rattle.papaya_legal.specs.Given.Schedules.Effects.{with_effect, with_effects}
+use Rattle.papaya_legal.specs.Given.Schedules.Handing.{is_first_making, is_table_made}
+use Rattle.papaya_legal.specs.Given.Schedules.Moment.{IsLinked as AtLinked, TableThere, Moment}
+use Rattle.papaya_legal.specs.Given.Schedules.Views.{tables_of}
+use Rattle.papaya_legal.specs.Given.Effects.Effects.{effects_of, known_after, table_at}
+use Rattle.papaya_legal.specs.Given.Effects.Known.{Known}
+use Rattle.papaya_legal.specs.Given.Effects.declared.acting.Acting.{Acting}
+use Rattle.papaya_legal.specs.Given.Effects.declared.acting.Acting.TheVariants as acts
+use Rattle.papaya_legal.specs.Given.Executor.IsAt.{Scene, IsAt}
+use Rattle.papaya_legal.specs.Given.Executor.Making.{MakingLeads}
+use Rattle.papaya_legal.specs.Given.Executor.declared.executor.Executor.{Executor}
+use Rattle.papaya_legal.specs.Given.Finishes.Makings.{Beginning}
+use Rattle.papaya_legal.specs.Given.Follows.Shows.{Shows}
+use Rattle.papaya_legal.specs.Given.Others.Makings.{NotesCounter, making_after}
+use Rattle.papaya_legal.specs.Given.Owes.Tables.{ShowsTables}
+use Rattle.papaya_legal.proofs.Given.Owes.Tables.Held.{shape_of}
+use Rattle.papaya_legal.proofs.Given.Owes.Tables.Leaves.{Stays, IsMade, IsGivenUp, IsLinked}
+use Rattle.papaya_legal.proofs.Given.Owes.Tables.MakingsOfMaps.{left_tables}
+use Rattle.papaya_legal.proofs.Given.Owes.Tables.Roles.{of_table, NoneOfTable}
+use Rattle.papaya_works.specs.Makings.{CountsTables, MakingsCountTables, in_hand, table_left}
+use Rattle.papaya_works.proofs.Makings.{makings_do_theirs}
+
+abbrev linked : Table → TableShape → TableThere
+linked t shape = record { table = t; shape = shape; stage = AtLinked }
+
+-- Of the effects of a making those that say nothing of tables make none, and the map has as many as before.
+module _ {K V : Type 0} (map : ℕ) (of : Option ℕ) where
+  abbrev LeavesMany : List Effect → Moment K V → Type 0
+  LeavesMany fs m = (length (filter is_table_made fs) ≡ 0) × (length (tables_of map (with_effects None of fs m)) ≡ length (tables_of map m))
+
+  quiet_leave : (fs : List Effect) (m : Moment K V) → list_all is_first_making fs ≡ true → NoneOfTable fs → LeavesMany fs m
+  quiet_leave [] m firsts none = (refl, refl)
+  quiet_leave (f ∷ fs) m firsts none =
+      let both = and_parts (is_first_making f) (list_all is_first_making fs) firsts in
+      by f both.0 none.0 (quiet_leave fs (with_effect None of f m) both.1 none.1)
+    where
+      by : (g : Effect) → is_first_making g ≡ true → of_table g ≡ false → LeavesMany fs (with_effect None of g m) → LeavesMany (g ∷ fs) m
+      by (effect.Asked ABlock) first quiet rest = rest
+      by (effect.TableMade t) first quiet rest = absurd (cc quiet)
+      by (effect.Linked t shape) first quiet rest = absurd (cc quiet)
+      by _ first quiet rest = absurd (cc first)
+
+  -- one that links a table brings it to the map
+  one_more : (t : Table) (shape : TableShape) (m : Moment K V) → t.map ≡ map → length (tables_of map (with_effects None of (effect.Linked t shape ∷ []) m)) ≡ length (tables_of map m) + 1
+  one_more t shape m its =
+      ap length (filter-append (λ (u : TableThere). u.table.map == map) m.tables (linked t shape ∷ []))
+      ∙ length-append (tables_of map m) (filter (λ (u : TableThere). u.table.map == map) (linked t shape ∷ []))
+      ∙ ap (λ (q : Bool). length (tables_of map m) + length (if q then linked t shape ∷ [] else [])) (eq-eqb t.map map its)
+
+module _ {K V S : Type 0} (same : K → K → Bool) (hash : K → ℕ) (name : ℕ → List ℕ) (m : Moment K V) (known : Known) (s : Scene K V) (old new : Executor K V S) (at_s : IsAt same hash old s)
+    (shown : Shows same name m known s) (tables : ShowsTables name m known s) (i : ℕ) (told : Progress Setting) (leads : MakingLeads same hash i told s old new)
+    (b : Beginning K) (here : s.makers i ≡ Some b) (noted : NotesCounter known b) (of : Option ℕ) (done : List Effect) (counts : CountsTables b.map done m (table_left b.machine progress.Goes)) where
+  abbrev its : Acting
+  its = acts.Making b.map
+
+  abbrev effects : List Effect
+  effects = effects_of its known new.memory.changed
+
+  abbrev left : Option Planned
+  left = table_left (leads b here).0 told
+
+  firsts : list_all is_first_making effects ≡ true
+  firsts = makings_do_theirs K V S same hash name m known s old new at_s shown i told leads b here noted
+
+  abbrev Goal : List Effect → Type 0
+  Goal fs = CountsTables b.map (done ++ fs) (with_effects None of fs m) left
+
+  as_effects : (fs : List Effect) → effects ≡ fs → Goal fs → Goal effects
+  as_effects fs are so = subst Goal (sym are) so
+
+  -- so many are made, so many came to the map, and one is in hand, or not
+  count_on : (fs : List Effect) (made more : ℕ) → length (filter is_table_made fs) ≡ made → length (tables_of b.map (with_effects None of fs m)) ≡ length (tables_of b.map m) + more
+      → more + in_hand left ≡ made + in_hand (table_left b.machine progress.Goes) → Goal fs
+  count_on fs made more made_is more_is left_is =
+      let all = ap length (filter-append is_table_made done fs) ∙ length-append (filter is_table_made done) (filter is_table_made fs) in omega (arith, all, counts, made_is, more_is, left_is)
+
+  tables_counted : Shows same name (with_effects None of effects m) (known_after its new.memory.changed known)
+      (making_after same hash s old new i b (leads b here).0 (leads b here).2.step.w2 told (leads b here).3) → Goal effects
+  tables_counted shown_then =
+      elim ((left_tables same hash name m known s old new at_s shown tables i b here (leads b here).0 told (leads b here).1 (leads b here).2 of (leads b here).3 shown_then).goes) as (λ _. Goal effects) [
+        | Stays quiet as_before ↦
+            let many = quiet_leave b.map of effects m firsts quiet in
+            count_on effects 0 0 many.0 (let same_many = many.1 in omega (arith, same_many)) (let hand = ap in_hand as_before in omega (arith, hand))
+        | IsMade p effects_are none has in_turn ↦
+            as_effects _ effects_are
+            (count_on (effect.Asked ABlock ∷ effect.TableMade (table_at its p.turn) ∷ []) 1 0 refl (omega arith)
+            (let before = ap in_hand none in let now = ap in_hand has in omega (arith, before, now)))
+        | IsGivenUp p effects_are had none in_turn ↦ absurd (omega (arith, in_turn))
+        | IsLinked p effects_are had none ↦
+            as_effects _ effects_are
+            (count_on (effect.Linked (table_at its p.turn) (shape_of p) ∷ []) 0 1 refl (one_more b.map of (table_at its p.turn) (shape_of p) m refl)
+            (let before = ap in_hand had in let now = ap in_hand none in omega (arith, before, now)))
+      ]
+
+pub makings_count_tables : (K V S : Type 0) (same : K → K → Bool) (hash : K → ℕ) → MakingsCountTables K V S same hash
+makings_count_tables K V S same hash name m known s old new at_s shown tables i told leads b here noted of done counts shown_then =
+    tables_counted same hash name m known s old new at_s shown tables i told leads b here noted of done counts shown_then
