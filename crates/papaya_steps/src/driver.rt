@@ -2,7 +2,7 @@
 #[cfg(test)]
 mod wrong;
 
-ghost use Rattle.std.specs.Prelude.{◌≡◌, ◌+◌, ◌<◌, ◌∷◌, ◌++◌, [], length, IfOk, IfErr, OnOk, OnErr};
+ghost use Rattle.std.specs.Prelude.{◌≡◌, ◌+◌, ◌<◌, ◌∷◌, ◌++◌, [], length, vec_len, IfOk, IfErr, OnOk, OnErr};
 ghost use Rattle.papaya_copies.specs.Copies.{AreAlike, ClonesAreSame};
 ghost use Rattle.papaya_schedules.specs.declared.outcome.Outcome.{Outcome};
 
@@ -103,6 +103,28 @@ fn under_lock<K: Eq + Hash + Drop, V: Clone, S: Hashes<K> + Drop, N: CrewName, W
     crew.locked.lock(rt).apply(alloc, share, kept, event)
 }
 
+/// Copies of an event: one for the list of its driver, and one to be kept.
+fn copies<K: Clone, V: Clone>(
+    alloc: Global,
+    number: u64,
+    event: &Event<K, V>,
+) -> Result<(Event<K, V>, Kept<K, V>), AllocError>
+    requires keys { ClonesAreSame K.is_clone }
+    requires values { ClonesAreSame V.is_clone }
+    ensures listed { IfOk result (λ copies. copies.0 ≡ event.now) }
+    ensures kept { IfOk result (λ copies. copies.1 ≡ record { driver = number; event = event.now }) }
+{
+    let listed = events::copy_of(alloc, event)?;
+    let event = events::copy_of(alloc, event)?;
+    Ok((
+        listed,
+        Kept {
+            driver: number,
+            event,
+        },
+    ))
+}
+
 /// Lets an event happen, and lists it with what it came to.
 fn list<K: Eq + Hash + Clone, V: Clone, S: Hashes<K> + Drop, N: CrewName, W: Wait>(
     rt: &W,
@@ -117,26 +139,18 @@ fn list<K: Eq + Hash + Clone, V: Clone, S: Hashes<K> + Drop, N: CrewName, W: Wai
     requires values { ClonesAreSame V.is_clone }
     requires part { 0 < share.old.parts }
     ensures listed { IfOk result (λ outcome. (listed : Outcome V) × AreAlike listed outcome × (list.new.items ≡ list.old.items ++ (record { event = event; outcome = listed }) ∷ [])) }
-    ensures counted { OnOk result (share.new.amount ≡ share.old.amount + 1) }
-    ensures refused { OnErr result ((list.new.items ≡ list.old.items) × (share.new.amount ≡ share.old.amount)) }
+    ensures counted { share.new.amount + vec_len list.old ≡ share.old.amount + vec_len list.new }
+    ensures refused { OnErr result (list.new.items ≡ list.old.items) }
     ensures parts { share.new.parts ≡ share.old.parts }
 {
     list.reserve(1)?;
-    let listed = events::copy_of(alloc, &event)?;
-    let kept = Kept {
-        driver: number,
-        event: events::copy_of(alloc, &event)?,
-    };
-    match under_lock(rt, alloc, crew, share, kept, event) {
-        Ok((outcome, again)) => {
-            list.push_reserved(Applied {
-                event: listed,
-                outcome,
-            });
-            Ok(again)
-        }
-        Err(error) => Err(error),
-    }
+    let (listed, kept) = copies(alloc, number, &event)?;
+    let (outcome, again) = under_lock(rt, alloc, crew, share, kept, event)?;
+    list.push_reserved(Applied {
+        event: listed,
+        outcome,
+    });
+    Ok(again)
 }
 
 impl<K: Eq + Hash + Clone, V: Clone, N: CrewName> Driver<K, V, N> {
@@ -156,7 +170,7 @@ impl<K: Eq + Hash + Clone, V: Clone, N: CrewName> Driver<K, V, N> {
         ensures number { self.new.number ≡ self.old.number }
         ensures memory { IfErr result (λ fault. fault ≡ Fault.Memory) }
     {
-        match list(
+        Ok(list(
             rt,
             alloc,
             crew,
@@ -164,9 +178,6 @@ impl<K: Eq + Hash + Clone, V: Clone, N: CrewName> Driver<K, V, N> {
             &mut self.list,
             &mut self.share,
             event,
-        ) {
-            Ok(outcome) => Ok(outcome),
-            Err(_) => Err(Fault::Memory),
-        }
+        )?)
     }
 }

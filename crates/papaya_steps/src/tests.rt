@@ -1,8 +1,9 @@
 //! Two drivers on two threads; and drivers that list what did not happen so.
 ghost use Rattle.std.specs.Prelude.{◌≡◌};
 
-use crate::crew::{Crew, Finished};
+use crate::crew::Crew;
 use crate::driver::Driver;
+use crate::finished::Finished;
 use crate::locked::events_again;
 use crate::name::CrewName;
 use papaya_copies::outcomes;

@@ -6,7 +6,7 @@ use Rattle.std.proofs.lemmas.List.FromFn.{map-range_with_len_more}
 use Rattle.papaya_steps.specs.Crew.{Listed}
 use Rattle.papaya_steps.proofs.crew.Crew.new.Goals as goal
 
-fresh : {K V : Type 0} → ℕ → Listed K V
+abbrev fresh : {K V : Type 0} → ℕ → Listed K V
 fresh k = record { number = k; list = [] }
 
 pub loop-number-preserved : goal.loop-number-preserved
