@@ -1,6 +1,6 @@
 -- Lemmas on maps for one owner.
 mod Done
-mod Got
+mod Did
 mod Kept
 mod Members
 mod Ordered
