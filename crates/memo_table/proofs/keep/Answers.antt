@@ -4,8 +4,8 @@ use Rattle.memo_table.specs.Fibonacci.{IsRight}
 use Rattle.memo_table.proofs.Memos.{put_right}
 use Rattle.memo_table.proofs.keep.Goals as goal
 
-pub returns-in-Ok : goal.returns-in-Ok
-returns-in-Ok c = put_right (c.args.n, c.args.number) _ _ c.requires.number c.requires.memo c.in-Ok.ensures.stored
+pub returns : goal.returns
+returns c = put_right (c.args.n, c.args.number) _ _ c.requires.number c.requires.memo c.in_ok-insert.ensures.stored
 
-pub returns-in-Err : goal.returns-in-Err
-returns-in-Err c = ordered_are_so IsRight _ _ c.in-Err.ensures.refused c.requires.memo
+pub returns-in_err-insert : goal.returns-in_err-insert
+returns-in_err-insert c = ordered_are_so IsRight _ _ c.in_err-insert.ensures.refused c.requires.memo

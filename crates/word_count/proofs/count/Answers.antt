@@ -13,8 +13,8 @@ put_counts : (word key : List ℕ) (count : ℕ) (pairs : List (List ℕ × ℕ)
 put_counts word key count pairs is =
     rw is (ap (λ o. unwrap_or (option_map (λ x. x.1) o) 0) ((put_is_found _ _ (bytes_eq word) pairs).1 (word, count) (nat_list_eq_equiv.refl word)))
 
-pub returns-in-Ok-clause-one_more : goal.returns-in-Ok-clause-one_more
-returns-in-Ok-clause-one_more c =
-    c.count_of-in-Ok.ensures.in_any_order _ c.in-Ok.ensures.stored
+pub returns-clause-one_more : goal.returns-clause-one_more
+returns-clause-one_more c =
+    c.count_of-2.ensures.in_any_order _ c.in_ok-insert.ensures.stored
     ∙ put_counts c.args.word.now c.in_ok-new.field-0 c.in-Some.count c.args.counts.now.pairs c.in_ok-new.ensures
     ∙ c.in-Some.ensures.1 ∙ ap (λ n. n + 1) c.count_of.ensures.count

@@ -1,0 +1,2 @@
+-- Lemmas on sessions that are removed or kept.
+mod Kept
