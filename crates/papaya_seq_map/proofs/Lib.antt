@@ -1,4 +1,5 @@
 -- Lemmas on maps for one owner.
+mod Cloned
 mod Done
 mod Did
 mod Kept
