@@ -1,17 +1,16 @@
 -- A map that was made of clones which equal their originals equals the map of these, and has as many pairs.
-use Rattle.std.specs.Prelude.{if◌then◌else◌, true, length}
+use Rattle.std.specs.Prelude.{if◌then◌else◌, suc, true, length}
 use Rattle.std.specs.Cmp.{IsEquivalence}
 use Rattle.std.specs.List.{AllByRecursion, AllZip, IsDistinct}
 use Rattle.std.specs.List.Sorted.{IsPermutation}
 use Rattle.std.specs.Map.{keys_of}
 use Rattle.std.specs.Option.{option_eq}
-use Rattle.std.proofs.Common.{◌≡◌, ◌+◌, Bool, false, List, [], ◌∷◌, Option, Some, None, refl, ap, sym, subst, ◌∙◌}
+use Rattle.std.proofs.Common.{◌≡◌, Bool, false, List, [], ◌∷◌, Option, Some, None, refl, ap, sym, subst, ◌∙◌}
 use Rattle.std.proofs.lemmas.List.Sorted.{IsPermutation-sym, length_permutation}
 use Rattle.std.proofs.lemmas.Map.Keys.{IsDistinct-cons, IsDistinct-head, IsDistinct-tail}
 use Rattle.papaya_resting.specs.Given.{found_by}
-use Rattle.papaya_pairs.specs.Equals.{agree, agree_at}
+use Rattle.papaya_pairs.specs.Equals.{agree, agree_at, agree_from_each}
 use Rattle.papaya_pairs.specs.Puts.{IsCloneOf, put_all}
-use Rattle.papaya_pairs.proofs.Equals.{agree_from_each}
 use Rattle.papaya_pairs.proofs.Laws.{apart_in_any_order, found_in_any_order}
 use Rattle.papaya_pairs.proofs.Puts.{apart_are_put}
 use Rattle.papaya_seq_map.specs.Stored.{ClonesAreEqual}
@@ -43,7 +42,7 @@ module _ {K V : Type 0} (same : K → K → Bool) (classes : IsEquivalence same)
   as_many [] [] each = refl
   as_many [] (b ∷ ys) each = absurd each
   as_many (a ∷ xs) [] each = absurd each
-  as_many (a ∷ xs) (b ∷ ys) each = ap (λ n. 1 + n) (as_many xs ys each.1)
+  as_many (a ∷ xs) (b ∷ ys) each = ap (λ n. suc n) (as_many xs ys each.1)
 
   agree_here : (q : K) (xs ys : List (K × V)) → Zip xs ys → agree_at same equal xs ys q ≡ true
   agree_here q [] [] each = refl
