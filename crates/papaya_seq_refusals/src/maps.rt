@@ -79,7 +79,7 @@ fn removed(map: &mut Numbers, call: &str, key: u64) -> Result<(), Fault> {
             map.remove_entry(&key)?;
         }
         "remove_if" => {
-            map.remove_if(&key, |_, value| *value == 30)?;
+            let _ = map.remove_if(&key, |_, value| *value == 30)?;
         }
         "compute" => {
             map.compute(key, |_| Operation::<u64, ()>::Insert(5))?;
@@ -110,7 +110,7 @@ fn stored(map: &mut Numbers, call: &str, key: u64) -> Result<(), Fault> {
             map.insert(key, 5)?;
         }
         "try_insert" => {
-            map.try_insert(key, 5)?;
+            let _ = map.try_insert(key, 5)?;
         }
         "get_or_insert" => {
             map.get_or_insert(key, 5)?;
@@ -119,7 +119,7 @@ fn stored(map: &mut Numbers, call: &str, key: u64) -> Result<(), Fault> {
             map.get_or_insert_with(key, five)?;
         }
         "try_insert_with" => {
-            map.try_insert_with(key, five)?;
+            let _ = map.try_insert_with(key, five)?;
         }
         _ => return updated(map, call, key),
     }

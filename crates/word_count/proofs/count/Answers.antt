@@ -15,6 +15,6 @@ put_counts word key count pairs is =
 
 pub returns-clause-one_more : goal.returns-clause-one_more
 returns-clause-one_more c =
-    c.count_of-2.ensures.in_any_order _ c.in_ok-insert.ensures.stored
+    c.count_of-2.ensures.in_any_order _ c.in_ok-counts.ensures.stored
     ∙ put_counts c.args.word.now c.in_ok-new.field-0 c.in-Some.count c.args.counts.now.pairs c.in_ok-new.ensures
     ∙ c.in-Some.ensures.1 ∙ ap (λ n. n + 1) c.count_of.ensures.count
