@@ -3,17 +3,13 @@
 
 ghost use Rattle.std.specs.Prelude.{◌≡◌};
 
-use papaya_steps::{
-    Call, Crew, CrewName, Driver, Event, Fault, KeyHash, OneKey, ResizeMode, Run, Setup, Token,
-};
-use std::alloc::{AllocError, Global};
-use std::marker::Brand;
+use papaya_steps::*;
 use std::sync::Wait;
 use std::sync::ledger::Blank;
-use std::thread::{Threads, map_vec};
+use std::thread::{Threads, for_each_mut};
 
 /// What a driver does at this place, under a guard of its own and on keys of its own. The first driver to come makes the map.
-fn event(alloc: Global, number: u64, place: u64) -> Result<Event<u64, u64>, AllocError> {
+fn event(alloc: std::alloc::Global, number: u64, place: u64) -> Result<Event<u64, u64>, Fault> {
     let guard = Token::copy_of(alloc, &[b'a' + (number % 4) as u8])?;
     let map = Token::copy_of(alloc, b"m")?;
     let key = number % 4 * 100 + place / 4;
@@ -34,47 +30,51 @@ fn event(alloc: Global, number: u64, place: u64) -> Result<Event<u64, u64>, Allo
     })
 }
 
-/// The run to which four drivers apply their events, each on a thread.
-fn by_four<N: CrewName + Send + Sync, W: Threads + Wait + Sync>(
+/// Each driver does its part, on a thread of its own.
+fn drive<S: Hashes<u64> + Drop + Send, N: CrewName + Send + Sync, W: Threads + Wait + Sync>(
     rt: &W,
-    alloc: Global,
-    setup: Setup,
-    blank: Blank,
-) -> Result<Option<Run<u64, u64>>, Fault>
-    requires { (setup ≡ N.setup) × (blank.name ≡ N.name) × (blank.parts ≡ N.parts) × (blank.parts ≡ 4) }
-{
-    let (crew, drivers) = Crew::new(alloc, setup, KeyHash::Key, Vec::new(alloc), 4, blank)?;
-    let work = |mut driver: Driver<u64, u64, N>| {
+    alloc: std::alloc::Global,
+    crew: &Crew<u64, u64, S, N>,
+    drivers: &mut [Driver<u64, u64, N>],
+) {
+    let work = |_: usize, driver: &mut Driver<u64, u64, N>| {
         for place in 0..44 {
             if let Ok(event) = event(alloc, driver.number(), place) {
-                let _ = driver.apply(rt, alloc, &crew, event);
+                let _ = driver.apply(rt, alloc, crew, event);
             }
         }
-        driver
     };
-    let drivers = map_vec(rt, drivers, &work)?;
-    Ok(crew.finish(alloc, drivers)?.map(|done| done.run))
+    for_each_mut(rt, drivers, 4, &work);
 }
 
-fn main(rt: HostRuntime) -> std::io::Result<()> {
-    let alloc = rt.alloc();
+/// The run to which four drivers apply their events.
+fn by_four<N: CrewName + Send + Sync, W: Threads + Wait + Sync>(
+    rt: &W,
+    alloc: std::alloc::Global,
+    blank: Blank,
+) -> Result<Option<Run<u64, u64>>, Fault>
+    requires { (N.setup ≡ record { batch_size = 1; processors = 4; roots = 1 }) × (blank.name ≡ N.name) × (blank.parts ≡ N.parts) × (blank.parts ≡ 4) }
+{
     let setup = Setup {
         batch_size: 1,
         processors: 4,
         roots: 1,
     };
-    let Ok(Some(run)) = by_four::<Brand, _>(&rt, alloc, setup, Blank::new(4)) else {
-        return Err(std::io::Error::other("no memory"));
-    };
+    let none = Vec::new(alloc);
+    let (crew, mut drivers) = Crew::<_, _, _, N>::new(alloc, setup, KeyHash::Key, none, 4, blank)?;
+    drive(rt, alloc, &crew, drivers.as_mut_slice());
+    Ok(crew.finish(alloc, drivers)?.map(|done| done.run))
+}
+
+fn main(rt: HostRuntime) -> std::io::Result<()> {
+    let alloc = rt.alloc();
     let mut pairs = Vec::new(alloc);
-    for pair in run.kept.as_slice() {
-        pairs.push((pair.key, pair.value))?;
+    if let Ok(Some(run)) = by_four::<std::marker::Brand, _>(&rt, alloc, Blank::new(4)) {
+        for pair in run.kept.as_slice() {
+            pairs.push((pair.key, pair.value))?;
+        }
+        println!(rt; "stored {} tables {}", run.stored, run.tables)?;
     }
     pairs.sort()?;
-    print!(rt; "map m")?;
-    for (key, value) in &pairs {
-        print!(rt; " {key}:{value}")?;
-    }
-    println!(rt; "\nwaiting {}\ntables {}", run.waiting.len(), run.tables)?;
-    println!(rt; "stored {} back {}", run.stored, run.given_back.len())
+    println!(rt; "map m {pairs:?}")
 }

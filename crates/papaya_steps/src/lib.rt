@@ -15,7 +15,7 @@ pub use driver::Driver;
 pub use finished::Finished;
 pub use kept::{Applied, Kept};
 pub use name::CrewName;
-pub use papaya_raw::ResizeMode;
+pub use papaya_raw::{Hashes, ResizeMode};
 pub use papaya_running::running::run;
 pub use papaya_runs::event::Setup;
 pub use papaya_runs::key_hash::KeyHash;

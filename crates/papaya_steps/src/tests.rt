@@ -7,7 +7,7 @@ use crate::finished::Finished;
 use crate::locked::events_again;
 use crate::name::CrewName;
 use papaya_copies::outcomes;
-use papaya_raw::ResizeMode;
+use papaya_raw::{Hashes, ResizeMode};
 use papaya_running::running::run;
 use papaya_runs::event::Setup;
 use papaya_runs::key_hash::KeyHash;
@@ -32,7 +32,7 @@ const SETUP: Setup = Setup {
     roots: 1,
 };
 
-type Team<N> = Crew<u64, u64, KeyHash, N>;
+type Team<S, N> = Crew<u64, u64, S, N>;
 
 type Member<N> = Driver<u64, u64, N>;
 
@@ -58,10 +58,10 @@ fn insert(alloc: Global, number: u64, key: u64) -> Result<Event<u64, u64>, Alloc
 }
 
 /// A driver applies its events: both store pairs of the same keys.
-fn drive<N: CrewName, W: Wait>(
+fn drive<S: Hashes<u64> + Drop, N: CrewName, W: Wait>(
     rt: &W,
     alloc: Global,
-    crew: &Team<N>,
+    crew: &Team<S, N>,
     driver: &mut Member<N>,
 ) -> Result<(), Fault> {
     let number = driver.number();
@@ -80,7 +80,23 @@ fn drive<N: CrewName, W: Wait>(
     Ok(())
 }
 
-/// Two drivers apply their events on two threads.
+/// Two drivers apply their events, each on a thread: themselves, and whether they were through.
+fn together<S: Hashes<u64> + Drop + Send, N: CrewName + Send + Sync, W: Threads + Wait + Sync>(
+    rt: &W,
+    alloc: Global,
+    crew: &Team<S, N>,
+    mut first: Member<N>,
+    mut second: Member<N>,
+) -> (Member<N>, Member<N>, bool) {
+    let (first, second) = thread::join(
+        rt,
+        move || (drive(rt, alloc, crew, &mut first).is_ok(), first),
+        move || (drive(rt, alloc, crew, &mut second).is_ok(), second),
+    );
+    (first.1, second.1, first.0 && second.0)
+}
+
+/// Two drivers apply their events to a crew of theirs.
 fn by_two<N: CrewName + Send + Sync, W: Threads + Wait + Sync>(
     rt: &W,
     alloc: Global,
@@ -92,7 +108,7 @@ fn by_two<N: CrewName + Send + Sync, W: Threads + Wait + Sync>(
     requires parts { blank.parts ≡ N.parts }
     requires two { blank.parts ≡ 2 }
 {
-    let (crew, mut drivers) = Team::<N>::new(
+    let (crew, mut drivers) = Team::<KeyHash, N>::new(
         alloc,
         setup,
         KeyHash::Key,
@@ -100,23 +116,18 @@ fn by_two<N: CrewName + Send + Sync, W: Threads + Wait + Sync>(
         2,
         blank,
     )?;
-    let Some(mut second) = drivers.pop() else {
+    let Some(second) = drivers.pop() else {
         unreachable!()
     };
-    let Some(mut first) = drivers.pop() else {
+    let Some(first) = drivers.pop() else {
         unreachable!()
     };
-    let shared = &crew;
-    let (first, second) = thread::join(
-        rt,
-        move || (drive(rt, alloc, shared, &mut first).is_ok(), first),
-        move || (drive(rt, alloc, shared, &mut second).is_ok(), second),
-    );
-    drivers.push(first.1)?;
-    drivers.push(second.1)?;
-    if !first.0 || !second.0 {
+    let (first, second, is_through) = together(rt, alloc, &crew, first, second);
+    if !is_through {
         return Err(Fault::Busy);
     }
+    drivers.push(first)?;
+    drivers.push(second)?;
     crew.finish(alloc, drivers)
 }
 
@@ -181,7 +192,7 @@ fn by_one<N: CrewName, W: Wait>(
     requires parts { blank.parts ≡ N.parts }
     requires one { blank.parts ≡ 1 }
 {
-    let (crew, mut drivers) = Team::<N>::new(
+    let (crew, mut drivers) = Team::<KeyHash, N>::new(
         alloc,
         setup,
         KeyHash::Key,
