@@ -1,6 +1,6 @@
 -- How a block comes and goes: a number is claimed, its place taken out, a block published, taken away, and its number is free again. Assumes `Logic`.
 use Rattle.std.specs.Prelude.{slice_get, slice_set}
-use Rattle.std.proofs.Common.{◌≡◌, ℕ, zero, suc, ◌+◌, ◌-◌, ◌*◌, ◌^◌, ◌<◌, List, [], ◌∷◌, ◌++◌, length, refl, sym, ap, ◌∙◌, subst, arith, inl, inr, Option, Some, None, Ok}
+use Rattle.std.proofs.Common.{◌≡◌, ℕ, zero, suc, ◌+◌, ◌-◌, ◌*◌, ◌^◌, ◌<◌, List, [], ◌∷◌, length, refl, sym, ap, ◌∙◌, subst, arith, inl, inr, Option, Some, None, Ok}
 use Rattle.std.specs.Prelude.{bit_or, IsSome}
 use seplogic.Ra.Ura.{Ura}
 use base.Fraction.{full_share}
@@ -15,15 +15,15 @@ use denote.RawPtr.{Ptr, block_ptr, block_of, count_of}
 use denote.Steps.{nothing}
 use Rattle.core.specs.Sync.RawAtomic.{word, asks, always}
 use Rattle.core.proofs.raw_atomic.Asked.{borrowed, Lies, Again}
-use Rattle.seize_words.specs.Mem.{Mem, value_at, value_in, fresh, after, with_made, IsFreeNumber}
+use Rattle.seize_words.specs.Mem.{Mem, value_at, value_in, fresh, after, IsFreeNumber}
 use Rattle.seize_words.specs.Op.{Make, Take, Made, Taken}
 use Rattle.seize_words.specs.Op as Op
 use Rattle.seize_words.specs.declared.block.Block.{Block}
 use Rattle.seize_seats.specs.State.{State, Goes, Allows}
 use Rattle.seize_seats.specs.Cells.{Cell, Free, Claimed, Out, Has, block_in, blocks_in, cell_at, sign_of}
 use Rattle.seize_seats.specs.Lines.{Parts, long, memory_of, AreLaid}
-use Rattle.seize_seats.specs.Owned.{fact, ledger, claim_owns, Hand, hand_coded, resting, busy, zeros, stride, hand, inside, kept, BaseId, age, Inside, state_of, standing, inner}
-use Rattle.seize_seats.proofs.Cells.{recelled, laid_same, laid_with, block_is, blocks_made, blocks_set, low_number, cell_beyond}
+use Rattle.seize_seats.specs.Owned.{fact, ledger, claim_owns, Hand, hand_coded, resting, busy, zeros, stride, hand, inside, BaseId, age, Inside, state_of, standing, inner}
+use Rattle.seize_seats.proofs.Cells.{recelled, laid_same, laid_with, block_is, blocks_made, blocks_set, cell_beyond}
 use Rattle.seize_seats.proofs.Numbers as Numbers
 use Rattle.seize_seats.proofs.Ledgers as Ledgers
 use Rattle.seize_seats.proofs.Moves as Moves
@@ -134,7 +134,8 @@ module _ {M : Type 1} {𝓤 : Ura M} (𝓛 : Logic 𝓤) (R : RattleType) {V W :
     Ag = Again 𝓛 α q I b e f always (claimed i)
 
     -- it was not free
-    had : (t : In) (sound : Sound t) (c : Cell R.Denot) → cell_at t.parts.cells i ≡ c → sign_of c ≡ 1 → ((x : R.Denot) (ws : List ℕ) → c ≡ Has x ws → length ws ≡ 4)
+    had : (t : In) (sound : Sound t) (c : Cell R.Denot) → cell_at t.parts.cells i ≡ c → sign_of c ≡ 1 → ((x : R.Denot) (ws : List ℕ) → c ≡ Has x ws
+        → length ws ≡ 4)
         → ⟦ cell_of i c ⟧ ∗ all 𝓤 (Recells t i) ∗ ⟦ Led t ⟧ ∗ emp 𝓤 ⊢ upd 𝓤 (ex 𝓤 Li)
     had t sound c is sign four = let Z : Pr = ⟦ I ⟧ ∗ emp 𝓤 in
         qed 𝓛 (‵ (cell_of i c) ∷ raw (all 𝓤 (Recells t i)) ∷ ‵ (Led t) ∷ ‵ ftrue ∷ []) ∵ suffices ! _ (upd_i 𝓤 (ex 𝓤 Li)) $ fsplit ! $
@@ -276,7 +277,8 @@ module _ {M : Type 1} {𝓤 : Ura M} (𝓛 : Logic 𝓤) (R : RattleType) {V W :
       use2 𝓛 (Moves.opening 𝓛 R cv holds keeps p z id v) (Moves.opened 𝓛 R cv holds keeps p z id v) $ pick ! (λ t. learn ! (λ g. split3 ! $ by ! (then t g)))
 
   -- ---- A BLOCK IS MADE of a value in its place
-  module _ (id : ℕ) (v : V) (i : ℕ) (e : Share) (x : R.Denot) (so : Op.Out R.Denot → V → Type 0) (lt : i < z.count) (small : i + 1 < 2 ^ 53) (law : Allows holds keeps id v (Make x 0) so) where
+  module _ (id : ℕ) (v : V) (i : ℕ) (e : Share) (x : R.Denot) (so : Op.Out R.Denot → V
+      → Type 0) (lt : i < z.count) (small : i + 1 < 2 ^ 53) (law : Allows holds keeps id v (Make x 0) so) where
     abbrev d : Cell R.Denot
     d = Has x zeros
 
@@ -408,4 +410,5 @@ module _ {M : Type 1} {𝓤 : Ura M} (𝓛 : Logic 𝓤) (R : RattleType) {V W :
         settle 𝓛 TakenOut (‵ I ⊛ ‵ (gone_on id told)) $ split ! $ suffices ! _ (upd_i 𝓤 TakenOut) $ frame ! $
         -- [the seat; three quarters; the contents]
         move ! (1 ∷ 2 ∷ []) $ fjoin ! $ move ! (1 ∷ 0 ∷ []) $ fjoin ! $
-        nothing ! $ fpack ! ((0 < n) × (i < z.count) × (length th.1 ≡ 4)) (λ _. ftrue) facts $ fjoin ! $ fpack ! (R.Denot × List ℕ) Taking (th.0, th.1) $ done !)
+        nothing ! $ fpack ! ((0 < n) × (i < z.count) × (length th.1 ≡ 4)) (λ _. ftrue) facts $ fjoin ! $ fpack ! (R.Denot × List ℕ) Taking (th.0, th.1) $
+        done !)

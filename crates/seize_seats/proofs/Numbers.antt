@@ -1,12 +1,12 @@
 -- Numbers one of them opened at a time, and the words of roots, slots and entries by their names. Assumes `Logic`.
-use Rattle.std.specs.Prelude.{slice_get, slice_set, slice_index_or}
-use Rattle.std.proofs.Common.{◌≡◌, ℕ, zero, suc, ◌+◌, ◌-◌, ◌*◌, ◌<◌, List, [], ◌∷◌, length, set, get_or, sym, refl, ap, ◌∙◌, subst, arith, Option, Some}
+use Rattle.std.specs.Prelude.{slice_get, slice_set}
+use Rattle.std.proofs.Common.{◌≡◌, ℕ, zero, suc, ◌+◌, ◌-◌, ◌*◌, ◌<◌, List, [], ◌∷◌, length, set, get_or, sym, refl, ap, ◌∙◌, arith, Option, Some}
 use seplogic.Ra.Ura.{Ura}
 use base.Fraction.{full_share}
 use base.Logic.{SProp, ent, sep, wand, ex, all, guard, apply∗, all_e}
 use base.Fml.{Lft, Fml, fsep}
 use types.Logic.{Logic, sem}
-use types.Kit.{‵, raw, ◌⊛◌, ◌$◌, ◌∵◌, !, qed, by, move, split, frame, each, assume, fsplit, fjoin, show, check, use1, use2, rewrite, done}
+use types.Kit.{‵, raw, ◌⊛◌, ◌$◌, ◌∵◌, !, qed, move, split, frame, each, assume, fsplit, fjoin, show, check, use1, use2, rewrite, done}
 use denote.RattleType.{RattleType}
 use denote.RawPtr.{Ptr, block_of, count_of}
 use Rattle.core.specs.Sync.RawAtomic.{word}
@@ -16,7 +16,7 @@ use Rattle.seize_words.specs.declared.at.At.TheVariants.{Root, Used, Slot, Entry
 use Rattle.seize_words.specs.declared.block.Block.{Block}
 use Rattle.seize_seats.specs.Cells.{Cell, Free, Claimed, Out, Has, block_in, cell_at}
 use Rattle.seize_seats.specs.Lines.{Parts, long, place_of, memory_of, IsWord, IsNoBlocks, AreLaid}
-use Rattle.seize_seats.specs.Owned.{row, stride, resting, hand, place, inside, under, numbers, BaseId, age}
+use Rattle.seize_seats.specs.Owned.{row, stride, resting, hand, place, under, numbers, BaseId, age}
 use Rattle.seize_seats.proofs.Cells.{block_is, entries_lie, entries_are_apart, cell_beyond, get_some}
 use Rattle.seize_seats.proofs.Columns.{words_lie, words_are_apart}
 use Rattle.seize_seats.proofs.Rows.{row_at}
@@ -88,7 +88,8 @@ module _ {M : Type 1} {𝓤 : Ura M} (𝓛 : Logic 𝓤) (R : RattleType) (p : P
   pub celled : (ws : List ℕ) (cs : List (Cell R.Denot)) (i : ℕ) (c : Cell R.Denot) → i < length cs → cell_at cs i ≡ c
       → ent 𝓤 ⟦ Ws ws cs ⟧ (sep 𝓤 ⟦ cell_of i c ⟧ (all 𝓤 (Recells ws cs i)))
   celled ws cs i c lt has =
-      let e : ℕ = i * 40 + (long z.roots * 8 + o) in let e' : ℕ = i * stride R + o' in let P = Puts 𝓛 R α z.hands_name b b' (long z.roots * 8 + o) o' 0 cs i e e' i in
+      let e : ℕ = i * 40 + (long z.roots * 8 + o) in let e' : ℕ = i * stride R + o' in
+      let P = Puts 𝓛 R α z.hands_name b b' (long z.roots * 8 + o) o' 0 cs i e e' i in
       let N : List (Cell R.Denot) → Fml = λ ds. numbers R α z.hands_name b (long z.roots * 8 + o) b' o' 0 ds in
       qed 𝓛 (‵ (row b o ws) ∷ ‵ (N cs) ∷ []) ∵ move ! (1 ∷ []) $
       use1 𝓛 (‵ (cell_of i c) ⊛ raw (all 𝓤 P))

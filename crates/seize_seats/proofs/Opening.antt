@@ -6,7 +6,7 @@ use seplogic.Ra.Ura.{Ura}
 use base.Fraction.{full_share}
 use base.Stored.{Coded}
 use base.Logic.{SProp, ent, sep, ex, guard, via, never, never_e, emp}
-use base.Fml.{Lft, Share, Fml, ftrue, fsep, flft, fbor, finv, fdead}
+use base.Fml.{Lft, Fml, ftrue, fsep, fbor, finv, fdead}
 use types.Logic.{Logic, sem}
 use types.Owned.{basic}
 use types.Keyed.{entries_take, entries_new}

@@ -1,6 +1,6 @@
 -- `put` takes the place of a claimed number out, writes the value there, and gives it back as a block.
-use Rattle.std.proofs.Common.{◌≡◌, ℕ, List, [], ◌∷◌, ◌++◌, ◌+◌, ◌*◌, ◌^◌, ◌<◌, ◌≤◌, sym, refl, ap, ◌∙◌, subst, w64, arith, Option, None, Some, Ok}
-use mir.Syntax.{dcons, dnil, a_type, named}
+use Rattle.std.proofs.Common.{◌≡◌, ℕ, List, [], ◌∷◌, ◌++◌, ◌+◌, ◌*◌, ◌^◌, ◌<◌, sym, refl, ap, ◌∙◌, subst, w64, Option, None, Some, Ok}
+use mir.Syntax.{dcons, dnil, a_type}
 use mir.MapTy.{inst_fn}
 use mir.Raw.{raw as bare}
 use mir.Val.{Val, vint, vptr, vunit, of_list}
@@ -44,8 +44,7 @@ use Rattle.std.specs.contracts.marker.PhantomData as marker
 use Rattle.std.proofs.raw_atomic.Walks.{proved_at, leaves}
 use Rattle.seize_words.specs.Op.{Out, Make, Made}
 use Rattle.seize_seats.specs.State.{Allows}
-use Rattle.seize_seats.specs.Lines.{long}
-use Rattle.seize_seats.specs.Owned.{BaseId, IsPlaced, Hand, age, common, inner, claim_owns, hand, resting, busy, zeros, place, row, stride, words_share, seat_owns}
+use Rattle.seize_seats.specs.Owned.{BaseId, IsPlaced, Hand, age, common, inner, claim_owns, resting, busy, zeros, place, stride, words_share, seat_owns}
 use Rattle.seize_seats.proofs.Shown.{placed}
 use Rattle.seize_seats.proofs.Moves.{reach, seat as seat_of, gone_on}
 use Rattle.seize_seats.proofs.Makings.{hands, contents, withdraws, publishes}
@@ -117,7 +116,8 @@ put_spec 𝓤 𝓛 𝓜 𝓡 wired X P U F LX LP LU LF g d _ =
     -- [the claim; the value; self; its token; the seat, by two; its token; the others]
     fsplit ! $ drop ! $ rewrite ! 0 (λ (u : ℕ × ℕ × ℕ). ‵ (claim_owns u.0 u.1 u.2)) (λ i. (asked.1 i, asked.3 i, asked.2 i)) refl $
     rewrite ! 1 (λ (ws : List Val). ‵ (R₀.own_val new ws)) got.1 refl $
-    let so : Out X.Denot → U.Denot → Type 0 = g.then v (Make new 0) in let allowed = subst (λ (w : ℕ). Allows holds g.keeps id v (Make new w) (g.then v (Make new w))) asked.7 asked.8 in
+    let so : Out X.Denot → U.Denot → Type 0 = g.then v (Make new 0) in
+    let allowed = subst (λ (w : ℕ). Allows holds g.keeps id v (Make new w) (g.then v (Make new w))) asked.7 asked.8 in
     let p' : Ptr = block_ptr bv ov in let us : List Val = vptr b o ∷ vptr b' o' ∷ claim_of cl.found ∷ vint w64 j ∷ ptr_val p' ∷ vy ∷ vint w64 count ∷ [] in
     let Run : List Val → SProp 𝓤 = λ ws. WpFn 𝓤 H 𝓣.C 𝓣.Λ fn ws Post in
     move ! (2 ∷ []) $
@@ -189,7 +189,8 @@ put_spec 𝓤 𝓛 𝓜 𝓡 wired X P U F LX LP LU LF g d _ =
     -- [the seat; the token; the fields; four; what it held; its token; the others]
     move ! (2 ∷ 0 ∷ []) $ fjoin ! $ move ! (2 ∷ 0 ∷ 3 ∷ 4 ∷ 5 ∷ []) $ closes ! tt Sr h' ts b' o' $
     feq_i ! (List Val) vss.1.0 (vptr b' o' ∷ []) are.1.0.0 $ fjoin3 ! $
-    nothing ! $ nothing ! $ fjoin ! $ nothing ! $ fjoin ! $ nothing ! $ fjoin ! $ nothing ! $ fjoin ! $ nothing ! $ fjoin ! $ move ! (1 ∷ 0 ∷ []) $ fjoin ! $ nothing ! $ fjoin ! $
+    nothing ! $ nothing ! $ fjoin ! $ nothing ! $ fjoin ! $ nothing ! $ fjoin ! $ nothing ! $ fjoin ! $ nothing ! $ fjoin ! $ move ! (1 ∷ 0 ∷ []) $
+    fjoin ! $ nothing ! $ fjoin ! $
     -- [what is left; its token; the token; what it held; the others]
     move ! (1 ∷ 4 ∷ []) $ join ! $ move ! (2 ∷ 0 ∷ []) $ join ! $
     use0 𝓛 (raw (fact 𝓤 Told)) (fact_i 𝓤 Told (emp 𝓤) (sym asked.0, refl, told_is)) $ feq_i ! (List Val) (vunit ∷ []) (vunit ∷ []) refl $

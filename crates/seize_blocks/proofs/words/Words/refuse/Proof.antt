@@ -75,7 +75,8 @@ refuse_spec 𝓤 𝓛 𝓜 𝓡 wired X P U F LX LP LU LF g d _ =
     )) (λ κs qs bounds a gh are.
     let b : ℕ = a.0.ref_ptr.0 in let o : ℕ = a.0.ref_ptr.1 in let b' : ℕ = a.1.0.ref_ptr.0 in let o' : ℕ = a.1.0.ref_ptr.1 in let κ : Lft = κs.0 in
     let t : Row.Denot = a.0.now in let p : Ptr = t.words in let z : BaseId = t.id in let h : Sr.Denot = a.1.0.now in
-    let id : ℕ = h.id in let v : U.Denot = h.view in let cv = R₂.coded in let holds = g.holds t.fixed in let b₂ : ℕ = a.1.1.0.ref_ptr.0 in let o₂ : ℕ = a.1.1.0.ref_ptr.1 in
+    let id : ℕ = h.id in let v : U.Denot = h.view in let cv = R₂.coded in let holds = g.holds t.fixed in let b₂ : ℕ = a.1.1.0.ref_ptr.0 in
+    let o₂ : ℕ = a.1.1.0.ref_ptr.1 in
     let x : X.Denot = a.1.1.0.now in let count : ℕ = a.1.1.1.0 in
     let so : Out X.Denot → U.Denot → Type 0 = g.then v (Make x count) in let out : Out X.Denot = Made (Err x) in
     let others : Fml = fsep (flft κs.1.1.0 qs.1.1.0) (fsep (flft κs.1.1.1.0 qs.1.1.1.0) (fsep (flft κs.1.1.1.1.0 qs.1.1.1.1.0)
@@ -103,7 +104,8 @@ refuse_spec 𝓤 𝓛 𝓜 𝓡 wired X P U F LX LP LU LF g d _ =
     let Told : Type 0 = (z.views_name ≡ h.base) × (id ≡ id) × so out v' in
     move ! (2 ∷ 0 ∷ []) $ fjoin ! $ move ! (2 ∷ 0 ∷ 3 ∷ 4 ∷ 5 ∷ []) $ closes ! tt Sr h' ts b' o' $
     feq_i ! (List Val) (vptr b' o' ∷ []) (vptr b' o' ∷ []) refl $ fjoin3 ! $
-    nothing ! $ nothing ! $ fjoin ! $ nothing ! $ fjoin ! $ move ! (1 ∷ 0 ∷ []) $ fjoin ! $ nothing ! $ fjoin ! $ move ! (1 ∷ 3 ∷ []) $ join ! $ move ! (2 ∷ 0 ∷ []) $ join ! $
+    nothing ! $ nothing ! $ fjoin ! $ nothing ! $ fjoin ! $ move ! (1 ∷ 0 ∷ []) $ fjoin ! $ nothing ! $ fjoin ! $ move ! (1 ∷ 3 ∷ []) $ join ! $
+    move ! (2 ∷ 0 ∷ []) $ join ! $
     sets ! (of_opd ! (unit_lit !)) refl (tt, tt) $ feq_i ! (List Val) (vunit ∷ []) (vunit ∷ []) refl $
     use0 𝓛 (raw (fact 𝓤 Told)) (fact_i 𝓤 Told (emp 𝓤) (sym asked.0, refl, such)) $
     returns ! (look_at ! 0 refl) $ free_all ! refl $ keep ! (2 ∷ 3 ∷ 1 ∷ 0 ∷ []) $

@@ -1,5 +1,5 @@
 -- `take` takes a block away with its place, moves the value out, and frees the number.
-use Rattle.std.proofs.Common.{◌≡◌, ℕ, List, [], ◌∷◌, ◌++◌, ◌+◌, ◌-◌, ◌*◌, ◌^◌, ◌<◌, ◌≤◌, sym, refl, ap, ◌∙◌, subst, lit<, w64, arith, Option, None, Some}
+use Rattle.std.proofs.Common.{◌≡◌, ℕ, List, [], ◌∷◌, ◌+◌, ◌-◌, ◌*◌, ◌^◌, ◌<◌, ◌≤◌, sym, refl, ap, ◌∙◌, subst, lit<, w64, arith, None, Some}
 use mir.Syntax.{Ty, dcons, dnil, a_type, named, ty_int}
 use mir.MapTy.{inst_fn}
 use mir.Raw.{raw as bare}
@@ -49,10 +49,10 @@ use Rattle.core.specs.Sync.RawAtomic.{word}
 use Rattle.seize_words.specs.Op.{Out, Take, Taken}
 use Rattle.seize_seats.specs.State.{Allows}
 use Rattle.seize_seats.specs.Lines.{long}
-use Rattle.seize_seats.specs.Owned.{BaseId, IsPlaced, age, common, inner, busy, zeros, place, row, stride, words_share, seat_owns}
+use Rattle.seize_seats.specs.Owned.{BaseId, IsPlaced, age, common, inner, place, row, stride, words_share, seat_owns}
 use Rattle.seize_seats.proofs.Shown.{placed}
-use Rattle.seize_seats.proofs.Moves.{reach, seat as seat_of, gone_on}
-use Rattle.seize_seats.proofs.Makings.{hands, contents, leaves as goes_out, Taking, frees}
+use Rattle.seize_seats.proofs.Moves.{reach, seat as seat_of}
+use Rattle.seize_seats.proofs.Makings.{leaves as goes_out, Taking, frees}
 use Rattle.seize_blocks.specs.contracts.words.Words as words
 use Rattle.seize_blocks.specs.contracts.seat.Seat as seat
 use Rattle.seize_blocks.proofs.Fields.{hand_of, Data, told, opened}
@@ -79,11 +79,13 @@ take_spec 𝓤 𝓛 𝓜 𝓡 wired X P U F LX LP LU LF g d _ =
     (λ κs. (shr_Tells (named 0) κs.0 Row, (mut_Tells (named 1) κs.1.0 Sr, (uint_Tells w64, (uint_Tells w64, (rawptr_Tells, (uint_Tells w64, (uint_Tells w64, (uint_Tells w64, (uint_Tells w64, (uint_Tells w64, tt))))))))))) (λ κs qs bounds a gh are.
     let b : ℕ = a.0.ref_ptr.0 in let o : ℕ = a.0.ref_ptr.1 in let b' : ℕ = a.1.0.ref_ptr.0 in let o' : ℕ = a.1.0.ref_ptr.1 in let κ : Lft = κs.0 in
     let t : Row.Denot = a.0.now in let p : Ptr = t.words in let z : BaseId = t.id in let h : Sr.Denot = a.1.0.now in let nr : ℕ = a.1.1.0 in
-    let j : ℕ = a.1.1.1.0 in let pv : Ptr = a.1.1.1.1.0 in let i₀ : ℕ = a.1.1.1.1.1.0 in let i₁ : ℕ = a.1.1.1.1.1.1.0 in let i₂ : ℕ = a.1.1.1.1.1.1.1.0 in let i₃ : ℕ = a.1.1.1.1.1.1.1.1.0 in
+    let j : ℕ = a.1.1.1.0 in let pv : Ptr = a.1.1.1.1.0 in let i₀ : ℕ = a.1.1.1.1.1.0 in let i₁ : ℕ = a.1.1.1.1.1.1.0 in let i₂ : ℕ = a.1.1.1.1.1.1.1.0 in
+    let i₃ : ℕ = a.1.1.1.1.1.1.1.1.0 in
     let i₄ : ℕ = a.1.1.1.1.1.1.1.1.1.0 in
     let id : ℕ = h.id in let v : U.Denot = h.view in let cv = R₂.coded in let α : Lft = age z in let holds = g.holds t.fixed in
     let pb : ℕ = block_of p in let po : ℕ = count_of p in
-    let bv : ℕ = block_of pv in let ov : ℕ = count_of pv in let sz : ℕ = stride R₀ in let e : ℕ = j * sz + ov in let f : ℕ = (nr - 1) * 40 + (long z.roots * 8 + po) in
+    let bv : ℕ = block_of pv in let ov : ℕ = count_of pv in let sz : ℕ = stride R₀ in let e : ℕ = j * sz + ov in
+    let f : ℕ = (nr - 1) * 40 + (long z.roots * 8 + po) in
     let others : Fml = fsep (flft κs.1.1.0 qs.1.1.0) (fsep (flft κs.1.1.1.0 qs.1.1.1.0) (fsep (flft κs.1.1.1.1.0 qs.1.1.1.1.0)
     (fsep (flft κs.1.1.1.1.1.0 qs.1.1.1.1.1.0) ftrue))) in
     let Asked : Type 0 = (h.base ≡ z.views_name) × (0 < nr → nr ≤ z.count → j ≡ nr - 1) × (pv ≡ z.values) × (i₀ ≡ j * 5 + long z.roots) ×
@@ -96,7 +98,8 @@ take_spec 𝓤 𝓛 𝓜 𝓡 wired X P U F LX LP LU LF g d _ =
     -- [the seat's address; the seat, by two; the address of self; self; the rest; the tokens; the others]
     keep ! (4 ∷ 6 ∷ 1 ∷ 2 ∷ 7 ∷ 8 ∷ []) $
     let so : Out X.Denot → U.Denot → Type 0 = g.then v (Take nr) in let allowed = asked.9 in
-    let p' : Ptr = block_ptr bv ov in let us : Ptr → List Val = λ r. vptr b o ∷ vptr b' o' ∷ vint w64 nr ∷ vint w64 j ∷ ptr_val r ∷ vint w64 i₀ ∷ vint w64 i₁ ∷ vint w64 i₂ ∷ vint w64 i₃ ∷ vint w64 i₄ ∷ [] in
+    let p' : Ptr = block_ptr bv ov in let us : Ptr
+    → List Val = λ r. vptr b o ∷ vptr b' o' ∷ vint w64 nr ∷ vint w64 j ∷ ptr_val r ∷ vint w64 i₀ ∷ vint w64 i₁ ∷ vint w64 i₂ ∷ vint w64 i₃ ∷ vint w64 i₄ ∷ [] in
     let Run : List Val → SProp 𝓤 = λ ws. WpFn 𝓤 H 𝓣.C 𝓣.Λ fn ws Post in
     use1 𝓛 (‵ (hidden_shr D κ (p, (tt, tt)) b o) ⊛ ‵ (fhide (words_share R₀ cv.code holds p z κ)))
     (lent_out 𝓛 (words.struct R₀ R₁ R₂ R₃ g)
@@ -106,7 +109,8 @@ take_spec 𝓤 𝓛 𝓜 𝓡 wired X P U F LX LP LU LF g d _ =
     use1 𝓛 (given (IsPlaced R₀ p z) (‵ (common R₀ cv.code holds p z))) (placed R₀ cv holds p z 𝓛) $ learn ! (λ there. fsplit ! $ drop ! $
     let at_v : pv ≡ p' = at_block pv (subst InBlock (sym asked.2) there.2) in let at_p : p ≡ block_ptr pb po = at_block p there.0 in
     suffices ! (Run (us p')) (subst (λ (r : Ptr). ent 𝓤 (Run (us p')) (Run (us r))) (sym at_v) (id⊢ 𝓤 (Run (us p')))) $
-    enter ! 𝓣.C 𝓣.Λ fn (us p') Post $ alloc_all ! (λ l. pass_all ! refl ((tt, tt), ((tt, tt), ((tt, record { fits = are.1.1.0.1 }), ((tt, record { fits = are.1.1.1.0.1 }), (Ptr-Good p', ((tt, record { fits = are.1.1.1.1.1.0.1 }), ((tt, record { fits = are.1.1.1.1.1.1.0.1 }), ((tt, record { fits = are.1.1.1.1.1.1.1.0.1 }), ((tt, record { fits = are.1.1.1.1.1.1.1.1.0.1 }), ((tt, record { fits = are.1.1.1.1.1.1.1.1.1.0.1 }), tt)))))))))) $
+    enter ! 𝓣.C 𝓣.Λ fn (us p') Post $
+    alloc_all ! (λ l. pass_all ! refl ((tt, tt), ((tt, tt), ((tt, record { fits = are.1.1.0.1 }), ((tt, record { fits = are.1.1.1.0.1 }), (Ptr-Good p', ((tt, record { fits = are.1.1.1.1.1.0.1 }), ((tt, record { fits = are.1.1.1.1.1.1.0.1 }), ((tt, record { fits = are.1.1.1.1.1.1.1.0.1 }), ((tt, record { fits = are.1.1.1.1.1.1.1.1.0.1 }), ((tt, record { fits = are.1.1.1.1.1.1.1.1.1.0.1 }), tt)))))))))) $
     let Ev = env fn.locals l in let I : Fml = inner R₀ cv.code holds p z in
     let low = asked.8 in let at₀ = asked.3 in let a₁ = asked.4 in let a₂ = asked.5 in let a₃ = asked.6 in let a₄ = asked.7 in
     -- [the invariant; its lifetime lasts; the fields; the token; the seat, by two; its token; the others]
@@ -124,7 +128,8 @@ take_spec 𝓤 𝓛 𝓜 𝓡 wired X P U F LX LP LU LF g d _ =
     rewrite ! 1 (λ (u : ℕ). ‵ (seat_owns cv.code u id v)) asked.0 refl $ move ! (1 ∷ 9 ∷ []) $ join ! $ move ! (6 ∷ 8 ∷ 0 ∷ []) $
     use3 𝓛 (later (‵ (fex (X.Denot × List ℕ) (Taking 𝓛 R₀ cv holds g.keeps p z id v nr q₂ so allowed)) ⊛ ‵ (flft α q₁)))
     (reach 𝓛 R₀ cv holds g.keeps p z q₁ (sep 𝓤 (sem 𝓛 (seat_of 𝓛 R₀ cv holds g.keeps p z id v)) (sem 𝓛 (flft α q₂)))
-    (sem 𝓛 (fex (X.Denot × List ℕ) (Taking 𝓛 R₀ cv holds g.keeps p z id v nr q₂ so allowed))) (goes_out 𝓛 R₀ cv holds g.keeps p z id v nr q₂ so allowed)) $ await ! tt $ split ! $
+    (sem 𝓛 (fex (X.Denot × List ℕ) (Taking 𝓛 R₀ cv holds g.keeps p z id v nr q₂ so allowed))) (goes_out 𝓛 R₀ cv holds g.keeps p z id v nr q₂ so allowed)) $
+    await ! tt $ split ! $
     fpick ! (λ u. fsplit ! $ fpick ! (λ facts. drop ! $ fsplit3 ! $ move ! (2 ∷ []) $ fsplit ! $ move ! (1 ∷ []) $
     let few = facts.1 in let j_is : j ≡ nr - 1 = asked.1 facts.0 (omega (arith, few)) in let room : z.count * sz < 2 ^ 63 = there.3 in
     let small : j * sz < 2 ^ 64 = indexed j z.count sz (omega (arith, few, j_is)) room in let nv : Val = live 0 (of_list []) in
@@ -202,7 +207,8 @@ take_spec 𝓤 𝓛 𝓜 𝓡 wired X P U F LX LP LU LF g d _ =
     -- [the seat; the token; the value; the fields; four; its token; the others]
     move ! (3 ∷ 0 ∷ []) $ fjoin ! $ move ! (3 ∷ 0 ∷ 4 ∷ 5 ∷ 6 ∷ []) $ closes ! tt Sr h' ts b' o' $
     feq_i ! (List Val) (vptr b' o' ∷ []) (vptr b' o' ∷ []) refl $ fjoin3 ! $
-    nothing ! $ nothing ! $ fjoin ! $ nothing ! $ fjoin ! $ nothing ! $ fjoin ! $ nothing ! $ fjoin ! $ nothing ! $ fjoin ! $ nothing ! $ fjoin ! $ nothing ! $ fjoin ! $ nothing ! $ fjoin ! $ move ! (1 ∷ 0 ∷ []) $ fjoin ! $ nothing ! $ fjoin ! $
+    nothing ! $ nothing ! $ fjoin ! $ nothing ! $ fjoin ! $ nothing ! $ fjoin ! $ nothing ! $ fjoin ! $ nothing ! $ fjoin ! $ nothing ! $ fjoin ! $
+    nothing ! $ fjoin ! $ nothing ! $ fjoin ! $ move ! (1 ∷ 0 ∷ []) $ fjoin ! $ nothing ! $ fjoin ! $
     move ! (1 ∷ 4 ∷ []) $ join ! $ move ! (2 ∷ 0 ∷ []) $ join ! $
     use0 𝓛 (raw (fact 𝓤 Told)) (fact_i 𝓤 Told (emp 𝓤) (sym asked.0, refl, (u.0, refl, such))) $
     returns ! (look_at ! 0 refl) $ free_all ! refl $ keep ! (1 ∷ 2 ∷ 3 ∷ 0 ∷ []) $
