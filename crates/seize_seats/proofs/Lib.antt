@@ -2,6 +2,7 @@ pub mod Cells
 pub mod Columns
 pub mod Rows
 pub mod Ledgers
+pub mod Stretches
 pub mod Numbers
 pub mod Moves
 pub mod Makings

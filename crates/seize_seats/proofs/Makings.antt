@@ -52,6 +52,12 @@ module _ {M : Type 1} {𝓤 : Ura M} (𝓛 : Logic 𝓤) (R : RattleType) {V W :
   abbrev I : Fml
   I = inner R cv.code holds p z
 
+  abbrev Inv : Fml
+  Inv = Moves.Inv 𝓛 R cv holds keeps p z
+
+  plainly : (K G : Pr) → ⟦ finv (fbor α I) ⟧ ∗ K ⊢ G → ⟦ Inv ⟧ ∗ K ⊢ G
+  plainly = Moves.plainly 𝓛 R cv holds keeps p z
+
   abbrev In : Type 0
   In = Inside R.Denot V W
 
@@ -162,8 +168,8 @@ module _ {M : Type 1} {𝓤 : Ura M} (𝓛 : Logic 𝓤) (R : RattleType) {V W :
         suffices ! _ (upd_i 𝓤 Z) $ move ! (0 ∷ 2 ∷ 3 ∷ []) $
         use3 𝓛 (‵ I) (recell t sound i Claimed (sym (ap block_in is)) (λ x ws e. absurd (cc e))) $ keep ! (0 ∷ 1 ∷ []) $ done !)
 
-    pub claims : ⟦ finv (fbor α I) ⟧ ∗ (A.lft α q ∗ emp 𝓤) ⊢ asks 𝓛 (block_ptr b e) f always (λ n. fsep (flft α q) (claim_owns z.hands_name i n))
-    claims = borrowed 𝓛 α q I b e f always (claimed i) (emp 𝓤) (opens (emp 𝓤) (upd 𝓤 (ex 𝓤 Li)) i lt grants)
+    pub claims : ⟦ Inv ⟧ ∗ (A.lft α q ∗ emp 𝓤) ⊢ asks 𝓛 (block_ptr b e) f always (λ n. fsep (flft α q) (claim_owns z.hands_name i n))
+    claims = plainly (A.lft α q ∗ emp 𝓤) _ (borrowed 𝓛 α q I b e f always (claimed i) (emp 𝓤) (opens (emp 𝓤) (upd 𝓤 (ex 𝓤 Li)) i lt grants))
 
   -- who has a number is not alone with it where the number is free, or a block has it
   clash : (i : ℕ) (h w : Hand) → ⟦ hands full_share i w ⟧ ∗ ⟦ hands three_quarters i h ⟧ ⊢ guard 𝓤 ⊥ (⟦ hands full_share i w ⟧ ∗ ⟦ hands three_quarters i h ⟧)
@@ -260,8 +266,8 @@ module _ {M : Type 1} {𝓤 : Ura M} (𝓛 : Logic 𝓤) (R : RattleType) {V W :
         use3 𝓛 (‵ I) (recell t sound i Free (sym (ap block_in is)) (λ x ws v. absurd (cc v))) $
         move ! (1 ∷ []) $ rewrite ! 0 (λ (u : Share). ‵ (flft α u)) (ap (λ (h : Hand). h.1) same) refl $ move ! (1 ∷ 0 ∷ []) $ done !)))
 
-    pub frees : ⟦ finv (fbor α I) ⟧ ∗ (A.lft α q ∗ Returning) ⊢ asks 𝓛 (block_ptr b k) g always (λ n. fsep (flft α q) (due n))
-    frees = borrowed 𝓛 α q I b k g always due Returning (opens Returning (upd 𝓤 (ex 𝓤 Lf)) i lt returns)
+    pub frees : ⟦ Inv ⟧ ∗ (A.lft α q ∗ Returning) ⊢ asks 𝓛 (block_ptr b k) g always (λ n. fsep (flft α q) (due n))
+    frees = plainly (A.lft α q ∗ Returning) _ (borrowed 𝓛 α q I b k g always due Returning (opens Returning (upd 𝓤 (ex 𝓤 Lf)) i lt returns))
 
   abbrev back : (id : ℕ) (v : V) (t : In) (s : Parts R.Denot) (so : V → Type 0) → AreLaid z.roots z.count s → slice_get t.views id ≡ Some v
       → Goes holds keeps (state_of z t) (memory_of z.roots s) id so → ⟦ Ws s.words s.cells ⟧ ∗ ⟦ Led t ⟧ ∗ ⟦ seat id v ⟧ ⊢ upd 𝓤 (⟦ I ⟧ ∗ ⟦ gone_on id so ⟧)

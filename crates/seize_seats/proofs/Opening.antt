@@ -6,7 +6,7 @@ use seplogic.Ra.Ura.{Ura}
 use base.Fraction.{full_share}
 use base.Stored.{Coded}
 use base.Logic.{SProp, ent, sep, ex, guard, via, never, never_e, emp}
-use base.Fml.{Lft, Fml, ftrue, fsep, fbor, finv, fdead}
+use base.Fml.{Lft, Fml, ftrue, fsep, fbor, fdead}
 use types.Logic.{Logic, sem}
 use types.Owned.{basic}
 use types.Keyed.{entries_take, entries_new}
@@ -20,7 +20,9 @@ use Rattle.seize_seats.specs.State.{State, Starts}
 use Rattle.seize_seats.specs.Cells.{Cell, Free, Claimed, Out, Has, block_in, cell_at, sign_of}
 use Rattle.seize_seats.specs.Lines.{Parts, column, long, whole, memory_of, AreLaid}
 use Rattle.seize_seats.specs.Owned.{row, unborn, ledger, shared_view, hand_coded, resting, zeros, stride, place, places, hand, kept, under, numbers, BaseId, Inside, state_of, IsPlaced, standing, inner, words_own}
+use Rattle.seize_seats.specs.Stretches.{IsEven, invariant}
 use Rattle.seize_seats.proofs.Ledgers as Ledgers
+use Rattle.seize_seats.proofs.Stretches as Stretches
 
 -- each word is 0
 abbrev pub AreZeros : List ℕ → Type 0
@@ -212,7 +214,7 @@ module _ {M : Type 1} {𝓤 : Ura M} (𝓛 : Logic 𝓤) (R : RattleType) {V W :
         -- [the memory; the views; the token]
         nothing ! $ fpack ! (holds (state_of z first) × AreLaid z.roots z.count parts) (λ _. ftrue) (begins, laid) $ move ! (1 ∷ 2 ∷ 0 ∷ []) $ fjoin3 ! $
         fpack ! (Inside R.Denot V W) (standing R cv.code holds p z) first $
-        bor_new ! tt α $ use1 𝓛 (later (‵ (finv (fbor α I)))) (𝓛.invs.inv_new (fbor α I)) $ await ! tt $
+        bor_new ! tt α $ use1 𝓛 (later (‵ (invariant IsEven (fbor α I)))) (Stretches.made 𝓛 IsEven (fbor α I) Stretches.evens) $ await ! tt $
         nothing ! $ fpack ! (IsPlaced R p z) (λ _. ftrue) placed $ move ! (0 ∷ 1 ∷ []) $ fjoin ! $ move ! (0 ∷ 1 ∷ []) $ fjoin ! $ move ! (1 ∷ 0 ∷ []) $ fjoin ! $
         now ! $ show ! Opened z $ check ! (refl, refl, refl) $ done !)))
 

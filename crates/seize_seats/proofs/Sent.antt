@@ -1,5 +1,5 @@
 -- The words may be shared, and a seat may go to another thread: nothing of them is tied to one. Assumes nothing.
-use Rattle.std.proofs.Common.{ℕ, suc, ◌+◌, ◌*◌, List, [], ◌∷◌, length, None, Some}
+use Rattle.std.proofs.Common.{ℕ, Bool, true, false, suc, ◌+◌, ◌*◌, List, [], ◌∷◌, length, None, Some}
 use base.Fraction.{full_share}
 use base.Stored.{Gv}
 use base.Fml.{Lft}
@@ -7,12 +7,13 @@ use base.Shift.{Keyless}
 use denote.RawPtr.{Ptr, block_of, count_of}
 use denote.RattleType.{RattleType}
 use denote.Param.Send.{IsSend, part_keyless}
-use types.Keyed.{entry_keyless, entries_keyless}
+use types.Keyed.{token, entry_keyless, entries_keyless}
 use Rattle.core.specs.contracts.option.Option.{the_row as OptionOf}
 use Rattle.seize_seats.specs.State.{State}
 use Rattle.seize_seats.specs.Cells.{Cell, Free, Claimed, Out, Has}
 use Rattle.seize_seats.specs.Lines.{long}
-use Rattle.seize_seats.specs.Owned.{shared_view, row, quarters, zeros, stride, kept, numbers, BaseId, age, inner, words_own, words_share, seat_owns}
+use Rattle.seize_seats.specs.Owned.{shared_view, row, quarters, zeros, stride, kept, numbers, BaseId, age, inner, words_own, words_share}
+use Rattle.seize_seats.specs.Stretches.{lasting, seat_owns}
 
 row_keyless : (b o : ℕ) (ns : List ℕ) → Keyless (row b o ns)
 row_keyless b o [] = tt
@@ -23,8 +24,12 @@ module _ {V : Type 0} (c : V → Gv) (γ : ℕ) where
   quarters_keyless k [] = tt
   quarters_keyless k (v ∷ vs) = (entry_keyless shared_view γ k _, quarters_keyless (suc k) vs)
 
-  pub seat_keyless : (id : ℕ) (v : V) → Keyless (seat_owns c γ id v)
-  seat_keyless id v = entry_keyless shared_view γ id _
+  stretch_keyless : (id : ℕ) (v : V) (σ θ : ℕ) (y : Bool) → Keyless (lasting c γ id v σ θ y)
+  stretch_keyless id v σ θ true = entry_keyless shared_view γ id _
+  stretch_keyless id v σ θ false = (tt, entry_keyless token θ 0 _)
+
+  pub seat_keyless : (id : ℕ) (v : V) (σ θ : ℕ) → Keyless (seat_owns c γ id v σ θ)
+  seat_keyless id v σ θ = (tt, (entry_keyless shared_view γ id _, ((λ n. ((λ _. tt), λ y. stretch_keyless id v σ θ y)), entry_keyless token θ 0 _)))
 
 module _ (R : RattleType) (sent : IsSend (OptionOf R)) (α : Lft) (δ b b' : ℕ) where
   kept_keyless : (o o' i : ℕ) (c : Cell R.Denot) → Keyless (kept R α δ b o b' o' i c)
@@ -54,7 +59,7 @@ module _ (R : RattleType) (sent : IsSend (OptionOf R)) {V W : Type 0} (c : V →
   )
 
   pub owns_keyless : Keyless (words_own R c holds p z)
-  owns_keyless = (tt, (((λ _. tt), inner_keyless), inner_keyless))
+  owns_keyless = (tt, (((λ _. tt), λ n. ((λ _. tt), inner_keyless)), inner_keyless))
 
   pub shares_keyless : (ν : Lft) → Keyless (words_share R c holds p z ν)
-  shares_keyless ν = ((λ _. tt), ((λ _. tt), inner_keyless))
+  shares_keyless ν = ((λ _. tt), ((λ _. tt), λ n. ((λ _. tt), inner_keyless)))

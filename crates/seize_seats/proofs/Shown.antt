@@ -4,7 +4,7 @@ use seplogic.Ra.Ura.{Ura}
 use base.Fraction.{full_share}
 use base.Stored.{Coded}
 use base.Logic.{ent, sep, wand, apply∗, snd∗}
-use base.Fml.{Lft, Share, Fml, ftrue, fsep, flft, flent, fbor, finv, fshr_bor}
+use base.Fml.{Lft, Share, Fml, ftrue, fsep, flft, flent, fbor, fshr_bor}
 use types.Logic.{Logic, sem, lfts}
 use types.Kit.{‵, raw, ◌⊛◌, later, ◌$◌, ◌∵◌, !, qed, move, drop, split, fsplit, fjoin, fpick, fpack, check, use1, use2, updating, await, now, done}
 use types.Tokens.{bor_fracture}
@@ -16,6 +16,8 @@ use denote.SharingLaws.{beside_shr_laws, one_shr_laws}
 use denote.Steps.{nothing}
 use denote.Struct.Lending.{Lends, Lends-both}
 use Rattle.seize_seats.specs.State.{State}
+use Rattle.seize_seats.specs.Stretches.{IsEven, invariant}
+use Rattle.seize_seats.proofs.Stretches as Stretches
 use Rattle.seize_seats.specs.Owned.{BaseId, age, IsPlaced, inner, common, words_own, words_share}
 
 module _ (R : RattleType) {V W : Type 0} (cv : Coded V) (holds : State R.Denot V W → Type 0) (p : Ptr) (z : BaseId) where
@@ -36,7 +38,7 @@ module _ (R : RattleType) {V W : Type 0} (cv : Coded V) (holds : State R.Denot V
   placed 𝓛 = qed 𝓛 (‵ C ∷ []) ∵ fsplit ! $ fpick ! (λ i. drop ! $ check ! i $ nothing ! $ fpack ! (IsPlaced R p z) (λ _. ftrue) i $ fjoin ! $ done !)
 
   twice : {M : Type 1} {𝓤 : Ura M} (𝓛 : Logic 𝓤) → ent 𝓤 (sem 𝓛 C) (sep 𝓤 (sem 𝓛 C) (sem 𝓛 C))
-  twice 𝓛 = qed 𝓛 (‵ C ∷ []) ∵ fsplit ! $ fpick ! (λ i. drop ! $ use1 𝓛 (‵ (finv (fbor α I)) ⊛ ‵ (finv (fbor α I))) (𝓛.invs.inv_dup (fbor α I)) $ split ! $
+  twice 𝓛 = qed 𝓛 (‵ C ∷ []) ∵ fsplit ! $ fpick ! (λ i. drop ! $ use1 𝓛 (‵ (invariant IsEven (fbor α I)) ⊛ ‵ (invariant IsEven (fbor α I))) (Stretches.twice 𝓛 IsEven (fbor α I)) $ split ! $
       nothing ! $ fpack ! (IsPlaced R p z) (λ _. ftrue) i $ fjoin ! $ move ! (1 ∷ []) $ nothing ! $ fpack ! (IsPlaced R p z) (λ _. ftrue) i $ fjoin ! $ done !)
 
   pub words_laws : ShrLaws (words_share R cv.code holds p z)

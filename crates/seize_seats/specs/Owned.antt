@@ -5,40 +5,26 @@ use prog.Memory.{size}
 use base.Fraction.{full_share}
 use base.Share.{quarter, three_quarters}
 use base.Stored.{Gv, Coded, coded×, coded_ℕ, coded_via}
-use base.Algebra.{Algebra}
-use base.Algebras.{both, shares, agreed}
-use base.SetCodes.{coded, coded_share}
-use base.Fml.{Lft, Share, Fml, ftrue, fsep, fex, flft, flent, fbor, finv, fshr_bor}
-use types.Keyed.{entry, entries_from}
+use base.SetCodes.{coded_share}
+use base.Fml.{Lft, Share, Fml, ftrue, fsep, fex, flft, flent, fbor, fshr_bor}
+use types.Keyed.{entries_from}
 use denote.RattleType.{RattleType}
 use denote.Memory.{part_at, lone}
 use denote.RawPtr.{Ptr, block_of, count_of, InBlock, coded_ptr}
 use Rattle.core.specs.contracts.option.Option.{the_row as OptionOf}
 use Rattle.core.specs.Sync.RawAtomic.{word}
+pub use Rattle.seize_seats.specs.Seen.{fact, itself, shared_view, seen}
 use Rattle.seize_seats.specs.State.{State}
+use Rattle.seize_seats.specs.Stretches.{IsEven, invariant}
 use Rattle.seize_seats.specs.Cells.{Cell, Free, Claimed, Out, Has, sign_of}
 use Rattle.seize_seats.specs.Lines.{Parts, whole, long, memory_of, AreLaid}
-
-abbrev pub fact : Type 0 → Fml
-fact φ = fex φ (λ _. ftrue)
 
 -- the words lie side by side
 abbrev pub row : ℕ → ℕ → List ℕ → Fml
 row b o [] = ftrue
 row b o (n ∷ ns) = fsep (word b o n) (row b (o + 8) ns)
 
--- A view is kept as its ghost value, in an algebra that names no type parameter.
-abbrev pub itself : Coded Gv
-itself = record { code = λ g. g; inj = λ x y p. p }
-
-abbrev pub shared_view : Algebra
-shared_view = both shares (agreed (coded itself))
-
 module _ {V : Type 0} (c : V → Gv) (γ : ℕ) where
-  -- a share of the view of a seat
-  abbrev pub seen : Share → ℕ → V → Fml
-  seen q id v = entry shared_view γ id (q, c v)
-
   -- the views of the seats from this number on, of which none is there
   abbrev pub unborn : ℕ → V → Fml
   unborn id blank = entries_from shared_view γ id (λ _. (full_share, c blank))
@@ -46,7 +32,7 @@ module _ {V : Type 0} (c : V → Gv) (γ : ℕ) where
   -- a quarter of each view
   abbrev pub quarters : ℕ → List V → Fml
   quarters id [] = ftrue
-  quarters id (v ∷ vs) = fsep (seen quarter id v) (quarters (suc id) vs)
+  quarters id (v ∷ vs) = fsep (seen c γ quarter id v) (quarters (suc id) vs)
 
   -- of seats that are there and those that are not
   abbrev pub ledger : V → List V → Fml
@@ -159,13 +145,10 @@ module _ (R : RattleType) {V W : Type 0} (c : V → Gv) (holds : State R.Denot V
   inner = fex (Inside R.Denot V W) standing
 
   abbrev pub common : Fml
-  common = fsep (fact (IsPlaced R p z)) (finv (fbor (age z) inner))
+  common = fsep (fact (IsPlaced R p z)) (invariant IsEven (fbor (age z) inner))
 
   abbrev pub words_own : Fml
   words_own = fsep (flft (age z) full_share) (fsep common (flent (age z) inner))
 
   abbrev pub words_share : Lft → Fml
   words_share κ = fsep (fshr_bor κ (λ q. flft (age z) q)) common
-
-abbrev pub seat_owns : {V : Type 0} → (V → Gv) → ℕ → ℕ → V → Fml
-seat_owns c γ id v = seen c γ three_quarters id v

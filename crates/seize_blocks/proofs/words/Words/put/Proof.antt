@@ -11,7 +11,7 @@ use base.Share.{three_quarters}
 use base.Logic.{SProp, ent, sep, emp, id⊢}
 use types.Logic.{sem}
 use base.Fml.{Lft, Share, Fml, ftrue, fsep, flft, fhide, froom, fat, fbor, finv}
-use types.Kit.{‵, raw, ◌⊛◌, given, later, at_ret, ◌$◌, ◌∵◌, !, qed, by, move, keep, drop, split, split3, join, fsplit, fsplit3, fjoin, fjoin3, fpick, learn, use0, use1, use2, use3, await, suffices, rewrite, feq_i}
+use types.Kit.{‵, raw, ◌⊛◌, given, later, at_ret, ◌$◌, ◌∵◌, !, qed, by, move, keep, drop, split, split3, join, fsplit, fsplit3, fjoin, fjoin3, fpick, learn, use0, use1, use2, use3, await, suffices, rewrite, feq_i, some as items, pick}
 use types.Match.{live}
 use types.Part.{agg}
 use types.Run.{stop, lit, unit_lit, no_more, and_then, size_word, of_opd, bin, first, blocks, exec, returns, enter, init, assigns_last}
@@ -44,7 +44,7 @@ use Rattle.std.specs.contracts.marker.PhantomData as marker
 use Rattle.std.proofs.raw_atomic.Walks.{proved_at, leaves}
 use Rattle.seize_words.specs.Op.{Out, Make, Made}
 use Rattle.seize_seats.specs.State.{Allows}
-use Rattle.seize_seats.specs.Owned.{BaseId, IsPlaced, Hand, age, common, inner, claim_owns, resting, busy, zeros, place, stride, words_share, seat_owns}
+use Rattle.seize_seats.specs.Owned.{BaseId, IsPlaced, Hand, age, common, inner, claim_owns, resting, busy, zeros, place, stride, words_share}
 use Rattle.seize_seats.proofs.Shown.{placed}
 use Rattle.seize_seats.proofs.Moves.{reach, seat as seat_of, gone_on}
 use Rattle.seize_seats.proofs.Makings.{hands, contents, withdraws, publishes}
@@ -57,6 +57,8 @@ use Rattle.seize_blocks.specs.contracts.words.Words.put.{ended, clauses}
 use Rattle.seize_blocks.specs.contracts.words.Words.put.Key.{name as #self}
 use Rattle.seize_blocks.proofs.words.Words.put.Statement.{statement}
 use Rattle.seize_blocks.proofs.words.Words.put.Code as code
+use Rattle.seize_seats.specs.Stretches.{seat_owns, IsEven, invariant}
+use Rattle.seize_seats.proofs.Stretches.{ends, begins, twice}
 
 pub put_spec : {M : Type 1} → statement M
 put_spec 𝓤 𝓛 𝓜 𝓡 wired X P U F LX LP LU LF g d _ =
@@ -143,7 +145,7 @@ put_spec 𝓤 𝓛 𝓜 𝓡 wired X P U F LX LP LU LF g d _ =
       ),
     ) $ let Ev = env fn.locals l in let I : Fml = inner R₀ cv.code holds p z in
     -- [the invariant; its lifetime lasts; the claim; the value; the token; the seat, by two; its token; the others]
-    use1 𝓛 (‵ (finv (fbor α I)) ⊛ ‵ (finv (fbor α I))) (𝓛.invs.inv_dup (fbor α I)) $ split ! $ move ! (2 ∷ 5 ∷ []) $
+    use1 𝓛 (‵ (invariant IsEven (fbor α I)) ⊛ ‵ (invariant IsEven (fbor α I))) (twice 𝓛 IsEven (fbor α I)) $ split ! $ move ! (2 ∷ 5 ∷ []) $
     shr_bor-open ! tt (tokens_halve 𝓛 α) (λ s. let q₁ : Share = Share.left s in let q₂ : Share = Share.right s in move ! (1 ∷ []) $
     use1 𝓛 (‵ (flft α q₁) ⊛ ‵ (flft α q₂)) (𝓛.lfts.lft_split α s) $ split ! $
     let Hs : Hand → Fml = λ u. hands 𝓛 R₀ cv holds g.keeps p z three_quarters j u in
@@ -173,7 +175,8 @@ put_spec 𝓤 𝓛 𝓜 𝓡 wired X P U F LX LP LU LF g d _ =
     move ! (2 ∷ 0 ∷ []) $ fjoin ! $ move ! (2 ∷ 0 ∷ []) $ join ! $
     -- [hand and contents; what it held; its token; open; the invariant; the seat, by two; its token; the others]
     move ! (5 ∷ 6 ∷ 7 ∷ []) $ opens ! tt Sr b' o' (λ ts. move ! (1 ∷ []) $ fsplit ! $
-    rewrite ! 1 (λ (u : ℕ). ‵ (seat_owns cv.code u id v)) asked.0 refl $
+    rewrite ! 1 (λ (u : ℕ). ‵ (seat_owns cv.code u id v h.stretch h.mark)) asked.0 refl $ move ! (1 ∷ []) $
+    use1 𝓛 (later (‵ (seat_of 𝓛 R₀ cv holds g.keeps p z id v))) (ends 𝓛 cv z.views_name id v h.stretch h.mark) $ await ! tt $ move ! (1 ∷ 0 ∷ []) $
     -- [the seat's fields; the seat; four of it; hand and contents; what it held; its token; open; the invariant; ..]
     move ! (1 ∷ 6 ∷ []) $ join ! $ move ! (9 ∷ 7 ∷ 0 ∷ []) $
     use3 𝓛 (later ((‵ (gone_on 𝓛 R₀ cv holds g.keeps p z id (so (Made (Ok (j + 1))))) ⊛ ‵ (flft α q₂)) ⊛ ‵ (flft α q₁)))
@@ -183,7 +186,9 @@ put_spec 𝓤 𝓛 𝓜 𝓡 wired X P U F LX LP LU LF g d _ =
     -- [the seat; the two parts of the token; the fields; four; what it held; open; its token; the others]
     move ! (2 ∷ 1 ∷ []) $ use2 𝓛 (‵ (flft α s)) (𝓛.lfts.lft_join α s) $ move ! (8 ∷ 0 ∷ []) $ obor_close ! tt $ drop ! $
     move ! (1 ∷ []) $ fpick ! (λ v'. fsplit ! $ fpick ! (λ such. drop ! $
-    let h' : Sr.Denot = record { marker = h.marker; base = z.views_name; id = id; view = v' } in
+    use1 𝓛 (later (items (λ (st : ℕ × ℕ). ‵ (seat_owns cv.code z.views_name id v' st.0 st.1)))) (begins 𝓛 cv z.views_name id v') $ await ! tt $
+    pick ! (λ st.
+    let h' : Sr.Denot = record { marker = h.marker; base = z.views_name; id = id; view = v'; stretch = st.0; mark = st.1 } in
     let Told : Type 0 = (z.views_name ≡ h.base) × (id ≡ id) × g.then v (Make new count) (Made (Ok (j + 1))) v' in
     let told_is = subst (λ (w : ℕ). g.then v (Make new w) (Made (Ok (j + 1))) v') (sym asked.7) such in
     -- [the seat; the token; the fields; four; what it held; its token; the others]
@@ -195,4 +200,4 @@ put_spec 𝓤 𝓛 𝓜 𝓡 wired X P U F LX LP LU LF g d _ =
     move ! (1 ∷ 4 ∷ []) $ join ! $ move ! (2 ∷ 0 ∷ []) $ join ! $
     use0 𝓛 (raw (fact 𝓤 Told)) (fact_i 𝓤 Told (emp 𝓤) (sym asked.0, refl, told_is)) $ feq_i ! (List Val) (vunit ∷ []) (vunit ∷ []) refl $
     returns ! (look_at ! 0 refl) $ free_all ! refl $ keep ! (2 ∷ 3 ∷ 0 ∷ 1 ∷ []) $
-    by ! (leaves 𝓛 En hs c y vunit tt (tt, (h', (tt, (tt, (tt, (tt, (tt, tt))))))) (tt, (tt, (tt, (tt, (tt, (tt, (tt, tt))))))))))))))))))
+    by ! (leaves 𝓛 En hs c y vunit tt (tt, (h', (tt, (tt, (tt, (tt, (tt, tt))))))) (tt, (tt, (tt, (tt, (tt, (tt, (tt, tt)))))))))))))))))))
