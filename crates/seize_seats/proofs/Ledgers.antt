@@ -128,6 +128,15 @@ module _ {M : Type 1} {𝓤 : Ura M} (𝓛 : Logic 𝓤) {V : Type 0} (cv : Code
         c v,
       )) ⟦ entry shared_view γ k x ⟧ (λ m. absurd (not-OpDef-full_share q m.0.0))))
 
+  -- three quarters are beside no other three
+  pub once : (k : ℕ) (w v : V) → ⟦ Sn three_quarters k w ⟧ ∗ ⟦ Sn three_quarters k v ⟧ ⊢ guard 𝓤 ⊥ (⟦ Sn three_quarters k w ⟧ ∗ ⟦ Sn three_quarters k v ⟧)
+  once k w v = let F : Share × Gv → Pr = λ x. guard 𝓤 (x ∈ shared_view.op (three_quarters, c w) (three_quarters, c v)) ⟦ entry shared_view γ k x ⟧ in
+      let Both : Pr = ⟦ Sn three_quarters k w ⟧ ∗ ⟦ Sn three_quarters k v ⟧ in
+      via 𝓤 (ex 𝓤 F) (entry_glue shared_view 𝓛 γ k (three_quarters, c w) (three_quarters, c v)) (ex_e 𝓤 F (λ x. guard_e 𝓤 (x ∈ shared_view.op (
+        three_quarters,
+        c w,
+      ) (three_quarters, c v)) ⟦ entry shared_view γ k x ⟧ (λ m. absurd (Share.three_quarters_once m.0.0))))
+
   -- a share of a view is of one of the list, and the list says the same
   listed : (vs : List V) (k i j n : ℕ) (q : Share) (v d : V) → j ≡ k + i → n ≡ k + length vs → ⟦ All k vs ⟧ ∗ ⟦ Rest n d ⟧ ∗ ⟦ Sn q j v ⟧
       ⊢ guard 𝓤 (slice_get vs i ≡ Some v) (⟦ All k vs ⟧ ∗ ⟦ Rest n d ⟧ ∗ ⟦ Sn q j v ⟧)

@@ -4,5 +4,6 @@ pub mod Lines
 pub mod Steps
 pub mod Seen
 pub mod Stretches
+pub mod Lendings
 pub mod Owned
 pub mod Laws

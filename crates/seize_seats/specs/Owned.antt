@@ -5,7 +5,6 @@ use prog.Memory.{size}
 use base.Fraction.{full_share}
 use base.Share.{quarter, three_quarters}
 use base.Stored.{Gv, Coded, coded×, coded_ℕ, coded_via}
-use base.SetCodes.{coded_share}
 use base.Fml.{Lft, Share, Fml, ftrue, fsep, fex, flft, flent, fbor, fshr_bor}
 use types.Keyed.{entries_from}
 use denote.RattleType.{RattleType}
@@ -13,7 +12,8 @@ use denote.Memory.{part_at, lone}
 use denote.RawPtr.{Ptr, block_of, count_of, InBlock, coded_ptr}
 use Rattle.core.specs.contracts.option.Option.{the_row as OptionOf}
 use Rattle.core.specs.Sync.RawAtomic.{word}
-pub use Rattle.seize_seats.specs.Seen.{fact, itself, shared_view, seen}
+pub use Rattle.seize_seats.specs.Seen.{fact, itself, shared_view, seen, number_share_coded}
+use Rattle.seize_seats.specs.Lendings.{lendable}
 use Rattle.seize_seats.specs.State.{State}
 use Rattle.seize_seats.specs.Stretches.{IsEven, invariant}
 use Rattle.seize_seats.specs.Cells.{Cell, Free, Claimed, Out, Has, sign_of}
@@ -43,7 +43,7 @@ abbrev pub Hand : Type 0
 Hand = ℕ × Share
 
 abbrev pub hand_coded : Coded Hand
-hand_coded = coded× coded_ℕ coded_share
+hand_coded = number_share_coded
 
 abbrev pub resting : Hand
 resting = (0, full_share)
@@ -63,7 +63,8 @@ claim_owns δ i (suc found) = ftrue
 abbrev pub stride : RattleType → ℕ
 stride R = size (lone (OptionOf R).mir)
 
--- Under each number lie five words and a place for a value. α: the lifetime of the memory; δ: the name of the hands
+-- Under each number lie five words and a place for a value. α: the lifetime of the memory; δ: the name of the hands; lent: what stands for the value of a block,
+-- which can be lent, under a number, at a place.
 module _ (R : RattleType) (α : Lft) (δ : ℕ) where
   abbrev pub hand : Share → ℕ → Hand → Fml
   hand q i h = seen hand_coded.code δ q i h
@@ -75,19 +76,24 @@ module _ (R : RattleType) (α : Lft) (δ : ℕ) where
   abbrev pub inside : ℕ → ℕ → ℕ → ℕ → List ℕ → Option R.Denot → Fml
   inside b o b' o' ws x = fsep (row b o ws) (place b' o' x)
 
-  abbrev pub kept : ℕ → ℕ → ℕ → ℕ → ℕ → Cell R.Denot → Fml
-  kept b o b' o' i Free = fsep (hand full_share i resting) (inside b o b' o' zeros None)
-  kept b o b' o' i Claimed = fsep (hand quarter i resting) (inside b o b' o' zeros None)
-  kept b o b' o' i (Out e) = fsep (hand quarter i (busy e)) (flft α e)
-  kept b o b' o' i (Has x ws) = fsep (hand full_share i resting) (inside b o b' o' ws (Some x))
+  module _ (lent : ℕ → R.Denot → ℕ → ℕ → Fml) where
+    -- the entry's words, and a value that can be lent
+    abbrev pub offered : ℕ → ℕ → ℕ → ℕ → ℕ → List ℕ → R.Denot → Fml
+    offered b o b' o' i ws x = fsep (row b o ws) (lent i x b' o')
 
-  abbrev pub under : ℕ → ℕ → ℕ → ℕ → ℕ → Cell R.Denot → Fml
-  under b o b' o' i c = fsep (word b (o + 32) (sign_of c)) (kept b o b' o' i c)
+    abbrev pub kept : ℕ → ℕ → ℕ → ℕ → ℕ → Cell R.Denot → Fml
+    kept b o b' o' i Free = fsep (hand full_share i resting) (inside b o b' o' zeros None)
+    kept b o b' o' i Claimed = fsep (hand quarter i resting) (inside b o b' o' zeros None)
+    kept b o b' o' i (Out e) = fsep (hand quarter i (busy e)) (flft α e)
+    kept b o b' o' i (Has x ws) = fsep (hand full_share i resting) (offered b o b' o' i ws x)
 
-  -- of all numbers from the i-th on
-  abbrev pub numbers : ℕ → ℕ → ℕ → ℕ → ℕ → List (Cell R.Denot) → Fml
-  numbers b o b' o' i [] = ftrue
-  numbers b o b' o' i (c ∷ cs) = fsep (under b o b' o' i c) (numbers b (o + 40) b' (o' + stride R) (suc i) cs)
+    abbrev pub under : ℕ → ℕ → ℕ → ℕ → ℕ → Cell R.Denot → Fml
+    under b o b' o' i c = fsep (word b (o + 32) (sign_of c)) (kept b o b' o' i c)
+
+    -- of all numbers from the i-th on
+    abbrev pub numbers : ℕ → ℕ → ℕ → ℕ → ℕ → List (Cell R.Denot) → Fml
+    numbers b o b' o' i [] = ftrue
+    numbers b o b' o' i (c ∷ cs) = fsep (under b o b' o' i c) (numbers b (o + 40) b' (o' + stride R) (suc i) cs)
 
 -- places for values, side by side
 abbrev pub places : (R : RattleType) → ℕ → ℕ → List (Option R.Denot) → Fml
@@ -133,8 +139,12 @@ abbrev pub IsPlaced : RattleType → Ptr → BaseId → Type 0
 IsPlaced R p z = InBlock p × (whole z.roots z.count * 8 < 2 ^ 63) × InBlock z.values × (z.count * stride R < 2 ^ 63)
 
 module _ (R : RattleType) {V W : Type 0} (c : V → Gv) (holds : State R.Denot V W → Type 0) (p : Ptr) (z : BaseId) where
+  -- what stands for the value of a block
+  abbrev pub lent_here : ℕ → R.Denot → ℕ → ℕ → Fml
+  lent_here = lendable R (age z) c z.views_name holds
+
   abbrev pub all_numbers : List (Cell R.Denot) → Fml
-  all_numbers cs = numbers R (age z) z.hands_name (block_of p) (long z.roots * 8 + count_of p) (block_of z.values) (count_of z.values) 0 cs
+  all_numbers cs = numbers R (age z) z.hands_name lent_here (block_of p) (long z.roots * 8 + count_of p) (block_of z.values) (count_of z.values) 0 cs
 
   abbrev pub standing : Inside R.Denot V W → Fml
   standing i =

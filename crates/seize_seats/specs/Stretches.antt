@@ -5,7 +5,7 @@ use base.Fraction.{full_share}
 use base.Share
 use base.Share.{three_quarters}
 use base.Stored.{Gv}
-use base.Fml.{Fml, Share, fsep, fex, flft, fdead, fnamed}
+use base.Fml.{Lft, Fml, Share, fsep, fex, flft, fdead, fnamed, fshr_bor}
 use types.Keyed.{ticket}
 use Rattle.seize_seats.specs.Seen.{fact, seen}
 
@@ -44,3 +44,7 @@ module _ {V : Type 0} (c : V → Gv) (γ id : ℕ) (v : V) (σ θ : ℕ) where
 
   abbrev pub seat_owns : Fml
   seat_owns = fsep (flft (σ ∷ []) full_share) (fsep (seen c γ seats_part id v) (fsep stretch_told (ticket θ 0)))
+
+  -- what a `&` to the seat shows for as long as it lasts: that the stretch does, and the view
+  abbrev pub seat_shares : Lft → Fml
+  seat_shares κ = fsep (fshr_bor κ (λ q. flft (σ ∷ []) q)) (fsep (fshr_bor κ (λ q. seen c γ q id v)) stretch_told)

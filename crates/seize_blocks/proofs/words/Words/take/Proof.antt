@@ -11,7 +11,7 @@ use base.Share.{three_quarters}
 use base.Logic.{SProp, ent, sep, emp, id⊢, via}
 use types.Logic.{sem}
 use base.Fml.{Lft, Share, Fml, ftrue, fsep, fex, flft, fhide, froom, fat, fbor, finv}
-use types.Kit.{‵, raw, ◌⊛◌, given, later, mean, at_ret, ◌$◌, ◌∵◌, !, qed, by, move, keep, drop, split, split3, join, fsplit, fsplit3, fjoin, fjoin3, fpick, learn, use0, use1, use2, use3, await, suffices, rewrite, feq_i, some as items, pick}
+use types.Kit.{‵, raw, ◌⊛◌, given, later, mean, at_ret, ◌$◌, ◌∵◌, !, qed, by, move, keep, drop, split, split3, join, fsplit, fsplit3, fjoin, fjoin3, fpick, learn, use0, use1, use2, use3, await, suffices, rewrite, feq_i, some as items, pick, group}
 use types.Run.{stop, fld, load, look_raw, lit, size_word, of_opd, bin, no_more, and_then, first, blocks, exec, calls, returns, enter, init, assigns}
 use types.ByLocal.{alloc_all, pass_all, free_all, look_at, get, through, sets, sets_last, is, env, lands_as}
 use types.Part.{agg, sub, whole, look_in}
@@ -49,10 +49,10 @@ use Rattle.core.specs.Sync.RawAtomic.{word}
 use Rattle.seize_words.specs.Op.{Out, Take, Taken}
 use Rattle.seize_seats.specs.State.{Allows}
 use Rattle.seize_seats.specs.Lines.{long}
-use Rattle.seize_seats.specs.Owned.{BaseId, IsPlaced, age, common, inner, place, row, stride, words_share}
+use Rattle.seize_seats.specs.Owned.{BaseId, IsPlaced, age, common, inner, place, row, stride, words_share, busy}
 use Rattle.seize_seats.proofs.Shown.{placed}
 use Rattle.seize_seats.proofs.Moves.{reach, seat as seat_of}
-use Rattle.seize_seats.proofs.Makings.{leaves as goes_out, Taking, frees}
+use Rattle.seize_seats.proofs.Makings.{leaves as goes_out, Taking, frees, hands}
 use Rattle.seize_blocks.specs.contracts.words.Words as words
 use Rattle.seize_blocks.specs.contracts.seat.Seat as seat
 use Rattle.seize_blocks.proofs.Fields.{hand_of, Data, told, opened}
@@ -63,6 +63,7 @@ use Rattle.seize_blocks.proofs.words.Words.take.Statement.{statement}
 use Rattle.seize_blocks.proofs.words.Words.take.Code as code
 use Rattle.seize_seats.specs.Stretches.{seat_owns, IsEven, invariant}
 use Rattle.seize_seats.proofs.Stretches.{ends, begins, twice}
+use Rattle.seize_seats.proofs.Regains.{regains}
 
 pub take_spec : {M : Type 1} → statement M
 take_spec 𝓤 𝓛 𝓜 𝓡 wired X P U F LX LP LU LF g d _ =
@@ -137,6 +138,13 @@ take_spec 𝓤 𝓛 𝓜 𝓡 wired X P U F LX LP LU LF g d _ =
     let few = facts.1 in let j_is : j ≡ nr - 1 = asked.1 facts.0 (omega (arith, few)) in let room : z.count * sz < 2 ^ 63 = there.3 in
     let small : j * sz < 2 ^ 64 = indexed j z.count sz (omega (arith, few, j_is)) room in let nv : Val = live 0 (of_list []) in
     let four = four_of u.1 facts.2 in let w₀ : ℕ = four.0 in let w₁ : ℕ = four.1 in let w₂ : ℕ = four.2 in let w₃ : ℕ = four.3 in
+    -- [the value; the entry; the seat; the hand; its token; the fields; four; the invariant; open; the others]
+    let Here : Fml = place R₀ α z.hands_name (block_of z.values) ((nr - 1) * sz + count_of z.values) (Some u.0) in
+    let Hd : Fml = hands 𝓛 R₀ cv holds g.keeps p z three_quarters (nr - 1) (busy q₂) in
+    move ! (10 ∷ 4 ∷ 3 ∷ []) $ group ! 3 $ move ! (0 ∷ 1 ∷ []) $
+    use2 𝓛 (later ((‵ (invariant IsEven (fbor α I)) ⊛ ‵ (flft α q₁) ⊛ ‵ Hd) ⊛ ‵ Here))
+    (regains 𝓛 R₀ cv holds g.keeps p z (nr - 1) q₂ few q₁ u.0 (block_of z.values) ((nr - 1) * sz + count_of z.values)) $ await ! tt $ split ! $ split3 ! $
+    move ! (3 ∷ 4 ∷ 5 ∷ 2 ∷ 1 ∷ 6 ∷ 7 ∷ 8 ∷ 9 ∷ 10 ∷ 0 ∷ []) $
     rewrite ! 0 (λ (r : Ptr × ℕ). ‵ (place R₀ α z.hands_name (block_of r.0) (r.1 * sz + count_of r.0) (Some u.0))) (λ i. (sym asked.2 i, sym j_is i)) refl $
     spread m ! LR (Some u.0) bv e (λ w good.
     -- [the place; what it holds; the entry; the seat; the hand; its token; the fields; four; the invariant; open; what is written; the others]
