@@ -8,7 +8,7 @@ use base.FractionLaws.{common}
 use base.Share
 use base.Share.{quarter, three_quarters}
 use base.Stored.{Coded}
-use base.Logic.{SProp, ent, sep, wand, ex, all, guard, upd, via, apply∗, upd_i}
+use base.Logic.{SProp, ent, sep, wand, ex, all, guard, upd, via, apply∗, upd_i, guard_i, ex_i}
 use base.Fml.{Lft, Share, Fml, ftrue, fsep, fex, flft, flent, fbor, finv, fshr_bor}
 use ghost.Rules.{Halves}
 use contract.BorrowLft.{meet_⊑_left, meet_⊑_right}
@@ -120,8 +120,9 @@ module _ {M : Type 1} {𝓤 : Ura M} (𝓛 : Logic 𝓤) where
     abbrev Told : Fml
     Told = stretch_told cv.code z.views_name id v σ θ
 
-    abbrev So : R.Denot → Type 0
-    So = IsValueOf holds id v n
+    -- it is the block's value, and the number is one of those that there are
+    abbrev pub So : R.Denot → Type 0
+    So x = IsValueOf holds id v n x × (0 < n) × (i < z.count)
 
     -- ---- THE FIRST OPENING: the block gives a part of its token
     module _ (ν : ℕ) (s t : Share) where
@@ -162,7 +163,9 @@ module _ {M : Type 1} {𝓤 : Ura M} (𝓛 : Logic 𝓤) where
           of_cell st sound at th =
               let x : R.Denot = th.0 in let ws : List ℕ = th.1 in let c : Cell R.Denot = Has x ws in let cs : List (Cell R.Denot) = st.parts.cells in
               let lt = cell_beyond cs i c th.2 (λ e. absurd (cc e)) in let low = th.3 in
-              let so : So x = (state_of z st, sound.0, at, ap value_in (block_is z.roots z.count st.parts sound.1 n low ∙ ap block_in th.2)) in
+              let all_of = sound.1.counted in
+              let is = ap value_in (block_is z.roots z.count st.parts sound.1 n low ∙ ap block_in th.2) in
+              let so : So x = ((state_of z st, sound.0, at, is), low, omega (arith, lt, all_of)) in
               let one : suc i ≡ n = omega (arith, low) in
               let shows : Shown holds id v (suc i) = subst (λ (k : ℕ). Shown holds id v k) (sym one) shown in
               qed 𝓛 (‵ (Moves.Ws 𝓛 R cv holds keeps p z st.parts) ∷ ‵ (part ν full_share (0, s)) ∷ ‵ (finv Acc) ∷ ‵ Told ∷
@@ -191,3 +194,64 @@ module _ {M : Type 1} {𝓤 : Ura M} (𝓛 : Logic 𝓤) where
               -- [the cell; it is shared; three; e; the others; the views; the seat's]
               move ! (0 ∷ 4 ∷ 5 ∷ []) $ use3 𝓛 (‵ I) (Makings.recell 𝓛 R cv holds keeps p z st sound i c (sym (ap block_in th.2)) (λ y us q. sound.1.fours i y us (th.2 ∙ q))) $
               frame ! $ show ! Given (x, a, e) $ check ! so $ move ! (0 ∷ 2 ∷ 1 ∷ 3 ∷ []) $ done !))
+
+    -- ---- what is shared for the value's lifetime is shared for as long as both are borrowed
+    module _ (κ : Lft) where
+      near : (x : R.Denot) (a : ℕ) → ⟦ fshr_bor (σ ∷ α) (λ q. flft (a ∷ []) q) ⟧ ∗ ⟦ Sh x (a ∷ []) ⟧ ∗ ⟦ fshr_bor κ (λ q. flft α q) ⟧ ∗
+          ⟦ fshr_bor κ (λ q. flft (σ ∷ []) q) ⟧ ⊢ ⟦ Sh x κ ⟧
+      near x a = let both : Lft = σ ∷ α in let μ : Lft = α ++ κ in let τ : Lft = σ ∷ [] in let Ls = L (Some x) b o in
+          qed 𝓛 (‵ (fshr_bor both (λ q. flft (a ∷ []) q)) ∷ ‵ (Sh x (a ∷ [])) ∷ ‵ (fshr_bor κ (λ q. flft α q)) ∷ ‵ (fshr_bor κ (λ q. flft τ q)) ∷ []) ∵
+          move ! (1 ∷ []) $ use1 𝓛 (‵ (Sh x ((a ∷ []) ++ both))) (shortens 𝓛 (Sh x) Ls (a ∷ []) ((a ∷ []) ++ both) (meet_⊑_left (a ∷ []) both)) $ move ! (1 ∷ 0 ∷ []) $
+          use2 𝓛 (‵ (Sh x both)) (moves 𝓛 (Sh x) Ls both (a ∷ [])) $
+          use1 𝓛 (‵ (Sh x (τ ++ μ))) (shortens 𝓛 (Sh x) Ls both (τ ++ μ) (meet_⊑_left both κ)) $ move ! (2 ∷ []) $
+          use1 𝓛 (‵ (fshr_bor μ (λ q. flft τ q))) (𝓛.shr_bors.shr_bor_shorten κ μ (λ q. flft τ q) (meet_⊑_right α κ)) $ move ! (0 ∷ 1 ∷ []) $
+          use2 𝓛 (‵ (Sh x μ)) (moves 𝓛 (Sh x) Ls μ τ) $ move ! (1 ∷ 0 ∷ []) $ by ! (moves 𝓛 (Sh x) Ls κ α)
+
+      abbrev pub Lent : R.Denot → Pr
+      Lent x = guard 𝓤 (So x) ⟦ Sh x κ ⟧
+
+      abbrev unused : Share → ℕ → Fml
+      unused c ν = entries_from shared_view ν 0 (λ _. (full_share, number_share_coded.code (0, c)))
+
+      abbrev Unused : Share → ℕ → Pr
+      Unused c ν = ⟦ unused c ν ⟧
+
+      -- THE VALUE IS LENT
+      pub lent_to : (q : Share) → ⟦ words_share R cv.code holds p z κ ⟧ ∗ ⟦ seat_shares cv.code z.views_name id v σ θ κ ⟧ ∗ A.lft κ q ⊢ H.⇛ (ex 𝓤 Lent ∗ A.lft κ q)
+      lent_to q = let q₁ : Share = Share.left q in let q₂ : Share = Share.right q in let q₃ : Share = Share.left q₂ in let q₄ : Share = Share.right q₂ in
+          let τ : Lft = σ ∷ [] in
+          qed 𝓛 (‵ (words_share R cv.code holds p z κ) ∷ ‵ (seat_shares cv.code z.views_name id v σ θ κ) ∷ ‵ (flft κ q) ∷ []) ∵ updating ! $ fsplit ! $
+          shr_bor_dup ! $ move ! (2 ∷ []) $ fsplit ! $ fpick ! (λ placed. drop ! $ move ! (3 ∷ []) $ fsplit3 ! $ shr_bor_dup ! $
+          -- [σ; σ; the view; the stretch; the invariant; α; α; the token]
+          move ! (7 ∷ []) $ use1 𝓛 (‵ (flft κ q₁) ⊛ ‵ (flft κ q₂)) (𝓛.lfts.lft_split κ q) $ split ! $ move ! (1 ∷ []) $
+          use1 𝓛 (‵ (flft κ q₃) ⊛ ‵ (flft κ q₄)) (𝓛.lfts.lft_split κ q₂) $ split ! $
+          -- [q₃; q₄; q₁; σ; σ; the view; the stretch; the invariant; α; α]
+          move ! (8 ∷ 0 ∷ []) $ shr_bor-open ! tt (tokens_halve 𝓛 α) (λ r. move ! (4 ∷ 2 ∷ []) $ shr_bor-open ! tt (tokens_halve 𝓛 τ) (λ s.
+          move ! (6 ∷ 4 ∷ []) $ shr_bor-open ! tt (Ledgers.view_halves 𝓛 cv z.views_name id v) (λ t.
+          let r₁ : Share = Share.left r in let r₂ : Share = Share.right r in let c : Share = (common s r₂).0 in let Both : Pr = A.lft τ s ∗ A.lft α r₂ in
+          -- [the view is open; the view; σ is open; its token; α is open; its token; σ; the stretch; the invariant; α]
+          move ! (5 ∷ []) $ use1 𝓛 (‵ (flft α r₁) ⊛ ‵ (flft α r₂)) (𝓛.lfts.lft_split α r) $ split ! $ move ! (5 ∷ 1 ∷ []) $
+          use2 𝓛 (‵ (flft (σ ∷ α) c) ⊛ raw (wand 𝓤 (A.lft (σ ∷ α) c) Both)) (lft-common 𝓛 τ α s r₂) $ split ! $
+          -- [both; the way back; α's token; the view is open; the view; σ is open; α is open; σ; the stretch; the invariant; α]
+          use0 𝓛 (later (items (λ (ν : ℕ). ‵ (unused c ν)))) (via 𝓤 _ (entries_new shared_view 𝓛 0 (λ _. (full_share, number_share_coded.code (0, c))))
+          (basic 𝓛 (ex 𝓤 (Unused c)))) $ await ! tt $ pick ! (λ ν. let Ac : Fml = account α σ ν c in
+          let Rest : Fml = entries_from shared_view ν 1 (λ _. (full_share, number_share_coded.code (0, c))) in
+          use1 𝓛 (‵ (part ν full_share (0, c)) ⊛ ‵ Rest) (entries_take shared_view 𝓛 ν 0 (λ _. (full_share, number_share_coded.code (0, c)))) $ split ! $
+          move ! (1 ∷ []) $ drop ! $ move ! (1 ∷ []) $ fpack ! Phase (in_phase α σ ν c) Begins $
+          use1 𝓛 (later (‵ (finv Ac))) (𝓛.invs.inv_new Ac) $ await ! tt $ use1 𝓛 (‵ (finv Ac) ⊛ ‵ (finv Ac)) (𝓛.invs.inv_dup Ac) $ split ! $
+          -- [the account, twice; the part; the way back; α's token; the view is open; the view; σ is open; α is open; σ; the stretch; the invariant; α]
+          move ! (6 ∷ 2 ∷ 0 ∷ 10 ∷ []) $ group ! 4 $ move ! (8 ∷ 3 ∷ 0 ∷ []) $
+          use3 𝓛 (later (items (given_item ν c t) ⊛ ‵ (flft α r₁))) (Moves.reach 𝓛 R cv holds keeps p z r₁ (Asks ν c t) (ex 𝓤 (Given ν c t)) (gives ν c t)) $
+          await ! tt $ split ! $ pick ! (λ u. learn ! (λ so. let x : R.Denot = u.0 in let a : ℕ = u.1 in let e : Share = u.2 in split3 ! $ move ! (2 ∷ []) $ split ! $
+          -- [three; the view; it is shared; e; α's token; the account; the way back; the view is open; σ is open; α is open; σ; α]
+          move ! (3 ∷ []) $ bor_new ! tt (σ ∷ α) $ move ! (6 ∷ 2 ∷ 1 ∷ []) $
+          use3 𝓛 (later (‵ (flft (σ ∷ α) c))) (lasts α σ ν c (a, e)) $ await ! tt $
+          -- [both; the borrow; the view; it is shared; α's token; the way back; the view is open; σ is open; α is open; σ; α]
+          move ! (0 ∷ 5 ∷ []) $ use2 𝓛 (‵ (flft τ s) ⊛ ‵ (flft α r₂)) (apply∗ 𝓤 (A.lft (σ ∷ α) c) Both) $ split ! $
+          move ! (7 ∷ 0 ∷ []) $ obor_close ! tt $ drop ! $ move ! (6 ∷ 3 ∷ []) $ obor_close ! tt $ drop ! $
+          -- [q₁; q₄; α's other part; the borrow; it is shared; α's token; α is open; σ; α]
+          move ! (5 ∷ 2 ∷ []) $ use2 𝓛 (‵ (flft α r)) (𝓛.lfts.lft_join α r) $ move ! (5 ∷ 0 ∷ []) $ obor_close ! tt $ drop ! $
+          move ! (0 ∷ 2 ∷ []) $ use2 𝓛 (‵ (flft κ q₂)) (𝓛.lfts.lft_join κ q₂) $ move ! (1 ∷ 0 ∷ []) $ use2 𝓛 (‵ (flft κ q)) (𝓛.lfts.lft_join κ q) $
+          -- [the token; the borrow; it is shared; σ; α]
+          move ! (1 ∷ []) $ bor_fracture ! tt (λ w. flft (a ∷ []) w) e $ move ! (0 ∷ 2 ∷ 4 ∷ 3 ∷ []) $ group ! 4 $ use1 𝓛 (‵ (Sh x κ)) (near x a) $
+          use1 𝓛 (raw (ex 𝓤 Lent)) (via 𝓤 (Lent x) (guard_i 𝓤 (So x) ⟦ Sh x κ ⟧ so) (ex_i 𝓤 Lent x)) $ now ! $ done !)))))))
