@@ -40,7 +40,6 @@ module _ {M : Type 1} {𝓤 : Ura M} (𝓛 : Logic 𝓤) where
 
   infix 26 ◌⊢◌
   infixr 35 ◌∗◌
-
   -- the right to the part is had where the stretch has ended
   module _ (α : Lft) (σ ν : ℕ) (s : Share) (u : ℕ × Share) where
     abbrev Ac : Fml

@@ -58,7 +58,6 @@ module _ {M : Type 1} {𝓤 : Ura M} (𝓛 : Logic 𝓤) where
 
   infix 26 ◌⊢◌
   infixr 35 ◌∗◌
-
   -- A LENDING LASTS from now on: what was put in at first comes back
   module _ (α : Lft) (σ ν : ℕ) (s : Share) (u : ℕ × Share) where
     abbrev Ac : Fml

@@ -11,6 +11,7 @@ pub mod Regains
 pub mod Lends
 pub mod Steps
 pub mod Opening
+pub mod Shares
 pub mod Shown
 pub mod Rooms
 pub mod Sent

@@ -41,7 +41,6 @@ module _ {M : Type 1} {𝓤 : Ura M} (𝓛 : Logic 𝓤) where
 
   infix 26 ◌⊢◌
   infixr 35 ◌∗◌
-
   module _ (good : ℕ → Type 0) (P : Fml) where
     abbrev In : Fml
     In = invariant good P
