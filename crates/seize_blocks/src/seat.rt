@@ -28,3 +28,5 @@ impl<T, R: Rule<T>> Drop for Seat<T, R> {
 }
 
 unsafe impl<T, R: Rule<T>> Send for Seat<T, R> {}
+
+unsafe impl<T, R: Rule<T>> Sync for Seat<T, R> {}

@@ -1,13 +1,12 @@
 -- A value that can be lent, from one that is owned, and back once no lending lasts. Assumes `Logic`.
-use Rattle.std.proofs.Common.{◌≡◌, ℕ, suc, List, [], ◌∷◌, refl, sym, subst, Some}
-use mathlib.Mathlib.Data.Part.{◌∈◌}
+use Rattle.std.proofs.Common.{◌≡◌, ℕ, List, [], ◌∷◌, refl, sym, subst, Some}
 use seplogic.Ra.Ura.{Ura}
 use base.Fraction.{full_share}
 use base.Share
-use base.Share.{quarter, three_quarters}
+use base.Share.{quarter}
 use base.Stored.{Coded}
 use base.Logic.{SProp, ent, sep, upd, via, never, never_e, upd_i}
-use base.Fml.{Lft, Share, Fml, Incl, Incl-trans, ftrue, fsep, fex, flft, fdead, flent, finv}
+use base.Fml.{Lft, Share, Fml, Incl, Incl-trans, ftrue, fex, flft, fdead, flent, finv}
 use ghost.Rules.{Toks}
 use contract.BorrowLft.{meet_⊑_left, meet_⊑_right}
 use types.Logic.{Logic, sem}

@@ -1,7 +1,6 @@
 -- The value of a block is lent to whoever has a `&` to the memory and to a seat whose view shows the block. Assumes `Logic`.
-use Rattle.std.specs.Prelude.{slice_get, IsSome}
-use Rattle.std.proofs.Common.{◌≡◌, ℕ, suc, ◌+◌, ◌-◌, ◌*◌, ◌<◌, List, [], ◌∷◌, ◌++◌, refl, sym, ap, ◌∙◌, subst, arith, Some}
-use mathlib.Mathlib.Data.Part.{◌∈◌}
+use Rattle.std.specs.Prelude.{slice_get}
+use Rattle.std.proofs.Common.{◌≡◌, ℕ, suc, ◌+◌, ◌-◌, ◌*◌, ◌<◌, List, [], ◌∷◌, ◌++◌, sym, ap, ◌∙◌, subst, arith, Some}
 use seplogic.Ra.Ura.{Ura}
 use base.Fraction.{full_share}
 use base.FractionLaws.{common}
@@ -9,30 +8,28 @@ use base.Share
 use base.Share.{quarter, three_quarters}
 use base.Stored.{Coded}
 use base.Logic.{SProp, ent, sep, wand, ex, all, guard, upd, via, apply∗, upd_i, guard_i, ex_i}
-use base.Fml.{Lft, Share, Fml, ftrue, fsep, fex, flft, flent, fbor, finv, fshr_bor}
-use ghost.Rules.{Halves}
+use base.Fml.{Lft, Share, Fml, ftrue, fex, flft, flent, finv, fshr_bor}
 use contract.BorrowLft.{meet_⊑_left, meet_⊑_right}
 use types.Keyed.{entries_from, entries_new, entries_take}
 use types.Logic.{Logic, sem}
 use types.Owned.{basic}
 use types.Tokens.{bor_new, bor_fracture, shr_bor-open, shr_bor_dup, obor_close, lft-common}
 use types.Within.{tokens_halve}
-use types.Kit.{‵, raw, ◌⊛◌, some as items, given, later, ◌$◌, ◌∵◌, !, qed, by, move, keep, drop, split, split3, join, group, fsplit, fsplit3, fjoin, fpick, fpack, pick, learn, check, show, frame, assume, suffices, settle, use0, use1, use2, use3, rewrite, updating, await, now, done}
+use types.Kit.{‵, raw, ◌⊛◌, some as items, given, later, ◌$◌, ◌∵◌, !, qed, by, move, drop, split, split3, group, fsplit, fsplit3, fjoin, fpick, fpack, pick, learn, check, show, frame, assume, suffices, settle, use0, use1, use2, use3, updating, await, now, done}
 use denote.RattleType.{RattleType, RowLaws}
-use denote.Memory.{part_at, shared_of}
+use denote.Memory.{shared_of}
 use denote.Moves.{moves}
 use denote.SharingLaws.{shortens}
 use denote.RawPtr.{Ptr, block_of, count_of}
 use denote.Steps.{nothing}
 use Rattle.core.specs.contracts.option.Option.{the_row as OptionOf}
-use Rattle.seize_words.specs.Mem.{value_at, value_in}
-use Rattle.seize_seats.specs.State.{State, view_of}
-use Rattle.seize_seats.specs.Cells.{Cell, Has, block_in, cell_at}
-use Rattle.seize_seats.specs.Lines.{AreLaid, memory_of}
+use Rattle.seize_words.specs.Mem.{value_in}
+use Rattle.seize_seats.specs.State.{State}
+use Rattle.seize_seats.specs.Cells.{Cell, Has, block_in}
 use Rattle.seize_seats.specs.Seen.{seen, shared_view, number_share_coded}
-use Rattle.seize_seats.specs.Stretches.{IsOdd, stretch, stretch_told, seat_shares}
+use Rattle.seize_seats.specs.Stretches.{stretch, stretch_told, seat_shares}
 use Rattle.seize_seats.specs.Lendings.{Phase, Begins, Lasts, Over, part, due, in_phase, account, Lending, Loan, Left, Shown, IsValueOf, loan}
-use Rattle.seize_seats.specs.Owned.{stride, BaseId, age, Inside, state_of, inner, standing, words_share}
+use Rattle.seize_seats.specs.Owned.{stride, BaseId, age, Inside, state_of, inner, words_share}
 use Rattle.seize_seats.proofs.Cells.{block_is, cell_beyond}
 use Rattle.seize_seats.proofs.Ledgers as Ledgers
 use Rattle.seize_seats.proofs.Numbers as Numbers

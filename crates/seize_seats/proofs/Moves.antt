@@ -8,7 +8,7 @@ use base.Stored.{Coded}
 use base.Logic.{SProp, ent, sep, ex, all, guard, upd, emp, id⊢, via, apply∗, all_e, upd_i}
 use base.Fml.{Lft, Share, Fml, ftrue, fsep, fex, flft, fbor, finv, fnamed}
 use types.Logic.{Logic, sem}
-use types.Kit.{‵, raw, ◌⊛◌, some as items, given, later, ◌$◌, ◌∵◌, !, qed, by, move, keep, drop, split, split3, join, fsplit, fsplit3, fjoin, fjoin3, fpick, fpack, pick, learn, check, show, frame, each, assume, suffices, settle, use0, use1, use2, use3, updating, await, now, done}
+use types.Kit.{‵, raw, ◌⊛◌, some as items, given, later, ◌$◌, ◌∵◌, !, qed, by, move, drop, split, split3, fsplit, fsplit3, fjoin, fjoin3, fpick, fpack, pick, learn, check, show, frame, each, assume, suffices, settle, use0, use1, use2, use3, updating, await, now, done}
 use types.Tokens.{shr_bor-open, obor_close}
 use types.Within.{tokens_halve}
 use denote.RattleType.{RattleType}
@@ -23,7 +23,7 @@ use Rattle.seize_seats.specs.State.{State, Goes, Allows, Turns, Comes}
 use Rattle.seize_seats.specs.Lines.{Parts, place_of, memory_of, AreLaid}
 use Rattle.seize_seats.specs.Steps.{IsStepOf, roomed}
 use Rattle.seize_seats.specs.Owned.{fact, ledger, BaseId, age, Inside, state_of, standing, inner, words_share, lent_here, seen}
-use Rattle.seize_seats.specs.Stretches.{IsEven, numbered, invariant}
+use Rattle.seize_seats.specs.Stretches.{IsEven, invariant}
 use Rattle.seize_seats.proofs.Numbers as Numbers
 use Rattle.seize_seats.proofs.Ledgers as Ledgers
 use Rattle.seize_seats.proofs.Stretches as Stretches

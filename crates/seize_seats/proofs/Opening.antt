@@ -11,7 +11,7 @@ use types.Logic.{Logic, sem}
 use types.Owned.{basic}
 use types.Keyed.{entries_take, entries_new}
 use types.Tokens.{lft_new, lft_end, bor_new, lent_back}
-use types.Kit.{‵, raw, ◌⊛◌, some as items, given, later, ◌$◌, ◌∵◌, !, qed, by, move, keep, drop as leave, split, join, fsplit, fsplit3, fjoin, fjoin3, fpick, fpack, pick, learn, check, show, use0, use1, use2, use3, rewrite, updating, await, now, done}
+use types.Kit.{‵, raw, ◌⊛◌, some as items, given, later, ◌$◌, ◌∵◌, !, qed, by, move, keep, drop as leave, split, fsplit, fsplit3, fjoin, fjoin3, fpick, fpack, pick, learn, check, show, use0, use1, use2, use3, rewrite, updating, await, now, done}
 use denote.RattleType.{RattleType}
 use denote.RawPtr.{Ptr, block_of, count_of}
 use denote.Steps.{nothing}

@@ -1,6 +1,6 @@
 -- The value of a block that was taken away comes back from its lendings: a seat whose view shows the block has another view by now. Assumes `Logic`.
 use Rattle.std.specs.Prelude.{slice_get, IsSome}
-use Rattle.std.proofs.Common.{◌≡◌, ℕ, suc, ◌+◌, ◌-◌, ◌<◌, Bool, true, false, List, [], ◌∷◌, refl, sym, ap, ◌∙◌, subst, arith, Some, None}
+use Rattle.std.proofs.Common.{◌≡◌, ℕ, suc, ◌-◌, ◌<◌, Bool, true, false, [], ◌∷◌, sym, ap, ◌∙◌, subst, arith, Some}
 use mathlib.Core.Logic.Or
 use mathlib.Core.HLevel.{⊥_prop}
 use mathlib.Core.List.{mem-cons, not-mem-nil}
@@ -21,9 +21,8 @@ use denote.Steps.{nothing}
 use Rattle.seize_words.specs.Mem.{value_in}
 use Rattle.seize_seats.specs.State.{State}
 use Rattle.seize_seats.specs.Cells.{Cell, Free, Claimed, Out, Has, block_in, cell_at}
-use Rattle.seize_seats.specs.Lines.{AreLaid}
 use Rattle.seize_seats.specs.Seen.{seen}
-use Rattle.seize_seats.specs.Stretches.{IsEven, IsOdd, invariant, stretch_part, lasting, stretch, stretch_told}
+use Rattle.seize_seats.specs.Stretches.{IsEven, IsOdd, stretch_part, lasting, stretch, stretch_told}
 use Rattle.seize_seats.specs.Lendings.{Lending, Shown, lending}
 use Rattle.seize_seats.specs.Owned.{Hand, resting, busy, BaseId, age, Inside, state_of, inner}
 use Rattle.seize_seats.proofs.Cells.{block_is}

@@ -14,7 +14,7 @@ use Rattle.seize_seats.specs.Cells.{Cell, Free, Claimed, Out, Has}
 use Rattle.seize_seats.specs.Lines.{long}
 use Rattle.seize_seats.specs.Owned.{shared_view, row, quarters, zeros, stride, kept, numbers, BaseId, age, inner, lent_here, words_own, words_share}
 use Rattle.seize_seats.specs.Lendings.{Phase, Begins, Lasts, Over, in_phase, Lending, lendings, lendable}
-use Rattle.seize_seats.specs.Stretches.{lasting, seat_owns}
+use Rattle.seize_seats.specs.Stretches.{lasting, seat_owns, seat_shares}
 
 row_keyless : (b o : ℕ) (ns : List ℕ) → Keyless (row b o ns)
 row_keyless b o [] = tt
@@ -31,6 +31,9 @@ module _ {V : Type 0} (c : V → Gv) (γ : ℕ) where
 
   pub seat_keyless : (id : ℕ) (v : V) (σ θ : ℕ) → Keyless (seat_owns c γ id v σ θ)
   seat_keyless id v σ θ = (tt, (entry_keyless shared_view γ id _, ((λ n. ((λ _. tt), λ y. stretch_keyless id v σ θ y)), entry_keyless token θ 0 _)))
+
+  pub seat_shares_keyless : (id : ℕ) (v : V) (σ θ : ℕ) (κ : Lft) → Keyless (seat_shares c γ id v σ θ κ)
+  seat_shares_keyless id v σ θ κ = ((λ _. tt), ((λ q. entry_keyless shared_view γ id _), λ n. ((λ _. tt), λ y. stretch_keyless id v σ θ y)))
 
 -- a value that can be lent
 module _ (R : RattleType) (sent : IsSend (OptionOf R)) (synced : IsSync (OptionOf R)) (α : Lft) {V W : Type 0} (c : V → Gv) (γ : ℕ) (holds : State R.Denot V W

@@ -4,7 +4,7 @@ use seplogic.Ra.Ura.{Ura}
 use base.Logic.{ent, sep, wand, apply∗}
 use base.Fml.{Lft, Share, Fml, fsep, fbor, fshr_bor}
 use types.Logic.{Logic, sem, lfts}
-use types.Kit.{‵, raw, ◌⊛◌, later, ◌$◌, ◌∵◌, !, qed, move, drop, split, fsplit, fjoin, use1, use2, updating, await, now, done}
+use types.Kit.{‵, raw, ◌⊛◌, later, ◌$◌, !, qed, move, drop, split, fsplit, fjoin, use1, use2, updating, await, now, done}
 use types.Tokens.{bor_fracture}
 use denote.Sharing.{one, said}
 use denote.Struct.Lending.{Lends}

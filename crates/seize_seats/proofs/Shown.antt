@@ -3,11 +3,10 @@ use Rattle.std.proofs.Common.{ℕ, [], ◌∷◌}
 use seplogic.Ra.Ura.{Ura}
 use base.Fraction.{full_share}
 use base.Stored.{Coded}
-use base.Logic.{ent, sep, wand, apply∗, snd∗}
-use base.Fml.{Lft, Share, Fml, ftrue, fsep, flft, flent, fbor, fshr_bor}
-use types.Logic.{Logic, sem, lfts}
-use types.Kit.{‵, raw, ◌⊛◌, later, ◌$◌, ◌∵◌, !, qed, move, drop, split, fsplit, fjoin, fpick, fpack, check, use1, use2, updating, await, now, done}
-use types.Tokens.{bor_fracture}
+use base.Logic.{ent, sep, snd∗}
+use base.Fml.{Lft, Share, Fml, ftrue, fsep, flft, flent, fbor}
+use types.Logic.{Logic, sem}
+use types.Kit.{‵, ◌⊛◌, ◌$◌, ◌∵◌, !, qed, move, drop, split, fsplit, fjoin, fpick, fpack, check, use1, done}
 use base.Logic.{guard}
 use denote.RattleType.{RattleType}
 use denote.RawPtr.{Ptr}

@@ -1,19 +1,17 @@
 -- A seat's stretch begins and ends, and invariants that are known by their numbers. Assumes `Logic`.
-use Rattle.std.proofs.Common.{◌≡◌, ℕ, ◌+◌, ◌≤◌, Bool, true, false, List, [], ◌∷◌, refl, arith}
+use Rattle.std.proofs.Common.{ℕ, ◌+◌, ◌≤◌, Bool, true, false, [], ◌∷◌, refl, arith}
 use seplogic.Ra.Ura.{Ura}
-use base.Fraction.{full_share}
 use base.Share
 use base.Share.{three_quarters}
 use base.Stored.{Coded}
-use base.Logic.{SProp, ent, sep, wand, ex, all, guard, upd, via, never, never_e, upd_i}
-use base.Fml.{Lft, Share, Fml, ftrue, fsep, flft, fdead, finv, fnamed}
+use base.Logic.{SProp, ent, sep, ex, all, guard, upd, via, never, never_e, upd_i}
+use base.Fml.{Share, Fml, ftrue, fsep, fdead, finv, fnamed}
 use types.Keyed.{token, ticket, tickets_from, ticket_once, entries_new, entries_take}
 use types.Logic.{Logic, sem}
 use types.Owned.{basic}
 use types.Tokens.{lft_new, lft_end}
 use types.Kit.{‵, raw, ◌⊛◌, some as items, given, later, ◌$◌, ◌∵◌, !, qed, by, move, keep, drop, split, fsplit, fsplit3, fjoin, fpick, fpack, pick, learn, show, frame, each, assume, suffices, use0, use1, use2, use3, updating, await, now, done}
 use denote.Steps.{nothing}
-use ghost.Rules.{Halves}
 use Rattle.seize_seats.specs.Seen.{seen}
 use Rattle.seize_seats.specs.Stretches.{IsEven, IsOdd, numbered, invariant, seats_part, stretch_part, lasting, stretch, stretch_told, seat_owns}
 use Rattle.seize_seats.proofs.Ledgers as Ledgers

@@ -1,6 +1,6 @@
 -- What the words, the places of values and a seat own. The words are lent for a lifetime of their own, whose token stays with whoever owns them, and a `&` to
 -- them shows that it lasts. An invariant has the words, the values, and a quarter of each seat's view; three quarters of it are the seat's.
-use Rattle.std.specs.Prelude.{ℕ, zero, suc, ◌+◌, ◌*◌, ◌^◌, ◌<◌, List, [], ◌∷◌, Option, Some, None, length}
+use Rattle.std.specs.Prelude.{ℕ, zero, suc, ◌+◌, ◌*◌, ◌^◌, ◌<◌, List, [], ◌∷◌, Option, None, length}
 use prog.Memory.{size}
 use base.Fraction.{full_share}
 use base.Share.{quarter, three_quarters}

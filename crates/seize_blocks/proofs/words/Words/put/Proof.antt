@@ -10,7 +10,7 @@ use base.Share
 use base.Share.{three_quarters}
 use base.Logic.{SProp, ent, sep, emp, id⊢}
 use types.Logic.{sem}
-use base.Fml.{Lft, Share, Fml, ftrue, fsep, flft, fhide, froom, fat, fbor, finv, Incl-trans}
+use base.Fml.{Lft, Share, Fml, ftrue, fsep, flft, fhide, froom, fat, fbor, Incl-trans}
 use types.Kit.{‵, raw, ◌⊛◌, given, later, at_ret, ◌$◌, ◌∵◌, !, qed, by, move, keep, drop, split, split3, join, fsplit, fsplit3, fjoin, fjoin3, fpick, learn, use0, use1, use2, use3, await, suffices, rewrite, feq_i, some as items, pick}
 use types.Match.{live}
 use types.Part.{agg}

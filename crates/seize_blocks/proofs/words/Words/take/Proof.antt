@@ -10,7 +10,7 @@ use base.Share
 use base.Share.{three_quarters}
 use base.Logic.{SProp, ent, sep, emp, id⊢, via}
 use types.Logic.{sem}
-use base.Fml.{Lft, Share, Fml, ftrue, fsep, fex, flft, fhide, froom, fat, fbor, finv}
+use base.Fml.{Lft, Share, Fml, ftrue, fsep, fex, flft, fhide, froom, fat, fbor}
 use types.Kit.{‵, raw, ◌⊛◌, given, later, mean, at_ret, ◌$◌, ◌∵◌, !, qed, by, move, keep, drop, split, split3, join, fsplit, fsplit3, fjoin, fjoin3, fpick, learn, use0, use1, use2, use3, await, suffices, rewrite, feq_i, some as items, pick, group}
 use types.Run.{stop, fld, load, look_raw, lit, size_word, of_opd, bin, no_more, and_then, first, blocks, exec, calls, returns, enter, init, assigns}
 use types.ByLocal.{alloc_all, pass_all, free_all, look_at, get, through, sets, sets_last, is, env, lands_as}
