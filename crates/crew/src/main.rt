@@ -25,6 +25,7 @@ fn event(alloc: std::alloc::Global, number: u64, place: u64) -> Result<Event<u64
         },
         1 => Event::Own { guard },
         43 => Event::DropGuard { guard },
+        44 => Event::ReclaimAll,
         _ if place % 4 == 3 => Event::Refresh { guard },
         _ => Event::OneCall { guard, map, call },
     })
@@ -38,7 +39,7 @@ fn drive<S: Hashes<u64> + Drop + Send, N: CrewName + Send + Sync, W: Threads + W
     drivers: &mut [Driver<u64, u64, N>],
 ) {
     let work = |_: usize, driver: &mut Driver<u64, u64, N>| {
-        for place in 0..44 {
+        for place in 0..45 {
             if let Ok(event) = event(alloc, driver.number(), place) {
                 let _ = driver.apply(rt, alloc, crew, event);
             }
@@ -67,9 +68,8 @@ fn by_four<N: CrewName + Send + Sync, W: Threads + Wait + Sync>(
 }
 
 fn main(rt: HostRuntime) -> std::io::Result<()> {
-    let alloc = rt.alloc();
-    let mut pairs = Vec::new(alloc);
-    if let Ok(Some(run)) = by_four::<std::marker::Brand, _>(&rt, alloc, Blank::new(4)) {
+    let mut pairs = Vec::new(rt.alloc());
+    if let Ok(Some(run)) = by_four::<std::marker::Brand, _>(&rt, rt.alloc(), Blank::new(4)) {
         for pair in run.kept.as_slice() {
             pairs.push((pair.key, pair.value))?;
         }

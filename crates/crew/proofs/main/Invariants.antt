@@ -2,7 +2,7 @@
 use Rattle.crew.proofs.main.Given as goal
 
 abbrev pub ghosts-by_four-N-CrewName : goal.ghosts-by_four-N-CrewName
-ghosts-by_four-N-CrewName a = record { setup = record { batch_size = 1; processors = 4; roots = 1 } }
+ghosts-by_four-N-CrewName g a = record { setup = record { batch_size = 1; processors = 4; roots = 1 } }
 
 abbrev pub ghosts-by_four-N-Ledger : goal.ghosts-by_four-N-Ledger
-ghosts-by_four-N-Ledger a = record { name = a.blank.name; parts = a.blank.parts }
+ghosts-by_four-N-Ledger g a = record { name = a.blank.name; parts = a.blank.parts }
