@@ -1,8 +1,12 @@
 -- What a crew keeps of its schedule, and what it is for.
-use Rattle.std.specs.Prelude.{◌≡◌, ℕ, ◌==◌, Bool, true, false, ◌&&◌, List, [], ◌∷◌, map, if◌then◌else◌}
+use Rattle.std.specs.Prelude.{◌≡◌, ℕ, ◌==◌, Bool, true, false, ◌&&◌, List, [], ◌∷◌, length, map, sum_by, if◌then◌else◌}
+use Rattle.std.specs.List.{AllByRecursion}
 use Rattle.papaya_copies.specs.Same.{same_event, same_outcome}
 use Rattle.papaya_schedules.specs.declared.event.Event.{Event}
 use Rattle.papaya_schedules.specs.declared.outcome.Outcome.{Outcome}
+use Rattle.papaya_schedules.specs.declared.record.Run.{Run}
+use Rattle.papaya_schedules.specs.Runs.{IsRunOf}
+use Rattle.papaya_schedules.specs.Terms.{Terms}
 use Rattle.papaya_steps.specs.declared.kept.Applied.{Applied}
 use Rattle.papaya_steps.specs.declared.kept.Kept.{Kept}
 
@@ -45,3 +49,11 @@ module _ {K V : Type 0} where
     -- of this driver the schedule holds just its list, in order, with what its events came to
     abbrev pub HoldsJust : List (Kept K V) → List (Outcome V) → Listed K V → Type 0
     HoldsJust schedule outcomes d = same_list (held_by d.number schedule outcomes) d.list ≡ true
+
+-- A schedule of as many events as these drivers list has this run, and does not hold of each of them just its list.
+pub record Disagree {K V : Type 0} (eq key : K → K → Bool) (value : V → V → Bool) (terms : Terms) (drivers : List (Listed K V)) : Type 0 where
+  pub schedule : List (Kept K V)
+  pub run : Run K V
+  pub whole : IsRunOf eq terms (events_of schedule) run
+  pub counted : length schedule ≡ sum_by (λ d. length d.list) drivers
+  pub unlike : AllByRecursion (HoldsJust key value schedule run.outcomes.items) drivers → ⊥

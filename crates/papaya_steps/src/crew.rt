@@ -1,12 +1,12 @@
 //! Drivers that apply events to one run, under a lock.
-ghost use Rattle.std.specs.Prelude.{◌≡◌, ◌≤◌, ◌+◌, [], length, map, sum_by, vec_len, IfOk, IfErr, IfSome};
+ghost use Rattle.std.specs.Prelude.{◌≡◌, ◌≤◌, ◌+◌, [], length, map, sum_by, vec_len, IfOk, IfErr, IfNone, IfSome};
 ghost use Rattle.std.specs.List.{AllByRecursion, range_with_len};
 ghost use Rattle.papaya_copies.specs.Copies.{ClonesAreSame};
 ghost use Rattle.papaya_scheduler.specs.Played.{terms_given};
 ghost use Rattle.papaya_schedules.specs.After.{AtEachEvent};
 ghost use Rattle.papaya_schedules.specs.Runs.{IsRunOf, log_of};
 ghost use Rattle.papaya_running.specs.Run.{HandsOn, IsRightRun, bounded};
-ghost use Rattle.papaya_steps.specs.Crew.{HoldsJust, events_of};
+ghost use Rattle.papaya_steps.specs.Crew.{Disagree, HoldsJust, events_of};
 
 use crate::driver::Driver;
 use crate::finished::Finished;
@@ -66,7 +66,7 @@ impl<K: Eq + Hash + Clone, V: PartialEq + Clone, S: BuildHasher + Drop, N: CrewN
     S,
     N,
 > {
-    /// The kept schedule with its run, where it holds of each driver just its list, keys and values compared by `==`. If memory had run out for an event, the run is made anew. The
+    /// The kept schedule with its run, where it holds of each driver just its list, keys and values compared by `==`, and else none. If memory had run out for an event, the run is made anew. The
     /// one fault is Memory.
     pub fn finish(
         self,
@@ -82,6 +82,7 @@ impl<K: Eq + Hash + Clone, V: PartialEq + Clone, S: BuildHasher + Drop, N: CrewN
         ensures hands { IfOk result (λ it. IfSome it (λ f. AtEachEvent HandsOn (log_of (events_of f.schedule.items) f.run))) }
         ensures counted { IfOk result (λ it. IfSome it (λ f. length f.run.outcomes.items ≡ sum_by (λ d. length d.list) drivers.items)) }
         ensures lists { IfOk result (λ it. IfSome it (λ f. AllByRecursion (HoldsJust K.eq V.eq f.schedule.items f.run.outcomes.items) drivers.items)) }
+        ensures none { IfOk result (λ it. IfNone it (Disagree K.eq K.eq V.eq (terms_given (bounded N.setup)) drivers.items)) }
         ensures memory { IfErr result (λ fault. fault ≡ Fault.Memory) }
     {
         let Self { locked } = self;

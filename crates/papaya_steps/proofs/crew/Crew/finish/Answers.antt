@@ -20,3 +20,16 @@ returns-then-agrees-clause-lists g c =
     let f = c.in_ok-finished.finished in
     subst (λ (l : List (Listed g.row.K.Denot g.row.V.Denot)). AllByRecursion (HoldsJust g.K.PartialEq.eq g.V.PartialEq.eq f.schedule.items f.run.outcomes.items) l) c.as_slice.ensures.value
     (c.agrees_with-agrees.ensures.0 c.if-agrees.true)
+
+pub returns-else-agrees-clause-none : goal.returns-else-agrees-clause-none
+returns-else-agrees-clause-none g c =
+    let f = c.in_ok-finished.finished in record {
+      schedule = f.schedule.items;
+      run = f.run;
+      whole = c.in_ok-finished.ensures.whole;
+      counted = c.in_ok-finished.ensures.counted ∙ sym (c.audit.ensures.whole (c.gathered-all.ensures.parts ∙ c.requires.all)) ∙ c.gathered-all.ensures.amount;
+      unlike = λ all.
+          let agrees = c.agrees_with-agrees.ensures.1 (subst (λ (l : List (Listed g.row.K.Denot g.row.V.Denot)). AllByRecursion (HoldsJust g.K.PartialEq.eq g.V.PartialEq.eq f.schedule.items f.run.outcomes.items) l)
+          (sym c.as_slice.ensures.value) all) in
+          let not = c.if-agrees.false in cc (agrees, not);
+    }
