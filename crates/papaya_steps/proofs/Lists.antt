@@ -1,5 +1,5 @@
 -- The last one of a list, and what schedules hold of drivers, event by event.
-use Rattle.std.specs.Prelude.{◌-◌, ◌==◌, Bool, true, false, [], ◌∷◌, None, slice_get}
+use Rattle.std.specs.Prelude.{◌-◌, ◌==◌, Bool, [], ◌∷◌, None, slice_get}
 use Rattle.std.proofs.Common.{◌≡◌, refl, ℕ, ◌+◌, List, length, arith, inl, inr}
 use Rattle.std.proofs.Math.Dec.{eqb-suc-zero}
 use Rattle.std.proofs.lemmas.Option.{slice_get_cases}

@@ -1,7 +1,7 @@
 -- An event happens: it came to something.
-use Rattle.std.specs.Prelude.{[], ◌∷◌, ◌++◌}
+use Rattle.std.specs.Prelude.{[], ◌∷◌}
 use Rattle.std.specs.Option.{option_copied}
-use Rattle.std.proofs.Common.{◌∙◌, sym, ap, length, arith}
+use Rattle.std.proofs.Common.{◌∙◌, sym, ap, length}
 use Rattle.std.proofs.lemmas.List.{length-append}
 use Rattle.papaya_steps.proofs.Lists.{has_last}
 use Rattle.papaya_steps.proofs.locked.happens.Goals as goal

@@ -1,7 +1,7 @@
 -- A crew that has ended.
-use Rattle.std.specs.Prelude.{List, length}
+use Rattle.std.specs.Prelude.{List}
 use Rattle.std.specs.List.{AllByRecursion}
-use Rattle.std.proofs.Common.{sym, ap, subst, ◌∙◌}
+use Rattle.std.proofs.Common.{sym, subst, ◌∙◌}
 use Rattle.std.proofs.lemmas.List.{length-map}
 use Rattle.papaya_steps.specs.Crew.{HoldsJust, Listed}
 use Rattle.papaya_steps.specs.declared.kept.Kept.{Kept}
