@@ -66,8 +66,8 @@ impl<K: Eq + Hash + Clone, V: PartialEq + Clone, S: BuildHasher + Drop, N: CrewN
     S,
     N,
 > {
-    /// The kept schedule with its run, where it holds of each driver just its list, keys and values compared by `==`, and else none. If memory had run out for an event, the run is made anew. The
-    /// one fault is Memory.
+    /// The kept schedule with its run, where it holds of each driver just its list, keys and values compared by `==`, and else none. If memory had run out for an event,
+    /// the run is made anew. The one fault is Memory.
     pub fn finish(
         self,
         alloc: Global,
