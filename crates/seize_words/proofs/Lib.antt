@@ -3,8 +3,7 @@ mod FreeKept
 mod FreeNumbers
 mod FreeSums
 mod FreeTrees
-mod Joined
-mod SlabKept
+mod DirectoryKept
 pub mod OneOwner
 pub mod Places
 pub mod Plans

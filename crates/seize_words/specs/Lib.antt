@@ -8,4 +8,4 @@ pub mod Plan
 pub mod Buckets
 pub mod FreeNumbers
 pub mod Free
-pub mod Slab
+pub mod Directory

@@ -4,14 +4,16 @@
 
 mod at;
 mod block;
+mod bucket;
+mod directory;
 mod fault;
 mod free_numbers;
 mod lent;
 mod link;
 mod memory;
+mod piece;
 mod plain;
 mod refused;
-mod slab;
 pub mod slots;
 mod word_array;
 mod words;
