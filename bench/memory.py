@@ -30,19 +30,19 @@ FOUND = 99
 # how often each kind of line comes
 WEIGHTS = {
     "call": 400,
-    "begin": 60,
-    "step": 120,
+    "begin": 110,
+    "step": 60,
     "refused step": 8,
-    "go": 70,
+    "go": 110,
     "refused go": 4,
-    "reply": 60,
-    "next": 30,
-    "stop": 8,
+    "reply": 30,
+    "next": 12,
+    "stop": 4,
     "choose": 30,
     "enter": 40,
     "own": 10,
     "refresh": 30,
-    "flush": 12,
+    "flush": 20,
     "drop": 40,
     "forget": 2,
     "register": 12,
@@ -70,7 +70,15 @@ CALLS = {
     "walk": 6,
 }
 
-REPLIES = ["insert", "remove", "abort", "yes", "no"]
+# what a call that asks is mostly told
+REPLIES = {
+    "compute": ["insert", "insert", "remove", "abort"],
+    "remove_if": ["yes", "no"],
+    "retain": ["yes", "no"],
+}
+
+# these need no line more
+WHOLE = ["get", "insert", "try_insert", "remove", "reserve", "clear", "len"]
 
 
 class Script:
@@ -81,7 +89,7 @@ class Script:
         self.registrations = []
         self.guards = []
         self.maps = []
-        self.callers = []
+        self.callers = {}
         self.named = 0
         self.keys = self.random.choice([4, 20, 100, 1000])
 
@@ -106,9 +114,11 @@ class Script:
     def value(self):
         return "v" + str(self.random.randrange(1000))
 
-    def call(self):
+    def kind(self, kinds):
+        return self.random.choices(kinds, [CALLS[kind] for kind in kinds])[0]
+
+    def call(self, kind):
         """A call with its arguments."""
-        kind = self.random.choices(list(CALLS), CALLS.values())[0]
         key = self.random.randrange(self.keys)
         if kind in ("insert", "try_insert"):
             return f"{kind} {key} {self.value()}"
@@ -119,10 +129,13 @@ class Script:
         return kind
 
     def reply(self):
-        kind = self.random.choice(REPLIES)
+        """A caller's reply, mostly one that its call asks for."""
+        asking = [name for name, kind in self.callers.items() if kind in REPLIES]
+        name = self.some(asking)
+        kind = self.random.choice(REPLIES[self.callers.get(name, "compute")])
         if kind in ("insert", "abort"):
-            return f"{kind} {self.value()}"
-        return kind
+            return f"reply {name} {kind} {self.value()}"
+        return f"reply {name} {kind}"
 
     def map_line(self):
         name = self.new("m")
@@ -132,18 +145,22 @@ class Script:
         return f"map {name} inc {self.random.choice([1, 4, 64])} {self.random.choice([0, 1, 40])}"
 
     def caller(self):
-        return self.some(self.callers + ["-"])
+        return self.some(list(self.callers))
+
+    def walker(self):
+        return self.some([name for name, kind in self.callers.items() if kind == "walk"] or list(self.callers))
 
     def begun(self):
-        """A call of its own caller, or the whole of one."""
-        if self.callers and self.random.random() < 0.5:
-            name = self.random.choice(self.callers)
+        """A call of a caller, mostly of a new one."""
+        kind = self.kind(list(CALLS))
+        if self.callers and self.random.random() < 0.3:
+            name = self.random.choice(list(self.callers))
         else:
             name = self.new("c")
-            self.callers.append(name)
-            if len(self.callers) > 6:
-                self.callers.pop(0)
-        return f"begin {name} {self.some(self.guards)} {self.some(self.maps)} {self.call()}"
+            if len(self.callers) > 2:
+                del self.callers[next(iter(self.callers))]
+        self.callers[name] = kind
+        return f"begin {name} {self.some(self.guards)} {self.some(self.maps)} {self.call(kind)}"
 
     def guard_line(self, kind):
         name = self.new("g")
@@ -165,14 +182,16 @@ class Script:
             return f"{kind} {self.some(self.guards)}"
         if kind in ("drop", "forget"):
             return f"{kind} {self.gone(self.guards)}"
-        if kind in ("step", "go", "next", "stop"):
+        if kind in ("step", "go"):
             return f"{kind} {self.caller()}"
+        if kind in ("next", "stop"):
+            return f"{kind} {self.walker()}"
         makers = {
-            "call": lambda: f"call {self.some(self.guards)} {self.some(self.maps)} {self.call()}",
+            "call": lambda: f"call {self.some(self.guards)} {self.some(self.maps)} {self.call(self.kind(WHOLE))}",
             "begin": self.begun,
             "refused step": lambda: f"step {self.caller()} nomem",
             "refused go": lambda: f"go {self.caller()} nomem",
-            "reply": lambda: f"reply {self.caller()} {self.reply()}",
+            "reply": self.reply,
             "choose": lambda: f"choose {self.random.randrange(50)}",
             "register": self.registered,
             "unregister": lambda: f"unregister {self.gone(self.registrations)}",
@@ -189,9 +208,8 @@ class Script:
             yield f"collector {self.random.choice([1, 2, 8, 32])} {self.random.choice([1, 4])} {self.random.choice([2, 8])}"
         if self.random.random() < 0.2:
             yield "hash zero"
-        yield self.registered()
-        yield self.map_line()
-        yield self.guard_line("enter")
+        for kind in ("register", "register", "map", "enter", "enter", "own"):
+            yield self.line(kind)
         for _ in range(count):
             yield self.line(self.random.choices(list(WEIGHTS), WEIGHTS.values())[0])
 
