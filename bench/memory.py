@@ -35,9 +35,9 @@ WEIGHTS = {
     "refused step": 8,
     "go": 110,
     "refused go": 4,
-    "reply": 30,
-    "next": 12,
-    "stop": 4,
+    "reply": 50,
+    "next": 30,
+    "stop": 8,
     "choose": 30,
     "enter": 40,
     "own": 10,
@@ -47,7 +47,7 @@ WEIGHTS = {
     "forget": 2,
     "register": 12,
     "unregister": 8,
-    "map": 12,
+    "map": 5,
     "end": 8,
     "shape": 6,
     "reclaim_all": 3,
@@ -62,12 +62,12 @@ CALLS = {
     "try_insert": 12,
     "remove": 30,
     "remove_if": 8,
-    "compute": 12,
+    "compute": 25,
     "reserve": 3,
     "clear": 2,
     "retain": 4,
     "len": 3,
-    "walk": 6,
+    "walk": 15,
 }
 
 # what a call that asks is mostly told
@@ -129,13 +129,13 @@ class Script:
         return kind
 
     def reply(self):
-        """A caller's reply, mostly one that its call asks for."""
+        """A caller's reply, mostly one that its call asks for, with the steps up to it and behind it."""
         asking = [name for name, kind in self.callers.items() if kind in REPLIES]
         name = self.some(asking)
         kind = self.random.choice(REPLIES[self.callers.get(name, "compute")])
         if kind in ("insert", "abort"):
-            return f"reply {name} {kind} {self.value()}"
-        return f"reply {name} {kind}"
+            kind = f"{kind} {self.value()}"
+        return f"go {name}\nreply {name} {kind}\ngo {name}"
 
     def map_line(self):
         name = self.new("m")
@@ -185,7 +185,8 @@ class Script:
         if kind in ("step", "go"):
             return f"{kind} {self.caller()}"
         if kind in ("next", "stop"):
-            return f"{kind} {self.walker()}"
+            name = self.walker()
+            return f"go {name}\n{kind} {name}"
         makers = {
             "call": lambda: f"call {self.some(self.guards)} {self.some(self.maps)} {self.call(self.kind(WHOLE))}",
             "begin": self.begun,
@@ -205,13 +206,13 @@ class Script:
     def lines(self, count):
         """So many lines: first what most of the others need."""
         if self.random.random() < 0.7:
-            yield f"collector {self.random.choice([1, 2, 8, 32])} {self.random.choice([1, 4])} {self.random.choice([2, 8])}"
+            yield f"collector {self.random.choice([1, 2, 8, 32])} {self.random.choice([1, 4])} {self.random.choice([8, 32])}"
         if self.random.random() < 0.2:
             yield "hash zero"
         for kind in ("register", "register", "map", "enter", "enter", "own"):
             yield self.line(kind)
         for _ in range(count):
-            yield self.line(self.random.choices(list(WEIGHTS), WEIGHTS.values())[0])
+            yield from self.line(self.random.choices(list(WEIGHTS), WEIGHTS.values())[0]).split("\n")
 
 
 def script_of(seed, lines):
