@@ -7,3 +7,5 @@ mod DirectoryKept
 pub mod OneOwner
 pub mod Places
 pub mod Plans
+mod Stored
+mod Pieces

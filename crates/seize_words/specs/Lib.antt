@@ -9,3 +9,5 @@ pub mod Buckets
 pub mod FreeNumbers
 pub mod Free
 pub mod Directory
+pub mod Room
+pub mod Piece

@@ -14,6 +14,7 @@ mod memory;
 mod piece;
 mod plain;
 mod refused;
+mod room;
 pub mod slots;
 mod word_array;
 mod words;
