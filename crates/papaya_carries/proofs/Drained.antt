@@ -1,48 +1,26 @@
 -- A wrong plan: what is put behind a block is handed on as the block is unlinked, and not as it is reclaimed. So what is put there a step later is lost: refused
 -- by `NothingIsLost` of `seize_acts`, and by `NothingElseWaits` here.
-use Rattle.std.specs.Prelude.{Option, Some, None, ◌==◌, if◌then◌else◌}
-use Rattle.std.proofs.Common.{◌≡◌, ℕ, zero, suc, false, List, [], ◌∷◌, refl}
+use Rattle.std.specs.Prelude.{Option, Some, None}
+use Rattle.std.proofs.Common.{◌≡◌, ℕ, false, List, [], ◌∷◌, refl}
 use Rattle.papaya_executor.specs.Given.SeizeWords.Word.{link_to}
 use Rattle.papaya_executor.specs.Given.SeizeWords.declared.at.At.TheVariants.{Root}
 use Rattle.papaya_executor.specs.Given.SeizeWords.Mem.{value_at}
 use Rattle.papaya_executor.specs.Given.SeizeWords.Op.{Store, Make}
 use Rattle.papaya_executor.specs.Given.Seize.Law.{is_retired}
-use Rattle.papaya_executor.specs.Given.Seize.World.{World, Rests, NoBlock, Handed, Register', Enter', Leave', Retire, Defer', at_start}
-use Rattle.seize_acts.specs.Acts.{Act, Begin, Step, Operate, Links, Unlinks, became, rests}
-
--- a block of value 5 has a list, at its first word; and no block has one
-abbrev lists : ℕ → Option ℕ
-lists value = if value == 5 then Some 0 else None
-
-abbrev plain : ℕ → Option ℕ
-plain value = None
-
--- the world that an act leads to, or one in which nothing has happened
-abbrev led : Option (World ℕ) → World ℕ
-led None = at_start plain 1
-led (Some w) = w
-
-module _ (defers : ℕ → Option ℕ) where
-  -- after these acts, with batches of one
-  abbrev after : List (Act ℕ) → World ℕ → World ℕ
-  after [] w = w
-  after (a ∷ acts) w = after acts (led (became defers 1 a w))
-
-  -- after so many steps of a caller's row at most
-  abbrev on : ℕ → ℕ → World ℕ → World ℕ
-  on zero i w = w
-  on (suc more) i w = if rests (w.row i) then w else on more i (led (became defers 1 (Step i None) w))
+use Rattle.papaya_executor.specs.Given.Seize.World.{World, Rests, NoBlock, Handed, Leave', Retire, Defer', at_start}
+use Rattle.seize_acts.specs.Acts.{Begin, Operate, Links, Unlinks}
+use Rattle.seize_acts.proofs.Samples.Base.{plain, lists, after, on, enters}
 
 -- Block 1 has a list, which is empty as caller 0 unlinks the block: there is nothing to hand on. Then caller 1 defers block 2 on it, and caller 0 retires block 1.
 abbrev drained : World ℕ
 drained =
-    on lists 30 0 (after lists (Begin 0 (Retire 0 1) None ∷ []) (on lists 9 1 (after lists (Begin 0 (Register' false) (Some 0) ∷ Step 0 None ∷ Step 0 None ∷ Begin 0 (Enter' 0) None
-    ∷ Operate 0 (Make 5 1) (Some 1) [] ∷ Operate 0 (Store (Root 0) (link_to 1)) None (Links 1 3 ∷ []) ∷ Operate 0 (Make 8 0) (Some 2) (Links 2 3 ∷ [])
+    on lists 1 30 0 (after lists 1 (Begin 0 (Retire 0 1) None ∷ []) (on lists 1 9 1 (after lists 1 (enters
+    ++ Operate 0 (Make 5 1) (Some 1) [] ∷ Operate 0 (Store (Root 0) (link_to 1)) None (Links 1 3 ∷ []) ∷ Operate 0 (Make 8 0) (Some 2) (Links 2 3 ∷ [])
     ∷ Operate 0 (Store (Root 0) 0) None (Unlinks 1 ∷ []) ∷ Begin 1 (Defer' 0 2 1) None ∷ []) (at_start lists 1))))
 
 -- the section of slot 0 ends, and block 1 is reclaimed by a row for which no block has a list, or by one that looks
 abbrev left_by : (ℕ → Option ℕ) → World ℕ
-left_by defers = on defers 30 0 (after defers (Begin 0 (Leave' 0) None ∷ []) drained)
+left_by defers = on defers 1 30 0 (after defers 1 (Begin 0 (Leave' 0) None ∷ []) drained)
 
 -- both callers rest, and nobody else has acted
 late_rests : ((left_by plain).row 0 ≡ Rests) × ((left_by plain).row 1 ≡ Rests)
