@@ -1,0 +1,101 @@
+-- The retirement of a pair within its disposal, and the disposal within a call on a key.
+use Rattle.std.specs.Prelude.{◌≡◌, ℕ, Bool, Option}
+use Rattle.std.proofs.Common.{refl, sym, subst}
+use Rattle.seize_words.specs.Op.{Op, Out}
+use Rattle.seize.specs.Settle.{retiring, settle_plan}
+use Rattle.seize.specs.declared.rows.settle.Settle.{Settle}
+use Rattle.seize.specs.declared.rows.settle.Settled.{Settled}
+use Rattle.seize.specs.declared.rows.settle.Settled.TheVariants as settling
+use Rattle.papaya_tables.specs.Marks.{link_in}
+use Rattle.papaya_tables.specs.Nodes.{deferred_word}
+use Rattle.papaya_tables.specs.declared.node.Node.{Node}
+use Rattle.papaya_tables.specs.declared.setting.Setting.{Setting}
+use Rattle.papaya_tables.specs.declared.table.Table.{Table}
+use Rattle.papaya_resize.specs.Dispose.{dispose_plan, disposing, settled}
+use Rattle.papaya_resize.specs.declared.dispose.Dispose.{Dispose}
+use Rattle.papaya_raw.specs.Call.{call_plan, disposed}
+use Rattle.papaya_raw.specs.declared.machines.answer.Called.{Called}
+use Rattle.papaya_raw.specs.declared.machines.answer.Called.TheVariants as called
+use Rattle.papaya_raw.specs.declared.machines.answer.KeyAnswer.{KeyAnswer}
+use Rattle.papaya_raw.specs.declared.machines.call.Calling.TheVariants as at
+use Rattle.papaya_raw.specs.declared.machines.call.KeyCall.{KeyCall}
+use Rattle.papaya_straight.specs.Disposing.{dispose_at, settling as settling_at}
+use Rattle.papaya_straight.specs.Going.{CallGoes, SettleGoes}
+use Rattle.papaya_straight.specs.Reaches.{Reaches}
+use Rattle.papaya_straight.specs.Retiring.{retired, settle_at}
+use Rattle.papaya_straight.specs.Runs.{MayRun, Leads, Tells}
+use Rattle.papaya_straight.specs.declared.disposing.Disposed.{Disposed}
+use Rattle.papaya_straight.specs.declared.disposing.Disposed.TheVariants as to
+use Rattle.papaya_straight.specs.declared.retiring.Retired.{Retired}
+use Rattle.papaya_straight.specs.declared.retiring.Retired.TheVariants as retire
+use Rattle.papaya_straight.proofs.Inside.{leads_in, may_in, tells_in}
+
+module _ {K V M : Type 0} (can : M → Op (Node K V) → Type 0) (took : M → Op (Node K V) → Out (Node K V) → M → Type 0) (shown : M → ℕ → Option (Node K V)) where
+  module _ (setting : Setting) (word : ℕ) (table : Table) where
+    abbrev put_settle : Settle → Dispose
+    put_settle = settling_at setting word table
+
+    settle_goes : (x y : Settle) (told : Settled (Node K V)) → SettleGoes told → ((settled (put_settle x) (y, told)).0 ≡ put_settle y) × SettleGoes (settled (put_settle x) (y, told)).1
+    settle_goes x y settling.Goes so = (refl, tt)
+    settle_goes x y settling.Waits so = (refl, tt)
+    settle_goes x y (settling.Gave value) so = absurd so
+    settle_goes x y settling.Done so = absurd so
+
+    abbrev begun : Settle
+    begun = retiring setting.slot setting.batch_size (link_in word)
+
+    pub may_retire : (m : M) → MayRun (SettleGoes {T = Node K V}) took shown (dispose_plan {K = K} {V = V}) can (put_settle begun) m
+        → MayRun (SettleGoes {T = Node K V}) took shown (settle_plan deferred_word) can begun m
+    may_retire m h =
+        may_in SettleGoes SettleGoes can took shown (settle_plan deferred_word) dispose_plan put_settle (λ x. settled (put_settle x)) (λ x. refl) settle_goes begun m h
+
+    retired_in : (m n : M) (end : Retired) → Reaches (SettleGoes {T = Node K V}) took shown (settle_plan deferred_word) begun m n (retired setting.slot setting.batch_size (link_in word) end)
+        → Reaches (SettleGoes {T = Node K V}) took shown (dispose_plan {K = K} {V = V}) (put_settle begun) m n (Rattle.papaya_straight.specs.Disposing.disposed setting word table (to.Retires end))
+    retired_in m n retire.Ended r =
+        tells_in SettleGoes SettleGoes can took shown (settle_plan deferred_word) dispose_plan put_settle (λ x. settled (put_settle x)) (λ x. refl) settle_goes begun m n settling.Done settling.Done
+        (λ y z. refl) (λ x. x) r
+    retired_in m n retire.Sees r =
+        leads_in SettleGoes SettleGoes can took shown (settle_plan deferred_word) dispose_plan put_settle (λ x. settled (put_settle x)) (λ x. refl) settle_goes begun _ m n r
+    retired_in m n (retire.Pops pending last first) r =
+        leads_in SettleGoes SettleGoes can took shown (settle_plan deferred_word) dispose_plan put_settle (λ x. settled (put_settle x)) (λ x. refl) settle_goes begun _ m n r
+    retired_in m n (retire.Scans pending last first) r =
+        leads_in SettleGoes SettleGoes can took shown (settle_plan deferred_word) dispose_plan put_settle (λ x. settled (put_settle x)) (λ x. refl) settle_goes begun _ m n r
+
+    -- where it begins with the retirement
+    module _ (is : disposing setting word table ≡ put_settle begun) (m : M) where
+      pub may_begin : MayRun (SettleGoes {T = Node K V}) took shown (dispose_plan {K = K} {V = V}) can (disposing setting word table) m
+          → MayRun (SettleGoes {T = Node K V}) took shown (settle_plan deferred_word) can begun m
+      may_begin h = may_retire m (subst (λ (d : Dispose). MayRun (SettleGoes {T = Node K V}) took shown (dispose_plan {K = K} {V = V}) can d m) is h)
+
+      pub has_retired : (n : M) (end : Retired) → Reaches (SettleGoes {T = Node K V}) took shown (settle_plan deferred_word) begun m n (retired setting.slot setting.batch_size (link_in word) end)
+          → Reaches (SettleGoes {T = Node K V}) took shown (dispose_plan {K = K} {V = V}) (disposing setting word table) m n (Rattle.papaya_straight.specs.Disposing.disposed setting word table (to.Retires end))
+      has_retired n end r =
+          subst (λ (d : Dispose). Reaches (SettleGoes {T = Node K V}) took shown (dispose_plan {K = K} {V = V}) d m n (Rattle.papaya_straight.specs.Disposing.disposed setting word table (to.Retires end)))
+          (sym is) (retired_in m n end r)
+
+  -- within a call
+  module _ {Q : Type 0} (asks : Q → K → Bool) (eq : K → K → Bool) (hashes : K → ℕ) (c : KeyCall K V Q) (answer : KeyAnswer) where
+    abbrev put_dispose : Dispose → KeyCall K V Q
+    put_dispose d = record c { stands = at.Disposes d answer }
+
+    dispose_goes : (x y : Dispose) (told : Settled (Node K V)) → SettleGoes told → ((disposed (put_dispose x) answer (y, told)).0 ≡ put_dispose y) × CallGoes (disposed (put_dispose x) answer (y, told)).1
+    dispose_goes x y settling.Goes so = (refl, tt)
+    dispose_goes x y settling.Waits so = (refl, tt)
+    dispose_goes x y (settling.Gave value) so = absurd so
+    dispose_goes x y settling.Done so = absurd so
+
+    pub may_dispose : (d : Dispose) (m : M) → MayRun (CallGoes {T = Node K V}) took shown (call_plan asks eq hashes) can (put_dispose d) m
+        → MayRun (SettleGoes {T = Node K V}) took shown (dispose_plan {K = K} {V = V}) can d m
+    may_dispose d m h =
+        may_in SettleGoes CallGoes can took shown dispose_plan (call_plan asks eq hashes) put_dispose (λ x. disposed (put_dispose x) answer) (λ x. refl) dispose_goes d m h
+
+    pub disposes_on : (d e : Dispose) (m n : M) → Leads (SettleGoes {T = Node K V}) took shown (dispose_plan {K = K} {V = V}) d m e n
+        → Leads (CallGoes {T = Node K V}) took shown (call_plan asks eq hashes) (put_dispose d) m (put_dispose e) n
+    disposes_on d e m n l =
+        leads_in SettleGoes CallGoes can took shown dispose_plan (call_plan asks eq hashes) put_dispose (λ x. disposed (put_dispose x) answer) (λ x. refl) dispose_goes d e m n l
+
+    pub disposes_over : (d : Dispose) (m n : M) → Tells (SettleGoes {T = Node K V}) took shown (dispose_plan {K = K} {V = V}) d m n settling.Done
+        → Tells (CallGoes {T = Node K V}) took shown (call_plan asks eq hashes) (put_dispose d) m n (called.Done answer)
+    disposes_over d m n t =
+        tells_in SettleGoes CallGoes can took shown dispose_plan (call_plan asks eq hashes) put_dispose (λ x. disposed (put_dispose x) answer) (λ x. refl) dispose_goes d m n settling.Done
+        (called.Done answer) (λ y z. refl) (λ x. x) t

@@ -1,0 +1,6 @@
+pub mod Disposing
+pub mod Going
+pub mod Reaches
+pub mod Retiring
+pub mod Runs
+pub mod Storing
