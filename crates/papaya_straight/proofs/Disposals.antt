@@ -1,6 +1,6 @@
 -- The retirement of a pair within its disposal, and the disposal within a call on a key.
-use Rattle.std.specs.Prelude.{◌≡◌, ℕ, Bool, Option}
-use Rattle.std.proofs.Common.{refl, sym, subst}
+use Rattle.std.specs.Prelude.{◌≡◌, ℕ, Bool, false, Option}
+use Rattle.std.proofs.Common.{refl, sym, subst, ap}
 use Rattle.seize_words.specs.Op.{Op, Out}
 use Rattle.seize.specs.Settle.{retiring, settle_plan}
 use Rattle.seize.specs.declared.rows.settle.Settle.{Settle}
@@ -11,7 +11,10 @@ use Rattle.papaya_tables.specs.Nodes.{deferred_word}
 use Rattle.papaya_tables.specs.declared.node.Node.{Node}
 use Rattle.papaya_tables.specs.declared.setting.Setting.{Setting}
 use Rattle.papaya_tables.specs.declared.table.Table.{Table}
-use Rattle.papaya_resize.specs.Dispose.{dispose_plan, disposing, settled}
+use Rattle.papaya_resize.specs.Dispose.{dispose_plan, disposing, settled, start_of}
+use Rattle.papaya_resize.specs.declared.dispose.Disposing.TheVariants as disposal
+use Rattle.papaya_tables.specs.declared.resize_mode.ResizeMode.{ResizeMode}
+use Rattle.papaya_tables.specs.declared.resize_mode.ResizeMode.TheVariants.{Incremental, Blocking}
 use Rattle.papaya_resize.specs.declared.dispose.Dispose.{Dispose}
 use Rattle.papaya_raw.specs.Call.{call_plan, disposed}
 use Rattle.papaya_raw.specs.declared.machines.answer.Called.{Called}
@@ -19,10 +22,10 @@ use Rattle.papaya_raw.specs.declared.machines.answer.Called.TheVariants as calle
 use Rattle.papaya_raw.specs.declared.machines.answer.KeyAnswer.{KeyAnswer}
 use Rattle.papaya_raw.specs.declared.machines.call.Calling.TheVariants as at
 use Rattle.papaya_raw.specs.declared.machines.call.KeyCall.{KeyCall}
-use Rattle.papaya_straight.specs.Disposing.{dispose_at, settling as settling_at}
+use Rattle.papaya_straight.specs.Disposing.{disposed as disposed_to, is_borrowed, settling as settling_at}
 use Rattle.papaya_straight.specs.Going.{CallGoes, SettleGoes}
 use Rattle.papaya_straight.specs.Reaches.{Reaches}
-use Rattle.papaya_straight.specs.Retiring.{retired, settle_at}
+use Rattle.papaya_straight.specs.Retiring.{retired}
 use Rattle.papaya_straight.specs.Runs.{MayRun, Leads, Tells}
 use Rattle.papaya_straight.specs.declared.disposing.Disposed.{Disposed}
 use Rattle.papaya_straight.specs.declared.disposing.Disposed.TheVariants as to
@@ -50,7 +53,7 @@ module _ {K V M : Type 0} (can : M → Op (Node K V) → Type 0) (took : M → O
         may_in SettleGoes SettleGoes can took shown (settle_plan deferred_word) dispose_plan put_settle (λ x. settled (put_settle x)) (λ x. refl) settle_goes begun m h
 
     retired_in : (m n : M) (end : Retired) → Reaches (SettleGoes {T = Node K V}) took shown (settle_plan deferred_word) begun m n (retired setting.slot setting.batch_size (link_in word) end)
-        → Reaches (SettleGoes {T = Node K V}) took shown (dispose_plan {K = K} {V = V}) (put_settle begun) m n (Rattle.papaya_straight.specs.Disposing.disposed setting word table (to.Retires end))
+        → Reaches (SettleGoes {T = Node K V}) took shown (dispose_plan {K = K} {V = V}) (put_settle begun) m n (disposed_to setting word table (to.Retires end))
     retired_in m n retire.Ended r =
         tells_in SettleGoes SettleGoes can took shown (settle_plan deferred_word) dispose_plan put_settle (λ x. settled (put_settle x)) (λ x. refl) settle_goes begun m n settling.Done settling.Done
         (λ y z. refl) (λ x. x) r
@@ -61,16 +64,23 @@ module _ {K V M : Type 0} (can : M → Op (Node K V) → Type 0) (took : M → O
     retired_in m n (retire.Scans pending last first) r =
         leads_in SettleGoes SettleGoes can took shown (settle_plan deferred_word) dispose_plan put_settle (λ x. settled (put_settle x)) (λ x. refl) settle_goes begun _ m n r
 
-    -- where it begins with the retirement
-    module _ (is : disposing setting word table ≡ put_settle begun) (m : M) where
+    starts : (mode : ResizeMode) → is_borrowed mode word ≡ false → start_of setting mode word ≡ disposal.Settles begun
+    starts (Incremental chunk) e = rw e refl
+    starts Blocking e = refl
+
+    -- where no older table may name the pair, it begins with the retirement
+    module _ (alone : is_borrowed setting.mode word ≡ false) (m : M) where
+      is : disposing setting word table ≡ put_settle begun
+      is = ap (λ s. record (disposing setting word table) { stands = s }) (starts setting.mode alone)
+
       pub may_begin : MayRun (SettleGoes {T = Node K V}) took shown (dispose_plan {K = K} {V = V}) can (disposing setting word table) m
           → MayRun (SettleGoes {T = Node K V}) took shown (settle_plan deferred_word) can begun m
       may_begin h = may_retire m (subst (λ (d : Dispose). MayRun (SettleGoes {T = Node K V}) took shown (dispose_plan {K = K} {V = V}) can d m) is h)
 
       pub has_retired : (n : M) (end : Retired) → Reaches (SettleGoes {T = Node K V}) took shown (settle_plan deferred_word) begun m n (retired setting.slot setting.batch_size (link_in word) end)
-          → Reaches (SettleGoes {T = Node K V}) took shown (dispose_plan {K = K} {V = V}) (disposing setting word table) m n (Rattle.papaya_straight.specs.Disposing.disposed setting word table (to.Retires end))
+          → Reaches (SettleGoes {T = Node K V}) took shown (dispose_plan {K = K} {V = V}) (disposing setting word table) m n (disposed_to setting word table (to.Retires end))
       has_retired n end r =
-          subst (λ (d : Dispose). Reaches (SettleGoes {T = Node K V}) took shown (dispose_plan {K = K} {V = V}) d m n (Rattle.papaya_straight.specs.Disposing.disposed setting word table (to.Retires end)))
+          subst (λ (d : Dispose). Reaches (SettleGoes {T = Node K V}) took shown (dispose_plan {K = K} {V = V}) d m n (disposed_to setting word table (to.Retires end)))
           (sym is) (retired_in m n end r)
 
   -- within a call

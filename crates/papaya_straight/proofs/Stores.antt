@@ -1,26 +1,21 @@
 -- The steps of a call that stores its own block, from the root to its end, over any memory.
-use Rattle.std.specs.Prelude.{◌≡◌, ◌≢◌, ℕ, ◌==◌, Bool, true, false, if◌then◌else◌, IsSome, Option, Some, None, Ok, Err}
+use Rattle.std.specs.Prelude.{◌≡◌, ◌≢◌, ℕ, Bool, true, false, IsSome, Option, Some, Ok, Err}
 use Rattle.std.proofs.Common.{refl, sym, subst}
 use Rattle.std.proofs.lemmas.Bool.{ne_eqb, eq-eqb}
 use Rattle.seize_words.specs.Op.{Op, Out, Load, Add, Exchange, Found, Exchanged}
 use Rattle.seize_words.specs.Plan.{Plan, Then, May, MaySee, Steps, Ends}
 use Rattle.seize_words.specs.Word.{block_in}
 use Rattle.seize_words.specs.declared.at.At.TheVariants.{Root}
-use Rattle.seize.specs.declared.rows.settle.Settled.TheVariants as settling
-use Rattle.papaya_tables.specs.Chunks.{is_incremental}
 use Rattle.papaya_tables.specs.Counts.{count_change, shard_of}
 use Rattle.papaya_tables.specs.Nodes.{table_seen}
-use Rattle.papaya_tables.specs.Trials.{first_trial, next_trial, place_tried, with_met}
-use Rattle.papaya_tables.specs.declared.finding.Finding.{Finding}
-use Rattle.papaya_tables.specs.declared.finding.Finding.TheVariants as finds
+use Rattle.papaya_tables.specs.Trials.{first_trial, place_tried}
 use Rattle.papaya_tables.specs.declared.marks.TheConstants.{TOMBSTONE}
 use Rattle.papaya_tables.specs.declared.node.Node.{Node}
-use Rattle.papaya_tables.specs.declared.resize_mode.ResizeMode.{ResizeMode}
 use Rattle.papaya_tables.specs.declared.setting.Setting.{Setting}
 use Rattle.papaya_tables.specs.declared.trial.Trial.{Trial}
 use Rattle.papaya_resize.specs.Dispose.{disposing, dispose_plan}
 use Rattle.papaya_raw.specs.Call.{call_plan, word_read}
-use Rattle.papaya_raw.specs.CallPoints.{beyond, halted, passed, having_met, told_of, untried}
+use Rattle.papaya_raw.specs.CallPoints.{untried}
 use Rattle.papaya_raw.specs.declared.machines.answer.Called.{Called}
 use Rattle.papaya_raw.specs.declared.machines.answer.Called.TheVariants as called
 use Rattle.papaya_raw.specs.declared.machines.answer.End.TheVariants as ends
@@ -34,45 +29,17 @@ use Rattle.papaya_straight.specs.Disposing.{disposed, dispose_at}
 use Rattle.papaya_straight.specs.Going.{CallGoes, SettleGoes}
 use Rattle.papaya_straight.specs.Reaches.{Reaches}
 use Rattle.papaya_straight.specs.Runs.{MayRun, Leads, none_taken, one_more, Tells}
-use Rattle.papaya_straight.specs.Storing.{HasRead, HasTried, call_at, replaced_by, stored_at, storing, try_at}
+use Rattle.papaya_straight.specs.Storing.{HasRead, call_at, replaced_by, stored_at, storing, try_at}
 use Rattle.papaya_straight.specs.declared.disposing.Disposed.{Disposed}
 use Rattle.papaya_straight.specs.declared.disposing.Disposed.TheVariants as to
 use Rattle.papaya_straight.specs.declared.retiring.Retired.TheVariants as retire
+use Rattle.papaya_straight.specs.declared.storing.Spot.{Spot}
 use Rattle.papaya_straight.specs.declared.storing.Spot.TheVariants as spot
 use Rattle.papaya_straight.specs.declared.storing.Stored.{Stored}
-use Rattle.papaya_straight.specs.declared.storing.Stored.TheVariants as stored
 use Rattle.papaya_straight.specs.declared.storing.Tried.{Tried}
 use Rattle.papaya_straight.specs.declared.storing.Tried.TheVariants as tried
 use Rattle.papaya_straight.proofs.Disposals.{disposes_on, disposes_over, may_dispose}
-use Rattle.papaya_straight.proofs.Running.{may_step, reaches_on, runs_along, runs_on}
-
--- what the word of a try comes to
-module _ {K V Q : Type 0} (setting : Setting) (hash : ℕ) (there : There) (own : ℕ) (trial : Trial) (word : ℕ) (stands : Calling) where
-  abbrev here : KeyCall K V Q
-  here = storing setting hash there own trial stands
-
-  pub halts : (loaded : Bool) → HasTried setting hash there own (told_of loaded here word finds.Copying) (tried.Stands trial spot.Probes)
-  halts true = (refl, tt)
-  halts false = (refl, tt)
-
-  beyond_by : (incremental : Bool) → HasTried {K = K} {V = V} {Q = Q} setting hash there own
-      (if incremental then (storing setting hash there own (with_met trial word) at.Nexts, called.Goes) else (storing setting hash there own (with_met trial word) at.Nexts, called.Goes))
-      (tried.Stands (with_met trial word) spot.Nexts)
-  beyond_by true = (refl, tt)
-  beyond_by false = (refl, tt)
-
-  pub goes_past : (loaded : Bool) (met : Trial) → met ≡ with_met trial word → next_trial met ≡ None
-      → HasTried setting hash there own (told_of loaded here word finds.Passed) (tried.Stands met spot.Nexts)
-  goes_past loaded met is none =
-      subst (λ (t : Trial). next_trial t ≡ None → HasTried setting hash there own (told_of loaded here word finds.Passed) (tried.Stands t spot.Nexts)) (sym is)
-      (λ e. subst (λ (o : Option Trial). HasTried setting hash there own (passed (having_met here word) o) (tried.Stands (with_met trial word) spot.Nexts)) (sym e)
-      (beyond_by (is_incremental setting.mode))) none
-
-  pub goes_next : (loaded : Bool) (met next : Trial) → met ≡ with_met trial word → next_trial met ≡ Some next
-      → HasTried setting hash there own (told_of loaded here word finds.Passed) (tried.Next next)
-  goes_next loaded met next is follows =
-      subst (λ (t : Trial). next_trial t ≡ Some next → HasTried setting hash there own (told_of loaded here word finds.Passed) (tried.Next next)) (sym is)
-      (λ e. subst (λ (o : Option Trial). HasTried setting hash there own (passed (having_met here word) o) (tried.Next next)) (sym e) (refl, tt)) follows
+use Rattle.papaya_straight.proofs.Running.{leads_on, may_step, reaches_on, runs_along}
 
 module _ {K V Q M : Type 0} (asks : Q → K → Bool) (eq : K → K → Bool) (hashes : K → ℕ)
     (can : M → Op (Node K V) → Type 0) (took : M → Op (Node K V) → Out (Node K V) → M → Type 0) (shown : M → ℕ → Option (Node K V))
@@ -94,9 +61,9 @@ module _ {K V Q M : Type 0} (asks : Q → K → Bool) (eq : K → K → Bool) (h
       → HasRead setting hash there own (shown n) rest result
       → ((end : KeyCall K V Q × Called (Node K V)) → Ends (shown n) rest end → Steps took shown m (plan c) n end)
       → Lead c m (try_at setting hash there own result) n
-  tries_to c m n rest result (end, ends, is, goes) step =
-      one_more c m c m (none_taken c m) end.1 goes (try_at setting hash there own result) n
-      (subst (λ (d : KeyCall K V Q). Steps took shown m (plan c) n (d, end.1)) is (step end ends))
+  tries_to c m n rest result (end, ends, comes) step =
+      one_more c m c m (none_taken c m) end.1 comes.1 (try_at setting hash there own result) n
+      (subst (λ (d : KeyCall K V Q). Steps took shown m (plan c) n (d, end.1)) comes.0 (step end ends))
 
   module _ (trial : Trial) (m : M) where
     -- the word of a try is read
@@ -129,6 +96,14 @@ module _ {K V Q M : Type 0} (asks : Q → K → Bool) (eq : K → K → Bool) (h
           pub was_read_again : (result : Tried) → HasRead setting hash there own (shown n) (word_read asks eq false tries was) result
               → Lead tries m (try_at setting hash there own result) n
           was_read_again result read = tries_to tries m n (word_read asks eq false tries was) result read (λ end e. (Exchanged (Err was), loses, e))
+
+          pub led_to : (result : Tried) → HasRead setting hash there own (shown n) (word_read asks eq false tries was) result → (next : Trial) → result ≡ tried.Next next
+              → Lead tries m (call_at setting hash there own next spot.Probes) n
+          led_to result read next is = subst (λ (t : Tried). Lead tries m (try_at setting hash there own t) n) is (was_read_again result read)
+
+          pub led_to_stand : (result : Tried) → HasRead setting hash there own (shown n) (word_read asks eq false tries was) result → (t : Trial) (s : Spot) → result ≡ tried.Stands t s
+              → Lead tries m (call_at setting hash there own t s) n
+          led_to_stand result read t s is = subst (λ (r : Tried). Lead tries m (try_at setting hash there own r) n) is (was_read_again result read)
 
         module _ (puts : took m (Exchange (place_tried trial) word own) (Exchanged (Ok was)) n) (buried : own ≢ TOMBSTONE) where
           -- where it was empty
@@ -180,16 +155,23 @@ module _ {K V Q M : Type 0} (asks : Q → K → Bool) (eq : K → K → Bool) (h
                 subst (λ (s : Stored). Reaches (CallGoes {T = Node K V}) took shown plan tries m k (stored_at setting hash there own s)) (sym is)
                 (reaches_on CallGoes took shown plan tries disposes m n k (stored_at setting hash there own (replaced_by trial own word end)) led (went k end r))
 
+  pub stands_at : (c : KeyCall K V Q) (m n : M) (trial : Trial) (s t : Spot) → s ≡ t → Lead c m (call_at setting hash there own trial s) n → Lead c m (call_at setting hash there own trial t) n
+  stands_at c m n trial s t is l = subst (λ (x : Spot). Lead c m (call_at setting hash there own trial x) n) is l
+
+  pub stays : (m : M) (none : Trial) → none ≡ untried → Lead (call untried at.Roots) m (call_at setting hash there own none spot.Roots) m
+  stays m none is = subst (λ (t : Trial). Lead (call untried at.Roots) m (call_at setting hash there own t spot.Roots) m) (sym is) (none_taken (call untried at.Roots) m)
+
   -- the root is read
   module _ (m : M) (h : Run (call untried at.Roots) m) where
     pub can_root : can m (Load (Root setting.root))
     can_root = (may_step CallGoes took shown plan can (call untried at.Roots) m h).0
 
     module _ (n : M) (link : ℕ) (loads : took m (Load (Root setting.root)) (Found link) n) where
-      pub has_none : link ≡ 0 → Lead (call untried at.Roots) m (call_at setting hash there own untried spot.Firsts) n
-      has_none none =
-          one_more (call untried at.Roots) m (call untried at.Roots) m (none_taken (call untried at.Roots) m) called.Goes tt (call_at setting hash there own untried spot.Firsts) n
-          (Found link, loads, rw (eq-eqb link 0 none) refl)
+      pub has_none : (none : Trial) → none ≡ untried → link ≡ 0 → Lead (call untried at.Roots) m (call_at setting hash there own none spot.Firsts) n
+      has_none none is empty =
+          subst (λ (t : Trial). Lead (call untried at.Roots) m (call_at setting hash there own t spot.Firsts) n) (sym is)
+          (one_more (call untried at.Roots) m (call untried at.Roots) m (none_taken (call untried at.Roots) m) called.Goes tt (call_at setting hash there own untried spot.Firsts) n
+          (Found link, loads, rw (eq-eqb link 0 empty) refl))
 
       module _ (some : link ≢ 0) where
         pub sees_table : IsSome (shown n (block_in link))
@@ -197,7 +179,24 @@ module _ {K V Q M : Type 0} (asks : Q → K → Bool) (eq : K → K → Bool) (h
             let see = (may_step CallGoes took shown plan can (call untried at.Roots) m h).1 (Found link) n loads in
             let s = rw (ne_eqb link 0 some) at see in s.0
 
-        pub enters : (value : Node K V) → shown n (block_in link) ≡ Some value → Lead (call untried at.Roots) m (call (first_trial (table_seen link value) hash) at.Probes) n
-        enters value is =
-            one_more (call untried at.Roots) m (call untried at.Roots) m (none_taken (call untried at.Roots) m) called.Goes tt (call (first_trial (table_seen link value) hash) at.Probes) n
-            (Found link, loads, rw (ne_eqb link 0 some) (value, is, refl))
+        -- it names a table, whose tries begin
+        module _ (value : Node K V) (is : shown n (block_in link) ≡ Some value) (first : Trial) (begins : first ≡ first_trial (table_seen link value) hash) where
+          pub enters : Lead (call untried at.Roots) m (call first at.Probes) n
+          enters =
+              subst (λ (t : Trial). Lead (call untried at.Roots) m (call t at.Probes) n) (sym begins)
+              (one_more (call untried at.Roots) m (call untried at.Roots) m (none_taken (call untried at.Roots) m) called.Goes tt (call (first_trial (table_seen link value) hash) at.Probes) n
+              (Found link, loads, rw (ne_eqb link 0 some) (value, is, refl)))
+
+          pub may_enter : Run (call first at.Probes) n
+          may_enter = runs_along CallGoes took shown plan can (call untried at.Roots) (call first at.Probes) m n enters h
+
+          module _ (k : M) (d : KeyCall K V Q) (l : Lead (call first at.Probes) n d k) where
+            pub led_on : Lead (call untried at.Roots) m d k
+            led_on = leads_on CallGoes took shown plan (call untried at.Roots) (call first at.Probes) d m n k enters l
+
+            pub may_put : Run d k
+            may_put = runs_along CallGoes took shown plan can (call untried at.Roots) d m k led_on h
+
+            pub ends_put : (j : M) (end : Stored) → Reaches (CallGoes {T = Node K V}) took shown plan d k j (stored_at setting hash there own end)
+                → Reaches (CallGoes {T = Node K V}) took shown plan (call untried at.Roots) m j (stored_at setting hash there own end)
+            ends_put j end r = reaches_on CallGoes took shown plan (call untried at.Roots) d m k j (stored_at setting hash there own end) led_on r

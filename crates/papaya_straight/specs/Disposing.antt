@@ -1,9 +1,12 @@
 -- The disposal of a pair as straight code: where it stops.
-use Rattle.std.specs.Prelude.{ℕ}
+use Rattle.std.specs.Prelude.{ℕ, Bool, false}
 use Rattle.seize.specs.declared.rows.settle.Settled.{Settled}
 use Rattle.seize.specs.declared.rows.settle.Settled.TheVariants as settled
 use Rattle.seize.specs.declared.rows.settle.Settle.{Settle}
-use Rattle.papaya_tables.specs.Marks.{link_in}
+use Rattle.papaya_tables.specs.Marks.{has_mark, link_in}
+use Rattle.papaya_tables.specs.declared.marks.TheConstants.{BORROWED}
+use Rattle.papaya_tables.specs.declared.resize_mode.ResizeMode.{ResizeMode}
+use Rattle.papaya_tables.specs.declared.resize_mode.ResizeMode.TheVariants.{Incremental, Blocking}
 use Rattle.papaya_tables.specs.declared.setting.Setting.{Setting}
 use Rattle.papaya_tables.specs.declared.table.Table.{Table}
 use Rattle.papaya_resize.specs.Dispose.{disposing}
@@ -15,6 +18,11 @@ use Rattle.papaya_straight.specs.declared.disposing.Disposed.{Disposed}
 use Rattle.papaya_straight.specs.declared.disposing.Disposed.TheVariants as to
 use Rattle.papaya_straight.specs.declared.retiring.Retired.{Retired}
 use Rattle.papaya_straight.specs.declared.retiring.Retired.TheVariants as retire
+
+-- an older table may name the pair of a word, too
+abbrev pub is_borrowed : ResizeMode → ℕ → Bool
+is_borrowed (Incremental chunk) word = has_mark word BORROWED
+is_borrowed Blocking word = false
 
 -- it retires the pair, and stands there
 abbrev pub settling : Setting → ℕ → Table → Settle → Dispose

@@ -1,7 +1,7 @@
 //! The disposal of a pair that no older table may name.
 ghost use Rattle.std.specs.Prelude.{◌≡◌};
 ghost use Rattle.papaya_resize.specs.Dispose.{dispose_plan, disposing};
-ghost use Rattle.papaya_straight.specs.Disposing.{dispose_at, disposed};
+ghost use Rattle.papaya_straight.specs.Disposing.{dispose_at, disposed, is_borrowed};
 ghost use Rattle.papaya_straight.specs.Going.{SettleGoes};
 ghost use Rattle.papaya_straight.specs.Reaches.{Reaches};
 ghost use Rattle.papaya_straight.specs.Runs.{MayRun};
@@ -21,6 +21,16 @@ pub enum Disposed {
     Retires(Retired),
 }
 
+/// Whether an older table may name the pair of a word, too.
+fn is_borrowed(mode: ResizeMode, word: u64) -> bool
+    ensures { result ≡ is_borrowed mode word }
+{
+    match mode {
+        ResizeMode::Incremental(_) => has(word, BORROWED),
+        ResizeMode::Blocking => false,
+    }
+}
+
 /// Disposes of the pair of a word that was taken out of a table: retires it, where no older table may name it.
 #[inline(always)]
 pub fn dispose<K, V, M: Memory<Node<K, V>>>(
@@ -32,13 +42,12 @@ pub fn dispose<K, V, M: Memory<Node<K, V>>>(
     requires { MayRun SettleGoes M.took M.shown dispose_plan M.can (disposing setting word table) memory.old }
     ensures { Reaches SettleGoes M.took M.shown dispose_plan (disposing setting word table) memory.old memory.new (disposed setting word table result) }
 {
-    match setting.mode {
-        ResizeMode::Incremental(_) if has(word, BORROWED) => Disposed::Begins,
-        _ => {
-            let retired = retire(memory, setting.slot, setting.batch_size, link_of(word));
-            Disposed::Retires(retired)
-        }
+    if is_borrowed(setting.mode, word) {
+        return Disposed::Begins;
     }
+    let pair = link_of(word);
+    let retired = retire(memory, setting.slot, setting.batch_size, pair);
+    Disposed::Retires(retired)
 }
 
 /// The disposal at the point where it has stopped.

@@ -103,9 +103,9 @@ fn is_of_own<K: Eq + Hash, V, Q: Equivalent<K>, M: Look<Node<K, V>>>(
         )
 }
 
-/// What comes of a try whose word says this.
+/// Judges a try by what its word says.
 #[inline(always)]
-fn tried<K, V, Q>(
+fn judge<K, V, Q>(
     setting: Setting,
     hash: u64,
     there: There,
@@ -155,7 +155,7 @@ fn read<K: Eq + Hash, V, Q: Equivalent<K>, M: Look<Node<K, V>>>(
 {
     let same = is_of_own::<K, V, Q, M>(memory, setting, hash, there, own, trial, word);
     let finding = seen(setting.mode, Aim::Stores, word, same);
-    tried::<K, V, Q>(setting, hash, there, own, trial, word, finding)
+    judge::<K, V, Q>(setting, hash, there, own, trial, word, finding)
 }
 
 /// Makes a try.
@@ -335,12 +335,19 @@ pub fn store<K: Eq + Hash, V, Q: Equivalent<K>, S: Hashes<K>, M: Memory<Node<K, 
     requires { MayRun CallGoes M.took M.shown (call_plan Q.Equivalent.equivalent K.eq (S.hash hasher.now)) M.can (storing {K = K} {V = V} {Q = Q} setting hash there own untried at.Roots) memory.old }
     ensures { Reaches CallGoes M.took M.shown (call_plan Q.Equivalent.equivalent K.eq (S.hash hasher.now)) (storing {K = K} {V = V} {Q = Q} setting hash there own untried at.Roots) memory.old memory.new (stored_at setting hash there own result) }
 {
-    if !is_plain(there) || own == 0 || own == TOMBSTONE {
-        return Stored::Stands(no_trial(), Spot::Roots);
+    let none = no_trial();
+    if !is_plain(there) {
+        return Stored::Stands(none, Spot::Roots);
+    }
+    if own == 0 {
+        return Stored::Stands(none, Spot::Roots);
+    }
+    if own == TOMBSTONE {
+        return Stored::Stands(none, Spot::Roots);
     }
     let link = memory.load(At::Root(setting.root));
     if link == 0 {
-        return Stored::Stands(no_trial(), Spot::Firsts);
+        return Stored::Stands(none, Spot::Firsts);
     }
     let table = Table::seen(link, memory.value(Link::block_of(link)));
     let first = Trial::first(table, hash);
