@@ -51,7 +51,9 @@ fn from_root<K: Eq + Hash + Drop, V: Drop, S: Hashes<K>>(
     requires { Ends (on_key_plan K.eq K.eq S.hash) (with_own setting hasher hash there own untried at.Roots) memory.old }
     ensures { StoresTo K.eq S.hash (with_own setting hasher.entry hash there own untried at.Roots) memory.old memory.new result }
 {
-    match papaya_straight::store::<K, V, K, S, Plain<Node<K, V>>>(memory, hasher, setting, hash, there, own) {
+    match papaya_straight::store::<K, V, K, S, Plain<Node<K, V>>>(
+        memory, hasher, setting, hash, there, own,
+    ) {
         Stored::Answered(answer) => (Ok(Stop::Answered(answer)), None),
         Stored::Stands(trial, spot) => {
             go_on(memory, setting, hasher, hash, there, own, trial, spot)

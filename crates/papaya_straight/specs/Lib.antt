@@ -1,6 +1,7 @@
 pub mod Disposing
 pub mod Going
 pub mod Reaches
+pub mod Removing
 pub mod Retiring
 pub mod Runs
 pub mod Storing

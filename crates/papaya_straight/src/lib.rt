@@ -3,9 +3,11 @@
 #![tactic(auto)]
 
 mod disposing;
+mod removing;
 mod retiring;
 mod storing;
 
 pub use disposing::{Disposed, dispose, dispose_of};
+pub use removing::{Removal, Removed, Sought, removal_of, remove};
 pub use retiring::{Retired, retire, settle_of};
 pub use storing::{Spot, Stored, Tried, call_of, store};

@@ -3,12 +3,13 @@ use Rattle.std.proofs.Common.{sym, subst}
 use Rattle.papaya_raw.specs.CallPoints.{untried}
 use Rattle.papaya_raw.specs.declared.machines.call.Calling.TheVariants as at
 use Rattle.papaya_straight.specs.Storing.{call_at, storing}
-use Rattle.papaya_resting.proofs.Straight.{answered, ends_there, led_on, may_run}
+use Rattle.papaya_owned.proofs.Straight.{ends_there, may_run}
+use Rattle.papaya_resting.proofs.Straight.{answered, led_on}
 use Rattle.papaya_resting.proofs.storing.from_root.Goals as goal
 
 pub store-requires : goal.store-requires
 store-requires g c =
-    may_run g.K.PartialEq.eq g.S.Hashes.hash c.args.setting c.args.hasher c.args.hash c.args.there (storing c.args.setting c.args.hash c.args.there c.args.own untried at.Roots) c.args.memory.now c.requires
+    may_run g.K.PartialEq.eq g.K.PartialEq.eq g.S.Hashes.hash c.args.hasher (storing c.args.setting c.args.hash c.args.there c.args.own untried at.Roots) c.args.memory.now c.requires
 
 pub returns-in-Answered : goal.returns-in-Answered
 returns-in-Answered g c =
@@ -17,7 +18,7 @@ returns-in-Answered g c =
 
 pub go_on-requires : goal.go_on-requires
 go_on-requires g c =
-    ends_there g.K.PartialEq.eq g.S.Hashes.hash c.args.setting c.args.hasher c.args.hash c.args.there (storing c.args.setting c.args.hash c.args.there c.args.own untried at.Roots)
+    ends_there g.K.PartialEq.eq g.K.PartialEq.eq g.S.Hashes.hash c.args.hasher (storing c.args.setting c.args.hash c.args.there c.args.own untried at.Roots)
     (call_at c.args.setting c.args.hash c.args.there c.args.own c.in-Stands.trial c.in-Stands.spot) c.args.memory.now c.store.new.memory c.in-Stands.ensures c.requires
 
 pub returns-in-Stands : goal.returns-in-Stands
