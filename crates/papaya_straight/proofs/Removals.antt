@@ -125,8 +125,8 @@ module _ {K V Q M : Type 0} (asks : Q → K → Bool) (eq : K → K → Bool) (h
 
             went : (j : M) (end : Disposed) → Reaches (SettleGoes {T = Node K V}) took shown (dispose_plan {K = K} {V = V}) (disposing setting word trial.table) k j (disposed setting word trial.table end)
                 → Reach disposes k j (removed_at setting hash asked (removed_by trial word end))
-            went j to.Begins r =
-                disposes_on can took shown asks eq hashes disposes (answers.Removed word) (disposing setting word trial.table) (dispose_at setting word trial.table to.Begins) k j r
+            went j (to.Walks root) r =
+                disposes_on can took shown asks eq hashes disposes (answers.Removed word) (disposing setting word trial.table) (dispose_at setting word trial.table (to.Walks root)) k j r
             went j (to.Retires retire.Ended) r = disposes_over can took shown asks eq hashes disposes (answers.Removed word) (disposing setting word trial.table) k j r
             went j (to.Retires retire.Sees) r =
                 disposes_on can took shown asks eq hashes disposes (answers.Removed word) (disposing setting word trial.table) (dispose_at setting word trial.table (to.Retires retire.Sees)) k j r

@@ -136,8 +136,8 @@ module _ {K V Q M : Type 0} (asks : Q → K → Bool) (eq : K → K → Bool) (h
 
             went : (k : M) (end : Disposed) → Reaches (SettleGoes {T = Node K V}) took shown (dispose_plan {K = K} {V = V}) (disposing setting word trial.table) n k (disposed setting word trial.table end)
                 → Reaches (CallGoes {T = Node K V}) took shown plan disposes n k (stored_at setting hash there own (replaced_by trial own word end))
-            went k to.Begins r =
-                disposes_on can took shown asks eq hashes disposes (answers.Replaced word own) (disposing setting word trial.table) (dispose_at setting word trial.table to.Begins) n k r
+            went k (to.Walks root) r =
+                disposes_on can took shown asks eq hashes disposes (answers.Replaced word own) (disposing setting word trial.table) (dispose_at setting word trial.table (to.Walks root)) n k r
             went k (to.Retires retire.Ended) r = disposes_over can took shown asks eq hashes disposes (answers.Replaced word own) (disposing setting word trial.table) n k r
             went k (to.Retires retire.Sees) r =
                 disposes_on can took shown asks eq hashes disposes (answers.Replaced word own) (disposing setting word trial.table) (dispose_at setting word trial.table (to.Retires retire.Sees)) n k r

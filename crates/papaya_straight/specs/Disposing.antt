@@ -30,11 +30,10 @@ settling setting word table settle = record (disposing setting word table) { sta
 
 -- the disposal at the point where it stops
 abbrev pub dispose_at : Setting → ℕ → Table → Disposed → Dispose
-dispose_at setting word table to.Begins = disposing setting word table
+dispose_at setting word table (to.Walks older) = record (disposing setting word table) { stands = at.Walks older }
 dispose_at setting word table (to.Retires retired) = settling setting word table (settle_at setting.slot setting.batch_size (link_in word) retired)
 
 -- it has told that the pair is disposed of, or stands at that point
 abbrev pub disposed : {T : Type 0} → Setting → ℕ → Table → Disposed → Reached Dispose (Settled T)
-disposed setting word table to.Begins = At (disposing setting word table)
 disposed setting word table (to.Retires retire.Ended) = Told settled.Done
-disposed setting word table (to.Retires retired) = At (dispose_at setting word table (to.Retires retired))
+disposed setting word table stop = At (dispose_at setting word table stop)

@@ -1,6 +1,8 @@
 -- Which outcomes of each machine go on.
 use Rattle.seize.specs.declared.rows.settle.Settled.{Settled}
 use Rattle.seize.specs.declared.rows.settle.Settled.TheVariants as settled
+use Rattle.papaya_resize.specs.declared.outcome.Outcome.{Outcome}
+use Rattle.papaya_resize.specs.declared.outcome.Outcome.TheVariants as outcome
 use Rattle.papaya_raw.specs.declared.machines.answer.Called.{Called}
 use Rattle.papaya_raw.specs.declared.machines.answer.Called.TheVariants as called
 
@@ -15,3 +17,9 @@ abbrev pub CallGoes : {T : Type 0} → Called T → Type 0
 CallGoes called.Goes = Unit {0}
 CallGoes called.Waits = Unit {0}
 CallGoes _ = ⊥
+
+-- and a copying
+abbrev pub CopyGoes : {T A : Type 0} → Outcome T A → Type 0
+CopyGoes outcome.Goes = Unit {0}
+CopyGoes outcome.Waits = Unit {0}
+CopyGoes _ = ⊥

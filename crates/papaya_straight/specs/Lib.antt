@@ -1,5 +1,7 @@
+pub mod Copying
 pub mod Disposing
 pub mod Going
+pub mod Leaving
 pub mod Reaches
 pub mod Removing
 pub mod Retiring

@@ -2,12 +2,16 @@
 //! at which point of that machine it has stopped, or what that has told.
 #![tactic(auto)]
 
+mod copying;
 mod disposing;
+mod leaving;
 mod removing;
 mod retiring;
 mod storing;
 
+pub use copying::{Placed, copy_places};
 pub use disposing::{Disposed, dispose, dispose_of};
+pub use leaving::{Left, leave, leave_of};
 pub use removing::{Removal, Removed, Sought, removal_of, remove};
 pub use retiring::{Retired, retire, settle_of};
 pub use storing::{Spot, Stored, Tried, call_of, store};

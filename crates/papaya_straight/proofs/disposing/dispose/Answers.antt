@@ -1,27 +1,34 @@
--- The disposal of a pair is its retirement where no older table may name it.
-use Rattle.std.proofs.Common.{sym, ◌∙◌, subst}
-use Rattle.std.specs.Prelude.{◌≡◌, ℕ}
-use Rattle.seize.specs.Settle.{retiring, settle_plan}
-use Rattle.papaya_tables.specs.Nodes.{deferred_word}
-use Rattle.papaya_tables.specs.declared.node.Node.{Node}
-use Rattle.papaya_straight.specs.Going.{SettleGoes}
-use Rattle.papaya_straight.specs.Reaches.{Reaches}
-use Rattle.papaya_straight.specs.Retiring.{retired}
-use Rattle.papaya_straight.specs.Runs.{MayRun, none_taken}
-use Rattle.papaya_straight.proofs.Disposals.{has_retired, may_begin}
+-- The pair is retired at once where no older table may name it, and else by what the root says.
+use Rattle.std.proofs.Common.{sym, ◌∙◌, ap, subst}
+use Rattle.std.specs.Prelude.{◌≡◌, IsSome, Some}
+use Rattle.papaya_tables.specs.declared.table.Table.{Table}
+use Rattle.papaya_straight.proofs.Disposals as by
 use Rattle.papaya_straight.proofs.disposing.dispose.Goals as goal
 
-pub returns-then-is_borrowed : goal.returns-then-is_borrowed
-returns-then-is_borrowed g c =
-    none_taken _ _
+pub retire_pair-requires : goal.retire_pair-requires
+retire_pair-requires g c =
+    by.may_begin g.M.Look.can g.M.Look.took g.M.Look.shown c.args.setting c.args.word c.args.table c.args.memory.now (sym c.is_borrowed.ensures ∙ c.if-not-is_borrowed.true) c.requires
 
-pub retire-retired-requires : goal.retire-retired-requires
-retire-retired-requires g c =
-    subst (λ l. MayRun (SettleGoes {T = Node g.row.K.Denot g.row.V.Denot}) g.M.Look.took g.M.Look.shown (settle_plan (deferred_word {K = g.row.K.Denot} {V = g.row.V.Denot})) g.M.Look.can (retiring c.args.setting.slot c.args.setting.batch_size l) c.args.memory.now) (sym c.link_of-pair.ensures)
-    (may_begin g.M.Look.can g.M.Look.took g.M.Look.shown c.args.setting c.args.word c.args.table (sym c.is_borrowed.ensures ∙ c.if-is_borrowed.false) c.args.memory.now c.requires)
+pub returns-then-not-is_borrowed : goal.returns-then-not-is_borrowed
+returns-then-not-is_borrowed g c =
+    by.has_retired g.M.Look.can g.M.Look.took g.M.Look.shown c.args.setting c.args.word c.args.table c.args.memory.now (sym c.is_borrowed.ensures ∙ c.if-not-is_borrowed.true) c.retire_pair.new.memory c.retire_pair.result c.retire_pair.ensures
+
+pub load-root-requires : goal.load-root-requires
+load-root-requires g c =
+    by.can_root g.M.Look.can g.M.Look.took g.M.Look.shown c.args.setting c.args.word c.args.table c.args.memory.now (sym c.is_borrowed.ensures ∙ c.if-not-is_borrowed.false) c.requires
+
+pub value-requires : goal.value-requires
+value-requires g c =
+    subst (λ b. IsSome (g.M.Look.shown c.load-root.new.self b)) (sym c.block_of.ensures) (by.sees_root g.M.Look.can g.M.Look.took g.M.Look.shown c.args.setting c.args.word c.args.table c.args.memory.now (sym c.is_borrowed.ensures ∙ c.if-not-is_borrowed.false) c.requires c.load-root.new.self c.load-root.result c.load-root.ensures)
+
+pub returns-then-turn-turn : goal.returns-then-turn-turn
+returns-then-turn-turn g c =
+    by.to_walk g.M.Look.can g.M.Look.took g.M.Look.shown c.args.setting c.args.word c.args.table c.args.memory.now (sym c.is_borrowed.ensures ∙ c.if-not-is_borrowed.false) c.requires c.load-root.new.self c.load-root.result c.load-root.ensures c.value.result.now (subst (λ b. g.M.Look.shown c.load-root.new.self b ≡ Some c.value.result.now) c.block_of.ensures c.value.ensures) c.seen.result.turn (ap (λ (t : Table). t.turn) c.seen.ensures) c.if-turn-turn.true
+
+pub retire_pair-requires-2 : goal.retire_pair-requires-2
+retire_pair-requires-2 g c =
+    by.may_end g.M.Look.can g.M.Look.took g.M.Look.shown c.args.setting c.args.word c.args.table c.args.memory.now (sym c.is_borrowed.ensures ∙ c.if-not-is_borrowed.false) c.requires c.load-root.new.self c.load-root.result c.load-root.ensures c.value.result.now (subst (λ b. g.M.Look.shown c.load-root.new.self b ≡ Some c.value.result.now) c.block_of.ensures c.value.ensures) c.seen.result.turn (ap (λ (t : Table). t.turn) c.seen.ensures) c.if-turn-turn.false
 
 pub returns : goal.returns
 returns g c =
-    has_retired g.M.Look.can g.M.Look.took g.M.Look.shown c.args.setting c.args.word c.args.table (sym c.is_borrowed.ensures ∙ c.if-is_borrowed.false) c.args.memory.now c.retire-retired.new.memory c.retire-retired.result
-    (subst (λ l. Reaches (SettleGoes {T = Node g.row.K.Denot g.row.V.Denot}) g.M.Look.took g.M.Look.shown (settle_plan (deferred_word {K = g.row.K.Denot} {V = g.row.V.Denot})) (retiring c.args.setting.slot c.args.setting.batch_size l) c.args.memory.now c.retire-retired.new.memory
-    (retired c.args.setting.slot c.args.setting.batch_size l c.retire-retired.result)) c.link_of-pair.ensures c.retire-retired.ensures)
+    by.has_ended g.M.Look.can g.M.Look.took g.M.Look.shown c.args.setting c.args.word c.args.table c.args.memory.now (sym c.is_borrowed.ensures ∙ c.if-not-is_borrowed.false) c.requires c.load-root.new.self c.load-root.result c.load-root.ensures c.value.result.now (subst (λ b. g.M.Look.shown c.load-root.new.self b ≡ Some c.value.result.now) c.block_of.ensures c.value.ensures) c.seen.result.turn (ap (λ (t : Table). t.turn) c.seen.ensures) c.if-turn-turn.false c.retire_pair-2.new.memory c.retire_pair-2.result c.retire_pair-2.ensures
