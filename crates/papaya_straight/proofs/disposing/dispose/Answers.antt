@@ -21,14 +21,14 @@ pub value-requires : goal.value-requires
 value-requires g c =
     subst (λ b. IsSome (g.M.Look.shown c.load-root.new.self b)) (sym c.block_of.ensures) (by.sees_root g.M.Look.can g.M.Look.took g.M.Look.shown c.args.setting c.args.word c.args.table c.args.memory.now (sym c.is_borrowed.ensures ∙ c.if-not-is_borrowed.false) c.requires c.load-root.new.self c.load-root.result c.load-root.ensures)
 
-pub returns-then-turn-turn : goal.returns-then-turn-turn
-returns-then-turn-turn g c =
-    by.to_walk g.M.Look.can g.M.Look.took g.M.Look.shown c.args.setting c.args.word c.args.table c.args.memory.now (sym c.is_borrowed.ensures ∙ c.if-not-is_borrowed.false) c.requires c.load-root.new.self c.load-root.result c.load-root.ensures c.value.result.now (subst (λ b. g.M.Look.shown c.load-root.new.self b ≡ Some c.value.result.now) c.block_of.ensures c.value.ensures) c.seen.result.turn (ap (λ (t : Table). t.turn) c.seen.ensures) c.if-turn-turn.true
+pub returns-then-turn-table : goal.returns-then-turn-table
+returns-then-turn-table g c =
+    by.to_walk g.M.Look.can g.M.Look.took g.M.Look.shown c.args.setting c.args.word c.args.table c.args.memory.now (sym c.is_borrowed.ensures ∙ c.if-not-is_borrowed.false) c.requires c.load-root.new.self c.load-root.result c.load-root.ensures c.value.result.now (subst (λ b. g.M.Look.shown c.load-root.new.self b ≡ Some c.value.result.now) c.block_of.ensures c.value.ensures) c.seen-turn.result.turn (ap (λ (t : Table). t.turn) c.seen-turn.ensures) c.if-turn-table.true
 
 pub retire_pair-requires-2 : goal.retire_pair-requires-2
 retire_pair-requires-2 g c =
-    by.may_end g.M.Look.can g.M.Look.took g.M.Look.shown c.args.setting c.args.word c.args.table c.args.memory.now (sym c.is_borrowed.ensures ∙ c.if-not-is_borrowed.false) c.requires c.load-root.new.self c.load-root.result c.load-root.ensures c.value.result.now (subst (λ b. g.M.Look.shown c.load-root.new.self b ≡ Some c.value.result.now) c.block_of.ensures c.value.ensures) c.seen.result.turn (ap (λ (t : Table). t.turn) c.seen.ensures) c.if-turn-turn.false
+    by.may_end g.M.Look.can g.M.Look.took g.M.Look.shown c.args.setting c.args.word c.args.table c.args.memory.now (sym c.is_borrowed.ensures ∙ c.if-not-is_borrowed.false) c.requires c.load-root.new.self c.load-root.result c.load-root.ensures c.value.result.now (subst (λ b. g.M.Look.shown c.load-root.new.self b ≡ Some c.value.result.now) c.block_of.ensures c.value.ensures) c.seen-turn.result.turn (ap (λ (t : Table). t.turn) c.seen-turn.ensures) c.if-turn-table.false
 
 pub returns : goal.returns
 returns g c =
-    by.has_ended g.M.Look.can g.M.Look.took g.M.Look.shown c.args.setting c.args.word c.args.table c.args.memory.now (sym c.is_borrowed.ensures ∙ c.if-not-is_borrowed.false) c.requires c.load-root.new.self c.load-root.result c.load-root.ensures c.value.result.now (subst (λ b. g.M.Look.shown c.load-root.new.self b ≡ Some c.value.result.now) c.block_of.ensures c.value.ensures) c.seen.result.turn (ap (λ (t : Table). t.turn) c.seen.ensures) c.if-turn-turn.false c.retire_pair-2.new.memory c.retire_pair-2.result c.retire_pair-2.ensures
+    by.has_ended g.M.Look.can g.M.Look.took g.M.Look.shown c.args.setting c.args.word c.args.table c.args.memory.now (sym c.is_borrowed.ensures ∙ c.if-not-is_borrowed.false) c.requires c.load-root.new.self c.load-root.result c.load-root.ensures c.value.result.now (subst (λ b. g.M.Look.shown c.load-root.new.self b ≡ Some c.value.result.now) c.block_of.ensures c.value.ensures) c.seen-turn.result.turn (ap (λ (t : Table). t.turn) c.seen-turn.ensures) c.if-turn-table.false c.retire_pair-2.new.memory c.retire_pair-2.result c.retire_pair-2.ensures
