@@ -4,14 +4,14 @@ ghost use Rattle.papaya_tables.specs.Chunks.{is_incremental};
 ghost use Rattle.papaya_tables.specs.declared.marks.TheConstants.{BORROWED as LENT};
 ghost use Rattle.papaya_tables.specs.Marks.{unmarked_in};
 ghost use Rattle.papaya_resize.specs.Copier.{copier_plan};
-ghost use Rattle.papaya_resize.specs.CopierMarks.{key_hash, probing};
+ghost use Rattle.papaya_resize.specs.CopierMarks.{probing};
 ghost use Rattle.papaya_resize.specs.CopierStates.{standing};
 ghost use Rattle.papaya_resize.specs.declared.copier.Copying.TheVariants as at;
 ghost use Rattle.papaya_straight.specs.Copying.{IsMidst, missed, placing};
 ghost use Rattle.papaya_straight.specs.Going.{CopyGoes};
 ghost use Rattle.papaya_straight.specs.Runs.{Leads, MayRun};
 
-use papaya_resize::{Copier, Copying};
+use papaya_resize::{Copier, Copying, key_hash};
 use papaya_tables::marks::{BORROWED, COPIED, COPYING, has, unmarked};
 use papaya_tables::{Hashes, Node, Probe, Table};
 use seize_words::{Link, Memory};
@@ -39,17 +39,6 @@ fn is_midst(copier: &Copier) -> bool
                 && copier.place < copier.end.saturating_sub(1)
         }
         _ => false,
-    }
-}
-
-/// The hash of the key of a pair, and 0 of a value of another kind.
-#[inline(always)]
-fn hash_in<K, V, S: Hashes<K>>(value: &Node<K, V>, hasher: &S) -> u64
-    ensures { result ≡ key_hash (S.hash hasher.now) value.now }
-{
-    match value {
-        Node::Pair(key, _) => hasher.hash_of(key),
-        Node::Table { .. } | Node::Shards => 0,
     }
 }
 
@@ -149,7 +138,7 @@ fn copy_place<K: Drop, V: Drop, S: Hashes<K>, M: Memory<Node<K, V>>>(
         copier.done = copier.done.wrapping_add(1);
         return true;
     }
-    let hash = hash_in(memory.value(Link::block_of(word)), hasher);
+    let hash = key_hash(memory.value(Link::block_of(word)), hasher);
     let pair = word - word % 2;
     let table = copier.target;
     match put_pair::<K, V, S, M>(memory, hasher, copier, pair, hash, table) {

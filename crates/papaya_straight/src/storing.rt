@@ -2,7 +2,7 @@
 ghost use Rattle.std.specs.Prelude.{◌≡◌, ◌≢◌, Bool, true};
 ghost use Rattle.seize_words.specs.Plan.{MaySee, Ends};
 ghost use Rattle.papaya_tables.specs.declared.marks.TheConstants.{TOMBSTONE as BURIED};
-ghost use Rattle.papaya_raw.specs.Call.{call_plan, have_one_key, word_read};
+ghost use Rattle.papaya_raw.specs.Call.{call_plan, word_read};
 ghost use Rattle.papaya_raw.specs.CallPoints.{told, told_of, untried};
 ghost use Rattle.papaya_raw.specs.declared.machines.call.Calling.{Calling as Point};
 ghost use Rattle.papaya_raw.specs.declared.machines.call.Calling.TheVariants as at;
@@ -14,9 +14,9 @@ ghost use Rattle.papaya_straight.specs.Storing.{HasRead, HasTried, call_at, call
 use crate::disposing::{Disposed, dispose, dispose_of};
 use crate::retiring::Retired;
 use papaya_raw::machines::{
-    Calling, End, KeyAnswer, KeyCall, Missing, Replies, Takes, There, Told,
+    Calling, End, KeyAnswer, KeyCall, Missing, Replies, Takes, There, Told, is_same_key,
 };
-use papaya_resize::{NewTable, asks_for, count};
+use papaya_resize::{NewTable, count};
 use papaya_tables::lengths::FIRST_LEN;
 use papaya_tables::marks::TOMBSTONE;
 use papaya_tables::{
@@ -69,16 +69,6 @@ fn is_plain(there: There) -> bool
     match there {
         There::Puts | There::Answers => true,
         There::Removes | There::Asks => false,
-    }
-}
-
-/// Whether two nodes are pairs of one key.
-fn is_same_key<K: Eq + Hash, V>(node: &Node<K, V>, other: &Node<K, V>) -> bool
-    ensures { result ≡ have_one_key K.eq node.now other.now }
-{
-    match node {
-        Node::Pair(key, _) => asks_for(key, other),
-        Node::Table { .. } | Node::Shards => false,
     }
 }
 

@@ -36,20 +36,20 @@ put_pair-requires-clause-mode g c =
 
 pub put_pair-requires-clause-may : goal.put_pair-requires-clause-may
 put_pair-requires-clause-may g c =
-    by.may_place (g.S.Hashes.hash c.args.hasher.now) g.M.Look.can g.M.Look.took g.M.Look.shown c.args.copier.now (c.is_midst.ensures c.if-not-is_midst.false) c.args.memory.now c.requires c.or-word.new.self c.or-word.result (subst (λ (a : At). g.M.Look.took c.args.memory.now (Or a COPYING) (Found c.or-word.result) c.or-word.new.self) c.at-place.ensures c.or-word.ensures) (sym c.has.ensures ∙ c.if-has.false) (λ e. c.if-block_of-eq0.false (c.block_of.ensures ∙ e)) c.value.result.now (subst (λ b. g.M.Look.shown c.or-word.new.self b ≡ Some c.value.result.now) c.block_of-2.ensures c.value.ensures) c.hash_in-hash.result c.hash_in-hash.ensures
+    by.may_place (g.S.Hashes.hash c.args.hasher.now) g.M.Look.can g.M.Look.took g.M.Look.shown c.args.copier.now (c.is_midst.ensures c.if-not-is_midst.false) c.args.memory.now c.requires c.or-word.new.self c.or-word.result (subst (λ (a : At). g.M.Look.took c.args.memory.now (Or a COPYING) (Found c.or-word.result) c.or-word.new.self) c.at-place.ensures c.or-word.ensures) (sym c.has.ensures ∙ c.if-has.false) (λ e. c.if-block_of-eq0.false (c.block_of.ensures ∙ e)) c.value.result.now (subst (λ b. g.M.Look.shown c.or-word.new.self b ≡ Some c.value.result.now) c.block_of-2.ensures c.value.ensures) c.key_hash-hash.result c.key_hash-hash.ensures
 
 pub store-requires : goal.store-requires
 store-requires g c =
-    subst (λ (a : At). g.M.Look.can c.put_pair.new.memory (Store a (bit_or (bit_or (without_copying c.or-word.result) COPYING) COPIED))) (sym c.at-place.ensures) (by.can_cover (g.S.Hashes.hash c.args.hasher.now) g.M.Look.can g.M.Look.took g.M.Look.shown c.args.copier.now (c.is_midst.ensures c.if-not-is_midst.false) c.args.memory.now c.requires c.or-word.new.self c.or-word.result (subst (λ (a : At). g.M.Look.took c.args.memory.now (Or a COPYING) (Found c.or-word.result) c.or-word.new.self) c.at-place.ensures c.or-word.ensures) (sym c.has.ensures ∙ c.if-has.false) (λ e. c.if-block_of-eq0.false (c.block_of.ensures ∙ e)) c.value.result.now (subst (λ b. g.M.Look.shown c.or-word.new.self b ≡ Some c.value.result.now) c.block_of-2.ensures c.value.ensures) c.hash_in-hash.result c.hash_in-hash.ensures c.put_pair.new.memory placed.Put c.in-Put.ensures refl)
+    subst (λ (a : At). g.M.Look.can c.put_pair.new.memory (Store a (bit_or (bit_or (without_copying c.or-word.result) COPYING) COPIED))) (sym c.at-place.ensures) (by.can_cover (g.S.Hashes.hash c.args.hasher.now) g.M.Look.can g.M.Look.took g.M.Look.shown c.args.copier.now (c.is_midst.ensures c.if-not-is_midst.false) c.args.memory.now c.requires c.or-word.new.self c.or-word.result (subst (λ (a : At). g.M.Look.took c.args.memory.now (Or a COPYING) (Found c.or-word.result) c.or-word.new.self) c.at-place.ensures c.or-word.ensures) (sym c.has.ensures ∙ c.if-has.false) (λ e. c.if-block_of-eq0.false (c.block_of.ensures ∙ e)) c.value.result.now (subst (λ b. g.M.Look.shown c.or-word.new.self b ≡ Some c.value.result.now) c.block_of-2.ensures c.value.ensures) c.key_hash-hash.result c.key_hash-hash.ensures c.put_pair.new.memory placed.Put c.in-Put.ensures refl)
 
 pub returns-in-Put : goal.returns-in-Put
 returns-in-Put g c =
-    by.was_covered (g.S.Hashes.hash c.args.hasher.now) g.M.Look.can g.M.Look.took g.M.Look.shown c.args.copier.now (c.is_midst.ensures c.if-not-is_midst.false) c.args.memory.now c.requires c.or-word.new.self c.or-word.result (subst (λ (a : At). g.M.Look.took c.args.memory.now (Or a COPYING) (Found c.or-word.result) c.or-word.new.self) c.at-place.ensures c.or-word.ensures) (sym c.has.ensures ∙ c.if-has.false) (λ e. c.if-block_of-eq0.false (c.block_of.ensures ∙ e)) c.value.result.now (subst (λ b. g.M.Look.shown c.or-word.new.self b ≡ Some c.value.result.now) c.block_of-2.ensures c.value.ensures) c.hash_in-hash.result c.hash_in-hash.ensures c.put_pair.new.memory placed.Put c.in-Put.ensures refl c.store.new.self (subst (λ (a : At). g.M.Look.took c.put_pair.new.memory (Store a (bit_or (bit_or (without_copying c.or-word.result) COPYING) COPIED)) Stored c.store.new.self) c.at-place.ensures c.store.ensures)
+    by.was_covered (g.S.Hashes.hash c.args.hasher.now) g.M.Look.can g.M.Look.took g.M.Look.shown c.args.copier.now (c.is_midst.ensures c.if-not-is_midst.false) c.args.memory.now c.requires c.or-word.new.self c.or-word.result (subst (λ (a : At). g.M.Look.took c.args.memory.now (Or a COPYING) (Found c.or-word.result) c.or-word.new.self) c.at-place.ensures c.or-word.ensures) (sym c.has.ensures ∙ c.if-has.false) (λ e. c.if-block_of-eq0.false (c.block_of.ensures ∙ e)) c.value.result.now (subst (λ b. g.M.Look.shown c.or-word.new.self b ≡ Some c.value.result.now) c.block_of-2.ensures c.value.ensures) c.key_hash-hash.result c.key_hash-hash.ensures c.put_pair.new.memory placed.Put c.in-Put.ensures refl c.store.new.self (subst (λ (a : At). g.M.Look.took c.put_pair.new.memory (Store a (bit_or (bit_or (without_copying c.or-word.result) COPYING) COPIED)) Stored c.store.new.self) c.at-place.ensures c.store.ensures)
 
 pub returns-in-Past : goal.returns-in-Past
 returns-in-Past g c =
-    by.came (g.S.Hashes.hash c.args.hasher.now) g.M.Look.can g.M.Look.took g.M.Look.shown c.args.copier.now (c.is_midst.ensures c.if-not-is_midst.false) c.args.memory.now c.requires c.or-word.new.self c.or-word.result (subst (λ (a : At). g.M.Look.took c.args.memory.now (Or a COPYING) (Found c.or-word.result) c.or-word.new.self) c.at-place.ensures c.or-word.ensures) (sym c.has.ensures ∙ c.if-has.false) (λ e. c.if-block_of-eq0.false (c.block_of.ensures ∙ e)) c.value.result.now (subst (λ b. g.M.Look.shown c.or-word.new.self b ≡ Some c.value.result.now) c.block_of-2.ensures c.value.ensures) c.hash_in-hash.result c.hash_in-hash.ensures c.put_pair.new.memory placed.Past c.in-Past.ensures
+    by.came (g.S.Hashes.hash c.args.hasher.now) g.M.Look.can g.M.Look.took g.M.Look.shown c.args.copier.now (c.is_midst.ensures c.if-not-is_midst.false) c.args.memory.now c.requires c.or-word.new.self c.or-word.result (subst (λ (a : At). g.M.Look.took c.args.memory.now (Or a COPYING) (Found c.or-word.result) c.or-word.new.self) c.at-place.ensures c.or-word.ensures) (sym c.has.ensures ∙ c.if-has.false) (λ e. c.if-block_of-eq0.false (c.block_of.ensures ∙ e)) c.value.result.now (subst (λ b. g.M.Look.shown c.or-word.new.self b ≡ Some c.value.result.now) c.block_of-2.ensures c.value.ensures) c.key_hash-hash.result c.key_hash-hash.ensures c.put_pair.new.memory placed.Past c.in-Past.ensures
 
 pub returns-in-Next : goal.returns-in-Next
 returns-in-Next g c =
-    by.came (g.S.Hashes.hash c.args.hasher.now) g.M.Look.can g.M.Look.took g.M.Look.shown c.args.copier.now (c.is_midst.ensures c.if-not-is_midst.false) c.args.memory.now c.requires c.or-word.new.self c.or-word.result (subst (λ (a : At). g.M.Look.took c.args.memory.now (Or a COPYING) (Found c.or-word.result) c.or-word.new.self) c.at-place.ensures c.or-word.ensures) (sym c.has.ensures ∙ c.if-has.false) (λ e. c.if-block_of-eq0.false (c.block_of.ensures ∙ e)) c.value.result.now (subst (λ b. g.M.Look.shown c.or-word.new.self b ≡ Some c.value.result.now) c.block_of-2.ensures c.value.ensures) c.hash_in-hash.result c.hash_in-hash.ensures c.put_pair.new.memory (placed.Next c.in-Next.probe) c.in-Next.ensures
+    by.came (g.S.Hashes.hash c.args.hasher.now) g.M.Look.can g.M.Look.took g.M.Look.shown c.args.copier.now (c.is_midst.ensures c.if-not-is_midst.false) c.args.memory.now c.requires c.or-word.new.self c.or-word.result (subst (λ (a : At). g.M.Look.took c.args.memory.now (Or a COPYING) (Found c.or-word.result) c.or-word.new.self) c.at-place.ensures c.or-word.ensures) (sym c.has.ensures ∙ c.if-has.false) (λ e. c.if-block_of-eq0.false (c.block_of.ensures ∙ e)) c.value.result.now (subst (λ b. g.M.Look.shown c.or-word.new.self b ≡ Some c.value.result.now) c.block_of-2.ensures c.value.ensures) c.key_hash-hash.result c.key_hash-hash.ensures c.put_pair.new.memory (placed.Next c.in-Next.probe) c.in-Next.ensures
