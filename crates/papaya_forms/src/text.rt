@@ -13,6 +13,7 @@ ghost use Rattle.std.proofs.lemmas.Slice.Eq.{bytes_eq-Decides};
 
 use crate::fault::JsonFault;
 use crate::json_form::JsonForm;
+use crate::json_key::JsonKey;
 use papaya_tables::Equivalent;
 use serde_json::Value;
 use std::alloc::{AllocError, Global};
@@ -158,27 +159,15 @@ impl fmt::Debug for Text {
 impl JsonForm for Text {
     ghost in_range = { λ _. ⊤ };
 
-    ghost key_text = { λ text. text };
-
     ghost json_value = { string };
 
     ghost takes_memory = { true };
-
-    ghost key_text_tells = { λ x y _ _. bytes_eq-Decides x y };
 
     ghost json_value_tells = { λ x y _ _. text_values_tell x y };
 
     ghost has_no_float = { λ _. refl };
 
     ghost is_read_back = { λ _. omega arith };
-
-    fn to_key_text(&self, alloc: Global) -> Result<String, AllocError> {
-        String::from_str(alloc, self.as_str())
-    }
-
-    fn from_key_text(alloc: Global, text: &str) -> Result<Self, JsonFault> {
-        Ok(Text::new(alloc, text)?)
-    }
 
     fn to_value(&self, alloc: Global) -> Result<Value, AllocError> {
         Value::try_from_str(alloc, self.as_str())
@@ -189,5 +178,19 @@ impl JsonForm for Text {
             Some(text) => Ok(Text::new(alloc, text)?),
             None => Err(JsonFault::BadElement),
         }
+    }
+}
+
+impl JsonKey for Text {
+    ghost key_text = { λ text. text };
+
+    ghost key_text_tells = { λ x y _ _. bytes_eq-Decides x y };
+
+    fn to_key_text(&self, alloc: Global) -> Result<String, AllocError> {
+        String::from_str(alloc, self.as_str())
+    }
+
+    fn from_key_text(alloc: Global, text: &str) -> Result<Self, JsonFault> {
+        Ok(Text::new(alloc, text)?)
     }
 }

@@ -2,7 +2,7 @@
 use Rattle.std.proofs.Common.{pos, negsuc, w32}
 use Rattle.std.specs.Fmt.{signed_decimal}
 use Rattle.papaya_forms.proofs.Narrow.{fits_so, reads_so, fits_32, low_32, high_32}
-use Rattle.papaya_forms.proofs.signed.I32JsonForm.from_key_text.Goals as goal
+use Rattle.papaya_forms.proofs.signed.I32JsonKey.from_key_text.Goals as goal
 
 pub overflow_cast-result : goal.overflow_cast-result
 overflow_cast-result c =

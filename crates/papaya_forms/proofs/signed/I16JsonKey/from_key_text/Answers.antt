@@ -2,7 +2,7 @@
 use Rattle.std.proofs.Common.{pos, negsuc, w16}
 use Rattle.std.specs.Fmt.{signed_decimal}
 use Rattle.papaya_forms.proofs.Narrow.{fits_so, reads_so, fits_16, low_16, high_16}
-use Rattle.papaya_forms.proofs.signed.I16JsonForm.from_key_text.Goals as goal
+use Rattle.papaya_forms.proofs.signed.I16JsonKey.from_key_text.Goals as goal
 
 pub overflow_cast-result : goal.overflow_cast-result
 overflow_cast-result c =
