@@ -204,11 +204,11 @@ module _ {K V : Type 0} (same : K → K → Bool) (hash : K → ℕ) (setting : 
       shows_kept (Ok x) d = let k = keeps_same g f xs zs d.0 order d.1 in (k.0, k.1, shown_as same hash setting m d.0 d.2 tables k.0 k.2)
       shows_kept (Err e) none = tt
 
-      pub shows_passing : {T E : Type 0} (test : K → V → Bool) → AnswersByTest g test → (r : Result T E) → OnOk r ((kept : List (K × V)) × KeepsOf g f xs kept × Holds same hash setting m kept)
+      pub shows_passing : {T E : Type 0} (test : K → V → Bool) → AnswersByTest g test f → (r : Result T E) → OnOk r ((kept : List (K × V)) × KeepsOf g f xs kept × Holds same hash setting m kept)
           → OnOk r (IsPermutation (pairs_shown m setting tables) (filter (λ x. test x.0 x.1) zs))
       shows_passing test so (Ok x) d =
           shown_as same hash setting m d.0 d.2 tables (filter (λ x. test x.0 x.1) zs)
-          (subst (λ kept. IsPermutation kept (filter (λ x. test x.0 x.1) zs)) (sym (keeps_by_test g test so f xs d.0 d.1)) (kept_in_any_order (λ x. test x.0 x.1) xs zs order))
+          (subst (λ kept. IsPermutation kept (filter (λ x. test x.0 x.1) zs)) (sym (keeps_by_test g test f so xs d.0 d.1)) (kept_in_any_order (λ x. test x.0 x.1) xs zs order))
       shows_passing test so (Err e) none = tt
 
 -- what was told of a call is so of the pairs in another order

@@ -1,6 +1,6 @@
 -- The words of the crates below in which the calls of a map speak, given on to who speaks of maps.
 pub use Rattle.seize_words.specs.declared.refused.RefusedKey.{RefusedKey}
-pub use Rattle.papaya_resting.specs.Given.{Balanced, HoldsOn, IsLife, found_by, left_by, AreTooMany, IsUnmade, AskedAlong, KeepsOf}
+pub use Rattle.papaya_resting.specs.Given.{Balanced, HoldsOn, IsLife, found_by, left_by, AreTooMany, IsUnmade, AnswersByTest, AskedAlong, KeepsOf}
 pub use Rattle.papaya_sifts.specs.Given.Late.Faults.{IsRoom}
 pub use Rattle.papaya_sifts.specs.Given.Reserves.Reserve.{needed}
 pub use Rattle.papaya_sifts.specs.Given.Owned.Rooms.{NeedTooMany, tables_for}

@@ -34,7 +34,7 @@ impl<K: Eq + Hash + Drop, V: Drop, S: BuildHasher> HashMap<K, V, S> {
     pub fn retain<F: FnMut(&K, &V) -> bool>(&mut self, keep: F) -> Result<(), Fault>
         requires callable { F.IsAlwaysCallable keep }
         ensures done { OnOk result ((kept : List (K × V)) × KeepsOf F.FnMut keep self.old.pairs kept × IsPermutation self.new.pairs kept) }
-        ensures by_test { (test : K → V → Bool) → AnswersByTest F.FnMut test → OnOk result (IsPermutation self.new.pairs (filter (λ x. test x.0 x.1) self.old.pairs)) }
+        ensures by_test { (test : K → V → Bool) → AnswersByTest F.FnMut test keep → OnOk result (IsPermutation self.new.pairs (filter (λ x. test x.0 x.1) self.old.pairs)) }
         ensures refused { OnErr result (IsPermutation self.new.pairs self.old.pairs) }
         ensures last { LastTook self.new None None }
         ensures fault { IfErr result IsRoom }
