@@ -52,7 +52,7 @@ use Rattle.papaya_owned.specs.Machines.{for_room_plan, for_room_settled}
 use Rattle.papaya_owned.specs.Owned.{Holds}
 use Rattle.papaya_owned.specs.Rooms.{NeedTooMany}
 use Rattle.papaya_owned.specs.declared.machines.ForRoom.{ForRoom}
-use Rattle.papaya_owned.proofs.Owned.Rooms.{Course, CourseTo, Next, Under, begun, course_step, on_under, said_still, slot_of, under_back, under_step}
+use Rattle.papaya_owned.proofs.Owned.Rooms.{Course, CourseTo, Under, begun, course_step, said_still, slot_of, under_back}
 
 -- the length that they need, by whether that is one of a table
 abbrev len_by : ℕ → ℕ → Bool → Result ℕ Fault
