@@ -6,7 +6,7 @@ use Rattle.serde_json.specs.Find.{as_object}
 use Rattle.papaya_forms.specs.Forms.{IsNone}
 use Rattle.papaya_forms.specs.declared.fault.JsonFault.{JsonFault}
 use Rattle.papaya_forms.specs.declared.fault.JsonFault.TheVariants.{NotAnObject, BadKey, BadElement, Refused}
-use Rattle.papaya_sifts.specs.Given.Late.Faults.{IsRoom}
+use Rattle.papaya_seq_map.specs.Given.{IsRoom}
 use Rattle.papaya_seq_map.specs.Maps.{Map}
 
 -- memory, or the length of a table, was refused

@@ -2,3 +2,5 @@ pub mod Sets
 pub mod Stored
 pub mod Pairs
 pub mod Each
+pub mod Made
+pub mod Json

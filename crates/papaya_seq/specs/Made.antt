@@ -4,8 +4,7 @@ use Rattle.std.specs.Iterator.{Drains}
 use Rattle.std.specs.List.{AllZip}
 use Rattle.std.specs.List.Sorted.{IsPermutation}
 use Rattle.seize_words.specs.declared.refused.Refused.{Refused}
-use Rattle.papaya_resting.specs.Given.{Balanced, found_by}
-use Rattle.papaya_pairs.specs.Puts.{Gave, IsCloneOf, last_put, last_taken, put, put_all}
+use Rattle.papaya_seq_map.specs.Given.{Balanced, Gave, IsCloneOf, found_by, last_put, last_taken, put, put_all}
 use Rattle.papaya_seq_map.specs.Maps.{Keeps, LastTook, Map}
 
 module _ {K V S : Type 0} (same : K → K → Bool) where

@@ -4,15 +4,12 @@
 mod answers;
 mod asking;
 mod changes;
-mod clones;
 mod computing;
 mod counting;
 mod equal;
-mod extending;
 mod formatting;
 mod getting;
 mod insertions;
-mod json;
 mod last;
 mod lookups;
 mod making;

@@ -8,12 +8,9 @@ use Rattle.std.specs.Option.{option_eq}
 use Rattle.std.proofs.Common.{◌≡◌, Bool, false, List, [], ◌∷◌, Option, Some, None, refl, ap, sym, subst, ◌∙◌}
 use Rattle.std.proofs.lemmas.List.Sorted.{IsPermutation-sym, length_permutation}
 use Rattle.std.proofs.lemmas.Map.Keys.{IsDistinct-cons, IsDistinct-head, IsDistinct-tail}
-use Rattle.papaya_resting.specs.Given.{found_by}
-use Rattle.papaya_pairs.specs.Equals.{agree, agree_at, agree_from_each}
-use Rattle.papaya_pairs.specs.Puts.{IsCloneOf, put_all}
-use Rattle.papaya_pairs.proofs.Laws.{apart_in_any_order, found_in_any_order}
-use Rattle.papaya_pairs.proofs.Puts.{apart_are_put}
-use Rattle.papaya_seq_map.specs.Stored.{ClonesAreEqual}
+use Rattle.papaya_seq_map.specs.Given.{IsCloneOf, agree, agree_at, agree_from_each, found_by, put_all}
+use Rattle.papaya_seq_map.proofs.Given.{apart_are_put, apart_in_any_order, found_in_any_order}
+use Rattle.papaya_seq.specs.Made.{ClonesAreEqual}
 
 module _ {K V : Type 0} (same : K → K → Bool) (classes : IsEquivalence same) (equal : V → V → Bool) (key_clone : K → K → Type 0) (value_clone : V → V → Type 0)
     (keys_so : ClonesAreEqual same key_clone) (values_so : ClonesAreEqual equal value_clone) where

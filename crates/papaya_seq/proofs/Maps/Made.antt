@@ -3,12 +3,10 @@ use Rattle.std.specs.List.Sorted.{IsPermutation}
 use Rattle.std.proofs.Common.{◌≡◌, Bool, List, [], ◌∷◌, ◌++◌, Option, None, refl, sym, subst, ◌∙◌}
 use Rattle.std.proofs.lemmas.List.Elements.{AllZip-push}
 use Rattle.std.proofs.lemmas.List.Sorted.{IsPermutation-refl}
-use Rattle.papaya_resting.specs.Given.{Balanced}
-use Rattle.papaya_resting.proofs.Given.{balanced_first, balanced_more, kept_balances}
-use Rattle.papaya_pairs.specs.Puts.{IsCloneOf, last_put, last_taken, put_all}
-use Rattle.papaya_pairs.proofs.Puts.{put_is_last, puts_more, taken_last}
+use Rattle.papaya_seq_map.specs.Given.{Balanced, IsCloneOf, last_put, last_taken, put_all}
+use Rattle.papaya_seq_map.proofs.Given.{balanced_first, balanced_more, kept_balances, put_is_last, puts_more, taken_last}
 use Rattle.papaya_seq_map.specs.Maps.{LastTook, Map}
-use Rattle.papaya_seq_map.specs.Stored.{HasPut, IsMadeOf, IsMadeOfClones}
+use Rattle.papaya_seq.specs.Made.{HasPut, IsMadeOf, IsMadeOfClones}
 
 module _ {K V S : Type 0} (same : K → K → Bool) where
   -- Since a map had these pairs, held these, and these two could be looked at, such pairs were stored in it.

@@ -18,13 +18,11 @@ use Rattle.papaya_forms.specs.Objects.{AreApart, IsObjectOf, members_with}
 use Rattle.papaya_forms.specs.declared.fault.JsonFault.{JsonFault}
 use Rattle.papaya_forms.proofs.Members.{objects_have_their_pairs, objects_have_no_order}
 use Rattle.papaya_shown.specs.Lent.{pair_shown}
-use Rattle.papaya_resting.specs.Given.{HoldsOn, found_by, left_by}
-use Rattle.papaya_seq_map.specs.Json.{FirstFault, IsLastOf, IsNoPair, IsPairOf, IsRefusal, LastIsOf}
+use Rattle.papaya_seq_map.specs.Given.{HoldsOn, found_by, last_put, left_by}
+use Rattle.papaya_seq.specs.Json.{FirstFault, IsLastOf, IsNoPair, IsPairOf, IsRefusal, LastIsOf}
 use Rattle.papaya_seq_map.specs.Maps.{LastTook, Map}
-use Rattle.papaya_seq_map.specs.Stored.{HasPut}
-use Rattle.papaya_pairs.specs.Puts.{last_put}
-use Rattle.papaya_pairs.proofs.Orders.{left_and}
-use Rattle.papaya_pairs.proofs.Puts.{put_is_last}
+use Rattle.papaya_seq.specs.Made.{HasPut}
+use Rattle.papaya_seq_map.proofs.Given.{left_and, put_is_last}
 use Rattle.papaya_seq_map.proofs.Walked.{shown_to_end}
 
 -- names of which one stands before the other are two

@@ -1,13 +1,11 @@
 //! Maps for one owner with clones of the pairs of another map, or of an array.
 ghost use Rattle.std.specs.Prelude.{◌≡◌, [], Bool, true, length, IfOk, IfErr, OnOk};
 ghost use Rattle.std.specs.List.Sorted.{IsPermutation};
-ghost use Rattle.papaya_sifts.specs.Given.Late.Faults.{IsRoom};
-ghost use Rattle.papaya_pairs.specs.Equals.{agree};
-ghost use Rattle.papaya_pairs.specs.Puts.{ClonesAreSame, IsCloneOf, put_all};
-ghost use Rattle.papaya_seq_map.specs.Stored.{ClonesAreEqual, HasPut, IsMadeOfClones};
+ghost use Rattle.papaya_seq_map.specs.Given.{ClonesAreSame, IsCloneOf, IsRoom, agree, put_all};
+ghost use Rattle.papaya_seq.specs.Made.{ClonesAreEqual, HasPut, IsMadeOfClones};
 
-use crate::insertions::store;
-use crate::map::HashMap;
+use super::stored::store;
+use papaya_seq_map::HashMap;
 use seize_words::Fault;
 use std::alloc::Global;
 use std::hash::{BuildHasher, Hash};

@@ -1,14 +1,11 @@
 //! What an iterator gives is put into a map for one owner.
 ghost use Rattle.std.specs.Prelude.{◌≡◌, IfOk, IfErr};
 ghost use Rattle.std.specs.Iterator.{IsFiniteIterable};
-ghost use Rattle.papaya_sifts.specs.Given.Late.Faults.{IsRoom};
-ghost use Rattle.papaya_shown.specs.Chain.{CannotGrow};
+ghost use Rattle.papaya_seq_map.specs.Given.{CannotGrow, IsRoom};
 ghost use Rattle.seize_words.specs.declared.fault.Fault.TheVariants.{Capacity};
-ghost use Rattle.papaya_seq_map.specs.Stored.{Collects, Extends};
+ghost use Rattle.papaya_seq.specs.Made.{Collects, Extends};
 
-use crate::insertions::put;
-use crate::map::HashMap;
-use papaya_asks::Refused;
+use papaya_seq_map::{HashMap, Refused, put};
 use seize_words::Fault;
 use std::alloc::Global;
 use std::hash::{BuildHasher, Hash};

@@ -5,25 +5,25 @@ ghost use Rattle.std.specs.List.Sorted.{IsPermutation};
 ghost use Rattle.serde_json.specs.Data.{object};
 ghost use Rattle.serde_json.specs.View.{view, members_view};
 ghost use Rattle.papaya_forms.specs.Objects.{IsObjectOf};
-ghost use Rattle.papaya_seq_map.specs.Json.{FirstFault, IsNoPair, IsPairOf, IsRefusal, IsUnread, LastIsOf};
-ghost use Rattle.papaya_seq_map.specs.Stored.{HasPut};
+ghost use Rattle.papaya_seq.specs.Json.{FirstFault, IsNoPair, IsPairOf, IsRefusal, IsUnread, LastIsOf};
+ghost use Rattle.papaya_seq.specs.Made.{HasPut};
 
-use crate::insertions::store;
-use crate::map::HashMap;
-use papaya_forms::{JsonFault, JsonForm, object_of};
+use super::stored::store;
+use papaya_forms::{JsonFault, JsonForm, JsonKey, object_of};
+use papaya_seq_map::HashMap;
 use serde_json::Value;
 use serde_json::value::Map;
 use std::alloc::{AllocError, Global};
 use std::hash::{BuildHasher, Hash};
 
 /// The pair that a member of an object stands for: the key of its name, then the value of what it has.
-fn pair_of<K: JsonForm + Drop, V: JsonForm + Drop>(
+fn pair_of<K: JsonKey + Drop, V: JsonForm + Drop>(
     alloc: Global,
     name: &str,
     value: &Value,
 ) -> Result<(K, V), JsonFault>
-    ensures pair { IfOk result (λ x. IsPairOf K.JsonForm.in_range K.JsonForm.key_text V.JsonForm.in_range V.JsonForm.json_value name.now (view value.now) x) }
-    ensures fault { IfErr result (λ why. IsNoPair K.JsonForm.in_range K.JsonForm.key_text V.JsonForm.in_range V.JsonForm.json_value why name.now (view value.now) ⊎ IsRefusal why) }
+    ensures pair { IfOk result (λ x. IsPairOf K.JsonForm.in_range K.JsonKey.key_text V.JsonForm.in_range V.JsonForm.json_value name.now (view value.now) x) }
+    ensures fault { IfErr result (λ why. IsNoPair K.JsonForm.in_range K.JsonKey.key_text V.JsonForm.in_range V.JsonForm.json_value why name.now (view value.now) ⊎ IsRefusal why) }
 {
     let key = K::from_key_text(alloc, name)?;
     let value = V::from_value(alloc, value)?;
@@ -31,15 +31,15 @@ fn pair_of<K: JsonForm + Drop, V: JsonForm + Drop>(
 }
 
 /// Stores the pair that a member of an object stands for.
-fn store_member<K: JsonForm + Hash + Drop, V: JsonForm + Drop, S: BuildHasher>(
+fn store_member<K: JsonKey + Hash + Drop, V: JsonForm + Drop, S: BuildHasher>(
     alloc: Global,
     map: &mut HashMap<K, V, S>,
     name: &str,
     value: &Value,
 ) -> Result<(), JsonFault>
-    ensures stored { OnOk result ((x : K × V) × IsPairOf K.JsonForm.in_range K.JsonForm.key_text V.JsonForm.in_range V.JsonForm.json_value name.now (view value.now) x
+    ensures stored { OnOk result ((x : K × V) × IsPairOf K.JsonForm.in_range K.JsonKey.key_text V.JsonForm.in_range V.JsonForm.json_value name.now (view value.now) x
         × HasPut K.eq x map.old map.new) }
-    ensures fault { IfErr result (λ why. IsNoPair K.JsonForm.in_range K.JsonForm.key_text V.JsonForm.in_range V.JsonForm.json_value why name.now (view value.now) ⊎ IsRefusal why) }
+    ensures fault { IfErr result (λ why. IsNoPair K.JsonForm.in_range K.JsonKey.key_text V.JsonForm.in_range V.JsonForm.json_value why name.now (view value.now) ⊎ IsRefusal why) }
     ensures hasher { map.new.hasher ≡ map.old.hasher }
 {
     let (key, value) = pair_of(alloc, name, value)?;
@@ -50,15 +50,15 @@ fn store_member<K: JsonForm + Hash + Drop, V: JsonForm + Drop, S: BuildHasher>(
 }
 
 /// The map of the pairs that these members stand for.
-fn map_of<K: JsonForm + Hash + Drop, V: JsonForm + Drop, S: BuildHasher + Default + Drop>(
+fn map_of<K: JsonKey + Hash + Drop, V: JsonForm + Drop, S: BuildHasher + Default + Drop>(
     alloc: Global,
     members: &Map<String, Value>,
 ) -> Result<HashMap<K, V, S>, JsonFault>
-    ensures pairs { IfOk result (λ map. IsObjectOf K.JsonForm.key_text V.JsonForm.json_value map.pairs (object (members_view members.now.entries))) }
+    ensures pairs { IfOk result (λ map. IsObjectOf K.JsonKey.key_text V.JsonForm.json_value map.pairs (object (members_view members.now.entries))) }
     ensures in_range { IfOk result (λ map. All (λ x. K.JsonForm.in_range x.0 × V.JsonForm.in_range x.1) map.pairs) }
     ensures held { IfOk result (λ map. IsPermutation map.held map.pairs) }
-    ensures last { IfOk result (λ map. LastIsOf K.JsonForm.in_range K.JsonForm.key_text V.JsonForm.in_range V.JsonForm.json_value (object (members_view members.now.entries)) map) }
-    ensures fault { IfErr result (λ why. FirstFault K.JsonForm.in_range K.JsonForm.key_text V.JsonForm.in_range V.JsonForm.json_value why (members_view members.now.entries) ⊎ IsRefusal why) }
+    ensures last { IfOk result (λ map. LastIsOf K.JsonForm.in_range K.JsonKey.key_text V.JsonForm.in_range V.JsonForm.json_value (object (members_view members.now.entries)) map) }
+    ensures fault { IfErr result (λ why. FirstFault K.JsonForm.in_range K.JsonKey.key_text V.JsonForm.in_range V.JsonForm.json_value why (members_view members.now.entries) ⊎ IsRefusal why) }
     ensures hasher { IfOk result (λ map. S.is_default map.hasher) }
 {
     let mut map = match HashMap::new(alloc) {
@@ -71,17 +71,17 @@ fn map_of<K: JsonForm + Hash + Drop, V: JsonForm + Drop, S: BuildHasher + Defaul
     Ok(map)
 }
 
-impl<K: JsonForm + Hash, V: JsonForm, S: BuildHasher> HashMap<K, V, S> {
+impl<K: JsonKey + Hash, V: JsonForm, S: BuildHasher> HashMap<K, V, S> {
     /// The object that has the map's pairs for its members, each key's text for a name.
     pub fn to_value(&self, alloc: Global) -> Result<Value, AllocError>
-        ensures object { IfOk result (λ written. IsObjectOf K.JsonForm.key_text V.JsonForm.json_value self.now.pairs (view written)) }
+        ensures object { IfOk result (λ written. IsObjectOf K.JsonKey.key_text V.JsonForm.json_value self.now.pairs (view written)) }
         ensures in_range { IfOk result (λ _. All (λ x. K.JsonForm.in_range x.0 × V.JsonForm.in_range x.1) self.now.pairs) }
     {
         object_of(alloc, self.iter())
     }
 }
 
-impl<K: JsonForm + Hash + Drop, V: JsonForm + Drop, S: BuildHasher + Default + Drop> HashMap<
+impl<K: JsonKey + Hash + Drop, V: JsonForm + Drop, S: BuildHasher + Default + Drop> HashMap<
     K,
     V,
     S,
@@ -90,11 +90,11 @@ impl<K: JsonForm + Hash + Drop, V: JsonForm + Drop, S: BuildHasher + Default + D
     /// counts: `BadKey`, `BadElement`, or `Refused`, where memory or the length of a table was refused. What is no object is `NotAnObject`. `met` shows
     /// the pair of the last member then.
     pub fn from_value(alloc: Global, value: &Value) -> Result<Self, JsonFault>
-        ensures pairs { IfOk result (λ map. IsObjectOf K.JsonForm.key_text V.JsonForm.json_value map.pairs (view value.now)) }
+        ensures pairs { IfOk result (λ map. IsObjectOf K.JsonKey.key_text V.JsonForm.json_value map.pairs (view value.now)) }
         ensures in_range { IfOk result (λ map. All (λ x. K.JsonForm.in_range x.0 × V.JsonForm.in_range x.1) map.pairs) }
         ensures held { IfOk result (λ map. IsPermutation map.held map.pairs) }
-        ensures last { IfOk result (λ map. LastIsOf K.JsonForm.in_range K.JsonForm.key_text V.JsonForm.in_range V.JsonForm.json_value (view value.now) map) }
-        ensures fault { IfErr result (λ why. IsUnread K.JsonForm.in_range K.JsonForm.key_text V.JsonForm.in_range V.JsonForm.json_value why (view value.now)) }
+        ensures last { IfOk result (λ map. LastIsOf K.JsonForm.in_range K.JsonKey.key_text V.JsonForm.in_range V.JsonForm.json_value (view value.now) map) }
+        ensures fault { IfErr result (λ why. IsUnread K.JsonForm.in_range K.JsonKey.key_text V.JsonForm.in_range V.JsonForm.json_value why (view value.now)) }
         ensures hasher { IfOk result (λ map. S.is_default map.hasher) }
     {
         match value.as_object() {

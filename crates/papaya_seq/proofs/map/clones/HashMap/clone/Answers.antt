@@ -3,12 +3,12 @@ use Rattle.std.proofs.Common.{[], ◌∷◌, map, ◌∙◌, ap, refl, sym, subs
 use Rattle.std.proofs.lemmas.List.{map-append}
 use Rattle.papaya_shown.specs.Coming.{pairs_to_come}
 use Rattle.papaya_shown.specs.Lent.{pair_shown}
-use Rattle.papaya_seq_map.specs.Stored.{IsMadeOfClones}
-use Rattle.papaya_pairs.proofs.Puts.{clones_same_apart}
-use Rattle.papaya_seq_map.proofs.Cloned.{clones_equal}
-use Rattle.papaya_seq_map.proofs.Stored.{clones_more, made_first}
+use Rattle.papaya_seq.specs.Made.{IsMadeOfClones}
+use Rattle.papaya_seq_map.proofs.Given.{clones_same_apart}
+use Rattle.papaya_seq.proofs.Maps.Cloned.{clones_equal}
+use Rattle.papaya_seq.proofs.Maps.Made.{clones_more, made_first}
 use Rattle.papaya_seq_map.proofs.Walked.{shown_all}
-use Rattle.papaya_seq_map.proofs.map.HashMap.clone.Goals as goal
+use Rattle.papaya_seq.proofs.map.clones.HashMap.clone.Goals as goal
 
 pub loop-key-init : goal.loop-key-init
 loop-key-init g c =

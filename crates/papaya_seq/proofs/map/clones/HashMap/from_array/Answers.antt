@@ -2,11 +2,11 @@
 use Rattle.std.proofs.Common.{[], ◌∷◌, ◌++◌, rules, subst, sym}
 use Rattle.std.proofs.lemmas.List.{take_all}
 use Rattle.std.proofs.lemmas.List.Elements.{all_zip_more}
-use Rattle.papaya_pairs.specs.Puts.{IsCloneOf}
-use Rattle.papaya_pairs.proofs.Puts.{clones_same}
-use Rattle.papaya_seq_map.specs.Stored.{IsMadeOfClones}
-use Rattle.papaya_seq_map.proofs.Stored.{made_first, made_more}
-use Rattle.papaya_seq_map.proofs.map.HashMap.from_array.Goals as goal
+use Rattle.papaya_seq_map.specs.Given.{IsCloneOf}
+use Rattle.papaya_seq_map.proofs.Given.{clones_same}
+use Rattle.papaya_seq.specs.Made.{IsMadeOfClones}
+use Rattle.papaya_seq.proofs.Maps.Made.{made_first, made_more}
+use Rattle.papaya_seq.proofs.map.clones.HashMap.from_array.Goals as goal
 
 pub loop-item-init : goal.loop-item-init
 loop-item-init g c =

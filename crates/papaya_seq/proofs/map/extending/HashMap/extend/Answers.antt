@@ -3,10 +3,10 @@ use Rattle.std.proofs.Common.{[], ◌∷◌, ◌++◌, ◌∙◌, refl, sym, sub
 use Rattle.std.proofs.iter.Next.{Yields-more}
 use Rattle.std.proofs.lemmas.List.Sorted.{IsPermutation-trans}
 use Rattle.std.specs.Iterator.{Yields}
-use Rattle.papaya_resting.proofs.Given.{balanced_still, kept_balances}
-use Rattle.papaya_pairs.specs.Puts.{put_all}
-use Rattle.papaya_seq_map.proofs.Stored.{stored_first, stored_more}
-use Rattle.papaya_seq_map.proofs.map.HashMap.extend.Goals as goal
+use Rattle.papaya_seq_map.proofs.Given.{balanced_still, kept_balances}
+use Rattle.papaya_seq_map.specs.Given.{put_all}
+use Rattle.papaya_seq.proofs.Maps.Made.{stored_first, stored_more}
+use Rattle.papaya_seq.proofs.map.extending.HashMap.extend.Goals as goal
 
 pub loop-key-init : goal.loop-key-init
 loop-key-init g c = (stored_first g.K.PartialEq.eq c.args.self.now, refl)

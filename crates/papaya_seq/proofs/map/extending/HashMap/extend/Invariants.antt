@@ -1,7 +1,7 @@
 -- What the iterator has given so far is stored.
 use Rattle.std.specs.Prelude.{◌≡◌}
-use Rattle.papaya_seq_map.proofs.Stored.{HasStored}
-use Rattle.papaya_seq_map.proofs.map.HashMap.extend.Given as goal
+use Rattle.papaya_seq.proofs.Maps.Made.{HasStored}
+use Rattle.papaya_seq.proofs.map.extending.HashMap.extend.Given as goal
 
 abbrev pub invariant-loop-key : goal.invariant-loop-key
 invariant-loop-key g l =

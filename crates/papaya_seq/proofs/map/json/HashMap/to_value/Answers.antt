@@ -2,19 +2,19 @@
 use Rattle.std.proofs.lemmas.Result.{IfOk-weaker}
 use Rattle.serde_json.specs.View.{view}
 use Rattle.papaya_shown.specs.Coming.{pairs_to_come}
-use Rattle.papaya_seq_map.proofs.Members.{written_in_range, written_object}
-use Rattle.papaya_seq_map.proofs.map.HashMap.to_value.Goals as goal
+use Rattle.papaya_seq.proofs.Maps.Members.{written_in_range, written_object}
+use Rattle.papaya_seq.proofs.map.json.HashMap.to_value.Goals as goal
 
 pub returns-clause-object : goal.returns-clause-object
 returns-clause-object g c =
     IfOk-weaker c.object_of.result _ _
     (λ written w.
-    written_object g.K.JsonForm.in_range g.K.JsonForm.key_text g.V.JsonForm.in_range g.V.JsonForm.json_value g.K.PartialEq.eq g.met.K.JsonForm.key_text_tells pairs_to_come c.iter.result c.args.self.now.pairs
+    written_object g.K.JsonForm.in_range g.K.JsonKey.key_text g.V.JsonForm.in_range g.V.JsonForm.json_value g.K.PartialEq.eq g.met.K.JsonKey.key_text_tells pairs_to_come c.iter.result c.args.self.now.pairs
     c.iter.ensures.pairs c.iter.ensures.apart w.0 w.1 w.2 (view written) w.3) c.object_of.ensures
 
 pub returns-clause-in_range : goal.returns-clause-in_range
 returns-clause-in_range g c =
     IfOk-weaker c.object_of.result _ _
     (λ written w.
-    written_in_range g.K.JsonForm.in_range g.K.JsonForm.key_text g.V.JsonForm.in_range g.V.JsonForm.json_value g.K.PartialEq.eq g.met.K.JsonForm.key_text_tells pairs_to_come c.iter.result c.args.self.now.pairs
+    written_in_range g.K.JsonForm.in_range g.K.JsonKey.key_text g.V.JsonForm.in_range g.V.JsonForm.json_value g.K.PartialEq.eq g.met.K.JsonKey.key_text_tells pairs_to_come c.iter.result c.args.self.now.pairs
     c.iter.ensures.pairs c.iter.ensures.apart w.0 w.1 w.2) c.object_of.ensures
