@@ -1,5 +1,5 @@
 -- Lemmas on sets for one owner.
-mod Maps
+mod Members
 mod Sets
 mod Stored
 pub mod Given

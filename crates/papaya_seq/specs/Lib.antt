@@ -2,5 +2,4 @@ pub mod Sets
 pub mod Stored
 pub mod Pairs
 pub mod Each
-pub mod Made
 pub mod Json

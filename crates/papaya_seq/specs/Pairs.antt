@@ -2,4 +2,4 @@
 pub use Rattle.papaya_seq_map.specs.Given.{Balanced, HoldsOn, IsLife, found_by, if_stored, if_tried, left_by, stored_computing, stored_in}
 pub use Rattle.papaya_seq_map.specs.Given.{last_put, last_taken, put, put_all}
 pub use Rattle.papaya_seq_map.specs.Maps.{Keeps}
-pub use Rattle.papaya_seq.specs.Made.{Collects, Extends, IsMadeOf, IsMadeOfClones}
+pub use Rattle.papaya_seq_map.specs.Stored.{Collects, Extends, IsMadeOf, IsMadeOfClones}

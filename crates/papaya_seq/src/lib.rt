@@ -1,10 +1,11 @@
-//! A hash map and a hash set for one owner. The map, texts as keys and JSON forms stand in crates of their own, and are given on; what goes with a map as a whole
-//! stands here, beside the set.
+//! A hash map and a hash set for one owner. The map, texts as keys and JSON forms stand in crates of their own, and are given on.
 #![tactic(auto)]
 
+mod json;
 mod map;
 mod set;
 
+pub use json::{FromJson, ToJson};
 pub use papaya_forms::{JsonFault, JsonForm, JsonKey, Text};
 pub use papaya_seq_map::{
     Aborted, Compute, Equivalent, Fault, HashMap, Keys, OccupiedError, Operation, Pairs, Present,

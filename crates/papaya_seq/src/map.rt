@@ -1,6 +1,3 @@
-//! What goes with a map for one owner as a whole: its clones, what an iterator gives, and JSON. The map itself stands below.
+//! What goes with a map for one owner, beside its calls: JSON.
 
-mod clones;
-mod extending;
 mod json;
-mod stored;

@@ -1,4 +1,5 @@
 pub mod Maps
+pub mod Stored
 pub mod Lent
 pub mod Given
 pub mod Answers

@@ -9,6 +9,7 @@ ghost use Rattle.papaya_resting.specs.Given.{found_by, left_by};
 ghost use Rattle.papaya_resting.specs.Held.{if_stored, if_tried};
 ghost use Rattle.papaya_seq_map.specs.Answers.{HasAdded, IsLeft, IsRefused, RestsUnless, name_of_either};
 ghost use Rattle.papaya_seq_map.specs.Maps.{Keeps, LastTook};
+ghost use Rattle.papaya_seq_map.specs.Stored.{HasPut};
 
 use crate::answers::{OccupiedError, Present, Replaced};
 use crate::map::HashMap;
@@ -71,6 +72,22 @@ pub(crate) fn try_put<K: Eq + Hash + Drop, V: Drop, S: BuildHasher>(
         key,
         value,
     )
+}
+
+/// Stores a pair that is not wanted back where it is refused.
+pub fn store<K: Eq + Hash + Drop, V: Drop, S: BuildHasher>(
+    map: &mut HashMap<K, V, S>,
+    key: K,
+    value: V,
+) -> Result<(), Fault>
+    ensures put { OnOk result (HasPut K.eq (key, value) map.old map.new) }
+    ensures fault { IfErr result IsRoom }
+    ensures hasher { map.new.hasher ≡ map.old.hasher }
+{
+    match put(map, key, value) {
+        Ok(_) => Ok(()),
+        Err(refused) => Err(refused.fault),
+    }
 }
 
 impl<K: Eq + Hash + Drop, V: Drop, S: BuildHasher> HashMap<K, V, S> {

@@ -4,9 +4,11 @@
 mod answers;
 mod asking;
 mod changes;
+mod clones;
 mod computing;
 mod counting;
 mod equal;
+mod extending;
 mod formatting;
 mod getting;
 mod insertions;
@@ -22,7 +24,7 @@ mod walks;
 
 pub use answers::{Aborted, Compute, OccupiedError, Present, Removed, Replaced, Updated};
 pub use changes::take;
-pub use insertions::put;
+pub use insertions::{put, store};
 pub use map::HashMap;
 pub use papaya_asks::{Operation, Refused, RefusedKey};
 pub use papaya_pairs::law;

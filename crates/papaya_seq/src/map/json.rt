@@ -5,12 +5,12 @@ ghost use Rattle.std.specs.List.Sorted.{IsPermutation};
 ghost use Rattle.serde_json.specs.Data.{object};
 ghost use Rattle.serde_json.specs.View.{view, members_view};
 ghost use Rattle.papaya_forms.specs.Objects.{IsObjectOf};
-ghost use Rattle.papaya_seq.specs.Json.{FirstFault, IsNoPair, IsPairOf, IsRefusal, IsUnread, LastIsOf};
-ghost use Rattle.papaya_seq.specs.Made.{HasPut};
+ghost use Rattle.papaya_seq.specs.Json.{ArePairsOf, FirstFault, IsMapOf, IsNoPair, IsPairOf, IsRefusal, IsUnread, LastIsOf};
+ghost use Rattle.papaya_seq_map.specs.Stored.{HasPut};
 
-use super::stored::store;
+use crate::json::{FromJson, ToJson};
 use papaya_forms::{JsonFault, JsonForm, JsonKey, object_of};
-use papaya_seq_map::HashMap;
+use papaya_seq_map::{HashMap, store};
 use serde_json::Value;
 use serde_json::value::Map;
 use std::alloc::{AllocError, Global};
@@ -71,35 +71,45 @@ fn map_of<K: JsonKey + Hash + Drop, V: JsonForm + Drop, S: BuildHasher + Default
     Ok(map)
 }
 
-impl<K: JsonKey + Hash, V: JsonForm, S: BuildHasher> HashMap<K, V, S> {
-    /// The object that has the map's pairs for its members, each key's text for a name.
-    pub fn to_value(&self, alloc: Global) -> Result<Value, AllocError>
-        ensures object { IfOk result (λ written. IsObjectOf K.JsonKey.key_text V.JsonForm.json_value self.now.pairs (view written)) }
-        ensures in_range { IfOk result (λ _. All (λ x. K.JsonForm.in_range x.0 × V.JsonForm.in_range x.1) self.now.pairs) }
-    {
+/// The map that is written as this value.
+fn map_in<K: JsonKey + Hash + Drop, V: JsonForm + Drop, S: BuildHasher + Default + Drop>(
+    alloc: Global,
+    value: &Value,
+) -> Result<HashMap<K, V, S>, JsonFault>
+    ensures pairs { IfOk result (λ map. IsObjectOf K.JsonKey.key_text V.JsonForm.json_value map.pairs (view value.now)) }
+    ensures in_range { IfOk result (λ map. All (λ x. K.JsonForm.in_range x.0 × V.JsonForm.in_range x.1) map.pairs) }
+    ensures held { IfOk result (λ map. IsPermutation map.held map.pairs) }
+    ensures last { IfOk result (λ map. LastIsOf K.JsonForm.in_range K.JsonKey.key_text V.JsonForm.in_range V.JsonForm.json_value (view value.now) map) }
+    ensures fault { IfErr result (λ why. IsUnread K.JsonForm.in_range K.JsonKey.key_text V.JsonForm.in_range V.JsonForm.json_value why (view value.now)) }
+    ensures hasher { IfOk result (λ map. S.is_default map.hasher) }
+{
+    match value.as_object() {
+        Some(members) => map_of(alloc, members),
+        None => Err(JsonFault::NotAnObject),
+    }
+}
+
+/// The object that has the map's pairs for its members, each key's text for a name.
+impl<K: JsonKey + Hash, V: JsonForm, S: BuildHasher> ToJson for HashMap<K, V, S> {
+    ghost is_written = { λ map d. ArePairsOf K.JsonForm.in_range K.JsonKey.key_text V.JsonForm.in_range V.JsonForm.json_value map.pairs d };
+
+    fn to_value(&self, alloc: Global) -> Result<Value, AllocError> {
         object_of(alloc, self.iter())
     }
 }
 
-impl<K: JsonKey + Hash + Drop, V: JsonForm + Drop, S: BuildHasher + Default + Drop> HashMap<
-    K,
-    V,
-    S,
-> {
-    /// The map that is written as this value. The members are read in the value's order, the name of each before its value, and the first fault
-    /// counts: `BadKey`, `BadElement`, or `Refused`, where memory or the length of a table was refused. What is no object is `NotAnObject`. `met` shows
-    /// the pair of the last member then.
-    pub fn from_value(alloc: Global, value: &Value) -> Result<Self, JsonFault>
-        ensures pairs { IfOk result (λ map. IsObjectOf K.JsonKey.key_text V.JsonForm.json_value map.pairs (view value.now)) }
-        ensures in_range { IfOk result (λ map. All (λ x. K.JsonForm.in_range x.0 × V.JsonForm.in_range x.1) map.pairs) }
-        ensures held { IfOk result (λ map. IsPermutation map.held map.pairs) }
-        ensures last { IfOk result (λ map. LastIsOf K.JsonForm.in_range K.JsonKey.key_text V.JsonForm.in_range V.JsonForm.json_value (view value.now) map) }
-        ensures fault { IfErr result (λ why. IsUnread K.JsonForm.in_range K.JsonKey.key_text V.JsonForm.in_range V.JsonForm.json_value why (view value.now)) }
-        ensures hasher { IfOk result (λ map. S.is_default map.hasher) }
-    {
-        match value.as_object() {
-            Some(members) => map_of(alloc, members),
-            None => Err(JsonFault::NotAnObject),
+/// The members are read in the value's order, the name of each before its value, and the first fault counts: `BadKey`, `BadElement`, or `Refused`, where
+/// memory or the length of a table was refused. What is no object is `NotAnObject`. `met` shows the pair of the last member then.
+impl<K: JsonKey + Hash + Drop, V: JsonForm + Drop, S: BuildHasher + Default + Drop> FromJson
+    for HashMap<K, V, S> {
+    ghost is_read = { λ map d. IsMapOf K.JsonForm.in_range K.JsonKey.key_text V.JsonForm.in_range V.JsonForm.json_value S.is_default d map };
+
+    ghost is_unread = { λ why d. IsUnread K.JsonForm.in_range K.JsonKey.key_text V.JsonForm.in_range V.JsonForm.json_value why d };
+
+    fn from_value(alloc: Global, value: &Value) -> Result<Self, JsonFault> {
+        match map_in(alloc, value) {
+            Ok(map) => Ok(map),
+            Err(why) => Err(why),
         }
     }
 }

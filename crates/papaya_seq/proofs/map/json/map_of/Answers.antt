@@ -2,7 +2,7 @@
 use Rattle.std.proofs.Common.{◌++◌, ap, subst, sym, ◌∙◌}
 use Rattle.std.proofs.lemmas.Result.{err_from_is_err_and}
 use Rattle.serde_json.proofs.Views.{Entry}
-use Rattle.papaya_seq.proofs.Maps.Members.{all_in_range, all_object, fault_at, goes_on, held_so, last_so, none_yet}
+use Rattle.papaya_seq.proofs.Members.{all_in_range, all_object, fault_at, goes_on, held_so, last_so, none_yet}
 use Rattle.papaya_seq.proofs.map.json.map_of.Goals as goal
 
 pub loop-name-init : goal.loop-name-init

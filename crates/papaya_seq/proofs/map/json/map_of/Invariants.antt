@@ -1,4 +1,4 @@
-use Rattle.papaya_seq.proofs.Maps.Members.{IsSoFar}
+use Rattle.papaya_seq.proofs.Members.{IsSoFar}
 use Rattle.papaya_seq.proofs.map.json.map_of.Given as goal
 
 -- The members so far stand for the map's pairs, and its hasher is one by default.
