@@ -4,7 +4,7 @@ ghost use Rattle.std.proofs.Common.{arith};
 ghost use Rattle.papaya_forms.specs.Forms.{IsUnsigned, unsigned_value};
 ghost use Rattle.papaya_forms.specs.Tells.{unsigned_values_tell};
 
-use papaya_seq::{Fault, HashMap, HashSet, JsonFault, JsonForm, Text};
+use papaya_seq::{Fault, FromJson, HashMap, HashSet, JsonFault, JsonForm, Text, ToJson};
 use serde_json::Value;
 use std::alloc::{AllocError, Global};
 
