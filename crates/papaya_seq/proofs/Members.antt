@@ -20,10 +20,10 @@ use Rattle.papaya_forms.proofs.Members.{objects_have_their_pairs, objects_have_n
 use Rattle.papaya_shown.specs.Lent.{pair_shown}
 use Rattle.papaya_seq_map.specs.Given.{HoldsOn, found_by, last_put, left_by}
 use Rattle.papaya_seq.specs.Json.{FirstFault, IsLastOf, IsNoPair, IsPairOf, IsRefusal, LastIsOf}
-use Rattle.papaya_seq_map.specs.Maps.{LastTook, Map}
-use Rattle.papaya_seq_map.specs.Stored.{HasPut}
+use Rattle.papaya_seq_map.specs.Given.Maps.{LastTook, Map}
+use Rattle.papaya_seq_map.specs.Given.Stored.{HasPut}
 use Rattle.papaya_seq_map.proofs.Given.{left_and, put_is_last}
-use Rattle.papaya_seq_map.proofs.Walked.{shown_to_end}
+use Rattle.papaya_seq_map.proofs.Given.Walked.{shown_to_end}
 
 -- names of which one stands before the other are two
 names_differ : (a b : String Global) → string_cmp a b ≡ Less → string_bytes b ≢ string_bytes a

@@ -10,7 +10,7 @@ use Rattle.std.proofs.lemmas.Fn.{answers_by}
 use Rattle.std.proofs.lemmas.List.{map-append}
 use Rattle.std.proofs.lemmas.List.Sorted.{IsPermutation-trans, IsPermutation-append_left, IsPermutation-map}
 use Rattle.papaya_seq_map.specs.Given.{AnswersByTest, AskedAlong, IsCloneOf, KeepsOf, found_by, left_by, put, put_all, with_no_values}
-use Rattle.papaya_seq_map.specs.Maps.{Keeps, Map}
+use Rattle.papaya_seq_map.specs.Given.Maps.{Keeps, Map}
 use Rattle.papaya_seq.specs.Sets.{KeepsElements, KeepsIn, Set, last_taken_in, left_in, put_in, put_all_in, set_of}
 use Rattle.papaya_seq_map.proofs.Given.{kept_in_any_order, lifts, no_values, there_as}
 

@@ -11,7 +11,7 @@ use Rattle.papaya_forms.specs.Objects.{IsObjectOf}
 use Rattle.papaya_forms.specs.declared.fault.JsonFault.{JsonFault}
 use Rattle.papaya_forms.specs.declared.fault.JsonFault.TheVariants.{NotAnObject, BadKey, BadElement, Refused}
 use Rattle.papaya_seq_map.specs.Given.{IsRoom}
-use Rattle.papaya_seq_map.specs.Maps.{Map}
+use Rattle.papaya_seq_map.specs.Given.Maps.{Map}
 use Rattle.papaya_seq.specs.Sets.{Set}
 use Rattle.papaya_seq.specs.Stored.{IsSetMadeOf}
 

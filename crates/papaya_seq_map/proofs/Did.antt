@@ -14,7 +14,7 @@ use Rattle.papaya_resting.specs.declared.change.Change.TheVariants as change
 use Rattle.papaya_resting.specs.declared.change.Compute.{Compute}
 use Rattle.papaya_resting.specs.declared.change.Compute.TheVariants as compute
 use Rattle.papaya_seq_map.specs.Answers.{HasRemoved, HasReplaced, IsLeft}
-use Rattle.papaya_seq_map.specs.Maps.{HasNow, Keeps, Map}
+use Rattle.papaya_seq_shows.specs.Maps.{HasNow, Keeps, Map}
 
 module _ {K V S : Type 0} (old map : Map K V S) where
   -- the pair that was put there has the key of the call

@@ -6,3 +6,4 @@ pub use Rattle.papaya_pairs.proofs.Laws.{apart_in_any_order, found_in_any_order,
 pub use Rattle.papaya_pairs.proofs.Orders.{kept_in_any_order, left_and, lifts}
 pub use Rattle.papaya_pairs.proofs.ReadBack.{one_array_one_set, one_object_one_map}
 pub use Rattle.papaya_pairs.proofs.Puts.{put_is_last}
+pub use Rattle.papaya_seq_shows.proofs.Walked

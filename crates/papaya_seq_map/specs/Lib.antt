@@ -1,5 +1,3 @@
-pub mod Maps
-pub mod Stored
 pub mod Lent
 pub mod Given
 pub mod Answers

@@ -6,7 +6,7 @@ ghost use Rattle.papaya_sifts.specs.Given.Reserves.Reserve.{needed};
 ghost use Rattle.papaya_sifts.specs.Given.Owned.Rooms.{NeedTooMany};
 ghost use Rattle.papaya_shown.specs.Chain.{CannotGrow, FirstHas};
 ghost use Rattle.seize_words.specs.declared.fault.Fault.TheVariants.{Capacity};
-ghost use Rattle.papaya_seq_map.specs.Maps.{Keeps, LastTook};
+ghost use Rattle.papaya_seq_shows.specs.Maps.{Keeps, LastTook};
 
 use crate::map::HashMap;
 use papaya_resting::Last;

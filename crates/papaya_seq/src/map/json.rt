@@ -6,7 +6,7 @@ ghost use Rattle.serde_json.specs.Data.{object};
 ghost use Rattle.serde_json.specs.View.{view, members_view};
 ghost use Rattle.papaya_forms.specs.Objects.{IsObjectOf};
 ghost use Rattle.papaya_seq.specs.Json.{ArePairsOf, FirstFault, IsMapOf, IsNoPair, IsPairOf, IsRefusal, IsUnread, LastIsOf};
-ghost use Rattle.papaya_seq_map.specs.Stored.{HasPut};
+ghost use Rattle.papaya_seq_map.specs.Given.Stored.{HasPut};
 
 use crate::json::{FromJson, ToJson};
 use papaya_forms::{JsonFault, JsonForm, JsonKey, object_of};

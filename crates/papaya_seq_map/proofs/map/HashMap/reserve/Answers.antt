@@ -2,7 +2,7 @@
 use Rattle.std.specs.Prelude.{[]}
 use Rattle.std.proofs.lemmas.Result.{on_ok_weaker}
 use Rattle.papaya_resting.proofs.Lasts.{none_in, none_named}
-use Rattle.papaya_seq_map.proofs.Shows.{counts, first_has, room_shown, seen_as_many, seen_held, seen_keeps, shown_as}
+use Rattle.papaya_seq_shows.proofs.Shows.{counts, first_has, room_shown, seen_as_many, seen_held, seen_keeps, shown_as}
 use Rattle.papaya_seq_map.proofs.map.HashMap.reserve.Goals as goal
 
 pub reserve-requires : goal.reserve-requires

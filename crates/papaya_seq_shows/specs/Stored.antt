@@ -6,7 +6,7 @@ use Rattle.std.specs.List.Sorted.{IsPermutation}
 use Rattle.seize_words.specs.declared.refused.Refused.{Refused}
 use Rattle.papaya_resting.specs.Given.{Balanced, found_by}
 use Rattle.papaya_pairs.specs.Puts.{Gave, IsCloneOf, last_put, last_taken, put, put_all}
-use Rattle.papaya_seq_map.specs.Maps.{Keeps, LastTook, Map}
+use Rattle.papaya_seq_shows.specs.Maps.{Keeps, LastTook, Map}
 
 module _ {K V S : Type 0} (same : K → K → Bool) where
   -- A pair was stored in a map, in the place of that of its key, if there was one: this one can be looked at, whichever order the pairs were in, and so can the

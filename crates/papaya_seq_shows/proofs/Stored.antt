@@ -7,8 +7,8 @@ use Rattle.papaya_resting.specs.Given.{Balanced}
 use Rattle.papaya_resting.proofs.Given.{balanced_first, balanced_more, kept_balances}
 use Rattle.papaya_pairs.specs.Puts.{IsCloneOf, last_put, last_taken, put_all}
 use Rattle.papaya_pairs.proofs.Puts.{put_is_last, puts_more, taken_last}
-use Rattle.papaya_seq_map.specs.Maps.{LastTook, Map}
-use Rattle.papaya_seq_map.specs.Stored.{HasPut, IsMadeOf, IsMadeOfClones}
+use Rattle.papaya_seq_shows.specs.Maps.{LastTook, Map}
+use Rattle.papaya_seq_shows.specs.Stored.{HasPut, IsMadeOf, IsMadeOfClones}
 
 module _ {K V S : Type 0} (same : K → K → Bool) where
   -- Since a map had these pairs, held these, and these two could be looked at, such pairs were stored in it.

@@ -23,10 +23,10 @@ use Rattle.papaya_shown.proofs.Chains.{root_counts, all_shown}
 use denote.Ref.{Bor}
 use Rattle.std.specs.Fn.{Mut}
 use Rattle.papaya_resting.specs.Given.{HoldsOn, Holds, found_by, AnswersByTest, KeepsOf}
-use Rattle.papaya_seq_map.specs.Maps.{Map, pairs_shown, tables_shown}
+use Rattle.papaya_seq_shows.specs.Maps.{Map, pairs_shown, tables_shown}
 use Rattle.papaya_pairs.specs.Orders.{IsOneClass}
 use Rattle.papaya_pairs.proofs.Orders.{apart_same, found_same, kept_in_any_order, none_left}
-use Rattle.papaya_seq_map.proofs.Ordered.{apart_each, keeps_same}
+use Rattle.papaya_seq_shows.proofs.Ordered.{apart_each, keeps_same}
 
 module _ {K V : Type 0} (same : K → K → Bool) (hash : K → ℕ) (setting : Setting) (m : Mem (Node K V)) (xs : List (K × V)) (h : Holds same hash setting m xs) where
   stands : Stands same hash m setting h.chart h.blocks

@@ -19,14 +19,14 @@ use Rattle.papaya_resting.specs.Asking.{HasDone, HasComputed, IsRefusedFor, Come
 use Rattle.papaya_resting.specs.Lasts.{RestsWith}
 use Rattle.papaya_resting.specs.declared.last.Last.{Last}
 use Rattle.papaya_resting.proofs.Lasts.{met_shown, taken_shown}
-use Rattle.papaya_seq_map.specs.Maps.{pairs_shown}
+use Rattle.papaya_seq_shows.specs.Maps.{pairs_shown}
 use Rattle.papaya_resting.specs.declared.change.Change.{Change}
 use Rattle.papaya_resting.specs.declared.change.Change.TheVariants as change
 use Rattle.papaya_resting.specs.declared.change.Compute.{Compute}
 use Rattle.papaya_resting.specs.declared.change.Compute.TheVariants as compute
 use Rattle.papaya_pairs.proofs.Orders.{left_same, left_and}
-use Rattle.papaya_seq_map.proofs.Kept.{Rested, Shown, rested}
-use Rattle.papaya_seq_map.proofs.Shows.{shown_as}
+use Rattle.papaya_seq_shows.proofs.Kept.{Rested, Shown, rested}
+use Rattle.papaya_seq_shows.proofs.Shows.{shown_as}
 
 -- the map rests with some pairs, whatever was done, and what its words name can be looked at
 module _ {K V : Type 0} (same : K → K → Bool) (hash : K → ℕ) (setting : Setting) (m : Mem (Node K V)) (last : Last) (keys : K → Bool) (its : Option K) (xs : List (K × V)) where

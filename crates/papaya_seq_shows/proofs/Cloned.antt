@@ -13,7 +13,7 @@ use Rattle.papaya_pairs.specs.Equals.{agree, agree_at, agree_from_each}
 use Rattle.papaya_pairs.specs.Puts.{IsCloneOf, put_all}
 use Rattle.papaya_pairs.proofs.Laws.{apart_in_any_order, found_in_any_order}
 use Rattle.papaya_pairs.proofs.Puts.{apart_are_put}
-use Rattle.papaya_seq_map.specs.Stored.{ClonesAreEqual}
+use Rattle.papaya_seq_shows.specs.Stored.{ClonesAreEqual}
 
 module _ {K V : Type 0} (same : K → K → Bool) (classes : IsEquivalence same) (equal : V → V → Bool) (key_clone : K → K → Type 0) (value_clone : V → V → Type 0)
     (keys_so : ClonesAreEqual same key_clone) (values_so : ClonesAreEqual equal value_clone) where
