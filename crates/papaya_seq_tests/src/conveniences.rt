@@ -1,5 +1,5 @@
 //! Walks that are cloned, texts that are ordered, a reservation of more than a table can hold, and a value that has no text as a key.
-ghost use Rattle.std.specs.Prelude.{◌≡◌, ◌<◌, ◌^◌, Err, false, refl};
+ghost use Rattle.std.specs.Prelude.{refl};
 ghost use Rattle.std.proofs.Common.{arith};
 ghost use Rattle.papaya_forms.specs.Forms.{IsUnsigned, unsigned_value};
 ghost use Rattle.papaya_forms.specs.Tells.{unsigned_values_tell};
@@ -70,17 +70,10 @@ fn texts_are_ordered(alloc: Global) -> Result<bool, AllocError> {
     Ok(fig < plum && capital < fig && fig < longer && longer < plum && !(fig < fig))
 }
 
-/// Makes room for more pairs than a table can hold.
-fn asks_too_much(map: &mut HashMap<u64, u64>) -> Result<(), Fault>
-    ensures refused { result ≡ Err Capacity }
-{
-    map.reserve(u64::MAX)
-}
-
-/// Whether that is refused, with the pair still there.
+/// Whether room for more pairs than a table can hold is refused, with the pair still there.
 fn too_much_is_refused(alloc: Global) -> Result<bool, Fault> {
     let mut map = HashMap::<u64, u64>::from_array(alloc, &[(1, 10)])?;
-    let refused = asks_too_much(&mut map) == Err(Fault::Capacity);
+    let refused = map.reserve(u64::MAX) == Err(Fault::Capacity);
     Ok(refused && map.get(&1) == Some(&10))
 }
 
