@@ -33,7 +33,7 @@ use Rattle.papaya_whole.specs.Given.Reserves.Reserve.{enough, made, needed, or_t
 use Rattle.papaya_whole.specs.Given.Reserves.declared.reserve.Reserve.{Reserve}
 use Rattle.papaya_whole.specs.Given.Reserves.declared.reserve.Reserving.{Reserving}
 use Rattle.papaya_whole.specs.Given.Reserves.declared.reserve.Reserving.TheVariants as at
-use Rattle.papaya_whole.specs.Given.Rule.Chart.{Chart, Holds as HoldsPair, Empty}
+use Rattle.papaya_whole.specs.Given.Rule.Chart.{Chart}
 use Rattle.papaya_whole.specs.Given.Rule.Words.{Blocks}
 use Rattle.papaya_whole.specs.Given.Alone.Counting.{count_ahead}
 use Rattle.papaya_whole.specs.Given.Callers.Sights.{seen_by}
@@ -156,8 +156,8 @@ module _ {K V S : Type 0} (same : K → K → Bool) (hashes : S → K → ℕ) (
       where
         by : (x : Bool) → now.c.current n ≡ x → x ≡ false
         by true is =
-            let at = now.alone.together.ground.map.map.rule.common.stands n is in
-            let gone = now.alone.together.ground.map.map.rule.common.unmade at.0 at.1 (omega (arith, past)) in absurd (let e = sym at.4 ∙ gone in cc e)
+            let there = now.alone.together.ground.map.map.rule.common.stands n is in
+            let gone = now.alone.together.ground.map.map.rule.common.unmade there.0 there.1 (omega (arith, past)) in absurd (let e = sym there.4 ∙ gone in cc e)
         by false is = refl
 
     contents_now : ContentsBelow now.w.memory now.c now.blocks now.c.stored xs
@@ -296,4 +296,6 @@ module _ {K V S : Type 0} (same : K → K → Bool) (hashes : S → K → ℕ) (
       (begun same hashes b setting m0 xs h additional p is, begins_so)
     where
       begins_so : HasNoTable same hashes b setting m0 xs h additional (many_beside additional (length xs) need) (begun same hashes b setting m0 xs h additional p is).p.stands
-      begins_so = subst (λ (q : Reserve). HasNoTable same hashes b setting m0 xs h additional (many_beside additional (length xs) need) q.stands) (sym is) tt
+      begins_so =
+          subst (λ (q : Reserve). HasNoTable same hashes b setting m0 xs h additional (many_beside additional (length xs) need) q.stands)
+          (sym is ∙ ap (λ (x : ForRoom S). x.reserve) (begun same hashes b setting m0 xs h additional p is).is) tt
