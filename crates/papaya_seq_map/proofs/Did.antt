@@ -2,7 +2,7 @@
 use Rattle.std.specs.Prelude.{false, IsTrue, MatchOption, is_some}
 use Rattle.std.specs.Option.{unwrap_or}
 use Rattle.std.proofs.Common.{◌≡◌, Bool, [], ◌∷◌, ◌++◌, Option, Some, None, Ok, refl, sym, ap, subst}
-use Rattle.papaya_asks.specs.Closures.{Computing, Removing}
+use Rattle.papaya_asks.specs.Closures.{Removing}
 use Rattle.papaya_asks.specs.declared.computing.Operation.{Operation}
 use Rattle.papaya_asks.specs.declared.computing.Operation.TheVariants as operation
 use Rattle.seize_words.specs.declared.refused.RefusedKey.{RefusedKey}

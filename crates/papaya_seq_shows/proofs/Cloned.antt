@@ -5,13 +5,13 @@ use Rattle.std.specs.List.{AllByRecursion, AllZip, IsDistinct}
 use Rattle.std.specs.List.Sorted.{IsPermutation}
 use Rattle.std.specs.Map.{keys_of}
 use Rattle.std.specs.Option.{option_eq}
-use Rattle.std.proofs.Common.{◌≡◌, Bool, false, List, [], ◌∷◌, Option, Some, None, refl, ap, sym, subst, ◌∙◌}
+use Rattle.std.proofs.Common.{◌≡◌, Bool, false, List, [], ◌∷◌, Some, refl, ap, sym, subst, ◌∙◌}
 use Rattle.std.proofs.lemmas.List.Sorted.{IsPermutation-sym, length_permutation}
 use Rattle.std.proofs.lemmas.Map.Keys.{IsDistinct-cons, IsDistinct-head, IsDistinct-tail}
 use Rattle.papaya_resting.specs.Given.{found_by}
 use Rattle.papaya_pairs.specs.Equals.{agree, agree_at, agree_from_each}
 use Rattle.papaya_pairs.specs.Puts.{IsCloneOf, put_all}
-use Rattle.papaya_pairs.proofs.Laws.{apart_in_any_order, found_in_any_order}
+use Rattle.papaya_pairs.proofs.Laws.{found_in_any_order}
 use Rattle.papaya_pairs.proofs.Puts.{apart_are_put}
 use Rattle.papaya_seq_shows.specs.Stored.{ClonesAreEqual}
 

@@ -1,20 +1,20 @@
 -- A reservation that needs more places than a table can have: it comes to no table, and is refused for the length.
-use Rattle.std.specs.Prelude.{◌≡◌, ◌≢◌, ℕ, zero, suc, ◌+◌, ◌^◌, ◌<◌, ◌≤◌, ◌⊎◌, ◌==◌, Bool, true, false, cond, nat_le, nat_lt, if◌then◌else◌, max, List, [], ◌∷◌, ◌++◌, length, Some, Result, Ok, Err, IfOk}
+use Rattle.std.specs.Prelude.{◌≡◌, ℕ, zero, suc, ◌+◌, ◌^◌, ◌<◌, ◌≤◌, ◌==◌, Bool, true, false, cond, nat_le, nat_lt, if◌then◌else◌, max, List, [], ◌∷◌, ◌++◌, length, Some, Result, Ok, Err, IfOk}
 use Rattle.std.proofs.Common.{refl, sym, ◌∙◌, ap, subst, arith, inl, inr}
-use Rattle.std.proofs.lemmas.Bool.{lt-ltb, lt-leb, eqb-true}
+use Rattle.std.proofs.lemmas.Bool.{lt-ltb, lt-leb}
 use denote.Ref.{Bor}
 use Rattle.seize_words.specs.Mem.{Mem, Took, value_at}
 use Rattle.seize_words.specs.Plan.{Steps}
 use Rattle.seize_words.specs.declared.at.At.TheVariants.{Root}
 use Rattle.seize_words.specs.declared.fault.Fault.{Fault}
 use Rattle.seize_words.specs.declared.fault.Fault.TheVariants.{Capacity}
-use Rattle.seize_words.specs.Op.{Out, Found}
+use Rattle.seize_words.specs.Op.{Found}
 use Rattle.seize_words.proofs.OneOwner.Operations.{loaded}
 use Rattle.seize.specs.declared.progress.Progress.{Progress}
 use Rattle.seize.specs.declared.progress.Progress.TheVariants as progress
 use Rattle.papaya_whole.proofs.Given.SeizeRule.Rows.Leaving.{steps_back}
 use Rattle.papaya_tables.proofs.TableLens.{have_table_lens}
-use Rattle.papaya_tables.specs.Lengths.{IsTableLen, len_of, places_for}
+use Rattle.papaya_tables.specs.Lengths.{IsTableLen, places_for}
 use Rattle.papaya_tables.specs.declared.node.Node.{Node}
 use Rattle.papaya_tables.specs.declared.node.Node.TheVariants as node
 use Rattle.papaya_tables.specs.declared.setting.Setting.{Setting}
@@ -35,13 +35,12 @@ use Rattle.papaya_whole.specs.Given.Reserves.declared.reserve.Reserving.{Reservi
 use Rattle.papaya_whole.specs.Given.Reserves.declared.reserve.Reserving.TheVariants as at
 use Rattle.papaya_whole.specs.Given.Rule.Chart.{Chart}
 use Rattle.papaya_whole.specs.Given.Rule.Words.{Blocks}
-use Rattle.papaya_whole.specs.Given.Alone.Counting.{count_ahead}
 use Rattle.papaya_whole.specs.Given.Callers.Sights.{seen_by}
 use Rattle.papaya_whole.specs.Given.Points.FactsTables.{SumFacts}
 use Rattle.papaya_whole.specs.Given.Late.FactsReserves.{ReservingFacts}
 use Rattle.papaya_whole.specs.Given.Late.ToldReserves.{IsRowOfReserve}
 use Rattle.papaya_whole.specs.Given.Maps.AloneReserves.{LooksAtRoot, SumsUp}
-use Rattle.papaya_whole.proofs.Given.Rule.Keys.Always.{Always, always_ends, always_steps}
+use Rattle.papaya_whole.proofs.Given.Rule.Keys.Always.{always_ends, always_steps}
 use Rattle.papaya_whole.proofs.Given.Late.KindsKept.Rooms.Making.{CountsOn, always_where, sum_counts}
 use Rattle.papaya_whole.proofs.Given.Maps.Reserves.Sums.{Ahead, sum_ahead}
 use Rattle.papaya_whole.specs.Contents.{ContentsBelow}
