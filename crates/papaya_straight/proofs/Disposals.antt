@@ -1,5 +1,5 @@
 -- The retirement of a pair within its disposal, and the disposal within a call on a key.
-use Rattle.std.specs.Prelude.{◌≡◌, ◌<◌, ◌≤◌, ℕ, Bool, true, false, IsSome, Option, Some}
+use Rattle.std.specs.Prelude.{◌≡◌, ◌<◌, ◌≤◌, ℕ, Bool, true, false, Option, Some}
 use Rattle.std.proofs.Common.{refl, sym, subst, ap}
 use Rattle.std.proofs.lemmas.Bool.{false≢true, le-ltb, lt-ltb}
 use Rattle.seize_words.specs.Op.{Op, Out, Load, Found}
@@ -20,16 +20,14 @@ use Rattle.papaya_tables.specs.declared.resize_mode.ResizeMode.{ResizeMode}
 use Rattle.papaya_tables.specs.declared.resize_mode.ResizeMode.TheVariants.{Incremental, Blocking}
 use Rattle.papaya_resize.specs.declared.dispose.Dispose.{Dispose}
 use Rattle.papaya_raw.specs.Call.{call_plan, disposed}
-use Rattle.papaya_raw.specs.declared.machines.answer.Called.{Called}
 use Rattle.papaya_raw.specs.declared.machines.answer.Called.TheVariants as called
 use Rattle.papaya_raw.specs.declared.machines.answer.KeyAnswer.{KeyAnswer}
 use Rattle.papaya_raw.specs.declared.machines.call.Calling.TheVariants as at
 use Rattle.papaya_raw.specs.declared.machines.call.KeyCall.{KeyCall}
 use Rattle.papaya_straight.specs.Disposing.{dispose_at, disposed as disposed_to, is_borrowed, settling as settling_at}
 use Rattle.papaya_straight.specs.Going.{CallGoes, CallLeads, DisposeLeads, DisposeReaches, MayCall, MayDispose, MaySettle, SettleGoes, SettleReaches}
-use Rattle.papaya_straight.specs.Reaches.{Reaches}
 use Rattle.papaya_straight.specs.Retiring.{retired}
-use Rattle.papaya_straight.specs.Runs.{MayRun, Leads, none_taken, one_more, Tells}
+use Rattle.papaya_straight.specs.Runs.{Tells}
 use Rattle.papaya_straight.specs.declared.disposing.Disposed.{Disposed}
 use Rattle.papaya_straight.specs.declared.disposing.Disposed.TheVariants as to
 use Rattle.papaya_straight.specs.declared.retiring.Retired.{Retired}

@@ -1,9 +1,9 @@
 -- The steps of a call that removes the pair of a key, from the root to its end, over any memory.
-use Rattle.std.specs.Prelude.{◌≡◌, ◌≢◌, ℕ, Bool, true, false, IsSome, Option, Some, Ok, Err}
+use Rattle.std.specs.Prelude.{◌≡◌, ◌≢◌, ℕ, Bool, IsSome, Option, Some, Ok}
 use Rattle.std.proofs.Common.{refl, sym, subst}
 use Rattle.std.proofs.lemmas.Bool.{ne_eqb, eq-eqb}
 use Rattle.seize_words.specs.Op.{Op, Out, Load, Add, Exchange, Found, Exchanged}
-use Rattle.seize_words.specs.Plan.{Plan, Then, May, MaySee, Steps, Ends}
+use Rattle.seize_words.specs.Plan.{Then, Steps, Ends}
 use Rattle.seize_words.specs.Word.{block_in}
 use Rattle.seize_words.specs.declared.at.At.TheVariants.{Root}
 use Rattle.papaya_tables.specs.Counts.{count_change, shard_of}
@@ -13,7 +13,7 @@ use Rattle.papaya_tables.specs.declared.marks.TheConstants.{TOMBSTONE}
 use Rattle.papaya_tables.specs.declared.node.Node.{Node}
 use Rattle.papaya_tables.specs.declared.setting.Setting.{Setting}
 use Rattle.papaya_tables.specs.declared.trial.Trial.{Trial}
-use Rattle.papaya_resize.specs.Dispose.{disposing, dispose_plan}
+use Rattle.papaya_resize.specs.Dispose.{disposing}
 use Rattle.papaya_raw.specs.Call.{call_plan, word_read}
 use Rattle.papaya_raw.specs.CallPoints.{untried}
 use Rattle.papaya_raw.specs.declared.machines.answer.Called.{Called}
@@ -24,18 +24,14 @@ use Rattle.papaya_raw.specs.declared.machines.call.Calling.{Calling}
 use Rattle.papaya_raw.specs.declared.machines.call.Calling.TheVariants as at
 use Rattle.papaya_raw.specs.declared.machines.call.KeyCall.{KeyCall}
 use Rattle.papaya_straight.specs.Disposing.{disposed, dispose_at}
-use Rattle.papaya_straight.specs.Going.{CallGoes, CallLeads, CallReaches, DisposeReaches, MayCall, MayDispose}
-use Rattle.papaya_straight.specs.Reaches.{Reached, At, Told, Reaches}
-use Rattle.papaya_straight.specs.Removing.{ComesTo, HasSought, removed_at, removed_by, removing_at, seeking, sought_at}
-use Rattle.papaya_straight.specs.Runs.{MayRun, Leads, none_taken, one_more, Tells}
+use Rattle.papaya_straight.specs.Going.{CallGoes, CallReaches, DisposeReaches, MayCall, MayDispose}
+use Rattle.papaya_straight.specs.Reaches.{Reached, At, Told}
+use Rattle.papaya_straight.specs.Removing.{ComesTo, HasSought, removed_at, removed_by, seeking, sought_at}
+use Rattle.papaya_straight.specs.Runs.{none_taken, one_more, Tells}
 use Rattle.papaya_straight.specs.declared.disposing.Disposed.{Disposed}
 use Rattle.papaya_straight.specs.declared.disposing.Disposed.TheVariants as to
-use Rattle.papaya_straight.specs.declared.removing.Removal.{Removal}
-use Rattle.papaya_straight.specs.declared.removing.Removal.TheVariants as removal
 use Rattle.papaya_straight.specs.declared.removing.Removed.{Removed}
-use Rattle.papaya_straight.specs.declared.removing.Removed.TheVariants as removed
 use Rattle.papaya_straight.specs.declared.removing.Sought.{Sought}
-use Rattle.papaya_straight.specs.declared.removing.Sought.TheVariants as sought
 use Rattle.papaya_straight.specs.declared.retiring.Retired.TheVariants as retire
 use Rattle.papaya_straight.proofs.Disposals.{disposes_on, disposes_over, may_dispose}
 use Rattle.papaya_straight.proofs.Running.{Led, begins, next, on_from, reaches_to, steps_to, tells_at}

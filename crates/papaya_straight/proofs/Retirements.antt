@@ -1,24 +1,20 @@
 -- The steps of a retirement, up to a batch that is full, over any memory.
-use Rattle.std.specs.Prelude.{◌≡◌, ◌≢◌, ◌<◌, ℕ, ◌==◌, ◌+◌, ◌%◌, ◌^◌, Bool, true, false, nat_lt, Option, Some, Ok, Err}
-use Rattle.std.proofs.Common.{refl, sym, subst}
+use Rattle.std.specs.Prelude.{◌≡◌, ◌≢◌, ℕ, ◌+◌, ◌%◌, ◌^◌, true, false, nat_lt, Option, Ok, Err}
+use Rattle.std.proofs.Common.{refl, subst}
 use Rattle.std.proofs.lemmas.Bool.{ne_eqb, eq-eqb}
 use Rattle.seize_words.specs.Op.{Op, Out, Load, Store, Add, Exchange, Found, Stored, Exchanged}
-use Rattle.seize_words.specs.Plan.{Plan, May, Steps}
 use Rattle.seize_words.specs.Word.{block_in}
 use Rattle.seize_words.specs.declared.at.At.TheVariants.{Slot, Entry}
-use Rattle.seize.specs.Settle.{resting, retiring, scanning, settle_plan}
+use Rattle.seize.specs.Settle.{retiring, settle_plan}
 use Rattle.seize.specs.declared.rows.settle.Settle.{Settle}
-use Rattle.seize.specs.declared.rows.settle.Settled.{Settled}
 use Rattle.seize.specs.declared.rows.settle.Settled.TheVariants as settled
 use Rattle.seize.specs.declared.rows.settle.Settling.{Settling}
 use Rattle.seize.specs.declared.rows.settle.Settling.TheVariants as at
 use Rattle.seize.specs.declared.states.TheConstants.{BATCH, COUNT, FIRST, HELD, NEXT}
 use Rattle.papaya_straight.specs.Going.{SettleGoes}
-use Rattle.papaya_straight.specs.Reaches.{Reaches}
-use Rattle.papaya_straight.specs.Retiring.{holding, retired}
-use Rattle.papaya_straight.specs.Runs.{MayRun, Leads, none_taken, one_more, Tells}
+use Rattle.papaya_straight.specs.Retiring.{holding}
+use Rattle.papaya_straight.specs.Runs.{Tells}
 use Rattle.papaya_straight.proofs.Running.{Led, steps_to, tells_at}
-use Rattle.papaya_straight.specs.declared.retiring.Retired.{Retired}
 
 module _ {T M : Type 0} (defers : T → Option ℕ) (can : M → Op T → Type 0) (took : M → Op T → Out T → M → Type 0) (shown : M → ℕ → Option T) where
   -- a retirement that may be made has come to this point

@@ -1,9 +1,9 @@
 -- The steps of a call that stores its own block, from the root to its end, over any memory.
-use Rattle.std.specs.Prelude.{◌≡◌, ◌≢◌, ℕ, Bool, true, false, IsSome, Option, Some, Ok, Err}
+use Rattle.std.specs.Prelude.{◌≡◌, ◌≢◌, ℕ, Bool, IsSome, Option, Some, Ok}
 use Rattle.std.proofs.Common.{refl, sym, subst}
 use Rattle.std.proofs.lemmas.Bool.{ne_eqb, eq-eqb}
 use Rattle.seize_words.specs.Op.{Op, Out, Load, Add, Exchange, Found, Exchanged}
-use Rattle.seize_words.specs.Plan.{Plan, Then, May, MaySee, Steps, Ends}
+use Rattle.seize_words.specs.Plan.{Steps, Ends}
 use Rattle.seize_words.specs.Word.{block_in}
 use Rattle.seize_words.specs.declared.at.At.TheVariants.{Root}
 use Rattle.papaya_tables.specs.Counts.{count_change, shard_of}
@@ -13,13 +13,12 @@ use Rattle.papaya_tables.specs.declared.marks.TheConstants.{TOMBSTONE}
 use Rattle.papaya_tables.specs.declared.node.Node.{Node}
 use Rattle.papaya_tables.specs.declared.setting.Setting.{Setting}
 use Rattle.papaya_tables.specs.declared.trial.Trial.{Trial}
-use Rattle.papaya_resize.specs.Dispose.{disposing, dispose_plan}
+use Rattle.papaya_resize.specs.Dispose.{disposing}
 use Rattle.papaya_raw.specs.Call.{call_plan, word_read}
 use Rattle.papaya_raw.specs.CallPoints.{untried}
 use Rattle.papaya_raw.specs.declared.machines.answer.Called.{Called}
 use Rattle.papaya_raw.specs.declared.machines.answer.Called.TheVariants as called
 use Rattle.papaya_raw.specs.declared.machines.answer.End.TheVariants as ends
-use Rattle.papaya_raw.specs.declared.machines.answer.KeyAnswer.{KeyAnswer}
 use Rattle.papaya_raw.specs.declared.machines.answer.KeyAnswer.TheVariants as answers
 use Rattle.papaya_raw.specs.declared.machines.answer.There.{There}
 use Rattle.papaya_raw.specs.declared.machines.call.Calling.{Calling}
@@ -27,17 +26,14 @@ use Rattle.papaya_raw.specs.declared.machines.call.Calling.TheVariants as at
 use Rattle.papaya_raw.specs.declared.machines.call.KeyCall.{KeyCall}
 use Rattle.papaya_straight.specs.Disposing.{disposed, dispose_at}
 use Rattle.papaya_straight.specs.Going.{CallGoes, CallLeads, CallReaches, DisposeReaches, MayCall, MayDispose}
-use Rattle.papaya_straight.specs.Reaches.{Reached, Reaches}
-use Rattle.papaya_straight.specs.Runs.{MayRun, Leads, none_taken, one_more, Tells}
+use Rattle.papaya_straight.specs.Runs.{Tells}
 use Rattle.papaya_straight.specs.Storing.{HasRead, call_at, replaced_by, stored_at, storing, try_at}
 use Rattle.papaya_straight.specs.declared.disposing.Disposed.{Disposed}
 use Rattle.papaya_straight.specs.declared.disposing.Disposed.TheVariants as to
 use Rattle.papaya_straight.specs.declared.retiring.Retired.TheVariants as retire
-use Rattle.papaya_straight.specs.declared.storing.Spot.{Spot}
 use Rattle.papaya_straight.specs.declared.storing.Spot.TheVariants as spot
 use Rattle.papaya_straight.specs.declared.storing.Stored.{Stored}
 use Rattle.papaya_straight.specs.declared.storing.Tried.{Tried}
-use Rattle.papaya_straight.specs.declared.storing.Tried.TheVariants as tried
 use Rattle.papaya_straight.proofs.Disposals.{disposes_on, disposes_over, may_dispose}
 use Rattle.papaya_straight.proofs.Running.{Led, begins, next, on_from, reaches_to, steps_to, tells_at}
 

@@ -1,9 +1,10 @@
 -- Each operation is the settling's next one.
-use Rattle.std.specs.Prelude.{◌+◌, ◌%◌, ◌^◌}
+use Rattle.std.specs.Prelude.{◌+◌, ◌%◌, ◌^◌, ℕ}
 use Rattle.std.proofs.Common.{sym, subst}
 use Rattle.std.proofs.lemmas.Bool.{le-ltb, lt-ltb}
 use Rattle.seize_words.specs.Op.{Load, Store, Add, Found, Stored}
 use Rattle.seize_words.specs.declared.at.At.TheVariants.{Entry}
+use Rattle.seize.specs.declared.rows.settle.Settling.{Settling}
 use Rattle.seize.specs.declared.rows.settle.Settling.TheVariants as at
 use Rattle.seize.specs.declared.states.TheConstants.{COUNT, FIRST, NEXT}
 use Rattle.papaya_straight.proofs.Retirements as by
@@ -12,27 +13,31 @@ use Rattle.papaya_straight.proofs.retiring.append.Given as given
 use Rattle.papaya_straight.proofs.retiring.append.Goals as goal
 use Rattle.papaya_straight.proofs.retiring.append.Goals.{After-load-first, After-load-pending, After-store, After-store-2, After-store-3, Else-pending-ne0}
 
-popped : (g : given.Over) (c : goal.After-load-pending g) → by.Grows g.T.Defers.defers g.M.Look.can g.M.Look.took g.M.Look.shown c.args.slot c.args.batch_size c.args.block c.args.last c.args.memory.now c.load-pending.result c.args.last 0 (at.Firsts c.args.block) c.load-pending.new.self
+-- the batch is held, and the block is being put behind its last one
+abbrev Grows : (g : given.Over) (slot size block last : ℕ) → g.row.M.Denot → (pending new first : ℕ) → Settling → g.row.M.Denot → Type 0
+Grows g = by.Grows g.T.Defers.defers g.M.Look.can g.M.Look.took g.M.Look.shown
+
+popped : (g : given.Over) (c : goal.After-load-pending g) → Grows g c.args.slot c.args.batch_size c.args.block c.args.last c.args.memory.now c.load-pending.result c.args.last 0 (at.Firsts c.args.block) c.load-pending.new.self
 popped g c = by.popped g.T.Defers.defers (begins c.requires.may) c.requires.last (subst (λ b. g.M.Look.took c.args.memory.now (Load (Entry b NEXT)) (Found c.load-pending.result) c.load-pending.new.self) c.block_of.ensures c.load-pending.ensures)
 
 firsted : (g : given.Over) (c : goal.After-load-first g)
-    → by.Grows g.T.Defers.defers g.M.Look.can g.M.Look.took g.M.Look.shown c.args.slot c.args.batch_size c.args.block c.args.last c.args.memory.now c.load-pending.result c.args.last 0 (at.Firsts c.args.block) c.load-pending.new.self
-    → by.Grows g.T.Defers.defers g.M.Look.can g.M.Look.took g.M.Look.shown c.args.slot c.args.batch_size c.args.block c.args.last c.args.memory.now c.load-pending.result c.args.last c.load-first.result (at.Batches c.args.block) c.load-first.new.self
+    → Grows g c.args.slot c.args.batch_size c.args.block c.args.last c.args.memory.now c.load-pending.result c.args.last 0 (at.Firsts c.args.block) c.load-pending.new.self
+    → Grows g c.args.slot c.args.batch_size c.args.block c.args.last c.args.memory.now c.load-pending.result c.args.last c.load-first.result (at.Batches c.args.block) c.load-first.new.self
 firsted g c l = by.firsted g.T.Defers.defers l c.requires.block (subst (λ b. g.M.Look.took c.load-pending.new.self (Load (Entry b FIRST)) (Found c.load-first.result) c.load-first.new.self) c.block_of-2.ensures c.load-first.ensures)
 
 batched : (g : given.Over) (c : goal.After-store g)
-    → by.Grows g.T.Defers.defers g.M.Look.can g.M.Look.took g.M.Look.shown c.args.slot c.args.batch_size c.args.block c.args.last c.args.memory.now c.load-pending.result c.args.last c.load-first.result (at.Batches c.args.block) c.load-first.new.self
-    → by.Grows g.T.Defers.defers g.M.Look.can g.M.Look.took g.M.Look.shown c.args.slot c.args.batch_size c.args.block c.args.last c.args.memory.now c.load-pending.result c.args.last c.load-first.result (at.Ends c.args.block) c.store.new.self
+    → Grows g c.args.slot c.args.batch_size c.args.block c.args.last c.args.memory.now c.load-pending.result c.args.last c.load-first.result (at.Batches c.args.block) c.load-first.new.self
+    → Grows g c.args.slot c.args.batch_size c.args.block c.args.last c.args.memory.now c.load-pending.result c.args.last c.load-first.result (at.Ends c.args.block) c.store.new.self
 batched g c l = by.batched g.T.Defers.defers l (subst (λ b. g.M.Look.took c.load-first.new.self (Store (Entry b FIRST) c.load-first.result) Stored c.store.new.self) c.block_of-3.ensures c.store.ensures)
 
 ended : (g : given.Over) (c : goal.After-store-2 g)
-    → by.Grows g.T.Defers.defers g.M.Look.can g.M.Look.took g.M.Look.shown c.args.slot c.args.batch_size c.args.block c.args.last c.args.memory.now c.load-pending.result c.args.last c.load-first.result (at.Ends c.args.block) c.store.new.self
-    → by.Grows g.T.Defers.defers g.M.Look.can g.M.Look.took g.M.Look.shown c.args.slot c.args.batch_size c.args.block c.args.last c.args.memory.now c.load-pending.result c.args.last c.load-first.result (at.Appends c.args.block) c.store-2.new.self
+    → Grows g c.args.slot c.args.batch_size c.args.block c.args.last c.args.memory.now c.load-pending.result c.args.last c.load-first.result (at.Ends c.args.block) c.store.new.self
+    → Grows g c.args.slot c.args.batch_size c.args.block c.args.last c.args.memory.now c.load-pending.result c.args.last c.load-first.result (at.Appends c.args.block) c.store-2.new.self
 ended g c l = by.ended g.T.Defers.defers l c.requires.last (subst (λ b. g.M.Look.took c.store.new.self (Store (Entry b NEXT) 0) Stored c.store-2.new.self) c.block_of-4.ensures c.store-2.ensures)
 
 appended : (g : given.Over) (c : goal.After-store-3 g)
-    → by.Grows g.T.Defers.defers g.M.Look.can g.M.Look.took g.M.Look.shown c.args.slot c.args.batch_size c.args.block c.args.last c.args.memory.now c.load-pending.result c.args.last c.load-first.result (at.Appends c.args.block) c.store-2.new.self
-    → by.Grows g.T.Defers.defers g.M.Look.can g.M.Look.took g.M.Look.shown c.args.slot c.args.batch_size c.args.block c.args.last c.args.memory.now c.load-pending.result c.args.last c.load-first.result (at.Counts c.args.block) c.store-3.new.self
+    → Grows g c.args.slot c.args.batch_size c.args.block c.args.last c.args.memory.now c.load-pending.result c.args.last c.load-first.result (at.Appends c.args.block) c.store-2.new.self
+    → Grows g c.args.slot c.args.batch_size c.args.block c.args.last c.args.memory.now c.load-pending.result c.args.last c.load-first.result (at.Counts c.args.block) c.store-3.new.self
 appended g c l = by.appended g.T.Defers.defers l (subst (λ b. g.M.Look.took c.store-2.new.self (Store (Entry b NEXT) c.args.block) Stored c.store-3.new.self) c.block_of-5.ensures c.store-3.ensures)
 
 pub load-pending-requires : goal.load-pending-requires
@@ -77,8 +82,8 @@ returns-then-pending-ne0 g c =
     (lt-ltb ((c.add-count.result + 1) % 2 ^ 64) c.args.batch_size c.if-count-batch_size.false) c.if-pending-ne0.true).leads
 
 counted : (g : given.Over) (c : goal.Else-pending-ne0 g)
-    → by.Grows g.T.Defers.defers g.M.Look.can g.M.Look.took g.M.Look.shown c.args.slot c.args.batch_size c.args.block c.args.last c.args.memory.now c.load-pending.result c.args.last c.load-first.result (at.Counts c.args.block) c.store-3.new.self
-    → by.Grows g.T.Defers.defers g.M.Look.can g.M.Look.took g.M.Look.shown c.args.slot c.args.batch_size c.args.block c.args.last c.args.memory.now c.load-pending.result c.args.block c.load-first.result at.Gives c.add-count.new.self
+    → Grows g c.args.slot c.args.batch_size c.args.block c.args.last c.args.memory.now c.load-pending.result c.args.last c.load-first.result (at.Counts c.args.block) c.store-3.new.self
+    → Grows g c.args.slot c.args.batch_size c.args.block c.args.last c.args.memory.now c.load-pending.result c.args.block c.load-first.result at.Gives c.add-count.new.self
 counted g c l =
     by.counted g.T.Defers.defers l (subst (λ b. g.M.Look.took c.store-3.new.self (Add (Entry b COUNT) 1) (Found c.add-count.result) c.add-count.new.self) c.block_of-6.ensures c.add-count.ensures)
     (lt-ltb ((c.add-count.result + 1) % 2 ^ 64) c.args.batch_size c.if-count-batch_size.false) c.if-pending-ne0.false
