@@ -68,15 +68,15 @@ module _ {K V : Type 0} (key_in : K → Type 0) (text : K → List ℕ) (value_i
     pub hasher : Its map.hasher
 
 -- What a set is written as, and what is read of a value as one.
-module _ {K : Type 0} (in_range : K → Type 0) (value : K → Data) where
+module _ {K : Type 0} (element_in : K → Type 0) (value : K → Data) where
   -- These elements, all in range, are written as the array of just them, in the order of their texts.
   pub record AreElementsOfArray (elements : List K) (written : Data) : Type 0 where
     pub array : IsArrayOf value elements written
-    pub in_range : All in_range elements
+    pub in_range : All element_in elements
 
   -- A set was read of a value: it was made of the elements that its items stand for, in their order, and has each once.
   pub record IsSetOf {S : Type 0} (same : K → K → Bool) (written : Data) (set : Set K S) : Type 0 where
     pub elements : HasElements value set.elements written
-    pub in_range : All in_range set.elements
+    pub in_range : All element_in set.elements
     pub once : IsDistinct same set.elements
-    pub made : (given : List K) × AreItemsOf in_range value given written × IsSetMadeOf same given set
+    pub made : (given : List K) × AreItemsOf element_in value given written × IsSetMadeOf same given set
