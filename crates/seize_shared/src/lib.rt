@@ -10,4 +10,4 @@ mod view;
 pub use caller::Caller;
 pub use law::rows_go_on;
 pub use rows::OfRows;
-pub use view::{Fixed, View};
+pub use view::{Fixed, Has, View};

@@ -6,6 +6,8 @@ mod counting;
 #[cfg(test)]
 mod looking;
 #[cfg(test)]
+mod making;
+#[cfg(test)]
 mod owning;
 #[cfg(test)]
 mod sections;
