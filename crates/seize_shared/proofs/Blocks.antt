@@ -108,9 +108,13 @@ module _ {T : Type 0} (defers : T → Option ℕ) (fixed : Fixed) where
     makes none value words list (OutMade (Err back)) m took =
         let n : World T = made_by defers w id m (OutMade (Err back)) in
         users Nothing m n
-        (came_then defers fixed w n (Makes id value words) h.came
-        (OutMade (Err back), m, subst (λ (o : Option ℕ). HasListWord defers o words) (sym list) tt,
-        subst (λ (x : Mem T). Took x (Make value words) (OutMade (Err back)) m) h.memory took, refl)) refl refl refl
+        (came_then defers fixed w n (Makes id value words) h.came (
+          OutMade (Err back),
+          m,
+          subst (λ (o : Option ℕ). HasListWord defers o words) (sym list) tt,
+          subst (λ (x : Mem T). Took x (Make value words) (OutMade (Err back)) m) h.memory took,
+          refl,
+        )) refl refl refl
         (ap (λ (x : Mem T). x.slots) took.1) tt
         (λ j x ne e. same_hands w n j x refl (h.seats j x e).known)
         (λ a c held. held) (λ c. refl) (told (Inside t Nothing) (Make value words) (OutMade (Err back))) (Nothing, refl, refl)
