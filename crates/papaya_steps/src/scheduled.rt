@@ -41,7 +41,8 @@ impl<K: Eq + Hash + Drop, V: Drop, S: BuildHasher + Drop> Runner<K, V> for Sched
     }
 
     fn take_turn(&mut self, event: Event<K, V>) -> Result<(), AllocError> {
-        self.running.take_turn(event)
+        self.running.take_turn(event)?;
+        Ok(())
     }
 
     fn last_outcome(&self) -> Option<&Outcome<V>> {
@@ -49,7 +50,7 @@ impl<K: Eq + Hash + Drop, V: Drop, S: BuildHasher + Drop> Runner<K, V> for Sched
     }
 
     fn end(self, alloc: Global) -> Result<Run<K, V>, AllocError> {
-        self.running.end(alloc)
+        Ok(self.running.end(alloc)?)
     }
 
     fn run_anew(
@@ -59,7 +60,8 @@ impl<K: Eq + Hash + Drop, V: Drop, S: BuildHasher + Drop> Runner<K, V> for Sched
         choices: Vec<u64>,
         schedule: Vec<Event<K, V>>,
     ) -> Result<Run<K, V>, Fault> {
-        run(alloc, setup, self.running.into_hasher(), schedule, choices)
+        let hasher = self.running.into_hasher();
+        Ok(run(alloc, setup, hasher, schedule, choices)?)
     }
 
     ghost counts = { λ setup events r come. come.so_far.outcomes };
