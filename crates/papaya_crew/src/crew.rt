@@ -124,9 +124,9 @@ fn gathered<K: Drop, V: Drop, N: CrewName>(drivers: Vec<Driver<K, V, N>>) -> Sha
     let Some(first) = drivers.pop() else {
         unreachable!()
     };
-    let mut all = first.into_parts().2;
+    let mut all = first.into_share();
     while let Some(driver) = drivers.pop() {
-        all.merge(driver.into_parts().2);
+        all.merge(driver.into_share());
     }
     all
 }

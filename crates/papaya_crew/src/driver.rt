@@ -81,6 +81,21 @@ impl<K, V, N: CrewName> Driver<K, V, N> {
     }
 }
 
+impl<K: Drop, V: Drop, N: CrewName> Driver<K, V, N> {
+    /// Its share of the count.
+    pub(crate) fn into_share(self) -> Share<N>
+        ensures parts { result.parts ≡ 1 }
+        ensures amount { result.amount ≡ length self.list }
+    {
+        let Self {
+            number: _,
+            list: _,
+            share,
+        } = self;
+        share
+    }
+}
+
 /// Copies of an event: one for the list of its driver, and one to be kept.
 fn copies<K: Clone, V: Clone>(
     alloc: Global,
