@@ -1,5 +1,5 @@
 -- The drivers of a crew, one after another.
-use Rattle.std.specs.Prelude.{ℕ, List, [], ◌∷◌, ◌++◌, length, map}
+use Rattle.std.specs.Prelude.{ℕ, List, [], ◌∷◌, ◌++◌, map}
 use Rattle.std.specs.List.{range_with_len}
 use Rattle.std.proofs.Common.{◌≡◌, sym, ap, ◌∙◌, arith}
 use Rattle.std.proofs.lemmas.List.FromFn.{map-range_with_len_more}
@@ -14,7 +14,7 @@ abbrev fresh : {K V : Type 0} → ℕ → Listed K V
 fresh k = listing k []
 
 pub of-requires-clause-counted : goal.of-requires-clause-counted
-of-requires-clause-counted g c = c.split_off.ensures.amount ∙ sym (ap length c.new.ensures.items)
+of-requires-clause-counted g c = c.split_off.ensures.amount ∙ sym c.new.ensures.len
 
 pub loop-number-preserved : goal.loop-number-preserved
 loop-number-preserved g c =
