@@ -1,4 +1,11 @@
 //! The run to which a crew applies events.
+ghost use Rattle.std.specs.Prelude.{◌≡◌, ◌++◌, ◌∷◌, [], List, IfOk, IfErr, OnOk};
+ghost use Rattle.papaya_runs.specs.declared.event.Setup.{Setup};
+ghost use Rattle.papaya_schedules.specs.declared.event.Event.{Event};
+ghost use Rattle.papaya_scheduler.specs.Played.{terms_given};
+ghost use Rattle.papaya_running.specs.Run.{HasCome, bounded};
+ghost use Rattle.papaya_steps.specs.Scheduled.{IsWholeRun};
+
 use papaya_crew::runner::Runner;
 use papaya_raw::Hashes;
 use papaya_running::running::{Running, run};
@@ -40,7 +47,11 @@ impl<K: Eq + Hash + Drop, V: Drop, S: BuildHasher + Drop> Runner<K, V> for Sched
         Ok(Scheduled { running })
     }
 
-    fn take_turn(&mut self, event: Event<K, V>) -> Result<(), AllocError> {
+    fn take_turn(&mut self, event: Event<K, V>) -> Result<(), AllocError>
+        requires { (setup : Setup) × (events : List (Event K V)) × HasCome K.eq ⟦<S as Hashes<K>>⟧.hash (terms_given (bounded setup)) events self.old.running }
+        ensures { OnOk result ((setup : Setup) (events : List (Event K V)) → HasCome K.eq ⟦<S as Hashes<K>>⟧.hash (terms_given (bounded setup)) events self.old.running
+            → HasCome K.eq ⟦<S as Hashes<K>>⟧.hash (terms_given (bounded setup)) (events ++ event ∷ []) self.new.running) }
+    {
         self.running.take_turn(event)?;
         Ok(())
     }
@@ -59,7 +70,10 @@ impl<K: Eq + Hash + Drop, V: Drop, S: BuildHasher + Drop> Runner<K, V> for Sched
         setup: Setup,
         choices: Vec<u64>,
         schedule: Vec<Event<K, V>>,
-    ) -> Result<Run<K, V>, Fault> {
+    ) -> Result<Run<K, V>, Fault>
+        ensures run { IfOk result (IsWholeRun K.eq (terms_given (bounded setup)) schedule.items) }
+        ensures memory { IfErr result (λ fault. fault ≡ Fault.Memory) }
+    {
         let hasher = self.running.into_hasher();
         Ok(run(alloc, setup, hasher, schedule, choices)?)
     }
