@@ -2,16 +2,7 @@
 use Rattle.std.specs.Prelude.{◌%◌, ◌^◌, fold}
 use Rattle.papaya_scheduler.specs.Played.{terms_given}
 use Rattle.papaya_running.specs.Run.{bounded}
-use Rattle.papaya_steps.proofs.scheduled.Scheduled.end.Goals as goal
-
-pub end-requires : goal.end-requires
-end-requires g c = (
-  g.K.PartialEq.eq,
-  (λ hasher key. g.S.Hasher.Hasher.finish (fold g.S.Hasher.Hasher.write (g.S.BuildHasher.build_hasher hasher) (g.K.Hash.hash_input key)) % 2 ^ 64),
-  terms_given (bounded c.requires.0),
-  c.requires.1,
-  c.requires.2,
-)
+use Rattle.papaya_steps.proofs.scheduled.ScheduledRunner.end.Goals as goal
 
 pub returns : goal.returns
 returns g c = λ setup events come.
