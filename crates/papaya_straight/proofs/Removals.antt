@@ -25,8 +25,7 @@ use Rattle.papaya_raw.specs.declared.machines.call.Calling.TheVariants as at
 use Rattle.papaya_raw.specs.declared.machines.call.KeyCall.{KeyCall}
 use Rattle.papaya_straight.specs.Disposing.{disposed, dispose_at}
 use Rattle.papaya_straight.specs.Going.{CallGoes, CallReaches, DisposeReaches, MayCall, MayDispose}
-use Rattle.papaya_straight.specs.Reaches.{Reached, At, Told}
-use Rattle.papaya_straight.specs.Removing.{ComesTo, HasSought, removed_at, removed_by, seeking, sought_at}
+use Rattle.papaya_straight.specs.Removing.{HasSought, removed_at, removed_by, seeking, sought_at}
 use Rattle.papaya_straight.specs.Runs.{none_taken, one_more, Tells}
 use Rattle.papaya_straight.specs.declared.disposing.Disposed.{Disposed}
 use Rattle.papaya_straight.specs.declared.disposing.Disposed.TheVariants as to

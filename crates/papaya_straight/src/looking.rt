@@ -79,7 +79,7 @@ fn tell(root: u64, mode: ResizeMode, hash: u64, trial: Trial, word: u64, finding
 
 /// Makes a try.
 #[inline(always)]
-fn glance<K: Eq + Hash, V, Q: Equivalent<K>, M: Look<Node<K, V>>>(
+fn look_at<K: Eq + Hash, V, Q: Equivalent<K>, M: Look<Node<K, V>>>(
     memory: &mut M,
     root: u64,
     mode: ResizeMode,
@@ -99,7 +99,7 @@ fn glance<K: Eq + Hash, V, Q: Equivalent<K>, M: Look<Node<K, V>>>(
 
 /// Makes tries, from this one on, up to one that ends them.
 #[inline(always)]
-fn glance_on<K: Eq + Hash, V, Q: Equivalent<K>, M: Look<Node<K, V>>>(
+fn look_on<K: Eq + Hash, V, Q: Equivalent<K>, M: Look<Node<K, V>>>(
     memory: &mut M,
     root: u64,
     mode: ResizeMode,
@@ -113,7 +113,7 @@ fn glance_on<K: Eq + Hash, V, Q: Equivalent<K>, M: Look<Node<K, V>>>(
 {
     let mut trial = first;
     for _ in 0..first.table.limit {
-        match glance::<K, V, Q, M>(memory, root, mode, hash, asked, trial) {
+        match look_at::<K, V, Q, M>(memory, root, mode, hash, asked, trial) {
             Glance::Next(next) => trial = next,
             Glance::Ends(end) => return end,
         }
@@ -138,5 +138,5 @@ pub fn look_up<K: Eq + Hash, V, Q: Equivalent<K>, M: Look<Node<K, V>>>(
         return Sight::Ends(None);
     }
     let table = Table::seen(link, memory.value(Link::block_of(link)));
-    glance_on::<K, V, Q, M>(memory, root, mode, hash, asked, Trial::first(table, hash))
+    look_on::<K, V, Q, M>(memory, root, mode, hash, asked, Trial::first(table, hash))
 }

@@ -98,8 +98,7 @@ fn weigh<K, V, Q>(
     finding: Finding,
 ) -> Sought
     ensures { (stands : Point) (loaded : Bool)
-        → ComesTo {K = K} {V = V} {Q = Q} setting hash asked.now
-        (told_of loaded (seeking setting hash asked.now trial stands) word finding) (sought_at setting hash asked.now result) }
+        → ComesTo CallGoes (told_of loaded (seeking {K = K} {V = V} {Q = Q} setting hash asked.now trial stands) word finding) (sought_at setting hash asked.now result) }
 {
     match finding {
         Finding::Free => Sought::Ends(Removed::Answered(KeyAnswer::Absent)),

@@ -19,8 +19,8 @@ pub value-requires : goal.value-requires
 value-requires g c =
     subst (λ b. IsSome (g.M.Look.shown c.load-link.new.self b)) (sym c.block_of.ensures) (by.sees_table (g.Q.Equivalent.equivalent c.args.asked.now) c.args.root c.args.mode c.args.hash c.requires c.load-link.ensures c.if-link-eq0.false)
 
-pub glance_on-requires : goal.glance_on-requires
-glance_on-requires g c =
+pub look_on-requires : goal.look_on-requires
+look_on-requires g c =
     on_from (by.enters (g.Q.Equivalent.equivalent c.args.asked.now) c.args.root c.args.mode c.args.hash c.requires c.load-link.ensures c.if-link-eq0.false c.value.result.now
     (subst (λ b. g.M.Look.shown c.load-link.new.self b ≡ Some c.value.result.now) c.block_of.ensures c.value.ensures) c.first.result (c.first.ensures ∙ ap (λ t. first_trial t c.args.hash) c.seen-table.ensures))
 
@@ -28,4 +28,4 @@ pub returns : goal.returns
 returns g c =
     reaches_to (by.enters (g.Q.Equivalent.equivalent c.args.asked.now) c.args.root c.args.mode c.args.hash c.requires c.load-link.ensures c.if-link-eq0.false c.value.result.now
     (subst (λ b. g.M.Look.shown c.load-link.new.self b ≡ Some c.value.result.now) c.block_of.ensures c.value.ensures) c.first.result (c.first.ensures ∙ ap (λ t. first_trial t c.args.hash) c.seen-table.ensures))
-    c.glance_on.new.memory (sight_at c.args.root c.args.mode c.args.hash c.glance_on.result) c.glance_on.ensures
+    c.look_on.new.memory (sight_at c.args.root c.args.mode c.args.hash c.look_on.result) c.look_on.ensures

@@ -21,18 +21,18 @@ gives : (g : given.Over) (c : goal.Else-pending-ne0 g)
 gives g c =
     subst (λ (s : Settle). Led SettleGoes g.M.Look.took g.M.Look.shown (settle_plan g.T.Defers.defers) g.M.Look.can
     (grown c.args.slot c.args.batch_size c.args.pending c.args.block c.args.first c.args.count) c.args.memory.now s c.args.memory.now)
-    (by.is_given c.args.slot c.args.batch_size c.args.pending c.args.block c.args.first c.args.count (lt-ltb ((c.args.count + 1) % 2 ^ 64) c.args.batch_size c.if-wrapping_add-batch_size.false) c.if-pending-ne0.false)
+    (by.is_given c.args.slot c.args.batch_size c.args.pending c.args.block c.args.first c.args.count (lt-ltb ((c.args.count + 1) % 2 ^ 64) c.args.batch_size c.if-count-batch_size.false) c.if-pending-ne0.false)
     (begins c.requires)
 
-pub returns-then-wrapping_add-batch_size : goal.returns-then-wrapping_add-batch_size
-returns-then-wrapping_add-batch_size g c =
+pub returns-then-count-batch_size : goal.returns-then-count-batch_size
+returns-then-count-batch_size g c =
     subst (λ (s : Settle). Leads SettleGoes g.M.Look.took g.M.Look.shown (settle_plan g.T.Defers.defers) (grown c.args.slot c.args.batch_size c.args.pending c.args.block c.args.first c.args.count) c.args.memory.now s c.args.memory.now)
-    (by.is_full c.args.slot c.args.batch_size c.args.pending c.args.block c.args.first c.args.count (le-ltb ((c.args.count + 1) % 2 ^ 64) c.args.batch_size c.if-wrapping_add-batch_size.true)) (none_taken _ _)
+    (by.is_full c.args.slot c.args.batch_size c.args.pending c.args.block c.args.first c.args.count (le-ltb ((c.args.count + 1) % 2 ^ 64) c.args.batch_size c.if-count-batch_size.true)) (none_taken _ _)
 
 pub returns-then-pending-ne0 : goal.returns-then-pending-ne0
 returns-then-pending-ne0 g c =
     subst (λ (s : Settle). Leads SettleGoes g.M.Look.took g.M.Look.shown (settle_plan g.T.Defers.defers) (grown c.args.slot c.args.batch_size c.args.pending c.args.block c.args.first c.args.count) c.args.memory.now s c.args.memory.now)
-    (by.is_further c.args.slot c.args.batch_size c.args.pending c.args.block c.args.first c.args.count (lt-ltb ((c.args.count + 1) % 2 ^ 64) c.args.batch_size c.if-wrapping_add-batch_size.false) c.if-pending-ne0.true)
+    (by.is_further c.args.slot c.args.batch_size c.args.pending c.args.block c.args.first c.args.count (lt-ltb ((c.args.count + 1) % 2 ^ 64) c.args.batch_size c.if-count-batch_size.false) c.if-pending-ne0.true)
     (none_taken _ _)
 
 pub store-requires : goal.store-requires

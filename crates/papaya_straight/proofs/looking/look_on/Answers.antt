@@ -4,14 +4,14 @@ use Rattle.papaya_straight.specs.Going.{LookGoes}
 use Rattle.papaya_straight.specs.Looking.{sight_at}
 use Rattle.papaya_straight.specs.Runs.{none_taken}
 use Rattle.papaya_straight.proofs.Running.{leads_on, reaches_on, runs_along}
-use Rattle.papaya_straight.proofs.looking.glance_on.Goals as goal
+use Rattle.papaya_straight.proofs.looking.look_on.Goals as goal
 
 pub loop-init : goal.loop-init
 loop-init g c =
     record { led = none_taken _ _ }
 
-pub glance-requires : goal.glance-requires
-glance-requires g c =
+pub look_at-requires : goal.look_at-requires
+look_at-requires g c =
     runs_along _ _ _ _ _ _ _ _ _ c.loop.invariant.led c.requires
 
 pub loop-preserved : goal.loop-preserved

@@ -9,7 +9,7 @@ use Rattle.papaya_straight.specs.Going.{LookGoes}
 use Rattle.papaya_straight.specs.Looking.{glance_at, looks}
 use Rattle.papaya_straight.specs.Reaches.{ComesTo}
 use Rattle.papaya_straight.proofs.Running.{begins, comes_to, next}
-use Rattle.papaya_straight.proofs.looking.glance.Goals as goal
+use Rattle.papaya_straight.proofs.looking.look_at.Goals as goal
 
 pub load-word-requires : goal.load-word-requires
 load-word-requires g c =

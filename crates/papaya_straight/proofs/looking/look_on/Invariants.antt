@@ -2,7 +2,7 @@
 use Rattle.papaya_resize.specs.declared.lookup.Looking.TheVariants as at
 use Rattle.papaya_straight.specs.Going.{LookLeads}
 use Rattle.papaya_straight.specs.Looking.{looks}
-use Rattle.papaya_straight.proofs.looking.glance_on.Given as goal
+use Rattle.papaya_straight.proofs.looking.look_on.Given as goal
 
 abbrev pub invariant-loop : goal.invariant-loop
 invariant-loop g l = record {
