@@ -1,5 +1,5 @@
 -- The steps that reclaim a block, over any memory.
-use Rattle.std.specs.Prelude.{◌≡◌, ◌≢◌, ℕ, IsSome, Option, Some, None}
+use Rattle.std.specs.Prelude.{◌≡◌, ◌≢◌, ℕ, Option, Some, None}
 use Rattle.std.proofs.Common.{refl, sym, subst, ap}
 use Rattle.std.proofs.lemmas.Bool.{ne_eqb}
 use Rattle.seize_words.specs.Op.{Op, Out, Load, Take, Found, Taken}
@@ -13,7 +13,7 @@ use Rattle.seize.specs.declared.rows.settle.Settling.TheVariants as at
 use Rattle.seize.specs.declared.states.TheConstants.{NEXT}
 use Rattle.papaya_straight.specs.Going.{MaySettle, SettleGoes}
 use Rattle.papaya_straight.specs.Reclaiming.{Reclaims}
-use Rattle.papaya_straight.proofs.Running.{Led, begins, next, steps_to}
+use Rattle.papaya_straight.proofs.Running.{Led, begins, steps_to}
 
 module _ {T M : Type 0} (defers : T → Option ℕ) (can : M → Op T → Type 0) (took : M → Op T → Out T → M → Type 0) (shown : M → ℕ → Option T) where
   -- a settling that is to reclaim a block has come to this point

@@ -3,7 +3,7 @@ use Rattle.std.specs.Prelude.{◌≡◌, ◌≢◌, ℕ, Bool, IsSome, Option, S
 use Rattle.std.proofs.Common.{refl, sym, subst}
 use Rattle.std.proofs.lemmas.Bool.{ne_eqb, eq-eqb}
 use Rattle.seize_words.specs.Op.{Op, Out, Load, Add, Exchange, Found, Exchanged}
-use Rattle.seize_words.specs.Plan.{Then, Steps, Ends}
+use Rattle.seize_words.specs.Plan.{Steps, Ends}
 use Rattle.seize_words.specs.Word.{block_in}
 use Rattle.seize_words.specs.declared.at.At.TheVariants.{Root}
 use Rattle.papaya_tables.specs.Counts.{count_change, shard_of}
@@ -26,7 +26,7 @@ use Rattle.papaya_raw.specs.declared.machines.call.KeyCall.{KeyCall}
 use Rattle.papaya_straight.specs.Disposing.{disposed, dispose_at}
 use Rattle.papaya_straight.specs.Going.{CallGoes, CallReaches, DisposeReaches, MayCall, MayDispose}
 use Rattle.papaya_straight.specs.Removing.{HasSought, removed_at, removed_by, seeking, sought_at}
-use Rattle.papaya_straight.specs.Runs.{none_taken, one_more, Tells}
+use Rattle.papaya_straight.specs.Runs.{Tells}
 use Rattle.papaya_straight.specs.declared.disposing.Disposed.{Disposed}
 use Rattle.papaya_straight.specs.declared.disposing.Disposed.TheVariants as to
 use Rattle.papaya_straight.specs.declared.removing.Removed.{Removed}

@@ -1,5 +1,5 @@
 -- A call that removes the pair of a key as straight code: where it stops.
-use Rattle.std.specs.Prelude.{◌≡◌, ℕ, if◌then◌else◌, Option}
+use Rattle.std.specs.Prelude.{ℕ, if◌then◌else◌, Option}
 use Rattle.seize_words.specs.Plan.{Then, Ends}
 use Rattle.papaya_tables.specs.declared.marks.TheConstants.{TOMBSTONE}
 use Rattle.papaya_tables.specs.declared.node.Node.{Node}

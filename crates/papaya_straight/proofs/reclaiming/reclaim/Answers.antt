@@ -1,5 +1,5 @@
 -- Which block comes next is read, and this one is taken.
-use Rattle.std.specs.Prelude.{◌≡◌, IsSome, None, Some}
+use Rattle.std.specs.Prelude.{◌≡◌, IsSome, Some}
 use Rattle.std.proofs.Common.{sym, ◌∙◌, subst}
 use Rattle.seize_words.specs.Op.{Load, Take, Found, Taken}
 use Rattle.seize_words.specs.declared.at.At.TheVariants.{Entry}

@@ -1,6 +1,6 @@
 -- The batch stands where its count says.
 use Rattle.std.specs.Prelude.{◌+◌, ◌%◌, ◌^◌}
-use Rattle.std.proofs.Common.{sym, subst}
+use Rattle.std.proofs.Common.{subst}
 use Rattle.std.proofs.lemmas.Bool.{le-ltb, lt-ltb}
 use Rattle.seize.specs.Settle.{settle_plan}
 use Rattle.seize.specs.declared.rows.settle.Settle.{Settle}
