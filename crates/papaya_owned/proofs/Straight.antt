@@ -1,5 +1,5 @@
 -- What straight code has made of a call on a key are steps of a run by the one owner.
-use Rattle.std.specs.Prelude.{◌≡◌, ℕ, Bool, true, Ok, Result}
+use Rattle.std.specs.Prelude.{◌≡◌, ℕ, Bool, true, false, Ok, Option, Some, None, Result}
 use Rattle.std.proofs.Common.{refl, sym, subst}
 use denote.Ref.{Bor}
 use Rattle.seize_words.specs.Mem.{Mem, Can, Took, value_at}
@@ -9,10 +9,16 @@ use Rattle.seize_words.proofs.Plans.{may_as}
 use Rattle.seize.proofs.StepsInto.{steps_into}
 use Rattle.seize.specs.declared.progress.Progress.{Progress}
 use Rattle.seize.specs.declared.progress.Progress.TheVariants as progress
+use Rattle.seize.specs.Settle.{settle_plan}
+use Rattle.seize.specs.declared.rows.settle.Settle.{Settle}
+use Rattle.seize.specs.declared.rows.settle.Settled.{Settled}
+use Rattle.seize.specs.declared.rows.settle.Settled.TheVariants as settled
+use Rattle.papaya_tables.specs.Nodes.{deferred_word}
 use Rattle.papaya_tables.specs.declared.node.Node.{Node}
 use Rattle.papaya_tables.specs.declared.table.Table.{Table}
 use Rattle.papaya_resize.specs.Copier.{copier_plan}
 use Rattle.papaya_resize.specs.declared.copier.Copier.{Copier}
+use Rattle.papaya_resize.specs.declared.dispose.Dispose.{Dispose}
 use Rattle.papaya_resize.specs.declared.outcome.Outcome.{Outcome}
 use Rattle.papaya_resize.specs.declared.outcome.Outcome.TheVariants as outcome
 use Rattle.papaya_raw.specs.Call.{call_plan}
@@ -20,17 +26,18 @@ use Rattle.papaya_raw.specs.declared.machines.answer.Called.{Called}
 use Rattle.papaya_raw.specs.declared.machines.answer.Called.TheVariants as called
 use Rattle.papaya_raw.specs.declared.machines.answer.KeyAnswer.{KeyAnswer}
 use Rattle.papaya_raw.specs.declared.machines.call.KeyCall.{KeyCall}
-use Rattle.papaya_straight.specs.Going.{CallGoes, CopyGoes}
+use Rattle.papaya_straight.specs.Going.{CallGoes, CopyGoes, MaySettle, SettleGoes, SettleLeads}
+use Rattle.papaya_straight.specs.Reclaiming.{Reclaims}
 use Rattle.papaya_straight.specs.Runs as Straight
 use Rattle.papaya_straight.specs.Runs.{MayRun}
 use Rattle.papaya_straight.proofs.Running.{by_law}
 use Rattle.papaya_owned.specs.Ending.{Ends, Leads, RunsTo, none_taken, one_more, stops}
-use Rattle.papaya_owned.specs.Inside.{helping, takes_more}
+use Rattle.papaya_owned.specs.Inside.{has_ended, helping, retiring, takes_more}
 use Rattle.papaya_owned.specs.Machines.{on_call, on_key_after, on_key_plan}
 use Rattle.papaya_owned.specs.declared.machines.OnKey.{OnKey}
 use Rattle.papaya_owned.specs.declared.machines.Stop.{Stop}
 use Rattle.papaya_owned.specs.declared.machines.Stop.TheVariants as stop
-use Rattle.papaya_owned.proofs.Inner.{copier_may, helps_on}
+use Rattle.papaya_owned.proofs.Inner.{copier_may, helps_on, settle_may, settles_on}
 use Rattle.papaya_owned.proofs.Runs.Leading.{ends_along, runs_along}
 use Rattle.papaya_owned.proofs.Runs.Steps.{ends_on, may_step}
 
@@ -82,6 +89,35 @@ module _ {K V Q S : Type 0} (asks : Q → K → Bool) (same : K → K → Bool) 
 
     pub runs_there : (x : OnKey K V Q S) (k : Mem (Node K V)) (result : Result Stop Fault) → RunsTo plan_of (on d) n x k result → RunsTo plan_of (on c) m x k result
     runs_there x k result r = runs_along plan_of (on c) (on d) m n (leads_to c d m n l) x k result r
+
+  -- the retirement of a pair, within a call
+  module _ (u : OnKey K V Q S) (answer : KeyAnswer) (dispose : Dispose) where
+    not_ended : (told : Settled (Node K V)) → SettleGoes told → has_ended told ≡ false
+    not_ended settled.Goes so = refl
+    not_ended settled.Waits so = refl
+    not_ended (settled.Gave value) so = absurd so
+    not_ended settled.Done so = absurd so
+
+    pub settles_run : (s : Settle) (m : Mem (Node K V)) → Ends plan_of (retiring u answer dispose s) m → MaySettle deferred_word Took value_at Can s m
+    settles_run =
+        by_law SettleGoes Took value_at (settle_plan deferred_word) Can (λ s m. Ends plan_of (retiring u answer dispose s) m)
+        (λ s m ends. settle_may asks same hashes m u answer dispose s ends)
+        (λ s m ends n t told so x. ends_on plan_of (retiring u answer dispose s) m ends n (retiring u answer dispose t) progress.Goes tt
+        (settles_on asks same hashes m u answer dispose s n t told (not_ended told so) x))
+
+    settles_lead : (s t : Settle) (m n : Mem (Node K V)) → SettleLeads deferred_word Took value_at s m t n → Leads plan_of (retiring u answer dispose s) m (retiring u answer dispose t) n
+    settles_lead s t m n (Straight.none_taken _ _) = none_taken (retiring u answer dispose s) m
+    settles_lead s t m n (Straight.one_more _ _ x k l told so _ _ y) =
+        one_more (retiring u answer dispose s) m (retiring u answer dispose x) k (settles_lead s x m k l) progress.Goes tt (retiring u answer dispose t) n
+        (settles_on asks same hashes k u answer dispose x n t told (not_ended told so) y)
+
+    -- so does the reclaiming of a block
+    pub reclaims_lead : (s t : Settle) (m n : Mem (Node K V)) (result : Option (Node K V)) → Reclaims deferred_word Took value_at s m t n result
+        → Leads plan_of (retiring u answer dispose s) m (retiring u answer dispose t) n
+    reclaims_lead s t m n None l = settles_lead s t m n l
+    reclaims_lead s t m n (Some value) (x, k, l, y) =
+        one_more (retiring u answer dispose s) m (retiring u answer dispose x) k (settles_lead s x m k l) progress.Goes tt (retiring u answer dispose t) n
+        (settles_on asks same hashes k u answer dispose x n t (settled.Gave value) refl y)
 
   -- the help with a resize, within a call
   module _ (u : OnKey K V Q S) (goal : Table) where
