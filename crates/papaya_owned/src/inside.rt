@@ -20,7 +20,7 @@ ghost use Rattle.papaya_owned.specs.declared.machines.Stop.TheVariants as stop;
 use crate::machines::{OnKey, Stop};
 use papaya_raw::Outcome;
 use papaya_raw::machines::{Calling, Copier, Dispose, Disposing, End, KeyAnswer};
-use papaya_straight::{copy_places, reclaim};
+use papaya_straight::{copy_places, reclaims};
 use papaya_tables::{Equivalent, Hashes, Node, Table};
 use seize::rows::{Settle, Settled};
 use seize::{Machine, Progress};
@@ -40,24 +40,6 @@ fn has_ended<T: Drop>(told: Settled<T>) -> bool
     }
 }
 
-/// Reclaims blocks of a batch that hold no further values, and drops their values.
-#[inline(always)]
-fn reclaims<K: Eq + Hash + Drop, V: Drop, Q: Equivalent<K>, S: Hashes<K>>(
-    settle: &mut Settle,
-    memory: &mut Plain<Node<K, V>>,
-)
-    requires { (u : OnKey K V Q S) × (answer : KeyAnswer) × (dispose : Dispose) × Ends (on_key_plan Q.Equivalent.equivalent K.eq S.hash) (retiring u answer dispose settle.old) memory.old }
-    ensures { (u : OnKey K V Q S) (answer : KeyAnswer) (dispose : Dispose)
-        → Leads (on_key_plan Q.Equivalent.equivalent K.eq S.hash) (retiring u answer dispose settle.old) memory.old (retiring u answer dispose settle.new) memory.new }
-{
-    for _ in 0..MANY {
-        match reclaim::<Node<K, V>, Plain<Node<K, V>>>(settle, memory) {
-            Some(_) => {}
-            None => return,
-        }
-    }
-}
-
 /// Takes steps of the retirement of a pair, up to its end, or so many, and answers whether it has ended.
 #[inline(always)]
 fn retires<K: Eq + Hash + Drop, V: Drop, Q: Equivalent<K>, S: Hashes<K>>(
@@ -71,7 +53,7 @@ fn retires<K: Eq + Hash + Drop, V: Drop, Q: Equivalent<K>, S: Hashes<K>>(
         → Strides (on_key_plan Q.Equivalent.equivalent K.eq S.hash) (retiring u answer dispose settle.old) memory.old memory.new (retiring u answer dispose settle.new, progress.Goes) }
 {
     for _ in 0..MANY {
-        reclaims::<K, V, Q, S>(settle, memory);
+        reclaims(settle, memory);
         let told = settle.step(memory);
         if has_ended(told) {
             return true;

@@ -8,12 +8,14 @@ use Rattle.seize_words.specs.Word.{block_in}
 use Rattle.seize_words.specs.declared.at.At.TheVariants.{Entry}
 use Rattle.seize.specs.Settle.{settle_plan, standing}
 use Rattle.seize.specs.declared.rows.settle.Settle.{Settle}
+use Rattle.seize.specs.declared.rows.settle.Settled.{Settled}
 use Rattle.seize.specs.declared.rows.settle.Settled.TheVariants as settled
 use Rattle.seize.specs.declared.rows.settle.Settling.TheVariants as at
 use Rattle.seize.specs.declared.states.TheConstants.{NEXT}
-use Rattle.papaya_straight.specs.Going.{MaySettle, SettleGoes}
+use Rattle.papaya_straight.specs.Going.{DropGoes, DropLeads, MayDrop, MaySettle, SettleGoes, SettleLeads}
+use Rattle.papaya_straight.specs.Runs.{none_taken, one_more}
 use Rattle.papaya_straight.specs.Reclaiming.{Reclaims}
-use Rattle.papaya_straight.proofs.Running.{Led, begins, steps_to}
+use Rattle.papaya_straight.proofs.Running.{Led, begins, by_law, may_step, runs_on, steps_to}
 
 module _ {T M : Type 0} (defers : T → Option ℕ) (can : M → Op T → Type 0) (took : M → Op T → Out T → M → Type 0) (shown : M → ℕ → Option T) where
   -- a settling that is to reclaim a block has come to this point
@@ -52,3 +54,24 @@ module _ {T M : Type 0} {defers : T → Option ℕ} {can : M → Op T → Type 0
     subst (λ s. Steps took shown n (settle_plan defers (standing c (at.Takes further))) k (record c { reclaiming = further; stands = s }, settled.Gave given)) (sym h.stands)
         (Taken given, takes, rw (ne_eqb further 0 more) refl),
   )
+
+-- blocks are reclaimed, and their values dropped
+module _ {T M : Type 0} (defers : T → Option ℕ) (can : M → Op T → Type 0) (took : M → Op T → Out T → M → Type 0) (shown : M → ℕ → Option T) where
+  drops : (told : Settled T) → SettleGoes told → DropGoes told
+  drops settled.Goes so = tt
+  drops settled.Waits so = tt
+  drops (settled.Gave value) so = absurd so
+  drops settled.Done so = absurd so
+
+  pub may_once : (s : Settle) (m : M) → MayDrop defers took shown can s m → MaySettle defers took shown can s m
+  may_once =
+      by_law SettleGoes took shown (settle_plan defers) can (λ s m. MayDrop defers took shown can s m) (λ s m h. may_step DropGoes took shown (settle_plan defers) can s m h)
+      (λ s m h n t told so x. runs_on DropGoes took shown (settle_plan defers) can s m h n t told (drops told so) x)
+
+  leads_once : (s t : Settle) (m n : M) → SettleLeads defers took shown s m t n → DropLeads defers took shown s m t n
+  leads_once s t m n (none_taken _ _) = none_taken s m
+  leads_once s t m n (one_more _ _ x k l told so _ _ y) = one_more s m x k (leads_once s x m k l) told (drops told so) t n y
+
+  pub reclaims_on : (s t : Settle) (m n : M) (result : Option T) → Reclaims defers took shown s m t n result → DropLeads defers took shown s m t n
+  reclaims_on s t m n None l = leads_once s t m n l
+  reclaims_on s t m n (Some value) (x, k, l, y) = one_more s m x k (leads_once s x m k l) (settled.Gave value) tt t n y

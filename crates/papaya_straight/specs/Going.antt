@@ -29,6 +29,11 @@ SettleGoes settled.Goes = Unit {0}
 SettleGoes settled.Waits = Unit {0}
 SettleGoes _ = ⊥
 
+-- it takes a further step where what it gives back is dropped
+abbrev pub DropGoes : {T : Type 0} → Settled T → Type 0
+DropGoes settled.Done = ⊥
+DropGoes _ = Unit {0}
+
 -- so does a call on a key
 abbrev pub CallGoes : {T : Type 0} → Called T → Type 0
 CallGoes called.Goes = Unit {0}
@@ -67,6 +72,13 @@ module _ {T M : Type 0} (defers : T → Option ℕ) (took : M → Op T → Out T
   -- it has come to a point, or to what it told
   abbrev pub SettleReaches : Settle → M → M → Reached Settle (Settled T) → Type 0
   SettleReaches = Reaches (SettleGoes {T = T}) took shown (settle_plan defers)
+
+  -- the same, where what it gives back is dropped
+  abbrev pub MayDrop : (M → Op T → Type 0) → Settle → M → Type 0
+  MayDrop = MayRun (DropGoes {T = T}) took shown (settle_plan defers)
+
+  abbrev pub DropLeads : Settle → M → Settle → M → Type 0
+  DropLeads = Leads (DropGoes {T = T}) took shown (settle_plan defers)
 
 module _ {K V M : Type 0} (took : M → Op (Node K V) → Out (Node K V) → M → Type 0) (shown : M → ℕ → Option (Node K V)) where
   -- a disposal may be run from this point on
