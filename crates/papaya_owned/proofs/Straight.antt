@@ -146,31 +146,31 @@ places_on {K} {V} asks same hashes u goal hasher is c d m n l =
     (subst (λ h. Straight.Leads (CopyGoes {T = Node K V} {A = Table}) Took value_at (copier_plan (hashes h)) c m d n) (sym is) l)
 
 -- a refresh counts its list down
-module _ {T : Type 0} (defers : T → Option ℕ) (r : Refreshes) where
-  abbrev pub counting : Settle → Refreshes
-  counting s = record { leave = record r.leave { stands = leaving.Settles s } }
+abbrev pub counting : Refreshes → Settle → Refreshes
+counting r s = record { leave = record r.leave { stands = leaving.Settles s } }
 
+module _ {T : Type 0} (defers : T → Option ℕ) (r : Refreshes) where
   counts_on : (s t : Settle) (m n : Mem T) (told : Settled T) → DropGoes told → Steps Took value_at m (settle_plan defers s) n (t, told)
-      → Steps Took value_at m (refreshes_plan defers (counting s)) n (counting t, progress.Goes)
+      → Steps Took value_at m (refreshes_plan defers (counting r s)) n (counting r t, progress.Goes)
   counts_on s t m n settled.Goes so x =
-      steps_into (refreshes_after (counting s)) Can Took value_at m n (leave_plan defers (counting s).leave) (leave_settled (counting s).leave (t, settled.Goes)) (counting t, progress.Goes) refl
-      (steps_into (leave_settled (counting s).leave) Can Took value_at m n (settle_plan defers s) (t, settled.Goes) (leave_settled (counting s).leave (t, settled.Goes)) refl x)
+      steps_into (refreshes_after (counting r s)) Can Took value_at m n (leave_plan defers (counting r s).leave) (leave_settled (counting r s).leave (t, settled.Goes)) (counting r t, progress.Goes) refl
+      (steps_into (leave_settled (counting r s).leave) Can Took value_at m n (settle_plan defers s) (t, settled.Goes) (leave_settled (counting r s).leave (t, settled.Goes)) refl x)
   counts_on s t m n settled.Waits so x =
-      steps_into (refreshes_after (counting s)) Can Took value_at m n (leave_plan defers (counting s).leave) (leave_settled (counting s).leave (t, settled.Waits)) (counting t, progress.Goes) refl
-      (steps_into (leave_settled (counting s).leave) Can Took value_at m n (settle_plan defers s) (t, settled.Waits) (leave_settled (counting s).leave (t, settled.Waits)) refl x)
+      steps_into (refreshes_after (counting r s)) Can Took value_at m n (leave_plan defers (counting r s).leave) (leave_settled (counting r s).leave (t, settled.Waits)) (counting r t, progress.Goes) refl
+      (steps_into (leave_settled (counting r s).leave) Can Took value_at m n (settle_plan defers s) (t, settled.Waits) (leave_settled (counting r s).leave (t, settled.Waits)) refl x)
   counts_on s t m n (settled.Gave value) so x =
-      steps_into (refreshes_after (counting s)) Can Took value_at m n (leave_plan defers (counting s).leave) (leave_settled (counting s).leave (t, settled.Gave value)) (counting t, progress.Goes) refl
-      (steps_into (leave_settled (counting s).leave) Can Took value_at m n (settle_plan defers s) (t, settled.Gave value) (leave_settled (counting s).leave (t, settled.Gave value)) refl x)
+      steps_into (refreshes_after (counting r s)) Can Took value_at m n (leave_plan defers (counting r s).leave) (leave_settled (counting r s).leave (t, settled.Gave value)) (counting r t, progress.Goes) refl
+      (steps_into (leave_settled (counting r s).leave) Can Took value_at m n (settle_plan defers s) (t, settled.Gave value) (leave_settled (counting r s).leave (t, settled.Gave value)) refl x)
   counts_on s t m n settled.Done so x = absurd so
 
-  pub counts_run : (s : Settle) (m : Mem T) → Ends (refreshes_plan defers) (counting s) m → MayDrop defers Took value_at Can s m
+  pub counts_run : (s : Settle) (m : Mem T) → Ends (refreshes_plan defers) (counting r s) m → MayDrop defers Took value_at Can s m
   counts_run =
-      by_law DropGoes Took value_at (settle_plan defers) Can (λ s m. Ends (refreshes_plan defers) (counting s) m)
-      (λ s m ends. may_as (leave_settled (counting s).leave) Can Took value_at m (settle_plan defers s)
-      (may_as (refreshes_after (counting s)) Can Took value_at m (leave_plan defers (counting s).leave) (may_step (refreshes_plan defers) (counting s) m ends)))
-      (λ s m ends n t told so x. ends_on (refreshes_plan defers) (counting s) m ends n (counting t) progress.Goes tt (counts_on s t m n told so x))
+      by_law DropGoes Took value_at (settle_plan defers) Can (λ s m. Ends (refreshes_plan defers) (counting r s) m)
+      (λ s m ends. may_as (leave_settled (counting r s).leave) Can Took value_at m (settle_plan defers s)
+      (may_as (refreshes_after (counting r s)) Can Took value_at m (leave_plan defers (counting r s).leave) (may_step (refreshes_plan defers) (counting r s) m ends)))
+      (λ s m ends n t told so x. ends_on (refreshes_plan defers) (counting r s) m ends n (counting r t) progress.Goes tt (counts_on s t m n told so x))
 
-  pub counts_lead : (s t : Settle) (m n : Mem T) → DropLeads defers Took value_at s m t n → Leads (refreshes_plan defers) (counting s) m (counting t) n
-  counts_lead s t m n (Straight.none_taken _ _) = none_taken (counting s) m
+  pub counts_lead : (s t : Settle) (m n : Mem T) → DropLeads defers Took value_at s m t n → Leads (refreshes_plan defers) (counting r s) m (counting r t) n
+  counts_lead s t m n (Straight.none_taken _ _) = none_taken (counting r s) m
   counts_lead s t m n (Straight.one_more _ _ x k l told so _ _ y) =
-      one_more (counting s) m (counting x) k (counts_lead s x m k l) progress.Goes tt (counting t) n (counts_on x t k n told so y)
+      one_more (counting r s) m (counting r x) k (counts_lead s x m k l) progress.Goes tt (counting r t) n (counts_on x t k n told so y)
