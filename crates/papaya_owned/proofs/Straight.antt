@@ -11,7 +11,6 @@ use Rattle.seize.specs.declared.progress.Progress.{Progress}
 use Rattle.seize.specs.declared.progress.Progress.TheVariants as progress
 use Rattle.seize.specs.Leave.{leave_plan, settled as leave_settled}
 use Rattle.seize.specs.Settle.{settle_plan}
-use Rattle.seize.specs.declared.rows.leave.Leave.{Leave}
 use Rattle.seize.specs.declared.rows.leave.Leaving.TheVariants as leaving
 use Rattle.seize.specs.declared.rows.settle.Settle.{Settle}
 use Rattle.seize.specs.declared.rows.settle.Settled.{Settled}
