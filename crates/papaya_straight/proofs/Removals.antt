@@ -3,7 +3,7 @@ use Rattle.std.specs.Prelude.{◌≡◌, ◌≢◌, ℕ, Bool, IsSome, Option, S
 use Rattle.std.proofs.Common.{refl, sym, subst}
 use Rattle.std.proofs.lemmas.Bool.{ne_eqb, eq-eqb}
 use Rattle.seize_words.specs.Op.{Op, Out, Load, Add, Exchange, Found, Exchanged}
-use Rattle.seize_words.specs.Plan.{Then, Steps, Ends}
+use Rattle.seize_words.specs.Plan.{Steps, Ends}
 use Rattle.seize_words.specs.Word.{block_in}
 use Rattle.seize_words.specs.declared.at.At.TheVariants.{Root}
 use Rattle.papaya_tables.specs.Counts.{count_change, shard_of}
@@ -25,16 +25,15 @@ use Rattle.papaya_raw.specs.declared.machines.call.Calling.TheVariants as at
 use Rattle.papaya_raw.specs.declared.machines.call.KeyCall.{KeyCall}
 use Rattle.papaya_straight.specs.Disposing.{disposed, dispose_at}
 use Rattle.papaya_straight.specs.Going.{CallGoes, CallReaches, DisposeReaches, MayCall, MayDispose}
-use Rattle.papaya_straight.specs.Reaches.{Reached, At, Told}
-use Rattle.papaya_straight.specs.Removing.{ComesTo, HasSought, removed_at, removed_by, seeking, sought_at}
-use Rattle.papaya_straight.specs.Runs.{none_taken, one_more, Tells}
+use Rattle.papaya_straight.specs.Removing.{HasSought, removed_at, removed_by, seeking, sought_at}
+use Rattle.papaya_straight.specs.Runs.{Tells}
 use Rattle.papaya_straight.specs.declared.disposing.Disposed.{Disposed}
 use Rattle.papaya_straight.specs.declared.disposing.Disposed.TheVariants as to
 use Rattle.papaya_straight.specs.declared.removing.Removed.{Removed}
 use Rattle.papaya_straight.specs.declared.removing.Sought.{Sought}
 use Rattle.papaya_straight.specs.declared.retiring.Retired.TheVariants as retire
 use Rattle.papaya_straight.proofs.Disposals.{disposes_on, disposes_over, may_dispose}
-use Rattle.papaya_straight.proofs.Running.{Led, begins, next, on_from, reaches_to, steps_to, tells_at}
+use Rattle.papaya_straight.proofs.Running.{Led, begins, comes_to, next, on_from, reaches_to, steps_to, tells_at}
 
 module _ {K V Q M : Type 0} (asks : Q → K → Bool) (eq : K → K → Bool) (hashes : K → ℕ)
     (can : M → Op (Node K V) → Type 0) (took : M → Op (Node K V) → Out (Node K V) → M → Type 0) (shown : M → ℕ → Option (Node K V))
@@ -67,18 +66,6 @@ module _ {K V Q M : Type 0} (asks : Q → K → Bool) (eq : K → K → Bool) (h
     pub first_is : first ≡ first_trial (table_seen link value) hash
 
 module _ {K V Q M : Type 0} (asks : Q → K → Bool) (eq : K → K → Bool) (hashes : K → ℕ)
-    (took : M → Op (Node K V) → Out (Node K V) → M → Type 0) (shown : M → ℕ → Option (Node K V)) (setting : Setting) (hash : ℕ) (asked : Q) where
-  -- a step that comes to a point, or to what is told, reaches it
-  comes : (c : KeyCall K V Q) (m n : M) (rest : Then (Node K V) (KeyCall K V Q × Called (Node K V))) (to : Reached (KeyCall K V Q) (Called (Node K V)))
-      → (end : KeyCall K V Q × Called (Node K V)) → Ends (shown n) rest end → ComesTo setting hash asked end to
-      → ((e : KeyCall K V Q × Called (Node K V)) → Ends (shown n) rest e → Steps took shown m (call_plan asks eq hashes c) n e)
-      → CallReaches asks eq hashes took shown c m n to
-  comes c m n rest (At d) end ends w step =
-      one_more c m c m (none_taken c m) end.1 w.1 d n (subst (λ (x : KeyCall K V Q). Steps took shown m (call_plan asks eq hashes c) n (x, end.1)) w.0 (step end ends))
-  comes c m n rest (Told told) end ends w step =
-      (c, m, end.0, none_taken c m, subst (λ (t : Called (Node K V)). Steps took shown m (call_plan asks eq hashes c) n (end.0, t)) w.0 (step end ends), w.1)
-
-module _ {K V Q M : Type 0} (asks : Q → K → Bool) (eq : K → K → Bool) (hashes : K → ℕ)
     {can : M → Op (Node K V) → Type 0} {took : M → Op (Node K V) → Out (Node K V) → M → Type 0} {shown : M → ℕ → Option (Node K V)}
     {setting : Setting} {hash : ℕ} {asked : Q} where
   -- a word is read where it stands, whether it was loaded or found by an exchange that failed
@@ -89,7 +76,7 @@ module _ {K V Q M : Type 0} (asks : Q → K → Bool) (eq : K → K → Bool) (h
       → Steps took shown m (call_plan asks eq hashes (seeking setting hash asked trial stands)) n end)
       → CallReaches asks eq hashes took shown (seeking setting hash asked trial stands) m n (sought_at setting hash asked result)
   goes_by {trial} {stands} {m} h n loaded word result (end, ends, w) step =
-      comes asks eq hashes took shown setting hash asked (seeking setting hash asked trial stands) m n (word_read asks eq loaded (seeking setting hash asked trial stands) word) (sought_at setting hash asked result) end ends w step
+      comes_to CallGoes took shown (call_plan asks eq hashes) (seeking setting hash asked trial stands) m n (word_read asks eq loaded (seeking setting hash asked trial stands) word) (sought_at setting hash asked result) end ends w step
 
   -- the root names no table
   pub has_none : {m n : M} {link : ℕ} → MayCall asks eq hashes took shown can (seeking setting hash asked untried at.Roots) m

@@ -1,18 +1,19 @@
 -- The steps of a retirement, up to a batch that is full, over any memory.
-use Rattle.std.specs.Prelude.{◌≡◌, ◌≢◌, ℕ, ◌+◌, ◌%◌, ◌^◌, true, false, nat_lt, Option, Ok, Err}
+use Rattle.std.specs.Prelude.{◌≡◌, ◌≢◌, ◌==◌, ℕ, Bool, ◌+◌, ◌%◌, ◌^◌, true, false, if◌then◌else◌, nat_lt, Option, Ok, Err}
 use Rattle.std.proofs.Common.{refl, subst}
 use Rattle.std.proofs.lemmas.Bool.{ne_eqb, eq-eqb}
 use Rattle.seize_words.specs.Op.{Op, Out, Load, Store, Add, Exchange, Found, Stored, Exchanged}
+use Rattle.seize_words.specs.Plan.{Ends}
 use Rattle.seize_words.specs.Word.{block_in}
 use Rattle.seize_words.specs.declared.at.At.TheVariants.{Slot, Entry}
-use Rattle.seize.specs.Settle.{retiring, settle_plan}
+use Rattle.seize.specs.Settle.{retiring, settle_plan, to}
 use Rattle.seize.specs.declared.rows.settle.Settle.{Settle}
 use Rattle.seize.specs.declared.rows.settle.Settled.TheVariants as settled
 use Rattle.seize.specs.declared.rows.settle.Settling.{Settling}
 use Rattle.seize.specs.declared.rows.settle.Settling.TheVariants as at
 use Rattle.seize.specs.declared.states.TheConstants.{BATCH, COUNT, FIRST, HELD, NEXT}
 use Rattle.papaya_straight.specs.Going.{SettleGoes}
-use Rattle.papaya_straight.specs.Retiring.{holding}
+use Rattle.papaya_straight.specs.Retiring.{grown, holding}
 use Rattle.papaya_straight.specs.Runs.{Tells}
 use Rattle.papaya_straight.proofs.Running.{Led, steps_to, tells_at}
 
@@ -25,6 +26,26 @@ module _ {T M : Type 0} (defers : T → Option ℕ) (can : M → Op T → Type 0
   abbrev pub Grows : (slot size block last : ℕ) → M → (pending new first : ℕ) → Settling → M → Type 0
   Grows slot size block last m pending new first stands =
       Led (SettleGoes {T = T}) took shown (settle_plan defers) can (holding slot size block last 0 at.Pops) m (holding slot size pending new first stands)
+
+-- what is left of the step that counts a block comes to that
+goes_on : {T : Type 0} (shown : ℕ → Option T) (slot size pending block first : ℕ) (short none : Bool)
+    → Ends shown (if short then to {T = T} (if none then holding slot size pending block first at.Gives else holding slot size pending block first at.Pops)
+    else to (holding slot size pending block first (at.Scans 0 first 0)))
+    (holding slot size pending block first (if short then (if none then at.Gives else at.Pops) else at.Scans 0 first 0), settled.Goes)
+goes_on shown slot size pending block first true true = refl
+goes_on shown slot size pending block first true false = refl
+goes_on shown slot size pending block first false none = refl
+
+-- where a batch stands that has grown
+module _ (slot size pending block first count : ℕ) where
+  pub is_full : nat_lt ((count + 1) % 2 ^ 64) size ≡ false → grown slot size pending block first count ≡ holding slot size pending block first (at.Scans 0 first 0)
+  is_full long = rw long refl
+
+  pub is_further : nat_lt ((count + 1) % 2 ^ 64) size ≡ true → pending ≢ 0 → grown slot size pending block first count ≡ holding slot size pending block first at.Pops
+  is_further short more = rw short (rw (ne_eqb pending 0 more) refl)
+
+  pub is_given : nat_lt ((count + 1) % 2 ^ 64) size ≡ true → pending ≡ 0 → grown slot size pending block first count ≡ holding slot size pending block first at.Gives
+  is_given short none = rw short (rw (eq-eqb pending 0 none) refl)
 
 module _ {T M : Type 0} (defers : T → Option ℕ) {can : M → Op T → Type 0} {took : M → Op T → Out T → M → Type 0} {shown : M → ℕ → Option T} {slot size block : ℕ} {m0 : M} where
   -- the batch is taken hold of
@@ -49,6 +70,15 @@ module _ {T M : Type 0} (defers : T → Option ℕ) {can : M → Op T → Type 0
   pub held_none : {word : ℕ} {m2 : M} → Comes defers can took shown slot size block m0 (holding slot size block word 0 at.Pops) m2 → word ≡ 0
       → Comes defers can took shown slot size block m0 (holding slot size block 0 0 at.Pops) m2
   held_none {m2 = m2} l none = subst (λ w. Comes defers can took shown slot size block m0 (holding slot size block w 0 at.Pops) m2) none l
+
+  -- the block opens a batch
+  pub begun : {m1 : M} {pending : ℕ} → Grows defers can took shown slot size block 0 m0 block 0 0 at.Pops m0
+      → took m0 (Load (Entry (block_in block) NEXT)) (Found pending) m1 → Grows defers can took shown slot size block 0 m0 pending 0 block (at.Batches block) m1
+  begun {m1} {pending} l o = steps_to l settled.Goes tt (holding slot size pending 0 block (at.Batches block)) m1 (Found pending, o, refl)
+
+  pub alone : {pending : ℕ} {n k : M} → Grows defers can took shown slot size block 0 m0 pending 0 block (at.Ends block) n → took n (Store (Entry (block_in block) NEXT) 0) Stored k
+      → Grows defers can took shown slot size block 0 m0 pending 0 block (at.Counts block) k
+  alone {pending} {k = k} l o = steps_to l settled.Goes tt (holding slot size pending 0 block (at.Counts block)) k (Stored, o, refl)
 
   -- the block is put behind the last one
   module _ {last : ℕ} where
@@ -75,20 +105,16 @@ module _ {T M : Type 0} (defers : T → Option ℕ) {can : M → Op T → Type 0
       appended l o = steps_to l settled.Goes tt (holding slot size pending last first (at.Counts block)) k (Stored, o, refl)
 
       -- and counted
-      module _ {count : ℕ} (l : Grows defers can took shown slot size block last m0 pending last first (at.Counts block) n) (o : took n (Add (Entry (block_in first) COUNT) 1) (Found count) k) where
-        pub full : nat_lt ((count + 1) % 2 ^ 64) size ≡ false → Grows defers can took shown slot size block last m0 pending block first (at.Scans 0 first 0) k
-        full long = steps_to l settled.Goes tt (holding slot size pending block first (at.Scans 0 first 0)) k (Found count, o, rw long refl)
+      pub counted : {count : ℕ} → Grows defers can took shown slot size block last m0 pending last first (at.Counts block) n → took n (Add (Entry (block_in first) COUNT) 1) (Found count) k
+          → Led (SettleGoes {T = T}) took shown (settle_plan defers) can (holding slot size block last 0 at.Pops) m0 (grown slot size pending block first count) k
+      counted {count} l o =
+          steps_to l settled.Goes tt (grown slot size pending block first count) k
+          (Found count, o, goes_on {T = T} (shown k) slot size pending block first (nat_lt ((count + 1) % 2 ^ 64) size) (pending == 0))
 
-        module _ (short : nat_lt ((count + 1) % 2 ^ 64) size ≡ true) where
-          pub further : pending ≢ 0 → Grows defers can took shown slot size block last m0 pending block first at.Pops k
-          further more = steps_to l settled.Goes tt (holding slot size pending block first at.Pops) k (Found count, o, rw short (rw (ne_eqb pending 0 more) refl))
-
-          pub counted : pending ≡ 0 → Grows defers can took shown slot size block last m0 pending block first at.Gives k
-          counted none = steps_to l settled.Goes tt (holding slot size pending block first at.Gives) k (Found count, o, rw short (rw (eq-eqb pending 0 none) refl))
-
-      -- the batch is given up
-      pub gave : Grows defers can took shown slot size block last m0 pending block first at.Gives n → took n (Store (Slot slot BATCH) block) Stored k
-          → Tells SettleGoes took shown (settle_plan defers) (holding slot size block last 0 at.Pops) m0 k settled.Done
-      gave l o =
-          let over = record (holding slot size pending block first at.Over) { held = false } in
-          tells_at (steps_to l settled.Goes tt over k (Stored, o, refl)) settled.Done (λ x. x) over k (refl, refl)
+-- the batch is given up
+pub gave : {T M : Type 0} (defers : T → Option ℕ) {can : M → Op T → Type 0} {took : M → Op T → Out T → M → Type 0} {shown : M → ℕ → Option T} {slot size pending block first : ℕ}
+    {x : Settle} {m n k : M} → Led (SettleGoes {T = T}) took shown (settle_plan defers) can x m (holding slot size pending block first at.Gives) n
+    → took n (Store (Slot slot BATCH) block) Stored k → Tells (SettleGoes {T = T}) took shown (settle_plan defers) x m k settled.Done
+gave defers {slot = slot} {size = size} {pending = pending} {block = block} {first = first} {k = k} l o =
+    let over = record (holding slot size pending block first at.Over) { held = false } in
+    tells_at (steps_to l settled.Goes tt over k (Stored, o, refl)) settled.Done (λ x. x) over k (refl, refl)

@@ -6,8 +6,9 @@ ghost use Rattle.papaya_raw.specs.Call.{word_read};
 ghost use Rattle.papaya_raw.specs.CallPoints.{told, told_of, untried};
 ghost use Rattle.papaya_raw.specs.declared.machines.call.Calling.{Calling as Point};
 ghost use Rattle.papaya_raw.specs.declared.machines.call.Calling.TheVariants as at;
-ghost use Rattle.papaya_straight.specs.Going.{CallReaches, MayCall};
-ghost use Rattle.papaya_straight.specs.Removing.{ComesTo, HasSought, past_all, removed_at, removed_by, removing_at, seeking, sought_at};
+ghost use Rattle.papaya_straight.specs.Going.{CallGoes, CallReaches, MayCall};
+ghost use Rattle.papaya_straight.specs.Reaches.{ComesTo};
+ghost use Rattle.papaya_straight.specs.Removing.{HasSought, past_all, removed_at, removed_by, removing_at, seeking, sought_at};
 
 use crate::disposing::{Disposed, dispose, dispose_of};
 use crate::retiring::Retired;
@@ -97,8 +98,7 @@ fn weigh<K, V, Q>(
     finding: Finding,
 ) -> Sought
     ensures { (stands : Point) (loaded : Bool)
-        → ComesTo {K = K} {V = V} {Q = Q} setting hash asked.now
-        (told_of loaded (seeking setting hash asked.now trial stands) word finding) (sought_at setting hash asked.now result) }
+        → ComesTo CallGoes (told_of loaded (seeking {K = K} {V = V} {Q = Q} setting hash asked.now trial stands) word finding) (sought_at setting hash asked.now result) }
 {
     match finding {
         Finding::Free => Sought::Ends(Removed::Answered(KeyAnswer::Absent)),

@@ -1,17 +1,16 @@
 -- Each operation is the settling's next one.
-use Rattle.std.specs.Prelude.{◌+◌, ◌%◌, ◌^◌, ℕ}
+use Rattle.std.specs.Prelude.{ℕ}
 use Rattle.std.proofs.Common.{sym, subst}
-use Rattle.std.proofs.lemmas.Bool.{le-ltb, lt-ltb}
 use Rattle.seize_words.specs.Op.{Load, Store, Add, Found, Stored}
 use Rattle.seize_words.specs.declared.at.At.TheVariants.{Entry}
 use Rattle.seize.specs.declared.rows.settle.Settling.{Settling}
 use Rattle.seize.specs.declared.rows.settle.Settling.TheVariants as at
 use Rattle.seize.specs.declared.states.TheConstants.{COUNT, FIRST, NEXT}
 use Rattle.papaya_straight.proofs.Retirements as by
-use Rattle.papaya_straight.proofs.Running.{begins, next}
+use Rattle.papaya_straight.proofs.Running.{begins, next, on_from, reaches_to}
 use Rattle.papaya_straight.proofs.retiring.append.Given as given
 use Rattle.papaya_straight.proofs.retiring.append.Goals as goal
-use Rattle.papaya_straight.proofs.retiring.append.Goals.{After-load-first, After-load-pending, After-store, After-store-2, After-store-3, Else-pending-ne0}
+use Rattle.papaya_straight.proofs.retiring.append.Goals.{After-load-first, After-load-pending, After-store, After-store-2, After-store-3}
 
 -- the batch is held, and the block is being put behind its last one
 abbrev Grows : (g : given.Over) (slot size block last : ℕ) → g.row.M.Denot → (pending new first : ℕ) → Settling → g.row.M.Denot → Type 0
@@ -69,31 +68,13 @@ add-count-requires g c =
     let x = goal.at.add-count-requires g c in
     subst (λ b. g.M.Look.can c.store-3.new.self (Add (Entry b COUNT) 1)) (sym c.block_of-6.ensures) (next (appended g x.After-store-3 (ended g x.After-store-2 (batched g x.After-store (firsted g x.After-load-first (popped g x.After-load-pending)))))).0
 
-pub returns-then-count-batch_size : goal.returns-then-count-batch_size
-returns-then-count-batch_size g c =
-    let x = goal.at.returns-then-count-batch_size g c in
-    (by.full g.T.Defers.defers (appended g x.After-store-3 (ended g x.After-store-2 (batched g x.After-store (firsted g x.After-load-first (popped g x.After-load-pending))))) (subst (λ b. g.M.Look.took c.store-3.new.self (Add (Entry b COUNT) 1) (Found c.add-count.result) c.add-count.new.self) c.block_of-6.ensures c.add-count.ensures)
-    (le-ltb ((c.add-count.result + 1) % 2 ^ 64) c.args.batch_size c.if-count-batch_size.true)).leads
-
-pub returns-then-pending-ne0 : goal.returns-then-pending-ne0
-returns-then-pending-ne0 g c =
-    let x = goal.at.returns-then-pending-ne0 g c in
-    (by.further g.T.Defers.defers (appended g x.After-store-3 (ended g x.After-store-2 (batched g x.After-store (firsted g x.After-load-first (popped g x.After-load-pending))))) (subst (λ b. g.M.Look.took c.store-3.new.self (Add (Entry b COUNT) 1) (Found c.add-count.result) c.add-count.new.self) c.block_of-6.ensures c.add-count.ensures)
-    (lt-ltb ((c.add-count.result + 1) % 2 ^ 64) c.args.batch_size c.if-count-batch_size.false) c.if-pending-ne0.true).leads
-
-counted : (g : given.Over) (c : goal.Else-pending-ne0 g)
-    → Grows g c.args.slot c.args.batch_size c.args.block c.args.last c.args.memory.now c.load-pending.result c.args.last c.load-first.result (at.Counts c.args.block) c.store-3.new.self
-    → Grows g c.args.slot c.args.batch_size c.args.block c.args.last c.args.memory.now c.load-pending.result c.args.block c.load-first.result at.Gives c.add-count.new.self
-counted g c l =
-    by.counted g.T.Defers.defers l (subst (λ b. g.M.Look.took c.store-3.new.self (Add (Entry b COUNT) 1) (Found c.add-count.result) c.add-count.new.self) c.block_of-6.ensures c.add-count.ensures)
-    (lt-ltb ((c.add-count.result + 1) % 2 ^ 64) c.args.batch_size c.if-count-batch_size.false) c.if-pending-ne0.false
-
-pub store-requires-4 : goal.store-requires-4
-store-requires-4 g c =
-    let x = goal.at.store-requires-4 g c in
-    (next (counted g x.Else-pending-ne0 (appended g x.After-store-3 (ended g x.After-store-2 (batched g x.After-store (firsted g x.After-load-first (popped g x.After-load-pending))))))).0
+pub give-requires : goal.give-requires
+give-requires g c =
+    let x = goal.at.give-requires g c in
+    on_from (by.counted g.T.Defers.defers (appended g x.After-store-3 (ended g x.After-store-2 (batched g x.After-store (firsted g x.After-load-first (popped g x.After-load-pending))))) (subst (λ b. g.M.Look.took c.store-3.new.self (Add (Entry b COUNT) 1) (Found c.add-count.result) c.add-count.new.self) c.block_of-6.ensures c.add-count.ensures))
 
 pub returns : goal.returns
 returns g c =
     let x = goal.at.returns g c in
-    by.gave g.T.Defers.defers (counted g x.Else-pending-ne0 (appended g x.After-store-3 (ended g x.After-store-2 (batched g x.After-store (firsted g x.After-load-first (popped g x.After-load-pending)))))) c.store-4.ensures
+    reaches_to (by.counted g.T.Defers.defers (appended g x.After-store-3 (ended g x.After-store-2 (batched g x.After-store (firsted g x.After-load-first (popped g x.After-load-pending))))) (subst (λ b. g.M.Look.took c.store-3.new.self (Add (Entry b COUNT) 1) (Found c.add-count.result) c.add-count.new.self) c.block_of-6.ensures c.add-count.ensures))
+    c.give.new.memory _ c.give.ensures

@@ -31,9 +31,13 @@ pub returns-in-Err : goal.returns-in-Err
 returns-in-Err g c =
     (by.lost g.T.Defers.defers (by.seen g.T.Defers.defers (begins c.requires) c.load-word.ensures c.if-word-eq-HELD.false) c.in-Err.ensures).leads
 
+pub open-requires : goal.open-requires
+open-requires g c =
+    on_from (by.held_none g.T.Defers.defers (held g (goal.at.open-requires g c).In-Ok) c.if-word-eq0.true)
+
 pub returns-then-word-eq0 : goal.returns-then-word-eq0
 returns-then-word-eq0 g c =
-    (by.held_none g.T.Defers.defers (held g (goal.at.returns-then-word-eq0 g c).In-Ok) c.if-word-eq0.true).leads
+    reaches_to (by.held_none g.T.Defers.defers (held g (goal.at.returns-then-word-eq0 g c).In-Ok) c.if-word-eq0.true) c.open.new.memory _ c.open.ensures
 
 pub append-requires-clause-may : goal.append-requires-clause-may
 append-requires-clause-may g c =
