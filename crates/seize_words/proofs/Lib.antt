@@ -1,7 +1,8 @@
 mod FreeFlags
+mod FreeGrown
 mod FreeKept
 mod FreeNumbers
-mod FreeSums
+mod FreeWords
 mod FreeTrees
 mod DirectoryKept
 pub mod OneOwner
