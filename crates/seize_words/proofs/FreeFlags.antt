@@ -70,6 +70,11 @@ flagged-more n zero (suc x ∷ flags) h none = absurd (cc)
 flagged-more n (suc j) (zero ∷ flags) h none = flagged-more (n + 1) j flags (omega arith) none
 flagged-more n (suc j) (suc x ∷ flags) h none = omega (arith, flagged-more (n + 1) j flags (omega arith) none)
 
+pub length-flagged_le : (n : ℕ) (flags : List ℕ) → length (flagged_from n flags) ≤ length flags
+length-flagged_le n [] = omega arith
+length-flagged_le n (zero ∷ flags) = omega (arith, length-flagged_le (n + 1) flags)
+length-flagged_le n (suc x ∷ flags) = omega (arith, length-flagged_le (n + 1) flags)
+
 -- the sum of so many of the first flags
 abbrev pub sum_before : List ℕ → ℕ → ℕ
 sum_before [] j = 0

@@ -1,9 +1,11 @@
 -- Words in a tree: how it is mended, how the lowest flag is found, and how it gets a row or a word more.
-use Rattle.std.proofs.Common.{◌≡◌, ℕ, zero, suc, ◌+◌, ◌*◌, ◌-◌, ◌/◌, ◌%◌, ◌^◌, ◌<◌, ◌≤◌, List, [], ◌∷◌, ◌++◌, length, get_or, set, replicate, refl, sym, ap, ◌∙◌, arith, inl, inr, w64, length-append, add-zero}
-use Rattle.std.specs.Prelude.{◌≢◌, ◌⊎◌, count_ones}
-use Rattle.std.specs.Int.{bit_at, trailing_zeros}
+use Rattle.std.proofs.Common.{◌≡◌, ℕ, zero, suc, ◌+◌, ◌*◌, ◌-◌, ◌/◌, ◌%◌, ◌^◌, ◌<◌, ◌≤◌, List, [], ◌∷◌, ◌++◌, length, get_or, set, replicate, refl, sym, ap, ◌∙◌, arith, inl, inr, w64, length-append, add-zero, false}
+use Rattle.std.specs.Prelude.{◌≢◌, ◌⊎◌, count_ones, nat_eq}
+use Rattle.std.specs.Int.{bit_at}
+use Rattle.std.specs.Int.Count.{count_trailing_zeros}
+use Rattle.std.proofs.Math.Bool.{beq}
 use Rattle.std.proofs.Math.ListN.{get_or-eq_default}
-use Rattle.std.proofs.lemmas.Bool.{cases_eq, cases_lt}
+use Rattle.std.proofs.lemmas.Bool.{cases_eq, cases_lt, ne_eqb, true≢false}
 use Rattle.std.proofs.lemmas.Grind.{get_or-set_at}
 use Rattle.std.proofs.lemmas.List.{get_or-set_other, length-replicate, length-set}
 use Rattle.std.proofs.lemmas.Nat.Bits.{bit_at-lt, bit_at-trailing_zeros}
@@ -16,9 +18,22 @@ flag_of-small : (word : ℕ) → flag_of word ≤ 1
 flag_of-small zero = omega arith
 flag_of-small (suc word) = omega arith
 
-pub flag_of-some : (word : ℕ) → 0 < word → flag_of word ≡ 1
-flag_of-some zero some = absurd (omega (arith, some))
-flag_of-some (suc word) some = refl
+-- whether two words have a flag set, as the code asks it
+pub flag_of-apart : (a b : ℕ) → (nat_eq a 0 ≡ nat_eq b 0 → ⊥) → flag_of a ≢ flag_of b
+flag_of-apart zero zero apart same = apart refl
+flag_of-apart zero (suc b) apart same = absurd (omega (arith, same))
+flag_of-apart (suc a) zero apart same = absurd (omega (arith, same))
+flag_of-apart (suc a) (suc b) apart same = apart (ne_eqb (suc a) 0 (λ e. absurd (omega (arith, e))) ∙ sym (ne_eqb (suc b) 0 (λ e. absurd (omega (arith, e)))))
+
+pub flag_of-unlike : (a b : ℕ) → beq (nat_eq a 0) (nat_eq b 0) ≡ false → flag_of a ≢ flag_of b
+flag_of-unlike zero zero unlike same = absurd (true≢false unlike)
+flag_of-unlike zero (suc b) unlike same = absurd (omega (arith, same))
+flag_of-unlike (suc a) zero unlike same = absurd (omega (arith, same))
+flag_of-unlike (suc a) (suc b) unlike same =
+    let e : nat_eq (suc a) 0 ≡ false = ne_eqb (suc a) 0 (λ z. absurd (omega (arith, z))) in
+    let i : nat_eq (suc b) 0 ≡ false = ne_eqb (suc b) 0 (λ z. absurd (omega (arith, z))) in
+    let both : beq false false ≡ false = rw (e, i) at unlike in
+    absurd (true≢false both)
 
 some-flag_of : (word : ℕ) → flag_of word ≡ 1 → 0 < word
 some-flag_of zero one = absurd (omega (arith, one))
@@ -175,6 +190,12 @@ module _ (first : ℕ) (nodes : List ℕ) (tree : IsTree first nodes) where
           (sym (tree.flags (64 * node + bit) (omega (arith, less, small))) ∙ flag_at-node nodes node bit small ∙ set);
     }
 
+  pub way-next : (row node : ℕ) → IsOnWay first nodes row node → node < first → get_or nodes node 0 < 2 ^ 64
+      → IsOnWay first nodes (64 * row + 1) (64 * node + count_trailing_zeros 64 (get_or nodes node 0) + 1)
+  way-next row node way less word =
+      let z = bit_at-trailing_zeros w64 (get_or nodes node 0) way.some word in
+      way-down row node (count_trailing_zeros 64 (get_or nodes node 0)) way less z.0 z.1 z.2
+
   row_none : (rows row : ℕ) → first ≡ row_below rows row → ((k : ℕ) → row ≤ k → k ≤ 64 * row → get_or nodes k 0 ≡ 0)
       → (k : ℕ) → first ≤ k → k ≤ 64 * first → get_or nodes k 0 ≡ 0
   row_none zero row is none k past before = none k (omega (arith, is, past)) (omega (arith, is, before))
@@ -213,6 +234,11 @@ module _ (first : ℕ) (nodes : List ℕ) (tree : IsTree first nodes) where
       at : (node < length nodes) ⊎ (length nodes ≤ node) → node < length nodes
       at (inl within) = within
       at (inr past) = absurd (omega (arith, way.some, get_or-eq_default nodes 0 past))
+
+  pub way-fits : (row node : ℕ) → IsOnWay first nodes row node → node < first → get_or nodes node 0 < 2 ^ 64
+      → 64 * node + count_trailing_zeros 64 (get_or nodes node 0) + 1 < length nodes
+  way-fits row node way less word =
+      way-within (64 * row + 1) (64 * node + count_trailing_zeros 64 (get_or nodes node 0) + 1) (way-next row node way less word)
 
   pub way-ends : (row node : ℕ) → IsOnWay first nodes row node → first ≤ node → first ≡ row
   way-ends row node way past = at way.deep.0 way.deep.1

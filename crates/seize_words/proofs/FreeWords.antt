@@ -10,7 +10,7 @@ use Rattle.std.proofs.lemmas.List.{get_or-set_other}
 use Rattle.std.proofs.lemmas.Nat.{mod-pow-add, mod_below, one_shl, ones_cat, ones_le_self, pow_pos}
 use Rattle.std.proofs.lemmas.Nat.Bits.{bit_at-lt, bit_at-pow_other, bit_at-pow_same, bit_at-zero, bit_at_xor}
 use Rattle.seize_words.specs.FreeNumbers.{IsTurned, flag_at, flagged_from, flags_from, numbers_in, places, set_among, with_number}
-use Rattle.seize_words.proofs.FreeFlags.{AreBits, flagged-at, flagged-given, flagged-more, flagged-same, flagged-taken, flagged-there, length-flagged, sum_before, sum_before-more}
+use Rattle.seize_words.proofs.FreeFlags.{AreBits, flagged-at, flagged-given, flagged-more, flagged-same, flagged-taken, flagged-there, length-flagged, length-flagged_le, sum_before, sum_before-more}
 
 -- ---- a flag
 
@@ -140,7 +140,9 @@ module _ (first : ℕ) (nodes : List ℕ) where
     where
       at : (k < places first nodes) ⊎ (places first nodes ≤ k) → get_or flags k 0 ≤ 1
       at (inl less) = omega (arith, flags_from-at nodes (64 * first) (places first nodes) k less, bit_at-lt (get_or nodes ((64 * first + k) / 64) 0) ((64 * first + k) % 64))
-      at (inr past) = omega (arith, get_or-eq_default flags 0 (omega (arith, past, length-flags_from nodes (64 * first) (places first nodes))))
+      at (inr past) =
+          let e : get_or flags k 0 ≡ 0 = get_or-eq_default flags 0 (omega (arith, past, length-flags_from nodes (64 * first) (places first nodes))) in
+          omega (arith, e)
 
   -- behind the last word no flag is set
   pub flags-at : (k : ℕ) → get_or flags k 0 ≡ flag_at nodes (64 * first + k)
@@ -156,6 +158,9 @@ module _ (first : ℕ) (nodes : List ℕ) where
   how_many =
       length-flagged 1 flags are_bits ∙ ap (sum_before flags) (length-flags_from nodes (64 * first) (places first nodes))
       ∙ sum_before-flags nodes (64 * first) (places first nodes) (places first nodes) (omega arith)
+
+  pub few_in : length (numbers_in first nodes) ≤ places first nodes
+  few_in = omega (arith, length-flagged_le 1 flags, length-flags_from nodes (64 * first) (places first nodes))
 
   module _ (place : ℕ) (within : place < places first nodes) where
     long : place < length flags

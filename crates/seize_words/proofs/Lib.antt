@@ -2,6 +2,7 @@ mod FreeFlags
 mod FreeGrown
 mod FreeKept
 mod FreeNumbers
+mod FreeSteps
 mod FreeWords
 mod FreeTrees
 mod DirectoryKept

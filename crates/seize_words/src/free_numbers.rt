@@ -1,20 +1,13 @@
 //! Free numbers as words of flags, with words above them that say in which words flags are set.
-ghost use Rattle.std.specs.Prelude.{◌≡◌, ◌<◌, ◌≤◌, ◌+◌, ◌-◌, ◌*◌, ◌^◌, ◌%◌, ℕ, [], count_ones, length, remove, slice_index, slice_index_or, slice_set, IfOk, OnOk, OnErr};
+ghost use Rattle.std.specs.Prelude.{◌≡◌, ◌<◌, ◌≤◌, ◌+◌, ◌-◌, ◌*◌, ◌^◌, ◌%◌, ℕ, [], count_ones, length, remove, replicate, slice_index, slice_index_or, slice_set, IfOk, OnOk, OnErr};
 ghost use Rattle.std.specs.Int.{bit_at};
-ghost use Rattle.seize_words.specs.FreeNumbers.{AreFlags, IsBehind, IsTree, IsTurned, flag_of, numbers_in, places, set_among, with_number};
+ghost use Rattle.seize_words.specs.FreeNumbers.{AreFlags, IsBehind, IsTree, IsTurned, numbers_in, places, set_among, with_number};
 
 use std::alloc::{AllocError, Global};
 use std::marker::Model;
 
 /// How many flags a word has.
 const FLAGS: usize = 64;
-
-/// The flag that says of a word whether any of its own flags is set.
-fn flag_of(word: u64) -> u64
-    ensures { result ≡ flag_of word }
-{
-    if word == 0 { 0 } else { 1 }
-}
 
 /// Turns the flag of a node over where its word was empty and is not any more, or the other way round, and so on up.
 fn mend(nodes: &mut [u64], first: usize, node: usize, was: u64)
@@ -28,7 +21,7 @@ fn mend(nodes: &mut [u64], first: usize, node: usize, was: u64)
     let mut node = node;
     let mut was = was;
     while node > 0 {
-        if flag_of(was) == flag_of(nodes[node]) {
+        if (was == 0) == (nodes[node] == 0) {
             return;
         }
         let flag = (node - 1) % FLAGS;
@@ -117,6 +110,23 @@ fn flag_behind(nodes: &[u64], first: usize, before: u64) -> (usize, usize)
     (node, bit_behind(nodes[node], left))
 }
 
+/// Copies the words of the lowest row into the lowest row of a tree with a row more, and sets the flags above.
+fn copy(nodes: &[u64], first: usize, more: &mut [u64])
+    requires tree { IsTree first nodes.now }
+    requires full { length nodes.now ≡ 64 * first + 1 }
+    requires empty { more.old ≡ replicate (length nodes.now + (length nodes.now - first) + 1) 0 }
+    ensures tree { IsTree (length nodes.now) more.new }
+    ensures length { length more.new ≡ length nodes.now + (length nodes.now - first) + 1 }
+    ensures same { numbers_in (length nodes.now) more.new ≡ numbers_in first nodes.now }
+{
+    let top = nodes.len();
+    for place in first..top {
+        let node = top + (place - first);
+        more[node] = nodes[place];
+        mend(more, top, node, 0);
+    }
+}
+
 /// A tree with a row more, of the same flags and those of one word more.
 fn raised(alloc: Global, nodes: &[u64], first: usize) -> Result<Vec<u64>, AllocError>
     requires tree { IsTree first nodes.now }
@@ -128,12 +138,27 @@ fn raised(alloc: Global, nodes: &[u64], first: usize) -> Result<Vec<u64>, AllocE
 {
     let top = nodes.len();
     let mut more = Vec::from_elem(alloc, 0, top + (top - first) + 1)?;
-    for place in first..top {
-        let node = top + (place - first);
-        more[node] = nodes[place];
-        mend(&mut more, top, node, 0);
-    }
+    copy(nodes, first, &mut more);
     Ok(more)
+}
+
+/// Adds a word to the lowest row, which comes to lie a row further down where it is full. On an error nothing has changed.
+fn add_word(alloc: Global, nodes: &mut Vec<u64>, first: &mut usize) -> Result<(), AllocError>
+    requires tree { IsTree first.old nodes.old.items }
+    ensures tree { IsTree first.new nodes.new.items }
+    ensures same { numbers_in first.new nodes.new.items ≡ numbers_in first.old nodes.old.items }
+    ensures ok { OnOk result (places first.new nodes.new.items ≡ places first.old nodes.old.items + 64) }
+    ensures err { OnErr result (places first.new nodes.new.items ≡ places first.old nodes.old.items) }
+{
+    let len = nodes.len();
+    if (len + FLAGS - 1) / FLAGS > *first {
+        let more = raised(alloc, nodes.as_slice(), *first)?;
+        *nodes = more;
+        *first = len;
+        return Ok(());
+    }
+    nodes.push(0)?;
+    Ok(())
 }
 
 /// The free ones among the numbers from 1 on. Clauses see them in ascending order, and up to which number there is room.
@@ -221,13 +246,7 @@ impl FreeNumbers {
         let Some(room) = self.room.checked_add(64) else {
             return Err(AllocError);
         };
-        let len = self.nodes.len();
-        if len > 0 && (len - 1) / FLAGS == self.first {
-            self.nodes = raised(self.alloc, &self.nodes, self.first)?;
-            self.first = len;
-        } else {
-            self.nodes.push(0)?;
-        }
+        add_word(self.alloc, &mut self.nodes, &mut self.first)?;
         self.room = room;
         Ok(())
     }
