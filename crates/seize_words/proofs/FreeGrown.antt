@@ -105,17 +105,5 @@ push_at [] (suc k) = refl
 push_at (x ∷ xs) zero = refl
 push_at (x ∷ xs) (suc k) = push_at xs k
 
-module _ (first : ℕ) (nodes : List ℕ) (tree : IsTree first nodes) where
-  pub pushed-tree : length nodes ≤ 64 * first → IsTree first (nodes ++ 0 ∷ [])
-  pushed-tree few = record {
-    whole = tree.whole;
-    some = omega (arith, tree.some, length-append nodes (0 ∷ []));
-    within = omega (arith, few, length-append nodes (0 ∷ []));
-    flags = λ k less. flag_at-same nodes (nodes ++ 0 ∷ []) k (push_at nodes (k / 64)) ∙ tree.flags k less ∙ ap flag_of (sym (push_at nodes (k + 1)));
-  }
-
-  pub pushed-numbers : numbers_in first (nodes ++ 0 ∷ []) ≡ numbers_in first nodes
-  pushed-numbers = numbers-same first first nodes (nodes ++ 0 ∷ []) (λ i. push_at nodes (first + i))
-
-  pub pushed-places : places first (nodes ++ 0 ∷ []) ≡ places first nodes + 64
-  pushed-places = omega (arith, tree.some, length-append nodes (0 ∷ []))
+pub pushed-numbers : (first : ℕ) (nodes : List ℕ) → numbers_in first (nodes ++ 0 ∷ []) ≡ numbers_in first nodes
+pushed-numbers first nodes = numbers-same first first nodes (nodes ++ 0 ∷ []) (λ i. push_at nodes (first + i))
