@@ -2,6 +2,7 @@
 use Rattle.std.proofs.Common.{◌≡◌, ℕ, ◌+◌, ◌*◌, ◌-◌, ◌/◌, ◌%◌, ◌^◌, ◌<◌, ◌≤◌, List, length, get_or, sym, ap, ◌∙◌, subst, arith}
 use Rattle.std.specs.Prelude.{bit_and, remove}
 use Rattle.std.specs.Int.{bit_at}
+use Rattle.std.proofs.lemmas.List.{get_or_default}
 use Rattle.std.proofs.lemmas.List.Edits.{length-remove}
 use Rattle.std.proofs.lemmas.Nat.Bits.{bit_at-lt, shr_and_one}
 use Rattle.seize_words.specs.FreeNumbers.{IsBehind, IsTurned, flag_at, numbers_in, places, with_number}
@@ -11,21 +12,16 @@ module _ (first : ℕ) (nodes : List ℕ) where
   pub places-same : (new : List ℕ) → length new ≡ length nodes → places first nodes ≡ places first new
   places-same new long = ap (λ n. 64 * (n - first)) (sym long)
 
-  module _ (number : ℕ) (some : 0 < number) (fits : number ≤ places first nodes) where
+  module _ (room number : ℕ) (some : 0 < number) (within : number ≤ room) (room_is : room ≡ places first nodes) (word : ℕ)
+      (read : word ≡ get_or nodes (first + (number - 1) / 64) word) where
     abbrev node : ℕ
     node = first + (number - 1) / 64
 
     abbrev bit : ℕ
     bit = (number - 1) % 64
 
-    pub give-within : node < length nodes
-    give-within = omega (arith, some, fits)
-
-    small : bit < 64
-    small = omega arith
-
-    within : number - 1 < places first nodes
-    within = omega (arith, some, fits)
+    fits : number - 1 < places first nodes
+    fits = omega (arith, some, within, room_is)
 
     number_is : 1 + (number - 1) ≡ number
     number_is = omega (arith, some)
@@ -33,30 +29,29 @@ module _ (first : ℕ) (nodes : List ℕ) where
     flag_is : 64 * node + bit ≡ 64 * first + (number - 1)
     flag_is = omega arith
 
-    tested : (word : ℕ) → word ≡ get_or nodes node 0 → flag_at nodes (64 * first + (number - 1)) ≡ bit_at word bit
-    tested word is = sym (ap (flag_at nodes) flag_is) ∙ flag_at-node nodes node bit small ∙ ap (λ w. bit_at w bit) (sym is)
+    word_is : word ≡ get_or nodes node 0
+    word_is = read ∙ get_or_default nodes node word 0 (omega (arith, some, within, room_is))
 
-    pub give-none : (word : ℕ) → word ≡ get_or nodes node 0 → bit_and (word / 2 ^ bit) 1 ≡ 0 → flag_at nodes (64 * first + (number - 1)) ≡ 0
-    give-none word is none = tested word is ∙ sym (shr_and_one word bit) ∙ none
+    -- the code's test of the flag
+    tested : flag_at nodes (64 * first + (number - 1)) ≡ bit_and (word / 2 ^ bit) 1
+    tested =
+        sym (ap (flag_at nodes) flag_is) ∙ flag_at-node nodes node bit (omega arith) ∙ ap (λ w. bit_at w bit) (sym word_is) ∙ sym (shr_and_one word bit)
 
-    pub give-one : (word : ℕ) → word ≡ get_or nodes node 0 → (bit_and (word / 2 ^ bit) 1 ≡ 0 → ⊥) → flag_at nodes (64 * first + (number - 1)) ≡ 1
-    give-one word is set =
-        let some_bit : bit_at word bit ≡ 0 → ⊥ = λ e. set (shr_and_one word bit ∙ e) in
-        tested word is ∙ omega (arith, some_bit, bit_at-lt word bit)
+    pub given-there : (bit_and (word / 2 ^ bit) 1 ≡ 0 → ⊥) → numbers_in first nodes ≡ with_number number (numbers_in first nodes)
+    given-there set =
+        number-there first nodes (number - 1) fits (omega (arith, tested, set, shr_and_one word bit, bit_at-lt word bit))
+        ∙ ap (λ n. with_number n (numbers_in first nodes)) number_is
 
-    pub give-there : flag_at nodes (64 * first + (number - 1)) ≡ 1 → numbers_in first nodes ≡ with_number number (numbers_in first nodes)
-    give-there one = number-there first nodes (number - 1) within one ∙ ap (λ n. with_number n (numbers_in first nodes)) number_is
-
-    module _ (new : List ℕ) (turn : IsTurned first (64 * node + bit) nodes new) (none : flag_at nodes (64 * first + (number - 1)) ≡ 0) where
+    module _ (none : bit_and (word / 2 ^ bit) 1 ≡ 0) (new : List ℕ) (turn : IsTurned first (64 * node + bit) nodes new) where
       turn_at : IsTurned first (64 * first + (number - 1)) nodes new
       turn_at = subst (λ f. IsTurned first f nodes new) flag_is turn
 
       pub given-numbers : numbers_in first new ≡ with_number number (numbers_in first nodes)
       given-numbers =
-          number-given first nodes (number - 1) within new (flags-at first new) turn_at none ∙ ap (λ n. with_number n (numbers_in first nodes)) number_is
+          number-given first nodes (number - 1) fits new (flags-at first new) turn_at (tested ∙ none) ∙ ap (λ n. with_number n (numbers_in first nodes)) number_is
 
       pub given-count : length (numbers_in first new) ≡ length (numbers_in first nodes) + 1
-      given-count = number-more first nodes (number - 1) within new (flags-at first new) turn_at none
+      given-count = number-more first nodes (number - 1) fits new (flags-at first new) turn_at (tested ∙ none)
 
   module _ (before node bit : ℕ) (b : IsBehind first nodes before node bit) where
     abbrev place : ℕ
