@@ -1,11 +1,11 @@
 -- The tree of words with a row or a word more.
-use Rattle.std.proofs.Common.{◌≡◌, ℕ, zero, suc, ◌+◌, ◌*◌, ◌-◌, ◌/◌, ◌<◌, ◌≤◌, List, [], ◌∷◌, ◌++◌, length, get_or, set, replicate, refl, sym, ap, ◌∙◌, arith, inl, inr, length-append}
+use Rattle.std.proofs.Common.{◌≡◌, ℕ, zero, suc, ◌+◌, ◌*◌, ◌-◌, ◌/◌, ◌<◌, ◌≤◌, List, [], ◌∷◌, ◌++◌, length, get_or, set, replicate, refl, sym, ap, ◌∙◌, arith, inl, inr}
 use Rattle.std.specs.Prelude.{◌≢◌, ◌⊎◌}
 use Rattle.std.proofs.Math.ListN.{get_or-eq_default}
 use Rattle.std.proofs.lemmas.Bool.{cases_eq, cases_lt}
 use Rattle.std.proofs.lemmas.Grind.{get_or-set_at}
 use Rattle.std.proofs.lemmas.List.{get_or-set_other, length-replicate, length-set}
-use Rattle.seize_words.specs.FreeNumbers.{AreFlags, IsTree, flag_at, flag_of, numbers_in, places, row_below}
+use Rattle.seize_words.specs.FreeNumbers.{AreFlags, IsTree, flag_of, numbers_in}
 use Rattle.seize_words.proofs.FreeWords.{flag_at-none, flag_at-same, numbers-same}
 use Rattle.seize_words.proofs.FreeTrees.{row_below-more}
 

@@ -1,5 +1,5 @@
 -- Words in a tree: how it is mended, how the lowest flag is found, and how it gets a row or a word more.
-use Rattle.std.proofs.Common.{◌≡◌, ℕ, zero, suc, ◌+◌, ◌*◌, ◌-◌, ◌/◌, ◌%◌, ◌^◌, ◌<◌, ◌≤◌, List, [], ◌∷◌, ◌++◌, length, get_or, set, replicate, refl, sym, ap, ◌∙◌, arith, inl, inr, w64, length-append, add-zero, false}
+use Rattle.std.proofs.Common.{◌≡◌, ℕ, zero, suc, ◌+◌, ◌*◌, ◌-◌, ◌/◌, ◌%◌, ◌^◌, ◌<◌, ◌≤◌, List, length, get_or, set, refl, sym, ap, ◌∙◌, arith, inl, inr, w64, false}
 use Rattle.std.specs.Prelude.{◌≢◌, ◌⊎◌, count_ones, nat_eq}
 use Rattle.std.specs.Int.{bit_at}
 use Rattle.std.specs.Int.Count.{count_trailing_zeros}
@@ -7,10 +7,10 @@ use Rattle.std.proofs.Math.Bool.{beq}
 use Rattle.std.proofs.Math.ListN.{get_or-eq_default}
 use Rattle.std.proofs.lemmas.Bool.{cases_eq, cases_lt, ne_eqb, true≢false}
 use Rattle.std.proofs.lemmas.Grind.{get_or-set_at}
-use Rattle.std.proofs.lemmas.List.{get_or-set_other, length-replicate, length-set}
+use Rattle.std.proofs.lemmas.List.{get_or-set_other, length-set}
 use Rattle.std.proofs.lemmas.Nat.Bits.{bit_at-lt, bit_at-trailing_zeros}
-use Rattle.seize_words.specs.FreeNumbers.{AreFlags, IsBehind, IsTree, IsTurned, flag_at, flag_of, numbers_in, places, row_below, set_among}
-use Rattle.seize_words.proofs.FreeWords.{flag_at-from, flag_at-kept, flag_at-node, flag_at-none, flag_at-same, flag_at-turned, numbers-same, ones-more, ones-none, set_among-none, set_among-word, turned}
+use Rattle.seize_words.specs.FreeNumbers.{AreFlags, IsBehind, IsTree, IsTurned, flag_at, flag_of, places, row_below, set_among}
+use Rattle.seize_words.proofs.FreeWords.{flag_at-kept, flag_at-node, flag_at-none, flag_at-same, flag_at-turned, ones-more, ones-none, set_among-none, set_among-word, turned}
 
 -- ---- a word is written, and its flag is mended
 

@@ -1,4 +1,4 @@
-use Rattle.std.proofs.Common.{rules, ◌<◌, ◌-◌, ◌/◌, ◌%◌, refl, arith}
+use Rattle.std.proofs.Common.{rules, ◌-◌, ◌/◌, ◌%◌, refl, arith}
 use Rattle.std.specs.Prelude.{◌≢◌, slice_index_or}
 use Rattle.std.proofs.lemmas.Grind.{common_steps}
 use Rattle.seize_words.specs.FreeNumbers.{flag_of}
