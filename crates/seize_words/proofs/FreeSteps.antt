@@ -48,7 +48,8 @@ module _ (first : ℕ) (nodes : List ℕ) where
 
       pub given-numbers : numbers_in first new ≡ with_number number (numbers_in first nodes)
       given-numbers =
-          number-given first nodes (number - 1) fits new (flags-at first new) turn_at (tested ∙ none) ∙ ap (λ n. with_number n (numbers_in first nodes)) number_is
+          number-given first nodes (number - 1) fits new (flags-at first new) turn_at (tested ∙ none)
+          ∙ ap (λ n. with_number n (numbers_in first nodes)) number_is
 
       pub given-count : length (numbers_in first new) ≡ length (numbers_in first nodes) + 1
       given-count = number-more first nodes (number - 1) fits new (flags-at first new) turn_at (tested ∙ none)

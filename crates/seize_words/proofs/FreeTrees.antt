@@ -120,7 +120,8 @@ module _ (first : ℕ) (nodes : List ℕ) (node bit : ℕ) (tree : IsTree first 
       flag_at-kept nodes node bit within small k (λ e. absurd (omega (arith, e, less, low))) ∙ tree.flags k less
       ∙ ap flag_of (sym (set_twice nodes node (turned (get_or nodes node 0) bit) within (k + 1)))
 
-  module _ (new : List ℕ) (flags : AreFlags first new new) (long : length new ≡ length after) (lowest : (k : ℕ) → first ≤ k → get_or new k 0 ≡ get_or after k 0) where
+  module _ (new : List ℕ) (flags : AreFlags first new new) (long : length new ≡ length after)
+      (lowest : (k : ℕ) → first ≤ k → get_or new k 0 ≡ get_or after k 0) where
     long_as : length new ≡ length nodes
     long_as = long ∙ length-set nodes node (turned (get_or nodes node 0) bit)
 
@@ -134,7 +135,8 @@ module _ (first : ℕ) (nodes : List ℕ) (node bit : ℕ) (tree : IsTree first 
 
     pub turned-over : IsTurned first (64 * node + bit) nodes new
     turned-over = record {
-      there = flag_at-same after new (64 * node + bit) (lowest ((64 * node + bit) / 64) (omega (arith, low))) ∙ flag_at-turned nodes node bit within small (64 * node + bit) refl;
+      there = flag_at-same after new (64 * node + bit) (lowest ((64 * node + bit) / 64) (omega (arith, low)))
+          ∙ flag_at-turned nodes node bit within small (64 * node + bit) refl;
       others = λ k past other. flag_at-same after new k (lowest (k / 64) (omega (arith, past))) ∙ flag_at-kept nodes node bit within small k other;
     }
 
@@ -175,7 +177,8 @@ module _ (first : ℕ) (nodes : List ℕ) (tree : IsTree first nodes) where
         at (inl earlier) = flag_at-none nodes k (way.none (k / 64) (omega (arith, past)) (omega (arith, earlier)))
         at (inr there) =
             let e : k ≡ 64 * node + (k - 64 * node) = omega (arith, there) in
-            ap (flag_at nodes) e ∙ flag_at-node nodes node (k - 64 * node) (omega (arith, before, there, small)) ∙ unset (k - 64 * node) (omega (arith, before, there))
+            ap (flag_at nodes) e ∙ flag_at-node nodes node (k - 64 * node) (omega (arith, before, there, small))
+            ∙ unset (k - 64 * node) (omega (arith, before, there))
 
     pub way-down : IsOnWay first nodes (64 * row + 1) (64 * node + bit + 1)
     way-down = record {
@@ -311,7 +314,8 @@ module _ (first : ℕ) (nodes : List ℕ) (before : ℕ) (few : before < set_amo
       at (inl within) = within
       at (inr past) = absurd (
           let e : places first nodes ≡ 64 * (node + 1 - first) = omega (arith, past, s.within) in
-          let n : set_among nodes (64 * first) (places first nodes) ≡ set_among nodes (64 * first) (64 * (node + 1 - first)) = ap (set_among nodes (64 * first)) e in
+          let n : set_among nodes (64 * first) (places first nodes) ≡ set_among nodes (64 * first) (64 * (node + 1 - first)) =
+          ap (set_among nodes (64 * first)) e in
           omega (arith, few, n, among-word node s.low word, s.rank, many))
 
 -- a flag in a word whose place is known

@@ -139,7 +139,11 @@ module _ (first : ℕ) (nodes : List ℕ) where
   are_bits k = at (cases_lt k (places first nodes))
     where
       at : (k < places first nodes) ⊎ (places first nodes ≤ k) → get_or flags k 0 ≤ 1
-      at (inl less) = omega (arith, flags_from-at nodes (64 * first) (places first nodes) k less, bit_at-lt (get_or nodes ((64 * first + k) / 64) 0) ((64 * first + k) % 64))
+      at (inl less) = omega (
+        arith,
+        flags_from-at nodes (64 * first) (places first nodes) k less,
+        bit_at-lt (get_or nodes ((64 * first + k) / 64) 0) ((64 * first + k) % 64),
+      )
       at (inr past) =
           let e : get_or flags k 0 ≡ 0 = get_or-eq_default flags 0 (omega (arith, past, length-flags_from nodes (64 * first) (places first nodes))) in
           omega (arith, e)
@@ -212,4 +216,5 @@ pub numbers-same : (first first' : ℕ) (nodes nodes' : List ℕ) → ((i : ℕ)
     → numbers_in first' nodes' ≡ numbers_in first nodes
 numbers-same first first' nodes nodes' same =
     flagged-same 1 (flags_from nodes' (64 * first') (places first' nodes')) (flags_from nodes (64 * first) (places first nodes)) (λ k.
-    flags-at first' nodes' k ∙ flag_at-from nodes' first' k ∙ ap (λ w. bit_at w (k % 64)) (same (k / 64)) ∙ sym (flag_at-from nodes first k) ∙ sym (flags-at first nodes k))
+    flags-at first' nodes' k ∙ flag_at-from nodes' first' k ∙ ap (λ w. bit_at w (k % 64)) (same (k / 64))
+    ∙ sym (flag_at-from nodes first k) ∙ sym (flags-at first nodes k))

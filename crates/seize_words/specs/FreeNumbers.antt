@@ -47,8 +47,8 @@ row_below (suc rows) node = row_below rows (64 * node + 1)
 abbrev pub AreFlags : ℕ → List ℕ → List ℕ → Type 0
 AreFlags first nodes words = (k : ℕ) → k < 64 * first → flag_at nodes k ≡ flag_of (slice_index words (k + 1))
 
--- Words in a tree, one row after another. The root is node 0, and flag `k` of all is that of node `k + 1`. The lowest row begins at `first`; its flags are those
--- of numbers.
+-- Words in a tree, one row after another. The root is node 0, and flag `k` of all is that of node `k + 1`. The lowest row begins at
+-- `first`; its flags are those of numbers.
 pub record IsTree (first : ℕ) (nodes : List ℕ) : Type 0 where
   pub whole : (rows : ℕ) × (first ≡ row_below rows 0)
   pub some : first ≤ length nodes

@@ -21,5 +21,6 @@ pub returns-clause-same : goal.returns-clause-same
 returns-clause-same c =
     let all : c.loop-place.place ≡ length c.args.nodes.now =
     omega (arith, c.loop-place-test.false, c.loop-place.auto.place-end, c.requires.tree.some) in
-    let copied : IsCopied c.args.first (length c.args.nodes.now) c.args.nodes.now (length c.args.nodes.now) c.loop-place.more = rw all at c.loop-place.invariant in
+    let copied : IsCopied c.args.first (length c.args.nodes.now) c.args.nodes.now (length c.args.nodes.now) c.loop-place.more =
+    rw all at c.loop-place.invariant in
     copied-ends c.args.first c.args.nodes.now c.requires.tree (length c.args.nodes.now) refl c.requires.full c.loop-place.more copied

@@ -10,7 +10,8 @@ returns-then-before-eq0 c =
     let word : slice_index_or c.args.nodes.now c.lowest-node.result 0 < 2 ^ 64 = search (rules, c.type_inv.nodes c.lowest-node.result) in
     let z = bit_at-trailing_zeros w64 (slice_index_or c.args.nodes.now c.lowest-node.result 0) c.lowest-node.ensures.some word in
     rw c.if-before-eq0.true
-    (first-behind c.args.first c.args.nodes.now c.requires.tree c.lowest-node.result (trailing_zeros w64 (slice_index_or c.args.nodes.now c.lowest-node.result 0))
+    (first-behind c.args.first c.args.nodes.now c.requires.tree c.lowest-node.result
+    (trailing_zeros w64 (slice_index_or c.args.nodes.now c.lowest-node.result 0))
     c.lowest-node.ensures.low c.lowest-node.ensures.within z.0 z.1 z.2 c.lowest-node.ensures.none)
 
 pub returns : goal.returns

@@ -10,21 +10,24 @@ pub overflow_mul-node : goal.overflow_mul-node
 overflow_mul-node c =
     let word : slice_index_or c.args.nodes.now c.loop-node.node 0 < 2 ^ 64 = search (rules, c.type_inv.nodes c.loop-node.node) in
     let long : length c.args.nodes.now < 2 ^ 64 = search rules in
-    let fits = way-fits c.args.first c.args.nodes.now c.requires.tree c.loop-node.invariant.0 c.loop-node.node c.loop-node.invariant.1 c.loop-node-test.true word in
+    let fits = way-fits c.args.first c.args.nodes.now c.requires.tree c.loop-node.invariant.0 c.loop-node.node c.loop-node.invariant.1
+    c.loop-node-test.true word in
     record { fits = omega (arith, long, fits) }
 
 pub overflow_add-node : goal.overflow_add-node
 overflow_add-node c =
     let word : slice_index_or c.args.nodes.now c.loop-node.node 0 < 2 ^ 64 = search (rules, c.type_inv.nodes c.loop-node.node) in
     let long : length c.args.nodes.now < 2 ^ 64 = search rules in
-    let fits = way-fits c.args.first c.args.nodes.now c.requires.tree c.loop-node.invariant.0 c.loop-node.node c.loop-node.invariant.1 c.loop-node-test.true word in
+    let fits = way-fits c.args.first c.args.nodes.now c.requires.tree c.loop-node.invariant.0 c.loop-node.node c.loop-node.invariant.1
+    c.loop-node-test.true word in
     record { fits = omega (arith, long, fits) }
 
 pub overflow_add-node-in-loop-node : goal.overflow_add-node-in-loop-node
 overflow_add-node-in-loop-node c =
     let word : slice_index_or c.args.nodes.now c.loop-node.node 0 < 2 ^ 64 = search (rules, c.type_inv.nodes c.loop-node.node) in
     let long : length c.args.nodes.now < 2 ^ 64 = search rules in
-    let fits = way-fits c.args.first c.args.nodes.now c.requires.tree c.loop-node.invariant.0 c.loop-node.node c.loop-node.invariant.1 c.loop-node-test.true word in
+    let fits = way-fits c.args.first c.args.nodes.now c.requires.tree c.loop-node.invariant.0 c.loop-node.node c.loop-node.invariant.1
+    c.loop-node-test.true word in
     record { fits = omega (arith, long, fits) }
 
 pub loop-node-preserved : goal.loop-node-preserved
