@@ -1,7 +1,9 @@
 mod FreeFlags
+mod FreeGrown
 mod FreeKept
 mod FreeNumbers
-mod FreeSums
+mod FreeSteps
+mod FreeWords
 mod FreeTrees
 mod DirectoryKept
 pub mod OneOwner
