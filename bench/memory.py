@@ -52,7 +52,7 @@ WEIGHTS = {
     "end": 8,
     "shape": 6,
     "reclaim_all": 3,
-    "close": 0.3,
+    "close": 0.05,
     "wrong": 0.2,
 }
 
@@ -117,7 +117,7 @@ class Script:
     def gone(self, names):
         """A name whose bearer ends, if the event is carried out."""
         name = self.some(names)
-        if name in names and self.random.random() < 0.9:
+        if name in names:
             names.remove(name)
         return name
 
@@ -143,6 +143,7 @@ class Script:
         asking = [name for name, kind in self.callers.items() if kind in REPLIES]
         name = self.some(asking)
         kind = self.random.choice(REPLIES[self.callers.get(name, "compute")])
+        self.over(name, ["compute", "remove_if"])
         if kind in ("insert", "abort"):
             kind = f"{kind} {self.value()}"
         return f"go {name}\nreply {name} {kind}\ngo {name}"
@@ -156,6 +157,12 @@ class Script:
 
     def caller(self):
         return self.some(list(self.callers))
+
+    def over(self, name, kinds):
+        """A caller whose call ends so, mostly, if it is one of these kinds."""
+        if self.callers.get(name) in kinds and self.random.random() < 0.9:
+            del self.callers[name]
+        return name
 
     def walker(self):
         return self.some([name for name, kind in self.callers.items() if kind == "walk"] or list(self.callers))
@@ -193,14 +200,17 @@ class Script:
             return f"{kind} {self.some(self.guards)}"
         if kind in ("drop", "forget"):
             return f"{kind} {self.gone(self.guards)}"
-        if kind in ("step", "go"):
-            return f"{kind} {self.caller()}"
+        if kind == "go":
+            return f"{kind} {self.over(self.caller(), WHOLE)}"
         if kind in ("next", "stop"):
             name = self.walker()
+            if kind == "stop":
+                self.over(name, ["walk"])
             return f"go {name}\n{kind} {name}"
         makers = {
             "call": lambda: f"call {self.some(self.guards)} {self.some(self.maps)} {self.call(self.kind(WHOLE))}",
             "begin": self.begun,
+            "step": lambda: f"step {self.caller()}",
             "refused step": lambda: f"step {self.caller()} nomem",
             "refused go": lambda: f"go {self.caller()} nomem",
             "reply": self.reply,
@@ -213,6 +223,14 @@ class Script:
             "wrong": lambda: self.random.choice(["", "get", "call g m", "insert 1 x"]),
         }
         return makers[kind]() if kind in makers else kind
+
+    def lacking(self):
+        """The kind of line without which most of the others are refused, if one is wanted."""
+        if not self.registrations:
+            return "register"
+        if not self.maps:
+            return "map"
+        return None if self.guards else "enter"
 
     def ending(self):
         """All comes to its end, but for calls that ask too often."""
@@ -232,7 +250,7 @@ class Script:
         for kind in ("register", "register", "map", "enter", "enter", "own"):
             yield self.line(kind)
         for _ in range(count):
-            yield from self.line(self.random.choices(list(WEIGHTS), WEIGHTS.values())[0]).split("\n")
+            yield from self.line(self.lacking() or self.random.choices(list(WEIGHTS), WEIGHTS.values())[0]).split("\n")
         if self.random.random() < 0.5:
             yield from self.ending()
 
