@@ -103,11 +103,13 @@ fn changed(map: &mut Numbers, call: &str) -> Result<(), Fault> {
     }
 }
 
-/// Replaces the value of a key more often than a batch has blocks, so that numbers of blocks are used again. Where that is refused, key and value come back.
+/// Puts the value that a key has in its place, more often than a batch has blocks, so that numbers of blocks are used again. Where that is refused, key and value
+/// come back.
 fn inserted_again(map: &mut Numbers, key: u64) -> Result<(), Fault> {
+    let value = key.wrapping_mul(10);
     for _ in 0..40 {
-        if let Err(refused) = map.insert(key, 5) {
-            if (refused.key, refused.value) != (key, 5) {
+        if let Err(refused) = map.insert(key, value) {
+            if (refused.key, refused.value) != (key, value) {
                 return Err(NO_CALL);
             }
             return Err(refused.fault);
