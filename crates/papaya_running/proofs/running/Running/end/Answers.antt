@@ -36,4 +36,4 @@ returns-clause-hands g c = λ same hashes terms events come.
     hands_so same (hashes r.scheduler.logged.executor.hasher) terms events r.written r.tally r.scheduler come.so_far
 
 pub returns-clause-live : goal.returns-clause-live
-returns-clause-live g c = λ same hashes terms events come. record { last = c.args.self; come = come; same_log = refl; live = c.live.ensures }
+returns-clause-live g c = λ same hashes terms events come. record { last = c.args.self; come = come; same_log = refl; live = c.live-live.ensures }
