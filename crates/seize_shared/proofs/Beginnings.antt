@@ -12,10 +12,11 @@ use Rattle.seize.specs.World.{World, Row, Use, Request, Register', Enter', Leave
 use Rattle.seize.specs.World as world
 use Rattle.seize_rule.proofs.Rows.Others.{with_here, with_other}
 use Rattle.seize_seats.specs.State.{State, view_of, Turns, Comes, Starts}
-use Rattle.seize_shared.specs.Rows.{row_of, use_of, IsShort, IsUsed, Fits, Holds, Keeps}
+use Rattle.seize_shared.specs.Rows.{row_of, use_of, IsShort, IsUsed, IsKnown, Fits, Holds, Keeps}
 use Rattle.seize_shared.specs.Promises.{IsNext, RulesStart, SeatsCome, RowsTurn}
 use Rattle.seize_shared.specs.declared.view.View.{View}
 use Rattle.seize_shared.specs.declared.view.View.TheVariants.{Rests, Registers, Outside, Enters, Inside, Leaves, Left, Frees}
+use Rattle.seize_shared.specs.declared.view.Has.TheVariants.{Nothing, Made}
 use Rattle.seize_shared.specs.declared.view.Fixed.{Fixed}
 use Rattle.seize_shared.proofs.Lists.{with_last, none_before}
 use Rattle.seize_shared.proofs.Moved.{moved, used_so}
@@ -37,7 +38,7 @@ module _ {T : Type 0} (defers : T → Option ℕ) (fixed : Fixed) where
       let n : World T = with_use (with_row s.world id row) t world.Changing in
       moved defers fixed s id v u s.memory n (λ x. x ≡ u) h at_id
       (begun defers fixed s id v h at_id request u n
-      ((h.seats id v at_id).row ∙ rests, happens s (used (h.seats id v at_id).slot)) refl refl
+      ((h.seats id v at_id).row ∙ rests, happens s (used (h.seats id v at_id).slot)) refl refl refl
       (λ j ne. with_other s.world.row id j row ne)
       (λ x apart. with_other s.world.uses t x world.Changing (λ e. apart a (mine ∙ ap (λ (k : ℕ). used_as k a) (sym e))))
       (own s h)
@@ -53,28 +54,29 @@ module _ {T : Type 0} (defers : T → Option ℕ) (fixed : Fixed) where
   -- the row of a seat fits that has begun
   begun_fits : (id t : ℕ) (u : View) (row : Row) (s : State T View (World T)) → use_of u ≡ used_as t world.Changing → row_of fixed.batch_size u ≡ row
       → IsShort u
-      → Fits fixed.batch_size (with_use (with_row s.world id row) t world.Changing) id u
-  begun_fits id t u row s its is short =
+      → ((w : World T) → IsKnown w id u) → Fits fixed.batch_size (with_use (with_row s.world id row) t world.Changing) id u
+  begun_fits id t u row s its is short known =
       let n : World T = with_use (with_row s.world id row) t world.Changing in
       record {
         row = with_here s.world.row id row ∙ sym is;
         slot = subst (λ (o : Option (ℕ × Use)). IsUsed n o) (sym its) (with_here s.world.uses t world.Changing);
         short = short;
+        known = known n;
       }
 
   enters : (id t : ℕ) → Turns H Keeps id (Outside t) (λ x. x ≡ Enters t)
   enters id t = begins_on id t (Outside t) (Enters t) (world.Outside 0) (world.Enters record { slot = t }) (Enter' t) refl refl refl refl (λ s e. (e, refl))
-      (λ s h. begun_fits id t (Enters t) (world.Enters record { slot = t }) s refl refl tt)
+      (λ s h. begun_fits id t (Enters t) (world.Enters record { slot = t }) s refl refl tt (λ w. tt))
 
   frees : (id t : ℕ) → Turns H Keeps id (Outside t) (λ x. x ≡ Frees t)
   frees id t = begins_on id t (Outside t) (Frees t) (world.Outside 0) (world.Frees record { slot = t }) (Unregister' t) refl refl refl refl (λ s e. (e, refl))
-      (λ s h. begun_fits id t (Frees t) (world.Frees record { slot = t }) s refl refl tt)
+      (λ s h. begun_fits id t (Frees t) (world.Frees record { slot = t }) s refl refl tt (λ w. tt))
 
-  leaves : (id t : ℕ) → Turns H Keeps id (Inside t) (λ x. x ≡ Leaves t)
+  leaves : (id t : ℕ) → Turns H Keeps id (Inside t Nothing) (λ x. x ≡ Leaves t)
   leaves id t =
       let c : Leave = leaving t fixed.batch_size IDLE false in
-      begins_on id t (Inside t) (Leaves t) (world.Inside 0) (world.Leaves c) (Leave' t) refl refl refl refl (λ s e. (e, refl))
-      (λ s h. begun_fits id t (Leaves t) (world.Leaves c) s refl refl tt)
+      begins_on id t (Inside t Nothing) (Leaves t) (world.Inside 0) (world.Leaves c) (Leave' t) refl refl refl refl (λ s e. (e, refl))
+      (λ s h. begun_fits id t (Leaves t) (world.Leaves c) s refl refl tt (λ w. tt))
 
   -- a slot is looked for
   abbrev First : Register
@@ -84,9 +86,9 @@ module _ {T : Type 0} (defers : T → Option ℕ) (fixed : Fixed) where
   registers id s h at_id =
       let n : World T = with_row s.world id (world.Registers First) in
       moved defers fixed s id Rests (Registers First) s.memory n (λ x. x ≡ Registers First) h at_id
-      (begun defers fixed s id Rests h at_id (Register' false) (Registers First) n ((h.seats id Rests at_id).row, refl) refl refl
+      (begun defers fixed s id Rests h at_id (Register' false) (Registers First) n ((h.seats id Rests at_id).row, refl) refl refl refl
       (λ j ne. with_other s.world.row id j (world.Registers First) ne) (λ t apart. refl)
-      (record { row = with_here s.world.row id (world.Registers First); slot = tt; short = (refl, tt) })
+      (record { row = with_here s.world.row id (world.Registers First); slot = tt; short = (refl, tt); known = tt })
       (λ t b e. absurd (cc e)))
       refl
 
@@ -97,7 +99,7 @@ module _ {T : Type 0} (defers : T → Option ℕ) (fixed : Fixed) where
       let n : World T = leaves_on s.world id d s.world.memory (d, settled.Done) in
       moved defers fixed s id (Left t) (Outside t) s.memory n (λ x. x ≡ Outside t) h at_id
       (stepped defers fixed s id (Left t) h at_id (Outside t) s.memory n (s.world.memory, (d, settled.Done), (refl, refl), refl) h.memory
-      (record { row = with_here s.world.row id world.Rests; slot = with_here s.world.uses t (world.Outside 0); short = tt })
+      (record { row = with_here s.world.row id world.Rests; slot = with_here s.world.uses t (world.Outside 0); short = tt; known = tt })
       (alone defers fixed s id (Left t) h at_id (Outside t) (λ x b e. same_slot t x (world.Outside 0) b world.Changing e))
       h.quiet)
       refl
@@ -108,7 +110,8 @@ module _ {T : Type 0} (defers : T → Option ℕ) (fixed : Fixed) where
   turns id (Outside t) u (inl is) = subst (λ (y : View). Turns H Keeps id (Outside t) (λ x. x ≡ y)) (sym is) (enters id t)
   turns id (Outside t) u (inr is) = subst (λ (y : View). Turns H Keeps id (Outside t) (λ x. x ≡ y)) (sym is) (frees id t)
   turns id (Enters t) u is = absurd is
-  turns id (Inside t) u is = subst (λ (y : View). Turns H Keeps id (Inside t) (λ x. x ≡ y)) (sym is) (leaves id t)
+  turns id (Inside t (Made b)) u is = absurd is
+  turns id (Inside t Nothing) u is = subst (λ (y : View). Turns H Keeps id (Inside t Nothing) (λ x. x ≡ y)) (sym is) (leaves id t)
   turns id (Leaves t) u is = absurd is
   turns id (Left t) u is = subst (λ (y : View). Turns H Keeps id (Left t) (λ x. x ≡ y)) (sym is) (ends id t)
   turns id (Frees t) u is = absurd is
@@ -130,7 +133,7 @@ module _ {T : Type 0} (defers : T → Option ℕ) (fixed : Fixed) where
     where
       fit : (j : ℕ) (x : View) → (view_of s j ≡ Some x) ⊎ ((view_of s j ≡ None) × (Rests ≡ x)) → Fits fixed.batch_size s.world j x
       fit j x (inl e) = h.seats j x e
-      fit j x (inr e) = subst (λ (y : View). Fits fixed.batch_size s.world j y) e.1 (record { row = h.unborn j e.0; slot = tt; short = tt })
+      fit j x (inr e) = subst (λ (y : View). Fits fixed.batch_size s.world j y) e.1 (record { row = h.unborn j e.0; slot = tt; short = tt; known = tt })
 
       no_slot : (x : View) (t : ℕ) (a : Use) → Rests ≡ x → use_of x ≡ used_as t a → ⊥
       no_slot x t a e p = cc (ap use_of e, p)

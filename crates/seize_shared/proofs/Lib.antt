@@ -5,5 +5,6 @@ pub mod Steps
 pub mod Operations
 pub mod Beginnings
 pub mod Registers
+pub mod Blocks
 pub mod Calls
 pub mod Seen

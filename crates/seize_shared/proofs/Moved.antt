@@ -7,7 +7,7 @@ use Rattle.seize.specs.World.{World, Use, Vacant}
 use Rattle.seize.specs.World as world
 use Rattle.seize_acts.proofs.Answers.{same_some}
 use Rattle.seize_seats.specs.State.{State, view_of, Goes}
-use Rattle.seize_shared.specs.Rows.{use_of, IsUsed, IsQuiet, Fits, Came, Holds, Keeps}
+use Rattle.seize_shared.specs.Rows.{use_of, IsUsed, IsKnown, IsQuiet, Fits, Came, Holds, Keeps}
 use Rattle.seize_shared.specs.declared.view.View.{View}
 use Rattle.seize_shared.specs.declared.view.View.TheVariants.{Rests, Registers, Outside, Enters, Inside, Leaves, Left, Frees}
 use Rattle.seize_shared.specs.declared.view.Fixed.{Fixed}
@@ -25,7 +25,7 @@ not_vacant x t a e v = by x e
     by (Registers c) f = cc f
     by (Outside s) f = let k = so (s, world.Outside 0) (t, a) f in cc (k, v)
     by (Enters s) f = let k = so (s, world.Changing) (t, a) f in cc (k, v)
-    by (Inside s) f = let k = so (s, world.Inside 0) (t, a) f in cc (k, v)
+    by (Inside s has) f = let k = so (s, world.Inside 0) (t, a) f in cc (k, v)
     by (Leaves s) f = let k = so (s, world.Changing) (t, a) f in cc (k, v)
     by (Left s) f = let k = so (s, world.Changing) (t, a) f in cc (k, v)
     by (Frees s) f = let k = so (s, world.Changing) (t, a) f in cc (k, v)
@@ -46,6 +46,7 @@ module _ {T : Type 0} (defers : T → Option ℕ) (fixed : Fixed) (s : State T V
     pub rows : (j : ℕ) → j ≢ id → n.row j ≡ s.world.row j
     pub own : Fits fixed.batch_size n id u
     pub others : (j : ℕ) (x : View) → j ≢ id → view_of s j ≡ Some x → IsUsed n (use_of x)
+    pub known : (j : ℕ) (x : View) → j ≢ id → view_of s j ≡ Some x → IsKnown n j x
     pub alone : (j t : ℕ) (x : View) (a b : Use) → j ≢ id → view_of s j ≡ Some x → use_of x ≡ Some (t, a) → use_of u ≡ Some (t, b) → ⊥
     pub quiet : IsQuiet m
     pub kept : (j b : ℕ) (x o : View) → j ≢ id → view_of s j ≡ Some x → Keeps x o s.world b → Keeps x o n b
@@ -81,7 +82,7 @@ module _ {T : Type 0} (defers : T → Option ℕ) (fixed : Fixed) (s : State T V
           subst (λ (y : View). Fits fixed.batch_size n j y) (own j x same e) (subst (λ (k : ℕ). Fits fixed.batch_size n k u) (sym same) mo.own)
       fit j x e (inr ne) =
           let f = h.seats j x (before j x ne e) in
-          record { row = mo.rows j ne ∙ f.row; slot = mo.others j x ne (before j x ne e); short = f.short }
+          record { row = mo.rows j ne ∙ f.row; slot = mo.others j x ne (before j x ne e); short = f.short; known = mo.known j x ne (before j x ne e) }
 
       none : (j : ℕ) → slice_get (slice_set s.views id u) j ≡ None → (j ≡ id) ⊎ (j ≢ id) → n.row j ≡ world.Rests
       none j e (inl same) = let f = here j same in absurd (cc (e, f))

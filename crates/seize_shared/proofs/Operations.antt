@@ -19,6 +19,7 @@ use Rattle.seize_seats.specs.State.{State, view_of, Goes, Allows}
 use Rattle.seize_shared.specs.Rows.{row_of, IsQuiet, Holds, Keeps, told}
 use Rattle.seize_shared.specs.declared.view.View.{View}
 use Rattle.seize_shared.specs.declared.view.View.TheVariants.{Rests, Enters, Inside, Leaves, Left, Frees}
+use Rattle.seize_shared.specs.declared.view.Has.TheVariants.{Nothing}
 use Rattle.seize_shared.specs.declared.view.Fixed.{Fixed}
 use Rattle.seize_shared.proofs.Moved.{moved}
 use Rattle.seize_shared.proofs.Quiet.{quiet_written}
@@ -53,11 +54,11 @@ module _ {T : Type 0} (defers : T → Option ℕ) (fixed : Fixed) where
           → Goes H Keeps s m id (told (Enters t) (Store (Slot t HEAD) ACTIVE) out)
       goes out m took =
           let n : World T = with_use (after_step s.world id m world.Rests (Entered t ∷ [])) t (world.Inside 0) in
-          moved defers fixed s id (Enters t) (Inside t) m n (told (Enters t) (Store (Slot t HEAD) ACTIVE) out) h at
-          (stepped defers fixed s id (Enters t) h at (Inside t) m n
+          moved defers fixed s id (Enters t) (Inside t Nothing) m n (told (Enters t) (Store (Slot t HEAD) ACTIVE) out) h at
+          (stepped defers fixed s id (Enters t) h at (Inside t Nothing) m n
           (m, (record { slot = t }, Done tt), (out, subst (λ (x : Mem T). Took x (Store (Slot t HEAD) ACTIVE) out m) h.memory took, refl), refl) refl
-          (record { row = with_here s.world.row id world.Rests; slot = with_here s.world.uses t (world.Inside 0); short = tt })
-          (alone defers fixed s id (Enters t) h at (Inside t) (λ x b e. same_slot t x (world.Inside 0) b world.Changing e))
+          (record { row = with_here s.world.row id world.Rests; slot = with_here s.world.uses t (world.Inside 0); short = tt; known = tt })
+          (alone defers fixed s id (Enters t) h at (Inside t Nothing) (λ x b e. same_slot t x (world.Inside 0) b world.Changing e))
           (subst IsQuiet (sym took.1) (quiet_written s.memory (Slot t HEAD) ACTIVE (omega arith) can h.quiet)))
           refl
 
@@ -73,7 +74,7 @@ module _ {T : Type 0} (defers : T → Option ℕ) (fixed : Fixed) where
           moved defers fixed s id (Frees t) Rests m n (told (Frees t) (Store (Slot t HEAD) FREE) out) h at
           (stepped defers fixed s id (Frees t) h at Rests m n
           (m, (record { slot = t }, Done tt), (out, subst (λ (x : Mem T). Took x (Store (Slot t HEAD) FREE) out m) h.memory took, refl), refl) refl
-          (record { row = with_here s.world.row id world.Rests; slot = tt; short = tt })
+          (record { row = with_here s.world.row id world.Rests; slot = tt; short = tt; known = tt })
           (alone defers fixed s id (Frees t) h at Rests (λ x b e. absurd (cc e)))
           (subst IsQuiet (sym took.1) (quiet_written s.memory (Slot t HEAD) FREE (omega arith) can h.quiet)))
           refl
@@ -108,6 +109,7 @@ module _ {T : Type 0} (defers : T → Option ℕ) (fixed : Fixed) where
             slot = with_here s.world.uses t (s.world.uses t)
                 ∙ (h.seats id (Leaves t) at).slot;
             short = tt;
+            known = tt;
           })
           (alone defers fixed s id (Leaves t) h at (Left t) (λ x b e. same_slot t x world.Changing b world.Changing e))
           (subst IsQuiet (sym took.1) (quiet_written s.memory (Slot t HEAD) IDLE (omega arith) can h.quiet)))

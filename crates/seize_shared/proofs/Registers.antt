@@ -69,15 +69,16 @@ module _ {T : Type 0} (defers : T → Option ℕ) (fixed : Fixed) (s : State T V
   outside (at.Refused fault) seeks = absurd seeks
 
   own : (m : Mem T) (d : Register) (o : Progress ℕ) → IsWell w.uses (d, o) → Fits fixed.batch_size (registers_on w id c m (d, o)) id (left_by (d, o))
-  own m d progress.Goes well = record { row = with_here w.row id (world.Registers d); slot = tt; short = well }
-  own m d progress.Waits well = record { row = with_here w.row id (world.Registers d); slot = tt; short = well }
+  own m d progress.Goes well = record { row = with_here w.row id (world.Registers d); slot = tt; short = well; known = tt }
+  own m d progress.Waits well = record { row = with_here w.row id (world.Registers d); slot = tt; short = well; known = tt }
   own m d (progress.Done t) well = record {
     row = with_here w.row id world.Rests;
     slot = with_here w.uses t (registered_as c)
         ∙ outside c.stands short.1;
     short = tt;
+    known = tt;
   }
-  own m d (progress.Refused fault) well = record { row = with_here w.row id world.Rests; slot = tt; short = tt }
+  own m d (progress.Refused fault) well = record { row = with_here w.row id world.Rests; slot = tt; short = tt; known = tt }
 
   lone : (d : Register) (o : Progress ℕ) → IsWell w.uses (d, o)
       → (j t : ℕ) (x : View) (a b : Use) → j ≢ id → view_of s j ≡ Some x → use_of x ≡ Some (t, a) → use_of (left_by (d, o)) ≡ Some (t, b) → ⊥
@@ -221,7 +222,7 @@ module _ (T : Type 0) (defers : T → Option ℕ) where
   rows_go_on fixed id (Enters t) op e s h at_id =
       subst (λ (o : Op T). Allows (Holds defers fixed) Keeps id (Enters t) o (told (Enters t) o)) (same_some (Store (Slot t HEAD) ACTIVE) op e)
       (enters defers fixed id t) s h at_id
-  rows_go_on fixed id (Inside t) op e s h at_id = absurd (cc e)
+  rows_go_on fixed id (Inside t has) op e s h at_id = absurd (cc e)
   rows_go_on fixed id (Leaves t) op e s h at_id =
       subst (λ (o : Op T). Allows (Holds defers fixed) Keeps id (Leaves t) o (told (Leaves t) o)) (same_some (Swap (Slot t HEAD) IDLE) op e)
       (leaves defers fixed id t) s h at_id

@@ -6,19 +6,22 @@ use Rattle.seize.specs.declared.states.TheConstants.{LAST_SLOT}
 use Rattle.seize.specs.declared.rows.register.Registering.{Registering}
 use Rattle.seize.specs.declared.rows.register.Registering.TheVariants as at
 use Rattle.seize.specs.Law.{Effect, Entered, Left as LeftSlot, Made, Linked, Unlinked, Deferred, Retired, Taken, Dropped, Ended, LeftOver, holds, is_over}
-use Rattle.seize.specs.World.{World, Row, Use, Vacant, Event, Begin, Step, Request, Steps', Happens, Runs, IsInside, at_start}
+use Rattle.seize.specs.World.{World, Row, Use, Hand, Vacant, Event, Begin, Step, Request, Steps', Happens, Runs, IsInside, at_start}
 use Rattle.seize.specs.World as world
 use Rattle.seize_rule.proofs.World.Start.{start_good}
 use Rattle.seize_rule.proofs.Rows.Effects.{IsOneStep}
 use Rattle.seize_rule.proofs.Rows.Known.{works_on, registering_on}
+use Rattle.seize_alone.specs.Alone.{IsOfUsers}
 use Rattle.seize_alone.proofs.Spared.Rows.{RowStepped}
 use Rattle.seize_alone.proofs.Histories.Reached.{Reached, runs_reached}
-use Rattle.seize_alone.proofs.Histories.NotTaken.{still_held, did}
+use Rattle.seize_alone.proofs.Histories.NotTaken.{IsHad, still_held, kept_hand, did}
 use Rattle.seize_alone.proofs.Histories.Uses.{uses_kept}
 use Rattle.seize_seats.specs.State.{State, view_of}
-use Rattle.seize_shared.specs.Rows.{row_of, use_of, IsSeeking, IsShort, IsUsed, IsQuiet, Fits, Came, Holds}
+use Rattle.seize_shared.specs.Rows.{row_of, use_of, IsSeeking, IsShort, IsUsed, IsInHand, IsKnown, IsQuiet, Fits, Came, Holds}
 use Rattle.seize_shared.specs.declared.view.View.{View}
 use Rattle.seize_shared.specs.declared.view.View.TheVariants.{Rests, Registers, Outside, Enters, Inside, Leaves, Left, Frees}
+use Rattle.seize_shared.specs.declared.view.Has.{Has}
+use Rattle.seize_shared.specs.declared.view.Has.TheVariants.{Nothing, Made as HasMade}
 use Rattle.seize_shared.specs.declared.view.Fixed.{Fixed}
 use Rattle.seize_shared.proofs.Moved.{Moved, not_vacant, used_so, still_used}
 
@@ -53,7 +56,7 @@ works_on_own size (Registers c) short t e = absurd (by c.stands short.1 e)
     by (at.Refused fault) seeks f = seeks
 works_on_own size (Outside s) short t e = absurd (omega (arith, e))
 works_on_own size (Enters s) short t e = (world.Changing, ap (λ (k : ℕ). Some (k, world.Changing)) (omega (arith, e)))
-works_on_own size (Inside s) short t e = absurd (omega (arith, e))
+works_on_own size (Inside s has) short t e = absurd (omega (arith, e))
 works_on_own size (Leaves s) short t e = (world.Changing, ap (λ (k : ℕ). Some (k, world.Changing)) (omega (arith, e)))
 works_on_own size (Left s) short t e = (world.Changing, ap (λ (k : ℕ). Some (k, world.Changing)) (omega (arith, e)))
 works_on_own size (Frees s) short t e = (world.Changing, ap (λ (k : ℕ). Some (k, world.Changing)) (omega (arith, e)))
@@ -76,6 +79,38 @@ module _ {T : Type 0} (defers : T → Option ℕ) (fixed : Fixed) where
   pub came_then : (w n : World T) (e : Event T) → Came defers fixed w → Happens defers size e w n → Came defers fixed n
   came_then w n e came step = (came.0 ++ e ∷ [], runs_then came.0 (at_start defers fixed.roots) w n e came.1 step)
 
+module _ {T : Type 0} where
+  -- what is in a seat's hand is some caller's
+  pub of_users : (w : World T) (b : ℕ) (k : Hand) → IsOfUsers k → w.hand b ≡ k → IsOfUsers (w.hand b)
+  of_users w b k is e = subst IsOfUsers (sym e) is
+
+  -- where no hand has changed a seat knows what it knew
+  pub same_hands : (w n : World T) (j : ℕ) (x : View) → n.hand ≡ w.hand → IsKnown w j x → IsKnown n j x
+  same_hands w n j (Inside t Nothing) e is = tt
+  same_hands w n j (Inside t (HasMade b)) e is = ap (λ (f : ℕ → Hand). f b) e ∙ is
+  same_hands w n j Rests e is = tt
+  same_hands w n j (Registers c) e is = tt
+  same_hands w n j (Outside t) e is = tt
+  same_hands w n j (Enters t) e is = tt
+  same_hands w n j (Leaves t) e is = tt
+  same_hands w n j (Left t) e is = tt
+  same_hands w n j (Frees t) e is = tt
+
+module _ {T : Type 0} (defers : T → Option ℕ) (fixed : Fixed) where
+  -- after a step of another seat's row, too
+  pub step_known : (w : World T) (r : Reached defers fixed.batch_size w) (i : ℕ) (n : World T) (step : Steps' defers i (w.row i) w n) (j : ℕ) (x : View)
+      → IsKnown w j x → IsKnown n j x
+  step_known w r i n step j (Inside t Nothing) is = tt
+  step_known w r i n step j (Inside t (HasMade b)) is =
+      kept_hand defers fixed.batch_size w r i n step b (IsHad (of_users w b (world.Making j) tt is)) ∙ is
+  step_known w r i n step j Rests is = tt
+  step_known w r i n step j (Registers c) is = tt
+  step_known w r i n step j (Outside t) is = tt
+  step_known w r i n step j (Enters t) is = tt
+  step_known w r i n step j (Leaves t) is = tt
+  step_known w r i n step j (Left t) is = tt
+  step_known w r i n step j (Frees t) is = tt
+
 module _ {T : Type 0} (defers : T → Option ℕ) (fixed : Fixed) (s : State T View (World T)) (id : ℕ) (v : View) (h : Holds defers fixed s)
     (at_id : view_of s id ≡ Some v) where
   abbrev w : World T
@@ -94,18 +129,19 @@ module _ {T : Type 0} (defers : T → Option ℕ) (fixed : Fixed) (s : State T V
       → (j t : ℕ) (x : View) (a b : Use) → j ≢ id → view_of s j ≡ Some x → use_of x ≡ Some (t, a) → use_of u ≡ Some (t, b) → ⊥
   alone u stays j t x a b ne e p q = let k = stays t b q in ne (h.apart j id t a k.0 x v e at_id p k.1)
 
-  pub begun : (request : Request) (u : View) (n : World T) → Happens defers fixed.batch_size (Begin id request) w n → n.memory ≡ w.memory → n.log ≡ w.log
+  pub begun : (request : Request) (u : View) (n : World T) → Happens defers fixed.batch_size (Begin id request) w n → n.memory ≡ w.memory → n.log ≡ w.log → n.hand ≡ w.hand
       → ((j : ℕ) → j ≢ id → n.row j ≡ w.row j) → ((t : ℕ) → ((a : Use) → use_of v ≡ Some (t, a) → ⊥) → n.uses t ≡ w.uses t) → Fits fixed.batch_size n id u
       → ((t : ℕ) (b : Use) → use_of u ≡ Some (t, b) → (a : Use) × (use_of v ≡ Some (t, a))) → Moved defers fixed s id u s.memory n
-  begun request u n happens memory log rows uses own stays = record {
+  begun request u n happens memory log hand rows uses own stays = record {
     came = came_then defers fixed w n (Begin id request) h.came happens;
     memory = h.memory ∙ sym memory;
     rows = rows;
     own = own;
     others = others n (λ t used. uses t);
+    known = λ j x ne e. same_hands w n j x hand (h.seats j x e).known;
     alone = alone u stays;
     quiet = h.quiet;
-    kept = λ j b x o ne e keeps. (keeps.0, keeps.1, ap (holds keeps.0 b) log ∙ keeps.2, ap (is_over b) log ∙ keeps.3);
+    kept = λ j b x o ne e keeps. (keeps.0, keeps.1, keeps.2, ap (holds keeps.0 b) log ∙ keeps.3, ap (is_over b) log ∙ keeps.4);
   }
 
   pub stepped : (u : View) (m : Mem T) (n : World T) → Steps' defers id (row_of fixed.batch_size v) w n → m ≡ n.memory → Fits fixed.batch_size n id u
@@ -118,13 +154,15 @@ module _ {T : Type 0} (defers : T → Option ℕ) (fixed : Fixed) (s : State T V
     own = own;
     others = others n (λ t used apart. uses_kept defers fixed.batch_size w r id n step t used
         (λ on. let k = works_on_own fixed.batch_size v fit.short t (sym (ap works_on fit.row) ∙ on) in apart k.0 k.1));
+    known = λ j x ne e. step_known defers fixed w r id n step j x (h.seats j x e).known;
     alone = lone;
     quiet = quiet;
     kept = λ j b x o ne e keeps. (
       keeps.0,
       keeps.1,
-      still_held defers fixed.batch_size w r id n step keeps.0 b (inside j x keeps.0 e keeps.1) keeps.2,
-      ap (is_over b) d.logged ∙ not_over b d.effects w.log d.one ∙ keeps.3,
+      keeps.2,
+      still_held defers fixed.batch_size w r id n step keeps.0 b (inside j x keeps.0 keeps.1 e keeps.2) keeps.3,
+      ap (is_over b) d.logged ∙ not_over b d.effects w.log d.one ∙ keeps.4,
     );
   }
     where
@@ -140,5 +178,5 @@ module _ {T : Type 0} (defers : T → Option ℕ) (fixed : Fixed) (s : State T V
       d : RowStepped defers id w n
       d = did defers fixed.batch_size w r id n step
 
-      inside : (j : ℕ) (x : View) (t : ℕ) → view_of s j ≡ Some x → x ≡ Inside t → IsInside (w.uses t)
-      inside j x t e k = subst (λ (a : Use). IsInside a) (sym (used_so w (use_of x) t (world.Inside 0) (h.seats j x e).slot (ap use_of k))) tt
+      inside : (j : ℕ) (x : View) (t : ℕ) (has : Has) → view_of s j ≡ Some x → x ≡ Inside t has → IsInside (w.uses t)
+      inside j x t has e k = subst (λ (a : Use). IsInside a) (sym (used_so w (use_of x) t (world.Inside 0) (h.seats j x e).slot (ap use_of k))) tt

@@ -3,6 +3,7 @@ use Rattle.std.specs.Prelude.{◌≡◌, false}
 use Rattle.seize.specs.declared.rows.register.Registering.TheVariants as at
 use Rattle.seize_shared.specs.declared.view.View.{View}
 use Rattle.seize_shared.specs.declared.view.View.TheVariants.{Rests, Registers, Outside, Enters, Inside, Leaves, Left, Frees}
+use Rattle.seize_shared.specs.declared.view.Has.TheVariants.{Nothing}
 
 abbrev pub registering : View → View
 registering Rests = Registers record { slot = 0; enters = false; stands = at.Begin }
@@ -13,7 +14,7 @@ entering (Outside t) = Enters t
 entering v = v
 
 abbrev pub leaving : View → View
-leaving (Inside t) = Leaves t
+leaving (Inside t Nothing) = Leaves t
 leaving v = v
 
 abbrev pub ended : View → View

@@ -1,7 +1,7 @@
 -- The rule of the collector's rows: there is a world that came about, of which the memory is that of the state; each seat knows its row there, and its slot.
-use Rattle.std.specs.Prelude.{◌≡◌, ℕ, ◌≤◌, true, false, List, Option, Some, None}
+use Rattle.std.specs.Prelude.{◌≡◌, ℕ, ◌≤◌, true, false, List, Option, Some, None, Ok, Err}
 use Rattle.seize_words.specs.Mem.{Mem, Took, value_at, word_at}
-use Rattle.seize_words.specs.Op.{Op, Out}
+use Rattle.seize_words.specs.Op.{Op, Out, Make, Take, Made as OutMade, Taken}
 use Rattle.seize_words.specs.Plan.{Plan, Turn, Do, Ends}
 use Rattle.seize_words.specs.declared.at.At.TheVariants.{Slot}
 use Rattle.seize.specs.declared.states.TheConstants.{HEAD, IDLE, ACTIVE}
@@ -19,6 +19,8 @@ use Rattle.seize.specs.World as world
 use Rattle.seize_seats.specs.State.{State, view_of}
 use Rattle.seize_shared.specs.declared.view.View.{View}
 use Rattle.seize_shared.specs.declared.view.View.TheVariants.{Rests, Registers, Outside, Enters, Inside, Leaves, Left, Frees}
+use Rattle.seize_shared.specs.declared.view.Has.{Has}
+use Rattle.seize_shared.specs.declared.view.Has.TheVariants.{Nothing, Made}
 use Rattle.seize_shared.specs.declared.view.Fixed.{Fixed}
 
 -- the row that a seat has under way, by the size of batches
@@ -27,7 +29,7 @@ row_of size Rests = world.Rests
 row_of size (Registers c) = world.Registers c
 row_of size (Outside t) = world.Rests
 row_of size (Enters t) = world.Enters record { slot = t }
-row_of size (Inside t) = world.Rests
+row_of size (Inside t has) = world.Rests
 row_of size (Leaves t) = world.Leaves (leaving t size IDLE false)
 row_of size (Left t) = world.Leaves (standing (leaving t size IDLE false) leaving_at.Over)
 row_of size (Frees t) = world.Frees record { slot = t }
@@ -38,7 +40,7 @@ use_of Rests = None
 use_of (Registers c) = None
 use_of (Outside t) = Some (t, world.Outside 0)
 use_of (Enters t) = Some (t, world.Changing)
-use_of (Inside t) = Some (t, world.Inside 0)
+use_of (Inside t has) = Some (t, world.Inside 0)
 use_of (Leaves t) = Some (t, world.Changing)
 use_of (Left t) = Some (t, world.Changing)
 use_of (Frees t) = Some (t, world.Changing)
@@ -62,6 +64,15 @@ module _ {T : Type 0} where
   IsUsed w None = Unit {0}
   IsUsed w (Some slot) = w.uses slot.0 ≡ slot.1
 
+  -- the block that the seat has is in its hand
+  abbrev pub IsInHand : World T → ℕ → Has → Type 0
+  IsInHand w j Nothing = Unit {0}
+  IsInHand w j (Made b) = w.hand b ≡ world.Making j
+
+  abbrev pub IsKnown : World T → ℕ → View → Type 0
+  IsKnown w j (Inside t has) = IsInHand w j has
+  IsKnown w j _ = Unit {0}
+
   -- no list of a slot has an entry
   abbrev pub IsQuiet : Mem T → Type 0
   IsQuiet m = (t head : ℕ) → word_at m (Slot t HEAD) ≡ Some head → head ≤ ACTIVE
@@ -71,6 +82,7 @@ module _ {T : Type 0} where
     pub row : w.row j ≡ row_of size v
     pub slot : IsUsed w (use_of v)
     pub short : IsShort v
+    pub known : IsKnown w j v
 
 module _ {T : Type 0} (defers : T → Option ℕ) (fixed : Fixed) where
   -- the world came about from the start
@@ -88,7 +100,7 @@ module _ {T : Type 0} (defers : T → Option ℕ) (fixed : Fixed) where
 module _ {T : Type 0} where
   -- the section of a seat holds the block, which is not over
   abbrev pub Keeps : View → View → World T → ℕ → Type 0
-  Keeps u o w b = (t : ℕ) × (u ≡ Inside t) × (holds t b w.log ≡ true) × (is_over b w.log ≡ false)
+  Keeps u o w b = (t : ℕ) × (has : Has) × (u ≡ Inside t has) × (holds t b w.log ≡ true) × (is_over b w.log ≡ false)
 
 -- what a seat knows once registering has come so far
 abbrev pub left_by : Register × Progress ℕ → View
@@ -103,10 +115,18 @@ module _ {T R : Type 0} where
   ComesTo (Do op rest) out end = (m n : Mem T) × Took m op out n × Ends (value_at n) (rest out) end
 
 module _ {T : Type 0} where
+  -- a block is made, or the one that was made is taken
+  abbrev pub has_told : Has → Op T → Out T → Has → Type 0
+  has_told Nothing (Make value words) (OutMade (Ok b)) after = after ≡ Made b
+  has_told Nothing (Make value words) (OutMade (Err back)) after = after ≡ Nothing
+  has_told (Made b) (Take c) (Taken value) after = after ≡ Nothing
+  has_told _ op out after = ⊥
+
   -- what an operation tells its seat: how its row goes on
   abbrev pub told : View → Op T → Out T → View → Type 0
   told (Registers c) op out w = (end : Register × Progress ℕ) × ComesTo (register_plan {T = T} c) out end × (w ≡ left_by end) × IsShort w
-  told (Enters t) op out w = w ≡ Inside t
+  told (Enters t) op out w = w ≡ Inside t Nothing
+  told (Inside t has) op out w = (after : Has) × has_told has op out after × (w ≡ Inside t after)
   told (Leaves t) op out w = w ≡ Left t
   told (Frees t) op out w = w ≡ Rests
   told _ op out w = ⊥

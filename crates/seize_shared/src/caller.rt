@@ -1,9 +1,10 @@
 //! One of those who share the memory.
-ghost use Rattle.std.specs.Prelude.{◌≡◌, ◌<◌, ◌+◌, true, false, IfOk, IfErr};
+ghost use Rattle.std.specs.Prelude.{◌≡◌, ◌<◌, ◌+◌, None, true, false, IfOk, IfErr};
 ghost use Rattle.seize.specs.declared.states.TheConstants.{LAST_SLOT};
 ghost use Rattle.seize.specs.declared.rows.register.Registering.TheVariants.{Take};
 ghost use Rattle.seize_shared.specs.Seeking.{row_at, seeks};
 ghost use Rattle.seize_shared.specs.declared.view.View.TheVariants.{Rests, Registers, Outside, Inside};
+ghost use Rattle.seize_shared.specs.declared.view.Has.TheVariants.{Nothing, Made};
 
 use crate::rows::OfRows;
 use crate::turns::{Ending, Entering, Freeing, Leaving, Registering};
@@ -40,7 +41,7 @@ impl<'a, T: Defers> Caller<'a, T> {
     }
 
     /// Takes a slot whose head was seen so, if no other caller is faster.
-    fn take(&mut self, slot: u64, seen: u64) -> bool
+    fn occupy(&mut self, slot: u64, seen: u64) -> bool
         requires { self.old.seat.view ≡ Registers (row_at slot (Take seen)) }
         ensures taken { result ≡ true → self.new.seat.view ≡ Outside slot }
         ensures lost { result ≡ false → self.new.seat.view ≡ seeks (slot + 1) }
@@ -65,7 +66,7 @@ impl<'a, T: Defers> Caller<'a, T> {
         if let Some(bucket) = needed_bucket(slot) {
             self.blocks.room(&mut self.seat, bucket)?;
         }
-        Ok(self.take(slot, seen))
+        Ok(self.occupy(slot, seen))
     }
 
     /// Takes the first slot that can be taken.
@@ -86,16 +87,41 @@ impl<'a, T: Defers> Caller<'a, T> {
     /// Opens a section of its slot.
     pub fn enter(&mut self, slot: u64)
         requires outside { self.old.seat.view ≡ Outside slot }
-        ensures inside { self.new.seat.view ≡ Inside slot }
+        ensures inside { self.new.seat.view ≡ Inside slot Nothing }
     {
         self.blocks.turn::<Entering>(&mut self.seat);
         self.blocks
             .store(&mut self.seat, At::Slot(slot, HEAD), ACTIVE);
     }
 
+    /// Makes a block within the section of its slot, of a value that keeps no list. Where no number is free the value comes back.
+    pub fn make(&mut self, _slot: u64, value: T) -> Result<u64, T>
+        requires inside { self.old.seat.view ≡ Inside _slot Nothing }
+        requires plain { T.defers value ≡ None }
+        ensures made { IfOk result (λ block. self.new.seat.view ≡ Inside _slot (Made block)) }
+        ensures refused { IfErr result (λ back. self.new.seat.view ≡ Inside _slot Nothing) }
+    {
+        self.blocks.make(&mut self.seat, value, 0)
+    }
+
+    /// The value of the block that it has made, for as long as it is borrowed.
+    pub fn value(&self, _slot: u64, block: u64) -> &T
+        requires has { self.now.seat.view ≡ Inside _slot (Made block) }
+    {
+        self.blocks.value(&self.seat, block)
+    }
+
+    /// Takes the block away that it has made.
+    pub fn take(&mut self, _slot: u64, block: u64) -> T
+        requires has { self.old.seat.view ≡ Inside _slot (Made block) }
+        ensures taken { self.new.seat.view ≡ Inside _slot Nothing }
+    {
+        self.blocks.take(&mut self.seat, block)
+    }
+
     /// Ends the section.
     pub fn leave(&mut self, slot: u64)
-        requires inside { self.old.seat.view ≡ Inside slot }
+        requires inside { self.old.seat.view ≡ Inside slot Nothing }
         ensures outside { self.new.seat.view ≡ Outside slot }
     {
         self.blocks.turn::<Leaving>(&mut self.seat);

@@ -1,12 +1,16 @@
 //! What is promised of the rule of the collector's rows.
-ghost use Rattle.seize_shared.specs.Promises.{RulesStart, SeatsCome, RowsGoOn, RowsTurn};
+ghost use Rattle.seize_shared.specs.Promises.{RulesStart, SeatsCome, RowsGoOn, RowsTurn, BlocksAreMade, MadeAreShown, MadeAreTaken};
 
 use seize::rows::Defers;
 
 /// The rule may start, and seats may come. Each row of a seat may begin, go on and end at any moment, whatever the other seats do.
+/// So may a block be made within a section, looked at by its maker, and taken away.
 pub fn rows_go_on<T: Defers>()
     ensures starts { RulesStart T T.defers }
     ensures come { SeatsCome T T.defers }
     ensures on { RowsGoOn T T.defers }
     ensures turn { RowsTurn T T.defers }
+    ensures made { BlocksAreMade T T.defers }
+    ensures shown { MadeAreShown T T.defers }
+    ensures taken { MadeAreTaken T T.defers }
 {}

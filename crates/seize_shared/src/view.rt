@@ -11,14 +11,22 @@ pub enum View {
     Outside(u64),
     /// It is about to open a section of it.
     Enters(u64),
-    /// It holds this slot, and its section is open.
-    Inside(u64),
+    /// It holds this slot, and its section is open; and it has a block, or none.
+    Inside(u64, Has),
     /// It is about to end the section of it.
     Leaves(u64),
     /// It has ended it, and took the list of the slot, which was empty.
     Left(u64),
     /// It is about to give this slot up.
     Frees(u64),
+}
+
+/// Which block a seat has.
+pub enum Has {
+    /// It has none.
+    Nothing,
+    /// It has made this one, which nobody else can reach.
+    Made(u64),
 }
 
 /// What is chosen as the memory is opened.

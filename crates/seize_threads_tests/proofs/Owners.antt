@@ -155,6 +155,10 @@ shows id n x v is s has at = subst IsSome (sym (has.there id n x (at ∙ ap Some
 pub is_its : (id n x : ℕ) (v : Own) (y : ℕ) → v ≡ Some (n, x) → IsValueOf AreTheirs id v n y → y ≡ x
 is_its id n x v y is of = let there = of.1.there id n x (of.2 ∙ ap Some is) in let found = of.3 in cc (there, found)
 
+-- and what is taken is, too
+pub taken_is : (n x y : ℕ) (v w : Own) → v ≡ Some (n, x) → tells v (Take n) (Taken y) w → y ≡ x
+taken_is n x y v w is told = (subst (λ (u : Own). tells u (Take n) (Taken y) w) is told).1
+
 -- one block
 abbrev one : ℕ → ℕ → Own
 one n x = Some (n, x)

@@ -4,6 +4,10 @@
 #[cfg(test)]
 mod counting;
 #[cfg(test)]
+mod looking;
+#[cfg(test)]
+mod making;
+#[cfg(test)]
 mod owning;
 #[cfg(test)]
 mod sections;

@@ -6,12 +6,13 @@ use Rattle.seize_shared.specs.Begun.{leaving, ended}
 use Rattle.seize_shared.specs.Rows.{told}
 use Rattle.seize_shared.specs.declared.view.View.{View}
 use Rattle.seize_shared.specs.declared.view.View.TheVariants.{Inside, Leaves, Left}
+use Rattle.seize_shared.specs.declared.view.Has.TheVariants.{Nothing}
 use Rattle.seize_shared.proofs.Calls.{may_turn, may_go_on}
 use Rattle.seize_shared.proofs.caller.Caller.leave.Goals as goal
 
 pub turn-requires-clause-may : goal.turn-requires-clause-may
 turn-requires-clause-may g c =
-    may_turn g.T.Defers.defers c.args.self.now.blocks.now.words.fixed c.args.self.now.seat.id c.args.self.now.seat.view (Inside c.args.slot)
+    may_turn g.T.Defers.defers c.args.self.now.blocks.now.words.fixed c.args.self.now.seat.id c.args.self.now.seat.view (Inside c.args.slot Nothing)
     c.requires.inside leaving refl
 
 pub swap-requires-clause-may : goal.swap-requires-clause-may
