@@ -9,4 +9,4 @@ pub mod Places
 pub mod Plans
 mod Stored
 mod Pieces
-pub mod Sent
+mod Sent

@@ -13,8 +13,6 @@ use Rattle.core.specs.contracts.slots.Slots as Slots
 use Rattle.core.specs.declared.alloc.Allocator.{Ghosts}
 use Rattle.std.proofs.Crossing.{crosses}
 use Rattle.std_alloc.proofs.SendSync.{FreesAnywhere, lies, quiet}
-use Rattle.seize_words.specs.contracts.piece.Piece as Piece
-use Rattle.seize_words.specs.contracts.plain.Plain as Plain
 use Rattle.seize_words.specs.contracts.room.Frame as Frame
 
 room : (τ : Ty) (p : Ptr) → Keyless (room_for τ p)
@@ -47,10 +45,3 @@ module _ (R W A : RattleType) (g : Ghosts A.Denot) (f : FreesAnywhere A.Denot g)
   frame_send = let O = Frame.the_type R W A g in let all : AllSend (fields O) = search (sendable, crosses) depth 20 in
       owning_send O all (λ d. inside d.at _ ((λ short. tt), (((tt, (tt, tt)), tt), f.frees d.alloc _ d.at)))
       (λ k. quiet (to O) (exits_of k (fields O)) ((struct_send (shape O) all).leaving k))
-
-piece_send : (R : RattleType) → IsSend R → IsSend (Piece.the_row R)
-piece_send R s = search (sendable, crosses, slots_send, frame_send) depth 20
-
--- the memory of one owner, too
-pub plain_send : (R : RattleType) → IsSend R → IsSend (Plain.the_row R)
-plain_send R s = search (sendable, crosses, piece_send) depth 40
