@@ -1,6 +1,6 @@
 //! Walks that are cloned, texts that are ordered, a reservation of more than a table can hold, and a value that has no text as a key.
 ghost use Rattle.std.specs.Prelude.{refl};
-ghost use Rattle.std.proofs.Common.{arith};
+ghost use Rattle.std.proofs.Common.{arith, false};
 ghost use Rattle.papaya_forms.specs.Forms.{IsUnsigned, unsigned_value};
 ghost use Rattle.papaya_forms.specs.Tells.{unsigned_values_tell};
 

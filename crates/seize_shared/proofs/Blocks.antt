@@ -1,12 +1,11 @@
 -- Within a section a block is made, looked at by its maker, and taken away.
-use Rattle.std.specs.Prelude.{◌≢◌, ◌<◌, ◌^◌, Option, Some, None, IsSome, Ok, Err}
-use Rattle.std.proofs.Common.{◌≡◌, ℕ, ◌+◌, List, Bool, true, false, ◌⊎◌, inl, inr, refl, sym, subst, ap, ◌∙◌}
-use Rattle.std.proofs.lemmas.Bool.{cases_eq}
-use Rattle.seize_words.specs.Mem.{Mem, Can, Took, value_at}
+use Rattle.std.specs.Prelude.{◌≢◌, Option, Some, None, IsSome, Ok, Err}
+use Rattle.std.proofs.Common.{◌≡◌, ℕ, ◌+◌, List, true, false, refl, sym, subst, ap, ◌∙◌}
+use Rattle.seize_words.specs.Mem.{Mem, Took, value_at}
 use Rattle.seize_words.specs.SlotWords.{slot_word}
 use Rattle.seize.specs.declared.states.TheConstants.{HEAD, LAST_SLOT}
-use Rattle.seize_words.specs.Op.{Op, Out, Make, Take, Found, Stored, Exchanged, Made as OutMade, Taken, Roomed}
-use Rattle.seize.specs.Law.{Effect, Made as MadeBlock, Dropped, holds, is_over}
+use Rattle.seize_words.specs.Op.{Out, Make, Take, Found, Stored, Exchanged, Made as OutMade, Taken, Roomed}
+use Rattle.seize.specs.Law.{Effect, Dropped, holds, is_over}
 use Rattle.seize.specs.World.{World, Use, Hand, Event, Makes, Drops, Happens, HasListWord, IsInside, made_by, with_hand, with_effect}
 use Rattle.seize.specs.World as world
 use Rattle.seize_alone.proofs.Given.SeizeMoves.State.Ghost.{IsOwned}
@@ -15,19 +14,17 @@ use Rattle.seize_rule.proofs.Points.Aside.{HandFits}
 use Rattle.seize_alone.proofs.Given.SeizeMoves.State.Held.{held_beside}
 use Rattle.seize_rule.proofs.Rows.Others.{with_here, with_other}
 use Rattle.seize_rule.proofs.Words.Named.{made_one}
-use Rattle.seize_alone.specs.Alone.{IsOfUsers}
 use Rattle.seize_alone.proofs.Histories.Reached.{Reached}
 use Rattle.seize_alone.proofs.Histories.NotTaken.{IsHad, kept_there}
-use Rattle.seize_seats.specs.State.{State, view_of, Goes, Allows}
-use Rattle.seize_seats.specs.Lendings.{Shown}
-use Rattle.seize_shared.specs.Rows.{row_of, use_of, IsUsed, IsKnown, IsInHand, IsQuiet, Fits, Came, Holds, Keeps, has_told, told}
+use Rattle.seize_seats.specs.State.{State, view_of, Goes}
+use Rattle.seize_shared.specs.Rows.{use_of, IsKnown, IsInHand, Came, Holds, Keeps, told}
 use Rattle.seize_shared.specs.Promises.{BlocksAreMade, MadeAreShown, MadeAreTaken}
 use Rattle.seize_shared.specs.declared.view.View.{View}
 use Rattle.seize_shared.specs.declared.view.View.TheVariants.{Rests, Registers, Outside, Enters, Inside, Leaves, Left, Frees}
 use Rattle.seize_shared.specs.declared.view.Has.{Has}
 use Rattle.seize_shared.specs.declared.view.Has.TheVariants.{Nothing, Made}
 use Rattle.seize_shared.specs.declared.view.Fixed.{Fixed}
-use Rattle.seize_shared.proofs.Moved.{Moved, moved, used_so, still_used}
+use Rattle.seize_shared.proofs.Moved.{moved, still_used}
 use Rattle.seize_shared.proofs.Steps.{alone, came_then, of_users, same_hands, reached}
 
 no_holder : (j i : ℕ) → world.Making j ≡ world.Making i → j ≡ i
@@ -92,7 +89,7 @@ module _ {T : Type 0} (defers : T → Option ℕ) (fixed : Fixed) where
     free_hand : (b j : ℕ) → value_at w.memory b ≡ None → (c : ℕ) → w.hand c ≡ world.Making j → c ≢ b
     free_hand b j none c is e =
         let some = kept_there defers fixed.batch_size w r c (IsHad (of_users w c (world.Making j) tt is)) in
-        let there = subst (λ (a : ℕ). IsSome (value_at w.memory a)) e some in cc (there, none)
+        let there = subst (λ (a : ℕ). IsSome (value_at w.memory a)) e some in cc (subst IsSome none there)
 
     makes : had ≡ Nothing → (value : T) (words : ℕ) → defers value ≡ None → (out : Out T) (m : Mem T) → Took s.memory (Make value words) out m
         → Goes H Keeps s m id (told (Inside t Nothing) (Make value words) out)

@@ -17,7 +17,7 @@ use Rattle.seize_alone.proofs.Histories.Reached.{Reached, runs_reached}
 use Rattle.seize_alone.proofs.Histories.NotTaken.{IsHad, still_held, kept_hand, did}
 use Rattle.seize_alone.proofs.Histories.Uses.{uses_kept}
 use Rattle.seize_seats.specs.State.{State, view_of}
-use Rattle.seize_shared.specs.Rows.{row_of, use_of, IsSeeking, IsShort, IsUsed, IsInHand, IsKnown, IsQuiet, Fits, Came, Holds}
+use Rattle.seize_shared.specs.Rows.{row_of, use_of, IsSeeking, IsShort, IsUsed, IsKnown, IsQuiet, Fits, Came, Holds}
 use Rattle.seize_shared.specs.declared.view.View.{View}
 use Rattle.seize_shared.specs.declared.view.View.TheVariants.{Rests, Registers, Outside, Enters, Inside, Leaves, Left, Frees}
 use Rattle.seize_shared.specs.declared.view.Has.{Has}
