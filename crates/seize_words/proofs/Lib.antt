@@ -9,4 +9,3 @@ pub mod Places
 pub mod Plans
 mod Stored
 mod Pieces
-mod Sent
