@@ -33,7 +33,7 @@ impl<K: Eq + Hash + Drop, V: Drop, S: BuildHasher + Drop> Runner<K, V> for Sched
 
     ghost has_come = { λ setup events r. HasCome K.eq ⟦<S as Hashes<K>>⟧.hash (terms_given (bounded setup)) events r.running };
 
-    ghost is_run = { λ setup events run. IsWholeRun K.eq (terms_given (bounded setup)) events run };
+    ghost is_run = { λ setup events run. IsWholeRun K.eq ⟦<S as Hashes<K>>⟧.hash (terms_given (bounded setup)) events run };
 
     ghost outcomes = { λ r. r.running.written.outcomes.items };
 
@@ -71,7 +71,7 @@ impl<K: Eq + Hash + Drop, V: Drop, S: BuildHasher + Drop> Runner<K, V> for Sched
         choices: Vec<u64>,
         schedule: Vec<Event<K, V>>,
     ) -> Result<Run<K, V>, Fault>
-        ensures run { IfOk result (IsWholeRun K.eq (terms_given (bounded setup)) schedule.items) }
+        ensures run { IfOk result (IsWholeRun K.eq ⟦<S as Hashes<K>>⟧.hash (terms_given (bounded setup)) schedule.items) }
         ensures memory { IfErr result (λ fault. fault ≡ Fault.Memory) }
     {
         let hasher = self.running.into_hasher();

@@ -12,4 +12,5 @@ returns g c = λ setup events come.
       right = run.right g.K.PartialEq.eq hashes terms events come;
       whole = run.whole g.K.PartialEq.eq hashes terms events come;
       hands = run.hands g.K.PartialEq.eq hashes terms events come;
+      live = run.live g.K.PartialEq.eq hashes terms events come;
     }
