@@ -1,18 +1,15 @@
 //! Drivers that apply events to one run, under a lock.
 ghost use Rattle.std.specs.Prelude.{◌≡◌, ◌≤◌, ◌<◌, ◌+◌, [], length, map, sum_by, vec_len, IfOk, IfErr, IfNone, IfSome, OnOk, OnErr};
 ghost use Rattle.std.specs.List.{AllByRecursion, range_with_len};
-ghost use Rattle.papaya_copies.specs.Copies.{AreAlike, ClonesAreSame};
 ghost use Rattle.papaya_crew.specs.Crew.{Disagree, HoldsJust, events_of};
 
 use crate::driver::Driver;
-use crate::finished::Finished;
+use crate::finished::{Finished, agree};
 use crate::kept::Kept;
 use crate::locked::Locked;
 use crate::name::CrewName;
 use crate::runner::Runner;
 use papaya_runs::event::Setup;
-use papaya_schedules::event::Event;
-use papaya_schedules::outcome::Outcome;
 use seize_words::Fault;
 use std::alloc::{AllocError, Global};
 use std::sync::ledger::{Blank, Share};
@@ -20,12 +17,13 @@ use std::sync::{Mutex, Wait};
 
 /// The run to which drivers apply events, under one lock, and the schedule that it keeps of them.
 #[derive(Drop)]
-pub struct Crew<K, V, R: Runner<K, V>, N: CrewName> {
-    locked: Mutex<Locked<K, V, R, N>>,
+pub struct Crew<E, R: Runner<E>, N: CrewName> {
+    locked: Mutex<Locked<E, R, N>>,
 }
 
-impl<K: Drop, V: Drop, R: Runner<K, V>, N: CrewName> Crew<K, V, R, N>
+impl<E: Drop, R: Runner<E>, N: CrewName> Crew<E, R, N>
 where
+    R::Outcome: Drop,
     R::Hasher: Drop,
 {
     /// A crew that keeps no event yet, and its drivers, numbered from 0 on. The hasher gives each key its hash. The choices say which free block numbers are used again, before
@@ -37,7 +35,7 @@ where
         choices: Vec<u64>,
         n: u64,
         blank: Blank,
-    ) -> Result<(Self, Vec<Driver<K, V, N>>), Fault>
+    ) -> Result<(Self, Vec<Driver<E, R::Outcome, N>>), Fault>
         requires some { 1 ≤ n }
         requires setup { setup ≡ N.setup }
         requires name { blank.name ≡ N.name }
@@ -61,7 +59,10 @@ where
     }
 }
 
-impl<K: Drop, V: Clone, R: Runner<K, V>, N: CrewName> Crew<K, V, R, N> {
+impl<E: Drop, R: Runner<E>, N: CrewName> Crew<E, R, N>
+where
+    R::Outcome: Drop,
+{
     /// Lets an event happen under the lock, keeps it, and adds it to this share: what it came to, twice. If it finds no memory, the kept schedule is as it was, and each later event
     /// is refused so.
     pub fn happens<W: Wait>(
@@ -69,13 +70,13 @@ impl<K: Drop, V: Clone, R: Runner<K, V>, N: CrewName> Crew<K, V, R, N> {
         rt: &W,
         alloc: Global,
         share: &mut Share<N>,
-        kept: Kept<K, V>,
-        event: Event<K, V>,
-    ) -> Result<(Outcome<V>, Outcome<V>), AllocError>
-        requires values { ClonesAreSame V.is_clone }
+        kept: Kept<E>,
+        event: E,
+    ) -> Result<(R::Outcome, R::Outcome), AllocError>
+        requires copies { R.can_copy }
         requires same { kept.event ≡ event }
         requires part { 0 < share.old.parts }
-        ensures twice { IfOk result (λ told. AreAlike told.0 told.1) }
+        ensures twice { IfOk result (λ told. R.are_alike told.0 told.1) }
         ensures counted { OnOk result (share.new.amount ≡ share.old.amount + 1) }
         ensures refused { OnErr result (share.new.amount ≡ share.old.amount) }
         ensures parts { share.new.parts ≡ share.old.parts }
@@ -84,32 +85,34 @@ impl<K: Drop, V: Clone, R: Runner<K, V>, N: CrewName> Crew<K, V, R, N> {
     }
 }
 
-impl<K: PartialEq + Clone, V: PartialEq + Clone, R: Runner<K, V> + Drop, N: CrewName> Crew<
-    K,
-    V,
-    R,
-    N,
-> {
-    /// The kept schedule with its run, where it holds of each driver just its list, keys and values compared by `==`, and else none. If memory had run out for an event,
+impl<E: Drop, R: Runner<E> + Drop, N: CrewName> Crew<E, R, N>
+where
+    R::Outcome: Drop,
+    R::Run: Drop,
+{
+    /// The kept schedule with its run, where it holds of each driver just its list, events and outcomes compared by the runner's tests, and else none. If memory had run out for an event,
     /// the run is made anew. The one fault is Memory.
     pub fn finish(
         self,
         alloc: Global,
-        drivers: Vec<Driver<K, V, N>>,
-    ) -> Result<Option<Finished<K, V>>, Fault>
-        requires keys { ClonesAreSame K.is_clone }
-        requires values { ClonesAreSame V.is_clone }
+        drivers: Vec<Driver<E, R::Outcome, N>>,
+    ) -> Result<Option<Finished<E, R::Run>>, Fault>
+        requires copies { R.can_copy }
         requires some { 1 ≤ vec_len drivers }
         requires all { vec_len drivers ≡ N.parts }
         ensures run { IfOk result (λ it. IfSome it (λ f. R.is_run N.setup (events_of f.schedule.items) f.run)) }
-        ensures counted { IfOk result (λ it. IfSome it (λ f. length f.run.outcomes.items ≡ sum_by (λ d. length d.list) drivers.items)) }
-        ensures lists { IfOk result (λ it. IfSome it (λ f. AllByRecursion (HoldsJust K.eq V.eq f.schedule.items f.run.outcomes.items) drivers.items)) }
-        ensures none { IfOk result (λ it. IfNone it (Disagree (R.is_run N.setup) K.eq V.eq drivers.items)) }
+        ensures counted { IfOk result (λ it. IfSome it (λ f. length (R.told f.run) ≡ sum_by (λ d. length d.list) drivers.items)) }
+        ensures lists { IfOk result (λ it. IfSome it (λ f. AllByRecursion (HoldsJust R.same_event R.same_outcome f.schedule.items (R.told f.run)) drivers.items)) }
+        ensures none { IfOk result (λ it. IfNone it (Disagree (R.is_run N.setup) R.told R.same_event R.same_outcome drivers.items)) }
         ensures memory { IfErr result (λ fault. fault ≡ Fault.Memory) }
     {
         let Self { locked } = self;
         let (finished, mut events) = locked.into_inner().finish(alloc)?;
-        let agrees = finished.agrees_with(drivers.as_slice());
+        let agrees = agree::<E, R, N>(
+            finished.schedule.as_slice(),
+            R::outcomes_of(&finished.run),
+            drivers.as_slice(),
+        );
         let mut all = gathered(drivers);
         events.audit(&mut all);
         drop(events);
@@ -118,7 +121,7 @@ impl<K: PartialEq + Clone, V: PartialEq + Clone, R: Runner<K, V> + Drop, N: Crew
 }
 
 /// The drivers' shares as one.
-fn gathered<K: Drop, V: Drop, N: CrewName>(drivers: Vec<Driver<K, V, N>>) -> Share<N>
+fn gathered<E: Drop, O: Drop, N: CrewName>(drivers: Vec<Driver<E, O, N>>) -> Share<N>
     requires some { 1 ≤ vec_len drivers }
     ensures parts { result.parts ≡ vec_len drivers }
     ensures amount { result.amount ≡ sum_by (λ d. length d.list) drivers.items }

@@ -7,45 +7,43 @@ ghost use Rattle.papaya_crew.specs.declared.kept.Applied.{Applied};
 use crate::driver::Driver;
 use crate::kept::{Applied, Kept};
 use crate::name::CrewName;
-use papaya_copies::{events, outcomes};
-use papaya_schedules::outcome::Outcome;
-use papaya_schedules::record::Run;
+use crate::runner::Runner;
 
 /// The schedule that a crew kept, and its run.
 #[derive(Drop)]
-pub struct Finished<K, V> {
+pub struct Finished<E, U> {
     /// The events, each with the number of its driver.
-    pub schedule: Vec<Kept<K, V>>,
+    pub schedule: Vec<Kept<E>>,
     /// Their run.
-    pub run: Run<K, V>,
+    pub run: U,
 }
 
 /// Whether an event with what it came to is the one that a driver lists.
-fn is_listed<K: PartialEq, V: PartialEq>(
-    kept: &Kept<K, V>,
-    outcome: &Outcome<V>,
-    listed: &Applied<K, V>,
+fn is_listed<E, R: Runner<E>>(
+    kept: &Kept<E>,
+    outcome: &R::Outcome,
+    listed: &Applied<E, R::Outcome>,
 ) -> bool
-    ensures { result ≡ same_applied K.eq V.eq (record { event = kept.now.event; outcome = outcome.now }) listed.now }
+    ensures { result ≡ same_applied R.same_event R.same_outcome (record { event = kept.now.event; outcome = outcome.now }) listed.now }
 {
-    events::same(&kept.event, &listed.event) && outcomes::same(outcome, &listed.outcome)
+    R::is_same_event(&kept.event, &listed.event) && R::is_same_outcome(outcome, &listed.outcome)
 }
 
 /// What is left of a driver's list behind an event of the schedule, or none where it lists another one there.
-fn left_after<'l, K: PartialEq, V: PartialEq>(
-    kept: &Kept<K, V>,
-    outcome: &Outcome<V>,
+fn left_after<'l, E, R: Runner<E>>(
+    kept: &Kept<E>,
+    outcome: &R::Outcome,
     number: u64,
-    list: &'l [Applied<K, V>],
-) -> Option<&'l [Applied<K, V>]>
-    ensures other { IfNone result ((later : List (Applied K V)) → same_list K.eq V.eq (held_first number kept.now outcome.now later) list.now ≡ false) }
-    ensures rest { IfSome result (λ rest. (later : List (Applied K V)) → same_list K.eq V.eq (held_first number kept.now outcome.now later) list.now ≡ same_list K.eq V.eq later rest.now) }
+    list: &'l [Applied<E, R::Outcome>],
+) -> Option<&'l [Applied<E, R::Outcome>]>
+    ensures other { IfNone result ((later : List (Applied E R.Outcome)) → same_list R.same_event R.same_outcome (held_first number kept.now outcome.now later) list.now ≡ false) }
+    ensures rest { IfSome result (λ rest. (later : List (Applied E R.Outcome)) → same_list R.same_event R.same_outcome (held_first number kept.now outcome.now later) list.now ≡ same_list R.same_event R.same_outcome later rest.now) }
 {
     if kept.driver == number {
         let Some((listed, rest)) = list.split_first() else {
             return None;
         };
-        if is_listed(kept, outcome, listed) {
+        if is_listed::<E, R>(kept, outcome, listed) {
             Some(rest)
         } else {
             None
@@ -56,13 +54,13 @@ fn left_after<'l, K: PartialEq, V: PartialEq>(
 }
 
 /// Whether a schedule holds of this driver just its list.
-fn holds_just<K: PartialEq, V: PartialEq>(
-    schedule: &[Kept<K, V>],
-    outcomes: &[Outcome<V>],
+fn holds_just<E, R: Runner<E>>(
+    schedule: &[Kept<E>],
+    outcomes: &[R::Outcome],
     number: u64,
-    list: &[Applied<K, V>],
+    list: &[Applied<E, R::Outcome>],
 ) -> bool
-    ensures { result ≡ same_list K.eq V.eq (held_by number schedule.now outcomes.now) list.now }
+    ensures { result ≡ same_list R.same_event R.same_outcome (held_by number schedule.now outcomes.now) list.now }
 {
     let mut left = list;
     let mut schedule = schedule;
@@ -71,7 +69,7 @@ fn holds_just<K: PartialEq, V: PartialEq>(
         let Some((outcome, others)) = outcomes.split_first() else {
             return left.is_empty();
         };
-        let Some(rest) = left_after(kept, outcome, number, left) else {
+        let Some(rest) = left_after::<E, R>(kept, outcome, number, left) else {
             return false;
         };
         left = rest;
@@ -81,24 +79,21 @@ fn holds_just<K: PartialEq, V: PartialEq>(
     left.is_empty()
 }
 
-impl<K: PartialEq, V: PartialEq> Finished<K, V> {
-    /// Whether the schedule holds of each of these drivers just its list.
-    pub(crate) fn agrees_with<N: CrewName>(&self, drivers: &[Driver<K, V, N>]) -> bool
-        ensures { IsTrue result ↔ AllByRecursion (HoldsJust K.eq V.eq self.now.schedule.items self.now.run.outcomes.items) drivers.now }
-    {
-        let mut left = drivers;
-        while let Some((driver, others)) = left.split_first() {
-            if holds_just(
-                self.schedule.as_slice(),
-                self.run.outcomes.as_slice(),
-                driver.number(),
-                driver.list(),
-            ) {
-                left = others;
-            } else {
-                return false;
-            }
+/// Whether a schedule holds of each of these drivers just its list.
+pub(crate) fn agree<E, R: Runner<E>, N: CrewName>(
+    schedule: &[Kept<E>],
+    outcomes: &[R::Outcome],
+    drivers: &[Driver<E, R::Outcome, N>],
+) -> bool
+    ensures { IsTrue result ↔ AllByRecursion (HoldsJust R.same_event R.same_outcome schedule.now outcomes.now) drivers.now }
+{
+    let mut left = drivers;
+    while let Some((driver, others)) = left.split_first() {
+        if holds_just::<E, R>(schedule, outcomes, driver.number(), driver.list()) {
+            left = others;
+        } else {
+            return false;
         }
-        true
     }
+    true
 }

@@ -1,20 +1,13 @@
 //! What lies under the lock of a crew: the kept schedule, and its run.
 ghost use Rattle.std.specs.Prelude.{◌≡◌, ◌+◌, ◌-◌, ◌<◌, ◌∷◌, ◌++◌, [], List, length, slice_get, Some, true, false, IfOk, IfErr, OnOk, OnErr, IsErr};
-ghost use Rattle.papaya_copies.specs.Copies.{AreAlike, ClonesAreSame};
 ghost use Rattle.papaya_runs.specs.declared.event.Setup.{Setup};
-ghost use Rattle.papaya_schedules.specs.declared.event.Event.{Event};
-ghost use Rattle.papaya_schedules.specs.declared.outcome.Outcome.{Outcome};
 ghost use Rattle.papaya_crew.specs.Crew.{events_of};
 
 use crate::finished::Finished;
 use crate::kept::{Kept, events_again};
 use crate::name::CrewName;
 use crate::runner::Runner;
-use papaya_copies::outcomes;
 use papaya_runs::event::Setup;
-use papaya_schedules::event::Event;
-use papaya_schedules::outcome::Outcome;
-use papaya_schedules::record::Run;
 use seize_words::Fault;
 use std::alloc::{AllocError, Global};
 use std::marker::Model;
@@ -22,20 +15,20 @@ use std::sync::ledger::{Book, Share};
 
 /// The schedule that a crew keeps, and its run. Contracts see the schedule, what its events came to, and whether the run is broken: it found no memory for an event.
 #[derive(Drop)]
-pub(crate) struct Locked<K, V, R: Runner<K, V>, N: CrewName> {
+pub(crate) struct Locked<E, R: Runner<E>, N: CrewName> {
     setup: Setup,
     choices: Vec<u64>,
-    schedule: Vec<Kept<K, V>>,
+    schedule: Vec<Kept<E>>,
     runner: R,
     is_broken: bool,
     events: Book<N>,
 }
 
-impl<K, V, R: Runner<K, V>, N: CrewName> Model for Locked<K, V, R, N> {
+impl<E, R: Runner<E>, N: CrewName> Model for Locked<E, R, N> {
     ghost use Rattle.std.specs.Prelude.{◌≡◌, length, false};
     ghost use Rattle.papaya_crew.specs.Crew.{Held, events_of};
 
-    ghost Value = { Held K V };
+    ghost Value = { Held E R.Outcome };
 
     ghost view = { λ l. record { schedule = l.schedule.items; outcomes = R.outcomes l.runner; is_broken = l.is_broken } };
 
@@ -44,41 +37,45 @@ impl<K, V, R: Runner<K, V>, N: CrewName> Model for Locked<K, V, R, N> {
 }
 
 /// Lets the next event of a run happen: what it came to, twice.
-fn happens<K: Drop, V: Clone, R: Runner<K, V>>(
+fn happens<E, R: Runner<E>>(
     alloc: Global,
     runner: &mut R,
-    event: Event<K, V>,
-) -> Result<(Outcome<V>, Outcome<V>), AllocError>
-    requires values { ClonesAreSame V.is_clone }
-    requires come { (setup : Setup) × (events : List (Event K V)) × R.has_come setup events runner.old }
-    ensures come { OnOk result ((setup : Setup) (events : List (Event K V)) → R.has_come setup events runner.old → R.has_come setup (events ++ event ∷ []) runner.new) }
-    ensures told { IfOk result (λ told. (outcome : Outcome V) × (slice_get (R.outcomes runner.new) (length (R.outcomes runner.new) - 1) ≡ Some outcome) × AreAlike outcome told.0) }
-    ensures twice { IfOk result (λ told. AreAlike told.0 told.1) }
+    event: E,
+) -> Result<(R::Outcome, R::Outcome), AllocError>
+where
+    R::Outcome: Drop,
+    requires copies { R.can_copy }
+    requires come { (setup : Setup) × (events : List E) × R.has_come setup events runner.old }
+    ensures come { OnOk result ((setup : Setup) (events : List E) → R.has_come setup events runner.old → R.has_come setup (events ++ event ∷ []) runner.new) }
+    ensures told { IfOk result (λ told. (outcome : R.Outcome) × (slice_get (R.outcomes runner.new) (length (R.outcomes runner.new) - 1) ≡ Some outcome) × R.are_alike outcome told.0) }
+    ensures twice { IfOk result (λ told. R.are_alike told.0 told.1) }
 {
     runner.take_turn(event)?;
     let Some(outcome) = runner.last_outcome() else {
         unreachable!()
     };
-    let told = outcomes::copy_of(alloc, outcome)?;
-    let again = outcomes::copy_of(alloc, &told)?;
+    let told = R::copy_of_outcome(alloc, outcome)?;
+    let again = R::copy_of_outcome(alloc, &told)?;
     Ok((told, again))
 }
 
 /// Lets the next event of a run happen, and keeps it: what it came to, twice. On an error the schedule is as it was.
-fn keep<K: Drop, V: Clone, R: Runner<K, V>>(
+fn keep<E: Drop, R: Runner<E>>(
     alloc: Global,
-    schedule: &mut Vec<Kept<K, V>>,
+    schedule: &mut Vec<Kept<E>>,
     runner: &mut R,
-    kept: Kept<K, V>,
-    event: Event<K, V>,
-) -> Result<(Outcome<V>, Outcome<V>), AllocError>
-    requires values { ClonesAreSame V.is_clone }
+    kept: Kept<E>,
+    event: E,
+) -> Result<(R::Outcome, R::Outcome), AllocError>
+where
+    R::Outcome: Drop,
+    requires copies { R.can_copy }
     requires same { kept.event ≡ event }
     requires come { (setup : Setup) × R.has_come setup (events_of schedule.old.items) runner.old }
     ensures kept { OnOk result (schedule.new.items ≡ schedule.old.items ++ kept ∷ []) }
     ensures come { OnOk result ((setup : Setup) → R.has_come setup (events_of schedule.old.items) runner.old → R.has_come setup (events_of schedule.new.items) runner.new) }
-    ensures told { IfOk result (λ told. (outcome : Outcome V) × (slice_get (R.outcomes runner.new) (length (R.outcomes runner.new) - 1) ≡ Some outcome) × AreAlike outcome told.0) }
-    ensures twice { IfOk result (λ told. AreAlike told.0 told.1) }
+    ensures told { IfOk result (λ told. (outcome : R.Outcome) × (slice_get (R.outcomes runner.new) (length (R.outcomes runner.new) - 1) ≡ Some outcome) × R.are_alike outcome told.0) }
+    ensures twice { IfOk result (λ told. R.are_alike told.0 told.1) }
     ensures refused { OnErr result (schedule.new.items ≡ schedule.old.items) }
 {
     schedule.reserve(1)?;
@@ -88,42 +85,44 @@ fn keep<K: Drop, V: Clone, R: Runner<K, V>>(
 }
 
 /// The run of a kept schedule: what is running comes to its end, or, if it is broken, the schedule runs anew.
-fn run_of<K: Clone, V: Clone, R: Runner<K, V> + Drop>(
+fn run_of<E: Drop, R: Runner<E> + Drop>(
     alloc: Global,
     setup: Setup,
     choices: Vec<u64>,
-    schedule: &[Kept<K, V>],
+    schedule: &[Kept<E>],
     runner: R,
     is_broken: bool,
-) -> Result<Run<K, V>, Fault>
-    requires keys { ClonesAreSame K.is_clone }
-    requires values { ClonesAreSame V.is_clone }
+) -> Result<R::Run, Fault>
+    requires copies { R.can_copy }
     requires come { is_broken ≡ false → R.has_come setup (events_of schedule.now) runner }
     ensures run { IfOk result (R.is_run setup (events_of schedule.now)) }
     ensures memory { IfErr result (λ fault. fault ≡ Fault.Memory) }
 {
     if is_broken {
-        let again = events_again(alloc, schedule)?;
+        let again = events_again::<E, R>(alloc, schedule)?;
         return runner.run_anew(alloc, setup, choices, again);
     }
     Ok(runner.end(alloc)?)
 }
 
-impl<K: Drop, V: Clone, R: Runner<K, V>, N: CrewName> Locked<K, V, R, N> {
+impl<E: Drop, R: Runner<E>, N: CrewName> Locked<E, R, N>
+where
+    R::Outcome: Drop,
+{
     /// Lets the next event happen, and keeps it: what it came to, twice. If it finds no memory, the kept schedule is as it was, and no event happens any more.
     pub(crate) fn apply(
         &mut self,
         alloc: Global,
         mine: &mut Share<N>,
-        kept: Kept<K, V>,
-        event: Event<K, V>,
-    ) -> Result<(Outcome<V>, Outcome<V>), AllocError>
-        requires values { ClonesAreSame V.is_clone }
+        kept: Kept<E>,
+        event: E,
+    ) -> Result<(R::Outcome, R::Outcome), AllocError>
+        requires copies { R.can_copy }
         requires same { kept.event ≡ event }
         requires part { 0 < mine.old.parts }
         ensures kept { OnOk result (self.new.schedule ≡ self.old.schedule ++ kept ∷ []) }
-        ensures told { IfOk result (λ told. (outcome : Outcome V) × (slice_get self.new.outcomes (length self.new.outcomes - 1) ≡ Some outcome) × AreAlike outcome told.0) }
-        ensures twice { IfOk result (λ told. AreAlike told.0 told.1) }
+        ensures told { IfOk result (λ told. (outcome : R.Outcome) × (slice_get self.new.outcomes (length self.new.outcomes - 1) ≡ Some outcome) × R.are_alike outcome told.0) }
+        ensures twice { IfOk result (λ told. R.are_alike told.0 told.1) }
         ensures counted { OnOk result (mine.new.amount ≡ mine.old.amount + 1) }
         ensures refused { OnErr result ((self.new.schedule ≡ self.old.schedule) × (self.new.is_broken ≡ true) × (mine.new.amount ≡ mine.old.amount)) }
         ensures broken { self.old.is_broken ≡ true → IsErr result }
@@ -145,7 +144,7 @@ impl<K: Drop, V: Clone, R: Runner<K, V>, N: CrewName> Locked<K, V, R, N> {
     }
 }
 
-impl<K, V, R: Runner<K, V>, N: CrewName> Locked<K, V, R, N>
+impl<E, R: Runner<E>, N: CrewName> Locked<E, R, N>
 where
     R::Hasher: Drop,
 {
@@ -175,11 +174,10 @@ where
     }
 }
 
-impl<K: Clone, V: Clone, R: Runner<K, V> + Drop, N: CrewName> Locked<K, V, R, N> {
+impl<E: Drop, R: Runner<E> + Drop, N: CrewName> Locked<E, R, N> {
     /// The kept schedule with its run, and the book, whose total is the number of events. A broken run is made anew. The one fault is Memory.
-    pub(crate) fn finish(self, alloc: Global) -> Result<(Finished<K, V>, Book<N>), Fault>
-        requires keys { ClonesAreSame K.is_clone }
-        requires values { ClonesAreSame V.is_clone }
+    pub(crate) fn finish(self, alloc: Global) -> Result<(Finished<E, R::Run>, Book<N>), Fault>
+        requires copies { R.can_copy }
         ensures run { IfOk result (λ f. R.is_run N.setup (events_of f.0.schedule.items) f.0.run) }
         ensures schedule { IfOk result (λ f. f.0.schedule.items ≡ self.schedule) }
         ensures counted { IfOk result (λ f. length f.0.schedule.items ≡ f.1.total) }

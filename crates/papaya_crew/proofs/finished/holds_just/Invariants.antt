@@ -5,8 +5,8 @@ use Rattle.papaya_crew.proofs.finished.holds_just.Given as goal
 
 abbrev pub invariant-loop-kept : goal.invariant-loop-kept
 invariant-loop-kept g l =
-    same_list g.K.PartialEq.eq g.V.PartialEq.eq (held_by l.fn.number l.fn.schedule l.fn.outcomes) l.fn.list
-    ≡ same_list g.K.PartialEq.eq g.V.PartialEq.eq (held_by l.fn.number l.schedule l.outcomes) l.left
+    same_list g.R.Runner.same_event g.R.Runner.same_outcome (held_by l.fn.number l.fn.schedule l.fn.outcomes) l.fn.list
+    ≡ same_list g.R.Runner.same_event g.R.Runner.same_outcome (held_by l.fn.number l.schedule l.outcomes) l.left
 
 abbrev pub decreases-loop-kept : goal.decreases-loop-kept
 decreases-loop-kept g l = length l.schedule

@@ -7,5 +7,5 @@ use Rattle.papaya_crew.proofs.finished.left_after.Goals as goal
 
 pub returns-else-kept-number-clause-rest : goal.returns-else-kept-number-clause-rest
 returns-else-kept-number-clause-rest g c = λ later.
-    ap (λ (b : Bool). same_list g.K.PartialEq.eq g.V.PartialEq.eq (if b then record { event = c.args.kept.now.event; outcome = c.args.outcome.now } ∷ later else later) c.args.list.now)
+    ap (λ (b : Bool). same_list g.R.Runner.same_event g.R.Runner.same_outcome (if b then record { event = c.args.kept.now.event; outcome = c.args.outcome.now } ∷ later else later) c.args.list.now)
     (ne_eqb c.args.kept.now.driver c.args.number c.if-kept-number.false)

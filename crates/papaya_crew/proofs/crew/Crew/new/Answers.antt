@@ -7,10 +7,10 @@ use Rattle.papaya_crew.specs.Crew.{Listed}
 use Rattle.papaya_crew.specs.declared.kept.Applied.{Applied}
 use Rattle.papaya_crew.proofs.crew.Crew.new.Goals as goal
 
-abbrev listing : {K V : Type 0} → ℕ → List (Applied K V) → Listed K V
+abbrev listing : {E O : Type 0} → ℕ → List (Applied E O) → Listed E O
 listing k list = record { number = k; list = list }
 
-abbrev fresh : {K V : Type 0} → ℕ → Listed K V
+abbrev fresh : {E O : Type 0} → ℕ → Listed E O
 fresh k = listing k []
 
 pub of-requires-clause-counted : goal.of-requires-clause-counted
@@ -25,7 +25,7 @@ loop-number-preserved g c =
       omega (arith, i.0, s.parts_left),
       omega (arith, i.1, s.amount_left),
       c.in_ok-push.ensures.items ∙ ap (λ d. drivers ++ d ∷ []) (c.of.ensures ∙ ap (listing n) c.new.ensures.items)
-          ∙ ap (λ (l : List (Listed g.row.K.Denot g.row.V.Denot)). l ++ fresh n ∷ []) i.2 ∙ sym (map-range_with_len_more fresh 0 n n (omega arith)),
+          ∙ ap (λ (l : List (Listed g.row.E.Denot g.row.R-Outcome.Denot)). l ++ fresh n ∷ []) i.2 ∙ sym (map-range_with_len_more fresh 0 n n (omega arith)),
     )
 
 pub returns-clause-drivers : goal.returns-clause-drivers

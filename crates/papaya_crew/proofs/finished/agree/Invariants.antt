@@ -2,12 +2,12 @@
 use Rattle.std.specs.Prelude.{◌↔◌, length}
 use Rattle.std.specs.List.{AllByRecursion}
 use Rattle.papaya_crew.specs.Crew.{HoldsJust}
-use Rattle.papaya_crew.proofs.finished.Finished.agrees_with.Given as goal
+use Rattle.papaya_crew.proofs.finished.agree.Given as goal
 
 abbrev pub invariant-loop-driver : goal.invariant-loop-driver
 invariant-loop-driver g l =
-    AllByRecursion (HoldsJust g.K.PartialEq.eq g.V.PartialEq.eq l.fn.self.schedule.items l.fn.self.run.outcomes.items) l.fn.drivers
-    ↔ AllByRecursion (HoldsJust g.K.PartialEq.eq g.V.PartialEq.eq l.fn.self.schedule.items l.fn.self.run.outcomes.items) l.left
+    AllByRecursion (HoldsJust g.R.Runner.same_event g.R.Runner.same_outcome l.fn.schedule l.fn.outcomes) l.fn.drivers
+    ↔ AllByRecursion (HoldsJust g.R.Runner.same_event g.R.Runner.same_outcome l.fn.schedule l.fn.outcomes) l.left
 
 abbrev pub decreases-loop-driver : goal.decreases-loop-driver
 decreases-loop-driver g l = length l.left
