@@ -5,7 +5,7 @@ ghost use Rattle.papaya_crew.specs.Crew.{Disagree, HoldsJust, events_of};
 
 use crate::driver::Driver;
 use crate::finished::{Finished, agree};
-use crate::kept::Kept;
+use crate::kept::Applied;
 use crate::locked::Locked;
 use crate::name::CrewName;
 use crate::runner::Runner;
@@ -36,6 +36,7 @@ where
         n: u64,
         blank: Blank,
     ) -> Result<(Self, Vec<Driver<E, R::Outcome, N>>), Fault>
+        requires copies { R.can_copy }
         requires some { 1 ≤ n }
         requires setup { setup ≡ N.setup }
         requires name { blank.name ≡ N.name }
@@ -63,25 +64,24 @@ impl<E: Drop, R: Runner<E>, N: CrewName> Crew<E, R, N>
 where
     R::Outcome: Drop,
 {
-    /// Lets an event happen under the lock, keeps it, and adds it to this share: what it came to, twice. If it finds no memory, the kept schedule is as it was, and each later event
-    /// is refused so.
+    /// Lets an event happen under the lock, keeps it as the driver's of this number, and adds it to this share: a copy of it with what it came to, and that once more. If it finds no
+    /// memory, the kept schedule is as it was, and each later event is refused so.
     pub fn happens<W: Wait>(
         &self,
         rt: &W,
         alloc: Global,
         share: &mut Share<N>,
-        kept: Kept<E>,
+        number: u64,
         event: E,
-    ) -> Result<(R::Outcome, R::Outcome), AllocError>
-        requires copies { R.can_copy }
-        requires same { kept.event ≡ event }
+    ) -> Result<(Applied<E, R::Outcome>, R::Outcome), AllocError>
         requires part { 0 < share.old.parts }
-        ensures twice { IfOk result (λ told. R.are_alike told.0 told.1) }
+        ensures listed { IfOk result (λ told. told.0.event ≡ event) }
+        ensures twice { IfOk result (λ told. R.are_alike told.0.outcome told.1) }
         ensures counted { OnOk result (share.new.amount ≡ share.old.amount + 1) }
         ensures refused { OnErr result (share.new.amount ≡ share.old.amount) }
         ensures parts { share.new.parts ≡ share.old.parts }
     {
-        self.locked.lock(rt).apply(alloc, share, kept, event)
+        self.locked.lock(rt).apply(alloc, share, number, event)
     }
 }
 
@@ -97,7 +97,6 @@ where
         alloc: Global,
         drivers: Vec<Driver<E, R::Outcome, N>>,
     ) -> Result<Option<Finished<E, R::Run>>, Fault>
-        requires copies { R.can_copy }
         requires some { 1 ≤ vec_len drivers }
         requires all { vec_len drivers ≡ N.parts }
         ensures run { IfOk result (λ it. IfSome it (λ f. R.is_run N.setup (events_of f.schedule.items) f.run)) }

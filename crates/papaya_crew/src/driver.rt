@@ -2,7 +2,7 @@
 ghost use Rattle.std.specs.Prelude.{◌≡◌, ◌+◌, ◌<◌, ◌∷◌, ◌++◌, [], length, vec_len, IfOk, IfErr, OnOk, OnErr};
 
 use crate::crew::Crew;
-use crate::kept::{Applied, Kept};
+use crate::kept::Applied;
 use crate::name::CrewName;
 use crate::runner::Runner;
 use seize_words::Fault;
@@ -91,27 +91,6 @@ impl<E: Drop, O: Drop, N: CrewName> Driver<E, O, N> {
     }
 }
 
-/// Copies of an event: one for the list of its driver, and one to be kept.
-fn copies<E: Drop, R: Runner<E>>(
-    alloc: Global,
-    number: u64,
-    event: &E,
-) -> Result<(E, Kept<E>), AllocError>
-    requires { R.can_copy }
-    ensures listed { IfOk result (λ copies. copies.0 ≡ event.now) }
-    ensures kept { IfOk result (λ copies. copies.1 ≡ record { driver = number; event = event.now }) }
-{
-    let listed = R::copy_of_event(alloc, event)?;
-    let event = R::copy_of_event(alloc, event)?;
-    Ok((
-        listed,
-        Kept {
-            driver: number,
-            event,
-        },
-    ))
-}
-
 /// Lets an event happen, and lists it with what it came to.
 fn list<E: Drop, R: Runner<E>, N: CrewName, W: Wait>(
     rt: &W,
@@ -124,7 +103,6 @@ fn list<E: Drop, R: Runner<E>, N: CrewName, W: Wait>(
 ) -> Result<R::Outcome, AllocError>
 where
     R::Outcome: Drop,
-    requires copies { R.can_copy }
     requires part { 0 < share.old.parts }
     ensures listed { IfOk result (λ outcome. (listed : R.Outcome) × R.are_alike listed outcome × (list.new.items ≡ list.old.items ++ (record { event = event; outcome = listed }) ∷ [])) }
     ensures counted { share.new.amount + vec_len list.old ≡ share.old.amount + vec_len list.new }
@@ -132,13 +110,9 @@ where
     ensures parts { share.new.parts ≡ share.old.parts }
 {
     list.reserve(1)?;
-    let (listed, kept) = copies::<E, R>(alloc, number, &event)?;
-    let (outcome, again) = crew.happens(rt, alloc, share, kept, event)?;
-    list.push_reserved(Applied {
-        event: listed,
-        outcome,
-    });
-    Ok(again)
+    let (applied, outcome) = crew.happens(rt, alloc, share, number, event)?;
+    list.push_reserved(applied);
+    Ok(outcome)
 }
 
 impl<E: Drop, O: Drop, N: CrewName> Driver<E, O, N> {
@@ -151,7 +125,6 @@ impl<E: Drop, O: Drop, N: CrewName> Driver<E, O, N> {
         crew: &Crew<E, R, N>,
         event: E,
     ) -> Result<O, Fault>
-        requires copies { R.can_copy }
         ensures listed { IfOk result (λ outcome. (listed : O) × R.are_alike listed outcome × (self.new.list ≡ self.old.list ++ (record { event = event; outcome = listed }) ∷ [])) }
         ensures refused { OnErr result (self.new.list ≡ self.old.list) }
         ensures number { self.new.number ≡ self.old.number }

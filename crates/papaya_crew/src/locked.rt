@@ -4,7 +4,7 @@ ghost use Rattle.papaya_runs.specs.declared.event.Setup.{Setup};
 ghost use Rattle.papaya_crew.specs.Crew.{events_of};
 
 use crate::finished::Finished;
-use crate::kept::{Kept, events_again};
+use crate::kept::{Applied, Kept, events_again};
 use crate::name::CrewName;
 use crate::runner::Runner;
 use papaya_runs::event::Setup;
@@ -32,7 +32,7 @@ impl<E, R: Runner<E>, N: CrewName> Model for Locked<E, R, N> {
 
     ghost view = { λ l. record { schedule = l.schedule.items; outcomes = R.outcomes l.runner; is_broken = l.is_broken } };
 
-    ghost invariant = { λ l. (l.setup ≡ N.setup) × (length l.schedule.items ≡ l.events.total)
+    ghost invariant = { λ l. ((l.setup ≡ N.setup) × R.can_copy) × (length l.schedule.items ≡ l.events.total)
         × (l.is_broken ≡ false → R.has_come N.setup (events_of l.schedule.items) l.runner) };
 }
 
@@ -59,29 +59,40 @@ where
     Ok((told, again))
 }
 
-/// Lets the next event of a run happen, and keeps it: what it came to, twice. On an error the schedule is as it was.
+/// Lets the next event of a run happen, and keeps it as the driver's of this number: a copy of it with what it came to, and that once more. On an error the schedule is as it was.
 fn keep<E: Drop, R: Runner<E>>(
     alloc: Global,
     schedule: &mut Vec<Kept<E>>,
     runner: &mut R,
-    kept: Kept<E>,
+    number: u64,
     event: E,
-) -> Result<(R::Outcome, R::Outcome), AllocError>
+) -> Result<(Applied<E, R::Outcome>, R::Outcome), AllocError>
 where
     R::Outcome: Drop,
     requires copies { R.can_copy }
-    requires same { kept.event ≡ event }
     requires come { (setup : Setup) × R.has_come setup (events_of schedule.old.items) runner.old }
-    ensures kept { OnOk result (schedule.new.items ≡ schedule.old.items ++ kept ∷ []) }
+    ensures kept { OnOk result (schedule.new.items ≡ schedule.old.items ++ (record { driver = number; event = event }) ∷ []) }
     ensures come { OnOk result ((setup : Setup) → R.has_come setup (events_of schedule.old.items) runner.old → R.has_come setup (events_of schedule.new.items) runner.new) }
-    ensures told { IfOk result (λ told. (outcome : R.Outcome) × (slice_get (R.outcomes runner.new) (length (R.outcomes runner.new) - 1) ≡ Some outcome) × R.are_alike outcome told.0) }
-    ensures twice { IfOk result (λ told. R.are_alike told.0 told.1) }
+    ensures listed { IfOk result (λ told. told.0.event ≡ event) }
+    ensures told { IfOk result (λ told. (outcome : R.Outcome) × (slice_get (R.outcomes runner.new) (length (R.outcomes runner.new) - 1) ≡ Some outcome) × R.are_alike outcome told.0.outcome) }
+    ensures twice { IfOk result (λ told. R.are_alike told.0.outcome told.1) }
     ensures refused { OnErr result (schedule.new.items ≡ schedule.old.items) }
 {
     schedule.reserve(1)?;
-    let told = happens(alloc, runner, event)?;
-    schedule.push_reserved(kept);
-    Ok(told)
+    let listed = R::copy_of_event(alloc, &event)?;
+    let kept = R::copy_of_event(alloc, &event)?;
+    let (outcome, again) = happens(alloc, runner, event)?;
+    schedule.push_reserved(Kept {
+        driver: number,
+        event: kept,
+    });
+    Ok((
+        Applied {
+            event: listed,
+            outcome,
+        },
+        again,
+    ))
 }
 
 /// The run of a kept schedule: what is running comes to its end, or, if it is broken, the schedule runs anew.
@@ -109,20 +120,20 @@ impl<E: Drop, R: Runner<E>, N: CrewName> Locked<E, R, N>
 where
     R::Outcome: Drop,
 {
-    /// Lets the next event happen, and keeps it: what it came to, twice. If it finds no memory, the kept schedule is as it was, and no event happens any more.
+    /// Lets the next event happen, and keeps it as the driver's of this number: a copy of it with what it came to, and that once more. If it finds no memory, the kept schedule is as it
+    /// was, and no event happens any more.
     pub(crate) fn apply(
         &mut self,
         alloc: Global,
         mine: &mut Share<N>,
-        kept: Kept<E>,
+        number: u64,
         event: E,
-    ) -> Result<(R::Outcome, R::Outcome), AllocError>
-        requires copies { R.can_copy }
-        requires same { kept.event ≡ event }
+    ) -> Result<(Applied<E, R::Outcome>, R::Outcome), AllocError>
         requires part { 0 < mine.old.parts }
-        ensures kept { OnOk result (self.new.schedule ≡ self.old.schedule ++ kept ∷ []) }
-        ensures told { IfOk result (λ told. (outcome : R.Outcome) × (slice_get self.new.outcomes (length self.new.outcomes - 1) ≡ Some outcome) × R.are_alike outcome told.0) }
-        ensures twice { IfOk result (λ told. R.are_alike told.0 told.1) }
+        ensures kept { OnOk result (self.new.schedule ≡ self.old.schedule ++ (record { driver = number; event = event }) ∷ []) }
+        ensures listed { IfOk result (λ told. told.0.event ≡ event) }
+        ensures told { IfOk result (λ told. (outcome : R.Outcome) × (slice_get self.new.outcomes (length self.new.outcomes - 1) ≡ Some outcome) × R.are_alike outcome told.0.outcome) }
+        ensures twice { IfOk result (λ told. R.are_alike told.0.outcome told.1) }
         ensures counted { OnOk result (mine.new.amount ≡ mine.old.amount + 1) }
         ensures refused { OnErr result ((self.new.schedule ≡ self.old.schedule) × (self.new.is_broken ≡ true) × (mine.new.amount ≡ mine.old.amount)) }
         ensures broken { self.old.is_broken ≡ true → IsErr result }
@@ -131,7 +142,7 @@ where
         if self.is_broken {
             return Err(AllocError);
         }
-        match keep(alloc, &mut self.schedule, &mut self.runner, kept, event) {
+        match keep(alloc, &mut self.schedule, &mut self.runner, number, event) {
             Ok(told) => {
                 self.events.add(mine, 1);
                 Ok(told)
@@ -156,6 +167,7 @@ where
         choices: Vec<u64>,
         events: Book<N>,
     ) -> Result<Self, AllocError>
+        requires copies { R.can_copy }
         requires setup { setup ≡ N.setup }
         requires none { events.total ≡ 0 }
         ensures { IfOk result (λ locked. locked.schedule ≡ []) }
@@ -177,7 +189,6 @@ where
 impl<E: Drop, R: Runner<E> + Drop, N: CrewName> Locked<E, R, N> {
     /// The kept schedule with its run, and the book, whose total is the number of events. A broken run is made anew. The one fault is Memory.
     pub(crate) fn finish(self, alloc: Global) -> Result<(Finished<E, R::Run>, Book<N>), Fault>
-        requires copies { R.can_copy }
         ensures run { IfOk result (λ f. R.is_run N.setup (events_of f.0.schedule.items) f.0.run) }
         ensures schedule { IfOk result (λ f. f.0.schedule.items ≡ self.schedule) }
         ensures counted { IfOk result (λ f. length f.0.schedule.items ≡ f.1.total) }

@@ -28,7 +28,7 @@ returns-else-agrees-clause-none g c =
       counted = c.in_ok-finished.ensures.counted ∙ sym (c.audit.ensures.whole (c.gathered-all.ensures.parts ∙ c.requires.all)) ∙ c.gathered-all.ensures.amount;
       unlike = λ all.
           let agrees =
-              c.agree-agrees.ensures.1
-              (all_hold g.R.Runner.same_event g.R.Runner.same_outcome (sym c.as_slice.ensures.value) (sym c.outcomes_of.ensures) (sym c.as_slice-2.ensures.value) all) in
+          c.agree-agrees.ensures.1
+          (all_hold g.R.Runner.same_event g.R.Runner.same_outcome (sym c.as_slice.ensures.value) (sym c.outcomes_of.ensures) (sym c.as_slice-2.ensures.value) all) in
           let not = c.if-agrees.false in cc (agrees, not);
     }

@@ -9,7 +9,7 @@ keep-requires-clause-come g c = (g.N.CrewName.setup, c.self.invariant.2 c.if-sel
 
 pub invariant_of-self : goal.invariant_of-self
 invariant_of-self g c =
-    let longer = ap length c.in-Ok.ensures.kept ∙ length-append c.self.inside.schedule.items (c.args.kept ∷ []) in (
+    let longer = ap length c.in-Ok.ensures.kept ∙ length-append c.self.inside.schedule.items ((record { driver = c.args.number; event = c.args.event }) ∷ []) in (
       c.self.invariant.0,
       omega (arith, longer, c.add.ensures.total, c.self.invariant.1),
       λ whole. c.in-Ok.ensures.come g.N.CrewName.setup (c.self.invariant.2 whole),

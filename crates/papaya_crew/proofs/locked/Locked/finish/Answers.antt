@@ -8,5 +8,5 @@ use Rattle.papaya_crew.proofs.locked.Locked.finish.Goals as goal
 
 pub run_of-requires-clause-come : goal.run_of-requires-clause-come
 run_of-requires-clause-come g c = λ whole.
-    subst (λ (s : Setup). g.R.Runner.has_come s (events_of c.as_slice.result.now) c.self.inside.runner) (sym c.self.invariant.0)
+    subst (λ (s : Setup). g.R.Runner.has_come s (events_of c.as_slice.result.now) c.self.inside.runner) (sym c.self.invariant.0.0)
     (subst (λ (l : List (Kept g.row.E.Denot)). g.R.Runner.has_come g.N.CrewName.setup (events_of l) c.self.inside.runner) (sym c.as_slice.ensures.value) (c.self.invariant.2 whole))
