@@ -4,9 +4,8 @@
 ghost use Rattle.std.specs.Prelude.{◌≡◌};
 
 use papaya_steps::*;
-use std::sync::Wait;
 use std::sync::ledger::Blank;
-use std::thread::{Threads, for_each_mut};
+use std::thread::for_each_mut;
 
 /// What a driver does at this place, under a guard of its own and on keys of its own. The first driver to come makes the map.
 fn event(alloc: std::alloc::Global, number: u64, place: u64) -> Result<Event<u64, u64>, Fault> {
@@ -32,10 +31,10 @@ fn event(alloc: std::alloc::Global, number: u64, place: u64) -> Result<Event<u64
 }
 
 /// Each driver does its part, on a thread of its own.
-fn drive<R: Runner<u64, u64> + Drop + Send, N: CrewName + Send + Sync, W: Threads + Wait + Sync>(
-    rt: &W,
+fn drive<R: Runner<Event<u64, u64>, Outcome = Outcome<u64>> + Send, N: CrewName + Send + Sync>(
+    rt: &HostRuntime,
     alloc: std::alloc::Global,
-    crew: &CrewOf<u64, u64, R, N>,
+    crew: &CrewOf<Event<u64, u64>, R, N>,
     drivers: &mut [Driver<u64, u64, N>],
 ) {
     let work = |_: usize, driver: &mut Driver<u64, u64, N>| {
@@ -49,8 +48,8 @@ fn drive<R: Runner<u64, u64> + Drop + Send, N: CrewName + Send + Sync, W: Thread
 }
 
 /// The run to which four drivers apply their events.
-fn by_four<N: CrewName + Send + Sync, W: Threads + Wait + Sync>(
-    rt: &W,
+fn by_four<N: CrewName + Send + Sync>(
+    rt: &HostRuntime,
     alloc: std::alloc::Global,
     blank: Blank,
 ) -> Result<Option<Run<u64, u64>>, Fault>
@@ -69,7 +68,7 @@ fn by_four<N: CrewName + Send + Sync, W: Threads + Wait + Sync>(
 
 fn main(rt: HostRuntime) -> std::io::Result<()> {
     let mut pairs = Vec::new(rt.alloc());
-    if let Ok(Some(run)) = by_four::<std::marker::Brand, _>(&rt, rt.alloc(), Blank::new(4)) {
+    if let Ok(Some(run)) = by_four::<std::marker::Brand>(&rt, rt.alloc(), Blank::new(4)) {
         for pair in run.kept.as_slice() {
             pairs.push((pair.key, pair.value))?;
         }

@@ -4,8 +4,8 @@
 mod scheduled;
 
 pub use papaya_crew::crew::Crew as CrewOf;
-pub use papaya_crew::driver::Driver;
-pub use papaya_crew::finished::Finished;
+pub use papaya_crew::driver::Driver as DriverOf;
+pub use papaya_crew::finished::Finished as FinishedOf;
 pub use papaya_crew::kept::{Applied, Kept};
 pub use papaya_crew::name::CrewName;
 pub use papaya_crew::runner::Runner;
@@ -22,4 +22,10 @@ pub use scheduled::Scheduled;
 pub use seize_words::Fault;
 
 /// A crew whose run is made as by `run`; an `S` gives its keys their hashes.
-pub type Crew<K, V, S, N> = CrewOf<K, V, Scheduled<K, V, S>, N>;
+pub type Crew<K, V, S, N> = CrewOf<Event<K, V>, Scheduled<K, V, S>, N>;
+
+/// Who applies events to the run of such a crew.
+pub type Driver<K, V, N> = DriverOf<Event<K, V>, Outcome<V>, N>;
+
+/// The schedule that such a crew kept, and its run.
+pub type Finished<K, V> = FinishedOf<Event<K, V>, Run<K, V>>;

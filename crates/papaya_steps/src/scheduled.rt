@@ -6,6 +6,7 @@ ghost use Rattle.papaya_scheduler.specs.Played.{terms_given};
 ghost use Rattle.papaya_running.specs.Run.{HasCome, bounded};
 ghost use Rattle.papaya_steps.specs.Scheduled.{IsWholeRun};
 
+use papaya_copies::{events, outcomes};
 use papaya_crew::runner::Runner;
 use papaya_raw::Hashes;
 use papaya_running::running::{Running, run};
@@ -24,10 +25,18 @@ pub struct Scheduled<K, V, S> {
     pub running: Running<K, V, S>,
 }
 
-impl<K: Eq + Hash + Drop, V: Drop, S: BuildHasher + Drop> Runner<K, V> for Scheduled<K, V, S> {
+impl<K: Eq + Hash + Clone + Drop, V: PartialEq + Clone + Drop, S: BuildHasher + Drop> Runner<
+    Event<K, V>,
+> for Scheduled<K, V, S> {
+    ghost use Rattle.papaya_copies.specs.Copies.{AreAlike, ClonesAreSame};
+    ghost use Rattle.papaya_copies.specs.Same.{same_event as are_same_events, same_outcome as are_same_outcomes};
     ghost use Rattle.papaya_scheduler.specs.Played.{terms_given};
     ghost use Rattle.papaya_running.specs.Run.{HasCome, bounded};
     ghost use Rattle.papaya_steps.specs.Scheduled.{IsWholeRun};
+
+    type Outcome = Outcome<V>;
+
+    type Run = Run<K, V>;
 
     type Hasher = S;
 
@@ -36,6 +45,16 @@ impl<K: Eq + Hash + Drop, V: Drop, S: BuildHasher + Drop> Runner<K, V> for Sched
     ghost is_run = { λ setup events run. IsWholeRun K.eq ⟦<S as Hashes<K>>⟧.hash (terms_given (bounded setup)) events run };
 
     ghost outcomes = { λ r. r.running.written.outcomes.items };
+
+    ghost told = { λ run. run.outcomes.items };
+
+    ghost can_copy = { ClonesAreSame K.is_clone × ClonesAreSame V.is_clone };
+
+    ghost are_alike = { AreAlike };
+
+    ghost same_event = { are_same_events K.eq V.eq };
+
+    ghost same_outcome = { are_same_outcomes V.eq };
 
     fn begin(
         alloc: Global,
@@ -76,6 +95,26 @@ impl<K: Eq + Hash + Drop, V: Drop, S: BuildHasher + Drop> Runner<K, V> for Sched
     {
         let hasher = self.running.into_hasher();
         Ok(run(alloc, setup, hasher, schedule, choices)?)
+    }
+
+    fn outcomes_of(run: &Run<K, V>) -> &[Outcome<V>] {
+        run.outcomes.as_slice()
+    }
+
+    fn copy_of_event(alloc: Global, event: &Event<K, V>) -> Result<Event<K, V>, AllocError> {
+        events::copy_of(alloc, event)
+    }
+
+    fn copy_of_outcome(alloc: Global, outcome: &Outcome<V>) -> Result<Outcome<V>, AllocError> {
+        outcomes::copy_of(alloc, outcome)
+    }
+
+    fn is_same_event(one: &Event<K, V>, other: &Event<K, V>) -> bool {
+        events::same(one, other)
+    }
+
+    fn is_same_outcome(one: &Outcome<V>, other: &Outcome<V>) -> bool {
+        outcomes::same(one, other)
     }
 
     ghost counts = { λ setup events r come. come.so_far.outcomes };

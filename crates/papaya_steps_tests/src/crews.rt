@@ -5,8 +5,8 @@ use crate::wrong::{Wrong, apply_wrongly};
 use papaya_copies::outcomes;
 use papaya_crew::kept::events_again;
 use papaya_steps::{
-    Call, CrewName, CrewOf, Driver, Event, Fault, Finished, KeyHash, OneKey, ResizeMode, Run,
-    Runner, Scheduled, Setup, Token, run,
+    Call, CrewName, CrewOf, Driver, Event, Fault, Finished, KeyHash, OneKey, Outcome, ResizeMode,
+    Run, Runner, Scheduled, Setup, Token, run,
 };
 use std::alloc::{AllocError, Global};
 use std::marker::Brand;
@@ -48,10 +48,10 @@ fn event(alloc: Global, number: u64, place: u64) -> Result<Event<u64, u64>, Allo
 }
 
 /// A driver applies its events, and drops its guard last.
-fn apply_all<R: Runner<u64, u64>, N: CrewName, W: Wait>(
+fn apply_all<R: Runner<Event<u64, u64>, Outcome = Outcome<u64>>, N: CrewName, W: Wait>(
     rt: &W,
     alloc: Global,
-    crew: &CrewOf<u64, u64, R, N>,
+    crew: &CrewOf<Event<u64, u64>, R, N>,
     driver: &mut Driver<u64, u64, N>,
 ) -> Result<(), Fault> {
     let number = driver.number();
@@ -66,10 +66,14 @@ fn apply_all<R: Runner<u64, u64>, N: CrewName, W: Wait>(
 }
 
 /// The drivers apply their events, each on a thread.
-fn drive<R: Runner<u64, u64> + Drop + Send, N: CrewName + Send + Sync, W: Threads + Wait + Sync>(
+fn drive<
+    R: Runner<Event<u64, u64>, Outcome = Outcome<u64>> + Drop + Send,
+    N: CrewName + Send + Sync,
+    W: Threads + Wait + Sync,
+>(
     rt: &W,
     alloc: Global,
-    crew: &CrewOf<u64, u64, R, N>,
+    crew: &CrewOf<Event<u64, u64>, R, N>,
     drivers: &mut [Driver<u64, u64, N>],
 ) {
     let work = |_: usize, driver: &mut Driver<u64, u64, N>| {
@@ -79,7 +83,11 @@ fn drive<R: Runner<u64, u64> + Drop + Send, N: CrewName + Send + Sync, W: Thread
 }
 
 /// Two drivers apply their events to a crew of theirs.
-fn by_two<R: Runner<u64, u64> + Drop + Send, N: CrewName + Send + Sync, W: Threads + Wait + Sync>(
+fn by_two<
+    R: Runner<Event<u64, u64>, Outcome = Outcome<u64>, Run = Run<u64, u64>> + Drop + Send,
+    N: CrewName + Send + Sync,
+    W: Threads + Wait + Sync,
+>(
     rt: &W,
     alloc: Global,
     setup: Setup,
@@ -88,13 +96,14 @@ fn by_two<R: Runner<u64, u64> + Drop + Send, N: CrewName + Send + Sync, W: Threa
 ) -> Result<Option<Finished<u64, u64>>, Fault>
 where
     R::Hasher: Drop,
+    requires copies { R.can_copy }
     requires setup { setup ≡ N.setup }
     requires name { blank.name ≡ N.name }
     requires parts { blank.parts ≡ N.parts }
     requires two { blank.parts ≡ 2 }
 {
     let none = Vec::new(alloc);
-    let (crew, mut drivers) = CrewOf::<_, _, R, N>::new(alloc, setup, hasher, none, 2, blank)?;
+    let (crew, mut drivers) = CrewOf::<_, R, N>::new(alloc, setup, hasher, none, 2, blank)?;
     drive(rt, alloc, &crew, drivers.as_mut_slice());
     crew.finish(alloc, drivers)
 }
@@ -107,17 +116,45 @@ fn two<W: Threads + Wait + Sync>(
     by_two::<Ours, Brand, W>(rt, alloc, SETUP, KeyHash::Key, Blank::new(2))
 }
 
-/// The two runs came to the same.
-fn are_same(rt: &impl Abort, one: &Run<u64, u64>, other: &Run<u64, u64>) {
+/// The two runs came to the same, event by event.
+fn came_to_the_same(rt: &impl Abort, one: &Run<u64, u64>, other: &Run<u64, u64>) {
     assert_eq!(rt; one.outcomes.len(), other.outcomes.len());
     for (outcome, again) in one.outcomes.iter().zip(other.outcomes.iter()) {
         assert!(rt; outcomes::same(outcome, again));
     }
     assert!(rt; one.steps.as_slice() == other.steps.as_slice());
     assert!(rt; one.effects.as_slice() == other.effects.as_slice());
+    assert_eq!(rt; one.trace.len(), other.trace.len());
+}
+
+/// The same is left at the ends of the two runs.
+fn left_the_same(rt: &impl Abort, one: &Run<u64, u64>, other: &Run<u64, u64>) {
+    assert_eq!(rt; one.given_back.len(), other.given_back.len());
+    assert_eq!(rt; one.kept.len(), other.kept.len());
+    let pairs = one
+        .given_back
+        .as_slice()
+        .iter()
+        .chain(one.kept.as_slice().iter());
+    let others = other
+        .given_back
+        .as_slice()
+        .iter()
+        .chain(other.kept.as_slice().iter());
+    for (pair, again) in pairs.zip(others) {
+        assert!(rt;
+            pair.number == again.number && pair.key == again.key && pair.value == again.value
+        );
+    }
+    assert_eq!(rt; one.maps.len(), other.maps.len());
+    for (map, again) in one.maps.iter().zip(other.maps.iter()) {
+        assert!(rt; map.name.is(&again.name) && map.pairs.as_slice() == again.pairs.as_slice());
+    }
     assert!(rt; one.waiting.as_slice() == other.waiting.as_slice());
-    assert_eq!(rt; one.tables, other.tables);
-    assert_eq!(rt; one.stored, other.stored);
+    assert_eq!(rt;
+        (one.tables, one.stored, one.live),
+        (other.tables, other.stored, other.live)
+    );
 }
 
 #[test]
@@ -127,9 +164,10 @@ fn two_threads_come_to_the_run_of_the_kept_schedule(rt: HostRuntime) -> Result<(
         Some(finished) => {
             assert_eq!(rt; finished.schedule.len(), 46);
             assert_eq!(rt; finished.run.stored, 40);
-            let again = events_again(alloc, finished.schedule.as_slice())?;
+            let again = events_again::<_, Ours>(alloc, finished.schedule.as_slice())?;
             let run = run(alloc, SETUP, KeyHash::Key, again, Vec::new(alloc))?;
-            are_same(&rt, &finished.run, &run);
+            came_to_the_same(&rt, &finished.run, &run);
+            left_the_same(&rt, &finished.run, &run);
         }
         None => assert!(rt; false),
     }
@@ -137,7 +175,11 @@ fn two_threads_come_to_the_run_of_the_kept_schedule(rt: HostRuntime) -> Result<(
 }
 
 /// One driver makes a map, as it says, or wrongly: whether the crew finds that they agree.
-fn by_one<R: Runner<u64, u64> + Drop, N: CrewName, W: Wait>(
+fn by_one<
+    R: Runner<Event<u64, u64>, Outcome = Outcome<u64>, Run = Run<u64, u64>> + Drop,
+    N: CrewName,
+    W: Wait,
+>(
     rt: &W,
     alloc: Global,
     setup: Setup,
@@ -147,13 +189,14 @@ fn by_one<R: Runner<u64, u64> + Drop, N: CrewName, W: Wait>(
 ) -> Result<bool, Fault>
 where
     R::Hasher: Drop,
+    requires copies { R.can_copy }
     requires setup { setup ≡ N.setup }
     requires name { blank.name ≡ N.name }
     requires parts { blank.parts ≡ N.parts }
     requires one { blank.parts ≡ 1 }
 {
     let none = Vec::new(alloc);
-    let (crew, mut drivers) = CrewOf::<_, _, R, N>::new(alloc, setup, hasher, none, 1, blank)?;
+    let (crew, mut drivers) = CrewOf::<_, R, N>::new(alloc, setup, hasher, none, 1, blank)?;
     let Some(driver) = drivers.pop() else {
         unreachable!()
     };

@@ -1,7 +1,7 @@
 //! Wrong drivers: one that hands on another event than it lists, and one that invents what its event came to.
 use papaya_copies::events;
 use papaya_steps::{
-    Applied, CrewName, CrewOf, Driver, Event, Fault, Kept, Outcome, ResizeMode, Runner, Token,
+    Applied, CrewName, CrewOf, Driver, DriverOf, Event, Fault, Outcome, ResizeMode, Runner, Token,
 };
 use std::alloc::{AllocError, Global};
 use std::sync::Wait;
@@ -26,10 +26,10 @@ fn make(alloc: Global) -> Result<Event<u64, u64>, AllocError> {
 }
 
 /// A driver makes a map, as it lists, or wrongly.
-pub fn apply_wrongly<R: Runner<u64, u64>, N: CrewName, W: Wait>(
+pub fn apply_wrongly<R: Runner<Event<u64, u64>, Outcome = Outcome<u64>>, N: CrewName, W: Wait>(
     rt: &W,
     alloc: Global,
-    crew: &CrewOf<u64, u64, R, N>,
+    crew: &CrewOf<Event<u64, u64>, R, N>,
     driver: Driver<u64, u64, N>,
     wrong: Wrong,
 ) -> Result<Driver<u64, u64, N>, Fault> {
@@ -40,15 +40,11 @@ pub fn apply_wrongly<R: Runner<u64, u64>, N: CrewName, W: Wait>(
         Wrong::Event => Event::ReclaimAll,
         _ => events::copy_of(alloc, &event)?,
     };
-    let kept = Kept {
-        driver: number,
-        event: events::copy_of(alloc, &handed)?,
-    };
-    let (told, _) = crew.happens(rt, alloc, &mut share, kept, handed)?;
+    let (told, _) = crew.happens(rt, alloc, &mut share, number, handed)?;
     let outcome = match wrong {
         Wrong::Outcome => Outcome::Goes,
-        _ => told,
+        _ => told.outcome,
     };
     list.push_reserved(Applied { event, outcome });
-    Ok(Driver::of(number, list, share))
+    Ok(DriverOf::of(number, list, share))
 }

@@ -2,7 +2,7 @@
 use Rattle.std.specs.Prelude.{◌%◌, ◌^◌, ℕ, fold}
 use Rattle.papaya_scheduler.specs.Played.{terms_given}
 use Rattle.papaya_running.specs.Run.{bounded}
-use Rattle.papaya_steps.proofs.scheduled.ScheduledRunner.end.Goals as goal
+use Rattle.papaya_steps.proofs.scheduled.ScheduledRunnerEvent.end.Goals as goal
 
 pub returns : goal.returns
 returns g c = λ setup events come.
