@@ -40,10 +40,14 @@ pub fn apply_wrongly<R: Runner<Event<u64, u64>, Outcome = Outcome<u64>>, N: Crew
         Wrong::Event => Event::ReclaimAll,
         _ => events::copy_of(alloc, &event)?,
     };
-    let (told, _) = crew.happens(rt, alloc, &mut share, number, handed)?;
+    let (kept, _) = crew.happens(rt, alloc, &mut share, number, handed)?;
+    let Applied {
+        event: _,
+        outcome: told,
+    } = kept;
     let outcome = match wrong {
         Wrong::Outcome => Outcome::Goes,
-        _ => told.outcome,
+        _ => told,
     };
     list.push_reserved(Applied { event, outcome });
     Ok(DriverOf::of(number, list, share))
