@@ -4,8 +4,9 @@
 ghost use Rattle.std.specs.Prelude.{◌≡◌};
 
 use papaya_steps::*;
+use std::sync::Wait;
 use std::sync::ledger::Blank;
-use std::thread::for_each_mut;
+use std::thread::{Threads, for_each_mut};
 
 /// What a driver does at this place, under a guard of its own and on keys of its own. The first driver to come makes the map.
 fn event(alloc: std::alloc::Global, number: u64, place: u64) -> Result<Event<u64, u64>, Fault> {
@@ -32,7 +33,7 @@ fn event(alloc: std::alloc::Global, number: u64, place: u64) -> Result<Event<u64
 
 /// Each driver does its part, on a thread of its own.
 fn drive<R: Runner<Event<u64, u64>, Outcome = Outcome<u64>> + Send, N: CrewName + Send + Sync>(
-    rt: &HostRuntime,
+    rt: &(impl Threads + Wait + Sync),
     alloc: std::alloc::Global,
     crew: &CrewOf<Event<u64, u64>, R, N>,
     drivers: &mut [Driver<u64, u64, N>],
@@ -49,7 +50,7 @@ fn drive<R: Runner<Event<u64, u64>, Outcome = Outcome<u64>> + Send, N: CrewName 
 
 /// The run to which four drivers apply their events.
 fn by_four<N: CrewName + Send + Sync>(
-    rt: &HostRuntime,
+    rt: &(impl Threads + Wait + Sync),
     alloc: std::alloc::Global,
     blank: Blank,
 ) -> Result<Option<Run<u64, u64>>, Fault>
