@@ -1,5 +1,5 @@
 -- A run may go to another thread where its keys, values and hasher may: nothing of its memory is tied to one.
-use Rattle.std.proofs.Common.{ℕ, Bool, true, false, ◌+◌, ◌*◌, List, [], ◌∷◌}
+use Rattle.std.proofs.Common.{ℕ, Bool, true, false, List, [], ◌∷◌}
 use mir.Syntax.{Ty}
 use base.Fml.{Fml}
 use base.Shift.{Keyless}
