@@ -1,0 +1,5 @@
+pub mod Goes
+pub mod Leads
+pub mod May
+pub mod Told
+pub mod Given
