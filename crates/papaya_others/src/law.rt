@@ -1,4 +1,4 @@
-//! What is promised of a moment of a run, with what is noted of the memory, where the executor takes a step that is none of a call.
+//! What is promised of a moment of a run, with what is noted of the memory, at a step that is none of a call.
 ghost use Rattle.std.specs.Prelude.{ℕ, Bool};
 ghost use Rattle.papaya_others.specs.Counters.{BeginningsNoteCounters, CallsNoteCounters, RowsNoteCounters, EndingsNoteCounters, MakingsNoteCounters};
 ghost use Rattle.papaya_others.specs.Elsewhere.{ShownElsewhere};

@@ -14,7 +14,7 @@ use Rattle.papaya_raw.specs.declared.machines.progress.Progress.{Progress}
 use Rattle.papaya_finishes.specs.Endings.{Finishing}
 use Rattle.papaya_finishes.specs.FactsEnds.{Deed}
 use Rattle.papaya_finishes.specs.Makings.{Beginning}
-use Rattle.papaya_scenes.specs.Ending.{EndingBeginsTo, EndingComesToThere, EndingLeadsTo}
+use Rattle.papaya_scenes.specs.Ending.{EndingComesToThere, EndingLeadsTo}
 use Rattle.papaya_scenes.specs.Held.{Held}
 use Rattle.papaya_scenes.specs.Making.{MakingComesToThere, MakingLeadsTo}
 use Rattle.papaya_scenes.specs.OnSlots.{HappensTo, RowBeginsTo, RowLeadsTo}

@@ -1,4 +1,4 @@
--- A moment of a run shows the scene after the executor's other steps.
+-- A moment of a run shows the scene after the other steps.
 use Rattle.papaya_others.proofs.Elsewhere.{shown_elsewhere}
 use Rattle.papaya_others.proofs.EndBegins.{endings_begin_shown, endings_are_over}
 use Rattle.papaya_others.proofs.Ends.{endings_are_shown}
