@@ -1,5 +1,5 @@
 -- Whoever takes a step that is none of a call, the rows within calls are as they were, and keep a block of the batch that they close.
-use Rattle.std.specs.Prelude.{◌≡◌, ℕ, zero, suc, ◌<◌, Bool, Option, Some, None, is_some, option_map}
+use Rattle.std.specs.Prelude.{◌≡◌, ℕ, zero, suc, ◌<◌, Bool, Option, Some, None, is_some}
 use Rattle.std.proofs.Common.{refl, ap, sym, subst, ◌∙◌, arith, inl, inr}
 use Rattle.papaya_follows.specs.Given.SeizeWords.Mem.{value_at}
 use Rattle.papaya_follows.specs.Given.Seize.Law.{Ended, holds}
@@ -12,9 +12,7 @@ use Rattle.papaya_follows.specs.Given.Callers.Together.{UnderWay}
 use Rattle.papaya_follows.proofs.Given.Callers.Together.Came.{came_reached}
 use Rattle.papaya_follows.proofs.Given.Callers.Together.Users.{events_rows}
 use Rattle.papaya_follows.specs.Given.Finishes.FactsEnds.{Deed, Looks, TakesPair, LeavesTable, JoinsPair, TakesLeft, TakesCounter, WritesRoot, events_of, taken_by}
-use Rattle.papaya_follows.specs.Given.Finishes.Machines.{machine_of}
 use Rattle.papaya_follows.specs.Given.Finishes.Maps.{with_call}
-use Rattle.papaya_follows.specs.Given.Scenes.declared.row.SlotRow.{SlotRow}
 use Rattle.papaya_hands.specs.Others.{RowsBeginAside, RowsGoAside, MakingsGoAside, EndingsBeginAside, EndingsGoAside, CallsGoAside}
 use Rattle.papaya_hands.specs.Rows.{ReclaimsNone, HoldsOne, KeepsOne, ShowsRows}
 use Rattle.papaya_hands.proofs.Asking.{which}
@@ -24,7 +22,7 @@ use Rattle.papaya_hands.proofs.SettlingRows.{one_kept}
 use Rattle.papaya_follows.specs.Given.Scenes.Ending.{ending_begun}
 use Rattle.papaya_follows.specs.Given.Scenes.Held.{Held, IsAt}
 use Rattle.papaya_follows.specs.Given.Scenes.Rows.{request_of}
-use Rattle.papaya_follows.specs.Given.Scenes.Scene.{HasNoCall, IsOnSlot, Scene, slot_of}
+use Rattle.papaya_follows.specs.Given.Scenes.Scene.{HasNoCall, Scene, slot_of}
 
 module _ {K V : Type 0} (s : Scene K V) (rows : ShowsRows s) (w2 : World (Node K V)) where
   -- the row of a call that is under way is as it was, and so is the batch of each such block

@@ -16,7 +16,7 @@ use Rattle.papaya_follows.specs.Given.Scenes.Ending.{EndingLeads, ending_begun}
 use Rattle.papaya_follows.specs.Given.Scenes.Held.{Held, IsAt}
 use Rattle.papaya_follows.specs.Given.Scenes.Making.{MakingLeads}
 use Rattle.papaya_follows.specs.Given.Scenes.OnSlots.{RowBegins, RowLeads}
-use Rattle.papaya_follows.specs.Given.Scenes.Scene.{IsOnSlot, Scene, slot_of}
+use Rattle.papaya_follows.specs.Given.Scenes.Scene.{IsOnSlot, Scene}
 
 module _ (K V : Type 0) (same : K → K → Bool) (hash : ℕ → K → ℕ) where
   -- The promises: so it is where a row begins on a slot,

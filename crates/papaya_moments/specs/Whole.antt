@@ -1,4 +1,4 @@
--- What a moment of a run, with what is noted of the memory, shows of a scene of the executor, in one piece.
+-- What a moment of a run, with what is noted of the memory, shows of a scene, in one piece.
 use Rattle.std.specs.Prelude.{◌≡◌, ℕ, Bool, true, List, Option, Some, Ok}
 use Rattle.papaya_spots.specs.Given.Seize.World.{Rests}
 use Rattle.papaya_spots.specs.Given.Tables.declared.node.Node.{Node}

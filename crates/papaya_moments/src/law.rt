@@ -1,4 +1,4 @@
-//! What is promised of a moment of a run that shows the executor: all of it, whoever has a call.
+//! What is promised of a moment of a run that shows a scene: all of it, whoever has a call.
 ghost use Rattle.std.specs.Prelude.{ℕ, Bool};
 ghost use Rattle.papaya_moments.specs.Endings.{EndingsBeginWhole, EndingsKeepWhole, EndingsAreOverWhole};
 ghost use Rattle.papaya_moments.specs.Makings.{MakingsBeginWhole, MapsComeWhole, MakingsKeepBlocks, MakingsKeepWhole};
@@ -8,7 +8,7 @@ ghost use Rattle.papaya_moments.specs.Walks.{WalksGoOnWhole, WalksStopWhole};
 ghost use Rattle.papaya_moments.specs.WholeEnds.{WholeEndsTakeAll};
 ghost use Rattle.papaya_moments.specs.Whole.{WholeBegins, CallsKeepWhole, CallsBeginWhole, CallsTakeWhole, CallsComeToWhole};
 
-/// The moment before all events shows an executor that has no map and no call, and so does the moment after each step of a call, whether it is one of a row of the
+/// The moment before all events shows a scene with no map and no call, and so does the moment after each step of a call, whether it is one of a row of the
 /// collector or none, with no condition: its blocks, maps and calls, what these were told, in whose hands blocks are, that rows within calls reclaim nothing, where
 /// pairs lie, which blocks are not reclaimed, that what waits behind tables is in no map, and the counters of maps that are being made. And the moment shows that
 /// where a call begins, takes a reply, and comes to an outcome; where a row begins on a slot, and after each step of it;

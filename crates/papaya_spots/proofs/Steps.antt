@@ -262,7 +262,7 @@ module _ {K V : Type 0} (same : K → K → Bool) (hash : ℕ → K → ℕ) (na
     (shown : Shows same name m known s) (map i : ℕ) (u : UnderWay K V K) (here : s.calls map i ≡ Some u) (told : Progress (Node K V)) (leads : StepLeads same hash i told s old new) where
   abbrev To : Type 0
   To =
-      (standing : Standing K) × (machine : Machine K V K) × (s.maps map ≡ Some standing) × StepsFrom same hash (machine_of u) old new machine told
+      (standing : Standing K) × (machine : Machine K V K) × (s.maps map ≡ Some standing) × StepsFrom same standing.hash (machine_of u) old new machine told
       × (did : MachineStepsAmong V same same old.batch_size old.roots slot_of s.world s.maps s.calls s.makers s.enders map standing i new.memory u machine told)
       × IsAt same hash new (scene_after same s old new map i standing u machine told did)
 

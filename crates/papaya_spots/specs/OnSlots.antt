@@ -1,5 +1,5 @@
 -- Where pairs lie, which blocks are unreclaimed, and what waits behind tables, after a step of a row on a slot.
-use Rattle.std.specs.Prelude.{◌≡◌, ℕ, Bool, true, List, Some, None}
+use Rattle.std.specs.Prelude.{◌≡◌, ℕ, Bool, true, List, None}
 use Rattle.papaya_others.specs.Given.Seize.World.{Step}
 use Rattle.papaya_others.specs.Given.Schedules.declared.effect.Effect.{Effect}
 use Rattle.papaya_others.specs.Given.Schedules.declared.effect.Effect.TheVariants.{Reclaimed}
