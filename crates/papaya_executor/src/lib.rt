@@ -7,7 +7,6 @@ pub mod executor;
 pub mod making;
 pub mod on_slots;
 pub mod replying;
-pub mod row;
 pub mod stepping;
 pub mod stopping;
 mod taking;

@@ -11,11 +11,11 @@ use Rattle.papaya_histories.specs.Given.Schedules.declared.outcome.Outcome.TheVa
 use Rattle.papaya_histories.specs.Given.Schedules.After.{there_on, unsheltered, sheltered_on}
 use Rattle.papaya_histories.specs.Given.Schedules.Moment.{Sheltered, start}
 use Rattle.papaya_histories.specs.Given.Effects.Known.{Known, nothing_known}
-use Rattle.papaya_histories.specs.Given.Executor.IsAt.{Scene, IsAt, at_first, use_at}
-use Rattle.papaya_histories.specs.Given.Executor.declared.executor.Executor.{Executor}
-use Rattle.papaya_histories.specs.Given.Executor.declared.row.SlotUse.TheVariants as used
+use Rattle.papaya_histories.specs.Given.Scenes.declared.row.SlotUse.TheVariants as used
 use Rattle.papaya_promises.specs.Others.{NobodyOn}
 use Rattle.papaya_promises.specs.Sheltered.{GuardsAreInside, AreSheltered, SectionsHold}
+use Rattle.papaya_histories.specs.Given.Scenes.Held.{Held, IsAt}
+use Rattle.papaya_histories.specs.Given.Scenes.Scene.{Scene, at_first}
 
 module _ {K V : Type 0} (w : World (Node K V)) where
   -- a guard that enters has a slot that is within a section
@@ -51,9 +51,9 @@ module _ (K V : Type 0) where
       → GuardsAreInside there w × AreSheltered there w known sheltered
 
 -- A slot is within a section that the executor has so.
-abbrev pub UsedSlotsAreInside : (K V S : Type 0) → (K → K → Bool) → (K → ℕ) → Type 0
-UsedSlotsAreInside K V S same hash =
-    (s : Scene K V) (e : Executor K V S) → IsAt same hash e s → (slot : ℕ) → use_at e slot ≡ used.Inside → IsInside (s.world.uses slot)
+abbrev pub UsedSlotsAreInside : (K V : Type 0) → (K → K → Bool) → (ℕ → K → ℕ) → Type 0
+UsedSlotsAreInside K V same hash =
+    (s : Scene K V) (e : Held K V) → IsAt same hash e s → (slot : ℕ) → use_at e slot ≡ used.Inside → IsInside (s.world.uses slot)
 
 -- The slot of the only guard on it has nobody without that one.
 abbrev pub OnlyGuardsLeaveNobody : Type 0

@@ -30,9 +30,6 @@ use Rattle.papaya_finds.specs.Given.Finishes.Maps.{Standing}
 use Rattle.papaya_finds.specs.Given.Effects.Effects.{effects_of}
 use Rattle.papaya_finds.specs.Given.Effects.Known.{Known}
 use Rattle.papaya_finds.specs.Given.Effects.declared.acting.Acting.TheVariants as acts
-use Rattle.papaya_finds.specs.Given.Executor.IsAt.{Scene, IsAt, slot_of}
-use Rattle.papaya_finds.specs.Given.Executor.Stepping.{StepsFrom, StepLeads}
-use Rattle.papaya_finds.specs.Given.Executor.declared.executor.Executor.{Executor}
 use Rattle.papaya_finds.specs.Given.Follows.Shows.{Shows}
 use Rattle.papaya_finds.proofs.Given.Follows.Called.{key_goes_on, room_goes_on, sweep_goes_on, counting_goes_on}
 use Rattle.papaya_finds.proofs.Given.Follows.Steps.{WentTo, DidSo, LeadsThere, one_of}
@@ -66,8 +63,11 @@ use Rattle.papaya_purposes.proofs.RoomPoints.{LedAt}
 use Rattle.papaya_purposes.proofs.RoomSteps.{EndsSo, room_goes, room_keeps}
 use Rattle.papaya_purposes.proofs.Rooms.{IsForRoom, room_kept}
 use Rattle.papaya_purposes.proofs.Shown.{IsStill, effects_still}
+use Rattle.papaya_finds.specs.Given.Scenes.Held.{Held, IsAt}
+use Rattle.papaya_finds.specs.Given.Scenes.Scene.{Scene, slot_of}
+use Rattle.papaya_finds.specs.Given.Scenes.Stepping.{StepLeads, StepsFrom}
 
-module _ {K V S : Type 0} (same : K → K → Bool) (hash : K → ℕ) (name : ℕ → List ℕ) (log : List (Entry K V)) (m : Moment K V) (known : Known) (s : Scene K V) (old new : Executor K V S)
+module _ {K V : Type 0} (same : K → K → Bool) (hash : ℕ → K → ℕ) (name : ℕ → List ℕ) (log : List (Entry K V)) (m : Moment K V) (known : Known) (s : Scene K V) (old new : Held K V)
     (at : IsAt same hash old s) (whole : ShowsWhole same name m known s) (purposes : ShowsPurposes same name log m known s) (of i : ℕ) (u : UnderWay K V K) (here : s.calls of i ≡ Some u)
     (said : Progress (Node K V)) (leads : StepLeads same hash i said s old new) where
   abbrev shown : Shows same name m known s
@@ -93,7 +93,7 @@ module _ {K V S : Type 0} (same : K → K → Bool) (hash : K → ℕ) (name : �
 
   -- a call that is there then is the one that was there
   pub same_call : (j : ℕ) (c d : CallThere K V) → call_of (name j) m ≡ Some c → call_of (name j) v2 ≡ Some d → IsStill c d
-  same_call j c d c_is d_is = effects_still (name i) of (name j) (effects_of (acts.Call i of) known new.memory.changed) m c d c_is d_is
+  same_call j c d c_is d_is = effects_still (name i) of (name j) (effects_of (acts.Call i of) known new.changed) m c d c_is d_is
 
   pub before_then : (n : ℕ) (st : Standing K) → scene2.maps n ≡ Some st → (before : Standing K) × (s.maps n ≡ Some before) × IsLater before.chart st.chart
   before_then n st there = maps_later same hash name m known s old new at whole shown of i u here said leads n st there

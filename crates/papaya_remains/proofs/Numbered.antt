@@ -19,13 +19,13 @@ use Rattle.papaya_lives.specs.Given.Effects.Known.{Known}
 use Rattle.papaya_lives.specs.Given.Effects.declared.acting.Acting.TheVariants as acts
 use Rattle.papaya_lives.specs.Given.Effects.declared.role.Role.{Role}
 use Rattle.papaya_lives.specs.Given.Effects.declared.role.Role.TheVariants as role
-use Rattle.papaya_lives.specs.Given.Executor.IsAt.{Scene, IsAt}
-use Rattle.papaya_lives.specs.Given.Executor.declared.executor.Executor.{Executor}
 use Rattle.papaya_lives.specs.Given.Finishes.Maps.{Standing}
 use Rattle.papaya_lives.proofs.Given.Others.RowPlans.{TellsRow}
 use Rattle.papaya_lives.specs.Given.Moments.Numbers.{NumbersMaps}
 use Rattle.papaya_lives.proofs.Given.Moments.Numbers.{rows_keep_numbers, steps_keep_numbers}
 use Rattle.papaya_remains.specs.Numbered.{CallsKeepCount, EndsKeepCount, MakingsKeepCount, MoreAreCounted, NumbersUpTo, RowsKeepCount}
+use Rattle.papaya_lives.specs.Given.Scenes.Held.{Held, IsAt}
+use Rattle.papaya_lives.specs.Given.Scenes.Scene.{Scene}
 
 module _ {K V : Type 0} (caller : Option (List ℕ)) (acted : Option ℕ) where
   -- of maps and tables effects look at these alone, and they leave the count
@@ -50,7 +50,7 @@ module _ {K V : Type 0} (caller : Option (List ℕ)) (acted : Option ℕ) where
       }
 
 -- a map that stands has a number
-module _ {K V S : Type 0} (same : K → K → Bool) (hash : K → ℕ) (e : Executor K V S) (s : Scene K V) (at : IsAt same hash e s) where
+module _ {K V : Type 0} (same : K → K → Bool) (hash : ℕ → K → ℕ) (e : Held K V) (s : Scene K V) (at : IsAt same hash e s) where
   pub standing_below : (n : ℕ) (st : Standing K) → s.maps n ≡ Some st → n < length e.maps.items
   standing_below n st here = by (cases_lt n (length e.maps.items))
     where
@@ -59,22 +59,22 @@ module _ {K V S : Type 0} (same : K → K → Bool) (hash : K → ℕ) (e : Exec
       by (inr past) =
           absurd (let none : Some st.setting ≡ None = sym (ap (option_map (λ (x : Standing K). x.setting)) here) ∙ at.maps n ∙ get_or_past e.maps.items n None past in cc none)
 
-module _ (K V S : Type 0) (same : K → K → Bool) (hash : K → ℕ) where
-  pub calls_keep_count : CallsKeepCount K V S same hash
+module _ (K V : Type 0) (same : K → K → Bool) (hash : ℕ → K → ℕ) where
+  pub calls_keep_count : CallsKeepCount K V same hash
   calls_keep_count m known s old new at numbers map i u here said leads caller acted =
-      to_count caller acted (effects_of (acts.Call i map) known new.memory.changed) m (length old.maps.items)
-      (steps_keep_numbers K V (record m { made = length old.maps.items }) numbers caller acted (acts.Call i map) known new.memory.changed
+      to_count caller acted (effects_of (acts.Call i map) known new.changed) m (length old.maps.items)
+      (steps_keep_numbers K V (record m { made = length old.maps.items }) numbers caller acted (acts.Call i map) known new.changed
       (standing_below same hash old s at map (leads map u here).0 (leads map u here).2))
 
-  pub rows_keep_count : RowsKeepCount K V S same hash
+  pub rows_keep_count : RowsKeepCount K V same hash
   rows_keep_count m known s old new count numbers i said leads row here =
-      to_count None None (effects_of acts.Row known new.memory.changed) m count
-      (rows_keep_numbers K V S same hash (record m { made = count }) numbers known s old new i said leads row here)
+      to_count None None (effects_of acts.Row known new.changed) m count
+      (rows_keep_numbers K V same hash (record m { made = count }) numbers known s old new i said leads row here)
 
-  pub makings_keep_count : MakingsKeepCount K V S same hash
+  pub makings_keep_count : MakingsKeepCount K V same hash
   makings_keep_count m known s old new at numbers i b here caller acted =
-      to_count caller acted (effects_of (acts.Making b.map) known new.memory.changed) m (length old.maps.items)
-      (steps_keep_numbers K V (record m { made = length old.maps.items }) numbers caller acted (acts.Making b.map) known new.memory.changed (at.numbers i b here))
+      to_count caller acted (effects_of (acts.Making b.map) known new.changed) m (length old.maps.items)
+      (steps_keep_numbers K V (record m { made = length old.maps.items }) numbers caller acted (acts.Making b.map) known new.changed (at.numbers i b here))
 
 -- where all numbers are below none there is no table
 module _ {K V : Type 0} (m : Moment K V) (known : Known) (numbers : NumbersUpTo 0 m) where

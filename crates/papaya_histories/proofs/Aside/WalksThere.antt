@@ -18,11 +18,11 @@ use Rattle.papaya_moments.proofs.Given.Finishes.Among.Calls.{no_ender, endings_w
 use Rattle.papaya_moments.proofs.Given.Finishes.Beside.Makings.CallSteps.{no_maker, makings_with_call}
 use Rattle.papaya_moments.proofs.Given.Finishes.Beside.Maps.All.{maps_with_call}
 use Rattle.papaya_moments.proofs.Given.Finishes.Beside.Maps.Steps.{no_other}
-use Rattle.papaya_moments.specs.Given.Executor.IsAt.{Scene, IsAt, slot_of}
-use Rattle.papaya_moments.specs.Given.Executor.Replying.{scene_with}
-use Rattle.papaya_moments.specs.Given.Executor.declared.executor.Executor.{Executor}
 use Rattle.papaya_histories.specs.Elsewhere.{WalksGoOnThere}
 use Rattle.papaya_histories.proofs.Several.{stands}
+use Rattle.papaya_moments.specs.Given.Scenes.Held.{Held, IsAt}
+use Rattle.papaya_moments.specs.Given.Scenes.Replying.{scene_with}
+use Rattle.papaya_moments.specs.Given.Scenes.Scene.{Scene, slot_of}
 
 -- what is put twice is what was put last
 twice : {X : Type 0} (f : ℕ → X) (k : ℕ) (a b : X) → with_at (with_at f k a) k b ≡ with_at f k b
@@ -55,7 +55,7 @@ module _ {X : Type 0} (calls : ℕ → ℕ → Option X) (map i : ℕ) (a b : Op
       elsewhere : (it : Option X) → n ≢ map → with_call calls map i it n j ≡ calls n j
       elsewhere it ne = ap (λ (g : ℕ → Option X). g j) (at_other calls map (with_at (calls map) i it) n ne)
 
-module _ {K V S : Type 0} (same : K → K → Bool) (hash : K → ℕ) (s : Scene K V) (old new : Executor K V S) (at_old : IsAt same hash old s) (i map : ℕ) (o : CallOverAll)
+module _ {K V : Type 0} (same : K → K → Bool) (hash : ℕ → K → ℕ) (s : Scene K V) (old new : Held K V) (at_old : IsAt same hash old s) (i map : ℕ) (o : CallOverAll)
     (here : s.calls map i ≡ Some (OverAll o)) (next : UnderWay K V K) (is_next : machine_of next ≡ kinds.Sweep (after_next o.sweep)) (at_next : IsAt same hash new (scene_with map i next s)) where
   abbrev walk : UnderWay K V K
   walk = OverAll (gone_on o (after_next o.sweep))
@@ -108,8 +108,8 @@ module _ {K V S : Type 0} (same : K → K → Bool) (hash : K → ℕ) (s : Scen
     uses = at_next.uses;
   }
 
-module _ (K V S : Type 0) (same : K → K → Bool) (hash : K → ℕ) where
-  pub walks_go_on_there : WalksGoOnThere K V S same hash
+module _ (K V : Type 0) (same : K → K → Bool) (hash : ℕ → K → ℕ) where
+  pub walks_go_on_there : WalksGoOnThere K V same hash
   walks_go_on_there s old new at_old i leads = (λ map u here. on_from u map here (leads map u here), λ map o here. refl)
     where
       Next : ℕ → UnderWay K V K → Type 0
