@@ -220,7 +220,7 @@ module _ {K V : Type 0} (same : K → K → Bool) (hash : ℕ → K → ℕ) (na
 
   no_bucket : (bucket : ℕ) (had : Bool) → new.changed ≡ changed.Roomed bucket had → ⊥
   no_bucket bucket had is =
-      no_room same same hash old.memory new.memory new.changed to.1 said (machine_of u) (call_unmade same hash name m known s old at whole.all.shown map i u here) to.3
+      no_room same same to.0.hash old.memory new.memory new.changed to.1 said (machine_of u) (call_unmade same hash name m known s old at whole.all.shown map i u here) to.3
       bucket had is
 
   shaped : Shaped effects

@@ -77,22 +77,22 @@ module _ {K V : Type 0} (same : K → K → Bool) (hash : ℕ → K → ℕ) (na
   HasMaking x = (n : NewTable) × (making_of_copier (machine_of x) ≡ Some n)
 
   abbrev Stepped : UnderWay K V K → Type 0
-  Stepped x = StepsFrom same hash (machine_of x) old new to.1 said
+  Stepped x = StepsFrom same to.0.hash (machine_of x) old new to.1 said
 
   key_making : (x : CallOnKey K V K) → IsCopying x.call.stands → Stepped (OnKey x) → Asks told → HasMaking (OnKey x)
   key_making x copies steps asks =
-      let it = told_in old.memory new.memory told of_key (call_plan same same hash x.call) (to.1, said) steps in
-      elim (call_makes same same hash x.call) as (λ _. HasMaking (OnKey x)) [
+      let it = told_in old.memory new.memory told of_key (call_plan same same to.0.hash x.call) (to.1, said) steps in
+      elim (call_makes same same to.0.hash x.call) as (λ _. HasMaking (OnKey x)) [
         | inl own ↦ absurd (copies_no_own x.call.stands copies own)
         | inr so ↦
-            let n = made_of (making_in_calling x.call.stands) old.memory new.memory told (call_plan same same hash x.call) it.0 it.2 so asks in
+            let n = made_of (making_in_calling x.call.stands) old.memory new.memory told (call_plan same same to.0.hash x.call) it.0 it.2 so asks in
             (n.0, call_of_copier x.call.stands copies ∙ n.1)
       ]
 
   sweep_making : (o : CallOverAll) → Stepped (OverAll o) → Asks told → HasMaking (OverAll o)
   sweep_making o steps asks =
-      let it = told_in old.memory new.memory told of_sweep (sweep_plan hash o.sweep) (to.1, said) steps in
-      made_of (making_in_sweeping o.sweep.stands) old.memory new.memory told (sweep_plan hash o.sweep) it.0 it.2 (sweep_makes K V hash o.sweep) asks
+      let it = told_in old.memory new.memory told of_sweep (sweep_plan to.0.hash o.sweep) (to.1, said) steps in
+      made_of (making_in_sweeping o.sweep.stands) old.memory new.memory told (sweep_plan to.0.hash o.sweep) it.0 it.2 (sweep_makes K V to.0.hash o.sweep) asks
 
   making_by : (x : UnderWay K V K) → MakesByCopier x → Stepped x → Asks told → HasMaking x
   making_by (OnKey x) copies steps asks = key_making x copies steps asks

@@ -109,7 +109,7 @@ module _ {K V : Type 0} (same : K → K → Bool) (hash : ℕ → K → ℕ) (na
   Due x b = (j : ℕ) × HasCall x j × IsToHand b (x.world.row j)
 
   due_then : (b : ℕ) → Due s b → Due s2 b
-  due_then b due = (due.0, due.1, subst (IsToHand b) (sym (stepped.rows due.0 (λ same_one. no_call same hash s old at i row here (subst (HasCall s) same_one due.1)))) due.2)
+  due_then b due = (due.0, due.1, subst (IsToHand b) (sym (stepped.rows due.0 (λ same_one. no_call s i here.0 (subst (HasCall s) same_one due.1)))) due.2)
 
   over_on : (b : ℕ) → IsSome (value_at w2.memory b) → IsHandedOver w b → IsHandedOver w2 b
   over_on b some over = over_then b (untaken b some) over

@@ -220,7 +220,7 @@ module _ (K V : Type 0) (same : K → K → Bool) (hash : ℕ → K → ℕ) whe
       (left K V same hash s old new at i row here (to.0, told) to.1 to.2)
     where
       on_slot : s.world.row i ≡ row_of row
-      on_slot = subst (λ (o : Option (Work K V)). HasRow o (s.world.row i)) here (at.rows i)
+      on_slot = here.1
 
   pub makings_keep_lying : MakingsKeepLying K V same hash
   makings_keep_lying name m known s old new at whole owning shows i told leads b here of was_new =

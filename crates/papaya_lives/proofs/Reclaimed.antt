@@ -53,7 +53,7 @@ use Rattle.papaya_lives.proofs.Worlds.{Kept}
 use Rattle.papaya_settles.specs.Given.Scenes.Held.{Held, IsAt}
 use Rattle.papaya_settles.specs.Given.Scenes.OnSlots.{RowLeads}
 use Rattle.papaya_settles.specs.Given.Scenes.Rows.{request_of}
-use Rattle.papaya_settles.specs.Given.Scenes.Scene.{HasCall, IsOnSlot, Scene, slot_of}
+use Rattle.papaya_settles.specs.Given.Scenes.Scene.{HasNoCall, HasCall, IsOnSlot, Scene, slot_of}
 
 given_lives : (l : Life) → is_given l ≡ true → lives l ≡ true
 given_lives (IsIn x) given = refl
@@ -69,10 +69,9 @@ none_to_retire defers size w k j b retired due =
     let not_given : is_given (k.good.state.life b) ≡ is_given (IsPending j) = ap is_given pending in
     cc (given, not_given)
 
--- who has a row on a slot has no call
-pub no_call : {K V : Type 0} (same : K → K → Bool) (hash : ℕ → K → ℕ) (s : Scene K V) (old : Held K V) → IsAt same hash old s → (i : ℕ) (row : SlotRow) → IsOnSlot s i row → HasCall s i → ⊥
-no_call {K} {V} same hash s old at i row here (map, u, is) =
-    (let none : ◌≡◌ {A = Option (Machine K V K)} (Some (machine_of u)) None = ap (option_map machine_of) (sym is) ∙ at.calls map i ∙ ap (λ (x : Option (Work K V)). call_in x map) here in cc none)
+-- who has no call has none on any map
+pub no_call : {K V : Type 0} (s : Scene K V) (i : ℕ) → HasNoCall s i → HasCall s i → ⊥
+no_call s i none (map, u, is) = (let was = none map in cc (was, is))
 
 -- what a row tells leaves tables
 module _ {K V : Type 0} (m : Moment K V) (known : Known) (blocks : ShowsUnreclaimed m known) where
@@ -193,7 +192,7 @@ module _ {K V : Type 0} (same : K → K → Bool) (hash : ℕ → K → ℕ) (na
         let before = handed_before stepped.effects w.hand b (sym (ap (λ (h : ℕ → Hand). h b) stepped.hands) ∙ handed) in
         elim (shows.tables b len t was.0 before) as (λ _. (is_stage is_retired t v ≡ true) ⊎ ((j : ℕ) × HasCall s j × IsToRetire b (w2.row j))) [
           | inl so ↦ inl (still_retired t None None (effects_of Row known told) m was.1 so)
-          | inr due ↦ inr (due.0, due.1, subst (IsToRetire b) (sym (stepped.rows due.0 (λ same_one. no_call same hash s old at i row here (subst (HasCall s) same_one due.1)))) due.2)
+          | inr due ↦ inr (due.0, due.1, subst (IsToRetire b) (sym (stepped.rows due.0 (λ same_one. no_call s i here.0 (subst (HasCall s) same_one due.1)))) due.2)
         ];
     lengths = λ b len t e. shows.lengths b len t (stays_so m known whole.blocks told tells b len t e).0;
   }

@@ -119,7 +119,7 @@ module _ {K V : Type 0} (same : K → K → Bool) (name : ℕ → List ℕ) (m m
     hands_beside = record { pairs = pair_used; tables = table_used; born = born_so; stand = stand_so }
 
   -- calls
-  module _ {S : Type 0} (hash : ℕ → K → ℕ) (new : Held K V) (at_new : IsAt same hash new s2) (asked : ShowsAsked name shown.number m known s) where
+  module _ (hash : ℕ → K → ℕ) (new : Held K V) (at_new : IsAt same hash new s2) (asked : ShowsAsked name shown.number m known s) where
     -- the pair that a call asks about is there
     module _ (map i : ℕ) (u : CallOnKey K V K) (here : s2.calls map i ≡ Some (OnKey u)) (st : Standing K) (there : s2.maps map ≡ Some st) where
       each : Together V same st.hash same st.setting slot_of s2.world st.chart st.blocks st.sights (s2.calls map)

@@ -238,10 +238,10 @@ module _ {K V : Type 0} (same : K → K → Bool) (hash : ℕ → K → ℕ) (na
   sweep_places x is (p2, end, machine_is, told_is, inr (row, stayed)) n making = absurd (let none = sweep_none x.sweep.stands row.is_row in cc (none, making))
 
   abbrev MayStep : UnderWay K V K → Type 0
-  MayStep x = May Can Took value_at old.memory (machine_plan same same hash (machine_of x))
+  MayStep x = May Can Took value_at old.memory (machine_plan same same to.0.hash (machine_of x))
 
   abbrev Stepped : UnderWay K V K → Type 0
-  Stepped x = StepsFrom same hash (machine_of x) old new to.1 said
+  Stepped x = StepsFrom same to.0.hash (machine_of x) old new to.1 said
 
   abbrev GoesTo : UnderWay K V K → Type 0
   GoesTo x = WordGoes told (own_word (machine_of x)) (own_word to.1) × OwnsSo to.1
@@ -254,16 +254,16 @@ module _ {K V : Type 0} (same : K → K → Bool) (hash : ℕ → K → ℕ) (na
   goes_by : (x : UnderWay K V K) → s.calls map i ≡ Some x → Stepped x → MayStep x → OwnsSo (machine_of x) → Did x → GoesTo x
   goes_by (OnKey x) is steps may owns did =
       let has = key_places x is did in (
-        key_word same same hash old.memory new.memory told to.1 said x.call owns has may steps,
-        key_owns same same hash old.memory new.memory told to.1 said x.call owns has may steps,
+        key_word same same to.0.hash old.memory new.memory told to.1 said x.call owns has may steps,
+        key_owns same same to.0.hash old.memory new.memory told to.1 said x.call owns has may steps,
       )
   goes_by (ForRoom x) is steps may owns did = (
-    room_word same same hash old.memory new.memory told to.1 said (ap own_word did.2) x.reserve (room_places x is did) steps,
+    room_word same same to.0.hash old.memory new.memory told to.1 said (ap own_word did.2) x.reserve (room_places x is did) steps,
     subst OwnsSo (sym did.2) tt,
   )
   goes_by (Counting x) is steps may owns (sum2, end, machine_is, told_is, still, stayed) = (KeepsWord (ap own_word machine_is) (still_none still), subst OwnsSo (sym machine_is) tt)
   goes_by (OverAll x) is steps may owns did = (
-    over_word same same hash old.memory new.memory told to.1 said (ap own_word did.2) x.sweep (sweep_places x is did) steps,
+    over_word same same to.0.hash old.memory new.memory told to.1 said (ap own_word did.2) x.sweep (sweep_places x is did) steps,
     subst OwnsSo (sym did.2) tt,
   )
 
@@ -280,15 +280,15 @@ module _ {K V : Type 0} (same : K → K → Bool) (hash : ℕ → K → ℕ) (na
 
   key_values : (x : CallOnKey K V K) → s.calls map i ≡ Some (OnKey x) → Stepped (OnKey x) → Did (OnKey x) → (b : ℕ) → told ≡ changed.Made kind.Pair b → HasGiven x.pair
   key_values x is steps did b made_one =
-      let it = told_in old.memory new.memory told of_key (call_plan same same hash x.call) (to.1, said) steps in
-      elim (call_makes same same hash x.call) as (λ _. HasGiven x.pair) [
+      let it = told_in old.memory new.memory told of_key (call_plan same same to.0.hash x.call) (to.1, said) steps in
+      elim (call_makes same same to.0.hash x.call) as (λ _. HasGiven x.pair) [
         | inr so ↦ absurd (
-            let by = plan_made (making_in_calling x.call.stands) old.memory new.memory told (call_plan same same hash x.call) it.0 it.2 so kind.Pair b made_one in
+            let by = plan_made (making_in_calling x.call.stands) old.memory new.memory told (call_plan same same to.0.hash x.call) it.0 it.2 so kind.Pair b made_one in
             none_for_pair (making_in_calling x.call.stands) by.0 by.1 (key_places x is did) by.2
             )
         | inl own ↦ elim (each.stand i (OnKey x) is) as (λ _. HasGiven x.pair) [
           | inl k ↦
-              knows_given same st.hash st.setting slot_of w st.chart (seen_by st.blocks (st.sights (slot_of i))) i x x.call k.1 own hash old.memory new.memory told it.0
+              knows_given same st.hash st.setting slot_of w st.chart (seen_by st.blocks (st.sights (slot_of i))) i x x.call k.1 own to.0.hash old.memory new.memory told it.0
               (λ nothing. (let both = sym nothing ∙ made_one in cc both)) it.2
           | inr k ↦ absurd (row_no_own x.call.stands k.1 own)
         ]
@@ -299,10 +299,10 @@ module _ {K V : Type 0} (same : K → K → Bool) (hash : ℕ → K → ℕ) (na
   values_by (OnKey x) is steps did b made_one c c_is called =
       call_valued same (shown.number map) st.chart.stored known x c c.call called (whole.all.asked.each map i (OnKey x) is st to.2 c c_is) (key_values x is steps did b made_one)
   values_by (ForRoom x) is steps did b made_one c c_is called =
-      absurd (room_no_pair same same hash old.memory new.memory told to.1 said x.reserve (room_places x is did) steps b made_one)
+      absurd (room_no_pair same same to.0.hash old.memory new.memory told to.1 said x.reserve (room_places x is did) steps b made_one)
   values_by (Counting x) is steps (sum2, end, machine_is, told_is, still, stayed) b made_one c c_is called = absurd (still_none still b made_one)
   values_by (OverAll x) is steps did b made_one c c_is called =
-      absurd (over_no_pair same same hash old.memory new.memory told to.1 said x.sweep (sweep_places x is did) steps b made_one)
+      absurd (over_no_pair same same to.0.hash old.memory new.memory told to.1 said x.sweep (sweep_places x is did) steps b made_one)
 
   values : MakersHaveValues (name i) m i map known told
   values b made_one c c_is =
@@ -333,26 +333,26 @@ module _ {K V : Type 0} (same : K → K → Bool) (hash : ℕ → K → ℕ) (na
   module _ (x : CallOnKey K V K) (is : s.calls map i ≡ Some (OnKey x)) (steps : Stepped (OnKey x)) (may_x : MayStep (OnKey x)) (owns_x : Owns x.call) (b : ℕ) (its_block : IsItsBlock known2 i b) where
     -- the block that its machine names is no pair's
     not_a_pair : (did : Did (OnKey x))
-        → ((k : ℕ) × (known2.roles (block_in (came_to same same hash old.memory new.memory told to.1 said x.call owns_x (key_places x is did) may_x steps).0.0.own) ≡ role.Pair k)) → ⊥
+        → ((k : ℕ) × (known2.roles (block_in (came_to same same to.0.hash old.memory new.memory told to.1 said x.call owns_x (key_places x is did) may_x steps).0.0.own) ≡ role.Pair k)) → ⊥
     not_a_pair did pair =
         (let has = key_places x is did in
-        let word = ap own_word (key_machine same same hash old.memory new.memory told to.1 said x.call owns_x has may_x steps) in
+        let word = ap own_word (key_machine same same to.0.hash old.memory new.memory told to.1 said x.call owns_x has may_x steps) in
         let names = left_all.named b its_block in
         let r : role.Pair pair.0 ≡ role.OwnPair i = sym pair.1 ∙ ap (λ (y : ℕ). known2.roles (block_in y)) (sym word) ∙ ap known2.roles (sym names.1) ∙ its_block in cc r)
 
     -- it names some block
-    names_some : (did : Did (OnKey x)) → (came_to same same hash old.memory new.memory told to.1 said x.call owns_x (key_places x is did) may_x steps).0.0.own ≢ 0
+    names_some : (did : Did (OnKey x)) → (came_to same same to.0.hash old.memory new.memory told to.1 said x.call owns_x (key_places x is did) may_x steps).0.0.own ≢ 0
     names_some did zero_word =
-        (left_all.named b its_block).0 (ap own_word (key_machine same same hash old.memory new.memory told to.1 said x.call owns_x (key_places x is did) may_x steps) ∙ zero_word)
+        (left_all.named b its_block).0 (ap own_word (key_machine same same to.0.hash old.memory new.memory told to.1 said x.call owns_x (key_places x is did) may_x steps) ∙ zero_word)
 
     key_ends : (did : Did (OnKey x)) → ((NoRow (OnKey x) did → ⊥) → known2.roles ≡ known.roles) → to.4.next ≡ None → ⊥
     key_ends (p2, end, machine_is, told_is, inl (step, moved)) quiet none =
         let did : Did (OnKey x) = (p2, end, machine_is, told_is, inl (step, moved)) in
         let has = key_places x is did in
-        let r = (came_to same same hash old.memory new.memory told to.1 said x.call owns_x has may_x steps).0 in
-        let tells = key_tells same same hash old.memory new.memory told to.1 said x.call owns_x has may_x steps in
-        let code = key_code same same hash old.memory new.memory told to.1 said x.call owns_x has may_x steps in
-        let says = key_said same same hash old.memory new.memory told to.1 said x.call owns_x has may_x steps in
+        let r = (came_to same same to.0.hash old.memory new.memory told to.1 said x.call owns_x has may_x steps).0 in
+        let tells = key_tells same same to.0.hash old.memory new.memory told to.1 said x.call owns_x has may_x steps in
+        let code = key_code same same to.0.hash old.memory new.memory told to.1 said x.call owns_x has may_x steps in
+        let says = key_said same same to.0.hash old.memory new.memory told to.1 said x.call owns_x has may_x steps in
         elim (which_end _ end (sym moved.2 ∙ none)) as (λ _. ⊥) [
           | inr refused ↦ names_some did (refused_own r refused.0 (sym (told_is ∙ ap of_called refused.1) ∙ says) tells)
           | inl answered ↦
@@ -363,10 +363,10 @@ module _ {K V : Type 0} (same : K → K → Bool) (hash : ℕ → K → ℕ) (na
     key_ends (p2, end, machine_is, told_is, inr (row, stayed)) quiet none =
         let did : Did (OnKey x) = (p2, end, machine_is, told_is, inr (row, stayed)) in
         let has = key_places x is did in
-        let r = (came_to same same hash old.memory new.memory told to.1 said x.call owns_x has may_x steps).0 in
-        let tells = key_tells same same hash old.memory new.memory told to.1 said x.call owns_x has may_x steps in
-        let code = key_code same same hash old.memory new.memory told to.1 said x.call owns_x has may_x steps in
-        let says = key_said same same hash old.memory new.memory told to.1 said x.call owns_x has may_x steps in
+        let r = (came_to same same to.0.hash old.memory new.memory told to.1 said x.call owns_x has may_x steps).0 in
+        let tells = key_tells same same to.0.hash old.memory new.memory told to.1 said x.call owns_x has may_x steps in
+        let code = key_code same same to.0.hash old.memory new.memory told to.1 said x.call owns_x has may_x steps in
+        let says = key_said same same to.0.hash old.memory new.memory told to.1 said x.call owns_x has may_x steps in
         elim (which_end _ end (sym stayed.2 ∙ none)) as (λ _. ⊥) [
           | inr refused ↦ names_some did (refused_own r refused.0 (sym (told_is ∙ ap of_called refused.1) ∙ says) tells)
           | inl answered ↦

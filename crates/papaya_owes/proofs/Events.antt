@@ -115,7 +115,7 @@ module _ {K V : Type 0} (same : K → K → Bool) (hash : ℕ → K → ℕ) (na
       where
         by : (next : Option (UnderWay K V K)) → to.4.next ≡ next → LeavesNothingMade o c
         by None none = when_ended none
-        by (Some x) is = when_ready (ready_so same same hash old.memory new.memory new.changed to.1 said ready (machine_of u) to.3) x is
+        by (Some x) is = when_ready (ready_so same same to.0.hash old.memory new.memory new.changed to.1 said ready (machine_of u) to.3) x is
 
   event_leaves : (to.4.next ≡ None) ⊎ (said ≡ progress.Ready) → (o : Outcome V) → (said ≡ progress.Refused Memory → o ≡ outcome.Refused Memory) → IfCall (LeavesNothingMade o) (call_of (name i) v)
   event_leaves over o refused = by (call_of (name i) v) refl

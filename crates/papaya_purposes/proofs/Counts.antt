@@ -38,7 +38,7 @@ use Rattle.papaya_finds.specs.Given.Scenes.Stepping.{StepsFrom}
 module _ {K V : Type 0} (same : K → K → Bool) (hash : ℕ → K → ℕ) (log : List (Entry K V)) (m : Moment K V) (s : Scene K V) (old new : Held K V) (at : IsAt same hash old s)
     (of i : ℕ) (sum : Sum) (here : s.calls of i ≡ Some (Counting sum)) (st : Standing K) (there : s.maps of ≡ Some st) (c : CallThere K V) (before : c.begun ≤ length log)
     (shards : ShowsShards m s) (none : NoneCounted log m of) (has : HasAdded of (moments_from c.begun log) sum.setting.mask sum.stands)
-    (machine : Machine K V K) (said : Progress (Node K V)) (steps : StepsFrom same hash (kinds.Count sum) old new machine said) where
+    (machine : Machine K V K) (said : Progress (Node K V)) (steps : StepsFrom same st.hash (kinds.Count sum) old new machine said) where
   abbrev mem : Mem (Node K V)
   mem = old.memory
 
@@ -56,7 +56,7 @@ module _ {K V : Type 0} (same : K → K → Bool) (hash : ℕ → K → ℕ) (lo
 
   its_step : (end : Sum × Counted ℕ) × Came end × ((machine, said) ≡ counted end)
   its_step =
-      let d = steps_back counted mem new.memory (sum_plan sum) (machine, said) (as_step mem Nothing (machine_plan same same hash (kinds.Count sum)) new.memory new.changed (machine, said) steps) in (
+      let d = steps_back counted mem new.memory (sum_plan sum) (machine, said) (as_step mem Nothing (machine_plan same same st.hash (kinds.Count sum)) new.memory new.changed (machine, said) steps) in (
         d.0,
         counting_on of (moments_from c.begun log) mem sum (moment log) (λ P p. last_there P c.begun log before p) reads
             (subst (λ (x : Setting). CountsShards x sum.stands) (sym facts.0) facts.1) has new.memory d.0 d.1,

@@ -136,7 +136,7 @@ module _ {K V : Type 0} (same : K → K → Bool) (hash : ℕ → K → ℕ) (na
 
   module _ (terms : Terms) (mask : (standing : Standing K) → s.maps of ≡ Some standing → suc standing.setting.mask ≡ shards_of terms) (more : ℕ) (r : CallForRoom)
       (r_is : s.calls of i ≡ Some (ForRoom r)) (additional : r.reserve.additional ≡ more) (reads : ReadsShards log m s of (ForRoom r))
-      (steps : StepsFrom same hash (machine_of (ForRoom r)) old new to.1 said) (done : said ≡ progress.Done answers.Reserved) (on_it : StandsOn) where
+      (steps : StepsFrom same to.0.hash (machine_of (ForRoom r)) old new to.1 said) (done : said ≡ progress.Done answers.Reserved) (on_it : StandsOn) where
     met : HasMet of to.0 (moments_from c.begun log) r
     met = purposes.come of i (ForRoom r) r_is to.0 to.2 c c_is
 
@@ -193,7 +193,7 @@ module _ {K V : Type 0} (same : K → K → Bool) (hash : ℕ → K → ℕ) (na
 
   -- of a reservation
   pub room_found : (terms : Terms) → ((standing : Standing K) → s.maps of ≡ Some standing → suc standing.setting.mask ≡ shards_of terms) → (more : ℕ) → (y : UnderWay K V K) → s.calls of i ≡ Some y
-      → IsFor y (call.Reserve more) → ReadsShards log m s of y → StepsFrom same hash (machine_of y) old new to.1 said → said ≡ progress.Done answers.Reserved
+      → IsFor y (call.Reserve more) → ReadsShards log m s of y → StepsFrom same to.0.hash (machine_of y) old new to.1 said → said ≡ progress.Done answers.Reserved
       → Did same hash name log m known s old new at whole purposes of i u here said leads y → FindsRoom terms more d (now ∷ moments_from d.begun log) now
   room_found terms mask more (OnKey z) y_is is reads steps done did = absurd is
   room_found terms mask more (ForRoom r) y_is is reads steps done did = finds_room terms mask more r y_is is reads steps done (stands_on r did)

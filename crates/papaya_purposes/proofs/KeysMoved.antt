@@ -88,7 +88,7 @@ module _ {K V : Type 0} (same : K → K → Bool) (hash : ℕ → K → ℕ) (na
       its e (OverAll x) (p2, end, machine_is, told_is, inr (row, stayed)) = stood_moved same i (s.maps n) (went.4.maps2 n) (stayed.1 n) before st was is
 
   -- a step of a walk, of its own
-  module _ (o : CallOverAll) (o_is : s.calls of i ≡ Some (OverAll o)) (walks : o.sweep.purpose ≡ Walks) (steps : StepsFrom same hash (kinds.Sweep o.sweep) old new went.1 said)
+  module _ (o : CallOverAll) (o_is : s.calls of i ≡ Some (OverAll o)) (walks : o.sweep.purpose ≡ Walks) (steps : StepsFrom same went.0.hash (kinds.Sweep o.sweep) old new went.1 said)
       (h : KeysOf same went.0 o) (at_first : IsBefore o.sweep.stands → o.done ≡ []) where
     abbrev pub seen : Blocks
     seen = seen_by went.0.blocks (went.0.sights (slot_of i))

@@ -134,7 +134,7 @@ GoesOver (kinds.Sweep q, said) = IsBefore q.stands → ⊥
 GoesOver (_, said) = Unit {0}
 
 -- by each step
-pub walk_onward : {K V : Type 0} (same : K → K → Bool) (hash : ℕ → K → ℕ) (old new : Held K V) (p : Sweep) (machine : Machine K V K) (said : Progress (Node K V))
+pub walk_onward : {K V : Type 0} (same : K → K → Bool) (hash : K → ℕ) (old new : Held K V) (p : Sweep) (machine : Machine K V K) (said : Progress (Node K V))
     → StepsFrom same hash (kinds.Sweep p) old new machine said → p.purpose ≡ Walks → IsWalkAt p.stands → (IsBefore p.stands → ⊥) → GoesOver (machine, said)
 walk_onward {K} {V} same hash old new p machine said steps walks is before =
     always_told GoesOver old.memory new.memory Nothing new.changed (plan_as swept (plan_at hash p p.stands)) (machine, said)

@@ -98,7 +98,7 @@ abbrev pub IsForRoom : {K V : Type 0} → ℕ → Machine K V K × Progress (Nod
 IsForRoom additional (kinds.Reserve q, said) = q.additional ≡ additional
 IsForRoom additional (_, said) = ⊥
 
-pub room_kept : {K V : Type 0} (same : K → K → Bool) (hash : ℕ → K → ℕ) (old new : Held K V) (p : Reserve) (machine : Machine K V K) (said : Progress (Node K V))
+pub room_kept : {K V : Type 0} (same : K → K → Bool) (hash : K → ℕ) (old new : Held K V) (p : Reserve) (machine : Machine K V K) (said : Progress (Node K V))
     → StepsFrom same hash (kinds.Reserve p) old new machine said → IsForRoom p.additional (machine, said)
 room_kept {K} {V} same hash old new p machine said steps =
     always_told (IsForRoom p.additional) old.memory new.memory Nothing new.changed (plan_as reserved (plan_at hash p p.stands)) (machine, said)

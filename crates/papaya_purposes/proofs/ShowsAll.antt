@@ -122,7 +122,7 @@ module _ {K V : Type 0} (same : K → K → Bool) (hash : ℕ → K → ℕ) (na
   moments = moments_from c.begun log
 
   module _ (o : CallOverAll) (o_is : s.calls of i ≡ Some (OverAll o)) (walks : o.sweep.purpose ≡ Walks)
-      (steps : StepsFrom same hash (machine_of (OverAll o)) old new (went same hash name log m known s old new at whole purposes of i u here said leads).1 said)
+      (steps : StepsFrom same (went same hash name log m known s old new at whole purposes of i u here said leads).0.hash (machine_of (OverAll o)) old new (went same hash name log m known s old new at whole purposes of i u here said leads).1 said)
       (did : Did same hash name log m known s old new at whole purposes of i u here said leads (OverAll o)) (worked_is : (e : Entry K V) × (worked e (moment log) ≡ v)) where
     its : HasSwept same of st number (since log m c) o c
     its = purposes.come of i (OverAll o) o_is st (went same hash name log m known s old new at whole purposes of i u here said leads).2 c c_is
@@ -236,7 +236,7 @@ module _ {K V : Type 0} (same : K → K → Bool) (hash : ℕ → K → ℕ) (na
 
   -- whichever call it is
   pub all_shown : (y : UnderWay K V K) → s.calls of i ≡ Some y → IsFor y call.Walk
-      → StepsFrom same hash (machine_of y) old new (went same hash name log m known s old new at whole purposes of i u here said leads).1 said
+      → StepsFrom same (went same hash name log m known s old new at whole purposes of i u here said leads).0.hash (machine_of y) old new (went same hash name log m known s old new at whole purposes of i u here said leads).1 said
       → Did same hash name log m known s old new at whole purposes of i u here said leads y → (e : Entry K V) × (worked e (moment log) ≡ v)
       → ShowsAll same (then_call same hash name log m known s old new at whole purposes of i u here said leads c c_is)
       (moments_from (then_call same hash name log m known s old new at whole purposes of i u here said leads c c_is).begun log) v

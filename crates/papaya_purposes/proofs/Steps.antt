@@ -200,11 +200,11 @@ module _ {K V : Type 0} (same : K → K → Bool) (hash : ℕ → K → ℕ) (na
                 (classes_then of i (OverAll o) o_is st there c d c_is d_is class_first o.began had.classes);
           }
 
-      same_purpose : StepsFrom same hash (machine_of (OverAll o)) old new went.1 said → (x : CallOverAll) → went.1 ≡ machine_of (OverAll x) → x.sweep.purpose ≡ o.sweep.purpose
-      same_purpose steps x is = (subst (λ (z : Machine K V K). SweepsOn o.sweep.purpose (z, said)) is (sweeps_on same hash old new o.sweep went.1 said steps)).0
+      same_purpose : StepsFrom same went.0.hash (machine_of (OverAll o)) old new went.1 said → (x : CallOverAll) → went.1 ≡ machine_of (OverAll x) → x.sweep.purpose ≡ o.sweep.purpose
+      same_purpose steps x is = (subst (λ (z : Machine K V K). SweepsOn o.sweep.purpose (z, said)) is (sweeps_on same went.0.hash old new o.sweep went.1 said steps)).0
 
       -- it has come to more by key
-      keys_on : ShowsNone said → StepsFrom same hash (machine_of (OverAll o)) old new went.1 said → (x : CallOverAll) → went.1 ≡ machine_of (OverAll x) → x.began ≡ o.began
+      keys_on : ShowsNone said → StepsFrom same went.0.hash (machine_of (OverAll o)) old new went.1 said → (x : CallOverAll) → went.1 ≡ machine_of (OverAll x) → x.began ≡ o.began
           → Comes o x.done (shown.number of) c → x.sweep.purpose ≡ Walks → KeysOf same st x
       keys_on none steps x is began comes walks =
           subst (λ (b : ℕ). KeysAt same (spot_of st.hash) (is_incremental st.setting.mode) st.chart b x.sweep x.done x.sweep.stands × AreKeyed st.chart x.done) (sym began)
@@ -227,7 +227,7 @@ module _ {K V : Type 0} (same : K → K → Bool) (hash : ℕ → K → ℕ) (na
           ]
 
       -- a walk that goes over its table does so on
-      none_on : StepsFrom same hash (machine_of (OverAll o)) old new went.1 said → (x : CallOverAll) → went.1 ≡ machine_of (OverAll x) → Comes o x.done (shown.number of) c
+      none_on : StepsFrom same went.0.hash (machine_of (OverAll o)) old new went.1 said → (x : CallOverAll) → went.1 ≡ machine_of (OverAll x) → Comes o x.done (shown.number of) c
           → x.sweep.purpose ≡ Walks → IsBefore x.sweep.stands → x.done ≡ []
       none_on steps x is comes walks before = by (before_or o.sweep.stands) comes
         where
@@ -245,12 +245,12 @@ module _ {K V : Type 0} (same : K → K → Bool) (hash : ℕ → K → ℕ) (na
           by (inl b) (inr kept) = kept ∙ had.none (sym purpose ∙ walks) b
           by (inr over) so = absurd (goes_over over before)
 
-      pub own_sweep : ChangesFirst log m same of v2 → ShowsNone said → StepsFrom same hash (machine_of (OverAll o)) old new went.1 said → (x : CallOverAll) → went.1 ≡ machine_of (OverAll x) → x.began ≡ o.began
+      pub own_sweep : ChangesFirst log m same of v2 → ShowsNone said → StepsFrom same went.0.hash (machine_of (OverAll o)) old new went.1 said → (x : CallOverAll) → went.1 ≡ machine_of (OverAll x) → x.began ≡ o.began
           → Comes o x.done (shown.number of) c → HasSwept same of st (on.shows.number of) (since log v2 d) x d
       own_sweep class_first none steps x is began comes = sweep_come class_first x began comes (none_on steps x is comes) (keys_on none steps x is began comes)
 
     -- a reservation, the caller's own
-    module _ (r : CallForRoom) (r_is : s.calls of i ≡ Some (ForRoom r)) (reads : ReadsShards log m s of (ForRoom r)) (steps : StepsFrom same hash (machine_of (ForRoom r)) old new went.1 said)
+    module _ (r : CallForRoom) (r_is : s.calls of i ≡ Some (ForRoom r)) (reads : ReadsShards log m s of (ForRoom r)) (steps : StepsFrom same went.0.hash (machine_of (ForRoom r)) old new went.1 said)
         (p2 : Reserve) (machine_is : went.1 ≡ kinds.Reserve p2) (goes : went.4.next ≡ Some (ForRoom (record { began = r.began; reserve = p2 }))) (st : Standing K) (there : scene2.maps of ≡ Some st)
         (c d : CallThere K V) (c_is : call_of (name i) m ≡ Some c) (d_is : call_of (name i) v2 ≡ Some d) where
       abbrev r2 : CallForRoom
@@ -305,7 +305,7 @@ module _ {K V : Type 0} (same : K → K → Bool) (hash : ℕ → K → ℕ) (na
           })
 
     -- the caller's own
-    pub own_come : ChangesFirst log m same of v2 → ShowsNone said → (y : UnderWay K V K) → s.calls of i ≡ Some y → ReadsShards log m s of y → StepsFrom same hash (machine_of y) old new went.1 said → Did y
+    pub own_come : ChangesFirst log m same of v2 → ShowsNone said → (y : UnderWay K V K) → s.calls of i ≡ Some y → ReadsShards log m s of y → StepsFrom same went.0.hash (machine_of y) old new went.1 said → Did y
         → (x : UnderWay K V K) → went.4.next ≡ Some x → (st : Standing K) → scene2.maps of ≡ Some st → (c d : CallThere K V) → call_of (name i) m ≡ Some c → call_of (name i) v2 ≡ Some d
         → HasCome same of st (on.shows.number of) log v2 x d
     own_come class_first none (OnKey z) y_is its steps (p2, end, machine_is, told_is, inl (step, moved)) x e st there c d c_is d_is =
@@ -337,7 +337,7 @@ module _ {K V : Type 0} (same : K → K → Bool) (hash : ℕ → K → ℕ) (na
         (own_sweep o y_is st there c d c_is d_is class_first none steps (gone_on o p2) machine_is refl (inr refl))
 
   -- and it is for what it was for
-  pub own_for : (its : Call K V) (y : UnderWay K V K) → IsFor y its → StepsFrom same hash (machine_of y) old new went.1 said → Did y → (x : UnderWay K V K) → went.4.next ≡ Some x → IsFor x its
+  pub own_for : (its : Call K V) (y : UnderWay K V K) → IsFor y its → StepsFrom same went.0.hash (machine_of y) old new went.1 said → Did y → (x : UnderWay K V K) → went.4.next ≡ Some x → IsFor x its
   own_for its (OnKey z) is steps (p2, end, machine_is, told_is, inl (step, moved)) x e = key_is_for its z _ x (key_goes_on _ end x (sym moved.2 ∙ e)) is
   own_for its (OnKey z) is steps (p2, end, machine_is, told_is, inr (row, stayed)) x e = key_is_for its z _ x (key_goes_on _ end x (sym stayed.2 ∙ e)) is
   own_for its (ForRoom r) is steps (p2, end, machine_is, told_is, inl (step, moved)) x e =
@@ -351,7 +351,7 @@ module _ {K V : Type 0} (same : K → K → Bool) (hash : ℕ → K → ℕ) (na
   own_for its (OverAll o) is steps (p2, end, machine_is, told_is, inl (step, moved)) x e =
       subst (λ (y : UnderWay K V K). IsFor y its) (sym (sweep_goes_on _ end x (sym moved.2 ∙ e)))
       (sweep_for its o (come_to o step.step.entered2 step.step.done2 p2)
-      (subst (λ (z : Machine K V K). SweepsOn o.sweep.purpose (z, said)) machine_is (sweeps_on same hash old new o.sweep went.1 said steps)).0 is)
+      (subst (λ (z : Machine K V K). SweepsOn o.sweep.purpose (z, said)) machine_is (sweeps_on same went.0.hash old new o.sweep went.1 said steps)).0 is)
   own_for its (OverAll o) is steps (p2, end, machine_is, told_is, inr (row, stayed)) x e =
       subst (λ (y : UnderWay K V K). IsFor y its) (sym (sweep_goes_on _ end x (sym stayed.2 ∙ e)))
-      (sweep_for its o (gone_on o p2) (subst (λ (z : Machine K V K). SweepsOn o.sweep.purpose (z, said)) machine_is (sweeps_on same hash old new o.sweep went.1 said steps)).0 is)
+      (sweep_for its o (gone_on o p2) (subst (λ (z : Machine K V K). SweepsOn o.sweep.purpose (z, said)) machine_is (sweeps_on same went.0.hash old new o.sweep went.1 said steps)).0 is)

@@ -138,7 +138,7 @@ module _ {K V : Type 0} (same : K → K → Bool) (hash : ℕ → K → ℕ) (na
   -- a counting that has counted
   module _ (terms : Terms) (mask : (standing : Standing K) → s.maps of ≡ Some standing → suc standing.setting.mask ≡ shards_of terms) (n : ℕ) (done : said ≡ progress.Done (answers.Count n)) where
     pub counts : (y : UnderWay K V K) → s.calls of i ≡ Some y → IsFor y call.Len → ReadsShards log m s of y
-        → StepsFrom same hash (machine_of y) old new (went same hash name log m known s old new at whole purposes of i u here said leads).1 said
+        → StepsFrom same (went same hash name log m known s old new at whole purposes of i u here said leads).0.hash (machine_of y) old new (went same hash name log m known s old new at whole purposes of i u here said leads).1 said
         → Counts (shards_of terms) then_call.map (moments_from then_call.begun log) n
     counts (OnKey z) y_is is reads steps = absurd is
     counts (ForRoom r) y_is is reads steps = absurd is

@@ -192,7 +192,7 @@ module _ {K V : Type 0} (same : K → K → Bool) (hash : ℕ → K → ℕ) (na
   DidIt y = Did same hash name log m known s old new at whole purposes of i u here (progress.Pair word) leads y
 
   own_come : (y : UnderWay K V K) → s.calls of i ≡ Some y
-      → StepsFrom same hash (machine_of y) old new (went same hash name log m known s old new at whole purposes of i u here (progress.Pair word) leads).1 (progress.Pair word) → DidIt y → (x : UnderWay K V K) → goes ≡ Some x → (st : Standing K) → then_there.maps of ≡ Some st
+      → StepsFrom same (went same hash name log m known s old new at whole purposes of i u here (progress.Pair word) leads).0.hash (machine_of y) old new (went same hash name log m known s old new at whole purposes of i u here (progress.Pair word) leads).1 (progress.Pair word) → DidIt y → (x : UnderWay K V K) → goes ≡ Some x → (st : Standing K) → then_there.maps of ≡ Some st
       → (c d : CallThere K V) → call_of (name i) m ≡ Some c → call_of (name i) v1 ≡ Some d → HasCome same of st (numbers2 of) log v3 x (come (ShowsOne q) steps d)
   own_come (OnKey z) y_is steps_of (p2, end, machine_is, told_is, inl (step, moved)) x e st there c d c_is d_is =
       subst (λ (y : UnderWay K V K). HasCome same of st (numbers2 of) log v3 y (come (ShowsOne q) steps d)) (sym (key_goes_on _ end x (sym moved.2 ∙ e))) tt

@@ -380,14 +380,14 @@ module _ {K V : Type 0} (same : K → K → Bool) (hash : ℕ → K → ℕ) (na
   of_machine : (x : UnderWay K V K) (machine : Machine K V K) → to.1 ≡ machine → RowTells i map known (effects_of (acts.Call i map) known told) (due_in_row (machine_of x)) (due_in_row machine) → Goal x
   of_machine x machine is tells = subst (λ (z : Machine K V K). RowTells i map known (effects_of (acts.Call i map) known told) (due_in_row (machine_of x)) (due_in_row z)) (sym is) tells
 
-  stepped : (x : UnderWay K V K) → u ≡ x → StepsFrom same hash (machine_of x) old new to.1 said
-  stepped x is = subst (λ (y : UnderWay K V K). StepsFrom same hash (machine_of y) old new to.1 said) is to.3
+  stepped : (x : UnderWay K V K) → u ≡ x → StepsFrom same to.0.hash (machine_of x) old new to.1 said
+  stepped x is = subst (λ (y : UnderWay K V K). StepsFrom same to.0.hash (machine_of y) old new to.1 said) is to.3
 
   key_tells : (x : CallOnKey K V K) → u ≡ OnKey x → IsRowOfCall x.call.stands → Goal (OnKey x)
   key_tells x is row =
-      let inner = told_in old.memory new.memory told of_key (call_plan same same hash x.call) (to.1, said) (stepped (OnKey x) is) in
+      let inner = told_in old.memory new.memory told of_key (call_plan same same to.0.hash x.call) (to.1, said) (stepped (OnKey x) is) in
       of_machine (OnKey x) (kinds.Key inner.0.0) (ap (λ (z : Machine K V K × Progress (Node K V)). z.0) inner.1)
-      (call_row s.world r i map known new.memory told entries.blank (rows.none map i u under_way) (entries.one map i u under_way) tables_are same same hash x.call inner.0 (subst (λ (k : Mem (Node K V)). StepsTold K V (KeyCall K V K × Called (Node K V)) k changed.Nothing (call_plan same same hash x.call) new.memory told inner.0) (sym at_old.memory) inner.2) its)
+      (call_row s.world r i map known new.memory told entries.blank (rows.none map i u under_way) (entries.one map i u under_way) tables_are same same to.0.hash x.call inner.0 (subst (λ (k : Mem (Node K V)). StepsTold K V (KeyCall K V K × Called (Node K V)) k changed.Nothing (call_plan same same to.0.hash x.call) new.memory told inner.0) (sym at_old.memory) inner.2) its)
     where
       its : CallingIs s.world i x.call.stands
       its = elim (each.stand i (OnKey x) (under_way ∙ ap Some is)) as (λ _. CallingIs s.world i x.call.stands) [
@@ -400,9 +400,9 @@ module _ {K V : Type 0} (same : K → K → Bool) (hash : ℕ → K → ℕ) (na
 
   room_tells : (x : CallForRoom) → u ≡ ForRoom x → IsRowOfReserve x.reserve.stands → Goal (ForRoom x)
   room_tells x is row =
-      let inner = told_in old.memory new.memory told of_room (reserve_plan hash x.reserve) (to.1, said) (stepped (ForRoom x) is) in
+      let inner = told_in old.memory new.memory told of_room (reserve_plan to.0.hash x.reserve) (to.1, said) (stepped (ForRoom x) is) in
       of_machine (ForRoom x) (kinds.Reserve inner.0.0) (ap (λ (z : Machine K V K × Progress (Node K V)). z.0) inner.1)
-      (room_row s.world r i map known new.memory told entries.blank (rows.none map i u under_way) (entries.one map i u under_way) tables_are hash x.reserve inner.0 (subst (λ (k : Mem (Node K V)). StepsTold K V (Reserve × Outcome (Node K V) Unit) k changed.Nothing (reserve_plan hash x.reserve) new.memory told inner.0) (sym at_old.memory) inner.2) its)
+      (room_row s.world r i map known new.memory told entries.blank (rows.none map i u under_way) (entries.one map i u under_way) tables_are to.0.hash x.reserve inner.0 (subst (λ (k : Mem (Node K V)). StepsTold K V (Reserve × Outcome (Node K V) Unit) k changed.Nothing (reserve_plan to.0.hash x.reserve) new.memory told inner.0) (sym at_old.memory) inner.2) its)
     where
       its : ReservingIs s.world i x.reserve.stands
       its = elim (each.stand i (ForRoom x) (under_way ∙ ap Some is)) as (λ _. ReservingIs s.world i x.reserve.stands) [
@@ -415,9 +415,9 @@ module _ {K V : Type 0} (same : K → K → Bool) (hash : ℕ → K → ℕ) (na
 
   over_all_tells : (x : CallOverAll) → u ≡ OverAll x → IsRowOfSweep x.sweep.stands → Goal (OverAll x)
   over_all_tells x is row =
-      let inner = told_in old.memory new.memory told of_sweep (sweep_plan hash x.sweep) (to.1, said) (stepped (OverAll x) is) in
+      let inner = told_in old.memory new.memory told of_sweep (sweep_plan to.0.hash x.sweep) (to.1, said) (stepped (OverAll x) is) in
       of_machine (OverAll x) (kinds.Sweep inner.0.0) (ap (λ (z : Machine K V K × Progress (Node K V)). z.0) inner.1)
-      (sweep_row s.world r i map known new.memory told entries.blank (rows.none map i u under_way) (entries.one map i u under_way) tables_are hash x.sweep inner.0 (subst (λ (k : Mem (Node K V)). StepsTold K V (Sweep × Swept (Node K V)) k changed.Nothing (sweep_plan hash x.sweep) new.memory told inner.0) (sym at_old.memory) inner.2) its)
+      (sweep_row s.world r i map known new.memory told entries.blank (rows.none map i u under_way) (entries.one map i u under_way) tables_are to.0.hash x.sweep inner.0 (subst (λ (k : Mem (Node K V)). StepsTold K V (Sweep × Swept (Node K V)) k changed.Nothing (sweep_plan to.0.hash x.sweep) new.memory told inner.0) (sym at_old.memory) inner.2) its)
     where
       its : SweepingIs s.world i x.sweep.stands
       its = elim (each.stand i (OverAll x) (under_way ∙ ap Some is)) as (λ _. SweepingIs s.world i x.sweep.stands) [

@@ -35,7 +35,7 @@ use Rattle.papaya_settles.proofs.EntryUsers.{IsZero, AllZero, event_zeros}
 use Rattle.papaya_settles.proofs.EntryWorlds.{event_one, step_zeros, step_one, begin_zeros, begin_one, HandsOne, begin_own, own_one}
 use Rattle.papaya_histories.specs.Given.Scenes.Held.{Held, IsAt}
 use Rattle.papaya_histories.specs.Given.Scenes.Rows.{request_of}
-use Rattle.papaya_histories.specs.Given.Scenes.Scene.{IsOnSlot, Scene, slot_of}
+use Rattle.papaya_histories.specs.Given.Scenes.Scene.{HasNoCall, IsOnSlot, Scene, slot_of}
 use Rattle.papaya_histories.specs.Given.Scenes.Stepping.{StepLeads, scene_after}
 
 -- a blank entry has zeros, and the other way round
@@ -207,13 +207,9 @@ calls_go_on_entries K V s shows map i next own = record { blank = shows.blank; o
         rests (inl (u, here)) = shows.one map i u here
         rests (inr rest) = subst (RetiresOne (IsBlank s.world.memory)) (sym rest) tt
 
--- who has a row on a slot has no call
-module _ {K V : Type 0} (same : K → K → Bool) (hash : ℕ → K → ℕ) (s : Scene K V) (e : Held K V) (at_e : IsAt same hash e s) (i : ℕ) (row : SlotRow) (here : IsOnSlot s i row) where
-  no_call : HasCall s i → ⊥
-  no_call (n, x, is) =
-      let some = ap (option_map machine_of) (sym is) in
-      let none = at_e.calls n i ∙ ap (λ (o : Option (Work K V)). call_in o n) here in
-      absurd (cc (some ∙ none))
+-- who has no call has none on any map
+no_call : {K V : Type 0} (s : Scene K V) (i : ℕ) → HasNoCall s i → HasCall s i → ⊥
+no_call s i none (n, x, is) = (let was = none n in absurd (cc (was, is)))
 
 module _ (K V : Type 0) (same : K → K → Bool) (hash : ℕ → K → ℕ) where
   reached : (s : Scene K V) (e : Held K V) → IsAt same hash e s → Reached deferred_word e.batch_size s.world
@@ -225,13 +221,13 @@ module _ (K V : Type 0) (same : K → K → Bool) (hash : ℕ → K → ℕ) whe
       let after = record s { world = to.0; maps = to.2 } in
       shows_of old.batch_size s after (λ j its. its)
       (begin_holds deferred_word old.batch_size (HasCall s) s.world to.0 (reached s old at_old) i (request_of (slot_of i) called)
-      (λ its. absurd (no_call same hash after new to.4 i _ leads.0 its)) to.1 (holds_of old.batch_size s shows))
+      (λ its. absurd (no_call s i leads.1 its)) to.1 (holds_of old.batch_size s shows))
 
   pub rows_keep_entries : RowsKeepEntries K V same hash
   rows_keep_entries s old new at_old shows i told leads row here =
       let to = (leads row here).2 in
       shows_of old.batch_size s (record s { world = to.0; maps = to.2 }) (λ j its. its)
-      (step_holds deferred_word old.batch_size (HasCall s) s.world to.0 (reached s old at_old) i (λ its. absurd (no_call same hash s old at_old i row here its)) to.1 (holds_of old.batch_size s shows))
+      (step_holds deferred_word old.batch_size (HasCall s) s.world to.0 (reached s old at_old) i (λ its. absurd (no_call s i here.0 its)) to.1 (holds_of old.batch_size s shows))
 
   pub makings_keep_entries : MakingsKeepEntries K V same hash
   makings_keep_entries s old new at_old shows i told leads b here =

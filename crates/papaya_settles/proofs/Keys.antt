@@ -97,13 +97,13 @@ module _ {K V : Type 0} (same : K → K → Bool) (hash : ℕ → K → ℕ) (na
   -- of a step that has come to this
   module _ (p2 : KeyCall K V K) (end : Called (Node K V)) (machine_is : to.1 ≡ kinds.Key p2) (told_is : said ≡ of_called end) where
     abbrev Stepped : KeyCall K V K × Called (Node K V) → Type 0
-    Stepped e = StepsTold K V (KeyCall K V K × Called (Node K V)) old.memory changed.Nothing (call_plan same same hash x.call) new.memory told e
+    Stepped e = StepsTold K V (KeyCall K V K × Called (Node K V)) old.memory changed.Nothing (call_plan same same to.0.hash x.call) new.memory told e
 
     pub steps : Stepped (p2, end)
     steps = by inner.0 inner.1 inner.2
       where
         inner : (r : KeyCall K V K × Called (Node K V)) × (◌≡◌ {A = Machine K V K × Progress (Node K V)} (to.1, said) (of_key r)) × Stepped r
-        inner = told_in old.memory new.memory told of_key (call_plan same same hash x.call) (to.1, said) to.3
+        inner = told_in old.memory new.memory told of_key (call_plan same same to.0.hash x.call) (to.1, said) to.3
 
         by : (r : KeyCall K V K × Called (Node K V)) → ◌≡◌ {A = Machine K V K × Progress (Node K V)} (to.1, said) (of_key r) → Stepped r → Stepped (p2, end)
         by (q, said_so) is st =
@@ -118,8 +118,8 @@ module _ {K V : Type 0} (same : K → K → Bool) (hash : ℕ → K → ℕ) (na
     -- where it is not about to count, nothing is counted
     pub nowhere : CallsElsewhere x.call.stands → CountsNowhere known told
     nowhere elsewhere b field old_word new_word of is role_is =
-        plan_aimed (IsNoCount known) old.memory new.memory told (call_plan same same hash x.call) (p2, end) steps
-        (call_aims (IsNoCount known) K V same same hash x.call (key_no same hash name m known s old at_old shown map i st to.2 (OnKey x) under_way x under_way elsewhere)) b field old_word new_word is of role_is
+        plan_aimed (IsNoCount known) old.memory new.memory told (call_plan same same to.0.hash x.call) (p2, end) steps
+        (call_aims (IsNoCount known) K V same same to.0.hash x.call (key_no same hash name m known s old at_old shown map i st to.2 (OnKey x) under_way x under_way elsewhere)) b field old_word new_word is of role_is
 
     pub uncounted : CallsElsewhere x.call.stands → NoneCounts effects
     uncounted elsewhere = none_counts i map known told (nowhere elsewhere)
@@ -128,7 +128,7 @@ module _ {K V : Type 0} (same : K → K → Bool) (hash : ℕ → K → ℕ) (na
     keeps before after elsewhere none e = KeepsCount (all_apart effects none (uncounted elsewhere)) e
 
     pub past : IsBeyond x.call.stands → counts_in_calling p2.stands ≡ false
-    past beyond = past_step same same hash x.call beyond old.memory new.memory (p2, end) (as_step old.memory changed.Nothing (call_plan same same hash x.call) new.memory told (p2, end) steps)
+    past beyond = past_step same same to.0.hash x.call beyond old.memory new.memory (p2, end) (as_step old.memory changed.Nothing (call_plan same same to.0.hash x.call) new.memory told (p2, end) steps)
 
     -- one of a row
     row_goes : IsRowOfCall x.call.stands → flat_map shift_of effects ≡ [] → Goes (counts_in_calling x.call.stands) (counts_in_calling p2.stands)
@@ -211,7 +211,7 @@ module _ {K V : Type 0} (same : K → K → Bool) (hash : ℕ → K → ℕ) (na
 
       pub fresh : IsBefore x.call.stands → IsFresh (p2, end)
       fresh before =
-          fresh_step same same hash x.call before old.memory new.memory (p2, end) (as_step old.memory changed.Nothing (call_plan same same hash x.call) new.memory told (p2, end) steps)
+          fresh_step same same to.0.hash x.call before old.memory new.memory (p2, end) (as_step old.memory changed.Nothing (call_plan same same to.0.hash x.call) new.memory told (p2, end) steps)
 
       -- where a call goes on, or ends, which had changed nothing
       abbrev pub Together2 : Called (Node K V) → Type 0
@@ -292,7 +292,7 @@ module _ {K V : Type 0} (same : K → K → Bool) (hash : ℕ → K → ℕ) (na
 
       -- it counts
       abbrev pub SteppedAt : Calling → Type 0
-      SteppedAt p = StepsTold K V (KeyCall K V K × Called (Node K V)) old.memory changed.Nothing (plan_at same same hash x.call p) new.memory told (p2, end)
+      SteppedAt p = StepsTold K V (KeyCall K V K × Called (Node K V)) old.memory changed.Nothing (plan_at same same to.0.hash x.call p) new.memory told (p2, end)
 
       wrote_count : (removed : ℕ) → SteppedAt (at.Counts removed)
           → (o : ℕ) × (told ≡ changed.Wrote (Word x.call.setting.counter (bit_and x.call.setting.slot x.call.setting.mask)) o ((o + count_change removed) % 2 ^ 64))

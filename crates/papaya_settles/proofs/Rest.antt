@@ -170,10 +170,10 @@ module _ {K V : Type 0} (same : K → K → Bool) (hash : ℕ → K → ℕ) (na
   -- a reservation
   pub room_nowhere : (x : CallForRoom) → u ≡ ForRoom x → CountsNowhere known told
   room_nowhere x is b field old_word new_word of told_is role_is =
-      let stepped = subst (λ (y : UnderWay K V K). StepsFrom same hash (machine_of y) old new to.1 said) is to.3 in
-      let inner = told_in old.memory new.memory told of_room (reserve_plan hash x.reserve) (to.1, said) stepped in
-      plan_aimed (IsNoCount known) old.memory new.memory told (reserve_plan hash x.reserve) inner.0 inner.2
-      (reserve_aims (IsNoCount known) K V hash x.reserve (room_no same hash name m known s old at_old shown map i st to.2 u under_way x (under_way ∙ ap Some is))) b field old_word new_word told_is of role_is
+      let stepped = subst (λ (y : UnderWay K V K). StepsFrom same to.0.hash (machine_of y) old new to.1 said) is to.3 in
+      let inner = told_in old.memory new.memory told of_room (reserve_plan to.0.hash x.reserve) (to.1, said) stepped in
+      plan_aimed (IsNoCount known) old.memory new.memory told (reserve_plan to.0.hash x.reserve) inner.0 inner.2
+      (reserve_aims (IsNoCount known) K V to.0.hash x.reserve (room_no same hash name m known s old at_old shown map i st to.2 u under_way x (under_way ∙ ap Some is))) b field old_word new_word told_is of role_is
 
   room_uncounted : (x : CallForRoom) → u ≡ ForRoom x → NoneCounts effects
   room_uncounted x is = none_counts i map known told (room_nowhere x is)
@@ -201,7 +201,7 @@ module _ {K V : Type 0} (same : K → K → Bool) (hash : ℕ → K → ℕ) (na
   -- a counting
   pub sum_nowhere : (x : Sum) → u ≡ Counting x → CountsNowhere known told
   sum_nowhere x is b field old_word new_word of told_so role_is =
-      let stepped = subst (λ (y : UnderWay K V K). StepsFrom same hash (machine_of y) old new to.1 said) is to.3 in
+      let stepped = subst (λ (y : UnderWay K V K). StepsFrom same to.0.hash (machine_of y) old new to.1 said) is to.3 in
       let inner = told_in old.memory new.memory told of_sum (sum_plan x) (to.1, said) stepped in
       plan_aimed (IsNoCount known) old.memory new.memory told (sum_plan x) inner.0 inner.2 (sum_at (IsNoCount known) K V x x.stands) b field old_word new_word told_so of role_is
 
@@ -225,13 +225,13 @@ module _ {K V : Type 0} (same : K → K → Bool) (hash : ℕ → K → ℕ) (na
 
     module _ (p2 : Sweep) (end : Swept (Node K V)) (machine_is : to.1 ≡ kinds.Sweep p2) (told_is : said ≡ of_swept end) where
       abbrev pub Stepped : Sweep × Swept (Node K V) → Type 0
-      Stepped e = StepsTold K V (Sweep × Swept (Node K V)) old.memory changed.Nothing (sweep_plan hash x.sweep) new.memory told e
+      Stepped e = StepsTold K V (Sweep × Swept (Node K V)) old.memory changed.Nothing (sweep_plan to.0.hash x.sweep) new.memory told e
 
       pub steps : Stepped (p2, end)
       steps = by inner.0 inner.1 inner.2
         where
           inner : (r : Sweep × Swept (Node K V)) × (◌≡◌ {A = Machine K V K × Progress (Node K V)} (to.1, said) (of_sweep r)) × Stepped r
-          inner = told_in old.memory new.memory told of_sweep (sweep_plan hash x.sweep) (to.1, said) (subst (λ (y : UnderWay K V K). StepsFrom same hash (machine_of y) old new to.1 said) is_over to.3)
+          inner = told_in old.memory new.memory told of_sweep (sweep_plan to.0.hash x.sweep) (to.1, said) (subst (λ (y : UnderWay K V K). StepsFrom same to.0.hash (machine_of y) old new to.1 said) is_over to.3)
 
           by : (r : Sweep × Swept (Node K V)) → ◌≡◌ {A = Machine K V K × Progress (Node K V)} (to.1, said) (of_sweep r) → Stepped r → Stepped (p2, end)
           by (q, said_so) is st2 =
@@ -251,15 +251,15 @@ module _ {K V : Type 0} (same : K → K → Bool) (hash : ℕ → K → ℕ) (na
 
       pub nowhere : IsElsewhere x.sweep.stands → CountsNowhere known told
       nowhere elsewhere b field old_word new_word of told_so role_is =
-          plan_aimed (IsNoCount known) old.memory new.memory told (sweep_plan hash x.sweep) (p2, end) steps
-          (sweep_aims (IsNoCount known) K V hash x.sweep (over_all_no same hash name m known s old at_old shown map i st to.2 u under_way x under_over elsewhere)) b field old_word new_word told_so of role_is
+          plan_aimed (IsNoCount known) old.memory new.memory told (sweep_plan to.0.hash x.sweep) (p2, end) steps
+          (sweep_aims (IsNoCount known) K V to.0.hash x.sweep (over_all_no same hash name m known s old at_old shown map i st to.2 u under_way x under_over elsewhere)) b field old_word new_word told_so of role_is
 
       uncounted : IsElsewhere x.sweep.stands → NoneCounts effects
       uncounted elsewhere = none_counts i map known told (nowhere elsewhere)
 
       pub idle : IsNoTry x.sweep.stands → after_counts ≡ false
       idle none =
-          idle_step K V x.sweep hash none old.memory new.memory (p2, end) (as_step old.memory changed.Nothing (sweep_plan hash x.sweep) new.memory told (p2, end) steps)
+          idle_step K V x.sweep to.0.hash none old.memory new.memory (p2, end) (as_step old.memory changed.Nothing (sweep_plan to.0.hash x.sweep) new.memory told (p2, end) steps)
 
       apart_goes : IsElsewhere x.sweep.stands → IsNoTry x.sweep.stands → flat_map shift_of effects ≡ [] → Goes before_counts after_counts
       apart_goes elsewhere none shifts = KeepsCount (all_apart effects shifts (uncounted elsewhere)) (idle none ∙ sym (elsewhere_not x.sweep.stands elsewhere))
@@ -288,7 +288,7 @@ module _ {K V : Type 0} (same : K → K → Bool) (hash : ℕ → K → ℕ) (na
         ]
 
         abbrev SteppedAt : Sweeping → Type 0
-        SteppedAt p = StepsTold K V (Sweep × Swept (Node K V)) old.memory changed.Nothing (sweeps.plan_at hash x.sweep p) new.memory told (p2, end)
+        SteppedAt p = StepsTold K V (Sweep × Swept (Node K V)) old.memory changed.Nothing (sweeps.plan_at to.0.hash x.sweep p) new.memory told (p2, end)
 
         -- it counts
         wrote_count : (removed : ℕ) → SteppedAt (sweeping.Counts removed)

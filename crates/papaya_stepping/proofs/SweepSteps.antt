@@ -134,7 +134,7 @@ module _ {K V S : Type 0} (same : K → K → Bool) (hash : K → ℕ) (name : �
   said_is = (leads map (OverAll o) under).4.did.3
 
   goes_on : SweepsOn o.sweep.purpose (kinds.Sweep p2, said)
-  goes_on = subst (λ (z : Machine K V K). SweepsOn o.sweep.purpose (z, said)) machine_is (sweeps_on same hash old new o.sweep (leads map (OverAll o) under).1 said (leads map (OverAll o) under).3)
+  goes_on = subst (λ (z : Machine K V K). SweepsOn o.sweep.purpose (z, said)) machine_is (sweeps_on same (leads map (OverAll o) under).0.hash old new o.sweep (leads map (OverAll o) under).1 said (leads map (OverAll o) under).3)
 
   -- it is this sweep that goes on
   next_is : (y : UnderWay K V K) → (leads map (OverAll o) under).4.next ≡ Some y → machine_of y ≡ kinds.Sweep p2

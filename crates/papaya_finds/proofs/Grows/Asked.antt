@@ -132,7 +132,7 @@ module _ {K V : Type 0} (same : K → K → Bool) (hash : ℕ → K → ℕ) (na
     find_by (changed.Made k b) told_is = made_find k b told_is
     find_by (changed.Unmade k) told_is = asked_finds terms moments (name i) map m c c_is (grows_by (changed.Unmade k) told_is tt)
     find_by (changed.Roomed bucket had) told_is = absurd (
-        no_room same same hash old.memory new.memory told to.1 said (machine_of u) (call_unmade same hash name m known s old at whole.all.shown map i u here) to.3 bucket had
+        no_room same same to.0.hash old.memory new.memory told to.1 said (machine_of u) (call_unmade same hash name m known s old at whole.all.shown map i u here) to.3 bucket had
         told_is
         )
 

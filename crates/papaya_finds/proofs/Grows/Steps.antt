@@ -101,7 +101,7 @@ module _ {K V : Type 0} (same : K → K → Bool) (hash : ℕ → K → ℕ) (na
   -- of a call on one key
   module _ (x : CallOnKey K V K) (is : s.calls map i ≡ Some (OnKey x)) where
     abbrev Stepped : Type 0
-    Stepped = StepsTold K V (Machine K V K × Progress (Node K V)) old.memory changed.Nothing (machine_plan same same hash (kinds.Key x.call)) new.memory told (to.1, said)
+    Stepped = StepsTold K V (Machine K V K × Progress (Node K V)) old.memory changed.Nothing (machine_plan same same to.0.hash (kinds.Key x.call)) new.memory told (to.1, said)
 
     its_table : TableTells (many_of map m) x.call old.memory x.call.stands
     its_table = subst (λ (n : ℕ). TableTells n x.call old.memory x.call.stands) many_now
@@ -117,11 +117,11 @@ module _ {K V : Type 0} (same : K → K → Bool) (hash : ℕ → K → ℕ) (na
     -- as another machine
     key_grows : Stepped → (y : CallOnKey K V K) → ◌≡◌ {A = Machine K V K} (kinds.Key y.call) to.1 → Came y.call
     key_grows steps y machine_is =
-        let it = told_in old.memory new.memory told of_key (call_plan same same hash x.call) (to.1, said) steps in
+        let it = told_in old.memory new.memory told of_key (call_plan same same to.0.hash x.call) (to.1, said) steps in
         let machine : ◌≡◌ {A = Machine K V K} (kinds.Key y.call) (kinds.Key it.0.0) = machine_is ∙ ap (λ (q : Machine K V K × Progress (Node K V)). q.0) it.1 in
         let one : it.0.0 ≡ y.call = cc machine in
         subst Came one
-        (step_grows (many_of map v) (many_of map m) (later map) same same hash x.call old.memory new.memory told it.0 (growing map i x is) its_table it.2)
+        (step_grows (many_of map v) (many_of map m) (later map) same same to.0.hash x.call old.memory new.memory told it.0 (growing map i x is) its_table it.2)
 
     -- what it makes it has a value for
     module _ (steps : Stepped) (asks : Asks told) (copies_none : IsCopying x.call.stands → ⊥) (c : CallThere K V) (c_is : call_of (name i) m ≡ Some c) (its_call : IsCalled same (OnKey x) c.call) where
@@ -129,8 +129,8 @@ module _ {K V : Type 0} (same : K → K → Bool) (hash : ℕ → K → ℕ) (na
       Valued = has_value_for c.call c ≡ true
 
       it : (r : KeyCall K V K × Called (Node K V)) × (◌≡◌ {A = Machine K V K × Progress (Node K V)} (to.1, said) (of_key r))
-          × StepsTold K V (KeyCall K V K × Called (Node K V)) old.memory changed.Nothing (call_plan same same hash x.call) new.memory told r
-      it = told_in old.memory new.memory told of_key (call_plan same same hash x.call) (to.1, said) steps
+          × StepsTold K V (KeyCall K V K × Called (Node K V)) old.memory changed.Nothing (call_plan same same to.0.hash x.call) new.memory told r
+      it = told_in old.memory new.memory told of_key (call_plan same same to.0.hash x.call) (to.1, said) steps
 
       asked_as : IsAskedAs (whole.all.shown.number map) st.chart.stored known x c.call c
       asked_as = whole.all.asked.each map i (OnKey x) is st to.2 c c_is
@@ -139,7 +139,7 @@ module _ {K V : Type 0} (same : K → K → Bool) (hash : ℕ → K → ℕ) (na
       own_valued own = elim (each.stand i (OnKey x) is) as (λ _. Valued) [
         | inl k ↦
             call_valued same (whole.all.shown.number map) st.chart.stored known x c c.call its_call asked_as
-            (knows_given same st.hash st.setting slot_of s.world st.chart (seen_by st.blocks (st.sights (slot_of i))) i x x.call k.1 own hash old.memory new.memory told it.0
+            (knows_given same st.hash st.setting slot_of s.world st.chart (seen_by st.blocks (st.sights (slot_of i))) i x x.call k.1 own to.0.hash old.memory new.memory told it.0
             (asks_some told asks) it.2)
         | inr k ↦ absurd (row_no_own x.call.stands k.1 own)
       ]
@@ -153,10 +153,10 @@ module _ {K V : Type 0} (same : K → K → Bool) (hash : ℕ → K → ℕ) (na
       ]
 
       key_valued : Valued
-      key_valued = elim (call_makes same same hash x.call) as (λ _. Valued) [
+      key_valued = elim (call_makes same same to.0.hash x.call) as (λ _. Valued) [
         | inl own ↦ own_valued own
         | inr so ↦
-            let n = made_of (making_in_calling x.call.stands) old.memory new.memory told (call_plan same same hash x.call) it.0 it.2 so asks in table_valued n.0 n.1
+            let n = made_of (making_in_calling x.call.stands) old.memory new.memory told (call_plan same same to.0.hash x.call) it.0 it.2 so asks in table_valued n.0 n.1
       ]
 
     -- so each of its effects that asks for a block may
@@ -168,11 +168,11 @@ module _ {K V : Type 0} (same : K → K → Bool) (hash : ℕ → K → ℕ) (na
 
   -- each call on one key after it: a call of another kind is none
 
-  came : (x : UnderWay K V K) → s.calls map i ≡ Some x → StepsFrom same hash (machine_of x) old new to.1 said → (y : CallOnKey K V K) → ◌≡◌ {A = Machine K V K} (kinds.Key y.call) to.1
+  came : (x : UnderWay K V K) → s.calls map i ≡ Some x → StepsFrom same to.0.hash (machine_of x) old new to.1 said → (y : CallOnKey K V K) → ◌≡◌ {A = Machine K V K} (kinds.Key y.call) to.1
       → GrowsAt (many_of map v) y.call y.call.stands
   came (OnKey x) is steps y machine_is = key_grows x is steps y machine_is
   came (ForRoom r) is steps y machine_is = absurd (
-      let it = told_in old.memory new.memory told of_room (reserve_plan hash r.reserve) (to.1, said) steps in
+      let it = told_in old.memory new.memory told of_room (reserve_plan to.0.hash r.reserve) (to.1, said) steps in
       let no : ◌≡◌ {A = Machine K V K} (kinds.Key y.call) (kinds.Reserve it.0.0) = machine_is ∙ ap (λ (q : Machine K V K × Progress (Node K V)). q.0) it.1 in
       cc no
       )
@@ -182,7 +182,7 @@ module _ {K V : Type 0} (same : K → K → Bool) (hash : ℕ → K → ℕ) (na
       cc no
       )
   came (OverAll o) is steps y machine_is = absurd (
-      let it = told_in old.memory new.memory told of_sweep (sweep_plan hash o.sweep) (to.1, said) steps in
+      let it = told_in old.memory new.memory told of_sweep (sweep_plan to.0.hash o.sweep) (to.1, said) steps in
       let no : ◌≡◌ {A = Machine K V K} (kinds.Key y.call) (kinds.Sweep it.0.0) = machine_is ∙ ap (λ (q : Machine K V K × Progress (Node K V)). q.0) it.1 in
       cc no
       )

@@ -73,17 +73,17 @@ module _ {K V : Type 0} (same : K → K → Bool) (hash : ℕ → K → ℕ) (na
   stands = together.stand i (OnKey x) here
 
   inner : (r : KeyCall K V K × Called (Node K V)) × (◌≡◌ {A = Machine K V K × Progress (Node K V)} (to.1, said) (of_key r))
-      × StepsTold K V (KeyCall K V K × Called (Node K V)) old.memory changed.Nothing (call_plan same same hash x.call) new.memory told r
-  inner = told_in old.memory new.memory told of_key (call_plan same same hash x.call) (to.1, said) to.3
+      × StepsTold K V (KeyCall K V K × Called (Node K V)) old.memory changed.Nothing (call_plan same same to.0.hash x.call) new.memory told r
+  inner = told_in old.memory new.memory told of_key (call_plan same same to.0.hash x.call) (to.1, said) to.3
 
   machine_is : ◌≡◌ {A = Machine K V K} to.1 (kinds.Key inner.0.0)
   machine_is = ap (λ (z : Machine K V K × Progress (Node K V)). z.0) inner.1
 
   abbrev Waits : KeyCall K V K → Type 0
-  Waits y = KeyWaits same same hash x.call old.memory new.memory told y
+  Waits y = KeyWaits same same to.0.hash x.call old.memory new.memory told y
 
   hands : Waits inner.0.0
-  hands = step_hands same same hash x.call old.memory new.memory told inner.0 inner.2
+  hands = step_hands same same to.0.hash x.call old.memory new.memory told inner.0 inner.2
 
   abbrev Did : Type 0
   Did = DidSo same hash name m known s old new at_old whole.all.shown map i (OnKey x) here said leads (OnKey x)

@@ -75,17 +75,17 @@ module _ {K V : Type 0} (same : K → K → Bool) (hash : ℕ → K → ℕ) (na
   stands = together.stand i (OverAll x) here
 
   inner : (r : Sweep × Swept (Node K V)) × (◌≡◌ {A = Machine K V K × Progress (Node K V)} (to.1, said) (of_sweep r))
-      × StepsTold K V (Sweep × Swept (Node K V)) old.memory changed.Nothing (sweep_plan hash x.sweep) new.memory told r
-  inner = told_in old.memory new.memory told of_sweep (sweep_plan hash x.sweep) (to.1, said) to.3
+      × StepsTold K V (Sweep × Swept (Node K V)) old.memory changed.Nothing (sweep_plan to.0.hash x.sweep) new.memory told r
+  inner = told_in old.memory new.memory told of_sweep (sweep_plan to.0.hash x.sweep) (to.1, said) to.3
 
   machine_is : ◌≡◌ {A = Machine K V K} to.1 (kinds.Sweep inner.0.0)
   machine_is = ap (λ (z : Machine K V K × Progress (Node K V)). z.0) inner.1
 
   abbrev Waits : Sweep → Type 0
-  Waits y = SweepWaits hash x.sweep old.memory new.memory told y
+  Waits y = SweepWaits to.0.hash x.sweep old.memory new.memory told y
 
   hands : Waits inner.0.0
-  hands = sweep_step hash x.sweep old.memory new.memory told inner.0 inner.2
+  hands = sweep_step to.0.hash x.sweep old.memory new.memory told inner.0 inner.2
 
   abbrev Did : Type 0
   Did = DidSo same hash name m known s old new at_old whole.all.shown map i (OverAll x) here said leads (OverAll x)

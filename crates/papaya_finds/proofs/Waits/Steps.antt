@@ -85,11 +85,11 @@ module _ {K V : Type 0} (same : K → K → Bool) (hash : ℕ → K → ℕ) (na
 
   -- a reservation, and one that counts, has no pair in hand
   abbrev HasNone : UnderWay K V K → Type 0
-  HasNone x = StepsFrom same hash (machine_of x) old new to.1 said → pair_in to.1 ≡ None
+  HasNone x = StepsFrom same to.0.hash (machine_of x) old new to.1 said → pair_in to.1 ≡ None
 
   room_none : (r : CallForRoom) → HasNone (ForRoom r)
   room_none r steps =
-      let it = told_in old.memory new.memory new.changed of_room (reserve_plan hash r.reserve) (to.1, said) steps in
+      let it = told_in old.memory new.memory new.changed of_room (reserve_plan to.0.hash r.reserve) (to.1, said) steps in
       ap (λ (q : Machine K V K × Progress (Node K V)). pair_in q.0) it.1
 
   sum_none : (sum : Sum) → HasNone (Counting sum)

@@ -176,7 +176,7 @@ module _ {K V : Type 0} (same : K → K → Bool) (hash : ℕ → K → ℕ) (na
 
     -- its map has a second table still where it makes one
     came_off : MachineMakes Before to.1 → MachineMakes After to.1
-    came_off makes = elim (machine_off old.memory new.memory step_told same same hash (machine_of u) to.1 said to.3) as (λ _. MachineMakes After to.1) [
+    came_off makes = elim (machine_off old.memory new.memory step_told same same to.0.hash (machine_of u) to.1 said to.3) as (λ _. MachineMakes After to.1) [
       | inl none ↦ machine_more NoTable After (λ n nothing. absurd nothing) to.1 none
       | inr off ↦ machine_more Before After (λ n so. follow off so) to.1 makes
     ]
@@ -187,16 +187,16 @@ module _ {K V : Type 0} (same : K → K → Bool) (hash : ℕ → K → ℕ) (na
 
     none_by : (x : Copier) → HasCopier (machine_of u) x → IsFollowed s.world x → MachineMakes NoTable to.1
     none_by x its is =
-        machine_none old.memory new.memory step_told same same hash x is.0 (λ read. is.1 (subst (λ (q : Mem (Node K V)). word_at q (at_word x.target NEXT) ≡ Some 0) (sym at.memory) read)) (machine_of u) to.1 said its
+        machine_none old.memory new.memory step_told same same to.0.hash x is.0 (λ read. is.1 (subst (λ (q : Mem (Node K V)). word_at q (at_word x.target NEXT) ≡ Some 0) (sym at.memory) read)) (machine_of u) to.1 said its
         to.3
 
     own_makes : MachineMakes After to.1
     own_makes =
         elim (begins_ahead Before same hash s old at map i st to.2 (λ ahead given table. inr (second_there map (whole.all.shown.number map) st m known (whole.all.shown.maps map st to.2) ahead)) u here) as (λ _. MachineMakes After to.1) [
           | inl begins ↦
-              came_off (always_steps (Ends Before K V K) old.memory new.memory (machine_plan same same hash (machine_of u)) (to.1, said)
-              (machine_makes Before K V K (λ n so. so_of_each (MayFollow map c.begun log m) so (new_table_plan {K = K} {V = V} n)) same same hash (machine_of u) (nexts map i u here c c_is) begins)
-              (as_step old.memory changed.Nothing (machine_plan same same hash (machine_of u)) new.memory step_told (to.1, said) to.3))
+              came_off (always_steps (Ends Before K V K) old.memory new.memory (machine_plan same same to.0.hash (machine_of u)) (to.1, said)
+              (machine_makes Before K V K (λ n so. so_of_each (MayFollow map c.begun log m) so (new_table_plan {K = K} {V = V} n)) same same to.0.hash (machine_of u) (nexts map i u here c c_is) begins)
+              (as_step old.memory changed.Nothing (machine_plan same same to.0.hash (machine_of u)) new.memory step_told (to.1, said) to.3))
           | inr followed ↦ machine_more NoTable After (λ n nothing. absurd nothing) to.1 (none_by followed.0 followed.1 followed.2)
         ]
 

@@ -102,8 +102,8 @@ module _ {K V : Type 0} (same : K → K → Bool) (hash : ℕ → K → ℕ) (na
     follow_all off (inl before) = inl (follow off before)
     follow_all off (inr summed) = inr summed
 
-    step : Steps Took value_at old.memory (machine_plan same same hash (machine_of u)) new.memory end
-    step = as_step old.memory changed.Nothing (machine_plan same same hash (machine_of u)) new.memory step_told end to.3
+    step : Steps Took value_at old.memory (machine_plan same same to.0.hash (machine_of u)) new.memory end
+    step = as_step old.memory changed.Nothing (machine_plan same same to.0.hash (machine_of u)) new.memory step_told end to.3
 
     abbrev each : Together V same st.hash same st.setting slot_of s.world st.chart st.blocks st.sights (s.calls map)
     each = at.together.makings.standing.each map st to.2
@@ -119,15 +119,15 @@ module _ {K V : Type 0} (same : K → K → Bool) (hash : ℕ → K → ℕ) (na
     -- by the moment before the step
     comes : EndsThen (Before ⊎ Summed) K V K old.memory new.memory (machine_of u) end
     comes =
-        machine_ends (Before ⊎ Summed) K V K old.memory new.memory same same hash (machine_of u) (machine_for Before (Before ⊎ Summed) (λ before. inl before) (machine_of u) (limits map i u here c c_is)) may end step
+        machine_ends (Before ⊎ Summed) K V K old.memory new.memory same same to.0.hash (machine_of u) (machine_for Before (Before ⊎ Summed) (λ before. inl before) (machine_of u) (limits map i u here c c_is)) may end step
 
     -- and by that after it
     own_ends : (x : UnderWay K V K) → to.4.next ≡ Some x → MachineEnds After to.1
-    own_ends x is = elim (machine_off old.memory new.memory step_told hash After same same (machine_of u) end to.3) as (λ _. MachineEnds After to.1) [
+    own_ends x is = elim (machine_off old.memory new.memory step_told to.0.hash After same same (machine_of u) end to.3) as (λ _. MachineEnds After to.1) [
       | inl free ↦ free.0
       | inr off ↦
           machine_for Before After (follow off) to.1
-          (machine_on Before K V K old.memory new.memory same same hash (machine_of u) end step comes.0 (goes_yet to.1 said to.4.next to.4.goes_on x is))
+          (machine_on Before K V K old.memory new.memory same same to.0.hash (machine_of u) end step comes.0 (goes_yet to.1 said to.4.next to.4.goes_on x is))
     ]
 
     pub limits_go_on : OthersHadLimit name log i m s → ShowsLimits name log v led
@@ -146,7 +146,7 @@ module _ {K V : Type 0} (same : K → K → Bool) (hash : ℕ → K → ℕ) (na
 
     -- The promise: it is refused for the length of a table for this alone.
     pub refused_for : said ≡ progress.Refused Capacity → WhyOf (After ⊎ Summed) K V K old.memory new.memory (machine_of u)
-    refused_for is = elim (machine_off old.memory new.memory step_told hash (After ⊎ Summed) same same (machine_of u) end to.3) as
+    refused_for is = elim (machine_off old.memory new.memory step_told to.0.hash (After ⊎ Summed) same same (machine_of u) end to.3) as
         (λ _. WhyOf (After ⊎ Summed) K V K old.memory new.memory (machine_of u)) [
           | inl free ↦ said_as (WhyOf (After ⊎ Summed) K V K old.memory new.memory (machine_of u)) is free.1
           | inr off ↦ why_more off (machine_of u) (said_as (WhyOf (Before ⊎ Summed) K V K old.memory new.memory (machine_of u)) is comes.1)

@@ -160,7 +160,7 @@ module _ {K V : Type 0} (same : K → K → Bool) (hash : ℕ → K → ℕ) (na
   by_key x steps = by about refl
     where
       it : (y : CallOnKey K V K) × (next ≡ OnKey y) × AsksAt about y.call.stands
-      it = goes_there same hash old new x (leads map u here).1 asks steps about refl next next_machine
+      it = goes_there same (leads map u here).0.hash old new x (leads map u here).1 asks steps about refl next next_machine
 
       by : (z : Option ℕ) → about ≡ z → Question
       by None is = (None, subst (λ (y : Option ℕ). IsToldQuestion known_then y None) (sym is) tt)
@@ -169,7 +169,7 @@ module _ {K V : Type 0} (same : K → K → Bool) (hash : ℕ → K → ℕ) (na
           (subst (λ (y : Option ℕ). AsksAt y it.0.call.stands) is it.2))
 
   by_sweep : (o : CallOverAll) → StepsFrom same (leads map u here).0.hash (kinds.Sweep o.sweep) old new (leads map u here).1 asks → Question
-  by_sweep o steps = by next refl (subst (λ (z : Machine K V K). SweepsOn o.sweep.purpose (z, asks)) (sym next_machine) (sweeps_on same hash old new o.sweep (leads map u here).1 asks steps))
+  by_sweep o steps = by next refl (subst (λ (z : Machine K V K). SweepsOn o.sweep.purpose (z, asks)) (sym next_machine) (sweeps_on same (leads map u here).0.hash old new o.sweep (leads map u here).1 asks steps))
     where
       by : (x : UnderWay K V K) → next ≡ x → SweepsOn o.sweep.purpose (machine_of x, asks) → Question
       by (OverAll q) is so = of_word so.1.0 so.1.1

@@ -139,7 +139,7 @@ module _ {K V : Type 0} (same : K → K → Bool) (hash : ℕ → K → ℕ) (na
       let is_d : now.0 ≡ d = one_of now.0 d (sym now.1 ∙ found) in
       subst (λ (y : CallThere K V). IsAsCalled (on.shows.number map) st.chart.stored after x y) is_d
       (subst (λ (y : Standing K). IsAsCalled (on.shows.number map) y.chart.stored after x now.0) is_st
-      (own_as_called same hash old.batch_size old.roots s.world s.maps s.calls s.makers s.enders map went.0 i went.4.w2 went.4.maps2 went.4.next old new went.1 said known after on.keeps
+      (own_as_called same old.batch_size old.roots s.world s.maps s.calls s.makers s.enders map went.0 i went.4.w2 went.4.maps2 went.4.next old new went.1 said known after on.keeps
       (shown.number map) (on.shows.number map) went.0.chart.stored stood.0.chart.stored stood.2.stored (on.numbers map went.0 went.2) was.0 now.0 now.2.0 x goes u went.3 went.4.did
       (called.each map i u here went.0 went.2 was.0 was.1)))
 

@@ -132,7 +132,7 @@ module _ {K V : Type 0} (same : K → K → Bool) (hash : ℕ → K → ℕ) (na
     AsksThere = (o : CallOverAll) × (next ≡ OverAll o) × (word : ℕ) × (about ≡ Some word) × (o.sweep.stands ≡ at.Asks word)
 
     sweep_asks : (o : CallOverAll) → StepsFrom same (leads map u midst.here).0.hash (kinds.Sweep o.sweep) old new (leads map u midst.here).1 (progress.Asks about) → AsksThere
-    sweep_asks o steps = by next refl (subst (λ (z : Machine K V K). SweepsOn o.sweep.purpose (z, progress.Asks about)) (sym next_machine) (sweeps_on same hash old new o.sweep (leads map u midst.here).1 (progress.Asks about) steps))
+    sweep_asks o steps = by next refl (subst (λ (z : Machine K V K). SweepsOn o.sweep.purpose (z, progress.Asks about)) (sym next_machine) (sweeps_on same (leads map u midst.here).0.hash old new o.sweep (leads map u midst.here).1 (progress.Asks about) steps))
       where
         by : (x : UnderWay K V K) → next ≡ x → SweepsOn o.sweep.purpose (machine_of x, progress.Asks about) → AsksThere
         by (OverAll q) is so = (q, is, so.1.0, so.1.1, so.1.2)
@@ -264,7 +264,7 @@ module _ {K V : Type 0} (same : K → K → Bool) (hash : ℕ → K → ℕ) (na
         by (Counting sum) none steps h = h question asks
         by (OverAll o) none steps h =
             let at_word = h.asks question asks in
-            let says = (asks_still same hash old new o.sweep (leads map u midst.here).1 said steps at_word.0 at_word.1).1 in
+            let says = (asks_still same (leads map u midst.here).0.hash old new o.sweep (leads map u midst.here).1 said steps at_word.0 at_word.1).1 in
             no_going K known2 (Some at_word.0) e.outcome (subst (λ (x : Progress (Node K V)). AsksAsSaid known2 x e.outcome) says as_said) goes
 
     still_so : (its : Stands) → call_at_end.stands ≡ its → AsksStill its e.outcome

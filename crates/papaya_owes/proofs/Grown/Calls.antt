@@ -77,7 +77,7 @@ module _ {K V : Type 0} (same : K → K → Bool) (hash : ℕ → K → ℕ) (na
   -- where it was short of none, and no block was refused to it
   went_clear : c.is_short ≡ false → ((k : Kind) → told ≡ changed.Unmade k → ⊥) → Clear
   went_clear e unrefused =
-      machine_so IsOther long_other old.memory new.memory told unrefused same same hash to.1 said (machine_of u) (grown map i u here c c_is (ap not e)) to.3
+      machine_so IsOther long_other old.memory new.memory told unrefused same same to.0.hash to.1 said (machine_of u) (grown map i u here c c_is (ap not e)) to.3
 
   -- who makes a block was short of none
   not_short : (NoneAsked told → ⊥) → c.is_short ≡ false

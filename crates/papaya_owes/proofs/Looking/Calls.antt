@@ -76,7 +76,7 @@ module _ {K V : Type 0} (same : K → K → Bool) (hash : ℕ → K → ℕ) (na
   its_there = let c = whole.all.shown.calls map i u here in (c.0, c.1)
 
   stays : only_looks its_there.0.call ≡ true → (told ≡ changed.Nothing) × IsLooking to.1
-  stays e = looking_stays old.memory new.memory told same same hash to.1 said (machine_of u) (looking map i u here its_there.0 its_there.1 e) to.3
+  stays e = looking_stays old.memory new.memory told same same to.0.hash to.1 said (machine_of u) (looking map i u here its_there.0 its_there.1 e) to.3
 
   find_by : (q : Bool) → only_looks its_there.0.call ≡ q → FindAtWork (name i) map effects m
   find_by true e = subst (λ (x : Changed). FindAtWork (name i) map (effects_of (acts.Call i map) known x) m) (sym (stays e).0) tt

@@ -72,14 +72,14 @@ module _ {K V : Type 0} (same : K → K → Bool) (hash : ℕ → K → ℕ) (na
   abbrev IsDenied : Type 0
   IsDenied = (fault_of to.1 ≡ Some Memory) × EndsSo Memory said
 
-  pub stays : fault_of (machine_of u) ≡ Some Memory → MachineStays old.memory new.memory told same same hash to.1 said Memory
-  stays fault = machine_stays old.memory new.memory told same same hash to.1 said (machine_of u) Memory fault to.3
+  pub stays : fault_of (machine_of u) ≡ Some Memory → MachineStays old.memory new.memory told same same to.0.hash to.1 said Memory
+  stays fault = machine_stays old.memory new.memory told same same to.0.hash to.1 said (machine_of u) Memory fault to.3
 
   -- it makes no counter, and asks for no bucket
 
   no_shards : (b : ℕ) → told ≡ changed.Made kind.Shards b → ⊥
   no_shards b is =
-      by (which_made same same hash old.memory new.memory told to.1 said (machine_of u) (call_unmade same hash name m known s old at whole.all.shown map i u here) to.3 kind.Shards b is)
+      by (which_made same same to.0.hash old.memory new.memory told to.1 said (machine_of u) (call_unmade same hash name m known s old at whole.all.shown map i u here) to.3 kind.Shards b is)
     where
       by : MakesWhich (machine_of u) kind.Shards → ⊥
       by (inl pair) = cc pair
@@ -87,7 +87,7 @@ module _ {K V : Type 0} (same : K → K → Bool) (hash : ℕ → K → ℕ) (na
 
   pub no_bucket : (bucket : ℕ) (had : Bool) → told ≡ changed.Roomed bucket had → ⊥
   no_bucket bucket had is =
-      no_room same same hash old.memory new.memory told to.1 said (machine_of u) (call_unmade same hash name m known s old at whole.all.shown map i u here) to.3 bucket had is
+      no_room same same to.0.hash old.memory new.memory told to.1 said (machine_of u) (call_unmade same hash name m known s old at whole.all.shown map i u here) to.3 bucket had is
 
   -- who is short after it is to be refused
 
@@ -105,7 +105,7 @@ module _ {K V : Type 0} (same : K → K → Bool) (hash : ℕ → K → ℕ) (na
   short_by_told (changed.Wrote place before after) is h was e = kept_short (changed.Wrote place before after) tt h was e
   short_by_told (changed.Took b) is h was e = kept_short (changed.Took b) tt h was e
   short_by_told (changed.Made k b) is h was e = made_short k b is h e
-  short_by_told (changed.Unmade k) is h was e = unmade_so old.memory new.memory told k is same same hash to.1 said (machine_of u) to.3
+  short_by_told (changed.Unmade k) is h was e = unmade_so old.memory new.memory told k is same same to.0.hash to.1 said (machine_of u) to.3
   short_by_told (changed.Roomed bucket had) is h was e = absurd (no_bucket bucket had is)
 
   -- and who asks for a growth is not

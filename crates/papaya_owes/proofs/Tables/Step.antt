@@ -133,8 +133,8 @@ module _ {K V : Type 0} (same : K → K → Bool) (hash : ℕ → K → ℕ) (na
 
   -- where the step is one of this making, it goes on so
   module _ (n : NewTable) (making_is : making_of (machine_of u) ≡ Some n) where
-    abbrev inner : Within old.memory new.memory told n (CallGoes old.memory new.memory told same same hash to.1 said) (CallRefuses old.memory new.memory told same same hash to.1 said)
-    inner = step_within old.memory new.memory told same same hash to.1 said (machine_of u) n making_is to.3
+    abbrev inner : Within old.memory new.memory told n (CallGoes old.memory new.memory told same same to.0.hash to.1 said) (CallRefuses old.memory new.memory told same same to.0.hash to.1 said)
+    inner = step_within old.memory new.memory told same same to.0.hash to.1 said (machine_of u) n making_is to.3
 
     its_making : MadeThere same hash name m known s old at whole.all.shown map i n
     its_making = call_made same hash name m known s old at whole.all.shown map i u here n making_is
@@ -159,7 +159,7 @@ module _ {K V : Type 0} (same : K → K → Bool) (hash : ℕ → K → ℕ) (na
   -- a table that it makes
   made_table : had ≡ None → (b len limit turn : ℕ) → told ≡ changed.Made (kind.Table len limit turn) b → Left
   made_table none b len limit turn made_it =
-      elim (which_made same same hash old.memory new.memory told to.1 said (machine_of u) (call_unmade same hash name m known s old at whole.all.shown map i u here) to.3 (kind.Table len limit turn) b made_it) as (λ _. Left) [
+      elim (which_made same same to.0.hash old.memory new.memory told to.1 said (machine_of u) (call_unmade same hash name m known s old at whole.all.shown map i u here) to.3 (kind.Table len limit turn) b made_it) as (λ _. Left) [
         | inl pair ↦ absurd (cc pair)
         | inr (value, (n, table, making_is, stands, value_is), kind_is) ↦ made_its n making_is none table stands b len limit turn made_it (ap kind_of (sym value_is) ∙ kind_is)
       ]

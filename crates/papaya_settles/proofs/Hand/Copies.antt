@@ -70,7 +70,7 @@ module _ {K V : Type 0} (same : K → K → Bool) (hash : ℕ → K → ℕ) (na
   pub copying_goes : OfNoRow same hash name m known s old new at_old shown map i u under_way said leads u to.4.did
       → (p : Copier) → KnowsTables same st.hash s.world i (in_slot st.setting (slot_of i)) st.chart (seen_by st.blocks (st.sights (slot_of i))) p → (IsRowOfCopier p.stands → ⊥)
       → in_hand known (machine_of u) ≡ tables_in_hand known p p.stands → NotesTables known p p.stands → (r : Copier × Outcome (Node K V) Table)
-      → StepsTold K V (Copier × Outcome (Node K V) Table) old.memory changed.Nothing (copier_plan hash p) new.memory new.changed r
+      → StepsTold K V (Copier × Outcome (Node K V) Table) old.memory changed.Nothing (copier_plan to.0.hash p) new.memory new.changed r
       → (GoesOrHas r → (in_hand known to.1 ≡ tables_in_hand known r.0 r.0.stands) × (NotesTables known r.0 r.0.stands → NotesInHand known to.1))
       → (has_ended said ≡ true → in_hand known to.1 ≡ []) → ((n : ℕ) → TakesPair effects n → ⊥) → (is_promoting p.stands ≡ false → (t : TableTurn) → effects ≡ effect.Promoted t ∷ [] → ⊥)
       → HandGoes K V same hash m known s old new map i u said under_way leads

@@ -167,7 +167,7 @@ module _ {K V : Type 0} (same : K → K → Bool) (hash : ℕ → K → ℕ) (na
     no_promotion : (t : Table) → effects ≡ effect.Promoted t ∷ [] → ⊥
     no_promotion t are =
         (let none = none_promotes i map known (nothing_free s.world m.stored known shown.blocks.roles) told
-        (spared_tells old.memory new.memory told (call_plan same same hash x.call) (p2, end) (spares_call same same hash x.call x.call.stands (promotes_none x.call.stands copies) step.no_row)
+        (spared_tells old.memory new.memory told (call_plan same same to.0.hash x.call) (p2, end) (spares_call same same to.0.hash x.call x.call.stands (promotes_none x.call.stands copies) step.no_row)
         (steps same hash name m known s old new at_old shown map i x under_way said leads p2 end machine_is told_is)) in
         let no = (subst NonePromotes are none).0 in cc no)
 
@@ -212,8 +212,8 @@ module _ {K V : Type 0} (same : K → K → Bool) (hash : ℕ → K → ℕ) (na
     none_by (called.Refused fault) tog its ended linked takes = over_none known p2.stands ended
 
     went : IsEnded (p2, end)
-    went = ended_step same same hash x.call old.memory new.memory (p2, end)
-        (as_step old.memory changed.Nothing (call_plan same same hash x.call) new.memory told (p2, end)
+    went = ended_step same same to.0.hash x.call old.memory new.memory (p2, end)
+        (as_step old.memory changed.Nothing (call_plan same same to.0.hash x.call) new.memory told (p2, end)
         (steps same hash name m known s old new at_old shown map i x under_way said leads p2 end machine_is told_is))
 
     abbrev OutNow : Change
@@ -238,9 +238,9 @@ module _ {K V : Type 0} (same : K → K → Bool) (hash : ℕ → K → ℕ) (na
       where
         its : (IsBefore x.call.stands → ⊥) → NoneOfCall known p2.stands
         its past =
-            always_steps (NoneThen known same same hash x.call) old.memory new.memory (call_plan same same hash x.call) (p2, end)
-            (past_none known same same hash x.call x.call.stands refl step.no_row e past)
-            (as_step old.memory changed.Nothing (call_plan same same hash x.call) new.memory told (p2, end)
+            always_steps (NoneThen known same same to.0.hash x.call) old.memory new.memory (call_plan same same to.0.hash x.call) (p2, end)
+            (past_none known same same to.0.hash x.call x.call.stands refl step.no_row e past)
+            (as_step old.memory changed.Nothing (call_plan same same to.0.hash x.call) new.memory told (p2, end)
             (steps same hash name m known s old new at_old shown map i x under_way said leads p2 end machine_is told_is))
 
         by : KindOf x.call.stands → NoneOfCall known p2.stands
@@ -250,8 +250,8 @@ module _ {K V : Type 0} (same : K → K → Bool) (hash : ℕ → K → ℕ) (na
         by (ToChange early) =
             let none = no_copier x.call.stands copies in
             none_by end step.step (fresh same hash name m known s old new at_old shown map i x under_way said leads p2 end machine_is told_is step early) went
-            (before_links same same hash x.call x.call.stands none early (self_fresh x.call x.call.stands none early) old.memory new.memory (p2, end)
-            (as_step old.memory changed.Nothing (call_plan same same hash x.call) new.memory told (p2, end)
+            (before_links same same to.0.hash x.call x.call.stands none early (self_fresh x.call x.call.stands none early) old.memory new.memory (p2, end)
+            (as_step old.memory changed.Nothing (call_plan same same to.0.hash x.call) new.memory told (p2, end)
             (steps same hash name m known s old new at_old shown map i x under_way said leads p2 end machine_is told_is)))
             (takes_none early all)
 

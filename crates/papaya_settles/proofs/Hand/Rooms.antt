@@ -157,10 +157,10 @@ module _ {K V : Type 0} (same : K → K → Bool) (hash : ℕ → K → ℕ) (na
   blocks = seen_by st.blocks (st.sights (slot_of i))
 
   abbrev Stepped : Reserving → Reserve × Outcome (Node K V) Unit → Type 0
-  Stepped stands e = StepsTold K V (Reserve × Outcome (Node K V) Unit) old.memory changed.Nothing (reserves.plan_at hash x.reserve stands) new.memory told e
+  Stepped stands e = StepsTold K V (Reserve × Outcome (Node K V) Unit) old.memory changed.Nothing (reserves.plan_at to.0.hash x.reserve stands) new.memory told e
 
   inner : (e : Reserve × Outcome (Node K V) Unit) × (◌≡◌ {A = Machine K V K × Progress (Node K V)} (to.1, said) (of_room e)) × Stepped x.reserve.stands e
-  inner = told_in old.memory new.memory told of_room (reserve_plan hash x.reserve) (to.1, said) to.3
+  inner = told_in old.memory new.memory told of_room (reserve_plan to.0.hash x.reserve) (to.1, said) to.3
 
   machine_is : to.1 ≡ kinds.Reserve inner.0.0
   machine_is = ap (λ (z : Machine K V K × Progress (Node K V)). z.0) inner.1
@@ -198,13 +198,13 @@ module _ {K V : Type 0} (same : K → K → Bool) (hash : ℕ → K → ℕ) (na
   -- it copies no pairs, and has nothing in hand, before and after
   none_goes : (CopiesPairs x.reserve.stands → ⊥) → in_hand_of_room known x.reserve.stands ≡ [] → room_is_promoting x.reserve.stands ≡ false → Goes
   none_goes copies nothing other =
-      let after = always_steps (HasNone known K V) old.memory new.memory (reserve_plan hash x.reserve) inner.0 (none_at known K V hash x.reserve x.reserve.stands refl copies)
-      (as_step old.memory changed.Nothing (reserve_plan hash x.reserve) new.memory told inner.0 inner.2) in
+      let after = always_steps (HasNone known K V) old.memory new.memory (reserve_plan to.0.hash x.reserve) inner.0 (none_at known K V to.0.hash x.reserve x.reserve.stands refl copies)
+      (as_step old.memory changed.Nothing (reserve_plan to.0.hash x.reserve) new.memory told inner.0 inner.2) in
       let none : in_hand known to.1 ≡ [] = ap (in_hand known) machine_is ∙ after.0 in (
         KeepsOwed
             (leaves same hash name m known s old new at_old shown map i (ForRoom x) under_way said leads own no_pair
-            (no_promotion same hash name m known s old new at_old shown map i (ForRoom x) under_way said leads (reserve_plan hash x.reserve) inner.0
-            (spares_room K V hash x.reserve x.reserve.stands other no_row) inner.2))
+            (no_promotion same hash name m known s old new at_old shown map i (ForRoom x) under_way said leads (reserve_plan to.0.hash x.reserve) inner.0
+            (spares_room K V to.0.hash x.reserve x.reserve.stands other no_row) inner.2))
             (none ∙ sym nothing),
         subst (NotesInHand known) (sym machine_is) after.1,
         λ ended. none,
@@ -212,7 +212,7 @@ module _ {K V : Type 0} (same : K → K → Bool) (hash : ℕ → K → ℕ) (na
 
   goes_at : (stands : Reserving) → x.reserve.stands ≡ stands → Goes
   goes_at (reserving.Copies copier) is =
-      let d = told_in old.memory new.memory told (reserves.copied x.reserve) (copier_plan hash copier) inner.0 (subst (λ (z : Reserving). Stepped z inner.0) is inner.2) in
+      let d = told_in old.memory new.memory told (reserves.copied x.reserve) (copier_plan to.0.hash copier) inner.0 (subst (λ (z : Reserving). Stepped z inner.0) is inner.2) in
       let came = room_then known x.reserve d.0 in
       let machine : to.1 ≡ kinds.Reserve (reserves.copied x.reserve d.0).0 = machine_is ∙ ap (λ (z : Reserve × Outcome (Node K V) Unit). kinds.Reserve z.0) d.1 in
       let says : said ≡ of_outcome (reserves.copied x.reserve d.0).1 =
@@ -221,8 +221,8 @@ module _ {K V : Type 0} (same : K → K → Bool) (hash : ℕ → K → ℕ) (na
       (ap (in_hand_of_room known) is) (subst (NotesOfRoom known) is notes) d.0 d.2
       (λ has. (ap (in_hand known) machine ∙ (came.0 has).0, λ n. subst (NotesInHand known) (sym machine) ((came.0 has).1 n)))
       (λ ended. ap (in_hand known) machine ∙ came.1 (ap has_ended (sym says) ∙ ended)) no_pair
-      (λ no. no_promotion same hash name m known s old new at_old shown map i (ForRoom x) under_way said leads (reserve_plan hash x.reserve) inner.0
-      (spares_room K V hash x.reserve x.reserve.stands (ap room_is_promoting is ∙ no) no_row) inner.2)
+      (λ no. no_promotion same hash name m known s old new at_old shown map i (ForRoom x) under_way said leads (reserve_plan to.0.hash x.reserve) inner.0
+      (spares_room K V to.0.hash x.reserve x.reserve.stands (ap room_is_promoting is ∙ no) no_row) inner.2)
   goes_at stands is = none_goes (λ copies. subst CopiesPairs is copies) (ap (in_hand_of_room known) is) (ap room_is_promoting is)
 
   pub room_goes_on : Goes

@@ -79,8 +79,8 @@ module _ {K V : Type 0} (same : K → K → Bool) (hash : ℕ → K → ℕ) (na
       )
 
   -- the step, as one of this kind's machine
-  stepped : (x : UnderWay K V K) → u ≡ x → StepsFrom same hash (machine_of x) old new to.1 said
-  stepped x is = subst (λ (y : UnderWay K V K). StepsFrom same hash (machine_of y) old new to.1 said) is to.3
+  stepped : (x : UnderWay K V K) → u ≡ x → StepsFrom same to.0.hash (machine_of x) old new to.1 said
+  stepped x is = subst (λ (y : UnderWay K V K). StepsFrom same to.0.hash (machine_of y) old new to.1 said) is to.3
 
   abbrev Keeps : UnderWay K V K → Machine K V K → Type 0
   Keeps x machine =
@@ -96,26 +96,26 @@ module _ {K V : Type 0} (same : K → K → Bool) (hash : ℕ → K → ℕ) (na
   key_goes : (x : CallOnKey K V K) → u ≡ OnKey x → IsRowOfCall x.call.stands → NotesInHand known (machine_of u) → Goal to.1
   key_goes x is row noted =
       let notes = subst (λ (y : UnderWay K V K). NotesInHand known (machine_of y)) is noted in
-      let inner = told_in old.memory new.memory told of_key (call_plan same same hash x.call) (to.1, said) (stepped (OnKey x) is) in
-      let keeps = always_steps (KeyKeeps known same same hash x.call x.call.stands) old.memory new.memory (call_plan same same hash x.call) inner.0
-      (key_keeps known same same hash x.call x.call.stands row notes)
-      (as_step old.memory changed.Nothing (call_plan same same hash x.call) new.memory told inner.0 inner.2) in
+      let inner = told_in old.memory new.memory told of_key (call_plan same same to.0.hash x.call) (to.1, said) (stepped (OnKey x) is) in
+      let keeps = always_steps (KeyKeeps known same same to.0.hash x.call x.call.stands) old.memory new.memory (call_plan same same to.0.hash x.call) inner.0
+      (key_keeps known same same to.0.hash x.call x.call.stands row notes)
+      (as_step old.memory changed.Nothing (call_plan same same to.0.hash x.call) new.memory told inner.0 inner.2) in
       of_kind (OnKey x) is (kinds.Key inner.0.0) (ap (λ (z : Machine K V K × Progress (Node K V)). z.0) inner.1) (keeps.0, keeps.1) (λ word place e. key_puts known x.call.stands notes word place e) (λ e. keeps.2 (sym (ap (λ (z : Machine K V K × Progress (Node K V)). has_ended z.1) inner.1) ∙ e))
 
   room_goes : (x : CallForRoom) → u ≡ ForRoom x → IsRowOfReserve x.reserve.stands → NotesInHand known (machine_of u) → Goal to.1
   room_goes x is row noted =
       let notes = subst (λ (y : UnderWay K V K). NotesInHand known (machine_of y)) is noted in
-      let inner = told_in old.memory new.memory told of_room (reserve_plan hash x.reserve) (to.1, said) (stepped (ForRoom x) is) in
-      let keeps = always_steps (RoomKeeps V known hash x.reserve x.reserve.stands) old.memory new.memory (reserve_plan hash x.reserve) inner.0
-      (room_keeps V known hash x.reserve x.reserve.stands row notes) (as_step old.memory changed.Nothing (reserve_plan hash x.reserve) new.memory told inner.0 inner.2) in
+      let inner = told_in old.memory new.memory told of_room (reserve_plan to.0.hash x.reserve) (to.1, said) (stepped (ForRoom x) is) in
+      let keeps = always_steps (RoomKeeps V known to.0.hash x.reserve x.reserve.stands) old.memory new.memory (reserve_plan to.0.hash x.reserve) inner.0
+      (room_keeps V known to.0.hash x.reserve x.reserve.stands row notes) (as_step old.memory changed.Nothing (reserve_plan to.0.hash x.reserve) new.memory told inner.0 inner.2) in
       of_kind (ForRoom x) is (kinds.Reserve inner.0.0) (ap (λ (z : Machine K V K × Progress (Node K V)). z.0) inner.1) (keeps.0, keeps.1) (λ word place e. absurd (room_puts x.reserve.stands word place e)) (λ e. keeps.2 (sym (ap (λ (z : Machine K V K × Progress (Node K V)). has_ended z.1) inner.1) ∙ e))
 
   sweep_goes : (x : CallOverAll) → u ≡ OverAll x → IsRowOfSweep x.sweep.stands → NotesInHand known (machine_of u) → Goal to.1
   sweep_goes x is row noted =
       let notes = subst (λ (y : UnderWay K V K). NotesInHand known (machine_of y)) is noted in
-      let inner = told_in old.memory new.memory told of_sweep (sweep_plan hash x.sweep) (to.1, said) (stepped (OverAll x) is) in
-      let keeps = always_steps (SweepKeeps V known hash x.sweep x.sweep.stands) old.memory new.memory (sweep_plan hash x.sweep) inner.0
-      (sweep_keeps V known hash x.sweep x.sweep.stands row notes) (as_step old.memory changed.Nothing (sweep_plan hash x.sweep) new.memory told inner.0 inner.2) in
+      let inner = told_in old.memory new.memory told of_sweep (sweep_plan to.0.hash x.sweep) (to.1, said) (stepped (OverAll x) is) in
+      let keeps = always_steps (SweepKeeps V known to.0.hash x.sweep x.sweep.stands) old.memory new.memory (sweep_plan to.0.hash x.sweep) inner.0
+      (sweep_keeps V known to.0.hash x.sweep x.sweep.stands row notes) (as_step old.memory changed.Nothing (sweep_plan to.0.hash x.sweep) new.memory told inner.0 inner.2) in
       of_kind (OverAll x) is (kinds.Sweep inner.0.0) (ap (λ (z : Machine K V K × Progress (Node K V)). z.0) inner.1) (keeps.0, keeps.1) (λ word place e. sweep_puts known x.sweep.stands notes word place e) (λ e. keeps.2 (sym (ap (λ (z : Machine K V K × Progress (Node K V)). has_ended z.1) inner.1) ∙ e))
 
   pub row_hands : NotesInHand known (machine_of u) → Goal to.1

@@ -203,10 +203,10 @@ module _ {K V : Type 0} (same : K → K → Bool) (hash : ℕ → K → ℕ) (na
   blocks = seen_by st.blocks (st.sights (slot_of i))
 
   abbrev Stepped : Sweeping → Sweep × Swept (Node K V) → Type 0
-  Stepped stands e = StepsTold K V (Sweep × Swept (Node K V)) old.memory changed.Nothing (sweeps.plan_at hash x.sweep stands) new.memory told e
+  Stepped stands e = StepsTold K V (Sweep × Swept (Node K V)) old.memory changed.Nothing (sweeps.plan_at to.0.hash x.sweep stands) new.memory told e
 
   inner : (e : Sweep × Swept (Node K V)) × (◌≡◌ {A = Machine K V K × Progress (Node K V)} (to.1, said) (of_sweep e)) × Stepped x.sweep.stands e
-  inner = told_in old.memory new.memory told of_sweep (sweep_plan hash x.sweep) (to.1, said) to.3
+  inner = told_in old.memory new.memory told of_sweep (sweep_plan to.0.hash x.sweep) (to.1, said) to.3
 
   machine_is : to.1 ≡ kinds.Sweep inner.0.0
   machine_is = ap (λ (z : Machine K V K × Progress (Node K V)). z.0) inner.1
@@ -244,7 +244,7 @@ module _ {K V : Type 0} (same : K → K → Bool) (hash : ℕ → K → ℕ) (na
   all_leave : ((n : ℕ) → TakesPair effects n → ⊥) → sweep_is_promoting x.sweep.stands ≡ false → AllLeave effects
   all_leave no_pair other =
       leaves same hash name m known s old new at_old shown map i (OverAll x) under_way said leads own no_pair
-      (no_promotion same hash name m known s old new at_old shown map i (OverAll x) under_way said leads (sweep_plan hash x.sweep) inner.0 (spares_sweep K V hash x.sweep x.sweep.stands other no_row) inner.2)
+      (no_promotion same hash name m known s old new at_old shown map i (OverAll x) under_way said leads (sweep_plan to.0.hash x.sweep) inner.0 (spares_sweep K V to.0.hash x.sweep x.sweep.stands other no_row) inner.2)
 
   -- once it has ended it is over, and has nothing in hand
   ended_none : to.4.next ≡ None → in_hand known to.1 ≡ []
@@ -276,10 +276,10 @@ module _ {K V : Type 0} (same : K → K → Bool) (hash : ℕ → K → ℕ) (na
   none_goes : in_hand_of_sweep known x.sweep.stands ≡ [] → AllLeave effects → NoneOfSweep known inner.0.0.stands → Goal to.1
   none_goes nothing all after = subst Goal (sym machine_is) (KeepsOwed all (after.0 ∙ sym nothing), after.1)
 
-  as_stepped : (stands : Sweeping) → x.sweep.stands ≡ stands → (P : Sweep × Swept (Node K V) → Type 0) → AlwaysOf P (sweeps.plan_at hash x.sweep stands) → P inner.0
+  as_stepped : (stands : Sweeping) → x.sweep.stands ≡ stands → (P : Sweep × Swept (Node K V) → Type 0) → AlwaysOf P (sweeps.plan_at to.0.hash x.sweep stands) → P inner.0
   as_stepped stands is P always =
-      always_steps P old.memory new.memory (sweeps.plan_at hash x.sweep stands) inner.0 always
-      (as_step old.memory changed.Nothing (sweeps.plan_at hash x.sweep stands) new.memory told inner.0 (subst (λ (z : Sweeping). Stepped z inner.0) is inner.2))
+      always_steps P old.memory new.memory (sweeps.plan_at to.0.hash x.sweep stands) inner.0 always
+      (as_step old.memory changed.Nothing (sweeps.plan_at to.0.hash x.sweep stands) new.memory told inner.0 (subst (λ (z : Sweeping). Stepped z inner.0) is inner.2))
 
   done_goes : (d : Dispose) → x.sweep.stands ≡ sweeping.Disposes d → pair_in_disposing d d.stands ≡ None → Goal to.1
   done_goes d is e =
@@ -291,7 +291,7 @@ module _ {K V : Type 0} (same : K → K → Bool) (hash : ℕ → K → ℕ) (na
     where
       is_idle : IsNoTry x.sweep.stands → counts_in_sweeping inner.0.0.stands ≡ false
       is_idle apart =
-          idle_step K V x.sweep hash apart old.memory new.memory inner.0 (as_step old.memory changed.Nothing (sweep_plan hash x.sweep) new.memory told inner.0 inner.2)
+          idle_step K V x.sweep to.0.hash apart old.memory new.memory inner.0 (as_step old.memory changed.Nothing (sweep_plan to.0.hash x.sweep) new.memory told inner.0 inner.2)
 
   -- one that has nothing in hand, and copies no pairs: it has none then, or has removed a pair, and has that in hand
   early_goes : counts_in_sweeping x.sweep.stands ≡ false → sweep_is_promoting x.sweep.stands ≡ false → NoneOfSweep known x.sweep.stands
@@ -313,7 +313,7 @@ module _ {K V : Type 0} (same : K → K → Bool) (hash : ℕ → K → ℕ) (na
       by : CountGoes ⊥ (shard_for i st.setting) effects (counts_in_sweeping x.sweep.stands) (is_to_count to.1) → Goal to.1
       by (KeepsCount all same_count) =
           let idle : counts_in_sweeping inner.0.0.stands ≡ false = sym (ap is_to_count machine_is) ∙ same_count ∙ counts in
-          none_goes nothing.0 (all_leave (apart_takes all) other) (as_stepped x.sweep.stands refl (NoneThen known K V) (none_at known K V hash x.sweep x.sweep.stands refl counts nothing copies disposes) idle)
+          none_goes nothing.0 (all_leave (apart_takes all) other) (as_stepped x.sweep.stands refl (NoneThen known K V) (none_at known K V to.0.hash x.sweep x.sweep.stands refl counts nothing copies disposes) idle)
       by (AddsOne may n sp are is) = absurd may
       by (GivesWay may p n sp are is) = absurd may
       by (TakesOne p are is) = takes p are
@@ -321,7 +321,7 @@ module _ {K V : Type 0} (same : K → K → Bool) (hash : ℕ → K → ℕ) (na
 
   copies_goes : (copier : Copier) → x.sweep.stands ≡ sweeping.Copies copier → Goes
   copies_goes copier is =
-      let d = told_in old.memory new.memory told (sweeps.copied x.sweep) (copier_plan hash copier) inner.0 (subst (λ (z : Sweeping). Stepped z inner.0) is inner.2) in
+      let d = told_in old.memory new.memory told (sweeps.copied x.sweep) (copier_plan to.0.hash copier) inner.0 (subst (λ (z : Sweeping). Stepped z inner.0) is inner.2) in
       let came = sweep_then known x.sweep d.0 in
       let machine : to.1 ≡ kinds.Sweep (sweeps.copied x.sweep d.0).0 = machine_is ∙ ap (λ (z : Sweep × Swept (Node K V)). kinds.Sweep z.0) d.1 in
       let says : said ≡ of_swept (sweeps.copied x.sweep d.0).1 =
@@ -330,8 +330,8 @@ module _ {K V : Type 0} (same : K → K → Bool) (hash : ℕ → K → ℕ) (na
       (ap (in_hand_of_sweep known) is) (subst (NotesOfSweep known) is notes) d.0 d.2
       (λ has. (ap (in_hand known) machine ∙ (came.0 has).0, λ n. subst (NotesInHand known) (sym machine) ((came.0 has).1 n)))
       (λ ended. ap (in_hand known) machine ∙ came.1 (ap has_ended (sym says) ∙ ended)) (none_taken (subst IsNoTry (sym is) tt))
-      (λ no. no_promotion same hash name m known s old new at_old shown map i (OverAll x) under_way said leads (sweep_plan hash x.sweep) inner.0
-      (spares_sweep K V hash x.sweep x.sweep.stands (ap sweep_is_promoting is ∙ no) no_row) inner.2)
+      (λ no. no_promotion same hash name m known s old new at_old shown map i (OverAll x) under_way said leads (sweep_plan to.0.hash x.sweep) inner.0
+      (spares_sweep K V to.0.hash x.sweep x.sweep.stands (ap sweep_is_promoting is ∙ no) no_row) inner.2)
 
   of_goal : Goal to.1 → Goes
   of_goal goal = (goal.0, goal.1, ended_none)

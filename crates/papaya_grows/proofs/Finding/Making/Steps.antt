@@ -73,9 +73,9 @@ module _ {K V : Type 0} (same : K → K → Bool) (hash : ℕ → K → ℕ) (na
 
   came : MachineMakes Such to.1
   came =
-      always_steps (Ends Such K V K) old.memory new.memory (machine_plan same same hash (machine_of u)) (to.1, said)
-      (machine_makes Such K V K (further_goes (lengths_of map m) K V) same same hash (machine_of u) (further map i u here) (begins_behind Such same hash s old at map i st to.2 tried u here))
-      (as_step old.memory changed.Nothing (machine_plan same same hash (machine_of u)) new.memory told (to.1, said) to.3)
+      always_steps (Ends Such K V K) old.memory new.memory (machine_plan same same to.0.hash (machine_of u)) (to.1, said)
+      (machine_makes Such K V K (further_goes (lengths_of map m) K V) same same to.0.hash (machine_of u) (further map i u here) (begins_behind Such same hash s old at map i st to.2 tried u here))
+      (as_step old.memory changed.Nothing (machine_plan same same to.0.hash (machine_of u)) new.memory told (to.1, said) to.3)
 
   keeps : KeepsLengths m v
   keeps = effects_keep_lengths (Some (name i)) (Some map) effects m
