@@ -53,7 +53,7 @@ module _ {K V : Type 0} (same : K → K → Bool) (hash : ℕ → K → ℕ) (na
 
   pub record StaysElsewhere : Type 0 where
     -- It stays so where a row begins on a slot, and after a step of it: a table that it reclaims was retired.
-    pub rows_begin : From (λ m known s old new. (called : SlotCall) (i : ℕ) 
+    pub rows_begin : From (λ m known s old new. (called : SlotCall) (i : ℕ)
         → (leads : RowBegins same hash called i s old new)
         → P m known (scene_then same hash (Begin i (request_of (slot_of i) called)) s old new leads.2))
     pub rows : From (λ m known s old new. (i : ℕ) (told : RowTold (Node K V)) (leads : RowLeads same hash i told s old new)

@@ -173,10 +173,9 @@ module _ {K V : Type 0} (same : K → K → Bool) (hash : ℕ → K → ℕ) (na
     key_steps : (p2 : KeyCall K V K) (end : Called (Node K V)) → (to (OnKey x) here).1 ≡ kinds.Key p2 → said ≡ of_called end
         → Steps Took value_at s.world.memory (call_plan same same (to (OnKey x) here).0.hash x.call) new.memory (p2, end)
     key_steps p2 end machine_is told_is =
-        subst (λ (h : K → ℕ). Steps Took value_at s.world.memory (call_plan same same h x.call) new.memory (p2, end)) (sym (at_old.hashes map (to (OnKey x) here).0 (to (OnKey x) here).2))
-        (subst (λ (k : Mem (Node K V)). Steps Took value_at k (call_plan same same hash x.call) new.memory (p2, end)) (sym at_old.memory)
-        (as_step old.memory changed.Nothing (call_plan same same hash x.call) new.memory new.changed (p2, end)
-        (key_told same hash name m known s old new at_old shown map i x here said leads p2 end machine_is told_is)))
+        subst (λ (k : Mem (Node K V)). Steps Took value_at k (call_plan same same (to (OnKey x) here).0.hash x.call) new.memory (p2, end)) (sym at_old.memory)
+        (as_step old.memory changed.Nothing (call_plan same same (to (OnKey x) here).0.hash x.call) new.memory new.changed (p2, end)
+        (key_told same hash name m known s old new at_old shown map i x here said leads p2 end machine_is told_is))
 
     key_ends : DidSo same hash name m known s old new at_old shown map i (OnKey x) here said leads (OnKey x) → ShowsEnds (led (OnKey x) here)
     key_ends (p2, end, machine_is, told_is, inl (step, went)) =
@@ -198,15 +197,14 @@ module _ {K V : Type 0} (same : K → K → Bool) (hash : ℕ → K → ℕ) (na
     room_steps : (p2 : Reserve) (end : Outcome (Node K V) Unit) → (to (ForRoom x) here).1 ≡ kinds.Reserve p2 → said ≡ of_outcome end
         → Steps Took value_at s.world.memory (reserve_plan (to (ForRoom x) here).0.hash x.reserve) new.memory (p2, end)
     room_steps p2 end machine_is told_is =
-        subst (λ (h : K → ℕ). Steps Took value_at s.world.memory (reserve_plan h x.reserve) new.memory (p2, end)) (sym (at_old.hashes map (to (ForRoom x) here).0 (to (ForRoom x) here).2))
-        (subst (λ (k : Mem (Node K V)). Steps Took value_at k (reserve_plan hash x.reserve) new.memory (p2, end)) (sym at_old.memory)
-        (as_step old.memory changed.Nothing (reserve_plan hash x.reserve) new.memory new.changed (p2, end) (by inner.0 inner.1 inner.2)))
+        subst (λ (k : Mem (Node K V)). Steps Took value_at k (reserve_plan (to (ForRoom x) here).0.hash x.reserve) new.memory (p2, end)) (sym at_old.memory)
+        (as_step old.memory changed.Nothing (reserve_plan (to (ForRoom x) here).0.hash x.reserve) new.memory new.changed (p2, end) (by inner.0 inner.1 inner.2))
       where
         Stepped : Reserve × Outcome (Node K V) Unit → Type 0
-        Stepped e = StepsTold K V (Reserve × Outcome (Node K V) Unit) old.memory changed.Nothing (reserve_plan hash x.reserve) new.memory new.changed e
+        Stepped e = StepsTold K V (Reserve × Outcome (Node K V) Unit) old.memory changed.Nothing (reserve_plan (to (ForRoom x) here).0.hash x.reserve) new.memory new.changed e
 
         inner : (r : Reserve × Outcome (Node K V) Unit) × (◌≡◌ {A = Machine K V K × Progress (Node K V)} ((to (ForRoom x) here).1, said) (of_room r)) × Stepped r
-        inner = told_in old.memory new.memory new.changed of_room (reserve_plan hash x.reserve) ((to (ForRoom x) here).1, said) (to (ForRoom x) here).3
+        inner = told_in old.memory new.memory new.changed of_room (reserve_plan (to (ForRoom x) here).0.hash x.reserve) ((to (ForRoom x) here).1, said) (to (ForRoom x) here).3
 
         by : (r : Reserve × Outcome (Node K V) Unit) → ◌≡◌ {A = Machine K V K × Progress (Node K V)} ((to (ForRoom x) here).1, said) (of_room r) → Stepped r → Stepped (p2, end)
         by (q, said_so) is told =
@@ -235,10 +233,9 @@ module _ {K V : Type 0} (same : K → K → Bool) (hash : ℕ → K → ℕ) (na
     sweep_steps : (p2 : Sweep) (end : Swept (Node K V)) → (to (OverAll x) here).1 ≡ kinds.Sweep p2 → said ≡ of_swept end
         → Steps Took value_at s.world.memory (sweep_plan (to (OverAll x) here).0.hash x.sweep) new.memory (p2, end)
     sweep_steps p2 end machine_is told_is =
-        subst (λ (h : K → ℕ). Steps Took value_at s.world.memory (sweep_plan h x.sweep) new.memory (p2, end)) (sym (at_old.hashes map (to (OverAll x) here).0 (to (OverAll x) here).2))
-        (subst (λ (k : Mem (Node K V)). Steps Took value_at k (sweep_plan hash x.sweep) new.memory (p2, end)) (sym at_old.memory)
-        (as_step old.memory changed.Nothing (sweep_plan hash x.sweep) new.memory new.changed (p2, end)
-        (sweep_told same hash name m known s old new at_old shown map i (OverAll x) here said leads x refl p2 end machine_is told_is)))
+        subst (λ (k : Mem (Node K V)). Steps Took value_at k (sweep_plan (to (OverAll x) here).0.hash x.sweep) new.memory (p2, end)) (sym at_old.memory)
+        (as_step old.memory changed.Nothing (sweep_plan (to (OverAll x) here).0.hash x.sweep) new.memory new.changed (p2, end)
+        (sweep_told same hash name m known s old new at_old shown map i (OverAll x) here said leads x refl p2 end machine_is told_is))
 
     sweep_ends : DidSo same hash name m known s old new at_old shown map i (OverAll x) here said leads (OverAll x) → ShowsEnds (led (OverAll x) here)
     sweep_ends (p2, end, machine_is, told_is, inl (step, went)) =

@@ -76,7 +76,7 @@ module _ (K V : Type 0) (same : K → K → Bool) (hash : ℕ → K → ℕ) whe
   -- Where a row begins on a slot, they do so, too, if it ends the section of none of them.
   abbrev pub RowsBeginShelter : Type 0
   RowsBeginShelter =
-      (s : Scene K V) (old new : Held K V) (called : SlotCall) (i : ℕ) 
+      (s : Scene K V) (old new : Held K V) (called : SlotCall) (i : ℕ)
       → (leads : RowBegins same hash called i s old new) → (there : Present) → SparesGuards called (slot_of i) there → GuardsAreInside there s.world
       → (known : Known) (sheltered : List Sheltered) → AreSheltered there s.world known sheltered
       → (let then = leads.2.0 in GuardsAreInside there then × AreSheltered there then known sheltered)

@@ -166,7 +166,7 @@ module _ (K V : Type 0) (same : K → K → Bool) (hash : ℕ → K → ℕ) whe
   -- where a row begins on a slot that has none of those guards, if it ends its section,
   abbrev pub RowsBeginProtect : Type 0
   RowsBeginProtect =
-      (m : Moment K V) (known : Known) (s : Scene K V) (old new : Held K V) (called : SlotCall) (i : ℕ) 
+      (m : Moment K V) (known : Known) (s : Scene K V) (old new : Held K V) (called : SlotCall) (i : ℕ)
       → (leads : RowBegins same hash called i s old new) → (event : Event K V) → SparesGuards called (slot_of i) (there_in event m.there)
       → (done : List Effect) → InMidst event done m known s.world → InMidst event done m known leads.2.0
 

@@ -101,11 +101,10 @@ module _ {K V : Type 0} (same : K → K → Bool) (hash : ℕ → K → ℕ) (na
 
     pub took : (d : Sweep × Swept (Node K V)) × Steps Took value_at s.world.memory (sweep_plan went.0.hash o.sweep) new.memory d × ((went.1, said) ≡ swept d)
     took =
-        let d = steps_back swept old.memory new.memory (sweep_plan hash o.sweep) (went.1, said)
-        (as_step old.memory Nothing (machine_plan same same hash (kinds.Sweep o.sweep)) new.memory new.changed (went.1, said) steps) in (
+        let d = steps_back swept old.memory new.memory (sweep_plan went.0.hash o.sweep) (went.1, said)
+        (as_step old.memory Nothing (machine_plan same same went.0.hash (kinds.Sweep o.sweep)) new.memory new.changed (went.1, said) steps) in (
           d.0,
-          subst (λ (x : Mem (Node K V)). Steps Took value_at x (sweep_plan went.0.hash o.sweep) new.memory d.0) (sym at.memory)
-              (subst (λ (x : K → ℕ). Steps Took value_at old.memory (sweep_plan x o.sweep) new.memory d.0) (sym (at.hashes of went.0 went.2)) d.1),
+          subst (λ (x : Mem (Node K V)). Steps Took value_at x (sweep_plan went.0.hash o.sweep) new.memory d.0) (sym at.memory) d.1,
           d.2,
         )
 

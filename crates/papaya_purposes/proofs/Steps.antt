@@ -237,7 +237,7 @@ module _ {K V : Type 0} (same : K → K → Bool) (hash : ℕ → K → ℕ) (na
           goes_over : (IsBefore o.sweep.stands → ⊥) → IsBefore x.sweep.stands → ⊥
           goes_over over =
               subst (λ (z : Machine K V K). GoesOver (z, said)) is
-              (walk_onward same hash old new o.sweep went.1 said steps (sym purpose ∙ walks)
+              (walk_onward same went.0.hash old new o.sweep went.1 said steps (sym purpose ∙ walks)
               (walk_stands V same went.0.hash went.0.setting slot_of s.world went.0.chart _ i o ((at.together.makings.standing.each of went.0 went.2).stand i (OverAll o) o_is) (sym purpose ∙ walks) over) over)
 
           by : IsBefore o.sweep.stands ⊎ (IsBefore o.sweep.stands → ⊥) → Comes o x.done (shown.number of) c → x.done ≡ []
@@ -342,10 +342,10 @@ module _ {K V : Type 0} (same : K → K → Bool) (hash : ℕ → K → ℕ) (na
   own_for its (OnKey z) is steps (p2, end, machine_is, told_is, inr (row, stayed)) x e = key_is_for its z _ x (key_goes_on _ end x (sym stayed.2 ∙ e)) is
   own_for its (ForRoom r) is steps (p2, end, machine_is, told_is, inl (step, moved)) x e =
       subst (λ (y : UnderWay K V K). IsFor y its) (sym (room_goes_on _ end x (sym moved.2 ∙ e)))
-      (room_for its r (record { began = r.began; reserve = p2 }) (subst (λ (z : Machine K V K). IsForRoom r.reserve.additional (z, said)) machine_is (room_kept same hash old new r.reserve went.1 said steps)) is)
+      (room_for its r (record { began = r.began; reserve = p2 }) (subst (λ (z : Machine K V K). IsForRoom r.reserve.additional (z, said)) machine_is (room_kept same went.0.hash old new r.reserve went.1 said steps)) is)
   own_for its (ForRoom r) is steps (p2, end, machine_is, told_is, inr (row, stayed)) x e =
       subst (λ (y : UnderWay K V K). IsFor y its) (sym (room_goes_on _ end x (sym stayed.2 ∙ e)))
-      (room_for its r (record { began = r.began; reserve = p2 }) (subst (λ (z : Machine K V K). IsForRoom r.reserve.additional (z, said)) machine_is (room_kept same hash old new r.reserve went.1 said steps)) is)
+      (room_for its r (record { began = r.began; reserve = p2 }) (subst (λ (z : Machine K V K). IsForRoom r.reserve.additional (z, said)) machine_is (room_kept same went.0.hash old new r.reserve went.1 said steps)) is)
   own_for its (Counting sum) is steps (sum2, end, machine_is, told_is, still, stayed) x e =
       subst (λ (y : UnderWay K V K). IsFor y its) (sym (counting_goes_on sum2 end x (sym stayed.2 ∙ e))) (counting_for its sum sum2 is)
   own_for its (OverAll o) is steps (p2, end, machine_is, told_is, inl (step, moved)) x e =

@@ -1,23 +1,24 @@
 -- That all is being reclaimed in the memory of an executor, and what a step of it leads to.
 use Rattle.std.specs.Prelude.{◌≡◌, ◌<◌, ◌^◌, ℕ, Bool, true, false, List, length, Some, None, option_map, slice_index_or, IsSome}
-use Rattle.papaya_executor.specs.Given.SeizeWords.declared.at.At.TheVariants.{Slot}
-use Rattle.papaya_executor.specs.Given.SeizeWords.Mem.{word_at}
+use Rattle.papaya_scenes.specs.Given.SeizeWords.declared.at.At.TheVariants.{Slot}
+use Rattle.papaya_scenes.specs.Given.SeizeWords.Mem.{word_at}
 use Rattle.seize.specs.declared.rows.reclaim_all.ReclaimAll.{ReclaimAll}
 use Rattle.seize.specs.declared.rows.settle.Settled.{Settled}
 use Rattle.seize.specs.declared.rows.settle.Settled.TheVariants as settled
 use Rattle.seize.specs.declared.states.TheConstants.{HEAD}
 use Rattle.seize.specs.ReclaimAll.{reclaim_all_plan}
-use Rattle.papaya_executor.specs.Given.Tables.Nodes.{deferred_word, was_left}
-use Rattle.papaya_executor.specs.Given.Tables.declared.node.Node.{Node}
-use Rattle.papaya_executor.specs.Given.Teller.Tells.{StepsTold}
-use Rattle.papaya_executor.specs.Given.Teller.declared.changed.Changed.TheVariants.{Nothing}
-use Rattle.papaya_executor.specs.Given.Finishes.Maps.{Standing}
+use Rattle.papaya_scenes.specs.Given.Tables.Nodes.{deferred_word, was_left}
+use Rattle.papaya_scenes.specs.Given.Tables.declared.node.Node.{Node}
+use Rattle.papaya_scenes.specs.Given.Teller.Tells.{StepsTold}
+use Rattle.papaya_scenes.specs.Given.Teller.declared.changed.Changed.TheVariants.{Nothing}
+use Rattle.papaya_scenes.specs.Given.Finishes.Maps.{Standing}
 use Rattle.papaya_reclaims.specs.Reclaims.{LeftBehind, ReclaimingTogether, StepsOfReclaiming, AllIsReclaimed}
 use Rattle.papaya_reclaims.specs.Slots.{IsQuiet}
 use Rattle.papaya_executor.specs.declared.executor.Executor.{Executor}
-use Rattle.papaya_executor.specs.declared.worker.TheConstants.{SLOTS}
-use Rattle.papaya_executor.specs.declared.row.SlotUse.TheVariants.{Vacant}
-use Rattle.papaya_executor.specs.IsAt.{Scene, IsAt, slot_of, work_of, use_at}
+use Rattle.papaya_scenes.specs.declared.callers.TheConstants.{SLOTS}
+use Rattle.papaya_scenes.specs.declared.row.SlotUse.TheVariants.{Vacant}
+use Rattle.papaya_executor.specs.IsThere.{IsThere, use_at, work_of}
+use Rattle.papaya_scenes.specs.Scene.{Scene, slot_of}
 
 module _ {K V S : Type 0} where
   -- nobody has anything under way
@@ -49,7 +50,7 @@ module _ {K V S : Type 0} (same : K → K → Bool) (hash : K → ℕ) where
   module _ (s : Scene K V) (i : ℕ) (lists : ℕ → List ℕ) (old new : Executor K V S) where
     -- it goes on; or it is over, all is reclaimed, and the executor is there
     abbrev pub ReclaimingComesTo : Scene K V → (ℕ → List ℕ) → ReclaimAll → Settled (Node K V) → Type 0
-    ReclaimingComesTo s2 lists2 all settled.Done = AllIsReclaimed old.roots s2.world s2.maps × IsAt same hash new s2
+    ReclaimingComesTo s2 lists2 all settled.Done = AllIsReclaimed old.roots s2.world s2.maps × IsThere same hash new s2
     ReclaimingComesTo s2 lists2 all _ = IsReclaiming new s2 i lists2 all
 
     -- The step: it is told, with what its one operation has changed.

@@ -170,8 +170,8 @@ module _ {K V : Type 0} (same : K → K → Bool) (hash : ℕ → K → ℕ) (na
   module _ (making : NewTable) (at_first : r.reserve.stands ≡ reserving.Makes making) where
     few : Asks new.changed → is_too_many (0 + r.reserve.additional) ≡ false
     few asks =
-        let it = told_in old.memory new.memory new.changed of_room (reserve_plan hash r.reserve) ((leads map (ForRoom r) here).1, said) (leads map (ForRoom r) here).3 in
-        let makes = subst (λ (q : Reserving). StepsTold K V (Reserve × Outcome (Node K V) Unit) old.memory Nothing (plan_at hash r.reserve q) new.memory new.changed it.0) at_first it.2 in
+        let it = told_in old.memory new.memory new.changed of_room (reserve_plan (leads map (ForRoom r) here).0.hash r.reserve) ((leads map (ForRoom r) here).1, said) (leads map (ForRoom r) here).3 in
+        let makes = subst (λ (q : Reserving). StepsTold K V (Reserve × Outcome (Node K V) Unit) old.memory Nothing (plan_at (leads map (ForRoom r) here).0.hash r.reserve q) new.memory new.changed it.0) at_first it.2 in
         let step = told_in old.memory new.memory new.changed (made r.reserve) (new_table_plan making) it.0 makes in
         few_first r.reserve making making.stands old.memory new.memory new.changed step.0 (subst (NeedsAt map moments r.reserve) at_first has.needs) step.2 asks
 

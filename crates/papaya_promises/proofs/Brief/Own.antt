@@ -67,18 +67,18 @@ module _ {K V : Type 0} (m m2 : Mem (Node K V)) (told : Changed) where
 
 module _ (K V : Type 0) (same : K → K → Bool) (hash : ℕ → K → ℕ) where
   -- what is told of its step
-  told_none : (old new : Held K V) (k : CallOnKey K V K) (l : Lookup) → k.call.stands ≡ at.Looks l → (end : Machine K V K × Progress (Node K V))
-      → StepsTold K V (Machine K V K × Progress (Node K V)) old.memory changed.Nothing (machine_plan same same hash (kinds.Key k.call)) new.memory new.changed end
+  told_none : (its_hash : K → ℕ) (old new : Held K V) (k : CallOnKey K V K) (l : Lookup) → k.call.stands ≡ at.Looks l → (end : Machine K V K × Progress (Node K V))
+      → StepsTold K V (Machine K V K × Progress (Node K V)) old.memory changed.Nothing (machine_plan same same its_hash (kinds.Key k.call)) new.memory new.changed end
       → new.changed ≡ changed.Nothing
-  told_none old new k l e end s =
-      let it = told_in old.memory new.memory new.changed called (call_plan same same hash k.call) end s in
+  told_none its_hash old new k l e end s =
+      let it = told_in old.memory new.memory new.changed called (call_plan same same its_hash k.call) end s in
       asked_none old.memory new.memory new.changed same k.call l k.call.asked it.0
-      (subst (λ (x : Calling). StepsTold K V (KeyCall K V K × Called (Node K V)) old.memory changed.Nothing (plan_at same same hash k.call x) new.memory new.changed it.0) e it.2)
+      (subst (λ (x : Calling). StepsTold K V (KeyCall K V K × Called (Node K V)) old.memory changed.Nothing (plan_at same same its_hash k.call x) new.memory new.changed it.0) e it.2)
 
   pub lookups_do_nothing : LookupsDoNothing K V same hash
   lookups_do_nothing known s old new i said leads map (OnKey k) here incremental c moments steps h =
       let to = leads map (OnKey k) here in
-      ap (effects_of (acts.Call i map) known) (told_none old new k h.0 h.1 (to.1, said) to.3)
+      ap (effects_of (acts.Call i map) known) (told_none to.0.hash old new k h.0 h.1 (to.1, said) to.3)
   lookups_do_nothing known s old new i said leads map (ForRoom r) here incremental c moments steps h = absurd h
   lookups_do_nothing known s old new i said leads map (Counting sum) here incremental c moments steps h = absurd h
   lookups_do_nothing known s old new i said leads map (OverAll o) here incremental c moments steps h = absurd h
@@ -129,9 +129,9 @@ module _ {K V : Type 0} (same : K → K → Bool) (hash : ℕ → K → ℕ) (s 
 
   looked_so : (q : K) → k.call.asked ≡ Some q → LookedOn q
   looked_so q asked =
-      let st = as_step old.memory changed.Nothing (machine_plan same same hash (kinds.Key k.call)) new.memory new.changed ((leads map (OnKey k) here).1, said) (leads map (OnKey k) here).3 in
-      let it = steps_back called old.memory new.memory (call_plan same same hash k.call) ((leads map (OnKey k) here).1, said) st in
-      let at_look = subst (λ (x : Calling). Steps Took value_at old.memory (plan_at same same hash k.call x) new.memory it.0) is it.1 in
+      let st = as_step old.memory changed.Nothing (machine_plan same same its_hash (kinds.Key k.call)) new.memory new.changed ((leads map (OnKey k) here).1, said) (leads map (OnKey k) here).3 in
+      let it = steps_back called old.memory new.memory (call_plan same same its_hash k.call) ((leads map (OnKey k) here).1, said) st in
+      let at_look = subst (λ (x : Calling). Steps Took value_at old.memory (plan_at same same its_hash k.call x) new.memory it.0) is it.1 in
       let of_key = subst (λ (o : Option K). Steps Took value_at old.memory (looks_for same k.call l o) new.memory it.0) asked at_look in
       let by = steps_back (looked k.call) old.memory new.memory (lookup_plan (same q) l) it.0 of_key in
       record {
