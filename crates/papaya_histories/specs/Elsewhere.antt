@@ -45,7 +45,7 @@ use Rattle.papaya_moments.specs.Given.Scenes.Rows.{request_of}
 use Rattle.papaya_moments.specs.Given.Scenes.Scene.{IsOnSlot, Scene, slot_of}
 
 module _ {K V : Type 0} (same : K → K → Bool) (hash : ℕ → K → ℕ) (name : ℕ → List ℕ) (P : Moment K V → Known → Scene K V → Type 0) where
-  -- from a moment that shows all of a scene in which an executor is, and at which it is so
+  -- from a moment that shows all of a scene, and at which it is so
   abbrev pub From : (Moment K V → Known → Scene K V → Held K V → Held K V → Type 0) → Type 0
   From Then =
       (m : Moment K V) (known : Known) (s : Scene K V) (old new : Held K V) → IsAt same hash old s → ShowsWhole same name m known s → P m known s

@@ -17,7 +17,7 @@ ghost use Rattle.papaya_histories.specs.Words.{QuestionsHaveWords, StepsHaveWord
 ghost use Rattle.papaya_histories.specs.InEvent.{EventsBegin, EventsBeginCalls, EventsGoOn, EventsKeepAll, EventsHaveWords, EventsEnd, EventsAskThere, EventsAreOver, AllStaysShown};
 ghost use Rattle.papaya_histories.specs.Kept.{HistoriesBegin, CallsKeepHistories, CallsBeginHistories, CallsTakeHistories, CallsComeToHistories, EventsKeepHistories, FirstStepsChangeFirst};
 
-/// At each moment of a run that shows the executor, the history of a map since a call on it began is within the moments of the run since then: what the class of a
+/// At each moment of a run that shows a scene, the history of a map since a call on it began is within the moments of the run since then: what the class of a
 /// key had at a moment of the map, the finite map has at one of these. So it is before all events; after each step of a call, whoever's, if no class changes twice
 /// within one event, as none does by the first step of one; where a call begins, takes a reply and comes to an outcome; where an event is over; where a row
 /// begins on a slot, and after each step of it; and elsewhere: where the making or the end of a map begins, after each step of it, where its map comes or is there no

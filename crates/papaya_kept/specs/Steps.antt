@@ -78,7 +78,7 @@ module _ (K V : Type 0) where
       → (i : ℕ) (b : Beginning K) → s.makers i ≡ None → ShowsKept name m known (record s { makers = with_at s.makers i (Some b) })
 
 module _ (K V : Type 0) (same : K → K → Bool) (hash : ℕ → K → ℕ) where
-  -- So it is where a call begins, by a name that no call under way has, and where its caller has no row under way: the executor is there before it and after it, and the
+  -- So it is where a call begins, by a name that no call under way has, and where its caller has no row under way: what is held has such a scene before it and after it, and the
   -- moment shows both,
   abbrev pub CallsBeginKept : Type 0
   CallsBeginKept =

@@ -2,7 +2,7 @@
 ghost use Rattle.std.specs.Prelude.{ℕ, Bool};
 ghost use Rattle.papaya_kept.specs.Steps.{BeginsKept, StaysKept, RenamedKept, CallsComeToKept, MakingsBeginKept, CallsBeginKept, CallsKeepKept, CallsTakeKept, WalksGoOnKept, WalksStopKept, RowsBeginKept, RowsKeepKept, RowsFindKept, MakingsKeepKept, EndingsBeginKept, EndingsKeepKept, EndingsFindKept};
 
-/// At each moment of a run that shows the executor, what somebody has is blank, each call has made what the moment says and owes what it has in hand, what waits behind a
+/// At each moment of a run that shows a scene, what somebody has is blank, each call has made what the moment says and owes what it has in hand, what waits behind a
 /// table does so in the memory, and behind no other table, what can be reached through a table alone waits behind it, or is being put there, the tables that the collector has are retired, or about to be, and those that are left over are of maps whose ends
 /// are under way; each pair that the collector has was handed over, or waits, or is in hand still. On a map that grows in chunks, each copying that is not over has a place that is not counted, or a call that is to end it.
 /// So it is before all events; where a call begins, takes a reply, is a walk

@@ -37,7 +37,7 @@ module _ {K V : Type 0} (batch_size roots : ℕ) where
     pub back : NoneBack done
     pub follows : FollowsSets batch_size roots (things_then things done) sets known w
 
--- A moment that shows the executor notes each thing once.
+-- A moment that shows a scene notes each thing once.
 abbrev pub MomentsNoteOnce : Type 0 → Type 0 → Type 0
 MomentsNoteOnce K V =
     (same : K → K → Bool) (name : ℕ → List ℕ) (m : Moment K V) (known : Known) (s : Scene K V) → ShowsWhole same name m known s → EachIsOnce known

@@ -85,7 +85,7 @@ pub fn maps_follow_the_model<K, V>()
 {}
 
 /// Events that make a map, or end one, whole: a making hands nothing over, step by step, and once its event is over it is by the model; and so it is of the end of a map,
-/// if no table is left over. The sets are those of the model after it. A moment that shows the executor notes each thing once.
+/// if no table is left over. The sets are those of the model after it. A moment that shows a scene notes each thing once.
 pub fn map_events_follow_the_model<K, V>()
     ensures begins { MakingEventsBegin K V }
     ensures goes_on { (same : K → K → Bool) (hash : ℕ → K → ℕ) → MakingEventsGoOn K V same hash }

@@ -17,6 +17,8 @@ use Rattle.papaya_spots.specs.Given.Scenes.declared.row.RowTold.{RowTold}
 use Rattle.papaya_spots.specs.Given.Scenes.declared.row.SlotRow.{SlotRow}
 use Rattle.papaya_spots.specs.Given.Others.Endings.{without_map}
 use Rattle.papaya_spots.specs.Given.Others.Makings.{IsNew}
+use Rattle.papaya_spots.specs.Given.Finishes.Makings.{Beginning}
+use Rattle.papaya_spots.specs.Given.Finishes.Maps.{Standing}
 use Rattle.papaya_spots.specs.Given.Scenes.Held.{Held}
 use Rattle.papaya_spots.specs.Given.Scenes.OnSlots.{RowLeads}
 use Rattle.papaya_spots.specs.Given.Scenes.Scene.{IsOnSlot, Scene}
@@ -31,6 +33,11 @@ module _ {K V : Type 0} where
     pub found : AreFound m
     pub below : All (λ there. there.number < m.made) m.maps
     pub tables : All (λ t. t.table.map < m.made) m.tables
+
+-- The maps of a scene that stand or are made have numbers below this one.
+pub record MapsAreBelow {K V : Type 0} (count : ℕ) (s : Scene K V) : Type 0 where
+  pub standing : (map : ℕ) (st : Standing K) → s.maps map ≡ Some st → map < count
+  pub made : (i : ℕ) (b : Beginning K) → s.makers i ≡ Some b → b.map < count
 
 -- The promises: so it is before all events,
 abbrev pub NumbersBegin : Type 0 → Type 0 → Type 0

@@ -96,7 +96,7 @@ module _ (K V : Type 0) (same : K → K → Bool) (hash : ℕ → K → ℕ) whe
       × (to.4.next ≡ None → (c : CallThere K V) → call_of (name i) v ≡ Some c → c.table ≡ None))
 
 module _ (K V : Type 0) (same : K → K → Bool) (hash : ℕ → K → ℕ) where
-  -- So it is where a call begins by a name that no call under way has: the executor is there before it and after it, and the moment shows both,
+  -- So it is where a call begins by a name that no call under way has: what is held has such a scene before it and after it, and the moment shows both,
   abbrev pub CallsBeginTables : Type 0
   CallsBeginTables =
       (name : ℕ → List ℕ) (m : Moment K V) (known : Known) (s : Scene K V) (old new : Held K V) → IsAt same hash old s → ShowsWhole same name m known s → ShowsTables name m known s

@@ -10,7 +10,7 @@ ghost use Rattle.papaya_owes.specs.Clear.{WalksAreClear};
 ghost use Rattle.papaya_owes.specs.Events.{StepsFindMade, SeveralFindMade, EventsLeaveNothingMade};
 ghost use Rattle.papaya_owes.specs.Keeping.{MadeBegins, CallsKeepMade, CallsBeginMade, CallsBeginOwning, CallsTakeMade, CallsComeToMade};
 
-/// At each moment of a run that shows the executor, a call under way has made a block for a pair, and has not stored it, just if the moment says so. It has one such
+/// At each moment of a run that shows a scene, a call under way has made a block for a pair, and has not stored it, just if the moment says so. It has one such
 /// block at most, which its machine names; nobody without a call has one. So it is before all events; after each step of a call, whoever's, by which a block is
 /// made where the call asks for one and has none, and is given up and stored where it has one, and a call that has ended has none; and where a call begins, takes
 /// a reply and comes to an outcome.

@@ -50,11 +50,6 @@ module _ (K V : Type 0) where
       → GuardsAreInside (drops guard there) w → AreSheltered (drops guard there) w known sheltered
       → GuardsAreInside there w × AreSheltered there w known sheltered
 
--- A slot is within a section that the executor has so.
-abbrev pub UsedSlotsAreInside : (K V : Type 0) → (K → K → Bool) → (ℕ → K → ℕ) → Type 0
-UsedSlotsAreInside K V same hash =
-    (s : Scene K V) (e : Held K V) → IsAt same hash e s → (slot : ℕ) → use_at e slot ≡ used.Inside → IsInside (s.world.uses slot)
-
 -- The slot of the only guard on it has nobody without that one.
 abbrev pub OnlyGuardsLeaveNobody : Type 0
 OnlyGuardsLeaveNobody =

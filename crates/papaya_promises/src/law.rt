@@ -1,7 +1,7 @@
 //! What is promised of a run, by single steps.
 ghost use Rattle.std.specs.Prelude.{ℕ, Bool, List};
 ghost use Rattle.papaya_promises.specs.Guards.{SectionsHoldAtFirst, GuardsComeAndGo, OthersStayInside, OneIsInsideAgain};
-ghost use Rattle.papaya_promises.specs.Guards.{UsedSlotsAreInside, OnlyGuardsLeaveNobody};
+ghost use Rattle.papaya_promises.specs.Guards.{OnlyGuardsLeaveNobody};
 ghost use Rattle.papaya_promises.specs.Others.{MakingsShelter, EndingsShelter, RowsBeginShelter, SectionsGoOn};
 ghost use Rattle.papaya_promises.specs.Protected.{EventsBeginProtected, EventsEndProtected, OtherEventsEndProtected, SlotEventsEndProtected};
 ghost use Rattle.papaya_promises.specs.Protected.{AllIsEndedProtected, IdleEventsAreProtected};
@@ -31,7 +31,6 @@ pub fn sections_shelter<K, V>()
     ensures guards { GuardsComeAndGo K V }
     ensures others { OthersStayInside K V }
     ensures again { OneIsInsideAgain K V }
-    ensures used { (same : K → K → Bool) (hash : ℕ → K → ℕ) → UsedSlotsAreInside K V same hash }
     ensures only { OnlyGuardsLeaveNobody }
 {}
 

@@ -7,7 +7,7 @@ ghost use Rattle.papaya_purposes.specs.Shards.{EventsBeginUncounted, StepsReadSh
 ghost use Rattle.papaya_purposes.specs.Tableless.{EventsKeepTableless, TablelessAtFirst};
 ghost use Rattle.papaya_purposes.specs.Swept.{CountingsAreSwept, ReservationsAreSwept, WalksShow, WalksShowAll, WalksHaveWords, ClearingsAreSwept, RetainingsAreSwept, OtherOutcomesAreSwept, CallsOnKeysAreSwept, NoCallsAreSwept};
 
-/// At each moment of a run that shows the executor, each call is for what was called, and has come to what the moment says: pair by pair and class by class, what a
+/// At each moment of a run that shows a scene, each call is for what was called, and has come to what the moment says: pair by pair and class by class, what a
 /// sweep's map had since it began, the map has at a moment of the run since then; a walk has shown just what it has done, which is one pair of each class that the map had
 /// all the time, but for those to which it is still to come; a retaining has done such pairs about which the last reply was yes; and a counting has added up shards, each
 /// as it was at a moment of the call; and a reservation that makes a table makes it as long as it must be, by such a count, or for its further pairs alone where the map has

@@ -1,4 +1,4 @@
--- Each step leaves numbers of maps below the next one that the executor gives.
+-- Each step leaves numbers of maps below the next one that is given.
 use Rattle.std.specs.Prelude.{◌⊎◌, ◌≤◌, ◌<◌, ◌==◌, find, List, [], ◌∷◌, length, Option, Some, None, option_map, nat_lt, ◌&&◌, if◌then◌else◌}
 use Rattle.std.specs.List.{All}
 use Rattle.std.proofs.Common.{◌≡◌, ℕ, zero, suc, Bool, true, false, inl, inr, refl, ap, sym, subst, ◌∙◌, arith}
@@ -49,22 +49,12 @@ module _ {K V : Type 0} (caller : Option (List ℕ)) (acted : Option ℕ) where
         tables = subst (λ (ts : List TableThere). All (λ t. t.table.map < count) ts) alike.1 (subst (λ (k : ℕ). All (λ t. t.table.map < k) x.tables) made n.tables);
       }
 
--- a map that stands has a number
-module _ {K V : Type 0} (same : K → K → Bool) (hash : ℕ → K → ℕ) (e : Held K V) (s : Scene K V) (at : IsAt same hash e s) where
-  pub standing_below : (n : ℕ) (st : Standing K) → s.maps n ≡ Some st → n < length e.maps.items
-  standing_below n st here = by (cases_lt n (length e.maps.items))
-    where
-      by : (n < length e.maps.items) ⊎ (length e.maps.items ≤ n) → n < length e.maps.items
-      by (inl l) = l
-      by (inr past) =
-          absurd (let none : Some st.setting ≡ None = sym (ap (option_map (λ (x : Standing K). x.setting)) here) ∙ at.maps n ∙ get_or_past e.maps.items n None past in cc none)
-
 module _ (K V : Type 0) (same : K → K → Bool) (hash : ℕ → K → ℕ) where
   pub calls_keep_count : CallsKeepCount K V same hash
-  calls_keep_count m known s old new at numbers map i u here said leads caller acted =
-      to_count caller acted (effects_of (acts.Call i map) known new.changed) m (length old.maps.items)
-      (steps_keep_numbers K V (record m { made = length old.maps.items }) numbers caller acted (acts.Call i map) known new.changed
-      (standing_below same hash old s at map (leads map u here).0 (leads map u here).2))
+  calls_keep_count m known s old new count below numbers map i u here said leads caller acted =
+      to_count caller acted (effects_of (acts.Call i map) known new.changed) m count
+      (steps_keep_numbers K V (record m { made = count }) numbers caller acted (acts.Call i map) known new.changed
+      (below.standing map (leads map u here).0 (leads map u here).2))
 
   pub rows_keep_count : RowsKeepCount K V same hash
   rows_keep_count m known s old new count numbers i said leads row here =
@@ -72,9 +62,9 @@ module _ (K V : Type 0) (same : K → K → Bool) (hash : ℕ → K → ℕ) whe
       (rows_keep_numbers K V same hash (record m { made = count }) numbers known s old new i said leads row here)
 
   pub makings_keep_count : MakingsKeepCount K V same hash
-  makings_keep_count m known s old new at numbers i b here caller acted =
-      to_count caller acted (effects_of (acts.Making b.map) known new.changed) m (length old.maps.items)
-      (steps_keep_numbers K V (record m { made = length old.maps.items }) numbers caller acted (acts.Making b.map) known new.changed (at.numbers i b here))
+  makings_keep_count m known s new count below numbers i b here caller acted =
+      to_count caller acted (effects_of (acts.Making b.map) known new.changed) m count
+      (steps_keep_numbers K V (record m { made = count }) numbers caller acted (acts.Making b.map) known new.changed (below.made i b here))
 
 -- where all numbers are below none there is no table
 module _ {K V : Type 0} (m : Moment K V) (known : Known) (numbers : NumbersUpTo 0 m) where

@@ -1,4 +1,4 @@
--- Numbers of maps, as an executor counts them: those that are there and those of all tables are below the next one that it gives, while maps are made, too.
+-- Numbers of maps, as they are given: those that are there and those of all tables are below the next one, while maps are made, too.
 use Rattle.std.specs.Prelude.{◌≡◌, ◌+◌, ℕ, Bool, List, length, Option, Some, None}
 use Rattle.papaya_lives.specs.Given.Tables.declared.node.Node.{Node}
 use Rattle.papaya_lives.specs.Given.Raw.declared.machines.progress.Progress.{Progress as CallTold}
@@ -12,7 +12,7 @@ use Rattle.papaya_lives.specs.Given.Effects.declared.role.Role.{Role}
 use Rattle.papaya_lives.specs.Given.Scenes.declared.row.RowTold.{RowTold}
 use Rattle.papaya_lives.specs.Given.Scenes.declared.row.SlotRow.{SlotRow}
 use Rattle.papaya_lives.specs.Given.Finishes.Makings.{Beginning}
-use Rattle.papaya_lives.specs.Given.Moments.Numbers.{NumbersMaps}
+use Rattle.papaya_lives.specs.Given.Moments.Numbers.{MapsAreBelow, NumbersMaps}
 use Rattle.papaya_lives.specs.Given.Scenes.Held.{Held, IsAt}
 use Rattle.papaya_lives.specs.Given.Scenes.OnSlots.{RowLeads}
 use Rattle.papaya_lives.specs.Given.Scenes.Scene.{IsOnSlot, Scene}
@@ -26,9 +26,9 @@ module _ (K V : Type 0) (same : K → K → Bool) (hash : ℕ → K → ℕ) whe
   -- The promises: so it is after each step of a call,
   abbrev pub CallsKeepCount : Type 0
   CallsKeepCount =
-      (m : Moment K V) (known : Known) (s : Scene K V) (old new : Held K V) → IsAt same hash old s → NumbersUpTo (length old.maps.items) m
+      (m : Moment K V) (known : Known) (s : Scene K V) (old new : Held K V) → (count : ℕ) → MapsAreBelow count s → NumbersUpTo count m
       → (map i : ℕ) (u : UnderWay K V K) → s.calls map i ≡ Some u → (said : CallTold (Node K V)) → StepLeads same hash i said s old new
-      → (caller : Option (List ℕ)) (acted : Option ℕ) → NumbersUpTo (length old.maps.items) (with_effects caller acted (effects_of (acts.Call i map) known new.changed) m)
+      → (caller : Option (List ℕ)) (acted : Option ℕ) → NumbersUpTo count (with_effects caller acted (effects_of (acts.Call i map) known new.changed) m)
 
   -- of a row on a slot,
   abbrev pub RowsKeepCount : Type 0
@@ -40,9 +40,9 @@ module _ (K V : Type 0) (same : K → K → Bool) (hash : ℕ → K → ℕ) whe
   -- of the making of a map,
   abbrev pub MakingsKeepCount : Type 0
   MakingsKeepCount =
-      (m : Moment K V) (known : Known) (s : Scene K V) (old : Held K V) (new : Held K V) → IsAt same hash old s → NumbersUpTo (length old.maps.items) m
+      (m : Moment K V) (known : Known) (s : Scene K V) (new : Held K V) (count : ℕ) → MapsAreBelow count s → NumbersUpTo count m
       → (i : ℕ) (b : Beginning K) → s.makers i ≡ Some b → (caller : Option (List ℕ)) (acted : Option ℕ)
-      → NumbersUpTo (length old.maps.items) (with_effects caller acted (effects_of (acts.Making b.map) known new.changed) m)
+      → NumbersUpTo count (with_effects caller acted (effects_of (acts.Making b.map) known new.changed) m)
 
 module _ (K V : Type 0) where
   -- and where what a block was ends with its map;

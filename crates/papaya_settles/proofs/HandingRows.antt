@@ -148,7 +148,7 @@ module _ {T : Type 0} (w : World T) (i : ℕ) (rests : w.row i ≡ Rests) (known
   sweep_some (sweeping.Disposes dispose) is notes = disposal_some dispose dispose.stands is notes
   sweep_some _ is notes = absurd is
 
--- A call under way, of a scene at which the executor is.
+-- A call under way, of a scene of what is held.
 module _ {K V : Type 0} (same : K → K → Bool) (hash : ℕ → K → ℕ) (name : ℕ → List ℕ) (m : Moment K V) (known : Known) (s : Scene K V) (e : Held K V) (at : IsAt same hash e s)
     (map i : ℕ) (u : UnderWay K V K) (here : s.calls map i ≡ Some u) where
   its_map : (st : Standing K) × (s.maps map ≡ Some st)

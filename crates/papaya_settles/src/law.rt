@@ -11,7 +11,7 @@ ghost use Rattle.papaya_settles.specs.Owing.{OwesFollow, HandingFollows, StepsTa
 ghost use Rattle.papaya_settles.specs.Shards.{CountsFindShards};
 ghost use Rattle.papaya_settles.specs.Keeping.{CountsBegin, CallsKeepCounts, CallsBeginCounts, CallsBeginUncounted, CallsTakeCounts, CallsComeToCounts};
 
-/// At each moment of a run that shows the executor, a call under way has stored or removed a pair that it has not counted, just if its machine is about to count.
+/// At each moment of a run that shows a scene, a call under way has stored or removed a pair that it has not counted, just if its machine is about to count.
 /// So it is before all events; after each step of a call, whoever's, of which one that counts finds something to count, and does so in the shard of its slot, and by
 /// which a call that ends has nothing left to count; and where a call begins, takes a reply and comes to an outcome. The shard is that which the terms of a run
 /// tell for the slot of the call's guard, where its map was made with as many shards as these say.
@@ -82,7 +82,7 @@ pub fn rows_hand_over_first<K, V>()
     ensures calls { (same : K → K → Bool) (hash : ℕ → K → ℕ) → CallsGoInHand K V same hash }
 {}
 
-/// At each moment of a run that shows the executor, a call under way owes just what its machine has in hand, in the order in which it hands that over. So it is before all
+/// At each moment of a run that shows a scene, a call under way owes just what its machine has in hand, in the order in which it hands that over. So it is before all
 /// events; after each step of a call, whoever's: its effects find what they hand over, and a call that has ended owes nothing; where a call begins that has nothing in hand,
 /// takes a reply and comes to an outcome; and a walk that is ready has nothing in hand.
 pub fn calls_owe_what_they_have<K, V>()
@@ -106,7 +106,7 @@ pub fn others_leave_owed<K, V>()
     ensures stops { (same : K → K → Bool) (hash : ℕ → K → ℕ) → WalksStopOwed K V same hash }
 {}
 
-/// At each moment of a run that shows the executor, each call whose row is under way hands something over: it owes something, or has handed something over. So who has
+/// At each moment of a run that shows a scene, each call whose row is under way hands something over: it owes something, or has handed something over. So who has
 /// the batch of a slot in hand is told to, and others may wait for it. So it is before all events; after each step of a call, whoever's, where calls owed what they had in
 /// hand, and after what is no call; where a walk goes on, or is given up, and where a call begins, takes a reply, and comes to an outcome.
 pub fn rows_under_way_hand_over<K, V>()

@@ -59,7 +59,7 @@ word_kept known m m2 told made nowhere c f x y of counter was is = elim (word_la
   | inr wrote ↦ absurd (nowhere c f wrote.0 wrote.1 of wrote.2 counter)
 ]
 
--- From one scene to the next, an executor is in both.
+-- From one scene to the next, each that of what is held.
 module _ {K V : Type 0} (same : K → K → Bool) (hash : ℕ → K → ℕ) (m v : Moment K V) (s t : Scene K V) (new : Held K V) (at_new : IsAt same hash new t) where
   -- the word of a shard is there
   pub shard_there : (n : ℕ) (st : Standing K) → t.maps n ≡ Some st → (shard : ℕ) → shard ≤ st.setting.mask → (y : ℕ) × (word_at t.world.memory (Word st.setting.counter shard) ≡ Some y)

@@ -27,6 +27,7 @@ use Rattle.papaya_settles.specs.Given.Finishes.Machines.{machine_of}
 use Rattle.papaya_settles.specs.Given.Finishes.Makings.{Beginning, HasMade}
 use Rattle.papaya_settles.specs.Given.Finishes.Maps.{Standing}
 use Rattle.papaya_settles.specs.Given.Follows.Calling.{NoneNamed, told, come_to}
+use Rattle.papaya_settles.specs.Given.Moments.Numbers.{MapsAreBelow}
 use Rattle.papaya_settles.specs.Given.Moments.Whole.{ShowsWhole}
 use Rattle.papaya_settles.specs.Given.Others.Endings.{ending_after}
 use Rattle.papaya_settles.specs.Given.Others.Makings.{making_after}
@@ -67,10 +68,9 @@ module _ (K V : Type 0) (same : K → K → Bool) (hash : ℕ → K → ℕ) whe
   abbrev pub CallsKeepNumbers : Type 0
   CallsKeepNumbers =
       (name : ℕ → List ℕ) (m : Moment K V) (known : Known) (s : Scene K V) (old new : Held K V) → IsAt same hash old s
-      → ShowsWhole same name m known s → ShowsCounts name m s → ShowsCounters name m s → NumbersUncounted old m
+      → ShowsWhole same name m known s → ShowsCounts name m s → ShowsCounters name m s → (count : ℕ) → MapsAreBelow count s → NumbersUncounted count m
       → (map i : ℕ) (u : UnderWay K V K) (here : s.calls map i ≡ Some u) (said : Progress (Node K V)) (leads : StepLeads same hash i said s old new)
-      → length old.maps.items ≤ length new.maps.items
-      → NumbersUncounted new (with_effects (Some (name i)) (Some map) (effects_of (acts.Call i map) known new.changed) m)
+      → NumbersUncounted count (with_effects (Some (name i)) (Some map) (effects_of (acts.Call i map) known new.changed) m)
 
   -- and a reservation and a counting count nothing,
   abbrev pub RoomsCountNothing : Type 0
@@ -151,7 +151,7 @@ module _ (K V : Type 0) where
 module _ (K V : Type 0) where
   -- Nothing was counted on a number that no map has had yet as a run begins, and as long as shards are as they were, and there are as many maps, or more.
   abbrev pub NumbersBegin : Type 0
-  NumbersBegin = (e : Held K V) → NumbersUncounted e start
+  NumbersBegin = (count : ℕ) → NumbersUncounted {K = K} {V = V} count start
 
   abbrev pub NumbersStay : Type 0
-  NumbersStay = (m v : Moment K V) (e e2 : Held K V) → NumbersUncounted e m → v.shards ≡ m.shards → length e.maps.items ≤ length e2.maps.items → NumbersUncounted e2 v
+  NumbersStay = (m v : Moment K V) (count more : ℕ) → NumbersUncounted count m → v.shards ≡ m.shards → count ≤ more → NumbersUncounted more v

@@ -20,9 +20,9 @@ module _ {K V : Type 0} where
   abbrev pub IsUncounted : ℕ → Moment K V → Type 0
   IsUncounted of m = (shard : ℕ) → m.shards of shard ≡ 0
 
-  -- nothing was counted on a map of a number that none has had yet
-  abbrev pub NumbersUncounted : Held K V → Moment K V → Type 0
-  NumbersUncounted e m = (of : ℕ) → length e.maps.items ≤ of → IsUncounted of m
+  -- nothing was counted on a map of this number or a higher one
+  abbrev pub NumbersUncounted : ℕ → Moment K V → Type 0
+  NumbersUncounted count m = (of : ℕ) → count ≤ of → IsUncounted of m
 
   -- nothing was counted on a map that is being made, and each shard that was made for it says so
   abbrev pub MakesUncounted : Moment K V → Scene K V → Type 0

@@ -2,7 +2,7 @@
 ghost use Rattle.std.specs.Prelude.{ℕ, Bool};
 ghost use Rattle.papaya_shards.specs.ShardSteps.{CountersBegin, CallsKeepCounters, CallsKeepNumbers, RoomsCountNothing, RowsBeginCounters, RowsKeepCounters, MakingsKeepCounters, EndingsKeepCounters, MakingsBeginCounters, EndingsBeginCounters, CallsBeginCounters, CallsTakeCounters, CallsComeToCounters, CountersStay, NumbersBegin, NumbersStay};
 
-/// At each moment of a run that shows the executor, each shard of a map that stands has the word in the memory that the moment says; and a call that is about to count
+/// At each moment of a run that shows a scene, each shard of a map that stands has the word in the memory that the moment says; and a call that is about to count
 /// adds what the moment says that it has gained or lost: one pair more, or one less. So it is before all events; after each step of a call, whoever's, of which one that
 /// counts changes its shard alone, and one of a reservation or of a counting none; where a call begins, takes a reply and comes to an outcome; where a row begins on a
 /// slot, and after each step of it; where a map is made on which nothing was counted, whose shards are 0 then, and where one ends, from the first step to the last; and

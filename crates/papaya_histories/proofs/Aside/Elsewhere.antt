@@ -63,7 +63,7 @@ use Rattle.papaya_moments.specs.Given.Scenes.Making.{MakingComesTo}
 use Rattle.papaya_moments.specs.Given.Scenes.Replying.{scene_with, unless_stopped}
 use Rattle.papaya_moments.specs.Given.Scenes.Scene.{Scene}
 
--- where a making, and an end, has come, the executor is there
+-- where a making, and an end, has come, the scene is that of what is held
 module _ {K V : Type 0} (same : K → K → Bool) (hash : ℕ → K → ℕ) (s : Scene K V) (old new : Held K V) where
   pub making_at : (i : ℕ) (b : Beginning K) (end : NewMap) (w2 : World (Node K V)) (told : Progress Setting) (it : MakingComesTo same hash s old new i b end w2 told)
       → IsAt same hash new (making_after same hash s old new i b end w2 told it)

@@ -1,5 +1,5 @@
 -- Sections shelter what leaves its map.
-use Rattle.papaya_promises.proofs.Guards.{no_guard, guards_come_and_go, others_stay_inside, one_is_inside_again, used_slots_are_inside, only_guards_leave_nobody}
+use Rattle.papaya_promises.proofs.Guards.{no_guard, guards_come_and_go, others_stay_inside, one_is_inside_again, only_guards_leave_nobody}
 use Rattle.papaya_promises.proofs.Shelters.Begins.{rows_begin_shelter, sections_go_on}
 use Rattle.papaya_promises.proofs.Shelters.Calls.{calls_shelter}
 use Rattle.papaya_promises.proofs.Shelters.Ends.{endings_shelter}
@@ -22,6 +22,5 @@ returns c d = record {
   guards = guards_come_and_go _ _;
   others = others_stay_inside _ _;
   again = one_is_inside_again _ _;
-  used = used_slots_are_inside _ _;
   only = only_guards_leave_nobody;
 }
