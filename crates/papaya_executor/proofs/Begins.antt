@@ -23,6 +23,7 @@ use Rattle.papaya_executor.specs.Beginning.{BeginsThere}
 use Rattle.papaya_executor.specs.IsThere.{ChangesAt, IsThere, IsUsedAs, place_of, use_at, worker_with}
 use Rattle.papaya_scenes.specs.Beginning.{Begins}
 use Rattle.papaya_scenes.specs.Scene.{Scene, slot_of}
+use Rattle.papaya_executor.proofs.Used.{used_slots_are_inside}
 
 module _ {K V S : Type 0} (same : K → K → Bool) (hash : K → ℕ) (e : Executor K V S) (s : Scene K V) (at : IsThere same hash e s) (slot m : ℕ) (machine : Machine K V K)
     (fits : slot < SLOTS) (few : length e.workers.items < 2 ^ 32) (e2 : Executor K V S) (memory : e2.memory ≡ e.memory)
@@ -65,9 +66,7 @@ module _ {K V S : Type 0} (same : K → K → Bool) (hash : K → ℕ) (e : Exec
 
   -- somebody is inside of a slot that is entered
   entered : use_at e (slot_of caller) ≡ used.Inside → IsInside (s.world.uses (slot_of caller))
-  entered v =
-      let is = subst (λ (x : SlotUse). IsUsedAs x (s.world.uses (slot_of caller))) v (at.uses (slot_of caller)) in
-      subst IsInside (sym is.1) tt
+  entered v = used_slots_are_inside K V S same hash s e at (slot_of caller) v
 
   pub begin_leads : BeginsThere same hash m machine caller s e e2
   begin_leads inside = (

@@ -19,6 +19,7 @@ pub mod RowsGo
 pub mod Steps
 pub mod Stops
 pub mod Taken
+pub mod Used
 pub mod Uses
 pub mod Vacated
 pub mod Given

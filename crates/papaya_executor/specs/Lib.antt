@@ -6,4 +6,5 @@ pub mod MakingBegins
 pub mod OnSlots
 pub mod Replying
 pub mod Stepping
+pub mod Used
 pub mod Given

@@ -39,22 +39,6 @@ module _ {X : Type 0} (calls : ℕ → ℕ → Option X) (map i : ℕ) (a b : Op
   call_twice : with_call (with_call calls map i a) map i b ≡ with_call calls map i b
   call_twice = ap (λ (f : ℕ → Option X). with_at (with_call calls map i a) map f) its_calls_then ∙ twice calls map (with_at (calls map) i a) (with_at (calls map) i b)
 
-  -- what is so of both is so of each call
-  like : {Y : Type 0} (f : Option X → Y) → f b ≡ f a → (n j : ℕ) → f (with_call calls map i b n j) ≡ f (with_call calls map i a n j)
-  like f e n j = elim (cases_eq n map) as (λ _. f (with_call calls map i b n j) ≡ f (with_call calls map i a n j)) [
-    | inl its ↦ elim (cases_eq j i) as (λ _. f (with_call calls map i b n j) ≡ f (with_call calls map i a n j)) [
-      | inl own ↦ ap f (on_map b its ∙ at_same (calls map) i b j own) ∙ e ∙ sym (ap f (on_map a its ∙ at_same (calls map) i a j own))
-      | inr ne ↦ ap f (on_map b its ∙ at_other (calls map) i b j ne ∙ sym (on_map a its ∙ at_other (calls map) i a j ne))
-    ]
-    | inr ne ↦ ap f (elsewhere b ne ∙ sym (elsewhere a ne))
-  ]
-    where
-      on_map : (it : Option X) → n ≡ map → with_call calls map i it n j ≡ with_at (calls map) i it j
-      on_map it its = ap (λ (g : ℕ → Option X). g j) (at_same calls map (with_at (calls map) i it) n its)
-
-      elsewhere : (it : Option X) → n ≢ map → with_call calls map i it n j ≡ calls n j
-      elsewhere it ne = ap (λ (g : ℕ → Option X). g j) (at_other calls map (with_at (calls map) i it) n ne)
-
 module _ {K V : Type 0} (same : K → K → Bool) (hash : ℕ → K → ℕ) (s : Scene K V) (old new : Held K V) (at_old : IsAt same hash old s) (i map : ℕ) (o : CallOverAll)
     (here : s.calls map i ≡ Some (OverAll o)) (next : UnderWay K V K) (is_next : machine_of next ≡ kinds.Sweep (after_next o.sweep)) (at_next : IsAt same hash new (scene_with map i next s)) where
   abbrev walk : UnderWay K V K
@@ -94,18 +78,10 @@ module _ {K V : Type 0} (same : K → K → Bool) (hash : ℕ → K → ℕ) (s 
   walk_there = record {
     memory = at_next.memory;
     together = together;
-    maps = at_next.maps;
     hashes = at_next.hashes;
-    calls = λ n j. like s.calls map i (Some next) (Some walk) (λ (x : Option (UnderWay K V K)). option_map machine_of x) (ap Some (sym is_next)) n j ∙ at_next.calls n j;
-    makers = at_next.makers;
-    enders = at_next.enders;
     hashes_made = at_next.hashes_made;
-    numbers = at_next.numbers;
-    rows = at_next.rows;
     on_slots = at_next.on_slots;
     small = at_next.small;
-    slots = at_next.slots;
-    uses = at_next.uses;
   }
 
 module _ (K V : Type 0) (same : K → K → Bool) (hash : ℕ → K → ℕ) where
