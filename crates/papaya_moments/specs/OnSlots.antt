@@ -1,5 +1,5 @@
 -- Rows on slots: where one begins, and takes its steps, the moment shows all of the scene then.
-use Rattle.std.specs.Prelude.{◌≡◌, ℕ, Bool, true, List, Some, None}
+use Rattle.std.specs.Prelude.{◌≡◌, ℕ, Bool, true, List, None}
 use Rattle.papaya_spots.specs.Given.Seize.World.{Begin, Step}
 use Rattle.papaya_spots.specs.Given.Tables.declared.node.Node.{Node}
 use Rattle.papaya_spots.specs.Given.Schedules.declared.effect.Effect.{Effect}
