@@ -14,13 +14,12 @@ use Rattle.papaya_scenes.proofs.Given.Finishes.Among.Sweeps.{sweeps_begin_among}
 use Rattle.papaya_executor.specs.declared.executor.Executor.{Executor}
 use Rattle.papaya_scenes.specs.declared.callers.TheConstants.{SLOTS}
 use Rattle.papaya_executor.specs.declared.worker.Work.TheVariants as work
-use Rattle.papaya_scenes.specs.declared.row.SlotUse.{SlotUse}
 use Rattle.papaya_scenes.specs.declared.row.SlotUse.TheVariants as used
 use Rattle.papaya_executor.proofs.Changed.{is_at_on}
 use Rattle.papaya_executor.proofs.Few.{are_few}
 use Rattle.papaya_executor.proofs.Fresh.{caller_in, fresh_before, fresh_changes, fresh_place, no_calls_yet, no_ending_yet, no_making_yet, resting}
 use Rattle.papaya_executor.specs.Beginning.{BeginsThere}
-use Rattle.papaya_executor.specs.IsThere.{ChangesAt, IsThere, IsUsedAs, place_of, use_at, worker_with}
+use Rattle.papaya_executor.specs.IsThere.{ChangesAt, IsThere, place_of, use_at, worker_with}
 use Rattle.papaya_scenes.specs.Beginning.{Begins}
 use Rattle.papaya_scenes.specs.Scene.{Scene, slot_of}
 use Rattle.papaya_executor.proofs.Used.{used_slots_are_inside}

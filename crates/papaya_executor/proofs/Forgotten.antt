@@ -1,12 +1,11 @@
 -- A step in a memory that tells, which has forgotten what was told before.
 use Rattle.std.specs.Prelude.{true, false}
 use Rattle.std.proofs.Common.{◌≡◌, refl, sym, subst}
-use Rattle.seize_words.specs.Mem.{Mem, Can, Took, value_at}
-use Rattle.seize_words.specs.Plan.{Plan, Turn, Do, May, Steps}
+use Rattle.seize_words.specs.Mem.{Can, Took, value_at}
+use Rattle.seize_words.specs.Plan.{Plan, May, Steps}
 use Rattle.papaya_scenes.specs.Given.Tables.declared.node.Node.{Node}
 use Rattle.papaya_teller.specs.Changed.{is_made}
 use Rattle.papaya_teller.specs.Tells.{Telling, CanTell, TookTold, StepsTold}
-use Rattle.papaya_teller.specs.declared.changed.Changed.{Changed}
 use Rattle.papaya_teller.specs.declared.changed.Changed.TheVariants.{Nothing}
 use Rattle.papaya_teller.proofs.Laws.{may_with_teller, refuses_with_teller, steps_with_teller}
 
