@@ -1,5 +1,5 @@
 -- Where a row on a slot begins, and takes its steps, the histories of maps stay within the moments of the run, and calls owe what they owed.
-use Rattle.std.specs.Prelude.{◌≡◌, ℕ, Bool, List, [], flat_map, Some, None}
+use Rattle.std.specs.Prelude.{◌≡◌, ℕ, Bool, List, [], flat_map, None}
 use Rattle.papaya_moments.specs.Given.Seize.World.{Begin, Step}
 use Rattle.papaya_moments.specs.Given.Tables.declared.node.Node.{Node}
 use Rattle.papaya_moments.specs.Given.Schedules.Effects.{with_effects, AtEachEffect}

@@ -1,15 +1,14 @@
 -- A walk that is ready goes on to its next pair as the walk that it was: with what it has come to, since it began when it began.
-use Rattle.std.specs.Prelude.{◌≡◌, ◌≢◌, ℕ, ◌==◌, Bool, true, false, Option, Some, option_map, if◌then◌else◌}
-use Rattle.std.proofs.Common.{refl, ap, sym, subst, ◌∙◌, inl, inr}
+use Rattle.std.specs.Prelude.{◌≡◌, ℕ, ◌==◌, Bool, true, false, Option, Some, if◌then◌else◌}
+use Rattle.std.proofs.Common.{refl, ap, sym, subst, ◌∙◌}
 use Rattle.std.proofs.Math.Path.{fun_ext}
-use Rattle.std.proofs.lemmas.Bool.{cases_eq}
 use Rattle.papaya_moments.specs.Given.Seize.World.{with_at}
 use Rattle.papaya_moments.specs.Given.Sweeps.SweepPoints.{after_next}
 use Rattle.papaya_moments.specs.Given.Raw.Machine.{machine_asked}
 use Rattle.papaya_moments.specs.Given.Raw.declared.machines.machine.Machine.TheVariants as kinds
 use Rattle.papaya_moments.specs.Given.Callers.OverAll.{CallOverAll, gone_on}
 use Rattle.papaya_moments.specs.Given.Callers.Together.{UnderWay, OnKey, ForRoom, Counting, OverAll, Together}
-use Rattle.papaya_moments.proofs.Given.Callers.Together.At.{at_other, at_same}
+use Rattle.papaya_moments.proofs.Given.Callers.Together.At.{at_same}
 use Rattle.papaya_moments.proofs.Given.Callers.Together.SweepsTold.{sweeps_told_together}
 use Rattle.papaya_moments.specs.Given.Finishes.Endings.{EndingsTogether}
 use Rattle.papaya_moments.specs.Given.Finishes.Machines.{machine_of}
