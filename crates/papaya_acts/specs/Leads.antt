@@ -15,7 +15,7 @@ use Rattle.papaya_scenes.specs.Given.Tables.Lengths.{IsTableLen}
 use Rattle.papaya_scenes.specs.Given.Tables.Nodes.{deferred_word}
 use Rattle.papaya_scenes.specs.Given.Tables.declared.node.Node.{Node}
 use Rattle.papaya_scenes.specs.Given.Tables.declared.setting.Setting.{Setting}
-use Rattle.papaya_scenes.specs.Given.Resize.NewMap.{opening, new_map_plan}
+use Rattle.papaya_scenes.specs.Given.Resize.NewMap.{new_map_plan}
 use Rattle.papaya_scenes.specs.Given.Resize.declared.new_map.NewMap.{NewMap}
 use Rattle.papaya_scenes.specs.Given.Raw.EndMap.{end_map_plan}
 use Rattle.papaya_scenes.specs.Given.Raw.Machine.{machine_plan, machine_replied, machine_asked}
