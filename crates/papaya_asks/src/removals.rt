@@ -11,7 +11,7 @@ ghost use Rattle.papaya_owned.specs.Owned.{Holds, EndsBy, found_by, hashed_by};
 
 use crate::asking::{finish, start};
 use crate::lent::Lent;
-use papaya_owned::{OnKey, Stop, pair_at, run_skimming};
+use papaya_owned::{OnKey, Stop, pair_at, run_removal};
 use papaya_raw::machines::{KeyAnswer, KeyCall, Reply};
 use papaya_tables::{Equivalent, Hashes, Node, Setting};
 use seize_words::{Fault, Plain};
@@ -35,13 +35,7 @@ pub fn remove<K: Eq + Hash + Drop, V: Drop, Q: Equivalent<K>, S: BuildHasher>(
         asked,
         keys: PhantomData,
     };
-    let call = KeyCall::remove(setting, hash, lent);
-    let mut machine: OnKey<'_, K, V, Lent<'_, K, Q>, S> = OnKey {
-        call,
-        hasher,
-        unstored: None,
-    };
-    run_skimming(&mut machine, memory)
+    run_removal::<K, V, Lent<'_, K, Q>, S>(memory, hasher, setting, hash, lent)
 }
 
 /// A choice, as a reply.

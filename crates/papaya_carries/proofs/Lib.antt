@@ -22,3 +22,4 @@ pub mod Reclaimed
 pub mod Lists
 pub mod Onward
 mod Samples
+mod Drained

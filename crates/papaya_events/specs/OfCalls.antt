@@ -7,7 +7,6 @@ use Rattle.papaya_folded.specs.Given.Seize.World.{World, IsInside, SlotsTaken}
 use Rattle.papaya_folded.specs.Given.Tables.declared.node.Node.{Node}
 use Rattle.papaya_folded.specs.Given.Tables.declared.setting.Setting.{Setting}
 use Rattle.papaya_folded.specs.Given.Raw.declared.machines.progress.Progress.{Progress}
-use Rattle.papaya_folded.specs.Given.Schedules.declared.call.Call.{Call}
 use Rattle.papaya_folded.specs.Given.Schedules.declared.effect.Effect.{Effect}
 use Rattle.papaya_folded.specs.Given.Schedules.declared.event.Event.{Event}
 use Rattle.papaya_folded.specs.Given.Schedules.After.{moment}

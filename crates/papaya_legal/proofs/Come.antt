@@ -28,7 +28,7 @@ use Rattle.papaya_grows.specs.Given.Schedules.declared.call.Call.TheVariants.{On
 use Rattle.papaya_grows.specs.Given.Schedules.After.{moment}
 use Rattle.papaya_grows.specs.Given.Schedules.Beginning.{at_work, begun, with_call}
 use Rattle.papaya_grows.specs.Given.Schedules.Effects.{AtEachEffect, at_stage, new_pair, stored_by, tables_by, with_effect, with_effects}
-use Rattle.papaya_grows.specs.Given.Schedules.Entry.{Entry, ByCall, acted_on, acting, caller_of, is_busy, nameless}
+use Rattle.papaya_grows.specs.Given.Schedules.Entry.{ByCall, acted_on, acting, caller_of, is_busy, nameless}
 use Rattle.papaya_grows.specs.Given.Schedules.Growing.{only_looks}
 use Rattle.papaya_grows.specs.Given.Schedules.Handing.{gives_all, moments_of}
 use Rattle.papaya_grows.specs.Given.Schedules.Lists.{is_in}

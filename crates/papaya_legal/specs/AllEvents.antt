@@ -1,5 +1,5 @@
 -- Events that reclaim all: in the midst of one, wherever a chain of its steps has led, and at its end.
-use Rattle.std.specs.Prelude.{◌≡◌, ◌⊎◌, ◌<◌, ◌^◌, ◌+◌, ℕ, Bool, true, false, List, [], ◌∷◌, ◌++◌, Option, None, flat_map, map, if◌then◌else◌}
+use Rattle.std.specs.Prelude.{◌≡◌, ◌⊎◌, ◌<◌, ◌^◌, ℕ, Bool, true, false, List, [], ◌∷◌, ◌++◌, Option, None, flat_map, map, if◌then◌else◌}
 use Rattle.std.specs.List.{list_all}
 use Rattle.papaya_grows.specs.Given.Seize.ReclaimAll.{clearing, reclaiming_all}
 use Rattle.papaya_grows.specs.Given.Seize.Sequence.{taken_in}

@@ -4,5 +4,6 @@ pub mod Lookups
 pub mod Owned
 pub mod Passing
 pub mod Runs
+pub mod Straight
 pub mod Walks
 pub mod Given

@@ -1,5 +1,6 @@
 -- What a step of each machine does that one owner runs.
-use Rattle.std.specs.Prelude.{ℕ, Bool, Option, Some}
+use Rattle.std.specs.Prelude.{ℕ, Bool, Option, Some, None}
+use denote.Ref.{Bor}
 use Rattle.seize_words.specs.Plan.{Plan, plan_as}
 use Rattle.seize.specs.Leave.{leave_plan}
 use Rattle.seize.specs.declared.progress.Progress.{Progress}
@@ -37,6 +38,10 @@ module _ {K V Q S : Type 0} where
 
   abbrev pub on_key_plan : (Q → K → Bool) → (K → K → Bool) → (S → K → ℕ) → OnKey K V Q S → Plan (Node K V) (OnKey K V Q S × Progress Stop)
   on_key_plan asks same hashes u = plan_as (on_key_after u) (call_plan asks same (hashes u.hasher.now) u.call)
+
+-- a call, with the hasher of its map
+abbrev pub on_call : {K V Q S : Type 0} → Bor S → KeyCall K V Q → OnKey K V Q S
+on_call hasher c = record { call = c; hasher = hasher; unstored = None }
 
 -- the call is at this try
 abbrev pub at_trial : {K V Q S : Type 0} → OnKey K V Q S → Trial → OnKey K V Q S

@@ -20,6 +20,7 @@ ghost use Rattle.papaya_owned.specs.declared.machines.Stop.TheVariants as stop;
 use crate::machines::{OnKey, Stop};
 use papaya_raw::Outcome;
 use papaya_raw::machines::{Calling, Copier, Dispose, Disposing, End, KeyAnswer};
+use papaya_straight::copy_places;
 use papaya_tables::{Equivalent, Hashes, Node, Table};
 use seize::rows::{Settle, Settled};
 use seize::{Machine, Progress};
@@ -71,7 +72,7 @@ fn takes_more<T, A>(told: &Outcome<T, A>) -> bool
     }
 }
 
-/// Takes steps of a copying, up to its end, or so many, and answers what the last one tells.
+/// Takes steps of a copying, up to its end, or so many, and answers what the last one tells. Places of a chunk are copied by straight code.
 #[inline(always)]
 fn copies<K: Eq + Hash + Drop, V: Drop, Q: Equivalent<K>, S: Hashes<K>>(
     copier: &mut Copier,
@@ -84,6 +85,7 @@ fn copies<K: Eq + Hash + Drop, V: Drop, Q: Equivalent<K>, S: Hashes<K>>(
         × Steps Took value_at m (copier_plan (S.hash hasher.now) c) memory.new (copier.new, result) }
 {
     for _ in 0..MANY {
+        copy_places::<K, V, S, Plain<Node<K, V>>>(copier, memory, hasher);
         let told = copier.step(memory, hasher);
         if !takes_more(&told) {
             return told;

@@ -9,7 +9,7 @@ mod progress;
 
 pub use answer::{Called, End, KeyAnswer, Missing, There};
 pub use asking::{Asking, Gap, Replies, Reply, Takes, Told};
-pub use call::{Calling, KeyCall, link_to};
+pub use call::{Calling, KeyCall, is_same_key, link_to};
 pub use end_map::{EndMap, Ending};
 pub use machine::Machine;
 pub use papaya_reserves::{Reserve, Reserving};

@@ -17,6 +17,8 @@ mod marks;
 mod places;
 mod promotes;
 
+pub use marks::key_hash;
+
 /// Where a copying stands.
 #[derive(Clone, Copy)]
 pub enum Copying {

@@ -11,7 +11,7 @@ mod new_table;
 mod outcome;
 mod sum;
 
-pub use copier::{Copier, Copying};
+pub use copier::{Copier, Copying, key_hash};
 pub use counts::count;
 pub use dispose::{Dispose, Disposing};
 pub use lookup::{Looking, Lookup, asks_for};

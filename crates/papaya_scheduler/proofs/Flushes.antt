@@ -1,5 +1,5 @@
 -- The open batch of a guard's slot is tried, unless a call has it in hand.
-use Rattle.std.specs.Prelude.{◌==◌, ◌&&◌, is_some, slice_index_or, IsSome, Option, Some, None}
+use Rattle.std.specs.Prelude.{◌==◌, ◌&&◌, is_some, slice_index_or, IsSome, Option, Some, None, if◌then◌else◌}
 use Rattle.std.proofs.Common.{[], ◌++◌, ◌≡◌, ℕ, ◌+◌, ◌<◌, Bool, true, false, List, refl, sym, ap, subst, ◌∙◌, inl, inr, eqb-true}
 use Rattle.std.proofs.lemmas.Bool.{eq-eqb}
 use Rattle.seize.specs.declared.states.TheConstants.{BATCH, HELD}
@@ -32,6 +32,7 @@ use Rattle.papaya_executor.specs.declared.worker.TheConstants.{SLOTS}
 use Rattle.papaya_logged.specs.Ended.{has_ended}
 use Rattle.papaya_logged.specs.declared.logged.Logged.{Logged}
 use Rattle.papaya_scheduler.specs.Played.{IsDue, Plays, StandsFor}
+use Rattle.papaya_scheduler.specs.Works.{FlushesUnlessHeld}
 use Rattle.papaya_rows.specs.Rows.{RowRan, RowRanOn, used_as}
 use Rattle.papaya_scheduler.specs.declared.scheduler.Scheduler.{Scheduler}
 use Rattle.papaya_scheduler.proofs.HeldTold.{HeldIsTold}
@@ -145,3 +146,18 @@ module _ {K V S : Type 0} (same : K → K → Bool) (hash : K → ℕ) (terms : 
           subst (λ (x : Scheduler K V S). Plays same hash terms log (entry (Flush guard) Done 0 after) x) (sym same_p)
           (subst (λ (xs : List Effect). Plays same hash terms log (entry (Flush guard) Done 0 xs) (record p { logged = q.logged })) (sym did)
           (flushed said before after q.logged ran))
+
+one_slot : (here slot : ℕ) → Some here ≡ Some slot → here ≡ slot
+one_slot here slot e = cc e
+
+module _ {K V S : Type 0} (p : Scheduler K V S) (guard : List ℕ) where
+  -- what a flush comes to, by whether the batch was found in hand
+  pub by_held : (here : ℕ) → living_slot (guard_of guard p.there.guards) ≡ Some here → (held : Bool)
+      → ((word : ℕ) → word_at p.logged.executor.memory.memory (Slot here BATCH) ≡ Some word → held ≡ (word == HELD))
+      → (outcome : Outcome V) → outcome ≡ (if held then Refused Busy else Done) → FlushesUnlessHeld guard outcome p
+  by_held here lives held says outcome is slot word there found =
+      let same : here ≡ slot = one_slot here slot (sym lives ∙ there) in
+      is ∙ ap (λ (b : Bool). if b then Refused Busy else Done) (says word (subst (λ (s : ℕ). word_at p.logged.executor.memory.memory (Slot s BATCH) ≡ Some word) (sym same) found))
+
+  pub by_none : living_slot (guard_of guard p.there.guards) ≡ None → (outcome : Outcome V) → FlushesUnlessHeld guard outcome p
+  by_none none outcome slot word there found = let k = sym none ∙ there in cc k

@@ -1,5 +1,5 @@
 -- What an event has done by a row on a slot, by the making of a map, or by the end of one: which steps ran; and what one has done by which none runs.
-use Rattle.std.specs.Prelude.{◌≡◌, ◌≢◌, ◌<◌, ◌⊎◌, ℕ, Bool, true, false, ◌==◌, List, [], length, is_none, is_some, option_map, Some, None, ◌+◌, ◌*◌}
+use Rattle.std.specs.Prelude.{◌≡◌, ◌≢◌, ◌<◌, ◌⊎◌, ℕ, Bool, true, false, ◌==◌, List, [], length, is_none, is_some, option_map, Some, None, ◌+◌, ◌*◌, if◌then◌else◌}
 use Rattle.std.specs.List.{list_any}
 use Rattle.seize.specs.declared.progress.Progress.{Progress}
 use Rattle.seize.specs.declared.progress.Progress.TheVariants as progress
@@ -7,6 +7,7 @@ use Rattle.seize.specs.declared.states.TheConstants.{BATCH, HELD}
 use Rattle.seize_words.specs.Mem.{word_at}
 use Rattle.seize_words.specs.declared.at.At.TheVariants as at
 use Rattle.seize_words.specs.declared.fault.Fault.{Fault}
+use Rattle.seize_words.specs.declared.fault.Fault.TheVariants.{Busy}
 use Rattle.papaya_logged.specs.Given.Tables.declared.node.Node.{Node}
 use Rattle.papaya_logged.specs.Given.Tables.declared.resize_mode.ResizeMode.{ResizeMode}
 use Rattle.papaya_logged.specs.Given.Tables.declared.setting.Setting.{Setting}
@@ -152,3 +153,10 @@ module _ {K V S : Type 0} (played : Played V) (old new : Scheduler K V S) where
   -- or it was refused, and has done nothing
   abbrev pub WorksOnEnd : List ℕ → Type 0
   WorksOnEnd own = (new.calls ≡ old.calls) × (((fault : Fault) × (played.outcome ≡ Refused fault) × DidNothing) ⊎ ((played.outcome ≡ Done) × HasEndedMap own))
+
+module _ {K V S : Type 0} where
+  -- A flush under a guard that lives is refused as busy just where a row has the batch of its slot in hand, and else it is done.
+  abbrev pub FlushesUnlessHeld : List ℕ → Outcome V → Scheduler K V S → Type 0
+  FlushesUnlessHeld guard outcome p =
+      (slot word : ℕ) → living_slot (guard_of guard p.there.guards) ≡ Some slot → word_at p.logged.executor.memory.memory (at.Slot slot BATCH) ≡ Some word
+      → outcome ≡ (if word == HELD then Refused Busy else Done)

@@ -9,7 +9,7 @@ ghost use Rattle.papaya_scheduler.specs.Back.{GivesBack};
 ghost use Rattle.papaya_scheduler.specs.Played.{MayPlay, PlaysAt};
 ghost use Rattle.papaya_scheduler.specs.Quiet.{IsQuiet};
 ghost use Rattle.papaya_rows.specs.Rows.{left_as};
-ghost use Rattle.papaya_scheduler.specs.Works.{WorksOnSetup, WorksOnSlot};
+ghost use Rattle.papaya_scheduler.specs.Works.{FlushesUnlessHeld, WorksOnSetup, WorksOnSlot};
 
 use crate::played::Played;
 use crate::scheduler::Scheduler;
@@ -101,6 +101,7 @@ impl<K: Drop, V: Drop, S> Scheduler<K, V, S> {
         ensures quiet { IfOk result (λ played. IsQuiet played.outcome played.effects.items) }
         ensures plays { IfOk result (λ played. (same : K → K → Bool) (hash : K → ℕ) → PlaysAt same hash (event.Flush guard.now) played self.old self.new) }
         ensures works { IfOk result (λ played. WorksOnSlot played self.old self.new (event.Flush guard.now)) }
+        ensures held { IfOk result (λ played. FlushesUnlessHeld guard.now played.outcome self.old) }
         ensures back { IfOk result (λ played. (same : K → K → Bool) (hash : K → ℕ) → GivesBack same hash (event.Flush guard.now) played self.old back.old.items back.new.items) }
         ensures given { KeepsGiven self.old.logged.executor self.new.logged.executor }
     {

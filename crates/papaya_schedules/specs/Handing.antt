@@ -129,8 +129,8 @@ module _ {K V : Type 0} where
   tables_named None m = 0
   tables_named (Some map) m = length (tables_of map m)
 
-  -- A map that is made has the one table that it made where it has a capacity, and else none, and made none. What is refused has done nothing, but that a making
-  -- which is refused memory has asked for growths.
+  -- A map that is made has the one table that it made where it has a capacity, and else none, and made none. What is refused as busy has done nothing, nor has a making that
+  -- is refused, but that one which is refused memory has asked for growths.
   abbrev pub IsWhole : Event K V → Outcome V → List Effect → Moment K V → Moment K V → Type 0
   IsWhole (EndMap name) Done effects m w = EndsNamed (number_of name m) effects m w
   IsWhole (MakeMap name mode capacity) Done effects m w =

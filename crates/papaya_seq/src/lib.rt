@@ -5,7 +5,7 @@ mod set;
 
 pub use papaya_forms::{JsonFault, JsonForm, Text};
 pub use papaya_seq_map::{
-    Change, Compute, Equivalent, Fault, HashMap, Keys, Operation, Pairs, Refused, RefusedKey,
-    Values, law,
+    Aborted, Compute, Equivalent, Fault, HashMap, Keys, OccupiedError, Operation, Pairs, Present,
+    Refused, RefusedKey, Removed, Replaced, Updated, Values, law,
 };
 pub use set::HashSet;

@@ -1,6 +1,7 @@
 -- Lemmas on maps for one owner.
+mod Cloned
 mod Done
-mod Got
+mod Did
 mod Kept
 mod Members
 mod Ordered

@@ -8,5 +8,6 @@ pub use Rattle.papaya_shown.specs.Chain.{CannotGrow, FirstHas}
 pub use Rattle.papaya_pairs.specs.Each.{found_is_so, left_are_so, ordered_are_so, put_are_so, puts_are_so, value_is_so}
 pub use Rattle.papaya_pairs.specs.Elements.{left_in}
 pub use Rattle.papaya_pairs.specs.Equals.{agree, agree_itself, agree_through, agree_turned, with_no_values}
+pub use Rattle.papaya_seq_map.specs.Stored.{ClonesAreEqual}
 pub use Rattle.papaya_pairs.specs.Puts.{ClonesAreSame, Gave, IsCloneOf, last_put, last_taken, put, put_all}
 pub use Rattle.papaya_resting.specs.Held.{if_stored, if_tried, stored_computing, stored_in}

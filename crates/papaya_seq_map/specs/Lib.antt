@@ -2,5 +2,6 @@ pub mod Json
 pub mod Maps
 pub mod Stored
 pub mod Lent
-pub mod Got
 pub mod Given
+pub mod Answers
+pub mod Computes

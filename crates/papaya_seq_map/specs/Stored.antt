@@ -1,5 +1,5 @@
 -- Pairs that were stored in a map for one owner one after another: those that an iterator gave, and those of which a map was made.
-use Rattle.std.specs.Prelude.{◌≡◌, Bool, List, [], ◌∷◌, Option, None, Some, Result, MatchResult}
+use Rattle.std.specs.Prelude.{◌≡◌, Bool, true, List, [], ◌∷◌, Option, None, Some, Result, MatchResult}
 use Rattle.std.specs.Iterator.{Drains}
 use Rattle.std.specs.List.{AllZip}
 use Rattle.std.specs.List.Sorted.{IsPermutation}
@@ -46,3 +46,7 @@ module _ {K V S : Type 0} (same : K → K → Bool) where
     pub clones : List (K × V)
     pub each : AllZip (IsCloneOf key_clone value_clone) originals clones
     pub made : IsMadeOf clones map
+
+-- a clone equals its original, by this equality
+abbrev pub ClonesAreEqual : {T : Type 0} → (T → T → Bool) → (T → T → Type 0) → Type 0
+ClonesAreEqual {T} equal is_clone = (x y : T) → is_clone x y → equal x y ≡ true

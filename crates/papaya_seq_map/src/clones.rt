@@ -1,9 +1,10 @@
 //! Maps for one owner with clones of the pairs of another map, or of an array.
-ghost use Rattle.std.specs.Prelude.{◌≡◌, [], IfOk, IfErr, OnOk};
+ghost use Rattle.std.specs.Prelude.{◌≡◌, [], Bool, true, length, IfOk, IfErr, OnOk};
 ghost use Rattle.std.specs.List.Sorted.{IsPermutation};
 ghost use Rattle.papaya_sifts.specs.Given.Late.Faults.{IsRoom};
+ghost use Rattle.papaya_pairs.specs.Equals.{agree};
 ghost use Rattle.papaya_pairs.specs.Puts.{ClonesAreSame, IsCloneOf, put_all};
-ghost use Rattle.papaya_seq_map.specs.Stored.{HasPut, IsMadeOfClones};
+ghost use Rattle.papaya_seq_map.specs.Stored.{ClonesAreEqual, HasPut, IsMadeOfClones};
 
 use crate::insertions::store;
 use crate::map::HashMap;
@@ -29,10 +30,12 @@ fn put_clone<K: Eq + Hash + Clone, V: Clone, S: BuildHasher>(
 
 impl<K: Eq + Hash + Clone, V: Clone, S: BuildHasher + Clone> HashMap<K, V, S> {
     /// A map with a clone of each pair, of the hasher too, and with a memory of its own. The faults are `Fault::Capacity` and `Fault::Memory`;
-    /// then there is no map. Where a key's clone equals another key, that counts once.
+    /// then there is no map. Where a key's clone equals another key, that counts once; where each clone equals its original, so does the map, and has as many
+    /// pairs.
     pub fn clone(&self, alloc: Global) -> Result<Self, Fault>
         ensures clones { IfOk result (λ map. IsMadeOfClones K.eq K.is_clone V.is_clone self.now.pairs map) }
         ensures same { ClonesAreSame K.is_clone → ClonesAreSame V.is_clone → IfOk result (λ map. IsPermutation map.pairs self.now.pairs) }
+        ensures equals { (equal : V → V → Bool) → ClonesAreEqual K.eq K.is_clone → ClonesAreEqual equal V.is_clone → IfOk result (λ map. (agree K.eq equal self.now.pairs map.pairs ≡ true) × (length map.pairs ≡ length self.now.pairs)) }
         ensures fault { IfErr result IsRoom }
         ensures hasher { IfOk result (λ map. S.is_clone self.now.hasher map.hasher) }
     {

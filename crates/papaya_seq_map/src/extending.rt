@@ -6,6 +6,7 @@ ghost use Rattle.papaya_shown.specs.Chain.{CannotGrow};
 ghost use Rattle.seize_words.specs.declared.fault.Fault.TheVariants.{Capacity};
 ghost use Rattle.papaya_seq_map.specs.Stored.{Collects, Extends};
 
+use crate::insertions::put;
 use crate::map::HashMap;
 use papaya_asks::Refused;
 use seize_words::Fault;
@@ -24,7 +25,7 @@ impl<K: Eq + Hash + Drop, V: Drop, S: BuildHasher> HashMap<K, V, S> {
         ensures hasher { self.new.hasher ≡ self.old.hasher }
     {
         for (key, value) in items {
-            match self.insert(key, value) {
+            match put(self, key, value) {
                 Ok(_) => {}
                 Err(refused) => return Err(refused),
             }

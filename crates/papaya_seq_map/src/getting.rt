@@ -1,91 +1,85 @@
 //! Calls on a map for one owner that lend the value of a key, and store one where there is none. Each begins with a refresh.
-ghost use Rattle.std.specs.Prelude.{◌≡◌, ◌++◌, [], None, Some, IfOk, IfErr, OnOk, OnErr, MatchResult};
+ghost use Rattle.std.specs.Prelude.{◌≡◌, None, Some, MatchOption, MatchResult, IsTrue, is_some, IfOk, IfErr};
 ghost use Rattle.std.specs.Borrow.{sem};
 ghost use Rattle.std.specs.Fn.{FnOnceReturns};
 ghost use Rattle.std.specs.Option.{ForNone};
 ghost use Rattle.papaya_sifts.specs.Given.Late.Faults.{IsRoom};
-ghost use Rattle.papaya_shown.specs.Chain.{CannotGrow};
-ghost use Rattle.seize_words.specs.declared.fault.Fault.TheVariants.{Capacity};
 ghost use Rattle.papaya_resting.specs.Given.{found_by};
-ghost use Rattle.papaya_seq_map.specs.Got.{HasGot, IsGot, found_or, if_missing};
-ghost use Rattle.papaya_seq_map.specs.Lent.{EndsSo};
-ghost use Rattle.papaya_seq_map.specs.Maps.{HasNow, Keeps};
+ghost use Rattle.papaya_seq_map.specs.Answers.{HasAdded, IsLeft, IsRefused, RestsUnless, name_of_either};
 
+use crate::answers::Present;
+use crate::asking;
+use crate::insertions::try_put;
 use crate::map::HashMap;
-use seize_words::Fault;
+use papaya_asks::{Refused, RefusedKey};
+use papaya_resting::Change;
 use std::hash::{BuildHasher, Hash};
 
-/// Stores a pair, if its key is not there yet, and drops what it was given otherwise.
-fn put_if_missing<K: Eq + Hash + Drop, V: Drop, S: BuildHasher>(
-    map: &mut HashMap<K, V, S>,
-    key: K,
-    value: V,
-) -> Result<(), Fault>
-    ensures put { OnOk result (HasGot K.eq key (λ new. new ≡ value) map.old map.new) }
-    ensures refused { OnErr result (HasNow map.new map.old.pairs None None × Keeps [] map.old map.new) }
-    ensures fault { IfErr result IsRoom }
-    ensures capacity { IfErr result (λ fault. fault ≡ Capacity → CannotGrow map.new.tables) }
-    ensures hasher { map.new.hasher ≡ map.old.hasher }
-{
-    match map.try_insert(key, value) {
-        Ok(Ok(())) => Ok(()),
-        Ok(Err(_)) => Ok(()),
-        Err(refused) => Err(refused.fault),
-    }
-}
-
-/// Stores a value that is begun, if its key is not there yet. The key is dropped where it is refused.
-fn begin_if_missing<K: Eq + Hash + Drop, V: Drop, S: BuildHasher, B: FnOnce() -> V>(
-    map: &mut HashMap<K, V, S>,
-    key: K,
-    begin: B,
-) -> Result<(), Fault>
-    requires callable { ForNone (found_by (K.eq key) map.old.pairs) (B.pre begin) }
-    ensures put { OnOk result (HasGot K.eq key (λ new. FnOnceReturns B.FnOnce begin tt new) map.old map.new) }
-    ensures refused { OnErr result (HasNow map.new map.old.pairs None None × Keeps [] map.old map.new) }
-    ensures fault { IfErr result IsRoom }
-    ensures capacity { IfErr result (λ fault. fault ≡ Capacity → CannotGrow map.new.tables) }
-    ensures hasher { map.new.hasher ≡ map.old.hasher }
-{
-    match map.try_insert_with(key, begin) {
-        Ok(_) => Ok(()),
-        Err(refused) => Err(refused.fault),
-    }
-}
-
 impl<K: Eq + Hash + Drop, V: Drop, S: BuildHasher> HashMap<K, V, S> {
-    /// Lends the value of a key until the next change. Where the key is not there, this one is stored first. The faults are `Fault::Capacity`, where no
-    /// table can follow the map's last one, and `Fault::Memory`; then no pair has changed, and the key and this value are dropped: `try_insert` hands
-    /// them back.
-    pub fn get_or_insert(&mut self, key: K, value: V) -> Result<&V, Fault>
-        ensures* after { sem 𝓛 (EndsSo K.row V.row S.row S.Hasher.row K.Hash S.BuildHasher S.Hasher.Hasher self.entry (λ map. MatchResult result (λ got. HasNow map (self.old.pairs ++ if_missing (found_by (K.eq key) self.old.pairs) (key, got.now)) None (Some (found_or (found_by (K.eq key) self.old.pairs) (key, got.now))) × Keeps (if_missing (found_by (K.eq key) self.old.pairs) (key, got.now)) self.old map) (λ fault. HasNow map self.old.pairs None None × (fault ≡ Capacity → CannotGrow map.tables) × Keeps [] self.old map) × (map.hasher ≡ self.old.hasher))) }
-        ensures value { IfOk result (λ got. IsGot (found_by (K.eq key) self.old.pairs) (λ new. new ≡ value) got.now) }
-        ensures fault { IfErr result IsRoom }
+    /// Lends the value of a key. Where the key is not there, this one is stored first. The faults are `Fault::Capacity`, where no table can follow the map's
+    /// last one, and `Fault::Memory`; then no pair has changed, and key and value come back.
+    pub fn get_or_insert(&mut self, key: K, value: V) -> Result<Present<'_, K, V, S>, Refused<K, V>>
+        ensures* after { sem 𝓛 (RestsUnless K.row V.row S.row S.Hasher.row K.Hash S.BuildHasher S.Hasher.Hasher self.entry result (λ done. done.map.ghost_name) (λ map. IfErr result (λ r. IsRefused self.old map r.fault))) }
+        ensures same { IfOk result (λ done. done.map.ghost_name ≡ self.entry.ghost_name) }
+        ensures got { IfOk result (λ done. MatchOption (found_by (K.eq key) self.old.pairs) (HasAdded self.old done.map.now (key, value)) (λ x. IsLeft self.old done.map.now (Some x))) }
+        ensures met { IfOk result (λ done. IsTrue (is_some done.map.now.met)) }
+        ensures back { IfErr result (λ r. (r.key ≡ key) × (r.value ≡ value)) }
+        ensures fault { IfErr result (λ r. IsRoom r.fault) }
+        ensures hasher { IfOk result (λ done. done.map.now.hasher ≡ self.old.hasher) }
     {
-        match put_if_missing(self, key, value) {
-            Ok(()) => match self.met() {
-                Some((_, value)) => Ok(value),
-                None => unreachable!(),
-            },
-            Err(fault) => Err(fault),
+        match try_put(self, key, value) {
+            Ok(_) => Ok(Present { map: self }),
+            Err(refused) => Err(refused),
         }
     }
 
-    /// Lends the value of a key until the next change. Where the key is not there, one that is begun is stored first; the closure is called there, and
-    /// else not at all. The faults are `Fault::Capacity`, where no table can follow the map's last one, and `Fault::Memory`; then no pair has changed, and
-    /// the key is dropped: `try_insert_with` hands it back.
-    pub fn get_or_insert_with<B: FnOnce() -> V>(&mut self, key: K, begin: B) -> Result<&V, Fault>
+    /// Lends the value of a key. Where the key is not there, one that is begun is stored first; the closure is called there, and else not at all. The faults
+    /// are `Fault::Capacity`, where no table can follow the map's last one, and `Fault::Memory`; then no pair has changed, and the key comes back.
+    pub fn get_or_insert_with<B: FnOnce() -> V>(
+        &mut self,
+        key: K,
+        begin: B,
+    ) -> Result<Present<'_, K, V, S>, RefusedKey<K>>
         requires callable { ForNone (found_by (K.eq key) self.old.pairs) (B.pre begin) }
-        ensures* after { sem 𝓛 (EndsSo K.row V.row S.row S.Hasher.row K.Hash S.BuildHasher S.Hasher.Hasher self.entry (λ map. MatchResult result (λ got. HasNow map (self.old.pairs ++ if_missing (found_by (K.eq key) self.old.pairs) (key, got.now)) None (Some (found_or (found_by (K.eq key) self.old.pairs) (key, got.now))) × Keeps (if_missing (found_by (K.eq key) self.old.pairs) (key, got.now)) self.old map) (λ fault. HasNow map self.old.pairs None None × (fault ≡ Capacity → CannotGrow map.tables) × Keeps [] self.old map) × (map.hasher ≡ self.old.hasher))) }
-        ensures value { IfOk result (λ got. IsGot (found_by (K.eq key) self.old.pairs) (λ new. FnOnceReturns B.FnOnce begin tt new) got.now) }
-        ensures fault { IfErr result IsRoom }
+        ensures* after { sem 𝓛 (RestsUnless K.row V.row S.row S.Hasher.row K.Hash S.BuildHasher S.Hasher.Hasher self.entry result (λ done. done.map.ghost_name) (λ map. IfErr result (λ r. IsRefused self.old map r.fault))) }
+        ensures same { IfOk result (λ done. done.map.ghost_name ≡ self.entry.ghost_name) }
+        ensures got { IfOk result (λ done. MatchOption (found_by (K.eq key) self.old.pairs) ((new : V) × FnOnceReturns B.FnOnce begin tt new × HasAdded self.old done.map.now (key, new)) (λ x. IsLeft self.old done.map.now (Some x))) }
+        ensures met { IfOk result (λ done. IsTrue (is_some done.map.now.met)) }
+        ensures back { IfErr result (λ r. r.key ≡ key) }
+        ensures fault { IfErr result (λ r. IsRoom r.fault) }
+        ensures hasher { IfOk result (λ done. done.map.now.hasher ≡ self.old.hasher) }
     {
-        match begin_if_missing(self, key, begin) {
-            Ok(()) => match self.met() {
-                Some((_, there)) => Ok(there),
-                None => unreachable!(),
-            },
-            Err(fault) => Err(fault),
+        match asking::try_insert_with(self, key, begin) {
+            Ok(_) => Ok(Present { map: self }),
+            Err(refused) => Err(refused),
+        }
+    }
+
+    /// Stores a value that is begun, if its key is not there yet, and lends it. Where the key is there, no pair has changed, and the answer lends the value that
+    /// it has. The closure is called where the key is not there, and else not at all. The faults are `Fault::Capacity`, where no table can follow the map's last
+    /// one, and `Fault::Memory`; then no pair has changed, and the key comes back.
+    pub fn try_insert_with<B: FnOnce() -> V>(
+        &mut self,
+        key: K,
+        begin: B,
+    ) -> Result<Result<Present<'_, K, V, S>, Present<'_, K, V, S>>, RefusedKey<K>>
+        requires callable { ForNone (found_by (K.eq key) self.old.pairs) (B.pre begin) }
+        ensures* after { sem 𝓛 (RestsUnless K.row V.row S.row S.Hasher.row K.Hash S.BuildHasher S.Hasher.Hasher self.entry result (λ tried. name_of_either tried (λ done. done.map.ghost_name) (λ there. there.map.ghost_name)) (λ map. IfErr result (λ r. IsRefused self.old map r.fault))) }
+        ensures same { IfOk result (λ tried. MatchResult tried (λ done. done.map.ghost_name ≡ self.entry.ghost_name) (λ there. there.map.ghost_name ≡ self.entry.ghost_name)) }
+        ensures stored { IfOk result (λ tried. IfOk tried (λ done. (found_by (K.eq key) self.old.pairs ≡ None) × (new : V) × FnOnceReturns B.FnOnce begin tt new × HasAdded self.old done.map.now (key, new))) }
+        ensures found { IfOk result (λ tried. IfErr tried (λ there. IsLeft self.old there.map.now (found_by (K.eq key) self.old.pairs))) }
+        ensures met { IfOk result (λ tried. MatchResult tried (λ done. IsTrue (is_some done.map.now.met)) (λ there. IsTrue (is_some there.map.now.met))) }
+        ensures back { IfErr result (λ r. r.key ≡ key) }
+        ensures fault { IfErr result (λ r. IsRoom r.fault) }
+        ensures hasher { IfOk result (λ tried. MatchResult tried (λ done. done.map.now.hasher ≡ self.old.hasher) (λ there. there.map.now.hasher ≡ self.old.hasher)) }
+    {
+        match asking::try_insert_with(self, key, begin) {
+            Ok(Change::Stored) => Ok(Ok(Present { map: self })),
+            Ok(Change::Kept) => Ok(Err(Present { map: self })),
+            Ok(Change::Missing) => unreachable!(),
+            Ok(Change::Replaced) => unreachable!(),
+            Ok(Change::Removed) => unreachable!(),
+            Err(refused) => Err(refused),
         }
     }
 }

@@ -1,6 +1,7 @@
 //! A hash map for one owner: its calls run the map's machines to the end, over a memory and a collector of its own.
 #![tactic(auto)]
 
+mod answers;
 mod asking;
 mod changes;
 mod clones;
@@ -19,13 +20,15 @@ mod map;
 mod rooms;
 mod sweeps;
 mod testing;
+mod updating;
 mod walks;
 
+pub use answers::{Aborted, Compute, OccupiedError, Present, Removed, Replaced, Updated};
 pub use changes::take;
+pub use insertions::put;
 pub use map::HashMap;
 pub use papaya_asks::{Operation, Refused, RefusedKey};
 pub use papaya_pairs::law;
-pub use papaya_resting::{Change, Compute};
 pub use papaya_shown::{Keys, Pairs, Values};
 pub use papaya_tables::Equivalent;
 pub use seize_words::Fault;

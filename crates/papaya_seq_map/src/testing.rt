@@ -1,5 +1,6 @@
 //! Removals from a map for one owner that a test decides. Each begins with a refresh.
-ghost use Rattle.std.specs.Prelude.{◌≡◌, [], None, IfOk, IfErr, OnErr};
+ghost use Rattle.std.specs.Prelude.{◌≡◌, [], None, Some, true, false, option_map, MatchOption, MatchResult, IfOk, IfErr, OnErr};
+ghost use Rattle.std.specs.Borrow.{sem};
 ghost use Rattle.std.specs.Option.{ForSome};
 ghost use Rattle.papaya_asks.specs.Closures.{Removing, TestsAs, TestTakes};
 ghost use Rattle.papaya_sifts.specs.Given.Late.Faults.{IsRoom};
@@ -7,6 +8,7 @@ ghost use Rattle.papaya_shown.specs.Chain.{CannotGrow};
 ghost use Rattle.seize_words.specs.declared.fault.Fault.TheVariants.{Capacity};
 ghost use Rattle.papaya_resting.specs.Given.{found_by};
 ghost use Rattle.papaya_resting.specs.Asking.{HasDone};
+ghost use Rattle.papaya_seq_map.specs.Answers.{HasRemoved, IsLeft, IsRefused};
 ghost use Rattle.papaya_seq_map.specs.Maps.{HasNow, Keeps};
 
 use crate::map::HashMap;
@@ -15,29 +17,62 @@ use papaya_tables::Equivalent;
 use seize_words::Fault;
 use std::hash::{BuildHasher, Hash};
 
+/// Removes the pair of a key, if a test of it answers yes. The test is called where the key is there, and else not at all. It answers `Removed`, `Kept` or
+/// `Missing`. The faults are `Fault::Capacity`, where no table can follow the map's last one, and `Fault::Memory`; then no pair has changed.
+fn take_if<
+    K: Eq + Hash + Drop,
+    V: Drop,
+    S: BuildHasher,
+    Q: Equivalent<K>,
+    F: FnOnce(&K, &V) -> bool,
+>(map: &mut HashMap<K, V, S>, asked: &Q, test: F) -> Result<Change, Fault>
+    requires callable { ForSome (found_by (Q.Equivalent.equivalent asked.now) map.old.pairs) (TestTakes F.FnOnce test) }
+    ensures done { IfOk result (λ done. HasDone (Q.Equivalent.equivalent asked.now) None (Removing (TestsAs F.FnOnce test)) map.old.pairs (HasNow map.new) done) }
+    ensures refused { OnErr result (HasNow map.new map.old.pairs None None) }
+    ensures fault { IfErr result IsRoom }
+    ensures capacity { IfErr result (λ fault. fault ≡ Capacity → CannotGrow map.new.tables) }
+    ensures hasher { map.new.hasher ≡ map.old.hasher }
+    ensures keeps { Keeps [] map.old map.new }
+{
+    papaya_resting::remove_if(
+        &mut map.resting.memory,
+        map.resting.setting,
+        &map.hasher,
+        &mut map.resting.last,
+        asked,
+        test,
+    )
+}
+
 impl<K: Eq + Hash + Drop, V: Drop, S: BuildHasher> HashMap<K, V, S> {
-    /// Removes the pair of a key, if a test of it answers yes. The test is called where the key is there, and else not at all. It answers `Removed`, `Kept` or
-    /// `Missing`. The faults are `Fault::Capacity`, where no table can follow the map's last one, and `Fault::Memory`; then no pair has changed.
+    ghost use Rattle.papaya_seq_map.specs.Lent.{EndsSo};
+
+    /// Removes the pair of a key, if a test of it answers yes, and lends it, or, where it answers no, the pair that stays; or nothing, where the key is not
+    /// there. The test is called where it is there, and else not at all. The faults are `Fault::Capacity`, where no table can follow the map's last one, and
+    /// `Fault::Memory`; then no pair has changed.
     pub fn remove_if<Q: Equivalent<K>, F: FnOnce(&K, &V) -> bool>(
         &mut self,
         asked: &Q,
         test: F,
-    ) -> Result<Change, Fault>
+    ) -> Result<Result<Option<(&K, &V)>, (&K, &V)>, Fault>
         requires callable { ForSome (found_by (Q.Equivalent.equivalent asked.now) self.old.pairs) (TestTakes F.FnOnce test) }
-        ensures done { IfOk result (λ done. HasDone (Q.Equivalent.equivalent asked.now) None (Removing (TestsAs F.FnOnce test)) self.old.pairs (HasNow self.new) done) }
-        ensures refused { OnErr result (HasNow self.new self.old.pairs None None) }
+        ensures* after { sem 𝓛 (EndsSo K.row V.row S.row S.Hasher.row K.Hash S.BuildHasher S.Hasher.Hasher self.entry (λ map. MatchResult result (λ gone. MatchResult gone
+            (λ _. MatchOption (found_by (Q.Equivalent.equivalent asked.now) self.old.pairs) (IsLeft self.old map None) (λ x. TestsAs F.FnOnce test x true × HasRemoved self.old map (Q.Equivalent.equivalent asked.now) x))
+            (λ _. MatchOption (found_by (Q.Equivalent.equivalent asked.now) self.old.pairs) ⊥ (λ x. TestsAs F.FnOnce test x false × IsLeft self.old map (Some x))) × (map.hasher ≡ self.old.hasher))
+            (λ fault. IsRefused self.old map fault))) }
+        ensures pair { IfOk result (λ gone. MatchResult gone (λ was. option_map (λ x. (x.0.now, x.1.now)) was ≡ found_by (Q.Equivalent.equivalent asked.now) self.old.pairs) (λ x. Some (x.0.now, x.1.now) ≡ found_by (Q.Equivalent.equivalent asked.now) self.old.pairs)) }
         ensures fault { IfErr result IsRoom }
-        ensures capacity { IfErr result (λ fault. fault ≡ Capacity → CannotGrow self.new.tables) }
-        ensures hasher { self.new.hasher ≡ self.old.hasher }
-        ensures keeps { Keeps [] self.old self.new }
     {
-        papaya_resting::remove_if(
-            &mut self.resting.memory,
-            self.resting.setting,
-            &self.hasher,
-            &mut self.resting.last,
-            asked,
-            test,
-        )
+        match take_if(self, asked, test) {
+            Ok(Change::Removed) => Ok(Ok(self.taken())),
+            Ok(Change::Missing) => Ok(Ok(None)),
+            Ok(Change::Kept) => match self.met() {
+                Some(there) => Ok(Err(there)),
+                None => unreachable!(),
+            },
+            Ok(Change::Stored) => unreachable!(),
+            Ok(Change::Replaced) => unreachable!(),
+            Err(fault) => Err(fault),
+        }
     }
 }

@@ -1,7 +1,7 @@
 //! Maps of numbers are made, and changed, and changed again where that was refused.
 
 use crate::rows::Row;
-use papaya_seq::{Fault, HashMap, Operation, Refused, RefusedKey};
+use papaya_seq::{Fault, HashMap, Operation};
 use std::alloc::Global;
 use std::hash::{BuildHasherDefault, FoldHasher};
 
@@ -61,20 +61,6 @@ fn is_made(alloc: Global, original: &Numbers, row: Row) -> Result<bool, Fault> {
     Ok(is_as(&map, row))
 }
 
-fn fault_of<T: Drop>(answer: Result<T, Refused<u64, u64>>) -> Result<(), Fault> {
-    match answer {
-        Ok(_) => Ok(()),
-        Err(refused) => Err(refused.fault),
-    }
-}
-
-fn fault_of_key<T: Drop>(answer: Result<T, RefusedKey<u64>>) -> Result<(), Fault> {
-    match answer {
-        Ok(_) => Ok(()),
-        Err(refused) => Err(refused.fault),
-    }
-}
-
 fn one_more(value: &u64) -> u64 {
     value.wrapping_add(1)
 }
@@ -93,13 +79,14 @@ fn removed(map: &mut Numbers, call: &str, key: u64) -> Result<(), Fault> {
             map.remove_entry(&key)?;
         }
         "remove_if" => {
-            map.remove_if(&key, |_, value| *value == 30)?;
+            let _ = map.remove_if(&key, |_, value| *value == 30)?;
         }
-        "compute" => return fault_of_key(map.compute(key, |_| Operation::<u64, ()>::Insert(5))),
-        "compute_a_removal" => return fault_of_key(map.compute(
-            key,
-            |_| Operation::<u64, ()>::Remove,
-        )),
+        "compute" => {
+            map.compute(key, |_| Operation::<u64, ()>::Insert(5))?;
+        }
+        "compute_a_removal" => {
+            map.compute(key, |_| Operation::<u64, ()>::Remove)?;
+        }
         _ => return changed(map, call),
     }
     Ok(())
@@ -109,7 +96,7 @@ fn removed(map: &mut Numbers, call: &str, key: u64) -> Result<(), Fault> {
 fn changed(map: &mut Numbers, call: &str) -> Result<(), Fault> {
     match call {
         "reserve" => map.reserve(1000),
-        "extend" => fault_of(map.extend([(8, 5)].iter().copied())),
+        "extend" => Ok(map.extend([(8, 5)].iter().copied())?),
         "retain" => map.retain(|key, _| *key % 2 == 0),
         "clear" => map.clear(),
         _ => Err(NO_CALL),
@@ -119,22 +106,41 @@ fn changed(map: &mut Numbers, call: &str) -> Result<(), Fault> {
 /// A call that may store a value.
 fn stored(map: &mut Numbers, call: &str, key: u64) -> Result<(), Fault> {
     match call {
-        "insert" => fault_of(map.insert(key, 5)),
-        "try_insert" => fault_of(map.try_insert(key, 5)),
-        "try_insert_with" => fault_of_key(map.try_insert_with(key, five)),
-        "update" => fault_of_key(map.update(key, one_more)),
-        "update_or_insert" => fault_of(map.update_or_insert(key, one_more, 5)),
-        "update_or_insert_with" => fault_of_key(map.update_or_insert_with(key, one_more, five)),
+        "insert" => {
+            map.insert(key, 5)?;
+        }
+        "try_insert" => {
+            let _ = map.try_insert(key, 5)?;
+        }
         "get_or_insert" => {
             map.get_or_insert(key, 5)?;
-            Ok(())
         }
         "get_or_insert_with" => {
             map.get_or_insert_with(key, five)?;
-            Ok(())
         }
-        _ => removed(map, call, key),
+        "try_insert_with" => {
+            let _ = map.try_insert_with(key, five)?;
+        }
+        _ => return updated(map, call, key),
     }
+    Ok(())
+}
+
+/// A call that may replace a value by one that is made of it.
+fn updated(map: &mut Numbers, call: &str, key: u64) -> Result<(), Fault> {
+    match call {
+        "update" => {
+            map.update(key, one_more)?;
+        }
+        "update_or_insert" => {
+            map.update_or_insert(key, one_more, 5)?;
+        }
+        "update_or_insert_with" => {
+            map.update_or_insert_with(key, one_more, five)?;
+        }
+        _ => return removed(map, call, key),
+    }
+    Ok(())
 }
 
 /// Whether a change is made at once, or was refused for want of memory, with all pairs as before, and is made then; and the map is then as its row says.
@@ -149,7 +155,7 @@ fn is_changed(map: &mut Numbers, row: Row) -> bool {
 
 /// The call of a row, beside or on a map whose table has no place left: a further pair needs a table.
 fn on_filled(alloc: Global, map: &mut Numbers, row: Row) -> Result<bool, Fault> {
-    fault_of(map.extend(PAIRS.iter().copied()))?;
+    map.extend(PAIRS.iter().copied())?;
     if row.on == "map" {
         Ok(is_changed(map, row))
     } else {

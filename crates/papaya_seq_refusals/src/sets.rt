@@ -2,7 +2,7 @@
 
 use crate::maps::{Hashing, NO_CALL};
 use crate::rows::Row;
-use papaya_seq::{Fault, HashSet, RefusedKey};
+use papaya_seq::{Fault, HashSet};
 use std::alloc::Global;
 
 type Numbers = HashSet<u64, Hashing>;
@@ -45,22 +45,18 @@ fn is_made(alloc: Global, original: &Numbers, row: Row) -> Result<bool, Fault> {
     Ok(is_as(&set, row))
 }
 
-fn fault_of<T: Drop>(answer: Result<T, RefusedKey<u64>>) -> Result<(), Fault> {
-    match answer {
-        Ok(_) => Ok(()),
-        Err(refused) => Err(refused.fault),
-    }
-}
-
 fn changed(set: &mut Numbers, call: &str, element: u64) -> Result<(), Fault> {
     match call {
-        "insert" => fault_of(set.insert(element)),
+        "insert" => {
+            set.insert(element)?;
+            Ok(())
+        }
         "remove" => {
             set.remove(&element)?;
             Ok(())
         }
         "reserve" => set.reserve(1000),
-        "extend" => fault_of(set.extend(8..9)),
+        "extend" => Ok(set.extend(8..9)?),
         "retain" => set.retain(|element| *element % 2 == 0),
         "clear" => set.clear(),
         _ => Err(NO_CALL),
@@ -79,7 +75,7 @@ fn is_changed(set: &mut Numbers, row: Row) -> bool {
 
 /// The call of a row, beside or on a set whose table has no place left: a further element needs a table.
 fn on_filled(alloc: Global, set: &mut Numbers, row: Row) -> Result<bool, Fault> {
-    fault_of(set.extend(0..8))?;
+    set.extend(0..8)?;
     if row.on == "set" {
         Ok(is_changed(set, row))
     } else {

@@ -6,7 +6,7 @@ pub mod Fine
 pub mod Lost
 pub mod Reclaimed
 mod Refused
-mod Samples
+pub mod Samples
 pub mod Slots
 pub mod Stays
 pub mod Steps

@@ -1,6 +1,6 @@
 -- Acts worked by hand, and wrong plans that the laws refuse.
 mod Acts
-mod Base
+pub mod Base
 mod Passes
 mod Plans
 mod Reclaimed

@@ -3,6 +3,7 @@ ghost use Rattle.std.specs.Prelude.{◌≡◌, ◌+◌, ◌*◌, ◌≤◌, ◌<
 ghost use Rattle.seize_words.specs.Op.{Load, Store, Swap, Add, Or, Exchange, Make, Take, Room, Found, Stored, Exchanged, Made, Taken, Roomed};
 ghost use Rattle.seize_seats.specs.State.{Allows, Turns, Comes};
 ghost use Rattle.seize_seats.specs.Lines.{long};
+ghost use Rattle.seize_seats.specs.Lendings.{Shown, IsValueOf};
 ghost use Rattle.seize_blocks.specs.Placed.{IsItsPlace};
 
 use crate::claim::Claim;
@@ -220,6 +221,23 @@ impl<T, R: Rule<T>> Blocks<T, R> {
             first + 4,
         );
         match value {
+            Some(value) => value,
+            None => unreachable!(),
+        }
+    }
+
+    /// The value of a block that the seat's view shows, for as long as the memory and the seat are borrowed.
+    pub fn value<'g>(&'g self, seat: &'g Seat<T, R>, block: u64) -> &'g T
+        requires own { seat.now.base ≡ self.now.words.id.views_name }
+        requires shown { Shown (R.holds self.now.words.fixed) seat.now.id seat.now.view block }
+        ensures { IsValueOf (R.holds self.now.words.fixed) seat.now.id seat.now.view block result.now }
+    {
+        let index = if block > 0 && block <= self.count {
+            block - 1
+        } else {
+            0
+        };
+        match self.words.value(seat, block, index, self.values.at) {
             Some(value) => value,
             None => unreachable!(),
         }

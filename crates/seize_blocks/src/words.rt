@@ -4,6 +4,7 @@ ghost use Rattle.seize_words.specs.Op.{Load, Store, Swap, Add, Or, Exchange, Mak
 ghost use Rattle.seize_seats.specs.State.{Allows, Turns, Comes, Starts};
 ghost use Rattle.seize_seats.specs.Lines.{whole, long};
 ghost use Rattle.seize_seats.specs.Steps.{roomed};
+ghost use Rattle.seize_seats.specs.Lendings.{Shown, IsValueOf};
 ghost use Rattle.seize_seats.specs.Owned.{BaseId, base_id_coded, words_own, words_share};
 ghost use Rattle.seize_blocks.specs.Placed.{IsItsPlace, IsItsSign};
 
@@ -145,6 +146,21 @@ impl<T, R: Rule<T>> Words<T, R> {
             raw::store::<Brand>(words.add(sign as usize), 0, SeqCst);
             value
         }
+    }
+
+    /// Where the value of a block lies, for as long as the words and the seat are borrowed. The index is that of its number, if there is such a block.
+    pub(crate) fn value<'g>(
+        &'g self,
+        seat: &'g Seat<T, R>,
+        _block: u64,
+        index: u64,
+        values: *mut Option<T>,
+    ) -> &'g Option<T>
+        requires { (seat.now.base ≡ self.now.id.views_name) × (0 < _block → _block ≤ self.now.id.count → index ≡ _block - 1)
+            × (values ≡ self.now.id.values) × Shown (R.holds self.now.fixed) seat.now.id seat.now.view _block }
+        ensures { (x : T) × (result.now ≡ Some x) × IsValueOf (R.holds self.now.fixed) seat.now.id seat.now.view _block x }
+    {
+        unsafe { &*values.add(index as usize) }
     }
 
     /// A block is refused, and its value stays with its maker.

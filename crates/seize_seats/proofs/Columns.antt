@@ -1,10 +1,10 @@
 -- Words and their places: another word at a place is another word of its name.
-use Rattle.std.specs.Prelude.{◌≡◌, ◌≢◌, ℕ, zero, suc, ◌+◌, ◌*◌, ◌-◌, ◌<◌, ◌≤◌, ◌==◌, ◌⊎◌, List, [], length, Some, slice_get, slice_index, slice_set}
+use Rattle.std.specs.Prelude.{◌≡◌, ◌≢◌, ℕ, zero, suc, ◌+◌, ◌*◌, ◌<◌, ◌≤◌, ◌⊎◌, List, length, Some, slice_get, slice_index, slice_set}
 use Rattle.std.proofs.Common.{refl, ap, ◌∙◌, arith, inl, inr, length-set}
 use Rattle.std.proofs.lemmas.List.{get_or-set_same, get_or-set_other}
 use Rattle.seize_words.specs.SlotWords.{slot_word, with_slot_word}
 use Rattle.seize_words.specs.declared.at.At.TheVariants.{Root, Used, Slot, Entry, Word}
-use Rattle.seize_seats.specs.Lines.{Parts, column, slots_from, memory_of, AreLaid}
+use Rattle.seize_seats.specs.Lines.{Parts, column, slots_from, AreLaid}
 use Rattle.seize_seats.specs.Laws.{WordsLie, WordsAreApart}
 
 column_get : (k : ℕ) (ws : List ℕ) (o i w : ℕ) → slice_get (column k ws o) i ≡ Some w → (i < k) × (slice_index ws (i * 16 + o) ≡ w)

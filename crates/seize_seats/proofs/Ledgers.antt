@@ -2,7 +2,7 @@
 use Rattle.std.proofs.Common.{◌≡◌, ℕ, zero, suc, ◌+◌, List, [], ◌∷◌, ◌++◌, length, set, sym, refl, ap, subst, arith, Some}
 use Rattle.std.specs.Prelude.{slice_get}
 use mathlib.Core.Path.{Path}
-use mathlib.Mathlib.Data.Part.{◌∈◌}
+use mathlib.Mathlib.Data.Part.{◌∈◌, mem_unique}
 use seplogic.Ra.Pcs.{OpDef, OpDef-comm}
 use seplogic.Ra.Ura.{Ura}
 use seplogic.Ra.Constructions.Prod
@@ -14,11 +14,12 @@ use base.Share
 use base.Share.{quarter, three_quarters}
 use base.SetCodes.{coded, SetCoded-set}
 use base.Stored.{Gv, Coded}
-use base.Logic.{SProp, ent, sep, wand, ex, all, guard, upd, via, apply∗, all_e, ex_e, guard_e, guard_i, upd_i, upd_mono}
+use base.Logic.{SProp, id⊢, ent, sep, wand, ex, all, guard, upd, via, apply∗, all_e, ex_e, guard_e, guard_i, upd_i, upd_mono}
 use base.Fml.{Share, Fml, ftrue}
 use types.Keyed.{entry, entries_take, entries_beside, entry_cut, entry_glue, entry_set, entries_new}
 use types.Logic.{Logic, sem}
 use types.Kit.{‵, raw, ◌⊛◌, given, ◌$◌, ◌∵◌, !, qed, move, split, split3, join, fsplit, fjoin, learn, check, frame, each, assume, suffices, settle, use1, use2, use3, rewrite, done}
+use ghost.Rules.{Halves}
 use Rattle.seize_seats.specs.Owned.{itself, shared_view, seen, unborn, quarters, ledger}
 
 module _ {M : Type 1} {𝓤 : Ura M} (𝓛 : Logic 𝓤) {V : Type 0} (cv : Coded V) (γ : ℕ) where
@@ -60,6 +61,26 @@ module _ {M : Type 1} {𝓤 : Ura M} (𝓛 : Logic 𝓤) {V : Type 0} (cv : Code
   cuts k u = entry_cut shared_view 𝓛 γ k (quarter, c u) (three_quarters, c u) (full_share, c u)
       (Prod.mk-mem-op Share.op (Ag.op (SetCoded-set (coded itself))) {a = quarter} {a' = three_quarters} {x = full_share} {b = c u} {b' = c u} {y =
       c u} Share.quarters (Ag.idem (SetCoded-set (coded itself)) (c u)))
+
+  -- a share of a view is cut into its halves and made of them
+  pub view_halves : (k : ℕ) (u : V) → Halves 𝓤 𝓛.H 𝓛.A (λ q. Sn q k u)
+  view_halves k u = record { cut = cut; join = join }
+    where
+      sum : (q : Share) → ◌∈◌ {α = Share × Gv} (q, c u) (shared_view.op (Share.left q, c u) (Share.right q, c u))
+      sum q = Prod.mk-mem-op Share.op (Ag.op (SetCoded-set (coded itself))) {a = Share.left q} {a' = Share.right q} {x = q} {b = c u} {b' = c u} {y =
+          c u} (Share.halves q) (Ag.idem (SetCoded-set (coded itself)) (c u))
+
+      cut : (q : Share) → ⟦ Sn q k u ⟧ ⊢ ⟦ Sn (Share.left q) k u ⟧ ∗ ⟦ Sn (Share.right q) k u ⟧
+      cut q = entry_cut shared_view 𝓛 γ k (Share.left q, c u) (Share.right q, c u) (q, c u) (sum q)
+
+      join : (q : Share) → ⟦ Sn (Share.left q) k u ⟧ ∗ ⟦ Sn (Share.right q) k u ⟧ ⊢ ⟦ Sn q k u ⟧
+      join q = let F : Share × Gv → Pr = λ x. guard 𝓤 (x ∈ shared_view.op (Share.left q, c u) (Share.right q, c u)) ⟦ entry shared_view γ k x ⟧ in
+          via 𝓤 (ex 𝓤 F) (entry_glue shared_view 𝓛 γ k (Share.left q, c u) (Share.right q, c u)) (ex_e 𝓤 F (λ x. guard_e 𝓤 (x ∈ shared_view.op (
+            Share.left q,
+            c u,
+          ) (Share.right q, c u)) ⟦ entry shared_view γ k x ⟧ (λ m.
+          subst (λ (y : Share × Gv). ⟦ entry shared_view γ k x ⟧ ⊢ ⟦ entry shared_view γ k y ⟧)
+          (mem_unique (shared_view.op (Share.left q, c u) (Share.right q, c u)) m (sum q)) (id⊢ 𝓤 ⟦ entry shared_view γ k x ⟧))))
 
   -- two shares of one view say the same, whatever they are
   pub agree : (k : ℕ) (q : Share) (w v : V) → ⟦ Sn quarter k w ⟧ ∗ ⟦ Sn q k v ⟧ ⊢ guard 𝓤 (w ≡ v) (⟦ Sn quarter k w ⟧ ∗ ⟦ Sn q k v ⟧)
@@ -106,6 +127,15 @@ module _ {M : Type 1} {𝓤 : Ura M} (𝓛 : Logic 𝓤) {V : Type 0} (cv : Code
         q,
         c v,
       )) ⟦ entry shared_view γ k x ⟧ (λ m. absurd (not-OpDef-full_share q m.0.0))))
+
+  -- three quarters are beside no other three
+  pub once : (k : ℕ) (w v : V) → ⟦ Sn three_quarters k w ⟧ ∗ ⟦ Sn three_quarters k v ⟧ ⊢ guard 𝓤 ⊥ (⟦ Sn three_quarters k w ⟧ ∗ ⟦ Sn three_quarters k v ⟧)
+  once k w v = let F : Share × Gv → Pr = λ x. guard 𝓤 (x ∈ shared_view.op (three_quarters, c w) (three_quarters, c v)) ⟦ entry shared_view γ k x ⟧ in
+      let Both : Pr = ⟦ Sn three_quarters k w ⟧ ∗ ⟦ Sn three_quarters k v ⟧ in
+      via 𝓤 (ex 𝓤 F) (entry_glue shared_view 𝓛 γ k (three_quarters, c w) (three_quarters, c v)) (ex_e 𝓤 F (λ x. guard_e 𝓤 (x ∈ shared_view.op (
+        three_quarters,
+        c w,
+      ) (three_quarters, c v)) ⟦ entry shared_view γ k x ⟧ (λ m. absurd (Share.three_quarters_once m.0.0))))
 
   -- a share of a view is of one of the list, and the list says the same
   listed : (vs : List V) (k i j n : ℕ) (q : Share) (v d : V) → j ≡ k + i → n ≡ k + length vs → ⟦ All k vs ⟧ ∗ ⟦ Rest n d ⟧ ∗ ⟦ Sn q j v ⟧

@@ -2,11 +2,16 @@ pub mod Cells
 pub mod Columns
 pub mod Rows
 pub mod Ledgers
+pub mod Stretches
+pub mod Lendings
 pub mod Numbers
 pub mod Moves
 pub mod Makings
+pub mod Regains
+pub mod Lends
 pub mod Steps
 pub mod Opening
+pub mod Shares
 pub mod Shown
 pub mod Rooms
 pub mod Sent

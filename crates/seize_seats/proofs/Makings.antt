@@ -1,6 +1,6 @@
 -- How a block comes and goes: a number is claimed, its place taken out, a block published, taken away, and its number is free again. Assumes `Logic`.
 use Rattle.std.specs.Prelude.{slice_get, slice_set}
-use Rattle.std.proofs.Common.{◌≡◌, ℕ, zero, suc, ◌+◌, ◌-◌, ◌*◌, ◌^◌, ◌<◌, List, [], ◌∷◌, ◌++◌, length, refl, sym, ap, ◌∙◌, subst, arith, inl, inr, Option, Some, None, Ok}
+use Rattle.std.proofs.Common.{◌≡◌, ℕ, zero, suc, ◌+◌, ◌-◌, ◌*◌, ◌^◌, ◌<◌, List, [], ◌∷◌, length, refl, sym, ap, ◌∙◌, subst, arith, inl, inr, Option, Some, None, Ok}
 use Rattle.std.specs.Prelude.{bit_or, IsSome}
 use seplogic.Ra.Ura.{Ura}
 use base.Fraction.{full_share}
@@ -15,15 +15,15 @@ use denote.RawPtr.{Ptr, block_ptr, block_of, count_of}
 use denote.Steps.{nothing}
 use Rattle.core.specs.Sync.RawAtomic.{word, asks, always}
 use Rattle.core.proofs.raw_atomic.Asked.{borrowed, Lies, Again}
-use Rattle.seize_words.specs.Mem.{Mem, value_at, value_in, fresh, after, with_made, IsFreeNumber}
+use Rattle.seize_words.specs.Mem.{Mem, value_at, value_in, fresh, after, IsFreeNumber}
 use Rattle.seize_words.specs.Op.{Make, Take, Made, Taken}
 use Rattle.seize_words.specs.Op as Op
 use Rattle.seize_words.specs.declared.block.Block.{Block}
 use Rattle.seize_seats.specs.State.{State, Goes, Allows}
 use Rattle.seize_seats.specs.Cells.{Cell, Free, Claimed, Out, Has, block_in, blocks_in, cell_at, sign_of}
 use Rattle.seize_seats.specs.Lines.{Parts, long, memory_of, AreLaid}
-use Rattle.seize_seats.specs.Owned.{fact, ledger, claim_owns, Hand, hand_coded, resting, busy, zeros, stride, hand, inside, kept, BaseId, age, Inside, state_of, standing, inner}
-use Rattle.seize_seats.proofs.Cells.{recelled, laid_same, laid_with, block_is, blocks_made, blocks_set, low_number, cell_beyond}
+use Rattle.seize_seats.specs.Owned.{fact, ledger, claim_owns, Hand, hand_coded, resting, busy, zeros, stride, hand, inside, offered, lent_here, BaseId, age, Inside, state_of, standing, inner}
+use Rattle.seize_seats.proofs.Cells.{recelled, laid_same, laid_with, block_is, blocks_made, blocks_set, cell_beyond}
 use Rattle.seize_seats.proofs.Numbers as Numbers
 use Rattle.seize_seats.proofs.Ledgers as Ledgers
 use Rattle.seize_seats.proofs.Moves as Moves
@@ -52,6 +52,12 @@ module _ {M : Type 1} {𝓤 : Ura M} (𝓛 : Logic 𝓤) (R : RattleType) {V W :
   abbrev I : Fml
   I = inner R cv.code holds p z
 
+  abbrev Inv : Fml
+  Inv = Moves.Inv 𝓛 R cv holds keeps p z
+
+  plainly : (K G : Pr) → ⟦ finv (fbor α I) ⟧ ∗ K ⊢ G → ⟦ Inv ⟧ ∗ K ⊢ G
+  plainly = Moves.plainly 𝓛 R cv holds keeps p z
+
   abbrev In : Type 0
   In = Inside R.Denot V W
 
@@ -61,7 +67,7 @@ module _ {M : Type 1} {𝓤 : Ura M} (𝓛 : Logic 𝓤) (R : RattleType) {V W :
   abbrev o : ℕ
   o = long z.roots * 8 + count_of p
 
-  abbrev Led : In → Fml
+  abbrev pub Led : In → Fml
   Led t = ledger cv.code z.views_name t.blank t.views
 
   abbrev seat : ℕ → V → Fml
@@ -70,14 +76,17 @@ module _ {M : Type 1} {𝓤 : Ura M} (𝓛 : Logic 𝓤) (R : RattleType) {V W :
   abbrev gone_on : ℕ → (V → Type 0) → Fml
   gone_on = Moves.gone_on 𝓛 R cv holds keeps p z
 
+  abbrev pub lent : ℕ → R.Denot → ℕ → ℕ → Fml
+  lent = lent_here R cv.code holds p z
+
   abbrev Ws : List ℕ → List (Cell R.Denot) → Fml
-  Ws = Numbers.Ws 𝓛 R p z
+  Ws = Numbers.Ws 𝓛 R p z lent
 
-  abbrev cell_of : ℕ → Cell R.Denot → Fml
-  cell_of = Numbers.cell_of 𝓛 R p z
+  abbrev pub cell_of : ℕ → Cell R.Denot → Fml
+  cell_of = Numbers.cell_of 𝓛 R p z lent
 
-  abbrev Recells : In → ℕ → Cell R.Denot → Pr
-  Recells t i = Numbers.Recells 𝓛 R p z t.parts.words t.parts.cells i
+  abbrev pub Recells : In → ℕ → Cell R.Denot → Pr
+  Recells t i = Numbers.Recells 𝓛 R p z lent t.parts.words t.parts.cells i
 
   -- a share of who has a number, and what lies under it
   abbrev pub hands : Share → ℕ → Hand → Fml
@@ -86,7 +95,11 @@ module _ {M : Type 1} {𝓤 : Ura M} (𝓛 : Logic 𝓤) (R : RattleType) {V W :
   abbrev pub contents : ℕ → List ℕ → Option R.Denot → Fml
   contents i ws x = inside R α z.hands_name b (i * 40 + o) (block_of z.values) (i * stride R + count_of z.values) ws x
 
-  abbrev Sound : In → Type 0
+  -- the same of a block, whose value can be lent
+  abbrev pub offers : ℕ → List ℕ → R.Denot → Fml
+  offers i ws x = offered R α z.hands_name lent b (i * 40 + o) (block_of z.values) (i * stride R + count_of z.values) i ws x
+
+  abbrev pub Sound : In → Type 0
   Sound t = holds (state_of z t) × AreLaid z.roots z.count t.parts
 
   abbrev At_inside : In → Fml
@@ -94,7 +107,7 @@ module _ {M : Type 1} {𝓤 : Ura M} (𝓛 : Logic 𝓤) (R : RattleType) {V W :
 
   module _ (t : In) (sound : Sound t) where
     -- another cell with the same block
-    recell : (i : ℕ) (d : Cell R.Denot) → block_in d ≡ block_in (cell_at t.parts.cells i) → ((x : R.Denot) (ws : List ℕ) → d ≡ Has x ws → length ws ≡ 4)
+    pub recell : (i : ℕ) (d : Cell R.Denot) → block_in d ≡ block_in (cell_at t.parts.cells i) → ((x : R.Denot) (ws : List ℕ) → d ≡ Has x ws → length ws ≡ 4)
         → ⟦ cell_of i d ⟧ ∗ all 𝓤 (Recells t i) ∗ ⟦ Led t ⟧ ⊢ ⟦ I ⟧
     recell i d same four =
         let ws : List ℕ = t.parts.words in let cs : List (Cell R.Denot) = slice_set t.parts.cells i d in
@@ -110,13 +123,13 @@ module _ {M : Type 1} {𝓤 : Ura M} (𝓛 : Logic 𝓤) (R : RattleType) {V W :
     few i lt = let all = sound.1.counted in omega (arith, lt, all)
 
   -- the cell of a number
-  opens : (X : Pr) (Z : Pr) (i : ℕ) → i < z.count
+  pub opens : (X : Pr) (Z : Pr) (i : ℕ) → i < z.count
       → ((t : In) (sound : Sound t) (c : Cell R.Denot) → cell_at t.parts.cells i ≡ c → ⟦ cell_of i c ⟧ ∗ all 𝓤 (Recells t i) ∗ ⟦ Led t ⟧ ∗ X ⊢ Z)
       → ⟦ I ⟧ ∗ X ⊢ Z
   opens X Z i lt then = qed 𝓛 (‵ I ∷ raw X ∷ []) ∵ fpick ! (λ t. fsplit3 ! $ move ! (2 ∷ []) $ fpick ! (λ sound. drop ! $ move ! (0 ∷ []) $
       -- [the memory; the views; X]
       let cs : List (Cell R.Denot) = t.parts.cells in let c : Cell R.Denot = cell_at cs i in
-      use1 𝓛 (‵ (cell_of i c) ⊛ raw (all 𝓤 (Recells t i))) (Numbers.celled 𝓛 R p z t.parts.words cs i c (few t sound i lt) refl) $ split ! $
+      use1 𝓛 (‵ (cell_of i c) ⊛ raw (all 𝓤 (Recells t i))) (Numbers.celled 𝓛 R p z lent t.parts.words cs i c (few t sound i lt) refl) $ split ! $
       by ! (then t sound c refl)))
 
   -- ---- A NUMBER IS CLAIMED: bit 0 of its sign is set, and who has set it has the number
@@ -134,7 +147,8 @@ module _ {M : Type 1} {𝓤 : Ura M} (𝓛 : Logic 𝓤) (R : RattleType) {V W :
     Ag = Again 𝓛 α q I b e f always (claimed i)
 
     -- it was not free
-    had : (t : In) (sound : Sound t) (c : Cell R.Denot) → cell_at t.parts.cells i ≡ c → sign_of c ≡ 1 → ((x : R.Denot) (ws : List ℕ) → c ≡ Has x ws → length ws ≡ 4)
+    had : (t : In) (sound : Sound t) (c : Cell R.Denot) → cell_at t.parts.cells i ≡ c → sign_of c ≡ 1 → ((x : R.Denot) (ws : List ℕ) → c ≡ Has x ws
+        → length ws ≡ 4)
         → ⟦ cell_of i c ⟧ ∗ all 𝓤 (Recells t i) ∗ ⟦ Led t ⟧ ∗ emp 𝓤 ⊢ upd 𝓤 (ex 𝓤 Li)
     had t sound c is sign four = let Z : Pr = ⟦ I ⟧ ∗ emp 𝓤 in
         qed 𝓛 (‵ (cell_of i c) ∷ raw (all 𝓤 (Recells t i)) ∷ ‵ (Led t) ∷ ‵ ftrue ∷ []) ∵ suffices ! _ (upd_i 𝓤 (ex 𝓤 Li)) $ fsplit ! $
@@ -161,21 +175,21 @@ module _ {M : Type 1} {𝓤 : Ura M} (𝓛 : Logic 𝓤) (R : RattleType) {V W :
         suffices ! _ (upd_i 𝓤 Z) $ move ! (0 ∷ 2 ∷ 3 ∷ []) $
         use3 𝓛 (‵ I) (recell t sound i Claimed (sym (ap block_in is)) (λ x ws e. absurd (cc e))) $ keep ! (0 ∷ 1 ∷ []) $ done !)
 
-    pub claims : ⟦ finv (fbor α I) ⟧ ∗ (A.lft α q ∗ emp 𝓤) ⊢ asks 𝓛 (block_ptr b e) f always (λ n. fsep (flft α q) (claim_owns z.hands_name i n))
-    claims = borrowed 𝓛 α q I b e f always (claimed i) (emp 𝓤) (opens (emp 𝓤) (upd 𝓤 (ex 𝓤 Li)) i lt grants)
+    pub claims : ⟦ Inv ⟧ ∗ (A.lft α q ∗ emp 𝓤) ⊢ asks 𝓛 (block_ptr b e) f always (λ n. fsep (flft α q) (claim_owns z.hands_name i n))
+    claims = plainly (A.lft α q ∗ emp 𝓤) _ (borrowed 𝓛 α q I b e f always (claimed i) (emp 𝓤) (opens (emp 𝓤) (upd 𝓤 (ex 𝓤 Li)) i lt grants))
 
   -- who has a number is not alone with it where the number is free, or a block has it
-  clash : (i : ℕ) (h w : Hand) → ⟦ hands full_share i w ⟧ ∗ ⟦ hands three_quarters i h ⟧ ⊢ guard 𝓤 ⊥ (⟦ hands full_share i w ⟧ ∗ ⟦ hands three_quarters i h ⟧)
+  pub clash : (i : ℕ) (h w : Hand) → ⟦ hands full_share i w ⟧ ∗ ⟦ hands three_quarters i h ⟧ ⊢ guard 𝓤 ⊥ (⟦ hands full_share i w ⟧ ∗ ⟦ hands three_quarters i h ⟧)
   clash i h w = Ledgers.alone 𝓛 hand_coded z.hands_name i three_quarters w h
 
-  same_hand : (i : ℕ) (h w : Hand) → ⟦ hands quarter i w ⟧ ∗ ⟦ hands three_quarters i h ⟧
+  pub same_hand : (i : ℕ) (h w : Hand) → ⟦ hands quarter i w ⟧ ∗ ⟦ hands three_quarters i h ⟧
       ⊢ guard 𝓤 (w ≡ h) (⟦ hands quarter i w ⟧ ∗ ⟦ hands three_quarters i h ⟧)
   same_hand i h w = Ledgers.agree 𝓛 hand_coded z.hands_name i three_quarters w h
 
   turns_hand : (i : ℕ) (w h u : Hand) → ⟦ hands quarter i w ⟧ ∗ ⟦ hands three_quarters i h ⟧ ⊢ upd 𝓤 (⟦ hands quarter i u ⟧ ∗ ⟦ hands three_quarters i u ⟧)
   turns_hand i w h u = Ledgers.sets 𝓛 hand_coded z.hands_name i w h u
 
-  resting_is_not : (e : Share) → busy e ≡ resting → ⊥
+  pub resting_is_not : (e : Share) → busy e ≡ resting → ⊥
   resting_is_not e same = let q : 1 ≡ 0 = ap (λ (h : Hand). h.0) same in absurd (omega (arith, q))
 
   -- ---- ITS PLACE IS TAKEN OUT, for a share of the lifetime
@@ -259,8 +273,8 @@ module _ {M : Type 1} {𝓤 : Ura M} (𝓛 : Logic 𝓤) (R : RattleType) {V W :
         use3 𝓛 (‵ I) (recell t sound i Free (sym (ap block_in is)) (λ x ws v. absurd (cc v))) $
         move ! (1 ∷ []) $ rewrite ! 0 (λ (u : Share). ‵ (flft α u)) (ap (λ (h : Hand). h.1) same) refl $ move ! (1 ∷ 0 ∷ []) $ done !)))
 
-    pub frees : ⟦ finv (fbor α I) ⟧ ∗ (A.lft α q ∗ Returning) ⊢ asks 𝓛 (block_ptr b k) g always (λ n. fsep (flft α q) (due n))
-    frees = borrowed 𝓛 α q I b k g always due Returning (opens Returning (upd 𝓤 (ex 𝓤 Lf)) i lt returns)
+    pub frees : ⟦ Inv ⟧ ∗ (A.lft α q ∗ Returning) ⊢ asks 𝓛 (block_ptr b k) g always (λ n. fsep (flft α q) (due n))
+    frees = plainly (A.lft α q ∗ Returning) _ (borrowed 𝓛 α q I b k g always due Returning (opens Returning (upd 𝓤 (ex 𝓤 Lf)) i lt returns))
 
   abbrev back : (id : ℕ) (v : V) (t : In) (s : Parts R.Denot) (so : V → Type 0) → AreLaid z.roots z.count s → slice_get t.views id ≡ Some v
       → Goes holds keeps (state_of z t) (memory_of z.roots s) id so → ⟦ Ws s.words s.cells ⟧ ∗ ⟦ Led t ⟧ ∗ ⟦ seat id v ⟧ ⊢ upd 𝓤 (⟦ I ⟧ ∗ ⟦ gone_on id so ⟧)
@@ -276,7 +290,8 @@ module _ {M : Type 1} {𝓤 : Ura M} (𝓛 : Logic 𝓤) (R : RattleType) {V W :
       use2 𝓛 (Moves.opening 𝓛 R cv holds keeps p z id v) (Moves.opened 𝓛 R cv holds keeps p z id v) $ pick ! (λ t. learn ! (λ g. split3 ! $ by ! (then t g)))
 
   -- ---- A BLOCK IS MADE of a value in its place
-  module _ (id : ℕ) (v : V) (i : ℕ) (e : Share) (x : R.Denot) (so : Op.Out R.Denot → V → Type 0) (lt : i < z.count) (small : i + 1 < 2 ^ 53) (law : Allows holds keeps id v (Make x 0) so) where
+  module _ (id : ℕ) (v : V) (i : ℕ) (e : Share) (x : R.Denot) (so : Op.Out R.Denot → V
+      → Type 0) (lt : i < z.count) (small : i + 1 < 2 ^ 53) (law : Allows holds keeps id v (Make x 0) so) where
     abbrev d : Cell R.Denot
     d = Has x zeros
 
@@ -284,7 +299,7 @@ module _ {M : Type 1} {𝓤 : Ura M} (𝓛 : Logic 𝓤) (R : RattleType) {V W :
     Published = ⟦ I ⟧ ∗ (⟦ gone_on id (so (Made (Ok (i + 1)))) ⟧ ∗ ⟦ flft α e ⟧)
 
     abbrev Ready : Pr
-    Ready = ⟦ hands three_quarters i (busy e) ⟧ ∗ ⟦ contents i zeros (Some x) ⟧
+    Ready = ⟦ hands three_quarters i (busy e) ⟧ ∗ ⟦ offers i zeros x ⟧
 
     made : (t : In) (g : Stands id v t) → block_in (cell_at t.parts.cells i) ≡ None
         → (n : ℕ) × AreLaid z.roots z.count (recelled z.roots z.count t.parts g.1 i d n)
@@ -307,23 +322,23 @@ module _ {M : Type 1} {𝓤 : Ura M} (𝓛 : Logic 𝓤) (R : RattleType) {V W :
         → ⟦ cell_of i c ⟧ ∗ all 𝓤 (Recells t i) ∗ ⟦ Led t ⟧ ∗ ⟦ seat id v ⟧ ∗ Ready ⊢ upd 𝓤 Published
     puts t g Free is =
         qed 𝓛 (‵ (cell_of i Free) ∷ raw (all 𝓤 (Recells t i)) ∷ ‵ (Led t) ∷ ‵ (seat id v) ∷
-        (‵ (hands three_quarters i (busy e)) ⊛ ‵ (contents i zeros (Some x))) ∷ []) ∵
+        (‵ (hands three_quarters i (busy e)) ⊛ ‵ (offers i zeros x)) ∷ []) ∵
         move ! (4 ∷ []) $ split ! $ move ! (2 ∷ []) $ fsplit ! $ move ! (1 ∷ []) $ fsplit ! $ move ! (0 ∷ 3 ∷ []) $
         use2 𝓛 (given ⊥ (‵ (hands full_share i resting) ⊛ ‵ (hands three_quarters i (busy e)))) (clash i (busy e) resting) $ learn ! (λ no. absurd no)
     puts t g (Has y ws) is =
         qed 𝓛 (‵ (cell_of i (Has y ws)) ∷ raw (all 𝓤 (Recells t i)) ∷ ‵ (Led t) ∷ ‵ (seat id v) ∷
-        (‵ (hands three_quarters i (busy e)) ⊛ ‵ (contents i zeros (Some x))) ∷ []) ∵
+        (‵ (hands three_quarters i (busy e)) ⊛ ‵ (offers i zeros x)) ∷ []) ∵
         move ! (4 ∷ []) $ split ! $ move ! (2 ∷ []) $ fsplit ! $ move ! (1 ∷ []) $ fsplit ! $ move ! (0 ∷ 3 ∷ []) $
         use2 𝓛 (given ⊥ (‵ (hands full_share i resting) ⊛ ‵ (hands three_quarters i (busy e)))) (clash i (busy e) resting) $ learn ! (λ no. absurd no)
     puts t g Claimed is =
         qed 𝓛 (‵ (cell_of i Claimed) ∷ raw (all 𝓤 (Recells t i)) ∷ ‵ (Led t) ∷ ‵ (seat id v) ∷
-        (‵ (hands three_quarters i (busy e)) ⊛ ‵ (contents i zeros (Some x))) ∷ []) ∵
+        (‵ (hands three_quarters i (busy e)) ⊛ ‵ (offers i zeros x)) ∷ []) ∵
         move ! (4 ∷ []) $ split ! $ move ! (2 ∷ []) $ fsplit ! $ move ! (1 ∷ []) $ fsplit ! $ move ! (0 ∷ 3 ∷ []) $
         use2 𝓛 (given (resting ≡ busy e) (‵ (hands quarter i resting) ⊛ ‵ (hands three_quarters i (busy e)))) (same_hand i (busy e) resting) $
         learn ! (λ same. absurd (resting_is_not e (sym same)))
     puts t g (Out s) is = let r = made t g (ap block_in is) in let cs : List (Cell R.Denot) = slice_set t.parts.cells i d in let ws : List ℕ = t.parts.words in
         qed 𝓛 (‵ (cell_of i (Out s)) ∷ raw (all 𝓤 (Recells t i)) ∷ ‵ (Led t) ∷ ‵ (seat id v) ∷
-        (‵ (hands three_quarters i (busy e)) ⊛ ‵ (contents i zeros (Some x))) ∷ []) ∵
+        (‵ (hands three_quarters i (busy e)) ⊛ ‵ (offers i zeros x)) ∷ []) ∵
         move ! (4 ∷ []) $ split ! $ move ! (2 ∷ []) $ fsplit ! $ move ! (1 ∷ []) $ fsplit ! $ move ! (0 ∷ 3 ∷ []) $
         -- [the hand, by two; the share; the sign; the contents; the others; the views; the seat]
         use2 𝓛 (given (busy s ≡ busy e) (‵ (hands quarter i (busy s)) ⊛ ‵ (hands three_quarters i (busy e)))) (same_hand i (busy e) (busy s)) $
@@ -344,36 +359,43 @@ module _ {M : Type 1} {𝓤 : Ura M} (𝓛 : Logic 𝓤) (R : RattleType) {V W :
     pub publishes : ⟦ I ⟧ ∗ (⟦ seat id v ⟧ ∗ Ready) ⊢ upd 𝓤 Published
     publishes = opens_seated id v Ready (upd 𝓤 Published) (λ t g. let cs : List (Cell R.Denot) = t.parts.cells in let c : Cell R.Denot = cell_at cs i in
         qed 𝓛 (‵ (Ws t.parts.words cs) ∷ ‵ (Led t) ∷ ‵ (seat id v) ∷ raw Ready ∷ []) ∵
-        use1 𝓛 (‵ (cell_of i c) ⊛ raw (all 𝓤 (Recells t i))) (Numbers.celled 𝓛 R p z t.parts.words cs i c (few t (g.0, g.1) i lt) refl) $ split ! $
+        use1 𝓛 (‵ (cell_of i c) ⊛ raw (all 𝓤 (Recells t i))) (Numbers.celled 𝓛 R p z lent t.parts.words cs i c (few t (g.0, g.1) i lt) refl) $ split ! $
         by ! (puts t g c refl))
+
+  -- a block that has a value is there
+  abbrev pub HasBlock : ℕ → In → Type 0
+  HasBlock n t = (x : R.Denot) × (ws : List ℕ) × (cell_at t.parts.cells (n - 1) ≡ Has x ws) × (0 < n)
+
+  pub has_block : (n : ℕ) (t : In) → AreLaid z.roots z.count t.parts → IsSome (value_at (memory_of z.roots t.parts) n) → HasBlock n t
+  has_block n t laid can = let low = numbered n can in
+      by low (cell_at t.parts.cells (n - 1)) refl (subst IsSome (ap value_in (block_is z.roots z.count t.parts laid n low)) can)
+    where
+      numbered : (k : ℕ) → IsSome (value_at (memory_of z.roots t.parts) k) → 0 < k
+      numbered zero some = absurd (cc some)
+      numbered (suc k) some = omega arith
+
+      by : 0 < n → (c : Cell R.Denot) → cell_at t.parts.cells (n - 1) ≡ c → IsSome (value_in (block_in c)) → HasBlock n t
+      by low Free is some = absurd (cc some)
+      by low Claimed is some = absurd (cc some)
+      by low (Out s) is some = absurd (cc some)
+      by low (Has x ws) is some = (x, ws, is, low)
 
   -- ---- A BLOCK IS TAKEN AWAY, and its place is taken out for a share of the lifetime
   module _ (id : ℕ) (v : V) (n : ℕ) (e : Share) (so : Op.Out R.Denot → V → Type 0) (law : Allows holds keeps id v (Take n) so) where
     abbrev pub Taking : R.Denot × List ℕ → Fml
     Taking u =
         fsep (fact ((0 < n) × (n - 1 < z.count) × (length u.1 ≡ 4)))
-        (fsep (gone_on id (so (Taken u.0))) (fsep (hands three_quarters (n - 1) (busy e)) (contents (n - 1) u.1 (Some u.0))))
+        (fsep (gone_on id (so (Taken u.0))) (fsep (hands three_quarters (n - 1) (busy e)) (offers (n - 1) u.1 u.0)))
 
     abbrev TakenOut : Pr
     TakenOut = ⟦ I ⟧ ∗ ⟦ fex (R.Denot × List ℕ) Taking ⟧
 
     -- the block is there
     abbrev There : In → Type 0
-    There t = (x : R.Denot) × (ws : List ℕ) × (cell_at t.parts.cells (n - 1) ≡ Has x ws) × (0 < n)
+    There = HasBlock n
 
     there : (t : In) → Stands id v t → There t
-    there t g = let can = (law (state_of z t) g.0 g.2).0 in let low = numbered n can in
-        by low (cell_at t.parts.cells (n - 1)) refl (subst IsSome (ap value_in (block_is z.roots z.count t.parts g.1 n low)) can)
-      where
-        numbered : (k : ℕ) → IsSome (value_at (memory_of z.roots t.parts) k) → 0 < k
-        numbered zero some = absurd (cc some)
-        numbered (suc k) some = omega arith
-
-        by : 0 < n → (c : Cell R.Denot) → cell_at t.parts.cells (n - 1) ≡ c → IsSome (value_in (block_in c)) → There t
-        by low Free is some = absurd (cc some)
-        by low Claimed is some = absurd (cc some)
-        by low (Out s) is some = absurd (cc some)
-        by low (Has x ws) is some = (x, ws, is, low)
+    there t g = has_block n t g.1 (law (state_of z t) g.0 g.2).0
 
     abbrev left : (t : In) (g : Stands id v t) → Parts R.Denot
     left t g = recelled z.roots z.count t.parts g.1 (n - 1) (Out e) t.parts.given
@@ -394,7 +416,7 @@ module _ {M : Type 1} {𝓤 : Ura M} (𝓛 : Logic 𝓤) (R : RattleType) {V W :
         let told : V → Type 0 = so (Taken th.0) in
         let facts : (0 < n) × (i < z.count) × (length th.1 ≡ 4) = (th.3, omega (arith, lt, all_of), g.1.fours i th.0 th.1 th.2) in
         qed 𝓛 (‵ (Ws ws cs) ∷ ‵ (Led t) ∷ ‵ (seat id v) ∷ ‵ (flft α e) ∷ []) ∵
-        use1 𝓛 (‵ (cell_of i (Has th.0 th.1)) ⊛ raw (all 𝓤 (Recells t i))) (Numbers.celled 𝓛 R p z ws cs i (Has th.0 th.1) lt th.2) $ split ! $
+        use1 𝓛 (‵ (cell_of i (Has th.0 th.1)) ⊛ raw (all 𝓤 (Recells t i))) (Numbers.celled 𝓛 R p z lent ws cs i (Has th.0 th.1) lt th.2) $ split ! $
         fsplit ! $ move ! (1 ∷ []) $ fsplit ! $
         -- [the hand; the contents; the sign; the others; the views; the seat; the share]
         use1 𝓛 (‵ (hands quarter i resting) ⊛ ‵ (hands three_quarters i resting)) (Ledgers.cuts 𝓛 hand_coded z.hands_name i resting) $ split ! $
@@ -408,4 +430,5 @@ module _ {M : Type 1} {𝓤 : Ura M} (𝓛 : Logic 𝓤) (R : RattleType) {V W :
         settle 𝓛 TakenOut (‵ I ⊛ ‵ (gone_on id told)) $ split ! $ suffices ! _ (upd_i 𝓤 TakenOut) $ frame ! $
         -- [the seat; three quarters; the contents]
         move ! (1 ∷ 2 ∷ []) $ fjoin ! $ move ! (1 ∷ 0 ∷ []) $ fjoin ! $
-        nothing ! $ fpack ! ((0 < n) × (i < z.count) × (length th.1 ≡ 4)) (λ _. ftrue) facts $ fjoin ! $ fpack ! (R.Denot × List ℕ) Taking (th.0, th.1) $ done !)
+        nothing ! $ fpack ! ((0 < n) × (i < z.count) × (length th.1 ≡ 4)) (λ _. ftrue) facts $ fjoin ! $ fpack ! (R.Denot × List ℕ) Taking (th.0, th.1) $
+        done !)

@@ -8,7 +8,7 @@ use base.Stored.{Coded}
 use base.Logic.{SProp, ent, sep, ex, all, guard, upd, emp, id⊢, via, apply∗, all_e, upd_i}
 use base.Fml.{Lft, Share, Fml, ftrue, fsep, fex, flft, fbor, finv, fnamed}
 use types.Logic.{Logic, sem}
-use types.Kit.{‵, raw, ◌⊛◌, some as items, given, later, ◌$◌, ◌∵◌, !, qed, by, move, keep, drop, split, split3, join, fsplit, fsplit3, fjoin, fjoin3, fpick, fpack, pick, learn, check, show, frame, each, assume, suffices, settle, use0, use1, use2, use3, updating, await, now, done}
+use types.Kit.{‵, raw, ◌⊛◌, some as items, given, later, ◌$◌, ◌∵◌, !, qed, by, move, drop, split, split3, fsplit, fsplit3, fjoin, fjoin3, fpick, fpack, pick, learn, check, show, frame, each, assume, suffices, settle, use0, use1, use2, use3, updating, await, now, done}
 use types.Tokens.{shr_bor-open, obor_close}
 use types.Within.{tokens_halve}
 use denote.RattleType.{RattleType}
@@ -22,9 +22,11 @@ use Rattle.seize_words.specs.declared.at.At.{At}
 use Rattle.seize_seats.specs.State.{State, Goes, Allows, Turns, Comes}
 use Rattle.seize_seats.specs.Lines.{Parts, place_of, memory_of, AreLaid}
 use Rattle.seize_seats.specs.Steps.{IsStepOf, roomed}
-use Rattle.seize_seats.specs.Owned.{fact, ledger, BaseId, age, Inside, state_of, standing, inner, words_share, seat_owns}
+use Rattle.seize_seats.specs.Owned.{fact, ledger, BaseId, age, Inside, state_of, standing, inner, words_share, lent_here, seen}
+use Rattle.seize_seats.specs.Stretches.{IsEven, invariant}
 use Rattle.seize_seats.proofs.Numbers as Numbers
 use Rattle.seize_seats.proofs.Ledgers as Ledgers
+use Rattle.seize_seats.proofs.Stretches as Stretches
 use Rattle.seize_seats.proofs.Rooms as Rooms
 
 module _ {M : Type 1} {𝓤 : Ura M} (𝓛 : Logic 𝓤) (R : RattleType) {V W : Type 0} (cv : Coded V) (holds : State R.Denot V W → Type 0) (keeps : V → V → W → ℕ
@@ -51,21 +53,31 @@ module _ {M : Type 1} {𝓤 : Ura M} (𝓛 : Logic 𝓤) (R : RattleType) {V W :
   abbrev I : Fml
   I = inner R cv.code holds p z
 
+  abbrev pub Inv : Fml
+  Inv = invariant IsEven (fbor α I)
+
+  -- what the invariant gives, whatever its number is
+  pub plainly : (K G : Pr) → ⟦ finv (fbor α I) ⟧ ∗ K ⊢ G → ⟦ Inv ⟧ ∗ K ⊢ G
+  plainly K G go = qed 𝓛 (‵ Inv ∷ raw K ∷ []) ∵ use1 𝓛 (‵ (finv (fbor α I))) (Stretches.plain 𝓛 IsEven (fbor α I)) $ by ! go
+
   abbrev b : ℕ
   b = block_of p
 
   abbrev o : ℕ
   o = count_of p
 
+  abbrev pub lent : ℕ → R.Denot → ℕ → ℕ → Fml
+  lent = lent_here R cv.code holds p z
+
   -- the words, and what lies under the numbers
   abbrev pub Ws : Parts R.Denot → Fml
-  Ws s = Numbers.Ws 𝓛 R p z s.words s.cells
+  Ws s = Numbers.Ws 𝓛 R p z lent s.words s.cells
 
   abbrev Led : V → List V → Fml
   Led = ledger cv.code z.views_name
 
   abbrev pub seat : ℕ → V → Fml
-  seat id v = seat_owns cv.code z.views_name id v
+  seat id v = seen cv.code z.views_name three_quarters id v
 
   abbrev At_inside : Inside R.Denot V W → Fml
   At_inside = standing R cv.code holds p z
@@ -116,9 +128,8 @@ module _ {M : Type 1} {𝓤 : Ura M} (𝓛 : Logic 𝓤) (R : RattleType) {V W :
           pick ! (λ t. learn ! (λ f. let r = law t f in by ! (back t (Rooms.with_slots z.roots z.count t.parts 0 r.0) so r.1 f.2 r.2)))
 
   -- the invariant is opened once, and no step is taken
-  pub reach : (q : Share) (K Q : Pr) → ⟦ I ⟧ ∗ K ⊢ upd 𝓤 (⟦ I ⟧ ∗ Q) → ⟦ finv (fbor α I) ⟧ ∗ A.lft α q ∗ K ⊢ H.⇛ (Q ∗ A.lft α q)
-  reach q K Q go = qed 𝓛 (‵ (finv (fbor α I)) ∷ ‵ (flft α q) ∷ raw K ∷ []) ∵
-      use1 𝓛 (items (λ (n : ℕ). ‵ (fnamed n (fbor α I)))) (𝓛.invs.inv_named (fbor α I)) $ pick ! (λ n. by ! (named n))
+  pub reach : (q : Share) (K Q : Pr) → ⟦ I ⟧ ∗ K ⊢ upd 𝓤 (⟦ I ⟧ ∗ Q) → ⟦ Inv ⟧ ∗ A.lft α q ∗ K ⊢ H.⇛ (Q ∗ A.lft α q)
+  reach q K Q go = qed 𝓛 (‵ Inv ∷ ‵ (flft α q) ∷ raw K ∷ []) ∵ fpick ! (λ n. fsplit ! $ fpick ! (λ is. drop ! $ by ! (named n)))
     where
       named : (n : ℕ) → A.named n (fbor α I) ∗ A.lft α q ∗ K ⊢ H.⇛ (Q ∗ A.lft α q)
       named n = let Z : Pr = ⟦ I ⟧ ∗ emp 𝓤 ∗ Q in via 𝓤 _ (qed 𝓛 (‵ (fnamed n (fbor α I)) ∷ ‵ (flft α q) ∷ raw K ∷ []) ∵ use0 𝓛 (‵ ftrue) (id⊢ 𝓤 (emp 𝓤)) $
@@ -183,7 +194,7 @@ module _ {M : Type 1} {𝓤 : Ura M} (𝓛 : Logic 𝓤) (R : RattleType) {V W :
 
       -- where the word lies
       lies : (t : Inside R.Denot V W) → Stands id v t → (w : ℕ) → word_at (memory_of z.roots t.parts) at ≡ Some w → e ≡ place_of z.roots at * 8 + o
-      lies t g w found = ap (λ (k : ℕ). k * 8 + o) (is.lies (Numbers.is_word 𝓛 R p z t.parts g.1 at w found))
+      lies t g w found = ap (λ (k : ℕ). k * 8 + o) (is.lies (Numbers.is_word 𝓛 R p z lent t.parts g.1 at w found))
 
       -- the memory with the other word is one after the operation
       goes : (t : Inside R.Denot V W) → Stands id v t → (w : ℕ) → word_at (memory_of z.roots t.parts) at ≡ Some w → (s : Parts R.Denot)
@@ -191,17 +202,20 @@ module _ {M : Type 1} {𝓤 : Ura M} (𝓛 : Logic 𝓤) (R : RattleType) {V W :
       goes t g w found s same = let a = law (state_of z t) g.0 g.2 in let made = is.makes (memory_of z.roots t.parts) w found in
           a.1 (out w) (memory_of z.roots s) (made.0, same ∙ sym made.1)
 
-      pub steps : (q : Share) → ⟦ finv (fbor α I) ⟧ ∗ (A.lft α q ∗ ⟦ seat id v ⟧) ⊢ asks 𝓛 (block_ptr b e) f always (λ n. fsep (flft α q) (told n))
-      steps q = let G : Pr = ex 𝓤 (Lies 𝓛 α q I b e f always told) in borrowed 𝓛 α q I b e f always told ⟦ seat id v ⟧
+      taken : (q : Share) → ⟦ finv (fbor α I) ⟧ ∗ (A.lft α q ∗ ⟦ seat id v ⟧) ⊢ asks 𝓛 (block_ptr b e) f always (λ n. fsep (flft α q) (told n))
+      taken q = let G : Pr = ex 𝓤 (Lies 𝓛 α q I b e f always told) in borrowed 𝓛 α q I b e f always told ⟦ seat id v ⟧
           (qed 𝓛 (‵ I ∷ ‵ (seat id v) ∷ []) ∵ suffices ! _ (upd_i 𝓤 G) $ use2 𝓛 (opening id v) (opened id v) $ pick ! (λ t. learn ! (λ g. split3 ! $
           let found = is.needs (memory_of z.roots t.parts) (law (state_of z t) g.0 g.2).0 in let w : ℕ = found.0 in
-          let P = Numbers.Rewrites 𝓛 R p z t.parts at e in let Z : Pr = ⟦ I ⟧ ∗ ⟦ told w ⟧ in
+          let P = Numbers.Rewrites 𝓛 R p z lent t.parts at e in let Z : Pr = ⟦ I ⟧ ∗ ⟦ told w ⟧ in
           -- [the memory; the views; the seat]
-          use1 𝓛 (‵ (word b e w) ⊛ raw (all 𝓤 P)) (Numbers.word_opens 𝓛 R p z t.parts g.1 at e w found.1 (lies t g w found.1)) $ split ! $
+          use1 𝓛 (‵ (word b e w) ⊛ raw (all 𝓤 P)) (Numbers.word_opens 𝓛 R p z lent t.parts g.1 at e w found.1 (lies t g w found.1)) $ split ! $
           show ! (Lies 𝓛 α q I b e f always told) w $ frame ! $
           each ! (λ (_ : Unit {0}). Again 𝓛 α q I b e f always told w) (λ _. assume ! (‵ (word b e (f w))) $
           -- [the word; the others; the views; the seat]
           move ! (1 ∷ []) $ use1 𝓛 (raw (P (f w))) (all_e 𝓤 P (f w)) $ move ! (1 ∷ 0 ∷ []) $
           use2 𝓛 (items (λ (s : Parts R.Denot). given (AreLaid z.roots z.count s × (memory_of z.roots s ≡ with_word (memory_of z.roots t.parts) at (f w)))
-          (‵ (Ws s)))) (apply∗ 𝓤 ⟦ word b e (f w) ⟧ (ex 𝓤 (Numbers.Rewritten 𝓛 R p z t.parts at (f w)))) $
+          (‵ (Ws s)))) (apply∗ 𝓤 ⟦ word b e (f w) ⟧ (ex 𝓤 (Numbers.Rewritten 𝓛 R p z lent t.parts at (f w)))) $
           pick ! (λ s. learn ! (λ so_is. by ! (back id v t s (so (out w)) so_is.0 g.2 (goes t g w found.1 s so_is.1))))))))
+
+      pub steps : (q : Share) → ⟦ Inv ⟧ ∗ (A.lft α q ∗ ⟦ seat id v ⟧) ⊢ asks 𝓛 (block_ptr b e) f always (λ n. fsep (flft α q) (told n))
+      steps q = plainly (A.lft α q ∗ ⟦ seat id v ⟧) _ (taken q)

@@ -1,12 +1,12 @@
 -- Numbers one of them opened at a time, and the words of roots, slots and entries by their names. Assumes `Logic`.
-use Rattle.std.specs.Prelude.{slice_get, slice_set, slice_index_or}
-use Rattle.std.proofs.Common.{◌≡◌, ℕ, zero, suc, ◌+◌, ◌-◌, ◌*◌, ◌<◌, List, [], ◌∷◌, length, set, get_or, sym, refl, ap, ◌∙◌, subst, arith, Option, Some}
+use Rattle.std.specs.Prelude.{slice_get, slice_set}
+use Rattle.std.proofs.Common.{◌≡◌, ℕ, zero, suc, ◌+◌, ◌-◌, ◌*◌, ◌<◌, List, [], ◌∷◌, length, set, get_or, sym, refl, ap, ◌∙◌, arith, Option, Some}
 use seplogic.Ra.Ura.{Ura}
 use base.Fraction.{full_share}
 use base.Logic.{SProp, ent, sep, wand, ex, all, guard, apply∗, all_e}
 use base.Fml.{Lft, Fml, fsep}
 use types.Logic.{Logic, sem}
-use types.Kit.{‵, raw, ◌⊛◌, ◌$◌, ◌∵◌, !, qed, by, move, split, frame, each, assume, fsplit, fjoin, show, check, use1, use2, rewrite, done}
+use types.Kit.{‵, raw, ◌⊛◌, ◌$◌, ◌∵◌, !, qed, move, split, frame, each, assume, fsplit, fjoin, show, check, use1, use2, rewrite, done}
 use denote.RattleType.{RattleType}
 use denote.RawPtr.{Ptr, block_of, count_of}
 use Rattle.core.specs.Sync.RawAtomic.{word}
@@ -16,18 +16,18 @@ use Rattle.seize_words.specs.declared.at.At.TheVariants.{Root, Used, Slot, Entry
 use Rattle.seize_words.specs.declared.block.Block.{Block}
 use Rattle.seize_seats.specs.Cells.{Cell, Free, Claimed, Out, Has, block_in, cell_at}
 use Rattle.seize_seats.specs.Lines.{Parts, long, place_of, memory_of, IsWord, IsNoBlocks, AreLaid}
-use Rattle.seize_seats.specs.Owned.{row, stride, resting, hand, place, inside, under, numbers, BaseId, age}
+use Rattle.seize_seats.specs.Owned.{row, stride, resting, hand, under, numbers, BaseId, age}
 use Rattle.seize_seats.proofs.Cells.{block_is, entries_lie, entries_are_apart, cell_beyond, get_some}
 use Rattle.seize_seats.proofs.Columns.{words_lie, words_are_apart}
 use Rattle.seize_seats.proofs.Rows.{row_at}
 use Rattle.seize_seats.proofs.Rows as Rows
 
-module _ {M : Type 1} {𝓤 : Ura M} (𝓛 : Logic 𝓤) (R : RattleType) (α : Lft) (δ b b' : ℕ) where
+module _ {M : Type 1} {𝓤 : Ura M} (𝓛 : Logic 𝓤) (R : RattleType) (α : Lft) (δ : ℕ) (lent : ℕ → R.Denot → ℕ → ℕ → Fml) (b b' : ℕ) where
   abbrev Under : ℕ → ℕ → ℕ → Cell R.Denot → Fml
-  Under o o' i c = under R α δ b o b' o' i c
+  Under o o' i c = under R α δ lent b o b' o' i c
 
   abbrev All : ℕ → ℕ → ℕ → List (Cell R.Denot) → Fml
-  All o o' i cs = numbers R α δ b o b' o' i cs
+  All o o' i cs = numbers R α δ lent b o b' o' i cs
 
   -- whoever has another cell of the number has all of them with it
   abbrev pub Puts : ℕ → ℕ → ℕ → List (Cell R.Denot) → ℕ → ℕ → ℕ → ℕ → Cell R.Denot → SProp 𝓤
@@ -55,7 +55,7 @@ module _ {M : Type 1} {𝓤 : Ura M} (𝓛 : Logic 𝓤) (R : RattleType) (α : 
       further : (i n o : ℕ) → suc i * n + o ≡ i * n + (o + n)
       further i n o = omega arith
 
-module _ {M : Type 1} {𝓤 : Ura M} (𝓛 : Logic 𝓤) (R : RattleType) (p : Ptr) (z : BaseId) where
+module _ {M : Type 1} {𝓤 : Ura M} (𝓛 : Logic 𝓤) (R : RattleType) (p : Ptr) (z : BaseId) (lent : ℕ → R.Denot → ℕ → ℕ → Fml) where
   abbrev ⟦◌⟧ : Fml → SProp 𝓤
   ⟦ P ⟧ = sem 𝓛 P
 
@@ -76,10 +76,10 @@ module _ {M : Type 1} {𝓤 : Ura M} (𝓛 : Logic 𝓤) (R : RattleType) (p : P
 
   -- all words, and what lies under the numbers
   abbrev pub Ws : List ℕ → List (Cell R.Denot) → Fml
-  Ws ws cs = fsep (row b o ws) (numbers R α z.hands_name b (long z.roots * 8 + o) b' o' 0 cs)
+  Ws ws cs = fsep (row b o ws) (numbers R α z.hands_name lent b (long z.roots * 8 + o) b' o' 0 cs)
 
   abbrev pub cell_of : ℕ → Cell R.Denot → Fml
-  cell_of i c = under R α z.hands_name b (i * 40 + (long z.roots * 8 + o)) b' (i * stride R + o') i c
+  cell_of i c = under R α z.hands_name lent b (i * 40 + (long z.roots * 8 + o)) b' (i * stride R + o') i c
 
   abbrev pub Recells : List ℕ → List (Cell R.Denot) → ℕ → Cell R.Denot → SProp 𝓤
   Recells ws cs i d = wand 𝓤 ⟦ cell_of i d ⟧ ⟦ Ws ws (slice_set cs i d) ⟧
@@ -88,11 +88,12 @@ module _ {M : Type 1} {𝓤 : Ura M} (𝓛 : Logic 𝓤) (R : RattleType) (p : P
   pub celled : (ws : List ℕ) (cs : List (Cell R.Denot)) (i : ℕ) (c : Cell R.Denot) → i < length cs → cell_at cs i ≡ c
       → ent 𝓤 ⟦ Ws ws cs ⟧ (sep 𝓤 ⟦ cell_of i c ⟧ (all 𝓤 (Recells ws cs i)))
   celled ws cs i c lt has =
-      let e : ℕ = i * 40 + (long z.roots * 8 + o) in let e' : ℕ = i * stride R + o' in let P = Puts 𝓛 R α z.hands_name b b' (long z.roots * 8 + o) o' 0 cs i e e' i in
-      let N : List (Cell R.Denot) → Fml = λ ds. numbers R α z.hands_name b (long z.roots * 8 + o) b' o' 0 ds in
+      let e : ℕ = i * 40 + (long z.roots * 8 + o) in let e' : ℕ = i * stride R + o' in
+      let P = Puts 𝓛 R α z.hands_name lent b b' (long z.roots * 8 + o) o' 0 cs i e e' i in
+      let N : List (Cell R.Denot) → Fml = λ ds. numbers R α z.hands_name lent b (long z.roots * 8 + o) b' o' 0 ds in
       qed 𝓛 (‵ (row b o ws) ∷ ‵ (N cs) ∷ []) ∵ move ! (1 ∷ []) $
       use1 𝓛 (‵ (cell_of i c) ⊛ raw (all 𝓤 P))
-      (numbers_at 𝓛 R α z.hands_name b b' cs (long z.roots * 8 + o) o' 0 i e e' i c refl refl (omega arith) lt has) $ split ! $ frame ! $
+      (numbers_at 𝓛 R α z.hands_name lent b b' cs (long z.roots * 8 + o) o' 0 i e e' i c refl refl (omega arith) lt has) $ split ! $ frame ! $
       each ! (Recells ws cs i) (λ d. use1 𝓛 (raw (P d)) (all_e 𝓤 P d) $ assume ! (‵ (cell_of i d)) $
       use2 𝓛 (‵ (N (set cs i d))) (apply∗ 𝓤 ⟦ cell_of i d ⟧ ⟦ N (set cs i d) ⟧) $ move ! (1 ∷ 0 ∷ []) $ fjoin ! $ done !)
 
@@ -110,7 +111,7 @@ module _ {M : Type 1} {𝓤 : Ura M} (𝓛 : Logic 𝓤) (R : RattleType) (p : P
     fixed : (at : At) (e w : ℕ) → IsNoBlocks at → word_at (memory_of z.roots s) at ≡ Some w → e ≡ place_of z.roots at * 8 + o → Opens at e w
     fixed at e w free is at_e =
         let ws : List ℕ = s.words in let i : ℕ = place_of z.roots at in let l = words_lie R.Denot z.roots z.count s at w laid free is in
-        let N : Fml = numbers R α z.hands_name b (long z.roots * 8 + o) b' o' 0 s.cells in let P = Rows.Puts 𝓛 b o ws i e in
+        let N : Fml = numbers R α z.hands_name lent b (long z.roots * 8 + o) b' o' 0 s.cells in let P = Rows.Puts 𝓛 b o ws i e in
         qed 𝓛 (‵ (row b o ws) ∷ ‵ N ∷ []) ∵
         use1 𝓛 (‵ (word b e (get_or ws i 0)) ⊛ raw (all 𝓤 P)) (row_at 𝓛 b ws o i e at_e l.1) $ split ! $
         rewrite ! 0 (λ (k : ℕ). ‵ (word b e k)) l.2 refl $ frame ! $
@@ -125,11 +126,11 @@ module _ {M : Type 1} {𝓤 : Ura M} (𝓛 : Logic 𝓤) (R : RattleType) (p : P
         let f : ℕ = j * 40 + (long z.roots * 8 + o) in let f' : ℕ = j * stride R + o' in
         let lt = cell_beyond s.cells j (Has x es) l.1.2 (λ q. absurd (cc q)) in
         let P = Recells s.words s.cells j in let Q = Rows.Puts 𝓛 b f es i e in let H : Fml = hand R α z.hands_name full_share j resting in
-        let V : Fml = place R α z.hands_name b' f' (Some x) in let S : Fml = word b (f + 32) 1 in
+        let V : Fml = lent j x b' f' in let S : Fml = word b (f + 32) 1 in
         qed 𝓛 (‵ (Ws s.words s.cells) ∷ []) ∵
         use1 𝓛 (‵ (fsep S (fsep H (fsep (row b f es) V))) ⊛ raw (all 𝓤 P)) (celled s.words s.cells j (Has x es) lt l.1.2) $ split ! $
         fsplit ! $ move ! (1 ∷ []) $ fsplit ! $ move ! (1 ∷ []) $ fsplit ! $
-        -- [the entry; the place; the hand; the sign; the others]
+        -- [the entry; the value; the hand; the sign; the others]
         use1 𝓛 (‵ (word b e (get_or es i 0)) ⊛ raw (all 𝓤 Q)) (row_at 𝓛 b es f i e (omega (arith, at_e)) (get_some es i w l.1.3)) $ split ! $
         rewrite ! 0 (λ (k : ℕ). ‵ (word b e k)) (read es i w l.1.3) refl $ frame ! $
         each ! (Rewrites s (Entry n i) e) (λ y. use1 𝓛 (raw (Q y)) (all_e 𝓤 Q y) $ assume ! (‵ (word b e y)) $

@@ -1,18 +1,20 @@
 -- The words may be shared, and a seat may go to another thread: nothing of them is tied to one. Assumes nothing.
-use Rattle.std.proofs.Common.{ℕ, suc, ◌+◌, ◌*◌, List, [], ◌∷◌, length, None, Some}
+use Rattle.std.proofs.Common.{ℕ, Bool, true, false, suc, ◌+◌, ◌*◌, List, [], ◌∷◌, length, None, Some}
 use base.Fraction.{full_share}
 use base.Stored.{Gv}
-use base.Fml.{Lft}
+use base.Fml.{Lft, Share, Fml}
 use base.Shift.{Keyless}
 use denote.RawPtr.{Ptr, block_of, count_of}
 use denote.RattleType.{RattleType}
-use denote.Param.Send.{IsSend, part_keyless}
-use types.Keyed.{entry_keyless, entries_keyless}
+use denote.Param.Send.{IsSend, IsSync, part_keyless}
+use types.Keyed.{token, entry_keyless, entries_keyless}
 use Rattle.core.specs.contracts.option.Option.{the_row as OptionOf}
 use Rattle.seize_seats.specs.State.{State}
 use Rattle.seize_seats.specs.Cells.{Cell, Free, Claimed, Out, Has}
 use Rattle.seize_seats.specs.Lines.{long}
-use Rattle.seize_seats.specs.Owned.{shared_view, row, quarters, zeros, stride, kept, numbers, BaseId, age, inner, words_own, words_share, seat_owns}
+use Rattle.seize_seats.specs.Owned.{shared_view, row, quarters, zeros, stride, kept, numbers, BaseId, age, inner, lent_here, words_own, words_share}
+use Rattle.seize_seats.specs.Lendings.{Phase, Begins, Lasts, Over, in_phase, Lending, lendings, lendable}
+use Rattle.seize_seats.specs.Stretches.{lasting, seat_owns, seat_shares}
 
 row_keyless : (b o : ℕ) (ns : List ℕ) → Keyless (row b o ns)
 row_keyless b o [] = tt
@@ -23,26 +25,56 @@ module _ {V : Type 0} (c : V → Gv) (γ : ℕ) where
   quarters_keyless k [] = tt
   quarters_keyless k (v ∷ vs) = (entry_keyless shared_view γ k _, quarters_keyless (suc k) vs)
 
-  pub seat_keyless : (id : ℕ) (v : V) → Keyless (seat_owns c γ id v)
-  seat_keyless id v = entry_keyless shared_view γ id _
+  stretch_keyless : (id : ℕ) (v : V) (σ θ : ℕ) (y : Bool) → Keyless (lasting c γ id v σ θ y)
+  stretch_keyless id v σ θ true = entry_keyless shared_view γ id _
+  stretch_keyless id v σ θ false = (tt, entry_keyless token θ 0 _)
 
-module _ (R : RattleType) (sent : IsSend (OptionOf R)) (α : Lft) (δ b b' : ℕ) where
-  kept_keyless : (o o' i : ℕ) (c : Cell R.Denot) → Keyless (kept R α δ b o b' o' i c)
+  pub seat_keyless : (id : ℕ) (v : V) (σ θ : ℕ) → Keyless (seat_owns c γ id v σ θ)
+  seat_keyless id v σ θ = (tt, (entry_keyless shared_view γ id _, ((λ n. ((λ _. tt), λ y. stretch_keyless id v σ θ y)), entry_keyless token θ 0 _)))
+
+  pub seat_shares_keyless : (id : ℕ) (v : V) (σ θ : ℕ) (κ : Lft) → Keyless (seat_shares c γ id v σ θ κ)
+  seat_shares_keyless id v σ θ κ = ((λ _. tt), ((λ q. entry_keyless shared_view γ id _), λ n. ((λ _. tt), λ y. stretch_keyless id v σ θ y)))
+
+-- a value that can be lent
+module _ (R : RattleType) (sent : IsSend (OptionOf R)) (synced : IsSync (OptionOf R)) (α : Lft) {V W : Type 0} (c : V → Gv) (γ : ℕ) (holds : State R.Denot V W
+    → Type 0) where
+  phase_keyless : (σ ν : ℕ) (s : Share) (ph : Phase) → Keyless (in_phase α σ ν s ph)
+  phase_keyless σ ν s Begins = tt
+  phase_keyless σ ν s Lasts = λ u. (entry_keyless shared_view ν 0 _, tt)
+  phase_keyless σ ν s Over = λ u. entry_keyless shared_view ν 0 _
+
+  lendings_keyless : (i a : ℕ) (ls : List (Lending V)) → Keyless (lendings R α c γ holds i a ls)
+  lendings_keyless i a [] = tt
+  lendings_keyless i a (l ∷ ls) = (
+    (
+      entry_keyless shared_view l.name 0 _,
+      (phase_keyless l.stretch l.name l.stake, ((λ n. ((λ _. tt), stretch_keyless c γ l.seat l.view l.stretch l.mark)), λ _. tt)),
+    ),
+    lendings_keyless i a ls,
+  )
+
+  lendable_keyless : (i : ℕ) (x : R.Denot) (b o : ℕ) → Keyless (lendable R α c γ holds i x b o)
+  lendable_keyless i x b o = λ n.
+      (synced.shared (Some x) b o (n.atom ∷ []), (part_keyless (OptionOf R) sent full_share (Some x) b o, (tt, ((λ _. tt), lendings_keyless i n.atom n.lendings))))
+
+module _ (R : RattleType) (sent : IsSend (OptionOf R)) (α : Lft) (δ : ℕ) (lent : ℕ → R.Denot → ℕ → ℕ → Fml) (lent_keyless : (i : ℕ) (x : R.Denot) (b o : ℕ)
+    → Keyless (lent i x b o)) (b b' : ℕ) where
+  kept_keyless : (o o' i : ℕ) (c : Cell R.Denot) → Keyless (kept R α δ lent b o b' o' i c)
   kept_keyless o o' i Free = (entry_keyless shared_view δ i _, (row_keyless b o zeros, part_keyless (OptionOf R) sent full_share None b' o'))
   kept_keyless o o' i Claimed = (entry_keyless shared_view δ i _, (row_keyless b o zeros, part_keyless (OptionOf R) sent full_share None b' o'))
   kept_keyless o o' i (Out e) = (entry_keyless shared_view δ i _, tt)
-  kept_keyless o o' i (Has x ws) = (entry_keyless shared_view δ i _, (row_keyless b o ws, part_keyless (OptionOf R) sent full_share (Some x) b' o'))
+  kept_keyless o o' i (Has x ws) = (entry_keyless shared_view δ i _, (row_keyless b o ws, lent_keyless i x b' o'))
 
-  numbers_keyless : (cs : List (Cell R.Denot)) (o o' i : ℕ) → Keyless (numbers R α δ b o b' o' i cs)
+  numbers_keyless : (cs : List (Cell R.Denot)) (o o' i : ℕ) → Keyless (numbers R α δ lent b o b' o' i cs)
   numbers_keyless [] o o' i = tt
   numbers_keyless (c ∷ cs) o o' i = ((tt, kept_keyless o o' i c), numbers_keyless cs (o + 40) (o' + stride R) (suc i))
 
-module _ (R : RattleType) (sent : IsSend (OptionOf R)) {V W : Type 0} (c : V → Gv) (holds : State R.Denot V W → Type 0) (p : Ptr) (z : BaseId) where
+module _ (R : RattleType) (sent : IsSend (OptionOf R)) (synced : IsSync (OptionOf R)) {V W : Type 0} (c : V → Gv) (holds : State R.Denot V W → Type 0) (p : Ptr) (z : BaseId) where
   inner_keyless : Keyless (inner R c holds p z)
   inner_keyless = λ t. (
     (
       row_keyless (block_of p) (count_of p) t.parts.words,
-      numbers_keyless R sent (age z) z.hands_name (block_of p) (block_of z.values) t.parts.cells (long z.roots * 8 + count_of p) (count_of z.values) 0,
+      numbers_keyless R sent (age z) z.hands_name (lent_here R c holds p z) (lendable_keyless R sent synced (age z) c z.views_name holds) (block_of p) (block_of z.values) t.parts.cells (long z.roots * 8 + count_of p) (count_of z.values) 0,
     ),
     (
       (
@@ -54,7 +86,7 @@ module _ (R : RattleType) (sent : IsSend (OptionOf R)) {V W : Type 0} (c : V →
   )
 
   pub owns_keyless : Keyless (words_own R c holds p z)
-  owns_keyless = (tt, (((λ _. tt), inner_keyless), inner_keyless))
+  owns_keyless = (tt, (((λ _. tt), λ n. ((λ _. tt), inner_keyless)), inner_keyless))
 
   pub shares_keyless : (ν : Lft) → Keyless (words_share R c holds p z ν)
-  shares_keyless ν = ((λ _. tt), ((λ _. tt), inner_keyless))
+  shares_keyless ν = ((λ _. tt), ((λ _. tt), λ n. ((λ _. tt), inner_keyless)))

@@ -1,21 +1,25 @@
 -- What a `&` to the words shows: the invariant, and that the words are lent on. Assumes `Logic`.
-use Rattle.std.proofs.Common.{[], ◌∷◌}
+use Rattle.std.proofs.Common.{ℕ, [], ◌∷◌}
 use seplogic.Ra.Ura.{Ura}
 use base.Fraction.{full_share}
 use base.Stored.{Coded}
-use base.Logic.{ent, sep, wand, apply∗, snd∗}
-use base.Fml.{Lft, Share, Fml, ftrue, fsep, flft, flent, fbor, finv, fshr_bor}
-use types.Logic.{Logic, sem, lfts}
-use types.Kit.{‵, raw, ◌⊛◌, later, ◌$◌, ◌∵◌, !, qed, move, drop, split, fsplit, fjoin, fpick, fpack, check, use1, use2, updating, await, now, done}
-use types.Tokens.{bor_fracture}
+use base.Logic.{ent, sep, snd∗}
+use base.Fml.{Lft, Share, Fml, ftrue, fsep, flft, flent, fbor}
+use types.Logic.{Logic, sem}
+use types.Kit.{‵, ◌⊛◌, ◌$◌, ◌∵◌, !, qed, move, drop, split, fsplit, fjoin, fpick, fpack, check, use1, done}
 use base.Logic.{guard}
 use denote.RattleType.{RattleType}
 use denote.RawPtr.{Ptr}
-use denote.Sharing.{ShrLaws, one, said}
+use denote.Sharing.{ShrLaws, one, said, beside}
 use denote.SharingLaws.{beside_shr_laws, one_shr_laws}
 use denote.Steps.{nothing}
 use denote.Struct.Lending.{Lends, Lends-both}
 use Rattle.seize_seats.specs.State.{State}
+use types.Keyed.{ticket}
+use Rattle.seize_seats.specs.Seen.{seen}
+use Rattle.seize_seats.specs.Stretches.{IsEven, IsOdd, invariant, seats_part, stretch, stretch_told, seat_owns, seat_shares}
+use Rattle.seize_seats.proofs.Stretches as Stretches
+use Rattle.seize_seats.proofs.Shares as Shares
 use Rattle.seize_seats.specs.Owned.{BaseId, age, IsPlaced, inner, common, words_own, words_share}
 
 module _ (R : RattleType) {V W : Type 0} (cv : Coded V) (holds : State R.Denot V W → Type 0) (p : Ptr) (z : BaseId) where
@@ -36,7 +40,7 @@ module _ (R : RattleType) {V W : Type 0} (cv : Coded V) (holds : State R.Denot V
   placed 𝓛 = qed 𝓛 (‵ C ∷ []) ∵ fsplit ! $ fpick ! (λ i. drop ! $ check ! i $ nothing ! $ fpack ! (IsPlaced R p z) (λ _. ftrue) i $ fjoin ! $ done !)
 
   twice : {M : Type 1} {𝓤 : Ura M} (𝓛 : Logic 𝓤) → ent 𝓤 (sem 𝓛 C) (sep 𝓤 (sem 𝓛 C) (sem 𝓛 C))
-  twice 𝓛 = qed 𝓛 (‵ C ∷ []) ∵ fsplit ! $ fpick ! (λ i. drop ! $ use1 𝓛 (‵ (finv (fbor α I)) ⊛ ‵ (finv (fbor α I))) (𝓛.invs.inv_dup (fbor α I)) $ split ! $
+  twice 𝓛 = qed 𝓛 (‵ C ∷ []) ∵ fsplit ! $ fpick ! (λ i. drop ! $ use1 𝓛 (‵ (invariant IsEven (fbor α I)) ⊛ ‵ (invariant IsEven (fbor α I))) (Stretches.twice 𝓛 IsEven (fbor α I)) $ split ! $
       nothing ! $ fpack ! (IsPlaced R p z) (λ _. ftrue) i $ fjoin ! $ move ! (1 ∷ []) $ nothing ! $ fpack ! (IsPlaced R p z) (λ _. ftrue) i $ fjoin ! $ done !)
 
   pub words_laws : ShrLaws (words_share R cv.code holds p z)
@@ -49,16 +53,34 @@ module _ (R : RattleType) {V W : Type 0} (cv : Coded V) (holds : State R.Denot V
   module _ {M : Type 1} {𝓤 : Ura M} (𝓛 : Logic 𝓤) (l : Lft) where
     open 𝓛 use {H, A}
 
-    token : Lends 𝓛 (Φ full_share) (one Φ) l
-    token ν ts inc sp = qed 𝓛 (‵ (fbor ν (Φ full_share)) ∷ raw (lfts 𝓛 ts) ∷ []) {P = H.⇛ (sep 𝓤 (sem 𝓛 (fshr_bor ν Φ)) (lfts 𝓛 ts))} (updating ! $
-        bor_fracture ! tt Φ full_share $ now ! $ done !)
-
-    knowledge : Lends 𝓛 (fsep C (flent α I)) (said C) l
-    knowledge ν ts inc sp = let P : Fml = fsep C (flent α I) in let Back = H.⇛ (sep 𝓤 (A.bor ν P) (lfts 𝓛 ts)) in
-        qed 𝓛 (‵ (fbor ν P) ∷ raw (lfts 𝓛 ts) ∷ []) {P = H.⇛ (sep 𝓤 (sem 𝓛 C) (lfts 𝓛 ts))} (
-        updating ! $ use2 𝓛 (later (‵ P ⊛ raw (wand 𝓤 (sem 𝓛 P) Back))) (𝓛.more.bor_acc_by ν ts P sp) $ await ! tt $ split ! $ fsplit ! $
-        use1 𝓛 (‵ C ⊛ ‵ C) (twice 𝓛) $ split ! $ move ! (0 ∷ 2 ∷ []) $ fjoin ! $ move ! (0 ∷ 2 ∷ []) $
-        use2 𝓛 (later (‵ (fbor ν P) ⊛ raw (lfts 𝓛 ts))) (apply∗ 𝓤 (sem 𝓛 P) Back) $ await ! tt $ split ! $ drop ! $ move ! (1 ∷ 0 ∷ []) $ now ! $ done !)
-
     pub lends_words : Lends 𝓛 (words_own R cv.code holds p z) (words_share R cv.code holds p z) l
-    lends_words = Lends-both 𝓛 (Φ full_share) (fsep C (flent α I)) (one Φ) (said C) l token knowledge
+    lends_words = Lends-both 𝓛 (Φ full_share) (fsep C (flent α I)) (one Φ) (said C) l (Shares.cut 𝓛 l Φ full_share) (Shares.told 𝓛 l C (flent α I) (twice 𝓛))
+
+-- what a `&` to a seat shows: that its stretch lasts, its view, and its stretch
+module _ {V : Type 0} (cv : Coded V) (γ id : ℕ) (v : V) (σ θ : ℕ) where
+  abbrev Tok : Share → Fml
+  Tok q = flft (σ ∷ []) q
+
+  abbrev Vw : Share → Fml
+  Vw q = seen cv.code γ q id v
+
+  abbrev St : Fml
+  St = stretch cv.code γ id v σ θ
+
+  abbrev T : Fml
+  T = stretch_told cv.code γ id v σ θ
+
+  rest_laws : ShrLaws (beside (one Vw) (said T))
+  rest_laws = beside_shr_laws (one Vw) (said T) (one_shr_laws Vw) record {
+    contraction = λ M 𝓤 𝓛 ν. Stretches.twice 𝓛 IsOdd St;
+    mono =
+        λ M 𝓤 𝓛 μ ν. snd∗ 𝓤 (sem 𝓛 (base.Before.before μ ν)) (sem 𝓛 T);
+  }
+
+  pub seat_laws : ShrLaws (seat_shares cv.code γ id v σ θ)
+  seat_laws = beside_shr_laws (one Tok) (beside (one Vw) (said T)) (one_shr_laws Tok) rest_laws
+
+  pub lends_seat : {M : Type 1} {𝓤 : Ura M} (𝓛 : Logic 𝓤) (l : Lft) → Lends 𝓛 (seat_owns cv.code γ id v σ θ) (seat_shares cv.code γ id v σ θ) l
+  lends_seat 𝓛 l = let X : Fml = fsep T (ticket θ 0) in
+      Lends-both 𝓛 (Tok full_share) (fsep (Vw seats_part) X) (one Tok) (beside (one Vw) (said T)) l (Shares.cut 𝓛 l Tok full_share)
+      (Lends-both 𝓛 (Vw seats_part) X (one Vw) (said T) l (Shares.cut 𝓛 l Vw seats_part) (Shares.told 𝓛 l T (ticket θ 0) (Stretches.twice 𝓛 IsOdd St)))

@@ -7,7 +7,7 @@ use Rattle.core.specs.Result.{MatchResult}
 use Rattle.core.specs.Sync.RawAtomic.{word_found}
 use Rattle.seize_words.specs.Mem.{Mem, Gives, block_of, entry_in, word_in, with_entry, with_word_in, word_at, with_word, after}
 use Rattle.seize_words.specs.SlotWords.{slot_word, with_slot_word}
-use Rattle.seize_words.specs.Op.{Op, Out, Load, Store, Swap, Add, Or, Exchange, Found, Stored, Exchanged}
+use Rattle.seize_words.specs.Op.{Load, Store, Swap, Add, Or, Exchange, Found, Stored, Exchanged}
 use Rattle.seize_words.specs.declared.at.At.{At}
 use Rattle.seize_words.specs.declared.at.At.TheVariants.{Root, Used, Slot, Entry, Word}
 use Rattle.seize_words.specs.declared.block.Block.{Block}

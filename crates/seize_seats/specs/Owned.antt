@@ -1,44 +1,30 @@
 -- What the words, the places of values and a seat own. The words are lent for a lifetime of their own, whose token stays with whoever owns them, and a `&` to
 -- them shows that it lasts. An invariant has the words, the values, and a quarter of each seat's view; three quarters of it are the seat's.
-use Rattle.std.specs.Prelude.{◌≡◌, ℕ, zero, suc, ◌+◌, ◌*◌, ◌^◌, ◌<◌, List, [], ◌∷◌, Option, Some, None, length}
+use Rattle.std.specs.Prelude.{ℕ, zero, suc, ◌+◌, ◌*◌, ◌^◌, ◌<◌, List, [], ◌∷◌, Option, None, length}
 use prog.Memory.{size}
 use base.Fraction.{full_share}
 use base.Share.{quarter, three_quarters}
 use base.Stored.{Gv, Coded, coded×, coded_ℕ, coded_via}
-use base.Algebra.{Algebra}
-use base.Algebras.{both, shares, agreed}
-use base.SetCodes.{coded, coded_share}
-use base.Fml.{Lft, Share, Fml, ftrue, fsep, fex, flft, flent, fbor, finv, fshr_bor}
-use types.Keyed.{entry, entries_from}
+use base.Fml.{Lft, Share, Fml, ftrue, fsep, fex, flft, flent, fbor, fshr_bor}
+use types.Keyed.{entries_from}
 use denote.RattleType.{RattleType}
 use denote.Memory.{part_at, lone}
 use denote.RawPtr.{Ptr, block_of, count_of, InBlock, coded_ptr}
 use Rattle.core.specs.contracts.option.Option.{the_row as OptionOf}
 use Rattle.core.specs.Sync.RawAtomic.{word}
+pub use Rattle.seize_seats.specs.Seen.{fact, itself, shared_view, seen, number_share_coded}
+use Rattle.seize_seats.specs.Lendings.{lendable}
 use Rattle.seize_seats.specs.State.{State}
+use Rattle.seize_seats.specs.Stretches.{IsEven, invariant}
 use Rattle.seize_seats.specs.Cells.{Cell, Free, Claimed, Out, Has, sign_of}
 use Rattle.seize_seats.specs.Lines.{Parts, whole, long, memory_of, AreLaid}
-
-abbrev pub fact : Type 0 → Fml
-fact φ = fex φ (λ _. ftrue)
 
 -- the words lie side by side
 abbrev pub row : ℕ → ℕ → List ℕ → Fml
 row b o [] = ftrue
 row b o (n ∷ ns) = fsep (word b o n) (row b (o + 8) ns)
 
--- A view is kept as its ghost value, in an algebra that names no type parameter.
-abbrev pub itself : Coded Gv
-itself = record { code = λ g. g; inj = λ x y p. p }
-
-abbrev pub shared_view : Algebra
-shared_view = both shares (agreed (coded itself))
-
 module _ {V : Type 0} (c : V → Gv) (γ : ℕ) where
-  -- a share of the view of a seat
-  abbrev pub seen : Share → ℕ → V → Fml
-  seen q id v = entry shared_view γ id (q, c v)
-
   -- the views of the seats from this number on, of which none is there
   abbrev pub unborn : ℕ → V → Fml
   unborn id blank = entries_from shared_view γ id (λ _. (full_share, c blank))
@@ -46,7 +32,7 @@ module _ {V : Type 0} (c : V → Gv) (γ : ℕ) where
   -- a quarter of each view
   abbrev pub quarters : ℕ → List V → Fml
   quarters id [] = ftrue
-  quarters id (v ∷ vs) = fsep (seen quarter id v) (quarters (suc id) vs)
+  quarters id (v ∷ vs) = fsep (seen c γ quarter id v) (quarters (suc id) vs)
 
   -- of seats that are there and those that are not
   abbrev pub ledger : V → List V → Fml
@@ -57,7 +43,7 @@ abbrev pub Hand : Type 0
 Hand = ℕ × Share
 
 abbrev pub hand_coded : Coded Hand
-hand_coded = coded× coded_ℕ coded_share
+hand_coded = number_share_coded
 
 abbrev pub resting : Hand
 resting = (0, full_share)
@@ -77,7 +63,8 @@ claim_owns δ i (suc found) = ftrue
 abbrev pub stride : RattleType → ℕ
 stride R = size (lone (OptionOf R).mir)
 
--- Under each number lie five words and a place for a value. α: the lifetime of the memory; δ: the name of the hands
+-- Under each number lie five words and a place for a value. α: the lifetime of the memory; δ: the name of the hands; lent: what stands for the value of a block,
+-- which can be lent, under a number, at a place.
 module _ (R : RattleType) (α : Lft) (δ : ℕ) where
   abbrev pub hand : Share → ℕ → Hand → Fml
   hand q i h = seen hand_coded.code δ q i h
@@ -89,19 +76,24 @@ module _ (R : RattleType) (α : Lft) (δ : ℕ) where
   abbrev pub inside : ℕ → ℕ → ℕ → ℕ → List ℕ → Option R.Denot → Fml
   inside b o b' o' ws x = fsep (row b o ws) (place b' o' x)
 
-  abbrev pub kept : ℕ → ℕ → ℕ → ℕ → ℕ → Cell R.Denot → Fml
-  kept b o b' o' i Free = fsep (hand full_share i resting) (inside b o b' o' zeros None)
-  kept b o b' o' i Claimed = fsep (hand quarter i resting) (inside b o b' o' zeros None)
-  kept b o b' o' i (Out e) = fsep (hand quarter i (busy e)) (flft α e)
-  kept b o b' o' i (Has x ws) = fsep (hand full_share i resting) (inside b o b' o' ws (Some x))
+  module _ (lent : ℕ → R.Denot → ℕ → ℕ → Fml) where
+    -- the entry's words, and a value that can be lent
+    abbrev pub offered : ℕ → ℕ → ℕ → ℕ → ℕ → List ℕ → R.Denot → Fml
+    offered b o b' o' i ws x = fsep (row b o ws) (lent i x b' o')
 
-  abbrev pub under : ℕ → ℕ → ℕ → ℕ → ℕ → Cell R.Denot → Fml
-  under b o b' o' i c = fsep (word b (o + 32) (sign_of c)) (kept b o b' o' i c)
+    abbrev pub kept : ℕ → ℕ → ℕ → ℕ → ℕ → Cell R.Denot → Fml
+    kept b o b' o' i Free = fsep (hand full_share i resting) (inside b o b' o' zeros None)
+    kept b o b' o' i Claimed = fsep (hand quarter i resting) (inside b o b' o' zeros None)
+    kept b o b' o' i (Out e) = fsep (hand quarter i (busy e)) (flft α e)
+    kept b o b' o' i (Has x ws) = fsep (hand full_share i resting) (offered b o b' o' i ws x)
 
-  -- of all numbers from the i-th on
-  abbrev pub numbers : ℕ → ℕ → ℕ → ℕ → ℕ → List (Cell R.Denot) → Fml
-  numbers b o b' o' i [] = ftrue
-  numbers b o b' o' i (c ∷ cs) = fsep (under b o b' o' i c) (numbers b (o + 40) b' (o' + stride R) (suc i) cs)
+    abbrev pub under : ℕ → ℕ → ℕ → ℕ → ℕ → Cell R.Denot → Fml
+    under b o b' o' i c = fsep (word b (o + 32) (sign_of c)) (kept b o b' o' i c)
+
+    -- of all numbers from the i-th on
+    abbrev pub numbers : ℕ → ℕ → ℕ → ℕ → ℕ → List (Cell R.Denot) → Fml
+    numbers b o b' o' i [] = ftrue
+    numbers b o b' o' i (c ∷ cs) = fsep (under b o b' o' i c) (numbers b (o + 40) b' (o' + stride R) (suc i) cs)
 
 -- places for values, side by side
 abbrev pub places : (R : RattleType) → ℕ → ℕ → List (Option R.Denot) → Fml
@@ -147,8 +139,12 @@ abbrev pub IsPlaced : RattleType → Ptr → BaseId → Type 0
 IsPlaced R p z = InBlock p × (whole z.roots z.count * 8 < 2 ^ 63) × InBlock z.values × (z.count * stride R < 2 ^ 63)
 
 module _ (R : RattleType) {V W : Type 0} (c : V → Gv) (holds : State R.Denot V W → Type 0) (p : Ptr) (z : BaseId) where
+  -- what stands for the value of a block
+  abbrev pub lent_here : ℕ → R.Denot → ℕ → ℕ → Fml
+  lent_here = lendable R (age z) c z.views_name holds
+
   abbrev pub all_numbers : List (Cell R.Denot) → Fml
-  all_numbers cs = numbers R (age z) z.hands_name (block_of p) (long z.roots * 8 + count_of p) (block_of z.values) (count_of z.values) 0 cs
+  all_numbers cs = numbers R (age z) z.hands_name lent_here (block_of p) (long z.roots * 8 + count_of p) (block_of z.values) (count_of z.values) 0 cs
 
   abbrev pub standing : Inside R.Denot V W → Fml
   standing i =
@@ -159,13 +155,10 @@ module _ (R : RattleType) {V W : Type 0} (c : V → Gv) (holds : State R.Denot V
   inner = fex (Inside R.Denot V W) standing
 
   abbrev pub common : Fml
-  common = fsep (fact (IsPlaced R p z)) (finv (fbor (age z) inner))
+  common = fsep (fact (IsPlaced R p z)) (invariant IsEven (fbor (age z) inner))
 
   abbrev pub words_own : Fml
   words_own = fsep (flft (age z) full_share) (fsep common (flent (age z) inner))
 
   abbrev pub words_share : Lft → Fml
   words_share κ = fsep (fshr_bor κ (λ q. flft (age z) q)) common
-
-abbrev pub seat_owns : {V : Type 0} → (V → Gv) → ℕ → ℕ → V → Fml
-seat_owns c γ id v = seen c γ three_quarters id v

@@ -1,13 +1,14 @@
 -- A seat makes a block, and takes it away: what is said of the seats' blocks holds again.
-use Rattle.std.specs.Prelude.{◌≡◌, ◌≢◌, ℕ, zero, suc, ◌==◌, Bool, true, List, [], ◌∷◌, ◌++◌, length, Option, Some, None, Ok, Err, IfSome, IsSome, slice_get, slice_set, replicate, if◌then◌else◌}
+use Rattle.std.specs.Prelude.{◌≡◌, ◌≢◌, ℕ, zero, suc, ◌==◌, Bool, List, [], ◌∷◌, ◌++◌, Option, Some, None, Ok, Err, IfSome, IsSome, slice_get, slice_set, if◌then◌else◌}
 use Rattle.std.proofs.Common.{refl, sym, ap, ◌∙◌, subst, inl, inr, ◌⊎◌}
 use Rattle.std.proofs.lemmas.Bool.{cases_eq, eq-eqb, ne_eqb}
-use Rattle.seize_words.specs.Mem.{Mem, Took, Can, block_of, value_in, value_at, with_block, fresh, after, IsFreeNumber}
+use Rattle.seize_words.specs.Mem.{Mem, Took, block_of, value_in, value_at, fresh, IsFreeNumber}
 use Rattle.seize_words.specs.Op.{Out, Make, Take, Found, Stored, Exchanged, Made, Taken, Roomed}
 use Rattle.seize_words.specs.declared.block.Block.{Block}
 use Rattle.seize_words.proofs.OneOwner.AfterWrites.{block_of-with_block, block_of-made}
 use Rattle.seize_seats.specs.State.{State, Goes, Allows, Comes, Starts, view_of}
 use Rattle.seize_seats.specs.State as State
+use Rattle.seize_seats.specs.Lendings.{Shown, IsValueOf}
 use Rattle.seize_threads_tests.specs.Theirs.{Own, AreTheirs, tells}
 
 -- nothing is kept for another
@@ -146,6 +147,13 @@ takes id n x v is s has at = (subst IsSome (sym there) refl, λ out m took. told
     told (Exchanged r) m took = absurd took.0
     told (Made r) m took = absurd took.0
     told (Roomed r) m took = absurd took.0
+
+-- as long as a seat has a block it is there, and what is seen is the value that the seat has
+pub shows : (id n x : ℕ) (v : Own) → v ≡ Some (n, x) → Shown AreTheirs id v n
+shows id n x v is s has at = subst IsSome (sym (has.there id n x (at ∙ ap Some is))) refl
+
+pub is_its : (id n x : ℕ) (v : Own) (y : ℕ) → v ≡ Some (n, x) → IsValueOf AreTheirs id v n y → y ≡ x
+is_its id n x v y is of = let there = of.1.there id n x (of.2 ∙ ap Some is) in let found = of.3 in cc (there, found)
 
 -- one block
 abbrev one : ℕ → ℕ → Own

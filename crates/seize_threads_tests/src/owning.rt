@@ -1,4 +1,4 @@
-//! Two threads make blocks and take them away: each finds the values that it has put in.
+//! Two threads make blocks, look at their values and take them away: each finds the values that it has put in.
 ghost use Rattle.std.specs.Prelude.{◌≡◌, Option, None};
 ghost use Rattle.seize_threads_tests.specs.Theirs.{Own, AreTheirs, tells};
 
@@ -25,8 +25,8 @@ impl Rule<u64> for OneEach {
     ghost newcomer = { λ _. None };
 }
 
-/// Makes a block and takes it away, so many times, each time with another value. It answers how many blocks were made, or none where another value came back
-/// than was put in.
+/// Makes a block, looks at its value twice at once, and takes it away, so many times, each time with another value. It answers how many blocks were made, or
+/// none where another value was seen or came back than was put in.
 fn make_and_take(blocks: &Blocks<u64, OneEach>, from: u64, times: u64) -> Option<u64> {
     let mut seat = blocks.seat();
     let mut made = 0;
@@ -34,7 +34,9 @@ fn make_and_take(blocks: &Blocks<u64, OneEach>, from: u64, times: u64) -> Option
         let value = from.wrapping_add(turn);
         if let Ok(number) = blocks.make(&mut seat, value, 0) {
             made += 1;
-            if blocks.take(&mut seat, number) != value {
+            let once = blocks.value(&seat, number);
+            let again = blocks.value(&seat, number);
+            if *once != value || *again != value || blocks.take(&mut seat, number) != value {
                 return None;
             }
         }

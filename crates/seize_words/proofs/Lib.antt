@@ -3,8 +3,9 @@ mod FreeKept
 mod FreeNumbers
 mod FreeSums
 mod FreeTrees
-mod Joined
-mod SlabKept
+mod DirectoryKept
 pub mod OneOwner
 pub mod Places
 pub mod Plans
+mod Stored
+mod Pieces

@@ -1,3 +1,5 @@
--- Where the words of slots lie.
+-- Where the words of slots and the entries of blocks lie.
 pub mod Buckets
+pub mod Filled
+pub mod Next
 pub mod Words

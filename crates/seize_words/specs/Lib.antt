@@ -8,4 +8,6 @@ pub mod Plan
 pub mod Buckets
 pub mod FreeNumbers
 pub mod Free
-pub mod Slab
+pub mod Directory
+pub mod Room
+pub mod Piece

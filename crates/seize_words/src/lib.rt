@@ -4,14 +4,17 @@
 
 mod at;
 mod block;
+mod bucket;
+mod directory;
 mod fault;
 mod free_numbers;
 mod lent;
 mod link;
 mod memory;
+mod piece;
 mod plain;
 mod refused;
-mod slab;
+mod room;
 pub mod slots;
 mod word_array;
 mod words;

@@ -1,17 +1,16 @@
 //! The memory of one owner.
-ghost use Rattle.std.specs.Prelude.{◌≡◌, ◌∷◌, ◌++◌, [], IsSome, IfOk, OnOk, OnErr, Some, replicate};
+ghost use Rattle.std.specs.Prelude.{◌≡◌, ◌∷◌, ◌++◌, [], IsSome, IfOk, OnOk, OnErr, Some, length, replicate};
 ghost use Rattle.seize_words.specs.Mem.{word_at, with_word, value_at, values_in, next_number, Can, Took};
 ghost use Rattle.seize_words.specs.Op.{Make, Made};
 
 use crate::at::At;
-use crate::block::{Block, ENTRY_WORDS};
+use crate::directory::Directory;
 use crate::fault::Fault;
 use crate::lent::Lent;
 use crate::memory::{Look, Memory, Refuses};
-use crate::slab::Slab;
+use crate::piece::Piece;
 use crate::slots::Slots;
 use crate::word_array::WordArray;
-use crate::words::Words;
 use std::alloc::{AllocError, Global};
 use std::collections::VecDeque;
 use std::marker::Model;
@@ -23,7 +22,7 @@ pub struct Plain<T> {
     roots: WordArray,
     used: WordArray,
     slots: Slots,
-    blocks: Slab<T>,
+    blocks: Directory<T>,
     choices: VecDeque<u64>,
     /// How many more requests for memory are met, where there is a limit.
     left: Option<u64>,
@@ -47,7 +46,7 @@ impl<T> Plain<T> {
             roots: WordArray::zeros(alloc, roots)?,
             used: WordArray::zeros(alloc, roots)?,
             slots: Slots::new(alloc),
-            blocks: Slab::new(alloc),
+            blocks: Directory::new(alloc),
             choices: VecDeque::new(alloc),
             left: None,
         })
@@ -84,6 +83,13 @@ impl<T> Plain<T> {
         }
     }
 
+    /// How many blocks it holds.
+    pub fn live(&self) -> u64
+        ensures { result ≡ length (values_in self.now.blocks) }
+    {
+        self.blocks.held()
+    }
+
     /// The memory, lent for reading.
     pub fn look(&self) -> Lent<'_, T>
         ensures { result.memory.now ≡ self.now }
@@ -100,8 +106,8 @@ impl<T> Plain<T> {
             At::Root(root) => self.roots.get(root),
             At::Used(root) => self.used.get(root),
             At::Slot(slot, field) => self.slots.get(slot, field),
-            At::Entry(block, place) => self.blocks.entry(block - 1, place),
-            At::Word(block, place) => self.blocks.word(block - 1, place),
+            At::Entry(block, place) => self.blocks.piece(block - 1).entry(place),
+            At::Word(block, place) => self.blocks.piece(block - 1).word(place),
         }
     }
 
@@ -110,7 +116,7 @@ impl<T> Plain<T> {
         requires { IsSome (value_at self.now block) }
         ensures { value_at self.now block ≡ Some result.now }
     {
-        self.blocks.value(block - 1)
+        self.blocks.piece(block - 1).value()
     }
 
     #[inline(always)]
@@ -202,18 +208,8 @@ impl<T> Memory<T> for Plain<T> {
             return Err(value);
         }
         let choice = self.choices.front().copied().unwrap_or(0);
-        let Ok(words) = WordArray::zeros(self.alloc, words) else {
-            return Err(value);
-        };
-        let entry = Words::zeros();
-        let number = self.blocks.make(
-            choice,
-            Block {
-                value,
-                entry,
-                words,
-            },
-        )?;
+        let made = Piece::make(self.alloc, value, words)?;
+        let number = self.blocks.make(choice, made)?;
         self.choices.pop_front();
         Ok(number)
     }

@@ -85,11 +85,11 @@ pub struct Slots {
 
 impl Model for Slots {
     ghost use Rattle.std.specs.Prelude.{List, ℕ};
-    ghost use Rattle.seize_words.specs.Buckets.{slots_in, IsBucketed};
+    ghost use Rattle.seize_words.specs.Buckets.{all_in, IsBucketed};
 
     ghost Value = { List (List ℕ) };
 
-    ghost view = { λ s. slots_in s.buckets.items };
+    ghost view = { λ s. all_in s.buckets.items };
 
     ghost invariant = { λ s. IsBucketed s.buckets.items };
 }

@@ -3,7 +3,6 @@ use Rattle.std.specs.Prelude.{◌≡◌, ◌+◌, ℕ, Bool, false, zero, suc, L
 use Rattle.std.proofs.Common.{ap, sym, subst, ◌∙◌, inl, inr}
 use Rattle.papaya_folded.specs.Given.Resize.declared.new_table.NewTable.{NewTable}
 use Rattle.papaya_folded.specs.Given.Runs.Same.{is_same}
-use Rattle.papaya_folded.specs.Given.Schedules.declared.call.Call.TheVariants as calls
 use Rattle.papaya_folded.specs.Given.Schedules.declared.effect.Effect.{Effect}
 use Rattle.papaya_folded.specs.Given.Schedules.declared.event.Event.{Event}
 use Rattle.papaya_folded.specs.Given.Schedules.After.{moments_from}

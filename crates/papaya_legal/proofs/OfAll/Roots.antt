@@ -1,5 +1,5 @@
 -- As long as reclaiming all is on slots, what is behind the roots stays there: what a row on a slot takes away was retired.
-use Rattle.std.specs.Prelude.{◌≡◌, ◌⊎◌, ◌<◌, ◌+◌, ℕ, zero, suc, Bool, true, List, [], ◌∷◌, ◌++◌, Option, Some, None, IsSome}
+use Rattle.std.specs.Prelude.{◌≡◌, ◌⊎◌, ◌<◌, ℕ, zero, suc, Bool, true, List, [], ◌∷◌, ◌++◌, Option, Some, None, IsSome}
 use Rattle.std.proofs.Common.{refl, ap, sym, subst, append_assoc, ◌∙◌, arith, inl, inr}
 use Rattle.std.proofs.lemmas.List.{append-nil, append_cancel_left}
 use Rattle.papaya_grows.specs.Given.SeizeWords.Mem.{Mem, Took, value_at}

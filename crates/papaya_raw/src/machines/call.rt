@@ -20,6 +20,7 @@ mod tables;
 mod tries;
 mod values;
 
+pub use tries::is_same_key;
 pub use values::link_to;
 
 /// Where a call on one key stands. A pair is named by the word that links to it.

@@ -11,7 +11,7 @@ use seize_words::{Link, Memory};
 
 /// The hash of the key of a pair, and 0 of a value of another kind.
 #[inline(always)]
-fn key_hash<K, V, S: Hashes<K>>(value: &Node<K, V>, hasher: &S) -> u64
+pub fn key_hash<K, V, S: Hashes<K>>(value: &Node<K, V>, hasher: &S) -> u64
     ensures { result ≡ key_hash (S.hash hasher.now) value.now }
 {
     match value {

@@ -6,7 +6,7 @@ ghost use Rattle.seize_words.specs.declared.fault.Fault.TheVariants.{Capacity};
 ghost use Rattle.papaya_seq.specs.Sets.{KeepsIn, LastTookOut, left_in, put_in};
 
 use super::HashSet;
-use papaya_seq_map::{RefusedKey, take};
+use papaya_seq_map::{RefusedKey, put, take};
 use papaya_tables::Equivalent;
 use seize_words::Fault;
 use std::hash::{BuildHasher, Hash};
@@ -26,7 +26,7 @@ impl<K: Eq + Hash + Drop, S: BuildHasher> HashSet<K, S> {
         ensures hasher { self.new.hasher ≡ self.old.hasher }
         ensures keeps { KeepsIn (if_stored result element) self.old self.new }
     {
-        match self.map.insert(element, ()) {
+        match put(&mut self.map, element, ()) {
             Ok(was) => Ok(!was),
             Err(refused) => Err(RefusedKey {
                 fault: refused.fault,

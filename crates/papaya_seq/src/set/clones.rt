@@ -1,7 +1,7 @@
 //! Sets for one owner with clones of the elements of another set, or of an array.
-ghost use Rattle.std.specs.Prelude.{◌≡◌, [], IfOk, IfErr, OnOk};
+ghost use Rattle.std.specs.Prelude.{◌≡◌, [], true, length, IfOk, IfErr, OnOk};
 ghost use Rattle.std.specs.List.Sorted.{IsPermutation};
-ghost use Rattle.papaya_seq_map.specs.Given.{ClonesAreSame, IsRoom};
+ghost use Rattle.papaya_seq_map.specs.Given.{ClonesAreEqual, ClonesAreSame, IsRoom, agree, with_no_values};
 ghost use Rattle.papaya_seq.specs.Sets.{put_all_in};
 ghost use Rattle.papaya_seq.specs.Stored.{HasPutIn, IsSetMadeOfClones};
 
@@ -28,10 +28,12 @@ fn put_clone<K: Eq + Hash + Clone, S: BuildHasher>(
 
 impl<K: Eq + Hash + Clone, S: BuildHasher + Clone> HashSet<K, S> {
     /// A set with a clone of each element, of the hasher too, and with a memory of its own. The faults are `Fault::Capacity` and `Fault::Memory`;
-    /// then there is no set. Where an element's clone equals another element, that counts once.
+    /// then there is no set. Where an element's clone equals another element, that counts once; where each clone equals its original, so does the set, and has
+    /// as many elements.
     pub fn clone(&self, alloc: Global) -> Result<Self, Fault>
         ensures clones { IfOk result (λ set. IsSetMadeOfClones K.eq K.is_clone self.now.elements set) }
         ensures same { ClonesAreSame K.is_clone → IfOk result (λ set. IsPermutation set.elements self.now.elements) }
+        ensures equals { ClonesAreEqual K.eq K.is_clone → IfOk result (λ set. (agree K.eq (λ _ _. true) (with_no_values self.now.elements) (with_no_values set.elements) ≡ true) × (length set.elements ≡ length self.now.elements)) }
         ensures fault { IfErr result IsRoom }
         ensures hasher { IfOk result (λ set. S.is_clone self.now.hasher set.hasher) }
     {

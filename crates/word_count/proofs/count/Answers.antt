@@ -2,7 +2,7 @@
 use Rattle.std.specs.Cmp.Lexicographic.{nat_list_eq_equiv}
 use Rattle.std.specs.Option.{option_map, unwrap_or}
 use Rattle.std.specs.Str.{bytes_eq}
-use Rattle.std.proofs.Common.{◌≡◌, ◌∙◌, ◌+◌, ◌++◌, ◌∷◌, [], ℕ, List, ap}
+use Rattle.std.proofs.Common.{rules, ◌≡◌, ◌∙◌, ◌+◌, ◌++◌, ◌∷◌, [], ℕ, List, ap}
 use Rattle.papaya_seq.specs.Pairs.{left_by}
 use Rattle.papaya_seq.proofs.Given.{put_is_found}
 use Rattle.word_count.specs.Counts.{count_of}
@@ -15,6 +15,6 @@ put_counts word key count pairs is =
 
 pub returns-clause-one_more : goal.returns-clause-one_more
 returns-clause-one_more c =
-    c.count_of-2.ensures.in_any_order _ c.in_ok-insert.ensures.stored
+    c.count_of-2.ensures.in_any_order (left_by (bytes_eq c.in_ok-new.field-0) c.args.counts.now.pairs ++ ((c.in_ok-new.field-0, c.in-Some.count) ∷ [])) (search rules)
     ∙ put_counts c.args.word.now c.in_ok-new.field-0 c.in-Some.count c.args.counts.now.pairs c.in_ok-new.ensures
     ∙ c.in-Some.ensures.1 ∙ ap (λ n. n + 1) c.count_of.ensures.count

@@ -16,7 +16,7 @@ use seize_words::{Link, Memory};
 use std::hash::Hash;
 
 /// Whether two nodes are pairs of one key.
-fn is_same_key<K: Eq + Hash, V>(node: &Node<K, V>, other: &Node<K, V>) -> bool
+pub fn is_same_key<K: Eq + Hash, V>(node: &Node<K, V>, other: &Node<K, V>) -> bool
     ensures { result ≡ have_one_key K.eq node.now other.now }
 {
     match node {

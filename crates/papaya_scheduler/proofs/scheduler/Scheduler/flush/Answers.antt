@@ -1,4 +1,5 @@
 -- The batch of a guard's slot is tried.
+use Rattle.std.specs.Prelude.{if◌then◌else◌}
 use Rattle.std.proofs.Common.{[], refl, sym, ap, ◌∙◌}
 use Rattle.seize_words.specs.declared.fault.Fault.TheVariants.{Busy}
 use Rattle.papaya_schedules.specs.declared.event.Event.TheVariants.{Flush}
@@ -6,7 +7,7 @@ use Rattle.papaya_schedules.specs.After.{moment}
 use Rattle.papaya_schedules.specs.declared.outcome.Outcome.TheVariants.{Done, Refused}
 use Rattle.papaya_scheduler.proofs.Busy.{none_quiet}
 use Rattle.papaya_scheduler.proofs.Backs.{came, none_came}
-use Rattle.papaya_scheduler.proofs.Flushes.{not_living, its_word, is_held_now, may_flush, its_fits, has_run}
+use Rattle.papaya_scheduler.proofs.Flushes.{by_held, by_none, not_living, its_word, is_held_now, may_flush, its_fits, has_run}
 use Rattle.papaya_scheduler.proofs.HeldTold.{held_is_told}
 use Rattle.papaya_scheduler.proofs.Rights.{so_played}
 use Rattle.papaya_executor.specs.declared.row.SlotCall.TheVariants as call
@@ -78,3 +79,16 @@ returns-clause-works g c =
     did_row (Flush c.args.guard.now) c.args.self.now (record { outcome = Done; steps = 0; effects = c.do_row.new.effects }) c.in-Some.slot (sym c.slot_of_living.ensures ∙ c.in-Some.is) c.do_row.new.self (ap (λ p. p.calls) c.do_row.ensures.rest) call.Flush
     (refl, λ word is. sym c.if-is_held.false ∙ c.is_held.ensures word is)
     c.no_effects-effects.result.items c.do_row.new.effects.items c.no_effects-effects.ensures refl c.do_row.new.self.logged refl (λ said. refl) c.in_ok-do_row.ensures.ran
+
+pub returns-in_default-clause-held : goal.returns-in_default-clause-held
+returns-in_default-clause-held g c = by_none c.args.self.now c.args.guard.now (sym c.slot_of_living.ensures ∙ c.in_default.is) c.busy.result.outcome
+
+pub returns-then-is_held-clause-held : goal.returns-then-is_held-clause-held
+returns-then-is_held-clause-held g c =
+    by_held c.args.self.now c.args.guard.now c.in-Some.slot (sym c.slot_of_living.ensures ∙ c.in-Some.is) c.is_held.result c.is_held.ensures c.busy-then-is_held.result.outcome
+    (c.busy-then-is_held.ensures.outcome ∙ sym (ap (λ b. if b then Refused Busy else Done) c.if-is_held.true))
+
+pub returns-clause-held : goal.returns-clause-held
+returns-clause-held g c =
+    by_held c.args.self.now c.args.guard.now c.in-Some.slot (sym c.slot_of_living.ensures ∙ c.in-Some.is) c.is_held.result c.is_held.ensures Done
+    (sym (ap (λ b. if b then Refused Busy else Done) c.if-is_held.false))

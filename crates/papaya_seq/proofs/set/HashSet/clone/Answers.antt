@@ -1,8 +1,11 @@
 -- By the clones of the map's keys.
-use Rattle.std.specs.Prelude.{◌≡◌}
+use Rattle.std.specs.Prelude.{◌≡◌, true, length}
 use Rattle.std.specs.List.Sorted.{IsPermutation}
 use Rattle.std.specs.Map.{keys_of}
-use Rattle.std.proofs.Common.{subst}
+use Rattle.std.proofs.Common.{◌∙◌, refl, subst, sym}
+use Rattle.std.proofs.lemmas.List.{length-map}
+use Rattle.papaya_seq_map.specs.Given.{agree, with_no_values}
+use Rattle.papaya_seq_map.proofs.Given.{no_values}
 use Rattle.papaya_seq.specs.Sets.{Set, set_of}
 use Rattle.papaya_seq.specs.Stored.{IsSetMadeOfClones}
 use Rattle.papaya_seq.proofs.Sets.{keys_in_order}
@@ -19,3 +22,12 @@ pub returns-clause-same : goal.returns-clause-same
 returns-clause-same g c = λ so.
     let old = c.self.inside.map.pairs in let new = c.in_ok-map.map.pairs in
     subst (λ (x : Set g.row.K.Denot g.row.S.Denot). IsPermutation (keys_of new) x.elements) c.self.view_is (keys_in_order new old (c.in_ok-map.ensures.same so (λ x y is. is)))
+
+pub returns-clause-equals : goal.returns-clause-equals
+returns-clause-equals g c = λ so.
+    let old = c.self.inside.map.pairs in let new = c.in_ok-map.map.pairs in
+    let both = c.in_ok-map.ensures.equals (λ x y. true) so (λ x y is. refl) in
+    subst
+    (λ (x : Set g.row.K.Denot g.row.S.Denot). (agree g.K.PartialEq.eq (λ a b. true) (with_no_values x.elements) (with_no_values (keys_of new)) ≡ true) × (length (keys_of new) ≡ length x.elements))
+    c.self.view_is
+    ((λ i. agree g.K.PartialEq.eq (λ a b. true) (no_values old i) (no_values new i)) ∙ both.0, length-map new (λ x. x.0) ∙ both.1 ∙ sym (length-map old (λ x. x.0)))

@@ -5,6 +5,7 @@ use Rattle.papaya_shown.specs.Coming.{pairs_to_come}
 use Rattle.papaya_shown.specs.Lent.{pair_shown}
 use Rattle.papaya_seq_map.specs.Stored.{IsMadeOfClones}
 use Rattle.papaya_pairs.proofs.Puts.{clones_same_apart}
+use Rattle.papaya_seq_map.proofs.Cloned.{clones_equal}
 use Rattle.papaya_seq_map.proofs.Stored.{clones_more, made_first}
 use Rattle.papaya_seq_map.proofs.Walked.{shown_all}
 use Rattle.papaya_seq_map.proofs.map.HashMap.clone.Goals as goal
@@ -32,3 +33,8 @@ pub returns-clause-same : goal.returns-clause-same
 returns-clause-same g c = λ keys values.
     let all = returns-clause-clones g c in
     clones_same_apart g.K.PartialEq.eq g.K.Clone.is_clone g.V.Clone.is_clone keys values g.met.K.Eq.laws c.args.self.now.pairs all.clones c.loop-key.map.pairs c.iter-key-items.ensures.apart all.each all.made.pairs
+
+pub returns-clause-equals : goal.returns-clause-equals
+returns-clause-equals g c = λ equal keys values.
+    let all = returns-clause-clones g c in
+    clones_equal g.K.PartialEq.eq g.met.K.Eq.laws equal g.K.Clone.is_clone g.V.Clone.is_clone keys values c.args.self.now.pairs all.clones c.loop-key.map.pairs c.iter-key-items.ensures.apart all.each all.made.pairs

@@ -14,7 +14,7 @@ loop-key-init g c = (stored_first g.K.PartialEq.eq c.args.self.now, refl)
 pub loop-key-preserved : goal.loop-key-preserved
 loop-key-preserved g c =
     let old = c.args.self.now in let put = c.in-Ok.ensures in (
-      stored_more g.K.PartialEq.eq old.pairs old.held old.taken old.met c.loop-key.yielded (c.in-Some.key, c.in-Some.value) c.loop-key.self c.insert.new.self c.loop-key.invariant.0
+      stored_more g.K.PartialEq.eq old.pairs old.held old.taken old.met c.loop-key.yielded (c.in-Some.key, c.in-Some.value) c.loop-key.self c.put.new.map c.loop-key.invariant.0
           (record { pairs = put.stored; held = put.keeps; taken = put.in_any_order; met = put.last.1 }),
       put.hasher ∙ c.loop-key.invariant.1,
     )
@@ -38,7 +38,7 @@ returns-in-Err-clause-put g c =
     let it = c.into_iter-key-iterator in
     let xs = c.loop-key.yielded in
     let so = c.loop-key.invariant.0 in
-    let old = c.args.self.now in let now = c.loop-key.self in let new = c.insert.new.self in
+    let old = c.args.self.now in let now = c.loop-key.self in let new = c.put.new.map in
     let told = c.in-Err.ensures in
     let more = Yields-more g.I.IntoIter.Iterator.next_gives it.result xs c.loop-key.key-iterator (c.in-Some.key, c.in-Some.value) c.next.new.self c.loop-key.yielded_by c.in-Some.ensures.steps in record {
       given = xs;

@@ -6,4 +6,4 @@ use Rattle.seize_blocks.specs.declared.rule.Rule.{Ghosts}
 use Rattle.seize_blocks.specs.contracts.seat.Seat.{the_row}
 
 pub send : (T R V F : RattleType) (g : Ghosts R.Denot T.Denot V.Denot F.Denot) → IsSend (the_row T R V F g)
-send T R V F g = record { owned = λ d vs. ((λ vss. (tt, ((λ uss. (tt, tt)), tt))), seat_keyless V.coded.code d.base d.id d.view); leaving = λ k d w. tt }
+send T R V F g = record { owned = λ d vs. ((λ vss. (tt, ((λ uss. (tt, tt)), tt))), seat_keyless V.coded.code d.base d.id d.view d.stretch d.mark); leaving = λ k d w. tt }

@@ -6,7 +6,7 @@ use mir.Val.{Val, vint, vptr}
 use base.Logic.{SProp, emp, via}
 use base.Fml.{Lft, Fml, ftrue, fsep, flft, fhide}
 use prog.Atomic.{either}
-use types.Kit.{‵, raw, ◌⊛◌, given, mean, pick, await, at_ret, ◌$◌, ◌∵◌, !, qed, by, move, keep, drop, split, split3, join, fsplit, fsplit3, fjoin, fjoin3, fpick, learn, use0, use1, use3, rewrite, feq_i}
+use types.Kit.{‵, raw, ◌⊛◌, given, mean, pick, await, at_ret, ◌$◌, ◌∵◌, !, qed, by, move, keep, drop, split, split3, join, fsplit, fsplit3, fjoin, fjoin3, fpick, learn, use0, use1, use3, rewrite, feq_i, some as items, later}
 use types.Run.{stop, fld, load, lit, of_opd, bin, no_more, and_then, first, blocks, exec, Calls-last, returns, enter}
 use types.ByLocal.{alloc_all, pass_all, free_all, look_at, get, through, sets, env, lands_last}
 use types.Part.{agg, sub, whole, look_in}
@@ -46,10 +46,10 @@ use Rattle.seize_words.specs.Op.{Out, Exchange, Exchanged}
 use Rattle.seize_words.specs.declared.at.At.{At}
 use Rattle.seize_words.specs.contracts.at.At as at
 use Rattle.seize_seats.specs.State.{Allows}
-use Rattle.seize_seats.specs.Owned.{BaseId, IsPlaced, age, common, words_share, seat_owns}
+use Rattle.seize_seats.specs.Owned.{BaseId, IsPlaced, age, common, words_share}
 use Rattle.seize_seats.proofs.Shown.{placed}
 use Rattle.seize_seats.proofs.Steps as Steps
-use Rattle.seize_seats.proofs.Moves.{steps, told as told_by}
+use Rattle.seize_seats.proofs.Moves.{steps, told as told_by, seat as seat_of}
 use Rattle.seize_blocks.specs.Placed.{IsItsPlace}
 use Rattle.seize_blocks.specs.contracts.words.Words as words
 use Rattle.seize_blocks.specs.contracts.seat.Seat as seat
@@ -58,6 +58,8 @@ use Rattle.seize_blocks.specs.contracts.words.Words.exchange.{ended, clauses}
 use Rattle.seize_blocks.specs.contracts.words.Words.exchange.Key.{name as #self}
 use Rattle.seize_blocks.proofs.words.Words.exchange.Statement.{statement}
 use Rattle.seize_blocks.proofs.words.Words.exchange.Code as code
+use Rattle.seize_seats.specs.Stretches.{seat_owns}
+use Rattle.seize_seats.proofs.Stretches.{ends, begins}
 
 word_laws : Laws u64
 word_laws = of_field u64-field u64-laws refl (copy_shared u64-field u64-copy)
@@ -179,7 +181,8 @@ exchange_spec 𝓤 𝓛 𝓜 𝓡 wired X P U F LX LP LU LF g d _ =
     shr_bor-open ! tt (tokens_halve 𝓛 α) (λ s. let out : ℕ
     → Fml = λ n. fsep (flft α s) (told_by 𝓛 R₀ cv holds g.keeps p z id v nm i (Exchange nm old new) f says so n) in
     move ! (4 ∷ 5 ∷ 6 ∷ []) $ opens ! tt Sr b' o' (λ ts. move ! (1 ∷ []) $ fsplit ! $
-    rewrite ! 1 (λ (u : ℕ). ‵ (seat_owns cv.code u id v)) asked.0 refl $ move ! (9 ∷ 7 ∷ 1 ∷ []) $
+    rewrite ! 1 (λ (u : ℕ). ‵ (seat_owns cv.code u id v h.stretch h.mark)) asked.0 refl $ move ! (1 ∷ []) $
+    use1 𝓛 (later (‵ (seat_of 𝓛 R₀ cv holds g.keeps p z id v))) (ends 𝓛 cv z.views_name id v h.stretch h.mark) $ await ! tt $ move ! (1 ∷ 0 ∷ []) $ move ! (9 ∷ 7 ∷ 1 ∷ []) $
     use3 𝓛 (raw (𝓣.C _ (vptr pb e ∷ vint w64 old ∷ vint w64 new ∷ seq_cst ∷ seq_cst ∷ []) (λ u. mean 𝓛 (answered out old u))))
     (via 𝓤 _ (steps 𝓛 R₀ cv holds g.keeps p z id v nm i (Exchange nm old new) f says so (Steps.exchanges X.Denot z.roots z.count nm i asked.1.0 old new) asked.2
     s) (exchanges 𝓛 𝓜 𝓡 (code.calls-core::raw_atomic::compare_exchange 𝓡.env wired) (block_ptr pb e) old new are.1.1.1.1.0.1 are.1.1.1.1.1.0.1 out)) $
@@ -193,7 +196,9 @@ exchange_spec 𝓤 𝓛 𝓜 𝓡 wired X P U F LX LP LU LF g d _ =
     lands_last ! refl gv $ exec ! 𝓣.C 𝓣.Λ Ev (tail fn.body) (at_ret Ev Post) $ sets ! (of_opd ! (get ! refl)) refl gv $
     move ! (1 ∷ 2 ∷ 3 ∷ 4 ∷ 5 ∷ 6 ∷ 7 ∷ 8 ∷ 9 ∷ 0 ∷ []) $
     fsplit ! $ move ! (7 ∷ 0 ∷ []) $ obor_close ! tt $ drop ! $ move ! (1 ∷ []) $ fpick ! (λ v'. fsplit ! $ fpick ! (λ such. drop ! $
-    let h' : Sr.Denot = record { marker = h.marker; base = z.views_name; id = id; view = v' } in
+    use1 𝓛 (later (items (λ (st : ℕ × ℕ). ‵ (seat_owns cv.code z.views_name id v' st.0 st.1)))) (begins 𝓛 cv z.views_name id v') $ await ! tt $
+    pick ! (λ st.
+    let h' : Sr.Denot = record { marker = h.marker; base = z.views_name; id = id; view = v'; stretch = st.0; mark = st.1 } in
     let Told : Type 0 = (z.views_name ≡ h.base) × (id ≡ id) × so (Exchanged r) v' in
     let is_so : so (Exchanged r) v' = subst (λ (q' : Result ℕ ℕ). so (Exchanged q') v') (Steps.answered old r fits) such in
     move ! (2 ∷ 0 ∷ []) $ fjoin ! $ move ! (2 ∷ 0 ∷ 3 ∷ 4 ∷ 5 ∷ []) $ closes ! tt Sr h' ts b' o' $
@@ -202,4 +207,4 @@ exchange_spec 𝓤 𝓛 𝓜 𝓡 wired X P U F LX LP LU LF g d _ =
     move ! (1 ∷ 4 ∷ []) $ join ! $ move ! (2 ∷ 0 ∷ []) $ join ! $
     use0 𝓛 (raw (fact 𝓤 Told)) (fact_i 𝓤 Told (emp 𝓤) (sym asked.0, refl, is_so)) $
     returns ! (look_at ! 0 refl) $ free_all ! refl $ keep ! (1 ∷ 2 ∷ 4 ∷ 0 ∷ []) $
-    by ! (leaves 𝓛 En hs c y u r (tt, (h', (tt, (tt, (tt, (tt, tt)))))) (tt, (tt, (tt, (tt, (tt, (tt, tt)))))))))))))))))))))
+    by ! (leaves 𝓛 En hs c y u r (tt, (h', (tt, (tt, (tt, (tt, tt)))))) (tt, (tt, (tt, (tt, (tt, (tt, tt))))))))))))))))))))))

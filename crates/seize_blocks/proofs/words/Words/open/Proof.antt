@@ -29,7 +29,7 @@ use Rattle.core.proofs.atomic.Steps.{Ptr-Good}
 use Rattle.std.proofs.raw_atomic.Walks.{proved, leaves}
 use Rattle.seize_seats.specs.Lines.{whole as all_words}
 use Rattle.core.specs.contracts.option.Option.{the_row as OptionOf}
-use Rattle.seize_seats.specs.Owned.{BaseId, IsPlaced, words_own, stride, places}
+use Rattle.seize_seats.specs.Owned.{BaseId, words_own, stride, places}
 use Rattle.seize_seats.specs.Owned as Owned
 use Rattle.seize_blocks.specs.contracts.words.Words as words
 use Rattle.seize_blocks.specs.contracts.row.Row as row
@@ -49,7 +49,8 @@ open_spec 𝓤 𝓛 𝓜 𝓡 wired X P U F LX LP LU LF g d _ =
     let R₃ : RattleType = param 3 F in
     let En = ended X P U F g d in let c = clauses X P U F g d 𝓛 𝓜.mem 𝓡.returns in
     let inst = bounded (a_type ∷ a_type ∷ a_type ∷ a_type ∷ []) (X, (P, (U, (F, tt)))) (dcons d dnil) in let fn = inst_fn inst code.function in
-    let Row : RattleType = words.the_row R₀ R₁ R₂ R₃ g in let Rw : RattleType = row.the_row u64 in let Ro : RattleType = row.the_row (OptionOf R₀) in let Pl : RattleType = place.the_row R₀ in
+    let Row : RattleType = words.the_row R₀ R₁ R₂ R₃ g in let Rw : RattleType = row.the_row u64 in let Ro : RattleType = row.the_row (OptionOf R₀) in
+    let Pl : RattleType = place.the_row R₀ in
     let about = RefOf (0 ∷ []) tt (plain (λ _. R₃)) (λ _. tt) in let num = plain (λ _. u64) in
     let hs : Stays En.signature.params En.kept = (
       stay_dropped (plain (λ _. Rw)) yes,

@@ -1,6 +1,6 @@
 -- `put` takes the place of a claimed number out, writes the value there, and gives it back as a block.
-use Rattle.std.proofs.Common.{◌≡◌, ℕ, List, [], ◌∷◌, ◌++◌, ◌+◌, ◌*◌, ◌^◌, ◌<◌, ◌≤◌, sym, refl, ap, ◌∙◌, subst, w64, arith, Option, None, Some, Ok}
-use mir.Syntax.{dcons, dnil, a_type, named}
+use Rattle.std.proofs.Common.{◌≡◌, ℕ, List, [], ◌∷◌, ◌++◌, ◌+◌, ◌*◌, ◌^◌, ◌<◌, sym, refl, ap, ◌∙◌, subst, w64, Option, None, Some, Ok}
+use mir.Syntax.{dcons, dnil, a_type}
 use mir.MapTy.{inst_fn}
 use mir.Raw.{raw as bare}
 use mir.Val.{Val, vint, vptr, vunit, of_list}
@@ -10,8 +10,8 @@ use base.Share
 use base.Share.{three_quarters}
 use base.Logic.{SProp, ent, sep, emp, id⊢}
 use types.Logic.{sem}
-use base.Fml.{Lft, Share, Fml, ftrue, fsep, flft, fhide, froom, fat, fbor, finv}
-use types.Kit.{‵, raw, ◌⊛◌, given, later, at_ret, ◌$◌, ◌∵◌, !, qed, by, move, keep, drop, split, split3, join, fsplit, fsplit3, fjoin, fjoin3, fpick, learn, use0, use1, use2, use3, await, suffices, rewrite, feq_i}
+use base.Fml.{Lft, Share, Fml, ftrue, fsep, flft, fhide, froom, fat, fbor, Incl-trans}
+use types.Kit.{‵, raw, ◌⊛◌, given, later, at_ret, ◌$◌, ◌∵◌, !, qed, by, move, keep, drop, split, split3, join, fsplit, fsplit3, fjoin, fjoin3, fpick, learn, use0, use1, use2, use3, await, suffices, rewrite, feq_i, some as items, pick}
 use types.Match.{live}
 use types.Part.{agg}
 use types.Run.{stop, lit, unit_lit, no_more, and_then, size_word, of_opd, bin, first, blocks, exec, returns, enter, init, assigns_last}
@@ -44,11 +44,10 @@ use Rattle.std.specs.contracts.marker.PhantomData as marker
 use Rattle.std.proofs.raw_atomic.Walks.{proved_at, leaves}
 use Rattle.seize_words.specs.Op.{Out, Make, Made}
 use Rattle.seize_seats.specs.State.{Allows}
-use Rattle.seize_seats.specs.Lines.{long}
-use Rattle.seize_seats.specs.Owned.{BaseId, IsPlaced, Hand, age, common, inner, claim_owns, hand, resting, busy, zeros, place, row, stride, words_share, seat_owns}
+use Rattle.seize_seats.specs.Owned.{BaseId, IsPlaced, Hand, age, common, inner, claim_owns, resting, busy, zeros, place, stride, words_share}
 use Rattle.seize_seats.proofs.Shown.{placed}
 use Rattle.seize_seats.proofs.Moves.{reach, seat as seat_of, gone_on}
-use Rattle.seize_seats.proofs.Makings.{hands, contents, withdraws, publishes}
+use Rattle.seize_seats.proofs.Makings.{hands, contents, withdraws, publishes, offers as offered_at, lent}
 use Rattle.seize_blocks.specs.contracts.words.Words as words
 use Rattle.seize_blocks.specs.contracts.seat.Seat as seat
 use Rattle.seize_blocks.specs.contracts.claim.Claim as claim
@@ -58,6 +57,11 @@ use Rattle.seize_blocks.specs.contracts.words.Words.put.{ended, clauses}
 use Rattle.seize_blocks.specs.contracts.words.Words.put.Key.{name as #self}
 use Rattle.seize_blocks.proofs.words.Words.put.Statement.{statement}
 use Rattle.seize_blocks.proofs.words.Words.put.Code as code
+use Rattle.seize_seats.specs.Stretches.{seat_owns, IsEven, invariant}
+use Rattle.seize_seats.proofs.Stretches.{ends, begins, twice}
+use Rattle.seize_seats.proofs.Lendings.{offers}
+use contract.BorrowLft.{◌⊑◌}
+use Rattle.core.proofs.once.Steps.{option_lives}
 
 pub put_spec : {M : Type 1} → statement M
 put_spec 𝓤 𝓛 𝓜 𝓡 wired X P U F LX LP LU LF g d _ =
@@ -109,15 +113,16 @@ put_spec 𝓤 𝓛 𝓜 𝓡 wired X P U F LX LP LU LF g d _ =
     let got = one (layout X) vss.1.1.1.1.1.0 (LX₀.typed new vss.1.1.1.1.1.0 are.1.1.1.1.1.0) in let vy : Val = got.0 in
     let sv : Val = live 1 (of_list (vy ∷ [])) in
     let ct = claim_told cl.found vss.1.1.0 are.1.1.0.0 in
-    qed 𝓛 (((‵ (flft κs.0 qs.0) ⊛ ‵ (flft κs.1.0 qs.1.0) ⊛ ‵ others) ⊛ ‵ (owns (types_at En.signature.params κs) a vss)) ∷ raw (fact 𝓤 _) ∷
+    qed 𝓛 (((‵ (flft κs.0 qs.0) ⊛ ‵ (flft κs.1.0 qs.1.0) ⊛ ‵ others) ⊛ ‵ (owns (types_at En.signature.params κs) a vss)) ∷ raw (fact 𝓤 (κs.1.1.0 ⊑ X.lives)) ∷
     raw (fact 𝓤 _) ∷ raw (fact 𝓤 _) ∷ raw (fact 𝓤 _) ∷ raw (fact 𝓤 Asked) ∷ []) ∵
-    keep ! (5 ∷ 0 ∷ []) $ heard ! Asked (λ asked. split ! $ split3 ! $ move ! (3 ∷ []) $ fsplit3 ! $ fsplit ! $ move ! (2 ∷ []) $ fsplit3 ! $
+    keep ! (5 ∷ 1 ∷ 0 ∷ []) $ heard ! Asked (λ asked. heard ! (κs.1.1.0 ⊑ X.lives) (λ inc. split ! $ split3 ! $ move ! (3 ∷ []) $ fsplit3 ! $ fsplit ! $ move ! (2 ∷ []) $ fsplit3 ! $
     -- [the seat's address; the seat, by two; the address of self; self; the rest; the tokens; the others]
     keep ! (4 ∷ 6 ∷ 1 ∷ 2 ∷ 7 ∷ 8 ∷ 5 ∷ []) $ move ! (6 ∷ []) $ fsplit3 ! $ move ! (2 ∷ []) $ fsplit3 ! $ keep ! (3 ∷ 1 ∷ 5 ∷ 6 ∷ 7 ∷ 8 ∷ 9 ∷ 10 ∷ []) $
     -- [the claim; the value; self; its token; the seat, by two; its token; the others]
     fsplit ! $ drop ! $ rewrite ! 0 (λ (u : ℕ × ℕ × ℕ). ‵ (claim_owns u.0 u.1 u.2)) (λ i. (asked.1 i, asked.3 i, asked.2 i)) refl $
     rewrite ! 1 (λ (ws : List Val). ‵ (R₀.own_val new ws)) got.1 refl $
-    let so : Out X.Denot → U.Denot → Type 0 = g.then v (Make new 0) in let allowed = subst (λ (w : ℕ). Allows holds g.keeps id v (Make new w) (g.then v (Make new w))) asked.7 asked.8 in
+    let so : Out X.Denot → U.Denot → Type 0 = g.then v (Make new 0) in
+    let allowed = subst (λ (w : ℕ). Allows holds g.keeps id v (Make new w) (g.then v (Make new w))) asked.7 asked.8 in
     let p' : Ptr = block_ptr bv ov in let us : List Val = vptr b o ∷ vptr b' o' ∷ claim_of cl.found ∷ vint w64 j ∷ ptr_val p' ∷ vy ∷ vint w64 count ∷ [] in
     let Run : List Val → SProp 𝓤 = λ ws. WpFn 𝓤 H 𝓣.C 𝓣.Λ fn ws Post in
     move ! (2 ∷ []) $
@@ -143,11 +148,11 @@ put_spec 𝓤 𝓛 𝓜 𝓡 wired X P U F LX LP LU LF g d _ =
       ),
     ) $ let Ev = env fn.locals l in let I : Fml = inner R₀ cv.code holds p z in
     -- [the invariant; its lifetime lasts; the claim; the value; the token; the seat, by two; its token; the others]
-    use1 𝓛 (‵ (finv (fbor α I)) ⊛ ‵ (finv (fbor α I))) (𝓛.invs.inv_dup (fbor α I)) $ split ! $ move ! (2 ∷ 5 ∷ []) $
+    use1 𝓛 (‵ (invariant IsEven (fbor α I)) ⊛ ‵ (invariant IsEven (fbor α I))) (twice 𝓛 IsEven (fbor α I)) $ split ! $ move ! (2 ∷ 5 ∷ []) $
     shr_bor-open ! tt (tokens_halve 𝓛 α) (λ s. let q₁ : Share = Share.left s in let q₂ : Share = Share.right s in move ! (1 ∷ []) $
     use1 𝓛 (‵ (flft α q₁) ⊛ ‵ (flft α q₂)) (𝓛.lfts.lft_split α s) $ split ! $
     let Hs : Hand → Fml = λ u. hands 𝓛 R₀ cv holds g.keeps p z three_quarters j u in
-    let Cs : Option X.Denot → Fml = λ u. contents 𝓛 R₀ cv holds g.keeps p z j zeros u in
+    let Cs : Option X.Denot → Fml = λ u. contents 𝓛 R₀ cv holds g.keeps p z j zeros u in let Os : Fml = offered_at 𝓛 R₀ cv holds g.keeps p z j zeros new in
     -- [its token, by two; open; the invariant, twice; the claim; the value; the seat, by two; its token; the others]
     move ! (5 ∷ 1 ∷ []) $ join ! $ move ! (3 ∷ 1 ∷ 0 ∷ []) $
     use3 𝓛 (later ((‵ (Hs (busy q₂)) ⊛ ‵ (Cs None)) ⊛ ‵ (flft α q₁)))
@@ -170,28 +175,39 @@ put_spec 𝓤 𝓛 𝓜 𝓡 wired X P U F LX LP LU LF g d _ =
     use1 𝓛 (‵ (fat full_share (bare (lone O.mir)) bv e sv)) (𝓛.laws.at_raw full_share (lone O.mir) bv e sv) $
     gather m ! (Some new) sv bv e $
     rewrite ! 0 (λ (u : Ptr). ‵ (place R₀ α z.hands_name (block_of u) (j * sz + count_of u) (Some new))) asked.6 refl $
+    -- [the place; what it held; the entry; the hand; its token; open; the invariant; the seat, by two; its token; the others]
+    let Value : Fml = lent 𝓛 R₀ cv holds g.keeps p z j new (block_of z.values) (j * sz + count_of z.values) in
+    move ! (10 ∷ []) $ fsplit ! $ move ! (2 ∷ 0 ∷ []) $
+    use2 𝓛 (later (‵ Value ⊛ ‵ (flft κs.1.1.0 qs.1.1.0)))
+    (offers 𝓛 R₀ α cv z.views_name holds (LO.shares 𝓛) j new (block_of z.values) (j * sz + count_of z.values) κs.1.1.0 qs.1.1.0
+    (Incl-trans inc (option_lives R₀))) $ await ! tt $ split ! $ move ! (1 ∷ 2 ∷ []) $ fjoin ! $
+    move ! (1 ∷ 2 ∷ 3 ∷ 4 ∷ 5 ∷ 6 ∷ 7 ∷ 8 ∷ 9 ∷ 10 ∷ []) $
     move ! (2 ∷ 0 ∷ []) $ fjoin ! $ move ! (2 ∷ 0 ∷ []) $ join ! $
     -- [hand and contents; what it held; its token; open; the invariant; the seat, by two; its token; the others]
     move ! (5 ∷ 6 ∷ 7 ∷ []) $ opens ! tt Sr b' o' (λ ts. move ! (1 ∷ []) $ fsplit ! $
-    rewrite ! 1 (λ (u : ℕ). ‵ (seat_owns cv.code u id v)) asked.0 refl $
+    rewrite ! 1 (λ (u : ℕ). ‵ (seat_owns cv.code u id v h.stretch h.mark)) asked.0 refl $ move ! (1 ∷ []) $
+    use1 𝓛 (later (‵ (seat_of 𝓛 R₀ cv holds g.keeps p z id v))) (ends 𝓛 cv z.views_name id v h.stretch h.mark) $ await ! tt $ move ! (1 ∷ 0 ∷ []) $
     -- [the seat's fields; the seat; four of it; hand and contents; what it held; its token; open; the invariant; ..]
     move ! (1 ∷ 6 ∷ []) $ join ! $ move ! (9 ∷ 7 ∷ 0 ∷ []) $
     use3 𝓛 (later ((‵ (gone_on 𝓛 R₀ cv holds g.keeps p z id (so (Made (Ok (j + 1))))) ⊛ ‵ (flft α q₂)) ⊛ ‵ (flft α q₁)))
     (reach 𝓛 R₀ cv holds g.keeps p z q₁
-    (sep 𝓤 (sem 𝓛 (seat_of 𝓛 R₀ cv holds g.keeps p z id v)) (sep 𝓤 (sem 𝓛 (Hs (busy q₂))) (sem 𝓛 (Cs (Some new)))))
+    (sep 𝓤 (sem 𝓛 (seat_of 𝓛 R₀ cv holds g.keeps p z id v)) (sep 𝓤 (sem 𝓛 (Hs (busy q₂))) (sem 𝓛 Os)))
     (sep 𝓤 (sem 𝓛 (gone_on 𝓛 R₀ cv holds g.keeps p z id (so (Made (Ok (j + 1)))))) (sem 𝓛 (flft α q₂))) (publishes 𝓛 R₀ cv holds g.keeps p z id v j q₂ new so asked.4 asked.5 allowed)) $ await ! tt $ split ! $ split ! $
     -- [the seat; the two parts of the token; the fields; four; what it held; open; its token; the others]
     move ! (2 ∷ 1 ∷ []) $ use2 𝓛 (‵ (flft α s)) (𝓛.lfts.lft_join α s) $ move ! (8 ∷ 0 ∷ []) $ obor_close ! tt $ drop ! $
     move ! (1 ∷ []) $ fpick ! (λ v'. fsplit ! $ fpick ! (λ such. drop ! $
-    let h' : Sr.Denot = record { marker = h.marker; base = z.views_name; id = id; view = v' } in
+    use1 𝓛 (later (items (λ (st : ℕ × ℕ). ‵ (seat_owns cv.code z.views_name id v' st.0 st.1)))) (begins 𝓛 cv z.views_name id v') $ await ! tt $
+    pick ! (λ st.
+    let h' : Sr.Denot = record { marker = h.marker; base = z.views_name; id = id; view = v'; stretch = st.0; mark = st.1 } in
     let Told : Type 0 = (z.views_name ≡ h.base) × (id ≡ id) × g.then v (Make new count) (Made (Ok (j + 1))) v' in
     let told_is = subst (λ (w : ℕ). g.then v (Make new w) (Made (Ok (j + 1))) v') (sym asked.7) such in
     -- [the seat; the token; the fields; four; what it held; its token; the others]
     move ! (2 ∷ 0 ∷ []) $ fjoin ! $ move ! (2 ∷ 0 ∷ 3 ∷ 4 ∷ 5 ∷ []) $ closes ! tt Sr h' ts b' o' $
     feq_i ! (List Val) vss.1.0 (vptr b' o' ∷ []) are.1.0.0 $ fjoin3 ! $
-    nothing ! $ nothing ! $ fjoin ! $ nothing ! $ fjoin ! $ nothing ! $ fjoin ! $ nothing ! $ fjoin ! $ nothing ! $ fjoin ! $ move ! (1 ∷ 0 ∷ []) $ fjoin ! $ nothing ! $ fjoin ! $
+    nothing ! $ nothing ! $ fjoin ! $ nothing ! $ fjoin ! $ nothing ! $ fjoin ! $ nothing ! $ fjoin ! $ nothing ! $ fjoin ! $ move ! (1 ∷ 0 ∷ []) $
+    fjoin ! $ nothing ! $ fjoin ! $
     -- [what is left; its token; the token; what it held; the others]
     move ! (1 ∷ 4 ∷ []) $ join ! $ move ! (2 ∷ 0 ∷ []) $ join ! $
     use0 𝓛 (raw (fact 𝓤 Told)) (fact_i 𝓤 Told (emp 𝓤) (sym asked.0, refl, told_is)) $ feq_i ! (List Val) (vunit ∷ []) (vunit ∷ []) refl $
     returns ! (look_at ! 0 refl) $ free_all ! refl $ keep ! (2 ∷ 3 ∷ 0 ∷ 1 ∷ []) $
-    by ! (leaves 𝓛 En hs c y vunit tt (tt, (h', (tt, (tt, (tt, (tt, (tt, tt))))))) (tt, (tt, (tt, (tt, (tt, (tt, (tt, tt))))))))))))))))))
+    by ! (leaves 𝓛 En hs c y vunit tt (tt, (h', (tt, (tt, (tt, (tt, (tt, tt))))))) (tt, (tt, (tt, (tt, (tt, (tt, (tt, tt))))))))))))))))))))

@@ -5,7 +5,7 @@ use mir.MapTy.{inst_fn}
 use mir.Val.{Val, vptr}
 use base.Logic.{SProp, emp}
 use base.Fml.{Lft, Fml, ftrue, fsep, flft, fhide}
-use types.Kit.{‵, raw, ◌⊛◌, later, ◌$◌, ◌∵◌, !, qed, by, move, keep, drop, split, join, fsplit, fjoin, fpick, use0, use1, use3, await}
+use types.Kit.{‵, raw, ◌⊛◌, later, ◌$◌, ◌∵◌, !, qed, by, move, keep, drop, split, join, fsplit, fjoin, fpick, use0, use1, use3, await, some as items, pick}
 use types.Run.{no_more, and_then, returns, enter}
 use types.ByLocal.{alloc_all, pass_all, free_all, look_at, get, sets, env}
 use types.Part.{agg}
@@ -36,6 +36,8 @@ use Rattle.seize_blocks.specs.contracts.words.Words.seat.{ended, clauses}
 use Rattle.seize_blocks.specs.contracts.words.Words.seat.Key.{name as #self}
 use Rattle.seize_blocks.proofs.words.Words.seat.Statement.{statement}
 use Rattle.seize_blocks.proofs.words.Words.seat.Code as code
+use Rattle.seize_seats.specs.Stretches.{seat_owns}
+use Rattle.seize_seats.proofs.Stretches.{begins}
 
 pub seat_spec : {M : Type 1} → statement M
 seat_spec 𝓤 𝓛 𝓜 𝓡 wired X P U F LX LP LU LF g d _ =
@@ -69,8 +71,9 @@ seat_spec 𝓤 𝓛 𝓜 𝓡 wired X P U F LX LP LU LF g d _ =
     nothing ! $ move ! (1 ∷ 2 ∷ 0 ∷ []) $
     use3 𝓛 (later (‵ (newcomer 𝓛 R₀ cv holds g.keeps p z v) ⊛ ‵ (flft κ qs.0))) (comes 𝓛 R₀ cv holds g.keeps p z κ qs.0 v asked) $
     await ! tt $ split ! $ fpick ! (λ id.
+    use1 𝓛 (later (items (λ (st : ℕ × ℕ). ‵ (seat_owns cv.code z.views_name id v st.0 st.1)))) (begins 𝓛 cv z.views_name id v) $ await ! tt $ pick ! (λ st.
     sets ! (agg ! (no_more !)) refl (tt, tt) $ sets ! (agg ! (and_then ! (get ! refl) (no_more !))) refl (tt, (tt, tt)) $
-    let r : Sr.Denot = record { marker = record {}; base = z.views_name; id = id; view = v } in let Told : Type 0 = (z.views_name ≡ z.views_name) × (v ≡ v) in
+    let r : Sr.Denot = record { marker = record {}; base = z.views_name; id = id; view = v; stretch = st.0; mark = st.1 } in let Told : Type 0 = (z.views_name ≡ z.views_name) × (v ≡ v) in
     use0 𝓛 (‵ ((Token R₀ R₁ R₂ R₃ g).own_val (tt, tt) (token ∷ []))) (token_made R₀ R₁ R₂ R₃ g 𝓛) $ fjoin ! $
     nothing ! $ nothing ! $ fjoin ! $ move ! (2 ∷ 3 ∷ []) $ join ! $ use0 𝓛 (raw (fact 𝓤 Told)) (fact_i 𝓤 Told (emp 𝓤) (refl, refl)) $
-    returns ! (look_at ! 0 refl) $ free_all ! refl $ keep ! (1 ∷ 2 ∷ 3 ∷ 0 ∷ []) $ by ! (leaves 𝓛 En hs c y token r (tt, tt) (tt, tt))))))
+    returns ! (look_at ! 0 refl) $ free_all ! refl $ keep ! (1 ∷ 2 ∷ 3 ∷ 0 ∷ []) $ by ! (leaves 𝓛 En hs c y token r (tt, tt) (tt, tt)))))))

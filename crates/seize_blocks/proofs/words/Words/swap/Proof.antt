@@ -5,7 +5,7 @@ use mir.MapTy.{inst_fn}
 use mir.Val.{Val, vint, vptr}
 use base.Logic.{SProp, emp, via}
 use base.Fml.{Lft, Fml, ftrue, fsep, flft, fhide}
-use types.Kit.{‵, raw, ◌⊛◌, given, mean, at_ret, ◌$◌, ◌∵◌, !, qed, by, move, keep, drop, split, split3, join, fsplit, fsplit3, fjoin, fjoin3, fpick, learn, use0, use1, use3, rewrite, feq_i, flt_i}
+use types.Kit.{‵, raw, ◌⊛◌, given, mean, at_ret, ◌$◌, ◌∵◌, !, qed, by, move, keep, drop, split, split3, join, fsplit, fsplit3, fjoin, fjoin3, fpick, learn, use0, use1, use3, rewrite, feq_i, flt_i, some as items, later, pick, await}
 use types.Run.{stop, fld, load, lit, of_opd, bin, no_more, and_then, first, blocks, exec, Calls-last, returns, enter}
 use types.ByLocal.{alloc_all, pass_all, free_all, look_at, get, through, sets, env, lands_last}
 use types.Part.{agg, sub, whole, look_in}
@@ -36,10 +36,10 @@ use Rattle.seize_words.specs.Op.{Out, Swap, Found}
 use Rattle.seize_words.specs.declared.at.At.{At}
 use Rattle.seize_words.specs.contracts.at.At as at
 use Rattle.seize_seats.specs.State.{Allows}
-use Rattle.seize_seats.specs.Owned.{BaseId, IsPlaced, age, common, words_share, seat_owns}
+use Rattle.seize_seats.specs.Owned.{BaseId, IsPlaced, age, common, words_share}
 use Rattle.seize_seats.proofs.Shown.{placed}
 use Rattle.seize_seats.proofs.Steps as Steps
-use Rattle.seize_seats.proofs.Moves.{steps, told as told_by}
+use Rattle.seize_seats.proofs.Moves.{steps, told as told_by, seat as seat_of}
 use Rattle.seize_blocks.specs.Placed.{IsItsPlace}
 use Rattle.seize_blocks.specs.contracts.words.Words as words
 use Rattle.seize_blocks.specs.contracts.seat.Seat as seat
@@ -48,6 +48,8 @@ use Rattle.seize_blocks.specs.contracts.words.Words.swap.{ended, clauses}
 use Rattle.seize_blocks.specs.contracts.words.Words.swap.Key.{name as #self}
 use Rattle.seize_blocks.proofs.words.Words.swap.Statement.{statement}
 use Rattle.seize_blocks.proofs.words.Words.swap.Code as code
+use Rattle.seize_seats.specs.Stretches.{seat_owns}
+use Rattle.seize_seats.proofs.Stretches.{ends, begins}
 
 pub swap_spec : {M : Type 1} → statement M
 swap_spec 𝓤 𝓛 𝓜 𝓡 wired X P U F LX LP LU LF g d _ =
@@ -136,7 +138,8 @@ swap_spec 𝓤 𝓛 𝓜 𝓡 wired X P U F LX LP LU LF g d _ =
     shr_bor-open ! tt (tokens_halve 𝓛 α) (λ s. let out : ℕ
     → Fml = λ n. fsep (flft α s) (told_by 𝓛 R₀ cv holds g.keeps p z id v nm i (Swap nm k) f Found so n) in
     move ! (4 ∷ 5 ∷ 6 ∷ []) $ opens ! tt Sr b' o' (λ ts. move ! (1 ∷ []) $ fsplit ! $
-    rewrite ! 1 (λ (u : ℕ). ‵ (seat_owns cv.code u id v)) asked.0 refl $ move ! (9 ∷ 7 ∷ 1 ∷ []) $
+    rewrite ! 1 (λ (u : ℕ). ‵ (seat_owns cv.code u id v h.stretch h.mark)) asked.0 refl $ move ! (1 ∷ []) $
+    use1 𝓛 (later (‵ (seat_of 𝓛 R₀ cv holds g.keeps p z id v))) (ends 𝓛 cv z.views_name id v h.stretch h.mark) $ await ! tt $ move ! (1 ∷ 0 ∷ []) $ move ! (9 ∷ 7 ∷ 1 ∷ []) $
     use3 𝓛 (raw (𝓣.C _ (vptr pb e ∷ vint w64 k ∷ seq_cst ∷ []) (λ u. mean 𝓛 (found out u))))
     (via 𝓤 _ (steps 𝓛 R₀ cv holds g.keeps p z id v nm i (Swap nm k) f Found so (Steps.swaps X.Denot z.roots z.count nm i asked.1.0 k) asked.2 s)
     (swaps 𝓛 𝓜 𝓡 (code.calls-core::raw_atomic::swap 𝓡.env wired) (block_ptr pb e) k are.1.1.1.1.0.1 out)) $
@@ -145,7 +148,9 @@ swap_spec 𝓤 𝓛 𝓜 𝓡 wired X P U F LX LP LU LF g d _ =
     lands_last ! refl (tt, record { fits = fits }) $ exec ! 𝓣.C 𝓣.Λ Ev (tail fn.body) (at_ret Ev Post) $
     sets ! (of_opd ! (get ! refl)) refl (tt, record { fits = fits }) $
     fsplit ! $ move ! (7 ∷ 0 ∷ []) $ obor_close ! tt $ drop ! $ move ! (1 ∷ []) $ fpick ! (λ v'. fsplit ! $ fpick ! (λ such. drop ! $
-    let h' : Sr.Denot = record { marker = h.marker; base = z.views_name; id = id; view = v' } in
+    use1 𝓛 (later (items (λ (st : ℕ × ℕ). ‵ (seat_owns cv.code z.views_name id v' st.0 st.1)))) (begins 𝓛 cv z.views_name id v') $ await ! tt $
+    pick ! (λ st.
+    let h' : Sr.Denot = record { marker = h.marker; base = z.views_name; id = id; view = v'; stretch = st.0; mark = st.1 } in
     let Told : Type 0 = (z.views_name ≡ h.base) × (id ≡ id) × so (Found n) v' in
     move ! (2 ∷ 0 ∷ []) $ fjoin ! $ move ! (2 ∷ 0 ∷ 3 ∷ 4 ∷ 5 ∷ []) $ closes ! tt Sr h' ts b' o' $
     feq_i ! (List Val) (vptr b' o' ∷ []) (vptr b' o' ∷ []) refl $ fjoin3 ! $
@@ -154,4 +159,4 @@ swap_spec 𝓤 𝓛 𝓜 𝓡 wired X P U F LX LP LU LF g d _ =
     use0 𝓛 (raw (fact 𝓤 Told)) (fact_i 𝓤 Told (emp 𝓤) (sym asked.0, refl, such)) $ flt_i ! n (2 ^ 64) fits $
     feq_i ! (List Val) (vint w64 n ∷ []) (vint w64 n ∷ []) refl $ fjoin ! $
     returns ! (look_at ! 0 refl) $ free_all ! refl $ keep ! (2 ∷ 3 ∷ 0 ∷ 1 ∷ []) $
-    by ! (leaves 𝓛 En hs c y (vint w64 n) n (tt, (h', (tt, (tt, (tt, tt))))) (tt, (tt, (tt, (tt, (tt, tt))))))))))))))))))
+    by ! (leaves 𝓛 En hs c y (vint w64 n) n (tt, (h', (tt, (tt, (tt, tt))))) (tt, (tt, (tt, (tt, (tt, tt)))))))))))))))))))

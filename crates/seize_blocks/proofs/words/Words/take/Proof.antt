@@ -1,5 +1,5 @@
 -- `take` takes a block away with its place, moves the value out, and frees the number.
-use Rattle.std.proofs.Common.{◌≡◌, ℕ, List, [], ◌∷◌, ◌++◌, ◌+◌, ◌-◌, ◌*◌, ◌^◌, ◌<◌, ◌≤◌, sym, refl, ap, ◌∙◌, subst, lit<, w64, arith, Option, None, Some}
+use Rattle.std.proofs.Common.{◌≡◌, ℕ, List, [], ◌∷◌, ◌+◌, ◌-◌, ◌*◌, ◌^◌, ◌<◌, ◌≤◌, sym, refl, ap, ◌∙◌, subst, lit<, w64, arith, None, Some}
 use mir.Syntax.{Ty, dcons, dnil, a_type, named, ty_int}
 use mir.MapTy.{inst_fn}
 use mir.Raw.{raw as bare}
@@ -10,8 +10,8 @@ use base.Share
 use base.Share.{three_quarters}
 use base.Logic.{SProp, ent, sep, emp, id⊢, via}
 use types.Logic.{sem}
-use base.Fml.{Lft, Share, Fml, ftrue, fsep, fex, flft, fhide, froom, fat, fbor, finv}
-use types.Kit.{‵, raw, ◌⊛◌, given, later, mean, at_ret, ◌$◌, ◌∵◌, !, qed, by, move, keep, drop, split, split3, join, fsplit, fsplit3, fjoin, fjoin3, fpick, learn, use0, use1, use2, use3, await, suffices, rewrite, feq_i}
+use base.Fml.{Lft, Share, Fml, ftrue, fsep, fex, flft, fhide, froom, fat, fbor}
+use types.Kit.{‵, raw, ◌⊛◌, given, later, mean, at_ret, ◌$◌, ◌∵◌, !, qed, by, move, keep, drop, split, split3, join, fsplit, fsplit3, fjoin, fjoin3, fpick, learn, use0, use1, use2, use3, await, suffices, rewrite, feq_i, some as items, pick, group}
 use types.Run.{stop, fld, load, look_raw, lit, size_word, of_opd, bin, no_more, and_then, first, blocks, exec, calls, returns, enter, init, assigns}
 use types.ByLocal.{alloc_all, pass_all, free_all, look_at, get, through, sets, sets_last, is, env, lands_as}
 use types.Part.{agg, sub, whole, look_in}
@@ -49,10 +49,10 @@ use Rattle.core.specs.Sync.RawAtomic.{word}
 use Rattle.seize_words.specs.Op.{Out, Take, Taken}
 use Rattle.seize_seats.specs.State.{Allows}
 use Rattle.seize_seats.specs.Lines.{long}
-use Rattle.seize_seats.specs.Owned.{BaseId, IsPlaced, age, common, inner, busy, zeros, place, row, stride, words_share, seat_owns}
+use Rattle.seize_seats.specs.Owned.{BaseId, IsPlaced, age, common, inner, place, row, stride, words_share, busy}
 use Rattle.seize_seats.proofs.Shown.{placed}
-use Rattle.seize_seats.proofs.Moves.{reach, seat as seat_of, gone_on}
-use Rattle.seize_seats.proofs.Makings.{hands, contents, leaves as goes_out, Taking, frees}
+use Rattle.seize_seats.proofs.Moves.{reach, seat as seat_of}
+use Rattle.seize_seats.proofs.Makings.{leaves as goes_out, Taking, frees, hands}
 use Rattle.seize_blocks.specs.contracts.words.Words as words
 use Rattle.seize_blocks.specs.contracts.seat.Seat as seat
 use Rattle.seize_blocks.proofs.Fields.{hand_of, Data, told, opened}
@@ -61,6 +61,9 @@ use Rattle.seize_blocks.specs.contracts.words.Words.take.{ended, clauses}
 use Rattle.seize_blocks.specs.contracts.words.Words.take.Key.{name as #self}
 use Rattle.seize_blocks.proofs.words.Words.take.Statement.{statement}
 use Rattle.seize_blocks.proofs.words.Words.take.Code as code
+use Rattle.seize_seats.specs.Stretches.{seat_owns, IsEven, invariant}
+use Rattle.seize_seats.proofs.Stretches.{ends, begins, twice}
+use Rattle.seize_seats.proofs.Regains.{regains}
 
 pub take_spec : {M : Type 1} → statement M
 take_spec 𝓤 𝓛 𝓜 𝓡 wired X P U F LX LP LU LF g d _ =
@@ -79,11 +82,13 @@ take_spec 𝓤 𝓛 𝓜 𝓡 wired X P U F LX LP LU LF g d _ =
     (λ κs. (shr_Tells (named 0) κs.0 Row, (mut_Tells (named 1) κs.1.0 Sr, (uint_Tells w64, (uint_Tells w64, (rawptr_Tells, (uint_Tells w64, (uint_Tells w64, (uint_Tells w64, (uint_Tells w64, (uint_Tells w64, tt))))))))))) (λ κs qs bounds a gh are.
     let b : ℕ = a.0.ref_ptr.0 in let o : ℕ = a.0.ref_ptr.1 in let b' : ℕ = a.1.0.ref_ptr.0 in let o' : ℕ = a.1.0.ref_ptr.1 in let κ : Lft = κs.0 in
     let t : Row.Denot = a.0.now in let p : Ptr = t.words in let z : BaseId = t.id in let h : Sr.Denot = a.1.0.now in let nr : ℕ = a.1.1.0 in
-    let j : ℕ = a.1.1.1.0 in let pv : Ptr = a.1.1.1.1.0 in let i₀ : ℕ = a.1.1.1.1.1.0 in let i₁ : ℕ = a.1.1.1.1.1.1.0 in let i₂ : ℕ = a.1.1.1.1.1.1.1.0 in let i₃ : ℕ = a.1.1.1.1.1.1.1.1.0 in
+    let j : ℕ = a.1.1.1.0 in let pv : Ptr = a.1.1.1.1.0 in let i₀ : ℕ = a.1.1.1.1.1.0 in let i₁ : ℕ = a.1.1.1.1.1.1.0 in let i₂ : ℕ = a.1.1.1.1.1.1.1.0 in
+    let i₃ : ℕ = a.1.1.1.1.1.1.1.1.0 in
     let i₄ : ℕ = a.1.1.1.1.1.1.1.1.1.0 in
     let id : ℕ = h.id in let v : U.Denot = h.view in let cv = R₂.coded in let α : Lft = age z in let holds = g.holds t.fixed in
     let pb : ℕ = block_of p in let po : ℕ = count_of p in
-    let bv : ℕ = block_of pv in let ov : ℕ = count_of pv in let sz : ℕ = stride R₀ in let e : ℕ = j * sz + ov in let f : ℕ = (nr - 1) * 40 + (long z.roots * 8 + po) in
+    let bv : ℕ = block_of pv in let ov : ℕ = count_of pv in let sz : ℕ = stride R₀ in let e : ℕ = j * sz + ov in
+    let f : ℕ = (nr - 1) * 40 + (long z.roots * 8 + po) in
     let others : Fml = fsep (flft κs.1.1.0 qs.1.1.0) (fsep (flft κs.1.1.1.0 qs.1.1.1.0) (fsep (flft κs.1.1.1.1.0 qs.1.1.1.1.0)
     (fsep (flft κs.1.1.1.1.1.0 qs.1.1.1.1.1.0) ftrue))) in
     let Asked : Type 0 = (h.base ≡ z.views_name) × (0 < nr → nr ≤ z.count → j ≡ nr - 1) × (pv ≡ z.values) × (i₀ ≡ j * 5 + long z.roots) ×
@@ -96,7 +101,8 @@ take_spec 𝓤 𝓛 𝓜 𝓡 wired X P U F LX LP LU LF g d _ =
     -- [the seat's address; the seat, by two; the address of self; self; the rest; the tokens; the others]
     keep ! (4 ∷ 6 ∷ 1 ∷ 2 ∷ 7 ∷ 8 ∷ []) $
     let so : Out X.Denot → U.Denot → Type 0 = g.then v (Take nr) in let allowed = asked.9 in
-    let p' : Ptr = block_ptr bv ov in let us : Ptr → List Val = λ r. vptr b o ∷ vptr b' o' ∷ vint w64 nr ∷ vint w64 j ∷ ptr_val r ∷ vint w64 i₀ ∷ vint w64 i₁ ∷ vint w64 i₂ ∷ vint w64 i₃ ∷ vint w64 i₄ ∷ [] in
+    let p' : Ptr = block_ptr bv ov in let us : Ptr
+    → List Val = λ r. vptr b o ∷ vptr b' o' ∷ vint w64 nr ∷ vint w64 j ∷ ptr_val r ∷ vint w64 i₀ ∷ vint w64 i₁ ∷ vint w64 i₂ ∷ vint w64 i₃ ∷ vint w64 i₄ ∷ [] in
     let Run : List Val → SProp 𝓤 = λ ws. WpFn 𝓤 H 𝓣.C 𝓣.Λ fn ws Post in
     use1 𝓛 (‵ (hidden_shr D κ (p, (tt, tt)) b o) ⊛ ‵ (fhide (words_share R₀ cv.code holds p z κ)))
     (lent_out 𝓛 (words.struct R₀ R₁ R₂ R₃ g)
@@ -106,7 +112,8 @@ take_spec 𝓤 𝓛 𝓜 𝓡 wired X P U F LX LP LU LF g d _ =
     use1 𝓛 (given (IsPlaced R₀ p z) (‵ (common R₀ cv.code holds p z))) (placed R₀ cv holds p z 𝓛) $ learn ! (λ there. fsplit ! $ drop ! $
     let at_v : pv ≡ p' = at_block pv (subst InBlock (sym asked.2) there.2) in let at_p : p ≡ block_ptr pb po = at_block p there.0 in
     suffices ! (Run (us p')) (subst (λ (r : Ptr). ent 𝓤 (Run (us p')) (Run (us r))) (sym at_v) (id⊢ 𝓤 (Run (us p')))) $
-    enter ! 𝓣.C 𝓣.Λ fn (us p') Post $ alloc_all ! (λ l. pass_all ! refl ((tt, tt), ((tt, tt), ((tt, record { fits = are.1.1.0.1 }), ((tt, record { fits = are.1.1.1.0.1 }), (Ptr-Good p', ((tt, record { fits = are.1.1.1.1.1.0.1 }), ((tt, record { fits = are.1.1.1.1.1.1.0.1 }), ((tt, record { fits = are.1.1.1.1.1.1.1.0.1 }), ((tt, record { fits = are.1.1.1.1.1.1.1.1.0.1 }), ((tt, record { fits = are.1.1.1.1.1.1.1.1.1.0.1 }), tt)))))))))) $
+    enter ! 𝓣.C 𝓣.Λ fn (us p') Post $
+    alloc_all ! (λ l. pass_all ! refl ((tt, tt), ((tt, tt), ((tt, record { fits = are.1.1.0.1 }), ((tt, record { fits = are.1.1.1.0.1 }), (Ptr-Good p', ((tt, record { fits = are.1.1.1.1.1.0.1 }), ((tt, record { fits = are.1.1.1.1.1.1.0.1 }), ((tt, record { fits = are.1.1.1.1.1.1.1.0.1 }), ((tt, record { fits = are.1.1.1.1.1.1.1.1.0.1 }), ((tt, record { fits = are.1.1.1.1.1.1.1.1.1.0.1 }), tt)))))))))) $
     let Ev = env fn.locals l in let I : Fml = inner R₀ cv.code holds p z in
     let low = asked.8 in let at₀ = asked.3 in let a₁ = asked.4 in let a₂ = asked.5 in let a₃ = asked.6 in let a₄ = asked.7 in
     -- [the invariant; its lifetime lasts; the fields; the token; the seat, by two; its token; the others]
@@ -118,17 +125,26 @@ take_spec 𝓤 𝓛 𝓜 𝓡 wired X P U F LX LP LU LF g d _ =
     rewrite ! 1 (λ (ws : List Val). ‵ (cell_at q D.mir ws b o)) (sym ev) refl $ move ! (1 ∷ 0 ∷ 2 ∷ []) $ shuts ! tt D q (p, (tt, tt)) vs b o $
     move ! (3 ∷ 0 ∷ []) $ shr_bor-open ! tt (tokens_halve 𝓛 α) (λ s. let q₁ : Share = Share.left s in let q₂ : Share = Share.right s in
     move ! (2 ∷ []) $ drop ! $ move ! (1 ∷ []) $ use1 𝓛 (‵ (flft α q₁) ⊛ ‵ (flft α q₂)) (𝓛.lfts.lft_split α s) $ split ! $ move ! (3 ∷ []) $
-    use1 𝓛 (‵ (finv (fbor α I)) ⊛ ‵ (finv (fbor α I))) (𝓛.invs.inv_dup (fbor α I)) $ split ! $
+    use1 𝓛 (‵ (invariant IsEven (fbor α I)) ⊛ ‵ (invariant IsEven (fbor α I))) (twice 𝓛 IsEven (fbor α I)) $ split ! $
     -- [the invariant, twice; its token, by two; open; the seat, by two; its token; the others]
     move ! (5 ∷ 6 ∷ 7 ∷ []) $ opens ! tt Sr b' o' (λ ts. move ! (1 ∷ []) $ fsplit ! $
-    rewrite ! 1 (λ (u : ℕ). ‵ (seat_owns cv.code u id v)) asked.0 refl $ move ! (1 ∷ 9 ∷ []) $ join ! $ move ! (6 ∷ 8 ∷ 0 ∷ []) $
+    rewrite ! 1 (λ (u : ℕ). ‵ (seat_owns cv.code u id v h.stretch h.mark)) asked.0 refl $ move ! (1 ∷ []) $
+    use1 𝓛 (later (‵ (seat_of 𝓛 R₀ cv holds g.keeps p z id v))) (ends 𝓛 cv z.views_name id v h.stretch h.mark) $ await ! tt $ move ! (1 ∷ 0 ∷ []) $ move ! (1 ∷ 9 ∷ []) $ join ! $ move ! (6 ∷ 8 ∷ 0 ∷ []) $
     use3 𝓛 (later (‵ (fex (X.Denot × List ℕ) (Taking 𝓛 R₀ cv holds g.keeps p z id v nr q₂ so allowed)) ⊛ ‵ (flft α q₁)))
     (reach 𝓛 R₀ cv holds g.keeps p z q₁ (sep 𝓤 (sem 𝓛 (seat_of 𝓛 R₀ cv holds g.keeps p z id v)) (sem 𝓛 (flft α q₂)))
-    (sem 𝓛 (fex (X.Denot × List ℕ) (Taking 𝓛 R₀ cv holds g.keeps p z id v nr q₂ so allowed))) (goes_out 𝓛 R₀ cv holds g.keeps p z id v nr q₂ so allowed)) $ await ! tt $ split ! $
+    (sem 𝓛 (fex (X.Denot × List ℕ) (Taking 𝓛 R₀ cv holds g.keeps p z id v nr q₂ so allowed))) (goes_out 𝓛 R₀ cv holds g.keeps p z id v nr q₂ so allowed)) $
+    await ! tt $ split ! $
     fpick ! (λ u. fsplit ! $ fpick ! (λ facts. drop ! $ fsplit3 ! $ move ! (2 ∷ []) $ fsplit ! $ move ! (1 ∷ []) $
     let few = facts.1 in let j_is : j ≡ nr - 1 = asked.1 facts.0 (omega (arith, few)) in let room : z.count * sz < 2 ^ 63 = there.3 in
     let small : j * sz < 2 ^ 64 = indexed j z.count sz (omega (arith, few, j_is)) room in let nv : Val = live 0 (of_list []) in
     let four = four_of u.1 facts.2 in let w₀ : ℕ = four.0 in let w₁ : ℕ = four.1 in let w₂ : ℕ = four.2 in let w₃ : ℕ = four.3 in
+    -- [the value; the entry; the seat; the hand; its token; the fields; four; the invariant; open; the others]
+    let Here : Fml = place R₀ α z.hands_name (block_of z.values) ((nr - 1) * sz + count_of z.values) (Some u.0) in
+    let Hd : Fml = hands 𝓛 R₀ cv holds g.keeps p z three_quarters (nr - 1) (busy q₂) in
+    move ! (10 ∷ 4 ∷ 3 ∷ []) $ group ! 3 $ move ! (0 ∷ 1 ∷ []) $
+    use2 𝓛 (later ((‵ (invariant IsEven (fbor α I)) ⊛ ‵ (flft α q₁) ⊛ ‵ Hd) ⊛ ‵ Here))
+    (regains 𝓛 R₀ cv holds g.keeps p z (nr - 1) q₂ few q₁ u.0 (block_of z.values) ((nr - 1) * sz + count_of z.values)) $ await ! tt $ split ! $ split3 ! $
+    move ! (3 ∷ 4 ∷ 5 ∷ 2 ∷ 1 ∷ 6 ∷ 7 ∷ 8 ∷ 9 ∷ 10 ∷ 0 ∷ []) $
     rewrite ! 0 (λ (r : Ptr × ℕ). ‵ (place R₀ α z.hands_name (block_of r.0) (r.1 * sz + count_of r.0) (Some u.0))) (λ i. (sym asked.2 i, sym j_is i)) refl $
     spread m ! LR (Some u.0) bv e (λ w good.
     -- [the place; what it holds; the entry; the seat; the hand; its token; the fields; four; the invariant; open; what is written; the others]
@@ -197,13 +213,16 @@ take_spec 𝓤 𝓛 𝓜 𝓡 wired X P U F LX LP LU LF g d _ =
     -- [the token, in two; the value; the seat; the fields; four; open; the others]
     fsplit ! $ use2 𝓛 (‵ (flft α s)) (𝓛.lfts.lft_join α s) $ move ! (8 ∷ 0 ∷ []) $ obor_close ! tt $ drop ! $
     move ! (2 ∷ []) $ fpick ! (λ v'. fsplit ! $ fpick ! (λ such. drop ! $
-    let h' : Sr.Denot = record { marker = h.marker; base = z.views_name; id = id; view = v' } in
+    use1 𝓛 (later (items (λ (st : ℕ × ℕ). ‵ (seat_owns cv.code z.views_name id v' st.0 st.1)))) (begins 𝓛 cv z.views_name id v') $ await ! tt $
+    pick ! (λ st.
+    let h' : Sr.Denot = record { marker = h.marker; base = z.views_name; id = id; view = v'; stretch = st.0; mark = st.1 } in
     let Told : Type 0 = (z.views_name ≡ h.base) × (id ≡ id) × ((x : X.Denot) × (Some u.0 ≡ Some x) × so (Taken x) v') in
     -- [the seat; the token; the value; the fields; four; its token; the others]
     move ! (3 ∷ 0 ∷ []) $ fjoin ! $ move ! (3 ∷ 0 ∷ 4 ∷ 5 ∷ 6 ∷ []) $ closes ! tt Sr h' ts b' o' $
     feq_i ! (List Val) (vptr b' o' ∷ []) (vptr b' o' ∷ []) refl $ fjoin3 ! $
-    nothing ! $ nothing ! $ fjoin ! $ nothing ! $ fjoin ! $ nothing ! $ fjoin ! $ nothing ! $ fjoin ! $ nothing ! $ fjoin ! $ nothing ! $ fjoin ! $ nothing ! $ fjoin ! $ nothing ! $ fjoin ! $ move ! (1 ∷ 0 ∷ []) $ fjoin ! $ nothing ! $ fjoin ! $
+    nothing ! $ nothing ! $ fjoin ! $ nothing ! $ fjoin ! $ nothing ! $ fjoin ! $ nothing ! $ fjoin ! $ nothing ! $ fjoin ! $ nothing ! $ fjoin ! $
+    nothing ! $ fjoin ! $ nothing ! $ fjoin ! $ move ! (1 ∷ 0 ∷ []) $ fjoin ! $ nothing ! $ fjoin ! $
     move ! (1 ∷ 4 ∷ []) $ join ! $ move ! (2 ∷ 0 ∷ []) $ join ! $
     use0 𝓛 (raw (fact 𝓤 Told)) (fact_i 𝓤 Told (emp 𝓤) (sym asked.0, refl, (u.0, refl, such))) $
     returns ! (look_at ! 0 refl) $ free_all ! refl $ keep ! (1 ∷ 2 ∷ 3 ∷ 0 ∷ []) $
-    by ! (leaves 𝓛 En hs c y w (Some u.0) (tt, (h', (tt, (tt, (tt, (tt, (tt, (tt, (tt, (tt, tt)))))))))) (tt, (tt, (tt, (tt, (tt, (tt, (tt, (tt, (tt, (tt, tt)))))))))))))))))))))))))))
+    by ! (leaves 𝓛 En hs c y w (Some u.0) (tt, (h', (tt, (tt, (tt, (tt, (tt, (tt, (tt, (tt, tt)))))))))) (tt, (tt, (tt, (tt, (tt, (tt, (tt, (tt, (tt, (tt, tt))))))))))))))))))))))))))))

@@ -1,0 +1,115 @@
+-- What straight code has made of a call on a key are steps of a run by the one owner.
+use Rattle.std.specs.Prelude.{◌≡◌, ℕ, Bool, true, Ok, Result}
+use Rattle.std.proofs.Common.{refl, sym, subst}
+use denote.Ref.{Bor}
+use Rattle.seize_words.specs.Mem.{Mem, Can, Took, value_at}
+use Rattle.seize_words.specs.Plan.{Plan, Steps}
+use Rattle.seize_words.specs.declared.fault.Fault.{Fault}
+use Rattle.seize_words.proofs.Plans.{may_as}
+use Rattle.seize.proofs.StepsInto.{steps_into}
+use Rattle.seize.specs.declared.progress.Progress.{Progress}
+use Rattle.seize.specs.declared.progress.Progress.TheVariants as progress
+use Rattle.papaya_tables.specs.declared.node.Node.{Node}
+use Rattle.papaya_tables.specs.declared.table.Table.{Table}
+use Rattle.papaya_resize.specs.Copier.{copier_plan}
+use Rattle.papaya_resize.specs.declared.copier.Copier.{Copier}
+use Rattle.papaya_resize.specs.declared.outcome.Outcome.{Outcome}
+use Rattle.papaya_resize.specs.declared.outcome.Outcome.TheVariants as outcome
+use Rattle.papaya_raw.specs.Call.{call_plan}
+use Rattle.papaya_raw.specs.declared.machines.answer.Called.{Called}
+use Rattle.papaya_raw.specs.declared.machines.answer.Called.TheVariants as called
+use Rattle.papaya_raw.specs.declared.machines.answer.KeyAnswer.{KeyAnswer}
+use Rattle.papaya_raw.specs.declared.machines.call.KeyCall.{KeyCall}
+use Rattle.papaya_straight.specs.Going.{CallGoes, CopyGoes}
+use Rattle.papaya_straight.specs.Runs as Straight
+use Rattle.papaya_straight.specs.Runs.{MayRun}
+use Rattle.papaya_straight.proofs.Running.{by_law}
+use Rattle.papaya_owned.specs.Ending.{Ends, Leads, RunsTo, none_taken, one_more, stops}
+use Rattle.papaya_owned.specs.Inside.{helping, takes_more}
+use Rattle.papaya_owned.specs.Machines.{on_call, on_key_after, on_key_plan}
+use Rattle.papaya_owned.specs.declared.machines.OnKey.{OnKey}
+use Rattle.papaya_owned.specs.declared.machines.Stop.{Stop}
+use Rattle.papaya_owned.specs.declared.machines.Stop.TheVariants as stop
+use Rattle.papaya_owned.proofs.Inner.{copier_may, helps_on}
+use Rattle.papaya_owned.proofs.Runs.Leading.{ends_along, runs_along}
+use Rattle.papaya_owned.proofs.Runs.Steps.{ends_on, may_step}
+
+module _ {K V Q S : Type 0} (asks : Q → K → Bool) (same : K → K → Bool) (hashes : S → K → ℕ) (hasher : Bor S) where
+  abbrev plan_of : OnKey K V Q S → Plan (Node K V) (OnKey K V Q S × Progress Stop)
+  plan_of = on_key_plan asks same hashes
+
+  abbrev call_steps : KeyCall K V Q → Plan (Node K V) (KeyCall K V Q × Called (Node K V))
+  call_steps = call_plan asks same (hashes hasher.now)
+
+  abbrev on : KeyCall K V Q → OnKey K V Q S
+  on = on_call hasher
+
+  goes_on : (c d : KeyCall K V Q) (m n : Mem (Node K V)) (told : Called (Node K V)) → CallGoes told → Steps Took value_at m (call_steps c) n (d, told)
+      → Steps Took value_at m (plan_of (on c)) n (on d, progress.Goes)
+  goes_on c d m n called.Goes so s = steps_into (on_key_after (on c)) Can Took value_at m n (call_steps c) (d, called.Goes) (on d, progress.Goes) refl s
+  goes_on c d m n called.Waits so s = steps_into (on_key_after (on c)) Can Took value_at m n (call_steps c) (d, called.Waits) (on d, progress.Goes) refl s
+  goes_on c d m n (called.Gave value) so s = absurd so
+  goes_on c d m n (called.Unstored value) so s = absurd so
+  goes_on c d m n (called.Asks asked) so s = absurd so
+  goes_on c d m n (called.Done answer) so s = absurd so
+  goes_on c d m n (called.Refused fault) so s = absurd so
+
+  -- where each run of it comes to an end it may be run
+  pub may_run : (c : KeyCall K V Q) (m : Mem (Node K V)) → Ends plan_of (on c) m → MayRun (CallGoes {T = Node K V}) Took value_at call_steps Can c m
+  may_run =
+      by_law CallGoes Took value_at call_steps Can (λ c m. Ends plan_of (on c) m)
+      (λ c m ends. may_as (on_key_after (on c)) Can Took value_at m (call_steps c) (may_step plan_of (on c) m ends))
+      (λ c m ends n d told so s. ends_on plan_of (on c) m ends n (on d) progress.Goes tt (goes_on c d m n told so s))
+
+  leads_to : (c d : KeyCall K V Q) (m n : Mem (Node K V)) → Straight.Leads (CallGoes {T = Node K V}) Took value_at call_steps c m d n → Leads plan_of (on c) m (on d) n
+  leads_to c d m n (Straight.none_taken _ _) = none_taken (on c) m
+  leads_to c d m n (Straight.one_more _ _ x k l told so _ _ s) = one_more (on c) m (on x) k (leads_to c x m k l) progress.Goes tt (on d) n (goes_on x d k n told so s)
+
+  -- where it has told an answer, a run has ended with that
+  pub runs_out : (c : KeyCall K V Q) (m n : Mem (Node K V)) (answer : KeyAnswer) → Straight.Tells (CallGoes {T = Node K V}) Took value_at call_steps c m n (called.Done answer)
+      → (d : KeyCall K V Q) × RunsTo plan_of (on c) m (on d) n (Ok (stop.Answered answer))
+  runs_out c m n answer (x, k, d, l, s, _) = (
+    d,
+    runs_along plan_of (on c) (on x) m k (leads_to c x m k l) (on d) n (Ok (stop.Answered answer))
+        (stops (on x) k (on d) n (progress.Done (stop.Answered answer)) (Ok (stop.Answered answer))
+        (steps_into (on_key_after (on x)) Can Took value_at k n (call_steps x) (d, called.Done answer) (on d, progress.Done (stop.Answered answer)) refl s) refl),
+  )
+
+  -- where it stands at a point, a run goes on from there
+  module _ (c d : KeyCall K V Q) (m n : Mem (Node K V)) (l : Straight.Leads (CallGoes {T = Node K V}) Took value_at call_steps c m d n) where
+    pub ends_there : Ends plan_of (on c) m → Ends plan_of (on d) n
+    ends_there ends = ends_along plan_of (on c) (on d) m n (leads_to c d m n l) ends
+
+    pub runs_there : (x : OnKey K V Q S) (k : Mem (Node K V)) (result : Result Stop Fault) → RunsTo plan_of (on d) n x k result → RunsTo plan_of (on c) m x k result
+    runs_there x k result r = runs_along plan_of (on c) (on d) m n (leads_to c d m n l) x k result r
+
+  -- the help with a resize, within a call
+  module _ (u : OnKey K V Q S) (goal : Table) where
+    abbrev copier_steps : Copier → Plan (Node K V) (Copier × Outcome (Node K V) Table)
+    copier_steps = copier_plan (hashes u.hasher.now)
+
+    more_of : (told : Outcome (Node K V) Table) → CopyGoes told → takes_more told ≡ true
+    more_of outcome.Goes so = refl
+    more_of outcome.Waits so = refl
+    more_of (outcome.Gave value) so = absurd so
+    more_of (outcome.Done table) so = absurd so
+    more_of (outcome.Refused fault) so = absurd so
+
+    pub copies_run : (c : Copier) (m : Mem (Node K V)) → Ends plan_of (helping u goal c) m → MayRun (CopyGoes {T = Node K V} {A = Table}) Took value_at copier_steps Can c m
+    copies_run =
+        by_law CopyGoes Took value_at copier_steps Can (λ c m. Ends plan_of (helping u goal c) m) (λ c m ends. copier_may asks same hashes m u goal c ends)
+        (λ c m ends n d told so s. ends_on plan_of (helping u goal c) m ends n (helping u goal d) progress.Goes tt (helps_on asks same hashes m u goal c n d told (more_of told so) s))
+
+    pub copies_lead : (c d : Copier) (m n : Mem (Node K V)) → Straight.Leads (CopyGoes {T = Node K V} {A = Table}) Took value_at copier_steps c m d n
+        → Leads plan_of (helping u goal c) m (helping u goal d) n
+    copies_lead c d m n (Straight.none_taken _ _) = none_taken (helping u goal c) m
+    copies_lead c d m n (Straight.one_more _ _ x k l told so _ _ s) =
+        one_more (helping u goal c) m (helping u goal x) k (copies_lead c x m k l) progress.Goes tt (helping u goal d) n (helps_on asks same hashes k u goal x n d told (more_of told so) s)
+
+-- so it is by another reference to the same hasher
+pub places_on : {K V Q S : Type 0} (asks : Q → K → Bool) (same : K → K → Bool) (hashes : S → K → ℕ) (u : OnKey K V Q S) (goal : Table) (hasher : S) → u.hasher.now ≡ hasher
+    → (c d : Copier) (m n : Mem (Node K V)) → Straight.Leads (CopyGoes {T = Node K V} {A = Table}) Took value_at (copier_plan (hashes hasher)) c m d n
+    → Leads (on_key_plan asks same hashes) (helping u goal c) m (helping u goal d) n
+places_on {K} {V} asks same hashes u goal hasher is c d m n l =
+    copies_lead asks same hashes u.hasher u goal c d m n
+    (subst (λ h. Straight.Leads (CopyGoes {T = Node K V} {A = Table}) Took value_at (copier_plan (hashes h)) c m d n) (sym is) l)

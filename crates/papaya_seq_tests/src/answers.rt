@@ -1,0 +1,99 @@
+//! Callers of changes whose answers lend: what each has of the answer, and what the map is then, follows with no proof of its own.
+ghost use Rattle.std.specs.Prelude.{◌≡◌, ◌++◌, ◌∷◌, [], nat_eq, option_map, IfErr, IfOk, IfSome, MatchOption, OnErr, OnOk};
+ghost use Rattle.std.specs.List.Sorted.{IsPermutation};
+ghost use Rattle.papaya_seq.specs.Pairs.{found_by, left_by};
+
+use papaya_seq::{Compute, Fault, HashMap, Operation, Refused, RefusedKey};
+use std::alloc::Global;
+
+type Map = HashMap<u64, u64>;
+
+/// Stores a pair, and answers the value that it replaced.
+fn stores(map: &mut Map, key: u64, value: u64) -> Result<Option<u64>, Refused<u64, u64>>
+    ensures was { IfOk result (λ was. was ≡ option_map (λ x. x.1) (found_by (nat_eq key) map.old.pairs)) }
+    ensures stored { OnOk result (IsPermutation map.new.pairs (left_by (nat_eq key) map.old.pairs ++ ((key, value) ∷ []))) }
+    ensures refused { OnErr result (IsPermutation map.new.pairs map.old.pairs) }
+    ensures back { IfErr result (λ r. (r.key ≡ key) × (r.value ≡ value)) }
+{
+    let stored = map.insert(key, value)?;
+    Ok(stored.value().copied())
+}
+
+/// Stores a pair, if its key is not there, and else answers the value that was not stored.
+fn tries(map: &mut Map, key: u64, value: u64) -> Result<Option<u64>, Refused<u64, u64>>
+    ensures back { IfOk result (λ back. IfSome back (λ it. (it ≡ value) × IsPermutation map.new.pairs map.old.pairs)) }
+    ensures refused { OnErr result (IsPermutation map.new.pairs map.old.pairs) }
+{
+    match map.try_insert(key, value)? {
+        Ok(_) => Ok(None),
+        Err(mut there) => Ok(there.take_back()),
+    }
+}
+
+/// The value of a key, at which this one is stored if it has none.
+fn gets(map: &mut Map, key: u64, value: u64) -> Result<u64, Refused<u64, u64>>
+    ensures got { IfOk result (λ got. MatchOption (found_by (nat_eq key) map.old.pairs) (got ≡ value) (λ x. got ≡ x.1)) }
+    ensures refused { OnErr result (IsPermutation map.new.pairs map.old.pairs) }
+{
+    let got = map.get_or_insert(key, value)?;
+    Ok(*got.value())
+}
+
+/// Adds one to the value of a key, and answers the new one, if the key is there.
+fn adds(map: &mut Map, key: u64) -> Result<Option<u64>, RefusedKey<u64>>
+    ensures refused { OnErr result (IsPermutation map.new.pairs map.old.pairs) }
+    ensures back { IfErr result (λ r. r.key ≡ key) }
+{
+    let updated = map.update(key, |value| value.wrapping_add(1))?;
+    Ok(updated.value().copied())
+}
+
+/// Counts the value of a key up to 2, then removes it; gives up at more. It answers the value that is shown, or 100 and what it gave up with.
+fn counts(map: &mut Map, key: u64) -> Result<u64, RefusedKey<u64>>
+    ensures refused { OnErr result (IsPermutation map.new.pairs map.old.pairs) }
+{
+    match map.compute(key, |there| -> Operation<u64, u64> {
+        match there {
+            None => Operation::Insert(0),
+            Some((_, 2)) => Operation::Remove,
+            Some((_, value)) if *value < 2 => Operation::Insert(*value + 1),
+            Some((_, value)) => Operation::Abort(*value),
+        }
+    })? {
+        Compute::Inserted(stored) => Ok(*stored.value()),
+        Compute::Updated(updated) => Ok(updated.value().copied().unwrap_or(50)),
+        Compute::Removed(removed) => Ok(*removed.value()),
+        Compute::Aborted(mut aborted) => Ok(100u64.wrapping_add(aborted.take().unwrap_or(0))),
+    }
+}
+
+/// Removes the pair of a key if its value is 1, and answers its value, be it gone or there.
+fn removes(map: &mut Map, key: u64) -> Result<Option<u64>, Fault>
+    ensures refused { OnErr result (IsPermutation map.new.pairs map.old.pairs) }
+{
+    match map.remove_if(&key, |_, value| *value == 1)? {
+        Ok(was) => Ok(was.map(|(_, value)| *value)),
+        Err((_, value)) => Ok(Some(*value)),
+    }
+}
+
+/// Whether each answer is what it should be, from a map with no pair on.
+fn answer_so(map: &mut Map) -> Result<bool, Fault> {
+    let mut so = stores(map, 7, 1)? == None && stores(map, 7, 2)? == Some(1);
+    so = so && tries(map, 7, 9)? == Some(9) && tries(map, 8, 9)? == None;
+    so = so && gets(map, 8, 5)? == 9 && gets(map, 9, 5)? == 5;
+    so = so && adds(map, 9)? == Some(6) && adds(map, 10)? == None;
+    so = so && counts(map, 9)? == 106 && counts(map, 7)? == 2 && counts(map, 7)? == 0;
+    so = so && counts(map, 7)? == 1 && removes(map, 8)? == Some(9) && removes(map, 7)? == Some(1);
+    Ok(so && removes(map, 7)? == None && map.len() == 2)
+}
+
+fn map_answers_so(alloc: Global) -> Result<bool, Fault> {
+    let mut map = Map::new(alloc)?;
+    answer_so(&mut map)
+}
+
+#[test]
+fn answers_lend_what_was_met(rt: HostRuntime) {
+    assert!(rt; map_answers_so(rt.alloc()) == Ok(true));
+}

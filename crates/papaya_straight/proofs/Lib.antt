@@ -1,0 +1,9 @@
+-- Lemmas on straight code.
+pub mod Copies
+pub mod Disposals
+pub mod Inside
+pub mod Leavings
+pub mod Removals
+pub mod Retirements
+pub mod Running
+pub mod Stores

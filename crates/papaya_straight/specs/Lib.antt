@@ -1,0 +1,9 @@
+pub mod Copying
+pub mod Disposing
+pub mod Going
+pub mod Leaving
+pub mod Reaches
+pub mod Removing
+pub mod Retiring
+pub mod Runs
+pub mod Storing

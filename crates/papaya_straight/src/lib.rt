@@ -1,0 +1,17 @@
+//! Operations of the map's machines as straight code: each function makes the very operations of one machine in their order, over any memory, and says
+//! at which point of that machine it has stopped, or what that has told.
+#![tactic(auto)]
+
+mod copying;
+mod disposing;
+mod leaving;
+mod removing;
+mod retiring;
+mod storing;
+
+pub use copying::{Placed, copy_places};
+pub use disposing::{Disposed, dispose, dispose_of};
+pub use leaving::{Left, leave, leave_of};
+pub use removing::{Removal, Removed, Sought, removal_of, remove};
+pub use retiring::{Retired, retire, settle_of};
+pub use storing::{Spot, Stored, Tried, call_of, store};

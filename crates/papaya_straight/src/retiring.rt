@@ -1,0 +1,151 @@
+//! The retirement of one block, up to a batch that is full.
+ghost use Rattle.std.specs.Prelude.{◌≡◌, ◌≢◌};
+ghost use Rattle.seize.specs.Settle.{retiring, settle_plan};
+ghost use Rattle.seize.specs.declared.rows.settle.Settling.TheVariants as at;
+ghost use Rattle.papaya_straight.specs.Going.{SettleGoes};
+ghost use Rattle.papaya_straight.specs.Reaches.{Reaches};
+ghost use Rattle.papaya_straight.specs.Retiring.{holding, retired, settle_at};
+ghost use Rattle.papaya_straight.specs.Runs.{MayRun};
+
+use seize::rows::{Defers, Settle, Settling};
+use seize::states::{BATCH, COUNT, FIRST, HELD, NEXT};
+use seize_words::{At, Link, Memory};
+
+/// Where the retirement of a block has come to. A block is named by its link, 0 where there is none.
+#[derive(Clone, Copy)]
+pub enum Retired {
+    /// The block is retired.
+    Ended,
+    /// Another row holds the slot's batch, or was faster: all is still to be done.
+    Sees,
+    /// The batch is held, and `pending` is to be put into it: it has no block yet, or one was put there, and further ones follow it.
+    Pops {
+        /// The first of the blocks that are to be retired.
+        pending: u64,
+        /// The last block of the batch.
+        last: u64,
+        /// Its first one.
+        first: u64,
+    },
+    /// The block is in the batch, which is held and long enough to be tried.
+    Scans {
+        /// The first of the blocks that are to be retired.
+        pending: u64,
+        /// The last block of the batch.
+        last: u64,
+        /// Its first one.
+        first: u64,
+    },
+}
+
+/// Retires a block to the slot's batch: all operations up to a try of the batch.
+#[inline(always)]
+pub fn retire<T: Defers, M: Memory<T>>(
+    memory: &mut M,
+    slot: u64,
+    batch_size: u64,
+    block: u64,
+) -> Retired
+    requires { MayRun SettleGoes M.took M.shown (settle_plan T.defers) M.can (retiring slot batch_size block) memory.old }
+    ensures { Reaches SettleGoes M.took M.shown (settle_plan T.defers) (retiring slot batch_size block) memory.old memory.new (retired slot batch_size block result) }
+{
+    if block == 0 {
+        return Retired::Sees;
+    }
+    let word = memory.load(At::Slot(slot, BATCH));
+    if word == HELD {
+        return Retired::Sees;
+    }
+    match memory.exchange(At::Slot(slot, BATCH), word, HELD) {
+        Ok(_) => {}
+        Err(_) => return Retired::Sees,
+    }
+    if word == 0 {
+        return Retired::Pops {
+            pending: block,
+            last: 0,
+            first: 0,
+        };
+    }
+    append(memory, slot, batch_size, block, word)
+}
+
+/// Puts a block behind the last one of the batch, which is held, and gives the batch up.
+#[inline(always)]
+fn append<T: Defers, M: Memory<T>>(
+    memory: &mut M,
+    slot: u64,
+    batch_size: u64,
+    block: u64,
+    last: u64,
+) -> Retired
+    requires block { block ≢ 0 }
+    requires last { last ≢ 0 }
+    requires may { MayRun SettleGoes M.took M.shown (settle_plan T.defers) M.can (holding slot batch_size block last 0 at.Pops) memory.old }
+    ensures { Reaches SettleGoes M.took M.shown (settle_plan T.defers) (holding slot batch_size block last 0 at.Pops) memory.old memory.new (retired slot batch_size block result) }
+{
+    let pending = memory.load(At::Entry(Link::block_of(block), NEXT));
+    let first = memory.load(At::Entry(Link::block_of(last), FIRST));
+    memory.store(At::Entry(Link::block_of(block), FIRST), first);
+    memory.store(At::Entry(Link::block_of(block), NEXT), 0);
+    memory.store(At::Entry(Link::block_of(last), NEXT), block);
+    let count = memory.add(At::Entry(Link::block_of(first), COUNT), 1);
+    let last = block;
+    if count.wrapping_add(1) >= batch_size {
+        return Retired::Scans {
+            pending,
+            last,
+            first,
+        };
+    }
+    if pending != 0 {
+        return Retired::Pops {
+            pending,
+            last,
+            first,
+        };
+    }
+    memory.store(At::Slot(slot, BATCH), last);
+    Retired::Ended
+}
+
+/// The settling at the point where the retirement of a block has stopped.
+pub fn settle_of(slot: u64, batch_size: u64, block: u64, retired: Retired) -> Settle
+    ensures { result ≡ settle_at slot batch_size block retired }
+{
+    let mut settle = Settle::retire(slot, batch_size, block);
+    match retired {
+        Retired::Sees => {}
+        Retired::Ended => {
+            settle.pending = 0;
+            settle.stands = Settling::Over;
+        }
+        Retired::Pops {
+            pending,
+            last,
+            first,
+        } => {
+            settle.pending = pending;
+            settle.held = true;
+            settle.last = last;
+            settle.first = first;
+            settle.stands = Settling::Pops;
+        }
+        Retired::Scans {
+            pending,
+            last,
+            first,
+        } => {
+            settle.pending = pending;
+            settle.held = true;
+            settle.last = last;
+            settle.first = first;
+            settle.stands = Settling::Scans {
+                slot: 0,
+                block: first,
+                marks: 0,
+            };
+        }
+    }
+    settle
+}

@@ -1,0 +1,90 @@
+-- How the value of a block is lent: it is shared for a lifetime of its own. Each lending puts a part of that lifetime's token under the stretch of a seat, so
+-- the value is shared as long as the stretch lasts, and the right to have the part back, once the stretch has ended, stands with the block.
+use Rattle.std.specs.Prelude.{◌≡◌, ℕ, suc, List, [], ◌∷◌, Some, IsSome}
+use mathlib.Mathlib.Data.Part.{◌∈◌}
+use base.Fraction.{full_share}
+use base.Share
+use base.Share.{quarter, three_quarters}
+use base.Stored.{Gv}
+use base.Fml.{Lft, Share, Fml, ftrue, fsep, fex, flft, flent, finv}
+use denote.RattleType.{RattleType}
+use denote.Memory.{part_at, shared_of}
+use Rattle.core.specs.contracts.option.Option.{the_row as OptionOf}
+use Rattle.seize_words.specs.Mem.{value_at}
+use Rattle.seize_seats.specs.State.{State, view_of}
+use Rattle.seize_seats.specs.Seen.{fact, seen, number_share_coded}
+use Rattle.seize_seats.specs.Stretches.{stretch_told}
+
+-- A lending begins with a part of the stretch's token in place of what is due, and lasts once the right to the part of the value's token is there.
+pub data Phase : Type 0 where
+  Begins : Phase
+  Lasts : Phase
+  Over : Phase
+
+-- the part that is lent, of the token of which lifetime; ν: the name of the lending
+abbrev pub part : ℕ → Share → ℕ × Share → Fml
+part ν q u = seen number_share_coded.code ν q 0 u
+
+-- σ: the stretch; α: the lifetime of the memory; s: the share of their token that is put in at first
+module _ (α : Lft) (σ ν : ℕ) (s : Share) where
+  abbrev pub due : ℕ × Share → Fml
+  due u = fsep (part ν three_quarters u) (flent (σ ∷ α) (flft (u.0 ∷ []) u.1))
+
+  abbrev pub in_phase : Phase → Fml
+  in_phase Begins = flft (σ ∷ α) s
+  in_phase Lasts = fex (ℕ × Share) due
+  in_phase Over = fex (ℕ × Share) (part ν full_share)
+
+  abbrev pub account : Fml
+  account = fex Phase in_phase
+
+-- one lending: to which seat, with which view, under which stretch, and which part of the token
+pub record Lending (V : Type 0) : Type 0 where
+  pub seat : ℕ
+  pub view : V
+  pub stretch : ℕ
+  pub mark : ℕ
+  pub name : ℕ
+  pub part : Share
+  pub stake : Share
+
+-- what is lent: the atom of its lifetime, the share of the token that is left, and the lendings, the last one first
+pub record Loan (V : Type 0) : Type 0 where
+  pub atom : ℕ
+  pub rest : Share
+  pub lendings : List (Lending V)
+
+-- r is left of q once the parts are out
+abbrev pub Left : {V : Type 0} → Share → List (Lending V) → Share → Type 0
+Left q [] r = q ≡ r
+Left q (l ∷ ls) r = (q' : Share) × Left q ls q' × (q' ∈ Share.op l.part r)
+
+-- as long as the seat has this view the block is there
+abbrev pub Shown : {T V W : Type 0} → (State T V W → Type 0) → ℕ → V → ℕ → Type 0
+Shown {T} {V} {W} holds id v b = (t : State T V W) → holds t → view_of t id ≡ Some v → IsSome (value_at t.memory b)
+
+-- it is the value of the block in a state in which the seat has this view
+abbrev pub IsValueOf : {T V W : Type 0} → (State T V W → Type 0) → ℕ → V → ℕ → T → Type 0
+IsValueOf {T} {V} {W} holds id v b x = (t : State T V W) × holds t × (view_of t id ≡ Some v) × (value_at t.memory b ≡ Some x)
+
+module _ (R : RattleType) (α : Lft) {V W : Type 0} (c : V → Gv) (γ : ℕ) (holds : State R.Denot V W → Type 0) where
+  -- what stands with the block of one lending: whose it is, and that the seat's view shows the block as long as its stretch lasts
+  abbrev pub lending : ℕ → ℕ → Lending V → Fml
+  lending i a l =
+      fsep (part l.name quarter (a, l.part))
+      (fsep (finv (account α l.stretch l.name l.stake))
+      (fsep (stretch_told c γ l.seat l.view l.stretch l.mark) (fact (Shown holds l.seat l.view (suc i)))))
+
+  abbrev pub lendings : ℕ → ℕ → List (Lending V) → Fml
+  lendings i a [] = ftrue
+  lendings i a (l ∷ ls) = fsep (lending i a l) (lendings i a ls)
+
+  abbrev pub loan : ℕ → R.Denot → ℕ → ℕ → Loan V → Fml
+  loan i x b o n =
+      fsep (shared_of (OptionOf R) (Some x) b o (n.atom ∷ []))
+      (fsep (flent (n.atom ∷ []) (part_at (OptionOf R) full_share (Some x) b o))
+      (fsep (flft (n.atom ∷ []) n.rest) (fsep (fact (Left full_share n.lendings n.rest)) (lendings i n.atom n.lendings))))
+
+  -- the value of the block of the i-th number, at its place
+  abbrev pub lendable : ℕ → R.Denot → ℕ → ℕ → Fml
+  lendable i x b o = fex (Loan V) (loan i x b o)
