@@ -26,12 +26,9 @@ use Rattle.papaya_kept.proofs.Given.Finishes.Among.Own.Steps.{endings_stand}
 use Rattle.papaya_kept.specs.Given.Maps.EndingsEnds.{HasMore}
 use Rattle.papaya_kept.specs.Given.Maps.MeasuresEnds.{end_map_left, most_blocks, tables_left, steps_left}
 use Rattle.papaya_kept.proofs.Given.Maps.Ends.Lower.{end_falls, fits_in_one}
-use Rattle.papaya_executor.specs.Ending.{EndingLeads}
-use Rattle.papaya_executor.specs.IsAt.{Scene, IsAt, IsEnding, ending_in, slot_of, work_of}
 use Rattle.papaya_executor.specs.declared.executor.Executor.{Executor}
 use Rattle.papaya_executor.specs.declared.worker.Work.{Work}
 use Rattle.papaya_executor.specs.declared.worker.Work.TheVariants as work
-use Rattle.papaya_executor.proofs.Forgotten.{as_step}
 use Rattle.papaya_kept.specs.Given.Others.Endings.{ending_after}
 use Rattle.papaya_kept.proofs.Given.Moments.After.{effects_after}
 use Rattle.papaya_logged.specs.Ends.{is_done, ended_as, TellsCame, NotedStill, EndCame, EndSteps, EndIsAt, EndIsShown, EndRan}
@@ -40,6 +37,10 @@ use Rattle.papaya_logged.specs.Waits.{TellsThen, TellsWaiting}
 use Rattle.papaya_logged.specs.declared.logged.Logged.{Logged}
 use Rattle.papaya_logged.proofs.EndAll.{all_end}
 use Rattle.papaya_logged.proofs.EndSteps.{end_there}
+use Rattle.papaya_executor.specs.Ending.{EndsThere}
+use Rattle.papaya_executor.specs.IsThere.{IsThere, ending_in, work_of}
+use Rattle.papaya_scenes.proofs.Told.{as_step}
+use Rattle.papaya_scenes.specs.Scene.{IsEnding, Scene, slot_of}
 
 -- how many steps are left at most of what a caller has under way, if that is the end of a map
 abbrev pub end_left_of : {K V : Type 0} → Mem (Node K V) → Option (Work K V) → ℕ
@@ -88,7 +89,7 @@ module _ {K V : Type 0} (s : Scene K V) (i : ℕ) (f : Finishing K V) where
           at_same s1.enders i (Some (record f { machine = e; back = back; waits = waits })) i refl
           ∙ ap (λ (l : List ℕ). Some (record f { machine = e; back = l; waits = waits })) long
 
-    pub came_on : (said : Settled (Node K V)) (leads : EndingLeads same hash i said s1 mid new)
+    pub came_on : (said : Settled (Node K V)) (leads : EndsThere same hash i said s1 mid new)
         → EndCame s (ending_after same hash s1 new i f1 (leads f1 here1).0 (leads f1 here1).2.w2 (leads f1 here1).2.deed said (leads f1 here1).3) i f (gone ++ taken_of (leads f1 here1).2.deed) (is_done said)
     came_on settled.Goes leads =
         let to = leads f1 here1 in
@@ -130,7 +131,7 @@ module _ {K V : Type 0} (s : Scene K V) (i : ℕ) (f : Finishing K V) where
         }
 
     -- what it has left over by then
-    pub waits_on : (of : ℕ) (began x : Moment K V) (noted : Known) (said : Settled (Node K V)) (leads : EndingLeads same hash i said s1 mid new)
+    pub waits_on : (of : ℕ) (began x : Moment K V) (noted : Known) (said : Settled (Node K V)) (leads : EndsThere same hash i said s1 mid new)
         → TellsThen same of i f1 (is_done said) (leads f1 here1).0 (leads f1 here1).2.deed began x noted (leads f1 here1).2.w2
         → (let s2 = ending_after same hash s1 new i f1 (leads f1 here1).0 (leads f1 here1).2.w2 (leads f1 here1).2.deed said (leads f1 here1).3 in
         TellsCame s s2 i f (gone ++ taken_of (leads f1 here1).2.deed) same of began x noted (is_done said) (came_on said leads).ender)
@@ -147,19 +148,19 @@ module _ {K V : Type 0} (s : Scene K V) (i : ℕ) (f : Finishing K V) where
     waits_on of began x noted settled.Done leads tells = tells
 
     -- it was under way, and it is still, with less to do
-    pub was_under : IsAt same hash mid s1 → work_of mid i ≡ Some (work.Ending came.ender.0)
+    pub was_under : IsThere same hash mid s1 → work_of mid i ≡ Some (work.Ending came.ender.0)
     was_under at = ending_of (work_of mid i) came.ender.0 (sym (at.enders i) ∙ ap (option_map (λ (x : Finishing K V). x.machine)) here1)
 
-    module _ (at : IsAt same hash mid s1) (said : Settled (Node K V)) (leads : EndingLeads same hash i said s1 mid new) where
+    module _ (at : IsThere same hash mid s1) (said : Settled (Node K V)) (leads : EndsThere same hash i said s1 mid new) where
       abbrev e2 : EndMap
       e2 = (leads f1 here1).0
 
       facts : FinishingFacts same mid.batch_size s1.world i f1
-      facts = at.together.facts i f1 here1
+      facts = at.held.together.facts i f1 here1
 
       steps : Steps Took value_at s1.world.memory (end_map_plan came.ender.0) new.memory.memory (e2, said)
       steps =
-          subst (λ (x : Mem (Node K V)). Steps Took value_at x (end_map_plan came.ender.0) new.memory.memory (e2, said)) (sym at.memory)
+          subst (λ (x : Mem (Node K V)). Steps Took value_at x (end_map_plan came.ender.0) new.memory.memory (e2, said)) (sym at.held.memory)
           (as_step mid.memory.memory Nothing (end_map_plan came.ender.0) new.memory.memory new.memory.changed (e2, said) (leads f1 here1).1)
 
       -- where it stands then, with what it knows there
@@ -172,12 +173,12 @@ module _ {K V : Type 0} (s : Scene K V) (i : ℕ) (f : Finishing K V) where
 
         falls : HasMore said → (said ≡ settled.Waits → ⊥) → end_map_left new.memory.memory e2 < end_map_left mid.memory.memory came.ender.0
         falls more goes =
-            subst (λ (x : Mem (Node K V)). end_map_left new.memory.memory e2 < end_map_left x came.ender.0) at.memory
+            subst (λ (x : Mem (Node K V)). end_map_left new.memory.memory e2 < end_map_left x came.ender.0) at.held.memory
             (end_falls same f.hash facts.lawful f.setting f.chart f.blocks facts.lists false i f.began facts.stood s1.world came.ender.0 facts.past (f.back ++ gone) facts.facts
-            (endings_stand {Q = K} V same same mid.batch_size mid.roots slot_of s1.world s1.maps s1.calls s1.makers s1.enders at.together i f1 here1).0
+            (endings_stand {Q = K} V same same mid.batch_size mid.roots slot_of s1.world s1.maps s1.calls s1.makers s1.enders at.held.together i f1 here1).0
             new.memory.memory e2 said more goes steps fits)
 
-    less : IsAt same hash mid s1 → (said : Settled (Node K V)) (leads : EndingLeads same hash i said s1 mid new) → is_done said ≡ false
+    less : IsThere same hash mid s1 → (said : Settled (Node K V)) (leads : EndsThere same hash i said s1 mid new) → is_done said ≡ false
         → (work_of new i ≡ Some (work.Ending (leads f1 here1).0)) × (end_map_left new.memory.memory (leads f1 here1).0 < end_map_left mid.memory.memory came.ender.0)
     less at settled.Goes leads more =
         let to = leads f1 here1 in
@@ -196,7 +197,7 @@ module _ {K V : Type 0} (s : Scene K V) (i : ℕ) (f : Finishing K V) where
         )
     less at settled.Done leads more = absurd (cc more)
 
-    pub left_falls : (at : IsAt same hash mid s1) (said : Settled (Node K V)) (leads : EndingLeads same hash i said s1 mid new) → is_done said ≡ false
+    pub left_falls : (at : IsThere same hash mid s1) (said : Settled (Node K V)) (leads : EndsThere same hash i said s1 mid new) → is_done said ≡ false
         → end_left_of new.memory.memory (work_of new i) < end_left_of mid.memory.memory (work_of mid i)
     left_falls at said leads more =
         let it = less at said leads more in
@@ -224,8 +225,8 @@ module _ {K V S : Type 0} (i map : ℕ) where
 
   -- and one step more
   module _ (old mid new : Logged K V S) (xs ys zs : List Effect) (said : Settled (Node K V)) (ran : EndRan i map false xs ys old mid) (step : EndSteps i map said ys zs mid new)
-      (stepping : (same : K → K → Bool) (hash : K → ℕ) (s : Scene K V) → IsAt same hash mid.executor s → EndingLeads same hash i said s mid.executor new.executor) where
-    there_on : (same : K → K → Bool) (hash : K → ℕ) (s : Scene K V) → IsAt same hash old.executor s → EndIsAt same hash s i (is_done said) new
+      (stepping : (same : K → K → Bool) (hash : K → ℕ) (s : Scene K V) → IsThere same hash mid.executor s → EndsThere same hash i said s mid.executor new.executor) where
+    there_on : (same : K → K → Bool) (hash : K → ℕ) (s : Scene K V) → IsThere same hash old.executor s → EndIsAt same hash s i (is_done said) new
     there_on same hash s at f here =
         let u = ran.2 same hash s at f here in
         let leads = stepping same hash u.0 u.3 in
@@ -279,22 +280,22 @@ module _ {K V S : Type 0} (i map : ℕ) where
     ends_last over = subst (λ (q : Bool). EndRan i map q xs zs old new) over ends_on
 
   -- the executor is there at a scene at which the end is under way still
-  pub still_ending : (same : K → K → Bool) (hash : K → ℕ) (s : Scene K V) (old mid : Logged K V S) (xs ys : List Effect) → IsAt same hash old.executor s → IsEnding s i
-      → EndRan i map false xs ys old mid → (s1 : Scene K V) × IsAt same hash mid.executor s1 × IsEnding s1 i
+  pub still_ending : (same : K → K → Bool) (hash : K → ℕ) (s : Scene K V) (old mid : Logged K V S) (xs ys : List Effect) → IsThere same hash old.executor s → IsEnding s i
+      → EndRan i map false xs ys old mid → (s1 : Scene K V) × IsThere same hash mid.executor s1 × IsEnding s1 i
   still_ending same hash s old mid xs ys at it ran =
       let u = ran.2 same hash s at it.0 it.1 in (u.0, u.3, (record it.0 { machine = u.2.ender.0; back = it.0.back ++ u.1; waits = u.2.ender.1 }, u.2.ender.2))
 
   -- as it is noted of the caller
-  pub ending_under : (same : K → K → Bool) (hash : K → ℕ) (s : Scene K V) (old mid : Logged K V S) (xs ys : List Effect) → IsAt same hash old.executor s → IsEnding s i
+  pub ending_under : (same : K → K → Bool) (hash : K → ℕ) (s : Scene K V) (old mid : Logged K V S) (xs ys : List Effect) → IsThere same hash old.executor s → IsEnding s i
       → EndRan i map false xs ys old mid → (ending : EndMap) × (ending_in (work_of mid.executor i) ≡ Some ending)
   ending_under same hash s old mid xs ys at it ran =
       let t = still_ending same hash s old mid xs ys at it ran in
       (t.2.0.machine, sym (t.1.enders i) ∙ ap (option_map (λ (f : Finishing K V). f.machine)) t.2.1)
 
   -- so it runs on, with less to do
-  module _ (same : K → K → Bool) (hash : K → ℕ) (s : Scene K V) (old mid new : Logged K V S) (xs ys zs : List Effect) (said : Settled (Node K V)) (at : IsAt same hash old.executor s) (it : IsEnding s i)
+  module _ (same : K → K → Bool) (hash : K → ℕ) (s : Scene K V) (old mid new : Logged K V S) (xs ys zs : List Effect) (said : Settled (Node K V)) (at : IsThere same hash old.executor s) (it : IsEnding s i)
       (ran : EndRan i map false xs ys old mid) (step : EndSteps i map said ys zs mid new)
-      (stepping : (same : K → K → Bool) (hash : K → ℕ) (s : Scene K V) → IsAt same hash mid.executor s → EndingLeads same hash i said s mid.executor new.executor) (more : is_done said ≡ false) where
+      (stepping : (same : K → K → Bool) (hash : K → ℕ) (s : Scene K V) → IsThere same hash mid.executor s → EndsThere same hash i said s mid.executor new.executor) (more : is_done said ≡ false) where
     pub ran_goes : EndRan i map false xs zs old new
     ran_goes = subst (λ (q : Bool). EndRan i map q xs zs old new) more (ends_on old mid new xs ys zs said ran step stepping)
 

@@ -13,15 +13,16 @@ use Rattle.papaya_effects.specs.Effects.{effects_of, known_after}
 use Rattle.papaya_effects.specs.Known.{known}
 use Rattle.papaya_effects.specs.declared.acting.Acting.{Acting}
 use Rattle.papaya_effects.specs.declared.acting.Acting.TheVariants as acts
-use Rattle.papaya_executor.specs.IsAt.{Scene, KeepsGiven, ending_in, making_in, work_of}
-use Rattle.papaya_executor.specs.declared.row.RowTold.{RowTold}
-use Rattle.papaya_executor.specs.declared.row.SlotRow.{SlotRow}
+use Rattle.papaya_scenes.specs.declared.row.RowTold.{RowTold}
+use Rattle.papaya_scenes.specs.declared.row.SlotRow.{SlotRow}
 use Rattle.papaya_executor.specs.declared.worker.Work.TheVariants.{OnSlot}
 use Rattle.papaya_reclaiming.specs.Reclaiming.{IsReclaiming, ReclaimingLeads}
 use Rattle.papaya_logged.specs.Goes.{EndGoes, GoesTo, IsNotedAs, MakingGoes, ReclaimingGoes, ReclaimingOn, RowGoes, StepsEnd, StepsMaking, far}
 use Rattle.papaya_logged.specs.Ends.{is_done}
 use Rattle.papaya_logged.specs.OnSlots.{StepsOn}
 use Rattle.papaya_logged.specs.declared.logged.Logged.{Logged}
+use Rattle.papaya_executor.specs.IsThere.{KeepsGiven, ending_in, making_in, work_of}
+use Rattle.papaya_scenes.specs.Scene.{Scene}
 
 module _ {X : Type 0} (Goes : X → X → Type 0) where
   -- none leads from there to there,

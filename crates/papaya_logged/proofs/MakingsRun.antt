@@ -24,18 +24,19 @@ use Rattle.papaya_kept.specs.Given.Finishes.Makings.{Beginning, IsNewChart, Step
 use Rattle.papaya_kept.specs.Given.Finishes.Maps.{Standing}
 use Rattle.papaya_kept.specs.Given.Maps.MeasuresBegins.{new_map_left}
 use Rattle.papaya_kept.proofs.Given.Maps.Begins.ComesToEnd.{beginnings_leave_less}
-use Rattle.papaya_executor.specs.IsAt.{Scene, IsAt, IsMaking, making_in, slot_of, work_of}
-use Rattle.papaya_executor.specs.Making.{MakingLeads}
 use Rattle.papaya_executor.specs.declared.executor.Executor.{Executor}
 use Rattle.papaya_executor.specs.declared.worker.Work.{Work}
 use Rattle.papaya_executor.specs.declared.worker.Work.TheVariants as work
-use Rattle.papaya_executor.proofs.Forgotten.{as_step}
 use Rattle.papaya_kept.specs.Given.Others.Makings.{WasNew, making_after}
 use Rattle.papaya_kept.proofs.Given.Moments.After.{effects_after}
 use Rattle.papaya_logged.specs.Makings.{BelowIfRefused, is_over, HasTable, IsBare, JustAsks, StaysNew, CameBare, MakingCame, MakingSteps, MakingIsAt, MakingRan}
 use Rattle.papaya_logged.specs.Shown.{IsShown}
 use Rattle.papaya_logged.specs.declared.logged.Logged.{Logged}
 use Rattle.papaya_logged.proofs.MakingSteps.{is_there}
+use Rattle.papaya_executor.specs.IsThere.{IsThere, making_in, work_of}
+use Rattle.papaya_executor.specs.Making.{MakesThere}
+use Rattle.papaya_scenes.proofs.Told.{as_step}
+use Rattle.papaya_scenes.specs.Scene.{IsMaking, Scene, slot_of}
 
 -- how many steps are left at most of what a caller has under way, if that is the making of a map
 abbrev pub making_left_of : {K V : Type 0} → Option (Work K V) → ℕ
@@ -70,7 +71,7 @@ module _ {K V : Type 0} (s : Scene K V) (i : ℕ) (b : Beginning K) where
     others next j ne = at_other s1.makers i next j ne ∙ came.makers j ne
 
     -- a step leaves rows and uses of slots as they are
-    module _ (told : Progress Setting) (leads : MakingLeads same hash i told s1 mid new) where
+    module _ (told : Progress Setting) (leads : MakesThere same hash i told s1 mid new) where
       abbrev step : StepsOfMaking V same same mid.batch_size mid.roots slot_of s1.world s1.maps s1.calls s1.makers i b1 new.memory.memory ((leads b1 here1).0, told)
       step = (leads b1 here1).2.step
 
@@ -80,7 +81,7 @@ module _ {K V : Type 0} (s : Scene K V) (i : ℕ) (b : Beginning K) where
       uses_on : step.w2.uses ≡ s.world.uses
       uses_on = events_uses mid.batch_size step.events s1.world step.w2 step.users step.runs ∙ came.uses
 
-    pub came_on : (told : Progress Setting) (leads : MakingLeads same hash i told s1 mid new)
+    pub came_on : (told : Progress Setting) (leads : MakesThere same hash i told s1 mid new)
         → MakingCame s (making_after same hash s1 mid new i b1 (leads b1 here1).0 (leads b1 here1).2.step.w2 told (leads b1 here1).3) i b told
     came_on progress.Goes leads = record {
       maker = ((leads b1 here1).0, at_same s1.makers i (Some (record b { machine = (leads b1 here1).0 })) i refl);
@@ -123,7 +124,7 @@ module _ {K V : Type 0} (s : Scene K V) (i : ℕ) (b : Beginning K) where
     }
 
     -- if it has made no table there, neither has its machine
-    pub bare_on : (told : Progress Setting) (leads : MakingLeads same hash i told s1 mid new)
+    pub bare_on : (told : Progress Setting) (leads : MakesThere same hash i told s1 mid new)
         → CameBare s (making_after same hash s1 mid new i b1 (leads b1 here1).0 (leads b1 here1).2.step.w2 told (leads b1 here1).3) i b told (came_on told leads).maker
         → IsBare told (leads b1 here1).0
     unfolding came_on
@@ -133,10 +134,10 @@ module _ {K V : Type 0} (s : Scene K V) (i : ℕ) (b : Beginning K) where
     bare_on (progress.Refused fault) leads bare = tt
 
     -- it was under way, and it is still, with less to do
-    pub was_under : IsAt same hash mid s1 → work_of mid i ≡ Some (work.Making b.map came.maker.0)
+    pub was_under : IsThere same hash mid s1 → work_of mid i ≡ Some (work.Making b.map came.maker.0)
     was_under at = making_of (work_of mid i) b.map came.maker.0 (sym (at.makers i) ∙ ap (option_map (λ (x : Beginning K). (x.map, x.machine))) here1)
 
-    module _ (at : IsAt same hash mid s1) (leads : MakingLeads same hash i progress.Goes s1 mid new) where
+    module _ (at : IsThere same hash mid s1) (leads : MakesThere same hash i progress.Goes s1 mid new) where
       pub is_under : work_of new i ≡ Some (work.Making b.map (leads b1 here1).0)
       is_under =
           making_of (work_of new i) b.map (leads b1 here1).0
@@ -207,8 +208,8 @@ module _ {K V S : Type 0} (i map : ℕ) where
 
   -- and one step more
   module _ (old mid new : Logged K V S) (xs ys zs : List Effect) (told : Progress Setting) (ran : MakingRan i map progress.Goes xs ys old mid) (step : MakingSteps i map told ys zs mid new)
-      (stepping : (same : K → K → Bool) (hash : K → ℕ) (s : Scene K V) → IsAt same hash mid.executor s → MakingLeads same hash i told s mid.executor new.executor) where
-    there_on : (same : K → K → Bool) (hash : K → ℕ) (s : Scene K V) → IsAt same hash old.executor s → MakingIsAt same hash s i map told (ran.0 ++ step.0) old new
+      (stepping : (same : K → K → Bool) (hash : K → ℕ) (s : Scene K V) → IsThere same hash mid.executor s → MakesThere same hash i told s mid.executor new.executor) where
+    there_on : (same : K → K → Bool) (hash : K → ℕ) (s : Scene K V) → IsThere same hash old.executor s → MakingIsAt same hash s i map told (ran.0 ++ step.0) old new
     there_on same hash s at b here of_map =
         let u = ran.2 same hash s at b here of_map in
         let leads = stepping same hash u.0 u.2 in
@@ -263,13 +264,13 @@ module _ {K V S : Type 0} (i map : ℕ) where
     )
 
   -- the executor is there at a scene at which the making is under way still
-  pub still_making : (same : K → K → Bool) (hash : K → ℕ) (s : Scene K V) (old mid : Logged K V S) (xs ys : List Effect) → IsAt same hash old.executor s → (b : Beginning K) → s.makers i ≡ Some b → b.map ≡ map
-      → MakingRan i map progress.Goes xs ys old mid → (s1 : Scene K V) × IsAt same hash mid.executor s1 × IsMaking s1 i
+  pub still_making : (same : K → K → Bool) (hash : K → ℕ) (s : Scene K V) (old mid : Logged K V S) (xs ys : List Effect) → IsThere same hash old.executor s → (b : Beginning K) → s.makers i ≡ Some b → b.map ≡ map
+      → MakingRan i map progress.Goes xs ys old mid → (s1 : Scene K V) × IsThere same hash mid.executor s1 × IsMaking s1 i
   still_making same hash s old mid xs ys at b here of_map ran =
       let u = ran.2 same hash s at b here of_map in (u.0, u.2, (record b { machine = u.1.maker.0 }, u.1.maker.1))
 
   -- as it is noted of the caller
-  pub still_under : (same : K → K → Bool) (hash : K → ℕ) (s : Scene K V) (old mid : Logged K V S) (xs ys : List Effect) → IsAt same hash old.executor s → (b : Beginning K) → s.makers i ≡ Some b → b.map ≡ map
+  pub still_under : (same : K → K → Bool) (hash : K → ℕ) (s : Scene K V) (old mid : Logged K V S) (xs ys : List Effect) → IsThere same hash old.executor s → (b : Beginning K) → s.makers i ≡ Some b → b.map ≡ map
       → MakingRan i map progress.Goes xs ys old mid → (opening : NewMap) × (making_in (work_of mid.executor i) ≡ Some (map, opening))
   still_under same hash s old mid xs ys at b here of_map ran =
       let u = ran.2 same hash s at b here of_map in (
@@ -279,17 +280,17 @@ module _ {K V S : Type 0} (i map : ℕ) where
 
   -- a step that is not the last one goes on
   only_goes : (same : K → K → Bool) (hash : K → ℕ) (s : Scene K V) (mid new : Executor K V S) (b : Beginning K) (here : s.makers i ≡ Some b) (told : Progress Setting)
-      → MakingLeads same hash i told s mid new → is_over told ≡ false → told ≡ progress.Goes
+      → MakesThere same hash i told s mid new → is_over told ≡ false → told ≡ progress.Goes
   only_goes same hash s mid new b here progress.Goes leads more = refl
   only_goes same hash s mid new b here progress.Waits leads more = absurd (leads b here).3
   only_goes same hash s mid new b here (progress.Done setting) leads more = absurd (cc more)
   only_goes same hash s mid new b here (progress.Refused fault) leads more = absurd (cc more)
 
   -- so it runs on, with less to do
-  module _ (same : K → K → Bool) (hash : K → ℕ) (s : Scene K V) (old mid new : Logged K V S) (xs ys zs : List Effect) (told : Progress Setting) (at : IsAt same hash old.executor s) (b : Beginning K) (here : s.makers i ≡ Some b) (of_map : b.map ≡ map)
+  module _ (same : K → K → Bool) (hash : K → ℕ) (s : Scene K V) (old mid new : Logged K V S) (xs ys zs : List Effect) (told : Progress Setting) (at : IsThere same hash old.executor s) (b : Beginning K) (here : s.makers i ≡ Some b) (of_map : b.map ≡ map)
       (ran : MakingRan i map progress.Goes xs ys old mid) (step : MakingSteps i map told ys zs mid new)
-      (stepping : (same : K → K → Bool) (hash : K → ℕ) (s : Scene K V) → IsAt same hash mid.executor s → MakingLeads same hash i told s mid.executor new.executor) (more : is_over told ≡ false) where
-    abbrev there : (s1 : Scene K V) × MakingCame s s1 i b progress.Goes × IsAt same hash mid.executor s1
+      (stepping : (same : K → K → Bool) (hash : K → ℕ) (s : Scene K V) → IsThere same hash mid.executor s → MakesThere same hash i told s mid.executor new.executor) (more : is_over told ≡ false) where
+    abbrev there : (s1 : Scene K V) × MakingCame s s1 i b progress.Goes × IsThere same hash mid.executor s1
     there = ran.2 same hash s at b here of_map
 
     goes : told ≡ progress.Goes
@@ -301,4 +302,4 @@ module _ {K V S : Type 0} (i map : ℕ) where
     pub making_less : making_left_of (work_of new.executor i) < making_left_of (work_of mid.executor i)
     making_less =
         left_falls s i b same hash mid.executor new.executor there.0 there.1 there.2
-        (subst (λ (t : Progress Setting). MakingLeads same hash i t there.0 mid.executor new.executor) goes (stepping same hash there.0 there.2))
+        (subst (λ (t : Progress Setting). MakesThere same hash i t there.0 mid.executor new.executor) goes (stepping same hash there.0 there.2))

@@ -19,7 +19,6 @@ use Rattle.papaya_effects.specs.declared.acting.Acting.TheVariants.{Row}
 use Rattle.papaya_effects.specs.declared.role.Role.{Role}
 use Rattle.papaya_effects.specs.declared.role.Role.TheVariants as role
 use Rattle.papaya_reclaims.specs.Reclaims.{ReclaimingTold}
-use Rattle.papaya_executor.specs.IsAt.{Scene}
 use Rattle.papaya_executor.specs.declared.executor.Executor.{Executor}
 use Rattle.papaya_reclaiming.specs.Reclaiming.{MayReclaim, NobodyHas, ReclaimingLeads}
 use Rattle.papaya_kept.specs.Given.Follows.Steps.{TakesNone}
@@ -33,6 +32,7 @@ use Rattle.papaya_logged.proofs.BroughtBack.{IsBack, more_back, none_back, nothi
 use Rattle.papaya_logged.proofs.ReclaimGives.{GivesOr, reclaiming_gives, taken_gone}
 use Rattle.papaya_logged.proofs.ReclaimRows.{EmptiesRoot, reclaiming_tells}
 use Rattle.papaya_logged.proofs.ReclaimSteps.{left}
+use Rattle.papaya_scenes.specs.Scene.{Scene}
 
 -- a root that is emptied reclaims nothing
 led_quiet : (was is : Role) → flat_map pairs_back (led_to Row was is) ≡ []

@@ -34,7 +34,6 @@ use Rattle.papaya_effects.specs.declared.role.Role.{Role}
 use Rattle.papaya_effects.specs.declared.role.Role.TheVariants as role
 use Rattle.papaya_kept.specs.Given.Finishes.FactsEnds.{TakesLeft, WritesRoot, events_of}
 use Rattle.papaya_reclaims.specs.Slots.{AreItsRows}
-use Rattle.papaya_executor.specs.IsAt.{Scene, HasCall}
 use Rattle.papaya_executor.specs.declared.executor.Executor.{Executor}
 use Rattle.papaya_reclaiming.specs.Reclaiming.{IsReclaiming, ReclaimingLeads}
 use Rattle.papaya_kept.specs.Given.Follows.Blocks.{HasRole}
@@ -52,6 +51,7 @@ use Rattle.papaya_kept.proofs.Given.Lives.Taken.{taken_retired}
 use Rattle.papaya_kept.proofs.Given.Lives.Waiting.{row_finds}
 use Rattle.papaya_logged.proofs.ReclaimRows.{EmptiesRoot, begun_kept, step_kept, reclaiming_tells}
 use Rattle.papaya_logged.proofs.ReclaimSteps.{left, reached}
+use Rattle.papaya_scenes.specs.Scene.{HasCall, Scene}
 
 module _ {K V : Type 0} (size : ℕ) where
   -- what a step of a row takes away the collector had,

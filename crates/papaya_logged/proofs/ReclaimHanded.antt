@@ -25,7 +25,6 @@ use Rattle.papaya_teller.specs.declared.changed.Changed.TheVariants as changed
 use Rattle.papaya_effects.specs.Effects.{linked_on, named, names_same, effects_of, known_after}
 use Rattle.papaya_effects.specs.Known.{Known}
 use Rattle.papaya_effects.specs.declared.acting.Acting.TheVariants.{Row}
-use Rattle.papaya_executor.specs.IsAt.{Scene, HasCall}
 use Rattle.papaya_executor.specs.declared.executor.Executor.{Executor}
 use Rattle.papaya_reclaiming.specs.Reclaiming.{IsReclaiming, ReclaimingLeads}
 use Rattle.papaya_reclaims.specs.Slots.{AreItsRows}
@@ -46,6 +45,7 @@ use Rattle.papaya_kept.proofs.Given.Lives.Worlds.{has_it, log_back}
 use Rattle.papaya_logged.proofs.ReclaimRows.{EmptiesRoot, reclaiming_tells}
 use Rattle.papaya_logged.proofs.ReclaimSteps.{kept as kept_there, left, no_call, reached, root_none, nothing_there}
 use Rattle.papaya_logged.proofs.ReclaimWaits.{begun_log}
+use Rattle.papaya_scenes.specs.Scene.{HasCall, Scene}
 
 -- what rows on slots do to what waits
 module _ {K V : Type 0} (size i p : ℕ) where

@@ -23,7 +23,6 @@ use Rattle.papaya_teller.specs.declared.changed.Changed.TheVariants as changed
 use Rattle.papaya_effects.specs.Effects.{linked_on, named, names_same, effects_of, known_after}
 use Rattle.papaya_effects.specs.Known.{Known}
 use Rattle.papaya_effects.specs.declared.acting.Acting.TheVariants.{Row}
-use Rattle.papaya_executor.specs.IsAt.{Scene, HasCall}
 use Rattle.papaya_executor.specs.declared.executor.Executor.{Executor}
 use Rattle.papaya_reclaiming.specs.Reclaiming.{IsReclaiming, ReclaimingLeads}
 use Rattle.papaya_kept.proofs.Given.Follows.Operations.{LeavesBy}
@@ -45,6 +44,7 @@ use Rattle.papaya_logged.proofs.ReclaimOrder.{reclaiming_order}
 use Rattle.papaya_logged.proofs.ReclaimRows.{EmptiesRoot, reclaiming_tells}
 use Rattle.papaya_logged.proofs.ReclaimSteps.{kept as kept_there, left, no_call, root_none, nothing_there}
 use Rattle.papaya_logged.proofs.ReclaimWaits.{kept_then, rows_leave_waiting}
+use Rattle.papaya_scenes.specs.Scene.{HasCall, Scene}
 
 module _ {K V S : Type 0} (same : K → K → Bool) (hash : K → ℕ) (name : ℕ → List ℕ) (m : Moment K V) (known : Known) (s : Scene K V) (whole : ShowsWhole same name m known s)
     (waiting : ShowsWaiting m known s.world) (once : WaitsOnce m.deferred) (retired : ShowsRetired m known s) (lying : ShowsLying m known s.world) (order : ShowsOrder m known s.world) (no_table : NoTableLeft known s.world)

@@ -26,7 +26,6 @@ use Rattle.papaya_kept.proofs.Given.Callers.Rows.Behind.{row_back}
 use Rattle.papaya_kept.specs.Given.Finishes.FactsEnds.{TakesLeft, WritesRoot, events_of}
 use Rattle.papaya_reclaims.specs.Reclaims.{ReclaimingAt}
 use Rattle.papaya_reclaims.specs.Slots.{IsForSlots, AreItsRows}
-use Rattle.papaya_executor.specs.IsAt.{Scene}
 use Rattle.papaya_executor.specs.declared.executor.Executor.{Executor}
 use Rattle.papaya_reclaiming.specs.Reclaiming.{IsReclaiming, ReclaimingLeads}
 use Rattle.papaya_kept.specs.Given.Follows.Blocks.{HasRole}
@@ -39,6 +38,7 @@ use Rattle.papaya_kept.proofs.Given.Lives.Lying.{lying_on, row_among, row_pair}
 use Rattle.papaya_kept.proofs.Given.Lives.Reclaimed.{stays_so}
 use Rattle.papaya_logged.proofs.ReclaimSteps.{kept as kept_so, reached}
 use Rattle.papaya_logged.proofs.ReclaimWaits.{begun_log}
+use Rattle.papaya_scenes.specs.Scene.{Scene}
 
 module _ {K V : Type 0} (size : ℕ) where
   -- the beginning of such a row leaves the rows of others

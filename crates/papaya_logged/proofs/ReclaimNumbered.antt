@@ -17,7 +17,6 @@ use Rattle.papaya_effects.specs.Effects.{names_same, named, effects_of, known_af
 use Rattle.papaya_effects.specs.Known.{Known, known}
 use Rattle.papaya_effects.specs.declared.acting.Acting.TheVariants.{Row}
 use Rattle.papaya_effects.specs.declared.notes.Notes.{Notes}
-use Rattle.papaya_executor.specs.IsAt.{Scene, KeepsGiven}
 use Rattle.papaya_executor.specs.declared.executor.Executor.{Executor}
 use Rattle.papaya_reclaiming.specs.Reclaiming.{IsReclaiming, ReclaimingLeads}
 use Rattle.papaya_reclaiming.proofs.Reclaims.{may_step}
@@ -30,6 +29,8 @@ use Rattle.papaya_remains.proofs.Slots.{operation_notes}
 use Rattle.papaya_logged.specs.Shown.{AreNumbered}
 use Rattle.papaya_logged.proofs.ReclaimRows.{EmptiesRoot, reclaiming_tells}
 use Rattle.papaya_logged.proofs.ReclaimSteps.{root_none, nothing_there}
+use Rattle.papaya_executor.specs.IsThere.{KeepsGiven}
+use Rattle.papaya_scenes.specs.Scene.{Scene}
 
 module _ {K V S : Type 0} (same : K → K → Bool) (hash : K → ℕ) (name : ℕ → List ℕ) (m : Moment K V) (noted : Known) (s : Scene K V) (whole : ShowsWhole same name m noted s)
     (old new : Executor K V S) (notes : Notes) (i : ℕ) (lists : ℕ → List ℕ) (before after : ReclaimAll) (told : Settled (Node K V)) (at : IsReclaiming same hash old s i lists before)

@@ -25,7 +25,6 @@ use Rattle.papaya_effects.specs.declared.acting.Acting.TheVariants.{Row as OfRow
 use Rattle.papaya_effects.specs.declared.role.Role.TheVariants as role
 use Rattle.papaya_kept.specs.Given.Finishes.FactsEnds.{TakesLeft, WritesRoot, events_of}
 use Rattle.papaya_reclaims.specs.Slots.{IsForSlots, AreItsRows}
-use Rattle.papaya_executor.specs.IsAt.{Scene}
 use Rattle.papaya_executor.specs.declared.executor.Executor.{Executor}
 use Rattle.papaya_reclaiming.specs.Reclaiming.{IsReclaiming, ReclaimingLeads}
 use Rattle.papaya_kept.proofs.Given.Follows.Operations.{LeavesBy}
@@ -41,6 +40,7 @@ use Rattle.papaya_kept.proofs.Given.Lives.Putting.{put_before}
 use Rattle.papaya_kept.proofs.Given.Lives.Reclaimed.{stays_so}
 use Rattle.papaya_logged.proofs.ReclaimLies.{own_none}
 use Rattle.papaya_logged.proofs.ReclaimSteps.{reached}
+use Rattle.papaya_scenes.specs.Scene.{Scene}
 
 module _ {K V : Type 0} (size : ℕ) where
   -- the beginning of such a row leaves the memory, and who has what; and it puts nothing behind a block

@@ -26,7 +26,6 @@ use Rattle.papaya_kept.specs.Given.Callers.Together.{UnderWay}
 use Rattle.papaya_kept.specs.Given.Finishes.FactsEnds.{TakesLeft, WritesRoot, events_of}
 use Rattle.papaya_kept.specs.Given.Finishes.Maps.{Standing}
 use Rattle.papaya_reclaims.specs.Slots.{AreItsRows}
-use Rattle.papaya_executor.specs.IsAt.{Scene}
 use Rattle.papaya_executor.specs.declared.executor.Executor.{Executor}
 use Rattle.papaya_reclaiming.specs.Reclaiming.{IsReclaiming, ReclaimingLeads}
 use Rattle.papaya_reclaiming.proofs.Reclaims.{may_step}
@@ -47,6 +46,7 @@ use Rattle.papaya_kept.specs.Given.Moments.Whole.{ShowsWhole}
 use Rattle.papaya_kept.proofs.Given.Moments.Beside.{IsBeside, hands_beside}
 use Rattle.papaya_kept.proofs.Given.Moments.OnSlots.{stood_same, with_outside, was_retired, row_alone, row_keeps}
 use Rattle.papaya_logged.proofs.ReclaimRows.{KeptThere, rows_kept, left_kept, root_kept, EmptiesRoot, reclaiming_tells}
+use Rattle.papaya_scenes.specs.Scene.{Scene}
 
 module _ {K V S : Type 0} (same : K → K → Bool) (hash : K → ℕ) (name : ℕ → List ℕ) (m : Moment K V) (known : Known) (s : Scene K V) (whole : ShowsWhole same name m known s)
     (old new : Executor K V S) (i : ℕ) (lists : ℕ → List ℕ) (before after : ReclaimAll) (told : Settled (Node K V)) (at : IsReclaiming same hash old s i lists before)
@@ -83,7 +83,7 @@ module _ {K V S : Type 0} (same : K → K → Bool) (hash : K → ℕ) (name : �
   pub left : LeavesBy w.memory w2.memory new.memory.changed
   left =
       subst (λ (n : Mem (Node K V)). LeavesBy w.memory n new.memory.changed) (sym leads.1.memory)
-      (subst (λ (n : Mem (Node K V)). LeavesBy n new.memory.memory new.memory.changed) (sym at.memory)
+      (subst (λ (n : Mem (Node K V)). LeavesBy n new.memory.memory new.memory.changed) (sym at.held.memory)
       (operated_leaves old.memory.memory new.memory.memory new.memory.changed
       (operated old.memory.memory new.memory.memory new.memory.changed (reclaim_all_plan deferred_word was_left before) (after, told) (may_step same hash old s i lists before at) leads.0)))
 

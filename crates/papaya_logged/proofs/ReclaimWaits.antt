@@ -36,7 +36,6 @@ use Rattle.papaya_effects.specs.declared.role.Role.{Role}
 use Rattle.papaya_effects.specs.declared.role.Role.TheVariants as role
 use Rattle.papaya_kept.specs.Given.Finishes.FactsEnds.{TakesLeft, WritesRoot, events_of}
 use Rattle.papaya_reclaims.specs.Slots.{IsForSlots, AreItsRows}
-use Rattle.papaya_executor.specs.IsAt.{Scene}
 use Rattle.papaya_executor.specs.declared.executor.Executor.{Executor}
 use Rattle.papaya_reclaiming.specs.Reclaiming.{IsReclaiming, ReclaimingLeads}
 use Rattle.papaya_kept.specs.Given.Follows.Blocks.{HasRole}
@@ -56,6 +55,7 @@ use Rattle.papaya_kept.proofs.Given.Lives.Taken.{there_still}
 use Rattle.papaya_kept.proofs.Given.Lives.Worlds.{Kept, log_back, runs_kept, start_kept, has_it}
 use Rattle.papaya_logged.proofs.ReclaimRows.{rows_kept}
 use Rattle.papaya_logged.proofs.ReclaimSteps.{reached}
+use Rattle.papaya_scenes.specs.Scene.{Scene}
 
 module _ {K V : Type 0} (size : ℕ) where
   -- such a row tells nothing as it begins

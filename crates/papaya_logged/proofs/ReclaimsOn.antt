@@ -12,7 +12,6 @@ use Rattle.papaya_effects.specs.Effects.{effects_of, known_after}
 use Rattle.papaya_effects.specs.Known.{Known, known}
 use Rattle.papaya_effects.specs.declared.acting.Acting.TheVariants.{Row}
 use Rattle.papaya_effects.specs.declared.notes.Notes.{Notes}
-use Rattle.papaya_executor.specs.IsAt.{Scene, KeepsGiven}
 use Rattle.papaya_executor.specs.declared.executor.Executor.{Executor}
 use Rattle.papaya_reclaiming.specs.Reclaiming.{IsReclaiming, ReclaimingLeads, ReclaimingComesTo}
 use Rattle.papaya_kept.specs.Given.Moments.Whole.{ShowsWhole}
@@ -23,6 +22,8 @@ use Rattle.papaya_logged.specs.declared.logged.Logged.{Logged}
 use Rattle.papaya_logged.proofs.ReclaimNumbered.{reclaiming_numbered}
 use Rattle.papaya_logged.proofs.ReclaimRest.{reclaiming_found, reclaiming_keeps}
 use Rattle.papaya_logged.proofs.ReclaimSteps.{reclaiming_whole}
+use Rattle.papaya_executor.specs.IsThere.{KeepsGiven}
+use Rattle.papaya_scenes.specs.Scene.{Scene}
 
 module _ {K V S : Type 0} (same : K → K → Bool) (hash : K → ℕ) where
   -- it begins where the executor is shown

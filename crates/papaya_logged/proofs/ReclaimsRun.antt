@@ -9,7 +9,6 @@ use Rattle.papaya_kept.specs.Given.Tables.declared.node.Node.{Node}
 use Rattle.papaya_schedules.specs.declared.effect.Effect.{Effect}
 use Rattle.papaya_schedules.specs.Effects.{with_effect, with_effects, AtEachEffect}
 use Rattle.papaya_schedules.specs.Moment.{Moment}
-use Rattle.papaya_executor.specs.IsAt.{Scene}
 use Rattle.papaya_kept.specs.Given.Finishes.Maps.{IsSameMap, Standing}
 use Rattle.papaya_reclaims.specs.Reclaims.{AllIsReclaimed}
 use Rattle.papaya_reclaiming.specs.Reclaiming.{IsReclaiming, MayReclaim, NobodyHas, ReclaimingComesTo, ReclaimingLeads}
@@ -20,6 +19,7 @@ use Rattle.papaya_logged.specs.Ends.{is_done}
 use Rattle.papaya_logged.specs.Reclaims.{ReclaimRetired, ReclaimingCame, ReclaimingIsShown, ReclaimingRan, ReclaimingSoFar, ReclaimingSteps, ReclaimingThen}
 use Rattle.papaya_logged.specs.Shown.{IsShown}
 use Rattle.papaya_logged.specs.declared.logged.Logged.{Logged}
+use Rattle.papaya_scenes.specs.Scene.{Scene}
 
 -- a map that is the same has its setting
 pub same_setting : {K : Type 0} (o o2 : Option (Standing K)) → IsSameMap o o2 → option_map (λ standing. standing.setting) o2 ≡ option_map (λ standing. standing.setting) o

@@ -9,7 +9,6 @@ use Rattle.papaya_schedules.specs.Effects.{with_effects, AtEachEffect}
 use Rattle.papaya_schedules.specs.Moment.{Moment}
 use Rattle.papaya_effects.specs.Known.{known}
 use Rattle.papaya_reclaims.specs.Reclaims.{AllIsReclaimed}
-use Rattle.papaya_executor.specs.IsAt.{Scene, IsAt}
 use Rattle.papaya_reclaiming.specs.Reclaiming.{IsReclaiming, MayReclaim, NobodyHas, ReclaimingLeads}
 use Rattle.papaya_kept.specs.Given.Spots.OnSlots.{WaitUnreclaimed}
 use Rattle.papaya_kept.specs.Given.Moments.OnSlots.{HadRetired}
@@ -17,6 +16,8 @@ use Rattle.papaya_kept.specs.Given.Moments.Whole.{ShowsWhole}
 use Rattle.papaya_kept.specs.Kept.{ShowsKept}
 use Rattle.papaya_logged.specs.Shown.{AreNumbered, IsShown}
 use Rattle.papaya_logged.specs.declared.logged.Logged.{Logged}
+use Rattle.papaya_executor.specs.IsThere.{IsThere}
+use Rattle.papaya_scenes.specs.Scene.{Scene}
 
 module _ {K V S : Type 0} (same : K → K → Bool) (hash : K → ℕ) (name : ℕ → List ℕ) where
   -- All is being reclaimed, it is so far, and these lists are behind the roots still; and a moment shows the scene with the notes, of which all is so that every step keeps.
@@ -28,7 +29,7 @@ module _ {K V S : Type 0} (same : K → K → Bool) (hash : K → ℕ) (name : �
 
   -- So it is once all is reclaimed, when nothing is left over, whatever the moment tells of that.
   pub record AllIsShown (m : Moment K V) (l : Logged K V S) (s : Scene K V) : Type 0 where
-    pub is_at : IsAt same hash l.executor s
+    pub is_at : IsThere same hash l.executor s
     pub shows : ShowsWhole same name m (known l.notes) s
     pub kept : ShowsKept name m (known l.notes) s
     pub numbered : AreNumbered m l
