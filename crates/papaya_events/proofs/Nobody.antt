@@ -4,9 +4,8 @@ use Rattle.std.proofs.Common.{refl, ap, sym, subst, ◌∙◌}
 use Rattle.papaya_folded.specs.Given.Runs.Same.{is_same}
 use Rattle.papaya_folded.specs.Given.Seize.World.{Rests, Use, IsOutside}
 use Rattle.papaya_folded.specs.Given.Callers.Together.{CameAbout, UnderWay}
-use Rattle.papaya_folded.specs.Given.Executor.IsAt.{IsUsedAs, Scene, use_at}
-use Rattle.papaya_folded.specs.Given.Executor.declared.row.SlotUse.{SlotUse}
-use Rattle.papaya_folded.specs.Given.Executor.declared.row.SlotUse.TheVariants as used
+use Rattle.papaya_folded.specs.Given.Scenes.declared.row.SlotUse.{SlotUse}
+use Rattle.papaya_folded.specs.Given.Scenes.declared.row.SlotUse.TheVariants as used
 use Rattle.papaya_folded.specs.Given.Runs.Present.{Present, guards_on, has_registration}
 use Rattle.papaya_folded.specs.Given.Runs.declared.holders.Guard.{Guard}
 use Rattle.papaya_folded.specs.Given.Schedules.After.{moment}
@@ -24,6 +23,8 @@ use Rattle.papaya_folded.specs.Given.Rows.Rows.{used_as}
 use Rattle.papaya_folded.proofs.Given.Rows.Facts.{row_rests}
 use Rattle.papaya_scheduler.specs.declared.scheduler.Scheduler.{Scheduler}
 use Rattle.papaya_events.specs.OfCalls.{Runs}
+use Rattle.papaya_folded.specs.Given.Executor.IsThere.{IsUsedAs, use_at}
+use Rattle.papaya_folded.specs.Given.Scenes.Scene.{Scene}
 
 both : (a b : Bool) → (a && b) ≡ true → (a ≡ true) × (b ≡ true)
 both true b is = (refl, is)

@@ -6,7 +6,6 @@ use Rattle.papaya_folded.specs.Given.Seize.World.{World}
 use Rattle.papaya_folded.specs.Given.Seize.declared.rows.reclaim_all.ReclaimAll.{ReclaimAll}
 use Rattle.papaya_folded.specs.Given.Seize.declared.rows.settle.Settled.TheVariants as settled
 use Rattle.papaya_folded.specs.Given.Tables.declared.node.Node.{Node}
-use Rattle.papaya_folded.specs.Given.Executor.IsAt.{Scene, IsAt}
 use Rattle.papaya_folded.specs.Given.Finishes.Makings.{IsFreeRoot}
 use Rattle.papaya_folded.specs.Given.SeizeWords.declared.fault.Fault.TheVariants.{Busy}
 use Rattle.papaya_folded.specs.Given.Schedules.declared.event.Event.{Event}
@@ -58,6 +57,8 @@ use Rattle.papaya_events.proofs.OfRows.Lone.{alone_follows}
 use Rattle.papaya_events.proofs.OfRows.Quiet.{IsStill, still_keeps}
 use Rattle.papaya_events.proofs.Reached.{reached_after}
 use Rattle.papaya_events.proofs.Remaining.{counted_in, gives_all as gives_all_in}
+use Rattle.papaya_folded.specs.Given.Executor.IsThere.{IsThere}
+use Rattle.papaya_folded.specs.Given.Scenes.Scene.{Scene}
 pub mod Chain
 pub mod Behind
 
@@ -193,7 +194,7 @@ module _ {K V S : Type 0} (same : K → K → Bool) (hash : K → ℕ) (terms : 
         (alone_follows same hash terms log old run event (speaks_of_none event of_all)) 0 first behind its_left.0 its_left.1 begins ran.3.0 to over y.chain last done played.steps played.effects.items refl
         (pairs right) right
 
-    there : IsAt same hash new.logged.executor last_scene
+    there : IsThere same hash new.logged.executor last_scene
     there = over_there same hash terms 0 mid end y.now y.scene y.lists y.under_way y.roots ran.5 done
 
     named : AreNamed name new.calls

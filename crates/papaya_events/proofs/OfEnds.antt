@@ -10,8 +10,6 @@ use Rattle.papaya_folded.specs.Given.Runs.Same.{is_same}
 use Rattle.papaya_folded.specs.Given.Tables.Chunks.{is_incremental}
 use Rattle.papaya_folded.specs.Given.Tables.declared.node.Node.{Node}
 use Rattle.papaya_folded.proofs.Given.Callers.Together.At.{at_other, at_same}
-use Rattle.papaya_folded.specs.Given.Executor.Ending.{EndingLeads, NoCallOn, ending_begun}
-use Rattle.papaya_folded.specs.Given.Executor.IsAt.{Scene, IsAt}
 use Rattle.papaya_folded.specs.Given.Executor.declared.executor.Executor.{Executor}
 use Rattle.papaya_folded.specs.Given.Finishes.Endings.{Finishing, finishing_of}
 use Rattle.papaya_folded.specs.Given.Finishes.FactsEnds.{taken_by as taken_of}
@@ -42,7 +40,6 @@ use Rattle.papaya_folded.specs.Given.Effects.Effects.{effects_of, known_after}
 use Rattle.papaya_folded.specs.Given.Effects.Known.{Known, known}
 use Rattle.papaya_folded.specs.Given.Effects.declared.acting.Acting.TheVariants as acts
 use Rattle.papaya_folded.specs.Given.Effects.declared.role.Role.TheVariants as role
-use Rattle.papaya_folded.proofs.Given.Executor.Fresh.{no_ending_yet}
 use Rattle.papaya_folded.proofs.Given.Legal.Heads.Chains.{endings_taken}
 use Rattle.papaya_folded.proofs.Given.Legal.Heads.Rows.{slots_stay}
 use Rattle.papaya_folded.specs.Given.Legal.CallEvents.{IsLegalBut}
@@ -78,6 +75,11 @@ use Rattle.papaya_events.proofs.OfRows.Over.{over_runs}
 use Rattle.papaya_events.proofs.OfRows.Chain.{come_as, come_by}
 use Rattle.papaya_events.proofs.OfRows.Lone.{alone_follows}
 use Rattle.papaya_events.proofs.OfRows.Quiet.{refused_still, still_keeps}
+use Rattle.papaya_folded.proofs.Given.Executor.Fresh.{no_ending_yet}
+use Rattle.papaya_folded.specs.Given.Executor.Ending.{EndsThere, NoCallOn}
+use Rattle.papaya_folded.specs.Given.Executor.IsThere.{IsThere}
+use Rattle.papaya_folded.specs.Given.Scenes.Ending.{ending_begun}
+use Rattle.papaya_folded.specs.Given.Scenes.Scene.{Scene}
 
 -- What an end does it may do: pairs end with their map, and then its tables.
 module _ {K V : Type 0} (own : List ℕ) (m : Moment K V) where
@@ -95,7 +97,7 @@ module _ {K V : Type 0} (own : List ℕ) (m : Moment K V) where
 -- By what a step of an end told: which maps stand then, and what goes on.
 module _ {K V S : Type 0} (same : K → K → Bool) (hash : K → ℕ) (s : Scene K V) (old new : Executor K V S) (i : ℕ) (f : Finishing K V) (here : s.enders i ≡ Some f) where
   abbrev Leads : Settled (Node K V) → Type 0
-  Leads said = EndingLeads same hash i said s old new
+  Leads said = EndsThere same hash i said s old new
 
   abbrev next_scene : (said : Settled (Node K V)) → Leads said → Scene K V
   next_scene said leads = ending_after same hash s new i f (leads f here).0 (leads f here).2.w2 (leads f here).2.deed said (leads f here).3
@@ -138,7 +140,7 @@ module _ {K V S : Type 0} (same : K → K → Bool) (hash : K → ℕ) (terms : 
     pub now : Moment K V
     pub scene : Scene K V
     pub chain : Chain (EndSteps same hash terms i map) n x (come_by f now scene)
-    pub is_at : IsAt same hash f.logged.executor scene
+    pub is_at : IsThere same hash f.logged.executor scene
     pub size : f.logged.executor.batch_size ≡ terms.batch_size
     pub midst : InEndEvent same name terms log (EndMap own) map (moment log) before i f.effects now (known f.logged.notes) scene
     pub made : now.made ≡ (moment log).made
@@ -151,7 +153,7 @@ module _ {K V S : Type 0} (same : K → K → Bool) (hash : K → ℕ) (terms : 
   IsUnder f s = (d : Finishing K V) × (s.enders i ≡ Some d) × NotesMap map number first d.setting d.chart d.blocks × NotedStill first (known f.logged.notes) d.back
 
   module _ (n : ℕ) (x : Come K V S) (mid to : Far K V S) (y : EndComes n x mid) (it : IsUnder mid y.scene) (step : EndGoes i map mid to) where
-    abbrev leads : EndingLeads same hash i step.said y.scene mid.logged.executor to.logged.executor
+    abbrev leads : EndsThere same hash i step.said y.scene mid.logged.executor to.logged.executor
     leads = step.leads same hash y.scene y.is_at
 
     abbrev step_did : List Effect
@@ -276,7 +278,7 @@ module _ {K V S : Type 0} (same : K → K → Bool) (hash : K → ℕ) (terms : 
     abbrev s1 : Scene K V
     s1 = ending_begun map i standing s
 
-    at1 : IsAt same hash d.began.executor s1
+    at1 : IsThere same hash d.began.executor s1
     at1 = (begun none_on).4.is_at
 
     yet : s.enders i ≡ None

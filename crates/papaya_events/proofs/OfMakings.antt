@@ -12,7 +12,6 @@ use Rattle.papaya_folded.specs.Given.Tables.Lengths.{places_for}
 use Rattle.papaya_folded.specs.Given.Tables.Powers.{floor_log2, next_power}
 use Rattle.papaya_folded.specs.Given.Tables.declared.setting.Setting.{Setting}
 use Rattle.papaya_folded.proofs.Given.Callers.Together.At.{at_same}
-use Rattle.papaya_folded.specs.Given.Executor.IsAt.{Scene, IsAt}
 use Rattle.papaya_folded.specs.Given.Executor.declared.executor.Executor.{Executor}
 use Rattle.papaya_folded.specs.Given.Finishes.Makings.{Beginning}
 use Rattle.papaya_folded.specs.Given.Finishes.Maps.{Standing}
@@ -80,6 +79,8 @@ use Rattle.papaya_events.proofs.OfRows.Over.{over_runs}
 use Rattle.papaya_events.proofs.OfRows.May.{all_by}
 use Rattle.papaya_events.proofs.OfRows.Quiet.{refused_still, still_keeps}
 use Rattle.papaya_events.proofs.Remaining.{nobody_makes}
+use Rattle.papaya_folded.specs.Given.Executor.IsThere.{IsThere}
+use Rattle.papaya_folded.specs.Given.Scenes.Scene.{Scene}
 pub mod Chain
 pub mod Begun
 pub mod Unmade
@@ -158,7 +159,7 @@ module _ {K V S : Type 0} (same : K → K → Bool) (hash : K → ℕ) (terms : 
     begins : MakingIsBegun same hash name m s d.given d.places i old.logged d.began
     begins = d.begins same hash name m s run.stands.shown
 
-    at1 : IsAt same hash d.began.executor s1
+    at1 : IsThere same hash d.began.executor s1
     at1 = (begun_shown run holds d).is_at
 
     map_is : b.map ≡ m.made
@@ -246,7 +247,7 @@ module _ {K V S : Type 0} (same : K → K → Bool) (hash : K → ℕ) (terms : 
         (come_by (far effects mid) y.now y.scene)) begins_so y.chain
 
     -- the executor has the settings that it had then
-    at_end : IsAt same hash new.logged.executor y.scene
+    at_end : IsThere same hash new.logged.executor y.scene
     at_end =
         with_maps same hash mid.executor new.logged.executor y.scene y.is_at d.gone.6 (λ n. ap (λ (xs : List (Option Setting)). slice_index_or xs n None) d.gone.7)
         (λ j c makes. subst (λ (n : ℕ). c.map < n) (sym (ap length d.gone.7)) (y.is_at.numbers j c makes))

@@ -6,15 +6,12 @@ use Rattle.papaya_folded.specs.Given.SeizeWords.Mem.{Mem}
 use Rattle.papaya_folded.specs.Given.Seize.World.{Begin, IsInside, Rests, SlotsTaken}
 use Rattle.papaya_folded.specs.Given.Seize.declared.rows.register.Registering.TheVariants as registering
 use Rattle.papaya_folded.specs.Given.Tables.declared.node.Node.{Node}
-use Rattle.papaya_folded.specs.Given.Executor.IsAt.{Scene, slot_of}
-use Rattle.papaya_folded.specs.Given.Executor.OnSlots.{MayBegin, RowBegins}
-use Rattle.papaya_folded.specs.Given.Executor.Rows.{request_of}
-use Rattle.papaya_folded.specs.Given.Executor.declared.row.RowTold.{RowTold}
-use Rattle.papaya_folded.specs.Given.Executor.declared.row.SlotCall.{SlotCall}
+use Rattle.papaya_folded.specs.Given.Scenes.declared.row.RowTold.{RowTold}
+use Rattle.papaya_folded.specs.Given.Scenes.declared.row.SlotCall.{SlotCall}
 use Rattle.papaya_folded.specs.Given.Others.Rows.{scene_then}
 use Rattle.papaya_folded.proofs.Given.Spots.Unreclaimed.{and_both, or_right}
 use Rattle.papaya_folded.specs.Given.SeizeWords.declared.fault.Fault.TheVariants.{Busy}
-use Rattle.papaya_folded.specs.Given.Executor.declared.row.SlotCall.TheVariants as call
+use Rattle.papaya_folded.specs.Given.Scenes.declared.row.SlotCall.TheVariants as call
 use Rattle.papaya_folded.specs.Given.Executor.declared.worker.Work.TheVariants.{OnSlot}
 use Rattle.papaya_folded.specs.Given.Runs.Present.{has_registration}
 use Rattle.papaya_folded.specs.Given.Schedules.declared.effect.Effect.{Effect}
@@ -36,8 +33,7 @@ use Rattle.papaya_folded.specs.Given.Runs.Present.{Present}
 use Rattle.papaya_folded.specs.Given.Schedules.Terms.{Terms}
 use Rattle.papaya_folded.specs.Given.Effects.Known.{known}
 use Rattle.papaya_folded.specs.Given.Effects.declared.notes.Notes.{Notes}
-use Rattle.papaya_folded.specs.Given.Executor.Rows.{begun_row}
-use Rattle.papaya_folded.specs.Given.Executor.declared.row.RowTold.TheVariants as told
+use Rattle.papaya_folded.specs.Given.Scenes.declared.row.RowTold.TheVariants as told
 use Rattle.papaya_folded.specs.Given.Promises.Others.{SparesGuards}
 use Rattle.papaya_folded.specs.Given.Promises.Protected.{is_of_slots, there_in}
 use Rattle.papaya_folded.specs.Given.Models.OnSlots.{IsRowFor}
@@ -74,6 +70,9 @@ use Rattle.papaya_events.proofs.OfRows.Facts.{RowFacts, facts}
 use Rattle.papaya_events.proofs.OfRows.Lone.{alone_follows}
 use Rattle.papaya_events.proofs.OfRows.May.{flush_inside, may_by}
 use Rattle.papaya_events.proofs.OfRows.Quiet.{none_still, refused_still, still_keeps}
+use Rattle.papaya_folded.specs.Given.Executor.OnSlots.{MayBegin, RowBeginsThere}
+use Rattle.papaya_folded.specs.Given.Scenes.Rows.{begun_row, request_of}
+use Rattle.papaya_folded.specs.Given.Scenes.Scene.{Scene, slot_of}
 pub mod Chain
 pub mod Over
 pub mod Facts
@@ -163,7 +162,7 @@ module _ {K V S : Type 0} (same : K → K → Bool) (hash : K → ℕ) (terms : 
     may : MayBegin old.logged.executor (slot_of ran.caller) called
     may = subst (λ (x : ℕ). MayBegin old.logged.executor x called) (sym ran.in_slot) f.may
 
-    abbrev leads : RowBegins same hash called ran.caller s old.logged.executor ran.began.executor
+    abbrev leads : RowBeginsThere same hash called ran.caller s old.logged.executor ran.began.executor
     leads = (ran.begins same hash name m s run.stands.shown may).0
 
     abbrev s1 : Scene K V
@@ -215,7 +214,7 @@ module _ {K V S : Type 0} (same : K → K → Bool) (hash : K → ℕ) (terms : 
     registers enters is =
         registers_need same hash terms m s old.logged.executor ran.caller enters (none_on_vacant same hash terms m old run.stands ran.caller) (known old.logged.notes) run.reached
         (λ x vacant. ap (λ (there : Present). least_free (used_slots there)) run.stands.there ∙ (first_is same hash terms m old run.stands x vacant).least) ran.began.executor run.stands.shown.is_at
-        (subst (λ (c : SlotCall). RowBegins same hash c ran.caller s old.logged.executor ran.began.executor) is leads) slots_noted ran.goes.0
+        (subst (λ (c : SlotCall). RowBeginsThere same hash c ran.caller s old.logged.executor ran.began.executor) is leads) slots_noted ran.goes.0
         (record { executor = ran.began.executor; did = []; now = m; notes = known old.logged.notes; scene = s1 }) (come_by (far played.effects.items new.logged) y.now y.scene) refl refl refl chain
 
     in_need : (c : SlotCall) → called ≡ c → list_all (may_row c) played.effects.items ≡ true → AtEachEffect AsksInNeed None None played.effects.items m

@@ -34,8 +34,7 @@ use Rattle.papaya_folded.specs.Given.Schedules.Moment.{Asking, IsReady, Moment, 
 use Rattle.papaya_folded.specs.Given.Schedules.Terms.{Terms}
 use Rattle.papaya_folded.specs.Given.Schedules.Views.{number_of}
 use Rattle.papaya_folded.specs.Given.Effects.Known.{Known, known}
-use Rattle.papaya_folded.specs.Given.Executor.IsAt.{use_at}
-use Rattle.papaya_folded.specs.Given.Executor.declared.row.SlotUse.TheVariants as used
+use Rattle.papaya_folded.specs.Given.Scenes.declared.row.SlotUse.TheVariants as used
 use Rattle.papaya_folded.specs.Given.Rows.Rows.{used_as}
 use Rattle.papaya_folded.proofs.Given.Rows.Facts.{used_once}
 use Rattle.papaya_folded.proofs.Given.Rows.InUse.{among_used, unused_by}
@@ -43,6 +42,7 @@ use Rattle.papaya_scheduler.specs.Played.{IsPlayed, StandsFor}
 use Rattle.papaya_scheduler.specs.declared.scheduler.Scheduler.{Scheduler}
 use Rattle.papaya_works.specs.Needs.{AreReached}
 use Rattle.papaya_works.proofs.Reached.{reached_still}
+use Rattle.papaya_folded.specs.Given.Executor.IsThere.{use_at}
 
 -- who is there now uses the slot
 or_so : (b c : Bool) → c ≡ true → (b || c) ≡ true

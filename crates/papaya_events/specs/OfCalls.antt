@@ -21,8 +21,6 @@ use Rattle.papaya_folded.specs.Given.Callers.Together.{UnderWay}
 use Rattle.papaya_folded.specs.Given.Effects.Effects.{known_after}
 use Rattle.papaya_folded.specs.Given.Effects.Known.{Known, known}
 use Rattle.papaya_folded.specs.Given.Effects.declared.acting.Acting.TheVariants as acts
-use Rattle.papaya_folded.specs.Given.Executor.IsAt.{Scene, IsAt}
-use Rattle.papaya_folded.specs.Given.Executor.Stepping.{StepLeads}
 use Rattle.papaya_folded.specs.Given.Executor.declared.executor.Executor.{Executor}
 use Rattle.papaya_folded.specs.Given.Histories.InEvent.{ComesSo}
 use Rattle.papaya_folded.specs.Given.Finishes.Machines.{machine_of}
@@ -41,6 +39,9 @@ use Rattle.papaya_scheduler.specs.declared.scheduler.Scheduler.{Scheduler}
 use Rattle.papaya_stepping.specs.Stepping.{ComesAs, outcome_of}
 use Rattle.papaya_works.specs.Needs.{AreReached}
 use Rattle.papaya_events.specs.Asked.{FindsRight, is_of_calls}
+use Rattle.papaya_folded.specs.Given.Executor.IsThere.{IsThere}
+use Rattle.papaya_folded.specs.Given.Executor.Stepping.{StepsThere}
+use Rattle.papaya_folded.specs.Given.Scenes.Scene.{Scene}
 
 -- each map has as many shards as the terms say
 abbrev pub HaveShards : {K V S : Type 0} → Terms → Executor K V S → Type 0
@@ -85,7 +86,7 @@ module _ (K V S : Type 0) (same : K → K → Bool) (hash : K → ℕ) where
   LastStepsTell =
       (name : ℕ → List ℕ) (terms : Terms) (log : List (Entry K V)) (event : Event K V) (beginning : Moment K V) (map i : ℕ) (c : CallThere K V) (steps : ℕ) (done : List Effect) (m : Moment K V) (known : Known)
       (s : Scene K V) (u : UnderWay K V K) → InCallEvent same name terms log event beginning map i c steps done m known s u
-      → (old new : Executor K V S) → IsAt same hash old s → (said : Progress (Node K V)) → StepLeads same hash i said s old new
+      → (old new : Executor K V S) → IsThere same hash old s → (said : Progress (Node K V)) → StepsThere same hash i said s old new
       → (d : CallThere K V) → call_of (name i) m ≡ Some d → d.call ≡ c.call → d.replies ≡ c.replies → (value : Option V)
       → (let known2 = known_after (acts.Call i map) new.memory.changed known in
       let told = outcome_of known2 (kind_of c.call) value said in

@@ -16,9 +16,7 @@ use Rattle.papaya_legal.specs.Given.Effects.Effects.{effects_of}
 use Rattle.papaya_legal.specs.Given.Effects.declared.acting.Acting.TheVariants as acts
 use Rattle.papaya_legal.specs.Given.Callers.Together.{UnderWay}
 use Rattle.papaya_legal.specs.Given.Effects.Known.{Known}
-use Rattle.papaya_legal.specs.Given.Executor.IsAt.{IsAt, Scene}
 use Rattle.papaya_legal.specs.Given.Moments.Whole.{ShowsWhole}
-use Rattle.papaya_legal.specs.Given.Executor.Stepping.{StepLeads}
 use Rattle.papaya_legal.specs.Given.Executor.declared.executor.Executor.{Executor}
 use Rattle.papaya_legal.specs.Given.Histories.InEvent.{here_of}
 use Rattle.papaya_legal.specs.Given.Settles.Hand.{in_hand}
@@ -33,6 +31,9 @@ use Rattle.papaya_legal.proofs.Chains.{chains_keep}
 use Rattle.papaya_legal.proofs.Slots.{each_join}
 use Rattle.papaya_folded.specs.Folded.{HandInOrder, HandsInOrder, IsOwedFirst, handed_in}
 use Rattle.papaya_folded.specs.Steps.{CallEventsHandInOrder, StepsHandInOrder}
+use Rattle.papaya_legal.specs.Given.Executor.IsThere.{IsThere}
+use Rattle.papaya_legal.specs.Given.Executor.Stepping.{StepsThere}
+use Rattle.papaya_legal.specs.Given.Scenes.Scene.{Scene}
 
 -- what leaves all that is owed hands nothing over
 none_in : (f : Effect) → leaves_owed f ≡ true → handed_in f ≡ []
@@ -106,8 +107,8 @@ module _ (K V S : Type 0) (same : K → K → Bool) (hash : K → ℕ) where
       in_order (name i) (Some map) effects m c.0 c.1 then_in_hand (subst (λ (l : List Thing). OwesGo m effects l then_in_hand) (sym (kept.owed.owed map i u here c.0 c.1)) goes.0)
 
   -- so they do behind what an event has done so far
-  pub more_in_order : (name : ℕ → List ℕ) (m : Moment K V) (known : Known) (s : Scene K V) (old new : Executor K V S) → IsAt same hash old s → ShowsWhole same name m known s → ShowsKept name m known s
-      → (map i : ℕ) (u : UnderWay K V K) → s.calls map i ≡ Some u → (said : Progress (Node K V)) → StepLeads same hash i said s old new
+  pub more_in_order : (name : ℕ → List ℕ) (m : Moment K V) (known : Known) (s : Scene K V) (old new : Executor K V S) → IsThere same hash old s → ShowsWhole same name m known s → ShowsKept name m known s
+      → (map i : ℕ) (u : UnderWay K V K) → s.calls map i ≡ Some u → (said : Progress (Node K V)) → StepsThere same hash i said s old new
       → (done : List Effect) (beginning : Moment K V) → m ≡ with_effects (Some (name i)) (Some map) done beginning → HandInOrder (Some (name i)) (Some map) done beginning
       → HandInOrder (Some (name i)) (Some map) (done ++ effects_of (acts.Call i map) known new.memory.changed) beginning
   more_in_order name m known s old new at whole kept map i u here said leads done beginning so hands =
@@ -128,8 +129,8 @@ module _ (K V S : Type 0) (same : K → K → Bool) (hash : K → ℕ) where
       its_here : (x : CallCome K V S) → SoFar x → x.come.scene.calls map i ≡ Some x.under
       its_here x so_far = here_of same name log beginning map i c x.come.did x.come.now x.come.notes x.come.scene x.under so_far.0.event_so
 
-      after_one : (x : CallCome K V S) → SoFar x → (then_executor : Executor K V S) (told : Progress (Node K V)) → IsAt same hash x.come.executor x.come.scene
-          → StepLeads same hash i told x.come.scene x.come.executor then_executor
+      after_one : (x : CallCome K V S) → SoFar x → (then_executor : Executor K V S) (told : Progress (Node K V)) → IsThere same hash x.come.executor x.come.scene
+          → StepsThere same hash i told x.come.scene x.come.executor then_executor
           → HandInOrder (Some (name i)) (Some map) (x.come.did ++ effects_of (acts.Call i map) x.come.notes then_executor.memory.changed) beginning
       after_one x so_far then_executor told at_x leads_x =
           more_in_order name x.come.now x.come.notes x.come.scene x.come.executor then_executor at_x so_far.0.calls.whole so_far.0.calls.kept map i x.under (its_here x so_far) told leads_x x.come.did beginning

@@ -24,7 +24,6 @@ use Rattle.papaya_grows.specs.Given.Schedules.Terms.{Terms}
 use Rattle.papaya_grows.specs.Given.Schedules.Views.{call_of}
 use Rattle.papaya_grows.specs.Given.Callers.Together.{UnderWay}
 use Rattle.papaya_grows.specs.Given.Effects.Known.{Known}
-use Rattle.papaya_grows.specs.Given.Executor.IsAt.{IsAt, Scene}
 use Rattle.papaya_grows.specs.Given.Executor.declared.executor.Executor.{Executor}
 use Rattle.papaya_grows.specs.Given.Finishes.Machines.{machine_of}
 use Rattle.papaya_grows.proofs.Given.Histories.NoKey.Idle.{idle_are_linearizable}
@@ -46,6 +45,8 @@ use Rattle.papaya_legal.specs.Over.{AgainEventsEnd, GoesOnBy, IsSaidSo}
 use Rattle.papaya_legal.proofs.CallLeaves.{none_asked}
 use Rattle.papaya_legal.proofs.Idle.{still_events_are_legal}
 use Rattle.papaya_legal.proofs.Over.{quiet_events_end}
+use Rattle.papaya_grows.specs.Given.Executor.IsThere.{IsThere}
+use Rattle.papaya_grows.specs.Given.Scenes.Scene.{Scene}
 
 module _ {K V : Type 0} where
   -- a call that says again how far it is has changed nothing, and is as it was
@@ -96,7 +97,7 @@ module _ {K V : Type 0} (same : K → K → Bool) where
   asks_none c moments outcome.Ready so = subst (λ (stands : Stands). AsksRight same stands c moments outcome.Ready) (sym so) tt
   asks_none c moments _ so = absurd so
 
-module _ (K V S : Type 0) (same : K → K → Bool) (hash : K → ℕ) (name : ℕ → List ℕ) (terms : Terms) (log : List (Entry K V)) (known : Known) (s : Scene K V) (x : Executor K V S) (at : IsAt same hash x s)
+module _ (K V S : Type 0) (same : K → K → Bool) (hash : K → ℕ) (name : ℕ → List ℕ) (terms : Terms) (log : List (Entry K V)) (known : Known) (s : Scene K V) (x : Executor K V S) (at : IsThere same hash x s)
     (run : ShowsRun same name terms log known s) (map i : ℕ) (u : UnderWay K V K) (here : s.calls map i ≡ Some u) (c : CallThere K V) (c_is : call_of (name i) (moment log) ≡ Some c) where
   abbrev m : Moment K V
   m = moment log

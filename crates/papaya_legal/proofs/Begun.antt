@@ -17,8 +17,6 @@ use Rattle.papaya_grows.specs.Given.Tables.Chunks.{is_incremental}
 use Rattle.papaya_grows.specs.Given.Schedules.After.{moments_from}
 use Rattle.papaya_grows.specs.Given.Rule.Chart.{Chart}
 use Rattle.papaya_grows.specs.Given.Callers.Together.{UnderWay, OnKey, ForRoom, Counting, OverAll}
-use Rattle.papaya_grows.specs.Given.Executor.IsAt.{Scene}
-use Rattle.papaya_grows.specs.Given.Executor.Replying.{scene_with, unless_stopped}
 use Rattle.papaya_grows.specs.Given.Finishes.Machines.{machine_of}
 use Rattle.papaya_grows.specs.Given.Finishes.Maps.{with_call as with_call_of}
 use Rattle.papaya_grows.specs.Given.Follows.Calling.{told}
@@ -42,6 +40,8 @@ use Rattle.papaya_legal.proofs.Between.{calls_begin, calls_take, walks_stop}
 use Rattle.papaya_legal.proofs.Idle.{idle_events_are_legal}
 use Rattle.papaya_legal.proofs.Maps.{stands_so}
 use Rattle.papaya_legal.proofs.Over.{quiet_events_end}
+use Rattle.papaya_grows.specs.Given.Scenes.Replying.{scene_with, unless_stopped}
+use Rattle.papaya_grows.specs.Given.Scenes.Scene.{Scene}
 
 module _ (K V S : Type 0) (same : K → K → Bool) (hash : K → ℕ) where
   pub begun_events_end : BegunEventsEnd K V S same hash

@@ -18,9 +18,6 @@ use Rattle.papaya_grows.specs.Given.Callers.OverAll.{CallOverAll, gone_on}
 use Rattle.papaya_grows.specs.Given.Callers.Rooms.{CallForRoom}
 use Rattle.papaya_grows.specs.Given.Callers.Together.{UnderWay, CallOnKey, OnKey, ForRoom, Counting, OverAll}
 use Rattle.papaya_grows.specs.Given.Effects.Known.{Known}
-use Rattle.papaya_grows.specs.Given.Executor.Beginning.{Begins}
-use Rattle.papaya_grows.specs.Given.Executor.IsAt.{Scene, HasCall}
-use Rattle.papaya_grows.specs.Given.Executor.Replying.{scene_with, unless_stopped}
 use Rattle.papaya_grows.specs.Given.Finishes.Machines.{machine_of}
 use Rattle.papaya_grows.specs.Given.Finishes.Maps.{Standing, with_call as with_call_of}
 use Rattle.papaya_grows.specs.Given.Follows.Calling.{NoneNamed, told}
@@ -71,6 +68,9 @@ use Rattle.papaya_grows.proofs.Tries.Shows.{calls_begin_tries, calls_take_tries,
 use Rattle.papaya_grows.proofs.Finding.Nexts.{calls_begin_nexts, calls_take_nexts, nexts_grow, walks_go_on_nexts, walks_stop_nexts}
 use Rattle.papaya_grows.proofs.Finding.Making.Between.{calls_begin_further, calls_take_further, walks_go_on_further}
 use Rattle.papaya_grows.proofs.Finding.Between.{asked_same, fewer_calls, none_at_first, puts_begun, puts_on, replied_same, waits_on}
+use Rattle.papaya_grows.specs.Given.Scenes.Beginning.{Begins}
+use Rattle.papaya_grows.specs.Given.Scenes.Replying.{scene_with, unless_stopped}
+use Rattle.papaya_grows.specs.Given.Scenes.Scene.{HasCall, Scene}
 
 pub likes_show : (K V : Type 0) (same : K → K → Bool) → LikesShow K V same
 likes_show K V same name log m v known s all like = subst (λ (x : Moment K V). ShowsCalls same name log x known s) (sym like) (record {

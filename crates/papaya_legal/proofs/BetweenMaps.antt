@@ -5,7 +5,6 @@ use Rattle.papaya_grows.specs.Given.Seize.World.{with_at}
 use Rattle.papaya_grows.specs.Given.Runs.Same.{is_same}
 use Rattle.papaya_grows.specs.Given.Schedules.Beginning.{with_map}
 use Rattle.papaya_grows.specs.Given.Schedules.Views.{map_at}
-use Rattle.papaya_grows.specs.Given.Executor.Ending.{ending_begun}
 use Rattle.papaya_grows.specs.Given.Finishes.Maps.{Standing}
 use Rattle.papaya_grows.specs.Given.Others.Endings.{without_map}
 use Rattle.papaya_grows.proofs.Given.Moments.Ends.{endings_begin_whole}
@@ -28,6 +27,7 @@ use Rattle.papaya_grows.proofs.Limits.Shows.{limits_where}
 use Rattle.papaya_grows.proofs.Tries.Shows.{tries_where}
 use Rattle.papaya_grows.proofs.Finding.Nexts.{nexts_where}
 use Rattle.papaya_grows.proofs.Finding.Between.{finding_where, found_beside, found_kept}
+use Rattle.papaya_grows.specs.Given.Scenes.Ending.{ending_begun}
 
 module _ (K V S : Type 0) (same : K → K → Bool) (hash : K → ℕ) where
   pub maps_come : MapsCome K V S same hash

@@ -14,8 +14,6 @@ use Rattle.papaya_grows.specs.Given.Callers.OverAll.{CallOverAll, gone_on}
 use Rattle.papaya_grows.specs.Given.Callers.Together.{UnderWay, OverAll}
 use Rattle.papaya_grows.proofs.Given.Callers.Together.At.{at_same}
 use Rattle.papaya_grows.specs.Given.Sweeps.SweepPoints.{after_next}
-use Rattle.papaya_grows.specs.Given.Executor.IsAt.{Scene}
-use Rattle.papaya_grows.specs.Given.Executor.Replying.{scene_with}
 use Rattle.papaya_grows.specs.Given.Follows.Calls.{IsCalled}
 use Rattle.papaya_grows.proofs.Given.Follows.Calling.{is_same_refl}
 use Rattle.papaya_grows.proofs.Given.Follows.Steps.{one_of}
@@ -29,6 +27,8 @@ use Rattle.papaya_legal.specs.Carried.{ShowsCalls}
 use Rattle.papaya_legal.proofs.Between.{calls_begin, walks_go_on}
 use Rattle.papaya_legal.proofs.Calls.{call_events_begin_so}
 use Rattle.papaya_legal.proofs.Maps.{stands_so}
+use Rattle.papaya_grows.specs.Given.Scenes.Replying.{scene_with}
+use Rattle.papaya_grows.specs.Given.Scenes.Scene.{Scene}
 
 -- what a caller has under way is there on its map
 pub now_there : {K V : Type 0} (s : Scene K V) (map i : ℕ) (u : UnderWay K V K) → (scene_with map i u s).calls map i ≡ Some u

@@ -14,7 +14,6 @@ use Rattle.papaya_grows.specs.Given.Schedules.Terms.{Terms}
 use Rattle.papaya_grows.specs.Given.Effects.Effects.{effects_of, known_after}
 use Rattle.papaya_grows.specs.Given.Effects.Known.{Known}
 use Rattle.papaya_grows.specs.Given.Effects.declared.acting.Acting.TheVariants as acts
-use Rattle.papaya_grows.specs.Given.Executor.IsAt.{slot_of}
 use Rattle.papaya_grows.specs.Given.Histories.InEvent.{here_of}
 use Rattle.papaya_grows.proofs.Given.Histories.AnyCall.InEvent.{events_keep_all}
 use Rattle.papaya_promises.specs.Protected.{is_of_slots}
@@ -25,6 +24,7 @@ use Rattle.papaya_models.proofs.MapEvents.{moments_note_once}
 use Rattle.papaya_legal.specs.CallEvents.{CallEventsFollow}
 use Rattle.papaya_legal.specs.Carried.{ComesAlone, FollowsOrRows}
 use Rattle.papaya_legal.proofs.Calls.{out_of_slots}
+use Rattle.papaya_grows.specs.Given.Scenes.Scene.{slot_of}
 
 -- an event that is none of a slot is no row on one
 pub of_no_slot : {K V : Type 0} (event : Event K V) → is_of_slots event ≡ false → IsOfNoSlot event

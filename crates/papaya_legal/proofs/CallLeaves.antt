@@ -21,10 +21,6 @@ use Rattle.papaya_grows.specs.Given.Callers.Together.{UnderWay}
 use Rattle.papaya_grows.specs.Given.Effects.Effects.{effects_of, known_after}
 use Rattle.papaya_grows.specs.Given.Effects.Known.{Known}
 use Rattle.papaya_grows.specs.Given.Effects.declared.acting.Acting.TheVariants as acts
-use Rattle.papaya_grows.specs.Given.Executor.IsAt.{Scene}
-use Rattle.papaya_grows.specs.Given.Executor.Stepping.{has_ended, scene_after}
-use Rattle.papaya_grows.proofs.Given.Executor.Places.{none_of}
-use Rattle.papaya_grows.proofs.Given.Executor.Steps.{goes_as}
 use Rattle.papaya_grows.specs.Given.Finishes.Machines.{machine_of}
 use Rattle.papaya_grows.specs.Given.Kept.Kept.{ShowsKept}
 use Rattle.papaya_grows.proofs.Given.Kept.Calls.{calls_keep_kept, own_made}
@@ -38,6 +34,10 @@ use Rattle.papaya_grows.proofs.Given.Settles.Calls.{calls_keep_counts}
 use Rattle.papaya_grows.proofs.Given.Settles.Hand.Asked.{walks_have_nothing}
 use Rattle.papaya_grows.proofs.Given.Settles.Hand.Calls.{calls_keep_owed}
 use Rattle.papaya_legal.specs.CallRuns.{CallsLeaveNothing, TellsEnd}
+use Rattle.papaya_grows.proofs.Given.Executor.Places.{none_of}
+use Rattle.papaya_grows.proofs.Given.Scenes.Goes.{goes_as}
+use Rattle.papaya_grows.specs.Given.Scenes.Scene.{Scene}
+use Rattle.papaya_grows.specs.Given.Scenes.Stepping.{has_ended, scene_after}
 
 -- a walk that is ready has nothing to count
 none_ready : (p : Sweeping) → is_ready p ≡ true → counts_in_sweeping p ≡ false

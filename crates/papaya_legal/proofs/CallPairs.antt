@@ -15,8 +15,6 @@ use Rattle.papaya_grows.specs.Given.Callers.Together.{UnderWay, OnKey, ForRoom, 
 use Rattle.papaya_grows.specs.Given.Effects.Effects.{effects_of, known_after}
 use Rattle.papaya_grows.specs.Given.Effects.Known.{Known}
 use Rattle.papaya_grows.specs.Given.Effects.declared.acting.Acting.TheVariants as acts
-use Rattle.papaya_grows.specs.Given.Executor.IsAt.{Scene, IsAt}
-use Rattle.papaya_grows.specs.Given.Executor.Stepping.{StepLeads, scene_after}
 use Rattle.papaya_grows.specs.Given.Executor.declared.executor.Executor.{Executor}
 use Rattle.papaya_grows.specs.Given.Finishes.Maps.{Standing}
 use Rattle.papaya_grows.proofs.Given.Follows.Contents.{lasts_more}
@@ -34,15 +32,19 @@ use Rattle.papaya_grows.proofs.Given.Histories.Retaining.{found_there}
 use Rattle.papaya_grows.specs.Given.Purposes.Kept.{NoneCame, PairsChangeFirst}
 use Rattle.papaya_legal.specs.CallEvents.{EachIsItsOwn}
 use Rattle.papaya_legal.proofs.CallChanges.{changes_first}
+use Rattle.papaya_grows.specs.Given.Executor.IsThere.{IsThere}
+use Rattle.papaya_grows.specs.Given.Executor.Stepping.{StepsThere}
+use Rattle.papaya_grows.specs.Given.Scenes.Scene.{Scene}
+use Rattle.papaya_grows.specs.Given.Scenes.Stepping.{scene_after}
 
 -- so it is at a moment that shows the map
-pub each_is_its_own : {K V S : Type 0} (same : K → K → Bool) (hash : K → ℕ) (name : ℕ → List ℕ) (m : Moment K V) (known : Known) (s : Scene K V) (e : Executor K V S) → IsAt same hash e s
+pub each_is_its_own : {K V S : Type 0} (same : K → K → Bool) (hash : K → ℕ) (name : ℕ → List ℕ) (m : Moment K V) (known : Known) (s : Scene K V) (e : Executor K V S) → IsThere same hash e s
     → ShowsWhole same name m known s → (map : ℕ) (st : Standing K) → s.maps map ≡ Some st → EachIsItsOwn same map m
 each_is_its_own same hash name m known s e at whole map st there q is =
     let number = whole.all.shown.number map in
     let pairs = (whole.all.shown.maps map st there).pairs in
-    let lawful = (at.together.makings.standing.fit map st there).0 in
-    let each = at.together.makings.standing.each map st there in
+    let lawful = (at.held.together.makings.standing.fit map st there).0 in
+    let each = at.held.together.makings.standing.each map st there in
     let it = pairs.all q (in_map_true map (m.place q) is) in
     let current : st.chart.current it.0 ≡ true = sym (pairs.here it.0 it.1) ∙ ap (λ (x : ℕ). is_in_map map (m.place x)) (sym it.2) ∙ is in
     let pair = pair_is same map number st m known s.world (s.calls map) lawful each pairs whole.all.shown.blocks it.0 current in
@@ -71,7 +73,7 @@ module _ {K V : Type 0} (caller : Option (List ℕ)) (acted : Option ℕ) where
   stored_lasts (f ∷ effects) m n p is = stored_lasts effects (with_effect caller acted f m) n p (one_lasts (acting caller m) f m.stored n p is)
 
 module _ {K V S : Type 0} (same : K → K → Bool) (hash : K → ℕ) (name : ℕ → List ℕ) (log : List (Entry K V)) (beginning : Moment K V) (map i : ℕ) (c : CallThere K V) (done : List Effect) (m : Moment K V)
-    (known : Known) (s : Scene K V) (whole : ShowsWhole same name m known s) (old new : Executor K V S) (at : IsAt same hash old s) (said : Progress (Node K V)) (leads : StepLeads same hash i said s old new)
+    (known : Known) (s : Scene K V) (whole : ShowsWhole same name m known s) (old new : Executor K V S) (at : IsThere same hash old s) (said : Progress (Node K V)) (leads : StepsThere same hash i said s old new)
     (u : UnderWay K V K) (midst : InEvent same name log beginning map i c done m known s u) (begun : HasJustBegun log beginning) (its_worked : m ≡ with_effects (Some (name i)) (Some map) done beginning)
     (own_first : EachIsItsOwn same map (moment log)) where
   abbrev here : s.calls map i ≡ Some u

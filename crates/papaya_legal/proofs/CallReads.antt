@@ -22,8 +22,6 @@ use Rattle.papaya_grows.specs.Given.Callers.Together.{UnderWay, OnKey, ForRoom, 
 use Rattle.papaya_grows.specs.Given.Effects.Effects.{effects_of}
 use Rattle.papaya_grows.specs.Given.Effects.Known.{Known}
 use Rattle.papaya_grows.specs.Given.Effects.declared.acting.Acting.TheVariants as acts
-use Rattle.papaya_grows.specs.Given.Executor.IsAt.{Scene, IsAt}
-use Rattle.papaya_grows.specs.Given.Executor.Stepping.{StepLeads, scene_after}
 use Rattle.papaya_grows.specs.Given.Executor.declared.executor.Executor.{Executor}
 use Rattle.papaya_grows.proofs.Given.Follows.Steps.{one_of}
 use Rattle.papaya_grows.proofs.Given.Moments.After.{effects_after}
@@ -35,6 +33,10 @@ use Rattle.papaya_promises.proofs.Brief.Meanwhile.{effects_steps, others_keep_re
 use Rattle.papaya_promises.proofs.Brief.Own.{lookups_do_nothing}
 use Rattle.papaya_promises.proofs.Brief.Steps.{lookups_keep_readings}
 use Rattle.papaya_legal.specs.CallEvents.{InCallEvent}
+use Rattle.papaya_grows.specs.Given.Executor.IsThere.{IsThere}
+use Rattle.papaya_grows.specs.Given.Executor.Stepping.{StepsThere}
+use Rattle.papaya_grows.specs.Given.Scenes.Scene.{Scene}
+use Rattle.papaya_grows.specs.Given.Scenes.Stepping.{scene_after}
 
 -- the call of the event is there still, as it was
 module _ {K V : Type 0} (same : K → K → Bool) (name : ℕ → List ℕ) (log : List (Entry K V)) (beginning : Moment K V) (map i : ℕ) (c : CallThere K V) (done : List Effect) (m : Moment K V) (known : Known)
@@ -67,7 +69,7 @@ brief_else call.Walk c moments m steps no_look = tt
 
 module _ (K V S : Type 0) (same : K → K → Bool) (hash : K → ℕ) (name : ℕ → List ℕ) (terms : Terms) (log : List (Entry K V)) (event : Event K V) (beginning : Moment K V) (map i : ℕ) (c : CallThere K V)
     (steps : ℕ) (done : List Effect) (m : Moment K V) (known : Known) (s : Scene K V) (u : UnderWay K V K) (midst : InCallEvent same name terms log event beginning map i c steps done m known s u)
-    (old new : Executor K V S) (at_old : IsAt same hash old s) (said : Progress (Node K V)) (leads : StepLeads same hash i said s old new) where
+    (old new : Executor K V S) (at_old : IsThere same hash old s) (said : Progress (Node K V)) (leads : StepsThere same hash i said s old new) where
   abbrev here : s.calls map i ≡ Some u
   here = here_of same name log beginning map i c done m known s u midst.event_so
 
@@ -132,7 +134,7 @@ module _ (K V S : Type 0) (same : K → K → Bool) (hash : K → ℕ) (name : �
 module _ (K V S : Type 0) (same : K → K → Bool) (hash : K → ℕ) (name : ℕ → List ℕ) (terms : Terms) (log : List (Entry K V)) (beginning : Moment K V) (map i : ℕ) (c : CallThere K V)
     (steps : ℕ) (done : List Effect) (m : Moment K V) (known : Known) (s : Scene K V) (u : UnderWay K V K) (e : Entry K V)
     (midst : InCallEvent same name terms log e.event beginning map i c steps done m known s u)
-    (old new : Executor K V S) (at_old : IsAt same hash old s) (said : Progress (Node K V)) (leads : StepLeads same hash i said s old new) where
+    (old new : Executor K V S) (at_old : IsThere same hash old s) (said : Progress (Node K V)) (leads : StepsThere same hash i said s old new) where
   abbrev had : s.calls map i ≡ Some u
   had = here_of same name log beginning map i c done m known s u midst.event_so
 

@@ -21,8 +21,6 @@ use Rattle.papaya_grows.specs.Given.Callers.Together.{UnderWay}
 use Rattle.papaya_grows.specs.Given.Effects.Effects.{effects_of, known_after}
 use Rattle.papaya_grows.specs.Given.Effects.Known.{Known}
 use Rattle.papaya_grows.specs.Given.Effects.declared.acting.Acting.TheVariants as acts
-use Rattle.papaya_grows.specs.Given.Executor.IsAt.{Scene}
-use Rattle.papaya_grows.specs.Given.Executor.Stepping.{StepLeads, scene_after}
 use Rattle.papaya_grows.specs.Given.Follows.Calling.{NoneNamed, come_to}
 use Rattle.papaya_grows.proofs.Given.Follows.Calling.{is_same_refl}
 use Rattle.papaya_grows.proofs.Given.Hands.Asking.{which}
@@ -55,6 +53,9 @@ use Rattle.papaya_legal.proofs.CallPairs.{begun_so, pairs_first}
 use Rattle.papaya_legal.proofs.CallReads.{readings_go_on}
 use Rattle.papaya_legal.proofs.CallsAfter.{call_events_end_so}
 use Rattle.papaya_legal.proofs.CallsEnd.{call_events_are_legal}
+use Rattle.papaya_grows.specs.Given.Executor.Stepping.{StepsThere}
+use Rattle.papaya_grows.specs.Given.Scenes.Scene.{Scene}
+use Rattle.papaya_grows.specs.Given.Scenes.Stepping.{scene_after}
 
 module _ {K V : Type 0} (own : List ℕ) where
   -- what calls have asked is so where such an event has begun what it begins
@@ -147,9 +148,9 @@ call_events_run K V S same hash name terms log beginning map i c c_is first befo
     purposes (inr (word, q, said_is, outcome_is, names)) = subst (λ (o : Outcome V). ShowsPurposes same name log (come_to (name i) o e.steps v) then_known s2) (sym outcome_is)
         (shown_by said said_is leads)
       where
-        shown_by : (told : Progress (Node K V)) → told ≡ progress.Pair word → (led : StepLeads same hash i told s old new)
+        shown_by : (told : Progress (Node K V)) → told ≡ progress.Pair word → (led : StepsThere same hash i told s old new)
             → ShowsPurposes same name log (come_to (name i) (outcome.Shows q) e.steps v) then_known (scene_after same hash s old new map i (led map u here).0 u (led map u here).1 told (led map u here).4)
-        shown_by told is = subst (λ (x : Progress (Node K V)). (led : StepLeads same hash i x s old new)
+        shown_by told is = subst (λ (x : Progress (Node K V)). (led : StepsThere same hash i x s old new)
             → ShowsPurposes same name log (come_to (name i) (outcome.Shows q) e.steps v) then_known (scene_after same hash s old new map i (led map u here).0 u (led map u here).1 x (led map u here).4)) (sym is)
             (λ led. walks_show_purposes K V S same hash name log m known s old new at whole midst.calls.purposes map i u here word led pairs
             (changes_first same hash name log beginning map i c done m known s old new at (progress.Pair word) led u midst.event_so) q e.steps names)

@@ -17,7 +17,6 @@ use Rattle.papaya_grows.specs.Given.Callers.Together.{UnderWay, OnKey, ForRoom, 
 use Rattle.papaya_grows.specs.Given.Effects.Effects.{effects_of, known_after}
 use Rattle.papaya_grows.specs.Given.Effects.Known.{Known}
 use Rattle.papaya_grows.specs.Given.Effects.declared.acting.Acting.TheVariants as acts
-use Rattle.papaya_grows.specs.Given.Executor.Stepping.{StepLeads}
 use Rattle.papaya_grows.specs.Given.Moments.Whole.{ShowsWhole}
 use Rattle.papaya_grows.proofs.Given.Moments.After.{effects_after}
 use Rattle.papaya_grows.specs.Given.Histories.InEvent.{InEvent, here_of}
@@ -36,6 +35,7 @@ use Rattle.papaya_legal.specs.CallSwept.{CallsAreSwept, TellsOf}
 use Rattle.papaya_legal.proofs.CallChanges.{reads_shards}
 use Rattle.papaya_legal.proofs.CallPairs.{begun_so, none_comes, pairs_first}
 use Rattle.papaya_legal.proofs.CallReads.{there_still}
+use Rattle.papaya_grows.specs.Given.Executor.Stepping.{StepsThere}
 
 pub calls_are_swept : (K V S : Type 0) (same : K → K → Bool) (hash : K → ℕ) → CallsAreSwept K V S same hash
 calls_are_swept K V S same hash name terms log beginning map i c steps done m known s u e midst old new at said leads begins acted effects_are mask tells = by c.call refl tells
@@ -106,4 +106,4 @@ calls_are_swept K V S same hash name terms log beginning map i c steps done m kn
           midst.worked midst.its_own (fewer u midst.event_so is),
     ) (subst Told told_is told) terms mask e midst.of_call worked_is told_is
     by Walk is (inr (inr (told_is, said_is, loses))) = walks_show_all K V S same hash name log m known s old new at whole midst.calls.purposes map i u here
-        (subst (λ (x : Progress (Node K V)). StepLeads same hash i x s old new) said_is leads) its.0 its.1 (its.2.call ∙ is) loses terms e midst.of_call worked_is told_is
+        (subst (λ (x : Progress (Node K V)). StepsThere same hash i x s old new) said_is leads) its.0 its.1 (its.2.call ∙ is) loses terms e midst.of_call worked_is told_is

@@ -16,8 +16,6 @@ use Rattle.papaya_grows.specs.Given.Schedules.Effects.{with_effects, AtEachEffec
 use Rattle.papaya_grows.specs.Given.Schedules.Entry.{caller_of, speaker}
 use Rattle.papaya_grows.specs.Given.Schedules.Model.{sets_in, things_in}
 use Rattle.papaya_grows.specs.Given.Schedules.Moment.{Moment}
-use Rattle.papaya_grows.specs.Given.Executor.IsAt.{Scene, slot_of}
-use Rattle.papaya_grows.specs.Given.Executor.Stepping.{scene_after}
 use Rattle.papaya_grows.specs.Given.Effects.Effects.{effects_of, known_after}
 use Rattle.papaya_grows.specs.Given.Effects.Known.{Known}
 use Rattle.papaya_grows.specs.Given.Effects.declared.acting.Acting.TheVariants as acts
@@ -62,6 +60,8 @@ use Rattle.papaya_grows.proofs.Finding.Alike.{many_same}
 use Rattle.papaya_grows.proofs.Given.Finds.Grows.Steps.{tables_have_been}
 use Rattle.papaya_grows.proofs.Finding.Nexts.{nexts_go_on, others_at_first, others_go_on}
 use Rattle.papaya_legal.proofs.Uncounted.{calls_leave_uncounted}
+use Rattle.papaya_grows.specs.Given.Scenes.Scene.{Scene, slot_of}
+use Rattle.papaya_grows.specs.Given.Scenes.Stepping.{scene_after}
 
 -- no steps, whoever's
 none_made : (q : Bool) → ◌≡◌ {A = ℕ} 0 (if q then 0 else 0)

@@ -8,8 +8,6 @@ use Rattle.papaya_grows.specs.Given.Schedules.After.{moment, after}
 use Rattle.papaya_grows.specs.Given.Schedules.Effects.{with_effects, AtEachEffect, worked}
 use Rattle.papaya_grows.specs.Given.Schedules.Entry.{caller_of, Entry, acted_on, ends_call}
 use Rattle.papaya_grows.specs.Given.Schedules.Moment.{Moment, UnderWay as CallThere}
-use Rattle.papaya_grows.specs.Given.Executor.IsAt.{Scene}
-use Rattle.papaya_grows.specs.Given.Executor.Stepping.{scene_after}
 use Rattle.papaya_grows.specs.Given.Effects.Effects.{effects_of, known_after}
 use Rattle.papaya_grows.specs.Given.Effects.Known.{Known}
 use Rattle.papaya_grows.specs.Given.Moments.Whole.{ShowsWhole}
@@ -62,6 +60,8 @@ use Rattle.papaya_grows.specs.Tries.{ShowsTries}
 use Rattle.papaya_grows.proofs.Tries.Shows.{calls_come_to_tries, tries_alike, tries_grow}
 use Rattle.papaya_grows.proofs.Tries.Steps.{tries_go_on}
 use Rattle.papaya_legal.proofs.Uncounted.{calls_leave_uncounted}
+use Rattle.papaya_grows.specs.Given.Scenes.Scene.{Scene}
+use Rattle.papaya_grows.specs.Given.Scenes.Stepping.{scene_after}
 
 -- numbers of maps are those after its effects
 module _ {K V : Type 0} (log : List (Entry K V)) (own : List ℕ) (outcome : Outcome V) (steps : ℕ) (effects : List Effect) where

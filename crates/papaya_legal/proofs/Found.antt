@@ -22,7 +22,6 @@ use Rattle.papaya_grows.specs.Given.Schedules.Views.{is_stage, is_retired}
 use Rattle.papaya_grows.specs.Given.Effects.Effects.{effects_of}
 use Rattle.papaya_grows.specs.Given.Effects.Known.{Known}
 use Rattle.papaya_grows.specs.Given.Effects.declared.acting.Acting.TheVariants as acts
-use Rattle.papaya_grows.specs.Given.Executor.IsAt.{Scene, IsAt}
 use Rattle.papaya_grows.specs.Given.Executor.declared.executor.Executor.{Executor}
 use Rattle.papaya_grows.specs.Given.Moments.OnSlots.{HadRetired}
 use Rattle.papaya_grows.proofs.Given.Moments.After.{each_parts}
@@ -38,6 +37,8 @@ use Rattle.papaya_legal.specs.Found.{AsksInNeed, RestShowsRetired, RowChainsFind
 use Rattle.papaya_legal.specs.SlotEvents.{InSlotEvent}
 use Rattle.papaya_legal.proofs.Chains.{chains_keep}
 use Rattle.papaya_legal.proofs.Slots.{each_join, slot_events_go_on_so}
+use Rattle.papaya_grows.specs.Given.Executor.IsThere.{IsThere}
+use Rattle.papaya_grows.specs.Given.Scenes.Scene.{Scene}
 
 -- what was handed over may be reclaimed
 may_reclaim : (everything : Bool) (p : Place) → is_handed p ≡ true → MayReclaim everything p
@@ -125,7 +126,7 @@ module _ (K V S : Type 0) (same : K → K → Bool) (hash : K → ℕ) where
 
   pub rest_shows_retired : RestShowsRetired K V S same hash
   rest_shows_retired name m known s e at kept rests apart slots =
-      let all = handed_at_rest K V e.batch_size m known s at.together.makings.standing.came kept.handed rests in
+      let all = handed_at_rest K V e.batch_size m known s at.held.together.makings.standing.came kept.handed rests in
       record {
         pairs = λ n is. all.0 n is;
         tables = each_table m (HasRetiredTable m known s.world) (λ u is. all.1 u.table is) m.tables (λ t is. is);
@@ -134,10 +135,10 @@ module _ (K V S : Type 0) (same : K → K → Bool) (hash : K → ℕ) where
       }
 
   -- So where nothing is retired in the memory, and nothing is left over, nothing is so at the moment.
-  pub none_at_rest : (name : ℕ → List ℕ) (m : Moment K V) (known : Known) (s : Scene K V) (e : Executor K V S) → IsAt same hash e s → ShowsKept name m known s → ((i : ℕ) → s.world.row i ≡ Rests)
+  pub none_at_rest : (name : ℕ → List ℕ) (m : Moment K V) (known : Known) (s : Scene K V) (e : Executor K V S) → IsThere same hash e s → ShowsKept name m known s → ((i : ℕ) → s.world.row i ≡ Rests)
       → ((b : ℕ) → was_retired b s.world.log ≡ false) → ((n : ℕ) → is_left_over (m.place n) ≡ false) → NothingIsRetired m
   none_at_rest name m known s e at kept rests none left =
-      let all = handed_at_rest K V e.batch_size m known s at.together.makings.standing.came kept.handed rests in
+      let all = handed_at_rest K V e.batch_size m known s at.held.together.makings.standing.came kept.handed rests in
       record {
         pairs = λ n. neither (is_handed (m.place n)) (λ is. (let it = all.0 n is in let was = it.2 in let no = none it.0 in cc (was, no)));
         tables = none_among m.tables

@@ -20,9 +20,6 @@ use Rattle.papaya_grows.specs.Given.Effects.Effects.{effects_of, known_after, ma
 use Rattle.papaya_grows.specs.Given.Effects.Known.{Known}
 use Rattle.papaya_grows.specs.Given.Effects.declared.acting.Acting.{Acting}
 use Rattle.papaya_grows.specs.Given.Effects.declared.acting.Acting.TheVariants as acts
-use Rattle.papaya_grows.specs.Given.Executor.Ending.{EndingLeads}
-use Rattle.papaya_grows.specs.Given.Executor.IsAt.{Scene, IsAt}
-use Rattle.papaya_grows.specs.Given.Executor.Making.{MakingLeads}
 use Rattle.papaya_grows.specs.Given.Executor.declared.executor.Executor.{Executor}
 use Rattle.papaya_grows.specs.Given.Finishes.Endings.{Finishing}
 use Rattle.papaya_grows.specs.Given.Finishes.Makings.{Beginning}
@@ -69,6 +66,10 @@ use Rattle.papaya_grows.proofs.Given.Finds.Capacities.{capacities_stay, effects_
 use Rattle.papaya_grows.proofs.Given.Finds.Grows.Steps.{tables_have_been}
 use Rattle.papaya_legal.proofs.Growths.{growths_leave}
 use Rattle.papaya_legal.proofs.Uncounted.{none_counted}
+use Rattle.papaya_grows.specs.Given.Executor.Ending.{EndsThere}
+use Rattle.papaya_grows.specs.Given.Executor.IsThere.{IsThere}
+use Rattle.papaya_grows.specs.Given.Executor.Making.{MakesThere}
+use Rattle.papaya_grows.specs.Given.Scenes.Scene.{Scene}
 
 -- a map that stands as it does
 pub stands_so : {K : Type 0} (maps : ℕ → Option (Standing K)) (n : ℕ) (st : Standing K) → maps n ≡ Some st → HasStood maps n st
@@ -84,45 +85,45 @@ module _ {K V : Type 0} (m : Moment K V) (numbers : NumbersMaps m × PairsAreBel
 
 -- A step of a making.
 
-module _ {K V S : Type 0} (same : K → K → Bool) (hash : K → ℕ) (s : Scene K V) (old new : Executor K V S) (at : IsAt same hash old s) (i : ℕ) (b : Beginning K) (here : s.makers i ≡ Some b) where
-  abbrev led : (said : Making Setting) → MakingLeads same hash i said s old new → Scene K V
+module _ {K V S : Type 0} (same : K → K → Bool) (hash : K → ℕ) (s : Scene K V) (old new : Executor K V S) (at : IsThere same hash old s) (i : ℕ) (b : Beginning K) (here : s.makers i ≡ Some b) where
+  abbrev led : (said : Making Setting) → MakesThere same hash i said s old new → Scene K V
   led said leads = making_after same hash s old new i b (leads b here).0 (leads b here).2.step.w2 said (leads b here).3
 
-  made_at : (said : Making Setting) (leads : MakingLeads same hash i said s old new) → IsAt same hash new (led said leads)
+  made_at : (said : Making Setting) (leads : MakesThere same hash i said s old new) → IsThere same hash new (led said leads)
   made_at progress.Goes leads = (leads b here).3
   made_at progress.Waits leads = absurd (leads b here).3
   made_at (progress.Done setting) leads = (leads b here).3.2
   made_at (progress.Refused fault) leads = (leads b here).3
 
-  made_world : (said : Making Setting) (leads : MakingLeads same hash i said s old new) → (led said leads).world ≡ (leads b here).2.step.w2
+  made_world : (said : Making Setting) (leads : MakesThere same hash i said s old new) → (led said leads).world ≡ (leads b here).2.step.w2
   made_world progress.Goes leads = refl
   made_world progress.Waits leads = absurd (leads b here).3
   made_world (progress.Done setting) leads = refl
   made_world (progress.Refused fault) leads = refl
 
-  made_same : (said : Making Setting) (leads : MakingLeads same hash i said s old new) → (led said leads).calls ≡ s.calls
+  made_same : (said : Making Setting) (leads : MakesThere same hash i said s old new) → (led said leads).calls ≡ s.calls
   made_same progress.Goes leads = refl
   made_same progress.Waits leads = refl
   made_same (progress.Done setting) leads = refl
   made_same (progress.Refused fault) leads = refl
 
   -- maps stand as they stood, as long as it has not made its own
-  pub unmade_maps : (said : Making Setting) (leads : MakingLeads same hash i said s old new) → HasNotMade said → (led said leads).maps ≡ s.maps
+  pub unmade_maps : (said : Making Setting) (leads : MakesThere same hash i said s old new) → HasNotMade said → (led said leads).maps ≡ s.maps
   unmade_maps progress.Goes leads none = refl
   unmade_maps progress.Waits leads none = refl
   unmade_maps (progress.Done setting) leads none = absurd none
   unmade_maps (progress.Refused fault) leads none = refl
 
-  made_calls : (said : Making Setting) (leads : MakingLeads same hash i said s old new) (n j : ℕ) (x : UnderWay K V K) → (led said leads).calls n j ≡ Some x → s.calls n j ≡ Some x
+  made_calls : (said : Making Setting) (leads : MakesThere same hash i said s old new) (n j : ℕ) (x : UnderWay K V K) → (led said leads).calls n j ≡ Some x → s.calls n j ≡ Some x
   made_calls said leads n j x is = subst (λ (calls : ℕ → ℕ → Option (UnderWay K V K)). calls n j ≡ Some x) (made_same said leads) is
 
   -- each map that has calls stood: the new one has none
-  made_stood : (said : Making Setting) (leads : MakingLeads same hash i said s old new) (n j : ℕ) (x : UnderWay K V K) → (led said leads).calls n j ≡ Some x
+  made_stood : (said : Making Setting) (leads : MakesThere same hash i said s old new) (n j : ℕ) (x : UnderWay K V K) → (led said leads).calls n j ≡ Some x
       → (st : Standing K) → (led said leads).maps n ≡ Some st → HasStood s.maps n st
   made_stood progress.Goes leads n j x is st there = stands_so s.maps n st there
   made_stood progress.Waits leads n j x is st there = stands_so s.maps n st there
   made_stood (progress.Done setting) leads n j x is st there = elim (cases_eq n b.map) as (λ _. HasStood s.maps n st) [
-    | inl e ↦ absurd (let none : s.calls n j ≡ None = at.together.makings.standing.only n j (ap s.maps e ∙ at.together.makings.coming i b here) in cc (none, is))
+    | inl e ↦ absurd (let none : s.calls n j ≡ None = at.held.together.makings.standing.only n j (ap s.maps e ∙ at.held.together.makings.coming i b here) in cc (none, is))
     | inr ne ↦ stands_so s.maps n st (sym (at_other s.maps b.map (Some (leads b here).3.0) n ne) ∙ there)
   ]
   made_stood (progress.Refused fault) leads n j x is st there = stands_so s.maps n st there
@@ -201,37 +202,37 @@ making_events_go_on_so K V S same hash name terms log event beginning done m kno
 -- A step of an end.
 
 module _ {K V S : Type 0} (same : K → K → Bool) (hash : K → ℕ) (s : Scene K V) (old new : Executor K V S) (i : ℕ) (f : Finishing K V) (here : s.enders i ≡ Some f) where
-  abbrev ended : (said : Settled (Node K V)) → EndingLeads same hash i said s old new → Scene K V
+  abbrev ended : (said : Settled (Node K V)) → EndsThere same hash i said s old new → Scene K V
   ended said leads = ending_after same hash s new i f (leads f here).0 (leads f here).2.w2 (leads f here).2.deed said (leads f here).3
 
-  ended_at : (said : Settled (Node K V)) (leads : EndingLeads same hash i said s old new) → IsAt same hash new (ended said leads)
+  ended_at : (said : Settled (Node K V)) (leads : EndsThere same hash i said s old new) → IsThere same hash new (ended said leads)
   ended_at settled.Goes leads = (leads f here).3.1
   ended_at settled.Waits leads = absurd (leads f here).3
   ended_at (settled.Gave value) leads = (leads f here).3.3
   ended_at settled.Done leads = (leads f here).3.2
 
-  ended_maps : (said : Settled (Node K V)) (leads : EndingLeads same hash i said s old new) → (ended said leads).maps ≡ s.maps
+  ended_maps : (said : Settled (Node K V)) (leads : EndsThere same hash i said s old new) → (ended said leads).maps ≡ s.maps
   ended_maps settled.Goes leads = refl
   ended_maps settled.Waits leads = refl
   ended_maps (settled.Gave value) leads = refl
   ended_maps settled.Done leads = refl
 
-  ended_world : (said : Settled (Node K V)) (leads : EndingLeads same hash i said s old new) → (ended said leads).world ≡ (leads f here).2.w2
+  ended_world : (said : Settled (Node K V)) (leads : EndsThere same hash i said s old new) → (ended said leads).world ≡ (leads f here).2.w2
   ended_world settled.Goes leads = refl
   ended_world settled.Waits leads = absurd (leads f here).3
   ended_world (settled.Gave value) leads = refl
   ended_world settled.Done leads = refl
 
-  ended_same : (said : Settled (Node K V)) (leads : EndingLeads same hash i said s old new) → (ended said leads).calls ≡ s.calls
+  ended_same : (said : Settled (Node K V)) (leads : EndsThere same hash i said s old new) → (ended said leads).calls ≡ s.calls
   ended_same settled.Goes leads = refl
   ended_same settled.Waits leads = refl
   ended_same (settled.Gave value) leads = refl
   ended_same settled.Done leads = refl
 
-  ended_calls : (said : Settled (Node K V)) (leads : EndingLeads same hash i said s old new) (n j : ℕ) (x : UnderWay K V K) → (ended said leads).calls n j ≡ Some x → s.calls n j ≡ Some x
+  ended_calls : (said : Settled (Node K V)) (leads : EndsThere same hash i said s old new) (n j : ℕ) (x : UnderWay K V K) → (ended said leads).calls n j ≡ Some x → s.calls n j ≡ Some x
   ended_calls said leads n j x is = subst (λ (calls : ℕ → ℕ → Option (UnderWay K V K)). calls n j ≡ Some x) (ended_same said leads) is
 
-  ended_stood : (said : Settled (Node K V)) (leads : EndingLeads same hash i said s old new) (n j : ℕ) (x : UnderWay K V K) → (ended said leads).calls n j ≡ Some x
+  ended_stood : (said : Settled (Node K V)) (leads : EndsThere same hash i said s old new) (n j : ℕ) (x : UnderWay K V K) → (ended said leads).calls n j ≡ Some x
       → (st : Standing K) → (ended said leads).maps n ≡ Some st → HasStood s.maps n st
   ended_stood settled.Goes leads n j x is st there = stands_so s.maps n st there
   ended_stood settled.Waits leads n j x is st there = stands_so s.maps n st there

@@ -16,7 +16,6 @@ use Rattle.papaya_grows.specs.Given.Schedules.Handing.{is_ending, is_first_makin
 use Rattle.papaya_grows.specs.Given.Schedules.Model.{changes_of, handing, left_last, sets_in, things_in}
 use Rattle.papaya_grows.specs.Given.Schedules.Moment.{Moment}
 use Rattle.papaya_grows.proofs.Given.Callers.Together.At.{at_other, at_same}
-use Rattle.papaya_grows.specs.Given.Executor.Ending.{ending_begun}
 use Rattle.papaya_grows.specs.Given.Finishes.Maps.{Standing}
 use Rattle.papaya_grows.specs.Given.Others.Endings.{without_map}
 use Rattle.papaya_grows.proofs.Given.Spots.Unreclaimed.{and_both}
@@ -42,6 +41,7 @@ use Rattle.papaya_grows.specs.Given.Sources.Stays.{NoneBorn}
 use Rattle.papaya_legal.proofs.Sourced.{none_born}
 use Rattle.papaya_legal.proofs.Maps.{stands_so}
 use Rattle.papaya_legal.proofs.Over.{reading_like, runs_go_on}
+use Rattle.papaya_grows.specs.Given.Scenes.Ending.{ending_begun}
 
 -- The beginnings.
 

@@ -51,8 +51,6 @@ use Rattle.papaya_grows.proofs.Given.Callers.Together.Slots.{step_leaves}
 use Rattle.papaya_grows.specs.Given.Effects.Known.{Known}
 use Rattle.papaya_grows.specs.Given.Effects.declared.role.Role.{Role}
 use Rattle.papaya_grows.specs.Given.Effects.declared.role.Role.TheVariants as role
-use Rattle.papaya_grows.specs.Given.Executor.IsAt.{Scene, IsAt, slot_of}
-use Rattle.papaya_grows.specs.Given.Executor.Stepping.{StepLeads}
 use Rattle.papaya_grows.specs.Given.Executor.declared.executor.Executor.{Executor}
 use Rattle.papaya_grows.specs.Given.Finishes.Maps.{Standing}
 use Rattle.papaya_grows.specs.Given.Follows.Blocks.{HasRole}
@@ -75,6 +73,9 @@ use Rattle.papaya_models.specs.CallEvents.{IsNoted}
 use Rattle.papaya_models.specs.Numbers.{HasNumber}
 use Rattle.papaya_grows.proofs.Given.Finds.Lists.{one_of_them}
 use Rattle.papaya_legal.specs.Noted.{HaveCome, CallsHandNoted}
+use Rattle.papaya_grows.specs.Given.Executor.IsThere.{IsThere}
+use Rattle.papaya_grows.specs.Given.Executor.Stepping.{StepsThere}
+use Rattle.papaya_grows.specs.Given.Scenes.Scene.{Scene, slot_of}
 
 -- What a call has in hand, and its row is to hand over, is noted.
 
@@ -128,9 +129,9 @@ one_slot b s t (Leaves c) due on there = absurd due
 one_slot b s t (Defers u c) due on there = absurd due
 one_slot b s t (Frees c) due on there = absurd due
 
-module _ {K V S : Type 0} (same : K → K → Bool) (hash : K → ℕ) (name : ℕ → List ℕ) (m : Moment K V) (known : Known) (s : Scene K V) (old new : Executor K V S) (at : IsAt same hash old s)
+module _ {K V S : Type 0} (same : K → K → Bool) (hash : K → ℕ) (name : ℕ → List ℕ) (m : Moment K V) (known : Known) (s : Scene K V) (old new : Executor K V S) (at : IsThere same hash old s)
     (whole : ShowsWhole same name m known s) (kept : ShowsKept name m known s) (map i : ℕ) (u : UnderWay K V K) (here : s.calls map i ≡ Some u) (said : Progress (Node K V))
-    (leads : StepLeads same hash i said s old new) (things : List Thing) (come : HaveCome things m) where
+    (leads : StepsThere same hash i said s old new) (things : List Thing) (come : HaveCome things m) where
   abbrev w : World (Node K V)
   w = s.world
 
@@ -144,7 +145,7 @@ module _ {K V S : Type 0} (same : K → K → Bool) (hash : K → ℕ) (name : �
   owning = own_made K V S same hash name m known s old at whole kept
 
   came : CameAbout size w
-  came = at.together.makings.standing.came
+  came = at.held.together.makings.standing.came
 
   reached : Reached deferred_word size w
   reached = came_reached size w came

@@ -15,10 +15,8 @@ use Rattle.papaya_grows.specs.Given.Callers.Together.{IsOfSlots}
 use Rattle.papaya_grows.specs.Given.Effects.Effects.{effects_of, known_after}
 use Rattle.papaya_grows.specs.Given.Effects.Known.{Known}
 use Rattle.papaya_grows.specs.Given.Effects.declared.acting.Acting.TheVariants as acts
-use Rattle.papaya_grows.specs.Given.Executor.IsAt.{Scene, slot_of}
-use Rattle.papaya_grows.specs.Given.Executor.Rows.{request_of}
-use Rattle.papaya_grows.specs.Given.Executor.declared.row.SlotCall.{SlotCall}
-use Rattle.papaya_grows.specs.Given.Executor.declared.row.SlotCall.TheVariants as call
+use Rattle.papaya_grows.specs.Given.Scenes.declared.row.SlotCall.{SlotCall}
+use Rattle.papaya_grows.specs.Given.Scenes.declared.row.SlotCall.TheVariants as call
 use Rattle.papaya_grows.specs.Given.Others.Rows.{scene_then}
 use Rattle.papaya_grows.specs.Given.Moments.OnSlots.{HadRetired}
 use Rattle.papaya_grows.specs.Given.Moments.Whole.{ShowsWhole}
@@ -50,6 +48,8 @@ use Rattle.papaya_grows.proofs.Finding.Aside.{rows_aside}
 use Rattle.papaya_grows.proofs.Finding.NextsOthers.{rows_begin_nexts, rows_keep_nexts}
 use Rattle.papaya_grows.proofs.Finding.Others.{rows_begin_finding, rows_keep_finding}
 use Rattle.papaya_legal.proofs.Uncounted.{none_counted}
+use Rattle.papaya_grows.specs.Given.Scenes.Rows.{request_of}
+use Rattle.papaya_grows.specs.Given.Scenes.Scene.{Scene, slot_of}
 
 -- each row on a slot is one
 of_slots : (slot : ℕ) (called : SlotCall) → IsOfSlots (request_of slot called)

@@ -29,7 +29,6 @@ use Rattle.papaya_grows.specs.Given.Effects.Effects.{effects_of, known_after}
 use Rattle.papaya_grows.specs.Given.Effects.Known.{Known}
 use Rattle.papaya_grows.specs.Given.Effects.declared.acting.Acting.TheVariants as acts
 use Rattle.papaya_grows.specs.Given.Effects.declared.role.Role.TheVariants as role
-use Rattle.papaya_grows.specs.Given.Executor.IsAt.{Scene}
 use Rattle.papaya_grows.specs.Given.Executor.declared.executor.Executor.{Executor}
 use Rattle.papaya_grows.specs.Given.Finishes.Maps.{Standing}
 use Rattle.papaya_grows.specs.Given.Moments.OnSlots.{HadRetired}
@@ -45,6 +44,7 @@ use Rattle.papaya_grows.specs.Given.Finds.Orderly.{is_left_over}
 use Rattle.papaya_legal.specs.CallEvents.{IsLegalBut}
 use Rattle.papaya_legal.specs.Carried.{ComesAlone, LeftIsTold, ShowsCalls, ShowsRun}
 use Rattle.papaya_legal.specs.Chains.{Chain, Come}
+use Rattle.papaya_grows.specs.Given.Scenes.Scene.{Scene}
 
 -- How far an event has come that reclaims all: as events do, with its machine, and with these lists behind the roots still.
 pub record AllCome (K V S : Type 0) : Type 0 where

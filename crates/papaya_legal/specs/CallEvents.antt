@@ -32,11 +32,7 @@ use Rattle.papaya_grows.specs.Given.Callers.Together.{UnderWay, OverAll, HandsOv
 use Rattle.papaya_grows.specs.Given.Effects.Effects.{effects_of, known_after}
 use Rattle.papaya_grows.specs.Given.Effects.Known.{Known}
 use Rattle.papaya_grows.specs.Given.Effects.declared.acting.Acting.TheVariants as acts
-use Rattle.papaya_grows.specs.Given.Executor.IsAt.{Scene, IsAt, slot_of}
-use Rattle.papaya_grows.specs.Given.Executor.Beginning.{Begins}
-use Rattle.papaya_grows.specs.Given.Executor.Replying.{AskLeads, scene_with}
 use Rattle.papaya_grows.specs.Given.Finishes.Maps.{Standing}
-use Rattle.papaya_grows.specs.Given.Executor.Stepping.{StepLeads, has_ended, scene_after}
 use Rattle.papaya_grows.specs.Given.Executor.declared.executor.Executor.{Executor}
 use Rattle.papaya_grows.specs.Given.Histories.InEvent.{ComesSo, InEvent, here_of}
 use Rattle.papaya_promises.specs.Protected.{InMidst}
@@ -62,6 +58,13 @@ use Rattle.papaya_grows.specs.Limits.{OthersHadLimit}
 use Rattle.papaya_grows.specs.Given.Finds.Within.{many_of}
 use Rattle.papaya_grows.specs.Nexts.{OthersHadNext}
 use Rattle.papaya_grows.specs.Tries.{OthersHadTried}
+use Rattle.papaya_grows.specs.Given.Executor.IsThere.{IsThere}
+use Rattle.papaya_grows.specs.Given.Executor.Replying.{AsksThere}
+use Rattle.papaya_grows.specs.Given.Executor.Stepping.{StepsThere}
+use Rattle.papaya_grows.specs.Given.Scenes.Beginning.{Begins}
+use Rattle.papaya_grows.specs.Given.Scenes.Replying.{scene_with}
+use Rattle.papaya_grows.specs.Given.Scenes.Scene.{Scene, slot_of}
+use Rattle.papaya_grows.specs.Given.Scenes.Stepping.{has_ended, scene_after}
 
 -- each pair that is in this map is the one of its class there
 abbrev pub EachIsItsOwn : {K V : Type 0} → (K → K → Bool) → ℕ → Moment K V → Type 0
@@ -114,7 +117,7 @@ module _ (K V S : Type 0) (same : K → K → Bool) (hash : K → ℕ) where
   CallEventsBegin =
       (name : ℕ → List ℕ) (terms : Terms) (log : List (Entry K V)) (beginning : Moment K V) → HasJustBegun log beginning → beginning.maps ≡ (moment log).maps → beginning.tables ≡ (moment log).tables
       → beginning.shards ≡ (moment log).shards → beginning.born ≡ (moment log).born → beginning.spot ≡ (moment log).spot → TablelessUncounted (moment log)
-      → (known : Known) (s : Scene K V) (x : Executor K V S) → IsAt same hash x s → ShowsCalls same name log beginning known s → ShowsReading name log (λ j. 0) beginning s
+      → (known : Known) (s : Scene K V) (x : Executor K V S) → IsThere same hash x s → ShowsCalls same name log beginning known s → ShowsReading name log (λ j. 0) beginning s
       → SectionsHold beginning known s.world → ((moment log).is_alone ≡ true → FollowsOrRows terms log known s.world)
       → (event : Event K V) (map i : ℕ) → caller_of event ≡ Some (name i) → (u : UnderWay K V K) → s.calls map i ≡ Some u → (c : CallThere K V) → call_of (name i) beginning ≡ Some c
       → (ComesAlone event log → (j : ℕ) → s.world.row j ≢ Rests → j ≡ i) → InCallEvent same name terms log event beginning map i c 0 [] beginning known s u
@@ -122,9 +125,9 @@ module _ (K V S : Type 0) (same : K → K → Bool) (hash : K → ℕ) where
   -- so it is where a whole call begins that has no name, on a map that stands, by a caller that has no row under way,
   abbrev pub WholeCallsBegin : Type 0
   WholeCallsBegin =
-      (name : ℕ → List ℕ) (terms : Terms) (log : List (Entry K V)) (known : Known) (s : Scene K V) (old new : Executor K V S) → IsAt same hash old s → ShowsRun same name terms log known s
+      (name : ℕ → List ℕ) (terms : Terms) (log : List (Entry K V)) (known : Known) (s : Scene K V) (old new : Executor K V S) → IsThere same hash old s → ShowsRun same name terms log known s
       → (map i : ℕ) (standing : Standing K) → s.maps map ≡ Some standing → (u : UnderWay K V K) (call : Call K V) (guard : List ℕ) → Begins same standing i u → IsBegunRight same u call
-      → NoneNamed name (name i) s → s.world.row i ≡ Rests → IsAt same hash new (scene_with map i u s) → name i ≡ nameless
+      → NoneNamed name (name i) s → s.world.row i ≡ Rests → IsThere same hash new (scene_with map i u s) → name i ≡ nameless
       → (on : List ℕ) → (ComesAlone (OneCall guard on call) log → (j : ℕ) → s.world.row j ≢ Rests → j ≡ i)
       → (let beginning = with_call (name i) guard call (Some map) (moment log) in
       let c = fresh_call (name i) guard call map (moment log).events in
@@ -134,8 +137,8 @@ module _ (K V S : Type 0) (same : K → K → Bool) (hash : K → ℕ) where
   -- and where a walk that is ready is asked for its next pair;
   abbrev pub NextsBegin : Type 0
   NextsBegin =
-      (name : ℕ → List ℕ) (terms : Terms) (log : List (Entry K V)) (known : Known) (s : Scene K V) (old new : Executor K V S) → IsAt same hash old s → ShowsRun same name terms log known s
-      → (i : ℕ) (leads : AskLeads same hash i true s old new) (map : ℕ) (o : CallOverAll) (here : s.calls map i ≡ Some (OverAll o))
+      (name : ℕ → List ℕ) (terms : Terms) (log : List (Entry K V)) (known : Known) (s : Scene K V) (old new : Executor K V S) → IsThere same hash old s → ShowsRun same name terms log known s
+      → (i : ℕ) (leads : AsksThere same hash i true s old new) (map : ℕ) (o : CallOverAll) (here : s.calls map i ≡ Some (OverAll o))
       → (leads map (OverAll o) here).0 ≡ OverAll (gone_on o (after_next o.sweep)) → (c : CallThere K V) → call_of (name i) (moment log) ≡ Some c
       → (ComesAlone (Next (name i)) log → (j : ℕ) → s.world.row j ≢ Rests → j ≡ i)
       → InCallEvent same name terms log (Next (name i)) (moment log) map i c 0 [] (moment log) known (scene_with map i (leads map (OverAll o) here).0 s) (leads map (OverAll o) here).0
@@ -146,7 +149,7 @@ module _ (K V S : Type 0) (same : K → K → Bool) (hash : K → ℕ) where
   CallEventsGoOn =
       (name : ℕ → List ℕ) (terms : Terms) (log : List (Entry K V)) (event : Event K V) (beginning : Moment K V) (map i : ℕ) (c : CallThere K V) (steps : ℕ) (done : List Effect) (m : Moment K V) (known : Known)
       (s : Scene K V) (u : UnderWay K V K) (midst : InCallEvent same name terms log event beginning map i c steps done m known s u)
-      → (old new : Executor K V S) → IsAt same hash old s → old.batch_size ≡ terms.batch_size → (said : Progress (Node K V)) (leads : StepLeads same hash i said s old new)
+      → (old new : Executor K V S) → IsThere same hash old s → old.batch_size ≡ terms.batch_size → (said : Progress (Node K V)) (leads : StepsThere same hash i said s old new)
       → (let effects = effects_of (acts.Call i map) known new.memory.changed in
       let v = with_effects (Some (name i)) (Some map) effects m in
       let to = leads map u (here_of same name log beginning map i c done m known s u midst.event_so) in
@@ -163,7 +166,7 @@ module _ (K V S : Type 0) (same : K → K → Bool) (hash : K → ℕ) where
   CallEventsAreLegal =
       (name : ℕ → List ℕ) (terms : Terms) (log : List (Entry K V)) (beginning : Moment K V) (map i : ℕ) (c : CallThere K V) → call_of (name i) beginning ≡ Some c
       → (steps : ℕ) (done : List Effect) (m : Moment K V) (known : Known) (s : Scene K V) (u : UnderWay K V K) (e : Entry K V) (midst : InCallEvent same name terms log e.event beginning map i c steps done m known s u)
-      → ShowsQuestions beginning → (old new : Executor K V S) → IsAt same hash old s → (said : Progress (Node K V)) (leads : StepLeads same hash i said s old new)
+      → ShowsQuestions beginning → (old new : Executor K V S) → IsThere same hash old s → (said : Progress (Node K V)) (leads : StepsThere same hash i said s old new)
       → at_work e (moment log) ≡ beginning → acted_on e.event beginning ≡ Some map → e.effects ≡ done ++ effects_of (acts.Call i map) known new.memory.changed
       → ComesSo (known_after (acts.Call i map) new.memory.changed known) c.call c.replies said e.outcome → (takes_steps e.event ≡ true) ⊎ (e.effects ≡ []) → is_busy e.outcome ≡ false
       → FindAll terms (moments_from c.begun log) (name i) map e.effects beginning
@@ -177,7 +180,7 @@ module _ (K V S : Type 0) (same : K → K → Bool) (hash : K → ℕ) where
   CallEventsEnd =
       (name : ℕ → List ℕ) (terms : Terms) (log : List (Entry K V)) (beginning : Moment K V) (map i : ℕ) (c : CallThere K V) (first : Known) (before : Scene K V) → ShowsRun same name terms log first before
       → (steps : ℕ) (done : List Effect) (m : Moment K V) (known : Known) (s : Scene K V) (u : UnderWay K V K) (e : Entry K V) (midst : InCallEvent same name terms log e.event beginning map i c steps done m known s u)
-      → (old new : Executor K V S) → IsAt same hash old s → (said : Progress (Node K V)) (leads : StepLeads same hash i said s old new)
+      → (old new : Executor K V S) → IsThere same hash old s → (said : Progress (Node K V)) (leads : StepsThere same hash i said s old new)
       → at_work e (moment log) ≡ beginning → acted_on e.event beginning ≡ Some map → e.effects ≡ done ++ effects_of (acts.Call i map) known new.memory.changed
       → ComesSo (known_after (acts.Call i map) new.memory.changed known) c.call c.replies said e.outcome → ends_call e.outcome ≡ has_ended said → ComesRight terms log e
       → IsLegalBut same terms log e → EventAsksStill log e → ReclaimsAll log e
@@ -194,7 +197,7 @@ module _ (K V S : Type 0) (same : K → K → Bool) (hash : K → ℕ) where
   CallEventsFollow =
       (name : ℕ → List ℕ) (terms : Terms) (log : List (Entry K V)) (beginning : Moment K V) (map i : ℕ) (c : CallThere K V) (steps : ℕ) (done : List Effect) (m : Moment K V) (known : Known)
       (s : Scene K V) (u : UnderWay K V K) (e : Entry K V) (midst : InCallEvent same name terms log e.event beginning map i c steps done m known s u)
-      → (old new : Executor K V S) → IsAt same hash old s → old.batch_size ≡ terms.batch_size → (said : Progress (Node K V)) (leads : StepLeads same hash i said s old new)
+      → (old new : Executor K V S) → IsThere same hash old s → old.batch_size ≡ terms.batch_size → (said : Progress (Node K V)) (leads : StepsThere same hash i said s old new)
       → e.effects ≡ done ++ effects_of (acts.Call i map) known new.memory.changed → is_busy e.outcome ≡ false
       → (let to = leads map u (here_of same name log beginning map i c done m known s u midst.event_so) in
       let known2 = known_after (acts.Call i map) new.memory.changed known in

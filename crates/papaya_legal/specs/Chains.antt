@@ -15,14 +15,10 @@ use Rattle.papaya_grows.specs.Given.Schedules.Terms.{Terms}
 use Rattle.papaya_grows.specs.Given.Effects.Effects.{effects_of, known_after}
 use Rattle.papaya_grows.specs.Given.Effects.Known.{Known}
 use Rattle.papaya_grows.specs.Given.Effects.declared.acting.Acting.TheVariants as acts
-use Rattle.papaya_grows.specs.Given.Executor.Ending.{EndingLeads}
-use Rattle.papaya_grows.specs.Given.Executor.IsAt.{Scene, IsAt, work_of}
-use Rattle.papaya_grows.specs.Given.Executor.Making.{MakingLeads}
-use Rattle.papaya_grows.specs.Given.Executor.OnSlots.{RowLeads}
 use Rattle.papaya_grows.specs.Given.Executor.declared.executor.Executor.{Executor}
-use Rattle.papaya_grows.specs.Given.Executor.declared.row.RowTold.{RowTold}
-use Rattle.papaya_grows.specs.Given.Executor.declared.row.SlotCall.{SlotCall}
-use Rattle.papaya_grows.specs.Given.Executor.declared.row.SlotRow.{SlotRow}
+use Rattle.papaya_grows.specs.Given.Scenes.declared.row.RowTold.{RowTold}
+use Rattle.papaya_grows.specs.Given.Scenes.declared.row.SlotCall.{SlotCall}
+use Rattle.papaya_grows.specs.Given.Scenes.declared.row.SlotRow.{SlotRow}
 use Rattle.papaya_grows.specs.Given.Executor.declared.worker.Work.TheVariants.{OnSlot}
 use Rattle.papaya_grows.specs.Given.Finishes.Endings.{Finishing}
 use Rattle.papaya_grows.specs.Given.Finishes.Makings.{Beginning}
@@ -35,8 +31,6 @@ use Rattle.papaya_grows.specs.Given.Raw.declared.machines.progress.Progress.{Pro
 use Rattle.papaya_grows.specs.Given.Schedules.Model.{things_in}
 use Rattle.papaya_grows.specs.Given.Schedules.Moment.{UnderWay as CallThere}
 use Rattle.papaya_grows.specs.Given.Callers.Together.{UnderWay, HandsOver}
-use Rattle.papaya_grows.specs.Given.Executor.IsAt.{slot_of}
-use Rattle.papaya_grows.specs.Given.Executor.Stepping.{StepLeads, scene_after}
 use Rattle.papaya_grows.specs.Given.Purposes.Kept.{ShowsNone}
 use Rattle.papaya_models.specs.CallEvents.{IsNoted, things_then}
 use Rattle.papaya_legal.specs.CallEvents.{InCallEvent}
@@ -48,8 +42,6 @@ use Rattle.papaya_grows.specs.Given.Schedules.Entry.{is_busy}
 use Rattle.papaya_grows.specs.Given.Schedules.Handing.{gives_all, may_do}
 use Rattle.papaya_grows.specs.Given.Schedules.InTurn.{ComesRight}
 use Rattle.papaya_grows.specs.Given.Schedules.Lives.{Finds}
-use Rattle.papaya_grows.specs.Given.Executor.OnSlots.{MayBegin, RowBegins}
-use Rattle.papaya_grows.specs.Given.Executor.Rows.{request_of}
 use Rattle.papaya_promises.specs.Others.{SparesGuards}
 use Rattle.papaya_promises.specs.Protected.{EndsInside, is_of_slots, there_in}
 use Rattle.papaya_models.specs.Follows.{FollowsModel}
@@ -67,10 +59,18 @@ use Rattle.papaya_grows.specs.Given.Schedules.Effects.{worked}
 use Rattle.papaya_grows.specs.Given.Schedules.Handing.{IsWhole}
 use Rattle.papaya_grows.specs.Given.Schedules.Moment.{MapThere}
 use Rattle.papaya_grows.specs.Given.Schedules.Views.{map_at, number_of}
-use Rattle.papaya_grows.specs.Given.Executor.Ending.{ending_begun}
 use Rattle.papaya_grows.specs.Given.Finishes.Makings.{HasMade}
 use Rattle.papaya_grows.specs.Given.Finishes.Maps.{Standing}
 use Rattle.papaya_legal.specs.SlotEvents.{InSlotEvent}
+use Rattle.papaya_grows.specs.Given.Executor.Ending.{EndsThere}
+use Rattle.papaya_grows.specs.Given.Executor.IsThere.{IsThere, work_of}
+use Rattle.papaya_grows.specs.Given.Executor.Making.{MakesThere}
+use Rattle.papaya_grows.specs.Given.Executor.OnSlots.{MayBegin, RowBeginsThere, RowStepsThere}
+use Rattle.papaya_grows.specs.Given.Executor.Stepping.{StepsThere}
+use Rattle.papaya_grows.specs.Given.Scenes.Ending.{ending_begun}
+use Rattle.papaya_grows.specs.Given.Scenes.Rows.{request_of}
+use Rattle.papaya_grows.specs.Given.Scenes.Scene.{Scene, slot_of}
+use Rattle.papaya_grows.specs.Given.Scenes.Stepping.{scene_after}
 
 -- How far an event has come: with which executor, what it has done, the moment after that, what is known then, and the scene in which the executor is.
 pub record Come (K V S : Type 0) : Type 0 where
@@ -95,10 +95,10 @@ module _ {X : Type 0} where
 module _ {K V S : Type 0} (same : K → K → Bool) (hash : K → ℕ) (terms : Terms) where
   -- A step of the row of caller i on its slot,
   pub record RowSteps (i : ℕ) (from to : Come K V S) : Type 0 where
-    pub is_at : IsAt same hash from.executor from.scene
+    pub is_at : IsThere same hash from.executor from.scene
     pub size : from.executor.batch_size ≡ terms.batch_size
     pub said : RowTold (Node K V)
-    pub leads : RowLeads same hash i said from.scene from.executor to.executor
+    pub leads : RowStepsThere same hash i said from.scene from.executor to.executor
     pub row : SlotRow
     pub here : work_of from.executor i ≡ Some (OnSlot row)
     pub comes : to ≡ record {
@@ -111,10 +111,10 @@ module _ {K V S : Type 0} (same : K → K → Bool) (hash : K → ℕ) (terms : 
 
   -- of the making of a map, which is there by its number, and new; or one that just asks for blocks,
   pub record MakingSteps (i map : ℕ) (from to : Come K V S) : Type 0 where
-    pub is_at : IsAt same hash from.executor from.scene
+    pub is_at : IsThere same hash from.executor from.scene
     pub size : from.executor.batch_size ≡ terms.batch_size
     pub said : Making Setting
-    pub leads : MakingLeads same hash i said from.scene from.executor to.executor
+    pub leads : MakesThere same hash i said from.scene from.executor to.executor
     pub making : Beginning K
     pub here : from.scene.makers i ≡ Some making
     pub map_is : making.map ≡ map
@@ -130,10 +130,10 @@ module _ {K V S : Type 0} (same : K → K → Bool) (hash : K → ℕ) (terms : 
 
   -- and of the end of one, which takes tables of its map alone.
   pub record EndSteps (i map : ℕ) (from to : Come K V S) : Type 0 where
-    pub is_at : IsAt same hash from.executor from.scene
+    pub is_at : IsThere same hash from.executor from.scene
     pub size : from.executor.batch_size ≡ terms.batch_size
     pub said : Settled (Node K V)
-    pub leads : EndingLeads same hash i said from.scene from.executor to.executor
+    pub leads : EndsThere same hash i said from.scene from.executor to.executor
     pub ending : Finishing K V
     pub here : from.scene.enders i ≡ Some ending
     pub gone : from.scene.maps map ≡ None
@@ -151,10 +151,10 @@ module _ {K V S : Type 0} (same : K → K → Bool) (hash : K → ℕ) (name : �
   -- A step of the call of caller i on its map, by which the call goes on: no pair of a walk is shown, and what a row hands over
   -- that begins with the step is noted.
   pub record CallSteps (from to : CallCome K V S) : Type 0 where
-    pub is_at : IsAt same hash from.come.executor from.come.scene
+    pub is_at : IsThere same hash from.come.executor from.come.scene
     pub size : from.come.executor.batch_size ≡ terms.batch_size
     pub said : CallTold (Node K V)
-    pub leads : StepLeads same hash i said from.come.scene from.come.executor to.come.executor
+    pub leads : StepsThere same hash i said from.come.scene from.come.executor to.come.executor
     pub none : ShowsNone said
     pub noted : (here : from.come.scene.calls map i ≡ Some from.under) (request : Request) (begun : World (Node K V))
         → HandsOver (leads map from.under here).0.setting i from.come.scene.world request
@@ -207,9 +207,9 @@ module _ (K V S : Type 0) (same : K → K → Bool) (hash : K → ℕ) where
   -- waiting sets, was not kept out, leaves its guards within their sections, and all is back if it reclaims all.
   abbrev pub RowsRunToTheirEnds : Type 0
   RowsRunToTheirEnds =
-      (name : ℕ → List ℕ) (terms : Terms) (log : List (Entry K V)) (known : Known) (s : Scene K V) (old new : Executor K V S) → IsAt same hash old s → old.batch_size ≡ terms.batch_size
+      (name : ℕ → List ℕ) (terms : Terms) (log : List (Entry K V)) (known : Known) (s : Scene K V) (old new : Executor K V S) → IsThere same hash old s → old.batch_size ≡ terms.batch_size
       → terms.batch_size < 2 ^ 64 → ShowsRun same name terms log known s
-      → (e : Entry K V) → is_of_slots e.event ≡ true → (i : ℕ) (called : SlotCall) (may : MayBegin old (slot_of i) called) (leads : RowBegins same hash called i s old new)
+      → (e : Entry K V) → is_of_slots e.event ≡ true → (i : ℕ) (called : SlotCall) (may : MayBegin old (slot_of i) called) (leads : RowBeginsThere same hash called i s old new)
       → SparesGuards called (slot_of i) (there_in e.event (moment log).there) → (ComesAlone e.event log → FollowsModel terms.batch_size terms.roots log known s.world)
       → (n : ℕ) (to : Come K V S)
       → Chain (RowSteps same hash terms i) n (record {
@@ -227,10 +227,10 @@ module _ (K V S : Type 0) (same : K → K → Bool) (hash : K → ℕ) where
   -- So it is of an event that makes a map, whose making has come to its end, if what it did it may do, and finds what it must, and if it is whole;
   abbrev pub MakingsRunToTheirEnds : Type 0
   MakingsRunToTheirEnds =
-      (name : ℕ → List ℕ) (terms : Terms) (log : List (Entry K V)) (known : Known) (s : Scene K V) (old new : Executor K V S) → IsAt same hash old s → ShowsRun same name terms log known s
+      (name : ℕ → List ℕ) (terms : Terms) (log : List (Entry K V)) (known : Known) (s : Scene K V) (old new : Executor K V S) → IsThere same hash old s → ShowsRun same name terms log known s
       → (own : List ℕ) (mode : ResizeMode) (capacity : ℕ) (there : MapThere) → there.number ≡ (moment log).made → (i : ℕ) (b : Beginning K) → s.makers i ≡ None → b.map ≡ there.number
       → (HasMade b.machine.stands → ⊥) → (ComesAlone (MakeMap own mode capacity) log → FollowsModel terms.batch_size terms.roots log known s.world)
-      → IsAt same hash new (record s { makers = with_at s.makers i (Some b) }) → (n : ℕ) (to : Come K V S)
+      → IsThere same hash new (record s { makers = with_at s.makers i (Some b) }) → (n : ℕ) (to : Come K V S)
       → Chain (MakingSteps same hash terms i b.map) n (record {
         executor = new;
         did = [];
@@ -247,10 +247,10 @@ module _ (K V S : Type 0) (same : K → K → Bool) (hash : K → ℕ) where
   -- and of one that ends a map, whose end is over, if no map that stands then has its name.
   abbrev pub EndsRunToTheirEnds : Type 0
   EndsRunToTheirEnds =
-      (name : ℕ → List ℕ) (terms : Terms) (log : List (Entry K V)) (known : Known) (s : Scene K V) (old new : Executor K V S) → IsAt same hash old s → ShowsRun same name terms log known s
-      → terms.batch_size < 2 ^ 64 → (own : List ℕ) (map i : ℕ) (standing : Standing K) → s.maps map ≡ Some standing → s.enders i ≡ None → IsAt same hash new (ending_begun map i standing s)
+      (name : ℕ → List ℕ) (terms : Terms) (log : List (Entry K V)) (known : Known) (s : Scene K V) (old new : Executor K V S) → IsThere same hash old s → ShowsRun same name terms log known s
+      → terms.batch_size < 2 ^ 64 → (own : List ℕ) (map i : ℕ) (standing : Standing K) → s.maps map ≡ Some standing → s.enders i ≡ None → IsThere same hash new (ending_begun map i standing s)
       → (ComesAlone (EndMap own) log → FollowsModel terms.batch_size terms.roots log known s.world) → (n : ℕ) (to : Come K V S)
-      → Chain (EndSteps same hash terms i map) n (record { executor = new; did = []; now = moment log; notes = known; scene = ending_begun map i standing s }) to → IsAt same hash to.executor to.scene
+      → Chain (EndSteps same hash terms i map) n (record { executor = new; did = []; now = moment log; notes = known; scene = ending_begun map i standing s }) to → IsThere same hash to.executor to.scene
       → (steps : ℕ) (effects : List Effect) → to.did ≡ effects → number_of own (moment log) ≡ Some map → to.scene.enders i ≡ None
       → ((k : ℕ) (st : Standing K) (there : MapThere) → to.scene.maps k ≡ Some st → map_at k to.now ≡ Some there → is_same there.name own ≡ false)
       → (let e : Entry K V = record { event = EndMap own; outcome = Done; steps = steps; effects = effects } in

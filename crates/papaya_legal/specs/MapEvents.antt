@@ -20,9 +20,6 @@ use Rattle.papaya_grows.specs.Given.Schedules.Terms.{Terms}
 use Rattle.papaya_grows.specs.Given.Effects.Effects.{effects_of, known_after}
 use Rattle.papaya_grows.specs.Given.Effects.Known.{Known}
 use Rattle.papaya_grows.specs.Given.Effects.declared.acting.Acting.TheVariants as acts
-use Rattle.papaya_grows.specs.Given.Executor.Ending.{EndingLeads}
-use Rattle.papaya_grows.specs.Given.Executor.IsAt.{Scene, IsAt}
-use Rattle.papaya_grows.specs.Given.Executor.Making.{MakingLeads}
 use Rattle.papaya_grows.specs.Given.Executor.declared.executor.Executor.{Executor}
 use Rattle.papaya_grows.specs.Given.Finishes.Endings.{Finishing}
 use Rattle.papaya_grows.specs.Given.Moments.Endings.{IsOfIts}
@@ -44,6 +41,10 @@ use Rattle.papaya_promises.specs.Sheltered.{SectionsHold}
 use Rattle.papaya_grows.specs.Given.Schedules.Beginning.{at_work}
 use Rattle.papaya_grows.specs.Given.Sources.Stays.{NoneBorn}
 use Rattle.papaya_legal.specs.Carried.{ComesAlone, ShowsCalls}
+use Rattle.papaya_grows.specs.Given.Executor.Ending.{EndsThere}
+use Rattle.papaya_grows.specs.Given.Executor.IsThere.{IsThere}
+use Rattle.papaya_grows.specs.Given.Executor.Making.{MakesThere}
+use Rattle.papaya_grows.specs.Given.Scenes.Scene.{Scene}
 
 module _ {K V : Type 0} (same : K → K → Bool) (name : ℕ → List ℕ) (terms : Terms) (log : List (Entry K V)) (event : Event K V) (map : ℕ) (beginning : Moment K V) where
   -- In the midst of an event whose work is that of a map which is made, or ends: what it has done finds what it must.
@@ -79,8 +80,8 @@ module _ (K V S : Type 0) (same : K → K → Bool) (hash : K → ℕ) where
   abbrev pub MakingEventsGoOn : Type 0
   MakingEventsGoOn =
       (name : ℕ → List ℕ) (terms : Terms) (log : List (Entry K V)) (event : Event K V) (beginning : Moment K V) (done : List Effect) (m : Moment K V) (known : Known) (s : Scene K V) (i : ℕ) (b : Beginning K)
-      (here : s.makers i ≡ Some b) → InMakingEvent same name terms log event b.map beginning done m known s → (old new : Executor K V S) → IsAt same hash old s
-      → old.batch_size ≡ terms.batch_size → (said : Making Setting) (leads : MakingLeads same hash i said s old new) → WasNew b.map said m
+      (here : s.makers i ≡ Some b) → InMakingEvent same name terms log event b.map beginning done m known s → (old new : Executor K V S) → IsThere same hash old s
+      → old.batch_size ≡ terms.batch_size → (said : Making Setting) (leads : MakesThere same hash i said s old new) → WasNew b.map said m
       → FindsItsMap b said (effects_of (acts.Making b.map) known new.memory.changed) m
       → (let to = leads b here in
       let effects = effects_of (acts.Making b.map) known new.memory.changed in
@@ -91,8 +92,8 @@ module _ (K V S : Type 0) (same : K → K → Bool) (hash : K → ℕ) where
   abbrev pub EndEventsGoOn : Type 0
   EndEventsGoOn =
       (name : ℕ → List ℕ) (terms : Terms) (log : List (Entry K V)) (event : Event K V) (map : ℕ) (beginning : Moment K V) (first : Known) (done : List Effect) (m : Moment K V) (known : Known) (s : Scene K V) (i : ℕ)
-      (f : Finishing K V) (here : s.enders i ≡ Some f) → s.maps map ≡ None → InEndEvent same name terms log event map beginning first i done m known s → (old new : Executor K V S) → IsAt same hash old s
-      → old.batch_size ≡ terms.batch_size → map < m.made → (said : Settled (Node K V)) (leads : EndingLeads same hash i said s old new)
+      (f : Finishing K V) (here : s.enders i ≡ Some f) → s.maps map ≡ None → InEndEvent same name terms log event map beginning first i done m known s → (old new : Executor K V S) → IsThere same hash old s
+      → old.batch_size ≡ terms.batch_size → map < m.made → (said : Settled (Node K V)) (leads : EndsThere same hash i said s old new)
       → (let to = leads f here in
       let effects = effects_of (acts.Ending map) known new.memory.changed in
       AtEachEffect (IsOfIts map) None (Some map) effects m

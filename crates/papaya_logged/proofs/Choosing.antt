@@ -162,18 +162,20 @@ module _ {K V S : Type 0} (choice : ℕ) (old : Logged K V S) where
 
   at_then : (same : K → K → Bool) (hash : K → ℕ) (s : Scene K V) → IsThere same hash old.executor s → IsThere same hash (logged_chosen choice old).executor (scene_chosen choice s)
   at_then same hash s at = record {
-    memory = ap (memory_chosen choice) at.held.memory;
-    together = choices_stand_among V same same old.executor.batch_size old.executor.roots slot_of s.world s.maps s.calls s.makers s.enders at.held.together choice (then_in choice s.world) refl;
+    held = record {
+      memory = ap (memory_chosen choice) at.held.memory;
+      together = choices_stand_among V same same old.executor.batch_size old.executor.roots slot_of s.world s.maps s.calls s.makers s.enders at.held.together choice (then_in choice s.world) refl;
+      hashes = at.held.hashes;
+      hashes_made = at.held.hashes_made;
+      on_slots = at.held.on_slots;
+      small = at.held.small;
+    };
     maps = at.maps;
-    hashes = at.held.hashes;
     calls = at.calls;
     makers = at.makers;
     enders = at.enders;
-    hashes_made = at.held.hashes_made;
     numbers = at.numbers;
     rows = at.rows;
-    on_slots = at.held.on_slots;
-    small = at.held.small;
     slots = at.slots;
     uses = at.uses;
   }

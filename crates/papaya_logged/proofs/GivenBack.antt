@@ -29,7 +29,7 @@ use Rattle.papaya_logged.specs.Shown.{IsCounted}
 use Rattle.papaya_logged.specs.declared.logged.Logged.{Logged}
 use Rattle.papaya_logged.proofs.Counted.{numbers_as}
 use Rattle.papaya_executor.specs.IsThere.{IsThere}
-use Rattle.papaya_scenes.specs.Scene.{Scene}
+use Rattle.papaya_scenes.specs.Scene.{Scene, at_first}
 
 -- without its last place a list reads the same, if there was none
 module _ {X : Type 0} (items : List (Option X)) (map : ℕ) (long : length items ≡ map + 1) (none : slice_index_or items map None ≡ None) where
@@ -51,18 +51,20 @@ module _ {K V S : Type 0} (same : K → K → Bool) (hash : K → ℕ) where
   pub with_maps : (e e2 : Executor K V S) (s : Scene K V) → IsThere same hash e s → e2 ≡ record e { maps = e2.maps } → ((m : ℕ) → slice_index_or e2.maps.items m None ≡ slice_index_or e.maps.items m None)
       → ((j : ℕ) (d : Beginning K) → s.makers j ≡ Some d → d.map < length e2.maps.items) → IsThere same hash e2 s
   with_maps e e2 s at is reads numbers = subst (λ (x : Executor K V S). IsThere same hash x s) (sym is) (record {
-    memory = at.held.memory;
-    together = at.held.together;
+    held = record {
+      memory = at.held.memory;
+      together = at.held.together;
+      hashes = at.held.hashes;
+      hashes_made = at.held.hashes_made;
+      on_slots = at.held.on_slots;
+      small = at.held.small;
+    };
     maps = λ m. at.maps m ∙ sym (reads m);
-    hashes = at.held.hashes;
     calls = at.calls;
     makers = at.makers;
     enders = at.enders;
-    hashes_made = at.held.hashes_made;
     numbers = numbers;
     rows = at.rows;
-    on_slots = at.held.on_slots;
-    small = at.held.small;
     slots = at.slots;
     uses = at.uses;
   })
@@ -74,7 +76,7 @@ module _ {K V S : Type 0} (same : K → K → Bool) (hash : K → ℕ) where
     other_number : (j : ℕ) (d : Beginning K) → s2.makers i ≡ None → ((k : ℕ) → k ≢ i → s2.makers k ≡ s.makers k) → s2.makers j ≡ Some d → d.map ≢ map
     other_number j d over others makes e = elim (cases_eq j i) as (λ _. ⊥) [
       | inl same_one ↦ (let none = ap s2.makers same_one ∙ over in cc (none, makes))
-      | inr ne ↦ at_first.together.makings.numbers i j b d (λ q. ne (sym q)) here (sym (others j ne) ∙ makes) (of_map ∙ sym e)
+      | inr ne ↦ at_first.held.together.makings.numbers i j b d (λ q. ne (sym q)) here (sym (others j ne) ∙ makes) (of_map ∙ sym e)
     ]
 
     -- settings that are as they were
@@ -85,7 +87,7 @@ module _ {K V S : Type 0} (same : K → K → Bool) (hash : K → ℕ) where
     none_there : s2.maps ≡ s.maps → slice_index_or e.maps.items map None ≡ None
     none_there maps =
         sym (at.maps map) ∙ ap (λ (f : ℕ → Option (Standing K)). option_map (λ standing. standing.setting) (f map)) maps
-        ∙ ap (λ (m : ℕ). option_map (λ standing. standing.setting) (s.maps m)) (sym of_map) ∙ ap (option_map (λ standing. standing.setting)) (at_first.together.makings.coming i b here)
+        ∙ ap (λ (m : ℕ). option_map (λ standing. standing.setting) (s.maps m)) (sym of_map) ∙ ap (option_map (λ standing. standing.setting)) (at_first.held.together.makings.coming i b here)
 
     dropped : s2.makers i ≡ None → ((k : ℕ) → k ≢ i → s2.makers k ≡ s.makers k) → s2.maps ≡ s.maps → (q : Bool) → (length e.maps.items == map + 1) ≡ q
         → e2.maps.items ≡ (if q then take map e.maps.items else e.maps.items) → IsThere same hash e2 s2

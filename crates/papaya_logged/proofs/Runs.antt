@@ -42,13 +42,13 @@ module _ {K V S : Type 0} where
     step.1 ∙ ap (λ (l : List Effect). l ++ step.0) ran.1 ∙ append_assoc xs ran.0 step.0,
     λ same hash s at.
         (let u = ran.2 same hash s at in
-        let to = (stepping same hash (record s { world = u.0; maps = u.1 }) u.2 row here).4 in
+        let to = (stepping same hash (record s { world = u.0; maps = u.1 }) u.2 row here).5 in
         (to.0, to.2, to.4)),
     λ same hash name m s shown.
         (let u = ran.3 same hash name m s shown in
         let then_at = record s { world = u.0; maps = u.1 } in
         let to = step.2 same hash name (with_effects None None ran.0 m) then_at u.2 row here in
-        let at = (to.0 row here).4 in (
+        let at = (to.0 row here).5 in (
           at.0,
           at.2,
           subst (λ (n : Moment K V). IsShown same hash name n new (record s { world = at.0; maps = at.2 })) (sym (effects_after None None ran.0 step.0 m)) to.1,
@@ -81,15 +81,15 @@ module _ {K V S : Type 0} (i : ℕ) where
     pub ends_on : has_come told ≡ false → EndsAs old new i
     ends_on goes row2 first here2 there last h =
         let to = leads row here in
-        let is = one_row new.executor row2 to.0 here2 (to.2 ∙ under_way_on to.0 told goes) in
-        ap (λ (r : SlotRow). uses_ended r last new.executor.slots.items) is ∙ ap (λ (l : List SlotUse). uses_ended to.0 last l) to.3
-        ∙ (rows_end K V mid.executor.slots.items mid.executor.memory.memory new.executor.memory.memory row new.executor.memory.changed (to.0, told) to.1).1 goes last h
+        let is = one_row new.executor row2 to.1 here2 (to.3 ∙ under_way_on to.1 told goes) in
+        ap (λ (r : SlotRow). uses_ended r last new.executor.slots.items) is ∙ ap (λ (l : List SlotUse). uses_ended to.1 last l) to.4
+        ∙ (rows_end K V mid.executor.slots.items mid.executor.memory.memory new.executor.memory.memory row new.executor.memory.changed (to.1, told) to.2).1 goes last h
         ∙ ends row first here there last h
 
     pub ends_now : (first : SlotRow) → work_of old.executor i ≡ Some (OnSlot first) → has_ended told ≡ true → new.executor.slots.items ≡ uses_ended first told old.executor.slots.items
     ends_now first there h =
         let to = leads row here in
-        to.3 ∙ (rows_end K V mid.executor.slots.items mid.executor.memory.memory new.executor.memory.memory row new.executor.memory.changed (to.0, told) to.1).0 h ∙ ends row first here there told h
+        to.4 ∙ (rows_end K V mid.executor.slots.items mid.executor.memory.memory new.executor.memory.memory row new.executor.memory.changed (to.1, told) to.2).0 h ∙ ends row first here there told h
 
 -- a run goes on with a step of the row after which it is under way still
 pub record RunGoes {K V S : Type 0} (old mid new : Logged K V S) (i : ℕ) (xs zs : List Effect) : Type 0 where
@@ -107,7 +107,7 @@ run_goes same hash s old mid new i xs ys zs told at row here ran ends step stepp
     let leads = stepping same hash t.0 t.1 in
     record {
       ran = ran_on old mid new xs ys zs i told row here ran step stepping;
-      under = ((leads row here).0, row_then same hash mid.executor new.executor t.0 t.1 i told leads row here goes);
+      under = ((leads row here).1, row_then same hash mid.executor new.executor t.0 t.1 i told leads row here goes);
       used = ends_on i same hash t.0 old mid new told row here leads ends goes;
       less = steps_fall same hash mid.executor new.executor t.0 t.1 i told leads row here goes;
     }

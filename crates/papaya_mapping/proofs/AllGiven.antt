@@ -22,8 +22,7 @@ use Rattle.papaya_schedules.specs.Moment.{UnderWay as CallThere, Moment}
 use Rattle.papaya_schedules.specs.Terms.{Terms}
 use Rattle.papaya_scheduler.specs.Given.Callers.Together.{UnderWay}
 use Rattle.papaya_scheduler.specs.Given.Effects.Known.{known}
-use Rattle.papaya_scheduler.specs.Given.Executor.IsAt.{Scene, use_at}
-use Rattle.papaya_scheduler.specs.Given.Executor.declared.row.SlotUse.TheVariants as used
+use Rattle.papaya_scheduler.specs.Given.Scenes.declared.row.SlotUse.TheVariants as used
 use Rattle.papaya_scheduler.specs.Given.Finishes.Endings.{Finishing}
 use Rattle.papaya_scheduler.specs.Given.Finishes.Makings.{Beginning}
 use Rattle.papaya_scheduler.specs.Given.Finishes.Maps.{Standing}
@@ -49,6 +48,8 @@ use Rattle.papaya_scheduler.specs.declared.scheduler.Scheduler.{Scheduler}
 use Rattle.papaya_scheduler.proofs.Quiet.{stands_on}
 use Rattle.papaya_scheduler.proofs.RanOn.{both_true, maps_named, some_setting}
 use Rattle.papaya_scheduler.proofs.Rights.{entry, in_turn, out_of_turn, plays, quiet}
+use Rattle.papaya_scheduler.specs.Given.Executor.IsThere.{use_at}
+use Rattle.papaya_scheduler.specs.Given.Scenes.Scene.{Scene}
 
 empty_is : {X : Type 0} (xs : List X) → is_empty xs ≡ (length xs == 0)
 empty_is [] = refl

@@ -25,8 +25,6 @@ use Rattle.papaya_scheduler.proofs.Given.Callers.Together.At.{at_other, at_same}
 use Rattle.papaya_scheduler.specs.Given.Callers.Together.{UnderWay}
 use Rattle.papaya_scheduler.specs.Given.Effects.Known.{known}
 use Rattle.papaya_scheduler.specs.Given.Effects.declared.role.Role.TheVariants as role
-use Rattle.papaya_scheduler.specs.Given.Executor.Ending.{NoCallOn, ending_begun}
-use Rattle.papaya_scheduler.specs.Given.Executor.IsAt.{Scene, IsAt, IsEnding, ending_in}
 use Rattle.papaya_scheduler.specs.Given.Executor.declared.worker.Work.{Work}
 use Rattle.papaya_raw.specs.declared.machines.end_map.EndMap.{EndMap as EndMachine}
 use Rattle.papaya_scheduler.specs.Given.Finishes.Makings.{Beginning}
@@ -65,6 +63,10 @@ use Rattle.papaya_scheduler.proofs.Maps.{map_some, number_is}
 use Rattle.papaya_scheduler.proofs.Quiet.{stands_on}
 use Rattle.papaya_scheduler.proofs.RanOn.{both_true, there_stays}
 use Rattle.papaya_scheduler.proofs.Rights.{entry, in_turn, out_of_turn, plays, quiet}
+use Rattle.papaya_scheduler.specs.Given.Executor.Ending.{NoCallOn}
+use Rattle.papaya_scheduler.specs.Given.Executor.IsThere.{IsThere, ending_in}
+use Rattle.papaya_scheduler.specs.Given.Scenes.Ending.{ending_begun}
+use Rattle.papaya_scheduler.specs.Given.Scenes.Scene.{IsEnding, Scene}
 
 -- what ends with a map is nothing to which maps are there
 module _ {K V : Type 0} (acted : Option ℕ) where
@@ -152,7 +154,7 @@ module _ {K V S : Type 0} (same : K → K → Bool) (hash : K → ℕ) (terms : 
         pub shown_mid : IsShown same hash stands.name m mid s1
         shown_mid = (begun no_call).4
 
-        pub may_run : (t : Scene K V) × IsAt same hash mid.executor t × IsEnding t i
+        pub may_run : (t : Scene K V) × IsThere same hash mid.executor t × IsEnding t i
         may_run = (s1, shown_mid.is_at, (f, here))
 
         -- what the end reclaims comes back

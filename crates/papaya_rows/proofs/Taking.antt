@@ -26,24 +26,26 @@ use Rattle.papaya_logged.specs.Given.Callers.Together.{CameAbout}
 use Rattle.papaya_logged.proofs.Given.Callers.Together.Came.{came_next, came_reached}
 use Rattle.papaya_logged.specs.Given.Schedules.declared.effect.Effect.{Effect}
 use Rattle.papaya_logged.specs.Given.Schedules.Moment.{Moment}
-use Rattle.papaya_logged.specs.Given.Executor.IsAt.{Scene, HasRow, IsAt, slot_of, work_of}
-use Rattle.papaya_logged.specs.Given.Executor.OnSlots.{RowBegins, RowSteps, row_on}
-use Rattle.papaya_logged.specs.Given.Executor.Rows.{of_registering, request_of}
 use Rattle.papaya_logged.specs.Given.Executor.declared.executor.Executor.{Executor}
-use Rattle.papaya_logged.specs.Given.Executor.declared.row.RowTold.{RowTold}
-use Rattle.papaya_logged.specs.Given.Executor.declared.row.RowTold.TheVariants as told
-use Rattle.papaya_logged.specs.Given.Executor.declared.row.SlotCall.TheVariants as call
-use Rattle.papaya_logged.specs.Given.Executor.declared.row.SlotRow.{SlotRow}
-use Rattle.papaya_logged.specs.Given.Executor.declared.row.SlotRow.TheVariants as rows
+use Rattle.papaya_logged.specs.Given.Scenes.declared.row.RowTold.{RowTold}
+use Rattle.papaya_logged.specs.Given.Scenes.declared.row.RowTold.TheVariants as told
+use Rattle.papaya_logged.specs.Given.Scenes.declared.row.SlotCall.TheVariants as call
+use Rattle.papaya_logged.specs.Given.Scenes.declared.row.SlotRow.{SlotRow}
+use Rattle.papaya_logged.specs.Given.Scenes.declared.row.SlotRow.TheVariants as rows
 use Rattle.papaya_logged.specs.Given.Executor.declared.worker.Work.{Work}
 use Rattle.papaya_logged.specs.Given.Executor.declared.worker.Work.TheVariants.{OnSlot}
-use Rattle.papaya_logged.proofs.Given.Executor.Forgotten.{as_step}
 use Rattle.papaya_logged.specs.OnSlots.{GoesOnFor, OnSlotLast, has_come}
 use Rattle.papaya_logged.specs.Shown.{IsShown}
 use Rattle.papaya_logged.specs.declared.logged.Logged.{Logged}
 use Rattle.papaya_rows.specs.Rows.{RowRan}
 use Rattle.papaya_rows.proofs.Ran.{Led, begun_led, step_led}
 use Rattle.papaya_rows.proofs.Refusals.{found_none}
+use Rattle.papaya_logged.proofs.Given.Scenes.Told.{as_step}
+use Rattle.papaya_logged.specs.Given.Executor.IsThere.{HasRow, IsThere, work_of}
+use Rattle.papaya_logged.specs.Given.Executor.OnSlots.{RowBeginsThere, row_on}
+use Rattle.papaya_logged.specs.Given.Scenes.OnSlots.{RowSteps}
+use Rattle.papaya_logged.specs.Given.Scenes.Rows.{of_registering, request_of}
+use Rattle.papaya_logged.specs.Given.Scenes.Scene.{Scene, slot_of}
 
 module _ {K V S : Type 0} (same : K → K → Bool) (hash : K → ℕ) (i : ℕ) (s : Scene K V) (size : ℕ) (enters : Bool) (apart : NoneOnVacant i s.world) where
   -- It registers on in a world with this memory, which came about from the start, and in which the others have the rows that they had.
@@ -171,7 +173,7 @@ module _ {K V S : Type 0} (same : K → K → Bool) (hash : K → ℕ) (i : ℕ)
 
 -- So it is where it begins.
 module _ {K V S : Type 0} (same : K → K → Bool) (hash : K → ℕ) (i : ℕ) (s : Scene K V) (enters : Bool) (apart : NoneOnVacant i s.world) where
-  pub first_on : (old new : Executor K V S) → IsAt same hash old s → RowBegins same hash (call.Register enters) i s old new
+  pub first_on : (old new : Executor K V S) → IsThere same hash old s → RowBeginsThere same hash (call.Register enters) i s old new
       → OnIt same hash i s old.batch_size enters apart new (record { slot = 0; enters = enters; stands = at.Begin })
   first_on old new at_s leads =
       let to = (leads tt).3 in
@@ -197,7 +199,7 @@ module _ {K V S : Type 0} (same : K → K → Bool) (hash : K → ℕ) (name : �
   abbrev size : ℕ
   size = old.executor.batch_size
 
-  leads : RowBegins same hash (call.Register enters) i s old.executor ran.began.executor
+  leads : RowBeginsThere same hash (call.Register enters) i s old.executor ran.began.executor
   leads = (ran.begins same hash name m s shown tt).0
 
   on_first : OnIt same hash i s size enters apart ran.began.executor (record { slot = 0; enters = enters; stands = at.Begin })

@@ -22,7 +22,6 @@ use Rattle.papaya_schedules.specs.Lists.{least_free}
 use Rattle.papaya_schedules.specs.Moment.{MapThere, Moment, Place, TableThere}
 use Rattle.papaya_schedules.specs.Terms.{Terms}
 use Rattle.papaya_schedules.specs.Views.{call_of, map_of, number_of}
-use Rattle.papaya_events.specs.Given.Executor.IsAt.{Scene, StaysGiven}
 use Rattle.papaya_events.proofs.Given.Remains.Numbered.{made_stays, standing_below}
 use Rattle.papaya_events.proofs.Given.Rows.Lists.{found_has}
 use Rattle.papaya_scheduler.specs.Mapping.{CountsMaps}
@@ -36,6 +35,8 @@ use Rattle.papaya_events.specs.Asked.{FindsRight, HappensAt, Holds, HoldsThen, n
 use Rattle.papaya_running.proofs.Counts.{NamesApart, begun_apart, gone_apart, made_begun, named_apart}
 use Rattle.papaya_running.proofs.Logs.{begun_same, called_so}
 use Rattle.papaya_events.proofs.Remaining.{gives_all, rested}
+use Rattle.papaya_events.specs.Given.Executor.IsThere.{StaysGiven}
+use Rattle.papaya_events.specs.Given.Scenes.Scene.{Scene}
 
 module _ {K V S : Type 0} (same : K → K → Bool) (hash : K → ℕ) (terms : Terms) (log : List (Entry K V)) (p : Scheduler K V S) (holds : Holds same hash terms (moment log) p) where
   abbrev m : Moment K V

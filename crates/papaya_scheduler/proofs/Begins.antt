@@ -15,11 +15,8 @@ use Rattle.papaya_schedules.specs.Terms.{Terms}
 use Rattle.papaya_schedules.specs.Views.{call_of, map_of, number_of}
 use Rattle.papaya_logged.specs.Given.Callers.Together.{UnderWay, in_slot}
 use Rattle.papaya_logged.proofs.Given.Callers.Together.At.{at_other, at_same}
-use Rattle.papaya_executor.specs.IsAt.{Scene, slot_of, use_at, work_of}
-use Rattle.papaya_executor.specs.Replying.{scene_with}
-use Rattle.papaya_executor.specs.declared.row.SlotUse.TheVariants as used
-use Rattle.papaya_executor.specs.declared.worker.TheConstants.{SLOTS}
-use Rattle.papaya_executor.proofs.Fresh.{caller_in, no_calls_yet, slot_is}
+use Rattle.papaya_scenes.specs.declared.row.SlotUse.TheVariants as used
+use Rattle.papaya_scenes.specs.declared.callers.TheConstants.{SLOTS}
 use Rattle.papaya_logged.specs.Given.Finishes.Machines.{machine_of}
 use Rattle.papaya_logged.specs.Given.Finishes.Maps.{Standing}
 use Rattle.papaya_logged.specs.Given.Follows.Calling.{NoneNamed}
@@ -38,6 +35,10 @@ use Rattle.papaya_rows.proofs.Facts.{no_ending_of, no_making_of, no_work_at, row
 use Rattle.papaya_rows.proofs.Lists.{all_but, all_so, as_some, found_alike, is_found, none_kept, one_of}
 use Rattle.papaya_scheduler.proofs.Maps.{setting_of_it, setting_some}
 use Rattle.papaya_rows.proofs.There.{is_inside, living_is, on_its_slot}
+use Rattle.papaya_executor.proofs.Fresh.{caller_in, no_calls_yet, slot_is}
+use Rattle.papaya_executor.specs.IsThere.{use_at, work_of}
+use Rattle.papaya_scenes.specs.Replying.{scene_with}
+use Rattle.papaya_scenes.specs.Scene.{Scene, slot_of}
 
 and_parts : (a b : Bool) → (a && b) ≡ true → (a ≡ true) × (b ≡ true)
 and_parts true b e = (refl, e)

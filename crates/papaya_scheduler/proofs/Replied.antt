@@ -43,15 +43,12 @@ use Rattle.papaya_logged.specs.Given.Callers.Pairs.{Given, Begun, IsTold, KeepsG
 use Rattle.papaya_logged.specs.Given.Callers.Sights.{seen_by}
 use Rattle.papaya_logged.specs.Given.Callers.Together.{CallOnKey, UnderWay, OnKey, ForRoom, Counting, OverAll, Together, Stands as TogetherStands}
 use Rattle.papaya_logged.proofs.Given.Callers.Together.At.{at_other, at_same}
-use Rattle.papaya_executor.specs.IsAt.{Scene, HasCall, slot_of, work_of}
-use Rattle.papaya_executor.specs.Replying.{ReplyLeads, scene_with}
 use Rattle.papaya_logged.specs.Given.Finishes.Machines.{machine_of}
 use Rattle.papaya_logged.specs.Given.Finishes.Maps.{Standing}
 use Rattle.papaya_logged.specs.Given.Follows.Calling.{told as told_so}
 use Rattle.papaya_logged.specs.Given.Follows.Calls.{IsCalled}
 use Rattle.papaya_logged.specs.Given.Hands.Asked.{IsAskedAs, as_told}
 use Rattle.papaya_logged.specs.Given.Effects.Known.{known}
-use Rattle.papaya_executor.proofs.Changed.{standing_is}
 use Rattle.papaya_logged.proofs.Given.Follows.Calling.{is_same_refl}
 use Rattle.papaya_logged.specs.Given.Late.Faults.{RoomInSweeping}
 use Rattle.papaya_logged.proofs.Given.Late.KindsKept.Laws.{told_sweeps_refuse_room}
@@ -74,6 +71,11 @@ use Rattle.papaya_rows.proofs.Lists.{changed_at, set_all, set_any, set_count}
 use Rattle.papaya_scheduler.proofs.Quiet.{stands_on}
 use Rattle.papaya_named.proofs.Takes.{key_takes, sweep_takes}
 use Rattle.papaya_scheduler.proofs.Rights.{in_turn, out_of_turn, plays, quiet}
+use Rattle.papaya_executor.specs.IsThere.{work_of}
+use Rattle.papaya_executor.specs.Replying.{RepliesThere}
+use Rattle.papaya_scenes.proofs.May.{standing_is}
+use Rattle.papaya_scenes.specs.Replying.{scene_with}
+use Rattle.papaya_scenes.specs.Scene.{HasCall, Scene, slot_of}
 
 -- What a call on a key was begun with, and told since, says of which kind it is.
 pub of_kind : {K V : Type 0} (hash : K → ℕ) (m : Mem (Node K V)) (c : Chart K) (blocks : Blocks) (keys : K → Bool) (pair : Given K V) (change : Change) (p : KeyCall K V K) (stands : Calling)
@@ -313,7 +315,7 @@ module _ {K V S : Type 0} (same : K → K → Bool) (hash : K → ℕ) (terms : 
       pub has_call : HasCall s i
       has_call = (d.map, u, under)
 
-      module _ (result : Result Unit (MachineReply V)) (new : Logged K V S) (leads : ReplyLeads same hash i (as_told reply) result s p.logged.executor new.executor)
+      module _ (result : Result Unit (MachineReply V)) (new : Logged K V S) (leads : RepliesThere same hash i (as_told reply) result s p.logged.executor new.executor)
           (takes_so : CallTakes same hash stands.name m s i (as_told reply) result p.logged new) where
         pub result_is : result ≡ Ok tt
         result_is = (leads d.map u under).4 ∙ taken u refl

@@ -23,10 +23,7 @@ use Rattle.papaya_logged.specs.Given.Callers.Sights.{seen_by}
 use Rattle.papaya_logged.specs.Given.Callers.Together.{UnderWay, OnKey, ForRoom, Counting, OverAll, Together, Stands as TogetherStands}
 use Rattle.papaya_logged.specs.Given.Late.ToldSweeps.{IsRowOfSweep}
 use Rattle.papaya_logged.specs.Given.Sweeps.declared.sweep.Sweeping.TheVariants as sweeping
-use Rattle.papaya_executor.proofs.Changed.{standing_is}
 use Rattle.papaya_logged.proofs.Given.Callers.Together.At.{at_other, at_same}
-use Rattle.papaya_executor.specs.IsAt.{Scene, HasCall, slot_of, work_of}
-use Rattle.papaya_executor.specs.Replying.{unless_stopped}
 use Rattle.papaya_logged.specs.Given.Finishes.Machines.{machine_of}
 use Rattle.papaya_logged.specs.Given.Finishes.Maps.{Standing, with_call as with_call_of}
 use Rattle.papaya_logged.specs.Given.Follows.Calling.{NoneNamed}
@@ -48,6 +45,10 @@ use Rattle.papaya_scheduler.proofs.Here.{Here, here_at, there_is}
 use Rattle.papaya_rows.proofs.Lists.{one_of, removed_all, removed_any, removed_at, removed_count}
 use Rattle.papaya_scheduler.proofs.Quiet.{stands_on}
 use Rattle.papaya_scheduler.proofs.Rights.{in_turn, out_of_turn, plays, quiet}
+use Rattle.papaya_executor.specs.IsThere.{work_of}
+use Rattle.papaya_scenes.proofs.May.{standing_is}
+use Rattle.papaya_scenes.specs.Replying.{unless_stopped}
+use Rattle.papaya_scenes.specs.Scene.{HasCall, Scene, slot_of}
 
 shows_seen : (stands : Stands) → is_ready stands ≡ shows (far_of stands)
 shows_seen Going = refl

@@ -14,8 +14,6 @@ use Rattle.papaya_schedules.specs.Views.{call_of}
 use Rattle.papaya_scheduler.specs.Given.Callers.Together.{UnderWay, OnKey}
 use Rattle.papaya_scheduler.specs.Given.Finishes.Maps.{Standing}
 use Rattle.papaya_scheduler.specs.Given.Effects.Known.{known}
-use Rattle.papaya_scheduler.specs.Given.Executor.IsAt.{Scene}
-use Rattle.papaya_scheduler.proofs.Given.Executor.Changed.{standing_is}
 use Rattle.papaya_scheduler.specs.Given.Follows.Calling.{come_to}
 use Rattle.papaya_scheduler.specs.Given.Follows.Calls.{IsCalled}
 use Rattle.papaya_scheduler.proofs.Given.Follows.Calling.{is_same_is}
@@ -34,6 +32,8 @@ use Rattle.papaya_scheduler.proofs.Here.{Here}
 use Rattle.papaya_scheduler.proofs.Given.Rows.Lists.{changed_at, set_seen}
 use Rattle.papaya_scheduler.proofs.Replied.{far_asks}
 use Rattle.papaya_stepping.proofs.StepSays.{the}
+use Rattle.papaya_scheduler.proofs.Given.Scenes.May.{standing_is}
+use Rattle.papaya_scheduler.specs.Given.Scenes.Scene.{Scene}
 
 pub far_ready : (stand : Stands) → far_of stand ≡ far.Ready → stand ≡ IsReady
 far_ready IsReady e = refl

@@ -35,9 +35,7 @@ use Rattle.papaya_scheduler.specs.Given.Effects.declared.acting.Acting.TheVarian
 use Rattle.papaya_scheduler.specs.Given.Teller.declared.changed.Changed.{Changed}
 use Rattle.papaya_scheduler.specs.Given.Finishes.Machines.{machine_of}
 use Rattle.papaya_scheduler.specs.Given.Finishes.Maps.{Standing}
-use Rattle.papaya_scheduler.specs.Given.Executor.Stepping.{StepsFrom}
 use Rattle.papaya_scheduler.specs.Given.Executor.declared.executor.Executor.{Executor}
-use Rattle.papaya_scheduler.proofs.Given.Executor.Changed.{standing_is}
 use Rattle.papaya_scheduler.specs.Given.Follows.Calls.{IsCalled}
 use Rattle.papaya_scheduler.proofs.Given.Others.Outcomes.{told_in}
 use Rattle.papaya_scheduler.proofs.Given.Owes.Tables.Hosts.{Step}
@@ -47,6 +45,8 @@ use Rattle.papaya_stepping.proofs.LookSays.{key_waits, never_waits}
 use Rattle.papaya_stepping.proofs.RoomsWait.{SaysWaits, room_says, sweep_says}
 use Rattle.papaya_stepping.proofs.StepSays.{the}
 use Rattle.papaya_stepping.proofs.WaitsFor.{quiet, waits_so}
+use Rattle.papaya_scheduler.proofs.Given.Scenes.May.{standing_is}
+use Rattle.papaya_scheduler.specs.Given.Scenes.Stepping.{StepsFrom}
 
 -- what a reservation, or a sweep, says as it waits
 room_waits : {T : Type 0} (x : Outcome T Unit) → of_outcome x ≡ progress.Waits → x ≡ outcome.Waits

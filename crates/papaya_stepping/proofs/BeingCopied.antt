@@ -13,13 +13,13 @@ use Rattle.papaya_schedules.specs.Views.{finite_map, first_of}
 use Rattle.papaya_schedules.specs.Waiting.{is_to_be_copied}
 use Rattle.papaya_scheduler.specs.Given.Effects.Known.{known}
 use Rattle.papaya_scheduler.specs.Given.Finishes.Maps.{Standing}
-use Rattle.papaya_scheduler.specs.Given.Executor.IsAt.{slot_of}
 use Rattle.papaya_scheduler.specs.Given.Follows.Maps.{ShowsPairs}
 use Rattle.papaya_scheduler.specs.Given.Histories.Had.{Had, HadJust}
 use Rattle.papaya_scheduler.proofs.Given.Histories.Now.{now_had}
 use Rattle.papaya_scheduler.specs.Played.{StandsFor}
 use Rattle.papaya_scheduler.specs.declared.scheduler.Scheduler.{Scheduler}
 use Rattle.papaya_stepping.proofs.Waiting.{both_true, chain_longer, first_as}
+use Rattle.papaya_scheduler.specs.Given.Scenes.Scene.{slot_of}
 
 upto : (a b : ℕ) → a ≤ b → nat_le a b ≡ true
 upto a b l = grind (arith, l)

@@ -48,7 +48,6 @@ use Rattle.papaya_scheduler.specs.Given.Effects.declared.role.Role.{Role}
 use Rattle.papaya_scheduler.specs.Given.Effects.declared.role.Role.TheVariants as role
 use Rattle.papaya_scheduler.specs.Given.Finishes.Machines.{machine_of}
 use Rattle.papaya_scheduler.specs.Given.Finishes.Maps.{Standing}
-use Rattle.papaya_scheduler.specs.Given.Executor.IsAt.{slot_of}
 use Rattle.papaya_scheduler.specs.Given.Follows.Blocks.{HasRole}
 use Rattle.papaya_scheduler.specs.Given.Follows.Calls.{IsCalled}
 use Rattle.papaya_scheduler.specs.Given.Follows.Maps.{table_of}
@@ -61,6 +60,7 @@ use Rattle.papaya_scheduler.specs.declared.scheduler.Scheduler.{Scheduler}
 use Rattle.papaya_stepping.proofs.StepSays.{the}
 use Rattle.papaya_stepping.proofs.Waiting.{IsForResizes, owing_hands, waits_for_copier, waits_for_handing}
 use Rattle.papaya_scheduler.proofs.Given.Waits.Works.{OnlyLooks, works}
+use Rattle.papaya_scheduler.specs.Given.Scenes.Scene.{slot_of}
 
 -- the row of a call that copies is its copier's
 key_row : (stands : Calling) (q : Copier) → copier_in stands ≡ Some q → IsRowOfCall stands → IsRowOfCopier q.stands

@@ -29,10 +29,10 @@ use Rattle.papaya_scheduler.specs.Given.Late.Kinds.{LooksAt}
 use Rattle.papaya_scheduler.specs.Given.Teller.declared.changed.Changed.TheVariants.{Nothing}
 use Rattle.papaya_scheduler.proofs.Given.Waits.Laws.{lookups_never_wait}
 use Rattle.papaya_scheduler.proofs.Given.Waits.Never.{Advances, sum_goes}
-use Rattle.papaya_scheduler.specs.Given.Executor.Stepping.{StepsFrom}
 use Rattle.papaya_scheduler.specs.Given.Executor.declared.executor.Executor.{Executor}
-use Rattle.papaya_scheduler.proofs.Given.Executor.Forgotten.{as_step}
 use Rattle.papaya_scheduler.specs.Given.Owes.Looking.{IsLooking}
+use Rattle.papaya_scheduler.proofs.Given.Scenes.Told.{as_step}
+use Rattle.papaya_scheduler.specs.Given.Scenes.Stepping.{StepsFrom}
 
 abbrev SumOn : Sum × Counted ℕ → Type 0
 SumOn end = Advances end

@@ -18,9 +18,6 @@ use Rattle.papaya_scheduler.specs.Given.Callers.Together.{UnderWay, OnKey, ForRo
 use Rattle.papaya_scheduler.proofs.Given.Callers.Together.At.{at_other, at_same}
 use Rattle.papaya_scheduler.specs.Given.Finishes.Machines.{machine_of}
 use Rattle.papaya_scheduler.specs.Given.Finishes.Maps.{Standing}
-use Rattle.papaya_scheduler.specs.Given.Executor.IsAt.{HasCall, Scene, work_of}
-use Rattle.papaya_scheduler.specs.Given.Executor.Replying.{scene_with}
-use Rattle.papaya_scheduler.proofs.Given.Executor.Changed.{standing_is}
 use Rattle.papaya_scheduler.proofs.Given.Follows.Calling.{is_same_refl}
 use Rattle.papaya_scheduler.specs.Given.Logged.Calling.{WalkGoesOn}
 use Rattle.papaya_scheduler.specs.Given.Logged.Shown.{IsShown}
@@ -39,6 +36,10 @@ use Rattle.papaya_scheduler.proofs.Given.Rows.Facts.{no_ending_of, no_making_of,
 use Rattle.papaya_scheduler.proofs.Here.{Here}
 use Rattle.papaya_scheduler.proofs.Given.Rows.Lists.{set_all, set_itself}
 use Rattle.papaya_stepping.proofs.SweepSteps.{walks_at}
+use Rattle.papaya_scheduler.proofs.Given.Scenes.May.{standing_is}
+use Rattle.papaya_scheduler.specs.Given.Executor.IsThere.{work_of}
+use Rattle.papaya_scheduler.specs.Given.Scenes.Replying.{scene_with}
+use Rattle.papaya_scheduler.specs.Given.Scenes.Scene.{HasCall, Scene}
 
 -- a call that walks is of the kind of walks
 pub kind_walks : (its : Kind) (purpose : Purpose) → IsFor its purpose → purpose ≡ Walks → its ≡ kind.Walks

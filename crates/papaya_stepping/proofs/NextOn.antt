@@ -23,10 +23,7 @@ use Rattle.papaya_scheduler.specs.Given.Effects.declared.acting.Acting.TheVarian
 use Rattle.papaya_scheduler.specs.Given.Finishes.Machines.{machine_of}
 use Rattle.papaya_scheduler.specs.Given.Finishes.Maps.{Standing}
 use Rattle.papaya_scheduler.specs.Given.Teller.declared.changed.Changed.TheVariants.{Nothing}
-use Rattle.papaya_scheduler.specs.Given.Executor.IsAt.{HasCall, IsAt, Scene, slot_of}
-use Rattle.papaya_scheduler.specs.Given.Executor.Stepping.{StepLeads, StepsFrom, has_ended, scene_after}
 use Rattle.papaya_scheduler.specs.Given.Executor.declared.executor.Executor.{Executor}
-use Rattle.papaya_scheduler.proofs.Given.Executor.Changed.{standing_is}
 use Rattle.papaya_scheduler.proofs.Given.Follows.Calling.{is_same_refl}
 use Rattle.papaya_scheduler.proofs.Given.Hands.Replacing.{calls_after}
 use Rattle.papaya_scheduler.specs.Given.Logged.Calling.{CallGoesOn, step_did}
@@ -49,6 +46,11 @@ use Rattle.papaya_scheduler.proofs.RanOn.{maps_named, there_stays}
 use Rattle.papaya_stepping.proofs.StepSays.{goes_as, the}
 use Rattle.papaya_stepping.proofs.SteppedTo.{going_on}
 use Rattle.papaya_stepping.proofs.SweepSteps.{knows_at}
+use Rattle.papaya_scheduler.proofs.Given.Scenes.May.{standing_is}
+use Rattle.papaya_scheduler.specs.Given.Executor.IsThere.{IsThere}
+use Rattle.papaya_scheduler.specs.Given.Executor.Stepping.{StepsThere}
+use Rattle.papaya_scheduler.specs.Given.Scenes.Scene.{HasCall, Scene, slot_of}
+use Rattle.papaya_scheduler.specs.Given.Scenes.Stepping.{StepsFrom, has_ended, scene_after}
 
 module _ {K V : Type 0} where
   -- what says so is a sweep
@@ -160,7 +162,7 @@ module _ {K V S : Type 0} (same : K → K → Bool) (hash : K → ℕ) (terms : 
   few_steps = few_places same hash n stands.scene d.map d.number st.0 together here.way.0 here.way.1 its_walk.1 its_sweep.sweep its_sweep.over
 
   module _ (said : Progress (Node K V)) (new : Logged K V S) (before after : List Effect) (leads_so : CallGoesOn same hash stands.name w stands.scene d.number d.map said before after p.logged new) where
-    abbrev pub leads : StepLeads same hash d.number said stands.scene p.logged.executor new.executor
+    abbrev pub leads : StepsThere same hash d.number said stands.scene p.logged.executor new.executor
     leads = (leads_so here.way.0 here.way.1).0
 
     abbrev pub did : List Effect
@@ -296,7 +298,7 @@ module _ {K V S : Type 0} (same : K → K → Bool) (hash : K → ℕ) (terms : 
     w = with_effects (Some own) (Some midst.call.map) midst.did m
 
     -- it may take a step
-    pub may_walk : (x : Caller V) → slice_get p.calls place ≡ Some x → (s : Scene K V) × IsAt same hash p.logged.executor s × HasCall s x.number
+    pub may_walk : (x : Caller V) → slice_get p.calls place ≡ Some x → (s : Scene K V) × IsThere same hash p.logged.executor s × HasCall s x.number
     may_walk x at_x =
         let it = here same hash terms own n w p midst.stands place midst.ready in
         let same_one : it.caller ≡ x = the it.caller x (sym it.at ∙ at_x) in

@@ -27,8 +27,6 @@ use Rattle.papaya_scheduler.specs.Given.Finishes.Machines.{GoesOnAs, machine_of}
 use Rattle.papaya_scheduler.specs.Given.Effects.Known.{Known, known}
 use Rattle.papaya_scheduler.specs.Given.Effects.Effects.{known_after}
 use Rattle.papaya_scheduler.specs.Given.Effects.declared.acting.Acting.TheVariants as acts
-use Rattle.papaya_scheduler.specs.Given.Executor.IsAt.{Scene}
-use Rattle.papaya_scheduler.specs.Given.Executor.Stepping.{StepLeads, StepsFrom, has_ended}
 use Rattle.papaya_scheduler.specs.Given.Follows.Calling.{come_to}
 use Rattle.papaya_scheduler.proofs.Given.Follows.Calling.{apart_back}
 use Rattle.papaya_scheduler.specs.Given.Hands.Calling.{AsksJust}
@@ -59,6 +57,9 @@ use Rattle.papaya_scheduler.proofs.RanOn.{maps_named, there_stays}
 use Rattle.papaya_stepping.proofs.StepSays.{Says, the}
 use Rattle.papaya_stepping.proofs.SteppedTo.{going_on, has_gone, here_then, name_is, next, none_named, s2}
 use Rattle.papaya_stepping.proofs.AnyWaits.{any_quiet, any_waits_for}
+use Rattle.papaya_scheduler.specs.Given.Executor.Stepping.{StepsThere}
+use Rattle.papaya_scheduler.specs.Given.Scenes.Scene.{Scene}
+use Rattle.papaya_scheduler.specs.Given.Scenes.Stepping.{StepsFrom, has_ended}
 
 module _ {K V : Type 0} (by : Known) (its : Kind) (value : Option V) where
   -- what a caller keeps
@@ -188,7 +189,7 @@ module _ {K V S : Type 0} (same : K → K → Bool) (hash : K → ℕ) (terms : 
   map_is = ap (λ (z : Seen). z.map) here.as_seen
 
   module _ (leads_so : CallGoesOn same hash stands.name m stands.scene d.number d.map said before after p.logged new) where
-    abbrev leads : StepLeads same hash d.number said stands.scene p.logged.executor new.executor
+    abbrev leads : StepsThere same hash d.number said stands.scene p.logged.executor new.executor
     leads = (leads_so here.way.0 here.way.1).0
 
     abbrev did : List Effect

@@ -27,11 +27,11 @@ use Rattle.papaya_scheduler.specs.Given.Late.Faults.{IsRoom, RefusesRoom, RoomIn
 use Rattle.papaya_scheduler.proofs.Given.Late.KindsKept.Laws.{reserves_refuse_room, sweeps_refuse_room}
 use Rattle.papaya_scheduler.proofs.Given.Late.KindsKept.Rooms.Making.{CountsOn, sum_counts}
 use Rattle.papaya_scheduler.specs.Given.Teller.declared.changed.Changed.TheVariants.{Nothing}
-use Rattle.papaya_scheduler.specs.Given.Executor.Stepping.{StepsFrom}
 use Rattle.papaya_scheduler.specs.Given.Executor.declared.executor.Executor.{Executor}
-use Rattle.papaya_scheduler.proofs.Given.Executor.Forgotten.{as_step}
 use Rattle.papaya_scheduler.proofs.Given.Histories.Asking.{always_told, always_turned}
 use Rattle.papaya_named.specs.Machines.{RefusedForRoom}
+use Rattle.papaya_scheduler.proofs.Given.Scenes.Told.{as_step}
+use Rattle.papaya_scheduler.specs.Given.Scenes.Stepping.{StepsFrom}
 
 module _ {K V : Type 0} where
   -- what it says is no refusal, or one for room

@@ -62,10 +62,8 @@ use Rattle.papaya_scheduler.specs.Given.Effects.declared.role.Role.TheVariants a
 use Rattle.papaya_scheduler.specs.Given.Teller.declared.changed.Changed.{Changed}
 use Rattle.papaya_scheduler.specs.Given.Teller.declared.changed.Changed.TheVariants as changed
 use Rattle.papaya_scheduler.specs.Given.Finishes.Maps.{Standing}
-use Rattle.papaya_scheduler.specs.Given.Executor.IsAt.{slot_of}
 use Rattle.papaya_scheduler.specs.Given.Follows.Calls.{IsCalled}
 use Rattle.papaya_scheduler.specs.Given.Follows.Maps.{table_of}
-use Rattle.papaya_scheduler.proofs.Given.Executor.Forgotten.{as_step}
 use Rattle.papaya_scheduler.proofs.Given.Owes.Tables.Hosts.{Step}
 use Rattle.papaya_scheduler.specs.Played.{StandsFor}
 use Rattle.papaya_scheduler.specs.declared.scheduler.Scheduler.{Scheduler}
@@ -76,6 +74,8 @@ use Rattle.papaya_scheduler.specs.Given.Points.FactsCopiesBlocking.{CopierFactsB
 use Rattle.papaya_scheduler.specs.Given.Late.LateCopies.{LateCopierFacts, LateCopying}
 use Rattle.papaya_scheduler.specs.Given.Kept.Ends.{HaveEndsIn}
 use Rattle.papaya_scheduler.specs.Given.SeizeActs.Waits.{SettlesOn}
+use Rattle.papaya_scheduler.proofs.Given.Scenes.Told.{as_step}
+use Rattle.papaya_scheduler.specs.Given.Scenes.Scene.{slot_of}
 
 -- a row that works on one slot settles on that
 pub on_slot : (slot s : ℕ) (row : Row) → IsRowOn slot row → SettlesOn s row → s ≡ slot

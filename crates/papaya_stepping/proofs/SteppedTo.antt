@@ -15,10 +15,8 @@ use Rattle.papaya_scheduler.specs.Given.Callers.Together.{UnderWay}
 use Rattle.papaya_scheduler.proofs.Given.Callers.Together.At.{at_other, at_same}
 use Rattle.papaya_scheduler.specs.Given.Finishes.Machines.{MachineStepsAmong, machine_of}
 use Rattle.papaya_scheduler.specs.Given.Finishes.Maps.{IsSameMap, Standing}
-use Rattle.papaya_scheduler.specs.Given.Executor.IsAt.{IsUsedAs, Scene, slot_of, use_at, work_of}
-use Rattle.papaya_scheduler.specs.Given.Executor.Stepping.{StepLeads, scene_after}
-use Rattle.papaya_scheduler.specs.Given.Executor.declared.row.SlotUse.{SlotUse}
-use Rattle.papaya_scheduler.specs.Given.Executor.declared.row.SlotUse.TheVariants as used
+use Rattle.papaya_scheduler.specs.Given.Scenes.declared.row.SlotUse.{SlotUse}
+use Rattle.papaya_scheduler.specs.Given.Scenes.declared.row.SlotUse.TheVariants as used
 use Rattle.papaya_scheduler.specs.Given.Follows.Calling.{NoneNamed}
 use Rattle.papaya_scheduler.proofs.Given.Follows.Calling.{apart_back, is_same_refl}
 use Rattle.papaya_scheduler.specs.Given.Logged.Shown.{IsShown}
@@ -32,6 +30,10 @@ use Rattle.papaya_scheduler.specs.declared.scheduler.Scheduler.{Scheduler}
 use Rattle.papaya_scheduler.proofs.Given.Rows.Facts.{no_ending_of, no_making_of, no_work_at, row_rests, used_once}
 use Rattle.papaya_scheduler.proofs.Here.{HereAs}
 use Rattle.papaya_scheduler.proofs.Given.Rows.Lists.{all_so, one_of, removed_all, removed_any, removed_count, set_all, set_any, set_count}
+use Rattle.papaya_scheduler.specs.Given.Executor.IsThere.{IsUsedAs, use_at, work_of}
+use Rattle.papaya_scheduler.specs.Given.Executor.Stepping.{StepsThere}
+use Rattle.papaya_scheduler.specs.Given.Scenes.Scene.{Scene, slot_of}
+use Rattle.papaya_scheduler.specs.Given.Scenes.Stepping.{scene_after}
 
 -- a slot that is used alike is used in that way
 used_alike : (v : SlotUse) (u u2 : Use) → IsUsedAs v u → IsUsedAlike u u2 → IsUsedAs v u2
@@ -48,7 +50,7 @@ same_stands (Some x) after same st e = (record x { blocks = same.0; sights = sam
 module _ {K V S : Type 0} (Far Then : Caller V → Machine K V K → Type 0) (own : List ℕ) (stays : (x : Caller V) → is_named own x ≡ false → (machine : Machine K V K) → Far x machine → Then x machine)
     (same : K → K → Bool) (hash : K → ℕ) (terms : Terms) (m : Moment K V) (p : Scheduler K V S) (stands : StandsAs Far same hash terms m p) (place : ℕ)
     (here : HereAs Far same hash terms m p stands own place) (said : Progress (Node K V)) (new : Logged K V S)
-    (leads : StepLeads same hash here.caller.number said stands.scene p.logged.executor new.executor) where
+    (leads : StepsThere same hash here.caller.number said stands.scene p.logged.executor new.executor) where
   abbrev s : Scene K V
   s = stands.scene
 

@@ -34,10 +34,10 @@ use Rattle.papaya_raw.specs.declared.machines.progress.Progress.{Progress}
 use Rattle.papaya_raw.specs.declared.machines.progress.Progress.TheVariants as progress
 use Rattle.papaya_scheduler.proofs.Given.Rule.Keys.Always.{Always, AlwaysOf, always_if, always_plan_as}
 use Rattle.papaya_scheduler.specs.Given.Teller.declared.changed.Changed.TheVariants.{Nothing}
-use Rattle.papaya_scheduler.specs.Given.Executor.Stepping.{StepsFrom}
 use Rattle.papaya_scheduler.specs.Given.Executor.declared.executor.Executor.{Executor}
 use Rattle.papaya_scheduler.proofs.Given.Histories.Asking.{always_told, always_turned}
 use Rattle.papaya_named.specs.Machines.{IsBefore}
+use Rattle.papaya_scheduler.specs.Given.Scenes.Stepping.{StepsFrom}
 
 -- a walk before its first pair
 module _ (K V : Type 0) (p : Sweep) (walks : p.purpose ≡ Walks) where

@@ -44,9 +44,7 @@ use Rattle.papaya_schedules.specs.Waiting.{is_to_be_copied, may_wait_for, waits_
 use Rattle.papaya_scheduler.specs.Given.Teller.declared.changed.Changed.{Changed}
 use Rattle.papaya_scheduler.specs.Given.Teller.declared.changed.Changed.TheVariants as changed
 use Rattle.papaya_scheduler.specs.Given.Finishes.Maps.{Standing}
-use Rattle.papaya_scheduler.specs.Given.Executor.IsAt.{slot_of}
 use Rattle.papaya_scheduler.specs.Given.Follows.Calls.{IsCalled}
-use Rattle.papaya_scheduler.proofs.Given.Executor.Forgotten.{as_step}
 use Rattle.papaya_scheduler.proofs.Given.Owes.Tables.Hosts.{Step}
 use Rattle.papaya_scheduler.specs.Played.{StandsFor}
 use Rattle.papaya_scheduler.specs.declared.scheduler.Scheduler.{Scheduler}
@@ -55,6 +53,8 @@ use Rattle.papaya_stepping.proofs.BeingCopied.{may_be_copied}
 use Rattle.papaya_stepping.proofs.QuietWaits.{asked_quiet, row_quiet, try_quiet}
 use Rattle.papaya_stepping.proofs.Waiting.{at_once_for_resizes, for_pair, grows_as, waits_for_holder, waits_for_worker}
 use Rattle.papaya_stepping.proofs.RoomsWait.{at_once_on, copier_on, copier_waits, dispose_on, late_on, on_slot}
+use Rattle.papaya_scheduler.proofs.Given.Scenes.Told.{as_step}
+use Rattle.papaya_scheduler.specs.Given.Scenes.Scene.{slot_of}
 
 module _ {K V S : Type 0} (same : K → K → Bool) (hash : K → ℕ) (terms : Terms) (m : Moment K V) (p : Scheduler K V S) (stands : StandsFor same hash terms m p) (of i : ℕ) (u : CallOnKey K V K)
     (under : stands.scene.calls of i ≡ Some (OnKey u)) (st : Standing K) (is : stands.scene.maps of ≡ Some st) where

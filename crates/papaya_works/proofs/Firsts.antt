@@ -46,10 +46,7 @@ use Rattle.papaya_legal.specs.Given.Effects.Effects.{table_at, effects_of, known
 use Rattle.papaya_legal.specs.Given.Effects.Known.{Known}
 use Rattle.papaya_legal.specs.Given.Effects.declared.acting.Acting.{Acting}
 use Rattle.papaya_legal.specs.Given.Effects.declared.acting.Acting.TheVariants as acts
-use Rattle.papaya_legal.specs.Given.Executor.IsAt.{Scene, IsAt}
-use Rattle.papaya_legal.specs.Given.Executor.Making.{MakingComesTo, MakingLeads}
 use Rattle.papaya_legal.specs.Given.Executor.declared.executor.Executor.{Executor}
-use Rattle.papaya_legal.proofs.Given.Executor.Forgotten.{as_step}
 use Rattle.papaya_legal.specs.Given.Finishes.Makings.{Beginning, OpeningFacts}
 use Rattle.papaya_legal.specs.Given.Follows.Shows.{Shows}
 use Rattle.papaya_legal.proofs.Given.Follows.Steps.{one_of}
@@ -68,6 +65,11 @@ use Rattle.papaya_legal.proofs.Given.Finds.Grown.{found_of, number_is}
 use Rattle.papaya_legal.proofs.Given.Finds.Linking.{made_so as made_as_shaped, turn_new}
 use Rattle.papaya_legal.proofs.Given.Finds.Lists.{each_is}
 use Rattle.papaya_legal.proofs.Given.Finds.Shaping.{always_plan_more, goes_shaped}
+use Rattle.papaya_legal.proofs.Given.Scenes.Told.{as_step}
+use Rattle.papaya_legal.specs.Given.Executor.IsThere.{IsThere}
+use Rattle.papaya_legal.specs.Given.Executor.Making.{MakesThere}
+use Rattle.papaya_legal.specs.Given.Scenes.Making.{MakingComesToThere}
+use Rattle.papaya_legal.specs.Given.Scenes.Scene.{Scene}
 
 -- A step of the making of a map leaves it the places that its table is to have, and makes a table for those.
 
@@ -165,7 +167,7 @@ makings_open K V s shows i b given roots places opens = one_so s shows i b (subs
 
 module _ {K V S : Type 0} (same : K → K → Bool) (hash : K → ℕ) (s : Scene K V) (old new : Executor K V S) (shows : ShowsOpenings s) (i : ℕ) (b : Beginning K) (end : NewMap)
     (so : OpensFor end.len end.stands) (w2 : World (Node K V)) where
-  goes_then : (told : Progress Setting) (comes : MakingComesTo same hash s old new i b end w2 told) → ShowsOpenings (making_after same hash s old new i b end w2 told comes)
+  goes_then : (told : Progress Setting) (comes : MakingComesToThere same hash s old new i b end w2 told) → ShowsOpenings (making_after same hash s old new i b end w2 told comes)
   goes_then progress.Goes comes = λ j d is. one_so s shows i (record b { machine = end }) so j d is
   goes_then progress.Waits comes = absurd comes
   goes_then (progress.Done setting) comes = λ j d is. gone_so s shows i j d is
@@ -233,8 +235,8 @@ has_len f none places len places_are some len_is =
     let power : places ≡ next_power (places_for f.capacity) = places_are ∙ some_first f.capacity (λ e. some (places_are ∙ e)) in
     subst (λ (r : Result ℕ Fault). Has r len) (sym lens) (len_is ∙ ap (λ (n : ℕ). max n 8) power)
 
-module _ {K V S : Type 0} (same : K → K → Bool) (hash : K → ℕ) (name : ℕ → List ℕ) (m : Moment K V) (known : Known) (s : Scene K V) (old new : Executor K V S) (at_s : IsAt same hash old s)
-    (shown : Shows same name m known s) (tables : ShowsTables name m known s) (shows : ShowsOpenings s) (i : ℕ) (told : Progress Setting) (leads : MakingLeads same hash i told s old new)
+module _ {K V S : Type 0} (same : K → K → Bool) (hash : K → ℕ) (name : ℕ → List ℕ) (m : Moment K V) (known : Known) (s : Scene K V) (old new : Executor K V S) (at_s : IsThere same hash old s)
+    (shown : Shows same name m known s) (tables : ShowsTables name m known s) (shows : ShowsOpenings s) (i : ℕ) (told : Progress Setting) (leads : MakesThere same hash i told s old new)
     (b : Beginning K) (here : s.makers i ≡ Some b) (of : Option ℕ) (f : MapThere) (f_is : map_at b.map m ≡ Some f) (none_yet : tables_of b.map m ≡ [])
     (faultless : map_fault f.mode f.capacity ≡ None) (places_are : b.places ≡ first_places f.capacity) where
   abbrev its : Acting

@@ -165,7 +165,7 @@ module _ (K V S : Type 0) (same : K → K → Bool) (hash : K → ℕ) where
   pub makings_do_theirs : MakingsDoTheirs K V S same hash
   makings_do_theirs name m known s old new at shown i told leads b here noted =
       map_does b.map known s.world m.stored shown.blocks.roles i old.memory.memory new.memory.memory new.memory.changed old.roots b.machine ((leads b here).0, told) b.machine.stands
-      (at.together.makings.facts i b here).point noted (leads b here).1
+      (at.held.together.makings.facts i b here).point noted (leads b here).1
 
   pub makings_find_theirs : MakingsFindTheirs K V S same hash
   makings_find_theirs name m known s old new at shown tables openings i told leads b here noted of f f_is none_yet faultless places_are shown_then =

@@ -20,16 +20,13 @@ use Rattle.papaya_legal.specs.Given.Schedules.Terms.{Terms}
 use Rattle.papaya_legal.specs.Given.Effects.Effects.{effects_of}
 use Rattle.papaya_legal.specs.Given.Effects.Known.{Known}
 use Rattle.papaya_legal.specs.Given.Effects.declared.acting.Acting.TheVariants as acts
-use Rattle.papaya_legal.specs.Given.Executor.IsAt.{HasRow, row_of, slot_of, work_of}
-use Rattle.papaya_legal.specs.Given.Executor.OnSlots.{RowSteps as StepsAs, row_on}
-use Rattle.papaya_legal.specs.Given.Executor.Rows.{begun_row, request_of}
 use Rattle.papaya_legal.specs.Given.Executor.declared.executor.Executor.{Executor}
-use Rattle.papaya_legal.specs.Given.Executor.declared.row.RowTold.{RowTold}
-use Rattle.papaya_legal.specs.Given.Executor.declared.row.RowTold.TheVariants as told
-use Rattle.papaya_legal.specs.Given.Executor.declared.row.SlotCall.{SlotCall}
-use Rattle.papaya_legal.specs.Given.Executor.declared.row.SlotCall.TheVariants as call
-use Rattle.papaya_legal.specs.Given.Executor.declared.row.SlotRow.{SlotRow}
-use Rattle.papaya_legal.specs.Given.Executor.declared.row.SlotRow.TheVariants as rows
+use Rattle.papaya_legal.specs.Given.Scenes.declared.row.RowTold.{RowTold}
+use Rattle.papaya_legal.specs.Given.Scenes.declared.row.RowTold.TheVariants as told
+use Rattle.papaya_legal.specs.Given.Scenes.declared.row.SlotCall.{SlotCall}
+use Rattle.papaya_legal.specs.Given.Scenes.declared.row.SlotCall.TheVariants as call
+use Rattle.papaya_legal.specs.Given.Scenes.declared.row.SlotRow.{SlotRow}
+use Rattle.papaya_legal.specs.Given.Scenes.declared.row.SlotRow.TheVariants as rows
 use Rattle.papaya_legal.specs.Given.Executor.declared.worker.Work.{Work}
 use Rattle.papaya_legal.specs.Given.Executor.declared.worker.Work.TheVariants.{OnSlot}
 use Rattle.papaya_legal.specs.Chains.{Come, RowSteps}
@@ -40,6 +37,11 @@ use Rattle.papaya_works.specs.Rows.{RowsDoTheirs, may_row, row_begun}
 use Rattle.papaya_works.proofs.Flushes.Moves.{FlushesOn}
 use Rattle.papaya_works.proofs.Flushes.Worlds.{Flushing, flush_begins, flush_steps}
 use Rattle.papaya_works.proofs.Steps.{IsNoOwn, IsTaking, asks_alone, does_nothing, enters_tell, flushes_tell, frees_tell, leaves_tell, reclaims_alone, registers_tell, takes_no_own}
+use Rattle.papaya_legal.specs.Given.Executor.IsThere.{HasRow, work_of}
+use Rattle.papaya_legal.specs.Given.Executor.OnSlots.{row_on}
+use Rattle.papaya_legal.specs.Given.Scenes.OnSlots.{RowSteps as StepsAs}
+use Rattle.papaya_legal.specs.Given.Scenes.Rows.{begun_row, request_of}
+use Rattle.papaya_legal.specs.Given.Scenes.Scene.{row_of, slot_of}
 
 -- a flush that takes nothing is not about to take a block away
 never_takes : (i s : ℕ) (c : Settle) (m : State) → FlushesOn i s (part c) m → IsTaking c.stands → ⊥
@@ -183,7 +185,7 @@ module _ (K V S : Type 0) (same : K → K → Bool) (hash : K → ℕ) where
       begun_as call.Refresh is = tt
       begun_as call.Unregister is = tt
       begun_as call.Flush is =
-          let reached = came_reached old.batch_size s.world at.together.makings.standing.came in
+          let reached = came_reached old.batch_size s.world at.held.together.makings.standing.came in
           flush_begins deferred_word old.batch_size i (slot_of i) s.world (leads may).3.0 reached.good reached.sized (leads may).3.1.0 (inside is)
           (subst (λ (c : SlotCall). Begins deferred_word old.batch_size i (request_of (slot_of i) c) s.world (leads may).3.0) is (leads may).3.1.1)
 

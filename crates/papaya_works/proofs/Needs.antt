@@ -25,14 +25,12 @@ use Rattle.papaya_legal.specs.Given.Schedules.Terms.{Terms}
 use Rattle.papaya_legal.specs.Given.Effects.Effects.{effects_of, names_same}
 use Rattle.papaya_legal.specs.Given.Effects.Known.{Known}
 use Rattle.papaya_legal.specs.Given.Effects.declared.acting.Acting.TheVariants as acts
-use Rattle.papaya_legal.specs.Given.Executor.IsAt.{Scene, IsAt, work_of}
-use Rattle.papaya_legal.specs.Given.Executor.OnSlots.{RowBegins, RowSteps as StepsAs, row_on}
 use Rattle.papaya_legal.specs.Given.Executor.declared.executor.Executor.{Executor}
-use Rattle.papaya_legal.specs.Given.Executor.declared.row.RowTold.{RowTold}
-use Rattle.papaya_legal.specs.Given.Executor.declared.row.RowTold.TheVariants as told
-use Rattle.papaya_legal.specs.Given.Executor.declared.row.SlotCall.TheVariants as call
-use Rattle.papaya_legal.specs.Given.Executor.declared.row.SlotRow.{SlotRow}
-use Rattle.papaya_legal.specs.Given.Executor.declared.row.SlotRow.TheVariants as rows
+use Rattle.papaya_legal.specs.Given.Scenes.declared.row.RowTold.{RowTold}
+use Rattle.papaya_legal.specs.Given.Scenes.declared.row.RowTold.TheVariants as told
+use Rattle.papaya_legal.specs.Given.Scenes.declared.row.SlotCall.TheVariants as call
+use Rattle.papaya_legal.specs.Given.Scenes.declared.row.SlotRow.{SlotRow}
+use Rattle.papaya_legal.specs.Given.Scenes.declared.row.SlotRow.TheVariants as rows
 use Rattle.papaya_legal.specs.Given.Executor.declared.worker.Work.{Work}
 use Rattle.papaya_legal.specs.Given.Executor.declared.worker.Work.TheVariants.{OnSlot}
 use Rattle.papaya_legal.proofs.Given.Spots.Unreclaimed.{and_both}
@@ -46,6 +44,10 @@ use Rattle.papaya_works.specs.Needs.{AreReached}
 use Rattle.papaya_works.proofs.Mays.{goes_as}
 use Rattle.papaya_works.proofs.Registering.{NeedsSlot, asks_in_need}
 use Rattle.papaya_works.proofs.Steps.{Tells, registers_tell}
+use Rattle.papaya_legal.specs.Given.Executor.IsThere.{IsThere, work_of}
+use Rattle.papaya_legal.specs.Given.Executor.OnSlots.{RowBeginsThere, row_on}
+use Rattle.papaya_legal.specs.Given.Scenes.OnSlots.{RowSteps as StepsAs}
+use Rattle.papaya_legal.specs.Given.Scenes.Scene.{Scene}
 
 -- a bucket is asked for among the effects of a step that makes room, where it was not known
 module _ (known : Known) where
@@ -164,7 +166,7 @@ module _ {K V S : Type 0} (same : K → K → Bool) (hash : K → ℕ) (terms : 
         either (inr now) = asked now
 
   -- So all buckets that were asked for were in need, from where it began.
-  pub registers_need : (new : Executor K V S) → IsAt same hash old s → (leads : RowBegins same hash (call.Register enters) i s old new) → SlotsNoted first new.memory.memory → (n : ℕ) (from to : Come K V S)
+  pub registers_need : (new : Executor K V S) → IsThere same hash old s → (leads : RowBeginsThere same hash (call.Register enters) i s old new) → SlotsNoted first new.memory.memory → (n : ℕ) (from to : Come K V S)
       → from.executor ≡ new → from.notes ≡ first → from.did ≡ [] → Chain (RowSteps same hash terms i) n from to → AtEachEffect AsksInNeed None None to.did m
   registers_need new at_s leads noted n from to executor_is notes_are none chain =
       all_asked m.slots (least_free (used_slots m.there)) to.did m refl refl

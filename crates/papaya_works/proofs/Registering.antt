@@ -32,14 +32,14 @@ use Rattle.papaya_legal.specs.Given.Teller.declared.changed.Changed.{Changed}
 use Rattle.papaya_legal.specs.Given.Teller.declared.changed.Changed.TheVariants as changed
 use Rattle.papaya_legal.proofs.Given.Callers.Together.Came.{came_reached}
 use Rattle.papaya_legal.specs.Given.Effects.Known.{Known}
-use Rattle.papaya_legal.specs.Given.Executor.IsAt.{Scene}
-use Rattle.papaya_legal.specs.Given.Executor.OnSlots.{RowSteps}
 use Rattle.papaya_legal.specs.Given.Executor.declared.executor.Executor.{Executor}
-use Rattle.papaya_legal.specs.Given.Executor.declared.row.RowTold.{RowTold}
-use Rattle.papaya_legal.specs.Given.Executor.declared.row.SlotRow.{SlotRow}
-use Rattle.papaya_legal.specs.Given.Executor.declared.row.SlotRow.TheVariants as rows
+use Rattle.papaya_legal.specs.Given.Scenes.declared.row.RowTold.{RowTold}
+use Rattle.papaya_legal.specs.Given.Scenes.declared.row.SlotRow.{SlotRow}
+use Rattle.papaya_legal.specs.Given.Scenes.declared.row.SlotRow.TheVariants as rows
 use Rattle.papaya_legal.specs.Given.Remains.Slots.{SlotsNoted}
 use Rattle.papaya_rows.proofs.Taking.{OnIt}
+use Rattle.papaya_legal.specs.Given.Scenes.OnSlots.{RowSteps}
+use Rattle.papaya_legal.specs.Given.Scenes.Scene.{Scene}
 
 -- it asks for room of this bucket by its next step
 abbrev AsksAt : Registering → ℕ → Type 0

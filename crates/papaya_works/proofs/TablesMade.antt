@@ -21,8 +21,6 @@ use Rattle.papaya_legal.specs.Given.Effects.Effects.{effects_of, known_after, ta
 use Rattle.papaya_legal.specs.Given.Effects.Known.{Known}
 use Rattle.papaya_legal.specs.Given.Effects.declared.acting.Acting.{Acting}
 use Rattle.papaya_legal.specs.Given.Effects.declared.acting.Acting.TheVariants as acts
-use Rattle.papaya_legal.specs.Given.Executor.IsAt.{Scene, IsAt}
-use Rattle.papaya_legal.specs.Given.Executor.Making.{MakingLeads}
 use Rattle.papaya_legal.specs.Given.Executor.declared.executor.Executor.{Executor}
 use Rattle.papaya_legal.specs.Given.Finishes.Makings.{Beginning}
 use Rattle.papaya_legal.specs.Given.Follows.Shows.{Shows}
@@ -34,6 +32,9 @@ use Rattle.papaya_legal.proofs.Given.Owes.Tables.MakingsOfMaps.{left_tables}
 use Rattle.papaya_legal.proofs.Given.Owes.Tables.Roles.{of_table, NoneOfTable}
 use Rattle.papaya_works.specs.Makings.{CountsTables, MakingsCountTables, in_hand, table_left}
 use Rattle.papaya_works.proofs.Makings.{makings_do_theirs}
+use Rattle.papaya_legal.specs.Given.Executor.IsThere.{IsThere}
+use Rattle.papaya_legal.specs.Given.Executor.Making.{MakesThere}
+use Rattle.papaya_legal.specs.Given.Scenes.Scene.{Scene}
 
 abbrev linked : Table → TableShape → TableThere
 linked t shape = record { table = t; shape = shape; stage = AtLinked }
@@ -62,8 +63,8 @@ module _ {K V : Type 0} (map : ℕ) (of : Option ℕ) where
       ∙ length-append (tables_of map m) (filter (λ (u : TableThere). u.table.map == map) (linked t shape ∷ []))
       ∙ ap (λ (q : Bool). length (tables_of map m) + length (if q then linked t shape ∷ [] else [])) (eq-eqb t.map map its)
 
-module _ {K V S : Type 0} (same : K → K → Bool) (hash : K → ℕ) (name : ℕ → List ℕ) (m : Moment K V) (known : Known) (s : Scene K V) (old new : Executor K V S) (at_s : IsAt same hash old s)
-    (shown : Shows same name m known s) (tables : ShowsTables name m known s) (i : ℕ) (told : Progress Setting) (leads : MakingLeads same hash i told s old new)
+module _ {K V S : Type 0} (same : K → K → Bool) (hash : K → ℕ) (name : ℕ → List ℕ) (m : Moment K V) (known : Known) (s : Scene K V) (old new : Executor K V S) (at_s : IsThere same hash old s)
+    (shown : Shows same name m known s) (tables : ShowsTables name m known s) (i : ℕ) (told : Progress Setting) (leads : MakesThere same hash i told s old new)
     (b : Beginning K) (here : s.makers i ≡ Some b) (noted : NotesCounter known b) (of : Option ℕ) (done : List Effect) (counts : CountsTables b.map done m (table_left b.machine progress.Goes)) where
   abbrev its : Acting
   its = acts.Making b.map

@@ -7,7 +7,6 @@ use Rattle.papaya_folded.specs.Given.Seize.declared.rows.settle.Settled.TheVaria
 use Rattle.papaya_folded.specs.Given.Tables.declared.node.Node.{Node}
 use Rattle.papaya_folded.specs.Given.Effects.Effects.{effects_of, known_after}
 use Rattle.papaya_folded.specs.Given.Effects.declared.acting.Acting.TheVariants as acts
-use Rattle.papaya_folded.specs.Given.Executor.IsAt.{Scene, IsAt}
 use Rattle.papaya_folded.specs.Given.Schedules.declared.effect.Effect.{Effect}
 use Rattle.papaya_folded.specs.Given.Schedules.Effects.{with_effects}
 use Rattle.papaya_folded.specs.Given.Schedules.Moment.{Moment}
@@ -21,6 +20,8 @@ use Rattle.papaya_folded.proofs.Given.Logged.ReclaimsRun.{same_setting}
 use Rattle.papaya_folded.specs.Given.Legal.AllEvents.{AllCome, AllSteps, scene_in}
 use Rattle.papaya_folded.specs.Given.Legal.Chains.{Chain, Come}
 use Rattle.papaya_events.proofs.OfRows.Chain.{come_as, come_by}
+use Rattle.papaya_folded.specs.Given.Executor.IsThere.{IsThere}
+use Rattle.papaya_folded.specs.Given.Scenes.Scene.{Scene}
 
 module _ {K V S : Type 0} where
   -- how far an event has come that has run so far, at this moment, in this scene, with these lists behind the roots
@@ -78,7 +79,7 @@ module _ {K V S : Type 0} (same : K → K → Bool) (hash : K → ℕ) (terms : 
         (subst (λ (said : Settled (Node K V)). ReclaimingComesTo same hash s i lists from.0.logged.executor to.0.logged.executor then_scene leads.1.lists2 to.1 said) done leads.2).0
 
     -- and the executor is there
-    pub over_there : step.1 ≡ settled.Done → IsAt same hash to.0.logged.executor then_scene
+    pub over_there : step.1 ≡ settled.Done → IsThere same hash to.0.logged.executor then_scene
     over_there done =
         (subst (λ (said : Settled (Node K V)). ReclaimingComesTo same hash s i lists from.0.logged.executor to.0.logged.executor then_scene leads.1.lists2 to.1 said) done leads.2).1
 

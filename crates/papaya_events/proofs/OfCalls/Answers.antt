@@ -34,8 +34,6 @@ use Rattle.papaya_folded.specs.Given.Schedules.declared.effect.Effect.{Effect}
 use Rattle.papaya_folded.specs.Given.Schedules.Entry.{Entry}
 use Rattle.papaya_folded.specs.Given.Schedules.Moment.{UnderWay as CallThere, Moment}
 use Rattle.papaya_folded.specs.Given.Callers.Together.{UnderWay, CallOnKey, OnKey, ForRoom, Counting, OverAll}
-use Rattle.papaya_folded.specs.Given.Executor.IsAt.{Scene}
-use Rattle.papaya_folded.specs.Given.Executor.Stepping.{StepLeads}
 use Rattle.papaya_folded.specs.Given.Finishes.Machines.{machine_of}
 use Rattle.papaya_folded.specs.Given.Histories.OtherCalls.{IsOnNoKey}
 use Rattle.papaya_folded.specs.Given.Named.Seen.{kind_of, kind_on}
@@ -45,6 +43,8 @@ use Rattle.papaya_values.specs.Values.{KeepsValue}
 use Rattle.papaya_values.proofs.Values.{inserts_tell_theirs}
 use Rattle.papaya_events.specs.OfCalls.{LastStepsTell}
 use Rattle.papaya_events.proofs.OfCalls.Words.{tells_of}
+use Rattle.papaya_folded.specs.Given.Executor.Stepping.{StepsThere}
+use Rattle.papaya_folded.specs.Given.Scenes.Scene.{Scene}
 
 -- what is stored is the reply's value, and else nothing is meant
 module _ {V : Type 0} where
@@ -304,7 +304,7 @@ last_steps_tell K V S same hash name terms log event beginning map i c steps don
 
     tells : (one : OneKey K V) → c.call ≡ On one → (it : KeyAnswer) → said ≡ progress.Done (answers.Key it) → Tells (known_after (acts.Call i map) new.memory.changed known) value c.replies one it
     tells (TryInsert k v) is (says.Found word) done_so =
-        inserts_tell_theirs K V S same hash name m known s old new at midst.calls.whole map i u here word (subst (λ (x : Progress (Node K V)). StepLeads same hash i x s old new) done_so leads) d d_is k v
+        inserts_tell_theirs K V S same hash name m known s old new at midst.calls.whole map i u here word (subst (λ (x : Progress (Node K V)). StepsThere same hash i x s old new) done_so leads) d d_is k v
         (call_so ∙ is) value keeps_now
     tells (Compute k) is it done_so =
         let x = on_key same name log beginning map i c done m known s u midst.event_so (Compute k) is in

@@ -19,9 +19,6 @@ use Rattle.papaya_folded.specs.Given.Schedules.Terms.{Terms}
 use Rattle.papaya_folded.specs.Given.Schedules.Views.{call_of, number_of}
 use Rattle.papaya_folded.specs.Given.Callers.Together.{UnderWay}
 use Rattle.papaya_folded.specs.Given.Effects.Known.{Known, known}
-use Rattle.papaya_folded.specs.Given.Executor.Beginning.{Begins}
-use Rattle.papaya_folded.specs.Given.Executor.IsAt.{Scene, HasCall, slot_of}
-use Rattle.papaya_folded.specs.Given.Executor.Replying.{scene_with}
 use Rattle.papaya_folded.specs.Given.Finishes.Maps.{Standing}
 use Rattle.papaya_folded.specs.Given.Follows.Calling.{NoneNamed}
 use Rattle.papaya_folded.specs.Given.Histories.AsCalled.{IsBegunAs}
@@ -53,6 +50,9 @@ use Rattle.papaya_events.specs.OfCalls.{HaveShards, HaveValues, IsWorth, Runs, R
 use Rattle.papaya_events.proofs.OfCalls.Scenes.{AreNamed, stands_in}
 use Rattle.papaya_events.proofs.Remaining.{counted_in}
 use Rattle.papaya_events.proofs.Reached.{reached_by}
+use Rattle.papaya_folded.specs.Given.Scenes.Beginning.{Begins}
+use Rattle.papaya_folded.specs.Given.Scenes.Replying.{scene_with}
+use Rattle.papaya_folded.specs.Given.Scenes.Scene.{HasCall, Scene, slot_of}
 
 -- what is under way then is a call as it was called
 module _ {K V : Type 0} (same : K → K → Bool) (st : Standing K) (i : ℕ) where

@@ -24,7 +24,6 @@ use Rattle.papaya_folded.specs.Given.Schedules.Terms.{Terms, shards_of}
 use Rattle.papaya_folded.specs.Given.Schedules.Views.{call_of}
 use Rattle.papaya_folded.specs.Given.Effects.Known.{Known, known}
 use Rattle.papaya_folded.specs.Given.Effects.declared.acting.Acting.TheVariants as acts
-use Rattle.papaya_folded.specs.Given.Executor.IsAt.{Scene, slot_of}
 use Rattle.papaya_folded.specs.Given.Finishes.Maps.{Standing}
 use Rattle.papaya_folded.specs.Given.Histories.InEvent.{ComesSo}
 use Rattle.papaya_folded.specs.Given.Finishes.Machines.{machine_of}
@@ -61,6 +60,7 @@ use Rattle.papaya_values.specs.Values.{KeepsValue}
 use Rattle.papaya_events.proofs.OfCalls.Words.{not_busy, shows_as_told, tells_end}
 use Rattle.papaya_events.proofs.Remaining.{counted_in}
 use Rattle.papaya_events.proofs.Reached.{reached_after}
+use Rattle.papaya_folded.specs.Given.Scenes.Scene.{Scene, slot_of}
 
 module _ {K V S : Type 0} (same : K → K → Bool) (hash : K → ℕ) (name : ℕ → List ℕ) (terms : Terms) (log : List (Entry K V)) (event : Event K V) (beginning : Moment K V)
     (map i : ℕ) (c : CallThere K V) (place : ℕ) (c_is : call_of (name i) beginning ≡ Some c) (first : Known) (before : Scene K V) (run : ShowsRun same name terms log first before) (had : HaveCome (things_in log) (moment log))

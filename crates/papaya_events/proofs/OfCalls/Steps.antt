@@ -26,8 +26,6 @@ use Rattle.papaya_folded.specs.Given.Callers.Together.{UnderWay, HandsOver}
 use Rattle.papaya_folded.specs.Given.Effects.Effects.{effects_of, known_after}
 use Rattle.papaya_folded.specs.Given.Effects.Known.{Known, known}
 use Rattle.papaya_folded.specs.Given.Effects.declared.acting.Acting.TheVariants as acts
-use Rattle.papaya_folded.specs.Given.Executor.IsAt.{KeepsGiven, Scene, slot_of}
-use Rattle.papaya_folded.specs.Given.Executor.Stepping.{StepLeads, has_ended, scene_after}
 use Rattle.papaya_folded.specs.Given.Finishes.Maps.{Standing, IsSameMap}
 use Rattle.papaya_folded.specs.Given.Histories.InEvent.{here_of}
 use Rattle.papaya_folded.specs.Given.Schedules.declared.effect.Thing.{Thing}
@@ -72,6 +70,10 @@ use Rattle.papaya_folded.specs.Folded.{HandInOrder}
 use Rattle.papaya_folded.proofs.Steps.{more_in_order}
 use Rattle.papaya_events.proofs.OfCalls.Scenes.{AreNamed, named_left, named_set}
 use Rattle.papaya_events.proofs.OfCalls.Words.{shows_none}
+use Rattle.papaya_folded.specs.Given.Executor.IsThere.{KeepsGiven}
+use Rattle.papaya_folded.specs.Given.Executor.Stepping.{StepsThere}
+use Rattle.papaya_folded.specs.Given.Scenes.Scene.{Scene, slot_of}
+use Rattle.papaya_folded.specs.Given.Scenes.Stepping.{has_ended, scene_after}
 
 one_more : (n : ℕ) → n + 1 ≡ suc n
 one_more n = omega arith
@@ -149,7 +151,7 @@ module _ {K V S : Type 0} (same : K → K → Bool) (hash : K → ℕ) (name : �
         (subst (λ (k : ℕ). CallGoesOn same hash name come.now come.scene k step.caller.map step.said mid after p.logged new.logged) (ap (λ (x : Caller V). x.number) caller_is ∙ come.number)
         (step.leads name come.now come.scene come.shown))
 
-    abbrev pub leads : StepLeads same hash i step.said come.scene p.logged.executor new.logged.executor
+    abbrev pub leads : StepsThere same hash i step.said come.scene p.logged.executor new.logged.executor
     leads = (leads_at come.under its_here).0
 
     abbrev pub did : List Effect

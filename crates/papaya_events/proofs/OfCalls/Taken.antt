@@ -18,7 +18,6 @@ use Rattle.papaya_folded.specs.Given.Schedules.Terms.{Terms}
 use Rattle.papaya_folded.specs.Given.Schedules.Views.{call_of}
 use Rattle.papaya_folded.specs.Given.Callers.Together.{UnderWay}
 use Rattle.papaya_folded.specs.Given.Effects.Known.{known}
-use Rattle.papaya_folded.specs.Given.Executor.IsAt.{slot_of}
 use Rattle.papaya_folded.specs.Given.Schedules.declared.effect.Thing.{Thing}
 use Rattle.papaya_folded.specs.Given.Schedules.declared.event.Event.TheVariants.{Replied}
 use Rattle.papaya_folded.specs.Given.Schedules.declared.outcome.Outcome.{Outcome}
@@ -47,6 +46,7 @@ use Rattle.papaya_events.proofs.OfCalls.Found.{all_find, gone_find}
 use Rattle.papaya_events.proofs.OfCalls.InCase.{comes_in_case}
 use Rattle.papaya_events.proofs.OfCalls.Scenes.{its_named}
 use Rattle.papaya_events.proofs.OfCalls.Steps.{HasCome, as_told, has_come, the}
+use Rattle.papaya_folded.specs.Given.Scenes.Scene.{slot_of}
 
 -- an event that takes steps tells no reply
 steps_tell_none : {K V : Type 0} (event : Event K V) → takes_steps event ≡ true → (outcome : Outcome V) → TellsNone event outcome

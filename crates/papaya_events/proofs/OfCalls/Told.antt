@@ -24,8 +24,6 @@ use Rattle.papaya_folded.specs.Given.Schedules.Terms.{Terms}
 use Rattle.papaya_folded.specs.Given.Schedules.Views.{call_of}
 use Rattle.papaya_folded.specs.Given.Callers.Together.{UnderWay}
 use Rattle.papaya_folded.specs.Given.Effects.Known.{Known, known}
-use Rattle.papaya_folded.specs.Given.Executor.IsAt.{Scene, IsAt, KeepsGiven}
-use Rattle.papaya_folded.specs.Given.Executor.Replying.{ReplyLeads, StopLeads, scene_with, unless_stopped}
 use Rattle.papaya_folded.specs.Given.Finishes.Machines.{machine_of}
 use Rattle.papaya_folded.specs.Given.Finishes.Maps.{Standing, with_call as with_call_of}
 use Rattle.papaya_folded.specs.Given.Follows.Calling.{NoneNamed}
@@ -62,6 +60,10 @@ use Rattle.papaya_events.specs.OfCalls.{HaveValues, IsWorth, Runs, RunsOn}
 use Rattle.papaya_events.proofs.OfCalls.Scenes.{AreNamed, its_named, named_left, named_set, stands_in}
 use Rattle.papaya_events.proofs.Remaining.{counted_in}
 use Rattle.papaya_events.proofs.Reached.{reached_by}
+use Rattle.papaya_folded.specs.Given.Executor.IsThere.{IsThere, KeepsGiven}
+use Rattle.papaya_folded.specs.Given.Executor.Replying.{RepliesThere, StopsThere}
+use Rattle.papaya_folded.specs.Given.Scenes.Replying.{scene_with, unless_stopped}
+use Rattle.papaya_folded.specs.Given.Scenes.Scene.{Scene}
 
 -- a call takes a reply of its kind
 taken_by : {K V : Type 0} (one : OneKey K V) (reply : Reply V) → fits (kind_on one) reply ≡ true → IsTaken one reply
@@ -101,7 +103,7 @@ module _ {K V S : Type 0} (same : K → K → Bool) (hash : K → ℕ) (terms : 
   name = runs.stands.name
 
   -- the run goes on in a scene with the same maps
-  module _ (e : Entry K V) (nothing : e.effects ≡ []) (t : Scene K V) (run : ShowsRun same name terms (e ∷ log) (known old.logged.notes) t) (legal : IsLegalBut same terms log e) (is_at : IsAt same hash new.logged.executor t) (maps : t.maps ≡ s.maps)
+  module _ (e : Entry K V) (nothing : e.effects ≡ []) (t : Scene K V) (run : ShowsRun same name terms (e ∷ log) (known old.logged.notes) t) (legal : IsLegalBut same terms log e) (is_at : IsThere same hash new.logged.executor t) (maps : t.maps ≡ s.maps)
       (left : LeftAmong new.logged.executor.roots t.world t.maps t.makers t.enders runs.stands.shown.counted.remains.lists) (notes : new.logged.notes ≡ old.logged.notes) (on_size : new.logged.executor.batch_size ≡ old.logged.executor.batch_size) (named : AreNamed name new.calls)
       (values : HaveValues (moment (e ∷ log)) t new.calls) (plays : IsPlayed same hash terms (e ∷ log) new) (right : ComesRight terms log e) (memory : t.world.memory ≡ s.world.memory) (no_slot : slots_on e.outcome m.slots ≡ m.slots) where
     run_then : ShowsRun same name terms (e ∷ log) (known new.logged.notes) t
@@ -158,10 +160,10 @@ module _ {K V S : Type 0} (same : K → K → Bool) (hash : K → ℕ) (terms : 
     asking : here.call.stands ≡ Asking question.0
     asking = far_asks here.call.stands question.0 (ap (λ (z : Seen). z.far) here.as_seen ∙ question.1)
 
-    leads : ReplyLeads same hash d.number (as_told reply) has.result s old.logged.executor new.logged.executor
+    leads : RepliesThere same hash d.number (as_told reply) has.result s old.logged.executor new.logged.executor
     leads =
-        subst (λ (t : MachineReply V). ReplyLeads same hash d.number t has.result s old.logged.executor new.logged.executor) has.is_told
-        (subst (λ (x : Caller V). ReplyLeads same hash x.number has.as_it has.result s old.logged.executor new.logged.executor)
+        subst (λ (t : MachineReply V). RepliesThere same hash d.number t has.result s old.logged.executor new.logged.executor) has.is_told
+        (subst (λ (x : Caller V). RepliesThere same hash x.number has.as_it has.result s old.logged.executor new.logged.executor)
         (read_here same hash terms m old runs.stands own has.place here has.whose has.reads_whose) (has.leads s runs.stands.shown.is_at))
 
     abbrev t : Scene K V
@@ -249,16 +251,16 @@ module _ {K V S : Type 0} (same : K → K → Bool) (hash : K → ℕ) (terms : 
     far_is : its.stands ≡ far.Ready
     far_is = shows_is its.stands (sym (ap is_ready_there there.at) ∙ placed.1)
 
-    led : StopLeads same hash its.number has.stopped s old.logged.executor new.logged.executor
-    led = subst (λ (x : Caller V). StopLeads same hash x.number has.stopped s old.logged.executor new.logged.executor)
+    led : StopsThere same hash its.number has.stopped s old.logged.executor new.logged.executor
+    led = subst (λ (x : Caller V). StopsThere same hash x.number has.stopped s old.logged.executor new.logged.executor)
         (read_here same hash terms m old runs.stands own has.place there has.whose has.reads) (has.leads s runs.stands.shown.is_at)
 
     is_stopped : has.stopped ≡ true
     is_stopped = (led its.map there.way.0 there.way.1).0
         ∙ asked_ready its.kind (machine_of there.way.0) (subst (λ (x : HowFar). IsAsFar its.kind x (machine_of there.way.0)) far_is there.way.4.0)
 
-    led_so : StopLeads same hash its.number true s old.logged.executor new.logged.executor
-    led_so = subst (λ (q : Bool). StopLeads same hash its.number q s old.logged.executor new.logged.executor) is_stopped led
+    led_so : StopsThere same hash its.number true s old.logged.executor new.logged.executor
+    led_so = subst (λ (q : Bool). StopsThere same hash its.number q s old.logged.executor new.logged.executor) is_stopped led
 
     abbrev after : Scene K V
     after = record s { calls = with_call_of s.calls its.map its.number (unless_stopped true there.way.0) }

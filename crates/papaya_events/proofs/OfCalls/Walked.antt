@@ -30,9 +30,6 @@ use Rattle.papaya_folded.specs.Given.Schedules.Views.{call_of, finite_map}
 use Rattle.papaya_folded.specs.Given.Callers.OverAll.{CallOverAll, gone_on}
 use Rattle.papaya_folded.specs.Given.Callers.Together.{UnderWay, OnKey, ForRoom, Counting, OverAll}
 use Rattle.papaya_folded.specs.Given.Effects.Known.{Known, known}
-use Rattle.papaya_folded.specs.Given.Executor.IsAt.{Scene}
-use Rattle.papaya_folded.specs.Given.Executor.Replying.{AskLeads, scene_with}
-use Rattle.papaya_folded.proofs.Given.Executor.Changed.{standing_is}
 use Rattle.papaya_folded.specs.Given.Finishes.Machines.{machine_of}
 use Rattle.papaya_folded.specs.Given.Moments.Whole.{ShowsWhole}
 use Rattle.papaya_folded.specs.Given.Histories.Answers.{NamesPair}
@@ -78,6 +75,10 @@ use Rattle.papaya_events.proofs.OfCalls.Ends as ends
 use Rattle.papaya_events.proofs.OfCalls.Scenes.{AreNamed, its_named}
 use Rattle.papaya_events.proofs.OfCalls.Steps.{HasCome, IsStep, as_told, did, follows, has_walked_on, its_here, leads, the}
 use Rattle.papaya_events.proofs.OfCalls.Taken as taken
+use Rattle.papaya_folded.proofs.Given.Scenes.May.{standing_is}
+use Rattle.papaya_folded.specs.Given.Executor.Replying.{AsksThere}
+use Rattle.papaya_folded.specs.Given.Scenes.Replying.{scene_with}
+use Rattle.papaya_folded.specs.Given.Scenes.Scene.{Scene}
 
 -- a word of a pair names the one of its number
 named_so : (by : Known) (word : ℕ) → (n : ℕ) × NamesPair by word n → NamesPair by word (number_by by word)
@@ -188,14 +189,14 @@ module _ {K V S : Type 0} (same : K → K → Bool) (hash : K → ℕ) (terms : 
   caller_is : walked.caller ≡ d
   caller_is = the walked.caller d (sym walked.at ∙ here.at)
 
-  asked_so : AskLeads same hash i walked.ready s old.logged.executor walked.asked.executor
-  asked_so = subst (λ (x : Caller V). AskLeads same hash x.number walked.ready s old.logged.executor walked.asked.executor) caller_is (walked.leads s runs.stands.shown.is_at)
+  asked_so : AsksThere same hash i walked.ready s old.logged.executor walked.asked.executor
+  asked_so = subst (λ (x : Caller V). AsksThere same hash x.number walked.ready s old.logged.executor walked.asked.executor) caller_is (walked.leads s runs.stands.shown.is_at)
 
   is_ready : walked.ready ≡ true
   is_ready = (asked_so map u under).2 ∙ asked_ready d.kind (machine_of u) as_ready
 
-  was_asked : AskLeads same hash i true s old.logged.executor walked.asked.executor
-  was_asked = subst (λ (q : Bool). AskLeads same hash i q s old.logged.executor walked.asked.executor) is_ready asked_so
+  was_asked : AsksThere same hash i true s old.logged.executor walked.asked.executor
+  was_asked = subst (λ (q : Bool). AsksThere same hash i q s old.logged.executor walked.asked.executor) is_ready asked_so
 
   abbrev next : UnderWay K V K
   next = OverAll (gone_on o (after_next o.sweep))

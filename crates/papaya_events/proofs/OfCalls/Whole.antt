@@ -22,7 +22,6 @@ use Rattle.papaya_folded.specs.Given.Schedules.Moment.{UnderWay as CallThere, Mo
 use Rattle.papaya_folded.specs.Given.Schedules.Terms.{Terms}
 use Rattle.papaya_folded.specs.Given.Schedules.Views.{call_of, number_of}
 use Rattle.papaya_folded.specs.Given.Effects.Known.{Known, known}
-use Rattle.papaya_folded.specs.Given.Executor.IsAt.{slot_of}
 use Rattle.papaya_folded.specs.Given.Schedules.declared.effect.Thing.{Thing}
 use Rattle.papaya_folded.specs.Given.Runs.Same.{is_same}
 use Rattle.papaya_folded.specs.Given.Finds.Within.{AllIsInOrder}
@@ -53,6 +52,7 @@ use Rattle.papaya_events.proofs.OfCalls.InCase.{comes_in_case}
 use Rattle.papaya_events.proofs.OfCalls.Scenes.{stands_in}
 use Rattle.papaya_events.proofs.OfCalls.Steps.{HasCome, as_told, has_come, the}
 use Rattle.papaya_events.proofs.OfCalls.Words.{not_busy}
+use Rattle.papaya_folded.specs.Given.Scenes.Scene.{slot_of}
 
 module _ {K V S : Type 0} (same : K → K → Bool) (hash : K → ℕ) (terms : Terms) (log : List (Entry K V)) (old : Scheduler K V S) (runs : Runs same hash terms log old)
     (guard on : List ℕ) (call : Call K V) (mid : Scheduler K V S) (led : HasBegun same hash nameless guard on call old mid)

@@ -26,8 +26,6 @@ use Rattle.papaya_folded.specs.Given.Schedules.Views.{map_at}
 use Rattle.papaya_folded.specs.Given.Effects.Effects.{effects_of, known_after}
 use Rattle.papaya_folded.specs.Given.Effects.Known.{Known, known}
 use Rattle.papaya_folded.specs.Given.Effects.declared.acting.Acting.TheVariants as acts
-use Rattle.papaya_folded.specs.Given.Executor.IsAt.{Scene, IsAt, slot_of}
-use Rattle.papaya_folded.specs.Given.Executor.Making.{MakingLeads}
 use Rattle.papaya_folded.specs.Given.Executor.declared.executor.Executor.{Executor}
 use Rattle.papaya_folded.specs.Given.Finishes.Makings.{Beginning, IsMade}
 use Rattle.papaya_folded.specs.Given.Finishes.Maps.{Standing}
@@ -56,17 +54,20 @@ use Rattle.papaya_folded.specs.Given.Named.Places.{first_places}
 use Rattle.papaya_works.proofs.Makings.{makings_do_theirs, makings_find_theirs}
 use Rattle.papaya_works.proofs.TablesMade.{makings_count_tables}
 use Rattle.papaya_events.proofs.OfRows.Chain.{come_as, come_by}
+use Rattle.papaya_folded.specs.Given.Executor.IsThere.{IsThere}
+use Rattle.papaya_folded.specs.Given.Executor.Making.{MakesThere}
+use Rattle.papaya_folded.specs.Given.Scenes.Scene.{Scene, slot_of}
 
 -- By what a step of a making told: it goes on as another machine, of the same map.
 module _ {K V S : Type 0} (same : K → K → Bool) (hash : K → ℕ) (s : Scene K V) (old new : Executor K V S) (i : ℕ) (b : Beginning K) (here : s.makers i ≡ Some b) where
   abbrev Leads : Progress Setting → Type 0
-  Leads said = MakingLeads same hash i said s old new
+  Leads said = MakesThere same hash i said s old new
 
   abbrev next_scene : (said : Progress Setting) → Leads said → Scene K V
   next_scene said leads = making_after same hash s old new i b (leads b here).0 (leads b here).2.step.w2 said (leads b here).3
 
   -- the executor is there,
-  pub is_there : (said : Progress Setting) (leads : Leads said) → IsAt same hash new (next_scene said leads)
+  pub is_there : (said : Progress Setting) (leads : Leads said) → IsThere same hash new (next_scene said leads)
   is_there progress.Goes leads = (leads b here).3
   is_there progress.Waits leads = absurd (leads b here).3
   is_there (progress.Done setting) leads = (leads b here).3.2
@@ -91,7 +92,7 @@ module _ {K V S : Type 0} (same : K → K → Bool) (hash : K → ℕ) (s : Scen
   calls_still (progress.Done setting) leads = refl
   calls_still (progress.Refused fault) leads = refl
 
-  new_still : (name : ℕ → List ℕ) (m : Moment K V) (k : Known) → IsAt same hash old s → Shows same name m k s → (of : Option ℕ) (setting : Setting) (said : Progress Setting) → Leads said → is_over said ≡ false
+  new_still : (name : ℕ → List ℕ) (m : Moment K V) (k : Known) → IsThere same hash old s → Shows same name m k s → (of : Option ℕ) (setting : Setting) (said : Progress Setting) → Leads said → is_over said ≡ false
       → IsNew b.map setting m → IsNew b.map setting (with_effects None of (effects_of (acts.Making b.map) k new.memory.changed) m)
   new_still name m k at shows of setting progress.Goes leads more is_new = new_maps_stay K V S same hash name m k s old new at shows i leads b here of setting is_new
   new_still name m k at shows of setting progress.Waits leads more is_new = absurd (leads b here).3
@@ -107,7 +108,7 @@ module _ {K V S : Type 0} (same : K → K → Bool) (hash : K → ℕ) (s : Scen
   made_maps (progress.Done answer) leads setting is n = by (cases_eq n b.map)
     where
       c : (standing : Standing K) × IsMade V same same old.batch_size old.roots slot_of b answer standing
-          × IsAt same hash new (record s { world = (leads b here).2.step.w2; maps = with_at s.maps b.map (Some standing); makers = with_at s.makers i None })
+          × IsThere same hash new (record s { world = (leads b here).2.step.w2; maps = with_at s.maps b.map (Some standing); makers = with_at s.makers i None })
       c = (leads b here).3
 
       by : (n ≡ b.map) ⊎ (n ≢ b.map) → ((n ≢ b.map) × ((next_scene (progress.Done answer) leads).maps n ≡ s.maps n))
@@ -162,7 +163,7 @@ module _ {K V S : Type 0} (same : K → K → Bool) (hash : K → ℕ) (terms : 
     pub now : Moment K V
     pub scene : Scene K V
     pub chain : Chain (MakingSteps same hash terms i b.map) n x (come_by f now scene)
-    pub is_at : IsAt same hash f.logged.executor scene
+    pub is_at : IsThere same hash f.logged.executor scene
     pub size : f.logged.executor.batch_size ≡ terms.batch_size
     pub midst : InMakingEvent same name terms log (MakeMap own mode capacity) b.map began f.effects now (known f.logged.notes) scene
     pub calls : scene.calls ≡ x.scene.calls
@@ -173,7 +174,7 @@ module _ {K V S : Type 0} (same : K → K → Bool) (hash : K → ℕ) (terms : 
     abbrev d : Beginning K
     d = record b { machine = it.0 }
 
-    abbrev leads : MakingLeads same hash i step.said y.scene mid.logged.executor to.logged.executor
+    abbrev leads : MakesThere same hash i step.said y.scene mid.logged.executor to.logged.executor
     leads = step.leads same hash y.scene y.is_at
 
     abbrev step_did : List Effect
@@ -255,7 +256,7 @@ module _ {K V S : Type 0} (same : K → K → Bool) (hash : K → ℕ) (terms : 
       abbrev its : Beginning K
       its = d n x mid to y stood it step
 
-      abbrev goes : MakingLeads same hash i step.said y.scene mid.logged.executor to.logged.executor
+      abbrev goes : MakesThere same hash i step.said y.scene mid.logged.executor to.logged.executor
       goes = leads n x mid to y stood it step
 
       shown_then : Shows same name comes_on.now (known_after (acts.Making b.map) to.logged.executor.memory.changed (known mid.logged.notes)) comes_on.scene

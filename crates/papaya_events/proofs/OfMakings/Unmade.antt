@@ -10,8 +10,6 @@ use Rattle.papaya_folded.specs.Given.Tables.declared.resize_mode.ResizeMode.{Res
 use Rattle.papaya_folded.specs.Given.Tables.declared.setting.Setting.{Setting}
 use Rattle.papaya_folded.proofs.Given.Callers.Together.At.{at_same}
 use Rattle.papaya_folded.proofs.Given.Spots.Unreclaimed.{and_both}
-use Rattle.papaya_folded.specs.Given.Executor.IsAt.{Scene, IsAt}
-use Rattle.papaya_folded.specs.Given.Executor.Making.{MakingLeads}
 use Rattle.papaya_folded.specs.Given.Executor.declared.executor.Executor.{Executor}
 use Rattle.papaya_folded.specs.Given.Finishes.Makings.{Beginning}
 use Rattle.papaya_folded.specs.Given.Finishes.Maps.{Standing}
@@ -61,6 +59,9 @@ use Rattle.papaya_events.proofs.OfMakings.Chain.{IsUnder, MakingComes, just_goes
 use Rattle.papaya_events.proofs.OfRows.Chain.{come_by}
 use Rattle.papaya_events.proofs.OfRows.Lone.{alone_follows}
 use Rattle.papaya_events.proofs.OfRows.Over.{over_runs}
+use Rattle.papaya_folded.specs.Given.Executor.IsThere.{IsThere}
+use Rattle.papaya_folded.specs.Given.Executor.Making.{MakesThere}
+use Rattle.papaya_folded.specs.Given.Scenes.Scene.{Scene}
 
 -- where all that was asked for were growths, so were those before, and those that follow
 asked_before : (xs ys zs : List Effect) → zs ≡ xs ++ ys → list_all is_growth zs ≡ true → (list_all is_growth xs ≡ true) × (list_all is_growth ys ≡ true)
@@ -95,7 +96,7 @@ module _ {K V S : Type 0} (same : K → K → Bool) (hash : K → ℕ) (terms : 
     abbrev d : Beginning K
     d = record b { machine = z.1.0 }
 
-    abbrev goes : MakingLeads same hash i step.said z.0.scene mid.logged.executor to.logged.executor
+    abbrev goes : MakesThere same hash i step.said z.0.scene mid.logged.executor to.logged.executor
     goes = step.leads same hash z.0.scene z.0.is_at
 
     -- by what a step of it told
@@ -150,7 +151,7 @@ module _ {K V S : Type 0} (same : K → K → Bool) (hash : K → ℕ) (terms : 
   abbrev s1 : Scene K V
   s1 = begun_in run holds d
 
-  at1 : IsAt same hash d.began.executor s1
+  at1 : IsThere same hash d.began.executor s1
   at1 = (begun_shown run holds d).is_at
 
   begins : MakingIsBegun same hash name m s d.given d.places i old.logged d.began
@@ -239,7 +240,7 @@ module _ {K V S : Type 0} (same : K → K → Bool) (hash : K → ℕ) (terms : 
   came : MakingCame z.0.scene y.scene i its last.said
   came = came_on z.0.scene i its same hash prev.logged.executor mid.executor z.0.scene here last.said (last.leads same hash z.0.scene z.0.is_at)
 
-  at_end : IsAt same hash new.logged.executor y.scene
+  at_end : IsThere same hash new.logged.executor y.scene
   at_end =
       at_given same hash b.map i z.0.scene y.scene prev.logged.executor z.0.is_at its z.1.1 refl mid.executor new.logged.executor d.gone.6 y.is_at last.said came
       (d.gone.7 ∙ ap (λ (t : Progress Setting). given_back b.map t mid.executor.maps.items) (sym d.gone.4))

@@ -2,7 +2,6 @@
 use Rattle.std.specs.Prelude.{◌≡◌, ℕ, zero, suc, Bool, List, ◌++◌, None}
 use Rattle.std.proofs.Common.{refl, subst, ◌∙◌}
 use Rattle.papaya_folded.specs.Given.Seize.World.{Step}
-use Rattle.papaya_folded.specs.Given.Executor.IsAt.{Scene, IsAt}
 use Rattle.papaya_folded.specs.Given.Executor.declared.executor.Executor.{Executor}
 use Rattle.papaya_folded.specs.Given.Others.Rows.{scene_then}
 use Rattle.papaya_folded.specs.Given.Schedules.declared.effect.Effect.{Effect}
@@ -17,6 +16,8 @@ use Rattle.papaya_folded.specs.Given.Logged.Shown.{IsCounted}
 use Rattle.papaya_folded.proofs.Given.Logged.Counted.{counted_row_steps}
 use Rattle.papaya_folded.proofs.Given.Logged.LeftNoted.{rows_note_left}
 use Rattle.papaya_folded.specs.Given.Legal.Chains.{Chain, Come, RowSteps}
+use Rattle.papaya_folded.specs.Given.Executor.IsThere.{IsThere}
+use Rattle.papaya_folded.specs.Given.Scenes.Scene.{Scene}
 
 module _ {K V S : Type 0} where
   -- how far an event has come that has run so far, at this moment, in this scene
@@ -34,12 +35,12 @@ module _ {K V S : Type 0} (same : K → K → Bool) (hash : K → ℕ) (terms : 
     pub now : Moment K V
     pub scene : Scene K V
     pub chain : Chain (RowSteps same hash terms i) n x (come_by f now scene)
-    pub is_at : IsAt same hash f.logged.executor scene
+    pub is_at : IsThere same hash f.logged.executor scene
     pub size : f.logged.executor.batch_size ≡ terms.batch_size
     pub calls : scene.calls ≡ x.scene.calls
     pub counted : IsCounted now f.logged scene
 
-  pub rows_come : (n : ℕ) (from to : Far K V S) (now : Moment K V) (s : Scene K V) → IsAt same hash from.logged.executor s → from.logged.executor.batch_size ≡ terms.batch_size
+  pub rows_come : (n : ℕ) (from to : Far K V S) (now : Moment K V) (s : Scene K V) → IsThere same hash from.logged.executor s → from.logged.executor.batch_size ≡ terms.batch_size
       → IsCounted now from.logged s → GoesFor (RowGoes i) n from to → RowComes n (come_by from now s) to
   rows_come zero from to now s at size counted is =
       subst (λ (f : Far K V S). RowComes 0 (come_by from now s) f) is (record { now = now; scene = s; chain = refl; is_at = at; size = size; calls = refl; counted = counted })

@@ -9,14 +9,14 @@ use Rattle.papaya_grows.specs.Given.Seize.declared.rows.settle.Settled.TheVarian
 use Rattle.papaya_grows.specs.Given.Tables.declared.node.Node.{Node}
 use Rattle.papaya_grows.specs.Given.Tables.declared.setting.Setting.{Setting}
 use Rattle.papaya_grows.specs.Given.Schedules.Terms.{Terms}
-use Rattle.papaya_grows.specs.Given.Executor.Ending.{EndingComesTo}
-use Rattle.papaya_grows.specs.Given.Executor.Making.{MakingComesTo}
 use Rattle.papaya_grows.specs.Given.Others.Endings.{ending_after}
 use Rattle.papaya_grows.specs.Given.Others.Makings.{making_after}
 use Rattle.papaya_legal.specs.AllEvents.{AllCome, AllSteps}
 use Rattle.papaya_legal.specs.Chains.{Chain, Come, EndSteps, MakingSteps}
 use Rattle.papaya_legal.proofs.Heads.Rows.{KeepsTaken, by_memory, taken_then}
 use Rattle.papaya_legal.proofs.Heads.Steps.{ending_taken, making_taken, reclaiming_taken}
+use Rattle.papaya_grows.specs.Given.Scenes.Ending.{EndingComesToThere}
+use Rattle.papaya_grows.specs.Given.Scenes.Making.{MakingComesToThere}
 
 -- what each step leaves, all of them do
 chain_taken : {X : Type 0} {K V : Type 0} (memory : X → Mem (Node K V)) (Steps : X → X → Type 0) → ((from to : X) → Steps from to → KeepsTaken (memory from) (memory to)) → (n : ℕ) (from to : X) → Chain Steps n from to
@@ -44,7 +44,7 @@ module _ {K V S : Type 0} (same : K → K → Bool) (hash : K → ℕ) (terms : 
             (making_taken same hash from.scene from.executor to.executor i step.said step.leads step.making step.here)
 
         by : (said : Progress Setting)
-            → (comes : MakingComesTo same hash from.scene from.executor to.executor i step.making (step.leads step.making step.here).0 (step.leads step.making step.here).2.step.w2 said)
+            → (comes : MakingComesToThere same hash from.scene from.executor to.executor i step.making (step.leads step.making step.here).0 (step.leads step.making step.here).2.step.w2 said)
             → KeepsTaken (memory_at from)
             (making_after same hash from.scene from.executor to.executor i step.making (step.leads step.making step.here).0 (step.leads step.making step.here).2.step.w2 said comes).world.memory
         by progress.Goes comes = kept
@@ -63,7 +63,7 @@ module _ {K V S : Type 0} (same : K → K → Bool) (hash : K → ℕ) (terms : 
             (ending_taken same hash from.scene from.executor to.executor i step.said step.leads step.ending step.here)
 
         by : (said : Settled (Node K V))
-            → (comes : EndingComesTo same hash from.scene to.executor i step.ending (step.leads step.ending step.here).0 (step.leads step.ending step.here).2.w2 (step.leads step.ending step.here).2.deed said)
+            → (comes : EndingComesToThere same hash from.scene to.executor i step.ending (step.leads step.ending step.here).0 (step.leads step.ending step.here).2.w2 (step.leads step.ending step.here).2.deed said)
             → KeepsTaken (memory_at from)
             (ending_after same hash from.scene to.executor i step.ending (step.leads step.ending step.here).0 (step.leads step.ending step.here).2.w2 (step.leads step.ending step.here).2.deed said comes).world.memory
         by settled.Goes comes = kept

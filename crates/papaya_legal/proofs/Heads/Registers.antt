@@ -29,21 +29,23 @@ use Rattle.papaya_grows.specs.Given.Tables.declared.node.Node.{Node}
 use Rattle.papaya_grows.specs.Given.Teller.declared.changed.Changed.{Changed}
 use Rattle.papaya_grows.specs.Given.Teller.declared.changed.Changed.TheVariants.{Nothing}
 use Rattle.papaya_grows.proofs.Given.Callers.Together.Came.{came_reached}
-use Rattle.papaya_grows.specs.Given.Executor.IsAt.{Scene, IsAt, HasRow, row_of, work_of}
-use Rattle.papaya_grows.specs.Given.Executor.OnSlots.{RowLeads, RowSteps, row_on}
-use Rattle.papaya_grows.specs.Given.Executor.Rows.{begun_row, of_registering}
 use Rattle.papaya_grows.specs.Given.Executor.declared.executor.Executor.{Executor}
-use Rattle.papaya_grows.specs.Given.Executor.declared.row.RowTold.{RowTold}
-use Rattle.papaya_grows.specs.Given.Executor.declared.row.RowTold.TheVariants as told
-use Rattle.papaya_grows.specs.Given.Executor.declared.row.SlotCall.{SlotCall}
-use Rattle.papaya_grows.specs.Given.Executor.declared.row.SlotCall.TheVariants as call
-use Rattle.papaya_grows.specs.Given.Executor.declared.row.SlotRow.{SlotRow}
-use Rattle.papaya_grows.specs.Given.Executor.declared.row.SlotRow.TheVariants as rows
+use Rattle.papaya_grows.specs.Given.Scenes.declared.row.RowTold.{RowTold}
+use Rattle.papaya_grows.specs.Given.Scenes.declared.row.RowTold.TheVariants as told
+use Rattle.papaya_grows.specs.Given.Scenes.declared.row.SlotCall.{SlotCall}
+use Rattle.papaya_grows.specs.Given.Scenes.declared.row.SlotCall.TheVariants as call
+use Rattle.papaya_grows.specs.Given.Scenes.declared.row.SlotRow.{SlotRow}
+use Rattle.papaya_grows.specs.Given.Scenes.declared.row.SlotRow.TheVariants as rows
 use Rattle.papaya_grows.specs.Given.Executor.declared.worker.Work.{Work}
 use Rattle.papaya_grows.specs.Given.Executor.declared.worker.Work.TheVariants.{OnSlot}
-use Rattle.papaya_grows.proofs.Given.Executor.Forgotten.{as_step}
 use Rattle.papaya_logged.specs.OnSlots.{GoesOnFor, OnSlotLast, has_come}
 use Rattle.papaya_legal.proofs.Heads.Rows.{KeepsTaken, Off, elsewhere, fits_at, from_up_to, idle_some, is_taken, no_change, now, positive, same_taken, slots_stay, step_taken, taken_word_of, up_to, written}
+use Rattle.papaya_grows.proofs.Given.Scenes.Told.{as_step}
+use Rattle.papaya_grows.specs.Given.Executor.IsThere.{HasRow, IsThere, work_of}
+use Rattle.papaya_grows.specs.Given.Executor.OnSlots.{RowStepsThere, row_on}
+use Rattle.papaya_grows.specs.Given.Scenes.OnSlots.{RowSteps}
+use Rattle.papaya_grows.specs.Given.Scenes.Rows.{begun_row, of_registering}
+use Rattle.papaya_grows.specs.Given.Scenes.Scene.{Scene, row_of}
 
 some_lt : (n : ℕ) → 0 < n → nat_lt 0 n ≡ true
 some_lt n more = grind (arith, more)
@@ -238,9 +240,9 @@ module _ {K V : Type 0} where
   on_then row _ going = absurd (cc going)
 
 module _ {K V S : Type 0} (same : K → K → Bool) (hash : K → ℕ) (i k : ℕ) where
-  module _ (s : Scene K V) (old new : Executor K V S) (at : IsAt same hash old s) (said : RowTold (Node K V)) (leads : RowLeads same hash i said s old new) where
+  module _ (s : Scene K V) (old new : Executor K V S) (at : IsThere same hash old s) (said : RowTold (Node K V)) (leads : RowStepsThere same hash i said s old new) where
     good : Good deferred_word (LAST_SLOT + 1) old.batch_size s.world
-    good = (came_reached old.batch_size s.world at.together.makings.standing.came).good
+    good = (came_reached old.batch_size s.world at.held.together.makings.standing.came).good
 
     row_there : (row : SlotRow) → work_of old i ≡ Some (OnSlot row) → s.world.row i ≡ row_of row
     row_there row here = subst (λ (x : Option (Work K V)). HasRow x (s.world.row i)) here (at.rows i)
@@ -251,7 +253,7 @@ module _ {K V S : Type 0} (same : K → K → Bool) (hash : K → ℕ) (i k : �
         let to = leads row here in
         let keeps = step_taken deferred_word s.world good i (s.world.row i) (subst Off (sym (row_there row here)) (other_off row other)) to.4.0 refl to.4.1 in
         subst (λ (x : Mem (Node K V)). SlotsTaken x k) to.4.4.memory
-        (slots_stay s.world.memory to.4.0.memory k keeps (subst (λ (x : Mem (Node K V)). SlotsTaken x k) (sym at.memory) so))
+        (slots_stay s.world.memory to.4.0.memory k keeps (subst (λ (x : Mem (Node K V)). SlotsTaken x k) (sym at.held.memory) so))
 
     -- and of one that does
     register_step : (c : Register) (here : work_of old i ≡ Some (OnSlot (rows.Registers c))) → RegisterSo k old.memory.memory c
@@ -259,14 +261,14 @@ module _ {K V S : Type 0} (same : K → K → Bool) (hash : K → ℕ) (i k : �
     register_step c here so =
         let to = leads (rows.Registers c) here in
         register_at deferred_word s.world good i k new.memory.memory to.1.0 c.slot c.enters c.stands
-        (fits_at deferred_word s.world good i (Registers c) (row_there (rows.Registers c) here)) (subst (λ (x : Mem (Node K V)). RegisterSo k x c) (sym at.memory) so)
-        (subst (λ (x : Mem (Node K V)). Steps Took value_at x (register_plan c) new.memory.memory to.1.0) (sym at.memory)
+        (fits_at deferred_word s.world good i (Registers c) (row_there (rows.Registers c) here)) (subst (λ (x : Mem (Node K V)). RegisterSo k x c) (sym at.held.memory) so)
+        (subst (λ (x : Mem (Node K V)). Steps Took value_at x (register_plan c) new.memory.memory to.1.0) (sym at.held.memory)
         (as_step old.memory.memory Nothing (register_plan c) new.memory.memory new.memory.changed to.1.0 to.1.1))
 
   -- where its row goes on
   pub record OthersGo (e : Executor K V S) : Type 0 where
     pub scene : Scene K V
-    pub is_at : IsAt same hash e scene
+    pub is_at : IsThere same hash e scene
     pub row : SlotRow
     pub here : work_of e i ≡ Some (OnSlot row)
     pub other : IsOther row
@@ -274,7 +276,7 @@ module _ {K V S : Type 0} (same : K → K → Bool) (hash : K → ℕ) (i k : �
 
   pub record RegistersGo (e : Executor K V S) : Type 0 where
     pub scene : Scene K V
-    pub is_at : IsAt same hash e scene
+    pub is_at : IsThere same hash e scene
     pub register : Register
     pub here : work_of e i ≡ Some (OnSlot (rows.Registers register))
     pub taken : RegisterSo k e.memory.memory register

@@ -53,12 +53,7 @@ use Rattle.papaya_grows.specs.Given.Callers.Sights.{seen_by}
 use Rattle.papaya_grows.specs.Given.Callers.Together.{CameAbout, UnderWay, OnKey, ForRoom, Counting, OverAll, HandsOver, Stands}
 use Rattle.papaya_grows.proofs.Given.Callers.Together.Came.{came_reached}
 use Rattle.papaya_grows.specs.Given.Effects.Known.{Known}
-use Rattle.papaya_grows.specs.Given.Executor.Ending.{EndingLeads}
-use Rattle.papaya_grows.specs.Given.Executor.IsAt.{Scene, IsAt, slot_of}
-use Rattle.papaya_grows.specs.Given.Executor.Making.{MakingLeads}
-use Rattle.papaya_grows.specs.Given.Executor.Stepping.{StepLeads}
 use Rattle.papaya_grows.specs.Given.Executor.declared.executor.Executor.{Executor}
-use Rattle.papaya_grows.proofs.Given.Executor.Forgotten.{as_step}
 use Rattle.papaya_grows.specs.Given.Finishes.Endings.{Finishing}
 use Rattle.papaya_grows.specs.Given.Finishes.FactsEnds.{TakesLeft, WritesRoot, events_of}
 use Rattle.papaya_grows.specs.Given.Finishes.Makings.{Beginning}
@@ -70,6 +65,12 @@ use Rattle.papaya_logged.specs.Given.Reclaiming.Reclaiming.{IsReclaiming, Reclai
 use Rattle.papaya_models.proofs.Calls.{OneStep, by_users, no_or, one_step}
 use Rattle.papaya_legal.proofs.Heads.Rows.{KeepsTaken, Off, by_memory, no_change, same_taken, step_taken, written}
 use Rattle.papaya_legal.proofs.OfAll.Sets.{none_of_rows}
+use Rattle.papaya_grows.proofs.Given.Scenes.Told.{as_step}
+use Rattle.papaya_grows.specs.Given.Executor.Ending.{EndsThere}
+use Rattle.papaya_grows.specs.Given.Executor.IsThere.{IsThere}
+use Rattle.papaya_grows.specs.Given.Executor.Making.{MakesThere}
+use Rattle.papaya_grows.specs.Given.Executor.Stepping.{StepsThere}
+use Rattle.papaya_grows.specs.Given.Scenes.Scene.{Scene, slot_of}
 
 -- What users do leaves the words of slots.
 
@@ -160,8 +161,8 @@ rests_off : (row : Row) → row ≡ Rests → Off row
 rests_off row is = subst Off (sym is) tt
 
 -- A call takes a step.
-module _ {K V S : Type 0} (same : K → K → Bool) (hash : K → ℕ) (name : ℕ → List ℕ) (m : Moment K V) (known : Known) (s : Scene K V) (old new : Executor K V S) (at : IsAt same hash old s)
-    (whole : ShowsWhole same name m known s) (map i : ℕ) (u : UnderWay K V K) (here : s.calls map i ≡ Some u) (told : CallTold (Node K V)) (leads : StepLeads same hash i told s old new) where
+module _ {K V S : Type 0} (same : K → K → Bool) (hash : K → ℕ) (name : ℕ → List ℕ) (m : Moment K V) (known : Known) (s : Scene K V) (old new : Executor K V S) (at : IsThere same hash old s)
+    (whole : ShowsWhole same name m known s) (map i : ℕ) (u : UnderWay K V K) (here : s.calls map i ≡ Some u) (told : CallTold (Node K V)) (leads : StepsThere same hash i told s old new) where
   abbrev w2 : World (Node K V)
   w2 = (leads map u here).4.w2
 
@@ -170,7 +171,7 @@ module _ {K V S : Type 0} (same : K → K → Bool) (hash : K → ℕ) (name : �
 
   -- its row is none that registers
   its_row : Off (s.world.row i)
-  its_row = by u ((at.together.makings.standing.each map (leads map u here).0 (leads map u here).2).stand i u here)
+  its_row = by u ((at.held.together.makings.standing.each map (leads map u here).0 (leads map u here).2).stand i u here)
     where
       by : (x : UnderWay K V K)
           → Stands V same (leads map u here).0.hash same (leads map u here).0.setting slot_of s.world (leads map u here).0.chart
@@ -184,7 +185,7 @@ module _ {K V S : Type 0} (same : K → K → Bool) (hash : K → ℕ) (name : �
       by (OverAll x) (inr is) = subst Off (sym is.0) (sweep_off (slot_of i) x.sweep.stands)
 
   reached : Reached deferred_word size s.world
-  reached = came_reached size s.world at.together.makings.standing.came
+  reached = came_reached size s.world at.held.together.makings.standing.came
 
   -- nor is one that hands something over, once it has begun
   begun_off : (request : Request) (begun : World (Node K V)) → HandsOver (leads map u here).0.setting i s.world request → Begins deferred_word size i request s.world begun → Off (begun.row i)
@@ -214,12 +215,12 @@ module _ {K V S : Type 0} (same : K → K → Bool) (hash : K → ℕ) (name : �
 
 -- A making, or an end, takes a step.
 module _ {K V S : Type 0} (same : K → K → Bool) (hash : K → ℕ) (s : Scene K V) (old new : Executor K V S) (i : ℕ) where
-  pub making_taken : (said : Progress Setting) → MakingLeads same hash i said s old new → (b : Beginning K) → s.makers i ≡ Some b → KeepsTaken s.world.memory new.memory.memory
+  pub making_taken : (said : Progress Setting) → MakesThere same hash i said s old new → (b : Beginning K) → s.makers i ≡ Some b → KeepsTaken s.world.memory new.memory.memory
   making_taken said leads b here =
       let did = (leads b here).2.step in
       by_slots s.world.memory new.memory.memory (ap (λ (x : Mem (Node K V)). x.slots) (sym did.memory) ∙ users_slots deferred_word old.batch_size did.events did.users s.world did.w2 did.runs)
 
-  pub ending_taken : (said : Settled (Node K V)) → EndingLeads same hash i said s old new → (f : Finishing K V) → s.enders i ≡ Some f → KeepsTaken s.world.memory new.memory.memory
+  pub ending_taken : (said : Settled (Node K V)) → EndsThere same hash i said s old new → (f : Finishing K V) → s.enders i ≡ Some f → KeepsTaken s.world.memory new.memory.memory
   ending_taken said leads f here =
       let did = (leads f here).2 in
       by_slots s.world.memory new.memory.memory (ap (λ (x : Mem (Node K V)). x.slots) (sym did.memory) ∙ did.spares.slots)

@@ -15,9 +15,7 @@ use Rattle.papaya_grows.specs.Given.Tables.Nodes.{deferred_word, was_left}
 use Rattle.papaya_grows.specs.Given.Tables.declared.node.Node.{Node}
 use Rattle.papaya_grows.specs.Given.Teller.declared.changed.Changed.TheVariants.{Nothing}
 use Rattle.papaya_grows.specs.Given.Callers.Together.{CameAbout}
-use Rattle.papaya_grows.specs.Given.Executor.IsAt.{Scene, slot_of}
 use Rattle.papaya_grows.specs.Given.Executor.declared.executor.Executor.{Executor}
-use Rattle.papaya_grows.proofs.Given.Executor.Forgotten.{as_step}
 use Rattle.papaya_logged.specs.Given.Reclaiming.Reclaiming.{IsReclaiming, ReclaimingLeads}
 use Rattle.papaya_models.specs.Reclaims.{HasReclaimed}
 use Rattle.papaya_models.specs.Turns.{CameByTurns}
@@ -25,6 +23,8 @@ use Rattle.papaya_legal.specs.AllEvents.{AllCome, AllReclaimBySets, AllSteps}
 use Rattle.papaya_legal.proofs.Chains.{chains_keep}
 use Rattle.papaya_legal.proofs.OfAll.Points.{quiet_there, stays_off}
 use Rattle.papaya_legal.proofs.OfAll.Sets.{SoFarAt, off_so, quiet_so, starts_so, step_at}
+use Rattle.papaya_grows.proofs.Given.Scenes.Told.{as_step}
+use Rattle.papaya_grows.specs.Given.Scenes.Scene.{Scene, slot_of}
 
 -- where only roots are cleared, it has done with slots
 clearing_off : (roots : ℕ) → is_on_slots (clearing roots).stands ≡ false

@@ -29,7 +29,6 @@ use Rattle.papaya_grows.specs.Given.Schedules.Moment.{Moment}
 use Rattle.papaya_grows.specs.Given.Schedules.Reclaims.{IsProtected}
 use Rattle.papaya_grows.specs.Given.Schedules.Terms.{Terms}
 use Rattle.papaya_grows.specs.Given.Effects.Known.{Known}
-use Rattle.papaya_grows.specs.Given.Executor.IsAt.{IsAt}
 use Rattle.papaya_grows.specs.Given.Finishes.Makings.{IsFreeRoot}
 use Rattle.papaya_grows.specs.Given.Moments.OnSlots.{HadRetired}
 use Rattle.papaya_grows.proofs.Given.Spots.Unreclaimed.{and_both}
@@ -59,6 +58,7 @@ use Rattle.papaya_legal.proofs.OfAll.Steps.{all_chain, all_events_begin, all_goe
 use Rattle.papaya_legal.proofs.Over.{reading_like, runs_go_on}
 use Rattle.papaya_legal.proofs.SlotsAfter.{each_stores, like}
 use Rattle.papaya_legal.proofs.SlotsEnd.{slots_are_legal_but}
+use Rattle.papaya_grows.specs.Given.Executor.IsThere.{IsThere}
 
 -- What such an event is.
 
@@ -179,8 +179,8 @@ module _ (K V S : Type 0) (same : K → K → Bool) (hash : K → ℕ) where
       all_rest j = subst (λ (z : AllCome K V S). z.come.scene.world.row j ≡ Rests) (sym last.comes) (reclaimed.nothing.0 j)
 
       -- the executor is there
-      there : IsAt same hash over.come.executor over.come.scene
-      there = subst (λ (z : AllCome K V S). IsAt same hash over.come.executor z.come.scene) (sym last.comes)
+      there : IsThere same hash over.come.executor over.come.scene
+      there = subst (λ (z : AllCome K V S). IsThere same hash over.come.executor z.come.scene) (sym last.comes)
           (subst (λ (t : Settled (Node K V)). ReclaimingComesTo same hash to.come.scene i to.lists to.come.executor over.come.executor (scene_in to.come.scene last.leads.1.w2 last.leads.1.maps2)
           last.leads.1.lists2 over.all t) done last.leads.2).1
 

@@ -26,7 +26,6 @@ use Rattle.papaya_grows.specs.Given.Effects.Known.{Known}
 use Rattle.papaya_grows.specs.Given.Effects.declared.acting.Acting.TheVariants.{Row}
 use Rattle.papaya_grows.specs.Given.Effects.declared.role.Role.{Role}
 use Rattle.papaya_grows.specs.Given.Effects.declared.role.Role.TheVariants as role
-use Rattle.papaya_grows.specs.Given.Executor.IsAt.{Scene}
 use Rattle.papaya_grows.specs.Given.Executor.declared.executor.Executor.{Executor}
 use Rattle.papaya_grows.specs.Given.Follows.Blocks.{HasRole}
 use Rattle.papaya_grows.specs.Given.Hands.Hands.{IsInUse}
@@ -53,6 +52,7 @@ use Rattle.papaya_legal.proofs.OfAll.Steps.{all_events_begin, all_goes_on}
 use Rattle.papaya_legal.proofs.OfAll.Tells.{gone_by, it_reclaims, none_gone, noted_or_free}
 use Rattle.papaya_legal.proofs.OfAll.Turns.{HasTurned, TakesFromRoots, TakesFromSlots, has_turned}
 use Rattle.papaya_legal.proofs.Slots.{each_join}
+use Rattle.papaya_grows.specs.Given.Scenes.Scene.{Scene}
 
 -- a pair that is put behind tables waits behind one of them
 waits_of : (P : ℕ → Table → Type 0) (k : ℕ) (deferred : List Deferral) → 0 < put_in k deferred → EachWaits P deferred → (t : Table) × P k t

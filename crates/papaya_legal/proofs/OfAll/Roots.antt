@@ -28,9 +28,7 @@ use Rattle.papaya_grows.specs.Given.Teller.Tells.{StepsTold}
 use Rattle.papaya_grows.specs.Given.Teller.declared.changed.Changed.{Changed}
 use Rattle.papaya_grows.specs.Given.Teller.declared.changed.Changed.TheVariants as changed
 use Rattle.papaya_grows.proofs.Given.Callers.Together.Came.{came_reached}
-use Rattle.papaya_grows.specs.Given.Executor.IsAt.{Scene}
 use Rattle.papaya_grows.specs.Given.Executor.declared.executor.Executor.{Executor}
-use Rattle.papaya_grows.proofs.Given.Executor.Forgotten.{as_step}
 use Rattle.papaya_grows.proofs.Given.Finishes.Ends.CountedBlocks.{times-append}
 use Rattle.papaya_grows.specs.Given.Finishes.FactsEnds.{TakesLeft, WritesRoot, events_of}
 use Rattle.papaya_grows.specs.Given.Follows.Steps.{TakesNone}
@@ -46,6 +44,8 @@ use Rattle.papaya_logged.proofs.ReclaimFinds.{left_before, root_value, step_hand
 use Rattle.papaya_logged.proofs.ReclaimGives.{taken_gone}
 use Rattle.papaya_logged.proofs.ReclaimRows.{begun_kept}
 use Rattle.papaya_legal.specs.AllEvents.{SlotsLeaveRoots}
+use Rattle.papaya_grows.proofs.Given.Scenes.Told.{as_step}
+use Rattle.papaya_grows.specs.Given.Scenes.Scene.{Scene}
 
 -- What rows take away is written down.
 

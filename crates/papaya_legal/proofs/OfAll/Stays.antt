@@ -25,7 +25,6 @@ use Rattle.papaya_grows.specs.Given.Callers.Together.{UnderWay, OnKey}
 use Rattle.papaya_grows.specs.Given.Effects.Effects.{effects_of, known_after}
 use Rattle.papaya_grows.specs.Given.Effects.Known.{Known}
 use Rattle.papaya_grows.specs.Given.Effects.declared.acting.Acting.TheVariants.{Row}
-use Rattle.papaya_grows.specs.Given.Executor.IsAt.{Scene}
 use Rattle.papaya_grows.specs.Given.Executor.declared.executor.Executor.{Executor}
 use Rattle.papaya_grows.proofs.Given.Follows.Operations.{Operated, operated}
 use Rattle.papaya_grows.specs.Given.Moments.Numbers.{NumbersMaps}
@@ -49,6 +48,7 @@ use Rattle.papaya_legal.proofs.Sourced.{reclaimed_aside, same_maps_aside}
 use Rattle.papaya_grows.proofs.Finding.Others.{finding_of_none}
 use Rattle.papaya_legal.proofs.OfAll.Tells.{gone_by, it_reclaims, none_under_way}
 use Rattle.papaya_legal.proofs.Uncounted.{none_counted}
+use Rattle.papaya_grows.specs.Given.Scenes.Scene.{Scene}
 
 -- Maps have their numbers still once something is reclaimed.
 

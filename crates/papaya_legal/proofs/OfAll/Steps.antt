@@ -21,7 +21,6 @@ use Rattle.papaya_grows.specs.Given.Schedules.Terms.{Terms}
 use Rattle.papaya_grows.specs.Given.Effects.Effects.{effects_of, known_after}
 use Rattle.papaya_grows.specs.Given.Effects.Known.{Known}
 use Rattle.papaya_grows.specs.Given.Effects.declared.acting.Acting.TheVariants.{Row}
-use Rattle.papaya_grows.specs.Given.Executor.IsAt.{Scene}
 use Rattle.papaya_grows.specs.Given.Executor.declared.executor.Executor.{Executor}
 use Rattle.papaya_grows.specs.Given.Moments.OnSlots.{HadRetired}
 use Rattle.papaya_grows.proofs.Given.Moments.After.{effects_after}
@@ -37,6 +36,7 @@ use Rattle.papaya_legal.proofs.OfAll.Stays.{calls_then, reading_then}
 use Rattle.papaya_legal.proofs.OfAll.Tells.{gone_by, it_reclaims}
 use Rattle.papaya_legal.proofs.OfAll.Turns.{left_stays, takes_in_turn}
 use Rattle.papaya_legal.proofs.Slots.{each_join}
+use Rattle.papaya_grows.specs.Given.Scenes.Scene.{Scene}
 
 both_reclaim : (done more : List Effect) → list_all is_reclaiming done ≡ true → list_all is_reclaiming more ≡ true → list_all is_reclaiming (done ++ more) ≡ true
 both_reclaim [] more first later = later

@@ -37,7 +37,6 @@ use Rattle.papaya_grows.specs.Given.Effects.Known.{Known}
 use Rattle.papaya_grows.specs.Given.Effects.declared.acting.Acting.TheVariants.{Row}
 use Rattle.papaya_grows.specs.Given.Effects.declared.role.Role.{Role}
 use Rattle.papaya_grows.specs.Given.Effects.declared.role.Role.TheVariants as role
-use Rattle.papaya_grows.specs.Given.Executor.IsAt.{Scene}
 use Rattle.papaya_grows.specs.Given.Executor.declared.executor.Executor.{Executor}
 use Rattle.papaya_grows.specs.Given.Follows.Steps.{TakesNone}
 use Rattle.papaya_grows.proofs.Given.Follows.Told.{roomed_as_many}
@@ -52,6 +51,7 @@ use Rattle.papaya_logged.proofs.ReclaimSteps.{left, no_call, nothing_there, root
 use Rattle.papaya_grows.specs.Given.Kept.Kept.{ShowsKept}
 use Rattle.papaya_models.specs.Numbers.{things_of}
 use Rattle.papaya_models.proofs.RowSteps.{roles_after}
+use Rattle.papaya_grows.specs.Given.Scenes.Scene.{Scene}
 
 -- It asks for no room.
 

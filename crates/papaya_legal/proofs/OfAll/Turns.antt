@@ -29,7 +29,6 @@ use Rattle.papaya_grows.specs.Given.Effects.Known.{Known}
 use Rattle.papaya_grows.specs.Given.Effects.declared.acting.Acting.TheVariants.{Row}
 use Rattle.papaya_grows.specs.Given.Effects.declared.role.Role.{Role}
 use Rattle.papaya_grows.specs.Given.Effects.declared.role.Role.TheVariants as role
-use Rattle.papaya_grows.specs.Given.Executor.IsAt.{Scene}
 use Rattle.papaya_grows.specs.Given.Executor.declared.executor.Executor.{Executor}
 use Rattle.papaya_grows.specs.Given.Follows.Blocks.{HasRole}
 use Rattle.papaya_grows.specs.Given.Follows.Steps.{TakesNone}
@@ -49,6 +48,7 @@ use Rattle.papaya_grows.specs.Given.Finds.Orderly.{is_left_over}
 use Rattle.papaya_legal.specs.AllEvents.{LeftIsBehind, TakesInTurn}
 use Rattle.papaya_legal.proofs.OfAll.Points.{first_taken, quiet_there, root_there, stays_off, takes_there}
 use Rattle.papaya_legal.proofs.OfAll.Tells.{HasDone, gone_by, has_done, it_reclaims, none_gone, noted_or_free, noted_still}
+use Rattle.papaya_grows.specs.Given.Scenes.Scene.{Scene}
 
 no_longer : (b : ℕ) (xs : List ℕ) → xs ≡ b ∷ xs → ⊥
 no_longer b xs e = (let long : length xs ≡ length (b ∷ xs) = ap length e in absurd (omega (arith, long)))
