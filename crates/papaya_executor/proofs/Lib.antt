@@ -15,6 +15,7 @@ pub mod OnSlotBegun
 pub mod OnSlots
 pub mod Places
 pub mod Replies
+pub mod RowLeads
 pub mod RowsGo
 pub mod Steps
 pub mod Stops

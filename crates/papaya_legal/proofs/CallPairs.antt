@@ -15,7 +15,6 @@ use Rattle.papaya_grows.specs.Given.Callers.Together.{UnderWay, OnKey, ForRoom, 
 use Rattle.papaya_grows.specs.Given.Effects.Effects.{effects_of, known_after}
 use Rattle.papaya_grows.specs.Given.Effects.Known.{Known}
 use Rattle.papaya_grows.specs.Given.Effects.declared.acting.Acting.TheVariants as acts
-use Rattle.papaya_grows.specs.Given.Executor.declared.executor.Executor.{Executor}
 use Rattle.papaya_grows.specs.Given.Finishes.Maps.{Standing}
 use Rattle.papaya_grows.proofs.Given.Follows.Contents.{lasts_more}
 use Rattle.papaya_grows.proofs.Given.Follows.Steps.{one_of}
@@ -32,19 +31,18 @@ use Rattle.papaya_grows.proofs.Given.Histories.Retaining.{found_there}
 use Rattle.papaya_grows.specs.Given.Purposes.Kept.{NoneCame, PairsChangeFirst}
 use Rattle.papaya_legal.specs.CallEvents.{EachIsItsOwn}
 use Rattle.papaya_legal.proofs.CallChanges.{changes_first}
-use Rattle.papaya_grows.specs.Given.Executor.IsThere.{IsThere}
-use Rattle.papaya_grows.specs.Given.Executor.Stepping.{StepsThere}
+use Rattle.papaya_grows.specs.Given.Scenes.Held.{Held, IsAt}
 use Rattle.papaya_grows.specs.Given.Scenes.Scene.{Scene}
-use Rattle.papaya_grows.specs.Given.Scenes.Stepping.{scene_after}
+use Rattle.papaya_grows.specs.Given.Scenes.Stepping.{StepLeads, scene_after}
 
 -- so it is at a moment that shows the map
-pub each_is_its_own : {K V S : Type 0} (same : K → K → Bool) (hash : K → ℕ) (name : ℕ → List ℕ) (m : Moment K V) (known : Known) (s : Scene K V) (e : Executor K V S) → IsThere same hash e s
+pub each_is_its_own : {K V : Type 0} (same : K → K → Bool) (hash : ℕ → K → ℕ) (name : ℕ → List ℕ) (m : Moment K V) (known : Known) (s : Scene K V) (e : Held K V) → IsAt same hash e s
     → ShowsWhole same name m known s → (map : ℕ) (st : Standing K) → s.maps map ≡ Some st → EachIsItsOwn same map m
 each_is_its_own same hash name m known s e at whole map st there q is =
     let number = whole.all.shown.number map in
     let pairs = (whole.all.shown.maps map st there).pairs in
-    let lawful = (at.held.together.makings.standing.fit map st there).0 in
-    let each = at.held.together.makings.standing.each map st there in
+    let lawful = (at.together.makings.standing.fit map st there).0 in
+    let each = at.together.makings.standing.each map st there in
     let it = pairs.all q (in_map_true map (m.place q) is) in
     let current : st.chart.current it.0 ≡ true = sym (pairs.here it.0 it.1) ∙ ap (λ (x : ℕ). is_in_map map (m.place x)) (sym it.2) ∙ is in
     let pair = pair_is same map number st m known s.world (s.calls map) lawful each pairs whole.all.shown.blocks it.0 current in
@@ -72,15 +70,15 @@ module _ {K V : Type 0} (caller : Option (List ℕ)) (acted : Option ℕ) where
   stored_lasts [] m n p is = is
   stored_lasts (f ∷ effects) m n p is = stored_lasts effects (with_effect caller acted f m) n p (one_lasts (acting caller m) f m.stored n p is)
 
-module _ {K V S : Type 0} (same : K → K → Bool) (hash : K → ℕ) (name : ℕ → List ℕ) (log : List (Entry K V)) (beginning : Moment K V) (map i : ℕ) (c : CallThere K V) (done : List Effect) (m : Moment K V)
-    (known : Known) (s : Scene K V) (whole : ShowsWhole same name m known s) (old new : Executor K V S) (at : IsThere same hash old s) (said : Progress (Node K V)) (leads : StepsThere same hash i said s old new)
+module _ {K V : Type 0} (same : K → K → Bool) (hash : ℕ → K → ℕ) (name : ℕ → List ℕ) (log : List (Entry K V)) (beginning : Moment K V) (map i : ℕ) (c : CallThere K V) (done : List Effect) (m : Moment K V)
+    (known : Known) (s : Scene K V) (whole : ShowsWhole same name m known s) (old new : Held K V) (at : IsAt same hash old s) (said : Progress (Node K V)) (leads : StepLeads same hash i said s old new)
     (u : UnderWay K V K) (midst : InEvent same name log beginning map i c done m known s u) (begun : HasJustBegun log beginning) (its_worked : m ≡ with_effects (Some (name i)) (Some map) done beginning)
     (own_first : EachIsItsOwn same map (moment log)) where
   abbrev here : s.calls map i ≡ Some u
   here = here_of same name log beginning map i c done m known s u midst
 
   abbrev effects : List Effect
-  effects = effects_of (acts.Call i map) known new.memory.changed
+  effects = effects_of (acts.Call i map) known new.changed
 
   abbrev v : Moment K V
   v = with_effects (Some (name i)) (Some map) effects m
@@ -99,9 +97,9 @@ module _ {K V S : Type 0} (same : K → K → Bool) (hash : K → ℕ) (name : �
   own_now = each_is_its_own same hash name m known s old at whole map standing (leads map u here).2
 
   own_then : EachIsItsOwn same map v
-  own_then = each_is_its_own same hash name v (known_after (acts.Call i map) new.memory.changed known)
-      (scene_after same hash s old new map i standing u (leads map u here).1 said (leads map u here).4) new (leads map u here).5
-      (events_keep_all K V S same hash name log beginning map i c done m known s u midst old new at said leads).0 map standing_then (leads map u here).4.its_map.4
+  own_then = each_is_its_own same hash name v (known_after (acts.Call i map) new.changed known)
+      (scene_after same s old new map i standing u (leads map u here).1 said (leads map u here).4) new (leads map u here).5
+      (events_keep_all K V same hash name log beginning map i c done m known s u midst old new at said leads).0 map standing_then (leads map u here).4.its_map.4
 
   lasts : (n : ℕ) (p : K × V) → pair_at (moment log).stored n ≡ Some p → pair_at v.stored n ≡ Some p
   lasts n p is = stored_lasts (Some (name i)) (Some map) effects m n p (subst (λ (x : Moment K V). pair_at x.stored n ≡ Some p) (sym its_worked)

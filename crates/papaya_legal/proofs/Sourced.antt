@@ -16,7 +16,6 @@ use Rattle.papaya_grows.specs.Given.Schedules.Moment.{MapThere, Moment}
 use Rattle.papaya_grows.specs.Given.Rule.Chart.{Tombstone, Chart}
 use Rattle.papaya_grows.proofs.Given.Callers.Together.At.{at_same, at_other}
 use Rattle.papaya_grows.specs.Given.Effects.Known.{Known}
-use Rattle.papaya_grows.specs.Given.Executor.declared.executor.Executor.{Executor}
 use Rattle.papaya_grows.specs.Given.Finishes.Makings.{Beginning, IsNewChart}
 use Rattle.papaya_grows.specs.Given.Finishes.Maps.{Standing, IsSameMap}
 use Rattle.papaya_grows.specs.Given.Follows.Shows.{Shows}
@@ -31,8 +30,9 @@ use Rattle.papaya_grows.specs.Given.Sources.Stays.{StandsAsBefore, NoneBorn}
 use Rattle.papaya_grows.proofs.Given.Sources.New.{aside_stores_none}
 use Rattle.papaya_grows.proofs.Given.Sources.Stays.{sources_stay}
 use Rattle.papaya_grows.proofs.Given.Sources.Steps.{same_standing}
-use Rattle.papaya_grows.specs.Given.Executor.Making.{MakesThere}
 use Rattle.papaya_grows.specs.Given.Scenes.Ending.{ending_begun}
+use Rattle.papaya_grows.specs.Given.Scenes.Held.{Held}
+use Rattle.papaya_grows.specs.Given.Scenes.Making.{MakingLeads}
 use Rattle.papaya_grows.specs.Given.Scenes.Scene.{Scene}
 
 -- where the end of a map begins, each other one stands as it did
@@ -112,7 +112,7 @@ new_bare {K} hash setting places c (inl new) t i mark is = let none = ap (λ (x 
 new_bare {K} hash setting places c (inr new) t i mark is = let none = ap (λ (x : Chart K). x.place t i) new.2 in cc (is, none)
 
 -- as a map is made
-module _ (K V S : Type 0) (same : K → K → Bool) (hash : K → ℕ) (name : ℕ → List ℕ) (m : Moment K V) (known known2 : Known) (s : Scene K V) (old new : Executor K V S) (i : ℕ) (b : Beginning K) (here : s.makers i ≡ Some b)
+module _ (K V : Type 0) (same : K → K → Bool) (hash : ℕ → K → ℕ) (name : ℕ → List ℕ) (m : Moment K V) (known known2 : Known) (s : Scene K V) (old new : Held K V) (i : ℕ) (b : Beginning K) (here : s.makers i ≡ Some b)
     (acted : Option ℕ) (effects : List Effect) (all : AllAside effects) (sources : ShowsSources same name m known s) (none : NoneBorn b.map m) where
   abbrev then_at : Moment K V
   then_at = with_effects None acted effects m
@@ -120,10 +120,10 @@ module _ (K V S : Type 0) (same : K → K → Bool) (hash : K → ℕ) (name : �
   pub making_none : NoneBorn b.map (with_effects None acted effects m)
   making_none = still_none_born m then_at b.map (aside_stores_none None acted effects m all) (aside_all None acted effects m all).born none
 
-  abbrev led : (said : Making Setting) → MakesThere same hash i said s old new → Scene K V
+  abbrev led : (said : Making Setting) → MakingLeads same hash i said s old new → Scene K V
   led said leads = making_after same hash s old new i b (leads b here).0 (leads b here).2.step.w2 said (leads b here).3
 
-  pub making_sources : (said : Making Setting) (leads : MakesThere same hash i said s old new)
+  pub making_sources : (said : Making Setting) (leads : MakingLeads same hash i said s old new)
       → (let t = making_after same hash s old new i b (leads b here).0 (leads b here).2.step.w2 said (leads b here).3 in
       Shows same name (with_effects None acted effects m) known2 t → ShowsSources same name (with_effects None acted effects m) known2 t)
   making_sources progress.Goes leads shown2 = so_aside K V same name m known known2 s (led progress.Goes leads) None acted effects all sources shown2 (λ n st2 is. is)

@@ -22,11 +22,12 @@ use Rattle.papaya_reclaims.proofs.Promised.{reclaiming_begins, reclaiming_stands
 use Rattle.papaya_executor.specs.declared.executor.Executor.{Executor}
 use Rattle.papaya_scenes.specs.declared.row.SlotUse.{SlotUse}
 use Rattle.papaya_executor.specs.declared.worker.Work.{Work}
-use Rattle.papaya_reclaiming.specs.Reclaiming.{NobodyHas, MayReclaim, IsReclaiming, Leaves, ReclaimingLeads, ReclaimingComesTo}
+use Rattle.papaya_reclaiming.specs.Reclaiming.{NobodyHas, MayReclaim, IsReclaimingThere, Leaves, ReclaimsThere}
 use Rattle.papaya_executor.proofs.Places.{none_of}
-use Rattle.papaya_executor.specs.IsThere.{HasRow, IsThere, IsUsedAs, KeepsGiven, call_in, ending_in, making_in}
+use Rattle.papaya_executor.specs.IsThere.{HasRow, IsThere, IsUsedAs, KeepsGiven, call_in, ending_in, held_by, making_in}
 use Rattle.papaya_scenes.proofs.Goes.{same_map_keeps}
 use Rattle.papaya_scenes.proofs.Told.{as_step}
+use Rattle.papaya_scenes.specs.Reclaiming.{ReclaimingComesToThere}
 use Rattle.papaya_scenes.specs.Scene.{Scene, slot_of}
 
 module _ {K V S : Type 0} (same : K → K → Bool) (hash : K → ℕ) (e : Executor K V S) (s : Scene K V) (at : IsThere same hash e s) (nobody : NobodyHas e) where
@@ -49,49 +50,48 @@ module _ {K V S : Type 0} (same : K → K → Bool) (hash : K → ℕ) (e : Exec
     under_way false may =
         (reclaiming_begins {Q = K} V same same e.batch_size e.roots slot_of s.maps s.calls s.makers s.enders s.world i lists at.held.small idle resting may.0).1 may.1
 
-    pub begins : (taken : Bool) → MayReclaim e s lists taken → (all : ReclaimAll) → all ≡ (if taken then reclaiming_all e.batch_size e.roots else clearing e.roots) → IsReclaiming same hash e s i lists all
+    pub begins : (taken : Bool) → MayReclaim e s lists taken → (all : ReclaimAll) → all ≡ (if taken then reclaiming_all e.batch_size e.roots else clearing e.roots) → IsReclaimingThere same hash e s i lists all
     begins taken may all is = record {
-      memory = at.held.memory;
-      under_way = subst (λ (x : ReclaimAll). ReclaimingTogether V same same e.batch_size e.roots slot_of s.maps s.calls s.makers s.enders s.world i lists x) (sym is) (under_way taken may);
+      held = record {
+        memory = at.held.memory;
+        under_way = subst (λ (x : ReclaimAll). ReclaimingTogether V same same e.batch_size e.roots slot_of s.maps s.calls s.makers s.enders s.world i lists x) (sym is) (under_way taken may);
+        hashes = at.held.hashes;
+        small = at.held.small;
+      };
       nobody = nobody;
       maps = at.maps;
-      hashes = at.held.hashes;
-      small = at.held.small;
       slots = at.slots;
     }
 
-module _ {K V S : Type 0} (same : K → K → Bool) (hash : K → ℕ) (e : Executor K V S) (s : Scene K V) (i : ℕ) (lists : ℕ → List ℕ) (all : ReclaimAll) (at : IsReclaiming same hash e s i lists all) where
-  pub may_step : May Can Took value_at e.memory.memory (reclaim_all_plan (deferred_word {K = K} {V = V}) was_left all)
-  may_step =
-      subst (λ (m : Mem (Node K V)). May Can Took value_at m (reclaim_all_plan (deferred_word {K = K} {V = V}) was_left all)) at.memory
-      (reclaiming_stands {Q = K} V same same e.batch_size e.roots slot_of s.maps s.calls s.makers s.enders s.world i lists all at.small at.under_way).0
-
+module _ {K V S : Type 0} (same : K → K → Bool) (hash : K → ℕ) (e : Executor K V S) (s : Scene K V) (i : ℕ) (lists : ℕ → List ℕ) (all : ReclaimAll) (at : IsReclaimingThere same hash e s i lists all) where
   module _ (e1 : Executor K V S) (after : ReclaimAll) (told : Settled (Node K V))
       (steps : StepsTold K V (ReclaimAll × Settled (Node K V)) e.memory.memory Nothing (reclaim_all_plan deferred_word was_left all) e1.memory.memory e1.memory.changed (after, told))
       (rest : e1 ≡ record e { memory = e1.memory }) (e2 : Executor K V S) (leaves : Leaves e1 e2 told) where
     its_step : Steps Took value_at s.world.memory (reclaim_all_plan deferred_word was_left all) e1.memory.memory (after, told)
     its_step =
-        subst (λ (m : Mem (Node K V)). Steps Took value_at m (reclaim_all_plan deferred_word was_left all) e1.memory.memory (after, told)) (sym at.memory)
+        subst (λ (m : Mem (Node K V)). Steps Took value_at m (reclaim_all_plan deferred_word was_left all) e1.memory.memory (after, told)) (sym at.held.memory)
         (as_step e.memory.memory Nothing (reclaim_all_plan deferred_word was_left all) e1.memory.memory e1.memory.changed (after, told) steps)
 
     did : StepsOfReclaiming V same same e.batch_size e.roots slot_of s.maps s.calls s.makers s.enders s.world i lists all.stands e1.memory.memory after told
-    did = (reclaiming_stands {Q = K} V same same e.batch_size e.roots slot_of s.maps s.calls s.makers s.enders s.world i lists all at.small at.under_way).1 e1.memory.memory after told its_step
+    did = (reclaiming_stands {Q = K} V same same e.batch_size e.roots slot_of s.maps s.calls s.makers s.enders s.world i lists all at.held.small at.held.under_way).1 e1.memory.memory after told its_step
 
     abbrev scene2 : Scene K V
     scene2 = record s { world = did.w2; maps = did.maps2 }
 
     settings : (m : ℕ) → option_map (λ standing. standing.setting) (did.maps2 m) ≡ slice_index_or e.maps.items m None
-    settings m = (same_map_keeps hash (s.maps m) (did.maps2 m) (at.hashes m) (did.as_they_were m)).setting ∙ at.maps m
+    settings m = (same_map_keeps hash (s.maps m) (did.maps2 m) (at.held.hashes m) (did.as_they_were m)).setting ∙ at.maps m
 
     -- it goes on
-    goes : (e3 : Executor K V S) → e3 ≡ e1 → IsReclaiming same hash e3 scene2 i did.lists2 after
-    goes e3 is = subst (λ (x : Executor K V S). IsReclaiming same hash x scene2 i did.lists2 after) (sym (is ∙ rest)) (record {
-      memory = did.memory;
-      under_way = did.next;
+    goes : (e3 : Executor K V S) → e3 ≡ e1 → IsReclaimingThere same hash e3 scene2 i did.lists2 after
+    goes e3 is = subst (λ (x : Executor K V S). IsReclaimingThere same hash x scene2 i did.lists2 after) (sym (is ∙ rest)) (record {
+      held = record {
+        memory = did.memory;
+        under_way = did.next;
+        hashes = λ m. (same_map_keeps hash (s.maps m) (did.maps2 m) (at.held.hashes m) (did.as_they_were m)).hashes;
+        small = at.held.small;
+      };
       nobody = at.nobody;
       maps = settings;
-      hashes = λ m. (same_map_keeps hash (s.maps m) (did.maps2 m) (at.hashes m) (did.as_they_were m)).hashes;
-      small = at.small;
       slots = at.slots;
     })
 
@@ -107,22 +107,25 @@ module _ {K V S : Type 0} (same : K → K → Bool) (hash : K → ℕ) (e : Exec
           held = record {
             memory = did.memory;
             together = did.next.stand.together;
-            hashes = λ m. (same_map_keeps hash (s.maps m) (did.maps2 m) (at.hashes m) (did.as_they_were m)).hashes;
-            hashes_made = λ j b makes. absurd (cc (at.under_way.stand.no_makers j, makes));
+            hashes = λ m. (same_map_keeps hash (s.maps m) (did.maps2 m) (at.held.hashes m) (did.as_they_were m)).hashes;
+            hashes_made = λ j b makes. absurd (cc (at.held.under_way.stand.no_makers j, makes));
             on_slots = λ j. subst (IsRowOn (slot_of j)) (sym ((did.over done).nothing.0 j)) tt;
-            small = at.small;
+            small = at.held.small;
           };
           maps = settings;
-          calls = λ m j. ap (option_map machine_of) (at.under_way.stand.no_calls m j) ∙ ap (λ (x : Option (Work K V)). call_in x m) (sym (at.nobody j));
-          makers = λ j. ap (option_map (λ (b : Beginning K). (b.map, b.machine))) (at.under_way.stand.no_makers j) ∙ ap making_in (sym (at.nobody j));
-          enders = λ j. ap (option_map (λ (f : Finishing K V). f.machine)) (at.under_way.stand.no_enders j) ∙ ap ending_in (sym (at.nobody j));
-          numbers = λ j b makes. absurd (cc (at.under_way.stand.no_makers j, makes));
+          calls = λ m j. ap (option_map machine_of) (at.held.under_way.stand.no_calls m j) ∙ ap (λ (x : Option (Work K V)). call_in x m) (sym (at.nobody j));
+          makers = λ j. ap (option_map (λ (b : Beginning K). (b.map, b.machine))) (at.held.under_way.stand.no_makers j) ∙ ap making_in (sym (at.nobody j));
+          enders = λ j. ap (option_map (λ (f : Finishing K V). f.machine)) (at.held.under_way.stand.no_enders j) ∙ ap ending_in (sym (at.nobody j));
+          numbers = λ j b makes. absurd (cc (at.held.under_way.stand.no_makers j, makes));
           rows = λ j. subst (λ (x : Option (Work K V)). HasRow x (did.w2.row j)) (sym (at.nobody j)) ((did.over done).nothing.0 j);
           slots = long ∙ ap (λ (x : Executor K V S). length x.slots.items) rest ∙ at.slots;
           uses = λ t. subst (λ (x : SlotUse). IsUsedAs x (did.w2.uses t)) (sym (vacant t)) ((did.over done).nothing.2 t);
         }
 
-    by_told : (t : Settled (Node K V)) → told ≡ t → Leaves e1 e2 t → ReclaimingComesTo same hash s i lists e e2 scene2 did.lists2 after t
+    abbrev ComesTo : Scene K V → (ℕ → List ℕ) → ReclaimAll → Settled (Node K V) → Type 0
+    ComesTo = ReclaimingComesToThere same s i lists (λ s2 lists2 all. IsReclaimingThere same hash e2 s2 i lists2 all) (IsThere same hash e2) (held_by e) (held_by e2)
+
+    by_told : (t : Settled (Node K V)) → told ≡ t → Leaves e1 e2 t → ComesTo scene2 did.lists2 after t
     by_told settled.Goes is leaves = goes e2 leaves
     by_told settled.Waits is leaves = goes e2 leaves
     by_told (settled.Gave value) is leaves = goes e2 leaves
@@ -139,9 +142,9 @@ module _ {K V S : Type 0} (same : K → K → Bool) (hash : K → ℕ) (e : Exec
     LeadsIn t =
         StepsTold K V (ReclaimAll × Settled (Node K V)) e.memory.memory Nothing (reclaim_all_plan deferred_word was_left all) t.memory t.changed (after, told)
         × (d : StepsOfReclaiming V same same e.batch_size e.roots slot_of s.maps s.calls s.makers s.enders s.world i lists all.stands t.memory after told)
-        × ReclaimingComesTo same hash s i lists e e2 (record s { world = d.w2; maps = d.maps2 }) d.lists2 after told
+        × ComesTo (record s { world = d.w2; maps = d.maps2 }) d.lists2 after told
 
-    pub leads : ReclaimingLeads same hash s i lists e e2 all after told
+    pub leads : ReclaimsThere same hash s i lists e e2 all after told
     leads = subst LeadsIn (sym (same_memory told leaves)) (steps, did, by_told told refl leaves)
 
 -- a step in the memory alone, and what it leaves then, keep what the executor was given

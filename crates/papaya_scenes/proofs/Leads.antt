@@ -1,8 +1,9 @@
 -- What has led to a scene of one kind has led to one of another kind, where each of the first kind is of the second.
-use Rattle.std.specs.Prelude.{ℕ, Bool, Result}
+use Rattle.std.specs.Prelude.{ℕ, Bool, List, Result}
 use Rattle.seize.specs.World.{World, Event, Begin, Step}
 use Rattle.seize.specs.declared.progress.Progress.{Progress as Making}
 use Rattle.seize.specs.declared.progress.Progress.TheVariants as making
+use Rattle.seize.specs.declared.rows.reclaim_all.ReclaimAll.{ReclaimAll}
 use Rattle.seize.specs.declared.rows.settle.Settled.{Settled}
 use Rattle.seize.specs.declared.rows.settle.Settled.TheVariants as settled
 use Rattle.papaya_finishes.specs.Given.Tables.declared.node.Node.{Node}
@@ -18,6 +19,7 @@ use Rattle.papaya_scenes.specs.Ending.{EndingComesToThere, EndingLeadsTo}
 use Rattle.papaya_scenes.specs.Held.{Held}
 use Rattle.papaya_scenes.specs.Making.{MakingComesToThere, MakingLeadsTo}
 use Rattle.papaya_scenes.specs.OnSlots.{HappensTo, RowBeginsTo, RowLeadsTo}
+use Rattle.papaya_scenes.specs.Reclaiming.{ReclaimingComesToThere, ReclaimingLeadsTo}
 use Rattle.papaya_scenes.specs.Replying.{ReplyLeadsTo, AskLeadsTo, StopLeadsTo}
 use Rattle.papaya_scenes.specs.Rows.{request_of}
 use Rattle.papaya_scenes.specs.Scene.{Scene, slot_of}
@@ -65,4 +67,17 @@ module _ {K V : Type 0} (same : K → K → Bool) (One Other : Scene K V → Typ
   row_begins called to = (to.0, to.1, happens (Begin i (request_of (slot_of i) called)) to.2)
 
   abbrev pub row_leads : (told : RowTold (Node K V)) → RowLeadsTo One i told s old new → RowLeadsTo Other i told s old new
-  row_leads told leads = λ row here. (let to = leads row here in (to.0, to.1, happens (Step i) to.2))
+  row_leads told leads = λ row here. (let to = leads row here in (to.0, to.1, happens (Step i) to.2, to.3))
+
+module _ {K V : Type 0} (same : K → K → Bool) (s : Scene K V) (i : ℕ) (lists : ℕ → List ℕ) (One Other : Scene K V → Type 0) (each : (n : Scene K V) → One n → Other n)
+    (Goes Goes2 : Scene K V → (ℕ → List ℕ) → ReclaimAll → Type 0) (goes_too : (n : Scene K V) (lists2 : ℕ → List ℕ) (all : ReclaimAll) → Goes n lists2 all → Goes2 n lists2 all) (old new : Held K V) where
+  abbrev pub reclaiming_comes : (s2 : Scene K V) (lists2 : ℕ → List ℕ) (all : ReclaimAll) (told : Settled (Node K V))
+      → ReclaimingComesToThere same s i lists Goes One old new s2 lists2 all told → ReclaimingComesToThere same s i lists Goes2 Other old new s2 lists2 all told
+  reclaiming_comes s2 lists2 all settled.Goes comes = goes_too s2 lists2 all comes
+  reclaiming_comes s2 lists2 all settled.Waits comes = goes_too s2 lists2 all comes
+  reclaiming_comes s2 lists2 all (settled.Gave value) comes = goes_too s2 lists2 all comes
+  reclaiming_comes s2 lists2 all settled.Done comes = (comes.0, each s2 comes.1)
+
+  abbrev pub reclaiming_leads : (before after : ReclaimAll) (told : Settled (Node K V))
+      → ReclaimingLeadsTo same s i lists Goes One old new before after told → ReclaimingLeadsTo same s i lists Goes2 Other old new before after told
+  reclaiming_leads before after told leads = (leads.0, leads.1, reclaiming_comes (record s { world = leads.1.w2; maps = leads.1.maps2 }) leads.1.lists2 after told leads.2)

@@ -1,5 +1,6 @@
 pub mod Goes
 pub mod Leads
 pub mod May
+pub mod Rows
 pub mod Told
 pub mod Given

@@ -1,10 +1,12 @@
 -- What a caller has under way may take its next step: all that the step looks at is there.
-use Rattle.std.specs.Prelude.{◌≡◌, ℕ, Bool, Option, Some, None}
+use Rattle.std.specs.Prelude.{◌≡◌, ℕ, Bool, List, Option, Some, None}
 use Rattle.std.proofs.Common.{refl, subst}
 use Rattle.seize_words.specs.Mem.{Mem, Can, Took, value_at}
 use Rattle.seize_words.specs.Plan.{May}
+use Rattle.seize.specs.declared.rows.reclaim_all.ReclaimAll.{ReclaimAll}
+use Rattle.seize.specs.ReclaimAll.{reclaim_all_plan}
 use Rattle.seize.specs.World.{Row, MayStep}
-use Rattle.papaya_finishes.specs.Given.Tables.Nodes.{deferred_word}
+use Rattle.papaya_finishes.specs.Given.Tables.Nodes.{deferred_word, was_left}
 use Rattle.papaya_finishes.specs.Given.Tables.declared.node.Node.{Node}
 use Rattle.papaya_finishes.specs.Given.Resize.NewMap.{new_map_plan}
 use Rattle.papaya_raw.specs.EndMap.{end_map_plan}
@@ -18,7 +20,9 @@ use Rattle.papaya_finishes.proofs.Among.Machines.{machines_stand_among}
 use Rattle.papaya_finishes.proofs.Among.Makings.{makings_stand_among}
 use Rattle.papaya_finishes.proofs.Among.Own.Steps.{endings_stand}
 use Rattle.papaya_finishes.proofs.Among.Rows.{guards_stand_among}
+use Rattle.papaya_reclaims.proofs.Promised.{reclaiming_stands}
 use Rattle.papaya_scenes.specs.Held.{Held, IsAt}
+use Rattle.papaya_scenes.specs.Reclaiming.{IsReclaiming}
 use Rattle.papaya_scenes.specs.Scene.{Scene, IsOnSlot, slot_of, row_of}
 use Rattle.papaya_scenes.specs.declared.row.SlotRow.{SlotRow}
 
@@ -56,3 +60,10 @@ module _ {K V : Type 0} (same : K → K → Bool) (hash : ℕ → K → ℕ) (h 
       subst (λ (r : Row). MayStep deferred_word r h.memory) here.1
       (subst (λ (m : Mem (Node K V)). MayStep deferred_word (s.world.row i) m) at.memory
       (guards_stand_among {Q = K} V same same h.batch_size h.roots slot_of s.world s.maps s.calls s.makers s.enders at.together i here.0).1)
+
+-- and all that is being reclaimed may go on to be so
+module _ {K V : Type 0} (same : K → K → Bool) (hash : ℕ → K → ℕ) (h : Held K V) (s : Scene K V) (i : ℕ) (lists : ℕ → List ℕ) (all : ReclaimAll) (at : IsReclaiming same hash h s i lists all) where
+  pub may_reclaim : May Can Took value_at h.memory (reclaim_all_plan (deferred_word {K = K} {V = V}) was_left all)
+  may_reclaim =
+      subst (λ (m : Mem (Node K V)). May Can Took value_at m (reclaim_all_plan (deferred_word {K = K} {V = V}) was_left all)) at.memory
+      (reclaiming_stands {Q = K} V same same h.batch_size h.roots slot_of s.maps s.calls s.makers s.enders s.world i lists all at.small at.under_way).0

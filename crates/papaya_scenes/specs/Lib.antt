@@ -3,6 +3,7 @@ pub mod Ending
 pub mod Held
 pub mod Making
 pub mod OnSlots
+pub mod Reclaiming
 pub mod Replying
 pub mod Rows
 pub mod Scene

@@ -11,7 +11,7 @@ use Rattle.seize.specs.Enter.{enter_plan, unregister_plan}
 use Rattle.seize.specs.Leave.{leave_plan}
 use Rattle.seize.specs.Register.{register_plan}
 use Rattle.seize.specs.Settle.{settle_plan}
-use Rattle.seize.specs.World.{World, Event, Begin, Step, Happens}
+use Rattle.seize.specs.World.{World, Row, Rests, Event, Begin, Step, Happens}
 use Rattle.seize_words.specs.Mem.{Mem}
 use Rattle.papaya_finishes.specs.Given.Tables.Nodes.{deferred_word}
 use Rattle.papaya_finishes.specs.Given.Tables.declared.node.Node.{Node}
@@ -20,12 +20,13 @@ use Rattle.papaya_teller.specs.declared.changed.Changed.{Changed}
 use Rattle.papaya_teller.specs.declared.changed.Changed.TheVariants.{Nothing}
 use Rattle.papaya_finishes.specs.Maps.{Standing, IsSameMap}
 use Rattle.papaya_scenes.specs.declared.row.RowTold.{RowTold}
+use Rattle.papaya_scenes.specs.declared.row.RowTold.TheVariants as told
 use Rattle.papaya_scenes.specs.declared.row.SlotCall.{SlotCall}
 use Rattle.papaya_scenes.specs.declared.row.SlotRow.{SlotRow}
 use Rattle.papaya_scenes.specs.declared.row.SlotRow.TheVariants as rows
 use Rattle.papaya_scenes.specs.Held.{Held, IsAt}
 use Rattle.papaya_scenes.specs.Rows.{request_of, of_registering, of_storing, of_settling}
-use Rattle.papaya_scenes.specs.Scene.{Scene, HasNoCall, IsOnSlot, slot_of}
+use Rattle.papaya_scenes.specs.Scene.{Scene, HasNoCall, IsOnSlot, row_of, slot_of}
 
 module _ (K V : Type 0) where
   -- a step of a machine on a slot, of this plan, is told, and so is what its one operation has changed
@@ -41,6 +42,13 @@ module _ (K V : Type 0) where
   RowSteps (rows.Frees c) m m2 changed after =
       (end : Unregister × Progress Unit) × StepsTold K V (Unregister × Progress Unit) m Nothing (unregister_plan c) m2 changed end × (after ≡ (rows.Frees end.0, of_storing end.1))
 
+-- how a row goes on that has told this: as it is then, or it rests once it has come to its end
+abbrev pub row_then : {T : Type 0} → SlotRow → RowTold T → Row
+row_then after told.Goes = row_of after
+row_then after told.Waits = row_of after
+row_then after (told.Gave value) = row_of after
+row_then after _ = Rests
+
 module _ {K V : Type 0} where
   module _ (IsThere : Scene K V → Type 0) where
     -- This has happened, and all maps are as they were, but for what may be looked at: it has led to a scene of this kind.
@@ -53,10 +61,11 @@ module _ {K V : Type 0} where
     abbrev pub RowBeginsTo : SlotCall → ℕ → Scene K V → Held K V → Held K V → Type 0
     RowBeginsTo called i s old new = (new.memory ≡ old.memory) × HasNoCall s i × HappensTo (Begin i (request_of (slot_of i) called)) s old
 
-    -- The step of a caller's row: it is told, with what its one operation has changed.
+    -- The step of a caller's row: it is told, with what its one operation has changed, and the row goes on, unless it has come to its end.
     abbrev pub RowLeadsTo : ℕ → RowTold (Node K V) → Scene K V → Held K V → Held K V → Type 0
     RowLeadsTo i told s old new =
-        (row : SlotRow) → IsOnSlot s i row → (after : SlotRow) × RowSteps K V row old.memory new.memory new.changed (after, told) × HappensTo (Step i) s old
+        (row : SlotRow) → IsOnSlot s i row
+        → (after : SlotRow) × RowSteps K V row old.memory new.memory new.changed (after, told) × (did : HappensTo (Step i) s old) × (did.0.row i ≡ row_then after told)
 
 -- each to the scene of what is held then
 module _ {K V : Type 0} (same : K → K → Bool) (hash : ℕ → K → ℕ) where

@@ -25,14 +25,11 @@ use Rattle.papaya_legal.specs.Given.Schedules.Terms.{Terms}
 use Rattle.papaya_legal.specs.Given.Effects.Effects.{effects_of, names_same}
 use Rattle.papaya_legal.specs.Given.Effects.Known.{Known}
 use Rattle.papaya_legal.specs.Given.Effects.declared.acting.Acting.TheVariants as acts
-use Rattle.papaya_legal.specs.Given.Executor.declared.executor.Executor.{Executor}
 use Rattle.papaya_legal.specs.Given.Scenes.declared.row.RowTold.{RowTold}
 use Rattle.papaya_legal.specs.Given.Scenes.declared.row.RowTold.TheVariants as told
 use Rattle.papaya_legal.specs.Given.Scenes.declared.row.SlotCall.TheVariants as call
 use Rattle.papaya_legal.specs.Given.Scenes.declared.row.SlotRow.{SlotRow}
 use Rattle.papaya_legal.specs.Given.Scenes.declared.row.SlotRow.TheVariants as rows
-use Rattle.papaya_legal.specs.Given.Executor.declared.worker.Work.{Work}
-use Rattle.papaya_legal.specs.Given.Executor.declared.worker.Work.TheVariants.{OnSlot}
 use Rattle.papaya_legal.proofs.Given.Spots.Unreclaimed.{and_both}
 use Rattle.papaya_legal.specs.Chains.{Chain, Come, RowSteps}
 use Rattle.papaya_legal.specs.Found.{AsksInNeed}
@@ -44,10 +41,9 @@ use Rattle.papaya_works.specs.Needs.{AreReached}
 use Rattle.papaya_works.proofs.Mays.{goes_as}
 use Rattle.papaya_works.proofs.Registering.{NeedsSlot, asks_in_need}
 use Rattle.papaya_works.proofs.Steps.{Tells, registers_tell}
-use Rattle.papaya_legal.specs.Given.Executor.IsThere.{IsThere, work_of}
-use Rattle.papaya_legal.specs.Given.Executor.OnSlots.{RowBeginsThere, row_on}
-use Rattle.papaya_legal.specs.Given.Scenes.OnSlots.{RowSteps as StepsAs}
-use Rattle.papaya_legal.specs.Given.Scenes.Scene.{Scene}
+use Rattle.papaya_legal.specs.Given.Scenes.Held.{Held, IsAt}
+use Rattle.papaya_legal.specs.Given.Scenes.OnSlots.{RowBegins, RowSteps as StepsAs}
+use Rattle.papaya_legal.specs.Given.Scenes.Scene.{IsOnSlot, Scene}
 
 -- a bucket is asked for among the effects of a step that makes room, where it was not known
 module _ (known : Known) where
@@ -98,46 +94,46 @@ module _ {K V : Type 0} (slots slot : ℕ) where
     all_asked fs (with_effect None None f m) slots_are least (λ is. so (any_more (asks_for_bucket f) (list_any asks_for_bucket fs) is)),
   )
 
-module _ {K V S : Type 0} (same : K → K → Bool) (hash : K → ℕ) (terms : Terms) (m : Moment K V) (s : Scene K V) (old : Executor K V S) (i : ℕ) (enters : Bool) (apart : NoneOnVacant i s.world) (first : Known)
+module _ {K V : Type 0} (same : K → K → Bool) (hash : ℕ → K → ℕ) (terms : Terms) (m : Moment K V) (s : Scene K V) (old : Held K V) (i : ℕ) (enters : Bool) (apart : NoneOnVacant i s.world) (first : Known)
     (reached : AreReached m.slots first) (least : (slot : ℕ) → new_slot s.world.uses ≡ Some slot → least_free (used_slots m.there) ≡ slot) where
   -- a registering is under way as one, slots are noted, no bucket is forgotten, and what was asked for is in need
-  abbrev IsOn : Executor K V S → Type 0
-  IsOn e = (row : SlotRow) → work_of e i ≡ Some (OnSlot row) → (c : Register) × (row ≡ rows.Registers c) × OnIt same hash i s old.batch_size enters apart e c
+  abbrev IsOn : Held K V → Type 0
+  IsOn e = (row : SlotRow) → IsOnSlot s i row → (c : Register) × (row ≡ rows.Registers c) × OnIt same hash i s old.batch_size enters apart e c
 
   abbrev Need : Type 0
   Need = AsksForBucket m.slots (least_free (used_slots m.there))
 
-  abbrev NeedsSo : Come K V S → Type 0
-  NeedsSo x = IsOn x.executor × SlotsNoted x.notes x.executor.memory.memory × (first.buckets ≤ x.notes.buckets) × (list_any asks_for_bucket x.did ≡ true → Need)
+  abbrev NeedsSo : Come K V → Type 0
+  NeedsSo x = IsOn x.held × SlotsNoted x.notes x.held.memory × (first.buckets ≤ x.notes.buckets) × (list_any asks_for_bucket x.did ≡ true → Need)
 
   -- the slot that needs a bucket was never reached
   never_reached : (known : Known) (slot n : ℕ) → first.buckets ≤ known.buckets → n + 32 ≡ capacity known.buckets → n ≤ slot + 1 → AreReached m.slots first → m.slots ≤ slot
   never_reached known slot n more whole few (inl none) = omega (arith, none)
   never_reached known slot n more whole few (inr some) = let most = capacity_le_capacity first.buckets known.buckets more in omega (arith, most, whole, few, some)
 
-  module _ (x y : Come K V S) (step : RowSteps same hash terms i x y) (so : NeedsSo x) where
-    here : (c : Register) × (step.row ≡ rows.Registers c) × OnIt same hash i s old.batch_size enters apart x.executor c
+  module _ (x y : Come K V) (step : RowSteps same hash terms i x y) (so : NeedsSo x) where
+    here : (c : Register) × (step.row ≡ rows.Registers c) × OnIt same hash i s old.batch_size enters apart x.held c
     here = so.0 step.row step.here
 
-    went : StepsAs K V (rows.Registers here.0) x.executor.memory.memory y.executor.memory.memory y.executor.memory.changed ((step.leads step.row step.here).0, step.said)
+    went : StepsAs K V (rows.Registers here.0) x.held.memory y.held.memory y.held.changed ((step.leads step.row step.here).0, step.said)
     went =
-        subst (λ (r : SlotRow). StepsAs K V r x.executor.memory.memory y.executor.memory.memory y.executor.memory.changed ((step.leads step.row step.here).0, step.said)) here.1
+        subst (λ (r : SlotRow). StepsAs K V r x.held.memory y.held.memory y.held.changed ((step.leads step.row step.here).0, step.said)) here.1
         (step.leads step.row step.here).1
 
-    needed : NeedsSlot s.world.uses x.executor.memory.memory → Need
+    needed : NeedsSlot s.world.uses x.held.memory → Need
     needed needs =
         let slot_is = least needs.0 needs.1 in
-        subst (AsksForBucket m.slots) (sym slot_is) (never_reached x.notes needs.0 (length x.executor.memory.memory.slots) so.2 so.1.whole needs.3 reached, needs.2)
+        subst (AsksForBucket m.slots) (sym slot_is) (never_reached x.notes needs.0 (length x.held.memory.slots) so.2 so.1.whole needs.3 reached, needs.2)
 
-    asked : list_any asks_for_bucket (effects_of acts.Row x.notes y.executor.memory.changed) ≡ true → Need
+    asked : list_any asks_for_bucket (effects_of acts.Row x.notes y.held.changed) ≡ true → Need
     asked some =
-        let is = asked_is x.notes y.executor.memory.changed
-        (registers_tell x.executor.memory.memory y.executor.memory.memory y.executor.memory.changed ((step.leads step.row step.here).0, step.said) here.0 went) some in
-        needed (asks_in_need same hash i s old.batch_size enters apart x.executor here.0 here.2 y.executor.memory.memory y.executor.memory.changed (step.leads step.row step.here).0 step.said went
+        let is = asked_is x.notes y.held.changed
+        (registers_tell x.held.memory y.held.memory y.held.changed ((step.leads step.row step.here).0, step.said) here.0 went) some in
+        needed (asks_in_need same hash i s old.batch_size enters apart x.held here.0 here.2 y.held.memory y.held.changed (step.leads step.row step.here).0 step.said went
         x.notes so.1 is.0 is.1 is.2 is.3)
 
-    on_then : IsOn y.executor
-    on_then row there = by (next same hash i s old.batch_size enters apart x.executor y.executor here.0 here.2 (step.leads step.row step.here).0 step.said went)
+    on_then : IsOn y.held
+    on_then row there = by (next same hash i s old.batch_size enters apart x.held y.held here.0 here.2 (step.leads step.row step.here).0 step.said went)
       where
         goes : (step.leads step.row step.here).0 ≡ row
         goes = goes_as (step.leads step.row step.here).0 row step.said (sym (step.leads step.row step.here).2 ∙ there)
@@ -147,7 +143,7 @@ module _ {K V S : Type 0} (same : K → K → Bool) (hash : K → ℕ) (terms : 
         over said is never =
             absurd (never (ap (λ (q : RowTold (Node K V)). row_on {K = K} {V = V} (step.leads step.row step.here).0 q) (sym is) ∙ sym (step.leads step.row step.here).2 ∙ there))
 
-        by : Next same hash i s old.batch_size enters apart y.executor (step.leads step.row step.here).0 step.said → (c : Register) × (row ≡ rows.Registers c) × OnIt same hash i s old.batch_size enters apart y.executor c
+        by : Next same hash i s old.batch_size enters apart y.held (step.leads step.row step.here).0 step.said → (c : Register) × (row ≡ rows.Registers c) × OnIt same hash i s old.batch_size enters apart y.held c
         by (inl (c2, is, after_is, on2)) = (c2, sym goes ∙ after_is, on2)
         by (inr (inl (fault, is, why, roomed))) = over (told.Refused fault) is (λ on. cc on)
         by (inr (inr (slot, is, new_is))) = over (told.Registered slot) is (λ on. cc on)
@@ -156,23 +152,23 @@ module _ {K V S : Type 0} (same : K → K → Bool) (hash : K → ℕ) (terms : 
     needs_on =
         subst NeedsSo (sym step.comes) (
           on_then,
-          rows_note_slots K V S same hash x.notes x.scene x.executor y.executor step.is_at so.1 i step.said step.leads step.row step.here,
-          (let more = buckets_grow acts.Row y.executor.memory.changed x.notes in let before = so.2 in omega (arith, more, before)),
-          λ some. either (either_any asks_for_bucket x.did (effects_of acts.Row x.notes y.executor.memory.changed) some),
+          rows_note_slots K V same hash x.notes x.scene x.held y.held step.is_at so.1 i step.said step.leads step.row step.here,
+          (let more = buckets_grow acts.Row y.held.changed x.notes in let before = so.2 in omega (arith, more, before)),
+          λ some. either (either_any asks_for_bucket x.did (effects_of acts.Row x.notes y.held.changed) some),
         )
       where
-        either : (list_any asks_for_bucket x.did ≡ true) ⊎ (list_any asks_for_bucket (effects_of acts.Row x.notes y.executor.memory.changed) ≡ true) → Need
+        either : (list_any asks_for_bucket x.did ≡ true) ⊎ (list_any asks_for_bucket (effects_of acts.Row x.notes y.held.changed) ≡ true) → Need
         either (inl before) = so.3 before
         either (inr now) = asked now
 
   -- So all buckets that were asked for were in need, from where it began.
-  pub registers_need : (new : Executor K V S) → IsThere same hash old s → (leads : RowBeginsThere same hash (call.Register enters) i s old new) → SlotsNoted first new.memory.memory → (n : ℕ) (from to : Come K V S)
-      → from.executor ≡ new → from.notes ≡ first → from.did ≡ [] → Chain (RowSteps same hash terms i) n from to → AtEachEffect AsksInNeed None None to.did m
-  registers_need new at_s leads noted n from to executor_is notes_are none chain =
+  pub registers_need : (new : Held K V) → IsAt same hash old s → (leads : RowBegins same hash (call.Register enters) i s old new) → SlotsNoted first new.memory → (n : ℕ) (from to : Come K V)
+      → from.held ≡ new → from.notes ≡ first → from.did ≡ [] → Chain (RowSteps same hash terms i) n from to → AtEachEffect AsksInNeed None None to.did m
+  registers_need new at_s leads noted n from to held_is notes_are none chain =
       all_asked m.slots (least_free (used_slots m.there)) to.did m refl refl
       (chains_keep NeedsSo (RowSteps same hash terms i) (λ x y step so. needs_on x y step so) n from to chain (
-        subst IsOn (sym executor_is) on_first,
-        subst (λ (e : Executor K V S). SlotsNoted from.notes e.memory.memory) (sym executor_is) (subst (λ (k : Known). SlotsNoted k new.memory.memory) (sym notes_are) noted),
+        subst IsOn (sym held_is) on_first,
+        subst (λ (e : Held K V). SlotsNoted from.notes e.memory) (sym held_is) (subst (λ (k : Known). SlotsNoted k new.memory) (sym notes_are) noted),
         (let same_number = ap (λ (k : Known). k.buckets) notes_are in omega (arith, same_number)),
         λ some. absurd (let is_none = ap (list_any asks_for_bucket) none in cc (some, is_none)),
       )).3
