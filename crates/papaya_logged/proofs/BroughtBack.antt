@@ -55,6 +55,7 @@ use Rattle.papaya_executor.specs.OnSlots.{RowStepsThere}
 use Rattle.papaya_scenes.specs.Ending.{EndingComesTo, EndingLeads}
 use Rattle.papaya_scenes.specs.Scene.{Scene}
 use Rattle.papaya_logged.proofs.Held.{row_held}
+use Rattle.papaya_executor.proofs.RowLeads.{held_row}
 
 -- the last effect of a list
 at_end : (ys : List Effect) (f : Effect) → slice_get (ys ++ f ∷ []) (length ys) ≡ Some f
@@ -210,7 +211,7 @@ module _ {K V S : Type 0} where
           (row_quiet noted new.memory.changed (row_tells mid.executor.memory.memory new.memory.memory new.memory.changed (to.1, said) row to.2) none)
 
       row_brings : IsBack m.stored does (row_back said (ys ++ does))
-      row_brings = by said (rows_give_what_they_took K V same (λ map. hash) s (held_by mid.executor) (held_by new) i said (row_held same hash s mid.executor new i said leads row here) row (leads row here).0)
+      row_brings = by said (rows_give_what_they_took K V same (λ map. hash) s (held_by mid.executor) (held_by new) i said (held_row same hash s mid.executor new shown.is_at i said leads) row (leads row here).0)
         where
           by : (t : RowTold (Node K V)) → GivesWhatItTook mid.executor.memory.memory new.memory.changed t → IsBack m.stored does (row_back t (ys ++ does))
           by (told.Gave value) (b, took, held) =

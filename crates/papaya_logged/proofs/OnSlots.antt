@@ -28,6 +28,7 @@ use Rattle.papaya_executor.specs.OnSlots.{RowBeginsThere, RowStepsThere}
 use Rattle.papaya_scenes.specs.Rows.{request_of}
 use Rattle.papaya_scenes.specs.Scene.{Scene, slot_of}
 use Rattle.papaya_logged.proofs.Held.{begun_held, row_held}
+use Rattle.papaya_executor.proofs.RowLeads.{has_row, held_row}
 
 module _ {K V S : Type 0} (same : K → K → Bool) (hash : K → ℕ) where
   pub on_slot_begins : (old new : Logged K V S) (called : SlotCall) (i : ℕ)
@@ -57,13 +58,14 @@ module _ {K V S : Type 0} (same : K → K → Bool) (hash : K → ℕ) where
   on_slot_so old stepped notes i told stepping noted given name m s shown row here =
       let went = stepping s shown.is_at in
       let on = (went row here).0 in
-      let leads = row_held same hash s old.executor stepped i told went row here in
+      let leads = held_row same hash s old.executor stepped shown.is_at i told went in
       let then_at = scene_then same (λ map. hash) (Step i) s (held_by old.executor) (held_by stepped) (leads row on).2 in
       let effects = effects_of acts.Row (known old.notes) stepped.memory.changed in
       let finds = rows_find_kept K V same (λ map. hash) name m (known old.notes) s (held_by old.executor) (held_by stepped) shown.is_at.held shown.shows shown.kept i told leads row on in (
-        went,
+        on,
+        leads,
         record {
-          is_at = (went row here).5.4;
+          is_at = (went row (has_row same hash old.executor s shown.is_at i row on)).5.4;
           shows = subst (λ (k : Known). ShowsWhole {K = K} {V = V} same name (with_effects None None effects m) k then_at) (sym noted)
               (rows_keep_whole K V same (λ map. hash) name m (known old.notes) s (held_by old.executor) (held_by stepped) shown.is_at.held shown.shows i told leads row on finds.0 finds.1);
           kept = subst (λ (k : Known). ShowsKept {K = K} {V = V} name (with_effects None None effects m) k then_at) (sym noted)

@@ -36,6 +36,7 @@ use Rattle.papaya_kept.proofs.Given.Others.RowPlans.{TellsRow, row_tells}
 use Rattle.papaya_kept.proofs.Given.Moments.OnSlots.{none_some}
 use Rattle.std.proofs.lemmas.Bool.{cases_eq}
 use Rattle.papaya_scenes.specs.Rows.{of_settling}
+use Rattle.papaya_scenes.proofs.Leads.{happens}
 
 -- a block that is there then is as it was, in the same hands
 abbrev pub KeptThere : {K V : Type 0} → World (Node K V) → World (Node K V) → Type 0

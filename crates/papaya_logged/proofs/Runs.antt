@@ -48,10 +48,10 @@ module _ {K V S : Type 0} where
         (let u = ran.3 same hash name m s shown in
         let then_at = record s { world = u.0; maps = u.1 } in
         let to = step.2 same hash name (with_effects None None ran.0 m) then_at u.2 row here in
-        let at = (to.0 row here).5 in (
+        let at = (to.1 row to.0).2 in (
           at.0,
           at.2,
-          subst (λ (n : Moment K V). IsShown same hash name n new (record s { world = at.0; maps = at.2 })) (sym (effects_after None None ran.0 step.0 m)) to.1,
+          subst (λ (n : Moment K V). IsShown same hash name n new (record s { world = at.0; maps = at.2 })) (sym (effects_after None None ran.0 step.0 m)) to.2,
         )),
   )
 

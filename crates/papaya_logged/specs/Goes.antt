@@ -18,7 +18,7 @@ use Rattle.papaya_executor.specs.declared.executor.Executor.{Executor}
 use Rattle.papaya_scenes.specs.declared.row.RowTold.{RowTold}
 use Rattle.papaya_scenes.specs.declared.row.SlotRow.{SlotRow}
 use Rattle.papaya_executor.specs.declared.worker.Work.TheVariants.{OnSlot}
-use Rattle.papaya_reclaiming.specs.Reclaiming.{IsReclaiming, MayReclaim, NobodyHas, ReclaimingLeads}
+use Rattle.papaya_reclaiming.specs.Reclaiming.{IsReclaimingThere, MayReclaim, NobodyHas, ReclaimsThere}
 use Rattle.papaya_logged.specs.Ends.{is_done}
 use Rattle.papaya_logged.specs.Makings.{given_back, is_over}
 use Rattle.papaya_logged.specs.OnSlots.{StepsOn}
@@ -90,8 +90,8 @@ module _ {K V S : Type 0} where
   abbrev pub ReclaimingGoes : (from to : Far K V S × ReclaimAll) → Type 0
   ReclaimingGoes from to =
       IsNotedAs acts.Row from.0 to.0 × (said : Settled (Node K V))
-      × ((same : K → K → Bool) (hash : K → ℕ) (s : Scene K V) (i : ℕ) (lists : ℕ → List ℕ) → IsReclaiming same hash from.0.logged.executor s i lists from.1
-      → ReclaimingLeads same hash s i lists from.0.logged.executor to.0.logged.executor from.1 to.1 said)
+      × ((same : K → K → Bool) (hash : K → ℕ) (s : Scene K V) (i : ℕ) (lists : ℕ → List ℕ) → IsReclaimingThere same hash from.0.logged.executor s i lists from.1
+      → ReclaimsThere same hash s i lists from.0.logged.executor to.0.logged.executor from.1 to.1 said)
 
   -- after which it goes on
   abbrev pub ReclaimingOn : (from to : Far K V S × ReclaimAll) → Type 0
@@ -118,6 +118,6 @@ module _ {K V S : Type 0} where
   ReclaimingGone taken before after old new =
       (first : ReclaimAll)
       × ((same : K → K → Bool) (hash : K → ℕ) (name : ℕ → List ℕ) (m : Moment K V) (s : Scene K V) (i : ℕ) (lists : ℕ → List ℕ) → IsShown same hash name m old s
-      → NobodyHas old.executor → MayReclaim old.executor s lists taken → IsReclaiming same hash old.executor s i lists first)
+      → NobodyHas old.executor → MayReclaim old.executor s lists taken → IsReclaimingThere same hash old.executor s i lists first)
       × (mid : Far K V S × ReclaimAll) × GoesTo ReclaimingOn (far before old, first) mid × (last : ReclaimAll) × (step : ReclaimingGoes mid (far after new, last)) × (is_done step.1 ≡ true)
       × (first ≡ (if taken then reclaiming_all old.executor.batch_size old.executor.roots else clearing old.executor.roots))

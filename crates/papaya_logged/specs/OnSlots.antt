@@ -18,9 +18,10 @@ use Rattle.papaya_kept.specs.Given.Finishes.Maps.{Standing}
 use Rattle.papaya_kept.specs.Given.Others.Rows.{scene_then}
 use Rattle.papaya_logged.specs.Shown.{IsShown}
 use Rattle.papaya_logged.specs.declared.logged.Logged.{Logged}
-use Rattle.papaya_executor.specs.IsThere.{IsThere, work_of}
+use Rattle.papaya_executor.specs.IsThere.{IsThere, held_by, work_of}
 use Rattle.papaya_executor.specs.OnSlots.{MayBegin, RowBeginsThere, RowStepsThere, row_on}
-use Rattle.papaya_scenes.specs.Scene.{Scene, slot_of}
+use Rattle.papaya_scenes.specs.Scene.{IsOnSlot, Scene, slot_of}
+use Rattle.papaya_scenes.specs.OnSlots.{RowLeads}
 
 module _ {K V S : Type 0} (same : K → K → Bool) (hash : K → ℕ) (name : ℕ → List ℕ) (m : Moment K V) (s : Scene K V) where
   -- A row that may begin on the caller's slot is under way, and the moment shows that, as it is.
@@ -34,8 +35,8 @@ module _ {K V S : Type 0} (same : K → K → Bool) (hash : K → ℕ) (name : �
   abbrev pub OnSlotGoesOn : ℕ → RowTold (Node K V) → List Effect → (old new : Logged K V S) → Type 0
   OnSlotGoesOn i said did old new =
       (row : SlotRow) (here : work_of old.executor i ≡ Some (OnSlot row))
-      → (leads : RowStepsThere same hash i said s old.executor new.executor)
-      × IsShown same hash name (with_effects None None did m) new (record s { world = (leads row here).5.0; maps = (leads row here).5.2 })
+      → (on : IsOnSlot s i row) × (leads : RowLeads same (λ map. hash) i said s (held_by old.executor) (held_by new.executor))
+      × IsShown same hash name (with_effects None None did m) new (scene_then same (λ map. hash) (Step i) s (held_by old.executor) (held_by new.executor) (leads row on).2)
 
   -- Steps of a row, which did this: the same of all of it. Others have under way what they had.
   abbrev pub OnSlotRuns : List Effect → Logged K V S → Type 0
