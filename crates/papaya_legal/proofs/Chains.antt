@@ -92,12 +92,12 @@ module _ (K V : Type 0) (same : K → K → Bool) (hash : ℕ → K → ℕ) whe
           step.size step.said step.leads step.none (step.noted here) y.under (step.goes_on here))
 
   pub rows_run_to_their_ends : RowsRunToTheirEnds K V same hash
-  rows_run_to_their_ends name terms log known s old new at size small run e on i called may leads spares before n to chain did rests ends busy allowed finds is_row right reclaims =
+  rows_run_to_their_ends name terms log known s old new at size small run e on i called leads spares before n to chain did rests ends busy allowed finds is_row right reclaims =
       (legal.0, slot_events_end_so K V same name terms log i called known s.world to.now to.notes s to.scene e midst run right legal.0 legal.1 legal.2 reclaims)
     where
       midst : InSlotEvent same name terms log e.event i called known s.world e.effects to.now to.notes to.scene
       midst = subst (λ (fs : List Effect). InSlotEvent same name terms log e.event i called known s.world fs to.now to.notes to.scene) did
-          (rows_chain name terms log e.event i called known s.world n _ to chain (slot_events_begin_so K V same hash name terms log known s old new at size run e.event on i called may leads spares before))
+          (rows_chain name terms log e.event i called known s.world n _ to chain (slot_events_begin_so K V same hash name terms log known s old new at size run e.event on i called leads spares before))
 
       legal : IsLegalBut same terms log e × SectionsHold (moment (e ∷ log)) to.notes to.scene.world
           × ((moment (e ∷ log)).is_alone ≡ true → FollowsModel terms.batch_size terms.roots (e ∷ log) to.notes to.scene.world)

@@ -85,7 +85,7 @@ none_among (u ∷ xs) all = by (is_retired u.stage) refl (none_among xs all.1)
     by true is rest = absurd (all.0 is)
     by false is rest = ap (λ (q : Bool). not q && list_all (λ v. not (is_retired v.stage)) xs) is ∙ rest
 
--- what a step did by which an executor came from one place to another
+-- what a step did that led from one place to another
 abbrev did_by : {K V : Type 0} → (x y : Come K V) → List Effect
 did_by x y = effects_of acts.Row x.notes y.held.changed
 

@@ -82,7 +82,7 @@ module _ {K V : Type 0} (m : Moment K V) (known : Known) (w : World (Node K V)) 
   slots_protected _ is = absurd (cc is)
 
 pub slot_events_begin_so : (K V : Type 0) (same : K → K → Bool) (hash : ℕ → K → ℕ) → SlotEventsBegin K V same hash
-slot_events_begin_so K V same hash name terms log known s old new at size run event on i called may leads spares before =
+slot_events_begin_so K V same hash name terms log known s old new at size run event on i called leads spares before =
     let m = moment log in
     let request = request_of (slot_of i) called in
     let to = leads.2 in

@@ -32,7 +32,7 @@ use Rattle.papaya_grows.specs.Given.Effects.declared.role.Role.TheVariants as ro
 use Rattle.papaya_grows.specs.Given.Finishes.Maps.{Standing}
 use Rattle.papaya_grows.specs.Given.Moments.OnSlots.{HadRetired}
 use Rattle.papaya_logged.specs.Given.SeizeReclaims.Roots.{all_lists}
-use Rattle.papaya_logged.specs.Given.Reclaiming.Reclaiming.{IsReclaiming, ReclaimingLeads}
+use Rattle.papaya_grows.specs.Given.Scenes.Reclaiming.{IsReclaiming, ReclaimingLeads}
 use Rattle.papaya_promises.specs.Reading.{ShowsReading}
 use Rattle.papaya_models.specs.Follows.{FollowsModel}
 use Rattle.papaya_models.specs.Numbers.{EachIsOnce, things_of}

@@ -65,10 +65,10 @@ use Rattle.papaya_grows.specs.Given.Scenes.Held.{Held, IsAt}
 use Rattle.papaya_grows.specs.Given.Scenes.Making.{MakingLeads}
 use Rattle.papaya_grows.specs.Given.Scenes.OnSlots.{RowBegins, RowLeads}
 use Rattle.papaya_grows.specs.Given.Scenes.Rows.{request_of}
-use Rattle.papaya_grows.specs.Given.Scenes.Scene.{Scene, slot_of}
+use Rattle.papaya_grows.specs.Given.Scenes.Scene.{IsOnSlot, Scene, slot_of}
 use Rattle.papaya_grows.specs.Given.Scenes.Stepping.{StepLeads, scene_after}
 
--- How far an event has come: with which executor, what it has done, the moment after that, what is known then, and the scene in which the executor is.
+-- How far an event has come: what is held then, what it has done, the moment after that, what is known then, and the scene of what is held.
 pub record Come (K V : Type 0) : Type 0 where
   pub held : Held K V
   pub did : List Effect
@@ -96,7 +96,7 @@ module _ {K V : Type 0} (same : K → K → Bool) (hash : ℕ → K → ℕ) (te
     pub said : RowTold (Node K V)
     pub leads : RowLeads same hash i said from.scene from.held to.held
     pub row : SlotRow
-    pub here : work_of from.held i ≡ Some (OnSlot row)
+    pub here : IsOnSlot from.scene i row
     pub comes : to ≡ record {
       held = to.held;
       did = from.did ++ effects_of acts.Row from.notes to.held.changed;

@@ -36,6 +36,10 @@ module _ {K V : Type 0} (same : K → K → Bool) (s : Scene K V) (i : ℕ) (lis
         × (did : StepsOfReclaiming V same same old.batch_size old.roots slot_of s.maps s.calls s.makers s.enders s.world i lists before.stands new.memory after told)
         × ReclaimingComesToThere (record s { world = did.w2; maps = did.maps2 }) did.lists2 after told
 
-  -- to what is so of what is held then
-  abbrev pub ReclaimingLeads : (ℕ → K → ℕ) → Held K V → Held K V → ReclaimAll → ReclaimAll → Settled (Node K V) → Type 0
-  ReclaimingLeads hash old new before after told = ReclaimingLeadsTo (λ s2 lists2 all. IsReclaiming same hash new s2 i lists2 all) (IsAt same hash new) old new before after told
+-- to what is so of what is held then
+module _ {K V : Type 0} (same : K → K → Bool) (hash : ℕ → K → ℕ) (s : Scene K V) (i : ℕ) (lists : ℕ → List ℕ) (old new : Held K V) where
+  abbrev pub ReclaimingComesTo : Scene K V → (ℕ → List ℕ) → ReclaimAll → Settled (Node K V) → Type 0
+  ReclaimingComesTo s2 lists2 all told = ReclaimingComesToThere same s i lists (λ s3 lists3 all3. IsReclaiming same hash new s3 i lists3 all3) (IsAt same hash new) old new s2 lists2 all told
+
+  abbrev pub ReclaimingLeads : ReclaimAll → ReclaimAll → Settled (Node K V) → Type 0
+  ReclaimingLeads before after told = ReclaimingLeadsTo same s i lists (λ s2 lists2 all. IsReclaiming same hash new s2 i lists2 all) (IsAt same hash new) old new before after told

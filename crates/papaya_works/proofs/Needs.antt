@@ -8,7 +8,9 @@ use Rattle.papaya_legal.proofs.Given.SeizeWords.Places.Words.{capacity_le_capaci
 use Rattle.papaya_legal.specs.Given.Seize.declared.rows.register.Register.{Register}
 use Rattle.papaya_legal.specs.Given.Seize.declared.rows.register.Registering.TheVariants as at
 use Rattle.papaya_legal.specs.Given.Seize.Sequence.{new_slot}
+use Rattle.papaya_legal.specs.Given.Seize.World.{World, Rests}
 use Rattle.papaya_legal.proofs.Given.SeizeSets.Slots.Registers.{NoneOnVacant}
+use Rattle.papaya_legal.specs.Given.Tables.Nodes.{deferred_word}
 use Rattle.papaya_legal.specs.Given.Tables.declared.node.Node.{Node}
 use Rattle.papaya_legal.specs.Given.Teller.declared.changed.Changed.{Changed}
 use Rattle.papaya_legal.specs.Given.Teller.declared.changed.Changed.TheVariants as changed
@@ -42,8 +44,9 @@ use Rattle.papaya_works.proofs.Mays.{goes_as}
 use Rattle.papaya_works.proofs.Registering.{NeedsSlot, asks_in_need}
 use Rattle.papaya_works.proofs.Steps.{Tells, registers_tell}
 use Rattle.papaya_legal.specs.Given.Scenes.Held.{Held, IsAt}
-use Rattle.papaya_legal.specs.Given.Scenes.OnSlots.{RowBegins, RowSteps as StepsAs}
-use Rattle.papaya_legal.specs.Given.Scenes.Scene.{IsOnSlot, Scene}
+use Rattle.papaya_legal.specs.Given.Scenes.OnSlots.{RowBegins, RowSteps as StepsAs, row_then}
+use Rattle.papaya_legal.specs.Given.Scenes.Scene.{Scene, row_of, slot_of}
+use Rattle.papaya_legal.proofs.Given.Scenes.Rows.{begun_there, never_rests, one_row}
 
 -- a bucket is asked for among the effects of a step that makes room, where it was not known
 module _ (known : Known) where
@@ -97,14 +100,14 @@ module _ {K V : Type 0} (slots slot : ℕ) where
 module _ {K V : Type 0} (same : K → K → Bool) (hash : ℕ → K → ℕ) (terms : Terms) (m : Moment K V) (s : Scene K V) (old : Held K V) (i : ℕ) (enters : Bool) (apart : NoneOnVacant i s.world) (first : Known)
     (reached : AreReached m.slots first) (least : (slot : ℕ) → new_slot s.world.uses ≡ Some slot → least_free (used_slots m.there) ≡ slot) where
   -- a registering is under way as one, slots are noted, no bucket is forgotten, and what was asked for is in need
-  abbrev IsOn : Held K V → Type 0
-  IsOn e = (row : SlotRow) → IsOnSlot s i row → (c : Register) × (row ≡ rows.Registers c) × OnIt same hash i s old.batch_size enters apart e c
+  abbrev IsOn : Held K V → World (Node K V) → Type 0
+  IsOn e w = (row : SlotRow) → w.row i ≡ row_of row → (c : Register) × (row ≡ rows.Registers c) × OnIt same hash i s old.batch_size enters apart e c
 
   abbrev Need : Type 0
   Need = AsksForBucket m.slots (least_free (used_slots m.there))
 
   abbrev NeedsSo : Come K V → Type 0
-  NeedsSo x = IsOn x.held × SlotsNoted x.notes x.held.memory × (first.buckets ≤ x.notes.buckets) × (list_any asks_for_bucket x.did ≡ true → Need)
+  NeedsSo x = IsOn x.held x.scene.world × SlotsNoted x.notes x.held.memory × (first.buckets ≤ x.notes.buckets) × (list_any asks_for_bucket x.did ≡ true → Need)
 
   -- the slot that needs a bucket was never reached
   never_reached : (known : Known) (slot n : ℕ) → first.buckets ≤ known.buckets → n + 32 ≡ capacity known.buckets → n ≤ slot + 1 → AreReached m.slots first → m.slots ≤ slot
@@ -113,7 +116,7 @@ module _ {K V : Type 0} (same : K → K → Bool) (hash : ℕ → K → ℕ) (te
 
   module _ (x y : Come K V) (step : RowSteps same hash terms i x y) (so : NeedsSo x) where
     here : (c : Register) × (step.row ≡ rows.Registers c) × OnIt same hash i s old.batch_size enters apart x.held c
-    here = so.0 step.row step.here
+    here = so.0 step.row step.here.1
 
     went : StepsAs K V (rows.Registers here.0) x.held.memory y.held.memory y.held.changed ((step.leads step.row step.here).0, step.said)
     went =
@@ -132,21 +135,21 @@ module _ {K V : Type 0} (same : K → K → Bool) (hash : ℕ → K → ℕ) (te
         needed (asks_in_need same hash i s old.batch_size enters apart x.held here.0 here.2 y.held.memory y.held.changed (step.leads step.row step.here).0 step.said went
         x.notes so.1 is.0 is.1 is.2 is.3)
 
-    on_then : IsOn y.held
+    on_then : IsOn y.held (step.leads step.row step.here).2.0
     on_then row there = by (next same hash i s old.batch_size enters apart x.held y.held here.0 here.2 (step.leads step.row step.here).0 step.said went)
       where
         goes : (step.leads step.row step.here).0 ≡ row
-        goes = goes_as (step.leads step.row step.here).0 row step.said (sym (step.leads step.row step.here).2 ∙ there)
+        goes = goes_as (step.leads step.row step.here).0 row step.said (sym there ∙ (step.leads step.row step.here).3)
 
         -- one that has ended is under way no more
-        over : {X : Type 0} (said : RowTold (Node K V)) → step.said ≡ said → (row_on {K = K} {V = V} (step.leads step.row step.here).0 said ≡ Some (OnSlot row) → ⊥) → X
-        over said is never =
-            absurd (never (ap (λ (q : RowTold (Node K V)). row_on {K = K} {V = V} (step.leads step.row step.here).0 q) (sym is) ∙ sym (step.leads step.row step.here).2 ∙ there))
+        over : {X : Type 0} (said : RowTold (Node K V)) → step.said ≡ said → row_then (step.leads step.row step.here).0 said ≡ Rests → X
+        over said is rests =
+            absurd (never_rests row (sym there ∙ (step.leads step.row step.here).3 ∙ ap (λ (q : RowTold (Node K V)). row_then (step.leads step.row step.here).0 q) is ∙ rests))
 
         by : Next same hash i s old.batch_size enters apart y.held (step.leads step.row step.here).0 step.said → (c : Register) × (row ≡ rows.Registers c) × OnIt same hash i s old.batch_size enters apart y.held c
         by (inl (c2, is, after_is, on2)) = (c2, sym goes ∙ after_is, on2)
-        by (inr (inl (fault, is, why, roomed))) = over (told.Refused fault) is (λ on. cc on)
-        by (inr (inr (slot, is, new_is))) = over (told.Registered slot) is (λ on. cc on)
+        by (inr (inl (fault, is, why, roomed))) = over (told.Refused fault) is refl
+        by (inr (inr (slot, is, new_is))) = over (told.Registered slot) is refl
 
     pub needs_on : NeedsSo y
     needs_on =
@@ -163,20 +166,20 @@ module _ {K V : Type 0} (same : K → K → Bool) (hash : ℕ → K → ℕ) (te
 
   -- So all buckets that were asked for were in need, from where it began.
   pub registers_need : (new : Held K V) → IsAt same hash old s → (leads : RowBegins same hash (call.Register enters) i s old new) → SlotsNoted first new.memory → (n : ℕ) (from to : Come K V)
-      → from.held ≡ new → from.notes ≡ first → from.did ≡ [] → Chain (RowSteps same hash terms i) n from to → AtEachEffect AsksInNeed None None to.did m
-  registers_need new at_s leads noted n from to held_is notes_are none chain =
+      → from.held ≡ new → from.scene.world ≡ leads.2.0 → from.notes ≡ first → from.did ≡ [] → Chain (RowSteps same hash terms i) n from to → AtEachEffect AsksInNeed None None to.did m
+  registers_need new at_s leads noted n from to held_is world_is notes_are none chain =
       all_asked m.slots (least_free (used_slots m.there)) to.did m refl refl
       (chains_keep NeedsSo (RowSteps same hash terms i) (λ x y step so. needs_on x y step so) n from to chain (
-        subst IsOn (sym held_is) on_first,
+        subst (λ (e : Held K V). IsOn e from.scene.world) (sym held_is) (subst (IsOn new) (sym world_is) on_first),
         subst (λ (e : Held K V). SlotsNoted from.notes e.memory) (sym held_is) (subst (λ (k : Known). SlotsNoted k new.memory) (sym notes_are) noted),
         (let same_number = ap (λ (k : Known). k.buckets) notes_are in omega (arith, same_number)),
         λ some. absurd (let is_none = ap (list_any asks_for_bucket) none in cc (some, is_none)),
       )).3
     where
-      on_first : IsOn new
+      on_first : IsOn new leads.2.0
       on_first row there =
-          let both : ◌≡◌ {A = Option (Work K V)} (Some (OnSlot (rows.Registers (record { slot = 0; enters = enters; stands = at.Begin })))) (Some (OnSlot row)) = sym (leads tt).1 ∙ there in
-          let is : rows.Registers (record { slot = 0; enters = enters; stands = at.Begin }) ≡ row = cc both in
+          let is = one_row (rows.Registers (record { slot = 0; enters = enters; stands = at.Begin })) row
+          (sym (begun_there deferred_word old.batch_size i s.world leads.2.0 (slot_of i) (call.Register enters) leads.2.1.1) ∙ there) in
           (record { slot = 0; enters = enters; stands = at.Begin }, sym is, first_on same hash i s enters apart old new at_s leads)
 
 -- Where no bucket is asked for none is needed.

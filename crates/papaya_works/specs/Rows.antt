@@ -29,8 +29,8 @@ may_row _ f = false
 
 module _ {K V : Type 0} (same : K → K → Bool) (hash : ℕ → K → ℕ) where
   -- how far an event has come whose row has just begun
-  abbrev pub row_begun : (log : List (Entry K V)) (known : Known) (s : Scene K V) (called : SlotCall) (i : ℕ) (old new : Held K V) → MayBegin old (slot_of i) called → RowBegins same hash called i s old new → Come K V
-  row_begun log known s called i old new may leads = record {
+  abbrev pub row_begun : (log : List (Entry K V)) (known : Known) (s : Scene K V) (called : SlotCall) (i : ℕ) (old new : Held K V) → RowBegins same hash called i s old new → Come K V
+  row_begun log known s called i old new leads = record {
     held = new;
     did = [];
     now = moment log;
@@ -45,6 +45,6 @@ module _ (K V : Type 0) (same : K → K → Bool) (hash : ℕ → K → ℕ) whe
       (name : ℕ → List ℕ) (terms : Terms) (log : List (Entry K V)) (known : Known) (s : Scene K V) (old new : Held K V) → IsAt same hash old s
       → (event : Event K V) (i : ℕ) (called : SlotCall) (leads : RowBegins same hash called i s old new)
       → (called ≡ call.Flush → IsInside (s.world.uses (slot_of i)))
-      → (let begun = row_begun same hash log known s called i old new may leads in
+      → (let begun = row_begun same hash log known s called i old new leads in
       InSlotEvent same name terms log event i called known s.world begun.did begun.now begun.notes begun.scene
       → (n : ℕ) (to : Come K V) → Chain (RowSteps same hash terms i) n begun to → list_all (may_row called) to.did ≡ true)

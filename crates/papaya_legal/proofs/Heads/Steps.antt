@@ -60,7 +60,7 @@ use Rattle.papaya_grows.specs.Given.Moments.Whole.{ShowsWhole}
 use Rattle.papaya_logged.specs.Given.Reclaims.Reclaims.{ReclaimingAt}
 use Rattle.papaya_logged.specs.Given.Reclaims.Slots.{AreItsRows, BeginsAt, DoesAt}
 use Rattle.papaya_logged.proofs.Given.Reclaims.Slots.Facts.{rested_by}
-use Rattle.papaya_logged.specs.Given.Reclaiming.Reclaiming.{IsReclaiming, ReclaimingLeads}
+use Rattle.papaya_grows.specs.Given.Scenes.Reclaiming.{IsReclaiming, ReclaimingLeads}
 use Rattle.papaya_models.proofs.Calls.{OneStep, by_users, no_or, one_step}
 use Rattle.papaya_legal.proofs.Heads.Rows.{KeepsTaken, Off, by_memory, no_change, same_taken, step_taken, written}
 use Rattle.papaya_legal.proofs.OfAll.Sets.{none_of_rows}

@@ -34,7 +34,7 @@ use Rattle.papaya_grows.specs.Given.Moments.OnSlots.{HadRetired}
 use Rattle.papaya_grows.proofs.Given.Spots.Unreclaimed.{and_both}
 use Rattle.papaya_logged.specs.Given.SeizeReclaims.Roots.{all_lists}
 use Rattle.papaya_logged.specs.Given.Reclaims.Reclaims.{AllIsReclaimed, IsRootOf, ReclaimingTold}
-use Rattle.papaya_logged.specs.Given.Reclaiming.Reclaiming.{ReclaimingComesTo}
+use Rattle.papaya_grows.specs.Given.Scenes.Reclaiming.{ReclaimingComesTo}
 use Rattle.papaya_promises.specs.Protected.{EndsInside, InMidst, is_of_slots}
 use Rattle.papaya_promises.specs.Sheltered.{SectionsHold}
 use Rattle.papaya_promises.proofs.Protected.{all_is_ended_protected, slot_events_end_protected}
@@ -178,7 +178,7 @@ module _ (K V : Type 0) (same : K → K → Bool) (hash : ℕ → K → ℕ) whe
       all_rest : (j : ℕ) → over.come.scene.world.row j ≡ Rests
       all_rest j = subst (λ (z : AllCome K V). z.come.scene.world.row j ≡ Rests) (sym last.comes) (reclaimed.nothing.0 j)
 
-      -- the executor is there
+      -- the scene is that of what is held
       there : IsAt same hash over.come.held over.come.scene
       there = subst (λ (z : AllCome K V). IsAt same hash over.come.held z.come.scene) (sym last.comes)
           (subst (λ (t : Settled (Node K V)). ReclaimingComesTo same hash to.come.scene i to.lists to.come.held over.come.held (scene_in to.come.scene last.leads.1.w2 last.leads.1.maps2)

@@ -34,7 +34,7 @@ use Rattle.papaya_grows.proofs.Given.Follows.Operations.{LeavesBy}
 use Rattle.papaya_grows.specs.Given.Moments.Whole.{ShowsWhole}
 use Rattle.papaya_grows.specs.Given.Spots.Unreclaimed.{is_unreclaimed}
 use Rattle.papaya_logged.specs.Given.SeizeReclaims.Roots.{all_lists}
-use Rattle.papaya_logged.specs.Given.Reclaiming.Reclaiming.{IsReclaiming, ReclaimingLeads}
+use Rattle.papaya_grows.specs.Given.Scenes.Reclaiming.{IsReclaiming, ReclaimingLeads}
 use Rattle.papaya_grows.specs.Given.Lives.Behind.{EachWaits, IsLeft, LiesBehind}
 use Rattle.papaya_grows.specs.Given.Lives.Waiting.{waits_behind}
 use Rattle.papaya_grows.proofs.Given.Lives.Each.{found}

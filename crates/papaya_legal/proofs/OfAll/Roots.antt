@@ -36,8 +36,8 @@ use Rattle.papaya_grows.proofs.Given.Moments.OnSlots.{none_some}
 use Rattle.papaya_grows.proofs.Given.Others.Outcomes.{told_in}
 use Rattle.papaya_logged.specs.Given.Reclaims.Reclaims.{HasTaken, ReclaimingAt, ReclaimingTold}
 use Rattle.papaya_logged.specs.Given.Reclaims.Slots.{AreItsRows, IsForSlots}
-use Rattle.papaya_logged.specs.Given.Reclaiming.Reclaiming.{IsReclaiming, ReclaimingLeads}
-use Rattle.papaya_logged.proofs.Given.Reclaiming.Reclaims.{may_step}
+use Rattle.papaya_grows.specs.Given.Scenes.Reclaiming.{IsReclaiming, ReclaimingLeads}
+use Rattle.papaya_grows.proofs.Given.Scenes.May.{may_reclaim}
 use Rattle.papaya_grows.specs.Given.Lives.Behind.{IsLeft}
 use Rattle.papaya_logged.proofs.ReclaimFinds.{left_before, root_value, step_handed}
 use Rattle.papaya_logged.proofs.ReclaimGives.{taken_gone}
@@ -139,7 +139,7 @@ module _ {K V : Type 0} (same : K → K → Bool) (hash : ℕ → K → ℕ) (s 
       subst (λ (n : Mem (Node K V)). LeavesBy w.memory n x) (sym leads.1.memory)
       (subst (λ (n : Mem (Node K V)). LeavesBy n new.memory x) (sym under_way.memory)
       (operated_leaves old.memory new.memory x
-      (operated old.memory new.memory x (all.reclaim_all_plan deferred_word was_left before) (after, told) (may_step same hash old s i lists before under_way) leads.0)))
+      (operated old.memory new.memory x (all.reclaim_all_plan deferred_word was_left before) (after, told) (may_reclaim same hash old s i lists before under_way) leads.0)))
 
   -- a block that is taken away
   module _ (b : ℕ) (value : Node K V) (held : value_at w.memory b ≡ Some value) (gone : value_at w2.memory b ≡ None) where

@@ -31,8 +31,8 @@ use Rattle.papaya_grows.specs.Given.Moments.Whole.{ShowsWhole}
 use Rattle.papaya_grows.proofs.Given.Moments.NewMaps.{effects_keep_pairs}
 use Rattle.papaya_grows.proofs.Given.Others.RowPlans.{TellsRow}
 use Rattle.papaya_grows.proofs.Given.Histories.Questions.{effects_keep_questions}
-use Rattle.papaya_logged.specs.Given.Reclaiming.Reclaiming.{IsReclaiming, ReclaimingLeads}
-use Rattle.papaya_logged.proofs.Given.Reclaiming.Reclaims.{may_step}
+use Rattle.papaya_grows.specs.Given.Scenes.Reclaiming.{IsReclaiming, ReclaimingLeads}
+use Rattle.papaya_grows.proofs.Given.Scenes.May.{may_reclaim}
 use Rattle.papaya_logged.proofs.ReclaimRest.{reclaiming_found, reclaiming_keeps}
 use Rattle.papaya_logged.proofs.ReclaimRows.{EmptiesRoot, reclaiming_tells}
 use Rattle.papaya_logged.proofs.ReclaimSteps.{reclaiming_whole}
@@ -105,7 +105,7 @@ module _ {K V : Type 0} (same : K → K → Bool) (hash : ℕ → K → ℕ) (na
   made =
       subst (λ (n : Mem (Node K V)). Operated s.world.memory n x) (sym leads.1.memory)
       (subst (λ (n : Mem (Node K V)). Operated n new.memory x) (sym under_way.memory)
-      (operated old.memory new.memory x (reclaim_all_plan deferred_word was_left before) (after, told) (may_step same hash old s i lists before under_way) leads.0))
+      (operated old.memory new.memory x (reclaim_all_plan deferred_word was_left before) (after, told) (may_reclaim same hash old s i lists before under_way) leads.0))
 
   shards_then : ShowsShards v t
   shards_then n st is shard few =

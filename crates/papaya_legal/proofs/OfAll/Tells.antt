@@ -43,7 +43,7 @@ use Rattle.papaya_grows.proofs.Given.Others.RowPlans.{TellsRow}
 use Rattle.papaya_grows.specs.Given.Moments.Whole.{ShowsWhole}
 use Rattle.papaya_grows.specs.Given.Owes.Tables.{HoldsTable}
 use Rattle.papaya_logged.specs.Given.Reclaims.Reclaims.{HasTaken, ReclaimingTold}
-use Rattle.papaya_logged.specs.Given.Reclaiming.Reclaiming.{IsReclaiming, ReclaimingLeads}
+use Rattle.papaya_grows.specs.Given.Scenes.Reclaiming.{IsReclaiming, ReclaimingLeads}
 use Rattle.papaya_logged.proofs.ReclaimGives.{GivesOr, reclaiming_gives, taken_gone}
 use Rattle.papaya_logged.proofs.ReclaimRows.{EmptiesRoot, reclaiming_tells}
 use Rattle.papaya_logged.proofs.ReclaimSteps.{left, no_call, nothing_there, root_none}
