@@ -6,8 +6,6 @@ use Rattle.std.proofs.lemmas.List.{get_or_past}
 use Rattle.papaya_logged.specs.Given.Seize.World.{Use, Rests}
 use Rattle.papaya_logged.specs.Given.Finishes.Machines.{machine_of}
 use Rattle.papaya_logged.specs.Given.Executor.declared.executor.Executor.{Executor}
-use Rattle.papaya_logged.specs.Given.Scenes.declared.row.SlotRow.{SlotRow}
-use Rattle.papaya_logged.specs.Given.Scenes.declared.row.SlotRow.TheVariants as rows
 use Rattle.papaya_logged.specs.Given.Scenes.declared.row.SlotUse.{SlotUse}
 use Rattle.papaya_logged.specs.Given.Scenes.declared.row.SlotUse.TheVariants as used
 use Rattle.papaya_logged.specs.Given.Scenes.declared.callers.TheConstants.{SLOTS}
@@ -15,15 +13,8 @@ use Rattle.papaya_logged.specs.Given.Executor.declared.worker.Work.{Work}
 use Rattle.papaya_logged.specs.Given.Executor.declared.worker.Work.TheVariants as work
 use Rattle.papaya_logged.proofs.Given.Executor.Places.{none_of}
 use Rattle.papaya_logged.specs.Given.Executor.IsThere.{HasRow, IsThere, IsUsedAs, call_in, ending_in, making_in, use_at, work_of}
-use Rattle.papaya_logged.specs.Given.Scenes.Scene.{Scene, row_of}
-
--- a row is none that rests
-never_rests : (it : SlotRow) → row_of it ≡ Rests → ⊥
-never_rests (rows.Registers c) e = cc e
-never_rests (rows.Enters c) e = cc e
-never_rests (rows.Leaves c) e = cc e
-never_rests (rows.Flushes c) e = cc e
-never_rests (rows.Frees c) e = cc e
+use Rattle.papaya_logged.specs.Given.Scenes.Scene.{Scene}
+use Rattle.papaya_logged.proofs.Given.Scenes.Rows.{never_rests}
 
 none_mapped : {A B : Type 0} (f : A → B) (o : Option A) → o ≡ None → (b : B) → option_map f o ≡ Some b → ⊥
 none_mapped f None e b h = cc h

@@ -128,17 +128,17 @@ module _ {K V S : Type 0} (same : K → K → Bool) (hash : K → ℕ) (name : �
   not_waits is =
       let to = last on.1.0 on.1.1 in
       never_waits same hash ran.caller s (λ j has. alone j (subst (λ (x : ℕ). has_batch x (s.world.row j) ≡ true) ran.in_slot has)) mid on.0 on.1.0 on.1.1 on.1.2
-      new.executor.memory.memory new.executor.memory.changed to.0
-      (subst (λ (x : RowTold (Node K V)). RowSteps K V on.1.0 mid.memory.memory new.executor.memory.memory new.executor.memory.changed (to.0, x)) is to.1)
+      new.executor.memory.memory new.executor.memory.changed to.1
+      (subst (λ (x : RowTold (Node K V)). RowSteps K V on.1.0 mid.memory.memory new.executor.memory.memory new.executor.memory.changed (to.1, x)) is to.2)
 
   pub done_alone : said ≡ told.Done
   done_alone =
       let to = last on.1.0 on.1.1 in
-      let tells = settling_tells K V mid.memory.memory new.executor.memory.memory new.executor.memory.changed on.1.0 to.0 said on.1.2 to.1 in
+      let tells = settling_tells K V mid.memory.memory new.executor.memory.memory new.executor.memory.changed on.1.0 to.1 said on.1.2 to.2 in
       done_by K V tells.0 said tells.1 ran.come not_waits
 
   pub led_alone : Led same hash ran.caller s new.executor
   led_alone = step_led same hash ran.caller s mid new.executor said on.1.0 on.1.1 ran.last.3 on.0
 
   pub over_alone : work_of new.executor ran.caller ≡ None
-  over_alone = (last on.1.0 on.1.1).2 ∙ ap (λ (x : RowTold (Node K V)). row_on {K = K} {V = V} (last on.1.0 on.1.1).0 x) done_alone
+  over_alone = (last on.1.0 on.1.1).3 ∙ ap (λ (x : RowTold (Node K V)). row_on {K = K} {V = V} (last on.1.0 on.1.1).1 x) done_alone

@@ -52,7 +52,7 @@ module _ {K V S : Type 0} (same : K → K → Bool) (hash : K → ℕ) (i : ℕ)
   -- where it has begun,
   pub begun_led : (called : SlotCall) (old new : Executor K V S) → MayBegin old (slot_of i) called → RowBeginsThere same hash called i s old new → Led new
   begun_led called old new may leads =
-      let to = (leads may).3 in
+      let to = (leads may).3.2 in
       record {
         w = to.0;
         maps = to.2;
@@ -65,7 +65,7 @@ module _ {K V S : Type 0} (same : K → K → Bool) (hash : K → ℕ) (i : ℕ)
   pub step_led : (old new : Executor K V S) (said : RowTold (Node K V)) (row : SlotRow) → work_of old i ≡ Some (OnSlot row) → StepsOn i said old new → Led old → Led new
   step_led old new said row here steps led =
       let then_at = record s { world = led.w; maps = led.maps } in
-      let to = (steps same hash then_at led.at row here).4 in
+      let to = (steps same hash then_at led.at row here).5 in
       record {
         w = to.0;
         maps = to.2;
@@ -85,7 +85,7 @@ module _ {K V S : Type 0} (same : K → K → Bool) (hash : K → ℕ) (i : ℕ)
         let on = goes_led n old mid goes way in
         let leads = steps same hash (record s { world = on.0.w; maps = on.0.maps }) on.0.at on.1.0 on.1.1 in (
           step_led mid new said on.1.0 on.1.1 steps on.0,
-          (leads.0, leads.2 ∙ under_way_on leads.0 said not_yet, keeps mid.memory.memory new.memory.memory new.memory.changed on.1.0 leads.0 said on.1.2 leads.1 not_yet),
+          (leads.1, leads.3 ∙ under_way_on leads.1 said not_yet, keeps mid.memory.memory new.memory.memory new.memory.changed on.1.0 leads.1 said on.1.2 leads.2 not_yet),
         )
 
     -- and by the last one
@@ -95,7 +95,7 @@ module _ {K V S : Type 0} (same : K → K → Bool) (hash : K → ℕ) (i : ℕ)
         let on = goes_led n old mid goes way in
         let leads = steps same hash (record s { world = on.0.w; maps = on.0.maps }) on.0.at on.1.0 on.1.1 in (
           step_led mid new said on.1.0 on.1.1 steps on.0,
-          (mid.memory.memory, new.memory.memory, new.memory.changed, on.1.0, leads.0, on.1.2, leads.1, leads.2),
+          (mid.memory.memory, new.memory.memory, new.memory.changed, on.1.0, leads.1, on.1.2, leads.2, leads.3),
         )
 
 module _ (K V : Type 0) where

@@ -16,7 +16,7 @@ use Rattle.papaya_logged.specs.OnSlots.{EndsTelling, OnSlotBegins, OnSlotComes, 
 use Rattle.papaya_logged.specs.Shown.{IsShown}
 use Rattle.papaya_logged.specs.declared.logged.Logged.{Logged}
 use Rattle.papaya_rows.specs.Rows.{RowRan}
-use Rattle.papaya_logged.specs.Given.Executor.IsThere.{IsThere, KeepsGiven, work_of}
+use Rattle.papaya_logged.specs.Given.Executor.IsThere.{IsThere, KeepsGiven, in_slot, work_of}
 use Rattle.papaya_logged.specs.Given.Executor.OnSlots.{MayBegin, RowBeginsThere}
 use Rattle.papaya_logged.specs.Given.Scenes.Rows.{begun_row, uses_begun}
 use Rattle.papaya_logged.specs.Given.Scenes.Scene.{Scene, slot_of}
@@ -41,7 +41,7 @@ module _ {K V S : Type 0} (slot : ℕ) (called : SlotCall) (caller : ℕ) (old b
 
     -- then it runs,
     pub begun_there : (same2 : K → K → Bool) × (hash2 : K → ℕ) × (s2 : Scene K V) × IsThere same2 hash2 began.executor s2 × (row : SlotRow) × (work_of began.executor caller ≡ Some (OnSlot row))
-    begun_there = (same, hash, record s { world = (leads may_there).3.0; maps = (leads may_there).3.2 }, (leads may_there).3.4, begun_row slot old.executor.batch_size called, row_is)
+    begun_there = (same, hash, record s { world = (leads may_there).3.2.0; maps = (leads may_there).3.2.2 }, (leads may_there).3.2.4, begun_row slot old.executor.batch_size called, row_is)
 
     -- and has run
     pub has_run : (said : RowTold (Node K V)) (before after : List Effect) → began.notes ≡ old.notes → KeepsGiven old.executor began.executor
