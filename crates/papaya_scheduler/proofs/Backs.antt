@@ -19,6 +19,7 @@ use Rattle.papaya_scheduler.specs.Played.{IsDue}
 use Rattle.papaya_scheduler.specs.declared.scheduler.Scheduler.{Scheduler}
 use Rattle.papaya_executor.specs.OnSlots.{MayBegin}
 use Rattle.papaya_scenes.specs.Scene.{Scene, slot_of}
+use Rattle.papaya_executor.specs.IsThere.{in_slot}
 
 module _ {K V S : Type 0} where
   -- what a row brings back that has begun before it ran

@@ -121,12 +121,12 @@ module _ {K V S : Type 0} (same : K → K → Bool) (hash : K → ℕ) (terms : 
         machine_is : machine_of u ≡ machine_for (record setting { slot = slot }) hash call
         machine_is =
             its_machine same st i call ∙ ap (λ (x : Setting). machine_for (in_slot x (slot_of i)) st.hash call) its.3
-            ∙ ap (λ (x : ℕ). machine_for (in_slot setting x) st.hash call) at_slot ∙ ap (λ (h : K → ℕ). machine_for (in_slot setting slot) h call) (stands.shown.is_at.hashes number st its.2)
+            ∙ ap (λ (x : ℕ). machine_for (in_slot setting x) st.hash call) at_slot ∙ ap (λ (h : K → ℕ). machine_for (in_slot setting slot) h call) (stands.shown.is_at.held.hashes number st its.2)
 
         pub shown : IsShown same hash names (with_call own guard call (Some number) m) new then_at
         shown =
             leads stands.name m s stands.shown st its.2 (ap (use_at p.logged.executor) at_slot ∙ entered) u machine_is
-            (begins_so same st i (stands.shown.is_at.together.makings.standing.fit number st its.2).0 call) own guard call (is_called same st i call) (is_begun_for same st i call) (none_named own free)
+            (begins_so same st i (stands.shown.is_at.held.together.makings.standing.fit number st its.2).0 call) own guard call (is_called same st i call) (is_begun_for same st i call) (none_named own free)
 
         pub none_yet : (n : ℕ) → s.calls n i ≡ None
         none_yet = no_calls_yet same hash p.logged.executor s stands.shown.is_at slot fits

@@ -71,7 +71,7 @@ use Rattle.papaya_rows.proofs.Lists.{changed_at, set_all, set_any, set_count}
 use Rattle.papaya_scheduler.proofs.Quiet.{stands_on}
 use Rattle.papaya_named.proofs.Takes.{key_takes, sweep_takes}
 use Rattle.papaya_scheduler.proofs.Rights.{in_turn, out_of_turn, plays, quiet}
-use Rattle.papaya_executor.specs.IsThere.{work_of}
+use Rattle.papaya_executor.specs.IsThere.{held_by, work_of}
 use Rattle.papaya_executor.specs.Replying.{RepliesThere}
 use Rattle.papaya_scenes.proofs.May.{standing_is}
 use Rattle.papaya_scenes.specs.Replying.{scene_with}
@@ -256,7 +256,7 @@ module _ {K V S : Type 0} (same : K → K → Bool) (hash : K → ℕ) (terms : 
       as_far = subst (λ (x : HowFar). IsAsFar d.kind x (machine_of u)) asks_it here.way.4.0
 
       abbrev st : (standing : Standing K) × (s.maps d.map ≡ Some standing)
-      st = standing_is same hash p.logged.executor s stands.shown.is_at d.map i u under
+      st = standing_is same (λ map. hash) (held_by p.logged.executor) s stands.shown.is_at.held d.map i u under
 
       -- its machine takes it
       key_taken : (x : CallOnKey K V K) → u ≡ OnKey x → (told_at x.call.stands x.call (as_told reply)).1 ≡ Ok tt
@@ -275,7 +275,7 @@ module _ {K V S : Type 0} (same : K → K → Bool) (hash : K → ℕ) (terms : 
               the a b e = cc e
 
           together : Together V same st.0.hash same st.0.setting slot_of s.world st.0.chart st.0.blocks st.0.sights (s.calls d.map)
-          together = stands.shown.is_at.together.makings.standing.each d.map st.0 st.1
+          together = stands.shown.is_at.held.together.makings.standing.each d.map st.0 st.1
 
           asked_as : IsAskedAs (stands.shown.shows.all.shown.number d.map) st.0.chart.stored (known p.logged.notes) x c.call c
           asked_as = stands.shown.shows.all.asked.each d.map i (OnKey x) here_x st.0 st.1 c call_named
@@ -318,7 +318,7 @@ module _ {K V S : Type 0} (same : K → K → Bool) (hash : K → ℕ) (terms : 
       module _ (result : Result Unit (MachineReply V)) (new : Logged K V S) (leads : RepliesThere same hash i (as_told reply) result s p.logged.executor new.executor)
           (takes_so : CallTakes same hash stands.name m s i (as_told reply) result p.logged new) where
         pub result_is : result ≡ Ok tt
-        result_is = (leads d.map u under).4 ∙ taken u refl
+        result_is = (leads.1 d.map u under).4 ∙ taken u refl
 
         to : (next : UnderWay K V K) × (machine_of next ≡ (machine_replied (machine_of u) (as_told reply)).0) × IsShown same hash stands.name (told_so (stands.name i) reply m) new (scene_with d.map i next s)
         to = takes_so d.map u under c call_named question stands_asking reply refl result_is

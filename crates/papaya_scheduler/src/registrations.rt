@@ -13,9 +13,9 @@ ghost use Rattle.papaya_executor.specs.IsThere.{KeepsGiven};
 
 use crate::played::Played;
 use crate::scheduler::Scheduler;
-use papaya_scenes::row::{RowTold, SlotCall};
 use papaya_runs::record::Pair;
 use papaya_runs::token::Token;
+use papaya_scenes::row::{RowTold, SlotCall};
 use papaya_schedules::effect::Effect;
 use papaya_schedules::outcome::Outcome;
 use seize_words::Fault;

@@ -14,7 +14,6 @@ ghost use Rattle.papaya_executor.specs.OnSlots.{MayBegin};
 ghost use Rattle.papaya_scenes.specs.Scene.{Scene, at_first};
 
 use crate::played::Played;
-use papaya_scenes::row::{RowTold, SlotCall};
 use papaya_logged::logged::Logged;
 use papaya_named::callers::Callers;
 use papaya_named::named_map::NamedMap;
@@ -24,6 +23,7 @@ use papaya_raw::{Node, Setting};
 use papaya_runs::event::Setup;
 use papaya_runs::record::Pair;
 use papaya_runs::token::Token;
+use papaya_scenes::row::{RowTold, SlotCall};
 use papaya_schedules::effect::Effect;
 use papaya_schedules::outcome::Outcome;
 use std::alloc::{AllocError, Global};
