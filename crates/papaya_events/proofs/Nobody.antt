@@ -80,10 +80,10 @@ module _ {K V S : Type 0} (same : K → K → Bool) (hash : K → ℕ) (terms : 
         rest_shows_retired K V S same hash runs.stands.name m (known p.logged.notes) s p.logged.executor runs.stands.shown.is_at runs.stands.shown.kept rests runs.shows.order.0.within.apart runs.taken
 
   pub is_word : terms.batch_size < 2 ^ 64
-  is_word = subst (λ (n : ℕ). n < 2 ^ 64) runs.size runs.stands.shown.is_at.small
+  is_word = subst (λ (n : ℕ). n < 2 ^ 64) runs.size runs.stands.shown.is_at.held.small
 
   pub shows_nobody : ShowsNobody terms m (known p.logged.notes) s.world
   shows_nobody = record {
-    came = subst (λ (n : ℕ). CameAbout n s.world) runs.size runs.stands.shown.is_at.together.makings.standing.came;
+    came = subst (λ (n : ℕ). CameAbout n s.world) runs.size runs.stands.shown.is_at.held.together.makings.standing.came;
     nobody = λ quiet. (nobody quiet, retired quiet);
   }

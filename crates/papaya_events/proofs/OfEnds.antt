@@ -247,7 +247,7 @@ module _ {K V S : Type 0} (same : K → K → Bool) (hash : K → ℕ) (terms : 
   due = record { played = run.stands; in_turn = turn }
 
   small : terms.batch_size < 2 ^ 64
-  small = subst (λ (n : ℕ). n < 2 ^ 64) run.size run.stands.shown.is_at.small
+  small = subst (λ (n : ℕ). n < 2 ^ 64) run.size run.stands.shown.is_at.held.small
 
   abbrev KeepsAs : Entry K V → Type 0
   KeepsAs x = IsPlayed same hash terms (x ∷ log) new → ComesRight terms log x → RunsOn same hash terms log x new
@@ -384,7 +384,7 @@ module _ {K V S : Type 0} (same : K → K → Bool) (hash : K → ℕ) (terms : 
 
     -- each pair that ends is in the map, and each table is linked
     in_map : IsMapIn same standing.hash standing.setting s.world standing.chart standing.blocks
-    in_map = (run.stands.shown.is_at.together.makings.standing.each map standing (begun none_on).1).ground.map
+    in_map = (run.stands.shown.is_at.held.together.makings.standing.each map standing (begun none_on).1).ground.map
 
     current_known : (n : ℕ) → standing.chart.current n ≡ true → (n < standing.chart.stored) × (standing.blocks.pair_known n ≡ true)
     current_known n current = current_is_known same standing.hash standing.setting s.world.memory standing.chart standing.blocks in_map.map.rule in_map.map.shows n current

@@ -151,7 +151,7 @@ module _ {K V S : Type 0} (same : K → K → Bool) (hash : K → ℕ) (terms : 
   s = run.stands.scene
 
   small : terms.batch_size < 2 ^ 64
-  small = subst (λ (n : ℕ). n < 2 ^ 64) run.size run.stands.shown.is_at.small
+  small = subst (λ (n : ℕ). n < 2 ^ 64) run.size run.stands.shown.is_at.held.small
 
   -- its row has run to its end
   module _ (calls : new.calls ≡ old.calls) (slot : ℕ) (about : IsAbout event old slot) (called : SlotCall) (its : IsItsRow event old slot called) (said : RowTold (Node K V)) (comes : ComesBy event said played.outcome)
@@ -251,7 +251,7 @@ module _ {K V S : Type 0} (same : K → K → Bool) (hash : K → ℕ) (terms : 
 
     taken_begun : SlotsTaken ran.began.executor.memory.memory m.slots
     taken_begun =
-        subst (λ (x : Mem (Node K V)). SlotsTaken x m.slots) (run.stands.shown.is_at.memory ∙ sym (ap (λ x. x.memory) (leads may).0)) run.taken
+        subst (λ (x : Mem (Node K V)). SlotsTaken x m.slots) (run.stands.shown.is_at.held.memory ∙ sym (ap (λ x. x.memory) (leads may).0)) run.taken
 
     taken_other : IsOtherCall called → SlotsTaken after_row m.slots
     taken_other other =
@@ -281,7 +281,7 @@ module _ {K V S : Type 0} (same : K → K → Bool) (hash : K → ℕ) (terms : 
         as_told _ come so = so come
 
     taken : SlotsTaken y.scene.world.memory (slots_on played.outcome m.slots)
-    taken = subst (λ (x : Mem (Node K V)). SlotsTaken x (slots_on played.outcome m.slots)) (sym y.is_at.memory) (by event its comes)
+    taken = subst (λ (x : Mem (Node K V)). SlotsTaken x (slots_on played.outcome m.slots)) (sym y.is_at.held.memory) (by event its comes)
       where
         comes_to : (o : Outcome V) → played.outcome ≡ o → SlotsTaken after_row (slots_on o m.slots) → SlotsTaken after_row (slots_on played.outcome m.slots)
         comes_to o is = subst (λ (x : Outcome V). SlotsTaken after_row (slots_on x m.slots)) (sym is)

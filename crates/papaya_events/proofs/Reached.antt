@@ -102,11 +102,11 @@ module _ {K V S : Type 0} (same : K → K → Bool) (hash : K → ℕ) (terms : 
   used_reaches s among =
       let some = room_behind deferred_word plays.scene.world good s (never_vacant (plays.scene.world.uses s) (good.state.head s) _ _ not_vacant (good.used.fits s)) in
       let whole = plays.shown.counted.numbered.slots.whole in
-      let there = ap (λ (x : Mem (Node K V)). length x.slots) plays.shown.is_at.memory in
+      let there = ap (λ (x : Mem (Node K V)). length x.slots) plays.shown.is_at.held.memory in
       omega (arith, some, whole, there)
     where
       good : Good deferred_word (LAST_SLOT + 1) p.logged.executor.batch_size plays.scene.world
-      good = (came_reached p.logged.executor.batch_size plays.scene.world plays.shown.is_at.together.makings.standing.came).good
+      good = (came_reached p.logged.executor.batch_size plays.scene.world plays.shown.is_at.held.together.makings.standing.came).good
 
       in_use : (has_registration s p.there.registrations || not (guards_on s p.there.guards == 0)) ≡ true
       in_use = sym (among_used s p.there) ∙ ap (λ (x : Present). is_among s (used_slots x)) (sym plays.there) ∙ among

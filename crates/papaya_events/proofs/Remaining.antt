@@ -54,14 +54,14 @@ module _ {K V S : Type 0} (same : K → K → Bool) (hash : K → ℕ) (terms : 
     where
       by : (o : Option (Beginning K)) → t.makers j ≡ o → t.makers j ≡ None
       by None is = is
-      by (Some d) is = no_making_of same hash p.logged.executor t plays.shown.is_at j (plays.rests j (plays.shown.is_at.together.makings.alone j d is))
+      by (Some d) is = no_making_of same hash p.logged.executor t plays.shown.is_at j (plays.rests j (plays.shown.is_at.held.together.makings.alone j d is))
 
   pub nobody_ends : (j : ℕ) → t.enders j ≡ None
   nobody_ends j = by (t.enders j) refl
     where
       by : (o : Option (Finishing K V)) → t.enders j ≡ o → t.enders j ≡ None
       by None is = is
-      by (Some f) is = no_ending_of same hash p.logged.executor t plays.shown.is_at j (plays.rests j (plays.shown.is_at.together.alone j f is).0)
+      by (Some f) is = no_ending_of same hash p.logged.executor t plays.shown.is_at j (plays.rests j (plays.shown.is_at.held.together.alone j f is).0)
 
   abbrev StandsNamed : (List ℕ × ℕ) → Type 0
   StandsNamed z = (standing : Standing K) × (t.maps z.1 ≡ Some standing)
@@ -119,7 +119,7 @@ module _ {K V S : Type 0} (same : K → K → Bool) (hash : K → ℕ) (terms : 
           by : IsSomebodys t.maps t.makers t.enders r ⊎ RootLeads t.world r (c.lists r) → IsSomebodys s.maps s.makers s.enders r ⊎ RootLeads s.world r (lists r) → c.lists r ≡ lists r
           by (inl there) here = none_behind r l there (here_is r there)
           by (inr leads) (inl here) = none_behind r l (there_is r here) here
-          by (inr leads) (inr leads_here) = both_lead t.world s.world (at.held.memory ∙ sym plays.shown.is_at.memory) r (c.lists r) (lists r) leads leads_here
+          by (inr leads) (inr leads_here) = both_lead t.world s.world (at.held.memory ∙ sym plays.shown.is_at.held.memory) r (c.lists r) (lists r) leads leads_here
 
       -- numbers, slots and roots are so there
       pub counted_in : IsCounted m p.logged s

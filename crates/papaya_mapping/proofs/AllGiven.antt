@@ -102,11 +102,11 @@ module _ {K V S : Type 0} (same : K → K → Bool) (hash : K → ℕ) (terms : 
     may_reclaim may = by (nat_lt 0 (known p.logged.notes).buckets) refl
       where
         by : (q : Bool) → nat_lt 0 (known p.logged.notes).buckets ≡ q → MayReclaim p.logged.executor s may.lists q
-        by true e = (may.left, subst (λ x. IsSome (word_at x (Slot 0 HEAD))) (sym stands.shown.is_at.memory) (may.slots.some (grind (arith, e))))
+        by true e = (may.left, subst (λ x. IsSome (word_at x (Slot 0 HEAD))) (sym stands.shown.is_at.held.memory) (may.slots.some (grind (arith, e))))
         by false e = (
           may.left,
-          never_taken p.logged.executor.batch_size p.logged.executor.roots 0 s.world stands.shown.is_at.together.makings.standing.came rests
-              (ap (λ x. word_at x (Slot 0 HEAD)) stands.shown.is_at.memory ∙ may.slots.none (grind (arith, e))),
+          never_taken p.logged.executor.batch_size p.logged.executor.roots 0 s.world stands.shown.is_at.held.together.makings.standing.came rests
+              (ap (λ x. word_at x (Slot 0 HEAD)) stands.shown.is_at.held.memory ∙ may.slots.none (grind (arith, e))),
         )
 
     module _ (lists : ℕ → List ℕ) (taken : Bool) (may : MayReclaim p.logged.executor s lists taken) (new : Logged K V S) (before after : List Effect) (empty : before ≡ [])

@@ -265,7 +265,7 @@ module _ {K V S : Type 0} (same : K → K → Bool) (hash : K → ℕ) (terms : 
               by : (o : Option (Finishing K V)) → s.enders j ≡ o → s.enders j ≡ None
               by None e = e
               by (Some g) e =
-                  let idle = stands.rests j (stands.shown.is_at.together.alone j g e).0 in
+                  let idle = stands.rests j (stands.shown.is_at.held.together.alone j g e).0 in
                   absurd (let one : ◌≡◌ {A = Option EndMachine} (Some g.machine) None =
                   sym (ap (option_map (λ (x : Finishing K V). x.machine)) e) ∙ stands.shown.is_at.enders j ∙ ap (λ (o : Option (Work K V)). ending_in o) idle in cc one)
 
@@ -300,9 +300,9 @@ module _ {K V S : Type 0} (same : K → K → Bool) (hash : K → ℕ) (terms : 
             where
               nobodys : IsSomebodys s2.maps s2.makers s2.enders its.0.root → ⊥
               nobodys (inl (n, st, stands_there, is)) =
-                  shown_mid.is_at.together.roots_apart i n f st here (sym (ap (λ (g : ℕ → Option (Standing K)). g n) u.2.maps) ∙ stands_there) (sym its_root ∙ sym is)
+                  shown_mid.is_at.held.together.roots_apart i n f st here (sym (ap (λ (g : ℕ → Option (Standing K)). g n) u.2.maps) ∙ stands_there) (sym its_root ∙ sym is)
               nobodys (inr (inl (j, b, makes, taken, is))) =
-                  shown_mid.is_at.together.makings_roots i j f b here (sym (ap (λ (g : ℕ → Option (Beginning K)). g j) u.2.makers) ∙ makes) taken (sym its_root ∙ sym is)
+                  shown_mid.is_at.held.together.makings_roots i j f b here (sym (ap (λ (g : ℕ → Option (Beginning K)). g j) u.2.makers) ∙ makes) taken (sym its_root ∙ sym is)
               nobodys (inr (inr (j, g, ends, is))) = (let none = nobody_then j in cc (none, ends))
 
           noted_is : map (known new.notes).roles (lists its.0.root) ≡ map role.Pair pairs

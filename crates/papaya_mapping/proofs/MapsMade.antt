@@ -154,10 +154,10 @@ module _ {K V S : Type 0} (same : K → K → Bool) (hash : K → ℕ) (terms : 
               (finds : MakingFinds i number told before after mid new) where
             -- it has found its root
             as_many : p.logged.executor.roots ≡ mid.executor.roots
-            as_many = (shown_mid.is_at.together.makings.facts i b here).roots_are
+            as_many = (shown_mid.is_at.held.together.makings.facts i b here).roots_are
 
             same_memory : p.logged.executor.memory.memory ≡ mid.executor.memory.memory
-            same_memory = sym stands.shown.is_at.memory ∙ shown_mid.is_at.memory
+            same_memory = sym stands.shown.is_at.held.memory ∙ shown_mid.is_at.held.memory
 
             taken_mid : AreTaken mid.executor.roots (λ q. is_among q used) mid.executor.memory.memory
             taken_mid =
@@ -293,7 +293,7 @@ module _ {K V S : Type 0} (same : K → K → Bool) (hash : K → ℕ) (terms : 
             -- a map that stood stands on
             stood : (t : NamedMap) → ((standing : Standing K) × (s.maps t.number ≡ Some standing)) → (standing : Standing K) × (u.0.maps t.number ≡ Some standing)
             stood t st =
-                (st.0, u.1.maps.others t.number (λ one. (let gone = ap s.maps one ∙ shown_mid.is_at.together.makings.coming i b here in let is = st.1 in cc (gone, is))) ∙ st.1)
+                (st.0, u.1.maps.others t.number (λ one. (let gone = ap s.maps one ∙ shown_mid.is_at.held.together.makings.coming i b here in let is = st.1 in cc (gone, is))) ∙ st.1)
 
             pub made : (p2 : Scheduler K V S) → p2 ≡ record p { logged = new; maps = p2.maps; is_mapped = p2.is_mapped } → p2.is_mapped ≡ true
                 → p2.maps ≡ p.maps ++ record { name = own; number = number } ∷ [] → Plays same hash terms log (entry event Done 0 after) p2

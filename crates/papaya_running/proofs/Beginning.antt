@@ -121,7 +121,7 @@ module _ {K V S : Type 0} (same : K → K → Bool) (hash : K → ℕ) (setup : 
 
   gives : MayGiveAll p stands.scene
   gives =
-      let same_memory = stands.shown.is_at.memory in
+      let same_memory = stands.shown.is_at.held.memory in
       record {
         lists = λ r. [];
         left =
@@ -149,7 +149,7 @@ module _ {K V S : Type 0} (same : K → K → Bool) (hash : K → ℕ) (setup : 
   -- no slot was taken
   none_taken : SlotsTaken first.world.memory 0
   none_taken =
-      subst (λ (x : Mem (Node K V)). SlotsTaken x 0) (sym (first.shown stands.name).is_at.memory) (
+      subst (λ (x : Mem (Node K V)). SlotsTaken x 0) (sym (first.shown stands.name).is_at.held.memory) (
         λ s l. absurd (omega (arith, l)),
         λ s head l is. absurd (let none : slot_word memory.slots s HEAD ≡ None = ap (λ (slots : List (List ℕ)). slot_word slots s HEAD) begins.begun.slots in cc (none, is)),
       )

@@ -50,7 +50,7 @@ module _ {K V S : Type 0} (same : K → K → Bool) (hash : K → ℕ) (terms : 
   call_below n i u here = by (s.maps n) refl
     where
       by : (o : Option (Standing K)) → s.maps n ≡ o → n < m.made
-      by None none = absurd (let no = holds.stands.shown.is_at.together.makings.standing.only n i none in cc (no, here))
+      by None none = absurd (let no = holds.stands.shown.is_at.held.together.makings.standing.only n i none in cc (no, here))
       by (Some st) there = subst (λ (k : ℕ). n < k) holds.counts.next (standing_below same hash p.logged.executor s holds.stands.shown.is_at n st there)
 
   called_below : (own : List ℕ) (n : ℕ) → option_map (λ c. c.map) (call_of own m) ≡ Some n → n < m.made

@@ -40,10 +40,10 @@ module _ {K V S : Type 0} (same : K → K → Bool) (hash : K → ℕ) (terms : 
   pairs = (stands.shown.shows.all.shown.maps of st is).pairs
 
   lawful : AreLawful same st.hash
-  lawful = (stands.shown.is_at.together.makings.standing.fit of st is).0
+  lawful = (stands.shown.is_at.held.together.makings.standing.fit of st is).0
 
   together : Together V same st.hash same st.setting slot_of w c st.blocks st.sights (stands.scene.calls of)
-  together = stands.shown.is_at.together.makings.standing.each of st is
+  together = stands.shown.is_at.held.together.makings.standing.each of st is
 
   module _ (k : K) (n i : ℕ) (borrowed : Bool) (held : c.place c.first i ≡ Holds n Copying borrowed) (current : c.current n ≡ true)
       (key : K) (key_is : c.key n ≡ Some key) (asked : same k key ≡ true) where

@@ -128,13 +128,13 @@ module _ {K V S : Type 0} (same : K → K → Bool) (hash : K → ℕ) (terms : 
   by_notes = known p.logged.notes
 
   hash_is : st.hash ≡ hash
-  hash_is = stands.shown.is_at.hashes of st is
+  hash_is = stands.shown.is_at.held.hashes of st is
 
   pub all_together : Together V same hash same st.setting slot_of w st.chart st.blocks st.sights calls_on
-  all_together = subst (λ (h : K → ℕ). Together V same h same st.setting slot_of w st.chart st.blocks st.sights calls_on) hash_is (stands.shown.is_at.together.makings.standing.each of st is)
+  all_together = subst (λ (h : K → ℕ). Together V same h same st.setting slot_of w st.chart st.blocks st.sights calls_on) hash_is (stands.shown.is_at.held.together.makings.standing.each of st is)
 
   pub is_lawful : AreLawful same hash
-  is_lawful = subst (λ (h : K → ℕ). AreLawful same h) hash_is (stands.shown.is_at.together.makings.standing.fit of st is).0
+  is_lawful = subst (λ (h : K → ℕ). AreLawful same h) hash_is (stands.shown.is_at.held.together.makings.standing.fit of st is).0
 
   -- of one call
   module _ (i : ℕ) (x : UnderWay K V K) (under : stands.scene.calls of i ≡ Some x) where

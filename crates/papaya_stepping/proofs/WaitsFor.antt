@@ -71,13 +71,13 @@ module _ {K V S : Type 0} (same : K → K → Bool) (hash : K → ℕ) (terms : 
   calls_on = stands.scene.calls of
 
   hash_is : st.hash ≡ hash
-  hash_is = stands.shown.is_at.hashes of st is
+  hash_is = stands.shown.is_at.held.hashes of st is
 
   together : Together V same hash same st.setting slot_of w st.chart st.blocks st.sights calls_on
-  together = subst (λ (h : K → ℕ). Together V same h same st.setting slot_of w st.chart st.blocks st.sights calls_on) hash_is (stands.shown.is_at.together.makings.standing.each of st is)
+  together = subst (λ (h : K → ℕ). Together V same h same st.setting slot_of w st.chart st.blocks st.sights calls_on) hash_is (stands.shown.is_at.held.together.makings.standing.each of st is)
 
   lawful : AreLawful same hash
-  lawful = subst (λ (h : K → ℕ). AreLawful same h) hash_is (stands.shown.is_at.together.makings.standing.fit of st is).0
+  lawful = subst (λ (h : K → ℕ). AreLawful same h) hash_is (stands.shown.is_at.held.together.makings.standing.fit of st is).0
 
   abbrev its : (c : CallThere K V) × (call_of (stands.name i) m ≡ Some c) × (c.map ≡ of) × IsCalled same (OnKey u) c.call
   its = stands.shown.shows.all.shown.calls of i (OnKey u) under
@@ -127,7 +127,7 @@ module _ {K V S : Type 0} (same : K → K → Bool) (hash : K → ℕ) (terms : 
       | inl fresh ↦ begins_on u.call.stands fresh.point
       | inr late ↦ begins_late u.call.stands late.1.point
     ]
-    | inr within ↦ subst (λ (row : Row). IsRowOn (slot_of i) row) within.0 (stands.shown.is_at.on_slots i)
+    | inr within ↦ subst (λ (row : Row). IsRowOn (slot_of i) row) within.0 (stands.shown.is_at.held.on_slots i)
   ]
 
   -- another row has the batch of its slot
@@ -138,7 +138,7 @@ module _ {K V S : Type 0} (same : K → K → Bool) (hash : K → ℕ) (terms : 
 
   module _ (m2 : Mem (Node K V)) (told : Changed) (p2 : KeyCall K V K) (s : Step p.logged.executor.memory.memory m2 told (call_plan same same hash u.call) (p2, says.Waits)) where
     steps : Steps Took value_at w.memory (call_plan same same hash u.call) m2 (p2, says.Waits)
-    steps = subst (λ (x : Mem (Node K V)). Steps Took value_at x (call_plan same same hash u.call) m2 (p2, says.Waits)) (sym stands.shown.is_at.memory)
+    steps = subst (λ (x : Mem (Node K V)). Steps Took value_at x (call_plan same same hash u.call) m2 (p2, says.Waits)) (sym stands.shown.is_at.held.memory)
         (as_step p.logged.executor.memory.memory changed.Nothing (call_plan same same hash u.call) m2 told (p2, says.Waits) s)
 
     module _ (mode : is_incremental st.setting.mode ≡ true) (here : u.call.stands ≡ at.Probes) where

@@ -118,7 +118,7 @@ module _ {K V S : Type 0} (same : K → K → Bool) (hash : K → ℕ) (terms : 
   active_of size slot inside = by
     where
       small : terms.batch_size < 2 ^ 64
-      small = subst (λ (n : ℕ). n < 2 ^ 64) size stands.shown.is_at.small
+      small = subst (λ (n : ℕ). n < 2 ^ 64) size stands.shown.is_at.held.small
 
       by : FollowsOrRows terms log (known p.logged.notes) stands.scene.world → 1 ≤ count slot (sets_in terms.batch_size log).active
       by (inl follows) = insides_follow K V terms.batch_size terms.roots _ (sets_in terms.batch_size log) (known p.logged.notes) stands.scene.world small follows slot inside

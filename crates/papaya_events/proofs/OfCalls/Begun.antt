@@ -160,7 +160,7 @@ module _ {K V S : Type 0} (same : K → K → Bool) (hash : K → ℕ) (terms : 
   row_here = row_rests same hash old.logged.executor runs.stands.scene runs.stands.shown.is_at i (runs.stands.rests i none_yet)
 
   pub begins_here : Begins same st i u
-  begins_here = begins_so same st i (runs.stands.shown.is_at.together.makings.standing.fit led.number st its.2).0 call
+  begins_here = begins_so same st i (runs.stands.shown.is_at.held.together.makings.standing.fit led.number st its.2).0 call
 
   pub right_here : IsBegunRight same u call
   right_here = begun_right same st i call

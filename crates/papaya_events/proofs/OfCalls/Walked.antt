@@ -183,7 +183,7 @@ module _ {K V S : Type 0} (same : K → K → Bool) (hash : K → ℕ) (terms : 
       let st = standing_is same hash old.logged.executor s runs.stands.shown.is_at map i (OverAll o) here_o in
       let ready = subst (λ (v : UnderWay K V K). IsAsFar d.kind far.Ready (machine_of v)) sweep_is.1 as_ready in
       for_walk o c.call (runs.shows.calls.purposes.is_for map i (OverAll o) here_o c c_is)
-      (walks_at same s map i st.0 (runs.stands.shown.is_at.together.makings.standing.each map st.0 st.1) o here_o ready.1)
+      (walks_at same s map i st.0 (runs.stands.shown.is_at.held.together.makings.standing.each map st.0 st.1) o here_o ready.1)
 
   -- so it was asked, and goes on to its next place
   caller_is : walked.caller ≡ d

@@ -104,7 +104,7 @@ module _ {K V S : Type 0} (same : K → K → Bool) (hash : K → ℕ) (terms : 
     refused_by =
         subst (λ (fs : List Effect). IsRefusedSo fs ((goes d z.1.1).0, step.said)) (sym step.is_noted.did)
         (refused_so b.map (known mid.logged.notes) mid.effects mid.logged.executor.memory.memory to.logged.executor.memory.memory to.logged.executor.memory.changed z.1.0
-        (subst (λ (k : ℕ). max k 8 ≤ 2 ^ 48) (sym (z.0.is_at.together.makings.facts i d z.1.1).len_is) few) z.3 ((goes d z.1.1).0, step.said) (goes d z.1.1).1)
+        (subst (λ (k : ℕ). max k 8 ≤ 2 ^ 48) (sym (z.0.is_at.held.together.makings.facts i d z.1.1).len_is) few) z.3 ((goes d z.1.1).0, step.said) (goes d z.1.1).1)
 
     may_still : is_over step.said ≡ false → MayBeRefused to.effects (goes d z.1.1).0.stands
     may_still more =
