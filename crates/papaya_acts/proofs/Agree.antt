@@ -23,11 +23,10 @@ use Rattle.papaya_reclaims.specs.Slots.{AreItsRows}
 use Rattle.papaya_acts.specs.Acts.{Answer, OfReclaiming}
 use Rattle.papaya_acts.specs.Courses.{AreAlike, CoursesAgree}
 use Rattle.papaya_acts.specs.Doings.{Doing, Does, BeginsReclaiming, BeginsClearing, StepsReclaiming, still, Stage, reclaiming, behind, MayDo, HasBegun, HasStepped, HasDone}
-use Rattle.papaya_acts.specs.Leads.{HasNoCall}
 use Rattle.papaya_acts.specs.Lists.{Reached}
 use Rattle.papaya_acts.specs.Reclaiming.{ReclaimedOn}
 use Rattle.papaya_acts.proofs.Courses.{by_act, same_set_up}
-use Rattle.papaya_scenes.specs.Scene.{Scene, at_first}
+use Rattle.papaya_scenes.specs.Scene.{Scene, HasNoCall, at_first}
 
 module _ {K V : Type 0} (size i : ℕ) where
   -- who reclaims all leaves the rows of others as they are

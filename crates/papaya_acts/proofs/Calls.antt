@@ -36,7 +36,8 @@ use Rattle.papaya_scenes.proofs.Given.Finishes.Among.Rooms.{rooms_begin_among}
 use Rattle.papaya_scenes.proofs.Given.Finishes.Among.Sweeps.{sweeps_begin_among, walks_stop_among}
 use Rattle.papaya_acts.specs.Acts.{Wanted, Get, Remove, Insert, TryToInsert, Compute, Update, UpdateOrInsert, TryToInsertWith, RemoveIf, MakeRoom, Count, GoOver, Answer, Nothing, OfCall, OfReply, OfAsking, BeginsCall, StepsCall, TellsCall, AsksCall, StopsCall, its, begun}
 use Rattle.papaya_acts.specs.Leads.{MayBe, AllStand, Led, call_at, call_steps}
-use Rattle.papaya_acts.proofs.Tests.{none_is, some_is, inside_is, its_class}
+use Rattle.papaya_acts.proofs.Tests.{some_is, inside_is, its_class}
+use Rattle.papaya_scenes.proofs.NoCall.{none_is}
 use Rattle.papaya_scenes.specs.Replying.{scene_with, unless_stopped}
 use Rattle.papaya_scenes.specs.Scene.{Scene}
 

@@ -44,15 +44,15 @@ use Rattle.papaya_scenes.specs.Making.{making_begun}
 use Rattle.papaya_acts.specs.Acts.{Act, Answer, OfCall, OfReply, OfAsking, OfMaking, OfEnding, Wanted, Get, Remove, Insert, TryToInsert, Compute, Update, UpdateOrInsert, TryToInsertWith, RemoveIf, MakeRoom, Count, GoOver, begun}
 use Rattle.papaya_acts.specs.Acts.{BeginsCall, StepsCall, TellsCall, AsksCall, StopsCall, BeginsMaking, StepsMaking, BeginsEnding, StepsEnding, BeginsRow, StepsRow}
 use Rattle.papaya_acts.specs.Courses.{set_up, AreAlike}
-use Rattle.papaya_acts.specs.Leads.{HasNoCall, MayBe, AllStand, Led, CallCame, MakingCame, EndingCame}
+use Rattle.papaya_acts.specs.Leads.{MayBe, AllStand, Led, CallCame, MakingCame, EndingCame}
 use Rattle.papaya_acts.proofs.Calls.{ready_is}
 use Rattle.papaya_acts.proofs.Counts.{its_call, other_call}
 use Rattle.papaya_acts.proofs.Lists.{all_may_step}
 use Rattle.papaya_acts.proofs.RowSteps.{row_step_alike, row_begin_alike}
-use Rattle.papaya_acts.proofs.Tests.{none_is}
+use Rattle.papaya_scenes.proofs.NoCall.{none_is}
 use Rattle.papaya_scenes.proofs.Goes.{goes_as}
 use Rattle.papaya_scenes.specs.Replying.{unless_stopped}
-use Rattle.papaya_scenes.specs.Scene.{Scene}
+use Rattle.papaya_scenes.specs.Scene.{Scene, HasNoCall}
 use Rattle.papaya_scenes.specs.Stepping.{going_on}
 
 -- what is there in both, if the same is told of both

@@ -31,7 +31,7 @@ use Rattle.papaya_acts.specs.Acts.{Act, Answer}
 use Rattle.papaya_acts.specs.Acts.{BeginsCall, StepsCall, TellsCall, AsksCall, StopsCall, BeginsMaking, StepsMaking, BeginsEnding, StepsEnding, BeginsRow, StepsRow}
 use Rattle.papaya_acts.specs.Doings.{IsLeft, ActsLeaveIt}
 use Rattle.papaya_acts.specs.Leads.{MayBe, AllStand, Led, MakingCame, EndingCame}
-use Rattle.papaya_acts.proofs.Tests.{none_is}
+use Rattle.papaya_scenes.proofs.NoCall.{none_is}
 use Rattle.papaya_scenes.specs.Scene.{Scene}
 
 -- an end goes on, with what it has reclaimed by now, and what waits

@@ -47,7 +47,7 @@ use Rattle.papaya_acts.proofs.Makings.{making_begins, making_goes_on, ending_beg
 use Rattle.papaya_acts.proofs.Once.{is_determined}
 use Rattle.papaya_acts.proofs.Reclaiming.{reclaiming_is_by_acts}
 use Rattle.papaya_acts.proofs.Rows.{row_begins, row_goes_on}
-use Rattle.papaya_acts.proofs.Tests.{none_is}
+use Rattle.papaya_scenes.proofs.NoCall.{none_is}
 use Rattle.papaya_scenes.specs.Scene.{Scene, at_first}
 
 -- what the tests say of a slot

@@ -26,7 +26,8 @@ use Rattle.papaya_scenes.proofs.Given.Finishes.Beside.Makings.Promised.{makings_
 use Rattle.papaya_scenes.specs.Making.{making_begun}
 use Rattle.papaya_acts.specs.Acts.{Answer, Nothing, OfMaking, OfEnding, BeginsMaking, StepsMaking, BeginsEnding, StepsEnding}
 use Rattle.papaya_acts.specs.Leads.{MayBe, AllStand, Led, MakingCame, EndingCame, making_steps, ending_steps}
-use Rattle.papaya_acts.proofs.Tests.{none_is, some_is}
+use Rattle.papaya_acts.proofs.Tests.{some_is}
+use Rattle.papaya_scenes.proofs.NoCall.{none_is}
 use Rattle.papaya_scenes.specs.Ending.{ending_begun}
 use Rattle.papaya_scenes.specs.Scene.{Scene}
 

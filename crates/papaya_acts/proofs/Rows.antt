@@ -11,7 +11,8 @@ use Rattle.papaya_scenes.specs.Given.Finishes.Endings.{AllEndingsStand}
 use Rattle.papaya_scenes.proofs.Given.Finishes.Among.Rows.{guards_stand_among}
 use Rattle.papaya_acts.specs.Acts.{Nothing, BeginsRow, StepsRow}
 use Rattle.papaya_acts.specs.Leads.{MayBe, AllStand, Led}
-use Rattle.papaya_acts.proofs.Tests.{none_is, some_is}
+use Rattle.papaya_acts.proofs.Tests.{some_is}
+use Rattle.papaya_scenes.proofs.NoCall.{none_is}
 use Rattle.papaya_scenes.specs.Scene.{Scene}
 
 module _ {K V : Type 0} (same : K → K → Bool) (hash : ℕ → K → ℕ) (batch_size roots : ℕ) (slot : ℕ → ℕ) (s : Scene K V) (all : AllStand same hash batch_size roots slot s) (i : ℕ) where

@@ -7,10 +7,6 @@ use Rattle.seize_acts.specs.Acts.{is_within}
 use Rattle.papaya_scenes.specs.Given.Rule.Maps.{IsClass}
 use Rattle.papaya_scenes.specs.Given.Points.Steps.{AreLawful}
 
-pub none_is : {X : Type 0} (o : Option X) → is_none o ≡ true → o ≡ None
-none_is None e = refl
-none_is (Some x) e = absurd (cc e)
-
 pub some_is : {X : Type 0} (o : Option X) → is_none o ≡ false → (x : X) × (o ≡ Some x)
 some_is None e = absurd (cc e)
 some_is (Some x) e = (x, refl)

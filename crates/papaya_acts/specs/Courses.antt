@@ -4,9 +4,8 @@ use Rattle.papaya_scenes.specs.Given.Tables.declared.setting.Setting.{Setting}
 use Rattle.papaya_scenes.specs.Given.Finishes.Machines.{machine_of}
 use Rattle.papaya_scenes.specs.Given.Finishes.Maps.{Standing}
 use Rattle.papaya_acts.specs.Doings.{Doing, reclaiming}
-use Rattle.papaya_acts.specs.Leads.{HasNoCall}
 use Rattle.papaya_acts.specs.Lists.{Course, Reached, LedTo}
-use Rattle.papaya_scenes.specs.Scene.{Scene}
+use Rattle.papaya_scenes.specs.Scene.{Scene, HasNoCall}
 
 -- what callers know of a map: its setting, and the hash of its keys
 abbrev pub set_up : {K : Type 0} → Standing K → Setting × (K → ℕ)

@@ -34,14 +34,10 @@ use Rattle.papaya_acts.specs.Acts.{BeginsCall, StepsCall, TellsCall, AsksCall, S
 use Rattle.papaya_scenes.specs.Ending.{ending_begun}
 use Rattle.papaya_scenes.specs.Replying.{scene_with, unless_stopped}
 use Rattle.papaya_scenes.specs.Making.{making_begun}
-use Rattle.papaya_scenes.specs.Scene.{Scene}
+use Rattle.papaya_scenes.specs.Scene.{Scene, HasNoCall}
 
 module _ {K V : Type 0} where
-  -- a caller has no call, on no map
-  abbrev pub HasNoCall : Scene K V → ℕ → Type 0
-  HasNoCall s i = (m : ℕ) → is_none (s.calls m i) ≡ true
-
-  -- nor does it make or end one
+  -- a caller has no call, and neither makes a map nor ends one
   pub record IsFree (s : Scene K V) (i : ℕ) : Type 0 where
     pub no_call : HasNoCall s i
     pub no_making : is_none (s.makers i) ≡ true

@@ -26,8 +26,8 @@ use Rattle.papaya_scenes.specs.Given.Finishes.Makings.{Beginning}
 use Rattle.papaya_scenes.specs.Given.Finishes.Maps.{Standing}
 use Rattle.papaya_acts.specs.Acts.{Answer}
 use Rattle.papaya_acts.specs.Doings.{Doing, IsLeft, Stage, MayDo, HasDone}
-use Rattle.papaya_acts.specs.Leads.{AllStand, HasNoCall, call_steps, making_steps, ending_steps}
-use Rattle.papaya_scenes.specs.Scene.{Scene, at_first}
+use Rattle.papaya_acts.specs.Leads.{AllStand, call_steps, making_steps, ending_steps}
+use Rattle.papaya_scenes.specs.Scene.{Scene, HasNoCall, at_first}
 
 module _ {K : Type 0} (V : Type 0) (same : K → K → Bool) (hash : ℕ → K → ℕ) (batch_size roots : ℕ) (slot : ℕ → ℕ) where
   -- whichever caller takes the next step of what it has under way, it may take it: all that the step looks at is there

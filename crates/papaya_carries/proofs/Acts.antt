@@ -25,7 +25,7 @@ use Rattle.papaya_acts.specs.Acts.{Act, Answer, begun}
 use Rattle.papaya_acts.specs.Acts.{BeginsCall, StepsCall, TellsCall, AsksCall, StopsCall, BeginsMaking, StepsMaking, BeginsEnding, StepsEnding, BeginsRow, StepsRow}
 use Rattle.papaya_acts.specs.Leads.{MayBe, AllStand, Led, MakingCame, EndingCame}
 use Rattle.papaya_acts.proofs.Left.{goes_on_by, goes_on_same}
-use Rattle.papaya_acts.proofs.Tests.{none_is}
+use Rattle.papaya_scenes.proofs.NoCall.{none_is}
 use Rattle.papaya_carries.specs.Lists.{AreTheirs, ActsKeepTheirs}
 use Rattle.papaya_carries.specs.Theirs.{copier_of, AllAreTheirs}
 use Rattle.papaya_carries.proofs.Endings.{endings_begin_and_keep_theirs, endings_keep_theirs}

@@ -1,5 +1,6 @@
 -- The beginning of a row on a slot: the executor is there again.
 use Rattle.std.specs.Prelude.{◌≡◌, ◌≢◌, ◌<◌, ℕ, Bool, [], ◌∷◌, ◌++◌, length, Option, Some, None, option_map, slice_index_or}
+use Rattle.std.specs.Option.{is_none}
 use Rattle.std.proofs.Common.{refl, sym, ap, subst, ◌∙◌, arith}
 use Rattle.std.proofs.lemmas.List.{length-set}
 use Rattle.seize.specs.World.{World, Row, Changing, Begin, Begins, Happens, with_at, one_more}
@@ -180,7 +181,7 @@ module _ {K V S : Type 0} (same : K → K → Bool) (hash : K → ℕ) (e : Exec
 
   pub row_begins : RowBeginsThere same hash called i s e e2
   row_begins may =
-      let so = by (slot_of i) (slot_is e slot fits) may in (so.0, so.1, so.2, (ap (λ t. t.memory) so.0, no_calls_yet same hash e s at slot fits, so.3))
+      let so = by (slot_of i) (slot_is e slot fits) may in (so.0, so.1, so.2, (ap (λ t. t.memory) so.0, (λ m. ap is_none (no_calls_yet same hash e s at slot fits m)), so.3))
     where
       by : (x : ℕ) → x ≡ slot → MayBegin e x called
           → (e2.memory ≡ e.memory) × (work_of e2 i ≡ Some (work.OnSlot (begun_row x e.batch_size called))) × (e2.slots.items ≡ uses_begun x called e.slots.items)

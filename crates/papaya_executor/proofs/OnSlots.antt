@@ -1,5 +1,6 @@
 -- A step of a row on a slot: it may be taken, and the executor is there again.
 use Rattle.std.specs.Prelude.{◌≡◌, ◌<◌, ℕ, Bool, List, length, Option, Some, None, option_map, slice_index_or, slice_set}
+use Rattle.std.specs.Option.{is_none}
 use Rattle.std.proofs.Common.{refl, sym, ap, subst, ◌∙◌, arith}
 use Rattle.std.proofs.lemmas.List.{length-set}
 use Rattle.seize_words.specs.Mem.{Mem}
@@ -122,7 +123,7 @@ module _ {K V S : Type 0} (same : K → K → Bool) (hash : K → ℕ) (e : Exec
       → IsOnSlot s i row × (after : SlotRow) × RowSteps K V row e.memory.memory e2.memory.memory e2.memory.changed (after, told) × (work_of e2 i ≡ row_on after told)
       × (e2.slots.items ≡ uses_after (change_of row) told e.slots.items) × HappensTo (IsThere same hash e2) (Step i) s (held_by e)
   row_leads e2 after told slot before is within steps items hasher batch_size roots maps slots =
-      ((no_calls, row_is), after, steps2, later same hash e s at i (Some (work.OnSlot row)) (row_on after told) row_at mid e2 changes refl, slots2, (goes2.w2, happens, all.0, all.1, there))
+      (((λ m. ap is_none (no_calls m)), row_is), after, steps2, later same hash e s at i (Some (work.OnSlot row)) (row_on after told) row_at mid e2 changes refl, slots2, (goes2.w2, happens, all.0, all.1, there))
     where
       steps2 : RowSteps K V row e.memory.memory e2.memory.memory e2.memory.changed (after, told)
       steps2 = subst (λ (x : SlotRow). RowSteps K V x e.memory.memory e2.memory.memory e2.memory.changed (after, told)) is.1 steps

@@ -12,6 +12,7 @@ use Rattle.papaya_scenes.specs.declared.row.RowTold.{RowTold}
 use Rattle.papaya_scenes.specs.declared.row.RowTold.TheVariants as told
 use Rattle.papaya_scenes.specs.declared.row.SlotRow.{SlotRow}
 use Rattle.papaya_scenes.proofs.Leads.{happens}
+use Rattle.papaya_scenes.proofs.NoCall.{none_is}
 use Rattle.papaya_scenes.proofs.Rows.{never_rests, one_row}
 use Rattle.papaya_executor.specs.declared.executor.Executor.{Executor}
 use Rattle.papaya_executor.specs.declared.worker.Work.{Work}
@@ -43,7 +44,7 @@ module _ {K V S : Type 0} (same : K → K → Bool) (hash : K → ℕ) (e : Exec
       by : (it : Option (Work K V)) → work_of e i ≡ it → work_of e i ≡ Some (work.OnSlot row)
       by None is = absurd (rests None is (λ r. r))
       by (Some (work.Call m machine)) is =
-          let none : call_in (work_of e i) m ≡ None = sym (at.calls m i) ∙ ap (option_map machine_of) (here.0 m) in
+          let none : call_in (work_of e i) m ≡ None = sym (at.calls m i) ∙ ap (option_map machine_of) (none_is (s.calls m i) (here.0 m)) in
           let some : call_in (work_of e i) m ≡ Some machine = ap (λ (x : Option (Work K V)). call_in x m) is ∙ its_own m machine in
           absurd (cc (none, some))
       by (Some (work.Making m opening)) is = absurd (rests (Some (work.Making m opening)) is (λ r. r))

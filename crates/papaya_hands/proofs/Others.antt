@@ -23,6 +23,7 @@ use Rattle.papaya_follows.specs.Given.Scenes.Ending.{ending_begun}
 use Rattle.papaya_follows.specs.Given.Scenes.Held.{Held, IsAt}
 use Rattle.papaya_follows.specs.Given.Scenes.Rows.{request_of}
 use Rattle.papaya_follows.specs.Given.Scenes.Scene.{HasNoCall, Scene, slot_of}
+use Rattle.papaya_follows.proofs.Given.Scenes.NoCall.{no_call}
 
 module _ {K V : Type 0} (s : Scene K V) (rows : ShowsRows s) (w2 : World (Node K V)) where
   -- the row of a call that is under way is as it was, and so is the batch of each such block
@@ -71,7 +72,7 @@ module _ {K V : Type 0} {size : ℕ} (w : World (Node K V)) (r : Reached deferre
 -- who has no call is no caller of one
 module _ {K V : Type 0} (s : Scene K V) (i : ℕ) (none : HasNoCall s i) where
   another : (n j : ℕ) (x : UnderWay K V K) → s.calls n j ≡ Some x → j ≡ i → ⊥
-  another n j x is e = (let was = none n in let now = ap (s.calls n) (sym e) ∙ is in absurd (cc (was, now)))
+  another n j x is e = no_call s i none (n, x, ap (s.calls n) (sym e) ∙ is)
 
 module _ (K V : Type 0) (same : K → K → Bool) (hash : ℕ → K → ℕ) where
   reached : (s : Scene K V) (e : Held K V) → IsAt same hash e s → Reached deferred_word e.batch_size s.world

@@ -84,7 +84,7 @@ module _ (K V : Type 0) (same : K → K → Bool) (hash : ℕ → K → ℕ) whe
       ready_then : said ≡ progress.Ready → (x : UnderWay K V K) → (leads map u here).4.next ≡ Some x → (machine_asked (machine_of x)).1 ≡ true
       ready_then ready x goes =
           ap (λ (y : Machine K V K). (machine_asked y).1) (goes_as_one (leads map u here).1 said (leads map u here).4.next (leads map u here).4.goes_on x goes)
-          ∙ ready_so same same hash old.memory new.memory new.changed (leads map u here).1 said ready (machine_of u) (leads map u here).3
+          ∙ ready_so same same (leads map u here).0.hash old.memory new.memory new.changed (leads map u here).1 said ready (machine_of u) (leads map u here).3
 
       Clear : CallThere K V → Type 0
       Clear d = (d.owes ≡ []) × (d.gained + d.lost ≡ 0)

@@ -45,7 +45,8 @@ use Rattle.papaya_lives.proofs.HandedOver.{came_listed, steps_over}
 use Rattle.papaya_lives.proofs.HandedTaken.{taking_keeps}
 use Rattle.papaya_lives.proofs.Listed.{retired_at_rest}
 use Rattle.papaya_lives.proofs.Logs.{waits_no_more}
-use Rattle.papaya_lives.proofs.Reclaimed.{begun_rows, no_call}
+use Rattle.papaya_settles.proofs.Given.Scenes.NoCall.{no_call}
+use Rattle.papaya_lives.proofs.Reclaimed.{begun_rows}
 use Rattle.papaya_lives.proofs.Retires.{given_hand, handed_before}
 use Rattle.papaya_lives.proofs.Taken.{kept, it, left_unretired, not_taken, told_retired, told_taken}
 use Rattle.papaya_lives.proofs.Waiting.{begun_log, left, reached}

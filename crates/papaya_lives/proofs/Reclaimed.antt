@@ -53,6 +53,7 @@ use Rattle.papaya_lives.proofs.Worlds.{Kept}
 use Rattle.papaya_settles.specs.Given.Scenes.Held.{Held, IsAt}
 use Rattle.papaya_settles.specs.Given.Scenes.OnSlots.{RowLeads}
 use Rattle.papaya_settles.specs.Given.Scenes.Rows.{request_of}
+use Rattle.papaya_settles.proofs.Given.Scenes.NoCall.{no_call}
 use Rattle.papaya_settles.specs.Given.Scenes.Scene.{HasNoCall, HasCall, IsOnSlot, Scene, slot_of}
 
 given_lives : (l : Life) → is_given l ≡ true → lives l ≡ true
@@ -68,10 +69,6 @@ none_to_retire defers size w k j b retired due =
     let pending = row_life (LAST_SLOT + 1) j (view defers w.memory) k.good.state k.good.extra k.good.inv k.good.shows b some (length w.memory.slots) (w.row j) (k.good.rows j) due in
     let not_given : is_given (k.good.state.life b) ≡ is_given (IsPending j) = ap is_given pending in
     cc (given, not_given)
-
--- who has no call has none on any map
-pub no_call : {K V : Type 0} (s : Scene K V) (i : ℕ) → HasNoCall s i → HasCall s i → ⊥
-no_call s i none (map, u, is) = (let was = none map in cc (was, is))
 
 -- what a row tells leaves tables
 module _ {K V : Type 0} (m : Moment K V) (known : Known) (blocks : ShowsUnreclaimed m known) where

@@ -21,6 +21,7 @@ use Rattle.papaya_finishes.proofs.Among.Makings.{makings_stand_among}
 use Rattle.papaya_finishes.proofs.Among.Own.Steps.{endings_stand}
 use Rattle.papaya_finishes.proofs.Among.Rows.{guards_stand_among}
 use Rattle.papaya_reclaims.proofs.Promised.{reclaiming_stands}
+use Rattle.papaya_scenes.proofs.NoCall.{none_is}
 use Rattle.papaya_scenes.specs.Held.{Held, IsAt}
 use Rattle.papaya_scenes.specs.Reclaiming.{IsReclaiming}
 use Rattle.papaya_scenes.specs.Scene.{Scene, IsOnSlot, slot_of, row_of}
@@ -59,7 +60,7 @@ module _ {K V : Type 0} (same : K → K → Bool) (hash : ℕ → K → ℕ) (h 
   may_row i row here =
       subst (λ (r : Row). MayStep deferred_word r h.memory) here.1
       (subst (λ (m : Mem (Node K V)). MayStep deferred_word (s.world.row i) m) at.memory
-      (guards_stand_among {Q = K} V same same h.batch_size h.roots slot_of s.world s.maps s.calls s.makers s.enders at.together i here.0).1)
+      (guards_stand_among {Q = K} V same same h.batch_size h.roots slot_of s.world s.maps s.calls s.makers s.enders at.together i (λ m. none_is (s.calls m i) (here.0 m))).1)
 
 -- and all that is being reclaimed may go on to be so
 module _ {K V : Type 0} (same : K → K → Bool) (hash : ℕ → K → ℕ) (h : Held K V) (s : Scene K V) (i : ℕ) (lists : ℕ → List ℕ) (all : ReclaimAll) (at : IsReclaiming same hash h s i lists all) where

@@ -1,5 +1,6 @@
 -- How callers, maps and a memory stand at a moment.
-use Rattle.std.specs.Prelude.{◌≡◌, ℕ, ◌%◌, Option, Some, None}
+use Rattle.std.specs.Prelude.{◌≡◌, ℕ, ◌%◌, true, Option, Some, None}
+use Rattle.std.specs.Option.{is_none}
 use Rattle.seize.specs.World.{World, Row, Registers, Enters, Settles, Leaves, Frees, at_start}
 use Rattle.papaya_finishes.specs.Given.Tables.Nodes.{deferred_word}
 use Rattle.papaya_finishes.specs.Given.Tables.declared.node.Node.{Node}
@@ -50,7 +51,7 @@ module _ {K V : Type 0} where
 
   -- or has no call
   abbrev pub HasNoCall : Scene K V → ℕ → Type 0
-  HasNoCall s i = (m : ℕ) → s.calls m i ≡ None
+  HasNoCall s i = (m : ℕ) → is_none (s.calls m i) ≡ true
 
   -- or has this row under way, and no call
   abbrev pub IsOnSlot : Scene K V → ℕ → SlotRow → Type 0

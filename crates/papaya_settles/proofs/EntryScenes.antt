@@ -35,6 +35,7 @@ use Rattle.papaya_settles.proofs.EntryUsers.{IsZero, AllZero, event_zeros}
 use Rattle.papaya_settles.proofs.EntryWorlds.{event_one, step_zeros, step_one, begin_zeros, begin_one, HandsOne, begin_own, own_one}
 use Rattle.papaya_histories.specs.Given.Scenes.Held.{Held, IsAt}
 use Rattle.papaya_histories.specs.Given.Scenes.Rows.{request_of}
+use Rattle.papaya_histories.proofs.Given.Scenes.NoCall.{no_call}
 use Rattle.papaya_histories.specs.Given.Scenes.Scene.{HasNoCall, IsOnSlot, Scene, slot_of}
 use Rattle.papaya_histories.specs.Given.Scenes.Stepping.{StepLeads, scene_after}
 
@@ -206,10 +207,6 @@ calls_go_on_entries K V s shows map i next own = record { blank = shows.blank; o
         rests : ((u : UnderWay K V K) × (s.calls map i ≡ Some u)) ⊎ (s.world.row i ≡ Rests) → RetiresOne (IsBlank s.world.memory) (s.world.row i)
         rests (inl (u, here)) = shows.one map i u here
         rests (inr rest) = subst (RetiresOne (IsBlank s.world.memory)) (sym rest) tt
-
--- who has no call has none on any map
-no_call : {K V : Type 0} (s : Scene K V) (i : ℕ) → HasNoCall s i → HasCall s i → ⊥
-no_call s i none (n, x, is) = (let was = none n in absurd (cc (was, is)))
 
 module _ (K V : Type 0) (same : K → K → Bool) (hash : ℕ → K → ℕ) where
   reached : (s : Scene K V) (e : Held K V) → IsAt same hash e s → Reached deferred_word e.batch_size s.world
