@@ -23,7 +23,7 @@ use Rattle.papaya_folded.specs.Given.Rows.Rows.{used_as}
 use Rattle.papaya_folded.proofs.Given.Rows.Facts.{row_rests}
 use Rattle.papaya_scheduler.specs.declared.scheduler.Scheduler.{Scheduler}
 use Rattle.papaya_events.specs.OfCalls.{Runs}
-use Rattle.papaya_folded.specs.Given.Executor.IsThere.{IsUsedAs, use_at}
+use Rattle.papaya_scheduler.specs.Given.Executor.IsThere.{IsUsedAs, use_at}
 use Rattle.papaya_folded.specs.Given.Scenes.Scene.{Scene}
 
 both : (a b : Bool) → (a && b) ≡ true → (a ≡ true) × (b ≡ true)

@@ -57,7 +57,7 @@ use Rattle.papaya_events.proofs.OfRows.Lone.{alone_follows}
 use Rattle.papaya_events.proofs.OfRows.Quiet.{IsStill, still_keeps}
 use Rattle.papaya_events.proofs.Reached.{reached_after}
 use Rattle.papaya_events.proofs.Remaining.{counted_in, gives_all as gives_all_in}
-use Rattle.papaya_folded.specs.Given.Executor.IsThere.{IsThere}
+use Rattle.papaya_scheduler.specs.Given.Executor.IsThere.{IsThere}
 use Rattle.papaya_folded.specs.Given.Scenes.Scene.{Scene}
 pub mod Chain
 pub mod Behind

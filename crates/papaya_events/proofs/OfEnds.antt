@@ -10,7 +10,7 @@ use Rattle.papaya_folded.specs.Given.Runs.Same.{is_same}
 use Rattle.papaya_folded.specs.Given.Tables.Chunks.{is_incremental}
 use Rattle.papaya_folded.specs.Given.Tables.declared.node.Node.{Node}
 use Rattle.papaya_folded.proofs.Given.Callers.Together.At.{at_other, at_same}
-use Rattle.papaya_folded.specs.Given.Executor.declared.executor.Executor.{Executor}
+use Rattle.papaya_scheduler.specs.Given.Executor.declared.executor.Executor.{Executor}
 use Rattle.papaya_folded.specs.Given.Finishes.Endings.{Finishing, finishing_of}
 use Rattle.papaya_folded.specs.Given.Finishes.FactsEnds.{taken_by as taken_of}
 use Rattle.papaya_folded.specs.Given.Finishes.Maps.{Standing}
@@ -75,9 +75,9 @@ use Rattle.papaya_events.proofs.OfRows.Over.{over_runs}
 use Rattle.papaya_events.proofs.OfRows.Chain.{come_as, come_by}
 use Rattle.papaya_events.proofs.OfRows.Lone.{alone_follows}
 use Rattle.papaya_events.proofs.OfRows.Quiet.{refused_still, still_keeps}
-use Rattle.papaya_folded.proofs.Given.Executor.Fresh.{no_ending_yet}
-use Rattle.papaya_folded.specs.Given.Executor.Ending.{EndsThere, NoCallOn}
-use Rattle.papaya_folded.specs.Given.Executor.IsThere.{IsThere}
+use Rattle.papaya_scheduler.proofs.Given.Executor.Fresh.{no_ending_yet}
+use Rattle.papaya_scheduler.specs.Given.Executor.Ending.{EndsThere, NoCallOn}
+use Rattle.papaya_scheduler.specs.Given.Executor.IsThere.{IsThere}
 use Rattle.papaya_folded.specs.Given.Scenes.Ending.{ending_begun}
 use Rattle.papaya_folded.specs.Given.Scenes.Scene.{Scene}
 

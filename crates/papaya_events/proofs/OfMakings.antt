@@ -12,7 +12,7 @@ use Rattle.papaya_folded.specs.Given.Tables.Lengths.{places_for}
 use Rattle.papaya_folded.specs.Given.Tables.Powers.{floor_log2, next_power}
 use Rattle.papaya_folded.specs.Given.Tables.declared.setting.Setting.{Setting}
 use Rattle.papaya_folded.proofs.Given.Callers.Together.At.{at_same}
-use Rattle.papaya_folded.specs.Given.Executor.declared.executor.Executor.{Executor}
+use Rattle.papaya_scheduler.specs.Given.Executor.declared.executor.Executor.{Executor}
 use Rattle.papaya_folded.specs.Given.Finishes.Makings.{Beginning}
 use Rattle.papaya_folded.specs.Given.Finishes.Maps.{Standing}
 use Rattle.papaya_folded.specs.Given.Others.Makings.{IsNew, WasNew}
@@ -79,7 +79,7 @@ use Rattle.papaya_events.proofs.OfRows.Over.{over_runs}
 use Rattle.papaya_events.proofs.OfRows.May.{all_by}
 use Rattle.papaya_events.proofs.OfRows.Quiet.{refused_still, still_keeps}
 use Rattle.papaya_events.proofs.Remaining.{nobody_makes}
-use Rattle.papaya_folded.specs.Given.Executor.IsThere.{IsThere}
+use Rattle.papaya_scheduler.specs.Given.Executor.IsThere.{IsThere}
 use Rattle.papaya_folded.specs.Given.Scenes.Scene.{Scene}
 pub mod Chain
 pub mod Begun

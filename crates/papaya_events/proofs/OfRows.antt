@@ -12,7 +12,7 @@ use Rattle.papaya_folded.specs.Given.Others.Rows.{scene_then}
 use Rattle.papaya_folded.proofs.Given.Spots.Unreclaimed.{and_both, or_right}
 use Rattle.papaya_folded.specs.Given.SeizeWords.declared.fault.Fault.TheVariants.{Busy}
 use Rattle.papaya_folded.specs.Given.Scenes.declared.row.SlotCall.TheVariants as call
-use Rattle.papaya_folded.specs.Given.Executor.declared.worker.Work.TheVariants.{OnSlot}
+use Rattle.papaya_scheduler.specs.Given.Executor.declared.worker.Work.TheVariants.{OnSlot}
 use Rattle.papaya_folded.specs.Given.Runs.Present.{has_registration}
 use Rattle.papaya_folded.specs.Given.Schedules.declared.effect.Effect.{Effect}
 use Rattle.papaya_folded.specs.Given.Schedules.declared.event.Event.{Event}
@@ -70,7 +70,7 @@ use Rattle.papaya_events.proofs.OfRows.Facts.{RowFacts, facts}
 use Rattle.papaya_events.proofs.OfRows.Lone.{alone_follows}
 use Rattle.papaya_events.proofs.OfRows.May.{flush_inside, may_by}
 use Rattle.papaya_events.proofs.OfRows.Quiet.{none_still, refused_still, still_keeps}
-use Rattle.papaya_folded.specs.Given.Executor.OnSlots.{MayBegin, RowBeginsThere}
+use Rattle.papaya_scheduler.specs.Given.Executor.OnSlots.{MayBegin, RowBeginsThere}
 use Rattle.papaya_folded.specs.Given.Scenes.Rows.{begun_row, request_of}
 use Rattle.papaya_folded.specs.Given.Scenes.Scene.{Scene, slot_of}
 pub mod Chain

@@ -42,7 +42,7 @@ use Rattle.papaya_scheduler.specs.Played.{IsPlayed, StandsFor}
 use Rattle.papaya_scheduler.specs.declared.scheduler.Scheduler.{Scheduler}
 use Rattle.papaya_works.specs.Needs.{AreReached}
 use Rattle.papaya_works.proofs.Reached.{reached_still}
-use Rattle.papaya_folded.specs.Given.Executor.IsThere.{use_at}
+use Rattle.papaya_scheduler.specs.Given.Executor.IsThere.{use_at}
 
 -- who is there now uses the slot
 or_so : (b c : Bool) → c ≡ true → (b || c) ≡ true

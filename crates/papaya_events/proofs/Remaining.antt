@@ -30,7 +30,7 @@ use Rattle.papaya_folded.specs.Given.Named.Seen.{named, named_of}
 use Rattle.papaya_scheduler.specs.declared.scheduler.Scheduler.{Scheduler}
 use Rattle.papaya_mapping.proofs.MapLists.{all_back, all_seen}
 use Rattle.papaya_events.specs.Asked.{Holds}
-use Rattle.papaya_folded.specs.Given.Executor.IsThere.{IsThere}
+use Rattle.papaya_scheduler.specs.Given.Executor.IsThere.{IsThere}
 use Rattle.papaya_folded.specs.Given.Scenes.Scene.{Scene}
 
 -- a root that a standing map has in one scene of an executor it has in any

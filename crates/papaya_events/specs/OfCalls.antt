@@ -21,7 +21,7 @@ use Rattle.papaya_folded.specs.Given.Callers.Together.{UnderWay}
 use Rattle.papaya_folded.specs.Given.Effects.Effects.{known_after}
 use Rattle.papaya_folded.specs.Given.Effects.Known.{Known, known}
 use Rattle.papaya_folded.specs.Given.Effects.declared.acting.Acting.TheVariants as acts
-use Rattle.papaya_folded.specs.Given.Executor.declared.executor.Executor.{Executor}
+use Rattle.papaya_scheduler.specs.Given.Executor.declared.executor.Executor.{Executor}
 use Rattle.papaya_folded.specs.Given.Histories.InEvent.{ComesSo}
 use Rattle.papaya_folded.specs.Given.Finishes.Machines.{machine_of}
 use Rattle.papaya_folded.specs.Given.Models.CallEvents.{IsInItsRow}
@@ -39,8 +39,8 @@ use Rattle.papaya_scheduler.specs.declared.scheduler.Scheduler.{Scheduler}
 use Rattle.papaya_stepping.specs.Stepping.{ComesAs, outcome_of}
 use Rattle.papaya_works.specs.Needs.{AreReached}
 use Rattle.papaya_events.specs.Asked.{FindsRight, is_of_calls}
-use Rattle.papaya_folded.specs.Given.Executor.IsThere.{IsThere}
-use Rattle.papaya_folded.specs.Given.Executor.Stepping.{StepsThere}
+use Rattle.papaya_scheduler.specs.Given.Executor.IsThere.{IsThere}
+use Rattle.papaya_scheduler.specs.Given.Executor.Stepping.{StepsThere}
 use Rattle.papaya_folded.specs.Given.Scenes.Scene.{Scene}
 
 -- each map has as many shards as the terms say

@@ -20,7 +20,7 @@ use Rattle.papaya_folded.proofs.Given.Logged.ReclaimsRun.{same_setting}
 use Rattle.papaya_folded.specs.Given.Legal.AllEvents.{AllCome, AllSteps, scene_in}
 use Rattle.papaya_folded.specs.Given.Legal.Chains.{Chain, Come}
 use Rattle.papaya_events.proofs.OfRows.Chain.{come_as, come_by}
-use Rattle.papaya_folded.specs.Given.Executor.IsThere.{IsThere}
+use Rattle.papaya_scheduler.specs.Given.Executor.IsThere.{IsThere}
 use Rattle.papaya_folded.specs.Given.Scenes.Scene.{Scene}
 
 module _ {K V S : Type 0} where

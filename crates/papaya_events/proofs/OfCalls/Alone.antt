@@ -26,7 +26,7 @@ use Rattle.papaya_folded.specs.Given.Named.Seen.{Seen, is_named, seen, seen_of}
 use Rattle.papaya_folded.specs.Given.Named.declared.caller.Caller.{Caller}
 use Rattle.papaya_scheduler.specs.declared.scheduler.Scheduler.{Scheduler}
 use Rattle.papaya_events.proofs.OfCalls.InRows.{insides_follow_in_rows}
-use Rattle.papaya_folded.specs.Given.Executor.IsThere.{IsUsedAs}
+use Rattle.papaya_scheduler.specs.Given.Executor.IsThere.{IsUsedAs}
 use Rattle.papaya_folded.specs.Given.Scenes.Scene.{slot_of}
 
 both : (a b : Bool) → (a && b) ≡ true → (a ≡ true) × (b ≡ true)

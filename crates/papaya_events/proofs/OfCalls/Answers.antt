@@ -43,7 +43,7 @@ use Rattle.papaya_values.specs.Values.{KeepsValue}
 use Rattle.papaya_values.proofs.Values.{inserts_tell_theirs}
 use Rattle.papaya_events.specs.OfCalls.{LastStepsTell}
 use Rattle.papaya_events.proofs.OfCalls.Words.{tells_of}
-use Rattle.papaya_folded.specs.Given.Executor.Stepping.{StepsThere}
+use Rattle.papaya_scheduler.specs.Given.Executor.Stepping.{StepsThere}
 use Rattle.papaya_folded.specs.Given.Scenes.Scene.{Scene}
 
 -- what is stored is the reply's value, and else nothing is meant

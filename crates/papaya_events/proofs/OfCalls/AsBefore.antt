@@ -24,7 +24,7 @@ use Rattle.papaya_events.specs.OfCalls.{HaveShards, HaveValues, Runs, RunsOn}
 use Rattle.papaya_events.proofs.OfCalls.Scenes.{AreNamed, its_named, stands_in}
 use Rattle.papaya_events.proofs.Remaining.{counted_in}
 use Rattle.papaya_events.proofs.Reached.{reached_by}
-use Rattle.papaya_folded.specs.Given.Executor.IsThere.{IsThere}
+use Rattle.papaya_scheduler.specs.Given.Executor.IsThere.{IsThere}
 
 module _ {K V S : Type 0} (same : K → K → Bool) (hash : K → ℕ) (terms : Terms) (log : List (Entry K V)) (old new : Scheduler K V S) (runs : Runs same hash terms log old) (logged_is : new.logged ≡ old.logged)
     (calls_are : new.calls ≡ old.calls) (e : Entry K V) (nothing : e.effects ≡ []) (legal : IsLegalBut same terms log e) (run : ShowsRun same runs.stands.name terms (e ∷ log) (known old.logged.notes) runs.stands.scene)

@@ -5,14 +5,14 @@ use Rattle.papaya_folded.specs.Given.Seize.World.{with_at}
 use Rattle.papaya_folded.specs.Given.Sweeps.SweepPoints.{after_next}
 use Rattle.papaya_folded.specs.Given.Callers.OverAll.{CallOverAll, gone_on}
 use Rattle.papaya_folded.specs.Given.Callers.Together.{UnderWay, OverAll}
-use Rattle.papaya_folded.specs.Given.Executor.declared.executor.Executor.{Executor}
+use Rattle.papaya_scheduler.specs.Given.Executor.declared.executor.Executor.{Executor}
 use Rattle.papaya_folded.specs.Given.Finishes.Endings.{EndingsTogether}
 use Rattle.papaya_folded.specs.Given.Finishes.Machines.{machine_of}
 use Rattle.papaya_folded.specs.Given.Finishes.Maps.{with_call}
 use Rattle.papaya_folded.proofs.Given.Finishes.Among.Sweeps.{sweeps_told_among}
 use Rattle.papaya_folded.proofs.Given.Scenes.May.{standing_is}
-use Rattle.papaya_folded.specs.Given.Executor.IsThere.{IsThere, KeepsGiven}
-use Rattle.papaya_folded.specs.Given.Executor.Replying.{AsksThere}
+use Rattle.papaya_scheduler.specs.Given.Executor.IsThere.{IsThere, KeepsGiven}
+use Rattle.papaya_scheduler.specs.Given.Executor.Replying.{AsksThere}
 use Rattle.papaya_folded.specs.Given.Scenes.Replying.{scene_with}
 use Rattle.papaya_folded.specs.Given.Scenes.Scene.{Scene, slot_of}
 

@@ -70,8 +70,8 @@ use Rattle.papaya_folded.specs.Folded.{HandInOrder}
 use Rattle.papaya_folded.proofs.Steps.{more_in_order}
 use Rattle.papaya_events.proofs.OfCalls.Scenes.{AreNamed, named_left, named_set}
 use Rattle.papaya_events.proofs.OfCalls.Words.{shows_none}
-use Rattle.papaya_folded.specs.Given.Executor.IsThere.{KeepsGiven}
-use Rattle.papaya_folded.specs.Given.Executor.Stepping.{StepsThere}
+use Rattle.papaya_scheduler.specs.Given.Executor.IsThere.{KeepsGiven}
+use Rattle.papaya_scheduler.specs.Given.Executor.Stepping.{StepsThere}
 use Rattle.papaya_folded.specs.Given.Scenes.Scene.{Scene, slot_of}
 use Rattle.papaya_folded.specs.Given.Scenes.Stepping.{has_ended, scene_after}
 

@@ -60,8 +60,8 @@ use Rattle.papaya_events.specs.OfCalls.{HaveValues, IsWorth, Runs, RunsOn}
 use Rattle.papaya_events.proofs.OfCalls.Scenes.{AreNamed, its_named, named_left, named_set, stands_in}
 use Rattle.papaya_events.proofs.Remaining.{counted_in}
 use Rattle.papaya_events.proofs.Reached.{reached_by}
-use Rattle.papaya_folded.specs.Given.Executor.IsThere.{IsThere, KeepsGiven}
-use Rattle.papaya_folded.specs.Given.Executor.Replying.{RepliesThere, StopsThere}
+use Rattle.papaya_scheduler.specs.Given.Executor.IsThere.{IsThere, KeepsGiven}
+use Rattle.papaya_scheduler.specs.Given.Executor.Replying.{RepliesThere, StopsThere}
 use Rattle.papaya_folded.specs.Given.Scenes.Replying.{scene_with, unless_stopped}
 use Rattle.papaya_folded.specs.Given.Scenes.Scene.{Scene}
 

@@ -76,7 +76,7 @@ use Rattle.papaya_events.proofs.OfCalls.Scenes.{AreNamed, its_named}
 use Rattle.papaya_events.proofs.OfCalls.Steps.{HasCome, IsStep, as_told, did, follows, has_walked_on, its_here, leads, the}
 use Rattle.papaya_events.proofs.OfCalls.Taken as taken
 use Rattle.papaya_folded.proofs.Given.Scenes.May.{standing_is}
-use Rattle.papaya_folded.specs.Given.Executor.Replying.{AsksThere}
+use Rattle.papaya_scheduler.specs.Given.Executor.Replying.{AsksThere}
 use Rattle.papaya_folded.specs.Given.Scenes.Replying.{scene_with}
 use Rattle.papaya_folded.specs.Given.Scenes.Scene.{Scene}
 

@@ -16,8 +16,8 @@ use Rattle.papaya_scheduler.specs.declared.played.Played.{Played}
 use Rattle.papaya_scheduler.specs.declared.scheduler.Scheduler.{Scheduler}
 use Rattle.papaya_events.specs.Asked.{Holds}
 use Rattle.papaya_events.specs.OfCalls.{Runs}
-use Rattle.papaya_folded.proofs.Given.Executor.Fresh.{no_making_yet}
-use Rattle.papaya_folded.specs.Given.Executor.MakingBegins.{next_making}
+use Rattle.papaya_scheduler.proofs.Given.Executor.Fresh.{no_making_yet}
+use Rattle.papaya_scheduler.specs.Given.Executor.MakingBegins.{next_making}
 use Rattle.papaya_folded.specs.Given.Scenes.Scene.{Scene}
 
 module _ {K V S : Type 0} {same : K → K → Bool} {hash : K → ℕ} {terms : Terms} {log : List (Entry K V)} {own : List ℕ} {mode : ResizeMode} {capacity : ℕ} {told : Progress Setting} {played : Played V}

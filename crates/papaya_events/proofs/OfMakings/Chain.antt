@@ -26,7 +26,7 @@ use Rattle.papaya_folded.specs.Given.Schedules.Views.{map_at}
 use Rattle.papaya_folded.specs.Given.Effects.Effects.{effects_of, known_after}
 use Rattle.papaya_folded.specs.Given.Effects.Known.{Known, known}
 use Rattle.papaya_folded.specs.Given.Effects.declared.acting.Acting.TheVariants as acts
-use Rattle.papaya_folded.specs.Given.Executor.declared.executor.Executor.{Executor}
+use Rattle.papaya_scheduler.specs.Given.Executor.declared.executor.Executor.{Executor}
 use Rattle.papaya_folded.specs.Given.Finishes.Makings.{Beginning, IsMade}
 use Rattle.papaya_folded.specs.Given.Finishes.Maps.{Standing}
 use Rattle.papaya_folded.specs.Given.Follows.Shows.{Shows}
@@ -54,8 +54,8 @@ use Rattle.papaya_folded.specs.Given.Named.Places.{first_places}
 use Rattle.papaya_works.proofs.Makings.{makings_do_theirs, makings_find_theirs}
 use Rattle.papaya_works.proofs.TablesMade.{makings_count_tables}
 use Rattle.papaya_events.proofs.OfRows.Chain.{come_as, come_by}
-use Rattle.papaya_folded.specs.Given.Executor.IsThere.{IsThere}
-use Rattle.papaya_folded.specs.Given.Executor.Making.{MakesThere}
+use Rattle.papaya_scheduler.specs.Given.Executor.IsThere.{IsThere}
+use Rattle.papaya_scheduler.specs.Given.Executor.Making.{MakesThere}
 use Rattle.papaya_folded.specs.Given.Scenes.Scene.{Scene, slot_of}
 
 -- By what a step of a making told: it goes on as another machine, of the same map.

@@ -10,7 +10,7 @@ use Rattle.papaya_folded.specs.Given.Tables.declared.resize_mode.ResizeMode.{Res
 use Rattle.papaya_folded.specs.Given.Tables.declared.setting.Setting.{Setting}
 use Rattle.papaya_folded.proofs.Given.Callers.Together.At.{at_same}
 use Rattle.papaya_folded.proofs.Given.Spots.Unreclaimed.{and_both}
-use Rattle.papaya_folded.specs.Given.Executor.declared.executor.Executor.{Executor}
+use Rattle.papaya_scheduler.specs.Given.Executor.declared.executor.Executor.{Executor}
 use Rattle.papaya_folded.specs.Given.Finishes.Makings.{Beginning}
 use Rattle.papaya_folded.specs.Given.Finishes.Maps.{Standing}
 use Rattle.papaya_folded.specs.Given.Others.Makings.{WasNew}
@@ -59,8 +59,8 @@ use Rattle.papaya_events.proofs.OfMakings.Chain.{IsUnder, MakingComes, just_goes
 use Rattle.papaya_events.proofs.OfRows.Chain.{come_by}
 use Rattle.papaya_events.proofs.OfRows.Lone.{alone_follows}
 use Rattle.papaya_events.proofs.OfRows.Over.{over_runs}
-use Rattle.papaya_folded.specs.Given.Executor.IsThere.{IsThere}
-use Rattle.papaya_folded.specs.Given.Executor.Making.{MakesThere}
+use Rattle.papaya_scheduler.specs.Given.Executor.IsThere.{IsThere}
+use Rattle.papaya_scheduler.specs.Given.Executor.Making.{MakesThere}
 use Rattle.papaya_folded.specs.Given.Scenes.Scene.{Scene}
 
 -- where all that was asked for were growths, so were those before, and those that follow

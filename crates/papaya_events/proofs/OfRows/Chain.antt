@@ -2,7 +2,7 @@
 use Rattle.std.specs.Prelude.{◌≡◌, ℕ, zero, suc, Bool, List, ◌++◌, None}
 use Rattle.std.proofs.Common.{refl, subst, ◌∙◌}
 use Rattle.papaya_folded.specs.Given.Seize.World.{Step}
-use Rattle.papaya_folded.specs.Given.Executor.declared.executor.Executor.{Executor}
+use Rattle.papaya_scheduler.specs.Given.Executor.declared.executor.Executor.{Executor}
 use Rattle.papaya_folded.specs.Given.Others.Rows.{scene_then}
 use Rattle.papaya_folded.specs.Given.Schedules.declared.effect.Effect.{Effect}
 use Rattle.papaya_folded.specs.Given.Schedules.Effects.{with_effects}
@@ -16,7 +16,7 @@ use Rattle.papaya_folded.specs.Given.Logged.Shown.{IsCounted}
 use Rattle.papaya_folded.proofs.Given.Logged.Counted.{counted_row_steps}
 use Rattle.papaya_folded.proofs.Given.Logged.LeftNoted.{rows_note_left}
 use Rattle.papaya_folded.specs.Given.Legal.Chains.{Chain, Come, RowSteps}
-use Rattle.papaya_folded.specs.Given.Executor.IsThere.{IsThere}
+use Rattle.papaya_scheduler.specs.Given.Executor.IsThere.{IsThere}
 use Rattle.papaya_folded.specs.Given.Scenes.Scene.{Scene}
 
 module _ {K V S : Type 0} where

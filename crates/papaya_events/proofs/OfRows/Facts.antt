@@ -48,8 +48,8 @@ use Rattle.papaya_scheduler.proofs.Refreshes as refreshes_so
 use Rattle.papaya_scheduler.proofs.SlotTaken.{first_vacant, led_taking, over_taking, use_still, use_with, used_so, which}
 use Rattle.papaya_scheduler.proofs.Unregisters as unregisters_so
 use Rattle.papaya_scheduler.proofs.Vacancies.{first_is}
-use Rattle.papaya_folded.specs.Given.Executor.IsThere.{IsUsedAs, use_at, work_of}
-use Rattle.papaya_folded.specs.Given.Executor.OnSlots.{MayBegin}
+use Rattle.papaya_scheduler.specs.Given.Executor.IsThere.{IsUsedAs, use_at, work_of}
+use Rattle.papaya_scheduler.specs.Given.Executor.OnSlots.{MayBegin}
 use Rattle.papaya_folded.specs.Given.Scenes.Rows.{request_of}
 
 -- by how a slot is used it is within a section, or not

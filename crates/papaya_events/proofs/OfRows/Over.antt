@@ -23,7 +23,7 @@ use Rattle.papaya_events.proofs.OfCalls.Scenes.{AreNamed, its_named, stands_in}
 use Rattle.papaya_events.proofs.OfCalls.Worth.{have_values_then, nobody_says}
 use Rattle.papaya_events.proofs.Reached.{reached_after}
 use Rattle.papaya_events.proofs.Remaining.{counted_in}
-use Rattle.papaya_folded.specs.Given.Executor.IsThere.{IsThere}
+use Rattle.papaya_scheduler.specs.Given.Executor.IsThere.{IsThere}
 use Rattle.papaya_folded.specs.Given.Scenes.Scene.{Scene}
 
 -- an event of no call is by no caller
