@@ -23,7 +23,7 @@ use Rattle.papaya_folded.specs.Given.Rows.Rows.{used_as}
 use Rattle.papaya_folded.proofs.Given.Rows.Facts.{row_rests}
 use Rattle.papaya_scheduler.specs.declared.scheduler.Scheduler.{Scheduler}
 use Rattle.papaya_events.specs.OfCalls.{Runs}
-use Rattle.papaya_scheduler.specs.Given.Executor.IsThere.{IsUsedAs, use_at}
+use Rattle.papaya_scheduler.specs.Given.Executor.IsThere.{IsUsedAs, held_by, use_at}
 use Rattle.papaya_folded.specs.Given.Scenes.Scene.{Scene}
 
 both : (a b : Bool) → (a && b) ≡ true → (a ≡ true) × (b ≡ true)
@@ -77,7 +77,7 @@ module _ {K V S : Type 0} (same : K → K → Bool) (hash : K → ℕ) (terms : 
 
     retired : ShowsRetired m (known p.logged.notes) s.world
     retired =
-        rest_shows_retired K V S same hash runs.stands.name m (known p.logged.notes) s p.logged.executor runs.stands.shown.is_at runs.stands.shown.kept rests runs.shows.order.0.within.apart runs.taken
+        rest_shows_retired K V same (λ map. hash) runs.stands.name m (known p.logged.notes) s (held_by p.logged.executor) runs.stands.shown.is_at.held runs.stands.shown.kept rests runs.shows.order.0.within.apart runs.taken
 
   pub is_word : terms.batch_size < 2 ^ 64
   is_word = subst (λ (n : ℕ). n < 2 ^ 64) runs.size runs.stands.shown.is_at.held.small

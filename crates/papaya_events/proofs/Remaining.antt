@@ -30,7 +30,7 @@ use Rattle.papaya_folded.specs.Given.Named.Seen.{named, named_of}
 use Rattle.papaya_scheduler.specs.declared.scheduler.Scheduler.{Scheduler}
 use Rattle.papaya_mapping.proofs.MapLists.{all_back, all_seen}
 use Rattle.papaya_events.specs.Asked.{Holds}
-use Rattle.papaya_scheduler.specs.Given.Executor.IsThere.{IsThere}
+use Rattle.papaya_scheduler.specs.Given.Executor.IsThere.{IsThere, held_by}
 use Rattle.papaya_folded.specs.Given.Scenes.Scene.{Scene}
 
 -- a root that a standing map has in one scene of an executor it has in any
@@ -72,11 +72,11 @@ module _ {K V S : Type 0} (same : K → K → Bool) (hash : K → ℕ) (terms : 
   -- so roots are taken as the moment says, and what is behind them may all be reclaimed, where each map is found by its number
   module _ (found : AreFound m) where
     pub rested : RootsAreTaken p.logged.executor.roots m p.logged.executor.memory.memory × LeftBehind p.logged.executor.roots t.world t.maps c.lists
-    rested = rests_remain K V S same hash plays.name m (known p.logged.notes) t p.logged.executor plays.shown.is_at plays.shown.shows.all.shown c found all_stand nobody_makes nobody_ends
+    rested = rests_remain K V same (λ map. hash) plays.name m (known p.logged.notes) t (held_by p.logged.executor) plays.shown.is_at.held plays.shown.shows.all.shown c found all_stand nobody_makes nobody_ends
 
     -- and it is noted as what the moment tells
     pub noted_at : (r : ℕ) → r < p.logged.executor.roots → map (known p.logged.notes).roles (c.lists r) ≡ map role.Pair (left_at r m.remains)
-    noted_at = each_noted K V S same hash plays.name m (known p.logged.notes) t p.logged.executor plays.shown.is_at plays.shown.shows.all.shown c found all_stand nobody_makes nobody_ends
+    noted_at = each_noted K V same (λ map. hash) plays.name m (known p.logged.notes) t (held_by p.logged.executor) plays.shown.is_at.held plays.shown.shows.all.shown c found all_stand nobody_makes nobody_ends
 
     abbrev pub gives_all : MayGiveAll p t
     gives_all =

@@ -245,4 +245,4 @@ module _ {K V : Type 0} (same : K → K → Bool) (hash : ℕ → K → ℕ) (na
 
       says : WalkSays said p2.stands
       says = subst (λ (z : Machine K V K). IsWalkSaying (z, said)) machine_is
-          (walk_says same hash old new o.sweep (leads map (OverAll o) under).1 said (leads map (OverAll o) under).3 walks (now.1 walks))
+          (walk_says same (leads map (OverAll o) under).0.hash old new o.sweep (leads map (OverAll o) under).1 said (leads map (OverAll o) under).3 walks (now.1 walks))

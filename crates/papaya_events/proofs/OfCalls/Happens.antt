@@ -28,6 +28,7 @@ use Rattle.papaya_events.proofs.OfCalls.Events.{ask_on, begin_on, begin_out, go_
 use Rattle.papaya_events.proofs.OfCalls.Finds.{go_finds, not_busy, quiet_in_case, step_finds, whole_finds}
 use Rattle.papaya_events.proofs.OfCalls.Told.{stopped_on, told_on}
 use Rattle.papaya_scheduler.specs.Given.Executor.IsThere.{KeepsGiven}
+use Rattle.papaya_folded.proofs.Given.Scenes.Leads.{happens}
 
 -- one that is in turn comes to what it must
 in_turn_comes : {K V : Type 0} (terms : Terms) (log : List (Entry K V)) (e : Entry K V) → (moment log).is_closed ≡ false → ComesRight terms log e
