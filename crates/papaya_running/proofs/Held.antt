@@ -22,7 +22,8 @@ use Rattle.papaya_schedules.specs.Lists.{least_free}
 use Rattle.papaya_schedules.specs.Moment.{MapThere, Moment, Place, TableThere}
 use Rattle.papaya_schedules.specs.Terms.{Terms}
 use Rattle.papaya_schedules.specs.Views.{call_of, map_of, number_of}
-use Rattle.papaya_events.proofs.Given.Remains.Numbered.{made_stays, standing_below}
+use Rattle.papaya_events.proofs.Given.Remains.Numbered.{made_stays}
+use Rattle.papaya_logged.proofs.Held.{maps_below}
 use Rattle.papaya_events.proofs.Given.Rows.Lists.{found_has}
 use Rattle.papaya_scheduler.specs.Mapping.{CountsMaps}
 use Rattle.papaya_scheduler.specs.Played.{IsPlayed, IsUnderWay, Plays, entry_of, terms_given}
@@ -51,7 +52,7 @@ module _ {K V S : Type 0} (same : K → K → Bool) (hash : K → ℕ) (terms : 
     where
       by : (o : Option (Standing K)) → s.maps n ≡ o → n < m.made
       by None none = absurd (let no = holds.stands.shown.is_at.held.together.makings.standing.only n i none in cc (no, here))
-      by (Some st) there = subst (λ (k : ℕ). n < k) holds.counts.next (standing_below same hash p.logged.executor s holds.stands.shown.is_at n st there)
+      by (Some st) there = subst (λ (k : ℕ). n < k) holds.counts.next ((maps_below same hash p.logged.executor s holds.stands.shown.is_at).standing n st there)
 
   called_below : (own : List ℕ) (n : ℕ) → option_map (λ c. c.map) (call_of own m) ≡ Some n → n < m.made
   called_below own n is = by (find (is_named own) p.calls) refl (sym (called_so same hash terms m p holds.stands holds.counts.next own) ∙ is)
