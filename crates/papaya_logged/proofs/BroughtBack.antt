@@ -54,7 +54,6 @@ use Rattle.papaya_executor.specs.IsThere.{IsThere, held_by, work_of}
 use Rattle.papaya_executor.specs.OnSlots.{RowStepsThere}
 use Rattle.papaya_scenes.specs.Ending.{EndingComesTo, EndingLeads}
 use Rattle.papaya_scenes.specs.Scene.{Scene}
-use Rattle.papaya_logged.proofs.Held.{row_held}
 use Rattle.papaya_executor.proofs.RowLeads.{held_row}
 
 -- the last effect of a list

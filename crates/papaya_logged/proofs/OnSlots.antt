@@ -27,7 +27,7 @@ use Rattle.papaya_executor.specs.IsThere.{IsThere, KeepsGiven, held_by}
 use Rattle.papaya_executor.specs.OnSlots.{RowBeginsThere, RowStepsThere}
 use Rattle.papaya_scenes.specs.Rows.{request_of}
 use Rattle.papaya_scenes.specs.Scene.{Scene, slot_of}
-use Rattle.papaya_logged.proofs.Held.{begun_held, row_held}
+use Rattle.papaya_logged.proofs.Held.{begun_held}
 use Rattle.papaya_executor.proofs.RowLeads.{has_row, held_row}
 
 module _ {K V S : Type 0} (same : K → K → Bool) (hash : K → ℕ) where
