@@ -26,11 +26,10 @@ use Rattle.papaya_executor.proofs.Made.{finished_at}
 use Rattle.papaya_executor.proofs.Makings.{set_there}
 use Rattle.papaya_executor.proofs.Places.{ending_found}
 use Rattle.papaya_executor.specs.Ending.{ending_on}
-use Rattle.papaya_executor.specs.IsThere.{ChangesAt, HasRow, IsThere, call_in, ending_in, making_in, place_of, worker_at, worker_of}
+use Rattle.papaya_executor.specs.IsThere.{ChangesAt, HasRow, IsThere, call_in, ending_in, making_in, place_of, worker_at, worker_of, held_by}
 use Rattle.papaya_scenes.proofs.Told.{as_step}
 use Rattle.papaya_scenes.specs.Ending.{EndingComesToThere, EndingStepsFrom}
 use Rattle.papaya_scenes.specs.Scene.{IsEnding, Scene, slot_of}
-use Rattle.papaya_executor.specs.IsThere.{held_by}
 
 -- what a step of an end does is none of a row
 deed_between : (T : Type 0) (i : ℕ) (deed : Deed) → AreBetween {T = T} (events_of i deed)

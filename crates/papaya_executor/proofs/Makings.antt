@@ -28,12 +28,11 @@ use Rattle.papaya_executor.specs.declared.worker.Worker.{Worker}
 use Rattle.papaya_executor.proofs.Again.{own}
 use Rattle.papaya_executor.proofs.Made.{made_at}
 use Rattle.papaya_executor.proofs.Places.{making_found}
-use Rattle.papaya_executor.specs.IsThere.{ChangesAt, HasRow, IsThere, call_in, ending_in, making_in, place_of, worker_at, worker_of}
+use Rattle.papaya_executor.specs.IsThere.{ChangesAt, HasRow, IsThere, call_in, ending_in, making_in, place_of, worker_at, worker_of, held_by}
 use Rattle.papaya_executor.specs.Making.{making_on, maps_on}
 use Rattle.papaya_scenes.proofs.Told.{as_step}
 use Rattle.papaya_scenes.specs.Making.{MakingComesToThere, MakingStepsFrom}
 use Rattle.papaya_scenes.specs.Scene.{IsMaking, Scene, slot_of}
-use Rattle.papaya_executor.specs.IsThere.{held_by}
 
 -- the settings are as many as they were
 pub same_count : (map : ℕ) (told : Progress Setting) (maps : List (Option Setting)) → length (maps_on map told maps) ≡ length maps

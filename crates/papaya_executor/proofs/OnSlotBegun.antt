@@ -23,13 +23,12 @@ use Rattle.papaya_executor.specs.declared.worker.Work.TheVariants as work
 use Rattle.papaya_executor.proofs.Again.{later, there_again, used_on}
 use Rattle.papaya_executor.proofs.Fresh.{caller_in, fresh_before, fresh_changes, no_calls_yet, no_ending_yet, no_making_yet, resting, slot_is}
 use Rattle.papaya_executor.proofs.Uses.{inside_now, outside_now, taken_now, used_then}
-use Rattle.papaya_executor.specs.IsThere.{ChangesAt, IsThere, IsUsedAs, call_in, place_of, use_at, work_of, worker_of}
+use Rattle.papaya_executor.specs.IsThere.{ChangesAt, IsThere, IsUsedAs, call_in, place_of, use_at, work_of, worker_of, held_by}
 use Rattle.papaya_executor.specs.OnSlots.{MayBegin, NobodyIn, RowBeginsThere}
 use Rattle.papaya_scenes.proofs.Goes.{same_map_keeps}
 use Rattle.papaya_scenes.specs.OnSlots.{HappensTo}
 use Rattle.papaya_scenes.specs.Rows.{begun_row, request_of, uses_begun}
 use Rattle.papaya_scenes.specs.Scene.{Scene, row_of, slot_of}
-use Rattle.papaya_executor.specs.IsThere.{held_by}
 
 -- the row of each works on its slot, and neither retires nor defers a block
 its_row : (slot size : ℕ) (called : SlotCall) → IsRowOn slot (row_of (begun_row slot size called))

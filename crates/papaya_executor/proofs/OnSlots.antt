@@ -28,14 +28,12 @@ use Rattle.papaya_executor.proofs.Again.{later, there_again}
 use Rattle.papaya_executor.proofs.Makings.{set_there}
 use Rattle.papaya_executor.proofs.Places.{found_in, none_of}
 use Rattle.papaya_executor.proofs.RowsGo.{Goes, goes}
-use Rattle.papaya_executor.specs.IsThere.{ChangesAt, HasRow, IsThere, IsUsedAs, call_in, ending_in, making_in, place_of, work_of, worker_at, worker_of}
+use Rattle.papaya_executor.specs.IsThere.{ChangesAt, HasRow, IsThere, IsUsedAs, call_in, ending_in, making_in, place_of, work_of, worker_at, worker_of, held_by}
 use Rattle.papaya_executor.specs.OnSlots.{row_on}
 use Rattle.papaya_scenes.proofs.Goes.{same_map_keeps}
 use Rattle.papaya_scenes.specs.OnSlots.{HappensTo, RowSteps}
 use Rattle.papaya_scenes.specs.Rows.{change_of, uses_after}
-use Rattle.papaya_scenes.specs.Scene.{Scene, row_of, slot_of}
-use Rattle.papaya_scenes.specs.Scene.{IsOnSlot}
-use Rattle.papaya_executor.specs.IsThere.{held_by}
+use Rattle.papaya_scenes.specs.Scene.{Scene, row_of, slot_of, IsOnSlot}
 
 module _ (K V : Type 0) where
   no_call : (m : ℕ) (row : SlotRow) (it : RowTold (Node K V)) → call_in (row_on row it) m ≡ None

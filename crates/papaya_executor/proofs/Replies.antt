@@ -13,12 +13,11 @@ use Rattle.papaya_scenes.proofs.Given.Finishes.Among.MachinesTold.{machines_told
 use Rattle.papaya_executor.specs.declared.executor.Executor.{Executor}
 use Rattle.papaya_executor.proofs.Changed.{is_at_on, worker_is}
 use Rattle.papaya_executor.proofs.Taken.{taken_call, through}
-use Rattle.papaya_executor.specs.IsThere.{ChangesAt, IsThere, place_of, worker_at, worker_with}
+use Rattle.papaya_executor.specs.IsThere.{ChangesAt, IsThere, place_of, worker_at, worker_with, held_by}
 use Rattle.papaya_executor.specs.Replying.{AsksThere, PutBack, RepliesThere}
 use Rattle.papaya_scenes.specs.Replying.{scene_with}
 use Rattle.papaya_scenes.specs.Scene.{Scene, slot_of}
 use Rattle.papaya_scenes.proofs.May.{standing_is}
-use Rattle.papaya_executor.specs.IsThere.{held_by}
 
 module _ {K V S : Type 0} (same : K → K → Bool) (hash : K → ℕ) (e : Executor K V S) (s : Scene K V) (at : IsThere same hash e s) (i : ℕ)
     (e1 e2 : Executor K V S) (memory1 : e1.memory ≡ e.memory) (items : e1.workers.items ≡ slice_set e.workers.items (place_of i) None) (hasher : e1.hasher ≡ e.hasher)

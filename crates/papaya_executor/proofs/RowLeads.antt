@@ -1,8 +1,7 @@
 -- The step of a row that an executor has under way leads as one does on what the executor holds.
-use Rattle.std.specs.Prelude.{◌≡◌, ℕ, ◌==◌, Option, Some, None, option_map, if◌then◌else◌}
-use Rattle.std.proofs.Common.{refl, sym, ap, subst, ◌∙◌, eqb-refl}
+use Rattle.std.specs.Prelude.{◌≡◌, ℕ, Option, Some, None, option_map}
+use Rattle.std.proofs.Common.{refl, sym, ap, subst, ◌∙◌}
 use Rattle.seize.specs.World.{Row, Rests, Step}
-use Rattle.papaya_scenes.specs.Given.Raw.declared.machines.machine.Machine.{Machine}
 use Rattle.papaya_scenes.specs.Given.Tables.declared.node.Node.{Node}
 use Rattle.papaya_scenes.specs.Given.Finishes.Machines.{machine_of}
 use Rattle.papaya_scenes.specs.Held.{IsAt}
@@ -19,6 +18,7 @@ use Rattle.papaya_executor.specs.declared.worker.Work.{Work}
 use Rattle.papaya_executor.specs.declared.worker.Work.TheVariants as work
 use Rattle.papaya_executor.specs.IsThere.{HasRow, IsThere, call_in, held_by, work_of}
 use Rattle.papaya_executor.specs.OnSlots.{RowStepsThere, row_on}
+use Rattle.papaya_executor.proofs.Places.{own_call}
 
 -- what a caller has under way after the step tells of its row in the world
 then_row : {K V : Type 0} (after : SlotRow) (said : RowTold (Node K V)) (row : Row) → HasRow {K = K} (row_on after said) row → row ≡ row_then after said
@@ -28,10 +28,6 @@ then_row after (told.Gave value) row has = has
 then_row after told.Done row has = has
 then_row after (told.Registered slot) row has = has
 then_row after (told.Refused fault) row has = has
-
--- a call on a map is one of its
-its_own : {K V : Type 0} (m : ℕ) (machine : Machine K V K) → call_in (Some (work.Call m machine)) m ≡ Some machine
-its_own m machine = ap (λ b. if b then Some machine else None) (eqb-refl m)
 
 module _ {K V S : Type 0} (same : K → K → Bool) (hash : K → ℕ) (e : Executor K V S) (s : Scene K V) (at : IsThere same hash e s) (i : ℕ) (row : SlotRow) (here : IsOnSlot s i row) where
   -- Whoever is on its slot has that row under way.
@@ -45,7 +41,7 @@ module _ {K V S : Type 0} (same : K → K → Bool) (hash : K → ℕ) (e : Exec
       by None is = absurd (rests None is (λ r. r))
       by (Some (work.Call m machine)) is =
           let none : call_in (work_of e i) m ≡ None = sym (at.calls m i) ∙ ap (option_map machine_of) (none_is (s.calls m i) (here.0 m)) in
-          let some : call_in (work_of e i) m ≡ Some machine = ap (λ (x : Option (Work K V)). call_in x m) is ∙ its_own m machine in
+          let some : call_in (work_of e i) m ≡ Some machine = ap (λ (x : Option (Work K V)). call_in x m) is ∙ own_call m (Some machine) in
           absurd (cc (none, some))
       by (Some (work.Making m opening)) is = absurd (rests (Some (work.Making m opening)) is (λ r. r))
       by (Some (work.Ending ending)) is = absurd (rests (Some (work.Ending ending)) is (λ r. r))

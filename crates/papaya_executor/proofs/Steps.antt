@@ -17,13 +17,12 @@ use Rattle.papaya_scenes.proofs.Given.Finishes.Among.Machines.{machines_stand_am
 use Rattle.papaya_executor.specs.declared.executor.Executor.{Executor}
 use Rattle.papaya_executor.proofs.Changed.{is_at_on, worker_is}
 use Rattle.papaya_executor.proofs.Taken.{through}
-use Rattle.papaya_executor.specs.IsThere.{ChangesAt, IsThere, place_of, worker_with}
+use Rattle.papaya_executor.specs.IsThere.{ChangesAt, IsThere, place_of, worker_with, held_by}
 use Rattle.papaya_executor.specs.Stepping.{SteppedAs}
 use Rattle.papaya_scenes.proofs.Told.{as_step}
 use Rattle.papaya_scenes.specs.Scene.{Scene, slot_of}
 use Rattle.papaya_scenes.specs.Stepping.{StepsFrom, going_on, scene_after}
 use Rattle.papaya_scenes.proofs.May.{standing_is}
-use Rattle.papaya_executor.specs.IsThere.{held_by}
 use Rattle.papaya_scenes.proofs.Goes.{Keeps, goes_as, moved_map_keeps, same_map_keeps}
 
 module _ {K V S : Type 0} (same : K → K → Bool) (hash : K → ℕ) (e : Executor K V S) (s : Scene K V) (at : IsThere same hash e s) (m i : ℕ) (u : UnderWay K V K) (here : s.calls m i ≡ Some u) where

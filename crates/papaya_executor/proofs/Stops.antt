@@ -15,11 +15,10 @@ use Rattle.papaya_scenes.specs.Given.Finishes.Maps.{Standing, with_call}
 use Rattle.papaya_scenes.proofs.Given.Finishes.Among.Sweeps.{walks_stop_among}
 use Rattle.papaya_executor.specs.declared.executor.Executor.{Executor}
 use Rattle.papaya_executor.proofs.Changed.{is_at_on, worker_is}
-use Rattle.papaya_executor.specs.IsThere.{ChangesAt, IsThere, place_of, worker_with}
+use Rattle.papaya_executor.specs.IsThere.{ChangesAt, IsThere, place_of, worker_with, held_by}
 use Rattle.papaya_scenes.specs.Replying.{unless_stopped}
 use Rattle.papaya_scenes.specs.Scene.{Scene, slot_of}
 use Rattle.papaya_scenes.proofs.May.{standing_is}
-use Rattle.papaya_executor.specs.IsThere.{held_by}
 
 -- a stage that is ready is that one
 ready_is : (stage : Sweeping) → is_ready stage ≡ true → stage ≡ sweeping.Ready

@@ -8,13 +8,12 @@ use Rattle.papaya_grows.specs.Given.Raw.declared.machines.call.Calling.{Calling}
 use Rattle.papaya_grows.specs.Given.Runs.Same.{is_same}
 use Rattle.papaya_grows.specs.Given.Schedules.declared.event.Event.TheVariants as event
 use Rattle.papaya_grows.specs.Given.Schedules.declared.outcome.Outcome.TheVariants.{Done, Goes}
-use Rattle.papaya_grows.specs.Given.Schedules.After.{is_alone_on, moment}
+use Rattle.papaya_grows.specs.Given.Schedules.After.{is_alone_on, moment, moments_from}
 use Rattle.papaya_grows.specs.Given.Schedules.Beginning.{with_call}
 use Rattle.papaya_grows.specs.Given.Schedules.Entry.{Entry}
 use Rattle.papaya_grows.specs.Given.Schedules.Moment.{UnderWay as CallThere, Moment}
 use Rattle.papaya_grows.specs.Given.Schedules.Views.{call_of, number_of}
 use Rattle.papaya_grows.specs.Given.Tables.Chunks.{is_incremental}
-use Rattle.papaya_grows.specs.Given.Schedules.After.{moments_from}
 use Rattle.papaya_grows.specs.Given.Rule.Chart.{Chart}
 use Rattle.papaya_grows.specs.Given.Callers.Together.{UnderWay, OnKey, ForRoom, Counting, OverAll}
 use Rattle.papaya_grows.specs.Given.Finishes.Machines.{machine_of}

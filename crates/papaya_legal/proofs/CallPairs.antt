@@ -9,7 +9,7 @@ use Rattle.papaya_grows.specs.Given.Schedules.declared.effect.Effect.TheVariants
 use Rattle.papaya_grows.specs.Given.Schedules.After.{moment}
 use Rattle.papaya_grows.specs.Given.Schedules.Effects.{new_pair, stored_by, with_effect, with_effects}
 use Rattle.papaya_grows.specs.Given.Schedules.Entry.{Entry, acting}
-use Rattle.papaya_grows.specs.Given.Schedules.Moment.{UnderWay as CallThere, Moment}
+use Rattle.papaya_grows.specs.Given.Schedules.Moment.{UnderWay as CallThere, Moment, Place}
 use Rattle.papaya_grows.specs.Given.Schedules.Views.{finite_map, is_in_map}
 use Rattle.papaya_grows.specs.Given.Callers.Together.{UnderWay, OnKey, ForRoom, Counting, OverAll}
 use Rattle.papaya_grows.specs.Given.Effects.Effects.{effects_of, known_after}
@@ -19,7 +19,6 @@ use Rattle.papaya_grows.specs.Given.Finishes.Maps.{Standing}
 use Rattle.papaya_grows.proofs.Given.Follows.Contents.{lasts_more}
 use Rattle.papaya_grows.proofs.Given.Follows.Steps.{one_of}
 use Rattle.papaya_grows.proofs.Given.Follows.Stored.{in_map_true}
-use Rattle.papaya_grows.specs.Given.Schedules.Moment.{Place}
 use Rattle.papaya_grows.specs.Given.Moments.Whole.{ShowsWhole}
 use Rattle.papaya_grows.specs.Given.Histories.InEvent.{InEvent, here_of}
 use Rattle.papaya_grows.specs.Given.Histories.Kept.{HasJustBegun}

@@ -39,11 +39,10 @@ use Rattle.papaya_promises.specs.Sheltered.{SectionsHold}
 use Rattle.papaya_promises.proofs.Brief.Meanwhile.{calls_come_to_readings}
 use Rattle.papaya_grows.specs.Given.Finds.Little.{AllIsBack, ReclaimsAll, WhereAll}
 use Rattle.papaya_grows.specs.Given.Schedules.Reclaims.{ComesLast}
-use Rattle.papaya_grows.specs.Given.Schedules.Model.{all_left, thing_back}
+use Rattle.papaya_grows.specs.Given.Schedules.Model.{all_left, thing_back, IsByModel}
 use Rattle.papaya_legal.specs.CallEvents.{IsLegalBut}
 use Rattle.papaya_legal.specs.CallRuns.{CallEventsRun, ShowsAsTold}
 use Rattle.papaya_legal.specs.Carried.{FollowsOrRows}
-use Rattle.papaya_grows.specs.Given.Schedules.Model.{IsByModel}
 use Rattle.papaya_legal.proofs.CallChanges.{changes_first, reads_shards}
 use Rattle.papaya_legal.proofs.CallFollows.{call_events_follow}
 use Rattle.papaya_grows.proofs.Given.Moments.After.{effects_after}

@@ -12,7 +12,7 @@ use Rattle.papaya_grows.specs.Given.Schedules.declared.event.Event.{Event}
 use Rattle.papaya_grows.specs.Given.Schedules.declared.event.Event.TheVariants.{OneCall, Next}
 use Rattle.papaya_grows.specs.Given.Schedules.After.{moment, moments_from, after}
 use Rattle.papaya_grows.specs.Given.Schedules.Beginning.{at_work, fresh_call, with_call}
-use Rattle.papaya_grows.specs.Given.Schedules.Effects.{with_effects, AtEachEffect}
+use Rattle.papaya_grows.specs.Given.Schedules.Effects.{with_effects, AtEachEffect, worked}
 use Rattle.papaya_grows.specs.Given.Schedules.Entry.{Entry, acted_on, caller_of, ends_call, IfCall, acting, is_busy, nameless}
 use Rattle.papaya_grows.specs.Given.Schedules.Handing.{MovesOn, is_call_effect, is_granted, LeavesOf, comes_clear, is_made, refuses}
 use Rattle.papaya_grows.specs.Given.Schedules.InTurn.{ComesRight}
@@ -21,7 +21,6 @@ use Rattle.papaya_grows.specs.Given.Schedules.Model.{IsByModel, sets_in, things_
 use Rattle.papaya_grows.specs.Given.Schedules.Moment.{UnderWay as CallThere, Moment}
 use Rattle.papaya_grows.specs.Given.Schedules.Reclaims.{IsProtected}
 use Rattle.papaya_grows.specs.Given.Schedules.Steps.{ReadsBriefly}
-use Rattle.papaya_grows.specs.Given.Schedules.Effects.{worked}
 use Rattle.papaya_grows.specs.Given.Schedules.Sweeps.{IsSwept}
 use Rattle.papaya_grows.specs.Given.Schedules.Terms.{Terms}
 use Rattle.papaya_grows.specs.Given.Runs.Log.{pair_at}

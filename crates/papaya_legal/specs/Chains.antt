@@ -1,16 +1,16 @@
 -- An event as the chain of the steps that it has taken: what is so where it begins, and stays so by each step, is so where it has come.
 use Rattle.std.specs.Prelude.{◌≡◌, ◌<◌, ◌^◌, ◌+◌, ℕ, Bool, true, false, zero, suc, List, [], ◌∷◌, ◌++◌, Some, None}
 use Rattle.std.specs.List.{list_all}
-use Rattle.papaya_grows.specs.Given.Seize.World.{World, Request, Begin, Step, Happens}
+use Rattle.papaya_grows.specs.Given.Seize.World.{World, Request, Begin, Step, Happens, Rests, with_at}
 use Rattle.papaya_grows.specs.Given.Seize.declared.progress.Progress.{Progress as Making}
 use Rattle.papaya_grows.specs.Given.Seize.declared.rows.settle.Settled.{Settled}
 use Rattle.papaya_grows.specs.Given.Tables.declared.node.Node.{Node}
 use Rattle.papaya_grows.specs.Given.Tables.declared.setting.Setting.{Setting}
 use Rattle.papaya_grows.specs.Given.Schedules.declared.effect.Effect.{Effect}
 use Rattle.papaya_grows.specs.Given.Schedules.declared.event.Event.{Event}
-use Rattle.papaya_grows.specs.Given.Schedules.Effects.{with_effects, AtEachEffect}
-use Rattle.papaya_grows.specs.Given.Schedules.Entry.{Entry}
-use Rattle.papaya_grows.specs.Given.Schedules.Moment.{Moment}
+use Rattle.papaya_grows.specs.Given.Schedules.Effects.{with_effects, AtEachEffect, worked}
+use Rattle.papaya_grows.specs.Given.Schedules.Entry.{Entry, is_busy}
+use Rattle.papaya_grows.specs.Given.Schedules.Moment.{Moment, UnderWay as CallThere, MapThere}
 use Rattle.papaya_grows.specs.Given.Schedules.Terms.{Terms}
 use Rattle.papaya_grows.specs.Given.Effects.Effects.{effects_of, known_after}
 use Rattle.papaya_grows.specs.Given.Effects.Known.{Known}
@@ -19,7 +19,7 @@ use Rattle.papaya_grows.specs.Given.Scenes.declared.row.RowTold.{RowTold}
 use Rattle.papaya_grows.specs.Given.Scenes.declared.row.SlotCall.{SlotCall}
 use Rattle.papaya_grows.specs.Given.Scenes.declared.row.SlotRow.{SlotRow}
 use Rattle.papaya_grows.specs.Given.Finishes.Endings.{Finishing}
-use Rattle.papaya_grows.specs.Given.Finishes.Makings.{Beginning}
+use Rattle.papaya_grows.specs.Given.Finishes.Makings.{Beginning, HasMade}
 use Rattle.papaya_grows.specs.Given.Moments.Endings.{IsOfIts}
 use Rattle.papaya_grows.specs.Given.Others.Endings.{ending_after}
 use Rattle.papaya_grows.specs.Given.Others.Makings.{WasNew, making_after}
@@ -27,17 +27,14 @@ use Rattle.papaya_grows.specs.Given.Others.Rows.{scene_then}
 use Rattle.papaya_grows.specs.Given.Tables.Nodes.{deferred_word}
 use Rattle.papaya_grows.specs.Given.Raw.declared.machines.progress.Progress.{Progress as CallTold}
 use Rattle.papaya_grows.specs.Given.Schedules.Model.{things_in}
-use Rattle.papaya_grows.specs.Given.Schedules.Moment.{UnderWay as CallThere}
 use Rattle.papaya_grows.specs.Given.Callers.Together.{UnderWay, HandsOver}
 use Rattle.papaya_grows.specs.Given.Purposes.Kept.{ShowsNone}
 use Rattle.papaya_models.specs.CallEvents.{IsNoted, things_then}
-use Rattle.papaya_legal.specs.CallEvents.{InCallEvent}
+use Rattle.papaya_legal.specs.CallEvents.{InCallEvent, IsLegalBut}
 use Rattle.papaya_legal.specs.MapEvents.{FindsItsMap, InEndEvent, InMakingEvent}
-use Rattle.papaya_grows.specs.Given.Seize.World.{Rests}
 use Rattle.papaya_grows.specs.Given.Schedules.After.{moment}
-use Rattle.papaya_grows.specs.Given.Schedules.Beginning.{at_work}
-use Rattle.papaya_grows.specs.Given.Schedules.Entry.{is_busy}
-use Rattle.papaya_grows.specs.Given.Schedules.Handing.{gives_all, may_do}
+use Rattle.papaya_grows.specs.Given.Schedules.Beginning.{at_work, with_map}
+use Rattle.papaya_grows.specs.Given.Schedules.Handing.{gives_all, may_do, IsWhole}
 use Rattle.papaya_grows.specs.Given.Schedules.InTurn.{ComesRight}
 use Rattle.papaya_grows.specs.Given.Schedules.Lives.{Finds}
 use Rattle.papaya_promises.specs.Others.{SparesGuards}
@@ -45,19 +42,12 @@ use Rattle.papaya_promises.specs.Protected.{EndsInside, is_of_slots, there_in}
 use Rattle.papaya_models.specs.Follows.{FollowsModel}
 use Rattle.papaya_models.specs.OnSlots.{IsRowFor}
 use Rattle.papaya_grows.specs.Given.Finds.Little.{ReclaimsAll}
-use Rattle.papaya_legal.specs.CallEvents.{IsLegalBut}
 use Rattle.papaya_legal.specs.Carried.{ComesAlone, ShowsRun}
-use Rattle.papaya_grows.specs.Given.Seize.World.{with_at}
 use Rattle.papaya_grows.specs.Given.Runs.Same.{is_same}
 use Rattle.papaya_grows.specs.Given.Tables.declared.resize_mode.ResizeMode.{ResizeMode}
 use Rattle.papaya_grows.specs.Given.Schedules.declared.event.Event.TheVariants.{EndMap, MakeMap}
 use Rattle.papaya_grows.specs.Given.Schedules.declared.outcome.Outcome.TheVariants.{Done}
-use Rattle.papaya_grows.specs.Given.Schedules.Beginning.{with_map}
-use Rattle.papaya_grows.specs.Given.Schedules.Effects.{worked}
-use Rattle.papaya_grows.specs.Given.Schedules.Handing.{IsWhole}
-use Rattle.papaya_grows.specs.Given.Schedules.Moment.{MapThere}
 use Rattle.papaya_grows.specs.Given.Schedules.Views.{map_at, number_of}
-use Rattle.papaya_grows.specs.Given.Finishes.Makings.{HasMade}
 use Rattle.papaya_grows.specs.Given.Finishes.Maps.{Standing}
 use Rattle.papaya_legal.specs.SlotEvents.{InSlotEvent}
 use Rattle.papaya_grows.specs.Given.Scenes.Ending.{EndingLeads, ending_begun}

@@ -1,5 +1,5 @@
 -- What a row on a slot finds, and what is retired while no row is under way.
-use Rattle.std.specs.Prelude.{◌≡◌, ℕ, Bool, true, false, ◌||◌, List, [], Some, None}
+use Rattle.std.specs.Prelude.{◌≡◌, ℕ, Bool, true, false, ◌||◌, List, [], None}
 use Rattle.std.specs.List.{list_all}
 use Rattle.papaya_grows.specs.Given.Seize.World.{World, Rests, SlotsTaken}
 use Rattle.papaya_grows.specs.Given.Tables.declared.node.Node.{Node}

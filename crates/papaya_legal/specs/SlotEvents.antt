@@ -1,5 +1,5 @@
 -- Events of registrations and guards, and those that reclaim everything: in the midst of one, and at its end.
-use Rattle.std.specs.Prelude.{◌≡◌, ◌<◌, ◌^◌, ℕ, Bool, true, false, List, [], ◌∷◌, ◌++◌, Some, None}
+use Rattle.std.specs.Prelude.{◌≡◌, ◌<◌, ◌^◌, ℕ, Bool, true, false, List, [], ◌∷◌, ◌++◌, None}
 use Rattle.std.specs.List.{list_all}
 use Rattle.papaya_grows.specs.Given.Seize.World.{World, Rests, Begin, Step}
 use Rattle.papaya_grows.specs.Given.Tables.declared.node.Node.{Node}
@@ -22,9 +22,8 @@ use Rattle.papaya_grows.specs.Given.Scenes.declared.row.RowTold.{RowTold}
 use Rattle.papaya_grows.specs.Given.Scenes.declared.row.SlotCall.{SlotCall}
 use Rattle.papaya_grows.specs.Given.Scenes.declared.row.SlotRow.{SlotRow}
 use Rattle.papaya_grows.specs.Given.Others.Rows.{scene_then}
-use Rattle.papaya_promises.specs.Protected.{EndsInside, InMidst, is_of_slots}
+use Rattle.papaya_promises.specs.Protected.{EndsInside, InMidst, is_of_slots, there_in}
 use Rattle.papaya_promises.specs.Others.{SparesGuards}
-use Rattle.papaya_promises.specs.Protected.{there_in}
 use Rattle.papaya_promises.specs.Reading.{ShowsReading}
 use Rattle.papaya_promises.specs.Sheltered.{SectionsHold}
 use Rattle.papaya_models.specs.Follows.{FollowsModel}

@@ -1,5 +1,5 @@
 -- A table that a row on a slot reclaims was retired; and the tables that the collector has then are retired still, or rows within calls are to retire them.
-use Rattle.std.specs.Prelude.{◌≡◌, ◌⊎◌, ℕ, ◌+◌, nat_lt, ◌&&◌, Bool, true, false, List, [], ◌∷◌, length, Option, Some, None, option_map, if◌then◌else◌}
+use Rattle.std.specs.Prelude.{◌≡◌, ◌⊎◌, ℕ, ◌+◌, nat_lt, ◌&&◌, Bool, true, false, List, [], ◌∷◌, length, Option, None, if◌then◌else◌}
 use Rattle.std.proofs.Common.{refl, ap, sym, subst, ◌∙◌, inl, inr}
 use Rattle.std.proofs.lemmas.Bool.{ne_eqb}
 use Rattle.papaya_settles.specs.Given.SeizeWords.declared.at.At.TheVariants.{Root, Used, Slot, Entry, Word}
@@ -13,7 +13,6 @@ use Rattle.papaya_settles.proofs.Given.SeizeRule.Words.View.{view}
 use Rattle.papaya_settles.proofs.Given.SeizeAlone.Histories.Reached.{Reached}
 use Rattle.papaya_settles.specs.Given.Tables.Nodes.{deferred_word}
 use Rattle.papaya_settles.specs.Given.Tables.declared.node.Node.{Node}
-use Rattle.papaya_settles.specs.Given.Raw.declared.machines.machine.Machine.{Machine}
 use Rattle.papaya_settles.specs.Given.Schedules.declared.effect.Effect.{Effect}
 use Rattle.papaya_settles.specs.Given.Schedules.declared.effect.Effect.TheVariants.{Asked}
 use Rattle.papaya_settles.specs.Given.Schedules.declared.effect.Growth.TheVariants.{ABucket}
@@ -33,7 +32,6 @@ use Rattle.papaya_settles.specs.Given.Scenes.declared.row.RowTold.{RowTold}
 use Rattle.papaya_settles.specs.Given.Scenes.declared.row.SlotCall.{SlotCall}
 use Rattle.papaya_settles.specs.Given.Scenes.declared.row.SlotCall.TheVariants as call
 use Rattle.papaya_settles.specs.Given.Scenes.declared.row.SlotRow.{SlotRow}
-use Rattle.papaya_settles.specs.Given.Finishes.Machines.{machine_of}
 use Rattle.papaya_settles.proofs.Given.Follows.Alike.{put_here}
 use Rattle.papaya_settles.proofs.Given.Follows.Onward.{IsOfMap}
 use Rattle.papaya_settles.proofs.Given.Follows.Operations.{LeavesBy}
@@ -54,7 +52,7 @@ use Rattle.papaya_settles.specs.Given.Scenes.Held.{Held, IsAt}
 use Rattle.papaya_settles.specs.Given.Scenes.OnSlots.{RowLeads}
 use Rattle.papaya_settles.specs.Given.Scenes.Rows.{request_of}
 use Rattle.papaya_settles.proofs.Given.Scenes.NoCall.{no_call}
-use Rattle.papaya_settles.specs.Given.Scenes.Scene.{HasNoCall, HasCall, IsOnSlot, Scene, slot_of}
+use Rattle.papaya_settles.specs.Given.Scenes.Scene.{HasCall, IsOnSlot, Scene, slot_of}
 
 given_lives : (l : Life) → is_given l ≡ true → lives l ≡ true
 given_lives (IsIn x) given = refl

@@ -56,7 +56,7 @@ use Rattle.papaya_models.proofs.Turns.{rows_begin, rows_go_on, rows_end, all_the
 use Rattle.papaya_histories.proofs.Given.Scenes.May.{may_row}
 use Rattle.papaya_histories.specs.Given.Scenes.Held.{Held, IsAt}
 use Rattle.papaya_histories.specs.Given.Scenes.OnSlots.{HappensAt, RowSteps}
-use Rattle.papaya_histories.specs.Given.Scenes.Scene.{IsOnSlot, Scene, slot_of}
+use Rattle.papaya_histories.specs.Given.Scenes.Scene.{IsOnSlot, Scene}
 
 -- a row on slots that begins has done nothing yet
 begun_log : {T : Type 0} (defers : T → Option ℕ) (size i : ℕ) (request : Request) (w w2 : World T) → IsOfSlots request → Begins defers size i request w w2 → w2.log ≡ w.log

@@ -1,5 +1,5 @@
 -- Events that are rows on slots: in the midst of one, as it begins, goes on and ends.
-use Rattle.std.specs.Prelude.{◌≡◌, ◌⊎◌, ◌<◌, ◌^◌, ℕ, Bool, List, [], ◌++◌, flat_map, Some}
+use Rattle.std.specs.Prelude.{◌≡◌, ◌⊎◌, ◌<◌, ◌^◌, ℕ, Bool, List, [], ◌++◌, flat_map}
 use Rattle.papaya_histories.specs.Given.Seize.Sequence.{changes, taken_in}
 use Rattle.papaya_histories.specs.Given.Seize.WaitingSets.{Change, Sets}
 use Rattle.papaya_histories.specs.Given.Seize.World.{World, Rests, Request, Begins, Step, Use}

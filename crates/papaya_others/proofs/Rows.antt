@@ -43,7 +43,6 @@ use Rattle.papaya_others.proofs.RowPlans.{TellsRow, row_tells, row_operated}
 use Rattle.papaya_others.proofs.Retired.{retired_apart}
 use Rattle.papaya_others.proofs.Scenes.{pair_gone, table_gone}
 use Rattle.papaya_others.proofs.Stays.{StaysBlock, same_there}
-use Rattle.papaya_follows.proofs.Given.Scenes.May.{may_row}
 use Rattle.papaya_follows.specs.Given.Scenes.Held.{Held, IsAt}
 use Rattle.papaya_follows.specs.Given.Scenes.OnSlots.{HappensAt, RowSteps}
 use Rattle.papaya_follows.specs.Given.Scenes.Scene.{IsOnSlot, Scene}

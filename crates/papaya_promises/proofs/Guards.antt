@@ -19,7 +19,6 @@ use Rattle.papaya_histories.specs.Given.Schedules.declared.outcome.Outcome.TheVa
 use Rattle.papaya_histories.specs.Given.Schedules.After.{there_on, unsheltered, sheltered_on}
 use Rattle.papaya_histories.specs.Given.Schedules.Moment.{Sheltered}
 use Rattle.papaya_histories.specs.Given.Effects.Known.{Known}
-use Rattle.papaya_histories.specs.Given.Scenes.declared.row.SlotUse.{SlotUse}
 use Rattle.papaya_histories.proofs.Given.Follows.Steps.{one_of}
 use Rattle.papaya_promises.specs.Guards.{EntersInside, GuardsComeAndGo, OthersStayInside, OneIsInsideAgain, OnlyGuardsLeaveNobody}
 use Rattle.papaya_promises.specs.Sheltered.{GuardsAreInside, IsSheltered, AreSheltered}

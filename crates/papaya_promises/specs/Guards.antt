@@ -1,5 +1,5 @@
 -- What is promised of guards that come and go: those that are there are within sections, and these shelter what they do.
-use Rattle.std.specs.Prelude.{◌≡◌, ℕ, Bool, List, Some}
+use Rattle.std.specs.Prelude.{◌≡◌, ℕ, List, Some}
 use Rattle.papaya_histories.specs.Given.Seize.World.{World, IsInside}
 use Rattle.papaya_histories.specs.Given.Tables.declared.node.Node.{Node}
 use Rattle.papaya_histories.specs.Given.Runs.Present.{Present, HaveNames, guard_of, guards_on, slot_of_registration, drops}
@@ -11,11 +11,9 @@ use Rattle.papaya_histories.specs.Given.Schedules.declared.outcome.Outcome.TheVa
 use Rattle.papaya_histories.specs.Given.Schedules.After.{there_on, unsheltered, sheltered_on}
 use Rattle.papaya_histories.specs.Given.Schedules.Moment.{Sheltered, start}
 use Rattle.papaya_histories.specs.Given.Effects.Known.{Known, nothing_known}
-use Rattle.papaya_histories.specs.Given.Scenes.declared.row.SlotUse.TheVariants as used
 use Rattle.papaya_promises.specs.Others.{NobodyOn}
 use Rattle.papaya_promises.specs.Sheltered.{GuardsAreInside, AreSheltered, SectionsHold}
-use Rattle.papaya_histories.specs.Given.Scenes.Held.{Held, IsAt}
-use Rattle.papaya_histories.specs.Given.Scenes.Scene.{Scene, at_first}
+use Rattle.papaya_histories.specs.Given.Scenes.Scene.{at_first}
 
 module _ {K V : Type 0} (w : World (Node K V)) where
   -- a guard that enters has a slot that is within a section

@@ -1,9 +1,8 @@
 -- Each step leaves numbers of maps below the next one that is given.
-use Rattle.std.specs.Prelude.{◌⊎◌, ◌≤◌, ◌<◌, ◌==◌, find, List, [], ◌∷◌, length, Option, Some, None, option_map, nat_lt, ◌&&◌, if◌then◌else◌}
+use Rattle.std.specs.Prelude.{◌⊎◌, ◌≤◌, ◌<◌, ◌==◌, find, List, [], ◌∷◌, Option, Some, None, nat_lt, ◌&&◌, if◌then◌else◌}
 use Rattle.std.specs.List.{All}
-use Rattle.std.proofs.Common.{◌≡◌, ℕ, zero, suc, Bool, true, false, inl, inr, refl, ap, sym, subst, ◌∙◌, arith}
-use Rattle.std.proofs.lemmas.Bool.{cases_lt}
-use Rattle.std.proofs.lemmas.List.{get_or_past, length-map}
+use Rattle.std.proofs.Common.{◌≡◌, ℕ, zero, suc, Bool, true, false, refl, ap, subst, ◌∙◌, arith}
+use Rattle.std.proofs.lemmas.List.{length-map}
 use Rattle.papaya_lives.specs.Given.SeizeWords.declared.at.At.TheVariants.{Root, Used, Slot, Entry, Word}
 use Rattle.papaya_lives.specs.Given.Teller.declared.changed.Changed.{Changed}
 use Rattle.papaya_lives.specs.Given.Teller.declared.changed.Changed.TheVariants as changed
@@ -19,13 +18,10 @@ use Rattle.papaya_lives.specs.Given.Effects.Known.{Known}
 use Rattle.papaya_lives.specs.Given.Effects.declared.acting.Acting.TheVariants as acts
 use Rattle.papaya_lives.specs.Given.Effects.declared.role.Role.{Role}
 use Rattle.papaya_lives.specs.Given.Effects.declared.role.Role.TheVariants as role
-use Rattle.papaya_lives.specs.Given.Finishes.Maps.{Standing}
 use Rattle.papaya_lives.proofs.Given.Others.RowPlans.{TellsRow}
 use Rattle.papaya_lives.specs.Given.Moments.Numbers.{NumbersMaps}
 use Rattle.papaya_lives.proofs.Given.Moments.Numbers.{rows_keep_numbers, steps_keep_numbers}
 use Rattle.papaya_remains.specs.Numbered.{CallsKeepCount, EndsKeepCount, MakingsKeepCount, MoreAreCounted, NumbersUpTo, RowsKeepCount}
-use Rattle.papaya_lives.specs.Given.Scenes.Held.{Held, IsAt}
-use Rattle.papaya_lives.specs.Given.Scenes.Scene.{Scene}
 
 module _ {K V : Type 0} (caller : Option (List ℕ)) (acted : Option ℕ) where
   -- of maps and tables effects look at these alone, and they leave the count

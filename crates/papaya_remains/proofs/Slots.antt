@@ -6,12 +6,10 @@ use Rattle.std.proofs.lemmas.List.{get_or-replicate, length-replicate}
 use Rattle.papaya_lives.specs.Given.SeizeWords.declared.at.At.{At}
 use Rattle.papaya_lives.specs.Given.SeizeWords.declared.at.At.TheVariants.{Root, Used, Slot, Entry, Word}
 use Rattle.papaya_lives.specs.Given.SeizeWords.declared.slots.TheConstants.{SLOT_WORDS}
-use Rattle.papaya_lives.specs.Given.SeizeWords.Mem.{Mem, Can, Took, after, same_at, value_at, with_room, with_word, word_at}
+use Rattle.papaya_lives.specs.Given.SeizeWords.Mem.{Mem, Can, after, same_at, with_room, with_word, word_at}
 use Rattle.papaya_lives.specs.Given.SeizeWords.Op.{Op, Out, Load, Store, Swap, Add, Or, Exchange, Make, Take, Rewrite, Room, Found, Exchanged, Made, Roomed}
 use Rattle.papaya_lives.specs.Given.SeizeWords.Place.{capacity}
-use Rattle.papaya_lives.specs.Given.SeizeWords.Plan.{May}
-use Rattle.papaya_lives.specs.Given.SeizeWords.SlotWords.{slot_word}
-use Rattle.papaya_lives.specs.Given.SeizeWords.SlotWords.{with_bucket as with_slots}
+use Rattle.papaya_lives.specs.Given.SeizeWords.SlotWords.{slot_word, with_bucket as with_slots}
 use Rattle.papaya_lives.specs.Given.SeizeWords.Word.{block_in}
 use Rattle.papaya_lives.proofs.Given.SeizeWords.OneOwner.AfterWrites.{word_at-with_word}
 use Rattle.papaya_lives.proofs.Given.SeizeWords.Places.Words.{capacity-more, capacity_le_capacity, capacity_pos, with_bucket_next, with_bucket_there}
@@ -21,7 +19,6 @@ use Rattle.papaya_lives.specs.Given.Tables.declared.node.Node.{Node}
 use Rattle.papaya_lives.specs.Given.Tables.declared.table_words.TheConstants.{NEXT}
 use Rattle.papaya_lives.specs.Given.Raw.EndMap.{end_map_plan}
 use Rattle.papaya_lives.specs.Given.Raw.Machine.{machine_plan}
-use Rattle.papaya_lives.specs.Given.Raw.declared.machines.end_map.EndMap.{EndMap}
 use Rattle.papaya_lives.specs.Given.Resize.NewMap.{new_map_plan}
 use Rattle.papaya_lives.specs.Given.Teller.Tells.{told_of}
 use Rattle.papaya_lives.specs.Given.Teller.declared.changed.Changed.{Changed}
@@ -38,7 +35,6 @@ use Rattle.papaya_lives.proofs.Given.Follows.Operations.{Operated, operated}
 use Rattle.papaya_lives.proofs.Given.Others.RowPlans.{row_operated}
 use Rattle.papaya_remains.specs.Slots.{CallsNoteSlots, EndingsNoteSlots, MakingsNoteSlots, RowsNoteSlots, SlotsBegin, SlotsNoted}
 use Rattle.papaya_lives.proofs.Given.Scenes.May.{may_end, may_make, may_row, may_step}
-use Rattle.papaya_lives.specs.Given.Scenes.Scene.{slot_of}
 
 -- no bucket came
 abbrev IsNoRoom : Changed → Type 0

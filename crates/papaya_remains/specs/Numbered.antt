@@ -1,5 +1,5 @@
 -- Numbers of maps, as they are given: those that are there and those of all tables are below the next one, while maps are made, too.
-use Rattle.std.specs.Prelude.{◌≡◌, ◌+◌, ℕ, Bool, List, length, Option, Some, None}
+use Rattle.std.specs.Prelude.{◌≡◌, ◌+◌, ℕ, Bool, List, Option, Some, None}
 use Rattle.papaya_lives.specs.Given.Tables.declared.node.Node.{Node}
 use Rattle.papaya_lives.specs.Given.Raw.declared.machines.progress.Progress.{Progress as CallTold}
 use Rattle.papaya_lives.specs.Given.Schedules.Effects.{with_effects}
@@ -13,7 +13,7 @@ use Rattle.papaya_lives.specs.Given.Scenes.declared.row.RowTold.{RowTold}
 use Rattle.papaya_lives.specs.Given.Scenes.declared.row.SlotRow.{SlotRow}
 use Rattle.papaya_lives.specs.Given.Finishes.Makings.{Beginning}
 use Rattle.papaya_lives.specs.Given.Moments.Numbers.{MapsAreBelow, NumbersMaps}
-use Rattle.papaya_lives.specs.Given.Scenes.Held.{Held, IsAt}
+use Rattle.papaya_lives.specs.Given.Scenes.Held.{Held}
 use Rattle.papaya_lives.specs.Given.Scenes.OnSlots.{RowLeads}
 use Rattle.papaya_lives.specs.Given.Scenes.Scene.{IsOnSlot, Scene}
 use Rattle.papaya_lives.specs.Given.Scenes.Stepping.{StepLeads}

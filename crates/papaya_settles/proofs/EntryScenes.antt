@@ -1,5 +1,5 @@
 -- Whoever takes a step, entries are blank still of what somebody has, and of the one block that the row within a call is to retire.
-use Rattle.std.specs.Prelude.{◌≡◌, ◌≢◌, ℕ, Bool, List, [], ◌∷◌, Option, Some, None, option_map, ◌⊎◌}
+use Rattle.std.specs.Prelude.{◌≡◌, ◌≢◌, ℕ, Bool, List, [], ◌∷◌, Option, Some, None, ◌⊎◌}
 use Rattle.std.proofs.Common.{refl, ap, sym, subst, ◌∙◌, inl, inr}
 use Rattle.std.proofs.lemmas.Bool.{cases_eq}
 use Rattle.papaya_histories.specs.Given.SeizeWords.Mem.{Mem, word_at}
@@ -22,9 +22,7 @@ use Rattle.papaya_histories.specs.Given.Schedules.Moment.{Moment}
 use Rattle.papaya_histories.specs.Given.Callers.Together.{UnderWay, OnKey, ForRoom, Counting, OverAll, HandsOver, IsOneStep}
 use Rattle.papaya_histories.proofs.Given.Callers.Together.Came.{came_reached}
 use Rattle.papaya_histories.specs.Given.Effects.Known.{Known}
-use Rattle.papaya_histories.specs.Given.Scenes.declared.row.SlotRow.{SlotRow}
 use Rattle.papaya_histories.specs.Given.Finishes.FactsEnds.{Deed, Looks, TakesPair, LeavesTable, JoinsPair, TakesLeft, TakesCounter, WritesRoot, events_of}
-use Rattle.papaya_histories.specs.Given.Finishes.Machines.{machine_of}
 use Rattle.papaya_histories.specs.Given.Finishes.Maps.{with_call}
 use Rattle.papaya_histories.specs.Given.Follows.Shows.{Shows}
 use Rattle.papaya_histories.proofs.Given.Follows.Steps.{WentTo, went_to, DidSo}
@@ -36,7 +34,7 @@ use Rattle.papaya_settles.proofs.EntryWorlds.{event_one, step_zeros, step_one, b
 use Rattle.papaya_histories.specs.Given.Scenes.Held.{Held, IsAt}
 use Rattle.papaya_histories.specs.Given.Scenes.Rows.{request_of}
 use Rattle.papaya_histories.proofs.Given.Scenes.NoCall.{no_call}
-use Rattle.papaya_histories.specs.Given.Scenes.Scene.{HasNoCall, IsOnSlot, Scene, slot_of}
+use Rattle.papaya_histories.specs.Given.Scenes.Scene.{Scene, slot_of}
 use Rattle.papaya_histories.specs.Given.Scenes.Stepping.{StepLeads, scene_after}
 
 -- a blank entry has zeros, and the other way round

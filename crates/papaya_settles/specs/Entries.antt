@@ -28,7 +28,7 @@ use Rattle.papaya_histories.specs.Given.Scenes.Ending.{EndingLeads, ending_begun
 use Rattle.papaya_histories.specs.Given.Scenes.Held.{Held, IsAt}
 use Rattle.papaya_histories.specs.Given.Scenes.Making.{MakingLeads}
 use Rattle.papaya_histories.specs.Given.Scenes.OnSlots.{RowBegins, RowLeads}
-use Rattle.papaya_histories.specs.Given.Scenes.Scene.{IsOnSlot, Scene, at_first, slot_of}
+use Rattle.papaya_histories.specs.Given.Scenes.Scene.{IsOnSlot, Scene, at_first}
 use Rattle.papaya_histories.specs.Given.Scenes.Stepping.{StepLeads, scene_after}
 
 -- somebody has it: it was made, or is linked, or was taken out of what it was in

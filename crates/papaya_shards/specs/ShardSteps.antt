@@ -1,5 +1,5 @@
 -- What is promised of the words of maps' counts: the memory's are those of the moment, whoever takes a step.
-use Rattle.std.specs.Prelude.{◌≡◌, ℕ, ◌≤◌, Bool, true, false, List, length, Option, Some, None}
+use Rattle.std.specs.Prelude.{◌≡◌, ℕ, ◌≤◌, Bool, true, false, List, Option, Some, None}
 use Rattle.papaya_settles.specs.Given.Seize.World.{Begin, Step, with_at}
 use Rattle.papaya_settles.specs.Given.Seize.declared.progress.Progress.{Progress as Making}
 use Rattle.papaya_settles.specs.Given.Seize.declared.rows.settle.Settled.{Settled}

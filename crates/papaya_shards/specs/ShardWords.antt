@@ -1,12 +1,11 @@
 -- The words of a map's count, as the memory has them, and as the moment says.
-use Rattle.std.specs.Prelude.{◌≡◌, ℕ, ◌≤◌, List, length, Some}
+use Rattle.std.specs.Prelude.{◌≡◌, ℕ, ◌≤◌, List, Some}
 use Rattle.papaya_settles.specs.Given.SeizeWords.Mem.{word_at}
 use Rattle.papaya_settles.specs.Given.SeizeWords.declared.at.At.TheVariants.{Word}
 use Rattle.papaya_settles.specs.Given.Schedules.Moment.{Moment}
 use Rattle.papaya_settles.specs.Given.Finishes.Makings.{Beginning, HasMade}
 use Rattle.papaya_settles.specs.Given.Finishes.Maps.{Standing}
 use Rattle.papaya_shards.specs.Adds.{ShowsAdds}
-use Rattle.papaya_settles.specs.Given.Scenes.Held.{Held}
 use Rattle.papaya_settles.specs.Given.Scenes.Scene.{Scene}
 
 module _ {K V : Type 0} where

@@ -1,5 +1,5 @@
 -- All that a row on a slot does it may do, wherever its steps have led.
-use Rattle.std.specs.Prelude.{◌≡◌, ◌⊎◌, ◌&&◌, ℕ, Bool, true, false, List, [], Option, Some}
+use Rattle.std.specs.Prelude.{◌≡◌, ◌⊎◌, ◌&&◌, ℕ, Bool, true, false, List, []}
 use Rattle.std.specs.List.{list_all}
 use Rattle.std.proofs.Common.{refl, ap, sym, subst, inl, inr, ◌∙◌}
 use Rattle.std.proofs.lemmas.List.Folds.{list_all-append}
@@ -34,11 +34,10 @@ use Rattle.papaya_works.specs.Rows.{RowsDoTheirs, may_row, row_begun}
 use Rattle.papaya_works.proofs.Flushes.Moves.{FlushesOn}
 use Rattle.papaya_works.proofs.Flushes.Worlds.{Flushing, flush_begins, flush_steps}
 use Rattle.papaya_works.proofs.Steps.{IsNoOwn, IsTaking, asks_alone, does_nothing, enters_tell, flushes_tell, frees_tell, leaves_tell, reclaims_alone, registers_tell, takes_no_own}
-use Rattle.papaya_legal.specs.Given.Scenes.Held.{Held}
 use Rattle.papaya_legal.specs.Given.Scenes.OnSlots.{RowSteps as StepsAs, row_then}
 use Rattle.papaya_legal.proofs.Given.Scenes.Rows.{begun_there, never_rests, one_row}
 use Rattle.papaya_legal.specs.Given.Scenes.Rows.{begun_row, request_of}
-use Rattle.papaya_legal.specs.Given.Scenes.Scene.{IsOnSlot, row_of, slot_of}
+use Rattle.papaya_legal.specs.Given.Scenes.Scene.{row_of, slot_of}
 
 -- a flush that takes nothing is not about to take a block away
 never_takes : (i s : ℕ) (c : Settle) (m : State) → FlushesOn i s (part c) m → IsTaking c.stands → ⊥

@@ -1,9 +1,8 @@
 -- A step of a call: where it can have no further table after it, one of its map's is at the limit, or was; and what it is refused for.
 use Rattle.std.specs.Prelude.{◌≡◌, ◌⊎◌, ◌≤◌, ◌^◌, ℕ, Bool, false, List, Option, Some, Result, Ok, Err, IfOk}
 use Rattle.std.proofs.Common.{refl, sym, subst, ◌∙◌, inl, inr, arith}
-use Rattle.papaya_purposes.specs.Given.SeizeWords.Mem.{Mem}
+use Rattle.papaya_purposes.specs.Given.SeizeWords.Mem.{Mem, Took, value_at}
 use Rattle.papaya_purposes.specs.Given.SeizeWords.Plan.{Steps}
-use Rattle.papaya_purposes.specs.Given.SeizeWords.Mem.{Took, value_at}
 use Rattle.papaya_purposes.specs.Given.SeizeWords.declared.fault.Fault.{Fault}
 use Rattle.papaya_purposes.specs.Given.SeizeWords.declared.fault.Fault.TheVariants.{Capacity}
 use Rattle.papaya_purposes.specs.Given.Tables.Lengths.{entries_of, places_for}

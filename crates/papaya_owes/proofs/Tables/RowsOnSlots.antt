@@ -1,5 +1,5 @@
 -- A step of a row on a slot takes no table that is not linked: it takes what was handed to the collector.
-use Rattle.std.specs.Prelude.{◌≡◌, ℕ, Bool, List, Some, None}
+use Rattle.std.specs.Prelude.{◌≡◌, ℕ, Bool, List, None}
 use Rattle.std.proofs.Common.{refl, ap}
 use Rattle.papaya_moments.specs.Given.SeizeWords.declared.at.At.TheVariants.{Root, Used, Slot, Entry, Word}
 use Rattle.papaya_moments.specs.Given.Seize.World.{Step}

@@ -1,5 +1,5 @@
 -- A step of a row on a slot leaves sheltered what is so, and reclaims none of it.
-use Rattle.std.specs.Prelude.{◌≡◌, ◌==◌, ℕ, nat_lt, Bool, true, false, ◌||◌, ◌&&◌, List, [], ◌∷◌, Some, if◌then◌else◌}
+use Rattle.std.specs.Prelude.{◌≡◌, ◌==◌, ℕ, nat_lt, Bool, true, false, ◌||◌, ◌&&◌, List, [], ◌∷◌, if◌then◌else◌}
 use Rattle.std.proofs.Common.{refl, sym, subst, ap, ◌∙◌, arith, inl}
 use Rattle.papaya_histories.specs.Given.SeizeWords.Mem.{Mem, value_at}
 use Rattle.papaya_histories.specs.Given.SeizeWords.declared.at.At.TheVariants.{Root, Used, Slot, Entry, Word}
@@ -42,7 +42,7 @@ use Rattle.papaya_promises.proofs.Lists.{all_of}
 use Rattle.papaya_histories.proofs.Given.Scenes.May.{may_row}
 use Rattle.papaya_histories.specs.Given.Scenes.Held.{Held, IsAt}
 use Rattle.papaya_histories.specs.Given.Scenes.OnSlots.{HappensAt, RowSteps}
-use Rattle.papaya_histories.specs.Given.Scenes.Scene.{IsOnSlot, Scene, slot_of}
+use Rattle.papaya_histories.specs.Given.Scenes.Scene.{IsOnSlot, Scene}
 
 -- two things that are the same
 
