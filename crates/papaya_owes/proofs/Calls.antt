@@ -268,7 +268,7 @@ module _ {K V : Type 0} (same : K → K → Bool) (hash : ℕ → K → ℕ) (na
   )
 
   may : MayStep u
-  may = may_step same hash old s at map i u here
+  may = may_step same hash old s at map to.0 to.2 i u here
 
   owns : OwnsSo (machine_of u)
   owns = (made.named map i u here).0
