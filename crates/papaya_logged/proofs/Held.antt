@@ -71,7 +71,7 @@ module _ {K V S : Type 0} (same : K → K → Bool) (hash : K → ℕ) (s : Scen
 
   -- and the step of reclaiming all
   abbrev pub reclaim_held : (lists : ℕ → List ℕ) (before after : ReclaimAll) (told : Settled (Node K V)) → ReclaimsThere same hash s i lists old new before after told
-      → ReclaimingLeads same s i lists (λ map. hash) (held_by old) (held_by new) before after told
+      → ReclaimingLeads same (λ map. hash) s i lists (held_by old) (held_by new) before after told
   reclaim_held lists before after told leads =
       reclaiming_leads same s i lists (IsThere same hash new) (IsAt same (λ map. hash) (held_by new)) holds (λ s2 lists2 all. IsReclaimingThere same hash new s2 i lists2 all)
       (λ s2 lists2 all. IsReclaiming same (λ map. hash) (held_by new) s2 i lists2 all) (λ n lists2 all goes. goes.held) (held_by old) (held_by new) before after told leads

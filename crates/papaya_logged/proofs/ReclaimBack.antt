@@ -63,7 +63,7 @@ module _ {K V S : Type 0} where
   brought_none all l xs b = ([], sym (append-nil xs), λ same hash name m s i lists shown. none_back m.stored b)
 
   module _ (same : K → K → Bool) (hash : K → ℕ) (name : ℕ → List ℕ) (m : Moment K V) (s : Scene K V) (mid : Logged K V S) (new : Executor K V S) (i : ℕ) (lists : ℕ → List ℕ) (before after : ReclaimAll)
-      (told : Settled (Node K V)) (shown : ReclaimingIsShown same hash name m mid s i lists before) (leads : ReclaimingLeads same s i lists (λ map. hash) (held_by mid.executor) (held_by new) before after told) (ys : List Effect) where
+      (told : Settled (Node K V)) (shown : ReclaimingIsShown same hash name m mid s i lists before) (leads : ReclaimingLeads same (λ map. hash) s i lists (held_by mid.executor) (held_by new) before after told) (ys : List Effect) where
     abbrev noted : Known
     noted = known mid.notes
 

@@ -31,7 +31,7 @@ use Rattle.papaya_scenes.specs.Scene.{Scene}
 
 module _ {K V : Type 0} (same : K → K → Bool) (hash : ℕ → K → ℕ) (name : ℕ → List ℕ) (m : Moment K V) (noted : Known) (s : Scene K V) (whole : ShowsWhole same name m noted s)
     (old new : Held K V) (i : ℕ) (lists : ℕ → List ℕ) (before after : ReclaimAll) (told : Settled (Node K V)) (at : IsReclaiming same hash old s i lists before)
-    (leads : ReclaimingLeads same s i lists hash old new before after told) where
+    (leads : ReclaimingLeads same hash s i lists old new before after told) where
   module _ (count : ℕ) where
     root_numbers : (x : Changed) → EmptiesRoot x → NumbersUpTo count m → NumbersUpTo count (with_effects None None (effects_of Row noted x) m)
     root_numbers (changed.Wrote (Root r) was now) empty numbers =

@@ -50,7 +50,7 @@ use Rattle.papaya_scenes.specs.Scene.{Scene}
 
 module _ {K V : Type 0} (same : K → K → Bool) (hash : ℕ → K → ℕ) (name : ℕ → List ℕ) (m : Moment K V) (known : Known) (s : Scene K V) (whole : ShowsWhole same name m known s)
     (old new : Held K V) (i : ℕ) (lists : ℕ → List ℕ) (before after : ReclaimAll) (told : Settled (Node K V)) (at : IsReclaiming same hash old s i lists before)
-    (leads : ReclaimingLeads same s i lists hash old new before after told) where
+    (leads : ReclaimingLeads same hash s i lists old new before after told) where
   abbrev w : World (Node K V)
   w = s.world
 

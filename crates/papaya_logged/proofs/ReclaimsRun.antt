@@ -76,7 +76,7 @@ module _ {K V S : Type 0} where
       abbrev u : (s1 : Scene K V) × (lists1 : ℕ → List ℕ) × ReclaimingCame s s1 × ReclaimingIsShown same hash name (with_effects None None so.0 m) mid s1 i lists1 now × ReclaimRetired so.0 m
       u = so.3 same hash name m s i lists shown
 
-      abbrev leads : ReclaimingLeads same u.0 i u.1 (λ map. hash) (held_by mid.executor) (held_by new.executor) now next told
+      abbrev leads : ReclaimingLeads same (λ map. hash) u.0 i u.1 (held_by mid.executor) (held_by new.executor) now next told
       leads = (step.2 same hash name (with_effects None None so.0 m) u.0 i u.1 u.3).0
 
       abbrev s2 : Scene K V

@@ -50,7 +50,7 @@ module _ {K V S : Type 0} where
   abbrev pub ReclaimingGoesOn : (same : K → K → Bool) (hash : K → ℕ) → (ℕ → List ℕ) → Moment K V → Scene K V → ℕ → (ℕ → List ℕ) → (before after : ReclaimAll) → Settled (Node K V) → List Effect
       → (old new : Logged K V S) → Type 0
   ReclaimingGoesOn same hash name m s i lists before after told did old new =
-      (leads : ReclaimingLeads same s i lists (λ map. hash) (held_by old.executor) (held_by new.executor) before after told)
+      (leads : ReclaimingLeads same (λ map. hash) s i lists (held_by old.executor) (held_by new.executor) before after told)
       × ReclaimRetired did m
       × ReclaimingThen same hash name (with_effects None None did m) s i lists (record s { world = leads.1.w2; maps = leads.1.maps2 }) leads.1.lists2 after old new told
 

@@ -43,7 +43,7 @@ module _ {K V S : Type 0} (same : K → K → Bool) (hash : K → ℕ) (terms : 
     abbrev went : ReclaimsThere same hash s i lists from.0.logged.executor to.0.logged.executor from.1 to.1 step.1
     went = step.2 same hash s i lists under
 
-    abbrev pub leads : ReclaimingLeads same s i lists (λ map. hash) (held_by from.0.logged.executor) (held_by to.0.logged.executor) from.1 to.1 step.1
+    abbrev pub leads : ReclaimingLeads same (λ map. hash) s i lists (held_by from.0.logged.executor) (held_by to.0.logged.executor) from.1 to.1 step.1
     leads = reclaim_held same hash s from.0.logged.executor to.0.logged.executor i lists from.1 to.1 step.1 went
 
     abbrev effects : List Effect
