@@ -1,11 +1,9 @@
 //! The retirement of one block, up to a batch that is full.
 ghost use Rattle.std.specs.Prelude.{◌≡◌, ◌≢◌};
-ghost use Rattle.seize.specs.Settle.{retiring, settle_plan};
+ghost use Rattle.seize.specs.Settle.{retiring};
 ghost use Rattle.seize.specs.declared.rows.settle.Settling.TheVariants as at;
-ghost use Rattle.papaya_straight.specs.Going.{SettleGoes};
-ghost use Rattle.papaya_straight.specs.Reaches.{Reaches};
+ghost use Rattle.papaya_straight.specs.Going.{MaySettle, SettleReaches};
 ghost use Rattle.papaya_straight.specs.Retiring.{holding, retired, settle_at};
-ghost use Rattle.papaya_straight.specs.Runs.{MayRun};
 
 use seize::rows::{Defers, Settle, Settling};
 use seize::states::{BATCH, COUNT, FIRST, HELD, NEXT};
@@ -46,8 +44,8 @@ pub fn retire<T: Defers, M: Memory<T>>(
     batch_size: u64,
     block: u64,
 ) -> Retired
-    requires { MayRun SettleGoes M.took M.shown (settle_plan T.defers) M.can (retiring slot batch_size block) memory.old }
-    ensures { Reaches SettleGoes M.took M.shown (settle_plan T.defers) (retiring slot batch_size block) memory.old memory.new (retired slot batch_size block result) }
+    requires { MaySettle T.defers M.took M.shown M.can (retiring slot batch_size block) memory.old }
+    ensures { SettleReaches T.defers M.took M.shown (retiring slot batch_size block) memory.old memory.new (retired slot batch_size block result) }
 {
     if block == 0 {
         return Retired::Sees;
@@ -81,8 +79,9 @@ fn append<T: Defers, M: Memory<T>>(
 ) -> Retired
     requires block { block ≢ 0 }
     requires last { last ≢ 0 }
-    requires may { MayRun SettleGoes M.took M.shown (settle_plan T.defers) M.can (holding slot batch_size block last 0 at.Pops) memory.old }
-    ensures { Reaches SettleGoes M.took M.shown (settle_plan T.defers) (holding slot batch_size block last 0 at.Pops) memory.old memory.new (retired slot batch_size block result) }
+    requires may { MaySettle T.defers M.took M.shown M.can (holding slot batch_size block last 0 at.Pops) memory.old }
+    ensures { SettleReaches T.defers M.took M.shown (holding slot batch_size block last 0 at.Pops)
+        memory.old memory.new (retired slot batch_size block result) }
 {
     let pending = memory.load(At::Entry(Link::block_of(block), NEXT));
     let first = memory.load(At::Entry(Link::block_of(last), FIRST));
