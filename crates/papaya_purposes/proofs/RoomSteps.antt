@@ -171,11 +171,11 @@ module _ {K V : Type 0} (same : K → K → Bool) (hash : ℕ → K → ℕ) (lo
     where
       by : (x : Reserving) → p.stands ≡ x → RoomAt of moments has.low x → Step x end → Led of moments has.low EndsSo end
       by reserving.Reads is h step =
-          reads_lead of moments has.low EndsSo same hash st.setting s.world st.chart st.blocks its_map has.root (moment log) last p (ap (λ (x : Setting). x.root) setting_is)
+          reads_lead of moments has.low EndsSo same st.hash st.setting s.world st.chart st.blocks its_map has.root (moment log) last p (ap (λ (x : Setting). x.root) setting_is)
           counted_none new.memory end step
       by (reserving.Makes making) is h step = makes_lead of moments has.low EndsSo st.hash p making h mem new.memory end step
       by (reserving.Sums table sum) is h step =
-          sums_lead of moments has.low EndsSo same hash st.setting s.world st.chart st.blocks its_map has.root (moment log) last p (ap (λ (x : Setting). x.root) setting_is) table sum h.0
+          sums_lead of moments has.low EndsSo same st.hash st.setting s.world st.chart st.blocks its_map has.root (moment log) last p (ap (λ (x : Setting). x.root) setting_is) table sum h.0
           (reads table sum is (knows_at (reserving.Sums table sum) (λ row. row) is)) (few table sum is (knows_at (reserving.Sums table sum) (λ row. row) is)) h.1
           (ends table sum is (knows_at (reserving.Sums table sum) (λ row. row) is) h.0) new.memory end step
       by (reserving.Follows table need) is h step =

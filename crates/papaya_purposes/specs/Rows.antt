@@ -1,5 +1,5 @@
 -- Where a row on a slot begins, and takes its steps, calls on whole maps have come to what they had come to.
-use Rattle.std.specs.Prelude.{◌≡◌, ℕ, Bool, List, None}
+use Rattle.std.specs.Prelude.{ℕ, Bool, List, None}
 use Rattle.papaya_finds.specs.Given.Seize.World.{Begin, Step}
 use Rattle.papaya_finds.specs.Given.Tables.declared.node.Node.{Node}
 use Rattle.papaya_finds.specs.Given.Schedules.Effects.{with_effects, AtEachEffect}

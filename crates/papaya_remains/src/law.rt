@@ -24,7 +24,7 @@ pub fn what_remains_is_told<K, V>()
     ensures rests_noted { (same : K → K → Bool) (hash : ℕ → K → ℕ) → RestsNoted K V same hash }
 {}
 
-/// Numbers of maps that are there, and of the maps of all tables, stay below the next number that the executor gives: over each step of a call, of a row on a slot, and of the making of a map, over all that
+/// Numbers of maps that are there, and of the maps of all tables, stay below the next number that a map is to have: over each step of a call, of a row on a slot, and of the making of a map, over all that
 /// ends with a map, and where numbers are given.
 pub fn numbers_stay_counted<K, V>()
     ensures calls { (same : K → K → Bool) (hash : ℕ → K → ℕ) → CallsKeepCount K V same hash }

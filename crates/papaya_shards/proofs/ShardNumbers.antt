@@ -1,5 +1,5 @@
 -- Nothing was counted on a number that no map has had yet.
-use Rattle.std.specs.Prelude.{◌≡◌, ◌≢◌, ℕ, ◌≤◌, Bool, List, Some}
+use Rattle.std.specs.Prelude.{◌≡◌, ◌≢◌, ℕ, Bool, List, Some}
 use Rattle.std.proofs.Common.{refl, ap, ◌∙◌, arith}
 use Rattle.papaya_settles.specs.Given.Tables.declared.node.Node.{Node}
 use Rattle.papaya_settles.specs.Given.Raw.declared.machines.progress.Progress.{Progress}

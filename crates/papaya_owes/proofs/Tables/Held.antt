@@ -153,7 +153,7 @@ module _ {K V : Type 0} (same : K → K → Bool) (hash : ℕ → K → ℕ) (na
 
   opening_made : (j roots : ℕ) (c : NewMap) (p : Opening) → OpeningFacts s.world roots j c p → (n : NewTable) → making_in_opening p ≡ Some n → OpeningMade j n
   opening_made j roots c (opening.Tables x) facts n is =
-      let its = new_made same hash s.world j c.setting (no_table {K = K}) no_blocks (Root c.setting.root) 0 x facts.2 in
+      let its = new_made same (λ key. 0) s.world j c.setting (no_table {K = K}) no_blocks (Root c.setting.root) 0 x facts.2 in
       let one : x ≡ n = cc is in subst (OpeningMade j) one (its.0, inl (c.setting.root, facts.2.link_is), its.2)
   opening_made j roots c opening.Takes facts n is = absurd (cc is)
   opening_made j roots c opening.Shards facts n is = absurd (cc is)
