@@ -184,8 +184,8 @@ rooms_may_ask K V same hash name m known s old new at_old whole map i r here sai
 
     grows : Asks new.changed → MayGrow terms c.call c (m ∷ moments)
     grows asks =
-        let it = told_in old.memory new.memory new.changed of_room (reserves.reserve_plan hash r.reserve) ((leads map (ForRoom r) here).1, said) (leads map (ForRoom r) here).3 in
-        let n = made_of (making_in_reserving r.reserve.stands) old.memory new.memory new.changed (reserves.reserve_plan hash r.reserve) it.0 it.2 (reserve_makes K V hash r.reserve) asks in
+        let it = told_in old.memory new.memory new.changed of_room (reserves.reserve_plan (leads map (ForRoom r) here).0.hash r.reserve) ((leads map (ForRoom r) here).1, said) (leads map (ForRoom r) here).3 in
+        let n = made_of (making_in_reserving r.reserve.stands) old.memory new.memory new.changed (reserves.reserve_plan (leads map (ForRoom r) here).0.hash r.reserve) it.0 it.2 (reserve_makes K V (leads map (ForRoom r) here).0.hash r.reserve) asks in
         let fits = fits_after map moments m r.reserve (fits_at map moments r.reserve r.reserve.stands n.0 n.1 first so) in
         subst (λ (z : Call K V). MayGrow terms z c (m ∷ moments)) (sym its_call)
         (fits.0, subst (λ (x : ℕ). Counts x c.map (m ∷ moments) fits.0) shards (subst (λ (x : ℕ). Counts (suc r.reserve.setting.mask) x (m ∷ moments) fits.0) (sym its_map) fits.1), fits.2)

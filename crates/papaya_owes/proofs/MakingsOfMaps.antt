@@ -209,7 +209,7 @@ module _ {K V : Type 0} (same : K → K → Bool) (hash : ℕ → K → ℕ) (na
 
   alone : LeavesAlone its known told
   alone = left_alone its known told (does_so its known told (makes_free told leaves))
-      (no_pair_made w i old.roots b.machine old.memory new.memory told (end, said) same hash point steps) untaken
+      (no_pair_made w i old.roots b.machine old.memory new.memory told (end, said) same b.hash point steps) untaken
       (λ storing. not_storing (effects_of its known told) storing (stores_none told so))
 
   same_calls : (t : Progress Setting) (comes : MakingComesTo same hash s old new i b end w2 t) → (making_after same hash s old new i b end w2 t comes).calls ≡ s.calls

@@ -159,9 +159,9 @@ calls_hold_theirs K V same hash name m known s old new at_old shown map i x unde
         → (q : KeyCall K V K) × ((went_to same hash name m known s old new at_old shown map i (OnKey x) under_way said leads).1 ≡ kinds.Key q) × (word2 : ℕ) × (pair_in_calling q.stands ≡ Some word2)
         × (block_in word2 ≡ block_in word)
     by (p2, end, machine_is, told_is, inl (step, moved)) none =
-        let it = always_steps (Holds K V same same hash x.call (block_in word)) old.memory new.memory (call_plan same same hash x.call) (p2, end)
-        (call_holds K V same same hash x.call x.call.stands step.no_row word is)
-        (as_step old.memory changed.Nothing (call_plan same same hash x.call) new.memory new.changed (p2, end)
+        let it = always_steps (Holds K V same same (leads map (OnKey x) under_way).0.hash x.call (block_in word)) old.memory new.memory (call_plan same same (leads map (OnKey x) under_way).0.hash x.call) (p2, end)
+        (call_holds K V same same (leads map (OnKey x) under_way).0.hash x.call x.call.stands step.no_row word is)
+        (as_step old.memory changed.Nothing (call_plan same same (leads map (OnKey x) under_way).0.hash x.call) new.memory new.changed (p2, end)
         (steps same hash name m known s old new at_old shown map i x under_way said leads p2 end machine_is told_is)) in
         (p2, machine_is, it.0, it.1, it.2)
     by (p2, end, machine_is, told_is, inr row) none = absurd none
@@ -179,9 +179,9 @@ sweeps_hold_theirs K V same hash name m known s old new at_old shown map i x und
         → (q : Sweep) × ((went_to same hash name m known s old new at_old shown map i (OverAll x) under_way said leads).1 ≡ kinds.Sweep q) × (word2 : ℕ) × (pair_in_sweeping q.stands ≡ Some word2)
         × (block_in word2 ≡ block_in word)
     by (p2, end, machine_is, told_is, inl (step, moved)) none =
-        let it = always_steps (SweepHolds K V hash x.sweep (block_in word)) old.memory new.memory (sweep_plan hash x.sweep) (p2, end)
-        (sweep_holds K V hash x.sweep x.sweep.stands step.no_row word is)
-        (as_step old.memory changed.Nothing (sweep_plan hash x.sweep) new.memory new.changed (p2, end)
+        let it = always_steps (SweepHolds K V (leads map (OverAll x) under_way).0.hash x.sweep (block_in word)) old.memory new.memory (sweep_plan (leads map (OverAll x) under_way).0.hash x.sweep) (p2, end)
+        (sweep_holds K V (leads map (OverAll x) under_way).0.hash x.sweep x.sweep.stands step.no_row word is)
+        (as_step old.memory changed.Nothing (sweep_plan (leads map (OverAll x) under_way).0.hash x.sweep) new.memory new.changed (p2, end)
         (sweep_steps same hash name m known s old new at_old shown map i (OverAll x) under_way said leads x refl p2 end machine_is told_is)) in
         (p2, machine_is, it.0, it.1, it.2)
     by (p2, end, machine_is, told_is, inr row) none = absurd none
