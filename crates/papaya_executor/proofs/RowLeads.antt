@@ -1,5 +1,5 @@
 -- The step of a row that an executor has under way leads as one does on what the executor holds.
-use Rattle.std.specs.Prelude.{◌≡◌, ℕ, Option, Some, None, option_map}
+use Rattle.std.specs.Prelude.{◌≡◌, ℕ, Bool, Option, Some, None, option_map}
 use Rattle.std.proofs.Common.{refl, sym, ap, subst, ◌∙◌}
 use Rattle.seize.specs.World.{Row, Rests, Step}
 use Rattle.papaya_scenes.specs.Given.Tables.declared.node.Node.{Node}
