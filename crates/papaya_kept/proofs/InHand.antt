@@ -54,7 +54,7 @@ use Rattle.papaya_lives.specs.Given.Moments.Whole.{ShowsWhole}
 use Rattle.papaya_owes.proofs.Lasting.{IsAside, ending_says, ending_spares}
 use Rattle.papaya_lives.specs.Given.Settles.Due.{due_in_settle, due_in_defer}
 use Rattle.papaya_lives.specs.Given.Settles.Hand.{HoldsInHand, IsPairRole, IsTableRole, IsPairAt, IsTableAt, IsSameRole, NotesInHand, SameInHand}
-use Rattle.papaya_lives.proofs.Given.Settles.Hand.Held.{IsTakenOut, IsDueBlock, IsHeld, HeldOut, HeldByRow, Held, due_of_row, held_in_hand}
+use Rattle.papaya_lives.proofs.Given.Settles.Hand.Held.{IsTakenOut, IsDueBlock, IsHeld, HeldOut, HeldByRow, Held as HeldBy, due_of_row, held_in_hand}
 use Rattle.papaya_lives.proofs.Given.Settles.Hand.Roles.{hand_both}
 use Rattle.papaya_lives.specs.Retired.{IsDue, IsToRetire, ShowsRetired}
 use Rattle.papaya_lives.proofs.Makings.{role_kept}
@@ -166,7 +166,7 @@ module _ {K V : Type 0} (same : K → K → Bool) (hash : ℕ → K → ℕ) (na
 
   -- of a call
   module _ (map j : ℕ) (u : UnderWay K V K) (call : s.calls map j ≡ Some u) where
-    holds : HoldsInHand (Held w j) (Held w j) (machine_of u)
+    holds : HoldsInHand (HeldBy w j) (HeldBy w j) (machine_of u)
     holds =
         let its_map = standing_is same hash old s at map j u call in
         let st = its_map.0 in
@@ -179,7 +179,7 @@ module _ {K V : Type 0} (same : K → K → Bool) (hash : ℕ → K → ℕ) (na
     -- blocks that are held, and noted as pairs and tables, are what they were where this is so of each such block
     in_hand_so : (known2 : Known) → ((b : ℕ) → IsHeld w j b → IsOfMap (known.roles b) → known2.roles b ≡ known.roles b) → NotesInHand known (machine_of u) → SameInHand known known2 (machine_of u)
     in_hand_so known2 each noted =
-        hand_both (IsPairAt known) (Held w j) (IsSameRole known known2) (IsTableAt known) (Held w j) (IsSameRole known known2)
+        hand_both (IsPairAt known) (HeldBy w j) (IsSameRole known known2) (IsTableAt known) (HeldBy w j) (IsSameRole known known2)
         (λ b is held. each b held (pair_of_map (known.roles b) is)) (λ b is held. each b held (table_of_map (known.roles b) is)) (machine_of u) noted holds
       where
         pair_of_map : (r : Role) → IsPairRole r → IsOfMap r

@@ -85,10 +85,10 @@ likes_show K V same name log m v known s all like = subst (λ (x : Moment K V). 
   tries = all.tries;
   counters = counters_stay K V name m other s s all.counters refl refl refl refl refl (λ of j x is removed adds. (x, is, adds));
   uncounted = all.uncounted;
-  dues = (dues_stay K V (Unit {0}) same (λ k. 0) name log).alike m other known s all.dues alike;
-  as_called = (as_called_stays K V (Unit {0}) same (λ k. 0) name).alike m other known s all.as_called alike;
+  dues = (dues_stay K V same (λ n k. 0) name log).alike m other known s all.dues alike;
+  as_called = (as_called_stays K V same (λ n k. 0) name).alike m other known s all.as_called alike;
   questions = all.questions;
-  purposes = (purposes_stay K V (Unit {0}) same (λ k. 0) name log).alike m other known s all.purposes alike;
+  purposes = (purposes_stay K V same (λ n k. 0) name log).alike m other known s all.purposes alike;
 })
   where
     other : Moment K V

@@ -59,7 +59,7 @@ use Rattle.papaya_scenes.specs.Scene.{IsOnSlot, Scene, at_first, slot_of}
 use Rattle.papaya_scenes.specs.Stepping.{StepLeads, scene_after}
 use Rattle.papaya_scenes.specs.Held.{IsAt}
 use Rattle.papaya_scenes.specs.Making.{MakingLeads}
-use Rattle.papaya_scenes.specs.OnSlots.{RowBegins}
+use Rattle.papaya_scenes.specs.OnSlots.{RowBegins, RowLeads}
 
 -- numbers are those of the same maps and tables
 pub numbers_as : {K V : Type 0} (count : ℕ) (m v : Moment K V) → v.maps ≡ m.maps → v.tables ≡ m.tables → NumbersUpTo count m → NumbersUpTo count v

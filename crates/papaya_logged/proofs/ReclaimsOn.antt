@@ -19,6 +19,8 @@ use Rattle.papaya_kept.specs.Kept.{ShowsKept}
 use Rattle.papaya_logged.specs.Reclaims.{ReclaimingIsShown, ReclaimingThen, ReclaimingGoesOn, ReclaimingSteps}
 use Rattle.papaya_logged.specs.Shown.{AreNumbered, IsShown}
 use Rattle.papaya_logged.specs.declared.logged.Logged.{Logged}
+use Rattle.papaya_remains.specs.Numbered.{NumbersUpTo}
+use Rattle.papaya_remains.specs.Slots.{SlotsNoted}
 use Rattle.papaya_logged.proofs.ReclaimNumbered.{reclaiming_keeps_count, reclaiming_notes_slots}
 use Rattle.papaya_logged.proofs.ReclaimRest.{reclaiming_found, reclaiming_keeps}
 use Rattle.papaya_logged.proofs.ReclaimSteps.{reclaiming_whole}

@@ -65,5 +65,5 @@ module _ {K V S : Type 0} (slot : ℕ) (called : SlotCall) (caller : ℕ) (old b
       follows = ran.1;
       shown = λ same2 hash2 name2 m2 s2 shown2 may2.
           (let began2 = begins same2 hash2 name2 m2 s2 shown2 may_there in
-          ran.3 same2 hash2 name2 m2 (record s2 { world = (began2.0 may_there).3.0; maps = (began2.0 may_there).3.2 }) began2.1);
+          ran.3 same2 hash2 name2 m2 (record s2 { world = (began2.0 may_there).3.2.0; maps = (began2.0 may_there).3.2.2 }) began2.1);
     }

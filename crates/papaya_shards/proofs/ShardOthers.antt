@@ -11,7 +11,6 @@ use Rattle.papaya_settles.specs.Given.Schedules.declared.effect.Effect.{Effect}
 use Rattle.papaya_settles.specs.Given.Schedules.Effects.{with_effects}
 use Rattle.papaya_settles.specs.Given.Schedules.Moment.{Moment}
 use Rattle.papaya_settles.specs.Given.Teller.declared.changed.Changed.{Changed}
-use Rattle.papaya_settles.specs.Given.Teller.declared.teller.Teller.{Teller}
 use Rattle.papaya_settles.proofs.Given.Callers.Together.At.{at_other, at_same}
 use Rattle.papaya_settles.specs.Given.Effects.Effects.{effects_of}
 use Rattle.papaya_settles.specs.Given.Effects.Known.{Known}
@@ -117,12 +116,11 @@ module _ {K V : Type 0} (same : K → K → Bool) (hash : ℕ → K → ℕ) (na
 module _ (K V : Type 0) (same : K → K → Bool) (hash : ℕ → K → ℕ) where
   pub rows_begin_counters : RowsBeginCounters K V same hash
   rows_begin_counters name m s old new at_old counters called i leads =
-      let to = leads in
-      let t : Scene K V = scene_then same hash (Begin i (request_of (slot_of i) called)) s old new to.3 in
-      words_kept same hash name m m s t new to.3.4 counters refl refl
+      let t : Scene K V = scene_then same hash (Begin i (request_of (slot_of i) called)) s old new leads.2 in
+      words_kept same hash name m m s t new leads.2.4 counters refl refl
       (λ c f x y was is. memory_kept s.world.memory t.world.memory
-      (to.3.4.memory ∙ ap (λ (n : Teller (Mem (Node K V))). n.memory) to.0 ∙ sym at_old.memory) c f x y was is)
-      (λ n st is. same_setting (s.maps n) (to.3.2 n) (to.3.3 n) st is) refl refl
+      (leads.2.4.memory ∙ leads.0 ∙ sym at_old.memory) c f x y was is)
+      (λ n st is. same_setting (s.maps n) (leads.2.2 n) (leads.2.3 n) st is) refl refl
 
   pub rows_keep_counters : RowsKeepCounters K V same hash
   rows_keep_counters name m known s old new at_old whole counters i told leads row here =

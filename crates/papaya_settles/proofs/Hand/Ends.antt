@@ -98,10 +98,10 @@ module _ {K V : Type 0} (same : K → K → Bool) (hash : ℕ → K → ℕ) (na
       by zero e = e
       by (suc n) e = absurd (not_taken b out of_map went.deed went.its went.fresh (omega (arith, e)))
 
-  abbrev Held : ℕ → Type 0
-  Held b = IsThere same hash name m known s old at shown b
+  abbrev Keeps : ℕ → Type 0
+  Keeps b = IsThere same hash name m known s old at shown b
 
-  some_then : (b : ℕ) → Held b → IsOfMap (known.roles b) → IsSome (value_at did.w2.memory b)
+  some_then : (b : ℕ) → Keeps b → IsOfMap (known.roles b) → IsSome (value_at did.w2.memory b)
   some_then b held of_map =
       let value = ap (λ (n : Mem (Node K V)). value_at n b) (did.memory ∙ sym went.memory) ∙ went.spares.values b (none_taken b held.1 of_map) in
       subst (λ (o : Option (Node K V)). IsSome o) (sym value) (role_there same hash name m known s old at shown b of_map)
@@ -129,13 +129,13 @@ module _ {K V : Type 0} (same : K → K → Bool) (hash : ℕ → K → ℕ) (na
   beside =
       end_beside same hash name m known s old new at whole i f here end said steps did map not_there comes led (world_is said comes) (calls_are said comes) (maps_are said comes)
 
-  still : (b : ℕ) → Held b → IsOfMap (known.roles b) → known2.roles b ≡ known.roles b
+  still : (b : ℕ) → Keeps b → IsOfMap (known.roles b) → known2.roles b ≡ known.roles b
   still b held of_map =
       beside.roles b (subst (λ (x : World (Node K V)). IsSome (value_at x.memory b)) (sym (world_is said comes)) (some_then b held of_map)) of_map
 
   same_in_hand : (n j : ℕ) (u : UnderWay K V K) → s.calls n j ≡ Some u → SameInHand known known2 (machine_of u)
   same_in_hand n j u is =
-      hand_both Held (IsPairAt known) (IsSameRole known known2) Held (IsTableAt known) (IsSameRole known known2) (λ b held noted. still b held (pair_of_map (known.roles b) noted))
+      hand_both Keeps (IsPairAt known) (IsSameRole known known2) Keeps (IsTableAt known) (IsSameRole known known2) (λ b held noted. still b held (pair_of_map (known.roles b) noted))
       (λ b held noted. still b held (table_of_map (known.roles b) noted)) (machine_of u) (all_there same hash name m known s old at shown n j u is (shows.noted n j u is)) (shows.noted n j u is)
 
   pub ending_leaves : ShowsOwed name (with_effects None (Some map) (effects_of (acts.Ending map) known new.changed) m) known2 led

@@ -153,10 +153,10 @@ module _ {K V : Type 0} (same : K → K → Bool) (hash : ℕ → K → ℕ) (na
   abbrev known2 : Known
   known2 = known_after acts.Row new.changed known
 
-  abbrev Held : ℕ → Type 0
-  Held b = IsThere same hash name m known s old at shown b
+  abbrev Keeps : ℕ → Type 0
+  Keeps b = IsThere same hash name m known s old at shown b
 
-  still : (b : ℕ) → Held b → IsOfMap (known.roles b) → known2.roles b ≡ known.roles b
+  still : (b : ℕ) → Keeps b → IsOfMap (known.roles b) → known2.roles b ≡ known.roles b
   still b kept of_map =
       let value = value_kept deferred_word old.batch_size s.world (reached same hash name m known s old at shown) i happened.0 happened.1 b kept in
       (row_beside same hash m known s old new at i row here end steps happened).roles b
@@ -164,7 +164,7 @@ module _ {K V : Type 0} (same : K → K → Bool) (hash : ℕ → K → ℕ) (na
 
   same_in_hand : (map j : ℕ) (u : UnderWay K V K) → s.calls map j ≡ Some u → SameInHand known known2 (machine_of u)
   same_in_hand map j u is =
-      hand_both Held (IsPairAt known) (IsSameRole known known2) Held (IsTableAt known) (IsSameRole known known2) (λ b kept noted. still b kept (pair_of_map (known.roles b) noted))
+      hand_both Keeps (IsPairAt known) (IsSameRole known known2) Keeps (IsTableAt known) (IsSameRole known known2) (λ b kept noted. still b kept (pair_of_map (known.roles b) noted))
       (λ b kept noted. still b kept (table_of_map (known.roles b) noted)) (machine_of u) (all_there same hash name m known s old at shown map j u is (shows.noted map j u is)) (shows.noted map j u is)
 
   pub row_leaves : ShowsOwed name (with_effects None None (effects_of acts.Row known new.changed) m) known2 (scene_then same hash (Step i) s old new happened)
