@@ -21,7 +21,7 @@ use Rattle.papaya_executor.specs.OnSlots.{RowStepsThere, row_on}
 use Rattle.papaya_executor.proofs.Places.{own_call}
 
 -- what a caller has under way after the step tells of its row in the world
-then_row : {K V : Type 0} (after : SlotRow) (said : RowTold (Node K V)) (row : Row) → HasRow {K = K} (row_on after said) row → row ≡ row_then after said
+pub then_row : {K V : Type 0} (after : SlotRow) (said : RowTold (Node K V)) (row : Row) → HasRow {K = K} (row_on after said) row → row ≡ row_then after said
 then_row after told.Goes row has = has
 then_row after told.Waits row has = has
 then_row after (told.Gave value) row has = has
