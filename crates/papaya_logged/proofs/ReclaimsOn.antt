@@ -1,5 +1,5 @@
 -- That all is reclaimed begins where the executor is shown, and each step of it is written down.
-use Rattle.std.specs.Prelude.{◌≡◌, ℕ, Bool, List, ◌++◌, None}
+use Rattle.std.specs.Prelude.{◌≡◌, ℕ, Bool, List, length, ◌++◌, None}
 use Rattle.std.proofs.Common.{sym, subst}
 use Rattle.seize.specs.declared.rows.reclaim_all.ReclaimAll.{ReclaimAll}
 use Rattle.seize.specs.declared.rows.settle.Settled.{Settled}
