@@ -134,7 +134,7 @@ module _ {K V : Type 0} (same : K → K → Bool) (hash : ℕ → K → ℕ) (na
 
   module _ (p : Copier) (knows : KnowsTables same st.hash s.world i setting c blocks p) (end : Copier × Outcome (Node K V) Table) where
     abbrev SteppedAt : Copying → Type 0
-    SteppedAt stands = StepsTold K V (Copier × Outcome (Node K V) Table) old.memory changed.Nothing (copiers.plan_at to.0.hash p stands) new.memory told end
+    SteppedAt stands = StepsTold K V (Copier × Outcome (Node K V) Table) old.memory changed.Nothing (copiers.plan_at st.hash p stands) new.memory told end
 
     -- what it had in hand at this point goes so
     abbrev pub GoesFrom : Copying → Copier × Outcome (Node K V) Table → Type 0
@@ -258,7 +258,7 @@ module _ {K V : Type 0} (same : K → K → Bool) (hash : ℕ → K → ℕ) (na
       succeeds_goes : SteppedAt (copying.Succeeds table) → GoesFrom (copying.Succeeds table) end
       succeeds_goes steps =
           let l = loaded old.memory (successor_read p table) (Word (table / 2048) NEXT) new.memory end
-          (as_step old.memory changed.Nothing (copiers.plan_at to.0.hash p (copying.Succeeds table)) new.memory told end steps) in
+          (as_step old.memory changed.Nothing (copiers.plan_at st.hash p (copying.Succeeds table)) new.memory told end steps) in
           let here : word_at s.world.memory (Word (table / 2048) NEXT) ≡ Some l.0 = ap (λ (n : Mem (Node K V)). word_at n (Word (table / 2048) NEXT)) at_old.memory ∙ l.1 in
           succeeds_as l.0 (next_read same st.hash i setting s.world c blocks is_map p knows.0 s0 t0 cut.2 cut.4 cut.5 table cut.3 l.0 here) l.3
 
@@ -267,8 +267,8 @@ module _ {K V : Type 0} (same : K → K → Bool) (hash : ℕ → K → ℕ) (na
     plain_goes stands is none other all steps =
         let before = copier_none known p stands none in
         let ended : has_unlinked end.0.stands ≡ false =
-        unlinks_none to.0.hash p old.memory new.memory end
-        (as_step old.memory changed.Nothing (copier_plan to.0.hash p) new.memory told end (subst SteppedAt (sym is) steps)) (ap has_unlinked is ∙ none) (ap is_promoting is ∙ other) in
+        unlinks_none st.hash p old.memory new.memory end
+        (as_step old.memory changed.Nothing (copier_plan st.hash p) new.memory told end (subst SteppedAt (sym is) steps)) (ap has_unlinked is ∙ none) (ap is_promoting is ∙ other) in
         let after = copier_none known end.0 end.0.stands ended in
         (KeepsOwed all (after.0 ∙ sym before.0), after.1, inl ended)
 
@@ -288,5 +288,5 @@ module _ {K V : Type 0} (same : K → K → Bool) (hash : ℕ → K → ℕ) (na
     CopierGoes = GoesFrom p.stands end
 
     pub copier_goes : (IsRowOfCopier p.stands → ⊥) → NotesTables known p p.stands → Leaves p.stands
-        → StepsTold K V (Copier × Outcome (Node K V) Table) old.memory changed.Nothing (copier_plan to.0.hash p) new.memory told end → CopierGoes
+        → StepsTold K V (Copier × Outcome (Node K V) Table) old.memory changed.Nothing (copier_plan st.hash p) new.memory told end → CopierGoes
     copier_goes row notes leaves steps = goes_at p.stands refl row knows.1 notes leaves steps
