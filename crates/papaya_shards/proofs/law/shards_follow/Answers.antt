@@ -9,19 +9,19 @@ use Rattle.papaya_shards.proofs.law.shards_follow.Goals as goal
 pub returns : goal.returns
 returns c d = record {
   begins = counters_begin _ _;
-  calls = calls_keep_counters _ _ _;
-  nothing = rooms_count_nothing _ _ _;
+  calls = calls_keep_counters _ _;
+  nothing = rooms_count_nothing _ _;
   begun = calls_begin_counters _ _;
   told = calls_take_counters _ _;
   come_to = calls_come_to_counters _ _;
-  rows_begin = rows_begin_counters _ _ _;
-  rows = rows_keep_counters _ _ _;
+  rows_begin = rows_begin_counters _ _;
+  rows = rows_keep_counters _ _;
   makings_begin = makings_begin_counters _ _;
-  makings = makings_keep_counters _ _ _;
+  makings = makings_keep_counters _ _;
   endings_begin = endings_begin_counters _ _;
-  endings = endings_keep_counters _ _ _;
+  endings = endings_keep_counters _ _;
   stays = counters_stay _ _;
-  numbers_begin = numbers_begin _ _ _;
-  numbers = calls_keep_numbers _ _ _;
-  numbers_stay = numbers_stay _ _ _;
+  numbers_begin = numbers_begin _ _;
+  numbers = calls_keep_numbers _ _;
+  numbers_stay = numbers_stay _ _;
 }
