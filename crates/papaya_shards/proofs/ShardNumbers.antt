@@ -13,7 +13,7 @@ use Rattle.papaya_settles.specs.Given.Finishes.Maps.{Standing}
 use Rattle.papaya_settles.specs.Given.Moments.Numbers.{MapsAreBelow}
 use Rattle.papaya_settles.specs.Given.Moments.Whole.{ShowsWhole}
 use Rattle.papaya_settles.specs.Counts.{ShowsCounts}
-use Rattle.papaya_shards.specs.ShardSteps.{CallsKeepNumbers, NumbersBegin, NumbersStay}
+use Rattle.papaya_shards.specs.ShardSteps.{CallsKeepNumbers, NumbersStay}
 use Rattle.papaya_shards.specs.ShardWords.{NumbersUncounted, ShowsCounters}
 use Rattle.papaya_shards.proofs.KeyAdds.{key_adds}
 use Rattle.papaya_shards.proofs.RestAdds.{room_adds, sum_adds, sweep_adds}
@@ -56,9 +56,6 @@ pub calls_keep_numbers : (K V : Type 0) (same : K → K → Bool) (hash : ℕ �
 calls_keep_numbers K V same hash name m known s old new at_old whole counts counters count below numbers map i u here said leads =
     numbers_then same hash name m known s old new at_old count below numbers map i (leads map u here).0 (leads map u here).2
     (calls_spare_others same hash name m known s old new at_old whole counts counters map i u here said leads)
-
-pub numbers_begin : (K V : Type 0) → NumbersBegin K V
-numbers_begin K V count of past shard = refl
 
 pub numbers_stay : (K V : Type 0) → NumbersStay K V
 numbers_stay K V m v count more numbers same as_many of past shard = ap (λ (f : ℕ → ℕ → ℕ). f of shard) same ∙ numbers of (omega (arith, as_many, past)) shard

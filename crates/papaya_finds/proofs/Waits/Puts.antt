@@ -160,7 +160,7 @@ module _ {K V : Type 0} (same : K → K → Bool) (hash : ℕ → K → ℕ) (na
       ])
   key_rested (p2, end, machine_is, told_is, inr row) own = absurd own
 
-  key_alike : (y : KeyCall K V K) → KeyWaits same same to.0.hash x.call old.memory new.memory new.changed y → (word : ℕ) (place : At) → due_in_calling x.call.stands ≡ Some (ToPut word place)
+  key_alike : (y : KeyCall K V K) → KeyWaits same same key_to.0.hash x.call old.memory new.memory new.changed y → (word : ℕ) (place : At) → due_in_calling x.call.stands ≡ Some (ToPut word place)
       → due_in_calling y.stands ≡ Some (ToPut word place) → waits_in_calling y y.stands ≡ waits_in_calling x.call x.call.stands
   key_alike y (HandNone none) word place before now = absurd (let some = (call_put word place y y.stands refl now).0 in cc (none, some))
   key_alike y (HandAlike no_copy pair alike) word place before now = alike
@@ -169,10 +169,10 @@ module _ {K V : Type 0} (same : K → K → Bool) (hash : ℕ → K → ℕ) (na
 
   key_waits : (word : ℕ) (place : At) → due_in_row (machine_of (OnKey x)) ≡ Some (ToPut word place) → due_in_row key_to.1 ≡ Some (ToPut word place) → waits_in key_to.1 ≡ waits_in (machine_of (OnKey x))
   key_waits word place before now =
-      let it = told_in old.memory new.memory new.changed of_key (call_plan same same to.0.hash x.call) (key_to.1, said) key_to.3 in
+      let it = told_in old.memory new.memory new.changed of_key (call_plan same same key_to.0.hash x.call) (key_to.1, said) key_to.3 in
       let machine : ◌≡◌ {A = Machine K V K} key_to.1 (kinds.Key it.0.0) = ap (λ (z : Machine K V K × Progress (Node K V)). z.0) it.1 in
       ap (λ (z : Machine K V K). waits_in z) machine
-      ∙ key_alike it.0.0 (step_hands same same to.0.hash x.call old.memory new.memory new.changed it.0 it.2) word place before (ap (λ (z : Machine K V K). due_in_row z) (sym machine) ∙ now)
+      ∙ key_alike it.0.0 (step_hands same same key_to.0.hash x.call old.memory new.memory new.changed it.0 it.2) word place before (ap (λ (z : Machine K V K). due_in_row z) (sym machine) ∙ now)
 
   pub key_puts : ShowsPuts (known_after (acts.Call i map) new.changed known) (scene_after same s old new map i key_to.0 (OnKey x) key_to.1 said key_to.4)
   key_puts =
@@ -203,7 +203,7 @@ module _ {K V : Type 0} (same : K → K → Bool) (hash : ℕ → K → ℕ) (na
       ])
   sweep_rested (p2, end, machine_is, told_is, inr row) own = absurd own
 
-  sweep_alike : (y : Sweep) → SweepWaits to.0.hash x.sweep old.memory new.memory new.changed y → (word : ℕ) (place : At) → due_in_sweeping x.sweep.stands ≡ Some (ToPut word place)
+  sweep_alike : (y : Sweep) → SweepWaits sweep_to.0.hash x.sweep old.memory new.memory new.changed y → (word : ℕ) (place : At) → due_in_sweeping x.sweep.stands ≡ Some (ToPut word place)
       → due_in_sweeping y.stands ≡ Some (ToPut word place) → waits_in_sweeping y y.stands ≡ waits_in_sweeping x.sweep x.sweep.stands
   sweep_alike y (SweptNone none) word place before now = absurd (let some = (sweep_put word place y y.stands refl now).0 in cc (none, some))
   sweep_alike y (SweptAlike no_copy pair alike) word place before now = alike
@@ -213,10 +213,10 @@ module _ {K V : Type 0} (same : K → K → Bool) (hash : ℕ → K → ℕ) (na
   sweep_waits : (word : ℕ) (place : At) → due_in_row {K = K} {V = V} {Q = K} (machine_of (OverAll x)) ≡ Some (ToPut word place) → due_in_row sweep_to.1 ≡ Some (ToPut word place)
       → waits_in sweep_to.1 ≡ waits_in {K = K} {V = V} {Q = K} (machine_of (OverAll x))
   sweep_waits word place before now =
-      let it = told_in old.memory new.memory new.changed of_sweep (sweep_plan to.0.hash x.sweep) (sweep_to.1, said) sweep_to.3 in
+      let it = told_in old.memory new.memory new.changed of_sweep (sweep_plan sweep_to.0.hash x.sweep) (sweep_to.1, said) sweep_to.3 in
       let machine : ◌≡◌ {A = Machine K V K} sweep_to.1 (kinds.Sweep it.0.0) = ap (λ (z : Machine K V K × Progress (Node K V)). z.0) it.1 in
       ap (λ (z : Machine K V K). waits_in z) machine
-      ∙ sweep_alike it.0.0 (sweep_step to.0.hash x.sweep old.memory new.memory new.changed it.0 it.2) word place before (ap (λ (z : Machine K V K). due_in_row z) (sym machine) ∙ now)
+      ∙ sweep_alike it.0.0 (sweep_step sweep_to.0.hash x.sweep old.memory new.memory new.changed it.0 it.2) word place before (ap (λ (z : Machine K V K). due_in_row z) (sym machine) ∙ now)
 
   pub sweep_puts : ShowsPuts (known_after (acts.Call i map) new.changed known) (scene_after same s old new map i sweep_to.0 (OverAll x) sweep_to.1 said sweep_to.4)
   sweep_puts =
@@ -228,10 +228,10 @@ module _ {K V : Type 0} (same : K → K → Bool) (hash : ℕ → K → ℕ) (na
       ])
 
 -- a reservation, and one that counts, has nothing to put
-module _ {K V : Type 0} (same : K → K → Bool) (hash : ℕ → K → ℕ) (old new : Held K V) (machine : Machine K V K) (said : Progress (Node K V)) (word : ℕ) (place : At) where
+module _ {K V : Type 0} (same : K → K → Bool) (hash : K → ℕ) (old new : Held K V) (machine : Machine K V K) (said : Progress (Node K V)) (word : ℕ) (place : At) where
   room_has_none : (r : CallForRoom) → StepsFrom same hash (machine_of (ForRoom r)) old new machine said → due_in_row machine ≡ Some (ToPut word place) → ⊥
   room_has_none r steps due =
-      (let it = told_in old.memory new.memory new.changed of_room (reserve_plan to.0.hash r.reserve) (machine, said) steps in
+      (let it = told_in old.memory new.memory new.changed of_room (reserve_plan hash r.reserve) (machine, said) steps in
       room_never word place it.0.0.stands (sym (ap (λ (q : Machine K V K × Progress (Node K V)). due_in_row q.0) it.1) ∙ due))
 
   sum_has_none : (sum : Sum) → StepsFrom same hash (machine_of (Counting sum)) old new machine said → due_in_row machine ≡ Some (ToPut word place) → ⊥
@@ -247,11 +247,11 @@ calls_keep_puts K V same hash name m known s old new at_old whole entries owning
 calls_keep_puts K V same hash name m known s old new at_old whole entries owning puts map i (ForRoom r) here said leads =
     puts_then same hash name m known s old new at_old whole entries owning puts map i (ForRoom r) here said leads
     (none_puts same hash name m known s old new at_old whole entries owning puts map i (ForRoom r) here said leads
-    (λ word place due. room_has_none same hash old new (leads map (ForRoom r) here).1 said word place r (leads map (ForRoom r) here).3 due))
+    (λ word place due. room_has_none same (leads map (ForRoom r) here).0.hash old new (leads map (ForRoom r) here).1 said word place r (leads map (ForRoom r) here).3 due))
 calls_keep_puts K V same hash name m known s old new at_old whole entries owning puts map i (Counting sum) here said leads =
     puts_then same hash name m known s old new at_old whole entries owning puts map i (Counting sum) here said leads
     (none_puts same hash name m known s old new at_old whole entries owning puts map i (Counting sum) here said leads
-    (λ word place due. sum_has_none same hash old new (leads map (Counting sum) here).1 said word place sum (leads map (Counting sum) here).3 due))
+    (λ word place due. sum_has_none same (leads map (Counting sum) here).0.hash old new (leads map (Counting sum) here).1 said word place sum (leads map (Counting sum) here).3 due))
 
 pub puts_begin : (K V : Type 0) → PutsBegin K V
 puts_begin K V roots map i u is = absurd (cc is)
