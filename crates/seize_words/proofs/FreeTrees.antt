@@ -8,9 +8,9 @@ use Rattle.std.proofs.Math.ListN.{get_or-eq_default}
 use Rattle.std.proofs.lemmas.Bool.{cases_eq, cases_lt, ne_eqb, true≢false}
 use Rattle.std.proofs.lemmas.Grind.{get_or-set_at}
 use Rattle.std.proofs.lemmas.List.{get_or-set_other, length-set}
-use Rattle.std.proofs.lemmas.Nat.Bits.{bit_at-lt, bit_at-trailing_zeros}
+use Rattle.std.proofs.lemmas.Nat.Bits.{bit_at-trailing_zeros}
 use Rattle.seize_words.specs.FreeNumbers.{AreFlags, IsBehind, IsTree, IsTurned, flag_at, flag_of, places, row_below, set_among}
-use Rattle.seize_words.proofs.FreeWords.{flag_at-kept, flag_at-node, flag_at-none, flag_at-same, flag_at-turned, ones-more, ones-none, set_among-none, set_among-word, turned}
+use Rattle.seize_words.proofs.FreeWords.{flag_at-kept, flag_at-node, flag_at-none, flag_at-same, flag_at-turned, ones-more, set_among-none, set_among-word, turned}
 
 -- ---- a word is written, and its flag is mended
 
@@ -18,13 +18,7 @@ flag_of-small : (word : ℕ) → flag_of word ≤ 1
 flag_of-small zero = omega arith
 flag_of-small (suc word) = omega arith
 
--- whether two words have a flag set, as the code asks it
-pub flag_of-apart : (a b : ℕ) → (nat_eq a 0 ≡ nat_eq b 0 → ⊥) → flag_of a ≢ flag_of b
-flag_of-apart zero zero apart same = apart refl
-flag_of-apart zero (suc b) apart same = absurd (omega (arith, same))
-flag_of-apart (suc a) zero apart same = absurd (omega (arith, same))
-flag_of-apart (suc a) (suc b) apart same = apart (ne_eqb (suc a) 0 (λ e. absurd (omega (arith, e))) ∙ sym (ne_eqb (suc b) 0 (λ e. absurd (omega (arith, e)))))
-
+-- words that the code finds unlike
 pub flag_of-unlike : (a b : ℕ) → beq (nat_eq a 0) (nat_eq b 0) ≡ false → flag_of a ≢ flag_of b
 flag_of-unlike zero zero unlike same = absurd (true≢false unlike)
 flag_of-unlike zero (suc b) unlike same = absurd (omega (arith, same))
@@ -66,13 +60,6 @@ module _ (first : ℕ) (old nodes : List ℕ) (node was : ℕ) (m : IsMended fir
   flag-node : (k : ℕ) → k < 64 * first → k + 1 ≡ node → flag_at nodes k ≡ flag_of was
   flag-node k less is = m.flags k less ∙ ap flag_of (get_or-set_at nodes node (k + 1) was 0 is m.within)
 
-  pub mended-ends : (0 < node → flag_of was ≡ flag_of (get_or nodes node 0)) → AreFlags first nodes nodes
-  mended-ends same k less = at (cases_eq (k + 1) node)
-    where
-      at : (k + 1 ≡ node) ⊎ (k + 1 ≢ node) → flag_at nodes k ≡ flag_of (get_or nodes (k + 1) 0)
-      at (inl e) = flag-node k less e ∙ same (omega (arith, e)) ∙ ap (λ j. flag_of (get_or nodes j 0)) (sym e)
-      at (inr other) = flag-other k less other
-
   module _ (up bit : ℕ) (high : length old ≤ 64 * first + 1) (some : 0 < node) (is_up : up ≡ (node - 1) / 64) (is_bit : bit ≡ (node - 1) % 64)
       (differ : flag_of was ≢ flag_of (get_or nodes node 0)) where
     abbrev next : List ℕ
@@ -111,34 +98,16 @@ module _ (first : ℕ) (old nodes : List ℕ) (node was : ℕ) (m : IsMended fir
             flag_at-kept nodes up bit within_up small k (λ e. other (omega (arith, e, place))) ∙ flag-other k less other
 
 -- a flag of the lowest row is turned over
-module _ (first : ℕ) (nodes : List ℕ) (node bit : ℕ) (tree : IsTree first nodes) (low : first ≤ node) (within : node < length nodes) (small : bit < 64) where
+module _ (first : ℕ) (nodes : List ℕ) (node bit : ℕ) (low : first ≤ node) (within : node < length nodes) (small : bit < 64) where
   abbrev after : List ℕ
   after = set nodes node (turned (get_or nodes node 0) bit)
 
-  pub turned-flags : AreFlags first after (set after node (get_or nodes node 0))
-  turned-flags k less =
-      flag_at-kept nodes node bit within small k (λ e. absurd (omega (arith, e, less, low))) ∙ tree.flags k less
-      ∙ ap flag_of (sym (set_twice nodes node (turned (get_or nodes node 0) bit) within (k + 1)))
-
-  module _ (new : List ℕ) (flags : AreFlags first new new) (long : length new ≡ length after)
-      (lowest : (k : ℕ) → first ≤ k → get_or new k 0 ≡ get_or after k 0) where
-    long_as : length new ≡ length nodes
-    long_as = long ∙ length-set nodes node (turned (get_or nodes node 0) bit)
-
-    pub turned-tree : IsTree first new
-    turned-tree = record {
-      whole = tree.whole;
-      some = omega (arith, tree.some, long_as);
-      within = omega (arith, tree.within, long_as);
-      flags = flags;
-    }
-
-    pub turned-over : IsTurned first (64 * node + bit) nodes new
-    turned-over = record {
-      there = flag_at-same after new (64 * node + bit) (lowest ((64 * node + bit) / 64) (omega (arith, low)))
-          ∙ flag_at-turned nodes node bit within small (64 * node + bit) refl;
-      others = λ k past other. flag_at-same after new k (lowest (k / 64) (omega (arith, past))) ∙ flag_at-kept nodes node bit within small k other;
-    }
+  pub turned-over : (new : List ℕ) → ((k : ℕ) → first ≤ k → get_or new k 0 ≡ get_or after k 0) → IsTurned first (64 * node + bit) nodes new
+  turned-over new lowest = record {
+    there = flag_at-same after new (64 * node + bit) (lowest ((64 * node + bit) / 64) (omega (arith, low)))
+        ∙ flag_at-turned nodes node bit within small (64 * node + bit) refl;
+    others = λ k past other. flag_at-same after new k (lowest (k / 64) (omega (arith, past))) ∙ flag_at-kept nodes node bit within small k other;
+  }
 
 -- ---- the way down to the first word with a flag
 
@@ -340,9 +309,6 @@ pub record IsSought (word before bit left : ℕ) : Type 0 where
   pub rank : count_ones (word % 2 ^ bit) + left ≡ before
 
 module _ (word before : ℕ) (fits : word < 2 ^ 64) (few : before < count_ones word) where
-  pub sought-begins : IsSought word before 0 before
-  sought-begins = record { small = omega arith; rank = omega (arith, ones-none word) }
-
   pub sought-more : (bit left : ℕ) → IsSought word before bit left → bit_at word bit ≤ left → IsSought word before (bit + 1) (left - bit_at word bit)
   sought-more bit left s many =
       let e : bit + 1 ≡ suc bit = omega arith in
@@ -357,6 +323,3 @@ module _ (word before : ℕ) (fits : word < 2 ^ 64) (few : before < count_ones w
           let w : word % 2 ^ 64 ≡ word = omega (arith, fits) in
           let o : count_ones (word % 2 ^ (bit + 1)) ≡ count_ones word = ap (λ n. count_ones (word % 2 ^ n)) e ∙ ap count_ones w in
           omega (arith, rank, o, few))
-
-  pub sought-ends : (bit left : ℕ) → IsSought word before bit left → left < bit_at word bit → (bit_at word bit ≡ 1) × (count_ones (word % 2 ^ bit) ≡ before)
-  sought-ends bit left s few_left = (omega (arith, few_left, bit_at-lt word bit), omega (arith, s.rank, few_left, bit_at-lt word bit))
