@@ -24,7 +24,10 @@ pub struct Crew<K, V, R: Runner<K, V>, N: CrewName> {
     locked: Mutex<Locked<K, V, R, N>>,
 }
 
-impl<K: Drop, V: Drop, R: Runner<K, V>, N: CrewName> Crew<K, V, R, N> {
+impl<K: Drop, V: Drop, R: Runner<K, V>, N: CrewName> Crew<K, V, R, N>
+where
+    R::Hasher: Drop,
+{
     /// A crew that keeps no event yet, and its drivers, numbered from 0 on. The hasher gives each key its hash. The choices say which free block numbers are used again, before
     /// those that events add. The one fault is Memory.
     pub fn new(

@@ -145,7 +145,10 @@ impl<K: Drop, V: Clone, R: Runner<K, V>, N: CrewName> Locked<K, V, R, N> {
     }
 }
 
-impl<K, V, R: Runner<K, V>, N: CrewName> Locked<K, V, R, N> {
+impl<K, V, R: Runner<K, V>, N: CrewName> Locked<K, V, R, N>
+where
+    R::Hasher: Drop,
+{
     /// No event is kept yet.
     pub(crate) fn new(
         alloc: Global,

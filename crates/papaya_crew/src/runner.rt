@@ -17,7 +17,7 @@ pub trait Runner<K, V> {
     ghost use Rattle.seize_words.specs.declared.fault.Fault.TheVariants.{Memory};
 
     /// What gives each key its hash.
-    type Hasher: Drop;
+    type Hasher;
 
     /// With this setup it has come to this by these events.
     ghost has_come: { Setup → List (Event K V) → Self → Type 0 };

@@ -86,6 +86,8 @@ fn by_two<R: Runner<u64, u64> + Drop + Send, N: CrewName + Send + Sync, W: Threa
     hasher: R::Hasher,
     blank: Blank,
 ) -> Result<Option<Finished<u64, u64>>, Fault>
+where
+    R::Hasher: Drop,
     requires setup { setup ≡ N.setup }
     requires name { blank.name ≡ N.name }
     requires parts { blank.parts ≡ N.parts }
@@ -143,6 +145,8 @@ fn by_one<R: Runner<u64, u64> + Drop, N: CrewName, W: Wait>(
     blank: Blank,
     wrong: Wrong,
 ) -> Result<bool, Fault>
+where
+    R::Hasher: Drop,
     requires setup { setup ≡ N.setup }
     requires name { blank.name ≡ N.name }
     requires parts { blank.parts ≡ N.parts }
