@@ -30,8 +30,8 @@ use Rattle.papaya_logged.specs.Shown.{IsShown}
 use Rattle.papaya_logged.specs.declared.logged.Logged.{Logged}
 use Rattle.papaya_logged.proofs.BroughtBack.{IsBack, more_back, none_back, nothing_back, row_quiet, taken_back}
 use Rattle.papaya_logged.proofs.ReclaimGives.{GivesOr, reclaiming_gives, taken_gone}
-use Rattle.papaya_logged.proofs.ReclaimRows.{EmptiesRoot, reclaiming_tells}
-use Rattle.papaya_logged.proofs.ReclaimSteps.{left}
+use Rattle.papaya_logged.proofs.Reclaiming.Rows.{EmptiesRoot, reclaiming_tells}
+use Rattle.papaya_logged.proofs.Reclaiming.Steps.{left}
 use Rattle.papaya_scenes.specs.Scene.{Scene}
 use Rattle.papaya_executor.specs.IsThere.{held_by}
 use Rattle.papaya_scenes.specs.Reclaiming.{ReclaimingLeads}

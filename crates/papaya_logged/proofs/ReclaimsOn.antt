@@ -21,9 +21,9 @@ use Rattle.papaya_logged.specs.Shown.{AreNumbered, IsShown}
 use Rattle.papaya_logged.specs.declared.logged.Logged.{Logged}
 use Rattle.papaya_remains.specs.Numbered.{NumbersUpTo}
 use Rattle.papaya_remains.specs.Slots.{SlotsNoted}
-use Rattle.papaya_logged.proofs.ReclaimNumbered.{reclaiming_keeps_count, reclaiming_notes_slots}
-use Rattle.papaya_logged.proofs.ReclaimRest.{reclaiming_found, reclaiming_keeps}
-use Rattle.papaya_logged.proofs.ReclaimSteps.{reclaiming_whole}
+use Rattle.papaya_logged.proofs.Reclaiming.Numbered.{reclaiming_keeps_count, reclaiming_notes_slots}
+use Rattle.papaya_logged.proofs.Reclaiming.Rest.{reclaiming_found, reclaiming_keeps}
+use Rattle.papaya_logged.proofs.Reclaiming.Steps.{reclaiming_whole}
 use Rattle.papaya_executor.specs.IsThere.{IsThere, KeepsGiven, held_by}
 use Rattle.papaya_scenes.specs.Scene.{Scene}
 use Rattle.papaya_logged.proofs.Held.{reclaim_held}

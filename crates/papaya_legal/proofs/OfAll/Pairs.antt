@@ -39,7 +39,7 @@ use Rattle.papaya_grows.specs.Given.Lives.Behind.{EachWaits, IsLeft, LiesBehind}
 use Rattle.papaya_grows.specs.Given.Lives.Waiting.{waits_behind}
 use Rattle.papaya_grows.proofs.Given.Lives.Each.{found}
 use Rattle.papaya_grows.proofs.Given.Lives.Worlds.{Kept, runs_kept, start_kept, unretired}
-use Rattle.papaya_logged.proofs.ReclaimSteps.{left as leaves_there}
+use Rattle.papaya_logged.proofs.Reclaiming.Steps.{left as leaves_there}
 use Rattle.papaya_grows.specs.Given.Kept.Kept.{ShowsKept}
 use Rattle.papaya_models.specs.Numbers.{things_of}
 use Rattle.papaya_grows.specs.Given.Finds.Waiting.{FindsPlaced, PairsArePlaced, is_behind_one, is_let_go, is_out, once_if, owed_by, put_in}

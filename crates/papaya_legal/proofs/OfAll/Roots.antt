@@ -39,9 +39,9 @@ use Rattle.papaya_logged.specs.Given.Reclaims.Slots.{AreItsRows, IsForSlots}
 use Rattle.papaya_grows.specs.Given.Scenes.Reclaiming.{IsReclaiming, ReclaimingLeads}
 use Rattle.papaya_grows.proofs.Given.Scenes.May.{may_reclaim}
 use Rattle.papaya_grows.specs.Given.Lives.Behind.{IsLeft}
-use Rattle.papaya_logged.proofs.ReclaimFinds.{left_before, root_value, step_handed}
+use Rattle.papaya_logged.proofs.Reclaiming.Finds.{left_before, root_value, step_handed}
 use Rattle.papaya_logged.proofs.ReclaimGives.{taken_gone}
-use Rattle.papaya_logged.proofs.ReclaimRows.{begun_kept}
+use Rattle.papaya_logged.proofs.Reclaiming.Rows.{begun_kept}
 use Rattle.papaya_legal.specs.AllEvents.{SlotsLeaveRoots}
 use Rattle.papaya_grows.proofs.Given.Scenes.Told.{as_step}
 use Rattle.papaya_grows.specs.Given.Scenes.Held.{Held}

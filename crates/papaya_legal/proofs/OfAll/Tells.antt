@@ -45,8 +45,8 @@ use Rattle.papaya_grows.specs.Given.Owes.Tables.{HoldsTable}
 use Rattle.papaya_logged.specs.Given.Reclaims.Reclaims.{HasTaken, ReclaimingTold}
 use Rattle.papaya_grows.specs.Given.Scenes.Reclaiming.{IsReclaiming, ReclaimingLeads}
 use Rattle.papaya_logged.proofs.ReclaimGives.{GivesOr, reclaiming_gives, taken_gone}
-use Rattle.papaya_logged.proofs.ReclaimRows.{EmptiesRoot, reclaiming_tells}
-use Rattle.papaya_logged.proofs.ReclaimSteps.{left, no_call, nothing_there, root_none}
+use Rattle.papaya_logged.proofs.Reclaiming.Rows.{EmptiesRoot, reclaiming_tells}
+use Rattle.papaya_logged.proofs.Reclaiming.Steps.{left, no_call, nothing_there, root_none}
 use Rattle.papaya_grows.specs.Given.Kept.Kept.{ShowsKept}
 use Rattle.papaya_models.specs.Numbers.{things_of}
 use Rattle.papaya_models.proofs.RowSteps.{roles_after}

@@ -39,7 +39,7 @@ use Rattle.papaya_logged.specs.Given.SeizeReclaims.Roots.{all_lists}
 use Rattle.papaya_logged.specs.Given.Reclaims.Slots.{IsQuiet}
 use Rattle.papaya_logged.proofs.Given.Reclaims.Slots.Facts.{nothing_left}
 use Rattle.papaya_grows.specs.Given.Scenes.Reclaiming.{IsReclaiming, ReclaimingLeads}
-use Rattle.papaya_logged.proofs.ReclaimSteps.{left as leaves_there}
+use Rattle.papaya_logged.proofs.Reclaiming.Steps.{left as leaves_there}
 use Rattle.papaya_grows.specs.Given.Kept.Kept.{ShowsKept}
 use Rattle.papaya_models.specs.Numbers.{things_of}
 use Rattle.papaya_models.proofs.OnSlots.{noted_still as still_noted}

@@ -44,7 +44,7 @@ use Rattle.papaya_kept.specs.Given.Moments.OnSlots.{HadRetired}
 use Rattle.papaya_kept.specs.Given.Moments.Whole.{ShowsWhole}
 use Rattle.papaya_kept.proofs.Given.Moments.Beside.{IsBeside, hands_beside}
 use Rattle.papaya_kept.proofs.Given.Moments.OnSlots.{stood_same, with_outside, was_retired, row_alone, row_keeps}
-use Rattle.papaya_logged.proofs.ReclaimRows.{KeptThere, rows_kept, left_kept, root_kept, EmptiesRoot, reclaiming_tells}
+use Rattle.papaya_logged.proofs.Reclaiming.Rows.{KeptThere, rows_kept, left_kept, root_kept, EmptiesRoot, reclaiming_tells}
 use Rattle.papaya_scenes.specs.Held.{Held}
 use Rattle.papaya_scenes.specs.Scene.{Scene}
 

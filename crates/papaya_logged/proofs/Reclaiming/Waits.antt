@@ -52,8 +52,8 @@ use Rattle.papaya_kept.proofs.Given.Lives.Logs.{waits_on}
 use Rattle.papaya_kept.proofs.Given.Lives.RetiredEnds.{handed_lives}
 use Rattle.papaya_kept.proofs.Given.Lives.Taken.{there_still}
 use Rattle.papaya_kept.proofs.Given.Lives.Worlds.{Kept, log_back, runs_kept, start_kept, has_it}
-use Rattle.papaya_logged.proofs.ReclaimRows.{rows_kept}
-use Rattle.papaya_logged.proofs.ReclaimSteps.{reached}
+use Rattle.papaya_logged.proofs.Reclaiming.Rows.{rows_kept}
+use Rattle.papaya_logged.proofs.Reclaiming.Steps.{reached}
 use Rattle.papaya_scenes.specs.Held.{Held}
 use Rattle.papaya_scenes.specs.Scene.{Scene}
 use Rattle.papaya_scenes.proofs.Leads.{happens}

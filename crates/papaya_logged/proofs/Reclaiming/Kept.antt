@@ -38,11 +38,11 @@ use Rattle.papaya_kept.proofs.Given.Lives.RetiredEnds.{handed_lives}
 use Rattle.papaya_kept.proofs.Given.Lives.Stages.{still_retired}
 use Rattle.papaya_kept.proofs.Given.Lives.Users.{left_lives}
 use Rattle.papaya_kept.proofs.Given.Lives.Worlds.{Kept}
-use Rattle.papaya_logged.proofs.ReclaimLies.{reclaiming_lies}
-use Rattle.papaya_logged.proofs.ReclaimOrder.{reclaiming_order}
-use Rattle.papaya_logged.proofs.ReclaimRows.{EmptiesRoot, reclaiming_tells}
-use Rattle.papaya_logged.proofs.ReclaimSteps.{kept as kept_there, left, no_call, root_none, nothing_there}
-use Rattle.papaya_logged.proofs.ReclaimWaits.{kept_then, rows_leave_waiting}
+use Rattle.papaya_logged.proofs.Reclaiming.Lies.{reclaiming_lies}
+use Rattle.papaya_logged.proofs.Reclaiming.Order.{reclaiming_order}
+use Rattle.papaya_logged.proofs.Reclaiming.Rows.{EmptiesRoot, reclaiming_tells}
+use Rattle.papaya_logged.proofs.Reclaiming.Steps.{kept as kept_there, left, no_call, root_none, nothing_there}
+use Rattle.papaya_logged.proofs.Reclaiming.Waits.{kept_then, rows_leave_waiting}
 use Rattle.papaya_scenes.specs.Held.{Held}
 use Rattle.papaya_scenes.specs.Scene.{HasCall, Scene}
 

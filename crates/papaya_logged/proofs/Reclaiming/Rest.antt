@@ -39,11 +39,11 @@ use Rattle.papaya_kept.proofs.Given.Lives.LeftTables.{none_is_left, where_none_i
 use Rattle.papaya_kept.specs.Kept.{ShowsKept}
 use Rattle.papaya_kept.proofs.Ends.{maps_stay, stood_so}
 use Rattle.papaya_logged.specs.Reclaims.{ReclaimRetired}
-use Rattle.papaya_logged.proofs.ReclaimFinds.{reclaiming_finds}
-use Rattle.papaya_logged.proofs.ReclaimHanded.{reclaiming_handed}
-use Rattle.papaya_logged.proofs.ReclaimKept.{reclaiming_comes}
-use Rattle.papaya_logged.proofs.ReclaimRows.{EmptiesRoot, reclaiming_tells}
-use Rattle.papaya_logged.proofs.ReclaimSteps.{reached, no_call, root_none, nothing_there}
+use Rattle.papaya_logged.proofs.Reclaiming.Finds.{reclaiming_finds}
+use Rattle.papaya_logged.proofs.Reclaiming.Handed.{reclaiming_handed}
+use Rattle.papaya_logged.proofs.Reclaiming.Kept.{reclaiming_comes}
+use Rattle.papaya_logged.proofs.Reclaiming.Rows.{EmptiesRoot, reclaiming_tells}
+use Rattle.papaya_logged.proofs.Reclaiming.Steps.{reached, no_call, root_none, nothing_there}
 use Rattle.papaya_scenes.specs.Held.{Held}
 use Rattle.papaya_scenes.specs.Scene.{Scene}
 use Rattle.papaya_scenes.proofs.Leads.{happens}

@@ -48,8 +48,8 @@ use Rattle.papaya_kept.specs.Given.Lives.Retired.{ShowsRetired}
 use Rattle.papaya_kept.proofs.Given.Lives.Retires.{given_hand}
 use Rattle.papaya_kept.proofs.Given.Lives.Taken.{taken_retired}
 use Rattle.papaya_kept.proofs.Given.Lives.Waiting.{row_finds}
-use Rattle.papaya_logged.proofs.ReclaimRows.{EmptiesRoot, begun_kept, step_kept, reclaiming_tells}
-use Rattle.papaya_logged.proofs.ReclaimSteps.{left, reached}
+use Rattle.papaya_logged.proofs.Reclaiming.Rows.{EmptiesRoot, begun_kept, step_kept, reclaiming_tells}
+use Rattle.papaya_logged.proofs.Reclaiming.Steps.{left, reached}
 use Rattle.papaya_scenes.specs.Held.{Held}
 use Rattle.papaya_scenes.specs.Scene.{HasCall, Scene}
 use Rattle.papaya_scenes.proofs.Leads.{happens}

@@ -41,9 +41,9 @@ use Rattle.papaya_kept.proofs.Given.Lives.Listed.{Listing, carries_lives, carrie
 use Rattle.papaya_kept.proofs.Given.Lives.Logs.{waits_no_more, waits_not, waits_on}
 use Rattle.papaya_kept.proofs.Given.Lives.RetiredEnds.{handed_lives}
 use Rattle.papaya_kept.proofs.Given.Lives.Worlds.{has_it, log_back}
-use Rattle.papaya_logged.proofs.ReclaimRows.{EmptiesRoot, reclaiming_tells}
-use Rattle.papaya_logged.proofs.ReclaimSteps.{kept as kept_there, left, no_call, reached, root_none, nothing_there}
-use Rattle.papaya_logged.proofs.ReclaimWaits.{begun_log}
+use Rattle.papaya_logged.proofs.Reclaiming.Rows.{EmptiesRoot, reclaiming_tells}
+use Rattle.papaya_logged.proofs.Reclaiming.Steps.{kept as kept_there, left, no_call, reached, root_none, nothing_there}
+use Rattle.papaya_logged.proofs.Reclaiming.Waits.{begun_log}
 use Rattle.papaya_scenes.specs.Held.{Held}
 use Rattle.papaya_scenes.specs.Scene.{HasCall, Scene}
 use Rattle.papaya_scenes.proofs.Leads.{happens}

@@ -37,8 +37,8 @@ use Rattle.papaya_kept.proofs.Given.Lives.Lying.{row_pair}
 use Rattle.papaya_kept.proofs.Given.Lives.Order.{order_as, row_behind}
 use Rattle.papaya_kept.proofs.Given.Lives.Putting.{put_before}
 use Rattle.papaya_kept.proofs.Given.Lives.Reclaimed.{stays_so}
-use Rattle.papaya_logged.proofs.ReclaimLies.{own_none}
-use Rattle.papaya_logged.proofs.ReclaimSteps.{reached}
+use Rattle.papaya_logged.proofs.Reclaiming.Lies.{own_none}
+use Rattle.papaya_logged.proofs.Reclaiming.Steps.{reached}
 use Rattle.papaya_scenes.specs.Held.{Held}
 use Rattle.papaya_scenes.specs.Scene.{Scene}
 use Rattle.papaya_scenes.proofs.Leads.{happens}

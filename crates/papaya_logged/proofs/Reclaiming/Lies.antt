@@ -35,8 +35,8 @@ use Rattle.papaya_kept.specs.Given.Lives.Lying.{ShowsLying}
 use Rattle.papaya_kept.specs.Given.Lives.Waiting.{IsPutting}
 use Rattle.papaya_kept.proofs.Given.Lives.Lying.{lying_on, row_among, row_pair}
 use Rattle.papaya_kept.proofs.Given.Lives.Reclaimed.{stays_so}
-use Rattle.papaya_logged.proofs.ReclaimSteps.{kept as kept_so, reached}
-use Rattle.papaya_logged.proofs.ReclaimWaits.{begun_log}
+use Rattle.papaya_logged.proofs.Reclaiming.Steps.{kept as kept_so, reached}
+use Rattle.papaya_logged.proofs.Reclaiming.Waits.{begun_log}
 use Rattle.papaya_scenes.specs.Held.{Held}
 use Rattle.papaya_scenes.specs.Scene.{Scene}
 use Rattle.papaya_scenes.proofs.Leads.{happens}

@@ -24,8 +24,8 @@ use Rattle.papaya_remains.specs.Numbered.{NumbersUpTo}
 use Rattle.papaya_remains.specs.Slots.{SlotsNoted}
 use Rattle.papaya_remains.proofs.Numbered.{told_keeps_count}
 use Rattle.papaya_remains.proofs.Slots.{operation_notes}
-use Rattle.papaya_logged.proofs.ReclaimRows.{EmptiesRoot, reclaiming_tells}
-use Rattle.papaya_logged.proofs.ReclaimSteps.{root_none, nothing_there}
+use Rattle.papaya_logged.proofs.Reclaiming.Rows.{EmptiesRoot, reclaiming_tells}
+use Rattle.papaya_logged.proofs.Reclaiming.Steps.{root_none, nothing_there}
 use Rattle.papaya_scenes.specs.Held.{Held}
 use Rattle.papaya_scenes.specs.Scene.{Scene}
 
