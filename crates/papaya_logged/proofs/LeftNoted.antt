@@ -69,7 +69,7 @@ module _ {K V : Type 0} (size : ℕ) (w : World (Node K V)) (r : Reached deferre
 pub rows_note_left : {K V : Type 0} (same : K → K → Bool) (hash : ℕ → K → ℕ) (known : Known) (s : Scene K V) (old new : Held K V) (at : IsAt same hash old s) (i : ℕ) (said : RowTold (Node K V))
     (leads : RowLeads same hash i said s old new) (row : SlotRow) (here : IsOnSlot s i row)
     → LeftNoted known (known_after acts.Row new.changed known) s.world (scene_then same hash (Step i) s old new (leads row here).2).world
-rows_note_left {K} {V} {S} same hash known s old new at i said leads row here b n is before after =
+rows_note_left {K} {V} same hash known s old new at i said leads row here b n is before after =
     let to = leads row here in
     let r = reached K V same hash s old new at i row here (to.0, said) to.1 to.2 in
     row_pair known s.world to.2.0 b n is
