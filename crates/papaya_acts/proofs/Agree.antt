@@ -2,32 +2,31 @@
 use Rattle.std.specs.Prelude.{◌≢◌, Option}
 use Rattle.std.proofs.Common.{◌≡◌, ℕ, Bool, List, [], ◌∷◌, ◌⊎◌, inl, inr, refl, ap, sym, subst, ◌∙◌}
 use Rattle.std.proofs.lemmas.Bool.{cases_eq}
-use Rattle.papaya_executor.specs.Given.SeizeWords.Mem.{Mem}
-use Rattle.papaya_executor.specs.Given.SeizeWords.declared.at.At.{At}
-use Rattle.papaya_executor.specs.Given.SeizeWords.declared.at.At.TheVariants.{Root, Used}
-use Rattle.papaya_executor.specs.Given.Seize.ReclaimAll.{reclaiming_all, clearing, reclaim_all_plan}
-use Rattle.papaya_executor.specs.Given.Seize.World.{World, Row, Rests, Settles, Leaves, Event, Begin, Step, Happens, Runs}
-use Rattle.papaya_executor.specs.Given.Seize.declared.rows.reclaim_all.ReclaimAll.{ReclaimAll}
-use Rattle.papaya_executor.specs.Given.Seize.declared.rows.reclaim_all.Reclaiming.{Reclaiming}
-use Rattle.papaya_executor.specs.Given.Seize.declared.rows.reclaim_all.Reclaiming.TheVariants as at
-use Rattle.papaya_executor.specs.Given.Seize.declared.rows.settle.Settled.{Settled}
+use Rattle.papaya_scenes.specs.Given.SeizeWords.Mem.{Mem}
+use Rattle.papaya_scenes.specs.Given.SeizeWords.declared.at.At.{At}
+use Rattle.papaya_scenes.specs.Given.SeizeWords.declared.at.At.TheVariants.{Root, Used}
+use Rattle.papaya_scenes.specs.Given.Seize.ReclaimAll.{reclaiming_all, clearing, reclaim_all_plan}
+use Rattle.papaya_scenes.specs.Given.Seize.World.{World, Row, Rests, Settles, Leaves, Event, Begin, Step, Happens, Runs}
+use Rattle.papaya_scenes.specs.Given.Seize.declared.rows.reclaim_all.ReclaimAll.{ReclaimAll}
+use Rattle.papaya_scenes.specs.Given.Seize.declared.rows.reclaim_all.Reclaiming.{Reclaiming}
+use Rattle.papaya_scenes.specs.Given.Seize.declared.rows.reclaim_all.Reclaiming.TheVariants as at
+use Rattle.papaya_scenes.specs.Given.Seize.declared.rows.settle.Settled.{Settled}
 use Rattle.seize_acts.specs.Answers.{Grant, stepped}
 use Rattle.seize_acts.proofs.Answers.{same_some}
-use Rattle.papaya_executor.proofs.Given.SeizeRule.Rows.Others.{begins_others, steps_others}
-use Rattle.papaya_executor.specs.Given.Tables.Nodes.{deferred_word, was_left}
-use Rattle.papaya_executor.specs.Given.Tables.declared.node.Node.{Node}
-use Rattle.papaya_executor.specs.Given.Finishes.FactsEnds.{TakesLeft, WritesRoot, events_of}
-use Rattle.papaya_executor.specs.Given.Finishes.Maps.{Standing}
+use Rattle.papaya_scenes.proofs.Given.SeizeRule.Rows.Others.{begins_others, steps_others}
+use Rattle.papaya_scenes.specs.Given.Tables.Nodes.{deferred_word, was_left}
+use Rattle.papaya_scenes.specs.Given.Tables.declared.node.Node.{Node}
+use Rattle.papaya_scenes.specs.Given.Finishes.FactsEnds.{TakesLeft, WritesRoot, events_of}
+use Rattle.papaya_scenes.specs.Given.Finishes.Maps.{Standing}
 use Rattle.papaya_reclaims.specs.Reclaims.{ReclaimingAt}
 use Rattle.papaya_reclaims.specs.Slots.{AreItsRows}
-use Rattle.papaya_executor.specs.IsAt.{Scene, at_first}
 use Rattle.papaya_acts.specs.Acts.{Answer, OfReclaiming}
 use Rattle.papaya_acts.specs.Courses.{AreAlike, CoursesAgree}
 use Rattle.papaya_acts.specs.Doings.{Doing, Does, BeginsReclaiming, BeginsClearing, StepsReclaiming, still, Stage, reclaiming, behind, MayDo, HasBegun, HasStepped, HasDone}
-use Rattle.papaya_acts.specs.Leads.{HasNoCall}
 use Rattle.papaya_acts.specs.Lists.{Reached}
 use Rattle.papaya_acts.specs.Reclaiming.{ReclaimedOn}
 use Rattle.papaya_acts.proofs.Courses.{by_act, same_set_up}
+use Rattle.papaya_scenes.specs.Scene.{Scene, HasNoCall, at_first}
 
 module _ {K V : Type 0} (size i : ℕ) where
   -- who reclaims all leaves the rows of others as they are

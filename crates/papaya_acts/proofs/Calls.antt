@@ -2,43 +2,44 @@
 use Rattle.std.specs.Prelude.{◌≡◌, ℕ, Bool, true, false, [], Some, None}
 use Rattle.std.specs.Option.{is_none}
 use Rattle.std.proofs.Common.{refl, sym, ap, subst, ◌∙◌}
-use Rattle.papaya_executor.specs.Given.Seize.World.{with_at}
+use Rattle.papaya_scenes.specs.Given.Seize.World.{with_at}
 use Rattle.seize_acts.specs.Answers.{Grant, then_on}
 use Rattle.seize_acts.proofs.Answers.{some, same_some, was_stepped}
 use Rattle.seize_acts.proofs.Begun.{rests_is}
-use Rattle.papaya_executor.proofs.Given.SeizeRule.Rows.Leaving.{with_same}
-use Rattle.papaya_executor.specs.Given.SeizeWords.Mem.{Mem}
-use Rattle.papaya_executor.specs.Given.Tables.declared.node.Node.{Node}
-use Rattle.papaya_executor.specs.Given.Tables.declared.node.Node.TheVariants as node
-use Rattle.papaya_executor.specs.Given.Sweeps.declared.sweep.Sweeping.{Sweeping}
-use Rattle.papaya_executor.specs.Given.Sweeps.declared.sweep.Sweeping.TheVariants as sweeping
-use Rattle.papaya_executor.specs.Given.Raw.CallAsks.{computing, updating, updating_or_inserting, trying_to_insert_with, removing_if}
-use Rattle.papaya_executor.specs.Given.Raw.CallPoints.{getting, removing, inserting, trying_to_insert}
-use Rattle.papaya_executor.specs.Given.Raw.Machine.{machine_plan, machine_replied, machine_asked, is_ready}
-use Rattle.papaya_executor.specs.Given.Raw.declared.machines.asking.Reply.{Reply}
-use Rattle.papaya_executor.specs.Given.Raw.declared.machines.call.KeyCall.{KeyCall}
-use Rattle.papaya_executor.specs.Given.Raw.declared.machines.machine.Machine.{Machine}
-use Rattle.papaya_executor.specs.Given.Raw.declared.machines.progress.Progress.{Progress}
-use Rattle.papaya_executor.specs.Given.Points.Steps.{AreLawful, told_first}
-use Rattle.papaya_executor.specs.Given.Callers.Asked.{told_before}
-use Rattle.papaya_executor.specs.Given.Callers.Kind.{gets, removes, inserts, tries_to_insert, computes, updates, updates_or_inserts, tries_to_insert_with, removes_if}
-use Rattle.papaya_executor.specs.Given.Callers.Pairs.{Given, Begun, IsTold}
-use Rattle.papaya_executor.specs.Given.Callers.Together.{UnderWay, OnKey, ForRoom, Counting, OverAll, IsBegun}
-use Rattle.papaya_executor.specs.Given.Callers.Together as begins
-use Rattle.papaya_executor.specs.Given.Finishes.Endings.{EndingsTogether}
-use Rattle.papaya_executor.specs.Given.Finishes.Machines.{machine_of, MachineStepsAmong}
-use Rattle.papaya_executor.specs.Given.Finishes.Maps.{Standing, with_call}
-use Rattle.papaya_executor.proofs.Given.Finishes.Among.Calls.{calls_begin_among}
-use Rattle.papaya_executor.proofs.Given.Finishes.Among.Countings.{countings_begin_among}
-use Rattle.papaya_executor.proofs.Given.Finishes.Among.Machines.{machines_stand_among}
-use Rattle.papaya_executor.proofs.Given.Finishes.Among.MachinesTold.{machines_told_among}
-use Rattle.papaya_executor.proofs.Given.Finishes.Among.Rooms.{rooms_begin_among}
-use Rattle.papaya_executor.proofs.Given.Finishes.Among.Sweeps.{sweeps_begin_among, walks_stop_among}
-use Rattle.papaya_executor.specs.IsAt.{Scene}
-use Rattle.papaya_executor.specs.Replying.{scene_with, unless_stopped}
+use Rattle.papaya_scenes.proofs.Given.SeizeRule.Rows.Leaving.{with_same}
+use Rattle.papaya_scenes.specs.Given.SeizeWords.Mem.{Mem}
+use Rattle.papaya_scenes.specs.Given.Tables.declared.node.Node.{Node}
+use Rattle.papaya_scenes.specs.Given.Tables.declared.node.Node.TheVariants as node
+use Rattle.papaya_scenes.specs.Given.Sweeps.declared.sweep.Sweeping.{Sweeping}
+use Rattle.papaya_scenes.specs.Given.Sweeps.declared.sweep.Sweeping.TheVariants as sweeping
+use Rattle.papaya_scenes.specs.Given.Raw.CallAsks.{computing, updating, updating_or_inserting, trying_to_insert_with, removing_if}
+use Rattle.papaya_scenes.specs.Given.Raw.CallPoints.{getting, removing, inserting, trying_to_insert}
+use Rattle.papaya_scenes.specs.Given.Raw.Machine.{machine_plan, machine_replied, machine_asked, is_ready}
+use Rattle.papaya_scenes.specs.Given.Raw.declared.machines.asking.Reply.{Reply}
+use Rattle.papaya_scenes.specs.Given.Raw.declared.machines.call.KeyCall.{KeyCall}
+use Rattle.papaya_scenes.specs.Given.Raw.declared.machines.machine.Machine.{Machine}
+use Rattle.papaya_scenes.specs.Given.Raw.declared.machines.progress.Progress.{Progress}
+use Rattle.papaya_scenes.specs.Given.Points.Steps.{AreLawful, told_first}
+use Rattle.papaya_scenes.specs.Given.Callers.Asked.{told_before}
+use Rattle.papaya_scenes.specs.Given.Callers.Kind.{gets, removes, inserts, tries_to_insert, computes, updates, updates_or_inserts, tries_to_insert_with, removes_if}
+use Rattle.papaya_scenes.specs.Given.Callers.Pairs.{Given, Begun, IsTold}
+use Rattle.papaya_scenes.specs.Given.Callers.Together.{UnderWay, OnKey, ForRoom, Counting, OverAll, IsBegun}
+use Rattle.papaya_scenes.specs.Given.Callers.Together as begins
+use Rattle.papaya_scenes.specs.Given.Finishes.Endings.{EndingsTogether}
+use Rattle.papaya_scenes.specs.Given.Finishes.Machines.{machine_of, MachineStepsAmong}
+use Rattle.papaya_scenes.specs.Given.Finishes.Maps.{Standing, with_call}
+use Rattle.papaya_scenes.proofs.Given.Finishes.Among.Calls.{calls_begin_among}
+use Rattle.papaya_scenes.proofs.Given.Finishes.Among.Countings.{countings_begin_among}
+use Rattle.papaya_scenes.proofs.Given.Finishes.Among.Machines.{machines_stand_among}
+use Rattle.papaya_scenes.proofs.Given.Finishes.Among.MachinesTold.{machines_told_among}
+use Rattle.papaya_scenes.proofs.Given.Finishes.Among.Rooms.{rooms_begin_among}
+use Rattle.papaya_scenes.proofs.Given.Finishes.Among.Sweeps.{sweeps_begin_among, walks_stop_among}
 use Rattle.papaya_acts.specs.Acts.{Wanted, Get, Remove, Insert, TryToInsert, Compute, Update, UpdateOrInsert, TryToInsertWith, RemoveIf, MakeRoom, Count, GoOver, Answer, Nothing, OfCall, OfReply, OfAsking, BeginsCall, StepsCall, TellsCall, AsksCall, StopsCall, its, begun}
 use Rattle.papaya_acts.specs.Leads.{MayBe, AllStand, Led, call_at, call_steps}
-use Rattle.papaya_acts.proofs.Tests.{none_is, some_is, inside_is, its_class}
+use Rattle.papaya_acts.proofs.Tests.{some_is, inside_is, its_class}
+use Rattle.papaya_scenes.proofs.NoCall.{none_is}
+use Rattle.papaya_scenes.specs.Replying.{scene_with, unless_stopped}
+use Rattle.papaya_scenes.specs.Scene.{Scene}
 
 -- a stage that is ready is that one
 pub ready_is : (stage : Sweeping) → is_ready stage ≡ true → stage ≡ sweeping.Ready

@@ -3,56 +3,57 @@ use Rattle.std.specs.Prelude.{◌≢◌, ◌++◌, Option, Some, None, option_ma
 use Rattle.std.specs.Option.{is_none}
 use Rattle.std.proofs.Common.{◌≡◌, ℕ, Bool, true, false, [], ◌∷◌, ◌⊎◌, inl, inr, refl, ap, sym, subst, ◌∙◌}
 use Rattle.std.proofs.lemmas.Bool.{cases_eq}
-use Rattle.papaya_executor.specs.Given.SeizeWords.Mem.{Mem}
-use Rattle.papaya_executor.specs.Given.Seize.World.{World, Row, Rests, with_at}
-use Rattle.papaya_executor.specs.Given.Seize.declared.progress.Progress.{Progress}
-use Rattle.papaya_executor.specs.Given.Seize.declared.progress.Progress.TheVariants as progress
-use Rattle.papaya_executor.specs.Given.Seize.declared.rows.settle.Settled.{Settled}
-use Rattle.papaya_executor.specs.Given.Seize.declared.rows.settle.Settled.TheVariants as settled
+use Rattle.papaya_scenes.specs.Given.SeizeWords.Mem.{Mem}
+use Rattle.papaya_scenes.specs.Given.Seize.World.{World, Row, Rests, with_at}
+use Rattle.papaya_scenes.specs.Given.Seize.declared.progress.Progress.{Progress}
+use Rattle.papaya_scenes.specs.Given.Seize.declared.progress.Progress.TheVariants as progress
+use Rattle.papaya_scenes.specs.Given.Seize.declared.rows.settle.Settled.{Settled}
+use Rattle.papaya_scenes.specs.Given.Seize.declared.rows.settle.Settled.TheVariants as settled
 use Rattle.seize_acts.specs.Acts.{row_steps}
 use Rattle.seize_acts.specs.Answers.{Grant, stepped}
 use Rattle.seize_acts.proofs.Answers.{same_some}
-use Rattle.papaya_executor.proofs.Given.SeizeRule.Rows.Others.{begins_others, steps_others}
-use Rattle.papaya_executor.proofs.Given.SeizeEnds.Batches.Rows.{begins_memory}
-use Rattle.papaya_executor.specs.Given.Tables.Nodes.{deferred_word}
-use Rattle.papaya_executor.specs.Given.Tables.declared.node.Node.{Node}
-use Rattle.papaya_executor.specs.Given.Tables.declared.setting.Setting.{Setting}
-use Rattle.papaya_executor.specs.Given.Resize.NewMap.{new_map_plan}
-use Rattle.papaya_executor.specs.Given.Resize.Sum.{summing}
-use Rattle.papaya_executor.specs.Given.Resize.declared.new_map.NewMap.{NewMap}
-use Rattle.papaya_executor.specs.Given.Reserves.Reserve.{reserving}
-use Rattle.papaya_executor.specs.Given.Sweeps.SweepPoints.{sweeping}
-use Rattle.papaya_executor.specs.Given.Raw.CallAsks.{computing, updating, updating_or_inserting, trying_to_insert_with, removing_if}
-use Rattle.papaya_executor.specs.Given.Raw.CallPoints.{getting, removing, inserting, trying_to_insert}
-use Rattle.papaya_executor.specs.Given.Raw.EndMap.{ending, end_map_plan}
-use Rattle.papaya_executor.specs.Given.Raw.Machine.{machine_plan, machine_replied, machine_asked}
-use Rattle.papaya_executor.specs.Given.Raw.declared.machines.end_map.EndMap.{EndMap}
-use Rattle.papaya_executor.specs.Given.Raw.declared.machines.machine.Machine.{Machine}
-use Rattle.papaya_executor.specs.Given.Raw.declared.machines.machine.Machine.TheVariants as kinds
-use Rattle.papaya_executor.specs.Given.Raw.declared.machines.progress.Progress.{Progress as CallProgress}
-use Rattle.papaya_executor.specs.Given.Points.Steps.{told_first}
-use Rattle.papaya_executor.specs.Given.Callers.Together.{UnderWay, OnKey, ForRoom, Counting, OverAll, in_slot}
-use Rattle.papaya_executor.proofs.Given.Callers.Together.At.{at_same, at_other}
-use Rattle.papaya_executor.proofs.Given.Callers.Together.Users.{events_rows}
-use Rattle.papaya_executor.specs.Given.Finishes.Endings.{Finishing, finishing_of, waiting_by}
-use Rattle.papaya_executor.specs.Given.Finishes.FactsEnds.{Deed}
-use Rattle.papaya_executor.specs.Given.Finishes.Machines.{machine_of}
-use Rattle.papaya_executor.specs.Given.Finishes.Makings.{Beginning}
-use Rattle.papaya_executor.specs.Given.Finishes.Maps.{Standing, IsSameMap, with_call}
-use Rattle.papaya_executor.proofs.Given.Finishes.Among.Sweeps.{walks_stop_among}
-use Rattle.papaya_executor.specs.IsAt.{Scene}
-use Rattle.papaya_executor.specs.Replying.{unless_stopped}
-use Rattle.papaya_executor.specs.Stepping.{going_on}
-use Rattle.papaya_executor.proofs.Steps.{goes_as}
+use Rattle.papaya_scenes.proofs.Given.SeizeRule.Rows.Others.{begins_others, steps_others}
+use Rattle.papaya_scenes.proofs.Given.SeizeEnds.Batches.Rows.{begins_memory}
+use Rattle.papaya_scenes.specs.Given.Tables.Nodes.{deferred_word}
+use Rattle.papaya_scenes.specs.Given.Tables.declared.node.Node.{Node}
+use Rattle.papaya_scenes.specs.Given.Tables.declared.setting.Setting.{Setting}
+use Rattle.papaya_scenes.specs.Given.Resize.NewMap.{new_map_plan}
+use Rattle.papaya_scenes.specs.Given.Resize.Sum.{summing}
+use Rattle.papaya_scenes.specs.Given.Resize.declared.new_map.NewMap.{NewMap}
+use Rattle.papaya_scenes.specs.Given.Reserves.Reserve.{reserving}
+use Rattle.papaya_scenes.specs.Given.Sweeps.SweepPoints.{sweeping}
+use Rattle.papaya_scenes.specs.Given.Raw.CallAsks.{computing, updating, updating_or_inserting, trying_to_insert_with, removing_if}
+use Rattle.papaya_scenes.specs.Given.Raw.CallPoints.{getting, removing, inserting, trying_to_insert}
+use Rattle.papaya_scenes.specs.Given.Raw.EndMap.{ending, end_map_plan}
+use Rattle.papaya_scenes.specs.Given.Raw.Machine.{machine_plan, machine_replied, machine_asked}
+use Rattle.papaya_scenes.specs.Given.Raw.declared.machines.end_map.EndMap.{EndMap}
+use Rattle.papaya_scenes.specs.Given.Raw.declared.machines.machine.Machine.{Machine}
+use Rattle.papaya_scenes.specs.Given.Raw.declared.machines.machine.Machine.TheVariants as kinds
+use Rattle.papaya_scenes.specs.Given.Raw.declared.machines.progress.Progress.{Progress as CallProgress}
+use Rattle.papaya_scenes.specs.Given.Points.Steps.{told_first}
+use Rattle.papaya_scenes.specs.Given.Callers.Together.{UnderWay, OnKey, ForRoom, Counting, OverAll, in_slot}
+use Rattle.papaya_scenes.proofs.Given.Callers.Together.At.{at_same, at_other}
+use Rattle.papaya_scenes.proofs.Given.Callers.Together.Users.{events_rows}
+use Rattle.papaya_scenes.specs.Given.Finishes.Endings.{Finishing, finishing_of, waiting_by}
+use Rattle.papaya_scenes.specs.Given.Finishes.FactsEnds.{Deed}
+use Rattle.papaya_scenes.specs.Given.Finishes.Machines.{machine_of}
+use Rattle.papaya_scenes.specs.Given.Finishes.Makings.{Beginning}
+use Rattle.papaya_scenes.specs.Given.Finishes.Maps.{Standing, IsSameMap, with_call}
+use Rattle.papaya_scenes.proofs.Given.Finishes.Among.Sweeps.{walks_stop_among}
+use Rattle.papaya_scenes.specs.Making.{making_begun}
 use Rattle.papaya_acts.specs.Acts.{Act, Answer, OfCall, OfReply, OfAsking, OfMaking, OfEnding, Wanted, Get, Remove, Insert, TryToInsert, Compute, Update, UpdateOrInsert, TryToInsertWith, RemoveIf, MakeRoom, Count, GoOver, begun}
 use Rattle.papaya_acts.specs.Acts.{BeginsCall, StepsCall, TellsCall, AsksCall, StopsCall, BeginsMaking, StepsMaking, BeginsEnding, StepsEnding, BeginsRow, StepsRow}
 use Rattle.papaya_acts.specs.Courses.{set_up, AreAlike}
-use Rattle.papaya_acts.specs.Leads.{HasNoCall, MayBe, AllStand, Led, CallCame, MakingCame, EndingCame, making_begun}
+use Rattle.papaya_acts.specs.Leads.{MayBe, AllStand, Led, CallCame, MakingCame, EndingCame}
 use Rattle.papaya_acts.proofs.Calls.{ready_is}
 use Rattle.papaya_acts.proofs.Counts.{its_call, other_call}
 use Rattle.papaya_acts.proofs.Lists.{all_may_step}
 use Rattle.papaya_acts.proofs.RowSteps.{row_step_alike, row_begin_alike}
-use Rattle.papaya_acts.proofs.Tests.{none_is}
+use Rattle.papaya_scenes.proofs.NoCall.{none_is}
+use Rattle.papaya_scenes.proofs.Goes.{goes_as}
+use Rattle.papaya_scenes.specs.Replying.{unless_stopped}
+use Rattle.papaya_scenes.specs.Scene.{Scene, HasNoCall}
+use Rattle.papaya_scenes.specs.Stepping.{going_on}
 
 -- what is there in both, if the same is told of both
 told_both : {A B : Type 0} (f : A → B) (o p : Option A) → option_map f o ≡ option_map f p → (a b : A) → o ≡ Some a → p ≡ Some b → f a ≡ f b

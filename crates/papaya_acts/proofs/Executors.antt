@@ -1,64 +1,65 @@
 -- What an executor does, it does by acts.
 use Rattle.std.specs.Prelude.{◌≡◌, ℕ, Bool, Some}
 use Rattle.std.proofs.Common.{refl, sym, ap, subst}
-use Rattle.papaya_executor.specs.Given.SeizeWords.Mem.{Mem, Can, Took, value_at}
-use Rattle.papaya_executor.specs.Given.SeizeWords.Plan.{Plan, May, Steps}
-use Rattle.papaya_executor.specs.Given.Seize.World.{MayStep}
-use Rattle.papaya_executor.specs.Given.Seize.declared.progress.Progress.{Progress}
-use Rattle.papaya_executor.specs.Given.Seize.declared.progress.Progress.TheVariants as progress
-use Rattle.papaya_executor.specs.Given.Seize.declared.rows.settle.Settled.{Settled}
-use Rattle.papaya_executor.specs.Given.Seize.declared.rows.settle.Settled.TheVariants as settled
+use Rattle.papaya_scenes.specs.Given.SeizeWords.Mem.{Mem, Can, Took, value_at}
+use Rattle.papaya_scenes.specs.Given.SeizeWords.Plan.{Plan, May, Steps}
+use Rattle.papaya_scenes.specs.Given.Seize.World.{MayStep}
+use Rattle.papaya_scenes.specs.Given.Seize.declared.progress.Progress.{Progress}
+use Rattle.papaya_scenes.specs.Given.Seize.declared.progress.Progress.TheVariants as progress
+use Rattle.papaya_scenes.specs.Given.Seize.declared.rows.settle.Settled.{Settled}
+use Rattle.papaya_scenes.specs.Given.Seize.declared.rows.settle.Settled.TheVariants as settled
 use Rattle.seize_acts.specs.Answers.{Grant, stepped}
 use Rattle.seize_acts.proofs.Steps.{steps_so, row_so}
-use Rattle.papaya_executor.proofs.Given.SeizeRule.World.Kept.{rows_may}
-use Rattle.papaya_executor.specs.Given.Tables.Nodes.{deferred_word}
-use Rattle.papaya_executor.specs.Given.Tables.declared.node.Node.{Node}
-use Rattle.papaya_executor.specs.Given.Tables.declared.setting.Setting.{Setting}
-use Rattle.papaya_executor.specs.Given.Resize.NewMap.{new_map_plan}
-use Rattle.papaya_executor.specs.Given.Resize.declared.new_map.NewMap.{NewMap}
-use Rattle.papaya_executor.specs.Given.Raw.EndMap.{end_map_plan}
-use Rattle.papaya_executor.specs.Given.Raw.Machine.{machine_plan}
-use Rattle.papaya_executor.specs.Given.Raw.declared.machines.end_map.EndMap.{EndMap}
-use Rattle.papaya_executor.specs.Given.Raw.declared.machines.machine.Machine.{Machine}
-use Rattle.papaya_executor.specs.Given.Raw.declared.machines.progress.Progress.{Progress as CallProgress}
-use Rattle.papaya_executor.specs.Given.Teller.Tells.{StepsTold}
-use Rattle.papaya_executor.specs.Given.Teller.declared.changed.Changed.TheVariants.{Nothing as NoChange}
-use Rattle.papaya_executor.specs.Given.Callers.Together.{UnderWay}
-use Rattle.papaya_executor.specs.Given.Finishes.Endings.{Finishing, MakingStepsAmong, StepsOfEnding}
-use Rattle.papaya_executor.specs.Given.Finishes.Machines.{machine_of}
-use Rattle.papaya_executor.specs.Given.Finishes.Makings.{Beginning}
-use Rattle.papaya_executor.specs.Given.Finishes.Maps.{with_call}
+use Rattle.papaya_scenes.proofs.Given.SeizeRule.World.Kept.{rows_may}
+use Rattle.papaya_scenes.specs.Given.Tables.Nodes.{deferred_word}
+use Rattle.papaya_scenes.specs.Given.Tables.declared.node.Node.{Node}
+use Rattle.papaya_scenes.specs.Given.Tables.declared.setting.Setting.{Setting}
+use Rattle.papaya_scenes.specs.Given.Resize.NewMap.{new_map_plan}
+use Rattle.papaya_scenes.specs.Given.Resize.declared.new_map.NewMap.{NewMap}
+use Rattle.papaya_scenes.specs.Given.Raw.EndMap.{end_map_plan}
+use Rattle.papaya_scenes.specs.Given.Raw.Machine.{machine_plan}
+use Rattle.papaya_scenes.specs.Given.Raw.declared.machines.end_map.EndMap.{EndMap}
+use Rattle.papaya_scenes.specs.Given.Raw.declared.machines.progress.Progress.{Progress as CallProgress}
+use Rattle.papaya_scenes.specs.Given.Teller.Tells.{StepsTold}
+use Rattle.papaya_scenes.specs.Given.Teller.declared.changed.Changed.TheVariants.{Nothing as NoChange}
+use Rattle.papaya_scenes.specs.Given.Callers.Together.{UnderWay}
+use Rattle.papaya_scenes.specs.Given.Finishes.Endings.{Finishing, MakingStepsAmong, StepsOfEnding}
+use Rattle.papaya_scenes.specs.Given.Finishes.Machines.{machine_of}
+use Rattle.papaya_scenes.specs.Given.Finishes.Makings.{Beginning}
+use Rattle.papaya_scenes.specs.Given.Finishes.Maps.{with_call}
 use Rattle.papaya_executor.specs.declared.executor.Executor.{Executor}
-use Rattle.papaya_executor.specs.Ending.{EndingLeads, EndingComesTo}
-use Rattle.papaya_executor.specs.IsAt.{Scene, IsAt, slot_of}
-use Rattle.papaya_executor.specs.Making.{MakingLeads, MakingComesTo}
-use Rattle.papaya_executor.specs.Replying.{unless_stopped}
-use Rattle.papaya_executor.specs.Stepping.{StepLeads}
-use Rattle.papaya_executor.proofs.Forgotten.{as_step}
 use Rattle.papaya_acts.specs.Acts.{OfCall, OfReply, OfAsking, OfMaking, OfEnding, StepsCall, StepsMaking, StepsEnding}
 use Rattle.papaya_acts.specs.Executors.{IsAct, CallsAreActs, OthersAreActs, ExecutorsAct}
 use Rattle.papaya_acts.specs.Leads.{MakingCame, EndingCame}
 use Rattle.papaya_acts.specs.Lists.{AllMayStep}
 use Rattle.papaya_acts.proofs.ExecutorsBegin.{wants}
 use Rattle.papaya_acts.proofs.Lists.{all_may_step}
+use Rattle.papaya_executor.specs.Ending.{EndsThere}
+use Rattle.papaya_executor.specs.IsThere.{IsThere, held_by}
+use Rattle.papaya_executor.specs.Making.{MakesThere}
+use Rattle.papaya_executor.specs.Stepping.{StepsThere}
+use Rattle.papaya_scenes.proofs.Told.{as_step}
+use Rattle.papaya_scenes.specs.Ending.{EndingComesToThere}
+use Rattle.papaya_scenes.specs.Making.{MakingComesToThere}
+use Rattle.papaya_scenes.specs.Replying.{unless_stopped}
+use Rattle.papaya_scenes.specs.Scene.{Scene, slot_of}
 
-module _ {K V S : Type 0} (same : K → K → Bool) (hash : K → ℕ) (e e2 : Executor K V S) (s : Scene K V) (at : IsAt same hash e s) (i : ℕ) where
+module _ {K V S : Type 0} (same : K → K → Bool) (hash : K → ℕ) (e e2 : Executor K V S) (s : Scene K V) (at : IsThere same hash e s) (i : ℕ) where
   abbrev may : AllMayStep V same (λ map. hash) e.batch_size e.roots slot_of s
-  may = all_may_step same (λ map. hash) e.batch_size e.roots slot_of s at.together
+  may = all_may_step same (λ map. hash) e.batch_size e.roots slot_of s at.held.together
 
   -- a step that is told, in the memory of the executor, is computed from the one of its scene
   computed : {R : Type 0} (plan : Plan (Node K V) R) (end : R) → May Can Took value_at s.world.memory plan
       → StepsTold K V R e.memory.memory NoChange plan e2.memory.memory e2.memory.changed end → (g : Grant) × (stepped s.world.memory g plan ≡ Some (e2.memory.memory, end))
   computed {R} plan end can st =
       steps_so s.world.memory plan e2.memory.memory end can
-      (subst (λ (m : Mem (Node K V)). Steps Took value_at m plan e2.memory.memory end) (sym at.memory) (as_step e.memory.memory NoChange plan e2.memory.memory e2.memory.changed end st))
+      (subst (λ (m : Mem (Node K V)). Steps Took value_at m plan e2.memory.memory end) (sym at.held.memory) (as_step e.memory.memory NoChange plan e2.memory.memory e2.memory.changed end st))
 
-  step : (told : CallProgress (Node K V)) → StepLeads same hash i told s e e2 → (m : ℕ) (u : UnderWay K V K) → s.calls m i ≡ Some u → (g : Grant) × IsAct same hash e e2 s (StepsCall i m g) (OfCall told)
+  step : (told : CallProgress (Node K V)) → StepsThere same hash i told s e e2 → (m : ℕ) (u : UnderWay K V K) → s.calls m i ≡ Some u → (g : Grant) × IsAct same hash e e2 s (StepsCall i m g) (OfCall told)
   step told leads m u here =
       let to = leads m u here in
       let so = computed (machine_plan same same to.0.hash (machine_of u)) (to.1, told) (may.calls m i to.0 u to.2 here)
-      (subst (λ (x : K → ℕ). StepsTold K V (Machine K V K × CallProgress (Node K V)) e.memory.memory NoChange (machine_plan same same x (machine_of u)) e2.memory.memory e2.memory.changed (to.1, told))
-      (sym (at.hashes m to.0 to.2)) to.3) in (
+      to.3 in (
         so.0,
         (
           _,
@@ -82,24 +83,24 @@ module _ {K V S : Type 0} (same : K → K → Bool) (hash : K → ℕ) (e e2 : E
   pub calls_are_acts : CallsAreActs same hash e e2 s i
   calls_are_acts = record {
     begin = λ m machine leads standing stands inside u as_machine begins.
-        (let want = wants same standing (at.together.makings.standing.fit m standing stands).0 i u begins in
-        (want.0, (_, (standing, stands, refl, ap (λ (x : UnderWay K V K). record s { calls = with_call s.calls m i (Some x) }) (sym want.1)), (leads standing stands inside u as_machine begins).1)));
+        (let want = wants same standing (at.held.together.makings.standing.fit m standing stands).0 i u begins in
+        (want.0, (_, (standing, stands, refl, ap (λ (x : UnderWay K V K). record s { calls = with_call s.calls m i (Some x) }) (sym want.1)), ((leads inside).1 standing stands u as_machine begins).1)));
     step = step;
-    reply = λ told result leads m u here. (let to = leads m u here in (_, (to.0, to.2, u, to.1, here, to.3, ap OfReply to.4, to.5, refl), to.7));
-    ask = λ ready leads m u here. (let to = leads m u here in (_, (u, to.0, here, to.1, ap OfAsking to.2, refl), to.4));
-    stop = λ stopped leads m u here. (let to = leads m u here in
+    reply = λ told result leads m u here. (let to = leads.1 m u here in (_, (to.0, to.2, u, to.1, here, to.3, ap OfReply to.4, to.5, refl), to.7));
+    ask = λ ready leads m u here. (let to = leads.1 m u here in (_, (u, to.0, here, to.1, ap OfAsking to.2, refl), to.4));
+    stop = λ stopped leads m u here. (let to = leads.1 m u here in
         (_, (u, here, ap OfAsking to.0, ap (λ (x : Bool). record s { calls = with_call s.calls m i (unless_stopped x u) }) to.0), to.2));
   }
 
   making_comes : (b : Beginning K) (machine : NewMap) (told : Progress Setting) (did : MakingStepsAmong V same same e.batch_size e.roots slot_of s.world s.maps s.calls s.makers s.enders i b e2.memory.memory (machine, told))
-      → MakingComesTo same hash s e e2 i b machine did.step.w2 told
-      → (n : Scene K V) × MakingCame same (λ map. hash) e.batch_size e.roots slot_of s i b did.step.w2 machine n told × IsAt same hash e2 n
+      → MakingComesToThere same (IsThere same hash e2) s (held_by e) i b machine did.step.w2 told
+      → (n : Scene K V) × MakingCame same (λ map. hash) e.batch_size e.roots slot_of s i b did.step.w2 machine n told × IsThere same hash e2 n
   making_comes b machine progress.Goes did is = (_, refl, is)
   making_comes b machine progress.Waits did never = absurd never
   making_comes b machine (progress.Done setting) did (standing, made, is) = (_, (standing, made, refl), is)
   making_comes b machine (progress.Refused fault) did is = (_, refl, is)
 
-  making : (told : Progress Setting) → MakingLeads same hash i told s e e2 → (b : Beginning K) → s.makers i ≡ Some b → (g : Grant) × IsAct same hash e e2 s (StepsMaking i g) (OfMaking told)
+  making : (told : Progress Setting) → MakesThere same hash i told s e e2 → (b : Beginning K) → s.makers i ≡ Some b → (g : Grant) × IsAct same hash e e2 s (StepsMaking i g) (OfMaking told)
   making told leads b makes =
       let to = leads b makes in
       let so = computed (new_map_plan b.machine) (to.0, told) (may.makings i b makes) to.1 in
@@ -107,14 +108,14 @@ module _ {K V S : Type 0} (same : K → K → Bool) (hash : K → ℕ) (e e2 : E
       (so.0, (comes.0, (b, makes, e2.memory.memory, to.0, told, so.1, refl, to.2, comes.1), comes.2))
 
   ending_comes : (f : Finishing K V) (machine : EndMap) (told : Settled (Node K V)) (did : StepsOfEnding V same same e.batch_size e.roots slot_of s.world s.maps s.calls s.makers s.enders i f e2.memory.memory (machine, told))
-      → EndingComesTo same hash s e2 i f machine did.w2 did.deed told
-      → (n : Scene K V) × EndingCame same (λ map. hash) e.batch_size e.roots slot_of s i f did.w2 did.deed machine n told × IsAt same hash e2 n
+      → EndingComesToThere same (IsThere same hash e2) s i f machine did.w2 did.deed told
+      → (n : Scene K V) × EndingCame same (λ map. hash) e.batch_size e.roots slot_of s i f did.w2 did.deed machine n told × IsThere same hash e2 n
   ending_comes f machine settled.Goes did (none, is) = (_, (none, refl), is)
   ending_comes f machine settled.Waits did never = absurd never
   ending_comes f machine (settled.Gave value) did (b, there, taken, is) = (_, (b, there, taken, refl), is)
   ending_comes f machine settled.Done did (none, finished, is) = (_, (none, finished, refl), is)
 
-  ending : (told : Settled (Node K V)) → EndingLeads same hash i told s e e2 → (f : Finishing K V) → s.enders i ≡ Some f → (g : Grant) × IsAct same hash e e2 s (StepsEnding i g) (OfEnding told)
+  ending : (told : Settled (Node K V)) → EndsThere same hash i told s e e2 → (f : Finishing K V) → s.enders i ≡ Some f → (g : Grant) × IsAct same hash e e2 s (StepsEnding i g) (OfEnding told)
   ending told leads f ends =
       let to = leads f ends in
       let so = computed (end_map_plan f.machine) (to.0, told) (may.endings i f ends) to.1 in
@@ -122,16 +123,16 @@ module _ {K V S : Type 0} (same : K → K → Bool) (hash : K → ℕ) (e e2 : E
       (so.0, (comes.0, (f, ends, e2.memory.memory, to.0, told, so.1, refl, to.2, comes.1), comes.2))
 
   row_may : MayStep deferred_word (s.world.row i) s.world.memory
-  row_may = let came = at.together.makings.standing.came in rows_may deferred_word e.batch_size came.0 came.1 s.world came.2 i
+  row_may = let came = at.held.together.makings.standing.came in rows_may deferred_word e.batch_size came.0 came.1 s.world came.2 i
 
   pub others_are_acts : OthersAreActs same hash e e2 s i
   others_are_acts = record {
     making_begins = λ given places leads lawful power batches mask some sized. (_, (refl, refl), (leads lawful power batches mask some sized).1);
     making = making;
-    ending_begins = λ m leads none. (let to = leads none in (_, (to.0, to.1, refl, refl), to.4));
+    ending_begins = λ m leads none. (let to = (leads none).1 in (_, (to.0, to.1, refl, refl), to.4));
     ending = ending;
-    row_begins = λ call leads begins. (let to = (leads begins).3 in (_, (to.0, to.1, to.2, to.3, refl, refl), to.4));
-    row = λ told leads it has. (let to = (leads it has).4 in let so = row_so deferred_word i (s.world.row i) s.world to.0 row_may to.1 in
+    row_begins = λ call leads begins. (let to = (leads begins).3.2 in (_, (to.0, to.1, to.2, to.3, refl, refl), to.4));
+    row = λ told leads it has. (let to = (leads it has).5 in let so = row_so deferred_word i (s.world.row i) s.world to.0 row_may to.1 in
         (so.0, (_, (to.0, so.1, to.1, to.2, to.3, refl, refl), to.4)));
   }
 

@@ -3,35 +3,36 @@ use Rattle.std.specs.Prelude.{◌≢◌, ◌⊎◌, ◌++◌, Option, Some, None
 use Rattle.std.proofs.Common.{◌≡◌, ℕ, Bool, List, [], ◌∷◌, inl, inr, refl, ap, sym, subst, ◌∙◌}
 use Rattle.std.proofs.lemmas.Bool.{cases_eq}
 use Rattle.std.proofs.lemmas.List.{append-nil}
-use Rattle.papaya_executor.specs.Given.SeizeWords.Mem.{Mem}
-use Rattle.papaya_executor.specs.Given.Seize.Law.{Ended}
-use Rattle.papaya_executor.specs.Given.Seize.World.{World, with_at, with_effect}
-use Rattle.papaya_executor.specs.Given.Seize.declared.progress.Progress.{Progress}
-use Rattle.papaya_executor.specs.Given.Seize.declared.progress.Progress.TheVariants as progress
-use Rattle.papaya_executor.specs.Given.Seize.declared.rows.settle.Settled.{Settled}
-use Rattle.papaya_executor.specs.Given.Seize.declared.rows.settle.Settled.TheVariants as settled
+use Rattle.papaya_scenes.specs.Given.SeizeWords.Mem.{Mem}
+use Rattle.papaya_scenes.specs.Given.Seize.Law.{Ended}
+use Rattle.papaya_scenes.specs.Given.Seize.World.{World, with_at, with_effect}
+use Rattle.papaya_scenes.specs.Given.Seize.declared.progress.Progress.{Progress}
+use Rattle.papaya_scenes.specs.Given.Seize.declared.progress.Progress.TheVariants as progress
+use Rattle.papaya_scenes.specs.Given.Seize.declared.rows.settle.Settled.{Settled}
+use Rattle.papaya_scenes.specs.Given.Seize.declared.rows.settle.Settled.TheVariants as settled
 use Rattle.seize_acts.proofs.Answers.{same_some}
-use Rattle.papaya_executor.specs.Given.Tables.declared.node.Node.{Node}
-use Rattle.papaya_executor.specs.Given.Tables.declared.setting.Setting.{Setting}
-use Rattle.papaya_executor.specs.Given.Resize.declared.new_map.NewMap.{NewMap}
-use Rattle.papaya_executor.specs.Given.Raw.declared.machines.end_map.EndMap.{EndMap}
-use Rattle.papaya_executor.proofs.Given.Callers.Together.At.{at_other, at_same}
-use Rattle.papaya_executor.specs.Given.Callers.Together.{UnderWay}
-use Rattle.papaya_executor.specs.Given.Finishes.Endings.{Finishing, MakingStepsAmong, StepsOfEnding, waiting_by}
-use Rattle.papaya_executor.specs.Given.Finishes.FactsEnds.{Deed, taken_by}
-use Rattle.papaya_executor.specs.Given.Finishes.Makings.{Beginning}
-use Rattle.papaya_executor.specs.Given.Finishes.Maps.{Standing}
+use Rattle.papaya_scenes.specs.Given.Tables.declared.node.Node.{Node}
+use Rattle.papaya_scenes.specs.Given.Tables.declared.setting.Setting.{Setting}
+use Rattle.papaya_scenes.specs.Given.Resize.declared.new_map.NewMap.{NewMap}
+use Rattle.papaya_scenes.specs.Given.Raw.declared.machines.end_map.EndMap.{EndMap}
+use Rattle.papaya_scenes.proofs.Given.Callers.Together.At.{at_other, at_same}
+use Rattle.papaya_scenes.specs.Given.Callers.Together.{UnderWay}
+use Rattle.papaya_scenes.specs.Given.Finishes.Endings.{Finishing, MakingStepsAmong, StepsOfEnding, waiting_by}
+use Rattle.papaya_scenes.specs.Given.Finishes.FactsEnds.{Deed, taken_by}
+use Rattle.papaya_scenes.specs.Given.Finishes.Makings.{Beginning}
+use Rattle.papaya_scenes.specs.Given.Finishes.Maps.{Standing}
 use Rattle.papaya_reclaims.specs.Left.{GoesOnBy, IsSomebodys, LeftAmong}
 use Rattle.papaya_reclaims.specs.Reclaims.{IsRootOf, RootLeads}
 use Rattle.papaya_reclaims.proofs.Left.Calls.{machines_leave_it, guards_leave_it}
 use Rattle.papaya_reclaims.proofs.Left.Endings.{endings_begin_and_leave_it, endings_leave_it}
 use Rattle.papaya_reclaims.proofs.Left.Makings.{makings_begin_and_leave_it, makings_leave_it}
-use Rattle.papaya_executor.specs.IsAt.{Scene}
+use Rattle.papaya_scenes.specs.Making.{making_begun}
 use Rattle.papaya_acts.specs.Acts.{Act, Answer}
 use Rattle.papaya_acts.specs.Acts.{BeginsCall, StepsCall, TellsCall, AsksCall, StopsCall, BeginsMaking, StepsMaking, BeginsEnding, StepsEnding, BeginsRow, StepsRow}
 use Rattle.papaya_acts.specs.Doings.{IsLeft, ActsLeaveIt}
-use Rattle.papaya_acts.specs.Leads.{MayBe, AllStand, Led, MakingCame, EndingCame, making_begun}
-use Rattle.papaya_acts.proofs.Tests.{none_is}
+use Rattle.papaya_acts.specs.Leads.{MayBe, AllStand, Led, MakingCame, EndingCame}
+use Rattle.papaya_scenes.proofs.NoCall.{none_is}
+use Rattle.papaya_scenes.specs.Scene.{Scene}
 
 -- an end goes on, with what it has reclaimed by now, and what waits
 pub goes_on_by : {K V Q : Type 0} (same : K → K → Bool) (asks : Q → K → Bool) (batch_size roots : ℕ) (slot : ℕ → ℕ) (w : World (Node K V)) (maps : ℕ → Option (Standing K))

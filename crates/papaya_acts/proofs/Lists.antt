@@ -2,41 +2,40 @@
 use Rattle.std.specs.Prelude.{◌≡◌, ◌⊎◌, ℕ, ◌<◌, ◌^◌, Bool, true, false, List, [], Option, Some, None, IsSome}
 use Rattle.std.specs.Option.{is_none}
 use Rattle.std.proofs.Common.{inl, inr, refl, sym, subst}
-use Rattle.papaya_executor.specs.Given.SeizeWords.Mem.{word_at}
-use Rattle.papaya_executor.specs.Given.SeizeWords.declared.at.At.TheVariants.{Slot}
-use Rattle.papaya_executor.specs.Given.Seize.ReclaimAll.{reclaiming_all, clearing}
-use Rattle.papaya_executor.specs.Given.Seize.World.{Use, Vacant, Outside, Inside, Changing, at_start}
-use Rattle.papaya_executor.specs.Given.Seize.declared.rows.reclaim_all.ReclaimAll.{ReclaimAll}
-use Rattle.papaya_executor.specs.Given.Seize.declared.rows.settle.Settled.{Settled}
-use Rattle.papaya_executor.specs.Given.Seize.declared.rows.settle.Settled.TheVariants as settled
-use Rattle.papaya_executor.specs.Given.Seize.declared.states.TheConstants.{HEAD}
+use Rattle.papaya_scenes.specs.Given.SeizeWords.Mem.{word_at}
+use Rattle.papaya_scenes.specs.Given.SeizeWords.declared.at.At.TheVariants.{Slot}
+use Rattle.papaya_scenes.specs.Given.Seize.ReclaimAll.{reclaiming_all, clearing}
+use Rattle.papaya_scenes.specs.Given.Seize.World.{Use, Vacant, Outside, Inside, Changing, at_start}
+use Rattle.papaya_scenes.specs.Given.Seize.declared.rows.reclaim_all.ReclaimAll.{ReclaimAll}
+use Rattle.papaya_scenes.specs.Given.Seize.declared.rows.settle.Settled.{Settled}
+use Rattle.papaya_scenes.specs.Given.Seize.declared.rows.settle.Settled.TheVariants as settled
+use Rattle.papaya_scenes.specs.Given.Seize.declared.states.TheConstants.{HEAD}
 use Rattle.seize_acts.specs.Answers.{Grant}
 use Rattle.seize_acts.proofs.Begun.{rests_is}
 use Rattle.seize_acts.proofs.Steps.{steps_so, row_so}
-use Rattle.papaya_executor.specs.Given.Tables.Nodes.{deferred_word}
-use Rattle.papaya_executor.specs.Given.Tables.declared.node.Node.{Node}
-use Rattle.papaya_executor.specs.Given.Resize.NewMap.{new_map_plan}
-use Rattle.papaya_executor.specs.Given.Raw.EndMap.{end_map_plan}
-use Rattle.papaya_executor.specs.Given.Raw.Machine.{machine_plan}
-use Rattle.papaya_executor.specs.Given.Points.Steps.{AreLawful}
-use Rattle.papaya_executor.specs.Given.Callers.Together.{UnderWay}
-use Rattle.papaya_executor.specs.Given.Finishes.Machines.{machine_of}
-use Rattle.papaya_executor.specs.Given.Finishes.Makings.{IsFreeRoot}
-use Rattle.papaya_executor.specs.Given.Finishes.Maps.{Standing}
-use Rattle.papaya_executor.proofs.Given.Finishes.Among.Begins.{no_endings_begin}
-use Rattle.papaya_executor.proofs.Given.Finishes.Among.Machines.{machines_stand_among}
-use Rattle.papaya_executor.proofs.Given.Finishes.Among.Makings.{makings_stand_among}
-use Rattle.papaya_executor.proofs.Given.Finishes.Among.Own.Steps.{endings_stand}
-use Rattle.papaya_executor.proofs.Given.Finishes.Among.Rows.{guards_stand_among}
-use Rattle.papaya_executor.proofs.Given.Finishes.Beside.Makings.Promised.{no_makings_begin}
-use Rattle.papaya_executor.proofs.Given.Finishes.Beside.Makings.Samples.{start_roots}
-use Rattle.papaya_executor.proofs.Given.Finishes.Beside.Maps.Comes.{no_maps_begin}
-use Rattle.papaya_executor.proofs.Given.Points.Making.OwnTables.{zero_at}
+use Rattle.papaya_scenes.specs.Given.Tables.Nodes.{deferred_word}
+use Rattle.papaya_scenes.specs.Given.Tables.declared.node.Node.{Node}
+use Rattle.papaya_scenes.specs.Given.Resize.NewMap.{new_map_plan}
+use Rattle.papaya_scenes.specs.Given.Raw.EndMap.{end_map_plan}
+use Rattle.papaya_scenes.specs.Given.Raw.Machine.{machine_plan}
+use Rattle.papaya_scenes.specs.Given.Points.Steps.{AreLawful}
+use Rattle.papaya_scenes.specs.Given.Callers.Together.{UnderWay}
+use Rattle.papaya_scenes.specs.Given.Finishes.Machines.{machine_of}
+use Rattle.papaya_scenes.specs.Given.Finishes.Makings.{IsFreeRoot}
+use Rattle.papaya_scenes.specs.Given.Finishes.Maps.{Standing}
+use Rattle.papaya_scenes.proofs.Given.Finishes.Among.Begins.{no_endings_begin}
+use Rattle.papaya_scenes.proofs.Given.Finishes.Among.Machines.{machines_stand_among}
+use Rattle.papaya_scenes.proofs.Given.Finishes.Among.Makings.{makings_stand_among}
+use Rattle.papaya_scenes.proofs.Given.Finishes.Among.Own.Steps.{endings_stand}
+use Rattle.papaya_scenes.proofs.Given.Finishes.Among.Rows.{guards_stand_among}
+use Rattle.papaya_scenes.proofs.Given.Finishes.Beside.Makings.Promised.{no_makings_begin}
+use Rattle.papaya_scenes.proofs.Given.Finishes.Beside.Makings.Samples.{start_roots}
+use Rattle.papaya_scenes.proofs.Given.Finishes.Beside.Maps.Comes.{no_maps_begin}
+use Rattle.papaya_scenes.proofs.Given.Points.Making.OwnTables.{zero_at}
 use Rattle.papaya_reclaims.specs.Left.{IsSomebodys}
 use Rattle.papaya_reclaims.specs.Slots.{IsQuiet}
 use Rattle.papaya_reclaims.proofs.Left.Stays.{left_is_left_behind, nothing_is_left}
 use Rattle.papaya_reclaims.proofs.Promised.{reclaiming_begins}
-use Rattle.papaya_executor.specs.IsAt.{Scene, at_first}
 use Rattle.papaya_acts.specs.Acts.{Act, Answer, Nothing, OfReclaiming, BeginsCall, StepsCall, TellsCall, AsksCall, StopsCall, BeginsMaking, StepsMaking, BeginsEnding, StepsEnding, BeginsRow, StepsRow}
 use Rattle.papaya_acts.specs.Doings.{Doing, Does, BeginsReclaiming, BeginsClearing, StepsReclaiming, is_vacant, IsLeft, AllAreFree, SlotsAreFree, still, Stage, MayDo, HasDone}
 use Rattle.papaya_acts.specs.Leads.{MayBe, AllStand, Led}
@@ -48,7 +47,8 @@ use Rattle.papaya_acts.proofs.Makings.{making_begins, making_goes_on, ending_beg
 use Rattle.papaya_acts.proofs.Once.{is_determined}
 use Rattle.papaya_acts.proofs.Reclaiming.{reclaiming_is_by_acts}
 use Rattle.papaya_acts.proofs.Rows.{row_begins, row_goes_on}
-use Rattle.papaya_acts.proofs.Tests.{none_is}
+use Rattle.papaya_scenes.proofs.NoCall.{none_is}
+use Rattle.papaya_scenes.specs.Scene.{Scene, at_first}
 
 -- what the tests say of a slot
 vacant_is : (u : Use) → is_vacant u ≡ true → u ≡ Vacant

@@ -1,33 +1,35 @@
 -- A making or an end of a map that begins, or takes a step: all stand together then.
 use Rattle.std.specs.Prelude.{◌≡◌, ℕ, Bool, [], ◌∷◌, ◌++◌, Some, None}
 use Rattle.std.proofs.Common.{refl}
-use Rattle.papaya_executor.specs.Given.Seize.World.{with_at, with_effect}
-use Rattle.papaya_executor.specs.Given.Seize.Law.{Ended}
-use Rattle.papaya_executor.specs.Given.Seize.declared.progress.Progress.{Progress}
-use Rattle.papaya_executor.specs.Given.Seize.declared.progress.Progress.TheVariants as progress
-use Rattle.papaya_executor.specs.Given.Seize.declared.rows.settle.Settled.{Settled}
-use Rattle.papaya_executor.specs.Given.Seize.declared.rows.settle.Settled.TheVariants as settled
+use Rattle.papaya_scenes.specs.Given.Seize.World.{with_at, with_effect}
+use Rattle.papaya_scenes.specs.Given.Seize.Law.{Ended}
+use Rattle.papaya_scenes.specs.Given.Seize.declared.progress.Progress.{Progress}
+use Rattle.papaya_scenes.specs.Given.Seize.declared.progress.Progress.TheVariants as progress
+use Rattle.papaya_scenes.specs.Given.Seize.declared.rows.settle.Settled.{Settled}
+use Rattle.papaya_scenes.specs.Given.Seize.declared.rows.settle.Settled.TheVariants as settled
 use Rattle.seize_acts.specs.Answers.{Grant, then_on}
 use Rattle.seize_acts.proofs.Answers.{some, was_stepped}
-use Rattle.papaya_executor.specs.Given.SeizeWords.Mem.{Mem}
-use Rattle.papaya_executor.specs.Given.Tables.declared.node.Node.{Node}
-use Rattle.papaya_executor.specs.Given.Tables.declared.setting.Setting.{Setting}
-use Rattle.papaya_executor.specs.Given.Resize.NewMap.{new_map_plan}
-use Rattle.papaya_executor.specs.Given.Resize.declared.new_map.NewMap.{NewMap}
-use Rattle.papaya_executor.specs.Given.Raw.EndMap.{end_map_plan}
-use Rattle.papaya_executor.specs.Given.Raw.declared.machines.end_map.EndMap.{EndMap}
-use Rattle.papaya_executor.specs.Given.Points.Steps.{AreLawful}
-use Rattle.papaya_executor.specs.Given.Finishes.Endings.{Finishing, MakingStepsAmong, MakingToldAmong, StepsOfEnding, FinishingTold, waiting_by}
-use Rattle.papaya_executor.specs.Given.Finishes.Makings.{Beginning}
-use Rattle.papaya_executor.proofs.Given.Finishes.Among.Begins.{endings_begin}
-use Rattle.papaya_executor.proofs.Given.Finishes.Among.Makings.{makings_stand_among, makings_begin_among}
-use Rattle.papaya_executor.proofs.Given.Finishes.Among.Own.Steps.{endings_stand}
-use Rattle.papaya_executor.proofs.Given.Finishes.Beside.Makings.Promised.{makings_begin}
-use Rattle.papaya_executor.specs.Ending.{ending_begun}
-use Rattle.papaya_executor.specs.IsAt.{Scene}
+use Rattle.papaya_scenes.specs.Given.SeizeWords.Mem.{Mem}
+use Rattle.papaya_scenes.specs.Given.Tables.declared.node.Node.{Node}
+use Rattle.papaya_scenes.specs.Given.Tables.declared.setting.Setting.{Setting}
+use Rattle.papaya_scenes.specs.Given.Resize.NewMap.{new_map_plan}
+use Rattle.papaya_scenes.specs.Given.Resize.declared.new_map.NewMap.{NewMap}
+use Rattle.papaya_scenes.specs.Given.Raw.EndMap.{end_map_plan}
+use Rattle.papaya_scenes.specs.Given.Raw.declared.machines.end_map.EndMap.{EndMap}
+use Rattle.papaya_scenes.specs.Given.Points.Steps.{AreLawful}
+use Rattle.papaya_scenes.specs.Given.Finishes.Endings.{Finishing, MakingStepsAmong, MakingToldAmong, StepsOfEnding, FinishingTold, waiting_by}
+use Rattle.papaya_scenes.specs.Given.Finishes.Makings.{Beginning}
+use Rattle.papaya_scenes.proofs.Given.Finishes.Among.Begins.{endings_begin}
+use Rattle.papaya_scenes.proofs.Given.Finishes.Among.Makings.{makings_stand_among, makings_begin_among}
+use Rattle.papaya_scenes.proofs.Given.Finishes.Among.Own.Steps.{endings_stand}
+use Rattle.papaya_scenes.proofs.Given.Finishes.Beside.Makings.Promised.{makings_begin}
+use Rattle.papaya_scenes.specs.Making.{making_begun}
 use Rattle.papaya_acts.specs.Acts.{Answer, Nothing, OfMaking, OfEnding, BeginsMaking, StepsMaking, BeginsEnding, StepsEnding}
-use Rattle.papaya_acts.specs.Leads.{MayBe, AllStand, Led, MakingCame, EndingCame, making_begun, making_steps, ending_steps}
-use Rattle.papaya_acts.proofs.Tests.{none_is, some_is}
+use Rattle.papaya_acts.specs.Leads.{MayBe, AllStand, Led, MakingCame, EndingCame, making_steps, ending_steps}
+use Rattle.papaya_acts.proofs.Tests.{some_is}
+use Rattle.papaya_scenes.proofs.NoCall.{none_is}
+use Rattle.papaya_scenes.specs.Ending.{ending_begun}
+use Rattle.papaya_scenes.specs.Scene.{Scene}
 
 module _ {K V : Type 0} (same : K → K → Bool) (hash : ℕ → K → ℕ) (batch_size roots : ℕ) (slot : ℕ → ℕ) (s : Scene K V) (all : AllStand same hash batch_size roots slot s) (i : ℕ) where
   abbrev Stands : Scene K V → Type 0

@@ -5,13 +5,13 @@ use Rattle.std.specs.Coded.{Coded-set, coded_bool, coded_ℕ, le_prop}
 use Rattle.std.proofs.Common.{inl, inr, refl, sym, ap, subst, arith, ◌∙◌}
 use Rattle.std.proofs.Math.Pow.{pow-lt}
 use Rattle.std.proofs.lemmas.Bool.{cases_order}
-use Rattle.papaya_executor.specs.Given.Seize.World.{Request, Register', Enter', Leave', LeaveOwned, Refresh, Unregister', Retire, Flush, Defer'}
-use Rattle.papaya_executor.specs.Given.Callers.Together.{IsOfSlots}
-use Rattle.papaya_executor.specs.IsAt.{Scene}
+use Rattle.papaya_scenes.specs.Given.Seize.World.{Request, Register', Enter', Leave', LeaveOwned, Refresh, Unregister', Retire, Flush, Defer'}
+use Rattle.papaya_scenes.specs.Given.Callers.Together.{IsOfSlots}
 use Rattle.papaya_acts.specs.Acts.{Act, BeginsCall, StepsCall, TellsCall, AsksCall, StopsCall, BeginsMaking, StepsMaking, BeginsEnding, StepsEnding, BeginsRow, StepsRow}
 use Rattle.papaya_acts.specs.Doings.{Doing, Does, BeginsReclaiming, BeginsClearing, StepsReclaiming, AllAreFree, SlotsAreFree, Stage, MayDo}
 use Rattle.papaya_acts.specs.Leads.{IsFree, AreFewWith, MayBe}
 use Rattle.papaya_acts.specs.Lists.{Course, Reached, on_by, IsDetermined}
+use Rattle.papaya_scenes.specs.Scene.{Scene}
 
 bool_set : IsSet Bool
 bool_set = Coded-set coded_bool

@@ -1,20 +1,20 @@
 -- The steps of a caller that reclaims all are those of acts.
 use Rattle.std.specs.Prelude.{◌≡◌, ℕ, Bool, List, Some}
 use Rattle.std.proofs.Common.{refl}
-use Rattle.papaya_executor.specs.Given.SeizeWords.Mem.{Mem}
-use Rattle.papaya_executor.specs.Given.Seize.ReclaimAll.{reclaim_all_plan}
-use Rattle.papaya_executor.specs.Given.Seize.declared.rows.reclaim_all.ReclaimAll.{ReclaimAll}
-use Rattle.papaya_executor.specs.Given.Seize.declared.rows.settle.Settled.{Settled}
+use Rattle.papaya_scenes.specs.Given.SeizeWords.Mem.{Mem}
+use Rattle.papaya_scenes.specs.Given.Seize.ReclaimAll.{reclaim_all_plan}
+use Rattle.papaya_scenes.specs.Given.Seize.declared.rows.reclaim_all.ReclaimAll.{ReclaimAll}
+use Rattle.papaya_scenes.specs.Given.Seize.declared.rows.settle.Settled.{Settled}
 use Rattle.seize_acts.specs.Answers.{Grant}
 use Rattle.seize_acts.proofs.Answers.{was_stepped}
 use Rattle.seize_acts.proofs.Steps.{steps_so}
-use Rattle.papaya_executor.specs.Given.Tables.Nodes.{deferred_word, was_left}
-use Rattle.papaya_executor.specs.Given.Tables.declared.node.Node.{Node}
+use Rattle.papaya_scenes.specs.Given.Tables.Nodes.{deferred_word, was_left}
+use Rattle.papaya_scenes.specs.Given.Tables.declared.node.Node.{Node}
 use Rattle.papaya_reclaims.specs.Reclaims.{StepsOfReclaiming}
 use Rattle.papaya_reclaims.proofs.Promised.{reclaiming_stands}
-use Rattle.papaya_executor.specs.IsAt.{Scene}
 use Rattle.papaya_acts.specs.Reclaiming.{reclaiming_steps, ReclaimedOn, IsReclaimingAll, ReclaimingIsByActs}
 use Rattle.papaya_acts.proofs.Tests.{some_is}
+use Rattle.papaya_scenes.specs.Scene.{Scene}
 
 module _ {K : Type 0} (V : Type 0) (same : K → K → Bool) (batch_size roots : ℕ) (slot : ℕ → ℕ) where
   pub reclaiming_is_by_acts : ReclaimingIsByActs V same batch_size roots slot

@@ -1,18 +1,19 @@
 -- A row that begins on a slot between calls, or takes a step: all stand together then.
 use Rattle.std.specs.Prelude.{ℕ, Bool}
 use Rattle.std.proofs.Common.{refl}
-use Rattle.papaya_executor.specs.Given.Seize.World.{Request, Begin, Step, Happens}
+use Rattle.papaya_scenes.specs.Given.Seize.World.{Request, Begin, Step, Happens}
 use Rattle.seize_acts.specs.Acts.{row_steps, begun as row_begun}
 use Rattle.seize_acts.specs.Answers.{Grant}
 use Rattle.seize_acts.proofs.Begun.{rests_is, begun_is}
 use Rattle.seize_acts.proofs.Fine.{row_stepped}
-use Rattle.papaya_executor.specs.Given.Tables.Nodes.{deferred_word}
-use Rattle.papaya_executor.specs.Given.Finishes.Endings.{AllEndingsStand}
-use Rattle.papaya_executor.proofs.Given.Finishes.Among.Rows.{guards_stand_among}
-use Rattle.papaya_executor.specs.IsAt.{Scene}
+use Rattle.papaya_scenes.specs.Given.Tables.Nodes.{deferred_word}
+use Rattle.papaya_scenes.specs.Given.Finishes.Endings.{AllEndingsStand}
+use Rattle.papaya_scenes.proofs.Given.Finishes.Among.Rows.{guards_stand_among}
 use Rattle.papaya_acts.specs.Acts.{Nothing, BeginsRow, StepsRow}
 use Rattle.papaya_acts.specs.Leads.{MayBe, AllStand, Led}
-use Rattle.papaya_acts.proofs.Tests.{none_is, some_is}
+use Rattle.papaya_acts.proofs.Tests.{some_is}
+use Rattle.papaya_scenes.proofs.NoCall.{none_is}
+use Rattle.papaya_scenes.specs.Scene.{Scene}
 
 module _ {K V : Type 0} (same : K → K → Bool) (hash : ℕ → K → ℕ) (batch_size roots : ℕ) (slot : ℕ → ℕ) (s : Scene K V) (all : AllStand same hash batch_size roots slot s) (i : ℕ) where
   abbrev Stands : Scene K V → Type 0

@@ -3,19 +3,20 @@ use Rattle.std.specs.Prelude.{◌≡◌, ℕ, zero, suc, ◌+◌, ◌*◌, ◌<�
 use Rattle.std.specs.Int.{IsPowerOfTwo}
 use Rattle.std.proofs.Common.{inl, inr, refl, arith, sym, ◌∙◌}
 use Rattle.std.proofs.Math.Nat.{pow-suc}
-use Rattle.papaya_executor.specs.Given.Seize.World.{Register', with_at}
-use Rattle.papaya_executor.specs.Given.Seize.declared.rows.reclaim_all.ReclaimAll.{ReclaimAll}
+use Rattle.papaya_scenes.specs.Given.Seize.World.{Register', with_at}
+use Rattle.papaya_scenes.specs.Given.Seize.declared.rows.reclaim_all.ReclaimAll.{ReclaimAll}
 use Rattle.seize_acts.specs.Answers.{Grant}
-use Rattle.papaya_executor.specs.Given.Tables.Lengths.{IsTableLen}
-use Rattle.papaya_executor.specs.Given.Tables.declared.setting.Setting.{Setting}
-use Rattle.papaya_executor.specs.Given.Resize.declared.new_map.Opening.TheVariants as at
-use Rattle.papaya_executor.specs.Given.Finishes.Makings.{Beginning}
-use Rattle.papaya_executor.specs.IsAt.{Scene, at_first}
+use Rattle.papaya_scenes.specs.Given.Tables.Lengths.{IsTableLen}
+use Rattle.papaya_scenes.specs.Given.Tables.declared.setting.Setting.{Setting}
+use Rattle.papaya_scenes.specs.Given.Resize.declared.new_map.Opening.TheVariants as at
+use Rattle.papaya_scenes.specs.Given.Finishes.Makings.{Beginning}
+use Rattle.papaya_scenes.specs.Making.{making_begun}
 use Rattle.papaya_acts.specs.Acts.{Act, Wanted, BeginsCall, StepsCall, BeginsMaking, StepsMaking, BeginsRow}
 use Rattle.papaya_acts.specs.Courses.{AreAlike}
 use Rattle.papaya_acts.specs.Doings.{Does, BeginsReclaiming, BeginsClearing, StepsReclaiming, IsLeft, Stage, MayDo}
-use Rattle.papaya_acts.specs.Leads.{AllStand, IsFree, MayBe, making_begun}
+use Rattle.papaya_acts.specs.Leads.{AllStand, IsFree, MayBe}
 use Rattle.papaya_acts.specs.Reclaiming.{IsReclaimingAll}
+use Rattle.papaya_scenes.specs.Scene.{Scene, at_first}
 
 -- 3 is no power of two
 not_three : (k : ℕ) → 3 ≡ 2 ^ k → ⊥

@@ -2,14 +2,10 @@
 use Rattle.std.specs.Prelude.{Option, Some, None}
 use Rattle.std.specs.Option.{is_none}
 use Rattle.std.proofs.Common.{◌≡◌, ℕ, ◌^◌, Bool, true, false, refl, sym, arith}
-use Rattle.papaya_executor.specs.Given.Seize.World.{Use, Vacant, Outside, Inside, Changing, IsInside}
+use Rattle.papaya_scenes.specs.Given.Seize.World.{Use, Vacant, Outside, Inside, Changing, IsInside}
 use Rattle.seize_acts.specs.Acts.{is_within}
-use Rattle.papaya_executor.specs.Given.Rule.Maps.{IsClass}
-use Rattle.papaya_executor.specs.Given.Points.Steps.{AreLawful}
-
-pub none_is : {X : Type 0} (o : Option X) → is_none o ≡ true → o ≡ None
-none_is None e = refl
-none_is (Some x) e = absurd (cc e)
+use Rattle.papaya_scenes.specs.Given.Rule.Maps.{IsClass}
+use Rattle.papaya_scenes.specs.Given.Points.Steps.{AreLawful}
 
 pub some_is : {X : Type 0} (o : Option X) → is_none o ≡ false → (x : X) × (o ≡ Some x)
 some_is None e = absurd (cc e)

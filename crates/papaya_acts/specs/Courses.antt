@@ -1,12 +1,11 @@
 -- A list of acts leads to the same by whichever course: the same memory, the same machines under way, and the same answers.
 use Rattle.std.specs.Prelude.{◌≡◌, ℕ, Bool, List, option_map}
-use Rattle.papaya_executor.specs.Given.Tables.declared.setting.Setting.{Setting}
-use Rattle.papaya_executor.specs.Given.Finishes.Machines.{machine_of}
-use Rattle.papaya_executor.specs.Given.Finishes.Maps.{Standing}
-use Rattle.papaya_executor.specs.IsAt.{Scene}
+use Rattle.papaya_scenes.specs.Given.Tables.declared.setting.Setting.{Setting}
+use Rattle.papaya_scenes.specs.Given.Finishes.Machines.{machine_of}
+use Rattle.papaya_scenes.specs.Given.Finishes.Maps.{Standing}
 use Rattle.papaya_acts.specs.Doings.{Doing, reclaiming}
-use Rattle.papaya_acts.specs.Leads.{HasNoCall}
 use Rattle.papaya_acts.specs.Lists.{Course, Reached, LedTo}
+use Rattle.papaya_scenes.specs.Scene.{Scene, HasNoCall}
 
 -- what callers know of a map: its setting, and the hash of its keys
 abbrev pub set_up : {K : Type 0} → Standing K → Setting × (K → ℕ)

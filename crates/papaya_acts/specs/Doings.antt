@@ -3,23 +3,23 @@
 use Rattle.std.specs.Prelude.{◌≡◌, ◌⊎◌, ℕ, ◌<◌, ◌≤◌, ◌^◌, Bool, true, false, List, Option, Some, None}
 use Rattle.std.specs.Option.{is_none}
 use Rattle.std.proofs.Common.{inl, inr}
-use Rattle.papaya_executor.specs.Given.SeizeWords.Mem.{word_at}
-use Rattle.papaya_executor.specs.Given.SeizeWords.declared.at.At.TheVariants.{Slot}
-use Rattle.papaya_executor.specs.Given.Seize.ReclaimAll.{reclaiming_all, clearing}
-use Rattle.papaya_executor.specs.Given.Seize.World.{Use, Vacant}
-use Rattle.papaya_executor.specs.Given.Seize.declared.rows.reclaim_all.ReclaimAll.{ReclaimAll}
-use Rattle.papaya_executor.specs.Given.Seize.declared.rows.settle.Settled.{Settled}
-use Rattle.papaya_executor.specs.Given.Seize.declared.rows.settle.Settled.TheVariants as settled
-use Rattle.papaya_executor.specs.Given.Seize.declared.states.TheConstants.{HEAD, LAST_SLOT}
+use Rattle.papaya_scenes.specs.Given.SeizeWords.Mem.{word_at}
+use Rattle.papaya_scenes.specs.Given.SeizeWords.declared.at.At.TheVariants.{Slot}
+use Rattle.papaya_scenes.specs.Given.Seize.ReclaimAll.{reclaiming_all, clearing}
+use Rattle.papaya_scenes.specs.Given.Seize.World.{Use, Vacant}
+use Rattle.papaya_scenes.specs.Given.Seize.declared.rows.reclaim_all.ReclaimAll.{ReclaimAll}
+use Rattle.papaya_scenes.specs.Given.Seize.declared.rows.settle.Settled.{Settled}
+use Rattle.papaya_scenes.specs.Given.Seize.declared.rows.settle.Settled.TheVariants as settled
+use Rattle.papaya_scenes.specs.Given.Seize.declared.states.TheConstants.{HEAD, LAST_SLOT}
 use Rattle.seize_acts.specs.Acts.{rests}
 use Rattle.seize_acts.specs.Answers.{Grant, then_on}
-use Rattle.papaya_executor.specs.Given.Tables.declared.node.Node.{Node}
+use Rattle.papaya_scenes.specs.Given.Tables.declared.node.Node.{Node}
 use Rattle.papaya_reclaims.specs.Left.{LeftAmong}
 use Rattle.papaya_reclaims.specs.Slots.{HasNoBatch}
-use Rattle.papaya_executor.specs.IsAt.{Scene}
 use Rattle.papaya_acts.specs.Acts.{Act, Answer, Nothing, OfReclaiming}
 use Rattle.papaya_acts.specs.Leads.{MayBe, AllStand, Led}
 use Rattle.papaya_acts.specs.Reclaiming.{IsReclaimingAll, ReclaimedOn, reclaiming_steps}
+use Rattle.papaya_scenes.specs.Scene.{Scene}
 
 pub data Doing (K V : Type 0) : Type 0 where
   Does : Act K V → Doing K V

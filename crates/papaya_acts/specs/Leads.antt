@@ -2,45 +2,42 @@
 use Rattle.std.specs.Prelude.{◌≡◌, ◌≢◌, ◌⊎◌, ℕ, ◌+◌, ◌<◌, ◌≤◌, ◌^◌, max, Bool, true, false, [], ◌∷◌, ◌++◌, Option, Some, None}
 use Rattle.std.specs.Int.{IsPowerOfTwo}
 use Rattle.std.specs.Option.{is_none}
-use Rattle.papaya_executor.specs.Given.SeizeWords.Mem.{Mem, value_at}
-use Rattle.papaya_executor.specs.Given.Seize.World.{World, Begin, Step, Happens, with_at}
-use Rattle.papaya_executor.specs.Given.Seize.declared.progress.Progress.{Progress}
-use Rattle.papaya_executor.specs.Given.Seize.declared.progress.Progress.TheVariants as progress
-use Rattle.papaya_executor.specs.Given.Seize.declared.rows.settle.Settled.{Settled}
-use Rattle.papaya_executor.specs.Given.Seize.declared.rows.settle.Settled.TheVariants as settled
+use Rattle.papaya_scenes.specs.Given.SeizeWords.Mem.{Mem, value_at}
+use Rattle.papaya_scenes.specs.Given.Seize.World.{World, Begin, Step, Happens, with_at}
+use Rattle.papaya_scenes.specs.Given.Seize.declared.progress.Progress.{Progress}
+use Rattle.papaya_scenes.specs.Given.Seize.declared.progress.Progress.TheVariants as progress
+use Rattle.papaya_scenes.specs.Given.Seize.declared.rows.settle.Settled.{Settled}
+use Rattle.papaya_scenes.specs.Given.Seize.declared.rows.settle.Settled.TheVariants as settled
 use Rattle.seize_acts.specs.Acts.{rests, is_within, begun as row_begun, row_steps}
 use Rattle.seize_acts.specs.Answers.{Grant, then_on, stepped}
-use Rattle.papaya_executor.specs.Given.Tables.Chunks.{is_incremental}
-use Rattle.papaya_executor.specs.Given.Tables.Lengths.{IsTableLen}
-use Rattle.papaya_executor.specs.Given.Tables.Nodes.{deferred_word}
-use Rattle.papaya_executor.specs.Given.Tables.declared.node.Node.{Node}
-use Rattle.papaya_executor.specs.Given.Tables.declared.setting.Setting.{Setting}
-use Rattle.papaya_executor.specs.Given.Resize.NewMap.{opening, new_map_plan}
-use Rattle.papaya_executor.specs.Given.Resize.declared.new_map.NewMap.{NewMap}
-use Rattle.papaya_executor.specs.Given.Raw.EndMap.{end_map_plan}
-use Rattle.papaya_executor.specs.Given.Raw.Machine.{machine_plan, machine_replied, machine_asked}
-use Rattle.papaya_executor.specs.Given.Raw.declared.machines.end_map.EndMap.{EndMap}
-use Rattle.papaya_executor.specs.Given.Raw.declared.machines.machine.Machine.{Machine}
-use Rattle.papaya_executor.specs.Given.Raw.declared.machines.progress.Progress.{Progress as CallProgress}
-use Rattle.papaya_executor.specs.Given.Callers.Claims.{AreFew}
-use Rattle.papaya_executor.specs.Given.Callers.Together.{UnderWay, HasCall, IsOfSlots, Closes}
-use Rattle.papaya_executor.specs.Given.Finishes.Endings.{Finishing, EndingsTogether, StepsOfEnding, MakingStepsAmong, HasFinished, waiting_by}
-use Rattle.papaya_executor.specs.Given.Finishes.FactsEnds.{Deed, taken_by}
-use Rattle.papaya_executor.specs.Given.Finishes.Machines.{machine_of, ToldOfKind, MachineStepsAmong}
-use Rattle.papaya_executor.specs.Given.Finishes.Makings.{Beginning, IsMade}
-use Rattle.papaya_executor.specs.Given.Finishes.Maps.{Standing, IsSameMap, with_call}
-use Rattle.papaya_executor.specs.Ending.{ending_begun}
-use Rattle.papaya_executor.specs.IsAt.{Scene}
-use Rattle.papaya_executor.specs.Replying.{scene_with, unless_stopped}
+use Rattle.papaya_scenes.specs.Given.Tables.Chunks.{is_incremental}
+use Rattle.papaya_scenes.specs.Given.Tables.Lengths.{IsTableLen}
+use Rattle.papaya_scenes.specs.Given.Tables.Nodes.{deferred_word}
+use Rattle.papaya_scenes.specs.Given.Tables.declared.node.Node.{Node}
+use Rattle.papaya_scenes.specs.Given.Tables.declared.setting.Setting.{Setting}
+use Rattle.papaya_scenes.specs.Given.Resize.NewMap.{new_map_plan}
+use Rattle.papaya_scenes.specs.Given.Resize.declared.new_map.NewMap.{NewMap}
+use Rattle.papaya_scenes.specs.Given.Raw.EndMap.{end_map_plan}
+use Rattle.papaya_scenes.specs.Given.Raw.Machine.{machine_plan, machine_replied, machine_asked}
+use Rattle.papaya_scenes.specs.Given.Raw.declared.machines.end_map.EndMap.{EndMap}
+use Rattle.papaya_scenes.specs.Given.Raw.declared.machines.machine.Machine.{Machine}
+use Rattle.papaya_scenes.specs.Given.Raw.declared.machines.progress.Progress.{Progress as CallProgress}
+use Rattle.papaya_scenes.specs.Given.Callers.Claims.{AreFew}
+use Rattle.papaya_scenes.specs.Given.Callers.Together.{UnderWay, HasCall, IsOfSlots, Closes}
+use Rattle.papaya_scenes.specs.Given.Finishes.Endings.{Finishing, EndingsTogether, StepsOfEnding, MakingStepsAmong, HasFinished, waiting_by}
+use Rattle.papaya_scenes.specs.Given.Finishes.FactsEnds.{Deed, taken_by}
+use Rattle.papaya_scenes.specs.Given.Finishes.Machines.{machine_of, ToldOfKind, MachineStepsAmong}
+use Rattle.papaya_scenes.specs.Given.Finishes.Makings.{Beginning, IsMade}
+use Rattle.papaya_scenes.specs.Given.Finishes.Maps.{Standing, IsSameMap, with_call}
 use Rattle.papaya_acts.specs.Acts.{Act, Answer, Nothing, OfCall, OfReply, OfAsking, OfMaking, OfEnding, begun}
 use Rattle.papaya_acts.specs.Acts.{BeginsCall, StepsCall, TellsCall, AsksCall, StopsCall, BeginsMaking, StepsMaking, BeginsEnding, StepsEnding, BeginsRow, StepsRow}
+use Rattle.papaya_scenes.specs.Ending.{ending_begun}
+use Rattle.papaya_scenes.specs.Replying.{scene_with, unless_stopped}
+use Rattle.papaya_scenes.specs.Making.{making_begun}
+use Rattle.papaya_scenes.specs.Scene.{Scene, HasNoCall}
 
 module _ {K V : Type 0} where
-  -- a caller has no call, on no map
-  abbrev pub HasNoCall : Scene K V → ℕ → Type 0
-  HasNoCall s i = (m : ℕ) → is_none (s.calls m i) ≡ true
-
-  -- nor does it make or end one
+  -- a caller has no call, and neither makes a map nor ends one
   pub record IsFree (s : Scene K V) (i : ℕ) : Type 0 where
     pub no_call : HasNoCall s i
     pub no_making : is_none (s.makers i) ≡ true
@@ -53,10 +50,6 @@ module _ {K V : Type 0} where
   -- a call and its map, if the call is there
   abbrev pub call_at : Scene K V → ℕ → ℕ → Option (Standing K × UnderWay K V K)
   call_at s i m = then_on (s.maps m) (λ standing. then_on (s.calls m i) (λ u. Some (standing, u)))
-
--- the making that begins, where there are so many roots
-abbrev pub making_begun : {K : Type 0} → (K → ℕ) → ℕ → ℕ → Setting → ℕ → Beginning K
-making_begun hash roots map given places = record { map = map; given = given; places = places; hash = hash; machine = opening given roots places }
 
 -- Each map has a hash, by its number; a batch has such a size, there are so many roots, and each caller has a slot.
 module _ {K V : Type 0} (same : K → K → Bool) (hash : ℕ → K → ℕ) (batch_size roots : ℕ) (slot : ℕ → ℕ) where

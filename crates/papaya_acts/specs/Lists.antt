@@ -1,33 +1,33 @@
 -- Lists of acts: to which scene each leads, and what is promised of it.
 use Rattle.std.specs.Prelude.{◌≡◌, ℕ, Bool, List, [], ◌∷◌, Some}
 use Rattle.std.proofs.Common.{inl}
-use Rattle.papaya_executor.specs.Given.SeizeWords.Mem.{Mem, Can, Took, value_at}
-use Rattle.papaya_executor.specs.Given.SeizeWords.Plan.{May, Steps}
-use Rattle.papaya_executor.specs.Given.Seize.World.{World, MayStep, Steps'}
-use Rattle.papaya_executor.specs.Given.Seize.declared.progress.Progress.{Progress}
-use Rattle.papaya_executor.specs.Given.Seize.declared.rows.settle.Settled.{Settled}
+use Rattle.papaya_scenes.specs.Given.SeizeWords.Mem.{Mem, Can, Took, value_at}
+use Rattle.papaya_scenes.specs.Given.SeizeWords.Plan.{May, Steps}
+use Rattle.papaya_scenes.specs.Given.Seize.World.{World, MayStep, Steps'}
+use Rattle.papaya_scenes.specs.Given.Seize.declared.progress.Progress.{Progress}
+use Rattle.papaya_scenes.specs.Given.Seize.declared.rows.settle.Settled.{Settled}
 use Rattle.seize_acts.specs.Acts.{row_steps}
 use Rattle.seize_acts.specs.Answers.{Grant}
-use Rattle.papaya_executor.specs.Given.Tables.Nodes.{deferred_word}
-use Rattle.papaya_executor.specs.Given.Tables.declared.node.Node.{Node}
-use Rattle.papaya_executor.specs.Given.Tables.declared.setting.Setting.{Setting}
-use Rattle.papaya_executor.specs.Given.Resize.NewMap.{new_map_plan}
-use Rattle.papaya_executor.specs.Given.Resize.declared.new_map.NewMap.{NewMap}
-use Rattle.papaya_executor.specs.Given.Raw.EndMap.{end_map_plan}
-use Rattle.papaya_executor.specs.Given.Raw.Machine.{machine_plan}
-use Rattle.papaya_executor.specs.Given.Raw.declared.machines.end_map.EndMap.{EndMap}
-use Rattle.papaya_executor.specs.Given.Raw.declared.machines.machine.Machine.{Machine}
-use Rattle.papaya_executor.specs.Given.Raw.declared.machines.progress.Progress.{Progress as CallProgress}
-use Rattle.papaya_executor.specs.Given.Points.Steps.{AreLawful}
-use Rattle.papaya_executor.specs.Given.Callers.Together.{UnderWay}
-use Rattle.papaya_executor.specs.Given.Finishes.Endings.{Finishing}
-use Rattle.papaya_executor.specs.Given.Finishes.Machines.{machine_of}
-use Rattle.papaya_executor.specs.Given.Finishes.Makings.{Beginning}
-use Rattle.papaya_executor.specs.Given.Finishes.Maps.{Standing}
-use Rattle.papaya_executor.specs.IsAt.{Scene, at_first}
+use Rattle.papaya_scenes.specs.Given.Tables.Nodes.{deferred_word}
+use Rattle.papaya_scenes.specs.Given.Tables.declared.node.Node.{Node}
+use Rattle.papaya_scenes.specs.Given.Tables.declared.setting.Setting.{Setting}
+use Rattle.papaya_scenes.specs.Given.Resize.NewMap.{new_map_plan}
+use Rattle.papaya_scenes.specs.Given.Resize.declared.new_map.NewMap.{NewMap}
+use Rattle.papaya_scenes.specs.Given.Raw.EndMap.{end_map_plan}
+use Rattle.papaya_scenes.specs.Given.Raw.Machine.{machine_plan}
+use Rattle.papaya_scenes.specs.Given.Raw.declared.machines.end_map.EndMap.{EndMap}
+use Rattle.papaya_scenes.specs.Given.Raw.declared.machines.machine.Machine.{Machine}
+use Rattle.papaya_scenes.specs.Given.Raw.declared.machines.progress.Progress.{Progress as CallProgress}
+use Rattle.papaya_scenes.specs.Given.Points.Steps.{AreLawful}
+use Rattle.papaya_scenes.specs.Given.Callers.Together.{UnderWay}
+use Rattle.papaya_scenes.specs.Given.Finishes.Endings.{Finishing}
+use Rattle.papaya_scenes.specs.Given.Finishes.Machines.{machine_of}
+use Rattle.papaya_scenes.specs.Given.Finishes.Makings.{Beginning}
+use Rattle.papaya_scenes.specs.Given.Finishes.Maps.{Standing}
 use Rattle.papaya_acts.specs.Acts.{Answer}
 use Rattle.papaya_acts.specs.Doings.{Doing, IsLeft, Stage, MayDo, HasDone}
-use Rattle.papaya_acts.specs.Leads.{AllStand, HasNoCall, call_steps, making_steps, ending_steps}
+use Rattle.papaya_acts.specs.Leads.{AllStand, call_steps, making_steps, ending_steps}
+use Rattle.papaya_scenes.specs.Scene.{Scene, HasNoCall, at_first}
 
 module _ {K : Type 0} (V : Type 0) (same : K → K → Bool) (hash : ℕ → K → ℕ) (batch_size roots : ℕ) (slot : ℕ → ℕ) where
   -- whichever caller takes the next step of what it has under way, it may take it: all that the step looks at is there

@@ -1,16 +1,16 @@
 -- A caller reclaims all by acts: each of its steps is computed from the memory, and from what that was free to choose.
 use Rattle.std.specs.Prelude.{◌≡◌, ℕ, ◌<◌, ◌^◌, Bool, false, List, Option, Some}
 use Rattle.std.specs.Option.{is_none}
-use Rattle.papaya_executor.specs.Given.SeizeWords.Mem.{Mem, Can, Took, value_at}
-use Rattle.papaya_executor.specs.Given.SeizeWords.Plan.{May, Steps}
-use Rattle.papaya_executor.specs.Given.Seize.ReclaimAll.{reclaim_all_plan}
-use Rattle.papaya_executor.specs.Given.Seize.declared.rows.reclaim_all.ReclaimAll.{ReclaimAll}
-use Rattle.papaya_executor.specs.Given.Seize.declared.rows.settle.Settled.{Settled}
+use Rattle.papaya_scenes.specs.Given.SeizeWords.Mem.{Mem, Can, Took, value_at}
+use Rattle.papaya_scenes.specs.Given.SeizeWords.Plan.{May, Steps}
+use Rattle.papaya_scenes.specs.Given.Seize.ReclaimAll.{reclaim_all_plan}
+use Rattle.papaya_scenes.specs.Given.Seize.declared.rows.reclaim_all.ReclaimAll.{ReclaimAll}
+use Rattle.papaya_scenes.specs.Given.Seize.declared.rows.settle.Settled.{Settled}
 use Rattle.seize_acts.specs.Answers.{Grant, stepped}
-use Rattle.papaya_executor.specs.Given.Tables.Nodes.{deferred_word, was_left}
-use Rattle.papaya_executor.specs.Given.Tables.declared.node.Node.{Node}
+use Rattle.papaya_scenes.specs.Given.Tables.Nodes.{deferred_word, was_left}
+use Rattle.papaya_scenes.specs.Given.Tables.declared.node.Node.{Node}
 use Rattle.papaya_reclaims.specs.Reclaims.{ReclaimingTogether, StepsOfReclaiming}
-use Rattle.papaya_executor.specs.IsAt.{Scene}
+use Rattle.papaya_scenes.specs.Scene.{Scene}
 
 -- what its next step comes to, if the memory may choose so
 abbrev pub reclaiming_steps : {K V : Type 0} → Scene K V → Grant → ReclaimAll → Option (Mem (Node K V) × (ReclaimAll × Settled (Node K V)))

@@ -1,33 +1,31 @@
 -- Whichever act is made, each block behind which something may be put is somebody's then.
 use Rattle.std.specs.Prelude.{◌++◌, Option, Some}
 use Rattle.std.proofs.Common.{◌≡◌, ℕ, Bool, List, [], ◌∷◌, refl, sym, subst}
-use Rattle.papaya_executor.specs.Given.SeizeWords.Mem.{Mem}
-use Rattle.papaya_executor.specs.Given.Seize.Law.{Ended}
-use Rattle.papaya_executor.specs.Given.Seize.World.{with_at, with_effect}
-use Rattle.papaya_executor.specs.Given.Seize.declared.progress.Progress.{Progress}
-use Rattle.papaya_executor.specs.Given.Seize.declared.progress.Progress.TheVariants as progress
-use Rattle.papaya_executor.specs.Given.Seize.declared.rows.settle.Settled.{Settled}
-use Rattle.papaya_executor.specs.Given.Seize.declared.rows.settle.Settled.TheVariants as settled
+use Rattle.papaya_scenes.specs.Given.SeizeWords.Mem.{Mem}
+use Rattle.papaya_scenes.specs.Given.Seize.Law.{Ended}
+use Rattle.papaya_scenes.specs.Given.Seize.World.{with_at, with_effect}
+use Rattle.papaya_scenes.specs.Given.Seize.declared.progress.Progress.{Progress}
+use Rattle.papaya_scenes.specs.Given.Seize.declared.progress.Progress.TheVariants as progress
+use Rattle.papaya_scenes.specs.Given.Seize.declared.rows.settle.Settled.{Settled}
+use Rattle.papaya_scenes.specs.Given.Seize.declared.rows.settle.Settled.TheVariants as settled
 use Rattle.seize_acts.proofs.Answers.{was_stepped}
-use Rattle.papaya_executor.specs.Given.Tables.declared.node.Node.{Node}
-use Rattle.papaya_executor.specs.Given.Tables.declared.setting.Setting.{Setting}
-use Rattle.papaya_executor.specs.Given.Resize.declared.new_map.NewMap.{NewMap}
-use Rattle.papaya_executor.specs.Given.Resize.declared.copier.Copier.{Copier}
-use Rattle.papaya_executor.specs.Given.Raw.Machine.{machine_plan, machine_asked}
-use Rattle.papaya_executor.specs.Given.Raw.declared.machines.end_map.EndMap.{EndMap}
-use Rattle.papaya_executor.specs.Given.Callers.Together.{UnderWay}
-use Rattle.papaya_executor.specs.Given.Finishes.Endings.{Finishing, MakingStepsAmong, StepsOfEnding, waiting_by}
-use Rattle.papaya_executor.specs.Given.Finishes.FactsEnds.{taken_by}
-use Rattle.papaya_executor.specs.Given.Finishes.Machines.{machine_of}
-use Rattle.papaya_executor.specs.Given.Finishes.Makings.{Beginning}
-use Rattle.papaya_executor.specs.Given.Finishes.Maps.{with_call}
-use Rattle.papaya_executor.specs.IsAt.{Scene}
-use Rattle.papaya_executor.specs.Replying.{unless_stopped}
+use Rattle.papaya_scenes.specs.Given.Tables.declared.node.Node.{Node}
+use Rattle.papaya_scenes.specs.Given.Tables.declared.setting.Setting.{Setting}
+use Rattle.papaya_scenes.specs.Given.Resize.declared.new_map.NewMap.{NewMap}
+use Rattle.papaya_scenes.specs.Given.Resize.declared.copier.Copier.{Copier}
+use Rattle.papaya_scenes.specs.Given.Raw.Machine.{machine_plan, machine_asked}
+use Rattle.papaya_scenes.specs.Given.Raw.declared.machines.end_map.EndMap.{EndMap}
+use Rattle.papaya_scenes.specs.Given.Callers.Together.{UnderWay}
+use Rattle.papaya_scenes.specs.Given.Finishes.Endings.{Finishing, MakingStepsAmong, StepsOfEnding, waiting_by}
+use Rattle.papaya_scenes.specs.Given.Finishes.FactsEnds.{taken_by}
+use Rattle.papaya_scenes.specs.Given.Finishes.Machines.{machine_of}
+use Rattle.papaya_scenes.specs.Given.Finishes.Makings.{Beginning}
+use Rattle.papaya_scenes.specs.Given.Finishes.Maps.{with_call}
 use Rattle.papaya_acts.specs.Acts.{Act, Answer, begun}
 use Rattle.papaya_acts.specs.Acts.{BeginsCall, StepsCall, TellsCall, AsksCall, StopsCall, BeginsMaking, StepsMaking, BeginsEnding, StepsEnding, BeginsRow, StepsRow}
 use Rattle.papaya_acts.specs.Leads.{MayBe, AllStand, Led, MakingCame, EndingCame}
 use Rattle.papaya_acts.proofs.Left.{goes_on_by, goes_on_same}
-use Rattle.papaya_acts.proofs.Tests.{none_is}
+use Rattle.papaya_scenes.proofs.NoCall.{none_is}
 use Rattle.papaya_carries.specs.Lists.{AreTheirs, ActsKeepTheirs}
 use Rattle.papaya_carries.specs.Theirs.{copier_of, AllAreTheirs}
 use Rattle.papaya_carries.proofs.Endings.{endings_begin_and_keep_theirs, endings_keep_theirs}
@@ -36,6 +34,8 @@ use Rattle.papaya_carries.proofs.Machines.{kind_theirs}
 use Rattle.papaya_carries.proofs.Makings.{makings_keep_theirs}
 use Rattle.papaya_carries.proofs.Owed.{one_some}
 use Rattle.papaya_carries.proofs.Told.{told_on, next_on, not_stopped}
+use Rattle.papaya_scenes.specs.Replying.{unless_stopped}
+use Rattle.papaya_scenes.specs.Scene.{Scene}
 
 module _ {K V : Type 0} (same : K → K → Bool) (hash : ℕ → K → ℕ) (batch_size roots : ℕ) (slot : ℕ → ℕ) (s n : Scene K V) (all : AllStand same hash batch_size roots slot s)
     (stand : AllStand same hash batch_size roots slot n) (theirs : AreTheirs s) where

@@ -2,12 +2,12 @@
 -- by `NothingIsLost` of `seize_acts`, and by `NothingElseWaits` here.
 use Rattle.std.specs.Prelude.{Option, Some, None, ◌++◌}
 use Rattle.std.proofs.Common.{◌≡◌, ℕ, false, [], ◌∷◌, refl}
-use Rattle.papaya_executor.specs.Given.SeizeWords.Word.{link_to}
-use Rattle.papaya_executor.specs.Given.SeizeWords.declared.at.At.TheVariants.{Root}
-use Rattle.papaya_executor.specs.Given.SeizeWords.Mem.{value_at}
-use Rattle.papaya_executor.specs.Given.SeizeWords.Op.{Store, Make}
-use Rattle.papaya_executor.specs.Given.Seize.Law.{is_retired}
-use Rattle.papaya_executor.specs.Given.Seize.World.{World, Rests, NoBlock, Handed, Leave', Retire, Defer', at_start}
+use Rattle.papaya_scenes.specs.Given.SeizeWords.Word.{link_to}
+use Rattle.papaya_scenes.specs.Given.SeizeWords.declared.at.At.TheVariants.{Root}
+use Rattle.papaya_scenes.specs.Given.SeizeWords.Mem.{value_at}
+use Rattle.papaya_scenes.specs.Given.SeizeWords.Op.{Store, Make}
+use Rattle.papaya_scenes.specs.Given.Seize.Law.{is_retired}
+use Rattle.papaya_scenes.specs.Given.Seize.World.{World, Rests, NoBlock, Handed, Leave', Retire, Defer', at_start}
 use Rattle.seize_acts.specs.Acts.{Begin, Operate, Links, Unlinks}
 use Rattle.seize_acts.proofs.Samples.Base.{plain, lists, after, on, enters}
 

@@ -4,9 +4,8 @@ use Rattle.std.proofs.Common.{refl, ap, sym, subst, ◌∙◌}
 use Rattle.papaya_folded.specs.Given.Runs.Same.{is_same}
 use Rattle.papaya_folded.specs.Given.Seize.World.{Rests, Use, IsOutside}
 use Rattle.papaya_folded.specs.Given.Callers.Together.{CameAbout, UnderWay}
-use Rattle.papaya_folded.specs.Given.Executor.IsAt.{IsUsedAs, Scene, use_at}
-use Rattle.papaya_folded.specs.Given.Executor.declared.row.SlotUse.{SlotUse}
-use Rattle.papaya_folded.specs.Given.Executor.declared.row.SlotUse.TheVariants as used
+use Rattle.papaya_folded.specs.Given.Scenes.declared.row.SlotUse.{SlotUse}
+use Rattle.papaya_folded.specs.Given.Scenes.declared.row.SlotUse.TheVariants as used
 use Rattle.papaya_folded.specs.Given.Runs.Present.{Present, guards_on, has_registration}
 use Rattle.papaya_folded.specs.Given.Runs.declared.holders.Guard.{Guard}
 use Rattle.papaya_folded.specs.Given.Schedules.After.{moment}
@@ -24,6 +23,8 @@ use Rattle.papaya_folded.specs.Given.Rows.Rows.{used_as}
 use Rattle.papaya_folded.proofs.Given.Rows.Facts.{row_rests}
 use Rattle.papaya_scheduler.specs.declared.scheduler.Scheduler.{Scheduler}
 use Rattle.papaya_events.specs.OfCalls.{Runs}
+use Rattle.papaya_scheduler.specs.Given.Executor.IsThere.{IsUsedAs, held_by, use_at}
+use Rattle.papaya_folded.specs.Given.Scenes.Scene.{Scene}
 
 both : (a b : Bool) → (a && b) ≡ true → (a ≡ true) × (b ≡ true)
 both true b is = (refl, is)
@@ -76,13 +77,13 @@ module _ {K V S : Type 0} (same : K → K → Bool) (hash : K → ℕ) (terms : 
 
     retired : ShowsRetired m (known p.logged.notes) s.world
     retired =
-        rest_shows_retired K V S same hash runs.stands.name m (known p.logged.notes) s p.logged.executor runs.stands.shown.is_at runs.stands.shown.kept rests runs.shows.order.0.within.apart runs.taken
+        rest_shows_retired K V same (λ map. hash) runs.stands.name m (known p.logged.notes) s (held_by p.logged.executor) runs.stands.shown.is_at.held runs.stands.shown.kept rests runs.shows.order.0.within.apart runs.taken
 
   pub is_word : terms.batch_size < 2 ^ 64
-  is_word = subst (λ (n : ℕ). n < 2 ^ 64) runs.size runs.stands.shown.is_at.small
+  is_word = subst (λ (n : ℕ). n < 2 ^ 64) runs.size runs.stands.shown.is_at.held.small
 
   pub shows_nobody : ShowsNobody terms m (known p.logged.notes) s.world
   shows_nobody = record {
-    came = subst (λ (n : ℕ). CameAbout n s.world) runs.size runs.stands.shown.is_at.together.makings.standing.came;
+    came = subst (λ (n : ℕ). CameAbout n s.world) runs.size runs.stands.shown.is_at.held.together.makings.standing.came;
     nobody = λ quiet. (nobody quiet, retired quiet);
   }

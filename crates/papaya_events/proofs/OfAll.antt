@@ -6,7 +6,6 @@ use Rattle.papaya_folded.specs.Given.Seize.World.{World}
 use Rattle.papaya_folded.specs.Given.Seize.declared.rows.reclaim_all.ReclaimAll.{ReclaimAll}
 use Rattle.papaya_folded.specs.Given.Seize.declared.rows.settle.Settled.TheVariants as settled
 use Rattle.papaya_folded.specs.Given.Tables.declared.node.Node.{Node}
-use Rattle.papaya_folded.specs.Given.Executor.IsAt.{Scene, IsAt}
 use Rattle.papaya_folded.specs.Given.Finishes.Makings.{IsFreeRoot}
 use Rattle.papaya_folded.specs.Given.SeizeWords.declared.fault.Fault.TheVariants.{Busy}
 use Rattle.papaya_folded.specs.Given.Schedules.declared.event.Event.{Event}
@@ -24,7 +23,7 @@ use Rattle.papaya_folded.specs.Given.Effects.Known.{known}
 use Rattle.papaya_folded.specs.Given.Reclaims.Left.{IsSomebodys, LeftAmong}
 use Rattle.papaya_folded.specs.Given.Reclaims.Reclaims.{IsRootOf}
 use Rattle.papaya_folded.proofs.Given.Reclaims.Left.Stays.{nothing_is_left}
-use Rattle.papaya_folded.specs.Given.Reclaiming.Reclaiming.{IsReclaiming, MayReclaim, NobodyHas}
+use Rattle.papaya_folded.specs.Given.Reclaiming.Reclaiming.{IsReclaimingThere, MayReclaim, NobodyHas}
 use Rattle.papaya_folded.specs.Given.Finds.Little.{ReclaimsAll}
 use Rattle.papaya_folded.proofs.Steps.{none_in_order}
 use Rattle.papaya_folded.proofs.Given.Legal.Come.{events_bring_things}
@@ -58,6 +57,8 @@ use Rattle.papaya_events.proofs.OfRows.Lone.{alone_follows}
 use Rattle.papaya_events.proofs.OfRows.Quiet.{IsStill, still_keeps}
 use Rattle.papaya_events.proofs.Reached.{reached_after}
 use Rattle.papaya_events.proofs.Remaining.{counted_in, gives_all as gives_all_in}
+use Rattle.papaya_scheduler.specs.Given.Executor.IsThere.{IsThere, held_by}
+use Rattle.papaya_folded.specs.Given.Scenes.Scene.{Scene}
 pub mod Chain
 pub mod Behind
 
@@ -122,7 +123,7 @@ module _ {K V S : Type 0} (same : K → K → Bool) (hash : K → ℕ) (terms : 
   its_left = behind_so same hash terms log old run holds.counts.apart.numbers.found roots_are
 
   small : terms.batch_size < 2 ^ 64
-  small = subst (λ (n : ℕ). n < 2 ^ 64) run.size run.stands.shown.is_at.small
+  small = subst (λ (n : ℕ). n < 2 ^ 64) run.size run.stands.shown.is_at.held.small
 
   -- what is had of the entry
   abbrev Keeps : Entry K V → Type 0
@@ -145,7 +146,7 @@ module _ {K V S : Type 0} (same : K → K → Bool) (hash : K → ℕ) (terms : 
     abbrev first : ReclaimAll
     first = ran.0
 
-    under : IsReclaiming same hash old.logged.executor s 0 behind first
+    under : IsReclaimingThere same hash old.logged.executor s 0 behind first
     under = ran.1 same hash name m s 0 behind run.stands.shown nobody may
 
     abbrev mid : Far K V S × ReclaimAll
@@ -157,25 +158,25 @@ module _ {K V S : Type 0} (same : K → K → Bool) (hash : K → ℕ) (terms : 
     y : AllComes same hash terms 0 s ran.3.0 (all_come (far [] old.logged, first) m s behind) mid
     y = all_comes same hash terms 0 s ran.3.0 (far [] old.logged, first) mid m s behind under roots_are run.size refl (λ k. refl) ran.3.1
 
-    abbrev to : AllCome K V S
+    abbrev to : AllCome K V
     to = all_come mid y.now y.scene y.lists
 
     abbrev last_scene : Scene K V
     last_scene = then_scene same hash terms 0 mid end y.now y.scene y.lists y.under_way y.roots ran.5
 
-    abbrev over : AllCome K V S
+    abbrev over : AllCome K V
     over = all_come end (then_now same hash terms 0 mid end y.now y.scene y.lists y.under_way y.roots ran.5) last_scene
         (leads same hash terms 0 mid end y.now y.scene y.lists y.under_way y.roots ran.5).1.lists2
 
-    abbrev last : AllSteps same hash terms 0 to over
+    abbrev last : AllSteps same (λ map. hash) terms 0 to over
     last = step_so same hash terms 0 mid end y.now y.scene y.lists y.under_way y.roots ran.5 y.size
 
     done : ran.5.1 ≡ settled.Done
     done = is_over ran.5.1 ran.6
 
-    begins : BeginsAll same hash terms 0 (all_begun log (known old.logged.notes) s old.logged.executor first behind)
+    begins : BeginsAll same (λ map. hash) terms 0 (all_begun log (known old.logged.notes) s (held_by old.logged.executor) first behind)
     begins = record {
-      under_way = under;
+      under_way = under.held;
       size = run.size;
       taken = taken;
       first = ran.7 ∙ ap (λ (b : ℕ). if taken then reclaiming_all b old.logged.executor.roots else clearing old.logged.executor.roots) run.size
@@ -184,16 +185,16 @@ module _ {K V S : Type 0} (same : K → K → Bool) (hash : K → ℕ) (terms : 
 
     pairs : ComesRight terms log e → AtEachEffect FindsPair None None played.effects.items m
     pairs right =
-        all_find_pairs K V S same hash name terms log (known old.logged.notes) s old.logged.executor run.shows (none_called terms log played.steps played.effects.items event of_all right) 0 first
+        all_find_pairs K V same (λ map. hash) name terms log (known old.logged.notes) s (held_by old.logged.executor) run.shows (none_called terms log played.steps played.effects.items event of_all right) 0 first
         behind its_left.0 its_left.2 (suc ran.3.0) over (to, y.chain, last)
 
     it : ComesRight terms log e → IsLegalBut same terms log e × ReclaimsAll log e × ShowsRun same name terms (e ∷ log) (known new.logged.notes) last_scene
     it right =
-        all_runs_to_its_end K V S same hash name terms log (known old.logged.notes) s old.logged.executor small run.shows event of_all
+        all_runs_to_its_end K V same (λ map. hash) name terms log (known old.logged.notes) s (held_by old.logged.executor) small run.shows event of_all
         (alone_follows same hash terms log old run event (speaks_of_none event of_all)) 0 first behind its_left.0 its_left.1 begins ran.3.0 to over y.chain last done played.steps played.effects.items refl
         (pairs right) right
 
-    there : IsAt same hash new.logged.executor last_scene
+    there : IsThere same hash new.logged.executor last_scene
     there = over_there same hash terms 0 mid end y.now y.scene y.lists y.under_way y.roots ran.5 done
 
     named : AreNamed name new.calls
@@ -222,7 +223,7 @@ module _ {K V S : Type 0} (same : K → K → Bool) (hash : K → ℕ) (terms : 
 
     -- no bucket of slots is forgotten
     grows : (known old.logged.notes).buckets ≤ (known new.logged.notes).buckets
-    grows = all_note_more same hash terms (known old.logged.notes) 0 (suc ran.3.0) (all_come (far [] old.logged, first) m s behind) over (to, y.chain, last) (omega arith)
+    grows = all_note_more same (λ map. hash) terms (known old.logged.notes) 0 (suc ran.3.0) (all_come (far [] old.logged, first) m s behind) over (to, y.chain, last) (omega arith)
 
     all_keeps : KeepsAs e
     all_keeps so right =
@@ -243,7 +244,7 @@ module _ {K V S : Type 0} (same : K → K → Bool) (hash : K → ℕ) (terms : 
               values = values;
               taken = slots_stay s.world.memory last_scene.world.memory m.slots
                   (taken_then s.world.memory y.scene.world.memory last_scene.world.memory
-                  (all_taken same hash terms 0 ran.3.0 (all_begun log (known old.logged.notes) s old.logged.executor first behind) to y.chain) (all_step same hash terms 0 to over last)) run.taken;
+                  (all_taken same (λ map. hash) terms 0 ran.3.0 (all_begun log (known old.logged.notes) s (held_by old.logged.executor) first behind) to y.chain) (all_step same (λ map. hash) terms 0 to over last)) run.taken;
               size = ran.5.0.given.1 ∙ y.size;
               shards = λ n setting is. run.shards n setting (sym (stood n) ∙ is);
               reached = reached_after same hash terms log e old new right so grows run.reached;

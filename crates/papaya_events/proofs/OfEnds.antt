@@ -10,9 +10,7 @@ use Rattle.papaya_folded.specs.Given.Runs.Same.{is_same}
 use Rattle.papaya_folded.specs.Given.Tables.Chunks.{is_incremental}
 use Rattle.papaya_folded.specs.Given.Tables.declared.node.Node.{Node}
 use Rattle.papaya_folded.proofs.Given.Callers.Together.At.{at_other, at_same}
-use Rattle.papaya_folded.specs.Given.Executor.Ending.{EndingLeads, NoCallOn, ending_begun}
-use Rattle.papaya_folded.specs.Given.Executor.IsAt.{Scene, IsAt}
-use Rattle.papaya_folded.specs.Given.Executor.declared.executor.Executor.{Executor}
+use Rattle.papaya_scheduler.specs.Given.Executor.declared.executor.Executor.{Executor}
 use Rattle.papaya_folded.specs.Given.Finishes.Endings.{Finishing, finishing_of}
 use Rattle.papaya_folded.specs.Given.Finishes.FactsEnds.{taken_by as taken_of}
 use Rattle.papaya_folded.specs.Given.Finishes.Maps.{Standing}
@@ -42,7 +40,6 @@ use Rattle.papaya_folded.specs.Given.Effects.Effects.{effects_of, known_after}
 use Rattle.papaya_folded.specs.Given.Effects.Known.{Known, known}
 use Rattle.papaya_folded.specs.Given.Effects.declared.acting.Acting.TheVariants as acts
 use Rattle.papaya_folded.specs.Given.Effects.declared.role.Role.TheVariants as role
-use Rattle.papaya_folded.proofs.Given.Executor.Fresh.{no_ending_yet}
 use Rattle.papaya_folded.proofs.Given.Legal.Heads.Chains.{endings_taken}
 use Rattle.papaya_folded.proofs.Given.Legal.Heads.Rows.{slots_stay}
 use Rattle.papaya_folded.specs.Given.Legal.CallEvents.{IsLegalBut}
@@ -58,7 +55,9 @@ use Rattle.papaya_folded.specs.Given.Logged.Shown.{IsCounted, IsShown}
 use Rattle.papaya_folded.specs.Given.Logged.Waits.{TellsLeft, TellsWaiting}
 use Rattle.papaya_folded.proofs.Given.Logged.Counted.{counted_end_steps}
 use Rattle.papaya_folded.proofs.Given.Logged.LeftNoted.{endings_note_left}
-use Rattle.papaya_folded.proofs.Given.Logged.EndSteps.{did_end, end_there, ends_alone, noted_on}
+use Rattle.papaya_folded.proofs.Given.Logged.EndSteps.{end_there}
+use Rattle.papaya_folded.proofs.Given.Logged.Held.{ending_held}
+use Rattle.papaya_folded.proofs.Given.Logged.EndTold.{did_end, ends_alone, noted_on}
 use Rattle.papaya_folded.proofs.Given.Rows.Lists.{found_has}
 use Rattle.papaya_scheduler.specs.Mapping.{AreApart}
 use Rattle.papaya_scheduler.specs.Played.{IsDue, IsPlayed, entry_of}
@@ -78,6 +77,12 @@ use Rattle.papaya_events.proofs.OfRows.Over.{over_runs}
 use Rattle.papaya_events.proofs.OfRows.Chain.{come_as, come_by}
 use Rattle.papaya_events.proofs.OfRows.Lone.{alone_follows}
 use Rattle.papaya_events.proofs.OfRows.Quiet.{refused_still, still_keeps}
+use Rattle.papaya_scheduler.proofs.Given.Executor.Fresh.{no_ending_yet}
+use Rattle.papaya_scheduler.specs.Given.Executor.Ending.{EndsThere, NoCallOn}
+use Rattle.papaya_scheduler.specs.Given.Executor.IsThere.{IsThere, held_by}
+use Rattle.papaya_folded.specs.Given.Scenes.Ending.{EndingLeads, ending_begun}
+use Rattle.papaya_folded.specs.Given.Scenes.Scene.{Scene}
+use Rattle.papaya_folded.specs.Given.Scenes.Held.{Held}
 
 -- What an end does it may do: pairs end with their map, and then its tables.
 module _ {K V : Type 0} (own : List ℕ) (m : Moment K V) where
@@ -93,7 +98,7 @@ module _ {K V : Type 0} (own : List ℕ) (m : Moment K V) where
   all_may incremental of number c = pairs_may number (pairs_of incremental c) (tables_ended of c.first (c.past - c.first)) (tables_may of c.first (c.past - c.first))
 
 -- By what a step of an end told: which maps stand then, and what goes on.
-module _ {K V S : Type 0} (same : K → K → Bool) (hash : K → ℕ) (s : Scene K V) (old new : Executor K V S) (i : ℕ) (f : Finishing K V) (here : s.enders i ≡ Some f) where
+module _ {K V : Type 0} (same : K → K → Bool) (hash : ℕ → K → ℕ) (s : Scene K V) (old new : Held K V) (i : ℕ) (f : Finishing K V) (here : s.enders i ≡ Some f) where
   abbrev Leads : Settled (Node K V) → Type 0
   Leads said = EndingLeads same hash i said s old new
 
@@ -134,11 +139,11 @@ module _ {K V S : Type 0} (same : K → K → Bool) (hash : K → ℕ) (s : Scen
 module _ {K V S : Type 0} (same : K → K → Bool) (hash : K → ℕ) (terms : Terms) (name : ℕ → List ℕ) (log : List (Entry K V)) (own : List ℕ) (i map : ℕ) (before : Known) (number : ℕ → ℕ) (first : Known)
     (stood : ℕ → Option (Standing K)) (gone : stood map ≡ None) (below : map < (moment log).made) where
   -- So many steps of the end have led to where the run is: the executor is there in the scene, in which the same maps stand, and the event is in its midst.
-  record EndComes (n : ℕ) (x : Come K V S) (f : Far K V S) : Type 0 where
+  record EndComes (n : ℕ) (x : Come K V) (f : Far K V S) : Type 0 where
     pub now : Moment K V
     pub scene : Scene K V
-    pub chain : Chain (EndSteps same hash terms i map) n x (come_by f now scene)
-    pub is_at : IsAt same hash f.logged.executor scene
+    pub chain : Chain (EndSteps same (λ map. hash) terms i map) n x (come_by f now scene)
+    pub is_at : IsThere same hash f.logged.executor scene
     pub size : f.logged.executor.batch_size ≡ terms.batch_size
     pub midst : InEndEvent same name terms log (EndMap own) map (moment log) before i f.effects now (known f.logged.notes) scene
     pub made : now.made ≡ (moment log).made
@@ -150,9 +155,12 @@ module _ {K V S : Type 0} (same : K → K → Bool) (hash : K → ℕ) (terms : 
   abbrev IsUnder : Far K V S → Scene K V → Type 0
   IsUnder f s = (d : Finishing K V) × (s.enders i ≡ Some d) × NotesMap map number first d.setting d.chart d.blocks × NotedStill first (known f.logged.notes) d.back
 
-  module _ (n : ℕ) (x : Come K V S) (mid to : Far K V S) (y : EndComes n x mid) (it : IsUnder mid y.scene) (step : EndGoes i map mid to) where
-    abbrev leads : EndingLeads same hash i step.said y.scene mid.logged.executor to.logged.executor
-    leads = step.leads same hash y.scene y.is_at
+  module _ (n : ℕ) (x : Come K V) (mid to : Far K V S) (y : EndComes n x mid) (it : IsUnder mid y.scene) (step : EndGoes i map mid to) where
+    abbrev went : EndsThere same hash i step.said y.scene mid.logged.executor to.logged.executor
+    went = step.leads same hash y.scene y.is_at
+
+    abbrev leads : EndingLeads same (λ map. hash) i step.said y.scene (held_by mid.logged.executor) (held_by to.logged.executor)
+    leads = ending_held same hash y.scene mid.logged.executor to.logged.executor i step.said went
 
     abbrev step_did : List Effect
     step_did = effects_of (acts.Ending map) (known mid.logged.notes) to.logged.executor.memory.changed
@@ -161,7 +169,7 @@ module _ {K V S : Type 0} (same : K → K → Bool) (hash : K → ℕ) (terms : 
     no_map = ap (λ (g : ℕ → Option (Standing K)). g map) y.maps ∙ gone
 
     abbrev next : Scene K V
-    next = next_scene same hash y.scene mid.logged.executor to.logged.executor i it.0 it.1 step.said leads
+    next = next_scene same (λ map. hash) y.scene (held_by mid.logged.executor) (held_by to.logged.executor) i it.0 it.1 step.said leads
 
     abbrev w : Moment K V
     w = with_effects None (Some map) step_did y.now
@@ -169,18 +177,18 @@ module _ {K V S : Type 0} (same : K → K → Bool) (hash : K → ℕ) (terms : 
     its : AtEachEffect (IsOfIts map) None (Some map) step_did y.now
     its =
         let l = leads it.0 it.1 in
-        ends_alone same hash name y.now (known mid.logged.notes) y.scene mid.logged.executor to.logged.executor y.is_at y.midst.0.calls.whole i it.0 it.1 l.0 step.said l.1 l.2 map no_map l.3 number first
+        ends_alone same (λ map. hash) name y.now (known mid.logged.notes) y.scene (held_by mid.logged.executor) (held_by to.logged.executor) y.is_at.held y.midst.0.calls.whole i it.0 it.1 l.0 step.said l.1 l.2 map no_map l.3 number first
         it.2 it.3
 
     did_its : step_did ≡ ended_as map first (taken_of (leads it.0 it.1).2.deed)
     did_its =
         let l = leads it.0 it.1 in
-        did_end same hash name y.now (known mid.logged.notes) y.scene mid.logged.executor to.logged.executor y.is_at y.midst.0.calls.whole i it.0 it.1 l.0 step.said l.1 l.2 map no_map l.3 number first
+        did_end same (λ map. hash) name y.now (known mid.logged.notes) y.scene (held_by mid.logged.executor) (held_by to.logged.executor) y.is_at.held y.midst.0.calls.whole i it.0 it.1 l.0 step.said l.1 l.2 map no_map l.3 number first
         it.2 it.3
 
-    one : EndSteps same hash terms i map (come_by mid y.now y.scene) (come_by to w next)
+    one : EndSteps same (λ map. hash) terms i map (come_by mid y.now y.scene) (come_by to w next)
     one = record {
-      is_at = y.is_at;
+      is_at = y.is_at.held;
       size = y.size;
       said = step.said;
       leads = leads;
@@ -198,32 +206,32 @@ module _ {K V S : Type 0} (same : K → K → Bool) (hash : K → ℕ) (terms : 
       now = w;
       scene = next;
       chain = (come_by mid y.now y.scene, y.chain, one);
-      is_at = end_there same hash mid.logged.executor to.logged.executor y.scene i step.said leads it.0 it.1;
+      is_at = end_there same hash mid.logged.executor to.logged.executor y.scene i step.said went it.0 it.1;
       size = step.is_noted.given.1 ∙ y.size;
-      midst = ends_chain K V S same hash name terms log (EndMap own) i map (moment log) before 1 (come_by mid y.now y.scene) (come_by to w next) (come_by mid y.now y.scene, refl, one) y.midst;
+      midst = ends_chain K V same (λ map. hash) name terms log (EndMap own) i map (moment log) before 1 (come_by mid y.now y.scene) (come_by to w next) (come_by mid y.now y.scene, refl, one) y.midst;
       made = made_stays None (Some map) step_did y.now ∙ y.made;
-      maps = maps_stand same hash y.scene mid.logged.executor to.logged.executor i it.0 it.1 step.said leads ∙ y.maps;
-      calls = calls_stand same hash y.scene mid.logged.executor to.logged.executor i it.0 it.1 step.said leads ∙ y.calls;
-      counted = counted_end_steps same hash mid.logged to.logged.executor to.logged.notes step.is_noted.given y.now y.scene y.is_at y.counted i map step.said leads it.0 it.1 step.is_noted.noted first
+      maps = maps_stand same (λ map. hash) y.scene (held_by mid.logged.executor) (held_by to.logged.executor) i it.0 it.1 step.said leads ∙ y.maps;
+      calls = calls_stand same (λ map. hash) y.scene (held_by mid.logged.executor) (held_by to.logged.executor) i it.0 it.1 step.said leads ∙ y.calls;
+      counted = counted_end_steps same (λ map. hash) mid.logged to.logged.executor to.logged.notes step.is_noted.given y.now y.scene y.is_at.held y.counted i map step.said leads it.0 it.1 step.is_noted.noted first
           (taken_of (leads it.0 it.1).2.deed) did_its
-          (endings_note_left same hash name y.now (known mid.logged.notes) y.scene mid.logged.executor to.logged.executor y.is_at y.midst.0.calls.whole i map step.said leads it.0 it.1 no_map);
+          (endings_note_left same (λ map. hash) name y.now (known mid.logged.notes) y.scene (held_by mid.logged.executor) (held_by to.logged.executor) y.is_at.held y.midst.0.calls.whole i map step.said leads it.0 it.1 no_map);
     }
 
     end_under : is_done step.said ≡ false → IsUnder to next
     end_under more =
         let l = leads it.0 it.1 in
-        ends_on same hash y.scene mid.logged.executor to.logged.executor i it.0 it.1 map number first (known to.logged.notes) it.2 step.said leads more
+        ends_on same (λ map. hash) y.scene (held_by mid.logged.executor) (held_by to.logged.executor) i it.0 it.1 map number first (known to.logged.notes) it.2 step.said leads more
         (subst (λ (k : Known). NotedStill first k (it.0.back ++ taken_of l.2.deed)) (sym step.is_noted.noted)
-        (noted_on same hash name y.now (known mid.logged.notes) y.scene mid.logged.executor to.logged.executor y.is_at y.midst.0.calls.whole i it.0 it.1 l.0 step.said l.1 l.2 map no_map l.3 number
+        (noted_on same (λ map. hash) name y.now (known mid.logged.notes) y.scene (held_by mid.logged.executor) (held_by to.logged.executor) y.is_at.held y.midst.0.calls.whole i it.0 it.1 l.0 step.said l.1 l.2 map no_map l.3 number
         first it.2 it.3))
 
     end_over : is_done step.said ≡ true → next.enders i ≡ None
-    end_over over = ends_over same hash y.scene mid.logged.executor to.logged.executor i it.0 it.1 step.said leads over
+    end_over over = ends_over same (λ map. hash) y.scene (held_by mid.logged.executor) (held_by to.logged.executor) i it.0 it.1 step.said leads over
 
-  abbrev Midway : ℕ → Come K V S → Far K V S → Type 0
+  abbrev Midway : ℕ → Come K V → Far K V S → Type 0
   Midway n x f = (y : EndComes n x f) × IsUnder f y.scene
 
-  ends_come : (n : ℕ) (x : Come K V S) (from to : Far K V S) → GoesFor (EndOn i map) n from to → Midway 0 x from → Midway n x to
+  ends_come : (n : ℕ) (x : Come K V) (from to : Far K V S) → GoesFor (EndOn i map) n from to → Midway 0 x from → Midway n x to
   ends_come zero x from to is at = subst (Midway 0 x) is at
   ends_come (suc n) x from to (mid, went, on) at =
       let z = ends_come n x from mid went at in
@@ -245,7 +253,7 @@ module _ {K V S : Type 0} (same : K → K → Bool) (hash : K → ℕ) (terms : 
   due = record { played = run.stands; in_turn = turn }
 
   small : terms.batch_size < 2 ^ 64
-  small = subst (λ (n : ℕ). n < 2 ^ 64) run.size run.stands.shown.is_at.small
+  small = subst (λ (n : ℕ). n < 2 ^ 64) run.size run.stands.shown.is_at.held.small
 
   abbrev KeepsAs : Entry K V → Type 0
   KeepsAs x = IsPlayed same hash terms (x ∷ log) new → ComesRight terms log x → RunsOn same hash terms log x new
@@ -276,13 +284,13 @@ module _ {K V S : Type 0} (same : K → K → Bool) (hash : K → ℕ) (terms : 
     abbrev s1 : Scene K V
     s1 = ending_begun map i standing s
 
-    at1 : IsAt same hash d.began.executor s1
+    at1 : IsThere same hash d.began.executor s1
     at1 = (begun none_on).4.is_at
 
     yet : s.enders i ≡ None
     yet = subst (λ (n : ℕ). s.enders n ≡ None) (sym d.fresh) (no_ending_yet same hash old.logged.executor s run.stands.shown.is_at 0 (omega arith))
 
-    abbrev x : Come K V S
+    abbrev x : Come K V
     x = come_by (far [] d.began) m s1
 
     abbrev apart : AreApart m
@@ -310,7 +318,7 @@ module _ {K V S : Type 0} (same : K → K → Bool) (hash : K → ℕ) (terms : 
     midst : InEndEvent same name terms log (EndMap own) map m (known old.logged.notes) i [] m (known d.began.notes) s1
     midst =
         subst (λ (k : Known). InEndEvent same name terms log (EndMap own) map m (known old.logged.notes) i [] m k s1) (sym begins_so)
-        (end_events_begin_so K V S same hash name terms log (known old.logged.notes) s old.logged.executor d.began.executor run.stands.shown.is_at run.shows small own map i standing (begun none_on).1 yet at1
+        (end_events_begin_so K V same (λ map. hash) name terms log (known old.logged.notes) s (held_by old.logged.executor) (held_by d.began.executor) run.stands.shown.is_at.held run.shows small own map i standing (begun none_on).1 yet at1.held
         (alone_follows same hash terms log old run (EndMap own) refl))
 
     abbrev number : ℕ → ℕ
@@ -338,10 +346,10 @@ module _ {K V S : Type 0} (same : K → K → Bool) (hash : K → ℕ) (terms : 
     over : y.scene.enders i ≡ None
     over = end_over same hash terms name log own i map (known old.logged.notes) number first_noted s1.maps gone below d.gone.1.0 x d.gone.0 (far effects new.logged) prev.0 prev.1 d.gone.2 d.gone.3
 
-    chain : Chain (EndSteps same hash terms i map) (suc d.gone.1.0) (record { executor = d.began.executor; did = []; now = m; notes = known old.logged.notes; scene = s1 })
+    chain : Chain (EndSteps same (λ map. hash) terms i map) (suc d.gone.1.0) (record { held = held_by d.began.executor; did = []; now = m; notes = known old.logged.notes; scene = s1 })
         (come_by (far effects new.logged) y.now y.scene)
     chain =
-        subst (λ (k : Known). Chain (EndSteps same hash terms i map) (suc d.gone.1.0) (record { executor = d.began.executor; did = []; now = m; notes = k; scene = s1 })
+        subst (λ (k : Known). Chain (EndSteps same (λ map. hash) terms i map) (suc d.gone.1.0) (record { held = held_by d.began.executor; did = []; now = m; notes = k; scene = s1 })
         (come_by (far effects new.logged) y.now y.scene)) begins_so y.chain
 
     -- what all of it did, as the scheduler has it
@@ -382,7 +390,7 @@ module _ {K V S : Type 0} (same : K → K → Bool) (hash : K → ℕ) (terms : 
 
     -- each pair that ends is in the map, and each table is linked
     in_map : IsMapIn same standing.hash standing.setting s.world standing.chart standing.blocks
-    in_map = (run.stands.shown.is_at.together.makings.standing.each map standing (begun none_on).1).ground.map
+    in_map = (run.stands.shown.is_at.held.together.makings.standing.each map standing (begun none_on).1).ground.map
 
     current_known : (n : ℕ) → standing.chart.current n ≡ true → (n < standing.chart.stored) × (standing.blocks.pair_known n ≡ true)
     current_known n current = current_is_known same standing.hash standing.setting s.world.memory standing.chart standing.blocks in_map.map.rule in_map.map.shows n current
@@ -404,8 +412,8 @@ module _ {K V S : Type 0} (same : K → K → Bool) (hash : K → ℕ) (terms : 
 
     it : ComesRight terms log e → IsLegalBut same terms log e × ShowsRun same name terms (e ∷ log) (known new.logged.notes) y.scene
     it right =
-        ends_run_to_their_ends K V S same hash name terms log (known old.logged.notes) s old.logged.executor d.began.executor run.stands.shown.is_at run.shows small own map i standing (begun none_on).1 yet at1
-        (alone_follows same hash terms log old run (EndMap own) refl) (suc d.gone.1.0) (come_by (far effects new.logged) y.now y.scene) chain y.is_at played.steps effects refl acts_so over others may_end
+        ends_run_to_their_ends K V same (λ map. hash) name terms log (known old.logged.notes) s (held_by old.logged.executor) (held_by d.began.executor) run.stands.shown.is_at.held run.shows small own map i standing (begun none_on).1 yet at1.held
+        (alone_follows same hash terms log old run (EndMap own) refl) (suc d.gone.1.0) (come_by (far effects new.logged) y.now y.scene) chain y.is_at.held played.steps effects refl acts_so over others may_end
         finds whole right
 
     shards : HaveShards terms new.logged.executor
@@ -421,14 +429,14 @@ module _ {K V S : Type 0} (same : K → K → Bool) (hash : K → ℕ) (terms : 
     -- no bucket of slots is forgotten
     grows : (known old.logged.notes).buckets ≤ (known new.logged.notes).buckets
     grows =
-        ends_note_more same hash terms (known old.logged.notes) i map (suc d.gone.1.0) (record { executor = d.began.executor; did = []; now = m; notes = known old.logged.notes; scene = s1 })
+        ends_note_more same (λ map. hash) terms (known old.logged.notes) i map (suc d.gone.1.0) (record { held = held_by d.began.executor; did = []; now = m; notes = known old.logged.notes; scene = s1 })
         (come_by (far effects new.logged) y.now y.scene) chain (omega arith)
 
     keeps_done : KeepsAs e
     keeps_done so right =
         over_runs same hash terms log e old new run refl y.scene y.is_at y.counted.remains.lists y.counted.remains.left calls y.calls so right (it right).0 (it right).1
         (slots_stay s1.world.memory y.scene.world.memory m.slots
-        (endings_taken same hash terms i map (suc d.gone.1.0) (record { executor = d.began.executor; did = []; now = m; notes = known old.logged.notes; scene = s1 }) (come_by (far effects new.logged) y.now y.scene)
+        (endings_taken same (λ map. hash) terms i map (suc d.gone.1.0) (record { held = held_by d.began.executor; did = []; now = m; notes = known old.logged.notes; scene = s1 }) (come_by (far effects new.logged) y.now y.scene)
         chain) run.taken)
         y.size shards grows
 

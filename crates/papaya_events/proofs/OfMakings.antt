@@ -12,8 +12,7 @@ use Rattle.papaya_folded.specs.Given.Tables.Lengths.{places_for}
 use Rattle.papaya_folded.specs.Given.Tables.Powers.{floor_log2, next_power}
 use Rattle.papaya_folded.specs.Given.Tables.declared.setting.Setting.{Setting}
 use Rattle.papaya_folded.proofs.Given.Callers.Together.At.{at_same}
-use Rattle.papaya_folded.specs.Given.Executor.IsAt.{Scene, IsAt}
-use Rattle.papaya_folded.specs.Given.Executor.declared.executor.Executor.{Executor}
+use Rattle.papaya_scheduler.specs.Given.Executor.declared.executor.Executor.{Executor}
 use Rattle.papaya_folded.specs.Given.Finishes.Makings.{Beginning}
 use Rattle.papaya_folded.specs.Given.Finishes.Maps.{Standing}
 use Rattle.papaya_folded.specs.Given.Others.Makings.{IsNew, WasNew}
@@ -80,6 +79,8 @@ use Rattle.papaya_events.proofs.OfRows.Over.{over_runs}
 use Rattle.papaya_events.proofs.OfRows.May.{all_by}
 use Rattle.papaya_events.proofs.OfRows.Quiet.{refused_still, still_keeps}
 use Rattle.papaya_events.proofs.Remaining.{nobody_makes}
+use Rattle.papaya_scheduler.specs.Given.Executor.IsThere.{IsThere, held_by}
+use Rattle.papaya_folded.specs.Given.Scenes.Scene.{Scene}
 pub mod Chain
 pub mod Begun
 pub mod Unmade
@@ -158,7 +159,7 @@ module _ {K V S : Type 0} (same : K → K → Bool) (hash : K → ℕ) (terms : 
     begins : MakingIsBegun same hash name m s d.given d.places i old.logged d.began
     begins = d.begins same hash name m s run.stands.shown
 
-    at1 : IsAt same hash d.began.executor s1
+    at1 : IsThere same hash d.began.executor s1
     at1 = (begun_shown run holds d).is_at
 
     map_is : b.map ≡ m.made
@@ -173,8 +174,8 @@ module _ {K V S : Type 0} (same : K → K → Bool) (hash : K → ℕ) (terms : 
     midst : InMakingEvent same name terms log event b.map bm [] bm (known d.began.notes) s1
     midst =
         subst (λ (k : Known). InMakingEvent same name terms log event b.map bm [] bm k s1) (sym begins_so)
-        (making_events_begin_so K V S same hash name terms log (known old.logged.notes) s old.logged.executor d.began.executor run.stands.shown.is_at run.shows own mode capacity there refl i b (none_begun run holds d) map_is
-        (λ made. absurd made) lone at1)
+        (making_events_begin_so K V same (λ map. hash) name terms log (known old.logged.notes) s (held_by old.logged.executor) (held_by d.began.executor) run.stands.shown.is_at.held run.shows own mode capacity there refl i b (none_begun run holds d) map_is
+        (λ made. absurd made) lone at1.held)
 
     below : b.map < bm.made
     below = let is = map_is in omega (arith, is)
@@ -190,7 +191,7 @@ module _ {K V S : Type 0} (same : K → K → Bool) (hash : K → ℕ) (terms : 
         shown_by same hash terms log old own mode capacity may d.faultless d.free d.some d.places d.first d.given d.is_given i d.began begins (length old.logged.executor.maps.items) refl setting new.logged []
         effects refl d.there d.ran d.finds
 
-    abbrev x : Come K V S
+    abbrev x : Come K V
     x = come_by (far [] d.began) bm s1
 
     -- it is found by its number
@@ -239,14 +240,14 @@ module _ {K V S : Type 0} (same : K → K → Bool) (hash : K → ℕ) (terms : 
     found : HasFound b bm there effects y.now y.scene
     found = found_on same hash terms name log own mode capacity i b bm there d.faultless d.places_are below d.gone.1.0 x d.gone.0 (far effects mid) prev.0 s.maps prev.1 d.gone.3 was setting prev.2 prev.3
 
-    chain : StepChain (MakingSteps same hash terms i b.map) (suc d.gone.1.0) (record { executor = d.began.executor; did = []; now = bm; notes = known old.logged.notes; scene = s1 })
+    chain : StepChain (MakingSteps same (λ map. hash) terms i b.map) (suc d.gone.1.0) (record { held = held_by d.began.executor; did = []; now = bm; notes = known old.logged.notes; scene = s1 })
         (come_by (far effects mid) y.now y.scene)
     chain =
-        subst (λ (k : Known). StepChain (MakingSteps same hash terms i b.map) (suc d.gone.1.0) (record { executor = d.began.executor; did = []; now = bm; notes = k; scene = s1 })
+        subst (λ (k : Known). StepChain (MakingSteps same (λ map. hash) terms i b.map) (suc d.gone.1.0) (record { held = held_by d.began.executor; did = []; now = bm; notes = k; scene = s1 })
         (come_by (far effects mid) y.now y.scene)) begins_so y.chain
 
     -- the executor has the settings that it had then
-    at_end : IsAt same hash new.logged.executor y.scene
+    at_end : IsThere same hash new.logged.executor y.scene
     at_end =
         with_maps same hash mid.executor new.logged.executor y.scene y.is_at d.gone.6 (λ n. ap (λ (xs : List (Option Setting)). slice_index_or xs n None) d.gone.7)
         (λ j c makes. subst (λ (n : ℕ). c.map < n) (sym (ap length d.gone.7)) (y.is_at.numbers j c makes))
@@ -309,8 +310,8 @@ module _ {K V S : Type 0} (same : K → K → Bool) (hash : K → ℕ) (terms : 
 
     it : ComesRight terms log e → IsLegalBut same terms log e × ShowsRun same name terms (e ∷ log) (known mid.notes) y.scene
     it right =
-        makings_run_to_their_ends K V S same hash name terms log (known old.logged.notes) s old.logged.executor d.began.executor run.stands.shown.is_at run.shows own mode capacity there refl i b (none_begun run holds d) map_is
-        (λ made. absurd made) lone at1 (suc d.gone.1.0) (come_by (far effects mid) y.now y.scene) chain played.steps effects refl refl named_so
+        makings_run_to_their_ends K V same (λ map. hash) name terms log (known old.logged.notes) s (held_by old.logged.executor) (held_by d.began.executor) run.stands.shown.is_at.held run.shows own mode capacity there refl i b (none_begun run holds d) map_is
+        (λ made. absurd made) lone at1.held (suc d.gone.1.0) (come_by (far effects mid) y.now y.scene) chain played.steps effects refl refl named_so
         (all_by is_first_making (may_do event m) (λ f is. is) effects y.firsts) found.found whole right
 
     shows : ComesRight terms log e → ShowsRun same name terms (e ∷ log) (known new.logged.notes) y.scene
@@ -343,14 +344,14 @@ module _ {K V S : Type 0} (same : K → K → Bool) (hash : K → ℕ) (terms : 
     grows : (known old.logged.notes).buckets ≤ (known new.logged.notes).buckets
     grows =
         subst (λ (n : Notes). (known old.logged.notes).buckets ≤ (known n).buckets) (sym d.gone.5)
-        (makings_note_more same hash terms (known old.logged.notes) i b.map (suc d.gone.1.0) (record { executor = d.began.executor; did = []; now = bm; notes = known old.logged.notes; scene = s1 })
+        (makings_note_more same (λ map. hash) terms (known old.logged.notes) i b.map (suc d.gone.1.0) (record { held = held_by d.began.executor; did = []; now = bm; notes = known old.logged.notes; scene = s1 })
         (come_by (far effects mid) y.now y.scene) chain (omega arith))
 
     keeps_made : KeepsAs e
     keeps_made so right =
         over_runs same hash terms log e old new run refl y.scene at_end y.counted.remains.lists left_behind calls y.calls so right (it right).0 (shows right)
         (slots_stay s1.world.memory y.scene.world.memory m.slots
-        (makings_taken same hash terms i b.map (suc d.gone.1.0) (record { executor = d.began.executor; did = []; now = bm; notes = known old.logged.notes; scene = s1 }) (come_by (far effects mid) y.now y.scene) chain)
+        (makings_taken same (λ map. hash) terms i b.map (suc d.gone.1.0) (record { held = held_by d.began.executor; did = []; now = bm; notes = known old.logged.notes; scene = s1 }) (come_by (far effects mid) y.now y.scene) chain)
         run.taken)
         (ap (λ (x : Executor K V S). x.batch_size) d.gone.6 ∙ y.size) shards grows
 

@@ -6,16 +6,13 @@ use Rattle.papaya_folded.specs.Given.SeizeWords.Mem.{Mem}
 use Rattle.papaya_folded.specs.Given.Seize.World.{Begin, IsInside, Rests, SlotsTaken}
 use Rattle.papaya_folded.specs.Given.Seize.declared.rows.register.Registering.TheVariants as registering
 use Rattle.papaya_folded.specs.Given.Tables.declared.node.Node.{Node}
-use Rattle.papaya_folded.specs.Given.Executor.IsAt.{Scene, slot_of}
-use Rattle.papaya_folded.specs.Given.Executor.OnSlots.{MayBegin, RowBegins}
-use Rattle.papaya_folded.specs.Given.Executor.Rows.{request_of}
-use Rattle.papaya_folded.specs.Given.Executor.declared.row.RowTold.{RowTold}
-use Rattle.papaya_folded.specs.Given.Executor.declared.row.SlotCall.{SlotCall}
+use Rattle.papaya_folded.specs.Given.Scenes.declared.row.RowTold.{RowTold}
+use Rattle.papaya_folded.specs.Given.Scenes.declared.row.SlotCall.{SlotCall}
 use Rattle.papaya_folded.specs.Given.Others.Rows.{scene_then}
 use Rattle.papaya_folded.proofs.Given.Spots.Unreclaimed.{and_both, or_right}
 use Rattle.papaya_folded.specs.Given.SeizeWords.declared.fault.Fault.TheVariants.{Busy}
-use Rattle.papaya_folded.specs.Given.Executor.declared.row.SlotCall.TheVariants as call
-use Rattle.papaya_folded.specs.Given.Executor.declared.worker.Work.TheVariants.{OnSlot}
+use Rattle.papaya_folded.specs.Given.Scenes.declared.row.SlotCall.TheVariants as call
+use Rattle.papaya_scheduler.specs.Given.Executor.declared.worker.Work.TheVariants.{OnSlot}
 use Rattle.papaya_folded.specs.Given.Runs.Present.{has_registration}
 use Rattle.papaya_folded.specs.Given.Schedules.declared.effect.Effect.{Effect}
 use Rattle.papaya_folded.specs.Given.Schedules.declared.event.Event.{Event}
@@ -36,8 +33,7 @@ use Rattle.papaya_folded.specs.Given.Runs.Present.{Present}
 use Rattle.papaya_folded.specs.Given.Schedules.Terms.{Terms}
 use Rattle.papaya_folded.specs.Given.Effects.Known.{known}
 use Rattle.papaya_folded.specs.Given.Effects.declared.notes.Notes.{Notes}
-use Rattle.papaya_folded.specs.Given.Executor.Rows.{begun_row}
-use Rattle.papaya_folded.specs.Given.Executor.declared.row.RowTold.TheVariants as told
+use Rattle.papaya_folded.specs.Given.Scenes.declared.row.RowTold.TheVariants as told
 use Rattle.papaya_folded.specs.Given.Promises.Others.{SparesGuards}
 use Rattle.papaya_folded.specs.Given.Promises.Protected.{is_of_slots, there_in}
 use Rattle.papaya_folded.specs.Given.Models.OnSlots.{IsRowFor}
@@ -74,6 +70,12 @@ use Rattle.papaya_events.proofs.OfRows.Facts.{RowFacts, facts}
 use Rattle.papaya_events.proofs.OfRows.Lone.{alone_follows}
 use Rattle.papaya_events.proofs.OfRows.May.{flush_inside, may_by}
 use Rattle.papaya_events.proofs.OfRows.Quiet.{none_still, refused_still, still_keeps}
+use Rattle.papaya_scheduler.specs.Given.Executor.OnSlots.{MayBegin, RowBeginsThere}
+use Rattle.papaya_folded.specs.Given.Scenes.Rows.{begun_row, request_of}
+use Rattle.papaya_folded.specs.Given.Scenes.Scene.{Scene, slot_of}
+use Rattle.papaya_folded.proofs.Given.Logged.Held.{begun_held}
+use Rattle.papaya_folded.specs.Given.Scenes.OnSlots.{RowBegins}
+use Rattle.papaya_scheduler.specs.Given.Executor.IsThere.{held_by}
 pub mod Chain
 pub mod Over
 pub mod Facts
@@ -152,7 +154,7 @@ module _ {K V S : Type 0} (same : K → K → Bool) (hash : K → ℕ) (terms : 
   s = run.stands.scene
 
   small : terms.batch_size < 2 ^ 64
-  small = subst (λ (n : ℕ). n < 2 ^ 64) run.size run.stands.shown.is_at.small
+  small = subst (λ (n : ℕ). n < 2 ^ 64) run.size run.stands.shown.is_at.held.small
 
   -- its row has run to its end
   module _ (calls : new.calls ≡ old.calls) (slot : ℕ) (about : IsAbout event old slot) (called : SlotCall) (its : IsItsRow event old slot called) (said : RowTold (Node K V)) (comes : ComesBy event said played.outcome)
@@ -163,20 +165,23 @@ module _ {K V S : Type 0} (same : K → K → Bool) (hash : K → ℕ) (terms : 
     may : MayBegin old.logged.executor (slot_of ran.caller) called
     may = subst (λ (x : ℕ). MayBegin old.logged.executor x called) (sym ran.in_slot) f.may
 
-    abbrev leads : RowBegins same hash called ran.caller s old.logged.executor ran.began.executor
-    leads = (ran.begins same hash name m s run.stands.shown may).0
+    abbrev went : RowBeginsThere same hash called ran.caller s old.logged.executor ran.began.executor
+    went = (ran.begins same hash name m s run.stands.shown may).0
+
+    abbrev leads : RowBegins same (λ map. hash) called ran.caller s (held_by old.logged.executor) (held_by ran.began.executor)
+    leads = begun_held same hash s old.logged.executor ran.began.executor ran.caller called may went
 
     abbrev s1 : Scene K V
-    s1 = scene_then same hash (Begin ran.caller (request_of (slot_of ran.caller) called)) s old.logged.executor ran.began.executor (leads may).3
+    s1 = scene_then same (λ map. hash) (Begin ran.caller (request_of (slot_of ran.caller) called)) s (held_by old.logged.executor) (held_by ran.began.executor) leads.2
 
     y : RowComes same hash terms ran.caller ran.goes.0 (come_by (far [] ran.began) m s1) (far played.effects.items new.logged)
-    y = rows_come same hash terms ran.caller ran.goes.0 (far [] ran.began) (far played.effects.items new.logged) m s1 (leads may).3.4 (ran.given.1 ∙ run.size)
+    y = rows_come same hash terms ran.caller ran.goes.0 (far [] ran.began) (far played.effects.items new.logged) m s1 (went may).3.2.4 (ran.given.1 ∙ run.size)
         (ran.begins same hash name m s run.stands.shown may).1.counted ran.goes.1
 
-    chain : StepChain (RowSteps same hash terms ran.caller) ran.goes.0 (record { executor = ran.began.executor; did = []; now = m; notes = known old.logged.notes; scene = s1 })
+    chain : StepChain (RowSteps same (λ map. hash) terms ran.caller) ran.goes.0 (record { held = held_by ran.began.executor; did = []; now = m; notes = known old.logged.notes; scene = s1 })
         (come_by (far played.effects.items new.logged) y.now y.scene)
     chain =
-        subst (λ (n : Notes). StepChain (RowSteps same hash terms ran.caller) ran.goes.0 (record { executor = ran.began.executor; did = []; now = m; notes = known n; scene = s1 })
+        subst (λ (n : Notes). StepChain (RowSteps same (λ map. hash) terms ran.caller) ran.goes.0 (record { held = held_by ran.began.executor; did = []; now = m; notes = known n; scene = s1 })
         (come_by (far played.effects.items new.logged) y.now y.scene)) ran.noted y.chain
 
     rests : y.scene.world.row ran.caller ≡ Rests
@@ -193,12 +198,12 @@ module _ {K V S : Type 0} (same : K → K → Bool) (hash : K → ℕ) (terms : 
     -- as it begins the event is in its midst; what all of it did it may do, and finds what it must
     begun_so : InSlotEvent same name terms log event ran.caller called (known old.logged.notes) s.world [] m (known old.logged.notes) s1
     begun_so =
-        slot_events_begin_so K V S same hash name terms log (known old.logged.notes) s old.logged.executor ran.began.executor run.stands.shown.is_at run.size run.shows event on ran.caller called may leads spares
+        slot_events_begin_so K V same (λ map. hash) name terms log (known old.logged.notes) s (held_by old.logged.executor) (held_by ran.began.executor) run.stands.shown.is_at.held run.size run.shows event on ran.caller called leads spares
         (alone_follows same hash terms log old run event (all_facts_of event of on).0)
 
     done_by_row : list_all (may_row called) played.effects.items ≡ true
     done_by_row =
-        rows_do_theirs K V S same hash name terms log (known old.logged.notes) s old.logged.executor ran.began.executor run.stands.shown.is_at event ran.caller called may leads
+        rows_do_theirs K V same (λ map. hash) name terms log (known old.logged.notes) s (held_by old.logged.executor) (held_by ran.began.executor) run.stands.shown.is_at.held event ran.caller called leads
         (λ is. subst (λ (x : ℕ). IsInside (s.world.uses x)) (sym ran.in_slot) (flush_inside same hash terms log old run.stands event slot called about its is)) begun_so
         ran.goes.0 (come_by (far played.effects.items new.logged) y.now y.scene) chain
 
@@ -213,10 +218,10 @@ module _ {K V S : Type 0} (same : K → K → Bool) (hash : K → ℕ) (terms : 
     -- a registering asks for buckets in need, and others ask for none
     registers : (enters : Bool) → called ≡ call.Register enters → AtEachEffect AsksInNeed None None played.effects.items m
     registers enters is =
-        registers_need same hash terms m s old.logged.executor ran.caller enters (none_on_vacant same hash terms m old run.stands ran.caller) (known old.logged.notes) run.reached
-        (λ x vacant. ap (λ (there : Present). least_free (used_slots there)) run.stands.there ∙ (first_is same hash terms m old run.stands x vacant).least) ran.began.executor run.stands.shown.is_at
-        (subst (λ (c : SlotCall). RowBegins same hash c ran.caller s old.logged.executor ran.began.executor) is leads) slots_noted ran.goes.0
-        (record { executor = ran.began.executor; did = []; now = m; notes = known old.logged.notes; scene = s1 }) (come_by (far played.effects.items new.logged) y.now y.scene) refl refl refl chain
+        registers_need same (λ map. hash) terms m s (held_by old.logged.executor) ran.caller enters (none_on_vacant same hash terms m old run.stands ran.caller) (known old.logged.notes) run.reached
+        (λ x vacant. ap (λ (there : Present). least_free (used_slots there)) run.stands.there ∙ (first_is same hash terms m old run.stands x vacant).least) (held_by ran.began.executor) run.stands.shown.is_at.held
+        (subst (λ (c : SlotCall). RowBegins same (λ map. hash) c ran.caller s (held_by old.logged.executor) (held_by ran.began.executor)) is leads) slots_noted ran.goes.0
+        (record { held = held_by ran.began.executor; did = []; now = m; notes = known old.logged.notes; scene = s1 }) (come_by (far played.effects.items new.logged) y.now y.scene) refl refl refl refl chain
 
     in_need : (c : SlotCall) → called ≡ c → list_all (may_row c) played.effects.items ≡ true → AtEachEffect AsksInNeed None None played.effects.items m
     in_need (call.Register enters) is all = registers enters is
@@ -230,19 +235,19 @@ module _ {K V S : Type 0} (same : K → K → Bool) (hash : K → ℕ) (terms : 
     -- no bucket of slots is forgotten
     grows : (known old.logged.notes).buckets ≤ (known new.logged.notes).buckets
     grows =
-        rows_note_more same hash terms (known old.logged.notes) ran.caller ran.goes.0 (record { executor = ran.began.executor; did = []; now = m; notes = known old.logged.notes; scene = s1 })
+        rows_note_more same (λ map. hash) terms (known old.logged.notes) ran.caller ran.goes.0 (record { held = held_by ran.began.executor; did = []; now = m; notes = known old.logged.notes; scene = s1 })
         (come_by (far played.effects.items new.logged) y.now y.scene) chain (omega arith)
 
     finds : AtEachEffect (Finds terms None None (gives_all event) []) None None played.effects.items m
     finds =
         subst (λ (q : Bool). AtEachEffect (Finds terms None None q []) None None played.effects.items m) (sym (all_facts_of event of on).1)
-        (row_chains_find K V S same hash name terms log event ran.caller called (known old.logged.notes) s.world ran.goes.0
-        (record { executor = ran.began.executor; did = []; now = m; notes = known old.logged.notes; scene = s1 }) (come_by (far played.effects.items new.logged) y.now y.scene) chain begun_so refl
+        (row_chains_find K V same (λ map. hash) name terms log event ran.caller called (known old.logged.notes) s.world ran.goes.0
+        (record { held = held_by ran.began.executor; did = []; now = m; notes = known old.logged.notes; scene = s1 }) (come_by (far played.effects.items new.logged) y.now y.scene) chain begun_so refl
         (all_of_row event of on m played.effects.items allowed) (in_need called refl done_by_row))
 
     it : IsLegalBut same terms log e × ShowsRun same name terms (e ∷ log) (known new.logged.notes) y.scene
     it =
-        rows_run_to_their_ends K V S same hash name terms log (known old.logged.notes) s old.logged.executor ran.began.executor run.stands.shown.is_at run.size small run.shows e on ran.caller called may
+        rows_run_to_their_ends K V same (λ map. hash) name terms log (known old.logged.notes) s (held_by old.logged.executor) (held_by ran.began.executor) run.stands.shown.is_at.held run.size small run.shows e on ran.caller called
         leads spares (alone_follows same hash terms log old run event (all_facts_of event of on).0) ran.goes.0 (come_by (far played.effects.items new.logged) y.now y.scene) chain refl rests
         (f.inside y.scene.world y.is_at.uses played.outcome comes) (f.not_busy played.outcome comes) allowed finds (λ alone. is_row) right (reclaims_none log e of on)
 
@@ -252,15 +257,15 @@ module _ {K V S : Type 0} (same : K → K → Bool) (hash : K → ℕ) (terms : 
 
     taken_begun : SlotsTaken ran.began.executor.memory.memory m.slots
     taken_begun =
-        subst (λ (x : Mem (Node K V)). SlotsTaken x m.slots) (run.stands.shown.is_at.memory ∙ sym (ap (λ x. x.memory) (leads may).0)) run.taken
+        subst (λ (x : Mem (Node K V)). SlotsTaken x m.slots) (run.stands.shown.is_at.held.memory ∙ sym (ap (λ x. x.memory) (went may).0)) run.taken
 
     taken_other : IsOtherCall called → SlotsTaken after_row m.slots
     taken_other other =
         others_taken same hash ran.caller m.slots said ran.began.executor new.logged.executor ran.last (record {
           scene = s1;
-          is_at = (leads may).3.4;
+          is_at = (went may).3.2.4;
           row = begun_row (slot_of ran.caller) old.logged.executor.batch_size called;
-          here = (leads may).1;
+          here = (went may).1;
           other = other_begun (slot_of ran.caller) old.logged.executor.batch_size called other;
           taken = taken_begun;
         })
@@ -270,9 +275,9 @@ module _ {K V S : Type 0} (same : K → K → Bool) (hash : K → ℕ) (terms : 
         as_told said ran.come
         (registers_taken same hash ran.caller m.slots said ran.began.executor new.logged.executor ran.last (record {
           scene = s1;
-          is_at = (leads may).3.4;
+          is_at = (went may).3.2.4;
           register = record { slot = 0; enters = enters; stands = registering.Begin };
-          here = (leads may).1 ∙ ap (λ (c : SlotCall). Some (OnSlot (begun_row (slot_of ran.caller) old.logged.executor.batch_size c))) is;
+          here = (went may).1 ∙ ap (λ (c : SlotCall). Some (OnSlot (begun_row (slot_of ran.caller) old.logged.executor.batch_size c))) is;
           taken = taken_begun;
         }))
       where
@@ -282,7 +287,7 @@ module _ {K V S : Type 0} (same : K → K → Bool) (hash : K → ℕ) (terms : 
         as_told _ come so = so come
 
     taken : SlotsTaken y.scene.world.memory (slots_on played.outcome m.slots)
-    taken = subst (λ (x : Mem (Node K V)). SlotsTaken x (slots_on played.outcome m.slots)) (sym y.is_at.memory) (by event its comes)
+    taken = subst (λ (x : Mem (Node K V)). SlotsTaken x (slots_on played.outcome m.slots)) (sym y.is_at.held.memory) (by event its comes)
       where
         comes_to : (o : Outcome V) → played.outcome ≡ o → SlotsTaken after_row (slots_on o m.slots) → SlotsTaken after_row (slots_on played.outcome m.slots)
         comes_to o is = subst (λ (x : Outcome V). SlotsTaken after_row (slots_on x m.slots)) (sym is)

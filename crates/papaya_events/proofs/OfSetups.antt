@@ -3,7 +3,6 @@ use Rattle.std.specs.Prelude.{◌≡◌, ◌==◌, ℕ, Bool, true, false, not, 
 use Rattle.std.proofs.Common.{refl, sym, ap, subst, ◌∙◌}
 use Rattle.papaya_folded.specs.Given.Seize.World.{World}
 use Rattle.papaya_folded.specs.Given.Tables.declared.node.Node.{Node}
-use Rattle.papaya_folded.specs.Given.Executor.IsAt.{Scene}
 use Rattle.papaya_folded.specs.Given.SeizeWords.declared.fault.Fault.TheVariants.{Busy}
 use Rattle.papaya_folded.specs.Given.Schedules.declared.event.Event.{Event}
 use Rattle.papaya_folded.specs.Given.Schedules.declared.event.Event.TheVariants.{Begin, Choose, Collector, Forget, Go, Hash, Next, OneCall, Replied, ShowShape, Step, Stop}
@@ -39,6 +38,7 @@ use Rattle.papaya_events.proofs.OfRows.Lone.{alone_follows}
 use Rattle.papaya_events.proofs.OfRows.Quiet.{IsStill, still_keeps}
 use Rattle.papaya_events.proofs.Reached.{reached_by}
 use Rattle.papaya_events.proofs.Remaining.{counted_in}
+use Rattle.papaya_folded.specs.Given.Scenes.Scene.{Scene}
 
 -- One that did nothing is whole, whatever it came to,
 module _ {K V : Type 0} (log : List (Entry K V)) (w : Moment K V) where

@@ -34,8 +34,7 @@ use Rattle.papaya_folded.specs.Given.Schedules.Moment.{Asking, IsReady, Moment, 
 use Rattle.papaya_folded.specs.Given.Schedules.Terms.{Terms}
 use Rattle.papaya_folded.specs.Given.Schedules.Views.{number_of}
 use Rattle.papaya_folded.specs.Given.Effects.Known.{Known, known}
-use Rattle.papaya_folded.specs.Given.Executor.IsAt.{use_at}
-use Rattle.papaya_folded.specs.Given.Executor.declared.row.SlotUse.TheVariants as used
+use Rattle.papaya_folded.specs.Given.Scenes.declared.row.SlotUse.TheVariants as used
 use Rattle.papaya_folded.specs.Given.Rows.Rows.{used_as}
 use Rattle.papaya_folded.proofs.Given.Rows.Facts.{used_once}
 use Rattle.papaya_folded.proofs.Given.Rows.InUse.{among_used, unused_by}
@@ -43,6 +42,7 @@ use Rattle.papaya_scheduler.specs.Played.{IsPlayed, StandsFor}
 use Rattle.papaya_scheduler.specs.declared.scheduler.Scheduler.{Scheduler}
 use Rattle.papaya_works.specs.Needs.{AreReached}
 use Rattle.papaya_works.proofs.Reached.{reached_still}
+use Rattle.papaya_scheduler.specs.Given.Executor.IsThere.{use_at}
 
 -- who is there now uses the slot
 or_so : (b c : Bool) → c ≡ true → (b || c) ≡ true
@@ -102,11 +102,11 @@ module _ {K V S : Type 0} (same : K → K → Bool) (hash : K → ℕ) (terms : 
   used_reaches s among =
       let some = room_behind deferred_word plays.scene.world good s (never_vacant (plays.scene.world.uses s) (good.state.head s) _ _ not_vacant (good.used.fits s)) in
       let whole = plays.shown.counted.numbered.slots.whole in
-      let there = ap (λ (x : Mem (Node K V)). length x.slots) plays.shown.is_at.memory in
+      let there = ap (λ (x : Mem (Node K V)). length x.slots) plays.shown.is_at.held.memory in
       omega (arith, some, whole, there)
     where
       good : Good deferred_word (LAST_SLOT + 1) p.logged.executor.batch_size plays.scene.world
-      good = (came_reached p.logged.executor.batch_size plays.scene.world plays.shown.is_at.together.makings.standing.came).good
+      good = (came_reached p.logged.executor.batch_size plays.scene.world plays.shown.is_at.held.together.makings.standing.came).good
 
       in_use : (has_registration s p.there.registrations || not (guards_on s p.there.guards == 0)) ≡ true
       in_use = sym (among_used s p.there) ∙ ap (λ (x : Present). is_among s (used_slots x)) (sym plays.there) ∙ among

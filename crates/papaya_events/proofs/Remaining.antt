@@ -8,7 +8,6 @@ use Rattle.papaya_folded.specs.Given.Seize.declared.states.TheConstants.{HEAD}
 use Rattle.papaya_folded.specs.Given.Tables.declared.setting.Setting.{Setting}
 use Rattle.papaya_folded.specs.Given.Raw.declared.machines.end_map.EndMap.{EndMap}
 use Rattle.papaya_folded.specs.Given.Resize.declared.new_map.NewMap.{NewMap}
-use Rattle.papaya_folded.specs.Given.Executor.IsAt.{Scene, IsAt}
 use Rattle.papaya_folded.specs.Given.Finishes.Endings.{Finishing}
 use Rattle.papaya_folded.specs.Given.Finishes.Makings.{Beginning}
 use Rattle.papaya_folded.specs.Given.Finishes.Maps.{Standing}
@@ -31,9 +30,11 @@ use Rattle.papaya_folded.specs.Given.Named.Seen.{named, named_of}
 use Rattle.papaya_scheduler.specs.declared.scheduler.Scheduler.{Scheduler}
 use Rattle.papaya_mapping.proofs.MapLists.{all_back, all_seen}
 use Rattle.papaya_events.specs.Asked.{Holds}
+use Rattle.papaya_scheduler.specs.Given.Executor.IsThere.{IsThere, held_by}
+use Rattle.papaya_folded.specs.Given.Scenes.Scene.{Scene}
 
 -- a root that a standing map has in one scene of an executor it has in any
-root_in : {K V S : Type 0} (same : K → K → Bool) (hash : K → ℕ) (p : Scheduler K V S) (s t : Scene K V) → IsAt same hash p.logged.executor s → IsAt same hash p.logged.executor t → (r : ℕ)
+root_in : {K V S : Type 0} (same : K → K → Bool) (hash : K → ℕ) (p : Scheduler K V S) (s t : Scene K V) → IsThere same hash p.logged.executor s → IsThere same hash p.logged.executor t → (r : ℕ)
     → IsRootOf s.maps r → IsRootOf t.maps r
 root_in {K} same hash p s t at_s at_t r (n, st, stands, its) =
     let setting : Standing K → Setting = λ x. x.setting in
@@ -53,14 +54,14 @@ module _ {K V S : Type 0} (same : K → K → Bool) (hash : K → ℕ) (terms : 
     where
       by : (o : Option (Beginning K)) → t.makers j ≡ o → t.makers j ≡ None
       by None is = is
-      by (Some d) is = no_making_of same hash p.logged.executor t plays.shown.is_at j (plays.rests j (plays.shown.is_at.together.makings.alone j d is))
+      by (Some d) is = no_making_of same hash p.logged.executor t plays.shown.is_at j (plays.rests j (plays.shown.is_at.held.together.makings.alone j d is))
 
   pub nobody_ends : (j : ℕ) → t.enders j ≡ None
   nobody_ends j = by (t.enders j) refl
     where
       by : (o : Option (Finishing K V)) → t.enders j ≡ o → t.enders j ≡ None
       by None is = is
-      by (Some f) is = no_ending_of same hash p.logged.executor t plays.shown.is_at j (plays.rests j (plays.shown.is_at.together.alone j f is).0)
+      by (Some f) is = no_ending_of same hash p.logged.executor t plays.shown.is_at j (plays.rests j (plays.shown.is_at.held.together.alone j f is).0)
 
   abbrev StandsNamed : (List ℕ × ℕ) → Type 0
   StandsNamed z = (standing : Standing K) × (t.maps z.1 ≡ Some standing)
@@ -71,11 +72,11 @@ module _ {K V S : Type 0} (same : K → K → Bool) (hash : K → ℕ) (terms : 
   -- so roots are taken as the moment says, and what is behind them may all be reclaimed, where each map is found by its number
   module _ (found : AreFound m) where
     pub rested : RootsAreTaken p.logged.executor.roots m p.logged.executor.memory.memory × LeftBehind p.logged.executor.roots t.world t.maps c.lists
-    rested = rests_remain K V S same hash plays.name m (known p.logged.notes) t p.logged.executor plays.shown.is_at plays.shown.shows.all.shown c found all_stand nobody_makes nobody_ends
+    rested = rests_remain K V same (λ map. hash) plays.name m (known p.logged.notes) t (held_by p.logged.executor) plays.shown.is_at.held plays.shown.shows.all.shown c found all_stand nobody_makes nobody_ends
 
     -- and it is noted as what the moment tells
     pub noted_at : (r : ℕ) → r < p.logged.executor.roots → map (known p.logged.notes).roles (c.lists r) ≡ map role.Pair (left_at r m.remains)
-    noted_at = each_noted K V S same hash plays.name m (known p.logged.notes) t p.logged.executor plays.shown.is_at plays.shown.shows.all.shown c found all_stand nobody_makes nobody_ends
+    noted_at = each_noted K V same (λ map. hash) plays.name m (known p.logged.notes) t (held_by p.logged.executor) plays.shown.is_at.held plays.shown.shows.all.shown c found all_stand nobody_makes nobody_ends
 
     abbrev pub gives_all : MayGiveAll p t
     gives_all =
@@ -86,7 +87,7 @@ module _ {K V S : Type 0} (same : K → K → Bool) (hash : K → ℕ) (terms : 
           slots = record { some = slots.some; none = λ none. ap (λ (l : List (List ℕ)). slot_word l 0 HEAD) (slots.none none) };
         }
 
-  module _ (s : Scene K V) (at : IsAt same hash p.logged.executor s) where
+  module _ (s : Scene K V) (at : IsThere same hash p.logged.executor s) where
     makers_here : (j : ℕ) → s.makers j ≡ None
     makers_here j =
         let to : Beginning K → ℕ × NewMap = λ b. (b.map, b.machine) in
@@ -118,7 +119,7 @@ module _ {K V S : Type 0} (same : K → K → Bool) (hash : K → ℕ) (terms : 
           by : IsSomebodys t.maps t.makers t.enders r ⊎ RootLeads t.world r (c.lists r) → IsSomebodys s.maps s.makers s.enders r ⊎ RootLeads s.world r (lists r) → c.lists r ≡ lists r
           by (inl there) here = none_behind r l there (here_is r there)
           by (inr leads) (inl here) = none_behind r l (there_is r here) here
-          by (inr leads) (inr leads_here) = both_lead t.world s.world (at.memory ∙ sym plays.shown.is_at.memory) r (c.lists r) (lists r) leads leads_here
+          by (inr leads) (inr leads_here) = both_lead t.world s.world (at.held.memory ∙ sym plays.shown.is_at.held.memory) r (c.lists r) (lists r) leads leads_here
 
       -- numbers, slots and roots are so there
       pub counted_in : IsCounted m p.logged s

@@ -6,7 +6,8 @@ pub use Rattle.papaya_folded.specs.Given.Points
 pub use Rattle.papaya_folded.specs.Given.Callers
 pub use Rattle.papaya_folded.specs.Given.Finishes
 pub use Rattle.papaya_folded.specs.Given.Effects
-pub use Rattle.papaya_folded.specs.Given.Executor
+pub use Rattle.papaya_folded.specs.Given.Scenes
+pub use Rattle.papaya_scheduler.specs.Given.Executor
 pub use Rattle.papaya_folded.specs.Given.Follows
 pub use Rattle.papaya_folded.specs.Given.Spots
 pub use Rattle.papaya_folded.specs.Given.Moments

@@ -21,9 +21,7 @@ use Rattle.papaya_folded.specs.Given.Callers.Together.{UnderWay}
 use Rattle.papaya_folded.specs.Given.Effects.Effects.{known_after}
 use Rattle.papaya_folded.specs.Given.Effects.Known.{Known, known}
 use Rattle.papaya_folded.specs.Given.Effects.declared.acting.Acting.TheVariants as acts
-use Rattle.papaya_folded.specs.Given.Executor.IsAt.{Scene, IsAt}
-use Rattle.papaya_folded.specs.Given.Executor.Stepping.{StepLeads}
-use Rattle.papaya_folded.specs.Given.Executor.declared.executor.Executor.{Executor}
+use Rattle.papaya_scheduler.specs.Given.Executor.declared.executor.Executor.{Executor}
 use Rattle.papaya_folded.specs.Given.Histories.InEvent.{ComesSo}
 use Rattle.papaya_folded.specs.Given.Finishes.Machines.{machine_of}
 use Rattle.papaya_folded.specs.Given.Models.CallEvents.{IsInItsRow}
@@ -41,6 +39,9 @@ use Rattle.papaya_scheduler.specs.declared.scheduler.Scheduler.{Scheduler}
 use Rattle.papaya_stepping.specs.Stepping.{ComesAs, outcome_of}
 use Rattle.papaya_works.specs.Needs.{AreReached}
 use Rattle.papaya_events.specs.Asked.{FindsRight, is_of_calls}
+use Rattle.papaya_folded.specs.Given.Scenes.Scene.{Scene}
+use Rattle.papaya_folded.specs.Given.Scenes.Held.{Held, IsAt}
+use Rattle.papaya_folded.specs.Given.Scenes.Stepping.{StepLeads}
 
 -- each map has as many shards as the terms say
 abbrev pub HaveShards : {K V S : Type 0} → Terms → Executor K V S → Type 0
@@ -79,15 +80,15 @@ InsidesFollowInRows K V =
     (batch_size roots : ℕ) (things : List Thing) (sets : Sets) (known : Known) (w : World (Node K V)) → batch_size < 2 ^ 64
     → (row_slot slot i : ℕ) → IsInItsRow batch_size roots things sets row_slot i known w → IsInside (w.uses slot) → 1 ≤ count slot sets.active
 
-module _ (K V S : Type 0) (same : K → K → Bool) (hash : K → ℕ) where
+module _ (K V : Type 0) (same : K → K → Bool) (hash : ℕ → K → ℕ) where
   -- what the last step of an event says is told so, if its caller keeps the value that it is to tell back, and it is told as such a call may be
   abbrev pub LastStepsTell : Type 0
   LastStepsTell =
       (name : ℕ → List ℕ) (terms : Terms) (log : List (Entry K V)) (event : Event K V) (beginning : Moment K V) (map i : ℕ) (c : CallThere K V) (steps : ℕ) (done : List Effect) (m : Moment K V) (known : Known)
       (s : Scene K V) (u : UnderWay K V K) → InCallEvent same name terms log event beginning map i c steps done m known s u
-      → (old new : Executor K V S) → IsAt same hash old s → (said : Progress (Node K V)) → StepLeads same hash i said s old new
+      → (old new : Held K V) → IsAt same hash old s → (said : Progress (Node K V)) → StepLeads same hash i said s old new
       → (d : CallThere K V) → call_of (name i) m ≡ Some d → d.call ≡ c.call → d.replies ≡ c.replies → (value : Option V)
-      → (let known2 = known_after (acts.Call i map) new.memory.changed known in
+      → (let known2 = known_after (acts.Call i map) new.changed known in
       let told = outcome_of known2 (kind_of c.call) value said in
       ComesAs c.call told → KeepsValue c.call c.replies (machine_of u) value → ComesSo known2 c.call c.replies said told × TellsOf same log m map known2 said told c.call)
 

@@ -3,18 +3,19 @@ use Rattle.std.specs.Prelude.{◌≡◌, ◌≢◌, ◌<◌, ◌≤◌, ◌⊎�
 use Rattle.std.proofs.Common.{sym, ap, subst, ◌∙◌, inl, inr, arith}
 use Rattle.std.proofs.lemmas.Bool.{cases_eq}
 use Rattle.seize.specs.World.{Use}
-use Rattle.papaya_finishes.specs.Given.Callers.Rows.{IsRowOn, IsUsedAlike}
-use Rattle.papaya_finishes.specs.Endings.{EndingsTogether}
-use Rattle.papaya_finishes.specs.Machines.{machine_of}
-use Rattle.papaya_finishes.specs.Makings.{Beginning}
-use Rattle.papaya_finishes.specs.Maps.{Standing}
+use Rattle.papaya_scenes.specs.Given.Callers.Rows.{IsRowOn, IsUsedAlike}
+use Rattle.papaya_scenes.specs.Given.Finishes.Endings.{EndingsTogether}
+use Rattle.papaya_scenes.specs.Given.Finishes.Machines.{machine_of}
+use Rattle.papaya_scenes.specs.Given.Finishes.Makings.{Beginning}
+use Rattle.papaya_scenes.specs.Given.Finishes.Maps.{Standing}
 use Rattle.papaya_executor.specs.declared.executor.Executor.{Executor}
-use Rattle.papaya_executor.specs.declared.row.SlotUse.{SlotUse}
-use Rattle.papaya_executor.specs.declared.row.SlotUse.TheVariants as slot_use
-use Rattle.papaya_executor.specs.declared.worker.TheConstants.{SLOTS}
+use Rattle.papaya_scenes.specs.declared.row.SlotUse.{SlotUse}
+use Rattle.papaya_scenes.specs.declared.row.SlotUse.TheVariants as slot_use
+use Rattle.papaya_scenes.specs.declared.callers.TheConstants.{SLOTS}
 use Rattle.papaya_executor.specs.declared.worker.Work.{Work}
-use Rattle.papaya_executor.specs.IsAt.{Scene, IsAt, ChangesAt, HasRow, IsUsedAs, place_of, slot_of, in_slot, call_in, making_in, ending_in, worker_of, worker_at, work_of, use_at}
-use Rattle.papaya_executor.proofs.Places.{same_caller, own_worker, no_worker}
+use Rattle.papaya_executor.proofs.Places.{no_worker, own_worker, same_caller}
+use Rattle.papaya_executor.specs.IsThere.{ChangesAt, HasRow, IsThere, IsUsedAs, call_in, ending_in, in_slot, making_in, place_of, use_at, work_of, worker_at, worker_of}
+use Rattle.papaya_scenes.specs.Scene.{Scene, slot_of}
 
 -- Who has this at a place, and something else there later, or nothing: others have what they had.
 module _ {K V S : Type 0} (e e2 : Executor K V S) (i : ℕ) (had has : Option (Work K V)) (before : worker_at e (place_of i) ≡ worker_of (slot_of i) had)
@@ -42,7 +43,7 @@ used_on slot_use.Outside u u2 is alike = subst (λ (x : Use). IsUsedAlike x u2) 
 used_on slot_use.Inside u u2 is alike = subst (λ (x : Use). IsUsedAlike x u2) is.1 alike
 used_on slot_use.Changing u u2 is alike = subst (λ (x : Use). IsUsedAlike x u2) is alike
 
-module _ {K V S : Type 0} (same : K → K → Bool) (hash : K → ℕ) (e : Executor K V S) (s : Scene K V) (at : IsAt same hash e s) (i : ℕ) (had has : Option (Work K V))
+module _ {K V S : Type 0} (same : K → K → Bool) (hash : K → ℕ) (e : Executor K V S) (s : Scene K V) (at : IsThere same hash e s) (i : ℕ) (had has : Option (Work K V))
     (before : worker_at e (place_of i) ≡ worker_of (slot_of i) had) (mid e2 : Executor K V S) (changes : ChangesAt (place_of i) (worker_of (slot_of i) has) e mid)
     (workers : e2.workers.items ≡ mid.workers.items) where
   as_mid : (j : ℕ) → work_of e2 j ≡ work_of mid j
@@ -93,7 +94,7 @@ module _ {K V S : Type 0} (same : K → K → Bool) (hash : K → ℕ) (e : Exec
 
     makes_on : (j : ℕ) (c : Beginning K) → s2.makers j ≡ Some c → (j ≡ i) ⊎ (j ≢ i) → (c.hash ≡ hash) × (c.map < length e2.maps.items)
     makes_on j c makes (inl ej) = to.makes c (sym (ap s2.makers ej) ∙ makes)
-    makes_on j c makes (inr nj) = let was = sym (to.makers_as j nj) ∙ makes in (at.hashes_made j c was, omega (arith, at.numbers j c was, grows))
+    makes_on j c makes (inr nj) = let was = sym (to.makers_as j nj) ∙ makes in (at.held.hashes_made j c was, omega (arith, at.numbers j c was, grows))
 
     rows_on : (j : ℕ) → (j ≡ i) ⊎ (j ≢ i) → HasRow (work_of e2 j) (s2.world.row j)
     rows_on j (inl ej) =
@@ -103,23 +104,25 @@ module _ {K V S : Type 0} (same : K → K → Bool) (hash : K → ℕ) (e : Exec
 
     on_slots_on : (j : ℕ) → (j ≡ i) ⊎ (j ≢ i) → IsRowOn (slot_of j) (s2.world.row j)
     on_slots_on j (inl ej) = subst (λ (x : ℕ). IsRowOn (slot_of x) (s2.world.row x)) (sym ej) to.on_slot
-    on_slots_on j (inr nj) = subst (IsRowOn (slot_of j)) (sym (to.rows_as j nj)) (at.on_slots j)
+    on_slots_on j (inr nj) = subst (IsRowOn (slot_of j)) (sym (to.rows_as j nj)) (at.held.on_slots j)
 
-    pub there_again : IsAt same hash e2 s2
+    pub there_again : IsThere same hash e2 s2
     there_again = record {
-      memory = to.memory;
-      together = subst (λ (x : ℕ). EndingsTogether V same same x e2.roots slot_of s2.world s2.maps s2.calls s2.makers s2.enders) (sym batch_size)
-          (subst (λ (x : ℕ). EndingsTogether V same same e.batch_size x slot_of s2.world s2.maps s2.calls s2.makers s2.enders) (sym roots) to.together);
+      held = record {
+        memory = to.memory;
+        together = subst (λ (x : ℕ). EndingsTogether V same same x e2.roots slot_of s2.world s2.maps s2.calls s2.makers s2.enders) (sym batch_size)
+            (subst (λ (x : ℕ). EndingsTogether V same same e.batch_size x slot_of s2.world s2.maps s2.calls s2.makers s2.enders) (sym roots) to.together);
+        hashes = to.hashes;
+        hashes_made = λ j c makes. (makes_on j c makes (cases_eq j i)).0;
+        on_slots = λ j. on_slots_on j (cases_eq j i);
+        small = omega (arith, at.held.small, batch_size);
+      };
       maps = to.maps;
-      hashes = to.hashes;
       calls = λ m j. calls_on m j (cases_eq j i);
       makers = λ j. makers_on j (cases_eq j i);
       enders = λ j. enders_on j (cases_eq j i);
-      hashes_made = λ j c makes. (makes_on j c makes (cases_eq j i)).0;
       numbers = λ j c makes. (makes_on j c makes (cases_eq j i)).1;
       rows = λ j. rows_on j (cases_eq j i);
-      on_slots = λ j. on_slots_on j (cases_eq j i);
-      small = omega (arith, at.small, batch_size);
       slots = to.slots;
       uses = to.uses;
     }

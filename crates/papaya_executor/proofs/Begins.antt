@@ -3,26 +3,28 @@ use Rattle.std.specs.Prelude.{◌≡◌, ◌<◌, ◌^◌, ℕ, Bool, [], ◌∷
 use Rattle.std.proofs.Common.{refl, sym, ap, subst, ◌∙◌}
 use Rattle.seize.specs.World.{IsInside}
 use Rattle.papaya_raw.specs.declared.machines.machine.Machine.{Machine}
-use Rattle.papaya_finishes.proofs.Given.Callers.Together.Slots.{alike_same}
-use Rattle.papaya_finishes.specs.Given.Callers.Together.{UnderWay, OnKey, ForRoom, Counting, OverAll}
-use Rattle.papaya_finishes.specs.Endings.{EndingsTogether}
-use Rattle.papaya_finishes.specs.Maps.{Standing, with_call}
-use Rattle.papaya_finishes.proofs.Among.Calls.{calls_begin_among}
-use Rattle.papaya_finishes.proofs.Among.Countings.{countings_begin_among}
-use Rattle.papaya_finishes.proofs.Among.Rooms.{rooms_begin_among}
-use Rattle.papaya_finishes.proofs.Among.Sweeps.{sweeps_begin_among}
+use Rattle.papaya_scenes.proofs.Given.Callers.Together.Slots.{alike_same}
+use Rattle.papaya_scenes.specs.Given.Callers.Together.{UnderWay, OnKey, ForRoom, Counting, OverAll}
+use Rattle.papaya_scenes.specs.Given.Finishes.Endings.{EndingsTogether}
+use Rattle.papaya_scenes.specs.Given.Finishes.Maps.{Standing, with_call}
+use Rattle.papaya_scenes.proofs.Given.Finishes.Among.Calls.{calls_begin_among}
+use Rattle.papaya_scenes.proofs.Given.Finishes.Among.Countings.{countings_begin_among}
+use Rattle.papaya_scenes.proofs.Given.Finishes.Among.Rooms.{rooms_begin_among}
+use Rattle.papaya_scenes.proofs.Given.Finishes.Among.Sweeps.{sweeps_begin_among}
 use Rattle.papaya_executor.specs.declared.executor.Executor.{Executor}
-use Rattle.papaya_executor.specs.declared.worker.TheConstants.{SLOTS}
+use Rattle.papaya_scenes.specs.declared.callers.TheConstants.{SLOTS}
 use Rattle.papaya_executor.specs.declared.worker.Work.TheVariants as work
-use Rattle.papaya_executor.specs.Beginning.{Begins, BeginLeads}
-use Rattle.papaya_executor.specs.declared.row.SlotUse.{SlotUse}
-use Rattle.papaya_executor.specs.declared.row.SlotUse.TheVariants as used
-use Rattle.papaya_executor.specs.IsAt.{Scene, IsAt, ChangesAt, IsUsedAs, place_of, slot_of, worker_with, use_at}
+use Rattle.papaya_scenes.specs.declared.row.SlotUse.TheVariants as used
 use Rattle.papaya_executor.proofs.Changed.{is_at_on}
 use Rattle.papaya_executor.proofs.Few.{are_few}
-use Rattle.papaya_executor.proofs.Fresh.{caller_in, fresh_place, fresh_before, fresh_changes, no_calls_yet, no_making_yet, no_ending_yet, resting}
+use Rattle.papaya_executor.proofs.Fresh.{caller_in, fresh_before, fresh_changes, fresh_place, no_calls_yet, no_ending_yet, no_making_yet, resting}
+use Rattle.papaya_executor.specs.Beginning.{BeginsThere}
+use Rattle.papaya_executor.specs.IsThere.{ChangesAt, IsThere, place_of, use_at, worker_with}
+use Rattle.papaya_scenes.specs.Beginning.{Begins}
+use Rattle.papaya_scenes.specs.Scene.{Scene, slot_of}
+use Rattle.papaya_executor.proofs.Used.{used_slots_are_inside}
 
-module _ {K V S : Type 0} (same : K → K → Bool) (hash : K → ℕ) (e : Executor K V S) (s : Scene K V) (at : IsAt same hash e s) (slot m : ℕ) (machine : Machine K V K)
+module _ {K V S : Type 0} (same : K → K → Bool) (hash : K → ℕ) (e : Executor K V S) (s : Scene K V) (at : IsThere same hash e s) (slot m : ℕ) (machine : Machine K V K)
     (fits : slot < SLOTS) (few : length e.workers.items < 2 ^ 32) (e2 : Executor K V S) (memory : e2.memory ≡ e.memory)
     (items : e2.workers.items ≡ e.workers.items ++ Some (record { slot = slot; work = work.Call m machine }) ∷ []) (hasher : e2.hasher ≡ e.hasher)
     (batch_size : e2.batch_size ≡ e.batch_size) (roots : e2.roots ≡ e.roots) (maps : e2.maps.items ≡ e.maps.items) (slots : e2.slots.items ≡ e.slots.items) where
@@ -46,31 +48,32 @@ module _ {K V S : Type 0} (same : K → K → Bool) (hash : K → ℕ) (e : Exec
         → EndingsTogether V same same e.batch_size e.roots slot_of s.world s.maps (with_call s.calls m caller (Some u)) s.makers s.enders
     together (OnKey u) (begun, is) =
         subst (λ x. EndingsTogether V same same e.batch_size e.roots slot_of s.world s.maps (with_call s.calls m caller (Some (OnKey x))) s.makers s.enders) (sym is)
-        (calls_begin_among V same same e.batch_size e.roots slot_of s.world s.maps s.calls s.makers s.enders at.together caller no_maker no_ender no_calls
+        (calls_begin_among V same same e.batch_size e.roots slot_of s.world s.maps s.calls s.makers s.enders at.held.together caller no_maker no_ender no_calls
         (resting same hash e s at slot fits) inside m standing stands (λ blocking. are_few same hash e s at m caller place_is few) u.keys u.pair u.call begun)
     together (ForRoom r) (additional, is) =
         subst (λ x. EndingsTogether V same same e.batch_size e.roots slot_of s.world s.maps (with_call s.calls m caller (Some (ForRoom x))) s.makers s.enders) (sym is)
-        (rooms_begin_among V same same e.batch_size e.roots slot_of s.world s.maps s.calls s.makers s.enders at.together caller no_maker no_ender no_calls
+        (rooms_begin_among V same same e.batch_size e.roots slot_of s.world s.maps s.calls s.makers s.enders at.held.together caller no_maker no_ender no_calls
         (resting same hash e s at slot fits) inside m standing stands (λ blocking. are_few same hash e s at m caller place_is few) additional)
     together (Counting sum) is =
         subst (λ x. EndingsTogether V same same e.batch_size e.roots slot_of s.world s.maps (with_call s.calls m caller (Some (Counting x))) s.makers s.enders) (sym is)
-        (countings_begin_among V same same e.batch_size e.roots slot_of s.world s.maps s.calls s.makers s.enders at.together caller no_maker no_ender no_calls
+        (countings_begin_among V same same e.batch_size e.roots slot_of s.world s.maps s.calls s.makers s.enders at.held.together caller no_maker no_ender no_calls
         (resting same hash e s at slot fits) inside m standing stands (λ blocking. are_few same hash e s at m caller place_is few))
     together (OverAll o) (purpose, is) =
         subst (λ x. EndingsTogether V same same e.batch_size e.roots slot_of s.world s.maps (with_call s.calls m caller (Some (OverAll x))) s.makers s.enders) (sym is)
-        (sweeps_begin_among V same same e.batch_size e.roots slot_of s.world s.maps s.calls s.makers s.enders at.together caller no_maker no_ender no_calls
+        (sweeps_begin_among V same same e.batch_size e.roots slot_of s.world s.maps s.calls s.makers s.enders at.held.together caller no_maker no_ender no_calls
         (resting same hash e s at slot fits) inside m standing stands (λ blocking. are_few same hash e s at m caller place_is few) purpose)
 
   -- somebody is inside of a slot that is entered
   entered : use_at e (slot_of caller) ≡ used.Inside → IsInside (s.world.uses (slot_of caller))
-  entered v =
-      let is = subst (λ (x : SlotUse). IsUsedAs x (s.world.uses (slot_of caller))) v (at.uses (slot_of caller)) in
-      subst IsInside (sym is.1) tt
+  entered v = used_slots_are_inside K V S same hash s e at (slot_of caller) v
 
-  pub begin_leads : BeginLeads same hash m machine caller s e e2
-  begin_leads standing stands inside u as_machine begins = (
+  pub begin_leads : BeginsThere same hash m machine caller s e e2
+  begin_leads inside = (
     memory,
-    is_at_on same hash e s at m caller None (fresh_before e slot fits) e2 (Some u)
-        (subst (λ (x : Machine K V K). ChangesAt (place_of caller) (worker_with (slot_of caller) m (Some x)) e e2) (sym as_machine) (fresh_changes e slot fits (work.Call m machine) e2 items hasher batch_size roots maps slots))
-        s.world s.maps (at.memory ∙ ap (λ t. t.memory) (sym memory)) (λ j ne. refl) (record { uses = λ t. alike_same (s.world.uses t); on_slot = λ on. on }) (λ none. absurd (cc none)) (λ n. refl) at.hashes (together standing stands (entered inside) u begins),
+    λ standing stands u as_machine begins. (
+      ap (λ t. t.memory) memory,
+      is_at_on same hash e s at m caller None (fresh_before e slot fits) e2 (Some u)
+          (subst (λ (x : Machine K V K). ChangesAt (place_of caller) (worker_with (slot_of caller) m (Some x)) e e2) (sym as_machine) (fresh_changes e slot fits (work.Call m machine) e2 items hasher batch_size roots maps slots))
+          s.world s.maps (at.held.memory ∙ ap (λ t. t.memory) (sym memory)) (λ j ne. refl) (record { uses = λ t. alike_same (s.world.uses t); on_slot = λ on. on }) (λ none. absurd (cc none)) (λ n. refl) at.held.hashes (together standing stands (entered inside) u begins),
+    ),
   )

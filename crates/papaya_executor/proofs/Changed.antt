@@ -3,21 +3,22 @@ use Rattle.std.specs.Prelude.{◌≡◌, ◌≢◌, ◌<◌, ◌⊎◌, ℕ, Boo
 use Rattle.std.proofs.Common.{refl, sym, ap, subst, ◌∙◌, inl, inr, arith}
 use Rattle.std.proofs.lemmas.Bool.{cases_eq}
 use Rattle.seize.specs.World.{World, Row, Rests, with_at}
-use Rattle.papaya_finishes.specs.Given.Tables.declared.node.Node.{Node}
+use Rattle.papaya_scenes.specs.Given.Tables.declared.node.Node.{Node}
 use Rattle.papaya_raw.specs.declared.machines.machine.Machine.{Machine}
-use Rattle.papaya_finishes.specs.Given.Callers.Rows.{LeavesSlots}
-use Rattle.papaya_finishes.specs.Given.Callers.Together.{UnderWay}
-use Rattle.papaya_finishes.proofs.Given.Callers.Together.At.{at_other, at_same}
-use Rattle.papaya_finishes.specs.Endings.{EndingsTogether}
-use Rattle.papaya_finishes.specs.Machines.{machine_of}
-use Rattle.papaya_finishes.specs.Maps.{Standing, with_call}
+use Rattle.papaya_scenes.specs.Given.Callers.Rows.{LeavesSlots}
+use Rattle.papaya_scenes.specs.Given.Callers.Together.{UnderWay}
+use Rattle.papaya_scenes.proofs.Given.Callers.Together.At.{at_other, at_same}
+use Rattle.papaya_scenes.specs.Given.Finishes.Endings.{EndingsTogether}
+use Rattle.papaya_scenes.specs.Given.Finishes.Machines.{machine_of}
+use Rattle.papaya_scenes.specs.Given.Finishes.Maps.{Standing, with_call}
 use Rattle.papaya_executor.specs.declared.executor.Executor.{Executor}
 use Rattle.papaya_executor.specs.declared.worker.Work.{Work}
 use Rattle.papaya_executor.specs.declared.worker.Work.TheVariants as work
-use Rattle.papaya_executor.specs.declared.row.SlotUse.TheVariants as slot_use
-use Rattle.papaya_executor.specs.IsAt.{Scene, IsAt, ChangesAt, HasRow, IsUsedAs, place_of, slot_of, call_in, making_in, ending_in, worker_with, worker_at, use_at}
-use Rattle.papaya_executor.proofs.Again.{work_own, used_on, there_again}
-use Rattle.papaya_executor.proofs.Places.{none_of, within, own_call, no_call, call_found}
+use Rattle.papaya_scenes.specs.declared.row.SlotUse.TheVariants as slot_use
+use Rattle.papaya_executor.proofs.Again.{there_again, used_on, work_own}
+use Rattle.papaya_executor.proofs.Places.{call_found, no_call, none_of, own_call, within}
+use Rattle.papaya_executor.specs.IsThere.{ChangesAt, HasRow, IsThere, IsUsedAs, call_in, ending_in, making_in, place_of, use_at, worker_at, worker_with}
+use Rattle.papaya_scenes.specs.Scene.{Scene, slot_of}
 
 module _ {K V : Type 0} where
   -- a call is no making of a map, and no end of one
@@ -29,7 +30,7 @@ module _ {K V : Type 0} where
   no_ending m None = refl
   no_ending m (Some machine) = refl
 
-module _ {K V S : Type 0} (same : K → K → Bool) (hash : K → ℕ) (e : Executor K V S) (s : Scene K V) (at : IsAt same hash e s) (m i : ℕ) (u : UnderWay K V K) (here : s.calls m i ≡ Some u) where
+module _ {K V S : Type 0} (same : K → K → Bool) (hash : K → ℕ) (e : Executor K V S) (s : Scene K V) (at : IsThere same hash e s) (m i : ℕ) (u : UnderWay K V K) (here : s.calls m i ≡ Some u) where
   -- the caller's call is at its place
   pub worker_is : worker_at e (place_of i) ≡ worker_with (slot_of i) m (Some (machine_of u))
   worker_is = call_found (slot_of i) m (machine_of u) (worker_at e (place_of i)) (sym (at.calls m i) ∙ ap (option_map machine_of) here)
@@ -37,15 +38,7 @@ module _ {K V S : Type 0} (same : K → K → Bool) (hash : K → ℕ) (e : Exec
   pub place_there : place_of i < length e.workers.items
   place_there = within e.workers.items (place_of i) (record { slot = slot_of i; work = work.Call m (machine_of u) }) worker_is
 
-  -- its map stands
-  pub standing_is : (standing : Standing K) × (s.maps m ≡ Some standing)
-  standing_is = of (s.maps m) refl
-    where
-      of : (it : Option (Standing K)) → s.maps m ≡ it → (standing : Standing K) × (s.maps m ≡ Some standing)
-      of None none = absurd (cc (here, at.together.makings.standing.only m i none))
-      of (Some standing) is = (standing, is)
-
-module _ {K V S : Type 0} (same : K → K → Bool) (hash : K → ℕ) (e : Executor K V S) (s : Scene K V) (at : IsAt same hash e s) (m i : ℕ)
+module _ {K V S : Type 0} (same : K → K → Bool) (hash : K → ℕ) (e : Executor K V S) (s : Scene K V) (at : IsThere same hash e s) (m i : ℕ)
     (x : Option (Machine K V K)) (before : worker_at e (place_of i) ≡ worker_with (slot_of i) m x) where
   abbrev had : Option (Work K V)
   had = option_map (λ machine. work.Call m machine) x
@@ -91,7 +84,7 @@ module _ {K V S : Type 0} (same : K → K → Bool) (hash : K → ℕ) (e : Exec
       maker_none : s.makers i ≡ None
       maker_none = none_of _ (s.makers i) (at.makers i ∙ ap making_in (work_own e e2 i had has before changes) ∙ no_making m x)
 
-      pub is_at_on : IsAt same hash e2 scene2
+      pub is_at_on : IsThere same hash e2 scene2
       is_at_on = there_again same hash e s at i had has before e2 e2 changes refl changes.batch_size changes.roots (omega (arith, ap length changes.maps)) scene2 (record {
         memory = memory;
         together = together;
@@ -105,7 +98,7 @@ module _ {K V S : Type 0} (same : K → K → Bool) (hash : K → ℕ) (e : Exec
         enders = at.enders i ∙ ap ending_in (work_own e e2 i had has before changes) ∙ no_ending m x ∙ sym (no_ending m (option_map machine_of next));
         enders_as = λ j nj. refl;
         row = row_then (w2.row i) next rests;
-        on_slot = slots.on_slot (at.on_slots i);
+        on_slot = slots.on_slot (at.held.on_slots i);
         rows_as = rows;
         slots = ap length changes.slots ∙ at.slots;
         uses = λ t. subst (λ xs. IsUsedAs (slice_index_or xs t slot_use.Vacant) (w2.uses t)) (sym changes.slots) (used_on (use_at e t) (s.world.uses t) (w2.uses t) (at.uses t) (slots.uses t));

@@ -6,28 +6,30 @@ use Rattle.seize_words.specs.Plan.{May, Steps}
 use Rattle.seize.specs.World.{Row, Rests, with_at}
 use Rattle.seize.specs.declared.rows.settle.Settled.{Settled}
 use Rattle.seize.specs.declared.rows.settle.Settled.TheVariants as settled
-use Rattle.papaya_finishes.proofs.Given.SeizeAlone.Histories.UsersTurn.{AreBetween}
-use Rattle.papaya_finishes.specs.Given.Tables.Nodes.{deferred_word}
-use Rattle.papaya_finishes.specs.Given.Tables.declared.node.Node.{Node}
+use Rattle.papaya_scenes.proofs.Given.SeizeAlone.Histories.UsersTurn.{AreBetween}
+use Rattle.papaya_scenes.specs.Given.Tables.Nodes.{deferred_word}
+use Rattle.papaya_scenes.specs.Given.Tables.declared.node.Node.{Node}
 use Rattle.papaya_raw.specs.EndMap.{end_map_plan}
 use Rattle.papaya_raw.specs.declared.machines.end_map.EndMap.{EndMap}
 use Rattle.papaya_teller.specs.declared.changed.Changed.TheVariants.{Nothing}
-use Rattle.papaya_finishes.proofs.Given.Callers.Together.Slots.{between_rows, between_slots}
-use Rattle.papaya_finishes.specs.Given.Callers.Rows.{LeavesSlots}
-use Rattle.papaya_finishes.specs.Endings.{Finishing, EndingsTogether, FinishingTold, StepsOfEnding, waiting_by}
-use Rattle.papaya_finishes.specs.FactsEnds.{Deed, Looks, TakesPair, LeavesTable, JoinsPair, TakesLeft, TakesCounter, WritesRoot, events_of}
-use Rattle.papaya_finishes.proofs.Among.Own.Steps.{endings_stand}
+use Rattle.papaya_scenes.proofs.Given.Callers.Together.Slots.{between_rows, between_slots}
+use Rattle.papaya_scenes.specs.Given.Callers.Rows.{LeavesSlots}
+use Rattle.papaya_scenes.specs.Given.Finishes.Endings.{Finishing, EndingsTogether, FinishingTold, StepsOfEnding, waiting_by}
+use Rattle.papaya_scenes.specs.Given.Finishes.FactsEnds.{Deed, Looks, TakesPair, LeavesTable, JoinsPair, TakesLeft, TakesCounter, WritesRoot, events_of}
+use Rattle.papaya_scenes.proofs.Given.Finishes.Among.Own.Steps.{endings_stand}
 use Rattle.papaya_executor.specs.declared.executor.Executor.{Executor}
 use Rattle.papaya_executor.specs.declared.worker.Work.{Work}
 use Rattle.papaya_executor.specs.declared.worker.Work.TheVariants as work
 use Rattle.papaya_executor.specs.declared.worker.Worker.{Worker}
-use Rattle.papaya_executor.specs.Ending.{ending_on, EndingStepsFrom, EndingComesTo}
-use Rattle.papaya_executor.specs.IsAt.{Scene, IsAt, IsEnding, ChangesAt, HasRow, place_of, slot_of, call_in, making_in, ending_in, worker_of, worker_at}
 use Rattle.papaya_executor.proofs.Again.{own}
-use Rattle.papaya_executor.proofs.Forgotten.{as_step}
 use Rattle.papaya_executor.proofs.Made.{finished_at}
 use Rattle.papaya_executor.proofs.Makings.{set_there}
 use Rattle.papaya_executor.proofs.Places.{ending_found}
+use Rattle.papaya_executor.specs.Ending.{ending_on}
+use Rattle.papaya_executor.specs.IsThere.{ChangesAt, HasRow, IsThere, call_in, ending_in, making_in, place_of, worker_at, worker_of, held_by}
+use Rattle.papaya_scenes.proofs.Told.{as_step}
+use Rattle.papaya_scenes.specs.Ending.{EndingComesToThere, EndingStepsFrom}
+use Rattle.papaya_scenes.specs.Scene.{IsEnding, Scene, slot_of}
 
 -- what a step of an end does is none of a row
 deed_between : (T : Type 0) (i : ℕ) (deed : Deed) → AreBetween {T = T} (events_of i deed)
@@ -61,21 +63,21 @@ module _ (K V : Type 0) where
   ending_part : (ending ending2 : EndMap) → ◌≡◌ {A = Work K V} (work.Ending ending) (work.Ending ending2) → ending ≡ ending2
   ending_part ending ending2 is = cc is
 
-module _ {K V S : Type 0} (same : K → K → Bool) (hash : K → ℕ) (e : Executor K V S) (s : Scene K V) (at : IsAt same hash e s) (i : ℕ) (f : Finishing K V) (here : s.enders i ≡ Some f) where
+module _ {K V S : Type 0} (same : K → K → Bool) (hash : K → ℕ) (e : Executor K V S) (s : Scene K V) (at : IsThere same hash e s) (i : ℕ) (f : Finishing K V) (here : s.enders i ≡ Some f) where
   -- the caller's end of a map is at its place, and may take its next step
   ending_is : worker_at e (place_of i) ≡ worker_of (slot_of i) (Some (work.Ending f.machine))
   ending_is = ending_found (slot_of i) f.machine (worker_at e (place_of i)) (sym (at.enders i) ∙ ap (option_map (λ f. f.machine)) here)
 
   may_end : May Can Took value_at e.memory.memory (end_map_plan {K = K} {V = V} f.machine)
   may_end =
-      subst (λ (x : Mem (Node K V)). May Can Took value_at x (end_map_plan {K = K} {V = V} f.machine)) at.memory
-      (endings_stand {Q = K} V same same e.batch_size e.roots slot_of s.world s.maps s.calls s.makers s.enders at.together i f here).0
+      subst (λ (x : Mem (Node K V)). May Can Took value_at x (end_map_plan {K = K} {V = V} f.machine)) at.held.memory
+      (endings_stand {Q = K} V same same e.batch_size e.roots slot_of s.world s.maps s.calls s.makers s.enders at.held.together i f here).0
 
-  module _ (e2 : Executor K V S) (ending : EndMap) (told : Settled (Node K V)) (steps : EndingStepsFrom f.machine e e2 ending told)
+  module _ (e2 : Executor K V S) (ending : EndMap) (told : Settled (Node K V)) (steps : EndingStepsFrom f.machine (held_by e) (held_by e2) ending told)
       (changes : ChangesAt (place_of i) (worker_of (slot_of i) (ending_on ending told)) e e2) where
     did : StepsOfEnding V same same e.batch_size e.roots slot_of s.world s.maps s.calls s.makers s.enders i f e2.memory.memory (ending, told)
-    did = (endings_stand {Q = K} V same same e.batch_size e.roots slot_of s.world s.maps s.calls s.makers s.enders at.together i f here).1 e2.memory.memory (ending, told)
-        (subst (λ (x : Mem (Node K V)). Steps Took value_at x (end_map_plan {K = K} {V = V} f.machine) e2.memory.memory (ending, told)) (sym at.memory)
+    did = (endings_stand {Q = K} V same same e.batch_size e.roots slot_of s.world s.maps s.calls s.makers s.enders at.held.together i f here).1 e2.memory.memory (ending, told)
+        (subst (λ (x : Mem (Node K V)). Steps Took value_at x (end_map_plan {K = K} {V = V} f.machine) e2.memory.memory (ending, told)) (sym at.held.memory)
         (as_step e.memory.memory Nothing (end_map_plan f.machine) e2.memory.memory e2.memory.changed (ending, told) steps))
 
     rows : did.w2.row ≡ s.world.row
@@ -89,24 +91,24 @@ module _ {K V S : Type 0} (same : K → K → Bool) (hash : K → ℕ) (e : Exec
 
     is_ended : (next : Option (Finishing K V)) → option_map (λ f. f.machine) next ≡ ending_in (ending_on ending told)
         → EndingsTogether V same same e.batch_size e.roots slot_of did.w2 s.maps s.calls s.makers (with_at s.enders i next)
-        → IsAt same hash e2 (record s { world = did.w2; enders = with_at s.enders i next })
+        → IsThere same hash e2 (record s { world = did.w2; enders = with_at s.enders i next })
     is_ended next next_is together =
         finished_at same hash e s at i (Some (work.Ending f.machine)) (ending_on ending told) ending_is (λ m. refl) (λ m. no_call K V m ending told)
         e2 e2 changes refl changes.batch_size changes.roots changes.slots (omega (arith, ap length changes.maps)) did.w2 did.memory (λ j ne. ap (λ (f : ℕ → Row). f j) rows) leaves
-        (no_row K V ending told (did.w2.row i) resting) s.maps (λ m. at.maps m ∙ ap (λ xs. slice_index_or xs m None) (sym changes.maps)) at.hashes refl (no_making K V ending told)
+        (no_row K V ending told (did.w2.row i) resting) s.maps (λ m. at.maps m ∙ ap (λ xs. slice_index_or xs m None) (sym changes.maps)) at.held.hashes refl (no_making K V ending told)
         next next_is together
 
     -- it goes on
     goes : (t : Settled (Node K V)) → told ≡ t → ending_in (ending_on ending t) ≡ Some ending → (g : Finishing K V) → g.machine ≡ ending
         → EndingsTogether V same same e.batch_size e.roots slot_of did.w2 s.maps s.calls s.makers (with_at s.enders i (Some g))
-        → IsAt same hash e2 (record s { world = did.w2; enders = with_at s.enders i (Some g) })
+        → IsThere same hash e2 (record s { world = did.w2; enders = with_at s.enders i (Some g) })
     goes t is on g g_is = is_ended (Some g) (ap Some g_is ∙ sym (ap (λ x. ending_in (ending_on ending x)) is ∙ on))
 
-    comes : EndingComesTo same hash s e2 i f ending did.w2 did.deed told
+    comes : EndingComesToThere same (IsThere same hash e2) s i f ending did.w2 did.deed told
     comes = by told refl did.told
       where
         by : (t : Settled (Node K V)) → told ≡ t → FinishingTold V same same e.batch_size e.roots slot_of s.world s.maps s.calls s.makers s.enders i f did.w2 did.deed (ending, t)
-            → EndingComesTo same hash s e2 i f ending did.w2 did.deed t
+            → EndingComesToThere same (IsThere same hash e2) s i f ending did.w2 did.deed t
         by settled.Goes is (none, together) = (none, goes settled.Goes is refl (record f { machine = ending; waits = f.waits ++ waiting_by did.deed }) refl together)
         by settled.Waits is never = never
         by (settled.Gave value) is (b, there, taken, together) =
@@ -121,23 +123,23 @@ module _ {K V S : Type 0} (same : K → K → Bool) (hash : K → ℕ) (e : Exec
 
   -- and its step leads where one of the caller's does
   pub ending_leads : (e2 : Executor K V S) (ending : EndMap) (told : Settled (Node K V)) (slot : ℕ) (before : EndMap) → (slot ≡ slot_of i) × (before ≡ f.machine)
-      → place_of i < length e.workers.items → EndingStepsFrom before e e2 ending told
+      → place_of i < length e.workers.items → EndingStepsFrom before (held_by e) (held_by e2) ending told
       → e2.workers.items ≡ slice_set (slice_set e.workers.items (place_of i) None) (place_of i) (worker_of slot (ending_on ending told))
       → e2.hasher ≡ e.hasher → e2.batch_size ≡ e.batch_size → e2.roots ≡ e.roots → e2.maps.items ≡ e.maps.items → e2.slots.items ≡ e.slots.items
-      → (ending : EndMap) × EndingStepsFrom f.machine e e2 ending told
+      → (ending : EndMap) × EndingStepsFrom f.machine (held_by e) (held_by e2) ending told
       × (did : StepsOfEnding V same same e.batch_size e.roots slot_of s.world s.maps s.calls s.makers s.enders i f e2.memory.memory (ending, told))
-      × EndingComesTo same hash s e2 i f ending did.w2 did.deed told
+      × EndingComesToThere same (IsThere same hash e2) s i f ending did.w2 did.deed told
   ending_leads e2 ending told slot before is within steps items hasher batch_size roots maps slots = (ending, steps2, did e2 ending told steps2 changes, comes e2 ending told steps2 changes)
     where
-      steps2 : EndingStepsFrom f.machine e e2 ending told
-      steps2 = subst (λ (x : EndMap). EndingStepsFrom x e e2 ending told) is.1 steps
+      steps2 : EndingStepsFrom f.machine (held_by e) (held_by e2) ending told
+      steps2 = subst (λ (x : EndMap). EndingStepsFrom x (held_by e) (held_by e2) ending told) is.1 steps
 
       changes : ChangesAt (place_of i) (worker_of (slot_of i) (ending_on ending told)) e e2
       changes = subst (λ (x : ℕ). ChangesAt (place_of i) (worker_of x (ending_on ending told)) e e2) is.0
           (set_there e e2 (place_of i) (worker_of slot (ending_on ending told)) within items hasher batch_size roots maps slots)
 
 -- who ends a map has that at its place
-module _ {K V S : Type 0} (same : K → K → Bool) (hash : K → ℕ) (e : Executor K V S) (s : Scene K V) (at : IsAt same hash e s) (i : ℕ) (it : IsEnding s i) where
+module _ {K V S : Type 0} (same : K → K → Bool) (hash : K → ℕ) (e : Executor K V S) (s : Scene K V) (at : IsThere same hash e s) (i : ℕ) (it : IsEnding s i) where
   pub has_ending : (slot : ℕ) × (ending : EndMap) × (slice_index_or e.workers.items (place_of i) None ≡ worker_of slot (Some (work.Ending ending)))
   has_ending = (slot_of i, it.0.machine, ending_is same hash e s at i it.0 it.1)
 

@@ -4,14 +4,15 @@ use Rattle.std.specs.List.{All, AllPairs, AllByRecursion, IsDistinct, list_any}
 use Rattle.std.proofs.Common.{refl, sym, ap, subst, ◌∙◌, inl, inr, arith}
 use Rattle.std.proofs.lemmas.Bool.{ne_eqb}
 use Rattle.std.proofs.lemmas.Map.Steps.{length-le_from_distinct_below}
-use Rattle.papaya_finishes.specs.Given.Callers.Claims.{AreFew}
-use Rattle.papaya_finishes.specs.Given.Callers.Together.{UnderWay}
-use Rattle.papaya_finishes.specs.Given.Callers.Together as callers
+use Rattle.papaya_scenes.specs.Given.Callers.Claims.{AreFew}
+use Rattle.papaya_scenes.specs.Given.Callers.Together.{UnderWay}
+use Rattle.papaya_scenes.specs.Given.Callers.Together as callers
 use Rattle.papaya_executor.specs.declared.executor.Executor.{Executor}
-use Rattle.papaya_executor.specs.IsAt.{Scene, IsAt, place_of}
-use Rattle.papaya_executor.proofs.Changed.{worker_is, place_there}
+use Rattle.papaya_executor.proofs.Changed.{place_there, worker_is}
 use Rattle.papaya_executor.proofs.Places.{same_caller}
 use Rattle.papaya_executor.proofs.Taken.{same_worker}
+use Rattle.papaya_executor.specs.IsThere.{IsThere, place_of}
+use Rattle.papaya_scenes.specs.Scene.{Scene}
 
 module _ (f : ℕ → ℕ) where
   same_length : (xs : List ℕ) → length (map f xs) ≡ length xs
@@ -43,7 +44,7 @@ module _ (f : ℕ → ℕ) where
   pub few_below : (n : ℕ) (xs : List ℕ) → AllPairs (λ x y. f x ≢ f y) xs → All (λ x. f x < n) xs → length xs ≤ n
   few_below n xs pairs all = subst (λ (x : ℕ). x ≤ n) (same_length xs) (length-le_from_distinct_below (map f xs) n (distinct xs pairs) (below n xs all))
 
-module _ {K V S : Type 0} (same : K → K → Bool) (hash : K → ℕ) (e : Executor K V S) (s : Scene K V) (at : IsAt same hash e s) (m i : ℕ) where
+module _ {K V S : Type 0} (same : K → K → Bool) (hash : K → ℕ) (e : Executor K V S) (s : Scene K V) (at : IsThere same hash e s) (m i : ℕ) where
   abbrev Such : ℕ → Type 0
   Such j = (j ≡ i) ⊎ callers.HasCall (s.calls m) j
 

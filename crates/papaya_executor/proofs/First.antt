@@ -4,18 +4,19 @@ use Rattle.std.proofs.Common.{refl, sym, ap, subst, ◌∙◌, inl, inr, arith}
 use Rattle.std.proofs.lemmas.Bool.{cases_lt}
 use Rattle.std.proofs.lemmas.List.{get_or-replicate, get_or_past, length-replicate}
 use Rattle.seize.specs.World.{Rests, Vacant, at_start}
-use Rattle.papaya_finishes.specs.Given.Tables.Nodes.{deferred_word}
-use Rattle.papaya_finishes.specs.Endings.{EndingsTogether}
-use Rattle.papaya_finishes.proofs.Among.Begins.{no_endings_begin}
-use Rattle.papaya_finishes.proofs.Beside.Makings.Promised.{no_makings_begin}
-use Rattle.papaya_finishes.proofs.Beside.Makings.Samples.{start_roots}
-use Rattle.papaya_finishes.proofs.Beside.Maps.Comes.{no_maps_begin}
+use Rattle.papaya_scenes.specs.Given.Tables.Nodes.{deferred_word}
+use Rattle.papaya_scenes.specs.Given.Finishes.Endings.{EndingsTogether}
+use Rattle.papaya_scenes.proofs.Given.Finishes.Among.Begins.{no_endings_begin}
+use Rattle.papaya_scenes.proofs.Given.Finishes.Beside.Makings.Promised.{no_makings_begin}
+use Rattle.papaya_scenes.proofs.Given.Finishes.Beside.Makings.Samples.{start_roots}
+use Rattle.papaya_scenes.proofs.Given.Finishes.Beside.Maps.Comes.{no_maps_begin}
 use Rattle.papaya_executor.specs.declared.executor.Executor.{Executor}
-use Rattle.papaya_executor.specs.declared.row.SlotUse.{SlotUse}
-use Rattle.papaya_executor.specs.declared.row.SlotUse.TheVariants as slot_use
-use Rattle.papaya_executor.specs.declared.worker.TheConstants.{SLOTS}
+use Rattle.papaya_scenes.specs.declared.row.SlotUse.{SlotUse}
+use Rattle.papaya_scenes.specs.declared.row.SlotUse.TheVariants as slot_use
+use Rattle.papaya_scenes.specs.declared.callers.TheConstants.{SLOTS}
 use Rattle.papaya_executor.specs.declared.worker.Work.{Work}
-use Rattle.papaya_executor.specs.IsAt.{IsAt, HasRow, IsUsedAs, at_first, slot_of, place_of, work_of, in_slot, call_in, making_in, ending_in}
+use Rattle.papaya_executor.specs.IsThere.{HasRow, IsThere, IsUsedAs, call_in, ending_in, in_slot, making_in, place_of, work_of}
+use Rattle.papaya_scenes.specs.Scene.{at_first, slot_of}
 
 -- at first each slot is vacant
 all_vacant : (t : ℕ) → (t < SLOTS) ⊎ (SLOTS ≤ t) → slice_index_or (replicate SLOTS slot_use.Vacant) t slot_use.Vacant ≡ slot_use.Vacant
@@ -33,20 +34,22 @@ module _ {K V S : Type 0} (same : K → K → Bool) (hash : K → ℕ) (e : Exec
   no_work : (i : ℕ) → work_of e i ≡ None
   no_work i = ap (λ xs. in_slot (slot_of i) (slice_index_or xs (place_of i) None)) workers
 
-  pub first_is : IsAt same hash e (at_first e.roots)
+  pub first_is : IsThere same hash e (at_first e.roots)
   first_is = record {
-    memory = sym memory;
-    together = together;
+    held = record {
+      memory = sym memory;
+      together = together;
+      hashes = λ m standing here. absurd (cc here);
+      hashes_made = λ i b here. absurd (cc here);
+      on_slots = λ i. tt;
+      small = small;
+    };
     maps = λ m. sym (ap (λ xs. slice_index_or xs m None) maps);
-    hashes = λ m standing here. absurd (cc here);
     calls = λ m i. sym (ap (λ x. call_in x m) (no_work i));
     makers = λ i. sym (ap making_in (no_work i));
     enders = λ i. sym (ap ending_in (no_work i));
-    hashes_made = λ i b here. absurd (cc here);
     numbers = λ i b here. absurd (cc here);
     rows = λ i. subst (λ (x : Option (Work K V)). HasRow x Rests) (sym (no_work i)) refl;
-    on_slots = λ i. tt;
-    small = small;
     slots = ap length slots ∙ length-replicate SLOTS slot_use.Vacant;
     uses = λ t. subst (λ (x : SlotUse). IsUsedAs x Vacant) (sym (ap (λ xs. slice_index_or xs t slot_use.Vacant) slots ∙ all_vacant t (cases_lt t SLOTS))) refl;
   }

@@ -1,12 +1,11 @@
 -- A step in a memory that tells, which has forgotten what was told before.
 use Rattle.std.specs.Prelude.{true, false}
 use Rattle.std.proofs.Common.{◌≡◌, refl, sym, subst}
-use Rattle.seize_words.specs.Mem.{Mem, Can, Took, value_at}
-use Rattle.seize_words.specs.Plan.{Plan, Turn, Do, May, Steps}
-use Rattle.papaya_finishes.specs.Given.Tables.declared.node.Node.{Node}
+use Rattle.seize_words.specs.Mem.{Can, Took, value_at}
+use Rattle.seize_words.specs.Plan.{Plan, May, Steps}
+use Rattle.papaya_scenes.specs.Given.Tables.declared.node.Node.{Node}
 use Rattle.papaya_teller.specs.Changed.{is_made}
 use Rattle.papaya_teller.specs.Tells.{Telling, CanTell, TookTold, StepsTold}
-use Rattle.papaya_teller.specs.declared.changed.Changed.{Changed}
 use Rattle.papaya_teller.specs.declared.changed.Changed.TheVariants.{Nothing}
 use Rattle.papaya_teller.proofs.Laws.{may_with_teller, refuses_with_teller, steps_with_teller}
 
@@ -23,9 +22,3 @@ module _ (K V R : Type 0) (t f : Telling K V R) (is : f ≡ record t { changed =
   none_made refuses n end st =
       (refuses_with_teller K V R (record t { changed = Nothing }) n plan end (subst (λ (f : Telling K V R). Steps (TookTold K V R) (λ t. value_at t.memory) f plan n end) is st)).1
       refuses refl
-
--- what was told of it aside, it was a step of its plan
-module _ {K V R : Type 0} (m : Mem (Node K V)) (before : Changed) where
-  pub as_step : (plan : Plan (Node K V) R) (n : Mem (Node K V)) (told : Changed) (end : R) → StepsTold K V R m before plan n told end → Steps Took value_at m plan n end
-  as_step (Turn rest) n told end st = (st.0, st.1)
-  as_step (Do op rest) n told end st = (st.0, st.1.0, st.2)

@@ -4,12 +4,13 @@ use Rattle.std.proofs.Common.{sym, ap, subst, ◌∙◌, inl, inr, arith}
 use Rattle.std.proofs.lemmas.Bool.{cases_lt}
 use Rattle.std.proofs.lemmas.List.{get_or_past, get_or_push, get_or_append_left, length-append}
 use Rattle.seize.specs.World.{Rests}
-use Rattle.papaya_finishes.specs.Machines.{machine_of}
+use Rattle.papaya_scenes.specs.Given.Finishes.Machines.{machine_of}
 use Rattle.papaya_executor.specs.declared.executor.Executor.{Executor}
-use Rattle.papaya_executor.specs.declared.worker.TheConstants.{SLOTS}
+use Rattle.papaya_scenes.specs.declared.callers.TheConstants.{SLOTS}
 use Rattle.papaya_executor.specs.declared.worker.Work.{Work}
-use Rattle.papaya_executor.specs.IsAt.{Scene, IsAt, ChangesAt, HasRow, place_of, slot_of, in_slot, call_in, making_in, ending_in, worker_of, worker_at, work_of}
 use Rattle.papaya_executor.proofs.Places.{none_of}
+use Rattle.papaya_executor.specs.IsThere.{ChangesAt, HasRow, IsThere, call_in, ending_in, in_slot, making_in, place_of, work_of, worker_at, worker_of}
+use Rattle.papaya_scenes.specs.Scene.{Scene, slot_of}
 
 -- its number
 abbrev pub caller_in : {K V S : Type 0} → Executor K V S → ℕ → ℕ
@@ -60,7 +61,7 @@ module _ {K V S : Type 0} (e : Executor K V S) (slot : ℕ) (fits : slot < SLOTS
       slots = slots;
     }
 
-module _ {K V S : Type 0} (same : K → K → Bool) (hash : K → ℕ) (e : Executor K V S) (s : Scene K V) (at : IsAt same hash e s) (slot : ℕ) (fits : slot < SLOTS) where
+module _ {K V S : Type 0} (same : K → K → Bool) (hash : K → ℕ) (e : Executor K V S) (s : Scene K V) (at : IsThere same hash e s) (slot : ℕ) (fits : slot < SLOTS) where
   pub no_calls_yet : (n : ℕ) → s.calls n (caller_in e slot) ≡ None
   no_calls_yet n = none_of machine_of (s.calls n (caller_in e slot)) (at.calls n (caller_in e slot) ∙ ap (λ (x : Option (Work K V)). call_in x n) (no_work e slot fits))
 

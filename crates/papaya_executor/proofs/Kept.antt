@@ -2,35 +2,38 @@
 use Rattle.std.specs.Prelude.{◌≡◌, ◌≤◌, ℕ, Bool, [], ◌∷◌, ◌++◌, length, Option, None, slice_index_or, Result, Ok, Err, IfErr}
 use Rattle.std.proofs.Common.{sym, ap, subst, ◌∙◌, arith}
 use Rattle.std.proofs.lemmas.List.{length-append}
-use Rattle.papaya_finishes.specs.Endings.{EndingsTogether}
+use Rattle.papaya_scenes.specs.Given.Finishes.Endings.{EndingsTogether}
 use Rattle.papaya_executor.specs.declared.executor.Executor.{Executor}
-use Rattle.papaya_executor.specs.declared.row.SlotUse.TheVariants as used
+use Rattle.papaya_scenes.specs.declared.row.SlotUse.TheVariants as used
 use Rattle.papaya_executor.specs.declared.worker.Work.{Work}
-use Rattle.papaya_executor.specs.Beginning.{IsRefused}
 use Rattle.papaya_executor.proofs.Places.{one_number}
-use Rattle.papaya_executor.specs.IsAt.{Scene, IsAt, HasRow, IsUsedAs, place_of, slot_of, in_slot, call_in, making_in, ending_in, work_of}
+use Rattle.papaya_executor.specs.Beginning.{IsRefused}
+use Rattle.papaya_executor.specs.IsThere.{HasRow, IsThere, IsUsedAs, call_in, ending_in, in_slot, making_in, place_of, work_of}
+use Rattle.papaya_scenes.specs.Scene.{Scene, slot_of}
 
-module _ {K V S : Type 0} (same : K → K → Bool) (hash : K → ℕ) (e : Executor K V S) (s : Scene K V) (at : IsAt same hash e s) (e2 : Executor K V S) (memory : e2.memory ≡ e.memory)
+module _ {K V S : Type 0} (same : K → K → Bool) (hash : K → ℕ) (e : Executor K V S) (s : Scene K V) (at : IsThere same hash e s) (e2 : Executor K V S) (memory : e2.memory ≡ e.memory)
     (workers : e2.workers.items ≡ e.workers.items) (batch_size : e2.batch_size ≡ e.batch_size) (roots : e2.roots ≡ e.roots) (slots : e2.slots.items ≡ e.slots.items)
     (maps : (m : ℕ) → slice_index_or e2.maps.items m None ≡ slice_index_or e.maps.items m None) (grows : length e.maps.items ≤ length e2.maps.items) where
   as_before : (j : ℕ) → work_of e2 j ≡ work_of e j
   as_before j = ap (λ xs. in_slot (slot_of j) (slice_index_or xs (place_of j) None)) workers
 
-  pub kept_at : IsAt same hash e2 s
+  pub kept_at : IsThere same hash e2 s
   kept_at = record {
-    memory = at.memory ∙ ap (λ t. t.memory) (sym memory);
-    together = subst (λ (x : ℕ). EndingsTogether V same same x e2.roots slot_of s.world s.maps s.calls s.makers s.enders) (sym batch_size)
-        (subst (λ (x : ℕ). EndingsTogether V same same e.batch_size x slot_of s.world s.maps s.calls s.makers s.enders) (sym roots) at.together);
+    held = record {
+      memory = at.held.memory ∙ ap (λ t. t.memory) (sym memory);
+      hashes = at.held.hashes;
+      hashes_made = at.held.hashes_made;
+      on_slots = at.held.on_slots;
+      small = omega (arith, at.held.small, batch_size);
+      together = subst (λ (x : ℕ). EndingsTogether V same same x e2.roots slot_of s.world s.maps s.calls s.makers s.enders) (sym batch_size)
+          (subst (λ (x : ℕ). EndingsTogether V same same e.batch_size x slot_of s.world s.maps s.calls s.makers s.enders) (sym roots) at.held.together);
+    };
     maps = λ m. at.maps m ∙ sym (maps m);
-    hashes = at.hashes;
     calls = λ m j. at.calls m j ∙ ap (λ (x : Option (Work K V)). call_in x m) (sym (as_before j));
     makers = λ j. at.makers j ∙ ap making_in (sym (as_before j));
     enders = λ j. at.enders j ∙ ap ending_in (sym (as_before j));
-    hashes_made = at.hashes_made;
     numbers = λ j b makes. omega (arith, at.numbers j b makes, grows);
     rows = λ j. subst (λ (x : Option (Work K V)). HasRow x (s.world.row j)) (sym (as_before j)) (at.rows j);
-    on_slots = at.on_slots;
-    small = omega (arith, at.small, batch_size);
     slots = ap length slots ∙ at.slots;
     uses = λ t. subst (λ xs. IsUsedAs (slice_index_or xs t used.Vacant) (s.world.uses t)) (sym slots) (at.uses t);
   }

@@ -15,10 +15,12 @@ pub mod OnSlotBegun
 pub mod OnSlots
 pub mod Places
 pub mod Replies
+pub mod RowLeads
 pub mod RowsGo
 pub mod Steps
 pub mod Stops
 pub mod Taken
+pub mod Used
 pub mod Uses
 pub mod Vacated
 pub mod Given

@@ -2,21 +2,22 @@
 use Rattle.std.specs.Prelude.{◌≡◌, ◌≢◌, ◌<◌, ◌≤◌, ℕ, Bool, length, Option, Some, None, option_map, slice_index_or}
 use Rattle.std.proofs.Common.{refl, sym, ap, subst, ◌∙◌}
 use Rattle.seize.specs.World.{World, with_at}
-use Rattle.papaya_finishes.specs.Given.Tables.declared.node.Node.{Node}
-use Rattle.papaya_finishes.proofs.Given.Callers.Together.At.{at_other, at_same}
-use Rattle.papaya_finishes.specs.Given.Callers.Rows.{LeavesSlots}
-use Rattle.papaya_finishes.specs.Endings.{Finishing, EndingsTogether}
-use Rattle.papaya_finishes.specs.Machines.{machine_of}
-use Rattle.papaya_finishes.specs.Makings.{Beginning}
-use Rattle.papaya_finishes.specs.Maps.{Standing}
+use Rattle.papaya_scenes.specs.Given.Tables.declared.node.Node.{Node}
+use Rattle.papaya_scenes.proofs.Given.Callers.Together.At.{at_other, at_same}
+use Rattle.papaya_scenes.specs.Given.Callers.Rows.{LeavesSlots}
+use Rattle.papaya_scenes.specs.Given.Finishes.Endings.{Finishing, EndingsTogether}
+use Rattle.papaya_scenes.specs.Given.Finishes.Machines.{machine_of}
+use Rattle.papaya_scenes.specs.Given.Finishes.Makings.{Beginning}
+use Rattle.papaya_scenes.specs.Given.Finishes.Maps.{Standing}
 use Rattle.papaya_executor.specs.declared.executor.Executor.{Executor}
-use Rattle.papaya_executor.specs.declared.row.SlotUse.TheVariants as slot_use
+use Rattle.papaya_scenes.specs.declared.row.SlotUse.TheVariants as slot_use
 use Rattle.papaya_executor.specs.declared.worker.Work.{Work}
-use Rattle.papaya_executor.specs.IsAt.{Scene, IsAt, ChangesAt, HasRow, IsUsedAs, place_of, slot_of, call_in, making_in, ending_in, worker_of, worker_at, use_at}
-use Rattle.papaya_executor.proofs.Again.{own, used_on, there_again}
+use Rattle.papaya_executor.proofs.Again.{own, there_again, used_on}
 use Rattle.papaya_executor.proofs.Places.{none_of}
+use Rattle.papaya_executor.specs.IsThere.{ChangesAt, HasRow, IsThere, IsUsedAs, call_in, ending_in, making_in, place_of, use_at, worker_at, worker_of}
+use Rattle.papaya_scenes.specs.Scene.{Scene, slot_of}
 
-module _ {K V S : Type 0} (same : K → K → Bool) (hash : K → ℕ) (e : Executor K V S) (s : Scene K V) (at : IsAt same hash e s) (i : ℕ) (had has : Option (Work K V))
+module _ {K V S : Type 0} (same : K → K → Bool) (hash : K → ℕ) (e : Executor K V S) (s : Scene K V) (at : IsThere same hash e s) (i : ℕ) (had has : Option (Work K V))
     (before : worker_at e (place_of i) ≡ worker_of (slot_of i) had) (no_call_had : (m : ℕ) → call_in had m ≡ None) (no_call_has : (m : ℕ) → call_in has m ≡ None)
     (mid e2 : Executor K V S) (changes : ChangesAt (place_of i) (worker_of (slot_of i) has) e mid)
     (workers : e2.workers.items ≡ mid.workers.items) (batch_size : e2.batch_size ≡ e.batch_size) (roots : e2.roots ≡ e.roots) (slots : e2.slots.items ≡ e.slots.items)
@@ -36,7 +37,7 @@ module _ {K V S : Type 0} (same : K → K → Bool) (hash : K → ℕ) (e : Exec
       (next : Option (Beginning K)) (next_is : option_map (λ b. (b.map, b.machine)) next ≡ making_in has)
       (next_so : (c : Beginning K) → next ≡ Some c → (c.hash ≡ hash) × (c.map < length e2.maps.items))
       (together : EndingsTogether V same same e.batch_size e.roots slot_of w2 maps2 s.calls (with_at s.makers i next) s.enders) where
-    pub made_at : IsAt same hash e2 (record s { world = w2; maps = maps2; makers = with_at s.makers i next })
+    pub made_at : IsThere same hash e2 (record s { world = w2; maps = maps2; makers = with_at s.makers i next })
     made_at = there_again same hash e s at i had has before mid e2 changes workers batch_size roots grows (record s { world = w2; maps = maps2; makers = with_at s.makers i next }) (record {
       memory = memory;
       together = together;
@@ -50,7 +51,7 @@ module _ {K V S : Type 0} (same : K → K → Bool) (hash : K → ℕ) (e : Exec
       enders = at.enders i ∙ ap ending_in (own same hash e s at i had has before mid e2 changes workers) ∙ no_ending_had ∙ sym no_ending_has;
       enders_as = λ j nj. refl;
       row = row;
-      on_slot = leaves.on_slot (at.on_slots i);
+      on_slot = leaves.on_slot (at.held.on_slots i);
       rows_as = rows;
       slots = ap length slots ∙ at.slots;
       uses = slots_then;
@@ -63,7 +64,7 @@ module _ {K V S : Type 0} (same : K → K → Bool) (hash : K → ℕ) (e : Exec
     maker_none : s.makers i ≡ None
     maker_none = none_of _ (s.makers i) (at.makers i ∙ ap making_in (own same hash e s at i had has before mid e2 changes workers) ∙ no_making_had)
 
-    pub finished_at : IsAt same hash e2 (record s { world = w2; maps = maps2; enders = with_at s.enders i next })
+    pub finished_at : IsThere same hash e2 (record s { world = w2; maps = maps2; enders = with_at s.enders i next })
     finished_at = there_again same hash e s at i had has before mid e2 changes workers batch_size roots grows (record s { world = w2; maps = maps2; enders = with_at s.enders i next }) (record {
       memory = memory;
       together = together;
@@ -77,7 +78,7 @@ module _ {K V S : Type 0} (same : K → K → Bool) (hash : K → ℕ) (e : Exec
       enders = ap (option_map (λ f. f.machine)) (at_same s.enders i next i refl) ∙ next_is;
       enders_as = λ j nj. at_other s.enders i next j nj;
       row = row;
-      on_slot = leaves.on_slot (at.on_slots i);
+      on_slot = leaves.on_slot (at.held.on_slots i);
       rows_as = rows;
       slots = ap length slots ∙ at.slots;
       uses = slots_then;

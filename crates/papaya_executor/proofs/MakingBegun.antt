@@ -2,21 +2,22 @@
 use Rattle.std.specs.Prelude.{◌≡◌, ◌<◌, ◌+◌, ℕ, Bool, [], ◌∷◌, ◌++◌, length, Option, Some, None, option_map, slice_index_or}
 use Rattle.std.proofs.Common.{refl, sym, ap, ◌∙◌, arith}
 use Rattle.std.proofs.lemmas.List.{get_or_past, length-append}
-use Rattle.papaya_finishes.specs.Given.Tables.declared.setting.Setting.{Setting}
-use Rattle.papaya_finishes.proofs.Given.Callers.Together.Slots.{alike_same}
-use Rattle.papaya_finishes.specs.Makings.{Beginning}
-use Rattle.papaya_finishes.proofs.Among.Makings.{makings_begin_among}
-use Rattle.papaya_finishes.proofs.Beside.Makings.Promised.{makings_begin}
+use Rattle.papaya_scenes.specs.Given.Tables.declared.setting.Setting.{Setting}
+use Rattle.papaya_scenes.proofs.Given.Callers.Together.Slots.{alike_same}
+use Rattle.papaya_scenes.specs.Given.Finishes.Makings.{Beginning}
+use Rattle.papaya_scenes.proofs.Given.Finishes.Among.Makings.{makings_begin_among}
+use Rattle.papaya_scenes.proofs.Given.Finishes.Beside.Makings.Promised.{makings_begin}
 use Rattle.papaya_executor.specs.declared.executor.Executor.{Executor}
-use Rattle.papaya_executor.specs.declared.worker.TheConstants.{SLOTS}
+use Rattle.papaya_scenes.specs.declared.callers.TheConstants.{SLOTS}
 use Rattle.papaya_executor.specs.declared.worker.Work.TheVariants as work
-use Rattle.papaya_executor.specs.IsAt.{Scene, IsAt, slot_of}
-use Rattle.papaya_executor.specs.MakingBegins.{next_making, MakingBegins}
-use Rattle.papaya_executor.proofs.Fresh.{caller_in, fresh_before, fresh_changes, no_calls_yet, no_making_yet, no_ending_yet, resting}
+use Rattle.papaya_executor.proofs.Fresh.{caller_in, fresh_before, fresh_changes, no_calls_yet, no_ending_yet, no_making_yet, resting}
 use Rattle.papaya_executor.proofs.Made.{made_at}
 use Rattle.papaya_executor.proofs.Places.{none_of, one_number}
+use Rattle.papaya_executor.specs.IsThere.{IsThere}
+use Rattle.papaya_executor.specs.MakingBegins.{MakingBegins, next_making}
+use Rattle.papaya_scenes.specs.Scene.{Scene, slot_of}
 
-module _ {K V S : Type 0} (same : K → K → Bool) (hash : K → ℕ) (e : Executor K V S) (s : Scene K V) (at : IsAt same hash e s) (slot : ℕ) (fits : slot < SLOTS) (given : Setting) (places : ℕ)
+module _ {K V S : Type 0} (same : K → K → Bool) (hash : K → ℕ) (e : Executor K V S) (s : Scene K V) (at : IsThere same hash e s) (slot : ℕ) (fits : slot < SLOTS) (given : Setting) (places : ℕ)
     (e2 : Executor K V S) (memory : e2.memory ≡ e.memory)
     (items : e2.workers.items ≡ e.workers.items ++ Some (record { slot = slot; work = work.Making (length e.maps.items) (next_making {V = V} {S = S} hash given places e).machine }) ∷ [])
     (hasher : e2.hasher ≡ e.hasher) (batch_size : e2.batch_size ≡ e.batch_size) (roots : e2.roots ≡ e.roots) (slots : e2.slots.items ≡ e.slots.items) (maps : e2.maps.items ≡ e.maps.items ++ None ∷ []) where
@@ -41,10 +42,10 @@ module _ {K V S : Type 0} (same : K → K → Bool) (hash : K → ℕ) (e : Exec
     memory,
     made_at same hash e s at (caller_in e slot) None (Some (work.Making b.map b.machine)) (fresh_before e slot fits) (λ m. refl) (λ m. refl) mid e2
         (fresh_changes e slot fits (work.Making b.map b.machine) mid items hasher batch_size roots refl slots) refl batch_size roots slots (omega (arith, count))
-        s.world (at.memory ∙ ap (λ t. t.memory) (sym memory)) (λ j ne. refl) (record { uses = λ t. alike_same (s.world.uses t); on_slot = λ on. on }) (resting same hash e s at slot fits)
-        s.maps settings at.hashes refl refl (Some b) refl (λ c is. so c is)
-        (makings_begin_among {Q = K} V same same e.batch_size e.roots slot_of s.world s.maps s.calls s.makers s.enders at.together (caller_in e slot) (no_ending_yet same hash e s at slot fits) b
-        (makings_begin {Q = K} V same same e.batch_size e.roots slot_of s.world s.maps s.calls s.makers at.together.makings (caller_in e slot) (no_making_yet same hash e s at slot fits)
+        s.world (at.held.memory ∙ ap (λ t. t.memory) (sym memory)) (λ j ne. refl) (record { uses = λ t. alike_same (s.world.uses t); on_slot = λ on. on }) (resting same hash e s at slot fits)
+        s.maps settings at.held.hashes refl refl (Some b) refl (λ c is. so c is)
+        (makings_begin_among {Q = K} V same same e.batch_size e.roots slot_of s.world s.maps s.calls s.makers s.enders at.held.together (caller_in e slot) (no_ending_yet same hash e s at slot fits) b
+        (makings_begin {Q = K} V same same e.batch_size e.roots slot_of s.world s.maps s.calls s.makers at.held.together.makings (caller_in e slot) (no_making_yet same hash e s at slot fits)
         (no_calls_yet same hash e s at slot fits) b.map no_map (λ j d has is. absurd (omega (arith, at.numbers j d has, is))) given hash places lawful initial batches mask some sized) refl),
   )
     where

@@ -8,29 +8,31 @@ use Rattle.seize_words.specs.Plan.{May, Steps}
 use Rattle.seize.specs.World.{Row, Rests, with_at}
 use Rattle.seize.specs.declared.progress.Progress.{Progress}
 use Rattle.seize.specs.declared.progress.Progress.TheVariants as progress
-use Rattle.papaya_finishes.specs.Given.Tables.Nodes.{deferred_word}
-use Rattle.papaya_finishes.specs.Given.Tables.declared.node.Node.{Node}
-use Rattle.papaya_finishes.specs.Given.Tables.declared.setting.Setting.{Setting}
-use Rattle.papaya_finishes.specs.Given.Resize.NewMap.{new_map_plan}
-use Rattle.papaya_finishes.specs.Given.Resize.declared.new_map.NewMap.{NewMap}
+use Rattle.papaya_scenes.specs.Given.Tables.Nodes.{deferred_word}
+use Rattle.papaya_scenes.specs.Given.Tables.declared.node.Node.{Node}
+use Rattle.papaya_scenes.specs.Given.Tables.declared.setting.Setting.{Setting}
+use Rattle.papaya_scenes.specs.Given.Resize.NewMap.{new_map_plan}
+use Rattle.papaya_scenes.specs.Given.Resize.declared.new_map.NewMap.{NewMap}
 use Rattle.papaya_teller.specs.declared.changed.Changed.TheVariants.{Nothing}
-use Rattle.papaya_finishes.proofs.Given.Callers.Together.At.{at_other, at_same}
-use Rattle.papaya_finishes.proofs.Given.Callers.Together.Slots.{all_between, between_rows, between_slots}
-use Rattle.papaya_finishes.specs.Given.Callers.Rows.{LeavesSlots}
-use Rattle.papaya_finishes.specs.Endings.{EndingsTogether, MakingStepsAmong, MakingToldAmong}
-use Rattle.papaya_finishes.specs.Makings.{Beginning}
-use Rattle.papaya_finishes.specs.Maps.{Standing}
-use Rattle.papaya_finishes.proofs.Among.Makings.{makings_stand_among}
+use Rattle.papaya_scenes.proofs.Given.Callers.Together.At.{at_other, at_same}
+use Rattle.papaya_scenes.proofs.Given.Callers.Together.Slots.{all_between, between_rows, between_slots}
+use Rattle.papaya_scenes.specs.Given.Callers.Rows.{LeavesSlots}
+use Rattle.papaya_scenes.specs.Given.Finishes.Endings.{EndingsTogether, MakingStepsAmong, MakingToldAmong}
+use Rattle.papaya_scenes.specs.Given.Finishes.Makings.{Beginning}
+use Rattle.papaya_scenes.specs.Given.Finishes.Maps.{Standing}
+use Rattle.papaya_scenes.proofs.Given.Finishes.Among.Makings.{makings_stand_among}
 use Rattle.papaya_executor.specs.declared.executor.Executor.{Executor}
 use Rattle.papaya_executor.specs.declared.worker.Work.{Work}
 use Rattle.papaya_executor.specs.declared.worker.Work.TheVariants as work
 use Rattle.papaya_executor.specs.declared.worker.Worker.{Worker}
-use Rattle.papaya_executor.specs.IsAt.{Scene, IsAt, IsMaking, ChangesAt, HasRow, place_of, slot_of, call_in, making_in, ending_in, worker_of, worker_at}
-use Rattle.papaya_executor.specs.Making.{making_on, maps_on, MakingStepsFrom, MakingComesTo}
 use Rattle.papaya_executor.proofs.Again.{own}
-use Rattle.papaya_executor.proofs.Forgotten.{as_step}
 use Rattle.papaya_executor.proofs.Made.{made_at}
 use Rattle.papaya_executor.proofs.Places.{making_found}
+use Rattle.papaya_executor.specs.IsThere.{ChangesAt, HasRow, IsThere, call_in, ending_in, making_in, place_of, worker_at, worker_of, held_by}
+use Rattle.papaya_executor.specs.Making.{making_on, maps_on}
+use Rattle.papaya_scenes.proofs.Told.{as_step}
+use Rattle.papaya_scenes.specs.Making.{MakingComesToThere, MakingStepsFrom}
+use Rattle.papaya_scenes.specs.Scene.{IsMaking, Scene, slot_of}
 
 -- the settings are as many as they were
 pub same_count : (map : ℕ) (told : Progress Setting) (maps : List (Option Setting)) → length (maps_on map told maps) ≡ length maps
@@ -82,22 +84,22 @@ module _ {K V S : Type 0} (e e2 : Executor K V S) (place : ℕ) (next : Option (
         slots = slots;
       }
 
-module _ {K V S : Type 0} (same : K → K → Bool) (hash : K → ℕ) (e : Executor K V S) (s : Scene K V) (at : IsAt same hash e s) (i : ℕ) (b : Beginning K) (here : s.makers i ≡ Some b) where
+module _ {K V S : Type 0} (same : K → K → Bool) (hash : K → ℕ) (e : Executor K V S) (s : Scene K V) (at : IsThere same hash e s) (i : ℕ) (b : Beginning K) (here : s.makers i ≡ Some b) where
   -- the caller's making is at its place, and may take its next step
   pub making_is : worker_at e (place_of i) ≡ worker_of (slot_of i) (Some (work.Making b.map b.machine))
   making_is = making_found (slot_of i) b.map b.machine (worker_at e (place_of i)) (sym (at.makers i) ∙ ap (option_map (λ b. (b.map, b.machine))) here)
 
   pub may_make : May Can Took value_at e.memory.memory (new_map_plan {K = K} {V = V} b.machine)
   may_make =
-      subst (λ (x : Mem (Node K V)). May Can Took value_at x (new_map_plan {K = K} {V = V} b.machine)) at.memory
-      (makings_stand_among {Q = K} V same same e.batch_size e.roots slot_of s.world s.maps s.calls s.makers s.enders at.together i b here).0
+      subst (λ (x : Mem (Node K V)). May Can Took value_at x (new_map_plan {K = K} {V = V} b.machine)) at.held.memory
+      (makings_stand_among {Q = K} V same same e.batch_size e.roots slot_of s.world s.maps s.calls s.makers s.enders at.held.together i b here).0
 
-  module _ (mid e2 : Executor K V S) (opening : NewMap) (told : Progress Setting) (steps : MakingStepsFrom b.machine e e2 opening told)
+  module _ (mid e2 : Executor K V S) (opening : NewMap) (told : Progress Setting) (steps : MakingStepsFrom b.machine (held_by e) (held_by e2) opening told)
       (changes : ChangesAt (place_of i) (worker_of (slot_of i) (making_on b.map opening told)) e mid)
       (workers : e2.workers.items ≡ mid.workers.items) (slots : e2.slots.items ≡ e.slots.items) (batch_size : e2.batch_size ≡ e.batch_size) (roots : e2.roots ≡ e.roots) (maps : e2.maps.items ≡ maps_on b.map told e.maps.items) where
     pub did : MakingStepsAmong V same same e.batch_size e.roots slot_of s.world s.maps s.calls s.makers s.enders i b e2.memory.memory (opening, told)
-    did = (makings_stand_among {Q = K} V same same e.batch_size e.roots slot_of s.world s.maps s.calls s.makers s.enders at.together i b here).1 e2.memory.memory (opening, told)
-        (subst (λ (x : Mem (Node K V)). Steps Took value_at x (new_map_plan {K = K} {V = V} b.machine) e2.memory.memory (opening, told)) (sym at.memory)
+    did = (makings_stand_among {Q = K} V same same e.batch_size e.roots slot_of s.world s.maps s.calls s.makers s.enders at.held.together i b here).1 e2.memory.memory (opening, told)
+        (subst (λ (x : Mem (Node K V)). Steps Took value_at x (new_map_plan {K = K} {V = V} b.machine) e2.memory.memory (opening, told)) (sym at.held.memory)
         (as_step e.memory.memory Nothing (new_map_plan b.machine) e2.memory.memory e2.memory.changed (opening, told) steps))
 
     rows : did.step.w2.row ≡ s.world.row
@@ -118,13 +120,13 @@ module _ {K V S : Type 0} (same : K → K → Bool) (hash : K → ℕ) (e : Exec
         (next : Option (Beginning K)) (next_is : option_map (λ b. (b.map, b.machine)) next ≡ making_in (making_on {K = K} {V = V} b.map opening told))
         (next_so : (c : Beginning K) → next ≡ Some c → (c.hash ≡ hash) × (c.map < length e.maps.items))
         (together : EndingsTogether V same same e.batch_size e.roots slot_of did.step.w2 maps2 s.calls (with_at s.makers i next) s.enders) where
-      is_made : IsAt same hash e2 (record s { world = did.step.w2; maps = maps2; makers = with_at s.makers i next })
+      is_made : IsThere same hash e2 (record s { world = did.step.w2; maps = maps2; makers = with_at s.makers i next })
       is_made =
           made_at same hash e s at i (Some (work.Making b.map b.machine)) (making_on b.map opening told) making_is (λ m. refl) (λ m. no_call K V b.map m opening told)
           mid e2 changes workers batch_size roots slots (omega (arith, count)) did.step.w2 did.step.memory (λ j ne. ap (λ (f : ℕ → Row). f j) rows) leaves
           (no_row K V b.map opening told (did.step.w2.row i) resting) maps2 settings hashes refl (no_ending K V b.map opening told) next next_is (λ c is. let so = next_so c is in (so.0, subst (λ (x : ℕ). c.map < x) (sym count) so.1)) together
 
-    pub comes : MakingComesTo same hash s e e2 i b opening did.step.w2 told
+    pub comes : MakingComesToThere same (IsThere same hash e2) s (held_by e) i b opening did.step.w2 told
     comes = by told refl maps did.told
       where
         -- the setting of a map that was made, and those of the others
@@ -147,19 +149,19 @@ module _ {K V S : Type 0} (same : K → K → Bool) (hash : K → ℕ) (e : Exec
             at_number : (m ≡ b.map) ⊎ (m ≢ b.map) → other.hash ≡ hash
             at_number (inl em) =
                 let it : standing ≡ other = cc (at_same s.maps b.map (Some standing) m em, there) in
-                sym (ap (λ (x : Standing K). x.hash) it) ∙ is ∙ at.hashes_made i b here
-            at_number (inr nm) = at.hashes m other (sym (at_other s.maps b.map (Some standing) m nm) ∙ there)
+                sym (ap (λ (x : Standing K). x.hash) it) ∙ is ∙ at.held.hashes_made i b here
+            at_number (inr nm) = at.held.hashes m other (sym (at_other s.maps b.map (Some standing) m nm) ∙ there)
 
         as_it_is : (c : Beginning K) → Some (record b { machine = opening }) ≡ Some c → (c.hash ≡ hash) × (c.map < length e.maps.items)
         as_it_is c some =
             let it : record b { machine = opening } ≡ c = cc some in
-            (sym (ap (λ (x : Beginning K). x.hash) it) ∙ at.hashes_made i b here, subst (λ (x : ℕ). x < length e.maps.items) (ap (λ (x : Beginning K). x.map) it) (at.numbers i b here))
+            (sym (ap (λ (x : Beginning K). x.hash) it) ∙ at.held.hashes_made i b here, subst (λ (x : ℕ). x < length e.maps.items) (ap (λ (x : Beginning K). x.map) it) (at.numbers i b here))
 
         by : (told2 : Progress Setting) → told ≡ told2 → e2.maps.items ≡ maps_on b.map told2 e.maps.items
             → MakingToldAmong V same same e.batch_size e.roots slot_of s.world s.maps s.calls s.makers s.enders i b did.step.w2 (opening, told2)
-            → MakingComesTo same hash s e e2 i b opening did.step.w2 told2
+            → MakingComesToThere same (IsThere same hash e2) s (held_by e) i b opening did.step.w2 told2
         by progress.Goes is set together =
-            is_made s.maps (λ m. at.maps m ∙ ap (λ xs. slice_index_or xs m None) (sym set)) at.hashes (Some (record b { machine = opening }))
+            is_made s.maps (λ m. at.maps m ∙ ap (λ xs. slice_index_or xs m None) (sym set)) at.held.hashes (Some (record b { machine = opening }))
             (sym (ap (λ x. making_in (making_on {K = K} {V = V} b.map opening x)) is)) as_it_is together
         by progress.Waits is set none = none
         by (progress.Done setting) is set (standing, made, together) = (
@@ -169,7 +171,7 @@ module _ {K V S : Type 0} (same : K → K → Bool) (hash : K → ℕ) (e : Exec
               (sym (ap (λ x. making_in (making_on {K = K} {V = V} b.map opening x)) is)) (λ c some. absurd (cc some)) together,
         )
         by (progress.Refused fault) is set together =
-            is_made s.maps (λ m. at.maps m ∙ ap (λ xs. slice_index_or xs m None) (sym set)) at.hashes None
+            is_made s.maps (λ m. at.maps m ∙ ap (λ xs. slice_index_or xs m None) (sym set)) at.held.hashes None
             (sym (ap (λ x. making_in (making_on {K = K} {V = V} b.map opening x)) is)) (λ c some. absurd (cc some)) together
 
   -- what was taken out of its place is that making
@@ -181,17 +183,17 @@ module _ {K V S : Type 0} (same : K → K → Bool) (hash : K → ℕ) (e : Exec
 
   -- and its step leads where one of the caller's does
   pub making_leads : (e2 : Executor K V S) (opening : NewMap) (told : Progress Setting) (slot map : ℕ) (before : NewMap) → (slot ≡ slot_of i) × (map ≡ b.map) × (before ≡ b.machine)
-      → place_of i < length e.workers.items → MakingStepsFrom before e e2 opening told
+      → place_of i < length e.workers.items → MakingStepsFrom before (held_by e) (held_by e2) opening told
       → e2.workers.items ≡ slice_set (slice_set e.workers.items (place_of i) None) (place_of i) (worker_of slot (making_on map opening told))
       → e2.hasher ≡ e.hasher → (batch_size : e2.batch_size ≡ e.batch_size) (roots : e2.roots ≡ e.roots) → e2.slots.items ≡ e.slots.items → e2.maps.items ≡ maps_on map told e.maps.items
-      → (opening : NewMap) × MakingStepsFrom b.machine e e2 opening told
+      → (opening : NewMap) × MakingStepsFrom b.machine (held_by e) (held_by e2) opening told
       × (did : MakingStepsAmong V same same e.batch_size e.roots slot_of s.world s.maps s.calls s.makers s.enders i b e2.memory.memory (opening, told))
-      × MakingComesTo same hash s e e2 i b opening did.step.w2 told
+      × MakingComesToThere same (IsThere same hash e2) s (held_by e) i b opening did.step.w2 told
   making_leads e2 opening told slot map before is within steps items hasher batch_size roots slots maps =
       (opening, steps2, did mid e2 opening told steps2 changes refl slots batch_size roots maps2, comes mid e2 opening told steps2 changes refl slots batch_size roots maps2)
     where
-      steps2 : MakingStepsFrom b.machine e e2 opening told
-      steps2 = subst (λ (x : NewMap). MakingStepsFrom x e e2 opening told) is.2 steps
+      steps2 : MakingStepsFrom b.machine (held_by e) (held_by e2) opening told
+      steps2 = subst (λ (x : NewMap). MakingStepsFrom x (held_by e) (held_by e2) opening told) is.2 steps
 
       maps2 : e2.maps.items ≡ maps_on b.map told e.maps.items
       maps2 = subst (λ (x : ℕ). e2.maps.items ≡ maps_on x told e.maps.items) is.1 maps
@@ -205,7 +207,7 @@ module _ {K V S : Type 0} (same : K → K → Bool) (hash : K → ℕ) (e : Exec
           (set_there e mid (place_of i) (worker_of slot (making_on map opening told)) within items hasher batch_size roots refl slots))
 
 -- who makes a map has that at its place
-module _ {K V S : Type 0} (same : K → K → Bool) (hash : K → ℕ) (e : Executor K V S) (s : Scene K V) (at : IsAt same hash e s) (i : ℕ) (making : IsMaking s i) where
+module _ {K V S : Type 0} (same : K → K → Bool) (hash : K → ℕ) (e : Executor K V S) (s : Scene K V) (at : IsThere same hash e s) (i : ℕ) (making : IsMaking s i) where
   pub has_making : (slot map : ℕ) × (opening : NewMap) × (slice_index_or e.workers.items (place_of i) None ≡ worker_of slot (Some (work.Making map opening)))
   has_making = (slot_of i, making.0.map, making.0.machine, making_is same hash e s at i making.0 making.1)
 

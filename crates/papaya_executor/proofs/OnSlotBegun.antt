@@ -1,31 +1,34 @@
 -- The beginning of a row on a slot: the executor is there again.
 use Rattle.std.specs.Prelude.{◌≡◌, ◌≢◌, ◌<◌, ℕ, Bool, [], ◌∷◌, ◌++◌, length, Option, Some, None, option_map, slice_index_or}
+use Rattle.std.specs.Option.{is_none}
 use Rattle.std.proofs.Common.{refl, sym, ap, subst, ◌∙◌, arith}
 use Rattle.std.proofs.lemmas.List.{length-set}
 use Rattle.seize.specs.World.{World, Row, Changing, Begin, Begins, Happens, with_at, one_more}
-use Rattle.papaya_finishes.proofs.Given.SeizeRule.Rows.Others.{with_here, with_other}
-use Rattle.papaya_finishes.specs.Given.Tables.Nodes.{deferred_word}
-use Rattle.papaya_finishes.specs.Given.Tables.declared.node.Node.{Node}
-use Rattle.papaya_finishes.specs.Given.Callers.Rows.{IsRowOn}
-use Rattle.papaya_finishes.specs.Given.Callers.Together.{UnderWay, IsOfSlots, Closes}
-use Rattle.papaya_finishes.proofs.Given.Callers.Together.Slots.{alike_more, alike_at}
-use Rattle.papaya_finishes.specs.Endings.{AllEndingsStand}
-use Rattle.papaya_finishes.specs.Machines.{machine_of}
-use Rattle.papaya_finishes.proofs.Among.Rows.{guards_stand_among}
+use Rattle.papaya_scenes.proofs.Given.SeizeRule.Rows.Others.{with_here, with_other}
+use Rattle.papaya_scenes.specs.Given.Tables.Nodes.{deferred_word}
+use Rattle.papaya_scenes.specs.Given.Tables.declared.node.Node.{Node}
+use Rattle.papaya_scenes.specs.Given.Callers.Rows.{IsRowOn}
+use Rattle.papaya_scenes.specs.Given.Callers.Together.{UnderWay, IsOfSlots, Closes}
+use Rattle.papaya_scenes.proofs.Given.Callers.Together.Slots.{alike_more, alike_at}
+use Rattle.papaya_scenes.specs.Given.Finishes.Endings.{AllEndingsStand}
+use Rattle.papaya_scenes.specs.Given.Finishes.Machines.{machine_of}
+use Rattle.papaya_scenes.proofs.Given.Finishes.Among.Rows.{guards_stand_among}
 use Rattle.papaya_executor.specs.declared.executor.Executor.{Executor}
-use Rattle.papaya_executor.specs.declared.row.SlotCall.{SlotCall}
-use Rattle.papaya_executor.specs.declared.row.SlotCall.TheVariants as call
-use Rattle.papaya_executor.specs.declared.row.SlotUse.TheVariants as used
-use Rattle.papaya_executor.specs.declared.worker.TheConstants.{SLOTS}
+use Rattle.papaya_scenes.specs.declared.row.SlotCall.{SlotCall}
+use Rattle.papaya_scenes.specs.declared.row.SlotCall.TheVariants as call
+use Rattle.papaya_scenes.specs.declared.row.SlotUse.TheVariants as used
+use Rattle.papaya_scenes.specs.declared.callers.TheConstants.{SLOTS}
 use Rattle.papaya_executor.specs.declared.worker.Work.{Work}
 use Rattle.papaya_executor.specs.declared.worker.Work.TheVariants as work
-use Rattle.papaya_executor.specs.IsAt.{Scene, IsAt, ChangesAt, IsUsedAs, place_of, slot_of, row_of, worker_of, work_of, use_at, call_in}
-use Rattle.papaya_executor.specs.OnSlots.{NobodyIn, MayBegin, HappensAt, RowBegins}
-use Rattle.papaya_executor.specs.Rows.{begun_row, request_of, uses_begun}
-use Rattle.papaya_executor.proofs.Again.{used_on, later, there_again}
-use Rattle.papaya_executor.proofs.Fresh.{caller_in, fresh_before, fresh_changes, slot_is, no_calls_yet, no_making_yet, no_ending_yet, resting}
-use Rattle.papaya_executor.proofs.Steps.{same_map_keeps}
-use Rattle.papaya_executor.proofs.Uses.{used_then, outside_now, inside_now, taken_now}
+use Rattle.papaya_executor.proofs.Again.{later, there_again, used_on}
+use Rattle.papaya_executor.proofs.Fresh.{caller_in, fresh_before, fresh_changes, no_calls_yet, no_ending_yet, no_making_yet, resting, slot_is}
+use Rattle.papaya_executor.proofs.Uses.{inside_now, outside_now, taken_now, used_then}
+use Rattle.papaya_executor.specs.IsThere.{ChangesAt, IsThere, IsUsedAs, call_in, place_of, use_at, work_of, worker_of, held_by}
+use Rattle.papaya_executor.specs.OnSlots.{MayBegin, NobodyIn, RowBeginsThere}
+use Rattle.papaya_scenes.proofs.Goes.{same_map_keeps}
+use Rattle.papaya_scenes.specs.OnSlots.{HappensTo}
+use Rattle.papaya_scenes.specs.Rows.{begun_row, request_of, uses_begun}
+use Rattle.papaya_scenes.specs.Scene.{Scene, row_of, slot_of}
 
 -- the row of each works on its slot, and neither retires nor defers a block
 its_row : (slot size : ℕ) (called : SlotCall) → IsRowOn slot (row_of (begun_row slot size called))
@@ -46,7 +49,7 @@ of_slots slot call.Refresh = tt
 of_slots slot call.Flush = tt
 of_slots slot call.Unregister = tt
 
-module _ {K V S : Type 0} (same : K → K → Bool) (hash : K → ℕ) (e : Executor K V S) (s : Scene K V) (at : IsAt same hash e s) (i : ℕ) where
+module _ {K V S : Type 0} (same : K → K → Bool) (hash : K → ℕ) (e : Executor K V S) (s : Scene K V) (at : IsThere same hash e s) (i : ℕ) where
   -- how the world is once this has begun
   abbrev row_begun : ℕ → SlotCall → World (Node K V)
   row_begun slot called = record s.world { row = with_at s.world.row i (row_of (begun_row slot e.batch_size called)) }
@@ -117,7 +120,7 @@ module _ {K V S : Type 0} (same : K → K → Bool) (hash : K → ℕ) (e : Exec
   closes_none slot call.Flush may m j u has closes = closes
   closes_none slot call.Unregister may m j u has closes = closes
 
-module _ {K V S : Type 0} (same : K → K → Bool) (hash : K → ℕ) (e : Executor K V S) (s : Scene K V) (at : IsAt same hash e s) (slot : ℕ) (fits : slot < SLOTS) (called : SlotCall)
+module _ {K V S : Type 0} (same : K → K → Bool) (hash : K → ℕ) (e : Executor K V S) (s : Scene K V) (at : IsThere same hash e s) (slot : ℕ) (fits : slot < SLOTS) (called : SlotCall)
     (e2 : Executor K V S) (memory : e2.memory ≡ e.memory)
     (items : e2.workers.items ≡ e.workers.items ++ Some (record { slot = slot; work = work.OnSlot (begun_row slot e.batch_size called) }) ∷ [])
     (hasher : e2.hasher ≡ e.hasher) (batch_size : e2.batch_size ≡ e.batch_size) (roots : e2.roots ≡ e.roots) (maps : e2.maps.items ≡ e.maps.items)
@@ -145,22 +148,22 @@ module _ {K V S : Type 0} (same : K → K → Bool) (hash : K → ℕ) (e : Exec
 
   begun_at : MayBegin e slot called → (e2.memory ≡ e.memory) × (work_of e2 i ≡ Some (its called)) × (e2.slots.items ≡ uses_begun slot called e.slots.items)
       × ((w3 : World (Node K V)) × Happens deferred_word e.batch_size (Begin i (request_of slot called)) s.world w3
-      × ((all : AllEndingsStand V same same e.batch_size e.roots slot_of w3 s.maps s.calls s.makers s.enders) × IsAt same hash e2 (record s { world = w3; maps = all.0 })))
+      × ((all : AllEndingsStand V same same e.batch_size e.roots slot_of w3 s.maps s.calls s.makers s.enders) × IsThere same hash e2 (record s { world = w3; maps = all.0 })))
   begun_at may = (memory, later same hash e s at i None (Some (its called)) (fresh_before e slot fits) mid e2 changes refl, slots, (w2, happens, (all, there)))
     where
       happens : Happens deferred_word e.batch_size (Begin i (request_of slot called)) s.world w2
       happens = (resting same hash e s at slot fits, begins same hash e s at i slot called may)
 
       all : AllEndingsStand V same same e.batch_size e.roots slot_of w2 s.maps s.calls s.makers s.enders
-      all = (guards_stand_among {Q = K} V same same e.batch_size e.roots slot_of s.world s.maps s.calls s.makers s.enders at.together i (no_calls_yet same hash e s at slot fits)).0
+      all = (guards_stand_among {Q = K} V same same e.batch_size e.roots slot_of s.world s.maps s.calls s.makers s.enders at.held.together i (no_calls_yet same hash e s at slot fits)).0
           (request_of slot called) (of_slots slot called) (closes_none same hash e s at i slot called may) w2 happens
 
-      there : IsAt same hash e2 (record s { world = w2; maps = all.0 })
+      there : IsThere same hash e2 (record s { world = w2; maps = all.0 })
       there = there_again same hash e s at i None (Some (its called)) (fresh_before e slot fits) mid e2 changes refl batch_size roots (omega (arith, ap length maps)) (record s { world = w2; maps = all.0 }) (record {
-        memory = world_memory same hash e s at i slot called ∙ at.memory ∙ ap (λ t. t.memory) (sym memory);
+        memory = world_memory same hash e s at i slot called ∙ at.held.memory ∙ ap (λ t. t.memory) (sym memory);
         together = all.2;
-        maps = λ n. (same_map_keeps hash (s.maps n) (all.0 n) (at.hashes n) (all.1 n)).setting ∙ at.maps n ∙ ap (λ xs. slice_index_or xs n None) (sym maps);
-        hashes = λ n. (same_map_keeps hash (s.maps n) (all.0 n) (at.hashes n) (all.1 n)).hashes;
+        maps = λ n. (same_map_keeps hash (s.maps n) (all.0 n) (at.held.hashes n) (all.1 n)).setting ∙ at.maps n ∙ ap (λ xs. slice_index_or xs n None) (sym maps);
+        hashes = λ n. (same_map_keeps hash (s.maps n) (all.0 n) (at.held.hashes n) (all.1 n)).hashes;
         calls = λ m. ap (option_map machine_of) (no_calls_yet same hash e s at slot fits m);
         calls_as = λ m j ne. refl;
         makers = ap (option_map (λ b. (b.map, b.machine))) (no_making_yet same hash e s at slot fits);
@@ -175,14 +178,15 @@ module _ {K V S : Type 0} (same : K → K → Bool) (hash : K → ℕ) (e : Exec
         uses = λ t. subst (λ xs. IsUsedAs (slice_index_or xs t used.Vacant) (w2.uses t)) (sym slots) (world_uses same hash e s at i slot fits called t);
       })
 
-  pub row_begins : RowBegins same hash called i s e e2
-  row_begins may = by (slot_of i) (slot_is e slot fits) may
+  pub row_begins : RowBeginsThere same hash called i s e e2
+  row_begins may =
+      let so = by (slot_of i) (slot_is e slot fits) may in (so.0, so.1, so.2, (ap (λ t. t.memory) so.0, (λ m. ap is_none (no_calls_yet same hash e s at slot fits m)), so.3))
     where
       by : (x : ℕ) → x ≡ slot → MayBegin e x called
           → (e2.memory ≡ e.memory) × (work_of e2 i ≡ Some (work.OnSlot (begun_row x e.batch_size called))) × (e2.slots.items ≡ uses_begun x called e.slots.items)
-          × HappensAt same hash (Begin i (request_of x called)) s e e2
+          × HappensTo (IsThere same hash e2) (Begin i (request_of x called)) s (held_by e)
       by x is may =
           let so = begun_at (subst (λ (y : ℕ). MayBegin e y called) is may) in
           subst (λ (y : ℕ). (e2.memory ≡ e.memory) × (work_of e2 i ≡ Some (work.OnSlot (begun_row y e.batch_size called))) × (e2.slots.items ≡ uses_begun y called e.slots.items)
-          × HappensAt same hash (Begin i (request_of y called)) s e e2) (sym is)
+          × HappensTo (IsThere same hash e2) (Begin i (request_of y called)) s (held_by e)) (sym is)
           (so.0, so.1, so.2, (so.3.0, so.3.1, so.3.2.0.0, so.3.2.0.1, so.3.2.1))

@@ -1,36 +1,39 @@
 -- A step of a row on a slot: it may be taken, and the executor is there again.
 use Rattle.std.specs.Prelude.{◌≡◌, ◌<◌, ℕ, Bool, List, length, Option, Some, None, option_map, slice_index_or, slice_set}
+use Rattle.std.specs.Option.{is_none}
 use Rattle.std.proofs.Common.{refl, sym, ap, subst, ◌∙◌, arith}
 use Rattle.std.proofs.lemmas.List.{length-set}
 use Rattle.seize_words.specs.Mem.{Mem}
 use Rattle.seize.specs.World.{World, Row, MayStep, Step, Happens, Steps'}
-use Rattle.papaya_finishes.proofs.Given.SeizeRule.Rows.Others.{steps_others}
-use Rattle.papaya_finishes.specs.Given.Tables.Nodes.{deferred_word}
-use Rattle.papaya_finishes.specs.Given.Tables.declared.node.Node.{Node}
-use Rattle.papaya_finishes.specs.Given.Callers.Rows.{IsRowOn}
-use Rattle.papaya_finishes.specs.Endings.{Finishing, AllEndingsStand}
-use Rattle.papaya_finishes.specs.Machines.{machine_of}
-use Rattle.papaya_finishes.specs.Makings.{Beginning}
-use Rattle.papaya_finishes.proofs.Among.Rows.{guards_stand_among}
+use Rattle.papaya_scenes.proofs.Given.SeizeRule.Rows.Others.{steps_others}
+use Rattle.papaya_scenes.specs.Given.Tables.Nodes.{deferred_word}
+use Rattle.papaya_scenes.specs.Given.Tables.declared.node.Node.{Node}
+use Rattle.papaya_scenes.specs.Given.Callers.Rows.{IsRowOn}
+use Rattle.papaya_scenes.specs.Given.Finishes.Endings.{Finishing, AllEndingsStand}
+use Rattle.papaya_scenes.specs.Given.Finishes.Machines.{machine_of}
+use Rattle.papaya_scenes.specs.Given.Finishes.Makings.{Beginning}
+use Rattle.papaya_scenes.proofs.Given.Finishes.Among.Rows.{guards_stand_among}
 use Rattle.papaya_executor.specs.declared.executor.Executor.{Executor}
-use Rattle.papaya_executor.specs.declared.row.RowTold.{RowTold}
-use Rattle.papaya_executor.specs.declared.row.RowTold.TheVariants as told
-use Rattle.papaya_executor.specs.declared.row.SlotChange.{SlotChange}
-use Rattle.papaya_executor.specs.declared.row.SlotChange.TheVariants as change
-use Rattle.papaya_executor.specs.declared.row.SlotRow.{SlotRow}
-use Rattle.papaya_executor.specs.declared.row.SlotUse.{SlotUse}
-use Rattle.papaya_executor.specs.declared.row.SlotUse.TheVariants as used
+use Rattle.papaya_scenes.specs.declared.row.RowTold.{RowTold}
+use Rattle.papaya_scenes.specs.declared.row.RowTold.TheVariants as told
+use Rattle.papaya_scenes.specs.declared.row.SlotChange.{SlotChange}
+use Rattle.papaya_scenes.specs.declared.row.SlotChange.TheVariants as change
+use Rattle.papaya_scenes.specs.declared.row.SlotRow.{SlotRow}
+use Rattle.papaya_scenes.specs.declared.row.SlotUse.{SlotUse}
+use Rattle.papaya_scenes.specs.declared.row.SlotUse.TheVariants as used
 use Rattle.papaya_executor.specs.declared.worker.Work.{Work}
 use Rattle.papaya_executor.specs.declared.worker.Work.TheVariants as work
 use Rattle.papaya_executor.specs.declared.worker.Worker.{Worker}
-use Rattle.papaya_executor.specs.IsAt.{Scene, IsAt, ChangesAt, HasRow, IsUsedAs, place_of, slot_of, row_of, call_in, making_in, ending_in, worker_of, worker_at, work_of}
-use Rattle.papaya_executor.specs.OnSlots.{row_on, RowSteps, HappensAt}
-use Rattle.papaya_executor.specs.Rows.{change_of, uses_after}
 use Rattle.papaya_executor.proofs.Again.{later, there_again}
 use Rattle.papaya_executor.proofs.Makings.{set_there}
-use Rattle.papaya_executor.proofs.Places.{none_of, found_in}
+use Rattle.papaya_executor.proofs.Places.{found_in, none_of}
 use Rattle.papaya_executor.proofs.RowsGo.{Goes, goes}
-use Rattle.papaya_executor.proofs.Steps.{same_map_keeps}
+use Rattle.papaya_executor.specs.IsThere.{ChangesAt, HasRow, IsThere, IsUsedAs, call_in, ending_in, making_in, place_of, work_of, worker_at, worker_of, held_by}
+use Rattle.papaya_executor.specs.OnSlots.{row_on}
+use Rattle.papaya_scenes.proofs.Goes.{same_map_keeps}
+use Rattle.papaya_scenes.specs.OnSlots.{HappensTo, RowSteps}
+use Rattle.papaya_scenes.specs.Rows.{change_of, uses_after}
+use Rattle.papaya_scenes.specs.Scene.{Scene, row_of, slot_of, IsOnSlot}
 
 module _ (K V : Type 0) where
   no_call : (m : ℕ) (row : SlotRow) (it : RowTold (Node K V)) → call_in (row_on row it) m ≡ None
@@ -71,7 +74,7 @@ same_length (change.Takes v) (told.Refused fault) slots = refl
 same_length (change.Becomes slot v) told slots = length-set slots slot v
 same_length change.Stays told slots = refl
 
-module _ {K V S : Type 0} (same : K → K → Bool) (hash : K → ℕ) (e : Executor K V S) (s : Scene K V) (at : IsAt same hash e s) (i : ℕ) (row : SlotRow) (here : work_of e i ≡ Some (work.OnSlot row)) where
+module _ {K V S : Type 0} (same : K → K → Bool) (hash : K → ℕ) (e : Executor K V S) (s : Scene K V) (at : IsThere same hash e s) (i : ℕ) (row : SlotRow) (here : work_of e i ≡ Some (work.OnSlot row)) where
   -- the caller's row is at its place
   pub row_at : worker_at e (place_of i) ≡ worker_of (slot_of i) (Some (work.OnSlot row))
   row_at = found_in (slot_of i) (worker_at e (place_of i)) (work.OnSlot row) here
@@ -95,11 +98,11 @@ module _ {K V S : Type 0} (same : K → K → Bool) (hash : K → ℕ) (e : Exec
 
   guards : Guards
   guards =
-      let all = guards_stand_among {Q = K} V same same e.batch_size e.roots slot_of s.world s.maps s.calls s.makers s.enders at.together i no_calls in (all.1, all.2)
+      let all = guards_stand_among {Q = K} V same same e.batch_size e.roots slot_of s.world s.maps s.calls s.makers s.enders at.held.together i no_calls in (all.1, all.2)
 
   -- it may take its next step
   may_row : MayStep deferred_word (row_of row) e.memory.memory
-  may_row = subst (λ (r : Row). MayStep deferred_word r e.memory.memory) row_is (subst (λ (m : Mem (Node K V)). MayStep deferred_word (s.world.row i) m) at.memory guards.0)
+  may_row = subst (λ (r : Row). MayStep deferred_word r e.memory.memory) row_is (subst (λ (m : Mem (Node K V)). MayStep deferred_word (s.world.row i) m) at.held.memory guards.0)
 
   -- what was taken out of its place is that row
   pub taken_row : (slot : ℕ) (row2 : SlotRow) → worker_at e (place_of i) ≡ worker_of slot (Some (work.OnSlot row2)) → (slot ≡ slot_of i) × (row2 ≡ row)
@@ -115,10 +118,10 @@ module _ {K V S : Type 0} (same : K → K → Bool) (hash : K → ℕ) (e : Exec
       → place_of i < length e.workers.items → RowSteps K V before e.memory.memory e2.memory.memory e2.memory.changed (after, told)
       → e2.workers.items ≡ slice_set (slice_set e.workers.items (place_of i) None) (place_of i) (worker_of slot (row_on after told))
       → e2.hasher ≡ e.hasher → e2.batch_size ≡ e.batch_size → e2.roots ≡ e.roots → e2.maps.items ≡ e.maps.items → e2.slots.items ≡ uses_after (change_of before) told e.slots.items
-      → (after : SlotRow) × RowSteps K V row e.memory.memory e2.memory.memory e2.memory.changed (after, told) × (work_of e2 i ≡ row_on after told)
-      × (e2.slots.items ≡ uses_after (change_of row) told e.slots.items) × HappensAt same hash (Step i) s e e2
+      → IsOnSlot s i row × (after : SlotRow) × RowSteps K V row e.memory.memory e2.memory.memory e2.memory.changed (after, told) × (work_of e2 i ≡ row_on after told)
+      × (e2.slots.items ≡ uses_after (change_of row) told e.slots.items) × HappensTo (IsThere same hash e2) (Step i) s (held_by e)
   row_leads e2 after told slot before is within steps items hasher batch_size roots maps slots =
-      (after, steps2, later same hash e s at i (Some (work.OnSlot row)) (row_on after told) row_at mid e2 changes refl, slots2, (goes2.w2, happens, all.0, all.1, there))
+      (((λ m. ap is_none (no_calls m)), row_is), after, steps2, later same hash e s at i (Some (work.OnSlot row)) (row_on after told) row_at mid e2 changes refl, slots2, (goes2.w2, happens, all.0, all.1, there))
     where
       steps2 : RowSteps K V row e.memory.memory e2.memory.memory e2.memory.changed (after, told)
       steps2 = subst (λ (x : SlotRow). RowSteps K V x e.memory.memory e2.memory.memory e2.memory.changed (after, told)) is.1 steps
@@ -128,7 +131,7 @@ module _ {K V S : Type 0} (same : K → K → Bool) (hash : K → ℕ) (e : Exec
 
       goes2 : Goes same hash e s at i row e2.memory.memory (after, told)
       goes2 = goes same hash e s at i e2.memory.memory row e2.memory.changed (after, told) row_is
-          (subst (λ (m : Mem (Node K V)). RowSteps K V row m e2.memory.memory e2.memory.changed (after, told)) (sym at.memory) steps2)
+          (subst (λ (m : Mem (Node K V)). RowSteps K V row m e2.memory.memory e2.memory.changed (after, told)) (sym at.held.memory) steps2)
 
       happens : Happens deferred_word e.batch_size (Step i) s.world goes2.w2
       happens = subst (λ (r : Row). Steps' deferred_word i r s.world goes2.w2) (sym row_is) goes2.step
@@ -143,12 +146,12 @@ module _ {K V S : Type 0} (same : K → K → Bool) (hash : K → ℕ) (e : Exec
       changes = subst (λ (x : ℕ). ChangesAt (place_of i) (worker_of x (row_on after told)) e mid) is.0
           (set_there e mid (place_of i) (worker_of slot (row_on after told)) within items hasher batch_size roots maps refl)
 
-      there : IsAt same hash e2 (record s { world = goes2.w2; maps = all.0 })
+      there : IsThere same hash e2 (record s { world = goes2.w2; maps = all.0 })
       there = there_again same hash e s at i (Some (work.OnSlot row)) (row_on after told) row_at mid e2 changes refl batch_size roots (omega (arith, ap length maps)) (record s { world = goes2.w2; maps = all.0 }) (record {
         memory = goes2.memory;
         together = all.2;
-        maps = λ n. (same_map_keeps hash (s.maps n) (all.0 n) (at.hashes n) (all.1 n)).setting ∙ at.maps n ∙ ap (λ xs. slice_index_or xs n None) (sym maps);
-        hashes = λ n. (same_map_keeps hash (s.maps n) (all.0 n) (at.hashes n) (all.1 n)).hashes;
+        maps = λ n. (same_map_keeps hash (s.maps n) (all.0 n) (at.held.hashes n) (all.1 n)).setting ∙ at.maps n ∙ ap (λ xs. slice_index_or xs n None) (sym maps);
+        hashes = λ n. (same_map_keeps hash (s.maps n) (all.0 n) (at.held.hashes n) (all.1 n)).hashes;
         calls = λ m. ap (option_map machine_of) (no_calls m) ∙ sym (no_call K V m after told);
         calls_as = λ m j ne. refl;
         makers = ap (option_map (λ (b : Beginning K). (b.map, b.machine))) no_maker ∙ sym (no_making K V after told);
@@ -157,7 +160,7 @@ module _ {K V S : Type 0} (same : K → K → Bool) (hash : K → ℕ) (e : Exec
         enders = ap (option_map (λ (f : Finishing K V). f.machine)) no_ender ∙ sym (no_ending K V after told);
         enders_as = λ j ne. refl;
         row = goes2.row_is;
-        on_slot = goes2.on_slot (slot_of i) (subst (IsRowOn (slot_of i)) row_is (at.on_slots i));
+        on_slot = goes2.on_slot (slot_of i) (subst (IsRowOn (slot_of i)) row_is (at.held.on_slots i));
         rows_as = λ j ne. steps_others deferred_word e.batch_size s.world goes2.w2 i j ne (s.world.row i) happens;
         slots = ap length slots2 ∙ same_length (change_of row) told e.slots.items ∙ at.slots;
         uses = λ t. subst (λ xs. IsUsedAs (slice_index_or xs t used.Vacant) (goes2.w2.uses t)) (sym slots2) (goes2.uses t);

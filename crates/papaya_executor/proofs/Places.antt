@@ -4,13 +4,14 @@ use Rattle.std.proofs.Common.{refl, sym, ap, ◌∙◌, inl, inr, arith}
 use Rattle.std.proofs.lemmas.Bool.{cases_lt, eq-eqb, ne_eqb}
 use Rattle.std.proofs.lemmas.List.{get_or_past, get_or_append_left}
 use Rattle.std.proofs.Math.Seq.{get_or-append_right}
-use Rattle.papaya_finishes.specs.Given.Resize.declared.new_map.NewMap.{NewMap}
+use Rattle.papaya_scenes.specs.Given.Resize.declared.new_map.NewMap.{NewMap}
 use Rattle.papaya_raw.specs.declared.machines.end_map.EndMap.{EndMap}
 use Rattle.papaya_raw.specs.declared.machines.machine.Machine.{Machine}
 use Rattle.papaya_executor.specs.declared.worker.Work.{Work}
 use Rattle.papaya_executor.specs.declared.worker.Work.TheVariants as work
 use Rattle.papaya_executor.specs.declared.worker.Worker.{Worker}
-use Rattle.papaya_executor.specs.IsAt.{place_of, slot_of, in_slot, call_in, making_in, ending_in, worker_of, worker_with}
+use Rattle.papaya_executor.specs.IsThere.{call_in, ending_in, in_slot, making_in, place_of, worker_of, worker_with}
+use Rattle.papaya_scenes.specs.Scene.{slot_of}
 
 -- what maps to nothing is nothing
 pub none_of : {X Y : Type 0} (f : X → Y) (it : Option X) → option_map f it ≡ None → it ≡ None

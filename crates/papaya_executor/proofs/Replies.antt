@@ -4,19 +4,22 @@ use Rattle.std.proofs.Common.{refl, sym, ap, subst, ◌∙◌}
 use Rattle.papaya_raw.specs.Machine.{machine_replied, machine_asked}
 use Rattle.papaya_raw.specs.declared.machines.asking.Reply.{Reply}
 use Rattle.papaya_raw.specs.declared.machines.machine.Machine.{Machine}
-use Rattle.papaya_finishes.proofs.Given.Callers.Together.Slots.{alike_same}
-use Rattle.papaya_finishes.specs.Given.Callers.Together.{UnderWay}
-use Rattle.papaya_finishes.specs.Endings.{EndingsTogether}
-use Rattle.papaya_finishes.specs.Machines.{machine_of}
-use Rattle.papaya_finishes.specs.Maps.{with_call}
-use Rattle.papaya_finishes.proofs.Among.MachinesTold.{machines_told_among}
+use Rattle.papaya_scenes.proofs.Given.Callers.Together.Slots.{alike_same}
+use Rattle.papaya_scenes.specs.Given.Callers.Together.{UnderWay}
+use Rattle.papaya_scenes.specs.Given.Finishes.Endings.{EndingsTogether}
+use Rattle.papaya_scenes.specs.Given.Finishes.Machines.{machine_of}
+use Rattle.papaya_scenes.specs.Given.Finishes.Maps.{with_call}
+use Rattle.papaya_scenes.proofs.Given.Finishes.Among.MachinesTold.{machines_told_among}
 use Rattle.papaya_executor.specs.declared.executor.Executor.{Executor}
-use Rattle.papaya_executor.specs.IsAt.{Scene, IsAt, ChangesAt, place_of, slot_of, worker_with, worker_at}
-use Rattle.papaya_executor.specs.Replying.{PutBack, scene_with, ReplyLeads, AskLeads}
-use Rattle.papaya_executor.proofs.Changed.{worker_is, standing_is, is_at_on}
+use Rattle.papaya_executor.proofs.Changed.{is_at_on, worker_is}
 use Rattle.papaya_executor.proofs.Taken.{taken_call, through}
+use Rattle.papaya_executor.specs.IsThere.{ChangesAt, IsThere, place_of, worker_at, worker_with, held_by}
+use Rattle.papaya_executor.specs.Replying.{AsksThere, PutBack, RepliesThere}
+use Rattle.papaya_scenes.specs.Replying.{scene_with}
+use Rattle.papaya_scenes.specs.Scene.{Scene, slot_of}
+use Rattle.papaya_scenes.proofs.May.{standing_is}
 
-module _ {K V S : Type 0} (same : K → K → Bool) (hash : K → ℕ) (e : Executor K V S) (s : Scene K V) (at : IsAt same hash e s) (i : ℕ)
+module _ {K V S : Type 0} (same : K → K → Bool) (hash : K → ℕ) (e : Executor K V S) (s : Scene K V) (at : IsThere same hash e s) (i : ℕ)
     (e1 e2 : Executor K V S) (memory1 : e1.memory ≡ e.memory) (items : e1.workers.items ≡ slice_set e.workers.items (place_of i) None) (hasher : e1.hasher ≡ e.hasher)
     (batch_size : e1.batch_size ≡ e.batch_size) (roots : e1.roots ≡ e.roots) (maps : e1.maps.items ≡ e.maps.items) (slots : e1.slots.items ≡ e.slots.items)
     (slot map : ℕ) (before : Machine K V K) (there : worker_at e (place_of i) ≡ worker_with slot map (Some before)) (after : Machine K V K)
@@ -35,22 +38,28 @@ module _ {K V S : Type 0} (same : K → K → Bool) (hash : K → ℕ) (e : Exec
 
     -- the call goes on as another machine, and nothing else has changed
     goes_on : (next : UnderWay K V K) → machine_of next ≡ after
-        → EndingsTogether V same same e.batch_size e.roots slot_of s.world s.maps (with_call s.calls m i (Some next)) s.makers s.enders → IsAt same hash e2 (scene_with m i next s)
+        → EndingsTogether V same same e.batch_size e.roots slot_of s.world s.maps (with_call s.calls m i (Some next)) s.makers s.enders → IsThere same hash e2 (scene_with m i next s)
     goes_on next as_after together =
         is_at_on same hash e s at m i (Some (machine_of u)) (worker_is same hash e s at m i u here) e2 (Some next)
         (subst (λ (x : Machine K V K). ChangesAt (place_of i) (worker_with (slot_of i) m (Some x)) e e2) (sym as_after) changes)
-        s.world s.maps (at.memory ∙ ap (λ t. t.memory) (sym memory)) (λ j ne. refl) (record { uses = λ t. alike_same (s.world.uses t); on_slot = λ on. on }) (λ none. absurd (cc none)) (λ n. refl) at.hashes together
+        s.world s.maps (at.held.memory ∙ ap (λ t. t.memory) (sym memory)) (λ j ne. refl) (record { uses = λ t. alike_same (s.world.uses t); on_slot = λ on. on }) (λ none. absurd (cc none)) (λ n. refl) at.held.hashes together
 
-  pub reply_leads : (told : Reply V) (result : Result Unit (Reply V)) → (after, result) ≡ machine_replied before told → ReplyLeads same hash i told result s e e2
-  reply_leads told result replied m u here =
-      let standing = standing_is same hash e s at m i u here in
-      let leads = (machines_told_among V same same e.batch_size e.roots slot_of s.world s.maps s.calls s.makers s.enders at.together m standing.0 standing.1 i u here).0 told in
-      let by_it : (after, result) ≡ machine_replied (machine_of u) told = replied ∙ ap (λ (x : Machine K V K). machine_replied x told) (is m u here).2 in
-      (standing.0, leads.0, standing.1, leads.1, ap (λ x. x.1) by_it, leads.2, memory, goes_on m u here leads.0 (leads.1 ∙ sym (ap (λ x. x.0) by_it)) leads.3)
+  pub reply_leads : (told : Reply V) (result : Result Unit (Reply V)) → (after, result) ≡ machine_replied before told → RepliesThere same hash i told result s e e2
+  reply_leads told result replied = (
+    λ has. memory,
+    λ m u here. (
+        let standing = standing_is same (λ m. hash) (held_by e) s at.held m i u here in
+        let leads = (machines_told_among V same same e.batch_size e.roots slot_of s.world s.maps s.calls s.makers s.enders at.held.together m standing.0 standing.1 i u here).0 told in
+        let by_it : (after, result) ≡ machine_replied (machine_of u) told = replied ∙ ap (λ (x : Machine K V K). machine_replied x told) (is m u here).2 in
+        (standing.0, leads.0, standing.1, leads.1, ap (λ x. x.1) by_it, leads.2, ap (λ t. t.memory) memory, goes_on m u here leads.0 (leads.1 ∙ sym (ap (λ x. x.0) by_it)) leads.3)),
+  )
 
-  pub ask_leads : (ready : Bool) → (after, ready) ≡ machine_asked before → AskLeads same hash i ready s e e2
-  ask_leads ready asked m u here =
-      let standing = standing_is same hash e s at m i u here in
-      let leads = (machines_told_among V same same e.batch_size e.roots slot_of s.world s.maps s.calls s.makers s.enders at.together m standing.0 standing.1 i u here).1 in
-      let by_it : (after, ready) ≡ machine_asked (machine_of u) = asked ∙ ap machine_asked (is m u here).2 in
-      (leads.0, leads.1, ap (λ x. x.1) by_it, memory, goes_on m u here leads.0 (leads.1 ∙ sym (ap (λ x. x.0) by_it)) leads.2)
+  pub ask_leads : (ready : Bool) → (after, ready) ≡ machine_asked before → AsksThere same hash i ready s e e2
+  ask_leads ready asked = (
+    λ has. memory,
+    λ m u here. (
+        let standing = standing_is same (λ m. hash) (held_by e) s at.held m i u here in
+        let leads = (machines_told_among V same same e.batch_size e.roots slot_of s.world s.maps s.calls s.makers s.enders at.held.together m standing.0 standing.1 i u here).1 in
+        let by_it : (after, ready) ≡ machine_asked (machine_of u) = asked ∙ ap machine_asked (is m u here).2 in
+        (leads.0, leads.1, ap (λ x. x.1) by_it, ap (λ t. t.memory) memory, goes_on m u here leads.0 (leads.1 ∙ sym (ap (λ x. x.0) by_it)) leads.2)),
+  )

@@ -26,34 +26,36 @@ use Rattle.seize.specs.Leave as leave
 use Rattle.seize.specs.Register as register
 use Rattle.seize.specs.Settle.{counting_down, settle_plan}
 use Rattle.seize.specs.World.{World, Row, Rests, Registers, Enters, Settles, Leaves, Frees, Use, Vacant, Outside, Inside, left_as, left_row, with_at, with_use, after_step, settles_on, leaves_on, registers_on, registered_use, Steps'}
-use Rattle.papaya_finishes.proofs.Given.SeizeMoves.State.Ghost.{State}
-use Rattle.papaya_finishes.proofs.Given.SeizeRule.Rows.Known.{FitsRow, FitsRegister, FitsLeave}
-use Rattle.papaya_finishes.proofs.Given.SeizeRule.Rows.Leaving.{steps_back}
-use Rattle.papaya_finishes.proofs.Given.SeizeRule.Rows.Others.{with_here}
-use Rattle.papaya_finishes.proofs.Given.SeizeRule.Rows.Teams.{shares}
-use Rattle.papaya_finishes.proofs.Given.SeizeRule.Words.Shows.{Extra}
-use Rattle.papaya_finishes.proofs.Given.SeizeRule.Words.View.{view}
-use Rattle.papaya_finishes.specs.Given.Tables.Nodes.{deferred_word}
-use Rattle.papaya_finishes.specs.Given.Tables.declared.node.Node.{Node}
+use Rattle.papaya_scenes.proofs.Given.SeizeMoves.State.Ghost.{State}
+use Rattle.papaya_scenes.proofs.Given.SeizeRule.Rows.Known.{FitsRow, FitsRegister, FitsLeave}
+use Rattle.papaya_scenes.proofs.Given.SeizeRule.Rows.Leaving.{steps_back}
+use Rattle.papaya_scenes.proofs.Given.SeizeRule.Rows.Others.{with_here}
+use Rattle.papaya_scenes.proofs.Given.SeizeRule.Rows.Teams.{shares}
+use Rattle.papaya_scenes.proofs.Given.SeizeRule.Words.Shows.{Extra}
+use Rattle.papaya_scenes.proofs.Given.SeizeRule.Words.View.{view}
+use Rattle.papaya_scenes.specs.Given.Tables.Nodes.{deferred_word}
+use Rattle.papaya_scenes.specs.Given.Tables.declared.node.Node.{Node}
 use Rattle.papaya_teller.specs.declared.changed.Changed.{Changed}
 use Rattle.papaya_teller.specs.declared.changed.Changed.TheVariants.{Nothing}
-use Rattle.papaya_finishes.specs.Given.Callers.Rows.{IsRowOn, LeavesSlots}
-use Rattle.papaya_finishes.proofs.Given.Callers.Together.Slots.{alike_same, alike_at, step_leaves}
+use Rattle.papaya_scenes.specs.Given.Callers.Rows.{IsRowOn, LeavesSlots}
+use Rattle.papaya_scenes.proofs.Given.Callers.Together.Slots.{alike_same, alike_at, step_leaves}
 use Rattle.papaya_executor.specs.declared.executor.Executor.{Executor}
-use Rattle.papaya_executor.specs.declared.row.RowTold.{RowTold}
-use Rattle.papaya_executor.specs.declared.row.SlotChange.{SlotChange}
-use Rattle.papaya_executor.specs.declared.row.SlotChange.TheVariants as change
-use Rattle.papaya_executor.specs.declared.row.SlotRow.{SlotRow}
-use Rattle.papaya_executor.specs.declared.row.SlotRow.TheVariants as rows
-use Rattle.papaya_executor.specs.declared.row.SlotUse.{SlotUse}
-use Rattle.papaya_executor.specs.declared.row.SlotUse.TheVariants as used
-use Rattle.papaya_executor.specs.declared.worker.TheConstants.{SLOTS}
-use Rattle.papaya_executor.specs.IsAt.{Scene, IsAt, HasRow, IsUsedAs, row_of, use_at}
-use Rattle.papaya_executor.specs.OnSlots.{row_on, RowSteps}
-use Rattle.papaya_executor.specs.Rows.{taken_as, left_by, change_of, uses_after, of_registering, of_storing, of_settling}
+use Rattle.papaya_scenes.specs.declared.row.RowTold.{RowTold}
+use Rattle.papaya_scenes.specs.declared.row.SlotChange.{SlotChange}
+use Rattle.papaya_scenes.specs.declared.row.SlotChange.TheVariants as change
+use Rattle.papaya_scenes.specs.declared.row.SlotRow.{SlotRow}
+use Rattle.papaya_scenes.specs.declared.row.SlotRow.TheVariants as rows
+use Rattle.papaya_scenes.specs.declared.row.SlotUse.{SlotUse}
+use Rattle.papaya_scenes.specs.declared.row.SlotUse.TheVariants as used
+use Rattle.papaya_scenes.specs.declared.callers.TheConstants.{SLOTS}
 use Rattle.papaya_executor.proofs.Again.{used_on}
-use Rattle.papaya_executor.proofs.Forgotten.{as_step}
 use Rattle.papaya_executor.proofs.Uses.{reached, used_then}
+use Rattle.papaya_executor.specs.IsThere.{HasRow, IsThere, IsUsedAs, use_at}
+use Rattle.papaya_executor.specs.OnSlots.{row_on}
+use Rattle.papaya_scenes.proofs.Told.{as_step}
+use Rattle.papaya_scenes.specs.OnSlots.{RowSteps}
+use Rattle.papaya_scenes.specs.Rows.{change_of, left_by, of_registering, of_settling, of_storing, taken_as, uses_after}
+use Rattle.papaya_scenes.specs.Scene.{Scene, row_of}
 
 -- a registering answers the slot that it stands at
 module _ {T : Type 0} (shown : ℕ → Option T) (c c2 : Register) (slot : ℕ) where
@@ -166,7 +168,7 @@ taken_so : (p : Registering) → IsUsedAs (taken_as p) (registered_use p)
 taken_so registers.Enter = (0, refl)
 taken_so _ = (0, refl)
 
-module _ {K V S : Type 0} (same : K → K → Bool) (hash : K → ℕ) (e : Executor K V S) (s : Scene K V) (at : IsAt same hash e s) (i : ℕ) where
+module _ {K V S : Type 0} (same : K → K → Bool) (hash : K → ℕ) (e : Executor K V S) (s : Scene K V) (at : IsThere same hash e s) (i : ℕ) where
   abbrev uses_then : SlotChange → RowTold (Node K V) → World (Node K V) → Type 0
   uses_then change told w2 = (t : ℕ) → IsUsedAs (slice_index_or (uses_after change told e.slots.items) t used.Vacant) (w2.uses t)
 

@@ -1,96 +1,57 @@
 -- A step of a call that a caller has under way: it may be taken, and the executor is there again.
-use Rattle.std.specs.Prelude.{◌≡◌, ◌≢◌, ◌⊎◌, ℕ, Bool, Option, Some, None, option_map, slice_set}
-use Rattle.std.proofs.Common.{refl, sym, ap, subst, ◌∙◌, inl, inr}
+use Rattle.std.specs.Prelude.{◌≡◌, ◌≢◌, ◌⊎◌, ℕ, Bool, Option, Some, None, slice_set}
+use Rattle.std.proofs.Common.{sym, subst, inl, inr}
 use Rattle.std.proofs.lemmas.Bool.{cases_eq}
 use Rattle.seize_words.specs.Mem.{Mem, Can, Took, value_at}
 use Rattle.seize_words.specs.Plan.{May, Steps}
-use Rattle.papaya_finishes.specs.Given.Tables.declared.node.Node.{Node}
+use Rattle.papaya_scenes.specs.Given.Tables.declared.node.Node.{Node}
 use Rattle.papaya_raw.specs.Machine.{machine_plan}
 use Rattle.papaya_raw.specs.declared.machines.machine.Machine.{Machine}
 use Rattle.papaya_raw.specs.declared.machines.progress.Progress.{Progress}
-use Rattle.papaya_raw.specs.declared.machines.progress.Progress.TheVariants as progress
 use Rattle.papaya_teller.specs.Tells.{StepsTold}
 use Rattle.papaya_teller.specs.declared.changed.Changed.TheVariants.{Nothing}
-use Rattle.papaya_finishes.specs.Given.Callers.Together.{UnderWay}
-use Rattle.papaya_finishes.specs.Machines.{machine_of, GoesOnAs, StandsOn, MachineStepsAmong}
-use Rattle.papaya_finishes.specs.Maps.{Standing, IsSameMap}
-use Rattle.papaya_finishes.proofs.Among.Machines.{machines_stand_among}
+use Rattle.papaya_scenes.specs.Given.Callers.Together.{UnderWay}
+use Rattle.papaya_scenes.specs.Given.Finishes.Machines.{machine_of, MachineStepsAmong}
+use Rattle.papaya_scenes.specs.Given.Finishes.Maps.{Standing}
+use Rattle.papaya_scenes.proofs.Given.Finishes.Among.Machines.{machines_stand_among}
 use Rattle.papaya_executor.specs.declared.executor.Executor.{Executor}
-use Rattle.papaya_executor.specs.IsAt.{Scene, IsAt, ChangesAt, place_of, slot_of, worker_with}
-use Rattle.papaya_executor.specs.Stepping.{going_on, StepsFrom, SteppedAs, scene_after}
-use Rattle.papaya_executor.proofs.Changed.{worker_is, standing_is, is_at_on}
-use Rattle.papaya_executor.proofs.Forgotten.{as_step}
+use Rattle.papaya_executor.proofs.Changed.{is_at_on, worker_is}
 use Rattle.papaya_executor.proofs.Taken.{through}
+use Rattle.papaya_executor.specs.IsThere.{ChangesAt, IsThere, place_of, worker_with, held_by}
+use Rattle.papaya_executor.specs.Stepping.{SteppedAs}
+use Rattle.papaya_scenes.proofs.Told.{as_step}
+use Rattle.papaya_scenes.specs.Scene.{Scene, slot_of}
+use Rattle.papaya_scenes.specs.Stepping.{StepsFrom, going_on, scene_after}
+use Rattle.papaya_scenes.proofs.May.{standing_is}
+use Rattle.papaya_scenes.proofs.Goes.{Keeps, goes_as, moved_map_keeps, same_map_keeps}
 
--- what goes on is the machine after the step
-pub goes_as : {K V : Type 0} (machine : Machine K V K) (told : Progress (Node K V)) (next : Option (UnderWay K V K)) → GoesOnAs machine told next → option_map machine_of next ≡ going_on machine told
-goes_as {K} {V} machine told next goes = of told goes
-  where
-    under : (x : UnderWay K V K) → next ≡ Some x → machine_of x ≡ machine → option_map machine_of next ≡ Some machine
-    under x is same = ap (option_map machine_of) is ∙ ap Some same
-
-    of : (told : Progress (Node K V)) → GoesOnAs machine told next → option_map machine_of next ≡ going_on machine told
-    of progress.Goes g = under g.0 g.1 g.2
-    of (progress.Asks about) g = under g.0 g.1 g.2
-    of progress.Waits g = under g.0 g.1 g.2
-    of progress.Ready g = under g.0 g.1 g.2
-    of (progress.Pair word) g = under g.0 g.1 g.2
-    of (progress.Gave value) g = under g.0 g.1 g.2
-    of (progress.Unstored value) g = under g.0 g.1 g.2
-    of (progress.Done answer) g = ap (option_map machine_of) g
-    of (progress.Refused fault) g = ap (option_map machine_of) g
-
--- its hash, if there is one
-abbrev hash_or : {K : Type 0} → (K → ℕ) → Option (Standing K) → K → ℕ
-hash_or none None = none
-hash_or none (Some standing) = standing.hash
-
-module _ {K : Type 0} (hash : K → ℕ) where
-  -- a map goes on with its setting, and with this hash, which it had
-  pub record Keeps (before after : Option (Standing K)) : Type 0 where
-    pub setting : option_map (λ standing. standing.setting) after ≡ option_map (λ standing. standing.setting) before
-    pub hashes : (standing : Standing K) → after ≡ Some standing → standing.hash ≡ hash
-
-  pub same_map_keeps : (before after : Option (Standing K)) → ((standing : Standing K) → before ≡ Some standing → standing.hash ≡ hash) → IsSameMap before after → Keeps before after
-  same_map_keeps None after had is = record { setting = ap (option_map (λ standing. standing.setting)) is; hashes = λ standing some. absurd (cc (is, some)) }
-  same_map_keeps (Some old) after had (blocks, sights, is, part) = record {
-    setting = ap (option_map (λ standing. standing.setting)) is;
-    hashes = λ standing some. ap (hash_or hash) (sym some ∙ is) ∙ had old refl;
-  }
-
-  moved_map_keeps : (old : Standing K) (before after : Option (Standing K)) → before ≡ Some old → old.hash ≡ hash → StandsOn old after → Keeps before after
-  moved_map_keeps old before after was had (chart, blocks, sights, remembers, is) = record {
-    setting = ap (option_map (λ standing. standing.setting)) is ∙ sym (ap (option_map (λ standing. standing.setting)) was);
-    hashes = λ standing some. ap (hash_or hash) (sym some ∙ is) ∙ had;
-  }
-
-module _ {K V S : Type 0} (same : K → K → Bool) (hash : K → ℕ) (e : Executor K V S) (s : Scene K V) (at : IsAt same hash e s) (m i : ℕ) (u : UnderWay K V K) (here : s.calls m i ≡ Some u) where
+module _ {K V S : Type 0} (same : K → K → Bool) (hash : K → ℕ) (e : Executor K V S) (s : Scene K V) (at : IsThere same hash e s) (m i : ℕ) (u : UnderWay K V K) (here : s.calls m i ≡ Some u) where
   abbrev standing : Standing K
-  standing = (standing_is same hash e s at m i u here).0
+  standing = (standing_is same (λ m. hash) (held_by e) s at.held m i u here).0
 
   stands : s.maps m ≡ Some standing
-  stands = (standing_is same hash e s at m i u here).1
+  stands = (standing_is same (λ m. hash) (held_by e) s at.held m i u here).1
 
   hashed : standing.hash ≡ hash
-  hashed = at.hashes m standing stands
+  hashed = at.held.hashes m standing stands
 
   -- the step may be taken
   pub may_step : May Can Took value_at e.memory.memory (machine_plan same same hash (machine_of u))
   may_step =
-      subst (λ (x : Mem (Node K V)). May Can Took value_at x (machine_plan same same hash (machine_of u))) at.memory
+      subst (λ (x : Mem (Node K V)). May Can Took value_at x (machine_plan same same hash (machine_of u))) at.held.memory
       (subst (λ (x : K → ℕ). May Can Took value_at s.world.memory (machine_plan same same x (machine_of u))) hashed
-      (machines_stand_among V same same e.batch_size e.roots slot_of s.world s.maps s.calls s.makers s.enders at.together m standing stands i u here).0)
+      (machines_stand_among V same same e.batch_size e.roots slot_of s.world s.maps s.calls s.makers s.enders at.held.together m standing stands i u here).0)
 
-  module _ (e2 : Executor K V S) (machine : Machine K V K) (told : Progress (Node K V)) (steps : StepsFrom same hash (machine_of u) e e2 machine told)
+  module _ (e2 : Executor K V S) (machine : Machine K V K) (told : Progress (Node K V)) (steps : StepsFrom same hash (machine_of u) (held_by e) (held_by e2) machine told)
       (changes : ChangesAt (place_of i) (worker_with (slot_of i) m (going_on machine told)) e e2) where
     its_step : Steps Took value_at s.world.memory (machine_plan same same standing.hash (machine_of u)) e2.memory.memory (machine, told)
     its_step =
         subst (λ (x : K → ℕ). Steps Took value_at s.world.memory (machine_plan same same x (machine_of u)) e2.memory.memory (machine, told)) (sym hashed)
-        (subst (λ (x : Mem (Node K V)). Steps Took value_at x (machine_plan same same hash (machine_of u)) e2.memory.memory (machine, told)) (sym at.memory)
+        (subst (λ (x : Mem (Node K V)). Steps Took value_at x (machine_plan same same hash (machine_of u)) e2.memory.memory (machine, told)) (sym at.held.memory)
         (as_step e.memory.memory Nothing (machine_plan same same hash (machine_of u)) e2.memory.memory e2.memory.changed (machine, told) steps))
 
     did : MachineStepsAmong V same same e.batch_size e.roots slot_of s.world s.maps s.calls s.makers s.enders m standing i e2.memory.memory u machine told
-    did = (machines_stand_among V same same e.batch_size e.roots slot_of s.world s.maps s.calls s.makers s.enders at.together m standing stands i u here).1
+    did = (machines_stand_among V same same e.batch_size e.roots slot_of s.world s.maps s.calls s.makers s.enders at.held.together m standing stands i u here).1
         e2.memory.memory machine told its_step
 
     keeps : (n : ℕ) → Keeps hash (s.maps n) (did.maps2 n)
@@ -98,17 +59,17 @@ module _ {K V S : Type 0} (same : K → K → Bool) (hash : K → ℕ) (e : Exec
       where
         by : (n ≡ m) ⊎ (n ≢ m) → Keeps hash (s.maps n) (did.maps2 n)
         by (inl e) = subst (λ (x : ℕ). Keeps hash (s.maps x) (did.maps2 x)) (sym e) (moved_map_keeps hash standing (s.maps m) (did.maps2 m) stands hashed did.its_map)
-        by (inr ne) = same_map_keeps hash (s.maps n) (did.maps2 n) (at.hashes n) (did.others n ne)
+        by (inr ne) = same_map_keeps hash (s.maps n) (did.maps2 n) (at.held.hashes n) (did.others n ne)
 
     -- and the executor is there again
-    pub stepped : (standing : Standing K) × (machine : Machine K V K) × (s.maps m ≡ Some standing) × StepsFrom same hash (machine_of u) e e2 machine told
+    pub stepped : (standing : Standing K) × (machine : Machine K V K) × (s.maps m ≡ Some standing) × StepsFrom same standing.hash (machine_of u) (held_by e) (held_by e2) machine told
         × (did : MachineStepsAmong V same same e.batch_size e.roots slot_of s.world s.maps s.calls s.makers s.enders m standing i e2.memory.memory u machine told)
-        × IsAt same hash e2 (scene_after same hash s e e2 m i standing u machine told did)
+        × IsThere same hash e2 (scene_after same s (held_by e) (held_by e2) m i standing u machine told did)
     stepped = (
       standing,
       machine,
       stands,
-      steps,
+      subst (λ (x : K → ℕ). StepsFrom same x (machine_of u) (held_by e) (held_by e2) machine told) (sym hashed) steps,
       did,
       is_at_on same hash e s at m i (Some (machine_of u)) (worker_is same hash e s at m i u here) e2 did.next
           (subst (λ (x : Option (Machine K V K)). ChangesAt (place_of i) (worker_with (slot_of i) m x) e e2) (sym (goes_as machine told did.next did.goes_on)) changes)
@@ -119,13 +80,13 @@ module _ {K V S : Type 0} (same : K → K → Bool) (hash : K → ℕ) (e : Exec
   module _ (e1 e2 : Executor K V S) (memory : e1.memory.memory ≡ e.memory.memory) (items : e1.workers.items ≡ slice_set e.workers.items (place_of i) None) (hasher : e1.hasher ≡ e.hasher)
       (batch_size : e1.batch_size ≡ e.batch_size) (roots : e1.roots ≡ e.roots) (maps : e1.maps.items ≡ e.maps.items) (slots : e1.slots.items ≡ e.slots.items) (told : Progress (Node K V)) where
     pub leads_on : (slot map : ℕ) (before : Machine K V K) → (slot ≡ slot_of i) × (map ≡ m) × (before ≡ machine_of u) → SteppedAs same hash (place_of i) slot map before told e1 e2
-        → (standing : Standing K) × (machine : Machine K V K) × (s.maps m ≡ Some standing) × StepsFrom same hash (machine_of u) e e2 machine told
+        → (standing : Standing K) × (machine : Machine K V K) × (s.maps m ≡ Some standing) × StepsFrom same standing.hash (machine_of u) (held_by e) (held_by e2) machine told
         × (did : MachineStepsAmong V same same e.batch_size e.roots slot_of s.world s.maps s.calls s.makers s.enders m standing i e2.memory.memory u machine told)
-        × IsAt same hash e2 (scene_after same hash s e e2 m i standing u machine told did)
+        × IsThere same hash e2 (scene_after same s (held_by e) (held_by e2) m i standing u machine told did)
     leads_on slot map before (slot_is, map_is, before_is) (machine, steps, changes) =
         stepped e2 machine told
         (subst (λ (x : Mem (Node K V)). StepsTold K V (Machine K V K × Progress (Node K V)) x Nothing (machine_plan same same hash (machine_of u)) e2.memory.memory e2.memory.changed (machine, told))
-        memory (subst (λ (x : Machine K V K). StepsFrom same hash x e1 e2 machine told) before_is steps))
+        memory (subst (λ (x : Machine K V K). StepsFrom same hash x (held_by e1) (held_by e2) machine told) before_is steps))
         (through e e1 e2 (place_of i) _ items hasher batch_size roots maps slots
         (subst (λ (x : ℕ). ChangesAt (place_of i) (worker_with x m (going_on machine told)) e1 e2) slot_is
         (subst (λ (x : ℕ). ChangesAt (place_of i) (worker_with slot x (going_on machine told)) e1 e2) map_is changes)))

@@ -3,13 +3,14 @@ use Rattle.std.specs.Prelude.{◌≡◌, ℕ, Bool, Option, Some, None, length, 
 use Rattle.std.proofs.Common.{sym, ap, ◌∙◌, arith}
 use Rattle.std.proofs.lemmas.List.{get_or-set_other, length-set}
 use Rattle.papaya_raw.specs.declared.machines.machine.Machine.{Machine}
-use Rattle.papaya_finishes.specs.Given.Callers.Together.{UnderWay}
-use Rattle.papaya_finishes.specs.Machines.{machine_of}
+use Rattle.papaya_scenes.specs.Given.Callers.Together.{UnderWay}
+use Rattle.papaya_scenes.specs.Given.Finishes.Machines.{machine_of}
 use Rattle.papaya_executor.specs.declared.executor.Executor.{Executor}
 use Rattle.papaya_executor.specs.declared.worker.Work.TheVariants as work
 use Rattle.papaya_executor.specs.declared.worker.Worker.{Worker}
-use Rattle.papaya_executor.specs.IsAt.{Scene, IsAt, ChangesAt, HasCall, place_of, slot_of, worker_with, worker_at}
 use Rattle.papaya_executor.proofs.Changed.{worker_is}
+use Rattle.papaya_executor.specs.IsThere.{ChangesAt, IsThere, place_of, worker_at, worker_with}
+use Rattle.papaya_scenes.specs.Scene.{HasCall, Scene, slot_of}
 
 module _ {K V : Type 0} where
   -- a call at a place is one call
@@ -26,7 +27,7 @@ module _ {K V : Type 0} where
       let calls = same_call map map2 machine machine2 (ap (λ (x : Worker K V). x.work) both) in
       (ap (λ (x : Worker K V). x.slot) both, calls.0, calls.1)
 
-module _ {K V S : Type 0} (same : K → K → Bool) (hash : K → ℕ) (e : Executor K V S) (s : Scene K V) (at : IsAt same hash e s) (i : ℕ) where
+module _ {K V S : Type 0} (same : K → K → Bool) (hash : K → ℕ) (e : Executor K V S) (s : Scene K V) (at : IsThere same hash e s) (i : ℕ) where
   -- a caller that has a call has it at its place
   pub has_place : HasCall s i → (slot map : ℕ) × (machine : Machine K V K) × (slice_index_or e.workers.items (place_of i) None ≡ worker_with slot map (Some machine))
   has_place (m, u, here) = (slot_of i, m, machine_of u, worker_is same hash e s at m i u here)

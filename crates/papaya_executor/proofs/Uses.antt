@@ -5,21 +5,22 @@ use Rattle.std.proofs.lemmas.Bool.{cases_eq}
 use Rattle.std.proofs.lemmas.List.{get_or-set_other, get_or-set_same}
 use Rattle.seize.specs.Law.{is_open}
 use Rattle.seize.specs.World.{Row, Rests, Registers, Enters, Settles, Leaves, Defers, Frees, Use, Outside, Inside, IsTaken, with_at}
-use Rattle.papaya_finishes.specs.Given.SeizeWaiting.Held.{same as alike, count}
-use Rattle.papaya_finishes.proofs.Given.SeizeMoves.State.Ghost.{emptied}
-use Rattle.papaya_finishes.proofs.Given.SeizeRule.Rows.Known.{works_on}
-use Rattle.papaya_finishes.proofs.Given.SeizeRule.Rows.Teams.{UseFits, shares, is_shared}
-use Rattle.papaya_finishes.proofs.Given.SeizeAlone.Histories.Reached.{Reached}
-use Rattle.papaya_finishes.specs.Given.Tables.Nodes.{deferred_word}
-use Rattle.papaya_finishes.proofs.Given.Callers.Together.At.{at_other, at_same}
-use Rattle.papaya_finishes.proofs.Given.Callers.Together.Came.{came_reached}
-use Rattle.papaya_finishes.specs.Given.Callers.Rows.{IsRowOn}
+use Rattle.papaya_scenes.specs.Given.SeizeWaiting.Held.{same as alike, count}
+use Rattle.papaya_scenes.proofs.Given.SeizeMoves.State.Ghost.{emptied}
+use Rattle.papaya_scenes.proofs.Given.SeizeRule.Rows.Known.{works_on}
+use Rattle.papaya_scenes.proofs.Given.SeizeRule.Rows.Teams.{UseFits, shares, is_shared}
+use Rattle.papaya_scenes.proofs.Given.SeizeAlone.Histories.Reached.{Reached}
+use Rattle.papaya_scenes.specs.Given.Tables.Nodes.{deferred_word}
+use Rattle.papaya_scenes.proofs.Given.Callers.Together.At.{at_other, at_same}
+use Rattle.papaya_scenes.proofs.Given.Callers.Together.Came.{came_reached}
+use Rattle.papaya_scenes.specs.Given.Callers.Rows.{IsRowOn}
 use Rattle.papaya_executor.specs.declared.executor.Executor.{Executor}
-use Rattle.papaya_executor.specs.declared.row.SlotUse.{SlotUse}
-use Rattle.papaya_executor.specs.declared.row.SlotUse.TheVariants as used
+use Rattle.papaya_scenes.specs.declared.row.SlotUse.{SlotUse}
+use Rattle.papaya_scenes.specs.declared.row.SlotUse.TheVariants as used
 use Rattle.papaya_executor.specs.declared.worker.Work.{Work}
-use Rattle.papaya_executor.specs.IsAt.{Scene, IsAt, HasRow, IsUsedAs, slot_of, use_at}
+use Rattle.papaya_executor.specs.IsThere.{HasRow, IsThere, IsUsedAs, use_at}
 use Rattle.papaya_executor.specs.OnSlots.{NobodyIn}
+use Rattle.papaya_scenes.specs.Scene.{Scene, slot_of}
 
 -- nobody stands in a list that nobody is counted in
 no_team : (team : List ℕ) → ((i : ℕ) → count i team ≡ 0) → length team ≡ 0
@@ -49,9 +50,9 @@ used_then slots uses all slot within v u is t = by (cases_eq t slot)
         subst (λ (x : Use). IsUsedAs (slice_index_or (slice_set slots slot v) t used.Vacant) x) (sym (at_other uses slot u t ne))
         (subst (λ (x : SlotUse). IsUsedAs x (uses t)) (sym (get_or-set_other slots slot t v used.Vacant ne)) (all t))
 
-module _ {K V S : Type 0} (same : K → K → Bool) (hash : K → ℕ) (e : Executor K V S) (s : Scene K V) (at : IsAt same hash e s) where
+module _ {K V S : Type 0} (same : K → K → Bool) (hash : K → ℕ) (e : Executor K V S) (s : Scene K V) (at : IsThere same hash e s) where
   pub reached : Reached deferred_word e.batch_size s.world
-  reached = came_reached e.batch_size s.world at.together.makings.standing.came
+  reached = came_reached e.batch_size s.world at.held.together.makings.standing.came
 
   module _ (slot : ℕ) (nobody : NobodyIn e slot) (shared : is_shared (s.world.uses slot) ≡ true) where
     -- who works on the slot has something under way in it
@@ -65,9 +66,9 @@ module _ {K V S : Type 0} (same : K → K → Bool) (hash : K → ℕ) (e : Exec
         by Rests is on shared = cc shared
         by (Registers c) is on shared = cc shared
         by (Enters c) is on shared = cc shared
-        by (Settles c) is on shared = not_its (Settles c) is (λ r. cc r) (sym (subst (IsRowOn (slot_of i)) is (at.on_slots i)) ∙ omega (arith, on))
+        by (Settles c) is on shared = not_its (Settles c) is (λ r. cc r) (sym (subst (IsRowOn (slot_of i)) is (at.held.on_slots i)) ∙ omega (arith, on))
         by (Leaves c) is on shared = cc shared
-        by (Defers t c) is on shared = not_its (Defers t c) is (λ r. cc r) (sym (subst (IsRowOn (slot_of i)) is (at.on_slots i)) ∙ omega (arith, on))
+        by (Defers t c) is on shared = not_its (Defers t c) is (λ r. cc r) (sym (subst (IsRowOn (slot_of i)) is (at.held.on_slots i)) ∙ omega (arith, on))
         by (Frees c) is on shared = cc shared
 
     no_rows : length (reached.good.used.team slot) ≡ 0

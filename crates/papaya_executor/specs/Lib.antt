@@ -1,10 +1,10 @@
 pub mod Beginning
 pub mod Ending
-pub mod IsAt
+pub mod IsThere
 pub mod Making
 pub mod MakingBegins
 pub mod OnSlots
 pub mod Replying
-pub mod Rows
 pub mod Stepping
+pub mod Used
 pub mod Given

@@ -1,19 +1,19 @@
 -- What it leads to that a caller begins to make a map.
-use Rattle.std.specs.Prelude.{◌≡◌, ◌<◌, ◌≤◌, ◌+◌, ◌^◌, ℕ, Bool, length, max, Some}
+use Rattle.std.specs.Prelude.{◌≡◌, ◌<◌, ◌≤◌, ◌+◌, ◌^◌, ℕ, Bool, length, max}
 use Rattle.std.specs.Int.{IsPowerOfTwo}
-use Rattle.seize.specs.World.{with_at}
-use Rattle.papaya_finishes.specs.Given.Tables.Lengths.{IsTableLen}
-use Rattle.papaya_finishes.specs.Given.Tables.declared.setting.Setting.{Setting}
-use Rattle.papaya_finishes.specs.Given.Resize.NewMap.{opening}
-use Rattle.papaya_finishes.specs.Given.Points.Steps.{AreLawful}
-use Rattle.papaya_finishes.specs.Makings.{Beginning}
+use Rattle.papaya_scenes.specs.Given.Tables.Lengths.{IsTableLen}
+use Rattle.papaya_scenes.specs.Given.Tables.declared.setting.Setting.{Setting}
+use Rattle.papaya_scenes.specs.Given.Points.Steps.{AreLawful}
+use Rattle.papaya_scenes.specs.Given.Finishes.Makings.{Beginning}
+use Rattle.papaya_scenes.specs.Making.{making_begun, scene_making}
+use Rattle.papaya_scenes.specs.Scene.{Scene}
 use Rattle.papaya_executor.specs.declared.executor.Executor.{Executor}
-use Rattle.papaya_executor.specs.IsAt.{Scene, IsAt}
+use Rattle.papaya_executor.specs.IsThere.{IsThere}
 
 module _ {K V S : Type 0} (hash : K → ℕ) where
   -- with this setting, and a first table of so many places, the map is made whose number comes next
   abbrev pub next_making : Setting → ℕ → Executor K V S → Beginning K
-  next_making given places e = record { map = length e.maps.items; given = given; places = places; hash = hash; machine = opening given e.roots places }
+  next_making given places e = making_begun hash e.roots (length e.maps.items) given places
 
 module _ {K V S : Type 0} (same : K → K → Bool) (hash : K → ℕ) where
   -- A making that begins so is under way, and nothing else has changed: the executor is there.
@@ -21,4 +21,4 @@ module _ {K V S : Type 0} (same : K → K → Bool) (hash : K → ℕ) where
   MakingBegins given places i s old new =
       AreLawful same hash → IsPowerOfTwo given.initial → given.batch_size ≡ old.batch_size → given.mask + 1 < 2 ^ 64 → 0 < old.roots
       → (max places 8 ≤ 2 ^ 48 → IsTableLen (max places 8))
-      → (new.memory ≡ old.memory) × IsAt same hash new (record s { makers = with_at s.makers i (Some (next_making hash given places old)) })
+      → (new.memory ≡ old.memory) × IsThere same hash new (scene_making i (next_making hash given places old) s)

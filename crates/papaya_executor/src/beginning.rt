@@ -1,14 +1,16 @@
 //! The beginning of a call, and of the making of a map.
 ghost use Rattle.std.specs.Prelude.{◌≡◌, ◌<◌, ◌+◌, ◌*◌, ℕ, Bool, length, IfOk, IfErr, OnErr};
-ghost use Rattle.papaya_executor.specs.IsAt.{Scene, IsAt, StaysGiven, KeepsGiven};
-ghost use Rattle.papaya_executor.specs.Beginning.{BeginLeads, IsRefused, HasNoPlace, HasNoNumber};
+ghost use Rattle.papaya_scenes.specs.declared.callers.TheConstants.{SLOTS};
+ghost use Rattle.papaya_executor.specs.Beginning.{BeginsThere, HasNoNumber, HasNoPlace, IsRefused};
+ghost use Rattle.papaya_executor.specs.IsThere.{IsThere, KeepsGiven, StaysGiven};
 ghost use Rattle.papaya_executor.specs.MakingBegins.{MakingBegins};
-ghost use Rattle.papaya_executor.specs.declared.worker.TheConstants.{SLOTS};
+ghost use Rattle.papaya_scenes.specs.Scene.{Scene};
 
 use crate::executor::Executor;
-use crate::worker::{SLOTS, Work, Worker};
+use crate::worker::{Work, Worker};
 use papaya_raw::Setting;
 use papaya_raw::machines::{Machine, NewMap};
+use papaya_scenes::callers::SLOTS;
 use std::alloc::AllocError;
 
 /// So many callers there can be. For each further one there is no memory.
@@ -20,7 +22,7 @@ impl<K: Drop, V: Drop, S> Executor<K, V, S> {
     pub fn begin(&mut self, slot: u64, map: u64, machine: Machine<K, V>) -> Result<u64, AllocError>
         requires { slot < SLOTS }
         ensures number { IfOk result (λ caller. caller ≡ length self.old.workers.items * SLOTS + slot) }
-        ensures leads { IfOk result (λ caller. (same : K → K → Bool) (hash : K → ℕ) (s : Scene K V) → IsAt same hash self.old s → BeginLeads same hash map machine caller s self.old self.new) }
+        ensures leads { IfOk result (λ caller. (same : K → K → Bool) (hash : K → ℕ) (s : Scene K V) → IsThere same hash self.old s → BeginsThere same hash map machine caller s self.old self.new) }
         ensures given { KeepsGiven self.old self.new }
         ensures refused { IfErr result (λ error. IsRefused self.old self.new) }
         ensures only { OnErr result (HasNoPlace self.old) }
@@ -44,7 +46,7 @@ impl<K: Drop, V: Drop, S> Executor<K, V, S> {
     ) -> Result<u64, AllocError>
         requires { slot < SLOTS }
         ensures number { IfOk result (λ caller. caller ≡ length self.old.workers.items * SLOTS + slot) }
-        ensures leads { IfOk result (λ caller. (same : K → K → Bool) (hash : K → ℕ) (s : Scene K V) → IsAt same hash self.old s → MakingBegins same hash given places caller s self.old self.new) }
+        ensures leads { IfOk result (λ caller. (same : K → K → Bool) (hash : K → ℕ) (s : Scene K V) → IsThere same hash self.old s → MakingBegins same hash given places caller s self.old self.new) }
         ensures numbers { IfOk result (λ caller. length self.new.maps.items ≡ length self.old.maps.items + 1) }
         ensures given { StaysGiven self.old self.new }
         ensures refused { IfErr result (λ error. IsRefused self.old self.new) }

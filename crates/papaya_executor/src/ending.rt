@@ -1,18 +1,20 @@
 //! The beginning of the end of a map, and a step of it.
 ghost use Rattle.std.specs.Prelude.{◌≡◌, ◌<◌, ◌+◌, ◌*◌, ℕ, Bool, length, slice_index_or, slice_set, Some, None, IfOk, IfErr, OnErr};
-ghost use Rattle.papaya_finishes.specs.Given.Tables.declared.setting.Setting.{Setting};
-ghost use Rattle.papaya_executor.specs.IsAt.{Scene, IsAt, IsEnding, KeepsGiven, worker_of};
-ghost use Rattle.papaya_executor.specs.Beginning.{IsRefused, HasNoPlace};
-ghost use Rattle.papaya_executor.specs.Ending.{ending_on, EndingBegins, EndingLeads};
-ghost use Rattle.papaya_executor.specs.declared.worker.TheConstants.{SLOTS};
+ghost use Rattle.papaya_scenes.specs.Given.Tables.declared.setting.Setting.{Setting};
+ghost use Rattle.papaya_scenes.specs.declared.callers.TheConstants.{SLOTS};
+ghost use Rattle.papaya_executor.specs.Beginning.{HasNoPlace, IsRefused};
+ghost use Rattle.papaya_executor.specs.Ending.{EndingBegins, EndsThere, ending_on};
+ghost use Rattle.papaya_executor.specs.IsThere.{IsThere, KeepsGiven, worker_of};
+ghost use Rattle.papaya_scenes.specs.Scene.{IsEnding, Scene};
 
 use crate::beginning::MOST_CALLERS;
 use crate::executor::Executor;
 use crate::taking::{TakenEnding, put_at, take_ending};
 use crate::telling::step_telling;
-use crate::worker::{SLOTS, Work, Worker};
+use crate::worker::{Work, Worker};
 use papaya_raw::machines::EndMap;
 use papaya_raw::{Node, Setting};
+use papaya_scenes::callers::SLOTS;
 use seize::rows::Settled;
 use std::alloc::AllocError;
 
@@ -55,7 +57,7 @@ impl<K: Drop, V: Drop, S> Executor<K, V, S> {
         requires slot { slot < SLOTS }
         requires stands { (setting : Setting) × (slice_index_or self.old.maps.items map None ≡ Some setting) }
         ensures number { IfOk result (λ caller. caller ≡ length self.old.workers.items * SLOTS + slot) }
-        ensures leads { IfOk result (λ caller. (same : K → K → Bool) (hash : K → ℕ) (s : Scene K V) → IsAt same hash self.old s → EndingBegins same hash map caller s self.old self.new) }
+        ensures leads { IfOk result (λ caller. (same : K → K → Bool) (hash : K → ℕ) (s : Scene K V) → IsThere same hash self.old s → EndingBegins same hash map caller s self.old self.new) }
         ensures given { KeepsGiven self.old self.new }
         ensures refused { IfErr result (λ error. IsRefused self.old self.new) }
         ensures only { OnErr result (HasNoPlace self.old) }
@@ -74,8 +76,8 @@ impl<K: Drop, V: Drop, S> Executor<K, V, S> {
 
     /// Takes the next step of the end of a map that a caller has under way: at most one operation. One that is over is under way no more.
     pub fn step_ending(&mut self, caller: u64) -> Settled<Node<K, V>>
-        requires { (same : K → K → Bool) × (hash : K → ℕ) × (s : Scene K V) × IsAt same hash self.old s × IsEnding s caller }
-        ensures leads { (same : K → K → Bool) (hash : K → ℕ) (s : Scene K V) → IsAt same hash self.old s → EndingLeads same hash caller result s self.old self.new }
+        requires { (same : K → K → Bool) × (hash : K → ℕ) × (s : Scene K V) × IsThere same hash self.old s × IsEnding s caller }
+        ensures leads { (same : K → K → Bool) (hash : K → ℕ) (s : Scene K V) → IsThere same hash self.old s → EndsThere same hash caller result s self.old self.new }
         ensures given { KeepsGiven self.old self.new }
     {
         let place = (caller / SLOTS) as usize;

@@ -1,10 +1,12 @@
 //! The memory, the maps in it, and the callers that have something under way.
 ghost use Rattle.std.specs.Prelude.{◌≡◌, ℕ, Bool, [], IfOk};
-ghost use Rattle.papaya_executor.specs.IsAt.{IsAt, at_first};
+ghost use Rattle.papaya_executor.specs.IsThere.{IsThere};
+ghost use Rattle.papaya_scenes.specs.Scene.{at_first};
 
-use crate::row::SlotUse;
-use crate::worker::{SLOTS, Worker};
+use crate::worker::Worker;
 use papaya_raw::{Node, Setting};
+use papaya_scenes::callers::SLOTS;
+use papaya_scenes::row::SlotUse;
 use papaya_teller::teller::Teller;
 use seize_words::Plain;
 use std::alloc::{AllocError, Global};
@@ -31,7 +33,7 @@ pub struct Executor<K, V, S> {
 impl<K: Drop, V: Drop, S: Drop> Executor<K, V, S> {
     /// With no map and no caller, and with as many roots.
     pub fn new(alloc: Global, hasher: S, batch_size: u64, roots: u64) -> Result<Self, AllocError>
-        ensures stands { IfOk result (λ executor. (same : K → K → Bool) (hash : K → ℕ) → IsAt same hash executor (at_first roots)) }
+        ensures stands { IfOk result (λ executor. (same : K → K → Bool) (hash : K → ℕ) → IsThere same hash executor (at_first roots)) }
         ensures given { IfOk result (λ executor. (executor.hasher ≡ hasher) × (executor.batch_size ≡ batch_size) × (executor.roots ≡ roots)) }
         ensures maps { IfOk result (λ executor. executor.maps.items ≡ []) }
     {

@@ -4,10 +4,10 @@
 pub mod beginning;
 pub mod ending;
 pub mod executor;
+pub mod law;
 pub mod making;
 pub mod on_slots;
 pub mod replying;
-pub mod row;
 pub mod stepping;
 pub mod stopping;
 mod taking;

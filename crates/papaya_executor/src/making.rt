@@ -1,14 +1,16 @@
 //! A step of the making of a map.
 ghost use Rattle.std.specs.Prelude.{◌≡◌, ◌<◌, ℕ, Bool, length};
-ghost use Rattle.papaya_executor.specs.IsAt.{Scene, IsAt, IsMaking, KeepsGiven, worker_of};
-ghost use Rattle.papaya_executor.specs.Making.{making_on, maps_on, MakingLeads};
+ghost use Rattle.papaya_executor.specs.IsThere.{IsThere, KeepsGiven, worker_of};
+ghost use Rattle.papaya_executor.specs.Making.{MakesThere, making_on, maps_on};
+ghost use Rattle.papaya_scenes.specs.Scene.{IsMaking, Scene};
 
 use crate::executor::Executor;
 use crate::taking::{TakenMaking, put_at, take_making};
 use crate::telling::step_telling;
-use crate::worker::{SLOTS, Work, Worker};
+use crate::worker::{Work, Worker};
 use papaya_raw::Setting;
 use papaya_raw::machines::NewMap;
+use papaya_scenes::callers::SLOTS;
 use seize::Progress;
 
 /// The making of a map after a step of it, unless it has ended.
@@ -43,8 +45,8 @@ impl<K: Drop, V: Drop, S> Executor<K, V, S> {
     /// Takes the next step of the making of a map that a caller has under way: at most one operation. One that has ended is under way no more, and its map
     /// stands, unless it was refused.
     pub fn step_making(&mut self, caller: u64) -> Progress<Setting>
-        requires { (same : K → K → Bool) × (hash : K → ℕ) × (s : Scene K V) × IsAt same hash self.old s × IsMaking s caller }
-        ensures leads { (same : K → K → Bool) (hash : K → ℕ) (s : Scene K V) → IsAt same hash self.old s → MakingLeads same hash caller result s self.old self.new }
+        requires { (same : K → K → Bool) × (hash : K → ℕ) × (s : Scene K V) × IsThere same hash self.old s × IsMaking s caller }
+        ensures leads { (same : K → K → Bool) (hash : K → ℕ) (s : Scene K V) → IsThere same hash self.old s → MakesThere same hash caller result s self.old self.new }
         ensures numbers { length self.new.maps.items ≡ length self.old.maps.items }
         ensures given { KeepsGiven self.old self.new }
     {

@@ -1,23 +1,26 @@
 //! A row on a slot begins, and takes its steps.
 ghost use Rattle.std.specs.Prelude.{◌≡◌, ◌<◌, ◌+◌, ◌*◌, ℕ, Bool, length, slice_set, Some, IfOk, IfErr, OnErr};
 ghost use Rattle.seize.specs.World.{MayStep, Registers, Enters, Settles, Leaves, Frees};
-ghost use Rattle.papaya_finishes.specs.Given.Tables.Nodes.{deferred_word};
-ghost use Rattle.papaya_executor.specs.Beginning.{IsRefused, HasNoPlace};
-ghost use Rattle.papaya_executor.specs.IsAt.{Scene, IsAt, KeepsGiven, row_of, work_of, worker_of};
-ghost use Rattle.papaya_executor.specs.OnSlots.{row_on, RowSteps, RowBegins, RowLeads};
-ghost use Rattle.papaya_executor.specs.Rows.{uses_begun, uses_after};
-ghost use Rattle.papaya_executor.specs.declared.row.SlotRow.{SlotRow};
-ghost use Rattle.papaya_executor.specs.declared.row.SlotRow.TheVariants as rows;
+ghost use Rattle.papaya_scenes.specs.Given.Tables.Nodes.{deferred_word};
+ghost use Rattle.papaya_scenes.specs.declared.row.SlotRow.{SlotRow};
+ghost use Rattle.papaya_scenes.specs.declared.row.SlotRow.TheVariants as rows;
 ghost use Rattle.papaya_executor.specs.declared.worker.Work.TheVariants.{OnSlot};
-ghost use Rattle.papaya_executor.specs.declared.worker.TheConstants.{SLOTS};
+ghost use Rattle.papaya_scenes.specs.declared.callers.TheConstants.{SLOTS};
+ghost use Rattle.papaya_executor.specs.Beginning.{HasNoPlace, IsRefused};
+ghost use Rattle.papaya_executor.specs.IsThere.{IsThere, KeepsGiven, work_of, worker_of};
+ghost use Rattle.papaya_executor.specs.OnSlots.{RowBeginsThere, RowStepsThere, row_on};
+ghost use Rattle.papaya_scenes.specs.OnSlots.{RowSteps};
+ghost use Rattle.papaya_scenes.specs.Rows.{uses_after, uses_begun};
+ghost use Rattle.papaya_scenes.specs.Scene.{Scene, row_of};
 
 use crate::beginning::MOST_CALLERS;
 use crate::executor::Executor;
-use crate::row::{RowTold, SlotCall, SlotChange, SlotRow, SlotUse};
 use crate::taking::{TakenRow, put_at, take_row};
 use crate::telling::step_telling;
-use crate::worker::{SLOTS, Work, Worker};
+use crate::worker::{Work, Worker};
 use papaya_raw::Node;
+use papaya_scenes::callers::SLOTS;
+use papaya_scenes::row::{RowTold, SlotCall, SlotChange, SlotRow, SlotUse};
 use papaya_teller::teller::Teller;
 use seize::rows::{Enter, Leave, Register, Settle, Unregister};
 use seize_words::Plain;
@@ -158,7 +161,7 @@ impl<K: Drop, V: Drop, S> Executor<K, V, S> {
     pub fn begin_on_slot(&mut self, slot: u64, called: SlotCall) -> Result<u64, AllocError>
         requires { slot < SLOTS }
         ensures number { IfOk result (λ caller. caller ≡ length self.old.workers.items * SLOTS + slot) }
-        ensures leads { IfOk result (λ caller. (same : K → K → Bool) (hash : K → ℕ) (s : Scene K V) → IsAt same hash self.old s → RowBegins same hash called caller s self.old self.new) }
+        ensures leads { IfOk result (λ caller. (same : K → K → Bool) (hash : K → ℕ) (s : Scene K V) → IsThere same hash self.old s → RowBeginsThere same hash called caller s self.old self.new) }
         ensures given { KeepsGiven self.old self.new }
         ensures refused { IfErr result (λ error. IsRefused self.old self.new) }
         ensures only { OnErr result (HasNoPlace self.old) }
@@ -176,8 +179,8 @@ impl<K: Drop, V: Drop, S> Executor<K, V, S> {
 
     /// Takes the next step of the row that a caller has under way on its slot: at most one operation. One that has ended is under way no more.
     pub fn step_on_slot(&mut self, caller: u64) -> RowTold<Node<K, V>>
-        requires { (same : K → K → Bool) × (hash : K → ℕ) × (s : Scene K V) × IsAt same hash self.old s × (row : SlotRow) × (work_of self.old caller ≡ Some (OnSlot row)) }
-        ensures leads { (same : K → K → Bool) (hash : K → ℕ) (s : Scene K V) → IsAt same hash self.old s → RowLeads same hash caller result s self.old self.new }
+        requires { (same : K → K → Bool) × (hash : K → ℕ) × (s : Scene K V) × IsThere same hash self.old s × (row : SlotRow) × (work_of self.old caller ≡ Some (OnSlot row)) }
+        ensures leads { (same : K → K → Bool) (hash : K → ℕ) (s : Scene K V) → IsThere same hash self.old s → RowStepsThere same hash caller result s self.old self.new }
         ensures given { KeepsGiven self.old self.new }
     {
         let place = (caller / SLOTS) as usize;

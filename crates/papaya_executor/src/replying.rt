@@ -1,12 +1,14 @@
 //! What a call is told, and what it is asked for.
 ghost use Rattle.std.specs.Prelude.{◌<◌, ℕ, Bool, length, Some};
-ghost use Rattle.papaya_executor.specs.IsAt.{Scene, IsAt, HasCall, KeepsGiven, worker_with};
-ghost use Rattle.papaya_executor.specs.Replying.{PutBack, ReplyLeads, AskLeads};
+ghost use Rattle.papaya_executor.specs.IsThere.{IsThere, KeepsGiven, worker_with};
+ghost use Rattle.papaya_executor.specs.Replying.{AsksThere, PutBack, RepliesThere};
+ghost use Rattle.papaya_scenes.specs.Scene.{HasCall, Scene};
 
 use crate::executor::Executor;
 use crate::taking::{TakenCall, take_call};
-use crate::worker::{SLOTS, Work, Worker};
+use crate::worker::{Work, Worker};
 use papaya_raw::machines::{Machine, Reply};
+use papaya_scenes::callers::SLOTS;
 
 impl<K: Drop, V: Drop, S> Executor<K, V, S> {
     /// Puts a call back to its place.
@@ -20,8 +22,8 @@ impl<K: Drop, V: Drop, S> Executor<K, V, S> {
 
     /// Tells the call of a caller what it asks for. It hands back a reply that the call does not take, which goes on as it was.
     pub fn reply(&mut self, caller: u64, reply: Reply<V>) -> Result<(), Reply<V>>
-        requires { (same : K → K → Bool) × (hash : K → ℕ) × (s : Scene K V) × IsAt same hash self.old s × HasCall s caller }
-        ensures leads { (same : K → K → Bool) (hash : K → ℕ) (s : Scene K V) → IsAt same hash self.old s → ReplyLeads same hash caller reply result s self.old self.new }
+        requires { (same : K → K → Bool) × (hash : K → ℕ) × (s : Scene K V) × IsThere same hash self.old s × HasCall s caller }
+        ensures leads { (same : K → K → Bool) (hash : K → ℕ) (s : Scene K V) → IsThere same hash self.old s → RepliesThere same hash caller reply result s self.old self.new }
         ensures given { KeepsGiven self.old self.new }
     {
         let place = (caller / SLOTS) as usize;
@@ -37,8 +39,8 @@ impl<K: Drop, V: Drop, S> Executor<K, V, S> {
 
     /// Asks the walk of a caller for its next pair, and answers whether it was ready. Any other call goes on as it was.
     pub fn next(&mut self, caller: u64) -> bool
-        requires { (same : K → K → Bool) × (hash : K → ℕ) × (s : Scene K V) × IsAt same hash self.old s × HasCall s caller }
-        ensures leads { (same : K → K → Bool) (hash : K → ℕ) (s : Scene K V) → IsAt same hash self.old s → AskLeads same hash caller result s self.old self.new }
+        requires { (same : K → K → Bool) × (hash : K → ℕ) × (s : Scene K V) × IsThere same hash self.old s × HasCall s caller }
+        ensures leads { (same : K → K → Bool) (hash : K → ℕ) (s : Scene K V) → IsThere same hash self.old s → AsksThere same hash caller result s self.old self.new }
         ensures given { KeepsGiven self.old self.new }
     {
         let place = (caller / SLOTS) as usize;

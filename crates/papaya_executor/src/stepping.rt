@@ -6,14 +6,17 @@ ghost use Rattle.papaya_raw.specs.Machine.{machine_plan};
 ghost use Rattle.papaya_teller.specs.Changed.{is_made};
 ghost use Rattle.papaya_teller.specs.Tells.{StepsTold};
 ghost use Rattle.papaya_teller.specs.declared.changed.Changed.TheVariants.{Nothing};
-ghost use Rattle.papaya_executor.specs.IsAt.{Scene, IsAt, HasCall, KeepsGiven, worker_with};
-ghost use Rattle.papaya_executor.specs.Stepping.{going_on, SteppedAs, StepLeads};
+ghost use Rattle.papaya_executor.specs.IsThere.{IsThere, KeepsGiven, worker_with};
+ghost use Rattle.papaya_executor.specs.Stepping.{SteppedAs, StepsThere};
+ghost use Rattle.papaya_scenes.specs.Scene.{HasCall, Scene};
+ghost use Rattle.papaya_scenes.specs.Stepping.{going_on};
 
 use crate::executor::Executor;
 use crate::taking::{TakenCall, take_call};
-use crate::worker::{SLOTS, Work, Worker};
+use crate::worker::{Work, Worker};
 use papaya_raw::machines::{Machine, Progress};
 use papaya_raw::{Hashes, Node};
+use papaya_scenes::callers::SLOTS;
 use papaya_teller::teller::Teller;
 use seize_words::Plain;
 use std::hash::Hash;
@@ -77,8 +80,8 @@ impl<K: Eq + Hash + Drop, V: Drop, S: Hashes<K>> Executor<K, V, S> {
     /// Takes the next step of the call that a caller has under way: at most one operation. A call that has ended is under way no more. A block that it asks for
     /// may be refused.
     pub fn step(&mut self, caller: u64, refuse: bool) -> Progress<Node<K, V>>
-        requires { (s : Scene K V) × IsAt K.eq (S.hash self.old.hasher) self.old s × HasCall s caller }
-        ensures leads { (s : Scene K V) → IsAt K.eq (S.hash self.old.hasher) self.old s → StepLeads K.eq (S.hash self.old.hasher) caller result s self.old self.new }
+        requires { (s : Scene K V) × IsThere K.eq (S.hash self.old.hasher) self.old s × HasCall s caller }
+        ensures leads { (s : Scene K V) → IsThere K.eq (S.hash self.old.hasher) self.old s → StepsThere K.eq (S.hash self.old.hasher) caller result s self.old self.new }
         ensures refused { refuse ≡ true → is_made self.new.memory.changed ≡ false }
         ensures given { KeepsGiven self.old self.new }
     {

@@ -1,13 +1,16 @@
 //! A walk is given up.
 ghost use Rattle.std.specs.Prelude.{◌≡◌, ℕ, Bool};
 ghost use Rattle.papaya_raw.specs.Machine.{machine_asked};
-ghost use Rattle.papaya_executor.specs.IsAt.{Scene, IsAt, HasCall, KeepsGiven, worker_with};
-ghost use Rattle.papaya_executor.specs.Replying.{StopLeads, unless_stopped};
+ghost use Rattle.papaya_executor.specs.IsThere.{IsThere, KeepsGiven, worker_with};
+ghost use Rattle.papaya_executor.specs.Replying.{StopsThere};
+ghost use Rattle.papaya_scenes.specs.Replying.{unless_stopped};
+ghost use Rattle.papaya_scenes.specs.Scene.{HasCall, Scene};
 
 use crate::executor::Executor;
 use crate::taking::{TakenCall, put_at, take_call};
-use crate::worker::{SLOTS, Work, Worker};
+use crate::worker::{Work, Worker};
 use papaya_raw::machines::{Machine, Sweeping};
+use papaya_scenes::callers::SLOTS;
 
 /// Whether it is a walk that is ready.
 fn is_ready<K, V>(machine: &Machine<K, V>) -> bool
@@ -38,8 +41,8 @@ fn unless_stopped<K: Drop, V: Drop>(
 impl<K: Drop, V: Drop, S> Executor<K, V, S> {
     /// Gives the walk of a caller up, and answers whether it was ready. Any other call goes on as it was.
     pub fn stop(&mut self, caller: u64) -> bool
-        requires { (same : K → K → Bool) × (hash : K → ℕ) × (s : Scene K V) × IsAt same hash self.old s × HasCall s caller }
-        ensures leads { (same : K → K → Bool) (hash : K → ℕ) (s : Scene K V) → IsAt same hash self.old s → StopLeads same hash caller result s self.old self.new }
+        requires { (same : K → K → Bool) × (hash : K → ℕ) × (s : Scene K V) × IsThere same hash self.old s × HasCall s caller }
+        ensures leads { (same : K → K → Bool) (hash : K → ℕ) (s : Scene K V) → IsThere same hash self.old s → StopsThere same hash caller result s self.old self.new }
         ensures given { KeepsGiven self.old self.new }
     {
         let place = (caller / SLOTS) as usize;

@@ -1,15 +1,15 @@
 //! What is taken out of the place of a caller that has a call under way, before a step of it.
 ghost use Rattle.std.specs.Prelude.{◌≡◌, ◌<◌, ℕ, length, slice_index_or, slice_set, Some, None};
-ghost use Rattle.papaya_executor.specs.IsAt.{worker_of, worker_with};
-ghost use Rattle.papaya_executor.specs.declared.row.SlotRow.{SlotRow};
+ghost use Rattle.papaya_scenes.specs.declared.row.SlotRow.{SlotRow};
 ghost use Rattle.papaya_executor.specs.declared.worker.Work.TheVariants.{Making, Ending, OnSlot};
-ghost use Rattle.papaya_finishes.specs.Given.Resize.declared.new_map.NewMap.{NewMap};
+ghost use Rattle.papaya_scenes.specs.Given.Resize.declared.new_map.NewMap.{NewMap};
 ghost use Rattle.papaya_raw.specs.declared.machines.end_map.EndMap.{EndMap};
 ghost use Rattle.papaya_raw.specs.declared.machines.machine.Machine.{Machine};
+ghost use Rattle.papaya_executor.specs.IsThere.{worker_of, worker_with};
 
-use crate::row::SlotRow;
 use crate::worker::{Work, Worker};
 use papaya_raw::machines::{EndMap, Machine, NewMap};
+use papaya_scenes::row::SlotRow;
 use std::mem;
 
 /// A call that was taken out of its place.

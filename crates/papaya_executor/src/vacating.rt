@@ -1,11 +1,11 @@
 //! No slot is in use any more.
 ghost use Rattle.std.specs.Prelude.{◌≡◌, ℕ, length, slice_index_or};
-ghost use Rattle.papaya_executor.specs.IsAt.{use_at};
-ghost use Rattle.papaya_executor.specs.declared.row.SlotUse.TheVariants.{Vacant};
+ghost use Rattle.papaya_scenes.specs.declared.row.SlotUse.TheVariants.{Vacant};
+ghost use Rattle.papaya_executor.specs.IsThere.{use_at};
 
 use crate::executor::Executor;
 use crate::on_slots::use_as;
-use crate::row::SlotUse;
+use papaya_scenes::row::SlotUse;
 
 /// Notes of each slot that it is vacant.
 fn vacate(slots: &mut Vec<SlotUse>)

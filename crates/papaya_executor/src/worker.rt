@@ -1,9 +1,6 @@
 //! What a caller has under way.
-use crate::row::SlotRow;
 use papaya_raw::machines::{EndMap, Machine, NewMap};
-
-/// So many slots there can be: the number of a caller is that of its place among the callers, times this, and its slot.
-pub const SLOTS: u64 = 65_536;
+use papaya_scenes::row::SlotRow;
 
 /// What a caller has under way.
 #[derive(Drop)]

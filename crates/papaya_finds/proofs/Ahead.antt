@@ -13,13 +13,13 @@ use Rattle.papaya_settles.specs.Given.Schedules.Views.{is_in_map, map_at, first_
 use Rattle.papaya_settles.proofs.Given.Follows.Linked.{own_found}
 use Rattle.papaya_settles.proofs.Given.Follows.Stored.{in_map_true}
 use Rattle.papaya_settles.proofs.Given.Spots.Unreclaimed.{or_right}
-use Rattle.papaya_settles.specs.Given.Executor.IsAt.{Scene, IsAt}
-use Rattle.papaya_settles.specs.Given.Executor.declared.executor.Executor.{Executor}
 use Rattle.papaya_settles.specs.Given.Effects.Known.{Known}
 use Rattle.papaya_settles.specs.Given.Finishes.Maps.{Standing}
 use Rattle.papaya_settles.specs.Given.Follows.Shows.{Shows}
 use Rattle.papaya_settles.specs.Given.Spots.Spots.{ShowsPlaces}
 use Rattle.papaya_finds.proofs.FromRoot.{root_is, from_root}
+use Rattle.papaya_settles.specs.Given.Scenes.Held.{Held, IsAt}
+use Rattle.papaya_settles.specs.Given.Scenes.Scene.{Scene}
 
 at_most : (a b : ℕ) → a ≤ b → nat_le a b ≡ true
 at_most a b l = grind (arith, l)
@@ -47,8 +47,8 @@ ahead_or_copied false place copy spot t n l = by ((copy n).turn == t.turn) refl 
         let there : t.turn ≤ (spot n).turn = subst (λ (x : Spot). t.turn ≤ x.turn) stays l in
         ap (λ (z : Bool). z || ((copy n).turn == t.turn)) (at_most t.turn (spot n).turn there)
 
-module _ {K V S : Type 0} (same : K → K → Bool) (hash : K → ℕ) (name : ℕ → List ℕ) (own : List ℕ) (map : ℕ) (t : Table) (on : t.map ≡ map) (m : Moment K V) (was : MapThere)
-    (was_there : map_at map m ≡ Some was) (known2 : Known) (s2 : Scene K V) (new : Executor K V S) (at2 : IsAt same hash new s2) where
+module _ {K V : Type 0} (same : K → K → Bool) (hash : ℕ → K → ℕ) (name : ℕ → List ℕ) (own : List ℕ) (map : ℕ) (t : Table) (on : t.map ≡ map) (m : Moment K V) (was : MapThere)
+    (was_there : map_at map m ≡ Some was) (known2 : Known) (s2 : Scene K V) (new : Held K V) (at2 : IsAt same hash new s2) where
   abbrev v : Moment K V
   v = with_effects (Some own) (Some map) (effect.Promoted t ∷ []) m
 

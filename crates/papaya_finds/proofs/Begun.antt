@@ -22,6 +22,7 @@ use Rattle.papaya_settles.specs.Given.Schedules.Moment.{UnderWay, MapThere, Mome
 use Rattle.papaya_settles.specs.Given.Schedules.Terms.{Terms}
 use Rattle.papaya_settles.specs.Given.Schedules.Views.{call_of, map_of, number_of, map_at}
 use Rattle.papaya_settles.proofs.Given.Follows.Calling.{is_same_refl, is_same_is}
+use Rattle.papaya_settles.proofs.Given.Scenes.NoCall.{none_is}
 use Rattle.papaya_finds.specs.Endings.{MakesNew}
 use Rattle.papaya_finds.specs.Within.{many_of, HasItsMap, AllIsInOrder}
 use Rattle.papaya_finds.proofs.Endings.{name_of, number_at, same_number, more_found}
@@ -41,10 +42,6 @@ finds_none test xs none = by (list_any test xs) refl
     by : (q : Bool) → list_any test xs ≡ q → list_any test xs ≡ false
     by true any = absurd (let some = any_found test xs any in let is : is_none (find test xs) ≡ false = ap is_none some.1 in cc (none, is))
     by false none_there = none_there
-
-no_one : {X : Type 0} (o : Option X) → is_none o ≡ true → o ≡ None
-no_one None e = refl
-no_one (Some x) e = absurd (cc e)
 
 module _ {K V : Type 0} (m : Moment K V) (h : AllIsInOrder m) where
   -- a call begins, on a map that is there by its name, by a name that no call has
@@ -147,7 +144,7 @@ module _ {K V : Type 0} (terms : Terms) (log : List (Entry K V)) (e : Entry K V)
     where
       by : (q : Bool) → MatchBool q (IsKeptOut {K = K} (MakeMap name mode capacity) (was_done V)) (ComesTo terms log m e (MakeMap name mode capacity) (was_done V)) → map_of name m ≡ None
       by true out = absurd (let busy = of_fault V (map_fault mode capacity) (was_done V ≡ Refused Busy) out in cc busy)
-      by false its = no_one (map_of name m) (in_turn (is_none (map_of name m)) _ Done (of_fault V (map_fault mode capacity) _ its) refl)
+      by false its = none_is (map_of name m) (in_turn (is_none (map_of name m)) _ Done (of_fault V (map_fault mode capacity) _ its) refl)
   makes_new _ _ right = tt
 
   -- no call is on a map that ends

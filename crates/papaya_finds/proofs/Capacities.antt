@@ -27,10 +27,6 @@ use Rattle.papaya_settles.proofs.Given.Callers.Together.At.{at_other, at_same}
 use Rattle.papaya_named.specs.Places.{first_places}
 use Rattle.papaya_settles.specs.Given.Effects.Effects.{effects_of}
 use Rattle.papaya_settles.specs.Given.Effects.declared.acting.Acting.TheVariants as acts
-use Rattle.papaya_settles.specs.Given.Executor.IsAt.{Scene}
-use Rattle.papaya_settles.specs.Given.Executor.Making.{MakingComesTo}
-use Rattle.papaya_settles.specs.Given.Executor.Stepping.{scene_after}
-use Rattle.papaya_settles.specs.Given.Executor.declared.executor.Executor.{Executor}
 use Rattle.papaya_settles.specs.Given.Finishes.Makings.{Beginning}
 use Rattle.papaya_settles.specs.Given.Finishes.Machines.{StandsOn}
 use Rattle.papaya_settles.specs.Given.Finishes.Maps.{Standing, IsSameMap}
@@ -38,6 +34,10 @@ use Rattle.papaya_settles.proofs.Given.Follows.Steps.{one_of}
 use Rattle.papaya_settles.specs.Given.Others.Makings.{making_after}
 use Rattle.papaya_finds.specs.Capacities.{ShowsCapacities, StoodSo, GivenAreFor, CapacitiesBegin, CapacitiesStay, EffectsKeepCapacities, SameMapsStood, CallsKeepCapacities, MakingsKeepCapacities}
 use Rattle.papaya_finds.specs.Linking.{IsMadeFor}
+use Rattle.papaya_settles.specs.Given.Scenes.Held.{Held}
+use Rattle.papaya_settles.specs.Given.Scenes.Making.{MakingComesTo}
+use Rattle.papaya_settles.specs.Given.Scenes.Scene.{Scene}
+use Rattle.papaya_settles.specs.Given.Scenes.Stepping.{scene_after}
 
 -- A capacity that is no fault has so many places.
 
@@ -138,13 +138,13 @@ stood_on before after (chart, blocks, sights, remembers, here) standing is =
     let one : record before { chart = chart; blocks = blocks; sights = sights } ≡ standing = one_of (record before { chart = chart; blocks = blocks; sights = sights }) standing (sym here ∙ is) in
     ap (λ (x : Standing _). x.setting.initial) (sym one)
 
-pub calls_keep_capacities : (K V S : Type 0) (same : K → K → Bool) (hash : K → ℕ) → CallsKeepCapacities K V S same hash
-calls_keep_capacities K V S same hash name m known s old new shows map i u here said leads =
-    capacities_stay K V m (with_effects (Some (name i)) (Some map) (effects_of (acts.Call i map) known new.memory.changed) m) s
-    (scene_after same hash s old new map i (leads map u here).0 u (leads map u here).1 said (leads map u here).4) shows
-    (λ n standing is. effects_keep_capacities K V (Some (name i)) (Some map) (effects_of (acts.Call i map) known new.memory.changed) m n) stood
+pub calls_keep_capacities : (K V : Type 0) (same : K → K → Bool) (hash : ℕ → K → ℕ) → CallsKeepCapacities K V same hash
+calls_keep_capacities K V same hash name m known s old new shows map i u here said leads =
+    capacities_stay K V m (with_effects (Some (name i)) (Some map) (effects_of (acts.Call i map) known new.changed) m) s
+    (scene_after same s old new map i (leads map u here).0 u (leads map u here).1 said (leads map u here).4) shows
+    (λ n standing is. effects_keep_capacities K V (Some (name i)) (Some map) (effects_of (acts.Call i map) known new.changed) m n) stood
   where
-    stood : StoodSo s (scene_after same hash s old new map i (leads map u here).0 u (leads map u here).1 said (leads map u here).4)
+    stood : StoodSo s (scene_after same s old new map i (leads map u here).0 u (leads map u here).1 said (leads map u here).4)
     stood n standing is = elim (cases_eq n map) as (λ _. (before : Standing K) × (s.maps n ≡ Some before) × (standing.setting.initial ≡ before.setting.initial)) [
       | inl e ↦ (
         (leads map u here).0,
@@ -155,7 +155,7 @@ calls_keep_capacities K V S same hash name m known s old new shows map i u here 
     ]
 
 -- A making leaves the maps that stand, and at its end brings one, with the setting with which it began, but for the root and the counter.
-module _ {K V S : Type 0} (same : K → K → Bool) (hash : K → ℕ) (m v : Moment K V) (s : Scene K V) (old new : Executor K V S) (shows : ShowsCapacities m s)
+module _ {K V : Type 0} (same : K → K → Bool) (hash : ℕ → K → ℕ) (m v : Moment K V) (s : Scene K V) (old new : Held K V) (shows : ShowsCapacities m s)
     (kept : (n : ℕ) → capacity_or (map_at n v) ≡ capacity_or (map_at n m)) (i : ℕ) (b : Beginning K) (made : IsMadeFor b.map m b.given) (opening : NewMap) (w2 : World (Node K V)) where
   stays : (t : Scene K V) → t.maps ≡ s.maps → ShowsCapacities v t
   stays t maps = capacities_stay K V m v s t shows (λ n standing is. kept n) (λ n standing is. (standing, ap (λ (f : ℕ → Option (Standing K)). f n) (sym maps) ∙ is, refl))
@@ -177,7 +177,7 @@ module _ {K V S : Type 0} (same : K → K → Bool) (hash : K → ℕ) (m v : Mo
   making_keeps (progress.Done setting) comes = λ n other is. comes_so comes.0 (ap (λ (x : Setting). x.initial) (comes.1.setting_is ∙ comes.1.answer_is)) n other is
   making_keeps (progress.Refused fault) comes = stays (making_after same hash s old new i b opening w2 (progress.Refused fault) comes) refl
 
-pub makings_keep_capacities : (K V S : Type 0) (same : K → K → Bool) (hash : K → ℕ) → MakingsKeepCapacities K V S same hash
-makings_keep_capacities K V S same hash m known s old new shows i told leads b here of made =
-    making_keeps same hash m (with_effects None of (effects_of (acts.Making b.map) known new.memory.changed) m) s old new shows
-    (λ n. effects_keep_capacities K V None of (effects_of (acts.Making b.map) known new.memory.changed) m n) i b made (leads b here).0 (leads b here).2.step.w2 told (leads b here).3
+pub makings_keep_capacities : (K V : Type 0) (same : K → K → Bool) (hash : ℕ → K → ℕ) → MakingsKeepCapacities K V same hash
+makings_keep_capacities K V same hash m known s old new shows i told leads b here of made =
+    making_keeps same hash m (with_effects None of (effects_of (acts.Making b.map) known new.changed) m) s old new shows
+    (λ n. effects_keep_capacities K V None of (effects_of (acts.Making b.map) known new.changed) m n) i b made (leads b here).0 (leads b here).2.step.w2 told (leads b here).3

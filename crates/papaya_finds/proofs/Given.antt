@@ -14,7 +14,7 @@ pub use Rattle.papaya_settles.proofs.Given.Tells
 pub use Rattle.papaya_settles.proofs.Given.Callers
 pub use Rattle.papaya_settles.proofs.Given.Finishes
 pub use Rattle.papaya_settles.proofs.Given.Runs
-pub use Rattle.papaya_settles.proofs.Given.Executor
+pub use Rattle.papaya_settles.proofs.Given.Scenes
 pub use Rattle.papaya_settles.proofs.Given.Follows
 pub use Rattle.papaya_settles.proofs.Given.Hands
 pub use Rattle.papaya_settles.proofs.Given.Others

@@ -40,9 +40,6 @@ use Rattle.papaya_settles.specs.Given.Callers.Together.{CallOnKey, OnKey, in_slo
 use Rattle.papaya_settles.specs.Given.Effects.Effects.{effects_of}
 use Rattle.papaya_settles.specs.Given.Effects.Known.{Known}
 use Rattle.papaya_settles.specs.Given.Effects.declared.acting.Acting.TheVariants as acts
-use Rattle.papaya_settles.specs.Given.Executor.IsAt.{Scene, IsAt, slot_of}
-use Rattle.papaya_settles.specs.Given.Executor.Stepping.{StepLeads}
-use Rattle.papaya_settles.specs.Given.Executor.declared.executor.Executor.{Executor}
 use Rattle.papaya_settles.specs.Given.Finishes.Maps.{Standing}
 use Rattle.papaya_settles.specs.Given.Follows.Calls.{IsCalled}
 use Rattle.papaya_settles.specs.Given.Follows.Finds.{FindsMap}
@@ -66,6 +63,9 @@ use Rattle.papaya_finds.specs.Within.{many_of}
 use Rattle.papaya_finds.proofs.Grows.Given.{HasGivenForNone, called_valued, knows_for_none}
 use Rattle.papaya_finds.proofs.Steps.{steps_find_places}
 use Rattle.papaya_finds.proofs.StoresNone.{given_stores}
+use Rattle.papaya_settles.specs.Given.Scenes.Held.{Held, IsAt}
+use Rattle.papaya_settles.specs.Given.Scenes.Scene.{Scene, slot_of}
+use Rattle.papaya_settles.specs.Given.Scenes.Stepping.{StepLeads}
 
 -- the newest table is the last one
 
@@ -222,7 +222,7 @@ module _ {K V : Type 0} (terms : Terms) (moments : List (Moment K V)) (own : Lis
     ),
   )
 
-module _ {K V S : Type 0} (same : K → K → Bool) (hash : K → ℕ) (name : ℕ → List ℕ) (m : Moment K V) (known : Known) (s : Scene K V) (old new : Executor K V S) (at : IsAt same hash old s)
+module _ {K V : Type 0} (same : K → K → Bool) (hash : ℕ → K → ℕ) (name : ℕ → List ℕ) (m : Moment K V) (known : Known) (s : Scene K V) (old new : Held K V) (at : IsAt same hash old s)
     (whole : ShowsWhole same name m known s) (tables : ShowsTables name m known s) (growing : ShowsGrowing m s) (map i : ℕ) (u : CallOnKey K V K) (here : s.calls map i ≡ Some (OnKey u))
     (said : Progress (Node K V)) (leads : StepLeads same hash i said s old new) (copies_none : IsCopying u.call.stands → ⊥) (made_for : IsMadeFor map m (leads map (OnKey u) here).0.setting)
     (terms : Terms) (moments : List (Moment K V)) (found_full : HasFoundFull map (many_of map m) (m ∷ moments) u.call u.call.stands) where
@@ -233,7 +233,7 @@ module _ {K V S : Type 0} (same : K → K → Bool) (hash : K → ℕ) (name : �
   st_is = (leads map (OnKey u) here).2
 
   abbrev effects : List Effect
-  effects = effects_of (acts.Call i map) known new.memory.changed
+  effects = effects_of (acts.Call i map) known new.changed
 
   abbrev its_call : (c : CallThere K V) × (call_of (name i) m ≡ Some c) × (c.map ≡ map) × IsCalled same (OnKey u) c.call
   its_call = whole.all.shown.calls map i (OnKey u) here
@@ -254,7 +254,7 @@ module _ {K V S : Type 0} (same : K → K → Bool) (hash : K → ℕ) (name : �
   asked = whole.all.asked.each map i (OnKey u) here st st_is c its_call.1
 
   on_map : AtEachEffect (FindsMap map) (Some (name i)) (Some map) effects m
-  on_map = (steps_find_places K V S same hash name m known s old new at whole map i (OnKey u) here said leads).0
+  on_map = (steps_find_places K V same hash name m known s old new at whole map i (OnKey u) here said leads).0
 
   abbrev IsTheirs : Effect → Type 0
   IsTheirs f = FindsShape terms moments m f c
@@ -341,6 +341,6 @@ module _ {K V S : Type 0} (same : K → K → Bool) (hash : K → ℕ) (name : �
     | IsLinked p effects_are had none ↦ linked_finds p effects_are had
   ]
 
-pub key_calls_link : (K V S : Type 0) (same : K → K → Bool) (hash : K → ℕ) → KeyCallsLink K V S same hash
-key_calls_link K V S same hash name m known s old new at whole tables growing map i u here said leads copies_none made_for terms moments found_full =
+pub key_calls_link : (K V : Type 0) (same : K → K → Bool) (hash : ℕ → K → ℕ) → KeyCallsLink K V same hash
+key_calls_link K V same hash name m known s old new at whole tables growing map i u here said leads copies_none made_for terms moments found_full =
     key_links same hash name m known s old new at whole tables growing map i u here said leads copies_none made_for terms moments found_full

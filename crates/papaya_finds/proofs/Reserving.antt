@@ -34,13 +34,13 @@ use Rattle.papaya_settles.specs.Given.Teller.declared.changed.Changed.{Changed}
 use Rattle.papaya_settles.specs.Given.Teller.declared.changed.Changed.TheVariants as changed
 use Rattle.papaya_settles.proofs.Given.Rule.Keys.Always.{Always, AlwaysOf, always_if, always_plan_as, always_steps}
 use Rattle.papaya_settles.specs.Given.Callers.Together.{ForRoom}
-use Rattle.papaya_settles.proofs.Given.Executor.Forgotten.{as_step}
 use Rattle.papaya_settles.proofs.Given.Follows.Steps.{one_of}
 use Rattle.papaya_settles.proofs.Given.Others.Outcomes.{told_in}
 use Rattle.papaya_owes.specs.Making.{making_in_reserving}
 use Rattle.papaya_owes.proofs.Walks.{reserve_makes}
 use Rattle.papaya_finds.specs.Reserving.{FitsAt, ReservesAt, SumTells, MakesFirst, RoomsKeepCount, RoomsCountOn, RoomsMayAsk}
 use Rattle.papaya_finds.proofs.Grows.Asked.{Asks, made_of, may_ask}
+use Rattle.papaya_settles.proofs.Given.Scenes.Told.{as_step}
 
 -- what is so at one of some moments is so at one of more
 module _ {X : Type 0} where
@@ -175,17 +175,17 @@ fits_at of moments p (at.Grows table making) n is first so = so
 fits_at of moments p (at.Copies copier) n is first so = so
 fits_at of moments p _ n is first so = absurd (cc is)
 
-pub rooms_may_ask : (K V S : Type 0) (same : K → K → Bool) (hash : K → ℕ) → RoomsMayAsk K V S same hash
-rooms_may_ask K V S same hash name m known s old new at_old whole map i r here said leads terms moments shards c c_is its_call so first =
+pub rooms_may_ask : (K V : Type 0) (same : K → K → Bool) (hash : ℕ → K → ℕ) → RoomsMayAsk K V same hash
+rooms_may_ask K V same hash name m known s old new at_old whole map i r here said leads terms moments shards c c_is its_call so first =
     may_ask same hash name m known s old new at_old whole map i (ForRoom r) here said leads terms moments c c_is grows
   where
     its_map : c.map ≡ map
     its_map = let there = whole.all.shown.calls map i (ForRoom r) here in ap (λ (x : CallThere K V). x.map) (one_of c there.0 (sym c_is ∙ there.1)) ∙ there.2
 
-    grows : Asks new.memory.changed → MayGrow terms c.call c (m ∷ moments)
+    grows : Asks new.changed → MayGrow terms c.call c (m ∷ moments)
     grows asks =
-        let it = told_in old.memory.memory new.memory.memory new.memory.changed of_room (reserves.reserve_plan hash r.reserve) ((leads map (ForRoom r) here).1, said) (leads map (ForRoom r) here).3 in
-        let n = made_of (making_in_reserving r.reserve.stands) old.memory.memory new.memory.memory new.memory.changed (reserves.reserve_plan hash r.reserve) it.0 it.2 (reserve_makes K V hash r.reserve) asks in
+        let it = told_in old.memory new.memory new.changed of_room (reserves.reserve_plan (leads map (ForRoom r) here).0.hash r.reserve) ((leads map (ForRoom r) here).1, said) (leads map (ForRoom r) here).3 in
+        let n = made_of (making_in_reserving r.reserve.stands) old.memory new.memory new.changed (reserves.reserve_plan (leads map (ForRoom r) here).0.hash r.reserve) it.0 it.2 (reserve_makes K V (leads map (ForRoom r) here).0.hash r.reserve) asks in
         let fits = fits_after map moments m r.reserve (fits_at map moments r.reserve r.reserve.stands n.0 n.1 first so) in
         subst (λ (z : Call K V). MayGrow terms z c (m ∷ moments)) (sym its_call)
         (fits.0, subst (λ (x : ℕ). Counts x c.map (m ∷ moments) fits.0) shards (subst (λ (x : ℕ). Counts (suc r.reserve.setting.mask) x (m ∷ moments) fits.0) (sym its_map) fits.1), fits.2)

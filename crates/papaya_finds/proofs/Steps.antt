@@ -24,9 +24,6 @@ use Rattle.papaya_settles.specs.Given.Effects.Known.{Known}
 use Rattle.papaya_settles.specs.Given.Effects.declared.acting.Acting.TheVariants as acts
 use Rattle.papaya_settles.specs.Given.Effects.declared.role.Role.{Role}
 use Rattle.papaya_settles.specs.Given.Effects.declared.role.Role.TheVariants as role
-use Rattle.papaya_settles.specs.Given.Executor.IsAt.{Scene, IsAt, slot_of}
-use Rattle.papaya_settles.specs.Given.Executor.Stepping.{StepLeads, scene_after}
-use Rattle.papaya_settles.specs.Given.Executor.declared.executor.Executor.{Executor}
 use Rattle.papaya_settles.specs.Given.Finishes.Machines.{machine_of}
 use Rattle.papaya_settles.specs.Given.Finishes.Maps.{Standing}
 use Rattle.papaya_settles.specs.Given.Follows.Calls.{IsCalled}
@@ -56,6 +53,9 @@ use Rattle.papaya_finds.proofs.Ahead.{none_behind}
 use Rattle.papaya_finds.proofs.Replaces.{replaces_none}
 use Rattle.papaya_finds.proofs.Shaped.{placed_all, ahead_all, rows_store_none, rows_promote_none}
 use Rattle.papaya_finds.proofs.Shapes.{Shaped, all_shaped, all_of_calls}
+use Rattle.papaya_settles.specs.Given.Scenes.Held.{Held, IsAt}
+use Rattle.papaya_settles.specs.Given.Scenes.Scene.{Scene, slot_of}
+use Rattle.papaya_settles.specs.Given.Scenes.Stepping.{StepLeads, scene_after}
 
 -- such blocks stay what they are
 lasting_of_map : (r : Role) → IsOfMap r → IsLasting r
@@ -95,7 +95,7 @@ rows_find_map own map _ m (IsStill effects calm) = still_find map (Some own) eff
 rows_find_map own map _ m (Puts n t) = (tt, tt)
 rows_find_map own map _ m (Retires x) = (tt, tt)
 
-module _ {K V S : Type 0} (same : K → K → Bool) (hash : K → ℕ) (name : ℕ → List ℕ) (m : Moment K V) (known : Known) (s : Scene K V) (old new : Executor K V S) (at : IsAt same hash old s)
+module _ {K V : Type 0} (same : K → K → Bool) (hash : ℕ → K → ℕ) (name : ℕ → List ℕ) (m : Moment K V) (known : Known) (s : Scene K V) (old new : Held K V) (at : IsAt same hash old s)
     (whole : ShowsWhole same name m known s) (map i : ℕ) (u : UnderWay K V K) (here : s.calls map i ≡ Some u) (said : Progress (Node K V)) (leads : StepLeads same hash i said s old new) where
   abbrev to : WentTo same hash name m known s old new at whole.all.shown map i u here said leads
   to = went_to same hash name m known s old new at whole.all.shown map i u here said leads
@@ -104,16 +104,16 @@ module _ {K V S : Type 0} (same : K → K → Bool) (hash : K → ℕ) (name : �
   NoRow = OfNoRow same hash name m known s old new at whole.all.shown map i u here said leads
 
   abbrev effects : List Effect
-  effects = effects_of (acts.Call i map) known new.memory.changed
+  effects = effects_of (acts.Call i map) known new.changed
 
   abbrev known2 : Known
-  known2 = known_after (acts.Call i map) new.memory.changed known
+  known2 = known_after (acts.Call i map) new.changed known
 
   abbrev then_at : Scene K V
-  then_at = scene_after same hash s old new map i to.0 u to.1 said to.4
+  then_at = scene_after same s old new map i to.0 u to.1 said to.4
 
   after : ShowsWhole same name (with_effects (Some (name i)) (Some map) effects m) known2 then_at
-  after = calls_keep_whole K V S same hash name m known s old new at whole map i u here said leads
+  after = calls_keep_whole K V same hash name m known s old new at whole map i u here said leads
 
   -- the call, by the moment
   its_call : (c : CallThere K V) × (call_of (name i) m ≡ Some c) × (c.map ≡ map) × IsCalled same u c.call
@@ -127,28 +127,28 @@ module _ {K V S : Type 0} (same : K → K → Bool) (hash : K → ℕ) (name : �
     pub on_map : AtEachEffect (FindsMap map) (Some (name i)) (Some map) effects m
     pub stores : (n : ℕ) (sp : Spot) → effects ≡ effect.Stored n sp ∷ [] → c.replacing ≡ None
     pub promotes : (t : Table) → effects ≡ effect.Promoted t ∷ [] → none_before map t.turn m ≡ true
-    pub takes : (b : ℕ) → new.memory.changed ≡ changed.Took b → IsOfMap (known.roles b) → ⊥
+    pub takes : (b : ℕ) → new.changed ≡ changed.Took b → IsOfMap (known.roles b) → ⊥
     pub one : AtEachEffect (StoresOne (Some (name i))) (Some (name i)) (Some map) effects m
 
   -- a step that is none of a row
   module _ (own : NoRow u to.4.did) where
-    theirs : StoreTheirs s.world.memory new.memory.changed (name i) map effects m
-    theirs = (calls_store_theirs K V S same hash name m known s old new at whole.all map i u here said leads own).0
+    theirs : StoreTheirs s.world.memory new.changed (name i) map effects m
+    theirs = (calls_store_theirs K V same hash name m known s old new at whole.all map i u here said leads own).0
 
     finds_map : AtEachEffect (FindsMap map) (Some (name i)) (Some map) effects m
-    finds_map = (calls_store_theirs K V S same hash name m known s old new at whole.all map i u here said leads own).1
+    finds_map = (calls_store_theirs K V same hash name m known s old new at whole.all map i u here said leads own).1
 
     stood : (after_it : Standing K) × (then_at.maps map ≡ Some after_it)
     stood = let it = (step_shown same hash name m known s old new at whole.all.shown map i u here said leads own theirs).1.stood map to.0 to.2 in (it.0, it.1)
 
     abbrev Has : Option (CallThere K V) → Effect → Type 0
-    Has o f = HasPair s.world.memory (named_now new.memory.changed) o f
+    Has o f = HasPair s.world.memory (named_now new.changed) o f
 
     own_stores : (n : ℕ) (sp : Spot) → effects ≡ effect.Stored n sp ∷ [] → c.replacing ≡ None
     own_stores n sp is =
         let first = (subst (λ (l : List Effect). AtEachEffect (λ v f. Has (acting (Some (name i)) v) f) (Some (name i)) (Some map) l m) is theirs).0 in
-        let has : HasToStore s.world.memory (named_now new.memory.changed) (Some c) n =
-        subst (λ (o : Option (CallThere K V)). HasToStore s.world.memory (named_now new.memory.changed) o n) its_call.1 first in
+        let has : HasToStore s.world.memory (named_now new.changed) (Some c) n =
+        subst (λ (o : Option (CallThere K V)). HasToStore s.world.memory (named_now new.changed) o n) its_call.1 first in
         replaces_none same (whole.all.shown.number map) to.0.chart.stored known u c.call c refl its_call.3 (whole.all.asked.each map i u here to.0 to.2 c its_call.1) has.0 has.1 n has.2
 
     own_promotes : (t : Table) → effects ≡ effect.Promoted t ∷ [] → none_before map t.turn m ≡ true
@@ -160,7 +160,7 @@ module _ {K V S : Type 0} (same : K → K → Bool) (hash : K → ℕ) (name : �
         none_behind same hash name (name i) map t on m before.there before.is known2 then_at new to.5 shown_then lying_then stood.0 stood.1
 
     -- what is taken away is noted no more, and such a block stays what it was
-    own_takes : (b : ℕ) → new.memory.changed ≡ changed.Took b → IsOfMap (known.roles b) → ⊥
+    own_takes : (b : ℕ) → new.changed ≡ changed.Took b → IsOfMap (known.roles b) → ⊥
     own_takes b is of_map =
         let gone : known2.roles b ≡ role.Free =
         ap (λ (x : Changed). (known_after (acts.Call i map) x known).roles b) is ∙ put_here b role.Free known.roles b refl in
@@ -173,23 +173,23 @@ module _ {K V S : Type 0} (same : K → K → Bool) (hash : K → ℕ) (name : �
       stores = own_stores;
       promotes = own_promotes;
       takes = own_takes;
-      one = each_so (λ v f. Has (acting (Some (name i)) v) f) (StoresOne (Some (name i))) (λ v f has. has_one s.world.memory (named_now new.memory.changed) (name i) v f has) (Some (name i)) (Some map)
+      one = each_so (λ v f. Has (acting (Some (name i)) v) f) (StoresOne (Some (name i))) (λ v f has. has_one s.world.memory (named_now new.changed) (name i) v f has) (Some (name i)) (Some map)
           effects m theirs;
     }
 
   -- a step of a row
   module _ (other : NoRow u to.4.did → ⊥) where
-    takes_none : TakesNone new.memory.changed
-    takes_none = (rows_hand_theirs K V S same hash name m known s old new at whole.all map i u here said leads other).1
+    takes_none : TakesNone new.changed
+    takes_none = (rows_hand_theirs K V same hash name m known s old new at whole.all map i u here said leads other).1
 
     each : Together V same to.0.hash same to.0.setting slot_of s.world to.0.chart to.0.blocks to.0.sights (s.calls map)
     each = at.together.makings.standing.each map to.0 to.2
 
-    by_step : (w2 : World (Node K V)) → w2.memory ≡ new.memory.memory → IsOneStep to.0.setting i s.world w2 → HandsOn effects
+    by_step : (w2 : World (Node K V)) → w2.memory ≡ new.memory → IsOneStep to.0.setting i s.world w2 → HandsOn effects
     by_step w2 memory happened =
-        (row_done i map m known s.world w2 whole.all.shown.blocks (one_step_leaves to.0.setting i s.world w2 each.ground.came happened) new.memory.changed
-        (subst (λ (n : Mem (Node K V)). LeavesBy s.world.memory n new.memory.changed) (sym memory)
-        (operated_leaves s.world.memory new.memory.memory new.memory.changed (made_so same hash name m known s old new at whole.all.shown map i u here said leads))) takes_none).hands
+        (row_done i map m known s.world w2 whole.all.shown.blocks (one_step_leaves to.0.setting i s.world w2 each.ground.came happened) new.changed
+        (subst (λ (n : Mem (Node K V)). LeavesBy s.world.memory n new.changed) (sym memory)
+        (operated_leaves s.world.memory new.memory new.changed (made_so same hash name m known s old new at whole.all.shown map i u here said leads))) takes_none).hands
 
     by_kind : (x : UnderWay K V K) (did : DidSo same hash name m known s old new at whole.all.shown map i u here said leads x) → (NoRow x did → ⊥) → HandsOn effects
     by_kind (OnKey x) (p2, end, machine_is, told_is, inl step) not_row = absurd (not_row tt)
@@ -218,13 +218,13 @@ module _ {K V S : Type 0} (same : K → K → Bool) (hash : K → ℕ) (name : �
     | inr other ↦ row_single other
   ]
 
-  no_bucket : (bucket : ℕ) (had : Bool) → new.memory.changed ≡ changed.Roomed bucket had → ⊥
+  no_bucket : (bucket : ℕ) (had : Bool) → new.changed ≡ changed.Roomed bucket had → ⊥
   no_bucket bucket had is =
-      no_room same same hash old.memory.memory new.memory.memory new.memory.changed to.1 said (machine_of u) (call_unmade same hash name m known s old at whole.all.shown map i u here) to.3
+      no_room same same to.0.hash old.memory new.memory new.changed to.1 said (machine_of u) (call_unmade same hash name m known s old at whole.all.shown map i u here) to.3
       bucket had is
 
   shaped : Shaped effects
-  shaped = all_shaped i map known new.memory.changed no_bucket single.takes
+  shaped = all_shaped i map known new.changed no_bucket single.takes
 
   pub do_theirs : list_all is_call_effect effects ≡ true
   do_theirs = all_of_calls effects shaped
@@ -236,15 +236,15 @@ module _ {K V S : Type 0} (same : K → K → Bool) (hash : K → ℕ) (name : �
   find_places = (
     single.on_map,
     placed_all (name i) map m c its_call.1 effects shaped single.stores
-        (calls_find_places K V S same hash name m known s old new at whole.all.shown whole.places whole.blocks map i u here said leads),
+        (calls_find_places K V same hash name m known s old new at whole.all.shown whole.places whole.blocks map i u here said leads),
     ahead_all (name i) map m c its_call.1 effects shaped single.promotes,
   )
 
-pub steps_do_theirs : (K V S : Type 0) (same : K → K → Bool) (hash : K → ℕ) → StepsDoTheirs K V S same hash
-steps_do_theirs K V S same hash name m known s old new at whole map i u here said leads = do_theirs same hash name m known s old new at whole map i u here said leads
+pub steps_do_theirs : (K V : Type 0) (same : K → K → Bool) (hash : ℕ → K → ℕ) → StepsDoTheirs K V same hash
+steps_do_theirs K V same hash name m known s old new at whole map i u here said leads = do_theirs same hash name m known s old new at whole map i u here said leads
 
-pub steps_find_places : (K V S : Type 0) (same : K → K → Bool) (hash : K → ℕ) → StepsFindPlaces K V S same hash
-steps_find_places K V S same hash name m known s old new at whole map i u here said leads = find_places same hash name m known s old new at whole map i u here said leads
+pub steps_find_places : (K V : Type 0) (same : K → K → Bool) (hash : ℕ → K → ℕ) → StepsFindPlaces K V same hash
+steps_find_places K V same hash name m known s old new at whole map i u here said leads = find_places same hash name m known s old new at whole map i u here said leads
 
-pub steps_store_one : (K V S : Type 0) (same : K → K → Bool) (hash : K → ℕ) → StepsStoreOne K V S same hash
-steps_store_one K V S same hash name m known s old new at whole map i u here said leads = store_one same hash name m known s old new at whole map i u here said leads
+pub steps_store_one : (K V : Type 0) (same : K → K → Bool) (hash : ℕ → K → ℕ) → StepsStoreOne K V same hash
+steps_store_one K V same hash name m known s old new at whole map i u here said leads = store_one same hash name m known s old new at whole map i u here said leads

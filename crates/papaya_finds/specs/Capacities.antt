@@ -14,14 +14,14 @@ use Rattle.papaya_named.specs.Places.{first_places}
 use Rattle.papaya_settles.specs.Given.Effects.Effects.{effects_of}
 use Rattle.papaya_settles.specs.Given.Effects.Known.{Known}
 use Rattle.papaya_settles.specs.Given.Effects.declared.acting.Acting.TheVariants as acts
-use Rattle.papaya_settles.specs.Given.Executor.IsAt.{Scene, at_first}
-use Rattle.papaya_settles.specs.Given.Executor.Making.{MakingLeads}
-use Rattle.papaya_settles.specs.Given.Executor.Stepping.{StepLeads, scene_after}
-use Rattle.papaya_settles.specs.Given.Executor.declared.executor.Executor.{Executor}
 use Rattle.papaya_settles.specs.Given.Finishes.Makings.{Beginning}
 use Rattle.papaya_settles.specs.Given.Finishes.Maps.{Standing, IsSameMap}
 use Rattle.papaya_settles.specs.Given.Others.Makings.{making_after}
 use Rattle.papaya_finds.specs.Linking.{IsMadeFor}
+use Rattle.papaya_settles.specs.Given.Scenes.Held.{Held}
+use Rattle.papaya_settles.specs.Given.Scenes.Making.{MakingLeads}
+use Rattle.papaya_settles.specs.Given.Scenes.Scene.{Scene, at_first}
+use Rattle.papaya_settles.specs.Given.Scenes.Stepping.{StepLeads, scene_after}
 
 abbrev pub ShowsCapacities : {K V : Type 0} → Moment K V → Scene K V → Type 0
 ShowsCapacities {K} m s = (map : ℕ) (standing : Standing K) → s.maps map ≡ Some standing → IsMadeFor map m standing.setting
@@ -57,19 +57,19 @@ module _ (K V : Type 0) where
   abbrev pub SameMapsStood : Type 0
   SameMapsStood = (s t : Scene K V) → ((n : ℕ) → IsSameMap (s.maps n) (t.maps n)) → StoodSo s t
 
-module _ (K V S : Type 0) (same : K → K → Bool) (hash : K → ℕ) where
+module _ (K V : Type 0) (same : K → K → Bool) (hash : ℕ → K → ℕ) where
   -- after each step of a call,
   abbrev pub CallsKeepCapacities : Type 0
   CallsKeepCapacities =
-      (name : ℕ → List ℕ) (m : Moment K V) (known : Known) (s : Scene K V) (old new : Executor K V S) → ShowsCapacities m s
+      (name : ℕ → List ℕ) (m : Moment K V) (known : Known) (s : Scene K V) (old new : Held K V) → ShowsCapacities m s
       → (map i : ℕ) (u : UnderWay K V K) (here : s.calls map i ≡ Some u) (said : Progress (Node K V)) (leads : StepLeads same hash i said s old new)
       → (let to = leads map u here in
-      ShowsCapacities (with_effects (Some (name i)) (Some map) (effects_of (acts.Call i map) known new.memory.changed) m) (scene_after same hash s old new map i to.0 u to.1 said to.4))
+      ShowsCapacities (with_effects (Some (name i)) (Some map) (effects_of (acts.Call i map) known new.changed) m) (scene_after same s old new map i to.0 u to.1 said to.4))
 
   -- and of the making of a map that began with a setting for its capacity.
   abbrev pub MakingsKeepCapacities : Type 0
   MakingsKeepCapacities =
-      (m : Moment K V) (known : Known) (s : Scene K V) (old new : Executor K V S) → ShowsCapacities m s
+      (m : Moment K V) (known : Known) (s : Scene K V) (old new : Held K V) → ShowsCapacities m s
       → (i : ℕ) (told : Making Setting) (leads : MakingLeads same hash i told s old new) (b : Beginning K) (here : s.makers i ≡ Some b) (of : Option ℕ) → IsMadeFor b.map m b.given
       → (let to = leads b here in
-      ShowsCapacities (with_effects None of (effects_of (acts.Making b.map) known new.memory.changed) m) (making_after same hash s old new i b to.0 to.2.step.w2 told to.3))
+      ShowsCapacities (with_effects None of (effects_of (acts.Making b.map) known new.changed) m) (making_after same hash s old new i b to.0 to.2.step.w2 told to.3))

@@ -19,7 +19,7 @@ pub use Rattle.papaya_settles.specs.Given.Finishes
 pub use Rattle.papaya_settles.specs.Given.Runs
 pub use Rattle.papaya_settles.specs.Given.Schedules
 pub use Rattle.papaya_settles.specs.Given.Effects
-pub use Rattle.papaya_settles.specs.Given.Executor
+pub use Rattle.papaya_settles.specs.Given.Scenes
 pub use Rattle.papaya_settles.specs.Given.Follows
 pub use Rattle.papaya_settles.specs.Given.Hands
 pub use Rattle.papaya_settles.specs.Given.Others

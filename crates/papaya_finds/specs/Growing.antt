@@ -24,16 +24,16 @@ use Rattle.papaya_settles.specs.Given.Callers.Together.{CallOnKey, UnderWay, OnK
 use Rattle.papaya_settles.specs.Given.Effects.Effects.{effects_of}
 use Rattle.papaya_settles.specs.Given.Effects.Known.{Known}
 use Rattle.papaya_settles.specs.Given.Effects.declared.acting.Acting.TheVariants as acts
-use Rattle.papaya_settles.specs.Given.Executor.Beginning.{Begins}
-use Rattle.papaya_settles.specs.Given.Executor.IsAt.{Scene, IsAt, at_first}
-use Rattle.papaya_settles.specs.Given.Executor.Replying.{scene_with}
-use Rattle.papaya_settles.specs.Given.Executor.Stepping.{StepLeads, scene_after}
-use Rattle.papaya_settles.specs.Given.Executor.declared.executor.Executor.{Executor}
 use Rattle.papaya_settles.specs.Given.Finishes.Machines.{machine_of}
 use Rattle.papaya_settles.specs.Given.Finishes.Maps.{Standing, with_call as with_in}
 use Rattle.papaya_settles.specs.Given.Moments.Whole.{ShowsWhole}
 use Rattle.papaya_finds.specs.Shaping.{IsFirstMaking, IsNextMaking}
 use Rattle.papaya_finds.specs.Within.{many_of}
+use Rattle.papaya_settles.specs.Given.Scenes.Beginning.{Begins}
+use Rattle.papaya_settles.specs.Given.Scenes.Held.{Held, IsAt}
+use Rattle.papaya_settles.specs.Given.Scenes.Replying.{scene_with}
+use Rattle.papaya_settles.specs.Given.Scenes.Scene.{Scene, at_first}
+use Rattle.papaya_settles.specs.Given.Scenes.Stepping.{StepLeads, scene_after}
 
 -- It has what it stores there: it began with that; or it asks what to do there, and was told what to store.
 abbrev pub HasForNone : {K V Q : Type 0} → KeyCall K V Q → Type 0
@@ -99,19 +99,19 @@ module _ (K V : Type 0) where
   abbrev pub CallsGoGrowing : Type 0
   CallsGoGrowing = (m : Moment K V) (s : Scene K V) → ShowsGrowing m s → (map i : ℕ) → ShowsGrowing m (record s { calls = with_in s.calls map i None })
 
-module _ (K V S : Type 0) (same : K → K → Bool) (hash : K → ℕ) where
+module _ (K V : Type 0) (same : K → K → Bool) (hash : ℕ → K → ℕ) where
   -- The promise, of a step of a call, whichever it is, and whether of a row or none: so it is of each call after it.
   abbrev pub CallsKeepGrowing : Type 0
   CallsKeepGrowing =
-      (name : ℕ → List ℕ) (m : Moment K V) (known : Known) (s : Scene K V) (old new : Executor K V S) → IsAt same hash old s → ShowsWhole same name m known s → ShowsGrowing m s
+      (name : ℕ → List ℕ) (m : Moment K V) (known : Known) (s : Scene K V) (old new : Held K V) → IsAt same hash old s → ShowsWhole same name m known s → ShowsGrowing m s
       → (map i : ℕ) (u : UnderWay K V K) (here : s.calls map i ≡ Some u) (said : Progress (Node K V)) (leads : StepLeads same hash i said s old new)
       → (let to = leads map u here in
-      ShowsGrowing (with_effects (Some (name i)) (Some map) (effects_of (acts.Call i map) known new.memory.changed) m) (scene_after same hash s old new map i to.0 u to.1 said to.4))
+      ShowsGrowing (with_effects (Some (name i)) (Some map) (effects_of (acts.Call i map) known new.changed) m) (scene_after same s old new map i to.0 u to.1 said to.4))
 
   -- And of a call on one key: for each block for which it asks it may ask, at whatever moments, while it copies no pairs.
   abbrev pub KeyCallsMayAsk : Type 0
   KeyCallsMayAsk =
-      (name : ℕ → List ℕ) (m : Moment K V) (known : Known) (s : Scene K V) (old new : Executor K V S) → IsAt same hash old s → ShowsWhole same name m known s → ShowsGrowing m s
+      (name : ℕ → List ℕ) (m : Moment K V) (known : Known) (s : Scene K V) (old new : Held K V) → IsAt same hash old s → ShowsWhole same name m known s → ShowsGrowing m s
       → (map i : ℕ) (u : CallOnKey K V K) (here : s.calls map i ≡ Some (OnKey u)) (said : Progress (Node K V)) (leads : StepLeads same hash i said s old new)
       → (IsCopying u.call.stands → ⊥) → (terms : Terms) (moments : List (Moment K V))
-      → FindAsked terms moments (name i) map (effects_of (acts.Call i map) known new.memory.changed) m
+      → FindAsked terms moments (name i) map (effects_of (acts.Call i map) known new.changed) m

@@ -22,14 +22,14 @@ use Rattle.papaya_settles.specs.Given.Callers.Together.{CallOnKey, UnderWay, OnK
 use Rattle.papaya_settles.specs.Given.Effects.Effects.{effects_of}
 use Rattle.papaya_settles.specs.Given.Effects.Known.{Known}
 use Rattle.papaya_settles.specs.Given.Effects.declared.acting.Acting.TheVariants as acts
-use Rattle.papaya_settles.specs.Given.Executor.IsAt.{Scene, IsAt}
-use Rattle.papaya_settles.specs.Given.Executor.Stepping.{StepLeads}
-use Rattle.papaya_settles.specs.Given.Executor.declared.executor.Executor.{Executor}
 use Rattle.papaya_settles.specs.Given.Moments.Whole.{ShowsWhole}
 use Rattle.papaya_owes.specs.Tables.{ShowsTables}
 use Rattle.papaya_settles.specs.Given.Follows.Maps.{table_of}
 use Rattle.papaya_finds.specs.Growing.{ShowsGrowing}
 use Rattle.papaya_finds.specs.Within.{many_of}
+use Rattle.papaya_settles.specs.Given.Scenes.Held.{Held, IsAt}
+use Rattle.papaya_settles.specs.Given.Scenes.Scene.{Scene}
+use Rattle.papaya_settles.specs.Given.Scenes.Stepping.{StepLeads}
 
 module _ {K V : Type 0} (terms : Terms) where
   -- what is left of an effect that links a table: it follows
@@ -58,10 +58,10 @@ abbrev pub IsMadeFor : {K V : Type 0} → ℕ → Moment K V → Setting → Typ
 IsMadeFor map m setting = Has (entries_of (capacity_or (map_at map m))) setting.initial
 
 -- The promise.
-abbrev pub KeyCallsLink : (K V S : Type 0) (same : K → K → Bool) (hash : K → ℕ) → Type 0
-KeyCallsLink K V S same hash =
-    (name : ℕ → List ℕ) (m : Moment K V) (known : Known) (s : Scene K V) (old new : Executor K V S) → IsAt same hash old s → ShowsWhole same name m known s → ShowsTables name m known s → ShowsGrowing m s
+abbrev pub KeyCallsLink : (K V : Type 0) (same : K → K → Bool) (hash : ℕ → K → ℕ) → Type 0
+KeyCallsLink K V same hash =
+    (name : ℕ → List ℕ) (m : Moment K V) (known : Known) (s : Scene K V) (old new : Held K V) → IsAt same hash old s → ShowsWhole same name m known s → ShowsTables name m known s → ShowsGrowing m s
     → (map i : ℕ) (u : CallOnKey K V K) (here : s.calls map i ≡ Some (OnKey u)) (said : Progress (Node K V)) (leads : StepLeads same hash i said s old new)
     → (IsCopying u.call.stands → ⊥) → IsMadeFor map m (leads map (OnKey u) here).0.setting → (terms : Terms) (moments : List (Moment K V))
     → HasFoundFull map (many_of map m) (m ∷ moments) u.call u.call.stands
-    → FindShapes terms moments (name i) map (effects_of (acts.Call i map) known new.memory.changed) m
+    → FindShapes terms moments (name i) map (effects_of (acts.Call i map) known new.changed) m

@@ -9,9 +9,6 @@ use Rattle.papaya_settles.specs.Given.Effects.Effects.{effects_of, known_after}
 use Rattle.papaya_settles.specs.Given.Effects.Known.{Known, nothing_known}
 use Rattle.papaya_settles.specs.Given.Effects.declared.acting.Acting.TheVariants as acts
 use Rattle.papaya_settles.specs.Given.Effects.declared.role.Role.TheVariants as role
-use Rattle.papaya_settles.specs.Given.Executor.IsAt.{Scene, IsAt, at_first}
-use Rattle.papaya_settles.specs.Given.Executor.Stepping.{StepLeads, scene_after}
-use Rattle.papaya_settles.specs.Given.Executor.declared.executor.Executor.{Executor}
 use Rattle.papaya_settles.specs.Given.Finishes.Machines.{machine_of}
 use Rattle.papaya_settles.specs.Given.Moments.Whole.{ShowsWhole}
 use Rattle.papaya_settles.specs.Given.Schedules.Moment.{Moment}
@@ -19,6 +16,9 @@ use Rattle.papaya_settles.specs.Due.{ToPut, due_in_row, OwnAreMade}
 use Rattle.papaya_settles.specs.Entries.{ShowsEntries}
 use Rattle.papaya_settles.specs.Hand.{ShowsOwed}
 use Rattle.papaya_finds.specs.Waits.{waits_in, ShowsWaits, FindBehind}
+use Rattle.papaya_settles.specs.Given.Scenes.Held.{Held, IsAt}
+use Rattle.papaya_settles.specs.Given.Scenes.Scene.{Scene, at_first}
+use Rattle.papaya_settles.specs.Given.Scenes.Stepping.{StepLeads, scene_after}
 
 -- the place is in the block that is noted as the table of the map with the turn before this one
 abbrev pub IsBehindNext : Known → ℕ → At → Option ℕ → Type 0
@@ -43,20 +43,20 @@ module _ (K V : Type 0) where
       → (x : UnderWay K V K) × (s.calls map i ≡ Some x) × (machine_of x ≡ machine_of u) × ((b : ℕ) → IsWordOf b place → known2.roles b ≡ known.roles b))
       → ShowsPuts known2 t
 
-module _ (K V S : Type 0) (same : K → K → Bool) (hash : K → ℕ) where
+module _ (K V : Type 0) (same : K → K → Bool) (hash : ℕ → K → ℕ) where
   -- The promise, of a step of a call, whichever it is: so it is after it.
   abbrev pub CallsKeepPuts : Type 0
   CallsKeepPuts =
-      (name : ℕ → List ℕ) (m : Moment K V) (known : Known) (s : Scene K V) (old new : Executor K V S)
+      (name : ℕ → List ℕ) (m : Moment K V) (known : Known) (s : Scene K V) (old new : Held K V)
       → IsAt same hash old s → ShowsWhole same name m known s → ShowsEntries s → OwnAreMade known s.world → ShowsPuts known s
       → (map i : ℕ) (u : UnderWay K V K) (here : s.calls map i ≡ Some u) (said : Progress (Node K V)) (leads : StepLeads same hash i said s old new)
       → (let to = leads map u here in
-      ShowsPuts (known_after (acts.Call i map) new.memory.changed known) (scene_after same hash s old new map i to.0 u to.1 said to.4))
+      ShowsPuts (known_after (acts.Call i map) new.changed known) (scene_after same s old new map i to.0 u to.1 said to.4))
 
   -- So a pair that it puts behind a table is put behind that of the map just before its own.
   abbrev pub CallsPutBehind : Type 0
   CallsPutBehind =
-      (name : ℕ → List ℕ) (m : Moment K V) (known : Known) (s : Scene K V) (old new : Executor K V S)
+      (name : ℕ → List ℕ) (m : Moment K V) (known : Known) (s : Scene K V) (old new : Held K V)
       → IsAt same hash old s → ShowsWhole same name m known s → ShowsEntries s → OwnAreMade known s.world → ShowsOwed name m known s → ShowsWaits name m s → ShowsPuts known s
       → (map i : ℕ) (u : UnderWay K V K) (here : s.calls map i ≡ Some u) (said : Progress (Node K V)) (leads : StepLeads same hash i said s old new)
-      → FindBehind (name i) map (effects_of (acts.Call i map) known new.memory.changed) m
+      → FindBehind (name i) map (effects_of (acts.Call i map) known new.changed) m

@@ -27,11 +27,11 @@ use Rattle.papaya_settles.specs.Given.Callers.Together.{ForRoom}
 use Rattle.papaya_settles.specs.Given.Effects.Effects.{effects_of}
 use Rattle.papaya_settles.specs.Given.Effects.Known.{Known}
 use Rattle.papaya_settles.specs.Given.Effects.declared.acting.Acting.TheVariants as acts
-use Rattle.papaya_settles.specs.Given.Executor.IsAt.{Scene, IsAt}
-use Rattle.papaya_settles.specs.Given.Executor.Stepping.{StepLeads}
-use Rattle.papaya_settles.specs.Given.Executor.declared.executor.Executor.{Executor}
 use Rattle.papaya_settles.specs.Given.Moments.Whole.{ShowsWhole}
 use Rattle.papaya_finds.specs.Growing.{FindAsked}
+use Rattle.papaya_settles.specs.Given.Scenes.Held.{Held, IsAt}
+use Rattle.papaya_settles.specs.Given.Scenes.Scene.{Scene}
+use Rattle.papaya_settles.specs.Given.Scenes.Stepping.{StepLeads}
 
 module _ {K V : Type 0} (of : ℕ) (moments : List (Moment K V)) where
   -- it has counted so many pairs, by these moments, and with so many more a table can be had
@@ -70,12 +70,12 @@ module _ (K V : Type 0) where
       (of : ℕ) (moments : List (Moment K V)) (x : Moment K V) (p : Reserve) (q : Reserving) → ReservesAt of moments p q
       → ReservesAt of (x ∷ moments) p q × ReservesAt of (moments ++ x ∷ []) p q
 
-module _ (K V S : Type 0) (same : K → K → Bool) (hash : K → ℕ) where
+module _ (K V : Type 0) (same : K → K → Bool) (hash : ℕ → K → ℕ) where
   -- So for each block for which it asks in a step it may ask, unless it makes the first table of its map.
   abbrev pub RoomsMayAsk : Type 0
   RoomsMayAsk =
-      (name : ℕ → List ℕ) (m : Moment K V) (known : Known) (s : Scene K V) (old new : Executor K V S) → IsAt same hash old s → ShowsWhole same name m known s
+      (name : ℕ → List ℕ) (m : Moment K V) (known : Known) (s : Scene K V) (old new : Held K V) → IsAt same hash old s → ShowsWhole same name m known s
       → (map i : ℕ) (r : CallForRoom) (here : s.calls map i ≡ Some (ForRoom r)) (said : Said (Node K V)) (leads : StepLeads same hash i said s old new)
       → (terms : Terms) (moments : List (Moment K V)) → suc r.reserve.setting.mask ≡ shards_of terms → (c : CallThere K V) → call_of (name i) m ≡ Some c → c.call ≡ ToReserve r.reserve.additional
       → ReservesAt map moments r.reserve r.reserve.stands → (MakesFirst r.reserve.stands → ⊥)
-      → FindAsked terms moments (name i) map (effects_of (acts.Call i map) known new.memory.changed) m
+      → FindAsked terms moments (name i) map (effects_of (acts.Call i map) known new.changed) m

@@ -13,9 +13,6 @@ use Rattle.papaya_settles.specs.Given.Callers.Together.{UnderWay}
 use Rattle.papaya_settles.specs.Given.Effects.Effects.{effects_of}
 use Rattle.papaya_settles.specs.Given.Effects.Known.{Known}
 use Rattle.papaya_settles.specs.Given.Effects.declared.acting.Acting.TheVariants as acts
-use Rattle.papaya_settles.specs.Given.Executor.IsAt.{Scene, IsAt, slot_of}
-use Rattle.papaya_settles.specs.Given.Executor.Stepping.{StepLeads}
-use Rattle.papaya_settles.specs.Given.Executor.declared.executor.Executor.{Executor}
 use Rattle.papaya_settles.specs.Given.Follows.Finds.{FindsMap}
 use Rattle.papaya_settles.specs.Given.Moments.Whole.{ShowsWhole}
 use Rattle.papaya_owes.specs.Looking.{ShowsLooking}
@@ -26,6 +23,9 @@ use Rattle.papaya_settles.specs.Counts.{ShowsCounts}
 use Rattle.papaya_finds.specs.Joined.{FindParts}
 use Rattle.papaya_finds.specs.Life.{StoresOne}
 use Rattle.papaya_finds.specs.Parts.{FindPlacesOf, FindAhead}
+use Rattle.papaya_settles.specs.Given.Scenes.Held.{Held, IsAt}
+use Rattle.papaya_settles.specs.Given.Scenes.Scene.{Scene, slot_of}
+use Rattle.papaya_settles.specs.Given.Scenes.Stepping.{StepLeads}
 
 -- all that a moment shows of what calls under way have made, have to count, and are
 pub record ShowsWork {K V : Type 0} (same : K → K → Bool) (name : ℕ → List ℕ) (m : Moment K V) (known : Known) (s : Scene K V) : Type 0 where
@@ -36,35 +36,35 @@ pub record ShowsWork {K V : Type 0} (same : K → K → Bool) (name : ℕ → Li
   pub looking : ShowsLooking name m s
   pub counts : ShowsCounts name m s
 
-module _ (K V S : Type 0) (same : K → K → Bool) (hash : K → ℕ) where
+module _ (K V : Type 0) (same : K → K → Bool) (hash : ℕ → K → ℕ) where
   -- The promises, of a step of a call, whether of a row or none: each of its effects is one of a call,
   abbrev pub StepsDoTheirs : Type 0
   StepsDoTheirs =
-      (name : ℕ → List ℕ) (m : Moment K V) (known : Known) (s : Scene K V) (old new : Executor K V S) → IsAt same hash old s → ShowsWhole same name m known s
+      (name : ℕ → List ℕ) (m : Moment K V) (known : Known) (s : Scene K V) (old new : Held K V) → IsAt same hash old s → ShowsWhole same name m known s
       → (map i : ℕ) (u : UnderWay K V K) → s.calls map i ≡ Some u → (said : Progress (Node K V)) → StepLeads same hash i said s old new
-      → list_all is_call_effect (effects_of (acts.Call i map) known new.memory.changed) ≡ true
+      → list_all is_call_effect (effects_of (acts.Call i map) known new.changed) ≡ true
 
   -- and they find the map as they must; a pair is copied, and stored, where it may lie; and as the root
   -- comes to a table, each pair of the map lies there or behind it, or has its copy there.
   abbrev pub StepsFindPlaces : Type 0
   StepsFindPlaces =
-      (name : ℕ → List ℕ) (m : Moment K V) (known : Known) (s : Scene K V) (old new : Executor K V S) → IsAt same hash old s → ShowsWhole same name m known s
+      (name : ℕ → List ℕ) (m : Moment K V) (known : Known) (s : Scene K V) (old new : Held K V) → IsAt same hash old s → ShowsWhole same name m known s
       → (map i : ℕ) (u : UnderWay K V K) → s.calls map i ≡ Some u → (said : Progress (Node K V)) → StepLeads same hash i said s old new
-      → (let effects = effects_of (acts.Call i map) known new.memory.changed in
+      → (let effects = effects_of (acts.Call i map) known new.changed in
       AtEachEffect (FindsMap map) (Some (name i)) (Some map) effects m × FindPlacesOf (name i) map effects m × FindAhead (name i) map effects m)
 
   -- Each that stores a pair stores one, which the call had to store.
   abbrev pub StepsStoreOne : Type 0
   StepsStoreOne =
-      (name : ℕ → List ℕ) (m : Moment K V) (known : Known) (s : Scene K V) (old new : Executor K V S) → IsAt same hash old s → ShowsWhole same name m known s
+      (name : ℕ → List ℕ) (m : Moment K V) (known : Known) (s : Scene K V) (old new : Held K V) → IsAt same hash old s → ShowsWhole same name m known s
       → (map i : ℕ) (u : UnderWay K V K) → s.calls map i ≡ Some u → (said : Progress (Node K V)) → StepLeads same hash i said s old new
-      → AtEachEffect (StoresOne (Some (name i))) (Some (name i)) (Some map) (effects_of (acts.Call i map) known new.memory.changed) m
+      → AtEachEffect (StoresOne (Some (name i))) (Some (name i)) (Some map) (effects_of (acts.Call i map) known new.changed) m
 
   -- So they find all parts that are promised, where the guard of the call is on the slot of its caller, and the map has as many shards as the terms say.
   abbrev pub StepsFindParts : Type 0
   StepsFindParts =
-      (name : ℕ → List ℕ) (m : Moment K V) (known : Known) (s : Scene K V) (old new : Executor K V S) → IsAt same hash old s → ShowsWork same name m known s
+      (name : ℕ → List ℕ) (m : Moment K V) (known : Known) (s : Scene K V) (old new : Held K V) → IsAt same hash old s → ShowsWork same name m known s
       → (map i : ℕ) (u : UnderWay K V K) (here : s.calls map i ≡ Some u) (said : Progress (Node K V)) (leads : StepLeads same hash i said s old new)
       → (terms : Terms) → (leads map u here).0.setting.mask + 1 ≡ shards_of terms
       → (c : CallThere K V) → call_of (name i) m ≡ Some c → slot_of_guard c.guard m.there ≡ slot_of i
-      → (moments : List (Moment K V)) → FindParts terms moments (name i) map (effects_of (acts.Call i map) known new.memory.changed) m
+      → (moments : List (Moment K V)) → FindParts terms moments (name i) map (effects_of (acts.Call i map) known new.changed) m

@@ -29,10 +29,6 @@ use Rattle.papaya_settles.specs.Given.Callers.Together.{UnderWay}
 use Rattle.papaya_settles.specs.Given.Effects.Effects.{effects_of}
 use Rattle.papaya_settles.specs.Given.Effects.Known.{Known}
 use Rattle.papaya_settles.specs.Given.Effects.declared.acting.Acting.TheVariants as acts
-use Rattle.papaya_settles.specs.Given.Executor.IsAt.{Scene, IsAt, at_first}
-use Rattle.papaya_settles.specs.Given.Executor.Replying.{scene_with}
-use Rattle.papaya_settles.specs.Given.Executor.Stepping.{StepLeads, scene_after}
-use Rattle.papaya_settles.specs.Given.Executor.declared.executor.Executor.{Executor}
 use Rattle.papaya_settles.specs.Given.Finishes.Machines.{machine_of}
 use Rattle.papaya_settles.specs.Given.Follows.Calling.{NoneNamed}
 use Rattle.papaya_settles.specs.Given.Follows.Calls.{ShowsCalls}
@@ -44,6 +40,10 @@ use Rattle.papaya_settles.specs.Hand.{SameInHand, ShowsOwed}
 use Rattle.papaya_settles.specs.InHand.{pair_in_calling, pair_in_sweeping}
 use Rattle.papaya_finds.specs.Past.{HasLeftMaps, IsPastRoot, FindsOnward}
 use Rattle.papaya_finds.specs.Rest.{FindHanded}
+use Rattle.papaya_settles.specs.Given.Scenes.Held.{Held, IsAt}
+use Rattle.papaya_settles.specs.Given.Scenes.Replying.{scene_with}
+use Rattle.papaya_settles.specs.Given.Scenes.Scene.{Scene, at_first}
+use Rattle.papaya_settles.specs.Given.Scenes.Stepping.{StepLeads, scene_after}
 
 -- the turn of the table in which the pair of a disposal lies that may have to wait, as an older one may be the root still
 abbrev pub waits_in_disposing : Dispose → Disposing → Option ℕ
@@ -180,20 +180,20 @@ module _ (K V : Type 0) where
       (own : List ℕ) (map : ℕ) (effects : List Effect) (m : Moment K V) → FindPast own map effects m → FindBehind own map effects m → FindSpace own map effects m
       → FindHanded own map effects m
 
-module _ (K V S : Type 0) (same : K → K → Bool) (hash : K → ℕ) where
+module _ (K V : Type 0) (same : K → K → Bool) (hash : ℕ → K → ℕ) where
   -- The promises, of a step of a call, whichever it is, and whether of a row or none: it is so after it,
   abbrev pub CallsKeepWaits : Type 0
   CallsKeepWaits =
-      (name : ℕ → List ℕ) (m : Moment K V) (known : Known) (s : Scene K V) (old new : Executor K V S)
+      (name : ℕ → List ℕ) (m : Moment K V) (known : Known) (s : Scene K V) (old new : Held K V)
       → IsAt same hash old s → ShowsWhole same name m known s → ShowsEntries s → OwnAreMade known s.world → ShowsOwed name m known s → ShowsWaits name m s
       → (map i : ℕ) (u : UnderWay K V K) (here : s.calls map i ≡ Some u) (said : Progress (Node K V)) (leads : StepLeads same hash i said s old new)
       → (let to = leads map u here in
-      ShowsWaits name (with_effects (Some (name i)) (Some map) (effects_of (acts.Call i map) known new.memory.changed) m) (scene_after same hash s old new map i to.0 u to.1 said to.4))
+      ShowsWaits name (with_effects (Some (name i)) (Some map) (effects_of (acts.Call i map) known new.changed) m) (scene_after same s old new map i to.0 u to.1 said to.4))
 
   -- and what it hands over is past the root, or was copied past an older table.
   abbrev pub CallsHandPast : Type 0
   CallsHandPast =
-      (name : ℕ → List ℕ) (m : Moment K V) (known : Known) (s : Scene K V) (old new : Executor K V S)
+      (name : ℕ → List ℕ) (m : Moment K V) (known : Known) (s : Scene K V) (old new : Held K V)
       → IsAt same hash old s → ShowsWhole same name m known s → ShowsEntries s → OwnAreMade known s.world → ShowsOwed name m known s → ShowsWaits name m s
       → (map i : ℕ) (u : UnderWay K V K) (here : s.calls map i ≡ Some u) (said : Progress (Node K V)) (leads : StepLeads same hash i said s old new)
-      → FindPast (name i) map (effects_of (acts.Call i map) known new.memory.changed) m
+      → FindPast (name i) map (effects_of (acts.Call i map) known new.changed) m

@@ -27,11 +27,11 @@ ghost use Rattle.papaya_finds.specs.Waiting.{PlacedAtFirst, EffectsKeepPlaced, O
 /// and the tables of the call's map as they must: one that leaves the map is in it; a pair is copied to where a copy may lie, and stored where no pair of the map
 /// lies, or the one that it replaces; and as the root comes to a table, each pair of the map lies there or behind it, or has its copy there, so that none is left
 /// behind. Who stores a pair has one to store. So they find all that is promised of what the call has made, of what it counts, and of what it is.
-pub fn steps_find_theirs<K, V, S>()
-    ensures kinds { (same : K → K → Bool) (hash : K → ℕ) → StepsDoTheirs K V S same hash }
-    ensures places { (same : K → K → Bool) (hash : K → ℕ) → StepsFindPlaces K V S same hash }
-    ensures stores { (same : K → K → Bool) (hash : K → ℕ) → StepsStoreOne K V S same hash }
-    ensures parts { (same : K → K → Bool) (hash : K → ℕ) → StepsFindParts K V S same hash }
+pub fn steps_find_theirs<K, V>()
+    ensures kinds { (same : K → K → Bool) (hash : ℕ → K → ℕ) → StepsDoTheirs K V same hash }
+    ensures places { (same : K → K → Bool) (hash : ℕ → K → ℕ) → StepsFindPlaces K V same hash }
+    ensures stores { (same : K → K → Bool) (hash : ℕ → K → ℕ) → StepsStoreOne K V same hash }
+    ensures parts { (same : K → K → Bool) (hash : ℕ → K → ℕ) → StepsFindParts K V same hash }
 {}
 
 /// These parts, with what is left, make up all that an effect of a call must find, for each kind of effect: so it is for the effects of a step, of several steps,
@@ -124,7 +124,7 @@ pub fn all_waits_in_order<K, V>()
 /// where a call begins, goes on by a reply, or as a walk, and is under way no more; after each step of a call, whoever's; and as long as calls on one key are as they were, and no map has had
 /// fewer tables, which is so after any effects. So for each block for which such a call asks it may ask, while it copies no pairs: for its pair, as for a table, whether it gets it or not. The table that it
 /// links is the first of its map, of 32 places, or follows the newest by that one's length and a count of the pairs, in a map that was made for the capacity that the moment says.
-pub fn calls_grow_for_values<K, V, S>()
+pub fn calls_grow_for_values<K, V>()
     ensures begins { GrowingBegins K V }
     ensures stays { GrowingStays K V }
     ensures had { TablesHaveBeen K V }
@@ -132,9 +132,9 @@ pub fn calls_grow_for_values<K, V, S>()
     ensures told { CallsTakeGrowing K V }
     ensures walks { WalksGoOnGrowing K V }
     ensures gone { CallsGoGrowing K V }
-    ensures steps { (same : K → K → Bool) (hash : K → ℕ) → CallsKeepGrowing K V S same hash }
-    ensures asked { (same : K → K → Bool) (hash : K → ℕ) → KeyCallsMayAsk K V S same hash }
-    ensures linked { (same : K → K → Bool) (hash : K → ℕ) → KeyCallsLink K V S same hash }
+    ensures steps { (same : K → K → Bool) (hash : ℕ → K → ℕ) → CallsKeepGrowing K V same hash }
+    ensures asked { (same : K → K → Bool) (hash : ℕ → K → ℕ) → KeyCallsMayAsk K V same hash }
+    ensures linked { (same : K → K → Bool) (hash : ℕ → K → ℕ) → KeyCallsLink K V same hash }
 {}
 
 /// A pair that a call, on one key or a sweep, has taken out of its map and has in hand lies no further on than the root of the map; or it may have to wait, and lies in the table by which its disposal
@@ -142,43 +142,43 @@ pub fn calls_grow_for_values<K, V, S>()
 /// had, as after any effects that copy no pair which has left its map, and bring no root back. So a pair that a call retires is past the root; and one that it puts behind a table, which is there,
 /// was copied past an older one, in a map that grows in chunks. With that this table comes just before the pair's
 /// (`pairs_wait_just_before`), and has room, that is all that must be found where a pair is handed over.
-pub fn pairs_in_hand_are_past<K, V, S>()
+pub fn pairs_in_hand_are_past<K, V>()
     ensures begins { WaitsBegin K V }
     ensures stays { WaitsStay K V }
     ensures owed { WaitsFollowOwed K V }
     ensures effects { EffectsLeaveHeld K V }
     ensures begun { CallsBeginWaits K V }
     ensures goes_on { WaitsGoOn K V }
-    ensures steps { (same : K → K → Bool) (hash : K → ℕ) → CallsKeepWaits K V S same hash }
-    ensures past { (same : K → K → Bool) (hash : K → ℕ) → CallsHandPast K V S same hash }
+    ensures steps { (same : K → K → Bool) (hash : ℕ → K → ℕ) → CallsKeepWaits K V same hash }
+    ensures past { (same : K → K → Bool) (hash : ℕ → K → ℕ) → CallsHandPast K V same hash }
     ensures handed { PastIsHanded K V }
 {}
 
 /// A call whose row is to put the pair that it has in hand behind a table is to put it behind that of its map just before the one by which the disposal goes, and that is noted as such. So it is as a run
 /// begins, after each step of a call, whoever's, and as long as calls are to put what they were to put, and such tables are noted as they were. So a pair is put behind the table just before the one in which it lies.
-pub fn pairs_wait_just_before<K, V, S>()
+pub fn pairs_wait_just_before<K, V>()
     ensures begins { PutsBegin K V }
     ensures stays { PutsStay K V }
-    ensures steps { (same : K → K → Bool) (hash : K → ℕ) → CallsKeepPuts K V S same hash }
-    ensures behind { (same : K → K → Bool) (hash : K → ℕ) → CallsPutBehind K V S same hash }
+    ensures steps { (same : K → K → Bool) (hash : ℕ → K → ℕ) → CallsKeepPuts K V same hash }
+    ensures behind { (same : K → K → Bool) (hash : ℕ → K → ℕ) → CallsPutBehind K V same hash }
 {}
 
 /// A reservation that goes on from its counting to a table behind the root knows that count, and that a table can be had with so many further pairs, until it counts anew: after each step of it, if one that is done
 /// with counting has counted so many, and with further moments. So it may ask for each block that it makes, but for those of the first table of its map.
-pub fn reservations_fit_their_count<K, V, S>()
+pub fn reservations_fit_their_count<K, V>()
     ensures steps { RoomsKeepCount K V }
     ensures moments { RoomsCountOn K V }
-    ensures asked { (same : K → K → Bool) (hash : K → ℕ) → RoomsMayAsk K V S same hash }
+    ensures asked { (same : K → K → Bool) (hash : ℕ → K → ℕ) → RoomsMayAsk K V same hash }
 {}
 
 /// Each map that stands was made for the capacity that the moment says: so it is as a run begins, after each step of a call, of the making of a map that began so, and of a row on a slot, and
 /// wherever maps stand that stood before, with the capacities that they had. With the places that a map is to have at first, where its mode and capacity have no fault, its making begins so.
-pub fn maps_keep_their_capacities<K, V, S>()
+pub fn maps_keep_their_capacities<K, V>()
     ensures given { GivenAreFor K V }
     ensures begins { CapacitiesBegin K V }
     ensures stays { CapacitiesStay K V }
     ensures effects { EffectsKeepCapacities K V }
     ensures stood { SameMapsStood K V }
-    ensures calls { (same : K → K → Bool) (hash : K → ℕ) → CallsKeepCapacities K V S same hash }
-    ensures makings { (same : K → K → Bool) (hash : K → ℕ) → MakingsKeepCapacities K V S same hash }
+    ensures calls { (same : K → K → Bool) (hash : ℕ → K → ℕ) → CallsKeepCapacities K V same hash }
+    ensures makings { (same : K → K → Bool) (hash : ℕ → K → ℕ) → MakingsKeepCapacities K V same hash }
 {}

@@ -10,7 +10,7 @@ pub use Rattle.papaya_legal.proofs.Given.Callers
 pub use Rattle.papaya_legal.proofs.Given.Finishes
 pub use Rattle.papaya_legal.proofs.Given.Reclaims
 pub use Rattle.papaya_legal.proofs.Given.Runs
-pub use Rattle.papaya_legal.proofs.Given.Executor
+pub use Rattle.papaya_legal.proofs.Given.Scenes
 pub use Rattle.papaya_legal.proofs.Given.Follows
 pub use Rattle.papaya_legal.proofs.Given.Hands
 pub use Rattle.papaya_legal.proofs.Given.Others

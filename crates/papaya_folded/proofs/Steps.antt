@@ -16,10 +16,7 @@ use Rattle.papaya_legal.specs.Given.Effects.Effects.{effects_of}
 use Rattle.papaya_legal.specs.Given.Effects.declared.acting.Acting.TheVariants as acts
 use Rattle.papaya_legal.specs.Given.Callers.Together.{UnderWay}
 use Rattle.papaya_legal.specs.Given.Effects.Known.{Known}
-use Rattle.papaya_legal.specs.Given.Executor.IsAt.{IsAt, Scene}
 use Rattle.papaya_legal.specs.Given.Moments.Whole.{ShowsWhole}
-use Rattle.papaya_legal.specs.Given.Executor.Stepping.{StepLeads}
-use Rattle.papaya_legal.specs.Given.Executor.declared.executor.Executor.{Executor}
 use Rattle.papaya_legal.specs.Given.Histories.InEvent.{here_of}
 use Rattle.papaya_legal.specs.Given.Settles.Hand.{in_hand}
 use Rattle.papaya_legal.specs.Given.Settles.Owing.{AllLeave, HandsFirst, HandsOver, KeepsOwed, OwesGo, Passes, PutsOver, TakesOut, leaves_owed}
@@ -33,6 +30,9 @@ use Rattle.papaya_legal.proofs.Chains.{chains_keep}
 use Rattle.papaya_legal.proofs.Slots.{each_join}
 use Rattle.papaya_folded.specs.Folded.{HandInOrder, HandsInOrder, IsOwedFirst, handed_in}
 use Rattle.papaya_folded.specs.Steps.{CallEventsHandInOrder, StepsHandInOrder}
+use Rattle.papaya_legal.specs.Given.Scenes.Held.{Held, IsAt}
+use Rattle.papaya_legal.specs.Given.Scenes.Scene.{Scene}
+use Rattle.papaya_legal.specs.Given.Scenes.Stepping.{StepLeads}
 
 -- what leaves all that is owed hands nothing over
 none_in : (f : Effect) → leaves_owed f ≡ true → handed_in f ≡ []
@@ -95,53 +95,53 @@ module _ {K V : Type 0} (log : List (Entry K V)) (e : Entry K V) where
   pub idle_in_order : e.effects ≡ [] → HandsInOrder log e
   idle_in_order none = subst (λ (l : List Effect). HandInOrder (caller_of e.event) (acted_on e.event b) l b) (sym none) tt
 
-module _ (K V S : Type 0) (same : K → K → Bool) (hash : K → ℕ) where
-  pub steps_hand_in_order : StepsHandInOrder K V S same hash
+module _ (K V : Type 0) (same : K → K → Bool) (hash : ℕ → K → ℕ) where
+  pub steps_hand_in_order : StepsHandInOrder K V same hash
   steps_hand_in_order name m known s old new at whole kept map i u here said leads =
-      let goes = calls_go_in_hand K V S same hash name m known s old new at whole.all.shown whole.all.rows kept.entries (own_made K V S same hash name m known s old at whole kept) map i u here said leads
+      let goes = calls_go_in_hand K V same hash name m known s old new at whole.all.shown whole.all.rows kept.entries (own_made K V same hash name m known s old at whole kept) map i u here said leads
       (kept.owed.noted map i u here) in
       let c = whole.all.shown.calls map i u here in
-      let effects = effects_of (acts.Call i map) known new.memory.changed in
+      let effects = effects_of (acts.Call i map) known new.changed in
       let then_in_hand = in_hand known (leads map u here).1 in
       in_order (name i) (Some map) effects m c.0 c.1 then_in_hand (subst (λ (l : List Thing). OwesGo m effects l then_in_hand) (sym (kept.owed.owed map i u here c.0 c.1)) goes.0)
 
   -- so they do behind what an event has done so far
-  pub more_in_order : (name : ℕ → List ℕ) (m : Moment K V) (known : Known) (s : Scene K V) (old new : Executor K V S) → IsAt same hash old s → ShowsWhole same name m known s → ShowsKept name m known s
+  pub more_in_order : (name : ℕ → List ℕ) (m : Moment K V) (known : Known) (s : Scene K V) (old new : Held K V) → IsAt same hash old s → ShowsWhole same name m known s → ShowsKept name m known s
       → (map i : ℕ) (u : UnderWay K V K) → s.calls map i ≡ Some u → (said : Progress (Node K V)) → StepLeads same hash i said s old new
       → (done : List Effect) (beginning : Moment K V) → m ≡ with_effects (Some (name i)) (Some map) done beginning → HandInOrder (Some (name i)) (Some map) done beginning
-      → HandInOrder (Some (name i)) (Some map) (done ++ effects_of (acts.Call i map) known new.memory.changed) beginning
+      → HandInOrder (Some (name i)) (Some map) (done ++ effects_of (acts.Call i map) known new.changed) beginning
   more_in_order name m known s old new at whole kept map i u here said leads done beginning so hands =
-      let did = effects_of (acts.Call i map) known new.memory.changed in
+      let did = effects_of (acts.Call i map) known new.changed in
       each_join (λ v f. IfCall (IsOwedFirst f) (acting (Some (name i)) v)) (Some (name i)) (Some map) done did beginning hands
       (subst (λ (v : Moment K V). HandInOrder (Some (name i)) (Some map) did v) so (steps_hand_in_order name m known s old new at whole kept map i u here said leads))
 
-  pub call_events_hand_in_order : CallEventsHandInOrder K V S same hash
+  pub call_events_hand_in_order : CallEventsHandInOrder K V same hash
   call_events_hand_in_order name terms log beginning map i c e n first last midst none chain new at said leads begins acted effects_are =
       event_in_order log e (name i) map beginning midst.of_call begins acted (subst (λ (l : List Effect). HandInOrder (Some (name i)) (Some map) l beginning) (sym effects_are) (after_one last so new said at leads))
     where
       -- how far the event has come is in its midst, and what it did handed over in order
-      SoFar : CallCome K V S → Type 0
+      SoFar : CallCome K V → Type 0
       SoFar x =
           InCallEvent same name terms log e.event beginning map i c x.steps x.come.did x.come.now x.come.notes x.come.scene x.under
           × HandInOrder (Some (name i)) (Some map) x.come.did beginning
 
-      its_here : (x : CallCome K V S) → SoFar x → x.come.scene.calls map i ≡ Some x.under
+      its_here : (x : CallCome K V) → SoFar x → x.come.scene.calls map i ≡ Some x.under
       its_here x so_far = here_of same name log beginning map i c x.come.did x.come.now x.come.notes x.come.scene x.under so_far.0.event_so
 
-      after_one : (x : CallCome K V S) → SoFar x → (then_executor : Executor K V S) (told : Progress (Node K V)) → IsAt same hash x.come.executor x.come.scene
-          → StepLeads same hash i told x.come.scene x.come.executor then_executor
-          → HandInOrder (Some (name i)) (Some map) (x.come.did ++ effects_of (acts.Call i map) x.come.notes then_executor.memory.changed) beginning
-      after_one x so_far then_executor told at_x leads_x =
-          more_in_order name x.come.now x.come.notes x.come.scene x.come.executor then_executor at_x so_far.0.calls.whole so_far.0.calls.kept map i x.under (its_here x so_far) told leads_x x.come.did beginning
+      after_one : (x : CallCome K V) → SoFar x → (then_held : Held K V) (told : Progress (Node K V)) → IsAt same hash x.come.held x.come.scene
+          → StepLeads same hash i told x.come.scene x.come.held then_held
+          → HandInOrder (Some (name i)) (Some map) (x.come.did ++ effects_of (acts.Call i map) x.come.notes then_held.changed) beginning
+      after_one x so_far then_held told at_x leads_x =
+          more_in_order name x.come.now x.come.notes x.come.scene x.come.held then_held at_x so_far.0.calls.whole so_far.0.calls.kept map i x.under (its_here x so_far) told leads_x x.come.did beginning
           so_far.0.worked so_far.1
 
-      keeps : (x y : CallCome K V S) → CallSteps same hash name terms log map i x y → SoFar x → SoFar y
+      keeps : (x y : CallCome K V) → CallSteps same hash name terms log map i x y → SoFar x → SoFar y
       keeps x y step so_far =
           let here = its_here x so_far in
           subst SoFar (sym (step.comes here)) (
-            call_events_go_on_so K V S same hash name terms log e.event beginning map i c x.steps x.come.did x.come.now x.come.notes x.come.scene x.under so_far.0 x.come.executor y.come.executor step.is_at
+            call_events_go_on_so K V same hash name terms log e.event beginning map i c x.steps x.come.did x.come.now x.come.notes x.come.scene x.under so_far.0 x.come.held y.come.held step.is_at
                 step.size step.said step.leads step.none (step.noted here) y.under (step.goes_on here),
-            after_one x so_far y.come.executor step.said step.is_at step.leads,
+            after_one x so_far y.come.held step.said step.is_at step.leads,
           )
 
       so : SoFar last

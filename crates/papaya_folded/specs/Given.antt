@@ -15,7 +15,7 @@ pub use Rattle.papaya_legal.specs.Given.Reclaims
 pub use Rattle.papaya_legal.specs.Given.Runs
 pub use Rattle.papaya_legal.specs.Given.Schedules
 pub use Rattle.papaya_legal.specs.Given.Effects
-pub use Rattle.papaya_legal.specs.Given.Executor
+pub use Rattle.papaya_legal.specs.Given.Scenes
 pub use Rattle.papaya_legal.specs.Given.Reclaiming
 pub use Rattle.papaya_legal.specs.Given.Follows
 pub use Rattle.papaya_legal.specs.Given.Hands

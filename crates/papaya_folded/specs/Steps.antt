@@ -11,29 +11,29 @@ use Rattle.papaya_legal.specs.Given.Callers.Together.{UnderWay}
 use Rattle.papaya_legal.specs.Given.Effects.Effects.{effects_of}
 use Rattle.papaya_legal.specs.Given.Effects.Known.{Known}
 use Rattle.papaya_legal.specs.Given.Effects.declared.acting.Acting.TheVariants as acts
-use Rattle.papaya_legal.specs.Given.Executor.IsAt.{Scene, IsAt}
-use Rattle.papaya_legal.specs.Given.Executor.Stepping.{StepLeads}
-use Rattle.papaya_legal.specs.Given.Executor.declared.executor.Executor.{Executor}
 use Rattle.papaya_legal.specs.Given.Moments.Whole.{ShowsWhole}
 use Rattle.papaya_legal.specs.Given.Kept.Kept.{ShowsKept}
 use Rattle.papaya_legal.specs.CallEvents.{InCallEvent}
 use Rattle.papaya_legal.specs.Chains.{CallCome, CallSteps, Chain}
 use Rattle.papaya_folded.specs.Folded.{HandInOrder, HandsInOrder}
+use Rattle.papaya_legal.specs.Given.Scenes.Held.{Held, IsAt}
+use Rattle.papaya_legal.specs.Given.Scenes.Scene.{Scene}
+use Rattle.papaya_legal.specs.Given.Scenes.Stepping.{StepLeads}
 
-module _ (K V S : Type 0) (same : K → K → Bool) (hash : K → ℕ) where
+module _ (K V : Type 0) (same : K → K → Bool) (hash : ℕ → K → ℕ) where
   -- The promises: the effects of a step of a call, of whatever kind, hand over in order;
   abbrev pub StepsHandInOrder : Type 0
   StepsHandInOrder =
-      (name : ℕ → List ℕ) (m : Moment K V) (known : Known) (s : Scene K V) (old new : Executor K V S) → IsAt same hash old s → ShowsWhole same name m known s → ShowsKept name m known s
+      (name : ℕ → List ℕ) (m : Moment K V) (known : Known) (s : Scene K V) (old new : Held K V) → IsAt same hash old s → ShowsWhole same name m known s → ShowsKept name m known s
       → (map i : ℕ) (u : UnderWay K V K) → s.calls map i ≡ Some u → (said : Progress (Node K V)) → StepLeads same hash i said s old new
-      → HandInOrder (Some (name i)) (Some map) (effects_of (acts.Call i map) known new.memory.changed) m
+      → HandInOrder (Some (name i)) (Some map) (effects_of (acts.Call i map) known new.changed) m
 
   -- and so do those of an event by which a call goes on: by a chain of steps, and by a last one.
   abbrev pub CallEventsHandInOrder : Type 0
   CallEventsHandInOrder =
-      (name : ℕ → List ℕ) (terms : Terms) (log : List (Entry K V)) (beginning : Moment K V) (map i : ℕ) (c : CallThere K V) (e : Entry K V) (n : ℕ) (first last : CallCome K V S)
+      (name : ℕ → List ℕ) (terms : Terms) (log : List (Entry K V)) (beginning : Moment K V) (map i : ℕ) (c : CallThere K V) (e : Entry K V) (n : ℕ) (first last : CallCome K V)
       → InCallEvent same name terms log e.event beginning map i c first.steps first.come.did first.come.now first.come.notes first.come.scene first.under → first.come.did ≡ []
       → Chain (CallSteps same hash name terms log map i) n first last
-      → (new : Executor K V S) → IsAt same hash last.come.executor last.come.scene → (said : Progress (Node K V)) → StepLeads same hash i said last.come.scene last.come.executor new
-      → at_work e (moment log) ≡ beginning → acted_on e.event beginning ≡ Some map → e.effects ≡ last.come.did ++ effects_of (acts.Call i map) last.come.notes new.memory.changed
+      → (new : Held K V) → IsAt same hash last.come.held last.come.scene → (said : Progress (Node K V)) → StepLeads same hash i said last.come.scene last.come.held new
+      → at_work e (moment log) ≡ beginning → acted_on e.event beginning ≡ Some map → e.effects ≡ last.come.did ++ effects_of (acts.Call i map) last.come.notes new.changed
       → HandsInOrder log e

@@ -5,9 +5,9 @@ ghost use Rattle.papaya_folded.specs.Steps.{CallEventsHandInOrder, StepsHandInOr
 
 /// The effects of each step of a call, of whatever kind and whoever steps beside it, hand over what the call owes first; and so do all effects of an event by which a call goes on, from one step to the
 /// next.
-pub fn calls_hand_in_order<K, V, S>()
-    ensures steps { (same : K → K → Bool) (hash : K → ℕ) → StepsHandInOrder K V S same hash }
-    ensures events { (same : K → K → Bool) (hash : K → ℕ) → CallEventsHandInOrder K V S same hash }
+pub fn calls_hand_in_order<K, V>()
+    ensures steps { (same : K → K → Bool) (hash : ℕ → K → ℕ) → StepsHandInOrder K V same hash }
+    ensures events { (same : K → K → Bool) (hash : ℕ → K → ℕ) → CallEventsHandInOrder K V same hash }
 {}
 
 /// By effects that hand over in order, what a call owed, and behind that what they take out of its map, is what they hand over, and behind that what it owes then. So by a log each of whose events hands over in

@@ -2,9 +2,9 @@
 use Rattle.std.specs.Prelude.{◌≡◌, ◌≢◌, ℕ, ◌+◌, ◌==◌, Bool, true, false, cond, not, ◌&&◌, List, [], ◌∷◌, length, filter, find, map, Option, Some, if◌then◌else◌, ◌⊎◌}
 use Rattle.std.proofs.Common.{refl, ap, sym, subst, ◌∙◌, arith, inl, inr}
 use Rattle.std.proofs.lemmas.Bool.{eq-eqb, cases_eq}
-use Rattle.papaya_executor.specs.Given.Seize.World.{with_at}
+use Rattle.papaya_scenes.specs.Given.Seize.World.{with_at}
 use Rattle.papaya_effects.specs.Given.Runs.Same.{is_same}
-use Rattle.papaya_executor.specs.Given.Raw.declared.machines.asking.Reply.{Reply as MachineReply}
+use Rattle.papaya_scenes.specs.Given.Raw.declared.machines.asking.Reply.{Reply as MachineReply}
 use Rattle.papaya_effects.specs.Given.Schedules.declared.call.Call.{Call}
 use Rattle.papaya_effects.specs.Given.Schedules.declared.call.Reply.{Reply}
 use Rattle.papaya_effects.specs.Given.Schedules.declared.outcome.Outcome.{Outcome}
@@ -14,13 +14,12 @@ use Rattle.papaya_effects.specs.Given.Schedules.Beginning.{fresh_call, with_call
 use Rattle.papaya_effects.specs.Given.Schedules.Entry.{ends_call}
 use Rattle.papaya_effects.specs.Given.Schedules.Moment.{Stands, Going, Asking, Told, IsReady, UnderWay as CallThere, Moment}
 use Rattle.papaya_effects.specs.Given.Schedules.Views.{call_of}
-use Rattle.papaya_executor.specs.Given.Callers.OverAll.{CallOverAll}
-use Rattle.papaya_executor.specs.Given.Callers.Together.{CallOnKey, UnderWay, OnKey, ForRoom, Counting, OverAll}
-use Rattle.papaya_executor.proofs.Given.Callers.Together.At.{at_other, at_same}
-use Rattle.papaya_executor.specs.Given.Finishes.Machines.{ToldOfKind}
-use Rattle.papaya_executor.specs.Given.Finishes.Maps.{Standing, with_call as with_in}
+use Rattle.papaya_scenes.specs.Given.Callers.OverAll.{CallOverAll}
+use Rattle.papaya_scenes.specs.Given.Callers.Together.{CallOnKey, UnderWay, OnKey, ForRoom, Counting, OverAll}
+use Rattle.papaya_scenes.proofs.Given.Callers.Together.At.{at_other, at_same}
+use Rattle.papaya_scenes.specs.Given.Finishes.Machines.{ToldOfKind}
+use Rattle.papaya_scenes.specs.Given.Finishes.Maps.{Standing, with_call as with_in}
 use Rattle.papaya_effects.specs.Known.{Known}
-use Rattle.papaya_executor.specs.IsAt.{Scene, slot_of}
 use Rattle.papaya_follows.specs.Blocks.{HasRole}
 use Rattle.papaya_follows.specs.Calls.{IsCalled, ShowsCalls}
 use Rattle.papaya_follows.specs.Calling.{NoneNamed, told, come_to, CallsBegin, CallsAreTold, CallsComeTo}
@@ -29,6 +28,7 @@ use Rattle.papaya_follows.proofs.Alike.{AreSame, alike_same}
 use Rattle.papaya_follows.proofs.Called.{some_is, called_as, key_called, sweep_called}
 use Rattle.papaya_follows.proofs.Calls.{IsOfSame, CalledOn, changed, of_same, found, was_there}
 use Rattle.papaya_follows.proofs.Onward.{tables_same, pairs_same, blocks_same, map_on}
+use Rattle.papaya_scenes.specs.Scene.{Scene, slot_of}
 
 -- names
 

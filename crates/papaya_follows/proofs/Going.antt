@@ -2,14 +2,14 @@
 use Rattle.std.specs.Prelude.{◌≡◌, ℕ, suc, ◌+◌, ◌<◌, ◌≤◌, Bool, List, Some, None, ◌⊎◌}
 use Rattle.papaya_effects.specs.Given.Schedules.Moment.{Moment}
 use Rattle.papaya_effects.specs.Given.Schedules.Views.{map_at}
-use Rattle.papaya_executor.specs.Given.Finishes.Maps.{Standing}
+use Rattle.papaya_scenes.specs.Given.Finishes.Maps.{Standing}
 use Rattle.papaya_effects.specs.Known.{Known}
 use Rattle.papaya_effects.specs.declared.role.Role.{Role}
 use Rattle.papaya_effects.specs.declared.role.Role.TheVariants as role
-use Rattle.papaya_executor.specs.IsAt.{Scene}
 use Rattle.papaya_follows.specs.Shows.{Shows}
 use Rattle.papaya_follows.proofs.Alike.{AlikePairs}
 use Rattle.papaya_follows.proofs.Onward.{IsOfMap, KeepsRoles}
+use Rattle.papaya_scenes.specs.Scene.{Scene}
 
 -- a map that stands does so on: no pair or table of it is forgotten, and its tables stand in their blocks
 pub record StoodOn {K : Type 0} (s s2 : Standing K) : Type 0 where

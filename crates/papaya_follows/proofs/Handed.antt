@@ -13,10 +13,10 @@ use Rattle.papaya_effects.specs.Given.Schedules.Lists.{put}
 use Rattle.papaya_effects.specs.Given.Schedules.Moment.{Place, Unborn, InMap, Out, Handed, Behind, Left, GivenBack, IsLinked, IsRetired, Stage, MapThere, TableThere, UnderWay, Moment}
 use Rattle.papaya_effects.specs.Given.Schedules.Things.{same_table}
 use Rattle.papaya_effects.specs.Given.Schedules.Views.{is_in_map, is_in_a_map, map_at}
-use Rattle.papaya_executor.specs.Given.Rule.Chart.{Chart}
-use Rattle.papaya_executor.specs.Given.Rule.Words.{Blocks}
-use Rattle.papaya_executor.specs.Given.Callers.Sights.{Sight}
-use Rattle.papaya_executor.specs.Given.Finishes.Maps.{Standing}
+use Rattle.papaya_scenes.specs.Given.Rule.Chart.{Chart}
+use Rattle.papaya_scenes.specs.Given.Rule.Words.{Blocks}
+use Rattle.papaya_scenes.specs.Given.Callers.Sights.{Sight}
+use Rattle.papaya_scenes.specs.Given.Finishes.Maps.{Standing}
 use Rattle.papaya_effects.specs.Known.{Known}
 use Rattle.papaya_follows.specs.Maps.{table_of, shape_at, tables_to, ShowsMap}
 use Rattle.papaya_follows.specs.Steps.{HandTheirs}

@@ -1,17 +1,17 @@
 -- A step that has left the memory as it was, and has moved nothing.
 use Rattle.std.specs.Prelude.{◌≡◌, ℕ, Bool, []}
 use Rattle.std.proofs.Common.{refl, sym, subst, inl}
-use Rattle.papaya_executor.specs.Given.SeizeWords.Mem.{Mem}
-use Rattle.papaya_executor.specs.Given.Seize.World.{World}
-use Rattle.papaya_executor.specs.Given.Tables.declared.node.Node.{Node}
-use Rattle.papaya_executor.specs.Given.Tables.declared.setting.Setting.{Setting}
-use Rattle.papaya_executor.specs.Given.Rule.Chart.{Chart}
-use Rattle.papaya_executor.specs.Given.Rule.Words.{Blocks}
-use Rattle.papaya_executor.specs.Given.Rule.InWorld.{IsMapIn, IsFramed, Went}
-use Rattle.papaya_executor.proofs.Given.Rule.World.Footprints.{framed_same}
-use Rattle.papaya_executor.proofs.Given.Rule.Words.LinksOwn.{outs_same, known_same, links_none}
-use Rattle.papaya_executor.proofs.Given.Rule.World.MovesKnown.{tables_same}
-use Rattle.papaya_executor.proofs.Given.Rule.World.OthersSpared.{keeps_same}
+use Rattle.papaya_scenes.specs.Given.SeizeWords.Mem.{Mem}
+use Rattle.papaya_scenes.specs.Given.Seize.World.{World}
+use Rattle.papaya_scenes.specs.Given.Tables.declared.node.Node.{Node}
+use Rattle.papaya_scenes.specs.Given.Tables.declared.setting.Setting.{Setting}
+use Rattle.papaya_scenes.specs.Given.Rule.Chart.{Chart}
+use Rattle.papaya_scenes.specs.Given.Rule.Words.{Blocks}
+use Rattle.papaya_scenes.specs.Given.Rule.InWorld.{IsMapIn, IsFramed, Went}
+use Rattle.papaya_scenes.proofs.Given.Rule.World.Footprints.{framed_same}
+use Rattle.papaya_scenes.proofs.Given.Rule.Words.LinksOwn.{outs_same, known_same, links_none}
+use Rattle.papaya_scenes.proofs.Given.Rule.World.MovesKnown.{tables_same}
+use Rattle.papaya_scenes.proofs.Given.Rule.World.OthersSpared.{keeps_same}
 
 -- it is where it was
 abbrev pub went_nowhere : {K V : Type 0} (same : K → K → Bool) (hash : K → ℕ) (setting : Setting) (caller : ℕ) (w : World (Node K V)) (c : Chart K) (blocks : Blocks)

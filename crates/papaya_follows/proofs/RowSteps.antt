@@ -1,28 +1,25 @@
 -- A step of a row within a call: the moment after its effects shows the scene after it, where it takes no block away and hands over what has left its map.
 use Rattle.std.specs.Prelude.{◌&&◌, ◌≡◌, ℕ, nat_lt, Bool, true, false, List, [], ◌∷◌, Option, Some, None, length, ◌⊎◌, if◌then◌else◌}
 use Rattle.std.proofs.Common.{refl, ap, sym, subst, ◌∙◌, inl, inr}
-use Rattle.papaya_executor.specs.Given.SeizeWords.Mem.{Mem, value_at}
-use Rattle.papaya_executor.specs.Given.Seize.World.{World}
-use Rattle.papaya_executor.specs.Given.Tables.declared.node.Node.{Node}
-use Rattle.papaya_executor.specs.Given.Raw.declared.machines.progress.Progress.{Progress}
+use Rattle.papaya_scenes.specs.Given.SeizeWords.Mem.{Mem, value_at}
+use Rattle.papaya_scenes.specs.Given.Seize.World.{World}
+use Rattle.papaya_scenes.specs.Given.Tables.declared.node.Node.{Node}
+use Rattle.papaya_scenes.specs.Given.Raw.declared.machines.progress.Progress.{Progress}
 use Rattle.papaya_effects.specs.Given.Schedules.declared.effect.Effect.{Effect}
 use Rattle.papaya_effects.specs.Given.Schedules.declared.effect.Effect.TheVariants.{Asked}
 use Rattle.papaya_effects.specs.Given.Schedules.declared.effect.Growth.TheVariants.{ABlock, ABucket}
 use Rattle.papaya_effects.specs.Given.Schedules.Effects.{with_effects}
 use Rattle.papaya_effects.specs.Given.Schedules.Moment.{Moment}
-use Rattle.papaya_executor.specs.Given.Teller.declared.changed.Changed.{Changed}
-use Rattle.papaya_executor.specs.Given.Teller.declared.changed.Changed.TheVariants as changed
-use Rattle.papaya_executor.specs.Given.Callers.Together.{UnderWay, OnKey, ForRoom, Counting, OverAll, IsOneStep, Together}
-use Rattle.papaya_executor.specs.Given.Finishes.Maps.{Standing, IsSameMap}
+use Rattle.papaya_scenes.specs.Given.Teller.declared.changed.Changed.{Changed}
+use Rattle.papaya_scenes.specs.Given.Teller.declared.changed.Changed.TheVariants as changed
+use Rattle.papaya_scenes.specs.Given.Callers.Together.{UnderWay, OnKey, ForRoom, Counting, OverAll, IsOneStep, Together}
+use Rattle.papaya_scenes.specs.Given.Finishes.Maps.{Standing, IsSameMap}
 use Rattle.papaya_effects.specs.Effects.{effects_of, known_after}
 use Rattle.papaya_effects.specs.Known.{Known}
 use Rattle.papaya_effects.specs.declared.acting.Acting.{Acting}
 use Rattle.papaya_effects.specs.declared.acting.Acting.TheVariants.{Call}
 use Rattle.papaya_effects.specs.declared.role.Role.{Role}
 use Rattle.papaya_effects.specs.declared.role.Role.TheVariants as role
-use Rattle.papaya_executor.specs.IsAt.{Scene, IsAt, slot_of}
-use Rattle.papaya_executor.specs.Stepping.{StepLeads, scene_after}
-use Rattle.papaya_executor.specs.declared.executor.Executor.{Executor}
 use Rattle.papaya_follows.specs.Blocks.{HasRole, ShowsBlocks}
 use Rattle.papaya_follows.specs.Calls.{ShowsCalls}
 use Rattle.papaya_follows.specs.Maps.{ShowsMap}
@@ -36,6 +33,9 @@ use Rattle.papaya_follows.proofs.Operations.{StaysThere, LeavesBy, Operated, ope
 use Rattle.papaya_follows.proofs.Rows.{HandsOn, IsStill, KeepsBlock, RowLeaves, one_step_leaves, row_written}
 use Rattle.papaya_follows.proofs.Steps.{one_of, same_stood, same_gone, WentTo, went_to, made_so, calls_then, LeadsThere, DidSo, OfNoRow}
 use Rattle.papaya_follows.proofs.Told.{roomed_as_many}
+use Rattle.papaya_scenes.specs.Held.{Held, IsAt}
+use Rattle.papaya_scenes.specs.Scene.{Scene, slot_of}
+use Rattle.papaya_scenes.specs.Stepping.{StepLeads, scene_after}
 
 module _ {K V : Type 0} (caller map : ℕ) (m : Moment K V) (known : Known) (w w2 : World (Node K V)) (shown : ShowsBlocks m known w) (leaves : RowLeaves w w2) where
   abbrev its : Acting
@@ -89,14 +89,14 @@ module _ {K V : Type 0} (caller map : ℕ) (m : Moment K V) (known : Known) (w w
   row_done (changed.Roomed bucket had) left none =
       let same = roomed_as_many its known bucket had in record { hands = roomed_hands (had && nat_lt bucket known.buckets); roles = same.0; as_many = same.1; has = all_have left }
 
-module _ {K V S : Type 0} (same : K → K → Bool) (hash : K → ℕ) (m : Moment K V) (known : Known) (s : Scene K V) (old new : Executor K V S) (at : IsAt same hash old s)
+module _ {K V : Type 0} (same : K → K → Bool) (hash : ℕ → K → ℕ) (m : Moment K V) (known : Known) (s : Scene K V) (old new : Held K V) (at : IsAt same hash old s)
     (name : ℕ → List ℕ) (shown : Shows same name m known s)
     (map i : ℕ) (standing : Standing K) (there : s.maps map ≡ Some standing) (caller : List ℕ)
-    (made : Operated s.world.memory new.memory.memory new.memory.changed) (none : TakesNone new.memory.changed)
-    (hands : HandTheirs caller map (effects_of (Call i map) known new.memory.changed) m)
-    (w2 : World (Node K V)) (memory : w2.memory ≡ new.memory.memory) (happened : IsOneStep standing.setting i s.world w2) where
+    (made : Operated s.world.memory new.memory new.changed) (none : TakesNone new.changed)
+    (hands : HandTheirs caller map (effects_of (Call i map) known new.changed) m)
+    (w2 : World (Node K V)) (memory : w2.memory ≡ new.memory) (happened : IsOneStep standing.setting i s.world w2) where
   abbrev told : Changed
-  told = new.memory.changed
+  told = new.changed
 
   abbrev w : World (Node K V)
   w = s.world
@@ -114,7 +114,7 @@ module _ {K V S : Type 0} (same : K → K → Bool) (hash : K → ℕ) (m : Mome
   each = at.together.makings.standing.each map standing there
 
   left : LeavesBy w.memory w2.memory told
-  left = subst (λ (n : Mem (Node K V)). LeavesBy w.memory n told) (sym memory) (operated_leaves w.memory new.memory.memory told made)
+  left = subst (λ (n : Mem (Node K V)). LeavesBy w.memory n told) (sym memory) (operated_leaves w.memory new.memory told made)
 
   done : RowDone i map m known w w2 shown.blocks (one_step_leaves standing.setting i w w2 each.ground.came happened) told
   done = row_done i map m known w w2 shown.blocks (one_step_leaves standing.setting i w w2 each.ground.came happened) told left none
@@ -153,7 +153,7 @@ module _ {K V S : Type 0} (same : K → K → Bool) (hash : K → ℕ) (m : Mome
       }
 
 -- so it is for whichever kind of call
-module _ {K V S : Type 0} (same : K → K → Bool) (hash : K → ℕ) (name : ℕ → List ℕ) (m : Moment K V) (known : Known) (s : Scene K V) (old new : Executor K V S) (at : IsAt same hash old s)
+module _ {K V : Type 0} (same : K → K → Bool) (hash : ℕ → K → ℕ) (name : ℕ → List ℕ) (m : Moment K V) (known : Known) (s : Scene K V) (old new : Held K V) (at : IsAt same hash old s)
     (shown : Shows same name m known s) (map i : ℕ) (u : UnderWay K V K) (here : s.calls map i ≡ Some u) (told : Progress (Node K V)) (leads : StepLeads same hash i told s old new) where
   abbrev to : WentTo same hash name m known s old new at shown map i u here told leads
   to = went_to same hash name m known s old new at shown map i u here told leads
@@ -164,24 +164,24 @@ module _ {K V S : Type 0} (same : K → K → Bool) (hash : K → ℕ) (name : �
   abbrev NoRow : (x : UnderWay K V K) → DidSo same hash name m known s old new at shown map i u here told leads x → Type 0
   NoRow = OfNoRow same hash name m known s old new at shown map i u here told leads
 
-  pub row_step_shown : (NoRow u to.4.did → ⊥) → TakesNone new.memory.changed → HandTheirs (name i) map (effects_of (Call i map) known new.memory.changed) m → Led
+  pub row_step_shown : (NoRow u to.4.did → ⊥) → TakesNone new.changed → HandTheirs (name i) map (effects_of (Call i map) known new.changed) m → Led
   row_step_shown other none hands = by u to.4.did other
     where
       by : (x : UnderWay K V K) → (did : DidSo same hash name m known s old new at shown map i u here told leads x) → (NoRow x did → ⊥) → Led
       by (OnKey x) (p2, end, machine_is, told_is, inl step) other = absurd (other tt)
       by (OnKey x) (p2, end, machine_is, told_is, inr (row, stayed)) other =
           row_shown same hash m known s old new at name shown map i to.0 to.2 (name i) (made_so same hash name m known s old new at shown map i u here told leads) none hands row.step.w2 row.step.memory row.step.happened
-          to.4.w2 to.4.maps2 stayed.0 stayed.1 (scene_after same hash s old new map i to.0 u to.1 told to.4) (calls_then same hash name m known s old new at shown map i u here told leads)
+          to.4.w2 to.4.maps2 stayed.0 stayed.1 (scene_after same s old new map i to.0 u to.1 told to.4) (calls_then same hash name m known s old new at shown map i u here told leads)
       by (ForRoom x) (p2, end, machine_is, told_is, inl step) other = absurd (other tt)
       by (ForRoom x) (p2, end, machine_is, told_is, inr (row, stayed)) other =
           row_shown same hash m known s old new at name shown map i to.0 to.2 (name i) (made_so same hash name m known s old new at shown map i u here told leads) none hands row.step.w2 row.step.memory row.step.happened
-          to.4.w2 to.4.maps2 stayed.0 stayed.1 (scene_after same hash s old new map i to.0 u to.1 told to.4) (calls_then same hash name m known s old new at shown map i u here told leads)
+          to.4.w2 to.4.maps2 stayed.0 stayed.1 (scene_after same s old new map i to.0 u to.1 told to.4) (calls_then same hash name m known s old new at shown map i u here told leads)
       by (Counting x) did other = absurd (other tt)
       by (OverAll x) (p2, end, machine_is, told_is, inl step) other = absurd (other tt)
       by (OverAll x) (p2, end, machine_is, told_is, inr (row, stayed)) other =
           row_shown same hash m known s old new at name shown map i to.0 to.2 (name i) (made_so same hash name m known s old new at shown map i u here told leads) none hands row.step.w2 row.step.memory row.step.happened
-          to.4.w2 to.4.maps2 stayed.0 stayed.1 (scene_after same hash s old new map i to.0 u to.1 told to.4) (calls_then same hash name m known s old new at shown map i u here told leads)
+          to.4.w2 to.4.maps2 stayed.0 stayed.1 (scene_after same s old new map i to.0 u to.1 told to.4) (calls_then same hash name m known s old new at shown map i u here told leads)
 
-pub rows_are_shown : (K V S : Type 0) (same : K → K → Bool) (hash : K → ℕ) → RowsAreShown K V S same hash
-rows_are_shown K V S same hash name m known s old new at shown map i u here told leads not_own none hands =
+pub rows_are_shown : (K V : Type 0) (same : K → K → Bool) (hash : ℕ → K → ℕ) → RowsAreShown K V same hash
+rows_are_shown K V same hash name m known s old new at shown map i u here told leads not_own none hands =
     (row_step_shown same hash name m known s old new at shown map i u here told leads not_own none hands).shows

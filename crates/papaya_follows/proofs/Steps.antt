@@ -2,53 +2,49 @@
 use Rattle.std.specs.Prelude.{◌≡◌, ◌≢◌, ℕ, ◌<◌, Bool, List, Option, Some, None, length, ◌⊎◌}
 use Rattle.std.proofs.Common.{refl, ap, sym, subst, ◌∙◌, arith, inl, inr}
 use Rattle.std.proofs.lemmas.Bool.{cases_eq}
-use Rattle.papaya_executor.specs.Given.SeizeWords.declared.at.At.{At}
-use Rattle.papaya_executor.specs.Given.SeizeWords.declared.at.At.TheVariants.{Root, Used, Slot, Entry, Word}
-use Rattle.papaya_executor.specs.Given.SeizeWords.Mem.{Mem, value_at, word_at}
-use Rattle.papaya_executor.specs.Given.SeizeWords.Word.{block_in}
-use Rattle.papaya_executor.specs.Given.Seize.World.{World, IsInside, with_at}
-use Rattle.papaya_executor.specs.Given.Tables.Chunks.{is_incremental}
-use Rattle.papaya_executor.specs.Given.Tables.declared.node.Node.{Node}
-use Rattle.papaya_executor.specs.Given.Tables.declared.setting.Setting.{Setting}
-use Rattle.papaya_executor.specs.Given.Raw.Machine.{machine_plan}
-use Rattle.papaya_executor.specs.Given.Raw.declared.machines.machine.Machine.{Machine}
-use Rattle.papaya_executor.specs.Given.Raw.declared.machines.progress.Progress.{Progress}
+use Rattle.papaya_scenes.specs.Given.SeizeWords.declared.at.At.{At}
+use Rattle.papaya_scenes.specs.Given.SeizeWords.declared.at.At.TheVariants.{Root, Used, Slot, Entry, Word}
+use Rattle.papaya_scenes.specs.Given.SeizeWords.Mem.{Mem, value_at, word_at}
+use Rattle.papaya_scenes.specs.Given.SeizeWords.Word.{block_in}
+use Rattle.papaya_scenes.specs.Given.Seize.World.{World, IsInside, with_at}
+use Rattle.papaya_scenes.specs.Given.Tables.Chunks.{is_incremental}
+use Rattle.papaya_scenes.specs.Given.Tables.declared.node.Node.{Node}
+use Rattle.papaya_scenes.specs.Given.Tables.declared.setting.Setting.{Setting}
+use Rattle.papaya_scenes.specs.Given.Raw.Machine.{machine_plan}
+use Rattle.papaya_scenes.specs.Given.Raw.declared.machines.machine.Machine.{Machine}
+use Rattle.papaya_scenes.specs.Given.Raw.declared.machines.progress.Progress.{Progress}
 use Rattle.papaya_effects.specs.Given.Schedules.declared.effect.Effect.{Effect}
 use Rattle.papaya_effects.specs.Given.Schedules.declared.effect.Table.{Table}
 use Rattle.papaya_effects.specs.Given.Schedules.Effects.{AtEachEffect, with_effects}
 use Rattle.papaya_effects.specs.Given.Schedules.Moment.{Moment}
 use Rattle.papaya_effects.specs.Given.Schedules.Views.{map_at}
-use Rattle.papaya_executor.specs.Given.Teller.declared.changed.Changed.{Changed}
-use Rattle.papaya_executor.specs.Given.Teller.declared.changed.Changed.TheVariants as changed
-use Rattle.papaya_executor.specs.Given.Tells.Seen.{Seen, Unseen, Wrote, seen_of}
-use Rattle.papaya_executor.specs.Given.Tells.Tells.{KeepsNames, IsTold}
-use Rattle.papaya_executor.proofs.Given.Tells.Promised.{operations_tell, still_steps_tell}
-use Rattle.papaya_executor.specs.Given.Rule.Chart.{Chart}
-use Rattle.papaya_executor.specs.Given.Rule.Lasts.{Lasts}
-use Rattle.papaya_executor.specs.Given.Rule.Maps.{spot_of}
-use Rattle.papaya_executor.specs.Given.Rule.Words.{Blocks}
-use Rattle.papaya_executor.specs.Given.Rule.InWorld.{IsIts, IsMapIn, Went}
-use Rattle.papaya_executor.proofs.Given.Rule.World.BesideKept.{steps_spare_others}
-use Rattle.papaya_executor.proofs.Given.Rule.World.WentTold.{went_as}
-use Rattle.papaya_executor.specs.Given.Points.Steps.{AreLawful}
-use Rattle.papaya_executor.proofs.Given.Points.MovedLasts.{moved_lasts}
-use Rattle.papaya_executor.specs.Given.Callers.Sights.{Sight, seen_by, IsGrown, IsSight}
-use Rattle.papaya_executor.specs.Given.Callers.Together.{UnderWay, OnKey, ForRoom, Counting, OverAll, in_slot, Together}
-use Rattle.papaya_executor.proofs.Given.Callers.Sights.Seen.{map_seen}
-use Rattle.papaya_executor.proofs.Given.Callers.Together.At.{at_other, at_same}
-use Rattle.papaya_executor.proofs.Given.Callers.Together.Fits.{map_in_slot}
-use Rattle.papaya_executor.specs.Given.Finishes.Machines.{machine_of, MachineStepsAmong}
-use Rattle.papaya_executor.specs.Given.Finishes.Maps.{Standing, IsSameMap, with_call}
+use Rattle.papaya_scenes.specs.Given.Teller.declared.changed.Changed.{Changed}
+use Rattle.papaya_scenes.specs.Given.Teller.declared.changed.Changed.TheVariants as changed
+use Rattle.papaya_scenes.specs.Given.Tells.Seen.{Seen, Unseen, Wrote, seen_of}
+use Rattle.papaya_scenes.specs.Given.Tells.Tells.{KeepsNames, IsTold}
+use Rattle.papaya_scenes.proofs.Given.Tells.Promised.{operations_tell, still_steps_tell}
+use Rattle.papaya_scenes.specs.Given.Rule.Chart.{Chart}
+use Rattle.papaya_scenes.specs.Given.Rule.Lasts.{Lasts}
+use Rattle.papaya_scenes.specs.Given.Rule.Maps.{spot_of}
+use Rattle.papaya_scenes.specs.Given.Rule.Words.{Blocks}
+use Rattle.papaya_scenes.specs.Given.Rule.InWorld.{IsIts, IsMapIn, Went}
+use Rattle.papaya_scenes.proofs.Given.Rule.World.BesideKept.{steps_spare_others}
+use Rattle.papaya_scenes.proofs.Given.Rule.World.WentTold.{went_as}
+use Rattle.papaya_scenes.specs.Given.Points.Steps.{AreLawful}
+use Rattle.papaya_scenes.proofs.Given.Points.MovedLasts.{moved_lasts}
+use Rattle.papaya_scenes.specs.Given.Callers.Sights.{Sight, seen_by, IsGrown, IsSight}
+use Rattle.papaya_scenes.specs.Given.Callers.Together.{UnderWay, OnKey, ForRoom, Counting, OverAll, in_slot, Together}
+use Rattle.papaya_scenes.proofs.Given.Callers.Sights.Seen.{map_seen}
+use Rattle.papaya_scenes.proofs.Given.Callers.Together.At.{at_other, at_same}
+use Rattle.papaya_scenes.proofs.Given.Callers.Together.Fits.{map_in_slot}
+use Rattle.papaya_scenes.specs.Given.Finishes.Machines.{machine_of, MachineStepsAmong}
+use Rattle.papaya_scenes.specs.Given.Finishes.Maps.{Standing, IsSameMap, with_call}
 use Rattle.papaya_effects.specs.Effects.{effects_of, known_after}
 use Rattle.papaya_effects.specs.Known.{Known}
 use Rattle.papaya_effects.specs.declared.acting.Acting.{Acting}
 use Rattle.papaya_effects.specs.declared.acting.Acting.TheVariants.{Call}
 use Rattle.papaya_effects.specs.declared.role.Role.{Role}
 use Rattle.papaya_effects.specs.declared.role.Role.TheVariants as role
-use Rattle.papaya_executor.specs.IsAt.{Scene, IsAt, slot_of}
-use Rattle.papaya_executor.specs.Stepping.{StepsFrom, StepLeads, scene_after}
-use Rattle.papaya_executor.specs.declared.executor.Executor.{Executor}
-use Rattle.papaya_executor.proofs.Steps.{may_step}
 use Rattle.papaya_follows.specs.Blocks.{HasRole, ShowsBlocks}
 use Rattle.papaya_follows.specs.Calls.{ShowsCalls}
 use Rattle.papaya_follows.specs.Finds.{FindsMap}
@@ -67,6 +63,10 @@ use Rattle.papaya_follows.proofs.Nowhere.{went_nowhere}
 use Rattle.papaya_follows.proofs.Onward.{IsOfMap, tables_same, pairs_same, blocks_same, blocks_part, map_on}
 use Rattle.papaya_follows.proofs.Operations.{LeavesBy, Operated, operated, operated_leaves, seen_write, told_write}
 use Rattle.papaya_follows.proofs.Told.{IsQuiet, quiet_told}
+use Rattle.papaya_scenes.proofs.May.{may_step}
+use Rattle.papaya_scenes.specs.Held.{Held, IsAt}
+use Rattle.papaya_scenes.specs.Scene.{Scene, slot_of}
+use Rattle.papaya_scenes.specs.Stepping.{StepLeads, StepsFrom, scene_after}
 
 pub one_of : {X : Type 0} (x y : X) → ◌≡◌ {A = Option X} (Some x) (Some y) → x ≡ y
 one_of x y e = cc e
@@ -85,15 +85,15 @@ pub same_gone : {K : Type 0} (o o2 : Option (Standing K)) → o ≡ None → IsS
 same_gone None o2 is same = same
 same_gone (Some before) o2 is same = absurd (cc is)
 
-module _ {K V S : Type 0} (same : K → K → Bool) (hash : K → ℕ) (m : Moment K V) (known : Known) (s : Scene K V) (old new : Executor K V S) (at : IsAt same hash old s)
+module _ {K V : Type 0} (same : K → K → Bool) (hash : ℕ → K → ℕ) (m : Moment K V) (known : Known) (s : Scene K V) (old new : Held K V) (at : IsAt same hash old s)
     (name : ℕ → List ℕ) (shown : Shows same name m known s)
     (map i : ℕ) (standing : Standing K) (there : s.maps map ≡ Some standing) (caller : List ℕ)
-    (made : Operated s.world.memory new.memory.memory new.memory.changed) where
+    (made : Operated s.world.memory new.memory new.changed) where
   abbrev m2 : Mem (Node K V)
-  m2 = new.memory.memory
+  m2 = new.memory
 
   abbrev told : Changed
-  told = new.memory.changed
+  told = new.changed
 
   abbrev w : World (Node K V)
   w = s.world
@@ -346,25 +346,25 @@ module _ {K V S : Type 0} (same : K → K → Bool) (hash : K → ℕ) (m : Mome
           )
 
 -- The step of a call that has led somewhere: it may be taken, and was one of its machine.
-module _ {K V S : Type 0} (same : K → K → Bool) (hash : K → ℕ) (name : ℕ → List ℕ) (m : Moment K V) (known : Known) (s : Scene K V) (old new : Executor K V S) (at : IsAt same hash old s)
+module _ {K V : Type 0} (same : K → K → Bool) (hash : ℕ → K → ℕ) (name : ℕ → List ℕ) (m : Moment K V) (known : Known) (s : Scene K V) (old new : Held K V) (at : IsAt same hash old s)
     (shown : Shows same name m known s) (map i : ℕ) (u : UnderWay K V K) (here : s.calls map i ≡ Some u) (told : Progress (Node K V)) (leads : StepLeads same hash i told s old new) where
   abbrev pub WentTo : Type 0
   WentTo =
-      (standing : Standing K) × (machine : Machine K V K) × (s.maps map ≡ Some standing) × StepsFrom same hash (machine_of u) old new machine told
-      × (did : MachineStepsAmong V same same old.batch_size old.roots slot_of s.world s.maps s.calls s.makers s.enders map standing i new.memory.memory u machine told)
-      × IsAt same hash new (scene_after same hash s old new map i standing u machine told did)
+      (standing : Standing K) × (machine : Machine K V K) × (s.maps map ≡ Some standing) × StepsFrom same standing.hash (machine_of u) old new machine told
+      × (did : MachineStepsAmong V same same old.batch_size old.roots slot_of s.world s.maps s.calls s.makers s.enders map standing i new.memory u machine told)
+      × IsAt same hash new (scene_after same s old new map i standing u machine told did)
 
   abbrev pub went_to : WentTo
   went_to = leads map u here
 
-  pub made_so : Operated s.world.memory new.memory.memory new.memory.changed
-  made_so = subst (λ (x : Mem (Node K V)). Operated x new.memory.memory new.memory.changed) (sym at.memory)
-      (operated old.memory.memory new.memory.memory new.memory.changed (machine_plan same same hash (machine_of u)) (went_to.1, told) (may_step same hash old s at map i u here) went_to.3)
+  pub made_so : Operated s.world.memory new.memory new.changed
+  made_so = subst (λ (x : Mem (Node K V)). Operated x new.memory new.changed) (sym at.memory)
+      (operated old.memory new.memory new.changed (machine_plan same same went_to.0.hash (machine_of u)) (went_to.1, told) (may_step same hash old s at map went_to.0 went_to.2 i u here) went_to.3)
 
   -- the calls that are under way are there then
-  pub calls_then : ShowsCalls same name (with_effects (Some (name i)) (Some map) (effects_of (Call i map) known new.memory.changed) m) (with_call s.calls map i went_to.4.next)
-  calls_then = calls_on same name (name i) map (effects_of (Call i map) known new.memory.changed) m s.calls map i u here went_to.4.next
-      (called_on same old.batch_size old.roots s.world s.maps s.calls s.makers s.enders map went_to.0 i new.memory.memory went_to.4.w2 went_to.4.maps2 went_to.4.next u went_to.1 told went_to.4.did) shown.calls
+  pub calls_then : ShowsCalls same name (with_effects (Some (name i)) (Some map) (effects_of (Call i map) known new.changed) m) (with_call s.calls map i went_to.4.next)
+  calls_then = calls_on same name (name i) map (effects_of (Call i map) known new.changed) m s.calls map i u here went_to.4.next
+      (called_on same old.batch_size old.roots s.world s.maps s.calls s.makers s.enders map went_to.0 i new.memory went_to.4.w2 went_to.4.maps2 went_to.4.next u went_to.1 told went_to.4.did) shown.calls
 
   pub is_inside : IsInside (s.world.uses (slot_of i))
   is_inside = (at.together.makings.standing.each map went_to.0 went_to.2).inside i u here
@@ -372,37 +372,37 @@ module _ {K V S : Type 0} (same : K → K → Bool) (hash : K → ℕ) (name : �
   -- what such a step has led to
   abbrev pub LeadsThere : Type 0
   LeadsThere =
-      ShowsOn same name m known s shown (with_effects (Some (name i)) (Some map) (effects_of (Call i map) known new.memory.changed) m) (known_after (Call i map) new.memory.changed known)
-      (scene_after same hash s old new map i went_to.0 u went_to.1 told went_to.4)
+      ShowsOn same name m known s shown (with_effects (Some (name i)) (Some map) (effects_of (Call i map) known new.changed) m) (known_after (Call i map) new.changed known)
+      (scene_after same s old new map i went_to.0 u went_to.1 told went_to.4)
 
   abbrev pub DidSo : UnderWay K V K → Type 0
-  DidSo x = Did same old.batch_size old.roots s.world s.maps s.calls s.makers s.enders map went_to.0 i new.memory.memory went_to.4.w2 went_to.4.maps2 went_to.4.next x went_to.1 told
+  DidSo x = Did same old.batch_size old.roots s.world s.maps s.calls s.makers s.enders map went_to.0 i new.memory went_to.4.w2 went_to.4.maps2 went_to.4.next x went_to.1 told
 
   abbrev pub OfNoRow : (x : UnderWay K V K) → DidSo x → Type 0
-  OfNoRow x did = IsOfNoRow same old.batch_size old.roots s.world s.maps s.calls s.makers s.enders map went_to.0 i new.memory.memory went_to.4.w2 went_to.4.maps2 went_to.4.next x went_to.1 told did
+  OfNoRow x did = IsOfNoRow same old.batch_size old.roots s.world s.maps s.calls s.makers s.enders map went_to.0 i new.memory went_to.4.w2 went_to.4.maps2 went_to.4.next x went_to.1 told did
 
   -- The moment after its effects shows the scene after it, where it stores what it has to.
-  pub step_shown : OfNoRow u went_to.4.did → StoreTheirs s.world.memory new.memory.changed (name i) map (effects_of (Call i map) known new.memory.changed) m
-      → AtEachEffect (FindsMap map) (Some (name i)) (Some map) (effects_of (Call i map) known new.memory.changed) m × LeadsThere
+  pub step_shown : OfNoRow u went_to.4.did → StoreTheirs s.world.memory new.changed (name i) map (effects_of (Call i map) known new.changed) m
+      → AtEachEffect (FindsMap map) (Some (name i)) (Some map) (effects_of (Call i map) known new.changed) m × LeadsThere
   step_shown own stores = by u went_to.4.did own
     where
-      by : (x : UnderWay K V K) → (did : DidSo x) → OfNoRow x did → AtEachEffect (FindsMap map) (Some (name i)) (Some map) (effects_of (Call i map) known new.memory.changed) m × LeadsThere
+      by : (x : UnderWay K V K) → (did : DidSo x) → OfNoRow x did → AtEachEffect (FindsMap map) (Some (name i)) (Some map) (effects_of (Call i map) known new.changed) m × LeadsThere
       by (OnKey x) (p2, end, machine_is, told_is, inl (step, moved)) own =
           moved_shown same hash m known s old new at name shown map i went_to.0 went_to.2 (name i) made_so is_inside _ step.step.went step.step.blocks2 step.step.grown step.step.sights2 stores went_to.4.w2 went_to.4.maps2 moved.0 moved.1
-          (scene_after same hash s old new map i went_to.0 u went_to.1 told went_to.4) calls_then
+          (scene_after same s old new map i went_to.0 u went_to.1 told went_to.4) calls_then
       by (OnKey x) (p2, end, machine_is, told_is, inr row) own = absurd own
       by (ForRoom x) (p2, end, machine_is, told_is, inl (step, moved)) own =
           moved_shown same hash m known s old new at name shown map i went_to.0 went_to.2 (name i) made_so is_inside _ step.step.went step.step.blocks2 step.step.grown step.step.sights2 stores went_to.4.w2 went_to.4.maps2 moved.0 moved.1
-          (scene_after same hash s old new map i went_to.0 u went_to.1 told went_to.4) calls_then
+          (scene_after same s old new map i went_to.0 u went_to.1 told went_to.4) calls_then
       by (ForRoom x) (p2, end, machine_is, told_is, inr row) own = absurd own
       by (Counting x) (p2, end, machine_is, told_is, still, stayed) own =
           stayed_shown same hash m known s old new at name shown map i went_to.0 went_to.2 (name i) made_so is_inside still went_to.4.w2 went_to.4.maps2 stayed.0 stayed.1
-          (scene_after same hash s old new map i went_to.0 u went_to.1 told went_to.4) calls_then
+          (scene_after same s old new map i went_to.0 u went_to.1 told went_to.4) calls_then
       by (OverAll x) (p2, end, machine_is, told_is, inl (step, moved)) own =
           moved_shown same hash m known s old new at name shown map i went_to.0 went_to.2 (name i) made_so is_inside _ step.step.went step.step.blocks2 step.step.grown step.step.sights2 stores went_to.4.w2 went_to.4.maps2 moved.0 moved.1
-          (scene_after same hash s old new map i went_to.0 u went_to.1 told went_to.4) calls_then
+          (scene_after same s old new map i went_to.0 u went_to.1 told went_to.4) calls_then
       by (OverAll x) (p2, end, machine_is, told_is, inr row) own = absurd own
 
-pub calls_are_shown : (K V S : Type 0) (same : K → K → Bool) (hash : K → ℕ) → CallsAreShown K V S same hash
-calls_are_shown K V S same hash name m known s old new at shown map i u here told leads own stores =
+pub calls_are_shown : (K V : Type 0) (same : K → K → Bool) (hash : ℕ → K → ℕ) → CallsAreShown K V same hash
+calls_are_shown K V same hash name m known s old new at shown map i u here told leads own stores =
     let step = step_shown same hash name m known s old new at shown map i u here told leads own stores in (step.0, step.1.shows)

@@ -2,10 +2,10 @@
 use Rattle.std.specs.Prelude.{◌≡◌, ◌≢◌, ℕ, suc, ◌+◌, ◌<◌, ◌≤◌, Bool, true, false, cond, eqb, List, [], ◌∷◌, ◌++◌, length, Option, Some, None, ◌⊎◌}
 use Rattle.std.proofs.Common.{refl, ap, sym, subst, ◌∙◌, arith, inl, inr}
 use Rattle.std.proofs.lemmas.Bool.{ne_eqb, eq-eqb, cases_eq, cases_lt}
-use Rattle.papaya_executor.specs.Given.SeizeWords.Mem.{Mem, value_at}
-use Rattle.papaya_executor.specs.Given.Seize.World.{World}
-use Rattle.papaya_executor.specs.Given.Tables.declared.node.Node.{Node}
-use Rattle.papaya_executor.specs.Given.Tables.declared.node.Node.TheVariants as node
+use Rattle.papaya_scenes.specs.Given.SeizeWords.Mem.{Mem, value_at}
+use Rattle.papaya_scenes.specs.Given.Seize.World.{World}
+use Rattle.papaya_scenes.specs.Given.Tables.declared.node.Node.{Node}
+use Rattle.papaya_scenes.specs.Given.Tables.declared.node.Node.TheVariants as node
 use Rattle.papaya_effects.specs.Given.Runs.Log.{pair_at}
 use Rattle.papaya_effects.specs.Given.Schedules.declared.effect.Effect.{Effect}
 use Rattle.papaya_effects.specs.Given.Schedules.declared.effect.Effect.TheVariants.{Stored, Replaced, Removed}
@@ -15,16 +15,16 @@ use Rattle.papaya_effects.specs.Given.Schedules.Effects.{stored_by, with_effect}
 use Rattle.papaya_effects.specs.Given.Schedules.Lists.{put}
 use Rattle.papaya_effects.specs.Given.Schedules.Moment.{Place, Unborn, InMap, Out, Handed, Behind, Left, GivenBack, UnderWay, Moment}
 use Rattle.papaya_effects.specs.Given.Schedules.Views.{is_in_map}
-use Rattle.papaya_executor.specs.Given.Rule.Chart.{Still, Holds, Chart, is_settled}
-use Rattle.papaya_executor.specs.Given.Rule.Rule.{Rule}
-use Rattle.papaya_executor.specs.Given.Rule.Moves.{Promotes, MayChange, Allowed}
-use Rattle.papaya_executor.specs.Given.Rule.Words.{Blocks}
-use Rattle.papaya_executor.specs.Given.Rule.InWorld.{IsMapIn, Went}
-use Rattle.papaya_executor.proofs.Given.Rule.Laws.{current_is_known}
-use Rattle.papaya_executor.specs.Given.Points.Steps.{AreLawful}
-use Rattle.papaya_executor.specs.Given.Callers.Sights.{Sight, seen_by, IsGrown, IsSight}
-use Rattle.papaya_executor.specs.Given.Callers.Together.{in_slot}
-use Rattle.papaya_executor.specs.Given.Finishes.Maps.{Standing}
+use Rattle.papaya_scenes.specs.Given.Rule.Chart.{Still, Holds, Chart, is_settled}
+use Rattle.papaya_scenes.specs.Given.Rule.Rule.{Rule}
+use Rattle.papaya_scenes.specs.Given.Rule.Moves.{Promotes, MayChange, Allowed}
+use Rattle.papaya_scenes.specs.Given.Rule.Words.{Blocks}
+use Rattle.papaya_scenes.specs.Given.Rule.InWorld.{IsMapIn, Went}
+use Rattle.papaya_scenes.proofs.Given.Rule.Laws.{current_is_known}
+use Rattle.papaya_scenes.specs.Given.Points.Steps.{AreLawful}
+use Rattle.papaya_scenes.specs.Given.Callers.Sights.{Sight, seen_by, IsGrown, IsSight}
+use Rattle.papaya_scenes.specs.Given.Callers.Together.{in_slot}
+use Rattle.papaya_scenes.specs.Given.Finishes.Maps.{Standing}
 use Rattle.papaya_effects.specs.Known.{Known, with_pair}
 use Rattle.papaya_effects.specs.declared.role.Role.{Role}
 use Rattle.papaya_effects.specs.declared.role.Role.TheVariants as role

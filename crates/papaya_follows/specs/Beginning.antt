@@ -2,8 +2,8 @@
 use Rattle.std.specs.Prelude.{ℕ, Bool, List}
 use Rattle.papaya_effects.specs.Given.Schedules.Moment.{start}
 use Rattle.papaya_effects.specs.Known.{nothing_known}
-use Rattle.papaya_executor.specs.IsAt.{at_first}
 use Rattle.papaya_follows.specs.Shows.{Shows}
+use Rattle.papaya_scenes.specs.Scene.{at_first}
 
 -- The promise: the moment before all events shows the first scene.
 abbrev pub RunsBegin : Type 0 → Type 0 → Type 0

@@ -1,10 +1,10 @@
--- What the blocks of the executor's memory are at a moment of a run, by what is noted of them.
+-- What the blocks of the memory are at a moment of a run, by what is noted of them.
 use Rattle.std.specs.Prelude.{◌≡◌, ◌≢◌, ℕ, List, length, Some, None}
-use Rattle.papaya_executor.specs.Given.SeizeWords.Mem.{value_at}
-use Rattle.papaya_executor.specs.Given.Seize.World.{World, Hand, NoBlock, Making}
-use Rattle.papaya_executor.specs.Given.Tables.Nodes.{deferred_word}
-use Rattle.papaya_executor.specs.Given.Tables.declared.node.Node.{Node}
-use Rattle.papaya_executor.specs.Given.Tables.declared.node.Node.TheVariants as node
+use Rattle.papaya_scenes.specs.Given.SeizeWords.Mem.{value_at}
+use Rattle.papaya_scenes.specs.Given.Seize.World.{World, Hand, NoBlock, Making}
+use Rattle.papaya_scenes.specs.Given.Tables.Nodes.{deferred_word}
+use Rattle.papaya_scenes.specs.Given.Tables.declared.node.Node.{Node}
+use Rattle.papaya_scenes.specs.Given.Tables.declared.node.Node.TheVariants as node
 use Rattle.papaya_effects.specs.Given.Runs.Log.{pair_at}
 use Rattle.papaya_effects.specs.Given.Schedules.Moment.{Moment}
 use Rattle.papaya_effects.specs.Known.{Known}

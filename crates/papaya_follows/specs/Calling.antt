@@ -1,7 +1,7 @@
 -- Calls between their steps: where one begins, is told a reply, or has come to an outcome, the moment shows the scene then.
 use Rattle.std.specs.Prelude.{◌≡◌, ℕ, Bool, true, false, List, Some}
 use Rattle.papaya_effects.specs.Given.Runs.Same.{is_same}
-use Rattle.papaya_executor.specs.Given.Raw.declared.machines.asking.Reply.{Reply as MachineReply}
+use Rattle.papaya_scenes.specs.Given.Raw.declared.machines.asking.Reply.{Reply as MachineReply}
 use Rattle.papaya_effects.specs.Given.Schedules.declared.call.Call.{Call}
 use Rattle.papaya_effects.specs.Given.Schedules.declared.call.Reply.{Reply}
 use Rattle.papaya_effects.specs.Given.Schedules.declared.event.Event.TheVariants.{Replied}
@@ -11,14 +11,14 @@ use Rattle.papaya_effects.specs.Given.Schedules.After.{stepped, calls_on}
 use Rattle.papaya_effects.specs.Given.Schedules.Beginning.{with_call}
 use Rattle.papaya_effects.specs.Given.Schedules.Entry.{ends_call}
 use Rattle.papaya_effects.specs.Given.Schedules.Moment.{Moment}
-use Rattle.papaya_executor.specs.Given.Callers.Together.{UnderWay}
-use Rattle.papaya_executor.specs.Given.Finishes.Machines.{ToldOfKind}
-use Rattle.papaya_executor.specs.Given.Finishes.Maps.{Standing}
+use Rattle.papaya_scenes.specs.Given.Callers.Together.{UnderWay}
+use Rattle.papaya_scenes.specs.Given.Finishes.Machines.{ToldOfKind}
+use Rattle.papaya_scenes.specs.Given.Finishes.Maps.{Standing}
 use Rattle.papaya_effects.specs.Known.{Known}
-use Rattle.papaya_executor.specs.IsAt.{Scene, slot_of}
-use Rattle.papaya_executor.specs.Replying.{scene_with}
 use Rattle.papaya_follows.specs.Calls.{IsCalled}
 use Rattle.papaya_follows.specs.Shows.{Shows}
+use Rattle.papaya_scenes.specs.Replying.{scene_with}
+use Rattle.papaya_scenes.specs.Scene.{Scene, slot_of}
 
 module _ {K V : Type 0} where
   -- no call that is under way has this name

@@ -5,7 +5,7 @@ use Rattle.papaya_effects.specs.Given.Schedules.declared.call.Call.TheVariants.{
 use Rattle.papaya_effects.specs.Given.Schedules.Moment.{UnderWay as CallThere, Moment}
 use Rattle.papaya_effects.specs.Given.Schedules.Sequential.{key_of}
 use Rattle.papaya_effects.specs.Given.Schedules.Views.{call_of}
-use Rattle.papaya_executor.specs.Given.Callers.Together.{UnderWay, OnKey, ForRoom, Counting, OverAll}
+use Rattle.papaya_scenes.specs.Given.Callers.Together.{UnderWay, OnKey, ForRoom, Counting, OverAll}
 
 module _ {K V : Type 0} (same : K → K → Bool) where
   -- it is what was called: on this key, for room, to count, or over the whole map

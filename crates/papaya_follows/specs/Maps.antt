@@ -4,8 +4,8 @@ use Rattle.papaya_effects.specs.Given.Runs.declared.outcome.TableShape.{TableSha
 use Rattle.papaya_effects.specs.Given.Schedules.declared.effect.Table.{Table}
 use Rattle.papaya_effects.specs.Given.Schedules.Moment.{InMap, MapThere, Stage, IsLinked, TableThere, Moment}
 use Rattle.papaya_effects.specs.Given.Schedules.Views.{is_in_map, map_at, tables_of}
-use Rattle.papaya_executor.specs.Given.Rule.Chart.{Chart}
-use Rattle.papaya_executor.specs.Given.Finishes.Maps.{Standing}
+use Rattle.papaya_scenes.specs.Given.Rule.Chart.{Chart}
+use Rattle.papaya_scenes.specs.Given.Finishes.Maps.{Standing}
 use Rattle.papaya_effects.specs.Known.{Known}
 use Rattle.papaya_effects.specs.declared.role.Role.TheVariants as role
 

@@ -1,12 +1,12 @@
--- How a moment of a run, with what is noted of the memory, shows a scene of the executor.
+-- How a moment of a run, with what is noted of the memory, shows a scene.
 use Rattle.std.specs.Prelude.{◌≡◌, ℕ, Bool, List, Some}
 use Rattle.papaya_effects.specs.Given.Schedules.Moment.{Moment}
-use Rattle.papaya_executor.specs.Given.Finishes.Maps.{Standing}
+use Rattle.papaya_scenes.specs.Given.Finishes.Maps.{Standing}
 use Rattle.papaya_effects.specs.Known.{Known}
-use Rattle.papaya_executor.specs.IsAt.{Scene}
 use Rattle.papaya_follows.specs.Blocks.{ShowsBlocks}
 use Rattle.papaya_follows.specs.Calls.{ShowsCalls}
 use Rattle.papaya_follows.specs.Maps.{ShowsMap}
+use Rattle.papaya_scenes.specs.Scene.{Scene}
 
 -- The blocks have the roles that are noted, each map that stands is shown, and so are the calls under way, by the names of their callers. The pairs of a map
 -- have numbers of the run by the order in which they were stored there.

@@ -1,4 +1,4 @@
-//! How the moment of a run follows the scene of the executor.
+//! How the moment of a run follows the scene.
 #![tactic(auto)]
 
 pub mod law;

@@ -21,9 +21,6 @@ use Rattle.papaya_purposes.specs.Given.Points.FactsCalls.{IsCopying}
 use Rattle.papaya_purposes.specs.Given.Callers.OverAll.{CallOverAll}
 use Rattle.papaya_purposes.specs.Given.Callers.Together.{CallOnKey, UnderWay, OnKey, ForRoom, Counting, OverAll}
 use Rattle.papaya_purposes.specs.Given.Effects.Known.{Known}
-use Rattle.papaya_purposes.specs.Given.Executor.IsAt.{Scene, IsAt}
-use Rattle.papaya_purposes.specs.Given.Executor.Stepping.{StepsFrom, StepLeads}
-use Rattle.papaya_purposes.specs.Given.Executor.declared.executor.Executor.{Executor}
 use Rattle.papaya_purposes.specs.Given.Finishes.Machines.{machine_of}
 use Rattle.papaya_purposes.specs.Given.Follows.Calls.{IsCalled}
 use Rattle.papaya_purposes.proofs.Given.Follows.Steps.{WentTo, went_to}
@@ -33,6 +30,9 @@ use Rattle.papaya_purposes.specs.Given.Owes.Making.{making_in_calling, making_in
 use Rattle.papaya_purposes.proofs.Given.Owes.Walks.{IsToOwn, call_makes, sweep_makes}
 use Rattle.papaya_grows.specs.Copiers.{copier_in_calling, making_of_copier, MakesByCopier, CopiersMayAsk}
 use Rattle.papaya_purposes.proofs.Given.Finds.Grows.Asked.{Asks, made_of, may_ask}
+use Rattle.papaya_purposes.specs.Given.Scenes.Held.{Held, IsAt}
+use Rattle.papaya_purposes.specs.Given.Scenes.Scene.{Scene}
+use Rattle.papaya_purposes.specs.Given.Scenes.Stepping.{StepLeads, StepsFrom}
 
 -- a call that copies makes no block for a pair, and no table but its copier's
 
@@ -64,35 +64,35 @@ next_grows : {K V : Type 0} (terms : Terms) (m : Moment K V) (moments : List (Mo
 next_grows terms m moments (call.Reserve more) c none next = absurd none
 next_grows terms m moments _ c none next = inr next
 
-module _ {K V S : Type 0} (same : K → K → Bool) (hash : K → ℕ) (name : ℕ → List ℕ) (m : Moment K V) (known : Known) (s : Scene K V) (old new : Executor K V S) (at : IsAt same hash old s)
+module _ {K V : Type 0} (same : K → K → Bool) (hash : ℕ → K → ℕ) (name : ℕ → List ℕ) (m : Moment K V) (known : Known) (s : Scene K V) (old new : Held K V) (at : IsAt same hash old s)
     (whole : ShowsWhole same name m known s) (map i : ℕ) (u : UnderWay K V K) (here : s.calls map i ≡ Some u) (said : Progress (Node K V)) (leads : StepLeads same hash i said s old new) where
   abbrev to : WentTo same hash name m known s old new at whole.all.shown map i u here said leads
   to = went_to same hash name m known s old new at whole.all.shown map i u here said leads
 
   abbrev told : Changed
-  told = new.memory.changed
+  told = new.changed
 
   -- its copier has a table to make
   abbrev HasMaking : UnderWay K V K → Type 0
   HasMaking x = (n : NewTable) × (making_of_copier (machine_of x) ≡ Some n)
 
   abbrev Stepped : UnderWay K V K → Type 0
-  Stepped x = StepsFrom same hash (machine_of x) old new to.1 said
+  Stepped x = StepsFrom same to.0.hash (machine_of x) old new to.1 said
 
   key_making : (x : CallOnKey K V K) → IsCopying x.call.stands → Stepped (OnKey x) → Asks told → HasMaking (OnKey x)
   key_making x copies steps asks =
-      let it = told_in old.memory.memory new.memory.memory told of_key (call_plan same same hash x.call) (to.1, said) steps in
-      elim (call_makes same same hash x.call) as (λ _. HasMaking (OnKey x)) [
+      let it = told_in old.memory new.memory told of_key (call_plan same same to.0.hash x.call) (to.1, said) steps in
+      elim (call_makes same same to.0.hash x.call) as (λ _. HasMaking (OnKey x)) [
         | inl own ↦ absurd (copies_no_own x.call.stands copies own)
         | inr so ↦
-            let n = made_of (making_in_calling x.call.stands) old.memory.memory new.memory.memory told (call_plan same same hash x.call) it.0 it.2 so asks in
+            let n = made_of (making_in_calling x.call.stands) old.memory new.memory told (call_plan same same to.0.hash x.call) it.0 it.2 so asks in
             (n.0, call_of_copier x.call.stands copies ∙ n.1)
       ]
 
   sweep_making : (o : CallOverAll) → Stepped (OverAll o) → Asks told → HasMaking (OverAll o)
   sweep_making o steps asks =
-      let it = told_in old.memory.memory new.memory.memory told of_sweep (sweep_plan hash o.sweep) (to.1, said) steps in
-      made_of (making_in_sweeping o.sweep.stands) old.memory.memory new.memory.memory told (sweep_plan hash o.sweep) it.0 it.2 (sweep_makes K V hash o.sweep) asks
+      let it = told_in old.memory new.memory told of_sweep (sweep_plan to.0.hash o.sweep) (to.1, said) steps in
+      made_of (making_in_sweeping o.sweep.stands) old.memory new.memory told (sweep_plan to.0.hash o.sweep) it.0 it.2 (sweep_makes K V to.0.hash o.sweep) asks
 
   making_by : (x : UnderWay K V K) → MakesByCopier x → Stepped x → Asks told → HasMaking x
   making_by (OnKey x) copies steps asks = key_making x copies steps asks
@@ -111,8 +111,8 @@ module _ {K V S : Type 0} (same : K → K → Bool) (hash : K → ℕ) (name : �
     may_grow asks =
         next_grows terms m moments its_call.0.call its_call.0 (no_reservation same u copies its_call.0.call its_call.3) (subst (λ (k : ℕ). OneOf (HasNext k) (m ∷ moments)) (sym its_call.2) (has_next asks))
 
-pub copiers_may_ask : (K V S : Type 0) (same : K → K → Bool) (hash : K → ℕ) → CopiersMayAsk K V S same hash
-copiers_may_ask K V S same hash name m known s old new at whole map i u here said leads copies terms moments nexts =
+pub copiers_may_ask : (K V : Type 0) (same : K → K → Bool) (hash : ℕ → K → ℕ) → CopiersMayAsk K V same hash
+copiers_may_ask K V same hash name m known s old new at whole map i u here said leads copies terms moments nexts =
     let c = whole.all.shown.calls map i u here in
     may_ask same hash name m known s old new at whole map i u here said leads terms moments c.0 c.1
     (may_grow same hash name m known s old new at whole map i u here said leads copies terms moments nexts)

@@ -36,9 +36,6 @@ use Rattle.papaya_purposes.specs.Given.Late.Left.{Left}
 use Rattle.papaya_purposes.specs.Given.Callers.Sights.{seen_by}
 use Rattle.papaya_purposes.specs.Given.Callers.Together.{UnderWay, OnKey, ForRoom, Counting, OverAll, in_slot, Together}
 use Rattle.papaya_purposes.specs.Given.Effects.Known.{Known}
-use Rattle.papaya_purposes.specs.Given.Executor.IsAt.{Scene, IsAt, slot_of}
-use Rattle.papaya_purposes.specs.Given.Executor.declared.executor.Executor.{Executor}
-use Rattle.papaya_purposes.proofs.Given.Executor.Changed.{standing_is}
 use Rattle.papaya_purposes.specs.Given.Finishes.Machines.{machine_of}
 use Rattle.papaya_purposes.specs.Given.Finishes.Maps.{Standing}
 use Rattle.papaya_purposes.specs.Given.Follows.Maps.{table_of, shape_at, tables_to, ShowsMap}
@@ -47,6 +44,9 @@ use Rattle.papaya_purposes.proofs.Given.Follows.Finds.{first_is}
 use Rattle.papaya_purposes.specs.Given.Owes.Making.{making_in_copying, making_in_calling, making_in_reserving, making_in_sweeping}
 use Rattle.papaya_purposes.proofs.Given.Owes.Machines.{call_none, room_none, sweep_none}
 use Rattle.papaya_grows.specs.Copiers.{copier_in_calling, copier_in_reserving, making_of_copier, RootHasLeft, CopiersHaveNext}
+use Rattle.papaya_purposes.proofs.Given.Scenes.May.{standing_is}
+use Rattle.papaya_purposes.specs.Given.Scenes.Held.{Held, IsAt}
+use Rattle.papaya_purposes.specs.Given.Scenes.Scene.{Scene, slot_of}
 
 -- Of so many tables of a map no more lie before a turn than that says.
 
@@ -155,7 +155,7 @@ copier_of_room : (q : Reserving) (n : NewTable) → copier_in_reserving q ≡ So
 copier_of_room (reserving.Copies copier) n is = is
 copier_of_room _ n is = absurd (cc is)
 
-module _ {K V S : Type 0} (same : K → K → Bool) (hash : K → ℕ) (name : ℕ → List ℕ) (m : Moment K V) (known : Known) (s : Scene K V) (e : Executor K V S) (at : IsAt same hash e s)
+module _ {K V : Type 0} (same : K → K → Bool) (hash : ℕ → K → ℕ) (name : ℕ → List ℕ) (m : Moment K V) (known : Known) (s : Scene K V) (e : Held K V) (at : IsAt same hash e s)
     (shown : Shows same name m known s) (map i : ℕ) (n : NewTable) where
   module _ (st : Standing K) (there : s.maps map ≡ Some st) where
     each : Together V same st.hash same st.setting slot_of s.world st.chart st.blocks st.sights (s.calls map)
@@ -197,6 +197,6 @@ module _ {K V S : Type 0} (same : K → K → Bool) (hash : K → ℕ) (name : �
       | inr k ↦ absurd (let none = sweep_none o.sweep.stands k.1 in cc (none, is))
     ]
 
-pub copiers_have_next : (K V S : Type 0) (same : K → K → Bool) (hash : K → ℕ) → CopiersHaveNext K V S same hash
-copiers_have_next K V S same hash name m known s e at shown map i u here n is =
+pub copiers_have_next : (K V : Type 0) (same : K → K → Bool) (hash : ℕ → K → ℕ) → CopiersHaveNext K V same hash
+copiers_have_next K V same hash name m known s e at shown map i u here n is =
     let st = standing_is same hash e s at map i u here in by_kind same hash name m known s e at shown map i n st.0 st.1 u here is

@@ -12,7 +12,7 @@ pub use Rattle.papaya_purposes.proofs.Given.Points
 pub use Rattle.papaya_purposes.proofs.Given.Callers
 pub use Rattle.papaya_purposes.proofs.Given.Finishes
 pub use Rattle.papaya_purposes.proofs.Given.Runs
-pub use Rattle.papaya_purposes.proofs.Given.Executor
+pub use Rattle.papaya_purposes.proofs.Given.Scenes
 pub use Rattle.papaya_purposes.proofs.Given.Follows
 pub use Rattle.papaya_purposes.proofs.Given.Hands
 pub use Rattle.papaya_purposes.proofs.Given.Others

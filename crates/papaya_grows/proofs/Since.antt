@@ -22,11 +22,6 @@ use Rattle.papaya_purposes.specs.Given.Callers.Together.{UnderWay}
 use Rattle.papaya_purposes.specs.Given.Effects.Effects.{effects_of}
 use Rattle.papaya_purposes.specs.Given.Effects.Known.{Known}
 use Rattle.papaya_purposes.specs.Given.Effects.declared.acting.Acting.TheVariants as acts
-use Rattle.papaya_purposes.specs.Given.Executor.IsAt.{IsAt, Scene}
-use Rattle.papaya_purposes.specs.Given.Executor.Replying.{scene_with, unless_stopped}
-use Rattle.papaya_purposes.specs.Given.Executor.Stepping.{StepLeads, scene_after}
-use Rattle.papaya_purposes.specs.Given.Executor.declared.executor.Executor.{Executor}
-use Rattle.papaya_purposes.proofs.Given.Executor.Changed.{standing_is}
 use Rattle.papaya_purposes.specs.Given.Finishes.Machines.{machine_of}
 use Rattle.papaya_purposes.specs.Given.Finishes.Maps.{Standing, with_call as with_in}
 use Rattle.papaya_purposes.specs.Given.Follows.Calling.{NoneNamed, come_to, told}
@@ -42,6 +37,11 @@ use Rattle.papaya_purposes.proofs.Given.Histories.Begun.{comes_begun, effects_be
 use Rattle.papaya_purposes.proofs.Given.Histories.Logs.{last_there, moments_grow}
 use Rattle.papaya_purposes.proofs.Given.Owes.Calls.{goes_as_one}
 use Rattle.papaya_grows.proofs.Finding.Between.{fewer_calls}
+use Rattle.papaya_purposes.proofs.Given.Scenes.May.{standing_is}
+use Rattle.papaya_purposes.specs.Given.Scenes.Held.{Held, IsAt}
+use Rattle.papaya_purposes.specs.Given.Scenes.Replying.{scene_with, unless_stopped}
+use Rattle.papaya_purposes.specs.Given.Scenes.Scene.{Scene}
+use Rattle.papaya_purposes.specs.Given.Scenes.Stepping.{StepLeads, scene_after}
 
 -- pairs are where they were
 pub record HasSamePairs {K V : Type 0} (m v : Moment K V) : Type 0 where
@@ -101,7 +101,7 @@ module _ {K V X : Type 0} (Of : (X → Type 0) → Machine K V K → Type 0) (mo
     so_alike calls keeps was = so_stay keeps was (λ n j x is d d_is. (d, found_same m v calls (name j) d d_is, refl))
 
   -- at a moment with other maps, where those that stand are found as they were
-  pub so_where_found : {S : Type 0} (same : K → K → Bool) (hash : K → ℕ) (name : ℕ → List ℕ) (log : List (Entry K V)) (m v : Moment K V) (s : Scene K V) (e : Executor K V S) → IsAt same hash e s → ShowsSo name log m s
+  pub so_where_found : (same : K → K → Bool) (hash : ℕ → K → ℕ) (name : ℕ → List ℕ) (log : List (Entry K V)) (m v : Moment K V) (s : Scene K V) (e : Held K V) → IsAt same hash e s → ShowsSo name log m s
       → ((n : ℕ) (st : Standing K) → s.maps n ≡ Some st → map_at n v ≡ map_at n m) → Alike m v → v.tables ≡ m.tables → v.calls ≡ m.calls → ShowsSo name log v s
   so_where_found same hash name log m v s e at shows still pairs tables calls n j x is d d_is =
       let st = standing_is same hash e s at n j x is in
@@ -216,20 +216,20 @@ module _ {K V X : Type 0} (Of : (X → Type 0) → Machine K V K → Type 0) (mo
 
   -- A step of a call.
 
-  module _ {S : Type 0} (same : K → K → Bool) (hash : K → ℕ) (name : ℕ → List ℕ) (log : List (Entry K V)) (m : Moment K V) (known : Known) (s : Scene K V) (old new : Executor K V S) (at : IsAt same hash old s)
+  module _ (same : K → K → Bool) (hash : ℕ → K → ℕ) (name : ℕ → List ℕ) (log : List (Entry K V)) (m : Moment K V) (known : Known) (s : Scene K V) (old new : Held K V) (at : IsAt same hash old s)
       (whole : ShowsWhole same name m known s) (map i : ℕ) (u : UnderWay K V K) (here : s.calls map i ≡ Some u) (said : Progress (Node K V)) (leads : StepLeads same hash i said s old new)
       (others : OthersSo name log i m s) where
     abbrev to : WentTo same hash name m known s old new at whole.all.shown map i u here said leads
     to = went_to same hash name m known s old new at whole.all.shown map i u here said leads
 
     abbrev effects : List Effect
-    effects = effects_of (acts.Call i map) known new.memory.changed
+    effects = effects_of (acts.Call i map) known new.changed
 
     abbrev v : Moment K V
     v = with_effects (Some (name i)) (Some map) effects m
 
     abbrev led : Scene K V
-    led = scene_after same hash s old new map i to.0 u to.1 said to.4
+    led = scene_after same s old new map i to.0 u to.1 said to.4
 
     -- a call of v is one of m, begun by the same event
     was_begun : (j : ℕ) (c d : CallThere K V) → call_of (name j) m ≡ Some c → call_of (name j) v ≡ Some d → d.begun ≡ c.begun

@@ -21,15 +21,15 @@ use Rattle.papaya_purposes.specs.Given.Callers.Together.{UnderWay, OnKey, ForRoo
 use Rattle.papaya_purposes.specs.Given.Effects.Effects.{effects_of}
 use Rattle.papaya_purposes.specs.Given.Effects.Known.{Known}
 use Rattle.papaya_purposes.specs.Given.Effects.declared.acting.Acting.TheVariants as acts
-use Rattle.papaya_purposes.specs.Given.Executor.IsAt.{Scene, IsAt}
-use Rattle.papaya_purposes.specs.Given.Executor.Stepping.{StepLeads}
-use Rattle.papaya_purposes.specs.Given.Executor.declared.executor.Executor.{Executor}
 use Rattle.papaya_purposes.specs.Given.Finishes.Machines.{machine_of}
 use Rattle.papaya_purposes.specs.Given.Finishes.Maps.{Standing}
 use Rattle.papaya_purposes.specs.Given.Follows.Shows.{Shows}
 use Rattle.papaya_purposes.specs.Given.Moments.Whole.{ShowsWhole}
 use Rattle.papaya_purposes.specs.Given.Owes.Making.{making_in_copying, making_in_sweeping}
 use Rattle.papaya_purposes.specs.Given.Finds.Growing.{FindAsked}
+use Rattle.papaya_purposes.specs.Given.Scenes.Held.{Held, IsAt}
+use Rattle.papaya_purposes.specs.Given.Scenes.Scene.{Scene}
+use Rattle.papaya_purposes.specs.Given.Scenes.Stepping.{StepLeads}
 
 -- The making of a table that is under way within a copier, if one is: that of a call on one key,
 abbrev pub copier_in_calling : Calling → Option NewTable
@@ -66,17 +66,17 @@ MakesByCopier (OnKey u) = IsCopying u.call.stands
 MakesByCopier (OverAll o) = Unit {0}
 MakesByCopier _ = ⊥
 
-module _ (K V S : Type 0) (same : K → K → Bool) (hash : K → ℕ) where
+module _ (K V : Type 0) (same : K → K → Bool) (hash : ℕ → K → ℕ) where
   -- The promises: where a copier makes a table, the map has a second one, or the root has left one;
   abbrev pub CopiersHaveNext : Type 0
   CopiersHaveNext =
-      (name : ℕ → List ℕ) (m : Moment K V) (known : Known) (s : Scene K V) (e : Executor K V S) → IsAt same hash e s → Shows same name m known s
+      (name : ℕ → List ℕ) (m : Moment K V) (known : Known) (s : Scene K V) (e : Held K V) → IsAt same hash e s → Shows same name m known s
       → (map i : ℕ) (u : UnderWay K V K) → s.calls map i ≡ Some u → (n : NewTable) → making_of_copier (machine_of u) ≡ Some n → HasNext map m ⊎ RootHasLeft s map u
 
   -- and each block for which such a call asks in a step it may ask for, if its map has a second table then, or had one at one of the moments before.
   abbrev pub CopiersMayAsk : Type 0
   CopiersMayAsk =
-      (name : ℕ → List ℕ) (m : Moment K V) (known : Known) (s : Scene K V) (old new : Executor K V S) → IsAt same hash old s → ShowsWhole same name m known s
+      (name : ℕ → List ℕ) (m : Moment K V) (known : Known) (s : Scene K V) (old new : Held K V) → IsAt same hash old s → ShowsWhole same name m known s
       → (map i : ℕ) (u : UnderWay K V K) (here : s.calls map i ≡ Some u) (said : Progress (Node K V)) → StepLeads same hash i said s old new
       → MakesByCopier u → (terms : Terms) (moments : List (Moment K V)) → ((n : NewTable) → making_of_copier (machine_of u) ≡ Some n → OneOf (HasNext map) (m ∷ moments))
-      → FindAsked terms moments (name i) map (effects_of (acts.Call i map) known new.memory.changed) m
+      → FindAsked terms moments (name i) map (effects_of (acts.Call i map) known new.changed) m

@@ -18,9 +18,9 @@ use Rattle.papaya_purposes.specs.Given.Schedules.Growing.{Has}
 use Rattle.papaya_purposes.specs.Given.Schedules.Moment.{Moment, TableThere}
 use Rattle.papaya_purposes.specs.Given.Schedules.Views.{tables_of}
 use Rattle.papaya_purposes.specs.Given.Callers.Together.{UnderWay}
-use Rattle.papaya_purposes.specs.Given.Executor.IsAt.{Scene}
 use Rattle.papaya_purposes.specs.Given.Finishes.Machines.{machine_of}
 use Rattle.papaya_purposes.specs.Given.Finds.Shaping.{ShapedAt}
+use Rattle.papaya_purposes.specs.Given.Scenes.Scene.{Scene}
 
 -- the one of a turn, if there are so many
 abbrev pub at_turn : List ℕ → ℕ → Option ℕ

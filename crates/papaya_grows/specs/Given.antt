@@ -18,7 +18,7 @@ pub use Rattle.papaya_purposes.specs.Given.Finishes
 pub use Rattle.papaya_purposes.specs.Given.Runs
 pub use Rattle.papaya_purposes.specs.Given.Schedules
 pub use Rattle.papaya_purposes.specs.Given.Effects
-pub use Rattle.papaya_purposes.specs.Given.Executor
+pub use Rattle.papaya_purposes.specs.Given.Scenes
 pub use Rattle.papaya_purposes.specs.Given.Follows
 pub use Rattle.papaya_purposes.specs.Given.Hands
 pub use Rattle.papaya_purposes.specs.Given.Others

@@ -19,8 +19,8 @@ use Rattle.papaya_purposes.specs.Given.Schedules.Moment.{Moment, UnderWay as Cal
 use Rattle.papaya_purposes.specs.Given.Schedules.Views.{call_of}
 use Rattle.papaya_purposes.specs.Given.Late.Faults.{StandsInCalling, StandsInReserving, StandsInSweeping}
 use Rattle.papaya_purposes.specs.Given.Callers.Together.{UnderWay}
-use Rattle.papaya_purposes.specs.Given.Executor.IsAt.{Scene}
 use Rattle.papaya_purposes.specs.Given.Finishes.Machines.{machine_of}
+use Rattle.papaya_purposes.specs.Given.Scenes.Scene.{Scene}
 
 -- a call is refused for the length of a table for this alone,
 abbrev pub IsFor : Type 0 → Fault → Type 0

@@ -8,9 +8,9 @@ use Rattle.papaya_purposes.specs.Given.Schedules.Lists.{OneOf}
 use Rattle.papaya_purposes.specs.Given.Schedules.Moment.{Moment, UnderWay as CallThere}
 use Rattle.papaya_purposes.specs.Given.Schedules.Views.{call_of}
 use Rattle.papaya_purposes.specs.Given.Callers.Together.{UnderWay}
-use Rattle.papaya_purposes.specs.Given.Executor.IsAt.{Scene}
 use Rattle.papaya_purposes.specs.Given.Finishes.Machines.{machine_of}
 use Rattle.papaya_grows.specs.Further.{MachineMakes}
+use Rattle.papaya_purposes.specs.Given.Scenes.Scene.{Scene}
 
 module _ {K V : Type 0} where
   -- it had one at a moment of the log since then, or has one now

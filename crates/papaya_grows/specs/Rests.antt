@@ -14,9 +14,6 @@ use Rattle.papaya_purposes.specs.Given.Callers.Together.{UnderWay}
 use Rattle.papaya_purposes.specs.Given.Effects.Effects.{effects_of}
 use Rattle.papaya_purposes.specs.Given.Effects.Known.{Known}
 use Rattle.papaya_purposes.specs.Given.Effects.declared.acting.Acting.TheVariants as acts
-use Rattle.papaya_purposes.specs.Given.Executor.IsAt.{IsAt, Scene}
-use Rattle.papaya_purposes.specs.Given.Executor.Stepping.{StepLeads}
-use Rattle.papaya_purposes.specs.Given.Executor.declared.executor.Executor.{Executor}
 use Rattle.papaya_purposes.specs.Given.Finishes.Machines.{machine_of}
 use Rattle.papaya_purposes.specs.Given.Moments.Whole.{ShowsWhole}
 use Rattle.papaya_kept.specs.Kept.{ShowsKept}
@@ -27,16 +24,19 @@ use Rattle.papaya_purposes.specs.Given.Finds.Within.{AllIsInOrder, many_of}
 use Rattle.papaya_sources.specs.Sources.{ShowsSources}
 use Rattle.papaya_purposes.specs.Purposes.{ShowsPurposes}
 use Rattle.papaya_grows.specs.Finding.{ShowsFinding}
+use Rattle.papaya_purposes.specs.Given.Scenes.Held.{Held, IsAt}
+use Rattle.papaya_purposes.specs.Given.Scenes.Scene.{Scene}
+use Rattle.papaya_purposes.specs.Given.Scenes.Stepping.{StepLeads}
 
 -- The promise, of a step of a call, at a moment at which all is in order, where the map of each copier that makes a table has a second one, or had one, and a call on one key that
 -- makes one behind the newest has found that full.
-abbrev pub StepsFindRest : (K V S : Type 0) (same : K → K → Bool) (hash : K → ℕ) → Type 0
-StepsFindRest K V S same hash =
-    (name : ℕ → List ℕ) (log : List (Entry K V)) (m : Moment K V) (known : Known) (s : Scene K V) (old new : Executor K V S) → IsAt same hash old s → ShowsWhole same name m known s
+abbrev pub StepsFindRest : (K V : Type 0) (same : K → K → Bool) (hash : ℕ → K → ℕ) → Type 0
+StepsFindRest K V same hash =
+    (name : ℕ → List ℕ) (log : List (Entry K V)) (m : Moment K V) (known : Known) (s : Scene K V) (old new : Held K V) → IsAt same hash old s → ShowsWhole same name m known s
     → ShowsKept name m known s → ShowsFinding name m known s → ShowsSources same name m known s → AllIsInOrder m → ShowsPurposes same name log m known s
     → (map i : ℕ) (u : UnderWay K V K) (here : s.calls map i ≡ Some u) (said : Progress (Node K V)) (leads : StepLeads same hash i said s old new)
     → (terms : Terms) (c : CallThere K V) → call_of (name i) m ≡ Some c → (leads map u here).0.setting.mask + 1 ≡ shards_of terms
-    → (let effects = effects_of (acts.Call i map) known new.memory.changed in
+    → (let effects = effects_of (acts.Call i map) known new.changed in
     let moments = moments_from c.begun log in
     ((n : NewTable) → making_of_copier (machine_of u) ≡ Some n → OneOf (HasNext map) (m ∷ moments)) → FoundFull map (many_of map m) (m ∷ moments) u
     → FindRest terms moments (name i) map effects m)

@@ -17,9 +17,9 @@ use Rattle.papaya_purposes.specs.Given.Schedules.Moment.{Moment, UnderWay as Cal
 use Rattle.papaya_purposes.specs.Given.Schedules.Tries.{try_at, FindsTaken}
 use Rattle.papaya_purposes.specs.Given.Schedules.Views.{call_of}
 use Rattle.papaya_purposes.specs.Given.Callers.Together.{UnderWay}
-use Rattle.papaya_purposes.specs.Given.Executor.IsAt.{Scene}
 use Rattle.papaya_purposes.specs.Given.Finishes.Machines.{machine_of}
 use Rattle.papaya_purposes.specs.Given.Finds.Within.{many_of}
+use Rattle.papaya_purposes.specs.Given.Scenes.Scene.{Scene}
 
 -- By what is so of a place and of so many pairs there:
 module _ (Why : Spot × ℕ → Type 0) where

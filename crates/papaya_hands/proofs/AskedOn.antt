@@ -11,24 +11,24 @@ use Rattle.papaya_follows.specs.Given.Callers.Together.{UnderWay}
 use Rattle.papaya_follows.specs.Given.Effects.Effects.{effects_of, known_after}
 use Rattle.papaya_follows.specs.Given.Effects.Known.{Known}
 use Rattle.papaya_follows.specs.Given.Effects.declared.acting.Acting.TheVariants as acts
-use Rattle.papaya_follows.specs.Given.Executor.IsAt.{Scene, IsAt}
-use Rattle.papaya_follows.specs.Given.Executor.Stepping.{StepLeads, scene_after}
-use Rattle.papaya_follows.specs.Given.Executor.declared.executor.Executor.{Executor}
 use Rattle.papaya_follows.specs.Given.Finishes.Maps.{Standing}
 use Rattle.papaya_follows.specs.Shows.{Shows}
 use Rattle.papaya_follows.proofs.Steps.{WentTo, went_to, LeadsThere, one_of}
 use Rattle.papaya_hands.specs.Asked.{IsAsked, ShowsAsked}
 use Rattle.papaya_hands.proofs.Asking.{asked_kept, own_asked, which}
 use Rattle.papaya_hands.proofs.Replacing.{all_settle, calls_after, replaces_none}
+use Rattle.papaya_follows.specs.Given.Scenes.Held.{Held, IsAt}
+use Rattle.papaya_follows.specs.Given.Scenes.Scene.{Scene}
+use Rattle.papaya_follows.specs.Given.Scenes.Stepping.{StepLeads, scene_after}
 
-module _ {K V S : Type 0} (same : K → K → Bool) (hash : K → ℕ) (name : ℕ → List ℕ) (m : Moment K V) (known : Known) (s : Scene K V) (old new : Executor K V S) (at : IsAt same hash old s)
+module _ {K V : Type 0} (same : K → K → Bool) (hash : ℕ → K → ℕ) (name : ℕ → List ℕ) (m : Moment K V) (known : Known) (s : Scene K V) (old new : Held K V) (at : IsAt same hash old s)
     (shown : Shows same name m known s) (map i : ℕ) (u : UnderWay K V K) (here : s.calls map i ≡ Some u) (told : Progress (Node K V)) (leads : StepLeads same hash i told s old new)
     (asked : ShowsAsked name shown.number m known s) (on : LeadsThere same hash name m known s old new at shown map i u here told leads) where
   abbrev effects : List Effect
-  effects = effects_of (acts.Call i map) known new.memory.changed
+  effects = effects_of (acts.Call i map) known new.changed
 
   abbrev after : Known
-  after = known_after (acts.Call i map) new.memory.changed known
+  after = known_after (acts.Call i map) new.changed known
 
   abbrev v : Moment K V
   v = with_effects (Some (name i)) (Some map) effects m
@@ -37,7 +37,7 @@ module _ {K V S : Type 0} (same : K → K → Bool) (hash : K → ℕ) (name : �
   to = went_to same hash name m known s old new at shown map i u here told leads
 
   abbrev s2 : Scene K V
-  s2 = scene_after same hash s old new map i to.0 u to.1 told to.4
+  s2 = scene_after same s old new map i to.0 u to.1 told to.4
 
   before : (n j : ℕ) (x : UnderWay K V K) → s2.calls n j ≡ Some x → (b : UnderWay K V K) × (s.calls n j ≡ Some b)
   before n j x is = elim (which s.calls map i to.4.next n j x is) as (λ _. (b : UnderWay K V K) × (s.calls n j ≡ Some b)) [
@@ -56,9 +56,9 @@ module _ {K V S : Type 0} (same : K → K → Bool) (hash : K → ℕ) (name : �
       let is_d : now.0 ≡ d = one_of now.0 d (sym now.1 ∙ found) in
       subst (λ (y : CallThere K V). IsAsked (on.shows.number map) st.chart.stored after x y) is_d
       (subst (λ (y : Standing K). IsAsked (on.shows.number map) y.chart.stored after x now.0) is_st
-      (own_asked same hash old.batch_size old.roots s.world s.maps s.calls s.makers s.enders map to.0 i to.4.w2 to.4.maps2 to.4.next old new to.1 told known after on.keeps (shown.number map) (on.shows.number map)
+      (own_asked same old.batch_size old.roots s.world s.maps s.calls s.makers s.enders map to.0 i to.4.w2 to.4.maps2 to.4.next old new to.1 told known after on.keeps (shown.number map) (on.shows.number map)
       to.0.chart.stored stood.0.chart.stored stood.2.stored (on.numbers map to.0 to.2) was.0 now.0 now.2.0
-      (replaces_none (name i) map (name i) effects was.0 now.0 (all_settle i map known new.memory.changed) now.2) x goes u to.3 to.4.did (asked.each map i u here to.0 to.2 was.0 was.1)))
+      (replaces_none (name i) map (name i) effects was.0 now.0 (all_settle i map known new.changed) now.2) x goes u to.3 to.4.did (asked.each map i u here to.0 to.2 was.0 was.1)))
 
   -- and any other one
   other : (n j : ℕ) (x : UnderWay K V K) → s.calls n j ≡ Some x → (st : Standing K) → s2.maps n ≡ Some st → (d : CallThere K V) → call_of (name j) v ≡ Some d
@@ -76,7 +76,7 @@ module _ {K V S : Type 0} (same : K → K → Bool) (hash : K → ℕ) (name : �
           subst (λ (y : CallThere K V). IsAsked (on.shows.number n) st.chart.stored after x y) is_d
           (subst (λ (y : Standing K). IsAsked (on.shows.number n) y.chart.stored after x now.0) is_st
           (asked_kept known after on.keeps (shown.number n) (on.shows.number n) before.chart.stored stood.0.chart.stored stood.2.stored (on.numbers n before stands) x was.0 now.0 now.2.0
-          (replaces_none (name i) map (name j) effects was.0 now.0 (all_settle i map known new.memory.changed) now.2) (asked.each n j x is before stands was.0 was.1)))
+          (replaces_none (name i) map (name j) effects was.0 now.0 (all_settle i map known new.changed) now.2) (asked.each n j x is before stands was.0 was.1)))
 
   pub asked_on : ShowsAsked name on.shows.number v after s2
   asked_on = record {

@@ -30,9 +30,6 @@ use Rattle.papaya_follows.specs.Given.Callers.OverAll.{come_to, gone_on}
 use Rattle.papaya_follows.specs.Given.Callers.Together.{CallOnKey, UnderWay, OnKey, ForRoom, Counting, OverAll, next_of, change_told}
 use Rattle.papaya_follows.proofs.Given.Callers.Together.At.{at_other, at_same}
 use Rattle.papaya_follows.specs.Given.Effects.Known.{Known}
-use Rattle.papaya_follows.specs.Given.Executor.IsAt.{slot_of}
-use Rattle.papaya_follows.specs.Given.Executor.Stepping.{StepsFrom}
-use Rattle.papaya_follows.specs.Given.Executor.declared.executor.Executor.{Executor}
 use Rattle.papaya_follows.specs.Given.Finishes.Endings.{Finishing}
 use Rattle.papaya_follows.specs.Given.Finishes.Machines.{machine_of}
 use Rattle.papaya_follows.specs.Given.Finishes.Makings.{Beginning}
@@ -42,6 +39,9 @@ use Rattle.papaya_follows.proofs.Called.{key_goes_on, room_goes_on, counting_goe
 use Rattle.papaya_follows.proofs.Onward.{IsLasting, KeepsRoles}
 use Rattle.papaya_hands.specs.Asked.{IsSameQuestion, AreReplies, IsQuestion, IsAskedOn, IsAskedAs, IsAsked}
 use Rattle.papaya_hands.proofs.Replacing.{IsOn}
+use Rattle.papaya_follows.specs.Given.Scenes.Held.{Held}
+use Rattle.papaya_follows.specs.Given.Scenes.Scene.{slot_of}
+use Rattle.papaya_follows.specs.Given.Scenes.Stepping.{StepsFrom}
 
 module _ (known known2 : Known) (keeps : KeepsRoles known known2) where
   question_kept : (it : AskingAt) (q : Option ℕ) → IsQuestion known it q → IsQuestion known2 it q
@@ -103,10 +103,10 @@ module _ (known known2 : Known) (keeps : KeepsRoles known known2) where
     asked_kept (OverAll o) c d on replacing h = tt
 
 -- a call that asks goes on asking, by each step that it takes meanwhile
-module _ {K V S : Type 0} (same : K → K → Bool) (hash : K → ℕ) (old new : Executor K V S) (machine : Machine K V K) (told : Progress (Node K V)) (p : KeyCall K V K) where
+module _ {K V : Type 0} (same : K → K → Bool) (hash : K → ℕ) (old new : Held K V) (machine : Machine K V K) (told : Progress (Node K V)) (p : KeyCall K V K) where
   abbrev StepsAt : Calling → Type 0
   StepsAt stands =
-      StepsTold K V (Machine K V K × Progress (Node K V)) old.memory.memory Nothing (plan_as called (plan_at same same hash p stands)) new.memory.memory new.memory.changed (machine, told)
+      StepsTold K V (Machine K V K × Progress (Node K V)) old.memory Nothing (plan_as called (plan_at same same hash p stands)) new.memory new.changed (machine, told)
 
   asks_on : (known : Known) (it : AskingAt) (q : Option ℕ) → IsQuestion known it q → StepsAt (at.Asks it) → machine ≡ kinds.Key p
   asks_on known (asking.Absent gap) q is steps = ap (λ (x : Machine K V K × Progress (Node K V)). x.0) steps.1
@@ -122,26 +122,26 @@ module _ {K V S : Type 0} (same : K → K → Bool) (hash : K → ℕ) (old new 
       let same_machine : machine ≡ kinds.Key p = asks_on known it q question (subst StepsAt stands steps) in
       let same_call : p2 ≡ p = cc (same_machine, is) in ap (λ (x : KeyCall K V K). x.stands) same_call ∙ stands
 
-module _ {K V S : Type 0} (same : K → K → Bool) (hash : K → ℕ) (batch_size roots : ℕ) (w : World (Node K V)) (maps : ℕ → Option (Standing K)) (calls : ℕ → ℕ → Option (UnderWay K V K))
+module _ {K V : Type 0} (same : K → K → Bool) (batch_size roots : ℕ) (w : World (Node K V)) (maps : ℕ → Option (Standing K)) (calls : ℕ → ℕ → Option (UnderWay K V K))
     (makers : ℕ → Option (Beginning K)) (enders : ℕ → Option (Finishing K V)) (m : ℕ) (s : Standing K) (i : ℕ) (w2 : World (Node K V)) (maps2 : ℕ → Option (Standing K)) (next : Option (UnderWay K V K))
-    (old new : Executor K V S) (machine : Machine K V K) (told : Progress (Node K V)) (known known2 : Known) (keeps : KeepsRoles known known2) (number number2 : ℕ → ℕ) (stored stored2 : ℕ)
+    (old new : Held K V) (machine : Machine K V K) (told : Progress (Node K V)) (known known2 : Known) (keeps : KeepsRoles known known2) (number number2 : ℕ → ℕ) (stored stored2 : ℕ)
     (more : stored ≤ stored2) (numbers : (n : ℕ) → n < stored → number2 n ≡ number n) (c d : CallThere K V) (on : IsOn c d) (replacing : c.replacing ≡ None → d.replacing ≡ None)
     (x : UnderWay K V K) (goes_on : next ≡ Some x) where
   -- the call with what it has changed, as this machine
   abbrev later : CallOnKey K V K → Change → KeyCall K V K → CallOnKey K V K
   later u change p2 = record { keys = u.keys; pair = u.pair; began = u.began; change = change; call = p2 }
 
-  on_key : (u : CallOnKey K V K) (change : Change) (p2 : KeyCall K V K) (end : Called (Node K V)) → next ≡ next_of (later u change p2) end → machine ≡ kinds.Key p2 → StepsFrom same hash (kinds.Key u.call) old new machine told
+  on_key : (u : CallOnKey K V K) (change : Change) (p2 : KeyCall K V K) (end : Called (Node K V)) → next ≡ next_of (later u change p2) end → machine ≡ kinds.Key p2 → StepsFrom same s.hash (kinds.Key u.call) old new machine told
       → IsAsked number stored known (OnKey u) c → IsAsked number2 stored2 known2 x d
   on_key u change p2 end is machine_is steps h =
       subst (λ (z : UnderWay K V K). IsAsked number2 stored2 known2 z d) (sym (key_goes_on (later u change p2) end x (sym is ∙ goes_on)))
-      (key_kept known known2 keeps number number2 stored stored2 more numbers u (later u change p2) refl (stays_asking same hash old new machine told u.call known p2 machine_is steps) c d on replacing h)
+      (key_kept known known2 keeps number number2 stored stored2 more numbers u (later u change p2) refl (stays_asking same s.hash old new machine told u.call known p2 machine_is steps) c d on replacing h)
 
   as_one : (y : UnderWay K V K) → x ≡ y → IsAsked number2 stored2 known2 y d → IsAsked number2 stored2 known2 x d
   as_one y e h = subst (λ (z : UnderWay K V K). IsAsked number2 stored2 known2 z d) (sym e) h
 
   -- the one that has taken the step
-  pub own_asked : (u : UnderWay K V K) → StepsFrom same hash (machine_of u) old new machine told → Did same batch_size roots w maps calls makers enders m s i new.memory.memory w2 maps2 next u machine told
+  pub own_asked : (u : UnderWay K V K) → StepsFrom same s.hash (machine_of u) old new machine told → Did same batch_size roots w maps calls makers enders m s i new.memory w2 maps2 next u machine told
       → IsAsked number stored known u c → IsAsked number2 stored2 known2 x d
   own_asked (OnKey u) steps (p2, end, machine_is, told_is, inl (to, moved)) h =
       on_key u (change_told V same s.hash same s.setting slot_of to.step.went.told) p2 end moved.2 machine_is steps h

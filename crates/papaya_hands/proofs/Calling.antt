@@ -14,7 +14,6 @@ use Rattle.papaya_follows.specs.Given.Schedules.Moment.{Stands, Going, Asking, T
 use Rattle.papaya_follows.specs.Given.Schedules.Views.{call_of}
 use Rattle.papaya_follows.specs.Given.Callers.Together.{CallOnKey, UnderWay, OnKey, ForRoom, Counting, OverAll}
 use Rattle.papaya_follows.specs.Given.Effects.Known.{Known}
-use Rattle.papaya_follows.specs.Given.Executor.IsAt.{Scene, slot_of}
 use Rattle.papaya_follows.specs.Given.Finishes.Maps.{Standing, with_call as with_in}
 use Rattle.papaya_follows.specs.Calling.{NoneNamed, come_to}
 use Rattle.papaya_follows.specs.Shows.{Shows}
@@ -27,6 +26,7 @@ use Rattle.papaya_hands.proofs.Asking.{which}
 use Rattle.papaya_hands.proofs.RowsOn.{rows_with}
 use Rattle.papaya_hands.specs.Rows.{ReclaimsNone, HoldsOne, KeepsOne}
 use Rattle.papaya_hands.proofs.HandsOn.{hands_with}
+use Rattle.papaya_follows.specs.Given.Scenes.Scene.{Scene, slot_of}
 
 module _ {K V : Type 0} (number : ℕ → ℕ) (stored : ℕ) (known : Known) where
   -- a call that begins was told nothing

@@ -41,11 +41,11 @@ use Rattle.papaya_follows.specs.Given.Effects.declared.acting.Acting.{Acting}
 use Rattle.papaya_follows.specs.Given.Effects.declared.acting.Acting.TheVariants as acts
 use Rattle.papaya_follows.specs.Given.Effects.declared.role.Role.{Role}
 use Rattle.papaya_follows.specs.Given.Effects.declared.role.Role.TheVariants as role
-use Rattle.papaya_follows.specs.Given.Executor.IsAt.{Scene}
 use Rattle.papaya_follows.specs.Steps.{HandTheirs}
 use Rattle.papaya_follows.proofs.Operations.{LeavesBy}
 use Rattle.papaya_hands.specs.Hands.{IsInUse, ShowsHands}
 use Rattle.papaya_hands.proofs.Handing.{IsHanding, IsHandingRow, HandsOne, row_hands}
+use Rattle.papaya_follows.specs.Given.Scenes.Scene.{Scene}
 
 -- what is on its way to the collector is in use nowhere
 on_way_out : (h : Hand) (l : Life) → HandFits h l → is_handed l ≡ true → IsInUse h → ⊥

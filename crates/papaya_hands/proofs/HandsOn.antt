@@ -11,14 +11,14 @@ use Rattle.papaya_follows.proofs.Given.Rule.Laws.{current_is_known}
 use Rattle.papaya_follows.specs.Given.Callers.Together.{UnderWay}
 use Rattle.papaya_follows.specs.Given.Effects.Known.{Known}
 use Rattle.papaya_follows.specs.Given.Effects.declared.role.Role.TheVariants as role
-use Rattle.papaya_follows.specs.Given.Executor.IsAt.{Scene, IsAt}
-use Rattle.papaya_follows.specs.Given.Executor.declared.executor.Executor.{Executor}
 use Rattle.papaya_follows.specs.Given.Finishes.Maps.{Standing}
 use Rattle.papaya_follows.specs.Shows.{Shows}
 use Rattle.papaya_follows.proofs.Going.{ComesToBe, ShowsOn}
 use Rattle.papaya_follows.proofs.Onward.{IsOfMap}
 use Rattle.papaya_follows.proofs.Steps.{one_of}
 use Rattle.papaya_hands.specs.Hands.{IsInUse, ShowsHands}
+use Rattle.papaya_follows.specs.Given.Scenes.Held.{Held, IsAt}
+use Rattle.papaya_follows.specs.Given.Scenes.Scene.{Scene}
 
 pub used_as : (h h2 : Hand) → h2 ≡ h → IsInUse h → IsInUse h2
 used_as h h2 e used = subst IsInUse (sym e) used
@@ -41,8 +41,8 @@ pub hands_with : {K V : Type 0} (m : Moment K V) (known : Known) (s : Scene K V)
     → ShowsHands (record m { calls = calls }) known (record s { calls = calls2 })
 hands_with m known s calls calls2 h = record { pairs = h.pairs; tables = h.tables; born = h.born; stand = h.stand }
 
-module _ {K V S : Type 0} (same : K → K → Bool) (hash : K → ℕ) (name : ℕ → List ℕ) (m : Moment K V) (known : Known) (s : Scene K V) (shown : Shows same name m known s) (hands : ShowsHands m known s)
-    (m2 : Moment K V) (known2 : Known) (s2 : Scene K V) (on : ShowsOn same name m known s shown m2 known2 s2) (new : Executor K V S) (at : IsAt same hash new s2)
+module _ {K V : Type 0} (same : K → K → Bool) (hash : ℕ → K → ℕ) (name : ℕ → List ℕ) (m : Moment K V) (known : Known) (s : Scene K V) (shown : Shows same name m known s) (hands : ShowsHands m known s)
+    (m2 : Moment K V) (known2 : Known) (s2 : Scene K V) (on : ShowsOn same name m known s shown m2 known2 s2) (new : Held K V) (at : IsAt same hash new s2)
     (pairs : (b n map : ℕ) → known.roles b ≡ role.Pair n → m.place n ≡ InMap map → s.maps map ≡ None → IsInUse (s.world.hand b) → IsInUse (s2.world.hand b))
     (tables : (b len : ℕ) (t : Table) → known.roles b ≡ role.Table t len → s.maps t.map ≡ None → IsInUse (s.world.hand b) → IsInUse (s2.world.hand b)) where
   abbrev MapThen : Standing K → Type 0

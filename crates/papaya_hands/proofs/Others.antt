@@ -1,5 +1,5 @@
 -- Whoever takes a step that is none of a call, the rows within calls are as they were, and keep a block of the batch that they close.
-use Rattle.std.specs.Prelude.{◌≡◌, ℕ, zero, suc, ◌<◌, Bool, Option, Some, None, is_some, option_map}
+use Rattle.std.specs.Prelude.{◌≡◌, ℕ, zero, suc, ◌<◌, Bool, Option, Some, None, is_some}
 use Rattle.std.proofs.Common.{refl, ap, sym, subst, ◌∙◌, arith, inl, inr}
 use Rattle.papaya_follows.specs.Given.SeizeWords.Mem.{value_at}
 use Rattle.papaya_follows.specs.Given.Seize.Law.{Ended, holds}
@@ -12,21 +12,18 @@ use Rattle.papaya_follows.specs.Given.Callers.Together.{UnderWay}
 use Rattle.papaya_follows.proofs.Given.Callers.Together.Came.{came_reached}
 use Rattle.papaya_follows.proofs.Given.Callers.Together.Users.{events_rows}
 use Rattle.papaya_follows.specs.Given.Finishes.FactsEnds.{Deed, Looks, TakesPair, LeavesTable, JoinsPair, TakesLeft, TakesCounter, WritesRoot, events_of, taken_by}
-use Rattle.papaya_follows.specs.Given.Finishes.Machines.{machine_of}
 use Rattle.papaya_follows.specs.Given.Finishes.Maps.{with_call}
-use Rattle.papaya_follows.specs.Given.Executor.Ending.{ending_begun}
-use Rattle.papaya_follows.specs.Given.Executor.IsAt.{Scene, IsAt, slot_of, work_of, call_in}
-use Rattle.papaya_follows.specs.Given.Executor.Rows.{request_of}
-use Rattle.papaya_follows.specs.Given.Executor.declared.executor.Executor.{Executor}
-use Rattle.papaya_follows.specs.Given.Executor.declared.row.SlotRow.{SlotRow}
-use Rattle.papaya_follows.specs.Given.Executor.declared.worker.Work.{Work}
-use Rattle.papaya_follows.specs.Given.Executor.declared.worker.Work.TheVariants.{OnSlot}
 use Rattle.papaya_hands.specs.Others.{RowsBeginAside, RowsGoAside, MakingsGoAside, EndingsBeginAside, EndingsGoAside, CallsGoAside}
 use Rattle.papaya_hands.specs.Rows.{ReclaimsNone, HoldsOne, KeepsOne, ShowsRows}
 use Rattle.papaya_hands.proofs.Asking.{which}
 use Rattle.papaya_hands.proofs.Guarded.{AllBetween, IsInStill, in_at_first, all_between_in, one_of_still, there_still, step_keeps_one, begin_keeps_one, runs_keep_one}
 use Rattle.papaya_hands.proofs.RowsOn.{RowSo, inside_of}
 use Rattle.papaya_hands.proofs.SettlingRows.{one_kept}
+use Rattle.papaya_follows.specs.Given.Scenes.Ending.{ending_begun}
+use Rattle.papaya_follows.specs.Given.Scenes.Held.{Held, IsAt}
+use Rattle.papaya_follows.specs.Given.Scenes.Rows.{request_of}
+use Rattle.papaya_follows.specs.Given.Scenes.Scene.{HasNoCall, Scene, slot_of}
+use Rattle.papaya_follows.proofs.Given.Scenes.NoCall.{no_call}
 
 module _ {K V : Type 0} (s : Scene K V) (rows : ShowsRows s) (w2 : World (Node K V)) where
   -- the row of a call that is under way is as it was, and so is the batch of each such block
@@ -72,38 +69,32 @@ module _ {K V : Type 0} {size : ℕ} (w : World (Node K V)) (r : Reached deferre
           let there = there_still w r slot first one w2 still in
           absurd (cc (none, there))
 
--- who has a row on a slot has no call
-module _ {K V S : Type 0} (same : K → K → Bool) (hash : K → ℕ) (s : Scene K V) (e : Executor K V S) (at : IsAt same hash e s) (i : ℕ) (row : SlotRow) (here : work_of e i ≡ Some (OnSlot row)) where
-  no_call : (n : ℕ) (x : UnderWay K V K) → s.calls n i ≡ Some x → ⊥
-  no_call n x is =
-      let some = ap (option_map machine_of) (sym is) in
-      let none = at.calls n i ∙ ap (λ (o : Option (Work K V)). call_in o n) here in
-      absurd (cc (some ∙ none))
-
+-- who has no call is no caller of one
+module _ {K V : Type 0} (s : Scene K V) (i : ℕ) (none : HasNoCall s i) where
   another : (n j : ℕ) (x : UnderWay K V K) → s.calls n j ≡ Some x → j ≡ i → ⊥
-  another n j x is e = no_call n x (ap (s.calls n) (sym e) ∙ is)
+  another n j x is e = no_call s i none (n, x, ap (s.calls n) (sym e) ∙ is)
 
-module _ (K V S : Type 0) (same : K → K → Bool) (hash : K → ℕ) where
-  reached : (s : Scene K V) (e : Executor K V S) → IsAt same hash e s → Reached deferred_word e.batch_size s.world
+module _ (K V : Type 0) (same : K → K → Bool) (hash : ℕ → K → ℕ) where
+  reached : (s : Scene K V) (e : Held K V) → IsAt same hash e s → Reached deferred_word e.batch_size s.world
   reached s e at = came_reached e.batch_size s.world at.together.makings.standing.came
 
-  pub rows_begin_aside : RowsBeginAside K V S same hash
-  rows_begin_aside s old new at rows called i may leads =
-      let to = (leads may).3 in
+  pub rows_begin_aside : RowsBeginAside K V same hash
+  rows_begin_aside s old new at rows called i leads =
+      let to = leads.2 in
       rows_still s rows to.0 (record s { world = to.0; maps = to.2 }) refl refl (λ n j x is. (
-        begins_others deferred_word old.batch_size s.world to.0 i j (another same hash (record s { world = to.0; maps = to.2 }) new to.4 i _ (leads may).1 n j x is) (request_of (slot_of i) called) to.1.1,
+        begins_others deferred_word old.batch_size s.world to.0 i j (another s i leads.1 n j x is) (request_of (slot_of i) called) to.1.1,
         λ first one. begin_keeps_one s.world (reached s old at) (slot_of j) first one i (request_of (slot_of i) called) to.0 to.1,
       ))
 
-  pub rows_go_aside : RowsGoAside K V S same hash
+  pub rows_go_aside : RowsGoAside K V same hash
   rows_go_aside s old new at rows i told leads row here =
-      let to = (leads row here).4 in
+      let to = (leads row here).2 in
       rows_still s rows to.0 (record s { world = to.0; maps = to.2 }) refl refl (λ n j x is. (
-        steps_others deferred_word old.batch_size s.world to.0 i j (another same hash s old at i row here n j x is) (s.world.row i) to.1,
+        steps_others deferred_word old.batch_size s.world to.0 i j (another s i here.0 n j x is) (s.world.row i) to.1,
         λ first one. step_keeps_one s.world (reached s old at) (slot_of j) first one i to.0 (inside_of same hash s old at n j x is) to.1,
       ))
 
-  pub makings_go_aside : MakingsGoAside K V S same hash
+  pub makings_go_aside : MakingsGoAside K V same hash
   makings_go_aside s old new at rows i told leads b here =
       let step = (leads b here).2.step in
       rows_still s rows step.w2 (record s { world = step.w2 }) refl refl (λ n j x is. (
@@ -111,7 +102,7 @@ module _ (K V S : Type 0) (same : K → K → Bool) (hash : K → ℕ) where
         λ first one. runs_keep_one (slot_of j) first s.world (reached s old at) one step.events step.w2 (inside_of same hash s old at n j x is) step.users step.runs,
       ))
 
-  pub endings_go_aside : EndingsGoAside K V S same hash
+  pub endings_go_aside : EndingsGoAside K V same hash
   endings_go_aside s old new at rows i told leads f here =
       let did = (leads f here).2 in
       rows_still s rows did.w2 (record s { world = did.w2 }) refl refl (λ n j x is. (

@@ -12,9 +12,6 @@ use Rattle.papaya_follows.specs.Given.Effects.Effects.{effects_of}
 use Rattle.papaya_follows.specs.Given.Effects.Known.{Known}
 use Rattle.papaya_follows.specs.Given.Effects.declared.acting.Acting.TheVariants as acts
 use Rattle.papaya_follows.specs.Given.Effects.declared.role.Role.TheVariants as role
-use Rattle.papaya_follows.specs.Given.Executor.IsAt.{Scene, IsAt, slot_of}
-use Rattle.papaya_follows.specs.Given.Executor.Stepping.{StepLeads}
-use Rattle.papaya_follows.specs.Given.Executor.declared.executor.Executor.{Executor}
 use Rattle.papaya_follows.specs.Blocks.{HasRole}
 use Rattle.papaya_follows.specs.Shows.{Shows}
 use Rattle.papaya_follows.specs.Steps.{HandTheirs, TakesNone}
@@ -32,8 +29,11 @@ use Rattle.papaya_hands.proofs.RowsOn.{RowSo, inside_of, rows_on}
 use Rattle.papaya_hands.proofs.SettlingRows.{goes_so, leaves_one, not_to_take}
 use Rattle.papaya_hands.proofs.Spares.{handing}
 use Rattle.papaya_hands.proofs.Taking.{IsToTake, takes_none}
+use Rattle.papaya_follows.specs.Given.Scenes.Held.{Held, IsAt}
+use Rattle.papaya_follows.specs.Given.Scenes.Scene.{Scene, slot_of}
+use Rattle.papaya_follows.specs.Given.Scenes.Stepping.{StepLeads}
 
-module _ {K V S : Type 0} (same : K → K → Bool) (hash : K → ℕ) (name : ℕ → List ℕ) (m : Moment K V) (known : Known) (s : Scene K V) (old new : Executor K V S) (at : IsAt same hash old s)
+module _ {K V : Type 0} (same : K → K → Bool) (hash : ℕ → K → ℕ) (name : ℕ → List ℕ) (m : Moment K V) (known : Known) (s : Scene K V) (old new : Held K V) (at : IsAt same hash old s)
     (shown : Shows same name m known s) (map i : ℕ) (u : UnderWay K V K) (here : s.calls map i ≡ Some u) (told : Progress (Node K V)) (leads : StepLeads same hash i told s old new)
     (hands : ShowsHands m known s) where
   abbrev to : WentTo same hash name m known s old new at shown map i u here told leads
@@ -44,7 +44,7 @@ module _ {K V S : Type 0} (same : K → K → Bool) (hash : K → ℕ) (name : �
 
   -- the step of the row, and the world that it has led to
   abbrev IsRowStep : World (Node K V) → Type 0
-  IsRowStep w2 = (w2.memory ≡ new.memory.memory) × IsOneStep to.0.setting i s.world w2 × (to.4.w2 ≡ w2)
+  IsRowStep w2 = (w2.memory ≡ new.memory) × IsOneStep to.0.setting i s.world w2 × (to.4.w2 ≡ w2)
 
   abbrev NoRow : (x : UnderWay K V K) → DidSo same hash name m known s old new at shown map i u here told leads x → Type 0
   NoRow = OfNoRow same hash name m known s old new at shown map i u here told leads
@@ -61,14 +61,14 @@ module _ {K V S : Type 0} (same : K → K → Bool) (hash : K → ℕ) (name : �
       by (OverAll x) (p2, end, machine_is, told_is, inl step) other = absurd (other tt)
       by (OverAll x) (p2, end, machine_is, told_is, inr (row, stayed)) other = (row.step.w2, (row.step.memory, row.step.happened, stayed.0))
 
-  its_left : (other : NoRow u to.4.did → ⊥) → LeavesBy s.world.memory (row_step other).0.memory new.memory.changed
+  its_left : (other : NoRow u to.4.did → ⊥) → LeavesBy s.world.memory (row_step other).0.memory new.changed
   its_left other =
-      subst (λ (n : Mem (Node K V)). LeavesBy s.world.memory n new.memory.changed) (sym (row_step other).1.0)
-      (operated_leaves s.world.memory new.memory.memory new.memory.changed (made_so same hash name m known s old new at shown map i u here told leads))
+      subst (λ (n : Mem (Node K V)). LeavesBy s.world.memory n new.changed) (sym (row_step other).1.0)
+      (operated_leaves s.world.memory new.memory new.changed (made_so same hash name m known s old new at shown map i u here told leads))
 
   -- it takes no block away, unless its row is to take one
-  pub takes_theirs : (NoRow u to.4.did → ⊥) → (IsToTake (s.world.row i) → ⊥) → TakesNone new.memory.changed
-  takes_theirs other never = let row = row_step other in takes_none to.0.setting i s.world row.0 each.ground.came never row.1.1 new.memory.changed (its_left other)
+  pub takes_theirs : (NoRow u to.4.did → ⊥) → (IsToTake (s.world.row i) → ⊥) → TakesNone new.changed
+  takes_theirs other never = let row = row_step other in takes_none to.0.setting i s.world row.0 each.ground.came never row.1.1 new.changed (its_left other)
 
   -- and it goes on so where it reclaims nothing, and leaves the others the blocks of their batches
   pub reclaims_none : (NoRow u to.4.did → ⊥) → ShowsRows s → (IsToTake (s.world.row i) → ⊥) × RowSo to.4.w2 i
@@ -82,11 +82,11 @@ module _ {K V S : Type 0} (same : K → K → Bool) (hash : K → ℕ) (name : �
       )
 
   -- what it hands over has left its map
-  pub hands_theirs : (NoRow u to.4.did → ⊥) → HandTheirs (name i) map (effects_of (acts.Call i map) known new.memory.changed) m
+  pub hands_theirs : (NoRow u to.4.did → ⊥) → HandTheirs (name i) map (effects_of (acts.Call i map) known new.changed) m
   hands_theirs other =
       let row = row_step other in
       all_left (name i) i map m known s hands row.0
-      (hands_out to.0.setting i s.world row.0 each.ground.came (handing same to.0 s.world (s.calls map) each i u here) row.1.1) new.memory.changed (its_left other)
+      (hands_out to.0.setting i s.world row.0 each.ground.came (handing same to.0 s.world (s.calls map) each i u here) row.1.1) new.changed (its_left other)
 
   module _ (other : NoRow u to.4.did → ⊥) (on : LeadsThere same hash name m known s old new at shown map i u here told leads) where
     -- a block that was linked, and is there, is in use where it was
@@ -104,8 +104,8 @@ module _ {K V S : Type 0} (same : K → K → Bool) (hash : K → ℕ) (name : �
     tables_then b len t is gone =
         let its = subst (HasRole to.4.w2 _ b) (on.keeps b (subst IsLasting (sym is) tt) ∙ is) (on.shows.blocks.roles b) in used_then b (λ none. let some = its.1 in cc (some, none))
 
-pub rows_hand_theirs : (K V S : Type 0) (same : K → K → Bool) (hash : K → ℕ) → RowsHandTheirs K V S same hash
-rows_hand_theirs K V S same hash name m known s old new at all map i u here told leads other =
+pub rows_hand_theirs : (K V : Type 0) (same : K → K → Bool) (hash : ℕ → K → ℕ) → RowsHandTheirs K V same hash
+rows_hand_theirs K V same hash name m known s old new at all map i u here told leads other =
     let theirs = hands_theirs same hash name m known s old new at all.shown map i u here told leads all.hands other in
     let rests = reclaims_none same hash name m known s old new at all.shown map i u here told leads all.hands other all.rows in
     let none = takes_theirs same hash name m known s old new at all.shown map i u here told leads all.hands other rests.0 in

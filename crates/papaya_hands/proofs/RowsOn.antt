@@ -12,10 +12,6 @@ use Rattle.papaya_follows.specs.Given.Callers.Together.{UnderWay, OnKey, ForRoom
 use Rattle.papaya_follows.proofs.Given.Callers.Together.Came.{came_reached}
 use Rattle.papaya_follows.proofs.Given.Callers.Together.Users.{events_rows}
 use Rattle.papaya_follows.specs.Given.Effects.Known.{Known}
-use Rattle.papaya_follows.specs.Given.Executor.IsAt.{Scene, IsAt, slot_of}
-use Rattle.papaya_follows.specs.Given.Executor.Stepping.{StepLeads, scene_after}
-use Rattle.papaya_follows.specs.Given.Executor.declared.executor.Executor.{Executor}
-use Rattle.papaya_follows.specs.Given.Executor.Replying.{scene_with}
 use Rattle.papaya_follows.specs.Given.Finishes.Maps.{Standing}
 use Rattle.papaya_follows.specs.Shows.{Shows}
 use Rattle.papaya_follows.proofs.Steps.{WentTo, went_to, DidSo, OfNoRow}
@@ -23,6 +19,10 @@ use Rattle.papaya_hands.specs.Rows.{ReclaimsNone, HoldsOne, KeepsOne, ShowsRows}
 use Rattle.papaya_hands.proofs.Asking.{which}
 use Rattle.papaya_hands.proofs.Guarded.{runs_keep_one}
 use Rattle.papaya_hands.proofs.SettlingRows.{one_kept}
+use Rattle.papaya_follows.specs.Given.Scenes.Held.{Held, IsAt}
+use Rattle.papaya_follows.specs.Given.Scenes.Replying.{scene_with}
+use Rattle.papaya_follows.specs.Given.Scenes.Scene.{Scene, slot_of}
+use Rattle.papaya_follows.specs.Given.Scenes.Stepping.{StepLeads, scene_after}
 
 -- the row of a call is so
 abbrev pub RowSo : {K V : Type 0} → World (Node K V) → ℕ → Type 0
@@ -40,7 +40,7 @@ module _ {K V : Type 0} (s : Scene K V) (map i : ℕ) (u : UnderWay K V K) (rows
   rows_with = record { none = λ n j x is. (each_so n j x is).0; one = λ n j x is. (each_so n j x is).1 }
 
 -- whoever has a call under way is within its section
-module _ {K V S : Type 0} (same : K → K → Bool) (hash : K → ℕ) (s : Scene K V) (e : Executor K V S) (at : IsAt same hash e s) where
+module _ {K V : Type 0} (same : K → K → Bool) (hash : ℕ → K → ℕ) (s : Scene K V) (e : Held K V) (at : IsAt same hash e s) where
   pub inside_of : (n j : ℕ) (x : UnderWay K V K) → s.calls n j ≡ Some x → IsInside (s.world.uses (slot_of j))
   inside_of n j x is = by (s.maps n) refl
     where
@@ -48,7 +48,7 @@ module _ {K V S : Type 0} (same : K → K → Bool) (hash : K → ℕ) (s : Scen
       by None gone = absurd (let none = at.together.makings.standing.only n j gone in cc (none, is))
       by (Some st) there = (at.together.makings.standing.each n st there).inside j x is
 
-module _ {K V S : Type 0} (same : K → K → Bool) (hash : K → ℕ) (name : ℕ → List ℕ) (m : Moment K V) (known : Known) (s : Scene K V) (old new : Executor K V S) (at : IsAt same hash old s)
+module _ {K V : Type 0} (same : K → K → Bool) (hash : ℕ → K → ℕ) (name : ℕ → List ℕ) (m : Moment K V) (known : Known) (s : Scene K V) (old new : Held K V) (at : IsAt same hash old s)
     (shown : Shows same name m known s) (map i : ℕ) (u : UnderWay K V K) (here : s.calls map i ≡ Some u) (told : Progress (Node K V)) (leads : StepLeads same hash i told s old new)
     (rows : ShowsRows s) where
   abbrev to : WentTo same hash name m known s old new at shown map i u here told leads
@@ -61,7 +61,7 @@ module _ {K V S : Type 0} (same : K → K → Bool) (hash : K → ℕ) (name : �
   abbrev KeepsTheirs : Type 0
   KeepsTheirs = (slot : ℕ) → IsInside (s.world.uses slot) → (first : ℕ) → HoldsOne s.world slot first → HoldsOne to.4.w2 slot first
 
-  pub rows_on : KeepsTheirs → Own → ShowsRows (scene_after same hash s old new map i to.0 u to.1 told to.4)
+  pub rows_on : KeepsTheirs → Own → ShowsRows (scene_after same s old new map i to.0 u to.1 told to.4)
   rows_on keeps own = record { none = λ n j x is. (one n j x is).0; one = λ n j x is. (one n j x is).1 }
     where
       by : (n j : ℕ) (x : UnderWay K V K) → ((n ≡ map) × (j ≡ i) × (to.4.next ≡ Some x)) ⊎ ((n ≡ map → j ≡ i → ⊥) × (s.calls n j ≡ Some x)) → (j ≡ i) ⊎ (j ≢ i) → RowSo to.4.w2 j
@@ -73,7 +73,7 @@ module _ {K V S : Type 0} (same : K → K → Bool) (hash : K → ℕ) (name : �
             (one_kept (HoldsOne s.world (slot_of j)) (HoldsOne to.4.w2 (slot_of j)) (keeps (slot_of j) (inside_of same hash s old at n j x was.1)) (s.world.row j) (rows.one n j x was.1)),
       )
 
-      one : (n j : ℕ) (x : UnderWay K V K) → (scene_after same hash s old new map i to.0 u to.1 told to.4).calls n j ≡ Some x → RowSo to.4.w2 j
+      one : (n j : ℕ) (x : UnderWay K V K) → (scene_after same s old new map i to.0 u to.1 told to.4).calls n j ≡ Some x → RowSo to.4.w2 j
       one n j x is = by n j x (which s.calls map i to.4.next n j x is) (cases_eq j i)
 
   came : CameAbout to.0.setting.batch_size s.world

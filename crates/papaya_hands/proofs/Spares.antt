@@ -25,9 +25,6 @@ use Rattle.papaya_follows.specs.Given.Callers.Sights.{IsSight, seen_by}
 use Rattle.papaya_follows.specs.Given.Callers.Together.{UnderWay, OnKey, ForRoom, Counting, OverAll, Together}
 use Rattle.papaya_follows.specs.Given.Effects.Known.{Known}
 use Rattle.papaya_follows.specs.Given.Effects.declared.role.Role.TheVariants as role
-use Rattle.papaya_follows.specs.Given.Executor.IsAt.{Scene, IsAt, slot_of}
-use Rattle.papaya_follows.specs.Given.Executor.Stepping.{StepLeads}
-use Rattle.papaya_follows.specs.Given.Executor.declared.executor.Executor.{Executor}
 use Rattle.papaya_follows.specs.Given.Finishes.Maps.{Standing}
 use Rattle.papaya_follows.specs.Blocks.{HasRole}
 use Rattle.papaya_follows.specs.Maps.{table_of}
@@ -36,6 +33,9 @@ use Rattle.papaya_follows.proofs.Steps.{WentTo, went_to, made_so, is_inside, is_
 use Rattle.papaya_hands.specs.Hands.{IsInUse, ShowsHands}
 use Rattle.papaya_hands.proofs.Handing.{IsHandingRow}
 use Rattle.papaya_hands.proofs.HandsOn.{used_as}
+use Rattle.papaya_follows.specs.Given.Scenes.Held.{Held, IsAt}
+use Rattle.papaya_follows.specs.Given.Scenes.Scene.{Scene, slot_of}
+use Rattle.papaya_follows.specs.Given.Scenes.Stepping.{StepLeads}
 
 handing_disposal : (slot : ℕ) (d : Disposing) → IsHandingRow (row_of_disposal slot d)
 handing_disposal slot (disposes.Settles settle) = tt
@@ -73,7 +73,7 @@ module _ {K V : Type 0} (same : K → K → Bool) (s : Standing K) (w : World (N
   handing (Counting sum) here = as_row _ (each.stand i (Counting sum) here).0 tt
   handing (OverAll o) here = elim (each.stand i (OverAll o) here) as (λ _. IsHandingRow (w.row i)) [ inl k ↦ as_row _ k.0 tt | inr k ↦ as_row _ k.0 (handing_sweep (slot_of i) o.sweep.stands) ]
 
-module _ {K V S : Type 0} (same : K → K → Bool) (hash : K → ℕ) (name : ℕ → List ℕ) (m : Moment K V) (known : Known) (s : Scene K V) (old new : Executor K V S) (at_old : IsAt same hash old s)
+module _ {K V : Type 0} (same : K → K → Bool) (hash : ℕ → K → ℕ) (name : ℕ → List ℕ) (m : Moment K V) (known : Known) (s : Scene K V) (old new : Held K V) (at_old : IsAt same hash old s)
     (shown : Shows same name m known s) (map i : ℕ) (u : UnderWay K V K) (here : s.calls map i ≡ Some u) (told : Progress (Node K V)) (leads : StepLeads same hash i told s old new)
     (hands : ShowsHands m known s) where
   abbrev to : WentTo same hash name m known s old new at_old shown map i u here told leads

@@ -9,9 +9,6 @@ use Rattle.papaya_follows.specs.Given.Callers.Together.{UnderWay, OnKey, ForRoom
 use Rattle.papaya_follows.specs.Given.Effects.Effects.{effects_of}
 use Rattle.papaya_follows.specs.Given.Effects.Known.{Known}
 use Rattle.papaya_follows.specs.Given.Effects.declared.acting.Acting.TheVariants as acts
-use Rattle.papaya_follows.specs.Given.Executor.IsAt.{Scene, IsAt}
-use Rattle.papaya_follows.specs.Given.Executor.Stepping.{StepLeads}
-use Rattle.papaya_follows.specs.Given.Executor.declared.executor.Executor.{Executor}
 use Rattle.papaya_follows.specs.Given.Finishes.Maps.{Standing}
 use Rattle.papaya_follows.specs.Given.Rule.InWorld.{IsMapIn}
 use Rattle.papaya_follows.specs.Maps.{ShowsPairs}
@@ -25,6 +22,9 @@ use Rattle.papaya_hands.proofs.HandsOn.{hands_on}
 use Rattle.papaya_hands.proofs.RowsOn.{rows_on, keeps_theirs, own_row}
 use Rattle.papaya_hands.proofs.Spares.{pairs_spared, tables_spared}
 use Rattle.papaya_hands.proofs.Stores.{key_gives, room_gives, sweep_gives}
+use Rattle.papaya_follows.specs.Given.Scenes.Held.{Held, IsAt}
+use Rattle.papaya_follows.specs.Given.Scenes.Scene.{Scene}
+use Rattle.papaya_follows.specs.Given.Scenes.Stepping.{StepLeads}
 
 -- no two pairs of a map have one number
 pub numbers_apart : {K V : Type 0} (map : ℕ) (number : ℕ → ℕ) (s : Standing K) (m : Moment K V) (known : Known) → ShowsPairs map number s m known
@@ -37,14 +37,14 @@ numbers_apart map number s m known shown n o l l2 e = elim (cases_eq n o) as (λ
   ]
 ]
 
-module _ {K V S : Type 0} (same : K → K → Bool) (hash : K → ℕ) (name : ℕ → List ℕ) (m : Moment K V) (known : Known) (s : Scene K V) (old new : Executor K V S) (at : IsAt same hash old s)
+module _ {K V : Type 0} (same : K → K → Bool) (hash : ℕ → K → ℕ) (name : ℕ → List ℕ) (m : Moment K V) (known : Known) (s : Scene K V) (old new : Held K V) (at : IsAt same hash old s)
     (shown : Shows same name m known s) (map i : ℕ) (u : UnderWay K V K) (here : s.calls map i ≡ Some u) (told : Progress (Node K V)) (leads : StepLeads same hash i told s old new)
     (asked : ShowsAsked name shown.number m known s) where
   abbrev to : WentTo same hash name m known s old new at shown map i u here told leads
   to = went_to same hash name m known s old new at shown map i u here told leads
 
   abbrev Theirs : Type 0
-  Theirs = StoreTheirs s.world.memory new.memory.changed (name i) map (effects_of (acts.Call i map) known new.memory.changed) m
+  Theirs = StoreTheirs s.world.memory new.changed (name i) map (effects_of (acts.Call i map) known new.changed) m
 
   is_map : IsMapIn same to.0.hash to.0.setting s.world to.0.chart to.0.blocks
   is_map = (at.together.makings.standing.each map to.0 to.2).ground.map
@@ -60,12 +60,12 @@ module _ {K V S : Type 0} (same : K → K → Bool) (hash : K → ℕ) (name : �
           stores_its same hash m known s old new at name shown map i to.0 to.2 (name i) (made_so same hash name m known s old new at shown map i u here told leads)
           (is_inside same hash name m known s old new at shown map i u here told leads) _ step.step.went step.step.blocks2 step.step.grown step.step.sights2
           (key_gives same to.0 s.world is_map map (name i) (shown.number map) (numbers_apart map (shown.number map) to.0 m known (shown.maps map to.0 to.2).pairs) m known (s.calls map) i x there.0 there.1 there.3
-          (asked.each map i (OnKey x) has to.0 to.2 there.0 there.1) new.memory.memory p2 end step.step)
+          (asked.each map i (OnKey x) has to.0 to.2 there.0 there.1) new.memory p2 end step.step)
       by (OnKey x) has (p2, end, machine_is, told_is, inr row) own = absurd own
       by (ForRoom x) has (p2, end, machine_is, told_is, inl (step, moved)) own =
           stores_its same hash m known s old new at name shown map i to.0 to.2 (name i) (made_so same hash name m known s old new at shown map i u here told leads)
           (is_inside same hash name m known s old new at shown map i u here told leads) _ step.step.went step.step.blocks2 step.step.grown step.step.sights2
-          (room_gives same to.0 s.world is_map map (Some (name i)) (shown.number map) (step.step.went.blocks2.pair to.0.chart.stored) m new.memory.memory step.step.went.c2 step.step.same_pairs)
+          (room_gives same to.0 s.world is_map map (Some (name i)) (shown.number map) (step.step.went.blocks2.pair to.0.chart.stored) m new.memory step.step.went.c2 step.step.same_pairs)
       by (ForRoom x) has (p2, end, machine_is, told_is, inr row) own = absurd own
       by (Counting x) has (p2, end, machine_is, told_is, still, stayed) own =
           stayed_stores same hash m known s old new at name shown map i to.0 to.2 (name i) (made_so same hash name m known s old new at shown map i u here told leads)
@@ -73,11 +73,11 @@ module _ {K V S : Type 0} (same : K → K → Bool) (hash : K → ℕ) (name : �
       by (OverAll x) has (p2, end, machine_is, told_is, inl (step, moved)) own =
           stores_its same hash m known s old new at name shown map i to.0 to.2 (name i) (made_so same hash name m known s old new at shown map i u here told leads)
           (is_inside same hash name m known s old new at shown map i u here told leads) _ step.step.went step.step.blocks2 step.step.grown step.step.sights2
-          (sweep_gives same to.0 s.world is_map map (Some (name i)) (shown.number map) (step.step.went.blocks2.pair to.0.chart.stored) m new.memory.memory step.step.went.c2 x step.step.removes)
+          (sweep_gives same to.0 s.world is_map map (Some (name i)) (shown.number map) (step.step.went.blocks2.pair to.0.chart.stored) m new.memory step.step.went.c2 x step.step.removes)
       by (OverAll x) has (p2, end, machine_is, told_is, inr row) own = absurd own
 
-pub calls_store_theirs : (K V S : Type 0) (same : K → K → Bool) (hash : K → ℕ) → CallsStoreTheirs K V S same hash
-calls_store_theirs K V S same hash name m known s old new at all map i u here told leads own =
+pub calls_store_theirs : (K V : Type 0) (same : K → K → Bool) (hash : ℕ → K → ℕ) → CallsStoreTheirs K V same hash
+calls_store_theirs K V same hash name m known s old new at all map i u here told leads own =
     let stores = stores_theirs same hash name m known s old new at all.shown map i u here told leads all.asked own in
     let step = step_shown same hash name m known s old new at all.shown map i u here told leads own stores in
     let to = went_to same hash name m known s old new at all.shown map i u here told leads in (

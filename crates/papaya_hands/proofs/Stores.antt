@@ -28,7 +28,6 @@ use Rattle.papaya_follows.specs.Given.Callers.Pairs.{Given, kind_of, StoresGiven
 use Rattle.papaya_follows.specs.Given.Callers.OverAll.{CallOverAll, RemovesTold}
 use Rattle.papaya_follows.specs.Given.Callers.Together.{CallOnKey, UnderWay, OnKey, StepTold, Fresh, Late, change_told, StepsTogether}
 use Rattle.papaya_follows.specs.Given.Effects.Known.{Known}
-use Rattle.papaya_follows.specs.Given.Executor.IsAt.{slot_of}
 use Rattle.papaya_follows.specs.Given.Finishes.Maps.{Standing}
 use Rattle.papaya_follows.specs.Calls.{IsCalled}
 use Rattle.papaya_follows.specs.Steps.{HasToStore}
@@ -38,6 +37,7 @@ use Rattle.papaya_follows.proofs.Gives.{Gives}
 use Rattle.papaya_hands.specs.Asked.{given_by, IsAskedOn, IsAskedAs, IsAsked}
 use Rattle.papaya_hands.proofs.Done.{done}
 use Rattle.papaya_hands.proofs.Puts.{MayDo, PutsThere, puts_new, puts_over}
+use Rattle.papaya_follows.specs.Given.Scenes.Scene.{slot_of}
 
 module _ {K V : Type 0} where
   -- a call that is as this one, but for the pair that it replaces, has to store what it puts

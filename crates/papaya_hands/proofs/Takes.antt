@@ -32,10 +32,10 @@ use Rattle.papaya_follows.specs.Given.Callers.Kind.{Kind, gets, removes, inserts
 use Rattle.papaya_follows.specs.Given.Callers.Pairs.{Given, Begun, IsTold, and_told, KeepsGiven}
 use Rattle.papaya_follows.specs.Given.Callers.Sights.{seen_by}
 use Rattle.papaya_follows.specs.Given.Callers.Together.{CallOnKey, OnKey, Knows, Stands}
-use Rattle.papaya_follows.specs.Given.Executor.IsAt.{slot_of}
 use Rattle.papaya_follows.specs.Given.Finishes.Maps.{Standing}
 use Rattle.papaya_hands.specs.Asked.{given_by, KnowsFirst}
 use Rattle.papaya_hands.proofs.Replies.{told_first}
+use Rattle.papaya_follows.specs.Given.Scenes.Scene.{slot_of}
 
 module _ {K V Q : Type 0} where
   -- one that never asks takes none

@@ -24,8 +24,6 @@ use Rattle.papaya_follows.specs.Given.Callers.Sights.{seen_by, IsSight}
 use Rattle.papaya_follows.specs.Given.Callers.Together.{CallOnKey, UnderWay, OnKey, ForRoom, Counting, OverAll, told_about, AsksAbout, Together}
 use Rattle.papaya_follows.specs.Given.Effects.Known.{Known}
 use Rattle.papaya_follows.specs.Given.Effects.declared.role.Role.TheVariants as role
-use Rattle.papaya_follows.specs.Given.Executor.IsAt.{Scene, IsAt, slot_of}
-use Rattle.papaya_follows.specs.Given.Executor.declared.executor.Executor.{Executor}
 use Rattle.papaya_follows.specs.Given.Finishes.Machines.{machine_of, ToldOfKind}
 use Rattle.papaya_follows.specs.Given.Finishes.Maps.{Standing, with_call as with_in}
 use Rattle.papaya_follows.specs.Calling.{told}
@@ -41,8 +39,10 @@ use Rattle.papaya_hands.proofs.RowsOn.{rows_with}
 use Rattle.papaya_hands.proofs.Calling.{caller_is, asked_as}
 use Rattle.papaya_hands.proofs.HandsOn.{hands_with}
 use Rattle.papaya_hands.proofs.Takes.{asked_leaves, and_given, not_begun, not_first}
+use Rattle.papaya_follows.specs.Given.Scenes.Held.{Held, IsAt}
+use Rattle.papaya_follows.specs.Given.Scenes.Scene.{Scene, slot_of}
 
-module _ {K V S : Type 0} (same : K → K → Bool) (hash : K → ℕ) (name : ℕ → List ℕ) (m : Moment K V) (known : Known) (s : Scene K V) (e : Executor K V S) (at_e : IsAt same hash e s)
+module _ {K V : Type 0} (same : K → K → Bool) (hash : ℕ → K → ℕ) (name : ℕ → List ℕ) (m : Moment K V) (known : Known) (s : Scene K V) (e : Held K V) (at_e : IsAt same hash e s)
     (shown : Shows same name m known s) (asked : ShowsAsked name shown.number m known s) (map i : ℕ) (standing : Standing K) (there : s.maps map ≡ Some standing)
     (c : CallThere K V) (c_is : call_of (name i) m ≡ Some c) (question : Option ℕ) (c_asks : c.stands ≡ Asking question) (is_told : Reply V) where
   each : Together V same standing.hash same standing.setting slot_of s.world standing.chart standing.blocks standing.sights (s.calls map)
@@ -199,8 +199,8 @@ module _ {K V S : Type 0} (same : K → K → Bool) (hash : K → ℕ) (name : �
             other_name false e = e
             other_name true e = absurd (let same_one = asked.apart n j map i x u a.1 here e in a.0 same_one.0 same_one.1)
 
-pub calls_take : (K V S : Type 0) (same : K → K → Bool) (hash : K → ℕ) → CallsTake K V S same hash
-calls_take K V S same hash name m known s e at_e all map i u here c c_is question c_asks standing there is_told next machine taken goes =
+pub calls_take : (K V : Type 0) (same : K → K → Bool) (hash : ℕ → K → ℕ) → CallsTake K V same hash
+calls_take K V same hash name m known s e at_e all map i u here c c_is question c_asks standing there is_told next machine taken goes =
     let b = told_with same name m known s all.shown map i u here e.batch_size e.roots standing (as_told is_told) next goes is_told in
     record {
       shown = b.0;

@@ -23,8 +23,8 @@ use Rattle.papaya_follows.specs.Given.Callers.Pairs.{Given, Begun, IsTold}
 use Rattle.papaya_follows.specs.Given.Callers.Together.{CallOnKey, UnderWay, OnKey}
 use Rattle.papaya_follows.specs.Given.Effects.Known.{Known}
 use Rattle.papaya_follows.specs.Given.Effects.declared.role.Role.TheVariants as role
-use Rattle.papaya_follows.specs.Given.Executor.IsAt.{Scene}
 use Rattle.papaya_follows.specs.Given.Finishes.Maps.{Standing}
+use Rattle.papaya_follows.specs.Given.Scenes.Scene.{Scene}
 
 -- a reply, as it is told to the call: what a closure aborts with is the caller's alone
 abbrev pub as_told : {V : Type 0} → Reply V → MachineReply V

@@ -16,13 +16,13 @@ use Rattle.papaya_follows.specs.Given.Callers.Together.{UnderWay, OnKey}
 use Rattle.papaya_follows.specs.Given.Finishes.Machines.{machine_of, ToldOfKind}
 use Rattle.papaya_follows.specs.Given.Finishes.Maps.{Standing}
 use Rattle.papaya_follows.specs.Given.Effects.Known.{Known}
-use Rattle.papaya_follows.specs.Given.Executor.IsAt.{Scene, IsAt, slot_of}
-use Rattle.papaya_follows.specs.Given.Executor.Replying.{scene_with}
-use Rattle.papaya_follows.specs.Given.Executor.declared.executor.Executor.{Executor}
 use Rattle.papaya_follows.specs.Calls.{IsCalled}
 use Rattle.papaya_follows.specs.Calling.{NoneNamed, told, come_to}
 use Rattle.papaya_hands.specs.Asked.{as_told, given_by, AsksThere}
 use Rattle.papaya_hands.specs.Shows.{ShowsAll}
+use Rattle.papaya_follows.specs.Given.Scenes.Held.{Held, IsAt}
+use Rattle.papaya_follows.specs.Given.Scenes.Replying.{scene_with}
+use Rattle.papaya_follows.specs.Given.Scenes.Scene.{Scene, slot_of}
 
 module _ {K V : Type 0} where
   -- a call on one key begins with what was called, and was told nothing
@@ -51,11 +51,11 @@ module _ (K V : Type 0) (same : K → K → Bool) where
       → ((map i : ℕ) (u : UnderWay K V K) → s.calls map i ≡ Some u → is_same (name i) own ≡ true → AsksJust known u outcome)
       → ShowsAll same name (come_to own outcome steps m) known s
 
-module _ (K V S : Type 0) (same : K → K → Bool) (hash : K → ℕ) where
+module _ (K V : Type 0) (same : K → K → Bool) (hash : ℕ → K → ℕ) where
   -- and one that asks takes what it is told.
   abbrev pub CallsTake : Type 0
   CallsTake =
-      (name : ℕ → List ℕ) (m : Moment K V) (known : Known) (s : Scene K V) (e : Executor K V S) → IsAt same hash e s → ShowsAll same name m known s
+      (name : ℕ → List ℕ) (m : Moment K V) (known : Known) (s : Scene K V) (e : Held K V) → IsAt same hash e s → ShowsAll same name m known s
       → (map i : ℕ) (u : UnderWay K V K) → s.calls map i ≡ Some u → (c : CallThere K V) → call_of (name i) m ≡ Some c → (question : Option ℕ) → c.stands ≡ Asking question
       → (standing : Standing K) → s.maps map ≡ Some standing → (is_told : Reply V) (next : UnderWay K V K)
       → machine_of next ≡ (machine_replied (machine_of u) (as_told is_told)).0 → (machine_replied (machine_of u) (as_told is_told)).1 ≡ Ok tt

@@ -6,8 +6,8 @@ use Rattle.papaya_follows.specs.Given.Schedules.Moment.{InMap, MapThere, Moment}
 use Rattle.papaya_follows.specs.Given.Schedules.Views.{is_in_a_map, map_at}
 use Rattle.papaya_follows.specs.Given.Effects.Known.{Known}
 use Rattle.papaya_follows.specs.Given.Effects.declared.role.Role.TheVariants as role
-use Rattle.papaya_follows.specs.Given.Executor.IsAt.{Scene}
 use Rattle.papaya_follows.specs.Given.Finishes.Maps.{Standing}
+use Rattle.papaya_follows.specs.Given.Scenes.Scene.{Scene}
 
 -- the block is in use in its map, or left over by that: no caller, and no row, has it to unlink it, or to hand it over
 abbrev pub IsInUse : Hand → Type 0

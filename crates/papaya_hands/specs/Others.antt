@@ -8,43 +8,42 @@ use Rattle.papaya_follows.specs.Given.Callers.Together.{UnderWay}
 use Rattle.papaya_follows.specs.Given.Finishes.Endings.{Finishing}
 use Rattle.papaya_follows.specs.Given.Finishes.Makings.{Beginning}
 use Rattle.papaya_follows.specs.Given.Finishes.Maps.{Standing, with_call}
-use Rattle.papaya_follows.specs.Given.Executor.Ending.{EndingLeads, ending_begun}
-use Rattle.papaya_follows.specs.Given.Executor.IsAt.{Scene, IsAt, slot_of, work_of}
-use Rattle.papaya_follows.specs.Given.Executor.Making.{MakingLeads}
-use Rattle.papaya_follows.specs.Given.Executor.OnSlots.{MayBegin, RowBegins, RowLeads}
-use Rattle.papaya_follows.specs.Given.Executor.declared.executor.Executor.{Executor}
-use Rattle.papaya_follows.specs.Given.Executor.declared.row.RowTold.{RowTold}
-use Rattle.papaya_follows.specs.Given.Executor.declared.row.SlotCall.{SlotCall}
-use Rattle.papaya_follows.specs.Given.Executor.declared.row.SlotRow.{SlotRow}
-use Rattle.papaya_follows.specs.Given.Executor.declared.worker.Work.TheVariants.{OnSlot}
+use Rattle.papaya_follows.specs.Given.Scenes.declared.row.RowTold.{RowTold}
+use Rattle.papaya_follows.specs.Given.Scenes.declared.row.SlotCall.{SlotCall}
+use Rattle.papaya_follows.specs.Given.Scenes.declared.row.SlotRow.{SlotRow}
 use Rattle.papaya_hands.specs.Rows.{ShowsRows}
+use Rattle.papaya_follows.specs.Given.Scenes.Ending.{EndingLeads, ending_begun}
+use Rattle.papaya_follows.specs.Given.Scenes.Held.{Held, IsAt}
+use Rattle.papaya_follows.specs.Given.Scenes.Making.{MakingLeads}
+use Rattle.papaya_follows.specs.Given.Scenes.OnSlots.{RowBegins, RowLeads}
+use Rattle.papaya_follows.specs.Given.Scenes.Scene.{IsOnSlot, Scene}
 
-module _ (K V S : Type 0) (same : K → K → Bool) (hash : K → ℕ) where
+module _ (K V : Type 0) (same : K → K → Bool) (hash : ℕ → K → ℕ) where
   -- The promises: so it is where a row begins on a slot,
   abbrev pub RowsBeginAside : Type 0
   RowsBeginAside =
-      (s : Scene K V) (old new : Executor K V S) → IsAt same hash old s → ShowsRows s
-      → (called : SlotCall) (i : ℕ) (may : MayBegin old (slot_of i) called) (leads : RowBegins same hash called i s old new)
-      → (let to = (leads may).3 in ShowsRows (record s { world = to.0; maps = to.2 }))
+      (s : Scene K V) (old new : Held K V) → IsAt same hash old s → ShowsRows s
+      → (called : SlotCall) (i : ℕ) (leads : RowBegins same hash called i s old new)
+      → (let to = leads.2 in ShowsRows (record s { world = to.0; maps = to.2 }))
 
   -- after a step of it,
   abbrev pub RowsGoAside : Type 0
   RowsGoAside =
-      (s : Scene K V) (old new : Executor K V S) → IsAt same hash old s → ShowsRows s
-      → (i : ℕ) (told : RowTold (Node K V)) (leads : RowLeads same hash i told s old new) (row : SlotRow) (here : work_of old i ≡ Some (OnSlot row))
-      → (let to = (leads row here).4 in ShowsRows (record s { world = to.0; maps = to.2 }))
+      (s : Scene K V) (old new : Held K V) → IsAt same hash old s → ShowsRows s
+      → (i : ℕ) (told : RowTold (Node K V)) (leads : RowLeads same hash i told s old new) (row : SlotRow) (here : IsOnSlot s i row)
+      → (let to = (leads row here).2 in ShowsRows (record s { world = to.0; maps = to.2 }))
 
   -- of the making of a map,
   abbrev pub MakingsGoAside : Type 0
   MakingsGoAside =
-      (s : Scene K V) (old new : Executor K V S) → IsAt same hash old s → ShowsRows s
+      (s : Scene K V) (old new : Held K V) → IsAt same hash old s → ShowsRows s
       → (i : ℕ) (told : Making Setting) (leads : MakingLeads same hash i told s old new) (b : Beginning K) (here : s.makers i ≡ Some b)
       → (let to = leads b here in ShowsRows (record s { world = to.2.step.w2 }))
 
   -- and of the end of one,
   abbrev pub EndingsGoAside : Type 0
   EndingsGoAside =
-      (s : Scene K V) (old new : Executor K V S) → IsAt same hash old s → ShowsRows s
+      (s : Scene K V) (old new : Held K V) → IsAt same hash old s → ShowsRows s
       → (i : ℕ) (told : Settled (Node K V)) (leads : EndingLeads same hash i told s old new) (f : Finishing K V) (here : s.enders i ≡ Some f)
       → (let to = leads f here in ShowsRows (record s { world = to.2.w2 }))
 

@@ -9,7 +9,7 @@ use Rattle.papaya_follows.specs.Given.Seize.declared.states.TheConstants.{FIRST}
 use Rattle.papaya_follows.specs.Given.Seize.Law.{holds, is_retired}
 use Rattle.papaya_follows.specs.Given.Seize.World.{World, Row, Settles, Leaves}
 use Rattle.papaya_follows.specs.Given.Callers.Together.{UnderWay}
-use Rattle.papaya_follows.specs.Given.Executor.IsAt.{Scene, slot_of}
+use Rattle.papaya_follows.specs.Given.Scenes.Scene.{Scene, slot_of}
 
 -- it stands where nothing is reclaimed, no list is counted down, and no flush is under way
 abbrev pub IsAside : Settling → Type 0

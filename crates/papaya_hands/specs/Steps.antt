@@ -8,35 +8,35 @@ use Rattle.papaya_follows.specs.Given.Effects.Effects.{effects_of, known_after}
 use Rattle.papaya_follows.specs.Given.Effects.Known.{Known}
 use Rattle.papaya_follows.specs.Given.Effects.declared.acting.Acting.TheVariants.{Call}
 use Rattle.papaya_follows.specs.Given.Callers.Together.{UnderWay}
-use Rattle.papaya_follows.specs.Given.Executor.IsAt.{Scene, IsAt}
-use Rattle.papaya_follows.specs.Given.Executor.Stepping.{StepLeads, scene_after}
-use Rattle.papaya_follows.specs.Given.Executor.declared.executor.Executor.{Executor}
 use Rattle.papaya_follows.specs.Finds.{FindsMap}
 use Rattle.papaya_follows.specs.Steps.{StoreTheirs, HandTheirs, TakesNone, IsOfNoRow}
 use Rattle.papaya_hands.specs.Shows.{ShowsAll}
+use Rattle.papaya_follows.specs.Given.Scenes.Held.{Held, IsAt}
+use Rattle.papaya_follows.specs.Given.Scenes.Scene.{Scene}
+use Rattle.papaya_follows.specs.Given.Scenes.Stepping.{StepLeads, scene_after}
 
-module _ (K V S : Type 0) (same : K → K → Bool) (hash : K → ℕ) where
+module _ (K V : Type 0) (same : K → K → Bool) (hash : ℕ → K → ℕ) where
   -- The promise, of a step of a call that is none of a row: it stores no pair but such as the call has to store, its effects find the map as they must, and lead
   -- to a moment that shows the scene after it, and what its calls were told, with what is known after it.
   abbrev pub CallsStoreTheirs : Type 0
   CallsStoreTheirs =
-      (name : ℕ → List ℕ) (m : Moment K V) (known : Known) (s : Scene K V) (old new : Executor K V S) → IsAt same hash old s → ShowsAll same name m known s
+      (name : ℕ → List ℕ) (m : Moment K V) (known : Known) (s : Scene K V) (old new : Held K V) → IsAt same hash old s → ShowsAll same name m known s
       → (map i : ℕ) (u : UnderWay K V K) (here : s.calls map i ≡ Some u) (told : Progress (Node K V)) (leads : StepLeads same hash i told s old new)
       → (let to = leads map u here in
-      IsOfNoRow same old.batch_size old.roots s.world s.maps s.calls s.makers s.enders map to.0 i new.memory.memory to.4.w2 to.4.maps2 to.4.next u to.1 told to.4.did
-      → StoreTheirs s.world.memory new.memory.changed (name i) map (effects_of (Call i map) known new.memory.changed) m
-      × AtEachEffect (FindsMap map) (Some (name i)) (Some map) (effects_of (Call i map) known new.memory.changed) m
-      × ShowsAll same name (with_effects (Some (name i)) (Some map) (effects_of (Call i map) known new.memory.changed) m) (known_after (Call i map) new.memory.changed known)
-      (scene_after same hash s old new map i to.0 u to.1 told to.4))
+      IsOfNoRow same old.batch_size old.roots s.world s.maps s.calls s.makers s.enders map to.0 i new.memory to.4.w2 to.4.maps2 to.4.next u to.1 told to.4.did
+      → StoreTheirs s.world.memory new.changed (name i) map (effects_of (Call i map) known new.changed) m
+      × AtEachEffect (FindsMap map) (Some (name i)) (Some map) (effects_of (Call i map) known new.changed) m
+      × ShowsAll same name (with_effects (Some (name i)) (Some map) (effects_of (Call i map) known new.changed) m) (known_after (Call i map) new.changed known)
+      (scene_after same s old new map i to.0 u to.1 told to.4))
 
   -- The promise, of a step of a row within a call: it hands over nothing but what has left its map, takes no block away, and leads to such a moment, too.
   abbrev pub RowsHandTheirs : Type 0
   RowsHandTheirs =
-      (name : ℕ → List ℕ) (m : Moment K V) (known : Known) (s : Scene K V) (old new : Executor K V S) → IsAt same hash old s → ShowsAll same name m known s
+      (name : ℕ → List ℕ) (m : Moment K V) (known : Known) (s : Scene K V) (old new : Held K V) → IsAt same hash old s → ShowsAll same name m known s
       → (map i : ℕ) (u : UnderWay K V K) (here : s.calls map i ≡ Some u) (told : Progress (Node K V)) (leads : StepLeads same hash i told s old new)
       → (let to = leads map u here in
-      (IsOfNoRow same old.batch_size old.roots s.world s.maps s.calls s.makers s.enders map to.0 i new.memory.memory to.4.w2 to.4.maps2 to.4.next u to.1 told to.4.did → ⊥)
-      → HandTheirs (name i) map (effects_of (Call i map) known new.memory.changed) m
-      × TakesNone new.memory.changed
-      × ShowsAll same name (with_effects (Some (name i)) (Some map) (effects_of (Call i map) known new.memory.changed) m) (known_after (Call i map) new.memory.changed known)
-      (scene_after same hash s old new map i to.0 u to.1 told to.4))
+      (IsOfNoRow same old.batch_size old.roots s.world s.maps s.calls s.makers s.enders map to.0 i new.memory to.4.w2 to.4.maps2 to.4.next u to.1 told to.4.did → ⊥)
+      → HandTheirs (name i) map (effects_of (Call i map) known new.changed) m
+      × TakesNone new.changed
+      × ShowsAll same name (with_effects (Some (name i)) (Some map) (effects_of (Call i map) known new.changed) m) (known_after (Call i map) new.changed known)
+      (scene_after same s old new map i to.0 u to.1 told to.4))

@@ -1,4 +1,4 @@
-//! What the calls of a run were told, and what they store and hand over, at a moment that shows the scene of the executor.
+//! What the calls of a run were told, and what they store and hand over, at a moment that shows the scene.
 #![tactic(auto)]
 
 pub mod law;

@@ -32,9 +32,6 @@ use Rattle.papaya_moments.specs.Given.Callers.Together.{CallOnKey, OnKey, StepTo
 use Rattle.papaya_moments.specs.Given.Finishes.Maps.{Standing, IsSameMap}
 use Rattle.papaya_moments.specs.Given.Effects.Known.{Known}
 use Rattle.papaya_moments.specs.Given.Effects.declared.role.Role.TheVariants as role
-use Rattle.papaya_moments.specs.Given.Executor.IsAt.{Scene, IsAt, slot_of}
-use Rattle.papaya_moments.specs.Given.Executor.Stepping.{StepLeads}
-use Rattle.papaya_moments.specs.Given.Executor.declared.executor.Executor.{Executor}
 use Rattle.papaya_moments.specs.Given.Follows.Shows.{Shows}
 use Rattle.papaya_moments.proofs.Given.Follows.Steps.{WentTo, DidSo, LeadsThere, one_of}
 use Rattle.papaya_moments.specs.Whole.{ShowsWhole}
@@ -48,6 +45,9 @@ use Rattle.papaya_histories.proofs.Logs.{each_of, last_there}
 use Rattle.papaya_histories.proofs.Roles.{named_by, no_change, stands_then, stands_is, roles_before, roles_after}
 use Rattle.papaya_histories.proofs.Steps.{to, led_on, v, after, maps_later, now_then, same_pairs}
 use Rattle.papaya_histories.proofs.Within.{within_on}
+use Rattle.papaya_moments.specs.Given.Scenes.Held.{Held, IsAt}
+use Rattle.papaya_moments.specs.Given.Scenes.Scene.{Scene, slot_of}
+use Rattle.papaya_moments.specs.Given.Scenes.Stepping.{StepLeads}
 
 pub ended : {T : Type 0} (end : Called T) (answer : KeyAnswer) → Done (Key answer) ≡ of_called end → end ≡ called.Done answer
 ended called.Goes answer e = absurd (cc e)
@@ -58,7 +58,7 @@ ended (called.Asks about) answer e = absurd (cc e)
 ended (called.Done other) answer e = let one : other ≡ answer = cc e in ap called.Done one
 ended (called.Refused fault) answer e = absurd (cc e)
 
-module _ {K V S : Type 0} (same : K → K → Bool) (hash : K → ℕ) (name : ℕ → List ℕ) (log : List (Entry K V)) (m : Moment K V) (known : Known) (s : Scene K V) (old new : Executor K V S)
+module _ {K V : Type 0} (same : K → K → Bool) (hash : ℕ → K → ℕ) (name : ℕ → List ℕ) (log : List (Entry K V)) (m : Moment K V) (known : Known) (s : Scene K V) (old new : Held K V)
     (at : IsAt same hash old s) (whole : ShowsWhole same name m known s) (history : ShowsHistory same name log m known s) (map i : ℕ) (x : CallOnKey K V K)
     (here : s.calls map i ≡ Some (OnKey x)) (said : Progress (Node K V)) (leads : StepLeads same hash i said s old new)
     (c : CallThere K V) (c_is : call_of (name i) m ≡ Some c) (one : OneKey K V) (one_is : c.call ≡ On one)
@@ -167,7 +167,7 @@ module _ {K V S : Type 0} (same : K → K → Bool) (hash : K → ℕ) (name : �
     pub stands_on_is : went.4.maps2 map ≡ Some stands_on
     stands_on_is = same_map.2
 
-module _ {K V S : Type 0} (same : K → K → Bool) (hash : K → ℕ) (name : ℕ → List ℕ) (log : List (Entry K V)) (m : Moment K V) (known : Known) (s : Scene K V) (old new : Executor K V S)
+module _ {K V : Type 0} (same : K → K → Bool) (hash : ℕ → K → ℕ) (name : ℕ → List ℕ) (log : List (Entry K V)) (m : Moment K V) (known : Known) (s : Scene K V) (old new : Held K V)
     (at : IsAt same hash old s) (whole : ShowsWhole same name m known s) (history : ShowsHistory same name log m known s) (map i : ℕ) (x : CallOnKey K V K)
     (here : s.calls map i ≡ Some (OnKey x)) (answer : KeyAnswer) (leads : StepLeads same hash i (Done (Key answer)) s old new)
     (c : CallThere K V) (c_is : call_of (name i) m ≡ Some c) (one : OneKey K V) (one_is : c.call ≡ On one)
@@ -216,6 +216,6 @@ module _ {K V S : Type 0} (same : K → K → Bool) (hash : K → ℕ) (name : �
       was_so (stands_on same hash name log m known s old new at whole history map i x here said leads c c_is one one_is still (Answers a Leaves) (stayed.1 map)) (stands_on_is same hash name log m known s old new at whole history map i x here said leads c c_is one one_is still (Answers a Leaves) (stayed.1 map)) refl (seen_by stood.blocks (stood.sights (slot_of i)))
       (roles_before same hash name m known s old new at whole its_shown map i x here said leads) answer it.1 told
 
-pub answers_were_so : (K V S : Type 0) (same : K → K → Bool) (hash : K → ℕ) → AnswersWereSo K V S same hash
-answers_were_so K V S same hash name log m known s old new at whole history map i u here answer leads c c_is one one_is still a told =
+pub answers_were_so : (K V : Type 0) (same : K → K → Bool) (hash : ℕ → K → ℕ) → AnswersWereSo K V same hash
+answers_were_so K V same hash name log m known s old new at whole history map i u here answer leads c c_is one one_is still a told =
     by same hash name log m known s old new at whole history map i u here answer leads c c_is one one_is still a told (leads map (OnKey u) here).4.did

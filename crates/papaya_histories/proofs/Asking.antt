@@ -24,12 +24,12 @@ use Rattle.papaya_moments.specs.Given.Teller.declared.changed.Changed.{Changed}
 use Rattle.papaya_moments.specs.Given.Teller.declared.changed.Changed.TheVariants.{Nothing}
 use Rattle.papaya_moments.specs.Given.Callers.Together.{CallOnKey, UnderWay, OnKey, ForRoom, Counting, OverAll}
 use Rattle.papaya_moments.specs.Given.Effects.Known.{Known}
-use Rattle.papaya_moments.specs.Given.Executor.Stepping.{StepsFrom}
-use Rattle.papaya_moments.specs.Given.Executor.declared.executor.Executor.{Executor}
 use Rattle.papaya_moments.specs.Given.Finishes.Machines.{machine_of}
 use Rattle.papaya_moments.specs.Given.Hands.Asked.{IsQuestion, IsAskedAs, AsksThere}
 use Rattle.papaya_histories.specs.Asking.{IsToldQuestion, AskingStepsStandThere, AskingCallsAskStill}
 use Rattle.papaya_histories.proofs.Says.{AsksAt, SaysSo, says_so}
+use Rattle.papaya_moments.specs.Given.Scenes.Held.{Held}
+use Rattle.papaya_moments.specs.Given.Scenes.Stepping.{StepsFrom}
 
 -- what is so of each outcome of a plan, turned into another
 module _ {T A B : Type 0} (P : A → Type 0) (Q : B → Type 0) (f : A → B) (turn : (a : A) → P a → Q (f a)) where
@@ -70,11 +70,11 @@ module _ {K V : Type 0} where
   as_said (p, answer.Done told) so = tt
   as_said (p, answer.Refused fault) so = tt
 
-module _ {K V S : Type 0} (same : K → K → Bool) (hash : K → ℕ) (old new : Executor K V S) (u : CallOnKey K V K) (machine : Machine K V K) (said : Progress (Node K V))
+module _ {K V : Type 0} (same : K → K → Bool) (hash : K → ℕ) (old new : Held K V) (u : CallOnKey K V K) (machine : Machine K V K) (said : Progress (Node K V))
     (steps : StepsFrom same hash (kinds.Key u.call) old new machine said) where
   said_so : MachineSaysSo (machine, said)
   said_so =
-      always_told MachineSaysSo old.memory.memory new.memory.memory Nothing new.memory.changed (plan_as called (plan_at same same hash u.call u.call.stands)) (machine, said)
+      always_told MachineSaysSo old.memory new.memory Nothing new.changed (plan_as called (plan_at same same hash u.call u.call.stands)) (machine, said)
       (always_turned SaysSo MachineSaysSo called as_said (plan_at same same hash u.call u.call.stands) (says_so u.call same same hash)) steps
 
   -- where it goes on as a call that is under way
@@ -89,7 +89,7 @@ module _ {K V S : Type 0} (same : K → K → Bool) (hash : K → ℕ) (old new 
 
   abbrev StepsAt : Calling → Type 0
   StepsAt stands =
-      StepsTold K V (Machine K V K × Progress (Node K V)) old.memory.memory Nothing (plan_as called (plan_at same same hash u.call stands)) new.memory.memory new.memory.changed (machine, said)
+      StepsTold K V (Machine K V K × Progress (Node K V)) old.memory Nothing (plan_as called (plan_at same same hash u.call stands)) new.memory new.changed (machine, said)
 
   -- where it asks, it says so
   says_still : (known : Known) (it : AskingAt) (question : Option ℕ) → IsQuestion known it question → StepsAt (at.Asks it) → (about : Option ℕ) × (said ≡ progress.Asks about) × IsToldQuestion known about question
@@ -105,16 +105,16 @@ module _ {K V S : Type 0} (same : K → K → Bool) (hash : K → ℕ) (old new 
   asks_again_there : (known : Known) (question : Option ℕ) → AsksThere known u.call.stands question → (about : Option ℕ) × (said ≡ progress.Asks about) × IsToldQuestion known about question
   asks_again_there known question (it, stands, is) = says_still known it question is (subst StepsAt stands steps)
 
-module _ (K V S : Type 0) (same : K → K → Bool) (hash : K → ℕ) where
-  pub asking_steps_stand_there : AskingStepsStandThere K V S same hash
+module _ (K V : Type 0) (same : K → K → Bool) (hash : ℕ → K → ℕ) where
+  pub asking_steps_stand_there : AskingStepsStandThere K V same hash
   asking_steps_stand_there s old new map i u here about leads =
       let to = leads map (OnKey u) here in
       let on = to.4.goes_on in
-      let it = goes_there same hash old new u to.1 (progress.Asks about) to.3 about refl on.0 on.2 in
+      let it = goes_there same to.0.hash old new u to.1 (progress.Asks about) to.3 about refl on.0 on.2 in
       (it.0, on.1 ∙ ap Some it.1, λ known question told. asks_there known it.0.call.stands about question it.2 told)
 
-  pub asking_calls_ask_still : AskingCallsAskStill K V S same hash
+  pub asking_calls_ask_still : AskingCallsAskStill K V same hash
   asking_calls_ask_still name number m known s old new asked map i u here said leads c c_is one one_is question asks =
       let to = leads map (OnKey u) here in
       let h = subst (λ (z : Call K V). IsAskedAs (number map) to.0.chart.stored known u z c) one_is (asked.each map i (OnKey u) here to.0 to.2 c c_is) in
-      asks_again_there same hash old new u to.1 said to.3 known question (h.asks question asks)
+      asks_again_there same to.0.hash old new u to.1 said to.3 known question (h.asks question asks)

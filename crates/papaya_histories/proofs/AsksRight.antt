@@ -14,19 +14,19 @@ use Rattle.papaya_moments.specs.Given.Schedules.Sequential.{key_of}
 use Rattle.papaya_moments.specs.Given.Schedules.Views.{finite_map}
 use Rattle.papaya_moments.specs.Given.Callers.Together.{CallOnKey}
 use Rattle.papaya_moments.specs.Given.Effects.Known.{Known}
-use Rattle.papaya_moments.specs.Given.Executor.IsAt.{Scene, IsAt}
-use Rattle.papaya_moments.specs.Given.Executor.declared.executor.Executor.{Executor}
 use Rattle.papaya_moments.specs.Given.Hands.Asked.{AsksThere}
 use Rattle.papaya_histories.specs.Questions.{unanswered, ShowsQuestions}
 use Rattle.papaya_histories.specs.Several.{InMidst}
 use Rattle.papaya_histories.proofs.Found.{map_alike}
 use Rattle.papaya_histories.proofs.MayAsk.{may_ask, asks_unchanged}
 use Rattle.papaya_histories.proofs.Questions.{effects_keep_questions}
+use Rattle.papaya_moments.specs.Given.Scenes.Held.{Held, IsAt}
+use Rattle.papaya_moments.specs.Given.Scenes.Scene.{Scene}
 
-module _ {K V S : Type 0} (same : K → K → Bool) (hash : K → ℕ) (name : ℕ → List ℕ) (log : List (Entry K V)) (beginning : Moment K V) (map i : ℕ) (one : OneKey K V) (c : CallThere K V)
+module _ {K V : Type 0} (same : K → K → Bool) (hash : ℕ → K → ℕ) (name : ℕ → List ℕ) (log : List (Entry K V)) (beginning : Moment K V) (map i : ℕ) (one : OneKey K V) (c : CallThere K V)
     (one_is : c.call ≡ On one) (questions : ShowsQuestions beginning)
     (done : List Effect) (m : Moment K V) (known : Known) (s : Scene K V) (u : CallOnKey K V K) (midst : InMidst same name log beginning map i one c done m known s u)
-    (x : Executor K V S) (at_x : IsAt same hash x s) (question : Option ℕ) (asks : AsksThere known u.call.stands question) where
+    (x : Held K V) (at_x : IsAt same hash x s) (question : Option ℕ) (asks : AsksThere known u.call.stands question) where
   -- the call as its event comes to its end
   abbrev there : CallThere K V
   there = midst.there

@@ -12,8 +12,6 @@ use Rattle.papaya_moments.specs.Given.Schedules.Views.{call_of}
 use Rattle.papaya_moments.specs.Given.Points.FactsCalls.{Unchanged}
 use Rattle.papaya_moments.specs.Given.Callers.Together.{CallOnKey, UnderWay, OnKey}
 use Rattle.papaya_moments.proofs.Given.Callers.Together.At.{at_same}
-use Rattle.papaya_moments.specs.Given.Executor.IsAt.{Scene}
-use Rattle.papaya_moments.specs.Given.Executor.Replying.{scene_with}
 use Rattle.papaya_moments.proofs.Given.Follows.Calling.{is_same_refl}
 use Rattle.papaya_moments.proofs.Given.Follows.Steps.{one_of}
 use Rattle.papaya_moments.proofs.Calls.{calls_begin_whole}
@@ -22,16 +20,18 @@ use Rattle.papaya_histories.specs.Due.{ShowsDue}
 use Rattle.papaya_histories.specs.Several.{MidstsBeginCalls}
 use Rattle.papaya_histories.proofs.DueOn.{calls_begin_due}
 use Rattle.papaya_histories.proofs.Several.{midsts_begin}
+use Rattle.papaya_moments.specs.Given.Scenes.Replying.{scene_with}
+use Rattle.papaya_moments.specs.Given.Scenes.Scene.{Scene}
 
 -- as many events have come as the log has
 pub events_are : {K V : Type 0} (log : List (Entry K V)) → (moment log).events ≡ length log
 events_are [] = refl
 events_are (e ∷ log) = let rest = events_are log in omega (arith, rest)
 
-module _ (K V S : Type 0) (same : K → K → Bool) (hash : K → ℕ) where
-  pub midsts_begin_calls : MidstsBeginCalls K V S same hash
+module _ (K V : Type 0) (same : K → K → Bool) (hash : ℕ → K → ℕ) where
+  pub midsts_begin_calls : MidstsBeginCalls K V same hash
   midsts_begin_calls name log known s old at_old whole dues map i u one guard standing there now unchanged apart called begun rests new at_new =
-      (c_is, midsts_begin K V S same hash name log beginning (refl, refl) known _ new at_new whole2 dues2 map i u here c c_is one refl)
+      (c_is, midsts_begin K V same hash name log beginning (refl, refl) known _ new at_new whole2 dues2 map i u here c c_is one refl)
     where
       beginning : Moment K V
       beginning = with_call (name i) guard (On one) (Some map) (moment log)
@@ -58,5 +58,5 @@ module _ (K V S : Type 0) (same : K → K → Bool) (hash : K → ℕ) where
 
       dues2 : ShowsDue same name log beginning known s2
       dues2 =
-          calls_begin_due K V S same hash name log (moment log) known s old at_old dues map i (OnKey u) (On one) guard standing there
+          calls_begin_due K V same hash name log (moment log) known s old at_old dues map i (OnKey u) (On one) guard standing there
           (λ began e. sym (one_of u.began began e) ∙ now) at_begin apart called begun (events_are log)

@@ -12,8 +12,6 @@ use Rattle.papaya_moments.specs.Given.Schedules.Moment.{UnderWay as CallThere, M
 use Rattle.papaya_moments.specs.Given.Schedules.Views.{call_of, finite_map}
 use Rattle.papaya_moments.specs.Given.Callers.Together.{UnderWay, OnKey, ForRoom, Counting, OverAll}
 use Rattle.papaya_moments.specs.Given.Effects.Known.{Known}
-use Rattle.papaya_moments.specs.Given.Executor.IsAt.{Scene, slot_of}
-use Rattle.papaya_moments.specs.Given.Executor.Replying.{scene_with}
 use Rattle.papaya_moments.specs.Given.Finishes.Machines.{ToldOfKind}
 use Rattle.papaya_moments.specs.Given.Finishes.Maps.{Standing, with_call as with_in}
 use Rattle.papaya_moments.specs.Given.Follows.Calling.{NoneNamed, told, come_to}
@@ -34,6 +32,8 @@ use Rattle.papaya_histories.proofs.Found.{map_alike}
 use Rattle.papaya_histories.proofs.Logs.{moments_grow}
 use Rattle.papaya_histories.proofs.Now.{now_had}
 use Rattle.papaya_histories.proofs.Within.{within_alike}
+use Rattle.papaya_moments.specs.Given.Scenes.Replying.{scene_with}
+use Rattle.papaya_moments.specs.Given.Scenes.Scene.{Scene, slot_of}
 
 pub histories_begin : (K V : Type 0) → HistoriesBegin K V
 histories_begin K V same roots name =
@@ -112,8 +112,8 @@ module _ {K V : Type 0} (same : K → K → Bool) (name : ℕ → List ℕ) (log
       numbers,
     )
 
-module _ (K V S : Type 0) (same : K → K → Bool) (hash : K → ℕ) where
-  pub calls_take_histories : CallsTakeHistories K V S same hash
+module _ (K V : Type 0) (same : K → K → Bool) (hash : ℕ → K → ℕ) where
+  pub calls_take_histories : CallsTakeHistories K V same hash
   calls_take_histories name log m known s e at history map i u here c c_is question c_asks standing there is_told next machine taken goes =
       let b = told_with same name m known s history.shown map i u here e.batch_size e.roots standing (as_told is_told) next goes is_told in
       calls_changed same name log m (told (name i) is_told m) known s history refl refl (with_in s.calls map i (Some next)) b.0 b.1
@@ -144,7 +144,7 @@ module _ (K V S : Type 0) (same : K → K → Bool) (hash : K → ℕ) where
           )
       as_before n j x d d_is (inr was_so) = let was = history.shown.calls n j x was_so.1 in (x, was_so.1, refl, was.0, was.1, same_event j was.0 d was.1 d_is)
 
-  pub calls_begin_histories : CallsBeginHistories K V S same hash
+  pub calls_begin_histories : CallsBeginHistories K V same hash
   calls_begin_histories name log m known s e at history map i u its guard standing there begins apart called begun_for events =
       calls_changed same name log m m2 known s history refl refl (with_in s.calls map i (Some u)) b.0 b.1
       (begins_asked same name m known s history.shown history.asked map i u its guard apart begun_for)

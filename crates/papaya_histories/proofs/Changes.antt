@@ -35,9 +35,6 @@ use Rattle.papaya_moments.specs.Given.Finishes.Maps.{Standing}
 use Rattle.papaya_moments.specs.Given.Effects.Effects.{effects_of}
 use Rattle.papaya_moments.specs.Given.Effects.Known.{Known}
 use Rattle.papaya_moments.specs.Given.Effects.declared.acting.Acting.TheVariants as acts
-use Rattle.papaya_moments.specs.Given.Executor.IsAt.{Scene, IsAt, slot_of}
-use Rattle.papaya_moments.specs.Given.Executor.Stepping.{StepLeads}
-use Rattle.papaya_moments.specs.Given.Executor.declared.executor.Executor.{Executor}
 use Rattle.papaya_moments.specs.Given.Follows.Shows.{Shows}
 use Rattle.papaya_moments.specs.Given.Follows.Steps.{named_now, HasToStore, HasPair, TakesNone}
 use Rattle.papaya_moments.proofs.Given.Follows.Calling.{is_same_refl}
@@ -63,6 +60,9 @@ use Rattle.papaya_histories.proofs.Keys.{its_call}
 use Rattle.papaya_histories.proofs.Meanings.{puts_some, ToRemove, takes_it}
 use Rattle.papaya_histories.proofs.Now.{now_had}
 use Rattle.papaya_histories.proofs.Which.{DidOnce, DidNone, DidStore, DidReplace, DidRemove, did_once, none_shifted}
+use Rattle.papaya_moments.specs.Given.Scenes.Held.{Held, IsAt}
+use Rattle.papaya_moments.specs.Given.Scenes.Scene.{Scene, slot_of}
+use Rattle.papaya_moments.specs.Given.Scenes.Stepping.{StepLeads}
 
 -- what rows hand over shifts no pair
 pub hands_shift : (effects : List Effect) → HandsOn effects → flat_map shift_of effects ≡ []
@@ -76,7 +76,7 @@ acted_on name map f m c c_is =
     found (call_by m f) (changed_same m f) name name m.calls c c_is
     ∙ ap (λ (q : Bool). Some (if q then call_by m f c else c)) (ap (λ (l : List ℕ). is_same l name) (caller_is name m c c_is) ∙ is_same_refl name)
 
-module _ {K V S : Type 0} (same : K → K → Bool) (hash : K → ℕ) (name : ℕ → List ℕ) (m : Moment K V) (known : Known) (s : Scene K V) (old new : Executor K V S) (at : IsAt same hash old s)
+module _ {K V : Type 0} (same : K → K → Bool) (hash : ℕ → K → ℕ) (name : ℕ → List ℕ) (m : Moment K V) (known : Known) (s : Scene K V) (old new : Held K V) (at : IsAt same hash old s)
     (whole : ShowsWhole same name m known s) (shown : Shows same name m known s) (asked : ShowsAsked name shown.number m known s) (map i : ℕ) (x : CallOnKey K V K) (here : s.calls map i ≡ Some (OnKey x)) (said : Progress (Node K V)) (leads : StepLeads same hash i said s old new)
     (c : CallThere K V) (c_is : call_of (name i) m ≡ Some c) (one : OneKey K V) (one_is : c.call ≡ On one) (taken : AreTaken one c.replies) (due : x.change ≡ Unchanged → c.due ≡ None) where
   abbrev to : WentTo same hash name m known s old new at shown map i (OnKey x) here said leads
@@ -95,7 +95,7 @@ module _ {K V S : Type 0} (same : K → K → Bool) (hash : K → ℕ) (name : �
   k = key_of one
 
   abbrev effects : List Effect
-  effects = effects_of (acts.Call i map) known new.memory.changed
+  effects = effects_of (acts.Call i map) known new.changed
 
   abbrev Goal : Type 0
   Goal = ChangesOnce same one c m (flat_map shift_of effects)
@@ -158,7 +158,7 @@ module _ {K V S : Type 0} (same : K → K → Bool) (hash : K → ℕ) (name : �
       new_pairs e f = ap (λ (z : Option ℕ). pairs_of z d.replies) e ∙ ap (λ (z : List (Option ℕ × Reply V)). pairs_of old z) f
 
   abbrev pub Stores : List Effect → Type 0
-  Stores l = AtEachEffect (λ v f. HasPair s.world.memory (named_now new.memory.changed) (acting (Some (name i)) v) f) (Some (name i)) (Some map) l m
+  Stores l = AtEachEffect (λ v f. HasPair s.world.memory (named_now new.changed) (acting (Some (name i)) v) f) (Some (name i)) (Some map) l m
 
   -- the call that replaces this pair
   pub replacing : (p : ℕ) → call_of (name i) (with_effect (Some (name i)) (Some map) (effect.Replaced p) m) ≡ Some (call_by m (effect.Replaced p) c)
@@ -167,7 +167,7 @@ module _ {K V S : Type 0} (same : K → K → Bool) (hash : K → ℕ) (name : �
   stores_new : (sp : Spot) → effects ≡ effect.Stored (known.stored + 1) sp ∷ [] → Stores effects → IsAbsent same st.hash (is_incremental st.setting.mode) ch x.keys → x.change ≡ Unchanged → Goal
   stores_new sp is stores absent unchanged =
       let has = (subst (λ (l : List Effect). Stores l) is stores).0 in
-      let it = has_to (named_now new.memory.changed) (known.stored + 1) None c refl refl asked_on.replacing (subst (λ (o : Option (CallThere K V)). HasToStore s.world.memory (named_now new.memory.changed) o (known.stored + 1)) c_is has) in
+      let it = has_to (named_now new.changed) (known.stored + 1) None c refl refl asked_on.replacing (subst (λ (o : Option (CallThere K V)). HasToStore s.world.memory (named_now new.changed) o (known.stored + 1)) c_is has) in
       comes_to None (none_there absent) it.0 (Puts it.1) (ap (λ (z : ℕ). means one (reply_to None c.replies) None z) (sym next_is) ∙ it.2)
       (ap (λ (l : List Effect). flat_map shift_of l) is ∙ ap (λ (z : ℕ). ComesIn z ∷ []) next_is) unchanged
 
@@ -175,8 +175,8 @@ module _ {K V S : Type 0} (same : K → K → Bool) (hash : K → ℕ) (name : �
       → x.change ≡ Unchanged → Goal
   stores_over n sp is stores pair unchanged =
       let has = (subst (λ (l : List Effect). Stores l) is stores).1.0 in
-      let it = has_to (named_now new.memory.changed) (known.stored + 1) (Some (number n)) (call_by m (effect.Replaced (number n)) c) refl refl refl
-      (subst (λ (o : Option (CallThere K V)). HasToStore s.world.memory (named_now new.memory.changed) o (known.stored + 1)) (replacing (number n)) has) in
+      let it = has_to (named_now new.changed) (known.stored + 1) (Some (number n)) (call_by m (effect.Replaced (number n)) c) refl refl refl
+      (subst (λ (o : Option (CallThere K V)). HasToStore s.world.memory (named_now new.changed) o (known.stored + 1)) (replacing (number n)) has) in
       comes_to (Some (number n)) (pair_there n pair) it.0 (Puts it.1) (ap (λ (z : ℕ). means one (reply_to (Some (number n)) c.replies) (Some (number n)) z) (sym next_is) ∙ it.2)
       (ap (λ (l : List Effect). flat_map shift_of l) is ∙ ap (λ (z : ℕ). GivesWay (number n) ∷ ComesIn z ∷ []) next_is) unchanged
 
@@ -249,14 +249,14 @@ module _ {K V S : Type 0} (same : K → K → Bool) (hash : K → ℕ) (name : �
   to_remove_by memory c2 blocks (Removed n) has = to_remove memory c2 blocks x.pair n has
 
   -- of a step that is none of a row: which pairs have come or gone, and what the call has done
-  module _ (p2 : KeyCall K V K) (end : Called (Node K V)) (step : StepsAmong V same same old.batch_size old.roots slot_of s.world s.maps s.calls s.makers s.enders map st i x new.memory.memory p2 end) where
+  module _ (p2 : KeyCall K V K) (end : Called (Node K V)) (step : StepsAmong V same same old.batch_size old.roots slot_of s.world s.maps s.calls s.makers s.enders map st i x new.memory p2 end) where
     pub its_shifts : Shifts ch step.step.went.c2 number known.stored effects
     its_shifts =
         moved_shifts same hash m known s old new at name shown map i st to.2 (name i) (made_so same hash name m known s old new at shown map i (OnKey x) here said leads)
         (is_inside same hash name m known s old new at shown map i (OnKey x) here said leads) _ step.step.went step.step.blocks2 step.step.grown step.step.sights2
 
     pub its_done : Did (change_told V same st.hash same st.setting slot_of step.step.went.told)
-    its_done = elim (done same st.hash same st.setting slot_of s.world ch st.blocks st.sights (s.calls map) i x new.memory.memory p2 end step.step) as
+    its_done = elim (done same st.hash same st.setting slot_of s.world ch st.blocks st.sights (s.calls map) i x new.memory p2 end step.step) as
         (λ _. Did (change_told V same st.hash same st.setting slot_of step.step.went.told)) [
           | inl none ↦ inl none
           | inr has ↦ inr (has.2, to_remove_by step.step.went.w2.memory step.step.went.c2 has.0 (change_told V same st.hash same st.setting slot_of step.step.went.told) has.3)
@@ -268,19 +268,19 @@ module _ {K V S : Type 0} (same : K → K → Bool) (hash : K → ℕ) (name : �
   by_own stores (p2, end, machine_is, told_is, inr row) own = absurd own
 
   -- one of a row says of no pair that it has come or gone
-  pub by_row : TakesNone new.memory.changed → (did : DidSoHere) → (NoRow did → ⊥) → flat_map shift_of effects ≡ []
+  pub by_row : TakesNone new.changed → (did : DidSoHere) → (NoRow did → ⊥) → flat_map shift_of effects ≡ []
   by_row none (p2, end, machine_is, told_is, inl step) other = absurd (other tt)
   by_row none (p2, end, machine_is, told_is, inr (row, stayed)) other =
-      hands_shift effects (row_done i map m known s.world row.step.w2 shown.blocks (one_step_leaves st.setting i s.world row.step.w2 each.ground.came row.step.happened) new.memory.changed
-      (subst (λ (n : Mem (Node K V)). LeavesBy s.world.memory n new.memory.changed) (sym row.step.memory)
-      (operated_leaves s.world.memory new.memory.memory new.memory.changed (made_so same hash name m known s old new at shown map i (OnKey x) here said leads))) none).hands
+      hands_shift effects (row_done i map m known s.world row.step.w2 shown.blocks (one_step_leaves st.setting i s.world row.step.w2 each.ground.came row.step.happened) new.changed
+      (subst (λ (n : Mem (Node K V)). LeavesBy s.world.memory n new.changed) (sym row.step.memory)
+      (operated_leaves s.world.memory new.memory new.changed (made_so same hash name m known s old new at shown map i (OnKey x) here said leads))) none).hands
 
   pub changes_once : Goal
   changes_once = elim (of_row same hash name m known s old new at whole map i (OnKey x) here said leads (OnKey x) to.4.did) as (λ _. Goal) [
-    | inl own ↦ by_own (calls_store_theirs K V S same hash name m known s old new at whole.all map i (OnKey x) here said leads own).0 to.4.did own
-    | inr other ↦ inl (by_row (rows_hand_theirs K V S same hash name m known s old new at whole.all map i (OnKey x) here said leads other).1 to.4.did other)
+    | inl own ↦ by_own (calls_store_theirs K V same hash name m known s old new at whole.all map i (OnKey x) here said leads own).0 to.4.did own
+    | inr other ↦ inl (by_row (rows_hand_theirs K V same hash name m known s old new at whole.all map i (OnKey x) here said leads other).1 to.4.did other)
   ]
 
-pub steps_change_once : (K V S : Type 0) (same : K → K → Bool) (hash : K → ℕ) → StepsChangeOnce K V S same hash
-steps_change_once K V S same hash name m known s old new at whole map i u here said leads c c_is one one_is taken due =
+pub steps_change_once : (K V : Type 0) (same : K → K → Bool) (hash : ℕ → K → ℕ) → StepsChangeOnce K V same hash
+steps_change_once K V same hash name m known s old new at whole map i u here said leads c c_is one one_is taken due =
     changes_once same hash name m known s old new at whole whole.all.shown whole.all.asked map i u here said leads c c_is one one_is taken due

@@ -27,9 +27,6 @@ use Rattle.papaya_moments.specs.Given.Finishes.Maps.{Standing}
 use Rattle.papaya_moments.specs.Given.Effects.Effects.{effects_of}
 use Rattle.papaya_moments.specs.Given.Effects.Known.{Known}
 use Rattle.papaya_moments.specs.Given.Effects.declared.acting.Acting.TheVariants as acts
-use Rattle.papaya_moments.specs.Given.Executor.IsAt.{Scene, IsAt, slot_of}
-use Rattle.papaya_moments.specs.Given.Executor.Stepping.{StepLeads}
-use Rattle.papaya_moments.specs.Given.Executor.declared.executor.Executor.{Executor}
 use Rattle.papaya_moments.specs.Given.Follows.Maps.{ShowsPairs}
 use Rattle.papaya_moments.specs.Given.Follows.Shows.{Shows}
 use Rattle.papaya_moments.proofs.Given.Follows.Called.{room_goes_on, counting_goes_on, sweep_goes_on, key_goes_on}
@@ -55,6 +52,9 @@ use Rattle.papaya_histories.specs.Kept.{ChangesFirst}
 use Rattle.papaya_histories.proofs.Dues.{effects_due}
 use Rattle.papaya_histories.proofs.Later.{IsLater}
 use Rattle.papaya_histories.proofs.Steps.{to, led_on, v, s2, after, maps_later, moved_chart, was_under_way, step_history}
+use Rattle.papaya_moments.specs.Given.Scenes.Held.{Held, IsAt}
+use Rattle.papaya_moments.specs.Given.Scenes.Scene.{Scene, slot_of}
+use Rattle.papaya_moments.specs.Given.Scenes.Stepping.{StepLeads}
 
 module _ {K V : Type 0} (number number2 : ℕ → ℕ) (stored stored2 : ℕ) (numbers : (n : ℕ) → n < stored → number2 n ≡ number n) (more : stored ≤ stored2) (one : OneKey K V) (c d : CallThere K V)
     (due_is : d.due ≡ c.due) (replies_are : d.replies ≡ c.replies) where
@@ -92,7 +92,7 @@ due_when its c one old new is = ap (λ (z : Call _ _). (due_for z c old new).due
 pub same_change : {K V : Type 0} (x y : CallOnKey K V K) → ◌≡◌ {A = UnderWay K V K} (OnKey x) (OnKey y) → x.change ≡ y.change
 same_change x y e = let one : x ≡ y = cc e in ap (λ (z : CallOnKey _ _ _). z.change) one
 
-module _ {K V S : Type 0} (same : K → K → Bool) (hash : K → ℕ) (name : ℕ → List ℕ) (log : List (Entry K V)) (m : Moment K V) (known : Known) (s : Scene K V) (old new : Executor K V S)
+module _ {K V : Type 0} (same : K → K → Bool) (hash : ℕ → K → ℕ) (name : ℕ → List ℕ) (log : List (Entry K V)) (m : Moment K V) (known : Known) (s : Scene K V) (old new : Held K V)
     (at : IsAt same hash old s) (whole : ShowsWhole same name m known s) (dues : ShowsDue same name log m known s) (map i : ℕ) (u : UnderWay K V K) (here : s.calls map i ≡ Some u)
     (said : Progress (Node K V)) (leads : StepLeads same hash i said s old new) where
   abbrev shown : Shows same name m known s
@@ -108,7 +108,7 @@ module _ {K V S : Type 0} (same : K → K → Bool) (hash : K → ℕ) (name : �
   on = led_on same hash name m known s old new at whole shown map i u here said leads
 
   abbrev effects : List Effect
-  effects = effects_of (acts.Call i map) known new.memory.changed
+  effects = effects_of (acts.Call i map) known new.changed
 
   abbrev v2 : Moment K V
   v2 = v same hash name m known s old new at whole shown map i u here said leads
@@ -194,7 +194,7 @@ module _ {K V S : Type 0} (same : K → K → Bool) (hash : K → ℕ) (name : �
   no_key (OverAll o) none (p2, end, machine_is, told_is, inr (row, stayed)) x e = cc (sweep_goes_on _ end (OnKey x) (sym stayed.2 ∙ e))
 
 -- a call on one key
-module _ {K V S : Type 0} (same : K → K → Bool) (hash : K → ℕ) (name : ℕ → List ℕ) (log : List (Entry K V)) (m : Moment K V) (known : Known) (s : Scene K V) (old new : Executor K V S)
+module _ {K V : Type 0} (same : K → K → Bool) (hash : ℕ → K → ℕ) (name : ℕ → List ℕ) (log : List (Entry K V)) (m : Moment K V) (known : Known) (s : Scene K V) (old new : Held K V)
     (at : IsAt same hash old s) (whole : ShowsWhole same name m known s) (dues : ShowsDue same name log m known s) (map i : ℕ) (z : CallOnKey K V K) (here : s.calls map i ≡ Some (OnKey z))
     (said : Progress (Node K V)) (leads : StepLeads same hash i said s old new) where
   abbrev shown1 : Shows same name m known s
@@ -207,7 +207,7 @@ module _ {K V S : Type 0} (same : K → K → Bool) (hash : K → ℕ) (name : �
   ch = went1.0.chart
 
   abbrev its_effects : List Effect
-  its_effects = effects_of (acts.Call i map) known new.memory.changed
+  its_effects = effects_of (acts.Call i map) known new.changed
 
   abbrev v1 : Moment K V
   v1 = v same hash name m known s old new at whole shown1 map i (OnKey z) here said leads
@@ -267,7 +267,7 @@ module _ {K V S : Type 0} (same : K → K → Bool) (hash : K → ℕ) (name : �
     asked = asked_on same hash name m known s old new at whole shown1 dues.history.asked map i z here said leads c c_is one one_is taken nothing_due
 
     abbrev block : ℕ
-    block = named_now new.memory.changed
+    block = named_now new.changed
 
     -- what was stored where there was none
     owes_stored : (sp : Spot) → its_effects ≡ effect.Stored q sp ∷ [] → StoresIts its_effects → ((n : ℕ) → st2.chart.current n ≡ true → ch.stored ≤ n → n ≡ ch.stored) → Owes num2 st2.chart.stored one d (Stored ch.stored)
@@ -366,7 +366,7 @@ module _ {K V S : Type 0} (same : K → K → Bool) (hash : K → ℕ) (name : �
     change_by (p2, end, machine_is, told_is, inr (row, stayed)) = z.change
 
     -- it owes what it means by that
-    pub owes_now : (did : DidHere) → (NoRow same hash name m known s old new at whole shown1 dues.history.asked map i z here said leads c c_is one one_is taken nothing_due did → StoresIts its_effects) → ((NoRow same hash name m known s old new at whole shown1 dues.history.asked map i z here said leads c c_is one one_is taken nothing_due did → ⊥) → TakesNone new.memory.changed) → Then (change_by did)
+    pub owes_now : (did : DidHere) → (NoRow same hash name m known s old new at whole shown1 dues.history.asked map i z here said leads c c_is one one_is taken nothing_due did → StoresIts its_effects) → ((NoRow same hash name m known s old new at whole shown1 dues.history.asked map i z here said leads c c_is one one_is taken nothing_due did → ⊥) → TakesNone new.changed) → Then (change_by did)
     owes_now (p2, end, machine_is, told_is, inl (step, moved)) stores takes =
         by_told step.step.went.c2 (moved_chart same hash name m known s old new at whole shown1 map i (OnKey z) here said leads step.step.went.c2 step.step.blocks2 step.step.sights2 moved.1 st2 st2_is)
         (its_shifts same hash name m known s old new at whole shown1 dues.history.asked map i z here said leads c c_is one one_is taken nothing_due p2 end step) (stores tt) (change_told V same went1.0.hash same went1.0.setting slot_of step.step.went.told)
@@ -379,8 +379,8 @@ module _ {K V S : Type 0} (same : K → K → Bool) (hash : K → ℕ) (name : �
 
     -- so it is for the step that was made
     pub owes_then_by : Then (change_by went1.4.did)
-    owes_then_by = owes_now went1.4.did (λ own. (calls_store_theirs K V S same hash name m known s old new at whole.all map i (OnKey z) here said leads own).0)
-        (λ other. (rows_hand_theirs K V S same hash name m known s old new at whole.all map i (OnKey z) here said leads other).1)
+    owes_then_by = owes_now went1.4.did (λ own. (calls_store_theirs K V same hash name m known s old new at whole.all map i (OnKey z) here said leads own).0)
+        (λ other. (rows_hand_theirs K V same hash name m known s old new at whole.all map i (OnKey z) here said leads other).1)
 
   own_key : Own same hash name log m known s old new at whole dues map i (OnKey z) here said leads
   own_key x e st2 st2_is d d_is one one_is =
@@ -389,15 +389,15 @@ module _ {K V S : Type 0} (same : K → K → Bool) (hash : K → ℕ) (name : �
       subst (λ (y : Change). Owes num2 st2.chart.stored one d y) (sym (goes_on c.0 c.1 one (sym was.0 ∙ one_is) st2 st2_is d d_is x e went1.4.did))
       (owes_then_by c.0 c.1 one (sym was.0 ∙ one_is) st2 st2_is d d_is)
 
-pub calls_keep_due : (K V S : Type 0) (same : K → K → Bool) (hash : K → ℕ) → CallsKeepDue K V S same hash
-calls_keep_due K V S same hash name log m known s old new at whole dues map i (OnKey z) here said leads changes =
+pub calls_keep_due : (K V : Type 0) (same : K → K → Bool) (hash : ℕ → K → ℕ) → CallsKeepDue K V same hash
+calls_keep_due K V same hash name log m known s old new at whole dues map i (OnKey z) here said leads changes =
     dues_then same hash name log m known s old new at whole dues map i (OnKey z) here said leads (own_key same hash name log m known s old new at whole dues map i z here said leads) changes
-calls_keep_due K V S same hash name log m known s old new at whole dues map i (ForRoom r) here said leads changes =
+calls_keep_due K V same hash name log m known s old new at whole dues map i (ForRoom r) here said leads changes =
     dues_then same hash name log m known s old new at whole dues map i (ForRoom r) here said leads
     (λ x e. absurd (no_key same hash name log m known s old new at whole dues map i (ForRoom r) here said leads (ForRoom r) (λ z e. cc e) (leads map (ForRoom r) here).4.did x e)) changes
-calls_keep_due K V S same hash name log m known s old new at whole dues map i (Counting sum) here said leads changes =
+calls_keep_due K V same hash name log m known s old new at whole dues map i (Counting sum) here said leads changes =
     dues_then same hash name log m known s old new at whole dues map i (Counting sum) here said leads
     (λ x e. absurd (no_key same hash name log m known s old new at whole dues map i (Counting sum) here said leads (Counting sum) (λ z e. cc e) (leads map (Counting sum) here).4.did x e)) changes
-calls_keep_due K V S same hash name log m known s old new at whole dues map i (OverAll o) here said leads changes =
+calls_keep_due K V same hash name log m known s old new at whole dues map i (OverAll o) here said leads changes =
     dues_then same hash name log m known s old new at whole dues map i (OverAll o) here said leads
     (λ x e. absurd (no_key same hash name log m known s old new at whole dues map i (OverAll o) here said leads (OverAll o) (λ z e. cc e) (leads map (OverAll o) here).4.did x e)) changes

@@ -22,9 +22,6 @@ use Rattle.papaya_moments.specs.Given.Callers.Sights.{seen_by}
 use Rattle.papaya_moments.specs.Given.Callers.Together.{CallOnKey, UnderWay, OnKey, ForRoom, Counting, OverAll, Knows, Stands as StandsAt, in_slot}
 use Rattle.papaya_moments.specs.Given.Finishes.Machines.{ToldOfKind}
 use Rattle.papaya_moments.specs.Given.Finishes.Maps.{Standing}
-use Rattle.papaya_moments.specs.Given.Executor.IsAt.{Scene, IsAt, slot_of}
-use Rattle.papaya_moments.specs.Given.Executor.Replying.{scene_with}
-use Rattle.papaya_moments.specs.Given.Executor.declared.executor.Executor.{Executor}
 use Rattle.papaya_moments.specs.Given.Follows.Calling.{told}
 use Rattle.papaya_moments.proofs.Given.Follows.Calling.{is_same_refl, replied_same, come}
 use Rattle.papaya_moments.proofs.Given.Follows.Calls.{found}
@@ -37,6 +34,9 @@ use Rattle.papaya_histories.specs.Due.{Owes, DuesBegin, CallsComeToDue, EventsKe
 use Rattle.papaya_histories.specs.Histories.{StaysWithin}
 use Rattle.papaya_histories.proofs.Calling.{came_so, histories_begin, calls_begin_histories, calls_take_histories, calls_come_to_histories, events_keep_histories}
 use Rattle.papaya_histories.proofs.Due.{owes_on, same_change}
+use Rattle.papaya_moments.specs.Given.Scenes.Held.{Held, IsAt}
+use Rattle.papaya_moments.specs.Given.Scenes.Replying.{scene_with}
+use Rattle.papaya_moments.specs.Given.Scenes.Scene.{Scene, slot_of}
 
 module _ {K V : Type 0} where
   -- what a call owes, was told and was called with
@@ -108,9 +108,9 @@ more_taken one question reply replies its rest asked r = by (same_question asked
     by true same_one e = let is : reply ≡ r = cc e in subst (IsTaken one) is its
     by false other e = rest asked r e
 
-module _ {K V S : Type 0} (same : K → K → Bool) (hash : K → ℕ) where
+module _ {K V : Type 0} (same : K → K → Bool) (hash : ℕ → K → ℕ) where
   -- a call that asks has changed nothing
-  asks_unchanged : (s : Scene K V) (e : Executor K V S) → IsAt same hash e s → (map i : ℕ) (st : Standing K) → s.maps map ≡ Some st → (x : CallOnKey K V K) → s.calls map i ≡ Some (OnKey x) → (it : AskingAt)
+  asks_unchanged : (s : Scene K V) (e : Held K V) → IsAt same hash e s → (map i : ℕ) (st : Standing K) → s.maps map ≡ Some st → (x : CallOnKey K V K) → s.calls map i ≡ Some (OnKey x) → (it : AskingAt)
       → x.call.stands ≡ at.Asks it → x.change ≡ Unchanged
   asks_unchanged s e is_at map i st there x here it stands = by ((is_at.together.makings.standing.each map st there).stand i (OnKey x) here)
     where
@@ -136,8 +136,8 @@ module _ {K V : Type 0} (same : K → K → Bool) where
   told_change batch_size roots st i (OverAll o) reply x (inl (word, n, stands, names, inr (left, is))) = absurd (cc is)
   told_change batch_size roots st i (OverAll o) reply x (inr is) = absurd (cc is)
 
-module _ (K V S : Type 0) (same : K → K → Bool) (hash : K → ℕ) where
-  pub calls_begin_due : CallsBeginDue K V S same hash
+module _ (K V : Type 0) (same : K → K → Bool) (hash : ℕ → K → ℕ) where
+  pub calls_begin_due : CallsBeginDue K V same hash
   calls_begin_due name log m known s e is_at dues map i u its guard standing there begins unchanged apart called begun_for events = record {
     history = on.0;
     owes = λ n j x is st st_is d d_is one one_is. subst (λ (f : ℕ → ℕ → ℕ). Owes (f n) st.chart.stored one d x.change) (sym on.1) (owes n j x d d_is one one_is st st_is (which s.calls map i (Some u) n j (OnKey x) is));
@@ -151,7 +151,7 @@ module _ (K V S : Type 0) (same : K → K → Bool) (hash : K → ℕ) where
       fresh = fresh_call (name i) guard its map m.events
 
       on : StaysWithin same name log m known s dues.history log m2 (scene_with map i u s)
-      on = calls_begin_histories K V S same hash name log m known s e is_at dues.history map i u its guard standing there begins apart called begun_for events
+      on = calls_begin_histories K V same hash name log m known s e is_at dues.history map i u its guard standing there begins apart called begun_for events
 
       found_now : (j : ℕ) (q : Bool) → is_same (name i) (name j) ≡ q → (d : CallThere K V) → call_of (name j) m2 ≡ Some d → cond q (Some fresh) (call_of (name j) m) ≡ Some d
       found_now j q same_name d d_is = sym (ap (λ z. cond z (Some fresh) (find (λ c. is_same c.caller (name j)) m.calls)) same_name) ∙ d_is
@@ -171,7 +171,7 @@ module _ (K V S : Type 0) (same : K → K → Bool) (hash : K → ℕ) where
       taken n j x d d_is one one_is (inl a) = subst (AreTaken one) (ap (λ (y : CallThere K V). y.replies) (sym (is_fresh j a.1 d d_is))) (none_taken one)
       taken n j x d d_is one one_is (inr a) = dues.taken n j x a.1 d (found_now j false (apart n j x a.1) d d_is) one one_is
 
-  pub calls_take_due : CallsTakeDue K V S same hash
+  pub calls_take_due : CallsTakeDue K V same hash
   calls_take_due name log m known s e is_at dues map i u here c c_is question c_asks standing there is_told next machine takes goes its_taken = record {
     history = on.0;
     owes = λ n j x is st st_is d d_is one one_is. subst (λ (f : ℕ → ℕ → ℕ). Owes (f n) st.chart.stored one d x.change) (sym on.1) (owes n j x d d_is one one_is st st_is (which s.calls map i (Some next) n j (OnKey x) is));
@@ -188,7 +188,7 @@ module _ (K V S : Type 0) (same : K → K → Bool) (hash : K → ℕ) where
       after = record c { stands = Told; replies = (question, is_told) ∷ c.replies }
 
       on : StaysWithin same name log m known s dues.history log v (scene_with map i next s)
-      on = calls_take_histories K V S same hash name log m known s e is_at dues.history map i u here c c_is question c_asks standing there is_told next machine takes goes
+      on = calls_take_histories K V same hash name log m known s e is_at dues.history map i u here c c_is question c_asks standing there is_told next machine takes goes
 
       own_then : (j : ℕ) → j ≡ i → (d : CallThere K V) → call_of (name j) v ≡ Some d → d ≡ after
       own_then j j_is d d_is =

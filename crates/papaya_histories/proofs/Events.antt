@@ -30,9 +30,6 @@ use Rattle.papaya_moments.specs.Given.Callers.Together.{CallOnKey, OnKey}
 use Rattle.papaya_moments.specs.Given.Effects.Effects.{effects_of, known_after}
 use Rattle.papaya_moments.specs.Given.Effects.Known.{Known}
 use Rattle.papaya_moments.specs.Given.Effects.declared.acting.Acting.TheVariants as acts
-use Rattle.papaya_moments.specs.Given.Executor.IsAt.{Scene, IsAt}
-use Rattle.papaya_moments.specs.Given.Executor.Stepping.{StepLeads}
-use Rattle.papaya_moments.specs.Given.Executor.declared.executor.Executor.{Executor}
 use Rattle.papaya_moments.proofs.Given.Follows.Steps.{one_of}
 use Rattle.papaya_moments.proofs.Given.Hands.Replacing.{calls_after}
 use Rattle.papaya_histories.specs.Answers.{IsToldAs, IsToldDone}
@@ -49,10 +46,13 @@ use Rattle.papaya_histories.proofs.Logs.{each_of}
 use Rattle.papaya_histories.proofs.Owed.{answers_are_owed, due_none, change_none}
 use Rattle.papaya_histories.proofs.Refusals.{refusals_were_so, change_refused}
 use Rattle.papaya_histories.proofs.Several.{d, d_is, d_same, by, unchanged_before, then_at, worked_then, changes_then, midst_then, midsts_begin}
+use Rattle.papaya_moments.specs.Given.Scenes.Held.{Held, IsAt}
+use Rattle.papaya_moments.specs.Given.Scenes.Scene.{Scene}
+use Rattle.papaya_moments.specs.Given.Scenes.Stepping.{StepLeads}
 
-module _ {K V S : Type 0} (same : K → K → Bool) (hash : K → ℕ) (name : ℕ → List ℕ) (log : List (Entry K V)) (beginning : Moment K V) (map i : ℕ) (one : OneKey K V) (c : CallThere K V) (one_is : c.call ≡ On one)
+module _ {K V : Type 0} (same : K → K → Bool) (hash : ℕ → K → ℕ) (name : ℕ → List ℕ) (log : List (Entry K V)) (beginning : Moment K V) (map i : ℕ) (one : OneKey K V) (c : CallThere K V) (one_is : c.call ≡ On one)
     (done : List Effect) (m : Moment K V) (known : Known) (s : Scene K V) (u : CallOnKey K V K) (midst : InMidst same name log beginning map i one c done m known s u)
-    (old new : Executor K V S) (at : IsAt same hash old s) where
+    (old new : Held K V) (at : IsAt same hash old s) where
   abbrev there : CallThere K V
   there = midst.there
 
@@ -60,13 +60,13 @@ module _ {K V S : Type 0} (same : K → K → Bool) (hash : K → ℕ) (name : �
   there_one = midst.same_call.call ∙ one_is
 
   abbrev known2 : Known
-  known2 = known_after (acts.Call i map) new.memory.changed known
+  known2 = known_after (acts.Call i map) new.changed known
 
   module _ (said : Progress (Node K V)) (leads : StepLeads same hash i said s old new) where
     abbrev call_then : CallThere K V
     call_then = d same hash name log beginning map i one c one_is done m known s u midst old new at said leads
 
-    abbrev call_is : call_of (name i) (with_effects (Some (name i)) (Some map) (effects_of (acts.Call i map) known new.memory.changed) m) ≡ Some call_then
+    abbrev call_is : call_of (name i) (with_effects (Some (name i)) (Some map) (effects_of (acts.Call i map) known new.changed) m) ≡ Some call_then
     call_is = d_is same hash name log beginning map i one c one_is done m known s u midst old new at said leads
 
     call_same : IsSameCall c call_then
@@ -99,12 +99,12 @@ module _ {K V S : Type 0} (same : K → K → Bool) (hash : K → ℕ) (name : �
       subst (λ (o : Option (Answer V)). AnswersDue same one (call_then (progress.Done (machine.Key answer)) leads) (moments_from (call_then (progress.Done (machine.Key answer)) leads).begun log) o a)
       (sym (due_none same hash name log m known s old new at midst.whole midst.dues map i u midst.here answer leads there midst.there_is one there_one (call_then (progress.Done (machine.Key answer)) leads) (call_is (progress.Done (machine.Key answer)) leads) a told))
       (means_on there (call_then (progress.Done (machine.Key answer)) leads) midst.same_call (call_same (progress.Done (machine.Key answer)) leads) (Answers a Leaves)
-      (answers_were_so K V S same hash name log m known s old new at midst.whole midst.dues.history map i u midst.here answer leads there midst.there_is one there_one
+      (answers_were_so K V same hash name log m known s old new at midst.whole midst.dues.history map i u midst.here answer leads there midst.there_is one there_one
       (still (progress.Done (machine.Key answer)) leads
       (change_none same hash name log m known s old new at midst.whole midst.dues map i u midst.here answer leads there midst.there_is one there_one (call_then (progress.Done (machine.Key answer)) leads) (call_is (progress.Done (machine.Key answer)) leads) a told)) a told))
   answered answer leads a (inr told) =
       subst (λ (o : Option (Answer V)). AnswersDue same one (call_then (progress.Done (machine.Key answer)) leads) (moments_from (call_then (progress.Done (machine.Key answer)) leads).begun log) o a)
-      (sym (answers_are_owed K V S same hash name log m known s old new at midst.whole midst.dues map i u midst.here answer leads there midst.there_is one there_one (call_then (progress.Done (machine.Key answer)) leads) (call_is (progress.Done (machine.Key answer)) leads) a told)) refl
+      (sym (answers_are_owed K V same hash name log m known s old new at midst.whole midst.dues map i u midst.here answer leads there midst.there_is one there_one (call_then (progress.Done (machine.Key answer)) leads) (call_is (progress.Done (machine.Key answer)) leads) a told)) refl
 
   -- what is refused is due to no change
   was_refused : (fault : Fault) (leads : StepLeads same hash i (progress.Refused fault) s old new)
@@ -113,7 +113,7 @@ module _ {K V S : Type 0} (same : K → K → Bool) (hash : K → ℕ) (name : �
   was_refused fault leads = (it.0, λ is. means_on there (call_then (progress.Refused fault) leads) midst.same_call (call_same (progress.Refused fault) leads) Refuses (it.1 is))
     where
       it : ((call_then (progress.Refused fault) leads).due ≡ None) × (fault ≡ RemoveNothing → OneOf (Means Refuses there) (moments_from there.begun log))
-      it = refusals_were_so K V S same hash name log m known s old new at midst.whole midst.dues map i u midst.here fault leads there midst.there_is one there_one
+      it = refusals_were_so K V same hash name log m known s old new at midst.whole midst.dues map i u midst.here fault leads there midst.there_is one there_one
           (still (progress.Refused fault) leads
           (change_refused same hash name log m known s old new at midst.whole midst.dues map i u midst.here fault leads there midst.there_is one there_one _ (leads map (OnKey u) midst.here).4.its_map.4 (call_then (progress.Refused fault) leads) (call_is (progress.Refused fault) leads)))
           (call_then (progress.Refused fault) leads) (call_is (progress.Refused fault) leads)
@@ -129,11 +129,11 @@ module _ {K V S : Type 0} (same : K → K → Bool) (hash : K → ℕ) (name : �
     asks_then : (question : Option ℕ) → IsToldQuestion known2 about question
         → AsksRight same (call_then (progress.Asks about) leads).stands (call_then (progress.Asks about) leads) (moments_from (call_then (progress.Asks about) leads).begun log) (outcome.Asks question)
     asks_then question told =
-        let on = asking_steps_stand_there K V S same hash s old new map i u midst.here about leads in
+        let on = asking_steps_stand_there K V same hash s old new map i u midst.here about leads in
         let then = midst_then same hash name log beginning map i one c one_is done m known s u midst old new at (progress.Asks about) leads on.0 on.1 in
         subst (λ (y : CallThere K V). AsksRight same y.stands y (moments_from y.begun log) (outcome.Asks question))
         (one_of then.there (call_then (progress.Asks about) leads) (sym then.there_is ∙ call_is (progress.Asks about) leads))
-        (asks_right same hash name log beginning map i one c one_is questions (done ++ effects_of (acts.Call i map) known new.memory.changed) _ known2 _ on.0 then new
+        (asks_right same hash name log beginning map i one c one_is questions (done ++ effects_of (acts.Call i map) known new.changed) _ known2 _ on.0 then new
         (leads map (OnKey u) midst.here).5 question (on.2 known2 question told) then.there.stands refl)
 
   -- so it ends right, and asks right
@@ -160,7 +160,7 @@ module _ {K V S : Type 0} (same : K → K → Bool) (hash : K → ℕ) (name : �
 
   module _ (c_is : call_of (name i) beginning ≡ Some c) (said : Progress (Node K V)) (leads : StepLeads same hash i said s old new) (e : Entry K V) (is_caller : caller_of e.event ≡ Some (name i))
       (begun : at_work e (moment log) ≡ beginning) (acts_on : acted_on e.event beginning ≡ Some map)
-      (effects_are : e.effects ≡ done ++ effects_of (acts.Call i map) known new.memory.changed) (comes : ComesToIt known2 one c.replies said e.outcome) where
+      (effects_are : e.effects ≡ done ++ effects_of (acts.Call i map) known new.changed) (comes : ComesToIt known2 one c.replies said e.outcome) where
     abbrev call : CallThere K V
     call = call_then said leads
 
@@ -200,8 +200,8 @@ module _ {K V S : Type 0} (same : K → K → Bool) (hash : K → ℕ) (name : �
     -- a call that asks says so by the last step, too
     still_so : (stands : Stands) → call.stands ≡ stands → AsksStill stands e.outcome
     still_so (Asking question) is = λ goes.
-        let on = (calls_after (name i) map (name i) (effects_of (acts.Call i map) known new.memory.changed) m there midst.there_is).2.0.stands in
-        let says = asking_calls_ask_still K V S same hash name midst.dues.history.shown.number m known s old new midst.dues.history.asked map i u midst.here said leads there midst.there_is one there_one question (sym on ∙ is) in
+        let on = (calls_after (name i) map (name i) (effects_of (acts.Call i map) known new.changed) m there midst.there_is).2.0.stands in
+        let says = asking_calls_ask_still K V same hash name midst.dues.history.shown.number m known s old new midst.dues.history.asked map i u midst.here said leads there midst.there_is one there_one question (sym on ∙ is) in
         no_going c.replies says.0 e.outcome (subst (λ (x : Progress (Node K V)). ComesToIt known2 one c.replies x e.outcome) says.1 comes) goes
     still_so Going is = tt
     still_so Told is = tt
@@ -210,17 +210,17 @@ module _ {K V S : Type 0} (same : K → K → Bool) (hash : K → ℕ) (name : �
     pub asks_still : EventAsksStill log e
     asks_still = subst (λ (x : Option (CallThere K V)). IfCall (λ (y : CallThere K V). AsksStill y.stands e.outcome) x) (sym then_acting) (still_so call.stands refl)
 
-module _ (K V S : Type 0) (same : K → K → Bool) (hash : K → ℕ) where
-  pub midsts_end : MidstsEnd K V S same hash
+module _ (K V : Type 0) (same : K → K → Bool) (hash : ℕ → K → ℕ) where
+  pub midsts_end : MidstsEnd K V same hash
   midsts_end name log beginning map i one c c_is one_is questions done m known s u midst old new at said leads e is_caller begun acts_on effects_are comes =
       linearizable same hash name log beginning map i one c one_is done m known s u midst old new at c_is said leads e is_caller begun acts_on effects_are comes questions
 
-  pub midsts_ask_still : MidstsAskStill K V S same hash
+  pub midsts_ask_still : MidstsAskStill K V same hash
   midsts_ask_still name log beginning map i one c c_is one_is done m known s u midst old new at said leads e is_caller begun acts_on effects_are comes =
       asks_still same hash name log beginning map i one c one_is done m known s u midst old new at c_is said leads e is_caller begun acts_on effects_are comes
 
   -- an event of one step is one at whose beginning it ends
-  pub steps_are_linearizable : StepsAreLinearizable K V S same hash
+  pub steps_are_linearizable : StepsAreLinearizable K V same hash
   steps_are_linearizable name log beginning begins known s old new at whole dues questions map i u here said leads c c_is one one_is e is_caller begun acts_on effects_are comes =
       midsts_end name log beginning map i one c c_is one_is questions [] beginning known s u
-      (midsts_begin K V S same hash name log beginning begins known s old at whole dues map i u here c c_is one one_is) old new at said leads e is_caller begun acts_on effects_are comes
+      (midsts_begin K V same hash name log beginning begins known s old at whole dues map i u here c c_is one one_is) old new at said leads e is_caller begun acts_on effects_are comes

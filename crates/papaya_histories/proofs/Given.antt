@@ -14,7 +14,7 @@ pub use Rattle.papaya_moments.proofs.Given.Tells
 pub use Rattle.papaya_moments.proofs.Given.Callers
 pub use Rattle.papaya_moments.proofs.Given.Finishes
 pub use Rattle.papaya_moments.proofs.Given.Runs
-pub use Rattle.papaya_moments.proofs.Given.Executor
+pub use Rattle.papaya_moments.proofs.Given.Scenes
 pub use Rattle.papaya_moments.proofs.Given.Follows
 pub use Rattle.papaya_moments.proofs.Given.Hands
 pub use Rattle.papaya_moments.proofs.Given.Others

@@ -9,10 +9,10 @@ use Rattle.papaya_moments.specs.Given.Schedules.Sequential.{key_of}
 use Rattle.papaya_moments.specs.Given.Schedules.Views.{call_of}
 use Rattle.papaya_moments.specs.Given.Callers.Together.{CallOnKey, OnKey}
 use Rattle.papaya_moments.specs.Given.Effects.Known.{Known}
-use Rattle.papaya_moments.specs.Given.Executor.IsAt.{Scene}
 use Rattle.papaya_moments.specs.Given.Follows.Calls.{IsCalled}
 use Rattle.papaya_moments.specs.Given.Follows.Shows.{Shows}
 use Rattle.papaya_moments.proofs.Given.Follows.Steps.{one_of}
+use Rattle.papaya_moments.specs.Given.Scenes.Scene.{Scene}
 
 pub its_call : {K V : Type 0} (same : K → K → Bool) (name : ℕ → List ℕ) (m : Moment K V) (known : Known) (s : Scene K V) → Shows same name m known s
     → (map i : ℕ) (x : CallOnKey K V K) → s.calls map i ≡ Some (OnKey x) → (c : CallThere K V) → call_of (name i) m ≡ Some c → (one : OneKey K V) → c.call ≡ On one

@@ -34,8 +34,6 @@ use Rattle.papaya_moments.specs.Given.Callers.Together.{CallOnKey, OnKey, Knows,
 use Rattle.papaya_moments.specs.Given.Finishes.Maps.{Standing}
 use Rattle.papaya_moments.specs.Given.Effects.Known.{Known}
 use Rattle.papaya_moments.specs.Given.Effects.declared.role.Role.TheVariants as role
-use Rattle.papaya_moments.specs.Given.Executor.IsAt.{Scene, IsAt, slot_of}
-use Rattle.papaya_moments.specs.Given.Executor.declared.executor.Executor.{Executor}
 use Rattle.papaya_moments.specs.Given.Hands.Asked.{given_by, KnowsFirst, IsSameQuestion, IsQuestion, IsAskedOn, IsAskedAs, AsksThere}
 use Rattle.papaya_moments.proofs.Given.Hands.Replies.{told_as}
 use Rattle.papaya_moments.proofs.Given.Hands.Steps.{numbers_apart}
@@ -50,8 +48,10 @@ use Rattle.papaya_histories.proofs.Logs.{each_of, last_there}
 use Rattle.papaya_histories.proofs.Roles.{named_by}
 use Rattle.papaya_histories.proofs.Several.{stands}
 use Rattle.papaya_histories.proofs.Untold.{never_asked, wants_none, wants_pair, fits_it, untold_none, untold_pair}
+use Rattle.papaya_moments.specs.Given.Scenes.Held.{Held, IsAt}
+use Rattle.papaya_moments.specs.Given.Scenes.Scene.{Scene, slot_of}
 
-module _ {K V S : Type 0} (same : K → K → Bool) (hash : K → ℕ) (name : ℕ → List ℕ) (log : List (Entry K V)) (m : Moment K V) (known : Known) (s : Scene K V) (e : Executor K V S)
+module _ {K V : Type 0} (same : K → K → Bool) (hash : ℕ → K → ℕ) (name : ℕ → List ℕ) (log : List (Entry K V)) (m : Moment K V) (known : Known) (s : Scene K V) (e : Held K V)
     (at_e : IsAt same hash e s) (dues : ShowsDue same name log m known s) (map i : ℕ) (u : CallOnKey K V K) (here : s.calls map i ≡ Some (OnKey u))
     (c : CallThere K V) (c_is : call_of (name i) m ≡ Some c) (one : OneKey K V) (one_is : c.call ≡ On one) where
   abbrev st : Standing K
@@ -205,6 +205,6 @@ module _ {K V S : Type 0} (same : K → K → Bool) (hash : K → ℕ) (name : �
   pub asks_unchanged : (question : Option ℕ) → AsksThere known u.call.stands question → u.change ≡ Unchanged
   asks_unchanged question asks = unchanged asks.0 asks.1
 
-pub questions_may_be_asked : (K V S : Type 0) (same : K → K → Bool) (hash : K → ℕ) → QuestionsMayBeAsked K V S same hash
-questions_may_be_asked K V S same hash name log m known s e at_e dues questions map i u here c c_is one one_is still question asks first =
+pub questions_may_be_asked : (K V : Type 0) (same : K → K → Bool) (hash : ℕ → K → ℕ) → QuestionsMayBeAsked K V same hash
+questions_may_be_asked K V same hash name log m known s e at_e dues questions map i u here c c_is one one_is still question asks first =
     may_ask same hash name log m known s e at_e dues map i u here c c_is one one_is questions still first question asks

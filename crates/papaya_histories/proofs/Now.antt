@@ -16,12 +16,12 @@ use Rattle.papaya_moments.specs.Given.Callers.Together.{UnderWay, Together}
 use Rattle.papaya_moments.proofs.Given.Callers.Asked.OneCurrent.{one_current}
 use Rattle.papaya_moments.specs.Given.Finishes.Maps.{Standing}
 use Rattle.papaya_moments.specs.Given.Effects.Known.{Known}
-use Rattle.papaya_moments.specs.Given.Executor.IsAt.{slot_of}
 use Rattle.papaya_moments.specs.Given.Follows.Blocks.{HasRole, ShowsBlocks}
 use Rattle.papaya_moments.specs.Given.Follows.Maps.{ShowsPairs}
 use Rattle.papaya_moments.proofs.Given.Follows.Stored.{in_map_true}
 use Rattle.papaya_histories.specs.Had.{Had, HadJust, HadThen}
 use Rattle.papaya_histories.proofs.Found.{is_its, FoundIn, found}
+use Rattle.papaya_moments.specs.Given.Scenes.Scene.{slot_of}
 
 pub both_true : (p q : Bool) → (p && q) ≡ true → (p ≡ true) × (q ≡ true)
 both_true true q e = (refl, e)

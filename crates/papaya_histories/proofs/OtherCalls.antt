@@ -32,9 +32,6 @@ use Rattle.papaya_moments.specs.Given.Finishes.Maps.{Standing}
 use Rattle.papaya_moments.specs.Given.Effects.Effects.{effects_of}
 use Rattle.papaya_moments.specs.Given.Effects.Known.{Known}
 use Rattle.papaya_moments.specs.Given.Effects.declared.acting.Acting.TheVariants as acts
-use Rattle.papaya_moments.specs.Given.Executor.IsAt.{Scene, IsAt, slot_of}
-use Rattle.papaya_moments.specs.Given.Executor.Stepping.{StepLeads}
-use Rattle.papaya_moments.specs.Given.Executor.declared.executor.Executor.{Executor}
 use Rattle.papaya_moments.specs.Given.Follows.Calls.{IsCalled}
 use Rattle.papaya_moments.specs.Given.Follows.Shows.{Shows}
 use Rattle.papaya_moments.specs.Given.Follows.Steps.{TakesNone}
@@ -52,6 +49,9 @@ use Rattle.papaya_histories.specs.AsCalled.{purpose_of, IsLastTold, IsAsCalled, 
 use Rattle.papaya_histories.specs.OtherCalls.{IsOnNoKey, OthersRemoveOnly, RemovalsAdd, OthersAreLinearizable, NoCallsAreLinearizable}
 use Rattle.papaya_histories.proofs.Changes.{hands_shift}
 use Rattle.papaya_histories.proofs.Which.{did_once, none_shifted}
+use Rattle.papaya_moments.specs.Given.Scenes.Held.{Held, IsAt}
+use Rattle.papaya_moments.specs.Given.Scenes.Scene.{Scene, slot_of}
+use Rattle.papaya_moments.specs.Given.Scenes.Stepping.{StepLeads}
 
 module _ {K V : Type 0} (same : K → K → Bool) where
   -- nothing is what each call may remove
@@ -131,7 +131,7 @@ module _ {K : Type 0} (o : CallOverAll) (c c2 : Chart K) where
   walk_keeps (inr (p, was, cur, inl clears)) walks = absurd (cc (walks, clears))
   walk_keeps (inr (p, was, cur, inr (retains, told))) walks = absurd (cc (walks, retains))
 
-module _ {K V S : Type 0} (same : K → K → Bool) (hash : K → ℕ) (name : ℕ → List ℕ) (m : Moment K V) (known : Known) (s : Scene K V) (old new : Executor K V S) (at : IsAt same hash old s)
+module _ {K V : Type 0} (same : K → K → Bool) (hash : ℕ → K → ℕ) (name : ℕ → List ℕ) (m : Moment K V) (known : Known) (s : Scene K V) (old new : Held K V) (at : IsAt same hash old s)
     (whole : ShowsWhole same name m known s) (all : ShowsAsCalled same name m known s) (map i : ℕ) (u : UnderWay K V K) (here : s.calls map i ≡ Some u) (said : Progress (Node K V))
     (leads : StepLeads same hash i said s old new) where
   abbrev shown : Shows same name m known s
@@ -144,7 +144,7 @@ module _ {K V S : Type 0} (same : K → K → Bool) (hash : K → ℕ) (name : �
   st = to.0
 
   abbrev effects : List Effect
-  effects = effects_of (acts.Call i map) known new.memory.changed
+  effects = effects_of (acts.Call i map) known new.changed
 
   abbrev Did : UnderWay K V K → Type 0
   Did x = DidSo same hash name m known s old new at shown map i u here said leads x
@@ -217,13 +217,13 @@ module _ {K V S : Type 0} (same : K → K → Bool) (hash : K → ℕ) (name : �
     by_own _ _ e is other so did own = absurd is
 
   -- one of a row says of no pair that it has come or gone
-  of_step : TakesNone new.memory.changed → (w2 : World (Node K V)) → w2.memory ≡ new.memory.memory → IsOneStep st.setting i s.world w2 → flat_map shift_of effects ≡ []
+  of_step : TakesNone new.changed → (w2 : World (Node K V)) → w2.memory ≡ new.memory → IsOneStep st.setting i s.world w2 → flat_map shift_of effects ≡ []
   of_step none w2 memory happened =
-      hands_shift effects (row_done i map m known s.world w2 shown.blocks (one_step_leaves st.setting i s.world w2 each.ground.came happened) new.memory.changed
-      (subst (λ (n : Mem (Node K V)). LeavesBy s.world.memory n new.memory.changed) (sym memory)
-      (operated_leaves s.world.memory new.memory.memory new.memory.changed (made_so same hash name m known s old new at shown map i u here said leads))) none).hands
+      hands_shift effects (row_done i map m known s.world w2 shown.blocks (one_step_leaves st.setting i s.world w2 each.ground.came happened) new.changed
+      (subst (λ (n : Mem (Node K V)). LeavesBy s.world.memory n new.changed) (sym memory)
+      (operated_leaves s.world.memory new.memory new.changed (made_so same hash name m known s old new at shown map i u here said leads))) none).hands
 
-  by_row : TakesNone new.memory.changed → (x : UnderWay K V K) (did : Did x) → (NoRow x did → ⊥) → flat_map shift_of effects ≡ []
+  by_row : TakesNone new.changed → (x : UnderWay K V K) (did : Did x) → (NoRow x did → ⊥) → flat_map shift_of effects ≡ []
   by_row none (OnKey x) (p2, end, machine_is, told_is, inl step) other = absurd (other tt)
   by_row none (OnKey x) (p2, end, machine_is, told_is, inr (row, stayed)) other = of_step none row.step.w2 row.step.memory row.step.happened
   by_row none (ForRoom r) (p2, end, machine_is, told_is, inl step) other = absurd (other tt)
@@ -236,7 +236,7 @@ module _ {K V S : Type 0} (same : K → K → Bool) (hash : K → ℕ) (name : �
   removes_only c c_is other = elim (of_row same hash name m known s old new at whole map i u here said leads u to.4.did) as (λ _. RemovesOnly same c.call c (flat_map shift_of effects)) [
     | inl own ↦ by_own c u c.call refl called other (all.each map i u here st to.2 c c_is) to.4.did own
     | inr row ↦ none_removed same c.call c (flat_map shift_of effects)
-        (by_row (rows_hand_theirs K V S same hash name m known s old new at whole.all map i u here said leads row).1 u to.4.did row)
+        (by_row (rows_hand_theirs K V same hash name m known s old new at whole.all map i u here said leads row).1 u to.4.did row)
   ]
     where
       called : IsCalled same u c.call
@@ -310,6 +310,6 @@ module _ (K V : Type 0) (same : K → K → Bool) where
   pub removals_added : RemovalsAdd K V same
   removals_added its c done more h k = removals_add same its c done more h k
 
-pub others_remove_only : (K V S : Type 0) (same : K → K → Bool) (hash : K → ℕ) → OthersRemoveOnly K V S same hash
-others_remove_only K V S same hash name m known s old new at whole all map i u here said leads c c_is other =
+pub others_remove_only : (K V : Type 0) (same : K → K → Bool) (hash : ℕ → K → ℕ) → OthersRemoveOnly K V same hash
+others_remove_only K V same hash name m known s old new at whole all map i u here said leads c c_is other =
     removes_only same hash name m known s old new at whole all map i u here said leads c c_is other

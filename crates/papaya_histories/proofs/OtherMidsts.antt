@@ -25,10 +25,6 @@ use Rattle.papaya_moments.specs.Given.Finishes.Maps.{Standing, IsSameMap}
 use Rattle.papaya_moments.specs.Given.Effects.Effects.{effects_of}
 use Rattle.papaya_moments.specs.Given.Effects.Known.{Known}
 use Rattle.papaya_moments.specs.Given.Effects.declared.acting.Acting.TheVariants as acts
-use Rattle.papaya_moments.specs.Given.Executor.IsAt.{Scene, IsAt, slot_of}
-use Rattle.papaya_moments.specs.Given.Executor.Replying.{scene_with}
-use Rattle.papaya_moments.specs.Given.Executor.Stepping.{StepLeads}
-use Rattle.papaya_moments.specs.Given.Executor.declared.executor.Executor.{Executor}
 use Rattle.papaya_moments.specs.Given.Follows.Calls.{IsCalled}
 use Rattle.papaya_moments.specs.Given.Follows.Shows.{Shows}
 use Rattle.papaya_moments.proofs.Given.Follows.Calling.{is_same_refl}
@@ -58,6 +54,10 @@ use Rattle.papaya_histories.proofs.Now.{now_had}
 use Rattle.papaya_histories.proofs.OtherCalls.{removals_added, removes_same, less_told, others_remove_only}
 use Rattle.papaya_histories.proofs.Several.{call_then, same_then}
 use Rattle.papaya_histories.proofs.Steps.{to, led_on, moved_chart, maps_later, v, now_then}
+use Rattle.papaya_moments.specs.Given.Scenes.Held.{Held, IsAt}
+use Rattle.papaya_moments.specs.Given.Scenes.Replying.{scene_with}
+use Rattle.papaya_moments.specs.Given.Scenes.Scene.{Scene, slot_of}
+use Rattle.papaya_moments.specs.Given.Scenes.Stepping.{StepLeads}
 
 -- what is called for on no key is no call on a key
 pub on_no_key : {K V : Type 0} (same : K → K → Bool) (u : UnderWay K V K) (its : Call K V) → IsCalled same u its → IsOnNoKey its → (x : CallOnKey K V K) → u ≡ OnKey x → ⊥
@@ -71,7 +71,7 @@ on_no_key same (ForRoom r) its is other x e = absurd (cc e)
 on_no_key same (Counting sum) its is other x e = absurd (cc e)
 on_no_key same (OverAll o) its is other x e = absurd (cc e)
 
-module _ {K V S : Type 0} (same : K → K → Bool) (hash : K → ℕ) (name : ℕ → List ℕ) (m : Moment K V) (known : Known) (s : Scene K V) (old new : Executor K V S) (at : IsAt same hash old s)
+module _ {K V : Type 0} (same : K → K → Bool) (hash : ℕ → K → ℕ) (name : ℕ → List ℕ) (m : Moment K V) (known : Known) (s : Scene K V) (old new : Held K V) (at : IsAt same hash old s)
     (whole : ShowsWhole same name m known s) (shown : Shows same name m known s) (map i : ℕ) (u : UnderWay K V K) (here : s.calls map i ≡ Some u) (said : Progress (Node K V))
     (leads : StepLeads same hash i said s old new) (its : Call K V) (called : IsCalled same u its) (other : IsOnNoKey its) where
   abbrev went : WentTo same hash name m known s old new at shown map i u here said leads
@@ -151,11 +151,11 @@ module _ {K V S : Type 0} (same : K → K → Bool) (hash : K → ℕ) (name : �
       by None e = inr e
       by (Some q) e = inl (e ∙ sym (has q (subst (λ (o : Option ℕ). HadJust same st2 (on.shows.number map) st2.chart.now k o) e now2.just)))
 
-module _ {K V S : Type 0} (same : K → K → Bool) (hash : K → ℕ) (name : ℕ → List ℕ) (log : List (Entry K V)) (beginning : Moment K V) (map i : ℕ) (c : CallThere K V)
+module _ {K V : Type 0} (same : K → K → Bool) (hash : ℕ → K → ℕ) (name : ℕ → List ℕ) (log : List (Entry K V)) (beginning : Moment K V) (map i : ℕ) (c : CallThere K V)
     (done : List Effect) (m : Moment K V) (known : Known) (s : Scene K V) (u : UnderWay K V K) (midst : InOtherMidst same name log beginning map i c done m known s u)
-    (old new : Executor K V S) (at : IsAt same hash old s) (said : Progress (Node K V)) (leads : StepLeads same hash i said s old new) where
+    (old new : Held K V) (at : IsAt same hash old s) (said : Progress (Node K V)) (leads : StepLeads same hash i said s old new) where
   abbrev pub effects : List Effect
-  effects = effects_of (acts.Call i map) known new.memory.changed
+  effects = effects_of (acts.Call i map) known new.changed
 
   abbrev pub then_at : Moment K V
   then_at = with_effects (Some (name i)) (Some map) effects m
@@ -211,7 +211,7 @@ module _ {K V S : Type 0} (same : K → K → Bool) (hash : K → ℕ) (name : �
       (removals_added K V same c.call c (flat_map shift_of done) (flat_map shift_of effects) midst.removes
       (removes_same same c.call c its_call midst.same_call.replies (flat_map shift_of effects)
       (subst (λ (x : Call K V). RemovesOnly same x its_call (flat_map shift_of effects)) midst.same_call.call
-      (others_remove_only K V S same hash name m known s old new at midst.whole midst.called map i u midst.here said leads its_call midst.there_is there_other))))
+      (others_remove_only K V same hash name m known s old new at midst.whole midst.called map i u midst.here said leads its_call midst.there_is there_other))))
 
   pub worked_then : then_at ≡ with_effects (Some (name i)) (Some map) (done ++ effects) beginning
   worked_then = ap (λ (x : Moment K V). with_effects (Some (name i)) (Some map) effects x) midst.worked ∙ sym (effects_after (Some (name i)) (Some map) done effects beginning)
@@ -233,20 +233,20 @@ module _ (K V : Type 0) (same : K → K → Bool) where
     removes = tt;
   }
 
-module _ (K V S : Type 0) (same : K → K → Bool) (hash : K → ℕ) where
-  pub other_midsts_keep_due : OtherMidstsKeepDue K V S same hash
+module _ (K V : Type 0) (same : K → K → Bool) (hash : ℕ → K → ℕ) where
+  pub other_midsts_keep_due : OtherMidstsKeepDue K V same hash
   other_midsts_keep_due name log beginning map i c done m known s u midst old new at said leads =
-      calls_keep_due K V S same hash name log m known s old new at midst.whole midst.dues map i u midst.here said leads
+      calls_keep_due K V same hash name log m known s old new at midst.whole midst.dues map i u midst.here said leads
       (first_change same hash name log beginning map i c done m known s u midst old new at said leads)
 
-  pub other_midsts_go_on : OtherMidstsGoOn K V S same hash
+  pub other_midsts_go_on : OtherMidstsGoOn K V same hash
   other_midsts_go_on name log beginning map i c done m known s u midst old new at said leads next goes = record {
     here = ap (λ (f : ℕ → Option (UnderWay K V K)). f i) (at_same s.calls map (with_at (s.calls map) i (leads map u midst.here).4.next) map refl)
         ∙ at_same (s.calls map) i (leads map u midst.here).4.next i refl ∙ goes;
     other = midst.other;
-    whole = calls_keep_whole K V S same hash name m known s old new at midst.whole map i u midst.here said leads;
+    whole = calls_keep_whole K V same hash name m known s old new at midst.whole map i u midst.here said leads;
     dues = other_midsts_keep_due name log beginning map i c done m known s u midst old new at said leads;
-    called = calls_keep_as_called K V S same hash name m known s old new at midst.whole midst.called map i u midst.here said leads;
+    called = calls_keep_as_called K V same hash name m known s old new at midst.whole midst.called map i u midst.here said leads;
     begins = midst.begins;
     worked = worked_then same hash name log beginning map i c done m known s u midst old new at said leads;
     there = d same hash name log beginning map i c done m known s u midst old new at said leads;
@@ -257,7 +257,7 @@ module _ (K V S : Type 0) (same : K → K → Bool) (hash : K → ℕ) where
   }
 
   -- as it begins its call
-  pub other_midsts_begin_calls : OtherMidstsBeginCalls K V S same hash
+  pub other_midsts_begin_calls : OtherMidstsBeginCalls K V same hash
   other_midsts_begin_calls name log known s old at_old whole dues all map i u its guard standing there now apart called other begun rests =
       (c_is, other_midsts_begin K V same name log beginning (refl, refl) known s2 whole2 dues2 all2 map i u here c c_is other)
     where
@@ -286,7 +286,7 @@ module _ (K V S : Type 0) (same : K → K → Bool) (hash : K → ℕ) where
       whole2 = calls_begin_whole K V same name (moment log) known s whole map i u its guard apart called (begun_for u called) rests
 
       dues2 : ShowsDue same name log beginning known s2
-      dues2 = calls_begin_due K V S same hash name log (moment log) known s old at_old dues map i u its guard standing there now (λ x e. absurd (on_no_key same u its called other x e)) apart called
+      dues2 = calls_begin_due K V same hash name log (moment log) known s old at_old dues map i u its guard standing there now (λ x e. absurd (on_no_key same u its called other x e)) apart called
           (begun_for u called) (events_are log)
 
       all2 : ShowsAsCalled same name beginning known s2

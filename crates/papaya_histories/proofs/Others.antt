@@ -11,8 +11,6 @@ use Rattle.papaya_moments.specs.Given.Rule.Chart.{Chart}
 use Rattle.papaya_moments.specs.Given.Callers.Together.{CallOnKey, UnderWay, OnKey}
 use Rattle.papaya_moments.specs.Given.Finishes.Maps.{Standing}
 use Rattle.papaya_moments.specs.Given.Effects.Known.{Known}
-use Rattle.papaya_moments.specs.Given.Executor.IsAt.{Scene, IsAt}
-use Rattle.papaya_moments.specs.Given.Executor.declared.executor.Executor.{Executor}
 use Rattle.papaya_moments.specs.Given.Others.After.{ShowsAfter}
 use Rattle.papaya_moments.proofs.Given.Others.RowBegins.{rows_begin_shown}
 use Rattle.papaya_moments.proofs.Given.Others.Rows.{rows_on_slots_are_shown}
@@ -27,8 +25,10 @@ use Rattle.papaya_histories.proofs.Had.{had_on, had_one}
 use Rattle.papaya_histories.proofs.Later.{IsLater, same_later}
 use Rattle.papaya_histories.proofs.Now.{now_had}
 use Rattle.papaya_histories.proofs.Within.{within_on}
+use Rattle.papaya_moments.specs.Given.Scenes.Held.{Held, IsAt}
+use Rattle.papaya_moments.specs.Given.Scenes.Scene.{Scene}
 
-module _ {K V S : Type 0} (same : K → K → Bool) (hash : K → ℕ) (name : ℕ → List ℕ) (log : List (Entry K V)) (m m2 : Moment K V) (known known2 : Known) (s s2 : Scene K V) (old new : Executor K V S)
+module _ {K V : Type 0} (same : K → K → Bool) (hash : ℕ → K → ℕ) (name : ℕ → List ℕ) (log : List (Entry K V)) (m m2 : Moment K V) (known known2 : Known) (s s2 : Scene K V) (old new : Held K V)
     (at : IsAt same hash old s) (at2 : IsAt same hash new s2) (history : ShowsHistory same name log m known s) (after : ShowsAfter same name m known s history.shown m2 known2 s2)
     (calls : m2.calls ≡ m.calls) (was_here : (n j : ℕ) (x : UnderWay K V K) → s2.calls n j ≡ Some x → s.calls n j ≡ Some x)
     (stand : (n : ℕ) (st : Standing K) → s2.maps n ≡ Some st → StoodSo known known2 s s2 n st ⊎ StandsNew known known2 s s2 n) where
@@ -76,7 +76,7 @@ module _ {K V S : Type 0} (same : K → K → Bool) (hash : K → ℕ) (name : �
       within_so n st there j x is c found began began_is (inr new_map) = absurd (let none = new_map.0 j in cc (none, is))
 
 -- and calls owe what they owed
-module _ {K V S : Type 0} (same : K → K → Bool) (hash : K → ℕ) (name : ℕ → List ℕ) (log : List (Entry K V)) (m m2 : Moment K V) (known known2 : Known) (s s2 : Scene K V) (old new : Executor K V S)
+module _ {K V : Type 0} (same : K → K → Bool) (hash : ℕ → K → ℕ) (name : ℕ → List ℕ) (log : List (Entry K V)) (m m2 : Moment K V) (known known2 : Known) (s s2 : Scene K V) (old new : Held K V)
     (at : IsAt same hash old s) (at2 : IsAt same hash new s2) (dues : ShowsDue same name log m known s) (after : ShowsAfter same name m known s dues.history.shown m2 known2 s2)
     (calls : m2.calls ≡ m.calls) (was_here : (n j : ℕ) (x : UnderWay K V K) → s2.calls n j ≡ Some x → s.calls n j ≡ Some x)
     (stand : (n : ℕ) (st : Standing K) → s2.maps n ≡ Some st → StoodSo known known2 s s2 n st ⊎ StandsNew known known2 s s2 n) where
@@ -100,7 +100,7 @@ module _ {K V S : Type 0} (same : K → K → Bool) (hash : K → ℕ) (name : �
   }
 
 -- where what is of no call leaves all as it was
-module _ {K V S : Type 0} (same : K → K → Bool) (hash : K → ℕ) (name : ℕ → List ℕ) (log : List (Entry K V)) (m m2 : Moment K V) (known known2 : Known) (s s2 : Scene K V) (old new : Executor K V S)
+module _ {K V : Type 0} (same : K → K → Bool) (hash : ℕ → K → ℕ) (name : ℕ → List ℕ) (log : List (Entry K V)) (m m2 : Moment K V) (known known2 : Known) (s s2 : Scene K V) (old new : Held K V)
     (at : IsAt same hash old s) (at2 : IsAt same hash new s2) (beside : IsBeside m m2 known known2 s s2) where
   before : (n j : ℕ) (x : UnderWay K V K) → s2.calls n j ≡ Some x → s.calls n j ≡ Some x
   before n j x is = subst (λ (f : ℕ → ℕ → Option (UnderWay K V K)). f n j ≡ Some x) beside.same_calls is
@@ -115,27 +115,27 @@ module _ {K V S : Type 0} (same : K → K → Bool) (hash : K → ℕ) (name : �
       aside_due same hash name log m m2 known known2 s s2 old new at at2 dues after beside.calls before beside.stood
       (asked_beside same name m m2 known known2 s s2 dues.history.shown after beside hash new at2 dues.history.asked)
 
-module _ (K V S : Type 0) (same : K → K → Bool) (hash : K → ℕ) where
-  pub rows_begin_due : RowsBeginDue K V S same hash
-  rows_begin_due name log m known s old new at dues called i may leads =
-      let to = (leads may).3 in
-      beside_due same hash name log m m known known s _ old new at to.4 (rows_begin_beside K V S same hash m known s old new called i may leads) dues
-      (rows_begin_shown K V S same hash name m known s old new at dues.history.shown called i may leads)
+module _ (K V : Type 0) (same : K → K → Bool) (hash : ℕ → K → ℕ) where
+  pub rows_begin_due : RowsBeginDue K V same hash
+  rows_begin_due name log m known s old new at dues called i leads =
+      let to = leads.2 in
+      beside_due same hash name log m m known known s _ old new at to.4 (rows_begin_beside K V same hash m known s old new called i leads) dues
+      (rows_begin_shown K V same hash name m known s old new at dues.history.shown called i leads)
 
-  pub rows_keep_due : RowsKeepDue K V S same hash
+  pub rows_keep_due : RowsKeepDue K V same hash
   rows_keep_due name log m known s old new at dues i told leads row here retired =
       let to = leads row here in
-      beside_due same hash name log m _ known _ s _ old new at to.4.4 (row_beside same hash m known s old new at i row here (to.0, told) to.1 to.4) dues
-      (rows_on_slots_are_shown K V S same hash name m known s old new at dues.history.shown i told leads row here retired)
+      beside_due same hash name log m _ known _ s _ old new at to.2.4 (row_beside same hash m known s old new at i row here (to.0, told) to.1 to.2) dues
+      (rows_on_slots_are_shown K V same hash name m known s old new at dues.history.shown i told leads row here retired)
 
-  pub rows_begin_histories : RowsBeginHistories K V S same hash
-  rows_begin_histories name log m known s old new at history called i may leads =
-      let to = (leads may).3 in
-      beside_history same hash name log m m known known s _ old new at to.4 (rows_begin_beside K V S same hash m known s old new called i may leads) history
-      (rows_begin_shown K V S same hash name m known s old new at history.shown called i may leads)
+  pub rows_begin_histories : RowsBeginHistories K V same hash
+  rows_begin_histories name log m known s old new at history called i leads =
+      let to = leads.2 in
+      beside_history same hash name log m m known known s _ old new at to.4 (rows_begin_beside K V same hash m known s old new called i leads) history
+      (rows_begin_shown K V same hash name m known s old new at history.shown called i leads)
 
-  pub rows_keep_histories : RowsKeepHistories K V S same hash
+  pub rows_keep_histories : RowsKeepHistories K V same hash
   rows_keep_histories name log m known s old new at history i told leads row here retired =
       let to = leads row here in
-      beside_history same hash name log m _ known _ s _ old new at to.4.4 (row_beside same hash m known s old new at i row here (to.0, told) to.1 to.4) history
-      (rows_on_slots_are_shown K V S same hash name m known s old new at history.shown i told leads row here retired)
+      beside_history same hash name log m _ known _ s _ old new at to.2.4 (row_beside same hash m known s old new at i row here (to.0, told) to.1 to.2) history
+      (rows_on_slots_are_shown K V same hash name m known s old new at history.shown i told leads row here retired)

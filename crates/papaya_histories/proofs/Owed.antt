@@ -26,9 +26,6 @@ use Rattle.papaya_moments.specs.Given.Callers.Together.{CallOnKey, OnKey, Answer
 use Rattle.papaya_moments.specs.Given.Finishes.Maps.{Standing}
 use Rattle.papaya_moments.specs.Given.Effects.Known.{Known}
 use Rattle.papaya_moments.specs.Given.Effects.declared.role.Role.TheVariants as role
-use Rattle.papaya_moments.specs.Given.Executor.IsAt.{Scene, IsAt, slot_of}
-use Rattle.papaya_moments.specs.Given.Executor.Stepping.{StepLeads}
-use Rattle.papaya_moments.specs.Given.Executor.declared.executor.Executor.{Executor}
 use Rattle.papaya_moments.specs.Given.Follows.Shows.{Shows}
 use Rattle.papaya_moments.proofs.Given.Follows.Steps.{WentTo, LeadsThere, DidSo}
 use Rattle.papaya_moments.specs.Whole.{ShowsWhole}
@@ -38,8 +35,11 @@ use Rattle.papaya_histories.proofs.Answers.{ended}
 use Rattle.papaya_histories.proofs.Due.{change_by, owes_then_by, was_there}
 use Rattle.papaya_histories.proofs.Roles.{named_by, no_change, roles_before, roles_after}
 use Rattle.papaya_histories.proofs.Steps.{to, led_on, v, after}
+use Rattle.papaya_moments.specs.Given.Scenes.Held.{Held, IsAt}
+use Rattle.papaya_moments.specs.Given.Scenes.Scene.{Scene, slot_of}
+use Rattle.papaya_moments.specs.Given.Scenes.Stepping.{StepLeads}
 
-module _ {K V S : Type 0} (same : K → K → Bool) (hash : K → ℕ) (name : ℕ → List ℕ) (log : List (Entry K V)) (m : Moment K V) (known : Known) (s : Scene K V) (old new : Executor K V S)
+module _ {K V : Type 0} (same : K → K → Bool) (hash : ℕ → K → ℕ) (name : ℕ → List ℕ) (log : List (Entry K V)) (m : Moment K V) (known : Known) (s : Scene K V) (old new : Held K V)
     (at : IsAt same hash old s) (whole : ShowsWhole same name m known s) (dues : ShowsDue same name log m known s) (map i : ℕ) (z : CallOnKey K V K) (here : s.calls map i ≡ Some (OnKey z))
     (answer : KeyAnswer) (leads : StepLeads same hash i (Done (Key answer)) s old new) (c : CallThere K V) (c_is : call_of (name i) m ≡ Some c) (one : OneKey K V) (one_is : c.call ≡ On one) where
   abbrev said : Progress (Node K V)
@@ -168,6 +168,6 @@ module _ {K V S : Type 0} (same : K → K → Bool) (hash : K → ℕ) (name : �
     pub due_none : IsToldAs known2 one c.replies answer a → d.due ≡ None
     due_none told = none_by went.4.did (owes_then_by same hash name log m known s old new at whole dues map i z here said leads c c_is one one_is st2 went.4.its_map.4 d d_is) told
 
-pub answers_are_owed : (K V S : Type 0) (same : K → K → Bool) (hash : K → ℕ) → AnswersAreOwed K V S same hash
-answers_are_owed K V S same hash name log m known s old new at whole dues map i u here answer leads c c_is one one_is d d_is a told =
+pub answers_are_owed : (K V : Type 0) (same : K → K → Bool) (hash : ℕ → K → ℕ) → AnswersAreOwed K V same hash
+answers_are_owed K V same hash name log m known s old new at whole dues map i u here answer leads c c_is one one_is d d_is a told =
     owed same hash name log m known s old new at whole dues map i u here answer leads c c_is one one_is d d_is a told

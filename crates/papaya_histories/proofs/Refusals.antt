@@ -26,9 +26,6 @@ use Rattle.papaya_moments.specs.Given.Callers.Sights.{seen_by}
 use Rattle.papaya_moments.specs.Given.Callers.Together.{CallOnKey, OnKey}
 use Rattle.papaya_moments.specs.Given.Finishes.Maps.{Standing}
 use Rattle.papaya_moments.specs.Given.Effects.Known.{Known}
-use Rattle.papaya_moments.specs.Given.Executor.IsAt.{Scene, IsAt, slot_of}
-use Rattle.papaya_moments.specs.Given.Executor.Stepping.{StepLeads}
-use Rattle.papaya_moments.specs.Given.Executor.declared.executor.Executor.{Executor}
 use Rattle.papaya_moments.specs.Given.Follows.Shows.{Shows}
 use Rattle.papaya_moments.proofs.Given.Follows.Steps.{WentTo, DidSo}
 use Rattle.papaya_moments.specs.Given.Hands.Asked.{IsAskedOn, IsAskedAs}
@@ -41,6 +38,9 @@ use Rattle.papaya_histories.proofs.Due.{change_by, owes_then_by}
 use Rattle.papaya_histories.proofs.Meanings.{refuses_it}
 use Rattle.papaya_histories.proofs.Roles.{stands_then, stands_is, roles_before, roles_after}
 use Rattle.papaya_histories.proofs.Steps.{to, led_on, v}
+use Rattle.papaya_moments.specs.Given.Scenes.Held.{Held, IsAt}
+use Rattle.papaya_moments.specs.Given.Scenes.Scene.{Scene, slot_of}
+use Rattle.papaya_moments.specs.Given.Scenes.Stepping.{StepLeads}
 
 pub refused : {T : Type 0} (end : Called T) (fault : Fault) → Refused fault ≡ of_called end → end ≡ called.Refused fault
 refused called.Goes fault e = absurd (cc e)
@@ -51,7 +51,7 @@ refused (called.Asks about) fault e = absurd (cc e)
 refused (called.Done other) fault e = absurd (cc e)
 refused (called.Refused other) fault e = let one : other ≡ fault = cc e in ap called.Refused one
 
-module _ {K V S : Type 0} (same : K → K → Bool) (hash : K → ℕ) (name : ℕ → List ℕ) (log : List (Entry K V)) (m : Moment K V) (known : Known) (s : Scene K V) (old new : Executor K V S)
+module _ {K V : Type 0} (same : K → K → Bool) (hash : ℕ → K → ℕ) (name : ℕ → List ℕ) (log : List (Entry K V)) (m : Moment K V) (known : Known) (s : Scene K V) (old new : Held K V)
     (at : IsAt same hash old s) (whole : ShowsWhole same name m known s) (dues : ShowsDue same name log m known s) (map i : ℕ) (x : CallOnKey K V K) (here : s.calls map i ≡ Some (OnKey x))
     (fault : Fault) (leads : StepLeads same hash i (Refused fault) s old new) (c : CallThere K V) (c_is : call_of (name i) m ≡ Some c) (one : OneKey K V) (one_is : c.call ≡ On one)
     (still : finite_map same map m (key_of one) ≡ finite_map same map (moment log) (key_of one)) where
@@ -113,7 +113,7 @@ module _ {K V S : Type 0} (same : K → K → Bool) (hash : K → ℕ) (name : �
     )
 
 -- a call that is refused has changed nothing
-module _ {K V S : Type 0} (same : K → K → Bool) (hash : K → ℕ) (name : ℕ → List ℕ) (log : List (Entry K V)) (m : Moment K V) (known : Known) (s : Scene K V) (old new : Executor K V S)
+module _ {K V : Type 0} (same : K → K → Bool) (hash : ℕ → K → ℕ) (name : ℕ → List ℕ) (log : List (Entry K V)) (m : Moment K V) (known : Known) (s : Scene K V) (old new : Held K V)
     (at : IsAt same hash old s) (whole : ShowsWhole same name m known s) (dues : ShowsDue same name log m known s) (map i : ℕ) (x : CallOnKey K V K) (here : s.calls map i ≡ Some (OnKey x))
     (fault : Fault) (leads : StepLeads same hash i (Refused fault) s old new) (c : CallThere K V) (c_is : call_of (name i) m ≡ Some c) (one : OneKey K V) (one_is : c.call ≡ On one)
     (st2 : Standing K) (st2_is : (leads map (OnKey x) here).4.maps2 map ≡ Some st2) (d : CallThere K V)
@@ -128,6 +128,6 @@ module _ {K V S : Type 0} (same : K → K → Bool) (hash : K → ℕ) (name : �
   pub change_refused : By (leads map (OnKey x) here).4.did ≡ Unchanged
   change_refused = unchanged (leads map (OnKey x) here).4.did
 
-pub refusals_were_so : (K V S : Type 0) (same : K → K → Bool) (hash : K → ℕ) → RefusalsWereSo K V S same hash
-refusals_were_so K V S same hash name log m known s old new at whole dues map i u here fault leads c c_is one one_is still d d_is =
+pub refusals_were_so : (K V : Type 0) (same : K → K → Bool) (hash : ℕ → K → ℕ) → RefusalsWereSo K V same hash
+refusals_were_so K V same hash name log m known s old new at whole dues map i u here fault leads c c_is one one_is still d d_is =
     refused_so same hash name log m known s old new at whole dues map i u here fault leads c c_is one one_is still d d_is

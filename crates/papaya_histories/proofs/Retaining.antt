@@ -18,8 +18,6 @@ use Rattle.papaya_moments.specs.Given.Callers.Together.{OverAll, KnowsSweep, Tog
 use Rattle.papaya_moments.specs.Given.Finishes.Maps.{Standing}
 use Rattle.papaya_moments.specs.Given.Effects.Known.{Known}
 use Rattle.papaya_moments.specs.Given.Effects.declared.role.Role.TheVariants as role
-use Rattle.papaya_moments.specs.Given.Executor.IsAt.{Scene, IsAt, slot_of}
-use Rattle.papaya_moments.specs.Given.Executor.declared.executor.Executor.{Executor}
 use Rattle.papaya_moments.specs.Given.Follows.Shows.{Shows}
 use Rattle.papaya_moments.proofs.Given.Follows.Steps.{one_of}
 use Rattle.papaya_histories.specs.Answers.{NamesPair}
@@ -32,6 +30,8 @@ use Rattle.papaya_histories.proofs.Logs.{each_of, last_there}
 use Rattle.papaya_histories.proofs.Now.{both_true}
 use Rattle.papaya_histories.proofs.Roles.{named_by}
 use Rattle.papaya_histories.proofs.Several.{stands}
+use Rattle.papaya_moments.specs.Given.Scenes.Held.{Held, IsAt}
+use Rattle.papaya_moments.specs.Given.Scenes.Scene.{Scene, slot_of}
 
 -- what the finite map has of a class is in the map
 pub found_there : {K V : Type 0} (same : K → K → Bool) (map : ℕ) (m : Moment K V) (k : K) (q : ℕ) → finite_map same map m k ≡ Some q → is_in_map map (m.place q) ≡ true
@@ -39,7 +39,7 @@ found_there same map m k q is =
     let it : FoundIn same map k m (length m.stored) (Some q) = subst (FoundIn same map k m (length m.stored)) is (found same map k m (length m.stored)) in
     (both_true (is_in_map map (m.place q)) (is_key same (pair_at m.stored q) k) it.2).0
 
-module _ {K V S : Type 0} (same : K → K → Bool) (hash : K → ℕ) (name : ℕ → List ℕ) (log : List (Entry K V)) (m : Moment K V) (known : Known) (s : Scene K V) (e : Executor K V S)
+module _ {K V : Type 0} (same : K → K → Bool) (hash : ℕ → K → ℕ) (name : ℕ → List ℕ) (log : List (Entry K V)) (m : Moment K V) (known : Known) (s : Scene K V) (e : Held K V)
     (at_e : IsAt same hash e s) (history : ShowsHistory same name log m known s) (map i : ℕ) (o : CallOverAll) (here : s.calls map i ≡ Some (OverAll o))
     (c : CallThere K V) (c_is : call_of (name i) m ≡ Some c)
     (fewer : (k : K) → (finite_map same map m k ≡ finite_map same map (moment log) k) ⊎ (finite_map same map m k ≡ None))
@@ -109,6 +109,6 @@ module _ {K V S : Type 0} (same : K → K → Bool) (hash : K → ℕ) (name : �
           there_then pair.0 was.0 (let began = knows.from in let entered = was.1 in omega (arith, began, entered)) was.2
           (λ p h. had_pair same st number was.0 pair.0 p h n (l, was.3, pair.0, pair.3, lawful.lawful.classes.refl pair.0) ∙ ap Some (sym q_is))
 
-pub retainings_may_ask : (K V S : Type 0) (same : K → K → Bool) (hash : K → ℕ) → RetainingsMayAsk K V S same hash
-retainings_may_ask K V S same hash name log m known s e at_e history map i o here c c_is fewer word q stands_at names =
+pub retainings_may_ask : (K V : Type 0) (same : K → K → Bool) (hash : ℕ → K → ℕ) → RetainingsMayAsk K V same hash
+retainings_may_ask K V same hash name log m known s e at_e history map i o here c c_is fewer word q stands_at names =
     asks same hash name log m known s e at_e history map i o here c c_is fewer word q stands_at names

@@ -26,9 +26,6 @@ use Rattle.papaya_moments.specs.Given.Finishes.Endings.{StepsAmong}
 use Rattle.papaya_moments.specs.Given.Finishes.Maps.{Standing}
 use Rattle.papaya_moments.specs.Given.Effects.Known.{Known}
 use Rattle.papaya_moments.specs.Given.Effects.declared.role.Role.TheVariants as role
-use Rattle.papaya_moments.specs.Given.Executor.IsAt.{Scene, IsAt, slot_of}
-use Rattle.papaya_moments.specs.Given.Executor.Stepping.{StepLeads}
-use Rattle.papaya_moments.specs.Given.Executor.declared.executor.Executor.{Executor}
 use Rattle.papaya_moments.specs.Given.Follows.Shows.{Shows}
 use Rattle.papaya_moments.proofs.Given.Follows.Onward.{IsLasting}
 use Rattle.papaya_moments.proofs.Given.Follows.Steps.{WentTo, made_so, is_inside, is_sight, LeadsThere}
@@ -36,6 +33,9 @@ use Rattle.papaya_moments.specs.Whole.{ShowsWhole}
 use Rattle.papaya_moments.proofs.Roles.{roles_then}
 use Rattle.papaya_histories.specs.Answers.{IsToldAs}
 use Rattle.papaya_histories.proofs.Steps.{to, led_on, after}
+use Rattle.papaya_moments.specs.Given.Scenes.Held.{Held, IsAt}
+use Rattle.papaya_moments.specs.Given.Scenes.Scene.{Scene, slot_of}
+use Rattle.papaya_moments.specs.Given.Scenes.Stepping.{StepLeads}
 
 -- a word that names a pair names its block
 pub named_by : {K : Type 0} (same : K → K → Bool) (hash : K → ℕ) → AreLawful same hash → (c : Chart K) (blocks : Blocks) (word n : ℕ) (phase : Phase) (borrowed : Bool) → word ≡ place_word hash c blocks (Holds n phase borrowed)
@@ -64,7 +64,7 @@ module _ {K V Q : Type 0} (same : K → K → Bool) (hash : K → ℕ) (asks : Q
   no_change (Removed n) (answers.Replaced before then_there) tells told = told
   no_change (Removed n) (answers.Removed word) tells told = told
 
-module _ {K V S : Type 0} (same : K → K → Bool) (hash : K → ℕ) (name : ℕ → List ℕ) (m : Moment K V) (known : Known) (s : Scene K V) (old new : Executor K V S) (at : IsAt same hash old s)
+module _ {K V : Type 0} (same : K → K → Bool) (hash : ℕ → K → ℕ) (name : ℕ → List ℕ) (m : Moment K V) (known : Known) (s : Scene K V) (old new : Held K V) (at : IsAt same hash old s)
     (whole : ShowsWhole same name m known s) (shown : Shows same name m known s) (map i : ℕ) (x : CallOnKey K V K) (here : s.calls map i ≡ Some (OnKey x)) (said : Progress (Node K V))
     (leads : StepLeads same hash i said s old new) where
   abbrev went : WentTo same hash name m known s old new at shown map i (OnKey x) here said leads
@@ -93,7 +93,7 @@ module _ {K V S : Type 0} (same : K → K → Bool) (hash : K → ℕ) (name : �
       on.keeps (st.blocks.pair n) (subst IsLasting (sym is) tt) ∙ is ∙ ap role.Pair (sym (on.numbers map st went.2 n l))
 
   -- and of what it looks at after one that is none of a row
-  module _ (p2 : KeyCall K V K) (end : Called (Node K V)) (step : StepsAmong V same same old.batch_size old.roots slot_of s.world s.maps s.calls s.makers s.enders map st i x new.memory.memory p2 end)
+  module _ (p2 : KeyCall K V K) (end : Called (Node K V)) (step : StepsAmong V same same old.batch_size old.roots slot_of s.world s.maps s.calls s.makers s.enders map st i x new.memory p2 end)
       (moved : went.4.maps2 ≡ with_at s.maps map (Some (record st { chart = step.step.went.c2; blocks = step.step.blocks2; sights = step.step.sights2 }))) where
     abbrev pub stands_then : Standing K
     stands_then = record st { chart = step.step.went.c2; blocks = step.step.blocks2; sights = step.step.sights2 }
@@ -103,4 +103,4 @@ module _ {K V S : Type 0} (same : K → K → Bool) (hash : K → ℕ) (name : �
 
     pub roles_after : (n : ℕ) → n < step.step.went.c2.stored → step.step.went.blocks2.pair_known n ≡ true → known2.roles (step.step.went.blocks2.pair n) ≡ role.Pair (on.shows.number map n)
     roles_after n l known_too =
-        roles_then same old.batch_size old.roots s map i st its_sight x new.memory.memory p2 end step on.shows moved n l known_too
+        roles_then same old.batch_size old.roots s map i st its_sight x new.memory p2 end step on.shows moved n l known_too

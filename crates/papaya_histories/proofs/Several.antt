@@ -24,9 +24,6 @@ use Rattle.papaya_moments.specs.Given.Finishes.Maps.{Standing}
 use Rattle.papaya_moments.specs.Given.Effects.Effects.{effects_of, known_after}
 use Rattle.papaya_moments.specs.Given.Effects.Known.{Known}
 use Rattle.papaya_moments.specs.Given.Effects.declared.acting.Acting.TheVariants as acts
-use Rattle.papaya_moments.specs.Given.Executor.IsAt.{Scene, IsAt}
-use Rattle.papaya_moments.specs.Given.Executor.Stepping.{StepLeads, scene_after}
-use Rattle.papaya_moments.specs.Given.Executor.declared.executor.Executor.{Executor}
 use Rattle.papaya_moments.proofs.Given.Follows.Steps.{one_of}
 use Rattle.papaya_moments.proofs.Given.Hands.Replacing.{calls_after}
 use Rattle.papaya_moments.proofs.Calls.{calls_keep_whole}
@@ -40,6 +37,9 @@ use Rattle.papaya_histories.proofs.Found.{map_alike}
 use Rattle.papaya_histories.proofs.Keys.{its_call}
 use Rattle.papaya_moments.proofs.After.{effects_after}
 use Rattle.papaya_histories.proofs.Steady.{effects_stored, Kinds, step_kinds}
+use Rattle.papaya_moments.specs.Given.Scenes.Held.{Held, IsAt}
+use Rattle.papaya_moments.specs.Given.Scenes.Scene.{Scene}
+use Rattle.papaya_moments.specs.Given.Scenes.Stepping.{StepLeads, scene_after}
 
 -- what a call has changed by a step it has changed since the beginning of the event, where nothing had changed before
 module _ {K V : Type 0} (same : K → K → Bool) (map : ℕ) (one : OneKey K V) (c d : CallThere K V) (m v : Moment K V) (same_call : IsSameCall c d) (on_map : c.map ≡ map)
@@ -82,11 +82,11 @@ module _ {K V : Type 0} (same : K → K → Bool) (name : ℕ → List ℕ) (log
 pub same_then : {K V : Type 0} (c d e : CallThere K V) → IsSameCall c d → IsSameCall d e → IsSameCall c e
 same_then c d e h k = record { map = k.map ∙ h.map; call = k.call ∙ h.call; replies = k.replies ∙ h.replies; begun = k.begun ∙ h.begun }
 
-module _ {K V S : Type 0} (same : K → K → Bool) (hash : K → ℕ) (name : ℕ → List ℕ) (log : List (Entry K V)) (beginning : Moment K V) (map i : ℕ) (one : OneKey K V) (c : CallThere K V) (one_is : c.call ≡ On one)
+module _ {K V : Type 0} (same : K → K → Bool) (hash : ℕ → K → ℕ) (name : ℕ → List ℕ) (log : List (Entry K V)) (beginning : Moment K V) (map i : ℕ) (one : OneKey K V) (c : CallThere K V) (one_is : c.call ≡ On one)
     (done : List Effect) (m : Moment K V) (known : Known) (s : Scene K V) (u : CallOnKey K V K) (midst : InMidst same name log beginning map i one c done m known s u)
-    (old new : Executor K V S) (at : IsAt same hash old s) (said : Progress (Node K V)) (leads : StepLeads same hash i said s old new) where
+    (old new : Held K V) (at : IsAt same hash old s) (said : Progress (Node K V)) (leads : StepLeads same hash i said s old new) where
   abbrev pub step_effects : List Effect
-  step_effects = effects_of (acts.Call i map) known new.memory.changed
+  step_effects = effects_of (acts.Call i map) known new.changed
 
   abbrev pub then_at : Moment K V
   then_at = with_effects (Some (name i)) (Some map) step_effects m
@@ -184,7 +184,7 @@ module _ {K V S : Type 0} (same : K → K → Bool) (hash : K → ℕ) (name : �
   worked_then = ap (λ (x : Moment K V). with_effects (Some (name i)) (Some map) step_effects x) midst.worked ∙ sym (effects_after (Some (name i)) (Some map) done step_effects beginning)
 
   module _ (next : CallOnKey K V K) (goes : (leads map (OnKey u) midst.here).4.next ≡ Some (OnKey next)) where
-    here_then : (scene_after same hash s old new map i (leads map (OnKey u) midst.here).0 (OnKey u) (leads map (OnKey u) midst.here).1 said (leads map (OnKey u) midst.here).4).calls map i ≡ Some (OnKey next)
+    here_then : (scene_after same s old new map i (leads map (OnKey u) midst.here).0 (OnKey u) (leads map (OnKey u) midst.here).1 said (leads map (OnKey u) midst.here).4).calls map i ≡ Some (OnKey next)
     here_then =
         ap (λ (f : ℕ → Option (UnderWay K V K)). f i) (at_same s.calls map (with_at (s.calls map) i (leads map (OnKey u) midst.here).4.next) map refl)
         ∙ at_same (s.calls map) i (leads map (OnKey u) midst.here).4.next i refl ∙ goes
@@ -193,12 +193,12 @@ module _ {K V S : Type 0} (same : K → K → Bool) (hash : K → ℕ) (name : �
     change_is = goes_on same hash name log m known s old new at midst.whole midst.dues map i u midst.here said leads there midst.there_is one there_one st2 (leads map (OnKey u) midst.here).4.its_map.4 d d_is next goes
         (leads map (OnKey u) midst.here).4.did
 
-    pub midst_then : InMidst same name log beginning map i one c (done ++ step_effects) then_at (known_after (acts.Call i map) new.memory.changed known)
-        (scene_after same hash s old new map i (leads map (OnKey u) midst.here).0 (OnKey u) (leads map (OnKey u) midst.here).1 said (leads map (OnKey u) midst.here).4) next
+    pub midst_then : InMidst same name log beginning map i one c (done ++ step_effects) then_at (known_after (acts.Call i map) new.changed known)
+        (scene_after same s old new map i (leads map (OnKey u) midst.here).0 (OnKey u) (leads map (OnKey u) midst.here).1 said (leads map (OnKey u) midst.here).4) next
     midst_then = record {
       here = here_then;
-      whole = calls_keep_whole K V S same hash name m known s old new at midst.whole map i (OnKey u) midst.here said leads;
-      dues = calls_keep_due K V S same hash name log m known s old new at midst.whole midst.dues map i (OnKey u) midst.here said leads first_change;
+      whole = calls_keep_whole K V same hash name m known s old new at midst.whole map i (OnKey u) midst.here said leads;
+      dues = calls_keep_due K V same hash name log m known s old new at midst.whole midst.dues map i (OnKey u) midst.here said leads first_change;
       begins = midst.begins;
       worked = worked_then;
       there = d;
@@ -209,7 +209,7 @@ module _ {K V S : Type 0} (same : K → K → Bool) (hash : K → ℕ) (name : �
     }
 
 -- a map on which a call is under way stands
-pub stands : {K V S : Type 0} (same : K → K → Bool) (hash : K → ℕ) (s : Scene K V) (e : Executor K V S) → IsAt same hash e s → (map i : ℕ) (x : UnderWay K V K) → s.calls map i ≡ Some x
+pub stands : {K V : Type 0} (same : K → K → Bool) (hash : ℕ → K → ℕ) (s : Scene K V) (e : Held K V) → IsAt same hash e s → (map i : ℕ) (x : UnderWay K V K) → s.calls map i ≡ Some x
     → (st : Standing K) × (s.maps map ≡ Some st)
 stands same hash s e at map i x here = by (s.maps map) refl
   where
@@ -217,8 +217,8 @@ stands same hash s e at map i x here = by (s.maps map) refl
     by None gone = absurd (let none = at.together.makings.standing.only map i gone in cc (none, here))
     by (Some st) is = (st, is)
 
-module _ (K V S : Type 0) (same : K → K → Bool) (hash : K → ℕ) where
-  pub midsts_begin : MidstsBegin K V S same hash
+module _ (K V : Type 0) (same : K → K → Bool) (hash : ℕ → K → ℕ) where
+  pub midsts_begin : MidstsBegin K V same hash
   midsts_begin name log beginning begins known s e at whole dues map i u here c c_is one one_is = record {
     here = here;
     whole = whole;
@@ -238,5 +238,5 @@ module _ (K V S : Type 0) (same : K → K → Bool) (hash : K → ℕ) where
     );
   }
 
-  pub midsts_go_on : MidstsGoOn K V S same hash
+  pub midsts_go_on : MidstsGoOn K V same hash
   midsts_go_on name log beginning map i one c one_is done m known s u midst old new at said leads next goes = midst_then same hash name log beginning map i one c one_is done m known s u midst old new at said leads next goes

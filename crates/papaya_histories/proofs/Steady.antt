@@ -20,9 +20,6 @@ use Rattle.papaya_moments.specs.Given.Finishes.Maps.{Standing}
 use Rattle.papaya_moments.specs.Given.Effects.Effects.{effects_of}
 use Rattle.papaya_moments.specs.Given.Effects.Known.{Known}
 use Rattle.papaya_moments.specs.Given.Effects.declared.acting.Acting.TheVariants as acts
-use Rattle.papaya_moments.specs.Given.Executor.IsAt.{Scene, IsAt, slot_of}
-use Rattle.papaya_moments.specs.Given.Executor.Stepping.{StepLeads}
-use Rattle.papaya_moments.specs.Given.Executor.declared.executor.Executor.{Executor}
 use Rattle.papaya_moments.specs.Given.Follows.Shows.{Shows}
 use Rattle.papaya_moments.specs.Given.Follows.Steps.{TakesNone}
 use Rattle.papaya_moments.proofs.Given.Follows.Steps.{WentTo, one_of}
@@ -35,6 +32,9 @@ use Rattle.papaya_histories.proofs.Dues.{none_of}
 use Rattle.papaya_histories.proofs.Due.{taken, nothing_due, change_by}
 use Rattle.papaya_histories.proofs.Roles.{stands_then, stands_is}
 use Rattle.papaya_histories.proofs.Steps.{to, v, same_pairs}
+use Rattle.papaya_moments.specs.Given.Scenes.Held.{Held, IsAt}
+use Rattle.papaya_moments.specs.Given.Scenes.Scene.{Scene, slot_of}
+use Rattle.papaya_moments.specs.Given.Scenes.Stepping.{StepLeads}
 
 -- a moment after effects that shift no pair has the pairs that it had
 module _ {K V : Type 0} where
@@ -49,7 +49,7 @@ module _ {K V : Type 0} where
       let two = none_of (shift_of f) (flat_map shift_of effects) none in
       effects_stored caller acted effects (with_effect caller acted f m) two.1 ∙ stored_kept (acting caller m) f m.stored two.0
 
-module _ {K V S : Type 0} (same : K → K → Bool) (hash : K → ℕ) (name : ℕ → List ℕ) (log : List (Entry K V)) (m : Moment K V) (known : Known) (s : Scene K V) (old new : Executor K V S)
+module _ {K V : Type 0} (same : K → K → Bool) (hash : ℕ → K → ℕ) (name : ℕ → List ℕ) (log : List (Entry K V)) (m : Moment K V) (known : Known) (s : Scene K V) (old new : Held K V)
     (at : IsAt same hash old s) (whole : ShowsWhole same name m known s) (dues : ShowsDue same name log m known s) (map i : ℕ) (z : CallOnKey K V K) (here : s.calls map i ≡ Some (OnKey z))
     (said : Progress (Node K V)) (leads : StepLeads same hash i said s old new) (c : CallThere K V) (c_is : call_of (name i) m ≡ Some c) (one : OneKey K V) (one_is : c.call ≡ On one)
     (st2 : Standing K) (st2_is : (leads map (OnKey z) here).4.maps2 map ≡ Some st2) (d : CallThere K V)
@@ -61,7 +61,7 @@ module _ {K V S : Type 0} (same : K → K → Bool) (hash : K → ℕ) (name : �
   went = to same hash name m known s old new at whole shown map i (OnKey z) here said leads
 
   abbrev effects : List Effect
-  effects = effects_of (acts.Call i map) known new.memory.changed
+  effects = effects_of (acts.Call i map) known new.changed
 
   abbrev v2 : Moment K V
   v2 = v same hash name m known s old new at whole shown map i (OnKey z) here said leads
@@ -82,7 +82,7 @@ module _ {K V S : Type 0} (same : K → K → Bool) (hash : K → ℕ) (name : �
   first c2 (Replaced o n) unchanged kept changes = inr (unchanged, λ e. cc e)
   first c2 (Removed n) unchanged kept changes = inr (unchanged, λ e. cc e)
 
-  kinds : (did : DidHere) → ((NoRow same hash name m known s old new at whole shown dues.history.asked map i z here said leads c c_is one one_is (taken same hash name log m known s old new at whole dues map i z here said leads c c_is one one_is st2 st2_is d d_is) (nothing_due same hash name log m known s old new at whole dues map i z here said leads c c_is one one_is st2 st2_is d d_is) did → ⊥) → TakesNone new.memory.changed) → Kinds (By did)
+  kinds : (did : DidHere) → ((NoRow same hash name m known s old new at whole shown dues.history.asked map i z here said leads c c_is one one_is (taken same hash name log m known s old new at whole dues map i z here said leads c c_is one one_is st2 st2_is d d_is) (nothing_due same hash name log m known s old new at whole dues map i z here said leads c c_is one one_is st2 st2_is d d_is) did → ⊥) → TakesNone new.changed) → Kinds (By did)
   kinds (p2, end, machine_is, told_is, inl (step, moved)) takes = by_told (told_once same hash name m known s old new at whole shown dues.history.asked map i z here said leads c c_is one one_is (taken same hash name log m known s old new at whole dues map i z here said leads c c_is one one_is st2 st2_is d d_is) (nothing_due same hash name log m known s old new at whole dues map i z here said leads c c_is one one_is st2 st2_is d d_is) step.step.went.told)
     where
       change : Change
@@ -109,4 +109,4 @@ module _ {K V S : Type 0} (same : K → K → Bool) (hash : K → ℕ) (name : �
           ap (λ (x : Chart K). x.current) it.2 ∙ ap (λ (x : Standing K). x.chart.current) (one_of it.0 went.0 (sym it.1 ∙ went.2))
 
   pub step_kinds : Kinds (By went.4.did)
-  step_kinds = kinds went.4.did (λ other. (rows_hand_theirs K V S same hash name m known s old new at whole.all map i (OnKey z) here said leads other).1)
+  step_kinds = kinds went.4.did (λ other. (rows_hand_theirs K V same hash name m known s old new at whole.all map i (OnKey z) here said leads other).1)

@@ -26,9 +26,6 @@ use Rattle.papaya_moments.specs.Given.Finishes.Maps.{Standing, IsSameMap}
 use Rattle.papaya_moments.specs.Given.Effects.Effects.{effects_of, known_after}
 use Rattle.papaya_moments.specs.Given.Effects.Known.{Known}
 use Rattle.papaya_moments.specs.Given.Effects.declared.acting.Acting.TheVariants as acts
-use Rattle.papaya_moments.specs.Given.Executor.IsAt.{Scene, IsAt, slot_of}
-use Rattle.papaya_moments.specs.Given.Executor.Stepping.{StepLeads, scene_after}
-use Rattle.papaya_moments.specs.Given.Executor.declared.executor.Executor.{Executor}
 use Rattle.papaya_moments.specs.Given.Follows.Shows.{Shows}
 use Rattle.papaya_moments.proofs.Given.Follows.Called.{key_goes_on, room_goes_on, sweep_goes_on, counting_goes_on}
 use Rattle.papaya_moments.proofs.Given.Follows.RowSteps.{row_step_shown}
@@ -48,8 +45,11 @@ use Rattle.papaya_histories.proofs.Had.{had_on, had_at, had_one}
 use Rattle.papaya_histories.proofs.Later.{IsLater, same_later, moved_later}
 use Rattle.papaya_histories.proofs.Now.{now_had}
 use Rattle.papaya_histories.proofs.Within.{within_on}
+use Rattle.papaya_moments.specs.Given.Scenes.Held.{Held, IsAt}
+use Rattle.papaya_moments.specs.Given.Scenes.Scene.{Scene, slot_of}
+use Rattle.papaya_moments.specs.Given.Scenes.Stepping.{StepLeads, scene_after}
 
-module _ {K V S : Type 0} (same : K → K → Bool) (hash : K → ℕ) (name : ℕ → List ℕ) (m : Moment K V) (known : Known) (s : Scene K V) (old new : Executor K V S) (at : IsAt same hash old s)
+module _ {K V : Type 0} (same : K → K → Bool) (hash : ℕ → K → ℕ) (name : ℕ → List ℕ) (m : Moment K V) (known : Known) (s : Scene K V) (old new : Held K V) (at : IsAt same hash old s)
     (whole : ShowsWhole same name m known s) (shown : Shows same name m known s) (map i : ℕ) (u : UnderWay K V K) (here : s.calls map i ≡ Some u) (said : Progress (Node K V))
     (leads : StepLeads same hash i said s old new) where
   abbrev pub to : WentTo same hash name m known s old new at shown map i u here said leads
@@ -65,9 +65,9 @@ module _ {K V S : Type 0} (same : K → K → Bool) (hash : K → ℕ) (name : �
   pub led_on : Led
   led_on = elim (of_row same hash name m known s old new at whole map i u here said leads u to.4.did) as (λ _. Led) [
     | inl own ↦
-        (step_shown same hash name m known s old new at shown map i u here said leads own (calls_store_theirs K V S same hash name m known s old new at whole.all map i u here said leads own).0).1
+        (step_shown same hash name m known s old new at shown map i u here said leads own (calls_store_theirs K V same hash name m known s old new at whole.all map i u here said leads own).0).1
     | inr other ↦
-        let it = rows_hand_theirs K V S same hash name m known s old new at whole.all map i u here said leads other in
+        let it = rows_hand_theirs K V same hash name m known s old new at whole.all map i u here said leads other in
         row_step_shown same hash name m known s old new at shown map i u here said leads other it.1 it.0
   ]
 
@@ -87,7 +87,7 @@ module _ {K V S : Type 0} (same : K → K → Bool) (hash : K → ℕ) (name : �
       (is_inside same hash name m known s old new at shown map i u here said leads))
 
   went_later : (Told : World (Node K V) → Chart K → Blocks → Type 0)
-      (went : Went same to.0.hash (in_slot to.0.setting (slot_of i)) i s.world to.0.chart (seen_by to.0.blocks (to.0.sights (slot_of i))) new.memory.memory Told)
+      (went : Went same to.0.hash (in_slot to.0.setting (slot_of i)) i s.world to.0.chart (seen_by to.0.blocks (to.0.sights (slot_of i))) new.memory Told)
       → Remembers (is_incremental to.0.setting.mode) to.0.chart went.c2 → IsLater to.0.chart went.c2
   went_later Told went remembers =
       moved_later same to.0.hash to.0.setting.mode to.0.chart went.c2 i went.moved
@@ -133,7 +133,7 @@ module _ {K V S : Type 0} (same : K → K → Bool) (hash : K → ℕ) (name : �
   began_so (OverAll y) (p2, end, machine_is, told_is, inr (row, stayed)) x e = ap (λ (z : UnderWay K V K). began_of z) (sweep_goes_on _ end x (sym stayed.2 ∙ e))
 
   abbrev pub s2 : Scene K V
-  s2 = scene_after same hash s old new map i to.0 u to.1 said to.4
+  s2 = scene_after same s old new map i to.0 u to.1 said to.4
 
   pub was_under_way : (n j : ℕ) (x : UnderWay K V K) → s2.calls n j ≡ Some x → (y : UnderWay K V K) × (s.calls n j ≡ Some y) × (began_of x ≡ began_of y)
   was_under_way n j x is = elim (which s.calls map i to.4.next n j x is) as (λ _. (y : UnderWay K V K) × (s.calls n j ≡ Some y) × (began_of x ≡ began_of y)) [
@@ -142,10 +142,10 @@ module _ {K V S : Type 0} (same : K → K → Bool) (hash : K → ℕ) (name : �
   ]
 
   abbrev effects : List Effect
-  effects = effects_of (acts.Call i map) known new.memory.changed
+  effects = effects_of (acts.Call i map) known new.changed
 
   abbrev pub after : Known
-  after = known_after (acts.Call i map) new.memory.changed known
+  after = known_after (acts.Call i map) new.changed known
 
   abbrev pub v : Moment K V
   v = with_effects (Some (name i)) (Some map) effects m
@@ -179,7 +179,7 @@ module _ {K V S : Type 0} (same : K → K → Bool) (hash : K → ℕ) (name : �
   same_elsewhere n ne st there k =
       let it = stood_same (s.maps n) (to.4.maps2 n) (to.4.others n ne) st there in same_pairs n st there it.0 it.1 (ap (λ (c : Chart K). c.current) it.2) k
 
-module _ {K V S : Type 0} (same : K → K → Bool) (hash : K → ℕ) (name : ℕ → List ℕ) (log : List (Entry K V)) (m : Moment K V) (known : Known) (s : Scene K V) (old new : Executor K V S)
+module _ {K V : Type 0} (same : K → K → Bool) (hash : ℕ → K → ℕ) (name : ℕ → List ℕ) (log : List (Entry K V)) (m : Moment K V) (known : Known) (s : Scene K V) (old new : Held K V)
     (at : IsAt same hash old s) (whole : ShowsWhole same name m known s) (history : ShowsHistory same name log m known s) (map i : ℕ) (u : UnderWay K V K) (here : s.calls map i ≡ Some u)
     (said : Progress (Node K V)) (leads : StepLeads same hash i said s old new) where
   abbrev pub then_shown : LeadsThere same hash name m known s old new at history.shown map i u here said leads
@@ -197,7 +197,7 @@ module _ {K V S : Type 0} (same : K → K → Bool) (hash : K → ℕ) (name : �
   was_there n j x is d found =
       let was = was_under_way same hash name m known s old new at whole history.shown map i u here said leads n j x is in
       let call = history.shown.calls n j was.0 was.1 in
-      let now = effects_begun (name i) map (name j) (effects_of (acts.Call i map) known new.memory.changed) m call.0 call.1 in
+      let now = effects_begun (name i) map (name j) (effects_of (acts.Call i map) known new.changed) m call.0 call.1 in
       (was.0, was.1, was.2, call.0, call.1, ap (λ (z : CallThere K V). z.begun) (one_of d now.0 (sym found ∙ now.1)) ∙ now.2)
 
   pub begun_then : (n j : ℕ) (x : UnderWay K V K) → scene2.calls n j ≡ Some x → (d : CallThere K V) → call_of (name j) v2 ≡ Some d → d.begun ≤ length log
@@ -228,6 +228,6 @@ module _ {K V S : Type 0} (same : K → K → Bool) (hash : K → ℕ) (name : �
       within = within_then;
     }
 
-pub calls_keep_histories : (K V S : Type 0) (same : K → K → Bool) (hash : K → ℕ) → CallsKeepHistories K V S same hash
-calls_keep_histories K V S same hash name log m known s old new at whole history map i u here said leads changes =
+pub calls_keep_histories : (K V : Type 0) (same : K → K → Bool) (hash : ℕ → K → ℕ) → CallsKeepHistories K V same hash
+calls_keep_histories K V same hash name log m known s old new at whole history map i u here said leads changes =
     step_history same hash name log m known s old new at whole history map i u here said leads changes

@@ -24,12 +24,12 @@ use Rattle.papaya_moments.specs.Given.Effects.Effects.{effects_of, known_after}
 use Rattle.papaya_moments.specs.Given.Effects.Known.{Known}
 use Rattle.papaya_moments.specs.Given.Effects.declared.acting.Acting.TheVariants as acts
 use Rattle.papaya_moments.specs.Given.Effects.declared.role.Role.TheVariants as role
-use Rattle.papaya_moments.specs.Given.Executor.IsAt.{Scene, IsAt}
-use Rattle.papaya_moments.specs.Given.Executor.Stepping.{StepLeads}
-use Rattle.papaya_moments.specs.Given.Executor.declared.executor.Executor.{Executor}
 use Rattle.papaya_moments.specs.Whole.{ShowsWhole}
 use Rattle.papaya_histories.specs.Due.{ShowsDue}
 use Rattle.papaya_histories.specs.Histories.{ShowsHistory}
+use Rattle.papaya_moments.specs.Given.Scenes.Held.{Held, IsAt}
+use Rattle.papaya_moments.specs.Given.Scenes.Scene.{Scene}
+use Rattle.papaya_moments.specs.Given.Scenes.Stepping.{StepLeads}
 
 -- a word names the pair of this number
 abbrev pub NamesPair : Known → ℕ → ℕ → Type 0
@@ -49,34 +49,34 @@ IsToldDone {K} {V} known one replies (answers.Replaced old new) a =
 IsToldDone known one replies (answers.Removed word) a = (o : ℕ) × NamesPair known word o × ((new : ℕ) → means one (reply_to (Some o) replies) (Some o) new ≡ Answers a Takes)
 IsToldDone known one replies _ a = ⊥
 
-module _ (K V S : Type 0) (same : K → K → Bool) (hash : K → ℕ) where
+module _ (K V : Type 0) (same : K → K → Bool) (hash : ℕ → K → ℕ) where
   -- The promise: an answer without a change is what the call means at a moment of it between two events, where no pair of its key's class has come or gone within
   -- the present event.
   abbrev pub AnswersWereSo : Type 0
   AnswersWereSo =
-      (name : ℕ → List ℕ) (log : List (Entry K V)) (m : Moment K V) (known : Known) (s : Scene K V) (old new : Executor K V S) → IsAt same hash old s
+      (name : ℕ → List ℕ) (log : List (Entry K V)) (m : Moment K V) (known : Known) (s : Scene K V) (old new : Held K V) → IsAt same hash old s
       → ShowsWhole same name m known s → ShowsHistory same name log m known s
       → (map i : ℕ) (u : CallOnKey K V K) (here : s.calls map i ≡ Some (OnKey u)) (answer : KeyAnswer) (leads : StepLeads same hash i (Done (Key answer)) s old new)
       → (c : CallThere K V) → call_of (name i) m ≡ Some c → (one : OneKey K V) → c.call ≡ On one → finite_map same map m (key_of one) ≡ finite_map same map (moment log) (key_of one)
-      → (a : Answer V) → IsToldAs (known_after (acts.Call i map) new.memory.changed known) one c.replies answer a
+      → (a : Answer V) → IsToldAs (known_after (acts.Call i map) new.changed known) one c.replies answer a
       → OneOf (λ v. meaning_at same one c v ≡ Answers a Leaves) (moments_from c.begun log)
 
   -- The promise: an answer that tells a change is the one that the call owes since it has changed its map.
   abbrev pub AnswersAreOwed : Type 0
   AnswersAreOwed =
-      (name : ℕ → List ℕ) (log : List (Entry K V)) (m : Moment K V) (known : Known) (s : Scene K V) (old new : Executor K V S) → IsAt same hash old s
+      (name : ℕ → List ℕ) (log : List (Entry K V)) (m : Moment K V) (known : Known) (s : Scene K V) (old new : Held K V) → IsAt same hash old s
       → ShowsWhole same name m known s → ShowsDue same name log m known s
       → (map i : ℕ) (u : CallOnKey K V K) (here : s.calls map i ≡ Some (OnKey u)) (answer : KeyAnswer) (leads : StepLeads same hash i (Done (Key answer)) s old new)
       → (c : CallThere K V) → call_of (name i) m ≡ Some c → (one : OneKey K V) → c.call ≡ On one
-      → (d : CallThere K V) → call_of (name i) (with_effects (Some (name i)) (Some map) (effects_of (acts.Call i map) known new.memory.changed) m) ≡ Some d
-      → (a : Answer V) → IsToldDone (known_after (acts.Call i map) new.memory.changed known) one c.replies answer a → d.due ≡ Some a
+      → (d : CallThere K V) → call_of (name i) (with_effects (Some (name i)) (Some map) (effects_of (acts.Call i map) known new.changed) m) ≡ Some d
+      → (a : Answer V) → IsToldDone (known_after (acts.Call i map) new.changed known) one c.replies answer a → d.due ≡ Some a
 
   -- The promise: a call that is refused owes no answer; and where it was told to remove what is not there, that is what it means at a moment of it between two events.
   abbrev pub RefusalsWereSo : Type 0
   RefusalsWereSo =
-      (name : ℕ → List ℕ) (log : List (Entry K V)) (m : Moment K V) (known : Known) (s : Scene K V) (old new : Executor K V S) → IsAt same hash old s
+      (name : ℕ → List ℕ) (log : List (Entry K V)) (m : Moment K V) (known : Known) (s : Scene K V) (old new : Held K V) → IsAt same hash old s
       → ShowsWhole same name m known s → ShowsDue same name log m known s
       → (map i : ℕ) (u : CallOnKey K V K) (here : s.calls map i ≡ Some (OnKey u)) (fault : Fault) (leads : StepLeads same hash i (Refused fault) s old new)
       → (c : CallThere K V) → call_of (name i) m ≡ Some c → (one : OneKey K V) → c.call ≡ On one → finite_map same map m (key_of one) ≡ finite_map same map (moment log) (key_of one)
-      → (d : CallThere K V) → call_of (name i) (with_effects (Some (name i)) (Some map) (effects_of (acts.Call i map) known new.memory.changed) m) ≡ Some d
+      → (d : CallThere K V) → call_of (name i) (with_effects (Some (name i)) (Some map) (effects_of (acts.Call i map) known new.changed) m) ≡ Some d
       → (d.due ≡ None) × (fault ≡ RemoveNothing → OneOf (λ v. meaning_at same one c v ≡ Refuses) (moments_from c.begun log))

@@ -24,10 +24,6 @@ use Rattle.papaya_moments.specs.Given.Callers.Together.{UnderWay, OnKey, OverAll
 use Rattle.papaya_moments.specs.Given.Effects.Effects.{effects_of, known_after}
 use Rattle.papaya_moments.specs.Given.Effects.Known.{Known, nothing_known}
 use Rattle.papaya_moments.specs.Given.Effects.declared.acting.Acting.TheVariants as acts
-use Rattle.papaya_moments.specs.Given.Executor.IsAt.{Scene, IsAt, at_first, slot_of}
-use Rattle.papaya_moments.specs.Given.Executor.Replying.{scene_with}
-use Rattle.papaya_moments.specs.Given.Executor.Stepping.{StepLeads, scene_after}
-use Rattle.papaya_moments.specs.Given.Executor.declared.executor.Executor.{Executor}
 use Rattle.papaya_moments.specs.Given.Finishes.Machines.{machine_of, ToldOfKind}
 use Rattle.papaya_moments.specs.Given.Finishes.Maps.{Standing}
 use Rattle.papaya_moments.specs.Given.Follows.Calling.{NoneNamed, told, come_to}
@@ -36,6 +32,10 @@ use Rattle.papaya_moments.specs.Given.Follows.Shows.{Shows}
 use Rattle.papaya_moments.specs.Given.Hands.Asked.{as_told}
 use Rattle.papaya_moments.specs.Whole.{ShowsWhole}
 use Rattle.papaya_histories.specs.Asking.{IsToldQuestion}
+use Rattle.papaya_moments.specs.Given.Scenes.Held.{Held, IsAt}
+use Rattle.papaya_moments.specs.Given.Scenes.Replying.{scene_with}
+use Rattle.papaya_moments.specs.Given.Scenes.Scene.{Scene, at_first, slot_of}
+use Rattle.papaya_moments.specs.Given.Scenes.Stepping.{StepLeads, scene_after}
 
 -- what a sweep is for that was called so
 abbrev pub purpose_of : {K V : Type 0} → Call K V → Option Purpose
@@ -107,22 +107,22 @@ module _ (K V : Type 0) (same : K → K → Bool) where
       → ((map i : ℕ) (u : UnderWay K V K) → s.calls map i ≡ Some u → is_same (name i) own ≡ true → AsksAsCalled known u outcome)
       → ShowsAsCalled same name (come_to own outcome steps m) known s
 
-module _ (K V S : Type 0) (same : K → K → Bool) (hash : K → ℕ) where
+module _ (K V : Type 0) (same : K → K → Bool) (hash : ℕ → K → ℕ) where
   -- after each step of a call, whoever's,
   abbrev pub CallsKeepAsCalled : Type 0
   CallsKeepAsCalled =
-      (name : ℕ → List ℕ) (m : Moment K V) (known : Known) (s : Scene K V) (old new : Executor K V S) → IsAt same hash old s → ShowsWhole same name m known s
+      (name : ℕ → List ℕ) (m : Moment K V) (known : Known) (s : Scene K V) (old new : Held K V) → IsAt same hash old s → ShowsWhole same name m known s
       → ShowsAsCalled same name m known s
       → (map i : ℕ) (u : UnderWay K V K) (here : s.calls map i ≡ Some u) (said : Progress (Node K V)) (leads : StepLeads same hash i said s old new)
       → (let to = leads map u here in
-      ShowsAsCalled same name (with_effects (Some (name i)) (Some map) (effects_of (acts.Call i map) known new.memory.changed) m)
-      (known_after (acts.Call i map) new.memory.changed known)
-      (scene_after same hash s old new map i to.0 u to.1 said to.4))
+      ShowsAsCalled same name (with_effects (Some (name i)) (Some map) (effects_of (acts.Call i map) known new.changed) m)
+      (known_after (acts.Call i map) new.changed known)
+      (scene_after same s old new map i to.0 u to.1 said to.4))
 
   -- and where one that asks takes what it is told.
   abbrev pub CallsTakeAsCalled : Type 0
   CallsTakeAsCalled =
-      (name : ℕ → List ℕ) (m : Moment K V) (known : Known) (s : Scene K V) (e : Executor K V S) → IsAt same hash e s → ShowsWhole same name m known s
+      (name : ℕ → List ℕ) (m : Moment K V) (known : Known) (s : Scene K V) (e : Held K V) → IsAt same hash e s → ShowsWhole same name m known s
       → ShowsAsCalled same name m known s
       → (map i : ℕ) (u : UnderWay K V K) → s.calls map i ≡ Some u → (c : CallThere K V) → call_of (name i) m ≡ Some c → (question : Option ℕ)
       → c.stands ≡ Asking question

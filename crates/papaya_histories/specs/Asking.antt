@@ -13,13 +13,13 @@ use Rattle.papaya_moments.specs.Given.Schedules.Sequential.{key_of}
 use Rattle.papaya_moments.specs.Given.Schedules.Views.{call_of, finite_map}
 use Rattle.papaya_moments.specs.Given.Callers.Together.{CallOnKey, OnKey}
 use Rattle.papaya_moments.specs.Given.Effects.Known.{Known}
-use Rattle.papaya_moments.specs.Given.Executor.IsAt.{Scene, IsAt}
-use Rattle.papaya_moments.specs.Given.Executor.Stepping.{StepLeads}
-use Rattle.papaya_moments.specs.Given.Executor.declared.executor.Executor.{Executor}
 use Rattle.papaya_moments.specs.Given.Hands.Asked.{AsksThere, ShowsAsked}
 use Rattle.papaya_histories.specs.Answers.{NamesPair}
 use Rattle.papaya_histories.specs.Due.{ShowsDue}
 use Rattle.papaya_histories.specs.Questions.{unanswered, ShowsQuestions}
+use Rattle.papaya_moments.specs.Given.Scenes.Held.{Held, IsAt}
+use Rattle.papaya_moments.specs.Given.Scenes.Scene.{Scene}
+use Rattle.papaya_moments.specs.Given.Scenes.Stepping.{StepLeads}
 
 -- what the machine asks is told as this question: about the pair of its word, or about none
 abbrev pub IsToldQuestion : Known → Option ℕ → Option ℕ → Type 0
@@ -27,11 +27,11 @@ IsToldQuestion known None None = Unit {0}
 IsToldQuestion known (Some word) (Some n) = NamesPair known word n
 IsToldQuestion known _ _ = ⊥
 
-module _ (K V S : Type 0) (same : K → K → Bool) (hash : K → ℕ) where
+module _ (K V : Type 0) (same : K → K → Bool) (hash : ℕ → K → ℕ) where
   -- The promise: what a call stands at to ask, and has not asked yet, it may ask; where no pair of its key's class has come or gone within the present event.
   abbrev pub QuestionsMayBeAsked : Type 0
   QuestionsMayBeAsked =
-      (name : ℕ → List ℕ) (log : List (Entry K V)) (m : Moment K V) (known : Known) (s : Scene K V) (e : Executor K V S) → IsAt same hash e s → ShowsDue same name log m known s → ShowsQuestions m
+      (name : ℕ → List ℕ) (log : List (Entry K V)) (m : Moment K V) (known : Known) (s : Scene K V) (e : Held K V) → IsAt same hash e s → ShowsDue same name log m known s → ShowsQuestions m
       → (map i : ℕ) (u : CallOnKey K V K) (here : s.calls map i ≡ Some (OnKey u)) (c : CallThere K V) → call_of (name i) m ≡ Some c → (one : OneKey K V) → c.call ≡ On one
       → finite_map same map m (key_of one) ≡ finite_map same map (moment log) (key_of one)
       → (question : Option ℕ) → AsksThere known u.call.stands question → unanswered c.stands ≡ [] → MayAsk same (On one) c (moments_from c.begun log) question
@@ -39,14 +39,14 @@ module _ (K V S : Type 0) (same : K → K → Bool) (hash : K → ℕ) where
   -- The promise: a step that says that its call asks has led to where it asks that, by whatever is known then,
   abbrev pub AskingStepsStandThere : Type 0
   AskingStepsStandThere =
-      (s : Scene K V) (old new : Executor K V S) (map i : ℕ) (u : CallOnKey K V K) (here : s.calls map i ≡ Some (OnKey u)) (about : Option ℕ) (leads : StepLeads same hash i (progress.Asks about) s old new)
+      (s : Scene K V) (old new : Held K V) (map i : ℕ) (u : CallOnKey K V K) (here : s.calls map i ≡ Some (OnKey u)) (about : Option ℕ) (leads : StepLeads same hash i (progress.Asks about) s old new)
       → (next : CallOnKey K V K) × ((leads map (OnKey u) here).4.next ≡ Some (OnKey next))
       × ((known : Known) (question : Option ℕ) → IsToldQuestion known about question → AsksThere known next.call.stands question)
 
   -- and a call that asks, and takes a step, says so again.
   abbrev pub AskingCallsAskStill : Type 0
   AskingCallsAskStill =
-      (name : ℕ → List ℕ) (number : ℕ → ℕ → ℕ) (m : Moment K V) (known : Known) (s : Scene K V) (old new : Executor K V S) → ShowsAsked name number m known s
+      (name : ℕ → List ℕ) (number : ℕ → ℕ → ℕ) (m : Moment K V) (known : Known) (s : Scene K V) (old new : Held K V) → ShowsAsked name number m known s
       → (map i : ℕ) (u : CallOnKey K V K) (here : s.calls map i ≡ Some (OnKey u)) (said : Progress (Node K V)) (leads : StepLeads same hash i said s old new)
       → (c : CallThere K V) → call_of (name i) m ≡ Some c → (one : OneKey K V) → c.call ≡ On one → (question : Option ℕ) → c.stands ≡ Asking question
       → (about : Option ℕ) × (said ≡ progress.Asks about) × IsToldQuestion known about question

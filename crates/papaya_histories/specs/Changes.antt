@@ -16,10 +16,10 @@ use Rattle.papaya_moments.specs.Given.Callers.Together.{CallOnKey, OnKey}
 use Rattle.papaya_moments.specs.Given.Effects.Effects.{effects_of}
 use Rattle.papaya_moments.specs.Given.Effects.Known.{Known}
 use Rattle.papaya_moments.specs.Given.Effects.declared.acting.Acting.TheVariants as acts
-use Rattle.papaya_moments.specs.Given.Executor.IsAt.{Scene, IsAt}
-use Rattle.papaya_moments.specs.Given.Executor.Stepping.{StepLeads}
-use Rattle.papaya_moments.specs.Given.Executor.declared.executor.Executor.{Executor}
 use Rattle.papaya_moments.specs.Whole.{ShowsWhole}
+use Rattle.papaya_moments.specs.Given.Scenes.Held.{Held, IsAt}
+use Rattle.papaya_moments.specs.Given.Scenes.Scene.{Scene}
+use Rattle.papaya_moments.specs.Given.Scenes.Stepping.{StepLeads}
 
 -- a call of this kind takes such a reply: `remove_if` a yes or no, and `compute` what is not
 abbrev pub IsTaken : {K V : Type 0} → OneKey K V → Reply V → Type 0
@@ -32,15 +32,15 @@ IsTaken _ _ = Unit {0}
 abbrev pub AreTaken : {K V : Type 0} → OneKey K V → List (Option ℕ × Reply V) → Type 0
 AreTaken {K} {V} one replies = (question : Option ℕ) (r : Reply V) → reply_to question replies ≡ Some r → IsTaken one r
 
-module _ (K V S : Type 0) (same : K → K → Bool) (hash : K → ℕ) where
+module _ (K V : Type 0) (same : K → K → Bool) (hash : ℕ → K → ℕ) where
   -- The promise: by a step of a call on one key its class changes once at most, by what the call means just then; if it got such replies alone as it
   -- takes, and owes no answer as long as it has changed nothing.
   abbrev pub StepsChangeOnce : Type 0
   StepsChangeOnce =
-      (name : ℕ → List ℕ) (m : Moment K V) (known : Known) (s : Scene K V) (old new : Executor K V S) → IsAt same hash old s → ShowsWhole same name m known s
+      (name : ℕ → List ℕ) (m : Moment K V) (known : Known) (s : Scene K V) (old new : Held K V) → IsAt same hash old s → ShowsWhole same name m known s
       → (map i : ℕ) (u : CallOnKey K V K) (here : s.calls map i ≡ Some (OnKey u)) (said : Progress (Node K V)) (leads : StepLeads same hash i said s old new)
       → (c : CallThere K V) → call_of (name i) m ≡ Some c → (one : OneKey K V) → c.call ≡ On one → AreTaken one c.replies → (u.change ≡ Unchanged → c.due ≡ None)
-      → ChangesOnce same one c m (flat_map shift_of (effects_of (acts.Call i map) known new.memory.changed))
+      → ChangesOnce same one c m (flat_map shift_of (effects_of (acts.Call i map) known new.changed))
 
 -- The promise: a reply of the kind that the call asks for is one that it takes.
 abbrev pub FitRepliesAreTaken : Type 0 → Type 0 → Type 0

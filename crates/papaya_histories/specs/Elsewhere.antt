@@ -18,17 +18,9 @@ use Rattle.papaya_moments.specs.Given.Callers.Together.{UnderWay, OverAll}
 use Rattle.papaya_moments.specs.Given.Effects.Effects.{effects_of, known_after}
 use Rattle.papaya_moments.specs.Given.Effects.Known.{Known}
 use Rattle.papaya_moments.specs.Given.Effects.declared.acting.Acting.TheVariants.{Row, Making, Ending}
-use Rattle.papaya_moments.specs.Given.Executor.Ending.{EndingLeads, ending_begun}
-use Rattle.papaya_moments.specs.Given.Executor.IsAt.{Scene, IsAt, slot_of, work_of}
-use Rattle.papaya_moments.specs.Given.Executor.Making.{MakingLeads}
-use Rattle.papaya_moments.specs.Given.Executor.OnSlots.{MayBegin, RowBegins, RowLeads}
-use Rattle.papaya_moments.specs.Given.Executor.Replying.{AskLeads, StopLeads, scene_with, unless_stopped}
-use Rattle.papaya_moments.specs.Given.Executor.Rows.{request_of}
-use Rattle.papaya_moments.specs.Given.Executor.declared.executor.Executor.{Executor}
-use Rattle.papaya_moments.specs.Given.Executor.declared.row.RowTold.{RowTold}
-use Rattle.papaya_moments.specs.Given.Executor.declared.row.SlotCall.{SlotCall}
-use Rattle.papaya_moments.specs.Given.Executor.declared.row.SlotRow.{SlotRow}
-use Rattle.papaya_moments.specs.Given.Executor.declared.worker.Work.TheVariants.{OnSlot}
+use Rattle.papaya_moments.specs.Given.Scenes.declared.row.RowTold.{RowTold}
+use Rattle.papaya_moments.specs.Given.Scenes.declared.row.SlotCall.{SlotCall}
+use Rattle.papaya_moments.specs.Given.Scenes.declared.row.SlotRow.{SlotRow}
 use Rattle.papaya_moments.specs.Given.Finishes.Endings.{Finishing}
 use Rattle.papaya_moments.specs.Given.Finishes.Makings.{Beginning}
 use Rattle.papaya_moments.specs.Given.Finishes.Maps.{Standing, with_call}
@@ -44,39 +36,46 @@ use Rattle.papaya_moments.specs.Whole.{ShowsWhole}
 use Rattle.papaya_histories.specs.AsCalled.{ShowsAsCalled}
 use Rattle.papaya_histories.specs.Due.{ShowsDue}
 use Rattle.papaya_histories.specs.Histories.{ShowsHistory}
+use Rattle.papaya_moments.specs.Given.Scenes.Ending.{EndingLeads, ending_begun}
+use Rattle.papaya_moments.specs.Given.Scenes.Held.{Held, IsAt}
+use Rattle.papaya_moments.specs.Given.Scenes.Making.{MakingLeads}
+use Rattle.papaya_moments.specs.Given.Scenes.OnSlots.{RowBegins, RowLeads}
+use Rattle.papaya_moments.specs.Given.Scenes.Replying.{AskLeads, StopLeads, scene_with, unless_stopped}
+use Rattle.papaya_moments.specs.Given.Scenes.Rows.{request_of}
+use Rattle.papaya_moments.specs.Given.Scenes.Scene.{IsOnSlot, Scene, slot_of}
 
-module _ {K V : Type 0} (S : Type 0) (same : K → K → Bool) (hash : K → ℕ) (name : ℕ → List ℕ) (P : Moment K V → Known → Scene K V → Type 0) where
-  -- from a moment that shows all of a scene in which an executor is, and at which it is so
-  abbrev pub From : (Moment K V → Known → Scene K V → Executor K V S → Executor K V S → Type 0) → Type 0
+module _ {K V : Type 0} (same : K → K → Bool) (hash : ℕ → K → ℕ) (name : ℕ → List ℕ) (P : Moment K V → Known → Scene K V → Type 0) where
+  -- from a moment that shows all of a scene, and at which it is so
+  abbrev pub From : (Moment K V → Known → Scene K V → Held K V → Held K V → Type 0) → Type 0
   From Then =
-      (m : Moment K V) (known : Known) (s : Scene K V) (old new : Executor K V S) → IsAt same hash old s → ShowsWhole same name m known s → P m known s
+      (m : Moment K V) (known : Known) (s : Scene K V) (old new : Held K V) → IsAt same hash old s → ShowsWhole same name m known s → P m known s
       → Then m known s old new
 
   pub record StaysElsewhere : Type 0 where
     -- It stays so where a row begins on a slot, and after a step of it: a table that it reclaims was retired.
-    pub rows_begin : From (λ m known s old new. (called : SlotCall) (i : ℕ) (may : MayBegin old (slot_of i) called)
+    pub rows_begin : From (λ m known s old new. (called : SlotCall) (i : ℕ)
         → (leads : RowBegins same hash called i s old new)
-        → P m known (scene_then same hash (Begin i (request_of (slot_of i) called)) s old new (leads may).3))
+        → P m known (scene_then same hash (Begin i (request_of (slot_of i) called)) s old new leads.2))
     pub rows : From (λ m known s old new. (i : ℕ) (told : RowTold (Node K V)) (leads : RowLeads same hash i told s old new)
-        → (row : SlotRow) (here : work_of old i ≡ Some (OnSlot row))
-        → AtEachEffect HadRetired None None (effects_of Row known new.memory.changed) m
-        → P (with_effects None None (effects_of Row known new.memory.changed) m) (known_after Row new.memory.changed known)
-        (scene_then same hash (Step i) s old new (leads row here).4))
+        → (row : SlotRow) (here : IsOnSlot s i row)
+        → AtEachEffect HadRetired None None (effects_of Row known new.changed) m
+        → P (with_effects None None (effects_of Row known new.changed) m) (known_after Row new.changed known)
+        (scene_then same hash (Step i) s old new (leads row here).2))
     -- It does where the making of a map begins, where its map comes by a number of which there is no table, and after a step of it, while its map is new.
     pub makings_begin : From (λ m known s old new. (i : ℕ) (b : Beginning K)
         → (let begun = record s { makers = with_at s.makers i (Some b) } in IsAt same hash new begun → P m known begun))
     pub maps_come : From (λ m known s old new. (there : MapThere) → tables_of there.number m ≡ [] → P (with_map there m) known s)
     pub makings : From (λ m known s old new. (i : ℕ) (told : Progress Setting) (leads : MakingLeads same hash i told s old new)
         → (b : Beginning K) (here : s.makers i ≡ Some b) (of : Option ℕ) → WasNew b.map told m
-        → P (with_effects None of (effects_of (Making b.map) known new.memory.changed) m) (known_after (Making b.map) new.memory.changed known)
+        → P (with_effects None of (effects_of (Making b.map) known new.changed) m) (known_after (Making b.map) new.changed known)
         (making_after same hash s old new i b (leads b here).0 (leads b here).2.step.w2 told (leads b here).3))
     -- It does where the end of a map begins, after a step of it, by which tables of that map end alone, and once it is over: no map that stands has its name.
     pub endings_begin : From (λ m known s old new. (map i : ℕ) (standing : Standing K) → s.maps map ≡ Some standing
         → IsAt same hash new (ending_begun map i standing s) → P m known (ending_begun map i standing s))
     pub endings : From (λ m known s old new. (i : ℕ) (told : Settled (Node K V)) (leads : EndingLeads same hash i told s old new)
         → (f : Finishing K V) (here : s.enders i ≡ Some f) (map : ℕ) → s.maps map ≡ None
-        → AtEachEffect (IsOfIts map) None (Some map) (effects_of (Ending map) known new.memory.changed) m
-        → P (with_effects None (Some map) (effects_of (Ending map) known new.memory.changed) m) (known_after (Ending map) new.memory.changed known)
+        → AtEachEffect (IsOfIts map) None (Some map) (effects_of (Ending map) known new.changed) m
+        → P (with_effects None (Some map) (effects_of (Ending map) known new.changed) m) (known_after (Ending map) new.changed known)
         (ending_after same hash s new i f (leads f here).0 (leads f here).2.w2 (leads f here).2.deed told (leads f here).3))
     pub endings_over : From (λ m known s old new. (own : List ℕ) (remains : List Remains)
         → ((map : ℕ) (standing : Standing K) (there : MapThere) → s.maps map ≡ Some standing → map_at map m ≡ Some there → is_same there.name own ≡ false)
@@ -92,36 +91,36 @@ module _ {K V : Type 0} (S : Type 0) (same : K → K → Bool) (hash : K → ℕ
     -- And it does at another moment that has the same pairs, maps, tables and calls.
     pub alike : (m m2 : Moment K V) (known : Known) (s : Scene K V) → P m known s → HasSame m m2 → P m2 known s
 
-module _ (K V S : Type 0) (same : K → K → Bool) (hash : K → ℕ) where
+module _ (K V : Type 0) (same : K → K → Bool) (hash : ℕ → K → ℕ) where
   -- The promises: so do the histories of maps,
   abbrev pub HistoriesStay : Type 0
-  HistoriesStay = (name : ℕ → List ℕ) (log : List (Entry K V)) → StaysElsewhere S same hash name (ShowsHistory same name log)
+  HistoriesStay = (name : ℕ → List ℕ) (log : List (Entry K V)) → StaysElsewhere same hash name (ShowsHistory same name log)
 
   -- what calls owe,
   abbrev pub DuesStay : Type 0
-  DuesStay = (name : ℕ → List ℕ) (log : List (Entry K V)) → StaysElsewhere S same hash name (ShowsDue same name log)
+  DuesStay = (name : ℕ → List ℕ) (log : List (Entry K V)) → StaysElsewhere same hash name (ShowsDue same name log)
 
   -- and what those on no key are called for, told and ask.
   abbrev pub AsCalledStays : Type 0
-  AsCalledStays = (name : ℕ → List ℕ) → StaysElsewhere {V = V} S same hash name (ShowsAsCalled same name)
+  AsCalledStays = (name : ℕ → List ℕ) → StaysElsewhere {V = V} same hash name (ShowsAsCalled same name)
 
   -- A walk that is ready goes on as the walk that it was,
   abbrev pub WalksGoOnThere : Type 0
   WalksGoOnThere =
-      (s : Scene K V) (old new : Executor K V S) → IsAt same hash old s → (i : ℕ) → AskLeads same hash i true s old new
+      (s : Scene K V) (old new : Held K V) → IsAt same hash old s → (i : ℕ) → AskLeads same hash i true s old new
       → (leads : AskLeads same hash i true s old new)
       × ((map : ℕ) (o : CallOverAll) (here : s.calls map i ≡ Some (OverAll o)) → (leads map (OverAll o) here).0 ≡ OverAll (gone_on o (after_next o.sweep)))
 
   -- By a step of the making of a map no pair comes or goes,
   abbrev pub MakingsShiftNone : Type 0
   MakingsShiftNone =
-      (name : ℕ → List ℕ) (m : Moment K V) (known : Known) (s : Scene K V) (old new : Executor K V S) → IsAt same hash old s → ShowsWhole same name m known s
+      (name : ℕ → List ℕ) (m : Moment K V) (known : Known) (s : Scene K V) (old new : Held K V) → IsAt same hash old s → ShowsWhole same name m known s
       → (i : ℕ) (told : Progress Setting) → MakingLeads same hash i told s old new → (b : Beginning K) → s.makers i ≡ Some b
-      → flat_map shift_of (effects_of (Making b.map) known new.memory.changed) ≡ []
+      → flat_map shift_of (effects_of (Making b.map) known new.changed) ≡ []
 
   -- nor by one of the end of a map.
   abbrev pub EndingsShiftNone : Type 0
   EndingsShiftNone =
-      (name : ℕ → List ℕ) (m : Moment K V) (known : Known) (s : Scene K V) (old new : Executor K V S) → IsAt same hash old s → ShowsWhole same name m known s
+      (name : ℕ → List ℕ) (m : Moment K V) (known : Known) (s : Scene K V) (old new : Held K V) → IsAt same hash old s → ShowsWhole same name m known s
       → (i : ℕ) (told : Settled (Node K V)) → EndingLeads same hash i told s old new → (f : Finishing K V) → s.enders i ≡ Some f → (map : ℕ) → s.maps map ≡ None
-      → flat_map shift_of (effects_of (Ending map) known new.memory.changed) ≡ []
+      → flat_map shift_of (effects_of (Ending map) known new.changed) ≡ []

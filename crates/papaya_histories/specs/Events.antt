@@ -19,15 +19,15 @@ use Rattle.papaya_moments.specs.Given.Callers.Together.{CallOnKey, OnKey}
 use Rattle.papaya_moments.specs.Given.Effects.Effects.{effects_of, known_after}
 use Rattle.papaya_moments.specs.Given.Effects.Known.{Known}
 use Rattle.papaya_moments.specs.Given.Effects.declared.acting.Acting.TheVariants as acts
-use Rattle.papaya_moments.specs.Given.Executor.IsAt.{Scene, IsAt}
-use Rattle.papaya_moments.specs.Given.Executor.Stepping.{StepLeads}
-use Rattle.papaya_moments.specs.Given.Executor.declared.executor.Executor.{Executor}
 use Rattle.papaya_moments.specs.Whole.{ShowsWhole}
 use Rattle.papaya_histories.specs.Answers.{IsToldAs, IsToldDone}
 use Rattle.papaya_histories.specs.Asking.{IsToldQuestion}
 use Rattle.papaya_histories.specs.Due.{ShowsDue}
 use Rattle.papaya_histories.specs.Kept.{HasJustBegun}
 use Rattle.papaya_histories.specs.Questions.{ShowsQuestions}
+use Rattle.papaya_moments.specs.Given.Scenes.Held.{Held, IsAt}
+use Rattle.papaya_moments.specs.Given.Scenes.Scene.{Scene}
+use Rattle.papaya_moments.specs.Given.Scenes.Stepping.{StepLeads}
 
 -- What such a step comes to: it goes on or waits, asks, is refused, or has answered; and what is asked or answered is told by numbers of pairs.
 abbrev pub ComesToIt : {K V : Type 0} → Known → OneKey K V → List (Option ℕ × Reply V) → Progress (Node K V) → Outcome V → Type 0
@@ -40,16 +40,16 @@ ComesToIt known one replies (progress.Unstored value) outcome.Goes = Unit {0}
 ComesToIt known one replies (progress.Refused fault) (outcome.Refused other) = other ≡ fault
 ComesToIt known one replies _ _ = ⊥
 
-module _ (K V S : Type 0) (same : K → K → Bool) (hash : K → ℕ) where
+module _ (K V : Type 0) (same : K → K → Bool) (hash : ℕ → K → ℕ) where
   -- The promise: an event whose effects are those of one step of a call on one key, since it has begun what it begins, and which comes to what that step came to,
   -- changes maps, answers and asks as one finite map says.
   abbrev pub StepsAreLinearizable : Type 0
   StepsAreLinearizable =
       (name : ℕ → List ℕ) (log : List (Entry K V)) (beginning : Moment K V) → HasJustBegun log beginning
-      → (known : Known) (s : Scene K V) (old new : Executor K V S) → IsAt same hash old s
+      → (known : Known) (s : Scene K V) (old new : Held K V) → IsAt same hash old s
       → ShowsWhole same name beginning known s → ShowsDue same name log beginning known s → ShowsQuestions beginning
       → (map i : ℕ) (u : CallOnKey K V K) (here : s.calls map i ≡ Some (OnKey u)) (said : Progress (Node K V)) (leads : StepLeads same hash i said s old new)
       → (c : CallThere K V) → call_of (name i) beginning ≡ Some c → (one : OneKey K V) → c.call ≡ On one
       → (e : Entry K V) → caller_of e.event ≡ Some (name i) → at_work e (moment log) ≡ beginning → acted_on e.event beginning ≡ Some map
-      → e.effects ≡ effects_of (acts.Call i map) known new.memory.changed → ComesToIt (known_after (acts.Call i map) new.memory.changed known) one c.replies said e.outcome
+      → e.effects ≡ effects_of (acts.Call i map) known new.changed → ComesToIt (known_after (acts.Call i map) new.changed known) one c.replies said e.outcome
       → IsLinearizable same log e

@@ -20,7 +20,7 @@ pub use Rattle.papaya_moments.specs.Given.Finishes
 pub use Rattle.papaya_moments.specs.Given.Runs
 pub use Rattle.papaya_moments.specs.Given.Schedules
 pub use Rattle.papaya_moments.specs.Given.Effects
-pub use Rattle.papaya_moments.specs.Given.Executor
+pub use Rattle.papaya_moments.specs.Given.Scenes
 pub use Rattle.papaya_moments.specs.Given.Follows
 pub use Rattle.papaya_moments.specs.Given.Hands
 pub use Rattle.papaya_moments.specs.Given.Others

@@ -7,11 +7,11 @@ use Rattle.papaya_moments.specs.Given.Schedules.Moment.{UnderWay as CallThere, M
 use Rattle.papaya_moments.specs.Given.Schedules.Views.{call_of, finite_map}
 use Rattle.papaya_moments.specs.Given.Callers.Together.{UnderWay, OnKey, ForRoom, Counting, OverAll}
 use Rattle.papaya_moments.specs.Given.Effects.Known.{Known}
-use Rattle.papaya_moments.specs.Given.Executor.IsAt.{Scene}
 use Rattle.papaya_moments.specs.Given.Finishes.Maps.{Standing}
 use Rattle.papaya_moments.specs.Given.Follows.Shows.{Shows}
 use Rattle.papaya_moments.specs.Given.Hands.Asked.{ShowsAsked}
 use Rattle.papaya_histories.specs.Had.{HadThen}
+use Rattle.papaya_moments.specs.Given.Scenes.Scene.{Scene}
 
 module _ {K V : Type 0} where
   -- the moment of its map at which a call began, if it looks at pairs or makes room for them; a counting looks at shards alone

@@ -22,10 +22,6 @@ use Rattle.papaya_moments.specs.Given.Callers.Together.{CallOnKey, UnderWay, OnK
 use Rattle.papaya_moments.specs.Given.Effects.Effects.{effects_of, known_after}
 use Rattle.papaya_moments.specs.Given.Effects.Known.{Known}
 use Rattle.papaya_moments.specs.Given.Effects.declared.acting.Acting.TheVariants as acts
-use Rattle.papaya_moments.specs.Given.Executor.IsAt.{Scene, IsAt}
-use Rattle.papaya_moments.specs.Given.Executor.Replying.{scene_with}
-use Rattle.papaya_moments.specs.Given.Executor.Stepping.{StepLeads, has_ended, scene_after}
-use Rattle.papaya_moments.specs.Given.Executor.declared.executor.Executor.{Executor}
 use Rattle.papaya_moments.specs.Given.Finishes.Maps.{Standing}
 use Rattle.papaya_moments.specs.Given.Follows.Calling.{NoneNamed}
 use Rattle.papaya_moments.specs.Given.Follows.Calls.{IsCalled}
@@ -39,6 +35,10 @@ use Rattle.papaya_histories.specs.Kept.{HasJustBegun}
 use Rattle.papaya_histories.specs.OtherMidsts.{AsksAsSaid, InOtherMidst}
 use Rattle.papaya_histories.specs.Questions.{ShowsQuestions, EventAsksStill}
 use Rattle.papaya_histories.specs.Several.{InMidst}
+use Rattle.papaya_moments.specs.Given.Scenes.Held.{Held, IsAt}
+use Rattle.papaya_moments.specs.Given.Scenes.Replying.{scene_with}
+use Rattle.papaya_moments.specs.Given.Scenes.Scene.{Scene}
+use Rattle.papaya_moments.specs.Given.Scenes.Stepping.{StepLeads, has_ended, scene_after}
 
 -- what such a step comes to, told by numbers of pairs: of a call on one key all, and of any other one what it asks
 abbrev pub ComesSo : {K V : Type 0} → Known → Call K V → List (Option ℕ × Reply V) → Progress (Node K V) → Outcome V → Type 0
@@ -58,12 +58,12 @@ module _ {K V : Type 0} (same : K → K → Bool) (name : ℕ → List ℕ) (log
   here_of done m known s (OnKey u) midst = midst.2.here
   here_of done m known s u midst = midst.here
 
-module _ (K V S : Type 0) (same : K → K → Bool) (hash : K → ℕ) where
+module _ (K V : Type 0) (same : K → K → Bool) (hash : ℕ → K → ℕ) where
   -- The promises: so it is at the beginning of an event,
   abbrev pub EventsBegin : Type 0
   EventsBegin =
       (name : ℕ → List ℕ) (log : List (Entry K V)) (beginning : Moment K V) → HasJustBegun log beginning
-      → (known : Known) (s : Scene K V) (e : Executor K V S) → IsAt same hash e s
+      → (known : Known) (s : Scene K V) (e : Held K V) → IsAt same hash e s
       → ShowsWhole same name beginning known s → ShowsDue same name log beginning known s → ShowsAsCalled same name beginning known s
       → (map i : ℕ) (u : UnderWay K V K) → s.calls map i ≡ Some u → (c : CallThere K V) → call_of (name i) beginning ≡ Some c
       → InEvent same name log beginning map i c [] beginning known s u
@@ -71,13 +71,13 @@ module _ (K V S : Type 0) (same : K → K → Bool) (hash : K → ℕ) where
   -- which may begin the call, too, as it does at this moment of its map, by a name that no call under way has,
   abbrev pub EventsBeginCalls : Type 0
   EventsBeginCalls =
-      (name : ℕ → List ℕ) (log : List (Entry K V)) (known : Known) (s : Scene K V) (old : Executor K V S) → IsAt same hash old s
+      (name : ℕ → List ℕ) (log : List (Entry K V)) (known : Known) (s : Scene K V) (old : Held K V) → IsAt same hash old s
       → ShowsWhole same name (moment log) known s → ShowsDue same name log (moment log) known s → ShowsAsCalled same name (moment log) known s
       → (map i : ℕ) (u : UnderWay K V K) (call : Call K V) (guard : List ℕ) (standing : Standing K) → s.maps map ≡ Some standing
       → ((began : ℕ) → began_of u ≡ Some began → began ≡ standing.chart.now)
       → ((v : CallOnKey K V K) → u ≡ OnKey v → v.change ≡ Unchanged) → NoneNamed name (name i) s → IsCalled same u call → IsBegunFor u call → IsBegunAs u call
       → s.world.row i ≡ Rests
-      → (new : Executor K V S) → IsAt same hash new (scene_with map i u s)
+      → (new : Held K V) → IsAt same hash new (scene_with map i u s)
       → (let beginning = with_call (name i) guard call (Some map) (moment log) in
       let c = fresh_call (name i) guard call map (moment log).events in
       (call_of (name i) beginning ≡ Some c) × InEvent same name log beginning map i c [] beginning known (scene_with map i u s) u)
@@ -88,13 +88,13 @@ module _ (K V S : Type 0) (same : K → K → Bool) (hash : K → ℕ) where
       (name : ℕ → List ℕ) (log : List (Entry K V)) (beginning : Moment K V) (map i : ℕ) (c : CallThere K V)
       → (done : List Effect) (m : Moment K V) (known : Known) (s : Scene K V) (u : UnderWay K V K)
       → (midst : InEvent same name log beginning map i c done m known s u)
-      → (old new : Executor K V S) → IsAt same hash old s → (said : Progress (Node K V)) (leads : StepLeads same hash i said s old new)
+      → (old new : Held K V) → IsAt same hash old s → (said : Progress (Node K V)) (leads : StepLeads same hash i said s old new)
       → (let to = leads map u (here_of same name log beginning map i c done m known s u midst) in
       (next : UnderWay K V K) → to.4.next ≡ Some next
-      → InEvent same name log beginning map i c (done ++ effects_of (acts.Call i map) known new.memory.changed)
-      (with_effects (Some (name i)) (Some map) (effects_of (acts.Call i map) known new.memory.changed) m)
-      (known_after (acts.Call i map) new.memory.changed known)
-      (scene_after same hash s old new map i to.0 u to.1 said to.4) next)
+      → InEvent same name log beginning map i c (done ++ effects_of (acts.Call i map) known new.changed)
+      (with_effects (Some (name i)) (Some map) (effects_of (acts.Call i map) known new.changed) m)
+      (known_after (acts.Call i map) new.changed known)
+      (scene_after same s old new map i to.0 u to.1 said to.4) next)
 
   -- after the last one, too, the moment shows all of the scene, what calls owe, and what those on no key are called for, told and ask;
   abbrev pub EventsKeepAll : Type 0
@@ -102,11 +102,11 @@ module _ (K V S : Type 0) (same : K → K → Bool) (hash : K → ℕ) where
       (name : ℕ → List ℕ) (log : List (Entry K V)) (beginning : Moment K V) (map i : ℕ) (c : CallThere K V)
       → (done : List Effect) (m : Moment K V) (known : Known) (s : Scene K V) (u : UnderWay K V K)
       → (midst : InEvent same name log beginning map i c done m known s u)
-      → (old new : Executor K V S) → IsAt same hash old s → (said : Progress (Node K V)) (leads : StepLeads same hash i said s old new)
+      → (old new : Held K V) → IsAt same hash old s → (said : Progress (Node K V)) (leads : StepLeads same hash i said s old new)
       → (let to = leads map u (here_of same name log beginning map i c done m known s u midst) in
-      let m2 = with_effects (Some (name i)) (Some map) (effects_of (acts.Call i map) known new.memory.changed) m in
-      let known2 = known_after (acts.Call i map) new.memory.changed known in
-      let s2 = scene_after same hash s old new map i to.0 u to.1 said to.4 in
+      let m2 = with_effects (Some (name i)) (Some map) (effects_of (acts.Call i map) known new.changed) m in
+      let known2 = known_after (acts.Call i map) new.changed known in
+      let s2 = scene_after same s old new map i to.0 u to.1 said to.4 in
       ShowsWhole same name m2 known2 s2 × ShowsDue same name log m2 known2 s2 × ShowsAsCalled same name m2 known2 s2)
 
   -- what that step says has words;
@@ -114,8 +114,8 @@ module _ (K V S : Type 0) (same : K → K → Bool) (hash : K → ℕ) where
   EventsHaveWords =
       (name : ℕ → List ℕ) (log : List (Entry K V)) (beginning : Moment K V) (map i : ℕ) (c : CallThere K V)
       → (done : List Effect) (m : Moment K V) (known : Known) (s : Scene K V) (u : UnderWay K V K) → InEvent same name log beginning map i c done m known s u
-      → (old new : Executor K V S) → IsAt same hash old s → (said : Progress (Node K V)) → StepLeads same hash i said s old new
-      → (outcome : Outcome V) × ComesSo (known_after (acts.Call i map) new.memory.changed known) c.call c.replies said outcome
+      → (old new : Held K V) → IsAt same hash old s → (said : Progress (Node K V)) → StepLeads same hash i said s old new
+      → (outcome : Outcome V) × ComesSo (known_after (acts.Call i map) new.changed known) c.call c.replies said outcome
 
   -- and the event that comes to that changes maps, answers and asks as one finite map says, and by it a call that asks does not go on by itself.
   abbrev pub EventsEnd : Type 0
@@ -123,10 +123,10 @@ module _ (K V S : Type 0) (same : K → K → Bool) (hash : K → ℕ) where
       (name : ℕ → List ℕ) (log : List (Entry K V)) (beginning : Moment K V) (map i : ℕ) (c : CallThere K V) → call_of (name i) beginning ≡ Some c
       → ShowsQuestions beginning
       → (done : List Effect) (m : Moment K V) (known : Known) (s : Scene K V) (u : UnderWay K V K) → InEvent same name log beginning map i c done m known s u
-      → (old new : Executor K V S) → IsAt same hash old s → (said : Progress (Node K V)) → StepLeads same hash i said s old new
+      → (old new : Held K V) → IsAt same hash old s → (said : Progress (Node K V)) → StepLeads same hash i said s old new
       → (e : Entry K V) → caller_of e.event ≡ Some (name i) → at_work e (moment log) ≡ beginning → acted_on e.event beginning ≡ Some map
-      → e.effects ≡ done ++ effects_of (acts.Call i map) known new.memory.changed
-      → ComesSo (known_after (acts.Call i map) new.memory.changed known) c.call c.replies said e.outcome
+      → e.effects ≡ done ++ effects_of (acts.Call i map) known new.changed
+      → ComesSo (known_after (acts.Call i map) new.changed known) c.call c.replies said e.outcome
       → IsLinearizable same log e × EventAsksStill log e
 
   -- A call that is under way after such a step asks there just what that comes to, if it asks.
@@ -135,9 +135,9 @@ module _ (K V S : Type 0) (same : K → K → Bool) (hash : K → ℕ) where
       (name : ℕ → List ℕ) (log : List (Entry K V)) (beginning : Moment K V) (map i : ℕ) (c : CallThere K V)
       → (done : List Effect) (m : Moment K V) (known : Known) (s : Scene K V) (u : UnderWay K V K)
       → (midst : InEvent same name log beginning map i c done m known s u)
-      → (old new : Executor K V S) → IsAt same hash old s → (said : Progress (Node K V)) (leads : StepLeads same hash i said s old new)
+      → (old new : Held K V) → IsAt same hash old s → (said : Progress (Node K V)) (leads : StepLeads same hash i said s old new)
       → (let to = leads map u (here_of same name log beginning map i c done m known s u midst) in
-      let known2 = known_after (acts.Call i map) new.memory.changed known in
+      let known2 = known_after (acts.Call i map) new.changed known in
       (outcome : Outcome V) → ComesSo known2 c.call c.replies said outcome
       → (next : UnderWay K V K) → to.4.next ≡ Some next → AsksJust known2 next outcome × AsksAsCalled known2 next outcome)
 
@@ -148,13 +148,13 @@ module _ (K V S : Type 0) (same : K → K → Bool) (hash : K → ℕ) where
       (name : ℕ → List ℕ) (log : List (Entry K V)) (beginning : Moment K V) (map i : ℕ) (c : CallThere K V)
       → (done : List Effect) (m : Moment K V) (known : Known) (s : Scene K V) (u : UnderWay K V K)
       → (midst : InEvent same name log beginning map i c done m known s u)
-      → (old new : Executor K V S) → IsAt same hash old s → (said : Progress (Node K V)) (leads : StepLeads same hash i said s old new)
+      → (old new : Held K V) → IsAt same hash old s → (said : Progress (Node K V)) (leads : StepLeads same hash i said s old new)
       → (e : Entry K V) → caller_of e.event ≡ Some (name i) → at_work e (moment log) ≡ beginning → acted_on e.event beginning ≡ Some map
-      → e.effects ≡ done ++ effects_of (acts.Call i map) known new.memory.changed
-      → ComesSo (known_after (acts.Call i map) new.memory.changed known) c.call c.replies said e.outcome → ends_call e.outcome ≡ has_ended said
+      → e.effects ≡ done ++ effects_of (acts.Call i map) known new.changed
+      → ComesSo (known_after (acts.Call i map) new.changed known) c.call c.replies said e.outcome → ends_call e.outcome ≡ has_ended said
       → (let to = leads map u (here_of same name log beginning map i c done m known s u midst) in
-      let known2 = known_after (acts.Call i map) new.memory.changed known in
-      let s2 = scene_after same hash s old new map i to.0 u to.1 said to.4 in
+      let known2 = known_after (acts.Call i map) new.changed known in
+      let s2 = scene_after same s old new map i to.0 u to.1 said to.4 in
       ShowsWhole same name (moment (e ∷ log)) known2 s2 × ShowsDue same name (e ∷ log) (moment (e ∷ log)) known2 s2
       × ShowsAsCalled same name (moment (e ∷ log)) known2 s2)
 

@@ -19,11 +19,11 @@ use Rattle.papaya_moments.specs.Given.Callers.Together.{UnderWay}
 use Rattle.papaya_moments.specs.Given.Effects.Effects.{effects_of}
 use Rattle.papaya_moments.specs.Given.Effects.Known.{Known}
 use Rattle.papaya_moments.specs.Given.Effects.declared.acting.Acting.TheVariants as acts
-use Rattle.papaya_moments.specs.Given.Executor.IsAt.{Scene, IsAt}
-use Rattle.papaya_moments.specs.Given.Executor.Stepping.{StepLeads}
-use Rattle.papaya_moments.specs.Given.Executor.declared.executor.Executor.{Executor}
 use Rattle.papaya_moments.specs.Whole.{ShowsWhole}
 use Rattle.papaya_histories.specs.AsCalled.{ShowsAsCalled}
+use Rattle.papaya_moments.specs.Given.Scenes.Held.{Held, IsAt}
+use Rattle.papaya_moments.specs.Given.Scenes.Scene.{Scene}
+use Rattle.papaya_moments.specs.Given.Scenes.Stepping.{StepLeads}
 
 -- it is a reservation, a counting, a clearing, a retaining or a walk
 abbrev pub IsOnNoKey : {K V : Type 0} → Call K V → Type 0
@@ -38,15 +38,15 @@ IsIdle (Refused fault) = ⊥
 IsIdle (Asks question) = ⊥
 IsIdle _ = Unit {0}
 
-module _ (K V S : Type 0) (same : K → K → Bool) (hash : K → ℕ) where
+module _ (K V : Type 0) (same : K → K → Bool) (hash : ℕ → K → ℕ) where
   -- The promises: a step of such a call changes no pair, but one of a clearing may remove one, and one of a retaining one about which the last reply was no.
   abbrev pub OthersRemoveOnly : Type 0
   OthersRemoveOnly =
-      (name : ℕ → List ℕ) (m : Moment K V) (known : Known) (s : Scene K V) (old new : Executor K V S) → IsAt same hash old s → ShowsWhole same name m known s
+      (name : ℕ → List ℕ) (m : Moment K V) (known : Known) (s : Scene K V) (old new : Held K V) → IsAt same hash old s → ShowsWhole same name m known s
       → ShowsAsCalled same name m known s
       → (map i : ℕ) (u : UnderWay K V K) (here : s.calls map i ≡ Some u) (said : Progress (Node K V)) (leads : StepLeads same hash i said s old new)
       → (c : CallThere K V) → call_of (name i) m ≡ Some c → IsOnNoKey c.call
-      → RemovesOnly same c.call c (flat_map shift_of (effects_of (acts.Call i map) known new.memory.changed))
+      → RemovesOnly same c.call c (flat_map shift_of (effects_of (acts.Call i map) known new.changed))
 
 module _ (K V : Type 0) (same : K → K → Bool) where
   -- So do several steps,

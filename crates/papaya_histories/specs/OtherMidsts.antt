@@ -19,10 +19,6 @@ use Rattle.papaya_moments.specs.Given.Callers.Together.{UnderWay}
 use Rattle.papaya_moments.specs.Given.Effects.Effects.{effects_of, known_after}
 use Rattle.papaya_moments.specs.Given.Effects.Known.{Known}
 use Rattle.papaya_moments.specs.Given.Effects.declared.acting.Acting.TheVariants as acts
-use Rattle.papaya_moments.specs.Given.Executor.IsAt.{Scene, IsAt}
-use Rattle.papaya_moments.specs.Given.Executor.Replying.{scene_with}
-use Rattle.papaya_moments.specs.Given.Executor.Stepping.{StepLeads, scene_after}
-use Rattle.papaya_moments.specs.Given.Executor.declared.executor.Executor.{Executor}
 use Rattle.papaya_moments.specs.Given.Finishes.Maps.{Standing}
 use Rattle.papaya_moments.specs.Given.Follows.Calling.{NoneNamed}
 use Rattle.papaya_moments.specs.Given.Follows.Calls.{IsCalled}
@@ -35,6 +31,10 @@ use Rattle.papaya_histories.specs.Kept.{HasJustBegun}
 use Rattle.papaya_histories.specs.OtherCalls.{IsOnNoKey}
 use Rattle.papaya_histories.specs.Questions.{EventAsksStill}
 use Rattle.papaya_histories.specs.Several.{IsSameCall}
+use Rattle.papaya_moments.specs.Given.Scenes.Held.{Held, IsAt}
+use Rattle.papaya_moments.specs.Given.Scenes.Replying.{scene_with}
+use Rattle.papaya_moments.specs.Given.Scenes.Scene.{Scene}
+use Rattle.papaya_moments.specs.Given.Scenes.Stepping.{StepLeads, scene_after}
 
 -- What a step says that its call asks the event asks, by the number of the pair; and it asks nothing else.
 abbrev pub AsksAsSaid : {K V : Type 0} → Known → Progress (Node K V) → Outcome V → Type 0
@@ -70,11 +70,11 @@ module _ (K V : Type 0) (same : K → K → Bool) where
       → (map i : ℕ) (u : UnderWay K V K) → s.calls map i ≡ Some u → (c : CallThere K V) → call_of (name i) beginning ≡ Some c → IsOnNoKey c.call
       → InOtherMidst same name log beginning map i c [] beginning known s u
 
-module _ (K V S : Type 0) (same : K → K → Bool) (hash : K → ℕ) where
+module _ (K V : Type 0) (same : K → K → Bool) (hash : ℕ → K → ℕ) where
   -- which may begin the call, too, as it does at this moment of its map, by a name that no call under way has,
   abbrev pub OtherMidstsBeginCalls : Type 0
   OtherMidstsBeginCalls =
-      (name : ℕ → List ℕ) (log : List (Entry K V)) (known : Known) (s : Scene K V) (old : Executor K V S) → IsAt same hash old s
+      (name : ℕ → List ℕ) (log : List (Entry K V)) (known : Known) (s : Scene K V) (old : Held K V) → IsAt same hash old s
       → ShowsWhole same name (moment log) known s → ShowsDue same name log (moment log) known s → ShowsAsCalled same name (moment log) known s
       → (map i : ℕ) (u : UnderWay K V K) (call : Call K V) (guard : List ℕ) (standing : Standing K) → s.maps map ≡ Some standing
       → ((began : ℕ) → began_of u ≡ Some began → began ≡ standing.chart.now)
@@ -89,13 +89,13 @@ module _ (K V S : Type 0) (same : K → K → Bool) (hash : K → ℕ) where
       (name : ℕ → List ℕ) (log : List (Entry K V)) (beginning : Moment K V) (map i : ℕ) (c : CallThere K V)
       → (done : List Effect) (m : Moment K V) (known : Known) (s : Scene K V) (u : UnderWay K V K)
       → (midst : InOtherMidst same name log beginning map i c done m known s u)
-      → (old new : Executor K V S) → IsAt same hash old s → (said : Progress (Node K V)) (leads : StepLeads same hash i said s old new)
+      → (old new : Held K V) → IsAt same hash old s → (said : Progress (Node K V)) (leads : StepLeads same hash i said s old new)
       → (let to = leads map u midst.here in
       (next : UnderWay K V K) → to.4.next ≡ Some next
-      → InOtherMidst same name log beginning map i c (done ++ effects_of (acts.Call i map) known new.memory.changed)
-      (with_effects (Some (name i)) (Some map) (effects_of (acts.Call i map) known new.memory.changed) m)
-      (known_after (acts.Call i map) new.memory.changed known)
-      (scene_after same hash s old new map i to.0 u to.1 said to.4) next)
+      → InOtherMidst same name log beginning map i c (done ++ effects_of (acts.Call i map) known new.changed)
+      (with_effects (Some (name i)) (Some map) (effects_of (acts.Call i map) known new.changed) m)
+      (known_after (acts.Call i map) new.changed known)
+      (scene_after same s old new map i to.0 u to.1 said to.4) next)
 
   -- after the last one what calls owe is shown, and the history of each map is within the run,
   abbrev pub OtherMidstsKeepDue : Type 0
@@ -103,11 +103,11 @@ module _ (K V S : Type 0) (same : K → K → Bool) (hash : K → ℕ) where
       (name : ℕ → List ℕ) (log : List (Entry K V)) (beginning : Moment K V) (map i : ℕ) (c : CallThere K V)
       → (done : List Effect) (m : Moment K V) (known : Known) (s : Scene K V) (u : UnderWay K V K)
       → (midst : InOtherMidst same name log beginning map i c done m known s u)
-      → (old new : Executor K V S) → IsAt same hash old s → (said : Progress (Node K V)) (leads : StepLeads same hash i said s old new)
+      → (old new : Held K V) → IsAt same hash old s → (said : Progress (Node K V)) (leads : StepLeads same hash i said s old new)
       → (let to = leads map u midst.here in
-      ShowsDue same name log (with_effects (Some (name i)) (Some map) (effects_of (acts.Call i map) known new.memory.changed) m)
-      (known_after (acts.Call i map) new.memory.changed known)
-      (scene_after same hash s old new map i to.0 u to.1 said to.4))
+      ShowsDue same name log (with_effects (Some (name i)) (Some map) (effects_of (acts.Call i map) known new.changed) m)
+      (known_after (acts.Call i map) new.changed known)
+      (scene_after same s old new map i to.0 u to.1 said to.4))
 
   -- and an event that asks what the last of its steps says is linearizable;
   abbrev pub OtherMidstsEnd : Type 0
@@ -115,10 +115,10 @@ module _ (K V S : Type 0) (same : K → K → Bool) (hash : K → ℕ) where
       (name : ℕ → List ℕ) (log : List (Entry K V)) (beginning : Moment K V) (map i : ℕ) (c : CallThere K V) → call_of (name i) beginning ≡ Some c
       → (done : List Effect) (m : Moment K V) (known : Known) (s : Scene K V) (u : UnderWay K V K)
       → (midst : InOtherMidst same name log beginning map i c done m known s u)
-      → (old new : Executor K V S) → IsAt same hash old s → (said : Progress (Node K V)) (leads : StepLeads same hash i said s old new)
+      → (old new : Held K V) → IsAt same hash old s → (said : Progress (Node K V)) (leads : StepLeads same hash i said s old new)
       → (e : Entry K V) → caller_of e.event ≡ Some (name i) → at_work e (moment log) ≡ beginning → acted_on e.event beginning ≡ Some map
-      → e.effects ≡ done ++ effects_of (acts.Call i map) known new.memory.changed
-      → AsksAsSaid (known_after (acts.Call i map) new.memory.changed known) said e.outcome → IsLinearizable same log e
+      → e.effects ≡ done ++ effects_of (acts.Call i map) known new.changed
+      → AsksAsSaid (known_after (acts.Call i map) new.changed known) said e.outcome → IsLinearizable same log e
 
   -- by it a call that asks does not go on by itself.
   abbrev pub OtherMidstsAskStill : Type 0
@@ -126,7 +126,7 @@ module _ (K V S : Type 0) (same : K → K → Bool) (hash : K → ℕ) where
       (name : ℕ → List ℕ) (log : List (Entry K V)) (beginning : Moment K V) (map i : ℕ) (c : CallThere K V) → call_of (name i) beginning ≡ Some c
       → (done : List Effect) (m : Moment K V) (known : Known) (s : Scene K V) (u : UnderWay K V K)
       → (midst : InOtherMidst same name log beginning map i c done m known s u)
-      → (old new : Executor K V S) → IsAt same hash old s → (said : Progress (Node K V)) (leads : StepLeads same hash i said s old new)
+      → (old new : Held K V) → IsAt same hash old s → (said : Progress (Node K V)) (leads : StepLeads same hash i said s old new)
       → (e : Entry K V) → caller_of e.event ≡ Some (name i) → at_work e (moment log) ≡ beginning → acted_on e.event beginning ≡ Some map
-      → e.effects ≡ done ++ effects_of (acts.Call i map) known new.memory.changed
-      → AsksAsSaid (known_after (acts.Call i map) new.memory.changed known) said e.outcome → EventAsksStill log e
+      → e.effects ≡ done ++ effects_of (acts.Call i map) known new.changed
+      → AsksAsSaid (known_after (acts.Call i map) new.changed known) said e.outcome → EventAsksStill log e

@@ -10,17 +10,17 @@ use Rattle.papaya_moments.specs.Given.Schedules.Views.{call_of, finite_map}
 use Rattle.papaya_moments.specs.Given.Callers.OverAll.{CallOverAll}
 use Rattle.papaya_moments.specs.Given.Callers.Together.{OverAll}
 use Rattle.papaya_moments.specs.Given.Effects.Known.{Known}
-use Rattle.papaya_moments.specs.Given.Executor.IsAt.{Scene, IsAt}
-use Rattle.papaya_moments.specs.Given.Executor.declared.executor.Executor.{Executor}
 use Rattle.papaya_histories.specs.Answers.{NamesPair}
 use Rattle.papaya_histories.specs.Histories.{ShowsHistory}
+use Rattle.papaya_moments.specs.Given.Scenes.Held.{Held, IsAt}
+use Rattle.papaya_moments.specs.Given.Scenes.Scene.{Scene}
 
-module _ (K V S : Type 0) (same : K → K → Bool) (hash : K → ℕ) where
+module _ (K V : Type 0) (same : K → K → Bool) (hash : ℕ → K → ℕ) where
   -- The promise: about the pair of the word at which it stands to ask, a retaining may ask; where each class has what it had at the end of the last event, or nothing any
   -- more.
   abbrev pub RetainingsMayAsk : Type 0
   RetainingsMayAsk =
-      (name : ℕ → List ℕ) (log : List (Entry K V)) (m : Moment K V) (known : Known) (s : Scene K V) (e : Executor K V S) → IsAt same hash e s → ShowsHistory same name log m known s
+      (name : ℕ → List ℕ) (log : List (Entry K V)) (m : Moment K V) (known : Known) (s : Scene K V) (e : Held K V) → IsAt same hash e s → ShowsHistory same name log m known s
       → (map i : ℕ) (o : CallOverAll) → s.calls map i ≡ Some (OverAll o) → (c : CallThere K V) → call_of (name i) m ≡ Some c
       → ((k : K) → (finite_map same map m k ≡ finite_map same map (moment log) k) ⊎ (finite_map same map m k ≡ None))
       → (word q : ℕ) → o.sweep.stands ≡ at.Asks word → NamesPair known word q → MayAsk same Retain c (moments_from c.begun log) (Some q)

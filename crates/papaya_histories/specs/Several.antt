@@ -18,10 +18,6 @@ use Rattle.papaya_moments.specs.Given.Callers.Together.{CallOnKey, OnKey}
 use Rattle.papaya_moments.specs.Given.Effects.Effects.{effects_of, known_after}
 use Rattle.papaya_moments.specs.Given.Effects.Known.{Known}
 use Rattle.papaya_moments.specs.Given.Effects.declared.acting.Acting.TheVariants as acts
-use Rattle.papaya_moments.specs.Given.Executor.IsAt.{Scene, IsAt}
-use Rattle.papaya_moments.specs.Given.Executor.Replying.{scene_with}
-use Rattle.papaya_moments.specs.Given.Executor.Stepping.{StepLeads, scene_after}
-use Rattle.papaya_moments.specs.Given.Executor.declared.executor.Executor.{Executor}
 use Rattle.papaya_moments.specs.Given.Finishes.Maps.{Standing}
 use Rattle.papaya_moments.specs.Given.Follows.Calling.{NoneNamed}
 use Rattle.papaya_moments.specs.Given.Follows.Calls.{IsCalled}
@@ -31,6 +27,10 @@ use Rattle.papaya_histories.specs.Due.{ShowsDue}
 use Rattle.papaya_histories.specs.Events.{ComesToIt}
 use Rattle.papaya_histories.specs.Kept.{HasJustBegun}
 use Rattle.papaya_histories.specs.Questions.{ShowsQuestions, EventAsksStill}
+use Rattle.papaya_moments.specs.Given.Scenes.Held.{Held, IsAt}
+use Rattle.papaya_moments.specs.Given.Scenes.Replying.{scene_with}
+use Rattle.papaya_moments.specs.Given.Scenes.Scene.{Scene}
+use Rattle.papaya_moments.specs.Given.Scenes.Stepping.{StepLeads, scene_after}
 
 -- the call is the same one, with the replies that it had
 pub record IsSameCall {K V : Type 0} (c d : CallThere K V) : Type 0 where
@@ -55,23 +55,23 @@ pub record InMidst {K V : Type 0} (same : K → K → Bool) (name : ℕ → List
   pub untouched : u.change ≡ Unchanged
       → (flat_map shift_of done ≡ []) × ((k : K) → finite_map same map m k ≡ finite_map same map beginning k) × (length m.stored ≡ length beginning.stored) × (c.due ≡ None)
 
-module _ (K V S : Type 0) (same : K → K → Bool) (hash : K → ℕ) where
+module _ (K V : Type 0) (same : K → K → Bool) (hash : ℕ → K → ℕ) where
   -- The promises: so it is at the beginning of an event, which may begin the call, too,
   abbrev pub MidstsBegin : Type 0
   MidstsBegin =
       (name : ℕ → List ℕ) (log : List (Entry K V)) (beginning : Moment K V) → HasJustBegun log beginning
-      → (known : Known) (s : Scene K V) (e : Executor K V S) → IsAt same hash e s → ShowsWhole same name beginning known s → ShowsDue same name log beginning known s
+      → (known : Known) (s : Scene K V) (e : Held K V) → IsAt same hash e s → ShowsWhole same name beginning known s → ShowsDue same name log beginning known s
       → (map i : ℕ) (u : CallOnKey K V K) (here : s.calls map i ≡ Some (OnKey u)) (c : CallThere K V) → call_of (name i) beginning ≡ Some c → (one : OneKey K V) → c.call ≡ On one
       → InMidst same name log beginning map i one c [] beginning known s u
 
   -- as it does at this moment of its map, by a name that no call under way has,
   abbrev pub MidstsBeginCalls : Type 0
   MidstsBeginCalls =
-      (name : ℕ → List ℕ) (log : List (Entry K V)) (known : Known) (s : Scene K V) (old : Executor K V S) → IsAt same hash old s
+      (name : ℕ → List ℕ) (log : List (Entry K V)) (known : Known) (s : Scene K V) (old : Held K V) → IsAt same hash old s
       → ShowsWhole same name (moment log) known s → ShowsDue same name log (moment log) known s
       → (map i : ℕ) (u : CallOnKey K V K) (one : OneKey K V) (guard : List ℕ) (standing : Standing K) → s.maps map ≡ Some standing → u.began ≡ standing.chart.now → u.change ≡ Unchanged
       → NoneNamed name (name i) s → IsCalled same (OnKey u) (On one) → IsBegunFor (OnKey u) (On one) → s.world.row i ≡ Rests
-      → (new : Executor K V S) → IsAt same hash new (scene_with map i (OnKey u) s)
+      → (new : Held K V) → IsAt same hash new (scene_with map i (OnKey u) s)
       → (let beginning = with_call (name i) guard (On one) (Some map) (moment log) in
       let c = fresh_call (name i) guard (On one) map (moment log).events in
       (call_of (name i) beginning ≡ Some c) × InMidst same name log beginning map i one c [] beginning known (scene_with map i (OnKey u) s) u)
@@ -81,12 +81,12 @@ module _ (K V S : Type 0) (same : K → K → Bool) (hash : K → ℕ) where
   MidstsGoOn =
       (name : ℕ → List ℕ) (log : List (Entry K V)) (beginning : Moment K V) (map i : ℕ) (one : OneKey K V) (c : CallThere K V) → c.call ≡ On one
       → (done : List Effect) (m : Moment K V) (known : Known) (s : Scene K V) (u : CallOnKey K V K) (midst : InMidst same name log beginning map i one c done m known s u)
-      → (old new : Executor K V S) → IsAt same hash old s → (said : Progress (Node K V)) (leads : StepLeads same hash i said s old new)
+      → (old new : Held K V) → IsAt same hash old s → (said : Progress (Node K V)) (leads : StepLeads same hash i said s old new)
       → (let to = leads map (OnKey u) midst.here in
       (next : CallOnKey K V K) → to.4.next ≡ Some (OnKey next)
-      → InMidst same name log beginning map i one c (done ++ effects_of (acts.Call i map) known new.memory.changed)
-      (with_effects (Some (name i)) (Some map) (effects_of (acts.Call i map) known new.memory.changed) m) (known_after (acts.Call i map) new.memory.changed known)
-      (scene_after same hash s old new map i to.0 (OnKey u) to.1 said to.4) next)
+      → InMidst same name log beginning map i one c (done ++ effects_of (acts.Call i map) known new.changed)
+      (with_effects (Some (name i)) (Some map) (effects_of (acts.Call i map) known new.changed) m) (known_after (acts.Call i map) new.changed known)
+      (scene_after same s old new map i to.0 (OnKey u) to.1 said to.4) next)
 
   -- and an event that comes to what the last of its steps came to is linearizable;
   abbrev pub MidstsEnd : Type 0
@@ -94,9 +94,9 @@ module _ (K V S : Type 0) (same : K → K → Bool) (hash : K → ℕ) where
       (name : ℕ → List ℕ) (log : List (Entry K V)) (beginning : Moment K V) (map i : ℕ) (one : OneKey K V) (c : CallThere K V) → call_of (name i) beginning ≡ Some c → c.call ≡ On one
       → ShowsQuestions beginning
       → (done : List Effect) (m : Moment K V) (known : Known) (s : Scene K V) (u : CallOnKey K V K) (midst : InMidst same name log beginning map i one c done m known s u)
-      → (old new : Executor K V S) → IsAt same hash old s → (said : Progress (Node K V)) (leads : StepLeads same hash i said s old new)
+      → (old new : Held K V) → IsAt same hash old s → (said : Progress (Node K V)) (leads : StepLeads same hash i said s old new)
       → (e : Entry K V) → caller_of e.event ≡ Some (name i) → at_work e (moment log) ≡ beginning → acted_on e.event beginning ≡ Some map
-      → e.effects ≡ done ++ effects_of (acts.Call i map) known new.memory.changed → ComesToIt (known_after (acts.Call i map) new.memory.changed known) one c.replies said e.outcome
+      → e.effects ≡ done ++ effects_of (acts.Call i map) known new.changed → ComesToIt (known_after (acts.Call i map) new.changed known) one c.replies said e.outcome
       → IsLinearizable same log e
 
   -- by it a call that asks does not go on by itself.
@@ -104,7 +104,7 @@ module _ (K V S : Type 0) (same : K → K → Bool) (hash : K → ℕ) where
   MidstsAskStill =
       (name : ℕ → List ℕ) (log : List (Entry K V)) (beginning : Moment K V) (map i : ℕ) (one : OneKey K V) (c : CallThere K V) → call_of (name i) beginning ≡ Some c → c.call ≡ On one
       → (done : List Effect) (m : Moment K V) (known : Known) (s : Scene K V) (u : CallOnKey K V K) (midst : InMidst same name log beginning map i one c done m known s u)
-      → (old new : Executor K V S) → IsAt same hash old s → (said : Progress (Node K V)) (leads : StepLeads same hash i said s old new)
+      → (old new : Held K V) → IsAt same hash old s → (said : Progress (Node K V)) (leads : StepLeads same hash i said s old new)
       → (e : Entry K V) → caller_of e.event ≡ Some (name i) → at_work e (moment log) ≡ beginning → acted_on e.event beginning ≡ Some map
-      → e.effects ≡ done ++ effects_of (acts.Call i map) known new.memory.changed → ComesToIt (known_after (acts.Call i map) new.memory.changed known) one c.replies said e.outcome
+      → e.effects ≡ done ++ effects_of (acts.Call i map) known new.changed → ComesToIt (known_after (acts.Call i map) new.changed known) one c.replies said e.outcome
       → EventAsksStill log e

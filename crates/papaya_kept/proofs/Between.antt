@@ -21,11 +21,6 @@ use Rattle.papaya_lives.specs.Given.Callers.Rooms.{CallForRoom}
 use Rattle.papaya_lives.specs.Given.Callers.Pairs.{Given}
 use Rattle.papaya_lives.specs.Given.Callers.Together.{UnderWay, OnKey, ForRoom, Counting, OverAll, IsBegun, Gets, Removes, Inserts, TriesToInsert, Computes, Updates, UpdatesOrInserts, TriesToInsertWith, RemovesIf}
 use Rattle.papaya_lives.proofs.Given.Callers.Together.At.{at_same, at_other}
-use Rattle.papaya_lives.specs.Given.Executor.Beginning.{Begins}
-use Rattle.papaya_lives.specs.Given.Executor.IsAt.{Scene, HasCall, IsAt, slot_of}
-use Rattle.papaya_lives.specs.Given.Executor.Replying.{scene_with, unless_stopped}
-use Rattle.papaya_lives.specs.Given.Executor.declared.executor.Executor.{Executor}
-use Rattle.papaya_lives.proofs.Given.Executor.Changed.{standing_is}
 use Rattle.papaya_lives.specs.Given.Finishes.Machines.{machine_of}
 use Rattle.papaya_lives.specs.Given.Finishes.Maps.{Standing, with_call as with_in}
 use Rattle.papaya_lives.specs.Given.Follows.Calling.{told}
@@ -56,6 +51,11 @@ use Rattle.papaya_lives.proofs.Waiting.{others_leave_waiting}
 use Rattle.papaya_sifts.specs.Given.Waits.Others.{copier_in, copier_in_room, copier_in_sweep, copier_of}
 use Rattle.papaya_kept.proofs.Ends.{calls_begin_ends, calls_take_ends, walks_go_on_ends, walks_stop_ends}
 use Rattle.papaya_kept.specs.Steps.{CallsBeginKept, CallsTakeKept, WalksGoOnKept, WalksStopKept}
+use Rattle.papaya_lives.proofs.Given.Scenes.May.{standing_is}
+use Rattle.papaya_lives.specs.Given.Scenes.Beginning.{Begins}
+use Rattle.papaya_lives.specs.Given.Scenes.Held.{Held, IsAt}
+use Rattle.papaya_lives.specs.Given.Scenes.Replying.{scene_with, unless_stopped}
+use Rattle.papaya_lives.specs.Given.Scenes.Scene.{HasCall, Scene, slot_of}
 
 -- a call that begins has nothing in hand
 module _ (K V : Type 0) (same : K → K → Bool) where
@@ -164,7 +164,7 @@ ready_row : (p : Sweeping) → is_ready p ≡ true → IsRowOfSweep p → ⊥
 ready_row sweeping.Ready e row = row
 ready_row _ e row = absurd (cc e)
 
-module _ {K V S : Type 0} (same : K → K → Bool) (hash : K → ℕ) (s : Scene K V) (e : Executor K V S) (at : IsAt same hash e s) (map i : ℕ) where
+module _ {K V : Type 0} (same : K → K → Bool) (hash : ℕ → K → ℕ) (s : Scene K V) (e : Held K V) (at : IsAt same hash e s) (map i : ℕ) where
   ready_rests : (u : UnderWay K V K) → s.calls map i ≡ Some u → (machine_asked (machine_of u)).1 ≡ true → s.world.row i ≡ Rests
   ready_rests (OverAll o) here ready =
       let its_map = standing_is same hash e s at map i (OverAll o) here in
@@ -190,12 +190,12 @@ module _ {K V : Type 0} (own : List ℕ) (m : Moment K V) where
   given_place true = refl
   given_place false = refl
 
-module _ (K V S : Type 0) (same : K → K → Bool) (hash : K → ℕ) where
-  pub calls_begin_kept : CallsBeginKept K V S same hash
+module _ (K V : Type 0) (same : K → K → Bool) (hash : ℕ → K → ℕ) where
+  pub calls_begin_kept : CallsBeginKept K V same hash
   calls_begin_kept name m known s old new at whole kept map i standing there u call guard begins called begun none rests at2 shows2 = record {
     entries = calls_go_on_entries K V s kept.entries map i (Some u) (inr rests);
     made = calls_begin_made K V name m known s kept.made map i u call guard none (owns_at_first K V same standing i u (at.together.makings.standing.fit map standing there).0 begins);
-    tables = calls_begin_tables K V S same hash name m known s old new at whole kept.tables map i u call guard none at2 shows2;
+    tables = calls_begin_tables K V same hash name m known s old new at whole kept.tables map i u call guard none at2 shows2;
     looking = calls_begin_looking K V name m s kept.looking map i u call guard none (looks_at_first K V same standing i u call begins called begun);
     short = calls_begin_short K V name m s kept.short map i u call guard none;
     grown = calls_begin_grown K V name m s kept.grown map i u call guard none (machines_begin_grown K V same standing i u begins);
@@ -215,11 +215,11 @@ module _ (K V S : Type 0) (same : K → K → Bool) (hash : K → ℕ) where
       v : Moment K V
       v = with_call (name i) guard call (Some map) m
 
-  pub calls_take_kept : CallsTakeKept K V S same hash
+  pub calls_take_kept : CallsTakeKept K V same hash
   calls_take_kept name m known s old new at whole kept map i u here reply next next_is is_told at2 shows2 = record {
     entries = calls_go_on_entries K V s kept.entries map i (Some next) (inl (u, here));
     made = calls_take_made K V same name m known s whole kept.made map i u here reply next next_is is_told;
-    tables = calls_take_tables K V S same hash name m known s old new at whole kept.tables map i u here reply next next_is is_told at2 shows2;
+    tables = calls_take_tables K V same hash name m known s old new at whole kept.tables map i u here reply next next_is is_told at2 shows2;
     looking = calls_take_looking K V same name m known s whole kept.looking map i u here reply next next_is is_told;
     short = calls_take_short K V same name m known s whole kept.short map i u here reply next next_is is_told;
     grown = calls_take_grown K V same name m known s whole kept.grown map i u here reply next next_is is_told;
@@ -239,19 +239,19 @@ module _ (K V S : Type 0) (same : K → K → Bool) (hash : K → ℕ) where
       v : Moment K V
       v = told (name i) is_told m
 
-  pub walks_go_on_kept : WalksGoOnKept K V S same hash
+  pub walks_go_on_kept : WalksGoOnKept K V same hash
   walks_go_on_kept name m known s old new whole kept i leads map u here =
       let next = (leads map u here).0 in
       record {
         entries = calls_go_on_entries K V s kept.entries map i (Some next) (inl (u, here));
-        made = walks_go_on_made K V S same hash name m known s old new kept.made i leads map u here;
-        tables = walks_go_on_tables K V S same hash name m known s old new whole kept.tables i leads map u here;
-        looking = walks_go_on_looking K V S same hash name m s old new kept.looking i leads map u here;
-        short = walks_go_on_short K V S same hash name m s old new kept.short i leads map u here;
-        grown = walks_go_on_grown K V S same hash name m s old new kept.grown i leads map u here;
-        counts = walks_go_on_counts K V S same hash name m s old new kept.counts i leads map u here;
-        owed = walks_go_on_owed K V S same hash name m known s old new kept.owed i leads map u here;
-        handing = walks_go_on_handing K V S same hash name m s old new kept.handing i leads map u here;
+        made = walks_go_on_made K V same hash name m known s old new kept.made i leads map u here;
+        tables = walks_go_on_tables K V same hash name m known s old new whole kept.tables i leads map u here;
+        looking = walks_go_on_looking K V same hash name m s old new kept.looking i leads map u here;
+        short = walks_go_on_short K V same hash name m s old new kept.short i leads map u here;
+        grown = walks_go_on_grown K V same hash name m s old new kept.grown i leads map u here;
+        counts = walks_go_on_counts K V same hash name m s old new kept.counts i leads map u here;
+        owed = walks_go_on_owed K V same hash name m known s old new kept.owed i leads map u here;
+        handing = walks_go_on_handing K V same hash name m s old new kept.handing i leads map u here;
         waiting = kept.waiting;
         once = kept.once;
         lying = kept.lying;
@@ -262,17 +262,17 @@ module _ (K V S : Type 0) (same : K → K → Bool) (hash : K → ℕ) where
         ends = walks_go_on_ends s kept.ends map i u here next (leads map u here).1;
       }
 
-  pub walks_stop_kept : WalksStopKept K V S same hash
+  pub walks_stop_kept : WalksStopKept K V same hash
   walks_stop_kept name m known s old new at whole kept i stopped leads map u here none = record {
     entries = calls_go_on_entries K V s kept.entries map i (unless_stopped stopped u) (inl (u, here));
-    made = walks_stop_made K V S same hash name m known s old new whole.all.shown kept.made i stopped leads map u here none;
-    tables = walks_stop_tables K V S same hash name m known s old new whole kept.tables i stopped leads map u here none;
-    looking = walks_stop_looking K V S same hash name m known s old new whole kept.looking i stopped leads map u here none;
-    short = walks_stop_short K V S same hash name m known s old new whole kept.short i stopped leads map u here none;
-    grown = walks_stop_grown K V S same hash name m known s old new whole kept.grown i stopped leads map u here none;
-    counts = walks_stop_counts K V S same hash name m known s old new whole.all.shown kept.counts i stopped leads map u here none;
-    owed = walks_stop_owed K V S same hash name m known s old new whole.all.shown kept.owed i stopped leads map u here none;
-    handing = walks_stop_handing K V S same hash name m s old new whole.all.shown.calls kept.handing i stopped leads map u here none;
+    made = walks_stop_made K V same hash name m known s old new whole.all.shown kept.made i stopped leads map u here none;
+    tables = walks_stop_tables K V same hash name m known s old new whole kept.tables i stopped leads map u here none;
+    looking = walks_stop_looking K V same hash name m known s old new whole kept.looking i stopped leads map u here none;
+    short = walks_stop_short K V same hash name m known s old new whole kept.short i stopped leads map u here none;
+    grown = walks_stop_grown K V same hash name m known s old new whole kept.grown i stopped leads map u here none;
+    counts = walks_stop_counts K V same hash name m known s old new whole.all.shown kept.counts i stopped leads map u here none;
+    owed = walks_stop_owed K V same hash name m known s old new whole.all.shown kept.owed i stopped leads map u here none;
+    handing = walks_stop_handing K V same hash name m s old new whole.all.shown.calls kept.handing i stopped leads map u here none;
     waiting = others_leave_waiting K V m v known s.world kept.waiting (given_deferred (name i) m stopped) (given_place (name i) m stopped);
     once = subst WaitsOnce (sym (given_deferred (name i) m stopped)) kept.once;
     lying = others_leave_lying K V m v known s.world kept.lying (given_deferred (name i) m stopped);

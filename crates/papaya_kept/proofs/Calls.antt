@@ -6,8 +6,6 @@ use Rattle.papaya_lives.specs.Given.Schedules.Moment.{Moment}
 use Rattle.papaya_lives.specs.Given.Effects.Effects.{effects_of, known_after}
 use Rattle.papaya_lives.specs.Given.Effects.Known.{Known}
 use Rattle.papaya_lives.specs.Given.Effects.declared.acting.Acting.TheVariants.{Call}
-use Rattle.papaya_lives.specs.Given.Executor.IsAt.{Scene, IsAt}
-use Rattle.papaya_lives.specs.Given.Executor.declared.executor.Executor.{Executor}
 use Rattle.papaya_lives.proofs.Given.Follows.Steps.{went_to}
 use Rattle.papaya_lives.specs.Given.Moments.Whole.{ShowsWhole}
 use Rattle.papaya_owes.proofs.Calls.{calls_keep_made}
@@ -33,47 +31,49 @@ use Rattle.papaya_lives.proofs.RetiredCalls.{calls_keep_retired}
 use Rattle.papaya_kept.specs.Kept.{ShowsKept}
 use Rattle.papaya_kept.proofs.EndCalls.{calls_keep_all_ends}
 use Rattle.papaya_kept.specs.Steps.{CallsKeepKept}
+use Rattle.papaya_lives.specs.Given.Scenes.Held.{Held, IsAt}
+use Rattle.papaya_lives.specs.Given.Scenes.Scene.{Scene}
 
-module _ (K V S : Type 0) (same : K → K → Bool) (hash : K → ℕ) where
+module _ (K V : Type 0) (same : K → K → Bool) (hash : ℕ → K → ℕ) where
   -- each table that somebody has made is in the hands of who makes it
-  pub own_made : (name : ℕ → List ℕ) (m : Moment K V) (known : Known) (s : Scene K V) (e : Executor K V S) → IsAt same hash e s → ShowsWhole same name m known s → ShowsKept name m known s → OwnAreMade known s.world
-  own_made name m known s e at whole kept b turn shape is = tables_are_made K V S same hash name m known s e at whole.all.shown kept.tables b turn shape is
+  pub own_made : (name : ℕ → List ℕ) (m : Moment K V) (known : Known) (s : Scene K V) (e : Held K V) → IsAt same hash e s → ShowsWhole same name m known s → ShowsKept name m known s → OwnAreMade known s.world
+  own_made name m known s e at whole kept b turn shape is = tables_are_made K V same hash name m known s e at whole.all.shown kept.tables b turn shape is
 
-  pub calls_keep_kept : CallsKeepKept K V S same hash
+  pub calls_keep_kept : CallsKeepKept K V same hash
   calls_keep_kept name m known s old new at whole kept map i u here said leads =
       let owned = own_made name m known s old at whole kept in
       record {
-        entries = calls_keep_entries K V S same hash name m known s old new at whole.all.shown whole.all.rows kept.entries map i u here said leads;
-        made = (calls_keep_made K V S same hash name m known s old new at whole kept.made map i u here said leads).1;
-        tables = (calls_keep_tables K V S same hash name m known s old new at whole kept.tables map i u here said leads).1;
-        looking = (calls_keep_looking K V S same hash name m known s old new at whole kept.looking map i u here said leads).1;
-        short = (calls_keep_short K V S same hash name m known s old new at whole kept.short map i u here said leads).1;
-        grown = (calls_keep_grown K V S same hash name m known s old new at whole kept.short kept.grown map i u here said leads).0;
-        counts = (calls_keep_counts K V S same hash name m known s old new at whole kept.counts map i u here said leads).1;
-        owed = (calls_keep_owed K V S same hash name m known s old new at whole kept.entries owned kept.owed map i u here said leads).1;
-        handing = calls_keep_handing K V S same hash name m known s old new at whole kept.owed kept.handing map i u here said leads;
+        entries = calls_keep_entries K V same hash name m known s old new at whole.all.shown whole.all.rows kept.entries map i u here said leads;
+        made = (calls_keep_made K V same hash name m known s old new at whole kept.made map i u here said leads).1;
+        tables = (calls_keep_tables K V same hash name m known s old new at whole kept.tables map i u here said leads).1;
+        looking = (calls_keep_looking K V same hash name m known s old new at whole kept.looking map i u here said leads).1;
+        short = (calls_keep_short K V same hash name m known s old new at whole kept.short map i u here said leads).1;
+        grown = (calls_keep_grown K V same hash name m known s old new at whole kept.short kept.grown map i u here said leads).0;
+        counts = (calls_keep_counts K V same hash name m known s old new at whole kept.counts map i u here said leads).1;
+        owed = (calls_keep_owed K V same hash name m known s old new at whole kept.entries owned kept.owed map i u here said leads).1;
+        handing = calls_keep_handing K V same hash name m known s old new at whole kept.owed kept.handing map i u here said leads;
         waiting = (waits owned).0;
         once = (waits owned).1;
-        lying = calls_keep_lying K V S same hash name m known s old new at whole kept.entries owned kept.owed kept.lying map i u here said leads;
-        order = calls_keep_order K V S same hash name m known s old new at whole kept.entries owned kept.owed kept.waiting kept.lying kept.order map i u here said leads;
-        retired = calls_keep_retired K V S same hash name m known s old new at whole kept.entries owned kept.retired map i u here said leads;
-        left = calls_keep_left K V S same hash name m known s old new at whole owned kept.left map i u here said leads;
-        handed = calls_keep_handed K V S same hash name m known s old new at whole kept.entries owned kept.waiting kept.retired kept.handed map i u here said leads;
+        lying = calls_keep_lying K V same hash name m known s old new at whole kept.entries owned kept.owed kept.lying map i u here said leads;
+        order = calls_keep_order K V same hash name m known s old new at whole kept.entries owned kept.owed kept.waiting kept.lying kept.order map i u here said leads;
+        retired = calls_keep_retired K V same hash name m known s old new at whole kept.entries owned kept.retired map i u here said leads;
+        left = calls_keep_left K V same hash name m known s old new at whole owned kept.left map i u here said leads;
+        handed = calls_keep_handed K V same hash name m known s old new at whole kept.entries owned kept.waiting kept.retired kept.handed map i u here said leads;
         ends = calls_keep_all_ends same hash name m known s old new at whole.all.shown kept.ends map i said leads u here;
       }
     where
       v : Moment K V
-      v = with_effects (Some (name i)) (Some map) (effects_of (Call i map) known new.memory.changed) m
+      v = with_effects (Some (name i)) (Some map) (effects_of (Call i map) known new.changed) m
 
       Waits : Type 0
-      Waits = ShowsWaiting v (known_after (Call i map) new.memory.changed known) (leads map u here).4.w2 × WaitsOnce v.deferred
+      Waits = ShowsWaiting v (known_after (Call i map) new.changed known) (leads map u here).4.w2 × WaitsOnce v.deferred
 
       waits : OwnAreMade known s.world → Waits
       waits owned =
           elim (own_or_row same hash name m known s old new at whole.all.shown map i u here said leads u (went_to same hash name m known s old new at whole.all.shown map i u here said leads).4.did)
           as (λ _. Waits) [
             | inl own ↦ (
-              calls_keep_waiting K V S same hash name m known s old new at whole kept.waiting map i u here said leads own,
+              calls_keep_waiting K V same hash name m known s old new at whole kept.waiting map i u here said leads own,
               subst WaitsOnce (sym (calls_keep_list same hash name m known s old new at whole map i u here said leads own)) kept.once,
             )
             | inr other ↦

@@ -53,10 +53,6 @@ use Rattle.papaya_lives.specs.Given.Callers.Sights.{Sight}
 use Rattle.papaya_lives.specs.Given.Callers.Together.{CallOnKey, UnderWay, OnKey, ForRoom, Counting, OverAll, Together, next_of_counting}
 use Rattle.papaya_lives.proofs.Given.Callers.Together.At.{at_same, at_other}
 use Rattle.papaya_lives.specs.Given.Effects.Known.{Known}
-use Rattle.papaya_lives.specs.Given.Executor.IsAt.{Scene, IsAt, slot_of}
-use Rattle.papaya_lives.specs.Given.Executor.Stepping.{StepLeads, scene_after}
-use Rattle.papaya_lives.specs.Given.Executor.declared.executor.Executor.{Executor}
-use Rattle.papaya_lives.proofs.Given.Executor.Forgotten.{as_step}
 use Rattle.papaya_lives.specs.Given.Finishes.Maps.{Standing, IsSameMap}
 use Rattle.papaya_lives.specs.Given.Follows.Shows.{Shows}
 use Rattle.papaya_lives.proofs.Given.Follows.Steps.{WentTo, went_to, DidSo, one_of}
@@ -69,6 +65,10 @@ use Rattle.papaya_kept.proofs.Ends.{StoodSo, call_goes, idle_keeps, stood_ends, 
 use Rattle.papaya_lives.specs.Given.Seize.declared.progress.Progress.{Progress as CountGoes}
 use Rattle.papaya_lives.specs.Given.Seize.declared.progress.Progress.TheVariants as progress
 use Rattle.papaya_lives.specs.Given.Tables.declared.setting.Setting.{Setting}
+use Rattle.papaya_lives.proofs.Given.Scenes.Told.{as_step}
+use Rattle.papaya_lives.specs.Given.Scenes.Held.{Held, IsAt}
+use Rattle.papaya_lives.specs.Given.Scenes.Scene.{Scene, slot_of}
+use Rattle.papaya_lives.specs.Given.Scenes.Stepping.{StepLeads, scene_after}
 
 -- at a row no call is to end a copying
 row_point : (stands : Point) → IsRowOfCopier stands → IsIdleAt stands
@@ -105,14 +105,14 @@ same_outcome (outcome.Gave v) (outcome.Gave w) e = let one : v ≡ w = cc e in a
 same_outcome (outcome.Refused v) (outcome.Refused w) e = let one : v ≡ w = cc e in ap outcome.Refused one
 same_outcome _ _ e = absurd (cc e)
 
-module _ {K V S : Type 0} (same : K → K → Bool) (hash : K → ℕ) (name : ℕ → List ℕ) (m : Moment K V) (known : Known) (s : Scene K V) (old new : Executor K V S) (at_old : IsAt same hash old s)
+module _ {K V : Type 0} (same : K → K → Bool) (hash : ℕ → K → ℕ) (name : ℕ → List ℕ) (m : Moment K V) (known : Known) (s : Scene K V) (old new : Held K V) (at_old : IsAt same hash old s)
     (shown : Shows same name m known s) (ends : ShowsEnds s) (map i : ℕ) (said : Progress (Node K V)) (leads : StepLeads same hash i said s old new) where
   module _ (u : UnderWay K V K) (here : s.calls map i ≡ Some u) where
     abbrev to : WentTo same hash name m known s old new at_old shown map i u here said leads
     to = went_to same hash name m known s old new at_old shown map i u here said leads
 
     abbrev led : Scene K V
-    led = scene_after same hash s old new map i to.0 u to.1 said to.4
+    led = scene_after same s old new map i to.0 u to.1 said to.4
 
     together : Together V same to.0.hash same to.0.setting slot_of s.world to.0.chart to.0.blocks to.0.sights (s.calls map)
     together = at_old.together.makings.standing.each map to.0 to.2
@@ -171,12 +171,11 @@ module _ {K V S : Type 0} (same : K → K → Bool) (hash : K → ℕ) (name : �
   -- a call on one key
   module _ (x : CallOnKey K V K) (here : s.calls map i ≡ Some (OnKey x)) where
     key_steps : (p2 : KeyCall K V K) (end : Called (Node K V)) → (to (OnKey x) here).1 ≡ kinds.Key p2 → said ≡ of_called end
-        → Steps Took value_at s.world.memory (call_plan same same (to (OnKey x) here).0.hash x.call) new.memory.memory (p2, end)
+        → Steps Took value_at s.world.memory (call_plan same same (to (OnKey x) here).0.hash x.call) new.memory (p2, end)
     key_steps p2 end machine_is told_is =
-        subst (λ (h : K → ℕ). Steps Took value_at s.world.memory (call_plan same same h x.call) new.memory.memory (p2, end)) (sym (at_old.hashes map (to (OnKey x) here).0 (to (OnKey x) here).2))
-        (subst (λ (k : Mem (Node K V)). Steps Took value_at k (call_plan same same hash x.call) new.memory.memory (p2, end)) (sym at_old.memory)
-        (as_step old.memory.memory changed.Nothing (call_plan same same hash x.call) new.memory.memory new.memory.changed (p2, end)
-        (key_told same hash name m known s old new at_old shown map i x here said leads p2 end machine_is told_is)))
+        subst (λ (k : Mem (Node K V)). Steps Took value_at k (call_plan same same (to (OnKey x) here).0.hash x.call) new.memory (p2, end)) (sym at_old.memory)
+        (as_step old.memory changed.Nothing (call_plan same same (to (OnKey x) here).0.hash x.call) new.memory new.changed (p2, end)
+        (key_told same hash name m known s old new at_old shown map i x here said leads p2 end machine_is told_is))
 
     key_ends : DidSo same hash name m known s old new at_old shown map i (OnKey x) here said leads (OnKey x) → ShowsEnds (led (OnKey x) here)
     key_ends (p2, end, machine_is, told_is, inl (step, went)) =
@@ -184,29 +183,28 @@ module _ {K V S : Type 0} (same : K → K → Bool) (hash : K → ℕ) (name : �
         moved (OnKey x) here step.step.went.c2 step.step.blocks2 step.step.sights2 _ went.1 went.2
         (in_mode (OnKey x) here step.step.went.c2 _
         (λ mode had. calls_keep_ends V same st.hash same st.setting slot_of (lawful (OnKey x) here) (power (OnKey x) here) mode s.world st.chart st.blocks st.sights (s.calls map)
-        (together (OnKey x) here) had i x here step.no_row new.memory.memory p2 end (key_steps p2 end machine_is told_is) step.step)
+        (together (OnKey x) here) had i x here step.no_row new.memory p2 end (key_steps p2 end machine_is told_is) step.step)
         (λ mode had. calls_keep_ends_blocking V same st.hash same st.setting slot_of (lawful (OnKey x) here) (power (OnKey x) here) mode s.world st.chart st.blocks st.sights (s.calls map)
-        (together (OnKey x) here) had i x here step.no_row new.memory.memory p2 end (key_steps p2 end machine_is told_is) step.step))
+        (together (OnKey x) here) had i x here step.no_row new.memory p2 end (key_steps p2 end machine_is told_is) step.step))
     key_ends (p2, end, machine_is, told_is, inr (row, still)) =
         let st : Standing K = (to (OnKey x) here).0 in
         stayed (OnKey x) here _ still.1 still.2 (row_of_call x.call.stands row.is_row)
         (λ mode. key_row_fresh V same st.hash same st.setting slot_of mode s.world st.chart st.blocks st.sights (s.calls map) (together (OnKey x) here) (at_once (OnKey x) here mode) i
-        new.memory.memory x here row.is_row p2 end (key_steps p2 end machine_is told_is) x)
+        new.memory x here row.is_row p2 end (key_steps p2 end machine_is told_is) x)
 
   -- a reservation
   module _ (x : CallForRoom) (here : s.calls map i ≡ Some (ForRoom x)) where
     room_steps : (p2 : Reserve) (end : Outcome (Node K V) Unit) → (to (ForRoom x) here).1 ≡ kinds.Reserve p2 → said ≡ of_outcome end
-        → Steps Took value_at s.world.memory (reserve_plan (to (ForRoom x) here).0.hash x.reserve) new.memory.memory (p2, end)
+        → Steps Took value_at s.world.memory (reserve_plan (to (ForRoom x) here).0.hash x.reserve) new.memory (p2, end)
     room_steps p2 end machine_is told_is =
-        subst (λ (h : K → ℕ). Steps Took value_at s.world.memory (reserve_plan h x.reserve) new.memory.memory (p2, end)) (sym (at_old.hashes map (to (ForRoom x) here).0 (to (ForRoom x) here).2))
-        (subst (λ (k : Mem (Node K V)). Steps Took value_at k (reserve_plan hash x.reserve) new.memory.memory (p2, end)) (sym at_old.memory)
-        (as_step old.memory.memory changed.Nothing (reserve_plan hash x.reserve) new.memory.memory new.memory.changed (p2, end) (by inner.0 inner.1 inner.2)))
+        subst (λ (k : Mem (Node K V)). Steps Took value_at k (reserve_plan (to (ForRoom x) here).0.hash x.reserve) new.memory (p2, end)) (sym at_old.memory)
+        (as_step old.memory changed.Nothing (reserve_plan (to (ForRoom x) here).0.hash x.reserve) new.memory new.changed (p2, end) (by inner.0 inner.1 inner.2))
       where
         Stepped : Reserve × Outcome (Node K V) Unit → Type 0
-        Stepped e = StepsTold K V (Reserve × Outcome (Node K V) Unit) old.memory.memory changed.Nothing (reserve_plan hash x.reserve) new.memory.memory new.memory.changed e
+        Stepped e = StepsTold K V (Reserve × Outcome (Node K V) Unit) old.memory changed.Nothing (reserve_plan (to (ForRoom x) here).0.hash x.reserve) new.memory new.changed e
 
         inner : (r : Reserve × Outcome (Node K V) Unit) × (◌≡◌ {A = Machine K V K × Progress (Node K V)} ((to (ForRoom x) here).1, said) (of_room r)) × Stepped r
-        inner = told_in old.memory.memory new.memory.memory new.memory.changed of_room (reserve_plan hash x.reserve) ((to (ForRoom x) here).1, said) (to (ForRoom x) here).3
+        inner = told_in old.memory new.memory new.changed of_room (reserve_plan (to (ForRoom x) here).0.hash x.reserve) ((to (ForRoom x) here).1, said) (to (ForRoom x) here).3
 
         by : (r : Reserve × Outcome (Node K V) Unit) → ◌≡◌ {A = Machine K V K × Progress (Node K V)} ((to (ForRoom x) here).1, said) (of_room r) → Stepped r → Stepped (p2, end)
         by (q, said_so) is told =
@@ -221,24 +219,23 @@ module _ {K V S : Type 0} (same : K → K → Bool) (hash : K → ℕ) (name : �
         moved (ForRoom x) here step.step.went.c2 step.step.blocks2 step.step.sights2 _ went.1 went.2
         (in_mode (ForRoom x) here step.step.went.c2 _
         (λ mode had. rooms_keep_ends V same st.hash same st.setting slot_of (lawful (ForRoom x) here) (power (ForRoom x) here) mode s.world st.chart st.blocks st.sights (s.calls map)
-        (together (ForRoom x) here) had i x here step.no_row new.memory.memory p2 end (room_steps p2 end machine_is told_is) step.step)
+        (together (ForRoom x) here) had i x here step.no_row new.memory p2 end (room_steps p2 end machine_is told_is) step.step)
         (λ mode had. rooms_keep_ends_blocking V same st.hash same st.setting slot_of (lawful (ForRoom x) here) (power (ForRoom x) here) mode s.world st.chart st.blocks st.sights (s.calls map)
-        (together (ForRoom x) here) had i x here step.no_row new.memory.memory p2 end (room_steps p2 end machine_is told_is) step.step))
+        (together (ForRoom x) here) had i x here step.no_row new.memory p2 end (room_steps p2 end machine_is told_is) step.step))
     room_ends (p2, end, machine_is, told_is, inr (row, still)) =
         let st : Standing K = (to (ForRoom x) here).0 in
         stayed (ForRoom x) here _ still.1 still.2 (row_of_room x.reserve.stands row.is_row)
         (λ mode. room_row_fresh V same st.hash same st.setting slot_of mode s.world st.chart st.blocks st.sights (s.calls map) (together (ForRoom x) here) (at_once (ForRoom x) here mode) i
-        new.memory.memory x here row.is_row p2 end (room_steps p2 end machine_is told_is))
+        new.memory x here row.is_row p2 end (room_steps p2 end machine_is told_is))
 
   -- a sweep
   module _ (x : CallOverAll) (here : s.calls map i ≡ Some (OverAll x)) where
     sweep_steps : (p2 : Sweep) (end : Swept (Node K V)) → (to (OverAll x) here).1 ≡ kinds.Sweep p2 → said ≡ of_swept end
-        → Steps Took value_at s.world.memory (sweep_plan (to (OverAll x) here).0.hash x.sweep) new.memory.memory (p2, end)
+        → Steps Took value_at s.world.memory (sweep_plan (to (OverAll x) here).0.hash x.sweep) new.memory (p2, end)
     sweep_steps p2 end machine_is told_is =
-        subst (λ (h : K → ℕ). Steps Took value_at s.world.memory (sweep_plan h x.sweep) new.memory.memory (p2, end)) (sym (at_old.hashes map (to (OverAll x) here).0 (to (OverAll x) here).2))
-        (subst (λ (k : Mem (Node K V)). Steps Took value_at k (sweep_plan hash x.sweep) new.memory.memory (p2, end)) (sym at_old.memory)
-        (as_step old.memory.memory changed.Nothing (sweep_plan hash x.sweep) new.memory.memory new.memory.changed (p2, end)
-        (sweep_told same hash name m known s old new at_old shown map i (OverAll x) here said leads x refl p2 end machine_is told_is)))
+        subst (λ (k : Mem (Node K V)). Steps Took value_at k (sweep_plan (to (OverAll x) here).0.hash x.sweep) new.memory (p2, end)) (sym at_old.memory)
+        (as_step old.memory changed.Nothing (sweep_plan (to (OverAll x) here).0.hash x.sweep) new.memory new.changed (p2, end)
+        (sweep_told same hash name m known s old new at_old shown map i (OverAll x) here said leads x refl p2 end machine_is told_is))
 
     sweep_ends : DidSo same hash name m known s old new at_old shown map i (OverAll x) here said leads (OverAll x) → ShowsEnds (led (OverAll x) here)
     sweep_ends (p2, end, machine_is, told_is, inl (step, went)) =
@@ -246,14 +243,14 @@ module _ {K V S : Type 0} (same : K → K → Bool) (hash : K → ℕ) (name : �
         moved (OverAll x) here step.step.went.c2 step.step.blocks2 step.step.sights2 _ went.1 went.2
         (in_mode (OverAll x) here step.step.went.c2 _
         (λ mode had. sweeps_keep_ends V same st.hash same st.setting slot_of (lawful (OverAll x) here) (power (OverAll x) here) mode s.world st.chart st.blocks st.sights (s.calls map)
-        (together (OverAll x) here) had i x here step.no_row new.memory.memory p2 end (sweep_steps p2 end machine_is told_is) step.step)
+        (together (OverAll x) here) had i x here step.no_row new.memory p2 end (sweep_steps p2 end machine_is told_is) step.step)
         (λ mode had. sweeps_keep_ends_blocking V same st.hash same st.setting slot_of (lawful (OverAll x) here) (power (OverAll x) here) mode s.world st.chart st.blocks st.sights (s.calls map)
-        (together (OverAll x) here) had i x here step.no_row new.memory.memory p2 end (sweep_steps p2 end machine_is told_is) step.step))
+        (together (OverAll x) here) had i x here step.no_row new.memory p2 end (sweep_steps p2 end machine_is told_is) step.step))
     sweep_ends (p2, end, machine_is, told_is, inr (row, still)) =
         let st : Standing K = (to (OverAll x) here).0 in
         stayed (OverAll x) here _ still.1 still.2 (row_of_sweep x.sweep.stands row.is_row)
         (λ mode. sweep_row_fresh V same st.hash same st.setting slot_of mode s.world st.chart st.blocks st.sights (s.calls map) (together (OverAll x) here) (at_once (OverAll x) here mode) i
-        new.memory.memory x here row.is_row p2 end (sweep_steps p2 end machine_is told_is) x.entered x.done)
+        new.memory x here row.is_row p2 end (sweep_steps p2 end machine_is told_is) x.entered x.done)
 
   -- a counting
   count_ends : (x : Sum) (here : s.calls map i ≡ Some (Counting x)) → DidSo same hash name m known s old new at_old shown map i (Counting x) here said leads (Counting x)

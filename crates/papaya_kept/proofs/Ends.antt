@@ -31,12 +31,6 @@ use Rattle.papaya_lives.specs.Given.Sweeps.declared.sweep.Sweeping.TheVariants a
 use Rattle.papaya_lives.specs.Given.Rule.Chart.{Chart}
 use Rattle.papaya_lives.specs.Given.Callers.Together.{UnderWay, OnKey, ForRoom, Counting, OverAll}
 use Rattle.papaya_lives.proofs.Given.Callers.Together.At.{at_same, at_other}
-use Rattle.papaya_lives.specs.Given.Executor.Ending.{EndingComesTo, ending_begun}
-use Rattle.papaya_lives.specs.Given.Executor.IsAt.{Scene, at_first}
-use Rattle.papaya_lives.specs.Given.Executor.Making.{MakingComesTo}
-use Rattle.papaya_lives.specs.Given.Executor.OnSlots.{HappensAt}
-use Rattle.papaya_lives.specs.Given.Executor.Replying.{scene_with, unless_stopped}
-use Rattle.papaya_lives.specs.Given.Executor.declared.executor.Executor.{Executor}
 use Rattle.papaya_lives.specs.Given.Finishes.Endings.{Finishing}
 use Rattle.papaya_lives.specs.Given.Finishes.FactsEnds.{Deed}
 use Rattle.papaya_lives.specs.Given.Finishes.Machines.{machine_of}
@@ -50,6 +44,12 @@ use Rattle.papaya_lives.specs.Given.Others.Makings.{making_after}
 use Rattle.papaya_lives.specs.Given.Others.Rows.{scene_then}
 use Rattle.papaya_kept.specs.Ends.{HaveEndsIn, ShowsEnds}
 use Rattle.papaya_kept.proofs.ToldFresh.{reply_fresh, told_fresh}
+use Rattle.papaya_lives.specs.Given.Scenes.Ending.{EndingComesTo, ending_begun}
+use Rattle.papaya_lives.specs.Given.Scenes.Held.{Held}
+use Rattle.papaya_lives.specs.Given.Scenes.Making.{MakingComesTo}
+use Rattle.papaya_lives.specs.Given.Scenes.OnSlots.{HappensAt}
+use Rattle.papaya_lives.specs.Given.Scenes.Replying.{scene_with, unless_stopped}
+use Rattle.papaya_lives.specs.Given.Scenes.Scene.{Scene, at_first}
 
 -- a call that is to do nothing for a copying goes on so, in blocking mode as one that begins
 pub idle_keeps : {K V : Type 0} (incremental : Bool) (c : Chart K) (calls : ℕ → Option (UnderWay K V K)) (i : ℕ) (next : Option (UnderWay K V K)) → HaveEndsIn incremental c calls
@@ -221,7 +221,7 @@ few_have false c calls few none = record {
   spent = λ k x is. absurd (let nobody = none k in cc (is, nobody));
 }
 
-module _ {K V S : Type 0} (same : K → K → Bool) (hash : K → ℕ) (s : Scene K V) (ends : ShowsEnds s) (old new : Executor K V S) where
+module _ {K V : Type 0} (same : K → K → Bool) (hash : ℕ → K → ℕ) (s : Scene K V) (ends : ShowsEnds s) (old new : Held K V) where
   -- a row on a slot begins, and takes its steps
   pub rows_leave_ends : (event : Event (Node K V)) (happened : HappensAt same hash event s old new) → ShowsEnds (scene_then same hash event s old new happened)
   rows_leave_ends event happened =

@@ -39,15 +39,8 @@ use Rattle.papaya_lives.specs.Given.Effects.Known.{Known}
 use Rattle.papaya_lives.specs.Given.Effects.declared.acting.Acting.TheVariants as acts
 use Rattle.papaya_lives.specs.Given.Effects.declared.role.Role.{Role}
 use Rattle.papaya_lives.specs.Given.Effects.declared.role.Role.TheVariants as role
-use Rattle.papaya_lives.specs.Given.Executor.Ending.{EndingLeads}
-use Rattle.papaya_lives.specs.Given.Executor.IsAt.{Scene, IsAt, slot_of, work_of}
-use Rattle.papaya_lives.specs.Given.Executor.Making.{MakingLeads}
-use Rattle.papaya_lives.specs.Given.Executor.OnSlots.{RowLeads}
-use Rattle.papaya_lives.specs.Given.Executor.declared.executor.Executor.{Executor}
-use Rattle.papaya_lives.specs.Given.Executor.declared.row.RowTold.{RowTold}
-use Rattle.papaya_lives.specs.Given.Executor.declared.row.SlotRow.{SlotRow}
-use Rattle.papaya_lives.specs.Given.Executor.declared.worker.Work.TheVariants.{OnSlot}
-use Rattle.papaya_lives.proofs.Given.Executor.Changed.{standing_is}
+use Rattle.papaya_lives.specs.Given.Scenes.declared.row.RowTold.{RowTold}
+use Rattle.papaya_lives.specs.Given.Scenes.declared.row.SlotRow.{SlotRow}
 use Rattle.papaya_lives.specs.Given.Finishes.Endings.{Finishing}
 use Rattle.papaya_lives.specs.Given.Finishes.Machines.{machine_of}
 use Rattle.papaya_lives.specs.Given.Finishes.Makings.{Beginning}
@@ -61,7 +54,7 @@ use Rattle.papaya_lives.specs.Given.Moments.Whole.{ShowsWhole}
 use Rattle.papaya_owes.proofs.Lasting.{IsAside, ending_says, ending_spares}
 use Rattle.papaya_lives.specs.Given.Settles.Due.{due_in_settle, due_in_defer}
 use Rattle.papaya_lives.specs.Given.Settles.Hand.{HoldsInHand, IsPairRole, IsTableRole, IsPairAt, IsTableAt, IsSameRole, NotesInHand, SameInHand}
-use Rattle.papaya_lives.proofs.Given.Settles.Hand.Held.{IsTakenOut, IsDueBlock, IsHeld, HeldOut, HeldByRow, Held, due_of_row, held_in_hand}
+use Rattle.papaya_lives.proofs.Given.Settles.Hand.Held.{IsTakenOut, IsDueBlock, IsHeld, HeldOut, HeldByRow, Held as HeldBy, due_of_row, held_in_hand}
 use Rattle.papaya_lives.proofs.Given.Settles.Hand.Roles.{hand_both}
 use Rattle.papaya_lives.specs.Retired.{IsDue, IsToRetire, ShowsRetired}
 use Rattle.papaya_lives.proofs.Makings.{role_kept}
@@ -70,6 +63,12 @@ use Rattle.papaya_lives.proofs.Retires.{given_hand, row_life}
 use Rattle.papaya_lives.proofs.Rows.{on_the_way}
 use Rattle.papaya_lives.proofs.Taken.{told_retired}
 use Rattle.papaya_lives.proofs.Worlds.{Kept, runs_kept, start_kept, waiting_hand}
+use Rattle.papaya_lives.proofs.Given.Scenes.May.{standing_is}
+use Rattle.papaya_lives.specs.Given.Scenes.Ending.{EndingLeads}
+use Rattle.papaya_lives.specs.Given.Scenes.Held.{Held, IsAt}
+use Rattle.papaya_lives.specs.Given.Scenes.Making.{MakingLeads}
+use Rattle.papaya_lives.specs.Given.Scenes.OnSlots.{RowLeads}
+use Rattle.papaya_lives.specs.Given.Scenes.Scene.{IsOnSlot, Scene, slot_of}
 
 -- what a row is to retire, or to put behind another block
 
@@ -151,13 +150,13 @@ not_over : (h : Hand) (j : ℕ) → IsTakenOut h ⊎ (h ≡ Handed) → h ≡ Le
 not_over h j (inl out) is = subst IsTakenOut is out
 not_over h j (inr handed) is = cc (handed, is)
 
-module _ {K V S : Type 0} (same : K → K → Bool) (hash : K → ℕ) (name : ℕ → List ℕ) (m : Moment K V) (known : Known) (s : Scene K V) (old new : Executor K V S) (at : IsAt same hash old s)
+module _ {K V : Type 0} (same : K → K → Bool) (hash : ℕ → K → ℕ) (name : ℕ → List ℕ) (m : Moment K V) (known : Known) (s : Scene K V) (old new : Held K V) (at : IsAt same hash old s)
     (whole : ShowsWhole same name m known s) (retired : ShowsRetired m known s) where
   abbrev w : World (Node K V)
   w = s.world
 
   abbrev told : Changed
-  told = new.memory.changed
+  told = new.changed
 
   abbrev size : ℕ
   size = old.batch_size
@@ -167,7 +166,7 @@ module _ {K V S : Type 0} (same : K → K → Bool) (hash : K → ℕ) (name : �
 
   -- of a call
   module _ (map j : ℕ) (u : UnderWay K V K) (call : s.calls map j ≡ Some u) where
-    holds : HoldsInHand (Held w j) (Held w j) (machine_of u)
+    holds : HoldsInHand (HeldBy w j) (HeldBy w j) (machine_of u)
     holds =
         let its_map = standing_is same hash old s at map j u call in
         let st = its_map.0 in
@@ -180,7 +179,7 @@ module _ {K V S : Type 0} (same : K → K → Bool) (hash : K → ℕ) (name : �
     -- blocks that are held, and noted as pairs and tables, are what they were where this is so of each such block
     in_hand_so : (known2 : Known) → ((b : ℕ) → IsHeld w j b → IsOfMap (known.roles b) → known2.roles b ≡ known.roles b) → NotesInHand known (machine_of u) → SameInHand known known2 (machine_of u)
     in_hand_so known2 each noted =
-        hand_both (IsPairAt known) (Held w j) (IsSameRole known known2) (IsTableAt known) (Held w j) (IsSameRole known known2)
+        hand_both (IsPairAt known) (HeldBy w j) (IsSameRole known known2) (IsTableAt known) (HeldBy w j) (IsSameRole known known2)
         (λ b is held. each b held (pair_of_map (known.roles b) is)) (λ b is held. each b held (table_of_map (known.roles b) is)) (machine_of u) noted holds
       where
         pair_of_map : (r : Role) → IsPairRole r → IsOfMap r
@@ -209,11 +208,11 @@ module _ {K V S : Type 0} (same : K → K → Bool) (hash : K → ℕ) (name : �
       by (role.Counter c) of has = absurd of
 
   -- a row on a slot
-  module _ (i : ℕ) (said : RowTold (Node K V)) (leads : RowLeads same hash i said s old new) (row : SlotRow) (here : work_of old i ≡ Some (OnSlot row)) where
+  module _ (i : ℕ) (said : RowTold (Node K V)) (leads : RowLeads same hash i said s old new) (row : SlotRow) (here : IsOnSlot s i row) where
     untaken : (j b : ℕ) → IsHeld w j b → told ≡ changed.Took b → ⊥
     untaken j b held is =
         held_unretired deferred_word size w kept_world j b held
-        (told_retired size w at.together.makings.standing.came (there same hash name m known s old new at whole retired i said leads row here) i (leads row here).4.0 (leads row here).4.1 told
+        (told_retired size w at.together.makings.standing.came (there same hash name m known s old new at whole retired i said leads row here) i (leads row here).2.0 (leads row here).2.1 told
         (leaves same hash name m known s old new at whole retired i said leads row here) b is)
 
     row_role : (j b : ℕ) → IsHeld w j b → (x : Changed) → told ≡ x → TellsRow x → (known_after acts.Row x known).roles b ≡ known.roles b
@@ -232,7 +231,7 @@ module _ {K V S : Type 0} (same : K → K → Bool) (hash : K → ℕ) (name : �
     rows_leave_in_hand map j u call noted =
         let to = leads row here in
         in_hand_so map j u call (known_after acts.Row told known)
-        (λ b held of. row_role j b held told refl (row_tells old.memory.memory new.memory.memory told (to.0, said) row to.1)) noted
+        (λ b held of. row_role j b held told refl (row_tells old.memory new.memory told (to.0, said) row to.1)) noted
 
   -- the making of a map
   pub makings_leave_in_hand : (i : ℕ) (said : Progress Setting) (leads : MakingLeads same hash i said s old new) (b : Beginning K) (here : s.makers i ≡ Some b) (of : Option ℕ) → WasNew b.map said m

@@ -8,7 +8,6 @@ use Rattle.papaya_lives.specs.Given.Schedules.Moment.{UnderWay as CallThere, Mom
 use Rattle.papaya_lives.specs.Given.Schedules.Views.{call_of}
 use Rattle.papaya_lives.specs.Given.Callers.Together.{UnderWay}
 use Rattle.papaya_lives.specs.Given.Effects.Known.{Known}
-use Rattle.papaya_lives.specs.Given.Executor.IsAt.{Scene, HasCall}
 use Rattle.papaya_lives.specs.Given.Finishes.Machines.{machine_of}
 use Rattle.papaya_lives.specs.Given.Follows.Calling.{come_to}
 use Rattle.papaya_owes.proofs.Aside.{stays_made}
@@ -37,6 +36,7 @@ use Rattle.papaya_lives.proofs.Reclaimed.{retired_begins, others_leave_retired}
 use Rattle.papaya_lives.proofs.Waiting.{waiting_begins, others_leave_waiting}
 use Rattle.papaya_kept.proofs.Ends.{ends_begin, ends_stay}
 use Rattle.papaya_kept.specs.Steps.{BeginsKept, StaysKept, RenamedKept, CallsComeToKept, MakingsBeginKept}
+use Rattle.papaya_lives.specs.Given.Scenes.Scene.{HasCall, Scene}
 
 pub begins_kept : (K V : Type 0) → BeginsKept K V
 begins_kept K V roots name = record {

@@ -2,7 +2,6 @@
 use Rattle.std.specs.Prelude.{ℕ, List}
 use Rattle.papaya_lives.specs.Given.Schedules.Moment.{Moment}
 use Rattle.papaya_lives.specs.Given.Effects.Known.{Known}
-use Rattle.papaya_lives.specs.Given.Executor.IsAt.{Scene}
 use Rattle.papaya_owes.specs.Grown.{ShowsGrown}
 use Rattle.papaya_owes.specs.Looking.{ShowsLooking}
 use Rattle.papaya_owes.specs.Made.{ShowsMade}
@@ -19,6 +18,7 @@ use Rattle.papaya_lives.specs.Lying.{ShowsLying}
 use Rattle.papaya_lives.specs.Order.{ShowsOrder}
 use Rattle.papaya_lives.specs.Retired.{ShowsRetired}
 use Rattle.papaya_kept.specs.Ends.{ShowsEnds}
+use Rattle.papaya_lives.specs.Given.Scenes.Scene.{Scene}
 
 -- What somebody has is blank, and a row within a call retires one block. Each call has made just that block for a pair, and that table, which the moment says, and is short
 -- of a growth just where it is to be refused for want of memory; one that only looks has a machine that looks. It has to count what the moment says, it owes what it has in hand, and one whose

@@ -19,19 +19,9 @@ use Rattle.papaya_lives.specs.Given.Callers.Together.{UnderWay}
 use Rattle.papaya_lives.specs.Given.Effects.Effects.{effects_of, known_after}
 use Rattle.papaya_lives.specs.Given.Effects.Known.{Known, nothing_known}
 use Rattle.papaya_lives.specs.Given.Effects.declared.acting.Acting.TheVariants as acts
-use Rattle.papaya_lives.specs.Given.Executor.Beginning.{Begins}
-use Rattle.papaya_lives.specs.Given.Executor.Ending.{EndingLeads, ending_begun}
-use Rattle.papaya_lives.specs.Given.Executor.IsAt.{Scene, HasCall, IsAt, at_first, slot_of, work_of}
-use Rattle.papaya_lives.specs.Given.Executor.Making.{MakingLeads}
-use Rattle.papaya_lives.specs.Given.Executor.OnSlots.{MayBegin, RowBegins, RowLeads}
-use Rattle.papaya_lives.specs.Given.Executor.Replying.{AskLeads, StopLeads, scene_with, unless_stopped}
-use Rattle.papaya_lives.specs.Given.Executor.Rows.{request_of}
-use Rattle.papaya_lives.specs.Given.Executor.Stepping.{StepLeads, scene_after}
-use Rattle.papaya_lives.specs.Given.Executor.declared.executor.Executor.{Executor}
-use Rattle.papaya_lives.specs.Given.Executor.declared.row.RowTold.{RowTold}
-use Rattle.papaya_lives.specs.Given.Executor.declared.row.SlotCall.{SlotCall}
-use Rattle.papaya_lives.specs.Given.Executor.declared.row.SlotRow.{SlotRow}
-use Rattle.papaya_lives.specs.Given.Executor.declared.worker.Work.TheVariants.{OnSlot}
+use Rattle.papaya_lives.specs.Given.Scenes.declared.row.RowTold.{RowTold}
+use Rattle.papaya_lives.specs.Given.Scenes.declared.row.SlotCall.{SlotCall}
+use Rattle.papaya_lives.specs.Given.Scenes.declared.row.SlotRow.{SlotRow}
 use Rattle.papaya_lives.specs.Given.Finishes.Endings.{Finishing}
 use Rattle.papaya_lives.specs.Given.Finishes.Machines.{machine_of}
 use Rattle.papaya_lives.specs.Given.Finishes.Makings.{Beginning}
@@ -49,6 +39,15 @@ use Rattle.papaya_lives.specs.Given.Moments.Endings.{WaitsOn}
 use Rattle.papaya_lives.specs.Given.Moments.OnSlots.{HadRetired}
 use Rattle.papaya_lives.specs.Given.Moments.Whole.{ShowsWhole}
 use Rattle.papaya_kept.specs.Kept.{ShowsKept}
+use Rattle.papaya_lives.specs.Given.Scenes.Beginning.{Begins}
+use Rattle.papaya_lives.specs.Given.Scenes.Ending.{EndingLeads, ending_begun}
+use Rattle.papaya_lives.specs.Given.Scenes.Held.{Held, IsAt}
+use Rattle.papaya_lives.specs.Given.Scenes.Making.{MakingLeads}
+use Rattle.papaya_lives.specs.Given.Scenes.OnSlots.{RowBegins, RowLeads}
+use Rattle.papaya_lives.specs.Given.Scenes.Replying.{AskLeads, StopLeads, scene_with, unless_stopped}
+use Rattle.papaya_lives.specs.Given.Scenes.Rows.{request_of}
+use Rattle.papaya_lives.specs.Given.Scenes.Scene.{HasCall, IsOnSlot, Scene, at_first, slot_of}
+use Rattle.papaya_lives.specs.Given.Scenes.Stepping.{StepLeads, scene_after}
 
 module _ (K V : Type 0) where
   -- The promises: so it is before all events,
@@ -78,12 +77,12 @@ module _ (K V : Type 0) where
       (name : ℕ → List ℕ) (m : Moment K V) (known : Known) (s : Scene K V) → ShowsKept name m known s
       → (i : ℕ) (b : Beginning K) → s.makers i ≡ None → ShowsKept name m known (record s { makers = with_at s.makers i (Some b) })
 
-module _ (K V S : Type 0) (same : K → K → Bool) (hash : K → ℕ) where
-  -- So it is where a call begins, by a name that no call under way has, and where its caller has no row under way: the executor is there before it and after it, and the
+module _ (K V : Type 0) (same : K → K → Bool) (hash : ℕ → K → ℕ) where
+  -- So it is where a call begins, by a name that no call under way has, and where its caller has no row under way: what is held has such a scene before it and after it, and the
   -- moment shows both,
   abbrev pub CallsBeginKept : Type 0
   CallsBeginKept =
-      (name : ℕ → List ℕ) (m : Moment K V) (known : Known) (s : Scene K V) (old new : Executor K V S) → IsAt same hash old s → ShowsWhole same name m known s → ShowsKept name m known s
+      (name : ℕ → List ℕ) (m : Moment K V) (known : Known) (s : Scene K V) (old new : Held K V) → IsAt same hash old s → ShowsWhole same name m known s → ShowsKept name m known s
       → (map i : ℕ) (standing : Standing K) → s.maps map ≡ Some standing → (u : UnderWay K V K) (call : Call K V) (guard : List ℕ) → Begins same standing i u → IsCalled same u call → IsBegunFor u call
       → NoneNamed name (name i) s → s.world.row i ≡ Rests
       → IsAt same hash new (scene_with map i u s) → Shows same name (with_call (name i) guard call (Some map) m) known (scene_with map i u s)
@@ -92,16 +91,16 @@ module _ (K V S : Type 0) (same : K → K → Bool) (hash : K → ℕ) where
   -- after each step of a call, of its row, too,
   abbrev pub CallsKeepKept : Type 0
   CallsKeepKept =
-      (name : ℕ → List ℕ) (m : Moment K V) (known : Known) (s : Scene K V) (old new : Executor K V S) → IsAt same hash old s → ShowsWhole same name m known s → ShowsKept name m known s
+      (name : ℕ → List ℕ) (m : Moment K V) (known : Known) (s : Scene K V) (old new : Held K V) → IsAt same hash old s → ShowsWhole same name m known s → ShowsKept name m known s
       → (map i : ℕ) (u : UnderWay K V K) (here : s.calls map i ≡ Some u) (said : CallTold (Node K V)) (leads : StepLeads same hash i said s old new)
       → (let to = leads map u here in
-      ShowsKept name (with_effects (Some (name i)) (Some map) (effects_of (acts.Call i map) known new.memory.changed) m) (known_after (acts.Call i map) new.memory.changed known)
-      (scene_after same hash s old new map i to.0 u to.1 said to.4))
+      ShowsKept name (with_effects (Some (name i)) (Some map) (effects_of (acts.Call i map) known new.changed) m) (known_after (acts.Call i map) new.changed known)
+      (scene_after same s old new map i to.0 u to.1 said to.4))
 
   -- where one that asks goes on by what it is told,
   abbrev pub CallsTakeKept : Type 0
   CallsTakeKept =
-      (name : ℕ → List ℕ) (m : Moment K V) (known : Known) (s : Scene K V) (old new : Executor K V S) → IsAt same hash old s → ShowsWhole same name m known s → ShowsKept name m known s
+      (name : ℕ → List ℕ) (m : Moment K V) (known : Known) (s : Scene K V) (old new : Held K V) → IsAt same hash old s → ShowsWhole same name m known s → ShowsKept name m known s
       → (map i : ℕ) (u : UnderWay K V K) → s.calls map i ≡ Some u → (reply : MachineReply V) (next : UnderWay K V K) → machine_of next ≡ (machine_replied (machine_of u) reply).0
       → (is_told : Reply V) → IsAt same hash new (scene_with map i next s) → Shows same name (told (name i) is_told m) known (scene_with map i next s)
       → ShowsKept name (told (name i) is_told m) known (scene_with map i next s)
@@ -109,13 +108,13 @@ module _ (K V S : Type 0) (same : K → K → Bool) (hash : K → ℕ) where
   -- where a walk goes on to its next pair,
   abbrev pub WalksGoOnKept : Type 0
   WalksGoOnKept =
-      (name : ℕ → List ℕ) (m : Moment K V) (known : Known) (s : Scene K V) (old new : Executor K V S) → ShowsWhole same name m known s → ShowsKept name m known s
+      (name : ℕ → List ℕ) (m : Moment K V) (known : Known) (s : Scene K V) (old new : Held K V) → ShowsWhole same name m known s → ShowsKept name m known s
       → (i : ℕ) (leads : AskLeads same hash i true s old new) (map : ℕ) (u : UnderWay K V K) (here : s.calls map i ≡ Some u) → ShowsKept name m known (scene_with map i (leads map u here).0 s)
 
   -- and where one is given up: no call that is under way then has its name.
   abbrev pub WalksStopKept : Type 0
   WalksStopKept =
-      (name : ℕ → List ℕ) (m : Moment K V) (known : Known) (s : Scene K V) (old new : Executor K V S) → IsAt same hash old s → ShowsWhole same name m known s → ShowsKept name m known s
+      (name : ℕ → List ℕ) (m : Moment K V) (known : Known) (s : Scene K V) (old new : Held K V) → IsAt same hash old s → ShowsWhole same name m known s → ShowsKept name m known s
       → (i : ℕ) (stopped : Bool) → StopLeads same hash i stopped s old new → (map : ℕ) (u : UnderWay K V K) → s.calls map i ≡ Some u
       → (let after = record s { calls = with_in s.calls map i (unless_stopped stopped u) } in
       (stopped ≡ true → NoneNamed name (name i) after) → ShowsKept name (given_up (name i) stopped m) known after)
@@ -123,52 +122,52 @@ module _ (K V S : Type 0) (same : K → K → Bool) (hash : K → ℕ) where
   -- So it is where a row begins on a slot, and after each step of it;
   abbrev pub RowsBeginKept : Type 0
   RowsBeginKept =
-      (name : ℕ → List ℕ) (m : Moment K V) (known : Known) (s : Scene K V) (old new : Executor K V S) → IsAt same hash old s → ShowsKept name m known s
-      → (called : SlotCall) (i : ℕ) (may : MayBegin old (slot_of i) called) (leads : RowBegins same hash called i s old new)
-      → ShowsKept name m known (scene_then same hash (Begin i (request_of (slot_of i) called)) s old new (leads may).3)
+      (name : ℕ → List ℕ) (m : Moment K V) (known : Known) (s : Scene K V) (old new : Held K V) → IsAt same hash old s → ShowsKept name m known s
+      → (called : SlotCall) (i : ℕ) (leads : RowBegins same hash called i s old new)
+      → ShowsKept name m known (scene_then same hash (Begin i (request_of (slot_of i) called)) s old new leads.2)
 
   abbrev pub RowsKeepKept : Type 0
   RowsKeepKept =
-      (name : ℕ → List ℕ) (m : Moment K V) (known : Known) (s : Scene K V) (old new : Executor K V S) → IsAt same hash old s → ShowsWhole same name m known s → ShowsKept name m known s
-      → (i : ℕ) (said : RowTold (Node K V)) (leads : RowLeads same hash i said s old new) (row : SlotRow) (here : work_of old i ≡ Some (OnSlot row))
-      → ShowsKept name (with_effects None None (effects_of acts.Row known new.memory.changed) m) (known_after acts.Row new.memory.changed known) (scene_then same hash (Step i) s old new (leads row here).4)
+      (name : ℕ → List ℕ) (m : Moment K V) (known : Known) (s : Scene K V) (old new : Held K V) → IsAt same hash old s → ShowsWhole same name m known s → ShowsKept name m known s
+      → (i : ℕ) (said : RowTold (Node K V)) (leads : RowLeads same hash i said s old new) (row : SlotRow) (here : IsOnSlot s i row)
+      → ShowsKept name (with_effects None None (effects_of acts.Row known new.changed) m) (known_after acts.Row new.changed known) (scene_then same hash (Step i) s old new (leads row here).2)
 
   -- a table that it reclaims was retired, and what waits behind that is not reclaimed.
   abbrev pub RowsFindKept : Type 0
   RowsFindKept =
-      (name : ℕ → List ℕ) (m : Moment K V) (known : Known) (s : Scene K V) (old new : Executor K V S) → IsAt same hash old s → ShowsWhole same name m known s → ShowsKept name m known s
-      → (i : ℕ) (said : RowTold (Node K V)) → RowLeads same hash i said s old new → (row : SlotRow) → work_of old i ≡ Some (OnSlot row)
-      → (let effects = effects_of acts.Row known new.memory.changed in AtEachEffect HadRetired None None effects m × AtEachEffect WaitUnreclaimed None None effects m)
+      (name : ℕ → List ℕ) (m : Moment K V) (known : Known) (s : Scene K V) (old new : Held K V) → IsAt same hash old s → ShowsWhole same name m known s → ShowsKept name m known s
+      → (i : ℕ) (said : RowTold (Node K V)) → RowLeads same hash i said s old new → (row : SlotRow) → IsOnSlot s i row
+      → (let effects = effects_of acts.Row known new.changed in AtEachEffect HadRetired None None effects m × AtEachEffect WaitUnreclaimed None None effects m)
 
   -- And after each step of the making of a map, on whichever map its effects are told, if the moment after it shows the scene.
   abbrev pub MakingsKeepKept : Type 0
   MakingsKeepKept =
-      (name : ℕ → List ℕ) (m : Moment K V) (known : Known) (s : Scene K V) (old new : Executor K V S) → IsAt same hash old s → ShowsWhole same name m known s → ShowsKept name m known s
+      (name : ℕ → List ℕ) (m : Moment K V) (known : Known) (s : Scene K V) (old new : Held K V) → IsAt same hash old s → ShowsWhole same name m known s → ShowsKept name m known s
       → (i : ℕ) (said : Progress Setting) (leads : MakingLeads same hash i said s old new) (b : Beginning K) (here : s.makers i ≡ Some b) (of : Option ℕ) → WasNew b.map said m
       → (let to = leads b here in
-      let v = with_effects None of (effects_of (acts.Making b.map) known new.memory.changed) m in
-      let after = known_after (acts.Making b.map) new.memory.changed known in
+      let v = with_effects None of (effects_of (acts.Making b.map) known new.changed) m in
+      let after = known_after (acts.Making b.map) new.changed known in
       let led = making_after same hash s old new i b to.0 to.2.step.w2 said to.3 in
       IsAt same hash new led → Shows same name v after led → ShowsKept name v after led)
 
   -- So it is where one begins an end who has none under way, and then after each step of it;
   abbrev pub EndingsBeginKept : Type 0
   EndingsBeginKept =
-      (name : ℕ → List ℕ) (m : Moment K V) (known : Known) (s : Scene K V) (old new : Executor K V S) → IsAt same hash old s → ShowsKept name m known s
+      (name : ℕ → List ℕ) (m : Moment K V) (known : Known) (s : Scene K V) (old new : Held K V) → IsAt same hash old s → ShowsKept name m known s
       → (map i : ℕ) (standing : Standing K) → s.enders i ≡ None → IsAt same hash new (ending_begun map i standing s) → ShowsKept name m known (ending_begun map i standing s)
 
   abbrev pub EndingsKeepKept : Type 0
   EndingsKeepKept =
-      (name : ℕ → List ℕ) (m : Moment K V) (known : Known) (s : Scene K V) (old new : Executor K V S) → IsAt same hash old s → ShowsWhole same name m known s → ShowsKept name m known s
+      (name : ℕ → List ℕ) (m : Moment K V) (known : Known) (s : Scene K V) (old new : Held K V) → IsAt same hash old s → ShowsWhole same name m known s → ShowsKept name m known s
       → (i : ℕ) (said : Settled (Node K V)) (leads : EndingLeads same hash i said s old new) (f : Finishing K V) (here : s.enders i ≡ Some f) (map : ℕ) → s.maps map ≡ None
       → (let to = leads f here in
       let led = ending_after same hash s new i f to.0 to.2.w2 to.2.deed said to.3 in
       IsAt same hash new led
-      → ShowsKept name (with_effects None (Some map) (effects_of (acts.Ending map) known new.memory.changed) m) (known_after (acts.Ending map) new.memory.changed known) led)
+      → ShowsKept name (with_effects None (Some map) (effects_of (acts.Ending map) known new.changed) m) (known_after (acts.Ending map) new.changed known) led)
 
   -- and what waits behind a table that ends with its map is not reclaimed.
   abbrev pub EndingsFindKept : Type 0
   EndingsFindKept =
-      (name : ℕ → List ℕ) (m : Moment K V) (known : Known) (s : Scene K V) (old new : Executor K V S) → IsAt same hash old s → ShowsWhole same name m known s → ShowsKept name m known s
+      (name : ℕ → List ℕ) (m : Moment K V) (known : Known) (s : Scene K V) (old new : Held K V) → IsAt same hash old s → ShowsWhole same name m known s → ShowsKept name m known s
       → (i : ℕ) (said : Settled (Node K V)) → EndingLeads same hash i said s old new → (f : Finishing K V) → s.enders i ≡ Some f → (map : ℕ) → s.maps map ≡ None
-      → AtEachEffect WaitsOn None (Some map) (effects_of (acts.Ending map) known new.memory.changed) m
+      → AtEachEffect WaitsOn None (Some map) (effects_of (acts.Ending map) known new.changed) m

@@ -24,8 +24,6 @@ use Rattle.papaya_grows.specs.Given.Schedules.Terms.{Terms}
 use Rattle.papaya_grows.specs.Given.Schedules.Views.{call_of}
 use Rattle.papaya_grows.specs.Given.Callers.Together.{UnderWay}
 use Rattle.papaya_grows.specs.Given.Effects.Known.{Known}
-use Rattle.papaya_grows.specs.Given.Executor.IsAt.{IsAt, Scene}
-use Rattle.papaya_grows.specs.Given.Executor.declared.executor.Executor.{Executor}
 use Rattle.papaya_grows.specs.Given.Finishes.Machines.{machine_of}
 use Rattle.papaya_grows.proofs.Given.Histories.NoKey.Idle.{idle_are_linearizable}
 use Rattle.papaya_grows.proofs.Given.Owes.Clear.{walks_are_clear}
@@ -46,6 +44,8 @@ use Rattle.papaya_legal.specs.Over.{AgainEventsEnd, GoesOnBy, IsSaidSo}
 use Rattle.papaya_legal.proofs.CallLeaves.{none_asked}
 use Rattle.papaya_legal.proofs.Idle.{still_events_are_legal}
 use Rattle.papaya_legal.proofs.Over.{quiet_events_end}
+use Rattle.papaya_grows.specs.Given.Scenes.Held.{Held, IsAt}
+use Rattle.papaya_grows.specs.Given.Scenes.Scene.{Scene}
 
 module _ {K V : Type 0} where
   -- a call that says again how far it is has changed nothing, and is as it was
@@ -96,7 +96,7 @@ module _ {K V : Type 0} (same : K → K → Bool) where
   asks_none c moments outcome.Ready so = subst (λ (stands : Stands). AsksRight same stands c moments outcome.Ready) (sym so) tt
   asks_none c moments _ so = absurd so
 
-module _ (K V S : Type 0) (same : K → K → Bool) (hash : K → ℕ) (name : ℕ → List ℕ) (terms : Terms) (log : List (Entry K V)) (known : Known) (s : Scene K V) (x : Executor K V S) (at : IsAt same hash x s)
+module _ (K V : Type 0) (same : K → K → Bool) (hash : ℕ → K → ℕ) (name : ℕ → List ℕ) (terms : Terms) (log : List (Entry K V)) (known : Known) (s : Scene K V) (x : Held K V) (at : IsAt same hash x s)
     (run : ShowsRun same name terms log known s) (map i : ℕ) (u : UnderWay K V K) (here : s.calls map i ≡ Some u) (c : CallThere K V) (c_is : call_of (name i) (moment log) ≡ Some c) where
   abbrev m : Moment K V
   m = moment log
@@ -156,7 +156,7 @@ module _ (K V S : Type 0) (same : K → K → Bool) (hash : K → ℕ) (name : �
 
       brief : ReadsBriefly log e (worked e m)
       brief = subst (λ (v : Moment K V). ReadsBriefly log e v) (sym (stays said))
-          (events_read_briefly K V S same hash name log (λ j. 0) m known s x at run.calls.whole run.reading map i u here e of_call (omega arith))
+          (events_read_briefly K V same hash name log (λ j. 0) m known s x at run.calls.whole run.reading map i u here e of_call (omega arith))
 
       leaves : IfCall (LeavesOf (comes_clear said) said) (acting (caller_of its) (worked e m))
       leaves = subst (λ (o : Option (CallThere K V)). IfCall (LeavesOf (comes_clear said) said) o) (sym (its_call (worked e m) (stays said))) (leaves_so said so ready)
@@ -174,8 +174,8 @@ module _ (K V S : Type 0) (same : K → K → Bool) (hash : K → ℕ) (name : �
         quiet_events_end K V same name terms log known s s run e right legal.0.life refl unchanged.0 unchanged.1 reclaims m run.calls run.reading like refl legal.1,
       )
 
-module _ (K V S : Type 0) (same : K → K → Bool) (hash : K → ℕ) where
-  pub again_events_end : AgainEventsEnd K V S same hash
+module _ (K V : Type 0) (same : K → K → Bool) (hash : ℕ → K → ℕ) where
+  pub again_events_end : AgainEventsEnd K V same hash
   again_events_end name terms log known s x at run map i u here c c_is its on told is_so ready all right = by its on told is_so ready all right
     where
       Goal : Event K V → Outcome V → Type 0
@@ -189,19 +189,19 @@ module _ (K V S : Type 0) (same : K → K → Bool) (hash : K → ℕ) where
 
       step_on : (refuse : Bool) (told : Outcome V) → Goal (event.Step (name i) refuse) told
       step_on refuse (outcome.Asks q) so ready all right =
-          said_on K V S same hash name terms log known s x at run map i u here c c_is (event.Step (name i) refuse) (outcome.Asks q) so ready refl (λ told. refl) (λ told. refl) tt tt tt tt tt
+          said_on K V same hash name terms log known s x at run map i u here c c_is (event.Step (name i) refuse) (outcome.Asks q) so ready refl (λ told. refl) (λ told. refl) tt tt tt tt tt
           (ap (with_calls (after (record { event = event.Step (name i) refuse; outcome = outcome.Asks q; steps = 0; effects = [] }) (moment log))) (calls_still (outcome.Asks q) (name i) (moment log).calls all)) right
       step_on refuse outcome.Ready so ready all right =
-          said_on K V S same hash name terms log known s x at run map i u here c c_is (event.Step (name i) refuse) outcome.Ready so ready refl (λ told. refl) (λ told. refl) tt tt tt tt tt
+          said_on K V same hash name terms log known s x at run map i u here c c_is (event.Step (name i) refuse) outcome.Ready so ready refl (λ told. refl) (λ told. refl) tt tt tt tt tt
           (ap (with_calls (after (record { event = event.Step (name i) refuse; outcome = outcome.Ready; steps = 0; effects = [] }) (moment log))) (calls_still outcome.Ready (name i) (moment log).calls all)) right
       step_on refuse _ so ready all right = absurd so
 
       go_on : (refuse : Bool) (told : Outcome V) → Goal (event.Go (name i) refuse) told
       go_on refuse (outcome.Asks q) so ready all right =
-          said_on K V S same hash name terms log known s x at run map i u here c c_is (event.Go (name i) refuse) (outcome.Asks q) so ready refl (λ told. refl) (λ told. refl) tt tt tt tt tt
+          said_on K V same hash name terms log known s x at run map i u here c c_is (event.Go (name i) refuse) (outcome.Asks q) so ready refl (λ told. refl) (λ told. refl) tt tt tt tt tt
           (ap (with_calls (after (record { event = event.Go (name i) refuse; outcome = outcome.Asks q; steps = 0; effects = [] }) (moment log))) (calls_still (outcome.Asks q) (name i) (moment log).calls all)) right
       go_on refuse outcome.Ready so ready all right =
-          said_on K V S same hash name terms log known s x at run map i u here c c_is (event.Go (name i) refuse) outcome.Ready so ready refl (λ told. refl) (λ told. refl) tt tt tt tt tt
+          said_on K V same hash name terms log known s x at run map i u here c c_is (event.Go (name i) refuse) outcome.Ready so ready refl (λ told. refl) (λ told. refl) tt tt tt tt tt
           (ap (with_calls (after (record { event = event.Go (name i) refuse; outcome = outcome.Ready; steps = 0; effects = [] }) (moment log))) (calls_still outcome.Ready (name i) (moment log).calls all)) right
       go_on refuse _ so ready all right = absurd so
 

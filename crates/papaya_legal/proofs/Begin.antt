@@ -3,7 +3,6 @@ use Rattle.std.specs.Prelude.{[]}
 use Rattle.std.proofs.Common.{refl, inl}
 use Rattle.papaya_grows.specs.Given.Tables.Nodes.{deferred_word}
 use Rattle.papaya_grows.specs.Given.Effects.Known.{nothing_known}
-use Rattle.papaya_grows.specs.Given.Executor.IsAt.{at_first}
 use Rattle.papaya_grows.proofs.Given.Moments.Calls.{whole_begins}
 use Rattle.papaya_grows.proofs.Given.Moments.NewMaps.{pairs_begin}
 use Rattle.papaya_grows.proofs.Given.Moments.Numbers.{numbers_begin}
@@ -16,6 +15,7 @@ use Rattle.papaya_models.proofs.Turns.{turns_begin}
 use Rattle.papaya_grows.proofs.Given.Finds.Runs.{all_in_order_at_first}
 use Rattle.papaya_grows.proofs.Given.Purposes.Tableless.{tableless_at_first}
 use Rattle.papaya_legal.specs.Carried.{RunsBegin, RunsBeginIn}
+use Rattle.papaya_grows.specs.Given.Scenes.Scene.{at_first}
 
 pub runs_begin_in : (K V : Type 0) → RunsBeginIn K V
 runs_begin_in K V same terms name known w whole kept came = record {

@@ -8,17 +8,14 @@ use Rattle.papaya_grows.specs.Given.Raw.declared.machines.call.Calling.{Calling}
 use Rattle.papaya_grows.specs.Given.Runs.Same.{is_same}
 use Rattle.papaya_grows.specs.Given.Schedules.declared.event.Event.TheVariants as event
 use Rattle.papaya_grows.specs.Given.Schedules.declared.outcome.Outcome.TheVariants.{Done, Goes}
-use Rattle.papaya_grows.specs.Given.Schedules.After.{is_alone_on, moment}
+use Rattle.papaya_grows.specs.Given.Schedules.After.{is_alone_on, moment, moments_from}
 use Rattle.papaya_grows.specs.Given.Schedules.Beginning.{with_call}
 use Rattle.papaya_grows.specs.Given.Schedules.Entry.{Entry}
 use Rattle.papaya_grows.specs.Given.Schedules.Moment.{UnderWay as CallThere, Moment}
 use Rattle.papaya_grows.specs.Given.Schedules.Views.{call_of, number_of}
 use Rattle.papaya_grows.specs.Given.Tables.Chunks.{is_incremental}
-use Rattle.papaya_grows.specs.Given.Schedules.After.{moments_from}
 use Rattle.papaya_grows.specs.Given.Rule.Chart.{Chart}
 use Rattle.papaya_grows.specs.Given.Callers.Together.{UnderWay, OnKey, ForRoom, Counting, OverAll}
-use Rattle.papaya_grows.specs.Given.Executor.IsAt.{Scene}
-use Rattle.papaya_grows.specs.Given.Executor.Replying.{scene_with, unless_stopped}
 use Rattle.papaya_grows.specs.Given.Finishes.Machines.{machine_of}
 use Rattle.papaya_grows.specs.Given.Finishes.Maps.{with_call as with_call_of}
 use Rattle.papaya_grows.specs.Given.Follows.Calling.{told}
@@ -42,9 +39,11 @@ use Rattle.papaya_legal.proofs.Between.{calls_begin, calls_take, walks_stop}
 use Rattle.papaya_legal.proofs.Idle.{idle_events_are_legal}
 use Rattle.papaya_legal.proofs.Maps.{stands_so}
 use Rattle.papaya_legal.proofs.Over.{quiet_events_end}
+use Rattle.papaya_grows.specs.Given.Scenes.Replying.{scene_with, unless_stopped}
+use Rattle.papaya_grows.specs.Given.Scenes.Scene.{Scene}
 
-module _ (K V S : Type 0) (same : K → K → Bool) (hash : K → ℕ) where
-  pub begun_events_end : BegunEventsEnd K V S same hash
+module _ (K V : Type 0) (same : K → K → Bool) (hash : ℕ → K → ℕ) where
+  pub begun_events_end : BegunEventsEnd K V same hash
   begun_events_end name terms log known s old new at run map i standing there u call guard begins right none rests at2 on number steps comes = (
     legal,
     quiet_events_end K V same name terms log known s (scene_with map i u s) run e comes legal.life refl refl refl tt (with_call (name i) guard call (Some map) (moment log)) shown reading
@@ -58,7 +57,7 @@ module _ (K V S : Type 0) (same : K → K → Bool) (hash : K → ℕ) where
       legal = (idle_events_are_legal K V same terms log known s.world e refl tt run.sections tt refl refl tt (no_calls_are_swept K V same terms log e refl) tt tt).0
 
       shown : ShowsCalls same name log (with_call (name i) guard call (Some map) (moment log)) known (scene_with map i u s)
-      shown = calls_begin K V S same hash name log known s old new at run.calls map i standing there u call guard begins right none rests at2
+      shown = calls_begin K V same hash name log known s old new at run.calls map i standing there u call guard begins right none rests at2
 
       reading : ShowsReading name log (λ j. 0) (with_call (name i) guard call (Some map) (moment log)) (scene_with map i u s)
       reading = calls_begin_readings K V same name log (moment log) known s run.calls.whole run.reading map i u call guard none right.looks (events_are log)
@@ -92,8 +91,8 @@ module _ {K V : Type 0} (incremental : Bool) (map : ℕ) (c : Chart K) (moments 
   takes_none (Counting sum) looked takes = looked
   takes_none (OverAll o) looked takes = looked
 
-module _ (K V S : Type 0) (same : K → K → Bool) (hash : K → ℕ) where
-  pub told_events_end : ToldEventsEnd K V S same hash
+module _ (K V : Type 0) (same : K → K → Bool) (hash : ℕ → K → ℕ) where
+  pub told_events_end : ToldEventsEnd K V same hash
   told_events_end name terms log known s old new at run map i u here c c_is question asks standing there is_told next next_is takes told_kind taken at2 steps comes =
       (legal, quiet_events_end K V same name terms log known s (scene_with map i next s) run e comes legal.life refl refl refl tt (told (name i) is_told (moment log)) shown reading refl refl run.sections)
     where
@@ -104,7 +103,7 @@ module _ (K V S : Type 0) (same : K → K → Bool) (hash : K → ℕ) where
       legal = (idle_events_are_legal K V same terms log known s.world e refl tt run.sections tt refl refl tt (no_calls_are_swept K V same terms log e refl) tt tt).0
 
       shown : ShowsCalls same name log (told (name i) is_told (moment log)) known (scene_with map i next s)
-      shown = calls_take K V S same hash name log (moment log) known s old new at run.calls map i u here c c_is question asks standing there is_told next next_is takes told_kind taken at2
+      shown = calls_take K V same hash name log (moment log) known s old new at run.calls map i u here c c_is question asks standing there is_told next next_is takes told_kind taken at2
 
       no_look : looks c.call ≡ false
       no_look = by (looks c.call) refl
@@ -117,7 +116,7 @@ module _ (K V S : Type 0) (same : K → K → Bool) (hash : K → ℕ) where
       reading : ShowsReading name log (λ j. 0) (told (name i) is_told (moment log)) (scene_with map i next s)
       reading = calls_take_readings K V name log (λ j. 0) (moment log) s run.reading (λ n j x is. (let d = run.calls.whole.all.shown.calls n j x is in (d.0, d.1))) map i c c_is no_look is_told next
 
-  pub stopped_events_end : StoppedEventsEnd K V S same hash
+  pub stopped_events_end : StoppedEventsEnd K V same hash
   stopped_events_end name terms log known s old new at run i leads map u here steps none comes = (
     legal,
     quiet_events_end K V same name terms log known s (record s { calls = with_call_of s.calls map i (unless_stopped true u) }) run e comes legal.life refl refl refl tt
@@ -134,7 +133,7 @@ module _ (K V S : Type 0) (same : K → K → Bool) (hash : K → ℕ) where
       at_end = record s { calls = with_call_of s.calls map i (unless_stopped true u) }
 
       shown : ShowsCalls same name log (given_up (name i) true (moment log)) known at_end
-      shown = walks_stop K V S same hash name log (moment log) known s old new at run.calls i true leads map u here (λ e. none)
+      shown = walks_stop K V same hash name log (moment log) known s old new at run.calls i true leads map u here (λ e. none)
 
       -- the calls that are left were there, as they were
       left : (n j : ℕ) (x : UnderWay K V K) → at_end.calls n j ≡ Some x → s.calls n j ≡ Some x

@@ -18,9 +18,6 @@ use Rattle.papaya_grows.specs.Given.Callers.OverAll.{CallOverAll, gone_on}
 use Rattle.papaya_grows.specs.Given.Callers.Rooms.{CallForRoom}
 use Rattle.papaya_grows.specs.Given.Callers.Together.{UnderWay, CallOnKey, OnKey, ForRoom, Counting, OverAll}
 use Rattle.papaya_grows.specs.Given.Effects.Known.{Known}
-use Rattle.papaya_grows.specs.Given.Executor.Beginning.{Begins}
-use Rattle.papaya_grows.specs.Given.Executor.IsAt.{Scene, HasCall}
-use Rattle.papaya_grows.specs.Given.Executor.Replying.{scene_with, unless_stopped}
 use Rattle.papaya_grows.specs.Given.Finishes.Machines.{machine_of}
 use Rattle.papaya_grows.specs.Given.Finishes.Maps.{Standing, with_call as with_call_of}
 use Rattle.papaya_grows.specs.Given.Follows.Calling.{NoneNamed, told}
@@ -71,6 +68,9 @@ use Rattle.papaya_grows.proofs.Tries.Shows.{calls_begin_tries, calls_take_tries,
 use Rattle.papaya_grows.proofs.Finding.Nexts.{calls_begin_nexts, calls_take_nexts, nexts_grow, walks_go_on_nexts, walks_stop_nexts}
 use Rattle.papaya_grows.proofs.Finding.Making.Between.{calls_begin_further, calls_take_further, walks_go_on_further}
 use Rattle.papaya_grows.proofs.Finding.Between.{asked_same, fewer_calls, none_at_first, puts_begun, puts_on, replied_same, waits_on}
+use Rattle.papaya_grows.specs.Given.Scenes.Beginning.{Begins}
+use Rattle.papaya_grows.specs.Given.Scenes.Replying.{scene_with, unless_stopped}
+use Rattle.papaya_grows.specs.Given.Scenes.Scene.{HasCall, Scene}
 
 pub likes_show : (K V : Type 0) (same : K → K → Bool) → LikesShow K V same
 likes_show K V same name log m v known s all like = subst (λ (x : Moment K V). ShowsCalls same name log x known s) (sym like) (record {
@@ -85,10 +85,10 @@ likes_show K V same name log m v known s all like = subst (λ (x : Moment K V). 
   tries = all.tries;
   counters = counters_stay K V name m other s s all.counters refl refl refl refl refl (λ of j x is removed adds. (x, is, adds));
   uncounted = all.uncounted;
-  dues = (dues_stay K V (Unit {0}) same (λ k. 0) name log).alike m other known s all.dues alike;
-  as_called = (as_called_stays K V (Unit {0}) same (λ k. 0) name).alike m other known s all.as_called alike;
+  dues = (dues_stay K V same (λ n k. 0) name log).alike m other known s all.dues alike;
+  as_called = (as_called_stays K V same (λ n k. 0) name).alike m other known s all.as_called alike;
   questions = all.questions;
-  purposes = (purposes_stay K V (Unit {0}) same (λ k. 0) name log).alike m other known s all.purposes alike;
+  purposes = (purposes_stay K V same (λ n k. 0) name log).alike m other known s all.purposes alike;
 })
   where
     other : Moment K V
@@ -250,8 +250,8 @@ module _ {K V : Type 0} (own : List ℕ) (m : Moment K V) where
   given_questions true questions = calls_come_to_questions K V own (Refused Memory) 0 m questions (λ c c_is. asks_still c.stands)
   given_questions false questions = questions
 
-module _ (K V S : Type 0) (same : K → K → Bool) (hash : K → ℕ) where
-  pub calls_begin : CallsBegin K V S same hash
+module _ (K V : Type 0) (same : K → K → Bool) (hash : ℕ → K → ℕ) where
+  pub calls_begin : CallsBegin K V same hash
   calls_begin name log known s old new at all map i standing there u call guard begins right none rests at2 =
       let m = moment log in
       let v = with_call (name i) guard call (Some map) m in
@@ -260,7 +260,7 @@ module _ (K V S : Type 0) (same : K → K → Bool) (hash : K → ℕ) where
       record {
         whole = whole;
         numbers = (record { found = all.numbers.0.found; below = all.numbers.0.below; tables = all.numbers.0.tables }, all.numbers.1);
-        kept = calls_begin_kept K V S same hash name m known s old new at all.whole all.kept map i standing there u call guard begins right.called right.given none rests at2 whole.all.shown;
+        kept = calls_begin_kept K V same hash name m known s old new at all.whole all.kept map i standing there u call guard begins right.called right.given none rests at2 whole.all.shown;
         finding = record {
           growing = calls_begin_growing K V same m s all.finding.growing standing map i u begins;
           further = calls_begin_further same m s all.finding.further standing map i u begins;
@@ -274,17 +274,17 @@ module _ (K V S : Type 0) (same : K → K → Bool) (hash : K → ℕ) where
         tries = calls_begin_tries same name log m s all.tries map i u guard call standing begins none;
         counters = calls_begin_counters K V name m s all.counters map i u call guard none (uncounted_at_first K V same standing i u begins);
         uncounted = all.uncounted;
-        dues = calls_begin_due K V S same hash name log m known s old at all.dues map i u call guard standing there (began_now same standing i u begins) (unchanged same standing i u begins) none right.called
+        dues = calls_begin_due K V same hash name log m known s old at all.dues map i u call guard standing there (began_now same standing i u begins) (unchanged same standing i u begins) none right.called
             right.given (events_are log);
         as_called = calls_begin_as_called K V same name m known s all.as_called map i u call guard none right.called right.swept;
         questions = calls_begin_questions K V (name i) guard call (Some map) m all.questions;
-        purposes = calls_begin_purposes K V S same hash name log m known s old at all.purposes map i u call guard standing there begins none right.called right.aim (events_are log) refl;
+        purposes = calls_begin_purposes K V same hash name log m known s old at all.purposes map i u call guard standing there begins none right.called right.aim (events_are log) refl;
       }
 
-  pub calls_take : CallsTake K V S same hash
+  pub calls_take : CallsTake K V same hash
   calls_take name log m known s old new at all map i u here c c_is question asks standing there is_told next next_is takes told_kind taken at2 =
-      let whole = calls_take_whole K V S same hash name m known s old at all.whole map i u here c c_is question asks standing there is_told next next_is takes told_kind in
-      let kept = calls_take_kept K V S same hash name m known s old new at all.whole all.kept map i u here (as_told is_told) next next_is is_told at2 whole.all.shown in
+      let whole = calls_take_whole K V same hash name m known s old at all.whole map i u here c c_is question asks standing there is_told next next_is takes told_kind in
+      let kept = calls_take_kept K V same hash name m known s old new at all.whole all.kept map i u here (as_told is_told) next next_is is_told at2 whole.all.shown in
       record {
         whole = whole;
         numbers = (record { found = all.numbers.0.found; below = all.numbers.0.below; tables = all.numbers.0.tables }, all.numbers.1);
@@ -302,10 +302,10 @@ module _ (K V S : Type 0) (same : K → K → Bool) (hash : K → ℕ) where
         tries = calls_take_tries same name log m s all.tries map i u here all.whole.all.shown.calls next is_told (as_told is_told) next_is;
         counters = calls_take_counters K V same name m known s all.whole all.counters map i u here (as_told is_told) next next_is is_told;
         uncounted = all.uncounted;
-        dues = calls_take_due K V S same hash name log m known s old at all.dues map i u here c c_is question asks standing there is_told next next_is takes told_kind taken;
-        as_called = calls_take_as_called K V S same hash name m known s old at all.whole all.as_called map i u here c c_is question asks standing there is_told next next_is takes told_kind;
+        dues = calls_take_due K V same hash name log m known s old at all.dues map i u here c c_is question asks standing there is_told next next_is takes told_kind taken;
+        as_called = calls_take_as_called K V same hash name m known s old at all.whole all.as_called map i u here c c_is question asks standing there is_told next next_is takes told_kind;
         questions = calls_take_questions K V (name i) is_told m all.questions;
-        purposes = calls_take_purposes K V S same hash name log m known s old at all.whole all.purposes map i u here c c_is question asks (asks_about known u question about) standing there is_told next takes told_kind;
+        purposes = calls_take_purposes K V same hash name log m known s old at all.whole all.purposes map i u here c c_is question asks (asks_about known u question about) standing there is_told next takes told_kind;
       }
     where
       stays : in_hand known (machine_of next) ≡ in_hand known (machine_of u)
@@ -320,9 +320,9 @@ module _ (K V S : Type 0) (same : K → K → Bool) (hash : K → ℕ) where
           its : (o : CallOverAll) → u ≡ OverAll o → IsSweptAs (all.as_called.shown.number map) standing.chart.stored known o c
           its o is = subst (λ (x : UnderWay K V K). IsAsCalled (all.as_called.shown.number map) standing.chart.stored known x c) is (all.as_called.each map i u here standing there c c_is)
 
-  pub walks_go_on : WalksGoOn K V S same hash
+  pub walks_go_on : WalksGoOn K V same hash
   walks_go_on name log m known s old new at all i leads map o here is = record {
-    whole = walks_go_on_whole K V S same hash name m known s old new all.whole i leads map (OverAll o) here;
+    whole = walks_go_on_whole K V same hash name m known s old new all.whole i leads map (OverAll o) here;
     numbers = all.numbers;
     kept = kept;
     finding = record {
@@ -332,24 +332,24 @@ module _ (K V S : Type 0) (same : K → K → Bool) (hash : K → ℕ) where
       waits = waits_on K V same name m m known s map i (OverAll o) here next all.whole.all.shown.calls all.kept.owed kept.owed stays goes (λ n j x there k waits held. held) all.finding.waits;
       puts = puts_on K V same name m m known s map i (OverAll o) here next all.whole.all.shown.calls all.kept.owed kept.owed stays goes all.finding.puts;
     };
-    sources = sources_so K V same name m m known known s (scene_with map i next s) all.sources (walks_go_on_whole K V S same hash name m known s old new all.whole i leads map (OverAll o) here).all.shown refl refl refl
+    sources = sources_so K V same name m m known known s (scene_with map i next s) all.sources (walks_go_on_whole K V same hash name m known s old new all.whole i leads map (OverAll o) here).all.shown refl refl refl
         (λ n st is. is);
     nexts = walks_go_on_nexts same name log m s all.nexts map i (OverAll o) here all.whole.all.shown.calls next (leads map (OverAll o) here).1;
     limits = walks_go_on_limits same name log m s all.limits map i (OverAll o) here all.whole.all.shown.calls next (leads map (OverAll o) here).1;
     tries = walks_go_on_tries same name log m s all.tries map i (OverAll o) here all.whole.all.shown.calls next (leads map (OverAll o) here).1;
     counters = on_counters name m s map i (Some next) its all.counters;
     uncounted = all.uncounted;
-    dues = (dues_stay K V S same hash name log).walks m known s old new at all.whole all.dues i leads map o here is;
-    as_called = (as_called_stays K V S same hash name).walks m known s old new at all.whole all.as_called i leads map o here is;
+    dues = (dues_stay K V same hash name log).walks m known s old new at all.whole all.dues i leads map o here is;
+    as_called = (as_called_stays K V same hash name).walks m known s old new at all.whole all.as_called i leads map o here is;
     questions = all.questions;
-    purposes = (purposes_stay K V S same hash name log).walks m known s old new at all.whole all.purposes i leads map o here is;
+    purposes = (purposes_stay K V same hash name log).walks m known s old new at all.whole all.purposes i leads map o here is;
   }
     where
       next : UnderWay K V K
       next = (leads map (OverAll o) here).0
 
       kept : ShowsKept name m known (scene_with map i next s)
-      kept = walks_go_on_kept K V S same hash name m known s old new all.whole all.kept i leads map (OverAll o) here
+      kept = walks_go_on_kept K V same hash name m known s old new all.whole all.kept i leads map (OverAll o) here
 
       stays : in_hand known (machine_of next) ≡ in_hand {K = K} {V = V} {Q = K} known (machine_of {K = K} {V = V} {Q = K} (OverAll o))
       stays = ap (λ (z : Machine K V K). in_hand known z) (leads map (OverAll o) here).1 ∙ (asked_stays known (machine_of {K = K} {V = V} {Q = K} (OverAll o))).0
@@ -362,29 +362,29 @@ module _ (K V S : Type 0) (same : K → K → Bool) (hash : K → ℕ) where
           let x_is : x ≡ OverAll (gone_on o (after_next o.sweep)) = sym (one_of next x e) ∙ is in
           (OverAll o, here, adds_next o.sweep.stands o.sweep removed refl (ap (λ (y : UnderWay K V K). adds_of (machine_of y)) (sym x_is) ∙ adds))
 
-  pub walks_stop : WalksStop K V S same hash
+  pub walks_stop : WalksStop K V same hash
   walks_stop name log m known s old new at all i stopped leads map u here none = record {
-    whole = walks_stop_whole K V S same hash name m known s old new all.whole i stopped leads map u here none;
+    whole = walks_stop_whole K V same hash name m known s old new all.whole i stopped leads map u here none;
     numbers = given_numbers (name i) m stopped all.numbers;
     kept = kept;
     finding = fewer_find stopped kept.owed;
-    sources = given_sources stopped (walks_stop_whole K V S same hash name m known s old new all.whole i stopped leads map u here none).all.shown;
+    sources = given_sources stopped (walks_stop_whole K V same hash name m known s old new all.whole i stopped leads map u here none).all.shown;
     nexts = walks_stop_nexts same name log m s all.nexts map i u here all.whole.all.shown.calls u stopped none;
     limits = walks_stop_limits same name log m s all.limits map i u here all.whole.all.shown.calls u stopped none;
     tries = walks_stop_tries same name log m s all.tries map i u here all.whole.all.shown.calls u stopped none;
     counters = by stopped none;
     uncounted = given_uncounted (name i) m stopped all.uncounted;
-    dues = (dues_stay K V S same hash name log).walks_stop m known s old new at all.whole all.dues i stopped leads map u here none;
-    as_called = (as_called_stays K V S same hash name).walks_stop m known s old new at all.whole all.as_called i stopped leads map u here none;
+    dues = (dues_stay K V same hash name log).walks_stop m known s old new at all.whole all.dues i stopped leads map u here none;
+    as_called = (as_called_stays K V same hash name).walks_stop m known s old new at all.whole all.as_called i stopped leads map u here none;
     questions = given_questions (name i) m stopped all.questions;
-    purposes = (purposes_stay K V S same hash name log).walks_stop m known s old new at all.whole all.purposes i stopped leads map u here none;
+    purposes = (purposes_stay K V same hash name log).walks_stop m known s old new at all.whole all.purposes i stopped leads map u here none;
   }
     where
       at_end : Bool → Scene K V
       at_end q = record s { calls = with_call_of s.calls map i (unless_stopped q u) }
 
       kept : ShowsKept name (given_up (name i) stopped m) known (at_end stopped)
-      kept = walks_stop_kept K V S same hash name m known s old new at all.whole all.kept i stopped leads map u here none
+      kept = walks_stop_kept K V same hash name m known s old new at all.whole all.kept i stopped leads map u here none
 
       fewer_find : (q : Bool) → ShowsOwed name (given_up (name i) q m) known (at_end q) → ShowsFinding name (given_up (name i) q m) known (at_end q)
       fewer_find true owed =

@@ -5,7 +5,6 @@ use Rattle.papaya_grows.specs.Given.Seize.World.{with_at}
 use Rattle.papaya_grows.specs.Given.Runs.Same.{is_same}
 use Rattle.papaya_grows.specs.Given.Schedules.Beginning.{with_map}
 use Rattle.papaya_grows.specs.Given.Schedules.Views.{map_at}
-use Rattle.papaya_grows.specs.Given.Executor.Ending.{ending_begun}
 use Rattle.papaya_grows.specs.Given.Finishes.Maps.{Standing}
 use Rattle.papaya_grows.specs.Given.Others.Endings.{without_map}
 use Rattle.papaya_grows.proofs.Given.Moments.Ends.{endings_begin_whole}
@@ -28,9 +27,10 @@ use Rattle.papaya_grows.proofs.Limits.Shows.{limits_where}
 use Rattle.papaya_grows.proofs.Tries.Shows.{tries_where}
 use Rattle.papaya_grows.proofs.Finding.Nexts.{nexts_where}
 use Rattle.papaya_grows.proofs.Finding.Between.{finding_where, found_beside, found_kept}
+use Rattle.papaya_grows.specs.Given.Scenes.Ending.{ending_begun}
 
-module _ (K V S : Type 0) (same : K → K → Bool) (hash : K → ℕ) where
-  pub maps_come : MapsCome K V S same hash
+module _ (K V : Type 0) (same : K → K → Bool) (hash : ℕ → K → ℕ) where
+  pub maps_come : MapsCome K V same hash
   maps_come name log m known s e at all there number =
       let come = maps_come_by_number K V m all.numbers.0 there number in (
         record {
@@ -44,10 +44,10 @@ module _ (K V S : Type 0) (same : K → K → Bool) (hash : K → ℕ) where
           tries = tries_where same hash name log m (with_map there m) s e at all.tries still (record { stored = refl; place = refl; born = refl; spot = refl }) refl refl;
           counters = counters_stay K V name m (with_map there m) s s all.counters refl refl refl refl refl (λ of j x is removed adds. (x, is, adds));
           uncounted = λ of low. (let l : m.made ≤ of = omega (arith, low) in all.uncounted of l);
-          dues = (dues_stay K V S same hash name log).maps_come m known s e e at all.whole all.dues there come.1;
-          as_called = (as_called_stays K V S same hash name).maps_come m known s e e at all.whole all.as_called there come.1;
+          dues = (dues_stay K V same hash name log).maps_come m known s e e at all.whole all.dues there come.1;
+          as_called = (as_called_stays K V same hash name).maps_come m known s e e at all.whole all.as_called there come.1;
           questions = all.questions;
-          purposes = (purposes_stay K V S same hash name log).maps_come m known s e e at all.whole all.purposes there come.1;
+          purposes = (purposes_stay K V same hash name log).maps_come m known s e e at all.whole all.purposes there come.1;
         },
         (let l : m.made ≤ there.number = omega (arith, number) in all.uncounted there.number l),
       )
@@ -58,7 +58,7 @@ module _ (K V S : Type 0) (same : K → K → Bool) (hash : K → ℕ) where
           let below = numbers_are_below K V m all.numbers.0 n f.there f.is in
           found_beside m.maps there n (λ one. omega (arith, one, below, number))
 
-  pub makings_begin : MakingsBegin K V S same hash
+  pub makings_begin : MakingsBegin K V same hash
   makings_begin name log m known s old new at all i b none not_made uncounted at2 = record {
     whole = makings_begin_whole K V same name m known s all.whole i b not_made;
     numbers = all.numbers;
@@ -70,38 +70,38 @@ module _ (K V S : Type 0) (same : K → K → Bool) (hash : K → ℕ) where
     tries = all.tries;
     counters = makings_begin_counters K V name m s all.counters i b not_made uncounted;
     uncounted = all.uncounted;
-    dues = (dues_stay K V S same hash name log).makings_begin m known s old new at all.whole all.dues i b at2;
-    as_called = (as_called_stays K V S same hash name).makings_begin m known s old new at all.whole all.as_called i b at2;
+    dues = (dues_stay K V same hash name log).makings_begin m known s old new at all.whole all.dues i b at2;
+    as_called = (as_called_stays K V same hash name).makings_begin m known s old new at all.whole all.as_called i b at2;
     questions = all.questions;
-    purposes = (purposes_stay K V S same hash name log).makings_begin m known s old new at all.whole all.purposes i b at2;
+    purposes = (purposes_stay K V same hash name log).makings_begin m known s old new at all.whole all.purposes i b at2;
   }
 
-  pub ends_begin : EndsBegin K V S same hash
+  pub ends_begin : EndsBegin K V same hash
   ends_begin name log m known s old new at all map i standing there idle at2 = record {
-    whole = endings_begin_whole K V S same hash name m known s new all.whole map i standing there at2;
+    whole = endings_begin_whole K V same hash name m known s new all.whole map i standing there at2;
     numbers = all.numbers;
     kept = kept;
     finding = finding_fewer K V same name m m known s (ending_begun map i standing s) all.whole.all.shown.calls all.kept.owed kept.owed (λ n j x is. is) stood refl refl refl refl refl refl all.finding;
-    sources = sources_so K V same name m m known known s (ending_begun map i standing s) all.sources (endings_begin_whole K V S same hash name m known s new all.whole map i standing there at2).all.shown refl refl refl
+    sources = sources_so K V same name m m known known s (ending_begun map i standing s) all.sources (endings_begin_whole K V same hash name m known s new all.whole map i standing there at2).all.shown refl refl refl
         (ends_leave s map i standing);
     nexts = all.nexts;
     limits = all.limits;
     tries = all.tries;
     counters = endings_begin_counters K V name m s all.counters map i standing;
     uncounted = all.uncounted;
-    dues = (dues_stay K V S same hash name log).endings_begin m known s old new at all.whole all.dues map i standing there at2;
-    as_called = (as_called_stays K V S same hash name).endings_begin m known s old new at all.whole all.as_called map i standing there at2;
+    dues = (dues_stay K V same hash name log).endings_begin m known s old new at all.whole all.dues map i standing there at2;
+    as_called = (as_called_stays K V same hash name).endings_begin m known s old new at all.whole all.as_called map i standing there at2;
     questions = all.questions;
-    purposes = (purposes_stay K V S same hash name log).endings_begin m known s old new at all.whole all.purposes map i standing there at2;
+    purposes = (purposes_stay K V same hash name log).endings_begin m known s old new at all.whole all.purposes map i standing there at2;
   }
     where
       kept : ShowsKept name m known (ending_begun map i standing s)
-      kept = endings_begin_kept K V S same hash name m known s old new at all.kept map i standing idle at2
+      kept = endings_begin_kept K V same hash name m known s old new at all.kept map i standing idle at2
 
       stood : StoodSo s (ending_begun map i standing s)
       stood n st stands = (st, ends_leave s map i standing n st stands, refl)
 
-  pub maps_gone : MapsGo K V S same hash
+  pub maps_gone : MapsGo K V same hash
   maps_gone name log m known s e at all own remains apart = record {
     whole = endings_are_over_whole K V same name m known s all.whole own remains all.numbers.0.found apart;
     numbers = (maps_go K V m all.numbers.0 own remains, pairs_stay_as_maps_go K V m all.numbers.1 own remains);
@@ -114,10 +114,10 @@ module _ (K V S : Type 0) (same : K → K → Bool) (hash : K → ℕ) where
     tries = tries_where same hash name log m (without_map own remains m) s e at all.tries still (record { stored = refl; place = refl; born = refl; spot = refl }) refl refl;
     counters = counters_stay K V name m (without_map own remains m) s s all.counters refl refl refl refl refl (λ of j x is removed adds. (x, is, adds));
     uncounted = all.uncounted;
-    dues = (dues_stay K V S same hash name log).endings_over m known s e e at all.whole all.dues own remains apart;
-    as_called = (as_called_stays K V S same hash name).endings_over m known s e e at all.whole all.as_called own remains apart;
+    dues = (dues_stay K V same hash name log).endings_over m known s e e at all.whole all.dues own remains apart;
+    as_called = (as_called_stays K V same hash name).endings_over m known s e e at all.whole all.as_called own remains apart;
     questions = all.questions;
-    purposes = (purposes_stay K V S same hash name log).endings_over m known s e e at all.whole all.purposes own remains apart;
+    purposes = (purposes_stay K V same hash name log).endings_over m known s e e at all.whole all.purposes own remains apart;
   }
     where
       still : (n : ℕ) (st : Standing K) → s.maps n ≡ Some st → map_at n (without_map own remains m) ≡ map_at n m

@@ -14,8 +14,6 @@ use Rattle.papaya_grows.specs.Given.Callers.OverAll.{CallOverAll, gone_on}
 use Rattle.papaya_grows.specs.Given.Callers.Together.{UnderWay, OverAll}
 use Rattle.papaya_grows.proofs.Given.Callers.Together.At.{at_same}
 use Rattle.papaya_grows.specs.Given.Sweeps.SweepPoints.{after_next}
-use Rattle.papaya_grows.specs.Given.Executor.IsAt.{Scene}
-use Rattle.papaya_grows.specs.Given.Executor.Replying.{scene_with}
 use Rattle.papaya_grows.specs.Given.Follows.Calls.{IsCalled}
 use Rattle.papaya_grows.proofs.Given.Follows.Calling.{is_same_refl}
 use Rattle.papaya_grows.proofs.Given.Follows.Steps.{one_of}
@@ -29,17 +27,19 @@ use Rattle.papaya_legal.specs.Carried.{ShowsCalls}
 use Rattle.papaya_legal.proofs.Between.{calls_begin, walks_go_on}
 use Rattle.papaya_legal.proofs.Calls.{call_events_begin_so}
 use Rattle.papaya_legal.proofs.Maps.{stands_so}
+use Rattle.papaya_grows.specs.Given.Scenes.Replying.{scene_with}
+use Rattle.papaya_grows.specs.Given.Scenes.Scene.{Scene}
 
 -- what a caller has under way is there on its map
 pub now_there : {K V : Type 0} (s : Scene K V) (map i : ℕ) (u : UnderWay K V K) → (scene_with map i u s).calls map i ≡ Some u
 now_there {K} {V} s map i u =
     ap (λ (f : ℕ → Option (UnderWay K V K)). f i) (at_same s.calls map (with_at (s.calls map) i (Some u)) map refl) ∙ at_same (s.calls map) i (Some u) i refl
 
-pub whole_calls_begin : (K V S : Type 0) (same : K → K → Bool) (hash : K → ℕ) → WholeCallsBegin K V S same hash
-whole_calls_begin K V S same hash name terms log known s old new at run map i standing there u call guard begins right none rests at2 named on only = (
+pub whole_calls_begin : (K V : Type 0) (same : K → K → Bool) (hash : ℕ → K → ℕ) → WholeCallsBegin K V same hash
+whole_calls_begin K V same hash name terms log known s old new at run map i standing there u call guard begins right none rests at2 named on only = (
   c_is,
-  call_events_begin_so K V S same hash name terms log (with_call (name i) guard call (Some map) (moment log)) (refl, refl) refl refl refl refl refl run.tableless known (scene_with map i u s) new at2
-      (calls_begin K V S same hash name log known s old new at run.calls map i standing there u call guard begins right none rests at2)
+  call_events_begin_so K V same hash name terms log (with_call (name i) guard call (Some map) (moment log)) (refl, refl) refl refl refl refl refl run.tableless known (scene_with map i u s) new at2
+      (calls_begin K V same hash name log known s old new at run.calls map i standing there u call guard begins right none rests at2)
       (calls_begin_readings K V same name log (moment log) known s run.calls.whole run.reading map i u call guard none right.looks (events_are log))
       run.sections run.follows (OneCall guard on call) map i (ap (λ (own : List ℕ). Some own) (sym named)) u (now_there s map i u)
       (fresh_call (name i) guard call map (moment log).events) c_is only,
@@ -54,16 +54,16 @@ over_all_looks : {K V : Type 0} (same : K → K → Bool) (o : CallOverAll) (cal
 over_all_looks same o (On one) called e = called
 over_all_looks same o _ called e = absurd (cc e)
 
-pub nexts_begin : (K V S : Type 0) (same : K → K → Bool) (hash : K → ℕ) → NextsBegin K V S same hash
-nexts_begin K V S same hash name terms log known s old new at run i leads map o here is c c_is only =
-    call_events_begin_so K V S same hash name terms log (moment log) (refl, refl) refl refl refl refl refl run.tableless known (scene_with map i next s) new (leads map (OverAll o) here).4 shown reading
+pub nexts_begin : (K V : Type 0) (same : K → K → Bool) (hash : ℕ → K → ℕ) → NextsBegin K V same hash
+nexts_begin K V same hash name terms log known s old new at run i leads map o here is c c_is only =
+    call_events_begin_so K V same hash name terms log (moment log) (refl, refl) refl refl refl refl refl run.tableless known (scene_with map i next s) new (leads map (OverAll o) here).4 shown reading
     run.sections run.follows (Next (name i)) map i refl next (now_there s map i next) c c_is only
   where
     next : UnderWay K V K
     next = (leads map (OverAll o) here).0
 
     shown : ShowsCalls same name log (moment log) known (scene_with map i next s)
-    shown = walks_go_on K V S same hash name log (moment log) known s old new at run.calls i leads map o here is
+    shown = walks_go_on K V same hash name log (moment log) known s old new at run.calls i leads map o here is
 
     -- it is none, and all others are as they were
     no_lookup : (n j : ℕ) (x : UnderWay K V K) → (scene_with map i next s).calls n j ≡ Some x → ◌≡◌ {A = Option (UnderWay K V K)} (Some next) (Some x) → (d : CallThere K V)

@@ -14,9 +14,6 @@ use Rattle.papaya_grows.specs.Given.Callers.Together.{UnderWay, OnKey, ForRoom, 
 use Rattle.papaya_grows.specs.Given.Effects.Effects.{effects_of}
 use Rattle.papaya_grows.specs.Given.Effects.Known.{Known}
 use Rattle.papaya_grows.specs.Given.Effects.declared.acting.Acting.TheVariants as acts
-use Rattle.papaya_grows.specs.Given.Executor.IsAt.{Scene, IsAt}
-use Rattle.papaya_grows.specs.Given.Executor.Stepping.{StepLeads}
-use Rattle.papaya_grows.specs.Given.Executor.declared.executor.Executor.{Executor}
 use Rattle.papaya_grows.specs.Given.Finishes.Machines.{machine_of}
 use Rattle.papaya_grows.specs.Given.Moments.Whole.{ShowsWhole}
 use Rattle.papaya_grows.specs.Given.Histories.InEvent.{InEvent}
@@ -28,12 +25,15 @@ use Rattle.papaya_grows.specs.Given.Purposes.Shards.{NoneCounted, ReadsShards}
 use Rattle.papaya_grows.proofs.Given.Purposes.ShardsRead.{steps_read_shards}
 use Rattle.papaya_grows.specs.Given.Shards.ShardSteps.{AddsUp}
 use Rattle.papaya_grows.specs.Given.Shards.ShardWords.{ShowsCounters}
+use Rattle.papaya_grows.specs.Given.Scenes.Held.{Held, IsAt}
+use Rattle.papaya_grows.specs.Given.Scenes.Scene.{Scene}
+use Rattle.papaya_grows.specs.Given.Scenes.Stepping.{StepLeads}
 
 -- no class changes twice
-module _ {K V S : Type 0} (same : K → K → Bool) (hash : K → ℕ) (name : ℕ → List ℕ) (log : List (Entry K V)) (beginning : Moment K V) (map i : ℕ) (c : CallThere K V) (done : List Effect) (m : Moment K V)
-    (known : Known) (s : Scene K V) (old new : Executor K V S) (at : IsAt same hash old s) (said : Progress (Node K V)) (leads : StepLeads same hash i said s old new) where
+module _ {K V : Type 0} (same : K → K → Bool) (hash : ℕ → K → ℕ) (name : ℕ → List ℕ) (log : List (Entry K V)) (beginning : Moment K V) (map i : ℕ) (c : CallThere K V) (done : List Effect) (m : Moment K V)
+    (known : Known) (s : Scene K V) (old new : Held K V) (at : IsAt same hash old s) (said : Progress (Node K V)) (leads : StepLeads same hash i said s old new) where
   pub changes_first : (u : UnderWay K V K) → InEvent same name log beginning map i c done m known s u
-      → ChangesFirst log m same map (with_effects (Some (name i)) (Some map) (effects_of (acts.Call i map) known new.memory.changed) m)
+      → ChangesFirst log m same map (with_effects (Some (name i)) (Some map) (effects_of (acts.Call i map) known new.changed) m)
   changes_first (OnKey x) midst = key_changes_first same hash name log beginning map i midst.0 c midst.1 done m known s x midst.2 old new at said leads
   changes_first (ForRoom r) midst = other_changes_first same hash name log beginning map i c done m known s (ForRoom r) midst old new at said leads
   changes_first (Counting sum) midst = other_changes_first same hash name log beginning map i c done m known s (Counting sum) midst old new at said leads
@@ -53,7 +53,7 @@ module _ {K V : Type 0} where
   of_sweep (Counting sum) p is adds = absurd (cc is)
   of_sweep (OverAll o) p is adds = adds
 
-module _ {K V S : Type 0} (same : K → K → Bool) (hash : K → ℕ) (s : Scene K V) (old new : Executor K V S) (map i : ℕ) (said : Progress (Node K V)) (leads : StepLeads same hash i said s old new) where
+module _ {K V : Type 0} (same : K → K → Bool) (hash : ℕ → K → ℕ) (s : Scene K V) (old new : Held K V) (map i : ℕ) (said : Progress (Node K V)) (leads : StepLeads same hash i said s old new) where
   added_before : (u : UnderWay K V K) (here : s.calls map i ≡ Some u) (x : UnderWay K V K) → (leads map u here).4.next ≡ Some x → AddsUp x → AddsUp u
   added_before (OnKey k) here x goes adds =
       let to = leads map (OnKey k) here in absurd (of_key x to.4.did.0 (goes_as_one to.1 said to.4.next to.4.goes_on x goes ∙ to.4.did.2) adds)
@@ -62,16 +62,16 @@ module _ {K V S : Type 0} (same : K → K → Bool) (hash : K → ℕ) (s : Scen
   added_before (OverAll o) here x goes adds =
       let to = leads map (OverAll o) here in absurd (of_sweep x to.4.did.0 (goes_as_one to.1 said to.4.next to.4.goes_on x goes ∙ to.4.did.2) adds)
 
-module _ (K V S : Type 0) (same : K → K → Bool) (hash : K → ℕ) (name : ℕ → List ℕ) (log : List (Entry K V)) (m : Moment K V) (known : Known) (s : Scene K V) (old new : Executor K V S)
+module _ (K V : Type 0) (same : K → K → Bool) (hash : ℕ → K → ℕ) (name : ℕ → List ℕ) (log : List (Entry K V)) (m : Moment K V) (known : Known) (s : Scene K V) (old new : Held K V)
     (at : IsAt same hash old s) (whole : ShowsWhole same name m known s) (counters : ShowsCounters name m s) (map i : ℕ) (u : UnderWay K V K) (here : s.calls map i ≡ Some u) (said : Progress (Node K V))
     (leads : StepLeads same hash i said s old new) (unadded : AddsUp u → NoneCounted log m map) where
   -- it reads them as they are, if none was counted on before,
   pub reads_shards : ReadsShards log m s map u
-  reads_shards adds = (steps_read_shards K V S same hash name log m known s old new at whole counters map i u here said leads (unadded adds)).0 adds
+  reads_shards adds = (steps_read_shards K V same hash name log m known s old new at whole counters map i u here said leads (unadded adds)).0 adds
 
   -- and none is by that
   pub unadded_still : (x : UnderWay K V K) → (leads map u here).4.next ≡ Some x → AddsUp x
-      → NoneCounted log (with_effects (Some (name i)) (Some map) (effects_of (acts.Call i map) known new.memory.changed) m) map
+      → NoneCounted log (with_effects (Some (name i)) (Some map) (effects_of (acts.Call i map) known new.changed) m) map
   unadded_still x goes adds =
       let before = added_before same hash s old new map i said leads u here x goes adds in
-      (steps_read_shards K V S same hash name log m known s old new at whole counters map i u here said leads (unadded before)).1 before
+      (steps_read_shards K V same hash name log m known s old new at whole counters map i u here said leads (unadded before)).1 before

@@ -14,7 +14,6 @@ use Rattle.papaya_grows.specs.Given.Schedules.Terms.{Terms}
 use Rattle.papaya_grows.specs.Given.Effects.Effects.{effects_of, known_after}
 use Rattle.papaya_grows.specs.Given.Effects.Known.{Known}
 use Rattle.papaya_grows.specs.Given.Effects.declared.acting.Acting.TheVariants as acts
-use Rattle.papaya_grows.specs.Given.Executor.IsAt.{slot_of}
 use Rattle.papaya_grows.specs.Given.Histories.InEvent.{here_of}
 use Rattle.papaya_grows.proofs.Given.Histories.AnyCall.InEvent.{events_keep_all}
 use Rattle.papaya_promises.specs.Protected.{is_of_slots}
@@ -25,6 +24,7 @@ use Rattle.papaya_models.proofs.MapEvents.{moments_note_once}
 use Rattle.papaya_legal.specs.CallEvents.{CallEventsFollow}
 use Rattle.papaya_legal.specs.Carried.{ComesAlone, FollowsOrRows}
 use Rattle.papaya_legal.proofs.Calls.{out_of_slots}
+use Rattle.papaya_grows.specs.Given.Scenes.Scene.{slot_of}
 
 -- an event that is none of a slot is no row on one
 pub of_no_slot : {K V : Type 0} (event : Event K V) → is_of_slots event ≡ false → IsOfNoSlot event
@@ -50,18 +50,18 @@ module _ {K V : Type 0} (terms : Terms) (log : List (Entry K V)) (e : Entry K V)
       by false is =
           subst (λ (q : Bool). MatchBool q (map (number_in (things_in (e ∷ log))) (flat_map thing_back e.effects) ≡ back_by_model terms.batch_size log e) (Unit {0})) (sym is) tt
 
-pub call_events_follow : (K V S : Type 0) (same : K → K → Bool) (hash : K → ℕ) → CallEventsFollow K V S same hash
-call_events_follow K V S same hash name terms log beginning map i c steps done m known s u e midst old new at size said leads effects_are busy noted slot active =
+pub call_events_follow : (K V : Type 0) (same : K → K → Bool) (hash : ℕ → K → ℕ) → CallEventsFollow K V same hash
+call_events_follow K V same hash name terms log beginning map i c steps done m known s u e midst old new at size said leads effects_are busy noted slot active =
     (by_model_so terms log e busy (λ alone. (over alone).0), λ alone. or_rows (over (was_alone terms log e busy alone)).1)
   where
     here : s.calls map i ≡ Some u
     here = here_of same name log beginning map i c done m known s u midst.event_so
 
     effects : List Effect
-    effects = effects_of (acts.Call i map) known new.memory.changed
+    effects = effects_of (acts.Call i map) known new.changed
 
     then_known : Known
-    then_known = known_after (acts.Call i map) new.memory.changed known
+    then_known = known_after (acts.Call i map) new.changed known
 
     then_world : World (Node K V)
     then_world = (leads map u here).4.w2
@@ -71,8 +71,8 @@ call_events_follow K V S same hash name terms log beginning map i c steps done m
     in_event alone =
         subst (λ (fs : List Effect). FollowsInEvent terms.batch_size terms.roots (things_in log) (sets_in terms.batch_size log) (slot_of i) i fs then_known then_world) (sym effects_are)
         (subst (λ (n : ℕ). FollowsInEvent n terms.roots (things_in log) (sets_in terms.batch_size log) (slot_of i) i (done ++ effects) then_known then_world) size
-        (call_events_go_on K V S same hash name m known s old new at midst.calls.whole map i u here said leads
-        (moments_note_once K V same name _ then_known _ (events_keep_all K V S same hash name log beginning map i c done m known s u midst.event_so old new at said leads).0) terms.roots (things_in log)
+        (call_events_go_on K V same hash name m known s old new at midst.calls.whole map i u here said leads
+        (moments_note_once K V same name _ then_known _ (events_keep_all K V same hash name log beginning map i c done m known s u midst.event_so old new at said leads).0) terms.roots (things_in log)
         (sets_in terms.batch_size log) (slot_of i) done
         (subst (λ (n : ℕ). FollowsInEvent n terms.roots (things_in log) (sets_in terms.batch_size log) (slot_of i) i done known s.world) (sym size) (midst.follows alone)) noted))
 

@@ -21,10 +21,6 @@ use Rattle.papaya_grows.specs.Given.Callers.Together.{UnderWay}
 use Rattle.papaya_grows.specs.Given.Effects.Effects.{effects_of, known_after}
 use Rattle.papaya_grows.specs.Given.Effects.Known.{Known}
 use Rattle.papaya_grows.specs.Given.Effects.declared.acting.Acting.TheVariants as acts
-use Rattle.papaya_grows.specs.Given.Executor.IsAt.{Scene}
-use Rattle.papaya_grows.specs.Given.Executor.Stepping.{has_ended, scene_after}
-use Rattle.papaya_grows.proofs.Given.Executor.Places.{none_of}
-use Rattle.papaya_grows.proofs.Given.Executor.Steps.{goes_as}
 use Rattle.papaya_grows.specs.Given.Finishes.Machines.{machine_of}
 use Rattle.papaya_grows.specs.Given.Kept.Kept.{ShowsKept}
 use Rattle.papaya_grows.proofs.Given.Kept.Calls.{calls_keep_kept, own_made}
@@ -38,6 +34,10 @@ use Rattle.papaya_grows.proofs.Given.Settles.Calls.{calls_keep_counts}
 use Rattle.papaya_grows.proofs.Given.Settles.Hand.Asked.{walks_have_nothing}
 use Rattle.papaya_grows.proofs.Given.Settles.Hand.Calls.{calls_keep_owed}
 use Rattle.papaya_legal.specs.CallRuns.{CallsLeaveNothing, TellsEnd}
+use Rattle.papaya_grows.proofs.Given.Scenes.Goes.{goes_as}
+use Rattle.papaya_logged.proofs.Given.Executor.Places.{none_of}
+use Rattle.papaya_grows.specs.Given.Scenes.Scene.{Scene}
+use Rattle.papaya_grows.specs.Given.Scenes.Stepping.{has_ended, scene_after}
 
 -- a walk that is ready has nothing to count
 none_ready : (p : Sweeping) → is_ready p ≡ true → counts_in_sweeping p ≡ false
@@ -56,25 +56,25 @@ module _ {K V : Type 0} (said : Progress (Node K V)) where
   over_so outcome.Ready tells clear = inr (tells.ready refl)
   over_so told tells clear = inl (sym tells.ends ∙ clear)
 
-module _ (K V S : Type 0) (same : K → K → Bool) (hash : K → ℕ) where
-  pub calls_leave_nothing : CallsLeaveNothing K V S same hash
+module _ (K V : Type 0) (same : K → K → Bool) (hash : ℕ → K → ℕ) where
+  pub calls_leave_nothing : CallsLeaveNothing K V same hash
   calls_leave_nothing name log m known s old new at whole kept map i u here said leads e caller worked_is tells =
       subst (λ (o : Option (CallThere K V)). IfCall (LeavesOf (comes_clear e.outcome) e.outcome) o) (sym acts_by) (by (call_of (name i) v) refl)
     where
       v : Moment K V
-      v = with_effects (Some (name i)) (Some map) (effects_of (acts.Call i map) known new.memory.changed) m
+      v = with_effects (Some (name i)) (Some map) (effects_of (acts.Call i map) known new.changed) m
 
       then_known : Known
-      then_known = known_after (acts.Call i map) new.memory.changed known
+      then_known = known_after (acts.Call i map) new.changed known
 
       s2 : Scene K V
-      s2 = scene_after same hash s old new map i (leads map u here).0 u (leads map u here).1 said (leads map u here).4
+      s2 = scene_after same s old new map i (leads map u here).0 u (leads map u here).1 said (leads map u here).4
 
       acts_by : acting (caller_of e.event) (worked e (moment log)) ≡ call_of (name i) v
       acts_by = ap (λ (who : Option (List ℕ)). acting who (worked e (moment log))) caller ∙ ap (λ (x : Moment K V). call_of (name i) x) worked_is
 
       after : ShowsKept name v then_known s2
-      after = calls_keep_kept K V S same hash name m known s old new at whole kept map i u here said leads
+      after = calls_keep_kept K V same hash name m known s old new at whole kept map i u here said leads
 
       -- its call is under way no more, or it is ready
       gone : has_ended said ≡ true → (leads map u here).4.next ≡ None
@@ -84,15 +84,15 @@ module _ (K V S : Type 0) (same : K → K → Bool) (hash : K → ℕ) where
       ready_then : said ≡ progress.Ready → (x : UnderWay K V K) → (leads map u here).4.next ≡ Some x → (machine_asked (machine_of x)).1 ≡ true
       ready_then ready x goes =
           ap (λ (y : Machine K V K). (machine_asked y).1) (goes_as_one (leads map u here).1 said (leads map u here).4.next (leads map u here).4.goes_on x goes)
-          ∙ ready_so same same hash old.memory.memory new.memory.memory new.memory.changed (leads map u here).1 said ready (machine_of u) (leads map u here).3
+          ∙ ready_so same same (leads map u here).0.hash old.memory new.memory new.changed (leads map u here).1 said ready (machine_of u) (leads map u here).3
 
       Clear : CallThere K V → Type 0
       Clear d = (d.owes ≡ []) × (d.gained + d.lost ≡ 0)
 
       when_gone : (leads map u here).4.next ≡ None → (d : CallThere K V) → call_of (name i) v ≡ Some d → Clear d
       when_gone none d d_is = (
-        (calls_keep_owed K V S same hash name m known s old new at whole kept.entries (own_made K V S same hash name m known s old at whole kept) kept.owed map i u here said leads).2 none d d_is,
-        (calls_keep_counts K V S same hash name m known s old new at whole kept.counts map i u here said leads).2 none d d_is,
+        (calls_keep_owed K V same hash name m known s old new at whole kept.entries (own_made K V same hash name m known s old at whole kept) kept.owed map i u here said leads).2 none d d_is,
+        (calls_keep_counts K V same hash name m known s old new at whole kept.counts map i u here said leads).2 none d d_is,
       )
 
       when_ready : said ≡ progress.Ready → (next : Option (UnderWay K V K)) → (leads map u here).4.next ≡ next → (d : CallThere K V) → call_of (name i) v ≡ Some d → Clear d
@@ -114,7 +114,7 @@ module _ (K V S : Type 0) (same : K → K → Bool) (hash : K → ℕ) where
 
       made_none : (has_ended said ≡ true) ⊎ (said ≡ progress.Ready) → (d : CallThere K V) → call_of (name i) v ≡ Some d → LeavesNothingMade e.outcome d
       made_none so d d_is = subst (λ (o : Option (CallThere K V)). IfCall (LeavesNothingMade e.outcome) o) (acts_by ∙ d_is)
-          (events_leave_nothing_made K V S same hash name m known s old new at whole kept.made kept.tables kept.short map i u here said leads (over so) log e caller tells.memory worked_is)
+          (events_leave_nothing_made K V same hash name m known s old new at whole kept.made kept.tables kept.short map i u here said leads (over so) log e caller tells.memory worked_is)
 
       leaves : (q : Bool) → comes_clear e.outcome ≡ q → (d : CallThere K V) → call_of (name i) v ≡ Some d → LeavesOf q e.outcome d
       leaves false none d d_is = tt

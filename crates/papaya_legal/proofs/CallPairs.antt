@@ -9,20 +9,16 @@ use Rattle.papaya_grows.specs.Given.Schedules.declared.effect.Effect.TheVariants
 use Rattle.papaya_grows.specs.Given.Schedules.After.{moment}
 use Rattle.papaya_grows.specs.Given.Schedules.Effects.{new_pair, stored_by, with_effect, with_effects}
 use Rattle.papaya_grows.specs.Given.Schedules.Entry.{Entry, acting}
-use Rattle.papaya_grows.specs.Given.Schedules.Moment.{UnderWay as CallThere, Moment}
+use Rattle.papaya_grows.specs.Given.Schedules.Moment.{UnderWay as CallThere, Moment, Place}
 use Rattle.papaya_grows.specs.Given.Schedules.Views.{finite_map, is_in_map}
 use Rattle.papaya_grows.specs.Given.Callers.Together.{UnderWay, OnKey, ForRoom, Counting, OverAll}
 use Rattle.papaya_grows.specs.Given.Effects.Effects.{effects_of, known_after}
 use Rattle.papaya_grows.specs.Given.Effects.Known.{Known}
 use Rattle.papaya_grows.specs.Given.Effects.declared.acting.Acting.TheVariants as acts
-use Rattle.papaya_grows.specs.Given.Executor.IsAt.{Scene, IsAt}
-use Rattle.papaya_grows.specs.Given.Executor.Stepping.{StepLeads, scene_after}
-use Rattle.papaya_grows.specs.Given.Executor.declared.executor.Executor.{Executor}
 use Rattle.papaya_grows.specs.Given.Finishes.Maps.{Standing}
 use Rattle.papaya_grows.proofs.Given.Follows.Contents.{lasts_more}
 use Rattle.papaya_grows.proofs.Given.Follows.Steps.{one_of}
 use Rattle.papaya_grows.proofs.Given.Follows.Stored.{in_map_true}
-use Rattle.papaya_grows.specs.Given.Schedules.Moment.{Place}
 use Rattle.papaya_grows.specs.Given.Moments.Whole.{ShowsWhole}
 use Rattle.papaya_grows.specs.Given.Histories.InEvent.{InEvent, here_of}
 use Rattle.papaya_grows.specs.Given.Histories.Kept.{HasJustBegun}
@@ -34,9 +30,12 @@ use Rattle.papaya_grows.proofs.Given.Histories.Retaining.{found_there}
 use Rattle.papaya_grows.specs.Given.Purposes.Kept.{NoneCame, PairsChangeFirst}
 use Rattle.papaya_legal.specs.CallEvents.{EachIsItsOwn}
 use Rattle.papaya_legal.proofs.CallChanges.{changes_first}
+use Rattle.papaya_grows.specs.Given.Scenes.Held.{Held, IsAt}
+use Rattle.papaya_grows.specs.Given.Scenes.Scene.{Scene}
+use Rattle.papaya_grows.specs.Given.Scenes.Stepping.{StepLeads, scene_after}
 
 -- so it is at a moment that shows the map
-pub each_is_its_own : {K V S : Type 0} (same : K → K → Bool) (hash : K → ℕ) (name : ℕ → List ℕ) (m : Moment K V) (known : Known) (s : Scene K V) (e : Executor K V S) → IsAt same hash e s
+pub each_is_its_own : {K V : Type 0} (same : K → K → Bool) (hash : ℕ → K → ℕ) (name : ℕ → List ℕ) (m : Moment K V) (known : Known) (s : Scene K V) (e : Held K V) → IsAt same hash e s
     → ShowsWhole same name m known s → (map : ℕ) (st : Standing K) → s.maps map ≡ Some st → EachIsItsOwn same map m
 each_is_its_own same hash name m known s e at whole map st there q is =
     let number = whole.all.shown.number map in
@@ -70,15 +69,15 @@ module _ {K V : Type 0} (caller : Option (List ℕ)) (acted : Option ℕ) where
   stored_lasts [] m n p is = is
   stored_lasts (f ∷ effects) m n p is = stored_lasts effects (with_effect caller acted f m) n p (one_lasts (acting caller m) f m.stored n p is)
 
-module _ {K V S : Type 0} (same : K → K → Bool) (hash : K → ℕ) (name : ℕ → List ℕ) (log : List (Entry K V)) (beginning : Moment K V) (map i : ℕ) (c : CallThere K V) (done : List Effect) (m : Moment K V)
-    (known : Known) (s : Scene K V) (whole : ShowsWhole same name m known s) (old new : Executor K V S) (at : IsAt same hash old s) (said : Progress (Node K V)) (leads : StepLeads same hash i said s old new)
+module _ {K V : Type 0} (same : K → K → Bool) (hash : ℕ → K → ℕ) (name : ℕ → List ℕ) (log : List (Entry K V)) (beginning : Moment K V) (map i : ℕ) (c : CallThere K V) (done : List Effect) (m : Moment K V)
+    (known : Known) (s : Scene K V) (whole : ShowsWhole same name m known s) (old new : Held K V) (at : IsAt same hash old s) (said : Progress (Node K V)) (leads : StepLeads same hash i said s old new)
     (u : UnderWay K V K) (midst : InEvent same name log beginning map i c done m known s u) (begun : HasJustBegun log beginning) (its_worked : m ≡ with_effects (Some (name i)) (Some map) done beginning)
     (own_first : EachIsItsOwn same map (moment log)) where
   abbrev here : s.calls map i ≡ Some u
   here = here_of same name log beginning map i c done m known s u midst
 
   abbrev effects : List Effect
-  effects = effects_of (acts.Call i map) known new.memory.changed
+  effects = effects_of (acts.Call i map) known new.changed
 
   abbrev v : Moment K V
   v = with_effects (Some (name i)) (Some map) effects m
@@ -97,9 +96,9 @@ module _ {K V S : Type 0} (same : K → K → Bool) (hash : K → ℕ) (name : �
   own_now = each_is_its_own same hash name m known s old at whole map standing (leads map u here).2
 
   own_then : EachIsItsOwn same map v
-  own_then = each_is_its_own same hash name v (known_after (acts.Call i map) new.memory.changed known)
-      (scene_after same hash s old new map i standing u (leads map u here).1 said (leads map u here).4) new (leads map u here).5
-      (events_keep_all K V S same hash name log beginning map i c done m known s u midst old new at said leads).0 map standing_then (leads map u here).4.its_map.4
+  own_then = each_is_its_own same hash name v (known_after (acts.Call i map) new.changed known)
+      (scene_after same s old new map i standing u (leads map u here).1 said (leads map u here).4) new (leads map u here).5
+      (events_keep_all K V same hash name log beginning map i c done m known s u midst old new at said leads).0 map standing_then (leads map u here).4.its_map.4
 
   lasts : (n : ℕ) (p : K × V) → pair_at (moment log).stored n ≡ Some p → pair_at v.stored n ≡ Some p
   lasts n p is = stored_lasts (Some (name i)) (Some map) effects m n p (subst (λ (x : Moment K V). pair_at x.stored n ≡ Some p) (sym its_worked)

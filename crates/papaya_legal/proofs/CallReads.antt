@@ -22,9 +22,6 @@ use Rattle.papaya_grows.specs.Given.Callers.Together.{UnderWay, OnKey, ForRoom, 
 use Rattle.papaya_grows.specs.Given.Effects.Effects.{effects_of}
 use Rattle.papaya_grows.specs.Given.Effects.Known.{Known}
 use Rattle.papaya_grows.specs.Given.Effects.declared.acting.Acting.TheVariants as acts
-use Rattle.papaya_grows.specs.Given.Executor.IsAt.{Scene, IsAt}
-use Rattle.papaya_grows.specs.Given.Executor.Stepping.{StepLeads, scene_after}
-use Rattle.papaya_grows.specs.Given.Executor.declared.executor.Executor.{Executor}
 use Rattle.papaya_grows.proofs.Given.Follows.Steps.{one_of}
 use Rattle.papaya_grows.proofs.Given.Moments.After.{effects_after}
 use Rattle.papaya_grows.specs.Given.Histories.InEvent.{InEvent, here_of}
@@ -35,6 +32,9 @@ use Rattle.papaya_promises.proofs.Brief.Meanwhile.{effects_steps, others_keep_re
 use Rattle.papaya_promises.proofs.Brief.Own.{lookups_do_nothing}
 use Rattle.papaya_promises.proofs.Brief.Steps.{lookups_keep_readings}
 use Rattle.papaya_legal.specs.CallEvents.{InCallEvent}
+use Rattle.papaya_grows.specs.Given.Scenes.Held.{Held, IsAt}
+use Rattle.papaya_grows.specs.Given.Scenes.Scene.{Scene}
+use Rattle.papaya_grows.specs.Given.Scenes.Stepping.{StepLeads, scene_after}
 
 -- the call of the event is there still, as it was
 module _ {K V : Type 0} (same : K → K → Bool) (name : ℕ → List ℕ) (log : List (Entry K V)) (beginning : Moment K V) (map i : ℕ) (c : CallThere K V) (done : List Effect) (m : Moment K V) (known : Known)
@@ -65,20 +65,20 @@ brief_else call.Retain c moments m steps no_look = tt
 brief_else call.Len c moments m steps no_look = tt
 brief_else call.Walk c moments m steps no_look = tt
 
-module _ (K V S : Type 0) (same : K → K → Bool) (hash : K → ℕ) (name : ℕ → List ℕ) (terms : Terms) (log : List (Entry K V)) (event : Event K V) (beginning : Moment K V) (map i : ℕ) (c : CallThere K V)
+module _ (K V : Type 0) (same : K → K → Bool) (hash : ℕ → K → ℕ) (name : ℕ → List ℕ) (terms : Terms) (log : List (Entry K V)) (event : Event K V) (beginning : Moment K V) (map i : ℕ) (c : CallThere K V)
     (steps : ℕ) (done : List Effect) (m : Moment K V) (known : Known) (s : Scene K V) (u : UnderWay K V K) (midst : InCallEvent same name terms log event beginning map i c steps done m known s u)
-    (old new : Executor K V S) (at_old : IsAt same hash old s) (said : Progress (Node K V)) (leads : StepLeads same hash i said s old new) where
+    (old new : Held K V) (at_old : IsAt same hash old s) (said : Progress (Node K V)) (leads : StepLeads same hash i said s old new) where
   abbrev here : s.calls map i ≡ Some u
   here = here_of same name log beginning map i c done m known s u midst.event_so
 
   abbrev effects : List Effect
-  effects = effects_of (acts.Call i map) known new.memory.changed
+  effects = effects_of (acts.Call i map) known new.changed
 
   abbrev v : Moment K V
   v = with_effects (Some (name i)) (Some map) effects m
 
   abbrev s2 : Scene K V
-  s2 = scene_after same hash s old new map i (leads map u here).0 u (leads map u here).1 said (leads map u here).4
+  s2 = scene_after same s old new map i (leads map u here).0 u (leads map u here).1 said (leads map u here).4
 
   abbrev made : ℕ → ℕ
   made j = if j == i then steps else 0
@@ -94,7 +94,7 @@ module _ (K V S : Type 0) (same : K → K → Bool) (hash : K → ℕ) (name : �
   does_nothing looks_for =
       let standing = (leads map u here).0 in
       let looked = midst.reading.reads map i u here its.0 its.1 (looks_same ∙ looks_for) standing (leads map u here).2 in
-      let none : effects ≡ [] = lookups_do_nothing K V S same hash known s old new i said leads map u here (is_incremental standing.setting.mode) standing.chart (moments_from its.0.begun log)
+      let none : effects ≡ [] = lookups_do_nothing K V same hash known s old new i said leads map u here (is_incremental standing.setting.mode) standing.chart (moments_from its.0.begun log)
       (its.0.steps + made i) looked in
       ap (λ (fs : List Effect). with_effects (Some (name i)) (Some map) fs m) none
 
@@ -109,7 +109,7 @@ module _ (K V S : Type 0) (same : K → K → Bool) (hash : K → ℕ) (name : �
     where
       by : (q : Bool) → looks c.call ≡ q → ShowsReading name log (λ j. if j == i then steps + 1 else 0) v s2
       by true looks_for =
-          let r = lookups_keep_readings K V S same hash name log made m known s old new at_old midst.calls.whole midst.reading (midst.quiet looks_for).0 (midst.quiet looks_for).1 map i u here said leads
+          let r = lookups_keep_readings K V same hash name log made m known s old new at_old midst.calls.whole midst.reading (midst.quiet looks_for).0 (midst.quiet looks_for).1 map i u here said leads
           its.0 its.1 (looks_same ∙ looks_for) in
           subst (λ (x : Moment K V). ShowsReading name log (λ j. if j == i then steps + 1 else 0) x s2) (sym (does_nothing looks_for)) (record {
             begun = r.begun;
@@ -118,7 +118,7 @@ module _ (K V S : Type 0) (same : K → K → Bool) (hash : K → ℕ) (name : �
                 (r.reads n j x is d d_is d_looks standing there);
           })
       by false no_look =
-          let r = others_keep_readings K V S same hash name log made m known s old new at_old midst.calls.whole midst.reading map i u here said leads its.0 its.1 (looks_same ∙ no_look) in
+          let r = others_keep_readings K V same hash name log made m known s old new at_old midst.calls.whole midst.reading map i u here said leads its.0 its.1 (looks_same ∙ no_look) in
           record {
             begun = r.begun;
             reads = λ n j x is d d_is d_looks standing there. elim (cases_eq j i) as
@@ -129,21 +129,21 @@ module _ (K V S : Type 0) (same : K → K → Bool) (hash : K → ℕ) (name : �
                 ];
           }
 
-module _ (K V S : Type 0) (same : K → K → Bool) (hash : K → ℕ) (name : ℕ → List ℕ) (terms : Terms) (log : List (Entry K V)) (beginning : Moment K V) (map i : ℕ) (c : CallThere K V)
+module _ (K V : Type 0) (same : K → K → Bool) (hash : ℕ → K → ℕ) (name : ℕ → List ℕ) (terms : Terms) (log : List (Entry K V)) (beginning : Moment K V) (map i : ℕ) (c : CallThere K V)
     (steps : ℕ) (done : List Effect) (m : Moment K V) (known : Known) (s : Scene K V) (u : UnderWay K V K) (e : Entry K V)
     (midst : InCallEvent same name terms log e.event beginning map i c steps done m known s u)
-    (old new : Executor K V S) (at_old : IsAt same hash old s) (said : Progress (Node K V)) (leads : StepLeads same hash i said s old new) where
+    (old new : Held K V) (at_old : IsAt same hash old s) (said : Progress (Node K V)) (leads : StepLeads same hash i said s old new) where
   abbrev had : s.calls map i ≡ Some u
   had = here_of same name log beginning map i c done m known s u midst.event_so
 
   abbrev then_moment : Moment K V
-  then_moment = with_effects (Some (name i)) (Some map) (effects_of (acts.Call i map) known new.memory.changed) m
+  then_moment = with_effects (Some (name i)) (Some map) (effects_of (acts.Call i map) known new.changed) m
 
   -- so many steps of this caller are counted
   made_its : (if i == i then steps else 0) ≡ steps
   made_its = ap (λ (q : Bool). if q then steps else 0) (eq-eqb i i refl)
 
-  pub reads_briefly : at_work e (moment log) ≡ beginning → acted_on e.event beginning ≡ Some map → e.effects ≡ done ++ effects_of (acts.Call i map) known new.memory.changed → e.steps ≤ steps + 1
+  pub reads_briefly : at_work e (moment log) ≡ beginning → acted_on e.event beginning ≡ Some map → e.effects ≡ done ++ effects_of (acts.Call i map) known new.changed → e.steps ≤ steps + 1
       → ReadsBriefly log e (worked e (moment log))
   reads_briefly begins acted effects_are few = subst (ReadsBriefly log e) (sym worked_is) (by (looks c.call) refl)
     where
@@ -153,11 +153,11 @@ module _ (K V S : Type 0) (same : K → K → Bool) (hash : K → ℕ) (name : �
           ∙ ap (λ (o : Option ℕ). with_effects (caller_of e.event) o e.effects beginning) acted
           ∙ ap (λ (who : Option (List ℕ)). with_effects who (Some map) e.effects beginning) midst.of_call
           ∙ ap (λ (fs : List Effect). with_effects (Some (name i)) (Some map) fs beginning) effects_are
-          ∙ effects_after (Some (name i)) (Some map) done (effects_of (acts.Call i map) known new.memory.changed) beginning
-          ∙ ap (λ (x : Moment K V). with_effects (Some (name i)) (Some map) (effects_of (acts.Call i map) known new.memory.changed) x) (sym midst.worked)
+          ∙ effects_after (Some (name i)) (Some map) done (effects_of (acts.Call i map) known new.changed) beginning
+          ∙ ap (λ (x : Moment K V). with_effects (Some (name i)) (Some map) (effects_of (acts.Call i map) known new.changed) x) (sym midst.worked)
 
       before : ReadsBriefly log e m
-      before = events_read_briefly K V S same hash name log (λ j. if j == i then steps else 0) m known s old at_old midst.calls.whole midst.reading map i u had e midst.of_call
+      before = events_read_briefly K V same hash name log (λ j. if j == i then steps else 0) m known s old at_old midst.calls.whole midst.reading map i u had e midst.of_call
           (let made = made_its in omega (arith, few, made))
 
       still : (d : CallThere K V) × (call_of (name i) m ≡ Some d) × IsSameCall c d
@@ -165,9 +165,9 @@ module _ (K V S : Type 0) (same : K → K → Bool) (hash : K → ℕ) (name : �
 
       by : (q : Bool) → looks c.call ≡ q → ReadsBriefly log e then_moment
       by true looks_for =
-          subst (ReadsBriefly log e) (sym (does_nothing K V S same hash name terms log e.event beginning map i c steps done m known s u midst old new at_old said leads looks_for)) before
+          subst (ReadsBriefly log e) (sym (does_nothing K V same hash name terms log e.event beginning map i c steps done m known s u midst old new at_old said leads looks_for)) before
       by false no_look =
-          let kept = effects_steps (name i) map (name i) (effects_of (acts.Call i map) known new.memory.changed) m still.0 still.1 in
+          let kept = effects_steps (name i) map (name i) (effects_of (acts.Call i map) known new.changed) m still.0 still.1 in
           subst (λ (o : Option (CallThere K V)). IfCall (λ (x : CallThere K V). IsBrief x.call x (moments_from x.begun log) then_moment (x.steps + e.steps)) o)
           (sym (ap (λ (who : Option (List ℕ)). acting who then_moment) midst.of_call ∙ kept.1))
           (brief_else kept.0.call kept.0 (moments_from kept.0.begun log) then_moment (kept.0.steps + e.steps) (ap looks kept.3 ∙ ap looks still.2.call ∙ no_look))

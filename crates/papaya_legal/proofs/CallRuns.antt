@@ -21,8 +21,6 @@ use Rattle.papaya_grows.specs.Given.Callers.Together.{UnderWay}
 use Rattle.papaya_grows.specs.Given.Effects.Effects.{effects_of, known_after}
 use Rattle.papaya_grows.specs.Given.Effects.Known.{Known}
 use Rattle.papaya_grows.specs.Given.Effects.declared.acting.Acting.TheVariants as acts
-use Rattle.papaya_grows.specs.Given.Executor.IsAt.{Scene}
-use Rattle.papaya_grows.specs.Given.Executor.Stepping.{StepLeads, scene_after}
 use Rattle.papaya_grows.specs.Given.Follows.Calling.{NoneNamed, come_to}
 use Rattle.papaya_grows.proofs.Given.Follows.Calling.{is_same_refl}
 use Rattle.papaya_grows.proofs.Given.Hands.Asking.{which}
@@ -41,11 +39,10 @@ use Rattle.papaya_promises.specs.Sheltered.{SectionsHold}
 use Rattle.papaya_promises.proofs.Brief.Meanwhile.{calls_come_to_readings}
 use Rattle.papaya_grows.specs.Given.Finds.Little.{AllIsBack, ReclaimsAll, WhereAll}
 use Rattle.papaya_grows.specs.Given.Schedules.Reclaims.{ComesLast}
-use Rattle.papaya_grows.specs.Given.Schedules.Model.{all_left, thing_back}
+use Rattle.papaya_grows.specs.Given.Schedules.Model.{all_left, thing_back, IsByModel}
 use Rattle.papaya_legal.specs.CallEvents.{IsLegalBut}
 use Rattle.papaya_legal.specs.CallRuns.{CallEventsRun, ShowsAsTold}
 use Rattle.papaya_legal.specs.Carried.{FollowsOrRows}
-use Rattle.papaya_grows.specs.Given.Schedules.Model.{IsByModel}
 use Rattle.papaya_legal.proofs.CallChanges.{changes_first, reads_shards}
 use Rattle.papaya_legal.proofs.CallFollows.{call_events_follow}
 use Rattle.papaya_grows.proofs.Given.Moments.After.{effects_after}
@@ -55,6 +52,8 @@ use Rattle.papaya_legal.proofs.CallPairs.{begun_so, pairs_first}
 use Rattle.papaya_legal.proofs.CallReads.{readings_go_on}
 use Rattle.papaya_legal.proofs.CallsAfter.{call_events_end_so}
 use Rattle.papaya_legal.proofs.CallsEnd.{call_events_are_legal}
+use Rattle.papaya_grows.specs.Given.Scenes.Scene.{Scene}
+use Rattle.papaya_grows.specs.Given.Scenes.Stepping.{StepLeads, scene_after}
 
 module _ {K V : Type 0} (own : List ℕ) where
   -- what calls have asked is so where such an event has begun what it begins
@@ -80,10 +79,10 @@ module _ {K V : Type 0} (own : List ℕ) where
       by (Next caller) came is = tt
       by _ came is = absurd (cc is)
 
-pub call_events_run : (K V S : Type 0) (same : K → K → Bool) (hash : K → ℕ) → CallEventsRun K V S same hash
-call_events_run K V S same hash name terms log beginning map i c c_is first before run steps done m known s u e midst old new at size said leads begins acted effects_are steps_are comes tells_end shows takes busy right finds swept refuses noted slot active = (
+pub call_events_run : (K V : Type 0) (same : K → K → Bool) (hash : ℕ → K → ℕ) → CallEventsRun K V same hash
+call_events_run K V same hash name terms log beginning map i c c_is first before run steps done m known s u e midst old new at size said leads begins acted effects_are steps_are comes tells_end shows takes busy right finds swept refuses noted slot active = (
   legal.0,
-  call_events_end_so K V S same hash name terms log beginning map i c first before run steps done m known s u e midst old new at said leads begins acted effects_are comes tells_end.ends right legal.0 asked
+  call_events_end_so K V same hash name terms log beginning map i c first before run steps done m known s u e midst old new at said leads begins acted effects_are comes tells_end.ends right legal.0 asked
       (reclaims_none (name i) log e midst.of_call) (purposes shows) reading legal.1 by_model.1,
 )
   where
@@ -94,13 +93,13 @@ call_events_run K V S same hash name terms log beginning map i c c_is first befo
     here = here_of same name log beginning map i c done m known s u midst.event_so
 
     v : Moment K V
-    v = with_effects (Some (name i)) (Some map) (effects_of (acts.Call i map) known new.memory.changed) m
+    v = with_effects (Some (name i)) (Some map) (effects_of (acts.Call i map) known new.changed) m
 
     then_known : Known
-    then_known = known_after (acts.Call i map) new.memory.changed known
+    then_known = known_after (acts.Call i map) new.changed known
 
     s2 : Scene K V
-    s2 = scene_after same hash s old new map i (leads map u here).0 u (leads map u here).1 said (leads map u here).4
+    s2 = scene_after same s old new map i (leads map u here).0 u (leads map u here).1 said (leads map u here).4
 
     come : Moment K V
     come = come_to (name i) e.outcome e.steps v
@@ -109,10 +108,10 @@ call_events_run K V S same hash name terms log beginning map i c c_is first befo
     questions = subst (λ (b : Moment K V). ShowsQuestions b) begins (questions_begun (name i) e.event e.outcome (moment log) midst.of_call run.calls.questions)
 
     asked : EventAsksStill log e
-    asked = (events_end K V S same hash name log beginning map i c c_is questions done m known s u midst.event_so old new at said leads e midst.of_call begins acted effects_are comes).1
+    asked = (events_end K V same hash name log beginning map i c c_is questions done m known s u midst.event_so old new at said leads e midst.of_call begins acted effects_are comes).1
 
     by_model : IsByModel terms log e × ((moment (e ∷ log)).is_alone ≡ true → FollowsOrRows terms (e ∷ log) then_known s2.world)
-    by_model = call_events_follow K V S same hash name terms log beginning map i c steps done m known s u e midst old new at size said leads effects_are busy noted slot active
+    by_model = call_events_follow K V same hash name terms log beginning map i c steps done m known s u e midst old new at size said leads effects_are busy noted slot active
 
     worked_is : worked e (moment log) ≡ v
     worked_is =
@@ -120,16 +119,16 @@ call_events_run K V S same hash name terms log beginning map i c c_is first befo
         ∙ ap (λ (o : Option ℕ). with_effects (caller_of e.event) o e.effects beginning) acted
         ∙ ap (λ (who : Option (List ℕ)). with_effects who (Some map) e.effects beginning) midst.of_call
         ∙ ap (λ (fs : List Effect). with_effects (Some (name i)) (Some map) fs beginning) effects_are
-        ∙ effects_after (Some (name i)) (Some map) done (effects_of (acts.Call i map) known new.memory.changed) beginning
-        ∙ ap (λ (x : Moment K V). with_effects (Some (name i)) (Some map) (effects_of (acts.Call i map) known new.memory.changed) x) (sym midst.worked)
+        ∙ effects_after (Some (name i)) (Some map) done (effects_of (acts.Call i map) known new.changed) beginning
+        ∙ ap (λ (x : Moment K V). with_effects (Some (name i)) (Some map) (effects_of (acts.Call i map) known new.changed) x) (sym midst.worked)
 
     legal : IsLegalBut same terms log e × SectionsHold (moment (e ∷ log)) then_known s2.world
-    legal = call_events_are_legal K V S same hash name terms log beginning map i c c_is steps done m known s u e midst questions old new at said leads begins acted effects_are comes takes busy finds
+    legal = call_events_are_legal K V same hash name terms log beginning map i c c_is steps done m known s u e midst questions old new at said leads begins acted effects_are comes takes busy finds
         (let one : e.steps ≡ steps + 1 = steps_are in omega (arith, one)) swept refuses
-        (calls_leave_nothing K V S same hash name log m known s old new at whole midst.calls.kept map i u here said leads e midst.of_call worked_is tells_end) by_model.0
+        (calls_leave_nothing K V same hash name log m known s old new at whole midst.calls.kept map i u here said leads e midst.of_call worked_is tells_end) by_model.0
 
     all : ShowsWhole same name v then_known s2
-    all = (events_keep_all K V S same hash name log beginning map i c done m known s u midst.event_so old new at said leads).0
+    all = (events_keep_all K V same hash name log beginning map i c done m known s u midst.event_so old new at said leads).0
 
     none : ends_call e.outcome ≡ true → NoneNamed name (name i) s2
     none = none_named same hash name log m known s midst.calls.dues map i u here old new said leads e tells_end.ends
@@ -141,23 +140,23 @@ call_events_run K V S same hash name terms log beginning map i c c_is first befo
     -- what calls are for, once its call has come to that
     purposes : ShowsAsTold then_known said e.outcome → ShowsPurposes same name log come then_known s2
     purposes (inl (silent, tells)) = calls_come_to_purposes K V same name log v then_known s2
-        (calls_keep_purposes K V S same hash name log m known s old new at whole midst.calls.purposes map i u here said leads pairs
+        (calls_keep_purposes K V same hash name log m known s old new at whole midst.calls.purposes map i u here said leads pairs
         (changes_first same hash name log beginning map i c done m known s old new at said leads u midst.event_so)
-        (reads_shards K V S same hash name log m known s old new at whole midst.calls.counters map i u here said leads midst.unadded) silent) (name i) e.outcome e.steps tells none
+        (reads_shards K V same hash name log m known s old new at whole midst.calls.counters map i u here said leads midst.unadded) silent) (name i) e.outcome e.steps tells none
     purposes (inr (word, q, said_is, outcome_is, names)) = subst (λ (o : Outcome V). ShowsPurposes same name log (come_to (name i) o e.steps v) then_known s2) (sym outcome_is)
         (shown_by said said_is leads)
       where
         shown_by : (told : Progress (Node K V)) → told ≡ progress.Pair word → (led : StepLeads same hash i told s old new)
-            → ShowsPurposes same name log (come_to (name i) (outcome.Shows q) e.steps v) then_known (scene_after same hash s old new map i (led map u here).0 u (led map u here).1 told (led map u here).4)
+            → ShowsPurposes same name log (come_to (name i) (outcome.Shows q) e.steps v) then_known (scene_after same s old new map i (led map u here).0 u (led map u here).1 told (led map u here).4)
         shown_by told is = subst (λ (x : Progress (Node K V)). (led : StepLeads same hash i x s old new)
-            → ShowsPurposes same name log (come_to (name i) (outcome.Shows q) e.steps v) then_known (scene_after same hash s old new map i (led map u here).0 u (led map u here).1 x (led map u here).4)) (sym is)
-            (λ led. walks_show_purposes K V S same hash name log m known s old new at whole midst.calls.purposes map i u here word led pairs
+            → ShowsPurposes same name log (come_to (name i) (outcome.Shows q) e.steps v) then_known (scene_after same s old new map i (led map u here).0 u (led map u here).1 x (led map u here).4)) (sym is)
+            (λ led. walks_show_purposes K V same hash name log m known s old new at whole midst.calls.purposes map i u here word led pairs
             (changes_first same hash name log beginning map i c done m known s old new at (progress.Pair word) led u midst.event_so) q e.steps names)
 
     -- lookups have made the steps of the event
     reading : ShowsReading name log (λ j. 0) come s2
     reading = calls_come_to_readings K V same name log (λ j. if j == i then steps + 1 else 0) v then_known s2 all
-        (readings_go_on K V S same hash name terms log e.event beginning map i c steps done m known s u midst old new at said leads) (name i) e.outcome e.steps none made
+        (readings_go_on K V same hash name terms log e.event beginning map i c steps done m known s u midst old new at said leads) (name i) e.outcome e.steps none made
       where
         -- another call has another name
         other : (n j : ℕ) (x : UnderWay K V K) → s2.calls n j ≡ Some x → (j ≡ i → ⊥) → is_same (name j) (name i) ≡ false

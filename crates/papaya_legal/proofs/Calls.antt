@@ -16,8 +16,6 @@ use Rattle.papaya_grows.specs.Given.Schedules.Effects.{with_effects, AtEachEffec
 use Rattle.papaya_grows.specs.Given.Schedules.Entry.{caller_of, speaker}
 use Rattle.papaya_grows.specs.Given.Schedules.Model.{sets_in, things_in}
 use Rattle.papaya_grows.specs.Given.Schedules.Moment.{Moment}
-use Rattle.papaya_grows.specs.Given.Executor.IsAt.{Scene, slot_of}
-use Rattle.papaya_grows.specs.Given.Executor.Stepping.{scene_after}
 use Rattle.papaya_grows.specs.Given.Effects.Effects.{effects_of, known_after}
 use Rattle.papaya_grows.specs.Given.Effects.Known.{Known}
 use Rattle.papaya_grows.specs.Given.Effects.declared.acting.Acting.TheVariants as acts
@@ -62,6 +60,8 @@ use Rattle.papaya_grows.proofs.Finding.Alike.{many_same}
 use Rattle.papaya_grows.proofs.Given.Finds.Grows.Steps.{tables_have_been}
 use Rattle.papaya_grows.proofs.Finding.Nexts.{nexts_go_on, others_at_first, others_go_on}
 use Rattle.papaya_legal.proofs.Uncounted.{calls_leave_uncounted}
+use Rattle.papaya_grows.specs.Given.Scenes.Scene.{Scene, slot_of}
+use Rattle.papaya_grows.specs.Given.Scenes.Stepping.{scene_after}
 
 -- no steps, whoever's
 none_made : (q : Bool) → ◌≡◌ {A = ℕ} 0 (if q then 0 else 0)
@@ -77,10 +77,10 @@ module _ {K V : Type 0} (own : List ℕ) (m : Moment K V) (known : Known) (w : W
   begins_protected (Next caller) is = record { inside = hold.0; sheltered = hold.1; spared = refl }
   begins_protected _ is = absurd (cc is)
 
-pub call_events_begin_so : (K V S : Type 0) (same : K → K → Bool) (hash : K → ℕ) → CallEventsBegin K V S same hash
-call_events_begin_so K V S same hash name terms log beginning begins maps tables shards born spot tableless known s x at all reading sections follows event map i caller_is u here c c_is only = record {
+pub call_events_begin_so : (K V : Type 0) (same : K → K → Bool) (hash : ℕ → K → ℕ) → CallEventsBegin K V same hash
+call_events_begin_so K V same hash name terms log beginning begins maps tables shards born spot tableless known s x at all reading sections follows event map i caller_is u here c c_is only = record {
   of_call = caller_is;
-  event_so = events_begin K V S same hash name log beginning begins known s x at all.whole all.dues all.as_called map i u here c c_is;
+  event_so = events_begin K V same hash name log beginning begins known s x at all.whole all.dues all.as_called map i u here c c_is;
   calls = all;
   others = others_at_first name log i beginning s maps tables all.purposes.begun all.nexts;
   other_limits = limits_at_first name log i beginning s maps tables all.purposes.begun all.limits;
@@ -131,52 +131,52 @@ out_of_slots own (Go caller refuse) is = refl
 out_of_slots own (Next caller) is = refl
 out_of_slots own _ is = absurd (cc is)
 
-pub call_events_go_on_so : (K V S : Type 0) (same : K → K → Bool) (hash : K → ℕ) → CallEventsGoOn K V S same hash
-call_events_go_on_so K V S same hash name terms log event beginning map i c steps done m known s u midst old new at size said leads none noted next next_is = record {
+pub call_events_go_on_so : (K V : Type 0) (same : K → K → Bool) (hash : ℕ → K → ℕ) → CallEventsGoOn K V same hash
+call_events_go_on_so K V same hash name terms log event beginning map i c steps done m known s u midst old new at size said leads none noted next next_is = record {
   of_call = midst.of_call;
-  event_so = events_go_on K V S same hash name log beginning map i c done m known s u midst.event_so old new at said leads next next_is;
+  event_so = events_go_on K V same hash name log beginning map i c done m known s u midst.event_so old new at said leads next next_is;
   calls = record {
     whole = all.0;
     numbers = (
-      steps_keep_numbers K V m midst.calls.numbers.0 (Some (name i)) (Some map) (acts.Call i map) known new.memory.changed below,
+      steps_keep_numbers K V m midst.calls.numbers.0 (Some (name i)) (Some map) (acts.Call i map) known new.changed below,
       effects_keep_pairs K V m midst.calls.numbers.1 (Some (name i)) (Some map) effects (λ n is. let one : map ≡ n = cc is in subst (λ (k : ℕ). k < m.made) one below),
     );
-    kept = calls_keep_kept K V S same hash name m known s old new at whole midst.calls.kept map i u here said leads;
-    finding = calls_keep_finding K V S same hash name m known s old new at whole midst.calls.kept midst.calls.finding map i u here said leads;
-    sources = calls_keep_sources K V S same hash name m known s old new at whole midst.calls.sources map i u here said leads;
+    kept = calls_keep_kept K V same hash name m known s old new at whole midst.calls.kept map i u here said leads;
+    finding = calls_keep_finding K V same hash name m known s old new at whole midst.calls.kept midst.calls.finding map i u here said leads;
+    sources = calls_keep_sources K V same hash name m known s old new at whole midst.calls.sources map i u here said leads;
     nexts = nexts_go_on same hash name log m known s old new at whole map i u here said leads midst.others midst.calls.nexts (whole.all.shown.calls map i u here).0 (whole.all.shown.calls map i u here).1;
     tries = tries_go_on same hash name log m known s old new at whole map i u here said leads midst.calls.sources midst.calls.tries (whole.all.shown.calls map i u here).0 (whole.all.shown.calls map i u here).1 midst.other_tries;
     limits = limits_go_on same hash name log m known s old new at whole map i u here said leads midst.calls.limits midst.calls.finding.capacities (whole.all.shown.calls map i u here).0 (whole.all.shown.calls map i u here).1 midst.other_limits;
-    counters = calls_keep_counters K V S same hash name m known s old new at whole midst.calls.kept.counts midst.calls.counters map i u here said leads;
+    counters = calls_keep_counters K V same hash name m known s old new at whole midst.calls.kept.counts midst.calls.counters map i u here said leads;
     uncounted = calls_leave_uncounted same hash name m known s old new at whole midst.calls.kept midst.calls.counters midst.calls.uncounted map i u here said leads below;
     dues = all.1;
     as_called = all.2;
     questions = effects_keep_questions K V (Some (name i)) (Some map) effects m midst.calls.questions;
-    purposes = calls_keep_purposes K V S same hash name log m known s old new at whole midst.calls.purposes map i u here said leads
+    purposes = calls_keep_purposes K V same hash name log m known s old new at whole midst.calls.purposes map i u here said leads
         (pairs_first same hash name log beginning map i c done m known s whole old new at said leads u midst.event_so
         (begun_so same name log beginning map i c done m known s u midst.event_so) midst.worked midst.its_own)
         (changes_first same hash name log beginning map i c done m known s old new at said leads u midst.event_so)
-        (reads_shards K V S same hash name log m known s old new at whole midst.calls.counters map i u here said leads midst.unadded) none;
+        (reads_shards K V same hash name log m known s old new at whole midst.calls.counters map i u here said leads midst.unadded) none;
   };
   others = others_go_on same hash name log m known s old new at whole map i u here said leads midst.others;
   other_limits = limits_others same hash name log m known s old new at whole map i u here said leads midst.other_limits;
   other_tries = tries_others same hash name log m known s old new at whole map i u here said leads midst.other_tries;
   tables = λ of. (let had = midst.tables of in let more = tables_have_been K V (Some (name i)) (Some map) effects m of in omega (arith, had, more));
   worked = ap (λ (x : Moment K V). with_effects (Some (name i)) (Some map) effects x) midst.worked ∙ sym (effects_after (Some (name i)) (Some map) done effects beginning);
-  few = parts_add_up steps 1 done effects midst.few (operations_are_single (acts.Call i map) known new.memory.changed).0;
-  granted = grants_add_up done effects midst.granted (operations_are_single (acts.Call i map) known new.memory.changed).1;
-  reading = readings_go_on K V S same hash name terms log event beginning map i c steps done m known s u midst old new at said leads;
-  unadded = unadded_still K V S same hash name log m known s old new at whole midst.calls.counters map i u here said leads midst.unadded next next_is;
+  few = parts_add_up steps 1 done effects midst.few (operations_are_single (acts.Call i map) known new.changed).0;
+  granted = grants_add_up done effects midst.granted (operations_are_single (acts.Call i map) known new.changed).1;
+  reading = readings_go_on K V same hash name terms log event beginning map i c steps done m known s u midst old new at said leads;
+  unadded = unadded_still K V same hash name log m known s old new at whole midst.calls.counters map i u here said leads midst.unadded next next_is;
   its_own = midst.its_own;
   quiet = λ looks_for. quiet_still looks_for;
-  kinds = several_do_theirs done effects midst.kinds (steps_do_theirs K V S same hash name m known s old new at whole map i u here said leads);
+  kinds = several_do_theirs done effects midst.kinds (steps_do_theirs K V same hash name m known s old new at whole map i u here said leads);
   stores = several_store_one K V (name i) map done effects beginning midst.stores
       (subst (λ (x : Moment K V). AtEachEffect (StoresOne (Some (name i))) (Some (name i)) (Some map) effects x) midst.worked
-      (steps_store_one K V S same hash name m known s old new at whole map i u here said leads));
-  protects = calls_protect K V S same hash name m known s old new at whole map i u here said leads event (out_of_slots (name i) event midst.of_call) done midst.protects;
+      (steps_store_one K V same hash name m known s old new at whole map i u here said leads));
+  protects = calls_protect K V same hash name m known s old new at whole map i u here said leads event (out_of_slots (name i) event midst.of_call) done midst.protects;
   follows = λ alone.
       subst (λ (n : ℕ). FollowsInEvent n terms.roots (things_in log) (sets_in terms.batch_size log) (slot_of i) i (done ++ effects) then_known (leads map u here).4.w2) size
-      (call_events_go_on K V S same hash name m known s old new at whole map i u here said leads (moments_note_once K V same name v then_known s2 all.0) terms.roots (things_in log)
+      (call_events_go_on K V same hash name m known s old new at whole map i u here said leads (moments_note_once K V same name v then_known s2 all.0) terms.roots (things_in log)
       (sets_in terms.batch_size log) (slot_of i) done
       (subst (λ (n : ℕ). FollowsInEvent n terms.roots (things_in log) (sets_in terms.batch_size log) (slot_of i) i done known s.world) (sym size) (midst.follows alone)) noted);
 }
@@ -188,16 +188,16 @@ call_events_go_on_so K V S same hash name terms log event beginning map i c step
     here = here_of same name log beginning map i c done m known s u midst.event_so
 
     effects : List Effect
-    effects = effects_of (acts.Call i map) known new.memory.changed
+    effects = effects_of (acts.Call i map) known new.changed
 
     v : Moment K V
     v = with_effects (Some (name i)) (Some map) effects m
 
     then_known : Known
-    then_known = known_after (acts.Call i map) new.memory.changed known
+    then_known = known_after (acts.Call i map) new.changed known
 
     s2 : Scene K V
-    s2 = scene_after same hash s old new map i (leads map u here).0 u (leads map u here).1 said (leads map u here).4
+    s2 = scene_after same s old new map i (leads map u here).0 u (leads map u here).1 said (leads map u here).4
 
     -- the map of the call was made
     below : map < m.made
@@ -205,9 +205,9 @@ call_events_go_on_so K V S same hash name terms log event beginning map i c step
         let there = (whole.all.shown.maps map (leads map u here).0 (leads map u here).2).there in numbers_are_below K V m midst.calls.numbers.0 map there.there there.is
 
     all : ShowsWhole same name v then_known s2 × ShowsDue same name log v then_known s2 × ShowsAsCalled same name v then_known s2
-    all = events_keep_all K V S same hash name log beginning map i c done m known s u midst.event_so old new at said leads
+    all = events_keep_all K V same hash name log beginning map i c done m known s u midst.event_so old new at said leads
 
     -- a lookup does nothing by its steps
     quiet_still : looks c.call ≡ true → (v.maps ≡ (moment log).maps) × (v.tables ≡ (moment log).tables)
     quiet_still looks_for = subst (λ (x : Moment K V). (x.maps ≡ (moment log).maps) × (x.tables ≡ (moment log).tables))
-        (sym (does_nothing K V S same hash name terms log event beginning map i c steps done m known s u midst old new at said leads looks_for)) (midst.quiet looks_for)
+        (sym (does_nothing K V same hash name terms log event beginning map i c steps done m known s u midst old new at said leads looks_for)) (midst.quiet looks_for)

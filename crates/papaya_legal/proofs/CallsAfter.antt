@@ -8,8 +8,6 @@ use Rattle.papaya_grows.specs.Given.Schedules.After.{moment, after}
 use Rattle.papaya_grows.specs.Given.Schedules.Effects.{with_effects, AtEachEffect, worked}
 use Rattle.papaya_grows.specs.Given.Schedules.Entry.{caller_of, Entry, acted_on, ends_call}
 use Rattle.papaya_grows.specs.Given.Schedules.Moment.{Moment, UnderWay as CallThere}
-use Rattle.papaya_grows.specs.Given.Executor.IsAt.{Scene}
-use Rattle.papaya_grows.specs.Given.Executor.Stepping.{scene_after}
 use Rattle.papaya_grows.specs.Given.Effects.Effects.{effects_of, known_after}
 use Rattle.papaya_grows.specs.Given.Effects.Known.{Known}
 use Rattle.papaya_grows.specs.Given.Moments.Whole.{ShowsWhole}
@@ -62,6 +60,8 @@ use Rattle.papaya_grows.specs.Tries.{ShowsTries}
 use Rattle.papaya_grows.proofs.Tries.Shows.{calls_come_to_tries, tries_alike, tries_grow}
 use Rattle.papaya_grows.proofs.Tries.Steps.{tries_go_on}
 use Rattle.papaya_legal.proofs.Uncounted.{calls_leave_uncounted}
+use Rattle.papaya_grows.specs.Given.Scenes.Scene.{Scene}
+use Rattle.papaya_grows.specs.Given.Scenes.Stepping.{scene_after}
 
 -- numbers of maps are those after its effects
 module _ {K V : Type 0} (log : List (Entry K V)) (own : List ℕ) (outcome : Outcome V) (steps : ℕ) (effects : List Effect) where
@@ -85,22 +85,22 @@ module _ {K V : Type 0} (log : List (Entry K V)) (own : List ℕ) (outcome : Out
   uncounted_over (Next caller) is none = none
   uncounted_over _ is none = absurd (cc is)
 
-pub call_events_end_so : (K V S : Type 0) (same : K → K → Bool) (hash : K → ℕ) → CallEventsEnd K V S same hash
-call_events_end_so K V S same hash name terms log beginning map i c first before run steps done m known s u e midst old new at said leads begins acted effects_are comes ends right but still reclaims purposes reading sections follows = record {
+pub call_events_end_so : (K V : Type 0) (same : K → K → Bool) (hash : ℕ → K → ℕ) → CallEventsEnd K V same hash
+call_events_end_so K V same hash name terms log beginning map i c first before run steps done m known s u e midst old new at said leads begins acted effects_are comes ends right but still reclaims purposes reading sections follows = record {
   calls = record {
     whole = over.0;
     numbers = numbers_over log (name i) e.outcome e.steps e.effects e.event midst.of_call (subst (λ (x : Moment K V). NumbersMaps x × PairsAreBelow x) (sym worked_is) numbers);
     kept = kept_last;
     finding = finding_fewer K V same name v last then_known s2 s2 all.0.all.shown.calls kept_then.owed kept_last.owed (λ n j x is. is) (stood_as s2 s2 refl) alike.tables alike.maps alike.place alike.born
-        (ap (λ (x : Moment K V). x.spot) worked_is) alike.stored (calls_keep_finding K V S same hash name m known s old new at whole midst.calls.kept midst.calls.finding map i u here said leads);
-    sources = sources_so K V same name v last then_known then_known s2 s2 (calls_keep_sources K V S same hash name m known s old new at whole midst.calls.sources map i u here said leads) over.0.all.shown
+        (ap (λ (x : Moment K V). x.spot) worked_is) alike.stored (calls_keep_finding K V same hash name m known s old new at whole midst.calls.kept midst.calls.finding map i u here said leads);
+    sources = sources_so K V same name v last then_known then_known s2 s2 (calls_keep_sources K V same hash name m known s old new at whole midst.calls.sources map i u here said leads) over.0.all.shown
         alike.stored alike.born (ap (λ (x : Moment K V). x.spot) worked_is) (λ n st is. is);
     nexts = nexts_alike name (e ∷ log) come last s2 s2 (nexts_grow name log e come s2 purposes.begun come_nexts) alike.calls (next_same come last alike.maps alike.tables) (λ n j x is. is);
     tries = tries_alike name (e ∷ log) come last s2 s2 (tries_grow name log e come s2 purposes.begun come_tries) alike.calls
         (record { stored = alike.stored; place = alike.place; born = alike.born; spot = ap (λ (x : Moment K V). x.spot) worked_is }) alike.maps alike.tables (λ n j x is. is);
     limits = limits_alike name (e ∷ log) come last s2 s2 (limits_grow name log e come s2 purposes.begun come_limits) alike.calls (limit_same come last alike.maps alike.tables) (λ n j x is. is);
     counters = counters_stay K V name come last s2 s2
-        (calls_come_to_counters K V same name v then_known s2 all.0 (calls_keep_counters K V S same hash name m known s old new at whole midst.calls.kept.counts midst.calls.counters map i u here said leads) (name i) e.outcome
+        (calls_come_to_counters K V same name v then_known s2 all.0 (calls_keep_counters K V same hash name m known s old new at whole midst.calls.kept.counts midst.calls.counters map i u here said leads) (name i) e.outcome
         e.steps none)
         alike.calls (ap (λ (x : Moment K V). x.shards) worked_is) refl refl refl (λ of j x is removed adds. (x, is, adds));
     uncounted = uncounted_over log (name i) e.outcome e.steps e.effects e.event midst.of_call (subst NoneCounted (sym worked_is)
@@ -108,7 +108,7 @@ call_events_end_so K V S same hash name terms log beginning map i c first before
     dues = over.1;
     as_called = over.2;
     questions = events_keep_questions K V log e run.calls.questions still;
-    purposes = events_keep_purposes K V same name log e then_known s2 ((purposes_stay K V S same hash name log).alike come last then_known s2 purposes alike);
+    purposes = events_keep_purposes K V same name log e then_known s2 ((purposes_stay K V same hash name log).alike come last then_known s2 purposes alike);
   };
   reading = events_keep_readings K V name log e (λ j. 0) last s2 (readings_stay K V name log (λ j. 0) (λ j. 0) come last s2 s2 stay reading);
   sections = sections;
@@ -126,16 +126,16 @@ call_events_end_so K V S same hash name terms log beginning map i c first before
     here = here_of same name log beginning map i c done m known s u midst.event_so
 
     effects : List Effect
-    effects = effects_of (acts.Call i map) known new.memory.changed
+    effects = effects_of (acts.Call i map) known new.changed
 
     v : Moment K V
     v = with_effects (Some (name i)) (Some map) effects m
 
     then_known : Known
-    then_known = known_after (acts.Call i map) new.memory.changed known
+    then_known = known_after (acts.Call i map) new.changed known
 
     s2 : Scene K V
-    s2 = scene_after same hash s old new map i (leads map u here).0 u (leads map u here).1 said (leads map u here).4
+    s2 = scene_after same s old new map i (leads map u here).0 u (leads map u here).1 said (leads map u here).4
 
     come : Moment K V
     come = come_to (name i) e.outcome e.steps v
@@ -144,10 +144,10 @@ call_events_end_so K V S same hash name terms log beginning map i c first before
     last = after e (moment log)
 
     all : ShowsWhole same name v then_known s2 × ShowsDue same name log v then_known s2 × ShowsAsCalled same name v then_known s2
-    all = events_keep_all K V S same hash name log beginning map i c done m known s u midst.event_so old new at said leads
+    all = events_keep_all K V same hash name log beginning map i c done m known s u midst.event_so old new at said leads
 
     over : ShowsWhole same name last then_known s2 × ShowsDue same name (e ∷ log) last then_known s2 × ShowsAsCalled same name last then_known s2
-    over = events_are_over K V S same hash name log beginning map i c done m known s u midst.event_so old new at said leads e midst.of_call begins acted effects_are comes ends
+    over = events_are_over K V same hash name log beginning map i c done m known s u midst.event_so old new at said leads e midst.of_call begins acted effects_are comes ends
 
     none : ends_call e.outcome ≡ true → NoneNamed name (name i) s2
     none = none_named same hash name log m known s midst.calls.dues map i u here old new said leads e ends
@@ -183,7 +183,7 @@ call_events_end_so K V S same hash name terms log beginning map i c first before
         all.0.all.shown.calls (name i) e.outcome e.steps none
 
     kept_then : ShowsKept name v then_known s2
-    kept_then = calls_keep_kept K V S same hash name m known s old new at whole midst.calls.kept map i u here said leads
+    kept_then = calls_keep_kept K V same hash name m known s old new at whole midst.calls.kept map i u here said leads
 
     kept_last : ShowsKept name last then_known s2
     kept_last =
@@ -197,7 +197,7 @@ call_events_end_so K V S same hash name terms log beginning map i c first before
 
     numbers : NumbersMaps v × PairsAreBelow v
     numbers = (
-      steps_keep_numbers K V m midst.calls.numbers.0 (Some (name i)) (Some map) (acts.Call i map) known new.memory.changed below,
+      steps_keep_numbers K V m midst.calls.numbers.0 (Some (name i)) (Some map) (acts.Call i map) known new.changed below,
       effects_keep_pairs K V m midst.calls.numbers.1 (Some (name i)) (Some map) effects (λ n is. let one : map ≡ n = cc is in subst (λ (k : ℕ). k < m.made) one below),
     )
 
@@ -212,7 +212,7 @@ call_events_end_so K V S same hash name terms log beginning map i c first before
     stored = subst (λ (fs : List Effect). AtEachEffect (StoresOne (Some (name i))) (Some (name i)) (Some map) fs beginning) (sym effects_are)
         (several_store_one K V (name i) map done effects beginning midst.stores
         (subst (λ (x : Moment K V). AtEachEffect (StoresOne (Some (name i))) (Some (name i)) (Some map) effects x) midst.worked
-        (steps_store_one K V S same hash name m known s old new at whole map i u here said leads)))
+        (steps_store_one K V same hash name m known s old new at whole map i u here said leads)))
 
     goes : GoesInOrder terms log e
     goes = record {

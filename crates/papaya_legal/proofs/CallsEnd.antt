@@ -51,17 +51,17 @@ module _ {K V : Type 0} (own : List ℕ) (effects : List Effect) (m w : Moment K
   whole_so (Next caller) _ is busy = tt
   whole_so _ outcome is busy = absurd (cc is)
 
-pub call_events_are_legal : (K V S : Type 0) (same : K → K → Bool) (hash : K → ℕ) → CallEventsAreLegal K V S same hash
-call_events_are_legal K V S same hash name terms log beginning map i c c_is steps done m known s u e midst questions old new at said leads begins acted effects_are comes steps_taken busy finds few_steps swept refuses leaves by_model = (
+pub call_events_are_legal : (K V : Type 0) (same : K → K → Bool) (hash : ℕ → K → ℕ) → CallEventsAreLegal K V same hash
+call_events_are_legal K V same hash name terms log beginning map i c c_is steps done m known s u e midst questions old new at said leads begins acted effects_are comes steps_taken busy finds few_steps swept refuses leaves by_model = (
   record {
-    brief = reads_briefly K V S same hash name terms log beginning map i c steps done m known s u e midst old new at said leads begins acted effects_are few_steps;
+    brief = reads_briefly K V same hash name terms log beginning map i c steps done m known s u e midst old new at said leads begins acted effects_are few_steps;
     linearizable = asked.0;
     swept = swept;
     life = record {
       finds = all_find;
       may = allowed steps_taken;
       granted = subst (λ (fs : List Effect). is_granted false fs ≡ true) (sym effects_are)
-          (grants_add_up done effects midst.granted (operations_are_single (acts.Call i map) known new.memory.changed).1);
+          (grants_add_up done effects midst.granted (operations_are_single (acts.Call i map) known new.changed).1);
       refuses = refuses;
       whole = whole_so (name i) e.effects (moment log) (worked e (moment log)) e.event e.outcome midst.of_call busy;
       leaves = leaves;
@@ -79,16 +79,16 @@ call_events_are_legal K V S same hash name terms log beginning map i c c_is step
     here = here_of same name log beginning map i c done m known s u midst.event_so
 
     effects : List Effect
-    effects = effects_of (acts.Call i map) known new.memory.changed
+    effects = effects_of (acts.Call i map) known new.changed
 
     v : Moment K V
     v = with_effects (Some (name i)) (Some map) effects m
 
     then_known : Known
-    then_known = known_after (acts.Call i map) new.memory.changed known
+    then_known = known_after (acts.Call i map) new.changed known
 
     asked : IsLinearizable same log e × EventAsksStill log e
-    asked = events_end K V S same hash name log beginning map i c c_is questions done m known s u midst.event_so old new at said leads e midst.of_call begins acted effects_are comes
+    asked = events_end K V same hash name log beginning map i c c_is questions done m known s u midst.event_so old new at said leads e midst.of_call begins acted effects_are comes
 
     -- the map of the call is that on which the event acts
     its_map : map ≡ c.map
@@ -105,11 +105,11 @@ call_events_are_legal K V S same hash name terms log beginning map i c c_is step
     safe : IsProtected log e × SectionsHold (after e (moment log)) then_known (leads map u here).4.w2
     safe = other_events_end_protected K V log e beginning v (Some (name i)) (Some map) then_known (leads map u here).4.w2 (out_of_slots (name i) e.event midst.of_call) begins midst.of_call acted worked_so
         (subst (λ (fs : List Effect). InMidst e.event fs v then_known (leads map u here).4.w2) (sym effects_are)
-        (calls_protect K V S same hash name m known s old new at whole map i u here said leads e.event (out_of_slots (name i) e.event midst.of_call) done midst.protects))
+        (calls_protect K V same hash name m known s old new at whole map i u here said leads e.event (out_of_slots (name i) e.event midst.of_call) done midst.protects))
 
     -- it may do all that, if it takes steps at all
     allowed : (takes_steps e.event ≡ true) ⊎ (e.effects ≡ []) → list_all (may_do e.event (moment log)) e.effects ≡ true
     allowed (inl takes) = events_may_do K V e.event (moment log) e.effects takes
         (subst (λ (fs : List Effect). list_all is_call_effect fs ≡ true) (sym effects_are)
-        (several_do_theirs done effects midst.kinds (steps_do_theirs K V S same hash name m known s old new at whole map i u here said leads)))
+        (several_do_theirs done effects midst.kinds (steps_do_theirs K V same hash name m known s old new at whole map i u here said leads)))
     allowed (inr none) = subst (λ (fs : List Effect). list_all (may_do e.event (moment log)) fs ≡ true) (sym none) refl

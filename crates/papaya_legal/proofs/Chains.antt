@@ -33,77 +33,77 @@ pub chains_keep : {X : Type 0} (P : X → Type 0) (Steps : X → X → Type 0) �
 chains_keep P Steps keeps zero from to chain so = subst P chain so
 chains_keep P Steps keeps (suc n) from to chain so = keeps chain.0 to chain.2 (chains_keep P Steps keeps n from chain.0 chain.1 so)
 
-module _ (K V S : Type 0) (same : K → K → Bool) (hash : K → ℕ) where
-  pub rows_chain : RowsChain K V S same hash
+module _ (K V : Type 0) (same : K → K → Bool) (hash : ℕ → K → ℕ) where
+  pub rows_chain : RowsChain K V same hash
   rows_chain name terms log event i called first began n from to chain so = chains_keep Midst (RowSteps same hash terms i) keeps n from to chain so
     where
-      Midst : Come K V S → Type 0
+      Midst : Come K V → Type 0
       Midst x = InSlotEvent same name terms log event i called first began x.did x.now x.notes x.scene
 
-      keeps : (x y : Come K V S) → RowSteps same hash terms i x y → Midst x → Midst y
+      keeps : (x y : Come K V) → RowSteps same hash terms i x y → Midst x → Midst y
       keeps x y step midst = subst Midst (sym step.comes)
-          (slot_events_go_on_so K V S same hash name terms log event i called first began x.did x.now x.notes x.scene midst x.executor y.executor step.is_at step.size step.said step.leads step.row step.here)
+          (slot_events_go_on_so K V same hash name terms log event i called first began x.did x.now x.notes x.scene midst x.held y.held step.is_at step.size step.said step.leads step.row step.here)
 
-  pub makings_chain : MakingsChain K V S same hash
+  pub makings_chain : MakingsChain K V same hash
   makings_chain name terms log event i map beginning n from to chain so = chains_keep Midst (MakingSteps same hash terms i map) keeps n from to chain so
     where
-      Midst : Come K V S → Type 0
+      Midst : Come K V → Type 0
       Midst x = InMakingEvent same name terms log event map beginning x.did x.now x.notes x.scene
 
-      keeps : (x y : Come K V S) → MakingSteps same hash terms i map x y → Midst x → Midst y
+      keeps : (x y : Come K V) → MakingSteps same hash terms i map x y → Midst x → Midst y
       keeps x y step midst = subst Midst (sym step.comes)
           (subst (λ (of : ℕ). InMakingEvent same name terms log event of beginning (after_step x y step).did (after_step x y step).now (after_step x y step).notes (after_step x y step).scene) step.map_is
-          (making_events_go_on_so K V S same hash name terms log event beginning x.did x.now x.notes x.scene i step.making step.here
-          (subst (λ (of : ℕ). InMakingEvent same name terms log event of beginning x.did x.now x.notes x.scene) (sym step.map_is) midst) x.executor y.executor step.is_at step.size step.said
+          (making_events_go_on_so K V same hash name terms log event beginning x.did x.now x.notes x.scene i step.making step.here
+          (subst (λ (of : ℕ). InMakingEvent same name terms log event of beginning x.did x.now x.notes x.scene) (sym step.map_is) midst) x.held y.held step.is_at step.size step.said
           step.leads step.was_new step.finds))
         where
-          after_step : (x y : Come K V S) → MakingSteps same hash terms i map x y → Come K V S
+          after_step : (x y : Come K V) → MakingSteps same hash terms i map x y → Come K V
           after_step x y step = record {
-            executor = y.executor;
-            did = x.did ++ effects_of (acts.Making step.making.map) x.notes y.executor.memory.changed;
-            now = with_effects None (Some step.making.map) (effects_of (acts.Making step.making.map) x.notes y.executor.memory.changed) x.now;
-            notes = known_after (acts.Making step.making.map) y.executor.memory.changed x.notes;
-            scene = making_after same hash x.scene x.executor y.executor i step.making (step.leads step.making step.here).0 (step.leads step.making step.here).2.step.w2 step.said
+            held = y.held;
+            did = x.did ++ effects_of (acts.Making step.making.map) x.notes y.held.changed;
+            now = with_effects None (Some step.making.map) (effects_of (acts.Making step.making.map) x.notes y.held.changed) x.now;
+            notes = known_after (acts.Making step.making.map) y.held.changed x.notes;
+            scene = making_after same hash x.scene x.held y.held i step.making (step.leads step.making step.here).0 (step.leads step.making step.here).2.step.w2 step.said
                 (step.leads step.making step.here).3;
           }
 
-  pub ends_chain : EndsChain K V S same hash
+  pub ends_chain : EndsChain K V same hash
   ends_chain name terms log event i map beginning first n from to chain so = chains_keep Midst (EndSteps same hash terms i map) keeps n from to chain so
     where
-      Midst : Come K V S → Type 0
+      Midst : Come K V → Type 0
       Midst x = InEndEvent same name terms log event map beginning first i x.did x.now x.notes x.scene
 
-      keeps : (x y : Come K V S) → EndSteps same hash terms i map x y → Midst x → Midst y
+      keeps : (x y : Come K V) → EndSteps same hash terms i map x y → Midst x → Midst y
       keeps x y step midst = subst Midst (sym step.comes)
-          (end_events_go_on_so K V S same hash name terms log event map beginning first x.did x.now x.notes x.scene i step.ending step.here step.gone midst x.executor y.executor step.is_at step.size
+          (end_events_go_on_so K V same hash name terms log event map beginning first x.did x.now x.notes x.scene i step.ending step.here step.gone midst x.held y.held step.is_at step.size
           step.below step.said step.leads step.its)
 
-  pub calls_chain : CallsChain K V S same hash
+  pub calls_chain : CallsChain K V same hash
   calls_chain name terms log event beginning map i c n from to chain so = chains_keep Midst (CallSteps same hash name terms log map i) keeps n from to chain so
     where
-      Midst : CallCome K V S → Type 0
+      Midst : CallCome K V → Type 0
       Midst x = InCallEvent same name terms log event beginning map i c x.steps x.come.did x.come.now x.come.notes x.come.scene x.under
 
-      keeps : (x y : CallCome K V S) → CallSteps same hash name terms log map i x y → Midst x → Midst y
+      keeps : (x y : CallCome K V) → CallSteps same hash name terms log map i x y → Midst x → Midst y
       keeps x y step midst =
           let here = here_of same name log beginning map i c x.come.did x.come.now x.come.notes x.come.scene x.under midst.event_so in
           subst Midst (sym (step.comes here))
-          (call_events_go_on_so K V S same hash name terms log event beginning map i c x.steps x.come.did x.come.now x.come.notes x.come.scene x.under midst x.come.executor y.come.executor step.is_at
+          (call_events_go_on_so K V same hash name terms log event beginning map i c x.steps x.come.did x.come.now x.come.notes x.come.scene x.under midst x.come.held y.come.held step.is_at
           step.size step.said step.leads step.none (step.noted here) y.under (step.goes_on here))
 
-  pub rows_run_to_their_ends : RowsRunToTheirEnds K V S same hash
-  rows_run_to_their_ends name terms log known s old new at size small run e on i called may leads spares before n to chain did rests ends busy allowed finds is_row right reclaims =
+  pub rows_run_to_their_ends : RowsRunToTheirEnds K V same hash
+  rows_run_to_their_ends name terms log known s old new at size small run e on i called leads spares before n to chain did rests ends busy allowed finds is_row right reclaims =
       (legal.0, slot_events_end_so K V same name terms log i called known s.world to.now to.notes s to.scene e midst run right legal.0 legal.1 legal.2 reclaims)
     where
       midst : InSlotEvent same name terms log e.event i called known s.world e.effects to.now to.notes to.scene
       midst = subst (λ (fs : List Effect). InSlotEvent same name terms log e.event i called known s.world fs to.now to.notes to.scene) did
-          (rows_chain name terms log e.event i called known s.world n _ to chain (slot_events_begin_so K V S same hash name terms log known s old new at size run e.event on i called may leads spares before))
+          (rows_chain name terms log e.event i called known s.world n _ to chain (slot_events_begin_so K V same hash name terms log known s old new at size run e.event on i called leads spares before))
 
       legal : IsLegalBut same terms log e × SectionsHold (moment (e ∷ log)) to.notes to.scene.world
           × ((moment (e ∷ log)).is_alone ≡ true → FollowsModel terms.batch_size terms.roots (e ∷ log) to.notes to.scene.world)
       legal = slot_events_are_legal K V same name terms log i called known s.world to.now to.notes to.scene e midst allowed finds small rests ends busy is_row
 
-  pub makings_run_to_their_ends : MakingsRunToTheirEnds K V S same hash
+  pub makings_run_to_their_ends : MakingsRunToTheirEnds K V same hash
   makings_run_to_their_ends name terms log known s old new at run own mode capacity there number i b idle map_is not_made before at2 n to chain steps effects did begins acted allowed finds whole right = (
     legal.0,
     making_events_end_so K V same name terms log b.map (with_map there (moment log)) to.now known to.notes s to.scene own mode capacity Done steps effects midst.0 begins acted run right legal.0.life
@@ -116,7 +116,7 @@ module _ (K V S : Type 0) (same : K → K → Bool) (hash : K → ℕ) where
       midst : InMakingEvent same name terms log (MakeMap own mode capacity) b.map (with_map there (moment log)) effects to.now to.notes to.scene
       midst = subst (λ (fs : List Effect). InMakingEvent same name terms log (MakeMap own mode capacity) b.map (with_map there (moment log)) fs to.now to.notes to.scene) did
           (makings_chain name terms log (MakeMap own mode capacity) i b.map (with_map there (moment log)) n _ to chain
-          (making_events_begin_so K V S same hash name terms log known s old new at run own mode capacity there number i b idle map_is not_made before at2))
+          (making_events_begin_so K V same hash name terms log known s old new at run own mode capacity there number i b idle map_is not_made before at2))
 
       by_model : IsByModel terms log e × ((moment (e ∷ log)).is_alone ≡ true → FollowsModel terms.batch_size terms.roots (e ∷ log) to.notes to.scene.world)
       by_model = making_events_follow K V same name terms log b.map (with_map there (moment log)) to.now to.notes to.scene e midst refl
@@ -124,9 +124,9 @@ module _ (K V S : Type 0) (same : K → K → Bool) (hash : K → ℕ) where
       legal : IsLegalBut same terms log e × SectionsHold (moment (e ∷ log)) to.notes to.scene.world
       legal = map_events_are_legal K V same name terms log b.map (with_map there (moment log)) to.now to.notes to.scene e midst.0 allowed finds refl begins acted whole by_model.0
 
-  pub ends_run_to_their_ends : EndsRunToTheirEnds K V S same hash
+  pub ends_run_to_their_ends : EndsRunToTheirEnds K V same hash
   ends_run_to_their_ends name terms log known s old new at run small own map i standing there idle at2 before n to chain at_end steps effects did number over apart allowed finds whole right =
-      (legal.0, end_events_end_so K V S same hash name terms log map to.now known to.notes s to.scene to.executor at_end own steps effects midst.0 number apart run right legal.0.life legal.1 by_model.1)
+      (legal.0, end_events_end_so K V same hash name terms log map to.now known to.notes s to.scene to.held at_end own steps effects midst.0 number apart run right legal.0.life legal.1 by_model.1)
     where
       e : Entry K V
       e = record { event = EndMap own; outcome = Done; steps = steps; effects = effects }
@@ -134,7 +134,7 @@ module _ (K V S : Type 0) (same : K → K → Bool) (hash : K → ℕ) where
       midst : InEndEvent same name terms log (EndMap own) map (moment log) known i effects to.now to.notes to.scene
       midst = subst (λ (fs : List Effect). InEndEvent same name terms log (EndMap own) map (moment log) known i fs to.now to.notes to.scene) did
           (ends_chain name terms log (EndMap own) i map (moment log) known n _ to chain
-          (end_events_begin_so K V S same hash name terms log known s old new at run small own map i standing there idle at2 before))
+          (end_events_begin_so K V same hash name terms log known s old new at run small own map i standing there idle at2 before))
 
       by_model : IsByModel terms log e × ((moment (e ∷ log)).is_alone ≡ true → FollowsModel terms.batch_size terms.roots (e ∷ log) to.notes to.scene.world)
       by_model = end_events_follow K V same name terms log map (moment log) to.now known to.notes i to.scene e midst small (moments_note_once K V same name (moment log) known s run.calls.whole) over refl

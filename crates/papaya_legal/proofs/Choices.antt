@@ -13,7 +13,6 @@ use Rattle.papaya_grows.specs.Given.Schedules.Entry.{Entry}
 use Rattle.papaya_grows.specs.Given.Schedules.Moment.{Moment}
 use Rattle.papaya_grows.specs.Given.Schedules.Terms.{Terms}
 use Rattle.papaya_grows.specs.Given.Effects.Known.{Known}
-use Rattle.papaya_grows.specs.Given.Executor.IsAt.{Scene}
 use Rattle.papaya_grows.specs.Given.Follows.Shows.{Shows}
 use Rattle.papaya_grows.specs.Given.Moments.Whole.{ShowsWhole}
 use Rattle.papaya_grows.specs.Given.Kept.Kept.{ShowsKept}
@@ -30,6 +29,7 @@ use Rattle.papaya_legal.specs.Over.{ChoicesEnd}
 use Rattle.papaya_legal.proofs.Between.{likes_show}
 use Rattle.papaya_legal.proofs.Idle.{idle_events_are_legal}
 use Rattle.papaya_legal.proofs.Over.{reading_like, runs_go_on, still_follows}
+use Rattle.papaya_grows.specs.Given.Scenes.Scene.{Scene}
 
 -- Calls, maps and words are there as they were.
 module _ {K V : Type 0} (choice : ℕ) (same : K → K → Bool) (name : ℕ → List ℕ) (log : List (Entry K V)) (m : Moment K V) (known : Known) (s : Scene K V) (whole : ShowsWhole same name m known (scene_chosen choice s))

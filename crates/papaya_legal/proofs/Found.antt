@@ -22,8 +22,6 @@ use Rattle.papaya_grows.specs.Given.Schedules.Views.{is_stage, is_retired}
 use Rattle.papaya_grows.specs.Given.Effects.Effects.{effects_of}
 use Rattle.papaya_grows.specs.Given.Effects.Known.{Known}
 use Rattle.papaya_grows.specs.Given.Effects.declared.acting.Acting.TheVariants as acts
-use Rattle.papaya_grows.specs.Given.Executor.IsAt.{Scene, IsAt}
-use Rattle.papaya_grows.specs.Given.Executor.declared.executor.Executor.{Executor}
 use Rattle.papaya_grows.specs.Given.Moments.OnSlots.{HadRetired}
 use Rattle.papaya_grows.proofs.Given.Moments.After.{each_parts}
 use Rattle.papaya_grows.proofs.Given.Spots.Unreclaimed.{and_both, or_right, same_itself}
@@ -38,6 +36,8 @@ use Rattle.papaya_legal.specs.Found.{AsksInNeed, RestShowsRetired, RowChainsFind
 use Rattle.papaya_legal.specs.SlotEvents.{InSlotEvent}
 use Rattle.papaya_legal.proofs.Chains.{chains_keep}
 use Rattle.papaya_legal.proofs.Slots.{each_join, slot_events_go_on_so}
+use Rattle.papaya_grows.specs.Given.Scenes.Held.{Held, IsAt}
+use Rattle.papaya_grows.specs.Given.Scenes.Scene.{Scene}
 
 -- what was handed over may be reclaimed
 may_reclaim : (everything : Bool) (p : Place) → is_handed p ≡ true → MayReclaim everything p
@@ -85,45 +85,45 @@ none_among (u ∷ xs) all = by (is_retired u.stage) refl (none_among xs all.1)
     by true is rest = absurd (all.0 is)
     by false is rest = ap (λ (q : Bool). not q && list_all (λ v. not (is_retired v.stage)) xs) is ∙ rest
 
--- what a step did by which an executor came from one place to another
-abbrev did_by : {K V S : Type 0} → (x y : Come K V S) → List Effect
-did_by x y = effects_of acts.Row x.notes y.executor.memory.changed
+-- what a step did that led from one place to another
+abbrev did_by : {K V : Type 0} → (x y : Come K V) → List Effect
+did_by x y = effects_of acts.Row x.notes y.held.changed
 
-module _ (K V S : Type 0) (same : K → K → Bool) (hash : K → ℕ) where
-  pub rows_find_theirs : RowsFindTheirs K V S same hash
+module _ (K V : Type 0) (same : K → K → Bool) (hash : ℕ → K → ℕ) where
+  pub rows_find_theirs : RowsFindTheirs K V same hash
   rows_find_theirs name m known s old new at whole kept i told leads row here terms of_row needs =
-      found terms (effects_of acts.Row known new.memory.changed) m of_row needs (rows_find_retired K V S same hash name m known s old new at whole kept.retired i told leads row here)
-      (rows_find_handed K V S same hash name m known s old new at whole kept.waiting kept.handed i told leads row here)
+      found terms (effects_of acts.Row known new.changed) m of_row needs (rows_find_retired K V same hash name m known s old new at whole kept.retired i told leads row here)
+      (rows_find_handed K V same hash name m known s old new at whole kept.waiting kept.handed i told leads row here)
 
-  pub row_chains_find : RowChainsFind K V S same hash
+  pub row_chains_find : RowChainsFind K V same hash
   row_chains_find name terms log event i called first began n from to chain midst none of_row needs =
       (chains_keep Both (RowSteps same hash terms i) keeps n from to chain (midst, λ of all. subst (λ (fs : List Effect). AtEachEffect (Finds terms None None false []) None None fs (moment log)) (sym none) tt)).1
       of_row needs
     where
-      Both : Come K V S → Type 0
+      Both : Come K V → Type 0
       Both x = InSlotEvent same name terms log event i called first began x.did x.now x.notes x.scene
           × (list_all (λ f. is_reclaiming f || asks_for_bucket f) x.did ≡ true → AtEachEffect AsksInNeed None None x.did (moment log)
           → AtEachEffect (Finds terms None None false []) None None x.did (moment log))
 
-      then_find : (x y : Come K V S) → RowSteps same hash terms i x y → Both x → list_all (λ f. is_reclaiming f || asks_for_bucket f) (x.did ++ did_by x y) ≡ true
+      then_find : (x y : Come K V) → RowSteps same hash terms i x y → Both x → list_all (λ f. is_reclaiming f || asks_for_bucket f) (x.did ++ did_by x y) ≡ true
           → AtEachEffect AsksInNeed None None (x.did ++ did_by x y) (moment log) → AtEachEffect (Finds terms None None false []) None None (x.did ++ did_by x y) (moment log)
       then_find x y step both of all =
           let each = and_both (list_all (λ f. is_reclaiming f || asks_for_bucket f) x.did) (list_all (λ f. is_reclaiming f || asks_for_bucket f) (did_by x y))
           (sym (list_all-append (λ f. is_reclaiming f || asks_for_bucket f) x.did (did_by x y)) ∙ of) in
           let parts = each_parts None None AsksInNeed x.did (did_by x y) (moment log) all in
           let here : AtEachEffect (Finds terms None None false []) None None (did_by x y) x.now =
-          rows_find_theirs name x.now x.notes x.scene x.executor y.executor step.is_at both.0.calls.whole both.0.calls.kept i step.said step.leads step.row step.here terms each.1
+          rows_find_theirs name x.now x.notes x.scene x.held y.held step.is_at both.0.calls.whole both.0.calls.kept i step.said step.leads step.row step.here terms each.1
           (subst (λ (z : Moment K V). AtEachEffect AsksInNeed None None (did_by x y) z) (sym both.0.worked) parts.1) in
           each_join (Finds terms None None false []) None None x.did (did_by x y) (moment log) (both.1 each.0 parts.0)
           (subst (λ (z : Moment K V). AtEachEffect (Finds terms None None false []) None None (did_by x y) z) both.0.worked here)
 
-      keeps : (x y : Come K V S) → RowSteps same hash terms i x y → Both x → Both y
+      keeps : (x y : Come K V) → RowSteps same hash terms i x y → Both x → Both y
       keeps x y step both = subst Both (sym step.comes) (
-        slot_events_go_on_so K V S same hash name terms log event i called first began x.did x.now x.notes x.scene both.0 x.executor y.executor step.is_at step.size step.said step.leads step.row step.here,
+        slot_events_go_on_so K V same hash name terms log event i called first began x.did x.now x.notes x.scene both.0 x.held y.held step.is_at step.size step.said step.leads step.row step.here,
         then_find x y step both,
       )
 
-  pub rest_shows_retired : RestShowsRetired K V S same hash
+  pub rest_shows_retired : RestShowsRetired K V same hash
   rest_shows_retired name m known s e at kept rests apart slots =
       let all = handed_at_rest K V e.batch_size m known s at.together.makings.standing.came kept.handed rests in
       record {
@@ -134,7 +134,7 @@ module _ (K V S : Type 0) (same : K → K → Bool) (hash : K → ℕ) where
       }
 
   -- So where nothing is retired in the memory, and nothing is left over, nothing is so at the moment.
-  pub none_at_rest : (name : ℕ → List ℕ) (m : Moment K V) (known : Known) (s : Scene K V) (e : Executor K V S) → IsAt same hash e s → ShowsKept name m known s → ((i : ℕ) → s.world.row i ≡ Rests)
+  pub none_at_rest : (name : ℕ → List ℕ) (m : Moment K V) (known : Known) (s : Scene K V) (e : Held K V) → IsAt same hash e s → ShowsKept name m known s → ((i : ℕ) → s.world.row i ≡ Rests)
       → ((b : ℕ) → was_retired b s.world.log ≡ false) → ((n : ℕ) → is_left_over (m.place n) ≡ false) → NothingIsRetired m
   none_at_rest name m known s e at kept rests none left =
       let all = handed_at_rest K V e.batch_size m known s at.together.makings.standing.came kept.handed rests in

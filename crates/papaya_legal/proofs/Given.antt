@@ -11,7 +11,7 @@ pub use Rattle.papaya_grows.proofs.Given.Callers
 pub use Rattle.papaya_grows.proofs.Given.Finishes
 pub use Rattle.papaya_logged.proofs.Given.Reclaims
 pub use Rattle.papaya_grows.proofs.Given.Runs
-pub use Rattle.papaya_grows.proofs.Given.Executor
+pub use Rattle.papaya_grows.proofs.Given.Scenes
 pub use Rattle.papaya_grows.proofs.Given.Follows
 pub use Rattle.papaya_grows.proofs.Given.Hands
 pub use Rattle.papaya_grows.proofs.Given.Others

@@ -20,10 +20,6 @@ use Rattle.papaya_grows.specs.Given.Effects.Effects.{effects_of, known_after, ma
 use Rattle.papaya_grows.specs.Given.Effects.Known.{Known}
 use Rattle.papaya_grows.specs.Given.Effects.declared.acting.Acting.{Acting}
 use Rattle.papaya_grows.specs.Given.Effects.declared.acting.Acting.TheVariants as acts
-use Rattle.papaya_grows.specs.Given.Executor.Ending.{EndingLeads}
-use Rattle.papaya_grows.specs.Given.Executor.IsAt.{Scene, IsAt}
-use Rattle.papaya_grows.specs.Given.Executor.Making.{MakingLeads}
-use Rattle.papaya_grows.specs.Given.Executor.declared.executor.Executor.{Executor}
 use Rattle.papaya_grows.specs.Given.Finishes.Endings.{Finishing}
 use Rattle.papaya_grows.specs.Given.Finishes.Makings.{Beginning}
 use Rattle.papaya_grows.specs.Given.Finishes.Maps.{Standing}
@@ -69,6 +65,10 @@ use Rattle.papaya_grows.proofs.Given.Finds.Capacities.{capacities_stay, effects_
 use Rattle.papaya_grows.proofs.Given.Finds.Grows.Steps.{tables_have_been}
 use Rattle.papaya_legal.proofs.Growths.{growths_leave}
 use Rattle.papaya_legal.proofs.Uncounted.{none_counted}
+use Rattle.papaya_grows.specs.Given.Scenes.Ending.{EndingLeads}
+use Rattle.papaya_grows.specs.Given.Scenes.Held.{Held, IsAt}
+use Rattle.papaya_grows.specs.Given.Scenes.Making.{MakingLeads}
+use Rattle.papaya_grows.specs.Given.Scenes.Scene.{Scene}
 
 -- a map that stands as it does
 pub stands_so : {K : Type 0} (maps : ℕ → Option (Standing K)) (n : ℕ) (st : Standing K) → maps n ≡ Some st → HasStood maps n st
@@ -84,7 +84,7 @@ module _ {K V : Type 0} (m : Moment K V) (numbers : NumbersMaps m × PairsAreBel
 
 -- A step of a making.
 
-module _ {K V S : Type 0} (same : K → K → Bool) (hash : K → ℕ) (s : Scene K V) (old new : Executor K V S) (at : IsAt same hash old s) (i : ℕ) (b : Beginning K) (here : s.makers i ≡ Some b) where
+module _ {K V : Type 0} (same : K → K → Bool) (hash : ℕ → K → ℕ) (s : Scene K V) (old new : Held K V) (at : IsAt same hash old s) (i : ℕ) (b : Beginning K) (here : s.makers i ≡ Some b) where
   abbrev led : (said : Making Setting) → MakingLeads same hash i said s old new → Scene K V
   led said leads = making_after same hash s old new i b (leads b here).0 (leads b here).2.step.w2 said (leads b here).3
 
@@ -127,72 +127,72 @@ module _ {K V S : Type 0} (same : K → K → Bool) (hash : K → ℕ) (s : Scen
   ]
   made_stood (progress.Refused fault) leads n j x is st there = stands_so s.maps n st there
 
-pub making_events_go_on_so : (K V S : Type 0) (same : K → K → Bool) (hash : K → ℕ) → MakingEventsGoOn K V S same hash
-making_events_go_on_so K V S same hash name terms log event beginning done m known s i b here midst old new at size said leads was_new finds = (
+pub making_events_go_on_so : (K V : Type 0) (same : K → K → Bool) (hash : ℕ → K → ℕ) → MakingEventsGoOn K V same hash
+making_events_go_on_so K V same hash name terms log event beginning done m known s i b here midst old new at size said leads was_new finds = (
   record {
     of_maps = midst.0.of_maps;
     calls = record {
       whole = then_whole;
       numbers = numbers_by finds;
-      kept = makings_keep_kept K V S same hash name m known s old new at whole midst.0.calls.kept i said leads b here (Some b.map) was_new
+      kept = makings_keep_kept K V same hash name m known s old new at whole midst.0.calls.kept i said leads b here (Some b.map) was_new
           (made_at same hash s old new at i b here said leads) then_whole.all.shown;
       finding = finding_by finds;
-      sources = making_sources K V S same hash name m known then_known s old new i b here (Some b.map) effects aside midst.0.calls.sources midst.2 said leads then_whole.all.shown;
-      nexts = makings_keep_nexts K V S same hash name log m known s old new midst.0.calls.nexts at whole i said leads b here was_new;
-      tries = makings_keep_tries K V S same hash name log m known s old new midst.0.calls.sources midst.0.calls.tries at whole i said leads b here was_new (made_at same hash s old new at i b here said leads) then_whole;
-      limits = makings_keep_limits K V S same hash name log m known s old new midst.0.calls.limits at whole i said leads b here was_new;
-      counters = makings_keep_counters K V S same hash name m known s old new at whole midst.0.calls.counters i said leads b here (Some b.map);
+      sources = making_sources K V same hash name m known then_known s old new i b here (Some b.map) effects aside midst.0.calls.sources midst.2 said leads then_whole.all.shown;
+      nexts = makings_keep_nexts K V same hash name log m known s old new midst.0.calls.nexts at whole i said leads b here was_new;
+      tries = makings_keep_tries K V same hash name log m known s old new midst.0.calls.sources midst.0.calls.tries at whole i said leads b here was_new (made_at same hash s old new at i b here said leads) then_whole;
+      limits = makings_keep_limits K V same hash name log m known s old new midst.0.calls.limits at whole i said leads b here was_new;
+      counters = makings_keep_counters K V same hash name m known s old new at whole midst.0.calls.counters i said leads b here (Some b.map);
       uncounted = none_counted None (Some b.map) effects m midst.0.calls.uncounted (none_shards (Some b.map) effects m);
-      dues = (dues_stay K V S same hash name log).makings m known s old new at whole midst.0.calls.dues i said leads b here (Some b.map) was_new;
-      as_called = (as_called_stays K V S same hash name).makings m known s old new at whole midst.0.calls.as_called i said leads b here (Some b.map) was_new;
+      dues = (dues_stay K V same hash name log).makings m known s old new at whole midst.0.calls.dues i said leads b here (Some b.map) was_new;
+      as_called = (as_called_stays K V same hash name).makings m known s old new at whole midst.0.calls.as_called i said leads b here (Some b.map) was_new;
       questions = effects_keep_questions K V None (Some b.map) effects m midst.0.calls.questions;
-      purposes = (purposes_stay K V S same hash name log).makings m known s old new at whole midst.0.calls.purposes i said leads b here (Some b.map) was_new;
+      purposes = (purposes_stay K V same hash name log).makings m known s old new at whole midst.0.calls.purposes i said leads b here (Some b.map) was_new;
     };
     reading = other_work_keeps_readings K V name log (λ j. 0) m s (led same hash s old new at i b here said leads) (Some b.map) effects (made_calls same hash s old new at i b here said leads)
         (made_stood same hash s old new at i b here said leads) midst.0.reading;
     worked = ap (λ (x : Moment K V). with_effects None (Some b.map) effects x) midst.0.worked ∙ sym (effects_after None (Some b.map) done effects beginning);
-    granted = grants_add_up done effects midst.0.granted (operations_are_single (acts.Making b.map) known new.memory.changed).1;
+    granted = grants_add_up done effects midst.0.granted (operations_are_single (acts.Making b.map) known new.changed).1;
     protects = subst (λ (w : World (Node K V)). InMidst event (done ++ effects) v then_known w) (sym (made_world same hash s old new at i b here said leads))
-        (makings_protect K V S same hash name m known s old new at whole i said leads b here (Some b.map) was_new event midst.0.of_maps done midst.0.protects);
+        (makings_protect K V same hash name m known s old new at whole i said leads b here (Some b.map) was_new event midst.0.of_maps done midst.0.protects);
   },
   λ alone. subst (λ (w : World (Node K V)). FollowsInMaking terms.batch_size terms.roots (things_in log) (sets_in terms.batch_size log) (done ++ effects) then_known w)
       (sym (made_world same hash s old new at i b here said leads))
       (subst (λ (n : ℕ). FollowsInMaking n terms.roots (things_in log) (sets_in terms.batch_size log) (done ++ effects) then_known (leads b here).2.step.w2) size
-      (making_events_go_on K V S same hash name m known s old new at whole i said leads b here (Some b.map) was_new terms.roots (things_in log) (sets_in terms.batch_size log) done
+      (making_events_go_on K V same hash name m known s old new at whole i said leads b here (Some b.map) was_new terms.roots (things_in log) (sets_in terms.batch_size log) done
       (subst (λ (n : ℕ). FollowsInMaking n terms.roots (things_in log) (sets_in terms.batch_size log) done known s.world) (sym size) (midst.1 alone)))),
-  making_none K V S same hash name m known then_known s old new i b here (Some b.map) effects aside midst.0.calls.sources midst.2,
+  making_none K V same hash name m known then_known s old new i b here (Some b.map) effects aside midst.0.calls.sources midst.2,
 )
   where
     whole : ShowsWhole same name m known s
     whole = midst.0.calls.whole
 
     effects : List Effect
-    effects = effects_of (acts.Making b.map) known new.memory.changed
+    effects = effects_of (acts.Making b.map) known new.changed
 
     v : Moment K V
     v = with_effects None (Some b.map) effects m
 
     then_known : Known
-    then_known = known_after (acts.Making b.map) new.memory.changed known
+    then_known = known_after (acts.Making b.map) new.changed known
 
     aside : AllAside effects
     aside = makings_aside same hash name m known s old new at whole.all.shown i said leads b here (Some b.map)
 
     then_whole : ShowsWhole same name v then_known (led same hash s old new at i b here said leads)
-    then_whole = makings_keep_whole K V S same hash name m known s old new at whole i said leads b here (Some b.map) was_new
+    then_whole = makings_keep_whole K V same hash name m known s old new at whole i said leads b here (Some b.map) was_new
 
     -- the map is there by its number, or the moment is as it was
     numbers_by : FindsItsMap b said effects m → NumbersMaps v × PairsAreBelow v
-    numbers_by (inl there) = numbers_then m midst.0.calls.numbers b.map there.0 (acts.Making b.map) refl known new.memory.changed
+    numbers_by (inl there) = numbers_then m midst.0.calls.numbers b.map there.0 (acts.Making b.map) refl known new.changed
     numbers_by (inr asks) = subst (λ (x : Moment K V). NumbersMaps x × PairsAreBelow x) (sym (growths_leave (Some b.map) effects m asks.1)) midst.0.calls.numbers
 
     -- it was made for its capacity, or maps stand as they stood
     finding_by : FindsItsMap b said effects m → ShowsFinding name v then_known (led same hash s old new at i b here said leads)
     finding_by (inl there) =
-        makings_keep_finding K V S same hash name m known s old new at whole midst.0.calls.finding i said leads b here was_new there.1 (made_at same hash s old new at i b here said leads) then_whole
+        makings_keep_finding K V same hash name m known s old new at whole midst.0.calls.finding i said leads b here was_new there.1 (made_at same hash s old new at i b here said leads) then_whole
     finding_by (inr asks) =
         finding_beside same hash name m v known then_known s (led same hash s old new at i b here said leads) new (made_at same hash s old new at i b here said leads) then_whole
-        (makings_go_beside K V S same hash name m known s old new at whole i said leads b here (Some b.map) was_new) midst.0.calls.finding
+        (makings_go_beside K V same hash name m known s old new at whole i said leads b here (Some b.map) was_new) midst.0.calls.finding
         (makings_leave_spots same hash name m known s old new at whole.all.shown i said leads b here (Some b.map)) (tables_have_been K V None (Some b.map) effects m)
         (effects_keep_lengths None (Some b.map) effects m)
         (capacities_stay K V m v s (led same hash s old new at i b here said leads) midst.0.calls.finding.capacities (λ n st is. effects_keep_capacities K V None (Some b.map) effects m n)
@@ -200,7 +200,7 @@ making_events_go_on_so K V S same hash name terms log event beginning done m kno
 
 -- A step of an end.
 
-module _ {K V S : Type 0} (same : K → K → Bool) (hash : K → ℕ) (s : Scene K V) (old new : Executor K V S) (i : ℕ) (f : Finishing K V) (here : s.enders i ≡ Some f) where
+module _ {K V : Type 0} (same : K → K → Bool) (hash : ℕ → K → ℕ) (s : Scene K V) (old new : Held K V) (i : ℕ) (f : Finishing K V) (here : s.enders i ≡ Some f) where
   abbrev ended : (said : Settled (Node K V)) → EndingLeads same hash i said s old new → Scene K V
   ended said leads = ending_after same hash s new i f (leads f here).0 (leads f here).2.w2 (leads f here).2.deed said (leads f here).3
 
@@ -238,39 +238,39 @@ module _ {K V S : Type 0} (same : K → K → Bool) (hash : K → ℕ) (s : Scen
   ended_stood (settled.Gave value) leads n j x is st there = stands_so s.maps n st there
   ended_stood settled.Done leads n j x is st there = stands_so s.maps n st there
 
-pub end_events_go_on_so : (K V S : Type 0) (same : K → K → Bool) (hash : K → ℕ) → EndEventsGoOn K V S same hash
-end_events_go_on_so K V S same hash name terms log event map beginning first done m known s i f here not_there midst old new at size below said leads its = (
+pub end_events_go_on_so : (K V : Type 0) (same : K → K → Bool) (hash : ℕ → K → ℕ) → EndEventsGoOn K V same hash
+end_events_go_on_so K V same hash name terms log event map beginning first done m known s i f here not_there midst old new at size below said leads its = (
   record {
     of_maps = midst.0.of_maps;
     calls = record {
       whole = then_whole;
-      numbers = numbers_then m midst.0.calls.numbers map below (acts.Ending map) refl known new.memory.changed;
-      kept = endings_keep_kept K V S same hash name m known s old new at whole midst.0.calls.kept i said leads f here map not_there (ended_at same hash s old new i f here said leads);
-      finding = endings_keep_finding K V S same hash name m known s old new at whole midst.0.calls.finding i f here said leads map not_there (ended_at same hash s old new i f here said leads) then_whole;
+      numbers = numbers_then m midst.0.calls.numbers map below (acts.Ending map) refl known new.changed;
+      kept = endings_keep_kept K V same hash name m known s old new at whole midst.0.calls.kept i said leads f here map not_there (ended_at same hash s old new i f here said leads);
+      finding = endings_keep_finding K V same hash name m known s old new at whole midst.0.calls.finding i f here said leads map not_there (ended_at same hash s old new i f here said leads) then_whole;
       sources = so_aside K V same name m known then_known s (ended same hash s old new i f here said leads) None (Some map) effects
           (endings_aside same hash name m known s old new at whole i said leads f here map not_there) midst.0.calls.sources then_whole.all.shown
           (λ n st is. ap (λ (maps : ℕ → Option (Standing K)). maps n) (sym (ended_maps same hash s old new i f here said leads)) ∙ is);
-      nexts = endings_keep_nexts K V S same hash name log m known s old new midst.0.calls.nexts at whole i f here said leads map not_there;
-      tries = endings_keep_tries K V S same hash name log m known s old new midst.0.calls.sources midst.0.calls.tries at whole i f here said leads map not_there (ended_at same hash s old new i f here said leads) then_whole;
-      limits = endings_keep_limits K V S same hash name log m known s old new midst.0.calls.limits at whole i f here said leads map not_there;
-      counters = endings_keep_counters K V S same hash name m known s old new at midst.0.calls.counters i said leads f here map;
+      nexts = endings_keep_nexts K V same hash name log m known s old new midst.0.calls.nexts at whole i f here said leads map not_there;
+      tries = endings_keep_tries K V same hash name log m known s old new midst.0.calls.sources midst.0.calls.tries at whole i f here said leads map not_there (ended_at same hash s old new i f here said leads) then_whole;
+      limits = endings_keep_limits K V same hash name log m known s old new midst.0.calls.limits at whole i f here said leads map not_there;
+      counters = endings_keep_counters K V same hash name m known s old new at midst.0.calls.counters i said leads f here map;
       uncounted = none_counted None (Some map) effects m midst.0.calls.uncounted (none_shards (Some map) effects m);
-      dues = (dues_stay K V S same hash name log).endings m known s old new at whole midst.0.calls.dues i said leads f here map not_there its;
-      as_called = (as_called_stays K V S same hash name).endings m known s old new at whole midst.0.calls.as_called i said leads f here map not_there its;
+      dues = (dues_stay K V same hash name log).endings m known s old new at whole midst.0.calls.dues i said leads f here map not_there its;
+      as_called = (as_called_stays K V same hash name).endings m known s old new at whole midst.0.calls.as_called i said leads f here map not_there its;
       questions = effects_keep_questions K V None (Some map) effects m midst.0.calls.questions;
-      purposes = (purposes_stay K V S same hash name log).endings m known s old new at whole midst.0.calls.purposes i said leads f here map not_there its;
+      purposes = (purposes_stay K V same hash name log).endings m known s old new at whole midst.0.calls.purposes i said leads f here map not_there its;
     };
     reading = other_work_keeps_readings K V name log (λ j. 0) m s (ended same hash s old new i f here said leads) (Some map) effects (ended_calls same hash s old new i f here said leads)
         (ended_stood same hash s old new i f here said leads) midst.0.reading;
     worked = ap (λ (x : Moment K V). with_effects None (Some map) effects x) midst.0.worked ∙ sym (effects_after None (Some map) done effects beginning);
-    granted = grants_add_up done effects midst.0.granted (operations_are_single (acts.Ending map) known new.memory.changed).1;
+    granted = grants_add_up done effects midst.0.granted (operations_are_single (acts.Ending map) known new.changed).1;
     protects = subst (λ (w : World (Node K V)). InMidst event (done ++ effects) v then_known w) (sym (ended_world same hash s old new i f here said leads))
-        (endings_protect K V S same hash name m known s old new at whole i said leads f here map not_there event midst.0.of_maps done midst.0.protects);
+        (endings_protect K V same hash name m known s old new at whole i said leads f here map not_there event midst.0.of_maps done midst.0.protects);
   },
   λ alone. subst (λ (w : World (Node K V)). FollowsInEnd terms.batch_size terms.roots (things_in log) (sets_in terms.batch_size log) first i (done ++ effects) then_known w)
       (sym (ended_world same hash s old new i f here said leads))
       (subst (λ (n : ℕ). FollowsInEnd n terms.roots (things_in log) (sets_in terms.batch_size log) first i (done ++ effects) then_known (leads f here).2.w2) size
-      (ends_go_on K V S same hash name m known s old new at whole i said leads f here map not_there terms.roots (things_in log) (sets_in terms.batch_size log) first done
+      (ends_go_on K V same hash name m known s old new at whole i said leads f here map not_there terms.roots (things_in log) (sets_in terms.batch_size log) first done
       (subst (λ (n : ℕ). FollowsInEnd n terms.roots (things_in log) (sets_in terms.batch_size log) first i done known s.world) (sym size) (midst.1 alone)))),
 )
   where
@@ -278,14 +278,14 @@ end_events_go_on_so K V S same hash name terms log event map beginning first don
     whole = midst.0.calls.whole
 
     effects : List Effect
-    effects = effects_of (acts.Ending map) known new.memory.changed
+    effects = effects_of (acts.Ending map) known new.changed
 
     v : Moment K V
     v = with_effects None (Some map) effects m
 
     then_known : Known
-    then_known = known_after (acts.Ending map) new.memory.changed known
+    then_known = known_after (acts.Ending map) new.changed known
 
     then_whole : ShowsWhole same name v then_known (ended same hash s old new i f here said leads)
-    then_whole = endings_keep_whole K V S same hash name m known s old new at whole i said leads f here map not_there its
-        (endings_find_kept K V S same hash name m known s old new at whole midst.0.calls.kept i said leads f here map not_there)
+    then_whole = endings_keep_whole K V same hash name m known s old new at whole i said leads f here map not_there its
+        (endings_find_kept K V same hash name m known s old new at whole midst.0.calls.kept i said leads f here map not_there)

@@ -16,7 +16,6 @@ use Rattle.papaya_grows.specs.Given.Schedules.Handing.{is_ending, is_first_makin
 use Rattle.papaya_grows.specs.Given.Schedules.Model.{changes_of, handing, left_last, sets_in, things_in}
 use Rattle.papaya_grows.specs.Given.Schedules.Moment.{Moment}
 use Rattle.papaya_grows.proofs.Given.Callers.Together.At.{at_other, at_same}
-use Rattle.papaya_grows.specs.Given.Executor.Ending.{ending_begun}
 use Rattle.papaya_grows.specs.Given.Finishes.Maps.{Standing}
 use Rattle.papaya_grows.specs.Given.Others.Endings.{without_map}
 use Rattle.papaya_grows.proofs.Given.Spots.Unreclaimed.{and_both}
@@ -42,15 +41,16 @@ use Rattle.papaya_grows.specs.Given.Sources.Stays.{NoneBorn}
 use Rattle.papaya_legal.proofs.Sourced.{none_born}
 use Rattle.papaya_legal.proofs.Maps.{stands_so}
 use Rattle.papaya_legal.proofs.Over.{reading_like, runs_go_on}
+use Rattle.papaya_grows.specs.Given.Scenes.Ending.{ending_begun}
 
 -- The beginnings.
 
-module _ (K V S : Type 0) (same : K → K → Bool) (hash : K → ℕ) where
-  pub making_events_begin_so : MakingEventsBegin K V S same hash
+module _ (K V : Type 0) (same : K → K → Bool) (hash : ℕ → K → ℕ) where
+  pub making_events_begin_so : MakingEventsBegin K V same hash
   making_events_begin_so name terms log known s old new at run own mode capacity there number i b idle map_is not_made before at2 = (
     record {
       of_maps = refl;
-      calls = makings_begin K V S same hash name log (with_map there (moment log)) known s old new at come.0 i b idle not_made
+      calls = makings_begin K V same hash name log (with_map there (moment log)) known s old new at come.0 i b idle not_made
           (subst (λ (n : ℕ). IsUncounted n (with_map there (moment log))) (sym map_is) come.1) at2;
       reading = record { begun = run.reading.begun; reads = run.reading.reads };
       worked = refl;
@@ -62,16 +62,16 @@ module _ (K V S : Type 0) (same : K → K → Bool) (hash : K → ℕ) where
   )
     where
       come : ShowsCalls same name log (with_map there (moment log)) known s × IsUncounted there.number (with_map there (moment log))
-      come = maps_come K V S same hash name log (moment log) known s old at run.calls there number
+      come = maps_come K V same hash name log (moment log) known s old at run.calls there number
 
       hold : SectionsHold (with_map there (moment log)) known s.world
       hold = (sections_go_on K V (moment log) known s.world run.sections).1.comes there
 
-  pub end_events_begin_so : EndEventsBegin K V S same hash
+  pub end_events_begin_so : EndEventsBegin K V same hash
   end_events_begin_so name terms log known s old new at run small own map i standing there idle at2 before = (
     record {
       of_maps = refl;
-      calls = ends_begin K V S same hash name log (moment log) known s old new at run.calls map i standing there idle at2;
+      calls = ends_begin K V same hash name log (moment log) known s old new at run.calls map i standing there idle at2;
       reading = other_work_keeps_readings K V name log (λ j. 0) (moment log) s (ending_begun map i standing s) (Some map) [] (λ n j x is. is) (λ n j x is st stands. stood n st stands) run.reading;
       worked = refl;
       granted = refl;
@@ -149,8 +149,8 @@ module _ (K V : Type 0) (same : K → K → Bool) where
       like : IsLike m (moment (e ∷ log))
       like = subst (λ (x : Moment K V). IsLike x (moment (e ∷ log))) worked_is refl
 
-module _ (K V S : Type 0) (same : K → K → Bool) (hash : K → ℕ) where
-  pub end_events_end_so : EndEventsEnd K V S same hash
+module _ (K V : Type 0) (same : K → K → Bool) (hash : ℕ → K → ℕ) where
+  pub end_events_end_so : EndEventsEnd K V same hash
   end_events_end_so name terms log map m first known before s x at own steps effects midst number apart run right life sections follows =
       runs_go_on K V same name name terms log first known before s run e right life
       (each_store None (acted_on e.event (moment log)) (may_do e.event (moment log)) (ending_stores None (acted_on e.event (moment log))) effects (moment log) life.may) tt
@@ -163,7 +163,7 @@ module _ (K V S : Type 0) (same : K → K → Bool) (hash : K → ℕ) where
       gone = without_map own (remains_on e.event Done effects (moment log)) m
 
       shown : ShowsCalls same name log gone known s
-      shown = maps_gone K V S same hash name log m known s x at midst.calls own (remains_on e.event Done effects (moment log)) apart
+      shown = maps_gone K V same hash name log m known s x at midst.calls own (remains_on e.event Done effects (moment log)) apart
 
       reading : ShowsReading name log (λ j. 0) gone s
       reading = record { begun = midst.reading.begun; reads = midst.reading.reads }

@@ -51,9 +51,6 @@ use Rattle.papaya_grows.proofs.Given.Callers.Together.Slots.{step_leaves}
 use Rattle.papaya_grows.specs.Given.Effects.Known.{Known}
 use Rattle.papaya_grows.specs.Given.Effects.declared.role.Role.{Role}
 use Rattle.papaya_grows.specs.Given.Effects.declared.role.Role.TheVariants as role
-use Rattle.papaya_grows.specs.Given.Executor.IsAt.{Scene, IsAt, slot_of}
-use Rattle.papaya_grows.specs.Given.Executor.Stepping.{StepLeads}
-use Rattle.papaya_grows.specs.Given.Executor.declared.executor.Executor.{Executor}
 use Rattle.papaya_grows.specs.Given.Finishes.Maps.{Standing}
 use Rattle.papaya_grows.specs.Given.Follows.Blocks.{HasRole}
 use Rattle.papaya_grows.proofs.Given.Follows.Contents.{pair_within}
@@ -75,6 +72,9 @@ use Rattle.papaya_models.specs.CallEvents.{IsNoted}
 use Rattle.papaya_models.specs.Numbers.{HasNumber}
 use Rattle.papaya_grows.proofs.Given.Finds.Lists.{one_of_them}
 use Rattle.papaya_legal.specs.Noted.{HaveCome, CallsHandNoted}
+use Rattle.papaya_grows.specs.Given.Scenes.Held.{Held, IsAt}
+use Rattle.papaya_grows.specs.Given.Scenes.Scene.{Scene, slot_of}
+use Rattle.papaya_grows.specs.Given.Scenes.Stepping.{StepLeads}
 
 -- What a call has in hand, and its row is to hand over, is noted.
 
@@ -128,7 +128,7 @@ one_slot b s t (Leaves c) due on there = absurd due
 one_slot b s t (Defers u c) due on there = absurd due
 one_slot b s t (Frees c) due on there = absurd due
 
-module _ {K V S : Type 0} (same : K → K → Bool) (hash : K → ℕ) (name : ℕ → List ℕ) (m : Moment K V) (known : Known) (s : Scene K V) (old new : Executor K V S) (at : IsAt same hash old s)
+module _ {K V : Type 0} (same : K → K → Bool) (hash : ℕ → K → ℕ) (name : ℕ → List ℕ) (m : Moment K V) (known : Known) (s : Scene K V) (old new : Held K V) (at : IsAt same hash old s)
     (whole : ShowsWhole same name m known s) (kept : ShowsKept name m known s) (map i : ℕ) (u : UnderWay K V K) (here : s.calls map i ≡ Some u) (said : Progress (Node K V))
     (leads : StepLeads same hash i said s old new) (things : List Thing) (come : HaveCome things m) where
   abbrev w : World (Node K V)
@@ -141,7 +141,7 @@ module _ {K V S : Type 0} (same : K → K → Bool) (hash : K → ℕ) (name : �
   size = old.batch_size
 
   owning : OwnAreMade known w
-  owning = own_made K V S same hash name m known s old at whole kept
+  owning = own_made K V same hash name m known s old at whole kept
 
   came : CameAbout size w
   came = at.together.makings.standing.came
@@ -173,7 +173,7 @@ module _ {K V S : Type 0} (same : K → K → Bool) (hash : K → ℕ) (name : �
       let stands = (to.4.together.makings.standing.each map st2 to.4.its_map.4).stand i next.0 its in
       let due = meant_of same to.0.hash to.0.setting to2 st2.chart (seen_by st2.blocks (st2.sights (slot_of i))) i b next.0 stands meant in
       of_machine known b to.1 (subst (λ (z : Machine K V K). IsMeant b (due_in_row z)) next.2 due)
-      (calls_go_in_hand K V S same hash name m known s old new at whole.all.shown whole.all.rows kept.entries owning map i u here said leads (kept.owed.noted map i u here)).1
+      (calls_go_in_hand K V same hash name m known s old new at whole.all.shown whole.all.rows kept.entries owning map i u here said leads (kept.owed.noted map i u here)).1
 
   -- it has a number among the things
   numbered : (b : ℕ) (r : Role) → known.roles b ≡ r → IsPairRole r ⊎ IsTableRole r → (k : ℕ) × HasNumber known things b k
@@ -311,7 +311,7 @@ module _ {K V S : Type 0} (same : K → K → Bool) (hash : K → ℕ) (name : �
   hands_noted (Unregister' t) begun hands begin step = absurd hands
   hands_noted (Flush t) begun hands begin step = absurd hands
 
-module _ (K V S : Type 0) (same : K → K → Bool) (hash : K → ℕ) where
-  pub calls_hand_noted : CallsHandNoted K V S same hash
+module _ (K V : Type 0) (same : K → K → Bool) (hash : ℕ → K → ℕ) where
+  pub calls_hand_noted : CallsHandNoted K V same hash
   calls_hand_noted name m known s old new at whole kept map i u here said leads things come =
       hands_noted same hash name m known s old new at whole kept map i u here said leads things come

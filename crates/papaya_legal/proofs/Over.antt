@@ -22,7 +22,6 @@ use Rattle.papaya_grows.specs.Given.Schedules.Terms.{Terms}
 use Rattle.papaya_grows.specs.Given.Schedules.Views.{call_of}
 use Rattle.papaya_grows.specs.Given.Callers.Together.{UnderWay}
 use Rattle.papaya_grows.specs.Given.Effects.Known.{Known}
-use Rattle.papaya_grows.specs.Given.Executor.IsAt.{Scene, slot_of}
 use Rattle.papaya_grows.proofs.Given.Spots.Unreclaimed.{and_both}
 use Rattle.papaya_promises.specs.Reading.{ShowsReading}
 use Rattle.papaya_promises.proofs.Brief.Stays.{events_keep_readings}
@@ -39,6 +38,7 @@ use Rattle.papaya_legal.specs.Carried.{FollowsOrRows}
 use Rattle.papaya_legal.specs.Over.{IdleEventsEnd, LeavesAll, QuietEventsEnd, RunsByOtherNames, RunsGoOn}
 use Rattle.papaya_legal.proofs.LeftTold.{events_tell_left}
 use Rattle.papaya_legal.proofs.Between.{likes_show, logs_grow, named_as, names_change}
+use Rattle.papaya_grows.specs.Given.Scenes.Scene.{Scene, slot_of}
 
 pub runs_go_on : (K V : Type 0) (same : K → K → Bool) → RunsGoOn K V same
 runs_go_on K V same name name2 terms log first known before s run e right life stores reclaims all reading sections follows = record {

@@ -23,8 +23,6 @@ use Rattle.papaya_grows.specs.Given.Schedules.Moment.{MapThere, Moment}
 use Rattle.papaya_grows.specs.Given.Schedules.Reclaims.{IsProtected}
 use Rattle.papaya_grows.specs.Given.Schedules.Terms.{Terms}
 use Rattle.papaya_grows.specs.Given.Effects.Known.{Known}
-use Rattle.papaya_grows.specs.Given.Executor.IsAt.{Scene, IsAt}
-use Rattle.papaya_grows.specs.Given.Executor.declared.executor.Executor.{Executor}
 use Rattle.papaya_grows.specs.Given.Finishes.Makings.{Beginning, HasMade}
 use Rattle.papaya_grows.proofs.Given.Histories.OtherCalls.{no_calls_are_linearizable}
 use Rattle.papaya_promises.specs.Sheltered.{SectionsHold}
@@ -44,9 +42,11 @@ use Rattle.papaya_legal.proofs.Growths.{growths_leave}
 use Rattle.papaya_legal.proofs.MapsOver.{making_events_follow}
 use Rattle.papaya_legal.proofs.Over.{reading_like, runs_go_on}
 use Rattle.papaya_legal.proofs.Sourced.{none_born}
+use Rattle.papaya_grows.specs.Given.Scenes.Held.{Held, IsAt}
+use Rattle.papaya_grows.specs.Given.Scenes.Scene.{Scene}
 
 -- As it begins the event is in its midst.
-module _ (K V S : Type 0) (same : K → K → Bool) (hash : K → ℕ) (name : ℕ → List ℕ) (terms : Terms) (log : List (Entry K V)) (known : Known) (s : Scene K V) (old new : Executor K V S) (at : IsAt same hash old s)
+module _ (K V : Type 0) (same : K → K → Bool) (hash : ℕ → K → ℕ) (name : ℕ → List ℕ) (terms : Terms) (log : List (Entry K V)) (known : Known) (s : Scene K V) (old new : Held K V) (at : IsAt same hash old s)
     (run : ShowsRun same name terms log known s) (own : List ℕ) (mode : ResizeMode) (capacity : ℕ) (there : MapThere) (number : there.number ≡ (moment log).made) (i : ℕ) (b : Beginning K) where
   pub refused_begins : s.makers i ≡ None → b.map ≡ there.number → (HasMade b.machine.stands → ⊥)
       → (ComesAlone (MakeMap own mode capacity) log → FollowsModel terms.batch_size terms.roots log known s.world) → IsAt same hash new (record s { makers = with_at s.makers i (Some b) })
@@ -54,7 +54,7 @@ module _ (K V S : Type 0) (same : K → K → Bool) (hash : K → ℕ) (name : �
   refused_begins idle map_is not_made before at2 = (
     record {
       of_maps = refl;
-      calls = makings_begin K V S same hash name log (moment log) known s old new at run.calls i b idle not_made (run.calls.uncounted b.map (omega (arith, map_is, number))) at2;
+      calls = makings_begin K V same hash name log (moment log) known s old new at run.calls i b idle not_made (run.calls.uncounted b.map (omega (arith, map_is, number))) at2;
       reading = record { begun = run.reading.begun; reads = run.reading.reads };
       worked = refl;
       granted = refl;
@@ -82,7 +82,7 @@ asks_shift [] asks = refl
 asks_shift (Asked growth ∷ fs) asks = asks_shift fs asks
 asks_shift (_ ∷ fs) asks = absurd (cc asks)
 
-module _ (K V S : Type 0) (same : K → K → Bool) (name : ℕ → List ℕ) (terms : Terms) (log : List (Entry K V)) (known known2 : Known) (before s : Scene K V) (own : List ℕ) (mode : ResizeMode) (capacity : ℕ) (fault : Fault)
+module _ (K V : Type 0) (same : K → K → Bool) (name : ℕ → List ℕ) (terms : Terms) (log : List (Entry K V)) (known known2 : Known) (before s : Scene K V) (own : List ℕ) (mode : ResizeMode) (capacity : ℕ) (fault : Fault)
     (steps map : ℕ) (effects : List Effect) (midst : InMakingEvent same name terms log (MakeMap own mode capacity) map (moment log) effects (moment log) known2 s)
     (asks : list_all is_growth effects ≡ true) (or_nothing : (fault ≡ Memory) ⊎ (effects ≡ [])) (firsts : list_all is_first_making effects ≡ true) (never : is_busy {V = V} (Refused fault) ≡ false)
     (run : ShowsRun same name terms log known before) where

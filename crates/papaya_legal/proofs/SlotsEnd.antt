@@ -23,8 +23,6 @@ use Rattle.papaya_grows.specs.Given.Schedules.Reclaims.{IsProtected}
 use Rattle.papaya_grows.specs.Given.Schedules.Sequential.{Shift}
 use Rattle.papaya_grows.specs.Given.Schedules.Steps.{IsBrief}
 use Rattle.papaya_grows.specs.Given.Schedules.Terms.{Terms}
-use Rattle.papaya_grows.specs.Given.Executor.IsAt.{slot_of}
-use Rattle.papaya_grows.specs.Given.Executor.Rows.{request_of}
 use Rattle.papaya_grows.proofs.Given.Histories.OtherCalls.{no_calls_are_linearizable}
 use Rattle.papaya_models.specs.Follows.{IsFollowed}
 use Rattle.papaya_models.proofs.OnSlots.{slot_events_end}
@@ -36,6 +34,8 @@ use Rattle.papaya_grows.proofs.Given.Spots.Unreclaimed.{and_both}
 use Rattle.papaya_legal.specs.CallEvents.{IsLegalBut}
 use Rattle.papaya_legal.specs.Carried.{ComesAlone}
 use Rattle.papaya_legal.specs.SlotEvents.{SlotEventsAreLegal}
+use Rattle.papaya_grows.specs.Given.Scenes.Rows.{request_of}
+use Rattle.papaya_grows.specs.Given.Scenes.Scene.{slot_of}
 
 -- An event on slots acts for no call, and its effects bring no pair and take none out.
 

@@ -16,10 +16,6 @@ use Rattle.papaya_grows.specs.Given.Schedules.Moment.{MapThere, Moment}
 use Rattle.papaya_grows.specs.Given.Rule.Chart.{Tombstone, Chart}
 use Rattle.papaya_grows.proofs.Given.Callers.Together.At.{at_same, at_other}
 use Rattle.papaya_grows.specs.Given.Effects.Known.{Known}
-use Rattle.papaya_grows.specs.Given.Executor.Ending.{ending_begun}
-use Rattle.papaya_grows.specs.Given.Executor.IsAt.{Scene}
-use Rattle.papaya_grows.specs.Given.Executor.Making.{MakingLeads}
-use Rattle.papaya_grows.specs.Given.Executor.declared.executor.Executor.{Executor}
 use Rattle.papaya_grows.specs.Given.Finishes.Makings.{Beginning, IsNewChart}
 use Rattle.papaya_grows.specs.Given.Finishes.Maps.{Standing, IsSameMap}
 use Rattle.papaya_grows.specs.Given.Follows.Shows.{Shows}
@@ -34,6 +30,10 @@ use Rattle.papaya_grows.specs.Given.Sources.Stays.{StandsAsBefore, NoneBorn}
 use Rattle.papaya_grows.proofs.Given.Sources.New.{aside_stores_none}
 use Rattle.papaya_grows.proofs.Given.Sources.Stays.{sources_stay}
 use Rattle.papaya_grows.proofs.Given.Sources.Steps.{same_standing}
+use Rattle.papaya_grows.specs.Given.Scenes.Ending.{ending_begun}
+use Rattle.papaya_grows.specs.Given.Scenes.Held.{Held}
+use Rattle.papaya_grows.specs.Given.Scenes.Making.{MakingLeads}
+use Rattle.papaya_grows.specs.Given.Scenes.Scene.{Scene}
 
 -- where the end of a map begins, each other one stands as it did
 pub ends_leave : {K V : Type 0} (s : Scene K V) (map i : ℕ) (standing : Standing K) (n : ℕ) (st : Standing K) → (ending_begun map i standing s).maps n ≡ Some st → s.maps n ≡ Some st
@@ -112,7 +112,7 @@ new_bare {K} hash setting places c (inl new) t i mark is = let none = ap (λ (x 
 new_bare {K} hash setting places c (inr new) t i mark is = let none = ap (λ (x : Chart K). x.place t i) new.2 in cc (is, none)
 
 -- as a map is made
-module _ (K V S : Type 0) (same : K → K → Bool) (hash : K → ℕ) (name : ℕ → List ℕ) (m : Moment K V) (known known2 : Known) (s : Scene K V) (old new : Executor K V S) (i : ℕ) (b : Beginning K) (here : s.makers i ≡ Some b)
+module _ (K V : Type 0) (same : K → K → Bool) (hash : ℕ → K → ℕ) (name : ℕ → List ℕ) (m : Moment K V) (known known2 : Known) (s : Scene K V) (old new : Held K V) (i : ℕ) (b : Beginning K) (here : s.makers i ≡ Some b)
     (acted : Option ℕ) (effects : List Effect) (all : AllAside effects) (sources : ShowsSources same name m known s) (none : NoneBorn b.map m) where
   abbrev then_at : Moment K V
   then_at = with_effects None acted effects m

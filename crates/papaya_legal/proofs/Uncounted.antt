@@ -10,14 +10,14 @@ use Rattle.papaya_grows.specs.Given.Callers.Together.{UnderWay}
 use Rattle.papaya_grows.specs.Given.Effects.Effects.{effects_of}
 use Rattle.papaya_grows.specs.Given.Effects.Known.{Known}
 use Rattle.papaya_grows.specs.Given.Effects.declared.acting.Acting.TheVariants as acts
-use Rattle.papaya_grows.specs.Given.Executor.IsAt.{Scene, IsAt}
-use Rattle.papaya_grows.specs.Given.Executor.Stepping.{StepLeads}
-use Rattle.papaya_grows.specs.Given.Executor.declared.executor.Executor.{Executor}
 use Rattle.papaya_grows.specs.Given.Moments.Whole.{ShowsWhole}
 use Rattle.papaya_grows.specs.Given.Kept.Kept.{ShowsKept}
 use Rattle.papaya_grows.specs.Given.Shards.ShardWords.{ShowsCounters}
 use Rattle.papaya_grows.proofs.Given.Shards.ShardNumbers.{calls_spare_others}
 use Rattle.papaya_legal.specs.Carried.{NoneCounted}
+use Rattle.papaya_grows.specs.Given.Scenes.Held.{Held, IsAt}
+use Rattle.papaya_grows.specs.Given.Scenes.Scene.{Scene}
+use Rattle.papaya_grows.specs.Given.Scenes.Stepping.{StepLeads}
 
 -- no effect makes a map
 module _ {K V : Type 0} (caller : Option (List ℕ)) (acted : Option ℕ) where
@@ -31,12 +31,12 @@ module _ {K V : Type 0} (caller : Option (List ℕ)) (acted : Option ℕ) where
       let before : m.made ≤ of = (let made = made_still effects m in omega (arith, made, low)) in ap (λ (f : ℕ → ℕ → ℕ). f of shard) same ∙ none of before shard
 
 -- a step of a call counts on its map alone, which was made
-pub calls_leave_uncounted : {K V S : Type 0} (same : K → K → Bool) (hash : K → ℕ) (name : ℕ → List ℕ) (m : Moment K V) (known : Known) (s : Scene K V) (old new : Executor K V S) → IsAt same hash old s
+pub calls_leave_uncounted : {K V : Type 0} (same : K → K → Bool) (hash : ℕ → K → ℕ) (name : ℕ → List ℕ) (m : Moment K V) (known : Known) (s : Scene K V) (old new : Held K V) → IsAt same hash old s
     → ShowsWhole same name m known s → ShowsKept name m known s → ShowsCounters name m s → NoneCounted m
     → (map i : ℕ) (u : UnderWay K V K) (here : s.calls map i ≡ Some u) (said : Progress (Node K V)) (leads : StepLeads same hash i said s old new) → map < m.made
-    → NoneCounted (with_effects (Some (name i)) (Some map) (effects_of (acts.Call i map) known new.memory.changed) m)
+    → NoneCounted (with_effects (Some (name i)) (Some map) (effects_of (acts.Call i map) known new.changed) m)
 calls_leave_uncounted same hash name m known s old new at whole kept counters none map i u here said leads below of low shard =
     let before : m.made ≤ of =
-    (let made = made_still (Some (name i)) (Some map) (effects_of (acts.Call i map) known new.memory.changed) m in omega (arith, made, low)) in
+    (let made = made_still (Some (name i)) (Some map) (effects_of (acts.Call i map) known new.changed) m in omega (arith, made, low)) in
     let other : of ≢ map = (λ e. (let past : map < of = omega (arith, below, before) in absurd (omega (arith, past, e)))) in
     ap (λ (f : ℕ → ℕ). f shard) (calls_spare_others same hash name m known s old new at whole kept.counts counters map i u here said leads of other) ∙ none of before shard

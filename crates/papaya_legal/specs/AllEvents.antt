@@ -29,12 +29,10 @@ use Rattle.papaya_grows.specs.Given.Effects.Effects.{effects_of, known_after}
 use Rattle.papaya_grows.specs.Given.Effects.Known.{Known}
 use Rattle.papaya_grows.specs.Given.Effects.declared.acting.Acting.TheVariants as acts
 use Rattle.papaya_grows.specs.Given.Effects.declared.role.Role.TheVariants as role
-use Rattle.papaya_grows.specs.Given.Executor.IsAt.{Scene}
-use Rattle.papaya_grows.specs.Given.Executor.declared.executor.Executor.{Executor}
 use Rattle.papaya_grows.specs.Given.Finishes.Maps.{Standing}
 use Rattle.papaya_grows.specs.Given.Moments.OnSlots.{HadRetired}
 use Rattle.papaya_logged.specs.Given.SeizeReclaims.Roots.{all_lists}
-use Rattle.papaya_logged.specs.Given.Reclaiming.Reclaiming.{IsReclaiming, ReclaimingLeads}
+use Rattle.papaya_grows.specs.Given.Scenes.Reclaiming.{IsReclaiming, ReclaimingLeads}
 use Rattle.papaya_promises.specs.Reading.{ShowsReading}
 use Rattle.papaya_models.specs.Follows.{FollowsModel}
 use Rattle.papaya_models.specs.Numbers.{EachIsOnce, things_of}
@@ -45,10 +43,12 @@ use Rattle.papaya_grows.specs.Given.Finds.Orderly.{is_left_over}
 use Rattle.papaya_legal.specs.CallEvents.{IsLegalBut}
 use Rattle.papaya_legal.specs.Carried.{ComesAlone, LeftIsTold, ShowsCalls, ShowsRun}
 use Rattle.papaya_legal.specs.Chains.{Chain, Come}
+use Rattle.papaya_grows.specs.Given.Scenes.Held.{Held}
+use Rattle.papaya_grows.specs.Given.Scenes.Scene.{Scene}
 
 -- How far an event has come that reclaims all: as events do, with its machine, and with these lists behind the roots still.
-pub record AllCome (K V S : Type 0) : Type 0 where
-  pub come : Come K V S
+pub record AllCome (K V : Type 0) : Type 0 where
+  pub come : Come K V
   pub all : ReclaimAll
   pub lists : ℕ → List ℕ
 
@@ -104,27 +104,27 @@ module _ {K V : Type 0} (same : K → K → Bool) (name : ℕ → List ℕ) (ter
     pub turn : TakesInTurn terms.roots first began behind done known s.world all lists
     pub left : LeftIsBehind terms.roots m known lists
 
-module _ {K V S : Type 0} (same : K → K → Bool) (hash : K → ℕ) (terms : Terms) (i : ℕ) where
+module _ {K V : Type 0} (same : K → K → Bool) (hash : ℕ → K → ℕ) (terms : Terms) (i : ℕ) where
   -- It begins, as if by caller i: with the slots, if one was taken, else with the roots.
-  pub record BeginsAll (from : AllCome K V S) : Type 0 where
-    pub under_way : IsReclaiming same hash from.come.executor from.come.scene i from.lists from.all
-    pub size : from.come.executor.batch_size ≡ terms.batch_size
+  pub record BeginsAll (from : AllCome K V) : Type 0 where
+    pub under_way : IsReclaiming same hash from.come.held from.come.scene i from.lists from.all
+    pub size : from.come.held.batch_size ≡ terms.batch_size
     pub taken : Bool
     pub first : from.all ≡ (if taken then reclaiming_all terms.batch_size terms.roots else clearing terms.roots)
 
   -- A step by which all is reclaimed, as if by caller i.
-  pub record AllSteps (from to : AllCome K V S) : Type 0 where
-    pub under_way : IsReclaiming same hash from.come.executor from.come.scene i from.lists from.all
-    pub roots_are : from.come.executor.roots ≡ terms.roots
-    pub size : from.come.executor.batch_size ≡ terms.batch_size
+  pub record AllSteps (from to : AllCome K V) : Type 0 where
+    pub under_way : IsReclaiming same hash from.come.held from.come.scene i from.lists from.all
+    pub roots_are : from.come.held.roots ≡ terms.roots
+    pub size : from.come.held.batch_size ≡ terms.batch_size
     pub said : Settled (Node K V)
-    pub leads : ReclaimingLeads same hash from.come.scene i from.lists from.come.executor to.come.executor from.all to.all said
+    pub leads : ReclaimingLeads same hash from.come.scene i from.lists from.come.held to.come.held from.all to.all said
     pub comes : to ≡ record {
       come = record {
-        executor = to.come.executor;
-        did = from.come.did ++ effects_of acts.Row from.come.notes to.come.executor.memory.changed;
-        now = with_effects None None (effects_of acts.Row from.come.notes to.come.executor.memory.changed) from.come.now;
-        notes = known_after acts.Row to.come.executor.memory.changed from.come.notes;
+        held = to.come.held;
+        did = from.come.did ++ effects_of acts.Row from.come.notes to.come.held.changed;
+        now = with_effects None None (effects_of acts.Row from.come.notes to.come.held.changed) from.come.now;
+        notes = known_after acts.Row to.come.held.changed from.come.notes;
         scene = scene_in from.come.scene leads.1.w2 leads.1.maps2;
       };
       all = to.all;
@@ -132,14 +132,14 @@ module _ {K V S : Type 0} (same : K → K → Bool) (hash : K → ℕ) (terms : 
     }
 
 -- where it begins, with this machine, and these lists behind the roots
-abbrev pub all_begun : {K V S : Type 0} → List (Entry K V) → Known → Scene K V → Executor K V S → ReclaimAll → (ℕ → List ℕ) → AllCome K V S
-all_begun log known s e all lists = record { come = record { executor = e; did = []; now = moment log; notes = known; scene = s }; all = all; lists = lists }
+abbrev pub all_begun : {K V : Type 0} → List (Entry K V) → Known → Scene K V → Held K V → ReclaimAll → (ℕ → List ℕ) → AllCome K V
+all_begun log known s e all lists = record { come = record { held = e; did = []; now = moment log; notes = known; scene = s }; all = all; lists = lists }
 
-module _ (K V S : Type 0) (same : K → K → Bool) (hash : K → ℕ) where
+module _ (K V : Type 0) (same : K → K → Bool) (hash : ℕ → K → ℕ) where
   -- The promises: as long as reclaiming all is on slots, what is behind the roots stays there.
   abbrev pub SlotsLeaveRoots : Type 0
   SlotsLeaveRoots =
-      (s : Scene K V) (i : ℕ) (lists : ℕ → List ℕ) (old new : Executor K V S) (before after : ReclaimAll) (said : Settled (Node K V)) → IsReclaiming same hash old s i lists before
+      (s : Scene K V) (i : ℕ) (lists : ℕ → List ℕ) (old new : Held K V) (before after : ReclaimAll) (said : Settled (Node K V)) → IsReclaiming same hash old s i lists before
       → (leads : ReclaimingLeads same hash s i lists old new before after said) → is_on_slots before.stands ≡ true → leads.1.lists2 ≡ lists
 
   -- An event is in its midst where all begins to be reclaimed, if what is left over is behind the roots;
@@ -152,22 +152,22 @@ module _ (K V S : Type 0) (same : K → K → Bool) (hash : K → ℕ) where
   -- wherever a chain of its steps has led;
   abbrev pub AllChain : Type 0
   AllChain =
-      (name : ℕ → List ℕ) (terms : Terms) (log : List (Entry K V)) (first : Known) (began : World (Node K V)) (behind : ℕ → List ℕ) (i n : ℕ) (from to : AllCome K V S)
+      (name : ℕ → List ℕ) (terms : Terms) (log : List (Entry K V)) (first : Known) (began : World (Node K V)) (behind : ℕ → List ℕ) (i n : ℕ) (from to : AllCome K V)
       → Chain (AllSteps same hash terms i) n from to → InAllEvent same name terms log first began behind from.come.did from.come.now from.come.notes from.come.scene from.all from.lists
       → InAllEvent same name terms log first began behind to.come.did to.come.now to.come.notes to.come.scene to.all to.lists
 
   -- there each pair that it has reclaimed was handed over, or left over, if no call was under way as it began, and what was behind the roots was left over;
   abbrev pub AllFindPairs : Type 0
   AllFindPairs =
-      (name : ℕ → List ℕ) (terms : Terms) (log : List (Entry K V)) (known : Known) (s : Scene K V) (old : Executor K V S) → ShowsRun same name terms log known s → (moment log).calls ≡ []
+      (name : ℕ → List ℕ) (terms : Terms) (log : List (Entry K V)) (known : Known) (s : Scene K V) (old : Held K V) → ShowsRun same name terms log known s → (moment log).calls ≡ []
       → (i : ℕ) (all : ReclaimAll) (lists : ℕ → List ℕ) → LeftIsBehind terms.roots (moment log) known lists → BehindAreLeft terms.roots (moment log) known lists
-      → (n : ℕ) (to : AllCome K V S) → Chain (AllSteps same hash terms i) n (all_begun log known s old all lists) to → AtEachEffect FindsPair None None to.come.did (moment log)
+      → (n : ℕ) (to : AllCome K V) → Chain (AllSteps same hash terms i) n (all_begun log known s old all lists) to → AtEachEffect FindsPair None None to.come.did (moment log)
 
   -- and where its last step has said that all is reclaimed, its work on slots has reclaimed what the waiting sets of blocks say, in the world of the scene, and left the sets so,
   -- by whatever changes of them that world came in which it began.
   abbrev pub AllReclaimBySets : Type 0
   AllReclaimBySets =
-      (terms : Terms) → terms.batch_size < 2 ^ 64 → (i n : ℕ) (from to over : AllCome K V S) → BeginsAll same hash terms i from → Chain (AllSteps same hash terms i) n from to
+      (terms : Terms) → terms.batch_size < 2 ^ 64 → (i n : ℕ) (from to over : AllCome K V) → BeginsAll same hash terms i from → Chain (AllSteps same hash terms i) n from to
       → (last : AllSteps same hash terms i to over) → last.said ≡ settled.Done
       → (before : List Change) → CameByTurns deferred_word terms.batch_size terms.roots from.come.scene.world before
       → HasReclaimed deferred_word terms.batch_size terms.roots from.come.scene.world before over.come.scene.world
@@ -176,11 +176,11 @@ module _ (K V S : Type 0) (same : K → K → Bool) (hash : K → ℕ) where
   -- each pair that is reclaimed was handed over or left over.
   abbrev pub AllRunsToItsEnd : Type 0
   AllRunsToItsEnd =
-      (name : ℕ → List ℕ) (terms : Terms) (log : List (Entry K V)) (known : Known) (s : Scene K V) (old : Executor K V S) → terms.batch_size < 2 ^ 64 → ShowsRun same name terms log known s
+      (name : ℕ → List ℕ) (terms : Terms) (log : List (Entry K V)) (known : Known) (s : Scene K V) (old : Held K V) → terms.batch_size < 2 ^ 64 → ShowsRun same name terms log known s
       → (event : Event K V) → gives_all event ≡ true → (ComesAlone event log → FollowsModel terms.batch_size terms.roots log known s.world)
       → (i : ℕ) (all : ReclaimAll) (lists : ℕ → List ℕ) → LeftIsBehind terms.roots (moment log) known lists → BehindIsLeft terms.roots (moment log) known lists
       → BeginsAll same hash terms i (all_begun log known s old all lists)
-      → (n : ℕ) (to over : AllCome K V S) → Chain (AllSteps same hash terms i) n (all_begun log known s old all lists) to
+      → (n : ℕ) (to over : AllCome K V) → Chain (AllSteps same hash terms i) n (all_begun log known s old all lists) to
       → (last : AllSteps same hash terms i to over) → last.said ≡ settled.Done
       → (steps : ℕ) (effects : List Effect) → over.come.did ≡ effects → AtEachEffect FindsPair None None effects (moment log)
       → (let e : Entry K V = record { event = event; outcome = Done; steps = steps; effects = effects } in

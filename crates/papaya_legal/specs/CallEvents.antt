@@ -12,7 +12,7 @@ use Rattle.papaya_grows.specs.Given.Schedules.declared.event.Event.{Event}
 use Rattle.papaya_grows.specs.Given.Schedules.declared.event.Event.TheVariants.{OneCall, Next}
 use Rattle.papaya_grows.specs.Given.Schedules.After.{moment, moments_from, after}
 use Rattle.papaya_grows.specs.Given.Schedules.Beginning.{at_work, fresh_call, with_call}
-use Rattle.papaya_grows.specs.Given.Schedules.Effects.{with_effects, AtEachEffect}
+use Rattle.papaya_grows.specs.Given.Schedules.Effects.{with_effects, AtEachEffect, worked}
 use Rattle.papaya_grows.specs.Given.Schedules.Entry.{Entry, acted_on, caller_of, ends_call, IfCall, acting, is_busy, nameless}
 use Rattle.papaya_grows.specs.Given.Schedules.Handing.{MovesOn, is_call_effect, is_granted, LeavesOf, comes_clear, is_made, refuses}
 use Rattle.papaya_grows.specs.Given.Schedules.InTurn.{ComesRight}
@@ -21,7 +21,6 @@ use Rattle.papaya_grows.specs.Given.Schedules.Model.{IsByModel, sets_in, things_
 use Rattle.papaya_grows.specs.Given.Schedules.Moment.{UnderWay as CallThere, Moment}
 use Rattle.papaya_grows.specs.Given.Schedules.Reclaims.{IsProtected}
 use Rattle.papaya_grows.specs.Given.Schedules.Steps.{ReadsBriefly}
-use Rattle.papaya_grows.specs.Given.Schedules.Effects.{worked}
 use Rattle.papaya_grows.specs.Given.Schedules.Sweeps.{IsSwept}
 use Rattle.papaya_grows.specs.Given.Schedules.Terms.{Terms}
 use Rattle.papaya_grows.specs.Given.Runs.Log.{pair_at}
@@ -32,12 +31,7 @@ use Rattle.papaya_grows.specs.Given.Callers.Together.{UnderWay, OverAll, HandsOv
 use Rattle.papaya_grows.specs.Given.Effects.Effects.{effects_of, known_after}
 use Rattle.papaya_grows.specs.Given.Effects.Known.{Known}
 use Rattle.papaya_grows.specs.Given.Effects.declared.acting.Acting.TheVariants as acts
-use Rattle.papaya_grows.specs.Given.Executor.IsAt.{Scene, IsAt, slot_of}
-use Rattle.papaya_grows.specs.Given.Executor.Beginning.{Begins}
-use Rattle.papaya_grows.specs.Given.Executor.Replying.{AskLeads, scene_with}
 use Rattle.papaya_grows.specs.Given.Finishes.Maps.{Standing}
-use Rattle.papaya_grows.specs.Given.Executor.Stepping.{StepLeads, has_ended, scene_after}
-use Rattle.papaya_grows.specs.Given.Executor.declared.executor.Executor.{Executor}
 use Rattle.papaya_grows.specs.Given.Histories.InEvent.{ComesSo, InEvent, here_of}
 use Rattle.papaya_promises.specs.Protected.{InMidst}
 use Rattle.papaya_promises.specs.Reading.{ShowsReading, looks}
@@ -62,6 +56,11 @@ use Rattle.papaya_grows.specs.Limits.{OthersHadLimit}
 use Rattle.papaya_grows.specs.Given.Finds.Within.{many_of}
 use Rattle.papaya_grows.specs.Nexts.{OthersHadNext}
 use Rattle.papaya_grows.specs.Tries.{OthersHadTried}
+use Rattle.papaya_grows.specs.Given.Scenes.Beginning.{Begins}
+use Rattle.papaya_grows.specs.Given.Scenes.Held.{Held, IsAt}
+use Rattle.papaya_grows.specs.Given.Scenes.Replying.{AskLeads, scene_with}
+use Rattle.papaya_grows.specs.Given.Scenes.Scene.{Scene, slot_of}
+use Rattle.papaya_grows.specs.Given.Scenes.Stepping.{StepLeads, has_ended, scene_after}
 
 -- each pair that is in this map is the one of its class there
 abbrev pub EachIsItsOwn : {K V : Type 0} → (K → K → Bool) → ℕ → Moment K V → Type 0
@@ -108,13 +107,13 @@ pub record IsLegalBut {K V : Type 0} (same : K → K → Bool) (terms : Terms) (
   pub protected : IsProtected log e
   pub by_model : IsByModel terms log e
 
-module _ (K V S : Type 0) (same : K → K → Bool) (hash : K → ℕ) where
+module _ (K V : Type 0) (same : K → K → Bool) (hash : ℕ → K → ℕ) where
   -- The promises: so it is where an event of a call that is under way has begun what it begins, in whose midst alone a row may be if the event comes alone;
   abbrev pub CallEventsBegin : Type 0
   CallEventsBegin =
       (name : ℕ → List ℕ) (terms : Terms) (log : List (Entry K V)) (beginning : Moment K V) → HasJustBegun log beginning → beginning.maps ≡ (moment log).maps → beginning.tables ≡ (moment log).tables
       → beginning.shards ≡ (moment log).shards → beginning.born ≡ (moment log).born → beginning.spot ≡ (moment log).spot → TablelessUncounted (moment log)
-      → (known : Known) (s : Scene K V) (x : Executor K V S) → IsAt same hash x s → ShowsCalls same name log beginning known s → ShowsReading name log (λ j. 0) beginning s
+      → (known : Known) (s : Scene K V) (x : Held K V) → IsAt same hash x s → ShowsCalls same name log beginning known s → ShowsReading name log (λ j. 0) beginning s
       → SectionsHold beginning known s.world → ((moment log).is_alone ≡ true → FollowsOrRows terms log known s.world)
       → (event : Event K V) (map i : ℕ) → caller_of event ≡ Some (name i) → (u : UnderWay K V K) → s.calls map i ≡ Some u → (c : CallThere K V) → call_of (name i) beginning ≡ Some c
       → (ComesAlone event log → (j : ℕ) → s.world.row j ≢ Rests → j ≡ i) → InCallEvent same name terms log event beginning map i c 0 [] beginning known s u
@@ -122,7 +121,7 @@ module _ (K V S : Type 0) (same : K → K → Bool) (hash : K → ℕ) where
   -- so it is where a whole call begins that has no name, on a map that stands, by a caller that has no row under way,
   abbrev pub WholeCallsBegin : Type 0
   WholeCallsBegin =
-      (name : ℕ → List ℕ) (terms : Terms) (log : List (Entry K V)) (known : Known) (s : Scene K V) (old new : Executor K V S) → IsAt same hash old s → ShowsRun same name terms log known s
+      (name : ℕ → List ℕ) (terms : Terms) (log : List (Entry K V)) (known : Known) (s : Scene K V) (old new : Held K V) → IsAt same hash old s → ShowsRun same name terms log known s
       → (map i : ℕ) (standing : Standing K) → s.maps map ≡ Some standing → (u : UnderWay K V K) (call : Call K V) (guard : List ℕ) → Begins same standing i u → IsBegunRight same u call
       → NoneNamed name (name i) s → s.world.row i ≡ Rests → IsAt same hash new (scene_with map i u s) → name i ≡ nameless
       → (on : List ℕ) → (ComesAlone (OneCall guard on call) log → (j : ℕ) → s.world.row j ≢ Rests → j ≡ i)
@@ -134,7 +133,7 @@ module _ (K V S : Type 0) (same : K → K → Bool) (hash : K → ℕ) where
   -- and where a walk that is ready is asked for its next pair;
   abbrev pub NextsBegin : Type 0
   NextsBegin =
-      (name : ℕ → List ℕ) (terms : Terms) (log : List (Entry K V)) (known : Known) (s : Scene K V) (old new : Executor K V S) → IsAt same hash old s → ShowsRun same name terms log known s
+      (name : ℕ → List ℕ) (terms : Terms) (log : List (Entry K V)) (known : Known) (s : Scene K V) (old new : Held K V) → IsAt same hash old s → ShowsRun same name terms log known s
       → (i : ℕ) (leads : AskLeads same hash i true s old new) (map : ℕ) (o : CallOverAll) (here : s.calls map i ≡ Some (OverAll o))
       → (leads map (OverAll o) here).0 ≡ OverAll (gone_on o (after_next o.sweep)) → (c : CallThere K V) → call_of (name i) (moment log) ≡ Some c
       → (ComesAlone (Next (name i)) log → (j : ℕ) → s.world.row j ≢ Rests → j ≡ i)
@@ -146,16 +145,16 @@ module _ (K V S : Type 0) (same : K → K → Bool) (hash : K → ℕ) where
   CallEventsGoOn =
       (name : ℕ → List ℕ) (terms : Terms) (log : List (Entry K V)) (event : Event K V) (beginning : Moment K V) (map i : ℕ) (c : CallThere K V) (steps : ℕ) (done : List Effect) (m : Moment K V) (known : Known)
       (s : Scene K V) (u : UnderWay K V K) (midst : InCallEvent same name terms log event beginning map i c steps done m known s u)
-      → (old new : Executor K V S) → IsAt same hash old s → old.batch_size ≡ terms.batch_size → (said : Progress (Node K V)) (leads : StepLeads same hash i said s old new)
-      → (let effects = effects_of (acts.Call i map) known new.memory.changed in
+      → (old new : Held K V) → IsAt same hash old s → old.batch_size ≡ terms.batch_size → (said : Progress (Node K V)) (leads : StepLeads same hash i said s old new)
+      → (let effects = effects_of (acts.Call i map) known new.changed in
       let v = with_effects (Some (name i)) (Some map) effects m in
       let to = leads map u (here_of same name log beginning map i c done m known s u midst.event_so) in
-      let s2 = scene_after same hash s old new map i to.0 u to.1 said to.4 in
+      let s2 = scene_after same s old new map i to.0 u to.1 said to.4 in
       ShowsNone said
       → ((request : Request) (begun : World (Node K V)) → HandsOver to.0.setting i s.world request → Happens deferred_word old.batch_size (Begin i request) s.world begun
       → Happens deferred_word old.batch_size (Step i) begun to.4.w2 → IsNoted (things_then (things_in log) done) known (slot_of i) request)
       → (next : UnderWay K V K) → to.4.next ≡ Some next
-      → InCallEvent same name terms log event beginning map i c (steps + 1) (done ++ effects) v (known_after (acts.Call i map) new.memory.changed known) s2 next)
+      → InCallEvent same name terms log event beginning map i c (steps + 1) (done ++ effects) v (known_after (acts.Call i map) new.changed known) s2 next)
 
   -- and the event that comes to what its last step says keeps its promises, if its effects find what they must, if it made no more steps than these, does what it is for, is refused no growth that it made, leaves nothing behind, and is by the
   -- model; the sections of guards hold what they shelter.
@@ -163,28 +162,28 @@ module _ (K V S : Type 0) (same : K → K → Bool) (hash : K → ℕ) where
   CallEventsAreLegal =
       (name : ℕ → List ℕ) (terms : Terms) (log : List (Entry K V)) (beginning : Moment K V) (map i : ℕ) (c : CallThere K V) → call_of (name i) beginning ≡ Some c
       → (steps : ℕ) (done : List Effect) (m : Moment K V) (known : Known) (s : Scene K V) (u : UnderWay K V K) (e : Entry K V) (midst : InCallEvent same name terms log e.event beginning map i c steps done m known s u)
-      → ShowsQuestions beginning → (old new : Executor K V S) → IsAt same hash old s → (said : Progress (Node K V)) (leads : StepLeads same hash i said s old new)
-      → at_work e (moment log) ≡ beginning → acted_on e.event beginning ≡ Some map → e.effects ≡ done ++ effects_of (acts.Call i map) known new.memory.changed
-      → ComesSo (known_after (acts.Call i map) new.memory.changed known) c.call c.replies said e.outcome → (takes_steps e.event ≡ true) ⊎ (e.effects ≡ []) → is_busy e.outcome ≡ false
+      → ShowsQuestions beginning → (old new : Held K V) → IsAt same hash old s → (said : Progress (Node K V)) (leads : StepLeads same hash i said s old new)
+      → at_work e (moment log) ≡ beginning → acted_on e.event beginning ≡ Some map → e.effects ≡ done ++ effects_of (acts.Call i map) known new.changed
+      → ComesSo (known_after (acts.Call i map) new.changed known) c.call c.replies said e.outcome → (takes_steps e.event ≡ true) ⊎ (e.effects ≡ []) → is_busy e.outcome ≡ false
       → FindAll terms (moments_from c.begun log) (name i) map e.effects beginning
       → e.steps ≤ steps + 1 → IsSwept same terms log e → (not (refuses e.event) || not (list_any is_made e.effects)) ≡ true
       → IfCall (LeavesOf (comes_clear e.outcome) e.outcome) (acting (caller_of e.event) (worked e (moment log))) → IsByModel terms log e
       → IsLegalBut same terms log e
-      × SectionsHold (after e (moment log)) (known_after (acts.Call i map) new.memory.changed known) (leads map u (here_of same name log beginning map i c done m known s u midst.event_so)).4.w2
+      × SectionsHold (after e (moment log)) (known_after (acts.Call i map) new.changed known) (leads map u (here_of same name log beginning map i c done m known s u midst.event_so)).4.w2
 
   -- The moment after it shows all by which the next event keeps its promises, if it shows what calls are for and have read once the call has come to its outcome, and the sets are as they must be.
   abbrev pub CallEventsEnd : Type 0
   CallEventsEnd =
       (name : ℕ → List ℕ) (terms : Terms) (log : List (Entry K V)) (beginning : Moment K V) (map i : ℕ) (c : CallThere K V) (first : Known) (before : Scene K V) → ShowsRun same name terms log first before
       → (steps : ℕ) (done : List Effect) (m : Moment K V) (known : Known) (s : Scene K V) (u : UnderWay K V K) (e : Entry K V) (midst : InCallEvent same name terms log e.event beginning map i c steps done m known s u)
-      → (old new : Executor K V S) → IsAt same hash old s → (said : Progress (Node K V)) (leads : StepLeads same hash i said s old new)
-      → at_work e (moment log) ≡ beginning → acted_on e.event beginning ≡ Some map → e.effects ≡ done ++ effects_of (acts.Call i map) known new.memory.changed
-      → ComesSo (known_after (acts.Call i map) new.memory.changed known) c.call c.replies said e.outcome → ends_call e.outcome ≡ has_ended said → ComesRight terms log e
+      → (old new : Held K V) → IsAt same hash old s → (said : Progress (Node K V)) (leads : StepLeads same hash i said s old new)
+      → at_work e (moment log) ≡ beginning → acted_on e.event beginning ≡ Some map → e.effects ≡ done ++ effects_of (acts.Call i map) known new.changed
+      → ComesSo (known_after (acts.Call i map) new.changed known) c.call c.replies said e.outcome → ends_call e.outcome ≡ has_ended said → ComesRight terms log e
       → IsLegalBut same terms log e → EventAsksStill log e → ReclaimsAll log e
-      → (let known2 = known_after (acts.Call i map) new.memory.changed known in
+      → (let known2 = known_after (acts.Call i map) new.changed known in
       let to = leads map u (here_of same name log beginning map i c done m known s u midst.event_so) in
-      let s2 = scene_after same hash s old new map i to.0 u to.1 said to.4 in
-      let come = come_to (name i) e.outcome e.steps (with_effects (Some (name i)) (Some map) (effects_of (acts.Call i map) known new.memory.changed) m) in
+      let s2 = scene_after same s old new map i to.0 u to.1 said to.4 in
+      let come = come_to (name i) e.outcome e.steps (with_effects (Some (name i)) (Some map) (effects_of (acts.Call i map) known new.changed) m) in
       ShowsPurposes same name log come known2 s2 → ShowsReading name log (λ j. 0) come s2 → SectionsHold (after e (moment log)) known2 s2.world
       → ((moment (e ∷ log)).is_alone ≡ true → FollowsOrRows terms (e ∷ log) known2 s2.world) → ShowsRun same name terms (e ∷ log) known2 s2)
 
@@ -194,10 +193,10 @@ module _ (K V S : Type 0) (same : K → K → Bool) (hash : K → ℕ) where
   CallEventsFollow =
       (name : ℕ → List ℕ) (terms : Terms) (log : List (Entry K V)) (beginning : Moment K V) (map i : ℕ) (c : CallThere K V) (steps : ℕ) (done : List Effect) (m : Moment K V) (known : Known)
       (s : Scene K V) (u : UnderWay K V K) (e : Entry K V) (midst : InCallEvent same name terms log e.event beginning map i c steps done m known s u)
-      → (old new : Executor K V S) → IsAt same hash old s → old.batch_size ≡ terms.batch_size → (said : Progress (Node K V)) (leads : StepLeads same hash i said s old new)
-      → e.effects ≡ done ++ effects_of (acts.Call i map) known new.memory.changed → is_busy e.outcome ≡ false
+      → (old new : Held K V) → IsAt same hash old s → old.batch_size ≡ terms.batch_size → (said : Progress (Node K V)) (leads : StepLeads same hash i said s old new)
+      → e.effects ≡ done ++ effects_of (acts.Call i map) known new.changed → is_busy e.outcome ≡ false
       → (let to = leads map u (here_of same name log beginning map i c done m known s u midst.event_so) in
-      let known2 = known_after (acts.Call i map) new.memory.changed known in
+      let known2 = known_after (acts.Call i map) new.changed known in
       ((request : Request) (begun : World (Node K V)) → HandsOver to.0.setting i s.world request → Happens deferred_word old.batch_size (Begin i request) s.world begun
       → Happens deferred_word old.batch_size (Step i) begun to.4.w2 → IsNoted (things_then (things_in log) done) known (slot_of i) request)
       → slot_of_call e.event (at_work e (moment log)) ≡ slot_of i → (ComesAlone e.event log → 1 ≤ count (slot_of i) (sets_in terms.batch_size log).active)

@@ -20,12 +20,12 @@ use Rattle.papaya_grows.specs.Given.Callers.Together.{UnderWay}
 use Rattle.papaya_grows.specs.Given.Effects.Effects.{effects_of, known_after}
 use Rattle.papaya_grows.specs.Given.Effects.Known.{Known}
 use Rattle.papaya_grows.specs.Given.Effects.declared.acting.Acting.TheVariants as acts
-use Rattle.papaya_grows.specs.Given.Executor.IsAt.{Scene, IsAt}
-use Rattle.papaya_grows.specs.Given.Executor.Stepping.{StepLeads}
-use Rattle.papaya_grows.specs.Given.Executor.declared.executor.Executor.{Executor}
 use Rattle.papaya_grows.specs.Given.Finishes.Maps.{Standing}
 use Rattle.papaya_grows.specs.Given.Purposes.Swept.{ComesSo as IsToldSo, LosesNone, SaysNothing}
 use Rattle.papaya_legal.specs.CallEvents.{InCallEvent}
+use Rattle.papaya_grows.specs.Given.Scenes.Held.{Held, IsAt}
+use Rattle.papaya_grows.specs.Given.Scenes.Scene.{Scene}
+use Rattle.papaya_grows.specs.Given.Scenes.Stepping.{StepLeads}
 
 module _ {K V : Type 0} (same : K → K → Bool) (log : List (Entry K V)) (m : Moment K V) (map : ℕ) (known : Known) (said : Progress (Node K V)) (told : Outcome V) where
   -- what is told of a call on a whole map: nothing, or the answer of its kind, as the last step says; of a walk a pair, or that all were shown, and then no key has lost its pair within the event
@@ -36,13 +36,13 @@ module _ {K V : Type 0} (same : K → K → Bool) (log : List (Entry K V)) (m : 
       SaysNothing told ⊎ ((n : ℕ) × (told ≡ Shows n) × IsToldSo known said told) ⊎ ((told ≡ Answered Absent) × (said ≡ progress.Done answers.Swept) × LosesNone same log m map)
   TellsOf _ = SaysNothing told ⊎ ((told ≡ Answered Completed) × IsToldSo known said told)
 
-module _ (K V S : Type 0) (same : K → K → Bool) (hash : K → ℕ) where
+module _ (K V : Type 0) (same : K → K → Bool) (hash : ℕ → K → ℕ) where
   -- The promise: so it is of one that has come to its last step, if that is told so, and the map has as many shards as the terms say.
   abbrev pub CallsAreSwept : Type 0
   CallsAreSwept =
       (name : ℕ → List ℕ) (terms : Terms) (log : List (Entry K V)) (beginning : Moment K V) (map i : ℕ) (c : CallThere K V) (steps : ℕ) (done : List Effect) (m : Moment K V) (known : Known)
       (s : Scene K V) (u : UnderWay K V K) (e : Entry K V) → InCallEvent same name terms log e.event beginning map i c steps done m known s u
-      → (old new : Executor K V S) → IsAt same hash old s → (said : Progress (Node K V)) → StepLeads same hash i said s old new
-      → at_work e (moment log) ≡ beginning → acted_on e.event beginning ≡ Some map → e.effects ≡ done ++ effects_of (acts.Call i map) known new.memory.changed
+      → (old new : Held K V) → IsAt same hash old s → (said : Progress (Node K V)) → StepLeads same hash i said s old new
+      → at_work e (moment log) ≡ beginning → acted_on e.event beginning ≡ Some map → e.effects ≡ done ++ effects_of (acts.Call i map) known new.changed
       → ((standing : Standing K) → s.maps map ≡ Some standing → suc standing.setting.mask ≡ shards_of terms)
-      → TellsOf same log m map (known_after (acts.Call i map) new.memory.changed known) said e.outcome c.call → IsSwept same terms log e
+      → TellsOf same log m map (known_after (acts.Call i map) new.changed known) said e.outcome c.call → IsSwept same terms log e

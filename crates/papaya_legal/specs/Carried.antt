@@ -12,7 +12,6 @@ use Rattle.papaya_grows.specs.Given.Schedules.Model.{sets_in, things_in}
 use Rattle.papaya_grows.specs.Given.Schedules.Moment.{Moment, start}
 use Rattle.papaya_grows.specs.Given.Schedules.Terms.{Terms}
 use Rattle.papaya_grows.specs.Given.Effects.Known.{Known, nothing_known}
-use Rattle.papaya_grows.specs.Given.Executor.IsAt.{Scene, at_first, slot_of}
 use Rattle.papaya_grows.specs.Given.Moments.Numbers.{NumbersMaps, PairsAreBelow}
 use Rattle.papaya_grows.specs.Given.Moments.Whole.{ShowsWhole}
 use Rattle.papaya_grows.specs.Given.Histories.AsCalled.{ShowsAsCalled}
@@ -35,6 +34,7 @@ use Rattle.papaya_grows.specs.Finding.{ShowsFinding}
 use Rattle.papaya_grows.specs.Limits.{ShowsLimits}
 use Rattle.papaya_grows.specs.Nexts.{ShowsNexts}
 use Rattle.papaya_grows.specs.Tries.{ShowsTries}
+use Rattle.papaya_grows.specs.Given.Scenes.Scene.{Scene, at_first, slot_of}
 
 -- calls came one after another so far, and the event is one of those that do
 abbrev pub ComesAlone : {K V : Type 0} → Event K V → List (Entry K V) → Type 0

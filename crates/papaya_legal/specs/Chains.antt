@@ -1,31 +1,25 @@
 -- An event as the chain of the steps that it has taken: what is so where it begins, and stays so by each step, is so where it has come.
 use Rattle.std.specs.Prelude.{◌≡◌, ◌<◌, ◌^◌, ◌+◌, ℕ, Bool, true, false, zero, suc, List, [], ◌∷◌, ◌++◌, Some, None}
 use Rattle.std.specs.List.{list_all}
-use Rattle.papaya_grows.specs.Given.Seize.World.{World, Request, Begin, Step, Happens}
+use Rattle.papaya_grows.specs.Given.Seize.World.{World, Request, Begin, Step, Happens, Rests, with_at}
 use Rattle.papaya_grows.specs.Given.Seize.declared.progress.Progress.{Progress as Making}
 use Rattle.papaya_grows.specs.Given.Seize.declared.rows.settle.Settled.{Settled}
 use Rattle.papaya_grows.specs.Given.Tables.declared.node.Node.{Node}
 use Rattle.papaya_grows.specs.Given.Tables.declared.setting.Setting.{Setting}
 use Rattle.papaya_grows.specs.Given.Schedules.declared.effect.Effect.{Effect}
 use Rattle.papaya_grows.specs.Given.Schedules.declared.event.Event.{Event}
-use Rattle.papaya_grows.specs.Given.Schedules.Effects.{with_effects, AtEachEffect}
-use Rattle.papaya_grows.specs.Given.Schedules.Entry.{Entry}
-use Rattle.papaya_grows.specs.Given.Schedules.Moment.{Moment}
+use Rattle.papaya_grows.specs.Given.Schedules.Effects.{with_effects, AtEachEffect, worked}
+use Rattle.papaya_grows.specs.Given.Schedules.Entry.{Entry, is_busy}
+use Rattle.papaya_grows.specs.Given.Schedules.Moment.{Moment, UnderWay as CallThere, MapThere}
 use Rattle.papaya_grows.specs.Given.Schedules.Terms.{Terms}
 use Rattle.papaya_grows.specs.Given.Effects.Effects.{effects_of, known_after}
 use Rattle.papaya_grows.specs.Given.Effects.Known.{Known}
 use Rattle.papaya_grows.specs.Given.Effects.declared.acting.Acting.TheVariants as acts
-use Rattle.papaya_grows.specs.Given.Executor.Ending.{EndingLeads}
-use Rattle.papaya_grows.specs.Given.Executor.IsAt.{Scene, IsAt, work_of}
-use Rattle.papaya_grows.specs.Given.Executor.Making.{MakingLeads}
-use Rattle.papaya_grows.specs.Given.Executor.OnSlots.{RowLeads}
-use Rattle.papaya_grows.specs.Given.Executor.declared.executor.Executor.{Executor}
-use Rattle.papaya_grows.specs.Given.Executor.declared.row.RowTold.{RowTold}
-use Rattle.papaya_grows.specs.Given.Executor.declared.row.SlotCall.{SlotCall}
-use Rattle.papaya_grows.specs.Given.Executor.declared.row.SlotRow.{SlotRow}
-use Rattle.papaya_grows.specs.Given.Executor.declared.worker.Work.TheVariants.{OnSlot}
+use Rattle.papaya_grows.specs.Given.Scenes.declared.row.RowTold.{RowTold}
+use Rattle.papaya_grows.specs.Given.Scenes.declared.row.SlotCall.{SlotCall}
+use Rattle.papaya_grows.specs.Given.Scenes.declared.row.SlotRow.{SlotRow}
 use Rattle.papaya_grows.specs.Given.Finishes.Endings.{Finishing}
-use Rattle.papaya_grows.specs.Given.Finishes.Makings.{Beginning}
+use Rattle.papaya_grows.specs.Given.Finishes.Makings.{Beginning, HasMade}
 use Rattle.papaya_grows.specs.Given.Moments.Endings.{IsOfIts}
 use Rattle.papaya_grows.specs.Given.Others.Endings.{ending_after}
 use Rattle.papaya_grows.specs.Given.Others.Makings.{WasNew, making_after}
@@ -33,56 +27,48 @@ use Rattle.papaya_grows.specs.Given.Others.Rows.{scene_then}
 use Rattle.papaya_grows.specs.Given.Tables.Nodes.{deferred_word}
 use Rattle.papaya_grows.specs.Given.Raw.declared.machines.progress.Progress.{Progress as CallTold}
 use Rattle.papaya_grows.specs.Given.Schedules.Model.{things_in}
-use Rattle.papaya_grows.specs.Given.Schedules.Moment.{UnderWay as CallThere}
 use Rattle.papaya_grows.specs.Given.Callers.Together.{UnderWay, HandsOver}
-use Rattle.papaya_grows.specs.Given.Executor.IsAt.{slot_of}
-use Rattle.papaya_grows.specs.Given.Executor.Stepping.{StepLeads, scene_after}
 use Rattle.papaya_grows.specs.Given.Purposes.Kept.{ShowsNone}
 use Rattle.papaya_models.specs.CallEvents.{IsNoted, things_then}
-use Rattle.papaya_legal.specs.CallEvents.{InCallEvent}
+use Rattle.papaya_legal.specs.CallEvents.{InCallEvent, IsLegalBut}
 use Rattle.papaya_legal.specs.MapEvents.{FindsItsMap, InEndEvent, InMakingEvent}
-use Rattle.papaya_grows.specs.Given.Seize.World.{Rests}
 use Rattle.papaya_grows.specs.Given.Schedules.After.{moment}
-use Rattle.papaya_grows.specs.Given.Schedules.Beginning.{at_work}
-use Rattle.papaya_grows.specs.Given.Schedules.Entry.{is_busy}
-use Rattle.papaya_grows.specs.Given.Schedules.Handing.{gives_all, may_do}
+use Rattle.papaya_grows.specs.Given.Schedules.Beginning.{at_work, with_map}
+use Rattle.papaya_grows.specs.Given.Schedules.Handing.{gives_all, may_do, IsWhole}
 use Rattle.papaya_grows.specs.Given.Schedules.InTurn.{ComesRight}
 use Rattle.papaya_grows.specs.Given.Schedules.Lives.{Finds}
-use Rattle.papaya_grows.specs.Given.Executor.OnSlots.{MayBegin, RowBegins}
-use Rattle.papaya_grows.specs.Given.Executor.Rows.{request_of}
 use Rattle.papaya_promises.specs.Others.{SparesGuards}
 use Rattle.papaya_promises.specs.Protected.{EndsInside, is_of_slots, there_in}
 use Rattle.papaya_models.specs.Follows.{FollowsModel}
 use Rattle.papaya_models.specs.OnSlots.{IsRowFor}
 use Rattle.papaya_grows.specs.Given.Finds.Little.{ReclaimsAll}
-use Rattle.papaya_legal.specs.CallEvents.{IsLegalBut}
 use Rattle.papaya_legal.specs.Carried.{ComesAlone, ShowsRun}
-use Rattle.papaya_grows.specs.Given.Seize.World.{with_at}
 use Rattle.papaya_grows.specs.Given.Runs.Same.{is_same}
 use Rattle.papaya_grows.specs.Given.Tables.declared.resize_mode.ResizeMode.{ResizeMode}
 use Rattle.papaya_grows.specs.Given.Schedules.declared.event.Event.TheVariants.{EndMap, MakeMap}
 use Rattle.papaya_grows.specs.Given.Schedules.declared.outcome.Outcome.TheVariants.{Done}
-use Rattle.papaya_grows.specs.Given.Schedules.Beginning.{with_map}
-use Rattle.papaya_grows.specs.Given.Schedules.Effects.{worked}
-use Rattle.papaya_grows.specs.Given.Schedules.Handing.{IsWhole}
-use Rattle.papaya_grows.specs.Given.Schedules.Moment.{MapThere}
 use Rattle.papaya_grows.specs.Given.Schedules.Views.{map_at, number_of}
-use Rattle.papaya_grows.specs.Given.Executor.Ending.{ending_begun}
-use Rattle.papaya_grows.specs.Given.Finishes.Makings.{HasMade}
 use Rattle.papaya_grows.specs.Given.Finishes.Maps.{Standing}
 use Rattle.papaya_legal.specs.SlotEvents.{InSlotEvent}
+use Rattle.papaya_grows.specs.Given.Scenes.Ending.{EndingLeads, ending_begun}
+use Rattle.papaya_grows.specs.Given.Scenes.Held.{Held, IsAt}
+use Rattle.papaya_grows.specs.Given.Scenes.Making.{MakingLeads}
+use Rattle.papaya_grows.specs.Given.Scenes.OnSlots.{RowBegins, RowLeads}
+use Rattle.papaya_grows.specs.Given.Scenes.Rows.{request_of}
+use Rattle.papaya_grows.specs.Given.Scenes.Scene.{IsOnSlot, Scene, slot_of}
+use Rattle.papaya_grows.specs.Given.Scenes.Stepping.{StepLeads, scene_after}
 
--- How far an event has come: with which executor, what it has done, the moment after that, what is known then, and the scene in which the executor is.
-pub record Come (K V S : Type 0) : Type 0 where
-  pub executor : Executor K V S
+-- How far an event has come: what is held then, what it has done, the moment after that, what is known then, and the scene of what is held.
+pub record Come (K V : Type 0) : Type 0 where
+  pub held : Held K V
   pub did : List Effect
   pub now : Moment K V
   pub notes : Known
   pub scene : Scene K V
 
 -- How far an event of a call has come: with what under way, after so many steps, too.
-pub record CallCome (K V S : Type 0) : Type 0 where
-  pub come : Come K V S
+pub record CallCome (K V : Type 0) : Type 0 where
+  pub come : Come K V
   pub under : UnderWay K V K
   pub steps : ℕ
 
@@ -92,113 +78,113 @@ module _ {X : Type 0} where
   Chain Steps zero from to = from ≡ to
   Chain Steps (suc n) from to = (mid : X) × Chain Steps n from mid × Steps mid to
 
-module _ {K V S : Type 0} (same : K → K → Bool) (hash : K → ℕ) (terms : Terms) where
+module _ {K V : Type 0} (same : K → K → Bool) (hash : ℕ → K → ℕ) (terms : Terms) where
   -- A step of the row of caller i on its slot,
-  pub record RowSteps (i : ℕ) (from to : Come K V S) : Type 0 where
-    pub is_at : IsAt same hash from.executor from.scene
-    pub size : from.executor.batch_size ≡ terms.batch_size
+  pub record RowSteps (i : ℕ) (from to : Come K V) : Type 0 where
+    pub is_at : IsAt same hash from.held from.scene
+    pub size : from.held.batch_size ≡ terms.batch_size
     pub said : RowTold (Node K V)
-    pub leads : RowLeads same hash i said from.scene from.executor to.executor
+    pub leads : RowLeads same hash i said from.scene from.held to.held
     pub row : SlotRow
-    pub here : work_of from.executor i ≡ Some (OnSlot row)
+    pub here : IsOnSlot from.scene i row
     pub comes : to ≡ record {
-      executor = to.executor;
-      did = from.did ++ effects_of acts.Row from.notes to.executor.memory.changed;
-      now = with_effects None None (effects_of acts.Row from.notes to.executor.memory.changed) from.now;
-      notes = known_after acts.Row to.executor.memory.changed from.notes;
-      scene = scene_then same hash (Step i) from.scene from.executor to.executor (leads row here).4;
+      held = to.held;
+      did = from.did ++ effects_of acts.Row from.notes to.held.changed;
+      now = with_effects None None (effects_of acts.Row from.notes to.held.changed) from.now;
+      notes = known_after acts.Row to.held.changed from.notes;
+      scene = scene_then same hash (Step i) from.scene from.held to.held (leads row here).2;
     }
 
   -- of the making of a map, which is there by its number, and new; or one that just asks for blocks,
-  pub record MakingSteps (i map : ℕ) (from to : Come K V S) : Type 0 where
-    pub is_at : IsAt same hash from.executor from.scene
-    pub size : from.executor.batch_size ≡ terms.batch_size
+  pub record MakingSteps (i map : ℕ) (from to : Come K V) : Type 0 where
+    pub is_at : IsAt same hash from.held from.scene
+    pub size : from.held.batch_size ≡ terms.batch_size
     pub said : Making Setting
-    pub leads : MakingLeads same hash i said from.scene from.executor to.executor
+    pub leads : MakingLeads same hash i said from.scene from.held to.held
     pub making : Beginning K
     pub here : from.scene.makers i ≡ Some making
     pub map_is : making.map ≡ map
     pub was_new : WasNew making.map said from.now
-    pub finds : FindsItsMap making said (effects_of (acts.Making making.map) from.notes to.executor.memory.changed) from.now
+    pub finds : FindsItsMap making said (effects_of (acts.Making making.map) from.notes to.held.changed) from.now
     pub comes : to ≡ record {
-      executor = to.executor;
-      did = from.did ++ effects_of (acts.Making making.map) from.notes to.executor.memory.changed;
-      now = with_effects None (Some making.map) (effects_of (acts.Making making.map) from.notes to.executor.memory.changed) from.now;
-      notes = known_after (acts.Making making.map) to.executor.memory.changed from.notes;
-      scene = making_after same hash from.scene from.executor to.executor i making (leads making here).0 (leads making here).2.step.w2 said (leads making here).3;
+      held = to.held;
+      did = from.did ++ effects_of (acts.Making making.map) from.notes to.held.changed;
+      now = with_effects None (Some making.map) (effects_of (acts.Making making.map) from.notes to.held.changed) from.now;
+      notes = known_after (acts.Making making.map) to.held.changed from.notes;
+      scene = making_after same hash from.scene from.held to.held i making (leads making here).0 (leads making here).2.step.w2 said (leads making here).3;
     }
 
   -- and of the end of one, which takes tables of its map alone.
-  pub record EndSteps (i map : ℕ) (from to : Come K V S) : Type 0 where
-    pub is_at : IsAt same hash from.executor from.scene
-    pub size : from.executor.batch_size ≡ terms.batch_size
+  pub record EndSteps (i map : ℕ) (from to : Come K V) : Type 0 where
+    pub is_at : IsAt same hash from.held from.scene
+    pub size : from.held.batch_size ≡ terms.batch_size
     pub said : Settled (Node K V)
-    pub leads : EndingLeads same hash i said from.scene from.executor to.executor
+    pub leads : EndingLeads same hash i said from.scene from.held to.held
     pub ending : Finishing K V
     pub here : from.scene.enders i ≡ Some ending
     pub gone : from.scene.maps map ≡ None
     pub below : map < from.now.made
-    pub its : AtEachEffect (IsOfIts map) None (Some map) (effects_of (acts.Ending map) from.notes to.executor.memory.changed) from.now
+    pub its : AtEachEffect (IsOfIts map) None (Some map) (effects_of (acts.Ending map) from.notes to.held.changed) from.now
     pub comes : to ≡ record {
-      executor = to.executor;
-      did = from.did ++ effects_of (acts.Ending map) from.notes to.executor.memory.changed;
-      now = with_effects None (Some map) (effects_of (acts.Ending map) from.notes to.executor.memory.changed) from.now;
-      notes = known_after (acts.Ending map) to.executor.memory.changed from.notes;
-      scene = ending_after same hash from.scene to.executor i ending (leads ending here).0 (leads ending here).2.w2 (leads ending here).2.deed said (leads ending here).3;
+      held = to.held;
+      did = from.did ++ effects_of (acts.Ending map) from.notes to.held.changed;
+      now = with_effects None (Some map) (effects_of (acts.Ending map) from.notes to.held.changed) from.now;
+      notes = known_after (acts.Ending map) to.held.changed from.notes;
+      scene = ending_after same hash from.scene to.held i ending (leads ending here).0 (leads ending here).2.w2 (leads ending here).2.deed said (leads ending here).3;
     }
 
-module _ {K V S : Type 0} (same : K → K → Bool) (hash : K → ℕ) (name : ℕ → List ℕ) (terms : Terms) (log : List (Entry K V)) (map i : ℕ) where
+module _ {K V : Type 0} (same : K → K → Bool) (hash : ℕ → K → ℕ) (name : ℕ → List ℕ) (terms : Terms) (log : List (Entry K V)) (map i : ℕ) where
   -- A step of the call of caller i on its map, by which the call goes on: no pair of a walk is shown, and what a row hands over
   -- that begins with the step is noted.
-  pub record CallSteps (from to : CallCome K V S) : Type 0 where
-    pub is_at : IsAt same hash from.come.executor from.come.scene
-    pub size : from.come.executor.batch_size ≡ terms.batch_size
+  pub record CallSteps (from to : CallCome K V) : Type 0 where
+    pub is_at : IsAt same hash from.come.held from.come.scene
+    pub size : from.come.held.batch_size ≡ terms.batch_size
     pub said : CallTold (Node K V)
-    pub leads : StepLeads same hash i said from.come.scene from.come.executor to.come.executor
+    pub leads : StepLeads same hash i said from.come.scene from.come.held to.come.held
     pub none : ShowsNone said
     pub noted : (here : from.come.scene.calls map i ≡ Some from.under) (request : Request) (begun : World (Node K V))
         → HandsOver (leads map from.under here).0.setting i from.come.scene.world request
-        → Happens deferred_word from.come.executor.batch_size (Begin i request) from.come.scene.world begun
-        → Happens deferred_word from.come.executor.batch_size (Step i) begun (leads map from.under here).4.w2
+        → Happens deferred_word from.come.held.batch_size (Begin i request) from.come.scene.world begun
+        → Happens deferred_word from.come.held.batch_size (Step i) begun (leads map from.under here).4.w2
         → IsNoted (things_then (things_in log) from.come.did) from.come.notes (slot_of i) request
     pub goes_on : (here : from.come.scene.calls map i ≡ Some from.under) → (leads map from.under here).4.next ≡ Some to.under
     pub comes : (here : from.come.scene.calls map i ≡ Some from.under) → to ≡ record {
       come = record {
-        executor = to.come.executor;
-        did = from.come.did ++ effects_of (acts.Call i map) from.come.notes to.come.executor.memory.changed;
-        now = with_effects (Some (name i)) (Some map) (effects_of (acts.Call i map) from.come.notes to.come.executor.memory.changed) from.come.now;
-        notes = known_after (acts.Call i map) to.come.executor.memory.changed from.come.notes;
-        scene = scene_after same hash from.come.scene from.come.executor to.come.executor map i (leads map from.under here).0 from.under (leads map from.under here).1 said (leads map from.under here).4;
+        held = to.come.held;
+        did = from.come.did ++ effects_of (acts.Call i map) from.come.notes to.come.held.changed;
+        now = with_effects (Some (name i)) (Some map) (effects_of (acts.Call i map) from.come.notes to.come.held.changed) from.come.now;
+        notes = known_after (acts.Call i map) to.come.held.changed from.come.notes;
+        scene = scene_after same from.come.scene from.come.held to.come.held map i (leads map from.under here).0 from.under (leads map from.under here).1 said (leads map from.under here).4;
       };
       under = to.under;
       steps = from.steps + 1;
     }
 
-module _ (K V S : Type 0) (same : K → K → Bool) (hash : K → ℕ) where
+module _ (K V : Type 0) (same : K → K → Bool) (hash : ℕ → K → ℕ) where
   -- The promises: an event whose work is a row on a slot is in its midst wherever a chain of steps of the row has led,
   abbrev pub RowsChain : Type 0
   RowsChain =
-      (name : ℕ → List ℕ) (terms : Terms) (log : List (Entry K V)) (event : Event K V) (i : ℕ) (called : SlotCall) (first : Known) (began : World (Node K V)) (n : ℕ) (from to : Come K V S)
+      (name : ℕ → List ℕ) (terms : Terms) (log : List (Entry K V)) (event : Event K V) (i : ℕ) (called : SlotCall) (first : Known) (began : World (Node K V)) (n : ℕ) (from to : Come K V)
       → Chain (RowSteps same hash terms i) n from to → InSlotEvent same name terms log event i called first began from.did from.now from.notes from.scene
       → InSlotEvent same name terms log event i called first began to.did to.now to.notes to.scene
 
   -- and so is one that makes a map, or ends one.
   abbrev pub MakingsChain : Type 0
   MakingsChain =
-      (name : ℕ → List ℕ) (terms : Terms) (log : List (Entry K V)) (event : Event K V) (i map : ℕ) (beginning : Moment K V) (n : ℕ) (from to : Come K V S)
+      (name : ℕ → List ℕ) (terms : Terms) (log : List (Entry K V)) (event : Event K V) (i map : ℕ) (beginning : Moment K V) (n : ℕ) (from to : Come K V)
       → Chain (MakingSteps same hash terms i map) n from to → InMakingEvent same name terms log event map beginning from.did from.now from.notes from.scene
       → InMakingEvent same name terms log event map beginning to.did to.now to.notes to.scene
 
   abbrev pub EndsChain : Type 0
   EndsChain =
-      (name : ℕ → List ℕ) (terms : Terms) (log : List (Entry K V)) (event : Event K V) (i map : ℕ) (beginning : Moment K V) (first : Known) (n : ℕ) (from to : Come K V S)
+      (name : ℕ → List ℕ) (terms : Terms) (log : List (Entry K V)) (event : Event K V) (i map : ℕ) (beginning : Moment K V) (first : Known) (n : ℕ) (from to : Come K V)
       → Chain (EndSteps same hash terms i map) n from to → InEndEvent same name terms log event map beginning first i from.did from.now from.notes from.scene
       → InEndEvent same name terms log event map beginning first i to.did to.now to.notes to.scene
 
   -- and one in which a call goes on.
   abbrev pub CallsChain : Type 0
   CallsChain =
-      (name : ℕ → List ℕ) (terms : Terms) (log : List (Entry K V)) (event : Event K V) (beginning : Moment K V) (map i : ℕ) (c : CallThere K V) (n : ℕ) (from to : CallCome K V S)
+      (name : ℕ → List ℕ) (terms : Terms) (log : List (Entry K V)) (event : Event K V) (beginning : Moment K V) (map i : ℕ) (c : CallThere K V) (n : ℕ) (from to : CallCome K V)
       → Chain (CallSteps same hash name terms log map i) n from to
       → InCallEvent same name terms log event beginning map i c from.steps from.come.did from.come.now from.come.notes from.come.scene from.under
       → InCallEvent same name terms log event beginning map i c to.steps to.come.did to.come.now to.come.notes to.come.scene to.under
@@ -207,17 +193,17 @@ module _ (K V S : Type 0) (same : K → K → Bool) (hash : K → ℕ) where
   -- waiting sets, was not kept out, leaves its guards within their sections, and all is back if it reclaims all.
   abbrev pub RowsRunToTheirEnds : Type 0
   RowsRunToTheirEnds =
-      (name : ℕ → List ℕ) (terms : Terms) (log : List (Entry K V)) (known : Known) (s : Scene K V) (old new : Executor K V S) → IsAt same hash old s → old.batch_size ≡ terms.batch_size
+      (name : ℕ → List ℕ) (terms : Terms) (log : List (Entry K V)) (known : Known) (s : Scene K V) (old new : Held K V) → IsAt same hash old s → old.batch_size ≡ terms.batch_size
       → terms.batch_size < 2 ^ 64 → ShowsRun same name terms log known s
-      → (e : Entry K V) → is_of_slots e.event ≡ true → (i : ℕ) (called : SlotCall) (may : MayBegin old (slot_of i) called) (leads : RowBegins same hash called i s old new)
+      → (e : Entry K V) → is_of_slots e.event ≡ true → (i : ℕ) (called : SlotCall) (leads : RowBegins same hash called i s old new)
       → SparesGuards called (slot_of i) (there_in e.event (moment log).there) → (ComesAlone e.event log → FollowsModel terms.batch_size terms.roots log known s.world)
-      → (n : ℕ) (to : Come K V S)
+      → (n : ℕ) (to : Come K V)
       → Chain (RowSteps same hash terms i) n (record {
-        executor = new;
+        held = new;
         did = [];
         now = moment log;
         notes = known;
-        scene = scene_then same hash (Begin i (request_of (slot_of i) called)) s old new (leads may).3;
+        scene = scene_then same hash (Begin i (request_of (slot_of i) called)) s old new leads.2;
       }) to
       → to.did ≡ e.effects → to.scene.world.row i ≡ Rests → EndsInside to.scene.world e.event e.outcome (moment log).there → is_busy e.outcome ≡ false
       → list_all (may_do e.event (moment log)) e.effects ≡ true → AtEachEffect (Finds terms None None (gives_all e.event) []) None None e.effects (moment log)
@@ -227,12 +213,12 @@ module _ (K V S : Type 0) (same : K → K → Bool) (hash : K → ℕ) where
   -- So it is of an event that makes a map, whose making has come to its end, if what it did it may do, and finds what it must, and if it is whole;
   abbrev pub MakingsRunToTheirEnds : Type 0
   MakingsRunToTheirEnds =
-      (name : ℕ → List ℕ) (terms : Terms) (log : List (Entry K V)) (known : Known) (s : Scene K V) (old new : Executor K V S) → IsAt same hash old s → ShowsRun same name terms log known s
+      (name : ℕ → List ℕ) (terms : Terms) (log : List (Entry K V)) (known : Known) (s : Scene K V) (old new : Held K V) → IsAt same hash old s → ShowsRun same name terms log known s
       → (own : List ℕ) (mode : ResizeMode) (capacity : ℕ) (there : MapThere) → there.number ≡ (moment log).made → (i : ℕ) (b : Beginning K) → s.makers i ≡ None → b.map ≡ there.number
       → (HasMade b.machine.stands → ⊥) → (ComesAlone (MakeMap own mode capacity) log → FollowsModel terms.batch_size terms.roots log known s.world)
-      → IsAt same hash new (record s { makers = with_at s.makers i (Some b) }) → (n : ℕ) (to : Come K V S)
+      → IsAt same hash new (record s { makers = with_at s.makers i (Some b) }) → (n : ℕ) (to : Come K V)
       → Chain (MakingSteps same hash terms i b.map) n (record {
-        executor = new;
+        held = new;
         did = [];
         now = with_map there (moment log);
         notes = known;
@@ -247,10 +233,10 @@ module _ (K V S : Type 0) (same : K → K → Bool) (hash : K → ℕ) where
   -- and of one that ends a map, whose end is over, if no map that stands then has its name.
   abbrev pub EndsRunToTheirEnds : Type 0
   EndsRunToTheirEnds =
-      (name : ℕ → List ℕ) (terms : Terms) (log : List (Entry K V)) (known : Known) (s : Scene K V) (old new : Executor K V S) → IsAt same hash old s → ShowsRun same name terms log known s
+      (name : ℕ → List ℕ) (terms : Terms) (log : List (Entry K V)) (known : Known) (s : Scene K V) (old new : Held K V) → IsAt same hash old s → ShowsRun same name terms log known s
       → terms.batch_size < 2 ^ 64 → (own : List ℕ) (map i : ℕ) (standing : Standing K) → s.maps map ≡ Some standing → s.enders i ≡ None → IsAt same hash new (ending_begun map i standing s)
-      → (ComesAlone (EndMap own) log → FollowsModel terms.batch_size terms.roots log known s.world) → (n : ℕ) (to : Come K V S)
-      → Chain (EndSteps same hash terms i map) n (record { executor = new; did = []; now = moment log; notes = known; scene = ending_begun map i standing s }) to → IsAt same hash to.executor to.scene
+      → (ComesAlone (EndMap own) log → FollowsModel terms.batch_size terms.roots log known s.world) → (n : ℕ) (to : Come K V)
+      → Chain (EndSteps same hash terms i map) n (record { held = new; did = []; now = moment log; notes = known; scene = ending_begun map i standing s }) to → IsAt same hash to.held to.scene
       → (steps : ℕ) (effects : List Effect) → to.did ≡ effects → number_of own (moment log) ≡ Some map → to.scene.enders i ≡ None
       → ((k : ℕ) (st : Standing K) (there : MapThere) → to.scene.maps k ≡ Some st → map_at k to.now ≡ Some there → is_same there.name own ≡ false)
       → (let e : Entry K V = record { event = EndMap own; outcome = Done; steps = steps; effects = effects } in

@@ -17,7 +17,7 @@ pub use Rattle.papaya_logged.specs.Given.Reclaims
 pub use Rattle.papaya_grows.specs.Given.Runs
 pub use Rattle.papaya_grows.specs.Given.Schedules
 pub use Rattle.papaya_grows.specs.Given.Effects
-pub use Rattle.papaya_grows.specs.Given.Executor
+pub use Rattle.papaya_grows.specs.Given.Scenes
 pub use Rattle.papaya_logged.specs.Given.Reclaiming
 pub use Rattle.papaya_grows.specs.Given.Follows
 pub use Rattle.papaya_grows.specs.Given.Hands

@@ -20,10 +20,6 @@ use Rattle.papaya_grows.specs.Given.Schedules.Terms.{Terms}
 use Rattle.papaya_grows.specs.Given.Effects.Effects.{effects_of, known_after}
 use Rattle.papaya_grows.specs.Given.Effects.Known.{Known}
 use Rattle.papaya_grows.specs.Given.Effects.declared.acting.Acting.TheVariants as acts
-use Rattle.papaya_grows.specs.Given.Executor.Ending.{EndingLeads}
-use Rattle.papaya_grows.specs.Given.Executor.IsAt.{Scene, IsAt}
-use Rattle.papaya_grows.specs.Given.Executor.Making.{MakingLeads}
-use Rattle.papaya_grows.specs.Given.Executor.declared.executor.Executor.{Executor}
 use Rattle.papaya_grows.specs.Given.Finishes.Endings.{Finishing}
 use Rattle.papaya_grows.specs.Given.Moments.Endings.{IsOfIts}
 use Rattle.papaya_grows.specs.Given.Finishes.Makings.{Beginning}
@@ -44,6 +40,10 @@ use Rattle.papaya_promises.specs.Sheltered.{SectionsHold}
 use Rattle.papaya_grows.specs.Given.Schedules.Beginning.{at_work}
 use Rattle.papaya_grows.specs.Given.Sources.Stays.{NoneBorn}
 use Rattle.papaya_legal.specs.Carried.{ComesAlone, ShowsCalls}
+use Rattle.papaya_grows.specs.Given.Scenes.Ending.{EndingLeads}
+use Rattle.papaya_grows.specs.Given.Scenes.Held.{Held, IsAt}
+use Rattle.papaya_grows.specs.Given.Scenes.Making.{MakingLeads}
+use Rattle.papaya_grows.specs.Given.Scenes.Scene.{Scene}
 
 module _ {K V : Type 0} (same : K → K → Bool) (name : ℕ → List ℕ) (terms : Terms) (log : List (Entry K V)) (event : Event K V) (map : ℕ) (beginning : Moment K V) where
   -- In the midst of an event whose work is that of a map which is made, or ends: what it has done finds what it must.
@@ -74,29 +74,29 @@ HasNotMade said = Unit {0}
 abbrev pub FindsItsMap : {K V : Type 0} → Beginning K → Making Setting → List Effect → Moment K V → Type 0
 FindsItsMap b said effects m = ((b.map < m.made) × IsMadeFor b.map m b.given) ⊎ (HasNotMade said × (list_all is_growth effects ≡ true))
 
-module _ (K V S : Type 0) (same : K → K → Bool) (hash : K → ℕ) where
+module _ (K V : Type 0) (same : K → K → Bool) (hash : ℕ → K → ℕ) where
   -- The promises: a making goes on so, whose map is there, made for its capacity, or which just asks for blocks,
   abbrev pub MakingEventsGoOn : Type 0
   MakingEventsGoOn =
       (name : ℕ → List ℕ) (terms : Terms) (log : List (Entry K V)) (event : Event K V) (beginning : Moment K V) (done : List Effect) (m : Moment K V) (known : Known) (s : Scene K V) (i : ℕ) (b : Beginning K)
-      (here : s.makers i ≡ Some b) → InMakingEvent same name terms log event b.map beginning done m known s → (old new : Executor K V S) → IsAt same hash old s
+      (here : s.makers i ≡ Some b) → InMakingEvent same name terms log event b.map beginning done m known s → (old new : Held K V) → IsAt same hash old s
       → old.batch_size ≡ terms.batch_size → (said : Making Setting) (leads : MakingLeads same hash i said s old new) → WasNew b.map said m
-      → FindsItsMap b said (effects_of (acts.Making b.map) known new.memory.changed) m
+      → FindsItsMap b said (effects_of (acts.Making b.map) known new.changed) m
       → (let to = leads b here in
-      let effects = effects_of (acts.Making b.map) known new.memory.changed in
-      InMakingEvent same name terms log event b.map beginning (done ++ effects) (with_effects None (Some b.map) effects m) (known_after (acts.Making b.map) new.memory.changed known)
+      let effects = effects_of (acts.Making b.map) known new.changed in
+      InMakingEvent same name terms log event b.map beginning (done ++ effects) (with_effects None (Some b.map) effects m) (known_after (acts.Making b.map) new.changed known)
       (making_after same hash s old new i b to.0 to.2.step.w2 said to.3))
 
   -- and so does an end, which takes tables of its map alone;
   abbrev pub EndEventsGoOn : Type 0
   EndEventsGoOn =
       (name : ℕ → List ℕ) (terms : Terms) (log : List (Entry K V)) (event : Event K V) (map : ℕ) (beginning : Moment K V) (first : Known) (done : List Effect) (m : Moment K V) (known : Known) (s : Scene K V) (i : ℕ)
-      (f : Finishing K V) (here : s.enders i ≡ Some f) → s.maps map ≡ None → InEndEvent same name terms log event map beginning first i done m known s → (old new : Executor K V S) → IsAt same hash old s
+      (f : Finishing K V) (here : s.enders i ≡ Some f) → s.maps map ≡ None → InEndEvent same name terms log event map beginning first i done m known s → (old new : Held K V) → IsAt same hash old s
       → old.batch_size ≡ terms.batch_size → map < m.made → (said : Settled (Node K V)) (leads : EndingLeads same hash i said s old new)
       → (let to = leads f here in
-      let effects = effects_of (acts.Ending map) known new.memory.changed in
+      let effects = effects_of (acts.Ending map) known new.changed in
       AtEachEffect (IsOfIts map) None (Some map) effects m
-      → InEndEvent same name terms log event map beginning first i (done ++ effects) (with_effects None (Some map) effects m) (known_after (acts.Ending map) new.memory.changed known)
+      → InEndEvent same name terms log event map beginning first i (done ++ effects) (with_effects None (Some map) effects m) (known_after (acts.Ending map) new.changed known)
       (ending_after same hash s new i f to.0 to.2.w2 to.2.deed said to.3))
 
 -- Once its work is done such an event keeps its promises, if what it did it may do, and finds what it must, if it is whole, and by the model; the sections of guards hold what they shelter.

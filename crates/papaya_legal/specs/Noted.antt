@@ -22,12 +22,12 @@ use Rattle.papaya_grows.specs.Given.Callers.Together.{UnderWay, HandsOver}
 use Rattle.papaya_grows.specs.Given.Effects.Effects.{effects_of}
 use Rattle.papaya_grows.specs.Given.Effects.Known.{Known}
 use Rattle.papaya_grows.specs.Given.Effects.declared.acting.Acting.TheVariants.{Call}
-use Rattle.papaya_grows.specs.Given.Executor.IsAt.{Scene, IsAt, slot_of}
-use Rattle.papaya_grows.specs.Given.Executor.Stepping.{StepLeads}
-use Rattle.papaya_grows.specs.Given.Executor.declared.executor.Executor.{Executor}
 use Rattle.papaya_grows.specs.Given.Moments.Whole.{ShowsWhole}
 use Rattle.papaya_grows.specs.Given.Kept.Kept.{ShowsKept}
 use Rattle.papaya_models.specs.CallEvents.{IsNoted}
+use Rattle.papaya_grows.specs.Given.Scenes.Held.{Held, IsAt}
+use Rattle.papaya_grows.specs.Given.Scenes.Scene.{Scene, slot_of}
+use Rattle.papaya_grows.specs.Given.Scenes.Stepping.{StepLeads}
 
 -- each pair that was stored, and each table that ever was one of a map, is among these things
 pub record HaveCome {K V : Type 0} (things : List Thing) (m : Moment K V) : Type 0 where
@@ -55,9 +55,9 @@ module _ (K V : Type 0) where
       → HaveCome (things_in (e ∷ log)) (moment (e ∷ log))
 
 -- And where all that was stored and linked is among these things, what a row hands over that begins with a step of a call is noted as one of them, and it does so under the slot of its caller.
-abbrev pub CallsHandNoted : (K V S : Type 0) (same : K → K → Bool) (hash : K → ℕ) → Type 0
-CallsHandNoted K V S same hash =
-    (name : ℕ → List ℕ) (m : Moment K V) (known : Known) (s : Scene K V) (old new : Executor K V S) → IsAt same hash old s → ShowsWhole same name m known s → ShowsKept name m known s
+abbrev pub CallsHandNoted : (K V : Type 0) (same : K → K → Bool) (hash : ℕ → K → ℕ) → Type 0
+CallsHandNoted K V same hash =
+    (name : ℕ → List ℕ) (m : Moment K V) (known : Known) (s : Scene K V) (old new : Held K V) → IsAt same hash old s → ShowsWhole same name m known s → ShowsKept name m known s
     → (map i : ℕ) (u : UnderWay K V K) (here : s.calls map i ≡ Some u) (said : Progress (Node K V)) (leads : StepLeads same hash i said s old new)
     → (things : List Thing) → HaveCome things m
     → (let to = leads map u here in

@@ -27,11 +27,6 @@ use Rattle.papaya_grows.specs.Given.Schedules.Views.{call_of, map_at, number_of}
 use Rattle.papaya_grows.specs.Given.Raw.Machine.{machine_asked, machine_replied}
 use Rattle.papaya_grows.specs.Given.Callers.Together.{UnderWay}
 use Rattle.papaya_grows.specs.Given.Effects.Known.{Known}
-use Rattle.papaya_grows.specs.Given.Executor.Beginning.{Begins}
-use Rattle.papaya_grows.specs.Given.Executor.Ending.{ending_begun}
-use Rattle.papaya_grows.specs.Given.Executor.IsAt.{Scene, IsAt, HasCall, slot_of}
-use Rattle.papaya_grows.specs.Given.Executor.Replying.{StopLeads, scene_with, unless_stopped}
-use Rattle.papaya_grows.specs.Given.Executor.declared.executor.Executor.{Executor}
 use Rattle.papaya_grows.specs.Given.Finishes.Machines.{machine_of, ToldOfKind}
 use Rattle.papaya_grows.specs.Given.Finishes.Makings.{Beginning, HasMade}
 use Rattle.papaya_grows.specs.Given.Finishes.Maps.{Standing, with_call as with_call_of}
@@ -51,6 +46,11 @@ use Rattle.papaya_legal.specs.Between.{IsBegunRight, IsLike}
 use Rattle.papaya_legal.specs.CallEvents.{IsLegalBut}
 use Rattle.papaya_legal.specs.Carried.{ComesAlone, FollowsOrRows, ShowsCalls, ShowsRun}
 use Rattle.papaya_legal.specs.MapEvents.{InEndEvent, InMakingEvent, InMapEvent}
+use Rattle.papaya_grows.specs.Given.Scenes.Beginning.{Begins}
+use Rattle.papaya_grows.specs.Given.Scenes.Ending.{ending_begun}
+use Rattle.papaya_grows.specs.Given.Scenes.Held.{Held, IsAt}
+use Rattle.papaya_grows.specs.Given.Scenes.Replying.{StopLeads, scene_with, unless_stopped}
+use Rattle.papaya_grows.specs.Given.Scenes.Scene.{HasCall, Scene, slot_of}
 
 -- by such an event calls and maps are as they were: it is none that makes or ends a map, begins a call, tells it a reply, gives it up, or takes its steps, or it is kept out
 abbrev pub LeavesAll : {K V : Type 0} → Event K V → Outcome V → ℕ → Type 0
@@ -118,11 +118,11 @@ module _ (K V : Type 0) (same : K → K → Bool) where
       → (let e : Entry K V = record { event = Choose choice; outcome = Done; steps = steps; effects = [] } in
       ComesRight terms log e → IsLegalBut same terms log e × ShowsRun same name terms (e ∷ log) known (scene_chosen choice s))
 
-module _ (K V S : Type 0) (same : K → K → Bool) (hash : K → ℕ) where
+module _ (K V : Type 0) (same : K → K → Bool) (hash : ℕ → K → ℕ) where
   -- It is legal, and a run goes on with it, that an event begins a call on the map of this name,
   abbrev pub BegunEventsEnd : Type 0
   BegunEventsEnd =
-      (name : ℕ → List ℕ) (terms : Terms) (log : List (Entry K V)) (known : Known) (s : Scene K V) (old new : Executor K V S) → IsAt same hash old s → ShowsRun same name terms log known s
+      (name : ℕ → List ℕ) (terms : Terms) (log : List (Entry K V)) (known : Known) (s : Scene K V) (old new : Held K V) → IsAt same hash old s → ShowsRun same name terms log known s
       → (map i : ℕ) (standing : Standing K) → s.maps map ≡ Some standing → (u : UnderWay K V K) (call : Call K V) (guard : List ℕ) → Begins same standing i u → IsBegunRight same u call
       → NoneNamed name (name i) s → s.world.row i ≡ Rests → IsAt same hash new (scene_with map i u s) → (on : List ℕ) → number_of on (moment log) ≡ Some map → (steps : ℕ)
       → (let e : Entry K V = record { event = Begin (name i) guard on call; outcome = Goes; steps = steps; effects = [] } in
@@ -131,7 +131,7 @@ module _ (K V S : Type 0) (same : K → K → Bool) (hash : K → ℕ) where
   -- that has one say again what it asks, or that it is ready, as each call of its name does and the machine of a walk, and does nothing,
   abbrev pub AgainEventsEnd : Type 0
   AgainEventsEnd =
-      (name : ℕ → List ℕ) (terms : Terms) (log : List (Entry K V)) (known : Known) (s : Scene K V) (x : Executor K V S) → IsAt same hash x s → ShowsRun same name terms log known s
+      (name : ℕ → List ℕ) (terms : Terms) (log : List (Entry K V)) (known : Known) (s : Scene K V) (x : Held K V) → IsAt same hash x s → ShowsRun same name terms log known s
       → (map i : ℕ) (u : UnderWay K V K) → s.calls map i ≡ Some u → (c : CallThere K V) → call_of (name i) (moment log) ≡ Some c → (event : Event K V) → GoesOnBy event (name i)
       → (said : Outcome V) → IsSaidSo said c.stands → (said ≡ Ready → (machine_asked (machine_of u)).1 ≡ true)
       → AllByRecursion (λ d. is_same d.caller (name i) ≡ true → IsSaidSo said d.stands) (moment log).calls
@@ -140,7 +140,7 @@ module _ (K V S : Type 0) (same : K → K → Bool) (hash : K → ℕ) where
   -- that tells a reply to one that asks and takes it,
   abbrev pub ToldEventsEnd : Type 0
   ToldEventsEnd =
-      (name : ℕ → List ℕ) (terms : Terms) (log : List (Entry K V)) (known : Known) (s : Scene K V) (old new : Executor K V S) → IsAt same hash old s → ShowsRun same name terms log known s
+      (name : ℕ → List ℕ) (terms : Terms) (log : List (Entry K V)) (known : Known) (s : Scene K V) (old new : Held K V) → IsAt same hash old s → ShowsRun same name terms log known s
       → (map i : ℕ) (u : UnderWay K V K) → s.calls map i ≡ Some u → (c : CallThere K V) → call_of (name i) (moment log) ≡ Some c → (question : Option ℕ) → c.stands ≡ Asking question
       → (standing : Standing K) → s.maps map ≡ Some standing → (is_told : Reply V) (next : UnderWay K V K)
       → machine_of next ≡ (machine_replied (machine_of u) (as_told is_told)).0 → (machine_replied (machine_of u) (as_told is_told)).1 ≡ Ok tt
@@ -152,7 +152,7 @@ module _ (K V S : Type 0) (same : K → K → Bool) (hash : K → ℕ) where
   -- or that gives a walk up that is ready.
   abbrev pub StoppedEventsEnd : Type 0
   StoppedEventsEnd =
-      (name : ℕ → List ℕ) (terms : Terms) (log : List (Entry K V)) (known : Known) (s : Scene K V) (old new : Executor K V S) → IsAt same hash old s → ShowsRun same name terms log known s
+      (name : ℕ → List ℕ) (terms : Terms) (log : List (Entry K V)) (known : Known) (s : Scene K V) (old new : Held K V) → IsAt same hash old s → ShowsRun same name terms log known s
       → (i : ℕ) → StopLeads same hash i true s old new → (map : ℕ) (u : UnderWay K V K) → s.calls map i ≡ Some u → (steps : ℕ)
       → (let after = record s { calls = with_call_of s.calls map i (unless_stopped true u) } in
       let e : Entry K V = record { event = Stop (name i); outcome = Done; steps = steps; effects = [] } in
@@ -161,7 +161,7 @@ module _ (K V S : Type 0) (same : K → K → Bool) (hash : K → ℕ) where
   -- An event that makes a map, or ends one, is in its midst where that begins, and no call is in the midst of a row if the event comes alone.
   abbrev pub MakingEventsBegin : Type 0
   MakingEventsBegin =
-      (name : ℕ → List ℕ) (terms : Terms) (log : List (Entry K V)) (known : Known) (s : Scene K V) (old new : Executor K V S) → IsAt same hash old s → ShowsRun same name terms log known s
+      (name : ℕ → List ℕ) (terms : Terms) (log : List (Entry K V)) (known : Known) (s : Scene K V) (old new : Held K V) → IsAt same hash old s → ShowsRun same name terms log known s
       → (own : List ℕ) (mode : ResizeMode) (capacity : ℕ) (there : MapThere) → there.number ≡ (moment log).made → (i : ℕ) (b : Beginning K) → s.makers i ≡ None → b.map ≡ there.number
       → (HasMade b.machine.stands → ⊥) → (ComesAlone (MakeMap own mode capacity) log → FollowsModel terms.batch_size terms.roots log known s.world)
       → (let led = record s { makers = with_at s.makers i (Some b) } in
@@ -169,7 +169,7 @@ module _ (K V S : Type 0) (same : K → K → Bool) (hash : K → ℕ) where
 
   abbrev pub EndEventsBegin : Type 0
   EndEventsBegin =
-      (name : ℕ → List ℕ) (terms : Terms) (log : List (Entry K V)) (known : Known) (s : Scene K V) (old new : Executor K V S) → IsAt same hash old s → ShowsRun same name terms log known s
+      (name : ℕ → List ℕ) (terms : Terms) (log : List (Entry K V)) (known : Known) (s : Scene K V) (old new : Held K V) → IsAt same hash old s → ShowsRun same name terms log known s
       → terms.batch_size < 2 ^ 64 → (own : List ℕ) (map i : ℕ) (standing : Standing K) → s.maps map ≡ Some standing → s.enders i ≡ None
       → IsAt same hash new (ending_begun map i standing s) → (ComesAlone (EndMap own) log → FollowsModel terms.batch_size terms.roots log known s.world)
       → InEndEvent same name terms log (EndMap own) map (moment log) known i [] (moment log) known (ending_begun map i standing s)
@@ -177,7 +177,7 @@ module _ (K V S : Type 0) (same : K → K → Bool) (hash : K → ℕ) where
   -- Once one has ended a run goes on, if no map that stands has its name.
   abbrev pub EndEventsEnd : Type 0
   EndEventsEnd =
-      (name : ℕ → List ℕ) (terms : Terms) (log : List (Entry K V)) (map : ℕ) (m : Moment K V) (first known : Known) (before s : Scene K V) (x : Executor K V S) → IsAt same hash x s
+      (name : ℕ → List ℕ) (terms : Terms) (log : List (Entry K V)) (map : ℕ) (m : Moment K V) (first known : Known) (before s : Scene K V) (x : Held K V) → IsAt same hash x s
       → (own : List ℕ) (steps : ℕ) (effects : List Effect) → InMapEvent same name terms log (EndMap own) map (moment log) effects m known s → number_of own (moment log) ≡ Some map
       → ((n : ℕ) (standing : Standing K) (there : MapThere) → s.maps n ≡ Some standing → map_at n m ≡ Some there → is_same there.name own ≡ false)
       → ShowsRun same name terms log first before

@@ -9,10 +9,10 @@ use Rattle.papaya_grows.specs.Given.Schedules.Steps.{DoesFew, MakesSteps, stands
 use Rattle.papaya_grows.specs.Given.Schedules.Terms.{Terms}
 use Rattle.papaya_grows.specs.Given.Schedules.Waiting.{WaitsLawfully}
 use Rattle.papaya_grows.specs.Given.Effects.Known.{Known}
-use Rattle.papaya_grows.specs.Given.Executor.IsAt.{Scene}
 use Rattle.papaya_grows.specs.Given.Finds.Little.{ReclaimsAll, ShowsNobody}
 use Rattle.papaya_legal.specs.CallEvents.{IsLegalBut}
 use Rattle.papaya_legal.specs.Carried.{ShowsRun}
+use Rattle.papaya_grows.specs.Given.Scenes.Scene.{Scene}
 
 -- The promise: an event that comes to what is right, makes its steps, waits where it may, and keeps these promises, is legal, where the moment after it shows the scene, all of which is back if it reclaims all, and in
 -- which nobody is under way where nobody is there.

@@ -1,5 +1,5 @@
 -- Events of registrations and guards, and those that reclaim everything: in the midst of one, and at its end.
-use Rattle.std.specs.Prelude.{◌≡◌, ◌<◌, ◌^◌, ℕ, Bool, true, false, List, [], ◌∷◌, ◌++◌, Some, None}
+use Rattle.std.specs.Prelude.{◌≡◌, ◌<◌, ◌^◌, ℕ, Bool, true, false, List, [], ◌∷◌, ◌++◌, None}
 use Rattle.std.specs.List.{list_all}
 use Rattle.papaya_grows.specs.Given.Seize.World.{World, Rests, Begin, Step}
 use Rattle.papaya_grows.specs.Given.Tables.declared.node.Node.{Node}
@@ -18,18 +18,12 @@ use Rattle.papaya_grows.specs.Given.Schedules.Terms.{Terms}
 use Rattle.papaya_grows.specs.Given.Effects.Effects.{effects_of, known_after}
 use Rattle.papaya_grows.specs.Given.Effects.Known.{Known}
 use Rattle.papaya_grows.specs.Given.Effects.declared.acting.Acting.TheVariants as acts
-use Rattle.papaya_grows.specs.Given.Executor.IsAt.{Scene, IsAt, slot_of, work_of}
-use Rattle.papaya_grows.specs.Given.Executor.OnSlots.{MayBegin, RowBegins, RowLeads}
-use Rattle.papaya_grows.specs.Given.Executor.Rows.{request_of}
-use Rattle.papaya_grows.specs.Given.Executor.declared.executor.Executor.{Executor}
-use Rattle.papaya_grows.specs.Given.Executor.declared.row.RowTold.{RowTold}
-use Rattle.papaya_grows.specs.Given.Executor.declared.row.SlotCall.{SlotCall}
-use Rattle.papaya_grows.specs.Given.Executor.declared.row.SlotRow.{SlotRow}
-use Rattle.papaya_grows.specs.Given.Executor.declared.worker.Work.TheVariants.{OnSlot}
+use Rattle.papaya_grows.specs.Given.Scenes.declared.row.RowTold.{RowTold}
+use Rattle.papaya_grows.specs.Given.Scenes.declared.row.SlotCall.{SlotCall}
+use Rattle.papaya_grows.specs.Given.Scenes.declared.row.SlotRow.{SlotRow}
 use Rattle.papaya_grows.specs.Given.Others.Rows.{scene_then}
-use Rattle.papaya_promises.specs.Protected.{EndsInside, InMidst, is_of_slots}
+use Rattle.papaya_promises.specs.Protected.{EndsInside, InMidst, is_of_slots, there_in}
 use Rattle.papaya_promises.specs.Others.{SparesGuards}
-use Rattle.papaya_promises.specs.Protected.{there_in}
 use Rattle.papaya_promises.specs.Reading.{ShowsReading}
 use Rattle.papaya_promises.specs.Sheltered.{SectionsHold}
 use Rattle.papaya_models.specs.Follows.{FollowsModel}
@@ -38,6 +32,10 @@ use Rattle.papaya_models.specs.OnSlots.{FollowsInRow, IsRowFor}
 use Rattle.papaya_grows.specs.Given.Finds.Little.{ReclaimsAll}
 use Rattle.papaya_legal.specs.CallEvents.{IsLegalBut}
 use Rattle.papaya_legal.specs.Carried.{ComesAlone, ShowsCalls, ShowsRun}
+use Rattle.papaya_grows.specs.Given.Scenes.Held.{Held, IsAt}
+use Rattle.papaya_grows.specs.Given.Scenes.OnSlots.{RowBegins, RowLeads}
+use Rattle.papaya_grows.specs.Given.Scenes.Rows.{request_of}
+use Rattle.papaya_grows.specs.Given.Scenes.Scene.{IsOnSlot, Scene, slot_of}
 
 module _ {K V : Type 0} (same : K → K → Bool) (name : ℕ → List ℕ) (terms : Terms) (log : List (Entry K V)) (event : Event K V) (i : ℕ) (called : SlotCall) (first : Known) (began : World (Node K V)) where
   -- In the midst of an event whose work is a row of caller i on its slot, which began in that world, and has done this.
@@ -51,25 +49,25 @@ module _ {K V : Type 0} (same : K → K → Bool) (name : ℕ → List ℕ) (ter
     pub protects : InMidst event done m known s.world
     pub follows : ComesAlone event log → FollowsInRow terms.batch_size terms.roots (things_in log) (sets_in terms.batch_size log) first i (request_of (slot_of i) called) began done known s.world
 
-module _ (K V S : Type 0) (same : K → K → Bool) (hash : K → ℕ) where
+module _ (K V : Type 0) (same : K → K → Bool) (hash : ℕ → K → ℕ) where
   -- The promises: so it is where its row begins, on a slot that has none of the guards whose sections the event does not end, and where no call is in the midst of a row if the event comes alone;
   abbrev pub SlotEventsBegin : Type 0
   SlotEventsBegin =
-      (name : ℕ → List ℕ) (terms : Terms) (log : List (Entry K V)) (known : Known) (s : Scene K V) (old new : Executor K V S) → IsAt same hash old s → old.batch_size ≡ terms.batch_size
+      (name : ℕ → List ℕ) (terms : Terms) (log : List (Entry K V)) (known : Known) (s : Scene K V) (old new : Held K V) → IsAt same hash old s → old.batch_size ≡ terms.batch_size
       → ShowsRun same name terms log known s
-      → (event : Event K V) → is_of_slots event ≡ true → (i : ℕ) (called : SlotCall) (may : MayBegin old (slot_of i) called) (leads : RowBegins same hash called i s old new)
+      → (event : Event K V) → is_of_slots event ≡ true → (i : ℕ) (called : SlotCall) (leads : RowBegins same hash called i s old new)
       → SparesGuards called (slot_of i) (there_in event (moment log).there) → (ComesAlone event log → FollowsModel terms.batch_size terms.roots log known s.world)
-      → InSlotEvent same name terms log event i called known s.world [] (moment log) known (scene_then same hash (Begin i (request_of (slot_of i) called)) s old new (leads may).3)
+      → InSlotEvent same name terms log event i called known s.world [] (moment log) known (scene_then same hash (Begin i (request_of (slot_of i) called)) s old new leads.2)
 
   -- after each step of the row,
   abbrev pub SlotEventsGoOn : Type 0
   SlotEventsGoOn =
       (name : ℕ → List ℕ) (terms : Terms) (log : List (Entry K V)) (event : Event K V) (i : ℕ) (called : SlotCall) (first : Known) (began : World (Node K V)) (done : List Effect) (m : Moment K V) (known : Known) (s : Scene K V)
-      → InSlotEvent same name terms log event i called first began done m known s → (old new : Executor K V S) → IsAt same hash old s → old.batch_size ≡ terms.batch_size
-      → (said : RowTold (Node K V)) (leads : RowLeads same hash i said s old new) (row : SlotRow) (here : work_of old i ≡ Some (OnSlot row))
-      → (let effects = effects_of acts.Row known new.memory.changed in
-      InSlotEvent same name terms log event i called first began (done ++ effects) (with_effects None None effects m) (known_after acts.Row new.memory.changed known)
-      (scene_then same hash (Step i) s old new (leads row here).4))
+      → InSlotEvent same name terms log event i called first began done m known s → (old new : Held K V) → IsAt same hash old s → old.batch_size ≡ terms.batch_size
+      → (said : RowTold (Node K V)) (leads : RowLeads same hash i said s old new) (row : SlotRow) (here : IsOnSlot s i row)
+      → (let effects = effects_of acts.Row known new.changed in
+      InSlotEvent same name terms log event i called first began (done ++ effects) (with_effects None None effects m) (known_after acts.Row new.changed known)
+      (scene_then same hash (Step i) s old new (leads row here).2))
 
 module _ (K V : Type 0) (same : K → K → Bool) where
   -- and once the row has ended the event keeps its promises, if what it did it may do, and finds what it must, if it is that row to the waiting sets, and was not kept out; the sections of guards hold

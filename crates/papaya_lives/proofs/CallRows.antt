@@ -53,9 +53,6 @@ use Rattle.papaya_settles.specs.Given.Effects.Known.{Known}
 use Rattle.papaya_settles.specs.Given.Effects.declared.acting.Acting.TheVariants.{Call}
 use Rattle.papaya_settles.specs.Given.Effects.declared.role.Role.{Role}
 use Rattle.papaya_settles.specs.Given.Effects.declared.role.Role.TheVariants as role
-use Rattle.papaya_settles.specs.Given.Executor.IsAt.{Scene, IsAt, slot_of}
-use Rattle.papaya_settles.specs.Given.Executor.Stepping.{StepLeads}
-use Rattle.papaya_settles.specs.Given.Executor.declared.executor.Executor.{Executor}
 use Rattle.papaya_settles.specs.Given.Finishes.Machines.{machine_of}
 use Rattle.papaya_settles.specs.Given.Follows.Blocks.{HasRole}
 use Rattle.papaya_settles.proofs.Given.Follows.Alike.{AllCalm, put_here, put_elsewhere}
@@ -83,6 +80,9 @@ use Rattle.papaya_lives.proofs.RetiredCalls.{to_retire}
 use Rattle.papaya_lives.proofs.Retires.{row_life}
 use Rattle.papaya_lives.proofs.Users.{cut_left, left_lives}
 use Rattle.papaya_lives.proofs.Worlds.{Kept, runs_kept, start_kept, has_it}
+use Rattle.papaya_settles.specs.Given.Scenes.Held.{Held, IsAt}
+use Rattle.papaya_settles.specs.Given.Scenes.Scene.{Scene, slot_of}
+use Rattle.papaya_settles.specs.Given.Scenes.Stepping.{StepLeads}
 
 -- a row that has a block to retire, and reclaims nothing, has none to take
 module _ (n i : ℕ) (f : View) (m : State) (x : Extra) (shows : Shows n f m x) where
@@ -160,7 +160,7 @@ module _ {T : Type 0} (defers : T → Option ℕ) (size i : ℕ) (w v w3 : World
       by : Steps' defers i (Defers s (deferring (link_to b) (Word t h.0))) v w3 → w3.memory ≡ w.memory
       by (m2, end, (out, took, ends), is) = ap (λ (z : World T). z.memory) is ∙ defers_memory s m2 end ∙ took.1 ∙ ap (λ (z : World T). z.memory) h.7
 
-module _ {K V S : Type 0} (same : K → K → Bool) (hash : K → ℕ) (name : ℕ → List ℕ) (m : Moment K V) (known : Known) (s : Scene K V) (old new : Executor K V S) (at : IsAt same hash old s)
+module _ {K V : Type 0} (same : K → K → Bool) (hash : ℕ → K → ℕ) (name : ℕ → List ℕ) (m : Moment K V) (known : Known) (s : Scene K V) (old new : Held K V) (at : IsAt same hash old s)
     (whole : ShowsWhole same name m known s) (entries : ShowsEntries s) (owning : OwnAreMade known s.world) (waiting : ShowsWaiting m known s.world) (map i : ℕ) (u : UnderWay K V K)
     (here_is : s.calls map i ≡ Some u) (said : CallTold (Node K V)) (leads : StepLeads same hash i said s old new)
     (other : OfNoRow same hash name m known s old new at whole.all.shown map i u here_is said leads u (leads map u here_is).4.did → ⊥) where
@@ -171,13 +171,13 @@ module _ {K V S : Type 0} (same : K → K → Bool) (hash : K → ℕ) (name : �
   w = s.world
 
   abbrev effects : List Effect
-  effects = effects_of (Call i map) known new.memory.changed
+  effects = effects_of (Call i map) known new.changed
 
   abbrev v : Moment K V
   v = with_effects (Some (name i)) (Some map) effects m
 
   abbrev known2 : Known
-  known2 = known_after (Call i map) new.memory.changed known
+  known2 = known_after (Call i map) new.changed known
 
   abbrev size : ℕ
   size = to.0.setting.batch_size
@@ -192,22 +192,22 @@ module _ {K V S : Type 0} (same : K → K → Bool) (hash : K → ℕ) (name : �
   kept = (let came : CameAbout size w = each.ground.came in runs_kept deferred_word size came.1 _ w (start_kept deferred_word size came.0) came.2)
 
   tells : RowTells i map known effects (due_in_row (machine_of u)) (due_in_row to.1)
-  tells = rows_tell_due K V S same hash name m known s old new at whole.all.shown whole.all.rows entries owning map i u here_is said leads other
+  tells = rows_tell_due K V same hash name m known s old new at whole.all.shown whole.all.rows entries owning map i u here_is said leads other
 
   pub role_kept : (b : ℕ) (r : Role) → known.roles b ≡ r → IsLasting r → known2.roles b ≡ r
   role_kept b r e its =
-      let theirs = rows_hand_theirs K V S same hash name m known s old new at whole.all map i u here_is said leads other in
+      let theirs = rows_hand_theirs K V same hash name m known s old new at whole.all map i u here_is said leads other in
       (row_step_shown same hash name m known s old new at whole.all.shown map i u here_is said leads other theirs.1 theirs.0).keeps b (subst IsLasting (sym e) its) ∙ e
 
   -- blocks of pairs and tables are there after it
   pair_after : (b n : ℕ) → known.roles b ≡ role.Pair n → (value : Node K V) × (value_at to.4.w2.memory b ≡ Some value)
   pair_after b n e =
-      let theirs = rows_hand_theirs K V S same hash name m known s old new at whole.all map i u here_is said leads other in
+      let theirs = rows_hand_theirs K V same hash name m known s old new at whole.all map i u here_is said leads other in
       (let has = subst (HasRole to.4.w2 v.stored b) (role_kept b (role.Pair n) e tt) (theirs.2.shown.blocks.roles b) in (_, has.3))
 
   table_after : (b len : ℕ) (t : Table) → known.roles b ≡ role.Table t len → (value : Node K V) × (value_at to.4.w2.memory b ≡ Some value)
   table_after b len t e =
-      let theirs = rows_hand_theirs K V S same hash name m known s old new at whole.all map i u here_is said leads other in
+      let theirs = rows_hand_theirs K V same hash name m known s old new at whole.all map i u here_is said leads other in
       (let has = subst (HasRole to.4.w2 v.stored b) (role_kept b (role.Table t len) e tt) (theirs.2.shown.blocks.roles b) in (_, has.1))
 
   abbrev Waits : World (Node K V) → ℕ → ℕ → Type 0
@@ -286,7 +286,7 @@ module _ {K V S : Type 0} (same : K → K → Bool) (hash : K → ℕ) (name : �
     looked (Flush slot) begun over h step = absurd over
 
     -- what it retires did not wait
-    not_waiting : w3.memory ≡ new.memory.memory → IsOneStep to.0.setting i w w3 → (n k : ℕ) (t : Table) (l : LiesBehind known w n t) → IsDue l.pair (due_in_row (machine_of u)) → effects ≡ Retired (APair k) ∷ [] → ⊥
+    not_waiting : w3.memory ≡ new.memory → IsOneStep to.0.setting i w w3 → (n k : ℕ) (t : Table) (l : LiesBehind known w n t) → IsDue l.pair (due_in_row (machine_of u)) → effects ≡ Retired (APair k) ∷ [] → ⊥
     not_waiting memory (inr (request, begun, over, begin, step)) n k t l due alone =
         (let calm = (stayed_calm same hash m known s old new at name whole.all.shown map i to.0 to.2 (name i) (made_so same hash name m known s old new at whole.all.shown map i u here_is said leads)
         (is_inside same hash name m known s old new at whole.all.shown map i u here_is said leads) (sym memory ∙ looked request begun over begin.1 step)).calm in
@@ -321,7 +321,7 @@ module _ {K V S : Type 0} (same : K → K → Bool) (hash : K → ℕ) (name : �
         by (inr both) = left_pending (w.hand l.pair) (kept.good.state.life l.pair) i both.0 (kept.good.hands l.pair) (pending (left_lives (w.hand l.pair) (kept.good.state.life l.pair) both.0 (kept.good.hands l.pair)))
 
     -- so it is at its place still
-    place_on : w3.memory ≡ new.memory.memory → IsOneStep to.0.setting i w w3 → (n : ℕ) (t : Table) → LiesBehind known w n t → m.place n ≡ Behind → v.place n ≡ Behind
+    place_on : w3.memory ≡ new.memory → IsOneStep to.0.setting i w w3 → (n : ℕ) (t : Table) → LiesBehind known w n t → m.place n ≡ Behind → v.place n ≡ Behind
     place_on memory step n t l was = by tells
       where
         then_at : List Effect → Place
@@ -361,11 +361,11 @@ module _ {K V S : Type 0} (same : K → K → Bool) (hash : K → ℕ) (name : �
     abbrev WaitsThen : ℕ → Table → Type 0
     WaitsThen n t = (v.place n ≡ Behind) × LiesBehind known2 to.4.w2 n t
 
-    on_still : w3.memory ≡ new.memory.memory → IsOneStep to.0.setting i w w3 → EachWaits WaitsThen m.deferred
+    on_still : w3.memory ≡ new.memory → IsOneStep to.0.setting i w w3 → EachWaits WaitsThen m.deferred
     on_still memory step = each_on Waited WaitsThen (λ n t p. (place_on memory step n t p.1 p.0, lies_on step n t p.1)) m.deferred waiting
 
     -- the row is under way if it puts a pair behind a table
-    pub under_way : w3.memory ≡ new.memory.memory → IsOneStep to.0.setting i w w3 → (k : ℕ) (t : Table) → effects ≡ Deferred k t ∷ [] → w.row i ≡ Rests → ⊥
+    pub under_way : w3.memory ≡ new.memory → IsOneStep to.0.setting i w w3 → (k : ℕ) (t : Table) → effects ≡ Deferred k t ∷ [] → w.row i ≡ Rests → ⊥
     under_way memory (inr (request, begun, over, begin, step)) k t alone rests =
         (let calm = (stayed_calm same hash m known s old new at name whole.all.shown map i to.0 to.2 (name i) (made_so same hash name m known s old new at whole.all.shown map i u here_is said leads)
         (is_inside same hash name m known s old new at whole.all.shown map i u here_is said leads) (sym memory ∙ looked request begun over begin.1 step)).calm in
@@ -373,19 +373,19 @@ module _ {K V S : Type 0} (same : K → K → Bool) (hash : K → ℕ) (name : �
     under_way memory (inl step) k t alone rests = subst (λ (r : Row). Steps' deferred_word i r w w3) rests step
 
     -- and it is putting its block there,
-    pub puts_it : w3.memory ≡ new.memory.memory → IsOneStep to.0.setting i w w3 → (word block : ℕ) (place : At) (k : ℕ) (t : Table) → due_in_row (machine_of u) ≡ Some (ToPut word place) → IsWordOf block place
+    pub puts_it : w3.memory ≡ new.memory → IsOneStep to.0.setting i w w3 → (word block : ℕ) (place : At) (k : ℕ) (t : Table) → due_in_row (machine_of u) ≡ Some (ToPut word place) → IsWordOf block place
         → effects ≡ Deferred k t ∷ [] → IsPutting (block_in word) block (w.row i)
     puts_it memory step word block place k t due its alone =
         let row = to_put same to.0.hash to.0.setting w to.0.chart (seen_by to.0.blocks (to.0.sights (slot_of i))) i word place u (each.stand i u here_is) (under_way memory step k t alone) due in
         is_putting (LAST_SLOT + 1) i (view deferred_word w.memory) kept.good.state kept.good.extra word block place its (length w.memory.slots) (w.row i) (kept.good.rows i) row
 
     -- which waits there by the log,
-    waits_put : w3.memory ≡ new.memory.memory → IsOneStep to.0.setting i w w3 → (word block : ℕ) (place : At) (k : ℕ) (t : Table) → due_in_row (machine_of u) ≡ Some (ToPut word place) → IsWordOf block place
+    waits_put : w3.memory ≡ new.memory → IsOneStep to.0.setting i w w3 → (word block : ℕ) (place : At) (k : ℕ) (t : Table) → due_in_row (machine_of u) ≡ Some (ToPut word place) → IsWordOf block place
         → effects ≡ Deferred k t ∷ [] → waits_behind (block_in word) w.log ≡ Some block
     waits_put memory step word block place k t due its alone = kept.putting i (block_in word) block (puts_it memory step word block place k t due its alone)
 
     -- behind no other one
-    put_once : w3.memory ≡ new.memory.memory → IsOneStep to.0.setting i w w3 → (word block : ℕ) (place : At) (k len : ℕ) (t : Table) → due_in_row (machine_of u) ≡ Some (ToPut word place) → IsWordOf block place
+    put_once : w3.memory ≡ new.memory → IsOneStep to.0.setting i w w3 → (word block : ℕ) (place : At) (k len : ℕ) (t : Table) → due_in_row (machine_of u) ≡ Some (ToPut word place) → IsWordOf block place
         → known.roles block ≡ role.Table t len → named known word ≡ role.Pair k → effects ≡ Deferred k t ∷ [] → (x : Table) → is_among k (behind x m.deferred) ≡ true → same_table t x ≡ true
     put_once memory step word block place k len t due its is_table is_pair alone x among = by b.waits
       where
@@ -411,7 +411,7 @@ module _ {K V S : Type 0} (same : K → K → Bool) (hash : K → ℕ) (name : �
         by (inr both) = absurd (subst IsLeft (ap w.hand same_pair ∙ has_it deferred_word size w kept (block_in word) block puts) both.0)
 
     -- and lies behind it
-    lies_new : w3.memory ≡ new.memory.memory → IsOneStep to.0.setting i w w3 → (word block : ℕ) (place : At) (k len : ℕ) (t : Table) → due_in_row (machine_of u) ≡ Some (ToPut word place) → IsWordOf block place
+    lies_new : w3.memory ≡ new.memory → IsOneStep to.0.setting i w w3 → (word block : ℕ) (place : At) (k len : ℕ) (t : Table) → due_in_row (machine_of u) ≡ Some (ToPut word place) → IsWordOf block place
         → known.roles block ≡ role.Table t len → named known word ≡ role.Pair k → effects ≡ Deferred k t ∷ [] → LiesBehind known2 to.4.w2 k t
     lies_new memory step word block place k len t due its is_table is_pair alone = lies_on step k t (record {
       pair = block_in word;
@@ -433,7 +433,7 @@ module _ {K V S : Type 0} (same : K → K → Bool) (hash : K → ℕ) (name : �
     retired_list (role.OwnTable turn shape) = refl
     retired_list (role.Counter of) = refl
 
-    waiting_on : w3.memory ≡ new.memory.memory → IsOneStep to.0.setting i w w3 → ShowsWaiting v known2 to.4.w2
+    waiting_on : w3.memory ≡ new.memory → IsOneStep to.0.setting i w w3 → ShowsWaiting v known2 to.4.w2
     waiting_on memory step = by tells
       where
         still : v.deferred ≡ m.deferred → ShowsWaiting v known2 to.4.w2
@@ -458,7 +458,7 @@ module _ {K V S : Type 0} (same : K → K → Bool) (hash : K → ℕ) (name : �
         by (TellsDeferred word block place t len due its gone noted are) = put_on word block place t len (named known word) refl due its noted are
 
     -- each pair waits behind one table still
-    once_on : w3.memory ≡ new.memory.memory → IsOneStep to.0.setting i w w3 → WaitsOnce m.deferred → WaitsOnce v.deferred
+    once_on : w3.memory ≡ new.memory → IsOneStep to.0.setting i w w3 → WaitsOnce m.deferred → WaitsOnce v.deferred
     once_on memory step once = by tells
       where
         still : v.deferred ≡ m.deferred → WaitsOnce v.deferred
@@ -492,6 +492,6 @@ module _ {K V S : Type 0} (same : K → K → Bool) (hash : K → ℕ) (name : �
       by (OverAll x) (p2, end, machine_is, told_is, inl step) none = absurd (none tt)
       by (OverAll x) (p2, end, machine_is, told_is, inr (row, stayed)) none = (waiting_on row.step.w2 stayed.0 row.step.memory row.step.happened, once_on row.step.w2 stayed.0 row.step.memory row.step.happened)
 
-pub call_rows_keep_waiting : (K V S : Type 0) (same : K → K → Bool) (hash : K → ℕ) → CallRowsKeepWaiting K V S same hash
-call_rows_keep_waiting K V S same hash name m known s old new at whole entries owning waiting map i u here told leads other =
+pub call_rows_keep_waiting : (K V : Type 0) (same : K → K → Bool) (hash : ℕ → K → ℕ) → CallRowsKeepWaiting K V same hash
+call_rows_keep_waiting K V same hash name m known s old new at whole entries owning waiting map i u here told leads other =
     (row_waits_on same hash name m known s old new at whole entries owning waiting map i u here told leads other).0

@@ -17,9 +17,6 @@ use Rattle.papaya_settles.specs.Given.Effects.Known.{Known}
 use Rattle.papaya_settles.specs.Given.Effects.declared.acting.Acting.TheVariants.{Call}
 use Rattle.papaya_settles.specs.Given.Effects.declared.role.Role.{Role}
 use Rattle.papaya_settles.specs.Given.Effects.declared.role.Role.TheVariants as role
-use Rattle.papaya_settles.specs.Given.Executor.IsAt.{Scene, IsAt}
-use Rattle.papaya_settles.specs.Given.Executor.Stepping.{StepLeads}
-use Rattle.papaya_settles.specs.Given.Executor.declared.executor.Executor.{Executor}
 use Rattle.papaya_settles.specs.Given.Follows.Blocks.{HasRole}
 use Rattle.papaya_settles.specs.Given.Follows.Finds.{FindsMap}
 use Rattle.papaya_settles.proofs.Given.Follows.Alike.{put_elsewhere}
@@ -34,6 +31,9 @@ use Rattle.papaya_settles.specs.Given.Moments.Whole.{ShowsWhole}
 use Rattle.papaya_lives.specs.Behind.{LiesBehind, ShowsWaiting}
 use Rattle.papaya_lives.specs.Steps.{CallsKeepWaiting}
 use Rattle.papaya_lives.proofs.Users.{users_keep_waiting}
+use Rattle.papaya_settles.specs.Given.Scenes.Held.{Held, IsAt}
+use Rattle.papaya_settles.specs.Given.Scenes.Scene.{Scene}
+use Rattle.papaya_settles.specs.Given.Scenes.Stepping.{StepLeads}
 
 module _ {K V : Type 0} (map : ℕ) (caller : Option (List ℕ)) (acted : Option ℕ) where
   -- the same pairs wait
@@ -86,20 +86,20 @@ module _ {K V : Type 0} (map : ℕ) (caller : Option (List ℕ)) (acted : Option
   still_behind (f ∷ effects) m hands finds n l is =
       still_behind effects (with_effect caller acted f m) hands.1 finds.1 n (let more = stored_grows caller acted (f ∷ []) m in omega (arith, l, more)) (behind_one f m hands.0 finds.0 n l is)
 
-module _ {K V S : Type 0} (same : K → K → Bool) (hash : K → ℕ) (name : ℕ → List ℕ) (m : Moment K V) (known : Known) (s : Scene K V) (old new : Executor K V S) (at : IsAt same hash old s)
+module _ {K V : Type 0} (same : K → K → Bool) (hash : ℕ → K → ℕ) (name : ℕ → List ℕ) (m : Moment K V) (known : Known) (s : Scene K V) (old new : Held K V) (at : IsAt same hash old s)
     (whole : ShowsWhole same name m known s) (waiting : ShowsWaiting m known s.world) (map i : ℕ) (u : UnderWay K V K) (here : s.calls map i ≡ Some u) (told : Progress (Node K V))
     (leads : StepLeads same hash i told s old new) where
   abbrev to : WentTo same hash name m known s old new at whole.all.shown map i u here told leads
   to = went_to same hash name m known s old new at whole.all.shown map i u here told leads
 
   abbrev effects : List Effect
-  effects = effects_of (Call i map) known new.memory.changed
+  effects = effects_of (Call i map) known new.changed
 
   abbrev v : Moment K V
   v = with_effects (Some (name i)) (Some map) effects m
 
   abbrev known2 : Known
-  known2 = known_after (Call i map) new.memory.changed known
+  known2 = known_after (Call i map) new.changed known
 
   module _ (hands : AllHandNothing effects) (finds : AtEachEffect (FindsMap map) (Some (name i)) (Some map) effects m) (keeps : KeepsRoles known known2) where
     kept : (x : ℕ) (r : Role) → known.roles x ≡ r → IsLasting r → known2.roles x ≡ r
@@ -128,18 +128,18 @@ module _ {K V S : Type 0} (same : K → K → Bool) (hash : K → ℕ) (name : �
     by_did (OverAll x) (p2, end, machine_is, told_is, inr (row, stayed)) own = absurd own
 
 -- the same pairs wait after it
-pub calls_keep_list : {K V S : Type 0} (same : K → K → Bool) (hash : K → ℕ) (name : ℕ → List ℕ) (m : Moment K V) (known : Known) (s : Scene K V) (old new : Executor K V S)
+pub calls_keep_list : {K V : Type 0} (same : K → K → Bool) (hash : ℕ → K → ℕ) (name : ℕ → List ℕ) (m : Moment K V) (known : Known) (s : Scene K V) (old new : Held K V)
     (at : IsAt same hash old s) (whole : ShowsWhole same name m known s) (map i : ℕ) (u : UnderWay K V K) (here : s.calls map i ≡ Some u) (told : Progress (Node K V))
     (leads : StepLeads same hash i told s old new)
     → OfNoRow same hash name m known s old new at whole.all.shown map i u here told leads u (leads map u here).4.did
-    → (with_effects (Some (name i)) (Some map) (effects_of (Call i map) known new.memory.changed) m).deferred ≡ m.deferred
+    → (with_effects (Some (name i)) (Some map) (effects_of (Call i map) known new.changed) m).deferred ≡ m.deferred
 calls_keep_list same hash name m known s old new at whole map i u here told leads own =
     let hands = hands_nothing same hash name m known s old new at whole.all.shown map i u here told leads own in
-    same_deferred map (Some (name i)) (Some map) (effects_of (Call i map) known new.memory.changed) m hands
+    same_deferred map (Some (name i)) (Some map) (effects_of (Call i map) known new.changed) m hands
 
-pub calls_keep_waiting : (K V S : Type 0) (same : K → K → Bool) (hash : K → ℕ) → CallsKeepWaiting K V S same hash
-calls_keep_waiting K V S same hash name m known s old new at whole waiting map i u here told leads own =
+pub calls_keep_waiting : (K V : Type 0) (same : K → K → Bool) (hash : ℕ → K → ℕ) → CallsKeepWaiting K V same hash
+calls_keep_waiting K V same hash name m known s old new at whole waiting map i u here told leads own =
     let hands = hands_nothing same hash name m known s old new at whole.all.shown map i u here told leads own in
-    let stores = (calls_store_theirs K V S same hash name m known s old new at whole.all map i u here told leads own).0 in
+    let stores = (calls_store_theirs K V same hash name m known s old new at whole.all map i u here told leads own).0 in
     let led = step_shown same hash name m known s old new at whole.all.shown map i u here told leads own stores in
     by_did same hash name m known s old new at whole waiting map i u here told leads hands led.0 led.1.keeps u (leads map u here).4.did own

@@ -34,11 +34,11 @@ module _ {K V : Type 0} (map : ℕ) where
   took_waits m (role.Table t len) waits = (waits (Taken t), tt)
   took_waits m (role.Counter of) waits = tt
 
-pub endings_find_waiting : (K V S : Type 0) (same : K → K → Bool) (hash : K → ℕ) → EndingsFindWaiting K V S same hash
-endings_find_waiting K V S same hash name m known s old new at whole waiting i told leads f here map not_there =
+pub endings_find_waiting : (K V : Type 0) (same : K → K → Bool) (hash : ℕ → K → ℕ) → EndingsFindWaiting K V same hash
+endings_find_waiting K V same hash name m known s old new at whole waiting i told leads f here map not_there =
     let to = leads f here in
-    elim (says same hash name m known s old new at whole i f here to.0 told to.1 to.2 map not_there to.3) as (λ _. AtEachEffect WaitsOn None (Some map) (effects_of (Ending map) known new.memory.changed) m) [
-      | inl it ↦ all_calm_wait map (effects_of (Ending map) known new.memory.changed) m it.0
+    elim (says same hash name m known s old new at whole i f here to.0 told to.1 to.2 map not_there to.3) as (λ _. AtEachEffect WaitsOn None (Some map) (effects_of (Ending map) known new.changed) m) [
+      | inl it ↦ all_calm_wait map (effects_of (Ending map) known new.changed) m it.0
       | inr it ↦ subst (λ (x : Changed). AtEachEffect WaitsOn None (Some map) (effects_of (Ending map) known x) m) (sym it.1)
           (took_waits map m (known.roles it.0) (λ f. (effects_find_waiting K V m known s waiting f).1))
     ]

@@ -38,9 +38,6 @@ use Rattle.papaya_settles.specs.Given.Effects.Known.{Known}
 use Rattle.papaya_settles.specs.Given.Effects.declared.acting.Acting.TheVariants as acts
 use Rattle.papaya_settles.specs.Given.Effects.declared.role.Role.{Role}
 use Rattle.papaya_settles.specs.Given.Effects.declared.role.Role.TheVariants as role
-use Rattle.papaya_settles.specs.Given.Executor.IsAt.{Scene, HasCall, IsAt, slot_of}
-use Rattle.papaya_settles.specs.Given.Executor.Stepping.{StepLeads, scene_after}
-use Rattle.papaya_settles.specs.Given.Executor.declared.executor.Executor.{Executor}
 use Rattle.papaya_settles.specs.Given.Finishes.Machines.{machine_of}
 use Rattle.papaya_settles.specs.Given.Finishes.Maps.{Standing}
 use Rattle.papaya_settles.specs.Given.Follows.Blocks.{HasRole}
@@ -75,8 +72,11 @@ use Rattle.papaya_lives.proofs.Lives.{WaitsIn, OnWay, OnList, TakenOver}
 use Rattle.papaya_lives.proofs.RetiredCalls.{goes_on, its_call, stay, to_retire, users_handed}
 use Rattle.papaya_lives.proofs.Retires.{begun_due, handed_before, row_life}
 use Rattle.papaya_lives.proofs.Worlds.{Kept, waiting_hand}
+use Rattle.papaya_settles.specs.Given.Scenes.Held.{Held, IsAt}
+use Rattle.papaya_settles.specs.Given.Scenes.Scene.{HasCall, Scene, slot_of}
+use Rattle.papaya_settles.specs.Given.Scenes.Stepping.{StepLeads, scene_after}
 
-module _ {K V S : Type 0} (same : K → K → Bool) (hash : K → ℕ) (name : ℕ → List ℕ) (m : Moment K V) (known : Known) (s : Scene K V) (old new : Executor K V S) (at : IsAt same hash old s)
+module _ {K V : Type 0} (same : K → K → Bool) (hash : ℕ → K → ℕ) (name : ℕ → List ℕ) (m : Moment K V) (known : Known) (s : Scene K V) (old new : Held K V) (at : IsAt same hash old s)
     (whole : ShowsWhole same name m known s) (entries : ShowsEntries s) (owning : OwnAreMade known s.world) (waiting : ShowsWaiting m known s.world) (retired : ShowsRetired m known s)
     (shows : ShowsHanded m known s) (map i : ℕ) (u : UnderWay K V K) (here : s.calls map i ≡ Some u) (said : CallTold (Node K V)) (leads : StepLeads same hash i said s old new) where
   abbrev to : WentTo same hash name m known s old new at whole.all.shown map i u here said leads
@@ -86,7 +86,7 @@ module _ {K V S : Type 0} (same : K → K → Bool) (hash : K → ℕ) (name : �
   w = s.world
 
   abbrev told : Changed
-  told = new.memory.changed
+  told = new.changed
 
   abbrev effects : List Effect
   effects = effects_of (acts.Call i map) known told
@@ -102,7 +102,7 @@ module _ {K V S : Type 0} (same : K → K → Bool) (hash : K → ℕ) (name : �
   known2 = known_after (acts.Call i map) told known
 
   abbrev s2 : Scene K V
-  s2 = scene_after same hash s old new map i to.0 u to.1 said to.4
+  s2 = scene_after same s old new map i to.0 u to.1 said to.4
 
   abbrev size : ℕ
   size = to.0.setting.batch_size
@@ -120,7 +120,7 @@ module _ {K V S : Type 0} (same : K → K → Bool) (hash : K → ℕ) (name : �
   listing = came_listed size w came
 
   whole2 : ShowsWhole same name v known2 s2
-  whole2 = calls_keep_whole K V S same hash name m known s old new at whole map i u here said leads
+  whole2 = calls_keep_whole K V same hash name m known s old new at whole map i u here said leads
 
   -- a pair that the collector has was one
   was_pair : (b n : ℕ) → known2.roles b ≡ role.Pair n → s2.world.hand b ≡ Handed → known.roles b ≡ role.Pair n
@@ -155,7 +155,7 @@ module _ {K V S : Type 0} (same : K → K → Bool) (hash : K → ℕ) (name : �
 
     led : AtEachEffect (FindsMap map) (Some (name i)) (Some map) effects m × KeepsRoles known known2
     led =
-        let stores = (calls_store_theirs K V S same hash name m known s old new at whole.all map i u here said leads own).0 in
+        let stores = (calls_store_theirs K V same hash name m known s old new at whole.all map i u here said leads own).0 in
         let it = step_shown same hash name m known s old new at whole.all.shown map i u here said leads own stores in
         (it.0, it.1.keeps)
 
@@ -191,11 +191,11 @@ module _ {K V S : Type 0} (same : K → K → Bool) (hash : K → ℕ) (name : �
   -- of a row
   module _ (other : OfNoRow same hash name m known s old new at whole.all.shown map i u here said leads u to.4.did → ⊥) where
     tells : RowTells i map known effects (due_in_row (machine_of u)) (due_in_row to.1)
-    tells = rows_tell_due K V S same hash name m known s old new at whole.all.shown whole.all.rows entries owning map i u here said leads other
+    tells = rows_tell_due K V same hash name m known s old new at whole.all.shown whole.all.rows entries owning map i u here said leads other
 
     keeps : KeepsRoles known known2
     keeps =
-        let theirs = rows_hand_theirs K V S same hash name m known s old new at whole.all map i u here said leads other in
+        let theirs = rows_hand_theirs K V same hash name m known s old new at whole.all map i u here said leads other in
         (row_step_shown same hash name m known s old new at whole.all.shown map i u here said leads other theirs.1 theirs.0).keeps
 
     handed_away : (n : ℕ) → is_handed (m.place n) ≡ true → Away (Some (name i)) (Some map) m n effects
@@ -242,7 +242,7 @@ module _ {K V S : Type 0} (same : K → K → Bool) (hash : K → ℕ) (name : �
             let alone = are ∙ ap (λ (k : ℕ). carried t (known.roles k)) names ∙ ap (carried t) pair in
             inr (inl (subst (λ (fs : List Effect). is_deferred n (then_m fs).deferred ≡ true) (sym alone) (ap (λ (z : Bool). z || is_deferred n m.deferred) (eq-eqb n n refl))))
 
-    module _ (w3 : World (Node K V)) (is : to.4.w2 ≡ w3) (memory : w3.memory ≡ new.memory.memory) where
+    module _ (w3 : World (Node K V)) (is : to.4.w2 ≡ w3) (memory : w3.memory ≡ new.memory) where
       -- a block that is there after it is not taken
       untaken : (x : World (Node K V)) (r : Reached deferred_word size x) (step : Steps' deferred_word i (x.row i) x w3) (b : ℕ) (value : Node K V) → value_at to.4.w2.memory b ≡ Some value
           → times b (taken_in (did deferred_word size x r i w3 step).effects) ≡ 0
@@ -481,6 +481,6 @@ module _ {K V S : Type 0} (same : K → K → Bool) (hash : K → ℕ) (name : �
       by (OverAll x) (p2, end, machine_is, told_is, inl (step, moved)) own no_own = by_events (own tt) step.step.went.w2 moved.0 step.step.went.events step.step.went.users step.step.went.runs
       by (OverAll x) (p2, end, machine_is, told_is, inr (row, stayed)) own no_own = by_row (no_own (λ z. z)) row.step.w2 stayed.0 row.step.memory row.step.happened
 
-pub calls_keep_handed : (K V S : Type 0) (same : K → K → Bool) (hash : K → ℕ) → CallsKeepHanded K V S same hash
-calls_keep_handed K V S same hash name m known s old new at whole entries owning waiting retired shows map i u here told leads =
+pub calls_keep_handed : (K V : Type 0) (same : K → K → Bool) (hash : ℕ → K → ℕ) → CallsKeepHanded K V same hash
+calls_keep_handed K V same hash name m known s old new at whole entries owning waiting retired shows map i u here told leads =
     kept_handed same hash name m known s old new at whole entries owning waiting retired shows map i u here told leads

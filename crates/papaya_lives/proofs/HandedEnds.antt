@@ -26,9 +26,6 @@ use Rattle.papaya_settles.specs.Given.Effects.Known.{Known}
 use Rattle.papaya_settles.specs.Given.Effects.declared.acting.Acting.TheVariants.{Ending}
 use Rattle.papaya_settles.specs.Given.Effects.declared.role.Role.{Role}
 use Rattle.papaya_settles.specs.Given.Effects.declared.role.Role.TheVariants as role
-use Rattle.papaya_settles.specs.Given.Executor.Ending.{EndingStepsFrom, EndingComesTo}
-use Rattle.papaya_settles.specs.Given.Executor.IsAt.{Scene, IsAt, slot_of}
-use Rattle.papaya_settles.specs.Given.Executor.declared.executor.Executor.{Executor}
 use Rattle.papaya_settles.specs.Given.Finishes.Endings.{Finishing, StepsOfEnding}
 use Rattle.papaya_settles.specs.Given.Finishes.FactsEnds.{events_of, taken_by as taken_of}
 use Rattle.papaya_settles.specs.Given.Follows.Blocks.{HasRole}
@@ -49,6 +46,9 @@ use Rattle.papaya_lives.proofs.LeftOver.{handed_untaken}
 use Rattle.papaya_lives.proofs.Listed.{Listing}
 use Rattle.papaya_lives.proofs.RetiredEnds.{between_rows, deed_between, handed_before}
 use Rattle.papaya_lives.proofs.WaitingEnds.{calm_deferred, none_of}
+use Rattle.papaya_settles.specs.Given.Scenes.Ending.{EndingComesTo, EndingStepsFrom}
+use Rattle.papaya_settles.specs.Given.Scenes.Held.{Held, IsAt}
+use Rattle.papaya_settles.specs.Given.Scenes.Scene.{Scene, slot_of}
 
 -- effects that move no pair and no table hand nothing over
 calm_hands : (f : Effect) → is_calm f ≡ true → IsHanding f → ⊥
@@ -71,16 +71,16 @@ ending_none map (role.Pair n) = (λ z. z, tt)
 ending_none map (role.Table t len) = (λ z. z, tt)
 ending_none map (role.Counter of) = tt
 
-module _ {K V S : Type 0} (same : K → K → Bool) (hash : K → ℕ) (name : ℕ → List ℕ) (m : Moment K V) (known : Known) (s : Scene K V) (old new : Executor K V S) (at : IsAt same hash old s)
+module _ {K V : Type 0} (same : K → K → Bool) (hash : ℕ → K → ℕ) (name : ℕ → List ℕ) (m : Moment K V) (known : Known) (s : Scene K V) (old new : Held K V) (at : IsAt same hash old s)
     (whole : ShowsWhole same name m known s) (waiting : ShowsWaiting m known s.world) (retired : ShowsRetired m known s) (shows : ShowsHanded m known s) (i : ℕ) (f : Finishing K V)
     (here : s.enders i ≡ Some f) (end : EndMap) (said : Settled (Node K V)) (steps : EndingStepsFrom f.machine old new end said)
-    (did : StepsOfEnding V same same old.batch_size old.roots slot_of s.world s.maps s.calls s.makers s.enders i f new.memory.memory (end, said))
+    (did : StepsOfEnding V same same old.batch_size old.roots slot_of s.world s.maps s.calls s.makers s.enders i f new.memory (end, said))
     (map : ℕ) (not_there : s.maps map ≡ None) (comes : EndingComesTo same hash s new i f end did.w2 did.deed said) where
   abbrev w : World (Node K V)
   w = s.world
 
   abbrev told : Changed
-  told = new.memory.changed
+  told = new.changed
 
   abbrev effects : List Effect
   effects = effects_of (Ending map) known told
@@ -265,6 +265,6 @@ module _ {K V S : Type 0} (same : K → K → Bool) (hash : K → ℕ) (name : �
   handed_then (settled.Gave value) it = shown_then _ refl refl
   handed_then settled.Done it = shown_then _ refl refl
 
-pub endings_keep_handed : (K V S : Type 0) (same : K → K → Bool) (hash : K → ℕ) → EndingsKeepHanded K V S same hash
-endings_keep_handed K V S same hash name m known s old new at whole waiting retired shows i told leads f here map not_there =
+pub endings_keep_handed : (K V : Type 0) (same : K → K → Bool) (hash : ℕ → K → ℕ) → EndingsKeepHanded K V same hash
+endings_keep_handed K V same hash name m known s old new at whole waiting retired shows i told leads f here map not_there =
     let to = leads f here in handed_then same hash name m known s old new at whole waiting retired shows i f here to.0 told to.1 to.2 map not_there to.3 told to.3

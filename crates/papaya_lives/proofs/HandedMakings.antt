@@ -27,9 +27,6 @@ use Rattle.papaya_settles.specs.Given.Effects.Known.{Known}
 use Rattle.papaya_settles.specs.Given.Effects.declared.acting.Acting.TheVariants.{Making}
 use Rattle.papaya_settles.specs.Given.Effects.declared.role.Role.{Role}
 use Rattle.papaya_settles.specs.Given.Effects.declared.role.Role.TheVariants as role
-use Rattle.papaya_settles.specs.Given.Executor.IsAt.{Scene, IsAt}
-use Rattle.papaya_settles.specs.Given.Executor.Making.{MakingLeads}
-use Rattle.papaya_settles.specs.Given.Executor.declared.executor.Executor.{Executor}
 use Rattle.papaya_settles.specs.Given.Finishes.Makings.{Beginning}
 use Rattle.papaya_settles.specs.Given.Follows.Blocks.{HasRole}
 use Rattle.papaya_settles.proofs.Given.Follows.Alike.{put_here}
@@ -42,6 +39,9 @@ use Rattle.papaya_lives.proofs.HandedEffects.{NoneHands, retired_back}
 use Rattle.papaya_lives.proofs.HandedOver.{came_listed, users_over}
 use Rattle.papaya_lives.proofs.Makings.{apart, role_kept}
 use Rattle.papaya_lives.proofs.RetiredCalls.{users_handed}
+use Rattle.papaya_settles.specs.Given.Scenes.Held.{Held, IsAt}
+use Rattle.papaya_settles.specs.Given.Scenes.Making.{MakingLeads}
+use Rattle.papaya_settles.specs.Given.Scenes.Scene.{Scene}
 
 -- the effects of what makes a map
 module _ (map : ℕ) (known : Known) where
@@ -123,7 +123,7 @@ module _ (map : ℕ) (known : Known) where
   making_none (changed.Took x) spares = taken_none (known.roles x) (spares x refl)
   making_none (changed.Roomed bucket had) spares = either _ [] (Asked ABucket ∷ []) tt (λ z. z, tt)
 
-module _ {K V S : Type 0} (same : K → K → Bool) (hash : K → ℕ) (name : ℕ → List ℕ) (m : Moment K V) (known : Known) (s : Scene K V) (old new : Executor K V S) (at : IsAt same hash old s)
+module _ {K V : Type 0} (same : K → K → Bool) (hash : ℕ → K → ℕ) (name : ℕ → List ℕ) (m : Moment K V) (known : Known) (s : Scene K V) (old new : Held K V) (at : IsAt same hash old s)
     (whole : ShowsWhole same name m known s) (shows : ShowsHanded m known s) (i : ℕ) (said : Progress Setting) (leads : MakingLeads same hash i said s old new) (b : Beginning K)
     (here : s.makers i ≡ Some b) (of : Option ℕ) (was_new : WasNew b.map said m) where
   abbrev w : World (Node K V)
@@ -133,7 +133,7 @@ module _ {K V S : Type 0} (same : K → K → Bool) (hash : K → ℕ) (name : �
   w2 = (leads b here).2.step.w2
 
   abbrev told : Changed
-  told = new.memory.changed
+  told = new.changed
 
   abbrev effects : List Effect
   effects = effects_of (Making b.map) known told
@@ -163,7 +163,7 @@ module _ {K V S : Type 0} (same : K → K → Bool) (hash : K → ℕ) (name : �
   deferred = (apart same hash name m known s old new at whole i said leads b here of was_new).0
 
   was_pair : (x n : ℕ) → known2.roles x ≡ role.Pair n → known.roles x ≡ role.Pair n
-  was_pair x n noted = elim ((makings_go_beside K V S same hash name m known s old new at whole i said leads b here of was_new).back x (subst IsOfMap (sym noted) tt)) as (λ _. known.roles x ≡ role.Pair n) [
+  was_pair x n noted = elim ((makings_go_beside K V same hash name m known s old new at whole i said leads b here of was_new).back x (subst IsOfMap (sym noted) tt)) as (λ _. known.roles x ≡ role.Pair n) [
     | inl alike ↦ sym alike ∙ noted
     | inr came ↦ absurd (let two : role.Pair n ≡ role.Table came.table came.len = sym noted ∙ came.is in cc two)
   ]
@@ -193,6 +193,6 @@ module _ {K V S : Type 0} (same : K → K → Bool) (hash : K → ℕ) (name : �
             (one.0, one.1, role_on one.0 (role.Table t one.1) one.2 tt, over one.0 one.3);
       }
 
-pub makings_keep_handed : (K V S : Type 0) (same : K → K → Bool) (hash : K → ℕ) → MakingsKeepHanded K V S same hash
-makings_keep_handed K V S same hash name m known s old new at whole shows i told leads b here of was_new =
+pub makings_keep_handed : (K V : Type 0) (same : K → K → Bool) (hash : ℕ → K → ℕ) → MakingsKeepHanded K V same hash
+makings_keep_handed K V same hash name m known s old new at whole shows i told leads b here of was_new =
     making_handed same hash name m known s old new at whole shows i told leads b here of was_new

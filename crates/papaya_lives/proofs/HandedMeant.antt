@@ -40,7 +40,6 @@ use Rattle.papaya_settles.specs.Given.Callers.Rows.{row_of, row_of_disposal, row
 use Rattle.papaya_settles.specs.Given.Callers.Rooms.{row_of_room}
 use Rattle.papaya_settles.specs.Given.Callers.OverAll.{row_of_sweep}
 use Rattle.papaya_settles.specs.Given.Callers.Together.{UnderWay, OnKey, ForRoom, Counting, OverAll, Stands}
-use Rattle.papaya_settles.specs.Given.Executor.IsAt.{slot_of}
 use Rattle.papaya_settles.specs.Given.Finishes.Machines.{machine_of}
 use Rattle.papaya_settles.specs.Due.{due_in_settle, due_in_defer, due_in_disposing, due_in_copying, due_in_calling, due_in_reserving, due_in_sweeping, due_in_row}
 use Rattle.papaya_lives.specs.Handed.{IsMeant, IsToHand}
@@ -48,6 +47,7 @@ use Rattle.papaya_lives.specs.Retired.{IsDue, IsToRetire}
 use Rattle.papaya_lives.proofs.Reclaimed.{none_to_retire}
 use Rattle.papaya_lives.proofs.Rows.{on_the_way}
 use Rattle.papaya_lives.proofs.Worlds.{Kept}
+use Rattle.papaya_settles.specs.Given.Scenes.Scene.{slot_of}
 
 -- a settling row retires what it is meant to hand over
 pub settle_due : (b : ℕ) (c : Settle) (p : Settling) → IsMeant b (due_in_settle c p) → IsDue b (due_in_settle c p)

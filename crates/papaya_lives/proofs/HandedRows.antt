@@ -29,12 +29,8 @@ use Rattle.papaya_settles.specs.Given.Effects.Known.{Known}
 use Rattle.papaya_settles.specs.Given.Effects.declared.acting.Acting.TheVariants.{Row}
 use Rattle.papaya_settles.specs.Given.Effects.declared.role.Role.{Role}
 use Rattle.papaya_settles.specs.Given.Effects.declared.role.Role.TheVariants as role
-use Rattle.papaya_settles.specs.Given.Executor.IsAt.{Scene, HasCall, IsAt, slot_of, work_of}
-use Rattle.papaya_settles.specs.Given.Executor.OnSlots.{RowLeads}
-use Rattle.papaya_settles.specs.Given.Executor.declared.executor.Executor.{Executor}
-use Rattle.papaya_settles.specs.Given.Executor.declared.row.RowTold.{RowTold}
-use Rattle.papaya_settles.specs.Given.Executor.declared.row.SlotRow.{SlotRow}
-use Rattle.papaya_settles.specs.Given.Executor.declared.worker.Work.TheVariants as work
+use Rattle.papaya_settles.specs.Given.Scenes.declared.row.RowTold.{RowTold}
+use Rattle.papaya_settles.specs.Given.Scenes.declared.row.SlotRow.{SlotRow}
 use Rattle.papaya_settles.proofs.Given.Follows.Operations.{LeavesBy}
 use Rattle.papaya_settles.proofs.Given.Others.RowPlans.{TellsRow, row_tells}
 use Rattle.papaya_settles.specs.Given.Moments.Whole.{ShowsWhole}
@@ -49,26 +45,30 @@ use Rattle.papaya_lives.proofs.HandedOver.{came_listed, steps_over}
 use Rattle.papaya_lives.proofs.HandedTaken.{taking_keeps}
 use Rattle.papaya_lives.proofs.Listed.{retired_at_rest}
 use Rattle.papaya_lives.proofs.Logs.{waits_no_more}
-use Rattle.papaya_lives.proofs.Reclaimed.{begun_rows, no_call}
+use Rattle.papaya_settles.proofs.Given.Scenes.NoCall.{no_call}
+use Rattle.papaya_lives.proofs.Reclaimed.{begun_rows}
 use Rattle.papaya_lives.proofs.Retires.{given_hand, handed_before}
 use Rattle.papaya_lives.proofs.Taken.{kept, it, left_unretired, not_taken, told_retired, told_taken}
 use Rattle.papaya_lives.proofs.Waiting.{begun_log, left, reached}
 use Rattle.papaya_lives.proofs.Worlds.{Kept, unretired, has_it}
+use Rattle.papaya_settles.specs.Given.Scenes.Held.{Held, IsAt}
+use Rattle.papaya_settles.specs.Given.Scenes.OnSlots.{RowLeads}
+use Rattle.papaya_settles.specs.Given.Scenes.Scene.{HasCall, IsOnSlot, Scene, slot_of}
 
-module _ {K V S : Type 0} (same : K → K → Bool) (hash : K → ℕ) (name : ℕ → List ℕ) (m : Moment K V) (known : Known) (s : Scene K V) (old new : Executor K V S) (at : IsAt same hash old s)
+module _ {K V : Type 0} (same : K → K → Bool) (hash : ℕ → K → ℕ) (name : ℕ → List ℕ) (m : Moment K V) (known : Known) (s : Scene K V) (old new : Held K V) (at : IsAt same hash old s)
     (whole : ShowsWhole same name m known s) (waiting : ShowsWaiting m known s.world) (shows : ShowsHanded m known s) (i : ℕ) (said : RowTold (Node K V)) (leads : RowLeads same hash i said s old new)
-    (row : SlotRow) (here : work_of old i ≡ Some (work.OnSlot row)) where
+    (row : SlotRow) (here : IsOnSlot s i row) where
   abbrev w : World (Node K V)
   w = s.world
 
   abbrev w2 : World (Node K V)
-  w2 = (leads row here).4.0
+  w2 = (leads row here).2.0
 
   abbrev s2 : Scene K V
-  s2 = record s { world = w2; maps = (leads row here).4.2 }
+  s2 = record s { world = w2; maps = (leads row here).2.2 }
 
   abbrev told : Changed
-  told = new.memory.changed
+  told = new.changed
 
   abbrev size : ℕ
   size = old.batch_size
@@ -77,19 +77,19 @@ module _ {K V S : Type 0} (same : K → K → Bool) (hash : K → ℕ) (name : �
   came = at.together.makings.standing.came
 
   there : Reached deferred_word size w
-  there = (let to = leads row here in reached K V S same hash s old new at i row here (to.0, said) to.1 to.4)
+  there = (let to = leads row here in reached K V same hash s old new at i row here (to.0, said) to.1 to.2)
 
   tells : TellsRow told
-  tells = (let to = leads row here in row_tells old.memory.memory new.memory.memory told (to.0, said) row to.1)
+  tells = (let to = leads row here in row_tells old.memory new.memory told (to.0, said) row to.1)
 
   leaves : LeavesBy w.memory w2.memory told
-  leaves = (let to = leads row here in left K V S same hash s old new at i row here (to.0, said) to.1 to.4)
+  leaves = (let to = leads row here in left K V same hash s old new at i row here (to.0, said) to.1 to.2)
 
   its : Kept deferred_word size w
-  its = kept size w came there i w2 (leads row here).4.1
+  its = kept size w came there i w2 (leads row here).2.1
 
   abbrev stepped : RowStepped deferred_word i w w2
-  stepped = it size w came there i w2 (leads row here).4.1
+  stepped = it size w came there i w2 (leads row here).2.1
 
   had : (b : ℕ) → w2.hand b ≡ Handed → w.hand b ≡ Handed
   had b handed = handed_before stepped.effects w.hand b (sym (ap (λ (h : ℕ → Hand). h b) stepped.hands) ∙ handed)
@@ -99,7 +99,7 @@ module _ {K V S : Type 0} (same : K → K → Bool) (hash : K → ℕ) (name : �
   untaken b some = by (value_at w2.memory b) refl some
     where
       by : (o : Option (Node K V)) → value_at w2.memory b ≡ o → IsSome o → times b (taken_in stepped.effects) ≡ 0
-      by (Some value) is there_is = not_taken size w came there i w2 (leads row here).4.1 b value is
+      by (Some value) is there_is = not_taken size w came there i w2 (leads row here).2.1 b value is
       by None is there_is = absurd (cc there_is)
 
   over_then : (b : ℕ) → times b (taken_in stepped.effects) ≡ 0 → IsHandedOver w b → IsHandedOver w2 b
@@ -110,7 +110,7 @@ module _ {K V S : Type 0} (same : K → K → Bool) (hash : K → ℕ) (name : �
   Due x b = (j : ℕ) × HasCall x j × IsToHand b (x.world.row j)
 
   due_then : (b : ℕ) → Due s b → Due s2 b
-  due_then b due = (due.0, due.1, subst (IsToHand b) (sym (stepped.rows due.0 (λ same_one. no_call same hash s old at i row here (subst (HasCall s) same_one due.1)))) due.2)
+  due_then b due = (due.0, due.1, subst (IsToHand b) (sym (stepped.rows due.0 (λ same_one. no_call s i here.0 (subst (HasCall s) same_one due.1)))) due.2)
 
   over_on : (b : ℕ) → IsSome (value_at w2.memory b) → IsHandedOver w b → IsHandedOver w2 b
   over_on b some over = over_then b (untaken b some) over
@@ -118,12 +118,12 @@ module _ {K V S : Type 0} (same : K → K → Bool) (hash : K → ℕ) (name : �
   freed_on : (x b : ℕ) → told ≡ changed.Took x → IsSome (value_at w2.memory b) → waits_behind b w.log ≡ Some x → IsHandedOver w2 b
   freed_on x b is some waits = (
     ap (λ (h : ℕ → Hand). h b) stepped.hands ∙ hand_kept b stepped.effects w.hand (untaken b some) stepped.one ∙ has_it deferred_word size w its b x waits,
-    ap (waits_behind b) stepped.logged ∙ waits_no_more b x stepped.effects w.log stepped.one (told_taken size w came there i w2 (leads row here).4.1 told leaves x is) waits,
+    ap (waits_behind b) stepped.logged ∙ waits_no_more b x stepped.effects w.log stepped.one (told_taken size w came there i w2 (leads row here).2.1 told leaves x is) waits,
   )
 
   not_left : (x len : ℕ) (t : Table) → told ≡ changed.Took x → known.roles x ≡ role.Table t len → IsLeft (w.hand x) → ⊥
   not_left x len t is table over =
-      (let none = left_unretired size w came there i w2 (leads row here).4.1 x over in let some = told_retired size w came there i w2 (leads row here).4.1 told leaves x is in cc (some, none))
+      (let none = left_unretired size w came there i w2 (leads row here).2.1 x over in let some = told_retired size w came there i w2 (leads row here).2.1 told leaves x is in cc (some, none))
 
   pub keeps : ShowsHanded (with_effects None None (effects_of Row known told) m) (known_after Row told known) s2
   keeps = taking_keeps same name m known s s2 whole waiting shows told tells leaves had over_on freed_on not_left due_then
@@ -133,7 +133,7 @@ module _ {K V S : Type 0} (same : K → K → Bool) (hash : K → ℕ) (name : �
   had_handed x n e its_role = by (shows.pairs x n its_role has)
     where
       retired : was_retired x w.log ≡ true
-      retired = told_retired size w came there i w2 (leads row here).4.1 told leaves x e
+      retired = told_retired size w came there i w2 (leads row here).2.1 told leaves x e
 
       given : is_given (its.good.state.life x) ≡ true
       given = sym (its.good.inv.logged.given x) ∙ ap (was_retired x) its.good.logged ∙ retired
@@ -222,38 +222,38 @@ handed_at_rest K V size m known s came shows rests = (
   λ t is. let one = shows.tables t is in (one.0, one.1, one.2, retired_at_rest deferred_word size s.world (came_listed size s.world came) rests one.0 one.3.0 one.3.1),
 )
 
-module _ (K V S : Type 0) (same : K → K → Bool) (hash : K → ℕ) where
-  pub rows_begin_handed : RowsBeginHanded K V S same hash
-  rows_begin_handed m known s old new at shows called i may leads = record {
+module _ (K V : Type 0) (same : K → K → Bool) (hash : ℕ → K → ℕ) where
+  pub rows_begin_handed : RowsBeginHanded K V same hash
+  rows_begin_handed m known s old new at shows called i leads = record {
     pairs = λ b n is handed. by b n (shows.pairs b n is (sym (ap (λ (h : ℕ → Hand). h b) hands) ∙ handed));
     handed = λ n is. let one = shows.handed n is in (one.0, one.1, over one.0 one.2);
     tables = λ t is. let one = shows.tables t is in (one.0, one.1, one.2, over one.0 one.3);
   }
     where
       w3 : World (Node K V)
-      w3 = (leads may).3.0
+      w3 = leads.2.0
 
       hands : w3.hand ≡ s.world.hand
-      hands = begun_hands old.batch_size (slot_of i) i s.world (leads may).3.0 called (leads may).3.1.1
+      hands = begun_hands old.batch_size (slot_of i) i s.world leads.2.0 called leads.2.1.1
 
       over : (b : ℕ) → IsHandedOver s.world b → IsHandedOver w3 b
       over b its = (
         ap (λ (h : ℕ → Hand). h b) hands ∙ its.0,
-        ap (waits_behind b) (begun_log old.batch_size (slot_of i) i s.world (leads may).3.0 called (leads may).3.1.1) ∙ its.1,
+        ap (waits_behind b) (begun_log old.batch_size (slot_of i) i s.world leads.2.0 called leads.2.1.1) ∙ its.1,
       )
 
       by : (b n : ℕ) → HasGone m s b n → (is_handed (m.place n) ≡ true) ⊎ (is_deferred n m.deferred ≡ true) ⊎ ((j : ℕ) × HasCall s j × IsToHand b (w3.row j))
       by b n (inl is) = inl is
       by b n (inr (inl is)) = inr (inl is)
       by b n (inr (inr due)) =
-          let other : due.0 ≡ i → ⊥ = (λ e. subst (IsToHand b) (ap s.world.row e ∙ (leads may).3.1.0) due.2) in
-          inr (inr (due.0, due.1, subst (IsToHand b) (sym (begun_rows old.batch_size (slot_of i) i s.world (leads may).3.0 called (leads may).3.1.1 due.0 other)) due.2))
+          let other : due.0 ≡ i → ⊥ = (λ e. subst (IsToHand b) (ap s.world.row e ∙ leads.2.1.0) due.2) in
+          inr (inr (due.0, due.1, subst (IsToHand b) (sym (begun_rows old.batch_size (slot_of i) i s.world leads.2.0 called leads.2.1.1 due.0 other)) due.2))
 
-  pub rows_keep_handed : RowsKeepHanded K V S same hash
+  pub rows_keep_handed : RowsKeepHanded K V same hash
   rows_keep_handed name m known s old new at whole waiting shows i told leads row here =
       keeps same hash name m known s old new at whole waiting shows i told leads row here
 
-  pub rows_find_handed : RowsFindHanded K V S same hash
+  pub rows_find_handed : RowsFindHanded K V same hash
   rows_find_handed name m known s old new at whole waiting shows i told leads row here =
       let to = leads row here in
-      finds same hash name m known s old new at whole waiting shows i told leads row here new.memory.changed refl (row_tells old.memory.memory new.memory.memory new.memory.changed (to.0, told) row to.1)
+      finds same hash name m known s old new at whole waiting shows i told leads row here new.changed refl (row_tells old.memory new.memory new.changed (to.0, told) row to.1)

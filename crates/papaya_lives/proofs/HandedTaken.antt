@@ -23,7 +23,6 @@ use Rattle.papaya_settles.specs.Given.Effects.Known.{Known, with_role}
 use Rattle.papaya_settles.specs.Given.Effects.declared.acting.Acting.TheVariants.{Row}
 use Rattle.papaya_settles.specs.Given.Effects.declared.role.Role.{Role}
 use Rattle.papaya_settles.specs.Given.Effects.declared.role.Role.TheVariants as role
-use Rattle.papaya_settles.specs.Given.Executor.IsAt.{Scene, HasCall}
 use Rattle.papaya_settles.specs.Given.Follows.Blocks.{HasRole}
 use Rattle.papaya_settles.proofs.Given.Follows.Alike.{put_here, put_elsewhere}
 use Rattle.papaya_settles.proofs.Given.Follows.Operations.{LeavesBy}
@@ -37,6 +36,7 @@ use Rattle.papaya_lives.specs.Waiting.{waits_behind}
 use Rattle.papaya_lives.proofs.Each.{WaitsAt, found}
 use Rattle.papaya_lives.proofs.HandedEffects.{deferred_split, handed_back, reclaimed_back, reclaimed_not}
 use Rattle.papaya_lives.proofs.Taken.{there_still}
+use Rattle.papaya_settles.specs.Given.Scenes.Scene.{HasCall, Scene}
 
 module _ {K V : Type 0} (same : K → K → Bool) (name : ℕ → List ℕ) (m : Moment K V) (known : Known) (s s2 : Scene K V) (whole : ShowsWhole same name m known s) (waiting : ShowsWaiting m known s.world)
     (shows : ShowsHanded m known s) (told : Changed) (tells : TellsRow told) (leaves : LeavesBy s.world.memory s2.world.memory told)

@@ -23,9 +23,6 @@ use Rattle.papaya_settles.specs.Given.Effects.Known.{Known}
 use Rattle.papaya_settles.specs.Given.Effects.declared.acting.Acting.TheVariants.{Ending}
 use Rattle.papaya_settles.specs.Given.Effects.declared.role.Role.{Role}
 use Rattle.papaya_settles.specs.Given.Effects.declared.role.Role.TheVariants as role
-use Rattle.papaya_settles.specs.Given.Executor.Ending.{EndingStepsFrom, EndingComesTo, ending_goes}
-use Rattle.papaya_settles.specs.Given.Executor.IsAt.{Scene, IsAt, slot_of}
-use Rattle.papaya_settles.specs.Given.Executor.declared.executor.Executor.{Executor}
 use Rattle.papaya_settles.specs.Given.Finishes.Endings.{Finishing, HasFinished, StepsOfEnding, waiting_by}
 use Rattle.papaya_settles.specs.Given.Finishes.FactsEnds.{events_of, from_table, taken_by as taken_of, left_by}
 use Rattle.papaya_settles.specs.Given.Finishes.Orders.{pairs_of}
@@ -41,14 +38,17 @@ use Rattle.papaya_lives.specs.Behind.{IsLeft}
 use Rattle.papaya_lives.specs.LeftTables.{IsToTake, ShowsLeft, EndingsKeepLeft}
 use Rattle.papaya_lives.proofs.Users.{left_lives}
 use Rattle.papaya_lives.proofs.WaitingEnds.{none_of}
+use Rattle.papaya_settles.specs.Given.Scenes.Ending.{EndingComesTo, EndingStepsFrom, ending_goes}
+use Rattle.papaya_settles.specs.Given.Scenes.Held.{Held, IsAt}
+use Rattle.papaya_settles.specs.Given.Scenes.Scene.{Scene, slot_of}
 
-module _ {K V S : Type 0} (same : K → K → Bool) (hash : K → ℕ) (name : ℕ → List ℕ) (m : Moment K V) (known : Known) (s : Scene K V) (old new : Executor K V S) (at : IsAt same hash old s)
+module _ {K V : Type 0} (same : K → K → Bool) (hash : ℕ → K → ℕ) (name : ℕ → List ℕ) (m : Moment K V) (known : Known) (s : Scene K V) (old new : Held K V) (at : IsAt same hash old s)
     (whole : ShowsWhole same name m known s) (shows : ShowsLeft known s) (i : ℕ) (f : Finishing K V) (here : s.enders i ≡ Some f) (end : EndMap) (said : Settled (Node K V))
     (steps : EndingStepsFrom f.machine old new end said)
-    (did : StepsOfEnding V same same old.batch_size old.roots slot_of s.world s.maps s.calls s.makers s.enders i f new.memory.memory (end, said))
+    (did : StepsOfEnding V same same old.batch_size old.roots slot_of s.world s.maps s.calls s.makers s.enders i f new.memory (end, said))
     (of : ℕ) (not_there : s.maps of ≡ None) (comes : EndingComesTo same hash s new i f end did.w2 did.deed said) where
   abbrev known2 : Known
-  known2 = known_after (Ending of) new.memory.changed known
+  known2 = known_after (Ending of) new.changed known
 
   after : Reached deferred_word old.batch_size did.w2
   after = runs_reached deferred_word old.batch_size (events_of i did.deed) s.world did.w2 (came_reached old.batch_size s.world at.together.makings.standing.came) did.runs
@@ -96,7 +96,7 @@ module _ {K V S : Type 0} (same : K → K → Bool) (hash : K → ℕ) (name : �
     next = record f { machine = end; back = back; waits = f.waits ++ waiting_by did.deed }
 
     abbrev led : Scene K V
-    led = ending_goes same hash s new i f end did.w2 did.deed back
+    led = ending_goes s i f end did.w2 did.deed back
 
     goes_on : (j b : ℕ) → times b (taken_of did.deed) ≡ 0 → (k : IsToTake s j b) → IsToTake led j b
     goes_on j b none k = elim (cases_eq j i) as (λ _. IsToTake led j b) [
@@ -158,6 +158,6 @@ module _ {K V S : Type 0} (same : K → K → Bool) (hash : K → ℕ) (name : �
       (let count = times-append b f.back (it.0 ∷ []) in let its : times b (it.0 ∷ []) ≡ 0 = sym (ap (times b) it.2) ∙ none in omega (arith, count, its, fresh)))
   left_after settled.Done it = left_over it.1
 
-pub endings_keep_left : (K V S : Type 0) (same : K → K → Bool) (hash : K → ℕ) → EndingsKeepLeft K V S same hash
-endings_keep_left K V S same hash name m known s old new at whole shows i told leads f here of not_there =
+pub endings_keep_left : (K V : Type 0) (same : K → K → Bool) (hash : ℕ → K → ℕ) → EndingsKeepLeft K V same hash
+endings_keep_left K V same hash name m known s old new at whole shows i told leads f here of not_there =
     let to = leads f here in left_after same hash name m known s old new at whole shows i f here to.0 told to.1 to.2 of not_there to.3 told to.3

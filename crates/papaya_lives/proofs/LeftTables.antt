@@ -23,10 +23,6 @@ use Rattle.papaya_settles.specs.Given.Effects.Effects.{known_after}
 use Rattle.papaya_settles.specs.Given.Effects.Known.{Known}
 use Rattle.papaya_settles.specs.Given.Effects.declared.acting.Acting.TheVariants.{Call, Making, Row}
 use Rattle.papaya_settles.specs.Given.Effects.declared.role.Role.TheVariants as role
-use Rattle.papaya_settles.specs.Given.Executor.Ending.{ending_begun}
-use Rattle.papaya_settles.specs.Given.Executor.IsAt.{Scene, IsAt, slot_of}
-use Rattle.papaya_settles.specs.Given.Executor.Stepping.{StepLeads, scene_after}
-use Rattle.papaya_settles.specs.Given.Executor.declared.executor.Executor.{Executor}
 use Rattle.papaya_settles.specs.Given.Finishes.Endings.{Finishing, finishing_of}
 use Rattle.papaya_settles.proofs.Given.Follows.Steps.{WentTo, went_to, DidSo}
 use Rattle.papaya_settles.proofs.Given.Others.RowPlans.{row_tells}
@@ -37,6 +33,10 @@ use Rattle.papaya_lives.specs.Behind.{IsLeft}
 use Rattle.papaya_lives.specs.LeftTables.{IsToTake, ShowsLeft, LeftBegins, OthersKeepLeft, EndingsBeginLeft, NoneIsLeftTo, NoneIsLeft, WhereNoneIsLeft, RowsBeginLeft, RowsKeepLeft, MakingsKeepLeft, CallsKeepLeft}
 use Rattle.papaya_lives.proofs.Reclaimed.{stays_so}
 use Rattle.papaya_lives.proofs.Stages.{WasTable, role_back}
+use Rattle.papaya_settles.specs.Given.Scenes.Ending.{ending_begun}
+use Rattle.papaya_settles.specs.Given.Scenes.Held.{Held, IsAt}
+use Rattle.papaya_settles.specs.Given.Scenes.Scene.{Scene, slot_of}
+use Rattle.papaya_settles.specs.Given.Scenes.Stepping.{StepLeads, scene_after}
 
 -- what is left over to somebody then was so before
 module _ {T : Type 0} (defers : T → Option ℕ) (size b j : ℕ) where
@@ -162,27 +162,27 @@ none_is_left K V known s shows nobody b len t is left = by (s.world.hand b) refl
 pub where_none_is_left : (K V : Type 0) → WhereNoneIsLeft K V
 where_none_is_left K V known s none b len t i is left = absurd (none b len t is (subst IsLeft (sym left) tt))
 
-module _ (K V S : Type 0) (same : K → K → Bool) (hash : K → ℕ) where
-  pub rows_begin_left : RowsBeginLeft K V S same hash
-  rows_begin_left known s old new shows called i may leads =
-      let to = (leads may).3 in
+module _ (K V : Type 0) (same : K → K → Bool) (hash : ℕ → K → ℕ) where
+  pub rows_begin_left : RowsBeginLeft K V same hash
+  rows_begin_left known s old new shows called i leads =
+      let to = leads.2 in
       let hands = begun_hands old.batch_size (slot_of i) i s.world to.0 called to.1.1 in
       left_as known known s (record s { world = to.0; maps = to.2 }) refl shows (λ b len x is. is) (λ b j left. sym (ap (λ (h : ℕ → Hand). h b) hands) ∙ left)
 
-  pub rows_keep_left : RowsKeepLeft K V S same hash
+  pub rows_keep_left : RowsKeepLeft K V same hash
   rows_keep_left name m known s old new at whole shows i told leads row here =
       let to = leads row here in
-      let tells = row_tells old.memory.memory new.memory.memory new.memory.changed (to.0, told) row to.1 in
-      left_as known (known_after Row new.memory.changed known) s (record s { world = to.4.0; maps = to.4.2 }) refl shows (λ b len x is. (stays_so m known whole.blocks new.memory.changed tells b len x is).0)
-      (λ b j left. step_back deferred_word old.batch_size b j i s.world to.4.0 (came_reached old.batch_size s.world at.together.makings.standing.came) to.4.1 left)
+      let tells = row_tells old.memory new.memory new.changed (to.0, told) row to.1 in
+      left_as known (known_after Row new.changed known) s (record s { world = to.2.0; maps = to.2.2 }) refl shows (λ b len x is. (stays_so m known whole.blocks new.changed tells b len x is).0)
+      (λ b j left. step_back deferred_word old.batch_size b j i s.world to.2.0 (came_reached old.batch_size s.world at.together.makings.standing.came) to.2.1 left)
 
-  pub makings_keep_left : MakingsKeepLeft K V S same hash
+  pub makings_keep_left : MakingsKeepLeft K V same hash
   makings_keep_left known s old new owning shows i told leads d here =
       let step = (leads d here).2.step in
-      left_then known (known_after (Making d.map) new.memory.changed known) s (record s { world = step.w2 }) refl shows owning (λ b len x is. role_back (Making d.map) known b len x new.memory.changed is)
+      left_then known (known_after (Making d.map) new.changed known) s (record s { world = step.w2 }) refl shows owning (λ b len x is. role_back (Making d.map) known b len x new.changed is)
       (λ b j left. users_back deferred_word old.batch_size b j step.events step.users s.world step.w2 step.runs left)
 
-  module _ (name : ℕ → List ℕ) (m : Moment K V) (known : Known) (s : Scene K V) (old new : Executor K V S) (at : IsAt same hash old s) (whole : ShowsWhole same name m known s) (map i : ℕ)
+  module _ (name : ℕ → List ℕ) (m : Moment K V) (known : Known) (s : Scene K V) (old new : Held K V) (at : IsAt same hash old s) (whole : ShowsWhole same name m known s) (map i : ℕ)
       (u : UnderWay K V K) (here : s.calls map i ≡ Some u) (said : Progress (Node K V)) (leads : StepLeads same hash i said s old new) (b j : ℕ) where
     abbrev to : WentTo same hash name m known s old new at whole.all.shown map i u here said leads
     to = went_to same hash name m known s old new at whole.all.shown map i u here said leads
@@ -211,8 +211,8 @@ module _ (K V S : Type 0) (same : K → K → Bool) (hash : K → ℕ) where
         by (OverAll x) (p2, end, machine_is, told_is, inl (step, moved)) = by_events step.step.went.w2 moved.0 step.step.went.events step.step.went.users step.step.went.runs
         by (OverAll x) (p2, end, machine_is, told_is, inr (row, stayed)) = by_step row.step.w2 stayed.0 row.step.happened
 
-  pub calls_keep_left : CallsKeepLeft K V S same hash
+  pub calls_keep_left : CallsKeepLeft K V same hash
   calls_keep_left name m known s old new at whole owning shows map i u here told leads =
       let to = leads map u here in
-      left_then known (known_after (Call i map) new.memory.changed known) s (scene_after same hash s old new map i to.0 u to.1 told to.4) refl shows owning (λ b len x is. role_back (Call i map) known b len x new.memory.changed is)
+      left_then known (known_after (Call i map) new.changed known) s (scene_after same s old new map i to.0 u to.1 told to.4) refl shows owning (λ b len x is. role_back (Call i map) known b len x new.changed is)
       (λ b j left. call_back name m known s old new at whole map i u here told leads b j left)

@@ -1,5 +1,5 @@
 -- What lies behind tables does so where nothing is put there, where rows begin and step on slots, and where maps are made.
-use Rattle.std.specs.Prelude.{◌≡◌, ◌⊎◌, ℕ, ◌==◌, nat_lt, ◌&&◌, ◌||◌, Bool, true, false, not, List, [], ◌∷◌, map, filter, Option, Some, None, if◌then◌else◌}
+use Rattle.std.specs.Prelude.{◌≡◌, ◌⊎◌, ℕ, ◌==◌, nat_lt, ◌&&◌, ◌||◌, Bool, true, false, not, List, [], ◌∷◌, map, filter, Some, None, if◌then◌else◌}
 use Rattle.std.proofs.Common.{refl, ap, sym, subst, ◌∙◌, inl, inr}
 use Rattle.std.proofs.lemmas.Bool.{cases_eq, eq-eqb}
 use Rattle.papaya_settles.specs.Given.SeizeWords.Mem.{value_at}
@@ -28,10 +28,8 @@ use Rattle.papaya_settles.specs.Given.Effects.Known.{Known, with_role}
 use Rattle.papaya_settles.specs.Given.Effects.declared.acting.Acting.TheVariants.{Making, Row}
 use Rattle.papaya_settles.specs.Given.Effects.declared.role.Role.{Role}
 use Rattle.papaya_settles.specs.Given.Effects.declared.role.Role.TheVariants as role
-use Rattle.papaya_settles.specs.Given.Executor.IsAt.{Scene, HasRow, row_of, slot_of}
-use Rattle.papaya_settles.specs.Given.Executor.declared.row.SlotRow.{SlotRow}
-use Rattle.papaya_settles.specs.Given.Executor.declared.row.SlotRow.TheVariants as rows
-use Rattle.papaya_settles.specs.Given.Executor.declared.worker.Work.{Work}
+use Rattle.papaya_settles.specs.Given.Scenes.declared.row.SlotRow.{SlotRow}
+use Rattle.papaya_settles.specs.Given.Scenes.declared.row.SlotRow.TheVariants as rows
 use Rattle.papaya_settles.specs.Given.Follows.Blocks.{HasRole}
 use Rattle.papaya_settles.proofs.Given.Follows.Alike.{put_here, put_elsewhere}
 use Rattle.papaya_settles.proofs.Given.Follows.Onward.{IsOfMap}
@@ -46,6 +44,7 @@ use Rattle.papaya_lives.proofs.Makings.{role_kept, apart}
 use Rattle.papaya_lives.proofs.Reclaimed.{begun_rows, stays_so}
 use Rattle.papaya_lives.proofs.Stages.{WasTable, role_back}
 use Rattle.papaya_lives.proofs.Waiting.{begun_log, reached, left}
+use Rattle.papaya_settles.specs.Given.Scenes.Scene.{Scene, row_of, slot_of}
 
 -- what waits behind one table does so still where what waits behind another one goes
 module _ (n : ℕ) (t u : Table) (other : t ≡ u → ⊥) where
@@ -198,10 +197,10 @@ module _ {K V : Type 0} (same : K → K → Bool) (name : ℕ → List ℕ) (siz
         | inr ne ↦ subst (IsPutting b c) (sym ((did deferred_word size s.world r i w2 step).rows j ne)) its
       ]
 
-module _ (K V S : Type 0) (same : K → K → Bool) (hash : K → ℕ) where
-  pub rows_begin_lying : RowsBeginLying K V S same hash
-  rows_begin_lying m known s old new shows called i may leads =
-      let to = (leads may).3 in
+module _ (K V : Type 0) (same : K → K → Bool) (hash : ℕ → K → ℕ) where
+  pub rows_begin_lying : RowsBeginLying K V same hash
+  rows_begin_lying m known s old new shows called i leads =
+      let to = leads.2 in
       let logs = begun_log old.batch_size (slot_of i) i s.world to.0 called to.1.1 in
       lying_on m m known known s.world to.0 shows
       (λ b c at. sym (ap (λ (l : List LogEffect). where_is b l) logs) ∙ at)
@@ -212,32 +211,32 @@ module _ (K V S : Type 0) (same : K → K → Bool) (hash : K → ℕ) where
       let other : j ≡ i → ⊥ = (λ e. subst (IsPutting b c) (ap s.world.row e ∙ to.1.0) its) in
       subst (IsPutting b c) (sym (begun_rows old.batch_size (slot_of i) i s.world to.0 called to.1.1 j other)) its)
 
-  pub rows_keep_lying : RowsKeepLying K V S same hash
+  pub rows_keep_lying : RowsKeepLying K V same hash
   rows_keep_lying name m known s old new at whole shows i told leads row here =
       let to = leads row here in
-      row_lies same name old.batch_size m known s whole shows (reached K V S same hash s old new at i row here (to.0, told) to.1 to.4) i
-      (λ b c puts. no_slot_puts b c row (subst (IsPutting b c) on_slot puts)) to.4.0 to.4.1 new.memory.changed
-      (row_tells old.memory.memory new.memory.memory new.memory.changed (to.0, told) row to.1)
-      (left K V S same hash s old new at i row here (to.0, told) to.1 to.4)
+      row_lies same name old.batch_size m known s whole shows (reached K V same hash s old new at i row here (to.0, told) to.1 to.2) i
+      (λ b c puts. no_slot_puts b c row (subst (IsPutting b c) on_slot puts)) to.2.0 to.2.1 new.changed
+      (row_tells old.memory new.memory new.changed (to.0, told) row to.1)
+      (left K V same hash s old new at i row here (to.0, told) to.1 to.2)
     where
       on_slot : s.world.row i ≡ row_of row
-      on_slot = subst (λ (o : Option (Work K V)). HasRow o (s.world.row i)) here (at.rows i)
+      on_slot = here.1
 
-  pub makings_keep_lying : MakingsKeepLying K V S same hash
+  pub makings_keep_lying : MakingsKeepLying K V same hash
   makings_keep_lying name m known s old new at whole owning shows i told leads b here of was_new =
       let step = (leads b here).2.step in
       lying_on m v known known2 s.world step.w2 shows
       (λ x c lies. (events_back deferred_word old.batch_size x c step.events s.world step.w2 there step.users step.runs lies).0)
-      (λ x c len t lies is. noted x c len t lies (role_back (Making b.map) known c len t new.memory.changed is))
+      (λ x c len t lies is. noted x c len t lies (role_back (Making b.map) known c len t new.changed is))
       (λ x c n lies is. role_kept same hash name m known s old new at whole i told leads b here of was_new x (role.Pair n) is tt)
       (λ c len n t is was among. ap (λ (ds : List Deferral). is_among n (behind t ds)) (apart same hash name m known s old new at whole i told leads b here of was_new).0 ∙ among)
       (λ j x c its. subst (λ (f : ℕ → Under). IsPutting x c (f j)) (sym (events_rows old.batch_size step.events s.world step.w2 step.users step.runs)) its)
     where
       v : Moment K V
-      v = with_effects None of (effects_of (Making b.map) known new.memory.changed) m
+      v = with_effects None of (effects_of (Making b.map) known new.changed) m
 
       known2 : Known
-      known2 = known_after (Making b.map) new.memory.changed known
+      known2 = known_after (Making b.map) new.changed known
 
       there : Reached deferred_word old.batch_size s.world
       there = came_reached old.batch_size s.world at.together.makings.standing.came

@@ -34,9 +34,6 @@ use Rattle.papaya_settles.specs.Given.Effects.Known.{Known}
 use Rattle.papaya_settles.specs.Given.Effects.declared.acting.Acting.TheVariants.{Call}
 use Rattle.papaya_settles.specs.Given.Effects.declared.role.Role.{Role}
 use Rattle.papaya_settles.specs.Given.Effects.declared.role.Role.TheVariants as role
-use Rattle.papaya_settles.specs.Given.Executor.IsAt.{Scene, IsAt, slot_of}
-use Rattle.papaya_settles.specs.Given.Executor.Stepping.{StepLeads, scene_after}
-use Rattle.papaya_settles.specs.Given.Executor.declared.executor.Executor.{Executor}
 use Rattle.papaya_settles.specs.Given.Finishes.Machines.{machine_of, GoesOnAs}
 use Rattle.papaya_settles.specs.Given.Finishes.Maps.{Standing}
 use Rattle.papaya_settles.proofs.Given.Follows.Onward.{IsLasting, KeepsRoles}
@@ -58,6 +55,9 @@ use Rattle.papaya_lives.proofs.LyingRows.{HasPut, put_on, begun_puts, PutsSo, pu
 use Rattle.papaya_lives.proofs.Once.{more}
 use Rattle.papaya_lives.proofs.Puts.{to_put}
 use Rattle.papaya_lives.proofs.Stages.{WasTable, role_back}
+use Rattle.papaya_settles.specs.Given.Scenes.Held.{Held, IsAt}
+use Rattle.papaya_settles.specs.Given.Scenes.Scene.{Scene, slot_of}
+use Rattle.papaya_settles.specs.Given.Scenes.Stepping.{StepLeads, scene_after}
 
 -- a row that has put its block rests not yet
 put_busy : (row : Row) → HasPut row → row ≡ Rests → ⊥
@@ -69,7 +69,7 @@ put_busy (Settles c) over is = over
 put_busy (Leaves c) over is = over
 put_busy (Frees c) over is = over
 
-module _ {K V S : Type 0} (same : K → K → Bool) (hash : K → ℕ) (name : ℕ → List ℕ) (m : Moment K V) (known : Known) (s : Scene K V) (old new : Executor K V S) (at : IsAt same hash old s)
+module _ {K V : Type 0} (same : K → K → Bool) (hash : ℕ → K → ℕ) (name : ℕ → List ℕ) (m : Moment K V) (known : Known) (s : Scene K V) (old new : Held K V) (at : IsAt same hash old s)
     (whole : ShowsWhole same name m known s) (owning : OwnAreMade known s.world) (shows : ShowsLying m known s.world) (map i : ℕ) (u : UnderWay K V K) (here : s.calls map i ≡ Some u)
     (said : Progress (Node K V)) (leads : StepLeads same hash i said s old new) where
   abbrev to : WentTo same hash name m known s old new at whole.all.shown map i u here said leads
@@ -79,13 +79,13 @@ module _ {K V S : Type 0} (same : K → K → Bool) (hash : K → ℕ) (name : �
   w = s.world
 
   abbrev effects : List Effect
-  effects = effects_of (Call i map) known new.memory.changed
+  effects = effects_of (Call i map) known new.changed
 
   abbrev v : Moment K V
   v = with_effects (Some (name i)) (Some map) effects m
 
   abbrev known2 : Known
-  known2 = known_after (Call i map) new.memory.changed known
+  known2 = known_after (Call i map) new.changed known
 
   abbrev size : ℕ
   size = to.0.setting.batch_size
@@ -98,7 +98,7 @@ module _ {K V S : Type 0} (same : K → K → Bool) (hash : K → ℕ) (name : �
 
   -- what carries a block is none of somebody's own
   was_table : (b c len : ℕ) (t : Table) → where_is b w.log ≡ With c → known2.roles c ≡ role.Table t len → known.roles c ≡ role.Table t len
-  was_table b c len t lies is = by (role_back (Call i map) known c len t new.memory.changed is)
+  was_table b c len t lies is = by (role_back (Call i map) known c len t new.changed is)
     where
       by : WasTable known c t len → known.roles c ≡ role.Table t len
       by (inl noted) = noted
@@ -108,7 +108,7 @@ module _ {K V S : Type 0} (same : K → K → Bool) (hash : K → ℕ) (name : �
   module _ (own : OfNoRow same hash name m known s old new at whole.all.shown map i u here said leads u (leads map u here).4.did) where
     keeps : KeepsRoles known known2
     keeps =
-        let stores = (calls_store_theirs K V S same hash name m known s old new at whole.all map i u here said leads own).0 in
+        let stores = (calls_store_theirs K V same hash name m known s old new at whole.all map i u here said leads own).0 in
         (step_shown same hash name m known s old new at whole.all.shown map i u here said leads own stores).1.keeps
 
     by_events : (w2 : World (Node K V)) → to.4.w2 ≡ w2 → (events : List (Event (Node K V))) → AllUsers events → Runs deferred_word size events w w2 → ShowsLying v known2 to.4.w2
@@ -142,11 +142,11 @@ module _ {K V S : Type 0} (same : K → K → Bool) (hash : K → ℕ) (name : �
     Tells = RowTells i map known effects (due_in_row (machine_of u)) (due_in_row to.1)
 
     tells : Tells
-    tells = rows_tell_due K V S same hash name m known s old new at whole.all.shown whole.all.rows entries owning map i u here said leads other
+    tells = rows_tell_due K V same hash name m known s old new at whole.all.shown whole.all.rows entries owning map i u here said leads other
 
     role_kept : (b : ℕ) (r : Role) → known.roles b ≡ r → IsLasting r → known2.roles b ≡ r
     role_kept b r e its =
-        let theirs = rows_hand_theirs K V S same hash name m known s old new at whole.all map i u here said leads other in
+        let theirs = rows_hand_theirs K V same hash name m known s old new at whole.all map i u here said leads other in
         (row_step_shown same hash name m known s old new at whole.all.shown map i u here said leads other theirs.1 theirs.0).keeps b (subst IsLasting (sym e) its) ∙ e
 
     abbrev deferred_then : List Effect → List Deferral
@@ -199,7 +199,7 @@ module _ {K V S : Type 0} (same : K → K → Bool) (hash : K → ℕ) (name : �
         by _ goes = goes
 
     abbrev s2 : Scene K V
-    s2 = scene_after same hash s old new map i to.0 u to.1 said to.4
+    s2 = scene_after same s old new map i to.0 u to.1 said to.4
 
     its_call : (u2 : UnderWay K V K) → to.4.next ≡ Some u2 → s2.calls map i ≡ Some u2
     its_call u2 e =
@@ -347,10 +347,10 @@ module _ {K V S : Type 0} (same : K → K → Bool) (hash : K → ℕ) (name : �
         by (OverAll x) (p2, end, machine_is, told_is, inl step) none = absurd (none tt)
         by (OverAll x) (p2, end, machine_is, told_is, inr (row, stayed)) none = one_lies row.step.w2 stayed.0 row.step.happened
 
-pub calls_keep_lying : (K V S : Type 0) (same : K → K → Bool) (hash : K → ℕ) → CallsKeepLying K V S same hash
-calls_keep_lying K V S same hash name m known s old new at whole entries owning owed shows map i u here said leads =
+pub calls_keep_lying : (K V : Type 0) (same : K → K → Bool) (hash : ℕ → K → ℕ) → CallsKeepLying K V same hash
+calls_keep_lying K V same hash name m known s old new at whole entries owning owed shows map i u here said leads =
     elim (own_or_row same hash name m known s old new at whole.all.shown map i u here said leads u (went_to same hash name m known s old new at whole.all.shown map i u here said leads).4.did)
-    as (λ _. ShowsLying (with_effects (Some (name i)) (Some map) (effects_of (Call i map) known new.memory.changed) m) (known_after (Call i map) new.memory.changed known) (leads map u here).4.w2) [
+    as (λ _. ShowsLying (with_effects (Some (name i)) (Some map) (effects_of (Call i map) known new.changed) m) (known_after (Call i map) new.changed known) (leads map u here).4.w2) [
       | inl own ↦ own_lies same hash name m known s old new at whole owning shows map i u here said leads own
       | inr other ↦ row_lies same hash name m known s old new at whole owning shows map i u here said leads entries owed other
     ]

@@ -24,9 +24,6 @@ use Rattle.papaya_settles.specs.Given.Effects.Known.{Known}
 use Rattle.papaya_settles.specs.Given.Effects.declared.acting.Acting.TheVariants.{Ending}
 use Rattle.papaya_settles.specs.Given.Effects.declared.role.Role.{Role}
 use Rattle.papaya_settles.specs.Given.Effects.declared.role.Role.TheVariants as role
-use Rattle.papaya_settles.specs.Given.Executor.Ending.{EndingStepsFrom, EndingComesTo}
-use Rattle.papaya_settles.specs.Given.Executor.IsAt.{Scene, IsAt, slot_of}
-use Rattle.papaya_settles.specs.Given.Executor.declared.executor.Executor.{Executor}
 use Rattle.papaya_settles.specs.Given.Finishes.Endings.{Finishing, StepsOfEnding}
 use Rattle.papaya_settles.specs.Given.Finishes.FactsEnds.{events_of}
 use Rattle.papaya_settles.proofs.Given.Follows.Alike.{put_here}
@@ -38,14 +35,17 @@ use Rattle.papaya_lives.specs.Lying.{ShowsLying, EndingsKeepLying}
 use Rattle.papaya_lives.specs.Waiting.{IsPutting}
 use Rattle.papaya_lives.proofs.Lying.{behind_other, lying_on}
 use Rattle.papaya_lives.proofs.WaitingEnds.{calm_deferred}
+use Rattle.papaya_settles.specs.Given.Scenes.Ending.{EndingComesTo, EndingStepsFrom}
+use Rattle.papaya_settles.specs.Given.Scenes.Held.{Held, IsAt}
+use Rattle.papaya_settles.specs.Given.Scenes.Scene.{Scene, slot_of}
 
-module _ {K V S : Type 0} (same : K → K → Bool) (hash : K → ℕ) (name : ℕ → List ℕ) (m : Moment K V) (known : Known) (s : Scene K V) (old new : Executor K V S) (at : IsAt same hash old s)
+module _ {K V : Type 0} (same : K → K → Bool) (hash : ℕ → K → ℕ) (name : ℕ → List ℕ) (m : Moment K V) (known : Known) (s : Scene K V) (old new : Held K V) (at : IsAt same hash old s)
     (whole : ShowsWhole same name m known s) (shows : ShowsLying m known s.world) (i : ℕ) (f : Finishing K V) (here : s.enders i ≡ Some f) (end : EndMap) (said : Settled (Node K V))
     (steps : EndingStepsFrom f.machine old new end said)
-    (did : StepsOfEnding V same same old.batch_size old.roots slot_of s.world s.maps s.calls s.makers s.enders i f new.memory.memory (end, said))
+    (did : StepsOfEnding V same same old.batch_size old.roots slot_of s.world s.maps s.calls s.makers s.enders i f new.memory (end, said))
     (map : ℕ) (not_there : s.maps map ≡ None) (comes : EndingComesTo same hash s new i f end did.w2 did.deed said) where
   abbrev told : Changed
-  told = new.memory.changed
+  told = new.changed
 
   abbrev known2 : Known
   known2 = known_after (Ending map) told known
@@ -102,6 +102,6 @@ module _ {K V S : Type 0} (same : K → K → Bool) (hash : K → ℕ) (name : �
   lying_then (settled.Gave value) it = lies_then
   lying_then settled.Done it = lies_then
 
-pub endings_keep_lying : (K V S : Type 0) (same : K → K → Bool) (hash : K → ℕ) → EndingsKeepLying K V S same hash
-endings_keep_lying K V S same hash name m known s old new at whole shows i told leads f here map not_there =
+pub endings_keep_lying : (K V : Type 0) (same : K → K → Bool) (hash : ℕ → K → ℕ) → EndingsKeepLying K V same hash
+endings_keep_lying K V same hash name m known s old new at whole shows i told leads f here map not_there =
     let to = leads f here in lying_then same hash name m known s old new at whole shows i f here to.0 told to.1 to.2 map not_there to.3 told to.3

@@ -37,7 +37,6 @@ use Rattle.papaya_settles.specs.Given.Callers.OverAll.{row_of_sweep}
 use Rattle.papaya_settles.specs.Given.Callers.Together.{UnderWay, OnKey, ForRoom, Counting, OverAll, Stands}
 use Rattle.papaya_settles.specs.Given.Effects.Effects.{named}
 use Rattle.papaya_settles.specs.Given.Effects.Known.{Known}
-use Rattle.papaya_settles.specs.Given.Executor.IsAt.{slot_of}
 use Rattle.papaya_settles.specs.Given.Finishes.Machines.{machine_of}
 use Rattle.papaya_settles.specs.Due.{ToPut, due_in_defer, due_in_disposing, due_in_copying, due_in_calling, due_in_reserving, due_in_sweeping, due_in_row}
 use Rattle.papaya_settles.specs.Hand.{IsPairRole, NotesInHand}
@@ -45,6 +44,7 @@ use Rattle.papaya_settles.proofs.Hand.Behind.{key_puts, room_puts, sweep_puts}
 use Rattle.papaya_lives.specs.Waiting.{IsPutting}
 use Rattle.papaya_lives.proofs.Putting.{not_over}
 use Rattle.papaya_lives.proofs.Puts.{IsToPut}
+use Rattle.papaya_settles.specs.Given.Scenes.Scene.{slot_of}
 
 -- it has put it there
 abbrev pub HasPut : Row → Type 0

@@ -27,9 +27,6 @@ use Rattle.papaya_settles.specs.Given.Effects.declared.acting.Acting.{Acting}
 use Rattle.papaya_settles.specs.Given.Effects.declared.acting.Acting.TheVariants.{Making}
 use Rattle.papaya_settles.specs.Given.Effects.declared.role.Role.{Role}
 use Rattle.papaya_settles.specs.Given.Effects.declared.role.Role.TheVariants as role
-use Rattle.papaya_settles.specs.Given.Executor.IsAt.{Scene, IsAt}
-use Rattle.papaya_settles.specs.Given.Executor.Making.{MakingComesTo, MakingLeads}
-use Rattle.papaya_settles.specs.Given.Executor.declared.executor.Executor.{Executor}
 use Rattle.papaya_settles.specs.Given.Follows.Blocks.{HasRole}
 use Rattle.papaya_settles.proofs.Given.Follows.Onward.{IsOfMap}
 use Rattle.papaya_settles.proofs.Given.Follows.Operations.{LeavesBy}
@@ -43,6 +40,9 @@ use Rattle.papaya_lives.specs.Behind.{ShowsWaiting}
 use Rattle.papaya_lives.specs.Steps.{MakingsKeepWaiting}
 use Rattle.papaya_lives.proofs.Stages.{NoneEnds}
 use Rattle.papaya_lives.proofs.Users.{users_keep_waiting}
+use Rattle.papaya_settles.specs.Given.Scenes.Held.{Held, IsAt}
+use Rattle.papaya_settles.specs.Given.Scenes.Making.{MakingComesTo, MakingLeads}
+use Rattle.papaya_settles.specs.Given.Scenes.Scene.{Scene}
 
 module _ {K V : Type 0} (map : ℕ) (of : Option ℕ) (m : Moment K V) (known : Known) where
   abbrev its : Acting
@@ -110,21 +110,21 @@ module _ {K V : Type 0} (map : ℕ) (of : Option ℕ) (m : Moment K V) (known : 
     making_apart (changed.Roomed bucket had) so l = absurd so
 
 -- the world that a step of a making leads to
-module _ {K V S : Type 0} (same : K → K → Bool) (hash : K → ℕ) (s : Scene K V) (old new : Executor K V S) (i : ℕ) (b : Beginning K) (opening : NewMap) (w2 : World (Node K V)) where
+module _ {K V : Type 0} (same : K → K → Bool) (hash : ℕ → K → ℕ) (s : Scene K V) (old new : Held K V) (i : ℕ) (b : Beginning K) (opening : NewMap) (w2 : World (Node K V)) where
   pub world_then : (told : Progress Setting) (comes : MakingComesTo same hash s old new i b opening w2 told) → (making_after same hash s old new i b opening w2 told comes).world ≡ w2
   world_then progress.Goes comes = refl
   world_then progress.Waits comes = absurd comes
   world_then (progress.Done setting) comes = refl
   world_then (progress.Refused fault) comes = refl
 
-module _ {K V S : Type 0} (same : K → K → Bool) (hash : K → ℕ) (name : ℕ → List ℕ) (m : Moment K V) (known : Known) (s : Scene K V) (old new : Executor K V S) (at : IsAt same hash old s)
+module _ {K V : Type 0} (same : K → K → Bool) (hash : ℕ → K → ℕ) (name : ℕ → List ℕ) (m : Moment K V) (known : Known) (s : Scene K V) (old new : Held K V) (at : IsAt same hash old s)
     (whole : ShowsWhole same name m known s) (i : ℕ) (told : Progress Setting) (leads : MakingLeads same hash i told s old new) (b : Beginning K) (here : s.makers i ≡ Some b) (of : Option ℕ)
     (was_new : WasNew b.map told m) where
   abbrev w2 : World (Node K V)
   w2 = (leads b here).2.step.w2
 
   abbrev known2 : Known
-  known2 = known_after (Making b.map) new.memory.changed known
+  known2 = known_after (Making b.map) new.changed known
 
   -- the block of a pair, or of a table, is there
   of_map_there : (x : ℕ) (r : Role) → known.roles x ≡ r → IsOfMap r → IsSome (value_at w2.memory x)
@@ -149,22 +149,22 @@ module _ {K V S : Type 0} (same : K → K → Bool) (hash : K → ℕ) (name : �
   role_kept x r e its =
       let to = leads b here in
       let there = subst (λ (z : World (Node K V)). IsSome (value_at z.memory x)) (sym (world_then same hash s old new i b to.0 to.2.step.w2 told to.3)) (of_map_there x r e its) in
-      (makings_go_beside K V S same hash name m known s old new at whole i told leads b here of was_new).roles x there (subst IsOfMap (sym e) its) ∙ e
+      (makings_go_beside K V same hash name m known s old new at whole i told leads b here of was_new).roles x there (subst IsOfMap (sym e) its) ∙ e
 
-  pub apart : AreApart b.map of m known (effects_of (Making b.map) known new.memory.changed)
+  pub apart : AreApart b.map of m known (effects_of (Making b.map) known new.changed)
   apart =
       let to = leads b here in
       making_apart b.map of m known s.world to.2.step.w2 i b.machine.setting.root (nothing_free s.world m.stored known whole.all.shown.blocks.roles)
       (λ x q made. no_table_word same hash name m known s old new at whole.all.shown i b here to.0 told to.1 to.2 of x q made)
       (λ x its. of_map_there x (known.roles x) refl its)
-      new.memory.changed (tells same hash name m known s old new at whole.all.shown i b here to.0 told to.1 to.2 of) (left same hash name m known s old new at whole.all.shown i b here to.0 told to.1 to.2 of)
+      new.changed (tells same hash name m known s old new at whole.all.shown i b here to.0 told to.1 to.2 of) (left same hash name m known s old new at whole.all.shown i b here to.0 told to.1 to.2 of)
 
-  making_waiting : ShowsWaiting m known s.world → ShowsWaiting (with_effects None of (effects_of (Making b.map) known new.memory.changed) m) known2 w2
+  making_waiting : ShowsWaiting m known s.world → ShowsWaiting (with_effects None of (effects_of (Making b.map) known new.changed) m) known2 w2
   making_waiting waiting =
       let to = leads b here in
-      users_keep_waiting K V old.batch_size m (with_effects None of (effects_of (Making b.map) known new.memory.changed) m) known known2 s.world w2 at.together.makings.standing.came waiting
+      users_keep_waiting K V old.batch_size m (with_effects None of (effects_of (Making b.map) known new.changed) m) known known2 s.world w2 at.together.makings.standing.came waiting
       to.2.step.events to.2.step.users to.2.step.runs apart.0 (λ n t l is. ap (λ (f : ℕ → Place). f n) apart.1 ∙ is) (λ x n e. role_kept x (role.Pair n) e tt) (λ x len t e. role_kept x (role.Table t len) e tt)
 
-pub makings_keep_waiting : (K V S : Type 0) (same : K → K → Bool) (hash : K → ℕ) → MakingsKeepWaiting K V S same hash
-makings_keep_waiting K V S same hash name m known s old new at whole waiting i told leads b here of was_new =
+pub makings_keep_waiting : (K V : Type 0) (same : K → K → Bool) (hash : ℕ → K → ℕ) → MakingsKeepWaiting K V same hash
+makings_keep_waiting K V same hash name m known s old new at whole waiting i told leads b here of was_new =
     making_waiting same hash name m known s old new at whole i told leads b here of was_new waiting

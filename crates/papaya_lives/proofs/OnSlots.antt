@@ -29,7 +29,6 @@ use Rattle.papaya_settles.specs.Given.Effects.Known.{Known, with_role}
 use Rattle.papaya_settles.specs.Given.Effects.declared.acting.Acting.TheVariants.{Row}
 use Rattle.papaya_settles.specs.Given.Effects.declared.role.Role.{Role}
 use Rattle.papaya_settles.specs.Given.Effects.declared.role.Role.TheVariants as role
-use Rattle.papaya_settles.specs.Given.Executor.IsAt.{Scene}
 use Rattle.papaya_settles.specs.Given.Follows.Blocks.{HasRole}
 use Rattle.papaya_settles.specs.Given.Follows.Shows.{Shows}
 use Rattle.papaya_settles.proofs.Given.Follows.Alike.{put_elsewhere}
@@ -44,6 +43,7 @@ use Rattle.papaya_lives.proofs.Each.{WaitsAt, each_on, each_kept, found}
 use Rattle.papaya_lives.proofs.Logs.{waits_on}
 use Rattle.papaya_lives.proofs.Taken.{there_still, kept as its_kept, not_taken as its_not_taken, left_unretired, told_retired}
 use Rattle.papaya_lives.proofs.Worlds.{Kept, unretired, has_it}
+use Rattle.papaya_settles.specs.Given.Scenes.Scene.{Scene}
 
 -- what is left over the collector has not
 left_no_handed : (h : Hand) → IsLeft h → h ≡ Handed → ⊥

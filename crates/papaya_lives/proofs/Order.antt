@@ -25,11 +25,8 @@ use Rattle.papaya_settles.specs.Given.Effects.Known.{Known, with_role}
 use Rattle.papaya_settles.specs.Given.Effects.declared.acting.Acting.TheVariants.{Making as OfMaking, Row}
 use Rattle.papaya_settles.specs.Given.Effects.declared.role.Role.{Role}
 use Rattle.papaya_settles.specs.Given.Effects.declared.role.Role.TheVariants as role
-use Rattle.papaya_settles.specs.Given.Executor.IsAt.{Scene, HasRow, row_of, slot_of}
-use Rattle.papaya_settles.specs.Given.Executor.Rows.{request_of}
-use Rattle.papaya_settles.specs.Given.Executor.declared.row.SlotCall.{SlotCall}
-use Rattle.papaya_settles.specs.Given.Executor.declared.row.SlotCall.TheVariants as calls
-use Rattle.papaya_settles.specs.Given.Executor.declared.worker.Work.{Work}
+use Rattle.papaya_settles.specs.Given.Scenes.declared.row.SlotCall.{SlotCall}
+use Rattle.papaya_settles.specs.Given.Scenes.declared.row.SlotCall.TheVariants as calls
 use Rattle.papaya_settles.proofs.Given.Finishes.Ends.CountedBlocks.{some_here, some_last}
 use Rattle.papaya_settles.specs.Given.Follows.Blocks.{HasRole, WasLinked}
 use Rattle.papaya_settles.proofs.Given.Follows.Alike.{put_here}
@@ -50,6 +47,8 @@ use Rattle.papaya_lives.proofs.Makings.{role_kept, apart}
 use Rattle.papaya_lives.proofs.Reclaimed.{stays_so}
 use Rattle.papaya_lives.proofs.Stages.{WasTable, role_back}
 use Rattle.papaya_lives.proofs.Waiting.{reached, left}
+use Rattle.papaya_settles.specs.Given.Scenes.Rows.{request_of}
+use Rattle.papaya_settles.specs.Given.Scenes.Scene.{Scene, row_of, slot_of}
 
 -- blocks that are noted as these pairs are so still
 pub noted_still : (known known2 : Known) (blocks pairs : List ℕ) → map known.roles blocks ≡ map role.Pair pairs
@@ -223,30 +222,30 @@ pub order_in : {K V : Type 0} (m : Moment K V) (known : Known) (w w2 : World (No
 order_in {K} {V} m known w w2 memory hands shows c len o t blocks is used are =
     shows c len o t blocks is (ap (λ (h : ℕ → Hand). h c) (sym hands) ∙ used) (subst (λ (x : Mem (Node K V)). FurtherAre deferred_word x c blocks) memory are)
 
-module _ (K V S : Type 0) (same : K → K → Bool) (hash : K → ℕ) where
-  pub rows_begin_order : RowsBeginOrder K V S same hash
-  rows_begin_order m known s old new shows called i may leads =
-      let to = (leads may).3 in
+module _ (K V : Type 0) (same : K → K → Bool) (hash : ℕ → K → ℕ) where
+  pub rows_begin_order : RowsBeginOrder K V same hash
+  rows_begin_order m known s old new shows called i leads =
+      let to = leads.2 in
       let it = begun_same old.batch_size (slot_of i) i s.world to.0 called to.1.1 in
       order_in m known s.world to.0 it.0 it.1 shows
 
-  pub rows_keep_order : RowsKeepOrder K V S same hash
+  pub rows_keep_order : RowsKeepOrder K V same hash
   rows_keep_order name m known s old new at whole shows i told leads row here =
       let to = leads row here in
-      row_order same name old.batch_size m known s whole shows (reached K V S same hash s old new at i row here (to.0, told) to.1 to.4) i
-      (λ b c puts. no_slot_puts b c row (subst (IsPutting b c) on_slot puts)) to.4.0 to.4.1 new.memory.changed
-      (row_tells old.memory.memory new.memory.memory new.memory.changed (to.0, told) row to.1)
-      (left K V S same hash s old new at i row here (to.0, told) to.1 to.4)
+      row_order same name old.batch_size m known s whole shows (reached K V same hash s old new at i row here (to.0, told) to.1 to.2) i
+      (λ b c puts. no_slot_puts b c row (subst (IsPutting b c) on_slot puts)) to.2.0 to.2.1 new.changed
+      (row_tells old.memory new.memory new.changed (to.0, told) row to.1)
+      (left K V same hash s old new at i row here (to.0, told) to.1 to.2)
     where
       on_slot : s.world.row i ≡ row_of row
-      on_slot = subst (λ (o : Option (Work K V)). HasRow o (s.world.row i)) here (at.rows i)
+      on_slot = here.1
 
-  pub makings_keep_order : MakingsKeepOrder K V S same hash
+  pub makings_keep_order : MakingsKeepOrder K V same hash
   makings_keep_order name m known s old new at whole owning waiting shows i told leads b here of was_new =
       let step = (leads b here).2.step in
-      users_keep_order old.batch_size m (with_effects None of (effects_of (OfMaking b.map) known new.memory.changed) m) known (known_after (OfMaking b.map) new.memory.changed known) s.world step.w2
+      users_keep_order old.batch_size m (with_effects None of (effects_of (OfMaking b.map) known new.changed) m) known (known_after (OfMaking b.map) new.changed known) s.world step.w2
       (came_reached old.batch_size s.world at.together.makings.standing.came) shows waiting whole.all.shown.blocks.roles owning step.events step.users step.runs
-      (λ c len t is. role_back (OfMaking b.map) known c len t new.memory.changed is)
+      (λ c len t is. role_back (OfMaking b.map) known c len t new.changed is)
       (λ x r noted its. role_kept same hash name m known s old new at whole i told leads b here of was_new x r noted its)
-      (makings_keep_blocks K V S same hash name m known s old new at whole.all.shown whole.blocks i told leads b here of was_new).tables_once
+      (makings_keep_blocks K V same hash name m known s old new at whole.all.shown whole.blocks i told leads b here of was_new).tables_once
       (apart same hash name m known s old new at whole i told leads b here of was_new).0

@@ -30,9 +30,6 @@ use Rattle.papaya_settles.specs.Given.Effects.Known.{Known}
 use Rattle.papaya_settles.specs.Given.Effects.declared.acting.Acting.TheVariants.{Call}
 use Rattle.papaya_settles.specs.Given.Effects.declared.role.Role.{Role}
 use Rattle.papaya_settles.specs.Given.Effects.declared.role.Role.TheVariants as role
-use Rattle.papaya_settles.specs.Given.Executor.IsAt.{Scene, IsAt, slot_of}
-use Rattle.papaya_settles.specs.Given.Executor.Stepping.{StepLeads}
-use Rattle.papaya_settles.specs.Given.Executor.declared.executor.Executor.{Executor}
 use Rattle.papaya_settles.specs.Given.Finishes.Machines.{machine_of}
 use Rattle.papaya_settles.proofs.Given.Follows.Onward.{IsLasting, KeepsRoles}
 use Rattle.papaya_settles.proofs.Given.Follows.Steps.{WentTo, went_to, DidSo, OfNoRow, step_shown}
@@ -57,6 +54,9 @@ use Rattle.papaya_lives.proofs.LyingCalls.{none_after, yet_due}
 use Rattle.papaya_lives.proofs.LyingRows.{HasPut, put_on, PutsSo, puts_so, same_word, put_due, puts_pair}
 use Rattle.papaya_lives.proofs.Order.{order_as, users_keep_order}
 use Rattle.papaya_lives.proofs.Stages.{WasTable, role_back}
+use Rattle.papaya_settles.specs.Given.Scenes.Held.{Held, IsAt}
+use Rattle.papaya_settles.specs.Given.Scenes.Scene.{Scene, slot_of}
+use Rattle.papaya_settles.specs.Given.Scenes.Stepping.{StepLeads}
 
 -- one more waits behind this table, and no more behind another one
 more_behind : (n : ℕ) (t : Table) (ds : List Deferral) → behind t (record { pair = n; behind = t } ∷ ds) ≡ n ∷ behind t ds
@@ -76,7 +76,7 @@ no_more_behind n t x ds other = by (same_table x t) refl
 putting_busy : (b c : ℕ) (row : Row) → IsPutting b c row → row ≡ Rests → ⊥
 putting_busy b c row puts is = subst (IsPutting b c) is puts
 
-module _ {K V S : Type 0} (same : K → K → Bool) (hash : K → ℕ) (name : ℕ → List ℕ) (m : Moment K V) (known : Known) (s : Scene K V) (old new : Executor K V S) (at : IsAt same hash old s)
+module _ {K V : Type 0} (same : K → K → Bool) (hash : ℕ → K → ℕ) (name : ℕ → List ℕ) (m : Moment K V) (known : Known) (s : Scene K V) (old new : Held K V) (at : IsAt same hash old s)
     (whole : ShowsWhole same name m known s) (owning : OwnAreMade known s.world) (waiting : ShowsWaiting m known s.world) (lying : ShowsLying m known s.world) (shows : ShowsOrder m known s.world)
     (map i : ℕ) (u : UnderWay K V K) (here : s.calls map i ≡ Some u) (said : Progress (Node K V)) (leads : StepLeads same hash i said s old new) where
   abbrev to : WentTo same hash name m known s old new at whole.all.shown map i u here said leads
@@ -86,13 +86,13 @@ module _ {K V S : Type 0} (same : K → K → Bool) (hash : K → ℕ) (name : �
   w = s.world
 
   abbrev effects : List Effect
-  effects = effects_of (Call i map) known new.memory.changed
+  effects = effects_of (Call i map) known new.changed
 
   abbrev v : Moment K V
   v = with_effects (Some (name i)) (Some map) effects m
 
   abbrev known2 : Known
-  known2 = known_after (Call i map) new.memory.changed known
+  known2 = known_after (Call i map) new.changed known
 
   abbrev size : ℕ
   size = to.0.setting.batch_size
@@ -107,16 +107,16 @@ module _ {K V S : Type 0} (same : K → K → Bool) (hash : K → ℕ) (name : �
   module _ (own : OfNoRow same hash name m known s old new at whole.all.shown map i u here said leads u (leads map u here).4.did) where
     keeps : KeepsRoles known known2
     keeps =
-        let stores = (calls_store_theirs K V S same hash name m known s old new at whole.all map i u here said leads own).0 in
+        let stores = (calls_store_theirs K V same hash name m known s old new at whole.all map i u here said leads own).0 in
         (step_shown same hash name m known s old new at whole.all.shown map i u here said leads own stores).1.keeps
 
     by_events : (w2 : World (Node K V)) → to.4.w2 ≡ w2 → (events : List (Event (Node K V))) → AllUsers events → Runs deferred_word size events w w2 → ShowsOrder v known2 to.4.w2
     by_events w2 is events users runs =
         subst (ShowsOrder v known2) (sym is)
         (users_keep_order size m v known known2 w w2 reached shows waiting whole.all.shown.blocks.roles owning events users runs
-        (λ c len t noted. role_back (Call i map) known c len t new.memory.changed noted)
+        (λ c len t noted. role_back (Call i map) known c len t new.changed noted)
         (λ b r noted its. keeps b (subst IsLasting (sym noted) (lasting_of r its)) ∙ noted)
-        (calls_keep_whole K V S same hash name m known s old new at whole map i u here said leads).blocks.tables_once
+        (calls_keep_whole K V same hash name m known s old new at whole map i u here said leads).blocks.tables_once
         (calls_keep_list same hash name m known s old new at whole map i u here said leads own))
 
     pub own_order : ShowsOrder v known2 to.4.w2
@@ -139,7 +139,7 @@ module _ {K V S : Type 0} (same : K → K → Bool) (hash : K → ℕ) (name : �
     Tells = RowTells i map known effects (due_in_row (machine_of u)) (due_in_row to.1)
 
     tells : Tells
-    tells = rows_tell_due K V S same hash name m known s old new at whole.all.shown whole.all.rows entries owning map i u here said leads other
+    tells = rows_tell_due K V same hash name m known s old new at whole.all.shown whole.all.rows entries owning map i u here said leads other
 
     noted : (b : ℕ) (r : Role) → known.roles b ≡ r → IsLasting r → known2.roles b ≡ r
     noted = role_kept same hash name m known s old new at whole entries owning waiting map i u here said leads other
@@ -148,13 +148,13 @@ module _ {K V S : Type 0} (same : K → K → Bool) (hash : K → ℕ) (name : �
     deferred_then fs = (with_effects (Some (name i)) (Some map) fs m).deferred
 
     was_table : (c len : ℕ) (t : Table) → known2.roles c ≡ role.Table t len → (o : ℕ) → w.hand c ≡ InUse o → known.roles c ≡ role.Table t len
-    was_table c len t is o used = by (role_back (Call i map) known c len t new.memory.changed is)
+    was_table c len t is o used = by (role_back (Call i map) known c len t new.changed is)
       where
         by : WasTable known c t len → known.roles c ≡ role.Table t len
         by (inl was) = was
         by (inr (turn, shape, own, e)) = absurd (let made = owning c turn shape own in let making = made.1 in cc (used, making))
 
-    module _ (w3 : World (Node K V)) (is : to.4.w2 ≡ w3) (memory : w3.memory ≡ new.memory.memory) (c len o : ℕ) (t : Table) (blocks : List ℕ) (table2 : known2.roles c ≡ role.Table t len)
+    module _ (w3 : World (Node K V)) (is : to.4.w2 ≡ w3) (memory : w3.memory ≡ new.memory) (c len o : ℕ) (t : Table) (blocks : List ℕ) (table2 : known2.roles c ≡ role.Table t len)
         (used : w3.hand c ≡ InUse o) (are : FurtherAre deferred_word w3.memory c blocks) where
       abbrev Lies : Type 0
       Lies = each_of known2.roles blocks ≡ each_of role.Pair (behind t v.deferred)
@@ -306,7 +306,7 @@ module _ {K V S : Type 0} (same : K → K → Bool) (hash : K → ℕ) (name : �
       one_lies (inl step) = stepped step
       one_lies (inr (request, begun, over, begins, step)) = began request begun over begins step
 
-    row_lies : (w3 : World (Node K V)) → to.4.w2 ≡ w3 → w3.memory ≡ new.memory.memory → IsOneStep to.0.setting i w w3 → ShowsOrder v known2 to.4.w2
+    row_lies : (w3 : World (Node K V)) → to.4.w2 ≡ w3 → w3.memory ≡ new.memory → IsOneStep to.0.setting i w w3 → ShowsOrder v known2 to.4.w2
     row_lies w3 is memory step c len o t blocks table2 used are =
         one_lies w3 is memory c len o t blocks table2 (ap (λ (z : World (Node K V)). z.hand c) (sym is) ∙ used) (subst (λ (z : World (Node K V)). FurtherAre deferred_word z.memory c blocks) is are) step
 
@@ -323,10 +323,10 @@ module _ {K V S : Type 0} (same : K → K → Bool) (hash : K → ℕ) (name : �
         by (OverAll x) (p2, end, machine_is, told_is, inl step) none = absurd (none tt)
         by (OverAll x) (p2, end, machine_is, told_is, inr (row, stayed)) none = row_lies row.step.w2 stayed.0 row.step.memory row.step.happened
 
-pub calls_keep_order : (K V S : Type 0) (same : K → K → Bool) (hash : K → ℕ) → CallsKeepOrder K V S same hash
-calls_keep_order K V S same hash name m known s old new at whole entries owning owed waiting lying shows map i u here said leads =
+pub calls_keep_order : (K V : Type 0) (same : K → K → Bool) (hash : ℕ → K → ℕ) → CallsKeepOrder K V same hash
+calls_keep_order K V same hash name m known s old new at whole entries owning owed waiting lying shows map i u here said leads =
     elim (own_or_row same hash name m known s old new at whole.all.shown map i u here said leads u (went_to same hash name m known s old new at whole.all.shown map i u here said leads).4.did)
-    as (λ _. ShowsOrder (with_effects (Some (name i)) (Some map) (effects_of (Call i map) known new.memory.changed) m) (known_after (Call i map) new.memory.changed known) (leads map u here).4.w2) [
+    as (λ _. ShowsOrder (with_effects (Some (name i)) (Some map) (effects_of (Call i map) known new.changed) m) (known_after (Call i map) new.changed known) (leads map u here).4.w2) [
       | inl own ↦ own_order same hash name m known s old new at whole owning waiting lying shows map i u here said leads own
       | inr other ↦ row_order same hash name m known s old new at whole owning waiting lying shows map i u here said leads entries owed other
     ]

@@ -28,9 +28,6 @@ use Rattle.papaya_settles.specs.Given.Effects.Known.{Known}
 use Rattle.papaya_settles.specs.Given.Effects.declared.acting.Acting.TheVariants.{Ending}
 use Rattle.papaya_settles.specs.Given.Effects.declared.role.Role.{Role}
 use Rattle.papaya_settles.specs.Given.Effects.declared.role.Role.TheVariants as role
-use Rattle.papaya_settles.specs.Given.Executor.Ending.{EndingStepsFrom, EndingComesTo}
-use Rattle.papaya_settles.specs.Given.Executor.IsAt.{Scene, IsAt, slot_of}
-use Rattle.papaya_settles.specs.Given.Executor.declared.executor.Executor.{Executor}
 use Rattle.papaya_settles.specs.Given.Finishes.Endings.{Finishing, StepsOfEnding}
 use Rattle.papaya_settles.specs.Given.Finishes.FactsEnds.{Deed, Looks, TakesPair, LeavesTable, JoinsPair, TakesLeft, TakesCounter, WritesRoot, events_of, left_by, taken_by as taken_of}
 use Rattle.papaya_settles.proofs.Given.Finishes.Ends.CountedBlocks.{some_here}
@@ -43,6 +40,9 @@ use Rattle.papaya_lives.specs.Order.{ShowsOrder, EndingsKeepOrder}
 use Rattle.papaya_lives.proofs.InUse.{its_list, list_is, listed_there, still_lists, used_there}
 use Rattle.papaya_lives.proofs.Order.{behind_apart, order_as}
 use Rattle.papaya_lives.proofs.WaitingEnds.{calm_deferred}
+use Rattle.papaya_settles.specs.Given.Scenes.Ending.{EndingComesTo, EndingStepsFrom}
+use Rattle.papaya_settles.specs.Given.Scenes.Held.{Held, IsAt}
+use Rattle.papaya_settles.specs.Given.Scenes.Scene.{Scene, slot_of}
 
 -- Each deed leaves the list of a block that is in use after it.
 module _ {T : Type 0} (defers : T → Option ℕ) (size i : ℕ) (w w2 : World T) (r : Reached defers size w) (c o : ℕ) (used : w2.hand c ≡ InUse o) where
@@ -76,13 +76,13 @@ module _ {T : Type 0} (defers : T → Option ℕ) (size i : ℕ) (w w2 : World T
   deed_leaves (TakesCounter b) runs left = as_still (still_lists defers size (events_of i (TakesCounter b)) w w2 r (tt, tt) runs)
   deed_leaves (WritesRoot place word) runs left = as_still (still_lists defers size (events_of i (WritesRoot place word)) w w2 r (tt, tt) runs)
 
-module _ {K V S : Type 0} (same : K → K → Bool) (hash : K → ℕ) (name : ℕ → List ℕ) (m : Moment K V) (known : Known) (s : Scene K V) (old new : Executor K V S) (at : IsAt same hash old s)
+module _ {K V : Type 0} (same : K → K → Bool) (hash : ℕ → K → ℕ) (name : ℕ → List ℕ) (m : Moment K V) (known : Known) (s : Scene K V) (old new : Held K V) (at : IsAt same hash old s)
     (whole : ShowsWhole same name m known s) (shows : ShowsOrder m known s.world) (i : ℕ) (f : Finishing K V) (here : s.enders i ≡ Some f) (end : EndMap) (said : Settled (Node K V))
     (steps : EndingStepsFrom f.machine old new end said)
-    (did : StepsOfEnding V same same old.batch_size old.roots slot_of s.world s.maps s.calls s.makers s.enders i f new.memory.memory (end, said))
+    (did : StepsOfEnding V same same old.batch_size old.roots slot_of s.world s.maps s.calls s.makers s.enders i f new.memory (end, said))
     (map : ℕ) (not_there : s.maps map ≡ None) (comes : EndingComesTo same hash s new i f end did.w2 did.deed said) where
   abbrev told : Changed
-  told = new.memory.changed
+  told = new.changed
 
   abbrev known2 : Known
   known2 = known_after (Ending map) told known
@@ -163,6 +163,6 @@ module _ {K V S : Type 0} (same : K → K → Bool) (hash : K → ℕ) (name : �
   ordered_then (settled.Gave value) it = order_then
   ordered_then settled.Done it = order_then
 
-pub endings_keep_order : (K V S : Type 0) (same : K → K → Bool) (hash : K → ℕ) → EndingsKeepOrder K V S same hash
-endings_keep_order K V S same hash name m known s old new at whole shows i told leads f here map not_there =
+pub endings_keep_order : (K V : Type 0) (same : K → K → Bool) (hash : ℕ → K → ℕ) → EndingsKeepOrder K V same hash
+endings_keep_order K V same hash name m known s old new at whole shows i told leads f here map not_there =
     let to = leads f here in ordered_then same hash name m known s old new at whole shows i f here to.0 told to.1 to.2 map not_there to.3 told to.3

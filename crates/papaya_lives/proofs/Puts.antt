@@ -27,12 +27,12 @@ use Rattle.papaya_settles.specs.Given.Rule.Words.{Blocks}
 use Rattle.papaya_settles.specs.Given.Callers.Rows.{row_of, row_of_disposal}
 use Rattle.papaya_settles.specs.Given.Callers.OverAll.{row_of_sweep}
 use Rattle.papaya_settles.specs.Given.Callers.Together.{UnderWay, OnKey, ForRoom, Counting, OverAll, Stands}
-use Rattle.papaya_settles.specs.Given.Executor.IsAt.{slot_of}
 use Rattle.papaya_settles.specs.Given.Finishes.Machines.{machine_of}
 use Rattle.papaya_settles.specs.Due.{ToPut, due_in_defer, due_in_disposing, due_in_calling, due_in_sweeping, due_in_row}
 use Rattle.papaya_settles.proofs.Hand.Behind.{settle_puts, copying_puts, room_puts}
 use Rattle.papaya_lives.specs.Waiting.{IsPutting}
 use Rattle.papaya_lives.proofs.Rows.{on_the_way}
+use Rattle.papaya_settles.specs.Given.Scenes.Scene.{slot_of}
 
 -- the row is to put the block of this word behind the one that has that word
 abbrev pub IsToPut : ℕ → At → Row → Type 0

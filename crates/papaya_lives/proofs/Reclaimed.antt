@@ -1,5 +1,5 @@
 -- A table that a row on a slot reclaims was retired; and the tables that the collector has then are retired still, or rows within calls are to retire them.
-use Rattle.std.specs.Prelude.{◌≡◌, ◌⊎◌, ℕ, ◌+◌, nat_lt, ◌&&◌, Bool, true, false, List, [], ◌∷◌, length, Option, Some, None, option_map, if◌then◌else◌}
+use Rattle.std.specs.Prelude.{◌≡◌, ◌⊎◌, ℕ, ◌+◌, nat_lt, ◌&&◌, Bool, true, false, List, [], ◌∷◌, length, Option, None, if◌then◌else◌}
 use Rattle.std.proofs.Common.{refl, ap, sym, subst, ◌∙◌, inl, inr}
 use Rattle.std.proofs.lemmas.Bool.{ne_eqb}
 use Rattle.papaya_settles.specs.Given.SeizeWords.declared.at.At.TheVariants.{Root, Used, Slot, Entry, Word}
@@ -13,7 +13,6 @@ use Rattle.papaya_settles.proofs.Given.SeizeRule.Words.View.{view}
 use Rattle.papaya_settles.proofs.Given.SeizeAlone.Histories.Reached.{Reached}
 use Rattle.papaya_settles.specs.Given.Tables.Nodes.{deferred_word}
 use Rattle.papaya_settles.specs.Given.Tables.declared.node.Node.{Node}
-use Rattle.papaya_settles.specs.Given.Raw.declared.machines.machine.Machine.{Machine}
 use Rattle.papaya_settles.specs.Given.Schedules.declared.effect.Effect.{Effect}
 use Rattle.papaya_settles.specs.Given.Schedules.declared.effect.Effect.TheVariants.{Asked}
 use Rattle.papaya_settles.specs.Given.Schedules.declared.effect.Growth.TheVariants.{ABucket}
@@ -29,17 +28,10 @@ use Rattle.papaya_settles.specs.Given.Effects.Known.{Known, with_role}
 use Rattle.papaya_settles.specs.Given.Effects.declared.acting.Acting.TheVariants.{Row}
 use Rattle.papaya_settles.specs.Given.Effects.declared.role.Role.{Role}
 use Rattle.papaya_settles.specs.Given.Effects.declared.role.Role.TheVariants as role
-use Rattle.papaya_settles.specs.Given.Executor.IsAt.{Scene, HasCall, IsAt, call_in, slot_of, work_of}
-use Rattle.papaya_settles.specs.Given.Executor.OnSlots.{RowLeads}
-use Rattle.papaya_settles.specs.Given.Executor.Rows.{request_of}
-use Rattle.papaya_settles.specs.Given.Executor.declared.executor.Executor.{Executor}
-use Rattle.papaya_settles.specs.Given.Executor.declared.row.RowTold.{RowTold}
-use Rattle.papaya_settles.specs.Given.Executor.declared.row.SlotCall.{SlotCall}
-use Rattle.papaya_settles.specs.Given.Executor.declared.row.SlotCall.TheVariants as call
-use Rattle.papaya_settles.specs.Given.Executor.declared.row.SlotRow.{SlotRow}
-use Rattle.papaya_settles.specs.Given.Executor.declared.worker.Work.{Work}
-use Rattle.papaya_settles.specs.Given.Executor.declared.worker.Work.TheVariants as work
-use Rattle.papaya_settles.specs.Given.Finishes.Machines.{machine_of}
+use Rattle.papaya_settles.specs.Given.Scenes.declared.row.RowTold.{RowTold}
+use Rattle.papaya_settles.specs.Given.Scenes.declared.row.SlotCall.{SlotCall}
+use Rattle.papaya_settles.specs.Given.Scenes.declared.row.SlotCall.TheVariants as call
+use Rattle.papaya_settles.specs.Given.Scenes.declared.row.SlotRow.{SlotRow}
 use Rattle.papaya_settles.proofs.Given.Follows.Alike.{put_here}
 use Rattle.papaya_settles.proofs.Given.Follows.Onward.{IsOfMap}
 use Rattle.papaya_settles.proofs.Given.Follows.Operations.{LeavesBy}
@@ -56,6 +48,11 @@ use Rattle.papaya_lives.proofs.Stages.{NoneEnds, still_retired, taken_ends}
 use Rattle.papaya_lives.proofs.Taken.{kept, it, told_retired}
 use Rattle.papaya_lives.proofs.Waiting.{left, reached}
 use Rattle.papaya_lives.proofs.Worlds.{Kept}
+use Rattle.papaya_settles.specs.Given.Scenes.Held.{Held, IsAt}
+use Rattle.papaya_settles.specs.Given.Scenes.OnSlots.{RowLeads}
+use Rattle.papaya_settles.specs.Given.Scenes.Rows.{request_of}
+use Rattle.papaya_settles.proofs.Given.Scenes.NoCall.{no_call}
+use Rattle.papaya_settles.specs.Given.Scenes.Scene.{HasCall, IsOnSlot, Scene, slot_of}
 
 given_lives : (l : Life) → is_given l ≡ true → lives l ≡ true
 given_lives (IsIn x) given = refl
@@ -70,11 +67,6 @@ none_to_retire defers size w k j b retired due =
     let pending = row_life (LAST_SLOT + 1) j (view defers w.memory) k.good.state k.good.extra k.good.inv k.good.shows b some (length w.memory.slots) (w.row j) (k.good.rows j) due in
     let not_given : is_given (k.good.state.life b) ≡ is_given (IsPending j) = ap is_given pending in
     cc (given, not_given)
-
--- who has a row on a slot has no call
-pub no_call : {K V S : Type 0} (same : K → K → Bool) (hash : K → ℕ) (s : Scene K V) (old : Executor K V S) → IsAt same hash old s → (i : ℕ) (row : SlotRow) → work_of old i ≡ Some (work.OnSlot row) → HasCall s i → ⊥
-no_call {K} {V} same hash s old at i row here (map, u, is) =
-    (let none : ◌≡◌ {A = Option (Machine K V K)} (Some (machine_of u)) None = ap (option_map machine_of) (sym is) ∙ at.calls map i ∙ ap (λ (x : Option (Work K V)). call_in x map) here in cc none)
 
 -- what a row tells leaves tables
 module _ {K V : Type 0} (m : Moment K V) (known : Known) (blocks : ShowsUnreclaimed m known) where
@@ -115,17 +107,17 @@ module _ {K V : Type 0} (m : Moment K V) (known : Known) (blocks : ShowsUnreclai
       same_roles (known_after Row (changed.Roomed bucket had) known) (if had && nat_lt bucket known.buckets then [] else Asked ABucket ∷ []) (roomed_as_many Row known bucket had).0
       (roomed_ends (had && nat_lt bucket known.buckets))
 
-module _ {K V S : Type 0} (same : K → K → Bool) (hash : K → ℕ) (name : ℕ → List ℕ) (m : Moment K V) (known : Known) (s : Scene K V) (old new : Executor K V S) (at : IsAt same hash old s)
+module _ {K V : Type 0} (same : K → K → Bool) (hash : ℕ → K → ℕ) (name : ℕ → List ℕ) (m : Moment K V) (known : Known) (s : Scene K V) (old new : Held K V) (at : IsAt same hash old s)
     (whole : ShowsWhole same name m known s) (shows : ShowsRetired m known s) (i : ℕ) (said : RowTold (Node K V)) (leads : RowLeads same hash i said s old new) (row : SlotRow)
-    (here : work_of old i ≡ Some (work.OnSlot row)) where
+    (here : IsOnSlot s i row) where
   abbrev w : World (Node K V)
   w = s.world
 
   abbrev w2 : World (Node K V)
-  w2 = (leads row here).4.0
+  w2 = (leads row here).2.0
 
   abbrev told : Changed
-  told = new.memory.changed
+  told = new.changed
 
   abbrev v : Moment K V
   v = with_effects None None (effects_of Row known told) m
@@ -137,21 +129,21 @@ module _ {K V S : Type 0} (same : K → K → Bool) (hash : K → ℕ) (name : �
   came = at.together.makings.standing.came
 
   pub there : Reached deferred_word old.batch_size w
-  there = (let to = leads row here in reached K V S same hash s old new at i row here (to.0, said) to.1 to.4)
+  there = (let to = leads row here in reached K V same hash s old new at i row here (to.0, said) to.1 to.2)
 
   tells : TellsRow told
-  tells = (let to = leads row here in row_tells old.memory.memory new.memory.memory told (to.0, said) row to.1)
+  tells = (let to = leads row here in row_tells old.memory new.memory told (to.0, said) row to.1)
 
   pub leaves : LeavesBy w.memory w2.memory told
-  leaves = (let to = leads row here in left K V S same hash s old new at i row here (to.0, said) to.1 to.4)
+  leaves = (let to = leads row here in left K V same hash s old new at i row here (to.0, said) to.1 to.2)
 
   its : Kept deferred_word old.batch_size w
-  its = kept old.batch_size w came there i w2 (leads row here).4.1
+  its = kept old.batch_size w came there i w2 (leads row here).2.1
 
   -- the table that is taken
   had_retired : (x len : ℕ) (t : Table) → told ≡ changed.Took x → known.roles x ≡ role.Table t len → is_stage is_retired t m ≡ true
   had_retired x len t is table =
-      let retired = told_retired old.batch_size w came there i w2 (leads row here).4.1 told leaves x is in
+      let retired = told_retired old.batch_size w came there i w2 (leads row here).2.1 told leaves x is in
       let given : is_given (its.good.state.life x) ≡ true = sym (its.good.inv.logged.given x) ∙ ap (was_retired x) its.good.logged ∙ retired in
       let handed = given_hand (w.hand x) (its.good.state.life x) given (its.good.hands x) in
       elim (shows.tables x len t table handed) as (λ _. is_stage is_retired t m ≡ true) [
@@ -187,15 +179,15 @@ module _ {K V S : Type 0} (same : K → K → Bool) (hash : K → ℕ) (name : �
   finds (changed.Took x) e is = taken_finds x (known.roles x) e refl
   finds (changed.Roomed bucket had) e is = roomed_finds (had && nat_lt bucket known.buckets)
 
-  pub keeps : ShowsRetired v known2 (record s { world = w2; maps = (leads row here).4.2 })
+  pub keeps : ShowsRetired v known2 (record s { world = w2; maps = (leads row here).2.2 })
   keeps = record {
     tables = λ b len t e handed.
         let was = stays_so m known whole.blocks told tells b len t e in
-        let stepped = it old.batch_size w came there i w2 (leads row here).4.1 in
+        let stepped = it old.batch_size w came there i w2 (leads row here).2.1 in
         let before = handed_before stepped.effects w.hand b (sym (ap (λ (h : ℕ → Hand). h b) stepped.hands) ∙ handed) in
         elim (shows.tables b len t was.0 before) as (λ _. (is_stage is_retired t v ≡ true) ⊎ ((j : ℕ) × HasCall s j × IsToRetire b (w2.row j))) [
           | inl so ↦ inl (still_retired t None None (effects_of Row known told) m was.1 so)
-          | inr due ↦ inr (due.0, due.1, subst (IsToRetire b) (sym (stepped.rows due.0 (λ same_one. no_call same hash s old at i row here (subst (HasCall s) same_one due.1)))) due.2)
+          | inr due ↦ inr (due.0, due.1, subst (IsToRetire b) (sym (stepped.rows due.0 (λ same_one. no_call s i here.0 (subst (HasCall s) same_one due.1)))) due.2)
         ];
     lengths = λ b len t e. shows.lengths b len t (stays_so m known whole.blocks told tells b len t e).0;
   }
@@ -237,11 +229,11 @@ others_leave_retired K V m v known s t shows tables world stay = record {
 pub endings_begin_retired : (K V : Type 0) → EndingsBeginRetired K V
 endings_begin_retired K V m known s shows map i standing = record { tables = shows.tables; lengths = shows.lengths }
 
-module _ (K V S : Type 0) (same : K → K → Bool) (hash : K → ℕ) where
-  pub rows_begin_retired : RowsBeginRetired K V S same hash
-  rows_begin_retired m known s old new at shows called i may leads = record {
+module _ (K V : Type 0) (same : K → K → Bool) (hash : ℕ → K → ℕ) where
+  pub rows_begin_retired : RowsBeginRetired K V same hash
+  rows_begin_retired m known s old new at shows called i leads = record {
     tables = λ b len t is handed.
-        let to = (leads may).3 in
+        let to = leads.2 in
         let hands = begun_hands old.batch_size (slot_of i) i s.world to.0 called to.1.1 in
         elim (shows.tables b len t is (sym (ap (λ (h : ℕ → Hand). h b) hands) ∙ handed)) as (λ _. (is_stage is_retired t m ≡ true) ⊎ ((j : ℕ) × HasCall s j × IsToRetire b (to.0.row j))) [
           | inl so ↦ inl so
@@ -252,10 +244,10 @@ module _ (K V S : Type 0) (same : K → K → Bool) (hash : K → ℕ) where
     lengths = shows.lengths;
   }
 
-  pub rows_keep_retired : RowsKeepRetired K V S same hash
+  pub rows_keep_retired : RowsKeepRetired K V same hash
   rows_keep_retired name m known s old new at whole shows i told leads row here = keeps same hash name m known s old new at whole shows i told leads row here
 
-  pub rows_find_retired : RowsFindRetired K V S same hash
+  pub rows_find_retired : RowsFindRetired K V same hash
   rows_find_retired name m known s old new at whole shows i told leads row here =
       let to = leads row here in
-      finds same hash name m known s old new at whole shows i told leads row here new.memory.changed refl (row_tells old.memory.memory new.memory.memory new.memory.changed (to.0, told) row to.1)
+      finds same hash name m known s old new at whole shows i told leads row here new.changed refl (row_tells old.memory new.memory new.changed (to.0, told) row to.1)

@@ -55,10 +55,6 @@ use Rattle.papaya_settles.specs.Given.Effects.declared.acting.Acting.{Acting}
 use Rattle.papaya_settles.specs.Given.Effects.declared.acting.Acting.TheVariants as acts
 use Rattle.papaya_settles.specs.Given.Effects.declared.role.Role.{Role}
 use Rattle.papaya_settles.specs.Given.Effects.declared.role.Role.TheVariants as role
-use Rattle.papaya_settles.specs.Given.Executor.IsAt.{Scene, HasCall, IsAt, slot_of}
-use Rattle.papaya_settles.specs.Given.Executor.Making.{MakingLeads}
-use Rattle.papaya_settles.specs.Given.Executor.Stepping.{StepLeads, scene_after}
-use Rattle.papaya_settles.specs.Given.Executor.declared.executor.Executor.{Executor}
 use Rattle.papaya_settles.specs.Given.Finishes.Machines.{machine_of, GoesOnAs}
 use Rattle.papaya_settles.specs.Given.Finishes.Makings.{Beginning}
 use Rattle.papaya_settles.specs.Given.Finishes.Maps.{Standing}
@@ -75,6 +71,10 @@ use Rattle.papaya_lives.specs.Retired.{IsDue, IsToRetire, ShowsRetired, CallsSta
 use Rattle.papaya_lives.proofs.Makings.{apart}
 use Rattle.papaya_lives.proofs.Retires.{HandedBy, Retires, PutsBehind, HadIt, begun_due, begun_handed, handed_before, not_over}
 use Rattle.papaya_lives.proofs.Stages.{EndsIt, NoneEnds, now_retired, still_retired, WasTable, role_back}
+use Rattle.papaya_settles.specs.Given.Scenes.Held.{Held, IsAt}
+use Rattle.papaya_settles.specs.Given.Scenes.Making.{MakingLeads}
+use Rattle.papaya_settles.specs.Given.Scenes.Scene.{HasCall, Scene, slot_of}
+use Rattle.papaya_settles.specs.Given.Scenes.Stepping.{StepLeads, scene_after}
 
 -- where users do something, the collector had the block of a table that it has
 pub users_handed : {K V : Type 0} (size b : ℕ) (events : List (Event (Node K V))) (w v : World (Node K V)) → Reached deferred_word size w → (value : Node K V) → value_at w.memory b ≡ Some value
@@ -250,14 +250,14 @@ module _ {K V : Type 0} (size : ℕ) (m v : Moment K V) (known : Known) (s t : S
     lengths = λ b len x is. (table_there b len x (role_back acting known b len x told is)).3;
   }
 
-module _ {K V S : Type 0} (same : K → K → Bool) (hash : K → ℕ) (name : ℕ → List ℕ) (m : Moment K V) (known : Known) (s : Scene K V) (old new : Executor K V S) (at : IsAt same hash old s)
+module _ {K V : Type 0} (same : K → K → Bool) (hash : ℕ → K → ℕ) (name : ℕ → List ℕ) (m : Moment K V) (known : Known) (s : Scene K V) (old new : Held K V) (at : IsAt same hash old s)
     (whole : ShowsWhole same name m known s) (entries : ShowsEntries s) (owning : OwnAreMade known s.world) (shows : ShowsRetired m known s) (map i : ℕ) (u : UnderWay K V K)
     (here : s.calls map i ≡ Some u) (said : CallTold (Node K V)) (leads : StepLeads same hash i said s old new) where
   abbrev to : WentTo same hash name m known s old new at whole.all.shown map i u here said leads
   to = went_to same hash name m known s old new at whole.all.shown map i u here said leads
 
   abbrev told : Changed
-  told = new.memory.changed
+  told = new.changed
 
   abbrev effects : List Effect
   effects = effects_of (acts.Call i map) known told
@@ -269,7 +269,7 @@ module _ {K V S : Type 0} (same : K → K → Bool) (hash : K → ℕ) (name : �
   known2 = known_after (acts.Call i map) told known
 
   abbrev s2 : Scene K V
-  s2 = scene_after same hash s old new map i to.0 u to.1 said to.4
+  s2 = scene_after same s old new map i to.0 u to.1 said to.4
 
   abbrev size : ℕ
   size = to.0.setting.batch_size
@@ -337,7 +337,7 @@ module _ {K V S : Type 0} (same : K → K → Bool) (hash : K → ℕ) (name : �
   -- of a row
   module _ (other : OfNoRow same hash name m known s old new at whole.all.shown map i u here said leads u to.4.did → ⊥) where
     tells : RowTells i map known effects (due_in_row (machine_of u)) (due_in_row to.1)
-    tells = rows_tell_due K V S same hash name m known s old new at whole.all.shown whole.all.rows entries owning map i u here said leads other
+    tells = rows_tell_due K V same hash name m known s old new at whole.all.shown whole.all.rows entries owning map i u here said leads other
 
     still : (x : Table) → is_stage is_retired x m ≡ true → is_stage is_retired x v ≡ true
     still x so = still_retired x (Some (name i)) (Some map) effects m (row_ends x i map known effects (due_in_row (machine_of u)) (due_in_row to.1) tells) so
@@ -430,20 +430,20 @@ module _ {K V S : Type 0} (same : K → K → Bool) (hash : K → ℕ) (name : �
       by (OverAll x) (p2, end, machine_is, told_is, inr (row, stayed)) own no_own = one_step (no_own (λ z. z)) row.step.w2 stayed.0 row.step.happened
 
 -- A making steps as users do, and ends no table.
-module _ {K V S : Type 0} (same : K → K → Bool) (hash : K → ℕ) (name : ℕ → List ℕ) (m : Moment K V) (known : Known) (s : Scene K V) (old new : Executor K V S) (at : IsAt same hash old s)
+module _ {K V : Type 0} (same : K → K → Bool) (hash : ℕ → K → ℕ) (name : ℕ → List ℕ) (m : Moment K V) (known : Known) (s : Scene K V) (old new : Held K V) (at : IsAt same hash old s)
     (whole : ShowsWhole same name m known s) (owning : OwnAreMade known s.world) (shows : ShowsRetired m known s) (i : ℕ) (said : Progress Setting) (leads : MakingLeads same hash i said s old new)
     (b : Beginning K) (here : s.makers i ≡ Some b) (of : Option ℕ) (was_new : WasNew b.map said m) where
-  pub making_retired : ShowsRetired (with_effects None of (effects_of (acts.Making b.map) known new.memory.changed) m) (known_after (acts.Making b.map) new.memory.changed known) (record s { world = (leads b here).2.step.w2 })
+  pub making_retired : ShowsRetired (with_effects None of (effects_of (acts.Making b.map) known new.changed) m) (known_after (acts.Making b.map) new.changed known) (record s { world = (leads b here).2.step.w2 })
   making_retired =
       let step = (leads b here).2.step in
-      users_retired old.batch_size m (with_effects None of (effects_of (acts.Making b.map) known new.memory.changed) m) known s (record s { world = step.w2 }) shows whole.all.shown.blocks.roles owning
-      (came_reached old.batch_size s.world at.together.makings.standing.came) (acts.Making b.map) new.memory.changed step.events step.users step.runs (λ j has. inl has)
-      (λ x so. still_retired x None of (effects_of (acts.Making b.map) known new.memory.changed) m ((apart same hash name m known s old new at whole i said leads b here of was_new).2 x) so)
+      users_retired old.batch_size m (with_effects None of (effects_of (acts.Making b.map) known new.changed) m) known s (record s { world = step.w2 }) shows whole.all.shown.blocks.roles owning
+      (came_reached old.batch_size s.world at.together.makings.standing.came) (acts.Making b.map) new.changed step.events step.users step.runs (λ j has. inl has)
+      (λ x so. still_retired x None of (effects_of (acts.Making b.map) known new.changed) m ((apart same hash name m known s old new at whole i said leads b here of was_new).2 x) so)
 
-pub calls_keep_retired : (K V S : Type 0) (same : K → K → Bool) (hash : K → ℕ) → CallsKeepRetired K V S same hash
-calls_keep_retired K V S same hash name m known s old new at whole entries owning shows map i u here told leads =
+pub calls_keep_retired : (K V : Type 0) (same : K → K → Bool) (hash : ℕ → K → ℕ) → CallsKeepRetired K V same hash
+calls_keep_retired K V same hash name m known s old new at whole entries owning shows map i u here told leads =
     kept_retired same hash name m known s old new at whole entries owning shows map i u here told leads
 
-pub makings_keep_retired : (K V S : Type 0) (same : K → K → Bool) (hash : K → ℕ) → MakingsKeepRetired K V S same hash
-makings_keep_retired K V S same hash name m known s old new at whole owning shows i told leads b here of was_new =
+pub makings_keep_retired : (K V : Type 0) (same : K → K → Bool) (hash : ℕ → K → ℕ) → MakingsKeepRetired K V same hash
+makings_keep_retired K V same hash name m known s old new at whole owning shows i told leads b here of was_new =
     making_retired same hash name m known s old new at whole owning shows i told leads b here of was_new

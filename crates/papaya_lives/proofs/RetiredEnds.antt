@@ -31,9 +31,6 @@ use Rattle.papaya_settles.specs.Given.Effects.Effects.{effects_of, known_after}
 use Rattle.papaya_settles.specs.Given.Effects.Known.{Known}
 use Rattle.papaya_settles.specs.Given.Effects.declared.acting.Acting.TheVariants.{Ending}
 use Rattle.papaya_settles.specs.Given.Effects.declared.role.Role.TheVariants as role
-use Rattle.papaya_settles.specs.Given.Executor.Ending.{EndingStepsFrom, EndingComesTo}
-use Rattle.papaya_settles.specs.Given.Executor.IsAt.{Scene, HasCall, IsAt, slot_of}
-use Rattle.papaya_settles.specs.Given.Executor.declared.executor.Executor.{Executor}
 use Rattle.papaya_settles.specs.Given.Finishes.Endings.{Finishing, StepsOfEnding}
 use Rattle.papaya_settles.specs.Given.Finishes.FactsEnds.{Deed, Looks, TakesPair, LeavesTable, JoinsPair, TakesLeft, TakesCounter, WritesRoot, events_of, taken_by as taken_of, left_by}
 use Rattle.papaya_settles.proofs.Given.Follows.Alike.{is_calm, AllCalm, put_here}
@@ -44,6 +41,9 @@ use Rattle.papaya_settles.proofs.Given.Moments.Ends.{says, end_keeps}
 use Rattle.papaya_settles.proofs.Given.Moments.OnSlots.{none_some}
 use Rattle.papaya_lives.specs.Retired.{IsToRetire, ShowsRetired, EndingsKeepRetired}
 use Rattle.papaya_lives.proofs.Stages.{EndsIt, NoneEnds, still_retired, taken_ends}
+use Rattle.papaya_settles.specs.Given.Scenes.Ending.{EndingComesTo, EndingStepsFrom}
+use Rattle.papaya_settles.specs.Given.Scenes.Held.{Held, IsAt}
+use Rattle.papaya_settles.specs.Given.Scenes.Scene.{HasCall, Scene, slot_of}
 
 -- what the collector has is there
 pub handed_lives : (l : Life) → is_handed l ≡ true → lives l ≡ true
@@ -82,13 +82,13 @@ calm_end : (t : Table) (effects : List Effect) → AllCalm effects → NoneEnds 
 calm_end t [] all = tt
 calm_end t (f ∷ effects) all = (calm_ends t f all.0, calm_end t effects all.1)
 
-module _ {K V S : Type 0} (same : K → K → Bool) (hash : K → ℕ) (name : ℕ → List ℕ) (m : Moment K V) (known : Known) (s : Scene K V) (old new : Executor K V S) (at : IsAt same hash old s)
+module _ {K V : Type 0} (same : K → K → Bool) (hash : ℕ → K → ℕ) (name : ℕ → List ℕ) (m : Moment K V) (known : Known) (s : Scene K V) (old new : Held K V) (at : IsAt same hash old s)
     (whole : ShowsWhole same name m known s) (shows : ShowsRetired m known s) (i : ℕ) (f : Finishing K V) (here : s.enders i ≡ Some f) (end : EndMap) (said : Settled (Node K V))
     (steps : EndingStepsFrom f.machine old new end said)
-    (did : StepsOfEnding V same same old.batch_size old.roots slot_of s.world s.maps s.calls s.makers s.enders i f new.memory.memory (end, said))
+    (did : StepsOfEnding V same same old.batch_size old.roots slot_of s.world s.maps s.calls s.makers s.enders i f new.memory (end, said))
     (map : ℕ) (not_there : s.maps map ≡ None) (comes : EndingComesTo same hash s new i f end did.w2 did.deed said) where
   abbrev told : Changed
-  told = new.memory.changed
+  told = new.changed
 
   abbrev known2 : Known
   known2 = known_after (Ending map) told known
@@ -149,6 +149,6 @@ module _ {K V S : Type 0} (same : K → K → Bool) (hash : K → ℕ) (name : �
   retired_then (settled.Gave value) it = shown_then _ refl refl
   retired_then settled.Done it = shown_then _ refl refl
 
-pub endings_keep_retired : (K V S : Type 0) (same : K → K → Bool) (hash : K → ℕ) → EndingsKeepRetired K V S same hash
-endings_keep_retired K V S same hash name m known s old new at whole shows i told leads f here map not_there =
+pub endings_keep_retired : (K V : Type 0) (same : K → K → Bool) (hash : ℕ → K → ℕ) → EndingsKeepRetired K V same hash
+endings_keep_retired K V same hash name m known s old new at whole shows i told leads f here map not_there =
     let to = leads f here in retired_then same hash name m known s old new at whole shows i f here to.0 told to.1 to.2 map not_there to.3 told to.3

@@ -23,17 +23,10 @@ use Rattle.papaya_settles.specs.Given.Effects.Known.{Known}
 use Rattle.papaya_settles.specs.Given.Effects.declared.acting.Acting.TheVariants.{Row}
 use Rattle.papaya_settles.specs.Given.Effects.declared.role.Role.{Role}
 use Rattle.papaya_settles.specs.Given.Effects.declared.role.Role.TheVariants as role
-use Rattle.papaya_settles.specs.Given.Executor.Ending.{ending_begun}
-use Rattle.papaya_settles.specs.Given.Executor.IsAt.{Scene, IsAt, slot_of, work_of}
-use Rattle.papaya_settles.specs.Given.Executor.OnSlots.{RowSteps, HappensAt}
-use Rattle.papaya_settles.specs.Given.Executor.Rows.{request_of}
-use Rattle.papaya_settles.specs.Given.Executor.declared.executor.Executor.{Executor}
-use Rattle.papaya_settles.specs.Given.Executor.declared.row.RowTold.{RowTold}
-use Rattle.papaya_settles.specs.Given.Executor.declared.row.SlotCall.{SlotCall}
-use Rattle.papaya_settles.specs.Given.Executor.declared.row.SlotCall.TheVariants as call
-use Rattle.papaya_settles.specs.Given.Executor.declared.row.SlotRow.{SlotRow}
-use Rattle.papaya_settles.specs.Given.Executor.declared.worker.Work.TheVariants as work
-use Rattle.papaya_settles.proofs.Given.Executor.OnSlots.{row_at, may_taken}
+use Rattle.papaya_settles.specs.Given.Scenes.declared.row.RowTold.{RowTold}
+use Rattle.papaya_settles.specs.Given.Scenes.declared.row.SlotCall.{SlotCall}
+use Rattle.papaya_settles.specs.Given.Scenes.declared.row.SlotCall.TheVariants as call
+use Rattle.papaya_settles.specs.Given.Scenes.declared.row.SlotRow.{SlotRow}
 use Rattle.papaya_settles.proofs.Given.Follows.Operations.{LeavesBy, operated_leaves}
 use Rattle.papaya_settles.proofs.Given.Others.RowPlans.{TellsRow, row_tells, row_operated}
 use Rattle.papaya_settles.specs.Given.Spots.OnSlots.{WaitUnreclaimed}
@@ -45,6 +38,12 @@ use Rattle.papaya_lives.specs.Steps.{WaitingBegins, OthersLeaveWaiting, EndingsB
 use Rattle.papaya_lives.specs.Waiting.{waits_behind}
 use Rattle.papaya_lives.proofs.Each.{each_on, found}
 use Rattle.papaya_lives.proofs.OnSlots.{row_waiting}
+use Rattle.papaya_settles.proofs.Given.Scenes.May.{may_row}
+use Rattle.papaya_settles.specs.Given.Scenes.Ending.{ending_begun}
+use Rattle.papaya_settles.specs.Given.Scenes.Held.{Held, IsAt}
+use Rattle.papaya_settles.specs.Given.Scenes.OnSlots.{HappensAt, RowSteps}
+use Rattle.papaya_settles.specs.Given.Scenes.Rows.{request_of}
+use Rattle.papaya_settles.specs.Given.Scenes.Scene.{IsOnSlot, Scene, slot_of}
 
 -- by the same log, with the same hands
 module _ {K V : Type 0} (known : Known) (w w2 : World (Node K V)) (waits : (b : ℕ) → waits_behind b w2.log ≡ waits_behind b w.log) (hands : w2.hand ≡ w.hand) where
@@ -127,34 +126,34 @@ begun_log size slot i w v call.Refresh h = ap (λ (x : World (Node _ _)). x.log)
 begun_log size slot i w v call.Flush h = ap (λ (x : World (Node _ _)). x.log) h.1
 begun_log size slot i w v call.Unregister h = ap (λ (x : World (Node _ _)). x.log) h.1
 
-module _ (K V S : Type 0) (same : K → K → Bool) (hash : K → ℕ) where
-  pub rows_begin_waiting : RowsBeginWaiting K V S same hash
-  rows_begin_waiting m known s old new waiting called i may leads =
-      let to = (leads may).3 in
+module _ (K V : Type 0) (same : K → K → Bool) (hash : ℕ → K → ℕ) where
+  pub rows_begin_waiting : RowsBeginWaiting K V same hash
+  rows_begin_waiting m known s old new waiting called i leads =
+      let to = leads.2 in
       let logs = begun_log old.batch_size (slot_of i) i s.world to.0 called to.1.1 in
       waiting_as known s.world to.0 (λ b. ap (λ (l : List LogEffect). waits_behind b l) logs) (begun_hands old.batch_size (slot_of i) i s.world to.0 called to.1.1) m waiting
 
-  module _ (s : Scene K V) (old new : Executor K V S) (at : IsAt same hash old s) (i : ℕ) (row : SlotRow) (here : work_of old i ≡ Some (work.OnSlot row)) (end : SlotRow × RowTold (Node K V))
-      (steps : RowSteps K V row old.memory.memory new.memory.memory new.memory.changed end) (happened : HappensAt same hash (Step i) s old new) where
-    pub left : LeavesBy s.world.memory happened.0.memory new.memory.changed
+  module _ (s : Scene K V) (old new : Held K V) (at : IsAt same hash old s) (i : ℕ) (row : SlotRow) (here : IsOnSlot s i row) (end : SlotRow × RowTold (Node K V))
+      (steps : RowSteps K V row old.memory new.memory new.changed end) (happened : HappensAt same hash (Step i) s old new) where
+    pub left : LeavesBy s.world.memory happened.0.memory new.changed
     left =
-        subst (λ (n : Mem (Node K V)). LeavesBy s.world.memory n new.memory.changed) (sym happened.4.memory)
-        (subst (λ (n : Mem (Node K V)). LeavesBy n new.memory.memory new.memory.changed) (sym at.memory)
-        (operated_leaves old.memory.memory new.memory.memory new.memory.changed
-        (row_operated old.memory.memory new.memory.memory new.memory.changed end row (may_taken same hash old s at i row here (slot_of i) row (row_at same hash old s at i row here)) steps)))
+        subst (λ (n : Mem (Node K V)). LeavesBy s.world.memory n new.changed) (sym happened.4.memory)
+        (subst (λ (n : Mem (Node K V)). LeavesBy n new.memory new.changed) (sym at.memory)
+        (operated_leaves old.memory new.memory new.changed
+        (row_operated old.memory new.memory new.changed end row (may_row same hash old s at i row here) steps)))
 
     pub reached : Reached deferred_word old.batch_size s.world
     reached = came_reached old.batch_size s.world at.together.makings.standing.came
 
-  pub rows_keep_waiting : RowsKeepWaiting K V S same hash
+  pub rows_keep_waiting : RowsKeepWaiting K V same hash
   rows_keep_waiting name m known s old new at whole waiting i told leads row here =
       let to = leads row here in
       row_waiting same name old.batch_size m known s whole.all.shown whole.blocks waiting at.together.makings.standing.came
-      (reached s old new at i row here (to.0, told) to.1 to.4) i to.4.0 to.4.1 new.memory.changed
-      (row_tells old.memory.memory new.memory.memory new.memory.changed (to.0, told) row to.1)
-      (left s old new at i row here (to.0, told) to.1 to.4)
+      (reached s old new at i row here (to.0, told) to.1 to.2) i to.2.0 to.2.1 new.changed
+      (row_tells old.memory new.memory new.changed (to.0, told) row to.1)
+      (left s old new at i row here (to.0, told) to.1 to.2)
 
-  pub rows_find_waiting : RowsFindWaiting K V S same hash
+  pub rows_find_waiting : RowsFindWaiting K V same hash
   rows_find_waiting m known s old new waiting i told leads row here =
       let to = leads row here in
-      row_finds m known s.world waiting new.memory.changed (row_tells old.memory.memory new.memory.memory new.memory.changed (to.0, told) row to.1)
+      row_finds m known s.world waiting new.changed (row_tells old.memory new.memory new.changed (to.0, told) row to.1)

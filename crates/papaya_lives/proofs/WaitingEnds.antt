@@ -28,9 +28,6 @@ use Rattle.papaya_settles.specs.Given.Effects.Known.{Known}
 use Rattle.papaya_settles.specs.Given.Effects.declared.acting.Acting.TheVariants.{Ending}
 use Rattle.papaya_settles.specs.Given.Effects.declared.role.Role.{Role}
 use Rattle.papaya_settles.specs.Given.Effects.declared.role.Role.TheVariants as role
-use Rattle.papaya_settles.specs.Given.Executor.Ending.{EndingStepsFrom, EndingComesTo}
-use Rattle.papaya_settles.specs.Given.Executor.IsAt.{Scene, IsAt, slot_of}
-use Rattle.papaya_settles.specs.Given.Executor.declared.executor.Executor.{Executor}
 use Rattle.papaya_settles.specs.Given.Finishes.Endings.{Finishing, FinishingFacts, StepsOfEnding}
 use Rattle.papaya_settles.specs.Given.Finishes.FactsEnds.{taken_by as taken_of, left_by}
 use Rattle.papaya_settles.proofs.Given.Finishes.Ends.Frames.{that_one}
@@ -50,6 +47,9 @@ use Rattle.papaya_lives.proofs.Each.{each_on, each_both, each_kept}
 use Rattle.papaya_lives.proofs.LeftOver.{deed_waits, handed_untaken}
 use Rattle.papaya_lives.proofs.Once.{Fewer, once_fewer}
 use Rattle.papaya_lives.proofs.Worlds.{Kept, runs_kept, start_kept, has_it}
+use Rattle.papaya_settles.specs.Given.Scenes.Ending.{EndingComesTo, EndingStepsFrom}
+use Rattle.papaya_settles.specs.Given.Scenes.Held.{Held, IsAt}
+use Rattle.papaya_settles.specs.Given.Scenes.Scene.{Scene, slot_of}
 
 -- effects that move no pair and no table take nothing off the list
 calm_one : (f : Effect) (ds : List Deferral) → is_calm f ≡ true → deferred_by f ds ≡ ds
@@ -77,16 +77,16 @@ pub none_of : (k : ℕ) → (0 < k → ⊥) → k ≡ 0
 none_of zero none = refl
 none_of (suc k) none = absurd (none (omega arith))
 
-module _ {K V S : Type 0} (same : K → K → Bool) (hash : K → ℕ) (name : ℕ → List ℕ) (m : Moment K V) (known : Known) (s : Scene K V) (old new : Executor K V S) (at : IsAt same hash old s)
+module _ {K V : Type 0} (same : K → K → Bool) (hash : ℕ → K → ℕ) (name : ℕ → List ℕ) (m : Moment K V) (known : Known) (s : Scene K V) (old new : Held K V) (at : IsAt same hash old s)
     (whole : ShowsWhole same name m known s) (once : WaitsOnce m.deferred) (waiting : ShowsWaiting m known s.world) (i : ℕ) (f : Finishing K V) (here : s.enders i ≡ Some f) (end : EndMap)
     (said : Settled (Node K V)) (steps : EndingStepsFrom f.machine old new end said)
-    (did : StepsOfEnding V same same old.batch_size old.roots slot_of s.world s.maps s.calls s.makers s.enders i f new.memory.memory (end, said))
+    (did : StepsOfEnding V same same old.batch_size old.roots slot_of s.world s.maps s.calls s.makers s.enders i f new.memory (end, said))
     (map : ℕ) (not_there : s.maps map ≡ None) (comes : EndingComesTo same hash s new i f end did.w2 did.deed said) where
   abbrev w : World (Node K V)
   w = s.world
 
   abbrev told : Changed
-  told = new.memory.changed
+  told = new.changed
 
   abbrev effects : List Effect
   effects = effects_of (Ending map) known told
@@ -288,8 +288,8 @@ module _ {K V S : Type 0} (same : K → K → Bool) (hash : K → ℕ) (name : �
   then_waits (settled.Gave value) it tells = took it.0 tells it.2 (known.roles it.0) refl
   then_waits settled.Done it tells = quiet it.0 tells
 
-pub endings_keep_waiting : (K V S : Type 0) (same : K → K → Bool) (hash : K → ℕ) → EndingsKeepWaiting K V S same hash
-endings_keep_waiting K V S same hash name m known s old new at whole once waiting i told leads f here map not_there =
+pub endings_keep_waiting : (K V : Type 0) (same : K → K → Bool) (hash : ℕ → K → ℕ) → EndingsKeepWaiting K V same hash
+endings_keep_waiting K V same hash name m known s old new at whole once waiting i told leads f here map not_there =
     let to = leads f here in
     then_waits same hash name m known s old new at whole once waiting i f here to.0 told to.1 to.2 map not_there to.3 told to.3
     (tells_next same hash name m known s old new at whole.all.shown i f here to.0 told to.1 to.2 map not_there told to.3)

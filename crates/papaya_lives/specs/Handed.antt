@@ -23,17 +23,9 @@ use Rattle.papaya_settles.specs.Given.Effects.Effects.{effects_of, known_after}
 use Rattle.papaya_settles.specs.Given.Effects.Known.{Known, nothing_known}
 use Rattle.papaya_settles.specs.Given.Effects.declared.acting.Acting.TheVariants.{Call, Making, Ending, Row as OfRow}
 use Rattle.papaya_settles.specs.Given.Effects.declared.role.Role.TheVariants as role
-use Rattle.papaya_settles.specs.Given.Executor.Ending.{EndingLeads, ending_begun}
-use Rattle.papaya_settles.specs.Given.Executor.IsAt.{Scene, HasCall, IsAt, at_first, slot_of, work_of}
-use Rattle.papaya_settles.specs.Given.Executor.Making.{MakingLeads}
-use Rattle.papaya_settles.specs.Given.Executor.OnSlots.{MayBegin, RowBegins, RowLeads}
-use Rattle.papaya_settles.specs.Given.Executor.Rows.{request_of}
-use Rattle.papaya_settles.specs.Given.Executor.Stepping.{StepLeads, scene_after}
-use Rattle.papaya_settles.specs.Given.Executor.declared.executor.Executor.{Executor}
-use Rattle.papaya_settles.specs.Given.Executor.declared.row.RowTold.{RowTold}
-use Rattle.papaya_settles.specs.Given.Executor.declared.row.SlotCall.{SlotCall}
-use Rattle.papaya_settles.specs.Given.Executor.declared.row.SlotRow.{SlotRow}
-use Rattle.papaya_settles.specs.Given.Executor.declared.worker.Work.TheVariants.{OnSlot}
+use Rattle.papaya_settles.specs.Given.Scenes.declared.row.RowTold.{RowTold}
+use Rattle.papaya_settles.specs.Given.Scenes.declared.row.SlotCall.{SlotCall}
+use Rattle.papaya_settles.specs.Given.Scenes.declared.row.SlotRow.{SlotRow}
 use Rattle.papaya_settles.specs.Given.Finishes.Endings.{Finishing}
 use Rattle.papaya_settles.specs.Given.Finishes.Makings.{Beginning}
 use Rattle.papaya_settles.specs.Given.Finishes.Maps.{Standing}
@@ -46,6 +38,13 @@ use Rattle.papaya_settles.specs.Entries.{ShowsEntries}
 use Rattle.papaya_lives.specs.Behind.{ShowsWaiting}
 use Rattle.papaya_lives.specs.Retired.{ShowsRetired, CallsStay}
 use Rattle.papaya_lives.specs.Waiting.{waits_behind}
+use Rattle.papaya_settles.specs.Given.Scenes.Ending.{EndingLeads, ending_begun}
+use Rattle.papaya_settles.specs.Given.Scenes.Held.{Held, IsAt}
+use Rattle.papaya_settles.specs.Given.Scenes.Making.{MakingLeads}
+use Rattle.papaya_settles.specs.Given.Scenes.OnSlots.{RowBegins, RowLeads}
+use Rattle.papaya_settles.specs.Given.Scenes.Rows.{request_of}
+use Rattle.papaya_settles.specs.Given.Scenes.Scene.{HasCall, IsOnSlot, Scene, at_first, slot_of}
+use Rattle.papaya_settles.specs.Given.Scenes.Stepping.{StepLeads, scene_after}
 
 -- the block is the one to be retired, or to be put behind another one
 abbrev pub IsMeant : ℕ → Option Due → Type 0
@@ -104,53 +103,53 @@ HandedAtRest K V =
     → ((n : ℕ) → is_handed (m.place n) ≡ true → (b : ℕ) × (known.roles b ≡ role.Pair n) × (was_retired b s.world.log ≡ true))
     × ((t : Table) → is_stage is_retired t m ≡ true → (b : ℕ) × (len : ℕ) × (known.roles b ≡ role.Table t len) × (was_retired b s.world.log ≡ true))
 
-module _ (K V S : Type 0) (same : K → K → Bool) (hash : K → ℕ) where
+module _ (K V : Type 0) (same : K → K → Bool) (hash : ℕ → K → ℕ) where
   -- So it is where a row begins on a slot,
   abbrev pub RowsBeginHanded : Type 0
   RowsBeginHanded =
-      (m : Moment K V) (known : Known) (s : Scene K V) (old new : Executor K V S) → IsAt same hash old s → ShowsHanded m known s
-      → (called : SlotCall) (i : ℕ) (may : MayBegin old (slot_of i) called) (leads : RowBegins same hash called i s old new)
-      → ShowsHanded m known (scene_then same hash (Begin i (request_of (slot_of i) called)) s old new (leads may).3)
+      (m : Moment K V) (known : Known) (s : Scene K V) (old new : Held K V) → IsAt same hash old s → ShowsHanded m known s
+      → (called : SlotCall) (i : ℕ) (leads : RowBegins same hash called i s old new)
+      → ShowsHanded m known (scene_then same hash (Begin i (request_of (slot_of i) called)) s old new leads.2)
 
   -- and after a step of it: what waited behind a table that it reclaims is handed over then.
   abbrev pub RowsKeepHanded : Type 0
   RowsKeepHanded =
-      (name : ℕ → List ℕ) (m : Moment K V) (known : Known) (s : Scene K V) (old new : Executor K V S) → IsAt same hash old s → ShowsWhole same name m known s → ShowsWaiting m known s.world
+      (name : ℕ → List ℕ) (m : Moment K V) (known : Known) (s : Scene K V) (old new : Held K V) → IsAt same hash old s → ShowsWhole same name m known s → ShowsWaiting m known s.world
       → ShowsHanded m known s
-      → (i : ℕ) (told : RowTold (Node K V)) (leads : RowLeads same hash i told s old new) (row : SlotRow) (here : work_of old i ≡ Some (OnSlot row))
-      → ShowsHanded (with_effects None None (effects_of OfRow known new.memory.changed) m) (known_after OfRow new.memory.changed known) (scene_then same hash (Step i) s old new (leads row here).4)
+      → (i : ℕ) (told : RowTold (Node K V)) (leads : RowLeads same hash i told s old new) (row : SlotRow) (here : IsOnSlot s i row)
+      → ShowsHanded (with_effects None None (effects_of OfRow known new.changed) m) (known_after OfRow new.changed known) (scene_then same hash (Step i) s old new (leads row here).2)
 
   -- A pair that it reclaims was handed over.
   abbrev pub RowsFindHanded : Type 0
   RowsFindHanded =
-      (name : ℕ → List ℕ) (m : Moment K V) (known : Known) (s : Scene K V) (old new : Executor K V S) → IsAt same hash old s → ShowsWhole same name m known s → ShowsWaiting m known s.world
+      (name : ℕ → List ℕ) (m : Moment K V) (known : Known) (s : Scene K V) (old new : Held K V) → IsAt same hash old s → ShowsWhole same name m known s → ShowsWaiting m known s.world
       → ShowsHanded m known s
-      → (i : ℕ) (told : RowTold (Node K V)) → RowLeads same hash i told s old new → (row : SlotRow) → work_of old i ≡ Some (OnSlot row)
-      → AtEachEffect HadHanded None None (effects_of OfRow known new.memory.changed) m
+      → (i : ℕ) (told : RowTold (Node K V)) → RowLeads same hash i told s old new → (row : SlotRow) → IsOnSlot s i row
+      → AtEachEffect HadHanded None None (effects_of OfRow known new.changed) m
 
   -- And it is so after each step of the making of a map,
   abbrev pub MakingsKeepHanded : Type 0
   MakingsKeepHanded =
-      (name : ℕ → List ℕ) (m : Moment K V) (known : Known) (s : Scene K V) (old new : Executor K V S) → IsAt same hash old s → ShowsWhole same name m known s → ShowsHanded m known s
+      (name : ℕ → List ℕ) (m : Moment K V) (known : Known) (s : Scene K V) (old new : Held K V) → IsAt same hash old s → ShowsWhole same name m known s → ShowsHanded m known s
       → (i : ℕ) (told : Progress Setting) (leads : MakingLeads same hash i told s old new) (b : Beginning K) (here : s.makers i ≡ Some b) (of : Option ℕ) → WasNew b.map told m
-      → ShowsHanded (with_effects None of (effects_of (Making b.map) known new.memory.changed) m) (known_after (Making b.map) new.memory.changed known) (record s { world = (leads b here).2.step.w2 })
+      → ShowsHanded (with_effects None of (effects_of (Making b.map) known new.changed) m) (known_after (Making b.map) new.changed known) (record s { world = (leads b here).2.step.w2 })
 
   -- and of a call, of its row, too.
   abbrev pub CallsKeepHanded : Type 0
   CallsKeepHanded =
-      (name : ℕ → List ℕ) (m : Moment K V) (known : Known) (s : Scene K V) (old new : Executor K V S) → IsAt same hash old s → ShowsWhole same name m known s
+      (name : ℕ → List ℕ) (m : Moment K V) (known : Known) (s : Scene K V) (old new : Held K V) → IsAt same hash old s → ShowsWhole same name m known s
       → ShowsEntries s → OwnAreMade known s.world → ShowsWaiting m known s.world → ShowsRetired m known s → ShowsHanded m known s
       → (map i : ℕ) (u : UnderWay K V K) (here : s.calls map i ≡ Some u) (told : CallTold (Node K V)) (leads : StepLeads same hash i told s old new)
       → (let to = leads map u here in
-      ShowsHanded (with_effects (Some (name i)) (Some map) (effects_of (Call i map) known new.memory.changed) m) (known_after (Call i map) new.memory.changed known)
-      (scene_after same hash s old new map i to.0 u to.1 told to.4))
+      ShowsHanded (with_effects (Some (name i)) (Some map) (effects_of (Call i map) known new.changed) m) (known_after (Call i map) new.changed known)
+      (scene_after same s old new map i to.0 u to.1 told to.4))
 
   -- And of the end of a map, which does not stand then.
   abbrev pub EndingsKeepHanded : Type 0
   EndingsKeepHanded =
-      (name : ℕ → List ℕ) (m : Moment K V) (known : Known) (s : Scene K V) (old new : Executor K V S) → IsAt same hash old s → ShowsWhole same name m known s → ShowsWaiting m known s.world
+      (name : ℕ → List ℕ) (m : Moment K V) (known : Known) (s : Scene K V) (old new : Held K V) → IsAt same hash old s → ShowsWhole same name m known s → ShowsWaiting m known s.world
       → ShowsRetired m known s → ShowsHanded m known s
       → (i : ℕ) (told : Settled (Node K V)) (leads : EndingLeads same hash i told s old new) (f : Finishing K V) (here : s.enders i ≡ Some f) (map : ℕ) → s.maps map ≡ None
       → (let to = leads f here in
-      ShowsHanded (with_effects None (Some map) (effects_of (Ending map) known new.memory.changed) m) (known_after (Ending map) new.memory.changed known)
+      ShowsHanded (with_effects None (Some map) (effects_of (Ending map) known new.changed) m) (known_after (Ending map) new.changed known)
       (ending_after same hash s new i f to.0 to.2.w2 to.2.deed told to.3))

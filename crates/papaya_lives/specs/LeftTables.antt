@@ -13,17 +13,9 @@ use Rattle.papaya_settles.specs.Given.Effects.Effects.{known_after}
 use Rattle.papaya_settles.specs.Given.Effects.Known.{Known, nothing_known}
 use Rattle.papaya_settles.specs.Given.Effects.declared.acting.Acting.TheVariants.{Call, Making, Ending, Row}
 use Rattle.papaya_settles.specs.Given.Effects.declared.role.Role.TheVariants as role
-use Rattle.papaya_settles.specs.Given.Executor.Ending.{EndingLeads, ending_begun}
-use Rattle.papaya_settles.specs.Given.Executor.IsAt.{Scene, IsAt, at_first, slot_of, work_of}
-use Rattle.papaya_settles.specs.Given.Executor.Making.{MakingLeads}
-use Rattle.papaya_settles.specs.Given.Executor.OnSlots.{MayBegin, RowBegins, RowLeads}
-use Rattle.papaya_settles.specs.Given.Executor.Rows.{request_of}
-use Rattle.papaya_settles.specs.Given.Executor.Stepping.{StepLeads, scene_after}
-use Rattle.papaya_settles.specs.Given.Executor.declared.executor.Executor.{Executor}
-use Rattle.papaya_settles.specs.Given.Executor.declared.row.RowTold.{RowTold}
-use Rattle.papaya_settles.specs.Given.Executor.declared.row.SlotCall.{SlotCall}
-use Rattle.papaya_settles.specs.Given.Executor.declared.row.SlotRow.{SlotRow}
-use Rattle.papaya_settles.specs.Given.Executor.declared.worker.Work.TheVariants.{OnSlot}
+use Rattle.papaya_settles.specs.Given.Scenes.declared.row.RowTold.{RowTold}
+use Rattle.papaya_settles.specs.Given.Scenes.declared.row.SlotCall.{SlotCall}
+use Rattle.papaya_settles.specs.Given.Scenes.declared.row.SlotRow.{SlotRow}
 use Rattle.papaya_settles.specs.Given.Finishes.Endings.{Finishing}
 use Rattle.papaya_settles.specs.Given.Finishes.Makings.{Beginning}
 use Rattle.papaya_settles.specs.Given.Finishes.Maps.{Standing}
@@ -32,6 +24,13 @@ use Rattle.papaya_settles.specs.Given.Others.Rows.{scene_then}
 use Rattle.papaya_settles.specs.Given.Moments.Whole.{ShowsWhole}
 use Rattle.papaya_settles.specs.Due.{OwnAreMade}
 use Rattle.papaya_lives.specs.Behind.{NoTableLeft}
+use Rattle.papaya_settles.specs.Given.Scenes.Ending.{EndingLeads, ending_begun}
+use Rattle.papaya_settles.specs.Given.Scenes.Held.{Held, IsAt}
+use Rattle.papaya_settles.specs.Given.Scenes.Making.{MakingLeads}
+use Rattle.papaya_settles.specs.Given.Scenes.OnSlots.{RowBegins, RowLeads}
+use Rattle.papaya_settles.specs.Given.Scenes.Rows.{request_of}
+use Rattle.papaya_settles.specs.Given.Scenes.Scene.{IsOnSlot, Scene, at_first, slot_of}
+use Rattle.papaya_settles.specs.Given.Scenes.Stepping.{StepLeads, scene_after}
 
 -- the block is a table of the map that this caller ends, which its end is still to reclaim
 pub record IsToTake {K V : Type 0} (s : Scene K V) (i b : ℕ) : Type 0 where
@@ -72,38 +71,38 @@ NoneIsLeft K V = (known : Known) (s : Scene K V) → ShowsLeft known s → ((i :
 abbrev pub WhereNoneIsLeft : Type 0 → Type 0 → Type 0
 WhereNoneIsLeft K V = (known : Known) (s : Scene K V) → NoTableLeft known s.world → ShowsLeft known s
 
-module _ (K V S : Type 0) (same : K → K → Bool) (hash : K → ℕ) where
+module _ (K V : Type 0) (same : K → K → Bool) (hash : ℕ → K → ℕ) where
   -- So it is where a row begins on a slot, and after a step of it,
   abbrev pub RowsBeginLeft : Type 0
   RowsBeginLeft =
-      (known : Known) (s : Scene K V) (old new : Executor K V S) → ShowsLeft known s
-      → (called : SlotCall) (i : ℕ) (may : MayBegin old (slot_of i) called) (leads : RowBegins same hash called i s old new)
-      → ShowsLeft known (scene_then same hash (Begin i (request_of (slot_of i) called)) s old new (leads may).3)
+      (known : Known) (s : Scene K V) (old new : Held K V) → ShowsLeft known s
+      → (called : SlotCall) (i : ℕ) (leads : RowBegins same hash called i s old new)
+      → ShowsLeft known (scene_then same hash (Begin i (request_of (slot_of i) called)) s old new leads.2)
 
   abbrev pub RowsKeepLeft : Type 0
   RowsKeepLeft =
-      (name : ℕ → List ℕ) (m : Moment K V) (known : Known) (s : Scene K V) (old new : Executor K V S) → IsAt same hash old s → ShowsWhole same name m known s → ShowsLeft known s
-      → (i : ℕ) (told : RowTold (Node K V)) (leads : RowLeads same hash i told s old new) (row : SlotRow) (here : work_of old i ≡ Some (OnSlot row))
-      → ShowsLeft (known_after Row new.memory.changed known) (scene_then same hash (Step i) s old new (leads row here).4)
+      (name : ℕ → List ℕ) (m : Moment K V) (known : Known) (s : Scene K V) (old new : Held K V) → IsAt same hash old s → ShowsWhole same name m known s → ShowsLeft known s
+      → (i : ℕ) (told : RowTold (Node K V)) (leads : RowLeads same hash i told s old new) (row : SlotRow) (here : IsOnSlot s i row)
+      → ShowsLeft (known_after Row new.changed known) (scene_then same hash (Step i) s old new (leads row here).2)
 
   -- after a step of the making of a map, and of a call,
   abbrev pub MakingsKeepLeft : Type 0
   MakingsKeepLeft =
-      (known : Known) (s : Scene K V) (old new : Executor K V S) → OwnAreMade known s.world → ShowsLeft known s
+      (known : Known) (s : Scene K V) (old new : Held K V) → OwnAreMade known s.world → ShowsLeft known s
       → (i : ℕ) (told : Progress Setting) (leads : MakingLeads same hash i told s old new) (b : Beginning K) (here : s.makers i ≡ Some b)
-      → ShowsLeft (known_after (Making b.map) new.memory.changed known) (record s { world = (leads b here).2.step.w2 })
+      → ShowsLeft (known_after (Making b.map) new.changed known) (record s { world = (leads b here).2.step.w2 })
 
   abbrev pub CallsKeepLeft : Type 0
   CallsKeepLeft =
-      (name : ℕ → List ℕ) (m : Moment K V) (known : Known) (s : Scene K V) (old new : Executor K V S) → IsAt same hash old s → ShowsWhole same name m known s → OwnAreMade known s.world
+      (name : ℕ → List ℕ) (m : Moment K V) (known : Known) (s : Scene K V) (old new : Held K V) → IsAt same hash old s → ShowsWhole same name m known s → OwnAreMade known s.world
       → ShowsLeft known s
       → (map i : ℕ) (u : UnderWay K V K) (here : s.calls map i ≡ Some u) (told : CallTold (Node K V)) (leads : StepLeads same hash i told s old new)
-      → (let to = leads map u here in ShowsLeft (known_after (Call i map) new.memory.changed known) (scene_after same hash s old new map i to.0 u to.1 told to.4))
+      → (let to = leads map u here in ShowsLeft (known_after (Call i map) new.changed known) (scene_after same s old new map i to.0 u to.1 told to.4))
 
   -- and of the end of a map, which leaves none over once it is over.
   abbrev pub EndingsKeepLeft : Type 0
   EndingsKeepLeft =
-      (name : ℕ → List ℕ) (m : Moment K V) (known : Known) (s : Scene K V) (old new : Executor K V S) → IsAt same hash old s → ShowsWhole same name m known s → ShowsLeft known s
+      (name : ℕ → List ℕ) (m : Moment K V) (known : Known) (s : Scene K V) (old new : Held K V) → IsAt same hash old s → ShowsWhole same name m known s → ShowsLeft known s
       → (i : ℕ) (told : Settled (Node K V)) (leads : EndingLeads same hash i told s old new) (f : Finishing K V) (here : s.enders i ≡ Some f) (map : ℕ) → s.maps map ≡ None
       → (let to = leads f here in
-      ShowsLeft (known_after (Ending map) new.memory.changed known) (ending_after same hash s new i f to.0 to.2.w2 to.2.deed told to.3))
+      ShowsLeft (known_after (Ending map) new.changed known) (ending_after same hash s new i f to.0 to.2.w2 to.2.deed told to.3))

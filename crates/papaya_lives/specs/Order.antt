@@ -17,17 +17,9 @@ use Rattle.papaya_settles.specs.Given.Effects.Effects.{effects_of, known_after}
 use Rattle.papaya_settles.specs.Given.Effects.Known.{Known, nothing_known}
 use Rattle.papaya_settles.specs.Given.Effects.declared.acting.Acting.TheVariants.{Call, Ending, Making, Row}
 use Rattle.papaya_settles.specs.Given.Effects.declared.role.Role.TheVariants as role
-use Rattle.papaya_settles.specs.Given.Executor.Ending.{EndingLeads, ending_begun}
-use Rattle.papaya_settles.specs.Given.Executor.IsAt.{Scene, IsAt, at_first, slot_of, work_of}
-use Rattle.papaya_settles.specs.Given.Executor.Making.{MakingLeads}
-use Rattle.papaya_settles.specs.Given.Executor.OnSlots.{MayBegin, RowBegins, RowLeads}
-use Rattle.papaya_settles.specs.Given.Executor.Rows.{request_of}
-use Rattle.papaya_settles.specs.Given.Executor.Stepping.{StepLeads}
-use Rattle.papaya_settles.specs.Given.Executor.declared.executor.Executor.{Executor}
-use Rattle.papaya_settles.specs.Given.Executor.declared.row.RowTold.{RowTold}
-use Rattle.papaya_settles.specs.Given.Executor.declared.row.SlotCall.{SlotCall}
-use Rattle.papaya_settles.specs.Given.Executor.declared.row.SlotRow.{SlotRow}
-use Rattle.papaya_settles.specs.Given.Executor.declared.worker.Work.TheVariants.{OnSlot}
+use Rattle.papaya_settles.specs.Given.Scenes.declared.row.RowTold.{RowTold}
+use Rattle.papaya_settles.specs.Given.Scenes.declared.row.SlotCall.{SlotCall}
+use Rattle.papaya_settles.specs.Given.Scenes.declared.row.SlotRow.{SlotRow}
 use Rattle.papaya_settles.specs.Given.Finishes.Endings.{Finishing}
 use Rattle.papaya_settles.specs.Given.Finishes.Makings.{Beginning}
 use Rattle.papaya_settles.specs.Given.Finishes.Maps.{Standing}
@@ -40,6 +32,13 @@ use Rattle.papaya_settles.specs.Entries.{ShowsEntries}
 use Rattle.papaya_settles.specs.Hand.{ShowsOwed}
 use Rattle.papaya_lives.specs.Behind.{ShowsWaiting}
 use Rattle.papaya_lives.specs.Lying.{ShowsLying}
+use Rattle.papaya_settles.specs.Given.Scenes.Ending.{EndingLeads, ending_begun}
+use Rattle.papaya_settles.specs.Given.Scenes.Held.{Held, IsAt}
+use Rattle.papaya_settles.specs.Given.Scenes.Making.{MakingLeads}
+use Rattle.papaya_settles.specs.Given.Scenes.OnSlots.{RowBegins, RowLeads}
+use Rattle.papaya_settles.specs.Given.Scenes.Rows.{request_of}
+use Rattle.papaya_settles.specs.Given.Scenes.Scene.{IsOnSlot, Scene, at_first, slot_of}
+use Rattle.papaya_settles.specs.Given.Scenes.Stepping.{StepLeads}
 
 -- the blocks on the list of a table in use are noted, in their order, as the pairs that the moment says wait behind it
 abbrev pub ShowsOrder : {K V : Type 0} → Moment K V → Known → World (Node K V) → Type 0
@@ -60,41 +59,41 @@ abbrev pub EndingsBeginOrder : Type 0 → Type 0 → Type 0
 EndingsBeginOrder K V =
     (m : Moment K V) (known : Known) (s : Scene K V) → ShowsOrder m known s.world → (map i : ℕ) (standing : Standing K) → ShowsOrder m known (ending_begun map i standing s).world
 
-module _ (K V S : Type 0) (same : K → K → Bool) (hash : K → ℕ) where
+module _ (K V : Type 0) (same : K → K → Bool) (hash : ℕ → K → ℕ) where
   -- So it is where a row begins on a slot, and after a step of it,
   abbrev pub RowsBeginOrder : Type 0
   RowsBeginOrder =
-      (m : Moment K V) (known : Known) (s : Scene K V) (old new : Executor K V S) → ShowsOrder m known s.world
-      → (called : SlotCall) (i : ℕ) (may : MayBegin old (slot_of i) called) (leads : RowBegins same hash called i s old new)
-      → ShowsOrder m known (scene_then same hash (Begin i (request_of (slot_of i) called)) s old new (leads may).3).world
+      (m : Moment K V) (known : Known) (s : Scene K V) (old new : Held K V) → ShowsOrder m known s.world
+      → (called : SlotCall) (i : ℕ) (leads : RowBegins same hash called i s old new)
+      → ShowsOrder m known (scene_then same hash (Begin i (request_of (slot_of i) called)) s old new leads.2).world
 
   abbrev pub RowsKeepOrder : Type 0
   RowsKeepOrder =
-      (name : ℕ → List ℕ) (m : Moment K V) (known : Known) (s : Scene K V) (old new : Executor K V S) → IsAt same hash old s → ShowsWhole same name m known s → ShowsOrder m known s.world
-      → (i : ℕ) (told : RowTold (Node K V)) (leads : RowLeads same hash i told s old new) (row : SlotRow) (here : work_of old i ≡ Some (OnSlot row))
-      → ShowsOrder (with_effects None None (effects_of Row known new.memory.changed) m) (known_after Row new.memory.changed known) (scene_then same hash (Step i) s old new (leads row here).4).world
+      (name : ℕ → List ℕ) (m : Moment K V) (known : Known) (s : Scene K V) (old new : Held K V) → IsAt same hash old s → ShowsWhole same name m known s → ShowsOrder m known s.world
+      → (i : ℕ) (told : RowTold (Node K V)) (leads : RowLeads same hash i told s old new) (row : SlotRow) (here : IsOnSlot s i row)
+      → ShowsOrder (with_effects None None (effects_of Row known new.changed) m) (known_after Row new.changed known) (scene_then same hash (Step i) s old new (leads row here).2).world
 
   -- after a step of the making of a map, whose table is a new one,
   abbrev pub MakingsKeepOrder : Type 0
   MakingsKeepOrder =
-      (name : ℕ → List ℕ) (m : Moment K V) (known : Known) (s : Scene K V) (old new : Executor K V S) → IsAt same hash old s → ShowsWhole same name m known s → OwnAreMade known s.world
+      (name : ℕ → List ℕ) (m : Moment K V) (known : Known) (s : Scene K V) (old new : Held K V) → IsAt same hash old s → ShowsWhole same name m known s → OwnAreMade known s.world
       → ShowsWaiting m known s.world → ShowsOrder m known s.world
       → (i : ℕ) (told : Progress Setting) (leads : MakingLeads same hash i told s old new) (b : Beginning K) (here : s.makers i ≡ Some b) (of : Option ℕ) → WasNew b.map told m
-      → ShowsOrder (with_effects None of (effects_of (Making b.map) known new.memory.changed) m) (known_after (Making b.map) new.memory.changed known) (leads b here).2.step.w2
+      → ShowsOrder (with_effects None of (effects_of (Making b.map) known new.changed) m) (known_after (Making b.map) new.changed known) (leads b here).2.step.w2
 
   -- of a call, whoever's row it is,
   abbrev pub CallsKeepOrder : Type 0
   CallsKeepOrder =
-      (name : ℕ → List ℕ) (m : Moment K V) (known : Known) (s : Scene K V) (old new : Executor K V S) → IsAt same hash old s → ShowsWhole same name m known s
+      (name : ℕ → List ℕ) (m : Moment K V) (known : Known) (s : Scene K V) (old new : Held K V) → IsAt same hash old s → ShowsWhole same name m known s
       → ShowsEntries s → OwnAreMade known s.world → ShowsOwed name m known s → ShowsWaiting m known s.world → ShowsLying m known s.world → ShowsOrder m known s.world
       → (map i : ℕ) (u : UnderWay K V K) (here : s.calls map i ≡ Some u) (told : CallTold (Node K V)) (leads : StepLeads same hash i told s old new)
-      → ShowsOrder (with_effects (Some (name i)) (Some map) (effects_of (Call i map) known new.memory.changed) m) (known_after (Call i map) new.memory.changed known) (leads map u here).4.w2
+      → ShowsOrder (with_effects (Some (name i)) (Some map) (effects_of (Call i map) known new.changed) m) (known_after (Call i map) new.changed known) (leads map u here).4.w2
 
   -- and of the end of a map.
   abbrev pub EndingsKeepOrder : Type 0
   EndingsKeepOrder =
-      (name : ℕ → List ℕ) (m : Moment K V) (known : Known) (s : Scene K V) (old new : Executor K V S) → IsAt same hash old s → ShowsWhole same name m known s → ShowsOrder m known s.world
+      (name : ℕ → List ℕ) (m : Moment K V) (known : Known) (s : Scene K V) (old new : Held K V) → IsAt same hash old s → ShowsWhole same name m known s → ShowsOrder m known s.world
       → (i : ℕ) (told : Settled (Node K V)) (leads : EndingLeads same hash i told s old new) (f : Finishing K V) (here : s.enders i ≡ Some f) (map : ℕ) → s.maps map ≡ None
       → (let to = leads f here in
-      ShowsOrder (with_effects None (Some map) (effects_of (Ending map) known new.memory.changed) m) (known_after (Ending map) new.memory.changed known)
+      ShowsOrder (with_effects None (Some map) (effects_of (Ending map) known new.changed) m) (known_after (Ending map) new.changed known)
       (ending_after same hash s new i f to.0 to.2.w2 to.2.deed told to.3).world)

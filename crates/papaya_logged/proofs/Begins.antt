@@ -8,11 +8,7 @@ use Rattle.papaya_schedules.specs.Beginning.{with_call}
 use Rattle.papaya_schedules.specs.Lists.{put}
 use Rattle.papaya_schedules.specs.Moment.{Moment, start}
 use Rattle.papaya_effects.specs.Known.{Known, known, nothing_known}
-use Rattle.papaya_executor.specs.Beginning.{BeginLeads}
-use Rattle.papaya_executor.specs.IsAt.{Scene, IsAt, HasCall, KeepsGiven, at_first}
-use Rattle.papaya_executor.specs.Replying.{scene_with}
-use Rattle.papaya_executor.specs.declared.worker.TheConstants.{SLOTS}
-use Rattle.papaya_executor.proofs.Fresh.{caller_in, no_calls_yet, resting}
+use Rattle.papaya_scenes.specs.declared.callers.TheConstants.{SLOTS}
 use Rattle.papaya_kept.specs.Given.Follows.Calling.{NoneNamed}
 use Rattle.papaya_kept.specs.Given.Moments.Whole.{ShowsWhole}
 use Rattle.papaya_kept.specs.Kept.{ShowsKept}
@@ -24,6 +20,11 @@ use Rattle.papaya_logged.specs.Shown.{IsShown}
 use Rattle.papaya_logged.specs.declared.logged.Logged.{Logged}
 use Rattle.papaya_logged.proofs.Counted.{counted_begins, counted_stays, same_memory}
 use Rattle.papaya_kept.proofs.Renamed.{renamed}
+use Rattle.papaya_executor.proofs.Fresh.{caller_in, no_calls_yet, resting}
+use Rattle.papaya_executor.specs.Beginning.{BeginsThere}
+use Rattle.papaya_executor.specs.IsThere.{IsThere, KeepsGiven, held_by}
+use Rattle.papaya_scenes.specs.Replying.{scene_with}
+use Rattle.papaya_scenes.specs.Scene.{HasCall, Scene, at_first}
 
 -- one that is named gets its name, and the others keep theirs
 named : (i : ℕ) (own : List ℕ) (name : ℕ → List ℕ) → put i own name i ≡ own
@@ -34,13 +35,13 @@ same_name i j own name ne = ap (λ (b : Bool). if b then own else name j) (ne_eq
 
 module _ {K V S : Type 0} (same : K → K → Bool) (hash : K → ℕ) where
   pub call_begins : (old new : Logged K V S) (slot map : ℕ) (machine : Machine K V K) (fits : slot < SLOTS)
-      → ((s : Scene K V) → IsAt same hash old.executor s → BeginLeads same hash map machine (caller_in old.executor slot) s old.executor new.executor)
+      → ((s : Scene K V) → IsThere same hash old.executor s → BeginsThere same hash map machine (caller_in old.executor slot) s old.executor new.executor)
       → new.notes ≡ old.notes → KeepsGiven old.executor new.executor
       → (name : ℕ → List ℕ) (m : Moment K V) (s : Scene K V) → IsShown same hash name m old s → CallBegins same hash name m s (caller_in old.executor slot) map machine old new
   call_begins old new slot map machine fits begins noted given name m s shown standing stands inside u is fresh own guard call called begun apart =
       let i = caller_in old.executor slot in
       let names = put i own name in
-      let leads = begins s shown.is_at standing stands inside u is fresh in
+      let leads = (begins s shown.is_at inside).1 standing stands u is fresh in
       let agree : (j : ℕ) → HasCall s j → names j ≡ name j =
       λ j has. same_name i j own name (λ e. absurd (cc (has.2, subst (λ x. s.calls has.0 x ≡ None) (sym e) (no_calls_yet same hash old.executor s shown.is_at slot fits has.0)))) in
       let before = renamed same name names m (known old.notes) s agree shown.shows in
@@ -56,16 +57,16 @@ module _ {K V S : Type 0} (same : K → K → Bool) (hash : K → ℕ) where
             (subst (λ (a : List ℕ). ShowsWhole {K = K} {V = V} same names (with_call a guard call (Some map) m) (known old.notes) then_at) (named i own name) whole);
         kept = subst (λ (k : Known). ShowsKept {K = K} {V = V} names after k then_at) (ap known (sym noted))
             (subst (λ (a : List ℕ). ShowsKept {K = K} {V = V} names (with_call a guard call (Some map) m) (known old.notes) then_at) (named i own name)
-            (calls_begin_kept K V S same hash names m (known old.notes) s old.executor new.executor shown.is_at before kept_before map i standing stands u call guard fresh called begun none rests leads.1 whole.all.shown));
-        counted = counted_stays old new given noted m after s then_at shown.counted (same_memory same hash old.executor new.executor s then_at shown.is_at leads.1 refl) refl refl refl refl refl refl refl;
+            (calls_begin_kept K V same (λ map. hash) names m (known old.notes) s (held_by old.executor) (held_by new.executor) shown.is_at.held before kept_before map i standing stands u call guard fresh called begun none rests leads.1.held whole.all.shown));
+        counted = counted_stays old new given noted m after s then_at shown.counted (same_memory same (λ map. hash) old.executor new.executor s then_at shown.is_at.held leads.1.held refl) refl refl refl refl refl refl refl;
       }
 
 -- so it is before all events, with nothing noted
-pub first_shown : {K V S : Type 0} (same : K → K → Bool) (hash : K → ℕ) (name : ℕ → List ℕ) (l : Logged K V S) (roots : ℕ) → IsAt same hash l.executor (at_first roots) → l.executor.roots ≡ roots → known l.notes ≡ nothing_known
+pub first_shown : {K V S : Type 0} (same : K → K → Bool) (hash : K → ℕ) (name : ℕ → List ℕ) (l : Logged K V S) (roots : ℕ) → IsThere same hash l.executor (at_first roots) → l.executor.roots ≡ roots → known l.notes ≡ nothing_known
     → IsShown same hash name start l (at_first roots)
 first_shown {K} {V} same hash name l roots at is_roots noted = record {
   is_at = at;
   shows = subst (λ (k : Known). ShowsWhole {K = K} {V = V} same name start k (at_first roots)) (sym noted) (whole_begins K V same roots name);
   kept = subst (λ (k : Known). ShowsKept {K = K} {V = V} name start k (at_first roots)) (sym noted) (begins_kept K V roots name);
-  counted = counted_begins same hash l roots at is_roots noted;
+  counted = counted_begins same (λ map. hash) l roots at.held is_roots noted;
 }

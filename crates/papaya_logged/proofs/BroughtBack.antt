@@ -29,13 +29,10 @@ use Rattle.papaya_effects.specs.declared.acting.Acting.{Acting}
 use Rattle.papaya_effects.specs.declared.acting.Acting.TheVariants as acts
 use Rattle.papaya_effects.specs.declared.role.Role.{Role}
 use Rattle.papaya_effects.specs.declared.role.Role.TheVariants as role
-use Rattle.papaya_executor.specs.Ending.{EndingComesTo, EndingLeads}
-use Rattle.papaya_executor.specs.IsAt.{Scene, IsAt, work_of}
-use Rattle.papaya_executor.specs.OnSlots.{RowLeads}
 use Rattle.papaya_executor.specs.declared.executor.Executor.{Executor}
-use Rattle.papaya_executor.specs.declared.row.RowTold.{RowTold}
-use Rattle.papaya_executor.specs.declared.row.RowTold.TheVariants as told
-use Rattle.papaya_executor.specs.declared.row.SlotRow.{SlotRow}
+use Rattle.papaya_scenes.specs.declared.row.RowTold.{RowTold}
+use Rattle.papaya_scenes.specs.declared.row.RowTold.TheVariants as told
+use Rattle.papaya_scenes.specs.declared.row.SlotRow.{SlotRow}
 use Rattle.papaya_executor.specs.declared.worker.Work.TheVariants.{OnSlot}
 use Rattle.papaya_kept.specs.Given.Finishes.Endings.{Finishing}
 use Rattle.papaya_kept.specs.Given.Finishes.FactsEnds.{taken_by as taken_of}
@@ -53,6 +50,11 @@ use Rattle.papaya_logged.specs.Ends.{EndRan, EndSteps, ended_as, is_done}
 use Rattle.papaya_logged.specs.OnSlots.{OnSlotRan, has_come}
 use Rattle.papaya_logged.specs.Shown.{IsShown}
 use Rattle.papaya_logged.specs.declared.logged.Logged.{Logged}
+use Rattle.papaya_executor.specs.IsThere.{IsThere, held_by, work_of}
+use Rattle.papaya_executor.specs.OnSlots.{RowStepsThere}
+use Rattle.papaya_scenes.specs.Ending.{EndingComesTo, EndingLeads}
+use Rattle.papaya_scenes.specs.Scene.{Scene}
+use Rattle.papaya_executor.proofs.RowLeads.{held_row}
 
 -- the last effect of a list
 at_end : (ys : List Effect) (f : Effect) → slice_get (ys ++ f ∷ []) (length ys) ≡ Some f
@@ -197,7 +199,7 @@ module _ {K V S : Type 0} where
     abbrev noted : Known
     noted = known mid.notes
 
-    module _ (said : RowTold (Node K V)) (row : SlotRow) (here : work_of mid.executor i ≡ Some (OnSlot row)) (leads : RowLeads same hash i said s mid.executor new) where
+    module _ (said : RowTold (Node K V)) (row : SlotRow) (here : work_of mid.executor i ≡ Some (OnSlot row)) (leads : RowStepsThere same hash i said s mid.executor new) where
       abbrev does : List Effect
       does = effects_of acts.Row noted new.memory.changed
 
@@ -205,15 +207,15 @@ module _ {K V S : Type 0} where
       quiet none =
           let to = leads row here in
           nothing_back m.stored does [] refl
-          (row_quiet noted new.memory.changed (row_tells mid.executor.memory.memory new.memory.memory new.memory.changed (to.0, said) row to.1) none)
+          (row_quiet noted new.memory.changed (row_tells mid.executor.memory.memory new.memory.memory new.memory.changed (to.1, said) row to.2) none)
 
       row_brings : IsBack m.stored does (row_back said (ys ++ does))
-      row_brings = by said (rows_give_what_they_took K V S same hash s mid.executor new i said leads row here)
+      row_brings = by said (rows_give_what_they_took K V same (λ map. hash) s (held_by mid.executor) (held_by new) i said (held_row same hash s mid.executor new shown.is_at i said leads) row (leads row here).0)
         where
           by : (t : RowTold (Node K V)) → GivesWhatItTook mid.executor.memory.memory new.memory.changed t → IsBack m.stored does (row_back t (ys ++ does))
           by (told.Gave value) (b, took, held) =
               subst (λ (xs : List Effect). IsBack m.stored xs (pair_back value (ys ++ xs))) (sym (ap (effects_of acts.Row noted) took))
-              (taken_back s.world m.stored b value (ap (λ x. value_at x b) shown.is_at.memory ∙ held) acts.Row ys (noted.roles b) (shown.shows.all.shown.blocks.roles b))
+              (taken_back s.world m.stored b value (ap (λ x. value_at x b) shown.is_at.held.memory ∙ held) acts.Row ys (noted.roles b) (shown.shows.all.shown.blocks.roles b))
           by told.Goes none = quiet none
           by told.Waits none = quiet none
           by told.Done none = quiet none
@@ -221,7 +223,7 @@ module _ {K V S : Type 0} where
           by (told.Refused fault) none = quiet none
 
     -- ends of maps
-    module _ (map : ℕ) (said : Settled (Node K V)) (f : Finishing K V) (here : s.enders i ≡ Some f) (not_there : s.maps map ≡ None) (leads : EndingLeads same hash i said s mid.executor new) (first : Known)
+    module _ (map : ℕ) (said : Settled (Node K V)) (f : Finishing K V) (here : s.enders i ≡ Some f) (not_there : s.maps map ≡ None) (leads : EndingLeads same (λ map. hash) i said s (held_by mid.executor) (held_by new)) (first : Known)
         (did_so : effects_of (acts.Ending map) noted new.memory.changed ≡ ended_as map first (taken_of (leads f here).2.deed)) where
       abbrev ends : List Effect
       ends = effects_of (acts.Ending map) noted new.memory.changed
@@ -232,10 +234,10 @@ module _ {K V S : Type 0} where
       end_brings : IsBack m.stored ends (settled_back said (ys ++ ends))
       end_brings =
           let to = leads f here in
-          by said to.3 (tells_next same hash name m noted s mid.executor new shown.is_at shown.shows.all.shown i f here to.0 said to.1 to.2 map not_there said to.3)
+          by said to.3 (tells_next same (λ map. hash) name m noted s (held_by mid.executor) (held_by new) shown.is_at.held shown.shows.all.shown i f here to.0 said to.1 to.2 map not_there said to.3)
         where
-          by : (t : Settled (Node K V)) (comes : EndingComesTo same hash s new i f (leads f here).0 (leads f here).2.w2 (leads f here).2.deed t)
-              → TellsNext same hash s new i f (leads f here).0 (leads f here).2.w2 (leads f here).2.deed t comes new.memory.changed → IsBack m.stored ends (settled_back t (ys ++ ends))
+          by : (t : Settled (Node K V)) (comes : EndingComesTo same (λ map. hash) s (held_by new) i f (leads f here).0 (leads f here).2.w2 (leads f here).2.deed t)
+              → TellsNext same (λ map. hash) s (held_by new) i f (leads f here).0 (leads f here).2.w2 (leads f here).2.deed t comes new.memory.changed → IsBack m.stored ends (settled_back t (ys ++ ends))
           by settled.Goes comes tells = none_ends comes.0
           by settled.Waits comes tells = absurd comes
           by (settled.Gave value) comes tells =
@@ -246,7 +248,7 @@ module _ {K V S : Type 0} where
   -- a step more of a row
   pub brings_row : (old mid new : Logged K V S) (xs ys zs : List Effect) (i : ℕ) (said : RowTold (Node K V)) (row : SlotRow) → work_of mid.executor i ≡ Some (OnSlot row) → OnSlotRan xs ys old mid
       → zs ≡ ys ++ effects_of acts.Row (known mid.notes) new.executor.memory.changed
-      → ((same : K → K → Bool) (hash : K → ℕ) (s : Scene K V) → IsAt same hash mid.executor s → RowLeads same hash i said s mid.executor new.executor)
+      → ((same : K → K → Bool) (hash : K → ℕ) (s : Scene K V) → IsThere same hash mid.executor s → RowStepsThere same hash i said s mid.executor new.executor)
       → (b0 b1 b2 : List (Pair K V)) → BringsBack xs ys old b0 b1 → b2 ≡ b1 ++ row_back said zs → BringsBack xs zs old b0 b2
   brings_row old mid new xs ys zs i said row here ran did stepping b0 b1 b2 was follows =
       let more = effects_of acts.Row (known mid.notes) new.executor.memory.changed in (

@@ -11,7 +11,6 @@ use Rattle.papaya_schedules.specs.Moment.{Behind, Moment}
 use Rattle.papaya_effects.specs.Known.{Known, known}
 use Rattle.papaya_effects.specs.declared.role.Role.{Role}
 use Rattle.papaya_effects.specs.declared.role.Role.TheVariants as role
-use Rattle.papaya_executor.specs.IsAt.{Scene, IsAt, slot_of}
 use Rattle.papaya_kept.specs.Given.Finishes.Endings.{Finishing}
 use Rattle.papaya_kept.specs.Given.Finishes.Makings.{Beginning}
 use Rattle.papaya_kept.specs.Given.Finishes.Maps.{Standing}
@@ -31,6 +30,8 @@ use Rattle.papaya_kept.specs.Kept.{ShowsKept}
 use Rattle.papaya_logged.specs.Choosing.{ChoiceIsShown, logged_chosen, memory_chosen, scene_chosen}
 use Rattle.papaya_logged.specs.Shown.{IsCounted}
 use Rattle.papaya_logged.specs.declared.logged.Logged.{Logged}
+use Rattle.papaya_executor.specs.IsThere.{IsThere}
+use Rattle.papaya_scenes.specs.Scene.{Scene, slot_of}
 
 module _ {K V : Type 0} (choice : ℕ) (w : World (Node K V)) where
   abbrev then_in : World (Node K V)
@@ -159,20 +160,22 @@ module _ {K V S : Type 0} (choice : ℕ) (old : Logged K V S) where
     });
   }
 
-  at_then : (same : K → K → Bool) (hash : K → ℕ) (s : Scene K V) → IsAt same hash old.executor s → IsAt same hash (logged_chosen choice old).executor (scene_chosen choice s)
+  at_then : (same : K → K → Bool) (hash : K → ℕ) (s : Scene K V) → IsThere same hash old.executor s → IsThere same hash (logged_chosen choice old).executor (scene_chosen choice s)
   at_then same hash s at = record {
-    memory = ap (memory_chosen choice) at.memory;
-    together = choices_stand_among V same same old.executor.batch_size old.executor.roots slot_of s.world s.maps s.calls s.makers s.enders at.together choice (then_in choice s.world) refl;
+    held = record {
+      memory = ap (memory_chosen choice) at.held.memory;
+      together = choices_stand_among V same same old.executor.batch_size old.executor.roots slot_of s.world s.maps s.calls s.makers s.enders at.held.together choice (then_in choice s.world) refl;
+      hashes = at.held.hashes;
+      hashes_made = at.held.hashes_made;
+      on_slots = at.held.on_slots;
+      small = at.held.small;
+    };
     maps = at.maps;
-    hashes = at.hashes;
     calls = at.calls;
     makers = at.makers;
     enders = at.enders;
-    hashes_made = at.hashes_made;
     numbers = at.numbers;
     rows = at.rows;
-    on_slots = at.on_slots;
-    small = at.small;
     slots = at.slots;
     uses = at.uses;
   }

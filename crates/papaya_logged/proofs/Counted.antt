@@ -27,25 +27,18 @@ use Rattle.papaya_effects.specs.declared.role.Role.TheVariants as role
 use Rattle.papaya_kept.specs.Given.Finishes.Endings.{Finishing}
 use Rattle.papaya_kept.specs.Given.Finishes.Makings.{Beginning, HasTaken}
 use Rattle.papaya_kept.specs.Given.Finishes.Maps.{Standing}
-use Rattle.papaya_executor.specs.Ending.{EndingLeads, ending_begun}
-use Rattle.papaya_executor.specs.IsAt.{Scene, IsAt, KeepsGiven, at_first, slot_of, work_of}
-use Rattle.papaya_executor.specs.Making.{MakingLeads}
-use Rattle.papaya_executor.specs.OnSlots.{MayBegin, RowBegins, RowLeads}
-use Rattle.papaya_executor.specs.Rows.{request_of}
-use Rattle.papaya_executor.specs.Stepping.{StepLeads, scene_after}
 use Rattle.papaya_executor.specs.declared.executor.Executor.{Executor}
-use Rattle.papaya_executor.specs.declared.row.RowTold.{RowTold}
-use Rattle.papaya_executor.specs.declared.row.SlotCall.{SlotCall}
-use Rattle.papaya_executor.specs.declared.row.SlotCall.TheVariants as call
-use Rattle.papaya_executor.specs.declared.row.SlotRow.{SlotRow}
-use Rattle.papaya_executor.specs.declared.worker.Work.TheVariants as work
+use Rattle.papaya_scenes.specs.declared.row.RowTold.{RowTold}
+use Rattle.papaya_scenes.specs.declared.row.SlotCall.{SlotCall}
+use Rattle.papaya_scenes.specs.declared.row.SlotCall.TheVariants as call
+use Rattle.papaya_scenes.specs.declared.row.SlotRow.{SlotRow}
 use Rattle.papaya_kept.specs.Given.Follows.Shows.{Shows}
 use Rattle.papaya_kept.specs.Given.Others.Endings.{ending_after, without_map}
 use Rattle.papaya_kept.specs.Given.Others.Makings.{making_after}
 use Rattle.papaya_kept.specs.Given.Others.Rows.{scene_then}
 use Rattle.papaya_kept.proofs.Given.Moments.After.{effects_after}
 use Rattle.papaya_kept.proofs.Given.Moments.Numbers.{maps_go}
-use Rattle.papaya_kept.specs.Given.Moments.Numbers.{NumbersMaps}
+use Rattle.papaya_kept.specs.Given.Moments.Numbers.{MapsAreBelow, NumbersMaps}
 use Rattle.papaya_remains.specs.Numbered.{NumbersUpTo}
 use Rattle.papaya_remains.specs.Remains.{LeftNoted, ShowsRemains}
 use Rattle.papaya_remains.specs.Slots.{SlotsNoted}
@@ -59,6 +52,14 @@ use Rattle.papaya_remains.proofs.Steps.{calls_keep_remains, rows_begin_remain, r
 use Rattle.papaya_logged.specs.Ends.{ended_as}
 use Rattle.papaya_logged.specs.Shown.{IsCounted}
 use Rattle.papaya_logged.specs.declared.logged.Logged.{Logged}
+use Rattle.papaya_executor.specs.IsThere.{KeepsGiven, held_by}
+use Rattle.papaya_scenes.specs.Ending.{EndingLeads, ending_begun}
+use Rattle.papaya_scenes.specs.Rows.{request_of}
+use Rattle.papaya_scenes.specs.Scene.{IsOnSlot, Scene, at_first, slot_of}
+use Rattle.papaya_scenes.specs.Stepping.{StepLeads, scene_after}
+use Rattle.papaya_scenes.specs.Held.{IsAt}
+use Rattle.papaya_scenes.specs.Making.{MakingLeads}
+use Rattle.papaya_scenes.specs.OnSlots.{RowBegins, RowLeads}
 
 -- numbers are those of the same maps and tables
 pub numbers_as : {K V : Type 0} (count : ℕ) (m v : Moment K V) → v.maps ≡ m.maps → v.tables ≡ m.tables → NumbersUpTo count m → NumbersUpTo count v
@@ -113,7 +114,7 @@ counted_calls {K} {V} l m v s c maps tables remains = record {
 }
 
 -- the executor's memory is that of the world
-pub same_memory : {K V S : Type 0} (same : K → K → Bool) (hash : K → ℕ) (old new : Executor K V S) (s t : Scene K V) → IsAt same hash old s → IsAt same hash new t → t.world.memory ≡ s.world.memory
+pub same_memory : {K V S : Type 0} (same : K → K → Bool) (hash : ℕ → K → ℕ) (old new : Executor K V S) (s t : Scene K V) → IsAt same hash (held_by old) s → IsAt same hash (held_by new) t → t.world.memory ≡ s.world.memory
     → new.memory.memory ≡ old.memory.memory
 same_memory same hash old new s t at at2 memory = sym at2.memory ∙ memory ∙ at.memory
 
@@ -127,9 +128,9 @@ begun_memory size slot i w v call.Refresh h = ap (λ (x : World (Node _ _)). x.m
 begun_memory size slot i w v call.Flush h = ap (λ (x : World (Node _ _)). x.memory) h.1
 begun_memory size slot i w v call.Unregister h = ap (λ (x : World (Node _ _)). x.memory) h.1
 
-module _ {K V S : Type 0} (same : K → K → Bool) (hash : K → ℕ) where
+module _ {K V S : Type 0} (same : K → K → Bool) (hash : ℕ → K → ℕ) where
   -- before all events
-  pub counted_begins : (l : Logged K V S) (roots : ℕ) → IsAt same hash l.executor (at_first roots) → l.executor.roots ≡ roots → known l.notes ≡ nothing_known → IsCounted start l (at_first roots)
+  pub counted_begins : (l : Logged K V S) (roots : ℕ) → IsAt same hash (held_by l.executor) (at_first roots) → l.executor.roots ≡ roots → known l.notes ≡ nothing_known → IsCounted start l (at_first roots)
   counted_begins l roots at is_roots noted = record {
     numbered = record {
       numbers = record { found = λ k d l. absurd (let none = l in omega (arith, none)); below = λ k d l. absurd (let none = l in omega (arith, none)); tables = λ k d l. absurd (let none = l in omega (arith, none)) };
@@ -140,48 +141,48 @@ module _ {K V S : Type 0} (same : K → K → Bool) (hash : K → ℕ) where
   }
 
   -- where a row begins on a slot, and after a step of it
-  pub counted_row_begins : (old new : Logged K V S) → KeepsGiven old.executor new.executor → new.notes ≡ old.notes → (m : Moment K V) (s : Scene K V) → IsAt same hash old.executor s → IsCounted m old s
-      → (called : SlotCall) (i : ℕ) (may : MayBegin old.executor (slot_of i) called) (leads : RowBegins same hash called i s old.executor new.executor)
-      → IsCounted m new (scene_then same hash (Begin i (request_of (slot_of i) called)) s old.executor new.executor (leads may).3)
-  counted_row_begins old new given noted m s at c called i may leads =
-      let to = (leads may).3 in
+  pub counted_row_begins : (old new : Logged K V S) → KeepsGiven old.executor new.executor → new.notes ≡ old.notes → (m : Moment K V) (s : Scene K V) → IsAt same hash (held_by old.executor) s → IsCounted m old s
+      → (called : SlotCall) (i : ℕ) (leads : RowBegins same hash called i s (held_by old.executor) (held_by new.executor))
+      → IsCounted m new (scene_then same hash (Begin i (request_of (slot_of i) called)) s (held_by old.executor) (held_by new.executor) leads.2)
+  counted_row_begins old new given noted m s at c called i leads =
+      let to = leads.2 in
       counted_on old new given m _
-      (subst (λ (n : Notes). ShowsRemains old.executor.roots m (known n) (scene_then same hash (Begin i (request_of (slot_of i) called)) s old.executor new.executor to)) (sym noted)
-      (rows_begin_remain K V S same hash m (known old.notes) s old.executor new.executor at c.remains called i may leads)) c.numbered.numbers
+      (subst (λ (n : Notes). ShowsRemains old.executor.roots m (known n) (scene_then same hash (Begin i (request_of (slot_of i) called)) s (held_by old.executor) (held_by new.executor) to)) (sym noted)
+      (rows_begin_remain K V same hash m (known old.notes) s (held_by old.executor) (held_by new.executor) at c.remains called i leads)) c.numbered.numbers
       (same_slots old new given noted (sym to.4.memory ∙ begun_memory old.executor.batch_size (slot_of i) i s.world to.0 called to.1.1 ∙ at.memory) c.numbered.slots)
 
-  pub counted_row_steps : (old : Logged K V S) (stepped : Executor K V S) (notes : Notes) → KeepsGiven old.executor stepped → (m : Moment K V) (s : Scene K V) → IsAt same hash old.executor s → IsCounted m old s
-      → (i : ℕ) (told : RowTold (Node K V)) (leads : RowLeads same hash i told s old.executor stepped) (row : SlotRow) (here : work_of old.executor i ≡ Some (work.OnSlot row))
+  pub counted_row_steps : (old : Logged K V S) (stepped : Executor K V S) (notes : Notes) → KeepsGiven old.executor stepped → (m : Moment K V) (s : Scene K V) → IsAt same hash (held_by old.executor) s → IsCounted m old s
+      → (i : ℕ) (told : RowTold (Node K V)) (leads : RowLeads same hash i told s (held_by old.executor) (held_by stepped)) (row : SlotRow) (here : IsOnSlot s i row)
       → known notes ≡ known_after acts.Row stepped.memory.changed (known old.notes)
-      → LeftNoted (known old.notes) (known_after acts.Row stepped.memory.changed (known old.notes)) s.world (scene_then same hash (Step i) s old.executor stepped (leads row here).4).world
+      → LeftNoted (known old.notes) (known_after acts.Row stepped.memory.changed (known old.notes)) s.world (scene_then same hash (Step i) s (held_by old.executor) (held_by stepped) (leads row here).2).world
       → IsCounted (with_effects None None (effects_of acts.Row (known old.notes) stepped.memory.changed) m) (record { executor = stepped; notes = notes })
-      (scene_then same hash (Step i) s old.executor stepped (leads row here).4)
+      (scene_then same hash (Step i) s (held_by old.executor) (held_by stepped) (leads row here).2)
   counted_row_steps old stepped notes given m s at c i told leads row here noted left =
       counted_on old (record { executor = stepped; notes = notes }) given _ _
       (subst (λ (k : Known). ShowsRemains old.executor.roots (with_effects None None (effects_of acts.Row (known old.notes) stepped.memory.changed) m) k
-      (scene_then same hash (Step i) s old.executor stepped (leads row here).4)) (sym noted)
-      (rows_keep_remains K V S same hash m (known old.notes) (known_after acts.Row stepped.memory.changed (known old.notes)) s old.executor stepped at c.remains i told leads row here None None
+      (scene_then same hash (Step i) s (held_by old.executor) (held_by stepped) (leads row here).2)) (sym noted)
+      (rows_keep_remains K V same hash m (known old.notes) (known_after acts.Row stepped.memory.changed (known old.notes)) s (held_by old.executor) (held_by stepped) at c.remains i told leads row here None None
       (effects_of acts.Row (known old.notes) stepped.memory.changed) left))
-      (rows_keep_count K V S same hash m (known old.notes) s old.executor stepped (length old.executor.maps.items) c.numbered.numbers i told leads row here)
-      (subst (λ (k : Known). SlotsNoted k stepped.memory.memory) (sym noted) (rows_note_slots K V S same hash (known old.notes) s old.executor stepped at c.numbered.slots i told leads row here))
+      (rows_keep_count K V same hash m (known old.notes) s (held_by old.executor) (held_by stepped) (length old.executor.maps.items) c.numbered.numbers i told leads row here)
+      (subst (λ (k : Known). SlotsNoted k stepped.memory.memory) (sym noted) (rows_note_slots K V same hash (known old.notes) s (held_by old.executor) (held_by stepped) at c.numbered.slots i told leads row here))
 
   -- after a step of a call
-  pub counted_call_steps : (old : Logged K V S) (stepped : Executor K V S) (notes : Notes) → KeepsGiven old.executor stepped → (m : Moment K V) (s : Scene K V) → IsAt same hash old.executor s → IsCounted m old s
-      → (of i : ℕ) (u : UnderWay K V K) (here : s.calls of i ≡ Some u) (told : CallTold (Node K V)) (leads : StepLeads same hash i told s old.executor stepped) (caller : List ℕ)
+  pub counted_call_steps : (old : Logged K V S) (stepped : Executor K V S) (notes : Notes) → KeepsGiven old.executor stepped → (m : Moment K V) (s : Scene K V) → IsAt same hash (held_by old.executor) s → MapsAreBelow (length old.executor.maps.items) s → IsCounted m old s
+      → (of i : ℕ) (u : UnderWay K V K) (here : s.calls of i ≡ Some u) (told : CallTold (Node K V)) (leads : StepLeads same hash i told s (held_by old.executor) (held_by stepped)) (caller : List ℕ)
       → known notes ≡ known_after (acts.Call i of) stepped.memory.changed (known old.notes)
       → (let to = leads of u here in
-      LeftNoted (known old.notes) (known_after (acts.Call i of) stepped.memory.changed (known old.notes)) s.world (scene_after same hash s old.executor stepped of i to.0 u to.1 told to.4).world
+      LeftNoted (known old.notes) (known_after (acts.Call i of) stepped.memory.changed (known old.notes)) s.world (scene_after same s (held_by old.executor) (held_by stepped) of i to.0 u to.1 told to.4).world
       → IsCounted (with_effects (Some caller) (Some of) (effects_of (acts.Call i of) (known old.notes) stepped.memory.changed) m) (record { executor = stepped; notes = notes })
-      (scene_after same hash s old.executor stepped of i to.0 u to.1 told to.4))
-  counted_call_steps old stepped notes given m s at c of i u here told leads caller noted left =
+      (scene_after same s (held_by old.executor) (held_by stepped) of i to.0 u to.1 told to.4))
+  counted_call_steps old stepped notes given m s at below c of i u here told leads caller noted left =
       counted_on old (record { executor = stepped; notes = notes }) given _ _
       (let to = leads of u here in
       subst (λ (k : Known). ShowsRemains old.executor.roots (with_effects (Some caller) (Some of) (effects_of (acts.Call i of) (known old.notes) stepped.memory.changed) m) k
-      (scene_after same hash s old.executor stepped of i to.0 u to.1 told to.4)) (sym noted)
-      (calls_keep_remains K V S same hash m (known old.notes) (known_after (acts.Call i of) stepped.memory.changed (known old.notes)) s old.executor stepped at c.remains of i u here told leads
+      (scene_after same s (held_by old.executor) (held_by stepped) of i to.0 u to.1 told to.4)) (sym noted)
+      (calls_keep_remains K V same hash m (known old.notes) (known_after (acts.Call i of) stepped.memory.changed (known old.notes)) s (held_by old.executor) (held_by stepped) at c.remains of i u here told leads
       (Some caller) (Some of) (effects_of (acts.Call i of) (known old.notes) stepped.memory.changed) left))
-      (calls_keep_count K V S same hash m (known old.notes) s old.executor stepped at c.numbered.numbers of i u here told leads (Some caller) (Some of))
-      (subst (λ (k : Known). SlotsNoted k stepped.memory.memory) (sym noted) (calls_note_slots K V S same hash (known old.notes) s old.executor stepped at c.numbered.slots of i u here told leads))
+      (calls_keep_count K V same hash m (known old.notes) s (held_by old.executor) (held_by stepped) (length old.executor.maps.items) below c.numbered.numbers of i u here told leads (Some caller) (Some of))
+      (subst (λ (k : Known). SlotsNoted k stepped.memory.memory) (sym noted) (calls_note_slots K V same hash (known old.notes) s (held_by old.executor) (held_by stepped) at c.numbered.slots of i u here told leads))
 
   -- where the making of a map begins, by the next number, and after a step of it
   pub counted_making_begins : (old new : Logged K V S) → new.executor.roots ≡ old.executor.roots → length new.executor.maps.items ≡ length old.executor.maps.items + 1 → new.notes ≡ old.notes
@@ -198,50 +199,50 @@ module _ {K V S : Type 0} (same : K → K → Bool) (hash : K → ℕ) where
         (makings_begin_remain K V old.executor.roots m (known old.notes) s c.remains i b none taken));
   }
 
-  pub counted_making_steps : (old : Logged K V S) (stepped : Executor K V S) (notes : Notes) → KeepsGiven old.executor stepped → (m : Moment K V) (s : Scene K V) → IsAt same hash old.executor s → IsCounted m old s
-      → (i : ℕ) (told : Progress Setting) (leads : MakingLeads same hash i told s old.executor stepped) (b : Beginning K) (here : s.makers i ≡ Some b) (of : Option ℕ)
+  pub counted_making_steps : (old : Logged K V S) (stepped : Executor K V S) (notes : Notes) → KeepsGiven old.executor stepped → (m : Moment K V) (s : Scene K V) → IsAt same hash (held_by old.executor) s → MapsAreBelow (length old.executor.maps.items) s → IsCounted m old s
+      → (i : ℕ) (told : Progress Setting) (leads : MakingLeads same hash i told s (held_by old.executor) (held_by stepped)) (b : Beginning K) (here : s.makers i ≡ Some b) (of : Option ℕ)
       → known notes ≡ known_after (acts.Making b.map) stepped.memory.changed (known old.notes)
       → (let to = leads b here in
-      LeftNoted (known old.notes) (known_after (acts.Making b.map) stepped.memory.changed (known old.notes)) s.world (making_after same hash s old.executor stepped i b to.0 to.2.step.w2 told to.3).world
+      LeftNoted (known old.notes) (known_after (acts.Making b.map) stepped.memory.changed (known old.notes)) s.world (making_after same hash s (held_by old.executor) (held_by stepped) i b to.0 to.2.step.w2 told to.3).world
       → IsCounted (with_effects None of (effects_of (acts.Making b.map) (known old.notes) stepped.memory.changed) m) (record { executor = stepped; notes = notes })
-      (making_after same hash s old.executor stepped i b to.0 to.2.step.w2 told to.3))
-  counted_making_steps old stepped notes given m s at c i told leads b here of noted left =
+      (making_after same hash s (held_by old.executor) (held_by stepped) i b to.0 to.2.step.w2 told to.3))
+  counted_making_steps old stepped notes given m s at below c i told leads b here of noted left =
       counted_on old (record { executor = stepped; notes = notes }) given _ _
       (let to = leads b here in
       subst (λ (k : Known). ShowsRemains old.executor.roots (with_effects None of (effects_of (acts.Making b.map) (known old.notes) stepped.memory.changed) m) k
-      (making_after same hash s old.executor stepped i b to.0 to.2.step.w2 told to.3)) (sym noted)
-      (makings_keep_remains K V S same hash m (known old.notes) (known_after (acts.Making b.map) stepped.memory.changed (known old.notes)) s old.executor stepped at c.remains i told leads b here
+      (making_after same hash s (held_by old.executor) (held_by stepped) i b to.0 to.2.step.w2 told to.3)) (sym noted)
+      (makings_keep_remains K V same hash m (known old.notes) (known_after (acts.Making b.map) stepped.memory.changed (known old.notes)) s (held_by old.executor) (held_by stepped) at c.remains i told leads b here
       None of (effects_of (acts.Making b.map) (known old.notes) stepped.memory.changed) left))
-      (makings_keep_count K V S same hash m (known old.notes) s old.executor stepped at c.numbered.numbers i b here None of)
-      (subst (λ (k : Known). SlotsNoted k stepped.memory.memory) (sym noted) (makings_note_slots K V S same hash (known old.notes) s old.executor stepped at c.numbered.slots i told leads b here b.map))
+      (makings_keep_count K V same hash m (known old.notes) s (held_by stepped) (length old.executor.maps.items) below c.numbered.numbers i b here None of)
+      (subst (λ (k : Known). SlotsNoted k stepped.memory.memory) (sym noted) (makings_note_slots K V same hash (known old.notes) s (held_by old.executor) (held_by stepped) at c.numbered.slots i told leads b here b.map))
 
   -- where the end of one begins, and after a step of it, which does what it is told to do
-  pub counted_end_begins : (old new : Logged K V S) → KeepsGiven old.executor new.executor → new.notes ≡ old.notes → (name : ℕ → List ℕ) (m : Moment K V) (s : Scene K V) → IsAt same hash old.executor s
+  pub counted_end_begins : (old new : Logged K V S) → KeepsGiven old.executor new.executor → new.notes ≡ old.notes → (name : ℕ → List ℕ) (m : Moment K V) (s : Scene K V) → IsAt same hash (held_by old.executor) s
       → Shows same name m (known old.notes) s → IsCounted m old s → (of i : ℕ) (standing : Standing K) → s.maps of ≡ Some standing → s.enders i ≡ None
-      → IsAt same hash new.executor (ending_begun of i standing s) → IsCounted m new (ending_begun of i standing s)
+      → IsAt same hash (held_by new.executor) (ending_begun of i standing s) → IsCounted m new (ending_begun of i standing s)
   counted_end_begins old new given noted name m s at shown c of i standing there none at2 =
       counted_on old new given m _
       (subst (λ (n : Notes). ShowsRemains old.executor.roots m (known n) (ending_begun of i standing s)) (sym noted)
-      (endings_begin_remain K V S same hash name m (known old.notes) s old.executor at shown c.remains of i standing there none)) c.numbered.numbers
+      (endings_begin_remain K V same hash name m (known old.notes) s (held_by old.executor) at shown c.remains of i standing there none)) c.numbered.numbers
       (same_slots old new given noted (same_memory same hash old.executor new.executor s (ending_begun of i standing s) at at2 refl) c.numbered.slots)
 
-  pub counted_end_steps : (old : Logged K V S) (stepped : Executor K V S) (notes : Notes) → KeepsGiven old.executor stepped → (m : Moment K V) (s : Scene K V) → IsAt same hash old.executor s → IsCounted m old s
-      → (i of : ℕ) (told : Settled (Node K V)) (leads : EndingLeads same hash i told s old.executor stepped) (f : Finishing K V) (here : s.enders i ≡ Some f)
+  pub counted_end_steps : (old : Logged K V S) (stepped : Executor K V S) (notes : Notes) → KeepsGiven old.executor stepped → (m : Moment K V) (s : Scene K V) → IsAt same hash (held_by old.executor) s → IsCounted m old s
+      → (i of : ℕ) (told : Settled (Node K V)) (leads : EndingLeads same hash i told s (held_by old.executor) (held_by stepped)) (f : Finishing K V) (here : s.enders i ≡ Some f)
       → known notes ≡ known_after (acts.Ending of) stepped.memory.changed (known old.notes)
       → (first : Known) (blocks : List ℕ) → effects_of (acts.Ending of) (known old.notes) stepped.memory.changed ≡ ended_as of first blocks
       → (let to = leads f here in
-      LeftNoted (known old.notes) (known_after (acts.Ending of) stepped.memory.changed (known old.notes)) s.world (ending_after same hash s stepped i f to.0 to.2.w2 to.2.deed told to.3).world
+      LeftNoted (known old.notes) (known_after (acts.Ending of) stepped.memory.changed (known old.notes)) s.world (ending_after same hash s (held_by stepped) i f to.0 to.2.w2 to.2.deed told to.3).world
       → IsCounted (with_effects None (Some of) (effects_of (acts.Ending of) (known old.notes) stepped.memory.changed) m) (record { executor = stepped; notes = notes })
-      (ending_after same hash s stepped i f to.0 to.2.w2 to.2.deed told to.3))
+      (ending_after same hash s (held_by stepped) i f to.0 to.2.w2 to.2.deed told to.3))
   counted_end_steps old stepped notes given m s at c i of told leads f here noted first blocks does left =
       counted_on old (record { executor = stepped; notes = notes }) given _ _
       (let to = leads f here in
       subst (λ (k : Known). ShowsRemains old.executor.roots (with_effects None (Some of) (effects_of (acts.Ending of) (known old.notes) stepped.memory.changed) m) k
-      (ending_after same hash s stepped i f to.0 to.2.w2 to.2.deed told to.3)) (sym noted)
-      (endings_keep_remains K V S same hash m (known old.notes) (known_after (acts.Ending of) stepped.memory.changed (known old.notes)) s old.executor stepped at c.remains i told leads f here
+      (ending_after same hash s (held_by stepped) i f to.0 to.2.w2 to.2.deed told to.3)) (sym noted)
+      (endings_keep_remains K V same hash m (known old.notes) (known_after (acts.Ending of) stepped.memory.changed (known old.notes)) s (held_by old.executor) (held_by stepped) at c.remains i told leads f here
       None (Some of) (effects_of (acts.Ending of) (known old.notes) stepped.memory.changed) left))
       (subst (λ (fs : List Effect). NumbersUpTo (length old.executor.maps.items) (with_effects None (Some of) fs m)) (sym does) (ends_count (length old.executor.maps.items) of first blocks m c.numbered.numbers))
-      (subst (λ (k : Known). SlotsNoted k stepped.memory.memory) (sym noted) (endings_note_slots K V S same hash (known old.notes) s old.executor stepped at c.numbered.slots i told leads f here of))
+      (subst (λ (k : Known). SlotsNoted k stepped.memory.memory) (sym noted) (endings_note_slots K V same hash (known old.notes) s (held_by old.executor) (held_by stepped) at c.numbered.slots i told leads f here of))
 
 module _ {K V S : Type 0} (l : Logged K V S) where
   -- where a map comes by the next number, with a root that is not used

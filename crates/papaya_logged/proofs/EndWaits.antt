@@ -32,9 +32,6 @@ use Rattle.papaya_kept.specs.Given.Finishes.Maps.{Standing}
 use Rattle.papaya_kept.specs.Given.Finishes.Orders.{pairs_of}
 use Rattle.papaya_kept.proofs.Given.Finishes.Ends.CountedBlocks.{some_first, some_here, some_last, times-append, times_other}
 use Rattle.papaya_kept.proofs.Given.Finishes.Ends.OrdersOn.{table_later}
-use Rattle.papaya_executor.specs.Ending.{EndingStepsFrom, EndingComesTo}
-use Rattle.papaya_executor.specs.IsAt.{Scene, IsAt, slot_of}
-use Rattle.papaya_executor.specs.declared.executor.Executor.{Executor}
 use Rattle.papaya_kept.specs.Given.Follows.Maps.{table_of}
 use Rattle.papaya_kept.proofs.Given.Follows.Onward.{IsOfMap}
 use Rattle.papaya_kept.specs.Given.Moments.Whole.{ShowsWhole}
@@ -47,6 +44,9 @@ use Rattle.papaya_logged.specs.Ends.{is_done, NotesMap, NotedStill}
 use Rattle.papaya_logged.specs.Waits.{TellsLeft, TellsThen, TellsWaiting, WaitsSo, waited_behind}
 use Rattle.papaya_logged.proofs.LeftNoted.{left_there}
 use Rattle.papaya_logged.proofs.EndPast.{left_before, past_within, yet_carries, yet_fresh, yet_used}
+use Rattle.papaya_scenes.specs.Ending.{EndingComesTo, EndingStepsFrom}
+use Rattle.papaya_scenes.specs.Held.{Held, IsAt}
+use Rattle.papaya_scenes.specs.Scene.{Scene, slot_of}
 
 each_two : {X Y : Type 0} (g : X → Y) (a b : List X) → each_of g (a ++ b) ≡ each_of g a ++ each_of g b
 each_two g [] b = refl
@@ -60,22 +60,22 @@ one_waited map ds t (suc tables) =
     ap (λ (l : List ℕ). behind (table_of map t) ds ++ l) (one_waited map ds (suc t) tables ∙ ap (λ (n : ℕ). waited_behind map ds (suc t) tables ++ behind (table_of map n) ds) u)
     ∙ sym (append_assoc (behind (table_of map t) ds) (waited_behind map ds (suc t) tables) (behind (table_of map (t + suc tables)) ds))
 
-module _ {K V S : Type 0} (same : K → K → Bool) (hash : K → ℕ) (name : ℕ → List ℕ) (m : Moment K V) (known : Known) (s : Scene K V) (old new : Executor K V S) (at : IsAt same hash old s)
+module _ {K V : Type 0} (same : K → K → Bool) (hash : ℕ → K → ℕ) (name : ℕ → List ℕ) (m : Moment K V) (known : Known) (s : Scene K V) (old new : Held K V) (at : IsAt same hash old s)
     (whole : ShowsWhole same name m known s) (kept : ShowsKept name m known s) (i : ℕ) (f : Finishing K V) (here : s.enders i ≡ Some f) (end : EndMap)
     (said : Settled (Node K V)) (steps : EndingStepsFrom f.machine old new end said)
-    (did : StepsOfEnding V same same old.batch_size old.roots slot_of s.world s.maps s.calls s.makers s.enders i f new.memory.memory (end, said))
+    (did : StepsOfEnding V same same old.batch_size old.roots slot_of s.world s.maps s.calls s.makers s.enders i f new.memory (end, said))
     (of : ℕ) (not_there : s.maps of ≡ None) (comes : EndingComesTo same hash s new i f end did.w2 did.deed said)
     (number : ℕ → ℕ) (first_known : Known) (notes : NotesMap of number first_known f.setting f.chart f.blocks) (noted : NotedStill first_known known f.back)
-    (noted_then : NotedStill first_known (known_after (Ending of) new.memory.changed known) (f.back ++ taken_of did.deed))
+    (noted_then : NotedStill first_known (known_after (Ending of) new.changed known) (f.back ++ taken_of did.deed))
     (first : Moment K V) (before : TellsWaiting same of i f first m known s.world) where
   abbrev w : World (Node K V)
   w = s.world
 
   abbrev effects : List Effect
-  effects = effects_of (Ending of) known new.memory.changed
+  effects = effects_of (Ending of) known new.changed
 
   abbrev known2 : Known
-  known2 = known_after (Ending of) new.memory.changed known
+  known2 = known_after (Ending of) new.changed known
 
   abbrev v : Moment K V
   v = with_effects None (Some of) effects m

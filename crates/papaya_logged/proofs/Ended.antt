@@ -29,20 +29,20 @@ use Rattle.papaya_kept.specs.Given.Tables.Nodes.{deferred_word}
 use Rattle.papaya_kept.specs.Given.Tables.declared.node.Node.{Node}
 use Rattle.papaya_teller.specs.declared.changed.Changed.{Changed}
 use Rattle.papaya_teller.specs.declared.changed.Changed.TheVariants.{Nothing}
-use Rattle.papaya_executor.specs.declared.row.RowTold.{RowTold}
-use Rattle.papaya_executor.specs.declared.row.RowTold.TheVariants as told
-use Rattle.papaya_executor.specs.declared.row.SlotChange.{SlotChange}
-use Rattle.papaya_executor.specs.declared.row.SlotChange.TheVariants as change
-use Rattle.papaya_executor.specs.declared.row.SlotRow.{SlotRow}
-use Rattle.papaya_executor.specs.declared.row.SlotRow.TheVariants as rows
-use Rattle.papaya_executor.specs.declared.row.SlotUse.{SlotUse}
-use Rattle.papaya_executor.specs.declared.row.SlotUse.TheVariants as used
-use Rattle.papaya_executor.specs.OnSlots.{RowSteps}
-use Rattle.papaya_executor.specs.Rows.{taken_as, left_by, change_of, uses_after, of_registering, of_settling}
-use Rattle.papaya_executor.proofs.Forgotten.{as_step}
+use Rattle.papaya_scenes.specs.declared.row.RowTold.{RowTold}
+use Rattle.papaya_scenes.specs.declared.row.RowTold.TheVariants as told
+use Rattle.papaya_scenes.specs.declared.row.SlotChange.{SlotChange}
+use Rattle.papaya_scenes.specs.declared.row.SlotChange.TheVariants as change
+use Rattle.papaya_scenes.specs.declared.row.SlotRow.{SlotRow}
+use Rattle.papaya_scenes.specs.declared.row.SlotRow.TheVariants as rows
+use Rattle.papaya_scenes.specs.declared.row.SlotUse.{SlotUse}
+use Rattle.papaya_scenes.specs.declared.row.SlotUse.TheVariants as used
 use Rattle.papaya_logged.specs.Ended.{has_ended, taken_in_the_end, entered_as, left_in_the_end, uses_ended}
 use Rattle.papaya_logged.specs.OnSlots.{has_come}
 use Rattle.papaya_logged.proofs.RowsFall.{one_store}
+use Rattle.papaya_scenes.proofs.Told.{as_step}
+use Rattle.papaya_scenes.specs.OnSlots.{RowSteps}
+use Rattle.papaya_scenes.specs.Rows.{change_of, left_by, of_registering, of_settling, taken_as, uses_after}
 
 -- a registering takes its slot as it is to be used
 module _ (c : Register) where

@@ -12,6 +12,7 @@ pub use Rattle.papaya_kept.proofs.Given.Waiters
 pub use Rattle.papaya_reclaims.proofs as Reclaims
 pub use Rattle.papaya_kept.proofs.Given.Whole
 pub use Rattle.papaya_runs.proofs as Runs
+pub use Rattle.papaya_scenes.proofs as Scenes
 pub use Rattle.papaya_executor.proofs as Executor
 pub use Rattle.papaya_reclaiming.proofs as Reclaiming
 pub use Rattle.papaya_kept.proofs.Given.Follows

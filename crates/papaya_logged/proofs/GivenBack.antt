@@ -18,7 +18,6 @@ use Rattle.papaya_effects.specs.Known.{known}
 use Rattle.papaya_effects.specs.declared.notes.Notes.{Notes}
 use Rattle.papaya_kept.specs.Given.Finishes.Makings.{Beginning}
 use Rattle.papaya_kept.specs.Given.Finishes.Maps.{Standing}
-use Rattle.papaya_executor.specs.IsAt.{Scene, IsAt}
 use Rattle.papaya_executor.specs.declared.executor.Executor.{Executor}
 use Rattle.papaya_kept.specs.Given.Moments.Whole.{ShowsWhole}
 use Rattle.papaya_kept.specs.Kept.{ShowsKept}
@@ -29,6 +28,8 @@ use Rattle.papaya_remains.specs.Slots.{SlotsNoted}
 use Rattle.papaya_logged.specs.Shown.{IsCounted}
 use Rattle.papaya_logged.specs.declared.logged.Logged.{Logged}
 use Rattle.papaya_logged.proofs.Counted.{numbers_as}
+use Rattle.papaya_executor.specs.IsThere.{IsThere}
+use Rattle.papaya_scenes.specs.Scene.{Scene, at_first}
 
 -- without its last place a list reads the same, if there was none
 module _ {X : Type 0} (items : List (Option X)) (map : ℕ) (long : length items ≡ map + 1) (none : slice_index_or items map None ≡ None) where
@@ -47,47 +48,49 @@ module _ {X : Type 0} (items : List (Option X)) (map : ℕ) (long : length items
 
 module _ {K V S : Type 0} (same : K → K → Bool) (hash : K → ℕ) where
   -- an executor with other settings, that read the same, is there where each number of a making is still that of a place
-  pub with_maps : (e e2 : Executor K V S) (s : Scene K V) → IsAt same hash e s → e2 ≡ record e { maps = e2.maps } → ((m : ℕ) → slice_index_or e2.maps.items m None ≡ slice_index_or e.maps.items m None)
-      → ((j : ℕ) (d : Beginning K) → s.makers j ≡ Some d → d.map < length e2.maps.items) → IsAt same hash e2 s
-  with_maps e e2 s at is reads numbers = subst (λ (x : Executor K V S). IsAt same hash x s) (sym is) (record {
-    memory = at.memory;
-    together = at.together;
+  pub with_maps : (e e2 : Executor K V S) (s : Scene K V) → IsThere same hash e s → e2 ≡ record e { maps = e2.maps } → ((m : ℕ) → slice_index_or e2.maps.items m None ≡ slice_index_or e.maps.items m None)
+      → ((j : ℕ) (d : Beginning K) → s.makers j ≡ Some d → d.map < length e2.maps.items) → IsThere same hash e2 s
+  with_maps e e2 s at is reads numbers = subst (λ (x : Executor K V S). IsThere same hash x s) (sym is) (record {
+    held = record {
+      memory = at.held.memory;
+      together = at.held.together;
+      hashes = at.held.hashes;
+      hashes_made = at.held.hashes_made;
+      on_slots = at.held.on_slots;
+      small = at.held.small;
+    };
     maps = λ m. at.maps m ∙ sym (reads m);
-    hashes = at.hashes;
     calls = at.calls;
     makers = at.makers;
     enders = at.enders;
-    hashes_made = at.hashes_made;
     numbers = numbers;
     rows = at.rows;
-    on_slots = at.on_slots;
-    small = at.small;
     slots = at.slots;
     uses = at.uses;
   })
 
   -- So it is where a making has come to what it told.
-  module _ (map i : ℕ) (s s2 : Scene K V) (before : Executor K V S) (at_first : IsAt same hash before s) (b : Beginning K) (here : s.makers i ≡ Some b) (of_map : b.map ≡ map)
-      (e e2 : Executor K V S) (is : e2 ≡ record e { maps = e2.maps }) (at : IsAt same hash e s2) where
+  module _ (map i : ℕ) (s s2 : Scene K V) (before : Executor K V S) (at_first : IsThere same hash before s) (b : Beginning K) (here : s.makers i ≡ Some b) (of_map : b.map ≡ map)
+      (e e2 : Executor K V S) (is : e2 ≡ record e { maps = e2.maps }) (at : IsThere same hash e s2) where
     -- another making is of another number
     other_number : (j : ℕ) (d : Beginning K) → s2.makers i ≡ None → ((k : ℕ) → k ≢ i → s2.makers k ≡ s.makers k) → s2.makers j ≡ Some d → d.map ≢ map
     other_number j d over others makes e = elim (cases_eq j i) as (λ _. ⊥) [
       | inl same_one ↦ (let none = ap s2.makers same_one ∙ over in cc (none, makes))
-      | inr ne ↦ at_first.together.makings.numbers i j b d (λ q. ne (sym q)) here (sym (others j ne) ∙ makes) (of_map ∙ sym e)
+      | inr ne ↦ at_first.held.together.makings.numbers i j b d (λ q. ne (sym q)) here (sym (others j ne) ∙ makes) (of_map ∙ sym e)
     ]
 
     -- settings that are as they were
-    kept : e2.maps.items ≡ e.maps.items → IsAt same hash e2 s2
+    kept : e2.maps.items ≡ e.maps.items → IsThere same hash e2 s2
     kept items = with_maps e e2 s2 at is (λ m. ap (λ (xs : List (Option Setting)). slice_index_or xs m None) items)
         (λ j d makes. subst (λ (n : ℕ). d.map < n) (sym (ap length items)) (at.numbers j d makes))
 
     none_there : s2.maps ≡ s.maps → slice_index_or e.maps.items map None ≡ None
     none_there maps =
         sym (at.maps map) ∙ ap (λ (f : ℕ → Option (Standing K)). option_map (λ standing. standing.setting) (f map)) maps
-        ∙ ap (λ (m : ℕ). option_map (λ standing. standing.setting) (s.maps m)) (sym of_map) ∙ ap (option_map (λ standing. standing.setting)) (at_first.together.makings.coming i b here)
+        ∙ ap (λ (m : ℕ). option_map (λ standing. standing.setting) (s.maps m)) (sym of_map) ∙ ap (option_map (λ standing. standing.setting)) (at_first.held.together.makings.coming i b here)
 
     dropped : s2.makers i ≡ None → ((k : ℕ) → k ≢ i → s2.makers k ≡ s.makers k) → s2.maps ≡ s.maps → (q : Bool) → (length e.maps.items == map + 1) ≡ q
-        → e2.maps.items ≡ (if q then take map e.maps.items else e.maps.items) → IsAt same hash e2 s2
+        → e2.maps.items ≡ (if q then take map e.maps.items else e.maps.items) → IsThere same hash e2 s2
     dropped over others maps false f items = kept items
     dropped over others maps true f items =
         let long : length e.maps.items ≡ map + 1 = eqb-true (length e.maps.items) (map + 1) f in
@@ -98,7 +101,7 @@ module _ {K V S : Type 0} (same : K → K → Bool) (hash : K → ℕ) where
         by_less : (n k x : ℕ) → n ≡ map → k ≡ map + 1 → x < k → x ≢ map → x < n
         by_less n k x few long l ne = omega (arith, few, long, l, ne)
 
-    pub at_given : (told : Progress Setting) → MakingCame s s2 i b told → e2.maps.items ≡ given_back map told e.maps.items → IsAt same hash e2 s2
+    pub at_given : (told : Progress Setting) → MakingCame s s2 i b told → e2.maps.items ≡ given_back map told e.maps.items → IsThere same hash e2 s2
     at_given progress.Goes came items = kept items
     at_given progress.Waits came items = kept items
     at_given (progress.Done setting) came items = kept items
@@ -189,6 +192,6 @@ ran_given {K} {V} {S} i map told xs ys old mid new ran notes is items = (
 )
 
 -- the making's number has its place among so many
-pub has_place : {K V S : Type 0} (same : K → K → Bool) (hash : K → ℕ) (s : Scene K V) (i map : ℕ) {old : Executor K V S} → IsAt same hash old s → (b : Beginning K) → s.makers i ≡ Some b → b.map ≡ map
+pub has_place : {K V S : Type 0} (same : K → K → Bool) (hash : K → ℕ) (s : Scene K V) (i map : ℕ) {old : Executor K V S} → IsThere same hash old s → (b : Beginning K) → s.makers i ≡ Some b → b.map ≡ map
     → (count : ℕ) → count ≡ length old.maps.items → map < count
 has_place same hash s i map at b here of_map count is = subst (λ (n : ℕ). n < count) of_map (subst (λ (n : ℕ). b.map < n) (sym is) (at.numbers i b here))

@@ -13,15 +13,16 @@ use Rattle.papaya_effects.specs.Effects.{effects_of, known_after}
 use Rattle.papaya_effects.specs.Known.{known}
 use Rattle.papaya_effects.specs.declared.acting.Acting.{Acting}
 use Rattle.papaya_effects.specs.declared.acting.Acting.TheVariants as acts
-use Rattle.papaya_executor.specs.IsAt.{Scene, KeepsGiven, ending_in, making_in, work_of}
-use Rattle.papaya_executor.specs.declared.row.RowTold.{RowTold}
-use Rattle.papaya_executor.specs.declared.row.SlotRow.{SlotRow}
+use Rattle.papaya_scenes.specs.declared.row.RowTold.{RowTold}
+use Rattle.papaya_scenes.specs.declared.row.SlotRow.{SlotRow}
 use Rattle.papaya_executor.specs.declared.worker.Work.TheVariants.{OnSlot}
-use Rattle.papaya_reclaiming.specs.Reclaiming.{IsReclaiming, ReclaimingLeads}
+use Rattle.papaya_reclaiming.specs.Reclaiming.{IsReclaimingThere, ReclaimsThere}
 use Rattle.papaya_logged.specs.Goes.{EndGoes, GoesTo, IsNotedAs, MakingGoes, ReclaimingGoes, ReclaimingOn, RowGoes, StepsEnd, StepsMaking, far}
 use Rattle.papaya_logged.specs.Ends.{is_done}
 use Rattle.papaya_logged.specs.OnSlots.{StepsOn}
 use Rattle.papaya_logged.specs.declared.logged.Logged.{Logged}
+use Rattle.papaya_executor.specs.IsThere.{KeepsGiven, ending_in, making_in, work_of}
+use Rattle.papaya_scenes.specs.Scene.{Scene}
 
 module _ {X : Type 0} (Goes : X → X → Type 0) where
   -- none leads from there to there,
@@ -58,15 +59,15 @@ module _ {K V S : Type 0} (first old new : Logged K V S) (xs ys zs : List Effect
   pub all_more : (begun before after : ReclaimAll) (said : Settled (Node K V)) → is_done said ≡ false → GoesTo ReclaimingOn (far xs first, begun) (far ys old, before)
       → zs ≡ ys ++ effects_of acts.Row (known old.notes) new.executor.memory.changed → known new.notes ≡ known_after acts.Row new.executor.memory.changed (known old.notes)
       → KeepsGiven old.executor new.executor
-      → ((same : K → K → Bool) (hash : K → ℕ) (s : Scene K V) (i : ℕ) (lists : ℕ → List ℕ) → IsReclaiming same hash old.executor s i lists before
-      → ReclaimingLeads same hash s i lists old.executor new.executor before after said)
+      → ((same : K → K → Bool) (hash : K → ℕ) (s : Scene K V) (i : ℕ) (lists : ℕ → List ℕ) → IsReclaimingThere same hash old.executor s i lists before
+      → ReclaimsThere same hash s i lists old.executor new.executor before after said)
       → GoesTo ReclaimingOn (far xs first, begun) (far zs new, after)
   all_more begun before after said on gone did noted given leads =
       goes_more ReclaimingOn (far xs first, begun) (far ys old, before) (far zs new, after) gone ((noted_as acts.Row did noted given, said, leads), on)
 
   abbrev pub all_last : (before after : ReclaimAll) (said : Settled (Node K V)) → zs ≡ ys ++ effects_of acts.Row (known old.notes) new.executor.memory.changed
       → known new.notes ≡ known_after acts.Row new.executor.memory.changed (known old.notes) → KeepsGiven old.executor new.executor
-      → ((same : K → K → Bool) (hash : K → ℕ) (s : Scene K V) (i : ℕ) (lists : ℕ → List ℕ) → IsReclaiming same hash old.executor s i lists before
-      → ReclaimingLeads same hash s i lists old.executor new.executor before after said)
+      → ((same : K → K → Bool) (hash : K → ℕ) (s : Scene K V) (i : ℕ) (lists : ℕ → List ℕ) → IsReclaimingThere same hash old.executor s i lists before
+      → ReclaimsThere same hash s i lists old.executor new.executor before after said)
       → ReclaimingGoes (far ys old, before) (far zs new, after)
   all_last before after said did noted given leads = (noted_as acts.Row did noted given, said, leads)

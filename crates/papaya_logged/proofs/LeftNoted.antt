@@ -24,15 +24,8 @@ use Rattle.papaya_effects.specs.declared.role.Role.TheVariants as role
 use Rattle.papaya_kept.specs.Given.Finishes.Endings.{Finishing}
 use Rattle.papaya_kept.specs.Given.Finishes.FactsEnds.{events_of}
 use Rattle.papaya_kept.specs.Given.Finishes.Makings.{Beginning}
-use Rattle.papaya_executor.specs.Ending.{EndingComesTo, EndingLeads}
-use Rattle.papaya_executor.specs.IsAt.{Scene, IsAt, work_of}
-use Rattle.papaya_executor.specs.Making.{MakingLeads}
-use Rattle.papaya_executor.specs.OnSlots.{RowLeads}
-use Rattle.papaya_executor.specs.Stepping.{StepLeads}
-use Rattle.papaya_executor.specs.declared.executor.Executor.{Executor}
-use Rattle.papaya_executor.specs.declared.row.RowTold.{RowTold}
-use Rattle.papaya_executor.specs.declared.row.SlotRow.{SlotRow}
-use Rattle.papaya_executor.specs.declared.worker.Work.TheVariants.{OnSlot}
+use Rattle.papaya_scenes.specs.declared.row.RowTold.{RowTold}
+use Rattle.papaya_scenes.specs.declared.row.SlotRow.{SlotRow}
 use Rattle.papaya_kept.proofs.Given.Follows.Onward.{IsLasting, IsOfMap}
 use Rattle.papaya_kept.proofs.Given.Follows.Steps.{step_shown, went_to}
 use Rattle.papaya_kept.proofs.Given.Hands.Steps.{calls_store_theirs}
@@ -51,6 +44,12 @@ use Rattle.papaya_kept.proofs.Given.Lives.Waiting.{left, reached}
 use Rattle.papaya_kept.specs.Kept.{ShowsKept}
 use Rattle.papaya_kept.proofs.Calls.{own_made}
 use Rattle.papaya_remains.specs.Remains.{LeftNoted}
+use Rattle.papaya_scenes.specs.Ending.{EndingComesTo, EndingLeads}
+use Rattle.papaya_scenes.specs.Held.{Held, IsAt}
+use Rattle.papaya_scenes.specs.Making.{MakingLeads}
+use Rattle.papaya_scenes.specs.OnSlots.{RowLeads}
+use Rattle.papaya_scenes.specs.Scene.{IsOnSlot, Scene}
+use Rattle.papaya_scenes.specs.Stepping.{StepLeads}
 
 -- a block that is left over is there
 module _ {K V : Type 0} (size : ℕ) (w : World (Node K V)) (r : Reached deferred_word size w) (b j : ℕ) (left_over : w.hand b ≡ LeftTo j) where
@@ -67,39 +66,39 @@ module _ {K V : Type 0} (size : ℕ) (w : World (Node K V)) (r : Reached deferre
       of (Some value) some e = (value, e)
 
 -- So it is after a step of a row on a slot,
-pub rows_note_left : {K V S : Type 0} (same : K → K → Bool) (hash : K → ℕ) (known : Known) (s : Scene K V) (old new : Executor K V S) (at : IsAt same hash old s) (i : ℕ) (said : RowTold (Node K V))
-    (leads : RowLeads same hash i said s old new) (row : SlotRow) (here : work_of old i ≡ Some (OnSlot row))
-    → LeftNoted known (known_after acts.Row new.memory.changed known) s.world (scene_then same hash (Step i) s old new (leads row here).4).world
-rows_note_left {K} {V} {S} same hash known s old new at i said leads row here b n is before after =
+pub rows_note_left : {K V : Type 0} (same : K → K → Bool) (hash : ℕ → K → ℕ) (known : Known) (s : Scene K V) (old new : Held K V) (at : IsAt same hash old s) (i : ℕ) (said : RowTold (Node K V))
+    (leads : RowLeads same hash i said s old new) (row : SlotRow) (here : IsOnSlot s i row)
+    → LeftNoted known (known_after acts.Row new.changed known) s.world (scene_then same hash (Step i) s old new (leads row here).2).world
+rows_note_left {K} {V} same hash known s old new at i said leads row here b n is before after =
     let to = leads row here in
-    let r = reached K V S same hash s old new at i row here (to.0, said) to.1 to.4 in
-    row_pair known s.world to.4.0 b n is
-    (left_value old.batch_size to.4.0 (steps_reached deferred_word old.batch_size i s.world to.4.0 r to.4.1) b after.0 after.1) new.memory.changed
-    (row_tells old.memory.memory new.memory.memory new.memory.changed (to.0, said) row to.1)
-    (left K V S same hash s old new at i row here (to.0, said) to.1 to.4)
+    let r = reached K V same hash s old new at i row here (to.0, said) to.1 to.2 in
+    row_pair known s.world to.2.0 b n is
+    (left_value old.batch_size to.2.0 (steps_reached deferred_word old.batch_size i s.world to.2.0 r to.2.1) b after.0 after.1) new.changed
+    (row_tells old.memory new.memory new.changed (to.0, said) row to.1)
+    (left K V same hash s old new at i row here (to.0, said) to.1 to.2)
 
-module _ {K V S : Type 0} (same : K → K → Bool) (hash : K → ℕ) (name : ℕ → List ℕ) (m : Moment K V) (known : Known) (s : Scene K V) (old new : Executor K V S) (at : IsAt same hash old s)
+module _ {K V : Type 0} (same : K → K → Bool) (hash : ℕ → K → ℕ) (name : ℕ → List ℕ) (m : Moment K V) (known : Known) (s : Scene K V) (old new : Held K V) (at : IsAt same hash old s)
     (whole : ShowsWhole same name m known s) where
   -- of a call
   pub calls_note_left : ShowsKept name m known s → (map i : ℕ) (u : UnderWay K V K) (here : s.calls map i ≡ Some u) (said : CallTold (Node K V)) (leads : StepLeads same hash i said s old new)
-      → (w2 : World (Node K V)) → LeftNoted known (known_after (acts.Call i map) new.memory.changed known) s.world w2
+      → (w2 : World (Node K V)) → LeftNoted known (known_after (acts.Call i map) new.changed known) s.world w2
   calls_note_left kept map i u here said leads w2 b n is before after =
       elim (own_or_row same hash name m known s old new at whole.all.shown map i u here said leads u (went_to same hash name m known s old new at whole.all.shown map i u here said leads).4.did)
-      as (λ _. (known_after (acts.Call i map) new.memory.changed known).roles b ≡ role.Pair n) [
+      as (λ _. (known_after (acts.Call i map) new.changed known).roles b ≡ role.Pair n) [
         | inl own ↦
-            let stores = (calls_store_theirs K V S same hash name m known s old new at whole.all map i u here said leads own).0 in
+            let stores = (calls_store_theirs K V same hash name m known s old new at whole.all map i u here said leads own).0 in
             (step_shown same hash name m known s old new at whole.all.shown map i u here said leads own stores).1.keeps b (subst IsLasting (sym is) tt) ∙ is
-        | inr other ↦ role_kept same hash name m known s old new at whole kept.entries (own_made K V S same hash name m known s old at whole kept) kept.waiting map i u here said leads other b (role.Pair n) is tt
+        | inr other ↦ role_kept same hash name m known s old new at whole kept.entries (own_made K V same hash name m known s old at whole kept) kept.waiting map i u here said leads other b (role.Pair n) is tt
       ]
 
   -- of the making of a map
   pub makings_note_left : (i : ℕ) (said : Progress Setting) (leads : MakingLeads same hash i said s old new) (b : Beginning K) (here : s.makers i ≡ Some b) → Option ℕ → WasNew b.map said m
-      → (w2 : World (Node K V)) → LeftNoted known (known_after (acts.Making b.map) new.memory.changed known) s.world w2
+      → (w2 : World (Node K V)) → LeftNoted known (known_after (acts.Making b.map) new.changed known) s.world w2
   makings_note_left i said leads b here of was_new w2 x n is before after = made_kept same hash name m known s old new at whole i said leads b here of was_new x (role.Pair n) is tt
 
   -- of the end of one
   pub endings_note_left : (i map : ℕ) (said : Settled (Node K V)) (leads : EndingLeads same hash i said s old new) (f : Finishing K V) (here : s.enders i ≡ Some f) → s.maps map ≡ None
-      → LeftNoted known (known_after (acts.Ending map) new.memory.changed known) s.world
+      → LeftNoted known (known_after (acts.Ending map) new.changed known) s.world
       (ending_after same hash s new i f (leads f here).0 (leads f here).2.w2 (leads f here).2.deed said (leads f here).3).world
   endings_note_left i map said leads f here not_there b n is before after =
       let to = leads f here in

@@ -38,9 +38,9 @@ use Rattle.papaya_effects.specs.Known.{Known}
 use Rattle.papaya_effects.specs.declared.acting.Acting.TheVariants as acts
 use Rattle.papaya_effects.specs.declared.role.Role.{Role}
 use Rattle.papaya_effects.specs.declared.role.Role.TheVariants as role
-use Rattle.papaya_executor.proofs.Forgotten.{as_step}
 use Rattle.papaya_kept.specs.Given.Finishes.Makings.{HasMade}
 use Rattle.papaya_logged.specs.Makings.{has_table, has_tabled, IsBare}
+use Rattle.papaya_scenes.proofs.Told.{as_step}
 
 -- what a step whose outcome is turned into another comes to, and tells
 module _ {K V A B : Type 0} (f : A → B) where

@@ -30,11 +30,11 @@ use Rattle.papaya_teller.specs.declared.changed.Changed.TheVariants as changed
 use Rattle.papaya_effects.specs.Effects.{effects_of}
 use Rattle.papaya_effects.specs.Known.{Known}
 use Rattle.papaya_effects.specs.declared.acting.Acting.TheVariants as acts
-use Rattle.papaya_executor.proofs.Forgotten.{as_step}
 use Rattle.papaya_kept.specs.Given.Finishes.Makings.{HasTaken}
 use Rattle.papaya_logged.specs.Roots.{AreTaken, FindsRoot, IsFirstFree, with_root}
 use Rattle.papaya_logged.proofs.MakingAsks.{told_as, told_back}
 use Rattle.papaya_logged.proofs.MakingTables.{HasAsked, IsFirstMaking, TableThen, begins_first, first_tables_then}
+use Rattle.papaya_scenes.proofs.Told.{as_step}
 
 abbrev pub bit : Bool → ℕ
 bit q = if q then 1 else 0

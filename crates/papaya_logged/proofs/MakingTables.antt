@@ -27,8 +27,8 @@ use Rattle.papaya_teller.specs.declared.changed.Changed.TheVariants as changed
 use Rattle.papaya_effects.specs.Effects.{effects_of}
 use Rattle.papaya_effects.specs.Known.{Known}
 use Rattle.papaya_effects.specs.declared.acting.Acting.TheVariants as acts
-use Rattle.papaya_executor.proofs.Forgotten.{as_step}
 use Rattle.papaya_logged.proofs.MakingAsks.{told_as}
+use Rattle.papaya_scenes.proofs.Told.{as_step}
 
 -- a first table is none that counts, or that has answered
 abbrev pub IsFirstMaking : Making → Type 0

@@ -24,18 +24,22 @@ use Rattle.papaya_kept.specs.Given.Finishes.Makings.{Beginning, IsNewChart, Step
 use Rattle.papaya_kept.specs.Given.Finishes.Maps.{Standing}
 use Rattle.papaya_kept.specs.Given.Maps.MeasuresBegins.{new_map_left}
 use Rattle.papaya_kept.proofs.Given.Maps.Begins.ComesToEnd.{beginnings_leave_less}
-use Rattle.papaya_executor.specs.IsAt.{Scene, IsAt, IsMaking, making_in, slot_of, work_of}
-use Rattle.papaya_executor.specs.Making.{MakingLeads}
 use Rattle.papaya_executor.specs.declared.executor.Executor.{Executor}
 use Rattle.papaya_executor.specs.declared.worker.Work.{Work}
 use Rattle.papaya_executor.specs.declared.worker.Work.TheVariants as work
-use Rattle.papaya_executor.proofs.Forgotten.{as_step}
 use Rattle.papaya_kept.specs.Given.Others.Makings.{WasNew, making_after}
 use Rattle.papaya_kept.proofs.Given.Moments.After.{effects_after}
 use Rattle.papaya_logged.specs.Makings.{BelowIfRefused, is_over, HasTable, IsBare, JustAsks, StaysNew, CameBare, MakingCame, MakingSteps, MakingIsAt, MakingRan}
 use Rattle.papaya_logged.specs.Shown.{IsShown}
 use Rattle.papaya_logged.specs.declared.logged.Logged.{Logged}
 use Rattle.papaya_logged.proofs.MakingSteps.{is_there}
+use Rattle.papaya_executor.specs.IsThere.{IsThere, held_by, making_in, work_of}
+use Rattle.papaya_executor.specs.Making.{MakesThere}
+use Rattle.papaya_scenes.proofs.Told.{as_step}
+use Rattle.papaya_scenes.specs.Scene.{IsMaking, Scene, slot_of}
+use Rattle.papaya_logged.proofs.Held.{making_held}
+use Rattle.papaya_scenes.specs.Held.{Held}
+use Rattle.papaya_scenes.specs.Making.{MakingLeads}
 
 -- how many steps are left at most of what a caller has under way, if that is the making of a map
 abbrev pub making_left_of : {K V : Type 0} → Option (Work K V) → ℕ
@@ -58,7 +62,7 @@ module _ {K V : Type 0} (s : Scene K V) (i : ℕ) (b : Beginning K) where
   came_first here = record { maker = (b.machine, here); makers = λ j ne. refl; maps = refl; calls = refl; enders = refl; rows = refl; uses = refl }
 
   -- from where it has come, a step leads on
-  module _ {S : Type 0} (same : K → K → Bool) (hash : K → ℕ) (mid new : Executor K V S) (s1 : Scene K V) (came : MakingCame s s1 i b progress.Goes) where
+  module _ (s1 : Scene K V) (came : MakingCame s s1 i b progress.Goes) where
     -- as which machine it goes on there
     abbrev pub b1 : Beginning K
     b1 = record b { machine = came.maker.0 }
@@ -69,90 +73,92 @@ module _ {K V : Type 0} (s : Scene K V) (i : ℕ) (b : Beginning K) where
     others : (next : Option (Beginning K)) (j : ℕ) → j ≢ i → with_at s1.makers i next j ≡ s.makers j
     others next j ne = at_other s1.makers i next j ne ∙ came.makers j ne
 
-    -- a step leaves rows and uses of slots as they are
-    module _ (told : Progress Setting) (leads : MakingLeads same hash i told s1 mid new) where
-      abbrev step : StepsOfMaking V same same mid.batch_size mid.roots slot_of s1.world s1.maps s1.calls s1.makers i b1 new.memory.memory ((leads b1 here1).0, told)
-      step = (leads b1 here1).2.step
+    module _ (same : K → K → Bool) (hash : ℕ → K → ℕ) (mid new : Held K V) where
+      -- a step leaves rows and uses of slots as they are
+      module _ (told : Progress Setting) (leads : MakingLeads same hash i told s1 mid new) where
+        abbrev step : StepsOfMaking V same same mid.batch_size mid.roots slot_of s1.world s1.maps s1.calls s1.makers i b1 new.memory ((leads b1 here1).0, told)
+        step = (leads b1 here1).2.step
 
-      rows_on : step.w2.row ≡ s.world.row
-      rows_on = events_rows mid.batch_size step.events s1.world step.w2 step.users step.runs ∙ came.rows
+        rows_on : step.w2.row ≡ s.world.row
+        rows_on = events_rows mid.batch_size step.events s1.world step.w2 step.users step.runs ∙ came.rows
 
-      uses_on : step.w2.uses ≡ s.world.uses
-      uses_on = events_uses mid.batch_size step.events s1.world step.w2 step.users step.runs ∙ came.uses
+        uses_on : step.w2.uses ≡ s.world.uses
+        uses_on = events_uses mid.batch_size step.events s1.world step.w2 step.users step.runs ∙ came.uses
 
-    pub came_on : (told : Progress Setting) (leads : MakingLeads same hash i told s1 mid new)
-        → MakingCame s (making_after same hash s1 mid new i b1 (leads b1 here1).0 (leads b1 here1).2.step.w2 told (leads b1 here1).3) i b told
-    came_on progress.Goes leads = record {
-      maker = ((leads b1 here1).0, at_same s1.makers i (Some (record b { machine = (leads b1 here1).0 })) i refl);
-      makers = others (Some (record b { machine = (leads b1 here1).0 }));
-      maps = came.maps;
-      calls = came.calls;
-      enders = came.enders;
-      rows = rows_on progress.Goes leads;
-      uses = uses_on progress.Goes leads;
-    }
-    came_on progress.Waits leads = absurd (leads b1 here1).3
-    came_on (progress.Done setting) leads =
-        let st : Standing K = (leads b1 here1).3.0 in
-        let made = (leads b1 here1).3.1 in
-        record {
-          maker = at_same s1.makers i None i refl;
-          makers = others None;
-          maps = record {
-            standing = st;
-            there = at_same s1.maps b.map (Some st) b.map refl;
-            setting_is = made.setting_is;
-            answer_is = made.answer_is;
-            hash_is = made.hash_is;
-            chart_is = made.chart_is;
-            others = λ n ne. at_other s1.maps b.map (Some st) n ne ∙ ap (λ (f : ℕ → Option (Standing K)). f n) came.maps;
-          };
-          calls = came.calls;
-          enders = came.enders;
-          rows = rows_on (progress.Done setting) leads;
-          uses = uses_on (progress.Done setting) leads;
-        }
-    came_on (progress.Refused fault) leads = record {
-      maker = at_same s1.makers i None i refl;
-      makers = others None;
-      maps = came.maps;
-      calls = came.calls;
-      enders = came.enders;
-      rows = rows_on (progress.Refused fault) leads;
-      uses = uses_on (progress.Refused fault) leads;
-    }
+      pub came_on : (told : Progress Setting) (leads : MakingLeads same hash i told s1 mid new)
+          → MakingCame s (making_after same hash s1 mid new i b1 (leads b1 here1).0 (leads b1 here1).2.step.w2 told (leads b1 here1).3) i b told
+      came_on progress.Goes leads = record {
+        maker = ((leads b1 here1).0, at_same s1.makers i (Some (record b { machine = (leads b1 here1).0 })) i refl);
+        makers = others (Some (record b { machine = (leads b1 here1).0 }));
+        maps = came.maps;
+        calls = came.calls;
+        enders = came.enders;
+        rows = rows_on progress.Goes leads;
+        uses = uses_on progress.Goes leads;
+      }
+      came_on progress.Waits leads = absurd (leads b1 here1).3
+      came_on (progress.Done setting) leads =
+          let st : Standing K = (leads b1 here1).3.0 in
+          let made = (leads b1 here1).3.1 in
+          record {
+            maker = at_same s1.makers i None i refl;
+            makers = others None;
+            maps = record {
+              standing = st;
+              there = at_same s1.maps b.map (Some st) b.map refl;
+              setting_is = made.setting_is;
+              answer_is = made.answer_is;
+              hash_is = made.hash_is;
+              chart_is = made.chart_is;
+              others = λ n ne. at_other s1.maps b.map (Some st) n ne ∙ ap (λ (f : ℕ → Option (Standing K)). f n) came.maps;
+            };
+            calls = came.calls;
+            enders = came.enders;
+            rows = rows_on (progress.Done setting) leads;
+            uses = uses_on (progress.Done setting) leads;
+          }
+      came_on (progress.Refused fault) leads = record {
+        maker = at_same s1.makers i None i refl;
+        makers = others None;
+        maps = came.maps;
+        calls = came.calls;
+        enders = came.enders;
+        rows = rows_on (progress.Refused fault) leads;
+        uses = uses_on (progress.Refused fault) leads;
+      }
 
-    -- if it has made no table there, neither has its machine
-    pub bare_on : (told : Progress Setting) (leads : MakingLeads same hash i told s1 mid new)
-        → CameBare s (making_after same hash s1 mid new i b1 (leads b1 here1).0 (leads b1 here1).2.step.w2 told (leads b1 here1).3) i b told (came_on told leads).maker
-        → IsBare told (leads b1 here1).0
-    unfolding came_on
-    bare_on progress.Goes leads bare = bare
-    bare_on progress.Waits leads bare = bare
-    bare_on (progress.Done setting) leads bare = bare
-    bare_on (progress.Refused fault) leads bare = tt
+      -- if it has made no table there, neither has its machine
+      pub bare_on : (told : Progress Setting) (leads : MakingLeads same hash i told s1 mid new)
+          → CameBare s (making_after same hash s1 mid new i b1 (leads b1 here1).0 (leads b1 here1).2.step.w2 told (leads b1 here1).3) i b told (came_on told leads).maker
+          → IsBare told (leads b1 here1).0
+      unfolding came_on
+      bare_on progress.Goes leads bare = bare
+      bare_on progress.Waits leads bare = bare
+      bare_on (progress.Done setting) leads bare = bare
+      bare_on (progress.Refused fault) leads bare = tt
 
-    -- it was under way, and it is still, with less to do
-    pub was_under : IsAt same hash mid s1 → work_of mid i ≡ Some (work.Making b.map came.maker.0)
-    was_under at = making_of (work_of mid i) b.map came.maker.0 (sym (at.makers i) ∙ ap (option_map (λ (x : Beginning K). (x.map, x.machine))) here1)
+    module _ {S : Type 0} (same : K → K → Bool) (hash : K → ℕ) (mid new : Executor K V S) (at : IsThere same hash mid s1) where
+      -- it was under way, and it is still, with less to do
+      pub was_under : work_of mid i ≡ Some (work.Making b.map came.maker.0)
+      was_under = making_of (work_of mid i) b.map came.maker.0 (sym (at.makers i) ∙ ap (option_map (λ (x : Beginning K). (x.map, x.machine))) here1)
 
-    module _ (at : IsAt same hash mid s1) (leads : MakingLeads same hash i progress.Goes s1 mid new) where
-      pub is_under : work_of new i ≡ Some (work.Making b.map (leads b1 here1).0)
-      is_under =
-          making_of (work_of new i) b.map (leads b1 here1).0
-          (sym ((leads b1 here1).3.makers i) ∙ ap (option_map (λ (x : Beginning K). (x.map, x.machine))) (at_same s1.makers i (Some (record b { machine = (leads b1 here1).0 })) i refl))
+      module _ (leads : MakesThere same hash i progress.Goes s1 mid new) where
+        pub is_under : work_of new i ≡ Some (work.Making b.map (leads b1 here1).0)
+        is_under =
+            making_of (work_of new i) b.map (leads b1 here1).0
+            (sym ((leads b1 here1).3.makers i) ∙ ap (option_map (λ (x : Beginning K). (x.map, x.machine))) (at_same s1.makers i (Some (record b { machine = (leads b1 here1).0 })) i refl))
 
-      less : new_map_left (leads b1 here1).0 < new_map_left came.maker.0
-      less = beginnings_leave_less K V came.maker.0 (leads b1 here1).0 (
-        mid.memory.memory,
-        new.memory.memory,
-        as_step mid.memory.memory Nothing (new_map_plan came.maker.0) new.memory.memory new.memory.changed ((leads b1 here1).0, progress.Goes) (leads b1 here1).1,
-      )
+        less : new_map_left (leads b1 here1).0 < new_map_left came.maker.0
+        less = beginnings_leave_less K V came.maker.0 (leads b1 here1).0 (
+          mid.memory.memory,
+          new.memory.memory,
+          as_step mid.memory.memory Nothing (new_map_plan came.maker.0) new.memory.memory new.memory.changed ((leads b1 here1).0, progress.Goes) (leads b1 here1).1,
+        )
 
-      pub left_falls : making_left_of (work_of new i) < making_left_of (work_of mid i)
-      left_falls =
-          subst (λ (x : Option (Work K V)). making_left_of x < making_left_of (work_of mid i)) (sym is_under)
-          (subst (λ (x : Option (Work K V)). new_map_left (leads b1 here1).0 < making_left_of x) (sym (was_under at)) less)
+        pub left_falls : making_left_of (work_of new i) < making_left_of (work_of mid i)
+        left_falls =
+            subst (λ (x : Option (Work K V)). making_left_of x < making_left_of (work_of mid i)) (sym is_under)
+            (subst (λ (x : Option (Work K V)). new_map_left (leads b1 here1).0 < making_left_of x) (sym was_under) less)
 
 -- the tables of a new map
 new_past : {K : Type 0} (hash : K → ℕ) (setting : Setting) (places : ℕ) (chart : Chart K) → IsNewChart hash setting places chart → chart.past ≡ (if places == 0 then 0 else 1)
@@ -207,15 +213,16 @@ module _ {K V S : Type 0} (i map : ℕ) where
 
   -- and one step more
   module _ (old mid new : Logged K V S) (xs ys zs : List Effect) (told : Progress Setting) (ran : MakingRan i map progress.Goes xs ys old mid) (step : MakingSteps i map told ys zs mid new)
-      (stepping : (same : K → K → Bool) (hash : K → ℕ) (s : Scene K V) → IsAt same hash mid.executor s → MakingLeads same hash i told s mid.executor new.executor) where
-    there_on : (same : K → K → Bool) (hash : K → ℕ) (s : Scene K V) → IsAt same hash old.executor s → MakingIsAt same hash s i map told (ran.0 ++ step.0) old new
+      (stepping : (same : K → K → Bool) (hash : K → ℕ) (s : Scene K V) → IsThere same hash mid.executor s → MakesThere same hash i told s mid.executor new.executor) where
+    there_on : (same : K → K → Bool) (hash : K → ℕ) (s : Scene K V) → IsThere same hash old.executor s → MakingIsAt same hash s i map told (ran.0 ++ step.0) old new
     there_on same hash s at b here of_map =
         let u = ran.2 same hash s at b here of_map in
-        let leads = stepping same hash u.0 u.2 in
+        let went = stepping same hash u.0 u.2 in
+        let leads = making_held same hash u.0 mid.executor new.executor i told went in
         let b1 : Beginning K = record b { machine = u.1.maker.0 } in (
-          making_after same hash u.0 mid.executor new.executor i b1 (leads b1 u.1.maker.1).0 (leads b1 u.1.maker.1).2.step.w2 told (leads b1 u.1.maker.1).3,
-          came_on s i b same hash mid.executor new.executor u.0 u.1 told leads,
-          is_there same hash mid.executor new.executor u.0 i told leads b1 u.1.maker.1,
+          making_after same (λ map. hash) u.0 (held_by mid.executor) (held_by new.executor) i b1 (leads b1 u.1.maker.1).0 (leads b1 u.1.maker.1).2.step.w2 told (leads b1 u.1.maker.1).3,
+          came_on s i b u.0 u.1 same (λ map. hash) (held_by mid.executor) (held_by new.executor) told leads,
+          is_there same hash mid.executor new.executor u.0 i told went b1 u.1.maker.1,
         )
 
     module _ (same : K → K → Bool) (hash : K → ℕ) (name : ℕ → List ℕ) (m : Moment K V) (s : Scene K V) (shown : IsShown same hash name m old s) (b : Beginning K) (here : s.makers i ≡ Some b)
@@ -240,16 +247,16 @@ module _ {K V S : Type 0} (i map : ℕ) where
           let to = step.2 same hash name v u.0 u.2 b1 u.1.maker.1 of_map in
           let leads = to.0 in
           let goes = to.2 of in
-          let s2 : Scene K V = making_after same hash u.0 mid.executor new.executor i b1 (leads b1 u.1.maker.1).0 (leads b1 u.1.maker.1).2.step.w2 told (leads b1 u.1.maker.1).3 in (
+          let s2 : Scene K V = making_after same (λ map. hash) u.0 (held_by mid.executor) (held_by new.executor) i b1 (leads b1 u.1.maker.1).0 (leads b1 u.1.maker.1).2.step.w2 told (leads b1 u.1.maker.1).3 in (
             stays_on map m v was.0 told (with_effects None of (ran.0 ++ step.0) m) (subst (λ (x : Moment K V). StaysNew map told v x) (sym after_it) goes.0),
             λ was_new below. (
-                let came : MakingCame s s2 i b told = came_on s i b same hash mid.executor new.executor u.0 u.1 told leads in
+                let came : MakingCame s s2 i b told = came_on s i b u.0 u.1 same (λ map. hash) (held_by mid.executor) (held_by new.executor) told leads in
                 let there : IsShown same hash name (with_effects None of (ran.0 ++ step.0) m) new s2 =
                 subst (λ (x : Moment K V). IsShown same hash name x new s2) (sym after_it) (goes.1 (new_there map m v was.0 told was_new)) in (
                   s2,
                   came,
                   there,
-                  λ bare. (let it = to.1 (bare_on s i b same hash mid.executor new.executor u.0 u.1 told leads bare) in let before = u.3 it.0 in (before.0, both_ask ran.0 step.0 before.1 it.1)),
+                  λ bare. (let it = to.1 (bare_on s i b u.0 u.1 same (λ map. hash) (held_by mid.executor) (held_by new.executor) told leads bare) in let before = u.3 it.0 in (before.0, both_ask ran.0 step.0 before.1 it.1)),
                   has_its_table same hash name (with_effects None of (ran.0 ++ step.0) m) new s s2 i b told came there,
                 )),
           )
@@ -263,13 +270,13 @@ module _ {K V S : Type 0} (i map : ℕ) where
     )
 
   -- the executor is there at a scene at which the making is under way still
-  pub still_making : (same : K → K → Bool) (hash : K → ℕ) (s : Scene K V) (old mid : Logged K V S) (xs ys : List Effect) → IsAt same hash old.executor s → (b : Beginning K) → s.makers i ≡ Some b → b.map ≡ map
-      → MakingRan i map progress.Goes xs ys old mid → (s1 : Scene K V) × IsAt same hash mid.executor s1 × IsMaking s1 i
+  pub still_making : (same : K → K → Bool) (hash : K → ℕ) (s : Scene K V) (old mid : Logged K V S) (xs ys : List Effect) → IsThere same hash old.executor s → (b : Beginning K) → s.makers i ≡ Some b → b.map ≡ map
+      → MakingRan i map progress.Goes xs ys old mid → (s1 : Scene K V) × IsThere same hash mid.executor s1 × IsMaking s1 i
   still_making same hash s old mid xs ys at b here of_map ran =
       let u = ran.2 same hash s at b here of_map in (u.0, u.2, (record b { machine = u.1.maker.0 }, u.1.maker.1))
 
   -- as it is noted of the caller
-  pub still_under : (same : K → K → Bool) (hash : K → ℕ) (s : Scene K V) (old mid : Logged K V S) (xs ys : List Effect) → IsAt same hash old.executor s → (b : Beginning K) → s.makers i ≡ Some b → b.map ≡ map
+  pub still_under : (same : K → K → Bool) (hash : K → ℕ) (s : Scene K V) (old mid : Logged K V S) (xs ys : List Effect) → IsThere same hash old.executor s → (b : Beginning K) → s.makers i ≡ Some b → b.map ≡ map
       → MakingRan i map progress.Goes xs ys old mid → (opening : NewMap) × (making_in (work_of mid.executor i) ≡ Some (map, opening))
   still_under same hash s old mid xs ys at b here of_map ran =
       let u = ran.2 same hash s at b here of_map in (
@@ -279,17 +286,17 @@ module _ {K V S : Type 0} (i map : ℕ) where
 
   -- a step that is not the last one goes on
   only_goes : (same : K → K → Bool) (hash : K → ℕ) (s : Scene K V) (mid new : Executor K V S) (b : Beginning K) (here : s.makers i ≡ Some b) (told : Progress Setting)
-      → MakingLeads same hash i told s mid new → is_over told ≡ false → told ≡ progress.Goes
+      → MakesThere same hash i told s mid new → is_over told ≡ false → told ≡ progress.Goes
   only_goes same hash s mid new b here progress.Goes leads more = refl
   only_goes same hash s mid new b here progress.Waits leads more = absurd (leads b here).3
   only_goes same hash s mid new b here (progress.Done setting) leads more = absurd (cc more)
   only_goes same hash s mid new b here (progress.Refused fault) leads more = absurd (cc more)
 
   -- so it runs on, with less to do
-  module _ (same : K → K → Bool) (hash : K → ℕ) (s : Scene K V) (old mid new : Logged K V S) (xs ys zs : List Effect) (told : Progress Setting) (at : IsAt same hash old.executor s) (b : Beginning K) (here : s.makers i ≡ Some b) (of_map : b.map ≡ map)
+  module _ (same : K → K → Bool) (hash : K → ℕ) (s : Scene K V) (old mid new : Logged K V S) (xs ys zs : List Effect) (told : Progress Setting) (at : IsThere same hash old.executor s) (b : Beginning K) (here : s.makers i ≡ Some b) (of_map : b.map ≡ map)
       (ran : MakingRan i map progress.Goes xs ys old mid) (step : MakingSteps i map told ys zs mid new)
-      (stepping : (same : K → K → Bool) (hash : K → ℕ) (s : Scene K V) → IsAt same hash mid.executor s → MakingLeads same hash i told s mid.executor new.executor) (more : is_over told ≡ false) where
-    abbrev there : (s1 : Scene K V) × MakingCame s s1 i b progress.Goes × IsAt same hash mid.executor s1
+      (stepping : (same : K → K → Bool) (hash : K → ℕ) (s : Scene K V) → IsThere same hash mid.executor s → MakesThere same hash i told s mid.executor new.executor) (more : is_over told ≡ false) where
+    abbrev there : (s1 : Scene K V) × MakingCame s s1 i b progress.Goes × IsThere same hash mid.executor s1
     there = ran.2 same hash s at b here of_map
 
     goes : told ≡ progress.Goes
@@ -300,5 +307,5 @@ module _ {K V S : Type 0} (i map : ℕ) where
 
     pub making_less : making_left_of (work_of new.executor i) < making_left_of (work_of mid.executor i)
     making_less =
-        left_falls s i b same hash mid.executor new.executor there.0 there.1 there.2
-        (subst (λ (t : Progress Setting). MakingLeads same hash i t there.0 mid.executor new.executor) goes (stepping same hash there.0 there.2))
+        left_falls s i b there.0 there.1 same hash mid.executor new.executor there.2
+        (subst (λ (t : Progress Setting). MakesThere same hash i t there.0 mid.executor new.executor) goes (stepping same hash there.0 there.2))

@@ -19,9 +19,8 @@ use Rattle.papaya_effects.specs.declared.acting.Acting.TheVariants.{Row}
 use Rattle.papaya_effects.specs.declared.role.Role.{Role}
 use Rattle.papaya_effects.specs.declared.role.Role.TheVariants as role
 use Rattle.papaya_reclaims.specs.Reclaims.{ReclaimingTold}
-use Rattle.papaya_executor.specs.IsAt.{Scene}
 use Rattle.papaya_executor.specs.declared.executor.Executor.{Executor}
-use Rattle.papaya_reclaiming.specs.Reclaiming.{MayReclaim, NobodyHas, ReclaimingLeads}
+use Rattle.papaya_reclaiming.specs.Reclaiming.{MayReclaim, NobodyHas}
 use Rattle.papaya_kept.specs.Given.Follows.Steps.{TakesNone}
 use Rattle.papaya_kept.proofs.Given.Others.Quiet.{stored_none}
 use Rattle.papaya_kept.proofs.Given.Others.RowPlans.{TellsRow}
@@ -31,8 +30,11 @@ use Rattle.papaya_logged.specs.Shown.{IsShown}
 use Rattle.papaya_logged.specs.declared.logged.Logged.{Logged}
 use Rattle.papaya_logged.proofs.BroughtBack.{IsBack, more_back, none_back, nothing_back, row_quiet, taken_back}
 use Rattle.papaya_logged.proofs.ReclaimGives.{GivesOr, reclaiming_gives, taken_gone}
-use Rattle.papaya_logged.proofs.ReclaimRows.{EmptiesRoot, reclaiming_tells}
-use Rattle.papaya_logged.proofs.ReclaimSteps.{left}
+use Rattle.papaya_logged.proofs.Reclaiming.Rows.{EmptiesRoot, reclaiming_tells}
+use Rattle.papaya_logged.proofs.Reclaiming.Steps.{left}
+use Rattle.papaya_scenes.specs.Scene.{Scene}
+use Rattle.papaya_executor.specs.IsThere.{held_by}
+use Rattle.papaya_scenes.specs.Reclaiming.{ReclaimingLeads}
 
 -- a root that is emptied reclaims nothing
 led_quiet : (was is : Role) → flat_map pairs_back (led_to Row was is) ≡ []
@@ -61,7 +63,7 @@ module _ {K V S : Type 0} where
   brought_none all l xs b = ([], sym (append-nil xs), λ same hash name m s i lists shown. none_back m.stored b)
 
   module _ (same : K → K → Bool) (hash : K → ℕ) (name : ℕ → List ℕ) (m : Moment K V) (s : Scene K V) (mid : Logged K V S) (new : Executor K V S) (i : ℕ) (lists : ℕ → List ℕ) (before after : ReclaimAll)
-      (told : Settled (Node K V)) (shown : ReclaimingIsShown same hash name m mid s i lists before) (leads : ReclaimingLeads same hash s i lists mid.executor new before after told) (ys : List Effect) where
+      (told : Settled (Node K V)) (shown : ReclaimingIsShown same hash name m mid s i lists before) (leads : ReclaimingLeads same (λ map. hash) s i lists (held_by mid.executor) (held_by new) before after told) (ys : List Effect) where
     abbrev noted : Known
     noted = known mid.notes
 
@@ -85,7 +87,7 @@ module _ {K V S : Type 0} where
         by settled.Goes say none = silent none
         by settled.Waits say none = silent none
         by (settled.Gave value) say gives =
-            let took = taken_gone s.world.memory leads.1.w2.memory new.memory.changed (left same hash name m noted s shown.shows mid.executor new i lists before after told shown.under_way leads)
+            let took = taken_gone s.world.memory leads.1.w2.memory new.memory.changed (left same (λ map. hash) name m noted s shown.shows (held_by mid.executor) (held_by new) i lists before after told shown.under_way.held leads)
             say.0 value say.1 say.2 in
             subst (λ (xs : List Effect). IsBack m.stored xs (pair_back value (ys ++ xs))) (sym (ap (effects_of Row noted) took))
             (taken_back s.world m.stored say.0 value say.1 Row ys (noted.roles say.0) (shown.shows.all.shown.blocks.roles say.0))

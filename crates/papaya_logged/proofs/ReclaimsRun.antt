@@ -9,10 +9,9 @@ use Rattle.papaya_kept.specs.Given.Tables.declared.node.Node.{Node}
 use Rattle.papaya_schedules.specs.declared.effect.Effect.{Effect}
 use Rattle.papaya_schedules.specs.Effects.{with_effect, with_effects, AtEachEffect}
 use Rattle.papaya_schedules.specs.Moment.{Moment}
-use Rattle.papaya_executor.specs.IsAt.{Scene}
 use Rattle.papaya_kept.specs.Given.Finishes.Maps.{IsSameMap, Standing}
 use Rattle.papaya_reclaims.specs.Reclaims.{AllIsReclaimed}
-use Rattle.papaya_reclaiming.specs.Reclaiming.{IsReclaiming, MayReclaim, NobodyHas, ReclaimingComesTo, ReclaimingLeads}
+use Rattle.papaya_reclaiming.specs.Reclaiming.{IsReclaimingThere, MayReclaim, NobodyHas, ReclaimsThere}
 use Rattle.papaya_kept.specs.Given.Spots.OnSlots.{WaitUnreclaimed}
 use Rattle.papaya_kept.proofs.Given.Moments.After.{effects_after}
 use Rattle.papaya_kept.specs.Given.Moments.OnSlots.{HadRetired}
@@ -20,6 +19,9 @@ use Rattle.papaya_logged.specs.Ends.{is_done}
 use Rattle.papaya_logged.specs.Reclaims.{ReclaimRetired, ReclaimingCame, ReclaimingIsShown, ReclaimingRan, ReclaimingSoFar, ReclaimingSteps, ReclaimingThen}
 use Rattle.papaya_logged.specs.Shown.{IsShown}
 use Rattle.papaya_logged.specs.declared.logged.Logged.{Logged}
+use Rattle.papaya_scenes.specs.Scene.{Scene}
+use Rattle.papaya_executor.specs.IsThere.{IsThere, held_by}
+use Rattle.papaya_scenes.specs.Reclaiming.{ReclaimingComesToThere, ReclaimingLeads}
 
 -- a map that is the same has its setting
 pub same_setting : {K : Type 0} (o o2 : Option (Standing K)) → IsSameMap o o2 → option_map (λ standing. standing.setting) o2 ≡ option_map (λ standing. standing.setting) o
@@ -50,13 +52,14 @@ module _ {K V S : Type 0} where
 
   module _ (first now next : ReclaimAll) (old mid new : Logged K V S) (xs ys zs : List Effect) (so : ReclaimingSoFar first now xs ys old mid) (told : Settled (Node K V))
       (step : ReclaimingSteps now next told ys zs mid new)
-      (stepping : (same : K → K → Bool) (hash : K → ℕ) (s : Scene K V) (i : ℕ) (lists : ℕ → List ℕ) → IsReclaiming same hash mid.executor s i lists now
-      → ReclaimingLeads same hash s i lists mid.executor new.executor now next told) where
+      (stepping : (same : K → K → Bool) (hash : K → ℕ) (s : Scene K V) (i : ℕ) (lists : ℕ → List ℕ) → IsReclaimingThere same hash mid.executor s i lists now
+      → ReclaimsThere same hash s i lists mid.executor new.executor now next told) where
     did_so : zs ≡ xs ++ (so.0 ++ step.0)
     did_so = step.1 ∙ ap (λ (l : List Effect). l ++ step.0) so.1 ∙ append_assoc xs so.0 step.0
 
     goes_to : (same : K → K → Bool) (hash : K → ℕ) (s : Scene K V) (i : ℕ) (lists : ℕ → List ℕ) (said : Settled (Node K V)) → is_done said ≡ false → (s2 : Scene K V) (lists2 : ℕ → List ℕ)
-        → ReclaimingComesTo same hash s i lists mid.executor new.executor s2 lists2 next said → IsReclaiming same hash new.executor s2 i lists2 next
+        → ReclaimingComesToThere same s i lists (λ s3 lists3 all. IsReclaimingThere same hash new.executor s3 i lists3 all) (IsThere same hash new.executor) (held_by mid.executor) (held_by new.executor) s2 lists2 next said
+        → IsReclaimingThere same hash new.executor s2 i lists2 next
     goes_to same hash s i lists settled.Goes more s2 lists2 comes = comes
     goes_to same hash s i lists settled.Waits more s2 lists2 comes = comes
     goes_to same hash s i lists (settled.Gave value) more s2 lists2 comes = comes
@@ -73,7 +76,7 @@ module _ {K V S : Type 0} where
       abbrev u : (s1 : Scene K V) × (lists1 : ℕ → List ℕ) × ReclaimingCame s s1 × ReclaimingIsShown same hash name (with_effects None None so.0 m) mid s1 i lists1 now × ReclaimRetired so.0 m
       u = so.3 same hash name m s i lists shown
 
-      abbrev leads : ReclaimingLeads same hash u.0 i u.1 mid.executor new.executor now next told
+      abbrev leads : ReclaimingLeads same (λ map. hash) u.0 i u.1 (held_by mid.executor) (held_by new.executor) now next told
       leads = (step.2 same hash name (with_effects None None so.0 m) u.0 i u.1 u.3).0
 
       abbrev s2 : Scene K V
@@ -122,8 +125,8 @@ module _ {K V S : Type 0} where
       → ((same : K → K → Bool) (hash : K → ℕ) (name : ℕ → List ℕ) (m : Moment K V) (s : Scene K V) (i : ℕ) (lists : ℕ → List ℕ) → IsShown same hash name m old s
       → NobodyHas old.executor → MayReclaim old.executor s lists taken → ReclaimingIsShown same hash name m old s i lists first)
       → mid.executor.roots ≡ old.executor.roots → ReclaimingSoFar first now xs ys old mid → (told : Settled (Node K V)) → is_done told ≡ true → ReclaimingSteps now next told ys zs mid new
-      → ((same : K → K → Bool) (hash : K → ℕ) (s : Scene K V) (i : ℕ) (lists : ℕ → List ℕ) → IsReclaiming same hash mid.executor s i lists now
-      → ReclaimingLeads same hash s i lists mid.executor new.executor now next told)
+      → ((same : K → K → Bool) (hash : K → ℕ) (s : Scene K V) (i : ℕ) (lists : ℕ → List ℕ) → IsReclaimingThere same hash mid.executor s i lists now
+      → ReclaimsThere same hash s i lists mid.executor new.executor now next told)
       → ReclaimingRan taken xs zs old new
   reclaims_last taken first now next old mid new xs ys zs begins roots so settled.Done over step stepping = (
     so.0 ++ step.0,

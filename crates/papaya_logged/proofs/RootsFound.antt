@@ -20,8 +20,6 @@ use Rattle.papaya_effects.specs.Known.{Known, known}
 use Rattle.papaya_effects.specs.declared.acting.Acting.TheVariants.{Making}
 use Rattle.papaya_kept.proofs.Given.Callers.Together.At.{at_same}
 use Rattle.papaya_kept.specs.Given.Finishes.Makings.{Beginning, HasTaken, HasComeTo, MakingFacts, OpeningFacts, StepsOfMaking}
-use Rattle.papaya_executor.specs.IsAt.{Scene, IsAt, slot_of, work_of}
-use Rattle.papaya_executor.specs.Making.{MakingLeads}
 use Rattle.papaya_executor.specs.declared.executor.Executor.{Executor}
 use Rattle.papaya_executor.specs.declared.worker.Work.TheVariants as work
 use Rattle.papaya_logged.specs.Makings.{is_over, MakingCame, MakingRan}
@@ -29,8 +27,11 @@ use Rattle.papaya_logged.specs.Roots.{AreTaken, FindsRoot, MakingFinds}
 use Rattle.papaya_logged.specs.declared.logged.Logged.{Logged}
 use Rattle.papaya_logged.proofs.MakingsRun.{making_of}
 use Rattle.papaya_logged.proofs.MakingRoots.{bit, GoesOnWith, HasItsRoot, LeavesOthers, RootSoFar, RootThen, root_then}
+use Rattle.papaya_executor.specs.IsThere.{IsThere, work_of}
+use Rattle.papaya_executor.specs.Making.{MakesThere}
+use Rattle.papaya_scenes.specs.Scene.{Scene, slot_of}
 
-module _ {K V S : Type 0} (same : K → K → Bool) (hash : K → ℕ) (mid new : Executor K V S) (s : Scene K V) (at : IsAt same hash mid s) (i : ℕ) (b : Beginning K) (here : s.makers i ≡ Some b) where
+module _ {K V S : Type 0} (same : K → K → Bool) (hash : K → ℕ) (mid new : Executor K V S) (s : Scene K V) (at : IsThere same hash mid s) (i : ℕ) (b : Beginning K) (here : s.makers i ≡ Some b) where
   abbrev m : Mem (Node K V)
   m = mid.memory.memory
 
@@ -52,7 +53,7 @@ module _ {K V S : Type 0} (same : K → K → Bool) (hash : K → ℕ) (mid new 
     come (progress.Refused fault) r h = absurd h
 
     others : (roots : ℕ) (said : Progress Setting) → Step n2 said → LeavesOthers roots m m2 n (n2, said)
-    others roots said step r l apart q is = by q (ap (λ (x : Mem (Node K V)). word_at x (Used r)) at.memory ∙ is)
+    others roots said step r l apart q is = by q (ap (λ (x : Mem (Node K V)). word_at x (Used r)) at.held.memory ∙ is)
       where
         then_at : (x : Option ℕ) → word_at step.w2.memory (Used r) ≡ x → word_at m2 (Used r) ≡ x
         then_at x e = ap (λ (y : Mem (Node K V)). word_at y (Used r)) (sym step.memory) ∙ e
@@ -87,7 +88,7 @@ module _ {K V S : Type 0} (same : K → K → Bool) (hash : K → ℕ) (mid new 
 
   -- the step leads on
   pub leads_on : (map : ℕ) (noted : Known) (roots : ℕ) (taken : ℕ → Bool) (did : List Effect) → n.roots ≡ roots → max n.len 8 ≤ 2 ^ 48 → RootSoFar roots taken (has_grown did) m n n.stands
-      → (told : Progress Setting) (leads : MakingLeads same hash i told s mid new) → RootThen map noted roots taken did m m2 new.memory.changed n ((leads b here).0, told)
+      → (told : Progress Setting) (leads : MakesThere same hash i told s mid new) → RootThen map noted roots taken did m m2 new.memory.changed n ((leads b here).0, told)
   leads_on map noted roots taken did as_many small so told leads =
       let to = leads b here in
       root_then map noted roots taken did m m2 new.memory.changed n as_many small so (to.0, told) to.1 (others to.0 roots told to.2.step) (its to.0 roots told to.2.step)
@@ -96,7 +97,7 @@ module _ {K V S : Type 0} (same : K → K → Bool) (hash : K → ℕ) (mid new 
 module _ {K V S : Type 0} where
   abbrev pub MakingFindsSoFar : (i map : ℕ) → (before after : List Effect) → (old mid : Logged K V S) → Type 0
   MakingFindsSoFar i map before after old mid =
-      (same : K → K → Bool) (hash : K → ℕ) (s : Scene K V) → IsAt same hash old.executor s → (b : Beginning K) → s.makers i ≡ Some b → b.map ≡ map
+      (same : K → K → Bool) (hash : K → ℕ) (s : Scene K V) → IsThere same hash old.executor s → (b : Beginning K) → s.makers i ≡ Some b → b.map ≡ map
       → b.machine ≡ opening b.given old.executor.roots b.places → max b.places 8 ≤ 2 ^ 48
       → (taken : ℕ → Bool) → AreTaken old.executor.roots taken old.executor.memory.memory
       → (did : List Effect) × (after ≡ before ++ did) × (n : NewMap) × (work_of mid.executor i ≡ Some (work.Making map n)) × (n.roots ≡ old.executor.roots) × (max n.len 8 ≤ 2 ^ 48)
@@ -116,7 +117,7 @@ module _ {K V S : Type 0} (i map : ℕ) where
   )
     where
       facts : MakingFacts s.world same l.executor.batch_size l.executor.roots i b
-      facts = at.together.makings.facts i b here
+      facts = at.held.together.makings.facts i b here
 
       some : 0 < l.executor.roots
       some = subst (λ (x : NewMap). OpeningFacts s.world l.executor.roots i x x.stands) begins facts.point
@@ -125,11 +126,11 @@ module _ {K V S : Type 0} (i map : ℕ) where
       none_below q l = omega (arith, l)
 
   module _ (old mid new : Logged K V S) (xs ys zs : List Effect) (told : Progress Setting) (ran : MakingRan i map progress.Goes xs ys old mid) (so : MakingFindsSoFar i map xs ys old mid)
-      (stepping : (same : K → K → Bool) (hash : K → ℕ) (s : Scene K V) → IsAt same hash mid.executor s → MakingLeads same hash i told s mid.executor new.executor)
+      (stepping : (same : K → K → Bool) (hash : K → ℕ) (s : Scene K V) → IsThere same hash mid.executor s → MakesThere same hash i told s mid.executor new.executor)
       (did_it : zs ≡ ys ++ effects_of (Making map) (known mid.notes) new.executor.memory.changed) where
-    module _ (same : K → K → Bool) (hash : K → ℕ) (s : Scene K V) (at : IsAt same hash old.executor s) (b : Beginning K) (here : s.makers i ≡ Some b) (of_map : b.map ≡ map)
+    module _ (same : K → K → Bool) (hash : K → ℕ) (s : Scene K V) (at : IsThere same hash old.executor s) (b : Beginning K) (here : s.makers i ≡ Some b) (of_map : b.map ≡ map)
         (begins : b.machine ≡ opening b.given old.executor.roots b.places) (small : max b.places 8 ≤ 2 ^ 48) (taken : ℕ → Bool) (are : AreTaken old.executor.roots taken old.executor.memory.memory) where
-      abbrev u : (s1 : Scene K V) × (came : MakingCame s s1 i b progress.Goes) × IsAt same hash mid.executor s1
+      abbrev u : (s1 : Scene K V) × (came : MakingCame s s1 i b progress.Goes) × IsThere same hash mid.executor s1
       u = ran.2 same hash s at b here of_map
 
       abbrev b1 : Beginning K
@@ -153,7 +154,7 @@ module _ {K V S : Type 0} (i map : ℕ) where
       is_so : At u.1.maker.0
       is_so = subst At same_machine (before.4, before.5, before.6)
 
-      abbrev leads : MakingLeads same hash i told u.0 mid.executor new.executor
+      abbrev leads : MakesThere same hash i told u.0 mid.executor new.executor
       leads = stepping same hash u.0 u.2
 
       abbrev n2 : NewMap
@@ -184,14 +185,14 @@ module _ {K V S : Type 0} (i map : ℕ) where
     )
 
   -- and each other one goes on
-  pub goes_found : (same : K → K → Bool) (hash : K → ℕ) (s : Scene K V) (old mid new : Logged K V S) (xs ys zs : List Effect) (told : Progress Setting) → IsAt same hash old.executor s
+  pub goes_found : (same : K → K → Bool) (hash : K → ℕ) (s : Scene K V) (old mid new : Logged K V S) (xs ys zs : List Effect) (told : Progress Setting) → IsThere same hash old.executor s
       → (b : Beginning K) → s.makers i ≡ Some b → b.map ≡ map → MakingRan i map progress.Goes xs ys old mid → MakingFindsSoFar i map xs ys old mid
-      → ((same : K → K → Bool) (hash : K → ℕ) (s : Scene K V) → IsAt same hash mid.executor s → MakingLeads same hash i told s mid.executor new.executor)
+      → ((same : K → K → Bool) (hash : K → ℕ) (s : Scene K V) → IsThere same hash mid.executor s → MakesThere same hash i told s mid.executor new.executor)
       → zs ≡ ys ++ effects_of (Making map) (known mid.notes) new.executor.memory.changed → is_over told ≡ false → MakingFindsSoFar i map xs zs old new
   goes_found same0 hash0 s0 old mid new xs ys zs told at0 b0 here0 of_map0 ran so stepping did_it more = by told more stepping
     where
       by : (told : Progress Setting) → is_over told ≡ false
-          → ((same : K → K → Bool) (hash : K → ℕ) (s : Scene K V) → IsAt same hash mid.executor s → MakingLeads same hash i told s mid.executor new.executor) → MakingFindsSoFar i map xs zs old new
+          → ((same : K → K → Bool) (hash : K → ℕ) (s : Scene K V) → IsThere same hash mid.executor s → MakesThere same hash i told s mid.executor new.executor) → MakingFindsSoFar i map xs zs old new
       by progress.Goes more stepping = λ same hash s at b here of_map begins small taken are.
           let x = led old mid new xs ys zs progress.Goes ran so stepping did_it same hash s at b here of_map begins small taken are in
           let v = u old mid new xs ys zs progress.Goes ran so stepping did_it same hash s at b here of_map begins small taken are in

@@ -24,18 +24,20 @@ use Rattle.papaya_kept.specs.Given.Tables.declared.node.Node.{Node}
 use Rattle.papaya_teller.specs.declared.changed.Changed.{Changed}
 use Rattle.papaya_teller.specs.declared.changed.Changed.TheVariants.{Nothing}
 use Rattle.papaya_executor.specs.declared.executor.Executor.{Executor}
-use Rattle.papaya_executor.specs.declared.row.RowTold.{RowTold}
-use Rattle.papaya_executor.specs.declared.row.RowTold.TheVariants as told
-use Rattle.papaya_executor.specs.declared.row.SlotRow.{SlotRow}
-use Rattle.papaya_executor.specs.declared.row.SlotRow.TheVariants as rows
+use Rattle.papaya_scenes.specs.declared.row.RowTold.{RowTold}
+use Rattle.papaya_scenes.specs.declared.row.RowTold.TheVariants as told
+use Rattle.papaya_scenes.specs.declared.row.SlotRow.{SlotRow}
+use Rattle.papaya_scenes.specs.declared.row.SlotRow.TheVariants as rows
 use Rattle.papaya_executor.specs.declared.worker.Work.{Work}
 use Rattle.papaya_executor.specs.declared.worker.Work.TheVariants as work
-use Rattle.papaya_executor.specs.IsAt.{Scene, IsAt, HasRow, row_of, work_of}
-use Rattle.papaya_executor.specs.OnSlots.{RowSteps, RowLeads, row_on}
-use Rattle.papaya_executor.specs.Rows.{of_registering, of_storing, of_settling}
-use Rattle.papaya_executor.proofs.Forgotten.{as_step}
-use Rattle.papaya_executor.proofs.Uses.{reached}
 use Rattle.papaya_logged.specs.OnSlots.{has_come}
+use Rattle.papaya_executor.proofs.Uses.{reached}
+use Rattle.papaya_executor.specs.IsThere.{IsThere, work_of}
+use Rattle.papaya_executor.specs.OnSlots.{RowStepsThere, row_on}
+use Rattle.papaya_scenes.proofs.Told.{as_step}
+use Rattle.papaya_scenes.specs.OnSlots.{RowSteps}
+use Rattle.papaya_scenes.specs.Rows.{of_registering, of_settling, of_storing}
+use Rattle.papaya_scenes.specs.Scene.{Scene, row_of}
 
 -- how many steps are left at most of what a caller has under way, if that is a row on a slot
 abbrev pub steps_left_of : {K V : Type 0} → Mem (Node K V) → Option (Work K V) → ℕ
@@ -99,22 +101,19 @@ module _ {K V : Type 0} where
   under_way_on row (told.Registered slot) h = absurd (cc h)
   under_way_on row (told.Refused fault) h = absurd (cc h)
 
-module _ {K V S : Type 0} (same : K → K → Bool) (hash : K → ℕ) (old new : Executor K V S) (s : Scene K V) (at : IsAt same hash old s) (i : ℕ) (it : RowTold (Node K V))
-    (leads : RowLeads same hash i it s old new) (row : SlotRow) (here : work_of old i ≡ Some (work.OnSlot row)) (goes : has_come it ≡ false) where
-  is_row : s.world.row i ≡ row_of row
-  is_row = subst (λ (x : Option (Work K V)). HasRow x (s.world.row i)) here (at.rows i)
-
+module _ {K V S : Type 0} (same : K → K → Bool) (hash : K → ℕ) (old new : Executor K V S) (s : Scene K V) (at : IsThere same hash old s) (i : ℕ) (it : RowTold (Node K V))
+    (leads : RowStepsThere same hash i it s old new) (row : SlotRow) (here : work_of old i ≡ Some (work.OnSlot row)) (goes : has_come it ≡ false) where
   came : Came deferred_word old.batch_size i s.world
   came = record { good = (reached same hash old s at).good; sized = (reached same hash old s at).sized }
 
-  pub row_then : work_of new i ≡ Some (work.OnSlot (leads row here).0)
-  row_then = (leads row here).2 ∙ under_way_on (leads row here).0 it goes
+  pub row_then : work_of new i ≡ Some (work.OnSlot (leads row here).1)
+  row_then = (leads row here).3 ∙ under_way_on (leads row here).1 it goes
 
   pub steps_fall : steps_left_of new.memory.memory (work_of new i) < steps_left_of old.memory.memory (work_of old i)
   steps_fall =
       let to = leads row here in
-      let steps = subst (λ (m : Mem (Node K V)). RowSteps K V row m new.memory.memory new.memory.changed (to.0, it)) (sym at.memory) to.1 in
-      let less = row_less old.batch_size i s.world came new.memory.memory row new.memory.changed (to.0, it) is_row steps goes in
+      let steps = subst (λ (m : Mem (Node K V)). RowSteps K V row m new.memory.memory new.memory.changed (to.1, it)) (sym at.held.memory) to.2 in
+      let less = row_less old.batch_size i s.world came new.memory.memory row new.memory.changed (to.1, it) to.0.1 steps goes in
       subst (λ (x : Option (Work K V)). steps_left_of new.memory.memory x < steps_left_of old.memory.memory (work_of old i)) (sym row_then)
-      (subst (λ (x : Option (Work K V)). row_steps_left deferred_word new.memory.memory (row_of to.0) < steps_left_of old.memory.memory x) (sym here)
-      (subst (λ (m : Mem (Node K V)). row_steps_left deferred_word new.memory.memory (row_of to.0) < row_steps_left deferred_word m (row_of row)) at.memory less))
+      (subst (λ (x : Option (Work K V)). row_steps_left deferred_word new.memory.memory (row_of to.1) < steps_left_of old.memory.memory x) (sym here)
+      (subst (λ (m : Mem (Node K V)). row_steps_left deferred_word new.memory.memory (row_of to.1) < row_steps_left deferred_word m (row_of row)) at.held.memory less))

@@ -6,12 +6,10 @@ use Rattle.papaya_kept.specs.Given.Tables.declared.node.Node.{Node}
 use Rattle.papaya_schedules.specs.declared.effect.Effect.{Effect}
 use Rattle.papaya_schedules.specs.Effects.{with_effects}
 use Rattle.papaya_schedules.specs.Moment.{Moment}
-use Rattle.papaya_executor.specs.IsAt.{Scene, IsAt, work_of}
-use Rattle.papaya_executor.specs.OnSlots.{RowLeads}
-use Rattle.papaya_executor.specs.declared.row.RowTold.{RowTold}
-use Rattle.papaya_executor.specs.declared.row.SlotRow.{SlotRow}
+use Rattle.papaya_scenes.specs.declared.row.RowTold.{RowTold}
+use Rattle.papaya_scenes.specs.declared.row.SlotRow.{SlotRow}
 use Rattle.papaya_executor.specs.declared.executor.Executor.{Executor}
-use Rattle.papaya_executor.specs.declared.row.SlotUse.{SlotUse}
+use Rattle.papaya_scenes.specs.declared.row.SlotUse.{SlotUse}
 use Rattle.papaya_executor.specs.declared.worker.Work.{Work}
 use Rattle.papaya_executor.specs.declared.worker.Work.TheVariants.{OnSlot}
 use Rattle.papaya_kept.proofs.Given.Moments.After.{effects_after}
@@ -21,6 +19,9 @@ use Rattle.papaya_logged.specs.declared.logged.Logged.{Logged}
 use Rattle.papaya_logged.specs.Ended.{has_ended, uses_ended}
 use Rattle.papaya_logged.proofs.Ended.{rows_end}
 use Rattle.papaya_logged.proofs.RowsFall.{steps_left_of, row_then, steps_fall, under_way_on}
+use Rattle.papaya_executor.specs.IsThere.{IsThere, work_of}
+use Rattle.papaya_executor.specs.OnSlots.{RowStepsThere}
+use Rattle.papaya_scenes.specs.Scene.{Scene}
 
 module _ {K V S : Type 0} where
   pub ran_none : (l : Logged K V S) (xs : List Effect) → OnSlotRan xs xs l l
@@ -34,29 +35,29 @@ module _ {K V S : Type 0} where
   -- and one step more
   pub ran_on : (old mid new : Logged K V S) (xs ys zs : List Effect) (i : ℕ) (told : RowTold (Node K V)) (row : SlotRow) → work_of mid.executor i ≡ Some (OnSlot row)
       → OnSlotRan xs ys old mid → OnSlotSteps i told ys zs mid new
-      → ((same : K → K → Bool) (hash : K → ℕ) (s : Scene K V) → IsAt same hash mid.executor s → RowLeads same hash i told s mid.executor new.executor)
+      → ((same : K → K → Bool) (hash : K → ℕ) (s : Scene K V) → IsThere same hash mid.executor s → RowStepsThere same hash i told s mid.executor new.executor)
       → OnSlotRan xs zs old new
   ran_on old mid new xs ys zs i told row here ran step stepping = (
     ran.0 ++ step.0,
     step.1 ∙ ap (λ (l : List Effect). l ++ step.0) ran.1 ∙ append_assoc xs ran.0 step.0,
     λ same hash s at.
         (let u = ran.2 same hash s at in
-        let to = (stepping same hash (record s { world = u.0; maps = u.1 }) u.2 row here).4 in
+        let to = (stepping same hash (record s { world = u.0; maps = u.1 }) u.2 row here).5 in
         (to.0, to.2, to.4)),
     λ same hash name m s shown.
         (let u = ran.3 same hash name m s shown in
         let then_at = record s { world = u.0; maps = u.1 } in
         let to = step.2 same hash name (with_effects None None ran.0 m) then_at u.2 row here in
-        let at = (to.0 row here).4 in (
+        let at = (to.1 row to.0).2 in (
           at.0,
           at.2,
-          subst (λ (n : Moment K V). IsShown same hash name n new (record s { world = at.0; maps = at.2 })) (sym (effects_after None None ran.0 step.0 m)) to.1,
+          subst (λ (n : Moment K V). IsShown same hash name n new (record s { world = at.0; maps = at.2 })) (sym (effects_after None None ran.0 step.0 m)) to.2,
         )),
   )
 
   -- the executor is there at a scene
-  pub still_there : (same : K → K → Bool) (hash : K → ℕ) (s : Scene K V) (old new : Logged K V S) (xs ys : List Effect) → IsAt same hash old.executor s → OnSlotRan xs ys old new
-      → (s2 : Scene K V) × IsAt same hash new.executor s2
+  pub still_there : (same : K → K → Bool) (hash : K → ℕ) (s : Scene K V) (old new : Logged K V S) (xs ys : List Effect) → IsThere same hash old.executor s → OnSlotRan xs ys old new
+      → (s2 : Scene K V) × IsThere same hash new.executor s2
   still_there same hash s old new xs ys at ran = let u = ran.2 same hash s at in (record s { world = u.0; maps = u.1 }, u.2)
 
 -- What slots come to by a run from here is what they come to from its beginning.
@@ -76,19 +77,19 @@ module _ {K V S : Type 0} (i : ℕ) where
   ends_at_first old row first here there last h = ap (λ (r : SlotRow). uses_ended r last old.executor.slots.items) (one_row old.executor row first here there)
 
   module _ (same : K → K → Bool) (hash : K → ℕ) (s : Scene K V) (old mid new : Logged K V S) (told : RowTold (Node K V)) (row : SlotRow) (here : work_of mid.executor i ≡ Some (OnSlot row))
-      (leads : RowLeads same hash i told s mid.executor new.executor) (ends : EndsAs old mid i) where
+      (leads : RowStepsThere same hash i told s mid.executor new.executor) (ends : EndsAs old mid i) where
     pub ends_on : has_come told ≡ false → EndsAs old new i
     ends_on goes row2 first here2 there last h =
         let to = leads row here in
-        let is = one_row new.executor row2 to.0 here2 (to.2 ∙ under_way_on to.0 told goes) in
-        ap (λ (r : SlotRow). uses_ended r last new.executor.slots.items) is ∙ ap (λ (l : List SlotUse). uses_ended to.0 last l) to.3
-        ∙ (rows_end K V mid.executor.slots.items mid.executor.memory.memory new.executor.memory.memory row new.executor.memory.changed (to.0, told) to.1).1 goes last h
+        let is = one_row new.executor row2 to.1 here2 (to.3 ∙ under_way_on to.1 told goes) in
+        ap (λ (r : SlotRow). uses_ended r last new.executor.slots.items) is ∙ ap (λ (l : List SlotUse). uses_ended to.1 last l) to.4
+        ∙ (rows_end K V mid.executor.slots.items mid.executor.memory.memory new.executor.memory.memory row new.executor.memory.changed (to.1, told) to.2).1 goes last h
         ∙ ends row first here there last h
 
     pub ends_now : (first : SlotRow) → work_of old.executor i ≡ Some (OnSlot first) → has_ended told ≡ true → new.executor.slots.items ≡ uses_ended first told old.executor.slots.items
     ends_now first there h =
         let to = leads row here in
-        to.3 ∙ (rows_end K V mid.executor.slots.items mid.executor.memory.memory new.executor.memory.memory row new.executor.memory.changed (to.0, told) to.1).0 h ∙ ends row first here there told h
+        to.4 ∙ (rows_end K V mid.executor.slots.items mid.executor.memory.memory new.executor.memory.memory row new.executor.memory.changed (to.1, told) to.2).0 h ∙ ends row first here there told h
 
 -- a run goes on with a step of the row after which it is under way still
 pub record RunGoes {K V S : Type 0} (old mid new : Logged K V S) (i : ℕ) (xs zs : List Effect) : Type 0 where
@@ -98,15 +99,15 @@ pub record RunGoes {K V S : Type 0} (old mid new : Logged K V S) (i : ℕ) (xs z
   pub less : steps_left_of new.executor.memory.memory (work_of new.executor i) < steps_left_of mid.executor.memory.memory (work_of mid.executor i)
 
 pub run_goes : {K V S : Type 0} (same : K → K → Bool) (hash : K → ℕ) (s : Scene K V) (old mid new : Logged K V S) (i : ℕ) (xs ys zs : List Effect) (told : RowTold (Node K V))
-    → IsAt same hash old.executor s → (row : SlotRow) → work_of mid.executor i ≡ Some (OnSlot row) → OnSlotRan xs ys old mid → EndsAs old mid i → OnSlotSteps i told ys zs mid new
-    → ((same : K → K → Bool) (hash : K → ℕ) (s : Scene K V) → IsAt same hash mid.executor s → RowLeads same hash i told s mid.executor new.executor)
+    → IsThere same hash old.executor s → (row : SlotRow) → work_of mid.executor i ≡ Some (OnSlot row) → OnSlotRan xs ys old mid → EndsAs old mid i → OnSlotSteps i told ys zs mid new
+    → ((same : K → K → Bool) (hash : K → ℕ) (s : Scene K V) → IsThere same hash mid.executor s → RowStepsThere same hash i told s mid.executor new.executor)
     → has_come told ≡ false → RunGoes old mid new i xs zs
 run_goes same hash s old mid new i xs ys zs told at row here ran ends step stepping goes =
     let t = still_there same hash s old mid xs ys at ran in
     let leads = stepping same hash t.0 t.1 in
     record {
       ran = ran_on old mid new xs ys zs i told row here ran step stepping;
-      under = ((leads row here).0, row_then same hash mid.executor new.executor t.0 t.1 i told leads row here goes);
+      under = ((leads row here).1, row_then same hash mid.executor new.executor t.0 t.1 i told leads row here goes);
       used = ends_on i same hash t.0 old mid new told row here leads ends goes;
       less = steps_fall same hash mid.executor new.executor t.0 t.1 i told leads row here goes;
     }

@@ -15,8 +15,6 @@ use Rattle.papaya_effects.specs.Known.{Known, known}
 use Rattle.papaya_effects.specs.declared.notes.Notes.{Notes}
 use Rattle.papaya_effects.specs.declared.acting.Acting.{Acting}
 use Rattle.papaya_effects.specs.declared.acting.Acting.TheVariants as acts
-use Rattle.papaya_executor.specs.IsAt.{Scene, IsAt, KeepsGiven}
-use Rattle.papaya_executor.specs.Stepping.{StepLeads, scene_after}
 use Rattle.papaya_executor.specs.declared.executor.Executor.{Executor}
 use Rattle.papaya_kept.proofs.Given.Moments.Calls.{calls_keep_whole}
 use Rattle.papaya_kept.specs.Given.Moments.Whole.{ShowsWhole}
@@ -30,36 +28,42 @@ use Rattle.papaya_logged.specs.Shown.{IsShown}
 use Rattle.papaya_logged.specs.declared.logged.Logged.{Logged}
 use Rattle.papaya_logged.proofs.Counted.{counted_call_steps}
 use Rattle.papaya_logged.proofs.LeftNoted.{calls_note_left}
+use Rattle.papaya_executor.specs.IsThere.{IsThere, KeepsGiven, held_by}
+use Rattle.papaya_executor.specs.Stepping.{StepsThere}
+use Rattle.papaya_scenes.specs.Scene.{Scene}
+use Rattle.papaya_scenes.specs.Stepping.{scene_after}
+use Rattle.papaya_logged.proofs.Held.{call_held, maps_below}
 
 module _ {K V S : Type 0} (same : K → K → Bool) (hash : K → ℕ) where
   goes_so : (old : Logged K V S) (stepped : Executor K V S) (notes : Notes) (i map : ℕ) (told : Progress (Node K V)) (before after : List Effect)
-      → ((s : Scene K V) → IsAt same hash old.executor s → StepLeads same hash i told s old.executor stepped)
+      → ((s : Scene K V) → IsThere same hash old.executor s → StepsThere same hash i told s old.executor stepped)
       → after ≡ before ++ effects_of (acts.Call i map) (known old.notes) stepped.memory.changed
       → known notes ≡ known_after (acts.Call i map) stepped.memory.changed (known old.notes) → KeepsGiven old.executor stepped
       → (name : ℕ → List ℕ) (m : Moment K V) (s : Scene K V) → IsShown same hash name m old s
       → CallGoesOn same hash name m s i map told before after old (record { executor = stepped; notes = notes })
   goes_so old stepped notes i map told before after stepping did noted given name m s shown u here =
-      let leads = stepping s shown.is_at in
+      let went = stepping s shown.is_at in
+      let leads = call_held same hash s old.executor stepped i told went in
       let to = leads map u here in
       let effects = effects_of (acts.Call i map) (known old.notes) stepped.memory.changed in (
         leads,
         did,
         noted,
         record {
-          is_at = to.5;
-          shows = subst (λ (k : Known). ShowsWhole {K = K} {V = V} same name (with_effects (Some (name i)) (Some map) effects m) k (scene_after same hash s old.executor stepped map i to.0 u to.1 told to.4)) (sym noted)
-              (calls_keep_whole K V S same hash name m (known old.notes) s old.executor stepped shown.is_at shown.shows map i u here told leads);
-          kept = subst (λ (k : Known). ShowsKept {K = K} {V = V} name (with_effects (Some (name i)) (Some map) effects m) k (scene_after same hash s old.executor stepped map i to.0 u to.1 told to.4)) (sym noted)
-              (calls_keep_kept K V S same hash name m (known old.notes) s old.executor stepped shown.is_at shown.shows shown.kept map i u here told leads);
-          counted = counted_call_steps same hash old stepped notes given m s shown.is_at shown.counted map i u here told leads (name i) noted
-              (calls_note_left same hash name m (known old.notes) s old.executor stepped shown.is_at shown.shows shown.kept map i u here told leads
-              (scene_after same hash s old.executor stepped map i to.0 u to.1 told to.4).world);
+          is_at = (went map u here).5;
+          shows = subst (λ (k : Known). ShowsWhole {K = K} {V = V} same name (with_effects (Some (name i)) (Some map) effects m) k (scene_after same s (held_by old.executor) (held_by stepped) map i to.0 u to.1 told to.4)) (sym noted)
+              (calls_keep_whole K V same (λ map. hash) name m (known old.notes) s (held_by old.executor) (held_by stepped) shown.is_at.held shown.shows map i u here told leads);
+          kept = subst (λ (k : Known). ShowsKept {K = K} {V = V} name (with_effects (Some (name i)) (Some map) effects m) k (scene_after same s (held_by old.executor) (held_by stepped) map i to.0 u to.1 told to.4)) (sym noted)
+              (calls_keep_kept K V same (λ map. hash) name m (known old.notes) s (held_by old.executor) (held_by stepped) shown.is_at.held shown.shows shown.kept map i u here told leads);
+          counted = counted_call_steps same (λ map. hash) old stepped notes given m s shown.is_at.held (maps_below same hash old.executor s shown.is_at) shown.counted map i u here told leads (name i) noted
+              (calls_note_left same (λ map. hash) name m (known old.notes) s (held_by old.executor) (held_by stepped) shown.is_at.held shown.shows shown.kept map i u here told leads
+              (scene_after same s (held_by old.executor) (held_by stepped) map i to.0 u to.1 told to.4).world);
         },
       )
 
   -- The executor has taken the step, and then its memory was noted: the executor stayed as it was.
   pub goes_on : (old new : Logged K V S) (stepped : Executor K V S) (i map : ℕ) (told : Progress (Node K V)) (before after : List Effect)
-      → ((s : Scene K V) → IsAt same hash old.executor s → StepLeads same hash i told s old.executor stepped)
+      → ((s : Scene K V) → IsThere same hash old.executor s → StepsThere same hash i told s old.executor stepped)
       → after ≡ before ++ effects_of (acts.Call i map) (known old.notes) stepped.memory.changed
       → known new.notes ≡ known_after (acts.Call i map) stepped.memory.changed (known old.notes)
       → new.executor ≡ stepped → KeepsGiven old.executor stepped

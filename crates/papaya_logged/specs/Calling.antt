@@ -19,11 +19,7 @@ use Rattle.papaya_kept.specs.Given.Callers.Together.{UnderWay}
 use Rattle.papaya_effects.specs.Effects.{effects_of, known_after}
 use Rattle.papaya_effects.specs.Known.{known}
 use Rattle.papaya_effects.specs.declared.acting.Acting.TheVariants as acts
-use Rattle.papaya_executor.specs.Beginning.{Begins}
-use Rattle.papaya_executor.specs.IsAt.{Scene, slot_of, use_at}
-use Rattle.papaya_executor.specs.Replying.{scene_with, unless_stopped}
-use Rattle.papaya_executor.specs.Stepping.{StepLeads, scene_after}
-use Rattle.papaya_executor.specs.declared.row.SlotUse.TheVariants as used
+use Rattle.papaya_scenes.specs.declared.row.SlotUse.TheVariants as used
 use Rattle.papaya_kept.specs.Given.Finishes.Machines.{machine_of}
 use Rattle.papaya_kept.specs.Given.Finishes.Maps.{Standing, with_call as with_call_of}
 use Rattle.papaya_kept.specs.Given.Follows.Calling.{NoneNamed, told as told_so}
@@ -33,6 +29,11 @@ use Rattle.papaya_kept.specs.Given.Hands.Calling.{IsBegunFor}
 use Rattle.papaya_kept.specs.Given.Others.Walks.{given_up}
 use Rattle.papaya_logged.specs.Shown.{IsShown}
 use Rattle.papaya_logged.specs.declared.logged.Logged.{Logged}
+use Rattle.papaya_executor.specs.IsThere.{held_by, use_at}
+use Rattle.papaya_scenes.specs.Beginning.{Begins}
+use Rattle.papaya_scenes.specs.Replying.{scene_with, unless_stopped}
+use Rattle.papaya_scenes.specs.Scene.{Scene, slot_of}
+use Rattle.papaya_scenes.specs.Stepping.{StepLeads, scene_after}
 
 -- where growths are to be refused, nothing more is made
 abbrev pub MakesNoMore : Bool → (before after : List Effect) → Type 0
@@ -47,10 +48,10 @@ module _ {K V S : Type 0} (same : K → K → Bool) (hash : K → ℕ) (name : �
   abbrev pub CallGoesOn : (i map : ℕ) → Progress (Node K V) → (before after : List Effect) → (old new : Logged K V S) → Type 0
   CallGoesOn i map told before after old new =
       (u : UnderWay K V K) (here : s.calls map i ≡ Some u)
-      → (leads : StepLeads same hash i told s old.executor new.executor) × (after ≡ before ++ step_did i map old new)
+      → (leads : StepLeads same (λ map. hash) i told s (held_by old.executor) (held_by new.executor)) × (after ≡ before ++ step_did i map old new)
       × (known new.notes ≡ known_after (acts.Call i map) new.executor.memory.changed (known old.notes))
       × (let to = leads map u here in
-      IsShown same hash name (with_effects (Some (name i)) (Some map) (step_did i map old new) m) new (scene_after same hash s old.executor new.executor map i to.0 u to.1 told to.4))
+      IsShown same hash name (with_effects (Some (name i)) (Some map) (step_did i map old new) m) new (scene_after same s (held_by old.executor) (held_by new.executor) map i to.0 u to.1 told to.4))
 
   -- A call begins while its slot is entered, on a map that stands, by a name that no call under way has: from then on the moment at which it begins shows that it
   -- is under way, and the caller has that name.

@@ -2,9 +2,9 @@
 use Rattle.std.specs.Prelude.{ℕ, Bool, List, [], ◌∷◌, ◌++◌}
 use Rattle.papaya_kept.specs.Given.SeizeWords.Mem.{Mem}
 use Rattle.papaya_schedules.specs.Moment.{Moment}
-use Rattle.papaya_executor.specs.IsAt.{Scene}
 use Rattle.papaya_logged.specs.Shown.{IsShown}
 use Rattle.papaya_logged.specs.declared.logged.Logged.{Logged}
+use Rattle.papaya_scenes.specs.Scene.{Scene}
 
 abbrev pub memory_chosen : {T : Type 0} → ℕ → Mem T → Mem T
 memory_chosen choice m = record m { choices = m.choices ++ choice ∷ [] }

@@ -23,8 +23,6 @@ use Rattle.papaya_effects.specs.declared.role.Role.TheVariants as role
 use Rattle.papaya_kept.specs.Given.Finishes.Endings.{Finishing, AllPairsOnce, finishing_of}
 use Rattle.papaya_kept.specs.Given.Finishes.FactsEnds.{RootIs, back_of, taken_by as taken_of}
 use Rattle.papaya_kept.specs.Given.Finishes.Maps.{Standing}
-use Rattle.papaya_executor.specs.Ending.{EndingLeads, NoCallOn, ending_begun}
-use Rattle.papaya_executor.specs.IsAt.{Scene, IsAt}
 use Rattle.papaya_kept.specs.Given.Follows.Maps.{table_of}
 use Rattle.papaya_kept.specs.Given.Others.Endings.{ending_after, without_map}
 use Rattle.papaya_kept.specs.Given.Moments.Numbers.{AreFound}
@@ -32,6 +30,10 @@ use Rattle.papaya_kept.specs.Given.Moments.WholeEnds.{all_ended}
 use Rattle.papaya_logged.specs.Shown.{IsShown}
 use Rattle.papaya_logged.specs.Waits.{TellsLeft, TellsThen, TellsWaiting}
 use Rattle.papaya_logged.specs.declared.logged.Logged.{Logged}
+use Rattle.papaya_executor.specs.Ending.{NoCallOn}
+use Rattle.papaya_executor.specs.IsThere.{IsThere, held_by}
+use Rattle.papaya_scenes.specs.Ending.{EndingLeads, ending_begun}
+use Rattle.papaya_scenes.specs.Scene.{Scene}
 
 -- an end is over
 abbrev pub is_done : {T : Type 0} → Settled T → Bool
@@ -73,10 +75,10 @@ module _ {K V S : Type 0} (same : K → K → Bool) (hash : K → ℕ) (name : �
   EndGoesOn i map said did old new =
       (f : Finishing K V) (here : s.enders i ≡ Some f) → s.maps map ≡ None
       → (number : ℕ → ℕ) (first : Known) → NotesMap map number first f.setting f.chart f.blocks → NotedStill first (known old.notes) f.back
-      → (leads : EndingLeads same hash i said s old.executor new.executor)
+      → (leads : EndingLeads same (λ map. hash) i said s (held_by old.executor) (held_by new.executor))
       × (did ≡ ended_as map first (taken_of (leads f here).2.deed))
       × NotedStill first (known new.notes) (f.back ++ taken_of (leads f here).2.deed)
-      × IsShown same hash name (with_effects None (Some map) did m) new (ending_after same hash s new.executor i f (leads f here).0 (leads f here).2.w2 (leads f here).2.deed said (leads f here).3)
+      × IsShown same hash name (with_effects None (Some map) did m) new (ending_after same (λ map. hash) s (held_by new.executor) i f (leads f here).0 (leads f here).2.w2 (leads f here).2.deed said (leads f here).3)
       × ((began : Moment K V) → TellsWaiting same map i f began m (known old.notes) s.world
       → TellsThen same map i f (is_done said) (leads f here).0 (leads f here).2.deed began (with_effects None (Some map) did m) (known new.notes) (leads f here).2.w2)
 
@@ -112,7 +114,7 @@ module _ {K V S : Type 0} where
   module _ (same : K → K → Bool) (hash : K → ℕ) (s : Scene K V) (i : ℕ) (over : Bool) (new : Logged K V S) where
     -- The executor is there where the end has come,
     abbrev pub EndIsAt : Type 0
-    EndIsAt = (f : Finishing K V) → s.enders i ≡ Some f → (s2 : Scene K V) × (gone : List ℕ) × EndCame s s2 i f gone over × IsAt same hash new.executor s2
+    EndIsAt = (f : Finishing K V) → s.enders i ≡ Some f → (s2 : Scene K V) × (gone : List ℕ) × EndCame s s2 i f gone over × IsThere same hash new.executor s2
 
     -- and so it is shown. What it did is that these blocks end with the map; the whole end of a map is that all of
     -- it ends. What it has left over tells what waited as it began.
@@ -130,7 +132,7 @@ module _ {K V S : Type 0} where
   abbrev pub EndRan : (i map : ℕ) → Bool → (before after : List Effect) → (old new : Logged K V S) → Type 0
   EndRan i map over before after old new =
       (did : List Effect) × (after ≡ before ++ did)
-      × ((same : K → K → Bool) (hash : K → ℕ) (s : Scene K V) → IsAt same hash old.executor s → EndIsAt same hash s i over new)
+      × ((same : K → K → Bool) (hash : K → ℕ) (s : Scene K V) → IsThere same hash old.executor s → EndIsAt same hash s i over new)
       × ((same : K → K → Bool) (hash : K → ℕ) (name : ℕ → List ℕ) (m : Moment K V) (s : Scene K V) → IsShown same hash name m old s → EndIsShown same hash s i over new name map old did m)
 
   -- And once it is over, and nobody ends a map, a moment shows it without the map, too, with these pairs as what it has left over, if what is behind its root is noted as them: no map

@@ -21,6 +21,7 @@ pub use Rattle.papaya_reclaims.specs as Reclaims
 pub use Rattle.papaya_runs.specs as Runs
 pub use Rattle.papaya_schedules.specs as Schedules
 pub use Rattle.papaya_effects.specs as Effects
+pub use Rattle.papaya_scenes.specs as Scenes
 pub use Rattle.papaya_executor.specs as Executor
 pub use Rattle.papaya_reclaiming.specs as Reclaiming
 pub use Rattle.papaya_kept.specs.Given.Follows

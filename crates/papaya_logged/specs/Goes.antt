@@ -14,19 +14,20 @@ use Rattle.papaya_effects.specs.Effects.{effects_of, known_after}
 use Rattle.papaya_effects.specs.Known.{known}
 use Rattle.papaya_effects.specs.declared.acting.Acting.{Acting}
 use Rattle.papaya_effects.specs.declared.acting.Acting.TheVariants as acts
-use Rattle.papaya_executor.specs.Ending.{EndingLeads}
-use Rattle.papaya_executor.specs.IsAt.{Scene, IsAt, KeepsGiven, ending_in, making_in, work_of}
-use Rattle.papaya_executor.specs.Making.{MakingLeads}
 use Rattle.papaya_executor.specs.declared.executor.Executor.{Executor}
-use Rattle.papaya_executor.specs.declared.row.RowTold.{RowTold}
-use Rattle.papaya_executor.specs.declared.row.SlotRow.{SlotRow}
+use Rattle.papaya_scenes.specs.declared.row.RowTold.{RowTold}
+use Rattle.papaya_scenes.specs.declared.row.SlotRow.{SlotRow}
 use Rattle.papaya_executor.specs.declared.worker.Work.TheVariants.{OnSlot}
-use Rattle.papaya_reclaiming.specs.Reclaiming.{IsReclaiming, MayReclaim, NobodyHas, ReclaimingLeads}
+use Rattle.papaya_reclaiming.specs.Reclaiming.{IsReclaimingThere, MayReclaim, NobodyHas, ReclaimsThere}
 use Rattle.papaya_logged.specs.Ends.{is_done}
 use Rattle.papaya_logged.specs.Makings.{given_back, is_over}
 use Rattle.papaya_logged.specs.OnSlots.{StepsOn}
 use Rattle.papaya_logged.specs.Shown.{IsShown}
 use Rattle.papaya_logged.specs.declared.logged.Logged.{Logged}
+use Rattle.papaya_executor.specs.Ending.{EndsThere}
+use Rattle.papaya_executor.specs.IsThere.{IsThere, KeepsGiven, ending_in, making_in, work_of}
+use Rattle.papaya_executor.specs.Making.{MakesThere}
+use Rattle.papaya_scenes.specs.Scene.{Scene}
 
 -- How far a run has come: with which executor and notes, and with what in the list.
 pub record Far (K V S : Type 0) : Type 0 where
@@ -52,10 +53,10 @@ module _ {K V S : Type 0} where
 
   -- what a step of a making leads to, in whatever scene the executor is there, and one of an end
   abbrev pub StepsMaking : ℕ → Progress Setting → (old new : Executor K V S) → Type 0
-  StepsMaking i said old new = (same : K → K → Bool) (hash : K → ℕ) (s : Scene K V) → IsAt same hash old s → MakingLeads same hash i said s old new
+  StepsMaking i said old new = (same : K → K → Bool) (hash : K → ℕ) (s : Scene K V) → IsThere same hash old s → MakesThere same hash i said s old new
 
   abbrev pub StepsEnd : ℕ → Settled (Node K V) → (old new : Executor K V S) → Type 0
-  StepsEnd i said old new = (same : K → K → Bool) (hash : K → ℕ) (s : Scene K V) → IsAt same hash old s → EndingLeads same hash i said s old new
+  StepsEnd i said old new = (same : K → K → Bool) (hash : K → ℕ) (s : Scene K V) → IsThere same hash old s → EndsThere same hash i said s old new
 
   -- A step of the row of caller i on its slot, which was under way,
   pub record RowGoes (i : ℕ) (from to : Far K V S) : Type 0 where
@@ -89,8 +90,8 @@ module _ {K V S : Type 0} where
   abbrev pub ReclaimingGoes : (from to : Far K V S × ReclaimAll) → Type 0
   ReclaimingGoes from to =
       IsNotedAs acts.Row from.0 to.0 × (said : Settled (Node K V))
-      × ((same : K → K → Bool) (hash : K → ℕ) (s : Scene K V) (i : ℕ) (lists : ℕ → List ℕ) → IsReclaiming same hash from.0.logged.executor s i lists from.1
-      → ReclaimingLeads same hash s i lists from.0.logged.executor to.0.logged.executor from.1 to.1 said)
+      × ((same : K → K → Bool) (hash : K → ℕ) (s : Scene K V) (i : ℕ) (lists : ℕ → List ℕ) → IsReclaimingThere same hash from.0.logged.executor s i lists from.1
+      → ReclaimsThere same hash s i lists from.0.logged.executor to.0.logged.executor from.1 to.1 said)
 
   -- after which it goes on
   abbrev pub ReclaimingOn : (from to : Far K V S × ReclaimAll) → Type 0
@@ -117,6 +118,6 @@ module _ {K V S : Type 0} where
   ReclaimingGone taken before after old new =
       (first : ReclaimAll)
       × ((same : K → K → Bool) (hash : K → ℕ) (name : ℕ → List ℕ) (m : Moment K V) (s : Scene K V) (i : ℕ) (lists : ℕ → List ℕ) → IsShown same hash name m old s
-      → NobodyHas old.executor → MayReclaim old.executor s lists taken → IsReclaiming same hash old.executor s i lists first)
+      → NobodyHas old.executor → MayReclaim old.executor s lists taken → IsReclaimingThere same hash old.executor s i lists first)
       × (mid : Far K V S × ReclaimAll) × GoesTo ReclaimingOn (far before old, first) mid × (last : ReclaimAll) × (step : ReclaimingGoes mid (far after new, last)) × (is_done step.1 ≡ true)
       × (first ≡ (if taken then reclaiming_all old.executor.batch_size old.executor.roots else clearing old.executor.roots))

@@ -22,14 +22,15 @@ use Rattle.papaya_schedules.specs.Views.{tables_of}
 use Rattle.papaya_kept.specs.Given.Points.Steps.{AreLawful}
 use Rattle.papaya_kept.specs.Given.Finishes.Makings.{Beginning, IsNewChart}
 use Rattle.papaya_kept.specs.Given.Finishes.Maps.{Standing}
-use Rattle.papaya_executor.specs.IsAt.{Scene, IsAt}
-use Rattle.papaya_executor.specs.Making.{MakingLeads}
-use Rattle.papaya_executor.specs.MakingBegins.{next_making}
 use Rattle.papaya_kept.specs.Given.Others.Makings.{IsNew, WasNew, making_after}
 use Rattle.papaya_kept.specs.Given.Moments.Numbers.{NumbersMaps}
 use Rattle.papaya_remains.specs.Numbered.{NumbersUpTo}
 use Rattle.papaya_logged.specs.Shown.{IsShown}
 use Rattle.papaya_logged.specs.declared.logged.Logged.{Logged}
+use Rattle.papaya_executor.specs.IsThere.{IsThere, held_by}
+use Rattle.papaya_executor.specs.MakingBegins.{next_making}
+use Rattle.papaya_scenes.specs.Scene.{Scene}
+use Rattle.papaya_scenes.specs.Making.{MakingLeads}
 
 -- a making is over
 abbrev pub is_over : {T : Type 0} → Progress T → Bool
@@ -97,12 +98,12 @@ module _ {K V S : Type 0} (same : K → K → Bool) (hash : K → ℕ) (name : �
   abbrev pub MakingGoesOn : (i map : ℕ) → Progress Setting → List Effect → (old new : Logged K V S) → Type 0
   MakingGoesOn i map told did old new =
       (b : Beginning K) (here : s.makers i ≡ Some b) → b.map ≡ map
-      → (leads : MakingLeads same hash i told s old.executor new.executor)
+      → (leads : MakingLeads same (λ map. hash) i told s (held_by old.executor) (held_by new.executor))
       × (IsBare told (leads b here).0 → JustAsks b did)
       × ((of : Option ℕ)
       → StaysNew map told m (with_effects None of did m)
       × (WasNew map told m
-      → IsShown same hash name (with_effects None of did m) new (making_after same hash s old.executor new.executor i b (leads b here).0 (leads b here).2.step.w2 told (leads b here).3)))
+      → IsShown same hash name (with_effects None of did m) new (making_after same (λ map. hash) s (held_by old.executor) (held_by new.executor) i b (leads b here).0 (leads b here).2.step.w2 told (leads b here).3)))
 
 -- Where a making has come that began so, by what its last step told: it goes on, as another machine; or its map stands, as it was to be made; or it is over without
 -- a map. All else that is under way is so as before, and so are the uses of slots.
@@ -150,7 +151,7 @@ module _ {K V S : Type 0} where
   module _ (same : K → K → Bool) (hash : K → ℕ) (s : Scene K V) (i map : ℕ) (told : Progress Setting) (did : List Effect) (old new : Logged K V S) where
     -- The executor is there where the making has come,
     abbrev pub MakingIsAt : Type 0
-    MakingIsAt = (b : Beginning K) → s.makers i ≡ Some b → b.map ≡ map → (s2 : Scene K V) × MakingCame s s2 i b told × IsAt same hash new.executor s2
+    MakingIsAt = (b : Beginning K) → s.makers i ≡ Some b → b.map ≡ map → (s2 : Scene K V) × MakingCame s s2 i b told × IsThere same hash new.executor s2
 
     -- and so it is shown, whether the map is there or not; if it stands then, it was there as a new one. If it was refused it did nothing but ask for growths.
     abbrev pub MakingIsShown : (ℕ → List ℕ) → Moment K V → Type 0
@@ -165,7 +166,7 @@ module _ {K V S : Type 0} where
   abbrev pub MakingRan : (i map : ℕ) → Progress Setting → (before after : List Effect) → (old new : Logged K V S) → Type 0
   MakingRan i map told before after old new =
       (did : List Effect) × (after ≡ before ++ did)
-      × ((same : K → K → Bool) (hash : K → ℕ) (s : Scene K V) → IsAt same hash old.executor s → MakingIsAt same hash s i map told did old new)
+      × ((same : K → K → Bool) (hash : K → ℕ) (s : Scene K V) → IsThere same hash old.executor s → MakingIsAt same hash s i map told did old new)
       × ((same : K → K → Bool) (hash : K → ℕ) (name : ℕ → List ℕ) (m : Moment K V) (s : Scene K V) → IsShown same hash name m old s → MakingIsShown same hash s i map told did old new name m)
 
   -- Where the map comes by the next number, which the executor has given, with a root that is not used, the moment shows the executor as before.

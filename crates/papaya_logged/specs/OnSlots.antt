@@ -8,34 +8,35 @@ use Rattle.papaya_schedules.specs.Moment.{Moment}
 use Rattle.papaya_effects.specs.Effects.{effects_of}
 use Rattle.papaya_effects.specs.Known.{Known}
 use Rattle.papaya_effects.specs.declared.acting.Acting.TheVariants as acts
-use Rattle.papaya_executor.specs.IsAt.{Scene, IsAt, slot_of, work_of}
-use Rattle.papaya_executor.specs.OnSlots.{MayBegin, RowBegins, RowLeads, row_on}
-use Rattle.papaya_executor.specs.Rows.{request_of}
 use Rattle.papaya_executor.specs.declared.executor.Executor.{Executor}
-use Rattle.papaya_executor.specs.declared.row.RowTold.{RowTold}
-use Rattle.papaya_executor.specs.declared.row.RowTold.TheVariants as told
-use Rattle.papaya_executor.specs.declared.row.SlotCall.{SlotCall}
-use Rattle.papaya_executor.specs.declared.row.SlotRow.{SlotRow}
+use Rattle.papaya_scenes.specs.declared.row.RowTold.{RowTold}
+use Rattle.papaya_scenes.specs.declared.row.RowTold.TheVariants as told
+use Rattle.papaya_scenes.specs.declared.row.SlotCall.{SlotCall}
+use Rattle.papaya_scenes.specs.declared.row.SlotRow.{SlotRow}
 use Rattle.papaya_executor.specs.declared.worker.Work.TheVariants.{OnSlot}
 use Rattle.papaya_kept.specs.Given.Finishes.Maps.{Standing}
 use Rattle.papaya_kept.specs.Given.Others.Rows.{scene_then}
 use Rattle.papaya_logged.specs.Shown.{IsShown}
 use Rattle.papaya_logged.specs.declared.logged.Logged.{Logged}
+use Rattle.papaya_executor.specs.IsThere.{IsThere, held_by, work_of}
+use Rattle.papaya_executor.specs.OnSlots.{MayBegin, RowBeginsThere, RowStepsThere, row_on}
+use Rattle.papaya_scenes.specs.Scene.{IsOnSlot, Scene, slot_of}
+use Rattle.papaya_scenes.specs.OnSlots.{RowLeads}
 
 module _ {K V S : Type 0} (same : K → K → Bool) (hash : K → ℕ) (name : ℕ → List ℕ) (m : Moment K V) (s : Scene K V) where
   -- A row that may begin on the caller's slot is under way, and the moment shows that, as it is.
   abbrev pub OnSlotBegins : SlotCall → ℕ → (old new : Logged K V S) → Type 0
   OnSlotBegins called i old new =
       (may : MayBegin old.executor (slot_of i) called)
-      → (leads : RowBegins same hash called i s old.executor new.executor)
-      × IsShown same hash name m new (scene_then same hash (Begin i (request_of (slot_of i) called)) s old.executor new.executor (leads may).3)
+      → (leads : RowBeginsThere same hash called i s old.executor new.executor)
+      × IsShown same hash name m new (record s { world = (leads may).3.2.0; maps = (leads may).3.2.2 })
 
   -- A step of a caller's row, which did this: the moment after it shows where the step has led.
   abbrev pub OnSlotGoesOn : ℕ → RowTold (Node K V) → List Effect → (old new : Logged K V S) → Type 0
   OnSlotGoesOn i said did old new =
       (row : SlotRow) (here : work_of old.executor i ≡ Some (OnSlot row))
-      → (leads : RowLeads same hash i said s old.executor new.executor)
-      × IsShown same hash name (with_effects None None did m) new (scene_then same hash (Step i) s old.executor new.executor (leads row here).4)
+      → (on : IsOnSlot s i row) × (leads : RowLeads same (λ map. hash) i said s (held_by old.executor) (held_by new.executor))
+      × IsShown same hash name (with_effects None None did m) new (scene_then same (λ map. hash) (Step i) s (held_by old.executor) (held_by new.executor) (leads row on).2)
 
   -- Steps of a row, which did this: the same of all of it. Others have under way what they had.
   abbrev pub OnSlotRuns : List Effect → Logged K V S → Type 0
@@ -59,8 +60,8 @@ module _ {K V S : Type 0} where
   abbrev pub OnSlotRan : (before after : List Effect) → (old new : Logged K V S) → Type 0
   OnSlotRan before after old new =
       (did : List Effect) × (after ≡ before ++ did)
-      × ((same : K → K → Bool) (hash : K → ℕ) (s : Scene K V) → IsAt same hash old.executor s
-      → (w : World (Node K V)) × (maps : ℕ → Option (Standing K)) × IsAt same hash new.executor (record s { world = w; maps = maps }))
+      × ((same : K → K → Bool) (hash : K → ℕ) (s : Scene K V) → IsThere same hash old.executor s
+      → (w : World (Node K V)) × (maps : ℕ → Option (Standing K)) × IsThere same hash new.executor (record s { world = w; maps = maps }))
       × ((same : K → K → Bool) (hash : K → ℕ) (name : ℕ → List ℕ) (m : Moment K V) (s : Scene K V) → IsShown same hash name m old s → OnSlotRuns same hash name m s did new)
 
   -- This was told of the last step of the row, which ended it, unless it waits: then it is under way still.
@@ -70,7 +71,7 @@ module _ {K V S : Type 0} where
 module _ {K V S : Type 0} (i : ℕ) where
   -- a step of the caller's row, in whatever scene the executor is there
   abbrev pub StepsOn : RowTold (Node K V) → (old new : Executor K V S) → Type 0
-  StepsOn said old new = (same : K → K → Bool) (hash : K → ℕ) (s : Scene K V) → IsAt same hash old s → RowLeads same hash i said s old new
+  StepsOn said old new = (same : K → K → Bool) (hash : K → ℕ) (s : Scene K V) → IsThere same hash old s → RowStepsThere same hash i said s old new
 
   -- so many of them, after none of which the row has ended, or waits
   abbrev pub GoesOnFor : ℕ → (old new : Executor K V S) → Type 0

@@ -9,26 +9,28 @@ use Rattle.papaya_schedules.specs.Effects.{with_effects, AtEachEffect}
 use Rattle.papaya_schedules.specs.Moment.{Moment}
 use Rattle.papaya_effects.specs.Known.{known}
 use Rattle.papaya_reclaims.specs.Reclaims.{AllIsReclaimed}
-use Rattle.papaya_executor.specs.IsAt.{Scene, IsAt}
-use Rattle.papaya_reclaiming.specs.Reclaiming.{IsReclaiming, MayReclaim, NobodyHas, ReclaimingLeads}
+use Rattle.papaya_reclaiming.specs.Reclaiming.{IsReclaimingThere, MayReclaim, NobodyHas}
 use Rattle.papaya_kept.specs.Given.Spots.OnSlots.{WaitUnreclaimed}
 use Rattle.papaya_kept.specs.Given.Moments.OnSlots.{HadRetired}
 use Rattle.papaya_kept.specs.Given.Moments.Whole.{ShowsWhole}
 use Rattle.papaya_kept.specs.Kept.{ShowsKept}
 use Rattle.papaya_logged.specs.Shown.{AreNumbered, IsShown}
 use Rattle.papaya_logged.specs.declared.logged.Logged.{Logged}
+use Rattle.papaya_executor.specs.IsThere.{IsThere, held_by}
+use Rattle.papaya_scenes.specs.Scene.{Scene}
+use Rattle.papaya_scenes.specs.Reclaiming.{ReclaimingLeads}
 
 module _ {K V S : Type 0} (same : K → K → Bool) (hash : K → ℕ) (name : ℕ → List ℕ) where
   -- All is being reclaimed, it is so far, and these lists are behind the roots still; and a moment shows the scene with the notes, of which all is so that every step keeps.
   pub record ReclaimingIsShown (m : Moment K V) (l : Logged K V S) (s : Scene K V) (i : ℕ) (lists : ℕ → List ℕ) (all : ReclaimAll) : Type 0 where
-    pub under_way : IsReclaiming same hash l.executor s i lists all
+    pub under_way : IsReclaimingThere same hash l.executor s i lists all
     pub shows : ShowsWhole same name m (known l.notes) s
     pub kept : ShowsKept name m (known l.notes) s
     pub numbered : AreNumbered m l
 
   -- So it is once all is reclaimed, when nothing is left over, whatever the moment tells of that.
   pub record AllIsShown (m : Moment K V) (l : Logged K V S) (s : Scene K V) : Type 0 where
-    pub is_at : IsAt same hash l.executor s
+    pub is_at : IsThere same hash l.executor s
     pub shows : ShowsWhole same name m (known l.notes) s
     pub kept : ShowsKept name m (known l.notes) s
     pub numbered : AreNumbered m l
@@ -48,7 +50,7 @@ module _ {K V S : Type 0} where
   abbrev pub ReclaimingGoesOn : (same : K → K → Bool) (hash : K → ℕ) → (ℕ → List ℕ) → Moment K V → Scene K V → ℕ → (ℕ → List ℕ) → (before after : ReclaimAll) → Settled (Node K V) → List Effect
       → (old new : Logged K V S) → Type 0
   ReclaimingGoesOn same hash name m s i lists before after told did old new =
-      (leads : ReclaimingLeads same hash s i lists old.executor new.executor before after told)
+      (leads : ReclaimingLeads same (λ map. hash) s i lists (held_by old.executor) (held_by new.executor) before after told)
       × ReclaimRetired did m
       × ReclaimingThen same hash name (with_effects None None did m) s i lists (record s { world = leads.1.w2; maps = leads.1.maps2 }) leads.1.lists2 after old new told
 
@@ -72,8 +74,8 @@ module _ {K V S : Type 0} where
   abbrev pub ReclaimingSoFar : (first now : ReclaimAll) → (before after : List Effect) → (old mid : Logged K V S) → Type 0
   ReclaimingSoFar first now before after old mid =
       (did : List Effect) × (after ≡ before ++ did)
-      × ((same : K → K → Bool) (hash : K → ℕ) (s : Scene K V) (i : ℕ) (lists : ℕ → List ℕ) → IsReclaiming same hash old.executor s i lists first
-      → (s2 : Scene K V) × (lists2 : ℕ → List ℕ) × IsReclaiming same hash mid.executor s2 i lists2 now)
+      × ((same : K → K → Bool) (hash : K → ℕ) (s : Scene K V) (i : ℕ) (lists : ℕ → List ℕ) → IsReclaimingThere same hash old.executor s i lists first
+      → (s2 : Scene K V) × (lists2 : ℕ → List ℕ) × IsReclaimingThere same hash mid.executor s2 i lists2 now)
       × ((same : K → K → Bool) (hash : K → ℕ) (name : ℕ → List ℕ) (m : Moment K V) (s : Scene K V) (i : ℕ) (lists : ℕ → List ℕ) → ReclaimingIsShown same hash name m old s i lists first
       → (s2 : Scene K V) × (lists2 : ℕ → List ℕ) × ReclaimingCame s s2 × ReclaimingIsShown same hash name (with_effects None None did m) mid s2 i lists2 now × ReclaimRetired did m)
 

@@ -10,8 +10,9 @@ use Rattle.papaya_kept.specs.Given.Resize.NewMap.{opening}
 use Rattle.papaya_schedules.specs.declared.effect.Effect.{Effect}
 use Rattle.papaya_schedules.specs.InTurn.{has_grown}
 use Rattle.papaya_kept.specs.Given.Finishes.Makings.{Beginning}
-use Rattle.papaya_executor.specs.IsAt.{Scene, IsAt}
 use Rattle.papaya_logged.specs.declared.logged.Logged.{Logged}
+use Rattle.papaya_executor.specs.IsThere.{IsThere}
+use Rattle.papaya_scenes.specs.Scene.{Scene}
 
 -- of so many roots these are taken, and the others are free
 abbrev pub AreTaken : {T : Type 0} → ℕ → (ℕ → Bool) → Mem T → Type 0
@@ -37,7 +38,7 @@ module _ {K V S : Type 0} where
   -- So does one that has just begun, if its table is not too long.
   abbrev pub MakingFinds : (i map : ℕ) → Progress Setting → (before after : List Effect) → (old new : Logged K V S) → Type 0
   MakingFinds i map told before after old new =
-      (same : K → K → Bool) (hash : K → ℕ) (s : Scene K V) → IsAt same hash old.executor s → (b : Beginning K) → s.makers i ≡ Some b → b.map ≡ map
+      (same : K → K → Bool) (hash : K → ℕ) (s : Scene K V) → IsThere same hash old.executor s → (b : Beginning K) → s.makers i ≡ Some b → b.map ≡ map
       → b.machine ≡ opening b.given old.executor.roots b.places → max b.places 8 ≤ 2 ^ 48
       → (taken : ℕ → Bool) → AreTaken old.executor.roots taken old.executor.memory.memory
       → (did : List Effect) × (after ≡ before ++ did) × FindsRoot old.executor.roots taken did new.executor.memory.memory told

@@ -2,13 +2,14 @@
 use Rattle.std.specs.Prelude.{ℕ, Bool, List, length}
 use Rattle.papaya_schedules.specs.Moment.{Moment}
 use Rattle.papaya_effects.specs.Known.{known}
-use Rattle.papaya_executor.specs.IsAt.{Scene, IsAt}
 use Rattle.papaya_kept.specs.Given.Moments.Whole.{ShowsWhole}
 use Rattle.papaya_kept.specs.Kept.{ShowsKept}
 use Rattle.papaya_remains.specs.Numbered.{NumbersUpTo}
 use Rattle.papaya_remains.specs.Remains.{ShowsRemains}
 use Rattle.papaya_remains.specs.Slots.{SlotsNoted}
 use Rattle.papaya_logged.specs.declared.logged.Logged.{Logged}
+use Rattle.papaya_executor.specs.IsThere.{IsThere}
+use Rattle.papaya_scenes.specs.Scene.{Scene}
 
 -- Numbers of maps are below the next one that the executor gives, and slots are noted where there are some;
 pub record AreNumbered {K V S : Type 0} (m : Moment K V) (l : Logged K V S) : Type 0 where
@@ -22,7 +23,7 @@ pub record IsCounted {K V S : Type 0} (m : Moment K V) (l : Logged K V S) (s : S
 
 -- The executor is there, in this scene, which the moment shows with the notes, and of which all is so that every step keeps; and its numbers and roots are so. Callers have these names.
 pub record IsShown {K V S : Type 0} (same : K → K → Bool) (hash : K → ℕ) (name : ℕ → List ℕ) (m : Moment K V) (l : Logged K V S) (s : Scene K V) : Type 0 where
-  pub is_at : IsAt same hash l.executor s
+  pub is_at : IsThere same hash l.executor s
   pub shows : ShowsWhole same name m (known l.notes) s
   pub kept : ShowsKept name m (known l.notes) s
   pub counted : IsCounted m l s

@@ -1,18 +1,19 @@
 //! Calls begin, take steps, and are told what they ask.
 ghost use Rattle.std.specs.Prelude.{◌≡◌, ◌<◌, ◌+◌, ◌*◌, ℕ, Bool, List, length, IfOk, IfErr};
 ghost use Rattle.papaya_schedules.specs.Moment.{Moment};
-ghost use Rattle.papaya_executor.specs.Beginning.{IsRefused};
-ghost use Rattle.papaya_executor.specs.IsAt.{Scene, IsAt, HasCall, KeepsGiven};
-ghost use Rattle.papaya_executor.specs.Replying.{AskLeads, ReplyLeads, StopLeads};
-ghost use Rattle.papaya_executor.specs.declared.worker.TheConstants.{SLOTS};
+ghost use Rattle.papaya_scenes.specs.declared.callers.TheConstants.{SLOTS};
 ghost use Rattle.papaya_logged.specs.Calling.{CallBegins, CallGoesOn, CallTakes, MakesNoMore, WalkGoesOn, WalkStops};
 ghost use Rattle.papaya_logged.specs.Shown.{IsShown};
+ghost use Rattle.papaya_executor.specs.Beginning.{IsRefused};
+ghost use Rattle.papaya_executor.specs.IsThere.{IsThere, KeepsGiven};
+ghost use Rattle.papaya_executor.specs.Replying.{AsksThere, RepliesThere, StopsThere};
+ghost use Rattle.papaya_scenes.specs.Scene.{HasCall, Scene};
 
 use crate::logged::Logged;
 use papaya_effects::acting::Acting;
-use papaya_executor::worker::SLOTS;
 use papaya_raw::machines::{Machine, Progress, Reply};
 use papaya_raw::{Hashes, Node};
+use papaya_scenes::callers::SLOTS;
 use papaya_schedules::effect::Effect;
 use std::alloc::AllocError;
 use std::hash::Hash;
@@ -35,11 +36,11 @@ impl<K: Drop, V: Drop, S> Logged<K, V, S> {
 
     /// Tells the call of a caller what it asks for. It hands back a reply that the call does not take.
     pub fn reply(&mut self, caller: u64, reply: Reply<V>) -> Result<(), Reply<V>>
-        requires { (same : K → K → Bool) × (hash : K → ℕ) × (s : Scene K V) × IsAt same hash self.old.executor s × HasCall s caller }
+        requires { (same : K → K → Bool) × (hash : K → ℕ) × (s : Scene K V) × IsThere same hash self.old.executor s × HasCall s caller }
         ensures leads { (same : K → K → Bool) (hash : K → ℕ) (name : ℕ → List ℕ) (m : Moment K V) (s : Scene K V) → IsShown same hash name m self.old s
             → CallTakes same hash name m s caller reply result self.old self.new }
-        ensures taken { (same : K → K → Bool) (hash : K → ℕ) (s : Scene K V) → IsAt same hash self.old.executor s
-            → ReplyLeads same hash caller reply result s self.old.executor self.new.executor }
+        ensures taken { (same : K → K → Bool) (hash : K → ℕ) (s : Scene K V) → IsThere same hash self.old.executor s
+            → RepliesThere same hash caller reply result s self.old.executor self.new.executor }
         ensures given { KeepsGiven self.old.executor self.new.executor }
         ensures notes { self.new.notes ≡ self.old.notes }
     {
@@ -48,11 +49,11 @@ impl<K: Drop, V: Drop, S> Logged<K, V, S> {
 
     /// Asks the walk of a caller for its next pair, and answers whether it was ready.
     pub fn next(&mut self, caller: u64) -> bool
-        requires { (same : K → K → Bool) × (hash : K → ℕ) × (s : Scene K V) × IsAt same hash self.old.executor s × HasCall s caller }
+        requires { (same : K → K → Bool) × (hash : K → ℕ) × (s : Scene K V) × IsThere same hash self.old.executor s × HasCall s caller }
         ensures leads { (same : K → K → Bool) (hash : K → ℕ) (name : ℕ → List ℕ) (m : Moment K V) (s : Scene K V) → IsShown same hash name m self.old s
             → WalkGoesOn same hash name m s caller result self.old self.new }
-        ensures asked { (same : K → K → Bool) (hash : K → ℕ) (s : Scene K V) → IsAt same hash self.old.executor s
-            → AskLeads same hash caller result s self.old.executor self.new.executor }
+        ensures asked { (same : K → K → Bool) (hash : K → ℕ) (s : Scene K V) → IsThere same hash self.old.executor s
+            → AsksThere same hash caller result s self.old.executor self.new.executor }
         ensures given { KeepsGiven self.old.executor self.new.executor }
         ensures notes { self.new.notes ≡ self.old.notes }
     {
@@ -61,11 +62,11 @@ impl<K: Drop, V: Drop, S> Logged<K, V, S> {
 
     /// Gives the walk of a caller up, and answers whether it was ready. Any other call goes on as it was.
     pub fn stop(&mut self, caller: u64) -> bool
-        requires { (same : K → K → Bool) × (hash : K → ℕ) × (s : Scene K V) × IsAt same hash self.old.executor s × HasCall s caller }
+        requires { (same : K → K → Bool) × (hash : K → ℕ) × (s : Scene K V) × IsThere same hash self.old.executor s × HasCall s caller }
         ensures leads { (same : K → K → Bool) (hash : K → ℕ) (name : ℕ → List ℕ) (m : Moment K V) (s : Scene K V) → IsShown same hash name m self.old s
             → WalkStops same hash name m s caller result self.old self.new }
-        ensures stopped { (same : K → K → Bool) (hash : K → ℕ) (s : Scene K V) → IsAt same hash self.old.executor s
-            → StopLeads same hash caller result s self.old.executor self.new.executor }
+        ensures stopped { (same : K → K → Bool) (hash : K → ℕ) (s : Scene K V) → IsThere same hash self.old.executor s
+            → StopsThere same hash caller result s self.old.executor self.new.executor }
         ensures given { KeepsGiven self.old.executor self.new.executor }
         ensures notes { self.new.notes ≡ self.old.notes }
     {
@@ -83,7 +84,7 @@ impl<K: Eq + Hash + Drop, V: Drop, S: Hashes<K>> Logged<K, V, S> {
         refuse: bool,
         effects: &mut Vec<Effect>,
     ) -> Result<Progress<Node<K, V>>, AllocError>
-        requires { (s : Scene K V) × IsAt K.eq (S.hash self.old.executor.hasher) self.old.executor s × HasCall s caller }
+        requires { (s : Scene K V) × IsThere K.eq (S.hash self.old.executor.hasher) self.old.executor s × HasCall s caller }
         ensures leads { IfOk result (λ progress. (name : ℕ → List ℕ) (m : Moment K V) (s : Scene K V) → IsShown K.eq (S.hash self.old.executor.hasher) name m self.old s
             → CallGoesOn K.eq (S.hash self.old.executor.hasher) name m s caller map progress effects.old.items effects.new.items self.old self.new) }
         ensures refused { IfOk result (λ progress. MakesNoMore refuse effects.old.items effects.new.items) }

@@ -5,21 +5,22 @@ ghost use Rattle.papaya_effects.specs.Known.{known};
 ghost use Rattle.papaya_effects.specs.declared.acting.Acting.TheVariants.{Ending};
 ghost use Rattle.papaya_schedules.specs.Moment.{Moment};
 ghost use Rattle.papaya_kept.specs.Given.Tables.declared.setting.Setting.{Setting};
-ghost use Rattle.papaya_executor.specs.Beginning.{IsRefused};
-ghost use Rattle.papaya_executor.specs.Ending.{EndingLeads};
-ghost use Rattle.papaya_executor.specs.IsAt.{Scene, IsAt, IsEnding, KeepsGiven};
-ghost use Rattle.papaya_executor.specs.declared.worker.TheConstants.{SLOTS};
+ghost use Rattle.papaya_scenes.specs.declared.callers.TheConstants.{SLOTS};
 ghost use Rattle.papaya_logged.specs.Back.{EndBringsBack};
 ghost use Rattle.papaya_logged.specs.Ends.{EndIsBegun, EndSteps, EndRan, EndIsOver, is_done};
 ghost use Rattle.papaya_logged.specs.Goes.{EndGone};
 ghost use Rattle.papaya_logged.specs.Shown.{IsShown};
+ghost use Rattle.papaya_executor.specs.Beginning.{IsRefused};
+ghost use Rattle.papaya_executor.specs.Ending.{EndsThere};
+ghost use Rattle.papaya_executor.specs.IsThere.{IsThere, KeepsGiven};
+ghost use Rattle.papaya_scenes.specs.Scene.{IsEnding, Scene};
 
 use crate::back::keep_settled;
 use crate::logged::Logged;
 use papaya_effects::acting::Acting;
-use papaya_executor::worker::SLOTS;
 use papaya_raw::Node;
 use papaya_runs::record::Pair;
+use papaya_scenes::callers::SLOTS;
 use papaya_schedules::effect::Effect;
 use seize::rows::Settled;
 use std::alloc::AllocError;
@@ -59,10 +60,10 @@ impl<K: Drop, V: Drop, S> Logged<K, V, S> {
         map: u64,
         effects: &mut Vec<Effect>,
     ) -> Result<Settled<Node<K, V>>, AllocError>
-        requires { (same : K → K → Bool) × (hash : K → ℕ) × (s : Scene K V) × IsAt same hash self.old.executor s × IsEnding s caller }
+        requires { (same : K → K → Bool) × (hash : K → ℕ) × (s : Scene K V) × IsThere same hash self.old.executor s × IsEnding s caller }
         ensures leads { IfOk result (λ told. EndSteps caller map told effects.old.items effects.new.items self.old self.new) }
-        ensures steps { IfOk result (λ told. (same : K → K → Bool) (hash : K → ℕ) (s : Scene K V) → IsAt same hash self.old.executor s
-            → EndingLeads same hash caller told s self.old.executor self.new.executor) }
+        ensures steps { IfOk result (λ told. (same : K → K → Bool) (hash : K → ℕ) (s : Scene K V) → IsThere same hash self.old.executor s
+            → EndsThere same hash caller told s self.old.executor self.new.executor) }
         ensures did { IfOk result (λ told. effects.new.items ≡ effects.old.items ++ effects_of (Ending map) (known self.old.notes) self.new.executor.memory.changed) }
         ensures noted { IfOk result (λ told. known self.new.notes ≡ known_after (Ending map) self.new.executor.memory.changed (known self.old.notes)) }
         ensures given { KeepsGiven self.old.executor self.new.executor }
@@ -81,7 +82,7 @@ impl<K: Drop, V: Drop, S> Logged<K, V, S> {
         effects: &mut Vec<Effect>,
         back: &mut Vec<Pair<K, V>>,
     ) -> Result<(), AllocError>
-        requires { (same : K → K → Bool) × (hash : K → ℕ) × (s : Scene K V) × IsAt same hash self.old.executor s × IsEnding s caller }
+        requires { (same : K → K → Bool) × (hash : K → ℕ) × (s : Scene K V) × IsThere same hash self.old.executor s × IsEnding s caller }
         ensures ran { IfOk result (λ done. EndRan caller map true effects.old.items effects.new.items self.old self.new) }
         ensures over { IfOk result (λ done. EndIsOver self.new) }
         ensures gone { IfOk result (λ done. EndGone caller map effects.old.items effects.new.items self.old self.new) }

@@ -3,9 +3,10 @@ ghost use Rattle.std.specs.Prelude.{◌≡◌, ◌++◌, ℕ, Bool, true, List, 
 ghost use Rattle.papaya_schedules.specs.Moment.{start};
 ghost use Rattle.papaya_effects.specs.Effects.{effects_of, known_after, HasNumber};
 ghost use Rattle.papaya_effects.specs.Known.{known, nothing_known};
-ghost use Rattle.papaya_executor.specs.IsAt.{KeepsGiven, at_first};
 ghost use Rattle.papaya_logged.specs.Choosing.{ChoiceIsShown, logged_chosen};
 ghost use Rattle.papaya_logged.specs.Shown.{IsShown};
+ghost use Rattle.papaya_executor.specs.IsThere.{KeepsGiven};
+ghost use Rattle.papaya_scenes.specs.Scene.{at_first};
 
 use papaya_effects::acting::Acting;
 use papaya_effects::notes::Notes;

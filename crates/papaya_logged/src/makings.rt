@@ -5,19 +5,20 @@ ghost use Rattle.papaya_effects.specs.Known.{known};
 ghost use Rattle.papaya_effects.specs.declared.acting.Acting.TheVariants.{Making};
 ghost use Rattle.papaya_kept.specs.Given.Finishes.Makings.{Beginning};
 ghost use Rattle.papaya_schedules.specs.Moment.{Moment};
-ghost use Rattle.papaya_executor.specs.Beginning.{IsRefused};
-ghost use Rattle.papaya_executor.specs.IsAt.{Scene, IsAt, IsMaking, StaysGiven, KeepsGiven};
-ghost use Rattle.papaya_executor.specs.Making.{MakingLeads};
-ghost use Rattle.papaya_executor.specs.declared.worker.TheConstants.{SLOTS};
+ghost use Rattle.papaya_scenes.specs.declared.callers.TheConstants.{SLOTS};
 ghost use Rattle.papaya_logged.specs.Goes.{MakingGone};
 ghost use Rattle.papaya_logged.specs.Makings.{MakingIsBegun, MakingSteps, MakingRan, MapIsThere, given_back, is_over, numbers_then};
 ghost use Rattle.papaya_logged.specs.Roots.{MakingFinds};
 ghost use Rattle.papaya_logged.specs.Shown.{IsShown};
+ghost use Rattle.papaya_executor.specs.Beginning.{IsRefused};
+ghost use Rattle.papaya_executor.specs.IsThere.{IsThere, KeepsGiven, StaysGiven};
+ghost use Rattle.papaya_executor.specs.Making.{MakesThere};
+ghost use Rattle.papaya_scenes.specs.Scene.{IsMaking, Scene};
 
 use crate::logged::Logged;
 use papaya_effects::acting::Acting;
-use papaya_executor::worker::SLOTS;
 use papaya_raw::Setting;
+use papaya_scenes::callers::SLOTS;
 use papaya_schedules::effect::Effect;
 use seize::Progress;
 use std::alloc::AllocError;
@@ -75,10 +76,10 @@ impl<K: Drop, V: Drop, S> Logged<K, V, S> {
         map: u64,
         effects: &mut Vec<Effect>,
     ) -> Result<Progress<Setting>, AllocError>
-        requires { (same : K → K → Bool) × (hash : K → ℕ) × (s : Scene K V) × IsAt same hash self.old.executor s × IsMaking s caller }
+        requires { (same : K → K → Bool) × (hash : K → ℕ) × (s : Scene K V) × IsThere same hash self.old.executor s × IsMaking s caller }
         ensures leads { IfOk result (λ told. MakingSteps caller map told effects.old.items effects.new.items self.old self.new) }
-        ensures steps { IfOk result (λ told. (same : K → K → Bool) (hash : K → ℕ) (s : Scene K V) → IsAt same hash self.old.executor s
-            → MakingLeads same hash caller told s self.old.executor self.new.executor) }
+        ensures steps { IfOk result (λ told. (same : K → K → Bool) (hash : K → ℕ) (s : Scene K V) → IsThere same hash self.old.executor s
+            → MakesThere same hash caller told s self.old.executor self.new.executor) }
         ensures numbers { IfOk result (λ told. length self.new.executor.maps.items ≡ length self.old.executor.maps.items) }
         ensures did { IfOk result (λ told. effects.new.items ≡ effects.old.items ++ effects_of (Making map) (known self.old.notes) self.new.executor.memory.changed) }
         ensures noted { IfOk result (λ told. known self.new.notes ≡ known_after (Making map) self.new.executor.memory.changed (known self.old.notes)) }
@@ -97,7 +98,7 @@ impl<K: Drop, V: Drop, S> Logged<K, V, S> {
         map: u64,
         effects: &mut Vec<Effect>,
     ) -> Result<Progress<Setting>, AllocError>
-        requires { (same : K → K → Bool) × (hash : K → ℕ) × (s : Scene K V) × IsAt same hash self.old.executor s × (b : Beginning K) × (s.makers caller ≡ Some b) × (b.map ≡ map) }
+        requires { (same : K → K → Bool) × (hash : K → ℕ) × (s : Scene K V) × IsThere same hash self.old.executor s × (b : Beginning K) × (s.makers caller ≡ Some b) × (b.map ≡ map) }
         ensures over { IfOk result (λ told. is_over told ≡ true) }
         ensures numbers { IfOk result (λ told. length self.new.executor.maps.items ≡ numbers_then map told (length self.old.executor.maps.items)) }
         ensures ran { IfOk result (λ told. MakingRan caller map told effects.old.items effects.new.items self.old self.new) }

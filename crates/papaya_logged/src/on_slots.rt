@@ -4,25 +4,26 @@ ghost use Rattle.papaya_schedules.specs.Moment.{Moment};
 ghost use Rattle.papaya_effects.specs.Effects.{effects_of, known_after};
 ghost use Rattle.papaya_effects.specs.Known.{known};
 ghost use Rattle.papaya_effects.specs.declared.acting.Acting.TheVariants.{Row};
-ghost use Rattle.papaya_executor.specs.Beginning.{IsRefused};
-ghost use Rattle.papaya_executor.specs.IsAt.{Scene, IsAt, KeepsGiven, work_of};
-ghost use Rattle.papaya_executor.specs.OnSlots.{RowLeads};
-ghost use Rattle.papaya_executor.specs.declared.row.SlotRow.{SlotRow};
-ghost use Rattle.papaya_executor.specs.declared.worker.TheConstants.{SLOTS};
+ghost use Rattle.papaya_scenes.specs.declared.row.SlotRow.{SlotRow};
+ghost use Rattle.papaya_scenes.specs.declared.callers.TheConstants.{SLOTS};
 ghost use Rattle.papaya_executor.specs.declared.worker.Work.TheVariants.{OnSlot};
 ghost use Rattle.papaya_logged.specs.Back.{BringsBack};
 ghost use Rattle.papaya_logged.specs.Ended.{has_ended, uses_ended};
 ghost use Rattle.papaya_logged.specs.Goes.{GoesTo, RowGoes, far};
 ghost use Rattle.papaya_logged.specs.OnSlots.{EndsTelling, OnSlotBegins, OnSlotSteps, OnSlotRan, OnSlotComes, OnSlotLast, has_come};
 ghost use Rattle.papaya_logged.specs.Shown.{IsShown};
+ghost use Rattle.papaya_executor.specs.Beginning.{IsRefused};
+ghost use Rattle.papaya_executor.specs.IsThere.{IsThere, KeepsGiven, work_of};
+ghost use Rattle.papaya_executor.specs.OnSlots.{RowStepsThere};
+ghost use Rattle.papaya_scenes.specs.Scene.{Scene};
 
 use crate::back::keep_row;
 use crate::logged::Logged;
 use papaya_effects::acting::Acting;
-use papaya_executor::row::{RowTold, SlotCall};
-use papaya_executor::worker::SLOTS;
 use papaya_raw::Node;
 use papaya_runs::record::Pair;
+use papaya_scenes::callers::SLOTS;
+use papaya_scenes::row::{RowTold, SlotCall};
 use papaya_schedules::effect::Effect;
 use std::alloc::AllocError;
 
@@ -59,10 +60,10 @@ impl<K: Drop, V: Drop, S> Logged<K, V, S> {
         caller: u64,
         effects: &mut Vec<Effect>,
     ) -> Result<RowTold<Node<K, V>>, AllocError>
-        requires { (same : K → K → Bool) × (hash : K → ℕ) × (s : Scene K V) × IsAt same hash self.old.executor s × (row : SlotRow) × (work_of self.old.executor caller ≡ Some (OnSlot row)) }
+        requires { (same : K → K → Bool) × (hash : K → ℕ) × (s : Scene K V) × IsThere same hash self.old.executor s × (row : SlotRow) × (work_of self.old.executor caller ≡ Some (OnSlot row)) }
         ensures leads { IfOk result (λ told. OnSlotSteps caller told effects.old.items effects.new.items self.old self.new) }
-        ensures steps { IfOk result (λ told. (same : K → K → Bool) (hash : K → ℕ) (s : Scene K V) → IsAt same hash self.old.executor s
-            → RowLeads same hash caller told s self.old.executor self.new.executor) }
+        ensures steps { IfOk result (λ told. (same : K → K → Bool) (hash : K → ℕ) (s : Scene K V) → IsThere same hash self.old.executor s
+            → RowStepsThere same hash caller told s self.old.executor self.new.executor) }
         ensures did { IfOk result (λ told. effects.new.items ≡ effects.old.items ++ effects_of Row (known self.old.notes) self.new.executor.memory.changed) }
         ensures noted { IfOk result (λ told. known self.new.notes ≡ known_after Row self.new.executor.memory.changed (known self.old.notes)) }
         ensures given { KeepsGiven self.old.executor self.new.executor }
@@ -81,7 +82,7 @@ impl<K: Drop, V: Drop, S> Logged<K, V, S> {
         effects: &mut Vec<Effect>,
         back: &mut Vec<Pair<K, V>>,
     ) -> Result<RowTold<Node<K, V>>, AllocError>
-        requires { (same : K → K → Bool) × (hash : K → ℕ) × (s : Scene K V) × IsAt same hash self.old.executor s × (row : SlotRow) × (work_of self.old.executor caller ≡ Some (OnSlot row)) }
+        requires { (same : K → K → Bool) × (hash : K → ℕ) × (s : Scene K V) × IsThere same hash self.old.executor s × (row : SlotRow) × (work_of self.old.executor caller ≡ Some (OnSlot row)) }
         ensures comes { IfOk result (λ told. OnSlotComes caller told self.new) }
         ensures last { IfOk result (λ told. OnSlotLast caller told self.old.executor self.new.executor) }
         ensures goes { IfOk result (λ told. GoesTo (RowGoes caller) (far effects.old.items self.old) (far effects.new.items self.new)) }

@@ -5,12 +5,13 @@ ghost use Rattle.papaya_effects.specs.Effects.{effects_of, known_after};
 ghost use Rattle.papaya_effects.specs.Known.{known};
 ghost use Rattle.papaya_effects.specs.declared.acting.Acting.TheVariants.{Row};
 ghost use Rattle.papaya_schedules.specs.Moment.{Moment};
-ghost use Rattle.papaya_executor.specs.IsAt.{Scene, KeepsGiven};
-ghost use Rattle.papaya_reclaiming.specs.Reclaiming.{NobodyHas, MayReclaim, IsReclaiming, ReclaimingLeads};
+ghost use Rattle.papaya_reclaiming.specs.Reclaiming.{IsReclaimingThere, MayReclaim, NobodyHas, ReclaimsThere};
 ghost use Rattle.papaya_logged.specs.Back.{AllBringsBack};
 ghost use Rattle.papaya_logged.specs.Goes.{ReclaimingGone};
 ghost use Rattle.papaya_logged.specs.Reclaims.{ReclaimingIsShown, ReclaimingRan, ReclaimingSteps};
 ghost use Rattle.papaya_logged.specs.Shown.{IsShown};
+ghost use Rattle.papaya_executor.specs.IsThere.{KeepsGiven};
+ghost use Rattle.papaya_scenes.specs.Scene.{Scene};
 
 use crate::back::keep_settled;
 use crate::ends::is_done;
@@ -40,10 +41,10 @@ impl<K: Drop, V: Drop, S> Logged<K, V, S> {
         reclaiming: &mut Reclaiming,
         effects: &mut Vec<Effect>,
     ) -> Result<Settled<Node<K, V>>, AllocError>
-        requires { (same : K → K → Bool) × (hash : K → ℕ) × (s : Scene K V) × (i : ℕ) × (lists : ℕ → List ℕ) × IsReclaiming same hash self.old.executor s i lists reclaiming.old.all }
+        requires { (same : K → K → Bool) × (hash : K → ℕ) × (s : Scene K V) × (i : ℕ) × (lists : ℕ → List ℕ) × IsReclaimingThere same hash self.old.executor s i lists reclaiming.old.all }
         ensures leads { IfOk result (λ told. ReclaimingSteps reclaiming.old.all reclaiming.new.all told effects.old.items effects.new.items self.old self.new) }
-        ensures steps { IfOk result (λ told. (same : K → K → Bool) (hash : K → ℕ) (s : Scene K V) (i : ℕ) (lists : ℕ → List ℕ) → IsReclaiming same hash self.old.executor s i lists reclaiming.old.all
-            → ReclaimingLeads same hash s i lists self.old.executor self.new.executor reclaiming.old.all reclaiming.new.all told) }
+        ensures steps { IfOk result (λ told. (same : K → K → Bool) (hash : K → ℕ) (s : Scene K V) (i : ℕ) (lists : ℕ → List ℕ) → IsReclaimingThere same hash self.old.executor s i lists reclaiming.old.all
+            → ReclaimsThere same hash s i lists self.old.executor self.new.executor reclaiming.old.all reclaiming.new.all told) }
         ensures did { IfOk result (λ told. effects.new.items ≡ effects.old.items ++ effects_of Row (known self.old.notes) self.new.executor.memory.changed) }
         ensures noted { IfOk result (λ told. known self.new.notes ≡ known_after Row self.new.executor.memory.changed (known self.old.notes)) }
         ensures given { KeepsGiven self.old.executor self.new.executor }

@@ -22,8 +22,7 @@ use Rattle.papaya_schedules.specs.Moment.{UnderWay as CallThere, Moment}
 use Rattle.papaya_schedules.specs.Terms.{Terms}
 use Rattle.papaya_scheduler.specs.Given.Callers.Together.{UnderWay}
 use Rattle.papaya_scheduler.specs.Given.Effects.Known.{known}
-use Rattle.papaya_scheduler.specs.Given.Executor.IsAt.{Scene, use_at}
-use Rattle.papaya_scheduler.specs.Given.Executor.declared.row.SlotUse.TheVariants as used
+use Rattle.papaya_scheduler.specs.Given.Scenes.declared.row.SlotUse.TheVariants as used
 use Rattle.papaya_scheduler.specs.Given.Finishes.Endings.{Finishing}
 use Rattle.papaya_scheduler.specs.Given.Finishes.Makings.{Beginning}
 use Rattle.papaya_scheduler.specs.Given.Finishes.Maps.{Standing}
@@ -49,6 +48,8 @@ use Rattle.papaya_scheduler.specs.declared.scheduler.Scheduler.{Scheduler}
 use Rattle.papaya_scheduler.proofs.Quiet.{stands_on}
 use Rattle.papaya_scheduler.proofs.RanOn.{both_true, maps_named, some_setting}
 use Rattle.papaya_scheduler.proofs.Rights.{entry, in_turn, out_of_turn, plays, quiet}
+use Rattle.papaya_scheduler.specs.Given.Executor.IsThere.{use_at}
+use Rattle.papaya_scheduler.specs.Given.Scenes.Scene.{Scene}
 
 empty_is : {X : Type 0} (xs : List X) → is_empty xs ≡ (length xs == 0)
 empty_is [] = refl
@@ -101,11 +102,11 @@ module _ {K V S : Type 0} (same : K → K → Bool) (hash : K → ℕ) (terms : 
     may_reclaim may = by (nat_lt 0 (known p.logged.notes).buckets) refl
       where
         by : (q : Bool) → nat_lt 0 (known p.logged.notes).buckets ≡ q → MayReclaim p.logged.executor s may.lists q
-        by true e = (may.left, subst (λ x. IsSome (word_at x (Slot 0 HEAD))) (sym stands.shown.is_at.memory) (may.slots.some (grind (arith, e))))
+        by true e = (may.left, subst (λ x. IsSome (word_at x (Slot 0 HEAD))) (sym stands.shown.is_at.held.memory) (may.slots.some (grind (arith, e))))
         by false e = (
           may.left,
-          never_taken p.logged.executor.batch_size p.logged.executor.roots 0 s.world stands.shown.is_at.together.makings.standing.came rests
-              (ap (λ x. word_at x (Slot 0 HEAD)) stands.shown.is_at.memory ∙ may.slots.none (grind (arith, e))),
+          never_taken p.logged.executor.batch_size p.logged.executor.roots 0 s.world stands.shown.is_at.held.together.makings.standing.came rests
+              (ap (λ x. word_at x (Slot 0 HEAD)) stands.shown.is_at.held.memory ∙ may.slots.none (grind (arith, e))),
         )
 
     module _ (lists : ℕ → List ℕ) (taken : Bool) (may : MayReclaim p.logged.executor s lists taken) (new : Logged K V S) (before after : List Effect) (empty : before ≡ [])

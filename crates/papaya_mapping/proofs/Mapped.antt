@@ -8,7 +8,6 @@ use Rattle.papaya_schedules.specs.Moment.{Remains, Sheltered, UnderWay as CallTh
 use Rattle.papaya_schedules.specs.Terms.{Terms}
 use Rattle.papaya_scheduler.specs.Given.Callers.Together.{UnderWay}
 use Rattle.papaya_scheduler.specs.Given.Effects.Known.{known}
-use Rattle.papaya_scheduler.specs.Given.Executor.IsAt.{Scene}
 use Rattle.papaya_scheduler.specs.Given.Finishes.Maps.{Standing}
 use Rattle.papaya_scheduler.specs.Given.Logged.Shown.{IsShown}
 use Rattle.papaya_scheduler.specs.Given.Logged.declared.logged.Logged.{Logged}
@@ -19,6 +18,7 @@ use Rattle.papaya_scheduler.specs.Played.{IsUnderWay, StandsFor}
 use Rattle.papaya_named.specs.Seen.{named, named_of, seen}
 use Rattle.papaya_named.specs.declared.named_map.NamedMap.{NamedMap}
 use Rattle.papaya_scheduler.specs.declared.scheduler.Scheduler.{Scheduler}
+use Rattle.papaya_scheduler.specs.Given.Scenes.Scene.{Scene}
 
 module _ {K V S : Type 0} (same : K → K → Bool) (hash : K → ℕ) (terms : Terms) (m : Moment K V) (p : Scheduler K V S) (stands : StandsFor same hash terms m p) (new : Logged K V S) (w : Moment K V)
     (s2 : Scene K V) (shown : IsShown same hash stands.name w new s2) (calls : s2.calls ≡ stands.scene.calls) (rows : s2.world.row ≡ stands.scene.world.row)

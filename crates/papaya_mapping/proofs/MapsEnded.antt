@@ -25,8 +25,6 @@ use Rattle.papaya_scheduler.proofs.Given.Callers.Together.At.{at_other, at_same}
 use Rattle.papaya_scheduler.specs.Given.Callers.Together.{UnderWay}
 use Rattle.papaya_scheduler.specs.Given.Effects.Known.{known}
 use Rattle.papaya_scheduler.specs.Given.Effects.declared.role.Role.TheVariants as role
-use Rattle.papaya_scheduler.specs.Given.Executor.Ending.{NoCallOn, ending_begun}
-use Rattle.papaya_scheduler.specs.Given.Executor.IsAt.{Scene, IsAt, IsEnding, ending_in}
 use Rattle.papaya_scheduler.specs.Given.Executor.declared.worker.Work.{Work}
 use Rattle.papaya_raw.specs.declared.machines.end_map.EndMap.{EndMap as EndMachine}
 use Rattle.papaya_scheduler.specs.Given.Finishes.Makings.{Beginning}
@@ -65,6 +63,10 @@ use Rattle.papaya_scheduler.proofs.Maps.{map_some, number_is}
 use Rattle.papaya_scheduler.proofs.Quiet.{stands_on}
 use Rattle.papaya_scheduler.proofs.RanOn.{both_true, there_stays}
 use Rattle.papaya_scheduler.proofs.Rights.{entry, in_turn, out_of_turn, plays, quiet}
+use Rattle.papaya_scheduler.specs.Given.Executor.Ending.{NoCallOn}
+use Rattle.papaya_scheduler.specs.Given.Executor.IsThere.{IsThere, ending_in}
+use Rattle.papaya_scheduler.specs.Given.Scenes.Ending.{ending_begun}
+use Rattle.papaya_scheduler.specs.Given.Scenes.Scene.{IsEnding, Scene}
 
 -- what ends with a map is nothing to which maps are there
 module _ {K V : Type 0} (acted : Option ℕ) where
@@ -152,7 +154,7 @@ module _ {K V S : Type 0} (same : K → K → Bool) (hash : K → ℕ) (terms : 
         pub shown_mid : IsShown same hash stands.name m mid s1
         shown_mid = (begun no_call).4
 
-        pub may_run : (t : Scene K V) × IsAt same hash mid.executor t × IsEnding t i
+        pub may_run : (t : Scene K V) × IsThere same hash mid.executor t × IsEnding t i
         may_run = (s1, shown_mid.is_at, (f, here))
 
         -- what the end reclaims comes back
@@ -263,7 +265,7 @@ module _ {K V S : Type 0} (same : K → K → Bool) (hash : K → ℕ) (terms : 
               by : (o : Option (Finishing K V)) → s.enders j ≡ o → s.enders j ≡ None
               by None e = e
               by (Some g) e =
-                  let idle = stands.rests j (stands.shown.is_at.together.alone j g e).0 in
+                  let idle = stands.rests j (stands.shown.is_at.held.together.alone j g e).0 in
                   absurd (let one : ◌≡◌ {A = Option EndMachine} (Some g.machine) None =
                   sym (ap (option_map (λ (x : Finishing K V). x.machine)) e) ∙ stands.shown.is_at.enders j ∙ ap (λ (o : Option (Work K V)). ending_in o) idle in cc one)
 
@@ -298,9 +300,9 @@ module _ {K V S : Type 0} (same : K → K → Bool) (hash : K → ℕ) (terms : 
             where
               nobodys : IsSomebodys s2.maps s2.makers s2.enders its.0.root → ⊥
               nobodys (inl (n, st, stands_there, is)) =
-                  shown_mid.is_at.together.roots_apart i n f st here (sym (ap (λ (g : ℕ → Option (Standing K)). g n) u.2.maps) ∙ stands_there) (sym its_root ∙ sym is)
+                  shown_mid.is_at.held.together.roots_apart i n f st here (sym (ap (λ (g : ℕ → Option (Standing K)). g n) u.2.maps) ∙ stands_there) (sym its_root ∙ sym is)
               nobodys (inr (inl (j, b, makes, taken, is))) =
-                  shown_mid.is_at.together.makings_roots i j f b here (sym (ap (λ (g : ℕ → Option (Beginning K)). g j) u.2.makers) ∙ makes) taken (sym its_root ∙ sym is)
+                  shown_mid.is_at.held.together.makings_roots i j f b here (sym (ap (λ (g : ℕ → Option (Beginning K)). g j) u.2.makers) ∙ makes) taken (sym its_root ∙ sym is)
               nobodys (inr (inr (j, g, ends, is))) = (let none = nobody_then j in cc (none, ends))
 
           noted_is : map (known new.notes).roles (lists its.0.root) ≡ map role.Pair pairs

@@ -30,8 +30,6 @@ use Rattle.papaya_schedules.specs.Terms.{Terms}
 use Rattle.papaya_schedules.specs.Views.{map_of, number_of}
 use Rattle.papaya_named.specs.Places.{IsFirstLen}
 use Rattle.papaya_scheduler.proofs.Given.Callers.Together.At.{at_other, at_same}
-use Rattle.papaya_scheduler.specs.Given.Executor.IsAt.{Scene, IsAt}
-use Rattle.papaya_scheduler.specs.Given.Executor.MakingBegins.{next_making}
 use Rattle.papaya_scheduler.specs.Given.Finishes.Endings.{Finishing}
 use Rattle.papaya_scheduler.specs.Given.Finishes.Makings.{Beginning}
 use Rattle.papaya_scheduler.specs.Given.Finishes.Maps.{Standing}
@@ -60,6 +58,9 @@ use Rattle.papaya_scheduler.proofs.Maps.{map_some}
 use Rattle.papaya_scheduler.proofs.RanOn.{maps_named, there_stays}
 use Rattle.papaya_scheduler.proofs.Rights.{entry, in_turn, out_of_turn, plays, quiet}
 use Rattle.papaya_mapping.proofs.RootsUsed.{all_used, some_free}
+use Rattle.papaya_scheduler.specs.Given.Executor.IsThere.{IsThere}
+use Rattle.papaya_scheduler.specs.Given.Executor.MakingBegins.{next_making}
+use Rattle.papaya_scheduler.specs.Given.Scenes.Scene.{Scene}
 
 module _ {K V S : Type 0} (same : K → K → Bool) (hash : K → ℕ) (terms : Terms) (log : List (Entry K V)) (p : Scheduler K V S) (own : List ℕ) (mode : ResizeMode) (capacity : ℕ)
     (may : MayMap same hash terms log (MakeMap own mode capacity) p) where
@@ -146,17 +147,17 @@ module _ {K V S : Type 0} (same : K → K → Bool) (hash : K → ℕ) (terms : 
         shown_mid = begins may.lawful (subst IsPowerOfTwo (sym is_given.initial) first.0) is_given.batches small_mask some (λ l. first.1)
 
         module _ (number : ℕ) (is_number : number ≡ length p.logged.executor.maps.items) where
-          pub may_run : (t : Scene K V) × IsAt same hash mid.executor t × (d : Beginning K) × (t.makers i ≡ Some d) × (d.map ≡ number)
+          pub may_run : (t : Scene K V) × IsThere same hash mid.executor t × (d : Beginning K) × (t.makers i ≡ Some d) × (d.map ≡ number)
           may_run = (s1, shown_mid.is_at, b, here, sym is_number)
 
           module _ (told : Progress Setting) (new : Logged K V S) (before after : List Effect) (empty : before ≡ []) (ran : MakingRan i number told before after mid new)
               (finds : MakingFinds i number told before after mid new) where
             -- it has found its root
             as_many : p.logged.executor.roots ≡ mid.executor.roots
-            as_many = (shown_mid.is_at.together.makings.facts i b here).roots_are
+            as_many = (shown_mid.is_at.held.together.makings.facts i b here).roots_are
 
             same_memory : p.logged.executor.memory.memory ≡ mid.executor.memory.memory
-            same_memory = sym stands.shown.is_at.memory ∙ shown_mid.is_at.memory
+            same_memory = sym stands.shown.is_at.held.memory ∙ shown_mid.is_at.held.memory
 
             taken_mid : AreTaken mid.executor.roots (λ q. is_among q used) mid.executor.memory.memory
             taken_mid =
@@ -292,7 +293,7 @@ module _ {K V S : Type 0} (same : K → K → Bool) (hash : K → ℕ) (terms : 
             -- a map that stood stands on
             stood : (t : NamedMap) → ((standing : Standing K) × (s.maps t.number ≡ Some standing)) → (standing : Standing K) × (u.0.maps t.number ≡ Some standing)
             stood t st =
-                (st.0, u.1.maps.others t.number (λ one. (let gone = ap s.maps one ∙ shown_mid.is_at.together.makings.coming i b here in let is = st.1 in cc (gone, is))) ∙ st.1)
+                (st.0, u.1.maps.others t.number (λ one. (let gone = ap s.maps one ∙ shown_mid.is_at.held.together.makings.coming i b here in let is = st.1 in cc (gone, is))) ∙ st.1)
 
             pub made : (p2 : Scheduler K V S) → p2 ≡ record p { logged = new; maps = p2.maps; is_mapped = p2.is_mapped } → p2.is_mapped ≡ true
                 → p2.maps ≡ p.maps ++ record { name = own; number = number } ∷ [] → Plays same hash terms log (entry event Done 0 after) p2

@@ -3,11 +3,11 @@ ghost use Rattle.std.specs.Prelude.{◌≡◌, ◌≤◌, ◌^◌, ℕ, Bool, Li
 ghost use Rattle.papaya_schedules.specs.Entry.{Entry};
 ghost use Rattle.papaya_schedules.specs.Terms.{Terms};
 ghost use Rattle.papaya_schedules.specs.declared.event.Event.TheVariants as event;
-ghost use Rattle.papaya_scheduler.specs.Given.Executor.IsAt.{StaysGiven};
 ghost use Rattle.papaya_scheduler.specs.Mapping.{MayMap, PlaysMaking, IsGivenFor, numbers_made};
 ghost use Rattle.papaya_named.specs.Seen.{number_named};
 ghost use Rattle.papaya_scheduler.specs.Quiet.{IsQuiet};
 ghost use Rattle.papaya_scheduler.specs.Works.{WorksOnMap};
+ghost use Rattle.papaya_scheduler.specs.Given.Executor.IsThere.{StaysGiven};
 
 use papaya_named::named_map::NamedMap;
 use papaya_named::places::places_for;

@@ -3,7 +3,6 @@ ghost use Rattle.std.specs.Prelude.{◌≡◌, ◌<◌, ℕ, nat_lt, Bool, List,
 ghost use Rattle.papaya_runs.specs.Present.{nobody};
 ghost use Rattle.papaya_schedules.specs.Moment.{Moment};
 ghost use Rattle.papaya_schedules.specs.declared.event.Event.TheVariants as event;
-ghost use Rattle.papaya_scheduler.specs.Given.Executor.IsAt.{Scene, KeepsGiven};
 ghost use Rattle.papaya_scheduler.specs.Given.Logged.Back.{AllBringsBack};
 ghost use Rattle.papaya_scheduler.specs.Given.Logged.Goes.{ReclaimingGone};
 ghost use Rattle.papaya_scheduler.specs.Given.Logged.Reclaims.{ReclaimingRan};
@@ -14,6 +13,8 @@ ghost use Rattle.papaya_scheduler.specs.AllWorks.{WorksOnAll};
 ghost use Rattle.papaya_scheduler.specs.Back.{GivesAllBack};
 ghost use Rattle.papaya_scheduler.specs.Reclaiming.{MayReclaimAll, PlaysGiving, are_gone};
 ghost use Rattle.papaya_scheduler.specs.Quiet.{IsQuiet};
+ghost use Rattle.papaya_scheduler.specs.Given.Executor.IsThere.{KeepsGiven};
+ghost use Rattle.papaya_scheduler.specs.Given.Scenes.Scene.{Scene};
 
 use papaya_runs::record::Pair;
 use papaya_scheduler::played::Played;

@@ -14,9 +14,6 @@ use Rattle.papaya_histories.specs.Given.Callers.Together.{UnderWay, HandsOver}
 use Rattle.papaya_histories.specs.Given.Effects.Effects.{effects_of, known_after}
 use Rattle.papaya_histories.specs.Given.Effects.Known.{Known}
 use Rattle.papaya_histories.specs.Given.Effects.declared.acting.Acting.TheVariants.{Call}
-use Rattle.papaya_histories.specs.Given.Executor.IsAt.{Scene, IsAt}
-use Rattle.papaya_histories.specs.Given.Executor.Stepping.{StepLeads}
-use Rattle.papaya_histories.specs.Given.Executor.declared.executor.Executor.{Executor}
 use Rattle.papaya_histories.proofs.Given.Follows.Onward.{IsLasting, KeepsRoles}
 use Rattle.papaya_histories.specs.Given.Moments.Whole.{ShowsWhole}
 use Rattle.papaya_histories.specs.Given.Schedules.After.{moment}
@@ -48,6 +45,9 @@ use Rattle.papaya_models.proofs.Numbers.{still_in, same_number}
 use Rattle.papaya_models.proofs.Quiet.{handing_is_by_model}
 use Rattle.papaya_models.proofs.Told.{none_back}
 use Rattle.papaya_models.proofs.Turns.{rested}
+use Rattle.papaya_histories.specs.Given.Scenes.Held.{Held, IsAt}
+use Rattle.papaya_histories.specs.Given.Scenes.Scene.{Scene}
+use Rattle.papaya_histories.specs.Given.Scenes.Stepping.{StepLeads}
 
 -- Further things change no number of what is handed over.
 
@@ -179,9 +179,9 @@ call_events_begin K V batch_size roots things sets known w follows slot i = reco
 
 -- A step.
 
-module _ {K V S : Type 0} (same : K → K → Bool) (hash : K → ℕ) (name : ℕ → List ℕ) (m : Moment K V) (known : Known) (s : Scene K V) (old new : Executor K V S) (at : IsAt same hash old s)
+module _ {K V : Type 0} (same : K → K → Bool) (hash : ℕ → K → ℕ) (name : ℕ → List ℕ) (m : Moment K V) (known : Known) (s : Scene K V) (old new : Held K V) (at : IsAt same hash old s)
     (whole : ShowsWhole same name m known s) (map i : ℕ) (u : UnderWay K V K) (here : s.calls map i ≡ Some u) (told : Progress (Node K V)) (leads : StepLeads same hash i told s old new)
-    (once : EachIsOnce (known_after (Call i map) new.memory.changed known)) (roots : ℕ) (things : List Thing) (sets : Sets) (slot : ℕ) (done : List Effect)
+    (once : EachIsOnce (known_after (Call i map) new.changed known)) (roots : ℕ) (things : List Thing) (sets : Sets) (slot : ℕ) (done : List Effect)
     (f : FollowsInEvent old.batch_size roots things sets slot i done known s.world) where
   abbrev w2 : World (Node K V)
   w2 = (leads map u here).4.w2
@@ -190,10 +190,10 @@ module _ {K V S : Type 0} (same : K → K → Bool) (hash : K → ℕ) (name : �
   Its = No same hash name m known s old new at whole map i u here told leads
 
   abbrev effects : List Effect
-  effects = effects_of (Call i map) known new.memory.changed
+  effects = effects_of (Call i map) known new.changed
 
   abbrev known2 : Known
-  known2 = known_after (Call i map) new.memory.changed known
+  known2 = known_after (Call i map) new.changed known
 
   abbrev now : List Thing
   now = things_then things done
@@ -214,7 +214,7 @@ module _ {K V S : Type 0} (same : K → K → Bool) (hash : K → ℕ) (name : �
   together : KeepsRoles known known2 → AreOfThings now effects → FollowsSets old.batch_size roots (now ++ more) sets_next known2 w2 ⊎ IsInItsRow old.batch_size roots (now ++ more) sets_next slot i known2 w2
       → FollowsInEvent old.batch_size roots things sets slot i (done ++ effects) known2 w2
   together keep come so = record {
-    back = both_back done effects f.back (none_back i map known new.memory.changed keep);
+    back = both_back done effects f.back (none_back i map known new.changed keep);
     come =
         subst (λ (xs : List Thing). AreOfThings xs (done ++ effects)) (sym (things_more things done effects))
         (of_both (now ++ more) done effects (of_more now more done f.come) (of_more now more effects come));
@@ -326,8 +326,8 @@ module _ {K V S : Type 0} (same : K → K → Bool) (hash : K → ℕ) (name : �
           (after_row row.request (row.handed ++ flat_map (handing now slot) effects)
           (row_goes_on same hash name m known s old new at whole map i u here told leads other row.goes roots now sets_now row.request row.handed row.follows slot) part.0)
 
-module _ (K V S : Type 0) (same : K → K → Bool) (hash : K → ℕ) where
-  pub call_events_go_on : CallEventsGoOn K V S same hash
+module _ (K V : Type 0) (same : K → K → Bool) (hash : ℕ → K → ℕ) where
+  pub call_events_go_on : CallEventsGoOn K V same hash
   call_events_go_on name m known s old new at whole map i u here told leads once roots things sets slot done f noted =
       goes_on same hash name m known s old new at whole map i u here told leads once roots things sets slot done f noted
 

@@ -20,9 +20,6 @@ use Rattle.papaya_histories.specs.Given.Effects.Effects.{effects_of, known_after
 use Rattle.papaya_histories.specs.Given.Effects.Known.{Known}
 use Rattle.papaya_histories.specs.Given.Effects.declared.acting.Acting.TheVariants.{Call}
 use Rattle.papaya_histories.specs.Given.Effects.declared.role.Role.{Role}
-use Rattle.papaya_histories.specs.Given.Executor.IsAt.{Scene, IsAt, slot_of}
-use Rattle.papaya_histories.specs.Given.Executor.Stepping.{StepLeads}
-use Rattle.papaya_histories.specs.Given.Executor.declared.executor.Executor.{Executor}
 use Rattle.papaya_histories.proofs.Given.Follows.Onward.{IsLasting, KeepsRoles}
 use Rattle.papaya_histories.proofs.Given.Follows.RowSteps.{row_step_shown}
 use Rattle.papaya_histories.proofs.Given.Follows.Steps.{WentTo, went_to, DidSo, OfNoRow, step_shown}
@@ -40,6 +37,9 @@ use Rattle.papaya_models.proofs.Alike.Changed.{all_alike}
 use Rattle.papaya_models.proofs.Handing.{nothing_handed, keeps_all}
 use Rattle.papaya_models.proofs.Numbers.{has_one, still_in, same_number}
 use Rattle.papaya_models.proofs.Turns.{rows_begin, rows_go_on, rows_end, users_follow}
+use Rattle.papaya_histories.specs.Given.Scenes.Held.{Held, IsAt}
+use Rattle.papaya_histories.specs.Given.Scenes.Scene.{Scene, slot_of}
+use Rattle.papaya_histories.specs.Given.Scenes.Stepping.{StepLeads}
 
 -- further things change no number
 pub more_numbers : (known : Known) (things more : List Thing) (b n : ℕ) → HasNumber known things b n → HasNumber known (things ++ more) b n
@@ -82,7 +82,7 @@ rows_within_end K V batch_size roots things sets known i request handed w small 
     }
 
 -- The steps of a call.
-module _ {K V S : Type 0} (same : K → K → Bool) (hash : K → ℕ) (name : ℕ → List ℕ) (m : Moment K V) (known : Known) (s : Scene K V) (old new : Executor K V S) (at : IsAt same hash old s)
+module _ {K V : Type 0} (same : K → K → Bool) (hash : ℕ → K → ℕ) (name : ℕ → List ℕ) (m : Moment K V) (known : Known) (s : Scene K V) (old new : Held K V) (at : IsAt same hash old s)
     (whole : ShowsWhole same name m known s) (map i : ℕ) (u : UnderWay K V K) (here : s.calls map i ≡ Some u) (told : Progress (Node K V)) (leads : StepLeads same hash i told s old new) where
   abbrev to : WentTo same hash name m known s old new at whole.all.shown map i u here told leads
   to = went_to same hash name m known s old new at whole.all.shown map i u here told leads
@@ -94,18 +94,18 @@ module _ {K V S : Type 0} (same : K → K → Bool) (hash : K → ℕ) (name : �
   NoRow x did = OfNoRow same hash name m known s old new at whole.all.shown map i u here told leads x did
 
   abbrev effects : List Effect
-  effects = effects_of (Call i map) known new.memory.changed
+  effects = effects_of (Call i map) known new.changed
 
   abbrev known2 : Known
-  known2 = known_after (Call i map) new.memory.changed known
+  known2 = known_after (Call i map) new.changed known
 
   pub own_keeps : NoRow u to.4.did → KeepsRoles known known2
   own_keeps own =
-      (step_shown same hash name m known s old new at whole.all.shown map i u here told leads own (calls_store_theirs K V S same hash name m known s old new at whole.all map i u here told leads own).0).1.keeps
+      (step_shown same hash name m known s old new at whole.all.shown map i u here told leads own (calls_store_theirs K V same hash name m known s old new at whole.all map i u here told leads own).0).1.keeps
 
   pub row_keeps : (NoRow u to.4.did → ⊥) → KeepsRoles known known2
   row_keeps other =
-      let it = rows_hand_theirs K V S same hash name m known s old new at whole.all map i u here told leads other in
+      let it = rows_hand_theirs K V same hash name m known s old new at whole.all map i u here told leads other in
       (row_step_shown same hash name m known s old new at whole.all.shown map i u here told leads other it.1 it.0).keeps
 
   batch_is : to.0.setting.batch_size ≡ old.batch_size
@@ -180,13 +180,13 @@ module _ {K V S : Type 0} (same : K → K → Bool) (hash : K → ℕ) (name : �
       by (OverAll x) (p2, end, machine_is, told_is, inr (row, has)) other = of_this row.step.w2 row.step.happened has.0
 
   -- the memory after it is that to which the call has come
-  pub its_memory : (NoRow u to.4.did → ⊥) → to.4.w2.memory ≡ new.memory.memory
+  pub its_memory : (NoRow u to.4.did → ⊥) → to.4.w2.memory ≡ new.memory
   its_memory other = by u to.4.did other
     where
-      of_world : (w : World (Node K V)) → w.memory ≡ new.memory.memory → to.4.w2 ≡ w → to.4.w2.memory ≡ new.memory.memory
+      of_world : (w : World (Node K V)) → w.memory ≡ new.memory → to.4.w2 ≡ w → to.4.w2.memory ≡ new.memory
       of_world w memory is = ap (λ (x : World (Node K V)). x.memory) is ∙ memory
 
-      by : (x : UnderWay K V K) (did : Did x) → (NoRow x did → ⊥) → to.4.w2.memory ≡ new.memory.memory
+      by : (x : UnderWay K V K) (did : Did x) → (NoRow x did → ⊥) → to.4.w2.memory ≡ new.memory
       by (OnKey x) (p2, end, machine_is, told_is, inl step) other = absurd (other tt)
       by (OnKey x) (p2, end, machine_is, told_is, inr (row, has)) other = of_world row.step.w2 row.step.memory has.0
       by (ForRoom x) (p2, end, machine_is, told_is, inl step) other = absurd (other tt)
@@ -268,15 +268,15 @@ module _ {K V S : Type 0} (same : K → K → Bool) (hash : K → ℕ) (name : �
       }
       by (inr (request2, begun, hands, begins, step)) = absurd (goes begins.0)
 
-module _ (K V S : Type 0) (same : K → K → Bool) (hash : K → ℕ) where
-  pub calls_follow : CallsFollow K V S same hash
+module _ (K V : Type 0) (same : K → K → Bool) (hash : ℕ → K → ℕ) where
+  pub calls_follow : CallsFollow K V same hash
   calls_follow name m known s old new at whole map i u here told leads own roots things sets f slot =
       call_follows same hash name m known s old new at whole map i u here told leads own roots things sets f slot
 
-  pub rows_within_begin : RowsWithinBegin K V S same hash
+  pub rows_within_begin : RowsWithinBegin K V same hash
   rows_within_begin name m known s old new at whole map i u here told leads other rests roots things sets f slot =
       row_begins same hash name m known s old new at whole map i u here told leads other rests roots things sets f slot
 
-  pub rows_within_go_on : RowsWithinGoOn K V S same hash
+  pub rows_within_go_on : RowsWithinGoOn K V same hash
   rows_within_go_on name m known s old new at whole map i u here told leads other goes roots things sets request handed f slot =
       row_goes_on same hash name m known s old new at whole map i u here told leads other goes roots things sets request handed f slot

@@ -46,9 +46,6 @@ use Rattle.papaya_histories.specs.Given.Effects.Known.{Known}
 use Rattle.papaya_histories.specs.Given.Effects.declared.acting.Acting.TheVariants.{Call}
 use Rattle.papaya_histories.specs.Given.Effects.declared.role.Role.{Role}
 use Rattle.papaya_histories.specs.Given.Effects.declared.role.Role.TheVariants as role
-use Rattle.papaya_histories.specs.Given.Executor.IsAt.{Scene, IsAt}
-use Rattle.papaya_histories.specs.Given.Executor.Stepping.{StepLeads}
-use Rattle.papaya_histories.specs.Given.Executor.declared.executor.Executor.{Executor}
 use Rattle.papaya_histories.specs.Given.Follows.Blocks.{HasRole}
 use Rattle.papaya_histories.proofs.Given.Follows.Onward.{KeepsRoles}
 use Rattle.papaya_histories.proofs.Given.Follows.Operations.{LeavesBy, Operated, operated_leaves}
@@ -68,6 +65,9 @@ use Rattle.papaya_models.proofs.Calls.{one_step, kept_numbers}
 use Rattle.papaya_models.proofs.Handing.{nothing_handed, keep_of}
 use Rattle.papaya_models.proofs.HandsOver.{No, Stepped, to, came, made, keeps}
 use Rattle.papaya_models.proofs.Told.{quiet_keeps, word_defers, is_told}
+use Rattle.papaya_histories.specs.Given.Scenes.Held.{Held, IsAt}
+use Rattle.papaya_histories.specs.Given.Scenes.Scene.{Scene}
+use Rattle.papaya_histories.specs.Given.Scenes.Stepping.{StepLeads}
 
 itself : (t field : ℕ) → same_at (Word t field) (Word t field) ≡ true
 itself t field = grind (arith, eq-eqb t t refl, eq-eqb field field refl)
@@ -327,7 +327,7 @@ list_word K V len limit turn field e = by (len == 0) e
     by true e = absurd (cc e)
     by false e = cc e
 
-module _ {K V S : Type 0} (same : K → K → Bool) (hash : K → ℕ) (name : ℕ → List ℕ) (m : Moment K V) (known : Known) (s : Scene K V) (old new : Executor K V S) (at : IsAt same hash old s)
+module _ {K V : Type 0} (same : K → K → Bool) (hash : ℕ → K → ℕ) (name : ℕ → List ℕ) (m : Moment K V) (known : Known) (s : Scene K V) (old new : Held K V) (at : IsAt same hash old s)
     (whole : ShowsWhole same name m known s) (map i : ℕ) (u : UnderWay K V K) (here : s.calls map i ≡ Some u) (told : ProgressOfCall (Node K V)) (leads : StepLeads same hash i told s old new) where
   abbrev Its : Type 0
   Its = No same hash name m known s old new at whole map i u here told leads
@@ -347,12 +347,12 @@ module _ {K V S : Type 0} (same : K → K → Bool) (hash : K → ℕ) (name : �
       list_word K V noted.len role_is.0 noted.table.turn field (ap deferred_word (sym value_is) ∙ list)
 
   abbrev effects_now : List Effect
-  effects_now = effects_of (Call i map) known new.memory.changed
+  effects_now = effects_of (Call i map) known new.changed
 
   -- what it has told then, and that it is of things
   abbrev Tells : (things : List Thing) (under b t : ℕ) → List Change → Type 0
   Tells things under b t handed =
-      HasToldIt things (known_after (Call i map) new.memory.changed known) i b t (handed ++ flat_map (handing things under) effects_now) w2 × AreOfThings things effects_now
+      HasToldIt things (known_after (Call i map) new.changed known) i b t (handed ++ flat_map (handing things under) effects_now) w2 × AreOfThings things effects_now
 
   pub goes_on : (Its → ⊥) → s.world.row i ≢ Rests → (things : List Thing) (under b t : ℕ) (handed : List Change) → AreNoted things known b t → HasToldIt things known i b t handed s.world
       → Tells things under b t handed
@@ -360,7 +360,7 @@ module _ {K V S : Type 0} (same : K → K → Bool) (hash : K → ℕ) (name : �
     where
       by : DidStep → Tells things under b t handed
       by (inl step) =
-          told_on old.batch_size s.world w2 (came_reached old.batch_size s.world (came same hash name m known s old new at whole map i u here told leads)) i map b t known new.memory.changed
+          told_on old.batch_size s.world w2 (came_reached old.batch_size s.world (came same hash name m known s old new at whole map i u here told leads)) i map b t known new.changed
           (made same hash name m known s old new at whole map i u here told leads other s.world refl) things under noted (keeps same hash name m known s old new at whole map i u here told leads other) handed
           step so
       by (inr (request, begun, hands, begins, step)) = absurd (goes begins.0)
@@ -374,7 +374,7 @@ module _ {K V S : Type 0} (same : K → K → Bool) (hash : K → ℕ) (name : �
       ap (λ (x : World (Node K V)). x.row i) h.7 ∙ with_here s.world.row i (DefersRow slot (deferring_to (link_to b) (Word t h.0))) in
       let memory : begun.memory ≡ s.world.memory = ap (λ (x : World (Node K V)). x.memory) h.7 in
       let list = h.4 in
-      told_on old.batch_size begun w2 (came_reached old.batch_size begun (came_next old.batch_size s.world begun (Begin i request) before begin)) i map b t known new.memory.changed
+      told_on old.batch_size begun w2 (came_reached old.batch_size begun (came_next old.batch_size s.world begun (Begin i request) before begin)) i map b t known new.changed
       (made same hash name m known s old new at whole map i u here told leads other begun memory) things under noted (keeps same hash name m known s old new at whole map i u here told leads other) []
       step
       (inl (
@@ -384,19 +384,19 @@ module _ {K V S : Type 0} (same : K → K → Bool) (hash : K → ℕ) (name : �
 
   pub begins : (Its → ⊥) → s.world.row i ≡ Rests
       → (request : Request) × ((things : List Thing) (slot under b t : ℕ) → request ≡ Defer' slot b t → AreNoted things known b t
-      → HasToldIt things (known_after (Call i map) new.memory.changed known) i b t (flat_map (handing things under) effects_now) w2)
+      → HasToldIt things (known_after (Call i map) new.changed known) i b t (flat_map (handing things under) effects_now) w2)
   begins other rests = by (one_step same hash name m known s old new at whole map i u here told leads other)
     where
       by : DidStep
           → (request : Request) × ((things : List Thing) (slot under b t : ℕ) → request ≡ Defer' slot b t → AreNoted things known b t
-          → HasToldIt things (known_after (Call i map) new.memory.changed known) i b t (flat_map (handing things under) effects_now) w2)
+          → HasToldIt things (known_after (Call i map) new.changed known) i b t (flat_map (handing things under) effects_now) w2)
       by (inl step) = absurd (subst (λ (r : Row). Steps' deferred_word i r s.world w2) rests step)
       by (inr (request, begun, hands, begin, step)) = (request, λ things slot under b t is noted. (begun_tells other request begun begin step things slot under b t is noted).0)
 
-module _ (K V S : Type 0) (same : K → K → Bool) (hash : K → ℕ) where
-  pub deferring_begins : DeferringBegins K V S same hash
+module _ (K V : Type 0) (same : K → K → Bool) (hash : ℕ → K → ℕ) where
+  pub deferring_begins : DeferringBegins K V same hash
   deferring_begins name m known s old new at whole map i u here told leads other rests = begins same hash name m known s old new at whole map i u here told leads other rests
 
-  pub deferring_goes_on : DeferringGoesOn K V S same hash
+  pub deferring_goes_on : DeferringGoesOn K V same hash
   deferring_goes_on name m known s old new at whole map i u here told leads other goes things under b t handed noted so =
       (goes_on same hash name m known s old new at whole map i u here told leads other goes things under b t handed noted so).0

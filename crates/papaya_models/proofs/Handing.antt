@@ -14,14 +14,14 @@ use Rattle.papaya_histories.specs.Given.Callers.Together.{UnderWay}
 use Rattle.papaya_histories.specs.Given.Effects.Effects.{effects_of}
 use Rattle.papaya_histories.specs.Given.Effects.Known.{Known}
 use Rattle.papaya_histories.specs.Given.Effects.declared.acting.Acting.TheVariants.{Call}
-use Rattle.papaya_histories.specs.Given.Executor.IsAt.{Scene, IsAt}
-use Rattle.papaya_histories.specs.Given.Executor.Stepping.{StepLeads}
-use Rattle.papaya_histories.specs.Given.Executor.declared.executor.Executor.{Executor}
 use Rattle.papaya_histories.specs.Given.Follows.Shows.{Shows}
 use Rattle.papaya_histories.proofs.Given.Follows.Steps.{WentTo, went_to, DidSo, OfNoRow}
 use Rattle.papaya_histories.proofs.Given.Spots.Handing.{KeepsAll, AllKeep, nothing_keep}
 use Rattle.papaya_histories.proofs.Given.Spots.Steps.{hands_nothing}
 use Rattle.papaya_models.specs.Numbers.{IsOfThings, AreOfThings}
+use Rattle.papaya_histories.specs.Given.Scenes.Held.{Held, IsAt}
+use Rattle.papaya_histories.specs.Given.Scenes.Scene.{Scene}
+use Rattle.papaya_histories.specs.Given.Scenes.Stepping.{StepLeads}
 
 pub nothing_handed : (things : List Thing) (slot : ℕ) (effects : List Effect) → AllKeep effects → flat_map (handing things slot) effects ≡ []
 nothing_handed things slot [] all = refl
@@ -46,7 +46,7 @@ keep_of things (e ∷ effects) all = (by e all.0, keep_of things effects all.1)
     by _ is = tt
 
 -- whichever kind of call it is
-module _ {K V S : Type 0} (same : K → K → Bool) (hash : K → ℕ) (name : ℕ → List ℕ) (m : Moment K V) (known : Known) (s : Scene K V) (old new : Executor K V S) (at : IsAt same hash old s)
+module _ {K V : Type 0} (same : K → K → Bool) (hash : ℕ → K → ℕ) (name : ℕ → List ℕ) (m : Moment K V) (known : Known) (s : Scene K V) (old new : Held K V) (at : IsAt same hash old s)
     (shown : Shows same name m known s) (map i : ℕ) (u : UnderWay K V K) (here : s.calls map i ≡ Some u) (told : Progress (Node K V)) (leads : StepLeads same hash i told s old new) where
   abbrev to : WentTo same hash name m known s old new at shown map i u here told leads
   to = went_to same hash name m known s old new at shown map i u here told leads
@@ -57,5 +57,5 @@ module _ {K V S : Type 0} (same : K → K → Bool) (hash : K → ℕ) (name : �
   abbrev NoRow : (x : UnderWay K V K) → Did x → Type 0
   NoRow x did = OfNoRow same hash name m known s old new at shown map i u here told leads x did
 
-  pub keeps_all : NoRow u to.4.did → AllKeep (effects_of (Call i map) known new.memory.changed)
-  keeps_all own = nothing_keep (effects_of (Call i map) known new.memory.changed) (hands_nothing same hash name m known s old new at shown map i u here told leads own)
+  pub keeps_all : NoRow u to.4.did → AllKeep (effects_of (Call i map) known new.changed)
+  keeps_all own = nothing_keep (effects_of (Call i map) known new.changed) (hands_nothing same hash name m known s old new at shown map i u here told leads own)

@@ -46,9 +46,6 @@ use Rattle.papaya_histories.specs.Given.Effects.Known.{Known}
 use Rattle.papaya_histories.specs.Given.Effects.declared.acting.Acting.TheVariants.{Call}
 use Rattle.papaya_histories.specs.Given.Effects.declared.role.Role.{Role}
 use Rattle.papaya_histories.specs.Given.Effects.declared.role.Role.TheVariants as role
-use Rattle.papaya_histories.specs.Given.Executor.IsAt.{Scene, IsAt}
-use Rattle.papaya_histories.specs.Given.Executor.Stepping.{StepLeads}
-use Rattle.papaya_histories.specs.Given.Executor.declared.executor.Executor.{Executor}
 use Rattle.papaya_histories.specs.Given.Follows.Blocks.{HasRole}
 use Rattle.papaya_histories.proofs.Given.Follows.Onward.{KeepsRoles}
 use Rattle.papaya_histories.proofs.Given.Follows.Operations.{LeavesBy, Operated, operated_leaves}
@@ -73,6 +70,9 @@ use Rattle.papaya_models.proofs.Handing.{nothing_handed, keep_of}
 use Rattle.papaya_models.proofs.Retires.{to_retire, retires, past_on, goes_row, past_row}
 use Rattle.papaya_models.proofs.Told.{quiet_keeps, first_retires, is_told}
 use Rattle.papaya_models.proofs.Unbatched.{IsKept, runs_unbatched}
+use Rattle.papaya_histories.specs.Given.Scenes.Held.{Held, IsAt}
+use Rattle.papaya_histories.specs.Given.Scenes.Scene.{Scene}
+use Rattle.papaya_histories.specs.Given.Scenes.Stepping.{StepLeads}
 
 -- whether it is about to write into a block which batch it is of
 batches_or : (p : Settling) → ((block : ℕ) × (p ≡ at.Batches block)) ⊎ ((block : ℕ) → p ≡ at.Batches block → ⊥)
@@ -282,7 +282,7 @@ retires_are_told K V things known i s b handed w told rests before after = by to
     by (inl (is, nil, first, next)) = absurd (subst (IsToRetire b) rests is)
     by (inr (past, alike)) = alike
 
-module _ {K V S : Type 0} (same : K → K → Bool) (hash : K → ℕ) (name : ℕ → List ℕ) (m : Moment K V) (known : Known) (s : Scene K V) (old new : Executor K V S) (at : IsAt same hash old s)
+module _ {K V : Type 0} (same : K → K → Bool) (hash : ℕ → K → ℕ) (name : ℕ → List ℕ) (m : Moment K V) (known : Known) (s : Scene K V) (old new : Held K V) (at : IsAt same hash old s)
     (whole : ShowsWhole same name m known s) (map i : ℕ) (u : UnderWay K V K) (here : s.calls map i ≡ Some u) (told : Progress (Node K V)) (leads : StepLeads same hash i told s old new) where
   abbrev pub to : WentTo same hash name m known s old new at whole.all.shown map i u here told leads
   to = went_to same hash name m known s old new at whole.all.shown map i u here told leads
@@ -296,13 +296,13 @@ module _ {K V S : Type 0} (same : K → K → Bool) (hash : K → ℕ) (name : �
   pub came : CameAbout old.batch_size s.world
   came = at.together.makings.standing.came
 
-  pub made : (No → ⊥) → (v : World (Node K V)) → v.memory ≡ s.world.memory → Operated v.memory to.4.w2.memory new.memory.changed
+  pub made : (No → ⊥) → (v : World (Node K V)) → v.memory ≡ s.world.memory → Operated v.memory to.4.w2.memory new.changed
   made other v memory =
-      subst (λ (k : Mem (Node K V)). Operated k to.4.w2.memory new.memory.changed) (sym memory)
-      (subst (λ (k : Mem (Node K V)). Operated s.world.memory k new.memory.changed) (sym (its_memory same hash name m known s old new at whole map i u here told leads other))
+      subst (λ (k : Mem (Node K V)). Operated k to.4.w2.memory new.changed) (sym memory)
+      (subst (λ (k : Mem (Node K V)). Operated s.world.memory k new.changed) (sym (its_memory same hash name m known s old new at whole map i u here told leads other))
       (made_so same hash name m known s old new at whole.all.shown map i u here told leads))
 
-  pub keeps : (No → ⊥) → KeepsRoles known (known_after (Call i map) new.memory.changed known)
+  pub keeps : (No → ⊥) → KeepsRoles known (known_after (Call i map) new.changed known)
   keeps other = row_keeps same hash name m known s old new at whole map i u here told leads other
 
   -- what is noted as a thing is there
@@ -318,11 +318,11 @@ module _ {K V S : Type 0} (same : K → K → Bool) (hash : K → ℕ) (name : �
           subst (λ (o : Option (Node K V)). IsSome o) (sym role_is.1) refl
 
   abbrev effects_now : List Effect
-  effects_now = effects_of (Call i map) known new.memory.changed
+  effects_now = effects_of (Call i map) known new.changed
 
   -- what it has told then, and that it is of things
   abbrev Tells : (things : List Thing) (slot b : ℕ) → List Change → Type 0
-  Tells things slot b handed = HasToldSo things (known_after (Call i map) new.memory.changed known) i slot b (handed ++ flat_map (handing things slot) effects_now) to.4.w2 × AreOfThings things effects_now
+  Tells things slot b handed = HasToldSo things (known_after (Call i map) new.changed known) i slot b (handed ++ flat_map (handing things slot) effects_now) to.4.w2 × AreOfThings things effects_now
 
   pub goes_on : (No → ⊥) → s.world.row i ≢ Rests → (things : List Thing) (slot b k : ℕ) (handed : List Change) → HasNumber known things b k → HasToldSo things known i slot b handed s.world
       → Tells things slot b handed
@@ -330,7 +330,7 @@ module _ {K V S : Type 0} (same : K → K → Bool) (hash : K → ℕ) (name : �
     where
       by : Stepped → Tells things slot b handed
       by (inl step) =
-          told_on old.batch_size s.world to.4.w2 (came_reached old.batch_size s.world came) i map b (some_block things b k has) known new.memory.changed (made other s.world refl) things slot k has (keeps other) handed
+          told_on old.batch_size s.world to.4.w2 (came_reached old.batch_size s.world came) i map b (some_block things b k has) known new.changed (made other s.world refl) things slot k has (keeps other) handed
           (whole.all.rows.none map i u here) step so
       by (inr (request, begun, hands, begins, step)) = absurd (goes begins.0)
 
@@ -342,7 +342,7 @@ module _ {K V S : Type 0} (same : K → K → Bool) (hash : K → ℕ) (name : �
       let memory : begun.memory ≡ s.world.memory = ap (λ (x : World (Node K V)). x.memory) h.2 in
       let cut = h.1 in
       told_on old.batch_size begun to.4.w2 (came_reached old.batch_size begun (came_next old.batch_size s.world begun (Begin i request) came begin)) i map b
-      (some_number old.batch_size s.world came b cut.0 cut.1) known new.memory.changed (made other begun memory) things slot k has (keeps other) []
+      (some_number old.batch_size s.world came b cut.0 cut.1) known new.changed (made other begun memory) things slot k has (keeps other) []
       (subst ReclaimsNone (sym row) (refl, refl, refl, tt)) step
       (inl (
         subst (IsToRetire b) (sym row) refl,
@@ -353,19 +353,19 @@ module _ {K V S : Type 0} (same : K → K → Bool) (hash : K → ℕ) (name : �
 
   pub begins : (No → ⊥) → s.world.row i ≡ Rests
       → (request : Request) × ((things : List Thing) (slot b k : ℕ) → request ≡ Retire slot b → HasNumber known things b k
-      → HasToldSo things (known_after (Call i map) new.memory.changed known) i slot b (flat_map (handing things slot) effects_now) to.4.w2)
+      → HasToldSo things (known_after (Call i map) new.changed known) i slot b (flat_map (handing things slot) effects_now) to.4.w2)
   begins other rests = by (one_step same hash name m known s old new at whole map i u here told leads other)
     where
       by : Stepped
           → (request : Request) × ((things : List Thing) (slot b k : ℕ) → request ≡ Retire slot b → HasNumber known things b k
-          → HasToldSo things (known_after (Call i map) new.memory.changed known) i slot b (flat_map (handing things slot) effects_now) to.4.w2)
+          → HasToldSo things (known_after (Call i map) new.changed known) i slot b (flat_map (handing things slot) effects_now) to.4.w2)
       by (inl step) = absurd (subst (λ (r : Row). Steps' deferred_word i r s.world to.4.w2) rests step)
       by (inr (request, begun, hands, begin, step)) = (request, λ things slot b k is has. (begun_tells other request begun begin step things slot b k is has).0)
 
-module _ (K V S : Type 0) (same : K → K → Bool) (hash : K → ℕ) where
-  pub retiring_begins : RetiringBegins K V S same hash
+module _ (K V : Type 0) (same : K → K → Bool) (hash : ℕ → K → ℕ) where
+  pub retiring_begins : RetiringBegins K V same hash
   retiring_begins name m known s old new at whole map i u here told leads other rests = begins same hash name m known s old new at whole map i u here told leads other rests
 
-  pub retiring_goes_on : RetiringGoesOn K V S same hash
+  pub retiring_goes_on : RetiringGoesOn K V same hash
   retiring_goes_on name m known s old new at whole map i u here told leads other goes things slot b k handed has so =
       (goes_on same hash name m known s old new at whole map i u here told leads other goes things slot b k handed has so).0

@@ -27,9 +27,6 @@ use Rattle.papaya_histories.specs.Given.Effects.declared.acting.Acting.{Acting}
 use Rattle.papaya_histories.specs.Given.Effects.declared.acting.Acting.TheVariants as acts
 use Rattle.papaya_histories.specs.Given.Effects.declared.role.Role.{Role}
 use Rattle.papaya_histories.specs.Given.Effects.declared.role.Role.TheVariants as role
-use Rattle.papaya_histories.specs.Given.Executor.IsAt.{Scene, IsAt, slot_of}
-use Rattle.papaya_histories.specs.Given.Executor.Making.{MakingStepsFrom}
-use Rattle.papaya_histories.specs.Given.Executor.declared.executor.Executor.{Executor}
 use Rattle.papaya_histories.specs.Given.Finishes.Endings.{MakingStepsAmong}
 use Rattle.papaya_histories.specs.Given.Finishes.Makings.{Beginning}
 use Rattle.papaya_histories.proofs.Given.Follows.Alike.{is_calm, AllCalm}
@@ -55,6 +52,9 @@ use Rattle.papaya_models.specs.Turns.{sets_of, CameByTurns}
 use Rattle.papaya_models.proofs.Alike.Again.{alike_again}
 use Rattle.papaya_models.proofs.Handing.{nothing_handed}
 use Rattle.papaya_models.proofs.Turns.{users_follow, all_there}
+use Rattle.papaya_histories.specs.Given.Scenes.Held.{Held, IsAt}
+use Rattle.papaya_histories.specs.Given.Scenes.Making.{MakingStepsFrom}
+use Rattle.papaya_histories.specs.Given.Scenes.Scene.{Scene, slot_of}
 
 -- a thing is of a map
 pub thing_of_map : (x : Thing) (r : Role) → IsOfThing x r → IsOfMap r
@@ -70,9 +70,9 @@ calm_back (e ∷ effects) all = (by e all.0, calm_back effects all.1)
     by (Reclaimed x) is = absurd (cc is)
     by _ is = tt
 
-module _ {K V S : Type 0} (same : K → K → Bool) (hash : K → ℕ) (name : ℕ → List ℕ) (m : Moment K V) (known : Known) (s : Scene K V) (old new : Executor K V S) (at : IsAt same hash old s)
+module _ {K V : Type 0} (same : K → K → Bool) (hash : ℕ → K → ℕ) (name : ℕ → List ℕ) (m : Moment K V) (known : Known) (s : Scene K V) (old new : Held K V) (at : IsAt same hash old s)
     (whole : ShowsWhole same name m known s) (i : ℕ) (b : Beginning K) (here : s.makers i ≡ Some b) (end : NewMap) (said : Progress Setting) (steps : MakingStepsFrom b.machine old new end said)
-    (did : MakingStepsAmong V same same old.batch_size old.roots slot_of s.world s.maps s.calls s.makers s.enders i b new.memory.memory (end, said)) (of : Option ℕ) where
+    (did : MakingStepsAmong V same same old.batch_size old.roots slot_of s.world s.maps s.calls s.makers s.enders i b new.memory (end, said)) (of : Option ℕ) where
   abbrev w : World (Node K V)
   w = s.world
 
@@ -80,7 +80,7 @@ module _ {K V S : Type 0} (same : K → K → Bool) (hash : K → ℕ) (name : �
   w2 = did.step.w2
 
   abbrev told : Changed
-  told = new.memory.changed
+  told = new.changed
 
   abbrev its : Acting
   its = acts.Making b.map
@@ -201,10 +201,10 @@ module _ {K V S : Type 0} (same : K → K → Bool) (hash : K → ℕ) (name : �
           (all_there deferred_word old.batch_size roots at.small w2 f.before came2) f.alike);
     }
 
-module _ (K V S : Type 0) (same : K → K → Bool) (hash : K → ℕ) where
-  pub makings_follow : MakingsFollow K V S same hash
+module _ (K V : Type 0) (same : K → K → Bool) (hash : ℕ → K → ℕ) where
+  pub makings_follow : MakingsFollow K V same hash
   makings_follow name m known s old new at whole i told leads b here of is_new roots things sets f slot =
       let to = leads b here in
       making_follows same hash name m known s old new at whole i b here to.0 told to.1 to.2 of (making_after same hash s old new i b to.0 to.2.step.w2 told to.3)
       (comes_there same hash name m known s old new at whole i b here to.0 told to.1 to.2 of told to.3) _
-      (makings_go_beside K V S same hash name m known s old new at whole i told leads b here of is_new) roots things sets f slot
+      (makings_go_beside K V same hash name m known s old new at whole i told leads b here of is_new) roots things sets f slot

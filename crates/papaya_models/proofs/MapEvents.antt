@@ -63,15 +63,15 @@ none_handed_over things slot (e ∷ effects) hands ends =
     by (effect.Taken t) is none = absurd none
     by _ is none = refl
 
-module _ (K V S : Type 0) (same : K → K → Bool) (hash : K → ℕ) where
-  pub making_events_go_on : MakingEventsGoOn K V S same hash
+module _ (K V : Type 0) (same : K → K → Bool) (hash : ℕ → K → ℕ) where
+  pub making_events_go_on : MakingEventsGoOn K V same hash
   making_events_go_on name m known s old new at whole i told leads b here of is_new roots things sets done f =
       let to = leads b here in
-      let effects = effects_of (Making b.map) known new.memory.changed in
-      let known2 = known_after (Making b.map) new.memory.changed known in
+      let effects = effects_of (Making b.map) known new.changed in
+      let known2 = known_after (Making b.map) new.changed known in
       let now = things_then things done in
       let keep : AllKeep effects = all_keep same hash name m known s old new at whole i b here to.0 told to.1 to.2 of in
-      let step = makings_follow K V S same hash name m known s old new at whole i told leads b here of is_new roots now sets f.follows 0 in
+      let step = makings_follow K V same hash name m known s old new at whole i told leads b here of is_new roots now sets f.follows 0 in
       let same_sets : sets_on old.batch_size now 0 effects sets ≡ sets = ap (λ (cs : List Change). (all_changed old.batch_size cs sets).sets) (nothing_handed now 0 effects keep) in
       record {
         hands = both_hands done effects f.hands (keep_hands effects keep);

@@ -35,13 +35,8 @@ use Rattle.papaya_histories.specs.Given.Effects.Known.{Known}
 use Rattle.papaya_histories.specs.Given.Effects.declared.acting.Acting.TheVariants.{Row}
 use Rattle.papaya_histories.specs.Given.Effects.declared.role.Role.{Role}
 use Rattle.papaya_histories.specs.Given.Effects.declared.role.Role.TheVariants as role
-use Rattle.papaya_histories.specs.Given.Executor.IsAt.{Scene, IsAt, slot_of, work_of}
-use Rattle.papaya_histories.specs.Given.Executor.OnSlots.{RowSteps, HappensAt}
-use Rattle.papaya_histories.specs.Given.Executor.declared.executor.Executor.{Executor}
-use Rattle.papaya_histories.specs.Given.Executor.declared.row.RowTold.{RowTold}
-use Rattle.papaya_histories.specs.Given.Executor.declared.row.SlotRow.{SlotRow}
-use Rattle.papaya_histories.specs.Given.Executor.declared.worker.Work.TheVariants as work
-use Rattle.papaya_histories.proofs.Given.Executor.OnSlots.{row_at, may_taken}
+use Rattle.papaya_histories.specs.Given.Scenes.declared.row.RowTold.{RowTold}
+use Rattle.papaya_histories.specs.Given.Scenes.declared.row.SlotRow.{SlotRow}
 use Rattle.papaya_histories.specs.Given.Follows.Blocks.{HasRole, ShowsBlocks}
 use Rattle.papaya_histories.proofs.Given.Follows.Operations.{LeavesBy, operated_leaves}
 use Rattle.papaya_histories.proofs.Given.Others.RowPlans.{TellsRow, row_tells, row_operated}
@@ -58,6 +53,10 @@ use Rattle.papaya_models.proofs.Follows.{same_things, by_model, sets_then}
 use Rattle.papaya_models.proofs.Numbers.{the_thing, has_one, none_came, none_handed, both_of_row}
 use Rattle.papaya_models.proofs.RowSteps.{it, takes_so, step_back, roles_after}
 use Rattle.papaya_models.proofs.Turns.{rows_begin, rows_go_on, rows_end, all_there}
+use Rattle.papaya_histories.proofs.Given.Scenes.May.{may_row}
+use Rattle.papaya_histories.specs.Given.Scenes.Held.{Held, IsAt}
+use Rattle.papaya_histories.specs.Given.Scenes.OnSlots.{HappensAt, RowSteps}
+use Rattle.papaya_histories.specs.Given.Scenes.Scene.{IsOnSlot, Scene}
 
 -- a row on slots that begins has done nothing yet
 begun_log : {T : Type 0} (defers : T → Option ℕ) (size i : ℕ) (request : Request) (w w2 : World T) → IsOfSlots request → Begins defers size i request w w2 → w2.log ≡ w.log
@@ -97,27 +96,27 @@ noted_still r first after (inl p) (inl q) = inl (q ∙ p)
 noted_still r first after (inr p) (inl q) = inr (q ∙ p)
 noted_still r first after p (inr q) = inr q
 
-module _ {K V S : Type 0} (same : K → K → Bool) (hash : K → ℕ) (m : Moment K V) (known : Known) (s : Scene K V) (old new : Executor K V S) (at : IsAt same hash old s)
-    (blocks : ShowsBlocks m known s.world) (i : ℕ) (row : SlotRow) (here : work_of old i ≡ Some (work.OnSlot row)) (end : SlotRow × RowTold (Node K V))
-    (steps : RowSteps K V row old.memory.memory new.memory.memory new.memory.changed end) (happened : HappensAt same hash (Step i) s old new) where
+module _ {K V : Type 0} (same : K → K → Bool) (hash : ℕ → K → ℕ) (m : Moment K V) (known : Known) (s : Scene K V) (old new : Held K V) (at : IsAt same hash old s)
+    (blocks : ShowsBlocks m known s.world) (i : ℕ) (row : SlotRow) (here : IsOnSlot s i row) (end : SlotRow × RowTold (Node K V))
+    (steps : RowSteps K V row old.memory new.memory new.changed end) (happened : HappensAt same hash (Step i) s old new) where
   abbrev w : World (Node K V)
   w = s.world
 
   abbrev w2 : World (Node K V)
   w2 = happened.0
 
-  left : LeavesBy w.memory w2.memory new.memory.changed
+  left : LeavesBy w.memory w2.memory new.changed
   left =
-      subst (λ (n : Mem (Node K V)). LeavesBy w.memory n new.memory.changed) (sym happened.4.memory)
-      (subst (λ (n : Mem (Node K V)). LeavesBy n new.memory.memory new.memory.changed) (sym at.memory)
-      (operated_leaves old.memory.memory new.memory.memory new.memory.changed
-      (row_operated old.memory.memory new.memory.memory new.memory.changed end row (may_taken same hash old s at i row here (slot_of i) row (row_at same hash old s at i row here)) steps)))
+      subst (λ (n : Mem (Node K V)). LeavesBy w.memory n new.changed) (sym happened.4.memory)
+      (subst (λ (n : Mem (Node K V)). LeavesBy n new.memory new.changed) (sym at.memory)
+      (operated_leaves old.memory new.memory new.changed
+      (row_operated old.memory new.memory new.changed end row (may_row same hash old s at i row here) steps)))
 
   reached : Reached deferred_word old.batch_size w
   reached = came_reached old.batch_size w at.together.makings.standing.came
 
-  tells : TellsRow new.memory.changed
-  tells = row_tells old.memory.memory new.memory.memory new.memory.changed end row steps
+  tells : TellsRow new.changed
+  tells = row_tells old.memory new.memory new.changed end row steps
 
   abbrev effects : List EffectOfWorld
   effects = (it deferred_word old.batch_size w reached i w2 happened.1).effects
@@ -130,18 +129,18 @@ module _ {K V S : Type 0} (same : K → K → Bool) (hash : K → ℕ) (m : Mome
 
   module _ (roots : ℕ) (things : List Thing) (sets : Sets) (first : Known) (request : Request) (began : World (Node K V)) (done : List Effect)
       (r : FollowsInRow old.batch_size roots things sets first i request began done known s.world) where
-    as_first : (b : ℕ) → new.memory.changed ≡ changed.Took b → known.roles b ≡ first.roles b
+    as_first : (b : ℕ) → new.changed ≡ changed.Took b → known.roles b ≡ first.roles b
     as_first b is = by (r.noted b)
       where
         by : (known.roles b ≡ first.roles b) ⊎ (known.roles b ≡ role.Free) → known.roles b ≡ first.roles b
         by (inl e) = e
-        by (inr free) = absurd (not_free new.memory.changed left b is free)
+        by (inr free) = absurd (not_free new.changed left b is free)
 
-    pub goes_on : FollowsInRow old.batch_size roots things sets first i request began (done ++ effects_of Row known new.memory.changed) (known_after Row new.memory.changed known) w2
+    pub goes_on : FollowsInRow old.batch_size roots things sets first i request began (done ++ effects_of Row known new.changed) (known_after Row new.changed known) w2
     goes_on =
         let stepped = it deferred_word old.batch_size w reached i w2 happened.1 in
-        let so = takes_so deferred_word old.batch_size w reached i w2 happened.1 new.memory.changed left tells in
-        let back = step_back known first new.memory.changed tells (taken_in effects) so as_first in
+        let so = takes_so deferred_word old.batch_size w reached i w2 happened.1 new.changed left tells in
+        let back = step_back known first new.changed tells (taken_in effects) so as_first in
         record {
           of_slots = r.of_slots;
           before = r.before;
@@ -152,17 +151,17 @@ module _ {K V S : Type 0} (same : K → K → Bool) (hash : K → ℕ) (m : Mome
               ap taken_in stepped.logged ∙ taken_append effects w.log ∙ ap (λ (l : List ℕ). l ++ taken_in effects) r.taken
               ∙ append_assoc (taken_in began.log) r.back (taken_in effects);
           reclaimed =
-              both_more thing_back done (effects_of Row known new.memory.changed) _ _ r.reclaimed back.0
+              both_more thing_back done (effects_of Row known new.changed) _ _ r.reclaimed back.0
               ∙ sym (flat_map-append (λ (b : ℕ). things_of (first.roles b)) r.back (taken_in effects));
-          all = both_of_row done (effects_of Row known new.memory.changed) r.all back.1;
-          noted = λ b. noted_still (known.roles b) (first.roles b) _ (r.noted b) (roles_after known new.memory.changed tells b);
+          all = both_of_row done (effects_of Row known new.changed) r.all back.1;
+          noted = λ b. noted_still (known.roles b) (first.roles b) _ (r.noted b) (roles_after known new.changed tells b);
         }
 
-module _ (K V S : Type 0) (same : K → K → Bool) (hash : K → ℕ) where
-  pub slot_events_go_on : SlotEventsGoOn K V S same hash
+module _ (K V : Type 0) (same : K → K → Bool) (hash : ℕ → K → ℕ) where
+  pub slot_events_go_on : SlotEventsGoOn K V same hash
   slot_events_go_on m known s old new at blocks i told leads row here roots things sets first request began done r =
       let to = leads row here in
-      goes_on same hash m known s old new at blocks i row here (to.0, told) to.1 to.4 roots things sets first request began done r
+      goes_on same hash m known s old new at blocks i row here (to.0, told) to.1 to.2 roots things sets first request began done r
 
 -- Where it has ended.
 

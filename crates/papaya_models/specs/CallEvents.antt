@@ -11,9 +11,6 @@ use Rattle.papaya_histories.specs.Given.Callers.Together.{UnderWay, HandsOver}
 use Rattle.papaya_histories.specs.Given.Effects.Effects.{effects_of, known_after}
 use Rattle.papaya_histories.specs.Given.Effects.Known.{Known}
 use Rattle.papaya_histories.specs.Given.Effects.declared.acting.Acting.TheVariants.{Call}
-use Rattle.papaya_histories.specs.Given.Executor.IsAt.{Scene, IsAt}
-use Rattle.papaya_histories.specs.Given.Executor.Stepping.{StepLeads}
-use Rattle.papaya_histories.specs.Given.Executor.declared.executor.Executor.{Executor}
 use Rattle.papaya_histories.specs.Given.Moments.Whole.{ShowsWhole}
 use Rattle.papaya_histories.specs.Given.Schedules.After.{moment}
 use Rattle.papaya_histories.specs.Given.Runs.Present.{slot_of_guard}
@@ -31,6 +28,9 @@ use Rattle.papaya_models.specs.Defers.{AreNoted, HasToldIt}
 use Rattle.papaya_models.specs.Follows.{FollowsSets, FollowsModel, IsFollowed}
 use Rattle.papaya_models.specs.Numbers.{HasNumber, EachIsOnce, AreOfThings, NoneBack}
 use Rattle.papaya_models.specs.Retires.{HasToldSo}
+use Rattle.papaya_histories.specs.Given.Scenes.Held.{Held, IsAt}
+use Rattle.papaya_histories.specs.Given.Scenes.Scene.{Scene}
+use Rattle.papaya_histories.specs.Given.Scenes.Stepping.{StepLeads}
 
 module _ (things : List Thing) (known : Known) (slot : ℕ) where
   -- what a row is to hand over is noted as things that came into maps, and it retires under this slot
@@ -90,17 +90,17 @@ module _ (K V : Type 0) where
       → changes_of log e ≡ flat_map (handing (things_in (e ∷ log)) slot) e.effects → left_last e.event e.outcome (moment log) ≡ []
       → 1 ≤ count slot (sets_in terms.batch_size log).active → IsFollowed terms log e known w
 
-module _ (K V S : Type 0) (same : K → K → Bool) (hash : K → ℕ) where
+module _ (K V : Type 0) (same : K → K → Bool) (hash : ℕ → K → ℕ) where
   -- So it is after each step of the call, if what a row is to hand over that begins with it is noted.
   abbrev pub CallEventsGoOn : Type 0
   CallEventsGoOn =
-      (name : ℕ → List ℕ) (m : Moment K V) (known : Known) (s : Scene K V) (old new : Executor K V S) → IsAt same hash old s → ShowsWhole same name m known s
+      (name : ℕ → List ℕ) (m : Moment K V) (known : Known) (s : Scene K V) (old new : Held K V) → IsAt same hash old s → ShowsWhole same name m known s
       → (map i : ℕ) (u : UnderWay K V K) (here : s.calls map i ≡ Some u) (told : Progress (Node K V)) (leads : StepLeads same hash i told s old new)
-      → EachIsOnce (known_after (Call i map) new.memory.changed known)
+      → EachIsOnce (known_after (Call i map) new.changed known)
       → (roots : ℕ) (things : List Thing) (sets : Sets) (slot : ℕ) (done : List Effect) → FollowsInEvent old.batch_size roots things sets slot i done known s.world
       → ((request : Request) (begun : World (Node K V)) → HandsOver (leads map u here).0.setting i s.world request → Happens deferred_word old.batch_size (Begin i request) s.world begun
       → Happens deferred_word old.batch_size (Step i) begun (leads map u here).4.w2 → IsNoted (things_then things done) known slot request)
-      → FollowsInEvent old.batch_size roots things sets slot i (done ++ effects_of (Call i map) known new.memory.changed) (known_after (Call i map) new.memory.changed known)
+      → FollowsInEvent old.batch_size roots things sets slot i (done ++ effects_of (Call i map) known new.changed) (known_after (Call i map) new.changed known)
       (leads map u here).4.w2
 
 -- the event is none of a guard, of a registration, nor of the collector as a whole, that is a row on a slot

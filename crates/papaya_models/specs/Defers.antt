@@ -16,9 +16,6 @@ use Rattle.papaya_histories.specs.Given.Effects.Effects.{effects_of, known_after
 use Rattle.papaya_histories.specs.Given.Effects.Known.{Known}
 use Rattle.papaya_histories.specs.Given.Effects.declared.acting.Acting.TheVariants.{Call}
 use Rattle.papaya_histories.specs.Given.Effects.declared.role.Role.TheVariants as role
-use Rattle.papaya_histories.specs.Given.Executor.IsAt.{Scene, IsAt}
-use Rattle.papaya_histories.specs.Given.Executor.Stepping.{StepLeads}
-use Rattle.papaya_histories.specs.Given.Executor.declared.executor.Executor.{Executor}
 use Rattle.papaya_histories.specs.Given.Moments.Whole.{ShowsWhole}
 use Rattle.papaya_histories.specs.Given.Schedules.Lists.{is_in}
 use Rattle.papaya_histories.specs.Given.Schedules.Model.{handing}
@@ -30,6 +27,9 @@ use Rattle.papaya_histories.specs.Given.Schedules.declared.effect.Thing.TheVaria
 use Rattle.papaya_models.specs.Alike.{ChangesAlike}
 use Rattle.papaya_models.specs.Calls.{OfNoRow}
 use Rattle.papaya_models.specs.Numbers.{HasNumber}
+use Rattle.papaya_histories.specs.Given.Scenes.Held.{Held, IsAt}
+use Rattle.papaya_histories.specs.Given.Scenes.Scene.{Scene}
+use Rattle.papaya_histories.specs.Given.Scenes.Stepping.{StepLeads}
 
 -- the block is not on the list still
 abbrev pub IsDue : Deferring → Type 0
@@ -73,22 +73,22 @@ DefersAreTold K V =
     (things : List Thing) (known : Known) (i s b t : ℕ) (handed : List Change) (w : World (Node K V)) → HasToldIt things known i b t handed w → w.row i ≡ Rests
     → (before after : ℕ → Use) → ChangesAlike (HasNumber known things) (changes (Defer' s b t) before after) handed
 
-module _ (K V S : Type 0) (same : K → K → Bool) (hash : K → ℕ) where
+module _ (K V : Type 0) (same : K → K → Bool) (hash : ℕ → K → ℕ) where
   -- The promises: where a call begins a row, what it tells is so, if it defers a block that is noted as a pair behind one that is noted as a table,
   abbrev pub DeferringBegins : Type 0
   DeferringBegins =
-      (name : ℕ → List ℕ) (m : Moment K V) (known : Known) (s : Scene K V) (old new : Executor K V S) → IsAt same hash old s → ShowsWhole same name m known s
+      (name : ℕ → List ℕ) (m : Moment K V) (known : Known) (s : Scene K V) (old new : Held K V) → IsAt same hash old s → ShowsWhole same name m known s
       → (map i : ℕ) (u : UnderWay K V K) (here : s.calls map i ≡ Some u) (told : Progress (Node K V)) (leads : StepLeads same hash i told s old new)
-      → (OfNoRow K V S same hash s old new map i u here told leads → ⊥) → s.world.row i ≡ Rests
+      → (OfNoRow K V same hash s old new map i u here told leads → ⊥) → s.world.row i ≡ Rests
       → (request : Request) × ((things : List Thing) (slot under b t : ℕ) → request ≡ Defer' slot b t → AreNoted things known b t
-      → HasToldIt things (known_after (Call i map) new.memory.changed known) i b t (flat_map (handing things under) (effects_of (Call i map) known new.memory.changed)) (leads map u here).4.w2)
+      → HasToldIt things (known_after (Call i map) new.changed known) i b t (flat_map (handing things under) (effects_of (Call i map) known new.changed)) (leads map u here).4.w2)
 
   -- and so it is after each step.
   abbrev pub DeferringGoesOn : Type 0
   DeferringGoesOn =
-      (name : ℕ → List ℕ) (m : Moment K V) (known : Known) (s : Scene K V) (old new : Executor K V S) → IsAt same hash old s → ShowsWhole same name m known s
+      (name : ℕ → List ℕ) (m : Moment K V) (known : Known) (s : Scene K V) (old new : Held K V) → IsAt same hash old s → ShowsWhole same name m known s
       → (map i : ℕ) (u : UnderWay K V K) (here : s.calls map i ≡ Some u) (told : Progress (Node K V)) (leads : StepLeads same hash i told s old new)
-      → (OfNoRow K V S same hash s old new map i u here told leads → ⊥) → s.world.row i ≢ Rests
+      → (OfNoRow K V same hash s old new map i u here told leads → ⊥) → s.world.row i ≢ Rests
       → (things : List Thing) (under b t : ℕ) (handed : List Change) → AreNoted things known b t → HasToldIt things known i b t handed s.world
-      → HasToldIt things (known_after (Call i map) new.memory.changed known) i b t (handed ++ flat_map (handing things under) (effects_of (Call i map) known new.memory.changed))
+      → HasToldIt things (known_after (Call i map) new.changed known) i b t (handed ++ flat_map (handing things under) (effects_of (Call i map) known new.changed))
       (leads map u here).4.w2

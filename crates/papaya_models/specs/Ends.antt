@@ -22,9 +22,6 @@ use Rattle.papaya_histories.specs.Given.Effects.Effects.{effects_of, known_after
 use Rattle.papaya_histories.specs.Given.Effects.Known.{Known}
 use Rattle.papaya_histories.specs.Given.Effects.declared.acting.Acting.TheVariants.{Ending}
 use Rattle.papaya_histories.specs.Given.Effects.declared.role.Role.TheVariants as role
-use Rattle.papaya_histories.specs.Given.Executor.Ending.{EndingLeads}
-use Rattle.papaya_histories.specs.Given.Executor.IsAt.{Scene, IsAt}
-use Rattle.papaya_histories.specs.Given.Executor.declared.executor.Executor.{Executor}
 use Rattle.papaya_histories.specs.Given.Finishes.Endings.{Finishing}
 use Rattle.papaya_histories.specs.Given.Follows.Blocks.{ShowsBlocks}
 use Rattle.papaya_histories.specs.Given.Moments.Whole.{ShowsWhole}
@@ -34,6 +31,9 @@ use Rattle.papaya_models.specs.Follows.{FollowsSets}
 use Rattle.papaya_models.specs.Numbers.{HasNumber, EachIsOnce}
 use Rattle.papaya_models.specs.Others.{HandNone}
 use Rattle.papaya_models.specs.Turns.{sets_of, CameByTurns}
+use Rattle.papaya_histories.specs.Given.Scenes.Ending.{EndingLeads}
+use Rattle.papaya_histories.specs.Given.Scenes.Held.{Held, IsAt}
+use Rattle.papaya_histories.specs.Given.Scenes.Scene.{Scene}
 
 -- an effect of the end of a map: nothing comes by it, and nothing that was handed over is reclaimed
 abbrev pub IsOfEnd : Effect → Type 0
@@ -86,12 +86,12 @@ module _ (K V : Type 0) where
       → EachIsOnce first → FollowsInEnd batch_size roots things sets first i done known w → (m : Moment K V) → ShowsBlocks m known w → NoTableIsLeft known i w
       → (slot : ℕ) → FollowsSets batch_size roots things (sets_on batch_size things slot done sets) known w
 
-module _ (K V S : Type 0) (same : K → K → Bool) (hash : K → ℕ) where
+module _ (K V : Type 0) (same : K → K → Bool) (hash : ℕ → K → ℕ) where
   -- It goes on so by each step of the end.
   abbrev pub EndsGoOn : Type 0
   EndsGoOn =
-      (name : ℕ → List ℕ) (m : Moment K V) (known : Known) (s : Scene K V) (old new : Executor K V S) → IsAt same hash old s → ShowsWhole same name m known s
+      (name : ℕ → List ℕ) (m : Moment K V) (known : Known) (s : Scene K V) (old new : Held K V) → IsAt same hash old s → ShowsWhole same name m known s
       → (i : ℕ) (told : Settled (Node K V)) (leads : EndingLeads same hash i told s old new) (f : Finishing K V) (here : s.enders i ≡ Some f) (map : ℕ) → s.maps map ≡ None
       → (roots : ℕ) (things : List Thing) (sets : Sets) (first : Known) (done : List Effect) → FollowsInEnd old.batch_size roots things sets first i done known s.world
-      → FollowsInEnd old.batch_size roots things sets first i (done ++ effects_of (Ending map) known new.memory.changed) (known_after (Ending map) new.memory.changed known)
+      → FollowsInEnd old.batch_size roots things sets first i (done ++ effects_of (Ending map) known new.changed) (known_after (Ending map) new.changed known)
       (leads f here).2.w2

@@ -10,10 +10,10 @@ use Rattle.papaya_histories.specs.Given.Schedules.Model.{IsByModel, things_in, s
 use Rattle.papaya_histories.specs.Given.Schedules.Terms.{Terms}
 use Rattle.papaya_histories.specs.Given.Schedules.declared.effect.Thing.{Thing}
 use Rattle.papaya_histories.specs.Given.Effects.Known.{Known, nothing_known}
-use Rattle.papaya_histories.specs.Given.Executor.IsAt.{at_first}
 use Rattle.papaya_models.specs.Alike.{SetsAlike}
 use Rattle.papaya_models.specs.Numbers.{HasNumber}
 use Rattle.papaya_models.specs.Turns.{sets_of, CameByTurns}
+use Rattle.papaya_histories.specs.Given.Scenes.Scene.{at_first}
 
 module _ {K V : Type 0} (batch_size roots : ℕ) where
   -- No row is under way. The world came about by rows one after another, and the waiting sets of its blocks are these sets of the things that are noted in them.

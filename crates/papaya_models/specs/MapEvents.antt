@@ -8,9 +8,6 @@ use Rattle.papaya_histories.specs.Given.Tables.declared.setting.Setting.{Setting
 use Rattle.papaya_histories.specs.Given.Effects.Effects.{effects_of, known_after}
 use Rattle.papaya_histories.specs.Given.Effects.Known.{Known}
 use Rattle.papaya_histories.specs.Given.Effects.declared.acting.Acting.TheVariants.{Making}
-use Rattle.papaya_histories.specs.Given.Executor.IsAt.{Scene, IsAt}
-use Rattle.papaya_histories.specs.Given.Executor.Making.{MakingLeads}
-use Rattle.papaya_histories.specs.Given.Executor.declared.executor.Executor.{Executor}
 use Rattle.papaya_histories.specs.Given.Finishes.Makings.{Beginning}
 use Rattle.papaya_histories.specs.Given.Follows.Blocks.{ShowsBlocks}
 use Rattle.papaya_histories.specs.Given.Moments.Whole.{ShowsWhole}
@@ -28,6 +25,9 @@ use Rattle.papaya_models.specs.Follows.{FollowsSets, IsFollowed}
 use Rattle.papaya_models.specs.Numbers.{EachIsOnce, NoneBack}
 use Rattle.papaya_histories.specs.Given.Others.Makings.{WasNew}
 use Rattle.papaya_models.specs.Others.{HandNone}
+use Rattle.papaya_histories.specs.Given.Scenes.Held.{Held, IsAt}
+use Rattle.papaya_histories.specs.Given.Scenes.Making.{MakingLeads}
+use Rattle.papaya_histories.specs.Given.Scenes.Scene.{Scene}
 
 module _ {K V : Type 0} (batch_size roots : ℕ) where
   -- In the midst of an event that makes a map, which has done this: it hands nothing over, and the sets are those of the model as it began.
@@ -37,7 +37,7 @@ module _ {K V : Type 0} (batch_size roots : ℕ) where
     pub back : NoneBack done
     pub follows : FollowsSets batch_size roots (things_then things done) sets known w
 
--- A moment that shows the executor notes each thing once.
+-- A moment that shows a scene notes each thing once.
 abbrev pub MomentsNoteOnce : Type 0 → Type 0 → Type 0
 MomentsNoteOnce K V =
     (same : K → K → Bool) (name : ℕ → List ℕ) (m : Moment K V) (known : Known) (s : Scene K V) → ShowsWhole same name m known s → EachIsOnce known
@@ -64,12 +64,12 @@ module _ (K V : Type 0) where
       → (m : Moment K V) → ShowsBlocks m known w → NoTableIsLeft known i w → changes_of log e ≡ flat_map (handing (things_in (e ∷ log)) slot) e.effects
       → left_last e.event e.outcome (moment log) ≡ [] → IsFollowed terms log e known w
 
-module _ (K V S : Type 0) (same : K → K → Bool) (hash : K → ℕ) where
+module _ (K V : Type 0) (same : K → K → Bool) (hash : ℕ → K → ℕ) where
   -- A making goes on so with each step.
   abbrev pub MakingEventsGoOn : Type 0
   MakingEventsGoOn =
-      (name : ℕ → List ℕ) (m : Moment K V) (known : Known) (s : Scene K V) (old new : Executor K V S) → IsAt same hash old s → ShowsWhole same name m known s
+      (name : ℕ → List ℕ) (m : Moment K V) (known : Known) (s : Scene K V) (old new : Held K V) → IsAt same hash old s → ShowsWhole same name m known s
       → (i : ℕ) (told : Progress Setting) (leads : MakingLeads same hash i told s old new) (b : Beginning K) (here : s.makers i ≡ Some b) → Option ℕ → WasNew b.map told m
       → (roots : ℕ) (things : List Thing) (sets : Sets) (done : List Effect) → FollowsInMaking old.batch_size roots things sets done known s.world
-      → FollowsInMaking old.batch_size roots things sets (done ++ effects_of (Making b.map) known new.memory.changed) (known_after (Making b.map) new.memory.changed known)
+      → FollowsInMaking old.batch_size roots things sets (done ++ effects_of (Making b.map) known new.changed) (known_after (Making b.map) new.changed known)
       (leads b here).2.step.w2

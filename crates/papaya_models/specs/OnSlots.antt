@@ -1,5 +1,5 @@
 -- Events that are rows on slots: in the midst of one, as it begins, goes on and ends.
-use Rattle.std.specs.Prelude.{◌≡◌, ◌⊎◌, ◌<◌, ◌^◌, ℕ, Bool, List, [], ◌++◌, flat_map, Some}
+use Rattle.std.specs.Prelude.{◌≡◌, ◌⊎◌, ◌<◌, ◌^◌, ℕ, Bool, List, [], ◌++◌, flat_map}
 use Rattle.papaya_histories.specs.Given.Seize.Sequence.{changes, taken_in}
 use Rattle.papaya_histories.specs.Given.Seize.WaitingSets.{Change, Sets}
 use Rattle.papaya_histories.specs.Given.Seize.World.{World, Rests, Request, Begins, Step, Use}
@@ -20,18 +20,17 @@ use Rattle.papaya_histories.specs.Given.Effects.Effects.{effects_of, known_after
 use Rattle.papaya_histories.specs.Given.Effects.Known.{Known}
 use Rattle.papaya_histories.specs.Given.Effects.declared.acting.Acting.TheVariants.{Row}
 use Rattle.papaya_histories.specs.Given.Effects.declared.role.Role.TheVariants.{Free}
-use Rattle.papaya_histories.specs.Given.Executor.IsAt.{Scene, IsAt, work_of}
-use Rattle.papaya_histories.specs.Given.Executor.OnSlots.{RowLeads}
-use Rattle.papaya_histories.specs.Given.Executor.declared.executor.Executor.{Executor}
-use Rattle.papaya_histories.specs.Given.Executor.declared.row.RowTold.{RowTold}
-use Rattle.papaya_histories.specs.Given.Executor.declared.row.SlotRow.{SlotRow}
-use Rattle.papaya_histories.specs.Given.Executor.declared.worker.Work.TheVariants.{OnSlot}
+use Rattle.papaya_histories.specs.Given.Scenes.declared.row.RowTold.{RowTold}
+use Rattle.papaya_histories.specs.Given.Scenes.declared.row.SlotRow.{SlotRow}
 use Rattle.papaya_histories.specs.Given.Follows.Blocks.{ShowsBlocks}
 use Rattle.papaya_histories.specs.Given.Others.Rows.{scene_then}
 use Rattle.papaya_models.specs.Alike.{SetsAlike}
 use Rattle.papaya_models.specs.Follows.{FollowsSets, IsFollowed}
 use Rattle.papaya_models.specs.Numbers.{things_of, HasNumber, EachIsOnce, AreOfRow}
 use Rattle.papaya_models.specs.Turns.{sets_of, IsInRow}
+use Rattle.papaya_histories.specs.Given.Scenes.Held.{Held, IsAt}
+use Rattle.papaya_histories.specs.Given.Scenes.OnSlots.{RowLeads}
+use Rattle.papaya_histories.specs.Given.Scenes.Scene.{IsOnSlot, Scene}
 
 module _ {K V : Type 0} (batch_size roots : ℕ) where
   -- In the midst of an event that is a row of caller i, which began in that world, once it has done this. As the row began these were the sets, by what was noted then; what it has
@@ -69,13 +68,13 @@ module _ (K V : Type 0) where
       → w.row i ≡ Rests → (m : Moment K V) → ShowsBlocks m known w
       → IsRowFor request began.uses w.uses e.event e.outcome (at_work e (moment log)) → IsFollowed terms log e known w
 
-module _ (K V S : Type 0) (same : K → K → Bool) (hash : K → ℕ) where
+module _ (K V : Type 0) (same : K → K → Bool) (hash : ℕ → K → ℕ) where
   -- It goes on so by each step of the row.
   abbrev pub SlotEventsGoOn : Type 0
   SlotEventsGoOn =
-      (m : Moment K V) (known : Known) (s : Scene K V) (old new : Executor K V S) → IsAt same hash old s → ShowsBlocks m known s.world
-      → (i : ℕ) (told : RowTold (Node K V)) (leads : RowLeads same hash i told s old new) (row : SlotRow) (here : work_of old i ≡ Some (OnSlot row))
+      (m : Moment K V) (known : Known) (s : Scene K V) (old new : Held K V) → IsAt same hash old s → ShowsBlocks m known s.world
+      → (i : ℕ) (told : RowTold (Node K V)) (leads : RowLeads same hash i told s old new) (row : SlotRow) (here : IsOnSlot s i row)
       → (roots : ℕ) (things : List Thing) (sets : Sets) (first : Known) (request : Request) (began : World (Node K V)) (done : List Effect)
       → FollowsInRow old.batch_size roots things sets first i request began done known s.world
-      → FollowsInRow old.batch_size roots things sets first i request began (done ++ effects_of Row known new.memory.changed) (known_after Row new.memory.changed known)
-      (scene_then same hash (Step i) s old new (leads row here).4).world
+      → FollowsInRow old.batch_size roots things sets first i request began (done ++ effects_of Row known new.changed) (known_after Row new.changed known)
+      (scene_then same hash (Step i) s old new (leads row here).2).world

@@ -14,14 +14,14 @@ use Rattle.papaya_histories.specs.Given.Schedules.declared.effect.Thing.{Thing}
 use Rattle.papaya_histories.specs.Given.Effects.Effects.{effects_of, known_after}
 use Rattle.papaya_histories.specs.Given.Effects.Known.{Known}
 use Rattle.papaya_histories.specs.Given.Effects.declared.acting.Acting.TheVariants.{Making}
-use Rattle.papaya_histories.specs.Given.Executor.IsAt.{Scene, IsAt}
-use Rattle.papaya_histories.specs.Given.Executor.Making.{MakingLeads}
-use Rattle.papaya_histories.specs.Given.Executor.declared.executor.Executor.{Executor}
 use Rattle.papaya_histories.specs.Given.Finishes.Makings.{Beginning}
 use Rattle.papaya_histories.specs.Given.Moments.Whole.{ShowsWhole}
 use Rattle.papaya_models.specs.Calls.{sets_on}
 use Rattle.papaya_histories.specs.Given.Others.Makings.{WasNew}
 use Rattle.papaya_models.specs.Follows.{FollowsSets}
+use Rattle.papaya_histories.specs.Given.Scenes.Held.{Held, IsAt}
+use Rattle.papaya_histories.specs.Given.Scenes.Making.{MakingLeads}
+use Rattle.papaya_histories.specs.Given.Scenes.Scene.{Scene}
 
 -- it hands nothing over
 abbrev pub HandsNone : Effect → Type 0
@@ -40,11 +40,11 @@ MapsAreByModel K V =
     → left_last e.event e.outcome (moment log) ≡ [] → HandNone e.effects → flat_map thing_back e.effects ≡ [] → IsByModel terms log e
 
 -- and after each step of a making the sets are alike still.
-module _ (K V S : Type 0) (same : K → K → Bool) (hash : K → ℕ) where
+module _ (K V : Type 0) (same : K → K → Bool) (hash : ℕ → K → ℕ) where
   abbrev pub MakingsFollow : Type 0
   MakingsFollow =
-      (name : ℕ → List ℕ) (m : Moment K V) (known : Known) (s : Scene K V) (old new : Executor K V S) → IsAt same hash old s → ShowsWhole same name m known s
+      (name : ℕ → List ℕ) (m : Moment K V) (known : Known) (s : Scene K V) (old new : Held K V) → IsAt same hash old s → ShowsWhole same name m known s
       → (i : ℕ) (told : Progress Setting) (leads : MakingLeads same hash i told s old new) (b : Beginning K) (here : s.makers i ≡ Some b) → Option ℕ → WasNew b.map told m
       → (roots : ℕ) (things : List Thing) (sets : Sets) → FollowsSets old.batch_size roots things sets known s.world → (slot : ℕ)
-      → (let effects = effects_of (Making b.map) known new.memory.changed in
-      FollowsSets old.batch_size roots things (sets_on old.batch_size things slot effects sets) (known_after (Making b.map) new.memory.changed known) (leads b here).2.step.w2)
+      → (let effects = effects_of (Making b.map) known new.changed in
+      FollowsSets old.batch_size roots things (sets_on old.batch_size things slot effects sets) (known_after (Making b.map) new.changed known) (leads b here).2.step.w2)

@@ -16,9 +16,6 @@ use Rattle.papaya_histories.specs.Given.Callers.Together.{UnderWay}
 use Rattle.papaya_histories.specs.Given.Effects.Effects.{effects_of, known_after}
 use Rattle.papaya_histories.specs.Given.Effects.Known.{Known}
 use Rattle.papaya_histories.specs.Given.Effects.declared.acting.Acting.TheVariants.{Call}
-use Rattle.papaya_histories.specs.Given.Executor.IsAt.{Scene, IsAt}
-use Rattle.papaya_histories.specs.Given.Executor.Stepping.{StepLeads}
-use Rattle.papaya_histories.specs.Given.Executor.declared.executor.Executor.{Executor}
 use Rattle.papaya_histories.specs.Given.Moments.Whole.{ShowsWhole}
 use Rattle.papaya_histories.specs.Given.Schedules.Model.{handing}
 use Rattle.papaya_histories.specs.Given.Schedules.Moment.{Moment}
@@ -26,6 +23,9 @@ use Rattle.papaya_histories.specs.Given.Schedules.declared.effect.Thing.{Thing}
 use Rattle.papaya_models.specs.Alike.{ChangesAlike}
 use Rattle.papaya_models.specs.Calls.{OfNoRow}
 use Rattle.papaya_models.specs.Numbers.{HasNumber}
+use Rattle.papaya_histories.specs.Given.Scenes.Held.{Held, IsAt}
+use Rattle.papaya_histories.specs.Given.Scenes.Scene.{Scene}
+use Rattle.papaya_histories.specs.Given.Scenes.Stepping.{StepLeads}
 
 -- it is to retire this block, and has not written into it which batch it is of
 abbrev pub IsToRetireAt : ℕ → Settle → Settling → Type 0
@@ -68,22 +68,22 @@ RetiresAreTold K V =
     (things : List Thing) (known : Known) (i s b : ℕ) (handed : List Change) (w : World (Node K V)) → HasToldSo things known i s b handed w → w.row i ≡ Rests
     → (before after : ℕ → Use) → ChangesAlike (HasNumber known things) (changes (Retire s b) before after) handed
 
-module _ (K V S : Type 0) (same : K → K → Bool) (hash : K → ℕ) where
+module _ (K V : Type 0) (same : K → K → Bool) (hash : ℕ → K → ℕ) where
   -- The promises: where a call begins a row, what it tells is so, if it retires a block that is noted as a thing, under this slot,
   abbrev pub RetiringBegins : Type 0
   RetiringBegins =
-      (name : ℕ → List ℕ) (m : Moment K V) (known : Known) (s : Scene K V) (old new : Executor K V S) → IsAt same hash old s → ShowsWhole same name m known s
+      (name : ℕ → List ℕ) (m : Moment K V) (known : Known) (s : Scene K V) (old new : Held K V) → IsAt same hash old s → ShowsWhole same name m known s
       → (map i : ℕ) (u : UnderWay K V K) (here : s.calls map i ≡ Some u) (told : Progress (Node K V)) (leads : StepLeads same hash i told s old new)
-      → (OfNoRow K V S same hash s old new map i u here told leads → ⊥) → s.world.row i ≡ Rests
+      → (OfNoRow K V same hash s old new map i u here told leads → ⊥) → s.world.row i ≡ Rests
       → (request : Request) × ((things : List Thing) (slot b k : ℕ) → request ≡ Retire slot b → HasNumber known things b k
-      → HasToldSo things (known_after (Call i map) new.memory.changed known) i slot b (flat_map (handing things slot) (effects_of (Call i map) known new.memory.changed)) (leads map u here).4.w2)
+      → HasToldSo things (known_after (Call i map) new.changed known) i slot b (flat_map (handing things slot) (effects_of (Call i map) known new.changed)) (leads map u here).4.w2)
 
   -- and so it is after each step.
   abbrev pub RetiringGoesOn : Type 0
   RetiringGoesOn =
-      (name : ℕ → List ℕ) (m : Moment K V) (known : Known) (s : Scene K V) (old new : Executor K V S) → IsAt same hash old s → ShowsWhole same name m known s
+      (name : ℕ → List ℕ) (m : Moment K V) (known : Known) (s : Scene K V) (old new : Held K V) → IsAt same hash old s → ShowsWhole same name m known s
       → (map i : ℕ) (u : UnderWay K V K) (here : s.calls map i ≡ Some u) (told : Progress (Node K V)) (leads : StepLeads same hash i told s old new)
-      → (OfNoRow K V S same hash s old new map i u here told leads → ⊥) → s.world.row i ≢ Rests
+      → (OfNoRow K V same hash s old new map i u here told leads → ⊥) → s.world.row i ≢ Rests
       → (things : List Thing) (slot b k : ℕ) (handed : List Change) → HasNumber known things b k → HasToldSo things known i slot b handed s.world
-      → HasToldSo things (known_after (Call i map) new.memory.changed known) i slot b (handed ++ flat_map (handing things slot) (effects_of (Call i map) known new.memory.changed))
+      → HasToldSo things (known_after (Call i map) new.changed known) i slot b (handed ++ flat_map (handing things slot) (effects_of (Call i map) known new.changed))
       (leads map u here).4.w2

@@ -31,17 +31,17 @@ pub fn rows_run_in_turn<T>()
 /// nothing. A row that retires a block that is noted as a thing tells just that, once: as it writes into the block which batch that is of, which names none before.
 /// One that defers a pair behind a table tells just that, once: as the pair takes the place of the head of the table's list.
 /// A slot within a section is active in the sets of the model, and an event that hands over under such a slot, and reclaims nothing, is by the model.
-pub fn calls_follow_the_model<K, V, S>()
+pub fn calls_follow_the_model<K, V>()
     ensures more { MoreThingsFollow K V }
-    ensures calls { (same : K → K → Bool) (hash : K → ℕ) → CallsFollow K V S same hash }
-    ensures rows_begin { (same : K → K → Bool) (hash : K → ℕ) → RowsWithinBegin K V S same hash }
-    ensures rows_go_on { (same : K → K → Bool) (hash : K → ℕ) → RowsWithinGoOn K V S same hash }
+    ensures calls { (same : K → K → Bool) (hash : ℕ → K → ℕ) → CallsFollow K V same hash }
+    ensures rows_begin { (same : K → K → Bool) (hash : ℕ → K → ℕ) → RowsWithinBegin K V same hash }
+    ensures rows_go_on { (same : K → K → Bool) (hash : ℕ → K → ℕ) → RowsWithinGoOn K V same hash }
     ensures rows_end { RowsWithinEnd K V }
-    ensures retiring_begins { (same : K → K → Bool) (hash : K → ℕ) → RetiringBegins K V S same hash }
-    ensures retiring_goes_on { (same : K → K → Bool) (hash : K → ℕ) → RetiringGoesOn K V S same hash }
+    ensures retiring_begins { (same : K → K → Bool) (hash : ℕ → K → ℕ) → RetiringBegins K V same hash }
+    ensures retiring_goes_on { (same : K → K → Bool) (hash : ℕ → K → ℕ) → RetiringGoesOn K V same hash }
     ensures retires { RetiresAreTold K V }
-    ensures deferring_begins { (same : K → K → Bool) (hash : K → ℕ) → DeferringBegins K V S same hash }
-    ensures deferring_goes_on { (same : K → K → Bool) (hash : K → ℕ) → DeferringGoesOn K V S same hash }
+    ensures deferring_begins { (same : K → K → Bool) (hash : ℕ → K → ℕ) → DeferringBegins K V same hash }
+    ensures deferring_goes_on { (same : K → K → Bool) (hash : ℕ → K → ℕ) → DeferringGoesOn K V same hash }
     ensures defers { DefersAreTold K V }
     ensures insides { InsidesFollow K V }
     ensures by_model { HandingIsByModel K V }
@@ -51,9 +51,9 @@ pub fn calls_follow_the_model<K, V, S>()
 /// of a row that has told its part, if what a row is to hand over is noted, as it begins, as things that came into maps. Once the event is over it is by the model, if its
 /// slot was active as it began; the sets are those of the model after it, or the call is in the midst of a row still, which it is not where no row is under way.
 /// An event that is no row on a slot changes the sets by what it hands over, under the slot of its call's guard.
-pub fn call_events_follow_the_model<K, V, S>()
+pub fn call_events_follow_the_model<K, V>()
     ensures begins { CallEventsBegin K V }
-    ensures goes_on { (same : K → K → Bool) (hash : K → ℕ) → CallEventsGoOn K V S same hash }
+    ensures goes_on { (same : K → K → Bool) (hash : ℕ → K → ℕ) → CallEventsGoOn K V same hash }
     ensures pauses { CallEventsPause K V }
     ensures ends { CallEventsEnd K V }
     ensures others { OthersHandOver K V }
@@ -63,11 +63,11 @@ pub fn call_events_follow_the_model<K, V, S>()
 /// nothing to them. An event that is a row on a slot begins so, and goes on with each step of the row; where the row has ended, the event has reclaimed what
 /// the model reclaims, in that order, and the sets are those of the model again. Which row an event of guards and registrations is, clause `rows` says.
 /// Where all is reclaimed, the work on slots reclaims what the model reclaims, in that order.
-pub fn events_follow_the_model<K, V, S>()
+pub fn events_follow_the_model<K, V>()
     ensures at_first { FollowsAtFirst K V }
     ensures idle { IdleEventsFollow K V }
     ensures begins { SlotEventsBegin K V }
-    ensures goes_on { (same : K → K → Bool) (hash : K → ℕ) → SlotEventsGoOn K V S same hash }
+    ensures goes_on { (same : K → K → Bool) (hash : ℕ → K → ℕ) → SlotEventsGoOn K V same hash }
     ensures ends { SlotEventsEnd K V }
     ensures rows { EventsAreRows K V }
     ensures reclaiming { ReclaimingFollows K V }
@@ -76,19 +76,19 @@ pub fn events_follow_the_model<K, V, S>()
 /// A making of a map leaves the sets alike with each of its steps. Where a map ends, what is behind a table leaves the waiting sets of blocks as that is left over,
 /// and those of the model as it is told that the table was taken; once the end is over, and no table is left over, the sets are alike again. An event that hands
 /// nothing over and reclaims nothing is by the model, as the making of a map is, and its end.
-pub fn maps_follow_the_model<K, V, S>()
-    ensures makings { (same : K → K → Bool) (hash : K → ℕ) → MakingsFollow K V S same hash }
+pub fn maps_follow_the_model<K, V>()
+    ensures makings { (same : K → K → Bool) (hash : ℕ → K → ℕ) → MakingsFollow K V same hash }
     ensures ends_begin { EndsBegin K V }
-    ensures ends_go_on { (same : K → K → Bool) (hash : K → ℕ) → EndsGoOn K V S same hash }
+    ensures ends_go_on { (same : K → K → Bool) (hash : ℕ → K → ℕ) → EndsGoOn K V same hash }
     ensures ends_end { EndsEnd K V }
     ensures by_model { MapsAreByModel K V }
 {}
 
 /// Events that make a map, or end one, whole: a making hands nothing over, step by step, and once its event is over it is by the model; and so it is of the end of a map,
-/// if no table is left over. The sets are those of the model after it. A moment that shows the executor notes each thing once.
-pub fn map_events_follow_the_model<K, V, S>()
+/// if no table is left over. The sets are those of the model after it. A moment that shows a scene notes each thing once.
+pub fn map_events_follow_the_model<K, V>()
     ensures begins { MakingEventsBegin K V }
-    ensures goes_on { (same : K → K → Bool) (hash : K → ℕ) → MakingEventsGoOn K V S same hash }
+    ensures goes_on { (same : K → K → Bool) (hash : ℕ → K → ℕ) → MakingEventsGoOn K V same hash }
     ensures ends { MakingEventsEnd K V }
     ensures over { EndEventsEnd K V }
     ensures once { MomentsNoteOnce K V }

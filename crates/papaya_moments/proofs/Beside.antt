@@ -24,8 +24,6 @@ use Rattle.papaya_spots.specs.Given.Callers.Together.{CallOnKey, UnderWay, OnKey
 use Rattle.papaya_spots.proofs.Given.Callers.Together.Replies.{replies_stand_together}
 use Rattle.papaya_spots.specs.Given.Effects.Known.{Known}
 use Rattle.papaya_spots.specs.Given.Effects.declared.role.Role.TheVariants as role
-use Rattle.papaya_spots.specs.Given.Executor.IsAt.{Scene, IsAt, slot_of}
-use Rattle.papaya_spots.specs.Given.Executor.declared.executor.Executor.{Executor}
 use Rattle.papaya_spots.specs.Given.Finishes.Maps.{Standing}
 use Rattle.papaya_spots.specs.Given.Follows.Blocks.{HasRole}
 use Rattle.papaya_spots.specs.Given.Follows.Shows.{Shows}
@@ -34,6 +32,8 @@ use Rattle.papaya_hands.specs.Asked.{IsQuestion, IsAskedAs, IsAsked, ShowsAsked}
 use Rattle.papaya_hands.specs.Hands.{IsInUse, ShowsHands}
 use Rattle.papaya_hands.proofs.HandsOn.{in_one}
 use Rattle.papaya_spots.specs.Given.Others.After.{ShowsAfter}
+use Rattle.papaya_spots.specs.Given.Scenes.Held.{Held, IsAt}
+use Rattle.papaya_spots.specs.Given.Scenes.Scene.{Scene, slot_of}
 
 module _ {K V : Type 0} (known known2 : Known) (s s2 : Scene K V) where
   -- a block came as a table: it is in use, and has its place in its map, if that stands
@@ -119,7 +119,7 @@ module _ {K V : Type 0} (same : K → K → Bool) (name : ℕ → List ℕ) (m m
     hands_beside = record { pairs = pair_used; tables = table_used; born = born_so; stand = stand_so }
 
   -- calls
-  module _ {S : Type 0} (hash : K → ℕ) (new : Executor K V S) (at_new : IsAt same hash new s2) (asked : ShowsAsked name shown.number m known s) where
+  module _ (hash : ℕ → K → ℕ) (new : Held K V) (at_new : IsAt same hash new s2) (asked : ShowsAsked name shown.number m known s) where
     -- the pair that a call asks about is there
     module _ (map i : ℕ) (u : CallOnKey K V K) (here : s2.calls map i ≡ Some (OnKey u)) (st : Standing K) (there : s2.maps map ≡ Some st) where
       each : Together V same st.hash same st.setting slot_of s2.world st.chart st.blocks st.sights (s2.calls map)

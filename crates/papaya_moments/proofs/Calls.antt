@@ -10,9 +10,6 @@ use Rattle.papaya_spots.specs.Given.Callers.Together.{UnderWay, OnKey, ForRoom, 
 use Rattle.papaya_spots.specs.Given.Effects.Effects.{effects_of, known_after}
 use Rattle.papaya_spots.specs.Given.Effects.Known.{Known}
 use Rattle.papaya_spots.specs.Given.Effects.declared.acting.Acting.TheVariants as acts
-use Rattle.papaya_spots.specs.Given.Executor.IsAt.{Scene, IsAt}
-use Rattle.papaya_spots.specs.Given.Executor.Stepping.{StepLeads, scene_after}
-use Rattle.papaya_spots.specs.Given.Executor.declared.executor.Executor.{Executor}
 use Rattle.papaya_spots.specs.Given.Follows.Calling.{told, come_to}
 use Rattle.papaya_spots.specs.Given.Follows.Steps.{TakesNone}
 use Rattle.papaya_spots.proofs.Given.Follows.Steps.{WentTo, went_to, DidSo, OfNoRow}
@@ -26,6 +23,9 @@ use Rattle.papaya_spots.proofs.Given.Others.Counters.{calls_note_counters}
 use Rattle.papaya_spots.proofs.Begins.{places_begin, blocks_begin, calls_leave_places}
 use Rattle.papaya_spots.proofs.Steps.{calls_keep_places, calls_keep_blocks, calls_leave_outside}
 use Rattle.papaya_moments.specs.Whole.{ShowsWhole, WholeBegins, CallsKeepWhole, CallsTakeWhole, CallsBeginWhole, CallsComeToWhole}
+use Rattle.papaya_spots.specs.Given.Scenes.Held.{Held, IsAt}
+use Rattle.papaya_spots.specs.Given.Scenes.Scene.{Scene}
+use Rattle.papaya_spots.specs.Given.Scenes.Stepping.{StepLeads, scene_after}
 
 pub whole_begins : (K V : Type 0) → WholeBegins K V
 whole_begins K V same roots name = record {
@@ -36,7 +36,7 @@ whole_begins K V same roots name = record {
   counters = λ i b is. absurd (cc is);
 }
 
-module _ {K V S : Type 0} (same : K → K → Bool) (hash : K → ℕ) (name : ℕ → List ℕ) (m : Moment K V) (known : Known) (s : Scene K V) (old new : Executor K V S) (at : IsAt same hash old s)
+module _ {K V : Type 0} (same : K → K → Bool) (hash : ℕ → K → ℕ) (name : ℕ → List ℕ) (m : Moment K V) (known : Known) (s : Scene K V) (old new : Held K V) (at : IsAt same hash old s)
     (whole : ShowsWhole same name m known s) (map i : ℕ) (u : UnderWay K V K) (here : s.calls map i ≡ Some u) (told : Progress (Node K V)) (leads : StepLeads same hash i told s old new) where
   abbrev to : WentTo same hash name m known s old new at whole.all.shown map i u here told leads
   to = went_to same hash name m known s old new at whole.all.shown map i u here told leads
@@ -58,38 +58,38 @@ module _ {K V S : Type 0} (same : K → K → Bool) (hash : K → ℕ) (name : �
   of_row (OverAll x) (p2, end, machine_is, told_is, inr row) = inr (λ none. none)
 
   abbrev v : Moment K V
-  v = with_effects (Some (name i)) (Some map) (effects_of (acts.Call i map) known new.memory.changed) m
+  v = with_effects (Some (name i)) (Some map) (effects_of (acts.Call i map) known new.changed) m
 
   abbrev after : Known
-  after = known_after (acts.Call i map) new.memory.changed known
+  after = known_after (acts.Call i map) new.changed known
 
   abbrev then_at : Scene K V
-  then_at = scene_after same hash s old new map i to.0 u to.1 told to.4
+  then_at = scene_after same s old new map i to.0 u to.1 told to.4
 
-  whole_by : ShowsAll same name v after then_at → ((NoRow u to.4.did → ⊥) → TakesNone new.memory.changed) → ShowsWhole same name v after then_at
+  whole_by : ShowsAll same name v after then_at → ((NoRow u to.4.did → ⊥) → TakesNone new.changed) → ShowsWhole same name v after then_at
   whole_by all takes = record {
     all = all;
-    places = calls_keep_places K V S same hash name m known s old new at whole.all.shown whole.places map i u here told leads;
-    blocks = calls_keep_blocks K V S same hash name m known s old new at whole.all.shown whole.blocks map i u here told leads takes;
-    outside = calls_leave_outside K V S same hash name m known s old new at whole.all.shown whole.outside map i u here told leads;
-    counters = calls_note_counters K V S same hash name m known s old new at whole.all.shown whole.counters map i u here told leads;
+    places = calls_keep_places K V same hash name m known s old new at whole.all.shown whole.places map i u here told leads;
+    blocks = calls_keep_blocks K V same hash name m known s old new at whole.all.shown whole.blocks map i u here told leads takes;
+    outside = calls_leave_outside K V same hash name m known s old new at whole.all.shown whole.outside map i u here told leads;
+    counters = calls_note_counters K V same hash name m known s old new at whole.all.shown whole.counters map i u here told leads;
   }
 
   pub step_keeps : ShowsWhole same name v after then_at
   step_keeps = elim (of_row u to.4.did) as (λ _. ShowsWhole same name v after then_at) [
-    | inl own ↦ whole_by (calls_store_theirs K V S same hash name m known s old new at whole.all map i u here told leads own).2 (λ other. absurd (other own))
-    | inr other ↦ let it = rows_hand_theirs K V S same hash name m known s old new at whole.all map i u here told leads other in whole_by it.2 (λ row. it.1)
+    | inl own ↦ whole_by (calls_store_theirs K V same hash name m known s old new at whole.all map i u here told leads own).2 (λ other. absurd (other own))
+    | inr other ↦ let it = rows_hand_theirs K V same hash name m known s old new at whole.all map i u here told leads other in whole_by it.2 (λ row. it.1)
   ]
 
-module _ (K V S : Type 0) (same : K → K → Bool) (hash : K → ℕ) where
-  pub calls_keep_whole : CallsKeepWhole K V S same hash
+module _ (K V : Type 0) (same : K → K → Bool) (hash : ℕ → K → ℕ) where
+  pub calls_keep_whole : CallsKeepWhole K V same hash
   calls_keep_whole name m known s old new at whole map i u here told leads = step_keeps same hash name m known s old new at whole map i u here told leads
 
-  pub calls_take_whole : CallsTakeWhole K V S same hash
+  pub calls_take_whole : CallsTakeWhole K V same hash
   calls_take_whole name m known s e at whole map i u here c c_is question c_asks standing there is_told next machine taken goes =
       let lie = calls_leave_places K V m known s.maps whole.places whole.blocks (told (name i) is_told m).calls in
       record {
-        all = calls_take K V S same hash name m known s e at whole.all map i u here c c_is question c_asks standing there is_told next machine taken goes;
+        all = calls_take K V same hash name m known s e at whole.all map i u here c c_is question c_asks standing there is_told next machine taken goes;
         places = lie.0;
         blocks = lie.1;
         outside = whole.outside;

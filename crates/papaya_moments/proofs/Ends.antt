@@ -24,9 +24,6 @@ use Rattle.papaya_spots.specs.Given.Effects.declared.acting.Acting.{Acting}
 use Rattle.papaya_spots.specs.Given.Effects.declared.acting.Acting.TheVariants.{Ending}
 use Rattle.papaya_spots.specs.Given.Effects.declared.role.Role.{Role}
 use Rattle.papaya_spots.specs.Given.Effects.declared.role.Role.TheVariants as role
-use Rattle.papaya_spots.specs.Given.Executor.Ending.{EndingStepsFrom, EndingComesTo, ending_begun}
-use Rattle.papaya_spots.specs.Given.Executor.IsAt.{Scene, IsAt, slot_of}
-use Rattle.papaya_spots.specs.Given.Executor.declared.executor.Executor.{Executor}
 use Rattle.papaya_spots.specs.Given.Finishes.Endings.{Finishing, StepsOfEnding}
 use Rattle.papaya_spots.specs.Given.Finishes.FactsEnds.{taken_by as taken_of, left_by}
 use Rattle.papaya_spots.specs.Given.Finishes.Maps.{Standing}
@@ -59,6 +56,9 @@ use Rattle.papaya_moments.specs.Endings.{IsOfIts, WaitsOn, EndingsBeginWhole, En
 use Rattle.papaya_moments.specs.Whole.{ShowsWhole}
 use Rattle.papaya_moments.proofs.Beside.{IsBeside, hands_beside, asked_beside}
 use Rattle.papaya_moments.proofs.OnSlots.{put_out, all_out, with_outside, IsAlone, alone, still_alone, none_some, Keeps, same_roles}
+use Rattle.papaya_spots.specs.Given.Scenes.Ending.{EndingComesTo, EndingStepsFrom, ending_begun}
+use Rattle.papaya_spots.specs.Given.Scenes.Held.{Held, IsAt}
+use Rattle.papaya_spots.specs.Given.Scenes.Scene.{Scene, slot_of}
 
 -- effects that move no pair and no table find numbers as they must
 module _ {K V : Type 0} (acted : Option ℕ) where
@@ -105,9 +105,9 @@ module _ {K V : Type 0} (map : ℕ) (m : Moment K V) where
   calm_alone : (effects : List Effect) → AllCalm effects → IsAlone m (with_effects None (Some map) effects m)
   calm_alone effects calm = still_alone m (Some map) effects (calm_still effects calm)
 
-module _ {K V S : Type 0} (same : K → K → Bool) (hash : K → ℕ) (name : ℕ → List ℕ) (m : Moment K V) (known : Known) (s : Scene K V) (old new : Executor K V S) (at : IsAt same hash old s)
+module _ {K V : Type 0} (same : K → K → Bool) (hash : ℕ → K → ℕ) (name : ℕ → List ℕ) (m : Moment K V) (known : Known) (s : Scene K V) (old new : Held K V) (at : IsAt same hash old s)
     (whole : ShowsWhole same name m known s) (i : ℕ) (f : Finishing K V) (here : s.enders i ≡ Some f) (end : EndMap) (said : Settled (Node K V)) (steps : EndingStepsFrom f.machine old new end said)
-    (did : StepsOfEnding V same same old.batch_size old.roots slot_of s.world s.maps s.calls s.makers s.enders i f new.memory.memory (end, said))
+    (did : StepsOfEnding V same same old.batch_size old.roots slot_of s.world s.maps s.calls s.makers s.enders i f new.memory (end, said))
     (map : ℕ) (not_there : s.maps map ≡ None) (comes : EndingComesTo same hash s new i f end did.w2 did.deed said) where
   abbrev w : World (Node K V)
   w = s.world
@@ -116,7 +116,7 @@ module _ {K V S : Type 0} (same : K → K → Bool) (hash : K → ℕ) (name : �
   w2 = did.w2
 
   abbrev told : Changed
-  told = new.memory.changed
+  told = new.changed
 
   abbrev does : Changed → List Effect
   does x = effects_of (Ending map) known x
@@ -250,18 +250,18 @@ pub ends_with : {K V : Type 0} (map : ℕ) (f : Effect) (v : Moment K V) → IsO
 ends_with map (Taken t) v of_map outside = (of_map, each_waits_outside _ _ v outside t)
 ends_with map _ v of_map outside = tt
 
-module _ (K V S : Type 0) (same : K → K → Bool) (hash : K → ℕ) where
-  pub endings_keep_whole : EndingsKeepWhole K V S same hash
+module _ (K V : Type 0) (same : K → K → Bool) (hash : ℕ → K → ℕ) where
+  pub endings_keep_whole : EndingsKeepWhole K V same hash
   endings_keep_whole name m known s old new at whole i told leads f here map not_there of_map waits =
       let to = leads f here in
       let finds = end_numbers same hash name m known s old new at whole i f here to.0 told to.1 to.2 map not_there to.3 in
-      let ends = with_outside None (Some map) (IsOfIts map) (λ v effect. EndsWith v map effect) (ends_with map) (effects_of (Ending map) known new.memory.changed) m finds whole.outside of_map in
+      let ends = with_outside None (Some map) (IsOfIts map) (λ v effect. EndsWith v map effect) (ends_with map) (effects_of (Ending map) known new.changed) m finds whole.outside of_map in
       end_keeps_whole same hash name m known s old new at whole i f here to.0 told to.1 to.2 map not_there to.3 waits told to.3
-      (endings_go_aside K V S same hash s old new at whole.all.rows i told leads f here)
-      (endings_are_shown K V S same hash name m known s old new at whole.all.shown i told leads f here map not_there ends).1
-      (endings_note_counters K V S same hash name m known s old new at whole.all.shown whole.counters i told leads f here map)
+      (endings_go_aside K V same hash s old new at whole.all.rows i told leads f here)
+      (endings_are_shown K V same hash name m known s old new at whole.all.shown i told leads f here map not_there ends).1
+      (endings_note_counters K V same hash name m known s old new at whole.all.shown whole.counters i told leads f here map)
 
-  pub endings_begin_whole : EndingsBeginWhole K V S same hash
+  pub endings_begin_whole : EndingsBeginWhole K V same hash
   endings_begin_whole name m known s new whole map i standing there at_new =
       let after = endings_begin_shown K V same name m known s whole.all.shown map i standing in
       record {

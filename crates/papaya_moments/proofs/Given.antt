@@ -14,7 +14,7 @@ pub use Rattle.papaya_spots.proofs.Given.Tells
 pub use Rattle.papaya_spots.proofs.Given.Callers
 pub use Rattle.papaya_spots.proofs.Given.Finishes
 pub use Rattle.papaya_spots.proofs.Given.Runs
-pub use Rattle.papaya_spots.proofs.Given.Executor
+pub use Rattle.papaya_spots.proofs.Given.Scenes
 pub use Rattle.papaya_spots.proofs.Given.Follows
 pub use Rattle.papaya_hands.proofs as Hands
 pub use Rattle.papaya_spots.proofs.Given.Others

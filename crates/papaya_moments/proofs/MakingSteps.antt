@@ -28,9 +28,6 @@ use Rattle.papaya_spots.specs.Given.Effects.declared.acting.Acting.{Acting}
 use Rattle.papaya_spots.specs.Given.Effects.declared.acting.Acting.TheVariants as acts
 use Rattle.papaya_spots.specs.Given.Effects.declared.role.Role.{Role}
 use Rattle.papaya_spots.specs.Given.Effects.declared.role.Role.TheVariants as role
-use Rattle.papaya_spots.specs.Given.Executor.IsAt.{Scene, IsAt, slot_of}
-use Rattle.papaya_spots.specs.Given.Executor.Making.{MakingLeads, MakingStepsFrom}
-use Rattle.papaya_spots.specs.Given.Executor.declared.executor.Executor.{Executor}
 use Rattle.papaya_spots.proofs.Given.Follows.Alike.{AllStill, calm_still, put_here, put_elsewhere}
 use Rattle.papaya_spots.proofs.Given.Follows.Onward.{IsOfMap}
 use Rattle.papaya_spots.proofs.Given.Follows.Operations.{LeavesBy}
@@ -52,10 +49,13 @@ use Rattle.papaya_moments.specs.Whole.{ShowsWhole}
 use Rattle.papaya_moments.proofs.Beside.{CameAsTable, StoodSo, StandsNew, IsBeside, hands_beside, asked_beside}
 use Rattle.papaya_moments.proofs.Makings.{lasting_of, none_of_it, none_of_map, not_of_map, before_free, makings_keep_blocks}
 use Rattle.papaya_moments.proofs.OnSlots.{IsAlone, alone, still_alone, none_some, Keeps, same_roles}
+use Rattle.papaya_spots.specs.Given.Scenes.Held.{Held, IsAt}
+use Rattle.papaya_spots.specs.Given.Scenes.Making.{MakingLeads, MakingStepsFrom}
+use Rattle.papaya_spots.specs.Given.Scenes.Scene.{Scene, slot_of}
 
-module _ {K V S : Type 0} (same : K → K → Bool) (hash : K → ℕ) (name : ℕ → List ℕ) (m : Moment K V) (known : Known) (s : Scene K V) (old new : Executor K V S) (at : IsAt same hash old s)
+module _ {K V : Type 0} (same : K → K → Bool) (hash : ℕ → K → ℕ) (name : ℕ → List ℕ) (m : Moment K V) (known : Known) (s : Scene K V) (old new : Held K V) (at : IsAt same hash old s)
     (whole : ShowsWhole same name m known s) (i : ℕ) (b : Beginning K) (here : s.makers i ≡ Some b) (end : NewMap) (said : Progress Setting) (steps : MakingStepsFrom b.machine old new end said)
-    (did : MakingStepsAmong V same same old.batch_size old.roots slot_of s.world s.maps s.calls s.makers s.enders i b new.memory.memory (end, said)) (of : Option ℕ) where
+    (did : MakingStepsAmong V same same old.batch_size old.roots slot_of s.world s.maps s.calls s.makers s.enders i b new.memory (end, said)) (of : Option ℕ) where
   abbrev w : World (Node K V)
   w = s.world
 
@@ -63,7 +63,7 @@ module _ {K V S : Type 0} (same : K → K → Bool) (hash : K → ℕ) (name : �
   w2 = did.step.w2
 
   abbrev told : Changed
-  told = new.memory.changed
+  told = new.changed
 
   abbrev its : Acting
   its = acts.Making b.map
@@ -252,23 +252,23 @@ module _ {K V S : Type 0} (same : K → K → Bool) (hash : K → ℕ) (name : �
     pub done_beside : IsBeside m (with_effects None of (effects_of its known told) m) known then_known s rest
     done_beside = making_beside rest refl refl (all_went rest (λ r before after is. root_went r before after is)) stood_or_new
 
-module _ (K V S : Type 0) (same : K → K → Bool) (hash : K → ℕ) where
-  module _ (name : ℕ → List ℕ) (m : Moment K V) (known : Known) (s : Scene K V) (old new : Executor K V S) (at : IsAt same hash old s) (whole : ShowsWhole same name m known s)
+module _ (K V : Type 0) (same : K → K → Bool) (hash : ℕ → K → ℕ) where
+  module _ (name : ℕ → List ℕ) (m : Moment K V) (known : Known) (s : Scene K V) (old new : Held K V) (at : IsAt same hash old s) (whole : ShowsWhole same name m known s)
       (i : ℕ) (told : Progress Setting) (leads : MakingLeads same hash i told s old new) (b : Beginning K) (here : s.makers i ≡ Some b) (of : Option ℕ)
       (was_new : WasNew b.map told m) where
     abbrev v : Moment K V
-    v = with_effects None of (effects_of (acts.Making b.map) known new.memory.changed) m
+    v = with_effects None of (effects_of (acts.Making b.map) known new.changed) m
 
     abbrev after_known : Known
-    after_known = known_after (acts.Making b.map) new.memory.changed known
+    after_known = known_after (acts.Making b.map) new.changed known
 
     abbrev s2 : Scene K V
     s2 = making_after same hash s old new i b (leads b here).0 (leads b here).2.step.w2 told (leads b here).3
 
     whole_then : IsBeside m v known after_known s s2 → IsAt same hash new s2 → ShowsRows s2 → ShowsWhole same name v after_known s2
     whole_then beside at_new rows =
-        let after = makings_are_shown K V S same hash name m known s old new at whole.all.shown i told leads b here of (whole.counters i b here) was_new in
-        let lie = makings_leave_places K V S same hash name m known s old new at whole.all.shown i told leads b here of whole.places whole.outside in
+        let after = makings_are_shown K V same hash name m known s old new at whole.all.shown i told leads b here of (whole.counters i b here) was_new in
+        let lie = makings_leave_places K V same hash name m known s old new at whole.all.shown i told leads b here of whole.places whole.outside in
         record {
           all = record {
             shown = after.shows;
@@ -277,15 +277,15 @@ module _ (K V S : Type 0) (same : K → K → Bool) (hash : K → ℕ) where
             rows = rows;
           };
           places = lie.0;
-          blocks = makings_keep_blocks K V S same hash name m known s old new at whole.all.shown whole.blocks i told leads b here of was_new;
+          blocks = makings_keep_blocks K V same hash name m known s old new at whole.all.shown whole.blocks i told leads b here of was_new;
           outside = lie.1;
-          counters = makings_note_counters K V S same hash name m known s old new at whole.all.shown whole.counters i told leads b here;
+          counters = makings_note_counters K V same hash name m known s old new at whole.all.shown whole.counters i told leads b here;
         }
 
   -- what calls and hands are asked by lasts by each step of a making
-  pub makings_go_beside : (name : ℕ → List ℕ) (m : Moment K V) (known : Known) (s : Scene K V) (old new : Executor K V S) (at : IsAt same hash old s) (whole : ShowsWhole same name m known s)
+  pub makings_go_beside : (name : ℕ → List ℕ) (m : Moment K V) (known : Known) (s : Scene K V) (old new : Held K V) (at : IsAt same hash old s) (whole : ShowsWhole same name m known s)
       → (i : ℕ) (told : Progress Setting) (leads : MakingLeads same hash i told s old new) (b : Beginning K) (here : s.makers i ≡ Some b) (of : Option ℕ) → WasNew b.map told m
-      → IsBeside m (with_effects None of (effects_of (acts.Making b.map) known new.memory.changed) m) known (known_after (acts.Making b.map) new.memory.changed known) s
+      → IsBeside m (with_effects None of (effects_of (acts.Making b.map) known new.changed) m) known (known_after (acts.Making b.map) new.changed known) s
       (making_after same hash s old new i b (leads b here).0 (leads b here).2.step.w2 told (leads b here).3)
   makings_go_beside name m known s old new at whole i progress.Goes leads b here of was_new =
       let to = leads b here in
@@ -306,17 +306,17 @@ module _ (K V S : Type 0) (same : K → K → Bool) (hash : K → ℕ) where
       (λ r before after is. absurd (not_refused same hash name m known s old new at whole.all.shown i b here to.0 (progress.Refused fault) to.1 to.2 of r before after is fault refl)))
       (stood_still same hash name m known s old new at whole i b here to.0 (progress.Refused fault) to.1 to.2 of s2 refl)
 
-  pub makings_keep_whole : MakingsKeepWhole K V S same hash
+  pub makings_keep_whole : MakingsKeepWhole K V same hash
   makings_keep_whole name m known s old new at whole i progress.Goes leads b here of was_new =
-      let rows = makings_go_aside K V S same hash s old new at whole.all.rows i progress.Goes leads b here in
+      let rows = makings_go_aside K V same hash s old new at whole.all.rows i progress.Goes leads b here in
       whole_then name m known s old new at whole i progress.Goes leads b here of was_new
       (makings_go_beside name m known s old new at whole i progress.Goes leads b here of was_new) (leads b here).3 (record { none = rows.none; one = rows.one })
   makings_keep_whole name m known s old new at whole i progress.Waits leads b here of was_new = absurd (leads b here).3
   makings_keep_whole name m known s old new at whole i (progress.Done setting) leads b here of was_new =
-      let rows = makings_go_aside K V S same hash s old new at whole.all.rows i (progress.Done setting) leads b here in
+      let rows = makings_go_aside K V same hash s old new at whole.all.rows i (progress.Done setting) leads b here in
       whole_then name m known s old new at whole i (progress.Done setting) leads b here of was_new
       (makings_go_beside name m known s old new at whole i (progress.Done setting) leads b here of was_new) (leads b here).3.2 (record { none = rows.none; one = rows.one })
   makings_keep_whole name m known s old new at whole i (progress.Refused fault) leads b here of was_new =
-      let rows = makings_go_aside K V S same hash s old new at whole.all.rows i (progress.Refused fault) leads b here in
+      let rows = makings_go_aside K V same hash s old new at whole.all.rows i (progress.Refused fault) leads b here in
       whole_then name m known s old new at whole i (progress.Refused fault) leads b here of was_new
       (makings_go_beside name m known s old new at whole i (progress.Refused fault) leads b here of was_new) (leads b here).3 (record { none = rows.none; one = rows.one })

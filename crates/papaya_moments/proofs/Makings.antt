@@ -32,9 +32,6 @@ use Rattle.papaya_spots.specs.Given.Effects.declared.acting.Acting.{Acting}
 use Rattle.papaya_spots.specs.Given.Effects.declared.acting.Acting.TheVariants.{Making}
 use Rattle.papaya_spots.specs.Given.Effects.declared.role.Role.{Role}
 use Rattle.papaya_spots.specs.Given.Effects.declared.role.Role.TheVariants as role
-use Rattle.papaya_spots.specs.Given.Executor.IsAt.{Scene, IsAt, slot_of}
-use Rattle.papaya_spots.specs.Given.Executor.Making.{MakingStepsFrom, MakingComesTo}
-use Rattle.papaya_spots.specs.Given.Executor.declared.executor.Executor.{Executor}
 use Rattle.papaya_spots.specs.Given.Follows.Blocks.{HasRole}
 use Rattle.papaya_spots.specs.Given.Follows.Shows.{Shows}
 use Rattle.papaya_spots.proofs.Given.Follows.Alike.{AllStill, calm_still, put_elsewhere}
@@ -53,6 +50,9 @@ use Rattle.papaya_spots.proofs.Calm.{put_back}
 use Rattle.papaya_spots.proofs.Gone.{other_gone}
 use Rattle.papaya_spots.proofs.Unreclaimed.{AsUnreclaimed, unreclaimed_same, linked_unreclaimed, and_both, table_is}
 use Rattle.papaya_moments.specs.Makings.{MakingsKeepBlocks}
+use Rattle.papaya_spots.specs.Given.Scenes.Held.{Held, IsAt}
+use Rattle.papaya_spots.specs.Given.Scenes.Making.{MakingComesTo, MakingStepsFrom}
+use Rattle.papaya_spots.specs.Given.Scenes.Scene.{Scene, slot_of}
 
 -- what is of a map lasts
 pub lasting_of : (r : Role) → IsOfMap r → IsLasting r
@@ -122,10 +122,10 @@ module _ {K V : Type 0} (map : ℕ) (of : Option ℕ) (m : Moment K V) (known : 
     led_blocks false b (role.Table t len) e = blocks
     led_blocks false b (role.Counter n) e = blocks
 
-module _ {K V S : Type 0} (same : K → K → Bool) (hash : K → ℕ) (name : ℕ → List ℕ) (m : Moment K V) (known : Known) (s : Scene K V) (old new : Executor K V S) (at : IsAt same hash old s)
+module _ {K V : Type 0} (same : K → K → Bool) (hash : ℕ → K → ℕ) (name : ℕ → List ℕ) (m : Moment K V) (known : Known) (s : Scene K V) (old new : Held K V) (at : IsAt same hash old s)
     (shown : Shows same name m known s) (blocks : ShowsUnreclaimed m known) (i : ℕ) (b : Beginning K) (here : s.makers i ≡ Some b) (end : NewMap) (said : Progress Setting)
     (steps : MakingStepsFrom b.machine old new end said)
-    (did : MakingStepsAmong V same same old.batch_size old.roots slot_of s.world s.maps s.calls s.makers s.enders i b new.memory.memory (end, said)) (of : Option ℕ) where
+    (did : MakingStepsAmong V same same old.batch_size old.roots slot_of s.world s.maps s.calls s.makers s.enders i b new.memory (end, said)) (of : Option ℕ) where
   abbrev w : World (Node K V)
   w = s.world
 
@@ -154,7 +154,7 @@ module _ {K V S : Type 0} (same : K → K → Bool) (hash : K → ℕ) (name : �
   After x = ShowsUnreclaimed (with_effects None of (effects_of (Making b.map) known x) m) (known_after (Making b.map) x known)
 
   -- its root leads to the first table of a map that was there as a new one
-  rooted_new : (setting : Setting) → IsNew b.map setting m → (r before after : ℕ) → new.memory.changed ≡ changed.Wrote (Root r) before after → After (changed.Wrote (Root r) before after)
+  rooted_new : (setting : Setting) → IsNew b.map setting m → (r before after : ℕ) → new.changed ≡ changed.Wrote (Root r) before after → After (changed.Wrote (Root r) before after)
   rooted_new setting is_new r before after is =
       let so = subst (TellsMaking w i b.machine.setting.root) is (tells same hash name m known s old new at shown i b here end said steps did of) in
       let l = subst (LeavesBy w.memory w2.memory) is (left same hash name m known s old new at shown i b here end said steps did of) in
@@ -162,8 +162,8 @@ module _ {K V S : Type 0} (same : K → K → Bool) (hash : K → ℕ) (name : �
       (if names_same before after then known else linked_on (Making b.map) (block_in after) (named known after) known)) (sym (before_free r before after so l))
       (led_blocks b.map of m known blocks setting is_new (names_same before after) (block_in after) (named known after) refl)
 
-  module _ (rooted : (r before after : ℕ) → new.memory.changed ≡ changed.Wrote (Root r) before after → After (changed.Wrote (Root r) before after)) where
-    keeps : (x : Changed) → new.memory.changed ≡ x → TellsMaking w i b.machine.setting.root x → LeavesBy w.memory w2.memory x → After x
+  module _ (rooted : (r before after : ℕ) → new.changed ≡ changed.Wrote (Root r) before after → After (changed.Wrote (Root r) before after)) where
+    keeps : (x : Changed) → new.changed ≡ x → TellsMaking w i b.machine.setting.root x → LeavesBy w.memory w2.memory x → After x
     keeps changed.Nothing is so l = blocks
     keeps (changed.Wrote (Root r) before after) is so l = rooted r before after is
     keeps (changed.Wrote (Used r) before after) is so l = blocks
@@ -178,11 +178,11 @@ module _ {K V S : Type 0} (same : K → K → Bool) (hash : K → ℕ) (name : �
     keeps (changed.Took x) is so l = taken_blocks b.map of m known blocks x (known.roles x) refl (not_of_map x l.1 (known.roles x) refl)
     keeps (changed.Roomed bucket had) is so l = absurd so
 
-    making_keeps : After new.memory.changed
+    making_keeps : After new.changed
     making_keeps =
-        keeps new.memory.changed refl (tells same hash name m known s old new at shown i b here end said steps did of) (left same hash name m known s old new at shown i b here end said steps did of)
+        keeps new.changed refl (tells same hash name m known s old new at shown i b here end said steps did of) (left same hash name m known s old new at shown i b here end said steps did of)
 
-  blocks_by : (t : Progress Setting) → said ≡ t → MakingComesTo same hash s old new i b end w2 t → WasNew b.map t m → After new.memory.changed
+  blocks_by : (t : Progress Setting) → said ≡ t → MakingComesTo same hash s old new i b end w2 t → WasNew b.map t m → After new.changed
   blocks_by progress.Goes is comes was_new =
       making_keeps (λ r before after wrote. absurd (not_going same hash name m known s old new at shown i b here end said steps did of r before after wrote is comes))
   blocks_by progress.Waits is comes was_new = absurd comes
@@ -190,7 +190,7 @@ module _ {K V S : Type 0} (same : K → K → Bool) (hash : K → ℕ) (name : �
   blocks_by (progress.Refused fault) is comes was_new =
       making_keeps (λ r before after wrote. absurd (not_refused same hash name m known s old new at shown i b here end said steps did of r before after wrote fault is))
 
-module _ (K V S : Type 0) (same : K → K → Bool) (hash : K → ℕ) where
-  pub makings_keep_blocks : MakingsKeepBlocks K V S same hash
+module _ (K V : Type 0) (same : K → K → Bool) (hash : ℕ → K → ℕ) where
+  pub makings_keep_blocks : MakingsKeepBlocks K V same hash
   makings_keep_blocks name m known s old new at shown blocks i told leads b here of was_new =
       let to = leads b here in blocks_by same hash name m known s old new at shown blocks i b here to.0 told to.1 to.2 of told refl to.3 was_new

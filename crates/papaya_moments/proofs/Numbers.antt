@@ -281,9 +281,9 @@ maps_go K V m n own remains = record {
     keep : MapThere → Bool
     keep f = not (is_same f.name own)
 
-module _ (K V S : Type 0) (same : K → K → Bool) (hash : K → ℕ) where
-  pub rows_keep_numbers : RowsKeepNumbers K V S same hash
+module _ (K V : Type 0) (same : K → K → Bool) (hash : ℕ → K → ℕ) where
+  pub rows_keep_numbers : RowsKeepNumbers K V same hash
   rows_keep_numbers m n known s old new i told leads row here =
       let to = leads row here in
-      all_kept None None (effects_of acts.Row known new.memory.changed) m
-      (row_links m.made known new.memory.changed (row_tells old.memory.memory new.memory.memory new.memory.changed (to.0, told) row to.1)) n
+      all_kept None None (effects_of acts.Row known new.changed) m
+      (row_links m.made known new.changed (row_tells old.memory new.memory new.changed (to.0, told) row to.1)) n

@@ -29,16 +29,10 @@ use Rattle.papaya_spots.specs.Given.Effects.Known.{Known}
 use Rattle.papaya_spots.specs.Given.Effects.declared.acting.Acting.TheVariants.{Row}
 use Rattle.papaya_spots.specs.Given.Effects.declared.role.Role.{Role}
 use Rattle.papaya_spots.specs.Given.Effects.declared.role.Role.TheVariants as role
-use Rattle.papaya_spots.specs.Given.Executor.IsAt.{Scene, IsAt, slot_of, work_of}
-use Rattle.papaya_spots.specs.Given.Executor.OnSlots.{MayBegin, RowBegins, RowSteps, HappensAt}
-use Rattle.papaya_spots.specs.Given.Executor.Rows.{request_of}
-use Rattle.papaya_spots.specs.Given.Executor.declared.executor.Executor.{Executor}
-use Rattle.papaya_spots.specs.Given.Executor.declared.row.RowTold.{RowTold}
-use Rattle.papaya_spots.specs.Given.Executor.declared.row.SlotCall.{SlotCall}
-use Rattle.papaya_spots.specs.Given.Executor.declared.row.SlotCall.TheVariants as call
-use Rattle.papaya_spots.specs.Given.Executor.declared.row.SlotRow.{SlotRow}
-use Rattle.papaya_spots.specs.Given.Executor.declared.worker.Work.TheVariants as work
-use Rattle.papaya_spots.proofs.Given.Executor.OnSlots.{row_at, may_taken}
+use Rattle.papaya_spots.specs.Given.Scenes.declared.row.RowTold.{RowTold}
+use Rattle.papaya_spots.specs.Given.Scenes.declared.row.SlotCall.{SlotCall}
+use Rattle.papaya_spots.specs.Given.Scenes.declared.row.SlotCall.TheVariants as call
+use Rattle.papaya_spots.specs.Given.Scenes.declared.row.SlotRow.{SlotRow}
 use Rattle.papaya_spots.proofs.Given.Follows.Alike.{AllStill, put_here, put_elsewhere}
 use Rattle.papaya_spots.proofs.Given.Follows.Onward.{IsOfMap}
 use Rattle.papaya_spots.proofs.Given.Follows.Operations.{LeavesBy, operated_leaves}
@@ -60,6 +54,11 @@ use Rattle.papaya_spots.proofs.OnSlots.{row_beside as finds_numbers, rows_leave_
 use Rattle.papaya_spots.proofs.Stays.{places_stay}
 use Rattle.papaya_moments.specs.OnSlots.{HadRetired, RowsBeginWhole, RowsKeepWhole}
 use Rattle.papaya_moments.proofs.Beside.{IsBeside, hands_beside, asked_beside}
+use Rattle.papaya_spots.proofs.Given.Scenes.May.{may_row}
+use Rattle.papaya_spots.specs.Given.Scenes.Held.{Held, IsAt}
+use Rattle.papaya_spots.specs.Given.Scenes.OnSlots.{HappensAt, RowBegins, RowSteps}
+use Rattle.papaya_spots.specs.Given.Scenes.Rows.{request_of}
+use Rattle.papaya_spots.specs.Given.Scenes.Scene.{IsOnSlot, Scene, slot_of}
 
 -- a map that stands then stood so, with its tables in the same blocks
 pub stood_same : {K : Type 0} (o o2 : Option (Standing K)) → IsSameMap o o2 → (st : Standing K) → o2 ≡ Some st
@@ -172,21 +171,21 @@ module _ {K V : Type 0} (known : Known) (w2 : World (Node K V)) where
   )
   row_keeps w (changed.Roomed bucket had) is l = same_roles (known_after Row (changed.Roomed bucket had) known) (roomed_as_many Row known bucket had).0
 
-module _ {K V S : Type 0} (same : K → K → Bool) (hash : K → ℕ) (m : Moment K V) (known : Known) (s : Scene K V) (old new : Executor K V S) (at : IsAt same hash old s)
-    (i : ℕ) (row : SlotRow) (here : work_of old i ≡ Some (work.OnSlot row)) (end : SlotRow × RowTold (Node K V))
-    (steps : RowSteps K V row old.memory.memory new.memory.memory new.memory.changed end) (happened : HappensAt same hash (Step i) s old new) where
+module _ {K V : Type 0} (same : K → K → Bool) (hash : ℕ → K → ℕ) (m : Moment K V) (known : Known) (s : Scene K V) (old new : Held K V) (at : IsAt same hash old s)
+    (i : ℕ) (row : SlotRow) (here : IsOnSlot s i row) (end : SlotRow × RowTold (Node K V))
+    (steps : RowSteps K V row old.memory new.memory new.changed end) (happened : HappensAt same hash (Step i) s old new) where
   abbrev w : World (Node K V)
   w = s.world
 
   abbrev w2 : World (Node K V)
   w2 = happened.0
 
-  left : LeavesBy w.memory w2.memory new.memory.changed
+  left : LeavesBy w.memory w2.memory new.changed
   left =
-      subst (λ (n : Mem (Node K V)). LeavesBy w.memory n new.memory.changed) (sym happened.4.memory)
-      (subst (λ (n : Mem (Node K V)). LeavesBy n new.memory.memory new.memory.changed) (sym at.memory)
-      (operated_leaves old.memory.memory new.memory.memory new.memory.changed
-      (row_operated old.memory.memory new.memory.memory new.memory.changed end row (may_taken same hash old s at i row here (slot_of i) row (row_at same hash old s at i row here)) steps)))
+      subst (λ (n : Mem (Node K V)). LeavesBy w.memory n new.changed) (sym happened.4.memory)
+      (subst (λ (n : Mem (Node K V)). LeavesBy n new.memory new.changed) (sym at.memory)
+      (operated_leaves old.memory new.memory new.changed
+      (row_operated old.memory new.memory new.changed end row (may_row same hash old s at i row here) steps)))
 
   reached : Reached deferred_word old.batch_size w
   reached = came_reached old.batch_size w at.together.makings.standing.came
@@ -202,13 +201,13 @@ module _ {K V S : Type 0} (same : K → K → Bool) (hash : K → ℕ) (m : Mome
       by zero e = ap (λ (h : ℕ → Hand). h b) it.hands ∙ hand_kept b it.effects w.hand e it.one
       by (suc n) e = absurd (none_some (value_at w2.memory b) some (taken_gone deferred_word old.batch_size w reached i w2 happened.1 b (λ z. omega (arith, e, z))))
 
-  tells : TellsRow new.memory.changed
-  tells = row_tells old.memory.memory new.memory.memory new.memory.changed end row steps
+  tells : TellsRow new.changed
+  tells = row_tells old.memory new.memory new.changed end row steps
 
-  pub row_beside : IsBeside m (with_effects None None (effects_of Row known new.memory.changed) m) known (known_after Row new.memory.changed known) s (scene_then same hash (Step i) s old new happened)
+  pub row_beside : IsBeside m (with_effects None None (effects_of Row known new.changed) m) known (known_after Row new.changed known) s (scene_then same hash (Step i) s old new happened)
   row_beside =
-      let a = row_alone m known new.memory.changed tells in
-      let k = row_keeps known w2 w new.memory.changed tells left in
+      let a = row_alone m known new.changed tells in
+      let k = row_keeps known w2 w new.changed tells left in
       record {
         stored = a.stored;
         born = a.born;
@@ -232,33 +231,33 @@ begun_hands size slot i w v call.Refresh h = ap (λ (x : World (Node _ _)). x.ha
 begun_hands size slot i w v call.Flush h = ap (λ (x : World (Node _ _)). x.hand) h.1
 begun_hands size slot i w v call.Unregister h = ap (λ (x : World (Node _ _)). x.hand) h.1
 
-module _ (K V S : Type 0) (same : K → K → Bool) (hash : K → ℕ) where
-  pub rows_keep_whole : RowsKeepWhole K V S same hash
+module _ (K V : Type 0) (same : K → K → Bool) (hash : ℕ → K → ℕ) where
+  pub rows_keep_whole : RowsKeepWhole K V same hash
   rows_keep_whole name m known s old new at whole i told leads row here retired unreclaimed =
       let to = leads row here in
-      let tells = row_tells old.memory.memory new.memory.memory new.memory.changed (to.0, told) row to.1 in
-      let after = rows_on_slots_are_shown K V S same hash name m known s old new at whole.all.shown i told leads row here
-      (with_outside None None HadRetired WasRetired was_retired (effects_of Row known new.memory.changed) m (finds_numbers m known new.memory.changed tells).0.1 whole.outside retired) in
-      let beside = row_beside same hash m known s old new at i row here (to.0, told) to.1 to.4 in
-      let lie = rows_leave_places K V S same hash m known s old new i told leads row here whole.places whole.outside in
+      let tells = row_tells old.memory new.memory new.changed (to.0, told) row to.1 in
+      let after = rows_on_slots_are_shown K V same hash name m known s old new at whole.all.shown i told leads row here
+      (with_outside None None HadRetired WasRetired was_retired (effects_of Row known new.changed) m (finds_numbers m known new.changed tells).0.1 whole.outside retired) in
+      let beside = row_beside same hash m known s old new at i row here (to.0, told) to.1 to.2 in
+      let lie = rows_leave_places K V same hash m known s old new i told leads row here whole.places whole.outside in
       record {
         all = record {
           shown = after.shows;
-          asked = asked_beside same name m _ known _ s _ whole.all.shown after beside hash new to.4.4 whole.all.asked;
+          asked = asked_beside same name m _ known _ s _ whole.all.shown after beside hash new to.2.4 whole.all.asked;
           hands = hands_beside same name m _ known _ s _ whole.all.shown after beside whole.all.hands;
-          rows = rows_go_aside K V S same hash s old new at whole.all.rows i told leads row here;
+          rows = rows_go_aside K V same hash s old new at whole.all.rows i told leads row here;
         };
         places = lie.0;
-        blocks = rows_keep_blocks K V S same hash name m known s old new whole.all.shown i told leads row here unreclaimed whole.blocks;
+        blocks = rows_keep_blocks K V same hash name m known s old new whole.all.shown i told leads row here unreclaimed whole.blocks;
         outside = lie.1;
-        counters = rows_note_counters K V S same hash name m known s old new at whole.all.shown whole.counters i told leads row here;
+        counters = rows_note_counters K V same hash name m known s old new at whole.all.shown whole.counters i told leads row here;
       }
 
   -- all is as it was where a row begins
-  pub rows_begin_beside : (m : Moment K V) (known : Known) (s : Scene K V) (old new : Executor K V S) (called : SlotCall) (i : ℕ) (may : MayBegin old (slot_of i) called) (leads : RowBegins same hash called i s old new)
-      → IsBeside m m known known s (scene_then same hash (Begin i (request_of (slot_of i) called)) s old new (leads may).3)
-  rows_begin_beside m known s old new called i may leads =
-      let to = (leads may).3 in
+  pub rows_begin_beside : (m : Moment K V) (known : Known) (s : Scene K V) (old new : Held K V) (called : SlotCall) (i : ℕ) (leads : RowBegins same hash called i s old new)
+      → IsBeside m m known known s (scene_then same hash (Begin i (request_of (slot_of i) called)) s old new leads.2)
+  rows_begin_beside m known s old new called i leads =
+      let to = leads.2 in
       let hands = begun_hands old.batch_size (slot_of i) i s.world to.0 called to.1.1 in
       record {
         stored = refl;
@@ -273,17 +272,17 @@ module _ (K V S : Type 0) (same : K → K → Bool) (hash : K → ℕ) where
         stood = λ map st is. inl (stood_same (s.maps map) (to.2 map) (to.3 map) st is);
       }
 
-  pub rows_begin_whole : RowsBeginWhole K V S same hash
-  rows_begin_whole name m known s old new at whole called i may leads =
-      let to = (leads may).3 in
-      let after = rows_begin_shown K V S same hash name m known s old new at whole.all.shown called i may leads in
-      let beside = rows_begin_beside m known s old new called i may leads in
+  pub rows_begin_whole : RowsBeginWhole K V same hash
+  rows_begin_whole name m known s old new at whole called i leads =
+      let to = leads.2 in
+      let after = rows_begin_shown K V same hash name m known s old new at whole.all.shown called i leads in
+      let beside = rows_begin_beside m known s old new called i leads in
       record {
         all = record {
           shown = after.shows;
           asked = asked_beside same name m m known known s _ whole.all.shown after beside hash new to.4 whole.all.asked;
           hands = hands_beside same name m m known known s _ whole.all.shown after beside whole.all.hands;
-          rows = rows_begin_aside K V S same hash s old new at whole.all.rows called i may leads;
+          rows = rows_begin_aside K V same hash s old new at whole.all.rows called i leads;
         };
         places = places_stay None None [] m known known s.maps to.2 tt (λ b k e. e) to.3 whole.places;
         blocks = whole.blocks;

@@ -13,10 +13,10 @@ use Rattle.papaya_spots.specs.Given.Callers.Together.{CallOnKey}
 use Rattle.papaya_spots.proofs.Given.Callers.Together.At.{at_same}
 use Rattle.papaya_spots.specs.Given.Effects.Known.{Known}
 use Rattle.papaya_spots.specs.Given.Effects.declared.role.Role.TheVariants as role
-use Rattle.papaya_spots.specs.Given.Executor.IsAt.{Scene, slot_of}
 use Rattle.papaya_spots.specs.Given.Finishes.Endings.{StepsAmong}
 use Rattle.papaya_spots.specs.Given.Finishes.Maps.{Standing}
 use Rattle.papaya_spots.specs.Given.Follows.Shows.{Shows}
+use Rattle.papaya_spots.specs.Given.Scenes.Scene.{Scene, slot_of}
 
 module _ {K V : Type 0} (same : K → K → Bool) (batch_size roots : ℕ) (s : Scene K V) (map i : ℕ) (st : Standing K) (sight : IsSight st.chart st.blocks (st.sights (slot_of i))) (x : CallOnKey K V K)
     (m2 : Mem (Node K V)) (p2 : KeyCall K V K) (end : Called (Node K V))

@@ -8,8 +8,6 @@ use Rattle.papaya_spots.specs.Given.Schedules.Moment.{UnderWay as CallThere, Mom
 use Rattle.papaya_spots.specs.Given.Schedules.Views.{call_of}
 use Rattle.papaya_spots.specs.Given.Callers.Together.{UnderWay, OnKey, ForRoom, Counting, OverAll}
 use Rattle.papaya_spots.specs.Given.Effects.Known.{Known}
-use Rattle.papaya_spots.specs.Given.Executor.IsAt.{Scene}
-use Rattle.papaya_spots.specs.Given.Executor.Replying.{unless_stopped}
 use Rattle.papaya_spots.specs.Given.Finishes.Machines.{machine_of}
 use Rattle.papaya_spots.specs.Given.Finishes.Maps.{Standing, with_call}
 use Rattle.papaya_spots.specs.Given.Follows.Calling.{NoneNamed}
@@ -25,6 +23,8 @@ use Rattle.papaya_spots.proofs.Given.Others.Walks.{fewer_calls, with_calls, walk
 use Rattle.papaya_moments.specs.Walks.{WalksGoOnWhole, WalksStopWhole}
 use Rattle.papaya_moments.specs.Whole.{ShowsWhole}
 use Rattle.papaya_moments.proofs.Calls.{calls_come_to_whole}
+use Rattle.papaya_spots.specs.Given.Scenes.Replying.{unless_stopped}
+use Rattle.papaya_spots.specs.Given.Scenes.Scene.{Scene}
 
 -- a call goes on as another one, or is under way no more, and nothing else has changed
 module _ {K V : Type 0} (same : K → K → Bool) (name : ℕ → List ℕ) (m : Moment K V) (known : Known) (s : Scene K V) (whole : ShowsWhole same name m known s)
@@ -93,17 +93,17 @@ module _ {K V : Type 0} where
   asks_nothing known (Counting sum) = tt
   asks_nothing known (OverAll o) = tt
 
-module _ (K V S : Type 0) (same : K → K → Bool) (hash : K → ℕ) where
-  pub walks_go_on_whole : WalksGoOnWhole K V S same hash
+module _ (K V : Type 0) (same : K → K → Bool) (hash : ℕ → K → ℕ) where
+  pub walks_go_on_whole : WalksGoOnWhole K V same hash
   walks_go_on_whole name m known s old new whole i leads map u here =
       let to = leads map u here in
-      then_whole same name m known s whole map i u here (Some to.0) (walks_go_on K V S same hash name m known s old new whole.all.shown i leads map u here)
+      then_whole same name m known s whole map i u here (Some to.0) (walks_go_on K V same hash name m known s old new whole.all.shown i leads map u here)
       (λ x e st there c found. subst (λ (y : UnderWay K V K). IsAsked (whole.all.shown.number map) st.chart.stored known y c) (one_of to.0 x e)
       (walk_untold u to.0 (sym to.2) to.1 (whole.all.shown.number map) st.chart.stored known c))
 
-  pub walks_stop_whole : WalksStopWhole K V S same hash
+  pub walks_stop_whole : WalksStopWhole K V same hash
   walks_stop_whole name m known s old new whole i stopped leads map u here =
-      by stopped (walks_are_given_up K V S same hash name m known s old new whole.all.shown i stopped leads map u here)
+      by stopped (walks_are_given_up K V same hash name m known s old new whole.all.shown i stopped leads map u here)
     where
       at_end : Bool → Scene K V
       at_end q = record s { calls = with_call s.calls map i (unless_stopped q u) }

@@ -12,15 +12,15 @@ use Rattle.papaya_spots.specs.Given.Schedules.Views.{map_at, behind}
 use Rattle.papaya_spots.specs.Given.Effects.Effects.{effects_of, known_after}
 use Rattle.papaya_spots.specs.Given.Effects.Known.{Known}
 use Rattle.papaya_spots.specs.Given.Effects.declared.acting.Acting.TheVariants.{Ending}
-use Rattle.papaya_spots.specs.Given.Executor.Ending.{EndingLeads, ending_begun}
-use Rattle.papaya_spots.specs.Given.Executor.IsAt.{Scene, IsAt}
-use Rattle.papaya_spots.specs.Given.Executor.declared.executor.Executor.{Executor}
 use Rattle.papaya_spots.specs.Given.Finishes.Endings.{Finishing}
 use Rattle.papaya_spots.specs.Given.Finishes.Maps.{Standing}
 use Rattle.papaya_spots.specs.Given.Others.Endings.{ending_after, without_map}
 use Rattle.papaya_spots.specs.Unreclaimed.{is_unreclaimed}
 use Rattle.papaya_moments.specs.Numbers.{AreFound}
 use Rattle.papaya_moments.specs.Whole.{ShowsWhole}
+use Rattle.papaya_spots.specs.Given.Scenes.Ending.{EndingLeads, ending_begun}
+use Rattle.papaya_spots.specs.Given.Scenes.Held.{Held, IsAt}
+use Rattle.papaya_spots.specs.Given.Scenes.Scene.{Scene}
 
 -- a table that ends with this map is one of it
 abbrev pub IsOfIts : {K V : Type 0} → ℕ → Moment K V → Effect → Type 0
@@ -32,22 +32,22 @@ abbrev pub WaitsOn : {K V : Type 0} → Moment K V → Effect → Type 0
 WaitsOn m (Taken t) = (n : ℕ) → is_among n (behind t m.deferred) ≡ true → is_unreclaimed (m.place n) ≡ true
 WaitsOn m _ = Unit {0}
 
-module _ (K V S : Type 0) (same : K → K → Bool) (hash : K → ℕ) where
+module _ (K V : Type 0) (same : K → K → Bool) (hash : ℕ → K → ℕ) where
   -- The promises: so it is where the end of a map begins,
   abbrev pub EndingsBeginWhole : Type 0
   EndingsBeginWhole =
-      (name : ℕ → List ℕ) (m : Moment K V) (known : Known) (s : Scene K V) (new : Executor K V S) → ShowsWhole same name m known s
+      (name : ℕ → List ℕ) (m : Moment K V) (known : Known) (s : Scene K V) (new : Held K V) → ShowsWhole same name m known s
       → (map i : ℕ) (standing : Standing K) → s.maps map ≡ Some standing → IsAt same hash new (ending_begun map i standing s) → ShowsWhole same name m known (ending_begun map i standing s)
 
   -- and after a step of it: a table that ends with its map is one of it, and what waits behind that is not reclaimed.
   abbrev pub EndingsKeepWhole : Type 0
   EndingsKeepWhole =
-      (name : ℕ → List ℕ) (m : Moment K V) (known : Known) (s : Scene K V) (old new : Executor K V S) → IsAt same hash old s → ShowsWhole same name m known s
+      (name : ℕ → List ℕ) (m : Moment K V) (known : Known) (s : Scene K V) (old new : Held K V) → IsAt same hash old s → ShowsWhole same name m known s
       → (i : ℕ) (told : Settled (Node K V)) (leads : EndingLeads same hash i told s old new) (f : Finishing K V) (here : s.enders i ≡ Some f) (map : ℕ) → s.maps map ≡ None
-      → AtEachEffect (IsOfIts map) None (Some map) (effects_of (Ending map) known new.memory.changed) m
-      → AtEachEffect WaitsOn None (Some map) (effects_of (Ending map) known new.memory.changed) m
+      → AtEachEffect (IsOfIts map) None (Some map) (effects_of (Ending map) known new.changed) m
+      → AtEachEffect WaitsOn None (Some map) (effects_of (Ending map) known new.changed) m
       → (let to = leads f here in
-      ShowsWhole same name (with_effects None (Some map) (effects_of (Ending map) known new.memory.changed) m) (known_after (Ending map) new.memory.changed known)
+      ShowsWhole same name (with_effects None (Some map) (effects_of (Ending map) known new.changed) m) (known_after (Ending map) new.changed known)
       (ending_after same hash s new i f to.0 to.2.w2 to.2.deed told to.3))
 
 module _ (K V : Type 0) (same : K → K → Bool) where

@@ -20,7 +20,7 @@ pub use Rattle.papaya_spots.specs.Given.Finishes
 pub use Rattle.papaya_spots.specs.Given.Runs
 pub use Rattle.papaya_spots.specs.Given.Schedules
 pub use Rattle.papaya_spots.specs.Given.Effects
-pub use Rattle.papaya_spots.specs.Given.Executor
+pub use Rattle.papaya_spots.specs.Given.Scenes
 pub use Rattle.papaya_spots.specs.Given.Follows
 pub use Rattle.papaya_hands.specs as Hands
 pub use Rattle.papaya_spots.specs.Given.Others

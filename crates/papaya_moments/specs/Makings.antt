@@ -10,14 +10,14 @@ use Rattle.papaya_spots.specs.Given.Schedules.Views.{tables_of}
 use Rattle.papaya_spots.specs.Given.Effects.Effects.{effects_of, known_after}
 use Rattle.papaya_spots.specs.Given.Effects.Known.{Known}
 use Rattle.papaya_spots.specs.Given.Effects.declared.acting.Acting.TheVariants.{Making}
-use Rattle.papaya_spots.specs.Given.Executor.IsAt.{Scene, IsAt}
-use Rattle.papaya_spots.specs.Given.Executor.Making.{MakingLeads}
-use Rattle.papaya_spots.specs.Given.Executor.declared.executor.Executor.{Executor}
 use Rattle.papaya_spots.specs.Given.Finishes.Makings.{Beginning, HasMade}
 use Rattle.papaya_spots.specs.Given.Follows.Shows.{Shows}
 use Rattle.papaya_spots.specs.Given.Others.Makings.{WasNew, making_after}
 use Rattle.papaya_spots.specs.Unreclaimed.{ShowsUnreclaimed}
 use Rattle.papaya_moments.specs.Whole.{ShowsWhole}
+use Rattle.papaya_spots.specs.Given.Scenes.Held.{Held, IsAt}
+use Rattle.papaya_spots.specs.Given.Scenes.Making.{MakingLeads}
+use Rattle.papaya_spots.specs.Given.Scenes.Scene.{Scene}
 
 module _ (K V : Type 0) (same : K → K → Bool) where
   -- The promises: so it is where a making begins, which has made no counter yet,
@@ -32,20 +32,20 @@ module _ (K V : Type 0) (same : K → K → Bool) where
       (name : ℕ → List ℕ) (m : Moment K V) (known : Known) (s : Scene K V) → ShowsWhole same name m known s
       → (there : MapThere) → tables_of there.number m ≡ [] → ShowsWhole same name (with_map there m) known s
 
-module _ (K V S : Type 0) (same : K → K → Bool) (hash : K → ℕ) where
+module _ (K V : Type 0) (same : K → K → Bool) (hash : ℕ → K → ℕ) where
   -- The promise, on whichever map its effects are told, if on any: the same blocks are unreclaimed as are pairs and tables of maps, where the map, if it stands then,
   -- was there as a new one.
   abbrev pub MakingsKeepBlocks : Type 0
   MakingsKeepBlocks =
-      (name : ℕ → List ℕ) (m : Moment K V) (known : Known) (s : Scene K V) (old new : Executor K V S) → IsAt same hash old s → Shows same name m known s → ShowsUnreclaimed m known
+      (name : ℕ → List ℕ) (m : Moment K V) (known : Known) (s : Scene K V) (old new : Held K V) → IsAt same hash old s → Shows same name m known s → ShowsUnreclaimed m known
       → (i : ℕ) (told : Progress Setting) → MakingLeads same hash i told s old new → (b : Beginning K) → s.makers i ≡ Some b → (of : Option ℕ) → WasNew b.map told m
-      → ShowsUnreclaimed (with_effects None of (effects_of (Making b.map) known new.memory.changed) m) (known_after (Making b.map) new.memory.changed known)
+      → ShowsUnreclaimed (with_effects None of (effects_of (Making b.map) known new.changed) m) (known_after (Making b.map) new.changed known)
 
   -- And all is shown after each step of a making, whether its map is there or not; after the last one with the map, if that stands, and was there as a new one.
   abbrev pub MakingsKeepWhole : Type 0
   MakingsKeepWhole =
-      (name : ℕ → List ℕ) (m : Moment K V) (known : Known) (s : Scene K V) (old new : Executor K V S) → IsAt same hash old s → ShowsWhole same name m known s
+      (name : ℕ → List ℕ) (m : Moment K V) (known : Known) (s : Scene K V) (old new : Held K V) → IsAt same hash old s → ShowsWhole same name m known s
       → (i : ℕ) (told : Progress Setting) (leads : MakingLeads same hash i told s old new) (b : Beginning K) (here : s.makers i ≡ Some b) (of : Option ℕ) → WasNew b.map told m
       → (let to = leads b here in
-      ShowsWhole same name (with_effects None of (effects_of (Making b.map) known new.memory.changed) m) (known_after (Making b.map) new.memory.changed known)
+      ShowsWhole same name (with_effects None of (effects_of (Making b.map) known new.changed) m) (known_after (Making b.map) new.changed known)
       (making_after same hash s old new i b to.0 to.2.step.w2 told to.3))

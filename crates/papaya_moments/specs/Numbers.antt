@@ -13,14 +13,15 @@ use Rattle.papaya_spots.specs.Given.Effects.Effects.{map_of, effects_of}
 use Rattle.papaya_spots.specs.Given.Effects.Known.{Known}
 use Rattle.papaya_spots.specs.Given.Effects.declared.acting.Acting.{Acting}
 use Rattle.papaya_spots.specs.Given.Effects.declared.acting.Acting.TheVariants.{Row}
-use Rattle.papaya_spots.specs.Given.Executor.IsAt.{Scene, work_of}
-use Rattle.papaya_spots.specs.Given.Executor.OnSlots.{RowLeads}
-use Rattle.papaya_spots.specs.Given.Executor.declared.executor.Executor.{Executor}
-use Rattle.papaya_spots.specs.Given.Executor.declared.row.RowTold.{RowTold}
-use Rattle.papaya_spots.specs.Given.Executor.declared.row.SlotRow.{SlotRow}
-use Rattle.papaya_spots.specs.Given.Executor.declared.worker.Work.TheVariants.{OnSlot}
+use Rattle.papaya_spots.specs.Given.Scenes.declared.row.RowTold.{RowTold}
+use Rattle.papaya_spots.specs.Given.Scenes.declared.row.SlotRow.{SlotRow}
 use Rattle.papaya_spots.specs.Given.Others.Endings.{without_map}
 use Rattle.papaya_spots.specs.Given.Others.Makings.{IsNew}
+use Rattle.papaya_spots.specs.Given.Finishes.Makings.{Beginning}
+use Rattle.papaya_spots.specs.Given.Finishes.Maps.{Standing}
+use Rattle.papaya_spots.specs.Given.Scenes.Held.{Held}
+use Rattle.papaya_spots.specs.Given.Scenes.OnSlots.{RowLeads}
+use Rattle.papaya_spots.specs.Given.Scenes.Scene.{IsOnSlot, Scene}
 
 module _ {K V : Type 0} where
   -- each map that is there is the one that is found by its number
@@ -32,6 +33,11 @@ module _ {K V : Type 0} where
     pub found : AreFound m
     pub below : All (λ there. there.number < m.made) m.maps
     pub tables : All (λ t. t.table.map < m.made) m.tables
+
+-- The maps of a scene that stand or are made have numbers below this one.
+pub record MapsAreBelow {K V : Type 0} (count : ℕ) (s : Scene K V) : Type 0 where
+  pub standing : (map : ℕ) (st : Standing K) → s.maps map ≡ Some st → map < count
+  pub made : (i : ℕ) (b : Beginning K) → s.makers i ≡ Some b → b.map < count
 
 -- The promises: so it is before all events,
 abbrev pub NumbersBegin : Type 0 → Type 0 → Type 0
@@ -55,12 +61,12 @@ StepsKeepNumbers K V =
 abbrev pub NumbersAreBelow : Type 0 → Type 0 → Type 0
 NumbersAreBelow K V = (m : Moment K V) → NumbersMaps m → (number : ℕ) (there : MapThere) → map_at number m ≡ Some there → number < m.made
 
-module _ (K V S : Type 0) (same : K → K → Bool) (hash : K → ℕ) where
+module _ (K V : Type 0) (same : K → K → Bool) (hash : ℕ → K → ℕ) where
   -- and after a step of a row on a slot.
   abbrev pub RowsKeepNumbers : Type 0
   RowsKeepNumbers =
-      (m : Moment K V) → NumbersMaps m → (known : Known) (s : Scene K V) (old new : Executor K V S) (i : ℕ) (told : RowTold (Node K V)) → RowLeads same hash i told s old new
-      → (row : SlotRow) → work_of old i ≡ Some (OnSlot row) → NumbersMaps (with_effects None None (effects_of Row known new.memory.changed) m)
+      (m : Moment K V) → NumbersMaps m → (known : Known) (s : Scene K V) (old new : Held K V) (i : ℕ) (told : RowTold (Node K V)) → RowLeads same hash i told s old new
+      → (row : SlotRow) → IsOnSlot s i row → NumbersMaps (with_effects None None (effects_of Row known new.changed) m)
 
 -- Each pair that is in a map is in one of such a number, too.
 abbrev pub PairsAreBelow : {K V : Type 0} → Moment K V → Type 0

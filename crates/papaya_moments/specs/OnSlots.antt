@@ -1,5 +1,5 @@
 -- Rows on slots: where one begins, and takes its steps, the moment shows all of the scene then.
-use Rattle.std.specs.Prelude.{◌≡◌, ℕ, Bool, true, List, Some, None}
+use Rattle.std.specs.Prelude.{◌≡◌, ℕ, Bool, true, List, None}
 use Rattle.papaya_spots.specs.Given.Seize.World.{Begin, Step}
 use Rattle.papaya_spots.specs.Given.Tables.declared.node.Node.{Node}
 use Rattle.papaya_spots.specs.Given.Schedules.declared.effect.Effect.{Effect}
@@ -11,36 +11,35 @@ use Rattle.papaya_spots.specs.Given.Schedules.Views.{is_retired, is_stage}
 use Rattle.papaya_spots.specs.Given.Effects.Effects.{effects_of, known_after}
 use Rattle.papaya_spots.specs.Given.Effects.Known.{Known}
 use Rattle.papaya_spots.specs.Given.Effects.declared.acting.Acting.TheVariants.{Row}
-use Rattle.papaya_spots.specs.Given.Executor.IsAt.{Scene, IsAt, slot_of, work_of}
-use Rattle.papaya_spots.specs.Given.Executor.OnSlots.{MayBegin, RowBegins, RowLeads}
-use Rattle.papaya_spots.specs.Given.Executor.Rows.{request_of}
-use Rattle.papaya_spots.specs.Given.Executor.declared.executor.Executor.{Executor}
-use Rattle.papaya_spots.specs.Given.Executor.declared.row.RowTold.{RowTold}
-use Rattle.papaya_spots.specs.Given.Executor.declared.row.SlotCall.{SlotCall}
-use Rattle.papaya_spots.specs.Given.Executor.declared.row.SlotRow.{SlotRow}
-use Rattle.papaya_spots.specs.Given.Executor.declared.worker.Work.TheVariants.{OnSlot}
+use Rattle.papaya_spots.specs.Given.Scenes.declared.row.RowTold.{RowTold}
+use Rattle.papaya_spots.specs.Given.Scenes.declared.row.SlotCall.{SlotCall}
+use Rattle.papaya_spots.specs.Given.Scenes.declared.row.SlotRow.{SlotRow}
 use Rattle.papaya_spots.specs.Given.Others.Rows.{scene_then}
 use Rattle.papaya_spots.specs.OnSlots.{WaitUnreclaimed}
 use Rattle.papaya_moments.specs.Whole.{ShowsWhole}
+use Rattle.papaya_spots.specs.Given.Scenes.Held.{Held, IsAt}
+use Rattle.papaya_spots.specs.Given.Scenes.OnSlots.{RowBegins, RowLeads}
+use Rattle.papaya_spots.specs.Given.Scenes.Rows.{request_of}
+use Rattle.papaya_spots.specs.Given.Scenes.Scene.{IsOnSlot, Scene, slot_of}
 
 -- a table that is reclaimed was retired
 abbrev pub HadRetired : {K V : Type 0} → Moment K V → Effect → Type 0
 HadRetired m (Reclaimed (ATable t)) = is_stage is_retired t m ≡ true
 HadRetired m _ = Unit {0}
 
-module _ (K V S : Type 0) (same : K → K → Bool) (hash : K → ℕ) where
+module _ (K V : Type 0) (same : K → K → Bool) (hash : ℕ → K → ℕ) where
   -- The promises: so it is where a row begins on a slot,
   abbrev pub RowsBeginWhole : Type 0
   RowsBeginWhole =
-      (name : ℕ → List ℕ) (m : Moment K V) (known : Known) (s : Scene K V) (old new : Executor K V S) → IsAt same hash old s → ShowsWhole same name m known s
-      → (called : SlotCall) (i : ℕ) (may : MayBegin old (slot_of i) called) (leads : RowBegins same hash called i s old new)
-      → ShowsWhole same name m known (scene_then same hash (Begin i (request_of (slot_of i) called)) s old new (leads may).3)
+      (name : ℕ → List ℕ) (m : Moment K V) (known : Known) (s : Scene K V) (old new : Held K V) → IsAt same hash old s → ShowsWhole same name m known s
+      → (called : SlotCall) (i : ℕ) (leads : RowBegins same hash called i s old new)
+      → ShowsWhole same name m known (scene_then same hash (Begin i (request_of (slot_of i) called)) s old new leads.2)
 
   -- and after a step of it: a table that it reclaims was retired, and what waits behind that is not reclaimed.
   abbrev pub RowsKeepWhole : Type 0
   RowsKeepWhole =
-      (name : ℕ → List ℕ) (m : Moment K V) (known : Known) (s : Scene K V) (old new : Executor K V S) → IsAt same hash old s → ShowsWhole same name m known s
-      → (i : ℕ) (told : RowTold (Node K V)) (leads : RowLeads same hash i told s old new) (row : SlotRow) (here : work_of old i ≡ Some (OnSlot row))
-      → AtEachEffect HadRetired None None (effects_of Row known new.memory.changed) m → AtEachEffect WaitUnreclaimed None None (effects_of Row known new.memory.changed) m
-      → ShowsWhole same name (with_effects None None (effects_of Row known new.memory.changed) m) (known_after Row new.memory.changed known)
-      (scene_then same hash (Step i) s old new (leads row here).4)
+      (name : ℕ → List ℕ) (m : Moment K V) (known : Known) (s : Scene K V) (old new : Held K V) → IsAt same hash old s → ShowsWhole same name m known s
+      → (i : ℕ) (told : RowTold (Node K V)) (leads : RowLeads same hash i told s old new) (row : SlotRow) (here : IsOnSlot s i row)
+      → AtEachEffect HadRetired None None (effects_of Row known new.changed) m → AtEachEffect WaitUnreclaimed None None (effects_of Row known new.changed) m
+      → ShowsWhole same name (with_effects None None (effects_of Row known new.changed) m) (known_after Row new.changed known)
+      (scene_then same hash (Step i) s old new (leads row here).2)

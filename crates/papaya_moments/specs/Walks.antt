@@ -4,24 +4,24 @@ use Rattle.papaya_spots.specs.Given.Schedules.Moment.{Moment}
 use Rattle.papaya_spots.specs.Given.Callers.Together.{UnderWay}
 use Rattle.papaya_spots.specs.Given.Finishes.Maps.{with_call}
 use Rattle.papaya_spots.specs.Given.Effects.Known.{Known}
-use Rattle.papaya_spots.specs.Given.Executor.IsAt.{Scene}
-use Rattle.papaya_spots.specs.Given.Executor.Replying.{AskLeads, StopLeads, scene_with, unless_stopped}
-use Rattle.papaya_spots.specs.Given.Executor.declared.executor.Executor.{Executor}
 use Rattle.papaya_spots.specs.Given.Follows.Calling.{NoneNamed}
 use Rattle.papaya_spots.specs.Given.Others.Walks.{given_up}
 use Rattle.papaya_moments.specs.Whole.{ShowsWhole}
+use Rattle.papaya_spots.specs.Given.Scenes.Held.{Held}
+use Rattle.papaya_spots.specs.Given.Scenes.Replying.{AskLeads, StopLeads, scene_with, unless_stopped}
+use Rattle.papaya_spots.specs.Given.Scenes.Scene.{Scene}
 
-module _ (K V S : Type 0) (same : K → K → Bool) (hash : K → ℕ) where
+module _ (K V : Type 0) (same : K → K → Bool) (hash : ℕ → K → ℕ) where
   -- The promises: so it is where a walk that is ready is asked for its next pair,
   abbrev pub WalksGoOnWhole : Type 0
   WalksGoOnWhole =
-      (name : ℕ → List ℕ) (m : Moment K V) (known : Known) (s : Scene K V) (old new : Executor K V S) → ShowsWhole same name m known s
+      (name : ℕ → List ℕ) (m : Moment K V) (known : Known) (s : Scene K V) (old new : Held K V) → ShowsWhole same name m known s
       → (i : ℕ) (leads : AskLeads same hash i true s old new) (map : ℕ) (u : UnderWay K V K) (here : s.calls map i ≡ Some u) → ShowsWhole same name m known (scene_with map i (leads map u here).0 s)
 
   -- and where it is given up: no call that is under way then has its name.
   abbrev pub WalksStopWhole : Type 0
   WalksStopWhole =
-      (name : ℕ → List ℕ) (m : Moment K V) (known : Known) (s : Scene K V) (old new : Executor K V S) → ShowsWhole same name m known s
+      (name : ℕ → List ℕ) (m : Moment K V) (known : Known) (s : Scene K V) (old new : Held K V) → ShowsWhole same name m known s
       → (i : ℕ) (stopped : Bool) → StopLeads same hash i stopped s old new → (map : ℕ) (u : UnderWay K V K) → s.calls map i ≡ Some u
       → (let after = record s { calls = with_call s.calls map i (unless_stopped stopped u) } in
       (stopped ≡ true → NoneNamed name (name i) after) → ShowsWhole same name (given_up (name i) stopped m) known after)

@@ -1,4 +1,4 @@
--- What a moment of a run, with what is noted of the memory, shows of a scene of the executor, in one piece.
+-- What a moment of a run, with what is noted of the memory, shows of a scene, in one piece.
 use Rattle.std.specs.Prelude.{◌≡◌, ℕ, Bool, true, List, Option, Some, Ok}
 use Rattle.papaya_spots.specs.Given.Seize.World.{Rests}
 use Rattle.papaya_spots.specs.Given.Tables.declared.node.Node.{Node}
@@ -17,10 +17,6 @@ use Rattle.papaya_spots.specs.Given.Callers.Together.{UnderWay}
 use Rattle.papaya_spots.specs.Given.Effects.Effects.{effects_of, known_after}
 use Rattle.papaya_spots.specs.Given.Effects.Known.{Known, nothing_known}
 use Rattle.papaya_spots.specs.Given.Effects.declared.acting.Acting.TheVariants as acts
-use Rattle.papaya_spots.specs.Given.Executor.IsAt.{Scene, IsAt, at_first, slot_of}
-use Rattle.papaya_spots.specs.Given.Executor.Replying.{scene_with}
-use Rattle.papaya_spots.specs.Given.Executor.Stepping.{StepLeads, scene_after}
-use Rattle.papaya_spots.specs.Given.Executor.declared.executor.Executor.{Executor}
 use Rattle.papaya_spots.specs.Given.Finishes.Machines.{machine_of, ToldOfKind}
 use Rattle.papaya_spots.specs.Given.Finishes.Maps.{Standing}
 use Rattle.papaya_spots.specs.Given.Follows.Calling.{NoneNamed, told, come_to}
@@ -32,6 +28,10 @@ use Rattle.papaya_spots.specs.Given.Others.Counters.{NotesCounters}
 use Rattle.papaya_spots.specs.Deferred.{WaitOutside}
 use Rattle.papaya_spots.specs.Spots.{ShowsPlaces}
 use Rattle.papaya_spots.specs.Unreclaimed.{ShowsUnreclaimed}
+use Rattle.papaya_spots.specs.Given.Scenes.Held.{Held, IsAt}
+use Rattle.papaya_spots.specs.Given.Scenes.Replying.{scene_with}
+use Rattle.papaya_spots.specs.Given.Scenes.Scene.{Scene, at_first, slot_of}
+use Rattle.papaya_spots.specs.Given.Scenes.Stepping.{StepLeads, scene_after}
 
 -- It shows what the scene has, what calls were told, in whose hands blocks are and what rows do; where pairs lie, which blocks are not reclaimed, that what waits
 -- behind tables is in no map; and the counters of maps that are being made.
@@ -46,20 +46,20 @@ pub record ShowsWhole {K V : Type 0} (same : K → K → Bool) (name : ℕ → L
 abbrev pub WholeBegins : Type 0 → Type 0 → Type 0
 WholeBegins K V = (same : K → K → Bool) (roots : ℕ) (name : ℕ → List ℕ) → ShowsWhole {K = K} {V = V} same name start nothing_known (at_first roots)
 
-module _ (K V S : Type 0) (same : K → K → Bool) (hash : K → ℕ) where
+module _ (K V : Type 0) (same : K → K → Bool) (hash : ℕ → K → ℕ) where
   -- after each step of a call,
   abbrev pub CallsKeepWhole : Type 0
   CallsKeepWhole =
-      (name : ℕ → List ℕ) (m : Moment K V) (known : Known) (s : Scene K V) (old new : Executor K V S) → IsAt same hash old s → ShowsWhole same name m known s
+      (name : ℕ → List ℕ) (m : Moment K V) (known : Known) (s : Scene K V) (old new : Held K V) → IsAt same hash old s → ShowsWhole same name m known s
       → (map i : ℕ) (u : UnderWay K V K) (here : s.calls map i ≡ Some u) (told : Progress (Node K V)) (leads : StepLeads same hash i told s old new)
       → (let to = leads map u here in
-      ShowsWhole same name (with_effects (Some (name i)) (Some map) (effects_of (acts.Call i map) known new.memory.changed) m) (known_after (acts.Call i map) new.memory.changed known)
-      (scene_after same hash s old new map i to.0 u to.1 told to.4))
+      ShowsWhole same name (with_effects (Some (name i)) (Some map) (effects_of (acts.Call i map) known new.changed) m) (known_after (acts.Call i map) new.changed known)
+      (scene_after same s old new map i to.0 u to.1 told to.4))
 
   -- where one that asks takes what it is told,
   abbrev pub CallsTakeWhole : Type 0
   CallsTakeWhole =
-      (name : ℕ → List ℕ) (m : Moment K V) (known : Known) (s : Scene K V) (e : Executor K V S) → IsAt same hash e s → ShowsWhole same name m known s
+      (name : ℕ → List ℕ) (m : Moment K V) (known : Known) (s : Scene K V) (e : Held K V) → IsAt same hash e s → ShowsWhole same name m known s
       → (map i : ℕ) (u : UnderWay K V K) → s.calls map i ≡ Some u → (c : CallThere K V) → call_of (name i) m ≡ Some c → (question : Option ℕ) → c.stands ≡ Asking question
       → (standing : Standing K) → s.maps map ≡ Some standing → (is_told : Reply V) (next : UnderWay K V K)
       → machine_of next ≡ (machine_replied (machine_of u) (as_told is_told)).0 → (machine_replied (machine_of u) (as_told is_told)).1 ≡ Ok tt

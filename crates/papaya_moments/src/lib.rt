@@ -1,4 +1,4 @@
-//! What a moment of a run shows of the executor, in one piece.
+//! What a moment of a run shows of a scene, in one piece.
 #![tactic(auto)]
 
 pub mod law;

@@ -15,14 +15,14 @@ use Rattle.papaya_follows.specs.Given.Callers.OverAll.{begun_over_all}
 use Rattle.papaya_follows.specs.Given.Callers.Together.{UnderWay, OnKey, ForRoom, Counting, OverAll, IsBegun, Gets, Removes, Inserts, TriesToInsert, Computes, Updates, UpdatesOrInserts, TriesToInsertWith, RemovesIf, begun_at, in_slot}
 use Rattle.papaya_follows.specs.Given.Finishes.Machines.{machine_of}
 use Rattle.papaya_follows.specs.Given.Finishes.Maps.{Standing}
-use Rattle.papaya_follows.specs.Given.Executor.Beginning.{Begins}
-use Rattle.papaya_follows.specs.Given.Executor.IsAt.{slot_of}
 use Rattle.papaya_follows.specs.Calls.{IsCalled}
 use Rattle.papaya_hands.specs.Asked.{given_by}
 use Rattle.papaya_hands.specs.Calling.{IsBegunFor}
 use Rattle.papaya_named.specs.Machines.{IsAsFar, RefusedForRoom, machine_for, machine_on}
 use Rattle.papaya_named.specs.Seen.{kind_of}
 use Rattle.papaya_named.specs.declared.caller.Stands.TheVariants as far
+use Rattle.papaya_follows.specs.Given.Scenes.Beginning.{Begins}
+use Rattle.papaya_follows.specs.Given.Scenes.Scene.{slot_of}
 
 -- a key stands for its class
 module _ {K : Type 0} (same : K → K → Bool) (hash : K → ℕ) (are : AreLawful same hash) where

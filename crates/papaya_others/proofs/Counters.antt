@@ -2,8 +2,6 @@
 use Rattle.std.specs.Prelude.{◌≡◌, ℕ, Bool, Some}
 use Rattle.std.proofs.Common.{sym, subst, ◌∙◌, inl, inr}
 use Rattle.std.proofs.lemmas.Bool.{cases_eq}
-use Rattle.papaya_follows.specs.Given.SeizeWords.Mem.{Can, Took, value_at}
-use Rattle.papaya_follows.specs.Given.SeizeWords.Plan.{May}
 use Rattle.papaya_follows.specs.Given.Seize.declared.rows.settle.Settled.{Settled}
 use Rattle.papaya_follows.specs.Given.Seize.declared.rows.settle.Settled.TheVariants as settled
 use Rattle.papaya_follows.specs.Given.Tables.declared.node.Node.{Node}
@@ -17,18 +15,17 @@ use Rattle.papaya_follows.specs.Given.Finishes.Machines.{machine_of}
 use Rattle.papaya_follows.specs.Given.Effects.Effects.{known_after}
 use Rattle.papaya_follows.specs.Given.Effects.declared.acting.Acting.TheVariants as acts
 use Rattle.papaya_follows.specs.Given.Effects.declared.role.Role.TheVariants.{Counter}
-use Rattle.papaya_follows.specs.Given.Executor.Ending.{EndingStepsFrom, EndingComesTo}
-use Rattle.papaya_follows.specs.Given.Executor.IsAt.{Scene, IsAt, slot_of}
-use Rattle.papaya_follows.specs.Given.Executor.Stepping.{scene_after}
-use Rattle.papaya_follows.proofs.Given.Executor.Endings.{has_ending, taken_ending, may_taken as may_end}
-use Rattle.papaya_follows.proofs.Given.Executor.OnSlots.{row_at, may_taken}
-use Rattle.papaya_follows.proofs.Given.Executor.Steps.{may_step}
 use Rattle.papaya_follows.proofs.Steps.{one_of}
 use Rattle.papaya_follows.proofs.Operations.{Operated, operated}
 use Rattle.papaya_others.specs.Counters.{NotesCounters, BeginningsNoteCounters, CallsNoteCounters, RowsNoteCounters, EndingsNoteCounters}
 use Rattle.papaya_others.specs.Endings.{ending_after}
 use Rattle.papaya_others.proofs.Noted.{counters_on}
 use Rattle.papaya_others.proofs.RowPlans.{row_operated}
+use Rattle.papaya_follows.proofs.Given.Scenes.May.{may_end, may_row, may_step}
+use Rattle.papaya_follows.specs.Given.Scenes.Ending.{EndingComesTo, EndingStepsFrom}
+use Rattle.papaya_follows.specs.Given.Scenes.Held.{IsAt}
+use Rattle.papaya_follows.specs.Given.Scenes.Scene.{Scene, slot_of}
+use Rattle.papaya_follows.specs.Given.Scenes.Stepping.{scene_after}
 
 pub beginnings_note_counters : (K V : Type 0) → BeginningsNoteCounters K V
 beginnings_note_counters K V known s notes i b none j d is made = elim (cases_eq j i) as (λ _. known.roles d.machine.setting.counter ≡ Counter d.map) [
@@ -38,39 +35,37 @@ beginnings_note_counters K V known s notes i b none j d is made = elim (cases_eq
   | inr ne ↦ notes j d (sym (at_other s.makers i (Some b) j ne) ∙ is) made
 ]
 
-module _ (K V S : Type 0) (same : K → K → Bool) (hash : K → ℕ) where
-  pub calls_note_counters : CallsNoteCounters K V S same hash
+module _ (K V : Type 0) (same : K → K → Bool) (hash : ℕ → K → ℕ) where
+  pub calls_note_counters : CallsNoteCounters K V same hash
   calls_note_counters name m known s old new at shown notes map i u here told leads =
       let to = leads map u here in
-      counters_on same hash m known s (scene_after same hash s old new map i to.0 u to.1 told to.4) old new at to.5 shown.blocks
-      (operated old.memory.memory new.memory.memory new.memory.changed (machine_plan same same hash (machine_of u)) (to.1, told) (may_step same hash old s at map i u here) to.3) (acts.Call i map)
+      counters_on same hash m known s (scene_after same s old new map i to.0 u to.1 told to.4) old new at to.5 shown.blocks
+      (operated old.memory new.memory new.changed (machine_plan same same to.0.hash (machine_of u)) (to.1, told) (may_step same hash old s at map to.0 to.2 i u here) to.3) (acts.Call i map)
       (λ j b is. is) notes
 
-  pub rows_note_counters : RowsNoteCounters K V S same hash
+  pub rows_note_counters : RowsNoteCounters K V same hash
   rows_note_counters name m known s old new at shown notes i told leads row here =
       let to = leads row here in
-      counters_on same hash m known s (record s { world = to.4.0; maps = to.4.2 }) old new at to.4.4 shown.blocks
-      (row_operated old.memory.memory new.memory.memory new.memory.changed (to.0, told) row (may_taken same hash old s at i row here (slot_of i) row (row_at same hash old s at i row here)) to.1) acts.Row
+      counters_on same hash m known s (record s { world = to.2.0; maps = to.2.2 }) old new at to.2.4 shown.blocks
+      (row_operated old.memory new.memory new.changed (to.0, told) row (may_row same hash old s at i row here) to.1) acts.Row
       (λ j b is. is) notes
 
-  pub endings_note_counters : EndingsNoteCounters K V S same hash
+  pub endings_note_counters : EndingsNoteCounters K V same hash
   endings_note_counters name m known s old new at shown notes i told leads f here map = by told to.3
     where
       to : (end : EndMap) × EndingStepsFrom f.machine old new end told
-          × (did : StepsOfEnding V same same old.batch_size old.roots slot_of s.world s.maps s.calls s.makers s.enders i f new.memory.memory (end, told)) × EndingComesTo same hash s new i f end did.w2 did.deed told
+          × (did : StepsOfEnding V same same old.batch_size old.roots slot_of s.world s.maps s.calls s.makers s.enders i f new.memory (end, told)) × EndingComesTo same hash s new i f end did.w2 did.deed told
       to = leads f here
 
-      op : Operated old.memory.memory new.memory.memory new.memory.changed
+      op : Operated old.memory new.memory new.changed
       op =
-          let it = has_ending same hash old s at i (f, here) in
-          let is = taken_ending same hash old s at i f here it.0 it.1 it.2 in
-          let may = subst (λ (x : EndMap). May Can Took value_at old.memory.memory (end_map_plan {K = K} {V = V} x)) is.1 (may_end same hash old s at i (f, here) it.0 it.1 it.2) in
-          operated old.memory.memory new.memory.memory new.memory.changed (end_map_plan f.machine) (to.0, told) may to.1
+          let may = may_end same hash old s at i f here in
+          operated old.memory new.memory new.changed (end_map_plan f.machine) (to.0, told) may to.1
 
-      on : (s2 : Scene K V) → IsAt same hash new s2 → ((j : ℕ) (b : Beginning K) → s2.makers j ≡ Some b → s.makers j ≡ Some b) → NotesCounters (known_after (acts.Ending map) new.memory.changed known) s2
+      on : (s2 : Scene K V) → IsAt same hash new s2 → ((j : ℕ) (b : Beginning K) → s2.makers j ≡ Some b → s.makers j ≡ Some b) → NotesCounters (known_after (acts.Ending map) new.changed known) s2
       on s2 at2 was = counters_on same hash m known s s2 old new at at2 shown.blocks op (acts.Ending map) was notes
 
-      by : (t : Settled (Node K V)) (comes : EndingComesTo same hash s new i f to.0 to.2.w2 to.2.deed t) → NotesCounters (known_after (acts.Ending map) new.memory.changed known) (ending_after same hash s new i f to.0 to.2.w2 to.2.deed t comes)
+      by : (t : Settled (Node K V)) (comes : EndingComesTo same hash s new i f to.0 to.2.w2 to.2.deed t) → NotesCounters (known_after (acts.Ending map) new.changed known) (ending_after same hash s new i f to.0 to.2.w2 to.2.deed t comes)
       by settled.Goes comes = on _ comes.1 (λ j b is. is)
       by settled.Waits comes = absurd comes
       by (settled.Gave value) comes = on _ comes.3 (λ j b is. is)

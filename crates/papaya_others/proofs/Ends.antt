@@ -3,8 +3,7 @@ use Rattle.std.specs.Prelude.{◌&&◌, ◌≡◌, ◌≢◌, ℕ, zero, suc, �
 use Rattle.std.proofs.Common.{refl, ap, sym, subst, ◌∙◌, arith, inl, inr}
 use Rattle.std.proofs.lemmas.Bool.{eq-eqb, cases_eq}
 use Rattle.papaya_follows.specs.Given.SeizeWords.declared.at.At.TheVariants.{Root, Used, Slot, Entry, Word}
-use Rattle.papaya_follows.specs.Given.SeizeWords.Mem.{Mem, Can, Took, value_at, word_at}
-use Rattle.papaya_follows.specs.Given.SeizeWords.Plan.{May}
+use Rattle.papaya_follows.specs.Given.SeizeWords.Mem.{Mem, value_at, word_at}
 use Rattle.papaya_follows.specs.Given.SeizeWords.Word.{block_in}
 use Rattle.papaya_follows.specs.Given.Seize.World.{World, Hand, times, with_at}
 use Rattle.papaya_follows.specs.Given.Seize.declared.rows.settle.Settled.{Settled}
@@ -35,10 +34,6 @@ use Rattle.papaya_follows.specs.Given.Effects.declared.acting.Acting.{Acting}
 use Rattle.papaya_follows.specs.Given.Effects.declared.acting.Acting.TheVariants as acts
 use Rattle.papaya_follows.specs.Given.Effects.declared.role.Role.{Role}
 use Rattle.papaya_follows.specs.Given.Effects.declared.role.Role.TheVariants as role
-use Rattle.papaya_follows.specs.Given.Executor.Ending.{EndingStepsFrom, EndingComesTo, ending_goes}
-use Rattle.papaya_follows.specs.Given.Executor.IsAt.{Scene, IsAt, slot_of}
-use Rattle.papaya_follows.specs.Given.Executor.declared.executor.Executor.{Executor}
-use Rattle.papaya_follows.proofs.Given.Executor.Endings.{has_ending, taken_ending, may_taken}
 use Rattle.papaya_follows.specs.Blocks.{WasLinked, HasRole}
 use Rattle.papaya_follows.specs.Calls.{ShowsCalls}
 use Rattle.papaya_follows.specs.Maps.{table_of}
@@ -56,6 +51,10 @@ use Rattle.papaya_others.proofs.EndWords.{NamesPair, root_leads, root_or_none, r
 use Rattle.papaya_others.proofs.Leads.{same_parts, roomed_still, either_still, DoesNothing, word_says, calls_then, quiet, nothing, gone_quiet, either_calm, roomed_calm}
 use Rattle.papaya_others.proofs.Scenes.{pair_gone, table_gone}
 use Rattle.papaya_others.proofs.Stays.{StaysBlock, same_there, same_maps}
+use Rattle.papaya_follows.proofs.Given.Scenes.May.{may_end}
+use Rattle.papaya_follows.specs.Given.Scenes.Ending.{EndingComesTo, EndingStepsFrom, ending_goes}
+use Rattle.papaya_follows.specs.Given.Scenes.Held.{Held, IsAt}
+use Rattle.papaya_follows.specs.Given.Scenes.Scene.{Scene, slot_of}
 
 -- a pair, or no block, has the role of no table
 abbrev IsNoTable : Role → Type 0
@@ -78,9 +77,9 @@ same_root_says : (its : Acting) (known : Known) (b : ℕ) (q : Bool) (was is : R
 same_root_says its known b true was is e = (tt, refl)
 same_root_says its known b false was is e = absurd (cc e)
 
-module _ {K V S : Type 0} (same : K → K → Bool) (hash : K → ℕ) (name : ℕ → List ℕ) (m : Moment K V) (known : Known) (s : Scene K V) (old new : Executor K V S) (at : IsAt same hash old s)
+module _ {K V : Type 0} (same : K → K → Bool) (hash : ℕ → K → ℕ) (name : ℕ → List ℕ) (m : Moment K V) (known : Known) (s : Scene K V) (old new : Held K V) (at : IsAt same hash old s)
     (shown : Shows same name m known s) (i : ℕ) (f : Finishing K V) (here : s.enders i ≡ Some f) (end : EndMap) (said : Settled (Node K V)) (steps : EndingStepsFrom f.machine old new end said)
-    (did : StepsOfEnding V same same old.batch_size old.roots slot_of s.world s.maps s.calls s.makers s.enders i f new.memory.memory (end, said))
+    (did : StepsOfEnding V same same old.batch_size old.roots slot_of s.world s.maps s.calls s.makers s.enders i f new.memory (end, said))
     (map : ℕ) (not_there : s.maps map ≡ None) where
   abbrev w : World (Node K V)
   w = s.world
@@ -89,19 +88,17 @@ module _ {K V S : Type 0} (same : K → K → Bool) (hash : K → ℕ) (name : �
   w2 = did.w2
 
   abbrev told : Changed
-  told = new.memory.changed
+  told = new.changed
 
   abbrev its : Acting
   its = acts.Ending map
 
   pub left : LeavesBy w.memory w2.memory told
   left =
-      let it = has_ending same hash old s at i (f, here) in
-      let is = taken_ending same hash old s at i f here it.0 it.1 it.2 in
-      let may = subst (λ (x : EndMap). May Can Took value_at old.memory.memory (end_map_plan {K = K} {V = V} x)) is.1 (may_taken same hash old s at i (f, here) it.0 it.1 it.2) in
+      let may = may_end same hash old s at i f here in
       subst (λ (n : Mem (Node K V)). LeavesBy w.memory n told) (sym did.memory)
-      (subst (λ (n : Mem (Node K V)). LeavesBy n new.memory.memory told) (sym at.memory)
-      (operated_leaves old.memory.memory new.memory.memory told (operated old.memory.memory new.memory.memory told (end_map_plan f.machine) (end, said) may steps)))
+      (subst (λ (n : Mem (Node K V)). LeavesBy n new.memory told) (sym at.memory)
+      (operated_leaves old.memory new.memory told (operated old.memory new.memory told (end_map_plan f.machine) (end, said) may steps)))
 
   facts : FinishingFacts same old.batch_size w i f
   facts = at.together.facts i f here
@@ -209,7 +206,7 @@ module _ {K V S : Type 0} (same : K → K → Bool) (hash : K → ℕ) (name : �
         own (inl leads) before_is after_is =
             same_so (
             let led = root_leads f.hash f.setting f.chart f.blocks w.memory f.machine.stands facts.facts.root
-            (λ frees. frees_no_root f.machine old.memory.memory new.memory.memory told (end, said) steps frees r before after is)
+            (λ frees. frees_no_root f.machine old.memory new.memory told (end, said) steps frees r before after is)
             (λ over. subst (λ (p : Ending). EndingFacts f.setting f.chart f.blocks facts.lists false i f.hash w f.machine facts.past f.back p) over facts.facts.point) in
             cc (led, leads, before_is, after_is)
             )
@@ -294,11 +291,11 @@ module _ {K V S : Type 0} (same : K → K → Bool) (hash : K → ℕ) (name : �
       → AtEachEffect (λ v effect. EndsWith v map effect) None (Some map) (effects_of its known told) m
       → ShowsAfter same name m known s shown (with_effects None (Some map) (effects_of its known told) m) (known_after its told known) (ending_after same hash s new i f end w2 did.deed t comes)
   ending_shown settled.Goes e comes may =
-      leads (subst (λ (x : Settled (Node K V)). EndingComesTo same hash s new i f end w2 did.deed x) (sym e) comes) (ending_goes same hash s new i f end w2 did.deed f.back) shown.calls
+      leads (subst (λ (x : Settled (Node K V)). EndingComesTo same hash s new i f end w2 did.deed x) (sym e) comes) (ending_goes s i f end w2 did.deed f.back) shown.calls
       (λ n st is. (comes.1.together.makings.standing.each n st is).ground.map) told refl left may
   ending_shown settled.Waits e comes may = absurd comes
   ending_shown (settled.Gave value) e comes may =
-      leads (subst (λ (x : Settled (Node K V)). EndingComesTo same hash s new i f end w2 did.deed x) (sym e) comes) (ending_goes same hash s new i f end w2 did.deed (f.back ++ comes.0 ∷ [])) shown.calls
+      leads (subst (λ (x : Settled (Node K V)). EndingComesTo same hash s new i f end w2 did.deed x) (sym e) comes) (ending_goes s i f end w2 did.deed (f.back ++ comes.0 ∷ [])) shown.calls
       (λ n st is. (comes.3.together.makings.standing.each n st is).ground.map) told refl left may
   ending_shown settled.Done e comes may =
       leads (subst (λ (x : Settled (Node K V)). EndingComesTo same hash s new i f end w2 did.deed x) (sym e) comes) (record s { world = w2; enders = with_at s.enders i None }) shown.calls
@@ -342,8 +339,8 @@ module _ {K V S : Type 0} (same : K → K → Bool) (hash : K → ℕ) (name : �
   tells_next (settled.Gave value) comes = one_taken told left comes.0 value comes.1 (next_gone comes.0 comes.2)
   tells_next settled.Done comes = none_taken told left comes.0
 
-module _ (K V S : Type 0) (same : K → K → Bool) (hash : K → ℕ) where
-  pub endings_are_shown : EndingsAreShown K V S same hash
+module _ (K V : Type 0) (same : K → K → Bool) (hash : ℕ → K → ℕ) where
+  pub endings_are_shown : EndingsAreShown K V same hash
   endings_are_shown name m known s old new at shown i said leads_to f here map not_there may =
       let to = leads_to f here in (
         tells_next same hash name m known s old new at shown i f here to.0 said to.1 to.2 map not_there said to.3,

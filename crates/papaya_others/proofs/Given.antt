@@ -14,5 +14,5 @@ pub use Rattle.papaya_follows.proofs.Given.Tells
 pub use Rattle.papaya_follows.proofs.Given.Callers
 pub use Rattle.papaya_follows.proofs.Given.Finishes
 pub use Rattle.papaya_follows.proofs.Given.Runs
-pub use Rattle.papaya_follows.proofs.Given.Executor
+pub use Rattle.papaya_follows.proofs.Given.Scenes
 pub use Rattle.papaya_follows.proofs as Follows

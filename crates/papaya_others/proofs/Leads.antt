@@ -18,7 +18,6 @@ use Rattle.papaya_follows.specs.Given.Effects.Known.{Known, with_role}
 use Rattle.papaya_follows.specs.Given.Effects.declared.acting.Acting.{Acting}
 use Rattle.papaya_follows.specs.Given.Effects.declared.role.Role.{Role}
 use Rattle.papaya_follows.specs.Given.Effects.declared.role.Role.TheVariants as role
-use Rattle.papaya_follows.specs.Given.Executor.IsAt.{Scene}
 use Rattle.papaya_follows.specs.Blocks.{HasRole}
 use Rattle.papaya_follows.specs.Calls.{ShowsCalls}
 use Rattle.papaya_follows.specs.Shows.{Shows}
@@ -28,6 +27,7 @@ use Rattle.papaya_others.specs.After.{ShowsAfter}
 use Rattle.papaya_others.proofs.Quiet.{calls_none, stored_none, all_quiet, calls_shown}
 use Rattle.papaya_others.proofs.Scenes.{all_stay, one_put, still_gone}
 use Rattle.papaya_others.proofs.Stays.{StaysBlock}
+use Rattle.papaya_follows.specs.Given.Scenes.Scene.{Scene}
 
 -- tables that are the same have one map and one turn
 pub same_parts : (t u : Table) → same_table t u ≡ true → (t.map ≡ u.map) × (t.turn ≡ u.turn)

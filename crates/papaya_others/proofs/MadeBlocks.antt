@@ -8,7 +8,6 @@ use Rattle.papaya_follows.specs.Given.Tables.declared.node.Node.{Node}
 use Rattle.papaya_follows.specs.Given.Tables.declared.node.Node.TheVariants as node
 use Rattle.papaya_follows.specs.Given.Schedules.declared.effect.Effect.TheVariants.{Asked}
 use Rattle.papaya_follows.specs.Given.Schedules.declared.effect.Growth.TheVariants.{ABlock}
-use Rattle.papaya_follows.specs.Given.Schedules.declared.effect.Table.{Table}
 use Rattle.papaya_follows.specs.Given.Teller.Changed.{kind_of}
 use Rattle.papaya_follows.specs.Given.Teller.declared.changed.Kind.{Kind}
 use Rattle.papaya_follows.specs.Given.Teller.declared.changed.Kind.TheVariants as kind

@@ -53,10 +53,6 @@ use Rattle.papaya_follows.specs.Given.Effects.declared.acting.Acting.{Acting}
 use Rattle.papaya_follows.specs.Given.Effects.declared.acting.Acting.TheVariants as acts
 use Rattle.papaya_follows.specs.Given.Effects.declared.role.Role.{Role}
 use Rattle.papaya_follows.specs.Given.Effects.declared.role.Role.TheVariants as role
-use Rattle.papaya_follows.specs.Given.Executor.IsAt.{Scene, IsAt, slot_of}
-use Rattle.papaya_follows.specs.Given.Executor.Making.{MakingStepsFrom, MakingComesTo}
-use Rattle.papaya_follows.specs.Given.Executor.declared.executor.Executor.{Executor}
-use Rattle.papaya_follows.proofs.Given.Executor.Makings.{may_make}
 use Rattle.papaya_follows.specs.Blocks.{WasLinked, HasRole}
 use Rattle.papaya_follows.specs.Calls.{ShowsCalls}
 use Rattle.papaya_follows.specs.Maps.{table_of, shape_at, ShowsMap}
@@ -76,10 +72,14 @@ use Rattle.papaya_others.proofs.Quiet.{all_quiet, stored_none}
 use Rattle.papaya_others.proofs.Scenes.{one_put}
 use Rattle.papaya_others.proofs.Stays.{StaysBlock, same_maps}
 use Rattle.papaya_others.proofs.Users.{events_stay}
+use Rattle.papaya_follows.proofs.Given.Scenes.May.{may_make}
+use Rattle.papaya_follows.specs.Given.Scenes.Held.{Held, IsAt}
+use Rattle.papaya_follows.specs.Given.Scenes.Making.{MakingComesTo, MakingStepsFrom}
+use Rattle.papaya_follows.specs.Given.Scenes.Scene.{Scene, slot_of}
 
-module _ {K V S : Type 0} (same : K → K → Bool) (hash : K → ℕ) (name : ℕ → List ℕ) (m : Moment K V) (known : Known) (s : Scene K V) (old new : Executor K V S) (at : IsAt same hash old s)
+module _ {K V : Type 0} (same : K → K → Bool) (hash : ℕ → K → ℕ) (name : ℕ → List ℕ) (m : Moment K V) (known : Known) (s : Scene K V) (old new : Held K V) (at : IsAt same hash old s)
     (shown : Shows same name m known s) (i : ℕ) (b : Beginning K) (here : s.makers i ≡ Some b) (end : NewMap) (said : Progress Setting) (steps : MakingStepsFrom b.machine old new end said)
-    (did : MakingStepsAmong V same same old.batch_size old.roots slot_of s.world s.maps s.calls s.makers s.enders i b new.memory.memory (end, said)) (of : Option ℕ) where
+    (did : MakingStepsAmong V same same old.batch_size old.roots slot_of s.world s.maps s.calls s.makers s.enders i b new.memory (end, said)) (of : Option ℕ) where
   abbrev w : World (Node K V)
   w = s.world
 
@@ -87,7 +87,7 @@ module _ {K V S : Type 0} (same : K → K → Bool) (hash : K → ℕ) (name : �
   w2 = did.step.w2
 
   abbrev told : Changed
-  told = new.memory.changed
+  told = new.changed
 
   abbrev its : Acting
   its = acts.Making b.map
@@ -99,18 +99,18 @@ module _ {K V S : Type 0} (same : K → K → Bool) (hash : K → ℕ) (name : �
   not_there = at.together.makings.coming i b here
 
   pub tells : TellsMaking w i b.machine.setting.root told
-  tells = making_tells w i old.roots b.machine old.memory.memory new.memory.memory told (end, said) facts.point steps
+  tells = making_tells w i old.roots b.machine old.memory new.memory told (end, said) facts.point steps
 
-  in_world : (P : Mem (Node K V) → Mem (Node K V) → Type 0) → P old.memory.memory new.memory.memory → P w.memory w2.memory
-  in_world P p = subst (λ (n : Mem (Node K V)). P w.memory n) (sym did.step.memory) (subst (λ (n : Mem (Node K V)). P n new.memory.memory) (sym at.memory) p)
+  in_world : (P : Mem (Node K V) → Mem (Node K V) → Type 0) → P old.memory new.memory → P w.memory w2.memory
+  in_world P p = subst (λ (n : Mem (Node K V)). P w.memory n) (sym did.step.memory) (subst (λ (n : Mem (Node K V)). P n new.memory) (sym at.memory) p)
 
   values : KeepsValues w.memory w2.memory told
   values = in_world (λ n n2. KeepsValues n n2 told)
-      (making_keeps w i old.roots b.machine old.memory.memory new.memory.memory told (end, said) facts.point (may_make same hash old s at i b here) steps)
+      (making_keeps w i old.roots b.machine old.memory new.memory told (end, said) facts.point (may_make same hash old s at i b here) steps)
 
   pub left : LeavesBy w.memory w2.memory told
   left = in_world (λ n n2. LeavesBy n n2 told)
-      (operated_leaves old.memory.memory new.memory.memory told (operated old.memory.memory new.memory.memory told (new_map_plan b.machine) (end, said) (may_make same hash old s at i b here) steps))
+      (operated_leaves old.memory new.memory told (operated old.memory new.memory told (new_map_plan b.machine) (end, said) (may_make same hash old s at i b here) steps))
 
   stood : (n : ℕ) (before : Standing K) → s.maps n ≡ Some before → IsMapIn same before.hash before.setting w before.chart before.blocks
   stood n before e = (at.together.makings.standing.each n before e).ground.map
@@ -194,7 +194,7 @@ module _ {K V S : Type 0} (same : K → K → Bool) (hash : K → ℕ) (name : �
     words = subst (LeavesBy w.memory w2.memory) is left
 
     taken_then : HasTaken b.machine.stands
-    taken_then = has_root w i old.roots b.machine old.memory.memory new.memory.memory told (end, said) facts.point steps r before after is
+    taken_then = has_root w i old.roots b.machine old.memory new.memory told (end, said) facts.point steps r before after is
 
     root_after : word_at w2.memory (Root b.machine.setting.root) ≡ Some after
     root_after = subst (λ (x : ℕ). word_at w2.memory (Root x) ≡ Some after) wrote.0 words.1
@@ -227,8 +227,8 @@ module _ {K V S : Type 0} (same : K → K → Bool) (hash : K → ℕ) (name : �
     stand_beside : (n : ℕ) (x : Standing K) → s.maps n ≡ Some x → IsMapIn same x.hash x.setting w2 x.chart x.blocks
     stand_beside n x e = (there.together.makings.standing.each n x (at_other s.maps b.map (Some st) n (λ same_number. (let none = ap s.maps same_number ∙ not_there in cc (none, e))) ∙ e)).ground.map
 
-    done_by : DoneBy w i old.roots b.machine old.memory.memory new.memory.memory told setting told
-    done_by = making_done w i old.roots b.machine old.memory.memory new.memory.memory told end setting facts.point
+    done_by : DoneBy w i old.roots b.machine old.memory new.memory told setting told
+    done_by = making_done w i old.roots b.machine old.memory new.memory told end setting facts.point
         (subst (λ (x : Progress Setting). MakingStepsFrom b.machine old new end x) done steps)
 
     -- both what is beside it, and the map
@@ -414,7 +414,7 @@ module _ {K V S : Type 0} (same : K → K → Bool) (hash : K → ℕ) (name : �
     pub came_first : (r before after : ℕ) → told ≡ changed.Wrote (Root r) before after
         → (block_in after ≡ st.blocks.table 0) × (st.chart.past ≡ 1) × (st.chart.first ≡ 0) × (shape : TableShape) × (known.roles (block_in after) ≡ role.OwnTable 0 shape)
     came_first r before after is =
-        let by_it = subst (λ (x : Changed). DoneBy w i old.roots b.machine old.memory.memory new.memory.memory told setting x) is done_by in
+        let by_it = subst (λ (x : Changed). DoneBy w i old.roots b.machine old.memory new.memory told setting x) is done_by in
         let had : HasMade b.machine.stands × (b.machine.len ≢ 0) = (by_it.0, by_it.1) in (
           its_block r before after is had,
           past_is r before after is had,
@@ -423,7 +423,7 @@ module _ {K V S : Type 0} (same : K → K → Bool) (hash : K → ℕ) (name : �
           role_then r before after is had ∙ ap (λ (turn : ℕ). role.OwnTable turn (shape r before after is had)) (planned r before after is had).turn_is,
         )
 
-    done_so : (x : Changed) → told ≡ x → DoneBy w i old.roots b.machine old.memory.memory new.memory.memory told setting x → Both (effects_of its known x) (known_after its x known)
+    done_so : (x : Changed) → told ≡ x → DoneBy w i old.roots b.machine old.memory new.memory told setting x → Both (effects_of its known x) (known_after its x known)
     done_so changed.Nothing is by_it = absurd by_it
     done_so (changed.Wrote a before after) is by_it =
         let root_is : told ≡ changed.Wrote (Root b.machine.setting.root) before after = is ∙ ap (λ (y : At). changed.Wrote y before after) by_it.2 in
@@ -469,7 +469,7 @@ module _ {K V S : Type 0} (same : K → K → Bool) (hash : K → ℕ) (name : �
       making_leads (record s { world = w2; makers = with_at s.makers i None }) shown.calls (λ n st is. (comes.together.makings.standing.each n st is).ground.map)
       (λ r before after is. absurd (not_refused r before after is fault e))
 
-module _ (K V S : Type 0) (same : K → K → Bool) (hash : K → ℕ) where
-  pub makings_are_shown : MakingsAreShown K V S same hash
+module _ (K V : Type 0) (same : K → K → Bool) (hash : ℕ → K → ℕ) where
+  pub makings_are_shown : MakingsAreShown K V same hash
   makings_are_shown name m known s old new at shown i told leads b here of notes was_new =
       let to = leads b here in making_shown same hash name m known s old new at shown i b here to.0 told to.1 to.2 of told refl to.3 notes was_new

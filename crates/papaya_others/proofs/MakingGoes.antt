@@ -26,10 +26,6 @@ use Rattle.papaya_follows.specs.Given.Effects.declared.acting.Acting.{Acting}
 use Rattle.papaya_follows.specs.Given.Effects.declared.acting.Acting.TheVariants as acts
 use Rattle.papaya_follows.specs.Given.Effects.declared.role.Role.{Role}
 use Rattle.papaya_follows.specs.Given.Effects.declared.role.Role.TheVariants as role
-use Rattle.papaya_follows.specs.Given.Executor.IsAt.{Scene, IsAt, slot_of}
-use Rattle.papaya_follows.specs.Given.Executor.Making.{MakingStepsFrom, MakingComesTo}
-use Rattle.papaya_follows.specs.Given.Executor.declared.executor.Executor.{Executor}
-use Rattle.papaya_follows.proofs.Given.Executor.Makings.{may_make}
 use Rattle.papaya_follows.specs.Blocks.{HasRole}
 use Rattle.papaya_follows.specs.Shows.{Shows}
 use Rattle.papaya_follows.proofs.Alike.{AllStill, AreSame, calm_still, put_here}
@@ -43,6 +39,10 @@ use Rattle.papaya_others.proofs.Makes.{facts, tells, left, linked_stays, no_tabl
 use Rattle.papaya_others.proofs.MakingPlans.{TellsMaking, counter_from}
 use Rattle.papaya_others.proofs.Noted.{counter_on}
 use Rattle.papaya_others.proofs.Quiet.{all_quiet}
+use Rattle.papaya_follows.proofs.Given.Scenes.May.{may_make}
+use Rattle.papaya_follows.specs.Given.Scenes.Held.{Held, IsAt}
+use Rattle.papaya_follows.specs.Given.Scenes.Making.{MakingComesTo, MakingStepsFrom}
+use Rattle.papaya_follows.specs.Given.Scenes.Scene.{Scene, slot_of}
 
 -- a map is as new where no pair and no table has moved
 new_stays : {K V : Type 0} (map : ℕ) (setting : Setting) (m v : Moment K V) → AreSame m v → IsNew map setting m → IsNew map setting v
@@ -56,9 +56,9 @@ new_stays map setting m v same new = record {
   no_tables = ap (λ ts. filter (λ t. t.table.map == map) ts) same.tables ∙ new.no_tables;
 }
 
-module _ {K V S : Type 0} (same : K → K → Bool) (hash : K → ℕ) (name : ℕ → List ℕ) (m : Moment K V) (known : Known) (s : Scene K V) (old new : Executor K V S) (at : IsAt same hash old s)
+module _ {K V : Type 0} (same : K → K → Bool) (hash : ℕ → K → ℕ) (name : ℕ → List ℕ) (m : Moment K V) (known : Known) (s : Scene K V) (old new : Held K V) (at : IsAt same hash old s)
     (shown : Shows same name m known s) (i : ℕ) (b : Beginning K) (here : s.makers i ≡ Some b) (end : NewMap) (said : Progress Setting) (steps : MakingStepsFrom b.machine old new end said)
-    (did : MakingStepsAmong V same same old.batch_size old.roots slot_of s.world s.maps s.calls s.makers s.enders i b new.memory.memory (end, said)) where
+    (did : MakingStepsAmong V same same old.batch_size old.roots slot_of s.world s.maps s.calls s.makers s.enders i b new.memory (end, said)) where
   abbrev w : World (Node K V)
   w = s.world
 
@@ -66,7 +66,7 @@ module _ {K V S : Type 0} (same : K → K → Bool) (hash : K → ℕ) (name : �
   w2 = did.step.w2
 
   abbrev told : Changed
-  told = new.memory.changed
+  told = new.changed
 
   abbrev its : Acting
   its = acts.Making b.map
@@ -101,8 +101,8 @@ module _ {K V S : Type 0} (same : K → K → Bool) (hash : K → ℕ) (name : �
     pub going_still : AllStill (effects_of its known told)
     going_still = goes_still told refl (tells same hash name m known s old new at shown i b here end said steps did None) (left same hash name m known s old new at shown i b here end said steps did None)
 
-  op : Operated old.memory.memory new.memory.memory told
-  op = operated old.memory.memory new.memory.memory told (new_map_plan b.machine) (end, said) (may_make same hash old s at i b here) steps
+  op : Operated old.memory new.memory told
+  op = operated old.memory new.memory told (new_map_plan b.machine) (end, said) (may_make same hash old s at i b here) steps
 
   module _ (notes : NotesCounters known s) where
     -- the other ones are noted still
@@ -112,7 +112,7 @@ module _ {K V S : Type 0} (same : K → K → Bool) (hash : K → ℕ) (name : �
     -- and so is its own, if it has made one
     own_noted : IsAt same hash new (record s { world = w2; makers = with_at s.makers i (Some (record b { machine = end })) }) → NotesCounter (known_after its told known) (record b { machine = end })
     own_noted at2 made =
-        by (counter_from w i old.roots b.machine old.memory.memory new.memory.memory told end said made (facts same hash name m known s old new at shown i b here end said steps did None).point steps)
+        by (counter_from w i old.roots b.machine old.memory new.memory told end said made (facts same hash name m known s old new at shown i b here end said steps did None).point steps)
       where
         by : (HasMade b.machine.stands × (end.setting ≡ b.machine.setting)) ⊎ (told ≡ changed.Made kind.Shards end.setting.counter) → (known_after its told known).roles end.setting.counter ≡ role.Counter b.map
         by (inl had) =
@@ -136,13 +136,13 @@ module _ {K V S : Type 0} (same : K → K → Bool) (hash : K → ℕ) (name : �
     making_noted (progress.Done setting) comes = noted_on _ comes.2 None (λ j. refl) (λ d is. absurd (cc is))
     making_noted (progress.Refused fault) comes = noted_on _ comes None (λ j. refl) (λ d is. absurd (cc is))
 
-module _ (K V S : Type 0) (same : K → K → Bool) (hash : K → ℕ) where
-  pub new_maps_stay : NewMapsStay K V S same hash
+module _ (K V : Type 0) (same : K → K → Bool) (hash : ℕ → K → ℕ) where
+  pub new_maps_stay : NewMapsStay K V same hash
   new_maps_stay name m known s old new at shown i leads b here of setting is_new =
       let to = leads b here in
       let still = going_still same hash name m known s old new at shown i b here to.0 progress.Goes to.1 to.2 refl to.3 in
-      new_stays b.map setting m (with_effects None of (effects_of (acts.Making b.map) known new.memory.changed) m) (all_quiet of (effects_of (acts.Making b.map) known new.memory.changed) m still) is_new
+      new_stays b.map setting m (with_effects None of (effects_of (acts.Making b.map) known new.changed) m) (all_quiet of (effects_of (acts.Making b.map) known new.changed) m still) is_new
 
-  pub makings_note_counters : MakingsNoteCounters K V S same hash
+  pub makings_note_counters : MakingsNoteCounters K V same hash
   makings_note_counters name m known s old new at shown notes i told leads b here =
       let to = leads b here in making_noted same hash name m known s old new at shown i b here to.0 told to.1 to.2 notes told to.3

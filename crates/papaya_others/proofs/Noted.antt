@@ -22,13 +22,13 @@ use Rattle.papaya_follows.specs.Given.Effects.Known.{Known}
 use Rattle.papaya_follows.specs.Given.Effects.declared.acting.Acting.{Acting}
 use Rattle.papaya_follows.specs.Given.Effects.declared.role.Role.{Role}
 use Rattle.papaya_follows.specs.Given.Effects.declared.role.Role.TheVariants as role
-use Rattle.papaya_follows.specs.Given.Executor.IsAt.{Scene, IsAt}
-use Rattle.papaya_follows.specs.Given.Executor.declared.executor.Executor.{Executor}
 use Rattle.papaya_follows.specs.Blocks.{HasRole, ShowsBlocks}
 use Rattle.papaya_follows.proofs.Alike.{put_elsewhere}
 use Rattle.papaya_follows.proofs.Operations.{LeavesBy, Operated, operated_leaves}
 use Rattle.papaya_follows.proofs.Told.{roomed_as_many}
 use Rattle.papaya_others.specs.Counters.{NotesCounters}
+use Rattle.papaya_follows.specs.Given.Scenes.Held.{Held, IsAt}
+use Rattle.papaya_follows.specs.Given.Scenes.Scene.{Scene}
 
 module _ {K V : Type 0} (m : Moment K V) (known : Known) (w w2 : World (Node K V)) (shown : ShowsBlocks m known w) (its : Acting) (c map : ℕ) (noted : known.roles c ≡ role.Counter map)
     (there : value_at w2.memory c ≡ Some node.Shards) where
@@ -96,19 +96,19 @@ counter_there w roots i n (opening.Frees fault) facts has = absurd has
 counter_there w roots i n opening.Over facts has = absurd has
 counter_there w roots i n (opening.Refused fault) facts has = absurd has
 
-module _ {K V S : Type 0} (same : K → K → Bool) (hash : K → ℕ) (m : Moment K V) (known : Known) (s s2 : Scene K V) (old new : Executor K V S) (at : IsAt same hash old s) (at2 : IsAt same hash new s2)
-    (shown : ShowsBlocks m known s.world) (op : Operated old.memory.memory new.memory.memory new.memory.changed) (its : Acting) where
-  left : LeavesBy s.world.memory s2.world.memory new.memory.changed
+module _ {K V : Type 0} (same : K → K → Bool) (hash : ℕ → K → ℕ) (m : Moment K V) (known : Known) (s s2 : Scene K V) (old new : Held K V) (at : IsAt same hash old s) (at2 : IsAt same hash new s2)
+    (shown : ShowsBlocks m known s.world) (op : Operated old.memory new.memory new.changed) (its : Acting) where
+  left : LeavesBy s.world.memory s2.world.memory new.changed
   left =
-      subst (λ (n : Mem (Node K V)). LeavesBy s.world.memory n new.memory.changed) (sym at2.memory)
-      (subst (λ (n : Mem (Node K V)). LeavesBy n new.memory.memory new.memory.changed) (sym at.memory) (operated_leaves old.memory.memory new.memory.memory new.memory.changed op))
+      subst (λ (n : Mem (Node K V)). LeavesBy s.world.memory n new.changed) (sym at2.memory)
+      (subst (λ (n : Mem (Node K V)). LeavesBy n new.memory new.changed) (sym at.memory) (operated_leaves old.memory new.memory new.changed op))
 
   -- a making that is under way still
   pub counter_on : (i : ℕ) (b d : Beginning K) → s2.makers i ≡ Some d → d.machine.setting.counter ≡ b.machine.setting.counter → HasMade d.machine.stands → (map : ℕ) → known.roles b.machine.setting.counter ≡ role.Counter map
-      → (known_after its new.memory.changed known).roles d.machine.setting.counter ≡ role.Counter map
+      → (known_after its new.changed known).roles d.machine.setting.counter ≡ role.Counter map
   counter_on i b d here is made map noted =
       noted_still m known s.world s2.world shown its d.machine.setting.counter map (ap known.roles is ∙ noted)
-      (counter_there s2.world new.roots i d.machine d.machine.stands (at2.together.makings.facts i d here).point made) new.memory.changed left
+      (counter_there s2.world new.roots i d.machine d.machine.stands (at2.together.makings.facts i d here).point made) new.changed left
 
-  pub counters_on : ((i : ℕ) (b : Beginning K) → s2.makers i ≡ Some b → s.makers i ≡ Some b) → NotesCounters known s → NotesCounters (known_after its new.memory.changed known) s2
+  pub counters_on : ((i : ℕ) (b : Beginning K) → s2.makers i ≡ Some b → s.makers i ≡ Some b) → NotesCounters known s → NotesCounters (known_after its new.changed known) s2
   counters_on was notes i b here made = counter_on i b b here refl made b.map (notes i b (was i b here) made)

@@ -6,13 +6,13 @@ use Rattle.papaya_follows.specs.Given.Seize.World.{World, Hand, Begins, Begin}
 use Rattle.papaya_follows.specs.Given.Tables.Nodes.{deferred_word}
 use Rattle.papaya_follows.specs.Given.Tables.declared.node.Node.{Node}
 use Rattle.papaya_follows.specs.Blocks.{WasLinked}
-use Rattle.papaya_follows.specs.Given.Executor.IsAt.{slot_of}
-use Rattle.papaya_follows.specs.Given.Executor.Rows.{request_of}
-use Rattle.papaya_follows.specs.Given.Executor.declared.row.SlotCall.{SlotCall}
-use Rattle.papaya_follows.specs.Given.Executor.declared.row.SlotCall.TheVariants as call
+use Rattle.papaya_follows.specs.Given.Scenes.declared.row.SlotCall.{SlotCall}
+use Rattle.papaya_follows.specs.Given.Scenes.declared.row.SlotCall.TheVariants as call
 use Rattle.papaya_others.specs.Rows.{scene_then, RowsBeginShown}
 use Rattle.papaya_others.proofs.Scenes.{all_stay}
 use Rattle.papaya_others.proofs.Stays.{StaysBlock}
+use Rattle.papaya_follows.specs.Given.Scenes.Rows.{request_of}
+use Rattle.papaya_follows.specs.Given.Scenes.Scene.{slot_of}
 
 module _ {K V : Type 0} (size slot i : ℕ) (w w2 : World (Node K V)) where
   -- the memory is the same, and so is who has each block
@@ -40,9 +40,9 @@ module _ {K V : Type 0} (size slot i : ℕ) (w w2 : World (Node K V)) where
   pub begun_stays : (called : SlotCall) → Begins deferred_word size i (request_of slot called) w w2 → (b : ℕ) → StaysBlock w w2 b
   begun_stays called h = same_stays (begun_same called h)
 
-module _ (K V S : Type 0) (same : K → K → Bool) (hash : K → ℕ) where
-  pub rows_begin_shown : RowsBeginShown K V S same hash
-  rows_begin_shown name m known s old new at shown called i may leads =
-      let to = (leads may).3 in
+module _ (K V : Type 0) (same : K → K → Bool) (hash : ℕ → K → ℕ) where
+  pub rows_begin_shown : RowsBeginShown K V same hash
+  rows_begin_shown name m known s old new at shown called i leads =
+      let to = leads.2 in
       all_stay same name m known s shown to.0 to.2 to.3 m known (record { place = refl; born = refl; maps = refl; tables = refl; stored = refl }) refl refl
       (begun_stays old.batch_size (slot_of i) i s.world to.0 called to.1.1) (scene_then same hash (Begin i (request_of (slot_of i) called)) s old new to) shown.calls

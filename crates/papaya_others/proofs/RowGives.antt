@@ -33,15 +33,15 @@ use Rattle.papaya_follows.specs.Given.Tells.Seen.{seen_of}
 use Rattle.papaya_follows.specs.Given.Teller.Tells.{told_of, StepsTold}
 use Rattle.papaya_follows.specs.Given.Teller.declared.changed.Changed.{Changed}
 use Rattle.papaya_follows.specs.Given.Teller.declared.changed.Changed.TheVariants as changed
-use Rattle.papaya_follows.specs.Given.Executor.OnSlots.{RowSteps}
-use Rattle.papaya_follows.specs.Given.Executor.Rows.{of_registering, of_storing, of_settling}
-use Rattle.papaya_follows.specs.Given.Executor.declared.row.RowTold.{RowTold}
-use Rattle.papaya_follows.specs.Given.Executor.declared.row.SlotRow.{SlotRow}
-use Rattle.papaya_follows.specs.Given.Executor.declared.row.SlotRow.TheVariants as rows
-use Rattle.papaya_follows.proofs.Given.Executor.Forgotten.{as_step}
+use Rattle.papaya_follows.specs.Given.Scenes.declared.row.RowTold.{RowTold}
+use Rattle.papaya_follows.specs.Given.Scenes.declared.row.SlotRow.{SlotRow}
+use Rattle.papaya_follows.specs.Given.Scenes.declared.row.SlotRow.TheVariants as rows
 use Rattle.papaya_follows.specs.Steps.{TakesNone}
 use Rattle.papaya_others.specs.Gives.{GivesWhatItTook, RowsGiveWhatTheyTook}
 use Rattle.papaya_others.proofs.Outcomes.{told_in}
+use Rattle.papaya_follows.proofs.Given.Scenes.Told.{as_step}
+use Rattle.papaya_follows.specs.Given.Scenes.OnSlots.{RowSteps}
+use Rattle.papaya_follows.specs.Given.Scenes.Rows.{of_registering, of_settling, of_storing}
 
 module _ {T : Type 0} where
   -- the operation takes no block away
@@ -174,6 +174,6 @@ module _ {K V : Type 0} (m m2 : Mem (Node K V)) (told : Changed) where
   row_gives after (rows.Flushes c) s = as_told after _ _ s.2 (by_settling s.0.1 (settle_gives c s.0 s.1))
   row_gives after (rows.Frees c) s = as_told after _ _ s.2 (by_storing s.0.1 (plan_none (unregister_plan c) s.0 s.1 tt))
 
-pub rows_give_what_they_took : (K V S : Type 0) (same : K → K → Bool) (hash : K → ℕ) → RowsGiveWhatTheyTook K V S same hash
-rows_give_what_they_took K V S same hash s old new i told leads row here =
-    let to = leads row here in row_gives old.memory.memory new.memory.memory new.memory.changed (to.0, told) row to.1
+pub rows_give_what_they_took : (K V : Type 0) (same : K → K → Bool) (hash : ℕ → K → ℕ) → RowsGiveWhatTheyTook K V same hash
+rows_give_what_they_took K V same hash s old new i told leads row here =
+    let to = leads row here in row_gives old.memory new.memory new.changed (to.0, told) row to.1

@@ -26,12 +26,12 @@ use Rattle.papaya_follows.specs.Given.Tells.Seen.{seen_of}
 use Rattle.papaya_follows.specs.Given.Teller.Tells.{told_of, StepsTold}
 use Rattle.papaya_follows.specs.Given.Teller.declared.changed.Changed.{Changed}
 use Rattle.papaya_follows.specs.Given.Teller.declared.changed.Changed.TheVariants as changed
-use Rattle.papaya_follows.specs.Given.Executor.IsAt.{row_of}
-use Rattle.papaya_follows.specs.Given.Executor.OnSlots.{RowSteps}
-use Rattle.papaya_follows.specs.Given.Executor.declared.row.RowTold.{RowTold}
-use Rattle.papaya_follows.specs.Given.Executor.declared.row.SlotRow.{SlotRow}
-use Rattle.papaya_follows.specs.Given.Executor.declared.row.SlotRow.TheVariants as rows
+use Rattle.papaya_follows.specs.Given.Scenes.declared.row.RowTold.{RowTold}
+use Rattle.papaya_follows.specs.Given.Scenes.declared.row.SlotRow.{SlotRow}
+use Rattle.papaya_follows.specs.Given.Scenes.declared.row.SlotRow.TheVariants as rows
 use Rattle.papaya_follows.proofs.Operations.{Operated, operated}
+use Rattle.papaya_follows.specs.Given.Scenes.OnSlots.{RowSteps}
+use Rattle.papaya_follows.specs.Given.Scenes.Scene.{row_of}
 
 -- a word of the collector's own
 abbrev pub IsOfSlots : At → Type 0

@@ -5,6 +5,7 @@ use Rattle.papaya_follows.specs.Given.SeizeWords.declared.at.At.TheVariants.{Roo
 use Rattle.papaya_follows.specs.Given.SeizeWords.Mem.{Mem, value_at}
 use Rattle.papaya_follows.specs.Given.Seize.Sequence.{taken_in}
 use Rattle.papaya_follows.specs.Given.Seize.World.{World, Hand, Step, Steps', times}
+use Rattle.papaya_follows.proofs.Given.Scenes.May.{may_row}
 use Rattle.papaya_follows.proofs.Given.SeizeRule.Rows.Effects.{hand_kept}
 use Rattle.papaya_follows.proofs.Given.SeizeAlone.Spared.Rows.{RowStepped}
 use Rattle.papaya_follows.proofs.Given.SeizeAlone.Histories.NotTaken.{did, taken_gone}
@@ -26,13 +27,8 @@ use Rattle.papaya_follows.specs.Given.Effects.Known.{Known, with_role}
 use Rattle.papaya_follows.specs.Given.Effects.declared.acting.Acting.TheVariants.{Row}
 use Rattle.papaya_follows.specs.Given.Effects.declared.role.Role.{Role}
 use Rattle.papaya_follows.specs.Given.Effects.declared.role.Role.TheVariants as role
-use Rattle.papaya_follows.specs.Given.Executor.IsAt.{Scene, IsAt, slot_of, work_of}
-use Rattle.papaya_follows.specs.Given.Executor.OnSlots.{RowSteps, HappensAt}
-use Rattle.papaya_follows.specs.Given.Executor.declared.executor.Executor.{Executor}
-use Rattle.papaya_follows.specs.Given.Executor.declared.row.RowTold.{RowTold}
-use Rattle.papaya_follows.specs.Given.Executor.declared.row.SlotRow.{SlotRow}
-use Rattle.papaya_follows.specs.Given.Executor.declared.worker.Work.TheVariants as work
-use Rattle.papaya_follows.proofs.Given.Executor.OnSlots.{row_at, may_taken}
+use Rattle.papaya_follows.specs.Given.Scenes.declared.row.RowTold.{RowTold}
+use Rattle.papaya_follows.specs.Given.Scenes.declared.row.SlotRow.{SlotRow}
 use Rattle.papaya_follows.specs.Blocks.{WasLinked}
 use Rattle.papaya_follows.specs.Calls.{ShowsCalls}
 use Rattle.papaya_follows.specs.Shows.{Shows}
@@ -47,6 +43,9 @@ use Rattle.papaya_others.proofs.RowPlans.{TellsRow, row_tells, row_operated}
 use Rattle.papaya_others.proofs.Retired.{retired_apart}
 use Rattle.papaya_others.proofs.Scenes.{pair_gone, table_gone}
 use Rattle.papaya_others.proofs.Stays.{StaysBlock, same_there}
+use Rattle.papaya_follows.specs.Given.Scenes.Held.{Held, IsAt}
+use Rattle.papaya_follows.specs.Given.Scenes.OnSlots.{HappensAt, RowSteps}
+use Rattle.papaya_follows.specs.Given.Scenes.Scene.{IsOnSlot, Scene}
 
 -- a block that is there still, if it was, is as it was
 module _ {K V : Type 0} (size : ℕ) (w w2 : World (Node K V)) (r : Reached deferred_word size w) (i : ℕ) (step : Steps' deferred_word i (w.row i) w w2) where
@@ -125,21 +124,21 @@ module _ {K V : Type 0} (same : K → K → Bool) (name : ℕ → List ℕ) (m :
   row_leads (changed.Roomed bucket had) is l may =
       let alike = roomed_as_many Row known bucket had in still (effects_of Row known (changed.Roomed bucket had)) _ (roomed_still (had && nat_lt bucket known.buckets)) alike.0 alike.1 l
 
-module _ {K V S : Type 0} (same : K → K → Bool) (hash : K → ℕ) (name : ℕ → List ℕ) (m : Moment K V) (known : Known) (s : Scene K V) (old new : Executor K V S) (at : IsAt same hash old s)
-    (shown : Shows same name m known s) (i : ℕ) (row : SlotRow) (here : work_of old i ≡ Some (work.OnSlot row)) (end : SlotRow × RowTold (Node K V))
-    (steps : RowSteps K V row old.memory.memory new.memory.memory new.memory.changed end) (happened : HappensAt same hash (Step i) s old new) where
+module _ {K V : Type 0} (same : K → K → Bool) (hash : ℕ → K → ℕ) (name : ℕ → List ℕ) (m : Moment K V) (known : Known) (s : Scene K V) (old new : Held K V) (at : IsAt same hash old s)
+    (shown : Shows same name m known s) (i : ℕ) (row : SlotRow) (here : IsOnSlot s i row) (end : SlotRow × RowTold (Node K V))
+    (steps : RowSteps K V row old.memory new.memory new.changed end) (happened : HappensAt same hash (Step i) s old new) where
   abbrev w : World (Node K V)
   w = s.world
 
   abbrev told : Changed
-  told = new.memory.changed
+  told = new.changed
 
   left : LeavesBy w.memory happened.0.memory told
   left =
       subst (λ (n : Mem (Node K V)). LeavesBy w.memory n told) (sym happened.4.memory)
-      (subst (λ (n : Mem (Node K V)). LeavesBy n new.memory.memory told) (sym at.memory)
-      (operated_leaves old.memory.memory new.memory.memory told
-      (row_operated old.memory.memory new.memory.memory told end row (may_taken same hash old s at i row here (slot_of i) row (row_at same hash old s at i row here)) steps)))
+      (subst (λ (n : Mem (Node K V)). LeavesBy n new.memory told) (sym at.memory)
+      (operated_leaves old.memory new.memory told
+      (row_operated old.memory new.memory told end row (may_row same hash old s at i row here) steps)))
 
   pub row_shown : AtEachEffect WasRetired None None (effects_of Row known told) m
       → ShowsAfter same name m known s shown (with_effects None None (effects_of Row known told) m) (known_after Row told known) (scene_then same hash (Step i) s old new happened)
@@ -147,9 +146,9 @@ module _ {K V S : Type 0} (same : K → K → Bool) (hash : K → ℕ) (name : �
       row_leads same name m known s shown happened.0 happened.2 happened.3
       (row_stays old.batch_size w happened.0 (came_reached old.batch_size w at.together.makings.standing.came) i happened.1)
       (λ n before e. (at.together.makings.standing.each n before e).ground.map) (λ n st e. (happened.4.together.makings.standing.each n st e).ground.map)
-      told (row_tells old.memory.memory new.memory.memory told end row steps) left may
+      told (row_tells old.memory new.memory told end row steps) left may
 
-module _ (K V S : Type 0) (same : K → K → Bool) (hash : K → ℕ) where
-  pub rows_on_slots_are_shown : RowsOnSlotsAreShown K V S same hash
+module _ (K V : Type 0) (same : K → K → Bool) (hash : ℕ → K → ℕ) where
+  pub rows_on_slots_are_shown : RowsOnSlotsAreShown K V same hash
   rows_on_slots_are_shown name m known s old new at shown i told leads row here may =
-      let to = leads row here in row_shown same hash name m known s old new at shown i row here (to.0, told) to.1 to.4 may
+      let to = leads row here in row_shown same hash name m known s old new at shown i row here (to.0, told) to.1 to.2 may

@@ -18,7 +18,6 @@ use Rattle.papaya_follows.specs.Given.Finishes.Maps.{Standing, IsSameMap}
 use Rattle.papaya_follows.specs.Given.Effects.Known.{Known}
 use Rattle.papaya_follows.specs.Given.Effects.declared.role.Role.{Role}
 use Rattle.papaya_follows.specs.Given.Effects.declared.role.Role.TheVariants as role
-use Rattle.papaya_follows.specs.Given.Executor.IsAt.{Scene}
 use Rattle.papaya_follows.specs.Blocks.{HasRole}
 use Rattle.papaya_follows.specs.Calls.{ShowsCalls}
 use Rattle.papaya_follows.specs.Maps.{table_of, ShowsMap}
@@ -30,6 +29,7 @@ use Rattle.papaya_others.specs.After.{ShowsAfter}
 use Rattle.papaya_others.specs.Gone.{WaitOutside}
 use Rattle.papaya_others.proofs.Outside.{in_map_of, pairs_outside, put_outside, all_outside, table_staged}
 use Rattle.papaya_others.proofs.Stays.{StaysBlock, blocks_stay, blocks_but}
+use Rattle.papaya_follows.specs.Given.Scenes.Scene.{Scene}
 
 -- a block is there no more that no map has which stands
 module _ {K V : Type 0} (same : K → K → Bool) (n : ℕ) (number : ℕ → ℕ) (st : Standing K) (v : Moment K V) (known after : Known) (w2 : World (Node K V))

@@ -9,8 +9,6 @@ use Rattle.papaya_follows.specs.Given.Callers.Together.{UnderWay, OnKey, ForRoom
 use Rattle.papaya_follows.specs.Given.Finishes.Machines.{machine_of}
 use Rattle.papaya_follows.specs.Given.Finishes.Maps.{with_call}
 use Rattle.papaya_follows.specs.Given.Effects.Known.{Known}
-use Rattle.papaya_follows.specs.Given.Executor.IsAt.{Scene}
-use Rattle.papaya_follows.specs.Given.Executor.Replying.{unless_stopped}
 use Rattle.papaya_follows.specs.Calling.{NoneNamed}
 use Rattle.papaya_follows.specs.Calls.{ShowsCalls}
 use Rattle.papaya_follows.specs.Shows.{Shows}
@@ -21,6 +19,8 @@ use Rattle.papaya_follows.proofs.Calls.{CalledOn, was_there}
 use Rattle.papaya_follows.proofs.Onward.{tables_same, pairs_same, blocks_same, map_on}
 use Rattle.papaya_others.specs.After.{ShowsAfter}
 use Rattle.papaya_others.specs.Walks.{given_up, WalksGoOn, WalksAreGivenUp}
+use Rattle.papaya_follows.specs.Given.Scenes.Replying.{unless_stopped}
+use Rattle.papaya_follows.specs.Given.Scenes.Scene.{Scene}
 
 module _ {K V : Type 0} (same : K → K → Bool) where
   -- calls of which one goes on, or is under way no more, are shown
@@ -45,15 +45,15 @@ module _ {K V : Type 0} (same : K → K → Bool) where
   walk_on (OverAll o) (Counting y) ready is = absurd (cc is)
   walk_on (OverAll o) (OverAll p) ready is = λ its called. sweep_called same o p its called
 
-module _ (K V S : Type 0) (same : K → K → Bool) (hash : K → ℕ) where
-  pub walks_go_on : WalksGoOn K V S same hash
+module _ (K V : Type 0) (same : K → K → Bool) (hash : ℕ → K → ℕ) where
+  pub walks_go_on : WalksGoOn K V same hash
   walks_go_on name m known s old new shown i leads map u here =
       let to = leads map u here in
       with_calls same name m known s (with_call s.calls map i (Some to.0))
       (fewer_calls same name m s.calls map i u here (Some to.0)
       (λ x e its called. called_as same x to.0 its (some_is to.0 x e) (walk_on same u to.0 (sym to.2) to.1 its called)) shown.calls) shown
 
-  pub walks_are_given_up : WalksAreGivenUp K V S same hash
+  pub walks_are_given_up : WalksAreGivenUp K V same hash
   walks_are_given_up name m known s old new shown i stopped leads map u here = by stopped
     where
       same_call : (x : UnderWay K V K) → ◌≡◌ {A = Option (UnderWay K V K)} (Some u) (Some x) → CalledOn same u x

@@ -13,18 +13,17 @@ use Rattle.papaya_follows.specs.Given.Finishes.Makings.{Beginning, HasMade}
 use Rattle.papaya_follows.specs.Given.Effects.Effects.{known_after}
 use Rattle.papaya_follows.specs.Given.Effects.Known.{Known}
 use Rattle.papaya_follows.specs.Given.Effects.declared.acting.Acting.TheVariants as acts
-use Rattle.papaya_follows.specs.Given.Executor.Ending.{EndingLeads}
-use Rattle.papaya_follows.specs.Given.Executor.IsAt.{Scene, IsAt, work_of}
-use Rattle.papaya_follows.specs.Given.Executor.Making.{MakingLeads}
-use Rattle.papaya_follows.specs.Given.Executor.OnSlots.{RowLeads}
-use Rattle.papaya_follows.specs.Given.Executor.Stepping.{StepLeads, scene_after}
-use Rattle.papaya_follows.specs.Given.Executor.declared.executor.Executor.{Executor}
-use Rattle.papaya_follows.specs.Given.Executor.declared.row.RowTold.{RowTold}
-use Rattle.papaya_follows.specs.Given.Executor.declared.row.SlotRow.{SlotRow}
-use Rattle.papaya_follows.specs.Given.Executor.declared.worker.Work.TheVariants.{OnSlot}
+use Rattle.papaya_follows.specs.Given.Scenes.declared.row.RowTold.{RowTold}
+use Rattle.papaya_follows.specs.Given.Scenes.declared.row.SlotRow.{SlotRow}
 use Rattle.papaya_follows.specs.Shows.{Shows}
 use Rattle.papaya_others.specs.Endings.{ending_after}
 use Rattle.papaya_others.specs.Makings.{NotesCounter, making_after}
+use Rattle.papaya_follows.specs.Given.Scenes.Ending.{EndingLeads}
+use Rattle.papaya_follows.specs.Given.Scenes.Held.{Held, IsAt}
+use Rattle.papaya_follows.specs.Given.Scenes.Making.{MakingLeads}
+use Rattle.papaya_follows.specs.Given.Scenes.OnSlots.{RowLeads}
+use Rattle.papaya_follows.specs.Given.Scenes.Scene.{IsOnSlot, Scene}
+use Rattle.papaya_follows.specs.Given.Scenes.Stepping.{StepLeads, scene_after}
 
 -- the counter of each making, if it has made one, is noted
 abbrev pub NotesCounters : {K V : Type 0} → Known → Scene K V → Type 0
@@ -36,33 +35,33 @@ BeginningsNoteCounters K V =
     (known : Known) (s : Scene K V) → NotesCounters known s
     → (i : ℕ) (b : Beginning K) → (HasMade b.machine.stands → ⊥) → NotesCounters known (record s { makers = with_at s.makers i (Some b) })
 
-module _ (K V S : Type 0) (same : K → K → Bool) (hash : K → ℕ) where
+module _ (K V : Type 0) (same : K → K → Bool) (hash : ℕ → K → ℕ) where
   -- after a step of a call,
   abbrev pub CallsNoteCounters : Type 0
   CallsNoteCounters =
-      (name : ℕ → List ℕ) (m : Moment K V) (known : Known) (s : Scene K V) (old new : Executor K V S) → IsAt same hash old s → Shows same name m known s → NotesCounters known s
+      (name : ℕ → List ℕ) (m : Moment K V) (known : Known) (s : Scene K V) (old new : Held K V) → IsAt same hash old s → Shows same name m known s → NotesCounters known s
       → (map i : ℕ) (u : UnderWay K V K) (here : s.calls map i ≡ Some u) (told : Progress (Node K V)) (leads : StepLeads same hash i told s old new)
       → (let to = leads map u here in
-      NotesCounters (known_after (acts.Call i map) new.memory.changed known) (scene_after same hash s old new map i to.0 u to.1 told to.4))
+      NotesCounters (known_after (acts.Call i map) new.changed known) (scene_after same s old new map i to.0 u to.1 told to.4))
 
   -- of a row on a slot,
   abbrev pub RowsNoteCounters : Type 0
   RowsNoteCounters =
-      (name : ℕ → List ℕ) (m : Moment K V) (known : Known) (s : Scene K V) (old new : Executor K V S) → IsAt same hash old s → Shows same name m known s → NotesCounters known s
-      → (i : ℕ) (told : RowTold (Node K V)) → RowLeads same hash i told s old new → (row : SlotRow) → work_of old i ≡ Some (OnSlot row) → NotesCounters (known_after acts.Row new.memory.changed known) s
+      (name : ℕ → List ℕ) (m : Moment K V) (known : Known) (s : Scene K V) (old new : Held K V) → IsAt same hash old s → Shows same name m known s → NotesCounters known s
+      → (i : ℕ) (told : RowTold (Node K V)) → RowLeads same hash i told s old new → (row : SlotRow) → IsOnSlot s i row → NotesCounters (known_after acts.Row new.changed known) s
 
   -- of an end,
   abbrev pub EndingsNoteCounters : Type 0
   EndingsNoteCounters =
-      (name : ℕ → List ℕ) (m : Moment K V) (known : Known) (s : Scene K V) (old new : Executor K V S) → IsAt same hash old s → Shows same name m known s → NotesCounters known s
+      (name : ℕ → List ℕ) (m : Moment K V) (known : Known) (s : Scene K V) (old new : Held K V) → IsAt same hash old s → Shows same name m known s → NotesCounters known s
       → (i : ℕ) (told : Settled (Node K V)) (leads : EndingLeads same hash i told s old new) (f : Finishing K V) (here : s.enders i ≡ Some f) (map : ℕ)
       → (let to = leads f here in
-      NotesCounters (known_after (acts.Ending map) new.memory.changed known) (ending_after same hash s new i f to.0 to.2.w2 to.2.deed told to.3))
+      NotesCounters (known_after (acts.Ending map) new.changed known) (ending_after same hash s new i f to.0 to.2.w2 to.2.deed told to.3))
 
   -- and of a making.
   abbrev pub MakingsNoteCounters : Type 0
   MakingsNoteCounters =
-      (name : ℕ → List ℕ) (m : Moment K V) (known : Known) (s : Scene K V) (old new : Executor K V S) → IsAt same hash old s → Shows same name m known s → NotesCounters known s
+      (name : ℕ → List ℕ) (m : Moment K V) (known : Known) (s : Scene K V) (old new : Held K V) → IsAt same hash old s → Shows same name m known s → NotesCounters known s
       → (i : ℕ) (told : Making Setting) (leads : MakingLeads same hash i told s old new) (b : Beginning K) (here : s.makers i ≡ Some b)
       → (let to = leads b here in
-      NotesCounters (known_after (acts.Making b.map) new.memory.changed known) (making_after same hash s old new i b to.0 to.2.step.w2 told to.3))
+      NotesCounters (known_after (acts.Making b.map) new.changed known) (making_after same hash s old new i b to.0 to.2.step.w2 told to.3))

@@ -4,9 +4,9 @@ use Rattle.std.specs.Prelude.{◌≡◌, ℕ, Bool, List}
 use Rattle.papaya_follows.specs.Given.Schedules.Moment.{Moment}
 use Rattle.papaya_follows.specs.Given.Finishes.Maps.{IsSameMap}
 use Rattle.papaya_follows.specs.Given.Effects.Known.{Known}
-use Rattle.papaya_follows.specs.Given.Executor.IsAt.{Scene}
 use Rattle.papaya_follows.specs.Shows.{Shows}
 use Rattle.papaya_others.specs.After.{ShowsAfter}
+use Rattle.papaya_follows.specs.Given.Scenes.Scene.{Scene}
 
 -- the moment has the same pairs, maps, tables and calls
 pub record HasSame {K V : Type 0} (m m2 : Moment K V) : Type 0 where

@@ -17,20 +17,20 @@ use Rattle.papaya_follows.specs.Given.Effects.declared.acting.Acting.TheVariants
 use Rattle.papaya_follows.specs.Given.Finishes.Endings.{Finishing}
 use Rattle.papaya_follows.specs.Given.Finishes.FactsEnds.{Deed}
 use Rattle.papaya_follows.specs.Given.Finishes.Maps.{Standing}
-use Rattle.papaya_follows.specs.Given.Executor.Ending.{EndingLeads, EndingComesTo, ending_begun, ending_goes}
-use Rattle.papaya_follows.specs.Given.Executor.IsAt.{Scene, IsAt}
-use Rattle.papaya_follows.specs.Given.Executor.declared.executor.Executor.{Executor}
 use Rattle.papaya_follows.specs.Shows.{Shows}
 use Rattle.papaya_follows.specs.Steps.{TakesNone}
 use Rattle.papaya_others.specs.After.{ShowsAfter}
 use Rattle.papaya_others.specs.Gone.{EndsWith}
+use Rattle.papaya_follows.specs.Given.Scenes.Ending.{EndingComesTo, EndingLeads, ending_begun, ending_goes}
+use Rattle.papaya_follows.specs.Given.Scenes.Held.{Held, IsAt}
+use Rattle.papaya_follows.specs.Given.Scenes.Scene.{Scene}
 
-module _ {K V S : Type 0} (same : K → K → Bool) (hash : K → ℕ) (s : Scene K V) (new : Executor K V S) (i : ℕ) (f : Finishing K V) (ending : EndMap) (w2 : World (Node K V)) (deed : Deed) where
+module _ {K V : Type 0} (same : K → K → Bool) (hash : ℕ → K → ℕ) (s : Scene K V) (new : Held K V) (i : ℕ) (f : Finishing K V) (ending : EndMap) (w2 : World (Node K V)) (deed : Deed) where
   -- the scene to which a step of the end has come
   abbrev pub ending_after : (told : Settled (Node K V)) → EndingComesTo same hash s new i f ending w2 deed told → Scene K V
-  ending_after settled.Goes comes = ending_goes same hash s new i f ending w2 deed f.back
+  ending_after settled.Goes comes = ending_goes s i f ending w2 deed f.back
   ending_after settled.Waits comes = s
-  ending_after (settled.Gave value) comes = ending_goes same hash s new i f ending w2 deed (f.back ++ comes.0 ∷ [])
+  ending_after (settled.Gave value) comes = ending_goes s i f ending w2 deed (f.back ++ comes.0 ∷ [])
   ending_after settled.Done comes = record s { world = w2; enders = with_at s.enders i None }
 
   -- What is told of a step that hands a value out is that its block was taken, which is the one reclaimed next; no other step takes a block.
@@ -58,15 +58,15 @@ module _ (K V : Type 0) (same : K → K → Bool) where
       → (own : List ℕ) (remains : List Remains) → ((map : ℕ) (standing : Standing K) (there : MapThere) → s.maps map ≡ Some standing → map_at map m ≡ Some there → is_same there.name own ≡ false)
       → ShowsAfter same name m known s shown (without_map own remains m) known s
 
-module _ (K V S : Type 0) (same : K → K → Bool) (hash : K → ℕ) where
+module _ (K V : Type 0) (same : K → K → Bool) (hash : ℕ → K → ℕ) where
   -- The promise, of a step of an end: the number that it is told by is that of no map that stands, and a table that ends with the map is one of it. Pairs and
   -- tables end in the order in which their blocks are reclaimed.
   abbrev pub EndingsAreShown : Type 0
   EndingsAreShown =
-      (name : ℕ → List ℕ) (m : Moment K V) (known : Known) (s : Scene K V) (old new : Executor K V S) → IsAt same hash old s → (shown : Shows same name m known s)
+      (name : ℕ → List ℕ) (m : Moment K V) (known : Known) (s : Scene K V) (old new : Held K V) → IsAt same hash old s → (shown : Shows same name m known s)
       → (i : ℕ) (told : Settled (Node K V)) (leads : EndingLeads same hash i told s old new) (f : Finishing K V) (here : s.enders i ≡ Some f) (map : ℕ) → s.maps map ≡ None
-      → AtEachEffect (λ v effect. EndsWith v map effect) None (Some map) (effects_of (Ending map) known new.memory.changed) m
+      → AtEachEffect (λ v effect. EndsWith v map effect) None (Some map) (effects_of (Ending map) known new.changed) m
       → (let to = leads f here in
-      TellsNext same hash s new i f to.0 to.2.w2 to.2.deed told to.3 new.memory.changed
-      × ShowsAfter same name m known s shown (with_effects None (Some map) (effects_of (Ending map) known new.memory.changed) m) (known_after (Ending map) new.memory.changed known)
+      TellsNext same hash s new i f to.0 to.2.w2 to.2.deed told to.3 new.changed
+      × ShowsAfter same name m known s shown (with_effects None (Some map) (effects_of (Ending map) known new.changed) m) (known_after (Ending map) new.changed known)
       (ending_after same hash s new i f to.0 to.2.w2 to.2.deed told to.3))

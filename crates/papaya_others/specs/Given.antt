@@ -20,5 +20,5 @@ pub use Rattle.papaya_follows.specs.Given.Finishes
 pub use Rattle.papaya_follows.specs.Given.Runs
 pub use Rattle.papaya_follows.specs.Given.Schedules
 pub use Rattle.papaya_follows.specs.Given.Effects
-pub use Rattle.papaya_follows.specs.Given.Executor
+pub use Rattle.papaya_follows.specs.Given.Scenes
 pub use Rattle.papaya_follows.specs as Follows

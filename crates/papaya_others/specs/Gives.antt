@@ -4,14 +4,13 @@ use Rattle.papaya_follows.specs.Given.SeizeWords.Mem.{Mem, value_at}
 use Rattle.papaya_follows.specs.Given.Tables.declared.node.Node.{Node}
 use Rattle.papaya_follows.specs.Given.Teller.declared.changed.Changed.{Changed}
 use Rattle.papaya_follows.specs.Given.Teller.declared.changed.Changed.TheVariants.{Took}
-use Rattle.papaya_follows.specs.Given.Executor.IsAt.{Scene, work_of}
-use Rattle.papaya_follows.specs.Given.Executor.OnSlots.{RowLeads}
-use Rattle.papaya_follows.specs.Given.Executor.declared.executor.Executor.{Executor}
-use Rattle.papaya_follows.specs.Given.Executor.declared.row.RowTold.{RowTold}
-use Rattle.papaya_follows.specs.Given.Executor.declared.row.RowTold.TheVariants as rows
-use Rattle.papaya_follows.specs.Given.Executor.declared.row.SlotRow.{SlotRow}
-use Rattle.papaya_follows.specs.Given.Executor.declared.worker.Work.TheVariants.{OnSlot}
+use Rattle.papaya_follows.specs.Given.Scenes.declared.row.RowTold.{RowTold}
+use Rattle.papaya_follows.specs.Given.Scenes.declared.row.RowTold.TheVariants as rows
+use Rattle.papaya_follows.specs.Given.Scenes.declared.row.SlotRow.{SlotRow}
 use Rattle.papaya_follows.specs.Steps.{TakesNone}
+use Rattle.papaya_follows.specs.Given.Scenes.Held.{Held}
+use Rattle.papaya_follows.specs.Given.Scenes.OnSlots.{RowLeads}
+use Rattle.papaya_follows.specs.Given.Scenes.Scene.{IsOnSlot, Scene}
 
 -- a step that hands a value out has taken its block away, and no other step takes one
 abbrev pub GivesWhatItTook : {K V : Type 0} → Mem (Node K V) → Changed → RowTold (Node K V) → Type 0
@@ -19,7 +18,7 @@ GivesWhatItTook memory changed (rows.Gave value) = (b : ℕ) × (changed ≡ Too
 GivesWhatItTook memory changed _ = TakesNone changed
 
 -- The promise of the steps of rows on slots.
-abbrev pub RowsGiveWhatTheyTook : (K V S : Type 0) → (K → K → Bool) → (K → ℕ) → Type 0
-RowsGiveWhatTheyTook K V S same hash =
-    (s : Scene K V) (old new : Executor K V S) (i : ℕ) (told : RowTold (Node K V)) → RowLeads same hash i told s old new → (row : SlotRow) → work_of old i ≡ Some (OnSlot row)
-    → GivesWhatItTook old.memory.memory new.memory.changed told
+abbrev pub RowsGiveWhatTheyTook : (K V : Type 0) → (K → K → Bool) → (ℕ → K → ℕ) → Type 0
+RowsGiveWhatTheyTook K V same hash =
+    (s : Scene K V) (old new : Held K V) (i : ℕ) (told : RowTold (Node K V)) → RowLeads same hash i told s old new → (row : SlotRow) → IsOnSlot s i row
+    → GivesWhatItTook old.memory new.changed told

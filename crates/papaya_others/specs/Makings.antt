@@ -15,11 +15,11 @@ use Rattle.papaya_follows.specs.Given.Effects.Known.{Known}
 use Rattle.papaya_follows.specs.Given.Effects.declared.acting.Acting.TheVariants.{Making}
 use Rattle.papaya_follows.specs.Given.Effects.declared.role.Role.TheVariants.{Counter}
 use Rattle.papaya_follows.specs.Given.Finishes.Makings.{Beginning, HasMade}
-use Rattle.papaya_follows.specs.Given.Executor.IsAt.{Scene, IsAt}
-use Rattle.papaya_follows.specs.Given.Executor.Making.{MakingLeads, MakingComesTo}
-use Rattle.papaya_follows.specs.Given.Executor.declared.executor.Executor.{Executor}
 use Rattle.papaya_follows.specs.Shows.{Shows}
 use Rattle.papaya_others.specs.After.{ShowsAfter}
+use Rattle.papaya_follows.specs.Given.Scenes.Held.{Held, IsAt}
+use Rattle.papaya_follows.specs.Given.Scenes.Making.{MakingComesTo, MakingLeads}
+use Rattle.papaya_follows.specs.Given.Scenes.Scene.{Scene}
 
 -- the map of this number is there with this setting, and has neither a pair nor a table yet
 pub record IsNew {K V : Type 0} (map : ℕ) (setting : Setting) (m : Moment K V) : Type 0 where
@@ -40,7 +40,7 @@ WasNew map _ m = Unit {0}
 abbrev pub NotesCounter : {K : Type 0} → Known → Beginning K → Type 0
 NotesCounter known b = HasMade b.machine.stands → known.roles b.machine.setting.counter ≡ Counter b.map
 
-module _ {K V S : Type 0} (same : K → K → Bool) (hash : K → ℕ) (s : Scene K V) (old new : Executor K V S) (i : ℕ) (b : Beginning K) (opening : NewMap) (w2 : World (Node K V)) where
+module _ {K V : Type 0} (same : K → K → Bool) (hash : ℕ → K → ℕ) (s : Scene K V) (old new : Held K V) (i : ℕ) (b : Beginning K) (opening : NewMap) (w2 : World (Node K V)) where
   -- the scene to which a step of the making has come
   abbrev pub making_after : (told : Progress Setting) → MakingComesTo same hash s old new i b opening w2 told → Scene K V
   making_after progress.Goes comes = record s { world = w2; makers = with_at s.makers i (Some (record b { machine = opening })) }
@@ -61,21 +61,21 @@ module _ (K V : Type 0) (same : K → K → Bool) where
       (name : ℕ → List ℕ) (m : Moment K V) (known : Known) (s : Scene K V) → (shown : Shows same name m known s)
       → (there : MapThere) → ShowsAfter same name m known s shown (with_map there m) known s
 
-module _ (K V S : Type 0) (same : K → K → Bool) (hash : K → ℕ) where
+module _ (K V : Type 0) (same : K → K → Bool) (hash : ℕ → K → ℕ) where
   -- The promise, of a step of a making, on whichever map its effects are told, if on any: by the last one its map is shown, where it was there as a new one,
   -- and its counter was noted.
   abbrev pub MakingsAreShown : Type 0
   MakingsAreShown =
-      (name : ℕ → List ℕ) (m : Moment K V) (known : Known) (s : Scene K V) (old new : Executor K V S) → IsAt same hash old s → (shown : Shows same name m known s)
+      (name : ℕ → List ℕ) (m : Moment K V) (known : Known) (s : Scene K V) (old new : Held K V) → IsAt same hash old s → (shown : Shows same name m known s)
       → (i : ℕ) (told : Progress Setting) (leads : MakingLeads same hash i told s old new) (b : Beginning K) (here : s.makers i ≡ Some b) (of : Option ℕ)
       → NotesCounter known b → WasNew b.map told m
       → (let to = leads b here in
-      ShowsAfter same name m known s shown (with_effects None of (effects_of (Making b.map) known new.memory.changed) m) (known_after (Making b.map) new.memory.changed known)
+      ShowsAfter same name m known s shown (with_effects None of (effects_of (Making b.map) known new.changed) m) (known_after (Making b.map) new.changed known)
       (making_after same hash s old new i b to.0 to.2.step.w2 told to.3))
 
   -- The promise: while a making goes on, its map stays as new.
   abbrev pub NewMapsStay : Type 0
   NewMapsStay =
-      (name : ℕ → List ℕ) (m : Moment K V) (known : Known) (s : Scene K V) (old new : Executor K V S) → IsAt same hash old s → Shows same name m known s
+      (name : ℕ → List ℕ) (m : Moment K V) (known : Known) (s : Scene K V) (old new : Held K V) → IsAt same hash old s → Shows same name m known s
       → (i : ℕ) → MakingLeads same hash i progress.Goes s old new → (b : Beginning K) → s.makers i ≡ Some b → (of : Option ℕ) (setting : Setting)
-      → IsNew b.map setting m → IsNew b.map setting (with_effects None of (effects_of (Making b.map) known new.memory.changed) m)
+      → IsNew b.map setting m → IsNew b.map setting (with_effects None of (effects_of (Making b.map) known new.changed) m)

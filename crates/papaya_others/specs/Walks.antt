@@ -5,30 +5,30 @@ use Rattle.papaya_follows.specs.Given.Schedules.Moment.{Moment}
 use Rattle.papaya_follows.specs.Given.Callers.Together.{UnderWay}
 use Rattle.papaya_follows.specs.Given.Finishes.Maps.{with_call}
 use Rattle.papaya_follows.specs.Given.Effects.Known.{Known}
-use Rattle.papaya_follows.specs.Given.Executor.IsAt.{Scene}
-use Rattle.papaya_follows.specs.Given.Executor.Replying.{AskLeads, StopLeads, scene_with, unless_stopped}
-use Rattle.papaya_follows.specs.Given.Executor.declared.executor.Executor.{Executor}
 use Rattle.papaya_follows.specs.Calling.{NoneNamed}
 use Rattle.papaya_follows.specs.Shows.{Shows}
 use Rattle.papaya_others.specs.After.{ShowsAfter}
+use Rattle.papaya_follows.specs.Given.Scenes.Held.{Held}
+use Rattle.papaya_follows.specs.Given.Scenes.Replying.{AskLeads, StopLeads, scene_with, unless_stopped}
+use Rattle.papaya_follows.specs.Given.Scenes.Scene.{Scene}
 
 -- the call of this name is under way no more, if it was stopped
 abbrev pub given_up : {K V : Type 0} → List ℕ → Bool → Moment K V → Moment K V
 given_up own true m = record m { calls = without_call own m.calls }
 given_up own false m = m
 
-module _ (K V S : Type 0) (same : K → K → Bool) (hash : K → ℕ) where
+module _ (K V : Type 0) (same : K → K → Bool) (hash : ℕ → K → ℕ) where
   -- The promises: a walk that is ready is asked for its next pair,
   abbrev pub WalksGoOn : Type 0
   WalksGoOn =
-      (name : ℕ → List ℕ) (m : Moment K V) (known : Known) (s : Scene K V) (old new : Executor K V S) → (shown : Shows same name m known s)
+      (name : ℕ → List ℕ) (m : Moment K V) (known : Known) (s : Scene K V) (old new : Held K V) → (shown : Shows same name m known s)
       → (i : ℕ) (leads : AskLeads same hash i true s old new) (map : ℕ) (u : UnderWay K V K) (here : s.calls map i ≡ Some u)
       → ShowsAfter same name m known s shown m known (scene_with map i (leads map u here).0 s)
 
   -- and is given up: no call that is under way then has its name.
   abbrev pub WalksAreGivenUp : Type 0
   WalksAreGivenUp =
-      (name : ℕ → List ℕ) (m : Moment K V) (known : Known) (s : Scene K V) (old new : Executor K V S) → (shown : Shows same name m known s)
+      (name : ℕ → List ℕ) (m : Moment K V) (known : Known) (s : Scene K V) (old new : Held K V) → (shown : Shows same name m known s)
       → (i : ℕ) (stopped : Bool) → StopLeads same hash i stopped s old new → (map : ℕ) (u : UnderWay K V K) → s.calls map i ≡ Some u
       → (let after = record s { calls = with_call s.calls map i (unless_stopped stopped u) } in
       (stopped ≡ true → NoneNamed name (name i) after) → ShowsAfter same name m known s shown (given_up (name i) stopped m) known after)

@@ -1,4 +1,4 @@
-//! How the moment of a run follows the executor's other steps: rows between calls, walks that go on or are given up, makings and ends of maps.
+//! How the moment of a run follows the other steps: rows between calls, walks that go on or are given up, makings and ends of maps.
 #![tactic(auto)]
 
 pub mod law;

@@ -21,13 +21,13 @@ use Rattle.papaya_moments.specs.Given.Effects.Known.{Known}
 use Rattle.papaya_moments.specs.Given.Effects.declared.acting.Acting.{Acting}
 use Rattle.papaya_moments.specs.Given.Effects.declared.role.Role.{Role}
 use Rattle.papaya_moments.specs.Given.Effects.declared.role.Role.TheVariants as role
-use Rattle.papaya_moments.specs.Given.Executor.IsAt.{Scene}
 use Rattle.papaya_moments.proofs.Given.Follows.Alike.{is_calm, AllCalm}
 use Rattle.papaya_owes.specs.Beside.{of_block, NoneOfBlock, StaysMade}
 use Rattle.papaya_owes.specs.Made.{OwnsSo, own_word, IsItsBlock, HasBlock, NamesBlock, ShowsMade}
 use Rattle.papaya_owes.proofs.Roles.{own_of, own_is, IsStoring, StoresNew, StoresOver, DoesSo, Leaves, Makes, GivesUp, Stores, no_block}
 use Rattle.papaya_owes.proofs.Quiet.{pair_back, table_back}
 use Rattle.papaya_moments.specs.Given.Finishes.Machines.{machine_of}
+use Rattle.papaya_moments.specs.Given.Scenes.Scene.{Scene}
 
 -- Blocks are as much whose they were.
 abbrev pub AreTheirs : Known → Known → Type 0

@@ -13,8 +13,6 @@ use Rattle.papaya_moments.specs.Given.Schedules.Moment.{UnderWay as CallThere, M
 use Rattle.papaya_moments.specs.Given.Schedules.Views.{call_of}
 use Rattle.papaya_moments.specs.Given.Callers.Together.{UnderWay}
 use Rattle.papaya_moments.specs.Given.Effects.Known.{Known}
-use Rattle.papaya_moments.specs.Given.Executor.IsAt.{Scene}
-use Rattle.papaya_moments.specs.Given.Executor.Replying.{unless_stopped}
 use Rattle.papaya_moments.specs.Given.Finishes.Machines.{machine_of}
 use Rattle.papaya_moments.specs.Given.Finishes.Maps.{with_call as with_in}
 use Rattle.papaya_moments.specs.Given.Follows.Calling.{NoneNamed}
@@ -27,6 +25,8 @@ use Rattle.papaya_owes.specs.Beside.{WalksGoOnMade, WalksStopMade}
 use Rattle.papaya_owes.specs.Keeping.{MadeBegins, CallsBeginMade, CallsBeginOwning, CallsTakeMade, CallsComeToMade}
 use Rattle.papaya_owes.specs.Made.{own_word, OwnsSo, IsItsBlock, HasBlock, NamesBlock, ShowsMade}
 use Rattle.papaya_owes.proofs.Kept.{calls_beside, calls_its, calls_without, HadAsMuch, fresh_has, others_there, told_had, left_had, come_had}
+use Rattle.papaya_moments.specs.Given.Scenes.Replying.{unless_stopped}
+use Rattle.papaya_moments.specs.Given.Scenes.Scene.{Scene}
 
 -- As a run begins there is no call, and no block.
 pub made_begins : (K V : Type 0) → MadeBegins K V
@@ -174,14 +174,14 @@ module _ (K V : Type 0) where
     whose = on_whose name m known s made of i u here next on;
   }
 
-module _ (K V S : Type 0) (same : K → K → Bool) (hash : K → ℕ) where
-  pub walks_go_on_made : WalksGoOnMade K V S same hash
+module _ (K V : Type 0) (same : K → K → Bool) (hash : ℕ → K → ℕ) where
+  pub walks_go_on_made : WalksGoOnMade K V same hash
   walks_go_on_made name m known s old new made i leads map u here =
       let to = leads map u here in
       let a = asked_machine K V (machine_of u) (made.named map i u here).0 in
       goes_made K V name m known s made map i u here to.0 (subst OwnsSo (sym to.1) a.0, ap own_word to.1 ∙ a.1)
 
-  pub walks_stop_made : WalksStopMade K V S same hash
+  pub walks_stop_made : WalksStopMade K V same hash
   walks_stop_made name m known s old new shown made i stopped leads map u here = by stopped (leads map u here).0
     where
       at_end : Bool → Scene K V

@@ -35,10 +35,6 @@ use Rattle.papaya_moments.specs.Given.Effects.declared.acting.Acting.{Acting}
 use Rattle.papaya_moments.specs.Given.Effects.declared.acting.Acting.TheVariants as acts
 use Rattle.papaya_moments.specs.Given.Effects.declared.role.Role.{Role}
 use Rattle.papaya_moments.specs.Given.Effects.declared.role.Role.TheVariants as role
-use Rattle.papaya_moments.specs.Given.Executor.IsAt.{Scene, IsAt, slot_of}
-use Rattle.papaya_moments.specs.Given.Executor.Stepping.{StepsFrom, StepLeads, has_ended, going_on, scene_after}
-use Rattle.papaya_moments.specs.Given.Executor.declared.executor.Executor.{Executor}
-use Rattle.papaya_moments.proofs.Given.Executor.Steps.{goes_as, may_step}
 use Rattle.papaya_moments.specs.Given.Finishes.Endings.{StepsAmong}
 use Rattle.papaya_moments.specs.Given.Finishes.Machines.{machine_of, GoesOnAs}
 use Rattle.papaya_moments.specs.Given.Finishes.Maps.{Standing}
@@ -76,6 +72,11 @@ use Rattle.papaya_owes.proofs.Words.{WordGoes, KeepsWord, none_for_pair}
 use Rattle.papaya_owes.proofs.Valued.{HasGiven, call_valued, row_no_own, knows_given}
 use Rattle.papaya_owes.proofs.Walks.{plan_made, call_makes}
 use Rattle.papaya_moments.proofs.Given.Others.Outcomes.{told_in}
+use Rattle.papaya_moments.proofs.Given.Scenes.Goes.{goes_as}
+use Rattle.papaya_moments.proofs.Given.Scenes.May.{may_step}
+use Rattle.papaya_moments.specs.Given.Scenes.Held.{Held, IsAt}
+use Rattle.papaya_moments.specs.Given.Scenes.Scene.{Scene, slot_of}
+use Rattle.papaya_moments.specs.Given.Scenes.Stepping.{StepLeads, StepsFrom, going_on, has_ended, scene_after}
 
 -- a call that goes on is the machine that it has come to
 pub goes_as_one : {K V : Type 0} (machine : Machine K V K) (said : Progress (Node K V)) (next : Option (UnderWay K V K)) → GoesOnAs machine said next → (x : UnderWay K V K) → next ≡ Some x → machine_of x ≡ machine
@@ -88,7 +89,7 @@ goes_as_one machine said next goes x is = by (has_ended said) refl
     by true e = absurd (let none : Some (machine_of x) ≡ None = whole ∙ ap (λ (q : Bool). if q then None else Some machine) e in cc none)
     by false e = (let some : Some (machine_of x) ≡ Some machine = whole ∙ ap (λ (q : Bool). if q then None else Some machine) e in cc some)
 
-module _ {K V S : Type 0} (same : K → K → Bool) (hash : K → ℕ) (name : ℕ → List ℕ) (m : Moment K V) (known : Known) (s : Scene K V) (old new : Executor K V S) (at : IsAt same hash old s)
+module _ {K V : Type 0} (same : K → K → Bool) (hash : ℕ → K → ℕ) (name : ℕ → List ℕ) (m : Moment K V) (known : Known) (s : Scene K V) (old new : Held K V) (at : IsAt same hash old s)
     (whole : ShowsWhole same name m known s) (made : ShowsMade name m known s) (map i : ℕ) (u : UnderWay K V K) (here : s.calls map i ≡ Some u) (said : Progress (Node K V))
     (leads : StepLeads same hash i said s old new) where
   abbrev shown : Shows same name m known s
@@ -107,7 +108,7 @@ module _ {K V S : Type 0} (same : K → K → Bool) (hash : K → ℕ) (name : �
   w2 = to.4.w2
 
   abbrev told : Changed
-  told = new.memory.changed
+  told = new.changed
 
   abbrev its : Acting
   its = acts.Call i map
@@ -122,7 +123,7 @@ module _ {K V S : Type 0} (same : K → K → Bool) (hash : K → ℕ) (name : �
   v = with_effects (Some (name i)) (Some map) effects m
 
   abbrev led : Scene K V
-  led = scene_after same hash s old new map i st u to.1 said to.4
+  led = scene_after same s old new map i st u to.1 said to.4
 
   abbrev Did : UnderWay K V K → Type 0
   Did x = DidSo same hash name m known s old new at shown map i u here said leads x
@@ -130,11 +131,11 @@ module _ {K V S : Type 0} (same : K → K → Bool) (hash : K → ℕ) (name : �
   abbrev NoRow : (x : UnderWay K V K) → Did x → Type 0
   NoRow x did = OfNoRow same hash name m known s old new at shown map i u here said leads x did
 
-  pub left : LeavesBy w.memory new.memory.memory told
-  left = operated_leaves w.memory new.memory.memory told (made_so same hash name m known s old new at shown map i u here said leads)
+  pub left : LeavesBy w.memory new.memory told
+  left = operated_leaves w.memory new.memory told (made_so same hash name m known s old new at shown map i u here said leads)
 
   pub then_shown : Shows same name v known2 led
-  then_shown = (calls_keep_whole K V S same hash name m known s old new at whole map i u here said leads).all.shown
+  then_shown = (calls_keep_whole K V same hash name m known s old new at whole map i u here said leads).all.shown
 
   each : Together V same st.hash same st.setting slot_of w st.chart st.blocks st.sights (s.calls map)
   each = at.together.makings.standing.each map st to.2
@@ -143,7 +144,7 @@ module _ {K V S : Type 0} (same : K → K → Bool) (hash : K → ℕ) (name : �
   sight = (each.ground.sight (slot_of i) (each.inside i u here)).0
 
   -- a block that is made was free
-  makes_free : (x : Changed) → LeavesBy w.memory new.memory.memory x → MakesFree its known x
+  makes_free : (x : Changed) → LeavesBy w.memory new.memory x → MakesFree its known x
   makes_free (changed.Made k b) l = free_there w m.stored known shown.blocks.roles b l.0
   makes_free changed.Nothing l = tt
   makes_free (changed.Wrote at before after) l = tt
@@ -176,8 +177,8 @@ module _ {K V S : Type 0} (same : K → K → Bool) (hash : K → ℕ) (name : �
   -- what is in hand then is not gone, and not linked
   not_lost : (j b : ℕ) → IsInHand w2 j b → IsLost b → ⊥
   not_lost j b h (inl took) =
-      (let gone : value_at new.memory.memory b ≡ None = (subst (LeavesBy w.memory new.memory.memory) took left).1 in
-      let is : value_at new.memory.memory b ≡ Some h.value = ap (λ (n : Mem (Node K V)). value_at n b) (sym to.4.memory) ∙ h.is in cc (gone, is))
+      (let gone : value_at new.memory b ≡ None = (subst (LeavesBy w.memory new.memory) took left).1 in
+      let is : value_at new.memory b ≡ Some h.value = ap (λ (n : Mem (Node K V)). value_at n b) (sym to.4.memory) ∙ h.is in cc (gone, is))
   not_lost j b h (inr pair) = subst WasLinked h.hand (subst (HasRole w2 v.stored b) pair (then_shown.blocks.roles b)).4
 
   only : NoRow u to.4.did → (j b : ℕ) → known.roles b ≡ role.OwnPair j → IsLost b → j ≡ i
@@ -189,9 +190,9 @@ module _ {K V S : Type 0} (same : K → K → Bool) (hash : K → ℕ) (name : �
   -- by one of a row each block is whose it was
 
   pub takes : (NoRow u to.4.did → ⊥) → TakesNone told
-  takes other = (rows_hand_theirs K V S same hash name m known s old new at whole.all map i u here said leads other).1
+  takes other = (rows_hand_theirs K V same hash name m known s old new at whole.all map i u here said leads other).1
 
-  by_row : TakesNone told → (w3 : World (Node K V)) → w3.memory ≡ new.memory.memory → IsOneStep st.setting i w w3 → known2.roles ≡ known.roles
+  by_row : TakesNone told → (w3 : World (Node K V)) → w3.memory ≡ new.memory → IsOneStep st.setting i w w3 → known2.roles ≡ known.roles
   by_row none w3 memory happened =
       (row_done i map m known w w3 shown.blocks (one_step_leaves st.setting i w w3 each.ground.came happened) told
       (subst (λ (n : Mem (Node K V)). LeavesBy w.memory n told) (sym memory) left) none).roles
@@ -237,37 +238,37 @@ module _ {K V S : Type 0} (same : K → K → Bool) (hash : K → ℕ) (name : �
   sweep_places x is (p2, end, machine_is, told_is, inr (row, stayed)) n making = absurd (let none = sweep_none x.sweep.stands row.is_row in cc (none, making))
 
   abbrev MayStep : UnderWay K V K → Type 0
-  MayStep x = May Can Took value_at old.memory.memory (machine_plan same same hash (machine_of x))
+  MayStep x = May Can Took value_at old.memory (machine_plan same same to.0.hash (machine_of x))
 
   abbrev Stepped : UnderWay K V K → Type 0
-  Stepped x = StepsFrom same hash (machine_of x) old new to.1 said
+  Stepped x = StepsFrom same to.0.hash (machine_of x) old new to.1 said
 
   abbrev GoesTo : UnderWay K V K → Type 0
   GoesTo x = WordGoes told (own_word (machine_of x)) (own_word to.1) × OwnsSo to.1
 
   -- a step that leaves the memory makes no block
-  still_none : new.memory.memory ≡ w.memory → (b : ℕ) → told ≡ changed.Made kind.Pair b → ⊥
-  still_none still b is = (let by = subst (LeavesBy w.memory new.memory.memory) is left in let none = by.0 in let there = by.3 in
-      let same_value : value_at new.memory.memory b ≡ value_at w.memory b = ap (λ (n : Mem (Node K V)). value_at n b) still in cc (none, there, same_value))
+  still_none : new.memory ≡ w.memory → (b : ℕ) → told ≡ changed.Made kind.Pair b → ⊥
+  still_none still b is = (let by = subst (LeavesBy w.memory new.memory) is left in let none = by.0 in let there = by.3 in
+      let same_value : value_at new.memory b ≡ value_at w.memory b = ap (λ (n : Mem (Node K V)). value_at n b) still in cc (none, there, same_value))
 
   goes_by : (x : UnderWay K V K) → s.calls map i ≡ Some x → Stepped x → MayStep x → OwnsSo (machine_of x) → Did x → GoesTo x
   goes_by (OnKey x) is steps may owns did =
       let has = key_places x is did in (
-        key_word same same hash old.memory.memory new.memory.memory told to.1 said x.call owns has may steps,
-        key_owns same same hash old.memory.memory new.memory.memory told to.1 said x.call owns has may steps,
+        key_word same same to.0.hash old.memory new.memory told to.1 said x.call owns has may steps,
+        key_owns same same to.0.hash old.memory new.memory told to.1 said x.call owns has may steps,
       )
   goes_by (ForRoom x) is steps may owns did = (
-    room_word same same hash old.memory.memory new.memory.memory told to.1 said (ap own_word did.2) x.reserve (room_places x is did) steps,
+    room_word same same to.0.hash old.memory new.memory told to.1 said (ap own_word did.2) x.reserve (room_places x is did) steps,
     subst OwnsSo (sym did.2) tt,
   )
   goes_by (Counting x) is steps may owns (sum2, end, machine_is, told_is, still, stayed) = (KeepsWord (ap own_word machine_is) (still_none still), subst OwnsSo (sym machine_is) tt)
   goes_by (OverAll x) is steps may owns did = (
-    over_word same same hash old.memory.memory new.memory.memory told to.1 said (ap own_word did.2) x.sweep (sweep_places x is did) steps,
+    over_word same same to.0.hash old.memory new.memory told to.1 said (ap own_word did.2) x.sweep (sweep_places x is did) steps,
     subst OwnsSo (sym did.2) tt,
   )
 
   may : MayStep u
-  may = may_step same hash old s at map i u here
+  may = may_step same hash old s at map to.0 to.2 i u here
 
   owns : OwnsSo (machine_of u)
   owns = (made.named map i u here).0
@@ -279,15 +280,15 @@ module _ {K V S : Type 0} (same : K → K → Bool) (hash : K → ℕ) (name : �
 
   key_values : (x : CallOnKey K V K) → s.calls map i ≡ Some (OnKey x) → Stepped (OnKey x) → Did (OnKey x) → (b : ℕ) → told ≡ changed.Made kind.Pair b → HasGiven x.pair
   key_values x is steps did b made_one =
-      let it = told_in old.memory.memory new.memory.memory told of_key (call_plan same same hash x.call) (to.1, said) steps in
-      elim (call_makes same same hash x.call) as (λ _. HasGiven x.pair) [
+      let it = told_in old.memory new.memory told of_key (call_plan same same to.0.hash x.call) (to.1, said) steps in
+      elim (call_makes same same to.0.hash x.call) as (λ _. HasGiven x.pair) [
         | inr so ↦ absurd (
-            let by = plan_made (making_in_calling x.call.stands) old.memory.memory new.memory.memory told (call_plan same same hash x.call) it.0 it.2 so kind.Pair b made_one in
+            let by = plan_made (making_in_calling x.call.stands) old.memory new.memory told (call_plan same same to.0.hash x.call) it.0 it.2 so kind.Pair b made_one in
             none_for_pair (making_in_calling x.call.stands) by.0 by.1 (key_places x is did) by.2
             )
         | inl own ↦ elim (each.stand i (OnKey x) is) as (λ _. HasGiven x.pair) [
           | inl k ↦
-              knows_given same st.hash st.setting slot_of w st.chart (seen_by st.blocks (st.sights (slot_of i))) i x x.call k.1 own hash old.memory.memory new.memory.memory told it.0
+              knows_given same st.hash st.setting slot_of w st.chart (seen_by st.blocks (st.sights (slot_of i))) i x x.call k.1 own to.0.hash old.memory new.memory told it.0
               (λ nothing. (let both = sym nothing ∙ made_one in cc both)) it.2
           | inr k ↦ absurd (row_no_own x.call.stands k.1 own)
         ]
@@ -298,10 +299,10 @@ module _ {K V S : Type 0} (same : K → K → Bool) (hash : K → ℕ) (name : �
   values_by (OnKey x) is steps did b made_one c c_is called =
       call_valued same (shown.number map) st.chart.stored known x c c.call called (whole.all.asked.each map i (OnKey x) is st to.2 c c_is) (key_values x is steps did b made_one)
   values_by (ForRoom x) is steps did b made_one c c_is called =
-      absurd (room_no_pair same same hash old.memory.memory new.memory.memory told to.1 said x.reserve (room_places x is did) steps b made_one)
+      absurd (room_no_pair same same to.0.hash old.memory new.memory told to.1 said x.reserve (room_places x is did) steps b made_one)
   values_by (Counting x) is steps (sum2, end, machine_is, told_is, still, stayed) b made_one c c_is called = absurd (still_none still b made_one)
   values_by (OverAll x) is steps did b made_one c c_is called =
-      absurd (over_no_pair same same hash old.memory.memory new.memory.memory told to.1 said x.sweep (sweep_places x is did) steps b made_one)
+      absurd (over_no_pair same same to.0.hash old.memory new.memory told to.1 said x.sweep (sweep_places x is did) steps b made_one)
 
   values : MakersHaveValues (name i) m i map known told
   values b made_one c c_is =
@@ -324,34 +325,34 @@ module _ {K V S : Type 0} (same : K → K → Bool) (hash : K → ℕ) (name : �
   -- a call that has ended has no such block
 
   -- of the pairs that a call on one key looks at after a step that is none of a row
-  module _ (x : CallOnKey K V K) (p2 : KeyCall K V K) (end : Called (Node K V)) (step : StepsAmong V same same old.batch_size old.roots slot_of s.world s.maps s.calls s.makers s.enders map st i x new.memory.memory p2 end)
+  module _ (x : CallOnKey K V K) (p2 : KeyCall K V K) (end : Called (Node K V)) (step : StepsAmong V same same old.batch_size old.roots slot_of s.world s.maps s.calls s.makers s.enders map st i x new.memory p2 end)
       (moved : to.4.maps2 ≡ with_at s.maps map (Some (record st { chart = step.step.went.c2; blocks = step.step.blocks2; sights = step.step.sights2 }))) where
     seen_then : (n : ℕ) → n < step.step.went.c2.stored → step.step.went.blocks2.pair_known n ≡ true → known2.roles (step.step.went.blocks2.pair n) ≡ role.Pair (then_shown.number map n)
-    seen_then n l known_too = roles_then same old.batch_size old.roots s map i st sight x new.memory.memory p2 end step then_shown moved n l known_too
+    seen_then n l known_too = roles_then same old.batch_size old.roots s map i st sight x new.memory p2 end step then_shown moved n l known_too
 
   module _ (x : CallOnKey K V K) (is : s.calls map i ≡ Some (OnKey x)) (steps : Stepped (OnKey x)) (may_x : MayStep (OnKey x)) (owns_x : Owns x.call) (b : ℕ) (its_block : IsItsBlock known2 i b) where
     -- the block that its machine names is no pair's
     not_a_pair : (did : Did (OnKey x))
-        → ((k : ℕ) × (known2.roles (block_in (came_to same same hash old.memory.memory new.memory.memory told to.1 said x.call owns_x (key_places x is did) may_x steps).0.0.own) ≡ role.Pair k)) → ⊥
+        → ((k : ℕ) × (known2.roles (block_in (came_to same same to.0.hash old.memory new.memory told to.1 said x.call owns_x (key_places x is did) may_x steps).0.0.own) ≡ role.Pair k)) → ⊥
     not_a_pair did pair =
         (let has = key_places x is did in
-        let word = ap own_word (key_machine same same hash old.memory.memory new.memory.memory told to.1 said x.call owns_x has may_x steps) in
+        let word = ap own_word (key_machine same same to.0.hash old.memory new.memory told to.1 said x.call owns_x has may_x steps) in
         let names = left_all.named b its_block in
         let r : role.Pair pair.0 ≡ role.OwnPair i = sym pair.1 ∙ ap (λ (y : ℕ). known2.roles (block_in y)) (sym word) ∙ ap known2.roles (sym names.1) ∙ its_block in cc r)
 
     -- it names some block
-    names_some : (did : Did (OnKey x)) → (came_to same same hash old.memory.memory new.memory.memory told to.1 said x.call owns_x (key_places x is did) may_x steps).0.0.own ≢ 0
+    names_some : (did : Did (OnKey x)) → (came_to same same to.0.hash old.memory new.memory told to.1 said x.call owns_x (key_places x is did) may_x steps).0.0.own ≢ 0
     names_some did zero_word =
-        (left_all.named b its_block).0 (ap own_word (key_machine same same hash old.memory.memory new.memory.memory told to.1 said x.call owns_x (key_places x is did) may_x steps) ∙ zero_word)
+        (left_all.named b its_block).0 (ap own_word (key_machine same same to.0.hash old.memory new.memory told to.1 said x.call owns_x (key_places x is did) may_x steps) ∙ zero_word)
 
     key_ends : (did : Did (OnKey x)) → ((NoRow (OnKey x) did → ⊥) → known2.roles ≡ known.roles) → to.4.next ≡ None → ⊥
     key_ends (p2, end, machine_is, told_is, inl (step, moved)) quiet none =
         let did : Did (OnKey x) = (p2, end, machine_is, told_is, inl (step, moved)) in
         let has = key_places x is did in
-        let r = (came_to same same hash old.memory.memory new.memory.memory told to.1 said x.call owns_x has may_x steps).0 in
-        let tells = key_tells same same hash old.memory.memory new.memory.memory told to.1 said x.call owns_x has may_x steps in
-        let code = key_code same same hash old.memory.memory new.memory.memory told to.1 said x.call owns_x has may_x steps in
-        let says = key_said same same hash old.memory.memory new.memory.memory told to.1 said x.call owns_x has may_x steps in
+        let r = (came_to same same to.0.hash old.memory new.memory told to.1 said x.call owns_x has may_x steps).0 in
+        let tells = key_tells same same to.0.hash old.memory new.memory told to.1 said x.call owns_x has may_x steps in
+        let code = key_code same same to.0.hash old.memory new.memory told to.1 said x.call owns_x has may_x steps in
+        let says = key_said same same to.0.hash old.memory new.memory told to.1 said x.call owns_x has may_x steps in
         elim (which_end _ end (sym moved.2 ∙ none)) as (λ _. ⊥) [
           | inr refused ↦ names_some did (refused_own r refused.0 (sym (told_is ∙ ap of_called refused.1) ∙ says) tells)
           | inl answered ↦
@@ -362,10 +363,10 @@ module _ {K V S : Type 0} (same : K → K → Bool) (hash : K → ℕ) (name : �
     key_ends (p2, end, machine_is, told_is, inr (row, stayed)) quiet none =
         let did : Did (OnKey x) = (p2, end, machine_is, told_is, inr (row, stayed)) in
         let has = key_places x is did in
-        let r = (came_to same same hash old.memory.memory new.memory.memory told to.1 said x.call owns_x has may_x steps).0 in
-        let tells = key_tells same same hash old.memory.memory new.memory.memory told to.1 said x.call owns_x has may_x steps in
-        let code = key_code same same hash old.memory.memory new.memory.memory told to.1 said x.call owns_x has may_x steps in
-        let says = key_said same same hash old.memory.memory new.memory.memory told to.1 said x.call owns_x has may_x steps in
+        let r = (came_to same same to.0.hash old.memory new.memory told to.1 said x.call owns_x has may_x steps).0 in
+        let tells = key_tells same same to.0.hash old.memory new.memory told to.1 said x.call owns_x has may_x steps in
+        let code = key_code same same to.0.hash old.memory new.memory told to.1 said x.call owns_x has may_x steps in
+        let says = key_said same same to.0.hash old.memory new.memory told to.1 said x.call owns_x has may_x steps in
         elim (which_end _ end (sym stayed.2 ∙ none)) as (λ _. ⊥) [
           | inr refused ↦ names_some did (refused_own r refused.0 (sym (told_is ∙ ap of_called refused.1) ∙ says) tells)
           | inl answered ↦
@@ -454,5 +455,5 @@ module _ {K V S : Type 0} (same : K → K → Bool) (hash : K → ℕ) (name : �
     λ none c c_is. none_has c.has_block (own_has c c_is) (ends_none none),
   )
 
-pub calls_keep_made : (K V S : Type 0) (same : K → K → Bool) (hash : K → ℕ) → CallsKeepMade K V S same hash
-calls_keep_made K V S same hash name m known s old new at whole made map i u here said leads = step_keeps_made same hash name m known s old new at whole made map i u here said leads
+pub calls_keep_made : (K V : Type 0) (same : K → K → Bool) (hash : ℕ → K → ℕ) → CallsKeepMade K V same hash
+calls_keep_made K V same hash name m known s old new at whole made map i u here said leads = step_keeps_made same hash name m known s old new at whole made map i u here said leads

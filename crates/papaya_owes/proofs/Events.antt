@@ -22,9 +22,6 @@ use Rattle.papaya_moments.specs.Given.Callers.Together.{UnderWay}
 use Rattle.papaya_moments.specs.Given.Effects.Effects.{effects_of}
 use Rattle.papaya_moments.specs.Given.Effects.Known.{Known}
 use Rattle.papaya_moments.specs.Given.Effects.declared.acting.Acting.TheVariants as acts
-use Rattle.papaya_moments.specs.Given.Executor.IsAt.{Scene, IsAt}
-use Rattle.papaya_moments.specs.Given.Executor.Stepping.{StepLeads}
-use Rattle.papaya_moments.specs.Given.Executor.declared.executor.Executor.{Executor}
 use Rattle.papaya_moments.proofs.Given.Follows.Steps.{WentTo, went_to}
 use Rattle.papaya_moments.specs.Whole.{ShowsWhole}
 use Rattle.papaya_owes.specs.Events.{LeavesNothingMade, EventsLeaveNothingMade, FindsMade, FindMade, StepsFindMade, SeveralFindMade}
@@ -39,6 +36,9 @@ use Rattle.papaya_owes.proofs.Tables.Calls.{step_keeps_tables}
 use Rattle.papaya_owes.specs.Keeping.{FindsBlock, FindBlocks}
 use Rattle.papaya_owes.proofs.Ready.{ready_so}
 use Rattle.papaya_moments.specs.Given.Finishes.Machines.{machine_of}
+use Rattle.papaya_moments.specs.Given.Scenes.Held.{Held, IsAt}
+use Rattle.papaya_moments.specs.Given.Scenes.Scene.{Scene}
+use Rattle.papaya_moments.specs.Given.Scenes.Stepping.{StepLeads}
 
 -- what an effect finds of blocks, tables and growths it finds of all that the call has made
 finds_made : {K V : Type 0} (terms : Terms) (moments : List (Moment K V)) (m : Moment K V) (f : Effect) (c : CallThere K V) → FindsBlock f c → FindsTable m f c → FindsGrown f c → FindsMade terms moments m f c
@@ -79,14 +79,14 @@ has_grown : {K V : Type 0} (o : Outcome V) (c : CallThere K V) → c.is_short �
 has_grown (outcome.Refused Memory) c e = tt
 has_grown _ c e = e
 
-module _ {K V S : Type 0} (same : K → K → Bool) (hash : K → ℕ) (name : ℕ → List ℕ) (m : Moment K V) (known : Known) (s : Scene K V) (old new : Executor K V S) (at : IsAt same hash old s)
+module _ {K V : Type 0} (same : K → K → Bool) (hash : ℕ → K → ℕ) (name : ℕ → List ℕ) (m : Moment K V) (known : Known) (s : Scene K V) (old new : Held K V) (at : IsAt same hash old s)
     (whole : ShowsWhole same name m known s) (made : ShowsMade name m known s) (tables : ShowsTables name m known s) (short : ShowsShort name m s) (map i : ℕ) (u : UnderWay K V K)
     (here : s.calls map i ≡ Some u) (said : Progress (Node K V)) (leads : StepLeads same hash i said s old new) where
   abbrev to : WentTo same hash name m known s old new at whole.all.shown map i u here said leads
   to = went_to same hash name m known s old new at whole.all.shown map i u here said leads
 
   abbrev v : Moment K V
-  v = with_effects (Some (name i)) (Some map) (effects_of (acts.Call i map) known new.memory.changed) m
+  v = with_effects (Some (name i)) (Some map) (effects_of (acts.Call i map) known new.changed) m
 
   module _ (o : Outcome V) (refused : said ≡ progress.Refused Memory → o ≡ outcome.Refused Memory) (c : CallThere K V) (c_is : call_of (name i) v ≡ Some c) where
     when_ended : to.4.next ≡ None → LeavesNothingMade o c
@@ -115,7 +115,7 @@ module _ {K V S : Type 0} (same : K → K → Bool) (hash : K → ℕ) (name : �
       where
         by : (next : Option (UnderWay K V K)) → to.4.next ≡ next → LeavesNothingMade o c
         by None none = when_ended none
-        by (Some x) is = when_ready (ready_so same same hash old.memory.memory new.memory.memory new.memory.changed to.1 said ready (machine_of u) to.3) x is
+        by (Some x) is = when_ready (ready_so same same to.0.hash old.memory new.memory new.changed to.1 said ready (machine_of u) to.3) x is
 
   event_leaves : (to.4.next ≡ None) ⊎ (said ≡ progress.Ready) → (o : Outcome V) → (said ≡ progress.Refused Memory → o ≡ outcome.Refused Memory) → IfCall (LeavesNothingMade o) (call_of (name i) v)
   event_leaves over o refused = by (call_of (name i) v) refl
@@ -124,13 +124,13 @@ module _ {K V S : Type 0} (same : K → K → Bool) (hash : K → ℕ) (name : �
       by None none = tt
       by (Some c) is = leaves_none o refused c is over
 
-pub events_leave_nothing_made : (K V S : Type 0) (same : K → K → Bool) (hash : K → ℕ) → EventsLeaveNothingMade K V S same hash
-events_leave_nothing_made K V S same hash name m known s old new at whole made tables short map i u here said leads over log e caller refused worked_is =
+pub events_leave_nothing_made : (K V : Type 0) (same : K → K → Bool) (hash : ℕ → K → ℕ) → EventsLeaveNothingMade K V same hash
+events_leave_nothing_made K V same hash name m known s old new at whole made tables short map i u here said leads over log e caller refused worked_is =
     subst (λ (who : Option (List ℕ)). IfCall (LeavesNothingMade {K = K} e.outcome) (acting who (worked e (moment log)))) (sym caller)
     (subst (λ (x : Moment K V). IfCall (LeavesNothingMade e.outcome) (call_of (name i) x)) (sym worked_is)
     (event_leaves same hash name m known s old new at whole made tables short map i u here said leads over e.outcome refused))
 
-pub steps_find_made : (K V S : Type 0) (same : K → K → Bool) (hash : K → ℕ) → StepsFindMade K V S same hash
-steps_find_made K V S same hash name m known s old new at whole made tables short map i u here said leads terms moments =
-    all_find terms moments (name i) map (effects_of (acts.Call i map) known new.memory.changed) m (step_keeps_made same hash name m known s old new at whole made map i u here said leads).0
+pub steps_find_made : (K V : Type 0) (same : K → K → Bool) (hash : ℕ → K → ℕ) → StepsFindMade K V same hash
+steps_find_made K V same hash name m known s old new at whole made tables short map i u here said leads terms moments =
+    all_find terms moments (name i) map (effects_of (acts.Call i map) known new.changed) m (step_keeps_made same hash name m known s old new at whole made map i u here said leads).0
     (step_keeps_tables same hash name m known s old new at whole tables map i u here said leads).0 (step_keeps_short same hash name m known s old new at whole short map i u here said leads).0

@@ -10,14 +10,14 @@ use Rattle.papaya_moments.specs.Given.Callers.Together.{CallOnKey, UnderWay, OnK
 use Rattle.papaya_moments.specs.Given.Effects.Known.{Known}
 use Rattle.papaya_moments.specs.Given.Effects.declared.role.Role.{Role}
 use Rattle.papaya_moments.specs.Given.Effects.declared.role.Role.TheVariants as role
-use Rattle.papaya_moments.specs.Given.Executor.IsAt.{Scene, IsAt, slot_of}
-use Rattle.papaya_moments.specs.Given.Executor.declared.executor.Executor.{Executor}
-use Rattle.papaya_moments.proofs.Given.Executor.Changed.{standing_is}
 use Rattle.papaya_moments.specs.Given.Finishes.Maps.{Standing}
 use Rattle.papaya_moments.specs.Given.Follows.Blocks.{HasRole}
 use Rattle.papaya_moments.specs.Given.Follows.Shows.{Shows}
 use Rattle.papaya_owes.specs.Made.{IsItsBlock, ShowsMade}
 use Rattle.papaya_owes.proofs.Held.{IsInHand, stands_held}
+use Rattle.papaya_moments.proofs.Given.Scenes.May.{standing_is}
+use Rattle.papaya_moments.specs.Given.Scenes.Held.{Held, IsAt}
+use Rattle.papaya_moments.specs.Given.Scenes.Scene.{Scene, slot_of}
 
 -- a block that is not there is free
 pub free_there : {K V : Type 0} (w : World (Node K V)) (stored : List (K × V)) (known : Known) → ((b : ℕ) → HasRole w stored b (known.roles b)) → (b : ℕ) → value_at w.memory b ≡ None → known.roles b ≡ role.Free
@@ -31,7 +31,7 @@ free_there {K} {V} w stored known roles b none = by (known.roles b) refl (roles 
     by (role.Table t len) e has = absurd (let some = has.1 in cc (some, none))
     by (role.Counter map) e has = absurd (cc (has, none))
 
-module _ {K V S : Type 0} (same : K → K → Bool) (hash : K → ℕ) (name : ℕ → List ℕ) (m : Moment K V) (known : Known) (s : Scene K V) (e : Executor K V S) (at : IsAt same hash e s)
+module _ {K V : Type 0} (same : K → K → Bool) (hash : ℕ → K → ℕ) (name : ℕ → List ℕ) (m : Moment K V) (known : Known) (s : Scene K V) (e : Held K V) (at : IsAt same hash e s)
     (shown : Shows same name m known s) (made : ShowsMade name m known s) where
   -- of a call on one key
   module _ (map j : ℕ) (u : CallOnKey K V K) (here : s.calls map j ≡ Some (OnKey u)) where

@@ -20,15 +20,8 @@ use Rattle.papaya_moments.specs.Given.Effects.Effects.{effects_of, known_after}
 use Rattle.papaya_moments.specs.Given.Effects.Known.{Known}
 use Rattle.papaya_moments.specs.Given.Effects.declared.acting.Acting.{Acting}
 use Rattle.papaya_moments.specs.Given.Effects.declared.acting.Acting.TheVariants as acts
-use Rattle.papaya_moments.proofs.Given.Executor.Forgotten.{as_step}
-use Rattle.papaya_moments.proofs.Given.Executor.OnSlots.{may_taken, row_at}
-use Rattle.papaya_moments.specs.Given.Executor.Ending.{EndingComesTo, EndingStepsFrom}
-use Rattle.papaya_moments.specs.Given.Executor.IsAt.{IsAt, Scene, slot_of, work_of}
-use Rattle.papaya_moments.specs.Given.Executor.OnSlots.{HappensAt, RowSteps}
-use Rattle.papaya_moments.specs.Given.Executor.declared.executor.Executor.{Executor}
-use Rattle.papaya_moments.specs.Given.Executor.declared.row.RowTold.{RowTold}
-use Rattle.papaya_moments.specs.Given.Executor.declared.row.SlotRow.{SlotRow}
-use Rattle.papaya_moments.specs.Given.Executor.declared.worker.Work.TheVariants as work
+use Rattle.papaya_moments.specs.Given.Scenes.declared.row.RowTold.{RowTold}
+use Rattle.papaya_moments.specs.Given.Scenes.declared.row.SlotRow.{SlotRow}
 use Rattle.papaya_moments.proofs.Given.Finishes.Ends.Frames.{that_one}
 use Rattle.papaya_moments.proofs.Given.Finishes.Ends.Points.{end_steps}
 use Rattle.papaya_moments.specs.Given.Finishes.Endings.{Finishing, FinishingFacts, StepsOfEnding}
@@ -39,19 +32,25 @@ use Rattle.papaya_moments.specs.Given.Follows.Shows.{Shows}
 use Rattle.papaya_moments.proofs.Given.Others.Ends.{left, says_or_takes}
 use Rattle.papaya_moments.proofs.Given.Others.RowPlans.{row_operated}
 use Rattle.papaya_owes.proofs.Held.{IsInHand}
+use Rattle.papaya_moments.proofs.Given.Scenes.May.{may_row}
+use Rattle.papaya_moments.proofs.Given.Scenes.Told.{as_step}
+use Rattle.papaya_moments.specs.Given.Scenes.Ending.{EndingComesTo, EndingStepsFrom}
+use Rattle.papaya_moments.specs.Given.Scenes.Held.{Held, IsAt}
+use Rattle.papaya_moments.specs.Given.Scenes.OnSlots.{HappensAt, RowSteps}
+use Rattle.papaya_moments.specs.Given.Scenes.Scene.{IsOnSlot, Scene, slot_of}
 
-module _ {K V S : Type 0} (same : K → K → Bool) (hash : K → ℕ) (s : Scene K V) (old new : Executor K V S) (at : IsAt same hash old s) (i : ℕ) (row : SlotRow) (here : work_of old i ≡ Some (work.OnSlot row))
-    (end : SlotRow × RowTold (Node K V)) (steps : RowSteps K V row old.memory.memory new.memory.memory new.memory.changed end) (happened : HappensAt same hash (Step i) s old new) where
+module _ {K V : Type 0} (same : K → K → Bool) (hash : ℕ → K → ℕ) (s : Scene K V) (old new : Held K V) (at : IsAt same hash old s) (i : ℕ) (row : SlotRow) (here : IsOnSlot s i row)
+    (end : SlotRow × RowTold (Node K V)) (steps : RowSteps K V row old.memory new.memory new.changed end) (happened : HappensAt same hash (Step i) s old new) where
   -- what the operation of a row leaves
-  pub row_leaves : LeavesBy s.world.memory happened.0.memory new.memory.changed
+  pub row_leaves : LeavesBy s.world.memory happened.0.memory new.changed
   row_leaves =
-      subst (λ (n : Mem (Node K V)). LeavesBy s.world.memory n new.memory.changed) (sym happened.4.memory)
-      (subst (λ (n : Mem (Node K V)). LeavesBy n new.memory.memory new.memory.changed) (sym at.memory)
-      (operated_leaves old.memory.memory new.memory.memory new.memory.changed
-      (row_operated old.memory.memory new.memory.memory new.memory.changed end row (may_taken same hash old s at i row here (slot_of i) row (row_at same hash old s at i row here)) steps)))
+      subst (λ (n : Mem (Node K V)). LeavesBy s.world.memory n new.changed) (sym happened.4.memory)
+      (subst (λ (n : Mem (Node K V)). LeavesBy n new.memory new.changed) (sym at.memory)
+      (operated_leaves old.memory new.memory new.changed
+      (row_operated old.memory new.memory new.changed end row (may_row same hash old s at i row here) steps)))
 
   -- what is in hand is not gone
-  pub row_keeps_held : (b j : ℕ) → IsInHand s.world j b → new.memory.changed ≡ changed.Took b → ⊥
+  pub row_keeps_held : (b j : ℕ) → IsInHand s.world j b → new.changed ≡ changed.Took b → ⊥
   row_keeps_held b j held is =
       (let gone : value_at happened.0.memory b ≡ None = (subst (LeavesBy s.world.memory happened.0.memory) is row_leaves).1 in
       let had : IsOfUsers (s.world.hand b) = subst IsOfUsers (sym held.hand) tt in
@@ -66,10 +65,10 @@ pub record IsAside {K V : Type 0} (w : World (Node K V)) (b : ℕ) : Type 0 wher
   pub there : value_at w.memory b ≡ Some value
   pub other : value ≢ node.Shards
 
-module _ {K V S : Type 0} (same : K → K → Bool) (hash : K → ℕ) (name : ℕ → List ℕ) (m : Moment K V) (known : Known) (s : Scene K V) (old new : Executor K V S) (at : IsAt same hash old s)
+module _ {K V : Type 0} (same : K → K → Bool) (hash : ℕ → K → ℕ) (name : ℕ → List ℕ) (m : Moment K V) (known : Known) (s : Scene K V) (old new : Held K V) (at : IsAt same hash old s)
     (shown : Shows same name m known s) (i : ℕ) (f : Finishing K V) (here : s.enders i ≡ Some f) (end : EndMap) (said : Settled (Node K V))
     (steps : EndingStepsFrom f.machine old new end said)
-    (did : StepsOfEnding V same same old.batch_size old.roots slot_of s.world s.maps s.calls s.makers s.enders i f new.memory.memory (end, said))
+    (did : StepsOfEnding V same same old.batch_size old.roots slot_of s.world s.maps s.calls s.makers s.enders i f new.memory (end, said))
     (map : ℕ) (not_there : s.maps map ≡ None) (comes : EndingComesTo same hash s new i f end did.w2 did.deed said) where
   abbrev w : World (Node K V)
   w = s.world
@@ -78,7 +77,7 @@ module _ {K V S : Type 0} (same : K → K → Bool) (hash : K → ℕ) (name : �
   w2 = did.w2
 
   abbrev told : Changed
-  told = new.memory.changed
+  told = new.changed
 
   abbrev its : Acting
   its = acts.Ending map
@@ -93,11 +92,11 @@ module _ {K V S : Type 0} (same : K → K → Bool) (hash : K → ℕ) (name : �
   ending_says = says_or_takes same hash name m known s old new at shown i f here end said steps did map not_there comes told refl ending_leaves
 
   -- what it did, by what it knows of its map
-  went : EndWent f.setting f.chart f.blocks facts.lists false i f.hash f.began w facts.past f.back new.memory.memory (end, said)
+  went : EndWent f.setting f.chart f.blocks facts.lists false i f.hash f.began w facts.past f.back new.memory (end, said)
   went =
-      (end_steps same f.hash facts.lawful f.setting f.chart f.blocks facts.lists false i f.began facts.stood w f.machine facts.past f.back facts.facts).1 new.memory.memory (end, said)
-      (subst (λ (n : Mem (Node K V)). Steps Took value_at n (end_map_plan {K = K} {V = V} f.machine) new.memory.memory (end, said)) (sym at.memory)
-      (as_step old.memory.memory changed.Nothing (end_map_plan {K = K} {V = V} f.machine) new.memory.memory told (end, said) steps))
+      (end_steps same f.hash facts.lawful f.setting f.chart f.blocks facts.lists false i f.began facts.stood w f.machine facts.past f.back facts.facts).1 new.memory (end, said)
+      (subst (λ (n : Mem (Node K V)). Steps Took value_at n (end_map_plan {K = K} {V = V} f.machine) new.memory (end, said)) (sym at.memory)
+      (as_step old.memory changed.Nothing (end_map_plan {K = K} {V = V} f.machine) new.memory told (end, said) steps))
 
   nothing : 0 < 0 → ⊥
   nothing l = omega (arith, l)

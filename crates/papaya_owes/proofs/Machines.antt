@@ -33,7 +33,6 @@ use Rattle.papaya_moments.specs.Given.Teller.Tells.{StepsTold}
 use Rattle.papaya_moments.specs.Given.Teller.declared.changed.Changed.{Changed}
 use Rattle.papaya_moments.specs.Given.Teller.declared.changed.Changed.TheVariants as changed
 use Rattle.papaya_moments.specs.Given.Teller.declared.changed.Kind.TheVariants as kind
-use Rattle.papaya_moments.proofs.Given.Executor.Forgotten.{as_step}
 use Rattle.papaya_moments.proofs.Given.Others.Outcomes.{told_in}
 use Rattle.papaya_holds.specs.Came.{Owns}
 use Rattle.papaya_holds.proofs.Calls.Goes.{TellsSo}
@@ -43,6 +42,7 @@ use Rattle.papaya_owes.specs.Making.{making_in_copying, making_in_calling, makin
 use Rattle.papaya_owes.proofs.Planned.{HasPlaces}
 use Rattle.papaya_owes.proofs.Walks.{reserve_makes, sweep_makes, plan_made}
 use Rattle.papaya_owes.proofs.Words.{WordGoes, KeepsWord, none_for_pair, call_word}
+use Rattle.papaya_moments.proofs.Given.Scenes.Told.{as_step}
 
 -- within a row no table is made
 

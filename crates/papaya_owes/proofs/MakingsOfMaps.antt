@@ -40,9 +40,6 @@ use Rattle.papaya_moments.specs.Given.Effects.Known.{Known}
 use Rattle.papaya_moments.specs.Given.Effects.declared.acting.Acting.{Acting}
 use Rattle.papaya_moments.specs.Given.Effects.declared.acting.Acting.TheVariants as acts
 use Rattle.papaya_moments.specs.Given.Effects.declared.role.Role.TheVariants as role
-use Rattle.papaya_moments.specs.Given.Executor.IsAt.{Scene, IsAt, slot_of}
-use Rattle.papaya_moments.specs.Given.Executor.Making.{MakingStepsFrom, MakingComesTo}
-use Rattle.papaya_moments.specs.Given.Executor.declared.executor.Executor.{Executor}
 use Rattle.papaya_moments.specs.Given.Finishes.Endings.{MakingStepsAmong}
 use Rattle.papaya_moments.specs.Given.Finishes.Makings.{Beginning, OpeningFacts}
 use Rattle.papaya_moments.specs.Given.Follows.Shows.{Shows}
@@ -62,6 +59,9 @@ use Rattle.papaya_owes.proofs.Roles.{MakesFree, no_block, does_so}
 use Rattle.papaya_owes.proofs.Quiet.{none_if, led_none}
 use Rattle.papaya_owes.proofs.Walks.{PlanMakes, plan_made, makes_as, table_makes, IsToMake}
 use Rattle.papaya_owes.proofs.Words.{none_for_pair}
+use Rattle.papaya_moments.specs.Given.Scenes.Held.{Held, IsAt}
+use Rattle.papaya_moments.specs.Given.Scenes.Making.{MakingComesTo, MakingStepsFrom}
+use Rattle.papaya_moments.specs.Given.Scenes.Scene.{Scene, slot_of}
 
 module _ {K V : Type 0} (w : World (Node K V)) (i roots : ℕ) (n : NewMap) where
   -- it makes its table, or its counter
@@ -141,10 +141,10 @@ module _ {K V : Type 0} (w : World (Node K V)) (i roots : ℕ) (n : NewMap) wher
     pub takes_its : OpeningFacts w roots i n n.stands → Told n.stands → (x : ℕ) → told ≡ changed.Took x → w.hand x ≡ MadeBy i
     takes_its facts steps x is = opening_takes n.stands facts x (plan_took m m2 told (new_map.plan_at n n.stands) end steps x is)
 
-module _ {K V S : Type 0} (same : K → K → Bool) (hash : K → ℕ) (name : ℕ → List ℕ) (m : Moment K V) (known : Known) (s : Scene K V) (old new : Executor K V S) (at : IsAt same hash old s)
+module _ {K V : Type 0} (same : K → K → Bool) (hash : ℕ → K → ℕ) (name : ℕ → List ℕ) (m : Moment K V) (known : Known) (s : Scene K V) (old new : Held K V) (at : IsAt same hash old s)
     (shown : Shows same name m known s) (made : ShowsMade name m known s) (i : ℕ) (b : Beginning K) (here : s.makers i ≡ Some b) (end : NewMap) (said : Progress Setting)
     (steps : MakingStepsFrom b.machine old new end said)
-    (did : MakingStepsAmong V same same old.batch_size old.roots slot_of s.world s.maps s.calls s.makers s.enders i b new.memory.memory (end, said)) (of : Option ℕ) where
+    (did : MakingStepsAmong V same same old.batch_size old.roots slot_of s.world s.maps s.calls s.makers s.enders i b new.memory (end, said)) (of : Option ℕ) where
   abbrev w : World (Node K V)
   w = s.world
 
@@ -152,7 +152,7 @@ module _ {K V S : Type 0} (same : K → K → Bool) (hash : K → ℕ) (name : �
   w2 = did.step.w2
 
   abbrev told : Changed
-  told = new.memory.changed
+  told = new.changed
 
   abbrev its : Acting
   its = acts.Making b.map
@@ -169,7 +169,7 @@ module _ {K V S : Type 0} (same : K → K → Bool) (hash : K → ℕ) (name : �
   -- who makes a map has no call, and so no block for a pair
   untaken : (x j : ℕ) → told ≡ changed.Took x → known.roles x ≡ role.OwnPair j → ⊥
   untaken x j is its_block =
-      let own = takes_its w i old.roots b.machine old.memory.memory new.memory.memory told (end, said) point steps x is in
+      let own = takes_its w i old.roots b.machine old.memory new.memory told (end, said) point steps x is in
       let held = (in_hand same hash name m known s old at shown made j x its_block).hand in
       let who : j ≡ i = cc (own, held) in
       let call = made.whose j x its_block in
@@ -209,7 +209,7 @@ module _ {K V S : Type 0} (same : K → K → Bool) (hash : K → ℕ) (name : �
 
   alone : LeavesAlone its known told
   alone = left_alone its known told (does_so its known told (makes_free told leaves))
-      (no_pair_made w i old.roots b.machine old.memory.memory new.memory.memory told (end, said) same hash point steps) untaken
+      (no_pair_made w i old.roots b.machine old.memory new.memory told (end, said) same b.hash point steps) untaken
       (λ storing. not_storing (effects_of its known told) storing (stores_none told so))
 
   same_calls : (t : Progress Setting) (comes : MakingComesTo same hash s old new i b end w2 t) → (making_after same hash s old new i b end w2 t comes).calls ≡ s.calls
@@ -226,7 +226,7 @@ module _ {K V S : Type 0} (same : K → K → Bool) (hash : K → ℕ) (name : �
         (calls_none of (effects_of its known told) m) (same_calls said comes) alone.0,
   )
 
-module _ (K V S : Type 0) (same : K → K → Bool) (hash : K → ℕ) where
-  pub makings_keep_made : MakingsKeepMade K V S same hash
+module _ (K V : Type 0) (same : K → K → Bool) (hash : ℕ → K → ℕ) where
+  pub makings_keep_made : MakingsKeepMade K V same hash
   makings_keep_made name m known s old new at shown made i told leads b here of =
       let to = leads b here in making_keeps same hash name m known s old new at shown made i b here to.0 told to.1 to.2 of to.3

@@ -11,8 +11,6 @@ use Rattle.papaya_moments.specs.Given.Schedules.Entry.{ends_call}
 use Rattle.papaya_moments.specs.Given.Schedules.Moment.{UnderWay as CallThere, Moment}
 use Rattle.papaya_moments.specs.Given.Schedules.Views.{call_of}
 use Rattle.papaya_moments.specs.Given.Callers.Together.{UnderWay}
-use Rattle.papaya_moments.specs.Given.Executor.IsAt.{Scene}
-use Rattle.papaya_moments.specs.Given.Executor.Replying.{scene_with, unless_stopped}
 use Rattle.papaya_moments.specs.Given.Finishes.Machines.{machine_of}
 use Rattle.papaya_moments.specs.Given.Finishes.Maps.{with_call as with_in}
 use Rattle.papaya_moments.specs.Given.Follows.Calling.{NoneNamed, told, come_to}
@@ -21,6 +19,8 @@ use Rattle.papaya_moments.proofs.Given.Follows.Steps.{one_of}
 use Rattle.papaya_moments.proofs.Given.Hands.Asking.{which}
 use Rattle.papaya_moments.specs.Given.Others.Walks.{given_up}
 use Rattle.papaya_owes.proofs.Kept.{calls_without, HasAsMuch, HadAsMuch, fresh_has, others_there, told_had, left_had, come_had}
+use Rattle.papaya_moments.specs.Given.Scenes.Replying.{scene_with, unless_stopped}
+use Rattle.papaya_moments.specs.Given.Scenes.Scene.{Scene}
 
 module _ {K V : Type 0} (mark : CallThere K V → Bool) (P : Machine K V K → Type 0) (kept : (c d : CallThere K V) → HasAsMuch c d → mark d ≡ mark c) where
   abbrev pub Marked : (ℕ → List ℕ) → Moment K V → Scene K V → Type 0

@@ -29,11 +29,11 @@ use Rattle.papaya_moments.specs.Given.Teller.Tells.{told_of, StepsTold}
 use Rattle.papaya_moments.specs.Given.Teller.declared.changed.Changed.{Changed}
 use Rattle.papaya_moments.specs.Given.Teller.declared.changed.Changed.TheVariants as changed
 use Rattle.papaya_moments.specs.Given.Teller.declared.changed.Kind.{Kind}
-use Rattle.papaya_moments.proofs.Given.Executor.Forgotten.{as_step}
 use Rattle.papaya_holds.specs.Came.{OwnsAt, Owns}
 use Rattle.papaya_holds.proofs.Calls.Goes.{GoesWith, over_so, counted_so, looked_so, first_so, next_so, helped_so, copied_so, disposed_so, root_so, nexts_so, found_so, tried_so, told_over}
 use Rattle.papaya_holds.proofs.Calls.Steps.{names_block, some_word}
 use Rattle.papaya_owes.proofs.Walks.{IsToOwn}
+use Rattle.papaya_moments.proofs.Given.Scenes.Told.{as_step}
 
 -- no block was made
 abbrev pub NoneMade : Changed → Type 0

@@ -44,8 +44,8 @@ use Rattle.papaya_moments.proofs.Given.Rule.Keys.Always.{Always, AlwaysOf, alway
 use Rattle.papaya_moments.specs.Given.Teller.Tells.{StepsTold}
 use Rattle.papaya_moments.specs.Given.Teller.declared.changed.Changed.{Changed}
 use Rattle.papaya_moments.specs.Given.Teller.declared.changed.Changed.TheVariants as changed
-use Rattle.papaya_moments.proofs.Given.Executor.Forgotten.{as_step}
 use Rattle.papaya_moments.proofs.Given.Others.Outcomes.{told_in}
+use Rattle.papaya_moments.proofs.Given.Scenes.Told.{as_step}
 
 module _ (K V : Type 0) (hash : K → ℕ) (c : Sweep) where
   -- what says that it is ready is

@@ -1,5 +1,5 @@
 -- A step of a row on a slot takes no block for a pair that is not stored: it takes what was handed to the collector.
-use Rattle.std.specs.Prelude.{◌&&◌, ◌≡◌, ℕ, nat_lt, Bool, List, [], ◌∷◌, Some, None}
+use Rattle.std.specs.Prelude.{◌&&◌, ◌≡◌, ℕ, nat_lt, Bool, List, [], ◌∷◌, None}
 use Rattle.std.proofs.Common.{refl, subst}
 use Rattle.papaya_moments.specs.Given.SeizeWords.declared.at.At.TheVariants.{Root, Used, Slot, Entry, Word}
 use Rattle.papaya_moments.specs.Given.Seize.World.{World, Step}
@@ -15,12 +15,8 @@ use Rattle.papaya_moments.specs.Given.Effects.Effects.{names_same, effects_of, k
 use Rattle.papaya_moments.specs.Given.Effects.Known.{Known}
 use Rattle.papaya_moments.specs.Given.Effects.declared.acting.Acting.TheVariants.{Row}
 use Rattle.papaya_moments.specs.Given.Effects.declared.role.Role.TheVariants as role
-use Rattle.papaya_moments.specs.Given.Executor.IsAt.{Scene, IsAt, work_of}
-use Rattle.papaya_moments.specs.Given.Executor.OnSlots.{RowSteps, HappensAt}
-use Rattle.papaya_moments.specs.Given.Executor.declared.executor.Executor.{Executor}
-use Rattle.papaya_moments.specs.Given.Executor.declared.row.RowTold.{RowTold}
-use Rattle.papaya_moments.specs.Given.Executor.declared.row.SlotRow.{SlotRow}
-use Rattle.papaya_moments.specs.Given.Executor.declared.worker.Work.TheVariants as work
+use Rattle.papaya_moments.specs.Given.Scenes.declared.row.RowTold.{RowTold}
+use Rattle.papaya_moments.specs.Given.Scenes.declared.row.SlotRow.{SlotRow}
 use Rattle.papaya_moments.specs.Given.Follows.Shows.{Shows}
 use Rattle.papaya_moments.specs.Given.Others.Rows.{scene_then}
 use Rattle.papaya_moments.proofs.Given.Others.Quiet.{calls_none}
@@ -32,10 +28,13 @@ use Rattle.papaya_owes.proofs.InHand.{in_hand}
 use Rattle.papaya_owes.proofs.Roles.{MakesFree, does_so}
 use Rattle.papaya_owes.proofs.Quiet.{none_if}
 use Rattle.papaya_owes.proofs.Lasting.{row_keeps_held}
+use Rattle.papaya_moments.specs.Given.Scenes.Held.{Held, IsAt}
+use Rattle.papaya_moments.specs.Given.Scenes.OnSlots.{HappensAt, RowSteps}
+use Rattle.papaya_moments.specs.Given.Scenes.Scene.{IsOnSlot, Scene}
 
-module _ {K V S : Type 0} (same : K → K → Bool) (hash : K → ℕ) (name : ℕ → List ℕ) (m : Moment K V) (known : Known) (s : Scene K V) (old new : Executor K V S) (at : IsAt same hash old s)
-    (shown : Shows same name m known s) (made : ShowsMade name m known s) (i : ℕ) (row : SlotRow) (here : work_of old i ≡ Some (work.OnSlot row)) (end : SlotRow × RowTold (Node K V))
-    (steps : RowSteps K V row old.memory.memory new.memory.memory new.memory.changed end) (happened : HappensAt same hash (Step i) s old new) where
+module _ {K V : Type 0} (same : K → K → Bool) (hash : ℕ → K → ℕ) (name : ℕ → List ℕ) (m : Moment K V) (known : Known) (s : Scene K V) (old new : Held K V) (at : IsAt same hash old s)
+    (shown : Shows same name m known s) (made : ShowsMade name m known s) (i : ℕ) (row : SlotRow) (here : IsOnSlot s i row) (end : SlotRow × RowTold (Node K V))
+    (steps : RowSteps K V row old.memory new.memory new.changed end) (happened : HappensAt same hash (Step i) s old new) where
   abbrev w : World (Node K V)
   w = s.world
 
@@ -43,10 +42,10 @@ module _ {K V S : Type 0} (same : K → K → Bool) (hash : K → ℕ) (name : �
   w2 = happened.0
 
   abbrev told : Changed
-  told = new.memory.changed
+  told = new.changed
 
   tells : TellsRow told
-  tells = row_tells old.memory.memory new.memory.memory told end row steps
+  tells = row_tells old.memory new.memory told end row steps
 
   -- what a caller has in hand is there still
   untaken : (b j : ℕ) → told ≡ changed.Took b → known.roles b ≡ role.OwnPair j → ⊥
@@ -87,7 +86,7 @@ module _ {K V S : Type 0} (same : K → K → Bool) (hash : K → ℕ) (name : �
         (calls_none None (effects_of Row known told) m) refl alone.0,
   )
 
-module _ (K V S : Type 0) (same : K → K → Bool) (hash : K → ℕ) where
-  pub rows_keep_made : RowsKeepMade K V S same hash
+module _ (K V : Type 0) (same : K → K → Bool) (hash : ℕ → K → ℕ) where
+  pub rows_keep_made : RowsKeepMade K V same hash
   rows_keep_made name m known s old new at shown made i told leads row here =
-      let to = leads row here in row_keeps same hash name m known s old new at shown made i row here (to.0, told) to.1 to.4
+      let to = leads row here in row_keeps same hash name m known s old new at shown made i row here (to.0, told) to.1 to.2

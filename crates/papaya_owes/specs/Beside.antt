@@ -13,15 +13,8 @@ use Rattle.papaya_moments.specs.Given.Callers.Together.{UnderWay}
 use Rattle.papaya_moments.specs.Given.Effects.Effects.{effects_of, known_after}
 use Rattle.papaya_moments.specs.Given.Effects.Known.{Known}
 use Rattle.papaya_moments.specs.Given.Effects.declared.acting.Acting.TheVariants as acts
-use Rattle.papaya_moments.specs.Given.Executor.Ending.{EndingLeads}
-use Rattle.papaya_moments.specs.Given.Executor.IsAt.{Scene, IsAt, work_of}
-use Rattle.papaya_moments.specs.Given.Executor.Making.{MakingLeads}
-use Rattle.papaya_moments.specs.Given.Executor.OnSlots.{RowLeads}
-use Rattle.papaya_moments.specs.Given.Executor.Replying.{AskLeads, StopLeads, scene_with, unless_stopped}
-use Rattle.papaya_moments.specs.Given.Executor.declared.executor.Executor.{Executor}
-use Rattle.papaya_moments.specs.Given.Executor.declared.row.RowTold.{RowTold}
-use Rattle.papaya_moments.specs.Given.Executor.declared.row.SlotRow.{SlotRow}
-use Rattle.papaya_moments.specs.Given.Executor.declared.worker.Work.TheVariants.{OnSlot}
+use Rattle.papaya_moments.specs.Given.Scenes.declared.row.RowTold.{RowTold}
+use Rattle.papaya_moments.specs.Given.Scenes.declared.row.SlotRow.{SlotRow}
 use Rattle.papaya_moments.specs.Given.Finishes.Endings.{Finishing}
 use Rattle.papaya_moments.specs.Given.Finishes.Makings.{Beginning}
 use Rattle.papaya_moments.specs.Given.Finishes.Maps.{with_call}
@@ -32,6 +25,12 @@ use Rattle.papaya_moments.specs.Given.Others.Makings.{making_after}
 use Rattle.papaya_moments.specs.Given.Others.Rows.{scene_then}
 use Rattle.papaya_moments.specs.Given.Others.Walks.{given_up}
 use Rattle.papaya_owes.specs.Made.{ShowsMade}
+use Rattle.papaya_moments.specs.Given.Scenes.Ending.{EndingLeads}
+use Rattle.papaya_moments.specs.Given.Scenes.Held.{Held, IsAt}
+use Rattle.papaya_moments.specs.Given.Scenes.Making.{MakingLeads}
+use Rattle.papaya_moments.specs.Given.Scenes.OnSlots.{RowLeads}
+use Rattle.papaya_moments.specs.Given.Scenes.Replying.{AskLeads, StopLeads, scene_with, unless_stopped}
+use Rattle.papaya_moments.specs.Given.Scenes.Scene.{IsOnSlot, Scene}
 
 -- the effect says something of a block for a pair that is not stored
 abbrev pub of_block : Effect → Bool
@@ -55,17 +54,17 @@ module _ (K V : Type 0) where
   StaysMade =
       (name : ℕ → List ℕ) (m v : Moment K V) (known : Known) (s t : Scene K V) → ShowsMade name m known s → v.calls ≡ m.calls → t.calls ≡ s.calls → ShowsMade name v known t
 
-module _ (K V S : Type 0) (same : K → K → Bool) (hash : K → ℕ) where
+module _ (K V : Type 0) (same : K → K → Bool) (hash : ℕ → K → ℕ) where
   -- A walk goes on to its next pair,
   abbrev pub WalksGoOnMade : Type 0
   WalksGoOnMade =
-      (name : ℕ → List ℕ) (m : Moment K V) (known : Known) (s : Scene K V) (old new : Executor K V S) → ShowsMade name m known s
+      (name : ℕ → List ℕ) (m : Moment K V) (known : Known) (s : Scene K V) (old new : Held K V) → ShowsMade name m known s
       → (i : ℕ) (leads : AskLeads same hash i true s old new) (map : ℕ) (u : UnderWay K V K) (here : s.calls map i ≡ Some u) → ShowsMade name m known (scene_with map i (leads map u here).0 s)
 
   -- or is given up: no call that is under way then has its name.
   abbrev pub WalksStopMade : Type 0
   WalksStopMade =
-      (name : ℕ → List ℕ) (m : Moment K V) (known : Known) (s : Scene K V) (old new : Executor K V S) → Shows same name m known s → ShowsMade name m known s
+      (name : ℕ → List ℕ) (m : Moment K V) (known : Known) (s : Scene K V) (old new : Held K V) → Shows same name m known s → ShowsMade name m known s
       → (i : ℕ) (stopped : Bool) → StopLeads same hash i stopped s old new → (map : ℕ) (u : UnderWay K V K) → s.calls map i ≡ Some u
       → (let after = record s { calls = with_call s.calls map i (unless_stopped stopped u) } in
       (stopped ≡ true → NoneNamed name (name i) after) → ShowsMade name (given_up (name i) stopped m) known after)
@@ -73,27 +72,27 @@ module _ (K V S : Type 0) (same : K → K → Bool) (hash : K → ℕ) where
   -- A step of a row on a slot says nothing of such a block, and so it is after it,
   abbrev pub RowsKeepMade : Type 0
   RowsKeepMade =
-      (name : ℕ → List ℕ) (m : Moment K V) (known : Known) (s : Scene K V) (old new : Executor K V S) → IsAt same hash old s → Shows same name m known s → ShowsMade name m known s
-      → (i : ℕ) (told : RowTold (Node K V)) (leads : RowLeads same hash i told s old new) (row : SlotRow) (here : work_of old i ≡ Some (OnSlot row))
-      → (let effects = effects_of acts.Row known new.memory.changed in
-      NoneOfBlock effects × ShowsMade name (with_effects None None effects m) (known_after acts.Row new.memory.changed known) (scene_then same hash (Step i) s old new (leads row here).4))
+      (name : ℕ → List ℕ) (m : Moment K V) (known : Known) (s : Scene K V) (old new : Held K V) → IsAt same hash old s → Shows same name m known s → ShowsMade name m known s
+      → (i : ℕ) (told : RowTold (Node K V)) (leads : RowLeads same hash i told s old new) (row : SlotRow) (here : IsOnSlot s i row)
+      → (let effects = effects_of acts.Row known new.changed in
+      NoneOfBlock effects × ShowsMade name (with_effects None None effects m) (known_after acts.Row new.changed known) (scene_then same hash (Step i) s old new (leads row here).2))
 
   -- and so does a step of a making, on whichever map its effects are told, if on any,
   abbrev pub MakingsKeepMade : Type 0
   MakingsKeepMade =
-      (name : ℕ → List ℕ) (m : Moment K V) (known : Known) (s : Scene K V) (old new : Executor K V S) → IsAt same hash old s → Shows same name m known s → ShowsMade name m known s
+      (name : ℕ → List ℕ) (m : Moment K V) (known : Known) (s : Scene K V) (old new : Held K V) → IsAt same hash old s → Shows same name m known s → ShowsMade name m known s
       → (i : ℕ) (told : Progress Setting) (leads : MakingLeads same hash i told s old new) (b : Beginning K) (here : s.makers i ≡ Some b) (of : Option ℕ)
       → (let to = leads b here in
-      let effects = effects_of (acts.Making b.map) known new.memory.changed in
+      let effects = effects_of (acts.Making b.map) known new.changed in
       NoneOfBlock effects
-      × ShowsMade name (with_effects None of effects m) (known_after (acts.Making b.map) new.memory.changed known) (making_after same hash s old new i b to.0 to.2.step.w2 told to.3))
+      × ShowsMade name (with_effects None of effects m) (known_after (acts.Making b.map) new.changed known) (making_after same hash s old new i b to.0 to.2.step.w2 told to.3))
 
   -- and a step of the end of a map, by whose number none stands.
   abbrev pub EndingsKeepMade : Type 0
   EndingsKeepMade =
-      (name : ℕ → List ℕ) (m : Moment K V) (known : Known) (s : Scene K V) (old new : Executor K V S) → IsAt same hash old s → Shows same name m known s → ShowsMade name m known s
+      (name : ℕ → List ℕ) (m : Moment K V) (known : Known) (s : Scene K V) (old new : Held K V) → IsAt same hash old s → Shows same name m known s → ShowsMade name m known s
       → (i : ℕ) (told : Settled (Node K V)) (leads : EndingLeads same hash i told s old new) (f : Finishing K V) (here : s.enders i ≡ Some f) (map : ℕ) → s.maps map ≡ None
       → (let to = leads f here in
-      let effects = effects_of (acts.Ending map) known new.memory.changed in
+      let effects = effects_of (acts.Ending map) known new.changed in
       NoneOfBlock effects
-      × ShowsMade name (with_effects None (Some map) effects m) (known_after (acts.Ending map) new.memory.changed known) (ending_after same hash s new i f to.0 to.2.w2 to.2.deed told to.3))
+      × ShowsMade name (with_effects None (Some map) effects m) (known_after (acts.Ending map) new.changed known) (ending_after same hash s new i f to.0 to.2.w2 to.2.deed told to.3))

@@ -5,11 +5,11 @@ use Rattle.papaya_moments.specs.Given.Schedules.Moment.{UnderWay as CallThere, M
 use Rattle.papaya_moments.specs.Given.Schedules.Views.{call_of}
 use Rattle.papaya_moments.specs.Given.Callers.Together.{UnderWay}
 use Rattle.papaya_moments.specs.Given.Effects.Known.{Known}
-use Rattle.papaya_moments.specs.Given.Executor.IsAt.{Scene}
 use Rattle.papaya_moments.specs.Given.Finishes.Machines.{machine_of}
 use Rattle.papaya_owes.specs.Made.{ShowsMade}
 use Rattle.papaya_owes.specs.Short.{ShowsShort}
 use Rattle.papaya_owes.specs.Tables.{ShowsTables}
+use Rattle.papaya_moments.specs.Given.Scenes.Scene.{Scene}
 
 -- It has neither a block for a pair nor a table that it has made, and is short of no growth.
 abbrev pub WalksAreClear : Type 0 → Type 0 → Type 0

@@ -19,13 +19,13 @@ use Rattle.papaya_moments.specs.Given.Callers.Together.{UnderWay}
 use Rattle.papaya_moments.specs.Given.Effects.Effects.{effects_of}
 use Rattle.papaya_moments.specs.Given.Effects.Known.{Known}
 use Rattle.papaya_moments.specs.Given.Effects.declared.acting.Acting.TheVariants as acts
-use Rattle.papaya_moments.specs.Given.Executor.IsAt.{Scene, IsAt}
-use Rattle.papaya_moments.specs.Given.Executor.Stepping.{StepLeads}
-use Rattle.papaya_moments.specs.Given.Executor.declared.executor.Executor.{Executor}
 use Rattle.papaya_moments.specs.Whole.{ShowsWhole}
 use Rattle.papaya_owes.specs.Made.{ShowsMade}
 use Rattle.papaya_owes.specs.Short.{ShowsShort}
 use Rattle.papaya_owes.specs.Tables.{ShowsTables}
+use Rattle.papaya_moments.specs.Given.Scenes.Held.{Held, IsAt}
+use Rattle.papaya_moments.specs.Given.Scenes.Scene.{Scene}
+use Rattle.papaya_moments.specs.Given.Scenes.Stepping.{StepLeads}
 
 module _ {K V : Type 0} (terms : Terms) where
   -- What an effect finds of what the call has made: who makes, or gives up, a block for a pair or a table finds all that it must; a pair is stored by one that has a
@@ -53,23 +53,23 @@ SeveralFindMade K V =
     (terms : Terms) (moments : List (Moment K V)) (own : List ℕ) (map : ℕ) (done effects : List Effect) (m : Moment K V)
     → FindMade terms moments own map done m → FindMade terms moments own map effects (with_effects (Some own) (Some map) done m) → FindMade terms moments own map (done ++ effects) m
 
-module _ (K V S : Type 0) (same : K → K → Bool) (hash : K → ℕ) where
+module _ (K V : Type 0) (same : K → K → Bool) (hash : ℕ → K → ℕ) where
   -- and for those of a step of a call.
   abbrev pub StepsFindMade : Type 0
   StepsFindMade =
-      (name : ℕ → List ℕ) (m : Moment K V) (known : Known) (s : Scene K V) (old new : Executor K V S) → IsAt same hash old s
+      (name : ℕ → List ℕ) (m : Moment K V) (known : Known) (s : Scene K V) (old new : Held K V) → IsAt same hash old s
       → ShowsWhole same name m known s → ShowsMade name m known s → ShowsTables name m known s → ShowsShort name m s
       → (map i : ℕ) (u : UnderWay K V K) (here : s.calls map i ≡ Some u) (said : Progress (Node K V)) (leads : StepLeads same hash i said s old new)
-      → (terms : Terms) (moments : List (Moment K V)) → FindMade terms moments (name i) map (effects_of (acts.Call i map) known new.memory.changed) m
+      → (terms : Terms) (moments : List (Moment K V)) → FindMade terms moments (name i) map (effects_of (acts.Call i map) known new.changed) m
 
   -- The promise, of an event whose last effects are those of a step of a call, with which the call has ended, or says that it is ready; and which is refused for want of memory if that step was.
   abbrev pub EventsLeaveNothingMade : Type 0
   EventsLeaveNothingMade =
-      (name : ℕ → List ℕ) (m : Moment K V) (known : Known) (s : Scene K V) (old new : Executor K V S) → IsAt same hash old s
+      (name : ℕ → List ℕ) (m : Moment K V) (known : Known) (s : Scene K V) (old new : Held K V) → IsAt same hash old s
       → ShowsWhole same name m known s → ShowsMade name m known s → ShowsTables name m known s → ShowsShort name m s
       → (map i : ℕ) (u : UnderWay K V K) (here : s.calls map i ≡ Some u) (said : Progress (Node K V)) (leads : StepLeads same hash i said s old new)
       → (let to = leads map u here in
       (to.4.next ≡ None) ⊎ (said ≡ progress.Ready)
       → (log : List (Entry K V)) (e : Entry K V) → caller_of e.event ≡ Some (name i) → (said ≡ progress.Refused Memory → e.outcome ≡ outcome.Refused Memory)
-      → worked e (moment log) ≡ with_effects (Some (name i)) (Some map) (effects_of (acts.Call i map) known new.memory.changed) m
+      → worked e (moment log) ≡ with_effects (Some (name i)) (Some map) (effects_of (acts.Call i map) known new.changed) m
       → IfCall (LeavesNothingMade e.outcome) (acting (caller_of e.event) (worked e (moment log))))

@@ -22,11 +22,6 @@ use Rattle.papaya_moments.specs.Given.Callers.Together.{UnderWay}
 use Rattle.papaya_moments.specs.Given.Effects.Effects.{effects_of}
 use Rattle.papaya_moments.specs.Given.Effects.Known.{Known}
 use Rattle.papaya_moments.specs.Given.Effects.declared.acting.Acting.TheVariants as acts
-use Rattle.papaya_moments.specs.Given.Executor.Beginning.{Begins}
-use Rattle.papaya_moments.specs.Given.Executor.IsAt.{Scene, IsAt, at_first}
-use Rattle.papaya_moments.specs.Given.Executor.Replying.{AskLeads, StopLeads, scene_with, unless_stopped}
-use Rattle.papaya_moments.specs.Given.Executor.Stepping.{StepLeads, scene_after}
-use Rattle.papaya_moments.specs.Given.Executor.declared.executor.Executor.{Executor}
 use Rattle.papaya_moments.specs.Given.Finishes.Machines.{machine_of}
 use Rattle.papaya_moments.specs.Given.Finishes.Maps.{Standing, with_call as with_in}
 use Rattle.papaya_moments.specs.Given.Follows.Calling.{NoneNamed, told, come_to}
@@ -34,6 +29,11 @@ use Rattle.papaya_moments.specs.Given.Late.Faults.{SoInCalling, SoInReserving, S
 use Rattle.papaya_moments.specs.Whole.{ShowsWhole}
 use Rattle.papaya_moments.specs.Given.Others.Walks.{given_up}
 use Rattle.papaya_owes.specs.Short.{ShowsShort}
+use Rattle.papaya_moments.specs.Given.Scenes.Beginning.{Begins}
+use Rattle.papaya_moments.specs.Given.Scenes.Held.{Held, IsAt}
+use Rattle.papaya_moments.specs.Given.Scenes.Replying.{AskLeads, StopLeads, scene_with, unless_stopped}
+use Rattle.papaya_moments.specs.Given.Scenes.Scene.{Scene, at_first}
+use Rattle.papaya_moments.specs.Given.Scenes.Stepping.{StepLeads, scene_after}
 
 -- each fault that a machine has to tell, where it stands, is such a one
 abbrev pub SoInMachine : {K V Q : Type 0} → (Fault → Type 0) → Machine K V Q → Type 0
@@ -52,26 +52,26 @@ module _ {K V : Type 0} where
   ShowsGrown name m s =
       (map i : ℕ) (u : UnderWay K V K) → s.calls map i ≡ Some u → (c : CallThere K V) → call_of (name i) m ≡ Some c → not c.is_short ≡ true → SoInMachine IsOther (machine_of u)
 
-module _ (K V S : Type 0) (same : K → K → Bool) (hash : K → ℕ) where
+module _ (K V : Type 0) (same : K → K → Bool) (hash : ℕ → K → ℕ) where
   -- The promise, of a step of a call: so it is after the step, and one that is refused for want of memory is short of a growth.
   abbrev pub CallsKeepGrown : Type 0
   CallsKeepGrown =
-      (name : ℕ → List ℕ) (m : Moment K V) (known : Known) (s : Scene K V) (old new : Executor K V S) → IsAt same hash old s
+      (name : ℕ → List ℕ) (m : Moment K V) (known : Known) (s : Scene K V) (old new : Held K V) → IsAt same hash old s
       → ShowsWhole same name m known s → ShowsShort name m s → ShowsGrown name m s
       → (map i : ℕ) (u : UnderWay K V K) (here : s.calls map i ≡ Some u) (said : Progress (Node K V)) (leads : StepLeads same hash i said s old new)
       → (let to = leads map u here in
-      let v = with_effects (Some (name i)) (Some map) (effects_of (acts.Call i map) known new.memory.changed) m in
-      ShowsGrown name v (scene_after same hash s old new map i to.0 u to.1 said to.4)
+      let v = with_effects (Some (name i)) (Some map) (effects_of (acts.Call i map) known new.changed) m in
+      ShowsGrown name v (scene_after same s old new map i to.0 u to.1 said to.4)
       × (said ≡ progress.Refused Memory → (c : CallThere K V) → call_of (name i) v ≡ Some c → c.is_short ≡ true))
 
   -- The promise, of an event whose last effects are those of a step of a call that is refused for want of memory.
   abbrev pub EventsRefuseTheShort : Type 0
   EventsRefuseTheShort =
-      (name : ℕ → List ℕ) (m : Moment K V) (known : Known) (s : Scene K V) (old new : Executor K V S) → IsAt same hash old s
+      (name : ℕ → List ℕ) (m : Moment K V) (known : Known) (s : Scene K V) (old new : Held K V) → IsAt same hash old s
       → ShowsWhole same name m known s → ShowsShort name m s → ShowsGrown name m s
       → (map i : ℕ) (u : UnderWay K V K) (here : s.calls map i ≡ Some u) → StepLeads same hash i (progress.Refused Memory) s old new
       → (log : List (Entry K V)) (e : Entry K V) → caller_of e.event ≡ Some (name i)
-      → worked e (moment log) ≡ with_effects (Some (name i)) (Some map) (effects_of (acts.Call i map) known new.memory.changed) m
+      → worked e (moment log) ≡ with_effects (Some (name i)) (Some map) (effects_of (acts.Call i map) known new.changed) m
       → IfCall (λ c. c.is_short ≡ true) (acting (caller_of e.event) (worked e (moment log)))
 
 module _ (K V : Type 0) where
@@ -107,17 +107,17 @@ module _ (K V : Type 0) where
       (same : K → K → Bool) (name : ℕ → List ℕ) (m : Moment K V) (known : Known) (s : Scene K V) → ShowsWhole same name m known s → ShowsGrown name m s
       → (own : List ℕ) (outcome : Outcome V) (steps : ℕ) → (ends_call outcome ≡ true → NoneNamed name own s) → ShowsGrown name (come_to own outcome steps m) s
 
-module _ (K V S : Type 0) (same : K → K → Bool) (hash : K → ℕ) where
+module _ (K V : Type 0) (same : K → K → Bool) (hash : ℕ → K → ℕ) where
   -- So it is where a walk goes on to its next pair,
   abbrev pub WalksGoOnGrown : Type 0
   WalksGoOnGrown =
-      (name : ℕ → List ℕ) (m : Moment K V) (s : Scene K V) (old new : Executor K V S) → ShowsGrown name m s
+      (name : ℕ → List ℕ) (m : Moment K V) (s : Scene K V) (old new : Held K V) → ShowsGrown name m s
       → (i : ℕ) (leads : AskLeads same hash i true s old new) (map : ℕ) (u : UnderWay K V K) (here : s.calls map i ≡ Some u) → ShowsGrown name m (scene_with map i (leads map u here).0 s)
 
   -- and where one is given up.
   abbrev pub WalksStopGrown : Type 0
   WalksStopGrown =
-      (name : ℕ → List ℕ) (m : Moment K V) (known : Known) (s : Scene K V) (old new : Executor K V S) → ShowsWhole same name m known s → ShowsGrown name m s
+      (name : ℕ → List ℕ) (m : Moment K V) (known : Known) (s : Scene K V) (old new : Held K V) → ShowsWhole same name m known s → ShowsGrown name m s
       → (i : ℕ) (stopped : Bool) → StopLeads same hash i stopped s old new → (map : ℕ) (u : UnderWay K V K) → s.calls map i ≡ Some u
       → (let after = record s { calls = with_in s.calls map i (unless_stopped stopped u) } in
       (stopped ≡ true → NoneNamed name (name i) after) → ShowsGrown name (given_up (name i) stopped m) after)

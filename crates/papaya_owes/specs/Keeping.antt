@@ -23,15 +23,15 @@ use Rattle.papaya_moments.specs.Given.Callers.Together.{UnderWay, IsBegun}
 use Rattle.papaya_moments.specs.Given.Effects.Effects.{effects_of, known_after}
 use Rattle.papaya_moments.specs.Given.Effects.Known.{Known, nothing_known}
 use Rattle.papaya_moments.specs.Given.Effects.declared.acting.Acting.TheVariants as acts
-use Rattle.papaya_moments.specs.Given.Executor.IsAt.{Scene, IsAt, at_first}
-use Rattle.papaya_moments.specs.Given.Executor.Replying.{scene_with}
-use Rattle.papaya_moments.specs.Given.Executor.Stepping.{StepLeads, scene_after}
-use Rattle.papaya_moments.specs.Given.Executor.declared.executor.Executor.{Executor}
 use Rattle.papaya_moments.specs.Given.Finishes.Machines.{machine_of}
 use Rattle.papaya_moments.specs.Given.Follows.Calling.{NoneNamed, told, come_to}
 use Rattle.papaya_holds.specs.Came.{Owns}
 use Rattle.papaya_moments.specs.Whole.{ShowsWhole}
 use Rattle.papaya_owes.specs.Made.{OwnsSo, ShowsMade}
+use Rattle.papaya_moments.specs.Given.Scenes.Held.{Held, IsAt}
+use Rattle.papaya_moments.specs.Given.Scenes.Replying.{scene_with}
+use Rattle.papaya_moments.specs.Given.Scenes.Scene.{Scene, at_first}
+use Rattle.papaya_moments.specs.Given.Scenes.Stepping.{StepLeads, scene_after}
 
 module _ {K V : Type 0} where
   -- A block for a pair is made on asking for it, by a call that has none, and a value for it; one is given up, and a pair stored, by a call that has one.
@@ -49,17 +49,17 @@ module _ {K V : Type 0} where
 abbrev pub MadeBegins : Type 0 → Type 0 → Type 0
 MadeBegins K V = (roots : ℕ) (name : ℕ → List ℕ) → ShowsMade {K = K} {V = V} name start nothing_known (at_first roots)
 
-module _ (K V S : Type 0) (same : K → K → Bool) (hash : K → ℕ) where
+module _ (K V : Type 0) (same : K → K → Bool) (hash : ℕ → K → ℕ) where
   -- The effects of a step of a call find the call's block as they must, it is so after the step, whoever takes it, and a call that has ended by it has none.
   abbrev pub CallsKeepMade : Type 0
   CallsKeepMade =
-      (name : ℕ → List ℕ) (m : Moment K V) (known : Known) (s : Scene K V) (old new : Executor K V S) → IsAt same hash old s → ShowsWhole same name m known s → ShowsMade name m known s
+      (name : ℕ → List ℕ) (m : Moment K V) (known : Known) (s : Scene K V) (old new : Held K V) → IsAt same hash old s → ShowsWhole same name m known s → ShowsMade name m known s
       → (map i : ℕ) (u : UnderWay K V K) (here : s.calls map i ≡ Some u) (said : Progress (Node K V)) (leads : StepLeads same hash i said s old new)
       → (let to = leads map u here in
-      let effects = effects_of (acts.Call i map) known new.memory.changed in
+      let effects = effects_of (acts.Call i map) known new.changed in
       let v = with_effects (Some (name i)) (Some map) effects m in
       FindBlocks (name i) map effects m
-      × ShowsMade name v (known_after (acts.Call i map) new.memory.changed known) (scene_after same hash s old new map i to.0 u to.1 said to.4)
+      × ShowsMade name v (known_after (acts.Call i map) new.changed known) (scene_after same s old new map i to.0 u to.1 said to.4)
       × (to.4.next ≡ None → (c : CallThere K V) → call_of (name i) v ≡ Some c → c.has_block ≡ false))
 
 module _ (K V : Type 0) where

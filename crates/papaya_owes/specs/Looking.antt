@@ -25,10 +25,6 @@ use Rattle.papaya_moments.specs.Given.Callers.Together.{UnderWay, IsBegun}
 use Rattle.papaya_moments.specs.Given.Effects.Effects.{effects_of}
 use Rattle.papaya_moments.specs.Given.Effects.Known.{Known}
 use Rattle.papaya_moments.specs.Given.Effects.declared.acting.Acting.TheVariants as acts
-use Rattle.papaya_moments.specs.Given.Executor.IsAt.{Scene, IsAt, at_first}
-use Rattle.papaya_moments.specs.Given.Executor.Replying.{AskLeads, StopLeads, scene_with, unless_stopped}
-use Rattle.papaya_moments.specs.Given.Executor.Stepping.{StepLeads, scene_after}
-use Rattle.papaya_moments.specs.Given.Executor.declared.executor.Executor.{Executor}
 use Rattle.papaya_moments.specs.Given.Finishes.Machines.{machine_of}
 use Rattle.papaya_moments.specs.Given.Finishes.Maps.{with_call as with_in}
 use Rattle.papaya_moments.specs.Given.Follows.Calling.{NoneNamed, told, come_to}
@@ -36,6 +32,10 @@ use Rattle.papaya_moments.specs.Given.Hands.Asked.{given_by}
 use Rattle.papaya_moments.specs.Given.Late.Kinds.{IsLookup}
 use Rattle.papaya_moments.specs.Whole.{ShowsWhole}
 use Rattle.papaya_moments.specs.Given.Others.Walks.{given_up}
+use Rattle.papaya_moments.specs.Given.Scenes.Held.{Held, IsAt}
+use Rattle.papaya_moments.specs.Given.Scenes.Replying.{AskLeads, StopLeads, scene_with, unless_stopped}
+use Rattle.papaya_moments.specs.Given.Scenes.Scene.{Scene, at_first}
+use Rattle.papaya_moments.specs.Given.Scenes.Stepping.{StepLeads, scene_after}
 
 -- The machine is a lookup, or sums up the counter.
 abbrev pub IsLooking : {K V Q : Type 0} → Machine K V Q → Type 0
@@ -53,16 +53,16 @@ module _ {K V : Type 0} where
   abbrev pub FindAtWork : List ℕ → ℕ → List Effect → Moment K V → Type 0
   FindAtWork own map effects m = AtEachEffect (λ v f. ByCall (λ (c : CallThere K V). only_looks c.call ≡ false) (acting (Some own) v)) (Some own) (Some map) effects m
 
-module _ (K V S : Type 0) (same : K → K → Bool) (hash : K → ℕ) where
+module _ (K V : Type 0) (same : K → K → Bool) (hash : ℕ → K → ℕ) where
   -- The promises: a step of a call has effects only if the call does more than look; and after it, whoever takes it, those that only look are as they must be.
   abbrev pub CallsKeepLooking : Type 0
   CallsKeepLooking =
-      (name : ℕ → List ℕ) (m : Moment K V) (known : Known) (s : Scene K V) (old new : Executor K V S) → IsAt same hash old s → ShowsWhole same name m known s → ShowsLooking name m s
+      (name : ℕ → List ℕ) (m : Moment K V) (known : Known) (s : Scene K V) (old new : Held K V) → IsAt same hash old s → ShowsWhole same name m known s → ShowsLooking name m s
       → (map i : ℕ) (u : UnderWay K V K) (here : s.calls map i ≡ Some u) (said : Progress (Node K V)) (leads : StepLeads same hash i said s old new)
       → (let to = leads map u here in
-      let effects = effects_of (acts.Call i map) known new.memory.changed in
+      let effects = effects_of (acts.Call i map) known new.changed in
       FindAtWork (name i) map effects m
-      × ShowsLooking name (with_effects (Some (name i)) (Some map) effects m) (scene_after same hash s old new map i to.0 u to.1 said to.4))
+      × ShowsLooking name (with_effects (Some (name i)) (Some map) effects m) (scene_after same s old new map i to.0 u to.1 said to.4))
 
 module _ (K V : Type 0) where
   -- So it is of the effects of an event of several steps,
@@ -105,17 +105,17 @@ module _ (K V : Type 0) where
       (same : K → K → Bool) (name : ℕ → List ℕ) (m : Moment K V) (known : Known) (s : Scene K V) → ShowsWhole same name m known s → ShowsLooking name m s
       → (own : List ℕ) (outcome : Outcome V) (steps : ℕ) → (ends_call outcome ≡ true → NoneNamed name own s) → ShowsLooking name (come_to own outcome steps m) s
 
-module _ (K V S : Type 0) (same : K → K → Bool) (hash : K → ℕ) where
+module _ (K V : Type 0) (same : K → K → Bool) (hash : ℕ → K → ℕ) where
   -- So it is where a walk goes on to its next pair,
   abbrev pub WalksGoOnLooking : Type 0
   WalksGoOnLooking =
-      (name : ℕ → List ℕ) (m : Moment K V) (s : Scene K V) (old new : Executor K V S) → ShowsLooking name m s
+      (name : ℕ → List ℕ) (m : Moment K V) (s : Scene K V) (old new : Held K V) → ShowsLooking name m s
       → (i : ℕ) (leads : AskLeads same hash i true s old new) (map : ℕ) (u : UnderWay K V K) (here : s.calls map i ≡ Some u) → ShowsLooking name m (scene_with map i (leads map u here).0 s)
 
   -- and where one is given up.
   abbrev pub WalksStopLooking : Type 0
   WalksStopLooking =
-      (name : ℕ → List ℕ) (m : Moment K V) (known : Known) (s : Scene K V) (old new : Executor K V S) → ShowsWhole same name m known s → ShowsLooking name m s
+      (name : ℕ → List ℕ) (m : Moment K V) (known : Known) (s : Scene K V) (old new : Held K V) → ShowsWhole same name m known s → ShowsLooking name m s
       → (i : ℕ) (stopped : Bool) → StopLeads same hash i stopped s old new → (map : ℕ) (u : UnderWay K V K) → s.calls map i ≡ Some u
       → (let after = record s { calls = with_in s.calls map i (unless_stopped stopped u) } in
       (stopped ≡ true → NoneNamed name (name i) after) → ShowsLooking name (given_up (name i) stopped m) after)

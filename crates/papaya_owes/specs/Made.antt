@@ -8,9 +8,9 @@ use Rattle.papaya_moments.specs.Given.Schedules.Views.{call_of}
 use Rattle.papaya_moments.specs.Given.Callers.Together.{UnderWay}
 use Rattle.papaya_moments.specs.Given.Effects.Known.{Known}
 use Rattle.papaya_moments.specs.Given.Effects.declared.role.Role.TheVariants as role
-use Rattle.papaya_moments.specs.Given.Executor.IsAt.{Scene}
 use Rattle.papaya_moments.specs.Given.Finishes.Machines.{machine_of}
 use Rattle.papaya_holds.specs.Came.{Owns}
+use Rattle.papaya_moments.specs.Given.Scenes.Scene.{Scene}
 
 -- the word of the block that a machine has made for a pair: only a call on one key has one, and 0 is none
 abbrev pub own_word : {K V : Type 0} → Machine K V K → ℕ

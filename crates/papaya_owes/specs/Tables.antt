@@ -27,16 +27,16 @@ use Rattle.papaya_moments.specs.Given.Effects.Effects.{effects_of, known_after}
 use Rattle.papaya_moments.specs.Given.Effects.Known.{Known}
 use Rattle.papaya_moments.specs.Given.Effects.declared.acting.Acting.TheVariants as acts
 use Rattle.papaya_moments.specs.Given.Effects.declared.role.Role.TheVariants as role
-use Rattle.papaya_moments.specs.Given.Executor.IsAt.{Scene, IsAt}
-use Rattle.papaya_moments.specs.Given.Executor.Replying.{scene_with}
-use Rattle.papaya_moments.specs.Given.Executor.Stepping.{StepLeads, scene_after}
-use Rattle.papaya_moments.specs.Given.Executor.declared.executor.Executor.{Executor}
 use Rattle.papaya_moments.specs.Given.Finishes.Machines.{machine_of}
 use Rattle.papaya_moments.specs.Given.Finishes.Makings.{Beginning}
 use Rattle.papaya_moments.specs.Given.Follows.Calling.{NoneNamed, told, come_to}
 use Rattle.papaya_moments.specs.Given.Follows.Shows.{Shows}
 use Rattle.papaya_moments.specs.Whole.{ShowsWhole}
 use Rattle.papaya_owes.specs.Making.{making_of, making_in_opening}
+use Rattle.papaya_moments.specs.Given.Scenes.Held.{Held, IsAt}
+use Rattle.papaya_moments.specs.Given.Scenes.Replying.{scene_with}
+use Rattle.papaya_moments.specs.Given.Scenes.Scene.{Scene}
+use Rattle.papaya_moments.specs.Given.Scenes.Stepping.{StepLeads, scene_after}
 
 -- the table that a making has made, and has neither linked nor given up
 abbrev pub table_in : Making → Option Planned
@@ -82,31 +82,31 @@ module _ {K V : Type 0} where
   abbrev pub FindTables : List ℕ → ℕ → List Effect → Moment K V → Type 0
   FindTables own map effects m = AtEachEffect (λ v f. ByCall (FindsTable v f) (acting (Some own) v)) (Some own) (Some map) effects m
 
-module _ (K V S : Type 0) (same : K → K → Bool) (hash : K → ℕ) where
+module _ (K V : Type 0) (same : K → K → Bool) (hash : ℕ → K → ℕ) where
   -- The promise: the effects of a step of a call find the call's table as they must, it is so after the step, whoever takes it, and a call that has ended by it has none.
   abbrev pub CallsKeepTables : Type 0
   CallsKeepTables =
-      (name : ℕ → List ℕ) (m : Moment K V) (known : Known) (s : Scene K V) (old new : Executor K V S) → IsAt same hash old s → ShowsWhole same name m known s → ShowsTables name m known s
+      (name : ℕ → List ℕ) (m : Moment K V) (known : Known) (s : Scene K V) (old new : Held K V) → IsAt same hash old s → ShowsWhole same name m known s → ShowsTables name m known s
       → (map i : ℕ) (u : UnderWay K V K) (here : s.calls map i ≡ Some u) (said : Progress (Node K V)) (leads : StepLeads same hash i said s old new)
       → (let to = leads map u here in
-      let effects = effects_of (acts.Call i map) known new.memory.changed in
+      let effects = effects_of (acts.Call i map) known new.changed in
       let v = with_effects (Some (name i)) (Some map) effects m in
       FindTables (name i) map effects m
-      × ShowsTables name v (known_after (acts.Call i map) new.memory.changed known) (scene_after same hash s old new map i to.0 u to.1 said to.4)
+      × ShowsTables name v (known_after (acts.Call i map) new.changed known) (scene_after same s old new map i to.0 u to.1 said to.4)
       × (to.4.next ≡ None → (c : CallThere K V) → call_of (name i) v ≡ Some c → c.table ≡ None))
 
-module _ (K V S : Type 0) (same : K → K → Bool) (hash : K → ℕ) where
-  -- So it is where a call begins by a name that no call under way has: the executor is there before it and after it, and the moment shows both,
+module _ (K V : Type 0) (same : K → K → Bool) (hash : ℕ → K → ℕ) where
+  -- So it is where a call begins by a name that no call under way has: what is held has such a scene before it and after it, and the moment shows both,
   abbrev pub CallsBeginTables : Type 0
   CallsBeginTables =
-      (name : ℕ → List ℕ) (m : Moment K V) (known : Known) (s : Scene K V) (old new : Executor K V S) → IsAt same hash old s → ShowsWhole same name m known s → ShowsTables name m known s
+      (name : ℕ → List ℕ) (m : Moment K V) (known : Known) (s : Scene K V) (old new : Held K V) → IsAt same hash old s → ShowsWhole same name m known s → ShowsTables name m known s
       → (map i : ℕ) (u : UnderWay K V K) (call : Call K V) (guard : List ℕ) → NoneNamed name (name i) s → IsAt same hash new (scene_with map i u s)
       → Shows same name (with_call (name i) guard call (Some map) m) known (scene_with map i u s) → ShowsTables name (with_call (name i) guard call (Some map) m) known (scene_with map i u s)
 
   -- where one that asks goes on by what it is told,
   abbrev pub CallsTakeTables : Type 0
   CallsTakeTables =
-      (name : ℕ → List ℕ) (m : Moment K V) (known : Known) (s : Scene K V) (old new : Executor K V S) → IsAt same hash old s → ShowsWhole same name m known s → ShowsTables name m known s
+      (name : ℕ → List ℕ) (m : Moment K V) (known : Known) (s : Scene K V) (old new : Held K V) → IsAt same hash old s → ShowsWhole same name m known s → ShowsTables name m known s
       → (map i : ℕ) (u : UnderWay K V K) → s.calls map i ≡ Some u → (reply : MachineReply V) (next : UnderWay K V K) → machine_of next ≡ (machine_replied (machine_of u) reply).0
       → (is_told : Reply V) → IsAt same hash new (scene_with map i next s) → Shows same name (told (name i) is_told m) known (scene_with map i next s)
       → ShowsTables name (told (name i) is_told m) known (scene_with map i next s)
@@ -118,7 +118,7 @@ CallsComeToTables K V =
     → (own : List ℕ) (outcome : Outcome V) (steps : ℕ) → (ends_call outcome ≡ true → NoneNamed name own s) → ShowsTables name (come_to own outcome steps m) known s
 
 -- So each block that is noted as a table of somebody's own is in the hands of the one who makes it.
-abbrev pub TablesAreMade : (K V S : Type 0) (same : K → K → Bool) (hash : K → ℕ) → Type 0
-TablesAreMade K V S same hash =
-    (name : ℕ → List ℕ) (m : Moment K V) (known : Known) (s : Scene K V) (e : Executor K V S) → IsAt same hash e s → Shows same name m known s → ShowsTables name m known s
+abbrev pub TablesAreMade : (K V : Type 0) (same : K → K → Bool) (hash : ℕ → K → ℕ) → Type 0
+TablesAreMade K V same hash =
+    (name : ℕ → List ℕ) (m : Moment K V) (known : Known) (s : Scene K V) (e : Held K V) → IsAt same hash e s → Shows same name m known s → ShowsTables name m known s
     → (b turn : ℕ) (shape : TableShape) → known.roles b ≡ role.OwnTable turn shape → (j : ℕ) × (s.world.hand b ≡ IsMaking j)

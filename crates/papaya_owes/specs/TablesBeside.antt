@@ -13,15 +13,8 @@ use Rattle.papaya_moments.specs.Given.Callers.Together.{UnderWay}
 use Rattle.papaya_moments.specs.Given.Effects.Effects.{effects_of, known_after}
 use Rattle.papaya_moments.specs.Given.Effects.Known.{Known, nothing_known}
 use Rattle.papaya_moments.specs.Given.Effects.declared.acting.Acting.TheVariants as acts
-use Rattle.papaya_moments.specs.Given.Executor.Ending.{EndingLeads}
-use Rattle.papaya_moments.specs.Given.Executor.IsAt.{Scene, IsAt, at_first, work_of}
-use Rattle.papaya_moments.specs.Given.Executor.Making.{MakingLeads}
-use Rattle.papaya_moments.specs.Given.Executor.OnSlots.{RowLeads}
-use Rattle.papaya_moments.specs.Given.Executor.Replying.{AskLeads, StopLeads, scene_with, unless_stopped}
-use Rattle.papaya_moments.specs.Given.Executor.declared.executor.Executor.{Executor}
-use Rattle.papaya_moments.specs.Given.Executor.declared.row.RowTold.{RowTold}
-use Rattle.papaya_moments.specs.Given.Executor.declared.row.SlotRow.{SlotRow}
-use Rattle.papaya_moments.specs.Given.Executor.declared.worker.Work.TheVariants.{OnSlot}
+use Rattle.papaya_moments.specs.Given.Scenes.declared.row.RowTold.{RowTold}
+use Rattle.papaya_moments.specs.Given.Scenes.declared.row.SlotRow.{SlotRow}
 use Rattle.papaya_moments.specs.Given.Finishes.Endings.{Finishing}
 use Rattle.papaya_moments.specs.Given.Finishes.Makings.{Beginning}
 use Rattle.papaya_moments.specs.Given.Finishes.Maps.{with_call}
@@ -33,19 +26,25 @@ use Rattle.papaya_moments.specs.Given.Others.Makings.{making_after}
 use Rattle.papaya_moments.specs.Given.Others.Rows.{scene_then}
 use Rattle.papaya_moments.specs.Given.Others.Walks.{given_up}
 use Rattle.papaya_owes.specs.Tables.{ShowsTables}
+use Rattle.papaya_moments.specs.Given.Scenes.Ending.{EndingLeads}
+use Rattle.papaya_moments.specs.Given.Scenes.Held.{Held, IsAt}
+use Rattle.papaya_moments.specs.Given.Scenes.Making.{MakingLeads}
+use Rattle.papaya_moments.specs.Given.Scenes.OnSlots.{RowLeads}
+use Rattle.papaya_moments.specs.Given.Scenes.Replying.{AskLeads, StopLeads, scene_with, unless_stopped}
+use Rattle.papaya_moments.specs.Given.Scenes.Scene.{IsOnSlot, Scene, at_first}
 
-module _ (K V S : Type 0) (same : K → K → Bool) (hash : K → ℕ) where
+module _ (K V : Type 0) (same : K → K → Bool) (hash : ℕ → K → ℕ) where
   -- Where a walk goes on to its next pair, each has the table that it had,
   abbrev pub WalksGoOnTables : Type 0
   WalksGoOnTables =
-      (name : ℕ → List ℕ) (m : Moment K V) (known : Known) (s : Scene K V) (old new : Executor K V S) → ShowsWhole same name m known s → ShowsTables name m known s
+      (name : ℕ → List ℕ) (m : Moment K V) (known : Known) (s : Scene K V) (old new : Held K V) → ShowsWhole same name m known s → ShowsTables name m known s
       → (i : ℕ) (leads : AskLeads same hash i true s old new) (map : ℕ) (u : UnderWay K V K) (here : s.calls map i ≡ Some u)
       → ShowsTables name m known (scene_with map i (leads map u here).0 s)
 
   -- and so it is where one is given up.
   abbrev pub WalksStopTables : Type 0
   WalksStopTables =
-      (name : ℕ → List ℕ) (m : Moment K V) (known : Known) (s : Scene K V) (old new : Executor K V S) → ShowsWhole same name m known s → ShowsTables name m known s
+      (name : ℕ → List ℕ) (m : Moment K V) (known : Known) (s : Scene K V) (old new : Held K V) → ShowsWhole same name m known s → ShowsTables name m known s
       → (i : ℕ) (stopped : Bool) → StopLeads same hash i stopped s old new → (map : ℕ) (u : UnderWay K V K) → s.calls map i ≡ Some u
       → (let after = record s { calls = with_call s.calls map i (unless_stopped stopped u) } in
       (stopped ≡ true → NoneNamed name (name i) after) → ShowsTables name (given_up (name i) stopped m) known after)
@@ -71,31 +70,31 @@ MakingsBeginTables K V =
     (name : ℕ → List ℕ) (m : Moment K V) (known : Known) (s : Scene K V) → ShowsTables name m known s
     → (i : ℕ) (b : Beginning K) → s.makers i ≡ None → ShowsTables name m known (record s { makers = with_at s.makers i (Some b) })
 
-module _ (K V S : Type 0) (same : K → K → Bool) (hash : K → ℕ) where
+module _ (K V : Type 0) (same : K → K → Bool) (hash : ℕ → K → ℕ) where
   -- A step of a row on a slot takes no such table.
   abbrev pub RowsKeepTables : Type 0
   RowsKeepTables =
-      (name : ℕ → List ℕ) (m : Moment K V) (known : Known) (s : Scene K V) (old new : Executor K V S) → IsAt same hash old s → Shows same name m known s → ShowsTables name m known s
-      → (i : ℕ) (told : RowTold (Node K V)) (leads : RowLeads same hash i told s old new) (row : SlotRow) (here : work_of old i ≡ Some (OnSlot row))
-      → ShowsTables name (with_effects None None (effects_of acts.Row known new.memory.changed) m) (known_after acts.Row new.memory.changed known) (scene_then same hash (Step i) s old new (leads row here).4)
+      (name : ℕ → List ℕ) (m : Moment K V) (known : Known) (s : Scene K V) (old new : Held K V) → IsAt same hash old s → Shows same name m known s → ShowsTables name m known s
+      → (i : ℕ) (told : RowTold (Node K V)) (leads : RowLeads same hash i told s old new) (row : SlotRow) (here : IsOnSlot s i row)
+      → ShowsTables name (with_effects None None (effects_of acts.Row known new.changed) m) (known_after acts.Row new.changed known) (scene_then same hash (Step i) s old new (leads row here).2)
 
   -- A step of the making of a map makes a first table of that map, if any; where the moment after it shows the scene, each such table is somebody's still.
   abbrev pub MakingsKeepTables : Type 0
   MakingsKeepTables =
-      (name : ℕ → List ℕ) (m : Moment K V) (known : Known) (s : Scene K V) (old new : Executor K V S) → IsAt same hash old s → Shows same name m known s → ShowsTables name m known s
+      (name : ℕ → List ℕ) (m : Moment K V) (known : Known) (s : Scene K V) (old new : Held K V) → IsAt same hash old s → Shows same name m known s → ShowsTables name m known s
       → (i : ℕ) (told : Progress Setting) (leads : MakingLeads same hash i told s old new) (b : Beginning K) (here : s.makers i ≡ Some b) (of : Option ℕ)
       → (let to = leads b here in
-      let effects = effects_of (acts.Making b.map) known new.memory.changed in
+      let effects = effects_of (acts.Making b.map) known new.changed in
       let v = with_effects None of effects m in
-      let after = known_after (acts.Making b.map) new.memory.changed known in
+      let after = known_after (acts.Making b.map) new.changed known in
       let led = making_after same hash s old new i b to.0 to.2.step.w2 told to.3 in
       Shows same name v after led → MakesFirst b.map effects × ShowsTables name v after led)
 
   -- A step of the end of a map takes no such table.
   abbrev pub EndingsKeepTables : Type 0
   EndingsKeepTables =
-      (name : ℕ → List ℕ) (m : Moment K V) (known : Known) (s : Scene K V) (old new : Executor K V S) → IsAt same hash old s → Shows same name m known s → ShowsTables name m known s
+      (name : ℕ → List ℕ) (m : Moment K V) (known : Known) (s : Scene K V) (old new : Held K V) → IsAt same hash old s → Shows same name m known s → ShowsTables name m known s
       → (i : ℕ) (told : Settled (Node K V)) (leads : EndingLeads same hash i told s old new) (f : Finishing K V) (here : s.enders i ≡ Some f) (map : ℕ) → s.maps map ≡ None
       → (let to = leads f here in
-      ShowsTables name (with_effects None (Some map) (effects_of (acts.Ending map) known new.memory.changed) m) (known_after (acts.Ending map) new.memory.changed known)
+      ShowsTables name (with_effects None (Some map) (effects_of (acts.Ending map) known new.changed) m) (known_after (acts.Ending map) new.changed known)
       (ending_after same hash s new i f to.0 to.2.w2 to.2.deed told to.3))

@@ -19,10 +19,8 @@ use Rattle.papaya_histories.specs.Given.Schedules.declared.outcome.Outcome.TheVa
 use Rattle.papaya_histories.specs.Given.Schedules.After.{there_on, unsheltered, sheltered_on}
 use Rattle.papaya_histories.specs.Given.Schedules.Moment.{Sheltered}
 use Rattle.papaya_histories.specs.Given.Effects.Known.{Known}
-use Rattle.papaya_histories.specs.Given.Executor.IsAt.{IsUsedAs}
-use Rattle.papaya_histories.specs.Given.Executor.declared.row.SlotUse.{SlotUse}
 use Rattle.papaya_histories.proofs.Given.Follows.Steps.{one_of}
-use Rattle.papaya_promises.specs.Guards.{EntersInside, GuardsComeAndGo, OthersStayInside, OneIsInsideAgain, UsedSlotsAreInside, OnlyGuardsLeaveNobody}
+use Rattle.papaya_promises.specs.Guards.{EntersInside, GuardsComeAndGo, OthersStayInside, OneIsInsideAgain, OnlyGuardsLeaveNobody}
 use Rattle.papaya_promises.specs.Sheltered.{GuardsAreInside, IsSheltered, AreSheltered}
 use Rattle.papaya_promises.proofs.Lists.{all_of}
 
@@ -216,10 +214,6 @@ only_guards_leave_nobody there names guard g is one =
     let counts = (drops_counts guard there.guards).1 g is (names.guards guard) g.slot in
     let counted : ◌≡◌ {A = ℕ} (cond (g.slot == g.slot) 1 0) 1 = ap (λ (q : Bool). cond q 1 0) (eq-eqb g.slot g.slot refl) in
     free_has_nobody g.slot (drops guard there).guards (omega (arith, counts, counted, one))
-
-module _ (K V S : Type 0) (same : K → K → Bool) (hash : K → ℕ) where
-  pub used_slots_are_inside : UsedSlotsAreInside K V S same hash
-  used_slots_are_inside s e at slot is = (let it = subst (λ (u : SlotUse). IsUsedAs u (s.world.uses slot)) is (at.uses slot) in subst IsInside (sym it.1) tt)
 
 module _ (K V : Type 0) where
   pub guards_come_and_go : GuardsComeAndGo K V

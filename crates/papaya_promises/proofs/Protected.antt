@@ -295,33 +295,33 @@ module _ (K V : Type 0) where
             (subst (EntersInside w e.event e.outcome) (sym there) so),
       )
 
-module _ (K V S : Type 0) (same : K → K → Bool) (hash : K → ℕ) where
-  pub calls_protect : CallsProtect K V S same hash
+module _ (K V : Type 0) (same : K → K → Bool) (hash : ℕ → K → ℕ) where
+  pub calls_protect : CallsProtect K V same hash
   calls_protect name m known s old new at whole map i u here told leads event out done midst =
       let sections = hold event done m known s.world midst out in
-      goes_on event done m known s.world midst out _ _ _ _ (same_there (Some (name i)) (Some map) (effects_of (acts.Call i map) known new.memory.changed) m)
-      (calls_shelter K V S same hash name m known s old new at whole map i u here told leads sections.0 sections.1)
+      goes_on event done m known s.world midst out _ _ _ _ (same_there (Some (name i)) (Some map) (effects_of (acts.Call i map) known new.changed) m)
+      (calls_shelter K V same hash name m known s old new at whole map i u here told leads sections.0 sections.1)
 
-  pub makings_protect : MakingsProtect K V S same hash
+  pub makings_protect : MakingsProtect K V same hash
   makings_protect name m known s old new at whole i told leads b here of new_for event out done midst =
-      goes_on event done m known s.world midst out _ _ _ _ (same_there None of (effects_of (acts.Making b.map) known new.memory.changed) m)
-      (makings_shelter K V S same hash name m known s old new at whole i told leads b here of new_for (hold event done m known s.world midst out))
+      goes_on event done m known s.world midst out _ _ _ _ (same_there None of (effects_of (acts.Making b.map) known new.changed) m)
+      (makings_shelter K V same hash name m known s old new at whole i told leads b here of new_for (hold event done m known s.world midst out))
 
-  pub endings_protect : EndingsProtect K V S same hash
+  pub endings_protect : EndingsProtect K V same hash
   endings_protect name m known s old new at whole i told leads f here map not_there event out done midst =
-      goes_on event done m known s.world midst out _ _ _ _ (same_there None (Some map) (effects_of (acts.Ending map) known new.memory.changed) m)
-      (endings_shelter K V S same hash name m known s old new at whole i told leads f here map not_there (hold event done m known s.world midst out))
+      goes_on event done m known s.world midst out _ _ _ _ (same_there None (Some map) (effects_of (acts.Ending map) known new.changed) m)
+      (endings_shelter K V same hash name m known s old new at whole i told leads f here map not_there (hold event done m known s.world midst out))
 
-  pub rows_begin_protect : RowsBeginProtect K V S same hash
-  rows_begin_protect m known s old new called i may leads event spares done midst =
-      let it = rows_begin_shelter K V S same hash s old new called i may leads (there_in event m.there) spares midst.inside known (sheltered_on event Done m.sheltered) midst.sheltered in
+  pub rows_begin_protect : RowsBeginProtect K V same hash
+  rows_begin_protect m known s old new called i leads event spares done midst =
+      let it = rows_begin_shelter K V same hash s old new called i leads (there_in event m.there) spares midst.inside known (sheltered_on event Done m.sheltered) midst.sheltered in
       record { inside = it.0; sheltered = it.1; spared = midst.spared }
 
-  pub rows_protect : RowsProtect K V S same hash
+  pub rows_protect : RowsProtect K V same hash
   rows_protect name m known s old new at whole i told leads row here event on done midst =
       let to = leads row here in
-      let it = rows_shelter K V S same hash name m known s old new at whole i told leads row here (there_in event m.there) (sheltered_on event Done m.sheltered) midst.sheltered in
-      let effects = effects_of acts.Row known new.memory.changed in
-      let tells = row_tells old.memory.memory new.memory.memory new.memory.changed (to.0, told) row to.1 in
+      let it = rows_shelter K V same hash name m known s old new at whole i told leads row here (there_in event m.there) (sheltered_on event Done m.sheltered) midst.sheltered in
+      let effects = effects_of acts.Row known new.changed in
+      let tells = row_tells old.memory new.memory new.changed (to.0, told) row to.1 in
       rows_go_on event done m known s.world midst on effects (with_effects None None effects m) _ _ (same_there None None effects m)
-      (keep_all None None effects m (row_keeps_in known new.memory.changed tells)) (it.0 midst.inside) it.1 it.2
+      (keep_all None None effects m (row_keeps_in known new.changed tells)) (it.0 midst.inside) it.1 it.2

@@ -14,14 +14,14 @@ use Rattle.papaya_histories.specs.Given.Schedules.Lists.{put}
 use Rattle.papaya_histories.specs.Given.Schedules.Moment.{Sheltered, Moment, start}
 use Rattle.papaya_histories.specs.Given.Effects.Known.{Known}
 use Rattle.papaya_histories.specs.Given.Effects.declared.role.Role.TheVariants as role
-use Rattle.papaya_histories.specs.Given.Executor.IsAt.{at_first}
-use Rattle.papaya_histories.specs.Given.Executor.declared.row.SlotCall.TheVariants as call
+use Rattle.papaya_histories.specs.Given.Scenes.declared.row.SlotCall.TheVariants as call
 use Rattle.papaya_histories.proofs.Given.Follows.Alike.{put_elsewhere}
 use Rattle.papaya_promises.specs.Others.{SparesGuards}
 use Rattle.papaya_promises.specs.Protected.{InMidst}
 use Rattle.papaya_promises.specs.Sheltered.{GuardsAreInside, IsSheltered}
 use Rattle.papaya_promises.specs.Shelters.{NoneIsBack}
 use Rattle.papaya_promises.proofs.Guards.{no_guard}
+use Rattle.papaya_histories.specs.Given.Scenes.Scene.{at_first}
 
 -- a guard on slot 0, and the first pair, in block 5, which left its map while that was there
 

@@ -1,5 +1,5 @@
 -- What is promised of guards that come and go: those that are there are within sections, and these shelter what they do.
-use Rattle.std.specs.Prelude.{◌≡◌, ℕ, Bool, List, Some}
+use Rattle.std.specs.Prelude.{◌≡◌, ℕ, List, Some}
 use Rattle.papaya_histories.specs.Given.Seize.World.{World, IsInside}
 use Rattle.papaya_histories.specs.Given.Tables.declared.node.Node.{Node}
 use Rattle.papaya_histories.specs.Given.Runs.Present.{Present, HaveNames, guard_of, guards_on, slot_of_registration, drops}
@@ -11,11 +11,9 @@ use Rattle.papaya_histories.specs.Given.Schedules.declared.outcome.Outcome.TheVa
 use Rattle.papaya_histories.specs.Given.Schedules.After.{there_on, unsheltered, sheltered_on}
 use Rattle.papaya_histories.specs.Given.Schedules.Moment.{Sheltered, start}
 use Rattle.papaya_histories.specs.Given.Effects.Known.{Known, nothing_known}
-use Rattle.papaya_histories.specs.Given.Executor.IsAt.{Scene, IsAt, at_first, use_at}
-use Rattle.papaya_histories.specs.Given.Executor.declared.executor.Executor.{Executor}
-use Rattle.papaya_histories.specs.Given.Executor.declared.row.SlotUse.TheVariants as used
 use Rattle.papaya_promises.specs.Others.{NobodyOn}
 use Rattle.papaya_promises.specs.Sheltered.{GuardsAreInside, AreSheltered, SectionsHold}
+use Rattle.papaya_histories.specs.Given.Scenes.Scene.{at_first}
 
 module _ {K V : Type 0} (w : World (Node K V)) where
   -- a guard that enters has a slot that is within a section
@@ -49,11 +47,6 @@ module _ (K V : Type 0) where
       → (g : Guard) → guard_of guard there.guards ≡ Some g → IsInside (w.uses g.slot)
       → GuardsAreInside (drops guard there) w → AreSheltered (drops guard there) w known sheltered
       → GuardsAreInside there w × AreSheltered there w known sheltered
-
--- A slot is within a section that the executor has so.
-abbrev pub UsedSlotsAreInside : (K V S : Type 0) → (K → K → Bool) → (K → ℕ) → Type 0
-UsedSlotsAreInside K V S same hash =
-    (s : Scene K V) (e : Executor K V S) → IsAt same hash e s → (slot : ℕ) → use_at e slot ≡ used.Inside → IsInside (s.world.uses slot)
 
 -- The slot of the only guard on it has nobody without that one.
 abbrev pub OnlyGuardsLeaveNobody : Type 0

@@ -19,17 +19,17 @@ use Rattle.papaya_histories.specs.Given.Effects.Effects.{effects_of}
 use Rattle.papaya_histories.specs.Given.Effects.Known.{Known}
 use Rattle.papaya_histories.specs.Given.Effects.declared.acting.Acting.TheVariants as acts
 use Rattle.papaya_histories.specs.Given.Seize.World.{Event as WorldEvent}
-use Rattle.papaya_histories.specs.Given.Executor.OnSlots.{HappensAt}
 use Rattle.papaya_histories.specs.Given.Finishes.Maps.{Standing}
 use Rattle.papaya_histories.specs.Given.Others.Rows.{scene_then}
 use Rattle.papaya_histories.specs.Given.Schedules.declared.effect.Effect.{Effect}
-use Rattle.papaya_histories.specs.Given.Executor.IsAt.{Scene, IsAt, at_first}
-use Rattle.papaya_histories.specs.Given.Executor.Replying.{scene_with}
-use Rattle.papaya_histories.specs.Given.Executor.Stepping.{StepLeads, scene_after}
-use Rattle.papaya_histories.specs.Given.Executor.declared.executor.Executor.{Executor}
 use Rattle.papaya_histories.specs.Given.Follows.Calling.{NoneNamed, told, come_to}
 use Rattle.papaya_histories.specs.Given.Moments.Whole.{ShowsWhole}
 use Rattle.papaya_promises.specs.Reading.{looks, HasStood, ShowsReading}
+use Rattle.papaya_histories.specs.Given.Scenes.Held.{Held, IsAt}
+use Rattle.papaya_histories.specs.Given.Scenes.OnSlots.{HappensAt}
+use Rattle.papaya_histories.specs.Given.Scenes.Replying.{scene_with}
+use Rattle.papaya_histories.specs.Given.Scenes.Scene.{Scene, at_first}
+use Rattle.papaya_histories.specs.Given.Scenes.Stepping.{StepLeads, scene_after}
 
 module _ (K V : Type 0) (same : K → K → Bool) where
   -- The promises: so it is where a call has come to an outcome by the steps that it has made, if it is a lookup, and no other one has made some,
@@ -65,22 +65,22 @@ CallsTakeReadings K V =
     → (map i : ℕ) (c : CallThere K V) → call_of (name i) m ≡ Some c → looks c.call ≡ false → (is_told : Reply V) (next : UnderWay K V K)
     → ShowsReading name log made (told (name i) is_told m) (scene_with map i next s)
 
-module _ (K V S : Type 0) (same : K → K → Bool) (hash : K → ℕ) where
+module _ (K V : Type 0) (same : K → K → Bool) (hash : ℕ → K → ℕ) where
   -- So it is after a step of a call that is no lookup.
   abbrev pub OthersKeepReadings : Type 0
   OthersKeepReadings =
-      (name : ℕ → List ℕ) (log : List (Entry K V)) (made : ℕ → ℕ) (m : Moment K V) (known : Known) (s : Scene K V) (old new : Executor K V S) → IsAt same hash old s
+      (name : ℕ → List ℕ) (log : List (Entry K V)) (made : ℕ → ℕ) (m : Moment K V) (known : Known) (s : Scene K V) (old new : Held K V) → IsAt same hash old s
       → ShowsWhole same name m known s → ShowsReading name log made m s
       → (map i : ℕ) (u : UnderWay K V K) (here : s.calls map i ≡ Some u) (said : Progress (Node K V)) (leads : StepLeads same hash i said s old new)
       → (c : CallThere K V) → call_of (name i) m ≡ Some c → looks c.call ≡ false
       → (let to = leads map u here in
-      ShowsReading name log made (with_effects (Some (name i)) (Some map) (effects_of (acts.Call i map) known new.memory.changed) m)
-      (scene_after same hash s old new map i to.0 u to.1 said to.4))
+      ShowsReading name log made (with_effects (Some (name i)) (Some map) (effects_of (acts.Call i map) known new.changed) m)
+      (scene_after same s old new map i to.0 u to.1 said to.4))
 
   -- So it is where a row on a slot begins, or takes a step.
   abbrev pub RowsKeepReadings : Type 0
   RowsKeepReadings =
-      (name : ℕ → List ℕ) (log : List (Entry K V)) (made : ℕ → ℕ) (m : Moment K V) (s : Scene K V) (old new : Executor K V S) (event : WorldEvent (Node K V))
+      (name : ℕ → List ℕ) (log : List (Entry K V)) (made : ℕ → ℕ) (m : Moment K V) (s : Scene K V) (old new : Held K V) (event : WorldEvent (Node K V))
       (happened : HappensAt same hash event s old new) (effects : List Effect) → ShowsReading name log made m s
       → ShowsReading name log made (with_effects None None effects m) (scene_then same hash event s old new happened)
 

@@ -21,19 +21,19 @@ use Rattle.papaya_histories.specs.Given.Effects.Known.{Known}
 use Rattle.papaya_histories.specs.Given.Effects.declared.acting.Acting.TheVariants as acts
 use Rattle.papaya_histories.specs.Given.Finishes.Endings.{Finishing}
 use Rattle.papaya_histories.specs.Given.Finishes.Makings.{Beginning}
-use Rattle.papaya_histories.specs.Given.Executor.Ending.{EndingLeads}
-use Rattle.papaya_histories.specs.Given.Executor.IsAt.{Scene, IsAt, slot_of}
-use Rattle.papaya_histories.specs.Given.Executor.Making.{MakingLeads}
-use Rattle.papaya_histories.specs.Given.Executor.OnSlots.{MayBegin, RowBegins}
-use Rattle.papaya_histories.specs.Given.Executor.declared.executor.Executor.{Executor}
-use Rattle.papaya_histories.specs.Given.Executor.declared.row.SlotCall.{SlotCall}
-use Rattle.papaya_histories.specs.Given.Executor.declared.row.SlotCall.TheVariants as call
+use Rattle.papaya_histories.specs.Given.Scenes.declared.row.SlotCall.{SlotCall}
+use Rattle.papaya_histories.specs.Given.Scenes.declared.row.SlotCall.TheVariants as call
 use Rattle.papaya_histories.specs.Given.Follows.Calling.{told as told_so, come_to}
 use Rattle.papaya_histories.specs.Given.Others.Endings.{without_map}
 use Rattle.papaya_histories.specs.Given.Others.Makings.{WasNew}
 use Rattle.papaya_histories.specs.Given.Others.Walks.{given_up}
 use Rattle.papaya_histories.specs.Given.Moments.Whole.{ShowsWhole}
 use Rattle.papaya_promises.specs.Sheltered.{GuardsAreInside, AreSheltered, SectionsHold}
+use Rattle.papaya_histories.specs.Given.Scenes.Ending.{EndingLeads}
+use Rattle.papaya_histories.specs.Given.Scenes.Held.{Held, IsAt}
+use Rattle.papaya_histories.specs.Given.Scenes.Making.{MakingLeads}
+use Rattle.papaya_histories.specs.Given.Scenes.OnSlots.{RowBegins}
+use Rattle.papaya_histories.specs.Given.Scenes.Scene.{Scene, slot_of}
 
 -- no guard that is there is on this slot
 abbrev pub NobodyOn : ℕ → Present → Type 0
@@ -46,40 +46,40 @@ SparesGuards call.LeaveOwned slot there = NobodyOn slot there
 SparesGuards call.Refresh slot there = NobodyOn slot there
 SparesGuards _ slot there = Unit {0}
 
-module _ (K V S : Type 0) (same : K → K → Bool) (hash : K → ℕ) where
+module _ (K V : Type 0) (same : K → K → Bool) (hash : ℕ → K → ℕ) where
   -- The promises: a step of the making of a map leaves guards within their sections, and sheltered what is so; it reclaims nothing.
   abbrev pub MakingsShelter : Type 0
   MakingsShelter =
-      (name : ℕ → List ℕ) (m : Moment K V) (known : Known) (s : Scene K V) (old new : Executor K V S) → IsAt same hash old s
+      (name : ℕ → List ℕ) (m : Moment K V) (known : Known) (s : Scene K V) (old new : Held K V) → IsAt same hash old s
       → ShowsWhole same name m known s
       → (i : ℕ) (told : Progress Setting) (leads : MakingLeads same hash i told s old new) (b : Beginning K) (here : s.makers i ≡ Some b)
       → (of : Option ℕ) → WasNew b.map told m → SectionsHold m known s.world
       → (let to = leads b here in
-      let effects = effects_of (acts.Making b.map) known new.memory.changed in
+      let effects = effects_of (acts.Making b.map) known new.changed in
       GuardsAreInside m.there to.2.step.w2
-      × AreSheltered m.there to.2.step.w2 (known_after (acts.Making b.map) new.memory.changed known) (with_effects None of effects m).sheltered
+      × AreSheltered m.there to.2.step.w2 (known_after (acts.Making b.map) new.changed known) (with_effects None of effects m).sheltered
       × (flat_map thing_back effects ≡ []))
 
   -- So does one of the end of a map, which takes blocks away.
   abbrev pub EndingsShelter : Type 0
   EndingsShelter =
-      (name : ℕ → List ℕ) (m : Moment K V) (known : Known) (s : Scene K V) (old new : Executor K V S) → IsAt same hash old s
+      (name : ℕ → List ℕ) (m : Moment K V) (known : Known) (s : Scene K V) (old new : Held K V) → IsAt same hash old s
       → ShowsWhole same name m known s
       → (i : ℕ) (told : Settled (Node K V)) (leads : EndingLeads same hash i told s old new) (f : Finishing K V) (here : s.enders i ≡ Some f) (map : ℕ)
       → s.maps map ≡ None → SectionsHold m known s.world
       → (let to = leads f here in
-      let effects = effects_of (acts.Ending map) known new.memory.changed in
+      let effects = effects_of (acts.Ending map) known new.changed in
       GuardsAreInside m.there to.2.w2
-      × AreSheltered m.there to.2.w2 (known_after (acts.Ending map) new.memory.changed known) (with_effects None (Some map) effects m).sheltered
+      × AreSheltered m.there to.2.w2 (known_after (acts.Ending map) new.changed known) (with_effects None (Some map) effects m).sheltered
       × (flat_map thing_back effects ≡ []))
 
   -- Where a row begins on a slot, they do so, too, if it ends the section of none of them.
   abbrev pub RowsBeginShelter : Type 0
   RowsBeginShelter =
-      (s : Scene K V) (old new : Executor K V S) (called : SlotCall) (i : ℕ) (may : MayBegin old (slot_of i) called)
+      (s : Scene K V) (old new : Held K V) (called : SlotCall) (i : ℕ)
       → (leads : RowBegins same hash called i s old new) → (there : Present) → SparesGuards called (slot_of i) there → GuardsAreInside there s.world
       → (known : Known) (sheltered : List Sheltered) → AreSheltered there s.world known sheltered
-      → (let then = (leads may).3.0 in GuardsAreInside there then × AreSheltered there then known sheltered)
+      → (let then = leads.2.0 in GuardsAreInside there then × AreSheltered there then known sheltered)
 
 module _ {K V : Type 0} (m : Moment K V) (known : Known) (w : World (Node K V)) where
   -- They hold what they held where a call begins, is told a reply or comes to an outcome, and where one is given up;

@@ -26,16 +26,9 @@ use Rattle.papaya_histories.specs.Given.Effects.Known.{Known}
 use Rattle.papaya_histories.specs.Given.Effects.declared.acting.Acting.TheVariants as acts
 use Rattle.papaya_histories.specs.Given.Finishes.Endings.{Finishing}
 use Rattle.papaya_histories.specs.Given.Finishes.Makings.{Beginning}
-use Rattle.papaya_histories.specs.Given.Executor.Ending.{EndingLeads}
-use Rattle.papaya_histories.specs.Given.Executor.IsAt.{Scene, IsAt, slot_of, work_of}
-use Rattle.papaya_histories.specs.Given.Executor.Making.{MakingLeads}
-use Rattle.papaya_histories.specs.Given.Executor.OnSlots.{MayBegin, RowBegins, RowLeads}
-use Rattle.papaya_histories.specs.Given.Executor.Stepping.{StepLeads}
-use Rattle.papaya_histories.specs.Given.Executor.declared.executor.Executor.{Executor}
-use Rattle.papaya_histories.specs.Given.Executor.declared.row.RowTold.{RowTold}
-use Rattle.papaya_histories.specs.Given.Executor.declared.row.SlotCall.{SlotCall}
-use Rattle.papaya_histories.specs.Given.Executor.declared.row.SlotRow.{SlotRow}
-use Rattle.papaya_histories.specs.Given.Executor.declared.worker.Work.TheVariants.{OnSlot}
+use Rattle.papaya_histories.specs.Given.Scenes.declared.row.RowTold.{RowTold}
+use Rattle.papaya_histories.specs.Given.Scenes.declared.row.SlotCall.{SlotCall}
+use Rattle.papaya_histories.specs.Given.Scenes.declared.row.SlotRow.{SlotRow}
 use Rattle.papaya_histories.specs.Given.Others.Makings.{WasNew}
 use Rattle.papaya_histories.specs.Given.Others.Rows.{scene_then}
 use Rattle.papaya_histories.specs.Given.Moments.Whole.{ShowsWhole}
@@ -43,6 +36,12 @@ use Rattle.papaya_promises.specs.Guards.{EntersInside}
 use Rattle.papaya_promises.specs.Others.{SparesGuards}
 use Rattle.papaya_promises.specs.Sheltered.{GuardsAreInside, AreSheltered, SectionsHold}
 use Rattle.papaya_promises.specs.Shelters.{NoneIsBack}
+use Rattle.papaya_histories.specs.Given.Scenes.Ending.{EndingLeads}
+use Rattle.papaya_histories.specs.Given.Scenes.Held.{Held, IsAt}
+use Rattle.papaya_histories.specs.Given.Scenes.Making.{MakingLeads}
+use Rattle.papaya_histories.specs.Given.Scenes.OnSlots.{RowBegins, RowLeads}
+use Rattle.papaya_histories.specs.Given.Scenes.Scene.{IsOnSlot, Scene, slot_of}
+use Rattle.papaya_histories.specs.Given.Scenes.Stepping.{StepLeads}
 
 -- rows on slots are its work
 abbrev pub is_of_slots : {K V : Type 0} → Event K V → Bool
@@ -130,54 +129,54 @@ module _ (K V : Type 0) where
       (log : List (Entry K V)) (e : Entry K V) (known : Known) (w : World (Node K V)) → e.effects ≡ [] → SectionsHold (moment log) known w
       → EntersInside w e.event e.outcome (moment log).there → IsProtected log e × SectionsHold (after e (moment log)) known w
 
-module _ (K V S : Type 0) (same : K → K → Bool) (hash : K → ℕ) where
+module _ (K V : Type 0) (same : K → K → Bool) (hash : ℕ → K → ℕ) where
   -- It goes on so by a step of a call,
   abbrev pub CallsProtect : Type 0
   CallsProtect =
-      (name : ℕ → List ℕ) (m : Moment K V) (known : Known) (s : Scene K V) (old new : Executor K V S) → IsAt same hash old s
+      (name : ℕ → List ℕ) (m : Moment K V) (known : Known) (s : Scene K V) (old new : Held K V) → IsAt same hash old s
       → ShowsWhole same name m known s
       → (map i : ℕ) (u : UnderWay K V K) (here : s.calls map i ≡ Some u) (told : Progress (Node K V)) (leads : StepLeads same hash i told s old new)
       → (event : Event K V) → is_of_slots event ≡ false → (done : List Effect) → InMidst event done m known s.world
       → (let to = leads map u here in
-      let effects = effects_of (acts.Call i map) known new.memory.changed in
-      InMidst event (done ++ effects) (with_effects (Some (name i)) (Some map) effects m) (known_after (acts.Call i map) new.memory.changed known) to.4.w2)
+      let effects = effects_of (acts.Call i map) known new.changed in
+      InMidst event (done ++ effects) (with_effects (Some (name i)) (Some map) effects m) (known_after (acts.Call i map) new.changed known) to.4.w2)
 
   -- of a making,
   abbrev pub MakingsProtect : Type 0
   MakingsProtect =
-      (name : ℕ → List ℕ) (m : Moment K V) (known : Known) (s : Scene K V) (old new : Executor K V S) → IsAt same hash old s
+      (name : ℕ → List ℕ) (m : Moment K V) (known : Known) (s : Scene K V) (old new : Held K V) → IsAt same hash old s
       → ShowsWhole same name m known s
       → (i : ℕ) (told : Making Setting) (leads : MakingLeads same hash i told s old new) (b : Beginning K) (here : s.makers i ≡ Some b) (of : Option ℕ)
       → WasNew b.map told m → (event : Event K V) → is_of_slots event ≡ false → (done : List Effect) → InMidst event done m known s.world
       → (let to = leads b here in
-      let effects = effects_of (acts.Making b.map) known new.memory.changed in
-      InMidst event (done ++ effects) (with_effects None of effects m) (known_after (acts.Making b.map) new.memory.changed known) to.2.step.w2)
+      let effects = effects_of (acts.Making b.map) known new.changed in
+      InMidst event (done ++ effects) (with_effects None of effects m) (known_after (acts.Making b.map) new.changed known) to.2.step.w2)
 
   -- and of an end;
   abbrev pub EndingsProtect : Type 0
   EndingsProtect =
-      (name : ℕ → List ℕ) (m : Moment K V) (known : Known) (s : Scene K V) (old new : Executor K V S) → IsAt same hash old s
+      (name : ℕ → List ℕ) (m : Moment K V) (known : Known) (s : Scene K V) (old new : Held K V) → IsAt same hash old s
       → ShowsWhole same name m known s
       → (i : ℕ) (told : Settled (Node K V)) (leads : EndingLeads same hash i told s old new) (f : Finishing K V) (here : s.enders i ≡ Some f) (map : ℕ)
       → s.maps map ≡ None → (event : Event K V) → is_of_slots event ≡ false → (done : List Effect) → InMidst event done m known s.world
       → (let to = leads f here in
-      let effects = effects_of (acts.Ending map) known new.memory.changed in
-      InMidst event (done ++ effects) (with_effects None (Some map) effects m) (known_after (acts.Ending map) new.memory.changed known) to.2.w2)
+      let effects = effects_of (acts.Ending map) known new.changed in
+      InMidst event (done ++ effects) (with_effects None (Some map) effects m) (known_after (acts.Ending map) new.changed known) to.2.w2)
 
   -- where a row begins on a slot that has none of those guards, if it ends its section,
   abbrev pub RowsBeginProtect : Type 0
   RowsBeginProtect =
-      (m : Moment K V) (known : Known) (s : Scene K V) (old new : Executor K V S) (called : SlotCall) (i : ℕ) (may : MayBegin old (slot_of i) called)
+      (m : Moment K V) (known : Known) (s : Scene K V) (old new : Held K V) (called : SlotCall) (i : ℕ)
       → (leads : RowBegins same hash called i s old new) → (event : Event K V) → SparesGuards called (slot_of i) (there_in event m.there)
-      → (done : List Effect) → InMidst event done m known s.world → InMidst event done m known (leads may).3.0
+      → (done : List Effect) → InMidst event done m known s.world → InMidst event done m known leads.2.0
 
   -- and by a step of it.
   abbrev pub RowsProtect : Type 0
   RowsProtect =
-      (name : ℕ → List ℕ) (m : Moment K V) (known : Known) (s : Scene K V) (old new : Executor K V S) → IsAt same hash old s
+      (name : ℕ → List ℕ) (m : Moment K V) (known : Known) (s : Scene K V) (old new : Held K V) → IsAt same hash old s
       → ShowsWhole same name m known s
-      → (i : ℕ) (told : RowTold (Node K V)) (leads : RowLeads same hash i told s old new) (row : SlotRow) (here : work_of old i ≡ Some (OnSlot row))
+      → (i : ℕ) (told : RowTold (Node K V)) (leads : RowLeads same hash i told s old new) (row : SlotRow) (here : IsOnSlot s i row)
       → (event : Event K V) → is_of_slots event ≡ true → (done : List Effect) → InMidst event done m known s.world
-      → (let effects = effects_of acts.Row known new.memory.changed in
-      InMidst event (done ++ effects) (with_effects None None effects m) (known_after acts.Row new.memory.changed known)
-      (scene_then same hash (Step i) s old new (leads row here).4).world)
+      → (let effects = effects_of acts.Row known new.changed in
+      InMidst event (done ++ effects) (with_effects None None effects m) (known_after acts.Row new.changed known)
+      (scene_then same hash (Step i) s old new (leads row here).2).world)

@@ -19,11 +19,11 @@ use Rattle.papaya_histories.specs.Given.Finishes.Maps.{Standing}
 use Rattle.papaya_histories.specs.Given.Effects.Effects.{effects_of}
 use Rattle.papaya_histories.specs.Given.Effects.Known.{Known}
 use Rattle.papaya_histories.specs.Given.Effects.declared.acting.Acting.TheVariants as acts
-use Rattle.papaya_histories.specs.Given.Executor.IsAt.{Scene, IsAt}
-use Rattle.papaya_histories.specs.Given.Executor.Stepping.{StepLeads, scene_after}
-use Rattle.papaya_histories.specs.Given.Executor.declared.executor.Executor.{Executor}
 use Rattle.papaya_histories.specs.Given.Moments.Whole.{ShowsWhole}
 use Rattle.papaya_promises.specs.Brief.{TablesLast, ReadsSince}
+use Rattle.papaya_histories.specs.Given.Scenes.Held.{Held, IsAt}
+use Rattle.papaya_histories.specs.Given.Scenes.Scene.{Scene}
+use Rattle.papaya_histories.specs.Given.Scenes.Stepping.{StepLeads, scene_after}
 
 module _ {K V : Type 0} where
   -- the call is a lookup
@@ -73,35 +73,35 @@ module _ (K V : Type 0) (name : ℕ → List ℕ) where
   EventsKeepReadings =
       (log : List (Entry K V)) (e : Entry K V) (made : ℕ → ℕ) (m : Moment K V) (s : Scene K V) → ShowsReading name log made m s → ShowsReading name (e ∷ log) made m s
 
-module _ (K V S : Type 0) (same : K → K → Bool) (hash : K → ℕ) where
+module _ (K V : Type 0) (same : K → K → Bool) (hash : ℕ → K → ℕ) where
   -- A step of a call leaves the tables that maps have had.
   abbrev pub StepsLeaveTables : Type 0
   StepsLeaveTables =
-      (s : Scene K V) (old new : Executor K V S) → IsAt same hash old s
+      (s : Scene K V) (old new : Held K V) → IsAt same hash old s
       → (map i : ℕ) (u : UnderWay K V K) (here : s.calls map i ≡ Some u) (said : Progress (Node K V)) (leads : StepLeads same hash i said s old new)
       → (n : ℕ) (standing : Standing K) → (leads map u here).4.maps2 n ≡ Some standing → HasStood s.maps n standing
 
   -- One of a lookup does nothing to pairs, tables and blocks.
   abbrev pub LookupsDoNothing : Type 0
   LookupsDoNothing =
-      (known : Known) (s : Scene K V) (old new : Executor K V S) (i : ℕ) (said : Progress (Node K V)) → StepLeads same hash i said s old new
+      (known : Known) (s : Scene K V) (old new : Held K V) (i : ℕ) (said : Progress (Node K V)) → StepLeads same hash i said s old new
       → (map : ℕ) (u : UnderWay K V K) → s.calls map i ≡ Some u → (incremental : Bool) (c : Chart K) (moments : List (Moment K V)) (steps : ℕ)
-      → HasLooked incremental map c moments steps u → effects_of (acts.Call i map) known new.memory.changed ≡ []
+      → HasLooked incremental map c moments steps u → effects_of (acts.Call i map) known new.changed ≡ []
 
   -- By it the lookup has read no more than by a step more, where maps and tables are as they were at the end of the last event.
   abbrev pub LookupsKeepReadings : Type 0
   LookupsKeepReadings =
-      (name : ℕ → List ℕ) (log : List (Entry K V)) (made : ℕ → ℕ) (m : Moment K V) (known : Known) (s : Scene K V) (old new : Executor K V S) → IsAt same hash old s
+      (name : ℕ → List ℕ) (log : List (Entry K V)) (made : ℕ → ℕ) (m : Moment K V) (known : Known) (s : Scene K V) (old new : Held K V) → IsAt same hash old s
       → ShowsWhole same name m known s → ShowsReading name log made m s → m.maps ≡ (moment log).maps → m.tables ≡ (moment log).tables
       → (map i : ℕ) (u : UnderWay K V K) (here : s.calls map i ≡ Some u) (said : Progress (Node K V)) (leads : StepLeads same hash i said s old new)
       → (c : CallThere K V) → call_of (name i) m ≡ Some c → looks c.call ≡ true
       → (let to = leads map u here in
-      ShowsReading name log (one_more_of i made) m (scene_after same hash s old new map i to.0 u to.1 said to.4))
+      ShowsReading name log (one_more_of i made) m (scene_after same s old new map i to.0 u to.1 said to.4))
 
   -- And with its next step it has read few words, by the moments of its call; so an event of which that is the last step reads briefly.
   abbrev pub EventsReadBriefly : Type 0
   EventsReadBriefly =
-      (name : ℕ → List ℕ) (log : List (Entry K V)) (made : ℕ → ℕ) (m : Moment K V) (known : Known) (s : Scene K V) (e : Executor K V S) → IsAt same hash e s
+      (name : ℕ → List ℕ) (log : List (Entry K V)) (made : ℕ → ℕ) (m : Moment K V) (known : Known) (s : Scene K V) (e : Held K V) → IsAt same hash e s
       → ShowsWhole same name m known s → ShowsReading name log made m s
       → (map i : ℕ) (u : UnderWay K V K) → s.calls map i ≡ Some u
       → (entry : Entry K V) → caller_of entry.event ≡ Some (name i) → entry.steps ≤ suc (made i) → ReadsBriefly log entry m

@@ -18,16 +18,15 @@ use Rattle.papaya_histories.specs.Given.Callers.Together.{UnderWay}
 use Rattle.papaya_histories.specs.Given.Effects.Effects.{effects_of, known_after}
 use Rattle.papaya_histories.specs.Given.Effects.Known.{Known}
 use Rattle.papaya_histories.specs.Given.Effects.declared.acting.Acting.TheVariants as acts
-use Rattle.papaya_histories.specs.Given.Executor.IsAt.{Scene, IsAt, work_of}
-use Rattle.papaya_histories.specs.Given.Executor.OnSlots.{RowLeads}
-use Rattle.papaya_histories.specs.Given.Executor.Stepping.{StepLeads}
-use Rattle.papaya_histories.specs.Given.Executor.declared.executor.Executor.{Executor}
-use Rattle.papaya_histories.specs.Given.Executor.declared.row.RowTold.{RowTold}
-use Rattle.papaya_histories.specs.Given.Executor.declared.row.SlotRow.{SlotRow}
-use Rattle.papaya_histories.specs.Given.Executor.declared.worker.Work.TheVariants.{OnSlot}
+use Rattle.papaya_histories.specs.Given.Scenes.declared.row.RowTold.{RowTold}
+use Rattle.papaya_histories.specs.Given.Scenes.declared.row.SlotRow.{SlotRow}
 use Rattle.papaya_histories.specs.Given.Others.Rows.{scene_then}
 use Rattle.papaya_histories.specs.Given.Moments.Whole.{ShowsWhole}
 use Rattle.papaya_promises.specs.Sheltered.{GuardsAreInside, AreSheltered}
+use Rattle.papaya_histories.specs.Given.Scenes.Held.{Held, IsAt}
+use Rattle.papaya_histories.specs.Given.Scenes.OnSlots.{RowLeads}
+use Rattle.papaya_histories.specs.Given.Scenes.Scene.{IsOnSlot, Scene}
+use Rattle.papaya_histories.specs.Given.Scenes.Stepping.{StepLeads}
 
 -- none of these things is reclaimed by the effects
 abbrev pub NoneIsBack : List Effect → List Sheltered → Type 0
@@ -41,26 +40,26 @@ StepsProtect = (effects more : List Effect) (sheltered : List Sheltered) → Non
 abbrev pub EventsAreProtected : Type 0 → Type 0 → Type 0
 EventsAreProtected K V = (log : List (Entry K V)) (e : Entry K V) → NoneIsBack e.effects (after e (moment log)).sheltered → IsProtected log e
 
-module _ (K V S : Type 0) (same : K → K → Bool) (hash : K → ℕ) where
+module _ (K V : Type 0) (same : K → K → Bool) (hash : ℕ → K → ℕ) where
   -- A step of a call leaves guards within their sections, and shelters what it takes out of its map; it reclaims nothing.
   abbrev pub CallsShelter : Type 0
   CallsShelter =
-      (name : ℕ → List ℕ) (m : Moment K V) (known : Known) (s : Scene K V) (old new : Executor K V S) → IsAt same hash old s → ShowsWhole same name m known s
+      (name : ℕ → List ℕ) (m : Moment K V) (known : Known) (s : Scene K V) (old new : Held K V) → IsAt same hash old s → ShowsWhole same name m known s
       → (map i : ℕ) (u : UnderWay K V K) (here : s.calls map i ≡ Some u) (told : Progress (Node K V)) (leads : StepLeads same hash i told s old new)
       → GuardsAreInside m.there s.world → AreSheltered m.there s.world known m.sheltered
       → (let to = leads map u here in
-      let effects = effects_of (acts.Call i map) known new.memory.changed in
+      let effects = effects_of (acts.Call i map) known new.changed in
       GuardsAreInside m.there to.4.w2
-      × AreSheltered m.there to.4.w2 (known_after (acts.Call i map) new.memory.changed known) (with_effects (Some (name i)) (Some map) effects m).sheltered
+      × AreSheltered m.there to.4.w2 (known_after (acts.Call i map) new.changed known) (with_effects (Some (name i)) (Some map) effects m).sheltered
       × (flat_map thing_back effects ≡ []))
 
   -- A step of a row on a slot leaves each that is within its section there, and leaves sheltered, and reclaims none of, what is sheltered by whom.
   abbrev pub RowsShelter : Type 0
   RowsShelter =
-      (name : ℕ → List ℕ) (m : Moment K V) (known : Known) (s : Scene K V) (old new : Executor K V S) → IsAt same hash old s → ShowsWhole same name m known s
-      → (i : ℕ) (told : RowTold (Node K V)) (leads : RowLeads same hash i told s old new) (row : SlotRow) (here : work_of old i ≡ Some (OnSlot row))
+      (name : ℕ → List ℕ) (m : Moment K V) (known : Known) (s : Scene K V) (old new : Held K V) → IsAt same hash old s → ShowsWhole same name m known s
+      → (i : ℕ) (told : RowTold (Node K V)) (leads : RowLeads same hash i told s old new) (row : SlotRow) (here : IsOnSlot s i row)
       → (there : Present) (sheltered : List Sheltered) → AreSheltered there s.world known sheltered
-      → (let effects = effects_of acts.Row known new.memory.changed in
-      let then = (scene_then same hash (Step i) s old new (leads row here).4).world in
-      (GuardsAreInside there s.world → GuardsAreInside there then) × AreSheltered there then (known_after acts.Row new.memory.changed known) sheltered
+      → (let effects = effects_of acts.Row known new.changed in
+      let then = (scene_then same hash (Step i) s old new (leads row here).2).world in
+      (GuardsAreInside there s.world → GuardsAreInside there then) × AreSheltered there then (known_after acts.Row new.changed known) sheltered
       × NoneIsBack effects sheltered)

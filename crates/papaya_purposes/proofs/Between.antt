@@ -28,10 +28,6 @@ use Rattle.papaya_finds.specs.Given.Callers.OverAll.{CallOverAll, begun_over_all
 use Rattle.papaya_finds.specs.Given.Callers.Rooms.{CallForRoom}
 use Rattle.papaya_finds.specs.Given.Callers.Together.{UnderWay, OnKey, ForRoom, Counting, OverAll, in_slot}
 use Rattle.papaya_finds.specs.Given.Effects.Known.{Known}
-use Rattle.papaya_finds.specs.Given.Executor.Beginning.{Begins}
-use Rattle.papaya_finds.specs.Given.Executor.IsAt.{Scene, IsAt, slot_of}
-use Rattle.papaya_finds.specs.Given.Executor.Replying.{scene_with}
-use Rattle.papaya_finds.specs.Given.Executor.declared.executor.Executor.{Executor}
 use Rattle.papaya_finds.specs.Given.Finishes.Maps.{Standing, with_call as with_in}
 use Rattle.papaya_finds.specs.Given.Follows.Calling.{come_to}
 use Rattle.papaya_finds.specs.Given.Follows.Shows.{Shows}
@@ -59,6 +55,10 @@ use Rattle.papaya_purposes.proofs.Shown.{IsStill, same_still, comes_still}
 use Rattle.papaya_purposes.proofs.Still.{come_still, for_still}
 use Rattle.papaya_purposes.proofs.Sums.{added_wider, counts_wider}
 use Rattle.papaya_purposes.proofs.Within.{pairs_within_moments}
+use Rattle.papaya_finds.specs.Given.Scenes.Beginning.{Begins}
+use Rattle.papaya_finds.specs.Given.Scenes.Held.{Held, IsAt}
+use Rattle.papaya_finds.specs.Given.Scenes.Replying.{scene_with}
+use Rattle.papaya_finds.specs.Given.Scenes.Scene.{Scene, slot_of}
 
 pub purposes_begin : (K V : Type 0) → PurposesBegin K V
 purposes_begin K V same roots name = record {
@@ -152,7 +152,7 @@ calls_come_to_purposes K V same name log m known s purposes own o steps none end
     still n j x is c c_is d d_is = come_so (is_same (name j) own ≡ true) o none steps c d (came_so same name m s own o steps ended n j x is c c_is d d_is)
 
 -- a call that begins
-module _ {K V S : Type 0} (same : K → K → Bool) (hash : K → ℕ) (name : ℕ → List ℕ) (log : List (Entry K V)) (m : Moment K V) (known : Known) (s : Scene K V) (e : Executor K V S)
+module _ {K V : Type 0} (same : K → K → Bool) (hash : ℕ → K → ℕ) (name : ℕ → List ℕ) (log : List (Entry K V)) (m : Moment K V) (known : Known) (s : Scene K V) (e : Held K V)
     (at : IsAt same hash e s) (shown : Shows same name m known s) (of i : ℕ) (st : Standing K) (there : s.maps of ≡ Some st) (m2 : Moment K V) (place : m2.place ≡ m.place) (stored : m2.stored ≡ m.stored)
     (c : CallThere K V) (shows : c.shown ≡ []) (was : OneOf (λ x. first_of of x ≤ st.chart.first) (moments_from c.begun log)) where
   none_told : (its : Call K V) (number : ℕ → ℕ) → TellsDone its number [] c
@@ -189,8 +189,8 @@ module _ {K V S : Type 0} (same : K → K → Bool) (hash : K → ℕ) (name : �
   begins_come (OverAll o) (purpose, is) =
       subst (λ (x : CallOverAll). HasSwept same of st (shown.number of) (m2 ∷ moments_from c.begun log) x c) (sym is) (sweep_begins (in_slot st.setting (slot_of i)) purpose)
 
-pub calls_begin_purposes : (K V S : Type 0) (same : K → K → Bool) (hash : K → ℕ) → CallsBeginPurposes K V S same hash
-calls_begin_purposes K V S same hash name log m known s e at purposes of i u its guard standing there begins apart called is_for events same_maps = record {
+pub calls_begin_purposes : (K V : Type 0) (same : K → K → Bool) (hash : ℕ → K → ℕ) → CallsBeginPurposes K V same hash
+calls_begin_purposes K V same hash name log m known s e at purposes of i u its guard standing there begins apart called is_for events same_maps = record {
   shown = b.0;
   begun = λ n j x is d d_is. begun_one n j x d (which_call n j x d d_is (which s.calls of i (Some u) n j x is));
   is_for = λ n j x is d d_is. for_one n j x d (which_call n j x d d_is (which s.calls of i (Some u) n j x is));

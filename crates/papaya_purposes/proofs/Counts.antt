@@ -22,10 +22,6 @@ use Rattle.papaya_finds.specs.Given.Schedules.Entry.{Entry}
 use Rattle.papaya_finds.specs.Given.Schedules.Moment.{UnderWay as CallThere, Moment}
 use Rattle.papaya_finds.specs.Given.Points.FactsTables.{CountsShards, SumFacts}
 use Rattle.papaya_finds.specs.Given.Callers.Together.{UnderWay, Counting, in_slot}
-use Rattle.papaya_finds.specs.Given.Executor.IsAt.{Scene, IsAt, slot_of}
-use Rattle.papaya_finds.specs.Given.Executor.Stepping.{StepsFrom}
-use Rattle.papaya_finds.specs.Given.Executor.declared.executor.Executor.{Executor}
-use Rattle.papaya_finds.proofs.Given.Executor.Forgotten.{as_step}
 use Rattle.papaya_finds.specs.Given.Finishes.Machines.{GoesOnAs}
 use Rattle.papaya_finds.specs.Given.Finishes.Maps.{Standing}
 use Rattle.papaya_finds.specs.Given.Teller.declared.changed.Changed.TheVariants.{Nothing}
@@ -34,13 +30,17 @@ use Rattle.papaya_shards.specs.ShardWords.{ShowsShards}
 use Rattle.papaya_purposes.specs.Purposes.{HasAdded}
 use Rattle.papaya_purposes.specs.Shards.{NoneCounted}
 use Rattle.papaya_purposes.proofs.Sums.{After, counting_on}
+use Rattle.papaya_finds.proofs.Given.Scenes.Told.{as_step}
+use Rattle.papaya_finds.specs.Given.Scenes.Held.{Held, IsAt}
+use Rattle.papaya_finds.specs.Given.Scenes.Scene.{Scene, slot_of}
+use Rattle.papaya_finds.specs.Given.Scenes.Stepping.{StepsFrom}
 
-module _ {K V S : Type 0} (same : K → K → Bool) (hash : K → ℕ) (log : List (Entry K V)) (m : Moment K V) (s : Scene K V) (old new : Executor K V S) (at : IsAt same hash old s)
+module _ {K V : Type 0} (same : K → K → Bool) (hash : ℕ → K → ℕ) (log : List (Entry K V)) (m : Moment K V) (s : Scene K V) (old new : Held K V) (at : IsAt same hash old s)
     (of i : ℕ) (sum : Sum) (here : s.calls of i ≡ Some (Counting sum)) (st : Standing K) (there : s.maps of ≡ Some st) (c : CallThere K V) (before : c.begun ≤ length log)
     (shards : ShowsShards m s) (none : NoneCounted log m of) (has : HasAdded of (moments_from c.begun log) sum.setting.mask sum.stands)
-    (machine : Machine K V K) (said : Progress (Node K V)) (steps : StepsFrom same hash (kinds.Count sum) old new machine said) where
+    (machine : Machine K V K) (said : Progress (Node K V)) (steps : StepsFrom same st.hash (kinds.Count sum) old new machine said) where
   abbrev mem : Mem (Node K V)
-  mem = old.memory.memory
+  mem = old.memory
 
   facts : SumFacts (in_slot st.setting (slot_of i)) sum
   facts = ((at.together.makings.standing.each of st there).stand i (Counting sum) here).1
@@ -56,10 +56,10 @@ module _ {K V S : Type 0} (same : K → K → Bool) (hash : K → ℕ) (log : Li
 
   its_step : (end : Sum × Counted ℕ) × Came end × ((machine, said) ≡ counted end)
   its_step =
-      let d = steps_back counted mem new.memory.memory (sum_plan sum) (machine, said) (as_step mem Nothing (machine_plan same same hash (kinds.Count sum)) new.memory.memory new.memory.changed (machine, said) steps) in (
+      let d = steps_back counted mem new.memory (sum_plan sum) (machine, said) (as_step mem Nothing (machine_plan same same st.hash (kinds.Count sum)) new.memory new.changed (machine, said) steps) in (
         d.0,
         counting_on of (moments_from c.begun log) mem sum (moment log) (λ P p. last_there P c.begun log before p) reads
-            (subst (λ (x : Setting). CountsShards x sum.stands) (sym facts.0) facts.1) has new.memory.memory d.0 d.1,
+            (subst (λ (x : Setting). CountsShards x sum.stands) (sym facts.0) facts.1) has new.memory d.0 d.1,
         d.2,
       )
 

@@ -9,7 +9,6 @@ use Rattle.papaya_finds.specs.Given.Schedules.Moment.{UnderWay as CallThere, Mom
 use Rattle.papaya_finds.specs.Given.Schedules.Views.{call_of}
 use Rattle.papaya_finds.specs.Given.Callers.Together.{UnderWay}
 use Rattle.papaya_finds.specs.Given.Effects.Known.{Known}
-use Rattle.papaya_finds.specs.Given.Executor.IsAt.{Scene}
 use Rattle.papaya_finds.specs.Given.Finishes.Maps.{Standing}
 use Rattle.papaya_finds.proofs.Given.Histories.Aside.Elsewhere.{stays_elsewhere}
 use Rattle.papaya_finds.specs.Given.Others.After.{ShowsAfter}
@@ -19,6 +18,7 @@ use Rattle.papaya_purposes.proofs.Between.{calls_come_to_purposes, walks_go_on_p
 use Rattle.papaya_purposes.proofs.Rows.{beside_purposes}
 use Rattle.papaya_purposes.proofs.Shown.{same_still}
 use Rattle.papaya_purposes.proofs.Still.{come_still}
+use Rattle.papaya_finds.specs.Given.Scenes.Scene.{Scene}
 
 -- the same pairs were stored and lie where they lay, and no call comes
 module _ {K V : Type 0} (same : K → K → Bool) (name : ℕ → List ℕ) (log : List (Entry K V)) (m m2 : Moment K V) (known : Known) (s s2 : Scene K V) (purposes : ShowsPurposes same name log m known s)
@@ -41,8 +41,8 @@ module _ {K V : Type 0} (same : K → K → Bool) (name : ℕ → List ℕ) (log
         (purposes.come n j x (fewer n j x is) st (stood n st there) c (was_called j c found)));
   }
 
-pub purposes_stay : (K V S : Type 0) (same : K → K → Bool) (hash : K → ℕ) → PurposesStay K V S same hash
-purposes_stay K V S same hash name log = stays_elsewhere S same hash name (ShowsPurposes same name log)
+pub purposes_stay : (K V : Type 0) (same : K → K → Bool) (hash : ℕ → K → ℕ) → PurposesStay K V same hash
+purposes_stay K V same hash name log = stays_elsewhere same hash name (ShowsPurposes same name log)
     (λ m m2 known known2 s s2 old new at_old at_new purposes after beside.
     beside_purposes same hash name log m m2 known known2 s s2 old new at_old at_new purposes (after purposes.shown) beside)
     (λ m m2 known s s2 purposes place stored calls after fewer maps. between_purposes same name log m m2 known s s2 purposes place stored calls (after purposes.shown) fewer maps)

@@ -33,9 +33,6 @@ use Rattle.papaya_finds.proofs.Given.Callers.Sights.Seen.{map_seen}
 use Rattle.papaya_finds.proofs.Given.Callers.Together.At.{at_same}
 use Rattle.papaya_finds.proofs.Given.Callers.Together.Fits.{map_in_slot}
 use Rattle.papaya_finds.specs.Given.Effects.Known.{Known}
-use Rattle.papaya_finds.specs.Given.Executor.IsAt.{Scene, IsAt, slot_of}
-use Rattle.papaya_finds.specs.Given.Executor.Stepping.{StepsFrom, StepLeads}
-use Rattle.papaya_finds.specs.Given.Executor.declared.executor.Executor.{Executor}
 use Rattle.papaya_finds.specs.Given.Finishes.Machines.{machine_of}
 use Rattle.papaya_finds.specs.Given.Finishes.Maps.{Standing}
 use Rattle.papaya_finds.specs.Given.Follows.Maps.{tables_to, ShowsTables}
@@ -49,6 +46,9 @@ use Rattle.papaya_purposes.proofs.RoomSteps.{EndsSo, room_ends}
 use Rattle.papaya_purposes.proofs.Steps.{went, on, known2, Did}
 use Rattle.papaya_purposes.proofs.Sums.{counts_wider}
 use Rattle.papaya_purposes.proofs.Swept.{v, then_call, then_is, still, on_map, swept_by, same_map, completed_said}
+use Rattle.papaya_finds.specs.Given.Scenes.Held.{Held, IsAt}
+use Rattle.papaya_finds.specs.Given.Scenes.Scene.{Scene, slot_of}
+use Rattle.papaya_finds.specs.Given.Scenes.Stepping.{StepLeads, StepsFrom}
 
 module _ {X : Type 0} where
   one_left : (P : X → Type 0) (xs ys : List X) → OneOf P xs → OneOf P (xs ++ ys)
@@ -85,7 +85,7 @@ one_table of c stage P (suc p) t l here = step (λ k. one_table of c stage P p t
       | inr ne ↦ one_left P (tables_to of c stage p) _ (rest (omega (arith, l, ne)))
     ]
 
-module _ {K V S : Type 0} (same : K → K → Bool) (hash : K → ℕ) (name : ℕ → List ℕ) (log : List (Entry K V)) (m : Moment K V) (known : Known) (s : Scene K V) (old new : Executor K V S)
+module _ {K V : Type 0} (same : K → K → Bool) (hash : ℕ → K → ℕ) (name : ℕ → List ℕ) (log : List (Entry K V)) (m : Moment K V) (known : Known) (s : Scene K V) (old new : Held K V)
     (at : IsAt same hash old s) (whole : ShowsWhole same name m known s) (purposes : ShowsPurposes same name log m known s) (of i : ℕ) (u : UnderWay K V K) (here : s.calls of i ≡ Some u)
     (said : Progress (Node K V)) (leads : StepLeads same hash i said s old new) (c : CallThere K V) (c_is : call_of (name i) m ≡ Some c) where
   abbrev to : WentTo same hash name m known s old new at purposes.shown of i u here said leads
@@ -136,7 +136,7 @@ module _ {K V S : Type 0} (same : K → K → Bool) (hash : K → ℕ) (name : �
 
   module _ (terms : Terms) (mask : (standing : Standing K) → s.maps of ≡ Some standing → suc standing.setting.mask ≡ shards_of terms) (more : ℕ) (r : CallForRoom)
       (r_is : s.calls of i ≡ Some (ForRoom r)) (additional : r.reserve.additional ≡ more) (reads : ReadsShards log m s of (ForRoom r))
-      (steps : StepsFrom same hash (machine_of (ForRoom r)) old new to.1 said) (done : said ≡ progress.Done answers.Reserved) (on_it : StandsOn) where
+      (steps : StepsFrom same to.0.hash (machine_of (ForRoom r)) old new to.1 said) (done : said ≡ progress.Done answers.Reserved) (on_it : StandsOn) where
     met : HasMet of to.0 (moments_from c.begun log) r
     met = purposes.come of i (ForRoom r) r_is to.0 to.2 c c_is
 
@@ -193,7 +193,7 @@ module _ {K V S : Type 0} (same : K → K → Bool) (hash : K → ℕ) (name : �
 
   -- of a reservation
   pub room_found : (terms : Terms) → ((standing : Standing K) → s.maps of ≡ Some standing → suc standing.setting.mask ≡ shards_of terms) → (more : ℕ) → (y : UnderWay K V K) → s.calls of i ≡ Some y
-      → IsFor y (call.Reserve more) → ReadsShards log m s of y → StepsFrom same hash (machine_of y) old new to.1 said → said ≡ progress.Done answers.Reserved
+      → IsFor y (call.Reserve more) → ReadsShards log m s of y → StepsFrom same to.0.hash (machine_of y) old new to.1 said → said ≡ progress.Done answers.Reserved
       → Did same hash name log m known s old new at whole purposes of i u here said leads y → FindsRoom terms more d (now ∷ moments_from d.begun log) now
   room_found terms mask more (OnKey z) y_is is reads steps done did = absurd is
   room_found terms mask more (ForRoom r) y_is is reads steps done did = finds_room terms mask more r y_is is reads steps done (stands_on r did)
@@ -208,8 +208,8 @@ none_swept (outcome.Gave value) e = cc e
 none_swept (outcome.Done end) e = cc e
 none_swept (outcome.Refused fault) e = cc e
 
-module _ (K V S : Type 0) (same : K → K → Bool) (hash : K → ℕ) where
-  pub reservations_are_swept : ReservationsAreSwept K V S same hash
+module _ (K V : Type 0) (same : K → K → Bool) (hash : ℕ → K → ℕ) where
+  pub reservations_are_swept : ReservationsAreSwept K V same hash
   reservations_are_swept more name log m known s old new at whole purposes of i u here said leads c c_is is_reserve reads comes terms mask e caller worked_is outcome =
       let to = went same hash name log m known s old new at whole purposes of i u here said leads in
       let is = still same hash name log m known s old new at whole purposes of i u here said leads c c_is in

@@ -13,7 +13,7 @@ pub use Rattle.papaya_finds.proofs.Given.Late
 pub use Rattle.papaya_finds.proofs.Given.Callers
 pub use Rattle.papaya_finds.proofs.Given.Finishes
 pub use Rattle.papaya_finds.proofs.Given.Runs
-pub use Rattle.papaya_finds.proofs.Given.Executor
+pub use Rattle.papaya_finds.proofs.Given.Scenes
 pub use Rattle.papaya_finds.proofs.Given.Follows
 pub use Rattle.papaya_finds.proofs.Given.Hands
 pub use Rattle.papaya_finds.proofs.Given.Others

@@ -9,9 +9,6 @@ use Rattle.papaya_finds.specs.Given.Schedules.Views.{call_of}
 use Rattle.papaya_finds.specs.Given.Callers.Together.{UnderWay}
 use Rattle.papaya_finds.specs.Given.Finishes.Maps.{Standing}
 use Rattle.papaya_finds.specs.Given.Effects.Known.{Known}
-use Rattle.papaya_finds.specs.Given.Executor.IsAt.{Scene, IsAt}
-use Rattle.papaya_finds.specs.Given.Executor.Stepping.{StepLeads}
-use Rattle.papaya_finds.specs.Given.Executor.declared.executor.Executor.{Executor}
 use Rattle.papaya_finds.proofs.Given.Hands.Asking.{which}
 use Rattle.papaya_finds.specs.Given.Moments.Whole.{ShowsWhole}
 use Rattle.papaya_finds.specs.Given.Histories.Kept.{ChangesFirst}
@@ -19,8 +16,11 @@ use Rattle.papaya_purposes.specs.Kept.{PairsChangeFirst, CallsKeepPurposes}
 use Rattle.papaya_purposes.specs.Purposes.{IsFor, HasCome, ShowsPurposes}
 use Rattle.papaya_purposes.proofs.Steps.{went, on, v2, scene2, same_call, kept_come, own_come, own_for}
 use Rattle.papaya_purposes.proofs.Still.{for_still}
+use Rattle.papaya_finds.specs.Given.Scenes.Held.{Held, IsAt}
+use Rattle.papaya_finds.specs.Given.Scenes.Scene.{Scene}
+use Rattle.papaya_finds.specs.Given.Scenes.Stepping.{StepLeads}
 
-module _ {K V S : Type 0} (same : K → K → Bool) (hash : K → ℕ) (name : ℕ → List ℕ) (log : List (Entry K V)) (m : Moment K V) (known : Known) (s : Scene K V) (old new : Executor K V S)
+module _ {K V : Type 0} (same : K → K → Bool) (hash : ℕ → K → ℕ) (name : ℕ → List ℕ) (log : List (Entry K V)) (m : Moment K V) (known : Known) (s : Scene K V) (old new : Held K V)
     (at : IsAt same hash old s) (whole : ShowsWhole same name m known s) (purposes : ShowsPurposes same name log m known s) (of i : ℕ) (u : UnderWay K V K) (here : s.calls of i ≡ Some u)
     (said : Progress (Node K V)) (leads : StepLeads same hash i said s old new) where
   abbrev pub then_at : Scene K V
@@ -76,8 +76,8 @@ module _ {K V S : Type 0} (same : K → K → Bool) (hash : K → ℕ) (name : �
         (own x its.2 st (ap then_at.maps (sym its.0) ∙ there) d (ap (λ (k : ℕ). call_of (name k) v) (sym its.1) ∙ d_is))
     come_then own n j x st there d d_is (inr other) = other_come n j x other.1 st there d d_is
 
-pub calls_keep_purposes : (K V S : Type 0) (same : K → K → Bool) (hash : K → ℕ) → CallsKeepPurposes K V S same hash
-calls_keep_purposes K V S same hash name log m known s old new at whole purposes of i u here said leads changes class_first reads none =
+pub calls_keep_purposes : (K V : Type 0) (same : K → K → Bool) (hash : ℕ → K → ℕ) → CallsKeepPurposes K V same hash
+calls_keep_purposes K V same hash name log m known s old new at whole purposes of i u here said leads changes class_first reads none =
     record {
       shown = (on same hash name log m known s old new at whole purposes of i u here said leads).shows;
       begun = λ n j x is d d_is. begun_then same hash name log m known s old new at whole purposes of i u here said leads n j x d d_is

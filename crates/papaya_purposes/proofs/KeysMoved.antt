@@ -30,10 +30,6 @@ use Rattle.papaya_finds.specs.Given.Callers.Sights.{Sight, seen_by}
 use Rattle.papaya_finds.specs.Given.Callers.Together.{UnderWay, OnKey, ForRoom, Counting, OverAll, Together}
 use Rattle.papaya_finds.proofs.Given.Callers.Together.At.{at_same}
 use Rattle.papaya_finds.specs.Given.Effects.Known.{Known}
-use Rattle.papaya_finds.specs.Given.Executor.IsAt.{Scene, IsAt, slot_of}
-use Rattle.papaya_finds.specs.Given.Executor.Stepping.{StepsFrom, StepLeads}
-use Rattle.papaya_finds.specs.Given.Executor.declared.executor.Executor.{Executor}
-use Rattle.papaya_finds.proofs.Given.Executor.Forgotten.{as_step}
 use Rattle.papaya_finds.specs.Given.Finishes.Maps.{Standing}
 use Rattle.papaya_finds.specs.Given.Follows.Shows.{Shows}
 use Rattle.papaya_finds.proofs.Given.Follows.Steps.{WentTo, DidSo, one_of}
@@ -47,8 +43,12 @@ use Rattle.papaya_finds.specs.Given.Named.Machines.{IsBefore}
 use Rattle.papaya_purposes.proofs.KeysCarried.{StandsMoved, stood_moved, keys_carried, keyed_carried, its_map, since, LeadsOn, leads_on}
 use Rattle.papaya_purposes.proofs.KeysOn.{StandsLow}
 use Rattle.papaya_purposes.proofs.Pairs.{pair_swept}
+use Rattle.papaya_finds.proofs.Given.Scenes.Told.{as_step}
+use Rattle.papaya_finds.specs.Given.Scenes.Held.{Held, IsAt}
+use Rattle.papaya_finds.specs.Given.Scenes.Scene.{Scene, slot_of}
+use Rattle.papaya_finds.specs.Given.Scenes.Stepping.{StepLeads, StepsFrom}
 
-module _ {K V S : Type 0} (same : K → K → Bool) (hash : K → ℕ) (name : ℕ → List ℕ) (m : Moment K V) (known : Known) (s : Scene K V) (old new : Executor K V S) (at : IsAt same hash old s)
+module _ {K V : Type 0} (same : K → K → Bool) (hash : ℕ → K → ℕ) (name : ℕ → List ℕ) (m : Moment K V) (known : Known) (s : Scene K V) (old new : Held K V) (at : IsAt same hash old s)
     (whole : ShowsWhole same name m known s) (shown : Shows same name m known s) (of i : ℕ) (u : UnderWay K V K) (here : s.calls of i ≡ Some u) (said : Progress (Node K V))
     (leads : StepLeads same hash i said s old new) where
   abbrev pub went : WentTo same hash name m known s old new at shown of i u here said leads
@@ -88,7 +88,7 @@ module _ {K V S : Type 0} (same : K → K → Bool) (hash : K → ℕ) (name : �
       its e (OverAll x) (p2, end, machine_is, told_is, inr (row, stayed)) = stood_moved same i (s.maps n) (went.4.maps2 n) (stayed.1 n) before st was is
 
   -- a step of a walk, of its own
-  module _ (o : CallOverAll) (o_is : s.calls of i ≡ Some (OverAll o)) (walks : o.sweep.purpose ≡ Walks) (steps : StepsFrom same hash (kinds.Sweep o.sweep) old new went.1 said)
+  module _ (o : CallOverAll) (o_is : s.calls of i ≡ Some (OverAll o)) (walks : o.sweep.purpose ≡ Walks) (steps : StepsFrom same went.0.hash (kinds.Sweep o.sweep) old new went.1 said)
       (h : KeysOf same went.0 o) (at_first : IsBefore o.sweep.stands → o.done ≡ []) where
     abbrev pub seen : Blocks
     seen = seen_by went.0.blocks (went.0.sights (slot_of i))
@@ -99,21 +99,20 @@ module _ {K V S : Type 0} (same : K → K → Bool) (hash : K → ℕ) (name : �
     pub each : Together V same went.0.hash same went.0.setting slot_of s.world went.0.chart went.0.blocks went.0.sights (s.calls of)
     each = at.together.makings.standing.each of went.0 went.2
 
-    pub took : (d : Sweep × Swept (Node K V)) × Steps Took value_at s.world.memory (sweep_plan went.0.hash o.sweep) new.memory.memory d × ((went.1, said) ≡ swept d)
+    pub took : (d : Sweep × Swept (Node K V)) × Steps Took value_at s.world.memory (sweep_plan went.0.hash o.sweep) new.memory d × ((went.1, said) ≡ swept d)
     took =
-        let d = steps_back swept old.memory.memory new.memory.memory (sweep_plan hash o.sweep) (went.1, said)
-        (as_step old.memory.memory Nothing (machine_plan same same hash (kinds.Sweep o.sweep)) new.memory.memory new.memory.changed (went.1, said) steps) in (
+        let d = steps_back swept old.memory new.memory (sweep_plan went.0.hash o.sweep) (went.1, said)
+        (as_step old.memory Nothing (machine_plan same same went.0.hash (kinds.Sweep o.sweep)) new.memory new.changed (went.1, said) steps) in (
           d.0,
-          subst (λ (x : Mem (Node K V)). Steps Took value_at x (sweep_plan went.0.hash o.sweep) new.memory.memory d.0) (sym at.memory)
-              (subst (λ (x : K → ℕ). Steps Took value_at old.memory.memory (sweep_plan x o.sweep) new.memory.memory d.0) (sym (at.hashes of went.0 went.2)) d.1),
+          subst (λ (x : Mem (Node K V)). Steps Took value_at x (sweep_plan went.0.hash o.sweep) new.memory d.0) (sym at.memory) d.1,
           d.2,
         )
 
     led : LeadsOn same went.0.hash are went.0.setting (at.together.makings.standing.fit of went.0 went.2).1 slot_of s.world went.0.chart went.0.blocks went.0.sights (s.calls of) each i o o_is walks h.0 at_first
-        new.memory.memory took.0 took.1
+        new.memory took.0 took.1
     led =
         leads_on same went.0.hash are went.0.setting (at.together.makings.standing.fit of went.0 went.2).1 slot_of s.world went.0.chart went.0.blocks went.0.sights (s.calls of) each i o o_is walks h.0 at_first
-        new.memory.memory took.0 took.1
+        new.memory took.0 took.1
 
     pub said_is : of_swept took.0.1 ≡ said
     said_is = sym (ap (λ z. z.1) took.2)

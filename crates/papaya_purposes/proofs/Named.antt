@@ -16,9 +16,6 @@ use Rattle.papaya_finds.specs.Given.Callers.Together.{UnderWay}
 use Rattle.papaya_finds.proofs.Given.Callers.Together.At.{at_same}
 use Rattle.papaya_finds.specs.Given.Effects.Known.{Known}
 use Rattle.papaya_finds.specs.Given.Effects.declared.role.Role.TheVariants as role
-use Rattle.papaya_finds.specs.Given.Executor.IsAt.{Scene, IsAt, slot_of}
-use Rattle.papaya_finds.specs.Given.Executor.Stepping.{StepLeads}
-use Rattle.papaya_finds.specs.Given.Executor.declared.executor.Executor.{Executor}
 use Rattle.papaya_finds.specs.Given.Finishes.Sweeps.{SweepStepsAmong}
 use Rattle.papaya_finds.specs.Given.Finishes.Maps.{Standing}
 use Rattle.papaya_finds.proofs.Given.Follows.Steps.{made_so, is_inside, is_sight}
@@ -27,8 +24,11 @@ use Rattle.papaya_finds.proofs.Given.Histories.Roles.{named_by}
 use Rattle.papaya_finds.specs.Given.Moments.Whole.{ShowsWhole}
 use Rattle.papaya_purposes.specs.Purposes.{ShowsPurposes}
 use Rattle.papaya_purposes.proofs.Steps.{went, on, known2}
+use Rattle.papaya_finds.specs.Given.Scenes.Held.{Held, IsAt}
+use Rattle.papaya_finds.specs.Given.Scenes.Scene.{Scene, slot_of}
+use Rattle.papaya_finds.specs.Given.Scenes.Stepping.{StepLeads}
 
-module _ {K V S : Type 0} (same : K → K → Bool) (hash : K → ℕ) (name : ℕ → List ℕ) (log : List (Entry K V)) (m : Moment K V) (known : Known) (s : Scene K V) (old new : Executor K V S)
+module _ {K V : Type 0} (same : K → K → Bool) (hash : ℕ → K → ℕ) (name : ℕ → List ℕ) (log : List (Entry K V)) (m : Moment K V) (known : Known) (s : Scene K V) (old new : Held K V)
     (at : IsAt same hash old s) (whole : ShowsWhole same name m known s) (purposes : ShowsPurposes same name log m known s) (of i : ℕ) (u : UnderWay K V K) (here : s.calls of i ≡ Some u)
     (said : Progress (Node K V)) (leads : StepLeads same hash i said s old new) where
   abbrev st : Standing K
@@ -49,7 +49,7 @@ module _ {K V S : Type 0} (same : K → K → Bool) (hash : K → ℕ) (name : �
   number2 = (on same hash name log m known s old new at whole purposes of i u here said leads).shows.number of
 
   module _ (o : CallOverAll) (p2 : Sweep) (end : Swept (Node K V))
-      (step : SweepStepsAmong V same same old.batch_size old.roots slot_of s.world s.maps s.calls s.makers s.enders of st i o new.memory.memory p2 end)
+      (step : SweepStepsAmong V same same old.batch_size old.roots slot_of s.world s.maps s.calls s.makers s.enders of st i o new.memory p2 end)
       (moved : (went same hash name log m known s old new at whole purposes of i u here said leads).4.maps2
       ≡ with_at s.maps of (Some (record st { chart = step.step.went.c2; blocks = step.step.blocks2; sights = step.step.sights2 }))) where
     abbrev pub stands_then : Standing K

@@ -35,7 +35,6 @@ use Rattle.papaya_finds.specs.Given.Schedules.Moment.{Moment}
 use Rattle.papaya_finds.specs.Given.Teller.Tells.{StepsTold}
 use Rattle.papaya_finds.specs.Given.Teller.declared.changed.Changed.{Changed}
 use Rattle.papaya_finds.specs.Given.Teller.declared.changed.Changed.TheVariants as changed
-use Rattle.papaya_finds.proofs.Given.Executor.Forgotten.{as_step}
 use Rattle.papaya_finds.proofs.Given.Others.Outcomes.{told_in}
 use Rattle.papaya_finds.proofs.Given.Rule.Keys.Always.{Always, AlwaysOf, always_if, always_plan_as, always_steps}
 use Rattle.papaya_finds.specs.Reserving.{FitsAt, ReservesAt, SumTells}
@@ -43,6 +42,7 @@ use Rattle.papaya_finds.specs.Shaping.{ShapedAt}
 use Rattle.papaya_finds.proofs.Shaping.{always_plan_more, goes_shaped}
 use Rattle.papaya_purposes.specs.Needs.{IsFirstFor, IsLaterFor, Needs, NeedsAt}
 use Rattle.papaya_purposes.proofs.Sums.{counts_wider}
+use Rattle.papaya_finds.proofs.Given.Scenes.Told.{as_step}
 
 -- With more moments.
 module _ {K V : Type 0} (of : ℕ) (moments moments2 : List (Moment K V)) (wider : (P : Moment K V → Type 0) → OneOf P moments → OneOf P moments2) (p : Reserve) where

@@ -29,10 +29,10 @@ use Rattle.papaya_finds.specs.Given.Late.FactsSweeps.{SweepingFacts}
 use Rattle.papaya_finds.specs.Given.Late.ToldSweeps.{IsRowOfSweep}
 use Rattle.papaya_finds.specs.Given.Callers.OverAll.{CallOverAll, sweep_once_over, past_sweeping}
 use Rattle.papaya_finds.specs.Given.Callers.Together.{OverAll, Stands}
-use Rattle.papaya_finds.specs.Given.Executor.Stepping.{StepsFrom}
-use Rattle.papaya_finds.specs.Given.Executor.declared.executor.Executor.{Executor}
 use Rattle.papaya_finds.proofs.Given.Histories.Asking.{always_told, always_turned}
 use Rattle.papaya_finds.specs.Given.Named.Machines.{IsBefore}
+use Rattle.papaya_finds.specs.Given.Scenes.Held.{Held}
+use Rattle.papaya_finds.specs.Given.Scenes.Stepping.{StepsFrom}
 
 pub before_or : (p : Sweeping) → IsBefore p ⊎ (IsBefore p → ⊥)
 before_or at.Reads = inl tt
@@ -134,8 +134,8 @@ GoesOver (kinds.Sweep q, said) = IsBefore q.stands → ⊥
 GoesOver (_, said) = Unit {0}
 
 -- by each step
-pub walk_onward : {K V S : Type 0} (same : K → K → Bool) (hash : K → ℕ) (old new : Executor K V S) (p : Sweep) (machine : Machine K V K) (said : Progress (Node K V))
+pub walk_onward : {K V : Type 0} (same : K → K → Bool) (hash : K → ℕ) (old new : Held K V) (p : Sweep) (machine : Machine K V K) (said : Progress (Node K V))
     → StepsFrom same hash (kinds.Sweep p) old new machine said → p.purpose ≡ Walks → IsWalkAt p.stands → (IsBefore p.stands → ⊥) → GoesOver (machine, said)
 walk_onward {K} {V} same hash old new p machine said steps walks is before =
-    always_told GoesOver old.memory.memory new.memory.memory Nothing new.memory.changed (plan_as swept (plan_at hash p p.stands)) (machine, said)
+    always_told GoesOver old.memory new.memory Nothing new.changed (plan_as swept (plan_at hash p p.stands)) (machine, said)
     (always_turned (Onward (Node K V) p (ap removes walks)) GoesOver swept (λ end so. so) (plan_at hash p p.stands) (plan_onward V hash p (ap removes walks) before p.stands is)) steps

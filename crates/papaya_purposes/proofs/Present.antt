@@ -7,14 +7,14 @@ use Rattle.papaya_finds.specs.Given.Rule.Chart.{Chart}
 use Rattle.papaya_finds.proofs.Given.Rule.Laws.{current_is_known}
 use Rattle.papaya_finds.specs.Given.Callers.Together.{Together}
 use Rattle.papaya_finds.specs.Given.Effects.Known.{Known}
-use Rattle.papaya_finds.specs.Given.Executor.IsAt.{Scene, IsAt, slot_of}
-use Rattle.papaya_finds.specs.Given.Executor.declared.executor.Executor.{Executor}
 use Rattle.papaya_finds.specs.Given.Finishes.Maps.{Standing}
 use Rattle.papaya_finds.specs.Given.Follows.Shows.{Shows}
 use Rattle.papaya_finds.proofs.Given.Follows.Stored.{in_map_true}
 use Rattle.papaya_purposes.specs.Purposes.{PairsWithin}
+use Rattle.papaya_finds.specs.Given.Scenes.Held.{Held, IsAt}
+use Rattle.papaya_finds.specs.Given.Scenes.Scene.{Scene, slot_of}
 
-module _ {K V S : Type 0} (same : K → K → Bool) (hash : K → ℕ) (name : ℕ → List ℕ) (m : Moment K V) (known : Known) (s : Scene K V) (e : Executor K V S) (at : IsAt same hash e s)
+module _ {K V : Type 0} (same : K → K → Bool) (hash : ℕ → K → ℕ) (name : ℕ → List ℕ) (m : Moment K V) (known : Known) (s : Scene K V) (e : Held K V) (at : IsAt same hash e s)
     (shown : Shows same name m known s) (of : ℕ) (st : Standing K) (there : s.maps of ≡ Some st) where
   abbrev c : Chart K
   c = st.chart

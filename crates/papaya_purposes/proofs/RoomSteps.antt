@@ -37,10 +37,6 @@ use Rattle.papaya_finds.specs.Given.Points.FactsTables.{CountsShards, SumFacts}
 use Rattle.papaya_finds.specs.Given.Callers.Rooms.{CallForRoom}
 use Rattle.papaya_finds.specs.Given.Callers.Sights.{seen_by}
 use Rattle.papaya_finds.specs.Given.Callers.Together.{UnderWay, ForRoom, Together, in_slot}
-use Rattle.papaya_finds.specs.Given.Executor.IsAt.{Scene, IsAt, slot_of}
-use Rattle.papaya_finds.specs.Given.Executor.Stepping.{StepsFrom}
-use Rattle.papaya_finds.specs.Given.Executor.declared.executor.Executor.{Executor}
-use Rattle.papaya_finds.proofs.Given.Executor.Forgotten.{as_step}
 use Rattle.papaya_finds.specs.Given.Finishes.Machines.{GoesOnAs}
 use Rattle.papaya_finds.specs.Given.Finishes.Maps.{Standing}
 use Rattle.papaya_finds.specs.Given.Late.ToldReserves.{IsRowOfReserve}
@@ -56,16 +52,20 @@ use Rattle.papaya_purposes.proofs.Needs.{rooms_keep_needs}
 use Rattle.papaya_purposes.proofs.RoomFacts.{turn_is, Point, StandsSo, room_setting, room_point, room_knows, was_root}
 use Rattle.papaya_purposes.proofs.RoomPoints.{LedAt, Led, reads_lead, makes_lead, sums_lead, follows_lead, grows_lead, copies_lead}
 use Rattle.papaya_purposes.proofs.Sums.{counting_on}
+use Rattle.papaya_finds.proofs.Given.Scenes.Told.{as_step}
+use Rattle.papaya_finds.specs.Given.Scenes.Held.{Held, IsAt}
+use Rattle.papaya_finds.specs.Given.Scenes.Scene.{Scene, slot_of}
+use Rattle.papaya_finds.specs.Given.Scenes.Stepping.{StepsFrom}
 
 -- a table that is not too short, for a length that can be had
 fits_so : (o : Result ℕ Fault) (len : ℕ) → nat_lt (2 ^ 48) (or_too_long o) ≡ false → nat_lt len (or_too_long o) ≡ false → Fits o len
 fits_so (Ok need) len many short = grind (arith, short)
 fits_so (Err fault) len many short = absurd (grind (arith, many))
 
-module _ {K V S : Type 0} (same : K → K → Bool) (hash : K → ℕ) (log : List (Entry K V)) (m : Moment K V) (s : Scene K V) (old new : Executor K V S) (at : IsAt same hash old s)
+module _ {K V : Type 0} (same : K → K → Bool) (hash : ℕ → K → ℕ) (log : List (Entry K V)) (m : Moment K V) (s : Scene K V) (old new : Held K V) (at : IsAt same hash old s)
     (of i : ℕ) (r : CallForRoom) (here : s.calls of i ≡ Some (ForRoom r)) (st : Standing K) (there : s.maps of ≡ Some st) (c : CallThere K V) (before : c.begun ≤ length log)
     (shards : ReadsShards log m s of (ForRoom r)) (has : HasMet of st (moments_from c.begun log) r)
-    (machine : Machine K V K) (said : Progress (Node K V)) (steps : StepsFrom same hash (kinds.Reserve r.reserve) old new machine said) where
+    (machine : Machine K V K) (said : Progress (Node K V)) (steps : StepsFrom same st.hash (kinds.Reserve r.reserve) old new machine said) where
   abbrev mem : Mem (Node K V)
   mem = s.world.memory
 
@@ -78,8 +78,8 @@ module _ {K V S : Type 0} (same : K → K → Bool) (hash : K → ℕ) (log : Li
   each : Together V same st.hash same st.setting slot_of s.world st.chart st.blocks st.sights (s.calls of)
   each = at.together.makings.standing.each of st there
 
-  its_map : IsMapIn same hash st.setting s.world st.chart st.blocks
-  its_map = subst (λ (h : K → ℕ). IsMapIn same h st.setting s.world st.chart st.blocks) (at.hashes of st there) each.ground.map
+  its_map : IsMapIn same st.hash st.setting s.world st.chart st.blocks
+  its_map = each.ground.map
 
   stands : StandsSo V same st.hash st.setting slot_of s.world st.chart (seen_by st.blocks (st.sights (slot_of i))) i r
   stands = each.stand i (ForRoom r) here
@@ -139,11 +139,11 @@ module _ {K V S : Type 0} (same : K → K → Bool) (hash : K → ℕ) (log : Li
       (counting_on of moments mem sum (moment log) last (reads table sum is here) (few table sum is here) (subst (RoomAt of moments has.low) is has.point).1 mem2 (sum2, counting.Done count) step)
 
   -- and so has one that is
-  tells : SumTells of moments p old.memory.memory new.memory.memory new.memory.changed
+  tells : SumTells of moments p old.memory new.memory new.changed
   tells table sum sum2 count is step =
-      counts_then table sum sum2 count is new.memory.memory
-      (subst (λ (x : Mem (Node K V)). Steps Took value_at x (sum_plan sum) new.memory.memory (sum2, counting.Done count)) (sym at.memory)
-      (as_step old.memory.memory Nothing (sum_plan sum) new.memory.memory new.memory.changed (sum2, counting.Done count) step))
+      counts_then table sum sum2 count is new.memory
+      (subst (λ (x : Mem (Node K V)). Steps Took value_at x (sum_plan sum) new.memory (sum2, counting.Done count)) (sym at.memory)
+      (as_step old.memory Nothing (sum_plan sum) new.memory new.changed (sum2, counting.Done count) step))
 
   -- where the map has had no table it has counted nothing, as the last event was over
   counted_none : st.chart.past ≡ 0 → (n : ℕ) → Counts n of moments 0
@@ -156,14 +156,14 @@ module _ {K V S : Type 0} (same : K → K → Bool) (hash : K → ℕ) (log : Li
           (0, adds_none shard, (let none = (shards tt).2 st there past shard in omega (arith, none)))
 
   abbrev Step : Reserving → Reserve × Outcome (Node K V) Unit → Type 0
-  Step x end = Steps Took value_at mem (plan_at hash p x) new.memory.memory end
+  Step x end = Steps Took value_at mem (plan_at st.hash p x) new.memory end
 
   -- the step, and what the machine says of it
   its_step : (end : Reserve × Outcome (Node K V) Unit) × Step p.stands end × ((machine, said) ≡ reserved end)
   its_step =
-      let b = steps_back reserved old.memory.memory new.memory.memory (reserve_plan hash p) (machine, said)
-      (as_step old.memory.memory Nothing (machine_plan same same hash (kinds.Reserve p)) new.memory.memory new.memory.changed (machine, said) steps) in
-      (b.0, subst (λ (x : Mem (Node K V)). Steps Took value_at x (reserve_plan hash p) new.memory.memory b.0) (sym at.memory) b.1, b.2)
+      let b = steps_back reserved old.memory new.memory (reserve_plan st.hash p) (machine, said)
+      (as_step old.memory Nothing (machine_plan same same st.hash (kinds.Reserve p)) new.memory new.changed (machine, said) steps) in
+      (b.0, subst (λ (x : Mem (Node K V)). Steps Took value_at x (reserve_plan st.hash p) new.memory b.0) (sym at.memory) b.1, b.2)
 
   -- where it leads
   led : (end : Reserve × Outcome (Node K V) Unit) → Step p.stands end → Led of moments has.low EndsSo end
@@ -171,19 +171,19 @@ module _ {K V S : Type 0} (same : K → K → Bool) (hash : K → ℕ) (log : Li
     where
       by : (x : Reserving) → p.stands ≡ x → RoomAt of moments has.low x → Step x end → Led of moments has.low EndsSo end
       by reserving.Reads is h step =
-          reads_lead of moments has.low EndsSo same hash st.setting s.world st.chart st.blocks its_map has.root (moment log) last p (ap (λ (x : Setting). x.root) setting_is)
-          counted_none new.memory.memory end step
-      by (reserving.Makes making) is h step = makes_lead of moments has.low EndsSo hash p making h mem new.memory.memory end step
+          reads_lead of moments has.low EndsSo same st.hash st.setting s.world st.chart st.blocks its_map has.root (moment log) last p (ap (λ (x : Setting). x.root) setting_is)
+          counted_none new.memory end step
+      by (reserving.Makes making) is h step = makes_lead of moments has.low EndsSo st.hash p making h mem new.memory end step
       by (reserving.Sums table sum) is h step =
-          sums_lead of moments has.low EndsSo same hash st.setting s.world st.chart st.blocks its_map has.root (moment log) last p (ap (λ (x : Setting). x.root) setting_is) table sum h.0
+          sums_lead of moments has.low EndsSo same st.hash st.setting s.world st.chart st.blocks its_map has.root (moment log) last p (ap (λ (x : Setting). x.root) setting_is) table sum h.0
           (reads table sum is (knows_at (reserving.Sums table sum) (λ row. row) is)) (few table sum is (knows_at (reserving.Sums table sum) (λ row. row) is)) h.1
-          (ends table sum is (knows_at (reserving.Sums table sum) (λ row. row) is) h.0) new.memory.memory end step
+          (ends table sum is (knows_at (reserving.Sums table sum) (λ row. row) is) h.0) new.memory end step
       by (reserving.Follows table need) is h step =
-          follows_lead of moments has.low EndsSo hash p table need h (subst (LedAt of moments has.low EndsSo) (sym is) h) mem new.memory.memory end step
-      by (reserving.Grows table making) is h step = grows_lead of moments has.low EndsSo hash p table making h mem new.memory.memory end step
+          follows_lead of moments has.low EndsSo st.hash p table need h (subst (LedAt of moments has.low EndsSo) (sym is) h) mem new.memory end step
+      by (reserving.Grows table making) is h step = grows_lead of moments has.low EndsSo st.hash p table making h mem new.memory end step
       by (reserving.Copies copier) is h step =
-          copies_lead of moments has.low EndsSo hash p copier (room_knows V same st.hash st.setting slot_of s.world st.chart (seen_by st.blocks (st.sights (slot_of i))) i r stands copier is) h.0 h.1 mem
-          new.memory.memory end step
+          copies_lead of moments has.low EndsSo st.hash p copier (room_knows V same st.hash st.setting slot_of s.world st.chart (seen_by st.blocks (st.sights (slot_of i))) i r stands copier is) h.0 h.1 mem
+          new.memory end step
       by reserving.Over is h step = absurd h
       by (reserving.Refused fault) is h step = absurd h
 
@@ -207,11 +207,11 @@ module _ {K V S : Type 0} (same : K → K → Bool) (hash : K → ℕ) (log : Li
   -- what it has counted, and which table it makes
   pub room_keeps : (p2 : Reserve) → machine ≡ kinds.Reserve p2 → ReservesAt of moments p2 p2.stands × NeedsAt of moments p2 p2.stands
   room_keeps p2 machine_is =
-      let it = told_in old.memory.memory new.memory.memory new.memory.changed reserved (reserve_plan hash p) (machine, said) steps in
+      let it = told_in old.memory new.memory new.changed reserved (reserve_plan st.hash p) (machine, said) steps in
       let one = its_one it.0 it.1 in (
         subst (λ (y : Reserve). ReservesAt of moments y y.stands) one
-            (rooms_keep_count K V hash of moments p old.memory.memory new.memory.memory new.memory.changed it.0 has.reserves tells it.2),
-        subst (λ (y : Reserve). NeedsAt of moments y y.stands) one (rooms_keep_needs hash of moments p old.memory.memory new.memory.memory new.memory.changed it.0 has.needs tells it.2),
+            (rooms_keep_count K V st.hash of moments p old.memory new.memory new.changed it.0 has.reserves tells it.2),
+        subst (λ (y : Reserve). NeedsAt of moments y y.stands) one (rooms_keep_needs st.hash of moments p old.memory new.memory new.changed it.0 has.needs tells it.2),
       )
     where
       its_one : (end : Reserve × Outcome (Node K V) Unit) → (machine, said) ≡ reserved end → end.0 ≡ p2

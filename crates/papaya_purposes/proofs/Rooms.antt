@@ -26,9 +26,9 @@ use Rattle.papaya_finds.specs.Given.Raw.declared.machines.machine.Machine.TheVar
 use Rattle.papaya_finds.specs.Given.Raw.declared.machines.progress.Progress.{Progress}
 use Rattle.papaya_finds.proofs.Given.Rule.Keys.Always.{Always, AlwaysOf, always_if, always_plan_as}
 use Rattle.papaya_finds.specs.Given.Teller.declared.changed.Changed.TheVariants.{Nothing}
-use Rattle.papaya_finds.specs.Given.Executor.Stepping.{StepsFrom}
-use Rattle.papaya_finds.specs.Given.Executor.declared.executor.Executor.{Executor}
 use Rattle.papaya_finds.proofs.Given.Histories.Asking.{always_told, always_turned}
+use Rattle.papaya_finds.specs.Given.Scenes.Held.{Held}
+use Rattle.papaya_finds.specs.Given.Scenes.Stepping.{StepsFrom}
 
 module _ (K V : Type 0) (p : Reserve) where
   abbrev Keeps : Reserve × Outcome (Node K V) Unit → Type 0
@@ -98,8 +98,8 @@ abbrev pub IsForRoom : {K V : Type 0} → ℕ → Machine K V K × Progress (Nod
 IsForRoom additional (kinds.Reserve q, said) = q.additional ≡ additional
 IsForRoom additional (_, said) = ⊥
 
-pub room_kept : {K V S : Type 0} (same : K → K → Bool) (hash : K → ℕ) (old new : Executor K V S) (p : Reserve) (machine : Machine K V K) (said : Progress (Node K V))
+pub room_kept : {K V : Type 0} (same : K → K → Bool) (hash : K → ℕ) (old new : Held K V) (p : Reserve) (machine : Machine K V K) (said : Progress (Node K V))
     → StepsFrom same hash (kinds.Reserve p) old new machine said → IsForRoom p.additional (machine, said)
 room_kept {K} {V} same hash old new p machine said steps =
-    always_told (IsForRoom p.additional) old.memory.memory new.memory.memory Nothing new.memory.changed (plan_as reserved (plan_at hash p p.stands)) (machine, said)
+    always_told (IsForRoom p.additional) old.memory new.memory Nothing new.changed (plan_as reserved (plan_at hash p p.stands)) (machine, said)
     (always_turned (Keeps K V p) (IsForRoom p.additional) reserved (λ end so. so) (plan_at hash p p.stands) (from K V p hash p.stands)) steps

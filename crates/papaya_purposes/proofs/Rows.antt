@@ -11,8 +11,6 @@ use Rattle.papaya_finds.specs.Given.Rule.Chart.{Chart}
 use Rattle.papaya_finds.specs.Given.Callers.OverAll.{CallOverAll}
 use Rattle.papaya_finds.specs.Given.Callers.Together.{UnderWay, OverAll}
 use Rattle.papaya_finds.specs.Given.Effects.Known.{Known}
-use Rattle.papaya_finds.specs.Given.Executor.IsAt.{Scene, IsAt, slot_of}
-use Rattle.papaya_finds.specs.Given.Executor.declared.executor.Executor.{Executor}
 use Rattle.papaya_finds.specs.Given.Finishes.Maps.{Standing}
 use Rattle.papaya_finds.specs.Given.Others.After.{ShowsAfter}
 use Rattle.papaya_finds.proofs.Given.Others.RowBegins.{rows_begin_shown}
@@ -33,8 +31,10 @@ use Rattle.papaya_purposes.proofs.KeysCarried.{StandsMoved, keys_kept}
 use Rattle.papaya_purposes.proofs.Over.{come_over}
 use Rattle.papaya_purposes.proofs.Present.{now_stored, now_there, absent}
 use Rattle.papaya_purposes.proofs.Shown.{same_still}
+use Rattle.papaya_finds.specs.Given.Scenes.Held.{Held, IsAt}
+use Rattle.papaya_finds.specs.Given.Scenes.Scene.{Scene, slot_of}
 
-module _ {K V S : Type 0} (same : K → K → Bool) (hash : K → ℕ) (name : ℕ → List ℕ) (log : List (Entry K V)) (m m2 : Moment K V) (known known2 : Known) (s s2 : Scene K V) (old new : Executor K V S)
+module _ {K V : Type 0} (same : K → K → Bool) (hash : ℕ → K → ℕ) (name : ℕ → List ℕ) (log : List (Entry K V)) (m m2 : Moment K V) (known known2 : Known) (s s2 : Scene K V) (old new : Held K V)
     (at : IsAt same hash old s) (at2 : IsAt same hash new s2) (purposes : ShowsPurposes same name log m known s) (after : ShowsAfter same name m known s purposes.shown m2 known2 s2)
     (beside : IsBeside m m2 known known2 s s2) where
   was_here : (n j : ℕ) (x : UnderWay K V K) → s2.calls n j ≡ Some x → s.calls n j ≡ Some x
@@ -118,15 +118,15 @@ module _ {K V S : Type 0} (same : K → K → Bool) (hash : K → ℕ) (name : �
       come_so n j x is st there c found (inl stood) = stood_come n j x is st there c found stood
       come_so n j x is st there c found (inr new_map) = absurd (let none = new_map.0 j in cc (none, is))
 
-module _ (K V S : Type 0) (same : K → K → Bool) (hash : K → ℕ) where
-  pub rows_begin_purposes : RowsBeginPurposes K V S same hash
-  rows_begin_purposes name log m known s old new at purposes called i may leads =
-      let to = (leads may).3 in
-      beside_purposes same hash name log m m known known s _ old new at to.4 purposes (rows_begin_shown K V S same hash name m known s old new at purposes.shown called i may leads)
-      (rows_begin_beside K V S same hash m known s old new called i may leads)
+module _ (K V : Type 0) (same : K → K → Bool) (hash : ℕ → K → ℕ) where
+  pub rows_begin_purposes : RowsBeginPurposes K V same hash
+  rows_begin_purposes name log m known s old new at purposes called i leads =
+      let to = leads.2 in
+      beside_purposes same hash name log m m known known s _ old new at to.4 purposes (rows_begin_shown K V same hash name m known s old new at purposes.shown called i leads)
+      (rows_begin_beside K V same hash m known s old new called i leads)
 
-  pub rows_keep_purposes : RowsKeepPurposes K V S same hash
+  pub rows_keep_purposes : RowsKeepPurposes K V same hash
   rows_keep_purposes name log m known s old new at purposes i told leads row here retired =
       let to = leads row here in
-      beside_purposes same hash name log m _ known _ s _ old new at to.4.4 purposes (rows_on_slots_are_shown K V S same hash name m known s old new at purposes.shown i told leads row here retired)
-      (row_beside same hash m known s old new at i row here (to.0, told) to.1 to.4)
+      beside_purposes same hash name log m _ known _ s _ old new at to.2.4 purposes (rows_on_slots_are_shown K V same hash name m known s old new at purposes.shown i told leads row here retired)
+      (row_beside same hash m known s old new at i row here (to.0, told) to.1 to.2)

@@ -29,9 +29,6 @@ use Rattle.papaya_finds.specs.Given.Callers.OverAll.{CallOverAll, come_to}
 use Rattle.papaya_finds.specs.Given.Callers.Together.{UnderWay, OnKey, ForRoom, Counting, OverAll, Stands, next_over_all}
 use Rattle.papaya_finds.proofs.Given.Callers.Together.At.{at_same}
 use Rattle.papaya_finds.specs.Given.Effects.Known.{Known}
-use Rattle.papaya_finds.specs.Given.Executor.IsAt.{Scene, IsAt, slot_of}
-use Rattle.papaya_finds.specs.Given.Executor.Stepping.{StepLeads}
-use Rattle.papaya_finds.specs.Given.Executor.declared.executor.Executor.{Executor}
 use Rattle.papaya_finds.specs.Given.Finishes.Maps.{Standing}
 use Rattle.papaya_finds.specs.Given.Finishes.Sweeps.{SweepStepsAmong}
 use Rattle.papaya_finds.specs.Given.Histories.Answers.{NamesPair}
@@ -49,6 +46,9 @@ use Rattle.papaya_purposes.proofs.Swept.{then_call, then_is, still, on_map, swep
 use Rattle.papaya_purposes.proofs.Told.{numbers_apart}
 use Rattle.papaya_purposes.proofs.Pairs.{pair_swept}
 use Rattle.papaya_purposes.proofs.Walks.{adds_one}
+use Rattle.papaya_finds.specs.Given.Scenes.Held.{Held, IsAt}
+use Rattle.papaya_finds.specs.Given.Scenes.Scene.{Scene, slot_of}
+use Rattle.papaya_finds.specs.Given.Scenes.Stepping.{StepLeads}
 
 -- a sweep that is ready has shown each pair that it has done once
 module _ {K : Type 0} (hash : K → ℕ) (c : Chart K) (blocks : Blocks) (p : Sweep) (entered : ℕ) (done : List ℕ) where
@@ -61,7 +61,7 @@ module _ {K : Type 0} (V : Type 0) (same : K → K → Bool) (st : Standing K) (
   stands_shown {w} {seen} (inl k) = ready_shown st.hash st.chart seen o.sweep o.entered o.done (subst (CoversAt st.hash st.chart seen o.sweep o.entered o.done) ready k.1.covers)
   stands_shown {w} {seen} (inr k) = absurd (subst IsRowOfSweep ready k.1)
 
-module _ {K V S : Type 0} (same : K → K → Bool) (hash : K → ℕ) (name : ℕ → List ℕ) (log : List (Entry K V)) (m : Moment K V) (known : Known) (s : Scene K V) (old new : Executor K V S)
+module _ {K V : Type 0} (same : K → K → Bool) (hash : ℕ → K → ℕ) (name : ℕ → List ℕ) (log : List (Entry K V)) (m : Moment K V) (known : Known) (s : Scene K V) (old new : Held K V)
     (at : IsAt same hash old s) (whole : ShowsWhole same name m known s) (purposes : ShowsPurposes same name log m known s) (of i : ℕ) (u : UnderWay K V K) (here : s.calls of i ≡ Some u)
     (word : ℕ) (leads : StepLeads same hash i (progress.Pair word) s old new) (c : CallThere K V) (c_is : call_of (name i) m ≡ Some c)
     (changes : PairsChangeFirst log m of (v2 same hash name log m known s old new at whole purposes of i u here (progress.Pair word) leads))
@@ -84,7 +84,7 @@ module _ {K V S : Type 0} (same : K → K → Bool) (hash : K → ℕ) (name : �
 
   module _ (o : CallOverAll) (o_is : s.calls of i ≡ Some (OverAll o)) (walks : IsFor {K = K} {V = V} (OverAll o) call.Walk) (is_walk : c.call ≡ call.Walk) (p2 : Sweep) (end : Swept (Node K V)) (is : end ≡ swept.Pair word)
       (step : SweepStepsAmong V same same old.batch_size old.roots slot_of s.world s.maps s.calls s.makers s.enders of
-      (went same hash name log m known s old new at whole purposes of i u here (progress.Pair word) leads).0 i o new.memory.memory p2 end)
+      (went same hash name log m known s old new at whole purposes of i u here (progress.Pair word) leads).0 i o new.memory p2 end)
       (moved : (went same hash name log m known s old new at whole purposes of i u here (progress.Pair word) leads).4.maps2 ≡ with_at s.maps of
       (Some (record (went same hash name log m known s old new at whole purposes of i u here (progress.Pair word) leads).0 { chart = step.step.went.c2; blocks = step.step.blocks2; sights = step.step.sights2 })))
       (next : (went same hash name log m known s old new at whole purposes of i u here (progress.Pair word) leads).4.next ≡ next_over_all (come_to o step.step.entered2 step.step.done2 p2) end) where
@@ -197,14 +197,14 @@ none_answered K V known n answers.Reserved comes = comes
 none_answered K V known n answers.Swept comes = comes
 none_answered K V known n (answers.Count count) comes = comes
 
-pub walks_show : (K V S : Type 0) (same : K → K → Bool) (hash : K → ℕ) → WalksShow K V S same hash
-walks_show K V S same hash n name log m known s old new at whole purposes of i u here (progress.Pair word) leads c c_is is_walk asks names terms mask e caller worked_is outcome =
+pub walks_show : (K V : Type 0) (same : K → K → Bool) (hash : ℕ → K → ℕ) → WalksShow K V same hash
+walks_show K V same hash n name log m known s old new at whole purposes of i u here (progress.Pair word) leads c c_is is_walk asks names terms mask e caller worked_is outcome =
     let stays = still same hash name log m known s old new at whole purposes of i u here (progress.Pair word) leads c c_is in
     swept_by same terms log e (name i) (v2 same hash name log m known s old new at whole purposes of i u here (progress.Pair word) leads)
     (then_call same hash name log m known s old new at whole purposes of i u here (progress.Pair word) leads c c_is) caller worked_is
     (then_is same hash name log m known s old new at whole purposes of i u here (progress.Pair word) leads c c_is) call.Walk (stays.call ∙ is_walk) (ShowsOne n) outcome
     (walk_shows same hash name log m known s old new at whole purposes of i u here word leads c c_is asks.0 asks.1 n names is_walk u here
     (subst (λ (x : Call K V). IsFor u x) is_walk (purposes.is_for of i u here c c_is)) (went same hash name log m known s old new at whole purposes of i u here (progress.Pair word) leads).4.did)
-walks_show K V S same hash n name log m known s old new at whole purposes of i u here (progress.Done answer) leads c c_is is_walk asks comes terms mask e caller worked_is outcome =
+walks_show K V same hash n name log m known s old new at whole purposes of i u here (progress.Done answer) leads c c_is is_walk asks comes terms mask e caller worked_is outcome =
     absurd (none_answered K V (known2 same hash name log m known s old new at whole purposes of i u here (progress.Done answer) leads) n answer comes)
-walks_show K V S same hash n name log m known s old new at whole purposes of i u here _ leads c c_is is_walk asks comes terms mask e caller worked_is outcome = absurd comes
+walks_show K V same hash n name log m known s old new at whole purposes of i u here _ leads c c_is is_walk asks comes terms mask e caller worked_is outcome = absurd comes

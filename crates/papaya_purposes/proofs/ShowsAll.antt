@@ -35,9 +35,6 @@ use Rattle.papaya_finds.specs.Given.Callers.Together.{UnderWay, OnKey, ForRoom, 
 use Rattle.papaya_finds.specs.Given.Effects.Effects.{effects_of}
 use Rattle.papaya_finds.specs.Given.Effects.Known.{Known}
 use Rattle.papaya_finds.specs.Given.Effects.declared.acting.Acting.TheVariants as acts
-use Rattle.papaya_finds.specs.Given.Executor.IsAt.{Scene, IsAt, slot_of}
-use Rattle.papaya_finds.specs.Given.Executor.Stepping.{StepsFrom, StepLeads}
-use Rattle.papaya_finds.specs.Given.Executor.declared.executor.Executor.{Executor}
 use Rattle.papaya_finds.specs.Given.Finishes.Machines.{machine_of}
 use Rattle.papaya_finds.specs.Given.Finishes.Maps.{Standing}
 use Rattle.papaya_finds.proofs.Given.Follows.Contents.{Lasts}
@@ -56,6 +53,9 @@ use Rattle.papaya_purposes.proofs.Lists.{all_among, each_among, one_with}
 use Rattle.papaya_purposes.proofs.Steps.{went, v2, Did}
 use Rattle.papaya_purposes.proofs.Stored.{effects_stored, worked_stored, all_stored}
 use Rattle.papaya_purposes.proofs.Swept.{then_call, then_is, still, on_map, swept_by, done_swept}
+use Rattle.papaya_finds.specs.Given.Scenes.Held.{Held, IsAt}
+use Rattle.papaya_finds.specs.Given.Scenes.Scene.{Scene, slot_of}
+use Rattle.papaya_finds.specs.Given.Scenes.Stepping.{StepLeads, StepsFrom}
 
 -- the pair of a number has such a key
 key_some : {K V : Type 0} (same : K → K → Bool) (k : K) (o : Option (K × V)) → is_key same o k ≡ true → (p : K × V) × (o ≡ Some p) × (same p.0 k ≡ true)
@@ -102,7 +102,7 @@ module _ {K V : Type 0} (same : K → K → Bool) (of : ℕ) (st : Standing K) (
           let key = key_some same k (pair_at x.stored q) (both_true (is_in_map of (x.place q)) (is_key same (pair_at x.stored q) k) its.2).1 in
           (key.0, ap (pair_at x.stored) number_is ∙ key.1, key.2)
 
-module _ {K V S : Type 0} (same : K → K → Bool) (hash : K → ℕ) (name : ℕ → List ℕ) (log : List (Entry K V)) (m : Moment K V) (known : Known) (s : Scene K V) (old new : Executor K V S)
+module _ {K V : Type 0} (same : K → K → Bool) (hash : ℕ → K → ℕ) (name : ℕ → List ℕ) (log : List (Entry K V)) (m : Moment K V) (known : Known) (s : Scene K V) (old new : Held K V)
     (at : IsAt same hash old s) (whole : ShowsWhole same name m known s) (purposes : ShowsPurposes same name log m known s) (of i : ℕ) (u : UnderWay K V K) (here : s.calls of i ≡ Some u)
     (leads : StepLeads same hash i (progress.Done answers.Swept) s old new) (c : CallThere K V) (c_is : call_of (name i) m ≡ Some c) (is_walk : c.call ≡ call.Walk)
     (loses : LosesNone same log m of) where
@@ -122,7 +122,7 @@ module _ {K V S : Type 0} (same : K → K → Bool) (hash : K → ℕ) (name : �
   moments = moments_from c.begun log
 
   module _ (o : CallOverAll) (o_is : s.calls of i ≡ Some (OverAll o)) (walks : o.sweep.purpose ≡ Walks)
-      (steps : StepsFrom same hash (machine_of (OverAll o)) old new (went same hash name log m known s old new at whole purposes of i u here said leads).1 said)
+      (steps : StepsFrom same (went same hash name log m known s old new at whole purposes of i u here said leads).0.hash (machine_of (OverAll o)) old new (went same hash name log m known s old new at whole purposes of i u here said leads).1 said)
       (did : Did same hash name log m known s old new at whole purposes of i u here said leads (OverAll o)) (worked_is : (e : Entry K V) × (worked e (moment log) ≡ v)) where
     its : HasSwept same of st number (since log m c) o c
     its = purposes.come of i (OverAll o) o_is st (went same hash name log m known s old new at whole purposes of i u here said leads).2 c c_is
@@ -155,7 +155,7 @@ module _ {K V S : Type 0} (same : K → K → Bool) (hash : K → ℕ) (name : �
               ∙ row_over same st.hash (are same hash name m known s old new at whole purposes.shown of i u here said leads o o_is walks steps (its.keys walks) (its.none walks)) st.setting
               (at.together.makings.standing.fit of st (went same hash name log m known s old new at whole purposes of i u here said leads).2).1 slot_of s.world st.chart st.blocks st.sights (s.calls of)
               (each same hash name m known s old new at whole purposes.shown of i u here said leads o o_is walks steps (its.keys walks) (its.none walks)) i o o_is walks (its.keys walks).0 (its.none walks)
-              new.memory.memory t.0 t.1 row.is_row took_done,
+              new.memory t.0 t.1 row.is_row took_done,
         )
 
     came : KeysCame same (spot_of st.hash) (is_incremental st.setting.mode) st.chart o.began o.done
@@ -183,7 +183,7 @@ module _ {K V S : Type 0} (same : K → K → Bool) (hash : K → ℕ) (name : �
         done_was same st.hash (are same hash name m known s old new at whole purposes.shown of i u here said leads o o_is walks steps (its.keys walks) (its.none walks)) st.setting
         (at.together.makings.standing.fit of st (went same hash name log m known s old new at whole purposes of i u here said leads).2).1 slot_of s.world st.chart st.blocks st.sights (s.calls of)
         (each same hash name m known s old new at whole purposes.shown of i u here said leads o o_is walks steps (its.keys walks) (its.none walks)) i o o_is walks (its.keys walks).0 (its.none walks)
-        new.memory.memory t.0 t.1 took_done p l
+        new.memory t.0 t.1 took_done p l
 
     -- and is stored with its key
     stored_as : (p : ℕ) → 0 < times p o.done → (k : K) → st.chart.key p ≡ Some k → (pair : K × V) × (pair_at v.stored (number p) ≡ Some pair) × (same pair.0 k ≡ true)
@@ -198,7 +198,7 @@ module _ {K V S : Type 0} (same : K → K → Bool) (hash : K → ℕ) (name : �
             (all_among (λ n. n < st.chart.stored) p o.done its.stored l, was.3, k, key_is, lawful.lawful.classes.refl k)
 
         on_now : Lasts m.stored v.stored
-        on_now = effects_stored (Some (name i)) (Some of) (effects_of (acts.Call i of) known new.memory.changed) m
+        on_now = effects_stored (Some (name i)) (Some of) (effects_of (acts.Call i of) known new.changed) m
 
         on_last : Lasts (moment log).stored v.stored
         on_last n pair is = subst (λ (x : Moment K V). pair_at x.stored n ≡ Some pair) worked_is.1 (worked_stored worked_is.0 (moment log) n pair is)
@@ -236,7 +236,7 @@ module _ {K V S : Type 0} (same : K → K → Bool) (hash : K → ℕ) (name : �
 
   -- whichever call it is
   pub all_shown : (y : UnderWay K V K) → s.calls of i ≡ Some y → IsFor y call.Walk
-      → StepsFrom same hash (machine_of y) old new (went same hash name log m known s old new at whole purposes of i u here said leads).1 said
+      → StepsFrom same (went same hash name log m known s old new at whole purposes of i u here said leads).0.hash (machine_of y) old new (went same hash name log m known s old new at whole purposes of i u here said leads).1 said
       → Did same hash name log m known s old new at whole purposes of i u here said leads y → (e : Entry K V) × (worked e (moment log) ≡ v)
       → ShowsAll same (then_call same hash name log m known s old new at whole purposes of i u here said leads c c_is)
       (moments_from (then_call same hash name log m known s old new at whole purposes of i u here said leads c c_is).begun log) v
@@ -245,8 +245,8 @@ module _ {K V S : Type 0} (same : K → K → Bool) (hash : K → ℕ) (name : �
   all_shown (Counting sum) y_is is steps did worked_is = absurd is
   all_shown (OverAll o) y_is is steps did worked_is = shows_all o y_is is steps did worked_is
 
-pub walks_show_all : (K V S : Type 0) (same : K → K → Bool) (hash : K → ℕ) → WalksShowAll K V S same hash
-walks_show_all K V S same hash name log m known s old new at whole purposes of i u here leads c c_is is_walk loses terms e caller worked_is outcome =
+pub walks_show_all : (K V : Type 0) (same : K → K → Bool) (hash : ℕ → K → ℕ) → WalksShowAll K V same hash
+walks_show_all K V same hash name log m known s old new at whole purposes of i u here leads c c_is is_walk loses terms e caller worked_is outcome =
     let to = went same hash name log m known s old new at whole purposes of i u here (progress.Done answers.Swept) leads in
     let stays = still same hash name log m known s old new at whole purposes of i u here (progress.Done answers.Swept) leads c c_is in
     swept_by same terms log e (name i) (v2 same hash name log m known s old new at whole purposes of i u here (progress.Done answers.Swept) leads)

@@ -30,9 +30,6 @@ use Rattle.papaya_finds.specs.Given.Finishes.Maps.{Standing}
 use Rattle.papaya_finds.specs.Given.Effects.Effects.{effects_of}
 use Rattle.papaya_finds.specs.Given.Effects.Known.{Known}
 use Rattle.papaya_finds.specs.Given.Effects.declared.acting.Acting.TheVariants as acts
-use Rattle.papaya_finds.specs.Given.Executor.IsAt.{Scene, IsAt, slot_of}
-use Rattle.papaya_finds.specs.Given.Executor.Stepping.{StepsFrom, StepLeads}
-use Rattle.papaya_finds.specs.Given.Executor.declared.executor.Executor.{Executor}
 use Rattle.papaya_finds.specs.Given.Follows.Shows.{Shows}
 use Rattle.papaya_finds.proofs.Given.Follows.Called.{key_goes_on, room_goes_on, sweep_goes_on, counting_goes_on}
 use Rattle.papaya_finds.proofs.Given.Follows.Steps.{WentTo, DidSo, LeadsThere, one_of}
@@ -66,8 +63,11 @@ use Rattle.papaya_purposes.proofs.RoomPoints.{LedAt}
 use Rattle.papaya_purposes.proofs.RoomSteps.{EndsSo, room_goes, room_keeps}
 use Rattle.papaya_purposes.proofs.Rooms.{IsForRoom, room_kept}
 use Rattle.papaya_purposes.proofs.Shown.{IsStill, effects_still}
+use Rattle.papaya_finds.specs.Given.Scenes.Held.{Held, IsAt}
+use Rattle.papaya_finds.specs.Given.Scenes.Scene.{Scene, slot_of}
+use Rattle.papaya_finds.specs.Given.Scenes.Stepping.{StepLeads, StepsFrom}
 
-module _ {K V S : Type 0} (same : K → K → Bool) (hash : K → ℕ) (name : ℕ → List ℕ) (log : List (Entry K V)) (m : Moment K V) (known : Known) (s : Scene K V) (old new : Executor K V S)
+module _ {K V : Type 0} (same : K → K → Bool) (hash : ℕ → K → ℕ) (name : ℕ → List ℕ) (log : List (Entry K V)) (m : Moment K V) (known : Known) (s : Scene K V) (old new : Held K V)
     (at : IsAt same hash old s) (whole : ShowsWhole same name m known s) (purposes : ShowsPurposes same name log m known s) (of i : ℕ) (u : UnderWay K V K) (here : s.calls of i ≡ Some u)
     (said : Progress (Node K V)) (leads : StepLeads same hash i said s old new) where
   abbrev shown : Shows same name m known s
@@ -93,7 +93,7 @@ module _ {K V S : Type 0} (same : K → K → Bool) (hash : K → ℕ) (name : �
 
   -- a call that is there then is the one that was there
   pub same_call : (j : ℕ) (c d : CallThere K V) → call_of (name j) m ≡ Some c → call_of (name j) v2 ≡ Some d → IsStill c d
-  same_call j c d c_is d_is = effects_still (name i) of (name j) (effects_of (acts.Call i of) known new.memory.changed) m c d c_is d_is
+  same_call j c d c_is d_is = effects_still (name i) of (name j) (effects_of (acts.Call i of) known new.changed) m c d c_is d_is
 
   pub before_then : (n : ℕ) (st : Standing K) → scene2.maps n ≡ Some st → (before : Standing K) × (s.maps n ≡ Some before) × IsLater before.chart st.chart
   before_then n st there = maps_later same hash name m known s old new at whole shown of i u here said leads n st there
@@ -200,11 +200,11 @@ module _ {K V S : Type 0} (same : K → K → Bool) (hash : K → ℕ) (name : �
                 (classes_then of i (OverAll o) o_is st there c d c_is d_is class_first o.began had.classes);
           }
 
-      same_purpose : StepsFrom same hash (machine_of (OverAll o)) old new went.1 said → (x : CallOverAll) → went.1 ≡ machine_of (OverAll x) → x.sweep.purpose ≡ o.sweep.purpose
-      same_purpose steps x is = (subst (λ (z : Machine K V K). SweepsOn o.sweep.purpose (z, said)) is (sweeps_on same hash old new o.sweep went.1 said steps)).0
+      same_purpose : StepsFrom same went.0.hash (machine_of (OverAll o)) old new went.1 said → (x : CallOverAll) → went.1 ≡ machine_of (OverAll x) → x.sweep.purpose ≡ o.sweep.purpose
+      same_purpose steps x is = (subst (λ (z : Machine K V K). SweepsOn o.sweep.purpose (z, said)) is (sweeps_on same went.0.hash old new o.sweep went.1 said steps)).0
 
       -- it has come to more by key
-      keys_on : ShowsNone said → StepsFrom same hash (machine_of (OverAll o)) old new went.1 said → (x : CallOverAll) → went.1 ≡ machine_of (OverAll x) → x.began ≡ o.began
+      keys_on : ShowsNone said → StepsFrom same went.0.hash (machine_of (OverAll o)) old new went.1 said → (x : CallOverAll) → went.1 ≡ machine_of (OverAll x) → x.began ≡ o.began
           → Comes o x.done (shown.number of) c → x.sweep.purpose ≡ Walks → KeysOf same st x
       keys_on none steps x is began comes walks =
           subst (λ (b : ℕ). KeysAt same (spot_of st.hash) (is_incremental st.setting.mode) st.chart b x.sweep x.done x.sweep.stands × AreKeyed st.chart x.done) (sym began)
@@ -227,7 +227,7 @@ module _ {K V S : Type 0} (same : K → K → Bool) (hash : K → ℕ) (name : �
           ]
 
       -- a walk that goes over its table does so on
-      none_on : StepsFrom same hash (machine_of (OverAll o)) old new went.1 said → (x : CallOverAll) → went.1 ≡ machine_of (OverAll x) → Comes o x.done (shown.number of) c
+      none_on : StepsFrom same went.0.hash (machine_of (OverAll o)) old new went.1 said → (x : CallOverAll) → went.1 ≡ machine_of (OverAll x) → Comes o x.done (shown.number of) c
           → x.sweep.purpose ≡ Walks → IsBefore x.sweep.stands → x.done ≡ []
       none_on steps x is comes walks before = by (before_or o.sweep.stands) comes
         where
@@ -237,7 +237,7 @@ module _ {K V S : Type 0} (same : K → K → Bool) (hash : K → ℕ) (name : �
           goes_over : (IsBefore o.sweep.stands → ⊥) → IsBefore x.sweep.stands → ⊥
           goes_over over =
               subst (λ (z : Machine K V K). GoesOver (z, said)) is
-              (walk_onward same hash old new o.sweep went.1 said steps (sym purpose ∙ walks)
+              (walk_onward same went.0.hash old new o.sweep went.1 said steps (sym purpose ∙ walks)
               (walk_stands V same went.0.hash went.0.setting slot_of s.world went.0.chart _ i o ((at.together.makings.standing.each of went.0 went.2).stand i (OverAll o) o_is) (sym purpose ∙ walks) over) over)
 
           by : IsBefore o.sweep.stands ⊎ (IsBefore o.sweep.stands → ⊥) → Comes o x.done (shown.number of) c → x.done ≡ []
@@ -245,12 +245,12 @@ module _ {K V S : Type 0} (same : K → K → Bool) (hash : K → ℕ) (name : �
           by (inl b) (inr kept) = kept ∙ had.none (sym purpose ∙ walks) b
           by (inr over) so = absurd (goes_over over before)
 
-      pub own_sweep : ChangesFirst log m same of v2 → ShowsNone said → StepsFrom same hash (machine_of (OverAll o)) old new went.1 said → (x : CallOverAll) → went.1 ≡ machine_of (OverAll x) → x.began ≡ o.began
+      pub own_sweep : ChangesFirst log m same of v2 → ShowsNone said → StepsFrom same went.0.hash (machine_of (OverAll o)) old new went.1 said → (x : CallOverAll) → went.1 ≡ machine_of (OverAll x) → x.began ≡ o.began
           → Comes o x.done (shown.number of) c → HasSwept same of st (on.shows.number of) (since log v2 d) x d
       own_sweep class_first none steps x is began comes = sweep_come class_first x began comes (none_on steps x is comes) (keys_on none steps x is began comes)
 
     -- a reservation, the caller's own
-    module _ (r : CallForRoom) (r_is : s.calls of i ≡ Some (ForRoom r)) (reads : ReadsShards log m s of (ForRoom r)) (steps : StepsFrom same hash (machine_of (ForRoom r)) old new went.1 said)
+    module _ (r : CallForRoom) (r_is : s.calls of i ≡ Some (ForRoom r)) (reads : ReadsShards log m s of (ForRoom r)) (steps : StepsFrom same went.0.hash (machine_of (ForRoom r)) old new went.1 said)
         (p2 : Reserve) (machine_is : went.1 ≡ kinds.Reserve p2) (goes : went.4.next ≡ Some (ForRoom (record { began = r.began; reserve = p2 }))) (st : Standing K) (there : scene2.maps of ≡ Some st)
         (c d : CallThere K V) (c_is : call_of (name i) m ≡ Some c) (d_is : call_of (name i) v2 ≡ Some d) where
       abbrev r2 : CallForRoom
@@ -305,7 +305,7 @@ module _ {K V S : Type 0} (same : K → K → Bool) (hash : K → ℕ) (name : �
           })
 
     -- the caller's own
-    pub own_come : ChangesFirst log m same of v2 → ShowsNone said → (y : UnderWay K V K) → s.calls of i ≡ Some y → ReadsShards log m s of y → StepsFrom same hash (machine_of y) old new went.1 said → Did y
+    pub own_come : ChangesFirst log m same of v2 → ShowsNone said → (y : UnderWay K V K) → s.calls of i ≡ Some y → ReadsShards log m s of y → StepsFrom same went.0.hash (machine_of y) old new went.1 said → Did y
         → (x : UnderWay K V K) → went.4.next ≡ Some x → (st : Standing K) → scene2.maps of ≡ Some st → (c d : CallThere K V) → call_of (name i) m ≡ Some c → call_of (name i) v2 ≡ Some d
         → HasCome same of st (on.shows.number of) log v2 x d
     own_come class_first none (OnKey z) y_is its steps (p2, end, machine_is, told_is, inl (step, moved)) x e st there c d c_is d_is =
@@ -337,21 +337,21 @@ module _ {K V S : Type 0} (same : K → K → Bool) (hash : K → ℕ) (name : �
         (own_sweep o y_is st there c d c_is d_is class_first none steps (gone_on o p2) machine_is refl (inr refl))
 
   -- and it is for what it was for
-  pub own_for : (its : Call K V) (y : UnderWay K V K) → IsFor y its → StepsFrom same hash (machine_of y) old new went.1 said → Did y → (x : UnderWay K V K) → went.4.next ≡ Some x → IsFor x its
+  pub own_for : (its : Call K V) (y : UnderWay K V K) → IsFor y its → StepsFrom same went.0.hash (machine_of y) old new went.1 said → Did y → (x : UnderWay K V K) → went.4.next ≡ Some x → IsFor x its
   own_for its (OnKey z) is steps (p2, end, machine_is, told_is, inl (step, moved)) x e = key_is_for its z _ x (key_goes_on _ end x (sym moved.2 ∙ e)) is
   own_for its (OnKey z) is steps (p2, end, machine_is, told_is, inr (row, stayed)) x e = key_is_for its z _ x (key_goes_on _ end x (sym stayed.2 ∙ e)) is
   own_for its (ForRoom r) is steps (p2, end, machine_is, told_is, inl (step, moved)) x e =
       subst (λ (y : UnderWay K V K). IsFor y its) (sym (room_goes_on _ end x (sym moved.2 ∙ e)))
-      (room_for its r (record { began = r.began; reserve = p2 }) (subst (λ (z : Machine K V K). IsForRoom r.reserve.additional (z, said)) machine_is (room_kept same hash old new r.reserve went.1 said steps)) is)
+      (room_for its r (record { began = r.began; reserve = p2 }) (subst (λ (z : Machine K V K). IsForRoom r.reserve.additional (z, said)) machine_is (room_kept same went.0.hash old new r.reserve went.1 said steps)) is)
   own_for its (ForRoom r) is steps (p2, end, machine_is, told_is, inr (row, stayed)) x e =
       subst (λ (y : UnderWay K V K). IsFor y its) (sym (room_goes_on _ end x (sym stayed.2 ∙ e)))
-      (room_for its r (record { began = r.began; reserve = p2 }) (subst (λ (z : Machine K V K). IsForRoom r.reserve.additional (z, said)) machine_is (room_kept same hash old new r.reserve went.1 said steps)) is)
+      (room_for its r (record { began = r.began; reserve = p2 }) (subst (λ (z : Machine K V K). IsForRoom r.reserve.additional (z, said)) machine_is (room_kept same went.0.hash old new r.reserve went.1 said steps)) is)
   own_for its (Counting sum) is steps (sum2, end, machine_is, told_is, still, stayed) x e =
       subst (λ (y : UnderWay K V K). IsFor y its) (sym (counting_goes_on sum2 end x (sym stayed.2 ∙ e))) (counting_for its sum sum2 is)
   own_for its (OverAll o) is steps (p2, end, machine_is, told_is, inl (step, moved)) x e =
       subst (λ (y : UnderWay K V K). IsFor y its) (sym (sweep_goes_on _ end x (sym moved.2 ∙ e)))
       (sweep_for its o (come_to o step.step.entered2 step.step.done2 p2)
-      (subst (λ (z : Machine K V K). SweepsOn o.sweep.purpose (z, said)) machine_is (sweeps_on same hash old new o.sweep went.1 said steps)).0 is)
+      (subst (λ (z : Machine K V K). SweepsOn o.sweep.purpose (z, said)) machine_is (sweeps_on same went.0.hash old new o.sweep went.1 said steps)).0 is)
   own_for its (OverAll o) is steps (p2, end, machine_is, told_is, inr (row, stayed)) x e =
       subst (λ (y : UnderWay K V K). IsFor y its) (sym (sweep_goes_on _ end x (sym stayed.2 ∙ e)))
-      (sweep_for its o (gone_on o p2) (subst (λ (z : Machine K V K). SweepsOn o.sweep.purpose (z, said)) machine_is (sweeps_on same hash old new o.sweep went.1 said steps)).0 is)
+      (sweep_for its o (gone_on o p2) (subst (λ (z : Machine K V K). SweepsOn o.sweep.purpose (z, said)) machine_is (sweeps_on same went.0.hash old new o.sweep went.1 said steps)).0 is)

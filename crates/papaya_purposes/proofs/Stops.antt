@@ -7,8 +7,6 @@ use Rattle.papaya_finds.specs.Given.Schedules.Entry.{Entry}
 use Rattle.papaya_finds.specs.Given.Schedules.Moment.{Moment}
 use Rattle.papaya_finds.specs.Given.Callers.Together.{UnderWay}
 use Rattle.papaya_finds.specs.Given.Effects.Known.{Known}
-use Rattle.papaya_finds.specs.Given.Executor.IsAt.{Scene}
-use Rattle.papaya_finds.specs.Given.Executor.Replying.{unless_stopped}
 use Rattle.papaya_finds.specs.Given.Finishes.Maps.{with_call as with_in}
 use Rattle.papaya_finds.specs.Given.Follows.Calling.{NoneNamed}
 use Rattle.papaya_finds.proofs.Given.Follows.Calls.{CalledOn}
@@ -20,6 +18,8 @@ use Rattle.papaya_finds.proofs.Given.Others.Walks.{fewer_calls, with_calls}
 use Rattle.papaya_purposes.specs.Kept.{WalksStopPurposes}
 use Rattle.papaya_purposes.specs.Purposes.{HasCome, ShowsPurposes}
 use Rattle.papaya_purposes.proofs.Between.{calls_come_to_purposes}
+use Rattle.papaya_finds.specs.Given.Scenes.Replying.{unless_stopped}
+use Rattle.papaya_finds.specs.Given.Scenes.Scene.{Scene}
 
 module _ {K V : Type 0} (same : K → K → Bool) (name : ℕ → List ℕ) (log : List (Entry K V)) (m : Moment K V) (known : Known) (s : Scene K V) (purposes : ShowsPurposes same name log m known s)
     (of i : ℕ) (u : UnderWay K V K) (here : s.calls of i ≡ Some u) where
@@ -47,5 +47,5 @@ module _ {K V : Type 0} (same : K → K → Bool) (name : ℕ → List ℕ) (log
       calls_come_to_purposes K V same name log m known (record s { calls = with_in s.calls of i None }) (fewer_purposes None (λ x e. absurd (cc e))) (name i) (Refused Memory) 0 tt (λ ends. none refl)
   stops false none = fewer_purposes (Some u) (λ x e. one_of u x e)
 
-pub walks_stop_purposes : (K V S : Type 0) (same : K → K → Bool) (hash : K → ℕ) → WalksStopPurposes K V S same hash
-walks_stop_purposes K V S same hash name log m known s old new purposes i stopped leads of u here none = stops same name log m known s purposes of i u here stopped none
+pub walks_stop_purposes : (K V : Type 0) (same : K → K → Bool) (hash : ℕ → K → ℕ) → WalksStopPurposes K V same hash
+walks_stop_purposes K V same hash name log m known s old new purposes i stopped leads of u here none = stops same name log m known s purposes of i u here stopped none

@@ -37,9 +37,6 @@ use Rattle.papaya_finds.proofs.Given.Callers.Together.At.{at_same}
 use Rattle.papaya_finds.specs.Given.Effects.Effects.{effects_of}
 use Rattle.papaya_finds.specs.Given.Effects.Known.{Known}
 use Rattle.papaya_finds.specs.Given.Effects.declared.acting.Acting.TheVariants as acts
-use Rattle.papaya_finds.specs.Given.Executor.IsAt.{Scene, IsAt}
-use Rattle.papaya_finds.specs.Given.Executor.Stepping.{StepsFrom, StepLeads}
-use Rattle.papaya_finds.specs.Given.Executor.declared.executor.Executor.{Executor}
 use Rattle.papaya_finds.specs.Given.Finishes.Machines.{machine_of}
 use Rattle.papaya_finds.specs.Given.Finishes.Maps.{Standing, IsSameMap}
 use Rattle.papaya_finds.proofs.Given.Follows.Steps.{WentTo, one_of}
@@ -56,6 +53,9 @@ use Rattle.papaya_purposes.proofs.Done.{tells_kept}
 use Rattle.papaya_purposes.proofs.Lists.{all_among, all_pass, one_passes}
 use Rattle.papaya_purposes.proofs.Shown.{IsStill}
 use Rattle.papaya_purposes.proofs.Steps.{went, on, v2, known2, scene2, Did, same_call, before_then, its_before, had, own_within}
+use Rattle.papaya_finds.specs.Given.Scenes.Held.{Held, IsAt}
+use Rattle.papaya_finds.specs.Given.Scenes.Scene.{Scene}
+use Rattle.papaya_finds.specs.Given.Scenes.Stepping.{StepLeads, StepsFrom}
 
 -- what is so of the call is so of the event
 module _ {K V : Type 0} (same : K → K → Bool) (terms : Terms) (log : List (Entry K V)) (e : Entry K V) (own : List ℕ) (v : Moment K V) (d : CallThere K V) (caller : caller_of e.event ≡ Some own)
@@ -116,7 +116,7 @@ pub same_map : {K : Type 0} (o o2 : Option (Standing K)) (st : Standing K) → o
 same_map None o2 st is same = absurd (cc is)
 same_map (Some before) o2 st is (blocks, sights, here, part) = (record before { blocks = blocks; sights = sights }, here, ap (λ (x : Standing _). x.chart) (one_of before st is))
 
-module _ {K V S : Type 0} (same : K → K → Bool) (hash : K → ℕ) (name : ℕ → List ℕ) (log : List (Entry K V)) (m : Moment K V) (known : Known) (s : Scene K V) (old new : Executor K V S)
+module _ {K V : Type 0} (same : K → K → Bool) (hash : ℕ → K → ℕ) (name : ℕ → List ℕ) (log : List (Entry K V)) (m : Moment K V) (known : Known) (s : Scene K V) (old new : Held K V)
     (at : IsAt same hash old s) (whole : ShowsWhole same name m known s) (purposes : ShowsPurposes same name log m known s) (of i : ℕ) (u : UnderWay K V K) (here : s.calls of i ≡ Some u)
     (said : Progress (Node K V)) (leads : StepLeads same hash i said s old new) (c : CallThere K V) (c_is : call_of (name i) m ≡ Some c) where
   abbrev pub v : Moment K V
@@ -124,10 +124,10 @@ module _ {K V S : Type 0} (same : K → K → Bool) (hash : K → ℕ) (name : �
 
   -- the call after the effects of the step
   abbrev pub then_call : CallThere K V
-  then_call = (calls_after (name i) of (name i) (effects_of (acts.Call i of) known new.memory.changed) m c c_is).0
+  then_call = (calls_after (name i) of (name i) (effects_of (acts.Call i of) known new.changed) m c c_is).0
 
   pub then_is : call_of (name i) v ≡ Some then_call
-  then_is = (calls_after (name i) of (name i) (effects_of (acts.Call i of) known new.memory.changed) m c c_is).1
+  then_is = (calls_after (name i) of (name i) (effects_of (acts.Call i of) known new.changed) m c c_is).1
 
   pub still : IsStill c then_call
   still = same_call same hash name log m known s old new at whole purposes of i u here said leads i c then_call c_is then_is
@@ -138,7 +138,7 @@ module _ {K V S : Type 0} (same : K → K → Bool) (hash : K → ℕ) (name : �
   -- a counting that has counted
   module _ (terms : Terms) (mask : (standing : Standing K) → s.maps of ≡ Some standing → suc standing.setting.mask ≡ shards_of terms) (n : ℕ) (done : said ≡ progress.Done (answers.Count n)) where
     pub counts : (y : UnderWay K V K) → s.calls of i ≡ Some y → IsFor y call.Len → ReadsShards log m s of y
-        → StepsFrom same hash (machine_of y) old new (went same hash name log m known s old new at whole purposes of i u here said leads).1 said
+        → StepsFrom same (went same hash name log m known s old new at whole purposes of i u here said leads).0.hash (machine_of y) old new (went same hash name log m known s old new at whole purposes of i u here said leads).1 said
         → Counts (shards_of terms) then_call.map (moments_from then_call.begun log) n
     counts (OnKey z) y_is is reads steps = absurd is
     counts (ForRoom r) y_is is reads steps = absurd is
@@ -302,8 +302,8 @@ module _ {K V S : Type 0} (same : K → K → Bool) (hash : K → ℕ) (name : �
     retaining call_is (Counting sum) y_is is did = absurd is
     retaining call_is (OverAll o) y_is is did = retains changes o y_is (ended done o y_is did) is call_is
 
-module _ (K V S : Type 0) (same : K → K → Bool) (hash : K → ℕ) where
-  pub countings_are_swept : CountingsAreSwept K V S same hash
+module _ (K V : Type 0) (same : K → K → Bool) (hash : ℕ → K → ℕ) where
+  pub countings_are_swept : CountingsAreSwept K V same hash
   countings_are_swept n name log m known s old new at whole purposes of i u here said leads c c_is is_len reads comes terms mask e caller worked_is outcome =
       let told = counted_said (known2 same hash name log m known s old new at whole purposes of i u here said leads) n said comes in
       let is = still same hash name log m known s old new at whole purposes of i u here said leads c c_is in
@@ -313,7 +313,7 @@ module _ (K V S : Type 0) (same : K → K → Bool) (hash : K → ℕ) where
       (counts same hash name log m known s old new at whole purposes of i u here said leads c c_is terms mask n told u here
       (subst (λ (x : Call K V). IsFor u x) is_len (purposes.is_for of i u here c c_is)) reads (went same hash name log m known s old new at whole purposes of i u here said leads).3)
 
-  pub clearings_are_swept : ClearingsAreSwept K V S same hash
+  pub clearings_are_swept : ClearingsAreSwept K V same hash
   clearings_are_swept name log m known s old new at whole purposes of i u here said leads c c_is is_clear changes comes terms mask e caller worked_is outcome =
       let told = completed_said (known2 same hash name log m known s old new at whole purposes of i u here said leads) said comes in
       let is = still same hash name log m known s old new at whole purposes of i u here said leads c c_is in
@@ -323,7 +323,7 @@ module _ (K V S : Type 0) (same : K → K → Bool) (hash : K → ℕ) where
       (clearing same hash name log m known s old new at whole purposes of i u here said leads c c_is changes told u here
       (subst (λ (x : Call K V). IsFor u x) is_clear (purposes.is_for of i u here c c_is)) (went same hash name log m known s old new at whole purposes of i u here said leads).4.did)
 
-  pub retainings_are_swept : RetainingsAreSwept K V S same hash
+  pub retainings_are_swept : RetainingsAreSwept K V same hash
   retainings_are_swept name log m known s old new at whole purposes of i u here said leads c c_is is_retain changes comes terms mask e caller worked_is outcome =
       let told = completed_said (known2 same hash name log m known s old new at whole purposes of i u here said leads) said comes in
       let is = still same hash name log m known s old new at whole purposes of i u here said leads c c_is in

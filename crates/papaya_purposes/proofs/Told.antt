@@ -31,9 +31,6 @@ use Rattle.papaya_finds.specs.Given.Callers.Sights.{IsSight, seen_by}
 use Rattle.papaya_finds.specs.Given.Callers.Together.{UnderWay, OnKey, ForRoom, Counting, OverAll, KnowsSweep, Together, in_slot}
 use Rattle.papaya_finds.specs.Given.Effects.Known.{Known}
 use Rattle.papaya_finds.specs.Given.Effects.declared.role.Role.TheVariants as role
-use Rattle.papaya_finds.specs.Given.Executor.IsAt.{Scene, IsAt, slot_of}
-use Rattle.papaya_finds.specs.Given.Executor.Replying.{scene_with}
-use Rattle.papaya_finds.specs.Given.Executor.declared.executor.Executor.{Executor}
 use Rattle.papaya_finds.specs.Given.Finishes.Machines.{machine_of, ToldOfKind}
 use Rattle.papaya_finds.specs.Given.Finishes.Maps.{Standing}
 use Rattle.papaya_finds.specs.Given.Follows.Calling.{told}
@@ -54,6 +51,9 @@ use Rattle.papaya_purposes.proofs.For.{key_is_for, sweep_for}
 use Rattle.papaya_purposes.proofs.Lists.{all_on, all_both, yes_now, yes_still}
 use Rattle.papaya_purposes.proofs.Shown.{same_still}
 use Rattle.papaya_purposes.proofs.Still.{within_still, classes_still, come_still}
+use Rattle.papaya_finds.specs.Given.Scenes.Held.{Held, IsAt}
+use Rattle.papaya_finds.specs.Given.Scenes.Replying.{scene_with}
+use Rattle.papaya_finds.specs.Given.Scenes.Scene.{Scene, slot_of}
 
 -- a pair that is not among them is none of them
 apart_step : (p x : ℕ) (xs : List ℕ) → times p (x ∷ xs) ≡ 0 → (x ≢ p) × (times p xs ≡ 0)
@@ -97,7 +97,7 @@ reply_purpose p keeps = by p.stands keeps
     by _ q = refl
 
 -- what is so of a retaining that asks about the pair of a word
-module _ {K V S : Type 0} (same : K → K → Bool) (hash : K → ℕ) (name : ℕ → List ℕ) (log : List (Entry K V)) (m : Moment K V) (known : Known) (s : Scene K V) (e : Executor K V S)
+module _ {K V : Type 0} (same : K → K → Bool) (hash : ℕ → K → ℕ) (name : ℕ → List ℕ) (log : List (Entry K V)) (m : Moment K V) (known : Known) (s : Scene K V) (e : Held K V)
     (at : IsAt same hash e s) (shown : Shows same name m known s) (of i : ℕ) (o : CallOverAll) (here : s.calls of i ≡ Some (OverAll o)) (st : Standing K) (there : s.maps of ≡ Some st)
     (word : ℕ) (stands : o.sweep.stands ≡ sweeping.Asks word) (q : ℕ) (names : NamesNumber known word q) where
   each : Together V same st.hash same st.setting slot_of s.world st.chart st.blocks st.sights (s.calls of)
@@ -191,7 +191,7 @@ module _ {K V S : Type 0} (same : K → K → Bool) (hash : K → ℕ) (name : �
       classes = subst (IsWithin same of st number (since log m2 d)) (sym began) (classes_still same of st number log m m2 place stored c d begun o.began had.classes);
     }
 
-module _ {K V S : Type 0} (same : K → K → Bool) (hash : K → ℕ) (name : ℕ → List ℕ) (log : List (Entry K V)) (m : Moment K V) (known : Known) (s : Scene K V) (e : Executor K V S)
+module _ {K V : Type 0} (same : K → K → Bool) (hash : ℕ → K → ℕ) (name : ℕ → List ℕ) (log : List (Entry K V)) (m : Moment K V) (known : Known) (s : Scene K V) (e : Held K V)
     (at : IsAt same hash e s) (whole : ShowsWhole same name m known s) (purposes : ShowsPurposes same name log m known s) (of i : ℕ) (u : UnderWay K V K) (here : s.calls of i ≡ Some u)
     (c : CallThere K V) (c_is : call_of (name i) m ≡ Some c) (question : Option ℕ) (c_asks : c.stands ≡ Asking question) (about : AsksAboutIt known u question) (st : Standing K)
     (there : s.maps of ≡ Some st) (is_told : Reply V) (next : UnderWay K V K) (taken : (machine_replied (machine_of u) (as_told is_told)).1 ≡ Ok tt)
@@ -324,6 +324,6 @@ module _ {K V S : Type 0} (same : K → K → Bool) (hash : K → ℕ) (name : �
         subst (λ (f : ℕ → ℕ → ℕ). HasCome same n z (f n) log v x d) (sym b.1) (come_one n j x z z_is d d_is (which s.calls of i (Some next) n j x is));
   }
 
-pub calls_take_purposes : (K V S : Type 0) (same : K → K → Bool) (hash : K → ℕ) → CallsTakePurposes K V S same hash
-calls_take_purposes K V S same hash name log m known s e at whole purposes of i u here c c_is question c_asks about st there is_told next taken goes =
+pub calls_take_purposes : (K V : Type 0) (same : K → K → Bool) (hash : ℕ → K → ℕ) → CallsTakePurposes K V same hash
+calls_take_purposes K V same hash name log m known s e at whole purposes of i u here c c_is question c_asks about st there is_told next taken goes =
     told_purposes same hash name log m known s e at whole purposes of i u here c c_is question c_asks about st there is_told next taken goes

@@ -20,9 +20,6 @@ use Rattle.papaya_finds.specs.Given.Late.ToldSweeps.{TellsSo}
 use Rattle.papaya_finds.specs.Given.Callers.OverAll.{CallOverAll}
 use Rattle.papaya_finds.specs.Given.Callers.Together.{UnderWay, OnKey, ForRoom, Counting, OverAll}
 use Rattle.papaya_finds.specs.Given.Effects.Known.{Known}
-use Rattle.papaya_finds.specs.Given.Executor.IsAt.{Scene, IsAt, slot_of}
-use Rattle.papaya_finds.specs.Given.Executor.Stepping.{StepLeads}
-use Rattle.papaya_finds.specs.Given.Executor.declared.executor.Executor.{Executor}
 use Rattle.papaya_finds.specs.Given.Finishes.Maps.{Standing}
 use Rattle.papaya_finds.specs.Given.Finishes.Sweeps.{SweepStepsAmong}
 use Rattle.papaya_finds.specs.Given.Histories.Answers.{NamesPair}
@@ -33,6 +30,9 @@ use Rattle.papaya_purposes.proofs.Named.{pair_named}
 use Rattle.papaya_purposes.proofs.Pairs.{pair_swept}
 use Rattle.papaya_purposes.proofs.Steps.{Did, known2, on, went}
 use Rattle.papaya_purposes.proofs.Walks.{adds_one}
+use Rattle.papaya_finds.specs.Given.Scenes.Held.{Held, IsAt}
+use Rattle.papaya_finds.specs.Given.Scenes.Scene.{Scene, slot_of}
+use Rattle.papaya_finds.specs.Given.Scenes.Stepping.{StepLeads}
 
 -- a sweep answers that it is over
 over_swept : {T : Type 0} (end : Swept T) (answer : Answer) → of_swept end ≡ progress.Done answer → answer ≡ answers.Swept
@@ -45,7 +45,7 @@ over_swept (swept.Asks word) answer e = absurd (cc e)
 over_swept swept.Done answer e = let its : answers.Swept ≡ answer = cc e in sym its
 over_swept (swept.Refused fault) answer e = absurd (cc e)
 
-module _ {K V S : Type 0} (same : K → K → Bool) (hash : K → ℕ) (name : ℕ → List ℕ) (log : List (Entry K V)) (m : Moment K V) (known : Known) (s : Scene K V) (old new : Executor K V S)
+module _ {K V : Type 0} (same : K → K → Bool) (hash : ℕ → K → ℕ) (name : ℕ → List ℕ) (log : List (Entry K V)) (m : Moment K V) (known : Known) (s : Scene K V) (old new : Held K V)
     (at : IsAt same hash old s) (whole : ShowsWhole same name m known s) (purposes : ShowsPurposes same name log m known s) (of i : ℕ) (u : UnderWay K V K) (here : s.calls of i ≡ Some u)
     (said : Progress (Node K V)) (leads : StepLeads same hash i said s old new) where
   abbrev its : Standing K
@@ -55,7 +55,7 @@ module _ {K V S : Type 0} (same : K → K → Bool) (hash : K → ℕ) (name : �
   then_known = known2 same hash name log m known s old new at whole purposes of i u here said leads
 
   module _ (o : CallOverAll) (p2 : Sweep) (end : Swept (Node K V))
-      (step : SweepStepsAmong V same same old.batch_size old.roots slot_of s.world s.maps s.calls s.makers s.enders of its i o new.memory.memory p2 end)
+      (step : SweepStepsAmong V same same old.batch_size old.roots slot_of s.world s.maps s.calls s.makers s.enders of its i o new.memory p2 end)
       (moved : (went same hash name log m known s old new at whole purposes of i u here said leads).4.maps2
       ≡ with_at s.maps of (Some (record its { chart = step.step.went.c2; blocks = step.step.blocks2; sights = step.step.sights2 }))) where
     -- the pair that it shows is noted by its number
@@ -83,7 +83,7 @@ module _ {K V S : Type 0} (same : K → K → Bool) (hash : K → ℕ) (name : �
     over = λ answer e. over_swept end answer (sym told_is ∙ e);
   }
 
-pub walks_have_words : (K V S : Type 0) (same : K → K → Bool) (hash : K → ℕ) → WalksHaveWords K V S same hash
-walks_have_words K V S same hash name log m known s old new at whole purposes of i u here said leads c c_is walk =
+pub walks_have_words : (K V : Type 0) (same : K → K → Bool) (hash : ℕ → K → ℕ) → WalksHaveWords K V same hash
+walks_have_words K V same hash name log m known s old new at whole purposes of i u here said leads c c_is walk =
     as_walk same hash name log m known s old new at whole purposes of i u here said leads u (subst (λ (x : Call K V). IsFor u x) walk (purposes.is_for of i u here c c_is))
     (went same hash name log m known s old new at whole purposes of i u here said leads).4.did

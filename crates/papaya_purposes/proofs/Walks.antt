@@ -40,9 +40,6 @@ use Rattle.papaya_finds.specs.Given.Callers.Together.{UnderWay, OnKey, ForRoom, 
 use Rattle.papaya_finds.specs.Given.Finishes.Machines.{machine_of}
 use Rattle.papaya_finds.specs.Given.Finishes.Maps.{Standing}
 use Rattle.papaya_finds.specs.Given.Effects.Known.{Known}
-use Rattle.papaya_finds.specs.Given.Executor.IsAt.{Scene, IsAt, slot_of}
-use Rattle.papaya_finds.specs.Given.Executor.Stepping.{StepsFrom, StepLeads}
-use Rattle.papaya_finds.specs.Given.Executor.declared.executor.Executor.{Executor}
 use Rattle.papaya_finds.specs.Given.Follows.Calling.{come_to}
 use Rattle.papaya_finds.specs.Given.Follows.Shows.{Shows}
 use Rattle.papaya_finds.proofs.Given.Follows.Called.{key_goes_on, sweep_goes_on}
@@ -68,6 +65,9 @@ use Rattle.papaya_purposes.proofs.Named.{number_told, stands_then, stands_is}
 use Rattle.papaya_purposes.proofs.Shown.{IsStill, same_still}
 use Rattle.papaya_purposes.proofs.Steps.{went, on, known2, Did, same_call, before_then, its_before, had, own_within, below_then, classes_then}
 use Rattle.papaya_purposes.proofs.Still.{within_still, classes_still, come_still}
+use Rattle.papaya_finds.specs.Given.Scenes.Held.{Held, IsAt}
+use Rattle.papaya_finds.specs.Given.Scenes.Scene.{Scene, slot_of}
+use Rattle.papaya_finds.specs.Given.Scenes.Stepping.{StepLeads, StepsFrom}
 
 module _ {K : Type 0} (hash : K → ℕ) (c : Chart K) (blocks : Blocks) (done done2 : List ℕ) (entered entered2 word : ℕ) where
   -- one that shows a pair has read its word at a place of its table, and has done one pair more
@@ -97,7 +97,7 @@ none_room word (outcome.Gave value) e = cc e
 none_room word (outcome.Done end) e = cc e
 none_room word (outcome.Refused fault) e = cc e
 
-module _ {K V S : Type 0} (same : K → K → Bool) (hash : K → ℕ) (name : ℕ → List ℕ) (log : List (Entry K V)) (m : Moment K V) (known : Known) (s : Scene K V) (old new : Executor K V S)
+module _ {K V : Type 0} (same : K → K → Bool) (hash : ℕ → K → ℕ) (name : ℕ → List ℕ) (log : List (Entry K V)) (m : Moment K V) (known : Known) (s : Scene K V) (old new : Held K V)
     (at : IsAt same hash old s) (whole : ShowsWhole same name m known s) (purposes : ShowsPurposes same name log m known s) (of i : ℕ) (u : UnderWay K V K) (here : s.calls of i ≡ Some u)
     (word : ℕ) (leads : StepLeads same hash i (progress.Pair word) s old new)
     (changes : PairsChangeFirst log m of (v same hash name log m known s old new at whole purposes of i u here (progress.Pair word) leads))
@@ -192,7 +192,7 @@ module _ {K V S : Type 0} (same : K → K → Bool) (hash : K → ℕ) (name : �
   DidIt y = Did same hash name log m known s old new at whole purposes of i u here (progress.Pair word) leads y
 
   own_come : (y : UnderWay K V K) → s.calls of i ≡ Some y
-      → StepsFrom same hash (machine_of y) old new (went same hash name log m known s old new at whole purposes of i u here (progress.Pair word) leads).1 (progress.Pair word) → DidIt y → (x : UnderWay K V K) → goes ≡ Some x → (st : Standing K) → then_there.maps of ≡ Some st
+      → StepsFrom same (went same hash name log m known s old new at whole purposes of i u here (progress.Pair word) leads).0.hash (machine_of y) old new (went same hash name log m known s old new at whole purposes of i u here (progress.Pair word) leads).1 (progress.Pair word) → DidIt y → (x : UnderWay K V K) → goes ≡ Some x → (st : Standing K) → then_there.maps of ≡ Some st
       → (c d : CallThere K V) → call_of (name i) m ≡ Some c → call_of (name i) v1 ≡ Some d → HasCome same of st (numbers2 of) log v3 x (come (ShowsOne q) steps d)
   own_come (OnKey z) y_is steps_of (p2, end, machine_is, told_is, inl (step, moved)) x e st there c d c_is d_is =
       subst (λ (y : UnderWay K V K). HasCome same of st (numbers2 of) log v3 y (come (ShowsOne q) steps d)) (sym (key_goes_on _ end x (sym moved.2 ∙ e))) tt
@@ -317,6 +317,6 @@ module _ {K V S : Type 0} (same : K → K → Bool) (hash : K → ℕ) (name : �
         subst (λ (f : ℕ → ℕ → ℕ). HasCome same n st (f n) log v3 x e) (sym b.1) (come_then n j x is st there e e_is (which_then n j x is));
   }
 
-pub walks_show_purposes : (K V S : Type 0) (same : K → K → Bool) (hash : K → ℕ) → WalksShowPurposes K V S same hash
-walks_show_purposes K V S same hash name log m known s old new at whole purposes of i u here word leads changes class_first q steps names =
+pub walks_show_purposes : (K V : Type 0) (same : K → K → Bool) (hash : ℕ → K → ℕ) → WalksShowPurposes K V same hash
+walks_show_purposes K V same hash name log m known s old new at whole purposes of i u here word leads changes class_first q steps names =
     shows_purposes same hash name log m known s old new at whole purposes of i u here word leads changes class_first q steps names

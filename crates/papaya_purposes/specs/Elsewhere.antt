@@ -4,7 +4,7 @@ use Rattle.papaya_finds.specs.Given.Schedules.Entry.{Entry}
 use Rattle.papaya_finds.specs.Given.Histories.Elsewhere.{StaysElsewhere}
 use Rattle.papaya_purposes.specs.Purposes.{ShowsPurposes}
 
-module _ (K V S : Type 0) (same : K → K → Bool) (hash : K → ℕ) where
+module _ (K V : Type 0) (same : K → K → Bool) (hash : ℕ → K → ℕ) where
   -- The promise: it does where a row on a slot, the making and the end of a map begin and take their steps, and where a walk goes on or is given up.
   abbrev pub PurposesStay : Type 0
-  PurposesStay = (name : ℕ → List ℕ) (log : List (Entry K V)) → StaysElsewhere S same hash name (ShowsPurposes same name log)
+  PurposesStay = (name : ℕ → List ℕ) (log : List (Entry K V)) → StaysElsewhere same hash name (ShowsPurposes same name log)

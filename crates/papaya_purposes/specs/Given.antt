@@ -19,7 +19,7 @@ pub use Rattle.papaya_finds.specs.Given.Finishes
 pub use Rattle.papaya_finds.specs.Given.Runs
 pub use Rattle.papaya_finds.specs.Given.Schedules
 pub use Rattle.papaya_finds.specs.Given.Effects
-pub use Rattle.papaya_finds.specs.Given.Executor
+pub use Rattle.papaya_finds.specs.Given.Scenes
 pub use Rattle.papaya_finds.specs.Given.Follows
 pub use Rattle.papaya_finds.specs.Given.Hands
 pub use Rattle.papaya_finds.specs.Given.Others

@@ -21,11 +21,6 @@ use Rattle.papaya_finds.specs.Given.Callers.Together.{UnderWay, OverAll}
 use Rattle.papaya_finds.specs.Given.Effects.Effects.{effects_of, known_after}
 use Rattle.papaya_finds.specs.Given.Effects.Known.{Known, nothing_known}
 use Rattle.papaya_finds.specs.Given.Effects.declared.acting.Acting.TheVariants as acts
-use Rattle.papaya_finds.specs.Given.Executor.Beginning.{Begins}
-use Rattle.papaya_finds.specs.Given.Executor.IsAt.{Scene, IsAt, at_first, slot_of}
-use Rattle.papaya_finds.specs.Given.Executor.Replying.{StopLeads, scene_with, unless_stopped}
-use Rattle.papaya_finds.specs.Given.Executor.Stepping.{StepLeads, scene_after}
-use Rattle.papaya_finds.specs.Given.Executor.declared.executor.Executor.{Executor}
 use Rattle.papaya_finds.specs.Given.Finishes.Machines.{machine_of, ToldOfKind}
 use Rattle.papaya_finds.specs.Given.Finishes.Maps.{Standing, with_call as with_in}
 use Rattle.papaya_finds.specs.Given.Follows.Calling.{NoneNamed, told, come_to}
@@ -37,6 +32,11 @@ use Rattle.papaya_finds.specs.Given.Moments.Whole.{ShowsWhole}
 use Rattle.papaya_finds.specs.Given.Others.Walks.{given_up}
 use Rattle.papaya_purposes.specs.Purposes.{IsFor, ShowsPurposes}
 use Rattle.papaya_purposes.specs.Shards.{ReadsShards}
+use Rattle.papaya_finds.specs.Given.Scenes.Beginning.{Begins}
+use Rattle.papaya_finds.specs.Given.Scenes.Held.{Held, IsAt}
+use Rattle.papaya_finds.specs.Given.Scenes.Replying.{StopLeads, scene_with, unless_stopped}
+use Rattle.papaya_finds.specs.Given.Scenes.Scene.{Scene, at_first, slot_of}
+use Rattle.papaya_finds.specs.Given.Scenes.Stepping.{StepLeads, scene_after}
 
 -- the step shows no pair of a walk
 abbrev pub ShowsNone : {T : Type 0} → Progress T → Type 0
@@ -66,36 +66,36 @@ module _ {K V : Type 0} where
 abbrev pub PurposesBegin : Type 0 → Type 0 → Type 0
 PurposesBegin K V = (same : K → K → Bool) (roots : ℕ) (name : ℕ → List ℕ) → ShowsPurposes {K = K} {V = V} same name [] start nothing_known (at_first roots)
 
-module _ (K V S : Type 0) (same : K → K → Bool) (hash : K → ℕ) where
+module _ (K V : Type 0) (same : K → K → Bool) (hash : ℕ → K → ℕ) where
   -- after each step of a call, whoever's, which shows no pair of a walk, if no pair comes and goes, and no class changes twice, within one event by it; one that counts reads shards as they are,
   abbrev pub CallsKeepPurposes : Type 0
   CallsKeepPurposes =
-      (name : ℕ → List ℕ) (log : List (Entry K V)) (m : Moment K V) (known : Known) (s : Scene K V) (old new : Executor K V S) → IsAt same hash old s
+      (name : ℕ → List ℕ) (log : List (Entry K V)) (m : Moment K V) (known : Known) (s : Scene K V) (old new : Held K V) → IsAt same hash old s
       → ShowsWhole same name m known s → ShowsPurposes same name log m known s
       → (of i : ℕ) (u : UnderWay K V K) (here : s.calls of i ≡ Some u) (said : Progress (Node K V)) (leads : StepLeads same hash i said s old new)
-      → PairsChangeFirst log m of (with_effects (Some (name i)) (Some of) (effects_of (acts.Call i of) known new.memory.changed) m)
-      → ChangesFirst log m same of (with_effects (Some (name i)) (Some of) (effects_of (acts.Call i of) known new.memory.changed) m) → ReadsShards log m s of u → ShowsNone said
+      → PairsChangeFirst log m of (with_effects (Some (name i)) (Some of) (effects_of (acts.Call i of) known new.changed) m)
+      → ChangesFirst log m same of (with_effects (Some (name i)) (Some of) (effects_of (acts.Call i of) known new.changed) m) → ReadsShards log m s of u → ShowsNone said
       → (let to = leads of u here in
-      ShowsPurposes same name log (with_effects (Some (name i)) (Some of) (effects_of (acts.Call i of) known new.memory.changed) m) (known_after (acts.Call i of) new.memory.changed known)
-      (scene_after same hash s old new of i to.0 u to.1 said to.4))
+      ShowsPurposes same name log (with_effects (Some (name i)) (Some of) (effects_of (acts.Call i of) known new.changed) m) (known_after (acts.Call i of) new.changed known)
+      (scene_after same s old new of i to.0 u to.1 said to.4))
 
   -- after one that shows a pair of a walk, where the event has come to that,
   abbrev pub WalksShowPurposes : Type 0
   WalksShowPurposes =
-      (name : ℕ → List ℕ) (log : List (Entry K V)) (m : Moment K V) (known : Known) (s : Scene K V) (old new : Executor K V S) → IsAt same hash old s
+      (name : ℕ → List ℕ) (log : List (Entry K V)) (m : Moment K V) (known : Known) (s : Scene K V) (old new : Held K V) → IsAt same hash old s
       → ShowsWhole same name m known s → ShowsPurposes same name log m known s
       → (of i : ℕ) (u : UnderWay K V K) (here : s.calls of i ≡ Some u) (word : ℕ) (leads : StepLeads same hash i (progress.Pair word) s old new)
-      → PairsChangeFirst log m of (with_effects (Some (name i)) (Some of) (effects_of (acts.Call i of) known new.memory.changed) m)
-      → ChangesFirst log m same of (with_effects (Some (name i)) (Some of) (effects_of (acts.Call i of) known new.memory.changed) m)
-      → (q steps : ℕ) → NamesPair (known_after (acts.Call i of) new.memory.changed known) word q
+      → PairsChangeFirst log m of (with_effects (Some (name i)) (Some of) (effects_of (acts.Call i of) known new.changed) m)
+      → ChangesFirst log m same of (with_effects (Some (name i)) (Some of) (effects_of (acts.Call i of) known new.changed) m)
+      → (q steps : ℕ) → NamesPair (known_after (acts.Call i of) new.changed known) word q
       → (let to = leads of u here in
-      ShowsPurposes same name log (come_to (name i) (Shows q) steps (with_effects (Some (name i)) (Some of) (effects_of (acts.Call i of) known new.memory.changed) m))
-      (known_after (acts.Call i of) new.memory.changed known) (scene_after same hash s old new of i to.0 u to.1 (progress.Pair word) to.4))
+      ShowsPurposes same name log (come_to (name i) (Shows q) steps (with_effects (Some (name i)) (Some of) (effects_of (acts.Call i of) known new.changed) m))
+      (known_after (acts.Call i of) new.changed known) (scene_after same s old new of i to.0 u to.1 (progress.Pair word) to.4))
 
   -- where a call begins, by a name that no call under way has, as the next event begins,
   abbrev pub CallsBeginPurposes : Type 0
   CallsBeginPurposes =
-      (name : ℕ → List ℕ) (log : List (Entry K V)) (m : Moment K V) (known : Known) (s : Scene K V) (e : Executor K V S) → IsAt same hash e s → ShowsPurposes same name log m known s
+      (name : ℕ → List ℕ) (log : List (Entry K V)) (m : Moment K V) (known : Known) (s : Scene K V) (e : Held K V) → IsAt same hash e s → ShowsPurposes same name log m known s
       → (of i : ℕ) (u : UnderWay K V K) (call : Call K V) (guard : List ℕ) (standing : Standing K) → s.maps of ≡ Some standing → Begins same standing i u
       → NoneNamed name (name i) s → IsCalled same u call → IsFor u call → m.events ≡ length log → m.maps ≡ (moment log).maps
       → ShowsPurposes same name log (with_call (name i) guard call (Some of) m) known (scene_with of i u s)
@@ -103,7 +103,7 @@ module _ (K V S : Type 0) (same : K → K → Bool) (hash : K → ℕ) where
   -- where one that asks takes what it is told about that,
   abbrev pub CallsTakePurposes : Type 0
   CallsTakePurposes =
-      (name : ℕ → List ℕ) (log : List (Entry K V)) (m : Moment K V) (known : Known) (s : Scene K V) (e : Executor K V S) → IsAt same hash e s
+      (name : ℕ → List ℕ) (log : List (Entry K V)) (m : Moment K V) (known : Known) (s : Scene K V) (e : Held K V) → IsAt same hash e s
       → ShowsWhole same name m known s → ShowsPurposes same name log m known s
       → (of i : ℕ) (u : UnderWay K V K) → s.calls of i ≡ Some u → (c : CallThere K V) → call_of (name i) m ≡ Some c → (question : Option ℕ) → c.stands ≡ Asking question
       → AsksAboutIt known u question
@@ -114,7 +114,7 @@ module _ (K V S : Type 0) (same : K → K → Bool) (hash : K → ℕ) where
   -- where a walk that is ready is given up, and no call that is under way then has its name,
   abbrev pub WalksStopPurposes : Type 0
   WalksStopPurposes =
-      (name : ℕ → List ℕ) (log : List (Entry K V)) (m : Moment K V) (known : Known) (s : Scene K V) (old new : Executor K V S) → ShowsPurposes same name log m known s
+      (name : ℕ → List ℕ) (log : List (Entry K V)) (m : Moment K V) (known : Known) (s : Scene K V) (old new : Held K V) → ShowsPurposes same name log m known s
       → (i : ℕ) (stopped : Bool) → StopLeads same hash i stopped s old new → (of : ℕ) (u : UnderWay K V K) → s.calls of i ≡ Some u
       → (let after = record s { calls = with_in s.calls of i (unless_stopped stopped u) } in
       (stopped ≡ true → NoneNamed name (name i) after) → ShowsPurposes same name log (given_up (name i) stopped m) known after)

@@ -22,7 +22,6 @@ use Rattle.papaya_finds.specs.Given.Callers.OverAll.{CallOverAll}
 use Rattle.papaya_finds.specs.Given.Callers.Rooms.{CallForRoom}
 use Rattle.papaya_finds.specs.Given.Callers.Together.{UnderWay, OnKey, ForRoom, Counting, OverAll}
 use Rattle.papaya_finds.specs.Given.Effects.Known.{Known}
-use Rattle.papaya_finds.specs.Given.Executor.IsAt.{Scene}
 use Rattle.papaya_finds.specs.Given.Finishes.Maps.{Standing}
 use Rattle.papaya_finds.specs.Given.Follows.Shows.{Shows}
 use Rattle.papaya_finds.specs.Given.Histories.Histories.{since, IsWithin}
@@ -30,6 +29,7 @@ use Rattle.papaya_finds.specs.Reserving.{ReservesAt}
 use Rattle.papaya_purposes.specs.Keys.{KeysAt, AreKeyed}
 use Rattle.papaya_purposes.specs.Needs.{NeedsAt}
 use Rattle.papaya_finds.specs.Given.Named.Machines.{IsBefore}
+use Rattle.papaya_finds.specs.Given.Scenes.Scene.{Scene}
 
 -- by key, what a sweep that is a walk has come to in its map
 abbrev pub KeysOf : {K : Type 0} → (K → K → Bool) → Standing K → CallOverAll → Type 0

@@ -10,15 +10,15 @@ use Rattle.papaya_finds.specs.Given.Callers.Together.{UnderWay}
 use Rattle.papaya_finds.specs.Given.Effects.Effects.{effects_of}
 use Rattle.papaya_finds.specs.Given.Effects.Known.{Known}
 use Rattle.papaya_finds.specs.Given.Effects.declared.acting.Acting.TheVariants as acts
-use Rattle.papaya_finds.specs.Given.Executor.IsAt.{Scene, IsAt}
-use Rattle.papaya_finds.specs.Given.Executor.Stepping.{StepLeads}
-use Rattle.papaya_finds.specs.Given.Executor.declared.executor.Executor.{Executor}
 use Rattle.papaya_finds.specs.Given.Finishes.Maps.{Standing}
 use Rattle.papaya_finds.specs.Given.Moments.Whole.{ShowsWhole}
 use Rattle.papaya_finds.specs.Within.{many_of}
 use Rattle.papaya_shards.specs.ShardSteps.{AddsUp}
 use Rattle.papaya_shards.specs.ShardWords.{ShowsShards, ShowsCounters}
 use Rattle.papaya_purposes.specs.Tableless.{TablelessUncounted}
+use Rattle.papaya_finds.specs.Given.Scenes.Held.{Held, IsAt}
+use Rattle.papaya_finds.specs.Given.Scenes.Scene.{Scene}
+use Rattle.papaya_finds.specs.Given.Scenes.Stepping.{StepLeads}
 
 module _ {K V : Type 0} where
   -- no shard of this map has changed since the last event of the log, and they said nothing if the map has had no table
@@ -37,11 +37,11 @@ module _ {K V : Type 0} where
 abbrev pub EventsBeginUncounted : Type 0 → Type 0 → Type 0
 EventsBeginUncounted K V = (log : List (Entry K V)) (m : Moment K V) (of : ℕ) → m.shards ≡ (moment log).shards → m.tables ≡ (moment log).tables → TablelessUncounted (moment log) → NoneCounted log m of
 
-module _ (K V S : Type 0) (same : K → K → Bool) (hash : K → ℕ) where
+module _ (K V : Type 0) (same : K → K → Bool) (hash : ℕ → K → ℕ) where
   -- and until something is, a call reads what it may; by its steps nothing is counted, if it adds shards up.
   abbrev pub StepsReadShards : Type 0
   StepsReadShards =
-      (name : ℕ → List ℕ) (log : List (Entry K V)) (m : Moment K V) (known : Known) (s : Scene K V) (old new : Executor K V S) → IsAt same hash old s
+      (name : ℕ → List ℕ) (log : List (Entry K V)) (m : Moment K V) (known : Known) (s : Scene K V) (old new : Held K V) → IsAt same hash old s
       → ShowsWhole same name m known s → ShowsCounters name m s
       → (of i : ℕ) (u : UnderWay K V K) (here : s.calls of i ≡ Some u) (said : Progress (Node K V)) (leads : StepLeads same hash i said s old new) → NoneCounted log m of
-      → ReadsShards log m s of u × (AddsUp u → NoneCounted log (with_effects (Some (name i)) (Some of) (effects_of (acts.Call i of) known new.memory.changed) m) of)
+      → ReadsShards log m s of u × (AddsUp u → NoneCounted log (with_effects (Some (name i)) (Some of) (effects_of (acts.Call i of) known new.changed) m) of)

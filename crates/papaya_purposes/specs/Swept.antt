@@ -21,15 +21,15 @@ use Rattle.papaya_finds.specs.Given.Callers.Together.{UnderWay}
 use Rattle.papaya_finds.specs.Given.Effects.Effects.{effects_of, known_after}
 use Rattle.papaya_finds.specs.Given.Effects.Known.{Known}
 use Rattle.papaya_finds.specs.Given.Effects.declared.acting.Acting.TheVariants as acts
-use Rattle.papaya_finds.specs.Given.Executor.IsAt.{Scene, IsAt}
-use Rattle.papaya_finds.specs.Given.Executor.Stepping.{StepLeads}
-use Rattle.papaya_finds.specs.Given.Executor.declared.executor.Executor.{Executor}
 use Rattle.papaya_finds.specs.Given.Finishes.Maps.{Standing}
 use Rattle.papaya_finds.specs.Given.Histories.Answers.{NamesPair}
 use Rattle.papaya_finds.specs.Given.Moments.Whole.{ShowsWhole}
 use Rattle.papaya_purposes.specs.Kept.{NoneCame, PairsChangeFirst}
 use Rattle.papaya_purposes.specs.Purposes.{ShowsPurposes}
 use Rattle.papaya_purposes.specs.Shards.{ReadsShards}
+use Rattle.papaya_finds.specs.Given.Scenes.Held.{Held, IsAt}
+use Rattle.papaya_finds.specs.Given.Scenes.Scene.{Scene}
+use Rattle.papaya_finds.specs.Given.Scenes.Stepping.{StepLeads}
 
 -- what a call has ended with is told as this
 abbrev pub ComesSo : {K V : Type 0} → Known → Progress (Node K V) → Outcome V → Type 0
@@ -72,15 +72,15 @@ pub record SaysAsWalk {K V : Type 0} (known : Known) (said : Progress (Node K V)
   pub over : (answer : Answer) → said ≡ progress.Done answer → answer ≡ answers.Swept
 
 -- The promises, of an event whose effects before a last step have led to this moment, and which comes to what that step comes to.
-module _ (K V S : Type 0) (same : K → K → Bool) (hash : K → ℕ) where
+module _ (K V : Type 0) (same : K → K → Bool) (hash : ℕ → K → ℕ) where
   abbrev pub Ends : (CallThere K V → Type 0) → (List (Entry K V) → Moment K V → Moment K V → Scene K V → ℕ → UnderWay K V K → Type 0) → Outcome V → Type 0
   Ends OfKind Asks outcome =
-      (name : ℕ → List ℕ) (log : List (Entry K V)) (m : Moment K V) (known : Known) (s : Scene K V) (old new : Executor K V S) → IsAt same hash old s
+      (name : ℕ → List ℕ) (log : List (Entry K V)) (m : Moment K V) (known : Known) (s : Scene K V) (old new : Held K V) → IsAt same hash old s
       → ShowsWhole same name m known s → ShowsPurposes same name log m known s
       → (of i : ℕ) (u : UnderWay K V K) (here : s.calls of i ≡ Some u) (said : Progress (Node K V)) (leads : StepLeads same hash i said s old new)
       → (c : CallThere K V) → call_of (name i) m ≡ Some c → OfKind c
-      → (let v = with_effects (Some (name i)) (Some of) (effects_of (acts.Call i of) known new.memory.changed) m in
-      Asks log m v s of u → ComesSo (known_after (acts.Call i of) new.memory.changed known) said outcome
+      → (let v = with_effects (Some (name i)) (Some of) (effects_of (acts.Call i of) known new.changed) m in
+      Asks log m v s of u → ComesSo (known_after (acts.Call i of) new.changed known) said outcome
       → (terms : Terms) → ((standing : Standing K) → s.maps of ≡ Some standing → suc standing.setting.mask ≡ shards_of terms)
       → (e : Entry K V) → caller_of e.event ≡ Some (name i) → worked e (moment log) ≡ v → e.outcome ≡ outcome → IsSwept same terms log e)
 
@@ -107,21 +107,21 @@ module _ (K V S : Type 0) (same : K → K → Bool) (hash : K → ℕ) where
   -- A walk that answers that there is no pair has shown one pair of each key that had one at each moment of it, if no key has lost its pair within the event.
   abbrev pub WalksShowAll : Type 0
   WalksShowAll =
-      (name : ℕ → List ℕ) (log : List (Entry K V)) (m : Moment K V) (known : Known) (s : Scene K V) (old new : Executor K V S) → IsAt same hash old s
+      (name : ℕ → List ℕ) (log : List (Entry K V)) (m : Moment K V) (known : Known) (s : Scene K V) (old new : Held K V) → IsAt same hash old s
       → ShowsWhole same name m known s → ShowsPurposes same name log m known s
       → (of i : ℕ) (u : UnderWay K V K) (here : s.calls of i ≡ Some u) (leads : StepLeads same hash i (progress.Done answers.Swept) s old new)
       → (c : CallThere K V) → call_of (name i) m ≡ Some c → IsWalk c
       → LosesNone same log m of
       → (terms : Terms) (e : Entry K V) → caller_of e.event ≡ Some (name i)
-      → worked e (moment log) ≡ with_effects (Some (name i)) (Some of) (effects_of (acts.Call i of) known new.memory.changed) m → e.outcome ≡ Answered Absent → IsSwept same terms log e
+      → worked e (moment log) ≡ with_effects (Some (name i)) (Some of) (effects_of (acts.Call i of) known new.changed) m → e.outcome ≡ Answered Absent → IsSwept same terms log e
 
   -- So each step of a walk says.
   abbrev pub WalksHaveWords : Type 0
   WalksHaveWords =
-      (name : ℕ → List ℕ) (log : List (Entry K V)) (m : Moment K V) (known : Known) (s : Scene K V) (old new : Executor K V S) → IsAt same hash old s
+      (name : ℕ → List ℕ) (log : List (Entry K V)) (m : Moment K V) (known : Known) (s : Scene K V) (old new : Held K V) → IsAt same hash old s
       → ShowsWhole same name m known s → ShowsPurposes same name log m known s
       → (of i : ℕ) (u : UnderWay K V K) → s.calls of i ≡ Some u → (said : Progress (Node K V)) → StepLeads same hash i said s old new
-      → (c : CallThere K V) → call_of (name i) m ≡ Some c → IsWalk c → SaysAsWalk (known_after (acts.Call i of) new.memory.changed known) said
+      → (c : CallThere K V) → call_of (name i) m ≡ Some c → IsWalk c → SaysAsWalk (known_after (acts.Call i of) new.changed known) said
 
 module _ (K V : Type 0) (same : K → K → Bool) where
   -- Nothing is promised of an event that comes to neither an answer nor a pair that is shown, of one of a call on one key, and of one that is of no call.

@@ -1,8 +1,9 @@
 //! All that waits is reclaimed, one step at a time.
 ghost use Rattle.std.specs.Prelude.{◌≡◌, ℕ, Bool, List, if◌then◌else◌};
 ghost use Rattle.seize.specs.ReclaimAll.{reclaiming_all, clearing};
-ghost use Rattle.papaya_executor.specs.IsAt.{Scene, IsAt, KeepsGiven};
-ghost use Rattle.papaya_reclaiming.specs.Reclaiming.{NobodyHas, MayReclaim, IsReclaiming, Leaves, ReclaimingLeads};
+ghost use Rattle.papaya_reclaiming.specs.Reclaiming.{NobodyHas, MayReclaim, IsReclaimingThere, Leaves, ReclaimsThere};
+ghost use Rattle.papaya_executor.specs.IsThere.{IsThere, KeepsGiven};
+ghost use Rattle.papaya_scenes.specs.Scene.{Scene};
 
 use papaya_executor::executor::Executor;
 use papaya_raw::Node;
@@ -27,8 +28,8 @@ fn leave<K, V, S>(executor: &mut Executor<K, V, S>, told: &Settled<Node<K, V>>)
 impl Reclaiming {
     /// Begins with the slots, if one was ever taken, else with the roots.
     pub fn new<K, V, S>(executor: &Executor<K, V, S>, taken: bool) -> Self
-        ensures begins { (same : K → K → Bool) (hash : K → ℕ) (s : Scene K V) (i : ℕ) (lists : ℕ → List ℕ) → IsAt same hash executor.now s → NobodyHas executor.now → MayReclaim executor.now s lists taken
-            → IsReclaiming same hash executor.now s i lists result.all }
+        ensures begins { (same : K → K → Bool) (hash : K → ℕ) (s : Scene K V) (i : ℕ) (lists : ℕ → List ℕ) → IsThere same hash executor.now s → NobodyHas executor.now → MayReclaim executor.now s lists taken
+            → IsReclaimingThere same hash executor.now s i lists result.all }
         ensures is { result.all ≡ (if taken then reclaiming_all executor.now.batch_size executor.now.roots else clearing executor.now.roots) }
     {
         let all = if taken {
@@ -41,9 +42,9 @@ impl Reclaiming {
 
     /// Takes the next step: at most one operation. Once it is over no slot is in use.
     pub fn step<K, V, S>(&mut self, executor: &mut Executor<K, V, S>) -> Settled<Node<K, V>>
-        requires { (same : K → K → Bool) × (hash : K → ℕ) × (s : Scene K V) × (i : ℕ) × (lists : ℕ → List ℕ) × IsReclaiming same hash executor.old s i lists self.old.all }
-        ensures leads { (same : K → K → Bool) (hash : K → ℕ) (s : Scene K V) (i : ℕ) (lists : ℕ → List ℕ) → IsReclaiming same hash executor.old s i lists self.old.all
-            → ReclaimingLeads same hash s i lists executor.old executor.new self.old.all self.new.all result }
+        requires { (same : K → K → Bool) × (hash : K → ℕ) × (s : Scene K V) × (i : ℕ) × (lists : ℕ → List ℕ) × IsReclaimingThere same hash executor.old s i lists self.old.all }
+        ensures leads { (same : K → K → Bool) (hash : K → ℕ) (s : Scene K V) (i : ℕ) (lists : ℕ → List ℕ) → IsReclaimingThere same hash executor.old s i lists self.old.all
+            → ReclaimsThere same hash s i lists executor.old executor.new self.old.all self.new.all result }
         ensures given { KeepsGiven executor.old executor.new }
     {
         let told = executor.step_nobodys(&mut self.all);

@@ -18,9 +18,6 @@ use Rattle.papaya_lives.specs.Given.Schedules.Moment.{Moment, Remains}
 use Rattle.papaya_lives.proofs.Given.Callers.Together.At.{at_other, at_same}
 use Rattle.papaya_lives.specs.Given.Effects.Known.{Known}
 use Rattle.papaya_lives.specs.Given.Effects.declared.role.Role.TheVariants as role
-use Rattle.papaya_lives.specs.Given.Executor.Ending.{EndingComesTo, ending_begun}
-use Rattle.papaya_lives.specs.Given.Executor.IsAt.{Scene, IsAt, slot_of}
-use Rattle.papaya_lives.specs.Given.Executor.declared.executor.Executor.{Executor}
 use Rattle.papaya_lives.specs.Given.Finishes.Endings.{Finishing, StepsOfEnding, finishing_of, waiting_by}
 use Rattle.papaya_lives.specs.Given.Finishes.FactsEnds.{taken_by}
 use Rattle.papaya_lives.specs.Given.Others.Endings.{ending_after}
@@ -32,6 +29,9 @@ use Rattle.papaya_lives.proofs.Order.{noted_still}
 use Rattle.papaya_remains.specs.Steps.{EndingsBeginRemain, EndingsKeepRemains}
 use Rattle.papaya_remains.proofs.Lists.{found_among}
 use Rattle.papaya_remains.proofs.Stays.{goes_on, remains_stay, roots_stay, used_then}
+use Rattle.papaya_lives.specs.Given.Scenes.Ending.{EndingComesTo, ending_begun}
+use Rattle.papaya_lives.specs.Given.Scenes.Held.{Held, IsAt}
+use Rattle.papaya_lives.specs.Given.Scenes.Scene.{Scene, slot_of}
 
 module _ {K V : Type 0} (roots : List ℕ) (enders : ℕ → Option (Finishing K V)) (i : ℕ) (each : (j : ℕ) (g : Finishing K V) → enders j ≡ Some g → is_among g.setting.root roots ≡ true) where
   -- an end of such a root comes, or goes on
@@ -53,8 +53,8 @@ module _ {K V : Type 0} (roots : List ℕ) (enders : ℕ → Option (Finishing K
       by (inl e) = absurd (let none : None ≡ Some g = sym (at_same enders i None j e) ∙ is in cc none)
       by (inr ne) = each j g (sym (at_other enders i None j ne) ∙ is)
 
-module _ (K V S : Type 0) (same : K → K → Bool) (hash : K → ℕ) where
-  pub endings_begin_remain : EndingsBeginRemain K V S same hash
+module _ (K V : Type 0) (same : K → K → Bool) (hash : ℕ → K → ℕ) where
+  pub endings_begin_remain : EndingsBeginRemain K V same hash
   endings_begin_remain name m known s old at shown shows map i standing stands none =
       goes_on old.roots m m known known s (ending_begun map i standing s) shows (λ b n is before after. is) refl refl
       (endings_begin_and_leave_it V same same old.batch_size old.roots slot_of s.world s.maps s.calls s.makers s.enders shows.lists at.together shows.left i none map standing stands
@@ -63,13 +63,13 @@ module _ (K V S : Type 0) (same : K → K → Bool) (hash : K → ℕ) where
       (let there = (shown.maps map standing stands).there in
       subst (λ (r : ℕ). is_among r (map_roots m) ≡ true) there.root (found_among (λ f. f.number == map) (λ f. f.root) m.maps there.there there.is)))
 
-  module _ (m : Moment K V) (known known2 : Known) (s : Scene K V) (old new : Executor K V S) (at : IsAt same hash old s) (shows : ShowsRemains old.roots m known s) (i : ℕ) (f : Finishing K V) (here : s.enders i ≡ Some f)
+  module _ (m : Moment K V) (known known2 : Known) (s : Scene K V) (old new : Held K V) (at : IsAt same hash old s) (shows : ShowsRemains old.roots m known s) (i : ℕ) (f : Finishing K V) (here : s.enders i ≡ Some f)
       (caller : Option (List ℕ)) (acted : Option ℕ) (effects : List Effect) where
     abbrev v : Moment K V
     v = with_effects caller acted effects m
 
     abbrev Did : EndMap → Settled (Node K V) → Type 0
-    Did ending said = StepsOfEnding V same same old.batch_size old.roots slot_of s.world s.maps s.calls s.makers s.enders i f new.memory.memory (ending, said)
+    Did ending said = StepsOfEnding V same same old.batch_size old.roots slot_of s.world s.maps s.calls s.makers s.enders i f new.memory (ending, said)
 
     -- it goes on, with what it has reclaimed by now
     goes_so : (ending : EndMap) (said : Settled (Node K V)) (did : Did ending said) (back : List ℕ) → LeftNoted known known2 s.world did.w2 → back ≡ f.back ++ taken_by did.deed
@@ -77,7 +77,7 @@ module _ (K V S : Type 0) (same : K → K → Bool) (hash : K → ℕ) where
     goes_so ending said did back noted is =
         let f2 : Finishing K V = record f { machine = ending; back = back; waits = f.waits ++ waiting_by did.deed } in
         goes_on old.roots m v known known2 s (record s { world = did.w2; enders = with_at s.enders i (Some f2) }) shows noted (roots_stay caller acted effects m) (remains_stay caller acted effects m)
-        ((endings_leave_it V same same old.batch_size old.roots slot_of s.world s.maps s.calls s.makers s.enders shows.lists at.together shows.left i f here new.memory.memory (ending, said) did).0 f2
+        ((endings_leave_it V same same old.batch_size old.roots slot_of s.world s.maps s.calls s.makers s.enders shows.lists at.together shows.left i f here new.memory (ending, said) did).0 f2
         (record { setting_is = refl; chart_is = refl; blocks_are = refl; back_is = is; waits_are = refl }))
         (with_end (map_roots m) s.enders i shows.ending f2 (shows.ending i f here))
 
@@ -126,8 +126,8 @@ module _ (K V S : Type 0) (same : K → K → Bool) (hash : K → ℕ) where
     then_so ending (settled.Gave value) did comes noted = goes_so ending (settled.Gave value) did (f.back ++ comes.0 ∷ []) noted (ap (λ (l : List ℕ). f.back ++ l) (sym comes.2))
     then_so ending settled.Done did comes noted =
         over_so ending did noted
-        ((endings_leave_it V same same old.batch_size old.roots slot_of s.world s.maps s.calls s.makers s.enders shows.lists at.together shows.left i f here new.memory.memory (ending, settled.Done) did).1 comes.1)
+        ((endings_leave_it V same same old.batch_size old.roots slot_of s.world s.maps s.calls s.makers s.enders shows.lists at.together shows.left i f here new.memory (ending, settled.Done) did).1 comes.1)
 
-  pub endings_keep_remains : EndingsKeepRemains K V S same hash
+  pub endings_keep_remains : EndingsKeepRemains K V same hash
   endings_keep_remains m known known2 s old new at shows i said leads f here caller acted effects noted =
       let to = leads f here in then_so m known known2 s old new at shows i f here caller acted effects to.0 said to.2 to.3 noted

@@ -15,9 +15,6 @@ use Rattle.papaya_lives.specs.Given.Schedules.Effects.{with_effects}
 use Rattle.papaya_lives.specs.Given.Schedules.Moment.{Moment}
 use Rattle.papaya_lives.proofs.Given.Callers.Together.At.{at_other, at_same}
 use Rattle.papaya_lives.specs.Given.Effects.Known.{Known}
-use Rattle.papaya_lives.specs.Given.Executor.IsAt.{Scene, IsAt, slot_of}
-use Rattle.papaya_lives.specs.Given.Executor.Making.{MakingComesTo}
-use Rattle.papaya_lives.specs.Given.Executor.declared.executor.Executor.{Executor}
 use Rattle.papaya_lives.specs.Given.Finishes.Endings.{EndingsTogether, MakingStepsAmong}
 use Rattle.papaya_lives.specs.Given.Finishes.Makings.{Beginning}
 use Rattle.papaya_lives.specs.Given.Finishes.Maps.{Standing}
@@ -30,6 +27,9 @@ use Rattle.papaya_reclaims.proofs.Left.Stays.{left_stays}
 use Rattle.papaya_remains.specs.Remains.{LeftNoted, ShowsRemains}
 use Rattle.papaya_remains.specs.Steps.{MakingsBeginRemain, MakingsKeepRemains}
 use Rattle.papaya_remains.proofs.Stays.{goes_on, remains_stay, roots_stay}
+use Rattle.papaya_lives.specs.Given.Scenes.Held.{Held, IsAt}
+use Rattle.papaya_lives.specs.Given.Scenes.Making.{MakingComesTo}
+use Rattle.papaya_lives.specs.Given.Scenes.Scene.{Scene, slot_of}
 
 -- maps with the same settings have the same roots
 module _ {K : Type 0} (maps maps2 : ℕ → Option (Standing K)) (alike : (n : ℕ) → option_map (λ (x : Standing K). x.setting) (maps n) ≡ option_map (λ (x : Standing K). x.setting) (maps2 n)) where
@@ -60,19 +60,19 @@ makings_begin_remain K V roots m known s shows i b none untaken =
     goes_on roots m m known known s (record s { makers = with_at s.makers i (Some b) }) shows (λ x n is before after. is) refl refl
     (makings_begin_and_leave_it V (λ (k l : K). true) (λ (k l : K). true) 0 roots slot_of s.world s.maps s.calls s.makers s.enders shows.lists shows.left i none b untaken) shows.ending
 
-module _ (K V S : Type 0) (same : K → K → Bool) (hash : K → ℕ) where
-  module _ (m : Moment K V) (known known2 : Known) (s : Scene K V) (old new : Executor K V S) (at : IsAt same hash old s) (shows : ShowsRemains old.roots m known s) (i : ℕ) (b : Beginning K) (here : s.makers i ≡ Some b)
+module _ (K V : Type 0) (same : K → K → Bool) (hash : ℕ → K → ℕ) where
+  module _ (m : Moment K V) (known known2 : Known) (s : Scene K V) (old new : Held K V) (at : IsAt same hash old s) (shows : ShowsRemains old.roots m known s) (i : ℕ) (b : Beginning K) (here : s.makers i ≡ Some b)
       (caller : Option (List ℕ)) (acted : Option ℕ) (effects : List Effect) where
     abbrev v : Moment K V
     v = with_effects caller acted effects m
 
     abbrev Did : NewMap → Progress Setting → Type 0
-    Did opening said = MakingStepsAmong V same same old.batch_size old.roots slot_of s.world s.maps s.calls s.makers s.enders i b new.memory.memory (opening, said)
+    Did opening said = MakingStepsAmong V same same old.batch_size old.roots slot_of s.world s.maps s.calls s.makers s.enders i b new.memory (opening, said)
 
     left_then : (opening : NewMap) (said : Progress Setting) (did : Did opening said)
         → MakingLeft V same same old.batch_size old.roots slot_of s.world s.maps s.calls s.makers s.enders shows.lists i b did.step.w2 (opening, said) did.told
     left_then opening said did =
-        makings_leave_it V same same old.batch_size old.roots slot_of s.world s.maps s.calls s.makers s.enders shows.lists at.together shows.left i b here new.memory.memory (opening, said) did
+        makings_leave_it V same same old.batch_size old.roots slot_of s.world s.maps s.calls s.makers s.enders shows.lists at.together shows.left i b here new.memory (opening, said) did
 
     -- the map that came, as it stands
     comes_so : (w2 : World (Node K V)) (st t : Standing K) → EndingsTogether V same same old.batch_size old.roots slot_of w2 (with_at s.maps b.map (Some st)) s.calls (with_at s.makers i None) s.enders
@@ -99,6 +99,6 @@ module _ (K V S : Type 0) (same : K → K → Bool) (hash : K → ℕ) where
         goes_on old.roots m v known known2 s (making_after same hash s old new i b opening did.step.w2 (progress.Refused fault) comes) shows noted (roots_stay caller acted effects m) (remains_stay caller acted effects m)
         (left_then opening (progress.Refused fault) did) shows.ending
 
-  pub makings_keep_remains : MakingsKeepRemains K V S same hash
+  pub makings_keep_remains : MakingsKeepRemains K V same hash
   makings_keep_remains m known known2 s old new at shows i said leads b here caller acted effects noted =
       let to = leads b here in then_so m known known2 s old new at shows i b here caller acted effects to.0 said to.2 to.3 noted

@@ -14,13 +14,13 @@ use Rattle.papaya_lives.specs.Given.Schedules.Views.{map_of}
 use Rattle.papaya_lives.specs.Given.Effects.Known.{Known}
 use Rattle.papaya_lives.specs.Given.Effects.declared.role.Role.TheVariants as role
 use Rattle.papaya_lives.specs.Given.Finishes.Makings.{IsFreeRoot}
-use Rattle.papaya_lives.specs.Given.Executor.IsAt.{Scene}
 use Rattle.papaya_lives.specs.Given.Others.Endings.{without_map}
 use Rattle.papaya_reclaims.specs.Left.{IsSomebodys}
 use Rattle.papaya_reclaims.proofs.Left.Stays.{nothing_is_left}
 use Rattle.papaya_remains.specs.Remains.{AscendFrom, ShowsRemains, has_some, left_at, left_roots, map_roots}
 use Rattle.papaya_remains.specs.Steps.{MapsComeRemain, MapsGoRemain, ReclaimedRemain}
 use Rattle.papaya_remains.proofs.Lists.{among_append, among_remains, ascends, either, left_new, left_none, left_other, neither, none_times, not_among, some_noted, some_times, taken_out, times_remains}
+use Rattle.papaya_lives.specs.Given.Scenes.Scene.{Scene}
 
 or_true : (a b : Bool) → b ≡ true → (a || b) ≡ true
 or_true true b e = refl

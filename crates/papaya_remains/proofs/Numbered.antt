@@ -1,9 +1,8 @@
--- Each step leaves numbers of maps below the next one that the executor gives.
-use Rattle.std.specs.Prelude.{◌⊎◌, ◌≤◌, ◌<◌, ◌==◌, find, List, [], ◌∷◌, length, Option, Some, None, option_map, nat_lt, ◌&&◌, if◌then◌else◌}
+-- Each step leaves numbers of maps below the next one that is given.
+use Rattle.std.specs.Prelude.{◌<◌, ◌==◌, find, List, [], ◌∷◌, Option, Some, None, nat_lt, ◌&&◌, if◌then◌else◌}
 use Rattle.std.specs.List.{All}
-use Rattle.std.proofs.Common.{◌≡◌, ℕ, zero, suc, Bool, true, false, inl, inr, refl, ap, sym, subst, ◌∙◌, arith}
-use Rattle.std.proofs.lemmas.Bool.{cases_lt}
-use Rattle.std.proofs.lemmas.List.{get_or_past, length-map}
+use Rattle.std.proofs.Common.{◌≡◌, ℕ, zero, suc, Bool, true, false, refl, ap, subst, arith}
+use Rattle.std.proofs.lemmas.List.{length-map}
 use Rattle.papaya_lives.specs.Given.SeizeWords.declared.at.At.TheVariants.{Root, Used, Slot, Entry, Word}
 use Rattle.papaya_lives.specs.Given.Teller.declared.changed.Changed.{Changed}
 use Rattle.papaya_lives.specs.Given.Teller.declared.changed.Changed.TheVariants as changed
@@ -19,9 +18,6 @@ use Rattle.papaya_lives.specs.Given.Effects.Known.{Known}
 use Rattle.papaya_lives.specs.Given.Effects.declared.acting.Acting.TheVariants as acts
 use Rattle.papaya_lives.specs.Given.Effects.declared.role.Role.{Role}
 use Rattle.papaya_lives.specs.Given.Effects.declared.role.Role.TheVariants as role
-use Rattle.papaya_lives.specs.Given.Executor.IsAt.{Scene, IsAt}
-use Rattle.papaya_lives.specs.Given.Executor.declared.executor.Executor.{Executor}
-use Rattle.papaya_lives.specs.Given.Finishes.Maps.{Standing}
 use Rattle.papaya_lives.proofs.Given.Others.RowPlans.{TellsRow}
 use Rattle.papaya_lives.specs.Given.Moments.Numbers.{NumbersMaps}
 use Rattle.papaya_lives.proofs.Given.Moments.Numbers.{rows_keep_numbers, steps_keep_numbers}
@@ -49,32 +45,22 @@ module _ {K V : Type 0} (caller : Option (List ℕ)) (acted : Option ℕ) where
         tables = subst (λ (ts : List TableThere). All (λ t. t.table.map < count) ts) alike.1 (subst (λ (k : ℕ). All (λ t. t.table.map < k) x.tables) made n.tables);
       }
 
--- a map that stands has a number
-module _ {K V S : Type 0} (same : K → K → Bool) (hash : K → ℕ) (e : Executor K V S) (s : Scene K V) (at : IsAt same hash e s) where
-  pub standing_below : (n : ℕ) (st : Standing K) → s.maps n ≡ Some st → n < length e.maps.items
-  standing_below n st here = by (cases_lt n (length e.maps.items))
-    where
-      by : (n < length e.maps.items) ⊎ (length e.maps.items ≤ n) → n < length e.maps.items
-      by (inl l) = l
-      by (inr past) =
-          absurd (let none : Some st.setting ≡ None = sym (ap (option_map (λ (x : Standing K). x.setting)) here) ∙ at.maps n ∙ get_or_past e.maps.items n None past in cc none)
+module _ (K V : Type 0) (same : K → K → Bool) (hash : ℕ → K → ℕ) where
+  pub calls_keep_count : CallsKeepCount K V same hash
+  calls_keep_count m known s old new count below numbers map i u here said leads caller acted =
+      to_count caller acted (effects_of (acts.Call i map) known new.changed) m count
+      (steps_keep_numbers K V (record m { made = count }) numbers caller acted (acts.Call i map) known new.changed
+      (below.standing map (leads map u here).0 (leads map u here).2))
 
-module _ (K V S : Type 0) (same : K → K → Bool) (hash : K → ℕ) where
-  pub calls_keep_count : CallsKeepCount K V S same hash
-  calls_keep_count m known s old new at numbers map i u here said leads caller acted =
-      to_count caller acted (effects_of (acts.Call i map) known new.memory.changed) m (length old.maps.items)
-      (steps_keep_numbers K V (record m { made = length old.maps.items }) numbers caller acted (acts.Call i map) known new.memory.changed
-      (standing_below same hash old s at map (leads map u here).0 (leads map u here).2))
-
-  pub rows_keep_count : RowsKeepCount K V S same hash
+  pub rows_keep_count : RowsKeepCount K V same hash
   rows_keep_count m known s old new count numbers i said leads row here =
-      to_count None None (effects_of acts.Row known new.memory.changed) m count
-      (rows_keep_numbers K V S same hash (record m { made = count }) numbers known s old new i said leads row here)
+      to_count None None (effects_of acts.Row known new.changed) m count
+      (rows_keep_numbers K V same hash (record m { made = count }) numbers known s old new i said leads row here)
 
-  pub makings_keep_count : MakingsKeepCount K V S same hash
-  makings_keep_count m known s old new at numbers i b here caller acted =
-      to_count caller acted (effects_of (acts.Making b.map) known new.memory.changed) m (length old.maps.items)
-      (steps_keep_numbers K V (record m { made = length old.maps.items }) numbers caller acted (acts.Making b.map) known new.memory.changed (at.numbers i b here))
+  pub makings_keep_count : MakingsKeepCount K V same hash
+  makings_keep_count m known s new count below numbers i b here caller acted =
+      to_count caller acted (effects_of (acts.Making b.map) known new.changed) m count
+      (steps_keep_numbers K V (record m { made = count }) numbers caller acted (acts.Making b.map) known new.changed (below.made i b here))
 
 -- where all numbers are below none there is no table
 module _ {K V : Type 0} (m : Moment K V) (known : Known) (numbers : NumbersUpTo 0 m) where

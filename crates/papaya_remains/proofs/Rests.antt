@@ -11,8 +11,6 @@ use Rattle.papaya_lives.specs.Given.Schedules.Moment.{MapThere, Moment}
 use Rattle.papaya_lives.specs.Given.Schedules.Views.{map_at}
 use Rattle.papaya_lives.specs.Given.Effects.Known.{Known}
 use Rattle.papaya_lives.specs.Given.Effects.declared.role.Role.TheVariants as role
-use Rattle.papaya_lives.specs.Given.Executor.IsAt.{Scene, IsAt}
-use Rattle.papaya_lives.specs.Given.Executor.declared.executor.Executor.{Executor}
 use Rattle.papaya_lives.specs.Given.Finishes.Maps.{Standing}
 use Rattle.papaya_lives.specs.Given.Follows.Shows.{Shows}
 use Rattle.papaya_lives.proofs.Given.Runs.Pairs.Held.{times-append}
@@ -23,6 +21,8 @@ use Rattle.papaya_reclaims.proofs.Left.Stays.{left_is_left_behind}
 use Rattle.papaya_remains.specs.Remains.{AllStand, RootsAreTaken, ShowsRemains, has_some, left_at, left_roots, map_roots}
 use Rattle.papaya_remains.specs.Steps.{RestsNoted, RestsRemain}
 use Rattle.papaya_remains.proofs.Lists.{among_append, found_among, left_none, not_among, some_times}
+use Rattle.papaya_lives.specs.Given.Scenes.Held.{Held, IsAt}
+use Rattle.papaya_lives.specs.Given.Scenes.Scene.{Scene}
 
 -- a root that is there is that of one that is there
 root_there : (P Q : MapThere → Type 0) (r : ℕ) (fs : List MapThere) → is_among r (map (λ f. f.root) fs) ≡ true → All P fs → AllByRecursion Q fs → (f : MapThere) × (f.root ≡ r) × P f × Q f
@@ -34,7 +34,7 @@ root_there P Q r (f ∷ fs) e all each = by (r == f.root) refl e (λ later. root
     by true same is ih = (f, sym (eqb-true r f.root same), all 0 f (omega arith), each.0)
     by false other is ih = ih is
 
-module _ {K V S : Type 0} (same : K → K → Bool) (hash : K → ℕ) (name : ℕ → List ℕ) (m : Moment K V) (known : Known) (s : Scene K V) (e : Executor K V S) (at : IsAt same hash e s)
+module _ {K V : Type 0} (same : K → K → Bool) (hash : ℕ → K → ℕ) (name : ℕ → List ℕ) (m : Moment K V) (known : Known) (s : Scene K V) (e : Held K V) (at : IsAt same hash e s)
     (shown : Shows same name m known s) (shows : ShowsRemains e.roots m known s) (found : AreFound m) (stand : AllStand m s) (no_makers : (j : ℕ) → s.makers j ≡ None) (no_enders : (j : ℕ) → s.enders j ≡ None) where
   -- roots of maps that are there are those of maps that stand
   stands_there : (r : ℕ) → is_among r (map_roots m) ≡ true → IsRootOf s.maps r
@@ -91,18 +91,18 @@ module _ {K V S : Type 0} (same : K → K → Bool) (hash : K → ℕ) (name : �
         subst (TakenAs r) (sym (used_among r ∙ ap (λ (q : Bool). q || is_among r (left_roots m)) none ∙ shows.told r below none)) (word_so r (shows.lists r) leads))
   ]
 
-  in_memory : RootsAreTaken e.roots m e.memory.memory
+  in_memory : RootsAreTaken e.roots m e.memory
   in_memory r below = subst (λ (x : Mem (Node K V)). word_at x (Used r) ≡ Some (if is_among r (used_roots m) then 1 else 0)) at.memory (taken r below)
 
-pub rests_remain : (K V S : Type 0) (same : K → K → Bool) (hash : K → ℕ) → RestsRemain K V S same hash
-rests_remain K V S same hash name m known s e at shown shows found stand no_makers no_enders = (
+pub rests_remain : (K V : Type 0) (same : K → K → Bool) (hash : ℕ → K → ℕ) → RestsRemain K V same hash
+rests_remain K V same hash name m known s e at shown shows found stand no_makers no_enders = (
   in_memory same hash name m known s e at shown shows found stand no_makers no_enders,
   (left_is_left_behind K V e.roots s.world s.maps s.makers s.enders shows.lists no_makers no_enders).0 shows.left,
 )
 
 -- And what is behind each root then, also behind that of a map, is noted as what is told.
-pub each_noted : (K V S : Type 0) (same : K → K → Bool) (hash : K → ℕ) → RestsNoted K V S same hash
-each_noted K V S same hash name m known s e at shown shows found stand no_makers no_enders r below = by (is_among r (map_roots m)) refl
+pub each_noted : (K V : Type 0) (same : K → K → Bool) (hash : ℕ → K → ℕ) → RestsNoted K V same hash
+each_noted K V same hash name m known s e at shown shows found stand no_makers no_enders r below = by (is_among r (map_roots m)) refl
   where
     none_told : is_among r (map_roots m) ≡ true → is_among r (left_roots m) ≡ false
     none_told is =

@@ -6,12 +6,10 @@ use Rattle.std.proofs.lemmas.List.{get_or-replicate, length-replicate}
 use Rattle.papaya_lives.specs.Given.SeizeWords.declared.at.At.{At}
 use Rattle.papaya_lives.specs.Given.SeizeWords.declared.at.At.TheVariants.{Root, Used, Slot, Entry, Word}
 use Rattle.papaya_lives.specs.Given.SeizeWords.declared.slots.TheConstants.{SLOT_WORDS}
-use Rattle.papaya_lives.specs.Given.SeizeWords.Mem.{Mem, Can, Took, after, same_at, value_at, with_room, with_word, word_at}
+use Rattle.papaya_lives.specs.Given.SeizeWords.Mem.{Mem, Can, after, same_at, with_room, with_word, word_at}
 use Rattle.papaya_lives.specs.Given.SeizeWords.Op.{Op, Out, Load, Store, Swap, Add, Or, Exchange, Make, Take, Rewrite, Room, Found, Exchanged, Made, Roomed}
 use Rattle.papaya_lives.specs.Given.SeizeWords.Place.{capacity}
-use Rattle.papaya_lives.specs.Given.SeizeWords.Plan.{May}
-use Rattle.papaya_lives.specs.Given.SeizeWords.SlotWords.{slot_word}
-use Rattle.papaya_lives.specs.Given.SeizeWords.SlotWords.{with_bucket as with_slots}
+use Rattle.papaya_lives.specs.Given.SeizeWords.SlotWords.{slot_word, with_bucket as with_slots}
 use Rattle.papaya_lives.specs.Given.SeizeWords.Word.{block_in}
 use Rattle.papaya_lives.proofs.Given.SeizeWords.OneOwner.AfterWrites.{word_at-with_word}
 use Rattle.papaya_lives.proofs.Given.SeizeWords.Places.Words.{capacity-more, capacity_le_capacity, capacity_pos, with_bucket_next, with_bucket_there}
@@ -21,7 +19,6 @@ use Rattle.papaya_lives.specs.Given.Tables.declared.node.Node.{Node}
 use Rattle.papaya_lives.specs.Given.Tables.declared.table_words.TheConstants.{NEXT}
 use Rattle.papaya_lives.specs.Given.Raw.EndMap.{end_map_plan}
 use Rattle.papaya_lives.specs.Given.Raw.Machine.{machine_plan}
-use Rattle.papaya_lives.specs.Given.Raw.declared.machines.end_map.EndMap.{EndMap}
 use Rattle.papaya_lives.specs.Given.Resize.NewMap.{new_map_plan}
 use Rattle.papaya_lives.specs.Given.Teller.Tells.{told_of}
 use Rattle.papaya_lives.specs.Given.Teller.declared.changed.Changed.{Changed}
@@ -33,16 +30,11 @@ use Rattle.papaya_lives.specs.Given.Effects.declared.acting.Acting.{Acting}
 use Rattle.papaya_lives.specs.Given.Effects.declared.acting.Acting.TheVariants as acts
 use Rattle.papaya_lives.specs.Given.Effects.declared.role.Role.{Role}
 use Rattle.papaya_lives.specs.Given.Effects.declared.role.Role.TheVariants as role
-use Rattle.papaya_lives.specs.Given.Executor.IsAt.{slot_of}
 use Rattle.papaya_lives.specs.Given.Finishes.Machines.{machine_of}
-use Rattle.papaya_lives.proofs.Given.Executor.Endings.{has_ending, taken_ending}
-use Rattle.papaya_lives.proofs.Given.Executor.Endings.{may_taken as may_end}
-use Rattle.papaya_lives.proofs.Given.Executor.Makings.{may_make}
-use Rattle.papaya_lives.proofs.Given.Executor.OnSlots.{may_taken, row_at}
-use Rattle.papaya_lives.proofs.Given.Executor.Steps.{may_step}
 use Rattle.papaya_lives.proofs.Given.Follows.Operations.{Operated, operated}
 use Rattle.papaya_lives.proofs.Given.Others.RowPlans.{row_operated}
 use Rattle.papaya_remains.specs.Slots.{CallsNoteSlots, EndingsNoteSlots, MakingsNoteSlots, RowsNoteSlots, SlotsBegin, SlotsNoted}
+use Rattle.papaya_lives.proofs.Given.Scenes.May.{may_end, may_make, may_row, may_step}
 
 -- no bucket came
 abbrev IsNoRoom : Changed → Type 0
@@ -248,30 +240,28 @@ module _ {K V : Type 0} where
 pub slots_begin : (K V : Type 0) → SlotsBegin K V
 slots_begin K V roots = record { some = λ l. absurd (omega (arith, l)); none = λ e. refl; whole = omega arith }
 
-module _ (K V S : Type 0) (same : K → K → Bool) (hash : K → ℕ) where
-  pub calls_note_slots : CallsNoteSlots K V S same hash
+module _ (K V : Type 0) (same : K → K → Bool) (hash : ℕ → K → ℕ) where
+  pub calls_note_slots : CallsNoteSlots K V same hash
   calls_note_slots known s old new at noted map i u here said leads =
       let to = leads map u here in
-      operation_notes (acts.Call i map) known old.memory.memory new.memory.memory new.memory.changed
-      (operated old.memory.memory new.memory.memory new.memory.changed (machine_plan same same hash (machine_of u)) (to.1, said) (may_step same hash old s at map i u here) to.3) noted
+      operation_notes (acts.Call i map) known old.memory new.memory new.changed
+      (operated old.memory new.memory new.changed (machine_plan same same to.0.hash (machine_of u)) (to.1, said) (may_step same hash old s at map to.0 to.2 i u here) to.3) noted
 
-  pub rows_note_slots : RowsNoteSlots K V S same hash
+  pub rows_note_slots : RowsNoteSlots K V same hash
   rows_note_slots known s old new at noted i said leads row here =
       let to = leads row here in
-      operation_notes acts.Row known old.memory.memory new.memory.memory new.memory.changed
-      (row_operated old.memory.memory new.memory.memory new.memory.changed (to.0, said) row (may_taken same hash old s at i row here (slot_of i) row (row_at same hash old s at i row here)) to.1) noted
+      operation_notes acts.Row known old.memory new.memory new.changed
+      (row_operated old.memory new.memory new.changed (to.0, said) row (may_row same hash old s at i row here) to.1) noted
 
-  pub makings_note_slots : MakingsNoteSlots K V S same hash
+  pub makings_note_slots : MakingsNoteSlots K V same hash
   makings_note_slots known s old new at noted i said leads b here map =
       let to = leads b here in
-      operation_notes (acts.Making map) known old.memory.memory new.memory.memory new.memory.changed
-      (operated old.memory.memory new.memory.memory new.memory.changed (new_map_plan b.machine) (to.0, said) (may_make same hash old s at i b here) to.1) noted
+      operation_notes (acts.Making map) known old.memory new.memory new.changed
+      (operated old.memory new.memory new.changed (new_map_plan b.machine) (to.0, said) (may_make same hash old s at i b here) to.1) noted
 
-  pub endings_note_slots : EndingsNoteSlots K V S same hash
+  pub endings_note_slots : EndingsNoteSlots K V same hash
   endings_note_slots known s old new at noted i said leads f here map =
       let to = leads f here in
-      let it = has_ending same hash old s at i (f, here) in
-      let is = taken_ending same hash old s at i f here it.0 it.1 it.2 in
-      let may = subst (λ (x : EndMap). May Can Took value_at old.memory.memory (end_map_plan {K = K} {V = V} x)) is.1 (may_end same hash old s at i (f, here) it.0 it.1 it.2) in
-      operation_notes (acts.Ending map) known old.memory.memory new.memory.memory new.memory.changed
-      (operated old.memory.memory new.memory.memory new.memory.changed (end_map_plan f.machine) (to.0, said) may to.1) noted
+      let may = may_end same hash old s at i f here in
+      operation_notes (acts.Ending map) known old.memory new.memory new.changed
+      (operated old.memory new.memory new.changed (end_map_plan f.machine) (to.0, said) may to.1) noted

@@ -18,13 +18,13 @@ use Rattle.papaya_lives.specs.Given.Effects.declared.role.Role.TheVariants as ro
 use Rattle.papaya_lives.specs.Given.Finishes.Endings.{Finishing}
 use Rattle.papaya_lives.specs.Given.Finishes.Makings.{Beginning}
 use Rattle.papaya_lives.specs.Given.Finishes.Maps.{Standing}
-use Rattle.papaya_lives.specs.Given.Executor.IsAt.{Scene, at_first}
 use Rattle.papaya_reclaims.specs.Left.{LeftAmong}
 use Rattle.papaya_reclaims.proofs.Behind.Kept.{in_all}
 use Rattle.papaya_reclaims.proofs.Left.Stays.{nothing_is_left}
 use Rattle.papaya_remains.specs.Remains.{AscendFrom, LeftNoted, ShowsRemains, left_at, map_roots}
 use Rattle.papaya_remains.specs.Steps.{BeginsRemain, StaysRemain}
 use Rattle.papaya_lives.proofs.Order.{noted_still}
+use Rattle.papaya_lives.specs.Given.Scenes.Scene.{Scene, at_first}
 
 -- a map whose root's table is another one has its root
 root_same : (t : Table) (f : MapThere) → (promoted t f).root ≡ f.root

@@ -1,5 +1,5 @@
--- Numbers of maps, as an executor counts them: those that are there and those of all tables are below the next one that it gives, while maps are made, too.
-use Rattle.std.specs.Prelude.{◌≡◌, ◌+◌, ℕ, Bool, List, length, Option, Some, None}
+-- Numbers of maps, as they are given: those that are there and those of all tables are below the next one, while maps are made, too.
+use Rattle.std.specs.Prelude.{◌≡◌, ◌+◌, ℕ, Bool, List, Option, Some, None}
 use Rattle.papaya_lives.specs.Given.Tables.declared.node.Node.{Node}
 use Rattle.papaya_lives.specs.Given.Raw.declared.machines.progress.Progress.{Progress as CallTold}
 use Rattle.papaya_lives.specs.Given.Schedules.Effects.{with_effects}
@@ -9,41 +9,40 @@ use Rattle.papaya_lives.specs.Given.Effects.Effects.{effects_of, taken_by}
 use Rattle.papaya_lives.specs.Given.Effects.Known.{Known}
 use Rattle.papaya_lives.specs.Given.Effects.declared.acting.Acting.TheVariants as acts
 use Rattle.papaya_lives.specs.Given.Effects.declared.role.Role.{Role}
-use Rattle.papaya_lives.specs.Given.Executor.IsAt.{Scene, IsAt, work_of}
-use Rattle.papaya_lives.specs.Given.Executor.OnSlots.{RowLeads}
-use Rattle.papaya_lives.specs.Given.Executor.Stepping.{StepLeads}
-use Rattle.papaya_lives.specs.Given.Executor.declared.executor.Executor.{Executor}
-use Rattle.papaya_lives.specs.Given.Executor.declared.row.RowTold.{RowTold}
-use Rattle.papaya_lives.specs.Given.Executor.declared.row.SlotRow.{SlotRow}
-use Rattle.papaya_lives.specs.Given.Executor.declared.worker.Work.TheVariants.{OnSlot}
+use Rattle.papaya_lives.specs.Given.Scenes.declared.row.RowTold.{RowTold}
+use Rattle.papaya_lives.specs.Given.Scenes.declared.row.SlotRow.{SlotRow}
 use Rattle.papaya_lives.specs.Given.Finishes.Makings.{Beginning}
-use Rattle.papaya_lives.specs.Given.Moments.Numbers.{NumbersMaps}
+use Rattle.papaya_lives.specs.Given.Moments.Numbers.{MapsAreBelow, NumbersMaps}
+use Rattle.papaya_lives.specs.Given.Scenes.Held.{Held}
+use Rattle.papaya_lives.specs.Given.Scenes.OnSlots.{RowLeads}
+use Rattle.papaya_lives.specs.Given.Scenes.Scene.{IsOnSlot, Scene}
+use Rattle.papaya_lives.specs.Given.Scenes.Stepping.{StepLeads}
 
 -- numbers are as they are where so many have been given
 abbrev pub NumbersUpTo : {K V : Type 0} → ℕ → Moment K V → Type 0
 NumbersUpTo count m = NumbersMaps (record m { made = count })
 
-module _ (K V S : Type 0) (same : K → K → Bool) (hash : K → ℕ) where
+module _ (K V : Type 0) (same : K → K → Bool) (hash : ℕ → K → ℕ) where
   -- The promises: so it is after each step of a call,
   abbrev pub CallsKeepCount : Type 0
   CallsKeepCount =
-      (m : Moment K V) (known : Known) (s : Scene K V) (old new : Executor K V S) → IsAt same hash old s → NumbersUpTo (length old.maps.items) m
+      (m : Moment K V) (known : Known) (s : Scene K V) (old new : Held K V) → (count : ℕ) → MapsAreBelow count s → NumbersUpTo count m
       → (map i : ℕ) (u : UnderWay K V K) → s.calls map i ≡ Some u → (said : CallTold (Node K V)) → StepLeads same hash i said s old new
-      → (caller : Option (List ℕ)) (acted : Option ℕ) → NumbersUpTo (length old.maps.items) (with_effects caller acted (effects_of (acts.Call i map) known new.memory.changed) m)
+      → (caller : Option (List ℕ)) (acted : Option ℕ) → NumbersUpTo count (with_effects caller acted (effects_of (acts.Call i map) known new.changed) m)
 
   -- of a row on a slot,
   abbrev pub RowsKeepCount : Type 0
   RowsKeepCount =
-      (m : Moment K V) (known : Known) (s : Scene K V) (old new : Executor K V S) → (count : ℕ) → NumbersUpTo count m
-      → (i : ℕ) (said : RowTold (Node K V)) → RowLeads same hash i said s old new → (row : SlotRow) → work_of old i ≡ Some (OnSlot row)
-      → NumbersUpTo count (with_effects None None (effects_of acts.Row known new.memory.changed) m)
+      (m : Moment K V) (known : Known) (s : Scene K V) (old new : Held K V) → (count : ℕ) → NumbersUpTo count m
+      → (i : ℕ) (said : RowTold (Node K V)) → RowLeads same hash i said s old new → (row : SlotRow) → IsOnSlot s i row
+      → NumbersUpTo count (with_effects None None (effects_of acts.Row known new.changed) m)
 
   -- of the making of a map,
   abbrev pub MakingsKeepCount : Type 0
   MakingsKeepCount =
-      (m : Moment K V) (known : Known) (s : Scene K V) (old : Executor K V S) (new : Executor K V S) → IsAt same hash old s → NumbersUpTo (length old.maps.items) m
+      (m : Moment K V) (known : Known) (s : Scene K V) (new : Held K V) (count : ℕ) → MapsAreBelow count s → NumbersUpTo count m
       → (i : ℕ) (b : Beginning K) → s.makers i ≡ Some b → (caller : Option (List ℕ)) (acted : Option ℕ)
-      → NumbersUpTo (length old.maps.items) (with_effects caller acted (effects_of (acts.Making b.map) known new.memory.changed) m)
+      → NumbersUpTo count (with_effects caller acted (effects_of (acts.Making b.map) known new.changed) m)
 
 module _ (K V : Type 0) where
   -- and where what a block was ends with its map;

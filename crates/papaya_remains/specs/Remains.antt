@@ -13,8 +13,8 @@ use Rattle.papaya_lives.specs.Given.Effects.Known.{Known}
 use Rattle.papaya_lives.specs.Given.Effects.declared.role.Role.TheVariants as role
 use Rattle.papaya_lives.specs.Given.Finishes.Endings.{Finishing}
 use Rattle.papaya_lives.specs.Given.Finishes.Maps.{Standing}
-use Rattle.papaya_lives.specs.Given.Executor.IsAt.{Scene}
 use Rattle.papaya_reclaims.specs.Left.{LeftAmong}
+use Rattle.papaya_lives.specs.Given.Scenes.Scene.{Scene}
 
 -- there is something in the list
 abbrev pub has_some : List ℕ → Bool

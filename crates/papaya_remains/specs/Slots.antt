@@ -13,17 +13,16 @@ use Rattle.papaya_lives.specs.Given.Callers.Together.{UnderWay}
 use Rattle.papaya_lives.specs.Given.Effects.Effects.{known_after}
 use Rattle.papaya_lives.specs.Given.Effects.Known.{Known, nothing_known}
 use Rattle.papaya_lives.specs.Given.Effects.declared.acting.Acting.TheVariants as acts
-use Rattle.papaya_lives.specs.Given.Executor.Ending.{EndingLeads}
-use Rattle.papaya_lives.specs.Given.Executor.IsAt.{Scene, IsAt, at_first, work_of}
-use Rattle.papaya_lives.specs.Given.Executor.Making.{MakingLeads}
-use Rattle.papaya_lives.specs.Given.Executor.OnSlots.{RowLeads}
-use Rattle.papaya_lives.specs.Given.Executor.Stepping.{StepLeads}
-use Rattle.papaya_lives.specs.Given.Executor.declared.executor.Executor.{Executor}
-use Rattle.papaya_lives.specs.Given.Executor.declared.row.RowTold.{RowTold}
-use Rattle.papaya_lives.specs.Given.Executor.declared.row.SlotRow.{SlotRow}
-use Rattle.papaya_lives.specs.Given.Executor.declared.worker.Work.TheVariants.{OnSlot}
+use Rattle.papaya_lives.specs.Given.Scenes.declared.row.RowTold.{RowTold}
+use Rattle.papaya_lives.specs.Given.Scenes.declared.row.SlotRow.{SlotRow}
 use Rattle.papaya_lives.specs.Given.Finishes.Endings.{Finishing}
 use Rattle.papaya_lives.specs.Given.Finishes.Makings.{Beginning}
+use Rattle.papaya_lives.specs.Given.Scenes.Ending.{EndingLeads}
+use Rattle.papaya_lives.specs.Given.Scenes.Held.{Held, IsAt}
+use Rattle.papaya_lives.specs.Given.Scenes.Making.{MakingLeads}
+use Rattle.papaya_lives.specs.Given.Scenes.OnSlots.{RowLeads}
+use Rattle.papaya_lives.specs.Given.Scenes.Scene.{IsOnSlot, Scene, at_first}
+use Rattle.papaya_lives.specs.Given.Scenes.Stepping.{StepLeads}
 
 -- where a bucket is noted the first slot has a word, and where none is there is no slot; slots are as many as the buckets that are noted have
 pub record SlotsNoted {T : Type 0} (noted : Known) (m : Mem T) : Type 0 where
@@ -35,30 +34,30 @@ pub record SlotsNoted {T : Type 0} (noted : Known) (m : Mem T) : Type 0 where
 abbrev pub SlotsBegin : Type 0 → Type 0 → Type 0
 SlotsBegin K V = (roots : ℕ) → SlotsNoted nothing_known (at_first {K = K} {V = V} roots).world.memory
 
-module _ (K V S : Type 0) (same : K → K → Bool) (hash : K → ℕ) where
+module _ (K V : Type 0) (same : K → K → Bool) (hash : ℕ → K → ℕ) where
   -- after each step of a call,
   abbrev pub CallsNoteSlots : Type 0
   CallsNoteSlots =
-      (known : Known) (s : Scene K V) (old new : Executor K V S) → IsAt same hash old s → SlotsNoted known old.memory.memory
+      (known : Known) (s : Scene K V) (old new : Held K V) → IsAt same hash old s → SlotsNoted known old.memory
       → (map i : ℕ) (u : UnderWay K V K) → s.calls map i ≡ Some u → (said : CallTold (Node K V)) → StepLeads same hash i said s old new
-      → SlotsNoted (known_after (acts.Call i map) new.memory.changed known) new.memory.memory
+      → SlotsNoted (known_after (acts.Call i map) new.changed known) new.memory
 
   -- of a row on a slot,
   abbrev pub RowsNoteSlots : Type 0
   RowsNoteSlots =
-      (known : Known) (s : Scene K V) (old new : Executor K V S) → IsAt same hash old s → SlotsNoted known old.memory.memory
-      → (i : ℕ) (said : RowTold (Node K V)) → RowLeads same hash i said s old new → (row : SlotRow) → work_of old i ≡ Some (OnSlot row)
-      → SlotsNoted (known_after acts.Row new.memory.changed known) new.memory.memory
+      (known : Known) (s : Scene K V) (old new : Held K V) → IsAt same hash old s → SlotsNoted known old.memory
+      → (i : ℕ) (said : RowTold (Node K V)) → RowLeads same hash i said s old new → (row : SlotRow) → IsOnSlot s i row
+      → SlotsNoted (known_after acts.Row new.changed known) new.memory
 
   -- of the making of a map, and of the end of one.
   abbrev pub MakingsNoteSlots : Type 0
   MakingsNoteSlots =
-      (known : Known) (s : Scene K V) (old new : Executor K V S) → IsAt same hash old s → SlotsNoted known old.memory.memory
+      (known : Known) (s : Scene K V) (old new : Held K V) → IsAt same hash old s → SlotsNoted known old.memory
       → (i : ℕ) (said : Progress Setting) → MakingLeads same hash i said s old new → (b : Beginning K) → s.makers i ≡ Some b → (map : ℕ)
-      → SlotsNoted (known_after (acts.Making map) new.memory.changed known) new.memory.memory
+      → SlotsNoted (known_after (acts.Making map) new.changed known) new.memory
 
   abbrev pub EndingsNoteSlots : Type 0
   EndingsNoteSlots =
-      (known : Known) (s : Scene K V) (old new : Executor K V S) → IsAt same hash old s → SlotsNoted known old.memory.memory
+      (known : Known) (s : Scene K V) (old new : Held K V) → IsAt same hash old s → SlotsNoted known old.memory
       → (i : ℕ) (said : Settled (Node K V)) → EndingLeads same hash i said s old new → (f : Finishing K V) → s.enders i ≡ Some f → (map : ℕ)
-      → SlotsNoted (known_after (acts.Ending map) new.memory.changed known) new.memory.memory
+      → SlotsNoted (known_after (acts.Ending map) new.changed known) new.memory

@@ -17,17 +17,9 @@ use Rattle.papaya_lives.specs.Given.Schedules.Views.{map_of}
 use Rattle.papaya_lives.specs.Given.Callers.Together.{UnderWay}
 use Rattle.papaya_lives.specs.Given.Effects.Known.{Known, nothing_known}
 use Rattle.papaya_lives.specs.Given.Effects.declared.role.Role.TheVariants as role
-use Rattle.papaya_lives.specs.Given.Executor.Ending.{EndingLeads, ending_begun}
-use Rattle.papaya_lives.specs.Given.Executor.IsAt.{Scene, IsAt, at_first, slot_of, work_of}
-use Rattle.papaya_lives.specs.Given.Executor.Making.{MakingLeads}
-use Rattle.papaya_lives.specs.Given.Executor.OnSlots.{MayBegin, RowBegins, RowLeads}
-use Rattle.papaya_lives.specs.Given.Executor.Rows.{request_of}
-use Rattle.papaya_lives.specs.Given.Executor.Stepping.{StepLeads, scene_after}
-use Rattle.papaya_lives.specs.Given.Executor.declared.executor.Executor.{Executor}
-use Rattle.papaya_lives.specs.Given.Executor.declared.row.RowTold.{RowTold}
-use Rattle.papaya_lives.specs.Given.Executor.declared.row.SlotCall.{SlotCall}
-use Rattle.papaya_lives.specs.Given.Executor.declared.row.SlotRow.{SlotRow}
-use Rattle.papaya_lives.specs.Given.Executor.declared.worker.Work.TheVariants.{OnSlot}
+use Rattle.papaya_lives.specs.Given.Scenes.declared.row.RowTold.{RowTold}
+use Rattle.papaya_lives.specs.Given.Scenes.declared.row.SlotCall.{SlotCall}
+use Rattle.papaya_lives.specs.Given.Scenes.declared.row.SlotRow.{SlotRow}
 use Rattle.papaya_lives.specs.Given.Finishes.Endings.{Finishing}
 use Rattle.papaya_lives.specs.Given.Finishes.Makings.{Beginning, HasTaken}
 use Rattle.papaya_lives.specs.Given.Finishes.Maps.{Standing}
@@ -38,6 +30,13 @@ use Rattle.papaya_lives.specs.Given.Others.Rows.{scene_then}
 use Rattle.papaya_lives.specs.Given.Moments.Numbers.{AreFound}
 use Rattle.papaya_reclaims.specs.Reclaims.{AllIsReclaimed, LeftBehind}
 use Rattle.papaya_remains.specs.Remains.{AllStand, LeftNoted, RootsAreTaken, ShowsRemains, left_at, map_roots}
+use Rattle.papaya_lives.specs.Given.Scenes.Ending.{EndingLeads, ending_begun}
+use Rattle.papaya_lives.specs.Given.Scenes.Held.{Held, IsAt}
+use Rattle.papaya_lives.specs.Given.Scenes.Making.{MakingLeads}
+use Rattle.papaya_lives.specs.Given.Scenes.OnSlots.{RowBegins, RowLeads}
+use Rattle.papaya_lives.specs.Given.Scenes.Rows.{request_of}
+use Rattle.papaya_lives.specs.Given.Scenes.Scene.{IsOnSlot, Scene, at_first, slot_of}
+use Rattle.papaya_lives.specs.Given.Scenes.Stepping.{StepLeads, scene_after}
 
 module _ (K V : Type 0) where
   -- The promises: so it is before all events,
@@ -74,36 +73,36 @@ module _ (K V : Type 0) where
       (roots : ℕ) (m v : Moment K V) (known known2 : Known) (s t : Scene K V) → ShowsRemains roots m known s → map_roots v ≡ map_roots m → v.remains ≡ []
       → ((j : ℕ) → t.makers j ≡ None) → ((j : ℕ) → t.enders j ≡ None) → AllIsReclaimed roots t.world t.maps → ShowsRemains roots v known2 t
 
-module _ (K V S : Type 0) (same : K → K → Bool) (hash : K → ℕ) where
+module _ (K V : Type 0) (same : K → K → Bool) (hash : ℕ → K → ℕ) where
   -- So it is after each step of a call, whatever it is told to have done, if what is left over is noted as it was,
   abbrev pub CallsKeepRemains : Type 0
   CallsKeepRemains =
-      (m : Moment K V) (known known2 : Known) (s : Scene K V) (old new : Executor K V S) → IsAt same hash old s → ShowsRemains old.roots m known s
+      (m : Moment K V) (known known2 : Known) (s : Scene K V) (old new : Held K V) → IsAt same hash old s → ShowsRemains old.roots m known s
       → (map i : ℕ) (u : UnderWay K V K) (here : s.calls map i ≡ Some u) (said : CallTold (Node K V)) (leads : StepLeads same hash i said s old new)
       → (caller : Option (List ℕ)) (acted : Option ℕ) (effects : List Effect)
       → (let to = leads map u here in
-      let led = scene_after same hash s old new map i to.0 u to.1 said to.4 in
+      let led = scene_after same s old new map i to.0 u to.1 said to.4 in
       LeftNoted known known2 s.world led.world → ShowsRemains old.roots (with_effects caller acted effects m) known2 led)
 
   -- where a row begins on a slot, and after each step of it,
   abbrev pub RowsBeginRemain : Type 0
   RowsBeginRemain =
-      (m : Moment K V) (known : Known) (s : Scene K V) (old new : Executor K V S) → IsAt same hash old s → ShowsRemains old.roots m known s
-      → (called : SlotCall) (i : ℕ) (may : MayBegin old (slot_of i) called) (leads : RowBegins same hash called i s old new)
-      → ShowsRemains old.roots m known (scene_then same hash (Begin i (request_of (slot_of i) called)) s old new (leads may).3)
+      (m : Moment K V) (known : Known) (s : Scene K V) (old new : Held K V) → IsAt same hash old s → ShowsRemains old.roots m known s
+      → (called : SlotCall) (i : ℕ) (leads : RowBegins same hash called i s old new)
+      → ShowsRemains old.roots m known (scene_then same hash (Begin i (request_of (slot_of i) called)) s old new leads.2)
 
   abbrev pub RowsKeepRemains : Type 0
   RowsKeepRemains =
-      (m : Moment K V) (known known2 : Known) (s : Scene K V) (old new : Executor K V S) → IsAt same hash old s → ShowsRemains old.roots m known s
-      → (i : ℕ) (said : RowTold (Node K V)) (leads : RowLeads same hash i said s old new) (row : SlotRow) (here : work_of old i ≡ Some (OnSlot row))
+      (m : Moment K V) (known known2 : Known) (s : Scene K V) (old new : Held K V) → IsAt same hash old s → ShowsRemains old.roots m known s
+      → (i : ℕ) (said : RowTold (Node K V)) (leads : RowLeads same hash i said s old new) (row : SlotRow) (here : IsOnSlot s i row)
       → (caller : Option (List ℕ)) (acted : Option ℕ) (effects : List Effect)
-      → (let led = scene_then same hash (Step i) s old new (leads row here).4 in
+      → (let led = scene_then same hash (Step i) s old new (leads row here).2 in
       LeftNoted known known2 s.world led.world → ShowsRemains old.roots (with_effects caller acted effects m) known2 led)
 
   -- after each step of the making of a map,
   abbrev pub MakingsKeepRemains : Type 0
   MakingsKeepRemains =
-      (m : Moment K V) (known known2 : Known) (s : Scene K V) (old new : Executor K V S) → IsAt same hash old s → ShowsRemains old.roots m known s
+      (m : Moment K V) (known known2 : Known) (s : Scene K V) (old new : Held K V) → IsAt same hash old s → ShowsRemains old.roots m known s
       → (i : ℕ) (said : Progress Setting) (leads : MakingLeads same hash i said s old new) (b : Beginning K) (here : s.makers i ≡ Some b)
       → (caller : Option (List ℕ)) (acted : Option ℕ) (effects : List Effect)
       → (let to = leads b here in
@@ -113,12 +112,12 @@ module _ (K V S : Type 0) (same : K → K → Bool) (hash : K → ℕ) where
   -- where the end of one begins, by one that ends none, and after each step of it.
   abbrev pub EndingsBeginRemain : Type 0
   EndingsBeginRemain =
-      (name : ℕ → List ℕ) (m : Moment K V) (known : Known) (s : Scene K V) (old : Executor K V S) → IsAt same hash old s → Shows same name m known s → ShowsRemains old.roots m known s
+      (name : ℕ → List ℕ) (m : Moment K V) (known : Known) (s : Scene K V) (old : Held K V) → IsAt same hash old s → Shows same name m known s → ShowsRemains old.roots m known s
       → (map i : ℕ) (standing : Standing K) → s.maps map ≡ Some standing → s.enders i ≡ None → ShowsRemains old.roots m known (ending_begun map i standing s)
 
   abbrev pub EndingsKeepRemains : Type 0
   EndingsKeepRemains =
-      (m : Moment K V) (known known2 : Known) (s : Scene K V) (old new : Executor K V S) → IsAt same hash old s → ShowsRemains old.roots m known s
+      (m : Moment K V) (known known2 : Known) (s : Scene K V) (old new : Held K V) → IsAt same hash old s → ShowsRemains old.roots m known s
       → (i : ℕ) (said : Settled (Node K V)) (leads : EndingLeads same hash i said s old new) (f : Finishing K V) (here : s.enders i ≡ Some f)
       → (caller : Option (List ℕ)) (acted : Option ℕ) (effects : List Effect)
       → (let to = leads f here in
@@ -128,13 +127,13 @@ module _ (K V S : Type 0) (same : K → K → Bool) (hash : K → ℕ) where
   -- Where no map is made, and none ends, and each that is there stands, roots are taken as the moment says; and what is behind them is what a caller finds there that reclaims all.
   abbrev pub RestsRemain : Type 0
   RestsRemain =
-      (name : ℕ → List ℕ) (m : Moment K V) (known : Known) (s : Scene K V) (e : Executor K V S) → IsAt same hash e s → Shows same name m known s → (shows : ShowsRemains e.roots m known s)
+      (name : ℕ → List ℕ) (m : Moment K V) (known : Known) (s : Scene K V) (e : Held K V) → IsAt same hash e s → Shows same name m known s → (shows : ShowsRemains e.roots m known s)
       → AreFound m → AllStand m s → ((j : ℕ) → s.makers j ≡ None) → ((j : ℕ) → s.enders j ≡ None)
-      → RootsAreTaken e.roots m e.memory.memory × LeftBehind e.roots s.world s.maps shows.lists
+      → RootsAreTaken e.roots m e.memory × LeftBehind e.roots s.world s.maps shows.lists
 
   -- And what is behind each root then is noted as what is told to be left over there.
   abbrev pub RestsNoted : Type 0
   RestsNoted =
-      (name : ℕ → List ℕ) (m : Moment K V) (known : Known) (s : Scene K V) (e : Executor K V S) → IsAt same hash e s → Shows same name m known s → (shows : ShowsRemains e.roots m known s)
+      (name : ℕ → List ℕ) (m : Moment K V) (known : Known) (s : Scene K V) (e : Held K V) → IsAt same hash e s → Shows same name m known s → (shows : ShowsRemains e.roots m known s)
       → AreFound m → AllStand m s → ((j : ℕ) → s.makers j ≡ None) → ((j : ℕ) → s.enders j ≡ None)
       → (r : ℕ) → r < e.roots → map known.roles (shows.lists r) ≡ map role.Pair (left_at r m.remains)

@@ -5,7 +5,6 @@ use Rattle.papaya_logged.specs.Given.Runs.Present.{Present}
 use Rattle.papaya_logged.specs.Given.Schedules.Moment.{Remains, Sheltered, Moment}
 use Rattle.papaya_logged.specs.Given.Finishes.Maps.{Standing}
 use Rattle.papaya_logged.specs.Given.Effects.Known.{Known, known as noted_in}
-use Rattle.papaya_logged.specs.Given.Executor.IsAt.{Scene}
 use Rattle.papaya_logged.specs.Given.Follows.Maps.{ShowsMap}
 use Rattle.papaya_logged.specs.Given.Moments.Whole.{ShowsWhole}
 use Rattle.papaya_logged.specs.Given.Kept.Kept.{ShowsKept}
@@ -13,6 +12,7 @@ use Rattle.papaya_logged.proofs.Given.Kept.Stays.{stays_kept}
 use Rattle.papaya_logged.proofs.Given.Remains.Stays.{stays_remain}
 use Rattle.papaya_logged.specs.Shown.{AreNumbered, IsCounted}
 use Rattle.papaya_logged.specs.declared.logged.Logged.{Logged}
+use Rattle.papaya_logged.specs.Given.Scenes.Scene.{Scene}
 
 -- the moment with other events so far, guards and sections, and with other remains of maps
 abbrev pub elsewhere : {K V : Type 0} → ℕ → Bool → Bool → Bool → Present → ℕ → List Sheltered → List Remains → Moment K V → Moment K V

@@ -5,24 +5,16 @@ use Rattle.std.proofs.lemmas.Bool.{cases_lt, eq-eqb}
 use Rattle.std.proofs.lemmas.List.{get_or_past}
 use Rattle.papaya_logged.specs.Given.Seize.World.{Use, Rests}
 use Rattle.papaya_logged.specs.Given.Finishes.Machines.{machine_of}
-use Rattle.papaya_logged.specs.Given.Executor.IsAt.{Scene, IsAt, IsUsedAs, HasRow, call_in, making_in, ending_in, row_of, use_at, work_of}
 use Rattle.papaya_logged.specs.Given.Executor.declared.executor.Executor.{Executor}
-use Rattle.papaya_logged.specs.Given.Executor.declared.row.SlotRow.{SlotRow}
-use Rattle.papaya_logged.specs.Given.Executor.declared.row.SlotRow.TheVariants as rows
-use Rattle.papaya_logged.specs.Given.Executor.declared.row.SlotUse.{SlotUse}
-use Rattle.papaya_logged.specs.Given.Executor.declared.row.SlotUse.TheVariants as used
-use Rattle.papaya_logged.specs.Given.Executor.declared.worker.TheConstants.{SLOTS}
+use Rattle.papaya_logged.specs.Given.Scenes.declared.row.SlotUse.{SlotUse}
+use Rattle.papaya_logged.specs.Given.Scenes.declared.row.SlotUse.TheVariants as used
+use Rattle.papaya_logged.specs.Given.Scenes.declared.callers.TheConstants.{SLOTS}
 use Rattle.papaya_logged.specs.Given.Executor.declared.worker.Work.{Work}
 use Rattle.papaya_logged.specs.Given.Executor.declared.worker.Work.TheVariants as work
 use Rattle.papaya_logged.proofs.Given.Executor.Places.{none_of}
-
--- a row is none that rests
-never_rests : (it : SlotRow) → row_of it ≡ Rests → ⊥
-never_rests (rows.Registers c) e = cc e
-never_rests (rows.Enters c) e = cc e
-never_rests (rows.Leaves c) e = cc e
-never_rests (rows.Flushes c) e = cc e
-never_rests (rows.Frees c) e = cc e
+use Rattle.papaya_logged.specs.Given.Executor.IsThere.{HasRow, IsThere, IsUsedAs, call_in, ending_in, making_in, use_at, work_of}
+use Rattle.papaya_logged.specs.Given.Scenes.Scene.{Scene}
+use Rattle.papaya_logged.proofs.Given.Scenes.Rows.{never_rests}
 
 none_mapped : {A B : Type 0} (f : A → B) (o : Option A) → o ≡ None → (b : B) → option_map f o ≡ Some b → ⊥
 none_mapped f None e b h = cc h
@@ -47,7 +39,7 @@ used_once used.Changing used.Outside u a b = absurd (let c = b.1 in cc (a, c))
 used_once used.Changing used.Inside u a b = absurd (let c = b.1 in cc (a, c))
 used_once used.Changing used.Changing u a b = refl
 
-module _ {K V S : Type 0} (same : K → K → Bool) (hash : K → ℕ) (e : Executor K V S) (s : Scene K V) (at : IsAt same hash e s) where
+module _ {K V S : Type 0} (same : K → K → Bool) (hash : K → ℕ) (e : Executor K V S) (s : Scene K V) (at : IsThere same hash e s) where
   -- a caller of which the scene has nothing has nothing under way
   pub no_work_at : (i : ℕ) → ((n : ℕ) → s.calls n i ≡ None) → s.makers i ≡ None → s.enders i ≡ None → s.world.row i ≡ Rests → work_of e i ≡ None
   no_work_at i calls makers enders rests = by (work_of e i) refl
@@ -95,6 +87,6 @@ module _ {K V S : Type 0} (same : K → K → Bool) (hash : K → ℕ) (e : Exec
       by (inr past) = absurd (ne (get_or_past e.slots.items slot used.Vacant past))
 
   -- at another scene in which nothing of this has changed
-  module _ (e2 : Executor K V S) (s2 : Scene K V) (at2 : IsAt same hash e2 s2) where
+  module _ (e2 : Executor K V S) (s2 : Scene K V) (at2 : IsThere same hash e2 s2) where
     pub used_still : (slot : ℕ) → s2.world.uses slot ≡ s.world.uses slot → use_at e2 slot ≡ use_at e slot
     used_still slot is = used_once (use_at e2 slot) (use_at e slot) (s2.world.uses slot) (at2.uses slot) (subst (IsUsedAs (use_at e slot)) (sym is) (at.uses slot))

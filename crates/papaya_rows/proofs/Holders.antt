@@ -19,14 +19,15 @@ use Rattle.papaya_logged.specs.Given.Tables.Nodes.{deferred_word}
 use Rattle.papaya_logged.specs.Given.Tables.declared.node.Node.{Node}
 use Rattle.papaya_logged.specs.Given.Callers.Rows.{IsRowOn}
 use Rattle.papaya_logged.specs.Given.Callers.Together.{CameAbout}
-use Rattle.papaya_logged.specs.Given.Executor.IsAt.{Scene, IsAt, slot_of, use_at}
-use Rattle.papaya_logged.specs.Given.Executor.OnSlots.{NobodyIn}
 use Rattle.papaya_logged.specs.Given.Executor.declared.executor.Executor.{Executor}
-use Rattle.papaya_logged.specs.Given.Executor.declared.row.SlotUse.TheVariants as used
-use Rattle.papaya_logged.specs.Given.Executor.declared.worker.TheConstants.{SLOTS}
+use Rattle.papaya_logged.specs.Given.Scenes.declared.row.SlotUse.TheVariants as used
+use Rattle.papaya_logged.specs.Given.Scenes.declared.callers.TheConstants.{SLOTS}
+use Rattle.papaya_rows.proofs.Facts.{row_rests}
 use Rattle.papaya_logged.proofs.Given.Executor.Fresh.{caller_in, resting}
 use Rattle.papaya_logged.proofs.Given.Executor.Uses.{reached, taken_now}
-use Rattle.papaya_rows.proofs.Facts.{row_rests}
+use Rattle.papaya_logged.specs.Given.Executor.IsThere.{IsThere, use_at}
+use Rattle.papaya_logged.specs.Given.Executor.OnSlots.{NobodyIn}
+use Rattle.papaya_logged.specs.Given.Scenes.Scene.{Scene, slot_of}
 
 -- a row that settles on a slot is on that one alone
 its_slot : (slot t : ℕ) (row : Row) → SettlesOn slot row → IsRowOn t row → t ≡ slot
@@ -38,12 +39,12 @@ its_slot slot t (Enters c) settles on = absurd settles
 its_slot slot t (Defers u c) settles on = absurd settles
 its_slot slot t (Frees c) settles on = absurd settles
 
-module _ {K V S : Type 0} (same : K → K → Bool) (hash : K → ℕ) (e : Executor K V S) (s : Scene K V) (at : IsAt same hash e s) where
+module _ {K V S : Type 0} (same : K → K → Bool) (hash : K → ℕ) (e : Executor K V S) (s : Scene K V) (at : IsThere same hash e s) where
   abbrev pub good : Good deferred_word (LAST_SLOT + 1) e.batch_size s.world
   good = (reached same hash e s at).good
 
   pub held : HeldByRows s.world
-  held = by at.together.makings.standing.came
+  held = by at.held.together.makings.standing.came
     where
       by : CameAbout {K = K} {V = V} e.batch_size s.world → HeldByRows s.world
       by (roots, events, runs) =
@@ -51,7 +52,7 @@ module _ {K V S : Type 0} (same : K → K → Bool) (hash : K → ℕ) (e : Exec
           (start_held (deferred_word {K = K} {V = V}) e.batch_size roots)
 
   pub works_there : (j slot : ℕ) → has_batch slot (s.world.row j) ≡ true → slot_of j ≡ slot
-  works_there j slot has = its_slot slot (slot_of j) (s.world.row j) (has_its deferred_word s.world good held j slot (s.world.row j) refl has) (at.on_slots j)
+  works_there j slot has = its_slot slot (slot_of j) (s.world.row j) (has_its deferred_word s.world good held j slot (s.world.row j) refl has) (at.held.on_slots j)
 
   pub word_says : (j slot : ℕ) → slot < SLOTS → has_batch slot (s.world.row j) ≡ true → words_of s.world.memory (Slot slot BATCH) ≡ HELD
   word_says j slot fits has = held_while deferred_word s.world good held j slot (omega (arith, fits)) has
@@ -67,7 +68,7 @@ module _ {K V S : Type 0} (same : K → K → Bool) (hash : K → ℕ) (e : Exec
   word_there slot fits may =
       let can = row_may deferred_word (LAST_SLOT + 1) e.batch_size refl begun good_then (caller_in e slot) (Settles (flushing slot e.batch_size))
       (with_here s.world.row (caller_in e slot) (Settles (flushing slot e.batch_size))) in
-      subst (λ (m : Mem (Node K V)). IsSome (word_at m (Slot slot BATCH))) at.memory can.0
+      subst (λ (m : Mem (Node K V)). IsSome (word_at m (Slot slot BATCH))) at.held.memory can.0
     where
       begun : World (Node K V)
       begun = with_use (with_row s.world (caller_in e slot) (Settles (flushing slot e.batch_size))) slot (one_more (s.world.uses slot))

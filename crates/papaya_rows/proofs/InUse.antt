@@ -7,8 +7,8 @@ use Rattle.papaya_logged.specs.Given.Runs.declared.holders.Registration.{Registr
 use Rattle.papaya_logged.specs.Given.Runs.Present.{Present, guards_on, has_registration}
 use Rattle.papaya_logged.specs.Given.Schedules.InUse.{used_slots}
 use Rattle.papaya_logged.specs.Given.Schedules.Lists.{is_among}
-use Rattle.papaya_logged.specs.Given.Executor.declared.row.SlotUse.{SlotUse}
-use Rattle.papaya_logged.specs.Given.Executor.declared.row.SlotUse.TheVariants as used
+use Rattle.papaya_logged.specs.Given.Scenes.declared.row.SlotUse.{SlotUse}
+use Rattle.papaya_logged.specs.Given.Scenes.declared.row.SlotUse.TheVariants as used
 use Rattle.papaya_rows.specs.Rows.{used_as}
 
 eqb_turned : (a b : ℕ) → (a == b) ≡ (b == a)

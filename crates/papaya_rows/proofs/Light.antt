@@ -22,11 +22,12 @@ use Rattle.papaya_logged.specs.Given.Callers.Rows.{row_of, row_of_copier, row_of
 use Rattle.papaya_logged.specs.Given.Callers.Together.{UnderWay, OnKey, ForRoom, Counting, OverAll}
 use Rattle.papaya_logged.specs.Given.Finishes.Machines.{machine_of}
 use Rattle.papaya_logged.specs.Given.Finishes.Maps.{Standing}
-use Rattle.papaya_logged.specs.Given.Executor.IsAt.{Scene, IsAt, call_in, slot_of, work_of}
 use Rattle.papaya_logged.specs.Given.Executor.declared.executor.Executor.{Executor}
 use Rattle.papaya_logged.specs.Given.Executor.declared.worker.Work.{Work}
 use Rattle.papaya_logged.specs.Given.Executor.declared.worker.Work.TheVariants as work
 use Rattle.papaya_logged.proofs.Given.Executor.Uses.{reached}
+use Rattle.papaya_logged.specs.Given.Executor.IsThere.{IsThere, call_in, work_of}
+use Rattle.papaya_logged.specs.Given.Scenes.Scene.{Scene, slot_of}
 
 -- a row works on no slot, or shares the one that it works on
 abbrev IsLight : Row → Type 0
@@ -61,21 +62,21 @@ sweep_light slot _ = inl refl
 rests_light : (row : Row) → row ≡ Rests → IsLight row
 rests_light row is = subst IsLight (sym is) (inl refl)
 
-module _ {K V S : Type 0} (same : K → K → Bool) (hash : K → ℕ) (e : Executor K V S) (s : Scene K V) (at : IsAt same hash e s) where
+module _ {K V S : Type 0} (same : K → K → Bool) (hash : K → ℕ) (e : Executor K V S) (s : Scene K V) (at : IsThere same hash e s) where
   on_map : (map j : ℕ) (standing : Standing K) → s.maps map ≡ Some standing → (u : UnderWay K V K) → s.calls map j ≡ Some u → IsLight (s.world.row j)
   on_map map j standing here (OnKey u) is =
-      elim ((at.together.makings.standing.each map standing here).stand j (OnKey u) is) as (λ _. IsLight (s.world.row j)) [
+      elim ((at.held.together.makings.standing.each map standing here).stand j (OnKey u) is) as (λ _. IsLight (s.world.row j)) [
         | inl d ↦ rests_light (s.world.row j) d.0
         | inr d ↦ subst IsLight (sym d.0) (call_light (slot_of j) u.call.stands)
       ]
   on_map map j standing here (ForRoom r) is =
-      elim ((at.together.makings.standing.each map standing here).stand j (ForRoom r) is) as (λ _. IsLight (s.world.row j)) [
+      elim ((at.held.together.makings.standing.each map standing here).stand j (ForRoom r) is) as (λ _. IsLight (s.world.row j)) [
         | inl d ↦ rests_light (s.world.row j) d.0
         | inr d ↦ subst IsLight (sym d.0) (room_light r.reserve.stands)
       ]
-  on_map map j standing here (Counting sum) is = rests_light (s.world.row j) ((at.together.makings.standing.each map standing here).stand j (Counting sum) is).0
+  on_map map j standing here (Counting sum) is = rests_light (s.world.row j) ((at.held.together.makings.standing.each map standing here).stand j (Counting sum) is).0
   on_map map j standing here (OverAll o) is =
-      elim ((at.together.makings.standing.each map standing here).stand j (OverAll o) is) as (λ _. IsLight (s.world.row j)) [
+      elim ((at.held.together.makings.standing.each map standing here).stand j (OverAll o) is) as (λ _. IsLight (s.world.row j)) [
         | inl d ↦ rests_light (s.world.row j) d.0
         | inr d ↦ subst IsLight (sym d.0) (sweep_light (slot_of j) o.sweep.stands)
       ]
@@ -84,7 +85,7 @@ module _ {K V S : Type 0} (same : K → K → Bool) (hash : K → ℕ) (e : Exec
   within_call map j u is = by (s.maps map) refl
     where
       by : (o : Option (Standing K)) → s.maps map ≡ o → IsLight (s.world.row j)
-      by None gone = absurd (let none = at.together.makings.standing.only map j gone in cc (none, is))
+      by None gone = absurd (let none = at.held.together.makings.standing.only map j gone in cc (none, is))
       by (Some standing) here = on_map map j standing here u is
 
   -- who calls has a call in the scene

@@ -17,18 +17,14 @@ use Rattle.papaya_logged.specs.Given.Teller.declared.changed.Changed.TheVariants
 use Rattle.papaya_logged.specs.Given.Schedules.declared.effect.Effect.{Effect}
 use Rattle.papaya_logged.specs.Given.Schedules.Moment.{Moment}
 use Rattle.papaya_logged.specs.Given.Callers.Rows.{IsRowOn}
-use Rattle.papaya_logged.specs.Given.Executor.IsAt.{Scene, HasRow, row_of, slot_of, work_of}
-use Rattle.papaya_logged.specs.Given.Executor.OnSlots.{MayBegin, RowLeads, RowSteps, row_on}
-use Rattle.papaya_logged.specs.Given.Executor.Rows.{begun_row, of_settling}
 use Rattle.papaya_logged.specs.Given.Executor.declared.executor.Executor.{Executor}
-use Rattle.papaya_logged.specs.Given.Executor.declared.row.RowTold.{RowTold}
-use Rattle.papaya_logged.specs.Given.Executor.declared.row.RowTold.TheVariants as told
-use Rattle.papaya_logged.specs.Given.Executor.declared.row.SlotCall.{SlotCall}
-use Rattle.papaya_logged.specs.Given.Executor.declared.row.SlotRow.{SlotRow}
-use Rattle.papaya_logged.specs.Given.Executor.declared.row.SlotRow.TheVariants as rows
+use Rattle.papaya_logged.specs.Given.Scenes.declared.row.RowTold.{RowTold}
+use Rattle.papaya_logged.specs.Given.Scenes.declared.row.RowTold.TheVariants as told
+use Rattle.papaya_logged.specs.Given.Scenes.declared.row.SlotCall.{SlotCall}
+use Rattle.papaya_logged.specs.Given.Scenes.declared.row.SlotRow.{SlotRow}
+use Rattle.papaya_logged.specs.Given.Scenes.declared.row.SlotRow.TheVariants as rows
 use Rattle.papaya_logged.specs.Given.Executor.declared.worker.Work.{Work}
 use Rattle.papaya_logged.specs.Given.Executor.declared.worker.Work.TheVariants.{OnSlot}
-use Rattle.papaya_logged.proofs.Given.Executor.Forgotten.{as_step}
 use Rattle.papaya_logged.specs.OnSlots.{has_come}
 use Rattle.papaya_logged.specs.Shown.{IsShown}
 use Rattle.papaya_logged.specs.declared.logged.Logged.{Logged}
@@ -36,6 +32,12 @@ use Rattle.papaya_rows.specs.Rows.{RowRan}
 use Rattle.papaya_rows.specs.Settling.{IsSettling}
 use Rattle.papaya_rows.proofs.Holders.{good, held}
 use Rattle.papaya_rows.proofs.Ran.{Led, begun_way, goes_led, step_led}
+use Rattle.papaya_logged.proofs.Given.Scenes.Told.{as_step}
+use Rattle.papaya_logged.specs.Given.Executor.IsThere.{HasRow, work_of}
+use Rattle.papaya_logged.specs.Given.Executor.OnSlots.{MayBegin, RowStepsThere, row_on}
+use Rattle.papaya_logged.specs.Given.Scenes.OnSlots.{RowSteps}
+use Rattle.papaya_logged.specs.Given.Scenes.Rows.{begun_row, of_settling}
+use Rattle.papaya_logged.specs.Given.Scenes.Scene.{Scene, row_of, slot_of}
 
 module _ (K V : Type 0) where
   abbrev Told : Type 0
@@ -84,20 +86,20 @@ module _ {K V S : Type 0} (same : K → K → Bool) (hash : K → ℕ) (i : ℕ)
   is_row row here = subst (λ (x : Option (Work K V)). HasRow x (led.w.row i)) here (led.at.rows i)
 
   is_on : (row : SlotRow) → work_of e i ≡ Some (OnSlot row) → IsRowOn (slot_of i) (row_of row)
-  is_on row here = subst (IsRowOn (slot_of i)) (is_row row here) (led.at.on_slots i)
+  is_on row here = subst (IsRowOn (slot_of i)) (is_row row here) (led.at.held.on_slots i)
 
   -- by its next step it does not wait
   pub never_waits : (row : SlotRow) → work_of e i ≡ Some (OnSlot row) → IsSettling row → (m2 : Mem (Node K V)) (changed : Changed) (after : SlotRow)
       → RowSteps K V row e.memory.memory m2 changed (after, told.Waits) → ⊥
   never_waits (rows.Leaves c) here is m2 changed after st =
-      let steps = subst (λ (m : Mem (Node K V)). Steps Took value_at m (leave_plan deferred_word c) m2 st.0) (sym led.at.memory)
+      let steps = subst (λ (m : Mem (Node K V)). Steps Took value_at m (leave_plan deferred_word c) m2 st.0) (sym led.at.held.memory)
       (as_step e.memory.memory Nothing (leave_plan deferred_word c) m2 changed st.0 st.1) in
       let waits = waits_by K V st.0.1 told.Waits (ap (λ (x : SlotRow × RowTold (Node K V)). x.1) st.2) refl in
       let other = leaves_wait deferred_word led.w (good same hash e then_at led.at) (held same hash e then_at led.at) i c st.0.0 m2 (is_row (rows.Leaves c) here)
       (subst (λ (o : Settled (Node K V)). Steps Took value_at led.w.memory (leave_plan deferred_word c) m2 (st.0.0, o)) waits steps) in
       alone_then c.slot (is_on (rows.Leaves c) here) other.0 other.2 other.1
   never_waits (rows.Flushes c) here is m2 changed after st =
-      let steps = subst (λ (m : Mem (Node K V)). Steps Took value_at m (settle_plan deferred_word c) m2 st.0) (sym led.at.memory)
+      let steps = subst (λ (m : Mem (Node K V)). Steps Took value_at m (settle_plan deferred_word c) m2 st.0) (sym led.at.held.memory)
       (as_step e.memory.memory Nothing (settle_plan deferred_word c) m2 changed st.0 st.1) in
       let waits = waits_by K V st.0.1 told.Waits (ap (λ (x : SlotRow × RowTold (Node K V)). x.1) st.2) refl in
       let other = settles_wait deferred_word led.w (good same hash e then_at led.at) (held same hash e then_at led.at) i c st.0.0 m2 (is_row (rows.Flushes c) here)
@@ -119,24 +121,24 @@ module _ {K V S : Type 0} (same : K → K → Bool) (hash : K → ℕ) (name : �
       goes_led same hash ran.caller s IsSettling (settling_keeps K V) ran.last.1 ran.began.executor mid ran.last.2
       (begun_way same hash name m s old new shown slot called said before after ran may IsSettling settles)
 
-  last : RowLeads same hash ran.caller said (record s { world = on.0.w; maps = on.0.maps }) mid new.executor
+  last : RowStepsThere same hash ran.caller said (record s { world = on.0.w; maps = on.0.maps }) mid new.executor
   last = ran.last.3 same hash (record s { world = on.0.w; maps = on.0.maps }) on.0.at
 
   not_waits : said ≡ told.Waits → ⊥
   not_waits is =
       let to = last on.1.0 on.1.1 in
       never_waits same hash ran.caller s (λ j has. alone j (subst (λ (x : ℕ). has_batch x (s.world.row j) ≡ true) ran.in_slot has)) mid on.0 on.1.0 on.1.1 on.1.2
-      new.executor.memory.memory new.executor.memory.changed to.0
-      (subst (λ (x : RowTold (Node K V)). RowSteps K V on.1.0 mid.memory.memory new.executor.memory.memory new.executor.memory.changed (to.0, x)) is to.1)
+      new.executor.memory.memory new.executor.memory.changed to.1
+      (subst (λ (x : RowTold (Node K V)). RowSteps K V on.1.0 mid.memory.memory new.executor.memory.memory new.executor.memory.changed (to.1, x)) is to.2)
 
   pub done_alone : said ≡ told.Done
   done_alone =
       let to = last on.1.0 on.1.1 in
-      let tells = settling_tells K V mid.memory.memory new.executor.memory.memory new.executor.memory.changed on.1.0 to.0 said on.1.2 to.1 in
+      let tells = settling_tells K V mid.memory.memory new.executor.memory.memory new.executor.memory.changed on.1.0 to.1 said on.1.2 to.2 in
       done_by K V tells.0 said tells.1 ran.come not_waits
 
   pub led_alone : Led same hash ran.caller s new.executor
   led_alone = step_led same hash ran.caller s mid new.executor said on.1.0 on.1.1 ran.last.3 on.0
 
   pub over_alone : work_of new.executor ran.caller ≡ None
-  over_alone = (last on.1.0 on.1.1).2 ∙ ap (λ (x : RowTold (Node K V)). row_on {K = K} {V = V} (last on.1.0 on.1.1).0 x) done_alone
+  over_alone = (last on.1.0 on.1.1).3 ∙ ap (λ (x : RowTold (Node K V)). row_on {K = K} {V = V} (last on.1.0 on.1.1).1 x) done_alone

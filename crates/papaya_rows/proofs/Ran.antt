@@ -14,17 +14,13 @@ use Rattle.papaya_logged.specs.Given.Teller.declared.changed.Changed.{Changed}
 use Rattle.papaya_logged.specs.Given.Teller.declared.changed.Changed.TheVariants.{Nothing}
 use Rattle.papaya_logged.specs.Given.Schedules.declared.effect.Effect.{Effect}
 use Rattle.papaya_logged.specs.Given.Schedules.Moment.{Moment}
-use Rattle.papaya_logged.specs.Given.Executor.IsAt.{Scene, IsAt, slot_of, work_of}
-use Rattle.papaya_logged.specs.Given.Executor.OnSlots.{MayBegin, RowBegins, RowSteps, row_on}
-use Rattle.papaya_logged.specs.Given.Executor.Rows.{begun_row, of_storing, request_of}
 use Rattle.papaya_logged.specs.Given.Executor.declared.executor.Executor.{Executor}
-use Rattle.papaya_logged.specs.Given.Executor.declared.row.RowTold.{RowTold}
-use Rattle.papaya_logged.specs.Given.Executor.declared.row.RowTold.TheVariants as told
-use Rattle.papaya_logged.specs.Given.Executor.declared.row.SlotCall.{SlotCall}
-use Rattle.papaya_logged.specs.Given.Executor.declared.row.SlotRow.{SlotRow}
-use Rattle.papaya_logged.specs.Given.Executor.declared.row.SlotRow.TheVariants as rows
+use Rattle.papaya_logged.specs.Given.Scenes.declared.row.RowTold.{RowTold}
+use Rattle.papaya_logged.specs.Given.Scenes.declared.row.RowTold.TheVariants as told
+use Rattle.papaya_logged.specs.Given.Scenes.declared.row.SlotCall.{SlotCall}
+use Rattle.papaya_logged.specs.Given.Scenes.declared.row.SlotRow.{SlotRow}
+use Rattle.papaya_logged.specs.Given.Scenes.declared.row.SlotRow.TheVariants as rows
 use Rattle.papaya_logged.specs.Given.Executor.declared.worker.Work.TheVariants.{OnSlot}
-use Rattle.papaya_logged.proofs.Given.Executor.Forgotten.{as_step}
 use Rattle.papaya_logged.specs.Given.Finishes.Maps.{IsSameMap, Standing}
 use Rattle.papaya_logged.specs.OnSlots.{GoesOnFor, OnSlotLast, StepsOn, has_come}
 use Rattle.papaya_logged.specs.Shown.{IsShown}
@@ -32,6 +28,12 @@ use Rattle.papaya_logged.specs.declared.logged.Logged.{Logged}
 use Rattle.papaya_logged.proofs.RowsFall.{under_way_on}
 use Rattle.papaya_rows.specs.Rows.{RowRan}
 use Rattle.papaya_rows.specs.Stores.{StoresOnce}
+use Rattle.papaya_logged.proofs.Given.Scenes.Told.{as_step}
+use Rattle.papaya_logged.specs.Given.Executor.IsThere.{IsThere, work_of}
+use Rattle.papaya_logged.specs.Given.Executor.OnSlots.{MayBegin, RowBeginsThere, row_on}
+use Rattle.papaya_logged.specs.Given.Scenes.OnSlots.{RowSteps}
+use Rattle.papaya_logged.specs.Given.Scenes.Rows.{begun_row, of_storing, request_of}
+use Rattle.papaya_logged.specs.Given.Scenes.Scene.{Scene, slot_of}
 
 -- a map that is the same has its setting
 setting_same : {K : Type 0} (before after : Option (Standing K)) → IsSameMap before after → option_map (λ st. st.setting) after ≡ option_map (λ st. st.setting) before
@@ -43,14 +45,14 @@ module _ {K V S : Type 0} (same : K → K → Bool) (hash : K → ℕ) (i : ℕ)
   pub record Led (e : Executor K V S) : Type 0 where
     pub w : World (Node K V)
     pub maps : ℕ → Option (Standing K)
-    pub at : IsAt same hash e (record s { world = w; maps = maps })
+    pub at : IsThere same hash e (record s { world = w; maps = maps })
     pub settings : (n : ℕ) → option_map (λ st. st.setting) (maps n) ≡ option_map (λ st. st.setting) (s.maps n)
     pub rows : (j : ℕ) → j ≢ i → w.row j ≡ s.world.row j
 
   -- where it has begun,
-  pub begun_led : (called : SlotCall) (old new : Executor K V S) → MayBegin old (slot_of i) called → RowBegins same hash called i s old new → Led new
+  pub begun_led : (called : SlotCall) (old new : Executor K V S) → MayBegin old (slot_of i) called → RowBeginsThere same hash called i s old new → Led new
   begun_led called old new may leads =
-      let to = (leads may).3 in
+      let to = (leads may).3.2 in
       record {
         w = to.0;
         maps = to.2;
@@ -63,7 +65,7 @@ module _ {K V S : Type 0} (same : K → K → Bool) (hash : K → ℕ) (i : ℕ)
   pub step_led : (old new : Executor K V S) (said : RowTold (Node K V)) (row : SlotRow) → work_of old i ≡ Some (OnSlot row) → StepsOn i said old new → Led old → Led new
   step_led old new said row here steps led =
       let then_at = record s { world = led.w; maps = led.maps } in
-      let to = (steps same hash then_at led.at row here).4 in
+      let to = (steps same hash then_at led.at row here).5 in
       record {
         w = to.0;
         maps = to.2;
@@ -83,7 +85,7 @@ module _ {K V S : Type 0} (same : K → K → Bool) (hash : K → ℕ) (i : ℕ)
         let on = goes_led n old mid goes way in
         let leads = steps same hash (record s { world = on.0.w; maps = on.0.maps }) on.0.at on.1.0 on.1.1 in (
           step_led mid new said on.1.0 on.1.1 steps on.0,
-          (leads.0, leads.2 ∙ under_way_on leads.0 said not_yet, keeps mid.memory.memory new.memory.memory new.memory.changed on.1.0 leads.0 said on.1.2 leads.1 not_yet),
+          (leads.1, leads.3 ∙ under_way_on leads.1 said not_yet, keeps mid.memory.memory new.memory.memory new.memory.changed on.1.0 leads.1 said on.1.2 leads.2 not_yet),
         )
 
     -- and by the last one
@@ -93,7 +95,7 @@ module _ {K V S : Type 0} (same : K → K → Bool) (hash : K → ℕ) (i : ℕ)
         let on = goes_led n old mid goes way in
         let leads = steps same hash (record s { world = on.0.w; maps = on.0.maps }) on.0.at on.1.0 on.1.1 in (
           step_led mid new said on.1.0 on.1.1 steps on.0,
-          (mid.memory.memory, new.memory.memory, new.memory.changed, on.1.0, leads.0, on.1.2, leads.1, leads.2),
+          (mid.memory.memory, new.memory.memory, new.memory.changed, on.1.0, leads.1, on.1.2, leads.2, leads.3),
         )
 
 module _ (K V : Type 0) where
@@ -118,7 +120,7 @@ module _ {K V S : Type 0} (same : K → K → Bool) (hash : K → ℕ) (name : �
   may_there : MayBegin old.executor (slot_of ran.caller) called
   may_there = subst (λ (x : ℕ). MayBegin old.executor x called) (sym ran.in_slot) may
 
-  leads : RowBegins same hash called ran.caller s old.executor ran.began.executor
+  leads : RowBeginsThere same hash called ran.caller s old.executor ran.began.executor
   leads = (ran.begins same hash name m s shown may_there).0
 
   -- It is under way then, as the row that it began as.

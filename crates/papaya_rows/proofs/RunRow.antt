@@ -4,14 +4,11 @@ use Rattle.std.proofs.Common.{◌<◌, ◌+◌, ◌*◌, sym, ap, subst, ◌∙�
 use Rattle.papaya_logged.specs.Given.Tables.declared.node.Node.{Node}
 use Rattle.papaya_logged.specs.Given.Schedules.declared.effect.Effect.{Effect}
 use Rattle.papaya_logged.specs.Given.Schedules.Moment.{Moment}
-use Rattle.papaya_logged.specs.Given.Executor.IsAt.{KeepsGiven, Scene, IsAt, slot_of, work_of}
-use Rattle.papaya_logged.specs.Given.Executor.OnSlots.{MayBegin, RowBegins}
-use Rattle.papaya_logged.specs.Given.Executor.Rows.{begun_row, uses_begun}
-use Rattle.papaya_logged.specs.Given.Executor.declared.row.RowTold.{RowTold}
-use Rattle.papaya_logged.specs.Given.Executor.declared.row.SlotCall.{SlotCall}
-use Rattle.papaya_logged.specs.Given.Executor.declared.row.SlotRow.{SlotRow}
-use Rattle.papaya_logged.specs.Given.Executor.declared.row.SlotUse.{SlotUse}
-use Rattle.papaya_logged.specs.Given.Executor.declared.worker.TheConstants.{SLOTS}
+use Rattle.papaya_logged.specs.Given.Scenes.declared.row.RowTold.{RowTold}
+use Rattle.papaya_logged.specs.Given.Scenes.declared.row.SlotCall.{SlotCall}
+use Rattle.papaya_logged.specs.Given.Scenes.declared.row.SlotRow.{SlotRow}
+use Rattle.papaya_logged.specs.Given.Scenes.declared.row.SlotUse.{SlotUse}
+use Rattle.papaya_logged.specs.Given.Scenes.declared.callers.TheConstants.{SLOTS}
 use Rattle.papaya_logged.specs.Given.Executor.declared.worker.Work.TheVariants.{OnSlot}
 use Rattle.papaya_logged.specs.Ended.{has_ended, uses_ended}
 use Rattle.papaya_logged.specs.Goes.{GoesTo, RowGoes, far}
@@ -19,6 +16,10 @@ use Rattle.papaya_logged.specs.OnSlots.{EndsTelling, OnSlotBegins, OnSlotComes, 
 use Rattle.papaya_logged.specs.Shown.{IsShown}
 use Rattle.papaya_logged.specs.declared.logged.Logged.{Logged}
 use Rattle.papaya_rows.specs.Rows.{RowRan}
+use Rattle.papaya_logged.specs.Given.Executor.IsThere.{IsThere, KeepsGiven, in_slot, work_of}
+use Rattle.papaya_logged.specs.Given.Executor.OnSlots.{MayBegin, RowBeginsThere}
+use Rattle.papaya_logged.specs.Given.Scenes.Rows.{begun_row, uses_begun}
+use Rattle.papaya_logged.specs.Given.Scenes.Scene.{Scene, slot_of}
 
 pub in_its_slot : (n slot caller : ℕ) → slot < SLOTS → caller ≡ n * SLOTS + slot → slot_of caller ≡ slot
 in_its_slot n slot caller fits is = omega (arith, fits, is)
@@ -29,7 +30,7 @@ module _ {K V S : Type 0} (slot : ℕ) (called : SlotCall) (caller : ℕ) (old b
   may_there = subst (λ (x : ℕ). MayBegin old.executor x called) (sym in_slot) may
 
   module _ (same : K → K → Bool) (hash : K → ℕ) (name : ℕ → List ℕ) (m : Moment K V) (s : Scene K V) (shown : IsShown same hash name m old s) where
-    leads : RowBegins same hash called caller s old.executor began.executor
+    leads : RowBeginsThere same hash called caller s old.executor began.executor
     leads = (begins same hash name m s shown may_there).0
 
     row_is : work_of began.executor caller ≡ Some (OnSlot (begun_row slot old.executor.batch_size called))
@@ -39,8 +40,8 @@ module _ {K V S : Type 0} (slot : ℕ) (called : SlotCall) (caller : ℕ) (old b
     uses_are = (leads may_there).2 ∙ ap (λ (x : ℕ). uses_begun x called old.executor.slots.items) in_slot
 
     -- then it runs,
-    pub begun_there : (same2 : K → K → Bool) × (hash2 : K → ℕ) × (s2 : Scene K V) × IsAt same2 hash2 began.executor s2 × (row : SlotRow) × (work_of began.executor caller ≡ Some (OnSlot row))
-    begun_there = (same, hash, record s { world = (leads may_there).3.0; maps = (leads may_there).3.2 }, (leads may_there).3.4, begun_row slot old.executor.batch_size called, row_is)
+    pub begun_there : (same2 : K → K → Bool) × (hash2 : K → ℕ) × (s2 : Scene K V) × IsThere same2 hash2 began.executor s2 × (row : SlotRow) × (work_of began.executor caller ≡ Some (OnSlot row))
+    begun_there = (same, hash, record s { world = (leads may_there).3.2.0; maps = (leads may_there).3.2.2 }, (leads may_there).3.2.4, begun_row slot old.executor.batch_size called, row_is)
 
     -- and has run
     pub has_run : (said : RowTold (Node K V)) (before after : List Effect) → began.notes ≡ old.notes → KeepsGiven old.executor began.executor
@@ -64,5 +65,5 @@ module _ {K V S : Type 0} (slot : ℕ) (called : SlotCall) (caller : ℕ) (old b
       follows = ran.1;
       shown = λ same2 hash2 name2 m2 s2 shown2 may2.
           (let began2 = begins same2 hash2 name2 m2 s2 shown2 may_there in
-          ran.3 same2 hash2 name2 m2 (record s2 { world = (began2.0 may_there).3.0; maps = (began2.0 may_there).3.2 }) began2.1);
+          ran.3 same2 hash2 name2 m2 (record s2 { world = (began2.0 may_there).3.2.0; maps = (began2.0 may_there).3.2.2 }) began2.1);
     }

@@ -1,5 +1,5 @@
 -- A row that registers while no other takes or frees a slot takes the first vacant one, or is refused: how it has begun, goes on and ends.
-use Rattle.std.specs.Prelude.{Option, Some, None}
+use Rattle.std.specs.Prelude.{Some, None}
 use Rattle.std.proofs.Common.{◌≡◌, ℕ, zero, suc, ◌+◌, Bool, true, false, List, length, ◌⊎◌, inl, inr, refl, sym, ap, subst, ◌∙◌, arith}
 use Rattle.papaya_logged.specs.Given.SeizeWords.declared.fault.Fault.{Fault}
 use Rattle.papaya_logged.specs.Given.SeizeWords.declared.fault.Fault.TheVariants.{Memory}
@@ -26,62 +26,66 @@ use Rattle.papaya_logged.specs.Given.Callers.Together.{CameAbout}
 use Rattle.papaya_logged.proofs.Given.Callers.Together.Came.{came_next, came_reached}
 use Rattle.papaya_logged.specs.Given.Schedules.declared.effect.Effect.{Effect}
 use Rattle.papaya_logged.specs.Given.Schedules.Moment.{Moment}
-use Rattle.papaya_logged.specs.Given.Executor.IsAt.{Scene, HasRow, IsAt, slot_of, work_of}
-use Rattle.papaya_logged.specs.Given.Executor.OnSlots.{RowBegins, RowSteps, row_on}
-use Rattle.papaya_logged.specs.Given.Executor.Rows.{of_registering, request_of}
 use Rattle.papaya_logged.specs.Given.Executor.declared.executor.Executor.{Executor}
-use Rattle.papaya_logged.specs.Given.Executor.declared.row.RowTold.{RowTold}
-use Rattle.papaya_logged.specs.Given.Executor.declared.row.RowTold.TheVariants as told
-use Rattle.papaya_logged.specs.Given.Executor.declared.row.SlotCall.TheVariants as call
-use Rattle.papaya_logged.specs.Given.Executor.declared.row.SlotRow.{SlotRow}
-use Rattle.papaya_logged.specs.Given.Executor.declared.row.SlotRow.TheVariants as rows
-use Rattle.papaya_logged.specs.Given.Executor.declared.worker.Work.{Work}
+use Rattle.papaya_logged.specs.Given.Scenes.declared.row.RowTold.{RowTold}
+use Rattle.papaya_logged.specs.Given.Scenes.declared.row.RowTold.TheVariants as told
+use Rattle.papaya_logged.specs.Given.Scenes.declared.row.SlotCall.TheVariants as call
+use Rattle.papaya_logged.specs.Given.Scenes.declared.row.SlotRow.{SlotRow}
+use Rattle.papaya_logged.specs.Given.Scenes.declared.row.SlotRow.TheVariants as rows
 use Rattle.papaya_logged.specs.Given.Executor.declared.worker.Work.TheVariants.{OnSlot}
-use Rattle.papaya_logged.proofs.Given.Executor.Forgotten.{as_step}
 use Rattle.papaya_logged.specs.OnSlots.{GoesOnFor, OnSlotLast, has_come}
 use Rattle.papaya_logged.specs.Shown.{IsShown}
 use Rattle.papaya_logged.specs.declared.logged.Logged.{Logged}
 use Rattle.papaya_rows.specs.Rows.{RowRan}
 use Rattle.papaya_rows.proofs.Ran.{Led, begun_led, step_led}
 use Rattle.papaya_rows.proofs.Refusals.{found_none}
+use Rattle.papaya_logged.proofs.Given.Scenes.Told.{as_step}
+use Rattle.papaya_logged.specs.Given.Executor.IsThere.{held_by, work_of}
+use Rattle.papaya_logged.specs.Given.Executor.OnSlots.{RowBeginsThere, row_on}
+use Rattle.papaya_logged.specs.Given.Scenes.OnSlots.{RowBegins, RowSteps}
+use Rattle.papaya_logged.specs.Given.Scenes.Rows.{of_registering, request_of}
+use Rattle.papaya_logged.specs.Given.Scenes.Scene.{Scene, slot_of}
+use Rattle.papaya_logged.proofs.Held.{begun_held}
+use Rattle.papaya_logged.proofs.Given.Scenes.Rows.{begun_there}
+use Rattle.papaya_logged.specs.Given.Scenes.Held.{Held, IsAt}
 
-module _ {K V S : Type 0} (same : K → K → Bool) (hash : K → ℕ) (i : ℕ) (s : Scene K V) (size : ℕ) (enters : Bool) (apart : NoneOnVacant i s.world) where
+module _ {K V : Type 0} (same : K → K → Bool) (hash : ℕ → K → ℕ) (i : ℕ) (s : Scene K V) (size : ℕ) (enters : Bool) (apart : NoneOnVacant i s.world) where
   -- It registers on in a world with this memory, which came about from the start, and in which the others have the rows that they had.
-  pub record OnIt (e : Executor K V S) (c : Register) : Type 0 where
+  pub record OnIt (e : Held K V) (c : Register) : Type 0 where
     pub w : World (Node K V)
     pub came : CameAbout size w
-    pub memory : w.memory ≡ e.memory.memory
+    pub memory : w.memory ≡ e.memory
     pub row : w.row i ≡ Registers c
     pub on : RegistersOn s.world.uses enters w c
     pub others : (j : ℕ) → (j ≡ i → ⊥) → w.row j ≡ s.world.row j
 
   -- what the last step of it has told: it was refused, and for want of memory by the operation that found none; or it has taken the first slot that was vacant
-  abbrev pub Ends : Executor K V S → RowTold (Node K V) → Type 0
+  abbrev pub Ends : Held K V → RowTold (Node K V) → Type 0
   Ends e said =
-      ((fault : Fault) × (said ≡ told.Refused fault) × WhyRefused e.memory.memory s.world.uses fault × (fault ≡ Memory → (bucket : ℕ) × (e.memory.changed ≡ changed.Roomed bucket false)))
+      ((fault : Fault) × (said ≡ told.Refused fault) × WhyRefused e.memory s.world.uses fault × (fault ≡ Memory → (bucket : ℕ) × (e.changed ≡ changed.Roomed bucket false)))
       ⊎ ((slot : ℕ) × (said ≡ told.Registered slot) × (new_slot s.world.uses ≡ Some slot))
 
   -- what a step of it leads to: it goes on, or it has ended
-  abbrev pub Next : Executor K V S → SlotRow → RowTold (Node K V) → Type 0
+  abbrev pub Next : Held K V → SlotRow → RowTold (Node K V) → Type 0
   Next e after said = ((c2 : Register) × (said ≡ told.Goes) × (after ≡ rows.Registers c2) × OnIt e c2) ⊎ Ends e said
 
-  module _ (e e2 : Executor K V S) (c : Register) (here : OnIt e c) (after : SlotRow) (said : RowTold (Node K V)) (went : RowSteps K V (rows.Registers c) e.memory.memory e2.memory.memory e2.memory.changed (after, said)) where
+  module _ (e e2 : Held K V) (c : Register) (here : OnIt e c) (after : SlotRow) (said : RowTold (Node K V)) (went : RowSteps K V (rows.Registers c) e.memory e2.memory e2.changed (after, said)) where
     abbrev now : World (Node K V)
     now = here.w
 
     abbrev end : Register × Progress ℕ
     end = went.0
 
-    steps : Steps Took value_at now.memory (register_plan c) e2.memory.memory end
+    steps : Steps Took value_at now.memory (register_plan c) e2.memory end
     steps =
-        subst (λ (m : Mem (Node K V)). Steps Took value_at m (register_plan c) e2.memory.memory end) (sym here.memory)
-        (as_step e.memory.memory changed.Nothing (register_plan c) e2.memory.memory e2.memory.changed end went.1)
+        subst (λ (m : Mem (Node K V)). Steps Took value_at m (register_plan c) e2.memory end) (sym here.memory)
+        (as_step e.memory changed.Nothing (register_plan c) e2.memory e2.changed end went.1)
 
     abbrev v : World (Node K V)
-    v = registers_on now i c e2.memory.memory end
+    v = registers_on now i c e2.memory end
 
     happens : Happens deferred_word size (Step i) now v
-    happens = subst (λ (row : Row). Steps' deferred_word i row now v) (sym here.row) (e2.memory.memory, end, steps, refl)
+    happens = subst (λ (row : Row). Steps' deferred_word i row now v) (sym here.row) (e2.memory, end, steps, refl)
 
     good : Good deferred_word (LAST_SLOT + 1) size now
     good = (came_reached size now here.came).good
@@ -91,7 +95,7 @@ module _ {K V S : Type 0} (same : K → K → Bool) (hash : K → ℕ) (i : ℕ)
         apart j t other (sym (ap works_on (here.others j other)) ∙ at_it) (sym (ap (λ (f : ℕ → Use). f t) here.on.uses_same) ∙ vacant)
 
     comes : Comes s.world.uses enters i v end
-    comes = registers_apart deferred_word (LAST_SLOT + 1) refl now good i c here.row apart_then s.world.uses enters here.on v e2.memory.memory end steps refl
+    comes = registers_apart deferred_word (LAST_SLOT + 1) refl now good i c here.row apart_then s.world.uses enters here.on v e2.memory end steps refl
 
     -- it stands where it goes on
     under : (fault : Fault) → c.stands ≡ at.Refused fault → ⊥
@@ -114,7 +118,7 @@ module _ {K V S : Type 0} (same : K → K → Bool) (hash : K → ℕ) (i : ℕ)
           record {
             w = v;
             came = came_next size now v (Step i) here.came happens;
-            memory = ap (λ (q : Register × Progress ℕ). (registers_on now i c e2.memory.memory q).memory) is;
+            memory = ap (λ (q : Register × Progress ℕ). (registers_on now i c e2.memory q).memory) is;
             row = row2;
             on = on2;
             others = λ j other. steps_others deferred_word size now v i j other (now.row i) happens ∙ here.others j other;
@@ -124,9 +128,9 @@ module _ {K V S : Type 0} (same : K → K → Bool) (hash : K → ℕ) (i : ℕ)
         inr (inl (
           fault,
           told_by (c2, progress.Refused fault) is,
-          subst (λ (m : Mem (Node K V)). WhyRefused m s.world.uses fault) (ap (λ (q : Register × Progress ℕ). (registers_on now i c e2.memory.memory q).memory) is) why,
+          subst (λ (m : Mem (Node K V)). WhyRefused m s.world.uses fault) (ap (λ (q : Register × Progress ℕ). (registers_on now i c e2.memory q).memory) is) why,
           λ memory.
-              found_none e.memory.memory e2.memory.memory e2.memory.changed c end
+              found_none e.memory e2.memory e2.changed c end
               (ap (λ (q : Register × Progress ℕ). q.1) is ∙ ap progress.Refused memory) c.stands under went.1,
         ))
     next_by (TakesFirst c2 slot is row2 first used2) = inr (inr (slot, told_by (c2, progress.Done slot) is, first))
@@ -134,11 +138,12 @@ module _ {K V S : Type 0} (same : K → K → Bool) (hash : K → ℕ) (i : ℕ)
     pub next : Next e2 after said
     next = next_by comes
 
+module _ {K V S : Type 0} (same : K → K → Bool) (hash : K → ℕ) (i : ℕ) (s : Scene K V) (size : ℕ) (enters : Bool) (apart : NoneOnVacant i s.world) where
   -- as long as it goes on,
   abbrev pub OnTheWay : Executor K V S → Type 0
-  OnTheWay e = Led same hash i s e × ((c : Register) × (work_of e i ≡ Some (OnSlot (rows.Registers c))) × OnIt e c)
+  OnTheWay e = Led same hash i s e × ((c : Register) × (work_of e i ≡ Some (OnSlot (rows.Registers c))) × OnIt same (λ map. hash) i s size enters apart (held_by e) c)
 
-  ended_come : (e : Executor K V S) (said : RowTold (Node K V)) → Ends e said → has_come said ≡ true
+  ended_come : (e : Executor K V S) (said : RowTold (Node K V)) → Ends same (λ map. hash) i s size enters apart (held_by e) said → has_come said ≡ true
   ended_come e said (inl (fault, is, why, asked)) = ap (λ (x : RowTold (Node K V)). has_come x) is
   ended_come e said (inr (slot, is, first)) = ap (λ (x : RowTold (Node K V)). has_come x) is
 
@@ -147,39 +152,39 @@ module _ {K V S : Type 0} (same : K → K → Bool) (hash : K → ℕ) (i : ℕ)
   goes_taking (suc n) old new (mid, said, goes, not_yet, steps) way =
       let on = goes_taking n old mid goes way in
       let leads = steps same hash (record s { world = on.0.w; maps = on.0.maps }) on.0.at (rows.Registers on.1.0) on.1.1 in
-      by leads.0 leads.2 (step_led same hash i s mid new said (rows.Registers on.1.0) on.1.1 steps on.0) (next mid new on.1.0 on.1.2 leads.0 said leads.1)
+      by leads.1 leads.3 (step_led same hash i s mid new said (rows.Registers on.1.0) on.1.1 steps on.0) (next same (λ map. hash) i s size enters apart (held_by mid) (held_by new) on.1.0 on.1.2 leads.1 said leads.2)
     where
-      by : (after : SlotRow) → work_of new i ≡ row_on after said → Led same hash i s new → Next new after said → OnTheWay new
+      by : (after : SlotRow) → work_of new i ≡ row_on after said → Led same hash i s new → Next same (λ map. hash) i s size enters apart (held_by new) after said → OnTheWay new
       by after work led (inl (c2, is, after_is, on2)) =
           (led, (c2, work ∙ ap (λ (x : RowTold (Node K V)). row_on {K = K} {V = V} after x) is ∙ ap (λ (r : SlotRow). Some (OnSlot r)) after_is, on2))
       by after work led (inr ends) = absurd (let come = ended_come new said ends in cc (come, not_yet))
 
   -- and where it has come
-  pub last_taking : (old new : Executor K V S) (said : RowTold (Node K V)) → has_come said ≡ true → OnSlotLast i said old new → OnTheWay old → Led same hash i s new × Ends new said × (work_of new i ≡ None)
+  pub last_taking : (old new : Executor K V S) (said : RowTold (Node K V)) → has_come said ≡ true → OnSlotLast i said old new → OnTheWay old → Led same hash i s new × Ends same (λ map. hash) i s size enters apart (held_by new) said × (work_of new i ≡ None)
   last_taking old new said come (mid, n, goes, steps) way =
       let on = goes_taking n old mid goes way in
       let leads = steps same hash (record s { world = on.0.w; maps = on.0.maps }) on.0.at (rows.Registers on.1.0) on.1.1 in
-      by leads.0 leads.2 (step_led same hash i s mid new said (rows.Registers on.1.0) on.1.1 steps on.0) (next mid new on.1.0 on.1.2 leads.0 said leads.1)
+      by leads.1 leads.3 (step_led same hash i s mid new said (rows.Registers on.1.0) on.1.1 steps on.0) (next same (λ map. hash) i s size enters apart (held_by mid) (held_by new) on.1.0 on.1.2 leads.1 said leads.2)
     where
-      over : (after : SlotRow) → Ends new said → row_on {K = K} {V = V} after said ≡ None
+      over : (after : SlotRow) → Ends same (λ map. hash) i s size enters apart (held_by new) said → row_on {K = K} {V = V} after said ≡ None
       over after (inl (fault, is, why, asked)) = ap (λ (x : RowTold (Node K V)). row_on {K = K} {V = V} after x) is
       over after (inr (slot, is, first)) = ap (λ (x : RowTold (Node K V)). row_on {K = K} {V = V} after x) is
 
-      by : (after : SlotRow) → work_of new i ≡ row_on after said → Led same hash i s new → Next new after said → Led same hash i s new × Ends new said × (work_of new i ≡ None)
+      by : (after : SlotRow) → work_of new i ≡ row_on after said → Led same hash i s new → Next same (λ map. hash) i s size enters apart (held_by new) after said → Led same hash i s new × Ends same (λ map. hash) i s size enters apart (held_by new) said × (work_of new i ≡ None)
       by after work led (inl (c2, is, after_is, on2)) = absurd (let not_yet = ap (λ (x : RowTold (Node K V)). has_come x) is in cc (come, not_yet))
       by after work led (inr ends) = (led, ends, work ∙ over after ends)
 
 -- So it is where it begins.
-module _ {K V S : Type 0} (same : K → K → Bool) (hash : K → ℕ) (i : ℕ) (s : Scene K V) (enters : Bool) (apart : NoneOnVacant i s.world) where
-  pub first_on : (old new : Executor K V S) → IsAt same hash old s → RowBegins same hash (call.Register enters) i s old new
+module _ {K V : Type 0} (same : K → K → Bool) (hash : ℕ → K → ℕ) (i : ℕ) (s : Scene K V) (enters : Bool) (apart : NoneOnVacant i s.world) where
+  pub first_on : (old new : Held K V) → IsAt same hash old s → RowBegins same hash (call.Register enters) i s old new
       → OnIt same hash i s old.batch_size enters apart new (record { slot = 0; enters = enters; stands = at.Begin })
   first_on old new at_s leads =
-      let to = (leads tt).3 in
+      let to = leads.2 in
       record {
         w = to.0;
         came = came_next old.batch_size s.world to.0 (Begin i (request_of (slot_of i) (call.Register enters))) at_s.together.makings.standing.came to.1;
         memory = to.4.memory;
-        row = subst (λ (o : Option (Work K V)). HasRow o (to.0.row i)) (leads tt).1 (to.4.rows i);
+        row = begun_there deferred_word old.batch_size i s.world to.0 (slot_of i) (call.Register enters) to.1.1;
         on = record {
           uses_same = ap (λ (x : World (Node K V)). x.uses) to.1.1;
           enters_same = refl;
@@ -197,14 +202,15 @@ module _ {K V S : Type 0} (same : K → K → Bool) (hash : K → ℕ) (name : �
   abbrev size : ℕ
   size = old.executor.batch_size
 
-  leads : RowBegins same hash (call.Register enters) i s old.executor ran.began.executor
+  leads : RowBeginsThere same hash (call.Register enters) i s old.executor ran.began.executor
   leads = (ran.begins same hash name m s shown tt).0
 
-  on_first : OnIt same hash i s size enters apart ran.began.executor (record { slot = 0; enters = enters; stands = at.Begin })
-  on_first = first_on same hash i s enters apart old.executor ran.began.executor shown.is_at leads
+  on_first : OnIt same (λ map. hash) i s size enters apart (held_by ran.began.executor) (record { slot = 0; enters = enters; stands = at.Begin })
+  on_first = first_on same (λ map. hash) i s enters apart (held_by old.executor) (held_by ran.began.executor) shown.is_at.held
+      (begun_held same hash s old.executor ran.began.executor i (call.Register enters) tt leads)
 
   on_way : OnTheWay same hash i s size enters apart ran.began.executor
   on_way = (begun_led same hash i s (call.Register enters) old.executor ran.began.executor tt leads, (record { slot = 0; enters = enters; stands = at.Begin }, (leads tt).1, on_first))
 
-  pub taken : Led same hash i s new.executor × Ends same hash i s size enters apart new.executor said × (work_of new.executor i ≡ None)
+  pub taken : Led same hash i s new.executor × Ends same (λ map. hash) i s size enters apart (held_by new.executor) said × (work_of new.executor i ≡ None)
   taken = last_taking same hash i s size enters apart ran.began.executor new.executor said ran.come ran.last on_way

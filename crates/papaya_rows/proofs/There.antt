@@ -8,7 +8,7 @@ use Rattle.papaya_logged.specs.Given.Runs.declared.holders.Registration.{Registr
 use Rattle.papaya_logged.specs.Given.Runs.Present.{Present, guard_of, guards_named, guards_on, living_slot, registration_of, has_registration, forgotten_if, forgets, slot_of_registration, slot_or}
 use Rattle.papaya_logged.specs.Given.Runs.Same.{is_same}
 use Rattle.papaya_logged.proofs.Given.Runs.Laws.{same_tells, forgets_counts}
-use Rattle.papaya_logged.specs.Given.Executor.declared.row.SlotUse.TheVariants as used
+use Rattle.papaya_logged.specs.Given.Scenes.declared.row.SlotUse.TheVariants as used
 use Rattle.papaya_logged.specs.Given.Schedules.InUse.{is_registered, is_guard, is_living}
 use Rattle.papaya_rows.specs.Rows.{used_as}
 use Rattle.papaya_rows.proofs.Lists.{is_found}

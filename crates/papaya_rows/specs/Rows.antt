@@ -6,20 +6,21 @@ use Rattle.papaya_logged.specs.Given.Runs.Present.{Present, guards_on, has_regis
 use Rattle.papaya_logged.specs.Given.Schedules.declared.effect.Effect.{Effect}
 use Rattle.papaya_logged.specs.Given.Schedules.Effects.{with_effects}
 use Rattle.papaya_logged.specs.Given.Schedules.Moment.{Moment}
-use Rattle.papaya_logged.specs.Given.Executor.IsAt.{KeepsGiven, Scene, slot_of}
-use Rattle.papaya_logged.specs.Given.Executor.OnSlots.{MayBegin}
-use Rattle.papaya_logged.specs.Given.Executor.Rows.{begun_row, uses_begun}
-use Rattle.papaya_logged.specs.Given.Executor.declared.row.RowTold.{RowTold}
-use Rattle.papaya_logged.specs.Given.Executor.declared.row.SlotCall.{SlotCall}
-use Rattle.papaya_logged.specs.Given.Executor.declared.row.SlotCall.TheVariants as call
-use Rattle.papaya_logged.specs.Given.Executor.declared.row.SlotUse.{SlotUse}
-use Rattle.papaya_logged.specs.Given.Executor.declared.row.SlotUse.TheVariants as used
+use Rattle.papaya_logged.specs.Given.Scenes.declared.row.RowTold.{RowTold}
+use Rattle.papaya_logged.specs.Given.Scenes.declared.row.SlotCall.{SlotCall}
+use Rattle.papaya_logged.specs.Given.Scenes.declared.row.SlotCall.TheVariants as call
+use Rattle.papaya_logged.specs.Given.Scenes.declared.row.SlotUse.{SlotUse}
+use Rattle.papaya_logged.specs.Given.Scenes.declared.row.SlotUse.TheVariants as used
 use Rattle.papaya_logged.specs.Given.Finishes.Maps.{Standing}
 use Rattle.papaya_logged.specs.Ended.{has_ended, uses_ended}
 use Rattle.papaya_logged.specs.Goes.{GoesTo, RowGoes, far}
 use Rattle.papaya_logged.specs.OnSlots.{EndsTelling, OnSlotBegins, OnSlotLast, has_come}
 use Rattle.papaya_logged.specs.Shown.{IsShown}
 use Rattle.papaya_logged.specs.declared.logged.Logged.{Logged}
+use Rattle.papaya_logged.specs.Given.Executor.IsThere.{KeepsGiven}
+use Rattle.papaya_logged.specs.Given.Executor.OnSlots.{MayBegin}
+use Rattle.papaya_logged.specs.Given.Scenes.Rows.{begun_row, uses_begun}
+use Rattle.papaya_logged.specs.Given.Scenes.Scene.{Scene, slot_of}
 
 -- A row has begun in this slot, and has run until it ended, or waits: which steps it took, each as it was noted, what they did, the last one's at the end, and how slots are
 -- used then. The moment after all that shows the executor.

@@ -4,17 +4,17 @@ use Rattle.papaya_logged.specs.Given.SeizeEnds.Holders.{has_batch}
 use Rattle.papaya_logged.specs.Given.Tables.declared.node.Node.{Node}
 use Rattle.papaya_logged.specs.Given.Schedules.declared.effect.Effect.{Effect}
 use Rattle.papaya_logged.specs.Given.Schedules.Moment.{Moment}
-use Rattle.papaya_logged.specs.Given.Executor.IsAt.{Scene}
-use Rattle.papaya_logged.specs.Given.Executor.OnSlots.{MayBegin}
-use Rattle.papaya_logged.specs.Given.Executor.Rows.{begun_row}
-use Rattle.papaya_logged.specs.Given.Executor.declared.row.RowTold.{RowTold}
-use Rattle.papaya_logged.specs.Given.Executor.declared.row.RowTold.TheVariants as told
-use Rattle.papaya_logged.specs.Given.Executor.declared.row.SlotCall.{SlotCall}
-use Rattle.papaya_logged.specs.Given.Executor.declared.row.SlotRow.{SlotRow}
-use Rattle.papaya_logged.specs.Given.Executor.declared.row.SlotRow.TheVariants as rows
+use Rattle.papaya_logged.specs.Given.Scenes.declared.row.RowTold.{RowTold}
+use Rattle.papaya_logged.specs.Given.Scenes.declared.row.RowTold.TheVariants as told
+use Rattle.papaya_logged.specs.Given.Scenes.declared.row.SlotCall.{SlotCall}
+use Rattle.papaya_logged.specs.Given.Scenes.declared.row.SlotRow.{SlotRow}
+use Rattle.papaya_logged.specs.Given.Scenes.declared.row.SlotRow.TheVariants as rows
 use Rattle.papaya_logged.specs.Shown.{IsShown}
 use Rattle.papaya_logged.specs.declared.logged.Logged.{Logged}
 use Rattle.papaya_rows.specs.Rows.{RowRan}
+use Rattle.papaya_logged.specs.Given.Executor.OnSlots.{MayBegin}
+use Rattle.papaya_logged.specs.Given.Scenes.Rows.{begun_row}
+use Rattle.papaya_logged.specs.Given.Scenes.Scene.{Scene}
 
 -- a row that settles, by itself or as it leaves
 abbrev pub IsSettling : SlotRow → Type 0

@@ -3,17 +3,17 @@ use Rattle.std.specs.Prelude.{◌≡◌, ℕ, Bool, List}
 use Rattle.papaya_logged.specs.Given.Tables.declared.node.Node.{Node}
 use Rattle.papaya_logged.specs.Given.Schedules.declared.effect.Effect.{Effect}
 use Rattle.papaya_logged.specs.Given.Schedules.Moment.{Moment}
-use Rattle.papaya_logged.specs.Given.Executor.IsAt.{Scene}
-use Rattle.papaya_logged.specs.Given.Executor.OnSlots.{MayBegin}
-use Rattle.papaya_logged.specs.Given.Executor.Rows.{begun_row}
-use Rattle.papaya_logged.specs.Given.Executor.declared.row.RowTold.{RowTold}
-use Rattle.papaya_logged.specs.Given.Executor.declared.row.RowTold.TheVariants as told
-use Rattle.papaya_logged.specs.Given.Executor.declared.row.SlotCall.{SlotCall}
-use Rattle.papaya_logged.specs.Given.Executor.declared.row.SlotRow.{SlotRow}
-use Rattle.papaya_logged.specs.Given.Executor.declared.row.SlotRow.TheVariants as rows
+use Rattle.papaya_logged.specs.Given.Scenes.declared.row.RowTold.{RowTold}
+use Rattle.papaya_logged.specs.Given.Scenes.declared.row.RowTold.TheVariants as told
+use Rattle.papaya_logged.specs.Given.Scenes.declared.row.SlotCall.{SlotCall}
+use Rattle.papaya_logged.specs.Given.Scenes.declared.row.SlotRow.{SlotRow}
+use Rattle.papaya_logged.specs.Given.Scenes.declared.row.SlotRow.TheVariants as rows
 use Rattle.papaya_logged.specs.Shown.{IsShown}
 use Rattle.papaya_logged.specs.declared.logged.Logged.{Logged}
 use Rattle.papaya_rows.specs.Rows.{RowRan}
+use Rattle.papaya_logged.specs.Given.Executor.OnSlots.{MayBegin}
+use Rattle.papaya_logged.specs.Given.Scenes.Rows.{begun_row}
+use Rattle.papaya_logged.specs.Given.Scenes.Scene.{Scene}
 
 -- a row that makes one store
 abbrev pub StoresOnce : SlotRow → Type 0

@@ -2,9 +2,9 @@
 use Rattle.std.specs.Prelude.{ℕ, Bool, List, Result, Ok, Err}
 use Rattle.papaya_logged.specs.Given.SeizeWords.declared.fault.Fault.{Fault}
 use Rattle.papaya_logged.specs.Given.Schedules.declared.effect.Effect.{Effect}
-use Rattle.papaya_logged.specs.Given.Executor.declared.row.RowTold.{RowTold}
-use Rattle.papaya_logged.specs.Given.Executor.declared.row.RowTold.TheVariants as told
-use Rattle.papaya_logged.specs.Given.Executor.declared.row.SlotCall.TheVariants as call
+use Rattle.papaya_logged.specs.Given.Scenes.declared.row.RowTold.{RowTold}
+use Rattle.papaya_logged.specs.Given.Scenes.declared.row.RowTold.TheVariants as told
+use Rattle.papaya_logged.specs.Given.Scenes.declared.row.SlotCall.TheVariants as call
 use Rattle.papaya_logged.specs.declared.logged.Logged.{Logged}
 use Rattle.papaya_rows.specs.Rows.{RowRan}
 

@@ -10,7 +10,6 @@ use Rattle.papaya_events.proofs.Given.Moments.Numbers.{numbers_begin}
 use Rattle.papaya_events.specs.Given.Seize.World.{Chooses, SlotsTaken, World}
 use Rattle.papaya_events.specs.Given.Tables.Nodes.{deferred_word}
 use Rattle.papaya_events.specs.Given.Tables.declared.setting.Setting.{Setting}
-use Rattle.papaya_events.specs.Given.Executor.IsAt.{at_first}
 use Rattle.seize_words.specs.Mem.{Mem, word_at}
 use Rattle.seize_words.specs.SlotWords.{slot_word}
 use Rattle.seize_words.specs.declared.at.At.TheVariants.{Root, Used}
@@ -39,6 +38,7 @@ use Rattle.papaya_events.specs.Asked.{Holds}
 use Rattle.papaya_events.specs.OfCalls.{HaveShards, HaveValues, Runs}
 use Rattle.papaya_running.specs.Run.{bounded}
 use Rattle.papaya_events.proofs.OfCalls.Scenes.{its_named, stands_in}
+use Rattle.papaya_events.specs.Given.Scenes.Scene.{at_first}
 
 -- Nothing is under way in a world that came about by what was chosen of numbers of blocks.
 pub record BeginsIn {K V S : Type 0} (same : K → K → Bool) (hash : K → ℕ) (setup : Setup) (p : Scheduler K V S) : Type 0 where
@@ -121,7 +121,7 @@ module _ {K V S : Type 0} (same : K → K → Bool) (hash : K → ℕ) (setup : 
 
   gives : MayGiveAll p stands.scene
   gives =
-      let same_memory = stands.shown.is_at.memory in
+      let same_memory = stands.shown.is_at.held.memory in
       record {
         lists = λ r. [];
         left =
@@ -149,7 +149,7 @@ module _ {K V S : Type 0} (same : K → K → Bool) (hash : K → ℕ) (setup : 
   -- no slot was taken
   none_taken : SlotsTaken first.world.memory 0
   none_taken =
-      subst (λ (x : Mem (Node K V)). SlotsTaken x 0) (sym (first.shown stands.name).is_at.memory) (
+      subst (λ (x : Mem (Node K V)). SlotsTaken x 0) (sym (first.shown stands.name).is_at.held.memory) (
         λ s l. absurd (omega (arith, l)),
         λ s head l is. absurd (let none : slot_word memory.slots s HEAD ≡ None = ap (λ (slots : List (List ℕ)). slot_word slots s HEAD) begins.begun.slots in cc (none, is)),
       )

@@ -46,13 +46,13 @@ module _ {K V S : Type 0} (same : K → K → Bool) (hash : K → ℕ) (terms : 
   pub kept_so : HoldPairs noted.roles (value_at memory)
   kept_so =
       let st = so.holds.stands in
-      subst (λ (x : Mem (Node K V)). HoldPairs noted.roles (value_at x)) st.shown.is_at.memory (hold_pairs m noted st.scene.world st.shown.shows.all.shown.blocks)
+      subst (λ (x : Mem (Node K V)). HoldPairs noted.roles (value_at x)) st.shown.is_at.held.memory (hold_pairs m noted st.scene.world st.shown.shows.all.shown.blocks)
 
   module _ (run : Run K V) (living : map shown_of run.maps.items ≡ map (told_map tally) p.maps) (waits : run.waiting.items ≡ numbers_at (passes None) 0 tally.pairs.items)
       (tables : run.tables ≡ counted tally.tables.items) (stored : run.stored ≡ noted.stored)
       (left : (blocks : ℕ) × ((b : ℕ) → blocks ≤ b → noted.roles b ≡ Free) × (run.kept ≡ noted_below noted.roles (value_at memory) blocks)) where
     kept_is : run.kept ≡ noted_below noted.roles (value_at so.holds.stands.scene.world.memory) left.0
-    kept_is = left.2 ∙ ap (λ (x : Mem (Node K V)). noted_below noted.roles (value_at x) left.0) (sym so.holds.stands.shown.is_at.memory)
+    kept_is = left.2 ∙ ap (λ (x : Mem (Node K V)). noted_below noted.roles (value_at x) left.0) (sym so.holds.stands.shown.is_at.held.memory)
 
     lists_kept : Lists (numbers run.kept) (λ place. is_in_a_map place || is_waiting place) m
     lists_kept =

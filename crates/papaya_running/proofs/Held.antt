@@ -22,8 +22,8 @@ use Rattle.papaya_schedules.specs.Lists.{least_free}
 use Rattle.papaya_schedules.specs.Moment.{MapThere, Moment, Place, TableThere}
 use Rattle.papaya_schedules.specs.Terms.{Terms}
 use Rattle.papaya_schedules.specs.Views.{call_of, map_of, number_of}
-use Rattle.papaya_events.specs.Given.Executor.IsAt.{Scene, StaysGiven}
-use Rattle.papaya_events.proofs.Given.Remains.Numbered.{made_stays, standing_below}
+use Rattle.papaya_events.proofs.Given.Remains.Numbered.{made_stays}
+use Rattle.papaya_logged.proofs.Held.{maps_below}
 use Rattle.papaya_events.proofs.Given.Rows.Lists.{found_has}
 use Rattle.papaya_scheduler.specs.Mapping.{CountsMaps}
 use Rattle.papaya_scheduler.specs.Played.{IsPlayed, IsUnderWay, Plays, entry_of, terms_given}
@@ -36,6 +36,8 @@ use Rattle.papaya_events.specs.Asked.{FindsRight, HappensAt, Holds, HoldsThen, n
 use Rattle.papaya_running.proofs.Counts.{NamesApart, begun_apart, gone_apart, made_begun, named_apart}
 use Rattle.papaya_running.proofs.Logs.{begun_same, called_so}
 use Rattle.papaya_events.proofs.Remaining.{gives_all, rested}
+use Rattle.papaya_events.specs.Given.Executor.IsThere.{StaysGiven}
+use Rattle.papaya_events.specs.Given.Scenes.Scene.{Scene}
 
 module _ {K V S : Type 0} (same : K → K → Bool) (hash : K → ℕ) (terms : Terms) (log : List (Entry K V)) (p : Scheduler K V S) (holds : Holds same hash terms (moment log) p) where
   abbrev m : Moment K V
@@ -49,8 +51,8 @@ module _ {K V S : Type 0} (same : K → K → Bool) (hash : K → ℕ) (terms : 
   call_below n i u here = by (s.maps n) refl
     where
       by : (o : Option (Standing K)) → s.maps n ≡ o → n < m.made
-      by None none = absurd (let no = holds.stands.shown.is_at.together.makings.standing.only n i none in cc (no, here))
-      by (Some st) there = subst (λ (k : ℕ). n < k) holds.counts.next (standing_below same hash p.logged.executor s holds.stands.shown.is_at n st there)
+      by None none = absurd (let no = holds.stands.shown.is_at.held.together.makings.standing.only n i none in cc (no, here))
+      by (Some st) there = subst (λ (k : ℕ). n < k) holds.counts.next ((maps_below same hash p.logged.executor s holds.stands.shown.is_at).standing n st there)
 
   called_below : (own : List ℕ) (n : ℕ) → option_map (λ c. c.map) (call_of own m) ≡ Some n → n < m.made
   called_below own n is = by (find (is_named own) p.calls) refl (sym (called_so same hash terms m p holds.stands holds.counts.next own) ∙ is)

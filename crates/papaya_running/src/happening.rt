@@ -1,6 +1,5 @@
 //! An event of a schedule happens.
 ghost use Rattle.std.specs.Prelude.{◌≡◌, length, IfOk};
-ghost use Rattle.papaya_events.specs.Given.Executor.IsAt.{StaysGiven, KeepsGiven};
 ghost use Rattle.papaya_events.specs.Asked.{HappensAt, HappensDue, HoldsThen, MayHappen, MayHappenDue, numbers_on};
 ghost use Rattle.papaya_running.specs.Back.{GivesAt, GivesDue};
 ghost use Rattle.papaya_running.specs.Kinds.{event_of_call, event_of_maps, event_of_slots};
@@ -8,6 +7,7 @@ ghost use Rattle.papaya_events.specs.OfAll.{KeepsAll};
 ghost use Rattle.papaya_events.specs.OfCalls.{KeepsAt, KeepsDue};
 ghost use Rattle.papaya_events.specs.OfRows.{KeepsRun, KeepsRunAt};
 ghost use Rattle.papaya_events.specs.OfSetups.{KeepsSetup};
+ghost use Rattle.papaya_events.specs.Given.Executor.IsThere.{KeepsGiven, StaysGiven};
 
 use crate::kinds::{CallEvent, Kind, MapEvent, SlotEvent, kind_of};
 use papaya_mapping::endings::end_map;

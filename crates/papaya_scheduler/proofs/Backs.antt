@@ -8,9 +8,7 @@ use Rattle.papaya_schedules.specs.After.{moment}
 use Rattle.papaya_schedules.specs.Entry.{Entry}
 use Rattle.papaya_schedules.specs.Moment.{Moment}
 use Rattle.papaya_schedules.specs.Terms.{Terms}
-use Rattle.papaya_executor.specs.IsAt.{Scene, slot_of}
-use Rattle.papaya_executor.specs.OnSlots.{MayBegin}
-use Rattle.papaya_executor.specs.declared.row.SlotCall.{SlotCall}
+use Rattle.papaya_scenes.specs.declared.row.SlotCall.{SlotCall}
 use Rattle.papaya_logged.specs.Given.Reclaiming.Reclaiming.{MayReclaim, NobodyHas}
 use Rattle.papaya_logged.specs.Back.{AllBringsBack, BringsBack, ComesBack}
 use Rattle.papaya_logged.specs.OnSlots.{OnSlotBegins}
@@ -19,6 +17,9 @@ use Rattle.papaya_logged.specs.declared.logged.Logged.{Logged}
 use Rattle.papaya_logged.proofs.BroughtBack.{none_back}
 use Rattle.papaya_scheduler.specs.Played.{IsDue}
 use Rattle.papaya_scheduler.specs.declared.scheduler.Scheduler.{Scheduler}
+use Rattle.papaya_executor.specs.OnSlots.{MayBegin}
+use Rattle.papaya_scenes.specs.Scene.{Scene, slot_of}
+use Rattle.papaya_executor.specs.IsThere.{in_slot}
 
 module _ {K V S : Type 0} where
   -- what a row brings back that has begun before it ran

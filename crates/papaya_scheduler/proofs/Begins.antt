@@ -15,11 +15,8 @@ use Rattle.papaya_schedules.specs.Terms.{Terms}
 use Rattle.papaya_schedules.specs.Views.{call_of, map_of, number_of}
 use Rattle.papaya_logged.specs.Given.Callers.Together.{UnderWay, in_slot}
 use Rattle.papaya_logged.proofs.Given.Callers.Together.At.{at_other, at_same}
-use Rattle.papaya_executor.specs.IsAt.{Scene, slot_of, use_at, work_of}
-use Rattle.papaya_executor.specs.Replying.{scene_with}
-use Rattle.papaya_executor.specs.declared.row.SlotUse.TheVariants as used
-use Rattle.papaya_executor.specs.declared.worker.TheConstants.{SLOTS}
-use Rattle.papaya_executor.proofs.Fresh.{caller_in, no_calls_yet, slot_is}
+use Rattle.papaya_scenes.specs.declared.row.SlotUse.TheVariants as used
+use Rattle.papaya_scenes.specs.declared.callers.TheConstants.{SLOTS}
 use Rattle.papaya_logged.specs.Given.Finishes.Machines.{machine_of}
 use Rattle.papaya_logged.specs.Given.Finishes.Maps.{Standing}
 use Rattle.papaya_logged.specs.Given.Follows.Calling.{NoneNamed}
@@ -38,6 +35,10 @@ use Rattle.papaya_rows.proofs.Facts.{no_ending_of, no_making_of, no_work_at, row
 use Rattle.papaya_rows.proofs.Lists.{all_but, all_so, as_some, found_alike, is_found, none_kept, one_of}
 use Rattle.papaya_scheduler.proofs.Maps.{setting_of_it, setting_some}
 use Rattle.papaya_rows.proofs.There.{is_inside, living_is, on_its_slot}
+use Rattle.papaya_executor.proofs.Fresh.{caller_in, no_calls_yet, slot_is}
+use Rattle.papaya_executor.specs.IsThere.{use_at, work_of}
+use Rattle.papaya_scenes.specs.Replying.{scene_with}
+use Rattle.papaya_scenes.specs.Scene.{Scene, slot_of}
 
 and_parts : (a b : Bool) → (a && b) ≡ true → (a ≡ true) × (b ≡ true)
 and_parts true b e = (refl, e)
@@ -120,12 +121,12 @@ module _ {K V S : Type 0} (same : K → K → Bool) (hash : K → ℕ) (terms : 
         machine_is : machine_of u ≡ machine_for (record setting { slot = slot }) hash call
         machine_is =
             its_machine same st i call ∙ ap (λ (x : Setting). machine_for (in_slot x (slot_of i)) st.hash call) its.3
-            ∙ ap (λ (x : ℕ). machine_for (in_slot setting x) st.hash call) at_slot ∙ ap (λ (h : K → ℕ). machine_for (in_slot setting slot) h call) (stands.shown.is_at.hashes number st its.2)
+            ∙ ap (λ (x : ℕ). machine_for (in_slot setting x) st.hash call) at_slot ∙ ap (λ (h : K → ℕ). machine_for (in_slot setting slot) h call) (stands.shown.is_at.held.hashes number st its.2)
 
         pub shown : IsShown same hash names (with_call own guard call (Some number) m) new then_at
         shown =
             leads stands.name m s stands.shown st its.2 (ap (use_at p.logged.executor) at_slot ∙ entered) u machine_is
-            (begins_so same st i (stands.shown.is_at.together.makings.standing.fit number st its.2).0 call) own guard call (is_called same st i call) (is_begun_for same st i call) (none_named own free)
+            (begins_so same st i (stands.shown.is_at.held.together.makings.standing.fit number st its.2).0 call) own guard call (is_called same st i call) (is_begun_for same st i call) (none_named own free)
 
         pub none_yet : (n : ℕ) → s.calls n i ≡ None
         none_yet = no_calls_yet same hash p.logged.executor s stands.shown.is_at slot fits

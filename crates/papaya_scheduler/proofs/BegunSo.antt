@@ -10,8 +10,7 @@ use Rattle.papaya_schedules.specs.InUse.{is_living}
 use Rattle.papaya_schedules.specs.Views.{call_of, map_of}
 use Rattle.papaya_schedules.specs.declared.call.Call.{Call}
 use Rattle.papaya_raw.specs.declared.machines.machine.Machine.{Machine}
-use Rattle.papaya_executor.specs.IsAt.{Scene}
-use Rattle.papaya_executor.specs.declared.worker.TheConstants.{SLOTS}
+use Rattle.papaya_scenes.specs.declared.callers.TheConstants.{SLOTS}
 use Rattle.papaya_logged.specs.Calling.{CallBegins}
 use Rattle.papaya_logged.specs.Shown.{IsShown}
 use Rattle.papaya_logged.specs.declared.logged.Logged.{Logged}
@@ -25,6 +24,7 @@ use Rattle.papaya_scheduler.specs.declared.scheduler.Scheduler.{Scheduler}
 use Rattle.papaya_scheduler.proofs.Begins.{begun, called_is, lives_is, not_begun}
 use Rattle.papaya_rows.proofs.Lists.{place_some}
 use Rattle.papaya_scheduler.proofs.Maps.{setting_some}
+use Rattle.papaya_scenes.specs.Scene.{Scene}
 
 module _ {K V S : Type 0} (same : K → K → Bool) (hash : K → ℕ) (terms : Terms) (m : Moment K V) (p : Scheduler K V S) (stands : StandsFor same hash terms m p) (own guard name : List ℕ)
     (call : Call K V) where

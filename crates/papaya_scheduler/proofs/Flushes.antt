@@ -21,14 +21,12 @@ use Rattle.papaya_schedules.specs.InTurn.{IsFlushed}
 use Rattle.papaya_schedules.specs.InUse.{is_held, is_living}
 use Rattle.papaya_schedules.specs.Moment.{Moment}
 use Rattle.papaya_schedules.specs.Terms.{Terms}
-use Rattle.papaya_executor.specs.IsAt.{use_at}
-use Rattle.papaya_executor.specs.OnSlots.{MayBegin}
-use Rattle.papaya_executor.specs.declared.row.RowTold.{RowTold}
-use Rattle.papaya_executor.specs.declared.row.RowTold.TheVariants as told
-use Rattle.papaya_executor.specs.declared.row.SlotCall.TheVariants as call
-use Rattle.papaya_executor.specs.declared.row.SlotUse.{SlotUse}
-use Rattle.papaya_executor.specs.declared.row.SlotUse.TheVariants as used
-use Rattle.papaya_executor.specs.declared.worker.TheConstants.{SLOTS}
+use Rattle.papaya_scenes.specs.declared.row.RowTold.{RowTold}
+use Rattle.papaya_scenes.specs.declared.row.RowTold.TheVariants as told
+use Rattle.papaya_scenes.specs.declared.row.SlotCall.TheVariants as call
+use Rattle.papaya_scenes.specs.declared.row.SlotUse.{SlotUse}
+use Rattle.papaya_scenes.specs.declared.row.SlotUse.TheVariants as used
+use Rattle.papaya_scenes.specs.declared.callers.TheConstants.{SLOTS}
 use Rattle.papaya_logged.specs.Ended.{has_ended}
 use Rattle.papaya_logged.specs.declared.logged.Logged.{Logged}
 use Rattle.papaya_scheduler.specs.Played.{IsDue, Plays, StandsFor}
@@ -43,6 +41,8 @@ use Rattle.papaya_scheduler.proofs.Quiet.{stands_on}
 use Rattle.papaya_scheduler.proofs.RanOn.{stands_ran, there_stays}
 use Rattle.papaya_scheduler.proofs.Rights.{entry, in_turn, out_of_turn, plays, quiet}
 use Rattle.papaya_rows.proofs.There.{living_is}
+use Rattle.papaya_executor.specs.IsThere.{use_at}
+use Rattle.papaya_executor.specs.OnSlots.{MayBegin}
 
 -- a word that is there is read so
 read_there : (o : Option ℕ) → IsSome o → (word : ℕ) × (o ≡ Some word)
@@ -114,7 +114,7 @@ module _ {K V S : Type 0} (same : K → K → Bool) (hash : K → ℕ) (terms : 
           let at = stands.shown.is_at in
           let says = word_says same hash p.logged.executor stands.scene at j slot its_fits has in
           let word = word_found p.logged.executor.memory.memory (Slot slot BATCH) read.0 read.1 in
-          let same_word : read.0 ≡ HELD = sym word ∙ ap (λ (x : Mem (Node K V)). words_of x (Slot slot BATCH)) (sym at.memory) ∙ says in
+          let same_word : read.0 ≡ HELD = sym word ∙ ap (λ (x : Mem (Node K V)). words_of x (Slot slot BATCH)) (sym at.held.memory) ∙ says in
           let yes = reads read.0 read.1 ∙ eq-eqb read.0 HELD same_word in
           cc (yes, no)
 

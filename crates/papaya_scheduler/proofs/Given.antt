@@ -9,6 +9,7 @@ pub use Rattle.papaya_logged.proofs.Given.Waits
 pub use Rattle.papaya_logged.proofs.Given.Waiters
 pub use Rattle.papaya_logged.proofs.Given.Reclaims
 pub use Rattle.papaya_logged.proofs.Given.Whole
+pub use Rattle.papaya_scenes.proofs as Scenes
 pub use Rattle.papaya_executor.proofs as Executor
 pub use Rattle.papaya_logged.proofs.Given.Follows
 pub use Rattle.papaya_logged.proofs.Given.Hands

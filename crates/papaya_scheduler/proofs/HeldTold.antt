@@ -20,10 +20,8 @@ use Rattle.papaya_schedules.specs.Views.{call_of}
 use Rattle.papaya_logged.specs.Given.Callers.Together.{UnderWay}
 use Rattle.papaya_logged.specs.Given.Finishes.Machines.{machine_of}
 use Rattle.papaya_logged.specs.Given.Follows.Calls.{IsCalled}
-use Rattle.papaya_executor.specs.IsAt.{call_in, slot_of, work_of}
 use Rattle.papaya_executor.specs.declared.worker.Work.{Work}
 use Rattle.papaya_executor.specs.declared.worker.Work.TheVariants as work
-use Rattle.papaya_executor.proofs.Places.{none_of}
 use Rattle.papaya_scheduler.specs.Played.{IsUnderWay, StandsFor}
 use Rattle.papaya_named.specs.Seen.{Seen, is_named, seen, seen_of}
 use Rattle.papaya_named.specs.declared.caller.Caller.{Caller}
@@ -33,6 +31,9 @@ use Rattle.papaya_rows.proofs.Facts.{row_rests}
 use Rattle.papaya_rows.proofs.Holders.{held, works_there}
 use Rattle.papaya_rows.proofs.Lists.{all_so, both_some, found_alike, found_has, found_once}
 use Rattle.papaya_scheduler.proofs.RanOn.{both_true}
+use Rattle.papaya_executor.proofs.Places.{none_of}
+use Rattle.papaya_executor.specs.IsThere.{call_in, work_of}
+use Rattle.papaya_scenes.specs.Scene.{slot_of}
 
 -- where a slot's batch is held, a call under way that may hold it hands something over
 abbrev pub HeldIsTold : {K V S : Type 0} → Moment K V → Scheduler K V S → Type 0
@@ -128,7 +129,7 @@ module _ {K V S : Type 0} (same : K → K → Bool) (hash : K → ℕ) (terms : 
   held_is_told slot word =
       let at = stands.shown.is_at in
       let says : words_of stands.scene.world.memory (Slot slot BATCH) ≡ HELD =
-      ap (λ (x : Mem (Node K V)). words_of x (Slot slot BATCH)) at.memory ∙ word_found p.logged.executor.memory.memory (Slot slot BATCH) HELD word in
+      ap (λ (x : Mem (Node K V)). words_of x (Slot slot BATCH)) at.held.memory ∙ word_found p.logged.executor.memory.memory (Slot slot BATCH) HELD word in
       let holder = held same hash p.logged.executor stands.scene at slot says in
       let call = has_call holder.0 slot holder.1 in
       told_there call.0 holder.0 call.1 call.2 slot holder.1

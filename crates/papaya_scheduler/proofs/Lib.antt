@@ -1,4 +1,5 @@
 pub mod KeptGiven
+use Rattle.papaya_scenes.specs.Beginning.{Begins}
 pub mod Backs
 pub mod Works
 pub mod Rights

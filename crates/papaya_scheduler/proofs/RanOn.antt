@@ -14,10 +14,8 @@ use Rattle.papaya_schedules.specs.Moment.{MapThere, Remains, Sheltered, UnderWay
 use Rattle.papaya_schedules.specs.Terms.{Terms}
 use Rattle.papaya_logged.specs.Given.Callers.Together.{UnderWay}
 use Rattle.papaya_logged.specs.Given.Effects.Known.{known}
-use Rattle.papaya_executor.specs.IsAt.{Scene, slot_of, use_at, work_of}
-use Rattle.papaya_executor.specs.OnSlots.{MayBegin, NobodyIn}
-use Rattle.papaya_executor.specs.declared.row.RowTold.{RowTold}
-use Rattle.papaya_executor.specs.declared.row.SlotCall.{SlotCall}
+use Rattle.papaya_scenes.specs.declared.row.RowTold.{RowTold}
+use Rattle.papaya_scenes.specs.declared.row.SlotCall.{SlotCall}
 use Rattle.papaya_logged.specs.Given.Finishes.Maps.{Standing}
 use Rattle.papaya_logged.specs.Shown.{IsShown}
 use Rattle.papaya_logged.specs.declared.logged.Logged.{Logged}
@@ -34,6 +32,9 @@ use Rattle.papaya_rows.proofs.Facts.{no_ending_of, no_making_of, no_work_at, row
 use Rattle.papaya_rows.proofs.Lists.{all_so, one_of, unseen}
 use Rattle.papaya_rows.proofs.Ran.{Led}
 use Rattle.papaya_rows.proofs.There.{on_its_slot}
+use Rattle.papaya_executor.specs.IsThere.{use_at, work_of}
+use Rattle.papaya_executor.specs.OnSlots.{MayBegin, NobodyIn}
+use Rattle.papaya_scenes.specs.Scene.{Scene, slot_of}
 
 -- names and numbers of maps stay, whatever effects there are
 same_named : (t : Table) (f : MapThere) → named (promoted t f) ≡ named f

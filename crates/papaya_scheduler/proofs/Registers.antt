@@ -17,9 +17,9 @@ use Rattle.papaya_schedules.specs.InTurn.{GetsSlot}
 use Rattle.papaya_schedules.specs.InUse.{is_registered}
 use Rattle.papaya_schedules.specs.Moment.{Moment}
 use Rattle.papaya_schedules.specs.Terms.{Terms}
-use Rattle.papaya_executor.specs.declared.row.RowTold.{RowTold}
-use Rattle.papaya_executor.specs.declared.row.RowTold.TheVariants as told
-use Rattle.papaya_executor.specs.declared.row.SlotCall.TheVariants as call
+use Rattle.papaya_scenes.specs.declared.row.RowTold.{RowTold}
+use Rattle.papaya_scenes.specs.declared.row.RowTold.TheVariants as told
+use Rattle.papaya_scenes.specs.declared.row.SlotCall.TheVariants as call
 use Rattle.papaya_logged.specs.declared.logged.Logged.{Logged}
 use Rattle.papaya_scheduler.specs.Played.{IsDue, Plays, StandsFor}
 use Rattle.papaya_rows.specs.Rows.{RowRan}

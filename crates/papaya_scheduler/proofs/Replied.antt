@@ -43,15 +43,12 @@ use Rattle.papaya_logged.specs.Given.Callers.Pairs.{Given, Begun, IsTold, KeepsG
 use Rattle.papaya_logged.specs.Given.Callers.Sights.{seen_by}
 use Rattle.papaya_logged.specs.Given.Callers.Together.{CallOnKey, UnderWay, OnKey, ForRoom, Counting, OverAll, Together, Stands as TogetherStands}
 use Rattle.papaya_logged.proofs.Given.Callers.Together.At.{at_other, at_same}
-use Rattle.papaya_executor.specs.IsAt.{Scene, HasCall, slot_of, work_of}
-use Rattle.papaya_executor.specs.Replying.{ReplyLeads, scene_with}
 use Rattle.papaya_logged.specs.Given.Finishes.Machines.{machine_of}
 use Rattle.papaya_logged.specs.Given.Finishes.Maps.{Standing}
 use Rattle.papaya_logged.specs.Given.Follows.Calling.{told as told_so}
 use Rattle.papaya_logged.specs.Given.Follows.Calls.{IsCalled}
 use Rattle.papaya_logged.specs.Given.Hands.Asked.{IsAskedAs, as_told}
 use Rattle.papaya_logged.specs.Given.Effects.Known.{known}
-use Rattle.papaya_executor.proofs.Changed.{standing_is}
 use Rattle.papaya_logged.proofs.Given.Follows.Calling.{is_same_refl}
 use Rattle.papaya_logged.specs.Given.Late.Faults.{RoomInSweeping}
 use Rattle.papaya_logged.proofs.Given.Late.KindsKept.Laws.{told_sweeps_refuse_room}
@@ -74,6 +71,11 @@ use Rattle.papaya_rows.proofs.Lists.{changed_at, set_all, set_any, set_count}
 use Rattle.papaya_scheduler.proofs.Quiet.{stands_on}
 use Rattle.papaya_named.proofs.Takes.{key_takes, sweep_takes}
 use Rattle.papaya_scheduler.proofs.Rights.{in_turn, out_of_turn, plays, quiet}
+use Rattle.papaya_executor.specs.IsThere.{held_by, work_of}
+use Rattle.papaya_executor.specs.Replying.{RepliesThere}
+use Rattle.papaya_scenes.proofs.May.{standing_is}
+use Rattle.papaya_scenes.specs.Replying.{scene_with}
+use Rattle.papaya_scenes.specs.Scene.{HasCall, Scene, slot_of}
 
 -- What a call on a key was begun with, and told since, says of which kind it is.
 pub of_kind : {K V : Type 0} (hash : K → ℕ) (m : Mem (Node K V)) (c : Chart K) (blocks : Blocks) (keys : K → Bool) (pair : Given K V) (change : Change) (p : KeyCall K V K) (stands : Calling)
@@ -254,7 +256,7 @@ module _ {K V S : Type 0} (same : K → K → Bool) (hash : K → ℕ) (terms : 
       as_far = subst (λ (x : HowFar). IsAsFar d.kind x (machine_of u)) asks_it here.way.4.0
 
       abbrev st : (standing : Standing K) × (s.maps d.map ≡ Some standing)
-      st = standing_is same hash p.logged.executor s stands.shown.is_at d.map i u under
+      st = standing_is same (λ map. hash) (held_by p.logged.executor) s stands.shown.is_at.held d.map i u under
 
       -- its machine takes it
       key_taken : (x : CallOnKey K V K) → u ≡ OnKey x → (told_at x.call.stands x.call (as_told reply)).1 ≡ Ok tt
@@ -273,7 +275,7 @@ module _ {K V S : Type 0} (same : K → K → Bool) (hash : K → ℕ) (terms : 
               the a b e = cc e
 
           together : Together V same st.0.hash same st.0.setting slot_of s.world st.0.chart st.0.blocks st.0.sights (s.calls d.map)
-          together = stands.shown.is_at.together.makings.standing.each d.map st.0 st.1
+          together = stands.shown.is_at.held.together.makings.standing.each d.map st.0 st.1
 
           asked_as : IsAskedAs (stands.shown.shows.all.shown.number d.map) st.0.chart.stored (known p.logged.notes) x c.call c
           asked_as = stands.shown.shows.all.asked.each d.map i (OnKey x) here_x st.0 st.1 c call_named
@@ -313,10 +315,10 @@ module _ {K V S : Type 0} (same : K → K → Bool) (hash : K → ℕ) (terms : 
       pub has_call : HasCall s i
       has_call = (d.map, u, under)
 
-      module _ (result : Result Unit (MachineReply V)) (new : Logged K V S) (leads : ReplyLeads same hash i (as_told reply) result s p.logged.executor new.executor)
+      module _ (result : Result Unit (MachineReply V)) (new : Logged K V S) (leads : RepliesThere same hash i (as_told reply) result s p.logged.executor new.executor)
           (takes_so : CallTakes same hash stands.name m s i (as_told reply) result p.logged new) where
         pub result_is : result ≡ Ok tt
-        result_is = (leads d.map u under).4 ∙ taken u refl
+        result_is = (leads.1 d.map u under).4 ∙ taken u refl
 
         to : (next : UnderWay K V K) × (machine_of next ≡ (machine_replied (machine_of u) (as_told reply)).0) × IsShown same hash stands.name (told_so (stands.name i) reply m) new (scene_with d.map i next s)
         to = takes_so d.map u under c call_named question stands_asking reply refl result_is

@@ -10,8 +10,6 @@ use Rattle.papaya_schedules.specs.Terms.{Terms}
 use Rattle.papaya_schedules.specs.declared.call.Reply.{Reply}
 use Rattle.papaya_schedules.specs.declared.event.Event.TheVariants.{Replied}
 use Rattle.papaya_schedules.specs.declared.outcome.Outcome.TheVariants.{Goes}
-use Rattle.papaya_executor.specs.IsAt.{HasCall}
-use Rattle.papaya_executor.specs.Replying.{ReplyLeads}
 use Rattle.papaya_logged.specs.Given.Hands.Asked.{as_told}
 use Rattle.papaya_logged.specs.Calling.{CallTakes}
 use Rattle.papaya_logged.specs.declared.logged.Logged.{Logged}
@@ -23,6 +21,8 @@ use Rattle.papaya_scheduler.specs.declared.scheduler.Scheduler.{Scheduler}
 use Rattle.papaya_scheduler.proofs.Here.{Here, here_at, read_here}
 use Rattle.papaya_scheduler.proofs.Replied.{has_call, result_is, told}
 use Rattle.papaya_scheduler.proofs.Rights.{quiet}
+use Rattle.papaya_executor.specs.Replying.{RepliesThere}
+use Rattle.papaya_scenes.specs.Scene.{HasCall}
 
 module _ {K V S : Type 0} (same : K → K → Bool) (hash : K → ℕ) (terms : Terms) (log : List (Entry K V)) (p : Scheduler K V S) (own : List ℕ) (reply : Reply V)
     (due : IsDue same hash terms log (Replied own reply) p) (place : ℕ) (placed : Some place ≡ position (is_named own) p.calls) (x : Caller V)
@@ -43,12 +43,12 @@ module _ {K V S : Type 0} (same : K → K → Bool) (hash : K → ℕ) (terms : 
   call_there = subst (λ (n : ℕ). HasCall due.played.scene n) (sym number_is) (has_call same hash terms log p own reply due place placed takes_it)
 
   module _ (as_it : MachineReply V) (is_told : as_it ≡ as_told reply) (result : Result Unit (MachineReply V)) (new : Logged K V S)
-      (leads : ReplyLeads same hash y.number as_it result due.played.scene p.logged.executor new.executor)
+      (leads : RepliesThere same hash y.number as_it result due.played.scene p.logged.executor new.executor)
       (takes_so : CallTakes same hash due.played.name m due.played.scene y.number as_it result p.logged new) where
-    leads_it : ReplyLeads same hash here.caller.number (as_told reply) result due.played.scene p.logged.executor new.executor
+    leads_it : RepliesThere same hash here.caller.number (as_told reply) result due.played.scene p.logged.executor new.executor
     leads_it =
-        subst (λ (t : MachineReply V). ReplyLeads same hash here.caller.number t result due.played.scene p.logged.executor new.executor) is_told
-        (subst (λ (n : ℕ). ReplyLeads same hash n as_it result due.played.scene p.logged.executor new.executor) number_is leads)
+        subst (λ (t : MachineReply V). RepliesThere same hash here.caller.number t result due.played.scene p.logged.executor new.executor) is_told
+        (subst (λ (n : ℕ). RepliesThere same hash n as_it result due.played.scene p.logged.executor new.executor) number_is leads)
 
     takes_so_it : CallTakes same hash due.played.name m due.played.scene here.caller.number (as_told reply) result p.logged new
     takes_so_it =

@@ -114,14 +114,14 @@ module _ {K V S : Type 0} (same : K → K → Bool) (hash : K → ℕ) (terms : 
     pub stands_there : Stands same hash p.logged.executor.memory.memory setting chart_there blocks_there
     stands_there =
         let at = stands.shown.is_at in
-        let maps = at.together.makings.standing in
+        let maps = at.held.together.makings.standing in
         let fit = (maps.fit number st its.2).0 in
         record {
           map = subst (λ (x : Setting). IsMap same hash x.mode x.root p.logged.executor.memory.memory st.chart st.blocks) its.3
-              (subst (λ (h : K → ℕ). IsMap same h st.setting.mode st.setting.root p.logged.executor.memory.memory st.chart st.blocks) (at.hashes number st its.2)
-              (subst (λ (x : Mem (Node K V)). IsMap same st.hash st.setting.mode st.setting.root x st.chart st.blocks) at.memory (maps.each number st its.2).ground.map.map));
+              (subst (λ (h : K → ℕ). IsMap same h st.setting.mode st.setting.root p.logged.executor.memory.memory st.chart st.blocks) (at.held.hashes number st its.2)
+              (subst (λ (x : Mem (Node K V)). IsMap same st.hash st.setting.mode st.setting.root x st.chart st.blocks) at.held.memory (maps.each number st its.2).ground.map.map));
           classes = fit.lawful.classes;
-          fits = subst (λ (h : K → ℕ). (k : K) → h k < 2 ^ 64) (at.hashes number st its.2) fit.fits;
+          fits = subst (λ (h : K → ℕ). (k : K) → h k < 2 ^ 64) (at.held.hashes number st its.2) fit.fits;
         }
 
     pub shapes_are : map (λ t. t.shape) (chain_named (number_of own m) m) ≡ map shape_of (tables_on chart_there blocks_there chart_there.first (chart_there.past - chart_there.first))

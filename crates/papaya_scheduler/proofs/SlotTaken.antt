@@ -26,14 +26,13 @@ use Rattle.papaya_schedules.specs.Moment.{Moment}
 use Rattle.papaya_schedules.specs.Terms.{Terms}
 use Rattle.papaya_logged.specs.Given.Effects.Effects.{effects_of}
 use Rattle.papaya_logged.specs.Given.Effects.declared.acting.Acting.TheVariants as acts
-use Rattle.papaya_executor.specs.IsAt.{use_at, work_of}
-use Rattle.papaya_executor.specs.declared.row.RowTold.{RowTold}
-use Rattle.papaya_executor.specs.declared.row.RowTold.TheVariants as told
-use Rattle.papaya_executor.specs.declared.row.SlotCall.TheVariants as call
-use Rattle.papaya_executor.specs.declared.row.SlotRow.TheVariants as rows
-use Rattle.papaya_executor.specs.declared.row.SlotUse.{SlotUse}
-use Rattle.papaya_executor.specs.declared.row.SlotUse.TheVariants as used
-use Rattle.papaya_executor.specs.declared.worker.TheConstants.{SLOTS}
+use Rattle.papaya_scenes.specs.declared.row.RowTold.{RowTold}
+use Rattle.papaya_scenes.specs.declared.row.RowTold.TheVariants as told
+use Rattle.papaya_scenes.specs.declared.row.SlotCall.TheVariants as call
+use Rattle.papaya_scenes.specs.declared.row.SlotRow.TheVariants as rows
+use Rattle.papaya_scenes.specs.declared.row.SlotUse.{SlotUse}
+use Rattle.papaya_scenes.specs.declared.row.SlotUse.TheVariants as used
+use Rattle.papaya_scenes.specs.declared.callers.TheConstants.{SLOTS}
 use Rattle.papaya_logged.specs.Ended.{has_ended, uses_ended}
 use Rattle.papaya_logged.specs.declared.logged.Logged.{Logged}
 use Rattle.papaya_scheduler.specs.Played.{StandsFor}
@@ -42,6 +41,7 @@ use Rattle.papaya_scheduler.specs.declared.scheduler.Scheduler.{Scheduler}
 use Rattle.papaya_rows.proofs.Ran.{Led}
 use Rattle.papaya_rows.proofs.Taking.{Ends, taken}
 use Rattle.papaya_scheduler.proofs.Vacancies.{IsFirst, first_is, none_left, none_on_vacant}
+use Rattle.papaya_executor.specs.IsThere.{held_by, use_at, work_of}
 
 -- what ends with a growth that was asked for has one
 grown_last : (first : List Effect) (growth : Growth) → has_grown (first ++ Asked growth ∷ []) ≡ true
@@ -70,7 +70,7 @@ module _ {K V S : Type 0} (same : K → K → Bool) (hash : K → ℕ) (terms : 
   apart = none_on_vacant same hash terms m p stands ran.caller
 
   abbrev Ended : RowTold (Node K V) → Type 0
-  Ended x = Ends same hash ran.caller stands.scene p.logged.executor.batch_size enters apart new.executor x
+  Ended x = Ends same (λ map. hash) ran.caller stands.scene p.logged.executor.batch_size enters apart (held_by new.executor) x
 
   all : Led same hash ran.caller stands.scene new.executor × Ended said × (work_of new.executor ran.caller ≡ None)
   all = taken same hash stands.name m stands.scene p.logged new stands.shown enters said before after ran apart

@@ -23,10 +23,7 @@ use Rattle.papaya_logged.specs.Given.Callers.Sights.{seen_by}
 use Rattle.papaya_logged.specs.Given.Callers.Together.{UnderWay, OnKey, ForRoom, Counting, OverAll, Together, Stands as TogetherStands}
 use Rattle.papaya_logged.specs.Given.Late.ToldSweeps.{IsRowOfSweep}
 use Rattle.papaya_logged.specs.Given.Sweeps.declared.sweep.Sweeping.TheVariants as sweeping
-use Rattle.papaya_executor.proofs.Changed.{standing_is}
 use Rattle.papaya_logged.proofs.Given.Callers.Together.At.{at_other, at_same}
-use Rattle.papaya_executor.specs.IsAt.{Scene, HasCall, slot_of, work_of}
-use Rattle.papaya_executor.specs.Replying.{unless_stopped}
 use Rattle.papaya_logged.specs.Given.Finishes.Machines.{machine_of}
 use Rattle.papaya_logged.specs.Given.Finishes.Maps.{Standing, with_call as with_call_of}
 use Rattle.papaya_logged.specs.Given.Follows.Calling.{NoneNamed}
@@ -48,6 +45,10 @@ use Rattle.papaya_scheduler.proofs.Here.{Here, here_at, there_is}
 use Rattle.papaya_rows.proofs.Lists.{one_of, removed_all, removed_any, removed_at, removed_count}
 use Rattle.papaya_scheduler.proofs.Quiet.{stands_on}
 use Rattle.papaya_scheduler.proofs.Rights.{in_turn, out_of_turn, plays, quiet}
+use Rattle.papaya_executor.specs.IsThere.{held_by, work_of}
+use Rattle.papaya_scenes.proofs.May.{standing_is}
+use Rattle.papaya_scenes.specs.Replying.{unless_stopped}
+use Rattle.papaya_scenes.specs.Scene.{HasCall, Scene, slot_of}
 
 shows_seen : (stands : Stands) → is_ready stands ≡ shows (far_of stands)
 shows_seen Going = refl
@@ -188,7 +189,7 @@ module _ {K V S : Type 0} (same : K → K → Bool) (hash : K → ℕ) (terms : 
           where
             by : (o : Option (UnderWay K V K)) → s.calls n i ≡ o → s.calls n i ≡ None
             by None e = e
-            by (Some x) e = absurd (ne (stands.shown.is_at.together.makings.standing.once n d.map i (λ z. cc (e, z)) (λ z. let a = under in cc (a, z))))
+            by (Some x) e = absurd (ne (stands.shown.is_at.held.together.makings.standing.once n d.map i (λ z. cc (e, z)) (λ z. let a = under in cc (a, z))))
 
         none_then : (n : ℕ) → then_at.calls n i ≡ None
         none_then n = by (cases_eq n d.map)
@@ -249,10 +250,10 @@ module _ {K V S : Type 0} (same : K → K → Bool) (hash : K → ℕ) (terms : 
         row_of_it (OverAll o) is = of (together.stand i (OverAll o) (under ∙ ap Some is))
           where
             st : (standing : Standing K) × (s.maps d.map ≡ Some standing)
-            st = standing_is same hash p.logged.executor s stands.shown.is_at d.map i u under
+            st = standing_is same (λ map. hash) (held_by p.logged.executor) s stands.shown.is_at.held d.map i u under
 
             together : Together V same st.0.hash same st.0.setting slot_of s.world st.0.chart st.0.blocks st.0.sights (s.calls d.map)
-            together = stands.shown.is_at.together.makings.standing.each d.map st.0 st.1
+            together = stands.shown.is_at.held.together.makings.standing.each d.map st.0 st.1
 
             at_ready : o.sweep.stands ≡ sweeping.Ready
             at_ready = (subst (λ (x : UnderWay K V K). IsAsFar d.kind far.Ready (machine_of x)) is (subst (λ (x : HowFar). IsAsFar d.kind x (machine_of u)) far_is at_place.way.4.0)).1
@@ -279,8 +280,8 @@ module _ {K V S : Type 0} (same : K → K → Bool) (hash : K → ℕ) (terms : 
                 its_work : work_of new.executor i ≡ None
                 its_work =
                     no_work_at same hash new.executor then_at shown.is_at i none_then
-                    (nothing (s.makers i) (λ b is. let a = stands.shown.is_at.together.makings.alone i b is d.map in let h = under in cc (a, h)))
-                    (nothing (s.enders i) (λ f is. let a = (stands.shown.is_at.together.alone i f is).0 d.map in let h = under in cc (a, h))) (row_of_it u refl)
+                    (nothing (s.makers i) (λ b is. let a = stands.shown.is_at.held.together.makings.alone i b is d.map in let h = under in cc (a, h)))
+                    (nothing (s.enders i) (λ f is. let a = (stands.shown.is_at.held.together.alone i f is).0 d.map in let h = under in cc (a, h))) (row_of_it u refl)
             by (inr ne) =
                 let before = stands.rests j (λ n. sym (there_then n j ne) ∙ none n) in
                 let at_s = stands.shown.is_at in

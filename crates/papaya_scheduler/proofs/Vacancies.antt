@@ -13,13 +13,11 @@ use Rattle.papaya_schedules.specs.InUse.{used_slots}
 use Rattle.papaya_schedules.specs.Lists.{is_among, least_free}
 use Rattle.papaya_schedules.specs.Moment.{Moment}
 use Rattle.papaya_schedules.specs.Terms.{Terms}
-use Rattle.papaya_executor.specs.IsAt.{Scene, IsUsedAs, call_in, use_at, work_of}
 use Rattle.papaya_executor.specs.declared.executor.Executor.{Executor}
-use Rattle.papaya_executor.specs.declared.row.SlotUse.{SlotUse}
-use Rattle.papaya_executor.specs.declared.row.SlotUse.TheVariants as used
+use Rattle.papaya_scenes.specs.declared.row.SlotUse.{SlotUse}
+use Rattle.papaya_scenes.specs.declared.row.SlotUse.TheVariants as used
 use Rattle.papaya_executor.specs.declared.worker.Work.{Work}
 use Rattle.papaya_executor.specs.declared.worker.Work.TheVariants as work
-use Rattle.papaya_executor.proofs.Places.{none_of}
 use Rattle.papaya_rows.proofs.InUse.{among_used, unused_by, used_by}
 use Rattle.papaya_rows.proofs.Light.{has_call, light, within_call}
 use Rattle.papaya_rows.specs.Rows.{used_as}
@@ -27,6 +25,9 @@ use Rattle.papaya_scheduler.specs.Played.{StandsFor}
 use Rattle.papaya_scheduler.specs.declared.scheduler.Scheduler.{Scheduler}
 use Rattle.papaya_rows.proofs.Facts.{row_rests, used_once}
 use Rattle.papaya_rows.proofs.Least.{least_is, least_past}
+use Rattle.papaya_executor.proofs.Places.{none_of}
+use Rattle.papaya_executor.specs.IsThere.{IsUsedAs, call_in, use_at, work_of}
+use Rattle.papaya_scenes.specs.Scene.{Scene}
 
 module _ {K V S : Type 0} (same : K → K → Bool) (hash : K → ℕ) (terms : Terms) (m : Moment K V) (p : Scheduler K V S) (stands : StandsFor same hash terms m p) where
   abbrev e : Executor K V S

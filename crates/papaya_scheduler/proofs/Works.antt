@@ -8,8 +8,8 @@ use Rattle.papaya_logged.specs.Given.Tables.declared.setting.Setting.{Setting}
 use Rattle.papaya_schedules.specs.declared.effect.Effect.{Effect}
 use Rattle.papaya_schedules.specs.declared.event.Event.{Event}
 use Rattle.papaya_schedules.specs.declared.outcome.Outcome.TheVariants.{Done, Refused}
-use Rattle.papaya_executor.specs.declared.row.RowTold.{RowTold}
-use Rattle.papaya_executor.specs.declared.row.SlotCall.{SlotCall}
+use Rattle.papaya_scenes.specs.declared.row.RowTold.{RowTold}
+use Rattle.papaya_scenes.specs.declared.row.SlotCall.{SlotCall}
 use Rattle.papaya_logged.specs.Ends.{EndRan}
 use Rattle.papaya_logged.specs.Goes.{EndGone, MakingGone}
 use Rattle.papaya_logged.specs.Makings.{MakingRan}

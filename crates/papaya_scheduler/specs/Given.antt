@@ -17,6 +17,7 @@ pub use Rattle.papaya_logged.specs.Given.Waits
 pub use Rattle.papaya_logged.specs.Given.Finishes
 pub use Rattle.papaya_logged.specs.Given.Reclaims
 pub use Rattle.papaya_logged.specs.Given.Effects
+pub use Rattle.papaya_scenes.specs as Scenes
 pub use Rattle.papaya_executor.specs as Executor
 pub use Rattle.papaya_logged.specs.Given.Reclaiming
 pub use Rattle.papaya_logged.specs.Given.Follows

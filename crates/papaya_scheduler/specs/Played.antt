@@ -24,9 +24,7 @@ use Rattle.papaya_schedules.specs.InUse.{is_living}
 use Rattle.papaya_schedules.specs.Moment.{Moment}
 use Rattle.papaya_schedules.specs.Terms.{Terms}
 use Rattle.papaya_schedules.specs.Views.{call_of, map_of, number_of}
-use Rattle.papaya_executor.specs.IsAt.{Scene, IsAt, slot_of, use_at, work_of}
-use Rattle.papaya_executor.specs.Replying.{ReplyLeads, StopLeads}
-use Rattle.papaya_executor.specs.declared.worker.TheConstants.{SLOTS}
+use Rattle.papaya_scenes.specs.declared.callers.TheConstants.{SLOTS}
 use Rattle.papaya_logged.specs.Calling.{CallBegins}
 use Rattle.papaya_logged.specs.Shown.{IsShown}
 use Rattle.papaya_named.specs.Machines.{IsAsFar, RefusedForRoom, aborted_by, machine_for}
@@ -37,6 +35,9 @@ use Rattle.papaya_named.specs.declared.caller.Stands.TheVariants as far
 use Rattle.papaya_scheduler.specs.declared.played.Played.{Played}
 use Rattle.papaya_named.specs.declared.named_map.NamedMap.{NamedMap}
 use Rattle.papaya_scheduler.specs.declared.scheduler.Scheduler.{Scheduler}
+use Rattle.papaya_executor.specs.IsThere.{IsThere, use_at, work_of}
+use Rattle.papaya_executor.specs.Replying.{RepliesThere, StopsThere}
+use Rattle.papaya_scenes.specs.Scene.{Scene, slot_of}
 
 -- what the run is made with
 abbrev pub terms_given : Setup → Terms
@@ -166,7 +167,7 @@ module _ {K V S : Type 0} (same : K → K → Bool) (hash : K → ℕ) where
     pub is_told : as_it ≡ as_told reply
     pub result : Result Unit (MachineReply V)
     pub plain : is_err result ≡ false
-    pub leads : (s : Scene K V) → IsAt same hash old.logged.executor s → ReplyLeads same hash whose.number as_it result s old.logged.executor new.logged.executor
+    pub leads : (s : Scene K V) → IsThere same hash old.logged.executor s → RepliesThere same hash whose.number as_it result s old.logged.executor new.logged.executor
     pub value : Option V
     pub value_is : value ≡ aborted_by reply
     pub calls : (d : Caller V) → slice_get old.calls place ≡ Some d
@@ -183,7 +184,7 @@ module _ {K V S : Type 0} (same : K → K → Bool) (hash : K → ℕ) where
     pub whose : Caller V
     pub reads : whose ≡ slice_index_or old.calls place whose
     pub stopped : Bool
-    pub leads : (s : Scene K V) → IsAt same hash old.logged.executor s → StopLeads same hash whose.number stopped s old.logged.executor new.logged.executor
+    pub leads : (s : Scene K V) → IsThere same hash old.logged.executor s → StopsThere same hash whose.number stopped s old.logged.executor new.logged.executor
     pub calls : new.calls ≡ remove old.calls place
     pub notes : new.logged.notes ≡ old.logged.notes
 

@@ -8,12 +8,12 @@ use Rattle.papaya_schedules.specs.declared.event.Event.{Event}
 use Rattle.papaya_schedules.specs.Entry.{Entry}
 use Rattle.papaya_schedules.specs.Terms.{Terms}
 use Rattle.papaya_logged.specs.Given.Effects.Known.{Known, known}
-use Rattle.papaya_executor.specs.IsAt.{Scene}
 use Rattle.papaya_logged.specs.Given.Reclaims.Reclaims.{LeftBehind}
 use Rattle.papaya_scheduler.specs.Played.{IsDue, Plays, entry_of}
 use Rattle.papaya_named.specs.declared.caller.Caller.{Caller}
 use Rattle.papaya_scheduler.specs.declared.played.Played.{Played}
 use Rattle.papaya_scheduler.specs.declared.scheduler.Scheduler.{Scheduler}
+use Rattle.papaya_scenes.specs.Scene.{Scene}
 
 -- nobody is there but guards that were forgotten, and no call is under way
 abbrev pub are_gone : {V : Type 0} → Present → List (Caller V) → Bool

@@ -19,12 +19,11 @@ use Rattle.papaya_schedules.specs.declared.outcome.Outcome.{Outcome}
 use Rattle.papaya_schedules.specs.declared.outcome.Outcome.TheVariants.{Done, Slot, Refused}
 use Rattle.papaya_schedules.specs.Moment.{Moment}
 use Rattle.papaya_named.specs.Places.{IsFirstLen, first_places}
-use Rattle.papaya_executor.specs.IsAt.{KeepsGiven, Scene, StaysGiven}
-use Rattle.papaya_executor.specs.declared.row.RowTold.{RowTold}
-use Rattle.papaya_executor.specs.declared.row.RowTold.TheVariants as told
-use Rattle.papaya_executor.specs.declared.row.SlotCall.{SlotCall}
-use Rattle.papaya_executor.specs.declared.worker.TheConstants.{SLOTS}
-use Rattle.papaya_executor.specs.declared.row.SlotCall.TheVariants as call
+use Rattle.papaya_scenes.specs.declared.row.RowTold.{RowTold}
+use Rattle.papaya_scenes.specs.declared.row.RowTold.TheVariants as told
+use Rattle.papaya_scenes.specs.declared.row.SlotCall.{SlotCall}
+use Rattle.papaya_scenes.specs.declared.callers.TheConstants.{SLOTS}
+use Rattle.papaya_scenes.specs.declared.row.SlotCall.TheVariants as call
 use Rattle.papaya_logged.specs.Choosing.{logged_chosen}
 use Rattle.papaya_logged.specs.Ends.{EndIsBegun, EndIsOver, EndRan}
 use Rattle.papaya_logged.specs.Goes.{EndGone, MakingGone}
@@ -37,6 +36,8 @@ use Rattle.papaya_scheduler.specs.Mapping.{IsGivenFor}
 use Rattle.papaya_named.specs.Seen.{free_slot, number_named}
 use Rattle.papaya_scheduler.specs.declared.played.Played.{Played}
 use Rattle.papaya_scheduler.specs.declared.scheduler.Scheduler.{Scheduler}
+use Rattle.papaya_executor.specs.IsThere.{KeepsGiven, StaysGiven}
+use Rattle.papaya_scenes.specs.Scene.{Scene}
 
 module _ {K V S : Type 0} where
   -- The event is about this slot, by who is there as it comes; a registering finds a slot of its own.

@@ -4,11 +4,11 @@ ghost use Rattle.papaya_schedules.specs.declared.event.Event.TheVariants as even
 ghost use Rattle.papaya_schedules.specs.Moment.{Moment};
 ghost use Rattle.papaya_schedules.specs.Terms.{Terms};
 ghost use Rattle.papaya_logged.specs.Given.Hands.Asked.{as_told};
-ghost use Rattle.papaya_executor.specs.IsAt.{KeepsGiven};
 ghost use Rattle.papaya_named.specs.Machines.{aborted_by};
 ghost use Rattle.papaya_scheduler.specs.Played.{Began, BeginsSo, MayPlay, PlaysAt, Replies, StandsFor, Stops};
 ghost use Rattle.papaya_scheduler.specs.Quiet.{IsQuiet, StaysBusy};
 ghost use Rattle.papaya_named.specs.Seen.{IsReadyAt, ready_place};
+ghost use Rattle.papaya_executor.specs.IsThere.{KeepsGiven};
 
 use crate::played::Played;
 use crate::scheduler::Scheduler;

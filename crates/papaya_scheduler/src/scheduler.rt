@@ -1,19 +1,19 @@
 //! The state of a run whose calls stay under way: the executor, and who is there by name.
 ghost use Rattle.std.specs.Prelude.{◌≡◌, ◌<◌, ℕ, Bool, List, [], IfOk, OnOk};
 ghost use Rattle.papaya_schedules.specs.Moment.{Moment, start};
-ghost use Rattle.papaya_executor.specs.IsAt.{Scene, KeepsGiven, at_first};
 ghost use Rattle.papaya_logged.specs.Back.{BringsBack};
 ghost use Rattle.papaya_logged.specs.Shown.{IsShown};
-ghost use Rattle.papaya_executor.specs.OnSlots.{MayBegin};
-ghost use Rattle.papaya_executor.specs.declared.worker.TheConstants.{SLOTS};
+ghost use Rattle.papaya_scenes.specs.declared.callers.TheConstants.{SLOTS};
 ghost use Rattle.papaya_named.specs.Seen.{free_slot, number_named, setting_named};
 ghost use Rattle.papaya_scheduler.specs.First.{HasJustBegun};
 ghost use Rattle.papaya_scheduler.specs.Played.{IsPlayed, terms_given};
 ghost use Rattle.papaya_rows.specs.Rows.{RowRan, RowRanOn};
 ghost use Rattle.seize_words.specs.declared.fault.Fault.TheVariants.{Busy};
+ghost use Rattle.papaya_executor.specs.IsThere.{KeepsGiven};
+ghost use Rattle.papaya_executor.specs.OnSlots.{MayBegin};
+ghost use Rattle.papaya_scenes.specs.Scene.{Scene, at_first};
 
 use crate::played::Played;
-use papaya_executor::row::{RowTold, SlotCall};
 use papaya_logged::logged::Logged;
 use papaya_named::callers::Callers;
 use papaya_named::named_map::NamedMap;
@@ -23,6 +23,7 @@ use papaya_raw::{Node, Setting};
 use papaya_runs::event::Setup;
 use papaya_runs::record::Pair;
 use papaya_runs::token::Token;
+use papaya_scenes::row::{RowTold, SlotCall};
 use papaya_schedules::effect::Effect;
 use papaya_schedules::outcome::Outcome;
 use std::alloc::{AllocError, Global};

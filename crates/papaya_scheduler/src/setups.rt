@@ -2,10 +2,10 @@
 ghost use Rattle.std.specs.Prelude.{[], ◌≡◌, ℕ, Bool, IfOk, if◌then◌else◌};
 ghost use Rattle.papaya_schedules.specs.declared.event.Event.TheVariants as event;
 ghost use Rattle.seize_words.specs.declared.fault.Fault.TheVariants.{Busy};
-ghost use Rattle.papaya_executor.specs.IsAt.{KeepsGiven};
 ghost use Rattle.papaya_scheduler.specs.Played.{MayPlay, PlaysAt, PlaysFirst};
 ghost use Rattle.papaya_scheduler.specs.Quiet.{IsQuiet};
 ghost use Rattle.papaya_scheduler.specs.Works.{WorksOnSetup};
+ghost use Rattle.papaya_executor.specs.IsThere.{KeepsGiven};
 
 use crate::played::Played;
 use crate::scheduler::Scheduler;

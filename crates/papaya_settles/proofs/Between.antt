@@ -38,7 +38,6 @@ use Rattle.papaya_histories.specs.Given.Schedules.Entry.{ends_call}
 use Rattle.papaya_histories.specs.Given.Schedules.Moment.{Stands, Going, Asking, Told as WasTold, IsReady, UnderWay as CallThere, Moment}
 use Rattle.papaya_histories.specs.Given.Schedules.Views.{call_of}
 use Rattle.papaya_histories.specs.Given.Callers.Together.{UnderWay, Gets, Removes, Inserts, TriesToInsert, Computes, Updates, UpdatesOrInserts, TriesToInsertWith, RemovesIf}
-use Rattle.papaya_histories.specs.Given.Executor.IsAt.{Scene}
 use Rattle.papaya_histories.specs.Given.Finishes.Machines.{machine_of}
 use Rattle.papaya_histories.specs.Given.Finishes.Maps.{with_call as with_in}
 use Rattle.papaya_histories.specs.Given.Follows.Calling.{NoneNamed}
@@ -54,6 +53,7 @@ use Rattle.papaya_settles.specs.Counts.{counts_in_calling, counts_in_sweeping, i
 use Rattle.papaya_settles.specs.Keeping.{CountsBegin, CallsBeginCounts, CallsBeginUncounted, CallsTakeCounts, CallsComeToCounts}
 use Rattle.papaya_settles.proofs.Gains.{to_count, none_changed}
 use Rattle.papaya_settles.proofs.Points.{points_apart, further_idle}
+use Rattle.papaya_histories.specs.Given.Scenes.Scene.{Scene}
 
 -- As a run begins there is no call.
 pub counts_begin : (K V : Type 0) → CountsBegin K V
@@ -290,8 +290,8 @@ pub effects_leave_counts : (K V : Type 0) → EffectsLeaveCounts K V
 effects_leave_counts K V name m s t shows under_way acted effects = stays_counts K V name m _ s t shows (none_changed acted effects m) under_way
 
 -- a walk goes on to its next pair
-pub walks_go_on_counts : (K V S : Type 0) (same : K → K → Bool) (hash : K → ℕ) → WalksGoOnCounts K V S same hash
-walks_go_on_counts K V S same hash name m s old new shows i leads of u here = record { counts = then_has }
+pub walks_go_on_counts : (K V : Type 0) (same : K → K → Bool) (hash : ℕ → K → ℕ) → WalksGoOnCounts K V same hash
+walks_go_on_counts K V same hash name m s old new shows i leads of u here = record { counts = then_has }
   where
     next : UnderWay K V K
     next = (leads of u here).0
@@ -306,8 +306,8 @@ walks_go_on_counts K V S same hash name m s old new shows i leads of u here = re
     ]
 
 -- or is given up
-pub walks_stop_counts : (K V S : Type 0) (same : K → K → Bool) (hash : K → ℕ) → WalksStopCounts K V S same hash
-walks_stop_counts K V S same hash name m known s old new shown shows i true leads of u here apart = record { counts = left }
+pub walks_stop_counts : (K V : Type 0) (same : K → K → Bool) (hash : ℕ → K → ℕ) → WalksStopCounts K V same hash
+walks_stop_counts K V same hash name m known s old new shown shows i true leads of u here apart = record { counts = left }
   where
     after : Scene K V
     after = record s { calls = with_in s.calls of i None }
@@ -325,7 +325,7 @@ walks_stop_counts K V S same hash name m known s old new shown shows i true lead
         let kept : not (is_same there.0.caller (name i)) ≡ true = ap (λ (l : List ℕ). not (is_same l (name i))) is_its ∙ ap not (apart_back (name i) (name j) (apart refl n j x is)) in
         let found_now = found_kept (λ c. is_same c.caller (name j)) (λ c. not (is_same c.caller (name i))) m.calls there.0 there.1 kept in
         subst (λ (z : CallThere K V). HasToCount (is_to_count (machine_of x)) (to_count z)) (one_of there.0 d (sym found_now ∙ d_is)) (shows.counts n j x (was n j x is) there.0 there.1)
-walks_stop_counts K V S same hash name m known s old new shown shows i false leads of u here apart = record { counts = left }
+walks_stop_counts K V same hash name m known s old new shown shows i false leads of u here apart = record { counts = left }
   where
     left : (n j : ℕ) (x : UnderWay K V K) → with_in s.calls of i (Some u) n j ≡ Some x → (d : CallThere K V) → call_of (name j) (given_up (name i) false m) ≡ Some d → HasToCount (is_to_count (machine_of x)) (to_count d)
     left n j x is d d_is = elim (which s.calls of i (Some u) n j x is) as (λ _. HasToCount (is_to_count (machine_of x)) (to_count d)) [

@@ -16,10 +16,6 @@ use Rattle.papaya_histories.specs.Given.Callers.Together.{UnderWay, OnKey, ForRo
 use Rattle.papaya_histories.specs.Given.Effects.Effects.{effects_of}
 use Rattle.papaya_histories.specs.Given.Effects.Known.{Known}
 use Rattle.papaya_histories.specs.Given.Effects.declared.acting.Acting.TheVariants as acts
-use Rattle.papaya_histories.specs.Given.Executor.IsAt.{Scene, IsAt}
-use Rattle.papaya_histories.specs.Given.Executor.Stepping.{StepLeads, has_ended, going_on, scene_after}
-use Rattle.papaya_histories.specs.Given.Executor.declared.executor.Executor.{Executor}
-use Rattle.papaya_histories.proofs.Given.Executor.Steps.{goes_as}
 use Rattle.papaya_histories.specs.Given.Finishes.Machines.{machine_of, GoesOnAs}
 use Rattle.papaya_histories.specs.Given.Follows.Calls.{IsCalled}
 use Rattle.papaya_histories.specs.Given.Follows.Shows.{Shows}
@@ -35,6 +31,10 @@ use Rattle.papaya_settles.specs.Keeping.{CallsKeepCounts}
 use Rattle.papaya_settles.proofs.Gains.{CountGoes, Left, counts_left, others_stay}
 use Rattle.papaya_settles.proofs.Keys.{key_counts}
 use Rattle.papaya_settles.proofs.Rest.{room_counts, sum_counts, sweep_counts}
+use Rattle.papaya_histories.proofs.Given.Scenes.Goes.{goes_as}
+use Rattle.papaya_histories.specs.Given.Scenes.Held.{Held, IsAt}
+use Rattle.papaya_histories.specs.Given.Scenes.Scene.{Scene}
+use Rattle.papaya_histories.specs.Given.Scenes.Stepping.{StepLeads, going_on, has_ended, scene_after}
 
 -- a call that goes on is the machine that it has come to
 pub goes_as_one : {K V : Type 0} (machine : Machine K V K) (said : Progress (Node K V)) (next : Option (UnderWay K V K)) → GoesOnAs machine said next → (x : UnderWay K V K) → next ≡ Some x → machine_of x ≡ machine
@@ -47,7 +47,7 @@ goes_as_one machine said next goes x is = by (has_ended said) refl
     by true e = absurd (let none : Some (machine_of x) ≡ None = whole ∙ ap (λ (q : Bool). if q then None else Some machine) e in cc none)
     by false e = (let some : Some (machine_of x) ≡ Some machine = whole ∙ ap (λ (q : Bool). if q then None else Some machine) e in cc some)
 
-module _ {K V S : Type 0} (same : K → K → Bool) (hash : K → ℕ) (name : ℕ → List ℕ) (m : Moment K V) (known : Known) (s : Scene K V) (old new : Executor K V S) (at : IsAt same hash old s)
+module _ {K V : Type 0} (same : K → K → Bool) (hash : ℕ → K → ℕ) (name : ℕ → List ℕ) (m : Moment K V) (known : Known) (s : Scene K V) (old new : Held K V) (at : IsAt same hash old s)
     (whole : ShowsWhole same name m known s) (shows : ShowsCounts name m s) (map i : ℕ) (u : UnderWay K V K) (here : s.calls map i ≡ Some u) (said : Progress (Node K V))
     (leads : StepLeads same hash i said s old new) where
   abbrev shown : Shows same name m known s
@@ -57,7 +57,7 @@ module _ {K V S : Type 0} (same : K → K → Bool) (hash : K → ℕ) (name : �
   to = went_to same hash name m known s old new at shown map i u here said leads
 
   abbrev effects : List Effect
-  effects = effects_of (acts.Call i map) known new.memory.changed
+  effects = effects_of (acts.Call i map) known new.changed
 
   abbrev shard : ℕ
   shard = shard_for i to.0.setting
@@ -71,8 +71,8 @@ module _ {K V S : Type 0} (same : K → K → Bool) (hash : K → ℕ) (name : �
   abbrev NoRow : (x : UnderWay K V K) → Did x → Type 0
   NoRow x done = OfNoRow same hash name m known s old new at shown map i u here said leads x done
 
-  takes : (NoRow u to.4.did → ⊥) → TakesNone new.memory.changed
-  takes other = (rows_hand_theirs K V S same hash name m known s old new at whole.all map i u here said leads other).1
+  takes : (NoRow u to.4.did → ⊥) → TakesNone new.changed
+  takes other = (rows_hand_theirs K V same hash name m known s old new at whole.all map i u here said leads other).1
 
   -- a call on one key may store a pair
   abbrev pub MayStore : UnderWay K V K → Type 0
@@ -122,7 +122,7 @@ module _ {K V S : Type 0} (same : K → K → Bool) (hash : K → ℕ) (name : �
             let both = whole.all.asked.apart n j map i x u was here names in apart both.0 both.1)
         by c c_is false e = e
 
-    has_then : (n j : ℕ) (x : UnderWay K V K) → (scene_after same hash s old new map i to.0 u to.1 said to.4).calls n j ≡ Some x → (d : CallThere K V) → call_of (name j) v ≡ Some d
+    has_then : (n j : ℕ) (x : UnderWay K V K) → (scene_after same s old new map i to.0 u to.1 said to.4).calls n j ≡ Some x → (d : CallThere K V) → call_of (name j) v ≡ Some d
         → HasToCount (is_to_count (machine_of x)) (d.gained + d.lost)
     has_then n j x is d d_is = elim (which s.calls map i to.4.next n j x is) as (λ _. HasToCount (is_to_count (machine_of x)) (d.gained + d.lost)) [
       | inl it ↦
@@ -136,24 +136,24 @@ module _ {K V S : Type 0} (same : K → K → Bool) (hash : K → ℕ) (name : �
 
     abbrev Kept : Type 0
     Kept =
-        FindCounts shard (name i) map effects m × ShowsCounts name v (scene_after same hash s old new map i to.0 u to.1 said to.4)
+        FindCounts shard (name i) map effects m × ShowsCounts name v (scene_after same s old new map i to.0 u to.1 said to.4)
         × (to.4.next ≡ None → (d : CallThere K V) → call_of (name i) v ≡ Some d → d.gained + d.lost ≡ 0)
 
     pub kept : Kept
     kept = (own_left.0, record { counts = has_then }, none_then)
 
-pub calls_keep_counts : (K V S : Type 0) (same : K → K → Bool) (hash : K → ℕ) → CallsKeepCounts K V S same hash
-calls_keep_counts K V S same hash name m known s old new at whole shows map i (OnKey x) here said leads =
+pub calls_keep_counts : (K V : Type 0) (same : K → K → Bool) (hash : ℕ → K → ℕ) → CallsKeepCounts K V same hash
+calls_keep_counts K V same hash name m known s old new at whole shows map i (OnKey x) here said leads =
     kept same hash name m known s old new at whole shows map i (OnKey x) here said leads
     (key_counts same hash name m known s old new at whole.all.shown map i x here said leads (leads map (OnKey x) here).4.did (takes same hash name m known s old new at whole shows map i (OnKey x) here said leads))
-calls_keep_counts K V S same hash name m known s old new at whole shows map i (ForRoom x) here said leads =
+calls_keep_counts K V same hash name m known s old new at whole shows map i (ForRoom x) here said leads =
     kept same hash name m known s old new at whole shows map i (ForRoom x) here said leads
     (room_counts same hash name m known s old new at whole.all.shown map i (ForRoom x) here said leads x refl (leads map (ForRoom x) here).4.did
     (takes same hash name m known s old new at whole shows map i (ForRoom x) here said leads))
-calls_keep_counts K V S same hash name m known s old new at whole shows map i (Counting x) here said leads =
+calls_keep_counts K V same hash name m known s old new at whole shows map i (Counting x) here said leads =
     kept same hash name m known s old new at whole shows map i (Counting x) here said leads
     (sum_counts same hash name m known s old new at whole.all.shown map i (Counting x) here said leads x refl (leads map (Counting x) here).4.did)
-calls_keep_counts K V S same hash name m known s old new at whole shows map i (OverAll x) here said leads =
+calls_keep_counts K V same hash name m known s old new at whole shows map i (OverAll x) here said leads =
     kept same hash name m known s old new at whole shows map i (OverAll x) here said leads
     (sweep_counts same hash name m known s old new at whole.all.shown map i (OverAll x) here said leads x refl (leads map (OverAll x) here).4.did
     (takes same hash name m known s old new at whole shows map i (OverAll x) here said leads))

@@ -79,9 +79,6 @@ use Rattle.papaya_histories.specs.Given.Effects.Known.{Known}
 use Rattle.papaya_histories.specs.Given.Effects.declared.acting.Acting.TheVariants as acts
 use Rattle.papaya_histories.specs.Given.Effects.declared.role.Role.{Role}
 use Rattle.papaya_histories.specs.Given.Effects.declared.role.Role.TheVariants as role
-use Rattle.papaya_histories.specs.Given.Executor.IsAt.{Scene, IsAt, slot_of}
-use Rattle.papaya_histories.specs.Given.Executor.Stepping.{StepLeads, StepsFrom}
-use Rattle.papaya_histories.specs.Given.Executor.declared.executor.Executor.{Executor}
 use Rattle.papaya_histories.specs.Given.Finishes.Machines.{machine_of}
 use Rattle.papaya_histories.specs.Given.Finishes.Maps.{Standing}
 use Rattle.papaya_histories.specs.Given.Follows.Blocks.{HasRole}
@@ -94,6 +91,9 @@ use Rattle.papaya_settles.proofs.DueDefers.{AreTables}
 use Rattle.papaya_settles.specs.Entries.{IsSomebodys, IsBlank, RetiresOne, ShowsEntries}
 use Rattle.papaya_settles.proofs.DueRows.{GoesOn, IsSettling, IsToSettle, IsPutting, IsToPut, DisposingIs, CopyingIs, dispose_row, copier_row}
 use Rattle.papaya_settles.proofs.DueSettles.{effects_by}
+use Rattle.papaya_histories.specs.Given.Scenes.Held.{Held, IsAt}
+use Rattle.papaya_histories.specs.Given.Scenes.Scene.{Scene, slot_of}
+use Rattle.papaya_histories.specs.Given.Scenes.Stepping.{StepLeads, StepsFrom}
 
 -- where it stands, a call's row is as the call's machine says
 module _ {T : Type 0} (w : World T) (i : ℕ) where
@@ -335,7 +335,7 @@ module _ {K V : Type 0} {size : ℕ} (w : World (Node K V)) (r : Reached deferre
             subst (SweepTo (due_in_disposing dispose.stands)) (sym inner.1) (disposed_sweep (due_in_disposing dispose.stands) inner.0 row.0 row.1)
         by _ its st = absurd its
 
-module _ {K V S : Type 0} (same : K → K → Bool) (hash : K → ℕ) (name : ℕ → List ℕ) (m : Moment K V) (known : Known) (s : Scene K V) (old new : Executor K V S) (at_old : IsAt same hash old s)
+module _ {K V : Type 0} (same : K → K → Bool) (hash : ℕ → K → ℕ) (name : ℕ → List ℕ) (m : Moment K V) (known : Known) (s : Scene K V) (old new : Held K V) (at_old : IsAt same hash old s)
     (shown : Shows same name m known s) (rows : ShowsRows s) (entries : ShowsEntries s) (owning : OwnAreMade known s.world) (map i : ℕ) (u : UnderWay K V K) (under_way : s.calls map i ≡ Some u) (said : Progress (Node K V))
     (leads : StepLeads same hash i said s old new) where
   abbrev to : WentTo same hash name m known s old new at_old shown map i u under_way said leads
@@ -345,7 +345,7 @@ module _ {K V S : Type 0} (same : K → K → Bool) (hash : K → ℕ) (name : �
   st = to.0
 
   abbrev told : Changed
-  told = new.memory.changed
+  told = new.changed
 
   each : Together V same st.hash same st.setting slot_of s.world st.chart st.blocks st.sights (s.calls map)
   each = at_old.together.makings.standing.each map st to.2
@@ -380,14 +380,14 @@ module _ {K V S : Type 0} (same : K → K → Bool) (hash : K → ℕ) (name : �
   of_machine : (x : UnderWay K V K) (machine : Machine K V K) → to.1 ≡ machine → RowTells i map known (effects_of (acts.Call i map) known told) (due_in_row (machine_of x)) (due_in_row machine) → Goal x
   of_machine x machine is tells = subst (λ (z : Machine K V K). RowTells i map known (effects_of (acts.Call i map) known told) (due_in_row (machine_of x)) (due_in_row z)) (sym is) tells
 
-  stepped : (x : UnderWay K V K) → u ≡ x → StepsFrom same hash (machine_of x) old new to.1 said
-  stepped x is = subst (λ (y : UnderWay K V K). StepsFrom same hash (machine_of y) old new to.1 said) is to.3
+  stepped : (x : UnderWay K V K) → u ≡ x → StepsFrom same to.0.hash (machine_of x) old new to.1 said
+  stepped x is = subst (λ (y : UnderWay K V K). StepsFrom same to.0.hash (machine_of y) old new to.1 said) is to.3
 
   key_tells : (x : CallOnKey K V K) → u ≡ OnKey x → IsRowOfCall x.call.stands → Goal (OnKey x)
   key_tells x is row =
-      let inner = told_in old.memory.memory new.memory.memory told of_key (call_plan same same hash x.call) (to.1, said) (stepped (OnKey x) is) in
+      let inner = told_in old.memory new.memory told of_key (call_plan same same to.0.hash x.call) (to.1, said) (stepped (OnKey x) is) in
       of_machine (OnKey x) (kinds.Key inner.0.0) (ap (λ (z : Machine K V K × Progress (Node K V)). z.0) inner.1)
-      (call_row s.world r i map known new.memory.memory told entries.blank (rows.none map i u under_way) (entries.one map i u under_way) tables_are same same hash x.call inner.0 (subst (λ (k : Mem (Node K V)). StepsTold K V (KeyCall K V K × Called (Node K V)) k changed.Nothing (call_plan same same hash x.call) new.memory.memory told inner.0) (sym at_old.memory) inner.2) its)
+      (call_row s.world r i map known new.memory told entries.blank (rows.none map i u under_way) (entries.one map i u under_way) tables_are same same to.0.hash x.call inner.0 (subst (λ (k : Mem (Node K V)). StepsTold K V (KeyCall K V K × Called (Node K V)) k changed.Nothing (call_plan same same to.0.hash x.call) new.memory told inner.0) (sym at_old.memory) inner.2) its)
     where
       its : CallingIs s.world i x.call.stands
       its = elim (each.stand i (OnKey x) (under_way ∙ ap Some is)) as (λ _. CallingIs s.world i x.call.stands) [
@@ -400,9 +400,9 @@ module _ {K V S : Type 0} (same : K → K → Bool) (hash : K → ℕ) (name : �
 
   room_tells : (x : CallForRoom) → u ≡ ForRoom x → IsRowOfReserve x.reserve.stands → Goal (ForRoom x)
   room_tells x is row =
-      let inner = told_in old.memory.memory new.memory.memory told of_room (reserve_plan hash x.reserve) (to.1, said) (stepped (ForRoom x) is) in
+      let inner = told_in old.memory new.memory told of_room (reserve_plan to.0.hash x.reserve) (to.1, said) (stepped (ForRoom x) is) in
       of_machine (ForRoom x) (kinds.Reserve inner.0.0) (ap (λ (z : Machine K V K × Progress (Node K V)). z.0) inner.1)
-      (room_row s.world r i map known new.memory.memory told entries.blank (rows.none map i u under_way) (entries.one map i u under_way) tables_are hash x.reserve inner.0 (subst (λ (k : Mem (Node K V)). StepsTold K V (Reserve × Outcome (Node K V) Unit) k changed.Nothing (reserve_plan hash x.reserve) new.memory.memory told inner.0) (sym at_old.memory) inner.2) its)
+      (room_row s.world r i map known new.memory told entries.blank (rows.none map i u under_way) (entries.one map i u under_way) tables_are to.0.hash x.reserve inner.0 (subst (λ (k : Mem (Node K V)). StepsTold K V (Reserve × Outcome (Node K V) Unit) k changed.Nothing (reserve_plan to.0.hash x.reserve) new.memory told inner.0) (sym at_old.memory) inner.2) its)
     where
       its : ReservingIs s.world i x.reserve.stands
       its = elim (each.stand i (ForRoom x) (under_way ∙ ap Some is)) as (λ _. ReservingIs s.world i x.reserve.stands) [
@@ -415,9 +415,9 @@ module _ {K V S : Type 0} (same : K → K → Bool) (hash : K → ℕ) (name : �
 
   over_all_tells : (x : CallOverAll) → u ≡ OverAll x → IsRowOfSweep x.sweep.stands → Goal (OverAll x)
   over_all_tells x is row =
-      let inner = told_in old.memory.memory new.memory.memory told of_sweep (sweep_plan hash x.sweep) (to.1, said) (stepped (OverAll x) is) in
+      let inner = told_in old.memory new.memory told of_sweep (sweep_plan to.0.hash x.sweep) (to.1, said) (stepped (OverAll x) is) in
       of_machine (OverAll x) (kinds.Sweep inner.0.0) (ap (λ (z : Machine K V K × Progress (Node K V)). z.0) inner.1)
-      (sweep_row s.world r i map known new.memory.memory told entries.blank (rows.none map i u under_way) (entries.one map i u under_way) tables_are hash x.sweep inner.0 (subst (λ (k : Mem (Node K V)). StepsTold K V (Sweep × Swept (Node K V)) k changed.Nothing (sweep_plan hash x.sweep) new.memory.memory told inner.0) (sym at_old.memory) inner.2) its)
+      (sweep_row s.world r i map known new.memory told entries.blank (rows.none map i u under_way) (entries.one map i u under_way) tables_are to.0.hash x.sweep inner.0 (subst (λ (k : Mem (Node K V)). StepsTold K V (Sweep × Swept (Node K V)) k changed.Nothing (sweep_plan to.0.hash x.sweep) new.memory told inner.0) (sym at_old.memory) inner.2) its)
     where
       its : SweepingIs s.world i x.sweep.stands
       its = elim (each.stand i (OverAll x) (under_way ∙ ap Some is)) as (λ _. SweepingIs s.world i x.sweep.stands) [
@@ -438,6 +438,6 @@ module _ {K V S : Type 0} (same : K → K → Bool) (hash : K → ℕ) (name : �
       by (OverAll x) is (p2, end, machine_is, told_is, inl step) other = absurd (other tt)
       by (OverAll x) is (p2, end, machine_is, told_is, inr (row, stayed)) other = over_all_tells x is row.is_row
 
-pub rows_tell_due : (K V S : Type 0) (same : K → K → Bool) (hash : K → ℕ) → RowsTellDue K V S same hash
-rows_tell_due K V S same hash name m known s old new at_old shown rows entries owning map i u here said leads other =
+pub rows_tell_due : (K V : Type 0) (same : K → K → Bool) (hash : ℕ → K → ℕ) → RowsTellDue K V same hash
+rows_tell_due K V same hash name m known s old new at_old shown rows entries owning map i u here said leads other =
     tells_due same hash name m known s old new at_old shown rows entries owning map i u here said leads other

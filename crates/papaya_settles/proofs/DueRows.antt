@@ -58,7 +58,6 @@ use Rattle.papaya_histories.specs.Given.Teller.Tells.{StepsTold}
 use Rattle.papaya_histories.specs.Given.Teller.declared.changed.Changed.{Changed}
 use Rattle.papaya_histories.specs.Given.Teller.declared.changed.Changed.TheVariants as changed
 use Rattle.papaya_histories.specs.Given.Effects.Known.{Known}
-use Rattle.papaya_histories.proofs.Given.Executor.Forgotten.{as_step}
 use Rattle.papaya_histories.specs.Given.Hands.Rows.{SettlesAside, ReclaimsNone}
 use Rattle.papaya_histories.proofs.Given.Others.Outcomes.{told_in}
 use Rattle.papaya_settles.specs.Due.{Due, ToPut, due_in_settle, due_in_defer, due_in_disposing, due_in_copying, RowTells, TellsNone}
@@ -66,6 +65,7 @@ use Rattle.papaya_settles.specs.Entries.{IsSomebodys, IsBlank, OneAt, RetiresOne
 use Rattle.papaya_settles.proofs.DueDefers.{AreTables, defer_tells}
 use Rattle.papaya_settles.proofs.DueSettles.{effects_by, settle_tells}
 use Rattle.papaya_settles.proofs.EntryRows.{named}
+use Rattle.papaya_histories.proofs.Given.Scenes.Told.{as_step}
 
 over_is : (p : Settling) → is_over p ≡ true → p ≡ at.Over
 over_is at.Over e = refl

@@ -29,11 +29,11 @@ use Rattle.papaya_histories.specs.Given.Effects.Known.{Known}
 use Rattle.papaya_histories.specs.Given.Effects.declared.acting.Acting.TheVariants as acts
 use Rattle.papaya_histories.specs.Given.Effects.declared.role.Role.{Role}
 use Rattle.papaya_histories.specs.Given.Effects.declared.role.Role.TheVariants as role
-use Rattle.papaya_histories.proofs.Given.Executor.Forgotten.{as_step}
 use Rattle.papaya_histories.specs.Given.Hands.Rows.{IsAside, SettlesAside}
 use Rattle.papaya_settles.specs.Due.{ToRetire, due_in_settle, told_retired, RowTells, TellsNone, TellsRetired}
 use Rattle.papaya_settles.specs.Entries.{IsBlank, OneAt}
 use Rattle.papaya_settles.proofs.EntrySettles.{goes_one}
+use Rattle.papaya_histories.proofs.Given.Scenes.Told.{as_step}
 
 -- what is told of words of entries
 

@@ -1,5 +1,5 @@
 -- Whoever takes a step, entries are blank still of what somebody has, and of the one block that the row within a call is to retire.
-use Rattle.std.specs.Prelude.{◌≡◌, ◌≢◌, ℕ, Bool, List, [], ◌∷◌, Option, Some, None, option_map, ◌⊎◌}
+use Rattle.std.specs.Prelude.{◌≡◌, ◌≢◌, ℕ, Bool, List, [], ◌∷◌, Option, Some, None, ◌⊎◌}
 use Rattle.std.proofs.Common.{refl, ap, sym, subst, ◌∙◌, inl, inr}
 use Rattle.std.proofs.lemmas.Bool.{cases_eq}
 use Rattle.papaya_histories.specs.Given.SeizeWords.Mem.{Mem, word_at}
@@ -22,15 +22,7 @@ use Rattle.papaya_histories.specs.Given.Schedules.Moment.{Moment}
 use Rattle.papaya_histories.specs.Given.Callers.Together.{UnderWay, OnKey, ForRoom, Counting, OverAll, HandsOver, IsOneStep}
 use Rattle.papaya_histories.proofs.Given.Callers.Together.Came.{came_reached}
 use Rattle.papaya_histories.specs.Given.Effects.Known.{Known}
-use Rattle.papaya_histories.specs.Given.Executor.IsAt.{Scene, IsAt, slot_of, work_of, call_in}
-use Rattle.papaya_histories.specs.Given.Executor.Rows.{request_of}
-use Rattle.papaya_histories.specs.Given.Executor.Stepping.{StepLeads, scene_after}
-use Rattle.papaya_histories.specs.Given.Executor.declared.executor.Executor.{Executor}
-use Rattle.papaya_histories.specs.Given.Executor.declared.row.SlotRow.{SlotRow}
-use Rattle.papaya_histories.specs.Given.Executor.declared.worker.Work.{Work}
-use Rattle.papaya_histories.specs.Given.Executor.declared.worker.Work.TheVariants.{OnSlot}
 use Rattle.papaya_histories.specs.Given.Finishes.FactsEnds.{Deed, Looks, TakesPair, LeavesTable, JoinsPair, TakesLeft, TakesCounter, WritesRoot, events_of}
-use Rattle.papaya_histories.specs.Given.Finishes.Machines.{machine_of}
 use Rattle.papaya_histories.specs.Given.Finishes.Maps.{with_call}
 use Rattle.papaya_histories.specs.Given.Follows.Shows.{Shows}
 use Rattle.papaya_histories.proofs.Given.Follows.Steps.{WentTo, went_to, DidSo}
@@ -39,6 +31,11 @@ use Rattle.papaya_histories.proofs.Given.Hands.Asking.{which}
 use Rattle.papaya_settles.specs.Entries.{IsBlank, OneAt, RetiresOne, ShowsEntries, EntriesBegin, CallsKeepEntries, CallsGoOnEntries, RowsBeginEntries, RowsKeepEntries, MakingsKeepEntries, EndingsBeginEntries, EndingsKeepEntries}
 use Rattle.papaya_settles.proofs.EntryUsers.{IsZero, AllZero, event_zeros}
 use Rattle.papaya_settles.proofs.EntryWorlds.{event_one, step_zeros, step_one, begin_zeros, begin_one, HandsOne, begin_own, own_one}
+use Rattle.papaya_histories.specs.Given.Scenes.Held.{Held, IsAt}
+use Rattle.papaya_histories.specs.Given.Scenes.Rows.{request_of}
+use Rattle.papaya_histories.proofs.Given.Scenes.NoCall.{no_call}
+use Rattle.papaya_histories.specs.Given.Scenes.Scene.{Scene, slot_of}
+use Rattle.papaya_histories.specs.Given.Scenes.Stepping.{StepLeads, scene_after}
 
 -- a blank entry has zeros, and the other way round
 module _ {T : Type 0} (m : Mem T) where
@@ -150,7 +147,7 @@ module _ {K V : Type 0} where
 pub entries_begin : (K V : Type 0) → EntriesBegin K V
 entries_begin K V roots = record { blank = λ b its. absurd its; one = λ n i u is. absurd (cc is) }
 
-module _ {K V S : Type 0} (same : K → K → Bool) (hash : K → ℕ) (name : ℕ → List ℕ) (m : Moment K V) (known : Known) (s : Scene K V) (old new : Executor K V S) (at_old : IsAt same hash old s)
+module _ {K V : Type 0} (same : K → K → Bool) (hash : ℕ → K → ℕ) (name : ℕ → List ℕ) (m : Moment K V) (known : Known) (s : Scene K V) (old new : Held K V) (at_old : IsAt same hash old s)
     (shown : Shows same name m known s) (rows : ShowsRows s) (shows : ShowsEntries s) (map i : ℕ) (u : UnderWay K V K) (here : s.calls map i ≡ Some u) (said : Progress (Node K V)) (leads : StepLeads same hash i said s old new) where
   abbrev to : WentTo same hash name m known s old new at_old shown map i u here said leads
   to = went_to same hash name m known s old new at_old shown map i u here said leads
@@ -182,17 +179,17 @@ module _ {K V S : Type 0} (same : K → K → Bool) (hash : K → ℕ) (name : �
       by (OverAll x) (p2, end, machine_is, told_is, inl (step, moved)) = by_events step.step.went.w2 moved.0 step.step.went.events step.step.went.users step.step.went.runs
       by (OverAll x) (p2, end, machine_is, told_is, inr (row, stayed)) = by_row row.step.w2 stayed.0 row.step.happened
 
-  fewer_after : (j : ℕ) → HasCall (scene_after same hash s old new map i to.0 u to.1 said to.4) j → HasCall s j
+  fewer_after : (j : ℕ) → HasCall (scene_after same s old new map i to.0 u to.1 said to.4) j → HasCall s j
   fewer_after j (n, x, is) = elim (which s.calls map i to.4.next n j x is) as (λ _. HasCall s j) [
     | inl its ↦ (map, u, ap (s.calls map) its.1 ∙ here)
     | inr was ↦ (n, x, was.1)
   ]
 
-  pub call_shows : ShowsEntries (scene_after same hash s old new map i to.0 u to.1 said to.4)
-  call_shows = shows_of size s (scene_after same hash s old new map i to.0 u to.1 said to.4) fewer_after call_holds
+  pub call_shows : ShowsEntries (scene_after same s old new map i to.0 u to.1 said to.4)
+  call_shows = shows_of size s (scene_after same s old new map i to.0 u to.1 said to.4) fewer_after call_holds
 
-pub calls_keep_entries : (K V S : Type 0) (same : K → K → Bool) (hash : K → ℕ) → CallsKeepEntries K V S same hash
-calls_keep_entries K V S same hash name m known s old new at_old shown rows shows map i u here said leads =
+pub calls_keep_entries : (K V : Type 0) (same : K → K → Bool) (hash : ℕ → K → ℕ) → CallsKeepEntries K V same hash
+calls_keep_entries K V same hash name m known s old new at_old shown rows shows map i u here said leads =
     call_shows same hash name m known s old new at_old shown rows shows map i u here said leads
 
 -- where a call begins, whose row rests, or goes on
@@ -209,33 +206,25 @@ calls_go_on_entries K V s shows map i next own = record { blank = shows.blank; o
         rests (inl (u, here)) = shows.one map i u here
         rests (inr rest) = subst (RetiresOne (IsBlank s.world.memory)) (sym rest) tt
 
--- who has a row on a slot has no call
-module _ {K V S : Type 0} (same : K → K → Bool) (hash : K → ℕ) (s : Scene K V) (e : Executor K V S) (at_e : IsAt same hash e s) (i : ℕ) (row : SlotRow) (here : work_of e i ≡ Some (OnSlot row)) where
-  no_call : HasCall s i → ⊥
-  no_call (n, x, is) =
-      let some = ap (option_map machine_of) (sym is) in
-      let none = at_e.calls n i ∙ ap (λ (o : Option (Work K V)). call_in o n) here in
-      absurd (cc (some ∙ none))
-
-module _ (K V S : Type 0) (same : K → K → Bool) (hash : K → ℕ) where
-  reached : (s : Scene K V) (e : Executor K V S) → IsAt same hash e s → Reached deferred_word e.batch_size s.world
+module _ (K V : Type 0) (same : K → K → Bool) (hash : ℕ → K → ℕ) where
+  reached : (s : Scene K V) (e : Held K V) → IsAt same hash e s → Reached deferred_word e.batch_size s.world
   reached s e at_e = came_reached e.batch_size s.world at_e.together.makings.standing.came
 
-  pub rows_begin_entries : RowsBeginEntries K V S same hash
-  rows_begin_entries s old new at_old shows called i may leads =
-      let to = (leads may).3 in
+  pub rows_begin_entries : RowsBeginEntries K V same hash
+  rows_begin_entries s old new at_old shows called i leads =
+      let to = leads.2 in
       let after = record s { world = to.0; maps = to.2 } in
       shows_of old.batch_size s after (λ j its. its)
       (begin_holds deferred_word old.batch_size (HasCall s) s.world to.0 (reached s old at_old) i (request_of (slot_of i) called)
-      (λ its. absurd (no_call same hash after new to.4 i _ (leads may).1 its)) to.1 (holds_of old.batch_size s shows))
+      (λ its. absurd (no_call s i leads.1 its)) to.1 (holds_of old.batch_size s shows))
 
-  pub rows_keep_entries : RowsKeepEntries K V S same hash
+  pub rows_keep_entries : RowsKeepEntries K V same hash
   rows_keep_entries s old new at_old shows i told leads row here =
-      let to = (leads row here).4 in
+      let to = (leads row here).2 in
       shows_of old.batch_size s (record s { world = to.0; maps = to.2 }) (λ j its. its)
-      (step_holds deferred_word old.batch_size (HasCall s) s.world to.0 (reached s old at_old) i (λ its. absurd (no_call same hash s old at_old i row here its)) to.1 (holds_of old.batch_size s shows))
+      (step_holds deferred_word old.batch_size (HasCall s) s.world to.0 (reached s old at_old) i (λ its. absurd (no_call s i here.0 its)) to.1 (holds_of old.batch_size s shows))
 
-  pub makings_keep_entries : MakingsKeepEntries K V S same hash
+  pub makings_keep_entries : MakingsKeepEntries K V same hash
   makings_keep_entries s old new at_old shows i told leads b here =
       let step = (leads b here).2.step in
       shows_of old.batch_size s (record s { world = step.w2 }) (λ j its. its)
@@ -251,7 +240,7 @@ module _ (K V S : Type 0) (same : K → K → Bool) (hash : K → ℕ) where
   between_deed s n i (TakesCounter b) = (tt, tt)
   between_deed s n i (WritesRoot at word) = (tt, tt)
 
-  pub endings_keep_entries : EndingsKeepEntries K V S same hash
+  pub endings_keep_entries : EndingsKeepEntries K V same hash
   endings_keep_entries s old new at_old shows i told leads f here =
       let ended = (leads f here).2 in
       shows_of old.batch_size s (record s { world = ended.w2 }) (λ j its. its)

@@ -14,7 +14,7 @@ pub use Rattle.papaya_histories.proofs.Given.Tells
 pub use Rattle.papaya_histories.proofs.Given.Callers
 pub use Rattle.papaya_histories.proofs.Given.Finishes
 pub use Rattle.papaya_histories.proofs.Given.Runs
-pub use Rattle.papaya_histories.proofs.Given.Executor
+pub use Rattle.papaya_histories.proofs.Given.Scenes
 pub use Rattle.papaya_histories.proofs.Given.Follows
 pub use Rattle.papaya_histories.proofs.Given.Hands
 pub use Rattle.papaya_histories.proofs.Given.Others

@@ -26,9 +26,6 @@ use Rattle.papaya_histories.proofs.Given.Callers.Together.Users.{events_rows}
 use Rattle.papaya_histories.specs.Given.Effects.Effects.{effects_of}
 use Rattle.papaya_histories.specs.Given.Effects.Known.{Known}
 use Rattle.papaya_histories.specs.Given.Effects.declared.acting.Acting.TheVariants as acts
-use Rattle.papaya_histories.specs.Given.Executor.IsAt.{Scene, IsAt}
-use Rattle.papaya_histories.specs.Given.Executor.Stepping.{StepLeads, scene_after}
-use Rattle.papaya_histories.specs.Given.Executor.declared.executor.Executor.{Executor}
 use Rattle.papaya_histories.specs.Given.Follows.Calls.{IsCalled, ShowsCalls}
 use Rattle.papaya_histories.specs.Given.Follows.Shows.{Shows}
 use Rattle.papaya_histories.proofs.Given.Follows.Calling.{apart_back, found_kept, come, come_of_same, replied_same}
@@ -44,6 +41,9 @@ use Rattle.papaya_settles.specs.Handing.{HandsTold, CallsBeginHanding, CallsCome
 use Rattle.papaya_settles.proofs.Gains.{others_stay}
 use Rattle.papaya_settles.proofs.HandingRows.{IsInRow, is_in_row, row_hands}
 use Rattle.papaya_settles.proofs.Owing.{due_owes}
+use Rattle.papaya_histories.specs.Given.Scenes.Held.{Held, IsAt}
+use Rattle.papaya_histories.specs.Given.Scenes.Scene.{Scene}
+use Rattle.papaya_histories.specs.Given.Scenes.Stepping.{StepLeads, scene_after}
 
 -- A call that hands something over does so after whatever effects of it.
 abbrev hands : List Thing → Bool → Bool
@@ -118,7 +118,7 @@ pub handing_begins : (K V : Type 0) → HandingBegins K V
 handing_begins K V roots name map i u is moves c c_is = absurd (cc is)
 
 -- A step of a call.
-module _ {K V S : Type 0} (same : K → K → Bool) (hash : K → ℕ) (name : ℕ → List ℕ) (m : Moment K V) (known : Known) (s : Scene K V) (old new : Executor K V S) (at : IsAt same hash old s)
+module _ {K V : Type 0} (same : K → K → Bool) (hash : ℕ → K → ℕ) (name : ℕ → List ℕ) (m : Moment K V) (known : Known) (s : Scene K V) (old new : Held K V) (at : IsAt same hash old s)
     (whole : ShowsWhole same name m known s) (owed : ShowsOwed name m known s) (told : HandsTold name m s) (map i : ℕ) (u : UnderWay K V K) (here : s.calls map i ≡ Some u) (said : Progress (Node K V))
     (leads : StepLeads same hash i said s old new) where
   abbrev shown : Shows same name m known s
@@ -128,13 +128,13 @@ module _ {K V S : Type 0} (same : K → K → Bool) (hash : K → ℕ) (name : �
   to = went_to same hash name m known s old new at shown map i u here said leads
 
   abbrev effects : List Effect
-  effects = effects_of (acts.Call i map) known new.memory.changed
+  effects = effects_of (acts.Call i map) known new.changed
 
   abbrev v : Moment K V
   v = with_effects (Some (name i)) (Some map) effects m
 
   abbrev led : Scene K V
-  led = scene_after same hash s old new map i to.0 u to.1 said to.4
+  led = scene_after same s old new map i to.0 u to.1 said to.4
 
   abbrev its : (c : CallThere K V) × (call_of (name i) m ≡ Some c) × (c.map ≡ map) × IsCalled same u c.call
   its = shown.calls map i u here
@@ -190,12 +190,12 @@ module _ {K V S : Type 0} (same : K → K → Bool) (hash : K → ℕ) (name : �
     | inr was ↦ other_then n j x was.0 was.1 moves d d_is
   ]
 
-pub calls_keep_handing : (K V S : Type 0) (same : K → K → Bool) (hash : K → ℕ) → CallsKeepHanding K V S same hash
-calls_keep_handing K V S same hash name m known s old new at whole owed told map i u here said leads = kept same hash name m known s old new at whole owed told map i u here said leads
+pub calls_keep_handing : (K V : Type 0) (same : K → K → Bool) (hash : ℕ → K → ℕ) → CallsKeepHanding K V same hash
+calls_keep_handing K V same hash name m known s old new at whole owed told map i u here said leads = kept same hash name m known s old new at whole owed told map i u here said leads
 
 -- What is no call leaves it as it was: whose row is under way then is within a row, and was.
-pub others_leave_handing : (K V S : Type 0) (same : K → K → Bool) (hash : K → ℕ) → OthersLeaveHanding K V S same hash
-others_leave_handing K V S same hash name m v known s t old new at at_then owed told same_calls under_way map i u is moves c c_is =
+pub others_leave_handing : (K V : Type 0) (same : K → K → Bool) (hash : ℕ → K → ℕ) → OthersLeaveHanding K V same hash
+others_leave_handing K V same hash name m v known s t old new at at_then owed told same_calls under_way map i u is moves c c_is =
     row_hands same hash name m known s old at map i u was owed told c (ap (λ (l : List (CallThere K V)). find (λ y. is_same y.caller (name i)) l) (sym same_calls) ∙ c_is)
     (is_in_row same hash name v known t new at_then map i u is moves)
   where
@@ -203,8 +203,8 @@ others_leave_handing K V S same hash name m v known s t old new at at_then owed 
     was = ap (λ (f : ℕ → ℕ → Option (UnderWay K V K)). f map i) (sym under_way) ∙ is
 
 -- A walk goes on to its next pair,
-pub walks_go_on_handing : (K V S : Type 0) (same : K → K → Bool) (hash : K → ℕ) → WalksGoOnHanding K V S same hash
-walks_go_on_handing K V S same hash name m s old new told i leads of u here n j x is moves c c_is = elim (which s.calls of i (Some (leads of u here).0) n j x is) as (λ _. is_handing c ≡ true) [
+pub walks_go_on_handing : (K V : Type 0) (same : K → K → Bool) (hash : ℕ → K → ℕ) → WalksGoOnHanding K V same hash
+walks_go_on_handing K V same hash name m s old new told i leads of u here n j x is moves c c_is = elim (which s.calls of i (Some (leads of u here).0) n j x is) as (λ _. is_handing c ≡ true) [
   | inl it ↦ told of i u here (λ rests. moves (ap s.world.row it.1 ∙ rests)) c (ap (λ (k : ℕ). call_of (name k) m) (sym it.1) ∙ c_is)
   | inr was ↦ told n j x was.1 moves c c_is
 ]
@@ -237,8 +237,8 @@ module _ {K V : Type 0} (same : K → K → Bool) (name : ℕ → List ℕ) (m v
       by c false = refl
 
 -- or is given up
-pub walks_stop_handing : (K V S : Type 0) (same : K → K → Bool) (hash : K → ℕ) → WalksStopHanding K V S same hash
-walks_stop_handing K V S same hash name m s old new shown told i true leads of u here apart n j x is moves d d_is =
+pub walks_stop_handing : (K V : Type 0) (same : K → K → Bool) (hash : ℕ → K → ℕ) → WalksStopHanding K V same hash
+walks_stop_handing K V same hash name m s old new shown told i true leads of u here apart n j x is moves d d_is =
     told n j x was moves d (fewer same name m (given_up (name i) true m) s.calls shown (name i) refl n j x was (apart refl n j x is) d d_is)
   where
     was : s.calls n j ≡ Some x
@@ -246,7 +246,7 @@ walks_stop_handing K V S same hash name m s old new shown told i true leads of u
       | inl it ↦ absurd (let none = it.2 in cc none)
       | inr before ↦ before.1
     ]
-walks_stop_handing K V S same hash name m s old new shown told i false leads of u here apart n j x is moves d d_is = elim (which s.calls of i (Some u) n j x is) as (λ _. is_handing d ≡ true) [
+walks_stop_handing K V same hash name m s old new shown told i false leads of u here apart n j x is moves d d_is = elim (which s.calls of i (Some u) n j x is) as (λ _. is_handing d ≡ true) [
   | inl it ↦ told of i u here (λ rests. moves (ap s.world.row it.1 ∙ rests)) d (ap (λ (k : ℕ). call_of (name k) m) (sym it.1) ∙ d_is)
   | inr was ↦ told n j x was.1 moves d d_is
 ]

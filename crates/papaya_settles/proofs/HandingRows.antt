@@ -34,8 +34,6 @@ use Rattle.papaya_histories.specs.Given.Callers.Together.{Stands, UnderWay, OnKe
 use Rattle.papaya_histories.specs.Given.Effects.Known.{Known}
 use Rattle.papaya_histories.specs.Given.Effects.declared.role.Role.{Role}
 use Rattle.papaya_histories.specs.Given.Effects.declared.role.Role.TheVariants as role
-use Rattle.papaya_histories.specs.Given.Executor.IsAt.{Scene, IsAt, slot_of}
-use Rattle.papaya_histories.specs.Given.Executor.declared.executor.Executor.{Executor}
 use Rattle.papaya_histories.specs.Given.Finishes.Machines.{machine_of}
 use Rattle.papaya_histories.specs.Given.Finishes.Maps.{Standing}
 use Rattle.papaya_settles.specs.Due.{ToRetire, ToPut, due_in_defer, due_in_settle, word_due}
@@ -44,6 +42,8 @@ use Rattle.papaya_settles.specs.Handing.{HandsTold}
 use Rattle.papaya_settles.specs.InHand.{pair_in_disposing}
 use Rattle.papaya_settles.proofs.DueCalls.{CallingIs, ReservingIs, SweepingIs, calling_new, late_calling_new, late_reserving_new, reserving_new, sweeping_new}
 use Rattle.papaya_settles.proofs.DueRows.{IsPutting, IsSettling, IsToPut, IsToSettle, CopyingIs, DeferIs, DisposingIs, SettleIs}
+use Rattle.papaya_histories.specs.Given.Scenes.Held.{Held, IsAt}
+use Rattle.papaya_histories.specs.Given.Scenes.Scene.{Scene, slot_of}
 
 -- the call is within a row, or about to begin one
 abbrev pub IsInRow : {K V : Type 0} → UnderWay K V K → Type 0
@@ -148,8 +148,8 @@ module _ {T : Type 0} (w : World T) (i : ℕ) (rests : w.row i ≡ Rests) (known
   sweep_some (sweeping.Disposes dispose) is notes = disposal_some dispose dispose.stands is notes
   sweep_some _ is notes = absurd is
 
--- A call under way, of a scene at which the executor is.
-module _ {K V S : Type 0} (same : K → K → Bool) (hash : K → ℕ) (name : ℕ → List ℕ) (m : Moment K V) (known : Known) (s : Scene K V) (e : Executor K V S) (at : IsAt same hash e s)
+-- A call under way, of a scene of what is held.
+module _ {K V : Type 0} (same : K → K → Bool) (hash : ℕ → K → ℕ) (name : ℕ → List ℕ) (m : Moment K V) (known : Known) (s : Scene K V) (e : Held K V) (at : IsAt same hash e s)
     (map i : ℕ) (u : UnderWay K V K) (here : s.calls map i ≡ Some u) where
   its_map : (st : Standing K) × (s.maps map ≡ Some st)
   its_map = by (s.maps map) refl

@@ -37,12 +37,12 @@ use Rattle.papaya_histories.proofs.Given.Rule.Keys.Always.{Always, AlwaysOf, alw
 use Rattle.papaya_histories.specs.Given.Points.Told.{IsRowOf, IsRowOfCall}
 use Rattle.papaya_histories.specs.Given.Late.ToldSweeps.{IsRowOfSweep}
 use Rattle.papaya_histories.specs.Given.Callers.Together.{OnKey, OverAll}
-use Rattle.papaya_histories.proofs.Given.Executor.Forgotten.{as_step}
 use Rattle.papaya_histories.proofs.Given.Follows.Steps.{went_to, DidSo, OfNoRow}
 use Rattle.papaya_settles.specs.InHand.{pair_in_disposing, pair_in_calling, pair_in_sweeping, CallsHoldTheirs, SweepsTakeInHand, SweepsHoldTheirs}
 use Rattle.papaya_settles.proofs.Keys.{steps}
 use Rattle.papaya_settles.proofs.Rest.{sweep_takes, steps as sweep_steps}
 use Rattle.papaya_settles.proofs.Taken.{disposal_word}
+use Rattle.papaya_histories.proofs.Given.Scenes.Told.{as_step}
 
 -- what is always so of a step is so as a step of its own
 module _ {T A B : Type 0} (Q : A → Type 0) (P : B → Type 0) (f : A → B) (turn : (a : A) → Q a → P (f a)) where
@@ -151,37 +151,37 @@ module _ (K V : Type 0) (hash : K → ℕ) (p : Sweep) where
       always_turned (Keeps K V (block_in word)) (SweepHolds (block_in word)) (sweeps.disposed p) (disposed_sweep (block_in word)) (dispose_plan dispose) (dispose_keeps K V dispose dispose.stands refl row word is)
   sweep_holds _ row word is = absurd (cc is)
 
-pub calls_hold_theirs : (K V S : Type 0) (same : K → K → Bool) (hash : K → ℕ) → CallsHoldTheirs K V S same hash
-calls_hold_theirs K V S same hash name m known s old new at_old shown map i x under_way said leads none word is =
+pub calls_hold_theirs : (K V : Type 0) (same : K → K → Bool) (hash : ℕ → K → ℕ) → CallsHoldTheirs K V same hash
+calls_hold_theirs K V same hash name m known s old new at_old shown map i x under_way said leads none word is =
     by (went_to same hash name m known s old new at_old shown map i (OnKey x) under_way said leads).4.did none
   where
     by : (did_so : DidSo same hash name m known s old new at_old shown map i (OnKey x) under_way said leads (OnKey x)) → OfNoRow same hash name m known s old new at_old shown map i (OnKey x) under_way said leads (OnKey x) did_so
         → (q : KeyCall K V K) × ((went_to same hash name m known s old new at_old shown map i (OnKey x) under_way said leads).1 ≡ kinds.Key q) × (word2 : ℕ) × (pair_in_calling q.stands ≡ Some word2)
         × (block_in word2 ≡ block_in word)
     by (p2, end, machine_is, told_is, inl (step, moved)) none =
-        let it = always_steps (Holds K V same same hash x.call (block_in word)) old.memory.memory new.memory.memory (call_plan same same hash x.call) (p2, end)
-        (call_holds K V same same hash x.call x.call.stands step.no_row word is)
-        (as_step old.memory.memory changed.Nothing (call_plan same same hash x.call) new.memory.memory new.memory.changed (p2, end)
+        let it = always_steps (Holds K V same same (leads map (OnKey x) under_way).0.hash x.call (block_in word)) old.memory new.memory (call_plan same same (leads map (OnKey x) under_way).0.hash x.call) (p2, end)
+        (call_holds K V same same (leads map (OnKey x) under_way).0.hash x.call x.call.stands step.no_row word is)
+        (as_step old.memory changed.Nothing (call_plan same same (leads map (OnKey x) under_way).0.hash x.call) new.memory new.changed (p2, end)
         (steps same hash name m known s old new at_old shown map i x under_way said leads p2 end machine_is told_is)) in
         (p2, machine_is, it.0, it.1, it.2)
     by (p2, end, machine_is, told_is, inr row) none = absurd none
 
-pub sweeps_take_in_hand : (K V S : Type 0) (same : K → K → Bool) (hash : K → ℕ) → SweepsTakeInHand K V S same hash
-sweeps_take_in_hand K V S same hash name m known s old new at_old shown map i x under_way said leads none p are =
+pub sweeps_take_in_hand : (K V : Type 0) (same : K → K → Bool) (hash : ℕ → K → ℕ) → SweepsTakeInHand K V same hash
+sweeps_take_in_hand K V same hash name m known s old new at_old shown map i x under_way said leads none p are =
     sweep_takes same hash name m known s old new at_old shown map i (OverAll x) under_way said leads x refl
     (went_to same hash name m known s old new at_old shown map i (OverAll x) under_way said leads).4.did none p are
 
-pub sweeps_hold_theirs : (K V S : Type 0) (same : K → K → Bool) (hash : K → ℕ) → SweepsHoldTheirs K V S same hash
-sweeps_hold_theirs K V S same hash name m known s old new at_old shown map i x under_way said leads none word is =
+pub sweeps_hold_theirs : (K V : Type 0) (same : K → K → Bool) (hash : ℕ → K → ℕ) → SweepsHoldTheirs K V same hash
+sweeps_hold_theirs K V same hash name m known s old new at_old shown map i x under_way said leads none word is =
     by (went_to same hash name m known s old new at_old shown map i (OverAll x) under_way said leads).4.did none
   where
     by : (did_so : DidSo same hash name m known s old new at_old shown map i (OverAll x) under_way said leads (OverAll x)) → OfNoRow same hash name m known s old new at_old shown map i (OverAll x) under_way said leads (OverAll x) did_so
         → (q : Sweep) × ((went_to same hash name m known s old new at_old shown map i (OverAll x) under_way said leads).1 ≡ kinds.Sweep q) × (word2 : ℕ) × (pair_in_sweeping q.stands ≡ Some word2)
         × (block_in word2 ≡ block_in word)
     by (p2, end, machine_is, told_is, inl (step, moved)) none =
-        let it = always_steps (SweepHolds K V hash x.sweep (block_in word)) old.memory.memory new.memory.memory (sweep_plan hash x.sweep) (p2, end)
-        (sweep_holds K V hash x.sweep x.sweep.stands step.no_row word is)
-        (as_step old.memory.memory changed.Nothing (sweep_plan hash x.sweep) new.memory.memory new.memory.changed (p2, end)
+        let it = always_steps (SweepHolds K V (leads map (OverAll x) under_way).0.hash x.sweep (block_in word)) old.memory new.memory (sweep_plan (leads map (OverAll x) under_way).0.hash x.sweep) (p2, end)
+        (sweep_holds K V (leads map (OverAll x) under_way).0.hash x.sweep x.sweep.stands step.no_row word is)
+        (as_step old.memory changed.Nothing (sweep_plan (leads map (OverAll x) under_way).0.hash x.sweep) new.memory new.changed (p2, end)
         (sweep_steps same hash name m known s old new at_old shown map i (OverAll x) under_way said leads x refl p2 end machine_is told_is)) in
         (p2, machine_is, it.0, it.1, it.2)
     by (p2, end, machine_is, told_is, inr row) none = absurd none

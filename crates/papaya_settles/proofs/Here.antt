@@ -37,19 +37,19 @@ use Rattle.papaya_histories.specs.Given.Callers.Together.{CallOnKey, UnderWay, O
 use Rattle.papaya_histories.proofs.Given.Callers.Together.Came.{came_reached}
 use Rattle.papaya_histories.specs.Given.Effects.Known.{Known}
 use Rattle.papaya_histories.specs.Given.Effects.declared.role.Role.TheVariants as role
-use Rattle.papaya_histories.specs.Given.Executor.IsAt.{Scene, IsAt, slot_of}
-use Rattle.papaya_histories.specs.Given.Executor.declared.executor.Executor.{Executor}
 use Rattle.papaya_histories.specs.Given.Finishes.Maps.{Standing}
 use Rattle.papaya_histories.specs.Given.Follows.Blocks.{HasRole}
 use Rattle.papaya_histories.specs.Given.Follows.Shows.{Shows}
 use Rattle.papaya_settles.proofs.Aimed.{IsElsewhere, CallsElsewhere, room_aims, late_room_aims, over_all_aims, key_aims, late_key_aims}
 use Rattle.papaya_settles.proofs.Aims.{AimsAt, DeferringAims, DisposeAims, CopyingAims, ReservingAims, SweepingAims, CallingAims}
+use Rattle.papaya_histories.specs.Given.Scenes.Held.{Held, IsAt}
+use Rattle.papaya_histories.specs.Given.Scenes.Scene.{Scene, slot_of}
 
 -- the block is no map's count
 abbrev pub IsNoCount : Known → ℕ → Type 0
 IsNoCount known b = (of : ℕ) → known.roles b ≡ role.Counter of → ⊥
 
-module _ {K V S : Type 0} (same : K → K → Bool) (hash : K → ℕ) (name : ℕ → List ℕ) (m : Moment K V) (known : Known) (s : Scene K V) (old : Executor K V S) (at : IsAt same hash old s)
+module _ {K V : Type 0} (same : K → K → Bool) (hash : ℕ → K → ℕ) (name : ℕ → List ℕ) (m : Moment K V) (known : Known) (s : Scene K V) (old : Held K V) (at : IsAt same hash old s)
     (shown : Shows same name m known s) (map i : ℕ) (st : Standing K) (there : s.maps map ≡ Some st) (u : UnderWay K V K) (here : s.calls map i ≡ Some u) where
   abbrev w : World (Node K V)
   w = s.world

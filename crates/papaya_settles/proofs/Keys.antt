@@ -43,10 +43,6 @@ use Rattle.papaya_histories.specs.Given.Effects.Known.{Known}
 use Rattle.papaya_histories.specs.Given.Effects.declared.acting.Acting.{Acting}
 use Rattle.papaya_histories.specs.Given.Effects.declared.acting.Acting.TheVariants as acts
 use Rattle.papaya_histories.specs.Given.Effects.declared.role.Role.{Role}
-use Rattle.papaya_histories.specs.Given.Executor.IsAt.{Scene, IsAt, slot_of}
-use Rattle.papaya_histories.specs.Given.Executor.Stepping.{StepLeads}
-use Rattle.papaya_histories.specs.Given.Executor.declared.executor.Executor.{Executor}
-use Rattle.papaya_histories.proofs.Given.Executor.Forgotten.{as_step}
 use Rattle.papaya_histories.specs.Given.Finishes.Endings.{StepsAmong}
 use Rattle.papaya_histories.specs.Given.Finishes.Maps.{Standing}
 use Rattle.papaya_histories.specs.Given.Follows.Shows.{Shows}
@@ -70,8 +66,12 @@ use Rattle.papaya_settles.proofs.Here.{IsNoCount, each, key_no}
 use Rattle.papaya_settles.proofs.Points.{IsBeyond, past_step}
 use Rattle.papaya_settles.proofs.Status.{same_called, KindOf, ToCount, ToDispose, IsAtEnd, ToChange, kind_at, before_elsewhere, before_not, elsewhere_not, row_beyond, Status, IsNone, IsOver, IsNew, IsGone, plain_tells, unchanged_tells, stands_status}
 use Rattle.papaya_settles.proofs.Uncounted.{CountsNowhere, none_counts}
+use Rattle.papaya_histories.proofs.Given.Scenes.Told.{as_step}
+use Rattle.papaya_histories.specs.Given.Scenes.Held.{Held, IsAt}
+use Rattle.papaya_histories.specs.Given.Scenes.Scene.{Scene, slot_of}
+use Rattle.papaya_histories.specs.Given.Scenes.Stepping.{StepLeads}
 
-module _ {K V S : Type 0} (same : K → K → Bool) (hash : K → ℕ) (name : ℕ → List ℕ) (m : Moment K V) (known : Known) (s : Scene K V) (old new : Executor K V S) (at_old : IsAt same hash old s)
+module _ {K V : Type 0} (same : K → K → Bool) (hash : ℕ → K → ℕ) (name : ℕ → List ℕ) (m : Moment K V) (known : Known) (s : Scene K V) (old new : Held K V) (at_old : IsAt same hash old s)
     (shown : Shows same name m known s) (map i : ℕ) (x : CallOnKey K V K) (under_way : s.calls map i ≡ Some (OnKey x)) (said : Progress (Node K V)) (leads : StepLeads same hash i said s old new) where
   abbrev to : WentTo same hash name m known s old new at_old shown map i (OnKey x) under_way said leads
   to = went_to same hash name m known s old new at_old shown map i (OnKey x) under_way said leads
@@ -83,7 +83,7 @@ module _ {K V S : Type 0} (same : K → K → Bool) (hash : K → ℕ) (name : �
   ch = st.chart
 
   abbrev told : Changed
-  told = new.memory.changed
+  told = new.changed
 
   abbrev effects : List Effect
   effects = effects_of (acts.Call i map) known told
@@ -97,13 +97,13 @@ module _ {K V S : Type 0} (same : K → K → Bool) (hash : K → ℕ) (name : �
   -- of a step that has come to this
   module _ (p2 : KeyCall K V K) (end : Called (Node K V)) (machine_is : to.1 ≡ kinds.Key p2) (told_is : said ≡ of_called end) where
     abbrev Stepped : KeyCall K V K × Called (Node K V) → Type 0
-    Stepped e = StepsTold K V (KeyCall K V K × Called (Node K V)) old.memory.memory changed.Nothing (call_plan same same hash x.call) new.memory.memory told e
+    Stepped e = StepsTold K V (KeyCall K V K × Called (Node K V)) old.memory changed.Nothing (call_plan same same to.0.hash x.call) new.memory told e
 
     pub steps : Stepped (p2, end)
     steps = by inner.0 inner.1 inner.2
       where
         inner : (r : KeyCall K V K × Called (Node K V)) × (◌≡◌ {A = Machine K V K × Progress (Node K V)} (to.1, said) (of_key r)) × Stepped r
-        inner = told_in old.memory.memory new.memory.memory told of_key (call_plan same same hash x.call) (to.1, said) to.3
+        inner = told_in old.memory new.memory told of_key (call_plan same same to.0.hash x.call) (to.1, said) to.3
 
         by : (r : KeyCall K V K × Called (Node K V)) → ◌≡◌ {A = Machine K V K × Progress (Node K V)} (to.1, said) (of_key r) → Stepped r → Stepped (p2, end)
         by (q, said_so) is st =
@@ -118,8 +118,8 @@ module _ {K V S : Type 0} (same : K → K → Bool) (hash : K → ℕ) (name : �
     -- where it is not about to count, nothing is counted
     pub nowhere : CallsElsewhere x.call.stands → CountsNowhere known told
     nowhere elsewhere b field old_word new_word of is role_is =
-        plan_aimed (IsNoCount known) old.memory.memory new.memory.memory told (call_plan same same hash x.call) (p2, end) steps
-        (call_aims (IsNoCount known) K V same same hash x.call (key_no same hash name m known s old at_old shown map i st to.2 (OnKey x) under_way x under_way elsewhere)) b field old_word new_word is of role_is
+        plan_aimed (IsNoCount known) old.memory new.memory told (call_plan same same to.0.hash x.call) (p2, end) steps
+        (call_aims (IsNoCount known) K V same same to.0.hash x.call (key_no same hash name m known s old at_old shown map i st to.2 (OnKey x) under_way x under_way elsewhere)) b field old_word new_word is of role_is
 
     pub uncounted : CallsElsewhere x.call.stands → NoneCounts effects
     uncounted elsewhere = none_counts i map known told (nowhere elsewhere)
@@ -128,7 +128,7 @@ module _ {K V S : Type 0} (same : K → K → Bool) (hash : K → ℕ) (name : �
     keeps before after elsewhere none e = KeepsCount (all_apart effects none (uncounted elsewhere)) e
 
     pub past : IsBeyond x.call.stands → counts_in_calling p2.stands ≡ false
-    past beyond = past_step same same hash x.call beyond old.memory.memory new.memory.memory (p2, end) (as_step old.memory.memory changed.Nothing (call_plan same same hash x.call) new.memory.memory told (p2, end) steps)
+    past beyond = past_step same same to.0.hash x.call beyond old.memory new.memory (p2, end) (as_step old.memory changed.Nothing (call_plan same same to.0.hash x.call) new.memory told (p2, end) steps)
 
     -- one of a row
     row_goes : IsRowOfCall x.call.stands → flat_map shift_of effects ≡ [] → Goes (counts_in_calling x.call.stands) (counts_in_calling p2.stands)
@@ -137,8 +137,8 @@ module _ {K V S : Type 0} (same : K → K → Bool) (hash : K → ℕ) (name : �
         keeps (counts_in_calling x.call.stands) (counts_in_calling p2.stands) beyond.1 none (past beyond.0 ∙ sym (elsewhere_not x.call.stands beyond.1))
 
     -- one that is none of a row
-    module _ (step : StepsAmong V same same old.batch_size old.roots slot_of s.world s.maps s.calls s.makers s.enders map st i x new.memory.memory p2 end) where
-      abbrev pub together : StepsTogether V same st.hash same st.setting slot_of s.world ch st.blocks st.sights (s.calls map) i x new.memory.memory p2 end
+    module _ (step : StepsAmong V same same old.batch_size old.roots slot_of s.world s.maps s.calls s.makers s.enders map st i x new.memory p2 end) where
+      abbrev pub together : StepsTogether V same st.hash same st.setting slot_of s.world ch st.blocks st.sights (s.calls map) i x new.memory p2 end
       together = step.step
 
       abbrev pub c2 : Chart K
@@ -211,36 +211,36 @@ module _ {K V S : Type 0} (same : K → K → Bool) (hash : K → ℕ) (name : �
 
       pub fresh : IsBefore x.call.stands → IsFresh (p2, end)
       fresh before =
-          fresh_step same same hash x.call before old.memory.memory new.memory.memory (p2, end) (as_step old.memory.memory changed.Nothing (call_plan same same hash x.call) new.memory.memory told (p2, end) steps)
+          fresh_step same same to.0.hash x.call before old.memory new.memory (p2, end) (as_step old.memory changed.Nothing (call_plan same same to.0.hash x.call) new.memory told (p2, end) steps)
 
       -- where a call goes on, or ends, which had changed nothing
       abbrev pub Together2 : Called (Node K V) → Type 0
-      Together2 e = StepsTogether V same st.hash same st.setting slot_of s.world ch st.blocks st.sights (s.calls map) i x new.memory.memory p2 e
+      Together2 e = StepsTogether V same st.hash same st.setting slot_of s.world ch st.blocks st.sights (s.calls map) i x new.memory p2 e
 
       abbrev StatusOf : (e : Called (Node K V)) → Together2 e → Type 0
       StatusOf e tog = Status (change_told V same st.hash same st.setting slot_of tog.went.told) (counts_in_calling p2.stands)
 
       on_status : (e : Called (Node K V)) (tog : Together2 e) → IsFreshAt p2.stands
           → Stands V same st.hash same st.setting slot_of tog.went.w2 tog.went.c2 (seen_by tog.blocks2 (tog.sights2 (slot_of i))) i
-          (OnKey (stepped same st.hash same st.setting slot_of s.world ch st.blocks st.sights (s.calls map) i x new.memory.memory p2 e tog)) → StatusOf e tog
+          (OnKey (stepped same st.hash same st.setting slot_of s.world ch st.blocks st.sights (s.calls map) i x new.memory p2 e tog)) → StatusOf e tog
       on_status e tog its stands =
           stands_status same st.hash st.setting slot_of tog.went.w2 tog.went.c2 (seen_by tog.blocks2 (tog.sights2 (slot_of i))) i
-          (stepped same st.hash same st.setting slot_of s.world ch st.blocks st.sights (s.calls map) i x new.memory.memory p2 e tog) its stands
+          (stepped same st.hash same st.setting slot_of s.world ch st.blocks st.sights (s.calls map) i x new.memory p2 e tog) its stands
 
       status : (e : Called (Node K V)) (tog : Together2 e) → IsFresh (p2, e) → StatusOf e tog
       status called.Goes tog its =
-          on_status called.Goes tog its (tog.together.stand i _ (here same st.hash same st.setting slot_of s.world ch st.blocks st.sights (s.calls map) i x new.memory.memory p2 called.Goes tog))
+          on_status called.Goes tog its (tog.together.stand i _ (here same st.hash same st.setting slot_of s.world ch st.blocks st.sights (s.calls map) i x new.memory p2 called.Goes tog))
       status called.Waits tog its =
-          on_status called.Waits tog its (tog.together.stand i _ (here same st.hash same st.setting slot_of s.world ch st.blocks st.sights (s.calls map) i x new.memory.memory p2 called.Waits tog))
+          on_status called.Waits tog its (tog.together.stand i _ (here same st.hash same st.setting slot_of s.world ch st.blocks st.sights (s.calls map) i x new.memory p2 called.Waits tog))
       status (called.Gave value) tog its =
           on_status (called.Gave value) tog its
-          (tog.together.stand i _ (here same st.hash same st.setting slot_of s.world ch st.blocks st.sights (s.calls map) i x new.memory.memory p2 (called.Gave value) tog))
+          (tog.together.stand i _ (here same st.hash same st.setting slot_of s.world ch st.blocks st.sights (s.calls map) i x new.memory p2 (called.Gave value) tog))
       status (called.Unstored value) tog its =
           on_status (called.Unstored value) tog its
-          (tog.together.stand i _ (here same st.hash same st.setting slot_of s.world ch st.blocks st.sights (s.calls map) i x new.memory.memory p2 (called.Unstored value) tog))
+          (tog.together.stand i _ (here same st.hash same st.setting slot_of s.world ch st.blocks st.sights (s.calls map) i x new.memory p2 (called.Unstored value) tog))
       status (called.Asks about) tog its =
           on_status (called.Asks about) tog its
-          (tog.together.stand i _ (here same st.hash same st.setting slot_of s.world ch st.blocks st.sights (s.calls map) i x new.memory.memory p2 (called.Asks about) tog))
+          (tog.together.stand i _ (here same st.hash same st.setting slot_of s.world ch st.blocks st.sights (s.calls map) i x new.memory p2 (called.Asks about) tog))
       status (called.Done answer) tog its = elim ((tog.answers answer refl).1) as (λ _. StatusOf (called.Done answer) tog) [
         | inl none ↦ IsNone none.0 its.1
         | inr has ↦ absurd (plain_tells same st.hash tog.went.w2 i (in_slot st.setting (slot_of i)) tog.went.c2 tog.went.blocks2 x.keys _ answer its.0 has.1)
@@ -292,7 +292,7 @@ module _ {K V S : Type 0} (same : K → K → Bool) (hash : K → ℕ) (name : �
 
       -- it counts
       abbrev pub SteppedAt : Calling → Type 0
-      SteppedAt p = StepsTold K V (KeyCall K V K × Called (Node K V)) old.memory.memory changed.Nothing (plan_at same same hash x.call p) new.memory.memory told (p2, end)
+      SteppedAt p = StepsTold K V (KeyCall K V K × Called (Node K V)) old.memory changed.Nothing (plan_at same same to.0.hash x.call p) new.memory told (p2, end)
 
       wrote_count : (removed : ℕ) → SteppedAt (at.Counts removed)
           → (o : ℕ) × (told ≡ changed.Wrote (Word x.call.setting.counter (bit_and x.call.setting.slot x.call.setting.mask)) o ((o + count_change removed) % 2 ^ 64))
@@ -379,12 +379,12 @@ module _ {K V S : Type 0} (same : K → K → Bool) (hash : K → ℕ) (name : �
   NoRow done = OfNoRow same hash name m known s old new at_old shown map i (OnKey x) under_way said leads (OnKey x) done
 
   -- what rows hand over shifts no pair
-  pub row_none : (w2 : World (Node K V)) → w2.memory ≡ new.memory.memory → IsOneStep st.setting i s.world w2 → TakesNone told → flat_map shift_of effects ≡ []
+  pub row_none : (w2 : World (Node K V)) → w2.memory ≡ new.memory → IsOneStep st.setting i s.world w2 → TakesNone told → flat_map shift_of effects ≡ []
   row_none w2 memory happened none =
       hands_shift effects (row_done i map m known s.world w2 shown.blocks
       (one_step_leaves st.setting i s.world w2 (each same hash name m known s old at_old shown map i st to.2 (OnKey x) under_way).ground.came happened) told
       (subst (λ (n : Mem (Node K V)). LeavesBy s.world.memory n told) (sym memory)
-      (operated_leaves s.world.memory new.memory.memory told (made_so same hash name m known s old new at_old shown map i (OnKey x) under_way said leads))) none).hands
+      (operated_leaves s.world.memory new.memory told (made_so same hash name m known s old new at_old shown map i (OnKey x) under_way said leads))) none).hands
 
   -- so it is for each step
   pub key_counts : (done : DidHere) → ((NoRow done → ⊥) → TakesNone told) → Goes (counts_in_calling x.call.stands) (is_to_count to.1) × (to.4.next ≡ None → is_to_count to.1 ≡ false)

@@ -20,10 +20,6 @@ use Rattle.papaya_histories.specs.Given.Callers.Together.{UnderWay}
 use Rattle.papaya_histories.specs.Given.Effects.Effects.{effects_of}
 use Rattle.papaya_histories.specs.Given.Effects.Known.{Known}
 use Rattle.papaya_histories.specs.Given.Effects.declared.acting.Acting.TheVariants as acts
-use Rattle.papaya_histories.specs.Given.Executor.IsAt.{Scene, IsAt}
-use Rattle.papaya_histories.specs.Given.Executor.Stepping.{has_ended, going_on, StepLeads}
-use Rattle.papaya_histories.specs.Given.Executor.declared.executor.Executor.{Executor}
-use Rattle.papaya_histories.proofs.Given.Executor.Steps.{goes_as}
 use Rattle.papaya_histories.specs.Given.Finishes.Machines.{machine_of}
 use Rattle.papaya_histories.specs.Given.Follows.Shows.{Shows}
 use Rattle.papaya_histories.proofs.Given.Follows.Steps.{WentTo, went_to, OfNoRow}
@@ -32,6 +28,10 @@ use Rattle.papaya_settles.specs.InHand.{TakesPair}
 use Rattle.papaya_settles.specs.Owing.{hands_over, HandsOver, AllLeave, OwesGo, KeepsOwed, TakesOut, PutsOver, Passes, HandsFirst}
 use Rattle.papaya_settles.proofs.Takings.{steps_take_out}
 use Rattle.papaya_settles.proofs.Unpromoted.{NonePromotes, none_promotes, spared_tells}
+use Rattle.papaya_histories.proofs.Given.Scenes.Goes.{goes_as}
+use Rattle.papaya_histories.specs.Given.Scenes.Held.{Held, IsAt}
+use Rattle.papaya_histories.specs.Given.Scenes.Scene.{Scene}
+use Rattle.papaya_histories.specs.Given.Scenes.Stepping.{StepLeads, going_on, has_ended}
 
 -- what hands something over does so
 pub hands_it : (f : Effect) (x : Thing) → HandsOver f x → hands_over f ≡ true
@@ -49,13 +49,13 @@ pub shifts_take : (effects : List Effect) → flat_map shift_of effects ≡ [] �
 shifts_take effects none p (inl are) = (let gone = ap (λ (l : List Effect). flat_map shift_of l) are in cc (gone, none))
 shifts_take effects none p (inr (n, s, are)) = (let gone = ap (λ (l : List Effect). flat_map shift_of l) are in cc (gone, none))
 
-module _ {K V S : Type 0} (same : K → K → Bool) (hash : K → ℕ) (name : ℕ → List ℕ) (m : Moment K V) (known : Known) (s : Scene K V) (old new : Executor K V S) (at_old : IsAt same hash old s)
+module _ {K V : Type 0} (same : K → K → Bool) (hash : ℕ → K → ℕ) (name : ℕ → List ℕ) (m : Moment K V) (known : Known) (s : Scene K V) (old new : Held K V) (at_old : IsAt same hash old s)
     (shown : Shows same name m known s) (map i : ℕ) (u : UnderWay K V K) (under_way : s.calls map i ≡ Some u) (said : Progress (Node K V)) (leads : StepLeads same hash i said s old new) where
   abbrev to : WentTo same hash name m known s old new at_old shown map i u under_way said leads
   to = went_to same hash name m known s old new at_old shown map i u under_way said leads
 
   abbrev effects : List Effect
-  effects = effects_of (acts.Call i map) known new.memory.changed
+  effects = effects_of (acts.Call i map) known new.changed
 
   -- a call that does not go on has ended
   pub has_gone : to.4.next ≡ None → has_ended said ≡ true
@@ -69,11 +69,11 @@ module _ {K V S : Type 0} (same : K → K → Bool) (hash : K → ℕ) (name : �
       by false e = absurd (let some : ◌≡◌ {A = Option (Machine K V K)} None (Some to.1) = whole ∙ ap (λ (q : Bool). if q then None else Some to.1) e in cc some)
 
   -- a step that spares the roots makes no table the root
-  pub no_promotion : {R : Type 0} (plan : Plan (Node K V) R) (end : R) → PlanSparesRoot plan → StepsTold K V R old.memory.memory changed.Nothing plan new.memory.memory new.memory.changed end
+  pub no_promotion : {R : Type 0} (plan : Plan (Node K V) R) (end : R) → PlanSparesRoot plan → StepsTold K V R old.memory changed.Nothing plan new.memory new.changed end
       → (t : Table) → effects ≡ effect.Promoted t ∷ [] → ⊥
   no_promotion plan end spares steps t are =
-      (let none = none_promotes i map known (nothing_free s.world m.stored known shown.blocks.roles) new.memory.changed
-      (spared_tells old.memory.memory new.memory.memory new.memory.changed plan end spares steps) in
+      (let none = none_promotes i map known (nothing_free s.world m.stored known shown.blocks.roles) new.changed
+      (spared_tells old.memory new.memory new.changed plan end spares steps) in
       let no = (subst NonePromotes are none).0 in cc no)
 
   -- so its effects leave what is owed
@@ -82,7 +82,7 @@ module _ {K V S : Type 0} (same : K → K → Bool) (hash : K → ℕ) (name : �
   leaves own no_pair no_table = by taking.0 taking.1
     where
       taking : (taken : List Thing) × OwesGo m effects [] ([] ++ taken) × (list_any hands_over effects ≡ false)
-      taking = steps_take_out K V S same hash name m known s old new at_old shown map i u under_way said leads own []
+      taking = steps_take_out K V same hash name m known s old new at_old shown map i u under_way said leads own []
 
       by : (taken : List Thing) → OwesGo m effects [] ([] ++ taken) → AllLeave effects
       by taken (KeepsOwed all same_owed) = all

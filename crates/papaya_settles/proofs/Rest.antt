@@ -54,10 +54,6 @@ use Rattle.papaya_histories.specs.Given.Effects.declared.acting.Acting.{Acting}
 use Rattle.papaya_histories.specs.Given.Effects.declared.acting.Acting.TheVariants as acts
 use Rattle.papaya_histories.specs.Given.Effects.declared.role.Role.{Role}
 use Rattle.papaya_histories.specs.Given.Effects.declared.role.Role.TheVariants as role
-use Rattle.papaya_histories.specs.Given.Executor.IsAt.{Scene, IsAt, slot_of}
-use Rattle.papaya_histories.specs.Given.Executor.Stepping.{StepsFrom, StepLeads}
-use Rattle.papaya_histories.specs.Given.Executor.declared.executor.Executor.{Executor}
-use Rattle.papaya_histories.proofs.Given.Executor.Forgotten.{as_step}
 use Rattle.papaya_histories.specs.Given.Finishes.Machines.{machine_of}
 use Rattle.papaya_histories.specs.Given.Finishes.Maps.{Standing}
 use Rattle.papaya_histories.specs.Given.Finishes.Sweeps.{SweepStepsAmong}
@@ -81,6 +77,10 @@ use Rattle.papaya_settles.proofs.Gains.{AllApart, all_apart, NoneCounts, CountGo
 use Rattle.papaya_settles.proofs.Here.{IsNoCount, each, is_sight, room_no, over_all_no}
 use Rattle.papaya_settles.proofs.Points.{IsNoTry, seen_idle, idle_step}
 use Rattle.papaya_settles.proofs.Uncounted.{CountsNowhere, none_counts}
+use Rattle.papaya_histories.proofs.Given.Scenes.Told.{as_step}
+use Rattle.papaya_histories.specs.Given.Scenes.Held.{Held, IsAt}
+use Rattle.papaya_histories.specs.Given.Scenes.Scene.{Scene, slot_of}
+use Rattle.papaya_histories.specs.Given.Scenes.Stepping.{StepLeads, StepsFrom}
 
 -- what a sweep says of how far it is, it says in one way
 pub same_swept : {T : Type 0} (a b : Swept T) → of_swept a ≡ of_swept b → a ≡ b
@@ -114,7 +114,7 @@ row_apart (sweeping.Copies copier) row = (tt, tt)
 row_apart (sweeping.Disposes dispose) row = (tt, tt)
 row_apart _ row = absurd row
 
-module _ {K V S : Type 0} (same : K → K → Bool) (hash : K → ℕ) (name : ℕ → List ℕ) (m : Moment K V) (known : Known) (s : Scene K V) (old new : Executor K V S) (at_old : IsAt same hash old s)
+module _ {K V : Type 0} (same : K → K → Bool) (hash : ℕ → K → ℕ) (name : ℕ → List ℕ) (m : Moment K V) (known : Known) (s : Scene K V) (old new : Held K V) (at_old : IsAt same hash old s)
     (shown : Shows same name m known s) (map i : ℕ) (u : UnderWay K V K) (under_way : s.calls map i ≡ Some u) (said : Progress (Node K V)) (leads : StepLeads same hash i said s old new) where
   abbrev to : WentTo same hash name m known s old new at_old shown map i u under_way said leads
   to = went_to same hash name m known s old new at_old shown map i u under_way said leads
@@ -126,7 +126,7 @@ module _ {K V S : Type 0} (same : K → K → Bool) (hash : K → ℕ) (name : �
   ch = st.chart
 
   abbrev told : Changed
-  told = new.memory.changed
+  told = new.changed
 
   abbrev its : Acting
   its = acts.Call i map
@@ -155,11 +155,11 @@ module _ {K V S : Type 0} (same : K → K → Bool) (hash : K → ℕ) (name : �
       none_shifted same st.hash (is_incremental st.setting.mode) (λ k. true) ch c2 (shown.number map) known.stored effects Unchanged refl
       (did_once same st.hash (is_incremental st.setting.mode) (λ k. true) ch c2 (shown.number map) known.stored effects pairs_there shifts Unchanged kept)
 
-  row_none : (w2 : World (Node K V)) → w2.memory ≡ new.memory.memory → IsOneStep st.setting i s.world w2 → TakesNone told → flat_map shift_of effects ≡ []
+  row_none : (w2 : World (Node K V)) → w2.memory ≡ new.memory → IsOneStep st.setting i s.world w2 → TakesNone told → flat_map shift_of effects ≡ []
   row_none w2 memory happened none =
       hands_shift effects (row_done i map m known s.world w2 shown.blocks (one_step_leaves st.setting i s.world w2 here_each.ground.came happened) told
       (subst (λ (n : Mem (Node K V)). LeavesBy s.world.memory n told) (sym memory)
-      (operated_leaves s.world.memory new.memory.memory told (made_so same hash name m known s old new at_old shown map i u under_way said leads))) none).hands
+      (operated_leaves s.world.memory new.memory told (made_so same hash name m known s old new at_old shown map i u under_way said leads))) none).hands
 
   abbrev Did : UnderWay K V K → Type 0
   Did x = DidSo same hash name m known s old new at_old shown map i u under_way said leads x
@@ -170,10 +170,10 @@ module _ {K V S : Type 0} (same : K → K → Bool) (hash : K → ℕ) (name : �
   -- a reservation
   pub room_nowhere : (x : CallForRoom) → u ≡ ForRoom x → CountsNowhere known told
   room_nowhere x is b field old_word new_word of told_is role_is =
-      let stepped = subst (λ (y : UnderWay K V K). StepsFrom same hash (machine_of y) old new to.1 said) is to.3 in
-      let inner = told_in old.memory.memory new.memory.memory told of_room (reserve_plan hash x.reserve) (to.1, said) stepped in
-      plan_aimed (IsNoCount known) old.memory.memory new.memory.memory told (reserve_plan hash x.reserve) inner.0 inner.2
-      (reserve_aims (IsNoCount known) K V hash x.reserve (room_no same hash name m known s old at_old shown map i st to.2 u under_way x (under_way ∙ ap Some is))) b field old_word new_word told_is of role_is
+      let stepped = subst (λ (y : UnderWay K V K). StepsFrom same to.0.hash (machine_of y) old new to.1 said) is to.3 in
+      let inner = told_in old.memory new.memory told of_room (reserve_plan to.0.hash x.reserve) (to.1, said) stepped in
+      plan_aimed (IsNoCount known) old.memory new.memory told (reserve_plan to.0.hash x.reserve) inner.0 inner.2
+      (reserve_aims (IsNoCount known) K V to.0.hash x.reserve (room_no same hash name m known s old at_old shown map i st to.2 u under_way x (under_way ∙ ap Some is))) b field old_word new_word told_is of role_is
 
   room_uncounted : (x : CallForRoom) → u ≡ ForRoom x → NoneCounts effects
   room_uncounted x is = none_counts i map known told (room_nowhere x is)
@@ -201,9 +201,9 @@ module _ {K V S : Type 0} (same : K → K → Bool) (hash : K → ℕ) (name : �
   -- a counting
   pub sum_nowhere : (x : Sum) → u ≡ Counting x → CountsNowhere known told
   sum_nowhere x is b field old_word new_word of told_so role_is =
-      let stepped = subst (λ (y : UnderWay K V K). StepsFrom same hash (machine_of y) old new to.1 said) is to.3 in
-      let inner = told_in old.memory.memory new.memory.memory told of_sum (sum_plan x) (to.1, said) stepped in
-      plan_aimed (IsNoCount known) old.memory.memory new.memory.memory told (sum_plan x) inner.0 inner.2 (sum_at (IsNoCount known) K V x x.stands) b field old_word new_word told_so of role_is
+      let stepped = subst (λ (y : UnderWay K V K). StepsFrom same to.0.hash (machine_of y) old new to.1 said) is to.3 in
+      let inner = told_in old.memory new.memory told of_sum (sum_plan x) (to.1, said) stepped in
+      plan_aimed (IsNoCount known) old.memory new.memory told (sum_plan x) inner.0 inner.2 (sum_at (IsNoCount known) K V x x.stands) b field old_word new_word told_so of role_is
 
   pub sum_counts : (x : Sum) → u ≡ Counting x → Did (Counting x) → Goes false (is_to_count to.1) × (to.4.next ≡ None → is_to_count to.1 ≡ false)
   sum_counts x is (sum2, end, machine_is, told_is, still, stayed) =
@@ -225,13 +225,13 @@ module _ {K V S : Type 0} (same : K → K → Bool) (hash : K → ℕ) (name : �
 
     module _ (p2 : Sweep) (end : Swept (Node K V)) (machine_is : to.1 ≡ kinds.Sweep p2) (told_is : said ≡ of_swept end) where
       abbrev pub Stepped : Sweep × Swept (Node K V) → Type 0
-      Stepped e = StepsTold K V (Sweep × Swept (Node K V)) old.memory.memory changed.Nothing (sweep_plan hash x.sweep) new.memory.memory told e
+      Stepped e = StepsTold K V (Sweep × Swept (Node K V)) old.memory changed.Nothing (sweep_plan to.0.hash x.sweep) new.memory told e
 
       pub steps : Stepped (p2, end)
       steps = by inner.0 inner.1 inner.2
         where
           inner : (r : Sweep × Swept (Node K V)) × (◌≡◌ {A = Machine K V K × Progress (Node K V)} (to.1, said) (of_sweep r)) × Stepped r
-          inner = told_in old.memory.memory new.memory.memory told of_sweep (sweep_plan hash x.sweep) (to.1, said) (subst (λ (y : UnderWay K V K). StepsFrom same hash (machine_of y) old new to.1 said) is_over to.3)
+          inner = told_in old.memory new.memory told of_sweep (sweep_plan to.0.hash x.sweep) (to.1, said) (subst (λ (y : UnderWay K V K). StepsFrom same to.0.hash (machine_of y) old new to.1 said) is_over to.3)
 
           by : (r : Sweep × Swept (Node K V)) → ◌≡◌ {A = Machine K V K × Progress (Node K V)} (to.1, said) (of_sweep r) → Stepped r → Stepped (p2, end)
           by (q, said_so) is st2 =
@@ -251,21 +251,21 @@ module _ {K V S : Type 0} (same : K → K → Bool) (hash : K → ℕ) (name : �
 
       pub nowhere : IsElsewhere x.sweep.stands → CountsNowhere known told
       nowhere elsewhere b field old_word new_word of told_so role_is =
-          plan_aimed (IsNoCount known) old.memory.memory new.memory.memory told (sweep_plan hash x.sweep) (p2, end) steps
-          (sweep_aims (IsNoCount known) K V hash x.sweep (over_all_no same hash name m known s old at_old shown map i st to.2 u under_way x under_over elsewhere)) b field old_word new_word told_so of role_is
+          plan_aimed (IsNoCount known) old.memory new.memory told (sweep_plan to.0.hash x.sweep) (p2, end) steps
+          (sweep_aims (IsNoCount known) K V to.0.hash x.sweep (over_all_no same hash name m known s old at_old shown map i st to.2 u under_way x under_over elsewhere)) b field old_word new_word told_so of role_is
 
       uncounted : IsElsewhere x.sweep.stands → NoneCounts effects
       uncounted elsewhere = none_counts i map known told (nowhere elsewhere)
 
       pub idle : IsNoTry x.sweep.stands → after_counts ≡ false
       idle none =
-          idle_step K V x.sweep hash none old.memory.memory new.memory.memory (p2, end) (as_step old.memory.memory changed.Nothing (sweep_plan hash x.sweep) new.memory.memory told (p2, end) steps)
+          idle_step K V x.sweep to.0.hash none old.memory new.memory (p2, end) (as_step old.memory changed.Nothing (sweep_plan to.0.hash x.sweep) new.memory told (p2, end) steps)
 
       apart_goes : IsElsewhere x.sweep.stands → IsNoTry x.sweep.stands → flat_map shift_of effects ≡ [] → Goes before_counts after_counts
       apart_goes elsewhere none shifts = KeepsCount (all_apart effects shifts (uncounted elsewhere)) (idle none ∙ sym (elsewhere_not x.sweep.stands elsewhere))
 
       -- one that is none of a row
-      module _ (step : SweepStepsAmong V same same old.batch_size old.roots slot_of s.world s.maps s.calls s.makers s.enders map st i x new.memory.memory p2 end) where
+      module _ (step : SweepStepsAmong V same same old.batch_size old.roots slot_of s.world s.maps s.calls s.makers s.enders map st i x new.memory p2 end) where
         abbrev c2 : Chart K
         c2 = step.step.went.c2
 
@@ -288,7 +288,7 @@ module _ {K V S : Type 0} (same : K → K → Bool) (hash : K → ℕ) (name : �
         ]
 
         abbrev SteppedAt : Sweeping → Type 0
-        SteppedAt p = StepsTold K V (Sweep × Swept (Node K V)) old.memory.memory changed.Nothing (sweeps.plan_at hash x.sweep p) new.memory.memory told (p2, end)
+        SteppedAt p = StepsTold K V (Sweep × Swept (Node K V)) old.memory changed.Nothing (sweeps.plan_at to.0.hash x.sweep p) new.memory told (p2, end)
 
         -- it counts
         wrote_count : (removed : ℕ) → SteppedAt (sweeping.Counts removed)

@@ -14,10 +14,10 @@ use Rattle.papaya_histories.specs.Given.Schedules.Lives.{CallFinds}
 use Rattle.papaya_histories.specs.Given.Schedules.Moment.{UnderWay as CallThere, Moment}
 use Rattle.papaya_histories.specs.Given.Schedules.Terms.{shards_of}
 use Rattle.papaya_histories.specs.Given.Schedules.Views.{call_of}
-use Rattle.papaya_histories.specs.Given.Executor.IsAt.{slot_of}
 use Rattle.papaya_histories.proofs.Changes.{acted_on}
 use Rattle.papaya_settles.specs.Counts.{FindsCount, FindCounts, shard_for}
 use Rattle.papaya_settles.specs.Shards.{is_counting, CountsFindShards}
+use Rattle.papaya_histories.specs.Given.Scenes.Scene.{slot_of}
 
 -- so many shards are a power of two
 bits_of : (n : ℕ) → (bits : ℕ) × (next_power n ≡ 2 ^ bits)

@@ -38,9 +38,6 @@ use Rattle.papaya_histories.specs.Given.Effects.Effects.{effects_of}
 use Rattle.papaya_histories.specs.Given.Effects.Known.{Known}
 use Rattle.papaya_histories.specs.Given.Effects.declared.acting.Acting.TheVariants as acts
 use Rattle.papaya_histories.specs.Given.Effects.declared.role.Role.TheVariants as role
-use Rattle.papaya_histories.specs.Given.Executor.IsAt.{Scene, IsAt, slot_of}
-use Rattle.papaya_histories.specs.Given.Executor.Stepping.{StepLeads}
-use Rattle.papaya_histories.specs.Given.Executor.declared.executor.Executor.{Executor}
 use Rattle.papaya_histories.specs.Given.Finishes.Endings.{StepsAmong}
 use Rattle.papaya_histories.specs.Given.Finishes.Maps.{Standing}
 use Rattle.papaya_histories.specs.Given.Follows.Shows.{Shows}
@@ -53,6 +50,9 @@ use Rattle.papaya_settles.proofs.Fresh.{IsBefore, IsNewDisposal, IsFreshAt, IsFr
 use Rattle.papaya_settles.proofs.Here.{each}
 use Rattle.papaya_settles.proofs.Keys.{Together2, change2, once, did, none_moved, fresh, counts_now, disposing_tells, steps, SteppedAt}
 use Rattle.papaya_settles.proofs.Status.{KindOf, ToCount, ToDispose, IsAtEnd, ToChange, kind_at, plain_tells, unchanged_tells}
+use Rattle.papaya_histories.specs.Given.Scenes.Held.{Held, IsAt}
+use Rattle.papaya_histories.specs.Given.Scenes.Scene.{Scene, slot_of}
+use Rattle.papaya_histories.specs.Given.Scenes.Stepping.{StepLeads}
 
 -- the change takes this pair out
 abbrev pub IsOut : ℕ → Change → Type 0
@@ -144,7 +144,7 @@ module _ {K V : Type 0} (same : K → K → Bool) (hash : K → ℕ) (setting : 
     ]
   ]
 
-module _ {K V S : Type 0} (same : K → K → Bool) (hash : K → ℕ) (name : ℕ → List ℕ) (m : Moment K V) (known : Known) (s : Scene K V) (old new : Executor K V S) (at_old : IsAt same hash old s)
+module _ {K V : Type 0} (same : K → K → Bool) (hash : ℕ → K → ℕ) (name : ℕ → List ℕ) (m : Moment K V) (known : Known) (s : Scene K V) (old new : Held K V) (at_old : IsAt same hash old s)
     (shown : Shows same name m known s) (map i : ℕ) (x : CallOnKey K V K) (under_way : s.calls map i ≡ Some (OnKey x)) (said : Progress (Node K V)) (leads : StepLeads same hash i said s old new)
     (p2 : KeyCall K V K) (end : Called (Node K V)) where
   abbrev to : WentTo same hash name m known s old new at_old shown map i (OnKey x) under_way said leads
@@ -154,10 +154,10 @@ module _ {K V S : Type 0} (same : K → K → Bool) (hash : K → ℕ) (name : �
   st = to.0
 
   abbrev effects : List Effect
-  effects = effects_of (acts.Call i map) known new.memory.changed
+  effects = effects_of (acts.Call i map) known new.changed
 
   module _ (machine_is : to.1 ≡ kinds.Key p2) (told_is : said ≡ of_called end)
-      (step : StepsAmong V same same old.batch_size old.roots slot_of s.world s.maps s.calls s.makers s.enders map st i x new.memory.memory p2 end) where
+      (step : StepsAmong V same same old.batch_size old.roots slot_of s.world s.maps s.calls s.makers s.enders map st i x new.memory p2 end) where
     abbrev Tog : Called (Node K V) → Type 0
     Tog = Together2 same hash name m known s old new at_old shown map i x under_way said leads p2 end machine_is told_is step
 
@@ -169,12 +169,12 @@ module _ {K V S : Type 0} (same : K → K → Bool) (hash : K → ℕ) (name : �
     module _ (e : Called (Node K V)) (tog : Tog e) where
       abbrev Standing2 : Type 0
       Standing2 = Stands V same st.hash same st.setting slot_of tog.went.w2 tog.went.c2 (seen_by tog.blocks2 (tog.sights2 (slot_of i))) i
-          (OnKey (stepped same st.hash same st.setting slot_of s.world st.chart st.blocks st.sights (s.calls map) i x new.memory.memory p2 e tog))
+          (OnKey (stepped same st.hash same st.setting slot_of s.world st.chart st.blocks st.sights (s.calls map) i x new.memory p2 e tog))
 
       on_taken : IsFreshAt p2.stands → Standing2 → (o : ℕ) → IsOut o (change_told V same st.hash same st.setting slot_of tog.went.told) → (word : ℕ) × Names p2.stands word × (block_in word ≡ tog.blocks2.pair o)
       on_taken its stands o out =
           stands_taken same st.hash st.setting slot_of tog.went.w2 tog.went.c2 (seen_by tog.blocks2 (tog.sights2 (slot_of i))) i
-          (stepped same st.hash same st.setting slot_of s.world st.chart st.blocks st.sights (s.calls map) i x new.memory.memory p2 e tog)
+          (stepped same st.hash same st.setting slot_of s.world st.chart st.blocks st.sights (s.calls map) i x new.memory p2 e tog)
           (few tog.went.c2 (seen_by tog.blocks2 (tog.sights2 (slot_of i)))) its stands o out
 
     abbrev HasIt : (e : Called (Node K V)) → Tog e → ℕ → Type 0
@@ -185,18 +185,18 @@ module _ {K V S : Type 0} (same : K → K → Bool) (hash : K → ℕ) (name : �
 
     taken : (e : Called (Node K V)) (tog : Tog e) → IsFresh (p2, e) → (o : ℕ) → Out e tog o → HasIt e tog o
     taken called.Goes tog its o out =
-        on_taken called.Goes tog its (tog.together.stand i _ (here same st.hash same st.setting slot_of s.world st.chart st.blocks st.sights (s.calls map) i x new.memory.memory p2 called.Goes tog)) o out
+        on_taken called.Goes tog its (tog.together.stand i _ (here same st.hash same st.setting slot_of s.world st.chart st.blocks st.sights (s.calls map) i x new.memory p2 called.Goes tog)) o out
     taken called.Waits tog its o out =
-        on_taken called.Waits tog its (tog.together.stand i _ (here same st.hash same st.setting slot_of s.world st.chart st.blocks st.sights (s.calls map) i x new.memory.memory p2 called.Waits tog)) o out
+        on_taken called.Waits tog its (tog.together.stand i _ (here same st.hash same st.setting slot_of s.world st.chart st.blocks st.sights (s.calls map) i x new.memory p2 called.Waits tog)) o out
     taken (called.Gave value) tog its o out =
         on_taken (called.Gave value) tog its
-        (tog.together.stand i _ (here same st.hash same st.setting slot_of s.world st.chart st.blocks st.sights (s.calls map) i x new.memory.memory p2 (called.Gave value) tog)) o out
+        (tog.together.stand i _ (here same st.hash same st.setting slot_of s.world st.chart st.blocks st.sights (s.calls map) i x new.memory p2 (called.Gave value) tog)) o out
     taken (called.Unstored value) tog its o out =
         on_taken (called.Unstored value) tog its
-        (tog.together.stand i _ (here same st.hash same st.setting slot_of s.world st.chart st.blocks st.sights (s.calls map) i x new.memory.memory p2 (called.Unstored value) tog)) o out
+        (tog.together.stand i _ (here same st.hash same st.setting slot_of s.world st.chart st.blocks st.sights (s.calls map) i x new.memory p2 (called.Unstored value) tog)) o out
     taken (called.Asks about) tog its o out =
         on_taken (called.Asks about) tog its
-        (tog.together.stand i _ (here same st.hash same st.setting slot_of s.world st.chart st.blocks st.sights (s.calls map) i x new.memory.memory p2 (called.Asks about) tog)) o out
+        (tog.together.stand i _ (here same st.hash same st.setting slot_of s.world st.chart st.blocks st.sights (s.calls map) i x new.memory p2 (called.Asks about) tog)) o out
     taken (called.Done answer) tog its o out = elim ((tog.answers answer refl).1) as (λ _. HasIt (called.Done answer) tog o) [
       | inl none ↦ absurd (subst (IsOut o) none.0 out)
       | inr has ↦ absurd (plain_tells same st.hash tog.went.w2 i (in_slot st.setting (slot_of i)) tog.went.c2 tog.went.blocks2 x.keys _ answer its.0 has.1)
@@ -281,8 +281,8 @@ module _ {K V S : Type 0} (same : K → K → Bool) (hash : K → ℕ) (name : �
           | inr changes ↦ by_once before p takes (did same hash name m known s old new at_old shown map i x under_way said leads p2 end machine_is told_is step OutNow changes.1)
         ]
 
-pub calls_take_in_hand : (K V S : Type 0) (same : K → K → Bool) (hash : K → ℕ) → CallsTakeInHand K V S same hash
-calls_take_in_hand K V S same hash name m known s old new at_old shown map i x under_way said leads none p takes = by (went_to same hash name m known s old new at_old shown map i (OnKey x) under_way said leads).4.did none
+pub calls_take_in_hand : (K V : Type 0) (same : K → K → Bool) (hash : ℕ → K → ℕ) → CallsTakeInHand K V same hash
+calls_take_in_hand K V same hash name m known s old new at_old shown map i x under_way said leads none p takes = by (went_to same hash name m known s old new at_old shown map i (OnKey x) under_way said leads).4.did none
   where
     by : (did_so : DidSo same hash name m known s old new at_old shown map i (OnKey x) under_way said leads (OnKey x)) → OfNoRow same hash name m known s old new at_old shown map i (OnKey x) under_way said leads (OnKey x) did_so
         → (pair_in_calling x.call.stands ≡ None)

@@ -32,9 +32,6 @@ use Rattle.papaya_histories.proofs.Given.Callers.Together.Fits.{map_in_slot}
 use Rattle.papaya_histories.specs.Given.Effects.Effects.{effects_of}
 use Rattle.papaya_histories.specs.Given.Effects.Known.{Known}
 use Rattle.papaya_histories.specs.Given.Effects.declared.acting.Acting.TheVariants.{Call}
-use Rattle.papaya_histories.specs.Given.Executor.IsAt.{Scene, IsAt, slot_of}
-use Rattle.papaya_histories.specs.Given.Executor.Stepping.{StepLeads}
-use Rattle.papaya_histories.specs.Given.Executor.declared.executor.Executor.{Executor}
 use Rattle.papaya_histories.specs.Given.Finishes.Maps.{Standing}
 use Rattle.papaya_histories.specs.Given.Follows.Shows.{Shows}
 use Rattle.papaya_histories.proofs.Given.Follows.Alike.{is_calm, AllCalm}
@@ -43,6 +40,9 @@ use Rattle.papaya_histories.proofs.Given.Follows.Steps.{WentTo, went_to, made_so
 use Rattle.papaya_histories.proofs.Given.Spots.Done.{DidBy, DidMoved, did_moved}
 use Rattle.papaya_histories.proofs.Given.Spots.Steps.{stayed_calm}
 use Rattle.papaya_settles.specs.Owing.{hands_over, leaves_owed, AllLeave, OwesGo, KeepsOwed, TakesOut, PutsOver, Passes, StepsTakeOut}
+use Rattle.papaya_histories.specs.Given.Scenes.Held.{Held, IsAt}
+use Rattle.papaya_histories.specs.Given.Scenes.Scene.{Scene, slot_of}
+use Rattle.papaya_histories.specs.Given.Scenes.Stepping.{StepLeads}
 
 -- calm effects leave what is owed, and hand nothing over
 calm_leaves : (f : Effect) → is_calm f ≡ true → (leaves_owed f ≡ true) × (hands_over f ≡ false)
@@ -57,14 +57,14 @@ pub all_calm : (effects : List Effect) → AllCalm effects → AllLeave effects 
 all_calm [] all = (tt, refl)
 all_calm (f ∷ fs) all = let one = calm_leaves f all.0 in let rest = all_calm fs all.1 in ((one.0, rest.0), ap (λ (q : Bool). q || list_any hands_over fs) one.1 ∙ rest.1)
 
-module _ {K V S : Type 0} (same : K → K → Bool) (hash : K → ℕ) (m : Moment K V) (known : Known) (s : Scene K V) (old new : Executor K V S) (at : IsAt same hash old s)
-    (name : ℕ → List ℕ) (shown : Shows same name m known s) (map i : ℕ) (standing : Standing K) (there : s.maps map ≡ Some standing) (made : Operated s.world.memory new.memory.memory new.memory.changed)
+module _ {K V : Type 0} (same : K → K → Bool) (hash : ℕ → K → ℕ) (m : Moment K V) (known : Known) (s : Scene K V) (old new : Held K V) (at : IsAt same hash old s)
+    (name : ℕ → List ℕ) (shown : Shows same name m known s) (map i : ℕ) (standing : Standing K) (there : s.maps map ≡ Some standing) (made : Operated s.world.memory new.memory new.changed)
     (inside : IsInside (s.world.uses (slot_of i))) (owes : List Thing) where
   abbrev m2 : Mem (Node K V)
-  m2 = new.memory.memory
+  m2 = new.memory
 
   abbrev told : Changed
-  told = new.memory.changed
+  told = new.changed
 
   abbrev w : World (Node K V)
   w = s.world
@@ -159,12 +159,12 @@ module _ {K V S : Type 0} (same : K → K → Bool) (hash : K → ℕ) (m : Mome
         by (inl still) calm = calm_takes calm.calm
         by (inr made) done = by_move made.0 done
 
-module _ {K V S : Type 0} (same : K → K → Bool) (hash : K → ℕ) (name : ℕ → List ℕ) (m : Moment K V) (known : Known) (s : Scene K V) (old new : Executor K V S) (at : IsAt same hash old s)
+module _ {K V : Type 0} (same : K → K → Bool) (hash : ℕ → K → ℕ) (name : ℕ → List ℕ) (m : Moment K V) (known : Known) (s : Scene K V) (old new : Held K V) (at : IsAt same hash old s)
     (shown : Shows same name m known s) (map i : ℕ) (u : UnderWay K V K) (under_way : s.calls map i ≡ Some u) (said : Progress (Node K V)) (leads : StepLeads same hash i said s old new) (owes : List Thing) where
   abbrev to : WentTo same hash name m known s old new at shown map i u under_way said leads
   to = went_to same hash name m known s old new at shown map i u under_way said leads
 
-  its_made : Operated s.world.memory new.memory.memory new.memory.changed
+  its_made : Operated s.world.memory new.memory new.changed
   its_made = made_so same hash name m known s old new at shown map i u under_way said leads
 
   its_inside : IsInside (s.world.uses (slot_of i))
@@ -186,6 +186,6 @@ module _ {K V S : Type 0} (same : K → K → Bool) (hash : K → ℕ) (name : �
       takes_more same hash m known s old new at name shown map i to.0 to.2 its_made its_inside owes _ step.step.went step.step.blocks2 step.step.grown step.step.sights2
   takes_out (OverAll x) (p2, end, machine_is, told_is, inr row) none = absurd none
 
-pub steps_take_out : (K V S : Type 0) (same : K → K → Bool) (hash : K → ℕ) → StepsTakeOut K V S same hash
-steps_take_out K V S same hash name m known s old new at shown map i u here said leads none owes =
+pub steps_take_out : (K V : Type 0) (same : K → K → Bool) (hash : ℕ → K → ℕ) → StepsTakeOut K V same hash
+steps_take_out K V same hash name m known s old new at shown map i u here said leads none owes =
     takes_out same hash name m known s old new at shown map i u here said leads owes u (went_to same hash name m known s old new at shown map i u here said leads).4.did none

@@ -5,14 +5,14 @@ use Rattle.papaya_histories.specs.Given.Schedules.Effects.{with_effects}
 use Rattle.papaya_histories.specs.Given.Schedules.Moment.{Moment}
 use Rattle.papaya_histories.specs.Given.Callers.Together.{UnderWay}
 use Rattle.papaya_histories.specs.Given.Effects.Known.{Known}
-use Rattle.papaya_histories.specs.Given.Executor.IsAt.{Scene}
-use Rattle.papaya_histories.specs.Given.Executor.Replying.{AskLeads, StopLeads, scene_with, unless_stopped}
-use Rattle.papaya_histories.specs.Given.Executor.declared.executor.Executor.{Executor}
 use Rattle.papaya_histories.specs.Given.Finishes.Maps.{with_call}
 use Rattle.papaya_histories.specs.Given.Follows.Calling.{NoneNamed}
 use Rattle.papaya_histories.specs.Given.Follows.Shows.{Shows}
 use Rattle.papaya_histories.specs.Given.Others.Walks.{given_up}
 use Rattle.papaya_settles.specs.Counts.{ShowsCounts}
+use Rattle.papaya_histories.specs.Given.Scenes.Held.{Held}
+use Rattle.papaya_histories.specs.Given.Scenes.Replying.{AskLeads, StopLeads, scene_with, unless_stopped}
+use Rattle.papaya_histories.specs.Given.Scenes.Scene.{Scene}
 
 module _ (K V : Type 0) where
   -- So it is as long as calls are as they were, of the moment and under way: where a row begins on a slot, where the making or the end of a map begins, and
@@ -27,17 +27,17 @@ module _ (K V : Type 0) where
       (name : ℕ → List ℕ) (m : Moment K V) (s t : Scene K V) → ShowsCounts name m s → t.calls ≡ s.calls
       → (acted : Option ℕ) (effects : List Effect) → ShowsCounts name (with_effects None acted effects m) t
 
-module _ (K V S : Type 0) (same : K → K → Bool) (hash : K → ℕ) where
+module _ (K V : Type 0) (same : K → K → Bool) (hash : ℕ → K → ℕ) where
   -- A walk goes on to its next pair,
   abbrev pub WalksGoOnCounts : Type 0
   WalksGoOnCounts =
-      (name : ℕ → List ℕ) (m : Moment K V) (s : Scene K V) (old new : Executor K V S) → ShowsCounts name m s
+      (name : ℕ → List ℕ) (m : Moment K V) (s : Scene K V) (old new : Held K V) → ShowsCounts name m s
       → (i : ℕ) (leads : AskLeads same hash i true s old new) (map : ℕ) (u : UnderWay K V K) (here : s.calls map i ≡ Some u) → ShowsCounts name m (scene_with map i (leads map u here).0 s)
 
   -- or is given up: no call that is under way then has its name.
   abbrev pub WalksStopCounts : Type 0
   WalksStopCounts =
-      (name : ℕ → List ℕ) (m : Moment K V) (known : Known) (s : Scene K V) (old new : Executor K V S) → Shows same name m known s → ShowsCounts name m s
+      (name : ℕ → List ℕ) (m : Moment K V) (known : Known) (s : Scene K V) (old new : Held K V) → Shows same name m known s → ShowsCounts name m s
       → (i : ℕ) (stopped : Bool) → StopLeads same hash i stopped s old new → (map : ℕ) (u : UnderWay K V K) → s.calls map i ≡ Some u
       → (let after = record s { calls = with_call s.calls map i (unless_stopped stopped u) } in
       (stopped ≡ true → NoneNamed name (name i) after) → ShowsCounts name (given_up (name i) stopped m) after)

@@ -14,8 +14,8 @@ use Rattle.papaya_histories.specs.Given.Schedules.Entry.{ByCall, acting}
 use Rattle.papaya_histories.specs.Given.Schedules.Moment.{UnderWay as CallThere, Moment}
 use Rattle.papaya_histories.specs.Given.Schedules.Views.{call_of}
 use Rattle.papaya_histories.specs.Given.Callers.Together.{UnderWay}
-use Rattle.papaya_histories.specs.Given.Executor.IsAt.{Scene, slot_of}
 use Rattle.papaya_histories.specs.Given.Finishes.Machines.{machine_of}
+use Rattle.papaya_histories.specs.Given.Scenes.Scene.{Scene, slot_of}
 
 -- a call on one key is about to count the pair that it has stored or removed
 abbrev pub counts_in_calling : Calling → Bool

@@ -36,14 +36,14 @@ use Rattle.papaya_histories.specs.Given.Effects.Known.{Known}
 use Rattle.papaya_histories.specs.Given.Effects.declared.acting.Acting.TheVariants.{Call}
 use Rattle.papaya_histories.specs.Given.Effects.declared.role.Role.{Role}
 use Rattle.papaya_histories.specs.Given.Effects.declared.role.Role.TheVariants as role
-use Rattle.papaya_histories.specs.Given.Executor.IsAt.{Scene, IsAt}
-use Rattle.papaya_histories.specs.Given.Executor.Stepping.{StepLeads}
-use Rattle.papaya_histories.specs.Given.Executor.declared.executor.Executor.{Executor}
 use Rattle.papaya_histories.specs.Given.Finishes.Machines.{machine_of}
 use Rattle.papaya_histories.specs.Given.Follows.Shows.{Shows}
 use Rattle.papaya_histories.specs.Given.Follows.Steps.{IsOfNoRow}
 use Rattle.papaya_histories.specs.Given.Hands.Rows.{ShowsRows}
 use Rattle.papaya_settles.specs.Entries.{ShowsEntries}
+use Rattle.papaya_histories.specs.Given.Scenes.Held.{Held, IsAt}
+use Rattle.papaya_histories.specs.Given.Scenes.Scene.{Scene}
+use Rattle.papaya_histories.specs.Given.Scenes.Stepping.{StepLeads}
 
 -- the word of a block that a row is to retire, or to put behind another one, which has this word
 pub data Due : Type 0 where
@@ -119,10 +119,10 @@ abbrev pub OwnAreMade : {T : Type 0} → Known → World T → Type 0
 OwnAreMade known w = (b turn : ℕ) (shape : TableShape) → known.roles b ≡ role.OwnTable turn shape → (j : ℕ) × (w.hand b ≡ Making j)
 
 -- The promise, of each step of a row within a call, where that is so.
-abbrev pub RowsTellDue : (K V S : Type 0) (same : K → K → Bool) (hash : K → ℕ) → Type 0
-RowsTellDue K V S same hash =
-    (name : ℕ → List ℕ) (m : Moment K V) (known : Known) (s : Scene K V) (old new : Executor K V S) → IsAt same hash old s → Shows same name m known s → ShowsRows s → ShowsEntries s → OwnAreMade known s.world
+abbrev pub RowsTellDue : (K V : Type 0) (same : K → K → Bool) (hash : ℕ → K → ℕ) → Type 0
+RowsTellDue K V same hash =
+    (name : ℕ → List ℕ) (m : Moment K V) (known : Known) (s : Scene K V) (old new : Held K V) → IsAt same hash old s → Shows same name m known s → ShowsRows s → ShowsEntries s → OwnAreMade known s.world
     → (map i : ℕ) (u : UnderWay K V K) (here : s.calls map i ≡ Some u) (said : Progress (Node K V)) (leads : StepLeads same hash i said s old new)
     → (let to = leads map u here in
-    (IsOfNoRow same old.batch_size old.roots s.world s.maps s.calls s.makers s.enders map to.0 i new.memory.memory to.4.w2 to.4.maps2 to.4.next u to.1 said to.4.did → ⊥)
-    → RowTells i map known (effects_of (Call i map) known new.memory.changed) (due_in_row (machine_of u)) (due_in_row to.1))
+    (IsOfNoRow same old.batch_size old.roots s.world s.maps s.calls s.makers s.enders map to.0 i new.memory to.4.w2 to.4.maps2 to.4.next u to.1 said to.4.did → ⊥)
+    → RowTells i map known (effects_of (Call i map) known new.changed) (due_in_row (machine_of u)) (due_in_row to.1))

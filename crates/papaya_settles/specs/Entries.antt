@@ -16,21 +16,20 @@ use Rattle.papaya_histories.specs.Given.Raw.declared.machines.progress.Progress.
 use Rattle.papaya_histories.specs.Given.Schedules.Moment.{Moment}
 use Rattle.papaya_histories.specs.Given.Callers.Together.{UnderWay}
 use Rattle.papaya_histories.specs.Given.Effects.Known.{Known}
-use Rattle.papaya_histories.specs.Given.Executor.Ending.{EndingLeads, ending_begun}
-use Rattle.papaya_histories.specs.Given.Executor.IsAt.{Scene, IsAt, at_first, slot_of, work_of}
-use Rattle.papaya_histories.specs.Given.Executor.Making.{MakingLeads}
-use Rattle.papaya_histories.specs.Given.Executor.OnSlots.{MayBegin, RowBegins, RowLeads}
-use Rattle.papaya_histories.specs.Given.Executor.Stepping.{StepLeads, scene_after}
-use Rattle.papaya_histories.specs.Given.Executor.declared.executor.Executor.{Executor}
-use Rattle.papaya_histories.specs.Given.Executor.declared.row.RowTold.{RowTold}
-use Rattle.papaya_histories.specs.Given.Executor.declared.row.SlotCall.{SlotCall}
-use Rattle.papaya_histories.specs.Given.Executor.declared.row.SlotRow.{SlotRow}
-use Rattle.papaya_histories.specs.Given.Executor.declared.worker.Work.TheVariants.{OnSlot}
+use Rattle.papaya_histories.specs.Given.Scenes.declared.row.RowTold.{RowTold}
+use Rattle.papaya_histories.specs.Given.Scenes.declared.row.SlotCall.{SlotCall}
+use Rattle.papaya_histories.specs.Given.Scenes.declared.row.SlotRow.{SlotRow}
 use Rattle.papaya_histories.specs.Given.Finishes.Endings.{Finishing}
 use Rattle.papaya_histories.specs.Given.Finishes.Makings.{Beginning}
 use Rattle.papaya_histories.specs.Given.Finishes.Maps.{Standing, with_call}
 use Rattle.papaya_histories.specs.Given.Follows.Shows.{Shows}
 use Rattle.papaya_histories.specs.Given.Hands.Rows.{ShowsRows}
+use Rattle.papaya_histories.specs.Given.Scenes.Ending.{EndingLeads, ending_begun}
+use Rattle.papaya_histories.specs.Given.Scenes.Held.{Held, IsAt}
+use Rattle.papaya_histories.specs.Given.Scenes.Making.{MakingLeads}
+use Rattle.papaya_histories.specs.Given.Scenes.OnSlots.{RowBegins, RowLeads}
+use Rattle.papaya_histories.specs.Given.Scenes.Scene.{IsOnSlot, Scene, at_first}
+use Rattle.papaya_histories.specs.Given.Scenes.Stepping.{StepLeads, scene_after}
 
 -- somebody has it: it was made, or is linked, or was taken out of what it was in
 abbrev pub IsSomebodys : Hand → Type 0
@@ -77,36 +76,36 @@ CallsGoOnEntries K V =
 abbrev pub EndingsBeginEntries : Type 0 → Type 0 → Type 0
 EndingsBeginEntries K V = (s : Scene K V) → ShowsEntries s → (map i : ℕ) (standing : Standing K) → ShowsEntries (ending_begun map i standing s)
 
-module _ (K V S : Type 0) (same : K → K → Bool) (hash : K → ℕ) where
+module _ (K V : Type 0) (same : K → K → Bool) (hash : ℕ → K → ℕ) where
   -- after each step of a call,
   abbrev pub CallsKeepEntries : Type 0
   CallsKeepEntries =
-      (name : ℕ → List ℕ) (m : Moment K V) (known : Known) (s : Scene K V) (old new : Executor K V S) → IsAt same hash old s → Shows same name m known s → ShowsRows s → ShowsEntries s
+      (name : ℕ → List ℕ) (m : Moment K V) (known : Known) (s : Scene K V) (old new : Held K V) → IsAt same hash old s → Shows same name m known s → ShowsRows s → ShowsEntries s
       → (map i : ℕ) (u : UnderWay K V K) (here : s.calls map i ≡ Some u) (said : Progress (Node K V)) (leads : StepLeads same hash i said s old new)
-      → (let to = leads map u here in ShowsEntries (scene_after same hash s old new map i to.0 u to.1 said to.4))
+      → (let to = leads map u here in ShowsEntries (scene_after same s old new map i to.0 u to.1 said to.4))
 
   -- where a row begins on a slot, and after a step of it,
   abbrev pub RowsBeginEntries : Type 0
   RowsBeginEntries =
-      (s : Scene K V) (old new : Executor K V S) → IsAt same hash old s → ShowsEntries s
-      → (called : SlotCall) (i : ℕ) (may : MayBegin old (slot_of i) called) (leads : RowBegins same hash called i s old new)
-      → (let to = (leads may).3 in ShowsEntries (record s { world = to.0; maps = to.2 }))
+      (s : Scene K V) (old new : Held K V) → IsAt same hash old s → ShowsEntries s
+      → (called : SlotCall) (i : ℕ) (leads : RowBegins same hash called i s old new)
+      → (let to = leads.2 in ShowsEntries (record s { world = to.0; maps = to.2 }))
 
   abbrev pub RowsKeepEntries : Type 0
   RowsKeepEntries =
-      (s : Scene K V) (old new : Executor K V S) → IsAt same hash old s → ShowsEntries s
-      → (i : ℕ) (told : RowTold (Node K V)) (leads : RowLeads same hash i told s old new) (row : SlotRow) (here : work_of old i ≡ Some (OnSlot row))
-      → (let to = (leads row here).4 in ShowsEntries (record s { world = to.0; maps = to.2 }))
+      (s : Scene K V) (old new : Held K V) → IsAt same hash old s → ShowsEntries s
+      → (i : ℕ) (told : RowTold (Node K V)) (leads : RowLeads same hash i told s old new) (row : SlotRow) (here : IsOnSlot s i row)
+      → (let to = (leads row here).2 in ShowsEntries (record s { world = to.0; maps = to.2 }))
 
   -- after a step of the making of a map, and of the end of one.
   abbrev pub MakingsKeepEntries : Type 0
   MakingsKeepEntries =
-      (s : Scene K V) (old new : Executor K V S) → IsAt same hash old s → ShowsEntries s
+      (s : Scene K V) (old new : Held K V) → IsAt same hash old s → ShowsEntries s
       → (i : ℕ) (told : Making Setting) (leads : MakingLeads same hash i told s old new) (b : Beginning K) (here : s.makers i ≡ Some b)
       → (let to = leads b here in ShowsEntries (record s { world = to.2.step.w2 }))
 
   abbrev pub EndingsKeepEntries : Type 0
   EndingsKeepEntries =
-      (s : Scene K V) (old new : Executor K V S) → IsAt same hash old s → ShowsEntries s
+      (s : Scene K V) (old new : Held K V) → IsAt same hash old s → ShowsEntries s
       → (i : ℕ) (told : Settled (Node K V)) (leads : EndingLeads same hash i told s old new) (f : Finishing K V) (here : s.enders i ≡ Some f)
       → (let to = leads f here in ShowsEntries (record s { world = to.2.w2 }))

@@ -20,7 +20,7 @@ pub use Rattle.papaya_histories.specs.Given.Finishes
 pub use Rattle.papaya_histories.specs.Given.Runs
 pub use Rattle.papaya_histories.specs.Given.Schedules
 pub use Rattle.papaya_histories.specs.Given.Effects
-pub use Rattle.papaya_histories.specs.Given.Executor
+pub use Rattle.papaya_histories.specs.Given.Scenes
 pub use Rattle.papaya_histories.specs.Given.Follows
 pub use Rattle.papaya_histories.specs.Given.Hands
 pub use Rattle.papaya_histories.specs.Given.Others

@@ -21,10 +21,10 @@ use Rattle.papaya_histories.specs.Given.Callers.Together.{UnderWay}
 use Rattle.papaya_histories.specs.Given.Effects.Known.{Known}
 use Rattle.papaya_histories.specs.Given.Effects.declared.role.Role.{Role}
 use Rattle.papaya_histories.specs.Given.Effects.declared.role.Role.TheVariants as role
-use Rattle.papaya_histories.specs.Given.Executor.IsAt.{Scene}
 use Rattle.papaya_histories.specs.Given.Finishes.Machines.{machine_of}
 use Rattle.papaya_settles.specs.Due.{due_in_settle, word_due}
 use Rattle.papaya_settles.specs.InHand.{pair_in_calling, pair_in_sweeping}
+use Rattle.papaya_histories.specs.Given.Scenes.Scene.{Scene}
 
 -- what a block is, by what is noted of it: a pair, or a table, of a map
 abbrev pub thing_as : Role → List Thing

@@ -16,47 +16,47 @@ use Rattle.papaya_histories.specs.Given.Callers.Together.{UnderWay}
 use Rattle.papaya_histories.specs.Given.Effects.Effects.{effects_of}
 use Rattle.papaya_histories.specs.Given.Effects.Known.{Known}
 use Rattle.papaya_histories.specs.Given.Effects.declared.acting.Acting.TheVariants.{Call as OfCall}
-use Rattle.papaya_histories.specs.Given.Executor.IsAt.{Scene, IsAt, at_first}
-use Rattle.papaya_histories.specs.Given.Executor.Replying.{AskLeads, StopLeads, scene_with, unless_stopped}
-use Rattle.papaya_histories.specs.Given.Executor.Stepping.{StepLeads, scene_after}
-use Rattle.papaya_histories.specs.Given.Executor.declared.executor.Executor.{Executor}
 use Rattle.papaya_histories.specs.Given.Finishes.Maps.{with_call as with_in}
 use Rattle.papaya_histories.specs.Given.Follows.Calling.{NoneNamed, told, come_to}
 use Rattle.papaya_histories.specs.Given.Follows.Calls.{ShowsCalls}
 use Rattle.papaya_histories.specs.Given.Moments.Whole.{ShowsWhole}
 use Rattle.papaya_histories.specs.Given.Others.Walks.{given_up}
 use Rattle.papaya_settles.specs.Hand.{ShowsOwed}
+use Rattle.papaya_histories.specs.Given.Scenes.Held.{Held, IsAt}
+use Rattle.papaya_histories.specs.Given.Scenes.Replying.{AskLeads, StopLeads, scene_with, unless_stopped}
+use Rattle.papaya_histories.specs.Given.Scenes.Scene.{Scene, at_first}
+use Rattle.papaya_histories.specs.Given.Scenes.Stepping.{StepLeads, scene_after}
 
 -- each call whose row is under way hands something over
 abbrev pub HandsTold : {K V : Type 0} → (ℕ → List ℕ) → Moment K V → Scene K V → Type 0
 HandsTold {K} {V} name m s =
     (map i : ℕ) (u : UnderWay K V K) → s.calls map i ≡ Some u → (s.world.row i ≡ Rests → ⊥) → (c : CallThere K V) → call_of (name i) m ≡ Some c → is_handing c ≡ true
 
-module _ (K V S : Type 0) (same : K → K → Bool) (hash : K → ℕ) where
+module _ (K V : Type 0) (same : K → K → Bool) (hash : ℕ → K → ℕ) where
   -- The promise: so it is after each step of a call, whoever's, where calls owed what they had in hand.
   abbrev pub CallsKeepHanding : Type 0
   CallsKeepHanding =
-      (name : ℕ → List ℕ) (m : Moment K V) (known : Known) (s : Scene K V) (old new : Executor K V S) → IsAt same hash old s → ShowsWhole same name m known s → ShowsOwed name m known s → HandsTold name m s
+      (name : ℕ → List ℕ) (m : Moment K V) (known : Known) (s : Scene K V) (old new : Held K V) → IsAt same hash old s → ShowsWhole same name m known s → ShowsOwed name m known s → HandsTold name m s
       → (map i : ℕ) (u : UnderWay K V K) (here : s.calls map i ≡ Some u) (said : Progress (Node K V)) (leads : StepLeads same hash i said s old new)
       → (let to = leads map u here in
-      HandsTold name (with_effects (Some (name i)) (Some map) (effects_of (OfCall i map) known new.memory.changed) m) (scene_after same hash s old new map i to.0 u to.1 said to.4))
+      HandsTold name (with_effects (Some (name i)) (Some map) (effects_of (OfCall i map) known new.changed) m) (scene_after same s old new map i to.0 u to.1 said to.4))
 
   -- What is no call leaves it as it was, where calls owe what they have in hand: a row on a slot, the making of a map, and the end of one.
   abbrev pub OthersLeaveHanding : Type 0
   OthersLeaveHanding =
-      (name : ℕ → List ℕ) (m v : Moment K V) (known : Known) (s t : Scene K V) (old new : Executor K V S) → IsAt same hash old s → IsAt same hash new t → ShowsOwed name m known s → HandsTold name m s
+      (name : ℕ → List ℕ) (m v : Moment K V) (known : Known) (s t : Scene K V) (old new : Held K V) → IsAt same hash old s → IsAt same hash new t → ShowsOwed name m known s → HandsTold name m s
       → v.calls ≡ m.calls → t.calls ≡ s.calls → HandsTold name v t
 
   -- So does a walk that goes on to its next pair,
   abbrev pub WalksGoOnHanding : Type 0
   WalksGoOnHanding =
-      (name : ℕ → List ℕ) (m : Moment K V) (s : Scene K V) (old new : Executor K V S) → HandsTold name m s
+      (name : ℕ → List ℕ) (m : Moment K V) (s : Scene K V) (old new : Held K V) → HandsTold name m s
       → (i : ℕ) (leads : AskLeads same hash i true s old new) (map : ℕ) (u : UnderWay K V K) (here : s.calls map i ≡ Some u) → HandsTold name m (scene_with map i (leads map u here).0 s)
 
   -- or is given up: no call that is under way then has its name.
   abbrev pub WalksStopHanding : Type 0
   WalksStopHanding =
-      (name : ℕ → List ℕ) (m : Moment K V) (s : Scene K V) (old new : Executor K V S) → ShowsCalls same name m s.calls → HandsTold name m s
+      (name : ℕ → List ℕ) (m : Moment K V) (s : Scene K V) (old new : Held K V) → ShowsCalls same name m s.calls → HandsTold name m s
       → (i : ℕ) (stopped : Bool) → StopLeads same hash i stopped s old new → (map : ℕ) (u : UnderWay K V K) → s.calls map i ≡ Some u
       → (let after = record s { calls = with_in s.calls map i (unless_stopped stopped u) } in
       (stopped ≡ true → NoneNamed name (name i) after) → HandsTold name (given_up (name i) stopped m) after)

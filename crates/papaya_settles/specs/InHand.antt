@@ -23,12 +23,12 @@ use Rattle.papaya_histories.specs.Given.Effects.Effects.{effects_of}
 use Rattle.papaya_histories.specs.Given.Effects.Known.{Known}
 use Rattle.papaya_histories.specs.Given.Effects.declared.acting.Acting.TheVariants.{Call}
 use Rattle.papaya_histories.specs.Given.Effects.declared.role.Role.TheVariants as role
-use Rattle.papaya_histories.specs.Given.Executor.IsAt.{Scene, IsAt}
-use Rattle.papaya_histories.specs.Given.Executor.Stepping.{StepLeads}
-use Rattle.papaya_histories.specs.Given.Executor.declared.executor.Executor.{Executor}
 use Rattle.papaya_histories.specs.Given.Follows.Shows.{Shows}
 use Rattle.papaya_histories.specs.Given.Follows.Steps.{IsOfNoRow}
 use Rattle.papaya_settles.specs.Due.{due_in_disposing, word_due}
+use Rattle.papaya_histories.specs.Given.Scenes.Held.{Held, IsAt}
+use Rattle.papaya_histories.specs.Given.Scenes.Scene.{Scene}
+use Rattle.papaya_histories.specs.Given.Scenes.Stepping.{StepLeads}
 
 -- the word of the pair that it disposes of
 abbrev pub pair_in_disposing : Dispose → Disposing → Option ℕ
@@ -53,42 +53,42 @@ abbrev pub TakesPair : List Effect → ℕ → Type 0
 TakesPair effects p = (effects ≡ Removed p ∷ []) ⊎ ((n : ℕ) × (s : Spot) × (effects ≡ Replaced p ∷ Stored n s ∷ []))
 
 -- The promise, of a step of a call on one key that is none of a row: if it takes a pair out of its map, then the call had none in hand, and has that one after it.
-abbrev pub CallsTakeInHand : (K V S : Type 0) (same : K → K → Bool) (hash : K → ℕ) → Type 0
-CallsTakeInHand K V S same hash =
-    (name : ℕ → List ℕ) (m : Moment K V) (known : Known) (s : Scene K V) (old new : Executor K V S) → IsAt same hash old s → Shows same name m known s
+abbrev pub CallsTakeInHand : (K V : Type 0) (same : K → K → Bool) (hash : ℕ → K → ℕ) → Type 0
+CallsTakeInHand K V same hash =
+    (name : ℕ → List ℕ) (m : Moment K V) (known : Known) (s : Scene K V) (old new : Held K V) → IsAt same hash old s → Shows same name m known s
     → (map i : ℕ) (x : CallOnKey K V K) (here : s.calls map i ≡ Some (OnKey x)) (said : Progress (Node K V)) (leads : StepLeads same hash i said s old new)
     → (let to = leads map (OnKey x) here in
-    IsOfNoRow same old.batch_size old.roots s.world s.maps s.calls s.makers s.enders map to.0 i new.memory.memory to.4.w2 to.4.maps2 to.4.next (OnKey x) to.1 said to.4.did
-    → (p : ℕ) → TakesPair (effects_of (Call i map) known new.memory.changed) p
+    IsOfNoRow same old.batch_size old.roots s.world s.maps s.calls s.makers s.enders map to.0 i new.memory to.4.w2 to.4.maps2 to.4.next (OnKey x) to.1 said to.4.did
+    → (p : ℕ) → TakesPair (effects_of (Call i map) known new.changed) p
     → (pair_in_calling x.call.stands ≡ None)
     × (p2 : KeyCall K V K) × (to.1 ≡ kinds.Key p2) × (word : ℕ) × (pair_in_calling p2.stands ≡ Some word) × (known.roles (block_in word) ≡ role.Pair p))
 
 -- The promise, of a step that is none of a row, of a call that has a pair in hand: it has that one in hand still.
-abbrev pub CallsHoldTheirs : (K V S : Type 0) (same : K → K → Bool) (hash : K → ℕ) → Type 0
-CallsHoldTheirs K V S same hash =
-    (name : ℕ → List ℕ) (m : Moment K V) (known : Known) (s : Scene K V) (old new : Executor K V S) → IsAt same hash old s → Shows same name m known s
+abbrev pub CallsHoldTheirs : (K V : Type 0) (same : K → K → Bool) (hash : ℕ → K → ℕ) → Type 0
+CallsHoldTheirs K V same hash =
+    (name : ℕ → List ℕ) (m : Moment K V) (known : Known) (s : Scene K V) (old new : Held K V) → IsAt same hash old s → Shows same name m known s
     → (map i : ℕ) (x : CallOnKey K V K) (here : s.calls map i ≡ Some (OnKey x)) (said : Progress (Node K V)) (leads : StepLeads same hash i said s old new)
     → (let to = leads map (OnKey x) here in
-    IsOfNoRow same old.batch_size old.roots s.world s.maps s.calls s.makers s.enders map to.0 i new.memory.memory to.4.w2 to.4.maps2 to.4.next (OnKey x) to.1 said to.4.did
+    IsOfNoRow same old.batch_size old.roots s.world s.maps s.calls s.makers s.enders map to.0 i new.memory to.4.w2 to.4.maps2 to.4.next (OnKey x) to.1 said to.4.did
     → (word : ℕ) → pair_in_calling x.call.stands ≡ Some word
     → (p2 : KeyCall K V K) × (to.1 ≡ kinds.Key p2) × (word2 : ℕ) × (pair_in_calling p2.stands ≡ Some word2) × (block_in word2 ≡ block_in word))
 
 -- The promise, of a step of a sweep that is none of a row: if it removes a pair, then it is about to count that.
-abbrev pub SweepsTakeInHand : (K V S : Type 0) (same : K → K → Bool) (hash : K → ℕ) → Type 0
-SweepsTakeInHand K V S same hash =
-    (name : ℕ → List ℕ) (m : Moment K V) (known : Known) (s : Scene K V) (old new : Executor K V S) → IsAt same hash old s → Shows same name m known s
+abbrev pub SweepsTakeInHand : (K V : Type 0) (same : K → K → Bool) (hash : ℕ → K → ℕ) → Type 0
+SweepsTakeInHand K V same hash =
+    (name : ℕ → List ℕ) (m : Moment K V) (known : Known) (s : Scene K V) (old new : Held K V) → IsAt same hash old s → Shows same name m known s
     → (map i : ℕ) (x : CallOverAll) (here : s.calls map i ≡ Some (OverAll x)) (said : Progress (Node K V)) (leads : StepLeads same hash i said s old new)
     → (let to = leads map (OverAll x) here in
-    IsOfNoRow same old.batch_size old.roots s.world s.maps s.calls s.makers s.enders map to.0 i new.memory.memory to.4.w2 to.4.maps2 to.4.next (OverAll x) to.1 said to.4.did
-    → (p : ℕ) → effects_of (Call i map) known new.memory.changed ≡ Removed p ∷ []
+    IsOfNoRow same old.batch_size old.roots s.world s.maps s.calls s.makers s.enders map to.0 i new.memory to.4.w2 to.4.maps2 to.4.next (OverAll x) to.1 said to.4.did
+    → (p : ℕ) → effects_of (Call i map) known new.changed ≡ Removed p ∷ []
     → (p2 : Sweep) × (to.1 ≡ kinds.Sweep p2) × (word : ℕ) × (p2.stands ≡ sweeping.Counts word) × (known.roles (block_in word) ≡ role.Pair p))
 
 -- And one that has a pair in hand has that one in hand still.
-abbrev pub SweepsHoldTheirs : (K V S : Type 0) (same : K → K → Bool) (hash : K → ℕ) → Type 0
-SweepsHoldTheirs K V S same hash =
-    (name : ℕ → List ℕ) (m : Moment K V) (known : Known) (s : Scene K V) (old new : Executor K V S) → IsAt same hash old s → Shows same name m known s
+abbrev pub SweepsHoldTheirs : (K V : Type 0) (same : K → K → Bool) (hash : ℕ → K → ℕ) → Type 0
+SweepsHoldTheirs K V same hash =
+    (name : ℕ → List ℕ) (m : Moment K V) (known : Known) (s : Scene K V) (old new : Held K V) → IsAt same hash old s → Shows same name m known s
     → (map i : ℕ) (x : CallOverAll) (here : s.calls map i ≡ Some (OverAll x)) (said : Progress (Node K V)) (leads : StepLeads same hash i said s old new)
     → (let to = leads map (OverAll x) here in
-    IsOfNoRow same old.batch_size old.roots s.world s.maps s.calls s.makers s.enders map to.0 i new.memory.memory to.4.w2 to.4.maps2 to.4.next (OverAll x) to.1 said to.4.did
+    IsOfNoRow same old.batch_size old.roots s.world s.maps s.calls s.makers s.enders map to.0 i new.memory to.4.w2 to.4.maps2 to.4.next (OverAll x) to.1 said to.4.did
     → (word : ℕ) → pair_in_sweeping x.sweep.stands ≡ Some word
     → (p2 : Sweep) × (to.1 ≡ kinds.Sweep p2) × (word2 : ℕ) × (pair_in_sweeping p2.stands ≡ Some word2) × (block_in word2 ≡ block_in word))

@@ -19,31 +19,31 @@ use Rattle.papaya_histories.specs.Given.Callers.Together.{UnderWay, IsBegun}
 use Rattle.papaya_histories.specs.Given.Effects.Effects.{effects_of}
 use Rattle.papaya_histories.specs.Given.Effects.Known.{Known}
 use Rattle.papaya_histories.specs.Given.Effects.declared.acting.Acting.TheVariants as acts
-use Rattle.papaya_histories.specs.Given.Executor.IsAt.{Scene, IsAt, at_first}
-use Rattle.papaya_histories.specs.Given.Executor.Replying.{scene_with}
-use Rattle.papaya_histories.specs.Given.Executor.Stepping.{StepLeads, scene_after}
-use Rattle.papaya_histories.specs.Given.Executor.declared.executor.Executor.{Executor}
 use Rattle.papaya_histories.specs.Given.Finishes.Machines.{machine_of}
 use Rattle.papaya_histories.specs.Given.Follows.Calling.{NoneNamed, told, come_to}
 use Rattle.papaya_histories.specs.Given.Moments.Whole.{ShowsWhole}
 use Rattle.papaya_settles.specs.Counts.{counts_in_calling, is_to_count, ShowsCounts, shard_for, FindCounts}
+use Rattle.papaya_histories.specs.Given.Scenes.Held.{Held, IsAt}
+use Rattle.papaya_histories.specs.Given.Scenes.Replying.{scene_with}
+use Rattle.papaya_histories.specs.Given.Scenes.Scene.{Scene, at_first}
+use Rattle.papaya_histories.specs.Given.Scenes.Stepping.{StepLeads, scene_after}
 
 -- The promises: nobody has anything to count as a run begins,
 abbrev pub CountsBegin : Type 0 → Type 0 → Type 0
 CountsBegin K V = (roots : ℕ) (name : ℕ → List ℕ) → ShowsCounts {K = K} {V = V} name start (at_first roots)
 
-module _ (K V S : Type 0) (same : K → K → Bool) (hash : K → ℕ) where
+module _ (K V : Type 0) (same : K → K → Bool) (hash : ℕ → K → ℕ) where
   -- A step of a call that counts finds that it has something to count, and counts in its shard; it is so after the step, whoever takes it, and a call that has
   -- ended by it has nothing left to count.
   abbrev pub CallsKeepCounts : Type 0
   CallsKeepCounts =
-      (name : ℕ → List ℕ) (m : Moment K V) (known : Known) (s : Scene K V) (old new : Executor K V S) → IsAt same hash old s → ShowsWhole same name m known s → ShowsCounts name m s
+      (name : ℕ → List ℕ) (m : Moment K V) (known : Known) (s : Scene K V) (old new : Held K V) → IsAt same hash old s → ShowsWhole same name m known s → ShowsCounts name m s
       → (map i : ℕ) (u : UnderWay K V K) (here : s.calls map i ≡ Some u) (said : Progress (Node K V)) (leads : StepLeads same hash i said s old new)
       → (let to = leads map u here in
-      let effects = effects_of (acts.Call i map) known new.memory.changed in
+      let effects = effects_of (acts.Call i map) known new.changed in
       let v = with_effects (Some (name i)) (Some map) effects m in
       FindCounts (shard_for i to.0.setting) (name i) map effects m
-      × ShowsCounts name v (scene_after same hash s old new map i to.0 u to.1 said to.4)
+      × ShowsCounts name v (scene_after same s old new map i to.0 u to.1 said to.4)
       × (to.4.next ≡ None → (c : CallThere K V) → call_of (name i) v ≡ Some c → c.gained + c.lost ≡ 0))
 
 module _ (K V : Type 0) where

@@ -18,10 +18,6 @@ use Rattle.papaya_histories.specs.Given.Callers.Together.{UnderWay}
 use Rattle.papaya_histories.specs.Given.Effects.Effects.{effects_of, known_after}
 use Rattle.papaya_histories.specs.Given.Effects.Known.{Known, nothing_known}
 use Rattle.papaya_histories.specs.Given.Effects.declared.acting.Acting.TheVariants.{Call as OfCall}
-use Rattle.papaya_histories.specs.Given.Executor.IsAt.{Scene, IsAt, at_first}
-use Rattle.papaya_histories.specs.Given.Executor.Replying.{AskLeads, StopLeads, scene_with, unless_stopped}
-use Rattle.papaya_histories.specs.Given.Executor.Stepping.{StepLeads, scene_after}
-use Rattle.papaya_histories.specs.Given.Executor.declared.executor.Executor.{Executor}
 use Rattle.papaya_histories.specs.Given.Finishes.Machines.{machine_of}
 use Rattle.papaya_histories.specs.Given.Finishes.Maps.{with_call as with_in}
 use Rattle.papaya_histories.specs.Given.Follows.Calling.{NoneNamed, told, come_to}
@@ -34,30 +30,34 @@ use Rattle.papaya_settles.specs.Due.{OwnAreMade}
 use Rattle.papaya_settles.specs.Entries.{ShowsEntries}
 use Rattle.papaya_settles.specs.Hand.{in_hand, NotesInHand, SameInHand, ShowsOwed}
 use Rattle.papaya_settles.specs.Owing.{OwesGo, FindsOwed}
+use Rattle.papaya_histories.specs.Given.Scenes.Held.{Held, IsAt}
+use Rattle.papaya_histories.specs.Given.Scenes.Replying.{AskLeads, StopLeads, scene_with, unless_stopped}
+use Rattle.papaya_histories.specs.Given.Scenes.Scene.{Scene, at_first}
+use Rattle.papaya_histories.specs.Given.Scenes.Stepping.{StepLeads, scene_after}
 
-module _ (K V S : Type 0) (same : K → K → Bool) (hash : K → ℕ) where
+module _ (K V : Type 0) (same : K → K → Bool) (hash : ℕ → K → ℕ) where
   -- What a call has in hand goes with the effects of its step, and is noted after it; and it has none in hand once it has ended.
-  abbrev pub HandGoes : (m : Moment K V) (known : Known) (s : Scene K V) (old new : Executor K V S) (map i : ℕ) (u : UnderWay K V K) (said : Progress (Node K V))
+  abbrev pub HandGoes : (m : Moment K V) (known : Known) (s : Scene K V) (old new : Held K V) (map i : ℕ) (u : UnderWay K V K) (said : Progress (Node K V))
       → s.calls map i ≡ Some u → StepLeads same hash i said s old new → Type 0
   HandGoes m known s old new map i u said here leads =
       let to = leads map u here in
-      OwesGo m (effects_of (OfCall i map) known new.memory.changed) (in_hand known (machine_of u)) (in_hand known to.1) × NotesInHand known to.1
+      OwesGo m (effects_of (OfCall i map) known new.changed) (in_hand known (machine_of u)) (in_hand known to.1) × NotesInHand known to.1
       × (to.4.next ≡ None → in_hand known to.1 ≡ [])
 
   -- The promise, of a step of a row within a call: what the call has in hand goes so.
   abbrev pub RowsHandOver : Type 0
   RowsHandOver =
-      (name : ℕ → List ℕ) (m : Moment K V) (known : Known) (s : Scene K V) (old new : Executor K V S)
+      (name : ℕ → List ℕ) (m : Moment K V) (known : Known) (s : Scene K V) (old new : Held K V)
       → IsAt same hash old s → Shows same name m known s → ShowsRows s → ShowsEntries s → OwnAreMade known s.world
       → (map i : ℕ) (u : UnderWay K V K) (here : s.calls map i ≡ Some u) (said : Progress (Node K V)) (leads : StepLeads same hash i said s old new) → NotesInHand known (machine_of u)
       → (let to = leads map u here in
-      (IsOfNoRow same old.batch_size old.roots s.world s.maps s.calls s.makers s.enders map to.0 i new.memory.memory to.4.w2 to.4.maps2 to.4.next u to.1 said to.4.did → ⊥)
+      (IsOfNoRow same old.batch_size old.roots s.world s.maps s.calls s.makers s.enders map to.0 i new.memory to.4.w2 to.4.maps2 to.4.next u to.1 said to.4.did → ⊥)
       → HandGoes m known s old new map i u said here leads)
 
   -- The promise, of each step of a call, whichever it is: what it has in hand goes so.
   abbrev pub CallsGoInHand : Type 0
   CallsGoInHand =
-      (name : ℕ → List ℕ) (m : Moment K V) (known : Known) (s : Scene K V) (old new : Executor K V S)
+      (name : ℕ → List ℕ) (m : Moment K V) (known : Known) (s : Scene K V) (old new : Held K V)
       → IsAt same hash old s → Shows same name m known s → ShowsRows s → ShowsEntries s → OwnAreMade known s.world
       → (map i : ℕ) (u : UnderWay K V K) (here : s.calls map i ≡ Some u) (said : Progress (Node K V)) (leads : StepLeads same hash i said s old new) → NotesInHand known (machine_of u)
       → HandGoes m known s old new map i u said here leads
@@ -66,26 +66,26 @@ module _ (K V S : Type 0) (same : K → K → Bool) (hash : K → ℕ) where
   -- owes nothing.
   abbrev pub CallsKeepOwed : Type 0
   CallsKeepOwed =
-      (name : ℕ → List ℕ) (m : Moment K V) (known : Known) (s : Scene K V) (old new : Executor K V S)
+      (name : ℕ → List ℕ) (m : Moment K V) (known : Known) (s : Scene K V) (old new : Held K V)
       → IsAt same hash old s → ShowsWhole same name m known s → ShowsEntries s → OwnAreMade known s.world → ShowsOwed name m known s
       → (map i : ℕ) (u : UnderWay K V K) (here : s.calls map i ≡ Some u) (said : Progress (Node K V)) (leads : StepLeads same hash i said s old new)
       → (let to = leads map u here in
-      let effects = effects_of (OfCall i map) known new.memory.changed in
+      let effects = effects_of (OfCall i map) known new.changed in
       let v = with_effects (Some (name i)) (Some map) effects m in
       AtEachEffect (λ w f. ByCall (FindsOwed w f) (acting (Some (name i)) w)) (Some (name i)) (Some map) effects m
-      × ShowsOwed name v (known_after (OfCall i map) new.memory.changed known) (scene_after same hash s old new map i to.0 u to.1 said to.4)
+      × ShowsOwed name v (known_after (OfCall i map) new.changed known) (scene_after same s old new map i to.0 u to.1 said to.4)
       × (to.4.next ≡ None → (c : CallThere K V) → call_of (name i) v ≡ Some c → c.owes ≡ []))
 
   -- A walk goes on to its next pair,
   abbrev pub WalksGoOnOwed : Type 0
   WalksGoOnOwed =
-      (name : ℕ → List ℕ) (m : Moment K V) (known : Known) (s : Scene K V) (old new : Executor K V S) → ShowsOwed name m known s
+      (name : ℕ → List ℕ) (m : Moment K V) (known : Known) (s : Scene K V) (old new : Held K V) → ShowsOwed name m known s
       → (i : ℕ) (leads : AskLeads same hash i true s old new) (map : ℕ) (u : UnderWay K V K) (here : s.calls map i ≡ Some u) → ShowsOwed name m known (scene_with map i (leads map u here).0 s)
 
   -- or is given up: no call that is under way then has its name.
   abbrev pub WalksStopOwed : Type 0
   WalksStopOwed =
-      (name : ℕ → List ℕ) (m : Moment K V) (known : Known) (s : Scene K V) (old new : Executor K V S) → Shows same name m known s → ShowsOwed name m known s
+      (name : ℕ → List ℕ) (m : Moment K V) (known : Known) (s : Scene K V) (old new : Held K V) → Shows same name m known s → ShowsOwed name m known s
       → (i : ℕ) (stopped : Bool) → StopLeads same hash i stopped s old new → (map : ℕ) (u : UnderWay K V K) → s.calls map i ≡ Some u
       → (let after = record s { calls = with_in s.calls map i (unless_stopped stopped u) } in
       (stopped ≡ true → NoneNamed name (name i) after) → ShowsOwed name (given_up (name i) stopped m) known after)

@@ -20,11 +20,11 @@ use Rattle.papaya_histories.specs.Given.Callers.Together.{UnderWay}
 use Rattle.papaya_histories.specs.Given.Effects.Effects.{effects_of}
 use Rattle.papaya_histories.specs.Given.Effects.Known.{Known}
 use Rattle.papaya_histories.specs.Given.Effects.declared.acting.Acting.TheVariants.{Call}
-use Rattle.papaya_histories.specs.Given.Executor.IsAt.{Scene, IsAt}
-use Rattle.papaya_histories.specs.Given.Executor.Stepping.{StepLeads}
-use Rattle.papaya_histories.specs.Given.Executor.declared.executor.Executor.{Executor}
 use Rattle.papaya_histories.specs.Given.Follows.Shows.{Shows}
 use Rattle.papaya_histories.specs.Given.Follows.Steps.{IsOfNoRow}
+use Rattle.papaya_histories.specs.Given.Scenes.Held.{Held, IsAt}
+use Rattle.papaya_histories.specs.Given.Scenes.Scene.{Scene}
+use Rattle.papaya_histories.specs.Given.Scenes.Stepping.{StepLeads}
 
 -- it hands something over
 abbrev pub hands_over : Effect → Bool
@@ -86,11 +86,11 @@ HandingFollows K V =
     → (d : CallThere K V) × (call_of own (with_effects (Some own) (Some map) effects m) ≡ Some d) × (d.has_handed ≡ handed_after effects c.has_handed)
 
 -- The promise, of a step of a call that is none of a row: it hands nothing over, and what it takes out comes behind what the call owed.
-abbrev pub StepsTakeOut : (K V S : Type 0) (same : K → K → Bool) (hash : K → ℕ) → Type 0
-StepsTakeOut K V S same hash =
-    (name : ℕ → List ℕ) (m : Moment K V) (known : Known) (s : Scene K V) (old new : Executor K V S) → IsAt same hash old s → Shows same name m known s
+abbrev pub StepsTakeOut : (K V : Type 0) (same : K → K → Bool) (hash : ℕ → K → ℕ) → Type 0
+StepsTakeOut K V same hash =
+    (name : ℕ → List ℕ) (m : Moment K V) (known : Known) (s : Scene K V) (old new : Held K V) → IsAt same hash old s → Shows same name m known s
     → (map i : ℕ) (u : UnderWay K V K) (here : s.calls map i ≡ Some u) (said : Progress (Node K V)) (leads : StepLeads same hash i said s old new)
     → (let to = leads map u here in
-    IsOfNoRow same old.batch_size old.roots s.world s.maps s.calls s.makers s.enders map to.0 i new.memory.memory to.4.w2 to.4.maps2 to.4.next u to.1 said to.4.did
-    → (owes : List Thing) → (taken : List Thing) × OwesGo m (effects_of (Call i map) known new.memory.changed) owes (owes ++ taken)
-    × (list_any hands_over (effects_of (Call i map) known new.memory.changed) ≡ false))
+    IsOfNoRow same old.batch_size old.roots s.world s.maps s.calls s.makers s.enders map to.0 i new.memory to.4.w2 to.4.maps2 to.4.next u to.1 said to.4.did
+    → (owes : List Thing) → (taken : List Thing) × OwesGo m (effects_of (Call i map) known new.changed) owes (owes ++ taken)
+    × (list_any hands_over (effects_of (Call i map) known new.changed) ≡ false))

@@ -10,8 +10,8 @@ use Rattle.papaya_histories.specs.Given.Schedules.Lives.{CallFinds}
 use Rattle.papaya_histories.specs.Given.Schedules.Moment.{UnderWay as CallThere, Moment}
 use Rattle.papaya_histories.specs.Given.Schedules.Terms.{Terms, shards_of}
 use Rattle.papaya_histories.specs.Given.Schedules.Views.{call_of}
-use Rattle.papaya_histories.specs.Given.Executor.IsAt.{slot_of}
 use Rattle.papaya_settles.specs.Counts.{shard_for, FindCounts}
+use Rattle.papaya_histories.specs.Given.Scenes.Scene.{slot_of}
 
 -- an effect that counts
 abbrev pub is_counting : Effect → Bool

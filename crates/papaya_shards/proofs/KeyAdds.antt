@@ -28,9 +28,6 @@ use Rattle.papaya_settles.specs.Given.Callers.Together.{CallOnKey, OnKey, Stands
 use Rattle.papaya_settles.specs.Given.Effects.Effects.{effects_of}
 use Rattle.papaya_settles.specs.Given.Effects.Known.{Known}
 use Rattle.papaya_settles.specs.Given.Effects.declared.acting.Acting.TheVariants as acts
-use Rattle.papaya_settles.specs.Given.Executor.IsAt.{Scene, IsAt, slot_of}
-use Rattle.papaya_settles.specs.Given.Executor.Stepping.{StepLeads}
-use Rattle.papaya_settles.specs.Given.Executor.declared.executor.Executor.{Executor}
 use Rattle.papaya_settles.specs.Given.Finishes.Endings.{StepsAmong}
 use Rattle.papaya_settles.specs.Given.Finishes.Maps.{Standing}
 use Rattle.papaya_settles.specs.Given.Follows.Shows.{Shows}
@@ -48,6 +45,9 @@ use Rattle.papaya_settles.proofs.Keys.{Together2, change2, once, did, fresh, unc
 use Rattle.papaya_settles.proofs.Points.{IsBeyond}
 use Rattle.papaya_settles.proofs.Status.{KindOf, ToCount, ToDispose, IsAtEnd, ToChange, kind_at, before_elsewhere, before_not, elsewhere_not, row_beyond}
 use Rattle.papaya_settles.proofs.Taken.{key_takes}
+use Rattle.papaya_settles.specs.Given.Scenes.Held.{Held, IsAt}
+use Rattle.papaya_settles.specs.Given.Scenes.Scene.{Scene, slot_of}
+use Rattle.papaya_settles.specs.Given.Scenes.Stepping.{StepLeads}
 
 -- what it is to count is a pair that it has stored, where that is 0, or it has removed one
 abbrev pub IsCounted : Change → ℕ → Type 0
@@ -82,7 +82,7 @@ module _ {K V : Type 0} (same : K → K → Bool) (hash : K → ℕ) (setting : 
 before_adds : (p : Calling) → IsBefore p → adds_in_calling p ≡ None
 before_adds p before = adds_none p (before_not p before)
 
-module _ {K V S : Type 0} (same : K → K → Bool) (hash : K → ℕ) (name : ℕ → List ℕ) (m : Moment K V) (known : Known) (s : Scene K V) (old new : Executor K V S) (at_old : IsAt same hash old s)
+module _ {K V : Type 0} (same : K → K → Bool) (hash : ℕ → K → ℕ) (name : ℕ → List ℕ) (m : Moment K V) (known : Known) (s : Scene K V) (old new : Held K V) (at_old : IsAt same hash old s)
     (shown : Shows same name m known s) (map i : ℕ) (x : CallOnKey K V K) (under_way : s.calls map i ≡ Some (OnKey x)) (said : Progress (Node K V)) (leads : StepLeads same hash i said s old new) where
   abbrev to : WentTo same hash name m known s old new at_old shown map i (OnKey x) under_way said leads
   to = went_to same hash name m known s old new at_old shown map i (OnKey x) under_way said leads
@@ -91,13 +91,13 @@ module _ {K V S : Type 0} (same : K → K → Bool) (hash : K → ℕ) (name : �
   st = to.0
 
   abbrev effects : List Effect
-  effects = effects_of (acts.Call i map) known new.memory.changed
+  effects = effects_of (acts.Call i map) known new.changed
 
   abbrev shard : ℕ
   shard = shard_for i st.setting
 
   abbrev Does : Type 0
-  Does = StepAdds (Unit {0}) known new.memory.changed st.setting.counter shard effects (adds_in_calling x.call.stands) (adds_of to.1)
+  Does = StepAdds (Unit {0}) known new.changed st.setting.counter shard effects (adds_in_calling x.call.stands) (adds_of to.1)
 
   module _ (p2 : KeyCall K V K) (end : Called (Node K V)) (machine_is : to.1 ≡ kinds.Key p2) (told_is : said ≡ of_called end) where
     after_is : adds_of to.1 ≡ adds_in_calling p2.stands
@@ -117,7 +117,7 @@ module _ {K V S : Type 0} (same : K → K → Bool) (hash : K → ℕ) (name : �
     row_adds : IsRowOfCall x.call.stands → Does
     row_adds is_row = let it = row_beyond x.call.stands is_row in spares it.1 it.0
 
-    module _ (step : StepsAmong V same same old.batch_size old.roots slot_of s.world s.maps s.calls s.makers s.enders map st i x new.memory.memory p2 end) where
+    module _ (step : StepsAmong V same same old.batch_size old.roots slot_of s.world s.maps s.calls s.makers s.enders map st i x new.memory p2 end) where
       abbrev Tog : Called (Node K V) → Type 0
       Tog = Together2 same hash name m known s old new at_old shown map i x under_way said leads p2 end machine_is told_is step
 
@@ -130,28 +130,28 @@ module _ {K V S : Type 0} (same : K → K → Bool) (hash : K → ℕ) (name : �
 
         on : (e : Called (Node K V)) (tog : Tog e)
             → Stands V same st.hash same st.setting slot_of tog.went.w2 tog.went.c2 (seen_by tog.blocks2 (tog.sights2 (slot_of i))) i
-            (OnKey (stepped same st.hash same st.setting slot_of s.world st.chart st.blocks st.sights (s.calls map) i x new.memory.memory p2 e tog)) → IsCounted (ChangedBy e tog) removed
+            (OnKey (stepped same st.hash same st.setting slot_of s.world st.chart st.blocks st.sights (s.calls map) i x new.memory p2 e tog)) → IsCounted (ChangedBy e tog) removed
         on e tog stands =
             stands_counted same st.hash st.setting slot_of tog.went.w2 tog.went.c2 (seen_by tog.blocks2 (tog.sights2 (slot_of i))) i
-            (stepped same st.hash same st.setting slot_of s.world st.chart st.blocks st.sights (s.calls map) i x new.memory.memory p2 e tog) removed is stands
+            (stepped same st.hash same st.setting slot_of s.world st.chart st.blocks st.sights (s.calls map) i x new.memory p2 e tog) removed is stands
 
         never : counts_in_calling p2.stands ≡ false → ⊥
         never none = (let counts = ap counts_in_calling is in cc (counts, none))
 
         counted : (e : Called (Node K V)) (tog : Tog e) → IsFresh (p2, e) → IsCounted (ChangedBy e tog) removed
         counted called.Goes tog its =
-            on called.Goes tog (tog.together.stand i _ (here same st.hash same st.setting slot_of s.world st.chart st.blocks st.sights (s.calls map) i x new.memory.memory p2 called.Goes tog))
+            on called.Goes tog (tog.together.stand i _ (here same st.hash same st.setting slot_of s.world st.chart st.blocks st.sights (s.calls map) i x new.memory p2 called.Goes tog))
         counted called.Waits tog its =
-            on called.Waits tog (tog.together.stand i _ (here same st.hash same st.setting slot_of s.world st.chart st.blocks st.sights (s.calls map) i x new.memory.memory p2 called.Waits tog))
+            on called.Waits tog (tog.together.stand i _ (here same st.hash same st.setting slot_of s.world st.chart st.blocks st.sights (s.calls map) i x new.memory p2 called.Waits tog))
         counted (called.Gave value) tog its =
             on (called.Gave value) tog
-            (tog.together.stand i _ (here same st.hash same st.setting slot_of s.world st.chart st.blocks st.sights (s.calls map) i x new.memory.memory p2 (called.Gave value) tog))
+            (tog.together.stand i _ (here same st.hash same st.setting slot_of s.world st.chart st.blocks st.sights (s.calls map) i x new.memory p2 (called.Gave value) tog))
         counted (called.Unstored value) tog its =
             on (called.Unstored value) tog
-            (tog.together.stand i _ (here same st.hash same st.setting slot_of s.world st.chart st.blocks st.sights (s.calls map) i x new.memory.memory p2 (called.Unstored value) tog))
+            (tog.together.stand i _ (here same st.hash same st.setting slot_of s.world st.chart st.blocks st.sights (s.calls map) i x new.memory p2 (called.Unstored value) tog))
         counted (called.Asks about) tog its =
             on (called.Asks about) tog
-            (tog.together.stand i _ (here same st.hash same st.setting slot_of s.world st.chart st.blocks st.sights (s.calls map) i x new.memory.memory p2 (called.Asks about) tog))
+            (tog.together.stand i _ (here same st.hash same st.setting slot_of s.world st.chart st.blocks st.sights (s.calls map) i x new.memory p2 (called.Asks about) tog))
         counted (called.Done answer) tog its = absurd (never its.1)
         counted (called.Refused fault) tog its = absurd (never its)
 

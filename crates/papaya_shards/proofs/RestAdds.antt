@@ -20,9 +20,6 @@ use Rattle.papaya_settles.specs.Given.Effects.Effects.{effects_of}
 use Rattle.papaya_settles.specs.Given.Effects.Known.{Known}
 use Rattle.papaya_settles.specs.Given.Effects.declared.acting.Acting.TheVariants as acts
 use Rattle.papaya_settles.specs.Given.Effects.declared.role.Role.TheVariants as role
-use Rattle.papaya_settles.specs.Given.Executor.IsAt.{Scene, IsAt, slot_of}
-use Rattle.papaya_settles.specs.Given.Executor.Stepping.{StepLeads}
-use Rattle.papaya_settles.specs.Given.Executor.declared.executor.Executor.{Executor}
 use Rattle.papaya_settles.specs.Given.Finishes.Maps.{Standing}
 use Rattle.papaya_settles.specs.Given.Finishes.Sweeps.{SweepStepsAmong}
 use Rattle.papaya_settles.specs.Given.Follows.Shows.{Shows}
@@ -35,8 +32,11 @@ use Rattle.papaya_settles.proofs.Aimed.{IsElsewhere}
 use Rattle.papaya_settles.proofs.Gains.{CountGoes, KeepsCount, AddsOne, GivesWay, TakesOne, CountsAll}
 use Rattle.papaya_settles.proofs.Points.{IsNoTry}
 use Rattle.papaya_settles.proofs.Rest.{KindOf, ToCount, ToTry, IsApart, kind_at, elsewhere_not, row_apart, room_nowhere, sum_nowhere, nowhere, idle, adds_now, counts_now, own_goes, own_takes}
+use Rattle.papaya_settles.specs.Given.Scenes.Held.{Held, IsAt}
+use Rattle.papaya_settles.specs.Given.Scenes.Scene.{Scene, slot_of}
+use Rattle.papaya_settles.specs.Given.Scenes.Stepping.{StepLeads}
 
-module _ {K V S : Type 0} (same : K → K → Bool) (hash : K → ℕ) (name : ℕ → List ℕ) (m : Moment K V) (known : Known) (s : Scene K V) (old new : Executor K V S) (at_old : IsAt same hash old s)
+module _ {K V : Type 0} (same : K → K → Bool) (hash : ℕ → K → ℕ) (name : ℕ → List ℕ) (m : Moment K V) (known : Known) (s : Scene K V) (old new : Held K V) (at_old : IsAt same hash old s)
     (shown : Shows same name m known s) (map i : ℕ) (u : UnderWay K V K) (under_way : s.calls map i ≡ Some u) (said : Progress (Node K V)) (leads : StepLeads same hash i said s old new) where
   abbrev to : WentTo same hash name m known s old new at_old shown map i u under_way said leads
   to = went_to same hash name m known s old new at_old shown map i u under_way said leads
@@ -45,7 +45,7 @@ module _ {K V S : Type 0} (same : K → K → Bool) (hash : K → ℕ) (name : �
   st = to.0
 
   abbrev effects : List Effect
-  effects = effects_of (acts.Call i map) known new.memory.changed
+  effects = effects_of (acts.Call i map) known new.changed
 
   abbrev shard : ℕ
   shard = shard_for i st.setting
@@ -54,7 +54,7 @@ module _ {K V S : Type 0} (same : K → K → Bool) (hash : K → ℕ) (name : �
   Did x = DidSo same hash name m known s old new at_old shown map i u under_way said leads x
 
   abbrev Does : Type 0
-  Does = StepAdds ⊥ known new.memory.changed st.setting.counter shard effects None (adds_of to.1)
+  Does = StepAdds ⊥ known new.changed st.setting.counter shard effects None (adds_of to.1)
 
   -- a reservation
   pub room_adds : (x : CallForRoom) → u ≡ ForRoom x → Did (ForRoom x) → Does
@@ -69,7 +69,7 @@ module _ {K V S : Type 0} (same : K → K → Bool) (hash : K → ℕ) (name : �
   -- a sweep
   module _ (x : CallOverAll) (is_over : u ≡ OverAll x) where
     abbrev DoesSweep : Type 0
-    DoesSweep = StepAdds ⊥ known new.memory.changed st.setting.counter shard effects (adds_in_sweeping x.sweep.stands) (adds_of to.1)
+    DoesSweep = StepAdds ⊥ known new.changed st.setting.counter shard effects (adds_in_sweeping x.sweep.stands) (adds_of to.1)
 
     module _ (p2 : Sweep) (end : Swept (Node K V)) (machine_is : to.1 ≡ kinds.Sweep p2) (told_is : said ≡ of_swept end) where
       after_is : adds_of to.1 ≡ adds_in_sweeping p2.stands
@@ -84,7 +84,7 @@ module _ {K V S : Type 0} (same : K → K → Bool) (hash : K → ℕ) (name : �
           (sweep_adds_none x.sweep.stands (elsewhere_not x.sweep.stands elsewhere))
           (none_then (idle same hash name m known s old new at_old shown map i u under_way said leads x is_over p2 end machine_is told_is none))
 
-      module _ (step : SweepStepsAmong V same same old.batch_size old.roots slot_of s.world s.maps s.calls s.makers s.enders map st i x new.memory.memory p2 end) where
+      module _ (step : SweepStepsAmong V same same old.batch_size old.roots slot_of s.world s.maps s.calls s.makers s.enders map st i x new.memory p2 end) where
         -- one that has removed a pair is to count that, whose word is not 0
         removed_some : (removed : ℕ) → p2.stands ≡ sweeping.Counts removed → (n : ℕ) → effects ≡ effect.Removed n ∷ [] → (removed == 0) ≡ false
         removed_some removed is n are = by (removed == 0) refl

@@ -25,7 +25,6 @@ use Rattle.papaya_settles.specs.Given.Schedules.Entry.{ends_call}
 use Rattle.papaya_settles.specs.Given.Schedules.Moment.{Stands, Going, Asking, Told as WasTold, IsReady, UnderWay as CallThere, Moment}
 use Rattle.papaya_settles.specs.Given.Schedules.Views.{call_of}
 use Rattle.papaya_settles.specs.Given.Callers.Together.{UnderWay}
-use Rattle.papaya_settles.specs.Given.Executor.IsAt.{Scene}
 use Rattle.papaya_settles.specs.Given.Finishes.Machines.{machine_of}
 use Rattle.papaya_settles.specs.Given.Finishes.Makings.{Beginning}
 use Rattle.papaya_settles.specs.Given.Finishes.Maps.{Standing, with_call as with_in}
@@ -42,6 +41,7 @@ use Rattle.papaya_shards.specs.ShardSteps.{CallsBeginCounters, CallsTakeCounters
 use Rattle.papaya_shards.specs.ShardWords.{ShowsShards, MakesUncounted}
 use Rattle.papaya_shards.proofs.Adds.{machine_adds}
 use Rattle.papaya_settles.proofs.Between.{told_same}
+use Rattle.papaya_settles.specs.Given.Scenes.Scene.{Scene}
 
 -- a machine that is about to add something takes no reply
 key_told : {K V : Type 0} (p : KeyCall K V K) (stands : Calling) (told : MachineReply V) → p.stands ≡ stands → counts_in_calling stands ≡ true → adds_in_calling (told_at stands p told).0.stands ≡ adds_in_calling p.stands

@@ -23,9 +23,6 @@ use Rattle.papaya_settles.specs.Given.Effects.Effects.{effects_of}
 use Rattle.papaya_settles.specs.Given.Effects.Known.{Known}
 use Rattle.papaya_settles.specs.Given.Effects.declared.acting.Acting.TheVariants as acts
 use Rattle.papaya_settles.specs.Given.Effects.declared.role.Role.TheVariants as role
-use Rattle.papaya_settles.specs.Given.Executor.IsAt.{Scene, IsAt}
-use Rattle.papaya_settles.specs.Given.Executor.Stepping.{StepLeads, scene_after}
-use Rattle.papaya_settles.specs.Given.Executor.declared.executor.Executor.{Executor}
 use Rattle.papaya_settles.specs.Given.Finishes.Machines.{machine_of}
 use Rattle.papaya_settles.specs.Given.Finishes.Makings.{Beginning, HasMade}
 use Rattle.papaya_settles.specs.Given.Finishes.Maps.{Standing}
@@ -50,8 +47,11 @@ use Rattle.papaya_shards.proofs.RestAdds.{room_adds, sum_adds, sweep_adds}
 use Rattle.papaya_shards.proofs.ShardKept.{uncounted_shards, same_setting, word_kept, shard_there, made_there, shards_kept, makes_kept}
 use Rattle.papaya_settles.proofs.Uncounted.{CountsNowhere, none_counts}
 use Rattle.papaya_shards.proofs.WordOps.{word_lasts}
+use Rattle.papaya_settles.specs.Given.Scenes.Held.{Held, IsAt}
+use Rattle.papaya_settles.specs.Given.Scenes.Scene.{Scene}
+use Rattle.papaya_settles.specs.Given.Scenes.Stepping.{StepLeads, scene_after}
 
-module _ {K V S : Type 0} (same : K → K → Bool) (hash : K → ℕ) (name : ℕ → List ℕ) (m : Moment K V) (known : Known) (s : Scene K V) (old new : Executor K V S) (at_old : IsAt same hash old s)
+module _ {K V : Type 0} (same : K → K → Bool) (hash : ℕ → K → ℕ) (name : ℕ → List ℕ) (m : Moment K V) (known : Known) (s : Scene K V) (old new : Held K V) (at_old : IsAt same hash old s)
     (whole : ShowsWhole same name m known s) (counts : ShowsCounts name m s) (counters : ShowsCounters name m s) (map i : ℕ) (u : UnderWay K V K) (here : s.calls map i ≡ Some u)
     (said : Progress (Node K V)) (leads : StepLeads same hash i said s old new) where
   abbrev shown : Shows same name m known s
@@ -64,7 +64,7 @@ module _ {K V S : Type 0} (same : K → K → Bool) (hash : K → ℕ) (name : �
   st = to.0
 
   abbrev told : Changed
-  told = new.memory.changed
+  told = new.changed
 
   abbrev effects : List Effect
   effects = effects_of (acts.Call i map) known told
@@ -76,7 +76,7 @@ module _ {K V S : Type 0} (same : K → K → Bool) (hash : K → ℕ) (name : �
   v = with_effects (Some (name i)) (Some map) effects m
 
   abbrev t : Scene K V
-  t = scene_after same hash s old new map i st u to.1 said to.4
+  t = scene_after same s old new map i st u to.1 said to.4
 
   abbrev mem : Mem (Node K V)
   mem = s.world.memory
@@ -277,26 +277,26 @@ module _ {K V S : Type 0} (same : K → K → Bool) (hash : K → ℕ) (name : �
     pub counters_then : ShowsCounters name v t
     counters_then = record { shards = shards_then.0; makes = shards_then.1; adds = adds_then }
 
-pub calls_keep_counters : (K V S : Type 0) (same : K → K → Bool) (hash : K → ℕ) → CallsKeepCounters K V S same hash
-calls_keep_counters K V S same hash name m known s old new at_old whole counts counters map i (OnKey x) here said leads =
+pub calls_keep_counters : (K V : Type 0) (same : K → K → Bool) (hash : ℕ → K → ℕ) → CallsKeepCounters K V same hash
+calls_keep_counters K V same hash name m known s old new at_old whole counts counters map i (OnKey x) here said leads =
     counters_then same hash name m known s old new at_old whole counts counters map i (OnKey x) here said leads
     (key_adds same hash name m known s old new at_old whole.all.shown map i x here said leads (leads map (OnKey x) here).4.did)
-calls_keep_counters K V S same hash name m known s old new at_old whole counts counters map i (ForRoom x) here said leads =
+calls_keep_counters K V same hash name m known s old new at_old whole counts counters map i (ForRoom x) here said leads =
     counters_then same hash name m known s old new at_old whole counts counters map i (ForRoom x) here said leads
     (room_adds same hash name m known s old new at_old whole.all.shown map i (ForRoom x) here said leads x refl (leads map (ForRoom x) here).4.did)
-calls_keep_counters K V S same hash name m known s old new at_old whole counts counters map i (Counting x) here said leads =
+calls_keep_counters K V same hash name m known s old new at_old whole counts counters map i (Counting x) here said leads =
     counters_then same hash name m known s old new at_old whole counts counters map i (Counting x) here said leads
     (sum_adds same hash name m known s old new at_old whole.all.shown map i (Counting x) here said leads x refl (leads map (Counting x) here).4.did)
-calls_keep_counters K V S same hash name m known s old new at_old whole counts counters map i (OverAll x) here said leads =
+calls_keep_counters K V same hash name m known s old new at_old whole counts counters map i (OverAll x) here said leads =
     counters_then same hash name m known s old new at_old whole counts counters map i (OverAll x) here said leads
     (sweep_adds same hash name m known s old new at_old whole.all.shown map i (OverAll x) here said leads x refl (leads map (OverAll x) here).4.did)
 
 -- a reservation and a counting count nothing
-pub rooms_count_nothing : (K V S : Type 0) (same : K → K → Bool) (hash : K → ℕ) → RoomsCountNothing K V S same hash
-rooms_count_nothing K V S same hash name m known s old new at_old whole map i u here said leads adds_up =
-    uncounted_shards (Some (name i)) (Some map) (effects_of (acts.Call i map) known new.memory.changed) m (none_counts i map known new.memory.changed (by u refl adds_up))
+pub rooms_count_nothing : (K V : Type 0) (same : K → K → Bool) (hash : ℕ → K → ℕ) → RoomsCountNothing K V same hash
+rooms_count_nothing K V same hash name m known s old new at_old whole map i u here said leads adds_up =
+    uncounted_shards (Some (name i)) (Some map) (effects_of (acts.Call i map) known new.changed) m (none_counts i map known new.changed (by u refl adds_up))
   where
-    by : (x : UnderWay K V K) → u ≡ x → AddsUp x → CountsNowhere known new.memory.changed
+    by : (x : UnderWay K V K) → u ≡ x → AddsUp x → CountsNowhere known new.changed
     by (ForRoom r) is may = room_nowhere same hash name m known s old new at_old whole.all.shown map i u here said leads r is
     by (Counting sum) is may = sum_nowhere same hash name m known s old new at_old whole.all.shown map i u here said leads sum is
     by (OnKey x) is may = absurd may

@@ -16,8 +16,6 @@ use Rattle.papaya_settles.specs.Given.Teller.declared.changed.Changed.{Changed}
 use Rattle.papaya_settles.specs.Given.Callers.Together.{UnderWay}
 use Rattle.papaya_settles.specs.Given.Effects.Known.{Known}
 use Rattle.papaya_settles.specs.Given.Effects.declared.role.Role.TheVariants as role
-use Rattle.papaya_settles.specs.Given.Executor.IsAt.{Scene, IsAt}
-use Rattle.papaya_settles.specs.Given.Executor.declared.executor.Executor.{Executor}
 use Rattle.papaya_settles.specs.Given.Finishes.Makings.{Beginning, HasMade, HasOwnCounter}
 use Rattle.papaya_settles.specs.Given.Finishes.Maps.{Standing, IsSameMap}
 use Rattle.papaya_settles.proofs.Given.Finishes.Beside.Makings.Lasts.{made_counter}
@@ -29,6 +27,8 @@ use Rattle.papaya_settles.specs.Shards.{is_counting}
 use Rattle.papaya_settles.proofs.Gains.{NoneCounts}
 use Rattle.papaya_settles.proofs.Uncounted.{CountsNowhere}
 use Rattle.papaya_shards.proofs.WordOps.{word_lasts}
+use Rattle.papaya_settles.specs.Given.Scenes.Held.{Held, IsAt}
+use Rattle.papaya_settles.specs.Given.Scenes.Scene.{Scene}
 
 -- effects of which none counts leave shards, and so do those of no call
 module _ {K V : Type 0} where
@@ -59,8 +59,8 @@ word_kept known m m2 told made nowhere c f x y of counter was is = elim (word_la
   | inr wrote ↦ absurd (nowhere c f wrote.0 wrote.1 of wrote.2 counter)
 ]
 
--- From one scene to the next, an executor is in both.
-module _ {K V S : Type 0} (same : K → K → Bool) (hash : K → ℕ) (m v : Moment K V) (s t : Scene K V) (new : Executor K V S) (at_new : IsAt same hash new t) where
+-- From one scene to the next, each that of what is held.
+module _ {K V : Type 0} (same : K → K → Bool) (hash : ℕ → K → ℕ) (m v : Moment K V) (s t : Scene K V) (new : Held K V) (at_new : IsAt same hash new t) where
   -- the word of a shard is there
   pub shard_there : (n : ℕ) (st : Standing K) → t.maps n ≡ Some st → (shard : ℕ) → shard ≤ st.setting.mask → (y : ℕ) × (word_at t.world.memory (Word st.setting.counter shard) ≡ Some y)
   shard_there n st is shard few = (at_new.together.makings.standing.each n st is).ground.map.shards shard few

@@ -30,10 +30,6 @@ use Rattle.papaya_settles.specs.Given.Effects.Effects.{effects_of}
 use Rattle.papaya_settles.specs.Given.Effects.Known.{Known}
 use Rattle.papaya_settles.specs.Given.Effects.declared.acting.Acting.TheVariants as acts
 use Rattle.papaya_settles.specs.Given.Effects.declared.role.Role.TheVariants as role
-use Rattle.papaya_settles.specs.Given.Executor.IsAt.{Scene, IsAt, slot_of}
-use Rattle.papaya_settles.specs.Given.Executor.Making.{MakingStepsFrom}
-use Rattle.papaya_settles.specs.Given.Executor.declared.executor.Executor.{Executor}
-use Rattle.papaya_settles.proofs.Given.Executor.Makings.{may_make}
 use Rattle.papaya_settles.specs.Given.Finishes.Endings.{MakingStepsAmong}
 use Rattle.papaya_settles.specs.Given.Finishes.Makings.{Beginning, HasMade, OpeningFacts, MakingFacts, IsMade, KeepsIts}
 use Rattle.papaya_settles.specs.Given.Finishes.Maps.{Standing}
@@ -51,6 +47,10 @@ use Rattle.papaya_settles.proofs.Here.{IsNoCount}
 use Rattle.papaya_shards.proofs.ShardKept.{none_shards, word_kept, shard_there, made_there, shard_kept, shards_kept, made_kept, adds_kept}
 use Rattle.papaya_settles.proofs.Uncounted.{CountsNowhere}
 use Rattle.papaya_shards.proofs.WordOps.{word_lasts, none_there}
+use Rattle.papaya_settles.proofs.Given.Scenes.May.{may_make}
+use Rattle.papaya_settles.specs.Given.Scenes.Held.{Held, IsAt}
+use Rattle.papaya_settles.specs.Given.Scenes.Making.{MakingStepsFrom}
+use Rattle.papaya_settles.specs.Given.Scenes.Scene.{Scene, slot_of}
 
 -- which words of blocks the step of a making may write
 module _ (P : ℕ → Type 0) where
@@ -67,10 +67,10 @@ module _ (P : ℕ → Type 0) where
   open_at K V c at.Over so = tt
   open_at K V c (at.Refused fault) so = tt
 
-module _ {K V S : Type 0} (same : K → K → Bool) (hash : K → ℕ) (name : ℕ → List ℕ) (m : Moment K V) (known : Known) (s : Scene K V) (old new : Executor K V S) (at_old : IsAt same hash old s)
+module _ {K V : Type 0} (same : K → K → Bool) (hash : ℕ → K → ℕ) (name : ℕ → List ℕ) (m : Moment K V) (known : Known) (s : Scene K V) (old new : Held K V) (at_old : IsAt same hash old s)
     (whole : ShowsWhole same name m known s) (counters : ShowsCounters name m s) (i : ℕ) (b : Beginning K) (here : s.makers i ≡ Some b) (end : NewMap) (said : Progress Setting)
     (steps : MakingStepsFrom b.machine old new end said)
-    (did : MakingStepsAmong V same same old.batch_size old.roots slot_of s.world s.maps s.calls s.makers s.enders i b new.memory.memory (end, said)) (of : Option ℕ) where
+    (did : MakingStepsAmong V same same old.batch_size old.roots slot_of s.world s.maps s.calls s.makers s.enders i b new.memory (end, said)) (of : Option ℕ) where
   abbrev w : World (Node K V)
   w = s.world
 
@@ -78,7 +78,7 @@ module _ {K V S : Type 0} (same : K → K → Bool) (hash : K → ℕ) (name : �
   w2 = did.step.w2
 
   abbrev told : Changed
-  told = new.memory.changed
+  told = new.changed
 
   abbrev effects : List Effect
   effects = effects_of (acts.Making b.map) known told
@@ -89,8 +89,8 @@ module _ {K V S : Type 0} (same : K → K → Bool) (hash : K → ℕ) (name : �
   made : Operated w.memory w2.memory told
   made =
       subst (λ (n : Mem (Node K V)). Operated w.memory n told) (sym did.step.memory)
-      (subst (λ (n : Mem (Node K V)). Operated n new.memory.memory told) (sym at_old.memory)
-      (operated old.memory.memory new.memory.memory told (new_map_plan b.machine) (end, said) (may_make same hash old s at_old i b here) steps))
+      (subst (λ (n : Mem (Node K V)). Operated n new.memory told) (sym at_old.memory)
+      (operated old.memory new.memory told (new_map_plan b.machine) (end, said) (may_make same hash old s at_old i b here) steps))
 
   facts : MakingFacts w same old.batch_size old.roots i b
   facts = at_old.together.makings.facts i b here
@@ -108,7 +108,7 @@ module _ {K V S : Type 0} (same : K → K → Bool) (hash : K → ℕ) (name : �
 
   nowhere : CountsNowhere known told
   nowhere x field before after n is counter =
-      plan_aimed (IsNoCount known) old.memory.memory new.memory.memory told (new_map_plan b.machine) (end, said) steps
+      plan_aimed (IsNoCount known) old.memory new.memory told (new_map_plan b.machine) (end, said) steps
       (open_at (IsNoCount known) K V b.machine b.machine.stands (aims b.machine.stands facts.point)) x field before after is n counter
 
   -- counters are noted as such
@@ -159,9 +159,9 @@ module _ {K V S : Type 0} (same : K → K → Bool) (hash : K → ℕ) (name : �
 
     -- this one goes on
     own_makes : HasMade end.stands → (shard y : ℕ) → shard ≤ end.setting.mask → word_at w2.memory (Word end.setting.counter shard) ≡ Some y → y ≡ 0
-    own_makes has_made shard y few is = by (counter_from w i old.roots b.machine old.memory.memory new.memory.memory told end said has_made facts.point steps)
+    own_makes has_made shard y few is = by (counter_from w i old.roots b.machine old.memory new.memory told end said has_made facts.point steps)
       where
-        by : CounterFrom w i old.roots b.machine old.memory.memory new.memory.memory told end → y ≡ 0
+        by : CounterFrom w i old.roots b.machine old.memory new.memory told end → y ≡ 0
         by (inl had) =
             let is_there : word_at w2.memory (Word b.machine.setting.counter shard) ≡ Some y = subst (λ (z : Setting). word_at w2.memory (Word z.counter shard) ≡ Some y) had.1 is in
             let few_then : shard ≤ b.machine.setting.mask = subst (λ (z : Setting). shard ≤ z.mask) had.1 few in
@@ -202,9 +202,9 @@ module _ {K V S : Type 0} (same : K → K → Bool) (hash : K → ℕ) (name : �
       its_keeps = subst (λ (p : Progress Setting). KeepsIts V same same old.batch_size old.roots slot_of w w2 b.machine (end, p)) done did.step.keeps
 
       done_zero : (shard y : ℕ) → shard ≤ setting.mask → word_at w2.memory (Word setting.counter shard) ≡ Some y → y ≡ 0
-      done_zero shard y few is = by told refl (making_done w i old.roots b.machine old.memory.memory new.memory.memory told end setting facts.point its_steps)
+      done_zero shard y few is = by told refl (making_done w i old.roots b.machine old.memory new.memory told end setting facts.point its_steps)
         where
-          by : (x : Changed) → told ≡ x → DoneBy w i old.roots b.machine old.memory.memory new.memory.memory told setting x → y ≡ 0
+          by : (x : Changed) → told ≡ x → DoneBy w i old.roots b.machine old.memory new.memory told setting x → y ≡ 0
           by (changed.Made it x) e so = new_zero setting.counter shard y (e ∙ ap (λ (k : Kind). changed.Made k x) so.1 ∙ ap (λ (c : ℕ). changed.Made kind.Shards c) (sym so.2)) is
           by (changed.Wrote a before after) e so =
               let counter_is : setting.counter ≡ b.machine.setting.counter = its_keeps.1 so.0 in
@@ -237,8 +237,8 @@ module _ {K V S : Type 0} (same : K → K → Bool) (hash : K → ℕ) (name : �
             ∙ ap (λ (f : ℕ → ℕ → ℕ). Some (f n shard)) (sym same_shards)
       ]
 
-module _ (K V S : Type 0) (same : K → K → Bool) (hash : K → ℕ) where
-  pub makings_keep_counters : MakingsKeepCounters K V S same hash
+module _ (K V : Type 0) (same : K → K → Bool) (hash : ℕ → K → ℕ) where
+  pub makings_keep_counters : MakingsKeepCounters K V same hash
   makings_keep_counters name m known s old new at_old whole counters i progress.Goes leads b here of =
       let to = leads b here in
       let t : Scene K V = record s { world = to.2.step.w2; makers = with_at s.makers i (Some (record b { machine = to.0 })) } in

@@ -1,7 +1,6 @@
 -- Nothing was counted on a number that no map has had yet.
-use Rattle.std.specs.Prelude.{◌≡◌, ◌≢◌, ℕ, ◌≤◌, Bool, List, length, Some, None, option_map, slice_index_or}
-use Rattle.std.proofs.Common.{refl, ap, sym, subst, ◌∙◌, arith}
-use Rattle.std.proofs.Math.ListN.{get_or-eq_default}
+use Rattle.std.specs.Prelude.{◌≡◌, ◌≢◌, ℕ, Bool, List, Some}
+use Rattle.std.proofs.Common.{refl, ap, ◌∙◌, arith}
 use Rattle.papaya_settles.specs.Given.Tables.declared.node.Node.{Node}
 use Rattle.papaya_settles.specs.Given.Raw.declared.machines.progress.Progress.{Progress}
 use Rattle.papaya_settles.specs.Given.Schedules.Effects.{with_effects}
@@ -10,42 +9,36 @@ use Rattle.papaya_settles.specs.Given.Callers.Together.{UnderWay, OnKey, ForRoom
 use Rattle.papaya_settles.specs.Given.Effects.Effects.{effects_of}
 use Rattle.papaya_settles.specs.Given.Effects.Known.{Known}
 use Rattle.papaya_settles.specs.Given.Effects.declared.acting.Acting.TheVariants as acts
-use Rattle.papaya_settles.specs.Given.Executor.IsAt.{Scene, IsAt}
-use Rattle.papaya_settles.specs.Given.Executor.Stepping.{StepLeads}
-use Rattle.papaya_settles.specs.Given.Executor.declared.executor.Executor.{Executor}
 use Rattle.papaya_settles.specs.Given.Finishes.Maps.{Standing}
+use Rattle.papaya_settles.specs.Given.Moments.Numbers.{MapsAreBelow}
 use Rattle.papaya_settles.specs.Given.Moments.Whole.{ShowsWhole}
 use Rattle.papaya_settles.specs.Counts.{ShowsCounts}
-use Rattle.papaya_shards.specs.ShardSteps.{CallsKeepNumbers, NumbersBegin, NumbersStay}
+use Rattle.papaya_shards.specs.ShardSteps.{CallsKeepNumbers, NumbersStay}
 use Rattle.papaya_shards.specs.ShardWords.{NumbersUncounted, ShowsCounters}
 use Rattle.papaya_shards.proofs.KeyAdds.{key_adds}
 use Rattle.papaya_shards.proofs.RestAdds.{room_adds, sum_adds, sweep_adds}
 use Rattle.papaya_shards.proofs.ShardCalls.{others_then}
-
--- a map that stands has its number
-module _ {K V S : Type 0} (same : K → K → Bool) (hash : K → ℕ) (s : Scene K V) (e : Executor K V S) (at_e : IsAt same hash e s) (map : ℕ) (st : Standing K) (there : s.maps map ≡ Some st) where
-  none_past : length e.maps.items ≤ map → ⊥
-  none_past past =
-      let some : Some st.setting ≡ slice_index_or e.maps.items map None = sym (ap (option_map (λ (x : Standing K). x.setting)) there) ∙ at_e.maps map in
-      absurd (let none : slice_index_or e.maps.items map None ≡ None = get_or-eq_default e.maps.items None past in cc (some, none))
+use Rattle.papaya_settles.specs.Given.Scenes.Held.{Held, IsAt}
+use Rattle.papaya_settles.specs.Given.Scenes.Scene.{Scene}
+use Rattle.papaya_settles.specs.Given.Scenes.Stepping.{StepLeads}
 
 -- where no shard of another map is another one
-module _ {K V S : Type 0} (same : K → K → Bool) (hash : K → ℕ) (name : ℕ → List ℕ) (m : Moment K V) (known : Known) (s : Scene K V) (old new : Executor K V S) (at_old : IsAt same hash old s)
-    (numbers : NumbersUncounted old m) (map i : ℕ) (st : Standing K) (there : s.maps map ≡ Some st) (more : length old.maps.items ≤ length new.maps.items) where
+module _ {K V : Type 0} (same : K → K → Bool) (hash : ℕ → K → ℕ) (name : ℕ → List ℕ) (m : Moment K V) (known : Known) (s : Scene K V) (old new : Held K V) (at_old : IsAt same hash old s)
+    (count : ℕ) (below : MapsAreBelow count s) (numbers : NumbersUncounted count m) (map i : ℕ) (st : Standing K) (there : s.maps map ≡ Some st) where
   abbrev v : Moment K V
-  v = with_effects (Some (name i)) (Some map) (effects_of (acts.Call i map) known new.memory.changed) m
+  v = with_effects (Some (name i)) (Some map) (effects_of (acts.Call i map) known new.changed) m
 
-  numbers_then : ((n : ℕ) → n ≢ map → v.shards n ≡ m.shards n) → NumbersUncounted new v
+  numbers_then : ((n : ℕ) → n ≢ map → v.shards n ≡ m.shards n) → NumbersUncounted count v
   numbers_then others n past shard =
-      let past_then : length old.maps.items ≤ n = omega (arith, more, past) in
-      let ne : n ≢ map = (λ e. none_past same hash s old at_old map st there (subst (λ (k : ℕ). length old.maps.items ≤ k) e past_then)) in
-      ap (λ (f : ℕ → ℕ). f shard) (others n ne) ∙ numbers n past_then shard
+      let low = below.standing map st there in
+      let ne : n ≢ map = (λ e. absurd (omega (arith, low, past, e))) in
+      ap (λ (f : ℕ → ℕ). f shard) (others n ne) ∙ numbers n past shard
 
 -- a step of a call counts on its map alone
-pub calls_spare_others : {K V S : Type 0} (same : K → K → Bool) (hash : K → ℕ) (name : ℕ → List ℕ) (m : Moment K V) (known : Known) (s : Scene K V) (old new : Executor K V S) → IsAt same hash old s
+pub calls_spare_others : {K V : Type 0} (same : K → K → Bool) (hash : ℕ → K → ℕ) (name : ℕ → List ℕ) (m : Moment K V) (known : Known) (s : Scene K V) (old new : Held K V) → IsAt same hash old s
     → ShowsWhole same name m known s → ShowsCounts name m s → ShowsCounters name m s
     → (map i : ℕ) (u : UnderWay K V K) (here : s.calls map i ≡ Some u) (said : Progress (Node K V)) (leads : StepLeads same hash i said s old new)
-    → (n : ℕ) → n ≢ map → (with_effects (Some (name i)) (Some map) (effects_of (acts.Call i map) known new.memory.changed) m).shards n ≡ m.shards n
+    → (n : ℕ) → n ≢ map → (with_effects (Some (name i)) (Some map) (effects_of (acts.Call i map) known new.changed) m).shards n ≡ m.shards n
 calls_spare_others same hash name m known s old new at_old whole counts counters map i (OnKey x) here said leads =
     others_then same hash name m known s old new at_old whole counts counters map i (OnKey x) here said leads
     (key_adds same hash name m known s old new at_old whole.all.shown map i x here said leads (leads map (OnKey x) here).4.did)
@@ -59,13 +52,10 @@ calls_spare_others same hash name m known s old new at_old whole counts counters
     others_then same hash name m known s old new at_old whole counts counters map i (OverAll x) here said leads
     (sweep_adds same hash name m known s old new at_old whole.all.shown map i (OverAll x) here said leads x refl (leads map (OverAll x) here).4.did)
 
-pub calls_keep_numbers : (K V S : Type 0) (same : K → K → Bool) (hash : K → ℕ) → CallsKeepNumbers K V S same hash
-calls_keep_numbers K V S same hash name m known s old new at_old whole counts counters numbers map i u here said leads more =
-    numbers_then same hash name m known s old new at_old numbers map i (leads map u here).0 (leads map u here).2 more
+pub calls_keep_numbers : (K V : Type 0) (same : K → K → Bool) (hash : ℕ → K → ℕ) → CallsKeepNumbers K V same hash
+calls_keep_numbers K V same hash name m known s old new at_old whole counts counters count below numbers map i u here said leads =
+    numbers_then same hash name m known s old new at_old count below numbers map i (leads map u here).0 (leads map u here).2
     (calls_spare_others same hash name m known s old new at_old whole counts counters map i u here said leads)
 
-pub numbers_begin : (K V S : Type 0) → NumbersBegin K V S
-numbers_begin K V S e of past shard = refl
-
-pub numbers_stay : (K V S : Type 0) → NumbersStay K V S
-numbers_stay K V S m v e e2 numbers same more of past shard = ap (λ (f : ℕ → ℕ → ℕ). f of shard) same ∙ numbers of (omega (arith, more, past)) shard
+pub numbers_stay : (K V : Type 0) → NumbersStay K V
+numbers_stay K V m v count more numbers same as_many of past shard = ap (λ (f : ℕ → ℕ → ℕ). f of shard) same ∙ numbers of (omega (arith, as_many, past)) shard

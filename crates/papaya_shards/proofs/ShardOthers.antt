@@ -11,21 +11,13 @@ use Rattle.papaya_settles.specs.Given.Schedules.declared.effect.Effect.{Effect}
 use Rattle.papaya_settles.specs.Given.Schedules.Effects.{with_effects}
 use Rattle.papaya_settles.specs.Given.Schedules.Moment.{Moment}
 use Rattle.papaya_settles.specs.Given.Teller.declared.changed.Changed.{Changed}
-use Rattle.papaya_settles.specs.Given.Teller.declared.teller.Teller.{Teller}
 use Rattle.papaya_settles.proofs.Given.Callers.Together.At.{at_other, at_same}
 use Rattle.papaya_settles.specs.Given.Effects.Effects.{effects_of}
 use Rattle.papaya_settles.specs.Given.Effects.Known.{Known}
 use Rattle.papaya_settles.specs.Given.Effects.declared.acting.Acting.TheVariants as acts
 use Rattle.papaya_settles.specs.Given.Effects.declared.role.Role.TheVariants as role
-use Rattle.papaya_settles.specs.Given.Executor.Ending.{ending_begun}
-use Rattle.papaya_settles.specs.Given.Executor.IsAt.{Scene, IsAt, slot_of, work_of}
-use Rattle.papaya_settles.specs.Given.Executor.OnSlots.{HappensAt, RowSteps}
-use Rattle.papaya_settles.specs.Given.Executor.Rows.{request_of}
-use Rattle.papaya_settles.specs.Given.Executor.declared.executor.Executor.{Executor}
-use Rattle.papaya_settles.specs.Given.Executor.declared.row.RowTold.{RowTold}
-use Rattle.papaya_settles.specs.Given.Executor.declared.row.SlotRow.{SlotRow}
-use Rattle.papaya_settles.specs.Given.Executor.declared.worker.Work.TheVariants.{OnSlot}
-use Rattle.papaya_settles.proofs.Given.Executor.OnSlots.{row_at, may_taken}
+use Rattle.papaya_settles.specs.Given.Scenes.declared.row.RowTold.{RowTold}
+use Rattle.papaya_settles.specs.Given.Scenes.declared.row.SlotRow.{SlotRow}
 use Rattle.papaya_settles.specs.Given.Finishes.FactsEnds.{Deed, Spares, taken_by}
 use Rattle.papaya_settles.specs.Given.Finishes.Makings.{Beginning, HasMade}
 use Rattle.papaya_settles.specs.Given.Finishes.Maps.{Standing}
@@ -42,6 +34,12 @@ use Rattle.papaya_settles.proofs.Gains.{none_changed}
 use Rattle.papaya_shards.proofs.ShardKept.{none_shards, same_setting, word_kept, shards_kept, makes_kept, adds_kept}
 use Rattle.papaya_settles.proofs.Uncounted.{CountsNowhere}
 use Rattle.papaya_shards.proofs.WordOps.{gone_there}
+use Rattle.papaya_settles.proofs.Given.Scenes.May.{may_row}
+use Rattle.papaya_settles.specs.Given.Scenes.Ending.{ending_begun}
+use Rattle.papaya_settles.specs.Given.Scenes.Held.{Held, IsAt}
+use Rattle.papaya_settles.specs.Given.Scenes.OnSlots.{HappensAt, RowSteps}
+use Rattle.papaya_settles.specs.Given.Scenes.Rows.{request_of}
+use Rattle.papaya_settles.specs.Given.Scenes.Scene.{IsOnSlot, Scene, slot_of}
 
 pub counters_begin : (K V : Type 0) → CountersBegin K V
 counters_begin K V roots name = record {
@@ -58,20 +56,20 @@ memory_kept {K} {V} m m2 same c f x y was is = one_of y x (sym is ∙ ap (λ (n 
 row_nowhere : (known : Known) (told : Changed) → TellsRow told → CountsNowhere known told
 row_nowhere known told tells b field old new of is counter = absurd (subst TellsRow is tells)
 
-module _ {K V S : Type 0} (same : K → K → Bool) (hash : K → ℕ) (name : ℕ → List ℕ) (m : Moment K V) (known : Known) (s : Scene K V) (old new : Executor K V S) (at_old : IsAt same hash old s)
-    (whole : ShowsWhole same name m known s) (counters : ShowsCounters name m s) (i : ℕ) (row : SlotRow) (here : work_of old i ≡ Some (OnSlot row)) (end : SlotRow × RowTold (Node K V))
-    (steps : RowSteps K V row old.memory.memory new.memory.memory new.memory.changed end) (happened : HappensAt same hash (Step i) s old new) where
+module _ {K V : Type 0} (same : K → K → Bool) (hash : ℕ → K → ℕ) (name : ℕ → List ℕ) (m : Moment K V) (known : Known) (s : Scene K V) (old new : Held K V) (at_old : IsAt same hash old s)
+    (whole : ShowsWhole same name m known s) (counters : ShowsCounters name m s) (i : ℕ) (row : SlotRow) (here : IsOnSlot s i row) (end : SlotRow × RowTold (Node K V))
+    (steps : RowSteps K V row old.memory new.memory new.changed end) (happened : HappensAt same hash (Step i) s old new) where
   abbrev t : Scene K V
   t = scene_then same hash (Step i) s old new happened
 
   abbrev told : Changed
-  told = new.memory.changed
+  told = new.changed
 
   made : Operated s.world.memory t.world.memory told
   made =
       subst (λ (n : Mem (Node K V)). Operated s.world.memory n told) (sym happened.4.memory)
-      (subst (λ (n : Mem (Node K V)). Operated n new.memory.memory told) (sym at_old.memory)
-      (row_operated old.memory.memory new.memory.memory told end row (may_taken same hash old s at_old i row here (slot_of i) row (row_at same hash old s at_old i row here)) steps))
+      (subst (λ (n : Mem (Node K V)). Operated n new.memory told) (sym at_old.memory)
+      (row_operated old.memory new.memory told end row (may_row same hash old s at_old i row here) steps))
 
   -- counters are noted as such
   abbrev IsCounter : ℕ → Type 0
@@ -79,7 +77,7 @@ module _ {K V S : Type 0} (same : K → K → Bool) (hash : K → ℕ) (name : �
 
   keeps : (c f x y : ℕ) → IsCounter c → word_at s.world.memory (Word c f) ≡ Some x → word_at t.world.memory (Word c f) ≡ Some y → y ≡ x
   keeps c f x y its was is =
-      word_kept known s.world.memory t.world.memory told made (row_nowhere known told (row_tells old.memory.memory new.memory.memory told end row steps)) c f x y its.0 its.1 was is
+      word_kept known s.world.memory t.world.memory told made (row_nowhere known told (row_tells old.memory new.memory told end row steps)) c f x y its.0 its.1 was is
 
   row_counters : ShowsCounters name (with_effects None None (effects_of acts.Row known told) m) t
   row_counters =
@@ -102,7 +100,7 @@ module _ {K V : Type 0} (setting : Setting) (caller : ℕ) (w w2 : World (Node K
       by (suc n) e = absurd (gone_there w2.memory c f (spares.gone c (omega (arith, e))) y is)
 
 -- where each word that is there is what it was, and calls, maps and makings are as they were
-module _ {K V S : Type 0} (same : K → K → Bool) (hash : K → ℕ) (name : ℕ → List ℕ) (m v : Moment K V) (s t : Scene K V) (new : Executor K V S) (at_new : IsAt same hash new t)
+module _ {K V : Type 0} (same : K → K → Bool) (hash : ℕ → K → ℕ) (name : ℕ → List ℕ) (m v : Moment K V) (s t : Scene K V) (new : Held K V) (at_new : IsAt same hash new t)
     (counters : ShowsCounters name m s) (shards : v.shards ≡ m.shards) (calls : v.calls ≡ m.calls) where
   abbrev AnyBlock : ℕ → Type 0
   AnyBlock c = Unit {0}
@@ -115,26 +113,25 @@ module _ {K V S : Type 0} (same : K → K → Bool) (hash : K → ℕ) (name : �
     adds = adds_kept name m v s t calls under_way counters.adds;
   }
 
-module _ (K V S : Type 0) (same : K → K → Bool) (hash : K → ℕ) where
-  pub rows_begin_counters : RowsBeginCounters K V S same hash
-  rows_begin_counters name m s old new at_old counters called i may leads =
-      let to = leads may in
-      let t : Scene K V = scene_then same hash (Begin i (request_of (slot_of i) called)) s old new to.3 in
-      words_kept same hash name m m s t new to.3.4 counters refl refl
+module _ (K V : Type 0) (same : K → K → Bool) (hash : ℕ → K → ℕ) where
+  pub rows_begin_counters : RowsBeginCounters K V same hash
+  rows_begin_counters name m s old new at_old counters called i leads =
+      let t : Scene K V = scene_then same hash (Begin i (request_of (slot_of i) called)) s old new leads.2 in
+      words_kept same hash name m m s t new leads.2.4 counters refl refl
       (λ c f x y was is. memory_kept s.world.memory t.world.memory
-      (to.3.4.memory ∙ ap (λ (n : Teller (Mem (Node K V))). n.memory) to.0 ∙ sym at_old.memory) c f x y was is)
-      (λ n st is. same_setting (s.maps n) (to.3.2 n) (to.3.3 n) st is) refl refl
+      (leads.2.4.memory ∙ leads.0 ∙ sym at_old.memory) c f x y was is)
+      (λ n st is. same_setting (s.maps n) (leads.2.2 n) (leads.2.3 n) st is) refl refl
 
-  pub rows_keep_counters : RowsKeepCounters K V S same hash
+  pub rows_keep_counters : RowsKeepCounters K V same hash
   rows_keep_counters name m known s old new at_old whole counters i told leads row here =
-      let to = leads row here in row_counters same hash name m known s old new at_old whole counters i row here (to.0, told) to.1 to.4
+      let to = leads row here in row_counters same hash name m known s old new at_old whole counters i row here (to.0, told) to.1 to.2
 
-  pub endings_keep_counters : EndingsKeepCounters K V S same hash
+  pub endings_keep_counters : EndingsKeepCounters K V same hash
   endings_keep_counters name m known s old new at_old counters i told leads f here map =
       let to = leads f here in
       let it = ending_at same hash s old new i f to.0 to.2.w2 to.2.deed told to.3 in
       let t : Scene K V = ending_after same hash s new i f to.0 to.2.w2 to.2.deed told to.3 in
-      let effects : List Effect = effects_of (acts.Ending map) known new.memory.changed in
+      let effects : List Effect = effects_of (acts.Ending map) known new.changed in
       words_kept same hash name m (with_effects None (Some map) effects m) s t new it.3 counters (none_shards (Some map) effects m) (none_changed (Some map) effects m)
       (λ c x a b was is. spared f.setting i s.world to.2.w2 to.2.deed to.2.spares c x a b was (subst (λ (w : World (Node K V)). word_at w.memory (Word c x) ≡ Some b) it.0 is))
       (λ n st is. (st, subst (λ (g : ℕ → Option (Standing K)). g n ≡ Some st) it.2 is, refl)) it.1 it.4

@@ -9,8 +9,8 @@ use Rattle.papaya_settles.specs.Given.Raw.declared.machines.machine.Machine.TheV
 use Rattle.papaya_settles.specs.Given.Schedules.Moment.{UnderWay as CallThere, Moment}
 use Rattle.papaya_settles.specs.Given.Schedules.Views.{call_of}
 use Rattle.papaya_settles.specs.Given.Callers.Together.{UnderWay}
-use Rattle.papaya_settles.specs.Given.Executor.IsAt.{Scene}
 use Rattle.papaya_settles.specs.Given.Finishes.Machines.{machine_of}
+use Rattle.papaya_settles.specs.Given.Scenes.Scene.{Scene}
 
 -- a call on one key is about to count the pair of this word, which it has removed, or one that it has stored, if the word is 0
 abbrev pub adds_in_calling : Calling → Option ℕ

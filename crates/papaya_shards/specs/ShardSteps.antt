@@ -1,5 +1,5 @@
 -- What is promised of the words of maps' counts: the memory's are those of the moment, whoever takes a step.
-use Rattle.std.specs.Prelude.{◌≡◌, ℕ, ◌≤◌, Bool, true, false, List, length, Option, Some, None}
+use Rattle.std.specs.Prelude.{◌≡◌, ℕ, ◌≤◌, Bool, true, false, List, Option, Some, None}
 use Rattle.papaya_settles.specs.Given.Seize.World.{Begin, Step, with_at}
 use Rattle.papaya_settles.specs.Given.Seize.declared.progress.Progress.{Progress as Making}
 use Rattle.papaya_settles.specs.Given.Seize.declared.rows.settle.Settled.{Settled}
@@ -19,23 +19,15 @@ use Rattle.papaya_settles.specs.Given.Callers.Together.{UnderWay, ForRoom, Count
 use Rattle.papaya_settles.specs.Given.Effects.Effects.{effects_of}
 use Rattle.papaya_settles.specs.Given.Effects.Known.{Known}
 use Rattle.papaya_settles.specs.Given.Effects.declared.acting.Acting.TheVariants as acts
-use Rattle.papaya_settles.specs.Given.Executor.Ending.{EndingLeads, ending_begun}
-use Rattle.papaya_settles.specs.Given.Executor.IsAt.{Scene, IsAt, at_first, slot_of, work_of}
-use Rattle.papaya_settles.specs.Given.Executor.Making.{MakingLeads}
-use Rattle.papaya_settles.specs.Given.Executor.OnSlots.{MayBegin, RowBegins, RowLeads}
-use Rattle.papaya_settles.specs.Given.Executor.Replying.{scene_with}
-use Rattle.papaya_settles.specs.Given.Executor.Rows.{request_of}
-use Rattle.papaya_settles.specs.Given.Executor.Stepping.{StepLeads, scene_after}
-use Rattle.papaya_settles.specs.Given.Executor.declared.executor.Executor.{Executor}
-use Rattle.papaya_settles.specs.Given.Executor.declared.row.RowTold.{RowTold}
-use Rattle.papaya_settles.specs.Given.Executor.declared.row.SlotCall.{SlotCall}
-use Rattle.papaya_settles.specs.Given.Executor.declared.row.SlotRow.{SlotRow}
-use Rattle.papaya_settles.specs.Given.Executor.declared.worker.Work.TheVariants.{OnSlot}
+use Rattle.papaya_settles.specs.Given.Scenes.declared.row.RowTold.{RowTold}
+use Rattle.papaya_settles.specs.Given.Scenes.declared.row.SlotCall.{SlotCall}
+use Rattle.papaya_settles.specs.Given.Scenes.declared.row.SlotRow.{SlotRow}
 use Rattle.papaya_settles.specs.Given.Finishes.Endings.{Finishing}
 use Rattle.papaya_settles.specs.Given.Finishes.Machines.{machine_of}
 use Rattle.papaya_settles.specs.Given.Finishes.Makings.{Beginning, HasMade}
 use Rattle.papaya_settles.specs.Given.Finishes.Maps.{Standing}
 use Rattle.papaya_settles.specs.Given.Follows.Calling.{NoneNamed, told, come_to}
+use Rattle.papaya_settles.specs.Given.Moments.Numbers.{MapsAreBelow}
 use Rattle.papaya_settles.specs.Given.Moments.Whole.{ShowsWhole}
 use Rattle.papaya_settles.specs.Given.Others.Endings.{ending_after}
 use Rattle.papaya_settles.specs.Given.Others.Makings.{making_after}
@@ -43,6 +35,14 @@ use Rattle.papaya_settles.specs.Given.Others.Rows.{scene_then}
 use Rattle.papaya_shards.specs.Adds.{adds_of}
 use Rattle.papaya_settles.specs.Counts.{is_to_count, ShowsCounts}
 use Rattle.papaya_shards.specs.ShardWords.{IsUncounted, NumbersUncounted, ShowsCounters}
+use Rattle.papaya_settles.specs.Given.Scenes.Ending.{EndingLeads, ending_begun}
+use Rattle.papaya_settles.specs.Given.Scenes.Held.{Held, IsAt}
+use Rattle.papaya_settles.specs.Given.Scenes.Making.{MakingLeads}
+use Rattle.papaya_settles.specs.Given.Scenes.OnSlots.{RowBegins, RowLeads}
+use Rattle.papaya_settles.specs.Given.Scenes.Replying.{scene_with}
+use Rattle.papaya_settles.specs.Given.Scenes.Rows.{request_of}
+use Rattle.papaya_settles.specs.Given.Scenes.Scene.{IsOnSlot, Scene, at_first, slot_of}
+use Rattle.papaya_settles.specs.Given.Scenes.Stepping.{StepLeads, scene_after}
 
 -- The promises: so it is as a run begins,
 abbrev pub CountersBegin : Type 0 → Type 0 → Type 0
@@ -54,60 +54,59 @@ AddsUp (ForRoom r) = Unit {0}
 AddsUp (Counting sum) = Unit {0}
 AddsUp _ = ⊥
 
-module _ (K V S : Type 0) (same : K → K → Bool) (hash : K → ℕ) where
+module _ (K V : Type 0) (same : K → K → Bool) (hash : ℕ → K → ℕ) where
   -- after each step of a call, whoever's: one that counts changes its shard alone, to what the moment says of it then,
   abbrev pub CallsKeepCounters : Type 0
   CallsKeepCounters =
-      (name : ℕ → List ℕ) (m : Moment K V) (known : Known) (s : Scene K V) (old new : Executor K V S) → IsAt same hash old s
+      (name : ℕ → List ℕ) (m : Moment K V) (known : Known) (s : Scene K V) (old new : Held K V) → IsAt same hash old s
       → ShowsWhole same name m known s → ShowsCounts name m s → ShowsCounters name m s
       → (map i : ℕ) (u : UnderWay K V K) (here : s.calls map i ≡ Some u) (said : Progress (Node K V)) (leads : StepLeads same hash i said s old new)
       → (let to = leads map u here in
-      ShowsCounters name (with_effects (Some (name i)) (Some map) (effects_of (acts.Call i map) known new.memory.changed) m) (scene_after same hash s old new map i to.0 u to.1 said to.4))
+      ShowsCounters name (with_effects (Some (name i)) (Some map) (effects_of (acts.Call i map) known new.changed) m) (scene_after same s old new map i to.0 u to.1 said to.4))
 
   -- nothing is counted on a number that no map has had yet,
   abbrev pub CallsKeepNumbers : Type 0
   CallsKeepNumbers =
-      (name : ℕ → List ℕ) (m : Moment K V) (known : Known) (s : Scene K V) (old new : Executor K V S) → IsAt same hash old s
-      → ShowsWhole same name m known s → ShowsCounts name m s → ShowsCounters name m s → NumbersUncounted old m
+      (name : ℕ → List ℕ) (m : Moment K V) (known : Known) (s : Scene K V) (old new : Held K V) → IsAt same hash old s
+      → ShowsWhole same name m known s → ShowsCounts name m s → ShowsCounters name m s → (count : ℕ) → MapsAreBelow count s → NumbersUncounted count m
       → (map i : ℕ) (u : UnderWay K V K) (here : s.calls map i ≡ Some u) (said : Progress (Node K V)) (leads : StepLeads same hash i said s old new)
-      → length old.maps.items ≤ length new.maps.items
-      → NumbersUncounted new (with_effects (Some (name i)) (Some map) (effects_of (acts.Call i map) known new.memory.changed) m)
+      → NumbersUncounted count (with_effects (Some (name i)) (Some map) (effects_of (acts.Call i map) known new.changed) m)
 
   -- and a reservation and a counting count nothing,
   abbrev pub RoomsCountNothing : Type 0
   RoomsCountNothing =
-      (name : ℕ → List ℕ) (m : Moment K V) (known : Known) (s : Scene K V) (old new : Executor K V S) → IsAt same hash old s → ShowsWhole same name m known s
+      (name : ℕ → List ℕ) (m : Moment K V) (known : Known) (s : Scene K V) (old new : Held K V) → IsAt same hash old s → ShowsWhole same name m known s
       → (map i : ℕ) (u : UnderWay K V K) (here : s.calls map i ≡ Some u) (said : Progress (Node K V)) (leads : StepLeads same hash i said s old new) → AddsUp u
-      → (with_effects (Some (name i)) (Some map) (effects_of (acts.Call i map) known new.memory.changed) m).shards ≡ m.shards
+      → (with_effects (Some (name i)) (Some map) (effects_of (acts.Call i map) known new.changed) m).shards ≡ m.shards
 
   -- where a row begins on a slot, and after each step of it,
   abbrev pub RowsBeginCounters : Type 0
   RowsBeginCounters =
-      (name : ℕ → List ℕ) (m : Moment K V) (s : Scene K V) (old new : Executor K V S) → IsAt same hash old s → ShowsCounters name m s
-      → (called : SlotCall) (i : ℕ) (may : MayBegin old (slot_of i) called) (leads : RowBegins same hash called i s old new)
-      → ShowsCounters name m (scene_then same hash (Begin i (request_of (slot_of i) called)) s old new (leads may).3)
+      (name : ℕ → List ℕ) (m : Moment K V) (s : Scene K V) (old new : Held K V) → IsAt same hash old s → ShowsCounters name m s
+      → (called : SlotCall) (i : ℕ) (leads : RowBegins same hash called i s old new)
+      → ShowsCounters name m (scene_then same hash (Begin i (request_of (slot_of i) called)) s old new leads.2)
 
   abbrev pub RowsKeepCounters : Type 0
   RowsKeepCounters =
-      (name : ℕ → List ℕ) (m : Moment K V) (known : Known) (s : Scene K V) (old new : Executor K V S) → IsAt same hash old s → ShowsWhole same name m known s → ShowsCounters name m s
-      → (i : ℕ) (said : RowTold (Node K V)) (leads : RowLeads same hash i said s old new) (row : SlotRow) (here : work_of old i ≡ Some (OnSlot row))
-      → ShowsCounters name (with_effects None None (effects_of acts.Row known new.memory.changed) m) (scene_then same hash (Step i) s old new (leads row here).4)
+      (name : ℕ → List ℕ) (m : Moment K V) (known : Known) (s : Scene K V) (old new : Held K V) → IsAt same hash old s → ShowsWhole same name m known s → ShowsCounters name m s
+      → (i : ℕ) (said : RowTold (Node K V)) (leads : RowLeads same hash i said s old new) (row : SlotRow) (here : IsOnSlot s i row)
+      → ShowsCounters name (with_effects None None (effects_of acts.Row known new.changed) m) (scene_then same hash (Step i) s old new (leads row here).2)
 
   -- after each step of a making, on whichever map its effects are told, if on any,
   abbrev pub MakingsKeepCounters : Type 0
   MakingsKeepCounters =
-      (name : ℕ → List ℕ) (m : Moment K V) (known : Known) (s : Scene K V) (old new : Executor K V S) → IsAt same hash old s → ShowsWhole same name m known s → ShowsCounters name m s
+      (name : ℕ → List ℕ) (m : Moment K V) (known : Known) (s : Scene K V) (old new : Held K V) → IsAt same hash old s → ShowsWhole same name m known s → ShowsCounters name m s
       → (i : ℕ) (said : Making Setting) (leads : MakingLeads same hash i said s old new) (b : Beginning K) (here : s.makers i ≡ Some b) (of : Option ℕ)
       → (let to = leads b here in
-      ShowsCounters name (with_effects None of (effects_of (acts.Making b.map) known new.memory.changed) m) (making_after same hash s old new i b to.0 to.2.step.w2 said to.3))
+      ShowsCounters name (with_effects None of (effects_of (acts.Making b.map) known new.changed) m) (making_after same hash s old new i b to.0 to.2.step.w2 said to.3))
 
   -- and of an end.
   abbrev pub EndingsKeepCounters : Type 0
   EndingsKeepCounters =
-      (name : ℕ → List ℕ) (m : Moment K V) (known : Known) (s : Scene K V) (old new : Executor K V S) → IsAt same hash old s → ShowsCounters name m s
+      (name : ℕ → List ℕ) (m : Moment K V) (known : Known) (s : Scene K V) (old new : Held K V) → IsAt same hash old s → ShowsCounters name m s
       → (i : ℕ) (said : Settled (Node K V)) (leads : EndingLeads same hash i said s old new) (f : Finishing K V) (here : s.enders i ≡ Some f) (map : ℕ)
       → (let to = leads f here in
-      ShowsCounters name (with_effects None (Some map) (effects_of (acts.Ending map) known new.memory.changed) m) (ending_after same hash s new i f to.0 to.2.w2 to.2.deed said to.3))
+      ShowsCounters name (with_effects None (Some map) (effects_of (acts.Ending map) known new.changed) m) (ending_after same hash s new i f to.0 to.2.w2 to.2.deed said to.3))
 
 module _ (K V : Type 0) where
   -- So it is where the making of a map begins on which nothing was counted,
@@ -149,10 +148,10 @@ module _ (K V : Type 0) where
       → ((of i : ℕ) (u : UnderWay K V K) → t.calls of i ≡ Some u → (removed : ℕ) → adds_of (machine_of u) ≡ Some removed
       → (before : UnderWay K V K) × (s.calls of i ≡ Some before) × (adds_of (machine_of before) ≡ Some removed)) → ShowsCounters name v t
 
-module _ (K V S : Type 0) where
+module _ (K V : Type 0) where
   -- Nothing was counted on a number that no map has had yet as a run begins, and as long as shards are as they were, and there are as many maps, or more.
   abbrev pub NumbersBegin : Type 0
-  NumbersBegin = (e : Executor K V S) → NumbersUncounted e start
+  NumbersBegin = (count : ℕ) → NumbersUncounted {K = K} {V = V} count start
 
   abbrev pub NumbersStay : Type 0
-  NumbersStay = (m v : Moment K V) (e e2 : Executor K V S) → NumbersUncounted e m → v.shards ≡ m.shards → length e.maps.items ≤ length e2.maps.items → NumbersUncounted e2 v
+  NumbersStay = (m v : Moment K V) (count more : ℕ) → NumbersUncounted count m → v.shards ≡ m.shards → count ≤ more → NumbersUncounted more v

@@ -1,13 +1,12 @@
 -- The words of a map's count, as the memory has them, and as the moment says.
-use Rattle.std.specs.Prelude.{◌≡◌, ℕ, ◌≤◌, List, length, Some}
+use Rattle.std.specs.Prelude.{◌≡◌, ℕ, ◌≤◌, List, Some}
 use Rattle.papaya_settles.specs.Given.SeizeWords.Mem.{word_at}
 use Rattle.papaya_settles.specs.Given.SeizeWords.declared.at.At.TheVariants.{Word}
 use Rattle.papaya_settles.specs.Given.Schedules.Moment.{Moment}
-use Rattle.papaya_settles.specs.Given.Executor.IsAt.{Scene}
-use Rattle.papaya_settles.specs.Given.Executor.declared.executor.Executor.{Executor}
 use Rattle.papaya_settles.specs.Given.Finishes.Makings.{Beginning, HasMade}
 use Rattle.papaya_settles.specs.Given.Finishes.Maps.{Standing}
 use Rattle.papaya_shards.specs.Adds.{ShowsAdds}
+use Rattle.papaya_settles.specs.Given.Scenes.Scene.{Scene}
 
 module _ {K V : Type 0} where
   -- each shard of a map that stands says what the moment says
@@ -20,9 +19,9 @@ module _ {K V : Type 0} where
   abbrev pub IsUncounted : ℕ → Moment K V → Type 0
   IsUncounted of m = (shard : ℕ) → m.shards of shard ≡ 0
 
-  -- nothing was counted on a map of a number that none has had yet
-  abbrev pub NumbersUncounted : {S : Type 0} → Executor K V S → Moment K V → Type 0
-  NumbersUncounted e m = (of : ℕ) → length e.maps.items ≤ of → IsUncounted of m
+  -- nothing was counted on a map of this number or a higher one
+  abbrev pub NumbersUncounted : ℕ → Moment K V → Type 0
+  NumbersUncounted count m = (of : ℕ) → count ≤ of → IsUncounted of m
 
   -- nothing was counted on a map that is being made, and each shard that was made for it says so
   abbrev pub MakesUncounted : Moment K V → Scene K V → Type 0

@@ -25,9 +25,6 @@ use Rattle.papaya_finds.specs.Given.Effects.Known.{Known}
 use Rattle.papaya_finds.specs.Given.Effects.declared.acting.Acting.TheVariants as acts
 use Rattle.papaya_finds.specs.Given.Effects.declared.role.Role.{Role}
 use Rattle.papaya_finds.specs.Given.Effects.declared.role.Role.TheVariants as role
-use Rattle.papaya_finds.specs.Given.Executor.IsAt.{Scene, IsAt}
-use Rattle.papaya_finds.specs.Given.Executor.Stepping.{StepLeads}
-use Rattle.papaya_finds.specs.Given.Executor.declared.executor.Executor.{Executor}
 use Rattle.papaya_finds.specs.Given.Finishes.Machines.{machine_of}
 use Rattle.papaya_finds.specs.Given.Finishes.Maps.{Standing}
 use Rattle.papaya_finds.specs.Given.Follows.Calls.{IsCalled}
@@ -56,12 +53,15 @@ use Rattle.papaya_sources.specs.Sources.{HasSource, ShowsSources}
 use Rattle.papaya_sources.specs.Steps.{CallsFindSpace}
 use Rattle.papaya_sources.proofs.Listed.{many_tables, no_more_behind, listed_waits, owed_not_behind}
 use Rattle.papaya_sources.proofs.Room.{CameFrom, has_room}
+use Rattle.papaya_finds.specs.Given.Scenes.Held.{Held, IsAt}
+use Rattle.papaya_finds.specs.Given.Scenes.Scene.{Scene}
+use Rattle.papaya_finds.specs.Given.Scenes.Stepping.{StepLeads}
 
 at_most_one : (q : Bool) → once_if q ≤ 1
 at_most_one true = omega arith
 at_most_one false = omega arith
 
-module _ {K V S : Type 0} (same : K → K → Bool) (hash : K → ℕ) (name : ℕ → List ℕ) (m : Moment K V) (known : Known) (s : Scene K V) (old new : Executor K V S) (at_old : IsAt same hash old s)
+module _ {K V : Type 0} (same : K → K → Bool) (hash : ℕ → K → ℕ) (name : ℕ → List ℕ) (m : Moment K V) (known : Known) (s : Scene K V) (old new : Held K V) (at_old : IsAt same hash old s)
     (whole : ShowsWhole same name m known s) (entries : ShowsEntries s) (owning : OwnAreMade known s.world) (owes : ShowsOwed name m known s) (sources : ShowsSources same name m known s) (order : AllIsInOrder m)
     (map i : ℕ) (u : UnderWay K V K) (here : s.calls map i ≡ Some u) (said : Progress (Node K V)) (leads : StepLeads same hash i said s old new) where
   abbrev to : WentTo same hash name m known s old new at_old sources.shown map i u here said leads
@@ -151,7 +151,7 @@ module _ {K V S : Type 0} (same : K → K → Bool) (hash : K → ℕ) (name : �
         subst (λ (xs : List TableThere). length (behind t m.deferred) < sum_by (λ x. x.shape.len) (filter (λ x. nat_le x.table.turn t.turn) xs)) (sym listed) fits
 
   abbrev effects : List Effect
-  effects = effects_of (acts.Call i map) known new.memory.changed
+  effects = effects_of (acts.Call i map) known new.changed
 
   abbrev Finds : List Effect → Type 0
   Finds l = FindPast (name i) map l m → FindBehind (name i) map l m → FindSpace (name i) map l m
@@ -208,10 +208,10 @@ module _ {K V S : Type 0} (same : K → K → Bool) (hash : K → ℕ) (name : �
 
   pub step_finds : Finds effects
   step_finds = elim (own_or_row same hash name m known s old new at_old sources.shown map i u here said leads u to.4.did) as (λ _. Finds effects) [
-    | inl own ↦ λ past behind_it. all_none effects m c its.1 (steps_take_out K V S same hash name m known s old new at_old sources.shown map i u here said leads own []).2
-    | inr other ↦ row_finds (rows_tell_due K V S same hash name m known s old new at_old sources.shown whole.all.rows entries owning map i u here said leads other)
+    | inl own ↦ λ past behind_it. all_none effects m c its.1 (steps_take_out K V same hash name m known s old new at_old sources.shown map i u here said leads own []).2
+    | inr other ↦ row_finds (rows_tell_due K V same hash name m known s old new at_old sources.shown whole.all.rows entries owning map i u here said leads other)
   ]
 
-pub calls_find_space : (K V S : Type 0) (same : K → K → Bool) (hash : K → ℕ) → CallsFindSpace K V S same hash
-calls_find_space K V S same hash name m known s old new at whole entries owning owes sources order map i u here said leads =
+pub calls_find_space : (K V : Type 0) (same : K → K → Bool) (hash : ℕ → K → ℕ) → CallsFindSpace K V same hash
+calls_find_space K V same hash name m known s old new at whole entries owning owes sources order map i u here said leads =
     step_finds same hash name m known s old new at whole entries owning owes sources order map i u here said leads

@@ -34,9 +34,6 @@ use Rattle.papaya_finds.proofs.Given.Callers.Together.Fits.{map_in_slot}
 use Rattle.papaya_finds.specs.Given.Effects.Effects.{effects_of, known_after}
 use Rattle.papaya_finds.specs.Given.Effects.Known.{Known}
 use Rattle.papaya_finds.specs.Given.Effects.declared.acting.Acting.TheVariants.{Call}
-use Rattle.papaya_finds.specs.Given.Executor.IsAt.{Scene, IsAt, slot_of}
-use Rattle.papaya_finds.specs.Given.Executor.Stepping.{StepLeads, scene_after}
-use Rattle.papaya_finds.specs.Given.Executor.declared.executor.Executor.{Executor}
 use Rattle.papaya_finds.specs.Given.Finishes.Maps.{Standing, IsSameMap}
 use Rattle.papaya_finds.specs.Given.Follows.Shows.{Shows}
 use Rattle.papaya_finds.proofs.Given.Follows.Operations.{LeavesBy, Operated, operated_leaves, seen_write, told_write}
@@ -57,6 +54,9 @@ use Rattle.papaya_sources.proofs.New.{new_are_there, aside_stores_none}
 use Rattle.papaya_sources.proofs.Left.{own_left}
 use Rattle.papaya_sources.proofs.Own.{own_came}
 use Rattle.papaya_sources.proofs.Stays.{sources_stay}
+use Rattle.papaya_finds.specs.Given.Scenes.Held.{Held, IsAt}
+use Rattle.papaya_finds.specs.Given.Scenes.Scene.{Scene, slot_of}
+use Rattle.papaya_finds.specs.Given.Scenes.Stepping.{StepLeads, scene_after}
 
 -- a pair that is not in this map
 not_in_it : (map : ℕ) (p : Place) → (p ≡ InMap map → ⊥) → is_in_map map p ≡ false
@@ -75,7 +75,7 @@ same_standing {K} (Some before) o2 (blocks, sights, same_map, part) st is =
     let one = one_of st (record before { blocks = blocks; sights = sights }) (sym is ∙ same_map) in
     (before, refl, ap (λ (x : Standing K). x.chart) one, sym (ap (λ (x : Standing K). x.setting) one))
 
-module _ {K V S : Type 0} (same : K → K → Bool) (hash : K → ℕ) (name : ℕ → List ℕ) (m : Moment K V) (known : Known) (s : Scene K V) (old new : Executor K V S) (at : IsAt same hash old s)
+module _ {K V : Type 0} (same : K → K → Bool) (hash : ℕ → K → ℕ) (name : ℕ → List ℕ) (m : Moment K V) (known : Known) (s : Scene K V) (old new : Held K V) (at : IsAt same hash old s)
     (whole : ShowsWhole same name m known s) (sources : ShowsSources same name m known s) (map i : ℕ) (u : UnderWay K V K) (here : s.calls map i ≡ Some u) (said : Progress (Node K V))
     (leads : StepLeads same hash i said s old new) where
   abbrev shown : Shows same name m known s
@@ -91,10 +91,10 @@ module _ {K V S : Type 0} (same : K → K → Bool) (hash : K → ℕ) (name : �
   standing = to.0
 
   abbrev m2 : Mem (Node K V)
-  m2 = new.memory.memory
+  m2 = new.memory
 
   abbrev told : Changed
-  told = new.memory.changed
+  told = new.changed
 
   abbrev w : World (Node K V)
   w = s.world
@@ -109,7 +109,7 @@ module _ {K V S : Type 0} (same : K → K → Bool) (hash : K → ℕ) (name : �
   v = with_effects (Some (name i)) (Some map) effects m
 
   abbrev s2 : Scene K V
-  s2 = scene_after same hash s old new map i to.0 u to.1 said to.4
+  s2 = scene_after same s old new map i to.0 u to.1 said to.4
 
   abbrev Goal : Type 0
   Goal = ShowsSources same name v known2 s2
@@ -311,6 +311,6 @@ module _ {K V S : Type 0} (same : K → K → Bool) (hash : K → ℕ) (name : �
   then_sources (OverAll x) (p2, end, machine_is, told_is, inl (step, moved)) = moved_sources _ step.step.went step.step.blocks2 step.step.grown step.step.sights2 moved.1
   then_sources (OverAll x) (p2, end, machine_is, told_is, inr (row, stayed)) = row_stays row.step.w2 row.step.memory row.step.happened stayed.1
 
-pub calls_keep_sources : (K V S : Type 0) (same : K → K → Bool) (hash : K → ℕ) → CallsKeepSources K V S same hash
-calls_keep_sources K V S same hash name m known s old new at whole sources map i u here said leads =
+pub calls_keep_sources : (K V : Type 0) (same : K → K → Bool) (hash : ℕ → K → ℕ) → CallsKeepSources K V same hash
+calls_keep_sources K V same hash name m known s old new at whole sources map i u here said leads =
     then_sources same hash name m known s old new at whole sources map i u here said leads u (went_to same hash name m known s old new at sources.shown map i u here said leads).4.did

@@ -4,10 +4,10 @@ use Rattle.papaya_finds.specs.Given.Tables.Chunks.{is_incremental}
 use Rattle.papaya_finds.specs.Given.Schedules.Moment.{Moment}
 use Rattle.papaya_finds.specs.Given.Rule.Chart.{Phase, Still, Tombstone, Holds, Chart}
 use Rattle.papaya_finds.specs.Given.Effects.Known.{Known}
-use Rattle.papaya_finds.specs.Given.Executor.IsAt.{Scene}
 use Rattle.papaya_finds.specs.Given.Finishes.Maps.{Standing}
 use Rattle.papaya_finds.specs.Given.Follows.Shows.{Shows}
 use Rattle.papaya_finds.specs.Given.Spots.Spots.{spot_in}
+use Rattle.papaya_finds.specs.Given.Scenes.Scene.{Scene}
 
 module _ {K : Type 0} (c : Chart K) (n : ℕ) where
   -- this place of a table names the pair, and it is being copied, or was

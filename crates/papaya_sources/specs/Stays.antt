@@ -3,11 +3,11 @@ use Rattle.std.specs.Prelude.{◌≡◌, ◌≢◌, ◌⊎◌, ℕ, ◌<◌, ◌
 use Rattle.papaya_finds.specs.Given.Tables.Chunks.{is_incremental}
 use Rattle.papaya_finds.specs.Given.Schedules.Moment.{Moment, start}
 use Rattle.papaya_finds.specs.Given.Effects.Known.{Known, nothing_known}
-use Rattle.papaya_finds.specs.Given.Executor.IsAt.{Scene, at_first}
 use Rattle.papaya_finds.specs.Given.Finishes.Maps.{Standing}
 use Rattle.papaya_finds.specs.Given.Rule.Chart.{Tombstone}
 use Rattle.papaya_finds.specs.Given.Follows.Shows.{Shows}
 use Rattle.papaya_sources.specs.Sources.{ShowsSources}
+use Rattle.papaya_finds.specs.Given.Scenes.Scene.{Scene, at_first}
 
 module _ {K V : Type 0} where
   -- pairs were stored where they were stored, and lie where they lay, and none has come

@@ -8,9 +8,6 @@ use Rattle.papaya_finds.specs.Given.Callers.Together.{UnderWay}
 use Rattle.papaya_finds.specs.Given.Effects.Effects.{effects_of, known_after}
 use Rattle.papaya_finds.specs.Given.Effects.Known.{Known}
 use Rattle.papaya_finds.specs.Given.Effects.declared.acting.Acting.TheVariants as acts
-use Rattle.papaya_finds.specs.Given.Executor.IsAt.{Scene, IsAt}
-use Rattle.papaya_finds.specs.Given.Executor.Stepping.{StepLeads, scene_after}
-use Rattle.papaya_finds.specs.Given.Executor.declared.executor.Executor.{Executor}
 use Rattle.papaya_finds.specs.Given.Moments.Whole.{ShowsWhole}
 use Rattle.papaya_finds.specs.Given.Settles.Due.{OwnAreMade}
 use Rattle.papaya_finds.specs.Given.Settles.Entries.{ShowsEntries}
@@ -18,20 +15,23 @@ use Rattle.papaya_finds.specs.Given.Settles.Hand.{ShowsOwed}
 use Rattle.papaya_finds.specs.Waits.{FindPast, FindBehind, FindSpace}
 use Rattle.papaya_finds.specs.Within.{AllIsInOrder}
 use Rattle.papaya_sources.specs.Sources.{ShowsSources}
+use Rattle.papaya_finds.specs.Given.Scenes.Held.{Held, IsAt}
+use Rattle.papaya_finds.specs.Given.Scenes.Scene.{Scene}
+use Rattle.papaya_finds.specs.Given.Scenes.Stepping.{StepLeads, scene_after}
 
-module _ (K V S : Type 0) (same : K → K → Bool) (hash : K → ℕ) where
+module _ (K V : Type 0) (same : K → K → Bool) (hash : ℕ → K → ℕ) where
   abbrev pub CallsKeepSources : Type 0
   CallsKeepSources =
-      (name : ℕ → List ℕ) (m : Moment K V) (known : Known) (s : Scene K V) (old new : Executor K V S) → IsAt same hash old s → ShowsWhole same name m known s → ShowsSources same name m known s
+      (name : ℕ → List ℕ) (m : Moment K V) (known : Known) (s : Scene K V) (old new : Held K V) → IsAt same hash old s → ShowsWhole same name m known s → ShowsSources same name m known s
       → (map i : ℕ) (u : UnderWay K V K) (here : s.calls map i ≡ Some u) (said : Progress (Node K V)) (leads : StepLeads same hash i said s old new)
       → (let to = leads map u here in
-      ShowsSources same name (with_effects (Some (name i)) (Some map) (effects_of (acts.Call i map) known new.memory.changed) m) (known_after (acts.Call i map) new.memory.changed known)
-      (scene_after same hash s old new map i to.0 u to.1 said to.4))
+      ShowsSources same name (with_effects (Some (name i)) (Some map) (effects_of (acts.Call i map) known new.changed) m) (known_after (acts.Call i map) new.changed known)
+      (scene_after same s old new map i to.0 u to.1 said to.4))
 
   -- At a moment at which all is in order, if a pair that it puts behind a table was copied past that one, in a map that grows in chunks.
   abbrev pub CallsFindSpace : Type 0
   CallsFindSpace =
-      (name : ℕ → List ℕ) (m : Moment K V) (known : Known) (s : Scene K V) (old new : Executor K V S) → IsAt same hash old s → ShowsWhole same name m known s → ShowsEntries s → OwnAreMade known s.world
+      (name : ℕ → List ℕ) (m : Moment K V) (known : Known) (s : Scene K V) (old new : Held K V) → IsAt same hash old s → ShowsWhole same name m known s → ShowsEntries s → OwnAreMade known s.world
       → ShowsOwed name m known s → ShowsSources same name m known s → AllIsInOrder m
       → (map i : ℕ) (u : UnderWay K V K) (here : s.calls map i ≡ Some u) (said : Progress (Node K V)) (leads : StepLeads same hash i said s old new)
-      → (let effects = effects_of (acts.Call i map) known new.memory.changed in FindPast (name i) map effects m → FindBehind (name i) map effects m → FindSpace (name i) map effects m)
+      → (let effects = effects_of (acts.Call i map) known new.changed in FindPast (name i) map effects m → FindBehind (name i) map effects m → FindSpace (name i) map effects m)

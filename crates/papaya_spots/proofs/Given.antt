@@ -14,6 +14,6 @@ pub use Rattle.papaya_others.proofs.Given.Tells
 pub use Rattle.papaya_others.proofs.Given.Callers
 pub use Rattle.papaya_others.proofs.Given.Finishes
 pub use Rattle.papaya_others.proofs.Given.Runs
-pub use Rattle.papaya_others.proofs.Given.Executor
+pub use Rattle.papaya_others.proofs.Given.Scenes
 pub use Rattle.papaya_others.proofs.Given.Follows
 pub use Rattle.papaya_others.proofs as Others

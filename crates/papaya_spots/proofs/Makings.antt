@@ -32,9 +32,6 @@ use Rattle.papaya_others.specs.Given.Effects.declared.acting.Acting.{Acting}
 use Rattle.papaya_others.specs.Given.Effects.declared.acting.Acting.TheVariants.{Making}
 use Rattle.papaya_others.specs.Given.Effects.declared.role.Role.{Role}
 use Rattle.papaya_others.specs.Given.Effects.declared.role.Role.TheVariants as role
-use Rattle.papaya_others.specs.Given.Executor.IsAt.{Scene}
-use Rattle.papaya_others.specs.Given.Executor.Making.{MakingComesTo}
-use Rattle.papaya_others.specs.Given.Executor.declared.executor.Executor.{Executor}
 use Rattle.papaya_others.proofs.Given.Follows.Alike.{put_here, put_elsewhere}
 use Rattle.papaya_others.proofs.Given.Follows.Operations.{LeavesBy}
 use Rattle.papaya_others.proofs.Given.Follows.Steps.{one_of}
@@ -50,6 +47,9 @@ use Rattle.papaya_spots.proofs.Deferred.{effects_leave_outside}
 use Rattle.papaya_spots.proofs.Effects.{AllAside}
 use Rattle.papaya_spots.proofs.Rows.{same_pairs}
 use Rattle.papaya_spots.proofs.Stays.{WerePairs, places_stay}
+use Rattle.papaya_others.specs.Given.Scenes.Held.{Held}
+use Rattle.papaya_others.specs.Given.Scenes.Making.{MakingComesTo}
+use Rattle.papaya_others.specs.Given.Scenes.Scene.{Scene}
 
 -- a block becomes no pair
 pub put_pairs : (known : Known) (x : ℕ) (r : Role) → ((n : ℕ) → r ≡ role.Pair n → ⊥) → WerePairs known (with_role x r known)
@@ -153,7 +153,7 @@ module _ {K V : Type 0} (hash : K → ℕ) (setting : Setting) (places : ℕ) (s
       never : (n k : ℕ) → IsPairOf st known n k → ⊥
       never n k pair = let l = pair.0 in let none = (has_none new).0 in omega (arith, l, none)
 
-module _ {K V S : Type 0} (same : K → K → Bool) (hash : K → ℕ) (s : Scene K V) (old new : Executor K V S) (i : ℕ) (b : Beginning K) (opening : NewMap) (w2 : World (Node K V)) (v : Moment K V) (known2 : Known) where
+module _ {K V : Type 0} (same : K → K → Bool) (hash : ℕ → K → ℕ) (s : Scene K V) (old new : Held K V) (i : ℕ) (b : Beginning K) (opening : NewMap) (w2 : World (Node K V)) (v : Moment K V) (known2 : Known) where
   places_then : (told : Progress Setting) (comes : MakingComesTo same hash s old new i b opening w2 told) → ShowsPlaces v known2 s.maps → ShowsPlaces v known2 (making_after same hash s old new i b opening w2 told comes).maps
   places_then progress.Goes comes h = h
   places_then progress.Waits comes h = h
@@ -166,14 +166,14 @@ module _ {K V S : Type 0} (same : K → K → Bool) (hash : K → ℕ) (s : Scen
     fresh = h.fresh;
   }
 
-module _ (K V S : Type 0) (same : K → K → Bool) (hash : K → ℕ) where
-  pub makings_leave_places : MakingsLeavePlaces K V S same hash
+module _ (K V : Type 0) (same : K → K → Bool) (hash : ℕ → K → ℕ) where
+  pub makings_leave_places : MakingsLeavePlaces K V same hash
   makings_leave_places name m known s old new at shown i told leads b here of lying outside =
       let to = leads b here in
       let beside = making_beside b.map of m known s.world to.2.step.w2 i b.machine.setting.root (nothing_free s.world m.stored known shown.blocks.roles)
       (λ x q made. no_table_word same hash name m known s old new at shown i b here to.0 told to.1 to.2 of x q made)
-      new.memory.changed (tells same hash name m known s old new at shown i b here to.0 told to.1 to.2 of) (left same hash name m known s old new at shown i b here to.0 told to.1 to.2 of) in (
-        places_then same hash s old new i b to.0 to.2.step.w2 (with_effects None of (effects_of (Making b.map) known new.memory.changed) m) (known_after (Making b.map) new.memory.changed known) told to.3
-            (places_stay None of (effects_of (Making b.map) known new.memory.changed) m known (known_after (Making b.map) new.memory.changed known) s.maps s.maps beside.0.0 beside.1 (λ n. same_maps (s.maps n)) lying),
-        effects_leave_outside K V None of (effects_of (Making b.map) known new.memory.changed) m beside.0.1 outside,
+      new.changed (tells same hash name m known s old new at shown i b here to.0 told to.1 to.2 of) (left same hash name m known s old new at shown i b here to.0 told to.1 to.2 of) in (
+        places_then same hash s old new i b to.0 to.2.step.w2 (with_effects None of (effects_of (Making b.map) known new.changed) m) (known_after (Making b.map) new.changed known) told to.3
+            (places_stay None of (effects_of (Making b.map) known new.changed) m known (known_after (Making b.map) new.changed known) s.maps s.maps beside.0.0 beside.1 (λ n. same_maps (s.maps n)) lying),
+        effects_leave_outside K V None of (effects_of (Making b.map) known new.changed) m beside.0.1 outside,
       )

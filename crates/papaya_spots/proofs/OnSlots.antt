@@ -17,7 +17,6 @@ use Rattle.papaya_others.specs.Given.Effects.Known.{Known, with_role}
 use Rattle.papaya_others.specs.Given.Effects.declared.acting.Acting.TheVariants.{Row}
 use Rattle.papaya_others.specs.Given.Effects.declared.role.Role.{Role}
 use Rattle.papaya_others.specs.Given.Effects.declared.role.Role.TheVariants as role
-use Rattle.papaya_others.specs.Given.Executor.IsAt.{Scene}
 use Rattle.papaya_others.specs.Given.Follows.Shows.{Shows}
 use Rattle.papaya_others.proofs.Given.Follows.Onward.{IsOfMap}
 use Rattle.papaya_others.proofs.Given.Follows.Told.{roomed_as_many}
@@ -32,6 +31,7 @@ use Rattle.papaya_spots.proofs.Gone.{other_gone, pair_gone, table_gone}
 use Rattle.papaya_spots.proofs.Rows.{roomed_aside, same_pairs}
 use Rattle.papaya_spots.proofs.Stays.{WerePairs, places_stay}
 use Rattle.papaya_spots.proofs.Unreclaimed.{unreclaimed_same}
+use Rattle.papaya_others.specs.Given.Scenes.Scene.{Scene}
 
 module _ {K V : Type 0} (m : Moment K V) (known : Known) where
   -- effects that neither move a pair nor find a number
@@ -69,13 +69,13 @@ module _ {K V : Type 0} (m : Moment K V) (known : Known) where
     same_pairs known (known_after Row (changed.Roomed bucket had) known) (roomed_as_many Row known bucket had).0,
   )
 
-module _ (K V S : Type 0) (same : K → K → Bool) (hash : K → ℕ) where
-  pub rows_leave_places : RowsLeavePlaces K V S same hash
+module _ (K V : Type 0) (same : K → K → Bool) (hash : ℕ → K → ℕ) where
+  pub rows_leave_places : RowsLeavePlaces K V same hash
   rows_leave_places m known s old new i told leads row here lying outside =
       let to = leads row here in
-      let beside = row_beside m known new.memory.changed (row_tells old.memory.memory new.memory.memory new.memory.changed (to.0, told) row to.1) in (
-        places_stay None None (effects_of Row known new.memory.changed) m known (known_after Row new.memory.changed known) s.maps to.4.2 beside.0.0 beside.1 to.4.3 lying,
-        effects_leave_outside K V None None (effects_of Row known new.memory.changed) m beside.0.1 outside,
+      let beside = row_beside m known new.changed (row_tells old.memory new.memory new.changed (to.0, told) row to.1) in (
+        places_stay None None (effects_of Row known new.changed) m known (known_after Row new.changed known) s.maps to.2.2 beside.0.0 beside.1 to.2.3 lying,
+        effects_leave_outside K V None None (effects_of Row known new.changed) m beside.0.1 outside,
       )
 
   -- which blocks are unreclaimed
@@ -117,6 +117,6 @@ module _ (K V S : Type 0) (same : K → K → Bool) (hash : K → ℕ) where
     blocks_done (changed.Took b) is may = taken_done b (known.roles b) refl may
     blocks_done (changed.Roomed bucket had) is may = roomed_done (had && nat_lt bucket known.buckets) (known_after Row (changed.Roomed bucket had) known) (roomed_as_many Row known bucket had).0
 
-  pub rows_keep_blocks : RowsKeepBlocks K V S same hash
+  pub rows_keep_blocks : RowsKeepBlocks K V same hash
   rows_keep_blocks name m known s old new shown i told leads row here may h =
-      let to = leads row here in blocks_done name m known s shown h new.memory.changed (row_tells old.memory.memory new.memory.memory new.memory.changed (to.0, told) row to.1) may
+      let to = leads row here in blocks_done name m known s shown h new.changed (row_tells old.memory new.memory new.changed (to.0, told) row to.1) may

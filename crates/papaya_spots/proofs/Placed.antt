@@ -16,20 +16,20 @@ use Rattle.papaya_others.specs.Given.Rule.Words.{byte_of, place_word}
 use Rattle.papaya_others.proofs.Given.Rule.Laws.{current_is_known, words_name_pairs, bytes_are_few}
 use Rattle.papaya_others.specs.Given.Callers.Together.{Together}
 use Rattle.papaya_others.specs.Given.Effects.declared.role.Role.TheVariants as role
-use Rattle.papaya_others.specs.Given.Executor.IsAt.{slot_of}
 use Rattle.papaya_others.specs.Given.Follows.Maps.{ShowsMap}
 use Rattle.papaya_spots.specs.Placed.{PlacesNamePairs}
 use Rattle.papaya_spots.specs.Spots.{ThePair, named_by, LiesAt}
 use Rattle.papaya_spots.proofs.Moves.{named_made}
 use Rattle.papaya_spots.proofs.Names.{holds_is}
+use Rattle.papaya_others.specs.Given.Scenes.Scene.{slot_of}
 
 -- in either mode a place from the root on names the pair
 pub lies_named : {K : Type 0} (c : Chart K) (q : Bool) (n : ℕ) (s : Spot) (born : ℕ) → LiesAt c q n s born → (c.first ≤ s.turn) × (b : Bool) × (named_by (c.place s.turn s.place) ≡ ThePair n b)
 lies_named c true n s born h = (h.0, _, h.1)
 lies_named c false n s born h = ((let e = h.0 in omega (arith, e)), false, h.1)
 
-module _ (K V S : Type 0) (same : K → K → Bool) (hash : K → ℕ) where
-  pub places_name_pairs : PlacesNamePairs K V S same hash
+module _ (K V : Type 0) (same : K → K → Bool) (hash : ℕ → K → ℕ) where
+  pub places_name_pairs : PlacesNamePairs K V same hash
   places_name_pairs name m known s e at shown lying map standing there k in_map = record {
     pair = standing.blocks.pair n;
     is_pair = shown_map.pairs.roles n stored.1 known_pair ∙ ap role.Pair (sym stored.2);

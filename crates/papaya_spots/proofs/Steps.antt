@@ -38,10 +38,6 @@ use Rattle.papaya_others.specs.Given.Effects.Effects.{effects_of, known_after}
 use Rattle.papaya_others.specs.Given.Effects.Known.{Known}
 use Rattle.papaya_others.specs.Given.Effects.declared.acting.Acting.{Acting}
 use Rattle.papaya_others.specs.Given.Effects.declared.acting.Acting.TheVariants.{Call}
-use Rattle.papaya_others.specs.Given.Executor.IsAt.{Scene, IsAt, slot_of}
-use Rattle.papaya_others.specs.Given.Executor.Stepping.{StepsFrom, StepLeads, scene_after}
-use Rattle.papaya_others.specs.Given.Executor.declared.executor.Executor.{Executor}
-use Rattle.papaya_others.proofs.Given.Executor.Steps.{may_step}
 use Rattle.papaya_others.specs.Given.Follows.Maps.{ShowsMap}
 use Rattle.papaya_others.specs.Given.Follows.Shows.{Shows}
 use Rattle.papaya_others.specs.Given.Follows.Steps.{TakesNone, Did, IsOfNoRow}
@@ -68,6 +64,10 @@ use Rattle.papaya_spots.proofs.Own.{own_lies}
 use Rattle.papaya_spots.proofs.Rows.{row_aside}
 use Rattle.papaya_spots.proofs.Shifts.{Shifts, shifted}
 use Rattle.papaya_spots.proofs.Stays.{places_stay}
+use Rattle.papaya_others.proofs.Given.Scenes.May.{may_step}
+use Rattle.papaya_others.specs.Given.Scenes.Held.{Held, IsAt}
+use Rattle.papaya_others.specs.Given.Scenes.Scene.{Scene, slot_of}
+use Rattle.papaya_others.specs.Given.Scenes.Stepping.{StepLeads, StepsFrom, scene_after}
 
 -- a pair that is in one map is in no other
 in_one_map : (a b : ℕ) (p : Place) → a ≢ b → is_in_map a p ≡ true → is_in_map b p ≡ false
@@ -79,15 +79,15 @@ in_one_map a b Behind ne e = refl
 in_one_map a b Left ne e = refl
 in_one_map a b GivenBack ne e = refl
 
-module _ {K V S : Type 0} (same : K → K → Bool) (hash : K → ℕ) (m : Moment K V) (known : Known) (s : Scene K V) (old new : Executor K V S) (at : IsAt same hash old s)
+module _ {K V : Type 0} (same : K → K → Bool) (hash : ℕ → K → ℕ) (m : Moment K V) (known : Known) (s : Scene K V) (old new : Held K V) (at : IsAt same hash old s)
     (name : ℕ → List ℕ) (shown : Shows same name m known s)
     (map i : ℕ) (standing : Standing K) (there : s.maps map ≡ Some standing) (caller : List ℕ)
-    (made : Operated s.world.memory new.memory.memory new.memory.changed) where
+    (made : Operated s.world.memory new.memory new.changed) where
   abbrev m2 : Mem (Node K V)
-  m2 = new.memory.memory
+  m2 = new.memory
 
   abbrev told : Changed
-  told = new.memory.changed
+  told = new.changed
 
   abbrev w : World (Node K V)
   w = s.world
@@ -258,44 +258,44 @@ module _ {K V S : Type 0} (same : K → K → Bool) (hash : K → ℕ) (m : Mome
       stayed_blocks h = calm_holds i map (Some caller) m known h effects known2 stayed_calm
 
 -- A step of a call, whichever kind that is of: it has moved its map's tables, or was one of a row, or has left the memory as it was.
-module _ {K V S : Type 0} (same : K → K → Bool) (hash : K → ℕ) (name : ℕ → List ℕ) (m : Moment K V) (known : Known) (s : Scene K V) (old new : Executor K V S) (at : IsAt same hash old s)
+module _ {K V : Type 0} (same : K → K → Bool) (hash : ℕ → K → ℕ) (name : ℕ → List ℕ) (m : Moment K V) (known : Known) (s : Scene K V) (old new : Held K V) (at : IsAt same hash old s)
     (shown : Shows same name m known s) (map i : ℕ) (u : UnderWay K V K) (here : s.calls map i ≡ Some u) (told : Progress (Node K V)) (leads : StepLeads same hash i told s old new) where
   abbrev To : Type 0
   To =
-      (standing : Standing K) × (machine : Machine K V K) × (s.maps map ≡ Some standing) × StepsFrom same hash (machine_of u) old new machine told
-      × (did : MachineStepsAmong V same same old.batch_size old.roots slot_of s.world s.maps s.calls s.makers s.enders map standing i new.memory.memory u machine told)
-      × IsAt same hash new (scene_after same hash s old new map i standing u machine told did)
+      (standing : Standing K) × (machine : Machine K V K) × (s.maps map ≡ Some standing) × StepsFrom same standing.hash (machine_of u) old new machine told
+      × (did : MachineStepsAmong V same same old.batch_size old.roots slot_of s.world s.maps s.calls s.makers s.enders map standing i new.memory u machine told)
+      × IsAt same hash new (scene_after same s old new map i standing u machine told did)
 
   abbrev to : To
   to = leads map u here
 
-  made : Operated s.world.memory new.memory.memory new.memory.changed
-  made = subst (λ (x : Mem (Node K V)). Operated x new.memory.memory new.memory.changed) (sym at.memory)
-      (operated old.memory.memory new.memory.memory new.memory.changed (machine_plan same same hash (machine_of u)) (to.1, told) (may_step same hash old s at map i u here) to.3)
+  made : Operated s.world.memory new.memory new.changed
+  made = subst (λ (x : Mem (Node K V)). Operated x new.memory new.changed) (sym at.memory)
+      (operated old.memory new.memory new.changed (machine_plan same same to.0.hash (machine_of u)) (to.1, told) (may_step same hash old s at map to.0 to.2 i u here) to.3)
 
   inside : IsInside (s.world.uses (slot_of i))
   inside = (at.together.makings.standing.each map to.0 to.2).inside i u here
 
   abbrev DidSo : UnderWay K V K → Type 0
-  DidSo x = Did same old.batch_size old.roots s.world s.maps s.calls s.makers s.enders map to.0 i new.memory.memory to.4.w2 to.4.maps2 to.4.next x to.1 told
+  DidSo x = Did same old.batch_size old.roots s.world s.maps s.calls s.makers s.enders map to.0 i new.memory to.4.w2 to.4.maps2 to.4.next x to.1 told
 
   abbrev NoRow : (x : UnderWay K V K) → DidSo x → Type 0
-  NoRow x did = IsOfNoRow same old.batch_size old.roots s.world s.maps s.calls s.makers s.enders map to.0 i new.memory.memory to.4.w2 to.4.maps2 to.4.next x to.1 told did
+  NoRow x did = IsOfNoRow same old.batch_size old.roots s.world s.maps s.calls s.makers s.enders map to.0 i new.memory to.4.w2 to.4.maps2 to.4.next x to.1 told did
 
   -- the maps are those that they were, but for what may be looked at
   abbrev Stayed : Type 0
   Stayed = (n : ℕ) → IsSameMap (s.maps n) (to.4.maps2 n)
 
   module _ (Goal : Type 0)
-      (moved : (Told : World (Node K V) → Chart K → Blocks → Type 0) (had : Went same to.0.hash (in_slot to.0.setting (slot_of i)) i s.world to.0.chart (seen_by to.0.blocks (to.0.sights (slot_of i))) new.memory.memory Told)
+      (moved : (Told : World (Node K V) → Chart K → Blocks → Type 0) (had : Went same to.0.hash (in_slot to.0.setting (slot_of i)) i s.world to.0.chart (seen_by to.0.blocks (to.0.sights (slot_of i))) new.memory Told)
       (blocks2 : Blocks) (grown : IsGrown to.0.chart to.0.blocks had.blocks2 blocks2) (sights2 : ℕ → Sight)
       → to.4.maps2 ≡ with_at s.maps map (Some (record to.0 { chart = had.c2; blocks = blocks2; sights = sights2 })) → Goal)
-      (row : (w2 : World (Node K V)) → w2.memory ≡ new.memory.memory → IsOneStep to.0.setting i s.world w2 → Stayed → (NoRow u to.4.did → ⊥) → Goal)
-      (still : new.memory.memory ≡ s.world.memory → Stayed → Goal) where
+      (row : (w2 : World (Node K V)) → w2.memory ≡ new.memory → IsOneStep to.0.setting i s.world w2 → Stayed → (NoRow u to.4.did → ⊥) → Goal)
+      (still : new.memory ≡ s.world.memory → Stayed → Goal) where
     by_kind : Goal
     by_kind = by u to.4.did row
       where
-        by : (x : UnderWay K V K) (did : DidSo x) → ((w2 : World (Node K V)) → w2.memory ≡ new.memory.memory → IsOneStep to.0.setting i s.world w2 → Stayed → (NoRow x did → ⊥) → Goal) → Goal
+        by : (x : UnderWay K V K) (did : DidSo x) → ((w2 : World (Node K V)) → w2.memory ≡ new.memory → IsOneStep to.0.setting i s.world w2 → Stayed → (NoRow x did → ⊥) → Goal) → Goal
         by (OnKey x) (p2, end, machine_is, told_is, inl (step, has)) row = moved _ step.step.went step.step.blocks2 step.step.grown step.step.sights2 has.1
         by (OnKey x) (p2, end, machine_is, told_is, inr (step, has)) row = row step.step.w2 step.step.memory step.step.happened has.1 (λ no. no)
         by (ForRoom x) (p2, end, machine_is, told_is, inl (step, has)) row = moved _ step.step.went step.step.blocks2 step.step.grown step.step.sights2 has.1
@@ -305,51 +305,51 @@ module _ {K V S : Type 0} (same : K → K → Bool) (hash : K → ℕ) (name : �
         by (OverAll x) (p2, end, machine_is, told_is, inr (step, has)) row = row step.step.w2 step.step.memory step.step.happened has.1 (λ no. no)
 
   -- what is none of a row hands nothing over
-  pub hands_nothing : NoRow u to.4.did → AllHandNothing (effects_of (Call i map) known new.memory.changed)
+  pub hands_nothing : NoRow u to.4.did → AllHandNothing (effects_of (Call i map) known new.changed)
   hands_nothing own = by_kind _
       (λ Told had blocks2 grown sights2 are. moved_hands same hash m known s old new at name shown map i to.0 to.2 (name i) made inside Told had blocks2 grown sights2)
       (λ w2 memory happened stayed no. absurd (no own))
-      (λ same_memory stayed. calm_hand (effects_of (Call i map) known new.memory.changed) (stayed_calm same hash m known s old new at name shown map i to.0 to.2 (name i) made inside same_memory).calm)
+      (λ same_memory stayed. calm_hand (effects_of (Call i map) known new.changed) (stayed_calm same hash m known s old new at name shown map i to.0 to.2 (name i) made inside same_memory).calm)
 
   -- where pairs lie then
-  keeps_places : ShowsPlaces m known s.maps → ShowsPlaces (with_effects (Some (name i)) (Some map) (effects_of (Call i map) known new.memory.changed) m) (known_after (Call i map) new.memory.changed known) to.4.maps2
+  keeps_places : ShowsPlaces m known s.maps → ShowsPlaces (with_effects (Some (name i)) (Some map) (effects_of (Call i map) known new.changed) m) (known_after (Call i map) new.changed known) to.4.maps2
   keeps_places lying = by_kind _
       (λ Told had blocks2 grown sights2 are. moved_places same hash m known s old new at name shown map i to.0 to.2 (name i) made inside Told had blocks2 grown sights2 lying to.4.maps2 are)
       (λ w2 memory happened stayed no. row_places same hash m known s old new at name shown map i to.0 to.2 (name i) made inside lying w2 memory happened to.4.maps2 stayed)
       (λ same_memory stayed. stayed_places same hash m known s old new at name shown map i to.0 to.2 (name i) made inside same_memory lying to.4.maps2 stayed)
 
   -- which blocks are unreclaimed
-  keeps_blocks : ((NoRow u to.4.did → ⊥) → TakesNone new.memory.changed) → ShowsUnreclaimed m known
-      → ShowsUnreclaimed (with_effects (Some (name i)) (Some map) (effects_of (Call i map) known new.memory.changed) m) (known_after (Call i map) new.memory.changed known)
+  keeps_blocks : ((NoRow u to.4.did → ⊥) → TakesNone new.changed) → ShowsUnreclaimed m known
+      → ShowsUnreclaimed (with_effects (Some (name i)) (Some map) (effects_of (Call i map) known new.changed) m) (known_after (Call i map) new.changed known)
   keeps_blocks none held = by_kind _
       (λ Told had blocks2 grown sights2 are. moved_blocks same hash m known s old new at name shown map i to.0 to.2 (name i) made inside Told had blocks2 grown sights2 held)
       (λ w2 memory happened stayed no. row_blocks same hash m known s old new at name shown map i to.0 to.2 (name i) made inside w2 memory happened (none no) held)
       (λ same_memory stayed. stayed_blocks same hash m known s old new at name shown map i to.0 to.2 (name i) made inside same_memory held)
 
   -- what it finds of places
-  finds_places : ShowsPlaces m known s.maps → ShowsUnreclaimed m known → FindPlaces map m (effects_of (Call i map) known new.memory.changed)
+  finds_places : ShowsPlaces m known s.maps → ShowsUnreclaimed m known → FindPlaces map m (effects_of (Call i map) known new.changed)
   finds_places lying held = by_kind _
       (λ Told had blocks2 grown sights2 are. moved_finds_places same hash m known s old new at name shown map i to.0 to.2 (name i) made inside Told had blocks2 grown sights2 lying held)
       (λ w2 memory happened stayed no. row_finds_places same hash m known s old new at name shown map i to.0 to.2 (name i) made inside w2 memory happened)
-      (λ same_memory stayed. calm_finds map m (effects_of (Call i map) known new.memory.changed) (stayed_calm same hash m known s old new at name shown map i to.0 to.2 (name i) made inside same_memory).calm)
+      (λ same_memory stayed. calm_finds map m (effects_of (Call i map) known new.changed) (stayed_calm same hash m known s old new at name shown map i to.0 to.2 (name i) made inside same_memory).calm)
 
   -- and of numbers
-  finds_numbers : AtEachEffect FindsNumbers (Some (name i)) (Some map) (effects_of (Call i map) known new.memory.changed) m
+  finds_numbers : AtEachEffect FindsNumbers (Some (name i)) (Some map) (effects_of (Call i map) known new.changed) m
   finds_numbers = by_kind _
       (λ Told had blocks2 grown sights2 are. moved_outside same hash m known s old new at name shown map i to.0 to.2 (name i) made inside Told had blocks2 grown sights2)
       (λ w2 memory happened stayed no. row_outside same hash m known s old new at name shown map i to.0 to.2 (name i) made inside w2 memory happened)
-      (λ same_memory stayed. calm_numbers (Some (name i)) (Some map) (effects_of (Call i map) known new.memory.changed) m (stayed_calm same hash m known s old new at name shown map i to.0 to.2 (name i) made inside same_memory).calm)
+      (λ same_memory stayed. calm_numbers (Some (name i)) (Some map) (effects_of (Call i map) known new.changed) m (stayed_calm same hash m known s old new at name shown map i to.0 to.2 (name i) made inside same_memory).calm)
 
-module _ (K V S : Type 0) (same : K → K → Bool) (hash : K → ℕ) where
-  pub calls_keep_places : CallsKeepPlaces K V S same hash
+module _ (K V : Type 0) (same : K → K → Bool) (hash : ℕ → K → ℕ) where
+  pub calls_keep_places : CallsKeepPlaces K V same hash
   calls_keep_places name m known s old new at shown lying map i u here told leads = keeps_places same hash name m known s old new at shown map i u here told leads lying
 
-  pub calls_keep_blocks : CallsKeepBlocks K V S same hash
+  pub calls_keep_blocks : CallsKeepBlocks K V same hash
   calls_keep_blocks name m known s old new at shown held map i u here told leads none = keeps_blocks same hash name m known s old new at shown map i u here told leads none held
 
-  pub calls_find_places : CallsFindPlaces K V S same hash
+  pub calls_find_places : CallsFindPlaces K V same hash
   calls_find_places name m known s old new at shown lying held map i u here told leads = finds_places same hash name m known s old new at shown map i u here told leads lying held
 
-  pub calls_leave_outside : CallsLeaveOutside K V S same hash
+  pub calls_leave_outside : CallsLeaveOutside K V same hash
   calls_leave_outside name m known s old new at shown outside map i u here told leads =
-      effects_leave_outside K V (Some (name i)) (Some map) (effects_of (Call i map) known new.memory.changed) m (finds_numbers same hash name m known s old new at shown map i u here told leads) outside
+      effects_leave_outside K V (Some (name i)) (Some map) (effects_of (Call i map) known new.changed) m (finds_numbers same hash name m known s old new at shown map i u here told leads) outside

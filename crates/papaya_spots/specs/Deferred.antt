@@ -13,10 +13,10 @@ use Rattle.papaya_others.specs.Given.Callers.Together.{UnderWay}
 use Rattle.papaya_others.specs.Given.Effects.Effects.{effects_of}
 use Rattle.papaya_others.specs.Given.Effects.Known.{Known}
 use Rattle.papaya_others.specs.Given.Effects.declared.acting.Acting.TheVariants.{Call}
-use Rattle.papaya_others.specs.Given.Executor.IsAt.{Scene, IsAt}
-use Rattle.papaya_others.specs.Given.Executor.Stepping.{StepLeads}
-use Rattle.papaya_others.specs.Given.Executor.declared.executor.Executor.{Executor}
 use Rattle.papaya_others.specs.Given.Follows.Shows.{Shows}
+use Rattle.papaya_others.specs.Given.Scenes.Held.{Held, IsAt}
+use Rattle.papaya_others.specs.Given.Scenes.Scene.{Scene}
+use Rattle.papaya_others.specs.Given.Scenes.Stepping.{StepLeads}
 
 module _ {K V : Type 0} where
   -- each pair that waits behind some table was stored, and is in no map
@@ -39,10 +39,10 @@ EffectsLeaveOutside K V =
 abbrev pub EachWaitsOutside : Type 0 → Type 0 → Type 0
 EachWaitsOutside K V = (m : Moment K V) → WaitOutside m → (t : Table) (n : ℕ) → is_among n (behind t m.deferred) ≡ true → is_in_a_map (m.place n) ≡ false
 
-module _ (K V S : Type 0) (same : K → K → Bool) (hash : K → ℕ) where
+module _ (K V : Type 0) (same : K → K → Bool) (hash : ℕ → K → ℕ) where
   -- The promise of a step of a call.
   abbrev pub CallsLeaveOutside : Type 0
   CallsLeaveOutside =
-      (name : ℕ → List ℕ) (m : Moment K V) (known : Known) (s : Scene K V) (old new : Executor K V S) → IsAt same hash old s → Shows same name m known s → WaitOutside m
+      (name : ℕ → List ℕ) (m : Moment K V) (known : Known) (s : Scene K V) (old new : Held K V) → IsAt same hash old s → Shows same name m known s → WaitOutside m
       → (map i : ℕ) (u : UnderWay K V K) → s.calls map i ≡ Some u → (told : Progress (Node K V)) → StepLeads same hash i told s old new
-      → WaitOutside (with_effects (Some (name i)) (Some map) (effects_of (Call i map) known new.memory.changed) m)
+      → WaitOutside (with_effects (Some (name i)) (Some map) (effects_of (Call i map) known new.changed) m)

@@ -20,6 +20,6 @@ pub use Rattle.papaya_others.specs.Given.Finishes
 pub use Rattle.papaya_others.specs.Given.Runs
 pub use Rattle.papaya_others.specs.Given.Schedules
 pub use Rattle.papaya_others.specs.Given.Effects
-pub use Rattle.papaya_others.specs.Given.Executor
+pub use Rattle.papaya_others.specs.Given.Scenes
 pub use Rattle.papaya_others.specs.Given.Follows
 pub use Rattle.papaya_others.specs as Others

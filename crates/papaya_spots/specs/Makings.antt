@@ -8,22 +8,22 @@ use Rattle.papaya_others.specs.Given.Finishes.Makings.{Beginning}
 use Rattle.papaya_others.specs.Given.Effects.Effects.{effects_of, known_after}
 use Rattle.papaya_others.specs.Given.Effects.Known.{Known}
 use Rattle.papaya_others.specs.Given.Effects.declared.acting.Acting.TheVariants.{Making}
-use Rattle.papaya_others.specs.Given.Executor.IsAt.{Scene, IsAt}
-use Rattle.papaya_others.specs.Given.Executor.Making.{MakingLeads}
-use Rattle.papaya_others.specs.Given.Executor.declared.executor.Executor.{Executor}
 use Rattle.papaya_others.specs.Given.Follows.Shows.{Shows}
 use Rattle.papaya_others.specs.Makings.{making_after}
 use Rattle.papaya_spots.specs.Deferred.{WaitOutside}
 use Rattle.papaya_spots.specs.Spots.{ShowsPlaces}
+use Rattle.papaya_others.specs.Given.Scenes.Held.{Held, IsAt}
+use Rattle.papaya_others.specs.Given.Scenes.Making.{MakingLeads}
+use Rattle.papaya_others.specs.Given.Scenes.Scene.{Scene}
 
-module _ (K V S : Type 0) (same : K → K → Bool) (hash : K → ℕ) where
+module _ (K V : Type 0) (same : K → K → Bool) (hash : ℕ → K → ℕ) where
   -- The promise, on whichever map its effects are told, if on any: pairs lie where they lay, none lies in the map that is made, and what waits behind tables
   -- stays outside of maps.
   abbrev pub MakingsLeavePlaces : Type 0
   MakingsLeavePlaces =
-      (name : ℕ → List ℕ) (m : Moment K V) (known : Known) (s : Scene K V) (old new : Executor K V S) → IsAt same hash old s → Shows same name m known s
+      (name : ℕ → List ℕ) (m : Moment K V) (known : Known) (s : Scene K V) (old new : Held K V) → IsAt same hash old s → Shows same name m known s
       → (i : ℕ) (told : Progress Setting) (leads : MakingLeads same hash i told s old new) (b : Beginning K) (here : s.makers i ≡ Some b) (of : Option ℕ) → ShowsPlaces m known s.maps → WaitOutside m
       → (let to = leads b here in
-      ShowsPlaces (with_effects None of (effects_of (Making b.map) known new.memory.changed) m) (known_after (Making b.map) new.memory.changed known)
+      ShowsPlaces (with_effects None of (effects_of (Making b.map) known new.changed) m) (known_after (Making b.map) new.changed known)
       (making_after same hash s old new i b to.0 to.2.step.w2 told to.3).maps
-      × WaitOutside (with_effects None of (effects_of (Making b.map) known new.memory.changed) m))
+      × WaitOutside (with_effects None of (effects_of (Making b.map) known new.changed) m))

@@ -1,5 +1,5 @@
 -- Where pairs lie, which blocks are unreclaimed, and what waits behind tables, after a step of a row on a slot.
-use Rattle.std.specs.Prelude.{◌≡◌, ℕ, Bool, true, List, Some, None}
+use Rattle.std.specs.Prelude.{◌≡◌, ℕ, Bool, true, List, None}
 use Rattle.papaya_others.specs.Given.Seize.World.{Step}
 use Rattle.papaya_others.specs.Given.Schedules.declared.effect.Effect.{Effect}
 use Rattle.papaya_others.specs.Given.Schedules.declared.effect.Effect.TheVariants.{Reclaimed}
@@ -12,36 +12,35 @@ use Rattle.papaya_others.specs.Given.Tables.declared.node.Node.{Node}
 use Rattle.papaya_others.specs.Given.Effects.Effects.{effects_of, known_after}
 use Rattle.papaya_others.specs.Given.Effects.Known.{Known}
 use Rattle.papaya_others.specs.Given.Effects.declared.acting.Acting.TheVariants.{Row}
-use Rattle.papaya_others.specs.Given.Executor.IsAt.{Scene, work_of}
-use Rattle.papaya_others.specs.Given.Executor.OnSlots.{RowLeads}
-use Rattle.papaya_others.specs.Given.Executor.declared.executor.Executor.{Executor}
-use Rattle.papaya_others.specs.Given.Executor.declared.row.RowTold.{RowTold}
-use Rattle.papaya_others.specs.Given.Executor.declared.row.SlotRow.{SlotRow}
-use Rattle.papaya_others.specs.Given.Executor.declared.worker.Work.TheVariants.{OnSlot}
+use Rattle.papaya_others.specs.Given.Scenes.declared.row.RowTold.{RowTold}
+use Rattle.papaya_others.specs.Given.Scenes.declared.row.SlotRow.{SlotRow}
 use Rattle.papaya_others.specs.Given.Follows.Shows.{Shows}
 use Rattle.papaya_others.specs.Rows.{scene_then}
 use Rattle.papaya_spots.specs.Deferred.{WaitOutside}
 use Rattle.papaya_spots.specs.Spots.{ShowsPlaces}
 use Rattle.papaya_spots.specs.Unreclaimed.{is_unreclaimed, ShowsUnreclaimed}
+use Rattle.papaya_others.specs.Given.Scenes.Held.{Held}
+use Rattle.papaya_others.specs.Given.Scenes.OnSlots.{RowLeads}
+use Rattle.papaya_others.specs.Given.Scenes.Scene.{IsOnSlot, Scene}
 
 -- what waits behind a table that is reclaimed is not reclaimed itself
 abbrev pub WaitUnreclaimed : {K V : Type 0} → Moment K V → Effect → Type 0
 WaitUnreclaimed m (Reclaimed (ATable t)) = (n : ℕ) → is_among n (behind t m.deferred) ≡ true → is_unreclaimed (m.place n) ≡ true
 WaitUnreclaimed m _ = Unit {0}
 
-module _ (K V S : Type 0) (same : K → K → Bool) (hash : K → ℕ) where
+module _ (K V : Type 0) (same : K → K → Bool) (hash : ℕ → K → ℕ) where
   -- The promise: pairs lie where they lay, and what waits behind tables stays outside of maps.
   abbrev pub RowsLeavePlaces : Type 0
   RowsLeavePlaces =
-      (m : Moment K V) (known : Known) (s : Scene K V) (old new : Executor K V S) (i : ℕ) (told : RowTold (Node K V)) (leads : RowLeads same hash i told s old new) (row : SlotRow)
-      (here : work_of old i ≡ Some (OnSlot row)) → ShowsPlaces m known s.maps → WaitOutside m
-      → ShowsPlaces (with_effects None None (effects_of Row known new.memory.changed) m) (known_after Row new.memory.changed known) (scene_then same hash (Step i) s old new (leads row here).4).maps
-      × WaitOutside (with_effects None None (effects_of Row known new.memory.changed) m)
+      (m : Moment K V) (known : Known) (s : Scene K V) (old new : Held K V) (i : ℕ) (told : RowTold (Node K V)) (leads : RowLeads same hash i told s old new) (row : SlotRow)
+      (here : IsOnSlot s i row) → ShowsPlaces m known s.maps → WaitOutside m
+      → ShowsPlaces (with_effects None None (effects_of Row known new.changed) m) (known_after Row new.changed known) (scene_then same hash (Step i) s old new (leads row here).2).maps
+      × WaitOutside (with_effects None None (effects_of Row known new.changed) m)
 
   -- And the same blocks are unreclaimed as are pairs and tables of maps, where what waits behind a table that the row reclaims is not reclaimed.
   abbrev pub RowsKeepBlocks : Type 0
   RowsKeepBlocks =
-      (name : ℕ → List ℕ) (m : Moment K V) (known : Known) (s : Scene K V) (old new : Executor K V S) → Shows same name m known s
-      → (i : ℕ) (told : RowTold (Node K V)) → RowLeads same hash i told s old new → (row : SlotRow) → work_of old i ≡ Some (OnSlot row)
-      → AtEachEffect WaitUnreclaimed None None (effects_of Row known new.memory.changed) m → ShowsUnreclaimed m known
-      → ShowsUnreclaimed (with_effects None None (effects_of Row known new.memory.changed) m) (known_after Row new.memory.changed known)
+      (name : ℕ → List ℕ) (m : Moment K V) (known : Known) (s : Scene K V) (old new : Held K V) → Shows same name m known s
+      → (i : ℕ) (told : RowTold (Node K V)) → RowLeads same hash i told s old new → (row : SlotRow) → IsOnSlot s i row
+      → AtEachEffect WaitUnreclaimed None None (effects_of Row known new.changed) m → ShowsUnreclaimed m known
+      → ShowsUnreclaimed (with_effects None None (effects_of Row known new.changed) m) (known_after Row new.changed known)

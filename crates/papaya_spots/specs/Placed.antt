@@ -19,13 +19,13 @@ use Rattle.papaya_others.specs.Given.Effects.Effects.{effects_of}
 use Rattle.papaya_others.specs.Given.Effects.Known.{Known}
 use Rattle.papaya_others.specs.Given.Effects.declared.acting.Acting.TheVariants.{Call}
 use Rattle.papaya_others.specs.Given.Effects.declared.role.Role.TheVariants as role
-use Rattle.papaya_others.specs.Given.Executor.IsAt.{Scene, IsAt}
-use Rattle.papaya_others.specs.Given.Executor.Stepping.{StepLeads}
-use Rattle.papaya_others.specs.Given.Executor.declared.executor.Executor.{Executor}
 use Rattle.papaya_others.specs.Given.Follows.Maps.{table_of}
 use Rattle.papaya_others.specs.Given.Follows.Shows.{Shows}
 use Rattle.papaya_spots.specs.Spots.{ShowsPlaces}
 use Rattle.papaya_spots.specs.Unreclaimed.{ShowsUnreclaimed}
+use Rattle.papaya_others.specs.Given.Scenes.Held.{Held, IsAt}
+use Rattle.papaya_others.specs.Given.Scenes.Scene.{Scene}
+use Rattle.papaya_others.specs.Given.Scenes.Stepping.{StepLeads}
 
 module _ {K V : Type 0} (memory : Mem (Node K V)) (m : Moment K V) (known : Known) where
   -- the word of the place at which the pair is said to lie, in the block of its table, names the pair's block
@@ -49,15 +49,15 @@ module _ {K V : Type 0} (map : ℕ) (m : Moment K V) where
   FindPlaces (Replaced p ∷ Stored n s ∷ []) = same_spot (m.spot p) s ≡ true
   FindPlaces _ = Unit {0}
 
-module _ (K V S : Type 0) (same : K → K → Bool) (hash : K → ℕ) where
+module _ (K V : Type 0) (same : K → K → Bool) (hash : ℕ → K → ℕ) where
   -- The promise: a pair of a map lies where the word of its place names it.
   abbrev pub PlacesNamePairs : Type 0
   PlacesNamePairs =
-      (name : ℕ → List ℕ) (m : Moment K V) (known : Known) (s : Scene K V) (e : Executor K V S) → IsAt same hash e s → Shows same name m known s → ShowsPlaces m known s.maps
-      → (map : ℕ) (standing : Standing K) → s.maps map ≡ Some standing → (k : ℕ) → m.place k ≡ InMap map → IsNamedThere e.memory.memory m known map k
+      (name : ℕ → List ℕ) (m : Moment K V) (known : Known) (s : Scene K V) (e : Held K V) → IsAt same hash e s → Shows same name m known s → ShowsPlaces m known s.maps
+      → (map : ℕ) (standing : Standing K) → s.maps map ≡ Some standing → (k : ℕ) → m.place k ≡ InMap map → IsNamedThere e.memory m known map k
 
   -- And a step of a call finds where it stores or copies a pair, or replaces one, what it must.
   abbrev pub CallsFindPlaces : Type 0
   CallsFindPlaces =
-      (name : ℕ → List ℕ) (m : Moment K V) (known : Known) (s : Scene K V) (old new : Executor K V S) → IsAt same hash old s → Shows same name m known s → ShowsPlaces m known s.maps → ShowsUnreclaimed m known
-      → (map i : ℕ) (u : UnderWay K V K) → s.calls map i ≡ Some u → (told : Progress (Node K V)) → StepLeads same hash i told s old new → FindPlaces map m (effects_of (Call i map) known new.memory.changed)
+      (name : ℕ → List ℕ) (m : Moment K V) (known : Known) (s : Scene K V) (old new : Held K V) → IsAt same hash old s → Shows same name m known s → ShowsPlaces m known s.maps → ShowsUnreclaimed m known
+      → (map i : ℕ) (u : UnderWay K V K) → s.calls map i ≡ Some u → (told : Progress (Node K V)) → StepLeads same hash i told s old new → FindPlaces map m (effects_of (Call i map) known new.changed)

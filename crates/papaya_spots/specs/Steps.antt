@@ -9,13 +9,13 @@ use Rattle.papaya_others.specs.Given.Finishes.Maps.{Standing}
 use Rattle.papaya_others.specs.Given.Effects.Effects.{effects_of, known_after}
 use Rattle.papaya_others.specs.Given.Effects.Known.{Known, nothing_known}
 use Rattle.papaya_others.specs.Given.Effects.declared.acting.Acting.TheVariants.{Call}
-use Rattle.papaya_others.specs.Given.Executor.IsAt.{Scene, IsAt, at_first}
-use Rattle.papaya_others.specs.Given.Executor.Stepping.{StepLeads}
-use Rattle.papaya_others.specs.Given.Executor.declared.executor.Executor.{Executor}
 use Rattle.papaya_others.specs.Given.Follows.Shows.{Shows}
 use Rattle.papaya_others.specs.Given.Follows.Steps.{TakesNone, IsOfNoRow}
 use Rattle.papaya_spots.specs.Spots.{ShowsPlaces}
 use Rattle.papaya_spots.specs.Unreclaimed.{ShowsUnreclaimed}
+use Rattle.papaya_others.specs.Given.Scenes.Held.{Held, IsAt}
+use Rattle.papaya_others.specs.Given.Scenes.Scene.{Scene, at_first}
+use Rattle.papaya_others.specs.Given.Scenes.Stepping.{StepLeads}
 
 -- no pair lies anywhere as a run begins
 abbrev pub PlacesBegin : Type 0 → Type 0 → Type 0
@@ -37,20 +37,20 @@ FewerMapsStand K V =
     (m : Moment K V) (known : Known) (maps maps2 : ℕ → Option (Standing K)) → ((map : ℕ) (standing : Standing K) → maps2 map ≡ Some standing → maps map ≡ Some standing)
     → ShowsPlaces m known maps → ShowsPlaces m known maps2
 
-module _ (K V S : Type 0) (same : K → K → Bool) (hash : K → ℕ) where
+module _ (K V : Type 0) (same : K → K → Bool) (hash : ℕ → K → ℕ) where
   -- The promise: a step of a call, whether of a row or not, leads to a moment at which pairs lie where the tables have them then.
   abbrev pub CallsKeepPlaces : Type 0
   CallsKeepPlaces =
-      (name : ℕ → List ℕ) (m : Moment K V) (known : Known) (s : Scene K V) (old new : Executor K V S) → IsAt same hash old s → Shows same name m known s → ShowsPlaces m known s.maps
+      (name : ℕ → List ℕ) (m : Moment K V) (known : Known) (s : Scene K V) (old new : Held K V) → IsAt same hash old s → Shows same name m known s → ShowsPlaces m known s.maps
       → (map i : ℕ) (u : UnderWay K V K) (here : s.calls map i ≡ Some u) (told : Progress (Node K V)) (leads : StepLeads same hash i told s old new)
       → (let to = leads map u here in
-      ShowsPlaces (with_effects (Some (name i)) (Some map) (effects_of (Call i map) known new.memory.changed) m) (known_after (Call i map) new.memory.changed known) to.4.maps2)
+      ShowsPlaces (with_effects (Some (name i)) (Some map) (effects_of (Call i map) known new.changed) m) (known_after (Call i map) new.changed known) to.4.maps2)
 
   -- And where a row takes no block away, the same blocks are unreclaimed then as are pairs and tables of maps.
   abbrev pub CallsKeepBlocks : Type 0
   CallsKeepBlocks =
-      (name : ℕ → List ℕ) (m : Moment K V) (known : Known) (s : Scene K V) (old new : Executor K V S) → IsAt same hash old s → Shows same name m known s → ShowsUnreclaimed m known
+      (name : ℕ → List ℕ) (m : Moment K V) (known : Known) (s : Scene K V) (old new : Held K V) → IsAt same hash old s → Shows same name m known s → ShowsUnreclaimed m known
       → (map i : ℕ) (u : UnderWay K V K) (here : s.calls map i ≡ Some u) (told : Progress (Node K V)) (leads : StepLeads same hash i told s old new)
       → (let to = leads map u here in
-      ((IsOfNoRow same old.batch_size old.roots s.world s.maps s.calls s.makers s.enders map to.0 i new.memory.memory to.4.w2 to.4.maps2 to.4.next u to.1 told to.4.did → ⊥) → TakesNone new.memory.changed)
-      → ShowsUnreclaimed (with_effects (Some (name i)) (Some map) (effects_of (Call i map) known new.memory.changed) m) (known_after (Call i map) new.memory.changed known))
+      ((IsOfNoRow same old.batch_size old.roots s.world s.maps s.calls s.makers s.enders map to.0 i new.memory to.4.w2 to.4.maps2 to.4.next u to.1 told to.4.did → ⊥) → TakesNone new.changed)
+      → ShowsUnreclaimed (with_effects (Some (name i)) (Some map) (effects_of (Call i map) known new.changed) m) (known_after (Call i map) new.changed known))

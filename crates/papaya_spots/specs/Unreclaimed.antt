@@ -8,9 +8,9 @@ use Rattle.papaya_others.specs.Given.Schedules.Moment.{Place, Unborn, GivenBack,
 use Rattle.papaya_others.specs.Given.Schedules.Views.{is_there, is_stage}
 use Rattle.papaya_others.specs.Given.Effects.Known.{Known}
 use Rattle.papaya_others.specs.Given.Effects.declared.role.Role.TheVariants as role
-use Rattle.papaya_others.specs.Given.Executor.IsAt.{Scene}
 use Rattle.papaya_others.specs.Given.Follows.Blocks.{WasLinked}
 use Rattle.papaya_others.specs.Given.Follows.Shows.{Shows}
+use Rattle.papaya_others.specs.Given.Scenes.Scene.{Scene}
 
 -- the pair was stored, and is not reclaimed
 abbrev pub is_unreclaimed : Place → Bool

@@ -14,8 +14,6 @@ use Rattle.papaya_schedules.specs.Views.{call_of}
 use Rattle.papaya_scheduler.specs.Given.Callers.Together.{UnderWay, OnKey}
 use Rattle.papaya_scheduler.specs.Given.Finishes.Maps.{Standing}
 use Rattle.papaya_scheduler.specs.Given.Effects.Known.{known}
-use Rattle.papaya_scheduler.specs.Given.Executor.IsAt.{Scene}
-use Rattle.papaya_scheduler.proofs.Given.Executor.Changed.{standing_is}
 use Rattle.papaya_scheduler.specs.Given.Follows.Calling.{come_to}
 use Rattle.papaya_scheduler.specs.Given.Follows.Calls.{IsCalled}
 use Rattle.papaya_scheduler.proofs.Given.Follows.Calling.{is_same_is}
@@ -34,6 +32,9 @@ use Rattle.papaya_scheduler.proofs.Here.{Here}
 use Rattle.papaya_scheduler.proofs.Given.Rows.Lists.{changed_at, set_seen}
 use Rattle.papaya_scheduler.proofs.Replied.{far_asks}
 use Rattle.papaya_stepping.proofs.StepSays.{the}
+use Rattle.papaya_scheduler.proofs.Given.Scenes.May.{standing_is}
+use Rattle.papaya_scheduler.specs.Given.Scenes.Scene.{Scene}
+use Rattle.papaya_scheduler.specs.Given.Executor.IsThere.{held_by}
 
 pub far_ready : (stand : Stands) → far_of stand ≡ far.Ready → stand ≡ IsReady
 far_ready IsReady e = refl
@@ -113,7 +114,7 @@ module _ {K V S : Type 0} (same : K → K → Bool) (hash : K → ℕ) (terms : 
           asking = ap (λ (z : CallThere K V). z.stands) its_call ∙ far_asks here.call.stands question (ap (λ (z : Seen). z.far) here.as_seen ∙ is)
 
           st : (standing : Standing K) × (stands.scene.maps n ≡ Some standing)
-          st = standing_is same hash p.logged.executor stands.scene stands.shown.is_at n j (OnKey x) here_x
+          st = standing_is same (λ map. hash) (held_by p.logged.executor) stands.scene stands.shown.is_at.held n j (OnKey x) here_x
 
           as_called : IsAskedAs (stands.shown.shows.all.shown.number n) st.0.chart.stored (known p.logged.notes) x called.0.call called.0
           as_called = stands.shown.shows.all.asked.each n j (OnKey x) here_x st.0 st.1 called.0 called.1

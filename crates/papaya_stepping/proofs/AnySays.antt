@@ -10,9 +10,6 @@ use Rattle.papaya_schedules.specs.Views.{call_of}
 use Rattle.papaya_scheduler.specs.Given.Callers.Together.{UnderWay, OnKey, ForRoom, Counting, OverAll}
 use Rattle.papaya_scheduler.specs.Given.Finishes.Machines.{machine_of}
 use Rattle.papaya_scheduler.specs.Given.Effects.Known.{Known}
-use Rattle.papaya_scheduler.specs.Given.Executor.IsAt.{Scene, IsAt}
-use Rattle.papaya_scheduler.specs.Given.Executor.Stepping.{StepLeads}
-use Rattle.papaya_scheduler.specs.Given.Executor.declared.executor.Executor.{Executor}
 use Rattle.papaya_scheduler.specs.Given.Follows.Calls.{IsCalled}
 use Rattle.papaya_scheduler.specs.Given.Moments.Whole.{ShowsWhole}
 use Rattle.papaya_named.specs.Machines.{IsAsFar, RefusedForRoom}
@@ -21,8 +18,11 @@ use Rattle.papaya_named.specs.declared.caller.Stands.TheVariants as far
 use Rattle.papaya_named.specs.declared.kind.Kind.{Kind}
 use Rattle.papaya_stepping.proofs.StepSays.{Says, is_called, key_says, room_says, sum_says}
 use Rattle.papaya_stepping.proofs.SweepSteps.{clear_says, retain_says, walk_step_says}
+use Rattle.papaya_scheduler.specs.Given.Scenes.Held.{Held, IsAt}
+use Rattle.papaya_scheduler.specs.Given.Scenes.Scene.{Scene}
+use Rattle.papaya_scheduler.specs.Given.Scenes.Stepping.{StepLeads}
 
-module _ {K V S : Type 0} (same : K → K → Bool) (hash : K → ℕ) (name : ℕ → List ℕ) (m : Moment K V) (known : Known) (s : Scene K V) (old new : Executor K V S) (at_old : IsAt same hash old s)
+module _ {K V : Type 0} (same : K → K → Bool) (hash : ℕ → K → ℕ) (name : ℕ → List ℕ) (m : Moment K V) (known : Known) (s : Scene K V) (old new : Held K V) (at_old : IsAt same hash old s)
     (whole : ShowsWhole same name m known s) (map i : ℕ) (c : CallThere K V) (c_is : call_of (name i) m ≡ Some c) (its : Kind) (its_is : kind_of c.call ≡ its) (value : Option V)
     (said : Progress (Node K V)) (leads : StepLeads same hash i said s old new) where
   abbrev Its : (u : UnderWay K V K) → s.calls map i ≡ Some u → Type 0

@@ -35,9 +35,6 @@ use Rattle.papaya_scheduler.specs.Given.Effects.declared.acting.Acting.TheVarian
 use Rattle.papaya_scheduler.specs.Given.Teller.declared.changed.Changed.{Changed}
 use Rattle.papaya_scheduler.specs.Given.Finishes.Machines.{machine_of}
 use Rattle.papaya_scheduler.specs.Given.Finishes.Maps.{Standing}
-use Rattle.papaya_scheduler.specs.Given.Executor.Stepping.{StepsFrom}
-use Rattle.papaya_scheduler.specs.Given.Executor.declared.executor.Executor.{Executor}
-use Rattle.papaya_scheduler.proofs.Given.Executor.Changed.{standing_is}
 use Rattle.papaya_scheduler.specs.Given.Follows.Calls.{IsCalled}
 use Rattle.papaya_scheduler.proofs.Given.Others.Outcomes.{told_in}
 use Rattle.papaya_scheduler.proofs.Given.Owes.Tables.Hosts.{Step}
@@ -47,6 +44,10 @@ use Rattle.papaya_stepping.proofs.LookSays.{key_waits, never_waits}
 use Rattle.papaya_stepping.proofs.RoomsWait.{SaysWaits, room_says, sweep_says}
 use Rattle.papaya_stepping.proofs.StepSays.{the}
 use Rattle.papaya_stepping.proofs.WaitsFor.{quiet, waits_so}
+use Rattle.papaya_scheduler.proofs.Given.Scenes.May.{standing_is}
+use Rattle.papaya_scheduler.specs.Given.Scenes.Stepping.{StepsFrom}
+use Rattle.papaya_scheduler.specs.Given.Executor.IsThere.{held_by}
+use Rattle.papaya_scheduler.specs.Given.Scenes.Held.{Held}
 
 -- what a reservation, or a sweep, says as it waits
 room_waits : {T : Type 0} (x : Outcome T Unit) → of_outcome x ≡ progress.Waits → x ≡ outcome.Waits
@@ -67,8 +68,8 @@ sweep_waits swept.Done e = absurd (cc e)
 sweep_waits (swept.Refused fault) e = absurd (cc e)
 
 module _ {K V S : Type 0} (same : K → K → Bool) (hash : K → ℕ) (terms : Terms) (m : Moment K V) (p : Scheduler K V S) (stands : StandsFor same hash terms m p) (own : List ℕ) (of i : ℕ)
-    (x : UnderWay K V K) (under : stands.scene.calls of i ≡ Some x) (named : stands.name i ≡ own) (new : Executor K V S) (next : Machine K V K)
-    (step : StepsFrom same hash (machine_of x) p.logged.executor new next progress.Waits) (c : CallThere K V) (c_is : call_of own m ≡ Some c) where
+    (x : UnderWay K V K) (under : stands.scene.calls of i ≡ Some x) (named : stands.name i ≡ own) (new : Held K V) (next : Machine K V K)
+    (step : StepsFrom same hash (machine_of x) (held_by p.logged.executor) new next progress.Waits) (c : CallThere K V) (c_is : call_of own m ≡ Some c) where
   abbrev its : (d : CallThere K V) × (call_of (stands.name i) m ≡ Some d) × (d.map ≡ of) × IsCalled same x d.call
   its = stands.shown.shows.all.shown.calls of i x under
 
@@ -76,19 +77,19 @@ module _ {K V S : Type 0} (same : K → K → Bool) (hash : K → ℕ) (terms : 
   same_call d d_is = the d c (sym d_is ∙ ap (λ (l : List ℕ). call_of l m) named ∙ c_is)
 
   abbrev st : Standing K
-  st = (standing_is same hash p.logged.executor stands.scene stands.shown.is_at of i x under).0
+  st = (standing_is same (λ map. hash) (held_by p.logged.executor) stands.scene stands.shown.is_at.held of i x under).0
 
   st_is : stands.scene.maps of ≡ Some st
-  st_is = (standing_is same hash p.logged.executor stands.scene stands.shown.is_at of i x under).1
+  st_is = (standing_is same (λ map. hash) (held_by p.logged.executor) stands.scene stands.shown.is_at.held of i x under).1
 
   abbrev before : Mem (Node K V)
   before = p.logged.executor.memory.memory
 
   abbrev after : Mem (Node K V)
-  after = new.memory.memory
+  after = new.memory
 
   abbrev told : Changed
-  told = new.memory.changed
+  told = new.changed
 
   abbrev did : List Effect
   did = effects_of (acts.Call i of) (known p.logged.notes) told
@@ -97,7 +98,7 @@ module _ {K V S : Type 0} (same : K → K → Bool) (hash : K → ℕ) (terms : 
   Says y there = SaysWaits same hash terms m p stands of st st_is i y there told
 
   -- its own step, within that of its machine
-  key_step : (u : CallOnKey K V K) → StepsFrom same hash (machine_of (OnKey u)) p.logged.executor new next progress.Waits
+  key_step : (u : CallOnKey K V K) → StepsFrom same hash (machine_of (OnKey u)) (held_by p.logged.executor) new next progress.Waits
       → (p2 : KeyCall K V K) × Step before after told (call_plan same same hash u.call) (p2, says.Waits)
   key_step u s =
       let it = told_in before after told of_key (call_plan same same hash u.call) (next, progress.Waits) s in
@@ -107,7 +108,7 @@ module _ {K V S : Type 0} (same : K → K → Bool) (hash : K → ℕ) (terms : 
           → (p2 : KeyCall K V K) × Step before after told (call_plan same same hash u.call) (p2, says.Waits)
       by (p2, said) e t = (p2, subst (λ (y : Called (Node K V)). Step before after told (call_plan same same hash u.call) (p2, y)) e t)
 
-  room_step : (r : CallForRoom) → StepsFrom same hash (machine_of (ForRoom r)) p.logged.executor new next progress.Waits
+  room_step : (r : CallForRoom) → StepsFrom same hash (machine_of (ForRoom r)) (held_by p.logged.executor) new next progress.Waits
       → (p2 : Reserve) × Step before after told (reserve_plan hash r.reserve) (p2, outcome.Waits)
   room_step r s =
       let it = told_in before after told of_room (reserve_plan hash r.reserve) (next, progress.Waits) s in
@@ -117,7 +118,7 @@ module _ {K V S : Type 0} (same : K → K → Bool) (hash : K → ℕ) (terms : 
           → (p2 : Reserve) × Step before after told (reserve_plan hash r.reserve) (p2, outcome.Waits)
       by (p2, said) e t = (p2, subst (λ (y : Outcome (Node K V) Unit). Step before after told (reserve_plan hash r.reserve) (p2, y)) e t)
 
-  sweep_step : (o : CallOverAll) → StepsFrom same hash (machine_of (OverAll o)) p.logged.executor new next progress.Waits
+  sweep_step : (o : CallOverAll) → StepsFrom same hash (machine_of (OverAll o)) (held_by p.logged.executor) new next progress.Waits
       → (p2 : Sweep) × Step before after told (sweep_plan hash o.sweep) (p2, swept.Waits)
   sweep_step o s =
       let it = told_in before after told of_sweep (sweep_plan hash o.sweep) (next, progress.Waits) s in
@@ -127,7 +128,7 @@ module _ {K V S : Type 0} (same : K → K → Bool) (hash : K → ℕ) (terms : 
           → (p2 : Sweep) × Step before after told (sweep_plan hash o.sweep) (p2, swept.Waits)
       by (p2, said) e t = (p2, subst (λ (y : Swept (Node K V)). Step before after told (sweep_plan hash o.sweep) (p2, y)) e t)
 
-  by_kind : (y : UnderWay K V K) (there : stands.scene.calls of i ≡ Some y) → StepsFrom same hash (machine_of y) p.logged.executor new next progress.Waits → Says y there
+  by_kind : (y : UnderWay K V K) (there : stands.scene.calls of i ≡ Some y) → StepsFrom same hash (machine_of y) (held_by p.logged.executor) new next progress.Waits → Says y there
   by_kind (OnKey u) there s =
       let at = key_step u s in (
         ap (λ (y : Changed). effects_of (acts.Call i of) (known p.logged.notes) y) (quiet same hash terms m p stands of i u there st st_is after told at.0 at.1),
@@ -135,7 +136,7 @@ module _ {K V S : Type 0} (same : K → K → Bool) (hash : K → ℕ) (terms : 
       )
   by_kind (ForRoom r) there s = let at = room_step r s in room_says same hash terms m p stands of st st_is i r there after told at.0 at.1
   by_kind (OverAll o) there s = let at = sweep_step o s in sweep_says same hash terms m p stands of st st_is i o there after told at.0 at.1
-  by_kind (Counting sum) there s = absurd (never_waits same hash p.logged.executor new next progress.Waits (machine_of (Counting sum)) tt s refl)
+  by_kind (Counting sum) there s = absurd (never_waits same hash (held_by p.logged.executor) new next progress.Waits (machine_of (Counting sum)) tt s refl)
 
   said : Says x under
   said = by_kind x under step

@@ -13,13 +13,13 @@ use Rattle.papaya_schedules.specs.Views.{finite_map, first_of}
 use Rattle.papaya_schedules.specs.Waiting.{is_to_be_copied}
 use Rattle.papaya_scheduler.specs.Given.Effects.Known.{known}
 use Rattle.papaya_scheduler.specs.Given.Finishes.Maps.{Standing}
-use Rattle.papaya_scheduler.specs.Given.Executor.IsAt.{slot_of}
 use Rattle.papaya_scheduler.specs.Given.Follows.Maps.{ShowsPairs}
 use Rattle.papaya_scheduler.specs.Given.Histories.Had.{Had, HadJust}
 use Rattle.papaya_scheduler.proofs.Given.Histories.Now.{now_had}
 use Rattle.papaya_scheduler.specs.Played.{StandsFor}
 use Rattle.papaya_scheduler.specs.declared.scheduler.Scheduler.{Scheduler}
 use Rattle.papaya_stepping.proofs.Waiting.{both_true, chain_longer, first_as}
+use Rattle.papaya_scheduler.specs.Given.Scenes.Scene.{slot_of}
 
 upto : (a b : ℕ) → a ≤ b → nat_le a b ≡ true
 upto a b l = grind (arith, l)
@@ -40,10 +40,10 @@ module _ {K V S : Type 0} (same : K → K → Bool) (hash : K → ℕ) (terms : 
   pairs = (stands.shown.shows.all.shown.maps of st is).pairs
 
   lawful : AreLawful same st.hash
-  lawful = (stands.shown.is_at.together.makings.standing.fit of st is).0
+  lawful = (stands.shown.is_at.held.together.makings.standing.fit of st is).0
 
   together : Together V same st.hash same st.setting slot_of w c st.blocks st.sights (stands.scene.calls of)
-  together = stands.shown.is_at.together.makings.standing.each of st is
+  together = stands.shown.is_at.held.together.makings.standing.each of st is
 
   module _ (k : K) (n i : ℕ) (borrowed : Bool) (held : c.place c.first i ≡ Holds n Copying borrowed) (current : c.current n ≡ true)
       (key : K) (key_is : c.key n ≡ Some key) (asked : same k key ≡ true) where

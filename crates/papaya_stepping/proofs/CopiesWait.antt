@@ -48,7 +48,6 @@ use Rattle.papaya_scheduler.specs.Given.Effects.declared.role.Role.{Role}
 use Rattle.papaya_scheduler.specs.Given.Effects.declared.role.Role.TheVariants as role
 use Rattle.papaya_scheduler.specs.Given.Finishes.Machines.{machine_of}
 use Rattle.papaya_scheduler.specs.Given.Finishes.Maps.{Standing}
-use Rattle.papaya_scheduler.specs.Given.Executor.IsAt.{slot_of}
 use Rattle.papaya_scheduler.specs.Given.Follows.Blocks.{HasRole}
 use Rattle.papaya_scheduler.specs.Given.Follows.Calls.{IsCalled}
 use Rattle.papaya_scheduler.specs.Given.Follows.Maps.{table_of}
@@ -61,6 +60,7 @@ use Rattle.papaya_scheduler.specs.declared.scheduler.Scheduler.{Scheduler}
 use Rattle.papaya_stepping.proofs.StepSays.{the}
 use Rattle.papaya_stepping.proofs.Waiting.{IsForResizes, owing_hands, waits_for_copier, waits_for_handing}
 use Rattle.papaya_scheduler.proofs.Given.Waits.Works.{OnlyLooks, works}
+use Rattle.papaya_scheduler.specs.Given.Scenes.Scene.{slot_of}
 
 -- the row of a call that copies is its copier's
 key_row : (stands : Calling) (q : Copier) → copier_in stands ≡ Some q → IsRowOfCall stands → IsRowOfCopier q.stands
@@ -128,13 +128,13 @@ module _ {K V S : Type 0} (same : K → K → Bool) (hash : K → ℕ) (terms : 
   by_notes = known p.logged.notes
 
   hash_is : st.hash ≡ hash
-  hash_is = stands.shown.is_at.hashes of st is
+  hash_is = stands.shown.is_at.held.hashes of st is
 
   pub all_together : Together V same hash same st.setting slot_of w st.chart st.blocks st.sights calls_on
-  all_together = subst (λ (h : K → ℕ). Together V same h same st.setting slot_of w st.chart st.blocks st.sights calls_on) hash_is (stands.shown.is_at.together.makings.standing.each of st is)
+  all_together = subst (λ (h : K → ℕ). Together V same h same st.setting slot_of w st.chart st.blocks st.sights calls_on) hash_is (stands.shown.is_at.held.together.makings.standing.each of st is)
 
   pub is_lawful : AreLawful same hash
-  is_lawful = subst (λ (h : K → ℕ). AreLawful same h) hash_is (stands.shown.is_at.together.makings.standing.fit of st is).0
+  is_lawful = subst (λ (h : K → ℕ). AreLawful same h) hash_is (stands.shown.is_at.held.together.makings.standing.fit of st is).0
 
   -- of one call
   module _ (i : ℕ) (x : UnderWay K V K) (under : stands.scene.calls of i ≡ Some x) where

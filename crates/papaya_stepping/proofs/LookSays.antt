@@ -29,10 +29,10 @@ use Rattle.papaya_scheduler.specs.Given.Late.Kinds.{LooksAt}
 use Rattle.papaya_scheduler.specs.Given.Teller.declared.changed.Changed.TheVariants.{Nothing}
 use Rattle.papaya_scheduler.proofs.Given.Waits.Laws.{lookups_never_wait}
 use Rattle.papaya_scheduler.proofs.Given.Waits.Never.{Advances, sum_goes}
-use Rattle.papaya_scheduler.specs.Given.Executor.Stepping.{StepsFrom}
-use Rattle.papaya_scheduler.specs.Given.Executor.declared.executor.Executor.{Executor}
-use Rattle.papaya_scheduler.proofs.Given.Executor.Forgotten.{as_step}
 use Rattle.papaya_scheduler.specs.Given.Owes.Looking.{IsLooking}
+use Rattle.papaya_scheduler.proofs.Given.Scenes.Told.{as_step}
+use Rattle.papaya_scheduler.specs.Given.Scenes.Held.{Held}
+use Rattle.papaya_scheduler.specs.Given.Scenes.Stepping.{StepsFrom}
 
 abbrev SumOn : Sum × Counted ℕ → Type 0
 SumOn end = Advances end
@@ -59,12 +59,12 @@ module _ {K V : Type 0} where
   sum_advances (sum, counts.Done count) on e = cc e
   sum_advances (sum, counts.Refused fault) on e = cc e
 
-module _ {K V S : Type 0} (same : K → K → Bool) (hash : K → ℕ) (old new : Executor K V S) (next : Machine K V K) (said : Progress (Node K V)) where
+module _ {K V : Type 0} (same : K → K → Bool) (hash : K → ℕ) (old new : Held K V) (next : Machine K V K) (said : Progress (Node K V)) where
   abbrev m : Mem (Node K V)
-  m = old.memory.memory
+  m = old.memory
 
   abbrev m2 : Mem (Node K V)
-  m2 = new.memory.memory
+  m2 = new.memory
 
   lookup_never : (p : KeyCall K V K) (q : Calling) → p.stands ≡ q → LooksAt q → (d : KeyCall K V K × Called (Node K V)) → Steps Took value_at m (plan_at same same hash p q) m2 d
       → Steps Took value_at m (call_plan same same hash p) m2 d → d.1 ≡ says.Waits → ⊥
@@ -74,11 +74,11 @@ module _ {K V S : Type 0} (same : K → K → Bool) (hash : K → ℕ) (old new 
 
   pub never_waits : (machine : Machine K V K) → IsLooking machine → StepsFrom same hash machine old new next said → said ≡ progress.Waits → ⊥
   never_waits (kinds.Key p) looks steps waits =
-      let d = steps_back called m m2 (call_plan same same hash p) (next, said) (as_step m Nothing (plan_as called (call_plan same same hash p)) m2 new.memory.changed (next, said) steps) in
+      let d = steps_back called m m2 (call_plan same same hash p) (next, said) (as_step m Nothing (plan_as called (call_plan same same hash p)) m2 new.changed (next, said) steps) in
       lookup_never p p.stands refl looks.1 d.0 d.1 d.1
       (key_waits d.0.1 (ap (λ (x : Machine K V K × Progress (Node K V)). x.1) (sym d.2) ∙ waits))
   never_waits (kinds.Count sum) looks steps waits =
-      let d = steps_back counted m m2 (sum_plan sum) (next, said) (as_step m Nothing (plan_as counted (sum_plan sum)) m2 new.memory.changed (next, said) steps) in
+      let d = steps_back counted m m2 (sum_plan sum) (next, said) (as_step m Nothing (plan_as counted (sum_plan sum)) m2 new.changed (next, said) steps) in
       sum_advances d.0 (always_steps SumOn m m2 (sum_plan sum) d.0 (sum_goes (Node K V) sum) d.1)
       (ap (λ (x : Machine K V K × Progress (Node K V)). x.1) (sym d.2) ∙ waits)
   never_waits (kinds.Reserve r) looks steps waits = absurd looks

@@ -18,9 +18,6 @@ use Rattle.papaya_scheduler.specs.Given.Callers.Together.{UnderWay, OnKey, ForRo
 use Rattle.papaya_scheduler.proofs.Given.Callers.Together.At.{at_other, at_same}
 use Rattle.papaya_scheduler.specs.Given.Finishes.Machines.{machine_of}
 use Rattle.papaya_scheduler.specs.Given.Finishes.Maps.{Standing}
-use Rattle.papaya_scheduler.specs.Given.Executor.IsAt.{HasCall, Scene, work_of}
-use Rattle.papaya_scheduler.specs.Given.Executor.Replying.{scene_with}
-use Rattle.papaya_scheduler.proofs.Given.Executor.Changed.{standing_is}
 use Rattle.papaya_scheduler.proofs.Given.Follows.Calling.{is_same_refl}
 use Rattle.papaya_scheduler.specs.Given.Logged.Calling.{WalkGoesOn}
 use Rattle.papaya_scheduler.specs.Given.Logged.Shown.{IsShown}
@@ -39,6 +36,10 @@ use Rattle.papaya_scheduler.proofs.Given.Rows.Facts.{no_ending_of, no_making_of,
 use Rattle.papaya_scheduler.proofs.Here.{Here}
 use Rattle.papaya_scheduler.proofs.Given.Rows.Lists.{set_all, set_itself}
 use Rattle.papaya_stepping.proofs.SweepSteps.{walks_at}
+use Rattle.papaya_scheduler.proofs.Given.Scenes.May.{standing_is}
+use Rattle.papaya_scheduler.specs.Given.Executor.IsThere.{held_by, work_of}
+use Rattle.papaya_scheduler.specs.Given.Scenes.Replying.{scene_with}
+use Rattle.papaya_scheduler.specs.Given.Scenes.Scene.{HasCall, Scene}
 
 -- a call that walks is of the kind of walks
 pub kind_walks : (its : Kind) (purpose : Purpose) → IsFor its purpose → purpose ≡ Walks → its ≡ kind.Walks
@@ -82,13 +83,13 @@ module _ {K V S : Type 0} (same : K → K → Bool) (hash : K → ℕ) (terms : 
   as_ready = subst (λ (x : HowFar). IsAsFar d.kind x (machine_of u)) ready here.way.4.0
 
   abbrev st : (standing : Standing K) × (s.maps d.map ≡ Some standing)
-  st = standing_is same hash p.logged.executor s stands.shown.is_at d.map i u under
+  st = standing_is same (λ map. hash) (held_by p.logged.executor) s stands.shown.is_at.held d.map i u under
 
   -- what it is asked, it takes, and goes on by
   its_walk : (v : UnderWay K V K) → u ≡ v → ((machine_asked (machine_of v)).1 ≡ true) × (d.kind ≡ kind.Walks) × IsWalking 0 (machine_asked (machine_of v)).0
   its_walk (OverAll o) is =
       let far_is = subst (λ (v : UnderWay K V K). IsAsFar d.kind far.Ready (machine_of v)) is as_ready in
-      let walks = walks_at same s d.map i st.0 (stands.shown.is_at.together.makings.standing.each d.map st.0 st.1) o (under ∙ ap Some is) far_is.1 in
+      let walks = walks_at same s d.map i st.0 (stands.shown.is_at.held.together.makings.standing.each d.map st.0 st.1) o (under ∙ ap Some is) far_is.1 in
       (ap (λ (x : Sweeping). sweep_is_ready x) far_is.1, kind_walks d.kind o.sweep.purpose far_is.0 walks, asked_walks K V o.sweep walks far_is.1)
   its_walk (OnKey x) is = absurd (subst (λ (v : UnderWay K V K). IsAsFar d.kind far.Ready (machine_of v)) is as_ready)
   its_walk (ForRoom r) is = absurd (subst (λ (v : UnderWay K V K). IsAsFar d.kind far.Ready (machine_of v)) is as_ready)

@@ -30,7 +30,6 @@ use Rattle.papaya_scheduler.specs.Given.Late.Faults.{RoomInSweeping}
 use Rattle.papaya_scheduler.specs.Given.Callers.Together.{UnderWay}
 use Rattle.papaya_scheduler.specs.Given.Effects.Known.{Known, known}
 use Rattle.papaya_scheduler.specs.Given.Finishes.Machines.{machine_of}
-use Rattle.papaya_scheduler.specs.Given.Executor.IsAt.{HasCall}
 use Rattle.papaya_scheduler.specs.Given.Follows.Calling.{come_to}
 use Rattle.papaya_scheduler.specs.Given.Logged.Calling.{CallGoesOn, WalkGoesOn, step_did}
 use Rattle.papaya_scheduler.specs.Given.Logged.Shown.{IsShown}
@@ -65,6 +64,7 @@ use Rattle.papaya_scheduler.proofs.Rights.{entry, in_turn, out_of_turn, plays, q
 use Rattle.papaya_stepping.proofs.StepSays.{asks_nothing, the}
 use Rattle.papaya_stepping.proofs.SteppedTo.{going_on, has_gone, none_named}
 use Rattle.papaya_scheduler.proofs.Stopped.{ready_parts, shows_by, shows_is}
+use Rattle.papaya_scheduler.specs.Given.Scenes.Scene.{HasCall}
 
 module _ {K V S : Type 0} (same : K → K → Bool) (hash : K → ℕ) (terms : Terms) (own : List ℕ) (n : ℕ) (w : Moment K V) (p : Scheduler K V S) (stands : StandsAs (WalksFar own n) same hash terms w p)
     (place : ℕ) (at_place : ReadyAt own place p) where

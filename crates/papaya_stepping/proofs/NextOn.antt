@@ -23,10 +23,6 @@ use Rattle.papaya_scheduler.specs.Given.Effects.declared.acting.Acting.TheVarian
 use Rattle.papaya_scheduler.specs.Given.Finishes.Machines.{machine_of}
 use Rattle.papaya_scheduler.specs.Given.Finishes.Maps.{Standing}
 use Rattle.papaya_scheduler.specs.Given.Teller.declared.changed.Changed.TheVariants.{Nothing}
-use Rattle.papaya_scheduler.specs.Given.Executor.IsAt.{HasCall, IsAt, Scene, slot_of}
-use Rattle.papaya_scheduler.specs.Given.Executor.Stepping.{StepLeads, StepsFrom, has_ended, scene_after}
-use Rattle.papaya_scheduler.specs.Given.Executor.declared.executor.Executor.{Executor}
-use Rattle.papaya_scheduler.proofs.Given.Executor.Changed.{standing_is}
 use Rattle.papaya_scheduler.proofs.Given.Follows.Calling.{is_same_refl}
 use Rattle.papaya_scheduler.proofs.Given.Hands.Replacing.{calls_after}
 use Rattle.papaya_scheduler.specs.Given.Logged.Calling.{CallGoesOn, step_did}
@@ -49,6 +45,11 @@ use Rattle.papaya_scheduler.proofs.RanOn.{maps_named, there_stays}
 use Rattle.papaya_stepping.proofs.StepSays.{goes_as, the}
 use Rattle.papaya_stepping.proofs.SteppedTo.{going_on}
 use Rattle.papaya_stepping.proofs.SweepSteps.{knows_at}
+use Rattle.papaya_scheduler.proofs.Given.Scenes.May.{standing_is}
+use Rattle.papaya_scheduler.specs.Given.Executor.IsThere.{IsThere, held_by}
+use Rattle.papaya_scheduler.specs.Given.Scenes.Scene.{HasCall, Scene, slot_of}
+use Rattle.papaya_scheduler.specs.Given.Scenes.Stepping.{StepLeads, StepsFrom, has_ended, scene_after}
+use Rattle.papaya_scheduler.specs.Given.Scenes.Held.{Held}
 
 module _ {K V : Type 0} where
   -- what says so is a sweep
@@ -60,7 +61,7 @@ module _ {K V : Type 0} where
   as_sweep q (kinds.Count sum) said so = absurd so
 
 -- a walk at a place of its table, by what all know on its map
-module _ {K V : Type 0} (same : K → K → Bool) (hash : K → ℕ) (n : ℕ) (s : Scene K V) (map i : ℕ) (st : Standing K)
+module _ {K V : Type 0} (same : K → K → Bool) (n : ℕ) (s : Scene K V) (map i : ℕ) (st : Standing K)
     (together : Together V same st.hash same st.setting slot_of s.world st.chart st.blocks st.sights (s.calls map)) (u : UnderWay K V K) (under : s.calls map i ≡ Some u) (walking : IsWalking n (machine_of u)) where
   abbrev pub GoesOver : Sweep → Type 0
   GoesOver sweep =
@@ -103,8 +104,8 @@ module _ {K V : Type 0} (same : K → K → Bool) (hash : K → ℕ) (n : ℕ) (
   further_on sweep (inr (over, none)) after less = omega (arith, none, less)
 
   -- what its next step says
-  pub says : {S : Type 0} (old new : Executor K V S) (machine : Machine K V K) (said : Progress (Node K V)) → StepsFrom same hash (machine_of u) old new machine said → (it : IsWalk) → IsNextSaying it.sweep (machine, said)
-  says {S} old new machine said steps it = by it.over
+  pub says : (hash : K → ℕ) (old new : Held K V) (machine : Machine K V K) (said : Progress (Node K V)) → StepsFrom same hash (machine_of u) old new machine said → (it : IsWalk) → IsNextSaying it.sweep (machine, said)
+  says hash old new machine said steps it = by it.over
     where
       from : StepsFrom same hash (kinds.Sweep it.sweep) old new machine said
       from = subst (λ (x : Machine K V K). StepsFrom same hash x old new machine said) it.is steps
@@ -114,13 +115,13 @@ module _ {K V : Type 0} (same : K → K → Bool) (hash : K → ℕ) (n : ℕ) (
       by (inr (over, none)) = over_says same hash old new it.sweep it.walks machine said from over
 
   -- and that it changes nothing
-  pub changes_nothing : {S : Type 0} (old new : Executor K V S) (machine : Machine K V K) (said : Progress (Node K V)) → StepsFrom same hash (machine_of u) old new machine said → IsWalk → new.memory.changed ≡ Nothing
-  changes_nothing {S} old new machine said steps it = by it.over
+  pub changes_nothing : (hash : K → ℕ) (old new : Held K V) (machine : Machine K V K) (said : Progress (Node K V)) → StepsFrom same hash (machine_of u) old new machine said → IsWalk → new.changed ≡ Nothing
+  changes_nothing hash old new machine said steps it = by it.over
     where
       from : StepsFrom same hash (kinds.Sweep it.sweep) old new machine said
       from = subst (λ (x : Machine K V K). StepsFrom same hash x old new machine said) it.is steps
 
-      by : GoesOver it.sweep → new.memory.changed ≡ Nothing
+      by : GoesOver it.sweep → new.changed ≡ Nothing
       by (inl (words, low, inside, sized)) = words_idle same hash old new it.sweep it.walks machine said from words
       by (inr (over, none)) = over_idle same hash old new it.sweep it.walks machine said from over
 
@@ -145,22 +146,22 @@ module _ {K V S : Type 0} (same : K → K → Bool) (hash : K → ℕ) (terms : 
   map_is = ap (λ (z : Seen). z.map) here.as_seen
 
   abbrev st : (standing : Standing K) × (stands.scene.maps d.map ≡ Some standing)
-  st = standing_is same hash p.logged.executor stands.scene stands.shown.is_at d.map d.number here.way.0 here.way.1
+  st = standing_is same (λ map. hash) (held_by p.logged.executor) stands.scene stands.shown.is_at.held d.map d.number here.way.0 here.way.1
 
   abbrev together : Together V same st.0.hash same st.0.setting slot_of stands.scene.world st.0.chart st.0.blocks st.0.sights (stands.scene.calls d.map)
-  together = stands.shown.is_at.together.makings.standing.each d.map st.0 st.1
+  together = stands.shown.is_at.held.together.makings.standing.each d.map st.0 st.1
 
   abbrev pub Its : Type 0
-  Its = IsWalk same hash n stands.scene d.map d.number st.0 together here.way.0 here.way.1 its_walk.1
+  Its = IsWalk same n stands.scene d.map d.number st.0 together here.way.0 here.way.1 its_walk.1
 
   pub its_sweep : Its
-  its_sweep = walk_is same hash n stands.scene d.map d.number st.0 together here.way.0 here.way.1 its_walk.1
+  its_sweep = walk_is same n stands.scene d.map d.number st.0 together here.way.0 here.way.1 its_walk.1
 
   pub few_steps : n ≤ 2 ^ 48
-  few_steps = few_places same hash n stands.scene d.map d.number st.0 together here.way.0 here.way.1 its_walk.1 its_sweep.sweep its_sweep.over
+  few_steps = few_places same n stands.scene d.map d.number st.0 together here.way.0 here.way.1 its_walk.1 its_sweep.sweep its_sweep.over
 
   module _ (said : Progress (Node K V)) (new : Logged K V S) (before after : List Effect) (leads_so : CallGoesOn same hash stands.name w stands.scene d.number d.map said before after p.logged new) where
-    abbrev pub leads : StepLeads same hash d.number said stands.scene p.logged.executor new.executor
+    abbrev pub leads : StepLeads same (λ map. hash) d.number said stands.scene (held_by p.logged.executor) (held_by new.executor)
     leads = (leads_so here.way.0 here.way.1).0
 
     abbrev pub did : List Effect
@@ -171,7 +172,7 @@ module _ {K V S : Type 0} (same : K → K → Bool) (hash : K → ℕ) (terms : 
 
     -- where it has led, whoever asks how far its machine is then
     abbrev pub then_at : Scene K V
-    then_at = let it = leads d.map here.way.0 here.way.1 in scene_after same hash stands.scene p.logged.executor new.executor d.map d.number it.0 here.way.0 it.1 said it.4
+    then_at = let it = leads d.map here.way.0 here.way.1 in scene_after same stands.scene (held_by p.logged.executor) (held_by new.executor) d.map d.number it.0 here.way.0 it.1 said it.4
 
     abbrev pub then_next : Option (UnderWay K V K)
     then_next = (leads d.map here.way.0 here.way.1).4.next
@@ -184,12 +185,12 @@ module _ {K V S : Type 0} (same : K → K → Bool) (hash : K → ℕ) (terms : 
 
     pub saying : (swept : Sweep) × ((leads d.map here.way.0 here.way.1).1 ≡ kinds.Sweep swept) × (swept.purpose ≡ its_sweep.sweep.purpose) × NextSays its_sweep.sweep said swept
     saying = as_sweep its_sweep.sweep (leads d.map here.way.0 here.way.1).1 said
-        (says same hash n stands.scene d.map d.number st.0 together here.way.0 here.way.1 its_walk.1 p.logged.executor new.executor (leads d.map here.way.0 here.way.1).1 said (leads d.map here.way.0 here.way.1).3 its_sweep)
+        (says same n stands.scene d.map d.number st.0 together here.way.0 here.way.1 its_walk.1 (leads d.map here.way.0 here.way.1).0.hash (held_by p.logged.executor) (held_by new.executor) (leads d.map here.way.0 here.way.1).1 said (leads d.map here.way.0 here.way.1).3 its_sweep)
 
     -- it does nothing
     pub did_nothing : did ≡ []
     did_nothing = ap (effects_of (acts.Call d.number d.map) (known p.logged.notes))
-        (changes_nothing same hash n stands.scene d.map d.number st.0 together here.way.0 here.way.1 its_walk.1 p.logged.executor new.executor (leads d.map here.way.0 here.way.1).1 said (leads d.map here.way.0 here.way.1).3 its_sweep)
+        (changes_nothing same n stands.scene d.map d.number st.0 together here.way.0 here.way.1 its_walk.1 (leads d.map here.way.0 here.way.1).0.hash (held_by p.logged.executor) (held_by new.executor) (leads d.map here.way.0 here.way.1).1 said (leads d.map here.way.0 here.way.1).3 its_sweep)
 
     -- where it is under way still
     pub under_way : has_ended said ≡ false → (x : UnderWay K V K) × (then_next ≡ Some x)
@@ -210,7 +211,7 @@ module _ {K V S : Type 0} (same : K → K → Bool) (hash : K → ℕ) (terms : 
       λ holds. (
         (its_walk same hash terms own n w p stands place at_place).0,
         subst (IsWalking (n + 1)) (sym (goes_as_said same hash terms own n w p stands place at_place progress.Goes new before after leads_so x goes))
-            (to.2 ∙ it.walks, inl (to.3.0, further_on same hash n stands.scene its.caller.map its.caller.number (st same hash terms own n w p stands place at_place).0 (together same hash terms own n w p stands place at_place) its.way.0 its.way.1 (its_walk same hash terms own n w p stands place at_place).1 it.sweep it.over to.0.place to.3.1)),
+            (to.2 ∙ it.walks, inl (to.3.0, further_on same n stands.scene its.caller.map its.caller.number (st same hash terms own n w p stands place at_place).0 (together same hash terms own n w p stands place at_place) its.way.0 its.way.1 (its_walk same hash terms own n w p stands place at_place).1 it.sweep it.over to.0.place to.3.1)),
       ),
       λ fails. absurd (let a = ap (λ (l : List ℕ). is_same l own) its.named ∙ is_same_refl own in cc (a, fails)),
     )
@@ -296,7 +297,7 @@ module _ {K V S : Type 0} (same : K → K → Bool) (hash : K → ℕ) (terms : 
     w = with_effects (Some own) (Some midst.call.map) midst.did m
 
     -- it may take a step
-    pub may_walk : (x : Caller V) → slice_get p.calls place ≡ Some x → (s : Scene K V) × IsAt same hash p.logged.executor s × HasCall s x.number
+    pub may_walk : (x : Caller V) → slice_get p.calls place ≡ Some x → (s : Scene K V) × IsThere same hash p.logged.executor s × HasCall s x.number
     may_walk x at_x =
         let it = here same hash terms own n w p midst.stands place midst.ready in
         let same_one : it.caller ≡ x = the it.caller x (sym it.at ∙ at_x) in

@@ -24,8 +24,8 @@ use Rattle.papaya_raw.specs.declared.machines.progress.Progress.{Progress}
 use Rattle.papaya_raw.specs.declared.machines.progress.Progress.TheVariants as progress
 use Rattle.papaya_scheduler.specs.Given.Teller.Tells.{StepsTold}
 use Rattle.papaya_scheduler.specs.Given.Teller.declared.changed.Changed.TheVariants.{Nothing}
-use Rattle.papaya_scheduler.specs.Given.Executor.Stepping.{StepsFrom}
-use Rattle.papaya_scheduler.specs.Given.Executor.declared.executor.Executor.{Executor}
+use Rattle.papaya_scheduler.specs.Given.Scenes.Held.{Held}
+use Rattle.papaya_scheduler.specs.Given.Scenes.Stepping.{StepsFrom}
 
 module _ {K V : Type 0} where
   abbrev pub NextSays : Sweep → Progress (Node K V) → Sweep → Type 0
@@ -72,20 +72,20 @@ module _ (K V : Type 0) (q : Sweep) (walks : q.purpose ≡ Walks) where
     found_so m n (Taken value) end gives ends = absurd gives
     found_so m n (Roomed r) end gives ends = absurd gives
 
-module _ {K V S : Type 0} (same : K → K → Bool) (hash : K → ℕ) (old new : Executor K V S) (q : Sweep) (walks : q.purpose ≡ Walks) (machine : Machine K V K) (said : Progress (Node K V))
+module _ {K V : Type 0} (same : K → K → Bool) (hash : K → ℕ) (old new : Held K V) (q : Sweep) (walks : q.purpose ≡ Walks) (machine : Machine K V K) (said : Progress (Node K V))
     (steps : StepsFrom same hash (kinds.Sweep q) old new machine said) where
   abbrev At : Sweeping → Type 0
-  At stands = StepsTold K V (Machine K V K × Progress (Node K V)) old.memory.memory Nothing (plan_as swept (plan_at hash q stands)) new.memory.memory new.memory.changed (machine, said)
+  At stands = StepsTold K V (Machine K V K × Progress (Node K V)) old.memory Nothing (plan_as swept (plan_at hash q stands)) new.memory new.changed (machine, said)
 
   pub words_say : q.stands ≡ at.Words → q.place < q.table.len → q.table.len ≤ 2 ^ 48 → IsNextSaying q (machine, said)
-  words_say is place fits = let s = subst At is steps in found_so K V q walks place fits old.memory.memory new.memory.memory s.0 (machine, said) s.1.0.0 s.2
+  words_say is place fits = let s = subst At is steps in found_so K V q walks place fits old.memory new.memory s.0 (machine, said) s.1.0.0 s.2
 
   pub over_says : q.stands ≡ at.Over → IsNextSaying q (machine, said)
   over_says is = let s = subst At is steps in subst (λ (end : Machine K V K × Progress (Node K V)). IsNextSaying q end) (sym s.1) (refl, tt)
 
   -- and nothing is told of it
-  pub words_idle : q.stands ≡ at.Words → new.memory.changed ≡ Nothing
+  pub words_idle : q.stands ≡ at.Words → new.changed ≡ Nothing
   words_idle is = let s = subst At is steps in s.1.1
 
-  pub over_idle : q.stands ≡ at.Over → new.memory.changed ≡ Nothing
+  pub over_idle : q.stands ≡ at.Over → new.changed ≡ Nothing
   over_idle is = let s = subst At is steps in s.2

@@ -8,8 +8,6 @@ use Rattle.papaya_schedules.specs.declared.effect.Effect.{Effect}
 use Rattle.papaya_schedules.specs.declared.outcome.Outcome.{Outcome}
 use Rattle.papaya_schedules.specs.Moment.{Moment}
 use Rattle.papaya_scheduler.specs.Given.Effects.Known.{known}
-use Rattle.papaya_scheduler.specs.Given.Executor.IsAt.{IsAt, KeepsGiven, Scene}
-use Rattle.papaya_scheduler.specs.Given.Executor.Replying.{AskLeads}
 use Rattle.papaya_scheduler.specs.Given.Logged.Calling.{WalkGoesOn}
 use Rattle.papaya_scheduler.specs.Given.Logged.Shown.{IsShown}
 use Rattle.papaya_scheduler.specs.Given.Logged.declared.logged.Logged.{Logged}
@@ -19,6 +17,9 @@ use Rattle.papaya_scheduler.specs.declared.played.Played.{Played}
 use Rattle.papaya_scheduler.specs.declared.scheduler.Scheduler.{Scheduler}
 use Rattle.papaya_stepping.specs.Stepping.{HasWalked, IsStepOf, IsStepped, TookNext, WalkComes, callers_then, outcome_of}
 use Rattle.papaya_stepping.proofs.StepSays.{the}
+use Rattle.papaya_scheduler.specs.Given.Executor.IsThere.{IsThere, KeepsGiven}
+use Rattle.papaya_scheduler.specs.Given.Executor.Replying.{AsksThere}
+use Rattle.papaya_scheduler.specs.Given.Scenes.Scene.{Scene}
 
 module _ {K V S : Type 0} (same : K → K → Bool) (hash : K → ℕ) (place : ℕ) (old : Scheduler K V S) (asked : Logged K V S) (said : Progress (Node K V)) (outcome : Outcome V) (steps : ℕ) (effects : Vec Effect)
     (walked : Scheduler K V S) (comes : WalkComes same hash place steps said [] effects.items (record old { logged = asked }) walked) (callers : List (Caller V))
@@ -50,7 +51,7 @@ module _ {K V S : Type 0} (same : K → K → Bool) (hash : K → ℕ) (place : 
   }
 
   has_walked : (caller : Caller V) → slice_get old.calls place ≡ Some caller → (ready : Bool) (number : ℕ) → number ≡ caller.number
-      → ((s : Scene K V) → IsAt same hash old.logged.executor s → AskLeads same hash number ready s old.logged.executor asked.executor)
+      → ((s : Scene K V) → IsThere same hash old.logged.executor s → AsksThere same hash number ready s old.logged.executor asked.executor)
       → ((name : ℕ → List ℕ) (m : Moment K V) (s : Scene K V) → IsShown same hash name m old.logged s → WalkGoesOn same hash name m s number ready old.logged asked)
       → asked.notes ≡ old.logged.notes → KeepsGiven old.logged.executor asked.executor → HasWalked same hash place played old (record walked { calls = callers })
   has_walked caller at ready number its leads goes notes given = record {
@@ -58,7 +59,7 @@ module _ {K V S : Type 0} (same : K → K → Bool) (hash : K → ℕ) (place : 
     at = at;
     ready = ready;
     asked = asked;
-    leads = λ s is_at. subst (λ (k : ℕ). AskLeads same hash k ready s old.logged.executor asked.executor) its (leads s is_at);
+    leads = λ s is_at. subst (λ (k : ℕ). AsksThere same hash k ready s old.logged.executor asked.executor) its (leads s is_at);
     goes = λ name m s shown. subst (λ (k : ℕ). WalkGoesOn same hash name m s k ready old.logged asked) its (goes name m s shown);
     notes = notes;
     given = given;
@@ -73,7 +74,7 @@ module _ {K V S : Type 0} (same : K → K → Bool) (hash : K → ℕ) (place : 
   -- so it is of an event by which a walk of this name that was ready was asked
   pub took_next : (own : List ℕ) → Some place ≡ ready_place own old.calls → (new : Scheduler K V S) → new ≡ record walked { calls = callers }
       → (caller : Caller V) → slice_get old.calls place ≡ Some caller → (ready : Bool) (number : ℕ) → number ≡ caller.number
-      → ((s : Scene K V) → IsAt same hash old.logged.executor s → AskLeads same hash number ready s old.logged.executor asked.executor)
+      → ((s : Scene K V) → IsThere same hash old.logged.executor s → AsksThere same hash number ready s old.logged.executor asked.executor)
       → ((name : ℕ → List ℕ) (m : Moment K V) (s : Scene K V) → IsShown same hash name m old.logged s → WalkGoesOn same hash name m s number ready old.logged asked)
       → asked.notes ≡ old.logged.notes → KeepsGiven old.logged.executor asked.executor → TookNext same hash own played old new
   took_next own found new is caller at ready number its leads goes notes given = (

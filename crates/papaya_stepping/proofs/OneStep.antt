@@ -27,8 +27,6 @@ use Rattle.papaya_scheduler.specs.Given.Finishes.Machines.{GoesOnAs, machine_of}
 use Rattle.papaya_scheduler.specs.Given.Effects.Known.{Known, known}
 use Rattle.papaya_scheduler.specs.Given.Effects.Effects.{known_after}
 use Rattle.papaya_scheduler.specs.Given.Effects.declared.acting.Acting.TheVariants as acts
-use Rattle.papaya_scheduler.specs.Given.Executor.IsAt.{Scene}
-use Rattle.papaya_scheduler.specs.Given.Executor.Stepping.{StepLeads, StepsFrom, has_ended}
 use Rattle.papaya_scheduler.specs.Given.Follows.Calling.{come_to}
 use Rattle.papaya_scheduler.proofs.Given.Follows.Calling.{apart_back}
 use Rattle.papaya_scheduler.specs.Given.Hands.Calling.{AsksJust}
@@ -59,6 +57,9 @@ use Rattle.papaya_scheduler.proofs.RanOn.{maps_named, there_stays}
 use Rattle.papaya_stepping.proofs.StepSays.{Says, the}
 use Rattle.papaya_stepping.proofs.SteppedTo.{going_on, has_gone, here_then, name_is, next, none_named, s2}
 use Rattle.papaya_stepping.proofs.AnyWaits.{any_quiet, any_waits_for}
+use Rattle.papaya_scheduler.specs.Given.Scenes.Scene.{Scene}
+use Rattle.papaya_scheduler.specs.Given.Scenes.Stepping.{StepLeads, StepsFrom, has_ended}
+use Rattle.papaya_scheduler.specs.Given.Executor.IsThere.{held_by}
 
 module _ {K V : Type 0} (by : Known) (its : Kind) (value : Option V) where
   -- what a caller keeps
@@ -188,7 +189,7 @@ module _ {K V S : Type 0} (same : K → K → Bool) (hash : K → ℕ) (terms : 
   map_is = ap (λ (z : Seen). z.map) here.as_seen
 
   module _ (leads_so : CallGoesOn same hash stands.name m stands.scene d.number d.map said before after p.logged new) where
-    abbrev leads : StepLeads same hash d.number said stands.scene p.logged.executor new.executor
+    abbrev leads : StepLeads same (λ map. hash) d.number said stands.scene (held_by p.logged.executor) (held_by new.executor)
     leads = (leads_so here.way.0 here.way.1).0
 
     abbrev did : List Effect
@@ -218,10 +219,10 @@ module _ {K V S : Type 0} (same : K → K → Bool) (hash : K → ℕ) (terms : 
     abbrev outcome : Outcome V
     outcome = outcome_of by d.kind d.value said
 
-    says : Says same hash stands.name m (known p.logged.notes) stands.scene p.logged.executor new.executor stands.shown.is_at stands.shown.shows d.map d.number c its_call d.kind (ap (λ (z : Seen). z.kind) here.as_seen)
+    says : Says same (λ map. hash) stands.name m (known p.logged.notes) stands.scene (held_by p.logged.executor) (held_by new.executor) stands.shown.is_at.held stands.shown.shows d.map d.number c its_call d.kind (ap (λ (z : Seen). z.kind) here.as_seen)
         d.value here.way.0 here.way.1 said leads
     says =
-        any_says same hash stands.name m (known p.logged.notes) stands.scene p.logged.executor new.executor stands.shown.is_at stands.shown.shows d.map d.number c its_call d.kind (ap (λ (z : Seen). z.kind) here.as_seen)
+        any_says same (λ map. hash) stands.name m (known p.logged.notes) stands.scene (held_by p.logged.executor) (held_by new.executor) stands.shown.is_at.held stands.shown.shows d.map d.number c its_call d.kind (ap (λ (z : Seen). z.kind) here.as_seen)
         d.value said leads here.way.0 here.way.1 (subst (λ (h : HowFar). IsAsFar d.kind h (machine_of here.way.0)) goes here.way.4.0) here.way.4.1
 
     abbrev then_next : Option (UnderWay K V K)
@@ -351,7 +352,7 @@ module _ {K V S : Type 0} (same : K → K → Bool) (hash : K → ℕ) (terms : 
         works = λ waits. by_looking (only_looks c.call) refl waits;
         waits = λ waits x x_is. by_waits (said_waits by d.kind d.value said waits) x x_is;
         memory = λ refused x x_is.
-            (step_keeps_grown same hash stands.name m (known p.logged.notes) stands.scene p.logged.executor new.executor stands.shown.is_at stands.shown.shows stands.shown.kept.short stands.shown.kept.grown
+            (step_keeps_grown same (λ map. hash) stands.name m (known p.logged.notes) stands.scene (held_by p.logged.executor) (held_by new.executor) stands.shown.is_at.held stands.shown.shows stands.shown.kept.short stands.shown.kept.grown
             d.map d.number here.way.0 here.way.1 said leads).1 (said_short by d.kind d.value said refused) x
             (subst (λ (l : List ℕ). call_of l (with_effects (Some l) (Some d.map) did m) ≡ Some x) (sym its_name)
             (subst (λ (k : ℕ). call_of own (with_effects (Some own) (Some k) did m) ≡ Some x) map_is x_is));
@@ -362,7 +363,7 @@ module _ {K V S : Type 0} (same : K → K → Bool) (hash : K → ℕ) (terms : 
           -- one that only looks never waits
           by_looking : (looks : Bool) → only_looks c.call ≡ looks → outcome ≡ Waits → only_looks c.call ≡ false
           by_looking false e waits = e
-          by_looking true e waits = absurd (never_waits same hash p.logged.executor new.executor (leads d.map here.way.0 here.way.1).1 said (machine_of here.way.0)
+          by_looking true e waits = absurd (never_waits same (leads d.map here.way.0 here.way.1).0.hash (held_by p.logged.executor) (held_by new.executor) (leads d.map here.way.0 here.way.1).1 said (machine_of here.way.0)
               (stands.shown.kept.looking d.map d.number here.way.0 here.way.1 c its_call e) (leads d.map here.way.0 here.way.1).3 (said_waits by d.kind d.value said waits))
 
           -- one that waits has done nothing, and waits for one that it may wait for
@@ -375,14 +376,17 @@ module _ {K V S : Type 0} (same : K → K → Bool) (hash : K → ℕ) (terms : 
                   (y : CallThere K V) → call_of own (with_effects (Some own) (Some c.map) l m) ≡ Some y
                   → list_any (may_wait_for same y (with_effects (Some own) (Some c.map) l m)) (with_effects (Some own) (Some c.map) l m).calls ≡ true
 
-              its_step : StepsFrom same hash (machine_of here.way.0) p.logged.executor new.executor (leads d.map here.way.0 here.way.1).1 progress.Waits
-              its_step = subst (λ (y : Progress (Node K V)). StepsFrom same hash (machine_of here.way.0) p.logged.executor new.executor (leads d.map here.way.0 here.way.1).1 y) waits (leads d.map here.way.0 here.way.1).3
+              its_step : StepsFrom same hash (machine_of here.way.0) (held_by p.logged.executor) (held_by new.executor) (leads d.map here.way.0 here.way.1).1 progress.Waits
+              its_step =
+                  let to = leads d.map here.way.0 here.way.1 in
+                  subst (λ (h : K → ℕ). StepsFrom same h (machine_of here.way.0) (held_by p.logged.executor) (held_by new.executor) to.1 progress.Waits) (stands.shown.is_at.held.hashes d.map to.0 to.2)
+                  (subst (λ (y : Progress (Node K V)). StepsFrom same to.0.hash (machine_of here.way.0) (held_by p.logged.executor) (held_by new.executor) to.1 y) waits to.3)
 
               nothing : did ≡ []
-              nothing = any_quiet same hash terms m p stands own d.map d.number here.way.0 here.way.1 its_name new.executor (leads d.map here.way.0 here.way.1).1 its_step c here.call_is
+              nothing = any_quiet same hash terms m p stands own d.map d.number here.way.0 here.way.1 its_name (held_by new.executor) (leads d.map here.way.0 here.way.1).1 its_step c here.call_is
 
               right : Right []
-              right y y_is = any_waits_for same hash terms m p stands own d.map d.number here.way.0 here.way.1 its_name new.executor (leads d.map here.way.0 here.way.1).1 its_step y y_is
+              right y y_is = any_waits_for same hash terms m p stands own d.map d.number here.way.0 here.way.1 its_name (held_by new.executor) (leads d.map here.way.0 here.way.1).1 its_step y y_is
 
 module _ {K V S : Type 0} (same : K → K → Bool) (hash : K → ℕ) (terms : Terms) (m : Moment K V) (p new : Scheduler K V S) (stands : StandsFor same hash terms m p) (own : List ℕ) (place : ℕ)
     (at : GoesAt own place p) (outcome : Outcome V) (before after : List Effect) (step : IsStepped same hash place outcome before after p new) where

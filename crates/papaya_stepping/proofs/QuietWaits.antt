@@ -43,10 +43,10 @@ use Rattle.papaya_raw.specs.declared.machines.call.KeyCall.{KeyCall}
 use Rattle.papaya_scheduler.specs.Given.Points.Told.{IsRowOf, IsRowOfCall, IsRowOfCopier}
 use Rattle.papaya_scheduler.specs.Given.Teller.declared.changed.Changed.{Changed}
 use Rattle.papaya_scheduler.specs.Given.Teller.declared.changed.Changed.TheVariants as changed
-use Rattle.papaya_scheduler.proofs.Given.Executor.Forgotten.{as_step}
 use Rattle.papaya_scheduler.proofs.Given.Others.Outcomes.{told_in}
 use Rattle.papaya_scheduler.proofs.Given.Waits.CallPlans.{Continues, ending_goes}
 use Rattle.papaya_scheduler.proofs.Given.Owes.Tables.Hosts.{Step}
+use Rattle.papaya_scheduler.proofs.Given.Scenes.Told.{as_step}
 
 module _ {K V : Type 0} (m m2 : Mem (Node K V)) (told : Changed) where
   -- a row that settles waits where it has read the batch of its slot

@@ -27,11 +27,11 @@ use Rattle.papaya_scheduler.specs.Given.Late.Faults.{IsRoom, RefusesRoom, RoomIn
 use Rattle.papaya_scheduler.proofs.Given.Late.KindsKept.Laws.{reserves_refuse_room, sweeps_refuse_room}
 use Rattle.papaya_scheduler.proofs.Given.Late.KindsKept.Rooms.Making.{CountsOn, sum_counts}
 use Rattle.papaya_scheduler.specs.Given.Teller.declared.changed.Changed.TheVariants.{Nothing}
-use Rattle.papaya_scheduler.specs.Given.Executor.Stepping.{StepsFrom}
-use Rattle.papaya_scheduler.specs.Given.Executor.declared.executor.Executor.{Executor}
-use Rattle.papaya_scheduler.proofs.Given.Executor.Forgotten.{as_step}
 use Rattle.papaya_scheduler.proofs.Given.Histories.Asking.{always_told, always_turned}
 use Rattle.papaya_named.specs.Machines.{RefusedForRoom}
+use Rattle.papaya_scheduler.proofs.Given.Scenes.Told.{as_step}
+use Rattle.papaya_scheduler.specs.Given.Scenes.Held.{Held}
+use Rattle.papaya_scheduler.specs.Given.Scenes.Stepping.{StepsFrom}
 
 module _ {K V : Type 0} where
   -- what it says is no refusal, or one for room
@@ -74,26 +74,26 @@ module _ (K V : Type 0) where
   counted_room (sum, counts.Done count) so = tt
   counted_room (sum, counts.Refused fault) so = absurd so
 
-module _ {K V S : Type 0} (same : K → K → Bool) (hash : K → ℕ) (old new : Executor K V S) (machine : Machine K V K) (said : Progress (Node K V)) where
+module _ {K V : Type 0} (same : K → K → Bool) (hash : K → ℕ) (old new : Held K V) (machine : Machine K V K) (said : Progress (Node K V)) where
   abbrev m : Mem (Node K V)
-  m = old.memory.memory
+  m = old.memory
 
   abbrev m2 : Mem (Node K V)
-  m2 = new.memory.memory
+  m2 = new.memory
 
   pub reserve_room : (r : Reserve) → RoomInReserving r.stands → StepsFrom same hash (kinds.Reserve r) old new machine said → RefusedForRoom machine × SaysRoom said
   reserve_room r room steps =
-      let d = steps_back reserved m m2 (reserve_plan hash r) (machine, said) (as_step m Nothing (plan_as reserved (reserve_plan hash r)) m2 new.memory.changed (machine, said) steps) in
+      let d = steps_back reserved m m2 (reserve_plan hash r) (machine, said) (as_step m Nothing (plan_as reserved (reserve_plan hash r)) m2 new.changed (machine, said) steps) in
       let so = reserves_refuse_room hash r room m m2 d.0 d.1 in
       subst RoomSo (sym d.2) (so.0, outcome_room d.0.1 so.1)
 
   pub sweep_room : (c : Sweep) → RoomInSweeping c.stands → StepsFrom same hash (kinds.Sweep c) old new machine said → RefusedForRoom machine × SaysRoom said
   sweep_room c room steps =
-      let d = steps_back swept m m2 (sweep_plan hash c) (machine, said) (as_step m Nothing (plan_as swept (sweep_plan hash c)) m2 new.memory.changed (machine, said) steps) in
+      let d = steps_back swept m m2 (sweep_plan hash c) (machine, said) (as_step m Nothing (plan_as swept (sweep_plan hash c)) m2 new.changed (machine, said) steps) in
       let so = sweeps_refuse_room hash c room m m2 d.0 d.1 in
       subst RoomSo (sym d.2) (so.0, swept_room d.0.1 so.1)
 
   pub sum_room : (sum : Sum) → StepsFrom same hash (kinds.Count sum) old new machine said → NeverRefused said
   sum_room sum steps =
-      always_told CountSo m m2 Nothing new.memory.changed (plan_as counted (sum_plan sum)) (machine, said)
+      always_told CountSo m m2 Nothing new.changed (plan_as counted (sum_plan sum)) (machine, said)
       (always_turned CountsOn CountSo counted (counted_room K V) (sum_plan sum) (sum_counts (Node K V) sum)) steps

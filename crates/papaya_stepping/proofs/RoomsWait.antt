@@ -62,10 +62,8 @@ use Rattle.papaya_scheduler.specs.Given.Effects.declared.role.Role.TheVariants a
 use Rattle.papaya_scheduler.specs.Given.Teller.declared.changed.Changed.{Changed}
 use Rattle.papaya_scheduler.specs.Given.Teller.declared.changed.Changed.TheVariants as changed
 use Rattle.papaya_scheduler.specs.Given.Finishes.Maps.{Standing}
-use Rattle.papaya_scheduler.specs.Given.Executor.IsAt.{slot_of}
 use Rattle.papaya_scheduler.specs.Given.Follows.Calls.{IsCalled}
 use Rattle.papaya_scheduler.specs.Given.Follows.Maps.{table_of}
-use Rattle.papaya_scheduler.proofs.Given.Executor.Forgotten.{as_step}
 use Rattle.papaya_scheduler.proofs.Given.Owes.Tables.Hosts.{Step}
 use Rattle.papaya_scheduler.specs.Played.{StandsFor}
 use Rattle.papaya_scheduler.specs.declared.scheduler.Scheduler.{Scheduler}
@@ -76,6 +74,8 @@ use Rattle.papaya_scheduler.specs.Given.Points.FactsCopiesBlocking.{CopierFactsB
 use Rattle.papaya_scheduler.specs.Given.Late.LateCopies.{LateCopierFacts, LateCopying}
 use Rattle.papaya_scheduler.specs.Given.Kept.Ends.{HaveEndsIn}
 use Rattle.papaya_scheduler.specs.Given.SeizeActs.Waits.{SettlesOn}
+use Rattle.papaya_scheduler.proofs.Given.Scenes.Told.{as_step}
+use Rattle.papaya_scheduler.specs.Given.Scenes.Scene.{slot_of}
 
 -- a row that works on one slot settles on that
 pub on_slot : (slot s : ℕ) (row : Row) → IsRowOn slot row → SettlesOn s row → s ≡ slot
@@ -131,7 +131,7 @@ module _ {K V S : Type 0} (same : K → K → Bool) (hash : K → ℕ) (terms : 
     Nothing told = effects_of (acts.Call i of) (known p.logged.notes) told ≡ []
 
     as_taken : {R : Type 0} (plan : Plan (Node K V) R) (m2 : Mem (Node K V)) (told : Changed) (end : R) → Step before m2 told plan end → Steps Took value_at w.memory plan m2 end
-    as_taken plan m2 told end s = subst (λ (k : Mem (Node K V)). Steps Took value_at k plan m2 end) (sym stands.shown.is_at.memory) (as_step before changed.Nothing plan m2 told end s)
+    as_taken plan m2 told end s = subst (λ (k : Mem (Node K V)). Steps Took value_at k plan m2 end) (sym stands.shown.is_at.held.memory) (as_step before changed.Nothing plan m2 told end s)
 
     -- the row that it stands at works on its slot: it is its copier's, or its disposal's
     pub copier_on : (copier : Copier) → CopierFacts same hash w i its_setting st.chart seen copier → IsRowOn (slot_of i) (row_of_copier copier.stands)
@@ -244,7 +244,7 @@ module _ {K V S : Type 0} (same : K → K → Bool) (hash : K → ℕ) (terms : 
     room_on : IsRowOn (slot_of i) (row_of_room r.reserve.stands)
     room_on = elim (together.stand i (ForRoom r) under) as (λ _. IsRowOn (slot_of i) (row_of_room r.reserve.stands)) [
       | inl rests ↦ facts rests.1.facts
-      | inr within ↦ subst (λ (row : Row). IsRowOn (slot_of i) row) within.0 (stands.shown.is_at.on_slots i)
+      | inr within ↦ subst (λ (row : Row). IsRowOn (slot_of i) row) within.0 (stands.shown.is_at.held.on_slots i)
     ]
       where
         begins : (q : Reserving) → ReservingFacts same hash w i (its_setting i (ForRoom r) under) st.chart (seen i (ForRoom r) under) q → IsRowOn (slot_of i) (row_of_room q)
@@ -290,7 +290,7 @@ module _ {K V S : Type 0} (same : K → K → Bool) (hash : K → ℕ) (terms : 
     sweep_on : IsRowOn (slot_of i) (row_of_sweep (slot_of i) o.sweep.stands)
     sweep_on = elim (together.stand i (OverAll o) under) as (λ _. IsRowOn (slot_of i) (row_of_sweep (slot_of i) o.sweep.stands)) [
       | inl rests ↦ begins o.sweep.stands rests.1.facts.point
-      | inr within ↦ subst (λ (row : Row). IsRowOn (slot_of i) row) (within.0 ∙ same_row (slot_of i) o.sweep.stands) (stands.shown.is_at.on_slots i)
+      | inr within ↦ subst (λ (row : Row). IsRowOn (slot_of i) row) (within.0 ∙ same_row (slot_of i) o.sweep.stands) (stands.shown.is_at.held.on_slots i)
     ]
       where
         begins : (q : Sweeping) → SweepingFacts same hash w i (its_setting i (OverAll o) under) st.chart (seen i (OverAll o) under) o.began o.sweep q

@@ -44,10 +44,6 @@ use Rattle.papaya_scheduler.specs.Given.Effects.Effects.{effects_of, known_after
 use Rattle.papaya_scheduler.specs.Given.Effects.Known.{Known}
 use Rattle.papaya_scheduler.specs.Given.Effects.declared.acting.Acting.TheVariants as acts
 use Rattle.papaya_scheduler.specs.Given.Effects.declared.role.Role.TheVariants as role
-use Rattle.papaya_scheduler.specs.Given.Executor.IsAt.{Scene, IsAt, slot_of}
-use Rattle.papaya_scheduler.specs.Given.Executor.Stepping.{StepLeads, scene_after}
-use Rattle.papaya_scheduler.specs.Given.Executor.declared.executor.Executor.{Executor}
-use Rattle.papaya_scheduler.proofs.Given.Executor.Changed.{standing_is}
 use Rattle.papaya_scheduler.specs.Given.Follows.Calls.{IsCalled}
 use Rattle.papaya_scheduler.specs.Given.Hands.Asked.{AsksThere, IsAskedAs, IsAskedOn}
 use Rattle.papaya_scheduler.specs.Given.Hands.Calling.{AsksJust}
@@ -68,6 +64,10 @@ use Rattle.papaya_stepping.proofs.RoomSays.{NeverRefused, SaysRoom, reserve_room
 use Rattle.papaya_stepping.proofs.KeySays.{key_asks, key_refused}
 use Rattle.papaya_scheduler.proofs.Replied.{of_kind}
 use Rattle.papaya_stepping.proofs.SweepSays.{WalkSays}
+use Rattle.papaya_scheduler.proofs.Given.Scenes.May.{standing_is}
+use Rattle.papaya_scheduler.specs.Given.Scenes.Held.{Held, IsAt}
+use Rattle.papaya_scheduler.specs.Given.Scenes.Scene.{Scene, slot_of}
+use Rattle.papaya_scheduler.specs.Given.Scenes.Stepping.{StepLeads, scene_after}
 
 pub the : {X : Type 0} (a b : X) → ◌≡◌ {A = Option X} (Some a) (Some b) → a ≡ b
 the a b e = cc e
@@ -157,13 +157,13 @@ pub ended_not : {K V : Type 0} (machine : Machine K V K) (said : Progress (Node 
 ended_not machine (progress.Refused other) next is x e fault f = cc (is, e)
 ended_not machine _ next is x e fault f = cc f
 
-module _ {K V S : Type 0} (same : K → K → Bool) (hash : K → ℕ) (name : ℕ → List ℕ) (m : Moment K V) (known : Known) (s : Scene K V) (old new : Executor K V S) (at_old : IsAt same hash old s)
+module _ {K V : Type 0} (same : K → K → Bool) (hash : ℕ → K → ℕ) (name : ℕ → List ℕ) (m : Moment K V) (known : Known) (s : Scene K V) (old new : Held K V) (at_old : IsAt same hash old s)
     (whole : ShowsWhole same name m known s) (map i : ℕ) (c : CallThere K V) (c_is : call_of (name i) m ≡ Some c) (its : Kind) (its_is : kind_of c.call ≡ its) (value : Option V) where
   abbrev pub known2 : Known
-  known2 = known_after (acts.Call i map) new.memory.changed known
+  known2 = known_after (acts.Call i map) new.changed known
 
   abbrev pub effects : List Effect
-  effects = effects_of (acts.Call i map) known new.memory.changed
+  effects = effects_of (acts.Call i map) known new.changed
 
   -- what is so of such a step
   pub record Says (u : UnderWay K V K) (under : s.calls map i ≡ Some u) (said : Progress (Node K V)) (leads : StepLeads same hash i said s old new) : Type 0 where
@@ -179,13 +179,13 @@ module _ {K V S : Type 0} (same : K → K → Bool) (hash : K → ℕ) (name : �
   -- where the step has led
   module _ (u : UnderWay K V K) (under : s.calls map i ≡ Some u) (said : Progress (Node K V)) (leads : StepLeads same hash i said s old new) where
     abbrev pub s2 : Scene K V
-    s2 = let to = leads map u under in scene_after same hash s old new map i to.0 u to.1 said to.4
+    s2 = let to = leads map u under in scene_after same s old new map i to.0 u to.1 said to.4
 
     pub at_new : IsAt same hash new s2
     at_new = (leads map u under).5
 
     pub whole2 : ShowsWhole same name (with_effects (Some (name i)) (Some map) effects m) known2 s2
-    whole2 = calls_keep_whole K V S same hash name m known s old new at_old whole map i u under said leads
+    whole2 = calls_keep_whole K V same hash name m known s old new at_old whole map i u under said leads
 
     pub here_then : (x : UnderWay K V K) → (leads map u under).4.next ≡ Some x → s2.calls map i ≡ Some x
     here_then x goes =
@@ -216,10 +216,10 @@ module _ {K V S : Type 0} (same : K → K → Bool) (hash : K → ℕ) (name : �
       where
         it : (after : CallOnKey K V K) × ((leads map (OnKey x) under).4.next ≡ Some (OnKey after))
             × ((by : Known) (asked : Option ℕ) → IsToldQuestion by a asked → AsksThere by after.call.stands asked)
-        it = asking_steps_stand_there K V S same hash s old new map i x under a leads
+        it = asking_steps_stand_there K V same hash s old new map i x under a leads
 
         question : (q : Option ℕ) × IsToldQuestion known2 a q
-        question = questions_have_words K V S same hash name m known s old new at_old whole map i (OnKey x) under a leads
+        question = questions_have_words K V same hash name m known s old new at_old whole map i (OnKey x) under a leads
 
         asks : AsksThere known2 it.0.call.stands question.0
         asks = it.2 known2 question.0 question.1
@@ -269,8 +269,8 @@ module _ {K V S : Type 0} (same : K → K → Bool) (hash : K → ℕ) (name : �
     key_just : (said : Progress (Node K V)) (leads : StepLeads same hash i said s old new) (y : UnderWay K V K) → (leads map (OnKey x) under).4.next ≡ Some y
         → AsksJust known2 y (outcome_of known2 its value said)
     key_just (progress.Asks a) leads y goes =
-        let it = asking_steps_stand_there K V S same hash s old new map i x under a leads in
-        let question = questions_have_words K V S same hash name m known s old new at_old whole map i (OnKey x) under a leads in
+        let it = asking_steps_stand_there K V same hash s old new map i x under a leads in
+        let question = questions_have_words K V same hash name m known s old new at_old whole map i (OnKey x) under a leads in
         subst (λ (z : UnderWay K V K). AsksJust known2 z (Asks (option_map (number_by known2) a))) (the (OnKey it.0) y (sym it.1 ∙ goes))
         (it.2 known2 (option_map (number_by known2) a) (told_by known2 a question.0 question.1))
     key_just progress.Goes leads y goes = asks_nothing known2 y _ (λ q e. cc e)
@@ -314,7 +314,7 @@ module _ {K V S : Type 0} (same : K → K → Bool) (hash : K → ℕ) (name : �
       → Says (ForRoom r) under said leads
   room_says r under room more call_is said leads =
       let to = leads map (ForRoom r) under in
-      let for = reserve_room same hash old new to.1 said r.reserve room to.3 in
+      let for = reserve_room same to.0.hash old new to.1 said r.reserve room to.3 in
       let did = to.4.did in record {
         comes = subst (λ (z : Call K V). ComesAs z (outcome_of known2 its value said)) (sym call_is)
             (subst (λ (z : Progress (Node K V)). ComesAs {K = K} (Reserves more) (outcome_of known2 its value z)) (sym did.3) (room_comes its known2 value more did.1 (subst SaysRoom did.3 for.1)));
@@ -329,7 +329,7 @@ module _ {K V S : Type 0} (same : K → K → Bool) (hash : K → ℕ) (name : �
       let to = leads map (Counting sum) under in
       let did = to.4.did in record {
         comes = subst (λ (z : Call K V). ComesAs z (outcome_of known2 its value said)) (sym call_is)
-            (subst (λ (z : Progress (Node K V)). ComesAs {K = K} Len (outcome_of known2 its value z)) (sym did.3) (sum_comes K V its known2 value did.1 (subst NeverRefused did.3 (sum_room same hash old new to.1 said sum to.3))));
+            (subst (λ (z : Progress (Node K V)). ComesAs {K = K} Len (outcome_of known2 its value z)) (sym did.3) (sum_comes K V its known2 value did.1 (subst NeverRefused did.3 (sum_room same to.0.hash old new to.1 said sum to.3))));
         far = λ y goes. subst (λ (z : Machine K V K). IsAsFar its (far_then known2 said) z) (sym (goes_as to.1 said to.4.next to.4.goes_on y goes ∙ did.2))
             (subst (λ (z : Progress (Node K V)). IsAsFar {K = K} {V = V} its (far_then known2 z) (kinds.Count did.0)) (sym did.3) (sum_far K V its known2 did.0 did.1));
         asks = λ y goes. no_key (Counting sum) under said leads (λ p e. let a = did.2 in cc (a, e)) y goes;

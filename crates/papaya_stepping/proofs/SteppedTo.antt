@@ -15,10 +15,8 @@ use Rattle.papaya_scheduler.specs.Given.Callers.Together.{UnderWay}
 use Rattle.papaya_scheduler.proofs.Given.Callers.Together.At.{at_other, at_same}
 use Rattle.papaya_scheduler.specs.Given.Finishes.Machines.{MachineStepsAmong, machine_of}
 use Rattle.papaya_scheduler.specs.Given.Finishes.Maps.{IsSameMap, Standing}
-use Rattle.papaya_scheduler.specs.Given.Executor.IsAt.{IsUsedAs, Scene, slot_of, use_at, work_of}
-use Rattle.papaya_scheduler.specs.Given.Executor.Stepping.{StepLeads, scene_after}
-use Rattle.papaya_scheduler.specs.Given.Executor.declared.row.SlotUse.{SlotUse}
-use Rattle.papaya_scheduler.specs.Given.Executor.declared.row.SlotUse.TheVariants as used
+use Rattle.papaya_scheduler.specs.Given.Scenes.declared.row.SlotUse.{SlotUse}
+use Rattle.papaya_scheduler.specs.Given.Scenes.declared.row.SlotUse.TheVariants as used
 use Rattle.papaya_scheduler.specs.Given.Follows.Calling.{NoneNamed}
 use Rattle.papaya_scheduler.proofs.Given.Follows.Calling.{apart_back, is_same_refl}
 use Rattle.papaya_scheduler.specs.Given.Logged.Shown.{IsShown}
@@ -32,6 +30,9 @@ use Rattle.papaya_scheduler.specs.declared.scheduler.Scheduler.{Scheduler}
 use Rattle.papaya_scheduler.proofs.Given.Rows.Facts.{no_ending_of, no_making_of, no_work_at, row_rests, used_once}
 use Rattle.papaya_scheduler.proofs.Here.{HereAs}
 use Rattle.papaya_scheduler.proofs.Given.Rows.Lists.{all_so, one_of, removed_all, removed_any, removed_count, set_all, set_any, set_count}
+use Rattle.papaya_scheduler.specs.Given.Executor.IsThere.{IsUsedAs, held_by, use_at, work_of}
+use Rattle.papaya_scheduler.specs.Given.Scenes.Scene.{Scene, slot_of}
+use Rattle.papaya_scheduler.specs.Given.Scenes.Stepping.{StepLeads, scene_after}
 
 -- a slot that is used alike is used in that way
 used_alike : (v : SlotUse) (u u2 : Use) → IsUsedAs v u → IsUsedAlike u u2 → IsUsedAs v u2
@@ -48,7 +49,7 @@ same_stands (Some x) after same st e = (record x { blocks = same.0; sights = sam
 module _ {K V S : Type 0} (Far Then : Caller V → Machine K V K → Type 0) (own : List ℕ) (stays : (x : Caller V) → is_named own x ≡ false → (machine : Machine K V K) → Far x machine → Then x machine)
     (same : K → K → Bool) (hash : K → ℕ) (terms : Terms) (m : Moment K V) (p : Scheduler K V S) (stands : StandsAs Far same hash terms m p) (place : ℕ)
     (here : HereAs Far same hash terms m p stands own place) (said : Progress (Node K V)) (new : Logged K V S)
-    (leads : StepLeads same hash here.caller.number said stands.scene p.logged.executor new.executor) where
+    (leads : StepLeads same (λ map. hash) here.caller.number said stands.scene (held_by p.logged.executor) (held_by new.executor)) where
   abbrev s : Scene K V
   s = stands.scene
 
@@ -74,7 +75,7 @@ module _ {K V S : Type 0} (Far Then : Caller V → Machine K V K → Type 0) (ow
   next = (leads d.map u under).4.next
 
   abbrev pub s2 : Scene K V
-  s2 = let it = leads d.map u under in scene_after same hash s p.logged.executor new.executor d.map i it.0 u it.1 said it.4
+  s2 = let it = leads d.map u under in scene_after same s (held_by p.logged.executor) (held_by new.executor) d.map i it.0 u it.1 said it.4
 
   pub here_then : s2.calls d.map i ≡ next
   here_then = ap (λ (f : ℕ → Option (UnderWay K V K)). f i) (at_same s.calls d.map _ d.map refl) ∙ at_same (s.calls d.map) i next i refl
@@ -95,7 +96,7 @@ module _ {K V S : Type 0} (Far Then : Caller V → Machine K V K → Type 0) (ow
     where
       by : (o : Option (UnderWay K V K)) → s.calls n i ≡ o → s.calls n i ≡ None
       by None e = e
-      by (Some x) e = absurd (ne (stands.shown.is_at.together.makings.standing.once n d.map i (λ z. cc (e, z)) (λ z. let a = under in cc (a, z))))
+      by (Some x) e = absurd (ne (stands.shown.is_at.held.together.makings.standing.once n d.map i (λ z. cc (e, z)) (λ z. let a = under in cc (a, z))))
 
   -- other callers are as they were
   pub still : (x : Caller V) → is_named own x ≡ false → IsUnderWayAs Far stands.name s p.there x → IsUnderWayAs Then stands.name s2 p.there x
@@ -255,8 +256,8 @@ module _ {K V S : Type 0} (Far Then : Caller V → Machine K V K → Type 0) (ow
               its_work : work_of new.executor i ≡ None
               its_work =
                   no_work_at same hash new.executor s2 shown.is_at i (none_gone over)
-                  (nothing (s.makers i) (λ b is. let a = stands.shown.is_at.together.makings.alone i b is d.map in let h = under in cc (a, h)))
-                  (nothing (s.enders i) (λ f is. let a = (stands.shown.is_at.together.alone i f is).0 d.map in let h = under in cc (a, h))) ((leads d.map u under).4.rests over)
+                  (nothing (s.makers i) (λ b is. let a = stands.shown.is_at.held.together.makings.alone i b is d.map in let h = under in cc (a, h)))
+                  (nothing (s.enders i) (λ f is. let a = (stands.shown.is_at.held.together.alone i f is).0 d.map in let h = under in cc (a, h))) ((leads d.map u under).4.rests over)
 
               by : (j ≡ i) ⊎ (j ≢ i) → work_of new.executor j ≡ None
               by (inl e) = ap (work_of new.executor) e ∙ its_work

@@ -34,10 +34,10 @@ use Rattle.papaya_raw.specs.declared.machines.progress.Progress.{Progress}
 use Rattle.papaya_raw.specs.declared.machines.progress.Progress.TheVariants as progress
 use Rattle.papaya_scheduler.proofs.Given.Rule.Keys.Always.{Always, AlwaysOf, always_if, always_plan_as}
 use Rattle.papaya_scheduler.specs.Given.Teller.declared.changed.Changed.TheVariants.{Nothing}
-use Rattle.papaya_scheduler.specs.Given.Executor.Stepping.{StepsFrom}
-use Rattle.papaya_scheduler.specs.Given.Executor.declared.executor.Executor.{Executor}
 use Rattle.papaya_scheduler.proofs.Given.Histories.Asking.{always_told, always_turned}
 use Rattle.papaya_named.specs.Machines.{IsBefore}
+use Rattle.papaya_scheduler.specs.Given.Scenes.Held.{Held}
+use Rattle.papaya_scheduler.specs.Given.Scenes.Stepping.{StepsFrom}
 
 -- a walk before its first pair
 module _ (K V : Type 0) (p : Sweep) (walks : p.purpose ≡ Walks) where
@@ -257,14 +257,14 @@ module _ {K V : Type 0} where
   as_other p takes (q, ends.Done) so = tt
   as_other p takes (q, ends.Refused fault) so = tt
 
-module _ {K V S : Type 0} (same : K → K → Bool) (hash : K → ℕ) (old new : Executor K V S) (p : Sweep) (machine : Machine K V K) (said : Progress (Node K V))
+module _ {K V : Type 0} (same : K → K → Bool) (hash : K → ℕ) (old new : Held K V) (p : Sweep) (machine : Machine K V K) (said : Progress (Node K V))
     (steps : StepsFrom same hash (kinds.Sweep p) old new machine said) where
   pub walk_says : p.purpose ≡ Walks → IsBefore p.stands → IsWalkSaying (machine, said)
   walk_says walks before =
-      always_told IsWalkSaying old.memory.memory new.memory.memory Nothing new.memory.changed (plan_as swept (plan_at hash p p.stands)) (machine, said)
+      always_told IsWalkSaying old.memory new.memory Nothing new.changed (plan_as swept (plan_at hash p p.stands)) (machine, said)
       (always_turned (SaysSo K V p walks) IsWalkSaying swept (as_walk p walks) (plan_at hash p p.stands) (walk_from K V p walks hash p.stands refl before)) steps
 
   pub shows_none : removes p.purpose ≡ true → (p.stands ≡ at.Ready → ⊥) → ShowsNone said
   shows_none takes never =
-      always_told IsShowingNone old.memory.memory new.memory.memory Nothing new.memory.changed (plan_as swept (plan_at hash p p.stands)) (machine, said)
+      always_told IsShowingNone old.memory new.memory Nothing new.changed (plan_as swept (plan_at hash p p.stands)) (machine, said)
       (always_turned (ShowsSo K V p takes) IsShowingNone swept (as_other p takes) (plan_at hash p p.stands) (others_from K V p takes hash p.stands never)) steps

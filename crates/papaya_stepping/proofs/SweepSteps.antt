@@ -27,10 +27,6 @@ use Rattle.papaya_scheduler.specs.Given.Callers.Together.{UnderWay, OverAll, Sta
 use Rattle.papaya_scheduler.specs.Given.Finishes.Machines.{GoesOnAs, machine_of}
 use Rattle.papaya_scheduler.specs.Given.Finishes.Maps.{Standing}
 use Rattle.papaya_scheduler.specs.Given.Effects.Known.{Known}
-use Rattle.papaya_scheduler.specs.Given.Executor.IsAt.{Scene, IsAt, slot_of}
-use Rattle.papaya_scheduler.specs.Given.Executor.Stepping.{StepLeads}
-use Rattle.papaya_scheduler.specs.Given.Executor.declared.executor.Executor.{Executor}
-use Rattle.papaya_scheduler.proofs.Given.Executor.Changed.{standing_is}
 use Rattle.papaya_scheduler.specs.Given.Hands.Calling.{AsksJust}
 use Rattle.papaya_scheduler.specs.Given.Moments.Whole.{ShowsWhole}
 use Rattle.papaya_scheduler.proofs.Given.Histories.NoKey.Sweeps.{SweepsOn, sweeps_on}
@@ -43,6 +39,10 @@ use Rattle.papaya_named.specs.declared.kind.Kind.TheVariants as kind
 use Rattle.papaya_stepping.proofs.RoomSays.{SaysRoom, sweep_room}
 use Rattle.papaya_stepping.proofs.StepSays.{Says, ended_not, goes_as, here_then, known2, no_key, s2, then_there, together2, walk_comes, walk_far}
 use Rattle.papaya_stepping.proofs.SweepSays.{IsWalkSaying, ShowsNone, WalkSays, shows_none, walk_says}
+use Rattle.papaya_scheduler.proofs.Given.Scenes.May.{standing_is}
+use Rattle.papaya_scheduler.specs.Given.Scenes.Held.{Held, IsAt}
+use Rattle.papaya_scheduler.specs.Given.Scenes.Scene.{Scene, slot_of}
+use Rattle.papaya_scheduler.specs.Given.Scenes.Stepping.{StepLeads}
 
 -- what a sweep knows where it stands, if it stands in no row
 module _ {K V : Type 0} (same : K → K → Bool) (s : Scene K V) (map i : ℕ) (st : Standing K)
@@ -105,7 +105,7 @@ module _ {K V : Type 0} where
       of (progress.Done answer) sh told = (for, λ walks. absurd (on walks))
       of (progress.Refused fault) sh told = (for, λ walks. absurd (on walks))
 
-module _ {K V S : Type 0} (same : K → K → Bool) (hash : K → ℕ) (name : ℕ → List ℕ) (m : Moment K V) (known : Known) (s : Scene K V) (old new : Executor K V S) (at_old : IsAt same hash old s)
+module _ {K V : Type 0} (same : K → K → Bool) (hash : ℕ → K → ℕ) (name : ℕ → List ℕ) (m : Moment K V) (known : Known) (s : Scene K V) (old new : Held K V) (at_old : IsAt same hash old s)
     (whole : ShowsWhole same name m known s) (map i : ℕ) (c : CallThere K V) (c_is : call_of (name i) m ≡ Some c) (its : Kind) (its_is : kind_of c.call ≡ its) (value : Option V)
     (o : CallOverAll) (under : s.calls map i ≡ Some (OverAll o)) (said : Progress (Node K V)) (leads : StepLeads same hash i said s old new) (now : IsAsFar {K = K} {V = V} its far.Goes (machine_of (OverAll o)))
     (room : RoomInSweeping o.sweep.stands) where
@@ -125,7 +125,7 @@ module _ {K V S : Type 0} (same : K → K → Bool) (hash : K → ℕ) (name : �
   machine_is = (leads map (OverAll o) under).4.did.2
 
   for_room : RefusedForRoom (leads map (OverAll o) under).1 × SaysRoom said
-  for_room = sweep_room same hash old new (leads map (OverAll o) under).1 said o.sweep room (leads map (OverAll o) under).3
+  for_room = sweep_room same (leads map (OverAll o) under).0.hash old new (leads map (OverAll o) under).1 said o.sweep room (leads map (OverAll o) under).3
 
   room_then : (y : UnderWay K V K) → (leads map (OverAll o) under).4.next ≡ Some y → RefusedForRoom (machine_of y)
   room_then y goes = subst RefusedForRoom (sym (goes_as (leads map (OverAll o) under).1 said (leads map (OverAll o) under).4.next (leads map (OverAll o) under).4.goes_on y goes)) for_room.0
@@ -134,7 +134,7 @@ module _ {K V S : Type 0} (same : K → K → Bool) (hash : K → ℕ) (name : �
   said_is = (leads map (OverAll o) under).4.did.3
 
   goes_on : SweepsOn o.sweep.purpose (kinds.Sweep p2, said)
-  goes_on = subst (λ (z : Machine K V K). SweepsOn o.sweep.purpose (z, said)) machine_is (sweeps_on same hash old new o.sweep (leads map (OverAll o) under).1 said (leads map (OverAll o) under).3)
+  goes_on = subst (λ (z : Machine K V K). SweepsOn o.sweep.purpose (z, said)) machine_is (sweeps_on same (leads map (OverAll o) under).0.hash old new o.sweep (leads map (OverAll o) under).1 said (leads map (OverAll o) under).3)
 
   -- it is this sweep that goes on
   next_is : (y : UnderWay K V K) → (leads map (OverAll o) under).4.next ≡ Some y → machine_of y ≡ kinds.Sweep p2
@@ -154,7 +154,7 @@ module _ {K V S : Type 0} (same : K → K → Bool) (hash : K → ℕ) (name : �
       let a = ap removes (sym walks) ∙ takes in cc a
 
   shows : removes o.sweep.purpose ≡ true → ShowsNone said
-  shows takes = shows_none same hash old new o.sweep (leads map (OverAll o) under).1 said (leads map (OverAll o) under).3 takes (not_ready takes)
+  shows takes = shows_none same (leads map (OverAll o) under).0.hash old new o.sweep (leads map (OverAll o) under).1 said (leads map (OverAll o) under).3 takes (not_ready takes)
 
   -- and where it asks, it is a retaining, and stands there
   sweep_of : (y : UnderWay K V K) → machine_of y ≡ kinds.Sweep p2 → (x : CallOverAll) × (y ≡ OverAll x) × (x.sweep ≡ p2)
@@ -245,4 +245,4 @@ module _ {K V S : Type 0} (same : K → K → Bool) (hash : K → ℕ) (name : �
 
       says : WalkSays said p2.stands
       says = subst (λ (z : Machine K V K). IsWalkSaying (z, said)) machine_is
-          (walk_says same hash old new o.sweep (leads map (OverAll o) under).1 said (leads map (OverAll o) under).3 walks (now.1 walks))
+          (walk_says same (leads map (OverAll o) under).0.hash old new o.sweep (leads map (OverAll o) under).1 said (leads map (OverAll o) under).3 walks (now.1 walks))

@@ -33,8 +33,6 @@ use Rattle.papaya_scheduler.specs.Given.Callers.Rooms.{CallForRoom}
 use Rattle.papaya_scheduler.specs.Given.Callers.Together.{CallOnKey, UnderWay, OnKey, ForRoom, Counting, OverAll}
 use Rattle.papaya_scheduler.specs.Given.Finishes.Machines.{machine_of}
 use Rattle.papaya_scheduler.specs.Given.Finishes.Maps.{Standing}
-use Rattle.papaya_scheduler.specs.Given.Executor.IsAt.{slot_of}
-use Rattle.papaya_scheduler.proofs.Given.Executor.Changed.{standing_is}
 use Rattle.papaya_scheduler.specs.Given.Follows.Calls.{IsCalled}
 use Rattle.papaya_scheduler.proofs.Given.Hands.Calling.{caller_is}
 use Rattle.papaya_scheduler.specs.Given.Owes.Looking.{IsLooking}
@@ -44,6 +42,9 @@ use Rattle.papaya_scheduler.specs.Shapes.{shape_of}
 use Rattle.papaya_scheduler.specs.declared.scheduler.Scheduler.{Scheduler}
 use Rattle.papaya_scheduler.proofs.HeldTold.{has_call, its_guard, one_passes}
 use Rattle.papaya_scheduler.proofs.ShapesHere.{shapes_from}
+use Rattle.papaya_scheduler.proofs.Given.Scenes.May.{standing_is}
+use Rattle.papaya_scheduler.specs.Given.Scenes.Scene.{slot_of}
+use Rattle.papaya_scheduler.specs.Given.Executor.IsThere.{held_by}
 
 -- as many tables as are counted
 tables_count : {K : Type 0} (c : Chart K) (blocks : Blocks) (t k : ℕ) → length (tables_on c blocks t k) ≡ k
@@ -195,14 +196,14 @@ module _ {K V S : Type 0} (same : K → K → Bool) (hash : K → ℕ) (terms : 
   -- one that only looks has no row under way
   looks_rest : (n j : ℕ) (x : UnderWay K V K) → stands.scene.calls n j ≡ Some x → IsLooking (machine_of x) → stands.scene.world.row j ≡ Rests
   looks_rest n j (OnKey u) there looks =
-      let its_map = standing_is same hash p.logged.executor stands.scene stands.shown.is_at n j (OnKey u) there in
-      elim ((stands.shown.is_at.together.makings.standing.each n its_map.0 its_map.1).stand j (OnKey u) there) as (λ _. stands.scene.world.row j ≡ Rests) [
+      let its_map = standing_is same (λ map. hash) (held_by p.logged.executor) stands.scene stands.shown.is_at.held n j (OnKey u) there in
+      elim ((stands.shown.is_at.held.together.makings.standing.each n its_map.0 its_map.1).stand j (OnKey u) there) as (λ _. stands.scene.world.row j ≡ Rests) [
         | inl rests ↦ rests.0
         | inr row ↦ absurd (no_row u.call.stands looks.1 row.1)
       ]
   looks_rest n j (Counting sum) there looks =
-      let its_map = standing_is same hash p.logged.executor stands.scene stands.shown.is_at n j (Counting sum) there in
-      ((stands.shown.is_at.together.makings.standing.each n its_map.0 its_map.1).stand j (Counting sum) there).0
+      let its_map = standing_is same (λ map. hash) (held_by p.logged.executor) stands.scene stands.shown.is_at.held n j (Counting sum) there in
+      ((stands.shown.is_at.held.together.makings.standing.each n its_map.0 its_map.1).stand j (Counting sum) there).0
   looks_rest n j (ForRoom r) there looks = absurd looks
   looks_rest n j (OverAll o) there looks = absurd looks
 

@@ -44,9 +44,7 @@ use Rattle.papaya_schedules.specs.Waiting.{is_to_be_copied, may_wait_for, waits_
 use Rattle.papaya_scheduler.specs.Given.Teller.declared.changed.Changed.{Changed}
 use Rattle.papaya_scheduler.specs.Given.Teller.declared.changed.Changed.TheVariants as changed
 use Rattle.papaya_scheduler.specs.Given.Finishes.Maps.{Standing}
-use Rattle.papaya_scheduler.specs.Given.Executor.IsAt.{slot_of}
 use Rattle.papaya_scheduler.specs.Given.Follows.Calls.{IsCalled}
-use Rattle.papaya_scheduler.proofs.Given.Executor.Forgotten.{as_step}
 use Rattle.papaya_scheduler.proofs.Given.Owes.Tables.Hosts.{Step}
 use Rattle.papaya_scheduler.specs.Played.{StandsFor}
 use Rattle.papaya_scheduler.specs.declared.scheduler.Scheduler.{Scheduler}
@@ -55,6 +53,8 @@ use Rattle.papaya_stepping.proofs.BeingCopied.{may_be_copied}
 use Rattle.papaya_stepping.proofs.QuietWaits.{asked_quiet, row_quiet, try_quiet}
 use Rattle.papaya_stepping.proofs.Waiting.{at_once_for_resizes, for_pair, grows_as, waits_for_holder, waits_for_worker}
 use Rattle.papaya_stepping.proofs.RoomsWait.{at_once_on, copier_on, copier_waits, dispose_on, late_on, on_slot}
+use Rattle.papaya_scheduler.proofs.Given.Scenes.Told.{as_step}
+use Rattle.papaya_scheduler.specs.Given.Scenes.Scene.{slot_of}
 
 module _ {K V S : Type 0} (same : K → K → Bool) (hash : K → ℕ) (terms : Terms) (m : Moment K V) (p : Scheduler K V S) (stands : StandsFor same hash terms m p) (of i : ℕ) (u : CallOnKey K V K)
     (under : stands.scene.calls of i ≡ Some (OnKey u)) (st : Standing K) (is : stands.scene.maps of ≡ Some st) where
@@ -71,13 +71,13 @@ module _ {K V S : Type 0} (same : K → K → Bool) (hash : K → ℕ) (terms : 
   calls_on = stands.scene.calls of
 
   hash_is : st.hash ≡ hash
-  hash_is = stands.shown.is_at.hashes of st is
+  hash_is = stands.shown.is_at.held.hashes of st is
 
   together : Together V same hash same st.setting slot_of w st.chart st.blocks st.sights calls_on
-  together = subst (λ (h : K → ℕ). Together V same h same st.setting slot_of w st.chart st.blocks st.sights calls_on) hash_is (stands.shown.is_at.together.makings.standing.each of st is)
+  together = subst (λ (h : K → ℕ). Together V same h same st.setting slot_of w st.chart st.blocks st.sights calls_on) hash_is (stands.shown.is_at.held.together.makings.standing.each of st is)
 
   lawful : AreLawful same hash
-  lawful = subst (λ (h : K → ℕ). AreLawful same h) hash_is (stands.shown.is_at.together.makings.standing.fit of st is).0
+  lawful = subst (λ (h : K → ℕ). AreLawful same h) hash_is (stands.shown.is_at.held.together.makings.standing.fit of st is).0
 
   abbrev its : (c : CallThere K V) × (call_of (stands.name i) m ≡ Some c) × (c.map ≡ of) × IsCalled same (OnKey u) c.call
   its = stands.shown.shows.all.shown.calls of i (OnKey u) under
@@ -127,7 +127,7 @@ module _ {K V S : Type 0} (same : K → K → Bool) (hash : K → ℕ) (terms : 
       | inl fresh ↦ begins_on u.call.stands fresh.point
       | inr late ↦ begins_late u.call.stands late.1.point
     ]
-    | inr within ↦ subst (λ (row : Row). IsRowOn (slot_of i) row) within.0 (stands.shown.is_at.on_slots i)
+    | inr within ↦ subst (λ (row : Row). IsRowOn (slot_of i) row) within.0 (stands.shown.is_at.held.on_slots i)
   ]
 
   -- another row has the batch of its slot
@@ -138,7 +138,7 @@ module _ {K V S : Type 0} (same : K → K → Bool) (hash : K → ℕ) (terms : 
 
   module _ (m2 : Mem (Node K V)) (told : Changed) (p2 : KeyCall K V K) (s : Step p.logged.executor.memory.memory m2 told (call_plan same same hash u.call) (p2, says.Waits)) where
     steps : Steps Took value_at w.memory (call_plan same same hash u.call) m2 (p2, says.Waits)
-    steps = subst (λ (x : Mem (Node K V)). Steps Took value_at x (call_plan same same hash u.call) m2 (p2, says.Waits)) (sym stands.shown.is_at.memory)
+    steps = subst (λ (x : Mem (Node K V)). Steps Took value_at x (call_plan same same hash u.call) m2 (p2, says.Waits)) (sym stands.shown.is_at.held.memory)
         (as_step p.logged.executor.memory.memory changed.Nothing (call_plan same same hash u.call) m2 told (p2, says.Waits) s)
 
     module _ (mode : is_incremental st.setting.mode ≡ true) (here : u.call.stands ≡ at.Probes) where

@@ -35,10 +35,7 @@ use Rattle.papaya_schedules.specs.Views.{call_of, map_of}
 use Rattle.papaya_schedules.specs.Waiting.{WaitsLawfully, may_wait_for}
 use Rattle.papaya_scheduler.specs.Given.Late.Faults.{IsRoom}
 use Rattle.papaya_scheduler.specs.Given.Effects.Known.{Known, known}
-use Rattle.papaya_scheduler.specs.Given.Executor.IsAt.{HasCall, IsAt, KeepsGiven, Scene}
-use Rattle.papaya_scheduler.specs.Given.Executor.Stepping.{has_ended}
 use Rattle.papaya_scheduler.specs.Given.Follows.Calling.{come_to}
-use Rattle.papaya_scheduler.specs.Given.Executor.Replying.{AskLeads}
 use Rattle.papaya_scheduler.specs.Given.Logged.Calling.{CallGoesOn, WalkGoesOn}
 use Rattle.papaya_scheduler.specs.Given.Logged.Shown.{IsShown}
 use Rattle.papaya_scheduler.specs.Given.Logged.declared.logged.Logged.{Logged}
@@ -53,6 +50,10 @@ use Rattle.papaya_named.specs.declared.kind.Kind.{Kind}
 use Rattle.papaya_named.specs.declared.kind.Kind.TheVariants as kind
 use Rattle.papaya_scheduler.specs.declared.played.Played.{Played}
 use Rattle.papaya_scheduler.specs.declared.scheduler.Scheduler.{Scheduler}
+use Rattle.papaya_scheduler.specs.Given.Executor.IsThere.{IsThere, KeepsGiven}
+use Rattle.papaya_scheduler.specs.Given.Executor.Replying.{AsksThere}
+use Rattle.papaya_scheduler.specs.Given.Scenes.Scene.{HasCall, Scene}
+use Rattle.papaya_scheduler.specs.Given.Scenes.Stepping.{has_ended}
 
 module _ {K V : Type 0} (by : Known) where
   -- what a step says, in the words of an outcome, of a call of this kind that keeps this value
@@ -193,7 +194,7 @@ TakesUpTo most steps outcome = (1 ≤ steps) × (steps ≤ most) × (goes_on out
 module _ {K V S : Type 0} (same : K → K → Bool) (hash : K → ℕ) where
   -- A call of this name is under way.
   abbrev pub MayStep : List ℕ → Scheduler K V S → Type 0
-  MayStep own p = (place : ℕ) × (d : Caller V) × IsCaller own place d p.calls × (s : Scene K V) × IsAt same hash p.logged.executor s × HasCall s d.number
+  MayStep own p = (place : ℕ) × (d : Caller V) × IsCaller own place d p.calls × (s : Scene K V) × IsThere same hash p.logged.executor s × HasCall s d.number
 
   -- It has taken a step: what that said, and did, where it has led, and how far the call is then.
   pub record IsStepped (place : ℕ) (outcome : Outcome V) (before after : List Effect) (old new : Scheduler K V S) : Type 0 where
@@ -288,7 +289,7 @@ module _ {K V S : Type 0} (same : K → K → Bool) (hash : K → ℕ) where
     pub at : slice_get old.calls place ≡ Some caller
     pub ready : Bool
     pub asked : Logged K V S
-    pub leads : (s : Scene K V) → IsAt same hash old.logged.executor s → AskLeads same hash caller.number ready s old.logged.executor asked.executor
+    pub leads : (s : Scene K V) → IsThere same hash old.logged.executor s → AsksThere same hash caller.number ready s old.logged.executor asked.executor
     pub goes : (name : ℕ → List ℕ) (m : Moment K V) (s : Scene K V) → IsShown same hash name m old.logged s → WalkGoesOn same hash name m s caller.number ready old.logged asked
     pub notes : asked.notes ≡ old.logged.notes
     pub given : KeepsGiven old.logged.executor asked.executor

@@ -2,13 +2,13 @@
 ghost use Rattle.std.specs.Prelude.{◌≡◌, ◌≤◌, ℕ, [], IfOk};
 ghost use Rattle.papaya_schedules.specs.declared.event.Event.TheVariants as event;
 ghost use Rattle.papaya_scheduler.specs.Given.Effects.Known.{known};
-ghost use Rattle.papaya_scheduler.specs.Given.Executor.IsAt.{KeepsGiven};
 ghost use Rattle.papaya_scheduler.specs.Given.Logged.Calling.{MakesNoMore};
 ghost use Rattle.papaya_scheduler.specs.Played.{MayPlay};
 ghost use Rattle.papaya_runs.specs.Stopped.{most_steps};
 ghost use Rattle.papaya_stepping.specs.Stepping.{HasCaller, IsCaller, IsPlaced, IsStepped, MayGo, MayStep, MayTake, PlaysOnAt, StepsCome, TakenAs, TookSteps, TookWhole, callers_then, outcome_of};
 ghost use Rattle.papaya_named.specs.Telling.{goes_on};
 ghost use Rattle.papaya_named.specs.declared.caller.Caller.{Caller};
+ghost use Rattle.papaya_scheduler.specs.Given.Executor.IsThere.{KeepsGiven};
 
 use papaya_named::caller::Stands;
 use papaya_named::callers::Callers;

@@ -1,9 +1,9 @@
 //! Walks show their pairs, one by one.
 ghost use Rattle.std.specs.Prelude.{◌≡◌, ◌↔◌, ℕ, true, IfOk};
 ghost use Rattle.papaya_schedules.specs.declared.event.Event.TheVariants as event;
-ghost use Rattle.papaya_scheduler.specs.Given.Executor.IsAt.{KeepsGiven};
 ghost use Rattle.papaya_scheduler.specs.Played.{MayPlay};
 ghost use Rattle.papaya_stepping.specs.Stepping.{IsPlaced, MayWalk, PlaysNextAt, TookNext, WalkComes};
+ghost use Rattle.papaya_scheduler.specs.Given.Executor.IsThere.{KeepsGiven};
 
 use crate::stepping::{come_to, way_of};
 use papaya_raw::machines::Progress;

@@ -32,13 +32,13 @@ use Rattle.papaya_moments.specs.Given.Callers.Rows.{once_over, past_row}
 use Rattle.papaya_moments.specs.Given.Callers.Sights.{seen_by}
 use Rattle.papaya_moments.specs.Given.Callers.Together.{CallOnKey, UnderWay, OnKey, Knows, Stands, in_slot}
 use Rattle.papaya_moments.specs.Given.Effects.Known.{Known}
-use Rattle.papaya_moments.specs.Given.Executor.IsAt.{Scene, IsAt, slot_of}
-use Rattle.papaya_moments.specs.Given.Executor.declared.executor.Executor.{Executor}
 use Rattle.papaya_moments.specs.Given.Finishes.Maps.{Standing}
 use Rattle.papaya_moments.specs.Given.Follows.Calls.{IsCalled}
 use Rattle.papaya_moments.specs.Given.Hands.Asked.{IsAsked, IsAskedAs, IsAskedOn}
 use Rattle.papaya_moments.specs.Whole.{ShowsWhole}
 use Rattle.papaya_values.proofs.KeyEnds.{MayFind}
+use Rattle.papaya_moments.specs.Given.Scenes.Held.{Held, IsAt}
+use Rattle.papaya_moments.specs.Given.Scenes.Scene.{Scene, slot_of}
 
 -- the word of a block is not that of none
 word_some : (block code : ℕ) → 0 < block → block < 2 ^ 53 → code < 2 ^ 64 → word_to block code ≡ 0 → ⊥
@@ -48,7 +48,7 @@ word_some block code some small few none = absurd (omega (arith, some, small, fe
 pub same_call : {X : Type 0} (a b : X) → Some a ≡ Some b → a ≡ b
 same_call a b is = cc is
 
-module _ {K V S : Type 0} (same : K → K → Bool) (hash : K → ℕ) (name : ℕ → List ℕ) (m : Moment K V) (known : Known) (s : Scene K V) (e : Executor K V S) (at_e : IsAt same hash e s)
+module _ {K V : Type 0} (same : K → K → Bool) (hash : ℕ → K → ℕ) (name : ℕ → List ℕ) (m : Moment K V) (known : Known) (s : Scene K V) (e : Held K V) (at_e : IsAt same hash e s)
     (whole : ShowsWhole same name m known s) (map i : ℕ) (st : Standing K) (stands_there : s.maps map ≡ Some st) (c : CallThere K V) (c_is : call_of (name i) m ≡ Some c) where
   pub called_so : (u : UnderWay K V K) → s.calls map i ≡ Some u → IsCalled same u c.call
   called_so u here =

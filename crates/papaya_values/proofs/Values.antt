@@ -43,10 +43,6 @@ use Rattle.papaya_moments.specs.Given.Callers.Kind.{Kind, tries_to_insert}
 use Rattle.papaya_moments.specs.Given.Callers.Pairs.{Begun, Given, HandsBack}
 use Rattle.papaya_moments.specs.Given.Callers.Together.{CallOnKey, UnderWay, OnKey, ForRoom, Counting, OverAll}
 use Rattle.papaya_moments.specs.Given.Effects.Known.{Known}
-use Rattle.papaya_moments.specs.Given.Executor.IsAt.{Scene, IsAt, slot_of}
-use Rattle.papaya_moments.specs.Given.Executor.Stepping.{StepLeads, has_ended}
-use Rattle.papaya_moments.specs.Given.Executor.declared.executor.Executor.{Executor}
-use Rattle.papaya_moments.proofs.Given.Executor.Forgotten.{as_step}
 use Rattle.papaya_moments.specs.Given.Finishes.Machines.{DidOfKind, GoesOnAs, machine_of}
 use Rattle.papaya_moments.specs.Given.Finishes.Maps.{Standing}
 use Rattle.papaya_moments.specs.Given.Follows.Calls.{IsCalled}
@@ -61,6 +57,10 @@ use Rattle.papaya_named.specs.declared.kind.Kind.TheVariants as kind
 use Rattle.papaya_values.specs.Values.{InsertsTellTheirs, IsEnding, KeepsValue, ValuesBegin, ValuesGoOn, ValuesTaken, kept_after}
 use Rattle.papaya_values.proofs.KeyEnds.{Comes, IsNotOver, MayFind, ending_stays, key_comes_so}
 use Rattle.papaya_values.proofs.Inserts.{FoundOver, asked_on, called_so, its_pair, may_find, same_call, takes_nothing}
+use Rattle.papaya_moments.proofs.Given.Scenes.Told.{as_step}
+use Rattle.papaya_moments.specs.Given.Scenes.Held.{Held, IsAt}
+use Rattle.papaya_moments.specs.Given.Scenes.Scene.{Scene, slot_of}
+use Rattle.papaya_moments.specs.Given.Scenes.Stepping.{StepLeads, has_ended}
 
 pub values_begin : (K V : Type 0) → ValuesBegin K V
 values_begin K V setting hash (On (TryInsert k v)) value = λ word e. absurd (cc e)
@@ -111,17 +111,17 @@ module _ {K V Q : Type 0} where
 
 -- A step.
 
-module _ {K V S : Type 0} (same : K → K → Bool) (hash : K → ℕ) (name : ℕ → List ℕ) (m : Moment K V) (known : Known) (s : Scene K V) (old new : Executor K V S) (at_old : IsAt same hash old s)
+module _ {K V : Type 0} (same : K → K → Bool) (hash : ℕ → K → ℕ) (name : ℕ → List ℕ) (m : Moment K V) (known : Known) (s : Scene K V) (old new : Held K V) (at_old : IsAt same hash old s)
     (whole : ShowsWhole same name m known s) (map i : ℕ) (x : CallOnKey K V K) (here : s.calls map i ≡ Some (OnKey x)) (said : Progress (Node K V)) (leads : StepLeads same hash i said s old new)
     (c : CallThere K V) (c_is : call_of (name i) m ≡ Some c) where
   abbrev Stepped : Type 0
-  Stepped = (r : KeyCall K V K × Called (Node K V)) × (((leads map (OnKey x) here).1, said) ≡ called r) × Steps Took value_at old.memory.memory (call_plan same same hash x.call) new.memory.memory r
+  Stepped = (r : KeyCall K V K × Called (Node K V)) × (((leads map (OnKey x) here).1, said) ≡ called r) × Steps Took value_at old.memory (call_plan same same (leads map (OnKey x) here).0.hash x.call) new.memory r
 
   -- what its machine did
   stepped : Stepped
   stepped =
-      let inner = told_in old.memory.memory new.memory.memory new.memory.changed called (call_plan same same hash x.call) ((leads map (OnKey x) here).1, said) (leads map (OnKey x) here).3 in
-      (inner.0, inner.1, as_step old.memory.memory changed.Nothing (call_plan same same hash x.call) new.memory.memory new.memory.changed inner.0 inner.2)
+      let inner = told_in old.memory new.memory new.changed called (call_plan same same (leads map (OnKey x) here).0.hash x.call) ((leads map (OnKey x) here).1, said) (leads map (OnKey x) here).3 in
+      (inner.0, inner.1, as_step old.memory changed.Nothing (call_plan same same (leads map (OnKey x) here).0.hash x.call) new.memory new.changed inner.0 inner.2)
 
   machine_is : (leads map (OnKey x) here).1 ≡ kinds.Key stepped.0.0
   machine_is = ap (λ (z : Machine K V K × Progress (Node K V)). z.0) stepped.1
@@ -145,7 +145,7 @@ module _ {K V S : Type 0} (same : K → K → Bool) (hash : K → ℕ) (name : �
           unstored_is (calls.Done answer) e = absurd (cc e)
           unstored_is (calls.Refused fault) e = absurd (cc e)
 
-      by : DidOfKind V same same old.batch_size old.roots slot_of s.world s.maps s.calls s.makers s.enders map (leads map (OnKey x) here).0 i new.memory.memory (leads map (OnKey x) here).4.w2
+      by : DidOfKind V same same old.batch_size old.roots slot_of s.world s.maps s.calls s.makers s.enders map (leads map (OnKey x) here).0 i new.memory (leads map (OnKey x) here).4.w2
           (leads map (OnKey x) here).4.maps2 (leads map (OnKey x) here).4.next (OnKey x) (leads map (OnKey x) here).1 said → HandsBack x.pair value
       by (p2, end, is_machine, told, inl (step, moved)) = step.step.hands value (ended_so end told)
       by (p2, end, is_machine, told, inr (row, stayed)) = row.step.hands value (ended_so end told)
@@ -182,7 +182,7 @@ module _ {K V S : Type 0} (same : K → K → Bool) (hash : K → ℕ) (name : �
     -- where `try_insert` is over its caller has its own value
     inserts_keep : (k : K) (v : V) → c.call ≡ On (TryInsert k v) → (value : Option V) (word : ℕ) → stepped.0.0.stands ≡ at.Over (ends.Answered (answers.Found word)) → kept_after kind.TriesToInsert said value ≡ Some v
     inserts_keep k v is value word over =
-        by stepped.0.1 refl (key_comes_so Any same same hash x.call (free x.call.stands) old.memory.memory new.memory.memory stepped.0 stepped.2)
+        by stepped.0.1 refl (key_comes_so Any same same (leads map (OnKey x) here).0.hash x.call (free x.call.stands) old.memory new.memory stepped.0 stepped.2)
       where
         Goal : Type 0
         Goal = kept_after kind.TriesToInsert said value ≡ Some v
@@ -208,7 +208,7 @@ module _ {K V S : Type 0} (same : K → K → Bool) (hash : K → ℕ) (name : �
         → (about : Option ℕ) (v : V) → reply_to about c.replies ≡ Some (Aborts v) → IsEnding stepped.0.0.stands × (kept_after kind.Computes said value ≡ Some v)
     computes_keep value keeps about v is =
         let was = keeps about v is in
-        (ending_stays same same hash x.call was.0 old.memory.memory new.memory.memory stepped.0 stepped.2, as_it_was said ∙ was.1)
+        (ending_stays same same (leads map (OnKey x) here).0.hash x.call was.0 old.memory new.memory stepped.0 stepped.2, as_it_was said ∙ was.1)
       where
         as_it_was : (p : Progress (Node K V)) → kept_after kind.Computes p value ≡ value
         as_it_was (progress.Unstored back) = refl
@@ -226,8 +226,8 @@ module _ {K V S : Type 0} (same : K → K → Bool) (hash : K → ℕ) (name : �
   inserts_tell k v is word tells value keeps =
       subst (λ (call : Call K V). KeepsValue call c.replies (kinds.Key x.call) value) is keeps word
       (by stepped.0.1 (sym said_is ∙ tells)
-      (key_comes_so Founds same same hash x.call (may_find same hash name m known s old at_old whole map i (leads map (OnKey x) here).0 (leads map (OnKey x) here).2 c c_is x here k v is) old.memory.memory
-      new.memory.memory stepped.0 stepped.2))
+      (key_comes_so Founds same same (leads map (OnKey x) here).0.hash x.call (may_find same hash name m known s old at_old whole map i (leads map (OnKey x) here).0 (leads map (OnKey x) here).2 c c_is x here k v is) old.memory
+      new.memory stepped.0 stepped.2))
     where
       Founds : ℕ → Type 0
       Founds = FoundOver same hash name m known s old at_old whole map i (leads map (OnKey x) here).0 (leads map (OnKey x) here).2 c c_is x here k v is
@@ -260,8 +260,8 @@ on_no_key same u call is other one e = by u refl (subst (IsCalled same u) e is)
     by (Counting sum) v_is called_it = called_it
     by (OverAll o) v_is called_it = called_it
 
-module _ (K V S : Type 0) (same : K → K → Bool) (hash : K → ℕ) where
-  pub values_go_on : ValuesGoOn K V S same hash
+module _ (K V : Type 0) (same : K → K → Bool) (hash : ℕ → K → ℕ) where
+  pub values_go_on : ValuesGoOn K V same hash
   values_go_on name m known s old new at_old whole map i (OnKey x) here said leads c c_is value keeps next next_is =
       keeps_on same hash name m known s old new at_old whole map i x here said leads c c_is next next_is value c.call refl keeps
   values_go_on name m known s old new at_old whole map i (ForRoom r) here said leads c c_is value keeps next next_is =
@@ -280,7 +280,7 @@ module _ (K V S : Type 0) (same : K → K → Bool) (hash : K → ℕ) where
       (called_so same hash name m known s old at_old whole map i (leads map (OverAll o) here).0 (leads map (OverAll o) here).2 c c_is (OverAll o) here) (λ x e. absurd (cc e))) c.replies (machine_of next)
       (kept_after (kind_of c.call) said value)
 
-  pub inserts_tell_theirs : InsertsTellTheirs K V S same hash
+  pub inserts_tell_theirs : InsertsTellTheirs K V same hash
   inserts_tell_theirs name m known s old new at_old whole map i (OnKey x) here word leads c c_is k v is value keeps =
       inserts_tell same hash name m known s old new at_old whole map i x here (progress.Done (said_of.Key (answers.Found word))) leads c c_is k v is word refl value keeps
   inserts_tell_theirs name m known s old new at_old whole map i (ForRoom r) here word leads c c_is k v is value keeps =
@@ -291,7 +291,7 @@ module _ (K V S : Type 0) (same : K → K → Bool) (hash : K → ℕ) where
       absurd (subst (IsCalled same (OverAll o)) is (called_so same hash name m known s old at_old whole map i (leads map (OverAll o) here).0 (leads map (OverAll o) here).2 c c_is (OverAll o) here))
 
   -- of a call on one key that takes a reply
-  module _ (name : ℕ → List ℕ) (m : Moment K V) (known : Known) (s : Scene K V) (e : Executor K V S) (at_e : IsAt same hash e s) (whole : ShowsWhole same name m known s) (map i : ℕ) (x : CallOnKey K V K)
+  module _ (name : ℕ → List ℕ) (m : Moment K V) (known : Known) (s : Scene K V) (e : Held K V) (at_e : IsAt same hash e s) (whole : ShowsWhole same name m known s) (map i : ℕ) (x : CallOnKey K V K)
       (here : s.calls map i ≡ Some (OnKey x)) (st : Standing K) (stands_there : s.maps map ≡ Some st) (c : CallThere K V) (c_is : call_of (name i) m ≡ Some c) (question : Option ℕ)
       (asks_it : c.stands ≡ Asking question) (told_it : Reply V) (taken : (told_at x.call.stands x.call (as_told told_it)).1 ≡ Ok tt) (value : Option V) where
     its_asking : (one : OneKey K V) → c.call ≡ On one → AsksThere known x.call.stands question
@@ -321,7 +321,7 @@ module _ (K V S : Type 0) (same : K → K → Bool) (hash : K → ℕ) where
         by about v false told = (let asking = its_asking (Compute k) is in absurd (subst IsEnding asking.1 (keeps about v told).0))
     takes_so _ is keeps = tt
 
-  pub values_taken : ValuesTaken K V S same hash
+  pub values_taken : ValuesTaken K V same hash
   values_taken name m known s e at_e whole map i (OnKey x) here st stands_there c c_is question asks_it told_it taken value keeps =
       takes_so name m known s e at_e whole map i x here st stands_there c c_is question asks_it told_it taken value c.call refl keeps
   values_taken name m known s e at_e whole map i (ForRoom r) here st stands_there c c_is question asks_it told_it taken value keeps =

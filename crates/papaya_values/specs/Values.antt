@@ -21,9 +21,6 @@ use Rattle.papaya_moments.specs.Given.Schedules.Moment.{Asking, UnderWay as Call
 use Rattle.papaya_moments.specs.Given.Schedules.Views.{call_of, reply_to}
 use Rattle.papaya_moments.specs.Given.Callers.Together.{UnderWay}
 use Rattle.papaya_moments.specs.Given.Effects.Known.{Known}
-use Rattle.papaya_moments.specs.Given.Executor.IsAt.{Scene, IsAt}
-use Rattle.papaya_moments.specs.Given.Executor.Stepping.{StepLeads}
-use Rattle.papaya_moments.specs.Given.Executor.declared.executor.Executor.{Executor}
 use Rattle.papaya_moments.specs.Given.Finishes.Machines.{machine_of}
 use Rattle.papaya_moments.specs.Given.Finishes.Maps.{Standing}
 use Rattle.papaya_moments.specs.Given.Hands.Asked.{as_told}
@@ -32,6 +29,9 @@ use Rattle.papaya_named.specs.Machines.{aborted_by, machine_for}
 use Rattle.papaya_named.specs.Seen.{kind_of}
 use Rattle.papaya_named.specs.Telling.{kept}
 use Rattle.papaya_named.specs.declared.kind.Kind.{Kind}
+use Rattle.papaya_moments.specs.Given.Scenes.Held.{Held, IsAt}
+use Rattle.papaya_moments.specs.Given.Scenes.Scene.{Scene}
+use Rattle.papaya_moments.specs.Given.Scenes.Stepping.{StepLeads}
 
 -- a call on one key has come to its end, or gives up its own block before
 abbrev pub IsEnding : Calling → Type 0
@@ -56,11 +56,11 @@ module _ (K V : Type 0) where
   abbrev pub ValuesBegin : Type 0
   ValuesBegin = (setting : Setting) (hash : K → ℕ) (call : Call K V) (value : Option V) → KeepsValue call [] (machine_for setting hash call) value
 
-module _ (K V S : Type 0) (same : K → K → Bool) (hash : K → ℕ) where
+module _ (K V : Type 0) (same : K → K → Bool) (hash : ℕ → K → ℕ) where
   -- after each step by which its call goes on it keeps what it must,
   abbrev pub ValuesGoOn : Type 0
   ValuesGoOn =
-      (name : ℕ → List ℕ) (m : Moment K V) (known : Known) (s : Scene K V) (old new : Executor K V S) → IsAt same hash old s → ShowsWhole same name m known s
+      (name : ℕ → List ℕ) (m : Moment K V) (known : Known) (s : Scene K V) (old new : Held K V) → IsAt same hash old s → ShowsWhole same name m known s
       → (map i : ℕ) (u : UnderWay K V K) (here : s.calls map i ≡ Some u) (said : Progress (Node K V)) (leads : StepLeads same hash i said s old new)
       → (c : CallThere K V) → call_of (name i) m ≡ Some c → (value : Option V) → KeepsValue c.call c.replies (machine_of u) value
       → (next : UnderWay K V K) → (leads map u here).4.next ≡ Some next → KeepsValue c.call c.replies (machine_of next) (kept_after (kind_of c.call) said value)
@@ -68,7 +68,7 @@ module _ (K V S : Type 0) (same : K → K → Bool) (hash : K → ℕ) where
   -- and where the call takes a reply;
   abbrev pub ValuesTaken : Type 0
   ValuesTaken =
-      (name : ℕ → List ℕ) (m : Moment K V) (known : Known) (s : Scene K V) (e : Executor K V S) → IsAt same hash e s → ShowsWhole same name m known s
+      (name : ℕ → List ℕ) (m : Moment K V) (known : Known) (s : Scene K V) (e : Held K V) → IsAt same hash e s → ShowsWhole same name m known s
       → (map i : ℕ) (u : UnderWay K V K) → s.calls map i ≡ Some u → (standing : Standing K) → s.maps map ≡ Some standing
       → (c : CallThere K V) → call_of (name i) m ≡ Some c → (question : Option ℕ) → c.stands ≡ Asking question
       → (reply : Reply V) → (machine_replied (machine_of u) (as_told reply)).1 ≡ Ok tt
@@ -78,6 +78,6 @@ module _ (K V S : Type 0) (same : K → K → Bool) (hash : K → ℕ) where
   -- and where `try_insert` answers that its key is there, its caller keeps its value.
   abbrev pub InsertsTellTheirs : Type 0
   InsertsTellTheirs =
-      (name : ℕ → List ℕ) (m : Moment K V) (known : Known) (s : Scene K V) (old new : Executor K V S) → IsAt same hash old s → ShowsWhole same name m known s
+      (name : ℕ → List ℕ) (m : Moment K V) (known : Known) (s : Scene K V) (old new : Held K V) → IsAt same hash old s → ShowsWhole same name m known s
       → (map i : ℕ) (u : UnderWay K V K) (here : s.calls map i ≡ Some u) (word : ℕ) → StepLeads same hash i (progress.Done (said.Key (answers.Found word))) s old new
       → (c : CallThere K V) → call_of (name i) m ≡ Some c → (k : K) (v : V) → c.call ≡ On (TryInsert k v) → (value : Option V) → KeepsValue c.call c.replies (machine_of u) value → value ≡ Some v

@@ -4,9 +4,9 @@ ghost use Rattle.papaya_values.specs.Values.{InsertsTellTheirs, ValuesBegin, Val
 
 /// The caller of a call keeps the value that it is to tell back: `try_insert`'s own, where that answers that its key is there; and the one with which `compute` was told to abort, which then comes to its end.
 /// So it is as a call begins, after each step by which it goes on, and where it takes a reply.
-pub fn callers_keep_values<K, V, S>()
+pub fn callers_keep_values<K, V>()
     ensures begins { ValuesBegin K V }
-    ensures goes_on { (same : K → K → Bool) (hash : K → ℕ) → ValuesGoOn K V S same hash }
-    ensures taken { (same : K → K → Bool) (hash : K → ℕ) → ValuesTaken K V S same hash }
-    ensures tells { (same : K → K → Bool) (hash : K → ℕ) → InsertsTellTheirs K V S same hash }
+    ensures goes_on { (same : K → K → Bool) (hash : ℕ → K → ℕ) → ValuesGoOn K V same hash }
+    ensures taken { (same : K → K → Bool) (hash : ℕ → K → ℕ) → ValuesTaken K V same hash }
+    ensures tells { (same : K → K → Bool) (hash : ℕ → K → ℕ) → InsertsTellTheirs K V same hash }
 {}

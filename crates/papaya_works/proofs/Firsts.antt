@@ -46,10 +46,6 @@ use Rattle.papaya_legal.specs.Given.Effects.Effects.{table_at, effects_of, known
 use Rattle.papaya_legal.specs.Given.Effects.Known.{Known}
 use Rattle.papaya_legal.specs.Given.Effects.declared.acting.Acting.{Acting}
 use Rattle.papaya_legal.specs.Given.Effects.declared.acting.Acting.TheVariants as acts
-use Rattle.papaya_legal.specs.Given.Executor.IsAt.{Scene, IsAt}
-use Rattle.papaya_legal.specs.Given.Executor.Making.{MakingComesTo, MakingLeads}
-use Rattle.papaya_legal.specs.Given.Executor.declared.executor.Executor.{Executor}
-use Rattle.papaya_legal.proofs.Given.Executor.Forgotten.{as_step}
 use Rattle.papaya_legal.specs.Given.Finishes.Makings.{Beginning, OpeningFacts}
 use Rattle.papaya_legal.specs.Given.Follows.Shows.{Shows}
 use Rattle.papaya_legal.proofs.Given.Follows.Steps.{one_of}
@@ -68,6 +64,10 @@ use Rattle.papaya_legal.proofs.Given.Finds.Grown.{found_of, number_is}
 use Rattle.papaya_legal.proofs.Given.Finds.Linking.{made_so as made_as_shaped, turn_new}
 use Rattle.papaya_legal.proofs.Given.Finds.Lists.{each_is}
 use Rattle.papaya_legal.proofs.Given.Finds.Shaping.{always_plan_more, goes_shaped}
+use Rattle.papaya_legal.proofs.Given.Scenes.Told.{as_step}
+use Rattle.papaya_legal.specs.Given.Scenes.Held.{Held, IsAt}
+use Rattle.papaya_legal.specs.Given.Scenes.Making.{MakingComesTo, MakingLeads}
+use Rattle.papaya_legal.specs.Given.Scenes.Scene.{Scene}
 
 -- A step of the making of a map leaves it the places that its table is to have, and makes a table for those.
 
@@ -163,7 +163,7 @@ module _ {K V : Type 0} (s : Scene K V) (shows : ShowsOpenings s) (i : ℕ) wher
 pub makings_open : (K V : Type 0) → MakingsOpen K V
 makings_open K V s shows i b given roots places opens = one_so s shows i b (subst (λ (c : NewMap). OpensFor c.len c.stands) (sym opens) tt)
 
-module _ {K V S : Type 0} (same : K → K → Bool) (hash : K → ℕ) (s : Scene K V) (old new : Executor K V S) (shows : ShowsOpenings s) (i : ℕ) (b : Beginning K) (end : NewMap)
+module _ {K V : Type 0} (same : K → K → Bool) (hash : ℕ → K → ℕ) (s : Scene K V) (old new : Held K V) (shows : ShowsOpenings s) (i : ℕ) (b : Beginning K) (end : NewMap)
     (so : OpensFor end.len end.stands) (w2 : World (Node K V)) where
   goes_then : (told : Progress Setting) (comes : MakingComesTo same hash s old new i b end w2 told) → ShowsOpenings (making_after same hash s old new i b end w2 told comes)
   goes_then progress.Goes comes = λ j d is. one_so s shows i (record b { machine = end }) so j d is
@@ -171,10 +171,10 @@ module _ {K V S : Type 0} (same : K → K → Bool) (hash : K → ℕ) (s : Scen
   goes_then (progress.Done setting) comes = λ j d is. gone_so s shows i j d is
   goes_then (progress.Refused fault) comes = λ j d is. gone_so s shows i j d is
 
-pub makings_go_on : (K V S : Type 0) (same : K → K → Bool) (hash : K → ℕ) → MakingsGoOn K V S same hash
-makings_go_on K V S same hash s old new shows i told leads b here =
+pub makings_go_on : (K V : Type 0) (same : K → K → Bool) (hash : ℕ → K → ℕ) → MakingsGoOn K V same hash
+makings_go_on K V same hash s old new shows i told leads b here =
     let to = leads b here in
-    let so = step_opens b.machine old.memory.memory new.memory.memory new.memory.changed (to.0, told) (shows i b here) to.1 in
+    let so = step_opens b.machine old.memory new.memory new.changed (to.0, told) (shows i b here) to.1 in
     goes_then same hash s old new shows i b to.0 (subst (λ (n : ℕ). OpensFor n to.0.stands) (sym so.0) so.1) to.2.step.w2 told to.3
 
 -- With the tables that are made and linked that is all.
@@ -233,7 +233,7 @@ has_len f none places len places_are some len_is =
     let power : places ≡ next_power (places_for f.capacity) = places_are ∙ some_first f.capacity (λ e. some (places_are ∙ e)) in
     subst (λ (r : Result ℕ Fault). Has r len) (sym lens) (len_is ∙ ap (λ (n : ℕ). max n 8) power)
 
-module _ {K V S : Type 0} (same : K → K → Bool) (hash : K → ℕ) (name : ℕ → List ℕ) (m : Moment K V) (known : Known) (s : Scene K V) (old new : Executor K V S) (at_s : IsAt same hash old s)
+module _ {K V : Type 0} (same : K → K → Bool) (hash : ℕ → K → ℕ) (name : ℕ → List ℕ) (m : Moment K V) (known : Known) (s : Scene K V) (old new : Held K V) (at_s : IsAt same hash old s)
     (shown : Shows same name m known s) (tables : ShowsTables name m known s) (shows : ShowsOpenings s) (i : ℕ) (told : Progress Setting) (leads : MakingLeads same hash i told s old new)
     (b : Beginning K) (here : s.makers i ≡ Some b) (of : Option ℕ) (f : MapThere) (f_is : map_at b.map m ≡ Some f) (none_yet : tables_of b.map m ≡ [])
     (faultless : map_fault f.mode f.capacity ≡ None) (places_are : b.places ≡ first_places f.capacity) where
@@ -241,7 +241,7 @@ module _ {K V S : Type 0} (same : K → K → Bool) (hash : K → ℕ) (name : �
   its = acts.Making b.map
 
   abbrev effects : List Effect
-  effects = effects_of its known new.memory.changed
+  effects = effects_of its known new.changed
 
   number : f.number ≡ b.map
   number = number_is f.number b.map (found_of (λ (g : MapThere). g.number == b.map) (λ g. Unit {0}) m.maps f (each_is (λ g. Unit {0}) (λ g. tt) m.maps) f_is).0
@@ -277,7 +277,7 @@ module _ {K V S : Type 0} (same : K → K → Bool) (hash : K → ℕ) (name : �
   as_effects : (fs : List Effect) → effects ≡ fs → AtEachEffect (FindsFirst b.map) None of fs m → Goal
   as_effects fs are finds = subst (λ (x : List Effect). AtEachEffect (FindsFirst b.map) None of x m) (sym are) finds
 
-  first_linked : Shows same name (with_effects None of effects m) (known_after its new.memory.changed known)
+  first_linked : Shows same name (with_effects None of effects m) (known_after its new.changed known)
       (making_after same hash s old new i b (leads b here).0 (leads b here).2.step.w2 told (leads b here).3) → Goal
   first_linked shown_then =
       elim ((left_tables same hash name m known s old new at_s shown tables i b here (leads b here).0 told (leads b here).1 (leads b here).2 of (leads b here).3 shown_then).goes) as (λ _. Goal) [
@@ -287,6 +287,6 @@ module _ {K V S : Type 0} (same : K → K → Bool) (hash : K → ℕ) (name : �
         | IsLinked p effects_are had none ↦ as_effects _ effects_are (linked_finds p had, tt)
       ]
 
-pub makings_link_first : (K V S : Type 0) (same : K → K → Bool) (hash : K → ℕ) → MakingsLinkFirst K V S same hash
-makings_link_first K V S same hash name m known s old new at_s shown tables shows i told leads b here of f f_is none_yet faultless places_are shown_then =
+pub makings_link_first : (K V : Type 0) (same : K → K → Bool) (hash : ℕ → K → ℕ) → MakingsLinkFirst K V same hash
+makings_link_first K V same hash name m known s old new at_s shown tables shows i told leads b here of f f_is none_yet faultless places_are shown_then =
     first_linked same hash name m known s old new at_s shown tables shows i told leads b here of f f_is none_yet faultless places_are shown_then

@@ -161,14 +161,14 @@ module _ {K V : Type 0} (map : ℕ) (known : Known) where
       map_does opens.Over facts noted s = absurd facts
       map_does (opens.Refused fault) facts noted s = absurd facts
 
-module _ (K V S : Type 0) (same : K → K → Bool) (hash : K → ℕ) where
-  pub makings_do_theirs : MakingsDoTheirs K V S same hash
+module _ (K V : Type 0) (same : K → K → Bool) (hash : ℕ → K → ℕ) where
+  pub makings_do_theirs : MakingsDoTheirs K V same hash
   makings_do_theirs name m known s old new at shown i told leads b here noted =
-      map_does b.map known s.world m.stored shown.blocks.roles i old.memory.memory new.memory.memory new.memory.changed old.roots b.machine ((leads b here).0, told) b.machine.stands
+      map_does b.map known s.world m.stored shown.blocks.roles i old.memory new.memory new.changed old.roots b.machine ((leads b here).0, told) b.machine.stands
       (at.together.makings.facts i b here).point noted (leads b here).1
 
-  pub makings_find_theirs : MakingsFindTheirs K V S same hash
+  pub makings_find_theirs : MakingsFindTheirs K V same hash
   makings_find_theirs name m known s old new at shown tables openings i told leads b here noted of f f_is none_yet faultless places_are shown_then =
-      firsts_are_all K V b.map false of (effects_of (acts.Making b.map) known new.memory.changed) m (makings_do_theirs name m known s old new at shown i told leads b here noted)
-      (makings_keep_tables K V S same hash name m known s old new at shown tables i told leads b here of shown_then).0
-      (makings_link_first K V S same hash name m known s old new at shown tables openings i told leads b here of f f_is none_yet faultless places_are shown_then)
+      firsts_are_all K V b.map false of (effects_of (acts.Making b.map) known new.changed) m (makings_do_theirs name m known s old new at shown i told leads b here noted)
+      (makings_keep_tables K V same hash name m known s old new at shown tables i told leads b here of shown_then).0
+      (makings_link_first K V same hash name m known s old new at shown tables openings i told leads b here of f f_is none_yet faultless places_are shown_then)

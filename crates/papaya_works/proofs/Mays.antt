@@ -1,5 +1,5 @@
 -- All that a row on a slot does it may do, wherever its steps have led.
-use Rattle.std.specs.Prelude.{◌≡◌, ◌⊎◌, ◌&&◌, ℕ, Bool, true, false, List, [], Option, Some}
+use Rattle.std.specs.Prelude.{◌≡◌, ◌⊎◌, ◌&&◌, ℕ, Bool, true, false, List, []}
 use Rattle.std.specs.List.{list_all}
 use Rattle.std.proofs.Common.{refl, ap, sym, subst, inl, inr, ◌∙◌}
 use Rattle.std.proofs.lemmas.List.Folds.{list_all-append}
@@ -20,18 +20,12 @@ use Rattle.papaya_legal.specs.Given.Schedules.Terms.{Terms}
 use Rattle.papaya_legal.specs.Given.Effects.Effects.{effects_of}
 use Rattle.papaya_legal.specs.Given.Effects.Known.{Known}
 use Rattle.papaya_legal.specs.Given.Effects.declared.acting.Acting.TheVariants as acts
-use Rattle.papaya_legal.specs.Given.Executor.IsAt.{HasRow, row_of, slot_of, work_of}
-use Rattle.papaya_legal.specs.Given.Executor.OnSlots.{RowSteps as StepsAs, row_on}
-use Rattle.papaya_legal.specs.Given.Executor.Rows.{begun_row, request_of}
-use Rattle.papaya_legal.specs.Given.Executor.declared.executor.Executor.{Executor}
-use Rattle.papaya_legal.specs.Given.Executor.declared.row.RowTold.{RowTold}
-use Rattle.papaya_legal.specs.Given.Executor.declared.row.RowTold.TheVariants as told
-use Rattle.papaya_legal.specs.Given.Executor.declared.row.SlotCall.{SlotCall}
-use Rattle.papaya_legal.specs.Given.Executor.declared.row.SlotCall.TheVariants as call
-use Rattle.papaya_legal.specs.Given.Executor.declared.row.SlotRow.{SlotRow}
-use Rattle.papaya_legal.specs.Given.Executor.declared.row.SlotRow.TheVariants as rows
-use Rattle.papaya_legal.specs.Given.Executor.declared.worker.Work.{Work}
-use Rattle.papaya_legal.specs.Given.Executor.declared.worker.Work.TheVariants.{OnSlot}
+use Rattle.papaya_legal.specs.Given.Scenes.declared.row.RowTold.{RowTold}
+use Rattle.papaya_legal.specs.Given.Scenes.declared.row.RowTold.TheVariants as told
+use Rattle.papaya_legal.specs.Given.Scenes.declared.row.SlotCall.{SlotCall}
+use Rattle.papaya_legal.specs.Given.Scenes.declared.row.SlotCall.TheVariants as call
+use Rattle.papaya_legal.specs.Given.Scenes.declared.row.SlotRow.{SlotRow}
+use Rattle.papaya_legal.specs.Given.Scenes.declared.row.SlotRow.TheVariants as rows
 use Rattle.papaya_legal.specs.Chains.{Come, RowSteps}
 use Rattle.papaya_legal.specs.SlotEvents.{InSlotEvent}
 use Rattle.papaya_legal.proofs.Chains.{chains_keep}
@@ -40,6 +34,10 @@ use Rattle.papaya_works.specs.Rows.{RowsDoTheirs, may_row, row_begun}
 use Rattle.papaya_works.proofs.Flushes.Moves.{FlushesOn}
 use Rattle.papaya_works.proofs.Flushes.Worlds.{Flushing, flush_begins, flush_steps}
 use Rattle.papaya_works.proofs.Steps.{IsNoOwn, IsTaking, asks_alone, does_nothing, enters_tell, flushes_tell, frees_tell, leaves_tell, reclaims_alone, registers_tell, takes_no_own}
+use Rattle.papaya_legal.specs.Given.Scenes.OnSlots.{RowSteps as StepsAs, row_then}
+use Rattle.papaya_legal.proofs.Given.Scenes.Rows.{begun_there, never_rests, one_row}
+use Rattle.papaya_legal.specs.Given.Scenes.Rows.{begun_row, request_of}
+use Rattle.papaya_legal.specs.Given.Scenes.Scene.{row_of, slot_of}
 
 -- a flush that takes nothing is not about to take a block away
 never_takes : (i s : ℕ) (c : Settle) (m : State) → FlushesOn i s (part c) m → IsTaking c.stands → ⊥
@@ -57,21 +55,12 @@ settle_there (rows.Enters d) c is = absurd (cc is)
 settle_there (rows.Leaves d) c is = absurd (cc is)
 settle_there (rows.Frees d) c is = absurd (cc is)
 
-never_rests : (row : SlotRow) → row_of row ≡ Rests → ⊥
-never_rests (rows.Flushes d) is = cc is
-never_rests (rows.Registers d) is = cc is
-never_rests (rows.Enters d) is = cc is
-never_rests (rows.Leaves d) is = cc is
-never_rests (rows.Frees d) is = cc is
-
 -- a row that goes on does so as it was told
-pub goes_as : {K V : Type 0} (after row : SlotRow) (said : RowTold (Node K V)) → row_on {K = K} {V = V} after said ≡ Some (OnSlot row) → after ≡ row
-goes_as after row told.Goes is = cc is
-goes_as after row told.Waits is = cc is
-goes_as after row (told.Gave value) is = cc is
-goes_as after row told.Done is = absurd (cc is)
-goes_as after row (told.Registered slot) is = absurd (cc is)
-goes_as after row (told.Refused fault) is = absurd (cc is)
+pub goes_as : {K V : Type 0} (after row : SlotRow) (said : RowTold (Node K V)) → row_of row ≡ row_then after said → after ≡ row
+goes_as after row told.Goes is = one_row after row (sym is)
+goes_as after row told.Waits is = one_row after row (sym is)
+goes_as after row (told.Gave value) is = one_row after row (sym is)
+goes_as after row _ is = absurd (never_rests row is)
 
 -- it is under way as what it began as; a flush takes nothing
 module _ {K V : Type 0} (size i slot : ℕ) where
@@ -85,97 +74,94 @@ module _ {K V : Type 0} (size i slot : ℕ) where
   IsAs call.Unregister w (rows.Frees c) = Unit {0}
   IsAs _ w _ = ⊥
 
-module _ {K V S : Type 0} (same : K → K → Bool) (hash : K → ℕ) (name : ℕ → List ℕ) (terms : Terms) (log : List (Entry K V)) (event : Event K V) (i : ℕ) (called : SlotCall) (first : Known) (began : World (Node K V)) (size : ℕ) where
-  abbrev IsUnder : Executor K V S → World (Node K V) → Type 0
-  IsUnder e w = (row : SlotRow) → work_of e i ≡ Some (OnSlot row) → IsAs size i (slot_of i) called w row
+module _ {K V : Type 0} (same : K → K → Bool) (hash : ℕ → K → ℕ) (name : ℕ → List ℕ) (terms : Terms) (log : List (Entry K V)) (event : Event K V) (i : ℕ) (called : SlotCall) (first : Known) (began : World (Node K V)) (size : ℕ) where
+  abbrev IsUnder : World (Node K V) → Type 0
+  IsUnder w = (row : SlotRow) → w.row i ≡ row_of row → IsAs size i (slot_of i) called w row
 
-  abbrev DoesSo : Come K V S → Type 0
-  DoesSo x = InSlotEvent same name terms log event i called first began x.did x.now x.notes x.scene × IsUnder x.executor x.scene.world × (list_all (may_row called) x.did ≡ true)
+  abbrev DoesSo : Come K V → Type 0
+  DoesSo x = InSlotEvent same name terms log event i called first began x.did x.now x.notes x.scene × IsUnder x.scene.world × (list_all (may_row called) x.did ≡ true)
 
-  module _ (x y : Come K V S) (step : RowSteps same hash terms i x y) (so : DoesSo x) where
+  module _ (x y : Come K V) (step : RowSteps same hash terms i x y) (so : DoesSo x) where
     abbrev w2 : World (Node K V)
-    w2 = (step.leads step.row step.here).4.0
+    w2 = (step.leads step.row step.here).2.0
 
     abbrev effects : List Effect
-    effects = effects_of acts.Row x.notes y.executor.memory.changed
+    effects = effects_of acts.Row x.notes y.held.changed
 
-    same_kind : (r : SlotRow) → (step.leads step.row step.here).0 ≡ r → (row : SlotRow) → work_of y.executor i ≡ Some (OnSlot row) → row ≡ r
-    same_kind r is row here = sym (goes_as (step.leads step.row step.here).0 row step.said (sym (step.leads step.row step.here).2 ∙ here)) ∙ is
+    same_kind : (r : SlotRow) → (step.leads step.row step.here).0 ≡ r → (row : SlotRow) → w2.row i ≡ row_of row → row ≡ r
+    same_kind r is row here = sym (goes_as (step.leads step.row step.here).0 row step.said (sym here ∙ (step.leads step.row step.here).3)) ∙ is
 
     none_done : (n : SlotCall) → ((f : Effect) → may_row n f ≡ false) → effects ≡ [] → list_all (may_row n) effects ≡ true
     none_done n never none = ap (list_all (may_row n)) none
 
-    no_own : (b : ℕ) → y.executor.memory.changed ≡ changed.Took b → IsNoOwn (x.notes.roles b)
+    no_own : (b : ℕ) → y.held.changed ≡ changed.Took b → IsNoOwn (x.notes.roles b)
     no_own b took =
-        takes_no_own same hash name x.now x.notes x.scene x.executor y.executor step.is_at so.0.calls.whole.all.shown so.0.calls.kept.made so.0.calls.kept.tables i step.row step.here
-        ((step.leads step.row step.here).0, step.said) (step.leads step.row step.here).1 (step.leads step.row step.here).4 b took
+        takes_no_own same hash name x.now x.notes x.scene x.held y.held step.is_at so.0.calls.whole.all.shown so.0.calls.kept.made so.0.calls.kept.tables i step.row step.here
+        ((step.leads step.row step.here).0, step.said) (step.leads step.row step.here).1 (step.leads step.row step.here).2 b took
 
-    flush_on : (c : Settle) → Flushing deferred_word size i (slot_of i) x.scene.world c → (row : SlotRow) → work_of y.executor i ≡ Some (OnSlot row) → IsAs size i (slot_of i) call.Flush w2 row
-    flush_on c on row here = by (flush_steps deferred_word size i (slot_of i) x.scene.world w2 c on (step.leads step.row step.here).4.1)
+    flush_on : (c : Settle) → Flushing deferred_word size i (slot_of i) x.scene.world c → (row : SlotRow) → w2.row i ≡ row_of row → IsAs size i (slot_of i) call.Flush w2 row
+    flush_on c on row there = by (flush_steps deferred_word size i (slot_of i) x.scene.world w2 c on (step.leads step.row step.here).2.1)
       where
-        there : w2.row i ≡ row_of row
-        there = subst (λ (o : Option (Work K V)). HasRow o (w2.row i)) here ((step.leads step.row step.here).4.4.rows i)
-
         by : ((c2 : Settle) × Flushing deferred_word size i (slot_of i) w2 c2) ⊎ (w2.row i ≡ Rests) → IsAs size i (slot_of i) call.Flush w2 row
         by (inl (c2, on2)) = subst (IsAs size i (slot_of i) call.Flush w2) (sym (settle_there row c2 (sym there ∙ on2.row))) on2
         by (inr rests) = absurd (never_rests row (sym there ∙ rests))
 
     does : (n : SlotCall) (row : SlotRow) → IsAs size i (slot_of i) n x.scene.world row
-        → StepsAs K V row x.executor.memory.memory y.executor.memory.memory y.executor.memory.changed ((step.leads step.row step.here).0, step.said)
-        → (list_all (may_row n) effects ≡ true) × ((row2 : SlotRow) → work_of y.executor i ≡ Some (OnSlot row2) → IsAs size i (slot_of i) n w2 row2)
+        → StepsAs K V row x.held.memory y.held.memory y.held.changed ((step.leads step.row step.here).0, step.said)
+        → (list_all (may_row n) effects ≡ true) × ((row2 : SlotRow) → w2.row i ≡ row_of row2 → IsAs size i (slot_of i) n w2 row2)
     does (call.Register enters) (rows.Registers c) its s = (
-      asks_alone x.notes y.executor.memory.changed (registers_tell x.executor.memory.memory y.executor.memory.memory y.executor.memory.changed ((step.leads step.row step.here).0, step.said) c s),
+      asks_alone x.notes y.held.changed (registers_tell x.held.memory y.held.memory y.held.changed ((step.leads step.row step.here).0, step.said) c s),
       λ row2 here. subst (IsAs size i (slot_of i) (call.Register enters) w2) (sym (same_kind (rows.Registers s.0.0) (ap (λ (q : SlotRow × RowTold (Node K V)). q.0) s.2) row2 here)) tt,
     )
     does call.Enter (rows.Enters c) its s = (
       none_done call.Enter (λ f. refl)
-          (does_nothing x.notes y.executor.memory.changed (enters_tell x.executor.memory.memory y.executor.memory.memory y.executor.memory.changed ((step.leads step.row step.here).0, step.said) c s)),
+          (does_nothing x.notes y.held.changed (enters_tell x.held.memory y.held.memory y.held.changed ((step.leads step.row step.here).0, step.said) c s)),
       λ row2 here. subst (IsAs size i (slot_of i) call.Enter w2) (sym (same_kind (rows.Enters s.0.0) (ap (λ (q : SlotRow × RowTold (Node K V)). q.0) s.2) row2 here)) tt,
     )
     does call.Unregister (rows.Frees c) its s = (
       none_done call.Unregister (λ f. refl)
-          (does_nothing x.notes y.executor.memory.changed (frees_tell x.executor.memory.memory y.executor.memory.memory y.executor.memory.changed ((step.leads step.row step.here).0, step.said) c s)),
+          (does_nothing x.notes y.held.changed (frees_tell x.held.memory y.held.memory y.held.changed ((step.leads step.row step.here).0, step.said) c s)),
       λ row2 here. subst (IsAs size i (slot_of i) call.Unregister w2) (sym (same_kind (rows.Frees s.0.0) (ap (λ (q : SlotRow × RowTold (Node K V)). q.0) s.2) row2 here)) tt,
     )
     does call.Leave (rows.Leaves c) its s = (
-      reclaims_alone x.notes y.executor.memory.changed
-          (leaves_tell x.executor.memory.memory y.executor.memory.memory y.executor.memory.changed ((step.leads step.row step.here).0, step.said) c s) no_own,
+      reclaims_alone x.notes y.held.changed
+          (leaves_tell x.held.memory y.held.memory y.held.changed ((step.leads step.row step.here).0, step.said) c s) no_own,
       λ row2 here. subst (IsAs size i (slot_of i) call.Leave w2) (sym (same_kind (rows.Leaves s.0.0) (ap (λ (q : SlotRow × RowTold (Node K V)). q.0) s.2) row2 here)) tt,
     )
     does call.LeaveOwned (rows.Leaves c) its s = (
-      reclaims_alone x.notes y.executor.memory.changed
-          (leaves_tell x.executor.memory.memory y.executor.memory.memory y.executor.memory.changed ((step.leads step.row step.here).0, step.said) c s) no_own,
+      reclaims_alone x.notes y.held.changed
+          (leaves_tell x.held.memory y.held.memory y.held.changed ((step.leads step.row step.here).0, step.said) c s) no_own,
       λ row2 here. subst (IsAs size i (slot_of i) call.LeaveOwned w2) (sym (same_kind (rows.Leaves s.0.0) (ap (λ (q : SlotRow × RowTold (Node K V)). q.0) s.2) row2 here)) tt,
     )
     does call.Refresh (rows.Leaves c) its s = (
-      reclaims_alone x.notes y.executor.memory.changed
-          (leaves_tell x.executor.memory.memory y.executor.memory.memory y.executor.memory.changed ((step.leads step.row step.here).0, step.said) c s) no_own,
+      reclaims_alone x.notes y.held.changed
+          (leaves_tell x.held.memory y.held.memory y.held.changed ((step.leads step.row step.here).0, step.said) c s) no_own,
       λ row2 here. subst (IsAs size i (slot_of i) call.Refresh w2) (sym (same_kind (rows.Leaves s.0.0) (ap (λ (q : SlotRow × RowTold (Node K V)). q.0) s.2) row2 here)) tt,
     )
     does call.Flush (rows.Flushes c) its s = (
       none_done call.Flush (λ f. refl)
-          (does_nothing x.notes y.executor.memory.changed
-          (flushes_tell x.executor.memory.memory y.executor.memory.memory y.executor.memory.changed ((step.leads step.row step.here).0, step.said) c (never_takes i c.slot c its.good.state its.on) s)),
+          (does_nothing x.notes y.held.changed
+          (flushes_tell x.held.memory y.held.memory y.held.changed ((step.leads step.row step.here).0, step.said) c (never_takes i c.slot c its.good.state its.on) s)),
       flush_on c its,
     )
     does _ _ its s = absurd its
 
     pub does_on : DoesSo y
     does_on =
-        let its = does called step.row (so.1 step.row step.here) (step.leads step.row step.here).1 in
+        let its = does called step.row (so.1 step.row step.here.1) (step.leads step.row step.here).1 in
         subst DoesSo (sym step.comes) (
-          slot_events_go_on_so K V S same hash name terms log event i called first began x.did x.now x.notes x.scene so.0 x.executor y.executor step.is_at step.size step.said step.leads step.row step.here,
+          slot_events_go_on_so K V same hash name terms log event i called first began x.did x.now x.notes x.scene so.0 x.held y.held step.is_at step.size step.said step.leads step.row step.here,
           its.1,
           list_all-append (may_row called) x.did effects ∙ ap (λ (q : Bool). q && list_all (may_row called) effects) so.2 ∙ its.0,
         )
 
-module _ (K V S : Type 0) (same : K → K → Bool) (hash : K → ℕ) where
-  pub rows_do_theirs : RowsDoTheirs K V S same hash
-  rows_do_theirs name terms log known s old new at event i called may leads inside midst n to chain =
+module _ (K V : Type 0) (same : K → K → Bool) (hash : ℕ → K → ℕ) where
+  pub rows_do_theirs : RowsDoTheirs K V same hash
+  rows_do_theirs name terms log known s old new at event i called leads inside midst n to chain =
       (chains_keep (DoesSo same hash name terms log event i called known s.world old.batch_size) (RowSteps same hash terms i)
-      (λ x y step so. does_on same hash name terms log event i called known s.world old.batch_size x y step so) n (row_begun same hash log known s called i old new may leads) to chain (midst, under, refl)).2
+      (λ x y step so. does_on same hash name terms log event i called known s.world old.batch_size x y step so) n (row_begun same hash log known s called i old new leads) to chain (midst, under, refl)).2
     where
-      begun_as : (n : SlotCall) → called ≡ n → IsAs old.batch_size i (slot_of i) n (leads may).3.0 (begun_row (slot_of i) old.batch_size n)
+      begun_as : (n : SlotCall) → called ≡ n → IsAs old.batch_size i (slot_of i) n leads.2.0 (begun_row (slot_of i) old.batch_size n)
       begun_as (call.Register enters) is = tt
       begun_as call.Enter is = tt
       begun_as call.Leave is = tt
@@ -184,11 +170,10 @@ module _ (K V S : Type 0) (same : K → K → Bool) (hash : K → ℕ) where
       begun_as call.Unregister is = tt
       begun_as call.Flush is =
           let reached = came_reached old.batch_size s.world at.together.makings.standing.came in
-          flush_begins deferred_word old.batch_size i (slot_of i) s.world (leads may).3.0 reached.good reached.sized (leads may).3.1.0 (inside is)
-          (subst (λ (c : SlotCall). Begins deferred_word old.batch_size i (request_of (slot_of i) c) s.world (leads may).3.0) is (leads may).3.1.1)
+          flush_begins deferred_word old.batch_size i (slot_of i) s.world leads.2.0 reached.good reached.sized leads.2.1.0 (inside is)
+          (subst (λ (c : SlotCall). Begins deferred_word old.batch_size i (request_of (slot_of i) c) s.world leads.2.0) is leads.2.1.1)
 
-      under : (row : SlotRow) → work_of new i ≡ Some (OnSlot row) → IsAs old.batch_size i (slot_of i) called (leads may).3.0 row
-      under row here =
-          let both : ◌≡◌ {A = Option (Work K V)} (Some (OnSlot (begun_row (slot_of i) old.batch_size called))) (Some (OnSlot row)) = sym (leads may).1 ∙ here in
-          let same_one : begun_row (slot_of i) old.batch_size called ≡ row = cc both in
-          subst (IsAs old.batch_size i (slot_of i) called (leads may).3.0) same_one (begun_as called refl)
+      under : (row : SlotRow) → leads.2.0.row i ≡ row_of row → IsAs old.batch_size i (slot_of i) called leads.2.0 row
+      under row there =
+          let same_one = one_row (begun_row (slot_of i) old.batch_size called) row (sym (begun_there deferred_word old.batch_size i s.world leads.2.0 (slot_of i) called leads.2.1.1) ∙ there) in
+          subst (IsAs old.batch_size i (slot_of i) called leads.2.0) same_one (begun_as called refl)

@@ -1,5 +1,5 @@
 -- All buckets of slots that a registering asks for are in need, wherever its steps have led.
-use Rattle.std.specs.Prelude.{◌≡◌, ◌⊎◌, ◌≤◌, ◌+◌, ◌&&◌, ◌||◌, ◌++◌, nat_lt, ℕ, Bool, true, false, List, [], ◌∷◌, length, Option, Some, None, if◌then◌else◌}
+use Rattle.std.specs.Prelude.{◌≡◌, ◌⊎◌, ◌≤◌, ◌+◌, ◌&&◌, ◌||◌, ◌++◌, nat_lt, ℕ, Bool, true, false, List, [], ◌∷◌, length, Some, None, if◌then◌else◌}
 use Rattle.std.specs.List.{list_all, list_any}
 use Rattle.std.proofs.Common.{refl, ap, sym, subst, inl, inr, ◌∙◌, arith}
 use Rattle.papaya_legal.specs.Given.SeizeWords.declared.at.At.TheVariants.{Root, Used, Slot, Entry as EntryWord, Word}
@@ -8,7 +8,9 @@ use Rattle.papaya_legal.proofs.Given.SeizeWords.Places.Words.{capacity_le_capaci
 use Rattle.papaya_legal.specs.Given.Seize.declared.rows.register.Register.{Register}
 use Rattle.papaya_legal.specs.Given.Seize.declared.rows.register.Registering.TheVariants as at
 use Rattle.papaya_legal.specs.Given.Seize.Sequence.{new_slot}
+use Rattle.papaya_legal.specs.Given.Seize.World.{World, Rests}
 use Rattle.papaya_legal.proofs.Given.SeizeSets.Slots.Registers.{NoneOnVacant}
+use Rattle.papaya_legal.specs.Given.Tables.Nodes.{deferred_word}
 use Rattle.papaya_legal.specs.Given.Tables.declared.node.Node.{Node}
 use Rattle.papaya_legal.specs.Given.Teller.declared.changed.Changed.{Changed}
 use Rattle.papaya_legal.specs.Given.Teller.declared.changed.Changed.TheVariants as changed
@@ -25,16 +27,11 @@ use Rattle.papaya_legal.specs.Given.Schedules.Terms.{Terms}
 use Rattle.papaya_legal.specs.Given.Effects.Effects.{effects_of, names_same}
 use Rattle.papaya_legal.specs.Given.Effects.Known.{Known}
 use Rattle.papaya_legal.specs.Given.Effects.declared.acting.Acting.TheVariants as acts
-use Rattle.papaya_legal.specs.Given.Executor.IsAt.{Scene, IsAt, work_of}
-use Rattle.papaya_legal.specs.Given.Executor.OnSlots.{RowBegins, RowSteps as StepsAs, row_on}
-use Rattle.papaya_legal.specs.Given.Executor.declared.executor.Executor.{Executor}
-use Rattle.papaya_legal.specs.Given.Executor.declared.row.RowTold.{RowTold}
-use Rattle.papaya_legal.specs.Given.Executor.declared.row.RowTold.TheVariants as told
-use Rattle.papaya_legal.specs.Given.Executor.declared.row.SlotCall.TheVariants as call
-use Rattle.papaya_legal.specs.Given.Executor.declared.row.SlotRow.{SlotRow}
-use Rattle.papaya_legal.specs.Given.Executor.declared.row.SlotRow.TheVariants as rows
-use Rattle.papaya_legal.specs.Given.Executor.declared.worker.Work.{Work}
-use Rattle.papaya_legal.specs.Given.Executor.declared.worker.Work.TheVariants.{OnSlot}
+use Rattle.papaya_legal.specs.Given.Scenes.declared.row.RowTold.{RowTold}
+use Rattle.papaya_legal.specs.Given.Scenes.declared.row.RowTold.TheVariants as told
+use Rattle.papaya_legal.specs.Given.Scenes.declared.row.SlotCall.TheVariants as call
+use Rattle.papaya_legal.specs.Given.Scenes.declared.row.SlotRow.{SlotRow}
+use Rattle.papaya_legal.specs.Given.Scenes.declared.row.SlotRow.TheVariants as rows
 use Rattle.papaya_legal.proofs.Given.Spots.Unreclaimed.{and_both}
 use Rattle.papaya_legal.specs.Chains.{Chain, Come, RowSteps}
 use Rattle.papaya_legal.specs.Found.{AsksInNeed}
@@ -46,6 +43,10 @@ use Rattle.papaya_works.specs.Needs.{AreReached}
 use Rattle.papaya_works.proofs.Mays.{goes_as}
 use Rattle.papaya_works.proofs.Registering.{NeedsSlot, asks_in_need}
 use Rattle.papaya_works.proofs.Steps.{Tells, registers_tell}
+use Rattle.papaya_legal.specs.Given.Scenes.Held.{Held, IsAt}
+use Rattle.papaya_legal.specs.Given.Scenes.OnSlots.{RowBegins, RowSteps as StepsAs, row_then}
+use Rattle.papaya_legal.specs.Given.Scenes.Scene.{Scene, row_of, slot_of}
+use Rattle.papaya_legal.proofs.Given.Scenes.Rows.{begun_there, never_rests, one_row}
 
 -- a bucket is asked for among the effects of a step that makes room, where it was not known
 module _ (known : Known) where
@@ -96,89 +97,89 @@ module _ {K V : Type 0} (slots slot : ℕ) where
     all_asked fs (with_effect None None f m) slots_are least (λ is. so (any_more (asks_for_bucket f) (list_any asks_for_bucket fs) is)),
   )
 
-module _ {K V S : Type 0} (same : K → K → Bool) (hash : K → ℕ) (terms : Terms) (m : Moment K V) (s : Scene K V) (old : Executor K V S) (i : ℕ) (enters : Bool) (apart : NoneOnVacant i s.world) (first : Known)
+module _ {K V : Type 0} (same : K → K → Bool) (hash : ℕ → K → ℕ) (terms : Terms) (m : Moment K V) (s : Scene K V) (old : Held K V) (i : ℕ) (enters : Bool) (apart : NoneOnVacant i s.world) (first : Known)
     (reached : AreReached m.slots first) (least : (slot : ℕ) → new_slot s.world.uses ≡ Some slot → least_free (used_slots m.there) ≡ slot) where
   -- a registering is under way as one, slots are noted, no bucket is forgotten, and what was asked for is in need
-  abbrev IsOn : Executor K V S → Type 0
-  IsOn e = (row : SlotRow) → work_of e i ≡ Some (OnSlot row) → (c : Register) × (row ≡ rows.Registers c) × OnIt same hash i s old.batch_size enters apart e c
+  abbrev IsOn : Held K V → World (Node K V) → Type 0
+  IsOn e w = (row : SlotRow) → w.row i ≡ row_of row → (c : Register) × (row ≡ rows.Registers c) × OnIt same hash i s old.batch_size enters apart e c
 
   abbrev Need : Type 0
   Need = AsksForBucket m.slots (least_free (used_slots m.there))
 
-  abbrev NeedsSo : Come K V S → Type 0
-  NeedsSo x = IsOn x.executor × SlotsNoted x.notes x.executor.memory.memory × (first.buckets ≤ x.notes.buckets) × (list_any asks_for_bucket x.did ≡ true → Need)
+  abbrev NeedsSo : Come K V → Type 0
+  NeedsSo x = IsOn x.held x.scene.world × SlotsNoted x.notes x.held.memory × (first.buckets ≤ x.notes.buckets) × (list_any asks_for_bucket x.did ≡ true → Need)
 
   -- the slot that needs a bucket was never reached
   never_reached : (known : Known) (slot n : ℕ) → first.buckets ≤ known.buckets → n + 32 ≡ capacity known.buckets → n ≤ slot + 1 → AreReached m.slots first → m.slots ≤ slot
   never_reached known slot n more whole few (inl none) = omega (arith, none)
   never_reached known slot n more whole few (inr some) = let most = capacity_le_capacity first.buckets known.buckets more in omega (arith, most, whole, few, some)
 
-  module _ (x y : Come K V S) (step : RowSteps same hash terms i x y) (so : NeedsSo x) where
-    here : (c : Register) × (step.row ≡ rows.Registers c) × OnIt same hash i s old.batch_size enters apart x.executor c
-    here = so.0 step.row step.here
+  module _ (x y : Come K V) (step : RowSteps same hash terms i x y) (so : NeedsSo x) where
+    here : (c : Register) × (step.row ≡ rows.Registers c) × OnIt same hash i s old.batch_size enters apart x.held c
+    here = so.0 step.row step.here.1
 
-    went : StepsAs K V (rows.Registers here.0) x.executor.memory.memory y.executor.memory.memory y.executor.memory.changed ((step.leads step.row step.here).0, step.said)
+    went : StepsAs K V (rows.Registers here.0) x.held.memory y.held.memory y.held.changed ((step.leads step.row step.here).0, step.said)
     went =
-        subst (λ (r : SlotRow). StepsAs K V r x.executor.memory.memory y.executor.memory.memory y.executor.memory.changed ((step.leads step.row step.here).0, step.said)) here.1
+        subst (λ (r : SlotRow). StepsAs K V r x.held.memory y.held.memory y.held.changed ((step.leads step.row step.here).0, step.said)) here.1
         (step.leads step.row step.here).1
 
-    needed : NeedsSlot s.world.uses x.executor.memory.memory → Need
+    needed : NeedsSlot s.world.uses x.held.memory → Need
     needed needs =
         let slot_is = least needs.0 needs.1 in
-        subst (AsksForBucket m.slots) (sym slot_is) (never_reached x.notes needs.0 (length x.executor.memory.memory.slots) so.2 so.1.whole needs.3 reached, needs.2)
+        subst (AsksForBucket m.slots) (sym slot_is) (never_reached x.notes needs.0 (length x.held.memory.slots) so.2 so.1.whole needs.3 reached, needs.2)
 
-    asked : list_any asks_for_bucket (effects_of acts.Row x.notes y.executor.memory.changed) ≡ true → Need
+    asked : list_any asks_for_bucket (effects_of acts.Row x.notes y.held.changed) ≡ true → Need
     asked some =
-        let is = asked_is x.notes y.executor.memory.changed
-        (registers_tell x.executor.memory.memory y.executor.memory.memory y.executor.memory.changed ((step.leads step.row step.here).0, step.said) here.0 went) some in
-        needed (asks_in_need same hash i s old.batch_size enters apart x.executor here.0 here.2 y.executor.memory.memory y.executor.memory.changed (step.leads step.row step.here).0 step.said went
+        let is = asked_is x.notes y.held.changed
+        (registers_tell x.held.memory y.held.memory y.held.changed ((step.leads step.row step.here).0, step.said) here.0 went) some in
+        needed (asks_in_need same hash i s old.batch_size enters apart x.held here.0 here.2 y.held.memory y.held.changed (step.leads step.row step.here).0 step.said went
         x.notes so.1 is.0 is.1 is.2 is.3)
 
-    on_then : IsOn y.executor
-    on_then row there = by (next same hash i s old.batch_size enters apart x.executor y.executor here.0 here.2 (step.leads step.row step.here).0 step.said went)
+    on_then : IsOn y.held (step.leads step.row step.here).2.0
+    on_then row there = by (next same hash i s old.batch_size enters apart x.held y.held here.0 here.2 (step.leads step.row step.here).0 step.said went)
       where
         goes : (step.leads step.row step.here).0 ≡ row
-        goes = goes_as (step.leads step.row step.here).0 row step.said (sym (step.leads step.row step.here).2 ∙ there)
+        goes = goes_as (step.leads step.row step.here).0 row step.said (sym there ∙ (step.leads step.row step.here).3)
 
         -- one that has ended is under way no more
-        over : {X : Type 0} (said : RowTold (Node K V)) → step.said ≡ said → (row_on {K = K} {V = V} (step.leads step.row step.here).0 said ≡ Some (OnSlot row) → ⊥) → X
-        over said is never =
-            absurd (never (ap (λ (q : RowTold (Node K V)). row_on {K = K} {V = V} (step.leads step.row step.here).0 q) (sym is) ∙ sym (step.leads step.row step.here).2 ∙ there))
+        over : {X : Type 0} (said : RowTold (Node K V)) → step.said ≡ said → row_then (step.leads step.row step.here).0 said ≡ Rests → X
+        over said is rests =
+            absurd (never_rests row (sym there ∙ (step.leads step.row step.here).3 ∙ ap (λ (q : RowTold (Node K V)). row_then (step.leads step.row step.here).0 q) is ∙ rests))
 
-        by : Next same hash i s old.batch_size enters apart y.executor (step.leads step.row step.here).0 step.said → (c : Register) × (row ≡ rows.Registers c) × OnIt same hash i s old.batch_size enters apart y.executor c
+        by : Next same hash i s old.batch_size enters apart y.held (step.leads step.row step.here).0 step.said → (c : Register) × (row ≡ rows.Registers c) × OnIt same hash i s old.batch_size enters apart y.held c
         by (inl (c2, is, after_is, on2)) = (c2, sym goes ∙ after_is, on2)
-        by (inr (inl (fault, is, why, roomed))) = over (told.Refused fault) is (λ on. cc on)
-        by (inr (inr (slot, is, new_is))) = over (told.Registered slot) is (λ on. cc on)
+        by (inr (inl (fault, is, why, roomed))) = over (told.Refused fault) is refl
+        by (inr (inr (slot, is, new_is))) = over (told.Registered slot) is refl
 
     pub needs_on : NeedsSo y
     needs_on =
         subst NeedsSo (sym step.comes) (
           on_then,
-          rows_note_slots K V S same hash x.notes x.scene x.executor y.executor step.is_at so.1 i step.said step.leads step.row step.here,
-          (let more = buckets_grow acts.Row y.executor.memory.changed x.notes in let before = so.2 in omega (arith, more, before)),
-          λ some. either (either_any asks_for_bucket x.did (effects_of acts.Row x.notes y.executor.memory.changed) some),
+          rows_note_slots K V same hash x.notes x.scene x.held y.held step.is_at so.1 i step.said step.leads step.row step.here,
+          (let more = buckets_grow acts.Row y.held.changed x.notes in let before = so.2 in omega (arith, more, before)),
+          λ some. either (either_any asks_for_bucket x.did (effects_of acts.Row x.notes y.held.changed) some),
         )
       where
-        either : (list_any asks_for_bucket x.did ≡ true) ⊎ (list_any asks_for_bucket (effects_of acts.Row x.notes y.executor.memory.changed) ≡ true) → Need
+        either : (list_any asks_for_bucket x.did ≡ true) ⊎ (list_any asks_for_bucket (effects_of acts.Row x.notes y.held.changed) ≡ true) → Need
         either (inl before) = so.3 before
         either (inr now) = asked now
 
   -- So all buckets that were asked for were in need, from where it began.
-  pub registers_need : (new : Executor K V S) → IsAt same hash old s → (leads : RowBegins same hash (call.Register enters) i s old new) → SlotsNoted first new.memory.memory → (n : ℕ) (from to : Come K V S)
-      → from.executor ≡ new → from.notes ≡ first → from.did ≡ [] → Chain (RowSteps same hash terms i) n from to → AtEachEffect AsksInNeed None None to.did m
-  registers_need new at_s leads noted n from to executor_is notes_are none chain =
+  pub registers_need : (new : Held K V) → IsAt same hash old s → (leads : RowBegins same hash (call.Register enters) i s old new) → SlotsNoted first new.memory → (n : ℕ) (from to : Come K V)
+      → from.held ≡ new → from.scene.world ≡ leads.2.0 → from.notes ≡ first → from.did ≡ [] → Chain (RowSteps same hash terms i) n from to → AtEachEffect AsksInNeed None None to.did m
+  registers_need new at_s leads noted n from to held_is world_is notes_are none chain =
       all_asked m.slots (least_free (used_slots m.there)) to.did m refl refl
       (chains_keep NeedsSo (RowSteps same hash terms i) (λ x y step so. needs_on x y step so) n from to chain (
-        subst IsOn (sym executor_is) on_first,
-        subst (λ (e : Executor K V S). SlotsNoted from.notes e.memory.memory) (sym executor_is) (subst (λ (k : Known). SlotsNoted k new.memory.memory) (sym notes_are) noted),
+        subst (λ (e : Held K V). IsOn e from.scene.world) (sym held_is) (subst (IsOn new) (sym world_is) on_first),
+        subst (λ (e : Held K V). SlotsNoted from.notes e.memory) (sym held_is) (subst (λ (k : Known). SlotsNoted k new.memory) (sym notes_are) noted),
         (let same_number = ap (λ (k : Known). k.buckets) notes_are in omega (arith, same_number)),
         λ some. absurd (let is_none = ap (list_any asks_for_bucket) none in cc (some, is_none)),
       )).3
     where
-      on_first : IsOn new
+      on_first : IsOn new leads.2.0
       on_first row there =
-          let both : ◌≡◌ {A = Option (Work K V)} (Some (OnSlot (rows.Registers (record { slot = 0; enters = enters; stands = at.Begin })))) (Some (OnSlot row)) = sym (leads tt).1 ∙ there in
-          let is : rows.Registers (record { slot = 0; enters = enters; stands = at.Begin }) ≡ row = cc both in
+          let is = one_row (rows.Registers (record { slot = 0; enters = enters; stands = at.Begin })) row
+          (sym (begun_there deferred_word old.batch_size i s.world leads.2.0 (slot_of i) (call.Register enters) leads.2.1.1) ∙ there) in
           (record { slot = 0; enters = enters; stands = at.Begin }, sym is, first_on same hash i s enters apart old new at_s leads)
 
 -- Where no bucket is asked for none is needed.

@@ -19,27 +19,27 @@ reached_still slots known after more (inr some) = inr (let most = capacity_le_ca
 notes_more : (first known after : Known) (n : ℕ) → after.buckets ≡ n → known.buckets ≤ n → first.buckets ≤ known.buckets → first.buckets ≤ after.buckets
 notes_more first known after n is more so = omega (arith, is, more, so)
 
-module _ {K V S : Type 0} (same : K → K → Bool) (hash : K → ℕ) (terms : Terms) (first : Known) where
-  abbrev More : Come K V S → Type 0
+module _ {K V : Type 0} (same : K → K → Bool) (hash : ℕ → K → ℕ) (terms : Terms) (first : Known) where
+  abbrev More : Come K V → Type 0
   More x = first.buckets ≤ x.notes.buckets
 
-  pub rows_note_more : (i n : ℕ) (from to : Come K V S) → Chain (RowSteps same hash terms i) n from to → first.buckets ≤ from.notes.buckets → first.buckets ≤ to.notes.buckets
+  pub rows_note_more : (i n : ℕ) (from to : Come K V) → Chain (RowSteps same hash terms i) n from to → first.buckets ≤ from.notes.buckets → first.buckets ≤ to.notes.buckets
   rows_note_more i n from to chain so =
       chains_keep More (RowSteps same hash terms i)
-      (λ x y step its. notes_more first x.notes y.notes _ (ap (λ (z : Come K V S). z.notes.buckets) step.comes) (buckets_grow acts.Row y.executor.memory.changed x.notes) its) n from to chain so
+      (λ x y step its. notes_more first x.notes y.notes _ (ap (λ (z : Come K V). z.notes.buckets) step.comes) (buckets_grow acts.Row y.held.changed x.notes) its) n from to chain so
 
-  pub makings_note_more : (i map n : ℕ) (from to : Come K V S) → Chain (MakingSteps same hash terms i map) n from to → first.buckets ≤ from.notes.buckets → first.buckets ≤ to.notes.buckets
+  pub makings_note_more : (i map n : ℕ) (from to : Come K V) → Chain (MakingSteps same hash terms i map) n from to → first.buckets ≤ from.notes.buckets → first.buckets ≤ to.notes.buckets
   makings_note_more i map n from to chain so =
       chains_keep More (MakingSteps same hash terms i map)
-      (λ x y step its. notes_more first x.notes y.notes _ (ap (λ (z : Come K V S). z.notes.buckets) step.comes) (buckets_grow (acts.Making step.making.map) y.executor.memory.changed x.notes) its) n from to chain so
+      (λ x y step its. notes_more first x.notes y.notes _ (ap (λ (z : Come K V). z.notes.buckets) step.comes) (buckets_grow (acts.Making step.making.map) y.held.changed x.notes) its) n from to chain so
 
-  pub ends_note_more : (i map n : ℕ) (from to : Come K V S) → Chain (EndSteps same hash terms i map) n from to → first.buckets ≤ from.notes.buckets → first.buckets ≤ to.notes.buckets
+  pub ends_note_more : (i map n : ℕ) (from to : Come K V) → Chain (EndSteps same hash terms i map) n from to → first.buckets ≤ from.notes.buckets → first.buckets ≤ to.notes.buckets
   ends_note_more i map n from to chain so =
       chains_keep More (EndSteps same hash terms i map)
-      (λ x y step its. notes_more first x.notes y.notes _ (ap (λ (z : Come K V S). z.notes.buckets) step.comes) (buckets_grow (acts.Ending map) y.executor.memory.changed x.notes) its) n from to chain so
+      (λ x y step its. notes_more first x.notes y.notes _ (ap (λ (z : Come K V). z.notes.buckets) step.comes) (buckets_grow (acts.Ending map) y.held.changed x.notes) its) n from to chain so
 
-  pub all_note_more : (i n : ℕ) (from to : AllCome K V S) → Chain (AllSteps same hash terms i) n from to → first.buckets ≤ from.come.notes.buckets → first.buckets ≤ to.come.notes.buckets
+  pub all_note_more : (i n : ℕ) (from to : AllCome K V) → Chain (AllSteps same hash terms i) n from to → first.buckets ≤ from.come.notes.buckets → first.buckets ≤ to.come.notes.buckets
   all_note_more i n from to chain so =
-      chains_keep (λ (x : AllCome K V S). More x.come) (AllSteps same hash terms i)
-      (λ x y step its. notes_more first x.come.notes y.come.notes _ (ap (λ (z : AllCome K V S). z.come.notes.buckets) step.comes)
-      (buckets_grow acts.Row y.come.executor.memory.changed x.come.notes) its) n from to chain so
+      chains_keep (λ (x : AllCome K V). More x.come) (AllSteps same hash terms i)
+      (λ x y step its. notes_more first x.come.notes y.come.notes _ (ap (λ (z : AllCome K V). z.come.notes.buckets) step.comes)
+      (buckets_grow acts.Row y.come.held.changed x.come.notes) its) n from to chain so

@@ -32,14 +32,14 @@ use Rattle.papaya_legal.specs.Given.Teller.declared.changed.Changed.{Changed}
 use Rattle.papaya_legal.specs.Given.Teller.declared.changed.Changed.TheVariants as changed
 use Rattle.papaya_legal.proofs.Given.Callers.Together.Came.{came_reached}
 use Rattle.papaya_legal.specs.Given.Effects.Known.{Known}
-use Rattle.papaya_legal.specs.Given.Executor.IsAt.{Scene}
-use Rattle.papaya_legal.specs.Given.Executor.OnSlots.{RowSteps}
-use Rattle.papaya_legal.specs.Given.Executor.declared.executor.Executor.{Executor}
-use Rattle.papaya_legal.specs.Given.Executor.declared.row.RowTold.{RowTold}
-use Rattle.papaya_legal.specs.Given.Executor.declared.row.SlotRow.{SlotRow}
-use Rattle.papaya_legal.specs.Given.Executor.declared.row.SlotRow.TheVariants as rows
+use Rattle.papaya_legal.specs.Given.Scenes.declared.row.RowTold.{RowTold}
+use Rattle.papaya_legal.specs.Given.Scenes.declared.row.SlotRow.{SlotRow}
+use Rattle.papaya_legal.specs.Given.Scenes.declared.row.SlotRow.TheVariants as rows
 use Rattle.papaya_legal.specs.Given.Remains.Slots.{SlotsNoted}
 use Rattle.papaya_rows.proofs.Taking.{OnIt}
+use Rattle.papaya_legal.specs.Given.Scenes.Held.{Held}
+use Rattle.papaya_legal.specs.Given.Scenes.OnSlots.{RowSteps}
+use Rattle.papaya_legal.specs.Given.Scenes.Scene.{Scene}
 
 -- it asks for room of this bucket by its next step
 abbrev AsksAt : Registering → ℕ → Type 0
@@ -110,8 +110,8 @@ refused_at m bucket lacks c _ asks = absurd asks
 abbrev pub NeedsSlot : {T : Type 0} → (ℕ → Use) → Mem T → Type 0
 NeedsSlot uses m = (slot : ℕ) × (new_slot uses ≡ Some slot) × MayNeedRoom slot × (length m.slots ≤ slot + 1)
 
-module _ {K V S : Type 0} (same : K → K → Bool) (hash : K → ℕ) (i : ℕ) (s : Scene K V) (size : ℕ) (enters : Bool) (apart : NoneOnVacant i s.world) where
-  module _ (e : Executor K V S) (c : Register) (here : OnIt same hash i s size enters apart e c) where
+module _ {K V : Type 0} (same : K → K → Bool) (hash : ℕ → K → ℕ) (i : ℕ) (s : Scene K V) (size : ℕ) (enters : Bool) (apart : NoneOnVacant i s.world) where
+  module _ (e : Held K V) (c : Register) (here : OnIt same hash i s size enters apart e c) where
     abbrev now : World (Node K V)
     now = here.w
 
@@ -141,8 +141,8 @@ module _ {K V S : Type 0} (same : K → K → Bool) (hash : K → ℕ) (i : ℕ)
         absurd (let told : progress.Refused Memory ≡ progress.Refused fault = ap (λ (q : Register × Progress ℕ). q.1) is in let memory : Memory ≡ fault = cc told in cc (memory, used_up))
 
     -- where a bucket is asked for that is not known
-    pub asks_in_need : (m2 : Mem (Node K V)) (told : Changed) (after : SlotRow) (said : RowTold (Node K V)) → RowSteps K V (rows.Registers c) e.memory.memory m2 told (after, said)
-        → (known : Known) → SlotsNoted known e.memory.memory → (bucket : ℕ) (had : Bool) → told ≡ changed.Roomed bucket had → (had && nat_lt bucket known.buckets) ≡ false → NeedsSlot s.world.uses e.memory.memory
+    pub asks_in_need : (m2 : Mem (Node K V)) (told : Changed) (after : SlotRow) (said : RowTold (Node K V)) → RowSteps K V (rows.Registers c) e.memory m2 told (after, said)
+        → (known : Known) → SlotsNoted known e.memory → (bucket : ℕ) (had : Bool) → told ≡ changed.Roomed bucket had → (had && nat_lt bucket known.buckets) ≡ false → NeedsSlot s.world.uses e.memory
     asks_in_need m2 told after said went known noted bucket had is unknown =
         subst (λ (m : Mem (Node K V)). NeedsSlot s.world.uses m) here.memory (needs_by (might_be_refused bucket lacks.1 lacks.0))
       where

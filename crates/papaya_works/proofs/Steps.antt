@@ -1,5 +1,5 @@
 -- What a step of a row on a slot does, by its machine: one that takes no block away reclaims nothing, one that makes no room asks for no bucket, and what is taken away was noted as a pair or a table.
-use Rattle.std.specs.Prelude.{◌≡◌, ℕ, nat_lt, Bool, true, false, ◌&&◌, List, [], ◌∷◌, Option, Some, Ok, if◌then◌else◌}
+use Rattle.std.specs.Prelude.{◌≡◌, ℕ, nat_lt, Bool, true, false, ◌&&◌, List, [], ◌∷◌, Option, Ok, if◌then◌else◌}
 use Rattle.std.specs.List.{list_all}
 use Rattle.std.proofs.Common.{refl, ap, subst, sym}
 use Rattle.papaya_legal.specs.Given.SeizeWords.declared.at.At.TheVariants.{Root, Used, Slot, Entry, Word}
@@ -38,13 +38,9 @@ use Rattle.papaya_legal.specs.Given.Effects.Known.{Known}
 use Rattle.papaya_legal.specs.Given.Effects.declared.acting.Acting.TheVariants.{Row}
 use Rattle.papaya_legal.specs.Given.Effects.declared.role.Role.{Role}
 use Rattle.papaya_legal.specs.Given.Effects.declared.role.Role.TheVariants as role
-use Rattle.papaya_legal.specs.Given.Executor.IsAt.{Scene, IsAt, work_of}
-use Rattle.papaya_legal.specs.Given.Executor.OnSlots.{HappensAt, RowSteps}
-use Rattle.papaya_legal.specs.Given.Executor.declared.executor.Executor.{Executor}
-use Rattle.papaya_legal.specs.Given.Executor.declared.row.RowTold.{RowTold}
-use Rattle.papaya_legal.specs.Given.Executor.declared.row.SlotRow.{SlotRow}
-use Rattle.papaya_legal.specs.Given.Executor.declared.row.SlotRow.TheVariants as rows
-use Rattle.papaya_legal.specs.Given.Executor.declared.worker.Work.TheVariants.{OnSlot}
+use Rattle.papaya_legal.specs.Given.Scenes.declared.row.RowTold.{RowTold}
+use Rattle.papaya_legal.specs.Given.Scenes.declared.row.SlotRow.{SlotRow}
+use Rattle.papaya_legal.specs.Given.Scenes.declared.row.SlotRow.TheVariants as rows
 use Rattle.papaya_legal.specs.Given.Follows.Shows.{Shows}
 use Rattle.papaya_legal.proofs.Given.Others.RowPlans.{IsOfSlots}
 use Rattle.papaya_legal.specs.Given.Owes.Made.{ShowsMade}
@@ -52,6 +48,9 @@ use Rattle.papaya_legal.specs.Given.Owes.Tables.{ShowsTables}
 use Rattle.papaya_legal.proofs.Given.Owes.InHand.{in_hand}
 use Rattle.papaya_legal.proofs.Given.Owes.Lasting.{row_keeps_held}
 use Rattle.papaya_legal.proofs.Given.Owes.Tables.Held.{held_by}
+use Rattle.papaya_legal.specs.Given.Scenes.Held.{Held, IsAt}
+use Rattle.papaya_legal.specs.Given.Scenes.OnSlots.{HappensAt, RowSteps}
+use Rattle.papaya_legal.specs.Given.Scenes.Scene.{IsOnSlot, Scene}
 
 -- What a step tells that writes words of the collector alone, or takes a block away too, or makes room.
 abbrev pub Tells : (takes rooms : Bool) → Changed → Type 0
@@ -214,10 +213,10 @@ module _ (known : Known) where
   reclaims_alone (changed.Roomed bucket had) is own = absurd (cc is)
 
 -- A row takes nothing away that somebody has made and not linked.
-module _ {K V S : Type 0} (same : K → K → Bool) (hash : K → ℕ) (name : ℕ → List ℕ) (m : Moment K V) (known : Known) (s : Scene K V) (old new : Executor K V S) (at : IsAt same hash old s)
-    (shown : Shows same name m known s) (made : ShowsMade name m known s) (tables : ShowsTables name m known s) (i : ℕ) (row : SlotRow) (here : work_of old i ≡ Some (OnSlot row)) (end : SlotRow × RowTold (Node K V))
-    (steps : RowSteps K V row old.memory.memory new.memory.memory new.memory.changed end) (happened : HappensAt same hash (Step i) s old new) where
-  pub takes_no_own : (b : ℕ) → new.memory.changed ≡ changed.Took b → IsNoOwn (known.roles b)
+module _ {K V : Type 0} (same : K → K → Bool) (hash : ℕ → K → ℕ) (name : ℕ → List ℕ) (m : Moment K V) (known : Known) (s : Scene K V) (old new : Held K V) (at : IsAt same hash old s)
+    (shown : Shows same name m known s) (made : ShowsMade name m known s) (tables : ShowsTables name m known s) (i : ℕ) (row : SlotRow) (here : IsOnSlot s i row) (end : SlotRow × RowTold (Node K V))
+    (steps : RowSteps K V row old.memory new.memory new.changed end) (happened : HappensAt same hash (Step i) s old new) where
+  pub takes_no_own : (b : ℕ) → new.changed ≡ changed.Took b → IsNoOwn (known.roles b)
   takes_no_own b took = by (known.roles b) refl
     where
       by : (r : Role) → known.roles b ≡ r → IsNoOwn r

@@ -21,9 +21,6 @@ use Rattle.papaya_legal.specs.Given.Effects.Effects.{effects_of, known_after, ta
 use Rattle.papaya_legal.specs.Given.Effects.Known.{Known}
 use Rattle.papaya_legal.specs.Given.Effects.declared.acting.Acting.{Acting}
 use Rattle.papaya_legal.specs.Given.Effects.declared.acting.Acting.TheVariants as acts
-use Rattle.papaya_legal.specs.Given.Executor.IsAt.{Scene, IsAt}
-use Rattle.papaya_legal.specs.Given.Executor.Making.{MakingLeads}
-use Rattle.papaya_legal.specs.Given.Executor.declared.executor.Executor.{Executor}
 use Rattle.papaya_legal.specs.Given.Finishes.Makings.{Beginning}
 use Rattle.papaya_legal.specs.Given.Follows.Shows.{Shows}
 use Rattle.papaya_legal.specs.Given.Others.Makings.{NotesCounter, making_after}
@@ -34,6 +31,9 @@ use Rattle.papaya_legal.proofs.Given.Owes.Tables.MakingsOfMaps.{left_tables}
 use Rattle.papaya_legal.proofs.Given.Owes.Tables.Roles.{of_table, NoneOfTable}
 use Rattle.papaya_works.specs.Makings.{CountsTables, MakingsCountTables, in_hand, table_left}
 use Rattle.papaya_works.proofs.Makings.{makings_do_theirs}
+use Rattle.papaya_legal.specs.Given.Scenes.Held.{Held, IsAt}
+use Rattle.papaya_legal.specs.Given.Scenes.Making.{MakingLeads}
+use Rattle.papaya_legal.specs.Given.Scenes.Scene.{Scene}
 
 abbrev linked : Table → TableShape → TableThere
 linked t shape = record { table = t; shape = shape; stage = AtLinked }
@@ -62,20 +62,20 @@ module _ {K V : Type 0} (map : ℕ) (of : Option ℕ) where
       ∙ length-append (tables_of map m) (filter (λ (u : TableThere). u.table.map == map) (linked t shape ∷ []))
       ∙ ap (λ (q : Bool). length (tables_of map m) + length (if q then linked t shape ∷ [] else [])) (eq-eqb t.map map its)
 
-module _ {K V S : Type 0} (same : K → K → Bool) (hash : K → ℕ) (name : ℕ → List ℕ) (m : Moment K V) (known : Known) (s : Scene K V) (old new : Executor K V S) (at_s : IsAt same hash old s)
+module _ {K V : Type 0} (same : K → K → Bool) (hash : ℕ → K → ℕ) (name : ℕ → List ℕ) (m : Moment K V) (known : Known) (s : Scene K V) (old new : Held K V) (at_s : IsAt same hash old s)
     (shown : Shows same name m known s) (tables : ShowsTables name m known s) (i : ℕ) (told : Progress Setting) (leads : MakingLeads same hash i told s old new)
     (b : Beginning K) (here : s.makers i ≡ Some b) (noted : NotesCounter known b) (of : Option ℕ) (done : List Effect) (counts : CountsTables b.map done m (table_left b.machine progress.Goes)) where
   abbrev its : Acting
   its = acts.Making b.map
 
   abbrev effects : List Effect
-  effects = effects_of its known new.memory.changed
+  effects = effects_of its known new.changed
 
   abbrev left : Option Planned
   left = table_left (leads b here).0 told
 
   firsts : list_all is_first_making effects ≡ true
-  firsts = makings_do_theirs K V S same hash name m known s old new at_s shown i told leads b here noted
+  firsts = makings_do_theirs K V same hash name m known s old new at_s shown i told leads b here noted
 
   abbrev Goal : List Effect → Type 0
   Goal fs = CountsTables b.map (done ++ fs) (with_effects None of fs m) left
@@ -89,7 +89,7 @@ module _ {K V S : Type 0} (same : K → K → Bool) (hash : K → ℕ) (name : �
   count_on fs made more made_is more_is left_is =
       let all = ap length (filter-append is_table_made done fs) ∙ length-append (filter is_table_made done) (filter is_table_made fs) in omega (arith, all, counts, made_is, more_is, left_is)
 
-  tables_counted : Shows same name (with_effects None of effects m) (known_after its new.memory.changed known)
+  tables_counted : Shows same name (with_effects None of effects m) (known_after its new.changed known)
       (making_after same hash s old new i b (leads b here).0 (leads b here).2.step.w2 told (leads b here).3) → Goal effects
   tables_counted shown_then =
       elim ((left_tables same hash name m known s old new at_s shown tables i b here (leads b here).0 told (leads b here).1 (leads b here).2 of (leads b here).3 shown_then).goes) as (λ _. Goal effects) [
@@ -107,6 +107,6 @@ module _ {K V S : Type 0} (same : K → K → Bool) (hash : K → ℕ) (name : �
             (let before = ap in_hand had in let now = ap in_hand none in omega (arith, before, now)))
       ]
 
-pub makings_count_tables : (K V S : Type 0) (same : K → K → Bool) (hash : K → ℕ) → MakingsCountTables K V S same hash
-makings_count_tables K V S same hash name m known s old new at_s shown tables i told leads b here noted of done counts shown_then =
+pub makings_count_tables : (K V : Type 0) (same : K → K → Bool) (hash : ℕ → K → ℕ) → MakingsCountTables K V same hash
+makings_count_tables K V same hash name m known s old new at_s shown tables i told leads b here noted of done counts shown_then =
     tables_counted same hash name m known s old new at_s shown tables i told leads b here noted of done counts shown_then

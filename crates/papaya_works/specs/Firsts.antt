@@ -21,15 +21,15 @@ use Rattle.papaya_legal.specs.Given.Named.Places.{first_places}
 use Rattle.papaya_legal.specs.Given.Effects.Effects.{effects_of, known_after}
 use Rattle.papaya_legal.specs.Given.Effects.Known.{Known}
 use Rattle.papaya_legal.specs.Given.Effects.declared.acting.Acting.TheVariants as acts
-use Rattle.papaya_legal.specs.Given.Executor.IsAt.{Scene, IsAt, at_first}
-use Rattle.papaya_legal.specs.Given.Executor.Making.{MakingLeads}
-use Rattle.papaya_legal.specs.Given.Executor.declared.executor.Executor.{Executor}
 use Rattle.papaya_legal.specs.Given.Finishes.Makings.{Beginning}
 use Rattle.papaya_legal.specs.Given.Follows.Shows.{Shows}
 use Rattle.papaya_legal.specs.Given.Others.Makings.{making_after}
 use Rattle.papaya_legal.specs.Given.Owes.Tables.{ShowsTables}
 use Rattle.papaya_legal.specs.Given.Owes.TablesBeside.{MakesFirst}
 use Rattle.papaya_legal.specs.Given.Finds.Shaping.{ShapedAt}
+use Rattle.papaya_legal.specs.Given.Scenes.Held.{Held, IsAt}
+use Rattle.papaya_legal.specs.Given.Scenes.Making.{MakingLeads}
+use Rattle.papaya_legal.specs.Given.Scenes.Scene.{Scene, at_first}
 
 -- a table for so many places, of which there are eight at least
 abbrev pub IsForPlaces : ℕ → Planned → Type 0
@@ -68,20 +68,20 @@ module _ (K V : Type 0) where
       (map : ℕ) (everything : Bool) (of : Option ℕ) (effects : List Effect) (m : Moment K V) → list_all is_first_making effects ≡ true → MakesFirst map effects
       → AtEachEffect (FindsFirst map) None of effects m → AtEachEffect (EventFinds (Some map) everything) None of effects m
 
-module _ (K V S : Type 0) (same : K → K → Bool) (hash : K → ℕ) where
+module _ (K V : Type 0) (same : K → K → Bool) (hash : ℕ → K → ℕ) where
   -- So it is after each step of a making, too.
   abbrev pub MakingsGoOn : Type 0
   MakingsGoOn =
-      (s : Scene K V) (old new : Executor K V S) → ShowsOpenings s → (i : ℕ) (told : Progress Setting) (leads : MakingLeads same hash i told s old new) (b : Beginning K) (here : s.makers i ≡ Some b)
+      (s : Scene K V) (old new : Held K V) → ShowsOpenings s → (i : ℕ) (told : Progress Setting) (leads : MakingLeads same hash i told s old new) (b : Beginning K) (here : s.makers i ≡ Some b)
       → (let to = leads b here in ShowsOpenings (making_after same hash s old new i b to.0 to.2.step.w2 told to.3))
 
   -- So the table that a step of the making of a map links, which is there without a table and is to have the places of its capacity, is the first that it must have.
   abbrev pub MakingsLinkFirst : Type 0
   MakingsLinkFirst =
-      (name : ℕ → List ℕ) (m : Moment K V) (known : Known) (s : Scene K V) (old new : Executor K V S) → IsAt same hash old s → Shows same name m known s → ShowsTables name m known s → ShowsOpenings s
+      (name : ℕ → List ℕ) (m : Moment K V) (known : Known) (s : Scene K V) (old new : Held K V) → IsAt same hash old s → Shows same name m known s → ShowsTables name m known s → ShowsOpenings s
       → (i : ℕ) (told : Progress Setting) (leads : MakingLeads same hash i told s old new) (b : Beginning K) (here : s.makers i ≡ Some b) (of : Option ℕ)
       → (f : MapThere) → map_at b.map m ≡ Some f → tables_of b.map m ≡ [] → map_fault f.mode f.capacity ≡ None → b.places ≡ first_places f.capacity
       → (let to = leads b here in
-      let effects = effects_of (acts.Making b.map) known new.memory.changed in
-      Shows same name (with_effects None of effects m) (known_after (acts.Making b.map) new.memory.changed known) (making_after same hash s old new i b to.0 to.2.step.w2 told to.3)
+      let effects = effects_of (acts.Making b.map) known new.changed in
+      Shows same name (with_effects None of effects m) (known_after (acts.Making b.map) new.changed known) (making_after same hash s old new i b to.0 to.2.step.w2 told to.3)
       → AtEachEffect (FindsFirst b.map) None of effects m)

@@ -16,9 +16,6 @@ use Rattle.papaya_legal.specs.Given.Schedules.Views.{map_at, tables_of}
 use Rattle.papaya_legal.specs.Given.Effects.Effects.{effects_of, known_after}
 use Rattle.papaya_legal.specs.Given.Effects.Known.{Known}
 use Rattle.papaya_legal.specs.Given.Effects.declared.acting.Acting.TheVariants as acts
-use Rattle.papaya_legal.specs.Given.Executor.IsAt.{Scene, IsAt}
-use Rattle.papaya_legal.specs.Given.Executor.Making.{MakingLeads}
-use Rattle.papaya_legal.specs.Given.Executor.declared.executor.Executor.{Executor}
 use Rattle.papaya_legal.specs.Given.Finishes.Makings.{Beginning}
 use Rattle.papaya_legal.specs.Given.Follows.Shows.{Shows}
 use Rattle.papaya_legal.specs.Given.Others.Makings.{NotesCounter, making_after}
@@ -26,6 +23,9 @@ use Rattle.papaya_legal.specs.Given.Owes.Making.{making_in_opening}
 use Rattle.papaya_legal.specs.Given.Owes.Tables.{ShowsTables, table_made}
 use Rattle.papaya_works.specs.Firsts.{ShowsOpenings}
 use Rattle.papaya_legal.specs.Given.Named.Places.{first_places}
+use Rattle.papaya_legal.specs.Given.Scenes.Held.{Held, IsAt}
+use Rattle.papaya_legal.specs.Given.Scenes.Making.{MakingLeads}
+use Rattle.papaya_legal.specs.Given.Scenes.Scene.{Scene}
 
 -- the table that a making has made and not linked, by what it has told: one that is over has none
 abbrev pub table_left : NewMap → Progress Setting → Option Planned
@@ -40,32 +40,32 @@ in_hand (Some table) = 1
 abbrev pub CountsTables : {K V : Type 0} → ℕ → List Effect → Moment K V → Option Planned → Type 0
 CountsTables map effects m left = length (filter is_table_made effects) ≡ length (tables_of map m) + in_hand left
 
-module _ (K V S : Type 0) (same : K → K → Bool) (hash : K → ℕ) where
+module _ (K V : Type 0) (same : K → K → Bool) (hash : ℕ → K → ℕ) where
   -- The promise: a step of the making of a map does nothing else, if its counter is noted.
   abbrev pub MakingsDoTheirs : Type 0
   MakingsDoTheirs =
-      (name : ℕ → List ℕ) (m : Moment K V) (known : Known) (s : Scene K V) (old new : Executor K V S) → IsAt same hash old s → Shows same name m known s
+      (name : ℕ → List ℕ) (m : Moment K V) (known : Known) (s : Scene K V) (old new : Held K V) → IsAt same hash old s → Shows same name m known s
       → (i : ℕ) (told : Progress Setting) → MakingLeads same hash i told s old new → (b : Beginning K) → s.makers i ≡ Some b → NotesCounter known b
-      → list_all is_first_making (effects_of (acts.Making b.map) known new.memory.changed) ≡ true
+      → list_all is_first_making (effects_of (acts.Making b.map) known new.changed) ≡ true
 
   -- So it finds what it must where the map is there without a table, and is to have the places of its capacity, if the moment after the step shows it.
   abbrev pub MakingsFindTheirs : Type 0
   MakingsFindTheirs =
-      (name : ℕ → List ℕ) (m : Moment K V) (known : Known) (s : Scene K V) (old new : Executor K V S) → IsAt same hash old s → Shows same name m known s → ShowsTables name m known s → ShowsOpenings s
+      (name : ℕ → List ℕ) (m : Moment K V) (known : Known) (s : Scene K V) (old new : Held K V) → IsAt same hash old s → Shows same name m known s → ShowsTables name m known s → ShowsOpenings s
       → (i : ℕ) (told : Progress Setting) (leads : MakingLeads same hash i told s old new) (b : Beginning K) (here : s.makers i ≡ Some b) → NotesCounter known b → (of : Option ℕ)
       → (f : MapThere) → map_at b.map m ≡ Some f → tables_of b.map m ≡ [] → map_fault f.mode f.capacity ≡ None → b.places ≡ first_places f.capacity
       → (let to = leads b here in
-      let effects = effects_of (acts.Making b.map) known new.memory.changed in
-      Shows same name (with_effects None of effects m) (known_after (acts.Making b.map) new.memory.changed known) (making_after same hash s old new i b to.0 to.2.step.w2 told to.3)
+      let effects = effects_of (acts.Making b.map) known new.changed in
+      Shows same name (with_effects None of effects m) (known_after (acts.Making b.map) new.changed known) (making_after same hash s old new i b to.0 to.2.step.w2 told to.3)
       → AtEachEffect (EventFinds (Some b.map) false) None of effects m)
 
   -- And so it is of the tables that it has told, if it was so before it.
   abbrev pub MakingsCountTables : Type 0
   MakingsCountTables =
-      (name : ℕ → List ℕ) (m : Moment K V) (known : Known) (s : Scene K V) (old new : Executor K V S) → IsAt same hash old s → Shows same name m known s → ShowsTables name m known s
+      (name : ℕ → List ℕ) (m : Moment K V) (known : Known) (s : Scene K V) (old new : Held K V) → IsAt same hash old s → Shows same name m known s → ShowsTables name m known s
       → (i : ℕ) (told : Progress Setting) (leads : MakingLeads same hash i told s old new) (b : Beginning K) (here : s.makers i ≡ Some b) → NotesCounter known b → (of : Option ℕ)
       → (done : List Effect) → CountsTables b.map done m (table_left b.machine progress.Goes)
       → (let to = leads b here in
-      let effects = effects_of (acts.Making b.map) known new.memory.changed in
-      Shows same name (with_effects None of effects m) (known_after (acts.Making b.map) new.memory.changed known) (making_after same hash s old new i b to.0 to.2.step.w2 told to.3)
+      let effects = effects_of (acts.Making b.map) known new.changed in
+      Shows same name (with_effects None of effects m) (known_after (acts.Making b.map) new.changed known) (making_after same hash s old new i b to.0 to.2.step.w2 told to.3)
       → CountsTables b.map (done ++ effects) (with_effects None of effects m) (table_left to.0 told))

@@ -9,15 +9,15 @@ use Rattle.papaya_legal.specs.Given.Schedules.Entry.{Entry}
 use Rattle.papaya_legal.specs.Given.Schedules.Handing.{asks_for_bucket, is_reclaiming}
 use Rattle.papaya_legal.specs.Given.Schedules.Terms.{Terms}
 use Rattle.papaya_legal.specs.Given.Effects.Known.{Known}
-use Rattle.papaya_legal.specs.Given.Executor.IsAt.{Scene, IsAt, slot_of}
-use Rattle.papaya_legal.specs.Given.Executor.OnSlots.{MayBegin, RowBegins}
-use Rattle.papaya_legal.specs.Given.Executor.Rows.{request_of}
-use Rattle.papaya_legal.specs.Given.Executor.declared.executor.Executor.{Executor}
-use Rattle.papaya_legal.specs.Given.Executor.declared.row.SlotCall.{SlotCall}
-use Rattle.papaya_legal.specs.Given.Executor.declared.row.SlotCall.TheVariants as call
+use Rattle.papaya_legal.specs.Given.Scenes.declared.row.SlotCall.{SlotCall}
+use Rattle.papaya_legal.specs.Given.Scenes.declared.row.SlotCall.TheVariants as call
 use Rattle.papaya_legal.specs.Given.Others.Rows.{scene_then}
 use Rattle.papaya_legal.specs.Chains.{Chain, Come, RowSteps}
 use Rattle.papaya_legal.specs.SlotEvents.{InSlotEvent}
+use Rattle.papaya_legal.specs.Given.Scenes.Held.{Held, IsAt}
+use Rattle.papaya_legal.specs.Given.Scenes.OnSlots.{RowBegins}
+use Rattle.papaya_legal.specs.Given.Scenes.Rows.{request_of}
+use Rattle.papaya_legal.specs.Given.Scenes.Scene.{Scene, slot_of}
 
 -- what a caller's row may do on its slot
 abbrev pub may_row : SlotCall → Effect → Bool
@@ -27,24 +27,24 @@ may_row call.LeaveOwned f = is_reclaiming f
 may_row call.Refresh f = is_reclaiming f
 may_row _ f = false
 
-module _ {K V S : Type 0} (same : K → K → Bool) (hash : K → ℕ) where
+module _ {K V : Type 0} (same : K → K → Bool) (hash : ℕ → K → ℕ) where
   -- how far an event has come whose row has just begun
-  abbrev pub row_begun : (log : List (Entry K V)) (known : Known) (s : Scene K V) (called : SlotCall) (i : ℕ) (old new : Executor K V S) → MayBegin old (slot_of i) called → RowBegins same hash called i s old new → Come K V S
-  row_begun log known s called i old new may leads = record {
-    executor = new;
+  abbrev pub row_begun : (log : List (Entry K V)) (known : Known) (s : Scene K V) (called : SlotCall) (i : ℕ) (old new : Held K V) → RowBegins same hash called i s old new → Come K V
+  row_begun log known s called i old new leads = record {
+    held = new;
     did = [];
     now = moment log;
     notes = known;
-    scene = scene_then same hash (Begin i (request_of (slot_of i) called)) s old new (leads may).3;
+    scene = scene_then same hash (Begin i (request_of (slot_of i) called)) s old new leads.2;
   }
 
-module _ (K V S : Type 0) (same : K → K → Bool) (hash : K → ℕ) where
+module _ (K V : Type 0) (same : K → K → Bool) (hash : ℕ → K → ℕ) where
   -- The promise: all that an event does whose work is such a row, which has begun in the scene, the row may do; one that flushes its slot does so within a section.
   abbrev pub RowsDoTheirs : Type 0
   RowsDoTheirs =
-      (name : ℕ → List ℕ) (terms : Terms) (log : List (Entry K V)) (known : Known) (s : Scene K V) (old new : Executor K V S) → IsAt same hash old s
-      → (event : Event K V) (i : ℕ) (called : SlotCall) (may : MayBegin old (slot_of i) called) (leads : RowBegins same hash called i s old new)
+      (name : ℕ → List ℕ) (terms : Terms) (log : List (Entry K V)) (known : Known) (s : Scene K V) (old new : Held K V) → IsAt same hash old s
+      → (event : Event K V) (i : ℕ) (called : SlotCall) (leads : RowBegins same hash called i s old new)
       → (called ≡ call.Flush → IsInside (s.world.uses (slot_of i)))
-      → (let begun = row_begun same hash log known s called i old new may leads in
+      → (let begun = row_begun same hash log known s called i old new leads in
       InSlotEvent same name terms log event i called known s.world begun.did begun.now begun.notes begun.scene
-      → (n : ℕ) (to : Come K V S) → Chain (RowSteps same hash terms i) n begun to → list_all (may_row called) to.did ≡ true)
+      → (n : ℕ) (to : Come K V) → Chain (RowSteps same hash terms i) n begun to → list_all (may_row called) to.did ≡ true)

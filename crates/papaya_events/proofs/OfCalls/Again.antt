@@ -39,6 +39,7 @@ use Rattle.papaya_stepping.proofs.Again.{far_ready}
 use Rattle.papaya_events.proofs.OfCalls.Worth.{SaidIn, event_says}
 use Rattle.papaya_events.specs.OfCalls.{Runs, RunsOn}
 use Rattle.papaya_events.proofs.OfCalls.AsBefore.{as_before}
+use Rattle.papaya_scheduler.specs.Given.Executor.IsThere.{held_by}
 
 -- Who has a name that one caller has at most is as far as that caller.
 
@@ -112,7 +113,7 @@ module _ {K V S : Type 0} (same : K → K → Bool) (hash : K → ℕ) (terms : 
 
     legal : IsLegalBut same terms log e × ShowsRun same runs.stands.name terms (e ∷ log) (known old.logged.notes) runs.stands.scene
     legal =
-        again_events_end K V S same hash runs.stands.name terms log (known old.logged.notes) runs.stands.scene old.logged.executor runs.stands.shown.is_at runs.shows here.caller.map here.caller.number
+        again_events_end K V same (λ map. hash) runs.stands.name terms log (known old.logged.notes) runs.stands.scene (held_by old.logged.executor) runs.stands.shown.is_at.held runs.shows here.caller.map here.caller.number
         here.way.0 here.way.1 here.call (ap (λ (x : List ℕ). call_of x (moment log)) name_is ∙ here.call_is) event (subst (GoesOnBy event) (sym name_is) on) said
         (said_at said is here.call.stands (ap (λ (z : Seen). z.far) here.as_seen)) (λ ready. machine_ready ready)
         (subst (λ (x : List ℕ). AllByRecursion (λ (d : CallThere K V). is_same d.caller x ≡ true → IsSaidSo said d.stands) (moment log).calls) (sym name_is)

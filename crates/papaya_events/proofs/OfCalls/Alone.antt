@@ -14,9 +14,8 @@ use Rattle.papaya_folded.specs.Given.Schedules.Model.{sets_in}
 use Rattle.papaya_folded.specs.Given.Schedules.Terms.{Terms}
 use Rattle.papaya_folded.specs.Given.Callers.Together.{UnderWay}
 use Rattle.papaya_folded.specs.Given.Effects.Known.{known}
-use Rattle.papaya_folded.specs.Given.Executor.IsAt.{IsUsedAs, slot_of}
-use Rattle.papaya_folded.specs.Given.Executor.declared.row.SlotUse.{SlotUse}
-use Rattle.papaya_folded.specs.Given.Executor.declared.row.SlotUse.TheVariants as used
+use Rattle.papaya_folded.specs.Given.Scenes.declared.row.SlotUse.{SlotUse}
+use Rattle.papaya_folded.specs.Given.Scenes.declared.row.SlotUse.TheVariants as used
 use Rattle.papaya_folded.proofs.Given.Models.Quiet.{insides_follow}
 use Rattle.papaya_folded.specs.Given.Legal.Carried.{ComesAlone, FollowsOrRows}
 use Rattle.papaya_folded.proofs.Given.Rows.Facts.{row_rests}
@@ -27,6 +26,8 @@ use Rattle.papaya_folded.specs.Given.Named.Seen.{Seen, is_named, seen, seen_of}
 use Rattle.papaya_folded.specs.Given.Named.declared.caller.Caller.{Caller}
 use Rattle.papaya_scheduler.specs.declared.scheduler.Scheduler.{Scheduler}
 use Rattle.papaya_events.proofs.OfCalls.InRows.{insides_follow_in_rows}
+use Rattle.papaya_scheduler.specs.Given.Executor.IsThere.{IsUsedAs}
+use Rattle.papaya_folded.specs.Given.Scenes.Scene.{slot_of}
 
 both : (a b : Bool) → (a && b) ≡ true → (a ≡ true) × (b ≡ true)
 both true b is = (refl, is)
@@ -117,7 +118,7 @@ module _ {K V S : Type 0} (same : K → K → Bool) (hash : K → ℕ) (terms : 
   active_of size slot inside = by
     where
       small : terms.batch_size < 2 ^ 64
-      small = subst (λ (n : ℕ). n < 2 ^ 64) size stands.shown.is_at.small
+      small = subst (λ (n : ℕ). n < 2 ^ 64) size stands.shown.is_at.held.small
 
       by : FollowsOrRows terms log (known p.logged.notes) stands.scene.world → 1 ≤ count slot (sets_in terms.batch_size log).active
       by (inl follows) = insides_follow K V terms.batch_size terms.roots _ (sets_in terms.batch_size log) (known p.logged.notes) stands.scene.world small follows slot inside

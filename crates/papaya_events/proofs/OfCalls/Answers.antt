@@ -34,8 +34,6 @@ use Rattle.papaya_folded.specs.Given.Schedules.declared.effect.Effect.{Effect}
 use Rattle.papaya_folded.specs.Given.Schedules.Entry.{Entry}
 use Rattle.papaya_folded.specs.Given.Schedules.Moment.{UnderWay as CallThere, Moment}
 use Rattle.papaya_folded.specs.Given.Callers.Together.{UnderWay, CallOnKey, OnKey, ForRoom, Counting, OverAll}
-use Rattle.papaya_folded.specs.Given.Executor.IsAt.{Scene}
-use Rattle.papaya_folded.specs.Given.Executor.Stepping.{StepLeads}
 use Rattle.papaya_folded.specs.Given.Finishes.Machines.{machine_of}
 use Rattle.papaya_folded.specs.Given.Histories.OtherCalls.{IsOnNoKey}
 use Rattle.papaya_folded.specs.Given.Named.Seen.{kind_of, kind_on}
@@ -45,6 +43,8 @@ use Rattle.papaya_values.specs.Values.{KeepsValue}
 use Rattle.papaya_values.proofs.Values.{inserts_tell_theirs}
 use Rattle.papaya_events.specs.OfCalls.{LastStepsTell}
 use Rattle.papaya_events.proofs.OfCalls.Words.{tells_of}
+use Rattle.papaya_folded.specs.Given.Scenes.Scene.{Scene}
+use Rattle.papaya_folded.specs.Given.Scenes.Stepping.{StepLeads}
 
 -- what is stored is the reply's value, and else nothing is meant
 module _ {V : Type 0} where
@@ -289,10 +289,10 @@ on_key same name log beginning map i c done m known s (ForRoom r) midst one is =
 on_key same name log beginning map i c done m known s (Counting sum) midst one is = absurd (subst IsOnNoKey is midst.other)
 on_key same name log beginning map i c done m known s (OverAll o) midst one is = absurd (subst IsOnNoKey is midst.other)
 
-pub last_steps_tell : (K V S : Type 0) (same : K → K → Bool) (hash : K → ℕ) → LastStepsTell K V S same hash
-last_steps_tell K V S same hash name terms log event beginning map i c steps done m known s u midst old new at said leads d d_is call_so replies_so value comes keeps =
-    let words = events_have_words K V S same hash name log beginning map i c done m known s u midst.event_so old new at said leads in
-    let by = known_after (acts.Call i map) new.memory.changed known in
+pub last_steps_tell : (K V : Type 0) (same : K → K → Bool) (hash : ℕ → K → ℕ) → LastStepsTell K V same hash
+last_steps_tell K V same hash name terms log event beginning map i c steps done m known s u midst old new at said leads d d_is call_so replies_so value comes keeps =
+    let words = events_have_words K V same hash name log beginning map i c done m known s u midst.event_so old new at said leads in
+    let by = known_after (acts.Call i map) new.changed known in
     (comes_so by value c.replies c.call said words.0 words.1 tells, tells_of same log m map by value c.call said comes)
   where
     here : s.calls map i ≡ Some u
@@ -302,9 +302,9 @@ last_steps_tell K V S same hash name terms log event beginning map i c steps don
     keeps_now =
         subst (λ (x : Call K V). KeepsValue x d.replies (machine_of u) value) (sym call_so) (subst (λ (l : List (Option ℕ × Reply V)). KeepsValue c.call l (machine_of u) value) (sym replies_so) keeps)
 
-    tells : (one : OneKey K V) → c.call ≡ On one → (it : KeyAnswer) → said ≡ progress.Done (answers.Key it) → Tells (known_after (acts.Call i map) new.memory.changed known) value c.replies one it
+    tells : (one : OneKey K V) → c.call ≡ On one → (it : KeyAnswer) → said ≡ progress.Done (answers.Key it) → Tells (known_after (acts.Call i map) new.changed known) value c.replies one it
     tells (TryInsert k v) is (says.Found word) done_so =
-        inserts_tell_theirs K V S same hash name m known s old new at midst.calls.whole map i u here word (subst (λ (x : Progress (Node K V)). StepLeads same hash i x s old new) done_so leads) d d_is k v
+        inserts_tell_theirs K V same hash name m known s old new at midst.calls.whole map i u here word (subst (λ (x : Progress (Node K V)). StepLeads same hash i x s old new) done_so leads) d d_is k v
         (call_so ∙ is) value keeps_now
     tells (Compute k) is it done_so =
         let x = on_key same name log beginning map i c done m known s u midst.event_so (Compute k) is in

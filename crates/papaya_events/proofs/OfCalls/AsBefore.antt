@@ -6,7 +6,6 @@ use Rattle.papaya_folded.specs.Given.Schedules.Entry.{Entry}
 use Rattle.papaya_folded.specs.Given.Schedules.InTurn.{ComesRight}
 use Rattle.papaya_folded.specs.Given.Schedules.Terms.{Terms}
 use Rattle.papaya_folded.specs.Given.Effects.Known.{known}
-use Rattle.papaya_folded.specs.Given.Executor.IsAt.{IsAt}
 use Rattle.papaya_folded.specs.Given.Seize.World.{SlotsTaken}
 use Rattle.papaya_folded.specs.Given.Moments.Whole.{ShowsWhole}
 use Rattle.papaya_folded.specs.Given.Kept.Kept.{ShowsKept}
@@ -25,12 +24,13 @@ use Rattle.papaya_events.specs.OfCalls.{HaveShards, HaveValues, Runs, RunsOn}
 use Rattle.papaya_events.proofs.OfCalls.Scenes.{AreNamed, its_named, stands_in}
 use Rattle.papaya_events.proofs.Remaining.{counted_in}
 use Rattle.papaya_events.proofs.Reached.{reached_by}
+use Rattle.papaya_scheduler.specs.Given.Executor.IsThere.{IsThere}
 
 module _ {K V S : Type 0} (same : K → K → Bool) (hash : K → ℕ) (terms : Terms) (log : List (Entry K V)) (old new : Scheduler K V S) (runs : Runs same hash terms log old) (logged_is : new.logged ≡ old.logged)
     (calls_are : new.calls ≡ old.calls) (e : Entry K V) (nothing : e.effects ≡ []) (legal : IsLegalBut same terms log e) (run : ShowsRun same runs.stands.name terms (e ∷ log) (known old.logged.notes) runs.stands.scene)
     (said : SaidIn (moment log).calls (moment (e ∷ log)).calls) (plays : IsPlayed same hash terms (e ∷ log) new) (right : ComesRight terms log e) (no_slot : slots_on e.outcome (moment log).slots ≡ (moment log).slots) where
-  is_at : IsAt same hash new.logged.executor runs.stands.scene
-  is_at = subst (λ (l : Logged K V S). IsAt same hash l.executor runs.stands.scene) (sym logged_is) runs.stands.shown.is_at
+  is_at : IsThere same hash new.logged.executor runs.stands.scene
+  is_at = subst (λ (l : Logged K V S). IsThere same hash l.executor runs.stands.scene) (sym logged_is) runs.stands.shown.is_at
 
   left : LeftAmong new.logged.executor.roots runs.stands.scene.world runs.stands.scene.maps runs.stands.scene.makers runs.stands.scene.enders runs.stands.shown.counted.remains.lists
   left =

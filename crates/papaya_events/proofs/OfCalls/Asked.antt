@@ -5,14 +5,17 @@ use Rattle.papaya_folded.specs.Given.Seize.World.{with_at}
 use Rattle.papaya_folded.specs.Given.Sweeps.SweepPoints.{after_next}
 use Rattle.papaya_folded.specs.Given.Callers.OverAll.{CallOverAll, gone_on}
 use Rattle.papaya_folded.specs.Given.Callers.Together.{UnderWay, OverAll}
-use Rattle.papaya_folded.specs.Given.Executor.IsAt.{IsAt, KeepsGiven, Scene, slot_of}
-use Rattle.papaya_folded.specs.Given.Executor.Replying.{AskLeads, scene_with}
-use Rattle.papaya_folded.specs.Given.Executor.declared.executor.Executor.{Executor}
-use Rattle.papaya_folded.proofs.Given.Executor.Changed.{standing_is}
+use Rattle.papaya_scheduler.specs.Given.Executor.declared.executor.Executor.{Executor}
 use Rattle.papaya_folded.specs.Given.Finishes.Endings.{EndingsTogether}
 use Rattle.papaya_folded.specs.Given.Finishes.Machines.{machine_of}
 use Rattle.papaya_folded.specs.Given.Finishes.Maps.{with_call}
 use Rattle.papaya_folded.proofs.Given.Finishes.Among.Sweeps.{sweeps_told_among}
+use Rattle.papaya_folded.proofs.Given.Scenes.May.{standing_is}
+use Rattle.papaya_scheduler.specs.Given.Executor.IsThere.{IsThere, KeepsGiven, held_by}
+use Rattle.papaya_scheduler.specs.Given.Executor.Replying.{AsksThere}
+use Rattle.papaya_folded.specs.Given.Scenes.Replying.{AskLeads, scene_with}
+use Rattle.papaya_folded.specs.Given.Scenes.Scene.{Scene, slot_of}
+use Rattle.papaya_folded.proofs.Given.Logged.Held.{ask_held}
 
 -- another one with the same machine in the place of a call
 same_call : {K V : Type 0} (calls : ℕ → ℕ → Option (UnderWay K V K)) (map i : ℕ) (x y : UnderWay K V K) → machine_of x ≡ machine_of y → (n j : ℕ)
@@ -27,36 +30,38 @@ same_call {K} {V} calls map i x y alike n j = by (n == map)
     by true = in_map (j == i)
     by false = refl
 
-module _ {K V S : Type 0} (same : K → K → Bool) (hash : K → ℕ) (i : ℕ) (s : Scene K V) (old new : Executor K V S) (at : IsAt same hash old s) (given : KeepsGiven old new)
-    (leads : AskLeads same hash i true s old new) where
+module _ {K V S : Type 0} (same : K → K → Bool) (hash : K → ℕ) (i : ℕ) (s : Scene K V) (old new : Executor K V S) (at : IsThere same hash old s) (given : KeepsGiven old new)
+    (leads : AsksThere same hash i true s old new) where
   -- the sweep goes on to its next place, and all stand together
-  pub next_at : (map : ℕ) (o : CallOverAll) → s.calls map i ≡ Some (OverAll o) → IsAt same hash new (scene_with map i (OverAll (gone_on o (after_next o.sweep))) s)
+  pub next_at : (map : ℕ) (o : CallOverAll) → s.calls map i ≡ Some (OverAll o) → IsThere same hash new (scene_with map i (OverAll (gone_on o (after_next o.sweep))) s)
   next_at map o here =
-      let was = leads map (OverAll o) here in
-      let st = standing_is same hash old s at map i (OverAll o) here in
+      let was = leads.1 map (OverAll o) here in
+      let st = standing_is same (λ map. hash) (held_by old) s at.held map i (OverAll o) here in
       record {
-        memory = was.4.memory;
-        together =
-            subst (λ (batches : ℕ). EndingsTogether V same same batches new.roots slot_of s.world s.maps (with_call s.calls map i (Some (OverAll (gone_on o (after_next o.sweep))))) s.makers s.enders)
-            (sym given.1)
-            (subst (λ (roots : ℕ). EndingsTogether V same same old.batch_size roots slot_of s.world s.maps (with_call s.calls map i (Some (OverAll (gone_on o (after_next o.sweep))))) s.makers s.enders)
-            (sym given.2)
-            (sweeps_told_among V same same old.batch_size old.roots slot_of s.world s.maps s.calls s.makers s.enders at.together map st.0 st.1 i o here).next);
+        held = record {
+          memory = was.4.held.memory;
+          together =
+              subst (λ (batches : ℕ). EndingsTogether V same same batches new.roots slot_of s.world s.maps (with_call s.calls map i (Some (OverAll (gone_on o (after_next o.sweep))))) s.makers s.enders)
+              (sym given.1)
+              (subst (λ (roots : ℕ). EndingsTogether V same same old.batch_size roots slot_of s.world s.maps (with_call s.calls map i (Some (OverAll (gone_on o (after_next o.sweep))))) s.makers s.enders)
+              (sym given.2)
+              (sweeps_told_among V same same old.batch_size old.roots slot_of s.world s.maps s.calls s.makers s.enders at.held.together map st.0 st.1 i o here).next);
+          hashes = was.4.held.hashes;
+          hashes_made = was.4.held.hashes_made;
+          on_slots = was.4.held.on_slots;
+          small = was.4.held.small;
+        };
         maps = was.4.maps;
-        hashes = was.4.hashes;
         calls = λ n j. same_call s.calls map i (OverAll (gone_on o (after_next o.sweep))) was.0 (sym was.1) n j ∙ was.4.calls n j;
         makers = was.4.makers;
         enders = was.4.enders;
-        hashes_made = was.4.hashes_made;
         numbers = was.4.numbers;
         rows = was.4.rows;
-        on_slots = was.4.on_slots;
-        small = was.4.small;
         slots = was.4.slots;
         uses = was.4.uses;
       }
 
   -- so it is led there
-  abbrev pub leads_next : AskLeads same hash i true s old new
-  leads_next map (OverAll o) here = (OverAll (gone_on o (after_next o.sweep)), refl, (leads map (OverAll o) here).2, (leads map (OverAll o) here).3, next_at map o here)
-  leads_next map u here = leads map u here
+  abbrev pub leads_next : AskLeads same (λ map. hash) i true s (held_by old) (held_by new)
+  leads_next map (OverAll o) here = (OverAll (gone_on o (after_next o.sweep)), refl, (leads.1 map (OverAll o) here).2, (leads.1 map (OverAll o) here).3, (next_at map o here).held)
+  leads_next map u here = ask_held same hash s old new i true leads map u here

@@ -19,9 +19,6 @@ use Rattle.papaya_folded.specs.Given.Schedules.Terms.{Terms}
 use Rattle.papaya_folded.specs.Given.Schedules.Views.{call_of, number_of}
 use Rattle.papaya_folded.specs.Given.Callers.Together.{UnderWay}
 use Rattle.papaya_folded.specs.Given.Effects.Known.{Known, known}
-use Rattle.papaya_folded.specs.Given.Executor.Beginning.{Begins}
-use Rattle.papaya_folded.specs.Given.Executor.IsAt.{Scene, HasCall, slot_of}
-use Rattle.papaya_folded.specs.Given.Executor.Replying.{scene_with}
 use Rattle.papaya_folded.specs.Given.Finishes.Maps.{Standing}
 use Rattle.papaya_folded.specs.Given.Follows.Calling.{NoneNamed}
 use Rattle.papaya_folded.specs.Given.Histories.AsCalled.{IsBegunAs}
@@ -53,6 +50,10 @@ use Rattle.papaya_events.specs.OfCalls.{HaveShards, HaveValues, IsWorth, Runs, R
 use Rattle.papaya_events.proofs.OfCalls.Scenes.{AreNamed, stands_in}
 use Rattle.papaya_events.proofs.Remaining.{counted_in}
 use Rattle.papaya_events.proofs.Reached.{reached_by}
+use Rattle.papaya_folded.specs.Given.Scenes.Beginning.{Begins}
+use Rattle.papaya_folded.specs.Given.Scenes.Replying.{scene_with}
+use Rattle.papaya_folded.specs.Given.Scenes.Scene.{HasCall, Scene, slot_of}
+use Rattle.papaya_scheduler.specs.Given.Executor.IsThere.{held_by}
 
 -- what is under way then is a call as it was called
 module _ {K V : Type 0} (same : K → K → Bool) (st : Standing K) (i : ℕ) where
@@ -160,7 +161,7 @@ module _ {K V S : Type 0} (same : K → K → Bool) (hash : K → ℕ) (terms : 
   row_here = row_rests same hash old.logged.executor runs.stands.scene runs.stands.shown.is_at i (runs.stands.rests i none_yet)
 
   pub begins_here : Begins same st i u
-  begins_here = begins_so same st i (runs.stands.shown.is_at.together.makings.standing.fit led.number st its.2).0 call
+  begins_here = begins_so same st i (runs.stands.shown.is_at.held.together.makings.standing.fit led.number st its.2).0 call
 
   pub right_here : IsBegunRight same u call
   right_here = begun_right same st i call
@@ -235,8 +236,8 @@ module _ {K V S : Type 0} (same : K → K → Bool) (hash : K → ℕ) (terms : 
       goes_on : IsLegalBut same terms log (e own) × ShowsRun same names terms (e own ∷ log) (known old.logged.notes) then_at
       goes_on =
           subst (λ (x : List ℕ). IsLegalBut same terms log (e x) × ShowsRun same names terms (e x ∷ log) (known old.logged.notes) then_at) name_here
-          (begun_events_end K V S same hash names terms log (known old.logged.notes) runs.stands.scene old.logged.executor new.logged.executor runs.stands.shown.is_at run_named led.number i st its.2 u call
-          guard begins_here right_here free_named row_here shown_begun.is_at on its.0 0 (subst (λ (x : List ℕ). ComesRight terms log (e x)) (sym name_here) right))
+          (begun_events_end K V same (λ map. hash) names terms log (known old.logged.notes) runs.stands.scene (held_by old.logged.executor) (held_by new.logged.executor) runs.stands.shown.is_at.held run_named led.number i st its.2 u call
+          guard begins_here right_here free_named row_here shown_begun.is_at.held on its.0 0 (subst (λ (x : List ℕ). ComesRight terms log (e x)) (sym name_here) right))
 
       run_then : ShowsRun same names terms (e own ∷ log) (known new.logged.notes) then_at
       run_then = subst (λ (k : Known). ShowsRun same names terms (e own ∷ log) k then_at) (sym notes_here) goes_on.1

@@ -24,7 +24,6 @@ use Rattle.papaya_folded.specs.Given.Schedules.Terms.{Terms, shards_of}
 use Rattle.papaya_folded.specs.Given.Schedules.Views.{call_of}
 use Rattle.papaya_folded.specs.Given.Effects.Known.{Known, known}
 use Rattle.papaya_folded.specs.Given.Effects.declared.acting.Acting.TheVariants as acts
-use Rattle.papaya_folded.specs.Given.Executor.IsAt.{Scene, slot_of}
 use Rattle.papaya_folded.specs.Given.Finishes.Maps.{Standing}
 use Rattle.papaya_folded.specs.Given.Histories.InEvent.{ComesSo}
 use Rattle.papaya_folded.specs.Given.Finishes.Machines.{machine_of}
@@ -61,6 +60,8 @@ use Rattle.papaya_values.specs.Values.{KeepsValue}
 use Rattle.papaya_events.proofs.OfCalls.Words.{not_busy, shows_as_told, tells_end}
 use Rattle.papaya_events.proofs.Remaining.{counted_in}
 use Rattle.papaya_events.proofs.Reached.{reached_after}
+use Rattle.papaya_folded.specs.Given.Scenes.Scene.{Scene, slot_of}
+use Rattle.papaya_scheduler.specs.Given.Executor.IsThere.{held_by}
 
 module _ {K V S : Type 0} (same : K → K → Bool) (hash : K → ℕ) (name : ℕ → List ℕ) (terms : Terms) (log : List (Entry K V)) (event : Event K V) (beginning : Moment K V)
     (map i : ℕ) (c : CallThere K V) (place : ℕ) (c_is : call_of (name i) beginning ≡ Some c) (first : Known) (before : Scene K V) (run : ShowsRun same name terms log first before) (had : HaveCome (things_in log) (moment log))
@@ -109,8 +110,8 @@ module _ {K V S : Type 0} (same : K → K → Bool) (hash : K → ℕ) (name : �
   -- so it is where it comes to what a call does that goes on by itself
   pub tells_so : ComesAs c.call played.outcome → Tells
   tells_so comes_as =
-      let told = last_steps_tell K V S same hash name terms log event beginning map i c n mid come.now (known p.logged.notes) come.scene come.under come.midst p.logged.executor new.logged.executor
-      come.shown.is_at step.said (leads same hash name terms log event beginning map i c place n mid played.effects.items p new come its) now_there.0 now_there.1 now_there.2 now_there.3 value
+      let told = last_steps_tell K V same (λ map. hash) name terms log event beginning map i c n mid come.now (known p.logged.notes) come.scene come.under come.midst (held_by p.logged.executor) (held_by new.logged.executor)
+      come.shown.is_at.held step.said (leads same hash name terms log event beginning map i c place n mid played.effects.items p new come its) now_there.0 now_there.1 now_there.2 now_there.3 value
       (subst (ComesAs c.call) outcome_so comes_as) keeps in (
         as_said (λ (o : Outcome V). ComesSo by c.call c.replies step.said o) told.0,
         as_said (λ (o : Outcome V). TellsOf same log come.now map by step.said o c.call) told.1,
@@ -126,7 +127,7 @@ module _ {K V S : Type 0} (same : K → K → Bool) (hash : K → ℕ) (name : �
 
     swept : IsSwept same terms log e
     swept =
-        calls_are_swept K V S same hash name terms log beginning map i c n mid come.now (known p.logged.notes) come.scene come.under e come.midst p.logged.executor new.logged.executor come.shown.is_at
+        calls_are_swept K V same (λ map. hash) name terms log beginning map i c n mid come.now (known p.logged.notes) come.scene come.under e come.midst (held_by p.logged.executor) (held_by new.logged.executor) come.shown.is_at.held
         step.said (leads same hash name terms log event beginning map i c place n mid played.effects.items p new come its) begins acted
         (follows same hash name terms log event beginning map i c place n mid played.effects.items p new come its)
         (λ standing there. one_more standing
@@ -137,8 +138,8 @@ module _ {K V S : Type 0} (same : K → K → Bool) (hash : K → ℕ) (name : �
 
     goes_on : IsLegalBut same terms log e × ShowsRun same name terms (e ∷ log) by at_end
     goes_on =
-        call_events_run K V S same hash name terms log beginning map i c c_is first before run n mid come.now (known p.logged.notes) come.scene come.under e come.midst p.logged.executor new.logged.executor
-        come.shown.is_at come.size step.said (leads same hash name terms log event beginning map i c place n mid played.effects.items p new come its) begins acted
+        call_events_run K V same (λ map. hash) name terms log beginning map i c c_is first before run n mid come.now (known p.logged.notes) come.scene come.under e come.midst (held_by p.logged.executor) (held_by new.logged.executor)
+        come.shown.is_at.held come.size step.said (leads same hash name terms log event beginning map i c place n mid played.effects.items p new come its) begins acted
         (follows same hash name terms log event beginning map i c place n mid played.effects.items p new come its) steps_are tells.0 ends tells.2
         takes (not_busy played.outcome never) right finds swept refused
         (noted_so same hash name terms log event beginning map i c place n mid played.effects.items p new come its) slot active

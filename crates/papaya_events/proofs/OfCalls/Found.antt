@@ -36,6 +36,7 @@ use Rattle.papaya_scheduler.specs.declared.scheduler.Scheduler.{Scheduler}
 use Rattle.papaya_stepping.specs.Stepping.{GoneFor}
 use Rattle.papaya_stepping.proofs.AfterEffects.{calls_seen}
 use Rattle.papaya_events.proofs.OfCalls.Steps.{HasCome, IsStep, as_told, did, follows, has_come, its_here, leads, the}
+use Rattle.papaya_scheduler.specs.Given.Executor.IsThere.{held_by}
 
 module _ {K V : Type 0} (name : ℕ → List ℕ) (terms : Terms) (map i : ℕ) (c : CallThere K V) (moments : List (Moment K V)) where
   abbrev All : List Effect → Moment K V → Type 0
@@ -107,10 +108,10 @@ module _ {K V S : Type 0} (same : K → K → Bool) (hash : K → ℕ) (name : �
     step_finds here_order =
         let led = leads same hash name terms log event beginning map i c place n mid after p new come step in
         let its_mask = mask_is same hash name terms log event beginning map i c place n mid p come (led map come.under here).0 (led map come.under here).2 in
-        steps_find_all K V S same hash name come.now (known p.logged.notes) come.scene p.logged.executor new.logged.executor come.shown.is_at come.midst.calls.whole come.midst.calls.kept map i come.under
+        steps_find_all K V same (λ map. hash) name come.now (known p.logged.notes) come.scene (held_by p.logged.executor) (held_by new.logged.executor) come.shown.is_at.held come.midst.calls.whole come.midst.calls.kept map i come.under
         here step.said led terms its_mask its.0 its.1 (come.slot its.0 its.1) (moments_from c.begun log)
         (subst (λ (b : ℕ). FindRest terms (moments_from b log) (name i) map its_did come.now) same_begun
-        (steps_find_rest K V S same hash name log come.now (known p.logged.notes) come.scene p.logged.executor new.logged.executor come.shown.is_at come.midst.calls.whole come.midst.calls.kept
+        (steps_find_rest K V same (λ map. hash) name log come.now (known p.logged.notes) come.scene (held_by p.logged.executor) (held_by new.logged.executor) come.shown.is_at.held come.midst.calls.whole come.midst.calls.kept
         come.midst.calls.finding come.midst.calls.sources here_order come.midst.calls.purposes map i come.under here step.said led terms its.0 its.1 its_mask nexts
         (found_full_so name log come.now come.scene come.midst.calls.tries map i (come.midst.tables map) come.under here its.0 its.1)))
 

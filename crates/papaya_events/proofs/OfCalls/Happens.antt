@@ -2,7 +2,6 @@
 use Rattle.std.specs.Prelude.{◌≡◌, ◌⊎◌, ℕ, Bool, true, false, List, [], ◌∷◌, Result, Ok, Err, IfOk, MatchBool}
 use Rattle.std.proofs.Common.{ap, sym, subst, inl, inr, ◌∙◌}
 use Rattle.papaya_folded.specs.Given.SeizeWords.declared.fault.Fault.TheVariants.{Busy}
-use Rattle.papaya_folded.specs.Given.Executor.IsAt.{KeepsGiven}
 use Rattle.papaya_folded.specs.Given.Runs.Stopped.{most_steps}
 use Rattle.papaya_folded.specs.Given.Schedules.declared.call.Call.{Call}
 use Rattle.papaya_folded.specs.Given.Schedules.declared.call.Reply.{Reply}
@@ -28,6 +27,8 @@ use Rattle.papaya_events.specs.OfCalls.{KeepsAt, KeepsDue, Runs, RunsOn}
 use Rattle.papaya_events.proofs.OfCalls.Events.{ask_on, begin_on, begin_out, go_on, go_out, next_out, reply_out, step_on, step_out, stop_out, whole_goes_on, whole_out}
 use Rattle.papaya_events.proofs.OfCalls.Finds.{go_finds, not_busy, quiet_in_case, step_finds, whole_finds}
 use Rattle.papaya_events.proofs.OfCalls.Told.{stopped_on, told_on}
+use Rattle.papaya_scheduler.specs.Given.Executor.IsThere.{KeepsGiven}
+use Rattle.papaya_folded.proofs.Given.Scenes.Leads.{happens}
 
 -- one that is in turn comes to what it must
 in_turn_comes : {K V : Type 0} (terms : Terms) (log : List (Entry K V)) (e : Entry K V) → (moment log).is_closed ≡ false → ComesRight terms log e

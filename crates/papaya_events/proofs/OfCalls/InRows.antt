@@ -24,6 +24,7 @@ use Rattle.papaya_folded.specs.Given.Models.CallEvents.{HasToldPart}
 use Rattle.papaya_folded.specs.Given.Models.Numbers.{HasNumber}
 use Rattle.papaya_folded.proofs.Given.Models.Turns.{inside_active}
 use Rattle.papaya_events.specs.OfCalls.{InsidesFollowInRows}
+use Rattle.papaya_folded.specs.Given.Scenes.Scene.{at_first}
 
 less_inside : (u : Use) → IsInside (one_less u) → IsInside u
 less_inside Vacant h = h

@@ -34,6 +34,7 @@ use Rattle.papaya_scheduler.proofs.Rights.{quiet}
 use Rattle.papaya_events.proofs.OfCalls.Worth.{busy_says}
 use Rattle.papaya_events.specs.OfCalls.{Runs, RunsOn}
 use Rattle.papaya_events.proofs.OfCalls.AsBefore.{as_before}
+use Rattle.papaya_scheduler.specs.Given.Executor.IsThere.{held_by}
 
 -- whatever call there is, nothing is asked of it
 nothing_asked : {K V : Type 0} (o : Option (CallThere K V)) → IfCall (λ (c : CallThere K V). Unit {0}) o
@@ -65,7 +66,7 @@ module _ {K V S : Type 0} (same : K → K → Bool) (hash : K → ℕ) (terms : 
       by None is = none_there (none_of (call_of own m) (there_is same hash terms m old runs.stands own None is))
       by (Some place) is =
           let here = here_at same hash terms m old runs.stands own place is in
-          events_read_briefly K V S same hash runs.stands.name log (λ j. 0) m (known old.logged.notes) runs.stands.scene old.logged.executor runs.stands.shown.is_at runs.stands.shown.shows runs.shows.reading
+          events_read_briefly K V same (λ map. hash) runs.stands.name log (λ j. 0) m (known old.logged.notes) runs.stands.scene (held_by old.logged.executor) runs.stands.shown.is_at.held runs.stands.shown.shows runs.shows.reading
           here.caller.map here.caller.number here.way.0 here.way.1 e (of_call ∙ ap Some (sym (here.way.2 ∙ here.named))) (omega arith)
 
   module _ (reads : ReadsBriefly log e m) (no_slot : IsOfNoSlot event) (stays : worked e m ≡ m) (enters : EntersInside runs.stands.scene.world event (Refused Busy) m.there)

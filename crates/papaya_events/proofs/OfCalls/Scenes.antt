@@ -6,7 +6,6 @@ use Rattle.papaya_folded.specs.Given.Tables.declared.setting.Setting.{Setting}
 use Rattle.papaya_folded.specs.Given.Raw.declared.machines.machine.Machine.{Machine}
 use Rattle.papaya_folded.specs.Given.Schedules.Moment.{Moment}
 use Rattle.papaya_folded.specs.Given.Schedules.Terms.{Terms}
-use Rattle.papaya_folded.specs.Given.Executor.IsAt.{Scene}
 use Rattle.papaya_folded.specs.Given.Finishes.Machines.{machine_of}
 use Rattle.papaya_folded.specs.Given.Finishes.Maps.{Standing}
 use Rattle.papaya_folded.specs.Given.Logged.Shown.{IsShown}
@@ -16,6 +15,7 @@ use Rattle.papaya_folded.specs.Given.Named.declared.caller.Caller.{Caller}
 use Rattle.papaya_folded.specs.Given.Named.declared.named_map.NamedMap.{NamedMap}
 use Rattle.papaya_events.proofs.OfCalls.Worth.{all_left, all_set}
 use Rattle.papaya_scheduler.specs.declared.scheduler.Scheduler.{Scheduler}
+use Rattle.papaya_folded.specs.Given.Scenes.Scene.{Scene}
 
 -- callers have these names
 abbrev pub AreNamed : {V : Type 0} → (ℕ → List ℕ) → List (Caller V) → Type 0

@@ -26,8 +26,6 @@ use Rattle.papaya_folded.specs.Given.Callers.Together.{UnderWay, HandsOver}
 use Rattle.papaya_folded.specs.Given.Effects.Effects.{effects_of, known_after}
 use Rattle.papaya_folded.specs.Given.Effects.Known.{Known, known}
 use Rattle.papaya_folded.specs.Given.Effects.declared.acting.Acting.TheVariants as acts
-use Rattle.papaya_folded.specs.Given.Executor.IsAt.{KeepsGiven, Scene, slot_of}
-use Rattle.papaya_folded.specs.Given.Executor.Stepping.{StepLeads, has_ended, scene_after}
 use Rattle.papaya_folded.specs.Given.Finishes.Maps.{Standing, IsSameMap}
 use Rattle.papaya_folded.specs.Given.Histories.InEvent.{here_of}
 use Rattle.papaya_folded.specs.Given.Schedules.declared.effect.Thing.{Thing}
@@ -72,6 +70,9 @@ use Rattle.papaya_folded.specs.Folded.{HandInOrder}
 use Rattle.papaya_folded.proofs.Steps.{more_in_order}
 use Rattle.papaya_events.proofs.OfCalls.Scenes.{AreNamed, named_left, named_set}
 use Rattle.papaya_events.proofs.OfCalls.Words.{shows_none}
+use Rattle.papaya_scheduler.specs.Given.Executor.IsThere.{KeepsGiven, held_by}
+use Rattle.papaya_folded.specs.Given.Scenes.Scene.{Scene, slot_of}
+use Rattle.papaya_folded.specs.Given.Scenes.Stepping.{StepLeads, has_ended, scene_after}
 
 one_more : (n : ℕ) → n + 1 ≡ suc n
 one_more n = omega arith
@@ -149,7 +150,7 @@ module _ {K V S : Type 0} (same : K → K → Bool) (hash : K → ℕ) (name : �
         (subst (λ (k : ℕ). CallGoesOn same hash name come.now come.scene k step.caller.map step.said mid after p.logged new.logged) (ap (λ (x : Caller V). x.number) caller_is ∙ come.number)
         (step.leads name come.now come.scene come.shown))
 
-    abbrev pub leads : StepLeads same hash i step.said come.scene p.logged.executor new.logged.executor
+    abbrev pub leads : StepLeads same (λ map. hash) i step.said come.scene (held_by p.logged.executor) (held_by new.logged.executor)
     leads = (leads_at come.under its_here).0
 
     abbrev pub did : List Effect
@@ -159,7 +160,7 @@ module _ {K V S : Type 0} (same : K → K → Bool) (hash : K → ℕ) (name : �
     then_known = known_after (acts.Call i map) new.logged.executor.memory.changed (known p.logged.notes)
 
     abbrev pub then_scene : Scene K V
-    then_scene = let to = leads map come.under its_here in scene_after same hash come.scene p.logged.executor new.logged.executor map i to.0 come.under to.1 step.said to.4
+    then_scene = let to = leads map come.under its_here in scene_after same come.scene (held_by p.logged.executor) (held_by new.logged.executor) map i to.0 come.under to.1 step.said to.4
 
     abbrev pub then_now : Moment K V
     then_now = with_effects (Some (name i)) (Some map) did come.now
@@ -207,7 +208,7 @@ module _ {K V S : Type 0} (same : K → K → Bool) (hash : K → ℕ) (name : �
         → Happens deferred_word p.logged.executor.batch_size (Begin i request) come.scene.world begun
         → Happens deferred_word p.logged.executor.batch_size (Step i) begun (leads map come.under its_here).4.w2 → IsNoted (things_then (things_in log) mid) (known p.logged.notes) (slot_of i) request
     noted_so =
-        calls_hand_noted K V S same hash name come.now (known p.logged.notes) come.scene p.logged.executor new.logged.executor come.shown.is_at come.midst.calls.whole come.midst.calls.kept map i come.under
+        calls_hand_noted K V same (λ map. hash) name come.now (known p.logged.notes) come.scene (held_by p.logged.executor) (held_by new.logged.executor) come.shown.is_at.held come.midst.calls.whole come.midst.calls.kept map i come.under
         its_here step.said leads (things_then (things_in log) mid) come.things
 
     -- and what has come into maps by the step is among all things
@@ -260,20 +261,20 @@ module _ {K V S : Type 0} (same : K → K → Bool) (hash : K → ℕ) (name : �
     worth_then x is =
         subst (λ (call : Call K V). KeepsValue call c.replies (machine_of x) (kept_after (kind_of call) step.said step.caller.value)) there_now.2
         (subst (λ (l : List (Option ℕ × Reply V)). KeepsValue there_now.0.call l (machine_of x) (kept_after (kind_of there_now.0.call) step.said step.caller.value)) there_now.3
-        (values_go_on K V S same hash name come.now (known p.logged.notes) come.scene p.logged.executor new.logged.executor come.shown.is_at come.midst.calls.whole map i come.under its_here step.said leads
+        (values_go_on K V same (λ map. hash) name come.now (known p.logged.notes) come.scene (held_by p.logged.executor) (held_by new.logged.executor) come.shown.is_at.held come.midst.calls.whole map i come.under its_here step.said leads
         there_now.0 there_now.1 step.caller.value worth_now x is))
 
     -- and the slots are taken that were
     pub taken_then : SlotsTaken then_scene.world.memory (moment log).slots
     taken_then =
         slots_stay come.scene.world.memory then_scene.world.memory (moment log).slots
-        (call_taken same hash name come.now (known p.logged.notes) come.scene p.logged.executor new.logged.executor come.shown.is_at come.midst.calls.whole map i come.under its_here step.said leads)
+        (call_taken same (λ map. hash) name come.now (known p.logged.notes) come.scene (held_by p.logged.executor) (held_by new.logged.executor) come.shown.is_at.held come.midst.calls.whole map i come.under its_here step.said leads)
         come.taken
 
     -- and what it did with the step handed over in order
     pub hands_then : HandInOrder (Some (name i)) (Some map) (mid ++ did) beginning
     hands_then =
-        more_in_order K V S same hash name come.now (known p.logged.notes) come.scene p.logged.executor new.logged.executor come.shown.is_at come.midst.calls.whole come.midst.calls.kept map i come.under its_here
+        more_in_order K V same (λ map. hash) name come.now (known p.logged.notes) come.scene (held_by p.logged.executor) (held_by new.logged.executor) come.shown.is_at.held come.midst.calls.whole come.midst.calls.kept map i come.under its_here
         step.said leads mid beginning come.midst.worked come.hands
 
     -- where it goes on it has come one step further, if callers have their names then
@@ -312,8 +313,8 @@ module _ {K V S : Type 0} (same : K → K → Bool) (hash : K → ℕ) (name : �
         worth = worth_on;
         others = others;
         midst = subst (λ (k : Known). InCallEvent same name terms log event beginning map i c (n + 1) (mid ++ did) then_now k then_scene next.0) (sym noted_then)
-            (call_events_go_on_so K V S same hash name terms log event beginning map i c n mid come.now (known p.logged.notes) come.scene come.under come.midst p.logged.executor new.logged.executor
-            come.shown.is_at come.size step.said leads none noted_so next.0 next.1);
+            (call_events_go_on_so K V same (λ map. hash) name terms log event beginning map i c n mid come.now (known p.logged.notes) come.scene come.under come.midst (held_by p.logged.executor) (held_by new.logged.executor)
+            come.shown.is_at.held come.size step.said leads none noted_so next.0 next.1);
         taken = taken_then;
         hands = hands_then;
       })

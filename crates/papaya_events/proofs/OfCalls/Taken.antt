@@ -18,7 +18,6 @@ use Rattle.papaya_folded.specs.Given.Schedules.Terms.{Terms}
 use Rattle.papaya_folded.specs.Given.Schedules.Views.{call_of}
 use Rattle.papaya_folded.specs.Given.Callers.Together.{UnderWay}
 use Rattle.papaya_folded.specs.Given.Effects.Known.{known}
-use Rattle.papaya_folded.specs.Given.Executor.IsAt.{slot_of}
 use Rattle.papaya_folded.specs.Given.Schedules.declared.effect.Thing.{Thing}
 use Rattle.papaya_folded.specs.Given.Schedules.declared.event.Event.TheVariants.{Replied}
 use Rattle.papaya_folded.specs.Given.Schedules.declared.outcome.Outcome.{Outcome}
@@ -47,6 +46,8 @@ use Rattle.papaya_events.proofs.OfCalls.Found.{all_find, gone_find}
 use Rattle.papaya_events.proofs.OfCalls.InCase.{comes_in_case}
 use Rattle.papaya_events.proofs.OfCalls.Scenes.{its_named}
 use Rattle.papaya_events.proofs.OfCalls.Steps.{HasCome, as_told, has_come, the}
+use Rattle.papaya_folded.specs.Given.Scenes.Scene.{slot_of}
+use Rattle.papaya_scheduler.specs.Given.Executor.IsThere.{held_by}
 
 -- an event that takes steps tells no reply
 steps_tell_none : {K V : Type 0} (event : Event K V) → takes_steps event ≡ true → (outcome : Outcome V) → TellsNone event outcome
@@ -119,7 +120,7 @@ module _ {K V S : Type 0} (same : K → K → Bool) (hash : K → ℕ) (terms : 
     once = subst (λ (x : List ℕ). length (filter (is_named x) old.calls) ≤ 1) (sym name_is) (runs.stands.calls.once own);
     worth = found_has (λ (d : Caller V). IsWorth m runs.stands.scene d) (is_named own) old.calls here.caller here.found runs.values u under c (ap (λ (x : List ℕ). call_of x m) here.named ∙ here.call_is);
     others = all_so (λ (d : Caller V). IsWorth m runs.stands.scene d) (λ (d : Caller V). is_named (name i) d ≡ false → IsWorth m runs.stands.scene d) (λ d worth other. worth) old.calls runs.values;
-    midst = call_events_begin_so K V S same hash name terms log m (refl, refl) refl refl refl refl refl runs.shows.tableless (known old.logged.notes) runs.stands.scene old.logged.executor runs.stands.shown.is_at runs.shows.calls
+    midst = call_events_begin_so K V same (λ map. hash) name terms log m (refl, refl) refl refl refl refl refl runs.shows.tableless (known old.logged.notes) runs.stands.scene (held_by old.logged.executor) runs.stands.shown.is_at.held runs.shows.calls
         runs.shows.reading runs.shows.sections runs.shows.follows event map i (of_call ∙ ap Some (sym name_is)) u under c c_is
         (λ alone j goes. only_its_row same hash terms log old runs.stands event own speaks alone map i u under name_is j goes);
     taken = runs.taken;

@@ -24,8 +24,6 @@ use Rattle.papaya_folded.specs.Given.Schedules.Terms.{Terms}
 use Rattle.papaya_folded.specs.Given.Schedules.Views.{call_of}
 use Rattle.papaya_folded.specs.Given.Callers.Together.{UnderWay}
 use Rattle.papaya_folded.specs.Given.Effects.Known.{Known, known}
-use Rattle.papaya_folded.specs.Given.Executor.IsAt.{Scene, IsAt, KeepsGiven}
-use Rattle.papaya_folded.specs.Given.Executor.Replying.{ReplyLeads, StopLeads, scene_with, unless_stopped}
 use Rattle.papaya_folded.specs.Given.Finishes.Machines.{machine_of}
 use Rattle.papaya_folded.specs.Given.Finishes.Maps.{Standing, with_call as with_call_of}
 use Rattle.papaya_folded.specs.Given.Follows.Calling.{NoneNamed}
@@ -62,6 +60,11 @@ use Rattle.papaya_events.specs.OfCalls.{HaveValues, IsWorth, Runs, RunsOn}
 use Rattle.papaya_events.proofs.OfCalls.Scenes.{AreNamed, its_named, named_left, named_set, stands_in}
 use Rattle.papaya_events.proofs.Remaining.{counted_in}
 use Rattle.papaya_events.proofs.Reached.{reached_by}
+use Rattle.papaya_scheduler.specs.Given.Executor.IsThere.{IsThere, KeepsGiven, held_by}
+use Rattle.papaya_scheduler.specs.Given.Executor.Replying.{RepliesThere, StopsThere}
+use Rattle.papaya_folded.specs.Given.Scenes.Replying.{scene_with, unless_stopped}
+use Rattle.papaya_folded.specs.Given.Scenes.Scene.{Scene}
+use Rattle.papaya_folded.proofs.Given.Logged.Held.{stop_held}
 
 -- a call takes a reply of its kind
 taken_by : {K V : Type 0} (one : OneKey K V) (reply : Reply V) → fits (kind_on one) reply ≡ true → IsTaken one reply
@@ -101,7 +104,7 @@ module _ {K V S : Type 0} (same : K → K → Bool) (hash : K → ℕ) (terms : 
   name = runs.stands.name
 
   -- the run goes on in a scene with the same maps
-  module _ (e : Entry K V) (nothing : e.effects ≡ []) (t : Scene K V) (run : ShowsRun same name terms (e ∷ log) (known old.logged.notes) t) (legal : IsLegalBut same terms log e) (is_at : IsAt same hash new.logged.executor t) (maps : t.maps ≡ s.maps)
+  module _ (e : Entry K V) (nothing : e.effects ≡ []) (t : Scene K V) (run : ShowsRun same name terms (e ∷ log) (known old.logged.notes) t) (legal : IsLegalBut same terms log e) (is_at : IsThere same hash new.logged.executor t) (maps : t.maps ≡ s.maps)
       (left : LeftAmong new.logged.executor.roots t.world t.maps t.makers t.enders runs.stands.shown.counted.remains.lists) (notes : new.logged.notes ≡ old.logged.notes) (on_size : new.logged.executor.batch_size ≡ old.logged.executor.batch_size) (named : AreNamed name new.calls)
       (values : HaveValues (moment (e ∷ log)) t new.calls) (plays : IsPlayed same hash terms (e ∷ log) new) (right : ComesRight terms log e) (memory : t.world.memory ≡ s.world.memory) (no_slot : slots_on e.outcome m.slots ≡ m.slots) where
     run_then : ShowsRun same name terms (e ∷ log) (known new.logged.notes) t
@@ -158,17 +161,17 @@ module _ {K V S : Type 0} (same : K → K → Bool) (hash : K → ℕ) (terms : 
     asking : here.call.stands ≡ Asking question.0
     asking = far_asks here.call.stands question.0 (ap (λ (z : Seen). z.far) here.as_seen ∙ question.1)
 
-    leads : ReplyLeads same hash d.number (as_told reply) has.result s old.logged.executor new.logged.executor
+    leads : RepliesThere same hash d.number (as_told reply) has.result s old.logged.executor new.logged.executor
     leads =
-        subst (λ (t : MachineReply V). ReplyLeads same hash d.number t has.result s old.logged.executor new.logged.executor) has.is_told
-        (subst (λ (x : Caller V). ReplyLeads same hash x.number has.as_it has.result s old.logged.executor new.logged.executor)
+        subst (λ (t : MachineReply V). RepliesThere same hash d.number t has.result s old.logged.executor new.logged.executor) has.is_told
+        (subst (λ (x : Caller V). RepliesThere same hash x.number has.as_it has.result s old.logged.executor new.logged.executor)
         (read_here same hash terms m old runs.stands own has.place here has.whose has.reads_whose) (has.leads s runs.stands.shown.is_at))
 
     abbrev t : Scene K V
-    t = scene_with d.map d.number (leads d.map u here.way.1).1 s
+    t = scene_with d.map d.number (leads.1 d.map u here.way.1).1 s
 
     takes_ok : (machine_replied (machine_of u) (as_told reply)).1 ≡ Ok tt
-    takes_ok = sym (leads d.map u here.way.1).4 ∙ plain_ok has.result has.plain
+    takes_ok = sym (leads.1 d.map u here.way.1).4 ∙ plain_ok has.result has.plain
 
     taken : (one : OneKey K V) → here.call.call ≡ On one → IsTaken one reply
     taken one is = taken_by one reply (sym (ap (λ (k : Kind). fits k reply) (sym (ap (λ (z : Seen). z.kind) here.as_seen) ∙ ap kind_of is)) ∙ parts.1)
@@ -191,13 +194,13 @@ module _ {K V S : Type 0} (same : K → K → Bool) (hash : K → ℕ) (terms : 
     -- and the caller keeps the value with which it was told to abort
     own_worth : IsWorth (moment (e own ∷ log)) t told_caller
     own_worth x there c is =
-        elim (which s.calls d.map d.number (Some (leads d.map u here.way.1).1) d.map d.number x there) as (λ _. KeepsValue c.call c.replies (machine_of x) has.value) [
+        elim (which s.calls d.map d.number (Some (leads.1 d.map u here.way.1).1) d.map d.number x there) as (λ _. KeepsValue c.call c.replies (machine_of x) has.value) [
           | inl at ↦ subst (λ (y : CallThere K V). KeepsValue y.call y.replies (machine_of x) has.value) (the_one _ c (sym call_then ∙ ap (λ (l : List ℕ). call_of l (moment (e own ∷ log))) (sym here.named) ∙ is))
-              (subst (λ (y : UnderWay K V K). KeepsValue here.call.call ((question.0, reply) ∷ here.call.replies) (machine_of y) has.value) (the_one (leads d.map u here.way.1).1 x at.2)
-              (subst (λ (y : Machine K V K). KeepsValue here.call.call ((question.0, reply) ∷ here.call.replies) y has.value) (sym (leads d.map u here.way.1).3)
+              (subst (λ (y : UnderWay K V K). KeepsValue here.call.call ((question.0, reply) ∷ here.call.replies) (machine_of y) has.value) (the_one (leads.1 d.map u here.way.1).1 x at.2)
+              (subst (λ (y : Machine K V K). KeepsValue here.call.call ((question.0, reply) ∷ here.call.replies) y has.value) (sym (leads.1 d.map u here.way.1).3)
               (subst (λ (v : Option V). KeepsValue here.call.call ((question.0, reply) ∷ here.call.replies) (machine_replied (machine_of u) (as_told reply)).0 v) (sym has.value_is)
-              (values_taken K V S same hash name m (known old.logged.notes) s old.logged.executor runs.stands.shown.is_at runs.stands.shown.shows d.map d.number u here.way.1 (leads d.map u here.way.1).0
-              (leads d.map u here.way.1).2 here.call (ap (λ (l : List ℕ). call_of l m) name_is ∙ here.call_is) question.0 asking reply takes_ok d.value
+              (values_taken K V same (λ map. hash) name m (known old.logged.notes) s (held_by old.logged.executor) runs.stands.shown.is_at.held runs.stands.shown.shows d.map d.number u here.way.1 (leads.1 d.map u here.way.1).0
+              (leads.1 d.map u here.way.1).2 here.call (ap (λ (l : List ℕ). call_of l m) name_is ∙ here.call_is) question.0 asking reply takes_ok d.value
               (found_has (λ (z : Caller V). IsWorth m s z) (is_named own) old.calls d here.found runs.values u here.way.1 here.call (ap (λ (l : List ℕ). call_of l m) here.named ∙ here.call_is))))))
           | inr apart ↦ absurd (apart.0 refl refl)
         ]
@@ -206,7 +209,7 @@ module _ {K V S : Type 0} (same : K → K → Bool) (hash : K → ℕ) (terms : 
     other_worth : (z : Caller V) → is_named own z ≡ false → (name z.number ≡ z.name) × IsWorth m s z → IsWorth (moment (e own ∷ log)) t z
     other_worth z other (named, worth) x there c is =
         worth x
-        (elim (which s.calls d.map d.number (Some (leads d.map u here.way.1).1) z.map z.number x there) as (λ _. s.calls z.map z.number ≡ Some x) [
+        (elim (which s.calls d.map d.number (Some (leads.1 d.map u here.way.1).1) z.map z.number x there) as (λ _. s.calls z.map z.number ≡ Some x) [
           | inl at ↦ absurd (let yes = ap (λ (l : List ℕ). is_same l own) (sym named ∙ ap name at.1 ∙ name_is) ∙ is_same_refl own in cc (other, yes))
           | inr apart ↦ apart.1
         ]) c (sym (found_unchanged own z.name other (λ (y : CallThere K V). replied reply y y.stands) (λ (y : CallThere K V). replied_name reply y y.stands) m.calls) ∙ is)
@@ -224,10 +227,10 @@ module _ {K V S : Type 0} (same : K → K → Bool) (hash : K → ℕ) (terms : 
 
     pub told_on : ComesRight terms log (e own) → IsPlayed same hash terms (e own ∷ log) new → RunsOn same hash terms log (e own) new
     told_on right plays =
-        let led = leads d.map u here.way.1 in
+        let led = leads.1 d.map u here.way.1 in
         let on = subst (λ (x : List ℕ). IsLegalBut same terms log (e x) × ShowsRun same name terms (e x ∷ log) (known old.logged.notes) t) name_is
-        (told_events_end K V S same hash name terms log (known old.logged.notes) s old.logged.executor new.logged.executor runs.stands.shown.is_at runs.shows d.map d.number u here.way.1 here.call
-        (ap (λ (x : List ℕ). call_of x m) name_is ∙ here.call_is) question.0 asking led.0 led.2 reply led.1 led.3 takes_ok led.5 taken led.7 0
+        (told_events_end K V same (λ map. hash) name terms log (known old.logged.notes) s (held_by old.logged.executor) (held_by new.logged.executor) runs.stands.shown.is_at.held runs.shows d.map d.number u here.way.1 here.call
+        (ap (λ (x : List ℕ). call_of x m) name_is ∙ here.call_is) question.0 asking led.0 led.2 reply led.1 led.3 takes_ok led.5 taken led.7.held 0
         (subst (λ (x : List ℕ). ComesRight terms log (e x)) (sym name_is) right)) in
         then_on (e own) refl t on.1 on.0 led.7 refl (behind given) has.notes given.1
         (subst (AreNamed name) (sym (has.calls d here.at)) (named_set name old.calls has.place (record d { stands = far.Goes; value = has.value }) here.way.2 (its_named same hash terms m old runs.stands))) values_told plays right refl refl
@@ -249,16 +252,16 @@ module _ {K V S : Type 0} (same : K → K → Bool) (hash : K → ℕ) (terms : 
     far_is : its.stands ≡ far.Ready
     far_is = shows_is its.stands (sym (ap is_ready_there there.at) ∙ placed.1)
 
-    led : StopLeads same hash its.number has.stopped s old.logged.executor new.logged.executor
-    led = subst (λ (x : Caller V). StopLeads same hash x.number has.stopped s old.logged.executor new.logged.executor)
+    led : StopsThere same hash its.number has.stopped s old.logged.executor new.logged.executor
+    led = subst (λ (x : Caller V). StopsThere same hash x.number has.stopped s old.logged.executor new.logged.executor)
         (read_here same hash terms m old runs.stands own has.place there has.whose has.reads) (has.leads s runs.stands.shown.is_at)
 
     is_stopped : has.stopped ≡ true
-    is_stopped = (led its.map there.way.0 there.way.1).0
+    is_stopped = (led.1 its.map there.way.0 there.way.1).0
         ∙ asked_ready its.kind (machine_of there.way.0) (subst (λ (x : HowFar). IsAsFar its.kind x (machine_of there.way.0)) far_is there.way.4.0)
 
-    led_so : StopLeads same hash its.number true s old.logged.executor new.logged.executor
-    led_so = subst (λ (q : Bool). StopLeads same hash its.number q s old.logged.executor new.logged.executor) is_stopped led
+    led_so : StopsThere same hash its.number true s old.logged.executor new.logged.executor
+    led_so = subst (λ (q : Bool). StopsThere same hash its.number q s old.logged.executor new.logged.executor) is_stopped led
 
     abbrev after : Scene K V
     after = record s { calls = with_call_of s.calls its.map its.number (unless_stopped true there.way.0) }
@@ -293,7 +296,7 @@ module _ {K V S : Type 0} (same : K → K → Bool) (hash : K → ℕ) (terms : 
     pub stopped_on : ComesRight terms log (f own) → IsPlayed same hash terms (f own ∷ log) new → RunsOn same hash terms log (f own) new
     stopped_on right plays =
         let on = subst (λ (x : List ℕ). IsLegalBut same terms log (f x) × ShowsRun same name terms (f x ∷ log) (known old.logged.notes) after) named_so
-        (stopped_events_end K V S same hash name terms log (known old.logged.notes) s old.logged.executor new.logged.executor runs.stands.shown.is_at runs.shows its.number led_so its.map there.way.0
+        (stopped_events_end K V same (λ map. hash) name terms log (known old.logged.notes) s (held_by old.logged.executor) (held_by new.logged.executor) runs.stands.shown.is_at.held runs.shows its.number (stop_held same hash s old.logged.executor new.logged.executor its.number true led_so) its.map there.way.0
         there.way.1 0 none_named (subst (λ (x : List ℕ). ComesRight terms log (f x)) (sym named_so) right)) in
-        then_on (f own) refl after on.1 on.0 (led_so its.map there.way.0 there.way.1).2 refl (behind given) has.notes given.1
+        then_on (f own) refl after on.1 on.0 (led_so.1 its.map there.way.0 there.way.1).2 refl (behind given) has.notes given.1
         (subst (AreNamed name) (sym has.calls) (named_left name old.calls has.place (its_named same hash terms m old runs.stands))) values_stopped plays right refl refl

@@ -30,9 +30,6 @@ use Rattle.papaya_folded.specs.Given.Schedules.Views.{call_of, finite_map}
 use Rattle.papaya_folded.specs.Given.Callers.OverAll.{CallOverAll, gone_on}
 use Rattle.papaya_folded.specs.Given.Callers.Together.{UnderWay, OnKey, ForRoom, Counting, OverAll}
 use Rattle.papaya_folded.specs.Given.Effects.Known.{Known, known}
-use Rattle.papaya_folded.specs.Given.Executor.IsAt.{Scene}
-use Rattle.papaya_folded.specs.Given.Executor.Replying.{AskLeads, scene_with}
-use Rattle.papaya_folded.proofs.Given.Executor.Changed.{standing_is}
 use Rattle.papaya_folded.specs.Given.Finishes.Machines.{machine_of}
 use Rattle.papaya_folded.specs.Given.Moments.Whole.{ShowsWhole}
 use Rattle.papaya_folded.specs.Given.Histories.Answers.{NamesPair}
@@ -78,6 +75,11 @@ use Rattle.papaya_events.proofs.OfCalls.Ends as ends
 use Rattle.papaya_events.proofs.OfCalls.Scenes.{AreNamed, its_named}
 use Rattle.papaya_events.proofs.OfCalls.Steps.{HasCome, IsStep, as_told, did, follows, has_walked_on, its_here, leads, the}
 use Rattle.papaya_events.proofs.OfCalls.Taken as taken
+use Rattle.papaya_folded.proofs.Given.Scenes.May.{standing_is}
+use Rattle.papaya_scheduler.specs.Given.Executor.Replying.{AsksThere}
+use Rattle.papaya_folded.specs.Given.Scenes.Replying.{scene_with}
+use Rattle.papaya_folded.specs.Given.Scenes.Scene.{Scene}
+use Rattle.papaya_scheduler.specs.Given.Executor.IsThere.{held_by}
 
 -- a word of a pair names the one of its number
 named_so : (by : Known) (word : ℕ) → (n : ℕ) × NamesPair by word n → NamesPair by word (number_by by word)
@@ -179,23 +181,23 @@ module _ {K V S : Type 0} (same : K → K → Bool) (hash : K → ℕ) (terms : 
 
   is_walk : c.call ≡ Walk
   is_walk =
-      let st = standing_is same hash old.logged.executor s runs.stands.shown.is_at map i (OverAll o) here_o in
+      let st = standing_is same (λ map. hash) (held_by old.logged.executor) s runs.stands.shown.is_at.held map i (OverAll o) here_o in
       let ready = subst (λ (v : UnderWay K V K). IsAsFar d.kind far.Ready (machine_of v)) sweep_is.1 as_ready in
       for_walk o c.call (runs.shows.calls.purposes.is_for map i (OverAll o) here_o c c_is)
-      (walks_at same s map i st.0 (runs.stands.shown.is_at.together.makings.standing.each map st.0 st.1) o here_o ready.1)
+      (walks_at same s map i st.0 (runs.stands.shown.is_at.held.together.makings.standing.each map st.0 st.1) o here_o ready.1)
 
   -- so it was asked, and goes on to its next place
   caller_is : walked.caller ≡ d
   caller_is = the walked.caller d (sym walked.at ∙ here.at)
 
-  asked_so : AskLeads same hash i walked.ready s old.logged.executor walked.asked.executor
-  asked_so = subst (λ (x : Caller V). AskLeads same hash x.number walked.ready s old.logged.executor walked.asked.executor) caller_is (walked.leads s runs.stands.shown.is_at)
+  asked_so : AsksThere same hash i walked.ready s old.logged.executor walked.asked.executor
+  asked_so = subst (λ (x : Caller V). AsksThere same hash x.number walked.ready s old.logged.executor walked.asked.executor) caller_is (walked.leads s runs.stands.shown.is_at)
 
   is_ready : walked.ready ≡ true
-  is_ready = (asked_so map u under).2 ∙ asked_ready d.kind (machine_of u) as_ready
+  is_ready = (asked_so.1 map u under).2 ∙ asked_ready d.kind (machine_of u) as_ready
 
-  was_asked : AskLeads same hash i true s old.logged.executor walked.asked.executor
-  was_asked = subst (λ (q : Bool). AskLeads same hash i q s old.logged.executor walked.asked.executor) is_ready asked_so
+  was_asked : AsksThere same hash i true s old.logged.executor walked.asked.executor
+  was_asked = subst (λ (q : Bool). AsksThere same hash i q s old.logged.executor walked.asked.executor) is_ready asked_so
 
   abbrev next : UnderWay K V K
   next = OverAll (gone_on o (after_next o.sweep))
@@ -207,7 +209,7 @@ module _ {K V S : Type 0} (same : K → K → Bool) (hash : K → ℕ) (terms : 
   midst =
       subst (λ (x : List ℕ). InCallEvent same name terms log (Next x) m map i c 0 [] m (known old.logged.notes) then_at next)
       (taken.name_is same hash terms log old runs event own refl refl place parts.0)
-      (nexts_begin K V S same hash name terms log (known old.logged.notes) s old.logged.executor walked.asked.executor runs.stands.shown.is_at runs.shows i
+      (nexts_begin K V same (λ map. hash) name terms log (known old.logged.notes) s (held_by old.logged.executor) (held_by walked.asked.executor) runs.stands.shown.is_at.held runs.shows i
       (leads_next same hash i s old.logged.executor walked.asked.executor runs.stands.shown.is_at walked.given was_asked) map o here_o refl c c_is
       (λ alone j goes. only_its_row same hash terms log old runs.stands (Next (name i)) (name i) refl alone map i u under refl j goes))
 
@@ -293,7 +295,7 @@ module _ {K V S : Type 0} (same : K → K → Bool) (hash : K → ℕ) (terms : 
   says : SaysAsWalk then_known walked.last.said
   says =
       let there = there_still same name log m map i c walked.mid come.now (known walked.led.logged.notes) come.scene come.under come.midst.event_so in
-      walks_have_words K V S same hash name log come.now (known walked.led.logged.notes) come.scene walked.led.logged.executor new.logged.executor come.shown.is_at come.midst.calls.whole
+      walks_have_words K V same (λ map. hash) name log come.now (known walked.led.logged.notes) come.scene (held_by walked.led.logged.executor) (held_by new.logged.executor) come.shown.is_at.held come.midst.calls.whole
       come.midst.calls.purposes map i come.under (its_here same hash name terms log event m map i c place walked.steps walked.mid played.effects.items walked.led new come step) walked.last.said
       (leads same hash name terms log event m map i c place walked.steps walked.mid played.effects.items walked.led new come step) there.0 there.1 (there.2.call ∙ is_walk)
 

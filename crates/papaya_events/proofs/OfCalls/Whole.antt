@@ -22,7 +22,6 @@ use Rattle.papaya_folded.specs.Given.Schedules.Moment.{UnderWay as CallThere, Mo
 use Rattle.papaya_folded.specs.Given.Schedules.Terms.{Terms}
 use Rattle.papaya_folded.specs.Given.Schedules.Views.{call_of, number_of}
 use Rattle.papaya_folded.specs.Given.Effects.Known.{Known, known}
-use Rattle.papaya_folded.specs.Given.Executor.IsAt.{slot_of}
 use Rattle.papaya_folded.specs.Given.Schedules.declared.effect.Thing.{Thing}
 use Rattle.papaya_folded.specs.Given.Runs.Same.{is_same}
 use Rattle.papaya_folded.specs.Given.Finds.Within.{AllIsInOrder}
@@ -53,6 +52,8 @@ use Rattle.papaya_events.proofs.OfCalls.InCase.{comes_in_case}
 use Rattle.papaya_events.proofs.OfCalls.Scenes.{stands_in}
 use Rattle.papaya_events.proofs.OfCalls.Steps.{HasCome, as_told, has_come, the}
 use Rattle.papaya_events.proofs.OfCalls.Words.{not_busy}
+use Rattle.papaya_folded.specs.Given.Scenes.Scene.{slot_of}
+use Rattle.papaya_scheduler.specs.Given.Executor.IsThere.{held_by}
 
 module _ {K V S : Type 0} (same : K → K → Bool) (hash : K → ℕ) (terms : Terms) (log : List (Entry K V)) (old : Scheduler K V S) (runs : Runs same hash terms log old)
     (guard on : List ℕ) (call : Call K V) (mid : Scheduler K V S) (led : HasBegun same hash nameless guard on call old mid)
@@ -94,12 +95,12 @@ module _ {K V S : Type 0} (same : K → K → Bool) (hash : K → ℕ) (terms : 
       × InCallEvent same names terms log event m1 map i c 0 [] m1 (known old.logged.notes) (begun.then_at same hash terms log old runs nameless guard on call mid led)
       (begun.u same hash terms log old runs nameless guard on call mid led)
   whole =
-      whole_calls_begin K V S same hash names terms log (known old.logged.notes) runs.stands.scene old.logged.executor mid.logged.executor runs.stands.shown.is_at
+      whole_calls_begin K V same (λ map. hash) names terms log (known old.logged.notes) runs.stands.scene (held_by old.logged.executor) (held_by mid.logged.executor) runs.stands.shown.is_at.held
       (begun.run_named same hash terms log old runs nameless guard on call mid led) map i (begun.st same hash terms log old runs nameless guard on call mid led)
       (begun.its same hash terms log old runs nameless guard on call mid led).2 (begun.u same hash terms log old runs nameless guard on call mid led) call guard
       (begun.begins_here same hash terms log old runs nameless guard on call mid led) (begun.right_here same hash terms log old runs nameless guard on call mid led)
       (begun.free_named same hash terms log old runs nameless guard on call mid led) (begun.row_here same hash terms log old runs nameless guard on call mid led)
-      (begun.shown_begun same hash terms log old runs nameless guard on call mid led).is_at name_is on no_rows
+      (begun.shown_begun same hash terms log old runs nameless guard on call mid led).is_at.held name_is on no_rows
 
   pub c_is : call_of (names i) m1 ≡ Some c
   c_is = whole.0

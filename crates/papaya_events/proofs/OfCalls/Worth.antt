@@ -19,7 +19,6 @@ use Rattle.papaya_folded.specs.Given.Schedules.Effects.{call_by, due_for, with_e
 use Rattle.papaya_folded.specs.Given.Schedules.Entry.{Entry, acted_on, caller_of, ends_call}
 use Rattle.papaya_folded.specs.Given.Schedules.Moment.{Asking, Moment, Stands, UnderWay as CallThere}
 use Rattle.papaya_folded.specs.Given.Callers.Together.{UnderWay}
-use Rattle.papaya_folded.specs.Given.Executor.IsAt.{Scene}
 use Rattle.papaya_folded.specs.Given.Finishes.Machines.{machine_of}
 use Rattle.papaya_folded.proofs.Given.Follows.Calling.{apart_back, is_same_is}
 use Rattle.papaya_folded.specs.Given.Named.Seen.{is_named}
@@ -29,6 +28,7 @@ use Rattle.papaya_scheduler.proofs.Rights.{quiet}
 use Rattle.papaya_values.specs.Values.{KeepsValue}
 use Rattle.papaya_events.specs.Asked.{is_of_calls}
 use Rattle.papaya_events.specs.OfCalls.{HaveValues, IsWorth}
+use Rattle.papaya_folded.specs.Given.Scenes.Scene.{Scene}
 
 module _ {X : Type 0} where
   -- of those that are left it is so,

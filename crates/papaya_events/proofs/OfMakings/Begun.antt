@@ -6,19 +6,19 @@ use Rattle.papaya_folded.specs.Given.Seize.declared.progress.Progress.{Progress}
 use Rattle.papaya_folded.specs.Given.Seize.World.{with_at}
 use Rattle.papaya_folded.specs.Given.Tables.declared.resize_mode.ResizeMode.{ResizeMode}
 use Rattle.papaya_folded.specs.Given.Tables.declared.setting.Setting.{Setting}
-use Rattle.papaya_folded.specs.Given.Executor.IsAt.{Scene}
 use Rattle.papaya_folded.specs.Given.Finishes.Makings.{Beginning}
 use Rattle.papaya_folded.specs.Given.Schedules.After.{moment}
 use Rattle.papaya_folded.specs.Given.Schedules.Entry.{Entry}
 use Rattle.papaya_folded.specs.Given.Schedules.Terms.{Terms}
-use Rattle.papaya_folded.specs.Given.Executor.MakingBegins.{next_making}
-use Rattle.papaya_folded.proofs.Given.Executor.Fresh.{no_making_yet}
 use Rattle.papaya_folded.specs.Given.Logged.Shown.{IsShown}
 use Rattle.papaya_scheduler.specs.Works.{MakingHasRun}
 use Rattle.papaya_scheduler.specs.declared.played.Played.{Played}
 use Rattle.papaya_scheduler.specs.declared.scheduler.Scheduler.{Scheduler}
 use Rattle.papaya_events.specs.Asked.{Holds}
 use Rattle.papaya_events.specs.OfCalls.{Runs}
+use Rattle.papaya_scheduler.proofs.Given.Executor.Fresh.{no_making_yet}
+use Rattle.papaya_scheduler.specs.Given.Executor.MakingBegins.{next_making}
+use Rattle.papaya_folded.specs.Given.Scenes.Scene.{Scene}
 
 module _ {K V S : Type 0} {same : K → K → Bool} {hash : K → ℕ} {terms : Terms} {log : List (Entry K V)} {own : List ℕ} {mode : ResizeMode} {capacity : ℕ} {told : Progress Setting} {played : Played V}
     {old new : Scheduler K V S} (run : Runs same hash terms log old) (holds : Holds same hash terms (moment log) old) (d : MakingHasRun played old new own mode capacity told) where

@@ -26,9 +26,7 @@ use Rattle.papaya_folded.specs.Given.Schedules.Views.{map_at}
 use Rattle.papaya_folded.specs.Given.Effects.Effects.{effects_of, known_after}
 use Rattle.papaya_folded.specs.Given.Effects.Known.{Known, known}
 use Rattle.papaya_folded.specs.Given.Effects.declared.acting.Acting.TheVariants as acts
-use Rattle.papaya_folded.specs.Given.Executor.IsAt.{Scene, IsAt, slot_of}
-use Rattle.papaya_folded.specs.Given.Executor.Making.{MakingLeads}
-use Rattle.papaya_folded.specs.Given.Executor.declared.executor.Executor.{Executor}
+use Rattle.papaya_scheduler.specs.Given.Executor.declared.executor.Executor.{Executor}
 use Rattle.papaya_folded.specs.Given.Finishes.Makings.{Beginning, IsMade}
 use Rattle.papaya_folded.specs.Given.Finishes.Maps.{Standing}
 use Rattle.papaya_folded.specs.Given.Follows.Shows.{Shows}
@@ -52,27 +50,27 @@ use Rattle.papaya_folded.specs.Given.Logged.Makings.{is_over}
 use Rattle.papaya_folded.specs.Given.Logged.Shown.{IsCounted}
 use Rattle.papaya_folded.proofs.Given.Logged.Counted.{counted_making_steps}
 use Rattle.papaya_folded.proofs.Given.Logged.LeftNoted.{makings_note_left}
+use Rattle.papaya_folded.proofs.Given.Logged.MakingSteps.{is_there}
+use Rattle.papaya_folded.proofs.Given.Logged.Held.{making_held, maps_below}
 use Rattle.papaya_folded.specs.Given.Named.Places.{first_places}
 use Rattle.papaya_works.proofs.Makings.{makings_do_theirs, makings_find_theirs}
 use Rattle.papaya_works.proofs.TablesMade.{makings_count_tables}
 use Rattle.papaya_events.proofs.OfRows.Chain.{come_as, come_by}
+use Rattle.papaya_scheduler.specs.Given.Executor.IsThere.{IsThere, held_by}
+use Rattle.papaya_scheduler.specs.Given.Executor.Making.{MakesThere}
+use Rattle.papaya_folded.specs.Given.Scenes.Scene.{Scene, slot_of}
+use Rattle.papaya_folded.specs.Given.Scenes.Held.{Held, IsAt}
+use Rattle.papaya_folded.specs.Given.Scenes.Making.{MakingLeads}
 
 -- By what a step of a making told: it goes on as another machine, of the same map.
-module _ {K V S : Type 0} (same : K → K → Bool) (hash : K → ℕ) (s : Scene K V) (old new : Executor K V S) (i : ℕ) (b : Beginning K) (here : s.makers i ≡ Some b) where
+module _ {K V : Type 0} (same : K → K → Bool) (hash : ℕ → K → ℕ) (s : Scene K V) (old new : Held K V) (i : ℕ) (b : Beginning K) (here : s.makers i ≡ Some b) where
   abbrev Leads : Progress Setting → Type 0
   Leads said = MakingLeads same hash i said s old new
 
   abbrev next_scene : (said : Progress Setting) → Leads said → Scene K V
   next_scene said leads = making_after same hash s old new i b (leads b here).0 (leads b here).2.step.w2 said (leads b here).3
 
-  -- the executor is there,
-  pub is_there : (said : Progress Setting) (leads : Leads said) → IsAt same hash new (next_scene said leads)
-  is_there progress.Goes leads = (leads b here).3
-  is_there progress.Waits leads = absurd (leads b here).3
-  is_there (progress.Done setting) leads = (leads b here).3.2
-  is_there (progress.Refused fault) leads = (leads b here).3
-
-  -- and until the last step the making is under way, and the map is as new
+  -- until the last step the making is under way, and the map is as new
   pub making_on : (said : Progress Setting) (leads : Leads said) → is_over said ≡ false → (next_scene said leads).makers i ≡ Some (record b { machine = (leads b here).0 })
   making_on progress.Goes leads more = at_same s.makers i (Some (record b { machine = (leads b here).0 })) i refl
   making_on progress.Waits leads more = absurd (leads b here).3
@@ -92,8 +90,8 @@ module _ {K V S : Type 0} (same : K → K → Bool) (hash : K → ℕ) (s : Scen
   calls_still (progress.Refused fault) leads = refl
 
   new_still : (name : ℕ → List ℕ) (m : Moment K V) (k : Known) → IsAt same hash old s → Shows same name m k s → (of : Option ℕ) (setting : Setting) (said : Progress Setting) → Leads said → is_over said ≡ false
-      → IsNew b.map setting m → IsNew b.map setting (with_effects None of (effects_of (acts.Making b.map) k new.memory.changed) m)
-  new_still name m k at shows of setting progress.Goes leads more is_new = new_maps_stay K V S same hash name m k s old new at shows i leads b here of setting is_new
+      → IsNew b.map setting m → IsNew b.map setting (with_effects None of (effects_of (acts.Making b.map) k new.changed) m)
+  new_still name m k at shows of setting progress.Goes leads more is_new = new_maps_stay K V same hash name m k s old new at shows i leads b here of setting is_new
   new_still name m k at shows of setting progress.Waits leads more is_new = absurd (leads b here).3
   new_still name m k at shows of setting (progress.Done answer) leads more is_new = absurd (cc more)
   new_still name m k at shows of setting (progress.Refused fault) leads more is_new = absurd (cc more)
@@ -158,29 +156,32 @@ module _ {K V : Type 0} (b : Beginning K) (began : Moment K V) (there : MapThere
 
 module _ {K V S : Type 0} (same : K → K → Bool) (hash : K → ℕ) (terms : Terms) (name : ℕ → List ℕ) (log : List (Entry K V)) (own : List ℕ) (mode : ResizeMode) (capacity i : ℕ) (b : Beginning K) (began : Moment K V) where
   -- So many steps of the making have led to where the run is: the executor is there in the scene, and the event is in its midst; what it did are effects of a making.
-  pub record MakingComes (n : ℕ) (x : Come K V S) (f : Far K V S) : Type 0 where
+  pub record MakingComes (n : ℕ) (x : Come K V) (f : Far K V S) : Type 0 where
     pub now : Moment K V
     pub scene : Scene K V
-    pub chain : Chain (MakingSteps same hash terms i b.map) n x (come_by f now scene)
-    pub is_at : IsAt same hash f.logged.executor scene
+    pub chain : Chain (MakingSteps same (λ map. hash) terms i b.map) n x (come_by f now scene)
+    pub is_at : IsThere same hash f.logged.executor scene
     pub size : f.logged.executor.batch_size ≡ terms.batch_size
     pub midst : InMakingEvent same name terms log (MakeMap own mode capacity) b.map began f.effects now (known f.logged.notes) scene
     pub calls : scene.calls ≡ x.scene.calls
     pub counted : IsCounted now f.logged scene
     pub firsts : list_all is_first_making f.effects ≡ true
 
-  module _ (n : ℕ) (x : Come K V S) (mid to : Far K V S) (y : MakingComes n x mid) (stood : ℕ → Option (Standing K)) (it : IsUnder i b stood y.scene) (step : MakingGoes i b.map mid to) where
+  module _ (n : ℕ) (x : Come K V) (mid to : Far K V S) (y : MakingComes n x mid) (stood : ℕ → Option (Standing K)) (it : IsUnder i b stood y.scene) (step : MakingGoes i b.map mid to) where
     abbrev d : Beginning K
     d = record b { machine = it.0 }
 
-    abbrev leads : MakingLeads same hash i step.said y.scene mid.logged.executor to.logged.executor
-    leads = step.leads same hash y.scene y.is_at
+    abbrev went : MakesThere same hash i step.said y.scene mid.logged.executor to.logged.executor
+    went = step.leads same hash y.scene y.is_at
+
+    abbrev leads : MakingLeads same (λ map. hash) i step.said y.scene (held_by mid.logged.executor) (held_by to.logged.executor)
+    leads = making_held same hash y.scene mid.logged.executor to.logged.executor i step.said went
 
     abbrev step_did : List Effect
     step_did = effects_of (acts.Making b.map) (known mid.logged.notes) to.logged.executor.memory.changed
 
     abbrev next : Scene K V
-    next = next_scene same hash y.scene mid.logged.executor to.logged.executor i d it.1 step.said leads
+    next = next_scene same (λ map. hash) y.scene (held_by mid.logged.executor) (held_by to.logged.executor) i d it.1 step.said leads
 
     abbrev w : Moment K V
     w = with_effects None (Some b.map) step_did y.now
@@ -188,20 +189,20 @@ module _ {K V S : Type 0} (same : K → K → Bool) (hash : K → ℕ) (terms : 
     -- what the step did are effects of a making
     pub step_firsts : list_all is_first_making step_did ≡ true
     step_firsts =
-        makings_do_theirs K V S same hash name y.now (known mid.logged.notes) y.scene mid.logged.executor to.logged.executor y.is_at y.midst.0.calls.whole.all.shown i step.said leads d it.1
+        makings_do_theirs K V same (λ map. hash) name y.now (known mid.logged.notes) y.scene (held_by mid.logged.executor) (held_by to.logged.executor) y.is_at.held y.midst.0.calls.whole.all.shown i step.said leads d it.1
         (y.midst.0.calls.whole.counters i d it.1)
 
     abbrev pub making_under : is_over step.said ≡ false → IsUnder i b stood next
     making_under more = (
       (leads d it.1).0,
-      making_on same hash y.scene mid.logged.executor to.logged.executor i d it.1 step.said leads more,
-      unmade_maps same hash y.scene mid.logged.executor to.logged.executor y.is_at i d it.1 step.said leads (none_made step.said more) ∙ it.2,
+      making_on same (λ map. hash) y.scene (held_by mid.logged.executor) (held_by to.logged.executor) i d it.1 step.said leads more,
+      unmade_maps same (λ map. hash) y.scene (held_by mid.logged.executor) (held_by to.logged.executor) y.is_at.held i d it.1 step.said leads (none_made step.said more) ∙ it.2,
     )
 
     -- of each map that stands once it was made the count falls into as many shards as before, and of the new one as it was to begin
     pub masks : (setting : Setting) → step.said ≡ progress.Done setting → (k : ℕ)
         → (next.maps k ≡ stood k) ⊎ ((standing : Standing K) × (next.maps k ≡ Some standing) × (standing.setting.mask ≡ b.given.mask))
-    masks setting is k = by (made_maps same hash y.scene mid.logged.executor to.logged.executor i d it.1 step.said leads setting is k)
+    masks setting is k = by (made_maps same (λ map. hash) y.scene (held_by mid.logged.executor) (held_by to.logged.executor) i d it.1 step.said leads setting is k)
       where
         by : ((k ≢ b.map) × (next.maps k ≡ y.scene.maps k)) ⊎ ((standing : Standing K) × (next.maps k ≡ Some standing) × (standing.setting.mask ≡ b.given.mask))
             → (next.maps k ≡ stood k) ⊎ ((standing : Standing K) × (next.maps k ≡ Some standing) × (standing.setting.mask ≡ b.given.mask))
@@ -210,9 +211,9 @@ module _ {K V S : Type 0} (same : K → K → Bool) (hash : K → ℕ) (terms : 
 
     -- it comes on, if it finds its map there, or just asks for blocks
     module _ (was_new : WasNew b.map step.said y.now) (finds : FindsItsMap b step.said (effects_of (acts.Making b.map) (known mid.logged.notes) to.logged.executor.memory.changed) y.now) where
-      pub one : MakingSteps same hash terms i b.map (come_by mid y.now y.scene) (come_by to w next)
+      pub one : MakingSteps same (λ map. hash) terms i b.map (come_by mid y.now y.scene) (come_by to w next)
       one = record {
-        is_at = y.is_at;
+        is_at = y.is_at.held;
         size = y.size;
         said = step.said;
         leads = leads;
@@ -226,25 +227,25 @@ module _ {K V S : Type 0} (same : K → K → Bool) (hash : K → ℕ) (terms : 
       }
 
       pub next_midst : InMakingEvent same name terms log (MakeMap own mode capacity) b.map began to.effects w (known to.logged.notes) next
-      next_midst = makings_chain K V S same hash name terms log (MakeMap own mode capacity) i b.map began 1 (come_by mid y.now y.scene) (come_by to w next) (come_by mid y.now y.scene, refl, one) y.midst
+      next_midst = makings_chain K V same (λ map. hash) name terms log (MakeMap own mode capacity) i b.map began 1 (come_by mid y.now y.scene) (come_by to w next) (come_by mid y.now y.scene, refl, one) y.midst
 
       abbrev pub making_comes_on : MakingComes (suc n) x to
       making_comes_on = record {
         now = w;
         scene = next;
         chain = (come_by mid y.now y.scene, y.chain, one);
-        is_at = is_there same hash y.scene mid.logged.executor to.logged.executor i d it.1 step.said leads;
+        is_at = is_there same hash mid.logged.executor to.logged.executor y.scene i step.said went d it.1;
         size = step.is_noted.given.1 ∙ y.size;
         midst = next_midst;
-        calls = calls_still same hash y.scene mid.logged.executor to.logged.executor i d it.1 step.said leads ∙ y.calls;
-        counted = counted_making_steps same hash mid.logged to.logged.executor to.logged.notes step.is_noted.given y.now y.scene y.is_at y.counted i step.said leads d it.1 (Some b.map) step.is_noted.noted
-            (makings_note_left same hash name y.now (known mid.logged.notes) y.scene mid.logged.executor to.logged.executor y.is_at y.midst.0.calls.whole i step.said leads d it.1 (Some b.map) was_new next.world);
+        calls = calls_still same (λ map. hash) y.scene (held_by mid.logged.executor) (held_by to.logged.executor) i d it.1 step.said leads ∙ y.calls;
+        counted = counted_making_steps same (λ map. hash) mid.logged to.logged.executor to.logged.notes step.is_noted.given y.now y.scene y.is_at.held (maps_below same hash mid.logged.executor y.scene y.is_at) y.counted i step.said leads d it.1 (Some b.map) step.is_noted.noted
+            (makings_note_left same (λ map. hash) name y.now (known mid.logged.notes) y.scene (held_by mid.logged.executor) (held_by to.logged.executor) y.is_at.held y.midst.0.calls.whole i step.said leads d it.1 (Some b.map) was_new next.world);
         firsts = ap (list_all is_first_making) step.is_noted.did ∙ list_all-append is_first_making mid.effects step_did ∙ ap (λ (q : Bool). q && list_all is_first_making step_did) y.firsts ∙ step_firsts;
       }
 
   -- The map is there, and is to be made so.
   module _ (there : MapThere) (faultless : map_fault there.mode there.capacity ≡ None) (places_are : b.places ≡ first_places there.capacity) (below : b.map < began.made) where
-    module _ (n : ℕ) (x : Come K V S) (mid to : Far K V S) (y : MakingComes n x mid) (stood : ℕ → Option (Standing K)) (it : IsUnder i b stood y.scene) (step : MakingGoes i b.map mid to)
+    module _ (n : ℕ) (x : Come K V) (mid to : Far K V S) (y : MakingComes n x mid) (stood : ℕ → Option (Standing K)) (it : IsUnder i b stood y.scene) (step : MakingGoes i b.map mid to)
         (was_new : WasNew b.map step.said y.now) (setting : Setting) (is_new : IsNew b.map setting y.now) (so : HasFound b began there mid.effects y.now y.scene) where
       abbrev pub comes_on : MakingComes (suc n) x to
       comes_on = making_comes_on n x mid to y stood it step was_new (inl (subst (λ (q : ℕ). b.map < q) (sym so.made) below, so.made_for))
@@ -255,7 +256,7 @@ module _ {K V S : Type 0} (same : K → K → Bool) (hash : K → ℕ) (terms : 
       abbrev its : Beginning K
       its = d n x mid to y stood it step
 
-      abbrev goes : MakingLeads same hash i step.said y.scene mid.logged.executor to.logged.executor
+      abbrev goes : MakingLeads same (λ map. hash) i step.said y.scene (held_by mid.logged.executor) (held_by to.logged.executor)
       goes = leads n x mid to y stood it step
 
       shown_then : Shows same name comes_on.now (known_after (acts.Making b.map) to.logged.executor.memory.changed (known mid.logged.notes)) comes_on.scene
@@ -263,7 +264,7 @@ module _ {K V S : Type 0} (same : K → K → Bool) (hash : K → ℕ) (terms : 
 
       step_found : AtEachEffect (EventFinds (Some b.map) false) None (Some b.map) did_now y.now
       step_found =
-          makings_find_theirs K V S same hash name y.now (known mid.logged.notes) y.scene mid.logged.executor to.logged.executor y.is_at y.midst.0.calls.whole.all.shown y.midst.0.calls.kept.tables
+          makings_find_theirs K V same (λ map. hash) name y.now (known mid.logged.notes) y.scene (held_by mid.logged.executor) (held_by to.logged.executor) y.is_at.held y.midst.0.calls.whole.all.shown y.midst.0.calls.kept.tables
           so.openings i step.said goes its it.1 (y.midst.0.calls.whole.counters i its it.1) (Some b.map) there so.there_is is_new.no_tables faultless places_are shown_then
 
       all_found : AtEachEffect (EventFinds (Some b.map) false) None (Some b.map) to.effects began
@@ -277,7 +278,7 @@ module _ {K V S : Type 0} (same : K → K → Bool) (hash : K → ℕ) (terms : 
         made = made_stays None (Some b.map) did_now y.now ∙ so.made;
         made_for = made_still y.now comes_on.now b.map b.given (effects_keep_capacities K V None (Some b.map) did_now y.now b.map) so.made_for;
         found = all_found;
-        openings = makings_go_on K V S same hash y.scene mid.logged.executor to.logged.executor so.openings i step.said goes its it.1;
+        openings = makings_go_on K V same (λ map. hash) y.scene (held_by mid.logged.executor) (held_by to.logged.executor) so.openings i step.said goes its it.1;
         there_is = ap (λ (fs : List MapThere). find (λ (f : MapThere). f.number == b.map) fs) (maps_as_before (Some b.map) did_now y.now (step_firsts n x mid to y stood it step)) ∙ so.there_is;
       }
 
@@ -285,26 +286,26 @@ module _ {K V S : Type 0} (same : K → K → Bool) (hash : K → ℕ) (terms : 
       pub counts_on : CountsTables b.map mid.effects y.now (table_left it.0 progress.Goes) → CountsTables b.map to.effects comes_on.now (table_left (goes its it.1).0 step.said)
       counts_on counts =
           subst (λ (fs : List Effect). CountsTables b.map fs comes_on.now (table_left (goes its it.1).0 step.said)) (sym step.is_noted.did)
-          (makings_count_tables K V S same hash name y.now (known mid.logged.notes) y.scene mid.logged.executor to.logged.executor y.is_at y.midst.0.calls.whole.all.shown y.midst.0.calls.kept.tables
+          (makings_count_tables K V same (λ map. hash) name y.now (known mid.logged.notes) y.scene (held_by mid.logged.executor) (held_by to.logged.executor) y.is_at.held y.midst.0.calls.whole.all.shown y.midst.0.calls.kept.tables
           i step.said goes its it.1 (y.midst.0.calls.whole.counters i its it.1) (Some b.map) mid.effects counts shown_then)
 
       counts_still : is_over step.said ≡ false → CountsTables b.map mid.effects y.now (table_left it.0 progress.Goes) → CountsTables b.map to.effects comes_on.now (table_left (goes its it.1).0 progress.Goes)
       counts_still more counts =
           subst (λ (said : Progress Setting). CountsTables b.map to.effects comes_on.now (table_left (goes its it.1).0 said))
-          (just_goes same hash y.scene mid.logged.executor to.logged.executor i its it.1 step.said goes more) (counts_on counts)
+          (just_goes same (λ map. hash) y.scene (held_by mid.logged.executor) (held_by to.logged.executor) i its it.1 step.said goes more) (counts_on counts)
 
       new_on : is_over step.said ≡ false → IsNew b.map setting comes_on.now
       new_on more =
-          new_still same hash y.scene mid.logged.executor to.logged.executor i its it.1 name y.now (known mid.logged.notes) y.is_at y.midst.0.calls.whole.all.shown (Some b.map) setting step.said goes more is_new
+          new_still same (λ map. hash) y.scene (held_by mid.logged.executor) (held_by to.logged.executor) i its it.1 name y.now (known mid.logged.notes) y.is_at.held y.midst.0.calls.whole.all.shown (Some b.map) setting step.said goes more is_new
 
     module _ (setting : Setting) (stood : ℕ → Option (Standing K)) where
       -- It is on its way, the map is as new, and its tables are those that were made.
-      abbrev pub Midway : ℕ → Come K V S → Far K V S → Type 0
+      abbrev pub Midway : ℕ → Come K V → Far K V S → Type 0
       Midway n x f =
           (y : MakingComes n x f) × (z : IsUnder i b stood y.scene) × IsNew b.map setting y.now × HasFound b began there f.effects y.now y.scene
           × CountsTables b.map f.effects y.now (table_left z.0 progress.Goes)
 
-      pub makings_come : (n : ℕ) (x : Come K V S) (from to : Far K V S) → GoesFor (MakingOn i b.map) n from to → Midway 0 x from → Midway n x to
+      pub makings_come : (n : ℕ) (x : Come K V) (from to : Far K V S) → GoesFor (MakingOn i b.map) n from to → Midway 0 x from → Midway n x to
       makings_come zero x from to is at = subst (Midway 0 x) is at
       makings_come (suc n) x from to (mid, went, on) at =
           let z = makings_come n x from mid went at in

@@ -10,9 +10,7 @@ use Rattle.papaya_folded.specs.Given.Tables.declared.resize_mode.ResizeMode.{Res
 use Rattle.papaya_folded.specs.Given.Tables.declared.setting.Setting.{Setting}
 use Rattle.papaya_folded.proofs.Given.Callers.Together.At.{at_same}
 use Rattle.papaya_folded.proofs.Given.Spots.Unreclaimed.{and_both}
-use Rattle.papaya_folded.specs.Given.Executor.IsAt.{Scene, IsAt}
-use Rattle.papaya_folded.specs.Given.Executor.Making.{MakingLeads}
-use Rattle.papaya_folded.specs.Given.Executor.declared.executor.Executor.{Executor}
+use Rattle.papaya_scheduler.specs.Given.Executor.declared.executor.Executor.{Executor}
 use Rattle.papaya_folded.specs.Given.Finishes.Makings.{Beginning}
 use Rattle.papaya_folded.specs.Given.Finishes.Maps.{Standing}
 use Rattle.papaya_folded.specs.Given.Others.Makings.{WasNew}
@@ -61,6 +59,10 @@ use Rattle.papaya_events.proofs.OfMakings.Chain.{IsUnder, MakingComes, just_goes
 use Rattle.papaya_events.proofs.OfRows.Chain.{come_by}
 use Rattle.papaya_events.proofs.OfRows.Lone.{alone_follows}
 use Rattle.papaya_events.proofs.OfRows.Over.{over_runs}
+use Rattle.papaya_scheduler.specs.Given.Executor.IsThere.{IsThere, held_by}
+use Rattle.papaya_folded.specs.Given.Scenes.Scene.{Scene}
+use Rattle.papaya_folded.proofs.Given.Logged.Held.{making_held}
+use Rattle.papaya_folded.specs.Given.Scenes.Making.{MakingLeads}
 
 -- where all that was asked for were growths, so were those before, and those that follow
 asked_before : (xs ys zs : List Effect) → zs ≡ xs ++ ys → list_all is_growth zs ≡ true → (list_all is_growth xs ≡ true) × (list_all is_growth ys ≡ true)
@@ -69,15 +71,15 @@ asked_before xs ys zs is all = and_both (list_all is_growth xs) (list_all is_gro
 -- Its steps, at the moment itself.
 module _ {K V S : Type 0} (same : K → K → Bool) (hash : K → ℕ) (terms : Terms) (name : ℕ → List ℕ) (log : List (Entry K V)) (own : List ℕ) (mode : ResizeMode) (capacity i : ℕ) (b : Beginning K)
     (stood : ℕ → Option (Standing K)) where
-  abbrev Comes : ℕ → Come K V S → Far K V S → Type 0
+  abbrev Comes : ℕ → Come K V → Far K V S → Type 0
   Comes n x f = MakingComes same hash terms name log own mode capacity i b (moment log) n x f
 
   -- it is on its way, and may be refused for want of memory alone if it has done anything
-  abbrev Midway : ℕ → Come K V S → Far K V S → Type 0
+  abbrev Midway : ℕ → Come K V → Far K V S → Type 0
   Midway n x f =
       (y : MakingComes same hash terms name log own mode capacity i b (moment log) n x f) × (z : IsUnder i b stood y.scene) × (y.now ≡ moment log) × MayBeRefused f.effects z.0.stands
 
-  module _ (n : ℕ) (x : Come K V S) (mid to : Far K V S) (z : Midway n x mid) (step : MakingGoes i b.map mid to) (was_new : WasNew b.map step.said z.0.now) (none : HasNotMade step.said)
+  module _ (n : ℕ) (x : Come K V) (mid to : Far K V S) (z : Midway n x mid) (step : MakingGoes i b.map mid to) (was_new : WasNew b.map step.said z.0.now) (none : HasNotMade step.said)
       (asks : list_all is_growth to.effects ≡ true) where
     abbrev did : List Effect
     did = effects_of (acts.Making b.map) (known mid.logged.notes) to.logged.executor.memory.changed
@@ -91,26 +93,26 @@ module _ {K V S : Type 0} (same : K → K → Bool) (hash : K → ℕ) (terms : 
     still_there : refused_on.now ≡ moment log
     still_there = growths_leave (Some b.map) did z.0.now did_ask ∙ z.2
 
-  module _ (few : max b.places 8 ≤ 2 ^ 48) (n : ℕ) (x : Come K V S) (mid to : Far K V S) (z : Midway n x mid) (step : MakingGoes i b.map mid to) where
+  module _ (few : max b.places 8 ≤ 2 ^ 48) (n : ℕ) (x : Come K V) (mid to : Far K V S) (z : Midway n x mid) (step : MakingGoes i b.map mid to) where
     abbrev d : Beginning K
     d = record b { machine = z.1.0 }
 
-    abbrev goes : MakingLeads same hash i step.said z.0.scene mid.logged.executor to.logged.executor
-    goes = step.leads same hash z.0.scene z.0.is_at
+    abbrev goes : MakingLeads same (λ map. hash) i step.said z.0.scene (held_by mid.logged.executor) (held_by to.logged.executor)
+    goes = making_held same hash z.0.scene mid.logged.executor to.logged.executor i step.said (step.leads same hash z.0.scene z.0.is_at)
 
     -- by what a step of it told
     refused_by : IsRefusedSo to.effects ((goes d z.1.1).0, step.said)
     refused_by =
         subst (λ (fs : List Effect). IsRefusedSo fs ((goes d z.1.1).0, step.said)) (sym step.is_noted.did)
         (refused_so b.map (known mid.logged.notes) mid.effects mid.logged.executor.memory.memory to.logged.executor.memory.memory to.logged.executor.memory.changed z.1.0
-        (subst (λ (k : ℕ). max k 8 ≤ 2 ^ 48) (sym (z.0.is_at.together.makings.facts i d z.1.1).len_is) few) z.3 ((goes d z.1.1).0, step.said) (goes d z.1.1).1)
+        (subst (λ (k : ℕ). max k 8 ≤ 2 ^ 48) (sym (z.0.is_at.held.together.makings.facts i d z.1.1).len_is) few) z.3 ((goes d z.1.1).0, step.said) (goes d z.1.1).1)
 
     may_still : is_over step.said ≡ false → MayBeRefused to.effects (goes d z.1.1).0.stands
     may_still more =
         subst (λ (said : Progress Setting). IsRefusedSo to.effects ((goes d z.1.1).0, said))
-        (just_goes same hash z.0.scene mid.logged.executor to.logged.executor i d z.1.1 step.said goes more) refused_by
+        (just_goes same (λ map. hash) z.0.scene (held_by mid.logged.executor) (held_by to.logged.executor) i d z.1.1 step.said goes more) refused_by
 
-  refused_come : max b.places 8 ≤ 2 ^ 48 → (n : ℕ) (x : Come K V S) (from to : Far K V S) → GoesFor (MakingOn i b.map) n from to → list_all is_growth to.effects ≡ true → Midway 0 x from → Midway n x to
+  refused_come : max b.places 8 ≤ 2 ^ 48 → (n : ℕ) (x : Come K V) (from to : Far K V S) → GoesFor (MakingOn i b.map) n from to → list_all is_growth to.effects ≡ true → Midway 0 x from → Midway n x to
   refused_come few zero x from to is asks at = subst (Midway 0 x) is at
   refused_come few (suc n) x from to (mid, went, on) asks at =
       let before = effects_of (acts.Making b.map) (known mid.logged.notes) to.logged.executor.memory.changed in
@@ -150,7 +152,7 @@ module _ {K V S : Type 0} (same : K → K → Bool) (hash : K → ℕ) (terms : 
   abbrev s1 : Scene K V
   s1 = begun_in run holds d
 
-  at1 : IsAt same hash d.began.executor s1
+  at1 : IsThere same hash d.began.executor s1
   at1 = (begun_shown run holds d).is_at
 
   begins : MakingIsBegun same hash name m s d.given d.places i old.logged d.began
@@ -177,10 +179,10 @@ module _ {K V S : Type 0} (same : K → K → Bool) (hash : K → ℕ) (terms : 
   midst : InMakingEvent same name terms log (MakeMap own mode capacity) b.map m [] m (known d.began.notes) s1
   midst =
       subst (λ (k : Known). InMakingEvent same name terms log (MakeMap own mode capacity) b.map m [] m k s1) (sym (ap known d.noted))
-      (refused_begins K V S same hash name terms log (known old.logged.notes) s old.logged.executor d.began.executor run.stands.shown.is_at run.shows own mode capacity there refl i b (none_begun run holds d)
-      holds.counts.next (λ made. absurd made) (alone_follows same hash terms log old run (MakeMap own mode capacity) refl) at1)
+      (refused_begins K V same (λ map. hash) name terms log (known old.logged.notes) s (held_by old.logged.executor) (held_by d.began.executor) run.stands.shown.is_at.held run.shows own mode capacity there refl i b (none_begun run holds d)
+      holds.counts.next (λ made. absurd made) (alone_follows same hash terms log old run (MakeMap own mode capacity) refl) at1.held)
 
-  abbrev x : Come K V S
+  abbrev x : Come K V
   x = come_by (far [] d.began) m s1
 
   first : Midway same hash terms name log own mode capacity i b s.maps 0 x (far [] d.began)
@@ -237,15 +239,19 @@ module _ {K V S : Type 0} (same : K → K → Bool) (hash : K → ℕ) (terms : 
   here = record { maker = (z.1.0, z.1.1); makers = λ j ne. refl; maps = refl; calls = refl; enders = refl; rows = refl; uses = refl }
 
   came : MakingCame z.0.scene y.scene i its last.said
-  came = came_on z.0.scene i its same hash prev.logged.executor mid.executor z.0.scene here last.said (last.leads same hash z.0.scene z.0.is_at)
+  came =
+      came_on z.0.scene i its z.0.scene here same (λ map. hash) (held_by prev.logged.executor) (held_by mid.executor) last.said
+      (making_held same hash z.0.scene prev.logged.executor mid.executor i last.said (last.leads same hash z.0.scene z.0.is_at))
 
-  at_end : IsAt same hash new.logged.executor y.scene
+  at_end : IsThere same hash new.logged.executor y.scene
   at_end =
       at_given same hash b.map i z.0.scene y.scene prev.logged.executor z.0.is_at its z.1.1 refl mid.executor new.logged.executor d.gone.6 y.is_at last.said came
       (d.gone.7 ∙ ap (λ (t : Progress Setting). given_back b.map t mid.executor.maps.items) (sym d.gone.4))
 
   maps_are : y.scene.maps ≡ s.maps
-  maps_are = unmade_maps same hash z.0.scene prev.logged.executor mid.executor z.0.is_at i its z.1.1 last.said (last.leads same hash z.0.scene z.0.is_at) none ∙ z.1.2
+  maps_are =
+      unmade_maps same (λ map. hash) z.0.scene (held_by prev.logged.executor) (held_by mid.executor) z.0.is_at.held i its z.1.1 last.said
+      (making_held same hash z.0.scene prev.logged.executor mid.executor i last.said (last.leads same hash z.0.scene z.0.is_at)) none ∙ z.1.2
 
   shards : HaveShards terms new.logged.executor
   shards n setting is =
@@ -258,13 +264,13 @@ module _ {K V S : Type 0} (same : K → K → Bool) (hash : K → ℕ) (terms : 
 
   taken : SlotsTaken y.scene.world.memory (moment (e ∷ log)).slots
   taken =
-      slots_stay s1.world.memory y.scene.world.memory m.slots (makings_taken same hash terms i b.map (suc d.gone.1.0) x (come_by (far effects mid) y.now y.scene) y.chain) run.taken
+      slots_stay s1.world.memory y.scene.world.memory m.slots (makings_taken same (λ map. hash) terms i b.map (suc d.gone.1.0) x (come_by (far effects mid) y.now y.scene) y.chain) run.taken
 
   -- no bucket of slots is forgotten
   grows : (known old.logged.notes).buckets ≤ (known new.logged.notes).buckets
   grows =
       subst (λ (n : Notes). (known old.logged.notes).buckets ≤ (known n).buckets) (sym d.gone.5)
-      (makings_note_more same hash terms (known old.logged.notes) i b.map (suc d.gone.1.0) x (come_by (far effects mid) y.now y.scene) y.chain
+      (makings_note_more same (λ map. hash) terms (known old.logged.notes) i b.map (suc d.gone.1.0) x (come_by (far effects mid) y.now y.scene) y.chain
       (subst (λ (k : Known). (known old.logged.notes).buckets ≤ k.buckets) (sym (ap known d.noted)) (omega arith)))
 
   -- it did nothing, unless it was refused memory
@@ -275,7 +281,7 @@ module _ {K V S : Type 0} (same : K → K → Bool) (hash : K → ℕ) (terms : 
 
   ends : ComesRight terms log e → IsLegalBut same terms log e × ShowsRun same name terms (e ∷ log) (known mid.notes) y.scene
   ends right =
-      refused_ends K V S same name terms log (known old.logged.notes) (known mid.notes) s y.scene own mode capacity fault played.steps b.map effects
+      refused_ends K V same name terms log (known old.logged.notes) (known mid.notes) s y.scene own mode capacity fault played.steps b.map effects
       (subst (λ (v : Moment K V). InMakingEvent same name terms log (MakeMap own mode capacity) b.map m effects v (known mid.notes) y.scene) still y.midst) asks or_nothing y.firsts never run.shows right
 
   pub refused_runs : IsPlayed same hash terms (e ∷ log) new → ComesRight terms log e → RunsOn same hash terms log e new

@@ -21,15 +21,12 @@ use Rattle.papaya_folded.specs.Given.Schedules.Beginning.{begun}
 use Rattle.papaya_folded.specs.Given.Schedules.Entry.{Entry, is_busy}
 use Rattle.papaya_folded.specs.Given.Schedules.Moment.{Moment}
 use Rattle.papaya_folded.specs.Given.Schedules.Terms.{Terms}
-use Rattle.papaya_folded.specs.Given.Executor.IsAt.{IsUsedAs, use_at, work_of}
-use Rattle.papaya_folded.specs.Given.Executor.OnSlots.{MayBegin}
-use Rattle.papaya_folded.specs.Given.Executor.Rows.{request_of}
-use Rattle.papaya_folded.specs.Given.Executor.declared.row.RowTold.{RowTold}
-use Rattle.papaya_folded.specs.Given.Executor.declared.row.RowTold.TheVariants as told
-use Rattle.papaya_folded.specs.Given.Executor.declared.row.SlotCall.{SlotCall}
-use Rattle.papaya_folded.specs.Given.Executor.declared.row.SlotCall.TheVariants as call
-use Rattle.papaya_folded.specs.Given.Executor.declared.row.SlotUse.{SlotUse}
-use Rattle.papaya_folded.specs.Given.Executor.declared.row.SlotUse.TheVariants as used
+use Rattle.papaya_folded.specs.Given.Scenes.declared.row.RowTold.{RowTold}
+use Rattle.papaya_folded.specs.Given.Scenes.declared.row.RowTold.TheVariants as told
+use Rattle.papaya_folded.specs.Given.Scenes.declared.row.SlotCall.{SlotCall}
+use Rattle.papaya_folded.specs.Given.Scenes.declared.row.SlotCall.TheVariants as call
+use Rattle.papaya_folded.specs.Given.Scenes.declared.row.SlotUse.{SlotUse}
+use Rattle.papaya_folded.specs.Given.Scenes.declared.row.SlotUse.TheVariants as used
 use Rattle.papaya_folded.specs.Given.Promises.Others.{NobodyOn, SparesGuards}
 use Rattle.papaya_folded.specs.Given.Promises.Protected.{EndsInside, there_in}
 use Rattle.papaya_folded.proofs.Given.Promises.Guards.{only_guards_leave_nobody}
@@ -51,6 +48,9 @@ use Rattle.papaya_scheduler.proofs.Refreshes as refreshes_so
 use Rattle.papaya_scheduler.proofs.SlotTaken.{first_vacant, led_taking, over_taking, use_still, use_with, used_so, which}
 use Rattle.papaya_scheduler.proofs.Unregisters as unregisters_so
 use Rattle.papaya_scheduler.proofs.Vacancies.{first_is}
+use Rattle.papaya_scheduler.specs.Given.Executor.IsThere.{IsUsedAs, use_at, work_of}
+use Rattle.papaya_scheduler.specs.Given.Executor.OnSlots.{MayBegin}
+use Rattle.papaya_folded.specs.Given.Scenes.Rows.{request_of}
 
 -- by how a slot is used it is within a section, or not
 pub inside_by : (kind : SlotUse) (v : Use) → IsUsedAs kind v → kind ≡ used.Inside → IsInside v

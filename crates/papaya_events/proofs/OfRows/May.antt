@@ -12,8 +12,8 @@ use Rattle.papaya_folded.specs.Given.Schedules.After.{moment}
 use Rattle.papaya_folded.specs.Given.Schedules.Entry.{Entry}
 use Rattle.papaya_folded.specs.Given.Schedules.Handing.{is_only, is_reclaiming, may_do}
 use Rattle.papaya_folded.specs.Given.Schedules.Terms.{Terms}
-use Rattle.papaya_folded.specs.Given.Executor.declared.row.SlotCall.{SlotCall}
-use Rattle.papaya_folded.specs.Given.Executor.declared.row.SlotCall.TheVariants as call
+use Rattle.papaya_folded.specs.Given.Scenes.declared.row.SlotCall.{SlotCall}
+use Rattle.papaya_folded.specs.Given.Scenes.declared.row.SlotCall.TheVariants as call
 use Rattle.papaya_folded.proofs.Given.Rows.There.{is_inside, on_its_slot}
 use Rattle.papaya_scheduler.specs.Played.{StandsFor}
 use Rattle.papaya_scheduler.specs.Works.{IsAbout, IsItsRow}

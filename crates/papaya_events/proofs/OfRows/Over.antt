@@ -2,7 +2,6 @@
 use Rattle.std.specs.Prelude.{◌≡◌, ◌≤◌, ℕ, Bool, false, List, ◌∷◌, None}
 use Rattle.std.proofs.Common.{refl, sym, subst}
 use Rattle.papaya_folded.specs.Given.Seize.World.{SlotsTaken}
-use Rattle.papaya_folded.specs.Given.Executor.IsAt.{Scene, IsAt}
 use Rattle.papaya_folded.specs.Given.Schedules.declared.event.Event.{Event}
 use Rattle.papaya_folded.specs.Given.Schedules.declared.event.Event.TheVariants.{Go, Next, OneCall, Step}
 use Rattle.papaya_folded.specs.Given.Schedules.After.{moment}
@@ -24,6 +23,8 @@ use Rattle.papaya_events.proofs.OfCalls.Scenes.{AreNamed, its_named, stands_in}
 use Rattle.papaya_events.proofs.OfCalls.Worth.{have_values_then, nobody_says}
 use Rattle.papaya_events.proofs.Reached.{reached_after}
 use Rattle.papaya_events.proofs.Remaining.{counted_in}
+use Rattle.papaya_scheduler.specs.Given.Executor.IsThere.{IsThere}
+use Rattle.papaya_folded.specs.Given.Scenes.Scene.{Scene}
 
 -- an event of no call is by no caller
 by_none : {K V : Type 0} (event : Event K V) → is_of_calls event ≡ false → caller_of event ≡ None
@@ -34,7 +35,7 @@ by_none (Next caller) none = absurd (cc none)
 by_none _ none = refl
 
 module _ {K V S : Type 0} (same : K → K → Bool) (hash : K → ℕ) (terms : Terms) (log : List (Entry K V)) (e : Entry K V) (old new : Scheduler K V S) (run : Runs same hash terms log old)
-    (none : is_of_calls e.event ≡ false) (scene : Scene K V) (at_end : IsAt same hash new.logged.executor scene) (lists : ℕ → List ℕ)
+    (none : is_of_calls e.event ≡ false) (scene : Scene K V) (at_end : IsThere same hash new.logged.executor scene) (lists : ℕ → List ℕ)
     (left : LeftAmong new.logged.executor.roots scene.world scene.maps scene.makers scene.enders lists) (callers : new.calls ≡ old.calls) (calls : scene.calls ≡ run.stands.scene.calls) where
   named : AreNamed run.stands.name new.calls
   named = subst (λ (cs : List (Caller V)). AreNamed run.stands.name cs) (sym callers) (its_named same hash terms (moment log) old run.stands)

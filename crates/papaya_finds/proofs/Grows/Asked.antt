@@ -25,9 +25,6 @@ use Rattle.papaya_settles.specs.Given.Effects.Effects.{table_at, effects_of}
 use Rattle.papaya_settles.specs.Given.Effects.Known.{Known}
 use Rattle.papaya_settles.specs.Given.Effects.declared.acting.Acting.{Acting}
 use Rattle.papaya_settles.specs.Given.Effects.declared.acting.Acting.TheVariants as acts
-use Rattle.papaya_settles.specs.Given.Executor.IsAt.{Scene, IsAt}
-use Rattle.papaya_settles.specs.Given.Executor.Stepping.{StepLeads}
-use Rattle.papaya_settles.specs.Given.Executor.declared.executor.Executor.{Executor}
 use Rattle.papaya_settles.specs.Given.Finishes.Machines.{machine_of}
 use Rattle.papaya_settles.proofs.Given.Follows.Steps.{WentTo, went_to}
 use Rattle.papaya_settles.specs.Given.Moments.Whole.{ShowsWhole}
@@ -37,6 +34,9 @@ use Rattle.papaya_owes.proofs.Tables.Held.{call_unmade}
 use Rattle.papaya_owes.proofs.Tables.Kinds.{no_room}
 use Rattle.papaya_owes.proofs.Walks.{IsToMake, PlanMakes, plan_made, plan_unmade_so}
 use Rattle.papaya_finds.specs.Growing.{FindsAsked, FindAsked}
+use Rattle.papaya_settles.specs.Given.Scenes.Held.{Held, IsAt}
+use Rattle.papaya_settles.specs.Given.Scenes.Scene.{Scene}
+use Rattle.papaya_settles.specs.Given.Scenes.Stepping.{StepLeads}
 
 -- of a call that may ask for a block
 module _ {K V : Type 0} (terms : Terms) (moments : List (Moment K V)) (own : List ℕ) (map : ℕ) where
@@ -100,18 +100,18 @@ made_of o m m2 told plan end steps so asks = by told refl asks
     by (changed.Took b) told_is asked = absurd asked
     by (changed.Roomed bucket had) told_is asked = absurd asked
 
-module _ {K V S : Type 0} (same : K → K → Bool) (hash : K → ℕ) (name : ℕ → List ℕ) (m : Moment K V) (known : Known) (s : Scene K V) (old new : Executor K V S) (at : IsAt same hash old s)
+module _ {K V : Type 0} (same : K → K → Bool) (hash : ℕ → K → ℕ) (name : ℕ → List ℕ) (m : Moment K V) (known : Known) (s : Scene K V) (old new : Held K V) (at : IsAt same hash old s)
     (whole : ShowsWhole same name m known s) (map i : ℕ) (u : UnderWay K V K) (here : s.calls map i ≡ Some u) (said : Progress (Node K V)) (leads : StepLeads same hash i said s old new) where
   abbrev to : WentTo same hash name m known s old new at whole.all.shown map i u here said leads
   to = went_to same hash name m known s old new at whole.all.shown map i u here said leads
 
   abbrev told : Changed
-  told = new.memory.changed
+  told = new.changed
 
   abbrev its : Acting
   its = acts.Call i map
 
-  module _ (terms : Terms) (moments : List (Moment K V)) (c : CallThere K V) (c_is : call_of (name i) m ≡ Some c) (grows : Asks new.memory.changed → MayGrow terms c.call c (m ∷ moments)) where
+  module _ (terms : Terms) (moments : List (Moment K V)) (c : CallThere K V) (c_is : call_of (name i) m ≡ Some c) (grows : Asks new.changed → MayGrow terms c.call c (m ∷ moments)) where
     abbrev FindsSo : Changed → Type 0
     FindsSo y = FindAsked terms moments (name i) map (effects_of its known y) m
 
@@ -132,9 +132,9 @@ module _ {K V S : Type 0} (same : K → K → Bool) (hash : K → ℕ) (name : �
     find_by (changed.Made k b) told_is = made_find k b told_is
     find_by (changed.Unmade k) told_is = asked_finds terms moments (name i) map m c c_is (grows_by (changed.Unmade k) told_is tt)
     find_by (changed.Roomed bucket had) told_is = absurd (
-        no_room same same hash old.memory.memory new.memory.memory told to.1 said (machine_of u) (call_unmade same hash name m known s old at whole.all.shown map i u here) to.3 bucket had
+        no_room same same to.0.hash old.memory new.memory told to.1 said (machine_of u) (call_unmade same hash name m known s old at whole.all.shown map i u here) to.3 bucket had
         told_is
         )
 
-    pub may_ask : FindAsked terms moments (name i) map (effects_of (acts.Call i map) known new.memory.changed) m
+    pub may_ask : FindAsked terms moments (name i) map (effects_of (acts.Call i map) known new.changed) m
     may_ask = find_by told refl

@@ -9,9 +9,6 @@ use Rattle.papaya_settles.specs.Given.Raw.declared.machines.machine.Machine.TheV
 use Rattle.papaya_settles.specs.Given.Schedules.Moment.{Moment}
 use Rattle.papaya_settles.specs.Given.Callers.Pairs.{Given}
 use Rattle.papaya_settles.specs.Given.Callers.Together.{CallOnKey, UnderWay, OnKey, ForRoom, Counting, OverAll, IsBegun, Gets, Removes, Inserts, TriesToInsert, Computes, Updates, UpdatesOrInserts, TriesToInsertWith, RemovesIf}
-use Rattle.papaya_settles.specs.Given.Executor.Beginning.{Begins}
-use Rattle.papaya_settles.specs.Given.Executor.IsAt.{Scene, slot_of}
-use Rattle.papaya_settles.specs.Given.Executor.Replying.{scene_with}
 use Rattle.papaya_settles.specs.Given.Finishes.Machines.{machine_of}
 use Rattle.papaya_settles.specs.Given.Finishes.Maps.{Standing}
 use Rattle.papaya_settles.proofs.Given.Hands.Asking.{which}
@@ -19,6 +16,9 @@ use Rattle.papaya_owes.proofs.Kept.{calls_without}
 use Rattle.papaya_finds.specs.Growing.{GrowsAt, ShowsGrowing, GrowingBegins, GrowingStays, CallsBeginGrowing, CallsTakeGrowing, WalksGoOnGrowing, CallsGoGrowing}
 use Rattle.papaya_finds.specs.Within.{many_of}
 use Rattle.papaya_finds.proofs.Grows.On.{grows_later, reply_grows}
+use Rattle.papaya_settles.specs.Given.Scenes.Beginning.{Begins}
+use Rattle.papaya_settles.specs.Given.Scenes.Replying.{scene_with}
+use Rattle.papaya_settles.specs.Given.Scenes.Scene.{Scene, slot_of}
 
 pub growing_begins : (K V : Type 0) → GrowingBegins K V
 growing_begins K V roots map i u is = absurd (cc is)

@@ -65,10 +65,10 @@ use Rattle.papaya_settles.proofs.Given.Rule.Keys.Always.{Always, AlwaysOf, alway
 use Rattle.papaya_settles.specs.Given.Teller.Tells.{StepsTold}
 use Rattle.papaya_settles.specs.Given.Teller.declared.changed.Changed.{Changed}
 use Rattle.papaya_settles.specs.Given.Teller.declared.changed.Changed.TheVariants as changes
-use Rattle.papaya_settles.proofs.Given.Executor.Forgotten.{as_step}
 use Rattle.papaya_finds.specs.Growing.{HasForNone, GrowsAt}
 use Rattle.papaya_finds.proofs.Shaping.{always_plan_more, FirstGoes, first_goes, first_begun, NextGoes, next_goes, next_begun}
 use Rattle.papaya_finds.proofs.Grown.{number_is}
+use Rattle.papaya_settles.proofs.Given.Scenes.Told.{as_step}
 
 -- What its table says, by the word that it reads: in blocking mode a place that sends it on has a next table, and the last table has none.
 module _ {K V : Type 0} (had : ℕ) (p : KeyCall K V K) (m : Mem (Node K V)) where

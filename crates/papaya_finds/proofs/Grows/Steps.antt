@@ -30,9 +30,6 @@ use Rattle.papaya_settles.specs.Given.Effects.Effects.{effects_of}
 use Rattle.papaya_settles.specs.Given.Effects.Known.{Known}
 use Rattle.papaya_settles.specs.Given.Effects.declared.acting.Acting.{Acting}
 use Rattle.papaya_settles.specs.Given.Effects.declared.acting.Acting.TheVariants as acts
-use Rattle.papaya_settles.specs.Given.Executor.IsAt.{Scene, IsAt, slot_of}
-use Rattle.papaya_settles.specs.Given.Executor.Stepping.{StepsFrom, StepLeads, scene_after}
-use Rattle.papaya_settles.specs.Given.Executor.declared.executor.Executor.{Executor}
 use Rattle.papaya_settles.specs.Given.Finishes.Machines.{machine_of}
 use Rattle.papaya_settles.specs.Given.Finishes.Maps.{Standing}
 use Rattle.papaya_settles.specs.Given.Follows.Calls.{IsCalled}
@@ -55,6 +52,9 @@ use Rattle.papaya_finds.proofs.Grows.Given.{called_valued, knows_for_none}
 use Rattle.papaya_finds.proofs.Grows.On.{TableTells, grows_later, step_grows}
 use Rattle.papaya_finds.proofs.Grows.There.{table_tells, row_tells}
 use Rattle.papaya_finds.proofs.Joined.{valued_grows}
+use Rattle.papaya_settles.specs.Given.Scenes.Held.{Held, IsAt}
+use Rattle.papaya_settles.specs.Given.Scenes.Scene.{Scene, slot_of}
+use Rattle.papaya_settles.specs.Given.Scenes.Stepping.{StepLeads, StepsFrom, scene_after}
 
 -- A map has had no fewer tables after any effects.
 pub tables_have_been : (K V : Type 0) → TablesHaveBeen K V
@@ -62,7 +62,7 @@ tables_have_been K V caller acted [] m map = omega arith
 tables_have_been K V caller acted (f ∷ effects) m map =
     let one = many_grow caller acted m f map in let rest = tables_have_been K V caller acted effects (with_effect caller acted f m) map in omega (arith, one, rest)
 
-module _ {K V S : Type 0} (same : K → K → Bool) (hash : K → ℕ) (name : ℕ → List ℕ) (m : Moment K V) (known : Known) (s : Scene K V) (old new : Executor K V S) (at : IsAt same hash old s)
+module _ {K V : Type 0} (same : K → K → Bool) (hash : ℕ → K → ℕ) (name : ℕ → List ℕ) (m : Moment K V) (known : Known) (s : Scene K V) (old new : Held K V) (at : IsAt same hash old s)
     (whole : ShowsWhole same name m known s) (growing : ShowsGrowing m s) (map i : ℕ) (u : UnderWay K V K) (here : s.calls map i ≡ Some u) (said : Progress (Node K V))
     (leads : StepLeads same hash i said s old new) where
   abbrev to : WentTo same hash name m known s old new at whole.all.shown map i u here said leads
@@ -72,7 +72,7 @@ module _ {K V S : Type 0} (same : K → K → Bool) (hash : K → ℕ) (name : �
   st = to.0
 
   abbrev told : Changed
-  told = new.memory.changed
+  told = new.changed
 
   abbrev its : Acting
   its = acts.Call i map
@@ -84,7 +84,7 @@ module _ {K V S : Type 0} (same : K → K → Bool) (hash : K → ℕ) (name : �
   v = with_effects (Some (name i)) (Some map) effects m
 
   abbrev led : Scene K V
-  led = scene_after same hash s old new map i st u to.1 said to.4
+  led = scene_after same s old new map i st u to.1 said to.4
 
   each : Together V same st.hash same st.setting slot_of s.world st.chart st.blocks st.sights (s.calls map)
   each = at.together.makings.standing.each map st to.2
@@ -101,10 +101,10 @@ module _ {K V S : Type 0} (same : K → K → Bool) (hash : K → ℕ) (name : �
   -- of a call on one key
   module _ (x : CallOnKey K V K) (is : s.calls map i ≡ Some (OnKey x)) where
     abbrev Stepped : Type 0
-    Stepped = StepsTold K V (Machine K V K × Progress (Node K V)) old.memory.memory changed.Nothing (machine_plan same same hash (kinds.Key x.call)) new.memory.memory told (to.1, said)
+    Stepped = StepsTold K V (Machine K V K × Progress (Node K V)) old.memory changed.Nothing (machine_plan same same to.0.hash (kinds.Key x.call)) new.memory told (to.1, said)
 
-    its_table : TableTells (many_of map m) x.call old.memory.memory x.call.stands
-    its_table = subst (λ (n : ℕ). TableTells n x.call old.memory.memory x.call.stands) many_now
+    its_table : TableTells (many_of map m) x.call old.memory x.call.stands
+    its_table = subst (λ (n : ℕ). TableTells n x.call old.memory x.call.stands) many_now
         (subst (λ (n : Mem (Node K V)). TableTells st.chart.past x.call n x.call.stands) at.memory
         (elim (each.stand i (OnKey x) is) as (λ _. TableTells st.chart.past x.call s.world.memory x.call.stands) [
           | inl k ↦ table_tells same st.hash st.setting slot_of s.world st.chart st.blocks (st.sights (slot_of i)) each.ground.map sight i x x.call k.1
@@ -117,11 +117,11 @@ module _ {K V S : Type 0} (same : K → K → Bool) (hash : K → ℕ) (name : �
     -- as another machine
     key_grows : Stepped → (y : CallOnKey K V K) → ◌≡◌ {A = Machine K V K} (kinds.Key y.call) to.1 → Came y.call
     key_grows steps y machine_is =
-        let it = told_in old.memory.memory new.memory.memory told of_key (call_plan same same hash x.call) (to.1, said) steps in
+        let it = told_in old.memory new.memory told of_key (call_plan same same to.0.hash x.call) (to.1, said) steps in
         let machine : ◌≡◌ {A = Machine K V K} (kinds.Key y.call) (kinds.Key it.0.0) = machine_is ∙ ap (λ (q : Machine K V K × Progress (Node K V)). q.0) it.1 in
         let one : it.0.0 ≡ y.call = cc machine in
         subst Came one
-        (step_grows (many_of map v) (many_of map m) (later map) same same hash x.call old.memory.memory new.memory.memory told it.0 (growing map i x is) its_table it.2)
+        (step_grows (many_of map v) (many_of map m) (later map) same same to.0.hash x.call old.memory new.memory told it.0 (growing map i x is) its_table it.2)
 
     -- what it makes it has a value for
     module _ (steps : Stepped) (asks : Asks told) (copies_none : IsCopying x.call.stands → ⊥) (c : CallThere K V) (c_is : call_of (name i) m ≡ Some c) (its_call : IsCalled same (OnKey x) c.call) where
@@ -129,8 +129,8 @@ module _ {K V S : Type 0} (same : K → K → Bool) (hash : K → ℕ) (name : �
       Valued = has_value_for c.call c ≡ true
 
       it : (r : KeyCall K V K × Called (Node K V)) × (◌≡◌ {A = Machine K V K × Progress (Node K V)} (to.1, said) (of_key r))
-          × StepsTold K V (KeyCall K V K × Called (Node K V)) old.memory.memory changed.Nothing (call_plan same same hash x.call) new.memory.memory told r
-      it = told_in old.memory.memory new.memory.memory told of_key (call_plan same same hash x.call) (to.1, said) steps
+          × StepsTold K V (KeyCall K V K × Called (Node K V)) old.memory changed.Nothing (call_plan same same to.0.hash x.call) new.memory told r
+      it = told_in old.memory new.memory told of_key (call_plan same same to.0.hash x.call) (to.1, said) steps
 
       asked_as : IsAskedAs (whole.all.shown.number map) st.chart.stored known x c.call c
       asked_as = whole.all.asked.each map i (OnKey x) is st to.2 c c_is
@@ -139,7 +139,7 @@ module _ {K V S : Type 0} (same : K → K → Bool) (hash : K → ℕ) (name : �
       own_valued own = elim (each.stand i (OnKey x) is) as (λ _. Valued) [
         | inl k ↦
             call_valued same (whole.all.shown.number map) st.chart.stored known x c c.call its_call asked_as
-            (knows_given same st.hash st.setting slot_of s.world st.chart (seen_by st.blocks (st.sights (slot_of i))) i x x.call k.1 own hash old.memory.memory new.memory.memory told it.0
+            (knows_given same st.hash st.setting slot_of s.world st.chart (seen_by st.blocks (st.sights (slot_of i))) i x x.call k.1 own to.0.hash old.memory new.memory told it.0
             (asks_some told asks) it.2)
         | inr k ↦ absurd (row_no_own x.call.stands k.1 own)
       ]
@@ -153,10 +153,10 @@ module _ {K V S : Type 0} (same : K → K → Bool) (hash : K → ℕ) (name : �
       ]
 
       key_valued : Valued
-      key_valued = elim (call_makes same same hash x.call) as (λ _. Valued) [
+      key_valued = elim (call_makes same same to.0.hash x.call) as (λ _. Valued) [
         | inl own ↦ own_valued own
         | inr so ↦
-            let n = made_of (making_in_calling x.call.stands) old.memory.memory new.memory.memory told (call_plan same same hash x.call) it.0 it.2 so asks in table_valued n.0 n.1
+            let n = made_of (making_in_calling x.call.stands) old.memory new.memory told (call_plan same same to.0.hash x.call) it.0 it.2 so asks in table_valued n.0 n.1
       ]
 
     -- so each of its effects that asks for a block may
@@ -168,21 +168,21 @@ module _ {K V S : Type 0} (same : K → K → Bool) (hash : K → ℕ) (name : �
 
   -- each call on one key after it: a call of another kind is none
 
-  came : (x : UnderWay K V K) → s.calls map i ≡ Some x → StepsFrom same hash (machine_of x) old new to.1 said → (y : CallOnKey K V K) → ◌≡◌ {A = Machine K V K} (kinds.Key y.call) to.1
+  came : (x : UnderWay K V K) → s.calls map i ≡ Some x → StepsFrom same to.0.hash (machine_of x) old new to.1 said → (y : CallOnKey K V K) → ◌≡◌ {A = Machine K V K} (kinds.Key y.call) to.1
       → GrowsAt (many_of map v) y.call y.call.stands
   came (OnKey x) is steps y machine_is = key_grows x is steps y machine_is
   came (ForRoom r) is steps y machine_is = absurd (
-      let it = told_in old.memory.memory new.memory.memory told of_room (reserve_plan hash r.reserve) (to.1, said) steps in
+      let it = told_in old.memory new.memory told of_room (reserve_plan to.0.hash r.reserve) (to.1, said) steps in
       let no : ◌≡◌ {A = Machine K V K} (kinds.Key y.call) (kinds.Reserve it.0.0) = machine_is ∙ ap (λ (q : Machine K V K × Progress (Node K V)). q.0) it.1 in
       cc no
       )
   came (Counting sum) is steps y machine_is = absurd (
-      let it = told_in old.memory.memory new.memory.memory told of_sum (sum_plan sum) (to.1, said) steps in
+      let it = told_in old.memory new.memory told of_sum (sum_plan sum) (to.1, said) steps in
       let no : ◌≡◌ {A = Machine K V K} (kinds.Key y.call) (kinds.Count it.0.0) = machine_is ∙ ap (λ (q : Machine K V K × Progress (Node K V)). q.0) it.1 in
       cc no
       )
   came (OverAll o) is steps y machine_is = absurd (
-      let it = told_in old.memory.memory new.memory.memory told of_sweep (sweep_plan hash o.sweep) (to.1, said) steps in
+      let it = told_in old.memory new.memory told of_sweep (sweep_plan to.0.hash o.sweep) (to.1, said) steps in
       let no : ◌≡◌ {A = Machine K V K} (kinds.Key y.call) (kinds.Sweep it.0.0) = machine_is ∙ ap (λ (q : Machine K V K × Progress (Node K V)). q.0) it.1 in
       cc no
       )
@@ -194,9 +194,9 @@ module _ {K V S : Type 0} (same : K → K → Bool) (hash : K → ℕ) (name : �
     | inr was ↦ grows_later (many_of n v) (many_of n m) (later n) y.call y.call.stands (growing n j y was.1)
   ]
 
-pub calls_keep_growing : (K V S : Type 0) (same : K → K → Bool) (hash : K → ℕ) → CallsKeepGrowing K V S same hash
-calls_keep_growing K V S same hash name m known s old new at whole growing map i u here said leads = growing_then same hash name m known s old new at whole growing map i u here said leads
+pub calls_keep_growing : (K V : Type 0) (same : K → K → Bool) (hash : ℕ → K → ℕ) → CallsKeepGrowing K V same hash
+calls_keep_growing K V same hash name m known s old new at whole growing map i u here said leads = growing_then same hash name m known s old new at whole growing map i u here said leads
 
-pub key_calls_may_ask : (K V S : Type 0) (same : K → K → Bool) (hash : K → ℕ) → KeyCallsMayAsk K V S same hash
-key_calls_may_ask K V S same hash name m known s old new at whole growing map i u here said leads copies_none terms moments =
+pub key_calls_may_ask : (K V : Type 0) (same : K → K → Bool) (hash : ℕ → K → ℕ) → KeyCallsMayAsk K V same hash
+key_calls_may_ask K V same hash name m known s old new at whole growing map i u here said leads copies_none terms moments =
     key_may_ask same hash name m known s old new at whole growing map i (OnKey u) here said leads u here (leads map (OnKey u) here).3 copies_none terms moments

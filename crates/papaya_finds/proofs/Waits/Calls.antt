@@ -29,9 +29,6 @@ use Rattle.papaya_settles.specs.Given.Callers.Together.{UnderWay, in_slot}
 use Rattle.papaya_settles.specs.Given.Effects.Effects.{effects_of}
 use Rattle.papaya_settles.specs.Given.Effects.Known.{Known}
 use Rattle.papaya_settles.specs.Given.Effects.declared.acting.Acting.TheVariants as acts
-use Rattle.papaya_settles.specs.Given.Executor.IsAt.{Scene, IsAt, slot_of}
-use Rattle.papaya_settles.specs.Given.Executor.Stepping.{StepLeads}
-use Rattle.papaya_settles.specs.Given.Executor.declared.executor.Executor.{Executor}
 use Rattle.papaya_settles.specs.Given.Finishes.Machines.{machine_of}
 use Rattle.papaya_settles.specs.Given.Finishes.Maps.{Standing}
 use Rattle.papaya_settles.specs.Given.Follows.Calls.{IsCalled}
@@ -60,6 +57,9 @@ use Rattle.papaya_finds.proofs.Waits.Held.{calls_leave_held, taken_held}
 use Rattle.papaya_finds.proofs.Waits.New.{new_lies}
 use Rattle.papaya_finds.proofs.Waits.Owes.{OwedBefore, owed_before, row_takes}
 use Rattle.papaya_finds.proofs.Waits.Taken.{TookPair, is_map}
+use Rattle.papaya_settles.specs.Given.Scenes.Held.{Held, IsAt}
+use Rattle.papaya_settles.specs.Given.Scenes.Scene.{Scene, slot_of}
+use Rattle.papaya_settles.specs.Given.Scenes.Stepping.{StepLeads}
 
 -- one that lies no further on than the root is past it
 past_of : (born lies first : ℕ) → lies ≤ first → IsPast born lies first
@@ -69,7 +69,7 @@ past_of born lies first l = by (nat_lt born lies)
     by true = l
     by false = tt
 
-module _ {K V S : Type 0} (same : K → K → Bool) (hash : K → ℕ) (name : ℕ → List ℕ) (m : Moment K V) (known : Known) (s : Scene K V) (old new : Executor K V S) (at_old : IsAt same hash old s)
+module _ {K V : Type 0} (same : K → K → Bool) (hash : ℕ → K → ℕ) (name : ℕ → List ℕ) (m : Moment K V) (known : Known) (s : Scene K V) (old new : Held K V) (at_old : IsAt same hash old s)
     (whole : ShowsWhole same name m known s) (entries : ShowsEntries s) (owning : OwnAreMade known s.world) (owes : ShowsOwed name m known s) (waits : ShowsWaits name m s)
     (map i : ℕ) (u : UnderWay K V K) (here : s.calls map i ≡ Some u) (said : Progress (Node K V)) (leads : StepLeads same hash i said s old new) where
   abbrev shown : Shows same name m known s
@@ -82,7 +82,7 @@ module _ {K V S : Type 0} (same : K → K → Bool) (hash : K → ℕ) (name : �
   st = to.0
 
   abbrev told : Changed
-  told = new.memory.changed
+  told = new.changed
 
   abbrev effects : List Effect
   effects = effects_of (acts.Call i map) known told
@@ -93,8 +93,8 @@ module _ {K V S : Type 0} (same : K → K → Bool) (hash : K → ℕ) (name : �
   abbrev seen : Blocks
   seen = seen_by st.blocks (st.sights (slot_of i))
 
-  goes : HandGoes K V S same hash m known s old new map i u said here leads
-  goes = calls_go_in_hand K V S same hash name m known s old new at_old shown whole.all.rows entries owning map i u here said leads (owes.noted map i u here)
+  goes : HandGoes K V same hash m known s old new map i u said here leads
+  goes = calls_go_in_hand K V same hash name m known s old new at_old shown whole.all.rows entries owning map i u here said leads (owes.noted map i u here)
 
   its : (c : CallThere K V) × (call_of (name i) m ≡ Some c) × (c.map ≡ map) × IsCalled same u c.call
   its = shown.calls map i u here
@@ -108,10 +108,10 @@ module _ {K V S : Type 0} (same : K → K → Bool) (hash : K → ℕ) (name : �
       let it = owes_follow K V (name i) map effects m its.0 its.1 (in_hand known to.1) (subst (λ (l : List Thing). OwesGo m effects l (in_hand known to.1)) (sym its_owes) goes.0) in (it.1, it.2, it.3)
 
   finds : AtEachEffect (FindsMap map) (Some (name i)) (Some map) effects m
-  finds = (steps_find_places K V S same hash name m known s old new at_old whole map i u here said leads).0
+  finds = (steps_find_places K V same hash name m known s old new at_old whole map i u here said leads).0
 
   places : FindPlacesOf (name i) map effects m
-  places = (steps_find_places K V S same hash name m known s old new at_old whole map i u here said leads).1
+  places = (steps_find_places K V same hash name m known s old new at_old whole map i u here said leads).1
 
   onward : AtEachEffect (FindsOnward (Some map)) (Some (name i)) (Some map) effects m
   onward = calls_find_onward K V (name i) map effects m its.0 its.1 finds places
@@ -132,15 +132,15 @@ module _ {K V S : Type 0} (same : K → K → Bool) (hash : K → ℕ) (name : �
   first_now : first_of map m ≡ st.chart.first
   first_now = first_is map (shown.number map) st m known (shown.maps map st to.2)
 
-  abbrev made_it : Operated s.world.memory new.memory.memory new.memory.changed
+  abbrev made_it : Operated s.world.memory new.memory new.changed
   made_it = made_so same hash name m known s old new at_old shown map i u here said leads
 
   abbrev inside_it : IsInside (s.world.uses (slot_of i))
   inside_it = is_inside same hash name m known s old new at_old shown map i u here said leads
 
   -- a root that is none before its table is past where it lies
-  pub past_then : (k : ℕ) (d : Dispose) → DisposeFacts s.world i (in_slot st.setting (slot_of i)) st.chart seen d → (root : ℕ) (value : Node K V) → word_at old.memory.memory (Root d.setting.root) ≡ Some root
-      → value_at old.memory.memory (block_in root) ≡ Some value → d.table.turn ≤ (table_seen root value).turn → IsHeldPast map m k (Some d.table.turn) → IsHeldPast map m k None
+  pub past_then : (k : ℕ) (d : Dispose) → DisposeFacts s.world i (in_slot st.setting (slot_of i)) st.chart seen d → (root : ℕ) (value : Node K V) → word_at old.memory (Root d.setting.root) ≡ Some root
+      → value_at old.memory (block_in root) ≡ Some value → d.table.turn ≤ (table_seen root value).turn → IsHeldPast map m k (Some d.table.turn) → IsHeldPast map m k None
   past_then k d facts root value read sees before_root held =
       let turn = root_turn same st.hash (in_slot st.setting (slot_of i)) s.world i st.chart seen (is_map same hash m known s old new at_old name shown whole.places map i st to.2 made_it inside_it k) d facts root value
       (ap (λ (x : Mem (Node K V)). word_at x (Root d.setting.root)) at_old.memory ∙ read) (ap (λ (x : Mem (Node K V)). value_at x (block_in root)) at_old.memory ∙ sees) in
@@ -159,4 +159,4 @@ module _ {K V S : Type 0} (same : K → K → Bool) (hash : K → ℕ) (name : �
 
   -- unless its step is one of a row
   pub row_takes_none : (OfNoRow same hash name m known s old new at_old shown map i u here said leads u to.4.did → ⊥) → (k : ℕ) → TakesPair effects k → ⊥
-  row_takes_none other k takes = row_takes i map known effects _ _ k (rows_tell_due K V S same hash name m known s old new at_old shown whole.all.rows entries owning map i u here said leads other) takes
+  row_takes_none other k takes = row_takes i map known effects _ _ k (rows_tell_due K V same hash name m known s old new at_old shown whole.all.rows entries owning map i u here said leads other) takes

@@ -27,9 +27,9 @@ use Rattle.papaya_settles.proofs.Given.Rule.Keys.Always.{Always, AlwaysOf, alway
 use Rattle.papaya_settles.specs.Given.Teller.Tells.{StepsTold, ToldAs}
 use Rattle.papaya_settles.specs.Given.Teller.declared.changed.Changed.{Changed}
 use Rattle.papaya_settles.specs.Given.Teller.declared.changed.Changed.TheVariants as changed
-use Rattle.papaya_settles.proofs.Given.Executor.Forgotten.{as_step}
 use Rattle.papaya_settles.specs.InHand.{pair_in_disposing}
 use Rattle.papaya_finds.specs.Waits.{waits_in_disposing, waits_of}
+use Rattle.papaya_settles.proofs.Given.Scenes.Told.{as_step}
 
 module _ {K V : Type 0} (d : Dispose) (m m2 : Mem (Node K V)) (told : Changed) where
   -- it has the pair in hand, unless in a row

@@ -21,9 +21,6 @@ use Rattle.papaya_settles.specs.Given.Effects.Known.{Known}
 use Rattle.papaya_settles.specs.Given.Effects.declared.acting.Acting.TheVariants as acts
 use Rattle.papaya_settles.specs.Given.Effects.declared.role.Role.{Role}
 use Rattle.papaya_settles.specs.Given.Effects.declared.role.Role.TheVariants as role
-use Rattle.papaya_settles.specs.Given.Executor.IsAt.{Scene, IsAt}
-use Rattle.papaya_settles.specs.Given.Executor.Stepping.{StepLeads}
-use Rattle.papaya_settles.specs.Given.Executor.declared.executor.Executor.{Executor}
 use Rattle.papaya_settles.specs.Given.Finishes.Machines.{machine_of}
 use Rattle.papaya_settles.specs.Given.Follows.Calls.{IsCalled}
 use Rattle.papaya_settles.proofs.Given.Follows.Steps.{WentTo, went_to}
@@ -40,6 +37,9 @@ use Rattle.papaya_finds.specs.Rest.{FindsHanded, FindHanded}
 use Rattle.papaya_finds.specs.Waits.{waits_in, IsHeldPast, ShowsWaits, FindsPast, FindPast, FindsBehind, FindBehind, FindsSpace, FindSpace, PastIsHanded, CallsHandPast}
 use Rattle.papaya_finds.proofs.Quiet.{neither}
 use Rattle.papaya_finds.proofs.Waits.Due.{word_of, DueHas, row_due}
+use Rattle.papaya_settles.specs.Given.Scenes.Held.{Held, IsAt}
+use Rattle.papaya_settles.specs.Given.Scenes.Scene.{Scene}
+use Rattle.papaya_settles.specs.Given.Scenes.Stepping.{StepLeads}
 
 module _ {K V : Type 0} where
   -- the parts, by the kind of effect
@@ -75,14 +75,14 @@ module _ {K V : Type 0} where
 pub past_is_handed : (K V : Type 0) → PastIsHanded K V
 past_is_handed K V own map effects m past behind space = all_joined own map effects m past behind space
 
-module _ {K V S : Type 0} (same : K → K → Bool) (hash : K → ℕ) (name : ℕ → List ℕ) (m : Moment K V) (known : Known) (s : Scene K V) (old new : Executor K V S) (at_old : IsAt same hash old s)
+module _ {K V : Type 0} (same : K → K → Bool) (hash : ℕ → K → ℕ) (name : ℕ → List ℕ) (m : Moment K V) (known : Known) (s : Scene K V) (old new : Held K V) (at_old : IsAt same hash old s)
     (whole : ShowsWhole same name m known s) (entries : ShowsEntries s) (owning : OwnAreMade known s.world) (owes : ShowsOwed name m known s) (waits : ShowsWaits name m s)
     (map i : ℕ) (u : UnderWay K V K) (here : s.calls map i ≡ Some u) (said : Progress (Node K V)) (leads : StepLeads same hash i said s old new) where
   abbrev to : WentTo same hash name m known s old new at_old whole.all.shown map i u here said leads
   to = went_to same hash name m known s old new at_old whole.all.shown map i u here said leads
 
   abbrev effects : List Effect
-  effects = effects_of (acts.Call i map) known new.memory.changed
+  effects = effects_of (acts.Call i map) known new.changed
 
   its : (c : CallThere K V) × (call_of (name i) m ≡ Some c) × (c.map ≡ map) × IsCalled same u c.call
   its = whole.all.shown.calls map i u here
@@ -131,10 +131,10 @@ module _ {K V S : Type 0} (same : K → K → Bool) (hash : K → ℕ) (name : �
 
   pub hands_past : Finds effects
   hands_past = elim (own_or_row same hash name m known s old new at_old whole.all.shown map i u here said leads u to.4.did) as (λ _. Finds effects) [
-    | inl own ↦ all_none (name i) map effects m c its.1 (steps_take_out K V S same hash name m known s old new at_old whole.all.shown map i u here said leads own []).2
-    | inr other ↦ row_past (rows_tell_due K V S same hash name m known s old new at_old whole.all.shown whole.all.rows entries owning map i u here said leads other)
+    | inl own ↦ all_none (name i) map effects m c its.1 (steps_take_out K V same hash name m known s old new at_old whole.all.shown map i u here said leads own []).2
+    | inr other ↦ row_past (rows_tell_due K V same hash name m known s old new at_old whole.all.shown whole.all.rows entries owning map i u here said leads other)
   ]
 
-pub calls_hand_past : (K V S : Type 0) (same : K → K → Bool) (hash : K → ℕ) → CallsHandPast K V S same hash
-calls_hand_past K V S same hash name m known s old new at_old whole entries owning owes waits map i u here said leads =
+pub calls_hand_past : (K V : Type 0) (same : K → K → Bool) (hash : ℕ → K → ℕ) → CallsHandPast K V same hash
+calls_hand_past K V same hash name m known s old new at_old whole entries owning owes waits map i u here said leads =
     hands_past same hash name m known s old new at_old whole entries owning owes waits map i u here said leads

@@ -28,8 +28,6 @@ use Rattle.papaya_settles.proofs.Given.Rule.Words.PlaceWordsMarks.{pair_borrowed
 use Rattle.papaya_settles.proofs.Given.Rule.Words.TablesSeen.{block_of_link}
 use Rattle.papaya_settles.specs.Given.Callers.Sights.{seen_by}
 use Rattle.papaya_settles.specs.Given.Effects.Known.{Known}
-use Rattle.papaya_settles.specs.Given.Executor.IsAt.{Scene, IsAt, slot_of}
-use Rattle.papaya_settles.specs.Given.Executor.declared.executor.Executor.{Executor}
 use Rattle.papaya_settles.specs.Given.Finishes.Maps.{Standing}
 use Rattle.papaya_settles.specs.Given.Follows.Shows.{Shows}
 use Rattle.papaya_settles.proofs.Given.Follows.Finds.{first_is, chunks_are}
@@ -37,10 +35,12 @@ use Rattle.papaya_settles.proofs.Given.Follows.Operations.{Operated}
 use Rattle.papaya_settles.specs.Given.Spots.Spots.{ThePair, named_by, LiesAt, ShowsPlaces}
 use Rattle.papaya_finds.specs.Waits.{waits_in_disposing, waits_of, LiesFor}
 use Rattle.papaya_finds.proofs.Waits.Taken.{TookPair, is_map}
+use Rattle.papaya_settles.specs.Given.Scenes.Held.{Held, IsAt}
+use Rattle.papaya_settles.specs.Given.Scenes.Scene.{Scene, slot_of}
 
-module _ {K V S : Type 0} (same : K → K → Bool) (hash : K → ℕ) (m : Moment K V) (known : Known) (s : Scene K V) (old new : Executor K V S) (at_old : IsAt same hash old s)
+module _ {K V : Type 0} (same : K → K → Bool) (hash : ℕ → K → ℕ) (m : Moment K V) (known : Known) (s : Scene K V) (old new : Held K V) (at_old : IsAt same hash old s)
     (name : ℕ → List ℕ) (shown : Shows same name m known s) (lying : ShowsPlaces m known s.maps) (map i : ℕ) (standing : Standing K) (there : s.maps map ≡ Some standing)
-    (made : Operated s.world.memory new.memory.memory new.memory.changed) (inside_it : IsInside (s.world.uses (slot_of i))) (k : ℕ)
+    (made : Operated s.world.memory new.memory new.changed) (inside_it : IsInside (s.world.uses (slot_of i))) (k : ℕ)
     (took : TookPair same hash m known s old new at_old name shown lying map i standing there made inside_it k) where
   abbrev c : Chart K
   c = standing.chart
@@ -49,7 +49,7 @@ module _ {K V S : Type 0} (same : K → K → Bool) (hash : K → ℕ) (m : Mome
   seen = seen_by standing.blocks (standing.sights (slot_of i))
 
   abbrev told : Changed
-  told = new.memory.changed
+  told = new.changed
 
   abbrev born : ℕ
   born = (m.born k).turn

@@ -22,9 +22,6 @@ use Rattle.papaya_settles.specs.Given.Effects.Known.{Known}
 use Rattle.papaya_settles.specs.Given.Effects.declared.acting.Acting.TheVariants as acts
 use Rattle.papaya_settles.specs.Given.Effects.declared.role.Role.{Role}
 use Rattle.papaya_settles.specs.Given.Effects.declared.role.Role.TheVariants as role
-use Rattle.papaya_settles.specs.Given.Executor.IsAt.{Scene, IsAt}
-use Rattle.papaya_settles.specs.Given.Executor.Stepping.{StepLeads}
-use Rattle.papaya_settles.specs.Given.Executor.declared.executor.Executor.{Executor}
 use Rattle.papaya_settles.specs.Given.Finishes.Machines.{machine_of}
 use Rattle.papaya_settles.specs.Given.Follows.Calls.{IsCalled}
 use Rattle.papaya_settles.proofs.Given.Follows.Steps.{WentTo, went_to}
@@ -41,6 +38,9 @@ use Rattle.papaya_finds.specs.Waits.{IsHeldPast, ShowsWaits, FindsBehind, FindBe
 use Rattle.papaya_finds.proofs.Quiet.{neither}
 use Rattle.papaya_finds.proofs.Waits.Due.{row_due}
 use Rattle.papaya_finds.specs.Puts.{ShowsPuts, CallsPutBehind}
+use Rattle.papaya_settles.specs.Given.Scenes.Held.{Held, IsAt}
+use Rattle.papaya_settles.specs.Given.Scenes.Scene.{Scene}
+use Rattle.papaya_settles.specs.Given.Scenes.Stepping.{StepLeads}
 
 -- an effect that hands nothing over is put behind no table
 module _ {K V : Type 0} where
@@ -61,14 +61,14 @@ same_block : (a b : ℕ) (place : At) → IsWordOf a place → IsWordOf b place 
 same_block a b (Word d field) x y = x ∙ sym y
 same_block a b _ x y = absurd x
 
-module _ {K V S : Type 0} (same : K → K → Bool) (hash : K → ℕ) (name : ℕ → List ℕ) (m : Moment K V) (known : Known) (s : Scene K V) (old new : Executor K V S) (at_old : IsAt same hash old s)
+module _ {K V : Type 0} (same : K → K → Bool) (hash : ℕ → K → ℕ) (name : ℕ → List ℕ) (m : Moment K V) (known : Known) (s : Scene K V) (old new : Held K V) (at_old : IsAt same hash old s)
     (whole : ShowsWhole same name m known s) (entries : ShowsEntries s) (owning : OwnAreMade known s.world) (owes : ShowsOwed name m known s) (waits : ShowsWaits name m s) (puts : ShowsPuts known s)
     (map i : ℕ) (u : UnderWay K V K) (here : s.calls map i ≡ Some u) (said : Progress (Node K V)) (leads : StepLeads same hash i said s old new) where
   abbrev to : WentTo same hash name m known s old new at_old whole.all.shown map i u here said leads
   to = went_to same hash name m known s old new at_old whole.all.shown map i u here said leads
 
   abbrev effects : List Effect
-  effects = effects_of (acts.Call i map) known new.memory.changed
+  effects = effects_of (acts.Call i map) known new.changed
 
   its : (c : CallThere K V) × (call_of (name i) m ≡ Some c) × (c.map ≡ map) × IsCalled same u c.call
   its = whole.all.shown.calls map i u here
@@ -119,10 +119,10 @@ module _ {K V S : Type 0} (same : K → K → Bool) (hash : K → ℕ) (name : �
 
   pub puts_behind : Finds effects
   puts_behind = elim (own_or_row same hash name m known s old new at_old whole.all.shown map i u here said leads u to.4.did) as (λ _. Finds effects) [
-    | inl own ↦ all_none (name i) map effects m c its.1 (steps_take_out K V S same hash name m known s old new at_old whole.all.shown map i u here said leads own []).2
-    | inr other ↦ row_behind (rows_tell_due K V S same hash name m known s old new at_old whole.all.shown whole.all.rows entries owning map i u here said leads other)
+    | inl own ↦ all_none (name i) map effects m c its.1 (steps_take_out K V same hash name m known s old new at_old whole.all.shown map i u here said leads own []).2
+    | inr other ↦ row_behind (rows_tell_due K V same hash name m known s old new at_old whole.all.shown whole.all.rows entries owning map i u here said leads other)
   ]
 
-pub calls_put_behind : (K V S : Type 0) (same : K → K → Bool) (hash : K → ℕ) → CallsPutBehind K V S same hash
-calls_put_behind K V S same hash name m known s old new at_old whole entries owning owes waits puts map i u here said leads =
+pub calls_put_behind : (K V : Type 0) (same : K → K → Bool) (hash : ℕ → K → ℕ) → CallsPutBehind K V same hash
+calls_put_behind K V same hash name m known s old new at_old whole entries owning owes waits puts map i u here said leads =
     puts_behind same hash name m known s old new at_old whole entries owning owes waits puts map i u here said leads

@@ -23,9 +23,6 @@ use Rattle.papaya_settles.specs.Given.Callers.Together.{CallOnKey, OnKey, Stands
 use Rattle.papaya_settles.specs.Given.Effects.Effects.{effects_of}
 use Rattle.papaya_settles.specs.Given.Effects.Known.{Known}
 use Rattle.papaya_settles.specs.Given.Effects.declared.acting.Acting.TheVariants as acts
-use Rattle.papaya_settles.specs.Given.Executor.IsAt.{Scene, IsAt, slot_of}
-use Rattle.papaya_settles.specs.Given.Executor.Stepping.{StepLeads}
-use Rattle.papaya_settles.specs.Given.Executor.declared.executor.Executor.{Executor}
 use Rattle.papaya_settles.specs.Given.Finishes.Maps.{Standing}
 use Rattle.papaya_settles.proofs.Given.Follows.Steps.{WentTo, went_to, made_so, is_inside, DidSo, OfNoRow}
 use Rattle.papaya_settles.specs.Given.Moments.Whole.{ShowsWhole}
@@ -44,8 +41,11 @@ use Rattle.papaya_finds.proofs.Waits.Taken.{TookPair, took_pair}
 use Rattle.papaya_finds.proofs.Waits.Calls.{before, lay, lies_then, past_then, took_then, row_takes_none}
 use Rattle.papaya_settles.specs.Given.Points.FactsCalls.{IsCopying}
 use Rattle.papaya_settles.specs.Given.Points.Told.{IsRowOfCall}
+use Rattle.papaya_settles.specs.Given.Scenes.Held.{Held, IsAt}
+use Rattle.papaya_settles.specs.Given.Scenes.Scene.{Scene, slot_of}
+use Rattle.papaya_settles.specs.Given.Scenes.Stepping.{StepLeads}
 
-module _ {K V S : Type 0} (same : K → K → Bool) (hash : K → ℕ) (name : ℕ → List ℕ) (m : Moment K V) (known : Known) (s : Scene K V) (old new : Executor K V S) (at_old : IsAt same hash old s)
+module _ {K V : Type 0} (same : K → K → Bool) (hash : ℕ → K → ℕ) (name : ℕ → List ℕ) (m : Moment K V) (known : Known) (s : Scene K V) (old new : Held K V) (at_old : IsAt same hash old s)
     (whole : ShowsWhole same name m known s) (entries : ShowsEntries s) (owning : OwnAreMade known s.world) (owes : ShowsOwed name m known s) (waits : ShowsWaits name m s)
     (map i : ℕ) (x : CallOnKey K V K) (here : s.calls map i ≡ Some (OnKey x)) (said : Progress (Node K V)) (leads : StepLeads same hash i said s old new) where
   abbrev to : WentTo same hash name m known s old new at_old whole.all.shown map i (OnKey x) here said leads
@@ -55,7 +55,7 @@ module _ {K V S : Type 0} (same : K → K → Bool) (hash : K → ℕ) (name : �
   st = to.0
 
   abbrev told : Changed
-  told = new.memory.changed
+  told = new.changed
 
   abbrev effects : List Effect
   effects = effects_of (acts.Call i map) known told
@@ -73,17 +73,17 @@ module _ {K V S : Type 0} (same : K → K → Bool) (hash : K → ℕ) (name : �
   stands = together.stand i (OnKey x) here
 
   inner : (r : KeyCall K V K × Called (Node K V)) × (◌≡◌ {A = Machine K V K × Progress (Node K V)} (to.1, said) (of_key r))
-      × StepsTold K V (KeyCall K V K × Called (Node K V)) old.memory.memory changed.Nothing (call_plan same same hash x.call) new.memory.memory told r
-  inner = told_in old.memory.memory new.memory.memory told of_key (call_plan same same hash x.call) (to.1, said) to.3
+      × StepsTold K V (KeyCall K V K × Called (Node K V)) old.memory changed.Nothing (call_plan same same to.0.hash x.call) new.memory told r
+  inner = told_in old.memory new.memory told of_key (call_plan same same to.0.hash x.call) (to.1, said) to.3
 
   machine_is : ◌≡◌ {A = Machine K V K} to.1 (kinds.Key inner.0.0)
   machine_is = ap (λ (z : Machine K V K × Progress (Node K V)). z.0) inner.1
 
   abbrev Waits : KeyCall K V K → Type 0
-  Waits y = KeyWaits same same hash x.call old.memory.memory new.memory.memory told y
+  Waits y = KeyWaits same same to.0.hash x.call old.memory new.memory told y
 
   hands : Waits inner.0.0
-  hands = step_hands same same hash x.call old.memory.memory new.memory.memory told inner.0 inner.2
+  hands = step_hands same same to.0.hash x.call old.memory new.memory told inner.0 inner.2
 
   abbrev Did : Type 0
   Did = DidSo same hash name m known s old new at_old whole.all.shown map i (OnKey x) here said leads (OnKey x)
@@ -136,7 +136,7 @@ module _ {K V S : Type 0} (same : K → K → Bool) (hash : K → ℕ) (name : �
 
     -- it had none in hand
     had_none : pair_in_calling x.call.stands ≡ None
-    had_none = (calls_take_in_hand K V S same hash name m known s old new at_old whole.all.shown map i x here said leads own k takes).0
+    had_none = (calls_take_in_hand K V same hash name m known s old new at_old whole.all.shown map i x here said leads own k takes).0
 
     by_none : (y : KeyCall K V K) → Waits y → Goal k y
     by_none y (HandNone none) word some = absurd (cc (none, some))

@@ -24,9 +24,6 @@ use Rattle.papaya_settles.specs.Given.Callers.Together.{OverAll, Stands, Togethe
 use Rattle.papaya_settles.specs.Given.Effects.Effects.{effects_of}
 use Rattle.papaya_settles.specs.Given.Effects.Known.{Known}
 use Rattle.papaya_settles.specs.Given.Effects.declared.acting.Acting.TheVariants as acts
-use Rattle.papaya_settles.specs.Given.Executor.IsAt.{Scene, IsAt, slot_of}
-use Rattle.papaya_settles.specs.Given.Executor.Stepping.{StepLeads}
-use Rattle.papaya_settles.specs.Given.Executor.declared.executor.Executor.{Executor}
 use Rattle.papaya_settles.specs.Given.Finishes.Maps.{Standing}
 use Rattle.papaya_settles.proofs.Given.Follows.Steps.{WentTo, went_to, made_so, is_inside, DidSo, OfNoRow}
 use Rattle.papaya_settles.specs.Given.Moments.Whole.{ShowsWhole}
@@ -46,8 +43,11 @@ use Rattle.papaya_settles.specs.Given.Late.ToldSweeps.{IsRowOfSweep}
 use Rattle.papaya_settles.specs.Given.Sweeps.declared.sweep.Sweeping.TheVariants as sweeping
 use Rattle.papaya_settles.specs.Given.Resize.declared.copier.Copier.{Copier}
 use Rattle.papaya_settles.specs.Given.Tables.declared.marks.TheConstants.{TOMBSTONE}
+use Rattle.papaya_settles.specs.Given.Scenes.Held.{Held, IsAt}
+use Rattle.papaya_settles.specs.Given.Scenes.Scene.{Scene, slot_of}
+use Rattle.papaya_settles.specs.Given.Scenes.Stepping.{StepLeads}
 
-module _ {K V S : Type 0} (same : K → K → Bool) (hash : K → ℕ) (name : ℕ → List ℕ) (m : Moment K V) (known : Known) (s : Scene K V) (old new : Executor K V S) (at_old : IsAt same hash old s)
+module _ {K V : Type 0} (same : K → K → Bool) (hash : ℕ → K → ℕ) (name : ℕ → List ℕ) (m : Moment K V) (known : Known) (s : Scene K V) (old new : Held K V) (at_old : IsAt same hash old s)
     (whole : ShowsWhole same name m known s) (entries : ShowsEntries s) (owning : OwnAreMade known s.world) (owes : ShowsOwed name m known s) (waits : ShowsWaits name m s)
     (map i : ℕ) (x : CallOverAll) (here : s.calls map i ≡ Some (OverAll x)) (said : Progress (Node K V)) (leads : StepLeads same hash i said s old new) where
   abbrev to : WentTo same hash name m known s old new at_old whole.all.shown map i (OverAll x) here said leads
@@ -57,7 +57,7 @@ module _ {K V S : Type 0} (same : K → K → Bool) (hash : K → ℕ) (name : �
   st = to.0
 
   abbrev told : Changed
-  told = new.memory.changed
+  told = new.changed
 
   abbrev effects : List Effect
   effects = effects_of (acts.Call i map) known told
@@ -75,17 +75,17 @@ module _ {K V S : Type 0} (same : K → K → Bool) (hash : K → ℕ) (name : �
   stands = together.stand i (OverAll x) here
 
   inner : (r : Sweep × Swept (Node K V)) × (◌≡◌ {A = Machine K V K × Progress (Node K V)} (to.1, said) (of_sweep r))
-      × StepsTold K V (Sweep × Swept (Node K V)) old.memory.memory changed.Nothing (sweep_plan hash x.sweep) new.memory.memory told r
-  inner = told_in old.memory.memory new.memory.memory told of_sweep (sweep_plan hash x.sweep) (to.1, said) to.3
+      × StepsTold K V (Sweep × Swept (Node K V)) old.memory changed.Nothing (sweep_plan to.0.hash x.sweep) new.memory told r
+  inner = told_in old.memory new.memory told of_sweep (sweep_plan to.0.hash x.sweep) (to.1, said) to.3
 
   machine_is : ◌≡◌ {A = Machine K V K} to.1 (kinds.Sweep inner.0.0)
   machine_is = ap (λ (z : Machine K V K × Progress (Node K V)). z.0) inner.1
 
   abbrev Waits : Sweep → Type 0
-  Waits y = SweepWaits hash x.sweep old.memory.memory new.memory.memory told y
+  Waits y = SweepWaits to.0.hash x.sweep old.memory new.memory told y
 
   hands : Waits inner.0.0
-  hands = sweep_step hash x.sweep old.memory.memory new.memory.memory told inner.0 inner.2
+  hands = sweep_step to.0.hash x.sweep old.memory new.memory told inner.0 inner.2
 
   abbrev Did : Type 0
   Did = DidSo same hash name m known s old new at_old whole.all.shown map i (OverAll x) here said leads (OverAll x)

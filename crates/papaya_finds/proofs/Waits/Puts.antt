@@ -20,9 +20,6 @@ use Rattle.papaya_settles.specs.Given.Callers.Together.{CallOnKey, UnderWay, OnK
 use Rattle.papaya_settles.specs.Given.Effects.Effects.{effects_of, known_after}
 use Rattle.papaya_settles.specs.Given.Effects.Known.{Known}
 use Rattle.papaya_settles.specs.Given.Effects.declared.acting.Acting.TheVariants as acts
-use Rattle.papaya_settles.specs.Given.Executor.IsAt.{Scene, IsAt, slot_of}
-use Rattle.papaya_settles.specs.Given.Executor.Stepping.{StepLeads, StepsFrom, scene_after}
-use Rattle.papaya_settles.specs.Given.Executor.declared.executor.Executor.{Executor}
 use Rattle.papaya_settles.specs.Given.Finishes.Machines.{machine_of}
 use Rattle.papaya_settles.specs.Given.Finishes.Maps.{Standing}
 use Rattle.papaya_settles.proofs.Given.Follows.Steps.{WentTo, went_to, DidSo, OfNoRow}
@@ -49,27 +46,30 @@ use Rattle.papaya_settles.proofs.Given.Histories.Steps.{led_on}
 use Rattle.papaya_settles.proofs.Given.Moments.Calls.{calls_keep_whole}
 use Rattle.papaya_finds.specs.Puts.{IsBehindNext, ShowsPuts, PutsBegin, PutsStay, CallsKeepPuts}
 use Rattle.papaya_finds.proofs.Waits.Behind.{IsBehind, key_behind, sweep_behind, room_never, call_put, sweep_put}
+use Rattle.papaya_settles.specs.Given.Scenes.Held.{Held, IsAt}
+use Rattle.papaya_settles.specs.Given.Scenes.Scene.{Scene, slot_of}
+use Rattle.papaya_settles.specs.Given.Scenes.Stepping.{StepLeads, StepsFrom, scene_after}
 
-module _ {K V S : Type 0} (same : K → K → Bool) (hash : K → ℕ) (name : ℕ → List ℕ) (m : Moment K V) (known : Known) (s : Scene K V) (old new : Executor K V S) (at_old : IsAt same hash old s)
+module _ {K V : Type 0} (same : K → K → Bool) (hash : ℕ → K → ℕ) (name : ℕ → List ℕ) (m : Moment K V) (known : Known) (s : Scene K V) (old new : Held K V) (at_old : IsAt same hash old s)
     (whole : ShowsWhole same name m known s) (entries : ShowsEntries s) (owning : OwnAreMade known s.world) (puts : ShowsPuts known s)
     (map i : ℕ) (u : UnderWay K V K) (here : s.calls map i ≡ Some u) (said : Progress (Node K V)) (leads : StepLeads same hash i said s old new) where
   abbrev to : WentTo same hash name m known s old new at_old whole.all.shown map i u here said leads
   to = went_to same hash name m known s old new at_old whole.all.shown map i u here said leads
 
   abbrev effects : List Effect
-  effects = effects_of (acts.Call i map) known new.memory.changed
+  effects = effects_of (acts.Call i map) known new.changed
 
   abbrev known2 : Known
-  known2 = known_after (acts.Call i map) new.memory.changed known
+  known2 = known_after (acts.Call i map) new.changed known
 
   abbrev led : Scene K V
-  led = scene_after same hash s old new map i to.0 u to.1 said to.4
+  led = scene_after same s old new map i to.0 u to.1 said to.4
 
   keeps : KeepsRoles known known2
   keeps = (led_on same hash name m known s old new at_old whole whole.all.shown map i u here said leads).keeps
 
   after : ShowsWhole same name (with_effects (Some (name i)) (Some map) effects m) known2 led
-  after = calls_keep_whole K V S same hash name m known s old new at_old whole map i u here said leads
+  after = calls_keep_whole K V same hash name m known s old new at_old whole map i u here said leads
 
   stood : (st2 : Standing K) × (led.maps map ≡ Some st2)
   stood = let it = (led_on same hash name m known s old new at_old whole whole.all.shown map i u here said leads).stood map to.0 to.2 in (it.0, it.1)
@@ -94,7 +94,7 @@ module _ {K V S : Type 0} (same : K → K → Bool) (hash : K → ℕ) (name : �
   -- a row that is to put the pair was to put it
   was_due : (OfNoRow same hash name m known s old new at_old whole.all.shown map i u here said leads u to.4.did → ⊥) → (word : ℕ) (place : At) → due_in_row to.1 ≡ Some (ToPut word place)
       → due_in_row (machine_of u) ≡ Some (ToPut word place)
-  was_due other word place due = by (rows_tell_due K V S same hash name m known s old new at_old whole.all.shown whole.all.rows entries owning map i u here said leads other)
+  was_due other word place due = by (rows_tell_due K V same hash name m known s old new at_old whole.all.shown whole.all.rows entries owning map i u here said leads other)
     where
       by : RowTells i map known effects (due_in_row (machine_of u)) (due_in_row to.1) → due_in_row (machine_of u) ≡ Some (ToPut word place)
       by (TellsNone none same_due) = sym same_due ∙ due
@@ -141,7 +141,7 @@ module _ {K V S : Type 0} (same : K → K → Bool) (hash : K → ℕ) (name : �
   none_puts never y is machine word place due = absurd (never word place (ap due_in_row (sym machine) ∙ due))
 
 -- a call on one key
-module _ {K V S : Type 0} (same : K → K → Bool) (hash : K → ℕ) (name : ℕ → List ℕ) (m : Moment K V) (known : Known) (s : Scene K V) (old new : Executor K V S) (at_old : IsAt same hash old s)
+module _ {K V : Type 0} (same : K → K → Bool) (hash : ℕ → K → ℕ) (name : ℕ → List ℕ) (m : Moment K V) (known : Known) (s : Scene K V) (old new : Held K V) (at_old : IsAt same hash old s)
     (whole : ShowsWhole same name m known s) (entries : ShowsEntries s) (owning : OwnAreMade known s.world) (puts : ShowsPuts known s)
     (map i : ℕ) (x : CallOnKey K V K) (here : s.calls map i ≡ Some (OnKey x)) (said : Progress (Node K V)) (leads : StepLeads same hash i said s old new) where
   abbrev key_to : WentTo same hash name m known s old new at_old whole.all.shown map i (OnKey x) here said leads
@@ -160,7 +160,7 @@ module _ {K V S : Type 0} (same : K → K → Bool) (hash : K → ℕ) (name : �
       ])
   key_rested (p2, end, machine_is, told_is, inr row) own = absurd own
 
-  key_alike : (y : KeyCall K V K) → KeyWaits same same hash x.call old.memory.memory new.memory.memory new.memory.changed y → (word : ℕ) (place : At) → due_in_calling x.call.stands ≡ Some (ToPut word place)
+  key_alike : (y : KeyCall K V K) → KeyWaits same same key_to.0.hash x.call old.memory new.memory new.changed y → (word : ℕ) (place : At) → due_in_calling x.call.stands ≡ Some (ToPut word place)
       → due_in_calling y.stands ≡ Some (ToPut word place) → waits_in_calling y y.stands ≡ waits_in_calling x.call x.call.stands
   key_alike y (HandNone none) word place before now = absurd (let some = (call_put word place y y.stands refl now).0 in cc (none, some))
   key_alike y (HandAlike no_copy pair alike) word place before now = alike
@@ -169,12 +169,12 @@ module _ {K V S : Type 0} (same : K → K → Bool) (hash : K → ℕ) (name : �
 
   key_waits : (word : ℕ) (place : At) → due_in_row (machine_of (OnKey x)) ≡ Some (ToPut word place) → due_in_row key_to.1 ≡ Some (ToPut word place) → waits_in key_to.1 ≡ waits_in (machine_of (OnKey x))
   key_waits word place before now =
-      let it = told_in old.memory.memory new.memory.memory new.memory.changed of_key (call_plan same same hash x.call) (key_to.1, said) key_to.3 in
+      let it = told_in old.memory new.memory new.changed of_key (call_plan same same key_to.0.hash x.call) (key_to.1, said) key_to.3 in
       let machine : ◌≡◌ {A = Machine K V K} key_to.1 (kinds.Key it.0.0) = ap (λ (z : Machine K V K × Progress (Node K V)). z.0) it.1 in
       ap (λ (z : Machine K V K). waits_in z) machine
-      ∙ key_alike it.0.0 (step_hands same same hash x.call old.memory.memory new.memory.memory new.memory.changed it.0 it.2) word place before (ap (λ (z : Machine K V K). due_in_row z) (sym machine) ∙ now)
+      ∙ key_alike it.0.0 (step_hands same same key_to.0.hash x.call old.memory new.memory new.changed it.0 it.2) word place before (ap (λ (z : Machine K V K). due_in_row z) (sym machine) ∙ now)
 
-  pub key_puts : ShowsPuts (known_after (acts.Call i map) new.memory.changed known) (scene_after same hash s old new map i key_to.0 (OnKey x) key_to.1 said key_to.4)
+  pub key_puts : ShowsPuts (known_after (acts.Call i map) new.changed known) (scene_after same s old new map i key_to.0 (OnKey x) key_to.1 said key_to.4)
   key_puts =
       puts_then same hash name m known s old new at_old whole entries owning puts map i (OnKey x) here said leads
       (elim (own_or_row same hash name m known s old new at_old whole.all.shown map i (OnKey x) here said leads (OnKey x) key_to.4.did)
@@ -184,7 +184,7 @@ module _ {K V S : Type 0} (same : K → K → Bool) (hash : K → ℕ) (name : �
       ])
 
 -- a sweep
-module _ {K V S : Type 0} (same : K → K → Bool) (hash : K → ℕ) (name : ℕ → List ℕ) (m : Moment K V) (known : Known) (s : Scene K V) (old new : Executor K V S) (at_old : IsAt same hash old s)
+module _ {K V : Type 0} (same : K → K → Bool) (hash : ℕ → K → ℕ) (name : ℕ → List ℕ) (m : Moment K V) (known : Known) (s : Scene K V) (old new : Held K V) (at_old : IsAt same hash old s)
     (whole : ShowsWhole same name m known s) (entries : ShowsEntries s) (owning : OwnAreMade known s.world) (puts : ShowsPuts known s)
     (map i : ℕ) (x : CallOverAll) (here : s.calls map i ≡ Some (OverAll x)) (said : Progress (Node K V)) (leads : StepLeads same hash i said s old new) where
   abbrev sweep_to : WentTo same hash name m known s old new at_old whole.all.shown map i (OverAll x) here said leads
@@ -203,7 +203,7 @@ module _ {K V S : Type 0} (same : K → K → Bool) (hash : K → ℕ) (name : �
       ])
   sweep_rested (p2, end, machine_is, told_is, inr row) own = absurd own
 
-  sweep_alike : (y : Sweep) → SweepWaits hash x.sweep old.memory.memory new.memory.memory new.memory.changed y → (word : ℕ) (place : At) → due_in_sweeping x.sweep.stands ≡ Some (ToPut word place)
+  sweep_alike : (y : Sweep) → SweepWaits sweep_to.0.hash x.sweep old.memory new.memory new.changed y → (word : ℕ) (place : At) → due_in_sweeping x.sweep.stands ≡ Some (ToPut word place)
       → due_in_sweeping y.stands ≡ Some (ToPut word place) → waits_in_sweeping y y.stands ≡ waits_in_sweeping x.sweep x.sweep.stands
   sweep_alike y (SweptNone none) word place before now = absurd (let some = (sweep_put word place y y.stands refl now).0 in cc (none, some))
   sweep_alike y (SweptAlike no_copy pair alike) word place before now = alike
@@ -213,12 +213,12 @@ module _ {K V S : Type 0} (same : K → K → Bool) (hash : K → ℕ) (name : �
   sweep_waits : (word : ℕ) (place : At) → due_in_row {K = K} {V = V} {Q = K} (machine_of (OverAll x)) ≡ Some (ToPut word place) → due_in_row sweep_to.1 ≡ Some (ToPut word place)
       → waits_in sweep_to.1 ≡ waits_in {K = K} {V = V} {Q = K} (machine_of (OverAll x))
   sweep_waits word place before now =
-      let it = told_in old.memory.memory new.memory.memory new.memory.changed of_sweep (sweep_plan hash x.sweep) (sweep_to.1, said) sweep_to.3 in
+      let it = told_in old.memory new.memory new.changed of_sweep (sweep_plan sweep_to.0.hash x.sweep) (sweep_to.1, said) sweep_to.3 in
       let machine : ◌≡◌ {A = Machine K V K} sweep_to.1 (kinds.Sweep it.0.0) = ap (λ (z : Machine K V K × Progress (Node K V)). z.0) it.1 in
       ap (λ (z : Machine K V K). waits_in z) machine
-      ∙ sweep_alike it.0.0 (sweep_step hash x.sweep old.memory.memory new.memory.memory new.memory.changed it.0 it.2) word place before (ap (λ (z : Machine K V K). due_in_row z) (sym machine) ∙ now)
+      ∙ sweep_alike it.0.0 (sweep_step sweep_to.0.hash x.sweep old.memory new.memory new.changed it.0 it.2) word place before (ap (λ (z : Machine K V K). due_in_row z) (sym machine) ∙ now)
 
-  pub sweep_puts : ShowsPuts (known_after (acts.Call i map) new.memory.changed known) (scene_after same hash s old new map i sweep_to.0 (OverAll x) sweep_to.1 said sweep_to.4)
+  pub sweep_puts : ShowsPuts (known_after (acts.Call i map) new.changed known) (scene_after same s old new map i sweep_to.0 (OverAll x) sweep_to.1 said sweep_to.4)
   sweep_puts =
       puts_then same hash name m known s old new at_old whole entries owning puts map i (OverAll x) here said leads
       (elim (own_or_row same hash name m known s old new at_old whole.all.shown map i (OverAll x) here said leads (OverAll x) sweep_to.4.did)
@@ -228,30 +228,30 @@ module _ {K V S : Type 0} (same : K → K → Bool) (hash : K → ℕ) (name : �
       ])
 
 -- a reservation, and one that counts, has nothing to put
-module _ {K V S : Type 0} (same : K → K → Bool) (hash : K → ℕ) (old new : Executor K V S) (machine : Machine K V K) (said : Progress (Node K V)) (word : ℕ) (place : At) where
+module _ {K V : Type 0} (same : K → K → Bool) (hash : K → ℕ) (old new : Held K V) (machine : Machine K V K) (said : Progress (Node K V)) (word : ℕ) (place : At) where
   room_has_none : (r : CallForRoom) → StepsFrom same hash (machine_of (ForRoom r)) old new machine said → due_in_row machine ≡ Some (ToPut word place) → ⊥
   room_has_none r steps due =
-      (let it = told_in old.memory.memory new.memory.memory new.memory.changed of_room (reserve_plan hash r.reserve) (machine, said) steps in
+      (let it = told_in old.memory new.memory new.changed of_room (reserve_plan hash r.reserve) (machine, said) steps in
       room_never word place it.0.0.stands (sym (ap (λ (q : Machine K V K × Progress (Node K V)). due_in_row q.0) it.1) ∙ due))
 
   sum_has_none : (sum : Sum) → StepsFrom same hash (machine_of (Counting sum)) old new machine said → due_in_row machine ≡ Some (ToPut word place) → ⊥
   sum_has_none sum steps due =
-      (let it = told_in old.memory.memory new.memory.memory new.memory.changed of_sum (sum_plan sum) (machine, said) steps in
+      (let it = told_in old.memory new.memory new.changed of_sum (sum_plan sum) (machine, said) steps in
       let none = sym (ap (λ (q : Machine K V K × Progress (Node K V)). due_in_row q.0) it.1) ∙ due in cc none)
 
-pub calls_keep_puts : (K V S : Type 0) (same : K → K → Bool) (hash : K → ℕ) → CallsKeepPuts K V S same hash
-calls_keep_puts K V S same hash name m known s old new at_old whole entries owning puts map i (OnKey x) here said leads =
+pub calls_keep_puts : (K V : Type 0) (same : K → K → Bool) (hash : ℕ → K → ℕ) → CallsKeepPuts K V same hash
+calls_keep_puts K V same hash name m known s old new at_old whole entries owning puts map i (OnKey x) here said leads =
     key_puts same hash name m known s old new at_old whole entries owning puts map i x here said leads
-calls_keep_puts K V S same hash name m known s old new at_old whole entries owning puts map i (OverAll x) here said leads =
+calls_keep_puts K V same hash name m known s old new at_old whole entries owning puts map i (OverAll x) here said leads =
     sweep_puts same hash name m known s old new at_old whole entries owning puts map i x here said leads
-calls_keep_puts K V S same hash name m known s old new at_old whole entries owning puts map i (ForRoom r) here said leads =
+calls_keep_puts K V same hash name m known s old new at_old whole entries owning puts map i (ForRoom r) here said leads =
     puts_then same hash name m known s old new at_old whole entries owning puts map i (ForRoom r) here said leads
     (none_puts same hash name m known s old new at_old whole entries owning puts map i (ForRoom r) here said leads
-    (λ word place due. room_has_none same hash old new (leads map (ForRoom r) here).1 said word place r (leads map (ForRoom r) here).3 due))
-calls_keep_puts K V S same hash name m known s old new at_old whole entries owning puts map i (Counting sum) here said leads =
+    (λ word place due. room_has_none same (leads map (ForRoom r) here).0.hash old new (leads map (ForRoom r) here).1 said word place r (leads map (ForRoom r) here).3 due))
+calls_keep_puts K V same hash name m known s old new at_old whole entries owning puts map i (Counting sum) here said leads =
     puts_then same hash name m known s old new at_old whole entries owning puts map i (Counting sum) here said leads
     (none_puts same hash name m known s old new at_old whole entries owning puts map i (Counting sum) here said leads
-    (λ word place due. sum_has_none same hash old new (leads map (Counting sum) here).1 said word place sum (leads map (Counting sum) here).3 due))
+    (λ word place due. sum_has_none same (leads map (Counting sum) here).0.hash old new (leads map (Counting sum) here).1 said word place sum (leads map (Counting sum) here).3 due))
 
 pub puts_begin : (K V : Type 0) → PutsBegin K V
 puts_begin K V roots map i u is = absurd (cc is)

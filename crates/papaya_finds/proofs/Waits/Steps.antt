@@ -13,9 +13,6 @@ use Rattle.papaya_settles.specs.Given.Callers.Together.{UnderWay, OnKey, OverAll
 use Rattle.papaya_settles.specs.Given.Effects.Effects.{effects_of}
 use Rattle.papaya_settles.specs.Given.Effects.Known.{Known}
 use Rattle.papaya_settles.specs.Given.Effects.declared.acting.Acting.TheVariants as acts
-use Rattle.papaya_settles.specs.Given.Executor.IsAt.{Scene, IsAt}
-use Rattle.papaya_settles.specs.Given.Executor.Stepping.{StepLeads, StepsFrom, scene_after}
-use Rattle.papaya_settles.specs.Given.Executor.declared.executor.Executor.{Executor}
 use Rattle.papaya_settles.specs.Given.Finishes.Machines.{machine_of}
 use Rattle.papaya_settles.proofs.Given.Follows.Steps.{WentTo, went_to, one_of}
 use Rattle.papaya_settles.specs.Given.Moments.Whole.{ShowsWhole}
@@ -37,21 +34,24 @@ use Rattle.papaya_settles.proofs.Calls.{goes_as_one}
 use Rattle.papaya_settles.proofs.Gains.{others_stay}
 use Rattle.papaya_finds.proofs.Waits.OnKeys.{held_then as key_held}
 use Rattle.papaya_finds.proofs.Waits.OnSweeps.{held_then as sweep_held}
+use Rattle.papaya_settles.specs.Given.Scenes.Held.{Held, IsAt}
+use Rattle.papaya_settles.specs.Given.Scenes.Scene.{Scene}
+use Rattle.papaya_settles.specs.Given.Scenes.Stepping.{StepLeads, StepsFrom, scene_after}
 
-module _ {K V S : Type 0} (same : K → K → Bool) (hash : K → ℕ) (name : ℕ → List ℕ) (m : Moment K V) (known : Known) (s : Scene K V) (old new : Executor K V S) (at_old : IsAt same hash old s)
+module _ {K V : Type 0} (same : K → K → Bool) (hash : ℕ → K → ℕ) (name : ℕ → List ℕ) (m : Moment K V) (known : Known) (s : Scene K V) (old new : Held K V) (at_old : IsAt same hash old s)
     (whole : ShowsWhole same name m known s) (entries : ShowsEntries s) (owning : OwnAreMade known s.world) (owes : ShowsOwed name m known s) (waits : ShowsWaits name m s)
     (map i : ℕ) (u : UnderWay K V K) (here : s.calls map i ≡ Some u) (said : Progress (Node K V)) (leads : StepLeads same hash i said s old new) where
   abbrev to : WentTo same hash name m known s old new at_old whole.all.shown map i u here said leads
   to = went_to same hash name m known s old new at_old whole.all.shown map i u here said leads
 
   abbrev effects : List Effect
-  effects = effects_of (acts.Call i map) known new.memory.changed
+  effects = effects_of (acts.Call i map) known new.changed
 
   abbrev v : Moment K V
   v = with_effects (Some (name i)) (Some map) effects m
 
   abbrev led : Scene K V
-  led = scene_after same hash s old new map i to.0 u to.1 said to.4
+  led = scene_after same s old new map i to.0 u to.1 said to.4
 
   own_owes : (d : CallThere K V) → call_of (name i) v ≡ Some d → d.owes ≡ in_hand known to.1
   own_owes d is =
@@ -85,31 +85,31 @@ module _ {K V S : Type 0} (same : K → K → Bool) (hash : K → ℕ) (name : �
 
   -- a reservation, and one that counts, has no pair in hand
   abbrev HasNone : UnderWay K V K → Type 0
-  HasNone x = StepsFrom same hash (machine_of x) old new to.1 said → pair_in to.1 ≡ None
+  HasNone x = StepsFrom same to.0.hash (machine_of x) old new to.1 said → pair_in to.1 ≡ None
 
   room_none : (r : CallForRoom) → HasNone (ForRoom r)
   room_none r steps =
-      let it = told_in old.memory.memory new.memory.memory new.memory.changed of_room (reserve_plan hash r.reserve) (to.1, said) steps in
+      let it = told_in old.memory new.memory new.changed of_room (reserve_plan to.0.hash r.reserve) (to.1, said) steps in
       ap (λ (q : Machine K V K × Progress (Node K V)). pair_in q.0) it.1
 
   sum_none : (sum : Sum) → HasNone (Counting sum)
   sum_none sum steps =
-      let it = told_in old.memory.memory new.memory.memory new.memory.changed of_sum (sum_plan sum) (to.1, said) steps in
+      let it = told_in old.memory new.memory new.changed of_sum (sum_plan sum) (to.1, said) steps in
       ap (λ (q : Machine K V K × Progress (Node K V)). pair_in q.0) it.1
 
   pub none_then : pair_in to.1 ≡ None → ShowsWaits name v led
   none_then none = waits_then (λ k is word some. absurd (cc (none, some)))
 
-pub calls_keep_waits : (K V S : Type 0) (same : K → K → Bool) (hash : K → ℕ) → CallsKeepWaits K V S same hash
-calls_keep_waits K V S same hash name m known s old new at_old whole entries owning owes waits map i (OnKey x) here said leads =
+pub calls_keep_waits : (K V : Type 0) (same : K → K → Bool) (hash : ℕ → K → ℕ) → CallsKeepWaits K V same hash
+calls_keep_waits K V same hash name m known s old new at_old whole entries owning owes waits map i (OnKey x) here said leads =
     waits_then same hash name m known s old new at_old whole entries owning owes waits map i (OnKey x) here said leads
     (key_held same hash name m known s old new at_old whole entries owning owes waits map i x here said leads)
-calls_keep_waits K V S same hash name m known s old new at_old whole entries owning owes waits map i (OverAll x) here said leads =
+calls_keep_waits K V same hash name m known s old new at_old whole entries owning owes waits map i (OverAll x) here said leads =
     waits_then same hash name m known s old new at_old whole entries owning owes waits map i (OverAll x) here said leads
     (sweep_held same hash name m known s old new at_old whole entries owning owes waits map i x here said leads)
-calls_keep_waits K V S same hash name m known s old new at_old whole entries owning owes waits map i (ForRoom r) here said leads =
+calls_keep_waits K V same hash name m known s old new at_old whole entries owning owes waits map i (ForRoom r) here said leads =
     none_then same hash name m known s old new at_old whole entries owning owes waits map i (ForRoom r) here said leads
     (room_none same hash name m known s old new at_old whole entries owning owes waits map i (ForRoom r) here said leads r (leads map (ForRoom r) here).3)
-calls_keep_waits K V S same hash name m known s old new at_old whole entries owning owes waits map i (Counting sum) here said leads =
+calls_keep_waits K V same hash name m known s old new at_old whole entries owning owes waits map i (Counting sum) here said leads =
     none_then same hash name m known s old new at_old whole entries owning owes waits map i (Counting sum) here said leads
     (sum_none same hash name m known s old new at_old whole entries owning owes waits map i (Counting sum) here said leads sum (leads map (Counting sum) here).3)

@@ -34,12 +34,12 @@ use Rattle.papaya_settles.proofs.Given.Rule.Keys.Always.{Always, AlwaysOf, alway
 use Rattle.papaya_settles.specs.Given.Teller.Tells.{StepsTold, ToldAs}
 use Rattle.papaya_settles.specs.Given.Teller.declared.changed.Changed.{Changed}
 use Rattle.papaya_settles.specs.Given.Teller.declared.changed.Changed.TheVariants as changes
-use Rattle.papaya_settles.proofs.Given.Executor.Forgotten.{as_step}
 use Rattle.papaya_settles.specs.Given.Late.ToldSweeps.{IsRowOfSweep}
 use Rattle.papaya_settles.proofs.Given.Others.Outcomes.{told_in}
 use Rattle.papaya_settles.specs.InHand.{pair_in_disposing, pair_in_sweeping}
 use Rattle.papaya_finds.specs.Waits.{waits_in_disposing, waits_of, waits_in_sweeping}
 use Rattle.papaya_finds.proofs.Waits.Dispose.{Holding, WaitsGo, WaitsAlike, WaitsOver, WaitsPast, dispose_goes}
+use Rattle.papaya_settles.proofs.Given.Scenes.Told.{as_step}
 
 -- it has no pair in hand where it has come
 abbrev pub NoneOf : Sweep → Type 0

@@ -34,8 +34,6 @@ use Rattle.papaya_settles.proofs.Given.Callers.Together.Fits.{map_in_slot}
 use Rattle.papaya_settles.specs.Given.Effects.Effects.{effects_of}
 use Rattle.papaya_settles.specs.Given.Effects.Known.{Known}
 use Rattle.papaya_settles.specs.Given.Effects.declared.acting.Acting.TheVariants.{Call}
-use Rattle.papaya_settles.specs.Given.Executor.IsAt.{Scene, IsAt, slot_of}
-use Rattle.papaya_settles.specs.Given.Executor.declared.executor.Executor.{Executor}
 use Rattle.papaya_settles.specs.Given.Finishes.Maps.{Standing}
 use Rattle.papaya_settles.specs.Given.Follows.Maps.{ShowsMap}
 use Rattle.papaya_settles.specs.Given.Follows.Shows.{Shows}
@@ -46,6 +44,8 @@ use Rattle.papaya_settles.specs.Given.Spots.Spots.{named_by, spot_in, LiesAt, Sh
 use Rattle.papaya_settles.proofs.Given.Spots.Done.{DidBy, DidMoved, did_moved}
 use Rattle.papaya_settles.proofs.Given.Spots.Names.{holds_is}
 use Rattle.papaya_settles.specs.InHand.{TakesPair}
+use Rattle.papaya_settles.specs.Given.Scenes.Held.{Held, IsAt}
+use Rattle.papaya_settles.specs.Given.Scenes.Scene.{Scene, slot_of}
 
 -- one that takes a pair out by itself
 abbrev is_removal : Effect → Bool
@@ -79,14 +79,14 @@ module _ {K : Type 0} (same : K → K → Bool) (hash : K → ℕ) (c : Chart K)
       (ap (λ (x : ℕ). c.place x at.place) (sym h.0) ∙ it.1) (ap (λ (x : ℕ). c.place x i) (sym may) ∙ has)).0 in
       ap (λ (x : ℕ). spot_in x at.place) turn ∙ ap (spot_in t) place
 
-module _ {K V S : Type 0} (same : K → K → Bool) (hash : K → ℕ) (m : Moment K V) (known : Known) (s : Scene K V) (old new : Executor K V S) (at : IsAt same hash old s)
+module _ {K V : Type 0} (same : K → K → Bool) (hash : ℕ → K → ℕ) (m : Moment K V) (known : Known) (s : Scene K V) (old new : Held K V) (at : IsAt same hash old s)
     (name : ℕ → List ℕ) (shown : Shows same name m known s) (lying : ShowsPlaces m known s.maps) (map i : ℕ) (standing : Standing K) (there : s.maps map ≡ Some standing)
-    (made : Operated s.world.memory new.memory.memory new.memory.changed) (inside_it : IsInside (s.world.uses (slot_of i))) (k : ℕ) where
+    (made : Operated s.world.memory new.memory new.changed) (inside_it : IsInside (s.world.uses (slot_of i))) (k : ℕ) where
   abbrev m2 : Mem (Node K V)
-  m2 = new.memory.memory
+  m2 = new.memory
 
   abbrev told : Changed
-  told = new.memory.changed
+  told = new.changed
 
   abbrev w : World (Node K V)
   w = s.world

@@ -10,7 +10,6 @@ use Rattle.papaya_purposes.specs.Given.Schedules.Moment.{MapThere, Moment, Place
 use Rattle.papaya_purposes.specs.Given.Schedules.Views.{capacity_or, first_of, first_or, grows_in_chunks, is_in_a_map, map_at}
 use Rattle.papaya_purposes.specs.Given.Callers.Together.{OnKey, UnderWay}
 use Rattle.papaya_purposes.specs.Given.Effects.Known.{Known}
-use Rattle.papaya_purposes.specs.Given.Executor.IsAt.{Scene}
 use Rattle.papaya_purposes.specs.Given.Finishes.Machines.{machine_of}
 use Rattle.papaya_purposes.specs.Given.Finishes.Maps.{Standing}
 use Rattle.papaya_purposes.specs.Given.Follows.Calls.{ShowsCalls as IsThere}
@@ -28,6 +27,7 @@ use Rattle.papaya_purposes.proofs.Given.Finds.Waits.Puts.{puts_stay}
 use Rattle.papaya_grows.specs.Finding.{ShowsFinding}
 use Rattle.papaya_grows.proofs.Finding.Making.Between.{further_stays}
 use Rattle.papaya_grows.proofs.Finding.Making.Lengths.{lengths_same}
+use Rattle.papaya_purposes.specs.Given.Scenes.Scene.{Scene}
 
 -- this many and no fewer
 pub itself : (n : ℕ) → n ≤ n

@@ -24,14 +24,8 @@ use Rattle.papaya_purposes.specs.Given.Effects.declared.acting.Acting.{Acting}
 use Rattle.papaya_purposes.specs.Given.Effects.declared.acting.Acting.TheVariants as acts
 use Rattle.papaya_purposes.specs.Given.Effects.declared.role.Role.{Role}
 use Rattle.papaya_purposes.specs.Given.Effects.declared.role.Role.TheVariants as role
-use Rattle.papaya_purposes.specs.Given.Executor.Ending.{EndingLeads}
-use Rattle.papaya_purposes.specs.Given.Executor.IsAt.{IsAt, Scene, work_of}
-use Rattle.papaya_purposes.specs.Given.Executor.Making.{MakingLeads}
-use Rattle.papaya_purposes.specs.Given.Executor.OnSlots.{RowLeads}
-use Rattle.papaya_purposes.specs.Given.Executor.declared.executor.Executor.{Executor}
-use Rattle.papaya_purposes.specs.Given.Executor.declared.row.RowTold.{RowTold}
-use Rattle.papaya_purposes.specs.Given.Executor.declared.row.SlotRow.{SlotRow}
-use Rattle.papaya_purposes.specs.Given.Executor.declared.worker.Work.TheVariants.{OnSlot}
+use Rattle.papaya_purposes.specs.Given.Scenes.declared.row.RowTold.{RowTold}
+use Rattle.papaya_purposes.specs.Given.Scenes.declared.row.SlotRow.{SlotRow}
 use Rattle.papaya_purposes.specs.Given.Finishes.Endings.{Finishing}
 use Rattle.papaya_purposes.specs.Given.Finishes.Makings.{Beginning}
 use Rattle.papaya_purposes.specs.Given.Follows.Shows.{Shows}
@@ -44,6 +38,11 @@ use Rattle.papaya_purposes.proofs.Given.Others.MakingPlans.{TellsMaking}
 use Rattle.papaya_purposes.proofs.Given.Others.RowPlans.{row_tells}
 use Rattle.papaya_purposes.proofs.Given.Spots.Effects.{AllAside, aside_all, calm_aside, is_aside}
 use Rattle.papaya_purposes.proofs.Given.Spots.OnSlots.{row_beside}
+use Rattle.papaya_purposes.specs.Given.Scenes.Ending.{EndingLeads}
+use Rattle.papaya_purposes.specs.Given.Scenes.Held.{Held, IsAt}
+use Rattle.papaya_purposes.specs.Given.Scenes.Making.{MakingLeads}
+use Rattle.papaya_purposes.specs.Given.Scenes.OnSlots.{RowLeads}
+use Rattle.papaya_purposes.specs.Given.Scenes.Scene.{IsOnSlot, Scene}
 
 -- a pair, and a table, that is taken away
 pair_aside : (its : Acting) (n : ℕ) → is_aside (pair_taken its n) ≡ true
@@ -114,37 +113,37 @@ module _ {K V : Type 0} (map : ℕ) (known : Known) (w w2 : World (Node K V)) (i
   making_aside (changed.Took x) so l = taken_aside (acts.Making map) (known.roles x)
   making_aside (changed.Roomed bucket had) so l = absurd so
 
-module _ {K V S : Type 0} (same : K → K → Bool) (hash : K → ℕ) (name : ℕ → List ℕ) (m : Moment K V) (known : Known) (s : Scene K V) (old new : Executor K V S) (at : IsAt same hash old s) where
-  pub rows_aside : (i : ℕ) (told : RowTold (Node K V)) (leads : RowLeads same hash i told s old new) (row : SlotRow) → work_of old i ≡ Some (OnSlot row) → AllAside (effects_of acts.Row known new.memory.changed)
+module _ {K V : Type 0} (same : K → K → Bool) (hash : ℕ → K → ℕ) (name : ℕ → List ℕ) (m : Moment K V) (known : Known) (s : Scene K V) (old new : Held K V) (at : IsAt same hash old s) where
+  pub rows_aside : (i : ℕ) (told : RowTold (Node K V)) (leads : RowLeads same hash i told s old new) (row : SlotRow) → IsOnSlot s i row → AllAside (effects_of acts.Row known new.changed)
   rows_aside i told leads row here =
-      let to = leads row here in (row_beside m known new.memory.changed (row_tells old.memory.memory new.memory.memory new.memory.changed (to.0, told) row to.1)).0.0
+      let to = leads row here in (row_beside m known new.changed (row_tells old.memory new.memory new.changed (to.0, told) row to.1)).0.0
 
-  pub rows_leave_spots : (i : ℕ) (told : RowTold (Node K V)) (leads : RowLeads same hash i told s old new) (row : SlotRow) → work_of old i ≡ Some (OnSlot row)
-      → (with_effects None None (effects_of acts.Row known new.memory.changed) m).spot ≡ m.spot
-  rows_leave_spots i told leads row here = (aside_all None None (effects_of acts.Row known new.memory.changed) m (rows_aside i told leads row here)).spot
+  pub rows_leave_spots : (i : ℕ) (told : RowTold (Node K V)) (leads : RowLeads same hash i told s old new) (row : SlotRow) → IsOnSlot s i row
+      → (with_effects None None (effects_of acts.Row known new.changed) m).spot ≡ m.spot
+  rows_leave_spots i told leads row here = (aside_all None None (effects_of acts.Row known new.changed) m (rows_aside i told leads row here)).spot
 
   pub makings_aside : Shows same name m known s → (i : ℕ) (told : Making Setting) (leads : MakingLeads same hash i told s old new) (b : Beginning K) → s.makers i ≡ Some b → (of : Option ℕ)
-      → AllAside (effects_of (acts.Making b.map) known new.memory.changed)
+      → AllAside (effects_of (acts.Making b.map) known new.changed)
   makings_aside shown i told leads b here of =
       let to = leads b here in
       making_aside b.map known s.world to.2.step.w2 i b.machine.setting.root (nothing_free s.world m.stored known shown.blocks.roles)
-      (λ x q made. no_table_word same hash name m known s old new at shown i b here to.0 told to.1 to.2 of x q made) new.memory.changed
+      (λ x q made. no_table_word same hash name m known s old new at shown i b here to.0 told to.1 to.2 of x q made) new.changed
       (tells same hash name m known s old new at shown i b here to.0 told to.1 to.2 of) (left same hash name m known s old new at shown i b here to.0 told to.1 to.2 of)
 
   pub makings_leave_spots : Shows same name m known s → (i : ℕ) (told : Making Setting) (leads : MakingLeads same hash i told s old new) (b : Beginning K) → s.makers i ≡ Some b → (of : Option ℕ)
-      → (with_effects None of (effects_of (acts.Making b.map) known new.memory.changed) m).spot ≡ m.spot
-  makings_leave_spots shown i told leads b here of = (aside_all None of (effects_of (acts.Making b.map) known new.memory.changed) m (makings_aside shown i told leads b here of)).spot
+      → (with_effects None of (effects_of (acts.Making b.map) known new.changed) m).spot ≡ m.spot
+  makings_leave_spots shown i told leads b here of = (aside_all None of (effects_of (acts.Making b.map) known new.changed) m (makings_aside shown i told leads b here of)).spot
 
   pub endings_aside : ShowsWhole same name m known s → (i : ℕ) (told : Settled (Node K V)) (leads : EndingLeads same hash i told s old new) (f : Finishing K V) → s.enders i ≡ Some f
-      → (map : ℕ) → s.maps map ≡ None → AllAside (effects_of (acts.Ending map) known new.memory.changed)
+      → (map : ℕ) → s.maps map ≡ None → AllAside (effects_of (acts.Ending map) known new.changed)
   endings_aside whole i told leads f here map not_there =
       let to = leads f here in
-      elim (says same hash name m known s old new at whole i f here to.0 told to.1 to.2 map not_there to.3) as (λ _. AllAside (effects_of (acts.Ending map) known new.memory.changed)) [
-        | inl it ↦ calm_aside (effects_of (acts.Ending map) known new.memory.changed) it.0
+      elim (says same hash name m known s old new at whole i f here to.0 told to.1 to.2 map not_there to.3) as (λ _. AllAside (effects_of (acts.Ending map) known new.changed)) [
+        | inl it ↦ calm_aside (effects_of (acts.Ending map) known new.changed) it.0
         | inr it ↦ subst (λ (x : Changed). AllAside (effects_of (acts.Ending map) known x)) (sym it.1) (taken_aside (acts.Ending map) (known.roles it.0))
       ]
 
   pub endings_leave_spots : ShowsWhole same name m known s → (i : ℕ) (told : Settled (Node K V)) (leads : EndingLeads same hash i told s old new) (f : Finishing K V) → s.enders i ≡ Some f
-      → (map : ℕ) → s.maps map ≡ None → (with_effects None (Some map) (effects_of (acts.Ending map) known new.memory.changed) m).spot ≡ m.spot
+      → (map : ℕ) → s.maps map ≡ None → (with_effects None (Some map) (effects_of (acts.Ending map) known new.changed) m).spot ≡ m.spot
   endings_leave_spots whole i told leads f here map not_there =
-      (aside_all None (Some map) (effects_of (acts.Ending map) known new.memory.changed) m (endings_aside whole i told leads f here map not_there)).spot
+      (aside_all None (Some map) (effects_of (acts.Ending map) known new.changed) m (endings_aside whole i told leads f here map not_there)).spot

@@ -6,8 +6,6 @@ use Rattle.papaya_purposes.specs.Given.Schedules.Moment.{Behind, GivenBack, Hand
 use Rattle.papaya_purposes.specs.Given.Schedules.Views.{is_in_a_map}
 use Rattle.papaya_purposes.specs.Given.Callers.Together.{OnKey, UnderWay}
 use Rattle.papaya_purposes.specs.Given.Effects.Known.{Known}
-use Rattle.papaya_purposes.specs.Given.Executor.IsAt.{IsAt, Scene}
-use Rattle.papaya_purposes.specs.Given.Executor.declared.executor.Executor.{Executor}
 use Rattle.papaya_purposes.specs.Given.Moments.Whole.{ShowsWhole}
 use Rattle.papaya_purposes.proofs.Given.Moments.Beside.{IsBeside}
 use Rattle.papaya_purposes.specs.Given.Finds.Capacities.{ShowsCapacities}
@@ -20,6 +18,8 @@ use Rattle.papaya_grows.proofs.Finding.Alike.{held_in, itself, map_same}
 use Rattle.papaya_grows.proofs.Finding.Making.Between.{further_stays}
 use Rattle.papaya_grows.proofs.Finding.Making.Lengths.{KeepsLengths}
 use Rattle.papaya_grows.proofs.Finding.Puts.{puts_beside}
+use Rattle.papaya_purposes.specs.Given.Scenes.Held.{Held, IsAt}
+use Rattle.papaya_purposes.specs.Given.Scenes.Scene.{Scene}
 
 -- a place is in a map, or in none
 in_which : (p : Place) → is_in_a_map p ≡ true → (map : ℕ) × (p ≡ InMap map)
@@ -31,7 +31,7 @@ in_which Behind is = absurd (cc is)
 in_which Left is = absurd (cc is)
 in_which GivenBack is = absurd (cc is)
 
-module _ {K V S : Type 0} (same : K → K → Bool) (hash : K → ℕ) (name : ℕ → List ℕ) (m v : Moment K V) (known known2 : Known) (s t : Scene K V) (e : Executor K V S) (at : IsAt same hash e t)
+module _ {K V : Type 0} (same : K → K → Bool) (hash : ℕ → K → ℕ) (name : ℕ → List ℕ) (m v : Moment K V) (known known2 : Known) (s t : Scene K V) (e : Held K V) (at : IsAt same hash e t)
     (whole : ShowsWhole same name v known2 t) (beside : IsBeside m v known known2 s t) (finding : ShowsFinding name m known s) where
   -- who is in no map stays so
   out_still : (k : ℕ) → is_in_a_map (m.place k) ≡ false → is_in_a_map (v.place k) ≡ false

@@ -28,11 +28,6 @@ use Rattle.papaya_purposes.specs.Given.Callers.Together.{Computes, Counting, For
 use Rattle.papaya_purposes.specs.Given.Effects.Known.{Known}
 use Rattle.papaya_purposes.specs.Given.Effects.declared.role.Role.{Role}
 use Rattle.papaya_purposes.specs.Given.Effects.declared.role.Role.TheVariants as role
-use Rattle.papaya_purposes.specs.Given.Executor.Beginning.{Begins}
-use Rattle.papaya_purposes.specs.Given.Executor.IsAt.{IsAt, Scene, slot_of}
-use Rattle.papaya_purposes.specs.Given.Executor.Replying.{scene_with, unless_stopped}
-use Rattle.papaya_purposes.specs.Given.Executor.declared.executor.Executor.{Executor}
-use Rattle.papaya_purposes.proofs.Given.Executor.Changed.{standing_is}
 use Rattle.papaya_purposes.specs.Given.Finishes.Machines.{machine_of}
 use Rattle.papaya_purposes.specs.Given.Finishes.Maps.{Standing, with_call as with_in}
 use Rattle.papaya_purposes.specs.Given.Follows.Calls.{ShowsCalls as IsThere}
@@ -53,6 +48,11 @@ use Rattle.papaya_grows.specs.Finding.{ShowsFinding}
 use Rattle.papaya_grows.proofs.Finding.Alike.{held_in, itself, many_same, stood_as}
 use Rattle.papaya_grows.proofs.Finding.Making.Between.{further_stays}
 use Rattle.papaya_grows.proofs.Finding.Making.Lengths.{lengths_same}
+use Rattle.papaya_purposes.proofs.Given.Scenes.May.{standing_is}
+use Rattle.papaya_purposes.specs.Given.Scenes.Beginning.{Begins}
+use Rattle.papaya_purposes.specs.Given.Scenes.Held.{Held, IsAt}
+use Rattle.papaya_purposes.specs.Given.Scenes.Replying.{scene_with, unless_stopped}
+use Rattle.papaya_purposes.specs.Given.Scenes.Scene.{Scene, slot_of}
 
 -- A call that begins has no pair in hand, and is to put none behind a table.
 
@@ -212,7 +212,7 @@ found_kept p keep (y ∷ ys) x is kept = by (p y) refl (keep y) refl is (λ rest
     by false e true k one rest = ap (λ (b : Bool). cond b (Some y) (find p (filter keep ys))) e ∙ rest one
     by false e false k one rest = rest one
 
-module _ {K V S : Type 0} (same : K → K → Bool) (hash : K → ℕ) (name : ℕ → List ℕ) (m v : Moment K V) (known : Known) (s : Scene K V) (e : Executor K V S) (at : IsAt same hash e s) where
+module _ {K V : Type 0} (same : K → K → Bool) (hash : ℕ → K → ℕ) (name : ℕ → List ℕ) (m v : Moment K V) (known : Known) (s : Scene K V) (e : Held K V) (at : IsAt same hash e s) where
   -- at a moment with other maps, where those that stand are found as they were
   pub finding_where : ((n : ℕ) (st : Standing K) → s.maps n ≡ Some st → map_at n v ≡ map_at n m) → v.tables ≡ m.tables → v.calls ≡ m.calls → v.place ≡ m.place → v.born ≡ m.born → v.spot ≡ m.spot
       → v.stored ≡ m.stored → ShowsFinding name m known s → ShowsFinding name v known s

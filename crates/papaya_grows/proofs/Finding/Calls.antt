@@ -8,9 +8,6 @@ use Rattle.papaya_purposes.specs.Given.Callers.Together.{UnderWay}
 use Rattle.papaya_purposes.specs.Given.Effects.Effects.{effects_of, known_after}
 use Rattle.papaya_purposes.specs.Given.Effects.Known.{Known}
 use Rattle.papaya_purposes.specs.Given.Effects.declared.acting.Acting.TheVariants as acts
-use Rattle.papaya_purposes.specs.Given.Executor.IsAt.{IsAt, Scene}
-use Rattle.papaya_purposes.specs.Given.Executor.Stepping.{StepLeads, scene_after}
-use Rattle.papaya_purposes.specs.Given.Executor.declared.executor.Executor.{Executor}
 use Rattle.papaya_purposes.specs.Given.Moments.Whole.{ShowsWhole}
 use Rattle.papaya_purposes.specs.Given.Settles.Due.{OwnAreMade}
 use Rattle.papaya_kept.specs.Kept.{ShowsKept}
@@ -21,20 +18,23 @@ use Rattle.papaya_purposes.proofs.Given.Finds.Waits.Puts.{calls_keep_puts}
 use Rattle.papaya_purposes.proofs.Given.Finds.Waits.Steps.{calls_keep_waits}
 use Rattle.papaya_grows.specs.Finding.{ShowsFinding}
 use Rattle.papaya_grows.proofs.Finding.Making.Steps.{further_then}
+use Rattle.papaya_purposes.specs.Given.Scenes.Held.{Held, IsAt}
+use Rattle.papaya_purposes.specs.Given.Scenes.Scene.{Scene}
+use Rattle.papaya_purposes.specs.Given.Scenes.Stepping.{StepLeads, scene_after}
 
-module _ (K V S : Type 0) (same : K → K → Bool) (hash : K → ℕ) (name : ℕ → List ℕ) (m : Moment K V) (known : Known) (s : Scene K V) (old new : Executor K V S) (at : IsAt same hash old s)
+module _ (K V : Type 0) (same : K → K → Bool) (hash : ℕ → K → ℕ) (name : ℕ → List ℕ) (m : Moment K V) (known : Known) (s : Scene K V) (old new : Held K V) (at : IsAt same hash old s)
     (whole : ShowsWhole same name m known s) (kept : ShowsKept name m known s) (finding : ShowsFinding name m known s) (map i : ℕ) (u : UnderWay K V K) (here : s.calls map i ≡ Some u)
     (said : Progress (Node K V)) (leads : StepLeads same hash i said s old new) where
   pub calls_keep_finding : (let to = leads map u here in
-      ShowsFinding name (with_effects (Some (name i)) (Some map) (effects_of (acts.Call i map) known new.memory.changed) m) (known_after (acts.Call i map) new.memory.changed known)
-      (scene_after same hash s old new map i to.0 u to.1 said to.4))
+      ShowsFinding name (with_effects (Some (name i)) (Some map) (effects_of (acts.Call i map) known new.changed) m) (known_after (acts.Call i map) new.changed known)
+      (scene_after same s old new map i to.0 u to.1 said to.4))
   calls_keep_finding = record {
-    growing = calls_keep_growing K V S same hash name m known s old new at whole finding.growing map i u here said leads;
+    growing = calls_keep_growing K V same hash name m known s old new at whole finding.growing map i u here said leads;
     further = further_then same hash name m known s old new at whole finding.further map i u here said leads;
-    capacities = calls_keep_capacities K V S same hash name m known s old new finding.capacities map i u here said leads;
-    waits = calls_keep_waits K V S same hash name m known s old new at whole kept.entries owning kept.owed finding.waits map i u here said leads;
-    puts = calls_keep_puts K V S same hash name m known s old new at whole kept.entries owning finding.puts map i u here said leads;
+    capacities = calls_keep_capacities K V same hash name m known s old new finding.capacities map i u here said leads;
+    waits = calls_keep_waits K V same hash name m known s old new at whole kept.entries owning kept.owed finding.waits map i u here said leads;
+    puts = calls_keep_puts K V same hash name m known s old new at whole kept.entries owning finding.puts map i u here said leads;
   }
     where
       owning : OwnAreMade known s.world
-      owning = own_made K V S same hash name m known s old at whole kept
+      owning = own_made K V same hash name m known s old at whole kept

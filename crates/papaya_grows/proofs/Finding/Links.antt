@@ -33,9 +33,6 @@ use Rattle.papaya_purposes.specs.Given.Callers.Together.{Counting, ForRoom, OnKe
 use Rattle.papaya_purposes.specs.Given.Effects.Effects.{effects_of}
 use Rattle.papaya_purposes.specs.Given.Effects.Known.{Known}
 use Rattle.papaya_purposes.specs.Given.Effects.declared.acting.Acting.TheVariants as acts
-use Rattle.papaya_purposes.specs.Given.Executor.IsAt.{IsAt, Scene}
-use Rattle.papaya_purposes.specs.Given.Executor.Stepping.{StepLeads}
-use Rattle.papaya_purposes.specs.Given.Executor.declared.executor.Executor.{Executor}
 use Rattle.papaya_purposes.specs.Given.Finishes.Machines.{machine_of}
 use Rattle.papaya_purposes.specs.Given.Follows.Calls.{IsCalled}
 use Rattle.papaya_purposes.specs.Given.Follows.Finds.{FindsMap}
@@ -52,6 +49,9 @@ use Rattle.papaya_purposes.proofs.Given.Finds.Linking.{made_so, none_shaped, one
 use Rattle.papaya_purposes.proofs.Given.Finds.Steps.{steps_find_places}
 use Rattle.papaya_grows.specs.Further.{CallMakes, CopierMakes, IsBehind, IsFurther, MachineMakes, RoomMakes, ShowsFurther, SweepMakes, lengths_in, lengths_of}
 use Rattle.papaya_grows.proofs.Finding.Making.Lengths.{last_at}
+use Rattle.papaya_purposes.specs.Given.Scenes.Held.{Held, IsAt}
+use Rattle.papaya_purposes.specs.Given.Scenes.Scene.{Scene}
+use Rattle.papaya_purposes.specs.Given.Scenes.Stepping.{StepLeads}
 
 -- what its call makes a copier makes, and so it is such a making
 module _ (Such : NewTable → Type 0) (n : NewTable) where
@@ -107,11 +107,11 @@ module _ {K V : Type 0} (terms : Terms) (moments : List (Moment K V)) (c : CallT
       let last = last_of x ts in
       (NoPlace, 0, initial, made_for, may_make last c.call 0, subst (λ (n : ℕ). Has (next_len NoPlace n 0 0) p.len) (sym (last_at x ts is.0 is.1 is.3 (sym is.2 ∙ turn))) is.4, is.5)
 
-module _ {K V S : Type 0} (same : K → K → Bool) (hash : K → ℕ) (name : ℕ → List ℕ) (m : Moment K V) (known : Known) (s : Scene K V) (old new : Executor K V S) (at : IsAt same hash old s)
+module _ {K V : Type 0} (same : K → K → Bool) (hash : ℕ → K → ℕ) (name : ℕ → List ℕ) (m : Moment K V) (known : Known) (s : Scene K V) (old new : Held K V) (at : IsAt same hash old s)
     (whole : ShowsWhole same name m known s) (tables : ShowsTables name m known s) (map i : ℕ) (u : UnderWay K V K) (here : s.calls map i ≡ Some u) (said : Progress (Node K V))
     (leads : StepLeads same hash i said s old new) (terms : Terms) (moments : List (Moment K V)) where
   abbrev effects : List Effect
-  effects = effects_of (acts.Call i map) known new.memory.changed
+  effects = effects_of (acts.Call i map) known new.changed
 
   abbrev its_call : (c : CallThere K V) × (call_of (name i) m ≡ Some c) × (c.map ≡ map) × IsCalled same u c.call
   its_call = whole.all.shown.calls map i u here
@@ -136,7 +136,7 @@ module _ {K V S : Type 0} (same : K → K → Bool) (hash : K → ℕ) (name : �
   none_links none = links_by (λ p effects_are had. absurd (let made : table_made None ≡ Some p = subst (λ (o : Option NewTable). table_made o ≡ Some p) none had in cc made))
 
   on_map : AtEachEffect (FindsMap map) (Some (name i)) (Some map) effects m
-  on_map = (steps_find_places K V S same hash name m known s old new at whole map i u here said leads).0
+  on_map = (steps_find_places K V same hash name m known s old new at whole map i u here said leads).0
 
   -- whatever makes it, if that is a copier
   module _ (such : (n : NewTable) → making_of (machine_of u) ≡ Some n → IsFurther (lengths_of map m) n × (making_of_copier (machine_of u) ≡ Some n))

@@ -31,12 +31,6 @@ use Rattle.papaya_purposes.specs.Given.Callers.Together.{UnderWay}
 use Rattle.papaya_purposes.specs.Given.Effects.Effects.{effects_of}
 use Rattle.papaya_purposes.specs.Given.Effects.Known.{Known}
 use Rattle.papaya_purposes.specs.Given.Effects.declared.acting.Acting.TheVariants as acts
-use Rattle.papaya_purposes.specs.Given.Executor.Beginning.{Begins}
-use Rattle.papaya_purposes.specs.Given.Executor.IsAt.{IsAt, Scene}
-use Rattle.papaya_purposes.specs.Given.Executor.Replying.{scene_with, unless_stopped}
-use Rattle.papaya_purposes.specs.Given.Executor.Stepping.{StepLeads, scene_after}
-use Rattle.papaya_purposes.specs.Given.Executor.declared.executor.Executor.{Executor}
-use Rattle.papaya_purposes.proofs.Given.Executor.Forgotten.{as_step}
 use Rattle.papaya_purposes.specs.Given.Finishes.Machines.{machine_of}
 use Rattle.papaya_purposes.specs.Given.Finishes.Maps.{Standing, with_call as with_in}
 use Rattle.papaya_purposes.specs.Given.Follows.Calling.{NoneNamed, come_to, told}
@@ -54,6 +48,12 @@ use Rattle.papaya_grows.proofs.Finding.Making.OffRoot.{HasCopier, NoTable, machi
 use Rattle.papaya_grows.proofs.Finding.Making.Such.{machine_more}
 use Rattle.papaya_grows.proofs.Finding.Making.Unpromoted.{OffRoot, effects_keep_next, many_from, off_promotes_none}
 use Rattle.papaya_grows.proofs.Since as since
+use Rattle.papaya_purposes.proofs.Given.Scenes.Told.{as_step}
+use Rattle.papaya_purposes.specs.Given.Scenes.Beginning.{Begins}
+use Rattle.papaya_purposes.specs.Given.Scenes.Held.{Held, IsAt}
+use Rattle.papaya_purposes.specs.Given.Scenes.Replying.{scene_with, unless_stopped}
+use Rattle.papaya_purposes.specs.Given.Scenes.Scene.{Scene}
+use Rattle.papaya_purposes.specs.Given.Scenes.Stepping.{StepLeads, scene_after}
 
 -- A map has a second table where it is there with the same root, and the same tables.
 
@@ -93,7 +93,7 @@ pub nexts_alike : {K V : Type 0} (name : ℕ → List ℕ) (log : List (Entry K 
 nexts_alike {K} {V} name log m v s t nexts calls keeps was = since.so_alike (Of K V) (more K V) (replies K V) (asked K V) (So K V) (AnyPairs K V) (λ m v pairs. tt) (so_where K V) name log m v s t nexts calls (λ n j x is y has. keeps n has) was
 
 -- at a moment with other maps, where those that stand are found as they were
-pub nexts_where : {K V S : Type 0} (same : K → K → Bool) (hash : K → ℕ) (name : ℕ → List ℕ) (log : List (Entry K V)) (m v : Moment K V) (s : Scene K V) (e : Executor K V S) → IsAt same hash e s → ShowsNexts name log m s
+pub nexts_where : {K V : Type 0} (same : K → K → Bool) (hash : ℕ → K → ℕ) (name : ℕ → List ℕ) (log : List (Entry K V)) (m v : Moment K V) (s : Scene K V) (e : Held K V) → IsAt same hash e s → ShowsNexts name log m s
     → ((n : ℕ) (st : Standing K) → s.maps n ≡ Some st → map_at n v ≡ map_at n m) → v.tables ≡ m.tables → v.calls ≡ m.calls → ShowsNexts name log v s
 nexts_where {K} {V} same hash name log m v s e at nexts still tables calls =
     since.so_where_found (Of K V) (more K V) (replies K V) (asked K V) (So K V) (AnyPairs K V) (λ m v pairs. tt) (so_where K V) same hash name log m v s e at nexts still tt tables calls
@@ -143,7 +143,7 @@ module _ {T A : Type 0} (P : Type 0) (so : P) where
   so_of_each (Turn rest) = so_of_rest rest
   so_of_each (Do op rest) = λ out. so_of_rest (rest out)
 
-module _ {K V S : Type 0} (same : K → K → Bool) (hash : K → ℕ) (name : ℕ → List ℕ) (log : List (Entry K V)) (m : Moment K V) (known : Known) (s : Scene K V) (old new : Executor K V S) (at : IsAt same hash old s)
+module _ {K V : Type 0} (same : K → K → Bool) (hash : ℕ → K → ℕ) (name : ℕ → List ℕ) (log : List (Entry K V)) (m : Moment K V) (known : Known) (s : Scene K V) (old new : Held K V) (at : IsAt same hash old s)
     (whole : ShowsWhole same name m known s) (map i : ℕ) (u : UnderWay K V K) (here : s.calls map i ≡ Some u) (said : Progress (Node K V)) (leads : StepLeads same hash i said s old new)
     (others : OthersHadNext name log i m s) where
   abbrev to : WentTo same hash name m known s old new at whole.all.shown map i u here said leads
@@ -153,7 +153,7 @@ module _ {K V S : Type 0} (same : K → K → Bool) (hash : K → ℕ) (name : �
   st = to.0
 
   abbrev step_told : Changed
-  step_told = new.memory.changed
+  step_told = new.changed
 
   abbrev effects : List Effect
   effects = effects_of (acts.Call i map) known step_told
@@ -162,7 +162,7 @@ module _ {K V S : Type 0} (same : K → K → Bool) (hash : K → ℕ) (name : �
   v = with_effects (Some (name i)) (Some map) effects m
 
   abbrev led : Scene K V
-  led = scene_after same hash s old new map i st u to.1 said to.4
+  led = scene_after same s old new map i st u to.1 said to.4
 
   pub others_go_on : OthersHadNext name log i v led
   others_go_on = since.others_go_on (Of K V) (more K V) (replies K V) (asked K V) (So K V) (AnyPairs K V) (λ m v pairs. tt) (so_where K V) same hash name log m known s old new at whole map i u here said leads others
@@ -176,7 +176,7 @@ module _ {K V S : Type 0} (same : K → K → Bool) (hash : K → ℕ) (name : �
 
     -- its map has a second table still where it makes one
     came_off : MachineMakes Before to.1 → MachineMakes After to.1
-    came_off makes = elim (machine_off old.memory.memory new.memory.memory step_told same same hash (machine_of u) to.1 said to.3) as (λ _. MachineMakes After to.1) [
+    came_off makes = elim (machine_off old.memory new.memory step_told same same to.0.hash (machine_of u) to.1 said to.3) as (λ _. MachineMakes After to.1) [
       | inl none ↦ machine_more NoTable After (λ n nothing. absurd nothing) to.1 none
       | inr off ↦ machine_more Before After (λ n so. follow off so) to.1 makes
     ]
@@ -187,16 +187,16 @@ module _ {K V S : Type 0} (same : K → K → Bool) (hash : K → ℕ) (name : �
 
     none_by : (x : Copier) → HasCopier (machine_of u) x → IsFollowed s.world x → MachineMakes NoTable to.1
     none_by x its is =
-        machine_none old.memory.memory new.memory.memory step_told same same hash x is.0 (λ read. is.1 (subst (λ (q : Mem (Node K V)). word_at q (at_word x.target NEXT) ≡ Some 0) (sym at.memory) read)) (machine_of u) to.1 said its
+        machine_none old.memory new.memory step_told same same to.0.hash x is.0 (λ read. is.1 (subst (λ (q : Mem (Node K V)). word_at q (at_word x.target NEXT) ≡ Some 0) (sym at.memory) read)) (machine_of u) to.1 said its
         to.3
 
     own_makes : MachineMakes After to.1
     own_makes =
         elim (begins_ahead Before same hash s old at map i st to.2 (λ ahead given table. inr (second_there map (whole.all.shown.number map) st m known (whole.all.shown.maps map st to.2) ahead)) u here) as (λ _. MachineMakes After to.1) [
           | inl begins ↦
-              came_off (always_steps (Ends Before K V K) old.memory.memory new.memory.memory (machine_plan same same hash (machine_of u)) (to.1, said)
-              (machine_makes Before K V K (λ n so. so_of_each (MayFollow map c.begun log m) so (new_table_plan {K = K} {V = V} n)) same same hash (machine_of u) (nexts map i u here c c_is) begins)
-              (as_step old.memory.memory changed.Nothing (machine_plan same same hash (machine_of u)) new.memory.memory step_told (to.1, said) to.3))
+              came_off (always_steps (Ends Before K V K) old.memory new.memory (machine_plan same same to.0.hash (machine_of u)) (to.1, said)
+              (machine_makes Before K V K (λ n so. so_of_each (MayFollow map c.begun log m) so (new_table_plan {K = K} {V = V} n)) same same to.0.hash (machine_of u) (nexts map i u here c c_is) begins)
+              (as_step old.memory changed.Nothing (machine_plan same same to.0.hash (machine_of u)) new.memory step_told (to.1, said) to.3))
           | inr followed ↦ machine_more NoTable After (λ n nothing. absurd nothing) to.1 (none_by followed.0 followed.1 followed.2)
         ]
 

@@ -12,16 +12,9 @@ use Rattle.papaya_purposes.specs.Given.Callers.Together.{UnderWay}
 use Rattle.papaya_purposes.specs.Given.Effects.Effects.{effects_of, known_after}
 use Rattle.papaya_purposes.specs.Given.Effects.Known.{Known}
 use Rattle.papaya_purposes.specs.Given.Effects.declared.acting.Acting.TheVariants as acts
-use Rattle.papaya_purposes.specs.Given.Executor.Ending.{EndingLeads}
-use Rattle.papaya_purposes.specs.Given.Executor.IsAt.{IsAt, Scene, slot_of, work_of}
-use Rattle.papaya_purposes.specs.Given.Executor.Making.{MakingLeads}
-use Rattle.papaya_purposes.specs.Given.Executor.OnSlots.{MayBegin, RowBegins, RowLeads}
-use Rattle.papaya_purposes.specs.Given.Executor.Rows.{request_of}
-use Rattle.papaya_purposes.specs.Given.Executor.declared.executor.Executor.{Executor}
-use Rattle.papaya_purposes.specs.Given.Executor.declared.row.RowTold.{RowTold}
-use Rattle.papaya_purposes.specs.Given.Executor.declared.row.SlotCall.{SlotCall}
-use Rattle.papaya_purposes.specs.Given.Executor.declared.row.SlotRow.{SlotRow}
-use Rattle.papaya_purposes.specs.Given.Executor.declared.worker.Work.TheVariants.{OnSlot}
+use Rattle.papaya_purposes.specs.Given.Scenes.declared.row.RowTold.{RowTold}
+use Rattle.papaya_purposes.specs.Given.Scenes.declared.row.SlotCall.{SlotCall}
+use Rattle.papaya_purposes.specs.Given.Scenes.declared.row.SlotRow.{SlotRow}
 use Rattle.papaya_purposes.specs.Given.Finishes.Endings.{Finishing}
 use Rattle.papaya_purposes.specs.Given.Finishes.Makings.{Beginning}
 use Rattle.papaya_purposes.specs.Given.Others.Endings.{ending_after}
@@ -38,51 +31,57 @@ use Rattle.papaya_grows.specs.Nexts.{ShowsNexts}
 use Rattle.papaya_grows.proofs.Finding.Making.Unpromoted.{same_maps_keep_next}
 use Rattle.papaya_grows.proofs.Finding.Nexts.{nexts_alike}
 use Rattle.papaya_grows.proofs.Finding.Others.{ended, ended_calls, ended_maps, ended_world}
+use Rattle.papaya_purposes.specs.Given.Scenes.Ending.{EndingLeads}
+use Rattle.papaya_purposes.specs.Given.Scenes.Held.{Held, IsAt}
+use Rattle.papaya_purposes.specs.Given.Scenes.Making.{MakingLeads}
+use Rattle.papaya_purposes.specs.Given.Scenes.OnSlots.{RowBegins, RowLeads}
+use Rattle.papaya_purposes.specs.Given.Scenes.Rows.{request_of}
+use Rattle.papaya_purposes.specs.Given.Scenes.Scene.{IsOnSlot, Scene, slot_of}
 
 -- where calls and maps are as they were
 nexts_beside : {K V : Type 0} (name : ℕ → List ℕ) (log : List (Entry K V)) (m v : Moment K V) (known known2 : Known) (s t : Scene K V) → IsBeside m v known known2 s t → ((n : ℕ) → HasNext n m → HasNext n v) → ShowsNexts name log m s
     → ShowsNexts name log v t
 nexts_beside {K} {V} name log m v known known2 s t beside keeps nexts = nexts_alike name log m v s t nexts beside.calls keeps (λ n j x is. ap (λ (f : ℕ → ℕ → Option (UnderWay K V K)). f n j) (sym beside.same_calls) ∙ is)
 
-module _ (K V S : Type 0) (same : K → K → Bool) (hash : K → ℕ) (name : ℕ → List ℕ) (log : List (Entry K V)) (m : Moment K V) (known : Known) (s : Scene K V) (old new : Executor K V S) (nexts : ShowsNexts name log m s) where
+module _ (K V : Type 0) (same : K → K → Bool) (hash : ℕ → K → ℕ) (name : ℕ → List ℕ) (log : List (Entry K V)) (m : Moment K V) (known : Known) (s : Scene K V) (old new : Held K V) (nexts : ShowsNexts name log m s) where
   -- a row begins on a slot
-  pub rows_begin_nexts : (called : SlotCall) (i : ℕ) (may : MayBegin old (slot_of i) called) (leads : RowBegins same hash called i s old new)
-      → ShowsNexts name log m (scene_then same hash (Begin i (request_of (slot_of i) called)) s old new (leads may).3)
-  rows_begin_nexts called i may leads =
-      let t = scene_then same hash (Begin i (request_of (slot_of i) called)) s old new (leads may).3 in
-      nexts_beside name log m m known known s t (rows_begin_beside K V S same hash m known s old new called i may leads) (λ n has. has) nexts
+  pub rows_begin_nexts : (called : SlotCall) (i : ℕ) (leads : RowBegins same hash called i s old new)
+      → ShowsNexts name log m (scene_then same hash (Begin i (request_of (slot_of i) called)) s old new leads.2)
+  rows_begin_nexts called i leads =
+      let t = scene_then same hash (Begin i (request_of (slot_of i) called)) s old new leads.2 in
+      nexts_beside name log m m known known s t (rows_begin_beside K V same hash m known s old new called i leads) (λ n has. has) nexts
 
   module _ (at : IsAt same hash old s) (whole : ShowsWhole same name m known s) where
     -- a step of one
-    pub rows_keep_nexts : (i : ℕ) (said : RowTold (Node K V)) (leads : RowLeads same hash i said s old new) (row : SlotRow) (here : work_of old i ≡ Some (OnSlot row))
-        → ShowsNexts name log (with_effects None None (effects_of acts.Row known new.memory.changed) m) (scene_then same hash (Step i) s old new (leads row here).4)
+    pub rows_keep_nexts : (i : ℕ) (said : RowTold (Node K V)) (leads : RowLeads same hash i said s old new) (row : SlotRow) (here : IsOnSlot s i row)
+        → ShowsNexts name log (with_effects None None (effects_of acts.Row known new.changed) m) (scene_then same hash (Step i) s old new (leads row here).2)
     rows_keep_nexts i said leads row here =
         let to = leads row here in
-        let effects = effects_of acts.Row known new.memory.changed in
+        let effects = effects_of acts.Row known new.changed in
         let v = with_effects None None effects m in
-        let t = scene_then same hash (Step i) s old new to.4 in
-        let beside = row_beside same hash m known s old new at i row here (to.0, said) to.1 to.4 in
-        nexts_beside name log m v known (known_after acts.Row new.memory.changed known) s t beside (same_maps_keep_next None None effects m beside.maps) nexts
+        let t = scene_then same hash (Step i) s old new to.2 in
+        let beside = row_beside same hash m known s old new at i row here (to.0, said) to.1 to.2 in
+        nexts_beside name log m v known (known_after acts.Row new.changed known) s t beside (same_maps_keep_next None None effects m beside.maps) nexts
 
     -- of the making of a map
     pub makings_keep_nexts : (i : ℕ) (said : Making Setting) (leads : MakingLeads same hash i said s old new) (b : Beginning K) (here : s.makers i ≡ Some b) → WasNew b.map said m
-        → ShowsNexts name log (with_effects None (Some b.map) (effects_of (acts.Making b.map) known new.memory.changed) m) (making_after same hash s old new i b (leads b here).0 (leads b here).2.step.w2 said (leads b here).3)
+        → ShowsNexts name log (with_effects None (Some b.map) (effects_of (acts.Making b.map) known new.changed) m) (making_after same hash s old new i b (leads b here).0 (leads b here).2.step.w2 said (leads b here).3)
     makings_keep_nexts i said leads b here was_new =
-        let effects = effects_of (acts.Making b.map) known new.memory.changed in
+        let effects = effects_of (acts.Making b.map) known new.changed in
         let v = with_effects None (Some b.map) effects m in
         let t = making_after same hash s old new i b (leads b here).0 (leads b here).2.step.w2 said (leads b here).3 in
-        let beside = makings_go_beside K V S same hash name m known s old new at whole i said leads b here (Some b.map) was_new in
-        nexts_beside name log m v known (known_after (acts.Making b.map) new.memory.changed known) s t beside (same_maps_keep_next None (Some b.map) effects m beside.maps) nexts
+        let beside = makings_go_beside K V same hash name m known s old new at whole i said leads b here (Some b.map) was_new in
+        nexts_beside name log m v known (known_after (acts.Making b.map) new.changed known) s t beside (same_maps_keep_next None (Some b.map) effects m beside.maps) nexts
 
     -- and of the end of one
     module _ (i : ℕ) (f : Finishing K V) (here : s.enders i ≡ Some f) where
       pub endings_keep_nexts : (said : Settled (Node K V)) (leads : EndingLeads same hash i said s old new) (map : ℕ) → s.maps map ≡ None
-          → ShowsNexts name log (with_effects None (Some map) (effects_of (acts.Ending map) known new.memory.changed) m) (ending_after same hash s new i f (leads f here).0 (leads f here).2.w2 (leads f here).2.deed said (leads f here).3)
+          → ShowsNexts name log (with_effects None (Some map) (effects_of (acts.Ending map) known new.changed) m) (ending_after same hash s new i f (leads f here).0 (leads f here).2.w2 (leads f here).2.deed said (leads f here).3)
       endings_keep_nexts said leads map not_there =
           let to = leads f here in
-          let effects = effects_of (acts.Ending map) known new.memory.changed in
+          let effects = effects_of (acts.Ending map) known new.changed in
           let v = with_effects None (Some map) effects m in
           let t = ended same hash s old new i f here said leads in
           let beside = end_beside same hash name m known s old new at whole i f here to.0 said to.1 to.2 map not_there to.3 t (ended_world same hash s old new i f here said leads)
           (ended_calls same hash s old new i f here said leads) (ended_maps same hash s old new i f here said leads) in
-          nexts_beside name log m v known (known_after (acts.Ending map) new.memory.changed known) s t beside (same_maps_keep_next None (Some map) effects m beside.maps) nexts
+          nexts_beside name log m v known (known_after (acts.Ending map) new.changed known) s t beside (same_maps_keep_next None (Some map) effects m beside.maps) nexts

@@ -14,16 +14,9 @@ use Rattle.papaya_purposes.specs.Given.Callers.Together.{OnKey, UnderWay}
 use Rattle.papaya_purposes.specs.Given.Effects.Effects.{effects_of, known_after}
 use Rattle.papaya_purposes.specs.Given.Effects.Known.{Known}
 use Rattle.papaya_purposes.specs.Given.Effects.declared.acting.Acting.TheVariants as acts
-use Rattle.papaya_purposes.specs.Given.Executor.Ending.{EndingLeads}
-use Rattle.papaya_purposes.specs.Given.Executor.IsAt.{IsAt, Scene, slot_of, work_of}
-use Rattle.papaya_purposes.specs.Given.Executor.Making.{MakingLeads}
-use Rattle.papaya_purposes.specs.Given.Executor.OnSlots.{MayBegin, RowBegins, RowLeads}
-use Rattle.papaya_purposes.specs.Given.Executor.Rows.{request_of}
-use Rattle.papaya_purposes.specs.Given.Executor.declared.executor.Executor.{Executor}
-use Rattle.papaya_purposes.specs.Given.Executor.declared.row.RowTold.{RowTold}
-use Rattle.papaya_purposes.specs.Given.Executor.declared.row.SlotCall.{SlotCall}
-use Rattle.papaya_purposes.specs.Given.Executor.declared.row.SlotRow.{SlotRow}
-use Rattle.papaya_purposes.specs.Given.Executor.declared.worker.Work.TheVariants.{OnSlot}
+use Rattle.papaya_purposes.specs.Given.Scenes.declared.row.RowTold.{RowTold}
+use Rattle.papaya_purposes.specs.Given.Scenes.declared.row.SlotCall.{SlotCall}
+use Rattle.papaya_purposes.specs.Given.Scenes.declared.row.SlotRow.{SlotRow}
 use Rattle.papaya_purposes.specs.Given.Finishes.Endings.{Finishing}
 use Rattle.papaya_purposes.specs.Given.Finishes.Makings.{Beginning}
 use Rattle.papaya_purposes.specs.Given.Finishes.Maps.{IsSameMap}
@@ -43,9 +36,15 @@ use Rattle.papaya_grows.specs.Finding.{ShowsFinding}
 use Rattle.papaya_grows.proofs.Finding.Alike.{itself, stood_as}
 use Rattle.papaya_grows.proofs.Finding.Aside.{endings_leave_spots, makings_leave_spots, rows_leave_spots}
 use Rattle.papaya_grows.proofs.Finding.Beside.{finding_beside}
+use Rattle.papaya_purposes.specs.Given.Scenes.Ending.{EndingLeads}
+use Rattle.papaya_purposes.specs.Given.Scenes.Held.{Held, IsAt}
+use Rattle.papaya_purposes.specs.Given.Scenes.Making.{MakingLeads}
+use Rattle.papaya_purposes.specs.Given.Scenes.OnSlots.{RowBegins, RowLeads}
+use Rattle.papaya_purposes.specs.Given.Scenes.Rows.{request_of}
+use Rattle.papaya_purposes.specs.Given.Scenes.Scene.{IsOnSlot, Scene, slot_of}
 
 -- the scene after a step of the end of a map
-module _ {K V S : Type 0} (same : K → K → Bool) (hash : K → ℕ) (s : Scene K V) (old new : Executor K V S) (i : ℕ) (f : Finishing K V) (here : s.enders i ≡ Some f) where
+module _ {K V : Type 0} (same : K → K → Bool) (hash : ℕ → K → ℕ) (s : Scene K V) (old new : Held K V) (i : ℕ) (f : Finishing K V) (here : s.enders i ≡ Some f) where
   abbrev pub ended : (said : Settled (Node K V)) → EndingLeads same hash i said s old new → Scene K V
   ended said leads = ending_after same hash s new i f (leads f here).0 (leads f here).2.w2 (leads f here).2.deed said (leads f here).3
 
@@ -67,57 +66,57 @@ module _ {K V S : Type 0} (same : K → K → Bool) (hash : K → ℕ) (s : Scen
   ended_maps (settled.Gave value) leads = refl
   ended_maps settled.Done leads = refl
 
-module _ (K V S : Type 0) (same : K → K → Bool) (hash : K → ℕ) (name : ℕ → List ℕ) (m : Moment K V) (known : Known) (s : Scene K V) (old new : Executor K V S) where
+module _ (K V : Type 0) (same : K → K → Bool) (hash : ℕ → K → ℕ) (name : ℕ → List ℕ) (m : Moment K V) (known : Known) (s : Scene K V) (old new : Held K V) where
   -- a row begins on a slot
-  pub rows_begin_finding : ShowsFinding name m known s → (called : SlotCall) (i : ℕ) (may : MayBegin old (slot_of i) called) (leads : RowBegins same hash called i s old new)
-      → ShowsWhole same name m known (scene_then same hash (Begin i (request_of (slot_of i) called)) s old new (leads may).3)
-      → ShowsFinding name m known (scene_then same hash (Begin i (request_of (slot_of i) called)) s old new (leads may).3)
-  rows_begin_finding finding called i may leads whole2 =
-      let to = (leads may).3 in
+  pub rows_begin_finding : ShowsFinding name m known s → (called : SlotCall) (i : ℕ) (leads : RowBegins same hash called i s old new)
+      → ShowsWhole same name m known (scene_then same hash (Begin i (request_of (slot_of i) called)) s old new leads.2)
+      → ShowsFinding name m known (scene_then same hash (Begin i (request_of (slot_of i) called)) s old new leads.2)
+  rows_begin_finding finding called i leads whole2 =
+      let to = leads.2 in
       let t = scene_then same hash (Begin i (request_of (slot_of i) called)) s old new to in
-      finding_beside same hash name m m known known s t new to.4 whole2 (rows_begin_beside K V S same hash m known s old new called i may leads) finding refl (λ of. itself (many_of of m)) (λ map t n is. is)
+      finding_beside same hash name m m known known s t new to.4 whole2 (rows_begin_beside K V same hash m known s old new called i leads) finding refl (λ of. itself (many_of of m)) (λ map t n is. is)
       (capacities_stay K V m m s t finding.capacities (λ n st is. refl) (same_maps_stood K V s t to.3))
 
   module _ (at : IsAt same hash old s) (whole : ShowsWhole same name m known s) (finding : ShowsFinding name m known s) where
     -- a step of one
-    pub rows_keep_finding : (i : ℕ) (said : RowTold (Node K V)) (leads : RowLeads same hash i said s old new) (row : SlotRow) (here : work_of old i ≡ Some (OnSlot row))
-        → (let v = with_effects None None (effects_of acts.Row known new.memory.changed) m in
-        let t = scene_then same hash (Step i) s old new (leads row here).4 in
-        ShowsWhole same name v (known_after acts.Row new.memory.changed known) t → ShowsFinding name v (known_after acts.Row new.memory.changed known) t)
+    pub rows_keep_finding : (i : ℕ) (said : RowTold (Node K V)) (leads : RowLeads same hash i said s old new) (row : SlotRow) (here : IsOnSlot s i row)
+        → (let v = with_effects None None (effects_of acts.Row known new.changed) m in
+        let t = scene_then same hash (Step i) s old new (leads row here).2 in
+        ShowsWhole same name v (known_after acts.Row new.changed known) t → ShowsFinding name v (known_after acts.Row new.changed known) t)
     rows_keep_finding i said leads row here whole2 =
         let to = leads row here in
-        let effects = effects_of acts.Row known new.memory.changed in
+        let effects = effects_of acts.Row known new.changed in
         let v = with_effects None None effects m in
-        let t = scene_then same hash (Step i) s old new to.4 in
-        finding_beside same hash name m v known (known_after acts.Row new.memory.changed known) s t new to.4.4 whole2 (row_beside same hash m known s old new at i row here (to.0, said) to.1 to.4) finding
+        let t = scene_then same hash (Step i) s old new to.2 in
+        finding_beside same hash name m v known (known_after acts.Row new.changed known) s t new to.2.4 whole2 (row_beside same hash m known s old new at i row here (to.0, said) to.1 to.2) finding
         (rows_leave_spots same hash name m known s old new at i said leads row here) (tables_have_been K V None None effects m) (effects_keep_lengths None None effects m)
-        (capacities_stay K V m v s t finding.capacities (λ n st is. effects_keep_capacities K V None None effects m n) (same_maps_stood K V s t to.4.3))
+        (capacities_stay K V m v s t finding.capacities (λ n st is. effects_keep_capacities K V None None effects m n) (same_maps_stood K V s t to.2.3))
 
     -- of the making of a map, that began for its capacity
     pub makings_keep_finding : (i : ℕ) (said : Making Setting) (leads : MakingLeads same hash i said s old new) (b : Beginning K) (here : s.makers i ≡ Some b) → WasNew b.map said m → IsMadeFor b.map m b.given
-        → (let v = with_effects None (Some b.map) (effects_of (acts.Making b.map) known new.memory.changed) m in
+        → (let v = with_effects None (Some b.map) (effects_of (acts.Making b.map) known new.changed) m in
         let t = making_after same hash s old new i b (leads b here).0 (leads b here).2.step.w2 said (leads b here).3 in
-        IsAt same hash new t → ShowsWhole same name v (known_after (acts.Making b.map) new.memory.changed known) t → ShowsFinding name v (known_after (acts.Making b.map) new.memory.changed known) t)
+        IsAt same hash new t → ShowsWhole same name v (known_after (acts.Making b.map) new.changed known) t → ShowsFinding name v (known_after (acts.Making b.map) new.changed known) t)
     makings_keep_finding i said leads b here was_new made_for at2 whole2 =
-        let effects = effects_of (acts.Making b.map) known new.memory.changed in
+        let effects = effects_of (acts.Making b.map) known new.changed in
         let v = with_effects None (Some b.map) effects m in
         let t = making_after same hash s old new i b (leads b here).0 (leads b here).2.step.w2 said (leads b here).3 in
-        finding_beside same hash name m v known (known_after (acts.Making b.map) new.memory.changed known) s t new at2 whole2
-        (makings_go_beside K V S same hash name m known s old new at whole i said leads b here (Some b.map) was_new) finding
+        finding_beside same hash name m v known (known_after (acts.Making b.map) new.changed known) s t new at2 whole2
+        (makings_go_beside K V same hash name m known s old new at whole i said leads b here (Some b.map) was_new) finding
         (makings_leave_spots same hash name m known s old new at whole.all.shown i said leads b here (Some b.map)) (tables_have_been K V None (Some b.map) effects m) (effects_keep_lengths None (Some b.map) effects m)
-        (makings_keep_capacities K V S same hash m known s old new finding.capacities i said leads b here (Some b.map) made_for)
+        (makings_keep_capacities K V same hash m known s old new finding.capacities i said leads b here (Some b.map) made_for)
 
     -- and of the end of one
     module _ (i : ℕ) (f : Finishing K V) (here : s.enders i ≡ Some f) where
       pub endings_keep_finding : (said : Settled (Node K V)) (leads : EndingLeads same hash i said s old new) (map : ℕ) → s.maps map ≡ None
-          → (let v = with_effects None (Some map) (effects_of (acts.Ending map) known new.memory.changed) m in
+          → (let v = with_effects None (Some map) (effects_of (acts.Ending map) known new.changed) m in
           let t = ending_after same hash s new i f (leads f here).0 (leads f here).2.w2 (leads f here).2.deed said (leads f here).3 in
-          IsAt same hash new t → ShowsWhole same name v (known_after (acts.Ending map) new.memory.changed known) t → ShowsFinding name v (known_after (acts.Ending map) new.memory.changed known) t)
+          IsAt same hash new t → ShowsWhole same name v (known_after (acts.Ending map) new.changed known) t → ShowsFinding name v (known_after (acts.Ending map) new.changed known) t)
       endings_keep_finding said leads map not_there at2 whole2 =
           let to = leads f here in
-          let effects = effects_of (acts.Ending map) known new.memory.changed in
+          let effects = effects_of (acts.Ending map) known new.changed in
           let v = with_effects None (Some map) effects m in
-          finding_beside same hash name m v known (known_after (acts.Ending map) new.memory.changed known) s (ended same hash s old new i f here said leads) new at2 whole2
+          finding_beside same hash name m v known (known_after (acts.Ending map) new.changed known) s (ended same hash s old new i f here said leads) new at2 whole2
           (end_beside same hash name m known s old new at whole i f here to.0 said to.1 to.2 map not_there to.3 (ended same hash s old new i f here said leads) (ended_world same hash s old new i f here said leads) (ended_calls same hash s old new i f here said leads) (ended_maps same hash s old new i f here said leads)) finding
           (endings_leave_spots same hash name m known s old new at whole i said leads f here map not_there) (tables_have_been K V None (Some map) effects m) (effects_keep_lengths None (Some map) effects m)
           (capacities_stay K V m v s (ended same hash s old new i f here said leads) finding.capacities (λ n st is. effects_keep_capacities K V None (Some map) effects m n) (stood_as s (ended same hash s old new i f here said leads) (ended_maps same hash s old new i f here said leads)))

@@ -30,9 +30,6 @@ use Rattle.papaya_purposes.specs.Given.Callers.Sights.{seen_by}
 use Rattle.papaya_purposes.specs.Given.Callers.Together.{Counting, ForRoom, OnKey, OverAll, Together, UnderWay}
 use Rattle.papaya_purposes.proofs.Given.Callers.Together.Came.{came_reached}
 use Rattle.papaya_purposes.specs.Given.Effects.Known.{Known}
-use Rattle.papaya_purposes.specs.Given.Executor.IsAt.{IsAt, Scene, slot_of}
-use Rattle.papaya_purposes.specs.Given.Executor.declared.executor.Executor.{Executor}
-use Rattle.papaya_purposes.proofs.Given.Executor.Changed.{standing_is}
 use Rattle.papaya_purposes.specs.Given.Finishes.Machines.{machine_of}
 use Rattle.papaya_purposes.specs.Given.Finishes.Maps.{Standing}
 use Rattle.papaya_purposes.proofs.Given.Follows.Onward.{IsOfMap}
@@ -42,6 +39,9 @@ use Rattle.papaya_purposes.specs.Given.Finds.Puts.{IsBehindNext, ShowsPuts}
 use Rattle.papaya_purposes.specs.Given.Finds.Waits.{waits_in, waits_in_calling, waits_in_sweeping}
 use Rattle.papaya_purposes.proofs.Given.Finds.Waits.Behind.{IsBehind, key_behind, room_never, sweep_behind}
 use Rattle.papaya_purposes.proofs.Given.Finds.Waits.Due.{never_put}
+use Rattle.papaya_purposes.proofs.Given.Scenes.May.{standing_is}
+use Rattle.papaya_purposes.specs.Given.Scenes.Held.{Held, IsAt}
+use Rattle.papaya_purposes.specs.Given.Scenes.Scene.{Scene, slot_of}
 
 -- what has a list is there
 listed : {K V : Type 0} (o : Option (Node K V)) (d : ℕ) → list_in deferred_word o ≡ Some d → IsSome o
@@ -90,7 +90,7 @@ module _ {K V : Type 0} {size : ℕ} (w : World (Node K V)) (r : Reached deferre
   sweep_there slot (sweeping.Copies copier) row due = absurd (copy_never copier.stands due)
   sweep_there slot _ row due = absurd (cc due)
 
-module _ {K V S : Type 0} (same : K → K → Bool) (hash : K → ℕ) (name : ℕ → List ℕ) (v : Moment K V) (known known2 : Known) (s t : Scene K V) (e : Executor K V S) (at : IsAt same hash e t)
+module _ {K V : Type 0} (same : K → K → Bool) (hash : ℕ → K → ℕ) (name : ℕ → List ℕ) (v : Moment K V) (known known2 : Known) (s t : Scene K V) (e : Held K V) (at : IsAt same hash e t)
     (whole : ShowsWhole same name v known2 t) (calls : t.calls ≡ s.calls) (roles : (b : ℕ) → IsSome (value_at t.world.memory b) → IsOfMap (known.roles b) → known2.roles b ≡ known.roles b)
     (puts : ShowsPuts known s) where
   reached : Reached deferred_word e.batch_size t.world

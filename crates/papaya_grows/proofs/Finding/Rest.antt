@@ -22,9 +22,6 @@ use Rattle.papaya_purposes.specs.Given.Callers.Together.{Counting, ForRoom, OnKe
 use Rattle.papaya_purposes.specs.Given.Effects.Effects.{effects_of}
 use Rattle.papaya_purposes.specs.Given.Effects.Known.{Known}
 use Rattle.papaya_purposes.specs.Given.Effects.declared.acting.Acting.TheVariants as acts
-use Rattle.papaya_purposes.specs.Given.Executor.IsAt.{IsAt, Scene}
-use Rattle.papaya_purposes.specs.Given.Executor.Stepping.{StepLeads}
-use Rattle.papaya_purposes.specs.Given.Executor.declared.executor.Executor.{Executor}
 use Rattle.papaya_purposes.specs.Given.Finishes.Machines.{machine_of}
 use Rattle.papaya_purposes.specs.Given.Moments.Whole.{ShowsWhole}
 use Rattle.papaya_purposes.proofs.Given.Others.Outcomes.{told_in}
@@ -50,6 +47,9 @@ use Rattle.papaya_grows.specs.Finding.{ShowsFinding}
 use Rattle.papaya_grows.specs.Rests.{StepsFindRest}
 use Rattle.papaya_grows.proofs.Finding.Links.{copier_links, none_links}
 use Rattle.papaya_grows.proofs.Finding.Rooms.{room_asks, room_links}
+use Rattle.papaya_purposes.specs.Given.Scenes.Held.{Held, IsAt}
+use Rattle.papaya_purposes.specs.Given.Scenes.Scene.{Scene}
+use Rattle.papaya_purposes.specs.Given.Scenes.Stepping.{StepLeads}
 
 -- whether a call on one key copies pairs
 copies_or : (q : Calling) → IsCopying q ⊎ (IsCopying q → ⊥)
@@ -57,35 +57,35 @@ copies_or (calling.Helps copier goal) = inl tt
 copies_or (calling.Copies copier) = inl tt
 copies_or _ = inr (λ copies. copies)
 
-module _ {K V S : Type 0} (same : K → K → Bool) (hash : K → ℕ) (name : ℕ → List ℕ) (m : Moment K V) (known : Known) (s : Scene K V) (old new : Executor K V S) (at : IsAt same hash old s)
+module _ {K V : Type 0} (same : K → K → Bool) (hash : ℕ → K → ℕ) (name : ℕ → List ℕ) (m : Moment K V) (known : Known) (s : Scene K V) (old new : Held K V) (at : IsAt same hash old s)
     (whole : ShowsWhole same name m known s) (finding : ShowsFinding name m known s) (map i : ℕ) (said : Progress (Node K V)) (leads : StepLeads same hash i said s old new)
     (terms : Terms) (moments : List (Moment K V)) (c : CallThere K V) (c_is : call_of (name i) m ≡ Some c) where
   abbrev Asked : Type 0
-  Asked = FindAsked terms moments (name i) map (effects_of (acts.Call i map) known new.memory.changed) m
+  Asked = FindAsked terms moments (name i) map (effects_of (acts.Call i map) known new.changed) m
 
   module _ (u : UnderWay K V K) (here : s.calls map i ≡ Some u) where
     copier_asks : ((n : NewTable) → making_of_copier (machine_of u) ≡ Some n → OneOf (HasNext map) (m ∷ moments)) → MakesByCopier u → Asked
-    copier_asks nexts copies = copiers_may_ask K V S same hash name m known s old new at whole map i u here said leads copies terms moments nexts
+    copier_asks nexts copies = copiers_may_ask K V same hash name m known s old new at whole map i u here said leads copies terms moments nexts
 
   -- a counting asks for none
   module _ (sum : Sum) (here : s.calls map i ≡ Some (Counting sum)) where
-    none_asked : Asks new.memory.changed → MayGrow terms c.call c (m ∷ moments)
+    none_asked : Asks new.changed → MayGrow terms c.call c (m ∷ moments)
     none_asked asks =
-        let it = told_in old.memory.memory new.memory.memory new.memory.changed of_sum (sum_plan sum) ((leads map (Counting sum) here).1, said) (leads map (Counting sum) here).3 in
-        let n = made_of None old.memory.memory new.memory.memory new.memory.changed (sum_plan sum) it.0 it.2 (sum_at K V None sum sum.stands) asks in absurd (let some = n.1 in cc some)
+        let it = told_in old.memory new.memory new.changed of_sum (sum_plan sum) ((leads map (Counting sum) here).1, said) (leads map (Counting sum) here).3 in
+        let n = made_of None old.memory new.memory new.changed (sum_plan sum) it.0 it.2 (sum_at K V None sum sum.stands) asks in absurd (let some = n.1 in cc some)
 
     sum_asks : Asked
     sum_asks = may_ask same hash name m known s old new at whole map i (Counting sum) here said leads terms moments c c_is none_asked
 
 -- which table a call links, and that it may ask for each block
-module _ {K V S : Type 0} (same : K → K → Bool) (hash : K → ℕ) (name : ℕ → List ℕ) (log : List (Entry K V)) (m : Moment K V) (known : Known) (s : Scene K V) (old new : Executor K V S) (at : IsAt same hash old s)
+module _ {K V : Type 0} (same : K → K → Bool) (hash : ℕ → K → ℕ) (name : ℕ → List ℕ) (log : List (Entry K V)) (m : Moment K V) (known : Known) (s : Scene K V) (old new : Held K V) (at : IsAt same hash old s)
     (whole : ShowsWhole same name m known s) (tables : ShowsTables name m known s) (finding : ShowsFinding name m known s) (purposes : ShowsPurposes same name log m known s) (map i : ℕ) (said : Progress (Node K V))
     (leads : StepLeads same hash i said s old new) (terms : Terms) (c : CallThere K V) (c_is : call_of (name i) m ≡ Some c) where
   abbrev since : List (Moment K V)
   since = moments_from c.begun log
 
   abbrev Linked : Type 0
-  Linked = FindShapes terms since (name i) map (effects_of (acts.Call i map) known new.memory.changed) m
+  Linked = FindShapes terms since (name i) map (effects_of (acts.Call i map) known new.changed) m
 
   abbrev NextsOf : UnderWay K V K → Type 0
   NextsOf u = (n : NewTable) → making_of_copier (machine_of u) ≡ Some n → OneOf (HasNext map) (m ∷ since)
@@ -98,7 +98,7 @@ module _ {K V S : Type 0} (same : K → K → Bool) (hash : K → ℕ) (name : �
   call_links (OnKey x) is mask_is nexts full = elim (copies_or x.call.stands) as (λ _. Linked) [
     | inl copies ↦ copier_linked (OnKey x) is nexts copies
     | inr other ↦
-        key_calls_link K V S same hash name m known s old new at whole tables finding.growing map i x is said leads other (finding.capacities map (leads map (OnKey x) is).0 (leads map (OnKey x) is).2) terms
+        key_calls_link K V same hash name m known s old new at whole tables finding.growing map i x is said leads other (finding.capacities map (leads map (OnKey x) is).0 (leads map (OnKey x) is).2) terms
         since full
   ]
   call_links (OverAll o) is mask_is nexts full = copier_linked (OverAll o) is nexts tt
@@ -108,31 +108,31 @@ module _ {K V S : Type 0} (same : K → K → Bool) (hash : K → ℕ) (name : �
       (finding.capacities map (leads map (ForRoom r) is).0 (leads map (ForRoom r) is).2) nexts
 
   call_asks : (u : UnderWay K V K) (here : s.calls map i ≡ Some u) → (leads map u here).0.setting.mask + 1 ≡ shards_of terms → NextsOf u
-      → FindAsked terms since (name i) map (effects_of (acts.Call i map) known new.memory.changed) m
-  call_asks (OnKey x) is mask_is nexts = elim (copies_or x.call.stands) as (λ _. FindAsked terms since (name i) map (effects_of (acts.Call i map) known new.memory.changed) m) [
+      → FindAsked terms since (name i) map (effects_of (acts.Call i map) known new.changed) m
+  call_asks (OnKey x) is mask_is nexts = elim (copies_or x.call.stands) as (λ _. FindAsked terms since (name i) map (effects_of (acts.Call i map) known new.changed) m) [
     | inl copies ↦ copier_asks same hash name m known s old new at whole finding map i said leads terms since c c_is (OnKey x) is nexts copies
-    | inr other ↦ key_calls_may_ask K V S same hash name m known s old new at whole finding.growing map i x is said leads other terms since
+    | inr other ↦ key_calls_may_ask K V same hash name m known s old new at whole finding.growing map i x is said leads other terms since
   ]
   call_asks (OverAll o) is mask_is nexts = copier_asks same hash name m known s old new at whole finding map i said leads terms since c c_is (OverAll o) is nexts tt
   call_asks (Counting sum) is mask_is nexts = sum_asks same hash name m known s old new at whole finding map i said leads terms since c c_is sum is
   call_asks (ForRoom r) is mask_is nexts = room_asks same hash name log m known s old new at whole purposes map i r is said leads terms c c_is mask_is
 
-pub steps_find_rest : (K V S : Type 0) (same : K → K → Bool) (hash : K → ℕ) → StepsFindRest K V S same hash
-steps_find_rest K V S same hash name log m known s old new at whole kept finding sources order purposes map i u here said leads terms c c_is mask_is nexts full =
+pub steps_find_rest : (K V : Type 0) (same : K → K → Bool) (hash : ℕ → K → ℕ) → StepsFindRest K V same hash
+steps_find_rest K V same hash name log m known s old new at whole kept finding sources order purposes map i u here said leads terms c c_is mask_is nexts full =
     rest_is_all K V terms (moments_from c.begun log) (name i) map effects m
     (call_asks same hash name log m known s old new at whole kept.tables finding purposes map i said leads terms c c_is u here mask_is nexts)
     (call_links same hash name log m known s old new at whole kept.tables finding purposes map i said leads terms c c_is u here mask_is nexts full)
     (past_is_handed K V (name i) map effects m past behind_it
-    (calls_find_space K V S same hash name m known s old new at whole kept.entries owning kept.owed sources order map i u here said leads past behind_it))
+    (calls_find_space K V same hash name m known s old new at whole kept.entries owning kept.owed sources order map i u here said leads past behind_it))
   where
     effects : List Effect
-    effects = effects_of (acts.Call i map) known new.memory.changed
+    effects = effects_of (acts.Call i map) known new.changed
 
     owning : OwnAreMade known s.world
-    owning = own_made K V S same hash name m known s old at whole kept
+    owning = own_made K V same hash name m known s old at whole kept
 
     past : FindPast (name i) map effects m
-    past = calls_hand_past K V S same hash name m known s old new at whole kept.entries owning kept.owed finding.waits map i u here said leads
+    past = calls_hand_past K V same hash name m known s old new at whole kept.entries owning kept.owed finding.waits map i u here said leads
 
     behind_it : FindBehind (name i) map effects m
-    behind_it = calls_put_behind K V S same hash name m known s old new at whole kept.entries owning kept.owed finding.waits finding.puts map i u here said leads
+    behind_it = calls_put_behind K V same hash name m known s old new at whole kept.entries owning kept.owed finding.waits finding.puts map i u here said leads

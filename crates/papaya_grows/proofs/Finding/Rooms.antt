@@ -50,9 +50,6 @@ use Rattle.papaya_purposes.specs.Given.Callers.Together.{ForRoom, Together}
 use Rattle.papaya_purposes.specs.Given.Effects.Effects.{effects_of}
 use Rattle.papaya_purposes.specs.Given.Effects.Known.{Known}
 use Rattle.papaya_purposes.specs.Given.Effects.declared.acting.Acting.TheVariants as acts
-use Rattle.papaya_purposes.specs.Given.Executor.IsAt.{IsAt, Scene, slot_of}
-use Rattle.papaya_purposes.specs.Given.Executor.Stepping.{StepLeads}
-use Rattle.papaya_purposes.specs.Given.Executor.declared.executor.Executor.{Executor}
 use Rattle.papaya_purposes.specs.Given.Finishes.Machines.{machine_of}
 use Rattle.papaya_purposes.specs.Given.Finishes.Maps.{Standing}
 use Rattle.papaya_purposes.specs.Given.Follows.Finds.{FindsMap}
@@ -79,6 +76,9 @@ use Rattle.papaya_purposes.proofs.RoomFacts.{Point, StandsSo, room_point, room_s
 use Rattle.papaya_grows.specs.Further.{IsFurther, RoomMakes, ShowsFurther, at_turn, lengths_in, lengths_of}
 use Rattle.papaya_grows.proofs.Finding.Links.{linked, links_by, such_of_copier}
 use Rattle.papaya_grows.proofs.Finding.Making.Lengths.{table_length}
+use Rattle.papaya_purposes.specs.Given.Scenes.Held.{Held, IsAt}
+use Rattle.papaya_purposes.specs.Given.Scenes.Scene.{Scene, slot_of}
+use Rattle.papaya_purposes.specs.Given.Scenes.Stepping.{StepLeads}
 
 -- what a reservation is called for
 pub its_more : {K V : Type 0} (r : CallForRoom) (its : Call K V) → IsFor (ForRoom r) its → its ≡ call.Reserve r.reserve.additional
@@ -128,7 +128,7 @@ few_first p n (makes.Drops table found) mem mem2 told end is step asks = few_of 
 few_first p n (makes.Over table) mem mem2 told end is step asks = absurd (asks_some told asks step.2)
 few_first p n (makes.Refused fault) mem mem2 told end is step asks = absurd (asks_some told asks step.2)
 
-module _ {K V S : Type 0} (same : K → K → Bool) (hash : K → ℕ) (name : ℕ → List ℕ) (log : List (Entry K V)) (m : Moment K V) (known : Known) (s : Scene K V) (old new : Executor K V S) (at : IsAt same hash old s)
+module _ {K V : Type 0} (same : K → K → Bool) (hash : ℕ → K → ℕ) (name : ℕ → List ℕ) (log : List (Entry K V)) (m : Moment K V) (known : Known) (s : Scene K V) (old new : Held K V) (at : IsAt same hash old s)
     (whole : ShowsWhole same name m known s) (purposes : ShowsPurposes same name log m known s) (map i : ℕ) (r : CallForRoom) (here : s.calls map i ≡ Some (ForRoom r)) (said : Progress (Node K V))
     (leads : StepLeads same hash i said s old new) (terms : Terms) (c : CallThere K V) (c_is : call_of (name i) m ≡ Some c) (mask_is : (leads map (ForRoom r) here).0.setting.mask + 1 ≡ shards_of terms) where
   abbrev moments : List (Moment K V)
@@ -144,7 +144,7 @@ module _ {K V S : Type 0} (same : K → K → Bool) (hash : K → ℕ) (name : �
   seen = seen_by st.blocks (st.sights (slot_of i))
 
   abbrev effects : List Effect
-  effects = effects_of (acts.Call i map) known new.memory.changed
+  effects = effects_of (acts.Call i map) known new.changed
 
   its_map : c.map ≡ map
   its_map = let found = whole.all.shown.calls map i (ForRoom r) here in ap (λ (x : CallThere K V). x.map) (one_of c found.0 (sym c_is ∙ found.1)) ∙ found.2
@@ -168,12 +168,12 @@ module _ {K V S : Type 0} (same : K → K → Bool) (hash : K → ℕ) (name : �
 
   -- it may ask for the block of a first table, since the map has counted nothing
   module _ (making : NewTable) (at_first : r.reserve.stands ≡ reserving.Makes making) where
-    few : Asks new.memory.changed → is_too_many (0 + r.reserve.additional) ≡ false
+    few : Asks new.changed → is_too_many (0 + r.reserve.additional) ≡ false
     few asks =
-        let it = told_in old.memory.memory new.memory.memory new.memory.changed of_room (reserve_plan hash r.reserve) ((leads map (ForRoom r) here).1, said) (leads map (ForRoom r) here).3 in
-        let makes = subst (λ (q : Reserving). StepsTold K V (Reserve × Outcome (Node K V) Unit) old.memory.memory Nothing (plan_at hash r.reserve q) new.memory.memory new.memory.changed it.0) at_first it.2 in
-        let step = told_in old.memory.memory new.memory.memory new.memory.changed (made r.reserve) (new_table_plan making) it.0 makes in
-        few_first r.reserve making making.stands old.memory.memory new.memory.memory new.memory.changed step.0 (subst (NeedsAt map moments r.reserve) at_first has.needs) step.2 asks
+        let it = told_in old.memory new.memory new.changed of_room (reserve_plan (leads map (ForRoom r) here).0.hash r.reserve) ((leads map (ForRoom r) here).1, said) (leads map (ForRoom r) here).3 in
+        let makes = subst (λ (q : Reserving). StepsTold K V (Reserve × Outcome (Node K V) Unit) old.memory Nothing (plan_at (leads map (ForRoom r) here).0.hash r.reserve q) new.memory new.changed it.0) at_first it.2 in
+        let step = told_in old.memory new.memory new.changed (made r.reserve) (new_table_plan making) it.0 makes in
+        few_first r.reserve making making.stands old.memory new.memory new.changed step.0 (subst (NeedsAt map moments r.reserve) at_first has.needs) step.2 asks
 
     nothing : Counts (shards_of terms) c.map (m ∷ moments) 0
     nothing =
@@ -191,7 +191,7 @@ module _ {K V S : Type 0} (same : K → K → Bool) (hash : K → ℕ) (name : �
     where
       by : (q : Reserving) → r.reserve.stands ≡ q → FindAsked terms moments (name i) map effects m
       by (reserving.Makes making) at_first = first_asks making at_first
-      by q at_q = rooms_may_ask K V S same hash name m known s old new at whole map i r here said leads terms moments shards c c_is its_call has.reserves (λ first. subst MakesFirst at_q first)
+      by q at_q = rooms_may_ask K V same hash name m known s old new at whole map i r here said leads terms moments shards c c_is its_call has.reserves (λ first. subst MakesFirst at_q first)
 
   -- what it knows of the table behind which it makes one
   root_there : (table : Planned) (k : NewTable) → r.reserve.stands ≡ reserving.Grows table k → (t : ℕ) × IsTable st.chart seen table t
@@ -211,7 +211,7 @@ module _ {K V S : Type 0} (same : K → K → Bool) (hash : K → ℕ) (name : �
       (table_length map (whole.all.shown.number map) st m known (whole.all.shown.maps map st there) t entered.made ∙ ap (λ (x : Planned). Some x.len) (sym entered.is))
 
   on_map : AtEachEffect (FindsMap map) (Some (name i)) (Some map) effects m
-  on_map = (steps_find_places K V S same hash name m known s old new at whole map i (ForRoom r) here said leads).0
+  on_map = (steps_find_places K V same hash name m known s old new at whole map i (ForRoom r) here said leads).0
 
   abbrev Shapes : Type 0
   Shapes = FindShapes terms moments (name i) map effects m

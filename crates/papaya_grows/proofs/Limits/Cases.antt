@@ -35,10 +35,7 @@ use Rattle.papaya_purposes.specs.Given.Callers.Together.{Counting, ForRoom, OnKe
 use Rattle.papaya_purposes.specs.Given.Effects.Effects.{effects_of}
 use Rattle.papaya_purposes.specs.Given.Effects.Known.{Known}
 use Rattle.papaya_purposes.specs.Given.Effects.declared.acting.Acting.TheVariants as acts
-use Rattle.papaya_purposes.specs.Given.Executor.IsAt.{IsAt, Scene, slot_of}
-use Rattle.papaya_purposes.specs.Given.Executor.Stepping.{StepLeads}
-use Rattle.papaya_purposes.specs.Given.Executor.declared.executor.Executor.{Executor}
-use Rattle.papaya_purposes.proofs.Given.Executor.Given.Tables.TableLens.{next-power-most}
+use Rattle.papaya_purposes.proofs.Given.Scenes.Given.Tables.TableLens.{next-power-most}
 use Rattle.papaya_purposes.proofs.Given.Late.KindsKept.Rooms.Making.{above}
 use Rattle.papaya_purposes.specs.Given.Finishes.Maps.{Standing}
 use Rattle.papaya_purposes.specs.Given.Moments.Whole.{ShowsWhole}
@@ -52,6 +49,9 @@ use Rattle.papaya_grows.specs.Limits.{HasLimit, IsAtLimit, NeedsMore, ShowsLimit
 use Rattle.papaya_grows.proofs.Finding.Rooms.{its_more}
 use Rattle.papaya_grows.proofs.Limits.Steps.{refused_for}
 use Rattle.papaya_grows.proofs.Limits.Walk.{SummedAt}
+use Rattle.papaya_purposes.specs.Given.Scenes.Held.{Held, IsAt}
+use Rattle.papaya_purposes.specs.Given.Scenes.Scene.{Scene, slot_of}
+use Rattle.papaya_purposes.specs.Given.Scenes.Stepping.{StepLeads}
 
 -- Where pairs need more places than a table can have, they are too many.
 module _ (count additional : ℕ) where
@@ -85,7 +85,7 @@ module _ {K V : Type 0} (of : ℕ) (x : Moment K V) (moments : List (Moment K V)
   count_on shards n counts = (counts.0, adds_after of moments x shards counts.0 counts.1, counts.2)
 
 -- it has as many shards as its map
-pub room_shards : {K V S : Type 0} (same : K → K → Bool) (hash : K → ℕ) (s : Scene K V) (e : Executor K V S) → IsAt same hash e s → (map i : ℕ) (r : CallForRoom) → s.calls map i ≡ Some (ForRoom r) → (st : Standing K)
+pub room_shards : {K V : Type 0} (same : K → K → Bool) (hash : ℕ → K → ℕ) (s : Scene K V) (e : Held K V) → IsAt same hash e s → (map i : ℕ) (r : CallForRoom) → s.calls map i ≡ Some (ForRoom r) → (st : Standing K)
     → s.maps map ≡ Some st → (n : ℕ) → st.setting.mask + 1 ≡ n → suc r.reserve.setting.mask ≡ n
 room_shards {K} {V} same hash s e at map i r here st there n mask_is =
     let each = at.together.makings.standing.each map st there in
@@ -93,12 +93,12 @@ room_shards {K} {V} same hash s e at map i r here st there n mask_is =
     ap (λ (x : Setting). x.mask) (room_setting V same st.hash st.setting slot_of s.world st.chart (seen_by st.blocks (st.sights (slot_of i))) i r (each.stand i (ForRoom r) here)) in
     omega (arith, setting_is, mask_is)
 
-module _ {K V S : Type 0} (same : K → K → Bool) (hash : K → ℕ) (name : ℕ → List ℕ) (log : List (Entry K V)) (m : Moment K V) (known : Known) (s : Scene K V) (old new : Executor K V S) (at : IsAt same hash old s)
+module _ {K V : Type 0} (same : K → K → Bool) (hash : ℕ → K → ℕ) (name : ℕ → List ℕ) (log : List (Entry K V)) (m : Moment K V) (known : Known) (s : Scene K V) (old new : Held K V) (at : IsAt same hash old s)
     (whole : ShowsWhole same name m known s) (map i : ℕ) (said : Progress (Node K V)) (leads : StepLeads same hash i said s old new) (limits : ShowsLimits name log m s) (capacities : ShowsCapacities m s)
     (purposes : ShowsPurposes same name log m known s) (terms : Terms) (c : CallThere K V) (c_is : call_of (name i) m ≡ Some c) (d : CallThere K V) (d_call : d.call ≡ c.call) (d_map : d.map ≡ map)
     (d_begun : d.begun ≡ c.begun) where
   abbrev pub v : Moment K V
-  v = with_effects (Some (name i)) (Some map) (effects_of (acts.Call i map) known new.memory.changed) m
+  v = with_effects (Some (name i)) (Some map) (effects_of (acts.Call i map) known new.changed) m
 
   abbrev moments : List (Moment K V)
   moments = moments_from c.begun log
@@ -131,20 +131,20 @@ module _ {K V S : Type 0} (same : K → K → Bool) (hash : K → ℕ) (name : �
         inl (subst (λ (z : Call K V). CountsTooMany terms z d (v ∷ moments)) (sym its_call)
         (n, subst (λ (of : ℕ). Counts (shards_of terms) of (v ∷ moments) n) (sym d_map) (subst (λ (k : ℕ). Counts k map (v ∷ moments) n) shards_are counts), many))
 
-    summed_at : (p : Reserving) → r.reserve.stands ≡ p → SummedAt old.memory.memory new.memory.memory r.reserve p → InCase
+    summed_at : (p : Reserving) → r.reserve.stands ≡ p → SummedAt old.memory new.memory r.reserve p → InCase
     summed_at (reserving.Sums table sum) is (after, count, step, many) =
         counts_many count
         (count_on map v moments (suc r.reserve.setting.mask) count
         (counts_then same hash log m s old new at map i r here st (leads map (ForRoom r) here).2 c (purposes.begun map i (ForRoom r) here c c_is) shards
-        (purposes.come map i (ForRoom r) here st (leads map (ForRoom r) here).2 c c_is) (leads map (ForRoom r) here).1 said (leads map (ForRoom r) here).3 table sum after count is new.memory.memory
-        (subst (λ (q : Mem (Node K V)). Steps Took value_at q (sum_plan sum) new.memory.memory (after, counting.Done count)) (sym at.memory) step)))
+        (purposes.come map i (ForRoom r) here st (leads map (ForRoom r) here).2 c c_is) (leads map (ForRoom r) here).1 said (leads map (ForRoom r) here).3 table sum after count is new.memory
+        (subst (λ (q : Mem (Node K V)). Steps Took value_at q (sum_plan sum) new.memory (after, counting.Done count)) (sym at.memory) step)))
         (too_many count r.reserve.additional many)
     summed_at _ is summed = absurd summed
 
     needs_more : NeedsMore r.reserve.additional → InCase
     needs_more needs = let count = count_at map v moments (suc r.reserve.setting.mask) in counts_many count.0 count.1 (more_too_many count.0 r.reserve.additional needs)
 
-    room_in_case : (HasLimit map c.begun log v ⊎ SummedAt old.memory.memory new.memory.memory r.reserve r.reserve.stands) ⊎ NeedsMore r.reserve.additional → InCase
+    room_in_case : (HasLimit map c.begun log v ⊎ SummedAt old.memory new.memory r.reserve r.reserve.stands) ⊎ NeedsMore r.reserve.additional → InCase
     room_in_case (inl (inl limit)) = at_limit limit
     room_in_case (inl (inr summed)) = summed_at r.reserve.stands refl summed
     room_in_case (inr needs) = needs_more needs

@@ -20,7 +20,7 @@ use Rattle.papaya_purposes.specs.Given.Schedules.Views.{first_of, tables_of}
 use Rattle.papaya_purposes.specs.Given.Effects.Known.{Known}
 use Rattle.papaya_purposes.specs.Given.Finishes.Maps.{Standing}
 use Rattle.papaya_purposes.specs.Given.Follows.Maps.{ShowsMap, shape_at, table_of, tables_to}
-use Rattle.papaya_purposes.proofs.Given.Executor.Given.Tables.Ends.{longest}
+use Rattle.papaya_purposes.proofs.Given.Scenes.Given.Tables.Ends.{longest}
 use Rattle.papaya_purposes.proofs.Given.Follows.Finds.{first_is}
 use Rattle.papaya_purposes.proofs.Given.Finds.Grows.There.{last_has_none}
 use Rattle.papaya_grows.specs.Limits.{IsAtLimit}

@@ -42,14 +42,14 @@ use Rattle.papaya_purposes.specs.Given.Late.ToldReserves.{IsRowOfReserve}
 use Rattle.papaya_purposes.specs.Given.Late.ToldSweeps.{IsRowOfSweep}
 use Rattle.papaya_purposes.specs.Given.Callers.Sights.{IsSight, Sight, seen_by}
 use Rattle.papaya_purposes.specs.Given.Callers.Together.{Counting, ForRoom, OnKey, OverAll, Together, UnderWay, in_slot}
-use Rattle.papaya_purposes.specs.Given.Executor.IsAt.{IsAt, Scene, slot_of}
-use Rattle.papaya_purposes.specs.Given.Executor.declared.executor.Executor.{Executor}
 use Rattle.papaya_purposes.specs.Given.Finishes.Machines.{machine_of}
 use Rattle.papaya_purposes.specs.Given.Finishes.Maps.{Standing}
 use Rattle.papaya_purposes.proofs.Given.Finds.Grows.There.{unseen}
 use Rattle.papaya_grows.specs.Limits.{IsFor, IsForBehind, NeedsMore}
 use Rattle.papaya_grows.proofs.Limits.Last.{LastIsFor, last_for}
 use Rattle.papaya_grows.proofs.Limits.Walk.{MachineMayEnd, SummedAt, SummedIn, ends_for}
+use Rattle.papaya_purposes.specs.Given.Scenes.Held.{Held, IsAt}
+use Rattle.papaya_purposes.specs.Given.Scenes.Scene.{Scene, slot_of}
 
 -- within a row nothing is found of this kind
 module _ (Why : Type 0) {T : Type 0} (m : Mem T) where
@@ -181,7 +181,7 @@ module _ {K V : Type 0} (Why : Type 0) (same : K → K → Bool) (hash : K → �
       late_room_may _ facts sums = absurd facts
 
 -- so it is of each call that is under way
-module _ {K V S : Type 0} (Why : Type 0) (same : K → K → Bool) (hash : K → ℕ) (s : Scene K V) (e : Executor K V S) (at : IsAt same hash e s) (map i : ℕ) (st : Standing K) (there : s.maps map ≡ Some st)
+module _ {K V : Type 0} (Why : Type 0) (same : K → K → Bool) (hash : ℕ → K → ℕ) (s : Scene K V) (e : Held K V) (at : IsAt same hash e s) (map i : ℕ) (st : Standing K) (there : s.maps map ≡ Some st)
     (fits : st.setting.initial ≤ 2 ^ 48) where
   abbrev each : Together V same st.hash same st.setting slot_of s.world st.chart st.blocks st.sights (s.calls map)
   each = at.together.makings.standing.each map st there

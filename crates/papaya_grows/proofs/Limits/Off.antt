@@ -47,7 +47,6 @@ use Rattle.papaya_purposes.specs.Given.Teller.declared.changed.Changed.{Changed}
 use Rattle.papaya_purposes.specs.Given.Teller.declared.changed.Changed.TheVariants as changed
 use Rattle.papaya_purposes.specs.Given.Late.Ends.{EndsInCalling, EndsInCopying, EndsInSweeping}
 use Rattle.papaya_purposes.specs.Given.Late.Faults.{StandsInCalling, StandsInCopying, StandsInSweeping}
-use Rattle.papaya_purposes.proofs.Given.Executor.Forgotten.{as_step}
 use Rattle.papaya_purposes.proofs.Given.Late.KindsKept.Rooms.Asks.{reserve_asks}
 use Rattle.papaya_purposes.proofs.Given.Late.KindsKept.Rooms.Calling as calls_as
 use Rattle.papaya_purposes.proofs.Given.Late.KindsKept.Rooms.Calling.{CallsAs, key_as}
@@ -62,6 +61,7 @@ use Rattle.papaya_grows.specs.Limits.{IsFor, IsForBehind, NeedsMore}
 use Rattle.papaya_grows.proofs.Finding.Making.OffRoot.{IsDone, new_table_off, sum_off}
 use Rattle.papaya_grows.proofs.Finding.Making.Unpromoted.{OffRoot}
 use Rattle.papaya_grows.proofs.Limits.Walk.{EndsThen, key_end, memory_for, room_end, sweep_end}
+use Rattle.papaya_purposes.proofs.Given.Scenes.Told.{as_step}
 
 module _ {K V : Type 0} (m m2 : Mem (Node K V)) (told : Changed) (hash : K → ℕ) where
   abbrev Step : {R : Type 0} → Plan (Node K V) R → R → Type 0

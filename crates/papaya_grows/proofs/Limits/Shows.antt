@@ -25,18 +25,9 @@ use Rattle.papaya_purposes.specs.Given.Callers.Together.{Computes, Counting, For
 use Rattle.papaya_purposes.specs.Given.Effects.Effects.{effects_of, known_after}
 use Rattle.papaya_purposes.specs.Given.Effects.Known.{Known}
 use Rattle.papaya_purposes.specs.Given.Effects.declared.acting.Acting.TheVariants as acts
-use Rattle.papaya_purposes.specs.Given.Executor.Beginning.{Begins}
-use Rattle.papaya_purposes.specs.Given.Executor.Ending.{EndingLeads}
-use Rattle.papaya_purposes.specs.Given.Executor.IsAt.{IsAt, Scene, slot_of, work_of}
-use Rattle.papaya_purposes.specs.Given.Executor.Making.{MakingLeads}
-use Rattle.papaya_purposes.specs.Given.Executor.OnSlots.{MayBegin, RowBegins, RowLeads}
-use Rattle.papaya_purposes.specs.Given.Executor.Replying.{scene_with, unless_stopped}
-use Rattle.papaya_purposes.specs.Given.Executor.Rows.{request_of}
-use Rattle.papaya_purposes.specs.Given.Executor.declared.executor.Executor.{Executor}
-use Rattle.papaya_purposes.specs.Given.Executor.declared.row.RowTold.{RowTold}
-use Rattle.papaya_purposes.specs.Given.Executor.declared.row.SlotCall.{SlotCall}
-use Rattle.papaya_purposes.specs.Given.Executor.declared.row.SlotRow.{SlotRow}
-use Rattle.papaya_purposes.specs.Given.Executor.declared.worker.Work.TheVariants.{OnSlot}
+use Rattle.papaya_purposes.specs.Given.Scenes.declared.row.RowTold.{RowTold}
+use Rattle.papaya_purposes.specs.Given.Scenes.declared.row.SlotCall.{SlotCall}
+use Rattle.papaya_purposes.specs.Given.Scenes.declared.row.SlotRow.{SlotRow}
 use Rattle.papaya_purposes.specs.Given.Raw.declared.machines.call.KeyCall.{KeyCall}
 use Rattle.papaya_purposes.specs.Given.Finishes.Endings.{Finishing}
 use Rattle.papaya_purposes.specs.Given.Finishes.Machines.{machine_of}
@@ -59,6 +50,14 @@ use Rattle.papaya_grows.proofs.Finding.Others.{ended, ended_calls, ended_maps, e
 use Rattle.papaya_grows.proofs.Limits.Chain.{limit_where, same_maps_keep_limit}
 use Rattle.papaya_grows.proofs.Limits.Walk.{asked_ends, machine_for, reply_ends}
 use Rattle.papaya_grows.proofs.Since as since
+use Rattle.papaya_purposes.specs.Given.Scenes.Beginning.{Begins}
+use Rattle.papaya_purposes.specs.Given.Scenes.Ending.{EndingLeads}
+use Rattle.papaya_purposes.specs.Given.Scenes.Held.{Held, IsAt}
+use Rattle.papaya_purposes.specs.Given.Scenes.Making.{MakingLeads}
+use Rattle.papaya_purposes.specs.Given.Scenes.OnSlots.{RowBegins, RowLeads}
+use Rattle.papaya_purposes.specs.Given.Scenes.Replying.{scene_with, unless_stopped}
+use Rattle.papaya_purposes.specs.Given.Scenes.Rows.{request_of}
+use Rattle.papaya_purposes.specs.Given.Scenes.Scene.{IsOnSlot, Scene, slot_of}
 
 -- A call that begins has not come so far.
 module _ {K V : Type 0} (same : K → K → Bool) (Why : Type 0) where
@@ -109,7 +108,7 @@ module _ {K V : Type 0} (name : ℕ → List ℕ) (log : List (Entry K V)) (m v 
   limits_alike calls keeps was = since.so_alike (Of K V) (more K V) (replies K V) (asked K V) (So K V) (AnyPairs K V) (λ m v pairs. tt) (so_where K V) name log m v s t limits calls (λ n j x is y has. keeps n has) was
 
 -- at a moment with other maps, where those that stand are found as they were
-pub limits_where : {K V S : Type 0} (same : K → K → Bool) (hash : K → ℕ) (name : ℕ → List ℕ) (log : List (Entry K V)) (m v : Moment K V) (s : Scene K V) (e : Executor K V S) → IsAt same hash e s → ShowsLimits name log m s
+pub limits_where : {K V : Type 0} (same : K → K → Bool) (hash : ℕ → K → ℕ) (name : ℕ → List ℕ) (log : List (Entry K V)) (m v : Moment K V) (s : Scene K V) (e : Held K V) → IsAt same hash e s → ShowsLimits name log m s
     → ((n : ℕ) (st : Standing K) → s.maps n ≡ Some st → map_at n v ≡ map_at n m) → v.tables ≡ m.tables → v.calls ≡ m.calls → ShowsLimits name log v s
 limits_where {K} {V} same hash name log m v s e at limits still tables calls =
     since.so_where_found (Of K V) (more K V) (replies K V) (asked K V) (So K V) (AnyPairs K V) (λ m v pairs. tt) (so_where K V) same hash name log m v s e at limits still tt tables calls
@@ -160,45 +159,45 @@ limits_beside : {K V : Type 0} (name : ℕ → List ℕ) (log : List (Entry K V)
     → ShowsLimits name log v t
 limits_beside {K} {V} name log m v known known2 s t beside keeps limits = limits_alike name log m v s t limits beside.calls keeps (λ n j x is. ap (λ (f : ℕ → ℕ → Option (UnderWay K V K)). f n j) (sym beside.same_calls) ∙ is)
 
-module _ (K V S : Type 0) (same : K → K → Bool) (hash : K → ℕ) (name : ℕ → List ℕ) (log : List (Entry K V)) (m : Moment K V) (known : Known) (s : Scene K V) (old new : Executor K V S) (limits : ShowsLimits name log m s) where
+module _ (K V : Type 0) (same : K → K → Bool) (hash : ℕ → K → ℕ) (name : ℕ → List ℕ) (log : List (Entry K V)) (m : Moment K V) (known : Known) (s : Scene K V) (old new : Held K V) (limits : ShowsLimits name log m s) where
   -- a row begins on a slot
-  pub rows_begin_limits : (called : SlotCall) (i : ℕ) (may : MayBegin old (slot_of i) called) (leads : RowBegins same hash called i s old new)
-      → ShowsLimits name log m (scene_then same hash (Begin i (request_of (slot_of i) called)) s old new (leads may).3)
-  rows_begin_limits called i may leads =
-      let t = scene_then same hash (Begin i (request_of (slot_of i) called)) s old new (leads may).3 in
-      limits_beside name log m m known known s t (rows_begin_beside K V S same hash m known s old new called i may leads) (λ n has. has) limits
+  pub rows_begin_limits : (called : SlotCall) (i : ℕ) (leads : RowBegins same hash called i s old new)
+      → ShowsLimits name log m (scene_then same hash (Begin i (request_of (slot_of i) called)) s old new leads.2)
+  rows_begin_limits called i leads =
+      let t = scene_then same hash (Begin i (request_of (slot_of i) called)) s old new leads.2 in
+      limits_beside name log m m known known s t (rows_begin_beside K V same hash m known s old new called i leads) (λ n has. has) limits
 
   module _ (at : IsAt same hash old s) (whole : ShowsWhole same name m known s) where
     -- a step of one
-    pub rows_keep_limits : (i : ℕ) (said : RowTold (Node K V)) (leads : RowLeads same hash i said s old new) (row : SlotRow) (here : work_of old i ≡ Some (OnSlot row))
-        → ShowsLimits name log (with_effects None None (effects_of acts.Row known new.memory.changed) m) (scene_then same hash (Step i) s old new (leads row here).4)
+    pub rows_keep_limits : (i : ℕ) (said : RowTold (Node K V)) (leads : RowLeads same hash i said s old new) (row : SlotRow) (here : IsOnSlot s i row)
+        → ShowsLimits name log (with_effects None None (effects_of acts.Row known new.changed) m) (scene_then same hash (Step i) s old new (leads row here).2)
     rows_keep_limits i said leads row here =
         let to = leads row here in
-        let effects = effects_of acts.Row known new.memory.changed in
+        let effects = effects_of acts.Row known new.changed in
         let v = with_effects None None effects m in
-        let t = scene_then same hash (Step i) s old new to.4 in
-        let beside = row_beside same hash m known s old new at i row here (to.0, said) to.1 to.4 in
-        limits_beside name log m v known (known_after acts.Row new.memory.changed known) s t beside (same_maps_keep_limit None None effects m beside.maps) limits
+        let t = scene_then same hash (Step i) s old new to.2 in
+        let beside = row_beside same hash m known s old new at i row here (to.0, said) to.1 to.2 in
+        limits_beside name log m v known (known_after acts.Row new.changed known) s t beside (same_maps_keep_limit None None effects m beside.maps) limits
 
     -- of the making of a map
     pub makings_keep_limits : (i : ℕ) (said : Making Setting) (leads : MakingLeads same hash i said s old new) (b : Beginning K) (here : s.makers i ≡ Some b) → WasNew b.map said m
-        → ShowsLimits name log (with_effects None (Some b.map) (effects_of (acts.Making b.map) known new.memory.changed) m) (making_after same hash s old new i b (leads b here).0 (leads b here).2.step.w2 said (leads b here).3)
+        → ShowsLimits name log (with_effects None (Some b.map) (effects_of (acts.Making b.map) known new.changed) m) (making_after same hash s old new i b (leads b here).0 (leads b here).2.step.w2 said (leads b here).3)
     makings_keep_limits i said leads b here was_new =
-        let effects = effects_of (acts.Making b.map) known new.memory.changed in
+        let effects = effects_of (acts.Making b.map) known new.changed in
         let v = with_effects None (Some b.map) effects m in
         let t = making_after same hash s old new i b (leads b here).0 (leads b here).2.step.w2 said (leads b here).3 in
-        let beside = makings_go_beside K V S same hash name m known s old new at whole i said leads b here (Some b.map) was_new in
-        limits_beside name log m v known (known_after (acts.Making b.map) new.memory.changed known) s t beside (same_maps_keep_limit None (Some b.map) effects m beside.maps) limits
+        let beside = makings_go_beside K V same hash name m known s old new at whole i said leads b here (Some b.map) was_new in
+        limits_beside name log m v known (known_after (acts.Making b.map) new.changed known) s t beside (same_maps_keep_limit None (Some b.map) effects m beside.maps) limits
 
     -- and of the end of one
     module _ (i : ℕ) (f : Finishing K V) (here : s.enders i ≡ Some f) where
       pub endings_keep_limits : (said : Settled (Node K V)) (leads : EndingLeads same hash i said s old new) (map : ℕ) → s.maps map ≡ None
-          → ShowsLimits name log (with_effects None (Some map) (effects_of (acts.Ending map) known new.memory.changed) m) (ending_after same hash s new i f (leads f here).0 (leads f here).2.w2 (leads f here).2.deed said (leads f here).3)
+          → ShowsLimits name log (with_effects None (Some map) (effects_of (acts.Ending map) known new.changed) m) (ending_after same hash s new i f (leads f here).0 (leads f here).2.w2 (leads f here).2.deed said (leads f here).3)
       endings_keep_limits said leads map not_there =
           let to = leads f here in
-          let effects = effects_of (acts.Ending map) known new.memory.changed in
+          let effects = effects_of (acts.Ending map) known new.changed in
           let v = with_effects None (Some map) effects m in
           let t = ended same hash s old new i f here said leads in
           let beside = end_beside same hash name m known s old new at whole i f here to.0 said to.1 to.2 map not_there to.3 t (ended_world same hash s old new i f here said leads)
           (ended_calls same hash s old new i f here said leads) (ended_maps same hash s old new i f here said leads) in
-          limits_beside name log m v known (known_after (acts.Ending map) new.memory.changed known) s t beside (same_maps_keep_limit None (Some map) effects m beside.maps) limits
+          limits_beside name log m v known (known_after (acts.Ending map) new.changed known) s t beside (same_maps_keep_limit None (Some map) effects m beside.maps) limits

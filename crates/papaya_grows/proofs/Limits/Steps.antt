@@ -1,9 +1,8 @@
 -- A step of a call: where it can have no further table after it, one of its map's is at the limit, or was; and what it is refused for.
 use Rattle.std.specs.Prelude.{◌≡◌, ◌⊎◌, ◌≤◌, ◌^◌, ℕ, Bool, false, List, Option, Some, Result, Ok, Err, IfOk}
 use Rattle.std.proofs.Common.{refl, sym, subst, ◌∙◌, inl, inr, arith}
-use Rattle.papaya_purposes.specs.Given.SeizeWords.Mem.{Mem}
+use Rattle.papaya_purposes.specs.Given.SeizeWords.Mem.{Mem, Took, value_at}
 use Rattle.papaya_purposes.specs.Given.SeizeWords.Plan.{Steps}
-use Rattle.papaya_purposes.specs.Given.SeizeWords.Mem.{Took, value_at}
 use Rattle.papaya_purposes.specs.Given.SeizeWords.declared.fault.Fault.{Fault}
 use Rattle.papaya_purposes.specs.Given.SeizeWords.declared.fault.Fault.TheVariants.{Capacity}
 use Rattle.papaya_purposes.specs.Given.Tables.Lengths.{entries_of, places_for}
@@ -25,11 +24,7 @@ use Rattle.papaya_purposes.specs.Given.Callers.Together.{Together, UnderWay}
 use Rattle.papaya_purposes.specs.Given.Effects.Effects.{effects_of}
 use Rattle.papaya_purposes.specs.Given.Effects.Known.{Known}
 use Rattle.papaya_purposes.specs.Given.Effects.declared.acting.Acting.TheVariants as acts
-use Rattle.papaya_purposes.specs.Given.Executor.IsAt.{IsAt, Scene, slot_of}
-use Rattle.papaya_purposes.specs.Given.Executor.Stepping.{StepLeads, has_ended, scene_after}
-use Rattle.papaya_purposes.specs.Given.Executor.declared.executor.Executor.{Executor}
-use Rattle.papaya_purposes.proofs.Given.Executor.Forgotten.{as_step}
-use Rattle.papaya_purposes.proofs.Given.Executor.Given.Tables.TableLens.{if_few-holds, next-power-most}
+use Rattle.papaya_purposes.proofs.Given.Scenes.Given.Tables.TableLens.{if_few-holds, next-power-most}
 use Rattle.papaya_purposes.specs.Given.Finishes.Machines.{GoesOnAs, machine_of}
 use Rattle.papaya_purposes.specs.Given.Finishes.Maps.{Standing}
 use Rattle.papaya_purposes.proofs.Given.Follows.Steps.{WentTo, went_to}
@@ -44,6 +39,10 @@ use Rattle.papaya_grows.proofs.Limits.Off.{machine_off}
 use Rattle.papaya_grows.proofs.Limits.Shows.{AnyPairs, Of, So, asked, more, replies, so_where}
 use Rattle.papaya_grows.proofs.Limits.Walk.{EndsThen, MachineMayEnd, SummedIn, WhyOf, machine_ends, machine_for, machine_on}
 use Rattle.papaya_grows.proofs.Since as since
+use Rattle.papaya_purposes.proofs.Given.Scenes.Told.{as_step}
+use Rattle.papaya_purposes.specs.Given.Scenes.Held.{Held, IsAt}
+use Rattle.papaya_purposes.specs.Given.Scenes.Scene.{Scene, slot_of}
+use Rattle.papaya_purposes.specs.Given.Scenes.Stepping.{StepLeads, has_ended, scene_after}
 
 -- a map is made with no more places than a table can have
 entries_few : (pairs initial : ℕ) → Has (entries_of pairs) initial → initial ≤ 2 ^ 48
@@ -59,7 +58,7 @@ goes_yet machine (progress.Done answer) next goes x is = absurd (let none = sym 
 goes_yet machine (progress.Refused fault) next goes x is = absurd (let none = sym goes ∙ is in cc none)
 goes_yet machine _ next goes x is = refl
 
-module _ {K V S : Type 0} (same : K → K → Bool) (hash : K → ℕ) (name : ℕ → List ℕ) (log : List (Entry K V)) (m : Moment K V) (known : Known) (s : Scene K V) (old new : Executor K V S) (at : IsAt same hash old s)
+module _ {K V : Type 0} (same : K → K → Bool) (hash : ℕ → K → ℕ) (name : ℕ → List ℕ) (log : List (Entry K V)) (m : Moment K V) (known : Known) (s : Scene K V) (old new : Held K V) (at : IsAt same hash old s)
     (whole : ShowsWhole same name m known s) (map i : ℕ) (u : UnderWay K V K) (here : s.calls map i ≡ Some u) (said : Progress (Node K V)) (leads : StepLeads same hash i said s old new) where
   abbrev to : WentTo same hash name m known s old new at whole.all.shown map i u here said leads
   to = went_to same hash name m known s old new at whole.all.shown map i u here said leads
@@ -68,13 +67,13 @@ module _ {K V S : Type 0} (same : K → K → Bool) (hash : K → ℕ) (name : �
   st = to.0
 
   abbrev step_told : Changed
-  step_told = new.memory.changed
+  step_told = new.changed
 
   abbrev v : Moment K V
   v = with_effects (Some (name i)) (Some map) (effects_of (acts.Call i map) known step_told) m
 
   abbrev led : Scene K V
-  led = scene_after same hash s old new map i st u to.1 said to.4
+  led = scene_after same s old new map i st u to.1 said to.4
 
   -- others are as they were
   pub limits_others : OthersHadLimit name log i m s → OthersHadLimit name log i v led
@@ -89,7 +88,7 @@ module _ {K V S : Type 0} (same : K → K → Bool) (hash : K → ℕ) (name : �
 
     -- or it has come to a count by which it needs too many places
     abbrev pub Summed : Type 0
-    Summed = SummedIn old.memory.memory new.memory.memory (machine_of u)
+    Summed = SummedIn old.memory new.memory (machine_of u)
 
     abbrev end : Machine K V K × Progress (Node K V)
     end = (to.1, said)
@@ -102,8 +101,8 @@ module _ {K V S : Type 0} (same : K → K → Bool) (hash : K → ℕ) (name : �
     follow_all off (inl before) = inl (follow off before)
     follow_all off (inr summed) = inr summed
 
-    step : Steps Took value_at old.memory.memory (machine_plan same same hash (machine_of u)) new.memory.memory end
-    step = as_step old.memory.memory changed.Nothing (machine_plan same same hash (machine_of u)) new.memory.memory step_told end to.3
+    step : Steps Took value_at old.memory (machine_plan same same to.0.hash (machine_of u)) new.memory end
+    step = as_step old.memory changed.Nothing (machine_plan same same to.0.hash (machine_of u)) new.memory step_told end to.3
 
     abbrev each : Together V same st.hash same st.setting slot_of s.world st.chart st.blocks st.sights (s.calls map)
     each = at.together.makings.standing.each map st to.2
@@ -111,30 +110,30 @@ module _ {K V S : Type 0} (same : K → K → Bool) (hash : K → ℕ) (name : �
     last : LastIsFor same st.hash st.setting s.world st.chart st.blocks each.ground.map Before
     last t from made sized none = inr (limit_there map (whole.all.shown.number map) st m known (whole.all.shown.maps map st to.2) t from made sized none)
 
-    may : MachineMayEnd (Before ⊎ Summed) K V K old.memory.memory new.memory.memory (machine_of u)
+    may : MachineMayEnd (Before ⊎ Summed) K V K old.memory new.memory (machine_of u)
     may =
-        subst (λ (q : Mem (Node K V)). MachineMayEnd (Before ⊎ SummedIn q new.memory.memory (machine_of u)) K V K q new.memory.memory (machine_of u)) at.memory
-        (under_may Before same hash s old at map i st to.2 (entries_few (capacity_or (map_at map m)) st.setting.initial (capacities map st to.2)) last new.memory.memory u here)
+        subst (λ (q : Mem (Node K V)). MachineMayEnd (Before ⊎ SummedIn q new.memory (machine_of u)) K V K q new.memory (machine_of u)) at.memory
+        (under_may Before same hash s old at map i st to.2 (entries_few (capacity_or (map_at map m)) st.setting.initial (capacities map st to.2)) last new.memory u here)
 
     -- by the moment before the step
-    comes : EndsThen (Before ⊎ Summed) K V K old.memory.memory new.memory.memory (machine_of u) end
+    comes : EndsThen (Before ⊎ Summed) K V K old.memory new.memory (machine_of u) end
     comes =
-        machine_ends (Before ⊎ Summed) K V K old.memory.memory new.memory.memory same same hash (machine_of u) (machine_for Before (Before ⊎ Summed) (λ before. inl before) (machine_of u) (limits map i u here c c_is)) may end step
+        machine_ends (Before ⊎ Summed) K V K old.memory new.memory same same to.0.hash (machine_of u) (machine_for Before (Before ⊎ Summed) (λ before. inl before) (machine_of u) (limits map i u here c c_is)) may end step
 
     -- and by that after it
     own_ends : (x : UnderWay K V K) → to.4.next ≡ Some x → MachineEnds After to.1
-    own_ends x is = elim (machine_off old.memory.memory new.memory.memory step_told hash After same same (machine_of u) end to.3) as (λ _. MachineEnds After to.1) [
+    own_ends x is = elim (machine_off old.memory new.memory step_told to.0.hash After same same (machine_of u) end to.3) as (λ _. MachineEnds After to.1) [
       | inl free ↦ free.0
       | inr off ↦
           machine_for Before After (follow off) to.1
-          (machine_on Before K V K old.memory.memory new.memory.memory same same hash (machine_of u) end step comes.0 (goes_yet to.1 said to.4.next to.4.goes_on x is))
+          (machine_on Before K V K old.memory new.memory same same to.0.hash (machine_of u) end step comes.0 (goes_yet to.1 said to.4.next to.4.goes_on x is))
     ]
 
     pub limits_go_on : OthersHadLimit name log i m s → ShowsLimits name log v led
     limits_go_on others =
         since.so_go_on (Of K V) (more K V) (replies K V) (asked K V) (So K V) (AnyPairs K V) (λ m v pairs. tt) (so_where K V) same hash name log m known s old new at whole map i u here said leads others c c_is own_ends
 
-    why_more : OffRoot step_told → (machine : Machine K V K) → WhyOf (Before ⊎ Summed) K V K old.memory.memory new.memory.memory machine → WhyOf (After ⊎ Summed) K V K old.memory.memory new.memory.memory machine
+    why_more : OffRoot step_told → (machine : Machine K V K) → WhyOf (Before ⊎ Summed) K V K old.memory new.memory machine → WhyOf (After ⊎ Summed) K V K old.memory new.memory machine
     why_more off (kinds.Key p) why = follow_all off why
     why_more off (kinds.Sweep p) why = follow_all off why
     why_more off (kinds.Count sum) why = follow_all off why
@@ -145,9 +144,9 @@ module _ {K V S : Type 0} (same : K → K → Bool) (hash : K → ℕ) (name : �
     said_as W is says = (subst (λ (p : Progress (Node K V)). SaysFor W p) is says) refl
 
     -- The promise: it is refused for the length of a table for this alone.
-    pub refused_for : said ≡ progress.Refused Capacity → WhyOf (After ⊎ Summed) K V K old.memory.memory new.memory.memory (machine_of u)
-    refused_for is = elim (machine_off old.memory.memory new.memory.memory step_told hash (After ⊎ Summed) same same (machine_of u) end to.3) as
-        (λ _. WhyOf (After ⊎ Summed) K V K old.memory.memory new.memory.memory (machine_of u)) [
-          | inl free ↦ said_as (WhyOf (After ⊎ Summed) K V K old.memory.memory new.memory.memory (machine_of u)) is free.1
-          | inr off ↦ why_more off (machine_of u) (said_as (WhyOf (Before ⊎ Summed) K V K old.memory.memory new.memory.memory (machine_of u)) is comes.1)
+    pub refused_for : said ≡ progress.Refused Capacity → WhyOf (After ⊎ Summed) K V K old.memory new.memory (machine_of u)
+    refused_for is = elim (machine_off old.memory new.memory step_told to.0.hash (After ⊎ Summed) same same (machine_of u) end to.3) as
+        (λ _. WhyOf (After ⊎ Summed) K V K old.memory new.memory (machine_of u)) [
+          | inl free ↦ said_as (WhyOf (After ⊎ Summed) K V K old.memory new.memory (machine_of u)) is free.1
+          | inr off ↦ why_more off (machine_of u) (said_as (WhyOf (Before ⊎ Summed) K V K old.memory new.memory (machine_of u)) is comes.1)
         ]

@@ -35,10 +35,9 @@ use Rattle.papaya_purposes.specs.Given.Raw.declared.machines.machine.Machine.{Ma
 use Rattle.papaya_purposes.specs.Given.Raw.declared.machines.machine.Machine.TheVariants as kinds
 use Rattle.papaya_purposes.specs.Given.Raw.declared.machines.progress.Progress.{Progress}
 use Rattle.papaya_purposes.proofs.Given.Rule.Keys.Always.{always_steps}
-use Rattle.papaya_purposes.specs.Given.Executor.Stepping.{has_ended}
 use Rattle.papaya_purposes.specs.Given.Late.Ends.{EndsInCalling, EndsInReserving, EndsInSweeping, EndsSo}
 use Rattle.papaya_purposes.specs.Given.Late.Faults.{RefusesSo, StandsInSweeping, SweepRefusesSo}
-use Rattle.papaya_purposes.proofs.Given.Executor.Given.Tables.Ends.{only_the_last_ends}
+use Rattle.papaya_purposes.proofs.Given.Scenes.Given.Tables.Ends.{only_the_last_ends}
 use Rattle.papaya_purposes.proofs.Given.Late.KindsKept.Rooms.Asks.{reserve_asks}
 use Rattle.papaya_purposes.proofs.Given.Late.KindsKept.Rooms.Bound.{Keeps, calling_on, reserving_on, sweeping_on}
 use Rattle.papaya_purposes.proofs.Given.Late.KindsKept.Rooms.Calling.{CallsAs, key_as, key_told_as}
@@ -46,6 +45,7 @@ use Rattle.papaya_purposes.proofs.Given.Late.KindsKept.Rooms.Making.{CountsOn, a
 use Rattle.papaya_purposes.proofs.Given.Late.KindsKept.Rooms.Reserving.{ReservesAs, reserve_as}
 use Rattle.papaya_purposes.proofs.Given.Late.KindsKept.Rooms.Sweeping.{SweepsAs, sweep_as, told_as_on}
 use Rattle.papaya_grows.specs.Limits.{IsFor, IsForBehind, MachineEnds, NeedsMore, RoomEnds, SaysFor}
+use Rattle.papaya_purposes.specs.Given.Scenes.Stepping.{has_ended}
 
 module _ (Why : Type 0) where
   -- the fault is another one

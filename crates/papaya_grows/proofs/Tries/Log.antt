@@ -16,13 +16,13 @@ use Rattle.papaya_purposes.specs.Given.Schedules.Moment.{Moment, UnderWay as Cal
 use Rattle.papaya_purposes.specs.Given.Schedules.Tries.{FindsTaken, Meets, try_at}
 use Rattle.papaya_purposes.specs.Given.Schedules.Views.{call_of, number_of}
 use Rattle.papaya_purposes.specs.Given.Callers.Together.{Counting, ForRoom, OnKey, OverAll, UnderWay}
-use Rattle.papaya_purposes.specs.Given.Executor.IsAt.{Scene}
 use Rattle.papaya_purposes.proofs.Given.Histories.Logs.{each_of}
 use Rattle.papaya_purposes.specs.Given.Finds.Linking.{FoundFull, HasFoundFull}
 use Rattle.papaya_purposes.specs.Given.Finds.Within.{many_of}
 use Rattle.papaya_purposes.proofs.Given.Finds.Grows.Steps.{tables_have_been}
 use Rattle.papaya_grows.specs.Tries.{HasTaken, MeetsBy, ShowsTries, TakenOrPassed, TriedAt}
 use Rattle.papaya_grows.proofs.Finding.Alike.{many_same}
+use Rattle.papaya_purposes.specs.Given.Scenes.Scene.{Scene}
 
 module _ {K V : Type 0} (map : ℕ) where
   call_tables : (caller guard : List ℕ) (call : Call K V) (o : Option ℕ) (m : Moment K V) → (with_call caller guard call o m).tables ≡ m.tables

@@ -12,16 +12,9 @@ use Rattle.papaya_purposes.specs.Given.Schedules.Moment.{Moment}
 use Rattle.papaya_purposes.specs.Given.Effects.Effects.{effects_of, known_after}
 use Rattle.papaya_purposes.specs.Given.Effects.Known.{Known}
 use Rattle.papaya_purposes.specs.Given.Effects.declared.acting.Acting.TheVariants as acts
-use Rattle.papaya_purposes.specs.Given.Executor.Ending.{EndingLeads}
-use Rattle.papaya_purposes.specs.Given.Executor.IsAt.{IsAt, Scene, slot_of, work_of}
-use Rattle.papaya_purposes.specs.Given.Executor.Making.{MakingLeads}
-use Rattle.papaya_purposes.specs.Given.Executor.OnSlots.{MayBegin, RowBegins, RowLeads}
-use Rattle.papaya_purposes.specs.Given.Executor.Rows.{request_of}
-use Rattle.papaya_purposes.specs.Given.Executor.declared.executor.Executor.{Executor}
-use Rattle.papaya_purposes.specs.Given.Executor.declared.row.RowTold.{RowTold}
-use Rattle.papaya_purposes.specs.Given.Executor.declared.row.SlotCall.{SlotCall}
-use Rattle.papaya_purposes.specs.Given.Executor.declared.row.SlotRow.{SlotRow}
-use Rattle.papaya_purposes.specs.Given.Executor.declared.worker.Work.TheVariants.{OnSlot}
+use Rattle.papaya_purposes.specs.Given.Scenes.declared.row.RowTold.{RowTold}
+use Rattle.papaya_purposes.specs.Given.Scenes.declared.row.SlotCall.{SlotCall}
+use Rattle.papaya_purposes.specs.Given.Scenes.declared.row.SlotRow.{SlotRow}
 use Rattle.papaya_purposes.specs.Given.Finishes.Endings.{Finishing}
 use Rattle.papaya_purposes.specs.Given.Finishes.Makings.{Beginning}
 use Rattle.papaya_purposes.specs.Given.Others.Endings.{ending_after}
@@ -39,55 +32,61 @@ use Rattle.papaya_sources.specs.Sources.{ShowsSources}
 use Rattle.papaya_grows.specs.Tries.{ShowsTries}
 use Rattle.papaya_grows.proofs.Finding.Others.{ended, ended_calls, ended_maps, ended_world}
 use Rattle.papaya_grows.proofs.Tries.Shows.{tries_beside}
+use Rattle.papaya_purposes.specs.Given.Scenes.Ending.{EndingLeads}
+use Rattle.papaya_purposes.specs.Given.Scenes.Held.{Held, IsAt}
+use Rattle.papaya_purposes.specs.Given.Scenes.Making.{MakingLeads}
+use Rattle.papaya_purposes.specs.Given.Scenes.OnSlots.{RowBegins, RowLeads}
+use Rattle.papaya_purposes.specs.Given.Scenes.Rows.{request_of}
+use Rattle.papaya_purposes.specs.Given.Scenes.Scene.{IsOnSlot, Scene, slot_of}
 
-module _ (K V S : Type 0) (same : K → K → Bool) (hash : K → ℕ) (name : ℕ → List ℕ) (log : List (Entry K V)) (m : Moment K V) (known : Known) (s : Scene K V) (old new : Executor K V S)
+module _ (K V : Type 0) (same : K → K → Bool) (hash : ℕ → K → ℕ) (name : ℕ → List ℕ) (log : List (Entry K V)) (m : Moment K V) (known : Known) (s : Scene K V) (old new : Held K V)
     (sources : ShowsSources same name m known s) (tries : ShowsTries name log m s) where
   -- a row begins on a slot
-  pub rows_begin_tries : (called : SlotCall) (i : ℕ) (may : MayBegin old (slot_of i) called) (leads : RowBegins same hash called i s old new)
-      → ShowsWhole same name m known (scene_then same hash (Begin i (request_of (slot_of i) called)) s old new (leads may).3)
-      → ShowsTries name log m (scene_then same hash (Begin i (request_of (slot_of i) called)) s old new (leads may).3)
-  rows_begin_tries called i may leads whole2 =
-      let to = (leads may).3 in
+  pub rows_begin_tries : (called : SlotCall) (i : ℕ) (leads : RowBegins same hash called i s old new)
+      → ShowsWhole same name m known (scene_then same hash (Begin i (request_of (slot_of i) called)) s old new leads.2)
+      → ShowsTries name log m (scene_then same hash (Begin i (request_of (slot_of i) called)) s old new leads.2)
+  rows_begin_tries called i leads whole2 =
+      let to = leads.2 in
       let t = scene_then same hash (Begin i (request_of (slot_of i) called)) s old new to in
-      tries_beside same hash name log m m known known s t new to.4 (rows_begin_beside K V S same hash m known s old new called i may leads) refl (λ of. itself (many_of of m)) sources whole2.all.shown tries
+      tries_beside same hash name log m m known known s t new to.4 (rows_begin_beside K V same hash m known s old new called i leads) refl (λ of. itself (many_of of m)) sources whole2.all.shown tries
 
   module _ (at : IsAt same hash old s) (whole : ShowsWhole same name m known s) where
     -- a step of one
-    pub rows_keep_tries : (i : ℕ) (said : RowTold (Node K V)) (leads : RowLeads same hash i said s old new) (row : SlotRow) (here : work_of old i ≡ Some (OnSlot row))
-        → (let v = with_effects None None (effects_of acts.Row known new.memory.changed) m in
-        let t = scene_then same hash (Step i) s old new (leads row here).4 in
-        ShowsWhole same name v (known_after acts.Row new.memory.changed known) t → ShowsTries name log v t)
+    pub rows_keep_tries : (i : ℕ) (said : RowTold (Node K V)) (leads : RowLeads same hash i said s old new) (row : SlotRow) (here : IsOnSlot s i row)
+        → (let v = with_effects None None (effects_of acts.Row known new.changed) m in
+        let t = scene_then same hash (Step i) s old new (leads row here).2 in
+        ShowsWhole same name v (known_after acts.Row new.changed known) t → ShowsTries name log v t)
     rows_keep_tries i said leads row here whole2 =
         let to = leads row here in
-        let effects = effects_of acts.Row known new.memory.changed in
+        let effects = effects_of acts.Row known new.changed in
         let v = with_effects None None effects m in
-        let t = scene_then same hash (Step i) s old new to.4 in
-        tries_beside same hash name log m v known (known_after acts.Row new.memory.changed known) s t new to.4.4 (row_beside same hash m known s old new at i row here (to.0, said) to.1 to.4)
+        let t = scene_then same hash (Step i) s old new to.2 in
+        tries_beside same hash name log m v known (known_after acts.Row new.changed known) s t new to.2.4 (row_beside same hash m known s old new at i row here (to.0, said) to.1 to.2)
         (rows_leave_spots same hash name m known s old new at i said leads row here) (tables_have_been K V None None effects m) sources whole2.all.shown tries
 
     -- of the making of a map
     pub makings_keep_tries : (i : ℕ) (said : Making Setting) (leads : MakingLeads same hash i said s old new) (b : Beginning K) (here : s.makers i ≡ Some b) → WasNew b.map said m
-        → (let v = with_effects None (Some b.map) (effects_of (acts.Making b.map) known new.memory.changed) m in
+        → (let v = with_effects None (Some b.map) (effects_of (acts.Making b.map) known new.changed) m in
         let t = making_after same hash s old new i b (leads b here).0 (leads b here).2.step.w2 said (leads b here).3 in
-        IsAt same hash new t → ShowsWhole same name v (known_after (acts.Making b.map) new.memory.changed known) t → ShowsTries name log v t)
+        IsAt same hash new t → ShowsWhole same name v (known_after (acts.Making b.map) new.changed known) t → ShowsTries name log v t)
     makings_keep_tries i said leads b here was_new at2 whole2 =
-        let effects = effects_of (acts.Making b.map) known new.memory.changed in
+        let effects = effects_of (acts.Making b.map) known new.changed in
         let v = with_effects None (Some b.map) effects m in
         let t = making_after same hash s old new i b (leads b here).0 (leads b here).2.step.w2 said (leads b here).3 in
-        tries_beside same hash name log m v known (known_after (acts.Making b.map) new.memory.changed known) s t new at2
-        (makings_go_beside K V S same hash name m known s old new at whole i said leads b here (Some b.map) was_new)
+        tries_beside same hash name log m v known (known_after (acts.Making b.map) new.changed known) s t new at2
+        (makings_go_beside K V same hash name m known s old new at whole i said leads b here (Some b.map) was_new)
         (makings_leave_spots same hash name m known s old new at whole.all.shown i said leads b here (Some b.map)) (tables_have_been K V None (Some b.map) effects m) sources whole2.all.shown tries
 
     -- and of the end of one
     module _ (i : ℕ) (f : Finishing K V) (here : s.enders i ≡ Some f) where
       pub endings_keep_tries : (said : Settled (Node K V)) (leads : EndingLeads same hash i said s old new) (map : ℕ) → s.maps map ≡ None
-          → (let v = with_effects None (Some map) (effects_of (acts.Ending map) known new.memory.changed) m in
+          → (let v = with_effects None (Some map) (effects_of (acts.Ending map) known new.changed) m in
           let t = ending_after same hash s new i f (leads f here).0 (leads f here).2.w2 (leads f here).2.deed said (leads f here).3 in
-          IsAt same hash new t → ShowsWhole same name v (known_after (acts.Ending map) new.memory.changed known) t → ShowsTries name log v t)
+          IsAt same hash new t → ShowsWhole same name v (known_after (acts.Ending map) new.changed known) t → ShowsTries name log v t)
       endings_keep_tries said leads map not_there at2 whole2 =
           let to = leads f here in
-          let effects = effects_of (acts.Ending map) known new.memory.changed in
+          let effects = effects_of (acts.Ending map) known new.changed in
           let v = with_effects None (Some map) effects m in
-          tries_beside same hash name log m v known (known_after (acts.Ending map) new.memory.changed known) s (ended same hash s old new i f here said leads) new at2
+          tries_beside same hash name log m v known (known_after (acts.Ending map) new.changed known) s (ended same hash s old new i f here said leads) new at2
           (end_beside same hash name m known s old new at whole i f here to.0 said to.1 to.2 map not_there to.3 (ended same hash s old new i f here said leads) (ended_world same hash s old new i f here said leads) (ended_calls same hash s old new i f here said leads) (ended_maps same hash s old new i f here said leads))
           (endings_leave_spots same hash name m known s old new at whole i said leads f here map not_there) (tables_have_been K V None (Some map) effects m) sources whole2.all.shown tries

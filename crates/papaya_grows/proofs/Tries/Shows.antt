@@ -17,11 +17,6 @@ use Rattle.papaya_purposes.specs.Given.Schedules.Views.{call_of, map_at}
 use Rattle.papaya_purposes.specs.Given.Callers.Pairs.{Given}
 use Rattle.papaya_purposes.specs.Given.Callers.Together.{Computes, Counting, ForRoom, Gets, Inserts, IsBegun, OnKey, OverAll, Removes, RemovesIf, TriesToInsert, TriesToInsertWith, UnderWay, Updates, UpdatesOrInserts}
 use Rattle.papaya_purposes.specs.Given.Effects.Known.{Known}
-use Rattle.papaya_purposes.specs.Given.Executor.Beginning.{Begins}
-use Rattle.papaya_purposes.specs.Given.Executor.IsAt.{IsAt, Scene, slot_of}
-use Rattle.papaya_purposes.specs.Given.Executor.Replying.{scene_with, unless_stopped}
-use Rattle.papaya_purposes.specs.Given.Executor.declared.executor.Executor.{Executor}
-use Rattle.papaya_purposes.proofs.Given.Executor.Changed.{standing_is}
 use Rattle.papaya_purposes.specs.Given.Finishes.Machines.{machine_of}
 use Rattle.papaya_purposes.specs.Given.Finishes.Maps.{Standing, with_call as with_in}
 use Rattle.papaya_purposes.specs.Given.Follows.Calling.{NoneNamed, come_to, told}
@@ -36,6 +31,11 @@ use Rattle.papaya_grows.proofs.Since as since
 use Rattle.papaya_grows.proofs.Since.{HasSamePairs}
 use Rattle.papaya_grows.proofs.Tries.More.{asked_tried, machine_more, reply_tried}
 use Rattle.papaya_grows.proofs.Tries.Stays.{chart_taken, taken_where}
+use Rattle.papaya_purposes.proofs.Given.Scenes.May.{standing_is}
+use Rattle.papaya_purposes.specs.Given.Scenes.Beginning.{Begins}
+use Rattle.papaya_purposes.specs.Given.Scenes.Held.{Held, IsAt}
+use Rattle.papaya_purposes.specs.Given.Scenes.Replying.{scene_with, unless_stopped}
+use Rattle.papaya_purposes.specs.Given.Scenes.Scene.{Scene, slot_of}
 
 -- A call that begins has made no try.
 module _ {K V : Type 0} (same : K → K → Bool) (Why : Spot × ℕ → Type 0) where
@@ -87,7 +87,7 @@ module _ {K V : Type 0} (name : ℕ → List ℕ) (log : List (Entry K V)) (m v 
       (λ n j x is y so. taken_where m v pairs tables n (ap (λ (fs : List MapThere). find (λ f. f.number == n) fs) maps) y so) was
 
 -- at a moment with other maps, where those that stand are found as they were
-pub tries_where : {K V S : Type 0} (same : K → K → Bool) (hash : K → ℕ) (name : ℕ → List ℕ) (log : List (Entry K V)) (m v : Moment K V) (s : Scene K V) (e : Executor K V S) → IsAt same hash e s → ShowsTries name log m s
+pub tries_where : {K V : Type 0} (same : K → K → Bool) (hash : ℕ → K → ℕ) (name : ℕ → List ℕ) (log : List (Entry K V)) (m v : Moment K V) (s : Scene K V) (e : Held K V) → IsAt same hash e s → ShowsTries name log m s
     → ((n : ℕ) (st : Standing K) → s.maps n ≡ Some st → map_at n v ≡ map_at n m) → HasSamePairs m v → v.tables ≡ m.tables → v.calls ≡ m.calls → ShowsTries name log v s
 tries_where {K} {V} same hash name log m v s e at tries still pairs tables calls =
     since.so_where_found (Of K V) (more K V) (replies K V) (asked K V) (So K V) (Alike K V) (λ m v pairs. pairs) (so_where K V) same hash name log m v s e at tries still pairs tables calls
@@ -132,7 +132,7 @@ tries_at_first {K} {V} name log i m s pairs maps tables begun tries =
     since.others_at_first (Of K V) (more K V) (replies K V) (asked K V) (So K V) (Alike K V) (λ m v pairs. pairs) (so_where K V) name log i m s pairs maps tables begun tries
 
 -- After each step of what is no call: where calls and maps are as they were, and each map of a call has the tables that it had.
-module _ {K V S : Type 0} (same : K → K → Bool) (hash : K → ℕ) (name : ℕ → List ℕ) (log : List (Entry K V)) (m v : Moment K V) (known known2 : Known) (s t : Scene K V) (new : Executor K V S) (at2 : IsAt same hash new t)
+module _ {K V : Type 0} (same : K → K → Bool) (hash : ℕ → K → ℕ) (name : ℕ → List ℕ) (log : List (Entry K V)) (m v : Moment K V) (known known2 : Known) (s t : Scene K V) (new : Held K V) (at2 : IsAt same hash new t)
     (beside : IsBeside m v known known2 s t) (spot : v.spot ≡ m.spot) (more_tables : (map : ℕ) → many_of map m ≤ many_of map v) (sources : ShowsSources same name m known s) (shown2 : Shows same name v known2 t)
     (tries : ShowsTries name log m s) where
   pub tries_beside : ShowsTries name log v t

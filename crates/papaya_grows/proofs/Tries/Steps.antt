@@ -54,9 +54,6 @@ use Rattle.papaya_purposes.proofs.Given.Callers.Together.Fits.{map_in_slot}
 use Rattle.papaya_purposes.specs.Given.Effects.Effects.{effects_of}
 use Rattle.papaya_purposes.specs.Given.Effects.Known.{Known}
 use Rattle.papaya_purposes.specs.Given.Effects.declared.acting.Acting.TheVariants as acts
-use Rattle.papaya_purposes.specs.Given.Executor.IsAt.{IsAt, Scene, slot_of}
-use Rattle.papaya_purposes.specs.Given.Executor.Stepping.{StepLeads, scene_after}
-use Rattle.papaya_purposes.specs.Given.Executor.declared.executor.Executor.{Executor}
 use Rattle.papaya_purposes.specs.Given.Finishes.Machines.{machine_of}
 use Rattle.papaya_purposes.specs.Given.Finishes.Maps.{Standing}
 use Rattle.papaya_purposes.proofs.Given.Follows.Finds.{tables_many}
@@ -76,6 +73,9 @@ use Rattle.papaya_grows.proofs.Tries.Off.{same_pairs}
 use Rattle.papaya_grows.proofs.Tries.Shows.{Alike, Of, So, asked, more, replies, so_where}
 use Rattle.papaya_grows.proofs.Tries.Stays.{same_taken}
 use Rattle.papaya_grows.proofs.Tries.Walk.{OfNone, OffWords, call_tried}
+use Rattle.papaya_purposes.specs.Given.Scenes.Held.{Held, IsAt}
+use Rattle.papaya_purposes.specs.Given.Scenes.Scene.{Scene, slot_of}
+use Rattle.papaya_purposes.specs.Given.Scenes.Stepping.{StepLeads, scene_after}
 
 -- a call is at a try
 abbrev Tries : Calling → Type 0
@@ -85,7 +85,7 @@ Tries stands = (calling.Probes ≡ stands) ⊎ ((word new : ℕ) × (calling.Tri
 of_key_tried : {K V : Type 0} (Why : Spot × ℕ → Type 0) (e : KeyCall K V K × Called (Node K V)) → Tried Why e → MachineTried Why (of_key {K = K} {V = V} {Q = K} e).0
 of_key_tried Why (p, told) so = so
 
-module _ {K V S : Type 0} (same : K → K → Bool) (hash : K → ℕ) (name : ℕ → List ℕ) (log : List (Entry K V)) (m : Moment K V) (known : Known) (s : Scene K V) (old new : Executor K V S) (at : IsAt same hash old s)
+module _ {K V : Type 0} (same : K → K → Bool) (hash : ℕ → K → ℕ) (name : ℕ → List ℕ) (log : List (Entry K V)) (m : Moment K V) (known : Known) (s : Scene K V) (old new : Held K V) (at : IsAt same hash old s)
     (whole : ShowsWhole same name m known s) (map i : ℕ) (u : UnderWay K V K) (here : s.calls map i ≡ Some u) (said : Progress (Node K V)) (leads : StepLeads same hash i said s old new) where
   abbrev to : WentTo same hash name m known s old new at whole.all.shown map i u here said leads
   to = went_to same hash name m known s old new at whole.all.shown map i u here said leads
@@ -94,7 +94,7 @@ module _ {K V S : Type 0} (same : K → K → Bool) (hash : K → ℕ) (name : �
   st = to.0
 
   abbrev step_told : Changed
-  step_told = new.memory.changed
+  step_told = new.changed
 
   abbrev effects : List Effect
   effects = effects_of (acts.Call i map) known step_told
@@ -103,7 +103,7 @@ module _ {K V S : Type 0} (same : K → K → Bool) (hash : K → ℕ) (name : �
   v = with_effects (Some (name i)) (Some map) effects m
 
   abbrev led : Scene K V
-  led = scene_after same hash s old new map i st u to.1 said to.4
+  led = scene_after same s old new map i st u to.1 said to.4
 
   -- others are as they were
   pub tries_others : OthersHadTried name log i m s → OthersHadTried name log i v led
@@ -241,11 +241,11 @@ module _ {K V S : Type 0} (same : K → K → Bool) (hash : K → ℕ) (name : �
     follow : OffWords step_told → (y : Spot × ℕ) → Before y → After y
     follow off y (inl had) = inl had
     follow off y (inr now) =
-        inr (same_taken m v (same_pairs i map known (name i) m step_told off (steps_do_theirs K V S same hash name m known s old new at whole map i u here said leads)) map
+        inr (same_taken m v (same_pairs i map known (name i) m step_told off (steps_do_theirs K V same hash name m known s old new at whole map i u here said leads)) map
         (tables_have_been K V (Some (name i)) (Some map) effects m map) y now)
 
-    step_of : (x : UnderWay K V K) → u ≡ x → StepsTold K V (Machine K V K × Progress (Node K V)) old.memory.memory changes.Nothing (machine_plan same same hash (machine_of x)) new.memory.memory step_told (to.1, said)
-    step_of x is = subst (λ (y : UnderWay K V K). StepsTold K V (Machine K V K × Progress (Node K V)) old.memory.memory changes.Nothing (machine_plan same same hash (machine_of y)) new.memory.memory step_told (to.1, said)) is to.3
+    step_of : (x : UnderWay K V K) → u ≡ x → StepsTold K V (Machine K V K × Progress (Node K V)) old.memory changes.Nothing (machine_plan same same to.0.hash (machine_of x)) new.memory step_told (to.1, said)
+    step_of x is = subst (λ (y : UnderWay K V K). StepsTold K V (Machine K V K × Progress (Node K V)) old.memory changes.Nothing (machine_plan same same to.0.hash (machine_of y)) new.memory step_told (to.1, said)) is to.3
 
     came : (e : Machine K V K × Progress (Node K V)) → (to.1, said) ≡ e → MachineTried After e.0 → MachineTried After to.1
     came e e_is so = subst (λ (y : Machine K V K × Progress (Node K V)). MachineTried After y.0) (sym e_is) so
@@ -262,8 +262,8 @@ module _ {K V S : Type 0} (same : K → K → Bool) (hash : K → ℕ) (name : �
     own_tried : (x : UnderWay K V K) → u ≡ x → MachineTried After to.1
     own_tried (OnKey x) is =
         let there : s.calls map i ≡ Some (OnKey x) = here ∙ ap (λ (y : UnderWay K V K). Some y) is in
-        let it = told_in old.memory.memory new.memory.memory step_told of_key (call_plan same same hash x.call) (to.1, said) (step_of (OnKey x) is) in
-        elim (call_tried Before same same hash old.memory.memory new.memory.memory step_told x.call it.0
+        let it = told_in old.memory new.memory step_told of_key (call_plan same same to.0.hash x.call) (to.1, said) (step_of (OnKey x) is) in
+        elim (call_tried Before same same to.0.hash old.memory new.memory step_told x.call it.0
         (λ trying. let a = at_try_of x there trying in tries_within x a.0 a.1 a.2 a.3)
         (λ trying word e some. let a = at_try_of x there trying in tries_take x a.0 a.1 a.2 a.3 word (subst (λ (q : Mem (Node K V)). word_at q (place_tried x.call.trial) ≡ Some word) (sym at.memory) e) some)
         (λ trying word e. let a = at_try_of x there trying in tries_move x a.0 a.1 a.2 a.3 word (subst (λ (q : Mem (Node K V)). word_at q (place_tried x.call.trial) ≡ Some word) (sym at.memory) e))
@@ -272,10 +272,10 @@ module _ {K V S : Type 0} (same : K → K → Bool) (hash : K → ℕ) (name : �
           | inr so ↦ came (of_key it.0) it.1 (machine_more Before After (follow so.0) (of_key {K = K} {V = V} {Q = K} it.0).0 (of_key_tried Before it.0 so.1))
         ]
     own_tried (ForRoom x) is =
-        let it = told_in old.memory.memory new.memory.memory step_told of_room (reserve_plan hash x.reserve) (to.1, said) (step_of (ForRoom x) is) in came (of_room it.0) it.1 (room_tried it.0)
-    own_tried (Counting x) is = let it = told_in old.memory.memory new.memory.memory step_told of_sum (sum_plan x) (to.1, said) (step_of (Counting x) is) in came (of_sum it.0) it.1 (sum_tried it.0)
+        let it = told_in old.memory new.memory step_told of_room (reserve_plan to.0.hash x.reserve) (to.1, said) (step_of (ForRoom x) is) in came (of_room it.0) it.1 (room_tried it.0)
+    own_tried (Counting x) is = let it = told_in old.memory new.memory step_told of_sum (sum_plan x) (to.1, said) (step_of (Counting x) is) in came (of_sum it.0) it.1 (sum_tried it.0)
     own_tried (OverAll x) is =
-        let it = told_in old.memory.memory new.memory.memory step_told of_sweep (sweep_plan hash x.sweep) (to.1, said) (step_of (OverAll x) is) in came (of_sweep it.0) it.1 (sweep_tried it.0)
+        let it = told_in old.memory new.memory step_told of_sweep (sweep_plan to.0.hash x.sweep) (to.1, said) (step_of (OverAll x) is) in came (of_sweep it.0) it.1 (sweep_tried it.0)
 
     pub tries_go_on : OthersHadTried name log i m s → ShowsTries name log v led
     tries_go_on others =

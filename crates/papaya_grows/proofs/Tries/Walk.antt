@@ -75,10 +75,10 @@ use Rattle.papaya_purposes.specs.Given.Teller.declared.changed.Changed.{Changed}
 use Rattle.papaya_purposes.specs.Given.Teller.declared.changed.Changed.TheVariants as changes
 use Rattle.papaya_purposes.proofs.Given.Points.Calls.Asked.{beyond_so}
 use Rattle.papaya_purposes.proofs.Given.Rule.Keys.Always.{Always, AlwaysOf, always_ends, always_if, always_plan_as, always_steps}
-use Rattle.papaya_purposes.proofs.Given.Executor.Forgotten.{as_step}
 use Rattle.papaya_purposes.proofs.Given.Others.Outcomes.{told_in}
 use Rattle.papaya_grows.specs.Tries.{HasTried, TriedAt, TriedAtGap}
 use Rattle.papaya_grows.proofs.Tries.More.{Tried, burying_tried, either, ending_tried, fill, gap_tried, storing_tried}
+use Rattle.papaya_purposes.proofs.Given.Scenes.Told.{as_step}
 
 -- no root was written, nor a word of a block that says what stands in a table
 abbrev pub OffWords : Changed → Type 0

@@ -16,9 +16,6 @@ use Rattle.papaya_moments.specs.Given.Callers.Together.{CallOnKey, UnderWay, OnK
 use Rattle.papaya_moments.specs.Given.Effects.Effects.{known_after}
 use Rattle.papaya_moments.specs.Given.Effects.Known.{Known}
 use Rattle.papaya_moments.specs.Given.Effects.declared.acting.Acting.TheVariants as acts
-use Rattle.papaya_moments.specs.Given.Executor.IsAt.{Scene, IsAt}
-use Rattle.papaya_moments.specs.Given.Executor.Stepping.{StepLeads}
-use Rattle.papaya_moments.specs.Given.Executor.declared.executor.Executor.{Executor}
 use Rattle.papaya_moments.proofs.Given.Follows.Steps.{one_of}
 use Rattle.papaya_moments.specs.Given.Hands.Calling.{AsksJust}
 use Rattle.papaya_histories.specs.AsCalled.{AsksAsCalled}
@@ -31,6 +28,9 @@ use Rattle.papaya_histories.proofs.Asking.{asking_steps_stand_there}
 use Rattle.papaya_histories.proofs.AnyCall.InEvent.{comes_of_key, comes_of_none}
 use Rattle.papaya_histories.proofs.OtherCalls.{IsNoQuestion}
 use Rattle.papaya_histories.proofs.NoKey.OtherEvents.{asks_next, asks_or_none}
+use Rattle.papaya_moments.specs.Given.Scenes.Held.{Held, IsAt}
+use Rattle.papaya_moments.specs.Given.Scenes.Scene.{Scene}
+use Rattle.papaya_moments.specs.Given.Scenes.Stepping.{StepLeads}
 
 module _ {K V : Type 0} (known : Known) where
   abbrev AsksSo : UnderWay K V K → Outcome V → Type 0
@@ -47,15 +47,15 @@ module _ {K V : Type 0} (known : Known) where
   quiet (OverAll v) (outcome.Asks q) none = absurd none
   quiet (OverAll v) _ none = (tt, tt)
 
-module _ (K V S : Type 0) (same : K → K → Bool) (hash : K → ℕ) (name : ℕ → List ℕ) (log : List (Entry K V)) (beginning : Moment K V) (map i : ℕ) (c : CallThere K V) (done : List Effect) (m : Moment K V) (known : Known)
-    (s : Scene K V) (old new : Executor K V S) (at_old : IsAt same hash old s) where
+module _ (K V : Type 0) (same : K → K → Bool) (hash : ℕ → K → ℕ) (name : ℕ → List ℕ) (log : List (Entry K V)) (beginning : Moment K V) (map i : ℕ) (c : CallThere K V) (done : List Effect) (m : Moment K V) (known : Known)
+    (s : Scene K V) (old new : Held K V) (at_old : IsAt same hash old s) where
   abbrev known2 : Known
-  known2 = known_after (acts.Call i map) new.memory.changed known
+  known2 = known_after (acts.Call i map) new.changed known
 
   key_asks : (x : CallOnKey K V K) (here : s.calls map i ≡ Some (OnKey x)) (one : OneKey K V) (said : Progress (Node K V)) (leads : StepLeads same hash i said s old new) (question : Option ℕ)
       → ComesToIt known2 one c.replies said (outcome.Asks question) → (next : UnderWay K V K) → (leads map (OnKey x) here).4.next ≡ Some next → AsksSo known2 next (outcome.Asks question)
   key_asks x here one (progress.Asks about) leads question told next goes =
-      let it = asking_steps_stand_there K V S same hash s old new map i x here about leads in
+      let it = asking_steps_stand_there K V same hash s old new map i x here about leads in
       subst (λ (z : UnderWay K V K). AsksSo known2 z (outcome.Asks question)) (one_of (OnKey it.0) next (sym it.1 ∙ goes)) (it.2 known2 question told, tt)
   key_asks x here one (progress.Done (Key answer)) leads question told next goes = absurd told
   key_asks x here one (progress.Done _) leads question told next goes = absurd told
@@ -86,12 +86,12 @@ module _ (K V S : Type 0) (same : K → K → Bool) (hash : K → ℕ) (name : �
       | inr none ↦ quiet known2 next o none
     ]
 
-pub events_ask_there : (K V S : Type 0) (same : K → K → Bool) (hash : K → ℕ) → EventsAskThere K V S same hash
-events_ask_there K V S same hash name log beginning map i c done m known s (OnKey x) midst old new at_old said leads o comes next goes =
-    key_there K V S same hash name log beginning map i c done m known s old new at_old said leads o comes next x midst.0 midst.1 midst.2 goes
-events_ask_there K V S same hash name log beginning map i c done m known s (ForRoom r) midst old new at_old said leads o comes next goes =
-    other_there K V S same hash name log beginning map i c done m known s old new at_old said leads o comes next (ForRoom r) midst goes
-events_ask_there K V S same hash name log beginning map i c done m known s (Counting sum) midst old new at_old said leads o comes next goes =
-    other_there K V S same hash name log beginning map i c done m known s old new at_old said leads o comes next (Counting sum) midst goes
-events_ask_there K V S same hash name log beginning map i c done m known s (OverAll v) midst old new at_old said leads o comes next goes =
-    other_there K V S same hash name log beginning map i c done m known s old new at_old said leads o comes next (OverAll v) midst goes
+pub events_ask_there : (K V : Type 0) (same : K → K → Bool) (hash : ℕ → K → ℕ) → EventsAskThere K V same hash
+events_ask_there K V same hash name log beginning map i c done m known s (OnKey x) midst old new at_old said leads o comes next goes =
+    key_there K V same hash name log beginning map i c done m known s old new at_old said leads o comes next x midst.0 midst.1 midst.2 goes
+events_ask_there K V same hash name log beginning map i c done m known s (ForRoom r) midst old new at_old said leads o comes next goes =
+    other_there K V same hash name log beginning map i c done m known s old new at_old said leads o comes next (ForRoom r) midst goes
+events_ask_there K V same hash name log beginning map i c done m known s (Counting sum) midst old new at_old said leads o comes next goes =
+    other_there K V same hash name log beginning map i c done m known s old new at_old said leads o comes next (Counting sum) midst goes
+events_ask_there K V same hash name log beginning map i c done m known s (OverAll v) midst old new at_old said leads o comes next goes =
+    other_there K V same hash name log beginning map i c done m known s old new at_old said leads o comes next (OverAll v) midst goes

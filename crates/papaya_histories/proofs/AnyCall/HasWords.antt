@@ -51,9 +51,6 @@ use Rattle.papaya_moments.specs.Given.Effects.Effects.{effects_of, known_after}
 use Rattle.papaya_moments.specs.Given.Effects.Known.{Known}
 use Rattle.papaya_moments.specs.Given.Effects.declared.acting.Acting.TheVariants as acts
 use Rattle.papaya_moments.specs.Given.Effects.declared.role.Role.TheVariants as role
-use Rattle.papaya_moments.specs.Given.Executor.IsAt.{Scene, IsAt, slot_of}
-use Rattle.papaya_moments.specs.Given.Executor.Stepping.{StepsFrom, StepLeads, scene_after}
-use Rattle.papaya_moments.specs.Given.Executor.declared.executor.Executor.{Executor}
 use Rattle.papaya_moments.specs.Given.Follows.Shows.{Shows}
 use Rattle.papaya_moments.proofs.Given.Follows.Steps.{WentTo, LeadsThere, DidSo}
 use Rattle.papaya_moments.specs.Given.Hands.Asked.{given_by, IsAskedOn, IsAskedAs}
@@ -75,9 +72,12 @@ use Rattle.papaya_histories.proofs.Says.{AsksAt}
 use Rattle.papaya_histories.proofs.Steps.{to, led_on, v, after}
 use Rattle.papaya_histories.proofs.NoKey.Sweeps.{SweepsOn, sweeps_on}
 use Rattle.papaya_histories.proofs.AnyCall.Words.{LeavesIt, LeavesMissing, finds_it, misses_it, takes_any}
+use Rattle.papaya_moments.specs.Given.Scenes.Held.{Held, IsAt}
+use Rattle.papaya_moments.specs.Given.Scenes.Scene.{Scene, slot_of}
+use Rattle.papaya_moments.specs.Given.Scenes.Stepping.{StepLeads, StepsFrom, scene_after}
 
 -- In a scene, what a call asks about is a pair of the run.
-module _ {K V S : Type 0} (same : K → K → Bool) (hash : K → ℕ) (name : ℕ → List ℕ) (m : Moment K V) (known : Known) (s : Scene K V) (e : Executor K V S) (at_e : IsAt same hash e s)
+module _ {K V : Type 0} (same : K → K → Bool) (hash : ℕ → K → ℕ) (name : ℕ → List ℕ) (m : Moment K V) (known : Known) (s : Scene K V) (e : Held K V) (at_e : IsAt same hash e s)
     (shown : Shows same name m known s) (map i : ℕ) (x : UnderWay K V K) (here : s.calls map i ≡ Some x) where
   abbrev there : Standing K
   there = (stands same hash s e at_e map i x here).0
@@ -123,7 +123,7 @@ module _ {K V S : Type 0} (same : K → K → Bool) (hash : K → ℕ) (name : �
       by : SweepingFacts same there.hash s.world i (in_slot there.setting (slot_of i)) there.chart seen o.began o.sweep (sweeping.Asks word) → Named word
       by (retains, (n, borrowed, l, known_too, word_is), t, place) = names word n borrowed l known_too word_is
 
-module _ {K V S : Type 0} (same : K → K → Bool) (hash : K → ℕ) (name : ℕ → List ℕ) (m : Moment K V) (known : Known) (s : Scene K V) (old new : Executor K V S) (at_old : IsAt same hash old s)
+module _ {K V : Type 0} (same : K → K → Bool) (hash : ℕ → K → ℕ) (name : ℕ → List ℕ) (m : Moment K V) (known : Known) (s : Scene K V) (old new : Held K V) (at_old : IsAt same hash old s)
     (whole : ShowsWhole same name m known s) (shown : Shows same name m known s) (map i : ℕ) (u : UnderWay K V K) (here : s.calls map i ≡ Some u) (about : Option ℕ)
     (leads : StepLeads same hash i (progress.Asks about) s old new) where
   abbrev asks : Progress (Node K V)
@@ -133,7 +133,7 @@ module _ {K V S : Type 0} (same : K → K → Bool) (hash : K → ℕ) (name : �
   known_then = after same hash name m known s old new at_old whole shown map i u here asks leads
 
   abbrev s2 : Scene K V
-  s2 = scene_after same hash s old new map i (leads map u here).0 u (leads map u here).1 asks (leads map u here).4
+  s2 = scene_after same s old new map i (leads map u here).0 u (leads map u here).1 asks (leads map u here).4
 
   abbrev Question : Type 0
   Question = (question : Option ℕ) × IsToldQuestion known_then about question
@@ -156,11 +156,11 @@ module _ {K V S : Type 0} (same : K → K → Bool) (hash : K → ℕ) (name : �
   of_word : (word : ℕ) → about ≡ Some word → (q : ℕ) × NamesPair known_then word q → Question
   of_word word is named = (Some named.0, subst (λ (z : Option ℕ). IsToldQuestion known_then z (Some named.0)) (sym is) named.1)
 
-  by_key : (x : CallOnKey K V K) → StepsFrom same hash (kinds.Key x.call) old new (leads map u here).1 asks → Question
+  by_key : (x : CallOnKey K V K) → StepsFrom same (leads map u here).0.hash (kinds.Key x.call) old new (leads map u here).1 asks → Question
   by_key x steps = by about refl
     where
       it : (y : CallOnKey K V K) × (next ≡ OnKey y) × AsksAt about y.call.stands
-      it = goes_there same hash old new x (leads map u here).1 asks steps about refl next next_machine
+      it = goes_there same (leads map u here).0.hash old new x (leads map u here).1 asks steps about refl next next_machine
 
       by : (z : Option ℕ) → about ≡ z → Question
       by None is = (None, subst (λ (y : Option ℕ). IsToldQuestion known_then y None) (sym is) tt)
@@ -168,8 +168,8 @@ module _ {K V S : Type 0} (same : K → K → Bool) (hash : K → ℕ) (name : �
           (key_names same hash name (v same hash name m known s old new at_old whole shown map i u here asks leads) known_then s2 new (leads map u here).5 on.shows map i next next_here it.0 it.1 word
           (subst (λ (y : Option ℕ). AsksAt y it.0.call.stands) is it.2))
 
-  by_sweep : (o : CallOverAll) → StepsFrom same hash (kinds.Sweep o.sweep) old new (leads map u here).1 asks → Question
-  by_sweep o steps = by next refl (subst (λ (z : Machine K V K). SweepsOn o.sweep.purpose (z, asks)) (sym next_machine) (sweeps_on same hash old new o.sweep (leads map u here).1 asks steps))
+  by_sweep : (o : CallOverAll) → StepsFrom same (leads map u here).0.hash (kinds.Sweep o.sweep) old new (leads map u here).1 asks → Question
+  by_sweep o steps = by next refl (subst (λ (z : Machine K V K). SweepsOn o.sweep.purpose (z, asks)) (sym next_machine) (sweeps_on same (leads map u here).0.hash old new o.sweep (leads map u here).1 asks steps))
     where
       by : (x : UnderWay K V K) → next ≡ x → SweepsOn o.sweep.purpose (machine_of x, asks) → Question
       by (OverAll q) is so = of_word so.1.0 so.1.1
@@ -178,7 +178,7 @@ module _ {K V S : Type 0} (same : K → K → Bool) (hash : K → ℕ) (name : �
       by (ForRoom r) is so = absurd so
       by (Counting sum) is so = absurd so
 
-  has_question : (x : UnderWay K V K) → StepsFrom same hash (machine_of x) old new (leads map u here).1 asks → DidSo same hash name m known s old new at_old shown map i u here asks leads x → Question
+  has_question : (x : UnderWay K V K) → StepsFrom same (leads map u here).0.hash (machine_of x) old new (leads map u here).1 asks → DidSo same hash name m known s old new at_old shown map i u here asks leads x → Question
   has_question (OnKey x) steps did = by_key x steps
   has_question (ForRoom r) steps (p2, end, machine_is, told_is, did) = absurd (room_asks_none end about (sym told_is))
   has_question (Counting sum) steps (sum2, end, machine_is, told_is, still, stayed) = absurd (counting_asks_none end about (sym told_is))
@@ -187,7 +187,7 @@ module _ {K V S : Type 0} (same : K → K → Bool) (hash : K → ℕ) (name : �
   pub question_of : Question
   question_of = has_question u (leads map u here).3 (leads map u here).4.did
 
-module _ {K V S : Type 0} (same : K → K → Bool) (hash : K → ℕ) (name : ℕ → List ℕ) (log : List (Entry K V)) (m : Moment K V) (known : Known) (s : Scene K V) (old new : Executor K V S)
+module _ {K V : Type 0} (same : K → K → Bool) (hash : ℕ → K → ℕ) (name : ℕ → List ℕ) (log : List (Entry K V)) (m : Moment K V) (known : Known) (s : Scene K V) (old new : Held K V)
     (at_old : IsAt same hash old s) (whole : ShowsWhole same name m known s) (dues : ShowsDue same name log m known s) (map i : ℕ) (z : CallOnKey K V K) (here : s.calls map i ≡ Some (OnKey z))
     (c : CallThere K V) (c_is : call_of (name i) m ≡ Some c) (one : OneKey K V) (one_is : c.call ≡ On one) (answer : KeyAnswer) (leads : StepLeads same hash i (progress.Done (Key answer)) s old new) where
   abbrev said : Progress (Node K V)
@@ -227,7 +227,7 @@ module _ {K V S : Type 0} (same : K → K → Bool) (hash : K → ℕ) (name : �
   apart = numbers_apart map number st m known (its_shown.maps map st went.2).pairs
 
   abbrev effects : List Effect
-  effects = effects_of (acts.Call i map) known new.memory.changed
+  effects = effects_of (acts.Call i map) known new.changed
 
   -- the call after the step
   abbrev d : CallThere K V
@@ -341,15 +341,15 @@ module _ {K V : Type 0} where
   of_key (called.Done answer) = tt
   of_key (called.Refused fault) = tt
 
-module _ (K V S : Type 0) (same : K → K → Bool) (hash : K → ℕ) where
-  pub questions_have_words : QuestionsHaveWords K V S same hash
+module _ (K V : Type 0) (same : K → K → Bool) (hash : ℕ → K → ℕ) where
+  pub questions_have_words : QuestionsHaveWords K V same hash
   questions_have_words name m known s old new at_old whole map i u here about leads = question_of same hash name m known s old new at_old whole whole.all.shown map i u here about leads
 
-  pub steps_have_words : StepsHaveWords K V S same hash
+  pub steps_have_words : StepsHaveWords K V same hash
   steps_have_words name log m known s old new at_old whole dues map i u here said leads c c_is one one_is =
       by said leads (let did = (leads map (OnKey u) here).4.did in subst (λ (x : Progress (Node K V)). IsOfKey x) (sym did.3) (of_key did.1))
     where
-      by : (x : Progress (Node K V)) → StepLeads same hash i x s old new → IsOfKey x → (o : Outcome V) × ComesToIt (known_after (acts.Call i map) new.memory.changed known) one c.replies x o
+      by : (x : Progress (Node K V)) → StepLeads same hash i x s old new → IsOfKey x → (o : Outcome V) × ComesToIt (known_after (acts.Call i map) new.changed known) one c.replies x o
       by progress.Goes to_it is = (outcome.Goes, tt)
       by progress.Waits to_it is = (outcome.Waits, tt)
       by (progress.Gave value) to_it is = (outcome.Goes, tt)

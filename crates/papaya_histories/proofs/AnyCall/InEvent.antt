@@ -24,10 +24,6 @@ use Rattle.papaya_moments.specs.Given.Callers.Together.{CallOnKey, UnderWay, OnK
 use Rattle.papaya_moments.specs.Given.Effects.Effects.{effects_of, known_after}
 use Rattle.papaya_moments.specs.Given.Effects.Known.{Known}
 use Rattle.papaya_moments.specs.Given.Effects.declared.acting.Acting.TheVariants as acts
-use Rattle.papaya_moments.specs.Given.Executor.IsAt.{Scene, IsAt}
-use Rattle.papaya_moments.specs.Given.Executor.Replying.{scene_with}
-use Rattle.papaya_moments.specs.Given.Executor.Stepping.{StepLeads, scene_after}
-use Rattle.papaya_moments.specs.Given.Executor.declared.executor.Executor.{Executor}
 use Rattle.papaya_moments.specs.Given.Finishes.Maps.{Standing}
 use Rattle.papaya_moments.specs.Given.Follows.Calling.{NoneNamed}
 use Rattle.papaya_moments.specs.Given.Follows.Calls.{IsCalled}
@@ -56,6 +52,10 @@ use Rattle.papaya_histories.proofs.AnyCall.HasWords.{questions_have_words, steps
 use Rattle.papaya_histories.proofs.NoKey.OtherEvents.{other_midsts_end, other_midsts_ask_still}
 use Rattle.papaya_histories.proofs.OtherMidsts.{other_midsts_begin, other_midsts_begin_calls, other_midsts_go_on, other_midsts_keep_due}
 use Rattle.papaya_histories.proofs.Several.{first_change, midsts_begin, midsts_go_on}
+use Rattle.papaya_moments.specs.Given.Scenes.Held.{Held, IsAt}
+use Rattle.papaya_moments.specs.Given.Scenes.Replying.{scene_with}
+use Rattle.papaya_moments.specs.Given.Scenes.Scene.{Scene}
+use Rattle.papaya_moments.specs.Given.Scenes.Stepping.{StepLeads, scene_after}
 
 module _ {K V : Type 0} (same : K → K → Bool) where
   -- a call on one key was called on it, and any other one on none
@@ -105,11 +105,11 @@ module _ {K V : Type 0} (same : K → K → Bool) where
   called_so name m known s shown map i u here c c_is = let was = shown.calls map i u here in subst (λ (x : CallThere K V). IsCalled same u x.call) (one_of was.0 c (sym was.1 ∙ c_is)) was.3
 
 -- one that goes on is of its kind still
-module _ {K V S : Type 0} (same : K → K → Bool) (hash : K → ℕ) (s : Scene K V) (old new : Executor K V S) (map i : ℕ) (said : Progress (Node K V)) (leads : StepLeads same hash i said s old new) where
+module _ {K V : Type 0} (same : K → K → Bool) (hash : ℕ → K → ℕ) (s : Scene K V) (old new : Held K V) (map i : ℕ) (said : Progress (Node K V)) (leads : StepLeads same hash i said s old new) where
   module _ (u : UnderWay K V K) (here : s.calls map i ≡ Some u) (next : UnderWay K V K) (goes : (leads map u here).4.next ≡ Some next) where
     abbrev DidIt : UnderWay K V K → Type 0
     DidIt y =
-        Did same old.batch_size old.roots s.world s.maps s.calls s.makers s.enders map (leads map u here).0 i new.memory.memory (leads map u here).4.w2 (leads map u here).4.maps2 (leads map u here).4.next y
+        Did same old.batch_size old.roots s.world s.maps s.calls s.makers s.enders map (leads map u here).0 i new.memory (leads map u here).4.w2 (leads map u here).4.maps2 (leads map u here).4.next y
         (leads map u here).1 said
 
     key_still : (x : CallOnKey K V K) → DidIt (OnKey x) → (y : CallOnKey K V K) × (next ≡ OnKey y)
@@ -133,11 +133,11 @@ module _ {K V : Type 0} (same : K → K → Bool) (name : ℕ → List ℕ) (log
   of_other (Counting sum) other midst = midst
   of_other (OverAll o) other midst = midst
 
-module _ (K V S : Type 0) (same : K → K → Bool) (hash : K → ℕ) where
-  pub events_begin : EventsBegin K V S same hash
+module _ (K V : Type 0) (same : K → K → Bool) (hash : ℕ → K → ℕ) where
+  pub events_begin : EventsBegin K V same hash
   events_begin name log beginning begins known s e at_e whole dues called map i (OnKey x) here c c_is =
       let on = on_a_key same x c.call (called_so same name beginning known s dues.history.shown map i (OnKey x) here c c_is) in
-      (on.0, on.1, midsts_begin K V S same hash name log beginning begins known s e at_e whole dues map i x here c c_is on.0 on.1, called)
+      (on.0, on.1, midsts_begin K V same hash name log beginning begins known s e at_e whole dues map i x here c c_is on.0 on.1, called)
   events_begin name log beginning begins known s e at_e whole dues called map i (ForRoom r) here c c_is =
       other_midsts_begin K V same name log beginning begins known s whole dues called map i (ForRoom r) here c c_is
       (on_none same (ForRoom r) c.call tt (called_so same name beginning known s dues.history.shown map i (ForRoom r) here c c_is))
@@ -148,7 +148,7 @@ module _ (K V S : Type 0) (same : K → K → Bool) (hash : K → ℕ) where
       other_midsts_begin K V same name log beginning begins known s whole dues called map i (OverAll o) here c c_is
       (on_none same (OverAll o) c.call tt (called_so same name beginning known s dues.history.shown map i (OverAll o) here c c_is))
 
-  module _ (name : ℕ → List ℕ) (log : List (Entry K V)) (known : Known) (s : Scene K V) (old : Executor K V S) (at_old : IsAt same hash old s)
+  module _ (name : ℕ → List ℕ) (log : List (Entry K V)) (known : Known) (s : Scene K V) (old : Held K V) (at_old : IsAt same hash old s)
       (whole : ShowsWhole same name (moment log) known s) (dues : ShowsDue same name log (moment log) known s) (all : ShowsAsCalled same name (moment log) known s)
       (map i : ℕ) (guard : List ℕ) (standing : Standing K) (there : s.maps map ≡ Some standing) (apart : NoneNamed name (name i) s) (rests : s.world.row i ≡ Rests) where
     abbrev Begins : UnderWay K V K → Call K V → Type 0
@@ -162,19 +162,19 @@ module _ (K V S : Type 0) (same : K → K → Bool) (hash : K → ℕ) where
 
     others_begin : (x : UnderWay K V K) (its : Call K V) → IsOther same x → BeganNow x → IsCalled same x its → IsBegunAs x its → Begins x its
     others_begin x its other now called begun_as =
-        let it = other_midsts_begin_calls K V S same hash name log known s old at_old whole dues all map i x its guard standing there now apart called (on_none same x its other called) begun_as rests in (
+        let it = other_midsts_begin_calls K V same hash name log known s old at_old whole dues all map i x its guard standing there now apart called (on_none same x its other called) begun_as rests in (
           it.0,
           of_other same name log (with_call (name i) guard its (Some map) (moment log)) map i (fresh_call (name i) guard its map (moment log).events) [] (with_call (name i) guard its (Some map) (moment log))
               known (scene_with map i x s) x other it.1,
         )
 
-    key_begins : (x : CallOnKey K V K) (one : OneKey K V) → BeganNow (OnKey x) → x.change ≡ Unchanged → IsCalled same (OnKey x) (call.On one) → IsBegunFor (OnKey x) (call.On one) → (new : Executor K V S)
+    key_begins : (x : CallOnKey K V K) (one : OneKey K V) → BeganNow (OnKey x) → x.change ≡ Unchanged → IsCalled same (OnKey x) (call.On one) → IsBegunFor (OnKey x) (call.On one) → (new : Held K V)
         → IsAt same hash new (scene_with map i (OnKey x) s) → Begins (OnKey x) (call.On one)
     key_begins x one now unchanged called begun new at_new =
-        let it = midsts_begin_calls K V S same hash name log known s old at_old whole dues map i x one guard standing there (now x.began refl) unchanged apart called begun rests new at_new in
+        let it = midsts_begin_calls K V same hash name log known s old at_old whole dues map i x one guard standing there (now x.began refl) unchanged apart called begun rests new at_new in
         (it.0, (one, refl, it.1, calls_begin_as_called K V same name (moment log) known s all map i (OnKey x) (call.On one) guard apart called tt))
 
-  pub events_begin_calls : EventsBeginCalls K V S same hash
+  pub events_begin_calls : EventsBeginCalls K V same hash
   events_begin_calls name log known s old at_old whole dues all map i (OnKey x) its guard standing there now unchanged apart called begun begun_as rests new at_new =
       let on = on_a_key same x its called in
       subst (λ (y : Call K V). Begins name log known s old at_old whole dues all map i guard standing there apart rests (OnKey x) y) (sym on.1)
@@ -188,25 +188,25 @@ module _ (K V S : Type 0) (same : K → K → Bool) (hash : K → ℕ) where
       others_begin name log known s old at_old whole dues all map i guard standing there apart rests (OverAll o) its tt now called begun_as
 
   module _ (name : ℕ → List ℕ) (log : List (Entry K V)) (beginning : Moment K V) (map i : ℕ) (c : CallThere K V) (done : List Effect) (m : Moment K V) (known : Known) (s : Scene K V)
-      (old new : Executor K V S) (at_old : IsAt same hash old s) (said : Progress (Node K V)) (leads : StepLeads same hash i said s old new) where
+      (old new : Held K V) (at_old : IsAt same hash old s) (said : Progress (Node K V)) (leads : StepLeads same hash i said s old new) where
     abbrev m2 : Moment K V
-    m2 = with_effects (Some (name i)) (Some map) (effects_of (acts.Call i map) known new.memory.changed) m
+    m2 = with_effects (Some (name i)) (Some map) (effects_of (acts.Call i map) known new.changed) m
 
     abbrev known2 : Known
-    known2 = known_after (acts.Call i map) new.memory.changed known
+    known2 = known_after (acts.Call i map) new.changed known
 
     abbrev done2 : List Effect
-    done2 = done ++ effects_of (acts.Call i map) known new.memory.changed
+    done2 = done ++ effects_of (acts.Call i map) known new.changed
 
     abbrev scene2 : (u : UnderWay K V K) → s.calls map i ≡ Some u → Scene K V
-    scene2 u here = scene_after same hash s old new map i (leads map u here).0 u (leads map u here).1 said (leads map u here).4
+    scene2 u here = scene_after same s old new map i (leads map u here).0 u (leads map u here).1 said (leads map u here).4
 
     other_goes_on : (u : UnderWay K V K) → IsOther same u → (midst : InOtherMidst same name log beginning map i c done m known s u) (next : UnderWay K V K) → (leads map u midst.here).4.next ≡ Some next
         → InEvent same name log beginning map i c done2 m2 known2 (scene2 u midst.here) next
     other_goes_on u other midst next goes =
         of_other same name log beginning map i c done2 m2 known2 (scene2 u midst.here) next
         (other_still same hash s old new map i said leads u midst.here next goes u other (leads map u midst.here).4.did)
-        (other_midsts_go_on K V S same hash name log beginning map i c done m known s u midst old new at_old said leads next goes)
+        (other_midsts_go_on K V same hash name log beginning map i c done m known s u midst old new at_old said leads next goes)
 
     key_goes : (x : CallOnKey K V K) (one : OneKey K V) (one_is : c.call ≡ call.On one) (midst : InMidst same name log beginning map i one c done m known s x) → ShowsAsCalled same name m known s
         → (next : UnderWay K V K) → (leads map (OnKey x) midst.here).4.next ≡ Some next → InEvent same name log beginning map i c done2 m2 known2 (scene2 (OnKey x) midst.here) next
@@ -215,8 +215,8 @@ module _ (K V S : Type 0) (same : K → K → Bool) (hash : K → ℕ) where
         subst (λ (z : UnderWay K V K). InEvent same name log beginning map i c done2 m2 known2 (scene2 (OnKey x) midst.here) z) (sym still.1) (
           one,
           one_is,
-          midsts_go_on K V S same hash name log beginning map i one c one_is done m known s x midst old new at_old said leads still.0 (goes ∙ ap Some still.1),
-          calls_keep_as_called K V S same hash name m known s old new at_old midst.whole called map i (OnKey x) midst.here said leads,
+          midsts_go_on K V same hash name log beginning map i one c one_is done m known s x midst old new at_old said leads still.0 (goes ∙ ap Some still.1),
+          calls_keep_as_called K V same hash name m known s old new at_old midst.whole called map i (OnKey x) midst.here said leads,
         )
 
     abbrev All : (u : UnderWay K V K) → s.calls map i ≡ Some u → Type 0
@@ -224,23 +224,23 @@ module _ (K V S : Type 0) (same : K → K → Bool) (hash : K → ℕ) where
 
     other_keeps : (u : UnderWay K V K) (midst : InOtherMidst same name log beginning map i c done m known s u) → All u midst.here
     other_keeps u midst = (
-      calls_keep_whole K V S same hash name m known s old new at_old midst.whole map i u midst.here said leads,
-      other_midsts_keep_due K V S same hash name log beginning map i c done m known s u midst old new at_old said leads,
-      calls_keep_as_called K V S same hash name m known s old new at_old midst.whole midst.called map i u midst.here said leads,
+      calls_keep_whole K V same hash name m known s old new at_old midst.whole map i u midst.here said leads,
+      other_midsts_keep_due K V same hash name log beginning map i c done m known s u midst old new at_old said leads,
+      calls_keep_as_called K V same hash name m known s old new at_old midst.whole midst.called map i u midst.here said leads,
     )
 
     key_keeps : (x : CallOnKey K V K) (one : OneKey K V) → c.call ≡ call.On one → (midst : InMidst same name log beginning map i one c done m known s x) → ShowsAsCalled same name m known s → All (OnKey x) midst.here
     key_keeps x one one_is midst called = (
-      calls_keep_whole K V S same hash name m known s old new at_old midst.whole map i (OnKey x) midst.here said leads,
-      calls_keep_due K V S same hash name log m known s old new at_old midst.whole midst.dues map i (OnKey x) midst.here said leads
+      calls_keep_whole K V same hash name m known s old new at_old midst.whole map i (OnKey x) midst.here said leads,
+      calls_keep_due K V same hash name log m known s old new at_old midst.whole midst.dues map i (OnKey x) midst.here said leads
           (first_change same hash name log beginning map i one c one_is done m known s x midst old new at_old said leads),
-      calls_keep_as_called K V S same hash name m known s old new at_old midst.whole called map i (OnKey x) midst.here said leads,
+      calls_keep_as_called K V same hash name m known s old new at_old midst.whole called map i (OnKey x) midst.here said leads,
     )
 
     other_words : (u : UnderWay K V K) → IsOther same u → (midst : InOtherMidst same name log beginning map i c done m known s u) → (x : Progress (Node K V)) → StepLeads same hash i x s old new
-        → (o : Outcome V) × AsksAsSaid (known_after (acts.Call i map) new.memory.changed known) x o
+        → (o : Outcome V) × AsksAsSaid (known_after (acts.Call i map) new.changed known) x o
     other_words u other midst (progress.Asks about) its =
-        let it = questions_have_words K V S same hash name m known s old new at_old midst.whole map i u midst.here about its in (outcome.Asks it.0, it.1)
+        let it = questions_have_words K V same hash name m known s old new at_old midst.whole map i u midst.here about its in (outcome.Asks it.0, it.1)
     other_words u other midst _ its = (outcome.Goes, tt)
 
     abbrev Words : Type 0
@@ -251,12 +251,12 @@ module _ (K V S : Type 0) (same : K → K → Bool) (hash : K → ℕ) where
 
     key_says : (x : CallOnKey K V K) (one : OneKey K V) → c.call ≡ call.On one → InMidst same name log beginning map i one c done m known s x → Words
     key_says x one one_is midst =
-        let it = steps_have_words K V S same hash name log m known s old new at_old midst.whole midst.dues map i x midst.here said leads midst.there midst.there_is one (midst.same_call.call ∙ one_is) in (
+        let it = steps_have_words K V same hash name log m known s old new at_old midst.whole midst.dues map i x midst.here said leads midst.there midst.there_is one (midst.same_call.call ∙ one_is) in (
           it.0,
           subst (λ (y : Call K V). ComesSo known2 y c.replies said it.0) (sym one_is) (subst (λ (r : List (Option ℕ × Reply V)). ComesToIt known2 one r said it.0) midst.same_call.replies it.1),
         )
 
-  pub events_go_on : EventsGoOn K V S same hash
+  pub events_go_on : EventsGoOn K V same hash
   events_go_on name log beginning map i c done m known s (OnKey x) midst old new at_old said leads next goes =
       key_goes name log beginning map i c done m known s old new at_old said leads x midst.0 midst.1 midst.2 midst.3 next goes
   events_go_on name log beginning map i c done m known s (ForRoom r) midst old new at_old said leads next goes =
@@ -266,38 +266,38 @@ module _ (K V S : Type 0) (same : K → K → Bool) (hash : K → ℕ) where
   events_go_on name log beginning map i c done m known s (OverAll o) midst old new at_old said leads next goes =
       other_goes_on name log beginning map i c done m known s old new at_old said leads (OverAll o) tt midst next goes
 
-  pub events_keep_all : EventsKeepAll K V S same hash
+  pub events_keep_all : EventsKeepAll K V same hash
   events_keep_all name log beginning map i c done m known s (OnKey x) midst old new at_old said leads =
       key_keeps name log beginning map i c done m known s old new at_old said leads x midst.0 midst.1 midst.2 midst.3
   events_keep_all name log beginning map i c done m known s (ForRoom r) midst old new at_old said leads = other_keeps name log beginning map i c done m known s old new at_old said leads (ForRoom r) midst
   events_keep_all name log beginning map i c done m known s (Counting sum) midst old new at_old said leads = other_keeps name log beginning map i c done m known s old new at_old said leads (Counting sum) midst
   events_keep_all name log beginning map i c done m known s (OverAll o) midst old new at_old said leads = other_keeps name log beginning map i c done m known s old new at_old said leads (OverAll o) midst
 
-  pub events_have_words : EventsHaveWords K V S same hash
+  pub events_have_words : EventsHaveWords K V same hash
   events_have_words name log beginning map i c done m known s (OnKey x) midst old new at_old said leads = key_says name log beginning map i c done m known s old new at_old said leads x midst.0 midst.1 midst.2
   events_have_words name log beginning map i c done m known s (ForRoom r) midst old new at_old said leads = other_says name log beginning map i c done m known s old new at_old said leads (ForRoom r) tt midst
   events_have_words name log beginning map i c done m known s (Counting sum) midst old new at_old said leads = other_says name log beginning map i c done m known s old new at_old said leads (Counting sum) tt midst
   events_have_words name log beginning map i c done m known s (OverAll o) midst old new at_old said leads = other_says name log beginning map i c done m known s old new at_old said leads (OverAll o) tt midst
 
   module _ (name : ℕ → List ℕ) (log : List (Entry K V)) (beginning : Moment K V) (map i : ℕ) (c : CallThere K V) (c_is : call_of (name i) beginning ≡ Some c)
-      (done : List Effect) (m : Moment K V) (known : Known) (s : Scene K V) (old new : Executor K V S) (at_old : IsAt same hash old s) (said : Progress (Node K V)) (leads : StepLeads same hash i said s old new)
+      (done : List Effect) (m : Moment K V) (known : Known) (s : Scene K V) (old new : Held K V) (at_old : IsAt same hash old s) (said : Progress (Node K V)) (leads : StepLeads same hash i said s old new)
       (e : Entry K V) (is_caller : caller_of e.event ≡ Some (name i)) (begun : at_work e (moment log) ≡ beginning) (acts_on : acted_on e.event beginning ≡ Some map)
-      (effects_are : e.effects ≡ done ++ effects_of (acts.Call i map) known new.memory.changed) (comes : ComesSo (known_after (acts.Call i map) new.memory.changed known) c.call c.replies said e.outcome) where
+      (effects_are : e.effects ≡ done ++ effects_of (acts.Call i map) known new.changed) (comes : ComesSo (known_after (acts.Call i map) new.changed known) c.call c.replies said e.outcome) where
     other_ends : (u : UnderWay K V K) → InOtherMidst same name log beginning map i c done m known s u → IsLinearizable same log e × EventAsksStill log e
     other_ends u midst =
-        let as_said = comes_of_none same (known_after (acts.Call i map) new.memory.changed known) c.replies said e.outcome c.call midst.other comes in (
-          other_midsts_end K V S same hash name log beginning map i c c_is done m known s u midst old new at_old said leads e is_caller begun acts_on effects_are as_said,
-          other_midsts_ask_still K V S same hash name log beginning map i c c_is done m known s u midst old new at_old said leads e is_caller begun acts_on effects_are as_said,
+        let as_said = comes_of_none same (known_after (acts.Call i map) new.changed known) c.replies said e.outcome c.call midst.other comes in (
+          other_midsts_end K V same hash name log beginning map i c c_is done m known s u midst old new at_old said leads e is_caller begun acts_on effects_are as_said,
+          other_midsts_ask_still K V same hash name log beginning map i c c_is done m known s u midst old new at_old said leads e is_caller begun acts_on effects_are as_said,
         )
 
     key_ends : (x : CallOnKey K V K) (one : OneKey K V) → c.call ≡ call.On one → ShowsQuestions beginning → InMidst same name log beginning map i one c done m known s x → IsLinearizable same log e × EventAsksStill log e
     key_ends x one one_is questions midst =
-        let to_it = comes_of_key same (known_after (acts.Call i map) new.memory.changed known) c.replies said e.outcome c.call one one_is comes in (
-          midsts_end K V S same hash name log beginning map i one c c_is one_is questions done m known s x midst old new at_old said leads e is_caller begun acts_on effects_are to_it,
-          midsts_ask_still K V S same hash name log beginning map i one c c_is one_is done m known s x midst old new at_old said leads e is_caller begun acts_on effects_are to_it,
+        let to_it = comes_of_key same (known_after (acts.Call i map) new.changed known) c.replies said e.outcome c.call one one_is comes in (
+          midsts_end K V same hash name log beginning map i one c c_is one_is questions done m known s x midst old new at_old said leads e is_caller begun acts_on effects_are to_it,
+          midsts_ask_still K V same hash name log beginning map i one c c_is one_is done m known s x midst old new at_old said leads e is_caller begun acts_on effects_are to_it,
         )
 
-  pub events_end : EventsEnd K V S same hash
+  pub events_end : EventsEnd K V same hash
   events_end name log beginning map i c c_is questions done m known s (OnKey x) midst old new at_old said leads e is_caller begun acts_on effects_are comes =
       key_ends name log beginning map i c c_is done m known s old new at_old said leads e is_caller begun acts_on effects_are comes x midst.0 midst.1 questions midst.2
   events_end name log beginning map i c c_is questions done m known s (ForRoom r) midst old new at_old said leads e is_caller begun acts_on effects_are comes =

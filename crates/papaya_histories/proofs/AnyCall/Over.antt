@@ -15,9 +15,6 @@ use Rattle.papaya_moments.specs.Given.Callers.Together.{UnderWay, OnKey, ForRoom
 use Rattle.papaya_moments.specs.Given.Effects.Effects.{effects_of, known_after}
 use Rattle.papaya_moments.specs.Given.Effects.Known.{Known}
 use Rattle.papaya_moments.specs.Given.Effects.declared.acting.Acting.TheVariants as acts
-use Rattle.papaya_moments.specs.Given.Executor.IsAt.{Scene}
-use Rattle.papaya_moments.specs.Given.Executor.Stepping.{StepLeads, has_ended, scene_after}
-use Rattle.papaya_moments.specs.Given.Executor.declared.executor.Executor.{Executor}
 use Rattle.papaya_moments.specs.Given.Finishes.Machines.{GoesOnAs}
 use Rattle.papaya_moments.specs.Given.Follows.Calling.{NoneNamed, come_to}
 use Rattle.papaya_moments.proofs.Given.Follows.Calling.{apart_back}
@@ -37,6 +34,9 @@ use Rattle.papaya_histories.proofs.AnyCall.InEvent.{events_keep_all}
 use Rattle.papaya_histories.proofs.AnyCall.Lasts.{calls_over, maps_over}
 use Rattle.papaya_histories.proofs.AnyCall.Whole.{whole_over}
 use Rattle.papaya_histories.proofs.Aside.Stays.{dues_stay, as_called_stays}
+use Rattle.papaya_moments.specs.Given.Scenes.Held.{Held}
+use Rattle.papaya_moments.specs.Given.Scenes.Scene.{Scene}
+use Rattle.papaya_moments.specs.Given.Scenes.Stepping.{StepLeads, has_ended, scene_after}
 
 module _ {K V : Type 0} where
   pub like_over : (log : List (Entry K V)) (e : Entry K V) (own : List ℕ) (m2 : Moment K V) → caller_of e.event ≡ Some own → worked e (moment log) ≡ m2 → HasSame (come_to own e.outcome e.steps m2) (moment (e ∷ log))
@@ -55,17 +55,17 @@ module _ {K V : Type 0} where
   gone machine (progress.Refused fault) next e it = it
   gone machine _ next e it = absurd (cc e)
 
-module _ {K V S : Type 0} (same : K → K → Bool) (hash : K → ℕ) (name : ℕ → List ℕ) (log : List (Entry K V)) (m : Moment K V) (known : Known) (s : Scene K V) (dues : ShowsDue same name log m known s)
-    (map i : ℕ) (u : UnderWay K V K) (here : s.calls map i ≡ Some u) (old new : Executor K V S) (said : Progress (Node K V)) (leads : StepLeads same hash i said s old new) (e : Entry K V)
+module _ {K V : Type 0} (same : K → K → Bool) (hash : ℕ → K → ℕ) (name : ℕ → List ℕ) (log : List (Entry K V)) (m : Moment K V) (known : Known) (s : Scene K V) (dues : ShowsDue same name log m known s)
+    (map i : ℕ) (u : UnderWay K V K) (here : s.calls map i ≡ Some u) (old new : Held K V) (said : Progress (Node K V)) (leads : StepLeads same hash i said s old new) (e : Entry K V)
     (ends : ends_call e.outcome ≡ has_ended said) where
   abbrev known2 : Known
-  known2 = known_after (acts.Call i map) new.memory.changed known
+  known2 = known_after (acts.Call i map) new.changed known
 
   abbrev m2 : Moment K V
-  m2 = with_effects (Some (name i)) (Some map) (effects_of (acts.Call i map) known new.memory.changed) m
+  m2 = with_effects (Some (name i)) (Some map) (effects_of (acts.Call i map) known new.changed) m
 
   abbrev s2 : Scene K V
-  s2 = scene_after same hash s old new map i (leads map u here).0 u (leads map u here).1 said (leads map u here).4
+  s2 = scene_after same s old new map i (leads map u here).0 u (leads map u here).1 said (leads map u here).4
 
   abbrev next : Option (UnderWay K V K)
   next = (leads map u here).4.next
@@ -98,13 +98,13 @@ module _ {K V S : Type 0} (same : K → K → Bool) (hash : K → ℕ) (name : �
 
       pub due_over : ShowsDue same name log m2 known2 s2 → ShowsDue same name (e ∷ log) (moment (e ∷ log)) known2 s2
       due_over dues2 = events_keep_due K V same name log e known2 s2
-          ((dues_stay K V S same hash name log).alike (come_to (name i) e.outcome e.steps m2) (moment (e ∷ log)) known2 s2
+          ((dues_stay K V same hash name log).alike (come_to (name i) e.outcome e.steps m2) (moment (e ∷ log)) known2 s2
           (calls_come_to_due K V same name log m2 known2 s2 dues2 (name i) e.outcome e.steps none_named (λ n j x is named. (asks_just n j x is named).0))
           (like_over log e (name i) m2 is_caller worked_is))
 
       pub as_called_over : ShowsAsCalled same name m2 known2 s2 → ShowsAsCalled same name (moment (e ∷ log)) known2 s2
       as_called_over called2 =
-          (as_called_stays K V S same hash name).alike (come_to (name i) e.outcome e.steps m2) (moment (e ∷ log)) known2 s2
+          (as_called_stays K V same hash name).alike (come_to (name i) e.outcome e.steps m2) (moment (e ∷ log)) known2 s2
           (calls_come_to_as_called K V same name m2 known2 s2 called2 (name i) e.outcome e.steps none_named (λ n j x is named. (asks_just n j x is named).1))
           (like_over log e (name i) m2 is_caller worked_is)
 
@@ -122,30 +122,30 @@ module _ {K V : Type 0} (same : K → K → Bool) (name : ℕ → List ℕ) (log
   worked_of (Counting sum) midst = midst.worked
   worked_of (OverAll o) midst = midst.worked
 
-module _ (K V S : Type 0) (same : K → K → Bool) (hash : K → ℕ) where
-  pub events_are_over : EventsAreOver K V S same hash
+module _ (K V : Type 0) (same : K → K → Bool) (hash : ℕ → K → ℕ) where
+  pub events_are_over : EventsAreOver K V same hash
   events_are_over name log beginning map i c done m known s u midst old new at_old said leads e is_caller begun acts_on effects_are comes ends = (
     all_over same hash name log m known s (dues_of same name log beginning map i c done m known s u midst) map i u
         (here_of same name log beginning map i c done m known s u midst) old new said leads e ends asks is_caller worked_is
-        (events_keep_all K V S same hash name log beginning map i c done m known s u midst old new at_old said leads).0,
+        (events_keep_all K V same hash name log beginning map i c done m known s u midst old new at_old said leads).0,
     due_over same hash name log m known s (dues_of same name log beginning map i c done m known s u midst) map i u
         (here_of same name log beginning map i c done m known s u midst) old new said leads e ends asks is_caller worked_is
-        (events_keep_all K V S same hash name log beginning map i c done m known s u midst old new at_old said leads).1,
+        (events_keep_all K V same hash name log beginning map i c done m known s u midst old new at_old said leads).1,
     as_called_over same hash name log m known s (dues_of same name log beginning map i c done m known s u midst) map i u
         (here_of same name log beginning map i c done m known s u midst) old new said leads e ends asks is_caller worked_is
-        (events_keep_all K V S same hash name log beginning map i c done m known s u midst old new at_old said leads).2,
+        (events_keep_all K V same hash name log beginning map i c done m known s u midst old new at_old said leads).2,
   )
     where
       asks : (x : UnderWay K V K) → (leads map u (here_of same name log beginning map i c done m known s u midst)).4.next ≡ Some x
-          → AsksJust (known_after (acts.Call i map) new.memory.changed known) x e.outcome × AsksAsCalled (known_after (acts.Call i map) new.memory.changed known) x e.outcome
-      asks x goes = events_ask_there K V S same hash name log beginning map i c done m known s u midst old new at_old said leads e.outcome comes x goes
+          → AsksJust (known_after (acts.Call i map) new.changed known) x e.outcome × AsksAsCalled (known_after (acts.Call i map) new.changed known) x e.outcome
+      asks x goes = events_ask_there K V same hash name log beginning map i c done m known s u midst old new at_old said leads e.outcome comes x goes
 
-      worked_is : worked e (moment log) ≡ with_effects (Some (name i)) (Some map) (effects_of (acts.Call i map) known new.memory.changed) m
+      worked_is : worked e (moment log) ≡ with_effects (Some (name i)) (Some map) (effects_of (acts.Call i map) known new.changed) m
       worked_is =
           ap (λ (b : Moment K V). with_effects (caller_of e.event) (acted_on e.event b) e.effects b) begun
           ∙ ap (λ (o : Option (List ℕ)). with_effects o (acted_on e.event beginning) e.effects beginning) is_caller
           ∙ ap (λ (o : Option ℕ). with_effects (Some (name i)) o e.effects beginning) acts_on
           ∙ ap (λ (l : List Effect). with_effects (Some (name i)) (Some map) l beginning) effects_are
-          ∙ effects_after (Some (name i)) (Some map) done (effects_of (acts.Call i map) known new.memory.changed) beginning
-          ∙ ap (λ (x : Moment K V). with_effects (Some (name i)) (Some map) (effects_of (acts.Call i map) known new.memory.changed) x)
+          ∙ effects_after (Some (name i)) (Some map) done (effects_of (acts.Call i map) known new.changed) beginning
+          ∙ ap (λ (x : Moment K V). with_effects (Some (name i)) (Some map) (effects_of (acts.Call i map) known new.changed) x)
           (sym (worked_of same name log beginning map i c done m known s u midst))

@@ -7,7 +7,6 @@ use Rattle.papaya_moments.specs.Given.Schedules.Effects.{worked}
 use Rattle.papaya_moments.specs.Given.Schedules.Entry.{Entry, caller_of}
 use Rattle.papaya_moments.specs.Given.Schedules.Moment.{MapThere, Remains, Sheltered, UnderWay as CallThere, Moment}
 use Rattle.papaya_moments.specs.Given.Effects.Known.{Known}
-use Rattle.papaya_moments.specs.Given.Executor.IsAt.{Scene}
 use Rattle.papaya_moments.specs.Given.Follows.Calling.{come_to}
 use Rattle.papaya_moments.specs.Given.Others.After.{ShowsAfter}
 use Rattle.papaya_moments.proofs.Given.Others.Elsewhere.{shown_elsewhere}
@@ -16,6 +15,7 @@ use Rattle.papaya_moments.specs.Whole.{ShowsWhole}
 use Rattle.papaya_moments.proofs.MapsCome.{asked_still}
 use Rattle.papaya_histories.specs.InEvent.{AllStaysShown}
 use Rattle.papaya_histories.proofs.AnyCall.Lasts.{calls_over, maps_over}
+use Rattle.papaya_moments.specs.Given.Scenes.Scene.{Scene}
 
 module _ {K V : Type 0} (m : Moment K V) (events : ℕ) (is_mapped is_closed is_alone : Bool) (there : Present) (slots : ℕ) (sheltered : List Sheltered) (remains : List Remains) where
   abbrev other : Moment K V

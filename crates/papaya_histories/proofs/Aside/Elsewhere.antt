@@ -24,11 +24,6 @@ use Rattle.papaya_moments.proofs.Given.Callers.Together.At.{at_other, at_same}
 use Rattle.papaya_moments.specs.Given.Effects.Effects.{effects_of}
 use Rattle.papaya_moments.specs.Given.Effects.Known.{Known}
 use Rattle.papaya_moments.specs.Given.Effects.declared.acting.Acting.TheVariants.{Row, Ending}
-use Rattle.papaya_moments.specs.Given.Executor.Ending.{EndingComesTo, ending_begun}
-use Rattle.papaya_moments.specs.Given.Executor.IsAt.{Scene, IsAt}
-use Rattle.papaya_moments.specs.Given.Executor.Making.{MakingComesTo}
-use Rattle.papaya_moments.specs.Given.Executor.Replying.{scene_with, unless_stopped}
-use Rattle.papaya_moments.specs.Given.Executor.declared.executor.Executor.{Executor}
 use Rattle.papaya_moments.specs.Given.Finishes.Endings.{Finishing}
 use Rattle.papaya_moments.specs.Given.Finishes.FactsEnds.{Deed}
 use Rattle.papaya_moments.specs.Given.Finishes.Makings.{Beginning}
@@ -62,9 +57,14 @@ use Rattle.papaya_moments.proofs.Ends.{end_beside, end_numbers, ends_with}
 use Rattle.papaya_moments.proofs.MakingSteps.{makings_go_beside}
 use Rattle.papaya_moments.proofs.OnSlots.{row_beside, rows_begin_beside, was_retired, with_outside}
 use Rattle.papaya_histories.specs.Elsewhere.{StaysElsewhere}
+use Rattle.papaya_moments.specs.Given.Scenes.Ending.{EndingComesTo, ending_begun}
+use Rattle.papaya_moments.specs.Given.Scenes.Held.{Held, IsAt}
+use Rattle.papaya_moments.specs.Given.Scenes.Making.{MakingComesTo}
+use Rattle.papaya_moments.specs.Given.Scenes.Replying.{scene_with, unless_stopped}
+use Rattle.papaya_moments.specs.Given.Scenes.Scene.{Scene}
 
--- where a making, and an end, has come, the executor is there
-module _ {K V S : Type 0} (same : K → K → Bool) (hash : K → ℕ) (s : Scene K V) (old new : Executor K V S) where
+-- where a making, and an end, has come, the scene is that of what is held
+module _ {K V : Type 0} (same : K → K → Bool) (hash : ℕ → K → ℕ) (s : Scene K V) (old new : Held K V) where
   pub making_at : (i : ℕ) (b : Beginning K) (end : NewMap) (w2 : World (Node K V)) (told : Progress Setting) (it : MakingComesTo same hash s old new i b end w2 told)
       → IsAt same hash new (making_after same hash s old new i b end w2 told it)
   making_at i b end w2 progress.Goes it = it
@@ -93,11 +93,11 @@ ready_is (at.Disposes dispose) e = absurd (cc e)
 ready_is at.Over e = absurd (cc e)
 ready_is (at.Refused fault) e = absurd (cc e)
 
-module _ {K V : Type 0} (S : Type 0) (same : K → K → Bool) (hash : K → ℕ) (name : ℕ → List ℕ) (P : Moment K V → Known → Scene K V → Type 0) where
+module _ {K V : Type 0} (same : K → K → Bool) (hash : ℕ → K → ℕ) (name : ℕ → List ℕ) (P : Moment K V → Known → Scene K V → Type 0) where
   -- it stays so beside what is of no call,
   abbrev pub StaysBeside : Type 0
   StaysBeside =
-      (m m2 : Moment K V) (known known2 : Known) (s s2 : Scene K V) (old new : Executor K V S) → IsAt same hash old s → IsAt same hash new s2 → P m known s
+      (m m2 : Moment K V) (known known2 : Known) (s s2 : Scene K V) (old new : Held K V) → IsAt same hash old s → IsAt same hash new s2 → P m known s
       → ((shown : Shows same name m known s) → ShowsAfter same name m known s shown m2 known2 s2) → IsBeside m m2 known known2 s s2 → P m2 known2 s2
 
   -- and where the same pairs were stored, and lie where they lay, no call comes, and each map stands as it stood
@@ -131,32 +131,32 @@ module _ {K V : Type 0} (S : Type 0) (same : K → K → Bool) (hash : K → ℕ
     stood = λ n st is. inl (st, fewer n st is, refl, λ t. refl);
   }
 
-  pub stays_elsewhere : StaysBeside → StaysBetween → StaysWalking → StaysGivenUp → StaysElsewhere S same hash name P
+  pub stays_elsewhere : StaysBeside → StaysBetween → StaysWalking → StaysGivenUp → StaysElsewhere same hash name P
   stays_elsewhere beside between walking gives_up = record {
-    rows_begin = λ m known s old new at_old whole so called i may leads.
-        beside m m known known s _ old new at_old (leads may).3.4 so (λ shown. rows_begin_shown K V S same hash name m known s old new at_old shown called i may leads)
-        (rows_begin_beside K V S same hash m known s old new called i may leads);
+    rows_begin = λ m known s old new at_old whole so called i leads.
+        beside m m known known s _ old new at_old leads.2.4 so (λ shown. rows_begin_shown K V same hash name m known s old new at_old shown called i leads)
+        (rows_begin_beside K V same hash m known s old new called i leads);
     rows = λ m known s old new at_old whole so i told leads row here retired. (let to = leads row here in
-        let tells = row_tells old.memory.memory new.memory.memory new.memory.changed (to.0, told) row to.1 in
-        beside m _ known _ s _ old new at_old to.4.4 so
-        (λ shown. rows_on_slots_are_shown K V S same hash name m known s old new at_old shown i told leads row here
-        (with_outside None None HadRetired WasRetired was_retired (effects_of Row known new.memory.changed) m (finds_numbers m known new.memory.changed tells).0.1 whole.outside retired))
-        (row_beside same hash m known s old new at_old i row here (to.0, told) to.1 to.4));
+        let tells = row_tells old.memory new.memory new.changed (to.0, told) row to.1 in
+        beside m _ known _ s _ old new at_old to.2.4 so
+        (λ shown. rows_on_slots_are_shown K V same hash name m known s old new at_old shown i told leads row here
+        (with_outside None None HadRetired WasRetired was_retired (effects_of Row known new.changed) m (finds_numbers m known new.changed tells).0.1 whole.outside retired))
+        (row_beside same hash m known s old new at_old i row here (to.0, told) to.1 to.2));
     makings_begin = λ m known s old new at_old whole so i b at_new.
         beside m m known known s (record s { makers = with_at s.makers i (Some b) }) old new at_old at_new so (λ shown. makings_begin_shown K V same name m known s shown i b)
         (same_beside m known s (record s { makers = with_at s.makers i (Some b) }) refl refl (λ n st is. is));
     maps_come = λ m known s old new at_old whole so there none. between m _ known s s so refl refl refl (λ shown. maps_are_there K V same name m known s shown there) (λ n j x is. is) refl;
     makings = λ m known s old new at_old whole so i told leads b here of is_new. (let to = leads b here in
         beside m _ known _ s _ old new at_old (making_at same hash s old new i b to.0 to.2.step.w2 told to.3) so
-        (λ shown. makings_are_shown K V S same hash name m known s old new at_old shown i told leads b here of (whole.counters i b here) is_new)
-        (makings_go_beside K V S same hash name m known s old new at_old whole i told leads b here of is_new));
+        (λ shown. makings_are_shown K V same hash name m known s old new at_old shown i told leads b here of (whole.counters i b here) is_new)
+        (makings_go_beside K V same hash name m known s old new at_old whole i told leads b here of is_new));
     endings_begin = λ m known s old new at_old whole so map i standing there at_new.
         beside m m known known s (ending_begun map i standing s) old new at_old at_new so (λ shown. endings_begin_shown K V same name m known s shown map i standing) (ending_beside m known s map i standing);
     endings = λ m known s old new at_old whole so i told leads f here map not_there of_map. (let to = leads f here in
         let it = ending_at same hash s old new i f to.0 to.2.w2 to.2.deed told to.3 in
         let finds = end_numbers same hash name m known s old new at_old whole i f here to.0 told to.1 to.2 map not_there to.3 in
-        let ends = with_outside None (Some map) (IsOfIts map) (λ v effect. EndsWith v map effect) (ends_with map) (effects_of (Ending map) known new.memory.changed) m finds whole.outside of_map in
-        beside m _ known _ s _ old new at_old it.3 so (λ shown. (endings_are_shown K V S same hash name m known s old new at_old shown i told leads f here map not_there ends).1)
+        let ends = with_outside None (Some map) (IsOfIts map) (λ v effect. EndsWith v map effect) (ends_with map) (effects_of (Ending map) known new.changed) m finds whole.outside of_map in
+        beside m _ known _ s _ old new at_old it.3 so (λ shown. (endings_are_shown K V same hash name m known s old new at_old shown i told leads f here map not_there ends).1)
         (end_beside same hash name m known s old new at_old whole i f here to.0 told to.1 to.2 map not_there to.3 _ it.0 it.1 it.2));
     endings_over = λ m known s old new at_old whole so own remains others.
         between m (without_map own remains m) known s s so refl refl refl (λ shown. endings_are_over K V same name m known s shown own remains others) (λ n j x is. is) refl;

@@ -26,10 +26,6 @@ use Rattle.papaya_moments.specs.Given.Effects.declared.acting.Acting.TheVariants
 use Rattle.papaya_moments.specs.Given.Effects.declared.acting.Acting.TheVariants.{Row}
 use Rattle.papaya_moments.specs.Given.Effects.declared.role.Role.{Role}
 use Rattle.papaya_moments.specs.Given.Effects.declared.role.Role.TheVariants as role
-use Rattle.papaya_moments.specs.Given.Executor.Ending.{EndingStepsFrom, EndingComesTo}
-use Rattle.papaya_moments.specs.Given.Executor.IsAt.{Scene, IsAt, slot_of}
-use Rattle.papaya_moments.specs.Given.Executor.Making.{MakingStepsFrom}
-use Rattle.papaya_moments.specs.Given.Executor.declared.executor.Executor.{Executor}
 use Rattle.papaya_moments.specs.Given.Finishes.Endings.{Finishing, MakingStepsAmong, StepsOfEnding}
 use Rattle.papaya_moments.specs.Given.Finishes.Makings.{Beginning}
 use Rattle.papaya_moments.proofs.Given.Others.Leads.{word_says}
@@ -41,6 +37,10 @@ use Rattle.papaya_moments.specs.Whole.{ShowsWhole}
 use Rattle.papaya_moments.proofs.Ends.{says}
 use Rattle.papaya_histories.specs.Elsewhere.{MakingsShiftNone, EndingsShiftNone}
 use Rattle.papaya_histories.specs.Others.{RowsShiftNone}
+use Rattle.papaya_moments.specs.Given.Scenes.Ending.{EndingComesTo, EndingStepsFrom}
+use Rattle.papaya_moments.specs.Given.Scenes.Held.{Held, IsAt}
+use Rattle.papaya_moments.specs.Given.Scenes.Making.{MakingStepsFrom}
+use Rattle.papaya_moments.specs.Given.Scenes.Scene.{Scene, slot_of}
 
 -- either way none is said to
 none_if : (q : Bool) (a b : List Effect) → flat_map shift_of a ≡ [] → flat_map shift_of b ≡ [] → flat_map shift_of (if q then a else b) ≡ []
@@ -92,14 +92,14 @@ by_told known (changed.Unmade kind) is = absurd is
 by_told known (changed.Took b) is = taken_none Row (known.roles b)
 by_told known (changed.Roomed bucket had) is = none_if (had && nat_lt bucket known.buckets) [] (Asked ABucket ∷ []) refl refl
 
-pub rows_shift_none : (K V S : Type 0) (same : K → K → Bool) (hash : K → ℕ) → RowsShiftNone K V S same hash
-rows_shift_none K V S same hash known s old new i told leads row here =
-    let to = leads row here in by_told known new.memory.changed (row_tells old.memory.memory new.memory.memory new.memory.changed (to.0, told) row to.1)
+pub rows_shift_none : (K V : Type 0) (same : K → K → Bool) (hash : ℕ → K → ℕ) → RowsShiftNone K V same hash
+rows_shift_none K V same hash known s old new i told leads row here =
+    let to = leads row here in by_told known new.changed (row_tells old.memory new.memory new.changed (to.0, told) row to.1)
 
-module _ {K V S : Type 0} (same : K → K → Bool) (hash : K → ℕ) (name : ℕ → List ℕ) (m : Moment K V) (known : Known) (s : Scene K V) (old new : Executor K V S) (at : IsAt same hash old s)
+module _ {K V : Type 0} (same : K → K → Bool) (hash : ℕ → K → ℕ) (name : ℕ → List ℕ) (m : Moment K V) (known : Known) (s : Scene K V) (old new : Held K V) (at : IsAt same hash old s)
     (whole : ShowsWhole same name m known s) (i : ℕ) where
   module _ (b : Beginning K) (here : s.makers i ≡ Some b) (end : NewMap) (said : Progress Setting) (steps : MakingStepsFrom b.machine old new end said)
-      (did : MakingStepsAmong V same same old.batch_size old.roots slot_of s.world s.maps s.calls s.makers s.enders i b new.memory.memory (end, said)) where
+      (did : MakingStepsAmong V same same old.batch_size old.roots slot_of s.world s.maps s.calls s.makers s.enders i b new.memory (end, said)) where
     by_making : (x : Changed) → TellsMaking s.world i b.machine.setting.root x → flat_map shift_of (effects_of (acts.Making b.map) known x) ≡ []
     by_making changed.Nothing so = refl
     by_making (changed.Wrote (Root r) old new) so =
@@ -116,23 +116,23 @@ module _ {K V S : Type 0} (same : K → K → Bool) (hash : K → ℕ) (name : �
     by_making (changed.Took x) so = taken_none (acts.Making b.map) (known.roles x)
     by_making (changed.Roomed bucket had) so = absurd so
 
-    making_none : flat_map shift_of (effects_of (acts.Making b.map) known new.memory.changed) ≡ []
-    making_none = by_making new.memory.changed (tells same hash name m known s old new at whole.all.shown i b here end said steps did None)
+    making_none : flat_map shift_of (effects_of (acts.Making b.map) known new.changed) ≡ []
+    making_none = by_making new.changed (tells same hash name m known s old new at whole.all.shown i b here end said steps did None)
 
   module _ (f : Finishing K V) (here : s.enders i ≡ Some f) (end : EndMap) (said : Settled (Node K V)) (steps : EndingStepsFrom f.machine old new end said)
-      (did : StepsOfEnding V same same old.batch_size old.roots slot_of s.world s.maps s.calls s.makers s.enders i f new.memory.memory (end, said))
+      (did : StepsOfEnding V same same old.batch_size old.roots slot_of s.world s.maps s.calls s.makers s.enders i f new.memory (end, said))
       (map : ℕ) (not_there : s.maps map ≡ None) (comes : EndingComesTo same hash s new i f end did.w2 did.deed said) where
-    ending_none : flat_map shift_of (effects_of (acts.Ending map) known new.memory.changed) ≡ []
-    ending_none = elim (says same hash name m known s old new at whole i f here end said steps did map not_there comes) as (λ _. flat_map shift_of (effects_of (acts.Ending map) known new.memory.changed) ≡ []) [
-      | inl it ↦ calm_shifts (effects_of (acts.Ending map) known new.memory.changed) it.0
+    ending_none : flat_map shift_of (effects_of (acts.Ending map) known new.changed) ≡ []
+    ending_none = elim (says same hash name m known s old new at whole i f here end said steps did map not_there comes) as (λ _. flat_map shift_of (effects_of (acts.Ending map) known new.changed) ≡ []) [
+      | inl it ↦ calm_shifts (effects_of (acts.Ending map) known new.changed) it.0
       | inr it ↦ subst (λ (x : Changed). flat_map shift_of (effects_of (acts.Ending map) known x) ≡ []) (sym it.1) (taken_none (acts.Ending map) (known.roles it.0))
     ]
 
-module _ (K V S : Type 0) (same : K → K → Bool) (hash : K → ℕ) where
-  pub makings_shift_none : MakingsShiftNone K V S same hash
+module _ (K V : Type 0) (same : K → K → Bool) (hash : ℕ → K → ℕ) where
+  pub makings_shift_none : MakingsShiftNone K V same hash
   makings_shift_none name m known s old new at whole i told leads b here =
       let to = leads b here in making_none same hash name m known s old new at whole i b here to.0 told to.1 to.2
 
-  pub endings_shift_none : EndingsShiftNone K V S same hash
+  pub endings_shift_none : EndingsShiftNone K V same hash
   endings_shift_none name m known s old new at whole i told leads f here map not_there =
       let to = leads f here in ending_none same hash name m known s old new at whole i f here to.0 told to.1 to.2 map not_there to.3

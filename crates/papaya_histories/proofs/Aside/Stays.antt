@@ -22,8 +22,6 @@ use Rattle.papaya_moments.specs.Given.Callers.OverAll.{CallOverAll}
 use Rattle.papaya_moments.specs.Given.Callers.Sights.{seen_by}
 use Rattle.papaya_moments.specs.Given.Callers.Together.{UnderWay, OnKey, ForRoom, Counting, OverAll, Together, in_slot}
 use Rattle.papaya_moments.specs.Given.Effects.Known.{Known}
-use Rattle.papaya_moments.specs.Given.Executor.IsAt.{Scene, IsAt, slot_of}
-use Rattle.papaya_moments.specs.Given.Executor.declared.executor.Executor.{Executor}
 use Rattle.papaya_moments.specs.Given.Finishes.Maps.{Standing}
 use Rattle.papaya_moments.proofs.Given.Follows.Onward.{IsOfMap}
 use Rattle.papaya_moments.specs.Given.Hands.Asked.{IsAsked, ShowsAsked}
@@ -45,6 +43,8 @@ use Rattle.papaya_histories.proofs.Others.{beside_history, beside_due}
 use Rattle.papaya_histories.proofs.Roles.{named_by}
 use Rattle.papaya_histories.proofs.Aside.WalksOn.{walk_history, walk_due, walk_as_called}
 use Rattle.papaya_histories.proofs.Within.{within_alike}
+use Rattle.papaya_moments.specs.Given.Scenes.Held.{Held, IsAt}
+use Rattle.papaya_moments.specs.Given.Scenes.Scene.{Scene, slot_of}
 
 -- the same pairs were stored and lie where they lay, and no call comes
 module _ {K V : Type 0} (same : K → K → Bool) (name : ℕ → List ℕ) (m m2 : Moment K V) (known : Known) (s s2 : Scene K V) (calls : m2.calls ≡ m.calls)
@@ -92,7 +92,7 @@ module _ {K V : Type 0} (same : K → K → Bool) (name : ℕ → List ℕ) (m m
   }
 
 -- beside what is of no call
-module _ {K V S : Type 0} (same : K → K → Bool) (hash : K → ℕ) (name : ℕ → List ℕ) (m m2 : Moment K V) (known known2 : Known) (s s2 : Scene K V) (new : Executor K V S)
+module _ {K V : Type 0} (same : K → K → Bool) (hash : ℕ → K → ℕ) (name : ℕ → List ℕ) (m m2 : Moment K V) (known known2 : Known) (s s2 : Scene K V) (new : Held K V)
     (at_new : IsAt same hash new s2) (beside : IsBeside m m2 known known2 s s2) where
   was_here : (n j : ℕ) (x : UnderWay K V K) → s2.calls n j ≡ Some x → s.calls n j ≡ Some x
   was_here n j x is = subst (λ (f : ℕ → ℕ → Option (UnderWay K V K)). f n j ≡ Some x) beside.same_calls is
@@ -146,23 +146,23 @@ refused_as_called known (ForRoom r) = tt
 refused_as_called known (Counting sum) = tt
 refused_as_called known (OverAll o) = tt
 
-module _ (K V S : Type 0) (same : K → K → Bool) (hash : K → ℕ) where
-  pub histories_stay : HistoriesStay K V S same hash
-  histories_stay name log = stays_elsewhere S same hash name (ShowsHistory same name log)
+module _ (K V : Type 0) (same : K → K → Bool) (hash : ℕ → K → ℕ) where
+  pub histories_stay : HistoriesStay K V same hash
+  histories_stay name log = stays_elsewhere same hash name (ShowsHistory same name log)
       (λ m m2 known known2 s s2 old new at_old at_new history after beside. beside_history same hash name log m m2 known known2 s s2 old new at_old at_new beside history (after history.shown))
       (λ m m2 known s s2 history place stored calls after fewer maps. between_history same name m m2 known s s2 calls fewer maps place stored log history (after history.shown))
       (λ m known s history map i o here ready. walk_history same name m known s map i o here log history)
       (λ m known s history own none. (calls_come_to_histories K V same name log m known s history own (Refused Memory) 0 (λ ends. none) (λ n j u is named. asks_nothing known u)).0)
 
-  pub dues_stay : DuesStay K V S same hash
-  dues_stay name log = stays_elsewhere S same hash name (ShowsDue same name log)
+  pub dues_stay : DuesStay K V same hash
+  dues_stay name log = stays_elsewhere same hash name (ShowsDue same name log)
       (λ m m2 known known2 s s2 old new at_old at_new dues after beside. beside_due same hash name log m m2 known known2 s s2 old new at_old at_new beside dues (after dues.history.shown))
       (λ m m2 known s s2 dues place stored calls after fewer maps. between_due same name m m2 known s s2 calls fewer maps place stored log dues (after dues.history.shown))
       (λ m known s dues map i o here ready. walk_due same name m known s map i o here log dues)
       (λ m known s dues own none. calls_come_to_due K V same name log m known s dues own (Refused Memory) 0 (λ ends. none) (λ n j u is named. asks_nothing known u))
 
-  pub as_called_stays : AsCalledStays K V S same hash
-  as_called_stays name = stays_elsewhere S same hash name (ShowsAsCalled same name)
+  pub as_called_stays : AsCalledStays K V same hash
+  as_called_stays name = stays_elsewhere same hash name (ShowsAsCalled same name)
       (λ m m2 known known2 s s2 old new at_old at_new all after beside. beside_as_called same hash name m m2 known known2 s s2 new at_new beside all (after all.shown))
       (λ m m2 known s s2 all place stored calls after fewer maps. between_as_called same name m m2 known s s2 calls fewer maps all (after all.shown))
       (λ m known s all map i o here ready. walk_as_called same name m known s map i o here ready all)

@@ -13,8 +13,6 @@ use Rattle.papaya_moments.specs.Given.Schedules.Views.{call_of}
 use Rattle.papaya_moments.specs.Given.Callers.OverAll.{CallOverAll, gone_on}
 use Rattle.papaya_moments.specs.Given.Callers.Together.{CallOnKey, UnderWay, OnKey, OverAll}
 use Rattle.papaya_moments.specs.Given.Effects.Known.{Known}
-use Rattle.papaya_moments.specs.Given.Executor.IsAt.{Scene}
-use Rattle.papaya_moments.specs.Given.Executor.Replying.{scene_with}
 use Rattle.papaya_moments.specs.Given.Finishes.Maps.{Standing, with_call}
 use Rattle.papaya_moments.specs.Given.Follows.Calls.{IsCalled}
 use Rattle.papaya_moments.specs.Given.Follows.Shows.{Shows}
@@ -26,6 +24,8 @@ use Rattle.papaya_histories.specs.AsCalled.{IsSweptAs, IsAsCalled, ShowsAsCalled
 use Rattle.papaya_histories.specs.Due.{Owes, ShowsDue}
 use Rattle.papaya_histories.specs.Histories.{began_of, ShowsHistory, StaysWithin}
 use Rattle.papaya_histories.proofs.Calling.{calls_changed}
+use Rattle.papaya_moments.specs.Given.Scenes.Replying.{scene_with}
+use Rattle.papaya_moments.specs.Given.Scenes.Scene.{Scene}
 
 module _ {K V : Type 0} (same : K → K → Bool) (name : ℕ → List ℕ) (m : Moment K V) (known : Known) (s : Scene K V) (map i : ℕ) (o : CallOverAll) (here : s.calls map i ≡ Some (OverAll o)) where
   abbrev walk : UnderWay K V K

@@ -1,15 +1,14 @@
 -- A walk that is ready goes on to its next pair as the walk that it was: with what it has come to, since it began when it began.
-use Rattle.std.specs.Prelude.{◌≡◌, ◌≢◌, ℕ, ◌==◌, Bool, true, false, Option, Some, option_map, if◌then◌else◌}
-use Rattle.std.proofs.Common.{refl, ap, sym, subst, ◌∙◌, inl, inr}
+use Rattle.std.specs.Prelude.{◌≡◌, ℕ, ◌==◌, Bool, true, false, Option, Some, if◌then◌else◌}
+use Rattle.std.proofs.Common.{refl, ap, sym, subst, ◌∙◌}
 use Rattle.std.proofs.Math.Path.{fun_ext}
-use Rattle.std.proofs.lemmas.Bool.{cases_eq}
 use Rattle.papaya_moments.specs.Given.Seize.World.{with_at}
 use Rattle.papaya_moments.specs.Given.Sweeps.SweepPoints.{after_next}
 use Rattle.papaya_moments.specs.Given.Raw.Machine.{machine_asked}
 use Rattle.papaya_moments.specs.Given.Raw.declared.machines.machine.Machine.TheVariants as kinds
 use Rattle.papaya_moments.specs.Given.Callers.OverAll.{CallOverAll, gone_on}
 use Rattle.papaya_moments.specs.Given.Callers.Together.{UnderWay, OnKey, ForRoom, Counting, OverAll, Together}
-use Rattle.papaya_moments.proofs.Given.Callers.Together.At.{at_other, at_same}
+use Rattle.papaya_moments.proofs.Given.Callers.Together.At.{at_same}
 use Rattle.papaya_moments.proofs.Given.Callers.Together.SweepsTold.{sweeps_told_together}
 use Rattle.papaya_moments.specs.Given.Finishes.Endings.{EndingsTogether}
 use Rattle.papaya_moments.specs.Given.Finishes.Machines.{machine_of}
@@ -18,11 +17,11 @@ use Rattle.papaya_moments.proofs.Given.Finishes.Among.Calls.{no_ender, endings_w
 use Rattle.papaya_moments.proofs.Given.Finishes.Beside.Makings.CallSteps.{no_maker, makings_with_call}
 use Rattle.papaya_moments.proofs.Given.Finishes.Beside.Maps.All.{maps_with_call}
 use Rattle.papaya_moments.proofs.Given.Finishes.Beside.Maps.Steps.{no_other}
-use Rattle.papaya_moments.specs.Given.Executor.IsAt.{Scene, IsAt, slot_of}
-use Rattle.papaya_moments.specs.Given.Executor.Replying.{scene_with}
-use Rattle.papaya_moments.specs.Given.Executor.declared.executor.Executor.{Executor}
 use Rattle.papaya_histories.specs.Elsewhere.{WalksGoOnThere}
 use Rattle.papaya_histories.proofs.Several.{stands}
+use Rattle.papaya_moments.specs.Given.Scenes.Held.{Held, IsAt}
+use Rattle.papaya_moments.specs.Given.Scenes.Replying.{scene_with}
+use Rattle.papaya_moments.specs.Given.Scenes.Scene.{Scene, slot_of}
 
 -- what is put twice is what was put last
 twice : {X : Type 0} (f : ℕ → X) (k : ℕ) (a b : X) → with_at (with_at f k a) k b ≡ with_at f k b
@@ -39,23 +38,7 @@ module _ {X : Type 0} (calls : ℕ → ℕ → Option X) (map i : ℕ) (a b : Op
   call_twice : with_call (with_call calls map i a) map i b ≡ with_call calls map i b
   call_twice = ap (λ (f : ℕ → Option X). with_at (with_call calls map i a) map f) its_calls_then ∙ twice calls map (with_at (calls map) i a) (with_at (calls map) i b)
 
-  -- what is so of both is so of each call
-  like : {Y : Type 0} (f : Option X → Y) → f b ≡ f a → (n j : ℕ) → f (with_call calls map i b n j) ≡ f (with_call calls map i a n j)
-  like f e n j = elim (cases_eq n map) as (λ _. f (with_call calls map i b n j) ≡ f (with_call calls map i a n j)) [
-    | inl its ↦ elim (cases_eq j i) as (λ _. f (with_call calls map i b n j) ≡ f (with_call calls map i a n j)) [
-      | inl own ↦ ap f (on_map b its ∙ at_same (calls map) i b j own) ∙ e ∙ sym (ap f (on_map a its ∙ at_same (calls map) i a j own))
-      | inr ne ↦ ap f (on_map b its ∙ at_other (calls map) i b j ne ∙ sym (on_map a its ∙ at_other (calls map) i a j ne))
-    ]
-    | inr ne ↦ ap f (elsewhere b ne ∙ sym (elsewhere a ne))
-  ]
-    where
-      on_map : (it : Option X) → n ≡ map → with_call calls map i it n j ≡ with_at (calls map) i it j
-      on_map it its = ap (λ (g : ℕ → Option X). g j) (at_same calls map (with_at (calls map) i it) n its)
-
-      elsewhere : (it : Option X) → n ≢ map → with_call calls map i it n j ≡ calls n j
-      elsewhere it ne = ap (λ (g : ℕ → Option X). g j) (at_other calls map (with_at (calls map) i it) n ne)
-
-module _ {K V S : Type 0} (same : K → K → Bool) (hash : K → ℕ) (s : Scene K V) (old new : Executor K V S) (at_old : IsAt same hash old s) (i map : ℕ) (o : CallOverAll)
+module _ {K V : Type 0} (same : K → K → Bool) (hash : ℕ → K → ℕ) (s : Scene K V) (old new : Held K V) (at_old : IsAt same hash old s) (i map : ℕ) (o : CallOverAll)
     (here : s.calls map i ≡ Some (OverAll o)) (next : UnderWay K V K) (is_next : machine_of next ≡ kinds.Sweep (after_next o.sweep)) (at_next : IsAt same hash new (scene_with map i next s)) where
   abbrev walk : UnderWay K V K
   walk = OverAll (gone_on o (after_next o.sweep))
@@ -94,22 +77,14 @@ module _ {K V S : Type 0} (same : K → K → Bool) (hash : K → ℕ) (s : Scen
   walk_there = record {
     memory = at_next.memory;
     together = together;
-    maps = at_next.maps;
     hashes = at_next.hashes;
-    calls = λ n j. like s.calls map i (Some next) (Some walk) (λ (x : Option (UnderWay K V K)). option_map machine_of x) (ap Some (sym is_next)) n j ∙ at_next.calls n j;
-    makers = at_next.makers;
-    enders = at_next.enders;
     hashes_made = at_next.hashes_made;
-    numbers = at_next.numbers;
-    rows = at_next.rows;
     on_slots = at_next.on_slots;
     small = at_next.small;
-    slots = at_next.slots;
-    uses = at_next.uses;
   }
 
-module _ (K V S : Type 0) (same : K → K → Bool) (hash : K → ℕ) where
-  pub walks_go_on_there : WalksGoOnThere K V S same hash
+module _ (K V : Type 0) (same : K → K → Bool) (hash : ℕ → K → ℕ) where
+  pub walks_go_on_there : WalksGoOnThere K V same hash
   walks_go_on_there s old new at_old i leads = (λ map u here. on_from u map here (leads map u here), λ map o here. refl)
     where
       Next : ℕ → UnderWay K V K → Type 0

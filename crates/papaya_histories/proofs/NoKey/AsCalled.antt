@@ -21,9 +21,6 @@ use Rattle.papaya_moments.specs.Given.Callers.Together.{UnderWay, OnKey, ForRoom
 use Rattle.papaya_moments.specs.Given.Effects.Effects.{effects_of, known_after}
 use Rattle.papaya_moments.specs.Given.Effects.Known.{Known}
 use Rattle.papaya_moments.specs.Given.Effects.declared.acting.Acting.TheVariants as acts
-use Rattle.papaya_moments.specs.Given.Executor.IsAt.{Scene, IsAt}
-use Rattle.papaya_moments.specs.Given.Executor.Stepping.{StepsFrom, StepLeads, scene_after}
-use Rattle.papaya_moments.specs.Given.Executor.declared.executor.Executor.{Executor}
 use Rattle.papaya_moments.specs.Given.Finishes.Endings.{Finishing}
 use Rattle.papaya_moments.specs.Given.Finishes.Machines.{machine_of}
 use Rattle.papaya_moments.specs.Given.Finishes.Makings.{Beginning}
@@ -39,6 +36,9 @@ use Rattle.papaya_moments.specs.Whole.{ShowsWhole}
 use Rattle.papaya_histories.specs.AsCalled.{purpose_of, SweepAsks, IsLastTold, IsSweptAs, IsAsCalled, ShowsAsCalled, CallsKeepAsCalled}
 use Rattle.papaya_histories.proofs.Steps.{to, led_on}
 use Rattle.papaya_histories.proofs.NoKey.Sweeps.{SweepsOn, sweeps_on, asks_still}
+use Rattle.papaya_moments.specs.Given.Scenes.Held.{Held, IsAt}
+use Rattle.papaya_moments.specs.Given.Scenes.Scene.{Scene}
+use Rattle.papaya_moments.specs.Given.Scenes.Stepping.{StepLeads, StepsFrom, scene_after}
 
 module _ (number number2 : ℕ → ℕ) (stored stored2 : ℕ) (more : stored ≤ stored2) (numbers : (n : ℕ) → n < stored → number2 n ≡ number n) where
   pub last_kept : {V : Type 0} (v : Option Verdict) (replies : List (Option ℕ × Reply V)) → IsLastTold number stored v replies → IsLastTold number2 stored2 v replies
@@ -72,27 +72,27 @@ module _ (known known2 : Known) (keeps : KeepsRoles known known2) where
   asks_kept stands stands2 stays None asks = absurd asks.2
   asks_kept stands stands2 stays (Some n) asks = (asks.0, stays asks.0 asks.1, keeps (block_in asks.0) (subst IsLasting (sym asks.2) tt) ∙ asks.2)
 
-module _ {K V S : Type 0} (same : K → K → Bool) (hash : K → ℕ) (batch_size roots : ℕ) (w : World (Node K V)) (maps : ℕ → Option (Standing K)) (calls : ℕ → ℕ → Option (UnderWay K V K))
+module _ {K V : Type 0} (same : K → K → Bool) (batch_size roots : ℕ) (w : World (Node K V)) (maps : ℕ → Option (Standing K)) (calls : ℕ → ℕ → Option (UnderWay K V K))
     (makers : ℕ → Option (Beginning K)) (enders : ℕ → Option (Finishing K V)) (m : ℕ) (s : Standing K) (i : ℕ) (w2 : World (Node K V)) (maps2 : ℕ → Option (Standing K)) (next : Option (UnderWay K V K))
-    (old new : Executor K V S) (machine : Machine K V K) (said : Progress (Node K V)) (known known2 : Known) (keeps : KeepsRoles known known2) (number number2 : ℕ → ℕ) (stored stored2 : ℕ)
+    (old new : Held K V) (machine : Machine K V K) (said : Progress (Node K V)) (known known2 : Known) (keeps : KeepsRoles known known2) (number number2 : ℕ → ℕ) (stored stored2 : ℕ)
     (more : stored ≤ stored2) (numbers : (n : ℕ) → n < stored → number2 n ≡ number n) (c d : CallThere K V) (on : IsOn c d) (x : UnderWay K V K) (goes_on : next ≡ Some x) where
   as_one : (y : UnderWay K V K) → x ≡ y → IsAsCalled number2 stored2 known2 y d → IsAsCalled number2 stored2 known2 x d
   as_one y e h = subst (λ (z : UnderWay K V K). IsAsCalled number2 stored2 known2 z d) (sym e) h
 
-  swept_on : (o o2 : CallOverAll) → o2.told ≡ o.told → machine ≡ kinds.Sweep o2.sweep → StepsFrom same hash (kinds.Sweep o.sweep) old new machine said
+  swept_on : (o o2 : CallOverAll) → o2.told ≡ o.told → machine ≡ kinds.Sweep o2.sweep → StepsFrom same s.hash (kinds.Sweep o.sweep) old new machine said
       → IsSweptAs number stored known o c → IsSweptAs number2 stored2 known2 o2 d
   swept_on o o2 told machine_is steps h =
       swept_kept number number2 stored stored2 more numbers known known2 o o2
-      (subst (λ (z : Machine K V K). SweepsOn o.sweep.purpose (z, said)) machine_is (sweeps_on same hash old new o.sweep machine said steps)).0 told
+      (subst (λ (z : Machine K V K). SweepsOn o.sweep.purpose (z, said)) machine_is (sweeps_on same s.hash old new o.sweep machine said steps)).0 told
       (asks_kept known known2 keeps o.sweep.stands o2.sweep.stands stays) c d on h
     where
       stays : (word : ℕ) → o.sweep.stands ≡ at.Asks word → o2.sweep.stands ≡ at.Asks word
       stays word stands =
-          let still = (asks_still same hash old new o.sweep machine said steps word stands).0 in
+          let still = (asks_still same s.hash old new o.sweep machine said steps word stands).0 in
           let same_sweep : o2.sweep ≡ o.sweep = cc (still, machine_is) in ap (λ (p : Sweep). p.stands) same_sweep ∙ stands
 
   -- the call that has taken the step
-  pub own_as_called : (u : UnderWay K V K) → StepsFrom same hash (machine_of u) old new machine said → Did same batch_size roots w maps calls makers enders m s i new.memory.memory w2 maps2 next u machine said
+  pub own_as_called : (u : UnderWay K V K) → StepsFrom same s.hash (machine_of u) old new machine said → Did same batch_size roots w maps calls makers enders m s i new.memory w2 maps2 next u machine said
       → IsAsCalled number stored known u c → IsAsCalled number2 stored2 known2 x d
   own_as_called (OnKey u) steps (p2, end, machine_is, told_is, inl (step, moved)) h = as_one _ (key_goes_on _ end x (sym moved.2 ∙ goes_on)) tt
   own_as_called (OnKey u) steps (p2, end, machine_is, told_is, inr (step, stayed)) h = as_one _ (key_goes_on _ end x (sym stayed.2 ∙ goes_on)) tt
@@ -105,7 +105,7 @@ module _ {K V S : Type 0} (same : K → K → Bool) (hash : K → ℕ) (batch_si
   own_as_called (OverAll o) steps (p2, end, machine_is, told_is, inr (step, stayed)) h =
       as_one (OverAll (gone_on o p2)) (sweep_goes_on (gone_on o p2) end x (sym stayed.2 ∙ goes_on)) (swept_on o (gone_on o p2) refl machine_is steps h)
 
-module _ {K V S : Type 0} (same : K → K → Bool) (hash : K → ℕ) (name : ℕ → List ℕ) (m : Moment K V) (known : Known) (s : Scene K V) (old new : Executor K V S) (at_old : IsAt same hash old s)
+module _ {K V : Type 0} (same : K → K → Bool) (hash : ℕ → K → ℕ) (name : ℕ → List ℕ) (m : Moment K V) (known : Known) (s : Scene K V) (old new : Held K V) (at_old : IsAt same hash old s)
     (whole : ShowsWhole same name m known s) (called : ShowsAsCalled same name m known s) (map i : ℕ) (u : UnderWay K V K) (here : s.calls map i ≡ Some u) (said : Progress (Node K V))
     (leads : StepLeads same hash i said s old new) where
   abbrev shown : Shows same name m known s
@@ -118,16 +118,16 @@ module _ {K V S : Type 0} (same : K → K → Bool) (hash : K → ℕ) (name : �
   on = led_on same hash name m known s old new at_old whole shown map i u here said leads
 
   abbrev effects : List Effect
-  effects = effects_of (acts.Call i map) known new.memory.changed
+  effects = effects_of (acts.Call i map) known new.changed
 
   abbrev after : Known
-  after = known_after (acts.Call i map) new.memory.changed known
+  after = known_after (acts.Call i map) new.changed known
 
   abbrev v : Moment K V
   v = with_effects (Some (name i)) (Some map) effects m
 
   abbrev s2 : Scene K V
-  s2 = scene_after same hash s old new map i went.0 u went.1 said went.4
+  s2 = scene_after same s old new map i went.0 u went.1 said went.4
 
   own : (x : UnderWay K V K) → went.4.next ≡ Some x → (st : Standing K) → s2.maps map ≡ Some st → (d : CallThere K V) → call_of (name i) v ≡ Some d
       → IsAsCalled (on.shows.number map) st.chart.stored after x d
@@ -139,7 +139,7 @@ module _ {K V S : Type 0} (same : K → K → Bool) (hash : K → ℕ) (name : �
       let is_d : now.0 ≡ d = one_of now.0 d (sym now.1 ∙ found) in
       subst (λ (y : CallThere K V). IsAsCalled (on.shows.number map) st.chart.stored after x y) is_d
       (subst (λ (y : Standing K). IsAsCalled (on.shows.number map) y.chart.stored after x now.0) is_st
-      (own_as_called same hash old.batch_size old.roots s.world s.maps s.calls s.makers s.enders map went.0 i went.4.w2 went.4.maps2 went.4.next old new went.1 said known after on.keeps
+      (own_as_called same old.batch_size old.roots s.world s.maps s.calls s.makers s.enders map went.0 i went.4.w2 went.4.maps2 went.4.next old new went.1 said known after on.keeps
       (shown.number map) (on.shows.number map) went.0.chart.stored stood.0.chart.stored stood.2.stored (on.numbers map went.0 went.2) was.0 now.0 now.2.0 x goes u went.3 went.4.did
       (called.each map i u here went.0 went.2 was.0 was.1)))
 
@@ -171,6 +171,6 @@ module _ {K V S : Type 0} (same : K → K → Bool) (hash : K → ℕ) (name : �
     ];
   }
 
-pub calls_keep_as_called : (K V S : Type 0) (same : K → K → Bool) (hash : K → ℕ) → CallsKeepAsCalled K V S same hash
-calls_keep_as_called K V S same hash name m known s old new at_old whole called map i u here said leads =
+pub calls_keep_as_called : (K V : Type 0) (same : K → K → Bool) (hash : ℕ → K → ℕ) → CallsKeepAsCalled K V same hash
+calls_keep_as_called K V same hash name m known s old new at_old whole called map i u here said leads =
     step_as_called same hash name m known s old new at_old whole called map i u here said leads

@@ -27,9 +27,6 @@ use Rattle.papaya_moments.specs.Given.Callers.Sights.{seen_by, IsSight}
 use Rattle.papaya_moments.specs.Given.Callers.Together.{UnderWay, OnKey, ForRoom, Counting, OverAll, Together}
 use Rattle.papaya_moments.specs.Given.Effects.Known.{Known}
 use Rattle.papaya_moments.specs.Given.Effects.declared.role.Role.TheVariants as role
-use Rattle.papaya_moments.specs.Given.Executor.IsAt.{Scene, IsAt, slot_of}
-use Rattle.papaya_moments.specs.Given.Executor.Replying.{scene_with}
-use Rattle.papaya_moments.specs.Given.Executor.declared.executor.Executor.{Executor}
 use Rattle.papaya_moments.specs.Given.Finishes.Machines.{machine_of, ToldOfKind}
 use Rattle.papaya_moments.specs.Given.Finishes.Maps.{Standing}
 use Rattle.papaya_moments.specs.Given.Follows.Calling.{told, come_to}
@@ -45,6 +42,9 @@ use Rattle.papaya_histories.specs.AsCalled.{purpose_of, SweepAsks, IsLastTold, I
 use Rattle.papaya_histories.proofs.Calling.{came_so}
 use Rattle.papaya_histories.proofs.DueOn.{comes_owed}
 use Rattle.papaya_histories.proofs.Roles.{named_by}
+use Rattle.papaya_moments.specs.Given.Scenes.Held.{Held, IsAt}
+use Rattle.papaya_moments.specs.Given.Scenes.Replying.{scene_with}
+use Rattle.papaya_moments.specs.Given.Scenes.Scene.{Scene, slot_of}
 
 module _ (K V : Type 0) (same : K → K → Bool) where
   pub as_called_begins : AsCalledBegins K V same
@@ -206,7 +206,7 @@ told_purpose p (at.Asks word) true = refl
 told_purpose p (at.Asks word) false = refl
 told_purpose p _ keeps = refl
 
-module _ {K V S : Type 0} (same : K → K → Bool) (hash : K → ℕ) (name : ℕ → List ℕ) (m : Moment K V) (known : Known) (s : Scene K V) (e : Executor K V S) (at_e : IsAt same hash e s)
+module _ {K V : Type 0} (same : K → K → Bool) (hash : ℕ → K → ℕ) (name : ℕ → List ℕ) (m : Moment K V) (known : Known) (s : Scene K V) (e : Held K V) (at_e : IsAt same hash e s)
     (all : ShowsAsCalled same name m known s) (map i : ℕ) (st : Standing K) (there : s.maps map ≡ Some st) (c : CallThere K V) (c_is : call_of (name i) m ≡ Some c)
     (question : Option ℕ) (c_asks : c.stands ≡ Asking question) (is_told : Reply V) where
   abbrev number : ℕ → ℕ
@@ -264,8 +264,8 @@ module _ {K V S : Type 0} (same : K → K → Bool) (hash : K → ℕ) (name : �
       let same_sweep : (sweep_replied o.sweep (as_told is_told)).0 ≡ o.sweep = (let one = sym machine ∙ ap machine_of is in cc one) in
       absurd (taken_leaves o.sweep asks.0 asks.1 (as_told is_told) taken same_sweep)
 
-module _ (K V S : Type 0) (same : K → K → Bool) (hash : K → ℕ) where
-  pub calls_take_as_called : CallsTakeAsCalled K V S same hash
+module _ (K V : Type 0) (same : K → K → Bool) (hash : ℕ → K → ℕ) where
+  pub calls_take_as_called : CallsTakeAsCalled K V same hash
   calls_take_as_called name m known s e at_e whole all map i u here c c_is question c_asks st there is_told next machine taken goes = record {
     shown = b.0;
     each = λ n j x is st2 st_is d d_is. subst (λ (f : ℕ → ℕ → ℕ). IsAsCalled (f n) st2.chart.stored known x d) (sym b.1) (one n j x st2 st_is d d_is (which s.calls map i (Some next) n j x is));

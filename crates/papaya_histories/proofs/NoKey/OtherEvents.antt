@@ -37,9 +37,6 @@ use Rattle.papaya_moments.proofs.Given.Callers.Together.At.{at_same}
 use Rattle.papaya_moments.specs.Given.Effects.Effects.{effects_of, known_after}
 use Rattle.papaya_moments.specs.Given.Effects.Known.{Known}
 use Rattle.papaya_moments.specs.Given.Effects.declared.acting.Acting.TheVariants as acts
-use Rattle.papaya_moments.specs.Given.Executor.IsAt.{Scene, IsAt, slot_of}
-use Rattle.papaya_moments.specs.Given.Executor.Stepping.{StepsFrom, StepLeads, scene_after}
-use Rattle.papaya_moments.specs.Given.Executor.declared.executor.Executor.{Executor}
 use Rattle.papaya_moments.specs.Given.Finishes.Machines.{machine_of}
 use Rattle.papaya_moments.specs.Given.Finishes.Maps.{Standing}
 use Rattle.papaya_moments.specs.Given.Follows.Steps.{Did}
@@ -56,6 +53,9 @@ use Rattle.papaya_histories.proofs.OtherMidsts.{on_no_key, there_other, there_ca
 use Rattle.papaya_histories.proofs.Retaining.{retainings_may_ask}
 use Rattle.papaya_histories.proofs.Several.{stands}
 use Rattle.papaya_histories.proofs.NoKey.Sweeps.{SweepsOn, sweeps_on, asks_still}
+use Rattle.papaya_moments.specs.Given.Scenes.Held.{Held, IsAt}
+use Rattle.papaya_moments.specs.Given.Scenes.Scene.{Scene, slot_of}
+use Rattle.papaya_moments.specs.Given.Scenes.Stepping.{StepLeads, StepsFrom, scene_after}
 
 -- a reservation and a counting say of nothing that they ask it
 module _ {T : Type 0} where
@@ -82,21 +82,21 @@ no_going : (K : Type 0) {V : Type 0} (known : Known) (about : Option ℕ) (o : O
 no_going K known about (outcome.Asks question) as_said goes = goes
 no_going K known about _ as_said goes = as_said
 
-module _ {K V S : Type 0} (same : K → K → Bool) (hash : K → ℕ) (name : ℕ → List ℕ) (log : List (Entry K V)) (beginning : Moment K V) (map i : ℕ) (c : CallThere K V)
+module _ {K V : Type 0} (same : K → K → Bool) (hash : ℕ → K → ℕ) (name : ℕ → List ℕ) (log : List (Entry K V)) (beginning : Moment K V) (map i : ℕ) (c : CallThere K V)
     (done : List Effect) (m : Moment K V) (known : Known) (s : Scene K V) (u : UnderWay K V K) (midst : InOtherMidst same name log beginning map i c done m known s u)
-    (old new : Executor K V S) (at_old : IsAt same hash old s) where
+    (old new : Held K V) (at_old : IsAt same hash old s) where
   abbrev known2 : Known
-  known2 = known_after (acts.Call i map) new.memory.changed known
+  known2 = known_after (acts.Call i map) new.changed known
 
   module _ (about : Option ℕ) (leads : StepLeads same hash i (progress.Asks about) s old new) where
     abbrev call_then : CallThere K V
     call_then = d same hash name log beginning map i c done m known s u midst old new at_old (progress.Asks about) leads
 
     abbrev then_at : Moment K V
-    then_at = with_effects (Some (name i)) (Some map) (effects_of (acts.Call i map) known new.memory.changed) m
+    then_at = with_effects (Some (name i)) (Some map) (effects_of (acts.Call i map) known new.changed) m
 
     abbrev s2 : Scene K V
-    s2 = scene_after same hash s old new map i (leads map u midst.here).0 u (leads map u midst.here).1 (progress.Asks about) (leads map u midst.here).4
+    s2 = scene_after same s old new map i (leads map u midst.here).0 u (leads map u midst.here).1 (progress.Asks about) (leads map u midst.here).4
 
     abbrev at_new : IsAt same hash new s2
     at_new = (leads map u midst.here).5
@@ -114,10 +114,10 @@ module _ {K V S : Type 0} (same : K → K → Bool) (hash : K → ℕ) (name : �
     next_machine = (leads map u midst.here).4.goes_on.2
 
     dues2 : ShowsDue same name log then_at known2 s2
-    dues2 = other_midsts_keep_due K V S same hash name log beginning map i c done m known s u midst old new at_old (progress.Asks about) leads
+    dues2 = other_midsts_keep_due K V same hash name log beginning map i c done m known s u midst old new at_old (progress.Asks about) leads
 
     called2 : ShowsAsCalled same name then_at known2 s2
-    called2 = calls_keep_as_called K V S same hash name m known s old new at_old midst.whole midst.called map i u midst.here (progress.Asks about) leads
+    called2 = calls_keep_as_called K V same hash name m known s old new at_old midst.whole midst.called map i u midst.here (progress.Asks about) leads
 
     -- what each class has then
     fewer_then : (k : K) → (finite_map same map then_at k ≡ finite_map same map (moment log) k) ⊎ (finite_map same map then_at k ≡ None)
@@ -131,8 +131,8 @@ module _ {K V S : Type 0} (same : K → K → Bool) (hash : K → ℕ) (name : �
     abbrev AsksThere : Type 0
     AsksThere = (o : CallOverAll) × (next ≡ OverAll o) × (word : ℕ) × (about ≡ Some word) × (o.sweep.stands ≡ at.Asks word)
 
-    sweep_asks : (o : CallOverAll) → StepsFrom same hash (kinds.Sweep o.sweep) old new (leads map u midst.here).1 (progress.Asks about) → AsksThere
-    sweep_asks o steps = by next refl (subst (λ (z : Machine K V K). SweepsOn o.sweep.purpose (z, progress.Asks about)) (sym next_machine) (sweeps_on same hash old new o.sweep (leads map u midst.here).1 (progress.Asks about) steps))
+    sweep_asks : (o : CallOverAll) → StepsFrom same (leads map u midst.here).0.hash (kinds.Sweep o.sweep) old new (leads map u midst.here).1 (progress.Asks about) → AsksThere
+    sweep_asks o steps = by next refl (subst (λ (z : Machine K V K). SweepsOn o.sweep.purpose (z, progress.Asks about)) (sym next_machine) (sweeps_on same (leads map u midst.here).0.hash old new o.sweep (leads map u midst.here).1 (progress.Asks about) steps))
       where
         by : (x : UnderWay K V K) → next ≡ x → SweepsOn o.sweep.purpose (machine_of x, progress.Asks about) → AsksThere
         by (OverAll q) is so = (q, is, so.1.0, so.1.1, so.1.2)
@@ -142,7 +142,7 @@ module _ {K V S : Type 0} (same : K → K → Bool) (hash : K → ℕ) (name : �
 
     abbrev DidIt : UnderWay K V K → Type 0
     DidIt x =
-        Did same old.batch_size old.roots s.world s.maps s.calls s.makers s.enders map (leads map u midst.here).0 i new.memory.memory (leads map u midst.here).4.w2 (leads map u midst.here).4.maps2
+        Did same old.batch_size old.roots s.world s.maps s.calls s.makers s.enders map (leads map u midst.here).0 i new.memory (leads map u midst.here).4.w2 (leads map u midst.here).4.maps2
         (leads map u midst.here).4.next x (leads map u midst.here).1 (progress.Asks about)
 
     asks_there : AsksThere
@@ -150,7 +150,7 @@ module _ {K V S : Type 0} (same : K → K → Bool) (hash : K → ℕ) (name : �
         (there_called same hash name log beginning map i c done m known s u midst old new at_old (progress.Asks about) leads)
         (there_other same hash name log beginning map i c done m known s u midst old new at_old (progress.Asks about) leads)) (leads map u midst.here).3 (leads map u midst.here).4.did
       where
-        by : (x : UnderWay K V K) → ((y : CallOnKey K V K) → x ≡ OnKey y → ⊥) → StepsFrom same hash (machine_of x) old new (leads map u midst.here).1 (progress.Asks about) → DidIt x → AsksThere
+        by : (x : UnderWay K V K) → ((y : CallOnKey K V K) → x ≡ OnKey y → ⊥) → StepsFrom same (leads map u midst.here).0.hash (machine_of x) old new (leads map u midst.here).1 (progress.Asks about) → DidIt x → AsksThere
         by (OnKey x) none steps did = absurd (none x refl)
         by (ForRoom r) none steps (p2, end, machine_is, told_is, did) = absurd (room_asks_none end about (sym told_is))
         by (Counting sum) none steps (sum2, end, machine_is, told_is, still, stayed) = absurd (counting_asks_none end about (sym told_is))
@@ -200,7 +200,7 @@ module _ {K V S : Type 0} (same : K → K → Bool) (hash : K → ℕ) (name : �
       may_ask : (question : Option ℕ) → IsToldQuestion known2 (Some word) question → MayAsk same call_then.call call_then (moments_from call_then.begun log) question
       may_ask None told = absurd told
       may_ask (Some q) names = subst (λ (x : Call K V). MayAsk same x call_then (moments_from call_then.begun log) (Some q)) (sym its_call)
-          (retainings_may_ask K V S same hash name log then_at known2 s2 new at_new dues2.history map i o here2 call_then
+          (retainings_may_ask K V same hash name log then_at known2 s2 new at_new dues2.history map i o here2 call_then
           (d_is same hash name log beginning map i c done m known s u midst old new at_old (progress.Asks about) leads) fewer_then word q stands_at names)
 
     may_ask_that : (question : Option ℕ) → IsToldQuestion known2 about question → MayAsk same call_then.call call_then (moments_from call_then.begun log) question
@@ -223,7 +223,7 @@ module _ {K V S : Type 0} (same : K → K → Bool) (hash : K → ℕ) (name : �
 
   module _ (c_is : call_of (name i) beginning ≡ Some c) (said : Progress (Node K V)) (leads : StepLeads same hash i said s old new) (e : Entry K V) (is_caller : caller_of e.event ≡ Some (name i))
       (begun : at_work e (moment log) ≡ beginning) (acts_on : acted_on e.event beginning ≡ Some map)
-      (effects_are : e.effects ≡ done ++ effects_of (acts.Call i map) known new.memory.changed) (as_said : AsksAsSaid known2 said e.outcome) where
+      (effects_are : e.effects ≡ done ++ effects_of (acts.Call i map) known new.changed) (as_said : AsksAsSaid known2 said e.outcome) where
     abbrev call_at_end : CallThere K V
     call_at_end = at_end said leads
 
@@ -257,14 +257,14 @@ module _ {K V S : Type 0} (same : K → K → Bool) (hash : K → ℕ) (name : �
         (there_other same hash name log beginning map i c done m known s u midst old new at_old said leads)) (leads map u midst.here).3
         (midst.called.each map i u midst.here (leads map u midst.here).0 (leads map u midst.here).2 midst.there midst.there_is)
       where
-        by : (x : UnderWay K V K) → ((y : CallOnKey K V K) → x ≡ OnKey y → ⊥) → StepsFrom same hash (machine_of x) old new (leads map u midst.here).1 said
+        by : (x : UnderWay K V K) → ((y : CallOnKey K V K) → x ≡ OnKey y → ⊥) → StepsFrom same (leads map u midst.here).0.hash (machine_of x) old new (leads map u midst.here).1 said
             → IsAsCalled (midst.called.shown.number map) (leads map u midst.here).0.chart.stored known x midst.there → ⊥
         by (OnKey x) none steps h = none x refl
         by (ForRoom r) none steps h = h question asks
         by (Counting sum) none steps h = h question asks
         by (OverAll o) none steps h =
             let at_word = h.asks question asks in
-            let says = (asks_still same hash old new o.sweep (leads map u midst.here).1 said steps at_word.0 at_word.1).1 in
+            let says = (asks_still same (leads map u midst.here).0.hash old new o.sweep (leads map u midst.here).1 said steps at_word.0 at_word.1).1 in
             no_going K known2 (Some at_word.0) e.outcome (subst (λ (x : Progress (Node K V)). AsksAsSaid known2 x e.outcome) says as_said) goes
 
     still_so : (its : Stands) → call_at_end.stands ≡ its → AsksStill its e.outcome
@@ -278,11 +278,11 @@ module _ {K V S : Type 0} (same : K → K → Bool) (hash : K → ℕ) (name : �
         subst (λ (o : Option (List ℕ)). IfCall (λ (y : CallThere K V). AsksStill y.stands e.outcome) (acting o (worked e (moment log)))) (sym is_caller)
         (subst (λ (x : Option (CallThere K V)). IfCall (λ (y : CallThere K V). AsksStill y.stands e.outcome) x) (sym end_is) (still_so call_at_end.stands refl))
 
-module _ (K V S : Type 0) (same : K → K → Bool) (hash : K → ℕ) where
-  pub other_midsts_end : OtherMidstsEnd K V S same hash
+module _ (K V : Type 0) (same : K → K → Bool) (hash : ℕ → K → ℕ) where
+  pub other_midsts_end : OtherMidstsEnd K V same hash
   other_midsts_end name log beginning map i c c_is done m known s u midst old new at_old said leads e is_caller begun acts_on effects_are as_said =
       linearizable same hash name log beginning map i c done m known s u midst old new at_old c_is said leads e is_caller begun acts_on effects_are as_said
 
-  pub other_midsts_ask_still : OtherMidstsAskStill K V S same hash
+  pub other_midsts_ask_still : OtherMidstsAskStill K V same hash
   other_midsts_ask_still name log beginning map i c c_is done m known s u midst old new at_old said leads e is_caller begun acts_on effects_are as_said =
       asks_on same hash name log beginning map i c done m known s u midst old new at_old c_is said leads e is_caller begun acts_on effects_are as_said

@@ -35,9 +35,9 @@ use Rattle.papaya_moments.specs.Given.Raw.declared.machines.progress.Progress.Th
 use Rattle.papaya_moments.proofs.Given.Rule.Keys.Always.{Always, AlwaysOf, always_if, always_plan_as}
 use Rattle.papaya_moments.specs.Given.Teller.Tells.{StepsTold}
 use Rattle.papaya_moments.specs.Given.Teller.declared.changed.Changed.TheVariants.{Nothing}
-use Rattle.papaya_moments.specs.Given.Executor.Stepping.{StepsFrom}
-use Rattle.papaya_moments.specs.Given.Executor.declared.executor.Executor.{Executor}
 use Rattle.papaya_histories.proofs.Asking.{always_turned, always_told}
+use Rattle.papaya_moments.specs.Given.Scenes.Held.{Held}
+use Rattle.papaya_moments.specs.Given.Scenes.Stepping.{StepsFrom}
 
 module _ (K V : Type 0) (p : Sweep) where
   abbrev AsksSo : Swept (Node K V) → Sweeping → Type 0
@@ -163,16 +163,16 @@ module _ {K V : Type 0} where
   as_machine p (q, ends.Done) so = (so.0, tt)
   as_machine p (q, ends.Refused fault) so = (so.0, tt)
 
-module _ {K V S : Type 0} (same : K → K → Bool) (hash : K → ℕ) (old new : Executor K V S) (p : Sweep) (machine : Machine K V K) (said : Progress (Node K V))
+module _ {K V : Type 0} (same : K → K → Bool) (hash : K → ℕ) (old new : Held K V) (p : Sweep) (machine : Machine K V K) (said : Progress (Node K V))
     (steps : StepsFrom same hash (kinds.Sweep p) old new machine said) where
   pub sweeps_on : SweepsOn p.purpose (machine, said)
   sweeps_on =
-      always_told (SweepsOn p.purpose) old.memory.memory new.memory.memory Nothing new.memory.changed (plan_as swept (plan_at hash p p.stands)) (machine, said)
+      always_told (SweepsOn p.purpose) old.memory new.memory Nothing new.changed (plan_as swept (plan_at hash p p.stands)) (machine, said)
       (always_turned (Keeps K V p) (SweepsOn p.purpose) swept (as_machine p) (plan_at hash p p.stands) (from K V p hash p.stands refl)) steps
 
   abbrev StepsAt : Sweeping → Type 0
   StepsAt stands =
-      StepsTold K V (Machine K V K × Progress (Node K V)) old.memory.memory Nothing (plan_as swept (plan_at hash p stands)) new.memory.memory new.memory.changed (machine, said)
+      StepsTold K V (Machine K V K × Progress (Node K V)) old.memory Nothing (plan_as swept (plan_at hash p stands)) new.memory new.changed (machine, said)
 
   said_at : (word : ℕ) → StepsAt (at.Asks word) → (machine ≡ kinds.Sweep p) × (said ≡ progress.Asks (Some word))
   said_at word at_word = (

@@ -29,21 +29,24 @@ use Rattle.papaya_grows.specs.Given.Tables.declared.node.Node.{Node}
 use Rattle.papaya_grows.specs.Given.Teller.declared.changed.Changed.{Changed}
 use Rattle.papaya_grows.specs.Given.Teller.declared.changed.Changed.TheVariants.{Nothing}
 use Rattle.papaya_grows.proofs.Given.Callers.Together.Came.{came_reached}
-use Rattle.papaya_grows.specs.Given.Executor.IsAt.{Scene, IsAt, HasRow, row_of, work_of}
-use Rattle.papaya_grows.specs.Given.Executor.OnSlots.{RowLeads, RowSteps, row_on}
-use Rattle.papaya_grows.specs.Given.Executor.Rows.{begun_row, of_registering}
-use Rattle.papaya_grows.specs.Given.Executor.declared.executor.Executor.{Executor}
-use Rattle.papaya_grows.specs.Given.Executor.declared.row.RowTold.{RowTold}
-use Rattle.papaya_grows.specs.Given.Executor.declared.row.RowTold.TheVariants as told
-use Rattle.papaya_grows.specs.Given.Executor.declared.row.SlotCall.{SlotCall}
-use Rattle.papaya_grows.specs.Given.Executor.declared.row.SlotCall.TheVariants as call
-use Rattle.papaya_grows.specs.Given.Executor.declared.row.SlotRow.{SlotRow}
-use Rattle.papaya_grows.specs.Given.Executor.declared.row.SlotRow.TheVariants as rows
-use Rattle.papaya_grows.specs.Given.Executor.declared.worker.Work.{Work}
-use Rattle.papaya_grows.specs.Given.Executor.declared.worker.Work.TheVariants.{OnSlot}
-use Rattle.papaya_grows.proofs.Given.Executor.Forgotten.{as_step}
-use Rattle.papaya_logged.specs.OnSlots.{GoesOnFor, OnSlotLast, has_come}
+use Rattle.papaya_grows.specs.Given.Scenes.declared.row.RowTold.{RowTold}
+use Rattle.papaya_grows.specs.Given.Scenes.declared.row.RowTold.TheVariants as told
+use Rattle.papaya_grows.specs.Given.Scenes.declared.row.SlotCall.{SlotCall}
+use Rattle.papaya_grows.specs.Given.Scenes.declared.row.SlotCall.TheVariants as call
+use Rattle.papaya_grows.specs.Given.Scenes.declared.row.SlotRow.{SlotRow}
+use Rattle.papaya_grows.specs.Given.Scenes.declared.row.SlotRow.TheVariants as rows
+use Rattle.papaya_logged.specs.Given.Executor.declared.executor.Executor.{Executor}
+use Rattle.papaya_logged.specs.Given.Executor.declared.worker.Work.TheVariants.{OnSlot}
+use Rattle.papaya_logged.specs.Given.Executor.IsThere.{IsThere, held_by, work_of}
+use Rattle.papaya_logged.specs.Given.Executor.OnSlots.{RowComesThere, row_on}
+use Rattle.papaya_logged.proofs.Given.Executor.RowLeads.{has_row, held_row}
+use Rattle.papaya_logged.specs.OnSlots.{GoesOnFor, OnSlotLast, StepsOn, has_come}
 use Rattle.papaya_legal.proofs.Heads.Rows.{KeepsTaken, Off, elsewhere, fits_at, from_up_to, idle_some, is_taken, no_change, now, positive, same_taken, slots_stay, step_taken, taken_word_of, up_to, written}
+use Rattle.papaya_grows.proofs.Given.Scenes.Told.{as_step}
+use Rattle.papaya_grows.specs.Given.Scenes.Held.{Held, IsAt}
+use Rattle.papaya_grows.specs.Given.Scenes.OnSlots.{RowLeads, RowSteps}
+use Rattle.papaya_grows.specs.Given.Scenes.Rows.{begun_row, of_registering}
+use Rattle.papaya_grows.specs.Given.Scenes.Scene.{IsOnSlot, Scene, row_of}
 
 some_lt : (n : ℕ) → 0 < n → nat_lt 0 n ≡ true
 some_lt n more = grind (arith, more)
@@ -237,36 +240,33 @@ module _ {K V : Type 0} where
   on_then row (told.Gave value) going = refl
   on_then row _ going = absurd (cc going)
 
-module _ {K V S : Type 0} (same : K → K → Bool) (hash : K → ℕ) (i k : ℕ) where
-  module _ (s : Scene K V) (old new : Executor K V S) (at : IsAt same hash old s) (said : RowTold (Node K V)) (leads : RowLeads same hash i said s old new) where
+module _ {K V : Type 0} (same : K → K → Bool) (hash : ℕ → K → ℕ) (i k : ℕ) where
+  module _ (s : Scene K V) (old new : Held K V) (at : IsAt same hash old s) (said : RowTold (Node K V)) (leads : RowLeads same hash i said s old new) where
     good : Good deferred_word (LAST_SLOT + 1) old.batch_size s.world
     good = (came_reached old.batch_size s.world at.together.makings.standing.came).good
 
-    row_there : (row : SlotRow) → work_of old i ≡ Some (OnSlot row) → s.world.row i ≡ row_of row
-    row_there row here = subst (λ (x : Option (Work K V)). HasRow x (s.world.row i)) here (at.rows i)
-
     -- a step of one that does not register
-    other_step : (row : SlotRow) (here : work_of old i ≡ Some (OnSlot row)) → IsOther row → SlotsTaken old.memory.memory k → SlotsTaken new.memory.memory k
+    other_step : (row : SlotRow) (here : IsOnSlot s i row) → IsOther row → SlotsTaken old.memory k → SlotsTaken new.memory k
     other_step row here other so =
         let to = leads row here in
-        let keeps = step_taken deferred_word s.world good i (s.world.row i) (subst Off (sym (row_there row here)) (other_off row other)) to.4.0 refl to.4.1 in
-        subst (λ (x : Mem (Node K V)). SlotsTaken x k) to.4.4.memory
-        (slots_stay s.world.memory to.4.0.memory k keeps (subst (λ (x : Mem (Node K V)). SlotsTaken x k) (sym at.memory) so))
+        let keeps = step_taken deferred_word s.world good i (s.world.row i) (subst Off (sym here.1) (other_off row other)) to.2.0 refl to.2.1 in
+        subst (λ (x : Mem (Node K V)). SlotsTaken x k) to.2.4.memory
+        (slots_stay s.world.memory to.2.0.memory k keeps (subst (λ (x : Mem (Node K V)). SlotsTaken x k) (sym at.memory) so))
 
     -- and of one that does
-    register_step : (c : Register) (here : work_of old i ≡ Some (OnSlot (rows.Registers c))) → RegisterSo k old.memory.memory c
-        → (let to = leads (rows.Registers c) here in EndSo k new.memory.memory to.1.0)
+    register_step : (c : Register) (here : IsOnSlot s i (rows.Registers c)) → RegisterSo k old.memory c → (let to = leads (rows.Registers c) here in EndSo k new.memory to.1.0)
     register_step c here so =
         let to = leads (rows.Registers c) here in
-        register_at deferred_word s.world good i k new.memory.memory to.1.0 c.slot c.enters c.stands
-        (fits_at deferred_word s.world good i (Registers c) (row_there (rows.Registers c) here)) (subst (λ (x : Mem (Node K V)). RegisterSo k x c) (sym at.memory) so)
-        (subst (λ (x : Mem (Node K V)). Steps Took value_at x (register_plan c) new.memory.memory to.1.0) (sym at.memory)
-        (as_step old.memory.memory Nothing (register_plan c) new.memory.memory new.memory.changed to.1.0 to.1.1))
+        register_at deferred_word s.world good i k new.memory to.1.0 c.slot c.enters c.stands
+        (fits_at deferred_word s.world good i (Registers c) here.1) (subst (λ (x : Mem (Node K V)). RegisterSo k x c) (sym at.memory) so)
+        (subst (λ (x : Mem (Node K V)). Steps Took value_at x (register_plan c) new.memory to.1.0) (sym at.memory)
+        (as_step old.memory Nothing (register_plan c) new.memory new.changed to.1.0 to.1.1))
 
-  -- where its row goes on
+module _ {K V S : Type 0} (same : K → K → Bool) (hash : K → ℕ) (i k : ℕ) where
+  -- where the row of an executor's caller goes on
   pub record OthersGo (e : Executor K V S) : Type 0 where
     pub scene : Scene K V
-    pub is_at : IsAt same hash e scene
+    pub is_at : IsThere same hash e scene
     pub row : SlotRow
     pub here : work_of e i ≡ Some (OnSlot row)
     pub other : IsOther row
@@ -274,41 +274,57 @@ module _ {K V S : Type 0} (same : K → K → Bool) (hash : K → ℕ) (i k : �
 
   pub record RegistersGo (e : Executor K V S) : Type 0 where
     pub scene : Scene K V
-    pub is_at : IsAt same hash e scene
+    pub is_at : IsThere same hash e scene
     pub register : Register
     pub here : work_of e i ≡ Some (OnSlot (rows.Registers register))
     pub taken : RegisterSo k e.memory.memory register
+
+  module _ (mid new : Executor K V S) (said : RowTold (Node K V)) (step : StepsOn i said mid new) where
+    other_goes : (r : OthersGo mid) → SlotsTaken new.memory.memory k
+    other_goes r =
+        let leads = step same hash r.scene r.is_at in
+        other_step same (λ m. hash) i k r.scene (held_by mid) (held_by new) r.is_at.held said (held_row same hash r.scene mid new r.is_at i said leads) r.row (leads r.row r.here).0 r.other r.taken
+
+    -- its step, as of the row that is on the slot
+    abbrev registers_to : (r : RegistersGo mid) → RowComesThere same hash i said r.scene mid new (rows.Registers r.register)
+    registers_to r =
+        let leads = step same hash r.scene r.is_at in
+        leads (rows.Registers r.register) (has_row same hash mid r.scene r.is_at i (rows.Registers r.register) (leads (rows.Registers r.register) r.here).0)
+
+    register_goes : (r : RegistersGo mid) → EndSo k new.memory.memory (registers_to r).2.0
+    register_goes r =
+        let leads = step same hash r.scene r.is_at in
+        register_step same (λ m. hash) i k r.scene (held_by mid) (held_by new) r.is_at.held said (held_row same hash r.scene mid new r.is_at i said leads) r.register
+        (leads (rows.Registers r.register) r.here).0 r.taken
 
   others_go : (n : ℕ) (old new : Executor K V S) → GoesOnFor i n old new → OthersGo old → OthersGo new
   others_go zero old new gone q = subst OthersGo gone q
   others_go (suc n) old new (mid, said, gone, going, step) q =
       let r = others_go n old mid gone q in
-      let leads = step same hash r.scene r.is_at in
-      let to = leads r.row r.here in
+      let to = step same hash r.scene r.is_at r.row r.here in
       record {
-        scene = record r.scene { world = to.4.0; maps = to.4.2 };
-        is_at = to.4.4;
-        row = to.0;
-        here = to.2 ∙ on_then to.0 said going;
-        other = other_after r.row r.other mid.memory.memory new.memory.memory new.memory.changed (to.0, said) to.1;
-        taken = other_step r.scene mid new r.is_at said leads r.row r.here r.other r.taken;
+        scene = record r.scene { world = to.5.0; maps = to.5.2 };
+        is_at = to.5.4;
+        row = to.1;
+        here = to.3 ∙ on_then to.1 said going;
+        other = other_after r.row r.other mid.memory.memory new.memory.memory new.memory.changed (to.1, said) to.2;
+        taken = other_goes mid new said step r;
       }
 
   registers_go : (n : ℕ) (old new : Executor K V S) → GoesOnFor i n old new → RegistersGo old → RegistersGo new
   registers_go zero old new gone q = subst RegistersGo gone q
   registers_go (suc n) old new (mid, said, gone, going, step) q =
       let r = registers_go n old mid gone q in
-      let leads = step same hash r.scene r.is_at in
-      let to = leads (rows.Registers r.register) r.here in
-      let row_is : to.0 ≡ rows.Registers to.1.0.0 = ap (λ (x : SlotRow × RowTold (Node K V)). x.0) to.1.2 in
+      let to = registers_to mid new said step r in
+      let row_is : to.1 ≡ rows.Registers to.2.0.0 = ap (λ (x : SlotRow × RowTold (Node K V)). x.0) to.2.2 in
       record {
-        scene = record r.scene { world = to.4.0; maps = to.4.2 };
-        is_at = to.4.4;
-        register = to.1.0.0;
-        here = to.2 ∙ on_then to.0 said going ∙ ap (λ (x : SlotRow). Some (OnSlot x)) row_is;
+        scene = record r.scene { world = to.5.0; maps = to.5.2 };
+        is_at = to.5.4;
+        register = to.2.0.0;
+        here = to.3 ∙ on_then to.1 said going ∙ ap (λ (x : SlotRow). Some (OnSlot x)) row_is;
         taken =
-            by new.memory.memory to.1.0.0 to.1.0.1 (subst (λ (t : RowTold (Node K V)). has_come t ≡ false) (ap (λ (x : SlotRow × RowTold (Node K V)). x.1) to.1.2) going)
-            (register_step r.scene mid new r.is_at said leads r.register r.here r.taken);
+            by new.memory.memory to.2.0.0 to.2.0.1 (subst (λ (t : RowTold (Node K V)). has_come t ≡ false) (ap (λ (x : SlotRow × RowTold (Node K V)). x.1) to.2.2) going)
+            (register_goes mid new said step r);
       }
     where
       by : (m : Mem (Node K V)) (c : Register) (p : Progress ℕ) → has_come {T = Node K V} (of_registering p) ≡ false → ToldSo k m c p → RegisterSo k m c
@@ -319,13 +335,11 @@ module _ {K V S : Type 0} (same : K → K → Bool) (hash : K → ℕ) (i k : �
 
   -- so it is once its row has told its end
   pub others_taken : (said : RowTold (Node K V)) (old new : Executor K V S) → OnSlotLast i said old new → OthersGo old → SlotsTaken new.memory.memory k
-  others_taken said old new (mid, n, gone, step) q =
-      let r = others_go n old mid gone q in other_step r.scene mid new r.is_at said (step same hash r.scene r.is_at) r.row r.here r.other r.taken
+  others_taken said old new (mid, n, gone, step) q = other_goes mid new said step (others_go n old mid gone q)
 
   pub registers_taken : (said : RowTold (Node K V)) (old new : Executor K V S) → OnSlotLast i said old new → RegistersGo old → ThenSo k new.memory.memory said
   registers_taken said old new (mid, n, gone, step) q =
       let r = registers_go n old mid gone q in
-      let leads = step same hash r.scene r.is_at in
-      let to = leads (rows.Registers r.register) r.here in
-      subst (λ (t : RowTold (Node K V)). ThenSo k new.memory.memory t) (sym (ap (λ (x : SlotRow × RowTold (Node K V)). x.1) to.1.2))
-      (then_so k new.memory.memory to.1.0.0 to.1.0.1 (register_step r.scene mid new r.is_at said leads r.register r.here r.taken))
+      let to = registers_to mid new said step r in
+      subst (λ (t : RowTold (Node K V)). ThenSo k new.memory.memory t) (sym (ap (λ (x : SlotRow × RowTold (Node K V)). x.1) to.2.2))
+      (then_so k new.memory.memory to.2.0.0 to.2.0.1 (register_goes mid new said step r))

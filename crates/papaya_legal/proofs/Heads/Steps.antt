@@ -53,12 +53,6 @@ use Rattle.papaya_grows.specs.Given.Callers.Sights.{seen_by}
 use Rattle.papaya_grows.specs.Given.Callers.Together.{CameAbout, UnderWay, OnKey, ForRoom, Counting, OverAll, HandsOver, Stands}
 use Rattle.papaya_grows.proofs.Given.Callers.Together.Came.{came_reached}
 use Rattle.papaya_grows.specs.Given.Effects.Known.{Known}
-use Rattle.papaya_grows.specs.Given.Executor.Ending.{EndingLeads}
-use Rattle.papaya_grows.specs.Given.Executor.IsAt.{Scene, IsAt, slot_of}
-use Rattle.papaya_grows.specs.Given.Executor.Making.{MakingLeads}
-use Rattle.papaya_grows.specs.Given.Executor.Stepping.{StepLeads}
-use Rattle.papaya_grows.specs.Given.Executor.declared.executor.Executor.{Executor}
-use Rattle.papaya_grows.proofs.Given.Executor.Forgotten.{as_step}
 use Rattle.papaya_grows.specs.Given.Finishes.Endings.{Finishing}
 use Rattle.papaya_grows.specs.Given.Finishes.FactsEnds.{TakesLeft, WritesRoot, events_of}
 use Rattle.papaya_grows.specs.Given.Finishes.Makings.{Beginning}
@@ -66,10 +60,16 @@ use Rattle.papaya_grows.specs.Given.Moments.Whole.{ShowsWhole}
 use Rattle.papaya_logged.specs.Given.Reclaims.Reclaims.{ReclaimingAt}
 use Rattle.papaya_logged.specs.Given.Reclaims.Slots.{AreItsRows, BeginsAt, DoesAt}
 use Rattle.papaya_logged.proofs.Given.Reclaims.Slots.Facts.{rested_by}
-use Rattle.papaya_logged.specs.Given.Reclaiming.Reclaiming.{IsReclaiming, ReclaimingLeads}
+use Rattle.papaya_grows.specs.Given.Scenes.Reclaiming.{IsReclaiming, ReclaimingLeads}
 use Rattle.papaya_models.proofs.Calls.{OneStep, by_users, no_or, one_step}
 use Rattle.papaya_legal.proofs.Heads.Rows.{KeepsTaken, Off, by_memory, no_change, same_taken, step_taken, written}
 use Rattle.papaya_legal.proofs.OfAll.Sets.{none_of_rows}
+use Rattle.papaya_grows.proofs.Given.Scenes.Told.{as_step}
+use Rattle.papaya_grows.specs.Given.Scenes.Ending.{EndingLeads}
+use Rattle.papaya_grows.specs.Given.Scenes.Held.{Held, IsAt}
+use Rattle.papaya_grows.specs.Given.Scenes.Making.{MakingLeads}
+use Rattle.papaya_grows.specs.Given.Scenes.Scene.{Scene, slot_of}
+use Rattle.papaya_grows.specs.Given.Scenes.Stepping.{StepLeads}
 
 -- What users do leaves the words of slots.
 
@@ -160,7 +160,7 @@ rests_off : (row : Row) → row ≡ Rests → Off row
 rests_off row is = subst Off (sym is) tt
 
 -- A call takes a step.
-module _ {K V S : Type 0} (same : K → K → Bool) (hash : K → ℕ) (name : ℕ → List ℕ) (m : Moment K V) (known : Known) (s : Scene K V) (old new : Executor K V S) (at : IsAt same hash old s)
+module _ {K V : Type 0} (same : K → K → Bool) (hash : ℕ → K → ℕ) (name : ℕ → List ℕ) (m : Moment K V) (known : Known) (s : Scene K V) (old new : Held K V) (at : IsAt same hash old s)
     (whole : ShowsWhole same name m known s) (map i : ℕ) (u : UnderWay K V K) (here : s.calls map i ≡ Some u) (told : CallTold (Node K V)) (leads : StepLeads same hash i told s old new) where
   abbrev w2 : World (Node K V)
   w2 = (leads map u here).4.w2
@@ -213,19 +213,19 @@ module _ {K V S : Type 0} (same : K → K → Bool) (hash : K → ℕ) (name : �
           subst (λ (x : Mem (Node K V)). KeepsTaken x w2.memory) memory (step_taken deferred_word begun there.good i (begun.row i) (begun_off request begun hands begins.1) w2 refl step)
 
 -- A making, or an end, takes a step.
-module _ {K V S : Type 0} (same : K → K → Bool) (hash : K → ℕ) (s : Scene K V) (old new : Executor K V S) (i : ℕ) where
-  pub making_taken : (said : Progress Setting) → MakingLeads same hash i said s old new → (b : Beginning K) → s.makers i ≡ Some b → KeepsTaken s.world.memory new.memory.memory
+module _ {K V : Type 0} (same : K → K → Bool) (hash : ℕ → K → ℕ) (s : Scene K V) (old new : Held K V) (i : ℕ) where
+  pub making_taken : (said : Progress Setting) → MakingLeads same hash i said s old new → (b : Beginning K) → s.makers i ≡ Some b → KeepsTaken s.world.memory new.memory
   making_taken said leads b here =
       let did = (leads b here).2.step in
-      by_slots s.world.memory new.memory.memory (ap (λ (x : Mem (Node K V)). x.slots) (sym did.memory) ∙ users_slots deferred_word old.batch_size did.events did.users s.world did.w2 did.runs)
+      by_slots s.world.memory new.memory (ap (λ (x : Mem (Node K V)). x.slots) (sym did.memory) ∙ users_slots deferred_word old.batch_size did.events did.users s.world did.w2 did.runs)
 
-  pub ending_taken : (said : Settled (Node K V)) → EndingLeads same hash i said s old new → (f : Finishing K V) → s.enders i ≡ Some f → KeepsTaken s.world.memory new.memory.memory
+  pub ending_taken : (said : Settled (Node K V)) → EndingLeads same hash i said s old new → (f : Finishing K V) → s.enders i ≡ Some f → KeepsTaken s.world.memory new.memory
   ending_taken said leads f here =
       let did = (leads f here).2 in
-      by_slots s.world.memory new.memory.memory (ap (λ (x : Mem (Node K V)). x.slots) (sym did.memory) ∙ did.spares.slots)
+      by_slots s.world.memory new.memory (ap (λ (x : Mem (Node K V)). x.slots) (sym did.memory) ∙ did.spares.slots)
 
 -- Reclaiming all takes a step.
-module _ {K V S : Type 0} (same : K → K → Bool) (hash : K → ℕ) (s : Scene K V) (old new : Executor K V S) (i : ℕ) (lists : ℕ → List ℕ) (before after : ReclaimAll) (said : Settled (Node K V))
+module _ {K V : Type 0} (same : K → K → Bool) (hash : ℕ → K → ℕ) (s : Scene K V) (old new : Held K V) (i : ℕ) (lists : ℕ → List ℕ) (before after : ReclaimAll) (said : Settled (Node K V))
     (under_way : IsReclaiming same hash old s i lists before) (leads : ReclaimingLeads same hash s i lists old new before after said) where
   abbrev w : World (Node K V)
   w = s.world
@@ -239,17 +239,17 @@ module _ {K V S : Type 0} (same : K → K → Bool) (hash : K → ℕ) (s : Scen
   good : Good deferred_word (LAST_SLOT + 1) old.batch_size w
   good = (came_reached old.batch_size w came).good
 
-  steps : Steps Took value_at w.memory (reclaim_all_plan deferred_word was_left before) new.memory.memory (after, said)
+  steps : Steps Took value_at w.memory (reclaim_all_plan deferred_word was_left before) new.memory (after, said)
   steps =
-      subst (λ (x : Mem (Node K V)). Steps Took value_at x (reclaim_all_plan deferred_word was_left before) new.memory.memory (after, said)) (sym under_way.memory)
-      (as_step old.memory.memory Nothing (reclaim_all_plan deferred_word was_left before) new.memory.memory new.memory.changed (after, said) leads.0)
+      subst (λ (x : Mem (Node K V)). Steps Took value_at x (reclaim_all_plan deferred_word was_left before) new.memory (after, said)) (sym under_way.memory)
+      (as_step old.memory Nothing (reclaim_all_plan deferred_word was_left before) new.memory new.changed (after, said) leads.0)
 
   module _ (batch slots all : ℕ) (again : Bool) where
     abbrev c : Reclaiming → ReclaimAll
     c p = record { batch_size = batch; roots = all; slots = slots; again = again; stands = p }
 
     abbrev Takes : Reclaiming → Type 0
-    Takes p = Steps Took value_at w.memory (plan_at deferred_word was_left (c p) p) new.memory.memory (after, said)
+    Takes p = Steps Took value_at w.memory (plan_at deferred_word was_left (c p) p) new.memory (after, said)
 
     abbrev Does : Reclaiming → Type 0
     Does p = DoesAt old.batch_size i leads.1.events w w3 p after.stands
@@ -264,7 +264,7 @@ module _ {K V S : Type 0} (same : K → K → Bool) (hash : K → ℕ) (s : Scen
     begins_taken _ same_world = no_change w.memory w3.memory (ap (λ (x : World (Node K V)). x.memory) same_world)
 
     -- a head is written of a slot that was taken
-    head_taken : (t v a : ℕ) → word_at w.memory (name.Slot t HEAD) ≡ Some a → 0 < a → 0 < v → new.memory.memory ≡ with_word w.memory (name.Slot t HEAD) v → KeepsTaken w.memory w3.memory
+    head_taken : (t v a : ℕ) → word_at w.memory (name.Slot t HEAD) ≡ Some a → 0 < a → 0 < v → new.memory ≡ with_word w.memory (name.Slot t HEAD) v → KeepsTaken w.memory w3.memory
     head_taken t v a is more some memory =
         by_memory w.memory (with_word w.memory (name.Slot t HEAD) v) w3.memory (leads.1.memory ∙ memory)
         (written w.memory t v (subst (λ (o : Option ℕ). IsSome o) (sym is) refl) some (let found = word_found w.memory (name.Slot t HEAD) a is in omega (arith, found, more)))
@@ -288,7 +288,7 @@ module _ {K V S : Type 0} (same : K → K → Bool) (hash : K → ℕ) (s : Scen
     by_point : (p : Reclaiming) → Here p → Takes p → Does p → KeepsTaken w.memory w3.memory
     by_point (at.Heads t) point taking does = begins_taken after.stands does
     by_point (at.Retakes t) (ss, left, (none, lt, st, free)) taking does =
-        let d = stored w.memory (λ out. to (next_head (c (at.Retakes t)) t)) (name.Slot t HEAD) IDLE new.memory.memory (after, said) taking in
+        let d = stored w.memory (λ out. to (next_head (c (at.Retakes t)) t)) (name.Slot t HEAD) IDLE new.memory (after, said) taking in
         head_taken t IDLE FREE free (omega arith) (omega arith) d.0
     by_point (at.Leaves t l) (ss, left, (none, lt, h)) taking does =
         step_taken deferred_word w good i (w.row i) (subst Off (sym h.row_is) tt) w3 refl does
@@ -297,8 +297,8 @@ module _ {K V S : Type 0} (same : K → K → Bool) (hash : K → ℕ) (s : Scen
         step_taken deferred_word w good i (w.row i) (subst Off (sym h.row_is) tt) w3 refl does
     by_point (at.Frees t) (ss, left, (lt, f)) taking does =
         let goes : Unregister × Progress Unit → ReclaimAll × Settled (Node K V) = λ ends. (next_free (c (at.Frees t)) t, settled.Goes) in
-        let back = steps_back goes w.memory new.memory.memory (unregister_plan (record { slot = t })) (after, said) taking in
-        let d = stored {R = Unregister × Progress Unit} w.memory (λ out. Now (record { slot = t }, Done tt)) (name.Slot t HEAD) FREE new.memory.memory back.0 back.1 in
+        let back = steps_back goes w.memory new.memory (unregister_plan (record { slot = t })) (after, said) taking in
+        let d = stored {R = Unregister × Progress Unit} w.memory (λ out. Now (record { slot = t }, Done tt)) (name.Slot t HEAD) FREE new.memory back.0 back.1 in
         let few = f.few in
         head_taken t FREE IDLE
         (idle_word deferred_word (LAST_SLOT + 1) old.batch_size refl w (rested_by old.batch_size w came f.rests) t (f.idle t (omega arith) lt) (omega (arith, lt, few))) (omega arith) (omega arith) d.0

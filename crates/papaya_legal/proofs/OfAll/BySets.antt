@@ -15,16 +15,16 @@ use Rattle.papaya_grows.specs.Given.Tables.Nodes.{deferred_word, was_left}
 use Rattle.papaya_grows.specs.Given.Tables.declared.node.Node.{Node}
 use Rattle.papaya_grows.specs.Given.Teller.declared.changed.Changed.TheVariants.{Nothing}
 use Rattle.papaya_grows.specs.Given.Callers.Together.{CameAbout}
-use Rattle.papaya_grows.specs.Given.Executor.IsAt.{Scene, slot_of}
-use Rattle.papaya_grows.specs.Given.Executor.declared.executor.Executor.{Executor}
-use Rattle.papaya_grows.proofs.Given.Executor.Forgotten.{as_step}
-use Rattle.papaya_logged.specs.Given.Reclaiming.Reclaiming.{IsReclaiming, ReclaimingLeads}
+use Rattle.papaya_grows.specs.Given.Scenes.Reclaiming.{IsReclaiming, ReclaimingLeads}
 use Rattle.papaya_models.specs.Reclaims.{HasReclaimed}
 use Rattle.papaya_models.specs.Turns.{CameByTurns}
 use Rattle.papaya_legal.specs.AllEvents.{AllCome, AllReclaimBySets, AllSteps}
 use Rattle.papaya_legal.proofs.Chains.{chains_keep}
 use Rattle.papaya_legal.proofs.OfAll.Points.{quiet_there, stays_off}
 use Rattle.papaya_legal.proofs.OfAll.Sets.{SoFarAt, off_so, quiet_so, starts_so, step_at}
+use Rattle.papaya_grows.proofs.Given.Scenes.Told.{as_step}
+use Rattle.papaya_grows.specs.Given.Scenes.Held.{Held}
+use Rattle.papaya_grows.specs.Given.Scenes.Scene.{Scene, slot_of}
 
 -- where only roots are cleared, it has done with slots
 clearing_off : (roots : ℕ) → is_on_slots (clearing roots).stands ≡ false
@@ -35,15 +35,15 @@ clearing_off roots = by (roots == 0)
     by false = refl
 
 -- A step.
-module _ {K V S : Type 0} (same : K → K → Bool) (hash : K → ℕ) (i : ℕ) (old new : Executor K V S) (s : Scene K V) (lists : ℕ → List ℕ) (before after : ReclaimAll) (said : Settled (Node K V))
+module _ {K V : Type 0} (same : K → K → Bool) (hash : ℕ → K → ℕ) (i : ℕ) (old new : Held K V) (s : Scene K V) (lists : ℕ → List ℕ) (before after : ReclaimAll) (said : Settled (Node K V))
     (under_way : IsReclaiming same hash old s i lists before) (leads : ReclaimingLeads same hash s i lists old new before after said) (began : World (Node K V)) (changes : List Change) where
-  its_step : Steps Took value_at s.world.memory (reclaim_all_plan deferred_word was_left before) new.memory.memory (after, said)
+  its_step : Steps Took value_at s.world.memory (reclaim_all_plan deferred_word was_left before) new.memory (after, said)
   its_step =
-      subst (λ (m : Mem (Node K V)). Steps Took value_at m (reclaim_all_plan deferred_word was_left before) new.memory.memory (after, said)) (sym under_way.memory)
-      (as_step old.memory.memory Nothing (reclaim_all_plan deferred_word was_left before) new.memory.memory new.memory.changed (after, said) leads.0)
+      subst (λ (m : Mem (Node K V)). Steps Took value_at m (reclaim_all_plan deferred_word was_left before) new.memory (after, said)) (sym under_way.memory)
+      (as_step old.memory Nothing (reclaim_all_plan deferred_word was_left before) new.memory new.changed (after, said) leads.0)
 
   off_then : is_on_slots before.stands ≡ false → is_on_slots after.stands ≡ false
-  off_then off = stays_off old.memory.memory new.memory.memory new.memory.changed before (after, said) off before.stands off leads.0
+  off_then off = stays_off old.memory new.memory new.changed before (after, said) off before.stands off leads.0
 
   -- with this batch size and so many roots it goes on so
   abbrev pub GoesOn : ℕ → ℕ → Type 0
@@ -54,30 +54,30 @@ module _ {K V S : Type 0} (same : K → K → Bool) (hash : K → ℕ) (i : ℕ)
   goes_there : GoesOn old.batch_size old.roots
   goes_there small came so =
       step_at old.batch_size old.roots i small began changes came same same slot_of s.maps s.calls s.makers s.enders s.world lists under_way.under_way.stand.together.makings.standing.came
-      new.memory.memory after said before.batch_size before.slots before.roots before.again before.stands under_way.under_way.point leads.1 its_step off_then so
+      new.memory after said before.batch_size before.slots before.roots before.again before.stands under_way.under_way.point leads.1 its_step off_then so
 
   pub goes_on : (size roots : ℕ) → old.batch_size ≡ size → old.roots ≡ roots → GoesOn size roots
   goes_on size roots size_is roots_are = subst (λ (b : ℕ). GoesOn b roots) size_is (subst (λ (r : ℕ). GoesOn old.batch_size r) roots_are goes_there)
 
-module _ (K V S : Type 0) (same : K → K → Bool) (hash : K → ℕ) where
-  pub all_reclaim_by_sets : AllReclaimBySets K V S same hash
+module _ (K V : Type 0) (same : K → K → Bool) (hash : ℕ → K → ℕ) where
+  pub all_reclaim_by_sets : AllReclaimBySets K V same hash
   all_reclaim_by_sets terms small i n from to over begins chain last done changes came =
       subst HasIn (sym last.comes) ((goes to over last (chains_keep SoFarIn (AllSteps same hash terms i) keeps n from to chain (first begins.taken begins.first))).1 done)
     where
-      HasIn : AllCome K V S → Type 0
+      HasIn : AllCome K V → Type 0
       HasIn x = HasReclaimed deferred_word terms.batch_size terms.roots from.come.scene.world changes x.come.scene.world
 
-      SoFarIn : AllCome K V S → Type 0
+      SoFarIn : AllCome K V → Type 0
       SoFarIn x = SoFarAt terms.batch_size terms.roots i small from.come.scene.world changes came x.all x.come.scene.world x.all.stands
 
-      goes : (x y : AllCome K V S) (step : AllSteps same hash terms i x y) → SoFarIn x
+      goes : (x y : AllCome K V) (step : AllSteps same hash terms i x y) → SoFarIn x
           → SoFarAt terms.batch_size terms.roots i small from.come.scene.world changes came y.all step.leads.1.w2 y.all.stands
           × (step.said ≡ settled.Done → HasReclaimed deferred_word terms.batch_size terms.roots from.come.scene.world changes step.leads.1.w2)
       goes x y step so =
-          goes_on same hash i x.come.executor y.come.executor x.come.scene x.lists x.all y.all step.said step.under_way step.leads from.come.scene.world changes terms.batch_size terms.roots step.size
+          goes_on same hash i x.come.held y.come.held x.come.scene x.lists x.all y.all step.said step.under_way step.leads from.come.scene.world changes terms.batch_size terms.roots step.size
           step.roots_are small came so
 
-      keeps : (x y : AllCome K V S) → AllSteps same hash terms i x y → SoFarIn x → SoFarIn y
+      keeps : (x y : AllCome K V) → AllSteps same hash terms i x y → SoFarIn x → SoFarIn y
       keeps x y step so = subst SoFarIn (sym step.comes) (goes x y step so).0
 
       came_there : CameAbout terms.batch_size from.come.scene.world
@@ -90,6 +90,6 @@ module _ (K V S : Type 0) (same : K → K → Bool) (hash : K → ℕ) where
       first false is =
           let off : is_on_slots from.all.stands ≡ false = subst (λ (c : ReclaimAll). is_on_slots c.stands ≡ false) (sym is) (clearing_off terms.roots) in
           let quiet =
-          quiet_there from.come.executor.batch_size from.come.executor.roots i from.all from.come.scene.world from.come.scene.maps from.lists from.all.stands off begins.under_way.under_way.point in
+          quiet_there from.come.held.batch_size from.come.held.roots i from.all from.come.scene.world from.come.scene.maps from.lists from.all.stands off begins.under_way.under_way.point in
           off_so terms.batch_size terms.roots i small from.come.scene.world changes came from.all from.come.scene.world from.all.stands off
           (quiet_so terms.batch_size terms.roots i small from.come.scene.world changes came came_there quiet)

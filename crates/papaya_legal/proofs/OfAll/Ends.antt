@@ -29,13 +29,12 @@ use Rattle.papaya_grows.specs.Given.Schedules.Moment.{Moment}
 use Rattle.papaya_grows.specs.Given.Schedules.Reclaims.{IsProtected}
 use Rattle.papaya_grows.specs.Given.Schedules.Terms.{Terms}
 use Rattle.papaya_grows.specs.Given.Effects.Known.{Known}
-use Rattle.papaya_grows.specs.Given.Executor.IsAt.{IsAt}
 use Rattle.papaya_grows.specs.Given.Finishes.Makings.{IsFreeRoot}
 use Rattle.papaya_grows.specs.Given.Moments.OnSlots.{HadRetired}
 use Rattle.papaya_grows.proofs.Given.Spots.Unreclaimed.{and_both}
 use Rattle.papaya_logged.specs.Given.SeizeReclaims.Roots.{all_lists}
 use Rattle.papaya_logged.specs.Given.Reclaims.Reclaims.{AllIsReclaimed, IsRootOf, ReclaimingTold}
-use Rattle.papaya_logged.specs.Given.Reclaiming.Reclaiming.{ReclaimingComesTo}
+use Rattle.papaya_grows.specs.Given.Scenes.Reclaiming.{ReclaimingComesTo}
 use Rattle.papaya_promises.specs.Protected.{EndsInside, InMidst, is_of_slots}
 use Rattle.papaya_promises.specs.Sheltered.{SectionsHold}
 use Rattle.papaya_promises.proofs.Protected.{all_is_ended_protected, slot_events_end_protected}
@@ -59,6 +58,7 @@ use Rattle.papaya_legal.proofs.OfAll.Steps.{all_chain, all_events_begin, all_goe
 use Rattle.papaya_legal.proofs.Over.{reading_like, runs_go_on}
 use Rattle.papaya_legal.proofs.SlotsAfter.{each_stores, like}
 use Rattle.papaya_legal.proofs.SlotsEnd.{slots_are_legal_but}
+use Rattle.papaya_grows.specs.Given.Scenes.Held.{IsAt}
 
 -- What such an event is.
 
@@ -143,49 +143,49 @@ module _ {K V : Type 0} (terms : Terms) (log : List (Entry K V)) (steps : ℕ) (
   nothing_then event.Close of_all none = record { pairs = none.pairs; tables = none.tables; left = none.left }
   nothing_then _ of_all none = absurd (cc of_all)
 
-module _ (K V S : Type 0) (same : K → K → Bool) (hash : K → ℕ) where
-  pub all_runs_to_its_end : AllRunsToItsEnd K V S same hash
+module _ (K V : Type 0) (same : K → K → Bool) (hash : ℕ → K → ℕ) where
+  pub all_runs_to_its_end : AllRunsToItsEnd K V same hash
   all_runs_to_its_end name terms log known s old small run its of_all before i all lists left behind begins n to over chain last done steps effects did pairs right = (but, reclaims, ran)
     where
       e : Entry K V
       e = record { event = its; outcome = Done; steps = steps; effects = effects }
 
       at_to : InAllEvent same name terms log known s.world lists to.come.did to.come.now to.come.notes to.come.scene to.all to.lists
-      at_to = all_chain K V S same hash name terms log known s.world lists i n (all_begun log known s old all lists) to chain (all_events_begin K V S same hash name terms log known s run all lists left)
+      at_to = all_chain K V same hash name terms log known s.world lists i n (all_begun log known s old all lists) to chain (all_events_begin K V same hash name terms log known s run all lists left)
 
       at_over : InAllEvent same name terms log known s.world lists effects over.come.now over.come.notes over.come.scene over.all over.lists
       at_over = subst (λ (fs : List Effect). InAllEvent same name terms log known s.world lists fs over.come.now over.come.notes over.come.scene over.all over.lists) did
-          (all_goes_on K V S same hash name terms log known s.world lists i to over last at_to)
+          (all_goes_on K V same hash name terms log known s.world lists i to over last at_to)
 
       -- nothing is behind the roots, and nothing is retired
       told : (last.leads.1.lists2 ≡ to.lists) × (last.leads.1.w2 ≡ to.come.scene.world)
       told = subst (λ (t : Settled (Node K V)). ReclaimingTold to.come.scene.world last.leads.1.w2 to.lists last.leads.1.lists2 t) done last.leads.1.told
 
-      reclaimed : AllIsReclaimed to.come.executor.roots last.leads.1.w2 last.leads.1.maps2
+      reclaimed : AllIsReclaimed to.come.held.roots last.leads.1.w2 last.leads.1.maps2
       reclaimed = last.leads.1.over done
 
-      free : (r : ℕ) → r < to.come.executor.roots → IsRootOf last.leads.1.maps2 r ⊎ IsFreeRoot to.come.scene.world r
+      free : (r : ℕ) → r < to.come.held.roots → IsRootOf last.leads.1.maps2 r ⊎ IsFreeRoot to.come.scene.world r
       free r l = subst (λ (w : World (Node K V)). IsRootOf last.leads.1.maps2 r ⊎ IsFreeRoot w r) told.1 (reclaimed.free r l)
 
       none_behind : (r : ℕ) → r < terms.roots → to.lists r ≡ []
       none_behind r l =
-          nothing_behind to.come.executor.batch_size to.come.executor.roots i to.all to.come.scene.world to.come.scene.maps to.lists last.leads.1.maps2 last.leads.1.as_they_were free to.all.stands
+          nothing_behind to.come.held.batch_size to.come.held.roots i to.all to.come.scene.world to.come.scene.maps to.lists last.leads.1.maps2 last.leads.1.as_they_were free to.all.stands
           last.under_way.under_way.point r (subst (λ (k : ℕ). r < k) (sym last.roots_are) l)
 
       nothing : all_lists over.lists terms.roots ≡ []
-      nothing = ap (λ (ls : ℕ → List ℕ). all_lists ls terms.roots) (ap (λ (z : AllCome K V S). z.lists) last.comes ∙ told.0) ∙ none_listed to.lists terms.roots none_behind
+      nothing = ap (λ (ls : ℕ → List ℕ). all_lists ls terms.roots) (ap (λ (z : AllCome K V). z.lists) last.comes ∙ told.0) ∙ none_listed to.lists terms.roots none_behind
 
       all_rest : (j : ℕ) → over.come.scene.world.row j ≡ Rests
-      all_rest j = subst (λ (z : AllCome K V S). z.come.scene.world.row j ≡ Rests) (sym last.comes) (reclaimed.nothing.0 j)
+      all_rest j = subst (λ (z : AllCome K V). z.come.scene.world.row j ≡ Rests) (sym last.comes) (reclaimed.nothing.0 j)
 
-      -- the executor is there
-      there : IsAt same hash over.come.executor over.come.scene
-      there = subst (λ (z : AllCome K V S). IsAt same hash over.come.executor z.come.scene) (sym last.comes)
-          (subst (λ (t : Settled (Node K V)). ReclaimingComesTo same hash to.come.scene i to.lists to.come.executor over.come.executor (scene_in to.come.scene last.leads.1.w2 last.leads.1.maps2)
+      -- the scene is that of what is held
+      there : IsAt same hash over.come.held over.come.scene
+      there = subst (λ (z : AllCome K V). IsAt same hash over.come.held z.come.scene) (sym last.comes)
+          (subst (λ (t : Settled (Node K V)). ReclaimingComesTo same hash to.come.scene i to.lists to.come.held over.come.held (scene_in to.come.scene last.leads.1.w2 last.leads.1.maps2)
           last.leads.1.lists2 over.all t) done last.leads.2).1
 
       none_retired : (b : ℕ) → is_retired b over.come.scene.world.log ≡ false
-      none_retired b = subst (λ (z : AllCome K V S). is_retired b z.come.scene.world.log ≡ false) (sym last.comes) (reclaimed.nothing.1 b)
+      none_retired b = subst (λ (z : AllCome K V). is_retired b z.come.scene.world.log ≡ false) (sym last.comes) (reclaimed.nothing.1 b)
 
       none_left : (k : ℕ) → is_left_over (over.come.now.place k) ≡ false
       none_left k = by (is_left_over (over.come.now.place k)) refl
@@ -199,7 +199,7 @@ module _ (K V S : Type 0) (same : K → K → Bool) (hash : K → ℕ) where
 
       back : NothingIsRetired (with_effects None None effects (moment log))
       back = subst (λ (z : Moment K V). NothingIsRetired z) at_over.worked
-          (none_at_rest K V S same hash name over.come.now over.come.notes over.come.scene over.come.executor there at_over.calls.kept all_rest none_retired none_left)
+          (none_at_rest K V same hash name over.come.now over.come.notes over.come.scene over.come.held there at_over.calls.kept all_rest none_retired none_left)
 
       reclaims : ReclaimsAll log e
       reclaims =
@@ -225,7 +225,7 @@ module _ (K V S : Type 0) (same : K → K → Bool) (hash : K → ℕ) where
 
       has_reclaimed : (changes : List Change) → CameByTurns deferred_word terms.batch_size terms.roots s.world changes
           → HasReclaimed deferred_word terms.batch_size terms.roots s.world changes over.come.scene.world
-      has_reclaimed changes came = all_reclaim_by_sets K V S same hash terms small i n (all_begun log known s old all lists) to over begins chain last done changes came
+      has_reclaimed changes came = all_reclaim_by_sets K V same hash terms small i n (all_begun log known s old all lists) to over begins chain last done changes came
 
       followed : ComesAlone its log → IsFollowed terms log e over.come.notes over.come.scene.world
       followed alone =

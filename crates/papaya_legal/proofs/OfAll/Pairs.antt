@@ -26,8 +26,6 @@ use Rattle.papaya_grows.specs.Given.Effects.Known.{Known}
 use Rattle.papaya_grows.specs.Given.Effects.declared.acting.Acting.TheVariants.{Row}
 use Rattle.papaya_grows.specs.Given.Effects.declared.role.Role.{Role}
 use Rattle.papaya_grows.specs.Given.Effects.declared.role.Role.TheVariants as role
-use Rattle.papaya_grows.specs.Given.Executor.IsAt.{Scene}
-use Rattle.papaya_grows.specs.Given.Executor.declared.executor.Executor.{Executor}
 use Rattle.papaya_grows.specs.Given.Follows.Blocks.{HasRole}
 use Rattle.papaya_grows.specs.Given.Hands.Hands.{IsInUse}
 use Rattle.papaya_grows.proofs.Given.Finishes.Ends.CountedBlocks.{times_here}
@@ -36,12 +34,12 @@ use Rattle.papaya_grows.proofs.Given.Follows.Operations.{LeavesBy}
 use Rattle.papaya_grows.specs.Given.Moments.Whole.{ShowsWhole}
 use Rattle.papaya_grows.specs.Given.Spots.Unreclaimed.{is_unreclaimed}
 use Rattle.papaya_logged.specs.Given.SeizeReclaims.Roots.{all_lists}
-use Rattle.papaya_logged.specs.Given.Reclaiming.Reclaiming.{IsReclaiming, ReclaimingLeads}
+use Rattle.papaya_grows.specs.Given.Scenes.Reclaiming.{IsReclaiming, ReclaimingLeads}
 use Rattle.papaya_grows.specs.Given.Lives.Behind.{EachWaits, IsLeft, LiesBehind}
 use Rattle.papaya_grows.specs.Given.Lives.Waiting.{waits_behind}
 use Rattle.papaya_grows.proofs.Given.Lives.Each.{found}
 use Rattle.papaya_grows.proofs.Given.Lives.Worlds.{Kept, runs_kept, start_kept, unretired}
-use Rattle.papaya_logged.proofs.ReclaimSteps.{left as leaves_there}
+use Rattle.papaya_logged.proofs.Reclaiming.Steps.{left as leaves_there}
 use Rattle.papaya_grows.specs.Given.Kept.Kept.{ShowsKept}
 use Rattle.papaya_models.specs.Numbers.{things_of}
 use Rattle.papaya_grows.specs.Given.Finds.Waiting.{FindsPlaced, PairsArePlaced, is_behind_one, is_let_go, is_out, once_if, owed_by, put_in}
@@ -53,6 +51,8 @@ use Rattle.papaya_legal.proofs.OfAll.Steps.{all_events_begin, all_goes_on}
 use Rattle.papaya_legal.proofs.OfAll.Tells.{gone_by, it_reclaims, none_gone, noted_or_free}
 use Rattle.papaya_legal.proofs.OfAll.Turns.{HasTurned, TakesFromRoots, TakesFromSlots, has_turned}
 use Rattle.papaya_legal.proofs.Slots.{each_join}
+use Rattle.papaya_grows.specs.Given.Scenes.Held.{Held}
+use Rattle.papaya_grows.specs.Given.Scenes.Scene.{Scene}
 
 -- a pair that is put behind tables waits behind one of them
 waits_of : (P : ℕ → Table → Type 0) (k : ℕ) (deferred : List Deferral) → 0 < put_in k deferred → EachWaits P deferred → (t : Table) × P k t
@@ -104,12 +104,12 @@ module _ {K V : Type 0} (v : Moment K V) where
       by true e = absurd (none t e)
       by false e = is
 
-module _ {K V S : Type 0} (same : K → K → Bool) (hash : K → ℕ) (name : ℕ → List ℕ) (m : Moment K V) (known : Known) (s : Scene K V) (whole : ShowsWhole same name m known s)
-    (kept : ShowsKept name m known s) (old new : Executor K V S) (i : ℕ) (lists : ℕ → List ℕ) (before after : ReclaimAll) (told : Settled (Node K V)) (under_way : IsReclaiming same hash old s i lists before)
+module _ {K V : Type 0} (same : K → K → Bool) (hash : ℕ → K → ℕ) (name : ℕ → List ℕ) (m : Moment K V) (known : Known) (s : Scene K V) (whole : ShowsWhole same name m known s)
+    (kept : ShowsKept name m known s) (old new : Held K V) (i : ℕ) (lists : ℕ → List ℕ) (before after : ReclaimAll) (told : Settled (Node K V)) (under_way : IsReclaiming same hash old s i lists before)
     (leads : ReclaimingLeads same hash s i lists old new before after told) (roots : ℕ) (roots_are : old.roots ≡ roots) (placed : PairsArePlaced m) (none : m.calls ≡ [])
     (behind : BehindAreLeft roots m known lists) where
   abbrev x : Changed
-  x = new.memory.changed
+  x = new.changed
 
   abbrev w : World (Node K V)
   w = s.world
@@ -118,7 +118,7 @@ module _ {K V S : Type 0} (same : K → K → Bool) (hash : K → ℕ) (name : �
   effects = effects_of Row known x
 
   on_slots : is_on_slots before.stands ≡ true → leads.1.lists2 ≡ lists
-  on_slots = slots_leave_roots K V S same hash s i lists old new before after told under_way leads
+  on_slots = slots_leave_roots K V same hash s i lists old new before after told under_way leads
 
   turned : HasTurned same hash name m known s whole kept old new i lists before after told under_way leads roots roots_are on_slots
   turned = has_turned same hash name m known s whole kept old new i lists before after told under_way leads roots roots_are on_slots
@@ -258,34 +258,34 @@ module _ {K V S : Type 0} (same : K → K → Bool) (hash : K → ℕ) (name : �
 
 -- Wherever a chain of steps has led.
 
-module _ (K V S : Type 0) (same : K → K → Bool) (hash : K → ℕ) where
-  record PairsGo (roots : ℕ) (log : List (Entry K V)) (x : AllCome K V S) : Type 0 where
+module _ (K V : Type 0) (same : K → K → Bool) (hash : ℕ → K → ℕ) where
+  record PairsGo (roots : ℕ) (log : List (Entry K V)) (x : AllCome K V) : Type 0 where
     pub finds : AtEachEffect FindsPair None None x.come.did (moment log)
     pub placed : PairsArePlaced x.come.now
     pub none : x.come.now.calls ≡ []
     pub behind : BehindAreLeft roots x.come.now x.come.notes x.lists
 
-  pub all_find_pairs : AllFindPairs K V S same hash
+  pub all_find_pairs : AllFindPairs K V same hash
   all_find_pairs name terms log known s old run none i all lists left behind n to chain =
       (chains_keep Both (AllSteps same hash terms i) keeps n (all_begun log known s old all lists) to chain
-      (all_events_begin K V S same hash name terms log known s run all lists left, record { finds = tt; placed = run.order.0.waits.placed; none = none; behind = behind })).1.finds
+      (all_events_begin K V same hash name terms log known s run all lists left, record { finds = tt; placed = run.order.0.waits.placed; none = none; behind = behind })).1.finds
     where
-      Both : AllCome K V S → Type 0
+      Both : AllCome K V → Type 0
       Both x = InAllEvent same name terms log known s.world lists x.come.did x.come.now x.come.notes x.come.scene x.all x.lists × PairsGo terms.roots log x
 
-      keeps : (x y : AllCome K V S) → AllSteps same hash terms i x y → Both x → Both y
+      keeps : (x y : AllCome K V) → AllSteps same hash terms i x y → Both x → Both y
       keeps x y step (midst, go) = (
-        all_goes_on K V S same hash name terms log known s.world lists i x y step midst,
+        all_goes_on K V same hash name terms log known s.world lists i x y step midst,
         subst (PairsGo terms.roots log) (sym step.comes) (record {
           finds = each_join FindsPair None None x.come.did _ (moment log) go.finds
-              (subst (λ (z : Moment K V). AtEachEffect FindsPair None None (effects_of Row x.come.notes y.come.executor.memory.changed) z) midst.worked
-              (step_finds same hash name x.come.now x.come.notes x.come.scene midst.calls.whole midst.calls.kept x.come.executor y.come.executor i x.lists x.all y.all step.said step.under_way step.leads
+              (subst (λ (z : Moment K V). AtEachEffect FindsPair None None (effects_of Row x.come.notes y.come.held.changed) z) midst.worked
+              (step_finds same hash name x.come.now x.come.notes x.come.scene midst.calls.whole midst.calls.kept x.come.held y.come.held i x.lists x.all y.all step.said step.under_way step.leads
               terms.roots step.roots_are go.placed go.none go.behind));
-          placed = step_placed same hash name x.come.now x.come.notes x.come.scene midst.calls.whole midst.calls.kept x.come.executor y.come.executor i x.lists x.all y.all step.said step.under_way step.leads
+          placed = step_placed same hash name x.come.now x.come.notes x.come.scene midst.calls.whole midst.calls.kept x.come.held y.come.held i x.lists x.all y.all step.said step.under_way step.leads
               terms.roots step.roots_are go.placed go.none go.behind;
-          none = step_calls same hash name x.come.now x.come.notes x.come.scene midst.calls.whole midst.calls.kept x.come.executor y.come.executor i x.lists x.all y.all step.said step.under_way step.leads
+          none = step_calls same hash name x.come.now x.come.notes x.come.scene midst.calls.whole midst.calls.kept x.come.held y.come.held i x.lists x.all y.all step.said step.under_way step.leads
               terms.roots step.roots_are go.placed go.none go.behind;
-          behind = step_behind same hash name x.come.now x.come.notes x.come.scene midst.calls.whole midst.calls.kept x.come.executor y.come.executor i x.lists x.all y.all step.said step.under_way step.leads
+          behind = step_behind same hash name x.come.now x.come.notes x.come.scene midst.calls.whole midst.calls.kept x.come.held y.come.held i x.lists x.all y.all step.said step.under_way step.leads
               terms.roots step.roots_are go.placed go.none go.behind;
         }),
       )

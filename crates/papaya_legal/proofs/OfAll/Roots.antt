@@ -28,9 +28,6 @@ use Rattle.papaya_grows.specs.Given.Teller.Tells.{StepsTold}
 use Rattle.papaya_grows.specs.Given.Teller.declared.changed.Changed.{Changed}
 use Rattle.papaya_grows.specs.Given.Teller.declared.changed.Changed.TheVariants as changed
 use Rattle.papaya_grows.proofs.Given.Callers.Together.Came.{came_reached}
-use Rattle.papaya_grows.specs.Given.Executor.IsAt.{Scene}
-use Rattle.papaya_grows.specs.Given.Executor.declared.executor.Executor.{Executor}
-use Rattle.papaya_grows.proofs.Given.Executor.Forgotten.{as_step}
 use Rattle.papaya_grows.proofs.Given.Finishes.Ends.CountedBlocks.{times-append}
 use Rattle.papaya_grows.specs.Given.Finishes.FactsEnds.{TakesLeft, WritesRoot, events_of}
 use Rattle.papaya_grows.specs.Given.Follows.Steps.{TakesNone}
@@ -39,13 +36,16 @@ use Rattle.papaya_grows.proofs.Given.Moments.OnSlots.{none_some}
 use Rattle.papaya_grows.proofs.Given.Others.Outcomes.{told_in}
 use Rattle.papaya_logged.specs.Given.Reclaims.Reclaims.{HasTaken, ReclaimingAt, ReclaimingTold}
 use Rattle.papaya_logged.specs.Given.Reclaims.Slots.{AreItsRows, IsForSlots}
-use Rattle.papaya_logged.specs.Given.Reclaiming.Reclaiming.{IsReclaiming, ReclaimingLeads}
-use Rattle.papaya_logged.proofs.Given.Reclaiming.Reclaims.{may_step}
+use Rattle.papaya_grows.specs.Given.Scenes.Reclaiming.{IsReclaiming, ReclaimingLeads}
+use Rattle.papaya_grows.proofs.Given.Scenes.May.{may_reclaim}
 use Rattle.papaya_grows.specs.Given.Lives.Behind.{IsLeft}
-use Rattle.papaya_logged.proofs.ReclaimFinds.{left_before, root_value, step_handed}
+use Rattle.papaya_logged.proofs.Reclaiming.Finds.{left_before, root_value, step_handed}
 use Rattle.papaya_logged.proofs.ReclaimGives.{taken_gone}
-use Rattle.papaya_logged.proofs.ReclaimRows.{begun_kept}
+use Rattle.papaya_logged.proofs.Reclaiming.Rows.{begun_kept}
 use Rattle.papaya_legal.specs.AllEvents.{SlotsLeaveRoots}
+use Rattle.papaya_grows.proofs.Given.Scenes.Told.{as_step}
+use Rattle.papaya_grows.specs.Given.Scenes.Held.{Held}
+use Rattle.papaya_grows.specs.Given.Scenes.Scene.{Scene}
 
 -- What rows take away is written down.
 
@@ -120,7 +120,7 @@ module _ {K V : Type 0} (size : ℕ) (w : World (Node K V)) (r : Reached deferre
   by_settle d is (d2, settled.Gave value) st = by_row (Settles d) is (settles_on w i d m2 (d2, settled.Gave value)) (m2, (d2, settled.Gave value), st, refl) none
   by_settle d is (d2, settled.Done) st = by_row (Settles d) is (settles_on w i d m2 (d2, settled.Done)) (m2, (d2, settled.Done), st, refl) none
 
-module _ {K V S : Type 0} (same : K → K → Bool) (hash : K → ℕ) (s : Scene K V) (i : ℕ) (lists : ℕ → List ℕ) (old new : Executor K V S) (before after : ReclaimAll) (told : Settled (Node K V))
+module _ {K V : Type 0} (same : K → K → Bool) (hash : ℕ → K → ℕ) (s : Scene K V) (i : ℕ) (lists : ℕ → List ℕ) (old new : Held K V) (before after : ReclaimAll) (told : Settled (Node K V))
     (under_way : IsReclaiming same hash old s i lists before) (leads : ReclaimingLeads same hash s i lists old new before after told) (on : is_on_slots before.stands ≡ true) where
   abbrev w : World (Node K V)
   w = s.world
@@ -129,7 +129,7 @@ module _ {K V S : Type 0} (same : K → K → Bool) (hash : K → ℕ) (s : Scen
   w2 = leads.1.w2
 
   abbrev x : Changed
-  x = new.memory.changed
+  x = new.changed
 
   here : Reached deferred_word old.batch_size w
   here = came_reached old.batch_size w under_way.under_way.stand.together.makings.standing.came
@@ -137,9 +137,9 @@ module _ {K V S : Type 0} (same : K → K → Bool) (hash : K → ℕ) (s : Scen
   leaves : LeavesBy w.memory w2.memory x
   leaves =
       subst (λ (n : Mem (Node K V)). LeavesBy w.memory n x) (sym leads.1.memory)
-      (subst (λ (n : Mem (Node K V)). LeavesBy n new.memory.memory x) (sym under_way.memory)
-      (operated_leaves old.memory.memory new.memory.memory x
-      (operated old.memory.memory new.memory.memory x (all.reclaim_all_plan deferred_word was_left before) (after, told) (may_step same hash old s i lists before under_way) leads.0)))
+      (subst (λ (n : Mem (Node K V)). LeavesBy n new.memory x) (sym under_way.memory)
+      (operated_leaves old.memory new.memory x
+      (operated old.memory new.memory x (all.reclaim_all_plan deferred_word was_left before) (after, told) (may_reclaim same hash old s i lists before under_way) leads.0)))
 
   -- a block that is taken away
   module _ (b : ℕ) (value : Node K V) (held : value_at w.memory b ≡ Some value) (gone : value_at w2.memory b ≡ None) where
@@ -149,26 +149,26 @@ module _ {K V S : Type 0} (same : K → K → Bool) (hash : K → ℕ) (s : Scen
     some : IsSome (value_at w.memory b)
     some = subst (λ (o : Option (Node K V)). IsSome o) (sym held) refl
 
-    gone_new : value_at new.memory.memory b ≡ None
+    gone_new : value_at new.memory b ≡ None
     gone_new = ap (λ (n : Mem (Node K V)). value_at n b) (sym leads.1.memory) ∙ gone
 
     quiet : TakesNone x → ⊥
     quiet none = subst TakesNone took none
 
     -- the collector had it
-    pub handed : (p : Reclaiming) → is_on_slots p ≡ true → StepsTold K V (ReclaimAll × Settled (Node K V)) old.memory.memory changed.Nothing (all.plan_at deferred_word was_left before p) new.memory.memory x (after, told)
+    pub handed : (p : Reclaiming) → is_on_slots p ≡ true → StepsTold K V (ReclaimAll × Settled (Node K V)) old.memory changed.Nothing (all.plan_at deferred_word was_left before p) new.memory x (after, told)
         → ReclaimingAt old.batch_size old.roots i before w s.maps lists p → w.hand b ≡ Handed
     handed (at.Leaves slot it) on_it st point =
-        let inner = told_in old.memory.memory new.memory.memory x (all.within (λ (l : Leave). all.standing before (at.Leaves slot l)) (all.next_head before slot)) (leave.leave_plan deferred_word it) (after, told) st in
-        by_leave old.batch_size w here i new.memory.memory b some gone_new it point.2.2.row_is inner.0
-        (subst (λ (n : Mem (Node K V)). Steps Took value_at n (leave.leave_plan deferred_word it) new.memory.memory inner.0) (sym under_way.memory)
-        (as_step old.memory.memory changed.Nothing (leave.leave_plan deferred_word it) new.memory.memory x inner.0 inner.2))
+        let inner = told_in old.memory new.memory x (all.within (λ (l : Leave). all.standing before (at.Leaves slot l)) (all.next_head before slot)) (leave.leave_plan deferred_word it) (after, told) st in
+        by_leave old.batch_size w here i new.memory b some gone_new it point.2.2.row_is inner.0
+        (subst (λ (n : Mem (Node K V)). Steps Took value_at n (leave.leave_plan deferred_word it) new.memory inner.0) (sym under_way.memory)
+        (as_step old.memory changed.Nothing (leave.leave_plan deferred_word it) new.memory x inner.0 inner.2))
     handed (at.Flushes slot it) on_it st point =
-        let inner = told_in old.memory.memory new.memory.memory x (all.within (λ (l : Settle). all.standing before (at.Flushes slot l)) (all.next_batch (record before { again = true }) slot))
+        let inner = told_in old.memory new.memory x (all.within (λ (l : Settle). all.standing before (at.Flushes slot l)) (all.next_batch (record before { again = true }) slot))
         (settle.settle_plan deferred_word it) (after, told) st in
-        by_settle old.batch_size w here i new.memory.memory b some gone_new it point.2.1.row_is inner.0
-        (subst (λ (n : Mem (Node K V)). Steps Took value_at n (settle.settle_plan deferred_word it) new.memory.memory inner.0) (sym under_way.memory)
-        (as_step old.memory.memory changed.Nothing (settle.settle_plan deferred_word it) new.memory.memory x inner.0 inner.2))
+        by_settle old.batch_size w here i new.memory b some gone_new it point.2.1.row_is inner.0
+        (subst (λ (n : Mem (Node K V)). Steps Took value_at n (settle.settle_plan deferred_word it) new.memory inner.0) (sym under_way.memory)
+        (as_step old.memory changed.Nothing (settle.settle_plan deferred_word it) new.memory x inner.0 inner.2))
     handed (at.Heads slot) on_it st point = absurd (quiet (subst TakesNone (sym st.1.1) tt))
     handed (at.Retakes slot) on_it st point = absurd (quiet (subst TakesNone (sym st.1.1) tt))
     handed (at.Batches slot) on_it st point = absurd (quiet (subst TakesNone (sym st.1.1) tt))
@@ -212,5 +212,5 @@ module _ {K V S : Type 0} (same : K → K → Bool) (hash : K → ℕ) (s : Scen
       by (settled.Gave value) say = by_taken say.0 value say.1 say.2 say.3
       by settled.Done say = say.0
 
-pub slots_leave_roots : (K V S : Type 0) (same : K → K → Bool) (hash : K → ℕ) → SlotsLeaveRoots K V S same hash
-slots_leave_roots K V S same hash s i lists old new before after said under_way leads on = stays same hash s i lists old new before after said under_way leads on
+pub slots_leave_roots : (K V : Type 0) (same : K → K → Bool) (hash : ℕ → K → ℕ) → SlotsLeaveRoots K V same hash
+slots_leave_roots K V same hash s i lists old new before after said under_way leads on = stays same hash s i lists old new before after said under_way leads on

@@ -25,19 +25,17 @@ use Rattle.papaya_grows.specs.Given.Callers.Together.{UnderWay, OnKey}
 use Rattle.papaya_grows.specs.Given.Effects.Effects.{effects_of, known_after}
 use Rattle.papaya_grows.specs.Given.Effects.Known.{Known}
 use Rattle.papaya_grows.specs.Given.Effects.declared.acting.Acting.TheVariants.{Row}
-use Rattle.papaya_grows.specs.Given.Executor.IsAt.{Scene}
-use Rattle.papaya_grows.specs.Given.Executor.declared.executor.Executor.{Executor}
 use Rattle.papaya_grows.proofs.Given.Follows.Operations.{Operated, operated}
 use Rattle.papaya_grows.specs.Given.Moments.Numbers.{NumbersMaps}
 use Rattle.papaya_grows.specs.Given.Moments.Whole.{ShowsWhole}
 use Rattle.papaya_grows.proofs.Given.Moments.NewMaps.{effects_keep_pairs}
 use Rattle.papaya_grows.proofs.Given.Others.RowPlans.{TellsRow}
 use Rattle.papaya_grows.proofs.Given.Histories.Questions.{effects_keep_questions}
-use Rattle.papaya_logged.specs.Given.Reclaiming.Reclaiming.{IsReclaiming, ReclaimingLeads}
-use Rattle.papaya_logged.proofs.Given.Reclaiming.Reclaims.{may_step}
-use Rattle.papaya_logged.proofs.ReclaimRest.{reclaiming_found, reclaiming_keeps}
-use Rattle.papaya_logged.proofs.ReclaimRows.{EmptiesRoot, reclaiming_tells}
-use Rattle.papaya_logged.proofs.ReclaimSteps.{reclaiming_whole}
+use Rattle.papaya_grows.specs.Given.Scenes.Reclaiming.{IsReclaiming, ReclaimingLeads}
+use Rattle.papaya_grows.proofs.Given.Scenes.May.{may_reclaim}
+use Rattle.papaya_logged.proofs.Reclaiming.Rest.{reclaiming_found, reclaiming_keeps}
+use Rattle.papaya_logged.proofs.Reclaiming.Rows.{EmptiesRoot, reclaiming_tells}
+use Rattle.papaya_logged.proofs.Reclaiming.Steps.{reclaiming_whole}
 use Rattle.papaya_promises.specs.Reading.{ShowsReading}
 use Rattle.papaya_grows.proofs.Given.Settles.Uncounted.{CountsNowhere}
 use Rattle.papaya_grows.specs.Given.Shards.ShardWords.{ShowsCounters, ShowsShards}
@@ -49,6 +47,8 @@ use Rattle.papaya_legal.proofs.Sourced.{reclaimed_aside, same_maps_aside}
 use Rattle.papaya_grows.proofs.Finding.Others.{finding_of_none}
 use Rattle.papaya_legal.proofs.OfAll.Tells.{gone_by, it_reclaims, none_under_way}
 use Rattle.papaya_legal.proofs.Uncounted.{none_counted}
+use Rattle.papaya_grows.specs.Given.Scenes.Held.{Held}
+use Rattle.papaya_grows.specs.Given.Scenes.Scene.{Scene}
 
 -- Maps have their numbers still once something is reclaimed.
 
@@ -77,11 +77,11 @@ nowhere : (known : Known) (x : Changed) → TellsRow x ⊎ EmptiesRoot x → Cou
 nowhere known x (inl tells) b field old new of is counter = absurd (subst TellsRow is tells)
 nowhere known x (inr empties) b field old new of is counter = absurd (subst EmptiesRoot is empties)
 
-module _ {K V S : Type 0} (same : K → K → Bool) (hash : K → ℕ) (name : ℕ → List ℕ) (log : List (Entry K V)) (m : Moment K V) (known : Known) (s : Scene K V) (calls : ShowsCalls same name log m known s)
-    (old new : Executor K V S) (i : ℕ) (lists : ℕ → List ℕ) (before after : ReclaimAll) (told : Settled (Node K V)) (under_way : IsReclaiming same hash old s i lists before)
+module _ {K V : Type 0} (same : K → K → Bool) (hash : ℕ → K → ℕ) (name : ℕ → List ℕ) (log : List (Entry K V)) (m : Moment K V) (known : Known) (s : Scene K V) (calls : ShowsCalls same name log m known s)
+    (old new : Held K V) (i : ℕ) (lists : ℕ → List ℕ) (before after : ReclaimAll) (told : Settled (Node K V)) (under_way : IsReclaiming same hash old s i lists before)
     (leads : ReclaimingLeads same hash s i lists old new before after told) where
   abbrev x : Changed
-  x = new.memory.changed
+  x = new.changed
 
   abbrev effects : List Effect
   effects = effects_of Row known x
@@ -104,8 +104,8 @@ module _ {K V S : Type 0} (same : K → K → Bool) (hash : K → ℕ) (name : �
   made : Operated s.world.memory leads.1.w2.memory x
   made =
       subst (λ (n : Mem (Node K V)). Operated s.world.memory n x) (sym leads.1.memory)
-      (subst (λ (n : Mem (Node K V)). Operated n new.memory.memory x) (sym under_way.memory)
-      (operated old.memory.memory new.memory.memory x (reclaim_all_plan deferred_word was_left before) (after, told) (may_step same hash old s i lists before under_way) leads.0))
+      (subst (λ (n : Mem (Node K V)). Operated n new.memory x) (sym under_way.memory)
+      (operated old.memory new.memory x (reclaim_all_plan deferred_word was_left before) (after, told) (may_reclaim same hash old s i lists before under_way) leads.0))
 
   shards_then : ShowsShards v t
   shards_then n st is shard few =
@@ -114,7 +114,7 @@ module _ {K V S : Type 0} (same : K → K → Bool) (hash : K → ℕ) (name : �
       let held = calls.counters.shards n was.0 was.1 shard (subst (λ (z : Setting). shard ≤ z.mask) was.2 few) in
       let now = (leads.1.next.stand.together.makings.standing.each n st is).ground.map.shards shard few in
       let one = word_kept known s.world.memory leads.1.w2.memory x made
-      (nowhere known x (reclaiming_tells old.memory.memory new.memory.memory x before before.stands (after, told) leads.0))
+      (nowhere known x (reclaiming_tells old.memory new.memory x before before.stands (after, told) leads.0))
       st.setting.counter shard (m.shards n shard) now.0 n (ap (λ (z : Setting). known.roles z.counter) was.2 ∙ counter)
       (ap (λ (z : Setting). word_at s.world.memory (Word z.counter shard)) was.2 ∙ held) now.1 in
       now.1 ∙ ap Some one ∙ ap (λ (f : ℕ → ℕ → ℕ). Some (f n shard)) (sym (none_shards None effects m))

@@ -21,13 +21,11 @@ use Rattle.papaya_grows.specs.Given.Schedules.Terms.{Terms}
 use Rattle.papaya_grows.specs.Given.Effects.Effects.{effects_of, known_after}
 use Rattle.papaya_grows.specs.Given.Effects.Known.{Known}
 use Rattle.papaya_grows.specs.Given.Effects.declared.acting.Acting.TheVariants.{Row}
-use Rattle.papaya_grows.specs.Given.Executor.IsAt.{Scene}
-use Rattle.papaya_grows.specs.Given.Executor.declared.executor.Executor.{Executor}
 use Rattle.papaya_grows.specs.Given.Moments.OnSlots.{HadRetired}
 use Rattle.papaya_grows.proofs.Given.Moments.After.{effects_after}
 use Rattle.papaya_grows.proofs.Given.Spots.Unreclaimed.{and_both}
-use Rattle.papaya_logged.specs.Given.Reclaiming.Reclaiming.{IsReclaiming, ReclaimingLeads}
-use Rattle.papaya_logged.proofs.ReclaimRest.{reclaiming_found}
+use Rattle.papaya_grows.specs.Given.Scenes.Reclaiming.{IsReclaiming, ReclaimingLeads}
+use Rattle.papaya_logged.proofs.Reclaiming.Rest.{reclaiming_found}
 use Rattle.papaya_promises.proofs.Weights.{grants_add_up, operations_are_single}
 use Rattle.papaya_models.proofs.MapEvents.{moments_note_once}
 use Rattle.papaya_legal.specs.AllEvents.{AllChain, AllCome, AllEventsBegin, AllSteps, InAllEvent, scene_in}
@@ -37,6 +35,8 @@ use Rattle.papaya_legal.proofs.OfAll.Stays.{calls_then, reading_then}
 use Rattle.papaya_legal.proofs.OfAll.Tells.{gone_by, it_reclaims}
 use Rattle.papaya_legal.proofs.OfAll.Turns.{left_stays, takes_in_turn}
 use Rattle.papaya_legal.proofs.Slots.{each_join}
+use Rattle.papaya_grows.specs.Given.Scenes.Held.{Held}
+use Rattle.papaya_grows.specs.Given.Scenes.Scene.{Scene}
 
 both_reclaim : (done more : List Effect) → list_all is_reclaiming done ≡ true → list_all is_reclaiming more ≡ true → list_all is_reclaiming (done ++ more) ≡ true
 both_reclaim [] more first later = later
@@ -48,38 +48,38 @@ things_reclaim : (ys : List Thing) → list_all is_reclaiming (map Reclaimed ys)
 things_reclaim [] = refl
 things_reclaim (y ∷ ys) = things_reclaim ys
 
-module _ {K V S : Type 0} (same : K → K → Bool) (hash : K → ℕ) (name : ℕ → List ℕ) (terms : Terms) (log : List (Entry K V)) (first : Known) (began : World (Node K V)) (behind : ℕ → List ℕ)
+module _ {K V : Type 0} (same : K → K → Bool) (hash : ℕ → K → ℕ) (name : ℕ → List ℕ) (terms : Terms) (log : List (Entry K V)) (first : Known) (began : World (Node K V)) (behind : ℕ → List ℕ)
     (done : List Effect) (m : Moment K V) (known : Known) (s : Scene K V) (before after : ReclaimAll) (lists : ℕ → List ℕ) (midst : InAllEvent same name terms log first began behind done m known s before lists)
-    (old new : Executor K V S) (i : ℕ) (told : Settled (Node K V)) (under_way : IsReclaiming same hash old s i lists before) (roots_are : old.roots ≡ terms.roots)
+    (old new : Held K V) (i : ℕ) (told : Settled (Node K V)) (under_way : IsReclaiming same hash old s i lists before) (roots_are : old.roots ≡ terms.roots)
     (leads : ReclaimingLeads same hash s i lists old new before after told) where
   abbrev effects : List Effect
-  effects = effects_of Row known new.memory.changed
+  effects = effects_of Row known new.changed
 
   had_retired : AtEachEffect HadRetired None None effects m
   had_retired = (reclaiming_found same hash name m known s midst.calls.whole midst.calls.kept old new i lists before after told under_way leads).0
 
   on_slots : is_on_slots before.stands ≡ true → leads.1.lists2 ≡ lists
-  on_slots = slots_leave_roots K V S same hash s i lists old new before after told under_way leads
+  on_slots = slots_leave_roots K V same hash s i lists old new before after told under_way leads
 
   -- so it is after a step
-  goes_on : InAllEvent same name terms log first began behind (done ++ effects) (with_effects None None effects m) (known_after Row new.memory.changed known) (scene_in s leads.1.w2 leads.1.maps2) after
+  goes_on : InAllEvent same name terms log first began behind (done ++ effects) (with_effects None None effects m) (known_after Row new.changed known) (scene_in s leads.1.w2 leads.1.maps2) after
       leads.1.lists2
   goes_on = record {
     once = midst.once;
     calls = calls_then same hash name log m known s midst.calls old new i lists before after told under_way leads;
     reading = reading_then same hash name log m known s midst.calls old new i lists before after told under_way leads;
     worked = ap (λ (z : Moment K V). with_effects None None effects z) midst.worked ∙ sym (effects_after None None done effects (moment log));
-    granted = grants_add_up done effects midst.granted (operations_are_single Row known new.memory.changed).1;
+    granted = grants_add_up done effects midst.granted (operations_are_single Row known new.changed).1;
     may = both_reclaim done effects midst.may
         (subst (λ (fs : List Effect). list_all is_reclaiming fs ≡ true) (sym (it_reclaims same hash name m known s midst.calls.whole midst.calls.kept old new i lists before after told under_way leads))
-        (things_reclaim (gone_by known new.memory.changed)));
+        (things_reclaim (gone_by known new.changed)));
     had = each_join HadRetired None None done effects (moment log) midst.had (subst (λ (z : Moment K V). AtEachEffect HadRetired None None effects z) midst.worked had_retired);
     turn = takes_in_turn same hash name m known s midst.calls.whole midst.calls.kept old new i lists before after told under_way leads terms.roots roots_are on_slots first began behind done midst.turn;
     left = left_stays same hash name m known s midst.calls.whole midst.calls.kept old new i lists before after told under_way leads terms.roots roots_are on_slots midst.left;
   }
 
-module _ (K V S : Type 0) (same : K → K → Bool) (hash : K → ℕ) where
-  pub all_events_begin : AllEventsBegin K V S same hash
+module _ (K V : Type 0) (same : K → K → Bool) (hash : ℕ → K → ℕ) where
+  pub all_events_begin : AllEventsBegin K V same hash
   all_events_begin name terms log known s run all lists left = record {
     once = moments_note_once K V same name (moment log) known s run.calls.whole;
     calls = run.calls;
@@ -101,18 +101,18 @@ module _ (K V S : Type 0) (same : K → K → Bool) (hash : K → ℕ) where
   }
 
   -- from one come to the next
-  pub all_goes_on : (name : ℕ → List ℕ) (terms : Terms) (log : List (Entry K V)) (first : Known) (began : World (Node K V)) (behind : ℕ → List ℕ) (i : ℕ) (x y : AllCome K V S)
+  pub all_goes_on : (name : ℕ → List ℕ) (terms : Terms) (log : List (Entry K V)) (first : Known) (began : World (Node K V)) (behind : ℕ → List ℕ) (i : ℕ) (x y : AllCome K V)
       → AllSteps same hash terms i x y → InAllEvent same name terms log first began behind x.come.did x.come.now x.come.notes x.come.scene x.all x.lists
       → InAllEvent same name terms log first began behind y.come.did y.come.now y.come.notes y.come.scene y.all y.lists
   all_goes_on name terms log first began behind i x y step midst = subst Midst (sym step.comes)
-      (goes_on same hash name terms log first began behind x.come.did x.come.now x.come.notes x.come.scene x.all y.all x.lists midst x.come.executor y.come.executor i step.said step.under_way
+      (goes_on same hash name terms log first began behind x.come.did x.come.now x.come.notes x.come.scene x.all y.all x.lists midst x.come.held y.come.held i step.said step.under_way
       step.roots_are step.leads)
     where
-      Midst : AllCome K V S → Type 0
+      Midst : AllCome K V → Type 0
       Midst z = InAllEvent same name terms log first began behind z.come.did z.come.now z.come.notes z.come.scene z.all z.lists
 
-  pub all_chain : AllChain K V S same hash
+  pub all_chain : AllChain K V same hash
   all_chain name terms log first began behind i n from to chain so = chains_keep Midst (AllSteps same hash terms i) (all_goes_on name terms log first began behind i) n from to chain so
     where
-      Midst : AllCome K V S → Type 0
+      Midst : AllCome K V → Type 0
       Midst z = InAllEvent same name terms log first began behind z.come.did z.come.now z.come.notes z.come.scene z.all z.lists

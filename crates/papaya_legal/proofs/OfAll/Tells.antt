@@ -37,21 +37,21 @@ use Rattle.papaya_grows.specs.Given.Effects.Known.{Known}
 use Rattle.papaya_grows.specs.Given.Effects.declared.acting.Acting.TheVariants.{Row}
 use Rattle.papaya_grows.specs.Given.Effects.declared.role.Role.{Role}
 use Rattle.papaya_grows.specs.Given.Effects.declared.role.Role.TheVariants as role
-use Rattle.papaya_grows.specs.Given.Executor.IsAt.{Scene}
-use Rattle.papaya_grows.specs.Given.Executor.declared.executor.Executor.{Executor}
 use Rattle.papaya_grows.specs.Given.Follows.Steps.{TakesNone}
 use Rattle.papaya_grows.proofs.Given.Follows.Told.{roomed_as_many}
 use Rattle.papaya_grows.proofs.Given.Others.RowPlans.{TellsRow}
 use Rattle.papaya_grows.specs.Given.Moments.Whole.{ShowsWhole}
 use Rattle.papaya_grows.specs.Given.Owes.Tables.{HoldsTable}
 use Rattle.papaya_logged.specs.Given.Reclaims.Reclaims.{HasTaken, ReclaimingTold}
-use Rattle.papaya_logged.specs.Given.Reclaiming.Reclaiming.{IsReclaiming, ReclaimingLeads}
+use Rattle.papaya_grows.specs.Given.Scenes.Reclaiming.{IsReclaiming, ReclaimingLeads}
 use Rattle.papaya_logged.proofs.ReclaimGives.{GivesOr, reclaiming_gives, taken_gone}
-use Rattle.papaya_logged.proofs.ReclaimRows.{EmptiesRoot, reclaiming_tells}
-use Rattle.papaya_logged.proofs.ReclaimSteps.{left, no_call, nothing_there, root_none}
+use Rattle.papaya_logged.proofs.Reclaiming.Rows.{EmptiesRoot, reclaiming_tells}
+use Rattle.papaya_logged.proofs.Reclaiming.Steps.{left, no_call, nothing_there, root_none}
 use Rattle.papaya_grows.specs.Given.Kept.Kept.{ShowsKept}
 use Rattle.papaya_models.specs.Numbers.{things_of}
 use Rattle.papaya_models.proofs.RowSteps.{roles_after}
+use Rattle.papaya_grows.specs.Given.Scenes.Held.{Held}
+use Rattle.papaya_grows.specs.Given.Scenes.Scene.{Scene}
 
 -- It asks for no room.
 
@@ -167,18 +167,18 @@ module _ (known : Known) where
   row_notes (changed.Took c) tells none b = absurd none
   row_notes (changed.Roomed bucket had) tells none b = ap (λ (f : ℕ → Role). f b) (roomed_as_many Row known bucket had).0
 
-module _ {K V S : Type 0} (same : K → K → Bool) (hash : K → ℕ) (name : ℕ → List ℕ) (m : Moment K V) (known : Known) (s : Scene K V) (whole : ShowsWhole same name m known s)
-    (kept : ShowsKept name m known s) (old new : Executor K V S) (i : ℕ) (lists : ℕ → List ℕ) (before after : ReclaimAll) (told : Settled (Node K V)) (under_way : IsReclaiming same hash old s i lists before)
+module _ {K V : Type 0} (same : K → K → Bool) (hash : ℕ → K → ℕ) (name : ℕ → List ℕ) (m : Moment K V) (known : Known) (s : Scene K V) (whole : ShowsWhole same name m known s)
+    (kept : ShowsKept name m known s) (old new : Held K V) (i : ℕ) (lists : ℕ → List ℕ) (before after : ReclaimAll) (told : Settled (Node K V)) (under_way : IsReclaiming same hash old s i lists before)
     (leads : ReclaimingLeads same hash s i lists old new before after told) where
   abbrev x : Changed
-  x = new.memory.changed
+  x = new.changed
 
   tells : TellsRow x ⊎ EmptiesRoot x
-  tells = reclaiming_tells old.memory.memory new.memory.memory x before before.stands (after, told) leads.0
+  tells = reclaiming_tells old.memory new.memory x before before.stands (after, told) leads.0
 
   not_roomed : IsNotRoomed x
   not_roomed =
-      plan_no_room old.memory.memory new.memory.memory x (all.reclaim_all_plan (deferred_word {K = K} {V = V}) was_left before) (after, told) leads.0 (all_no_room K V before before.stands)
+      plan_no_room old.memory new.memory x (all.reclaim_all_plan (deferred_word {K = K} {V = V}) was_left before) (after, told) leads.0 (all_no_room K V before before.stands)
 
   pub none_under_way : {X : Type 0} (map j : ℕ) (u : UnderWay K V K) → s.calls map j ≡ Some u → X
   none_under_way map j u here = absurd (no_call same hash name m known s whole old new i lists before after told under_way leads map j u here)
@@ -243,9 +243,9 @@ module _ {K V S : Type 0} (same : K → K → Bool) (hash : K → ℕ) (name : �
   HasDone = (TakesNone x × (leads.1.lists2 ≡ lists) × (taken_in leads.1.w2.log ≡ taken_in s.world.log)) ⊎ ((b : ℕ) × (x ≡ changed.Took b) × HasTaken s.world leads.1.w2 lists leads.1.lists2 b)
 
   pub has_done : HasDone
-  has_done = by told leads.1.told (reclaiming_gives old.memory.memory new.memory.memory x before (after, told) before.stands leads.0)
+  has_done = by told leads.1.told (reclaiming_gives old.memory new.memory x before (after, told) before.stands leads.0)
     where
-      by : (t : Settled (Node K V)) → ReclaimingTold s.world leads.1.w2 lists leads.1.lists2 t → GivesOr old.memory.memory new.memory.memory x t → HasDone
+      by : (t : Settled (Node K V)) → ReclaimingTold s.world leads.1.w2 lists leads.1.lists2 t → GivesOr old.memory new.memory x t → HasDone
       by settled.Goes say none = inl (none, say.0, say.1)
       by settled.Waits say none = absurd say
       by (settled.Gave value) say gives =

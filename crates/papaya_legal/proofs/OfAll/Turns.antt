@@ -29,8 +29,6 @@ use Rattle.papaya_grows.specs.Given.Effects.Known.{Known}
 use Rattle.papaya_grows.specs.Given.Effects.declared.acting.Acting.TheVariants.{Row}
 use Rattle.papaya_grows.specs.Given.Effects.declared.role.Role.{Role}
 use Rattle.papaya_grows.specs.Given.Effects.declared.role.Role.TheVariants as role
-use Rattle.papaya_grows.specs.Given.Executor.IsAt.{Scene}
-use Rattle.papaya_grows.specs.Given.Executor.declared.executor.Executor.{Executor}
 use Rattle.papaya_grows.specs.Given.Follows.Blocks.{HasRole}
 use Rattle.papaya_grows.specs.Given.Follows.Steps.{TakesNone}
 use Rattle.papaya_grows.proofs.Given.Follows.Alike.{put_elsewhere}
@@ -40,8 +38,8 @@ use Rattle.papaya_grows.proofs.Given.Moments.OnSlots.{none_some}
 use Rattle.papaya_logged.specs.Given.SeizeReclaims.Roots.{all_lists}
 use Rattle.papaya_logged.specs.Given.Reclaims.Slots.{IsQuiet}
 use Rattle.papaya_logged.proofs.Given.Reclaims.Slots.Facts.{nothing_left}
-use Rattle.papaya_logged.specs.Given.Reclaiming.Reclaiming.{IsReclaiming, ReclaimingLeads}
-use Rattle.papaya_logged.proofs.ReclaimSteps.{left as leaves_there}
+use Rattle.papaya_grows.specs.Given.Scenes.Reclaiming.{IsReclaiming, ReclaimingLeads}
+use Rattle.papaya_logged.proofs.Reclaiming.Steps.{left as leaves_there}
 use Rattle.papaya_grows.specs.Given.Kept.Kept.{ShowsKept}
 use Rattle.papaya_models.specs.Numbers.{things_of}
 use Rattle.papaya_models.proofs.OnSlots.{noted_still as still_noted}
@@ -49,6 +47,8 @@ use Rattle.papaya_grows.specs.Given.Finds.Orderly.{is_left_over}
 use Rattle.papaya_legal.specs.AllEvents.{LeftIsBehind, TakesInTurn}
 use Rattle.papaya_legal.proofs.OfAll.Points.{first_taken, quiet_there, root_there, stays_off, takes_there}
 use Rattle.papaya_legal.proofs.OfAll.Tells.{HasDone, gone_by, has_done, it_reclaims, none_gone, noted_or_free, noted_still}
+use Rattle.papaya_grows.specs.Given.Scenes.Held.{Held}
+use Rattle.papaya_grows.specs.Given.Scenes.Scene.{Scene}
 
 no_longer : (b : ℕ) (xs : List ℕ) → xs ≡ b ∷ xs → ⊥
 no_longer b xs e = (let long : length xs ≡ length (b ∷ xs) = ap length e in absurd (omega (arith, long)))
@@ -83,11 +83,11 @@ module _ {K V : Type 0} (v : Moment K V) (n : ℕ) where
       by true back = absurd (cc back)
       by false back = (back, λ e. cc e)
 
-module _ {K V S : Type 0} (same : K → K → Bool) (hash : K → ℕ) (name : ℕ → List ℕ) (m : Moment K V) (known : Known) (s : Scene K V) (whole : ShowsWhole same name m known s)
-    (kept : ShowsKept name m known s) (old new : Executor K V S) (i : ℕ) (lists : ℕ → List ℕ) (before after : ReclaimAll) (told : Settled (Node K V)) (under_way : IsReclaiming same hash old s i lists before)
+module _ {K V : Type 0} (same : K → K → Bool) (hash : ℕ → K → ℕ) (name : ℕ → List ℕ) (m : Moment K V) (known : Known) (s : Scene K V) (whole : ShowsWhole same name m known s)
+    (kept : ShowsKept name m known s) (old new : Held K V) (i : ℕ) (lists : ℕ → List ℕ) (before after : ReclaimAll) (told : Settled (Node K V)) (under_way : IsReclaiming same hash old s i lists before)
     (leads : ReclaimingLeads same hash s i lists old new before after told) (roots : ℕ) (roots_are : old.roots ≡ roots) (on_slots : is_on_slots before.stands ≡ true → leads.1.lists2 ≡ lists) where
   abbrev x : Changed
-  x = new.memory.changed
+  x = new.changed
 
   abbrev w : World (Node K V)
   w = s.world
@@ -108,7 +108,7 @@ module _ {K V S : Type 0} (same : K → K → Bool) (hash : K → ℕ) (name : �
       let none = (nothing_left old.batch_size under_way.small w under_way.under_way.stand.together.makings.standing.came quiet).1 b in cc (retired, none))
 
   off_then : is_on_slots before.stands ≡ false → is_on_slots after.stands ≡ false
-  off_then off = stays_off old.memory.memory new.memory.memory x before (after, told) off before.stands off leads.0
+  off_then off = stays_off old.memory new.memory x before (after, told) off before.stands off leads.0
 
   -- it takes none; or, on slots, one that was retired; or, on roots, the first one behind them
   abbrev pub TakesFromSlots : ℕ → Type 0
@@ -132,7 +132,7 @@ module _ {K V S : Type 0} (same : K → K → Bool) (hash : K → ℕ) (name : �
       behind_root b took root rest first here then_lists taken true on =
           absurd (no_longer b rest (sym (at_same lists root rest root refl) ∙ ap (λ (ls : ℕ → List ℕ). ls root) (sym then_lists ∙ on_slots on) ∙ here))
       behind_root b took root rest first here then_lists taken false off =
-          let there = takes_there old.memory.memory new.memory.memory x before (after, told) before.stands off leads.0 b took in
+          let there = takes_there old.memory new.memory x before (after, told) before.stands off leads.0 b took in
           let low : root < old.roots = root_there old.batch_size old.roots i before w s.maps lists before.stands there under_way.under_way.point root b rest first here in
           let below : root < roots = subst (λ (k : ℕ). root < k) roots_are low in
           inr (b, took, inr (off, taken, first_taken lists root b rest first here roots below ∙ ap (λ (ls : ℕ → List ℕ). b ∷ all_lists ls roots) (sym then_lists)))

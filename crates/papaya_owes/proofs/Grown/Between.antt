@@ -47,11 +47,11 @@ module _ (K V : Type 0) where
   pub calls_come_to_grown : CallsComeToGrown K V
   calls_come_to_grown same name m known s whole grown own o steps ended = come_marked grown_mark Other as_grown name m s grown same whole.all.shown.calls own o steps ended
 
-module _ (K V S : Type 0) (same : K → K → Bool) (hash : K → ℕ) where
-  pub walks_go_on_grown : WalksGoOnGrown K V S same hash
+module _ (K V : Type 0) (same : K → K → Bool) (hash : ℕ → K → ℕ) where
+  pub walks_go_on_grown : WalksGoOnGrown K V same hash
   walks_go_on_grown name m s old new grown i leads map u here =
       let to = leads map u here in go_on_marked grown_mark Other as_grown name m s grown map i u here to.0 (λ so. subst Other (sym to.1) (asked_so IsOther (machine_of u) so))
 
-  pub walks_stop_grown : WalksStopGrown K V S same hash
+  pub walks_stop_grown : WalksStopGrown K V same hash
   walks_stop_grown name m known s old new whole grown i stopped leads map u here none =
       stop_marked grown_mark Other as_grown name m s grown same whole.all.shown.calls map i u here stopped none

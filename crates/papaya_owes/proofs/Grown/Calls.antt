@@ -21,9 +21,6 @@ use Rattle.papaya_moments.specs.Given.Effects.declared.acting.Acting.TheVariants
 use Rattle.papaya_moments.specs.Given.Teller.declared.changed.Changed.{Changed}
 use Rattle.papaya_moments.specs.Given.Teller.declared.changed.Changed.TheVariants as changed
 use Rattle.papaya_moments.specs.Given.Teller.declared.changed.Kind.{Kind}
-use Rattle.papaya_moments.specs.Given.Executor.IsAt.{Scene, IsAt}
-use Rattle.papaya_moments.specs.Given.Executor.Stepping.{StepLeads, scene_after}
-use Rattle.papaya_moments.specs.Given.Executor.declared.executor.Executor.{Executor}
 use Rattle.papaya_moments.specs.Given.Finishes.Machines.{machine_of}
 use Rattle.papaya_moments.proofs.Given.Follows.Steps.{WentTo, went_to}
 use Rattle.papaya_moments.proofs.Given.Hands.Asking.{which}
@@ -36,20 +33,23 @@ use Rattle.papaya_owes.proofs.Grown.Between.{long_other}
 use Rattle.papaya_owes.proofs.Grown.Machines.{SaysSo, machine_so}
 use Rattle.papaya_owes.proofs.Short.Calls.{no_bucket, grown as has_grown, its_there}
 use Rattle.papaya_owes.proofs.Short.Effects.{short_by, short_kept, effect_short, NoneAsked, none_asked}
+use Rattle.papaya_moments.specs.Given.Scenes.Held.{Held, IsAt}
+use Rattle.papaya_moments.specs.Given.Scenes.Scene.{Scene}
+use Rattle.papaya_moments.specs.Given.Scenes.Stepping.{StepLeads, scene_after}
 
 -- of what is told of a step
 was_false : (b : Bool) → not b ≡ true → b ≡ false
 was_false true e = absurd (cc e)
 was_false false e = refl
 
-module _ {K V S : Type 0} (same : K → K → Bool) (hash : K → ℕ) (name : ℕ → List ℕ) (m : Moment K V) (known : Known) (s : Scene K V) (old new : Executor K V S) (at : IsAt same hash old s)
+module _ {K V : Type 0} (same : K → K → Bool) (hash : ℕ → K → ℕ) (name : ℕ → List ℕ) (m : Moment K V) (known : Known) (s : Scene K V) (old new : Held K V) (at : IsAt same hash old s)
     (whole : ShowsWhole same name m known s) (short : ShowsShort name m s) (grown : ShowsGrown name m s) (map i : ℕ) (u : UnderWay K V K) (here : s.calls map i ≡ Some u) (said : Progress (Node K V))
     (leads : StepLeads same hash i said s old new) where
   abbrev to : WentTo same hash name m known s old new at whole.all.shown map i u here said leads
   to = went_to same hash name m known s old new at whole.all.shown map i u here said leads
 
   abbrev told : Changed
-  told = new.memory.changed
+  told = new.changed
 
   abbrev its : Acting
   its = acts.Call i map
@@ -61,7 +61,7 @@ module _ {K V S : Type 0} (same : K → K → Bool) (hash : K → ℕ) (name : �
   v = with_effects (Some (name i)) (Some map) effects m
 
   abbrev led : Scene K V
-  led = scene_after same hash s old new map i to.0 u to.1 said to.4
+  led = scene_after same s old new map i to.0 u to.1 said to.4
 
   -- its machine has nothing to tell of memory, and tells nothing of it
   abbrev Clear : Type 0
@@ -77,7 +77,7 @@ module _ {K V S : Type 0} (same : K → K → Bool) (hash : K → ℕ) (name : �
   -- where it was short of none, and no block was refused to it
   went_clear : c.is_short ≡ false → ((k : Kind) → told ≡ changed.Unmade k → ⊥) → Clear
   went_clear e unrefused =
-      machine_so IsOther long_other old.memory.memory new.memory.memory told unrefused same same hash to.1 said (machine_of u) (grown map i u here c c_is (ap not e)) to.3
+      machine_so IsOther long_other old.memory new.memory told unrefused same same to.0.hash to.1 said (machine_of u) (grown map i u here c c_is (ap not e)) to.3
 
   -- who makes a block was short of none
   not_short : (NoneAsked told → ⊥) → c.is_short ≡ false
@@ -123,17 +123,17 @@ module _ {K V S : Type 0} (same : K → K → Bool) (hash : K → ℕ) (name : �
   pub step_keeps_grown : ShowsGrown name v led × (said ≡ progress.Refused Memory → (d : CallThere K V) → call_of (name i) v ≡ Some d → d.is_short ≡ true)
   step_keeps_grown = (grown_then, refused_short)
 
-pub calls_keep_grown : (K V S : Type 0) (same : K → K → Bool) (hash : K → ℕ) → CallsKeepGrown K V S same hash
-calls_keep_grown K V S same hash name m known s old new at whole short grown map i u here said leads = step_keeps_grown same hash name m known s old new at whole short grown map i u here said leads
+pub calls_keep_grown : (K V : Type 0) (same : K → K → Bool) (hash : ℕ → K → ℕ) → CallsKeepGrown K V same hash
+calls_keep_grown K V same hash name m known s old new at whole short grown map i u here said leads = step_keeps_grown same hash name m known s old new at whole short grown map i u here said leads
 
 -- an event whose last step is refused so
-pub events_refuse_the_short : (K V S : Type 0) (same : K → K → Bool) (hash : K → ℕ) → EventsRefuseTheShort K V S same hash
-events_refuse_the_short K V S same hash name m known s old new at whole short grown map i u here leads log e caller worked_is =
+pub events_refuse_the_short : (K V : Type 0) (same : K → K → Bool) (hash : ℕ → K → ℕ) → EventsRefuseTheShort K V same hash
+events_refuse_the_short K V same hash name m known s old new at whole short grown map i u here leads log e caller worked_is =
     subst (λ (who : Option (List ℕ)). IfCall (λ (d : CallThere K V). d.is_short ≡ true) (acting who (worked e (moment log)))) (sym caller)
     (subst (λ (x : Moment K V). IfCall (λ (d : CallThere K V). d.is_short ≡ true) (call_of (name i) x)) (sym worked_is) (by (call_of (name i) after) refl))
   where
     after : Moment K V
-    after = with_effects (Some (name i)) (Some map) (effects_of (acts.Call i map) known new.memory.changed) m
+    after = with_effects (Some (name i)) (Some map) (effects_of (acts.Call i map) known new.changed) m
 
     by : (found : Option (CallThere K V)) → call_of (name i) after ≡ found → IfCall (λ (d : CallThere K V). d.is_short ≡ true) found
     by None none = tt

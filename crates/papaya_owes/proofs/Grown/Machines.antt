@@ -42,7 +42,6 @@ use Rattle.papaya_moments.specs.Given.Callers.Together.{UnderWay, OnKey, ForRoom
 use Rattle.papaya_moments.specs.Given.Teller.declared.changed.Changed.{Changed}
 use Rattle.papaya_moments.specs.Given.Teller.declared.changed.Changed.TheVariants as changed
 use Rattle.papaya_moments.specs.Given.Teller.declared.changed.Kind.{Kind}
-use Rattle.papaya_moments.specs.Given.Executor.Beginning.{Begins}
 use Rattle.papaya_moments.specs.Given.Finishes.Machines.{machine_of}
 use Rattle.papaya_moments.specs.Given.Finishes.Maps.{Standing}
 use Rattle.papaya_moments.proofs.Given.Others.Outcomes.{told_in}
@@ -50,6 +49,7 @@ use Rattle.papaya_owes.specs.Grown.{SoInMachine}
 use Rattle.papaya_owes.proofs.Grown.OnKeys.{CallsFor, key_so, key_told_so}
 use Rattle.papaya_owes.proofs.Grown.Within.{reserve_so, so_always, sweep_so}
 use Rattle.papaya_owes.proofs.Tables.Hosts.{Step}
+use Rattle.papaya_moments.specs.Given.Scenes.Beginning.{Begins}
 
 module _ (Is : Fault → Type 0) {K V : Type 0} where
   -- what it says that is refused is so

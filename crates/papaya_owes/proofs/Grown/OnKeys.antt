@@ -32,10 +32,10 @@ use Rattle.papaya_moments.proofs.Given.Late.KindsKept.Rooms.Calling.{CallsAs, Is
 use Rattle.papaya_moments.specs.Given.Teller.declared.changed.Changed.{Changed}
 use Rattle.papaya_moments.specs.Given.Teller.declared.changed.Changed.TheVariants as memory
 use Rattle.papaya_moments.specs.Given.Teller.declared.changed.Kind.{Kind}
-use Rattle.papaya_moments.proofs.Given.Executor.Forgotten.{as_step}
 use Rattle.papaya_moments.proofs.Given.Others.Outcomes.{told_in}
 use Rattle.papaya_owes.proofs.Grown.Within.{copier_so, so_always, table_so, was_made}
 use Rattle.papaya_owes.proofs.Tables.Hosts.{Step}
+use Rattle.papaya_moments.proofs.Given.Scenes.Told.{as_step}
 
 module _ (Is : Fault → Type 0) where
   -- what it has to tell is so, and what it tells

@@ -53,9 +53,9 @@ use Rattle.papaya_moments.specs.Given.Teller.Tells.{told_of}
 use Rattle.papaya_moments.specs.Given.Teller.declared.changed.Changed.{Changed}
 use Rattle.papaya_moments.specs.Given.Teller.declared.changed.Changed.TheVariants as changed
 use Rattle.papaya_moments.specs.Given.Teller.declared.changed.Kind.{Kind}
-use Rattle.papaya_moments.proofs.Given.Executor.Forgotten.{as_step}
 use Rattle.papaya_moments.proofs.Given.Others.Outcomes.{told_in}
 use Rattle.papaya_owes.proofs.Tables.Hosts.{Step}
+use Rattle.papaya_moments.proofs.Given.Scenes.Told.{as_step}
 
 module _ (Is : Fault → Type 0) (long : Is Capacity) {K V : Type 0} (m m2 : Mem (Node K V)) (told : Changed) (unrefused : (k : Kind) → told ≡ changed.Unmade k → ⊥) where
   -- a block that was to be made was

@@ -93,11 +93,11 @@ module _ (K V : Type 0) where
   pub calls_come_to_looking : CallsComeToLooking K V
   calls_come_to_looking same name m known s whole looking own o steps ended = come_marked looks_mark IsLooking as_called name m s looking same whole.all.shown.calls own o steps ended
 
-module _ (K V S : Type 0) (same : K → K → Bool) (hash : K → ℕ) where
-  pub walks_go_on_looking : WalksGoOnLooking K V S same hash
+module _ (K V : Type 0) (same : K → K → Bool) (hash : ℕ → K → ℕ) where
+  pub walks_go_on_looking : WalksGoOnLooking K V same hash
   walks_go_on_looking name m s old new looking i leads map u here =
       let to = leads map u here in go_on_marked looks_mark IsLooking as_called name m s looking map i u here to.0 (λ so. subst IsLooking (sym to.1) (asked_looks (machine_of u) so))
 
-  pub walks_stop_looking : WalksStopLooking K V S same hash
+  pub walks_stop_looking : WalksStopLooking K V same hash
   walks_stop_looking name m known s old new whole looking i stopped leads map u here none =
       stop_marked looks_mark IsLooking as_called name m s looking same whole.all.shown.calls map i u here stopped none

@@ -17,9 +17,6 @@ use Rattle.papaya_moments.specs.Given.Callers.Together.{UnderWay}
 use Rattle.papaya_moments.specs.Given.Effects.Effects.{effects_of}
 use Rattle.papaya_moments.specs.Given.Effects.Known.{Known}
 use Rattle.papaya_moments.specs.Given.Effects.declared.acting.Acting.TheVariants as acts
-use Rattle.papaya_moments.specs.Given.Executor.IsAt.{Scene, IsAt}
-use Rattle.papaya_moments.specs.Given.Executor.Stepping.{StepLeads, scene_after}
-use Rattle.papaya_moments.specs.Given.Executor.declared.executor.Executor.{Executor}
 use Rattle.papaya_moments.specs.Given.Finishes.Machines.{machine_of}
 use Rattle.papaya_moments.proofs.Given.Follows.Calls.{changed_same}
 use Rattle.papaya_moments.proofs.Given.Follows.Steps.{WentTo, went_to}
@@ -30,6 +27,9 @@ use Rattle.papaya_owes.proofs.Calls.{goes_as_one}
 use Rattle.papaya_owes.proofs.Events.{several_find}
 use Rattle.papaya_owes.proofs.Fields.{all_by, field_own, field_other, its_effect}
 use Rattle.papaya_owes.proofs.Looking.Leaves.{looking_stays}
+use Rattle.papaya_moments.specs.Given.Scenes.Held.{Held, IsAt}
+use Rattle.papaya_moments.specs.Given.Scenes.Scene.{Scene}
+use Rattle.papaya_moments.specs.Given.Scenes.Stepping.{StepLeads, scene_after}
 
 module _ {K V : Type 0} where
   -- an effect leaves what was called
@@ -54,14 +54,14 @@ pub several_find_at_work : (K V : Type 0) → SeveralFindAtWork K V
 several_find_at_work K V own map done effects m before after =
     several_find (λ (v : Moment K V) (f : Effect). ByCall (λ (c : CallThere K V). only_looks c.call ≡ false) (call_of own v)) own map done effects m before after
 
-module _ {K V S : Type 0} (same : K → K → Bool) (hash : K → ℕ) (name : ℕ → List ℕ) (m : Moment K V) (known : Known) (s : Scene K V) (old new : Executor K V S) (at : IsAt same hash old s)
+module _ {K V : Type 0} (same : K → K → Bool) (hash : ℕ → K → ℕ) (name : ℕ → List ℕ) (m : Moment K V) (known : Known) (s : Scene K V) (old new : Held K V) (at : IsAt same hash old s)
     (whole : ShowsWhole same name m known s) (looking : ShowsLooking name m s) (map i : ℕ) (u : UnderWay K V K) (here : s.calls map i ≡ Some u) (said : Progress (Node K V))
     (leads : StepLeads same hash i said s old new) where
   abbrev to : WentTo same hash name m known s old new at whole.all.shown map i u here said leads
   to = went_to same hash name m known s old new at whole.all.shown map i u here said leads
 
   abbrev told : Changed
-  told = new.memory.changed
+  told = new.changed
 
   abbrev effects : List Effect
   effects = effects_of (acts.Call i map) known told
@@ -70,13 +70,13 @@ module _ {K V S : Type 0} (same : K → K → Bool) (hash : K → ℕ) (name : �
   v = with_effects (Some (name i)) (Some map) effects m
 
   abbrev led : Scene K V
-  led = scene_after same hash s old new map i to.0 u to.1 said to.4
+  led = scene_after same s old new map i to.0 u to.1 said to.4
 
   its_there : (c : CallThere K V) × (call_of (name i) m ≡ Some c)
   its_there = let c = whole.all.shown.calls map i u here in (c.0, c.1)
 
   stays : only_looks its_there.0.call ≡ true → (told ≡ changed.Nothing) × IsLooking to.1
-  stays e = looking_stays old.memory.memory new.memory.memory told same same hash to.1 said (machine_of u) (looking map i u here its_there.0 its_there.1 e) to.3
+  stays e = looking_stays old.memory new.memory told same same to.0.hash to.1 said (machine_of u) (looking map i u here its_there.0 its_there.1 e) to.3
 
   find_by : (q : Bool) → only_looks its_there.0.call ≡ q → FindAtWork (name i) map effects m
   find_by true e = subst (λ (x : Changed). FindAtWork (name i) map (effects_of (acts.Call i map) known x) m) (sym (stays e).0) tt
@@ -102,6 +102,6 @@ module _ {K V S : Type 0} (same : K → K → Bool) (hash : K → ℕ) (name : �
   pub step_keeps_looking : FindAtWork (name i) map effects m × ShowsLooking name v led
   step_keeps_looking = (find_by (only_looks its_there.0.call) refl, looking_then)
 
-pub calls_keep_looking : (K V S : Type 0) (same : K → K → Bool) (hash : K → ℕ) → CallsKeepLooking K V S same hash
-calls_keep_looking K V S same hash name m known s old new at whole looking map i u here said leads =
+pub calls_keep_looking : (K V : Type 0) (same : K → K → Bool) (hash : ℕ → K → ℕ) → CallsKeepLooking K V same hash
+calls_keep_looking K V same hash name m known s old new at whole looking map i u here said leads =
     step_keeps_looking same hash name m known s old new at whole looking map i u here said leads

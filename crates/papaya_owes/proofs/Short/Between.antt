@@ -76,12 +76,12 @@ module _ (K V : Type 0) where
   pub calls_come_to_short : CallsComeToShort K V
   calls_come_to_short same name m known s whole short own o steps ended = come_marked short_mark Denied as_short name m s short same whole.all.shown.calls own o steps ended
 
-module _ (K V S : Type 0) (same : K → K → Bool) (hash : K → ℕ) where
-  pub walks_go_on_short : WalksGoOnShort K V S same hash
+module _ (K V : Type 0) (same : K → K → Bool) (hash : ℕ → K → ℕ) where
+  pub walks_go_on_short : WalksGoOnShort K V same hash
   walks_go_on_short name m s old new short i leads map u here =
       let to = leads map u here in
       go_on_marked short_mark Denied as_short name m s short map i u here to.0 (λ fault. ap (λ (y : Machine K V K). fault_of y) to.1 ∙ asked_fault (machine_of u) Memory fault)
 
-  pub walks_stop_short : WalksStopShort K V S same hash
+  pub walks_stop_short : WalksStopShort K V same hash
   walks_stop_short name m known s old new whole short i stopped leads map u here none =
       stop_marked short_mark Denied as_short name m s short same whole.all.shown.calls map i u here stopped none

@@ -22,10 +22,6 @@ use Rattle.papaya_moments.specs.Given.Effects.Effects.{table_at, effects_of}
 use Rattle.papaya_moments.specs.Given.Effects.Known.{Known}
 use Rattle.papaya_moments.specs.Given.Effects.declared.acting.Acting.{Acting}
 use Rattle.papaya_moments.specs.Given.Effects.declared.acting.Acting.TheVariants as acts
-use Rattle.papaya_moments.specs.Given.Executor.IsAt.{Scene, IsAt}
-use Rattle.papaya_moments.specs.Given.Executor.Stepping.{StepLeads, has_ended, going_on, scene_after}
-use Rattle.papaya_moments.specs.Given.Executor.declared.executor.Executor.{Executor}
-use Rattle.papaya_moments.proofs.Given.Executor.Steps.{goes_as}
 use Rattle.papaya_moments.specs.Given.Finishes.Machines.{machine_of}
 use Rattle.papaya_moments.proofs.Given.Follows.Steps.{WentTo, went_to}
 use Rattle.papaya_moments.proofs.Given.Hands.Asking.{which}
@@ -38,20 +34,24 @@ use Rattle.papaya_owes.proofs.Short.Effects.{short_by, short_kept, effect_short,
 use Rattle.papaya_owes.proofs.Short.Unmade.{unmade_so}
 use Rattle.papaya_owes.proofs.Tables.Held.{call_unmade}
 use Rattle.papaya_owes.proofs.Tables.Kinds.{MakesWhich, which_made, no_room}
+use Rattle.papaya_moments.proofs.Given.Scenes.Goes.{goes_as}
+use Rattle.papaya_moments.specs.Given.Scenes.Held.{Held, IsAt}
+use Rattle.papaya_moments.specs.Given.Scenes.Scene.{Scene}
+use Rattle.papaya_moments.specs.Given.Scenes.Stepping.{StepLeads, going_on, has_ended, scene_after}
 
 -- a table is none of shards
 not_shards : (len limit turn : ℕ) (q : Bool) → (if q then kind.Pair else kind.Table len limit turn) ≡ kind.Shards → ⊥
 not_shards len limit turn true e = cc e
 not_shards len limit turn false e = cc e
 
-module _ {K V S : Type 0} (same : K → K → Bool) (hash : K → ℕ) (name : ℕ → List ℕ) (m : Moment K V) (known : Known) (s : Scene K V) (old new : Executor K V S) (at : IsAt same hash old s)
+module _ {K V : Type 0} (same : K → K → Bool) (hash : ℕ → K → ℕ) (name : ℕ → List ℕ) (m : Moment K V) (known : Known) (s : Scene K V) (old new : Held K V) (at : IsAt same hash old s)
     (whole : ShowsWhole same name m known s) (short : ShowsShort name m s) (map i : ℕ) (u : UnderWay K V K) (here : s.calls map i ≡ Some u) (said : Progress (Node K V))
     (leads : StepLeads same hash i said s old new) where
   abbrev to : WentTo same hash name m known s old new at whole.all.shown map i u here said leads
   to = went_to same hash name m known s old new at whole.all.shown map i u here said leads
 
   abbrev told : Changed
-  told = new.memory.changed
+  told = new.changed
 
   abbrev its : Acting
   its = acts.Call i map
@@ -63,7 +63,7 @@ module _ {K V S : Type 0} (same : K → K → Bool) (hash : K → ℕ) (name : �
   v = with_effects (Some (name i)) (Some map) effects m
 
   abbrev led : Scene K V
-  led = scene_after same hash s old new map i to.0 u to.1 said to.4
+  led = scene_after same s old new map i to.0 u to.1 said to.4
 
   -- its machine is to be refused for want of memory
   abbrev pub WasDenied : Bool → Type 0
@@ -72,14 +72,14 @@ module _ {K V S : Type 0} (same : K → K → Bool) (hash : K → ℕ) (name : �
   abbrev IsDenied : Type 0
   IsDenied = (fault_of to.1 ≡ Some Memory) × EndsSo Memory said
 
-  pub stays : fault_of (machine_of u) ≡ Some Memory → MachineStays old.memory.memory new.memory.memory told same same hash to.1 said Memory
-  stays fault = machine_stays old.memory.memory new.memory.memory told same same hash to.1 said (machine_of u) Memory fault to.3
+  pub stays : fault_of (machine_of u) ≡ Some Memory → MachineStays old.memory new.memory told same same to.0.hash to.1 said Memory
+  stays fault = machine_stays old.memory new.memory told same same to.0.hash to.1 said (machine_of u) Memory fault to.3
 
   -- it makes no counter, and asks for no bucket
 
   no_shards : (b : ℕ) → told ≡ changed.Made kind.Shards b → ⊥
   no_shards b is =
-      by (which_made same same hash old.memory.memory new.memory.memory told to.1 said (machine_of u) (call_unmade same hash name m known s old at whole.all.shown map i u here) to.3 kind.Shards b is)
+      by (which_made same same to.0.hash old.memory new.memory told to.1 said (machine_of u) (call_unmade same hash name m known s old at whole.all.shown map i u here) to.3 kind.Shards b is)
     where
       by : MakesWhich (machine_of u) kind.Shards → ⊥
       by (inl pair) = cc pair
@@ -87,7 +87,7 @@ module _ {K V S : Type 0} (same : K → K → Bool) (hash : K → ℕ) (name : �
 
   pub no_bucket : (bucket : ℕ) (had : Bool) → told ≡ changed.Roomed bucket had → ⊥
   no_bucket bucket had is =
-      no_room same same hash old.memory.memory new.memory.memory told to.1 said (machine_of u) (call_unmade same hash name m known s old at whole.all.shown map i u here) to.3 bucket had is
+      no_room same same to.0.hash old.memory new.memory told to.1 said (machine_of u) (call_unmade same hash name m known s old at whole.all.shown map i u here) to.3 bucket had is
 
   -- who is short after it is to be refused
 
@@ -105,7 +105,7 @@ module _ {K V S : Type 0} (same : K → K → Bool) (hash : K → ℕ) (name : �
   short_by_told (changed.Wrote place before after) is h was e = kept_short (changed.Wrote place before after) tt h was e
   short_by_told (changed.Took b) is h was e = kept_short (changed.Took b) tt h was e
   short_by_told (changed.Made k b) is h was e = made_short k b is h e
-  short_by_told (changed.Unmade k) is h was e = unmade_so old.memory.memory new.memory.memory told k is same same hash to.1 said (machine_of u) to.3
+  short_by_told (changed.Unmade k) is h was e = unmade_so old.memory new.memory told k is same same to.0.hash to.1 said (machine_of u) to.3
   short_by_told (changed.Roomed bucket had) is h was e = absurd (no_bucket bucket had is)
 
   -- and who asks for a growth is not
@@ -179,5 +179,5 @@ module _ {K V S : Type 0} (same : K → K → Bool) (hash : K → ℕ) (name : �
   pub step_keeps_short : FindGrown (name i) map effects m × ShowsShort name v led × (to.4.next ≡ None → (c : CallThere K V) → call_of (name i) v ≡ Some c → (said ≡ said_so.Refused Memory) ⊎ (c.is_short ≡ false))
   step_keeps_short = (find_by its_there.0 its_there.1 (short map i u here its_there.0 its_there.1) told refl, short_then, ends_grown)
 
-pub calls_keep_short : (K V S : Type 0) (same : K → K → Bool) (hash : K → ℕ) → CallsKeepShort K V S same hash
-calls_keep_short K V S same hash name m known s old new at whole short map i u here said leads = step_keeps_short same hash name m known s old new at whole short map i u here said leads
+pub calls_keep_short : (K V : Type 0) (same : K → K → Bool) (hash : ℕ → K → ℕ) → CallsKeepShort K V same hash
+calls_keep_short K V same hash name m known s old new at whole short map i u here said leads = step_keeps_short same hash name m known s old new at whole short map i u here said leads

@@ -45,12 +45,12 @@ use Rattle.papaya_moments.specs.Given.Raw.CallPoints.{going, ending}
 use Rattle.papaya_moments.specs.Given.Tells.Seen.{seen_of}
 use Rattle.papaya_moments.specs.Given.Teller.Tells.{told_of}
 use Rattle.papaya_moments.specs.Given.Teller.declared.changed.Changed.{Changed}
-use Rattle.papaya_moments.specs.Given.Executor.Stepping.{has_ended}
 use Rattle.papaya_moments.proofs.Given.Others.Outcomes.{told_in}
 use Rattle.papaya_owes.specs.Short.{fault_in_copying, fault_in_calling, fault_in_reserving, fault_in_sweeping, fault_of}
 use Rattle.papaya_owes.proofs.Short.Effects.{NoneAsked}
 use Rattle.papaya_owes.proofs.Tables.Hosts.{Step, KeyRefuses, RoomRefuses, SweepRefuses, key_refuses, copier_refused, going_as, room_refuses, whole_on, table_on}
 use Rattle.papaya_owes.specs.Making.{making_in_copying, making_in_calling}
+use Rattle.papaya_moments.specs.Given.Scenes.Stepping.{has_ended}
 
 -- it is refused, or has not ended
 abbrev pub EndsSo : {T : Type 0} → Fault → Progress T → Type 0

@@ -29,7 +29,6 @@ use Rattle.papaya_moments.specs.Given.Teller.Tells.{told_of}
 use Rattle.papaya_moments.specs.Given.Teller.declared.changed.Changed.{Changed}
 use Rattle.papaya_moments.specs.Given.Teller.declared.changed.Changed.TheVariants as changed
 use Rattle.papaya_moments.specs.Given.Teller.declared.changed.Kind.{Kind}
-use Rattle.papaya_moments.specs.Given.Executor.Stepping.{has_ended}
 use Rattle.papaya_moments.proofs.Given.Others.Outcomes.{told_in}
 use Rattle.papaya_owes.specs.Making.{making_of, making_in_calling, making_in_reserving, making_in_sweeping}
 use Rattle.papaya_owes.specs.Short.{fault_in_calling, fault_of}
@@ -37,6 +36,7 @@ use Rattle.papaya_owes.proofs.Short.Denied.{EndsSo}
 use Rattle.papaya_owes.proofs.Tables.Hosts.{Step, step_within}
 use Rattle.papaya_owes.proofs.Tables.Makes.{refused_with}
 use Rattle.papaya_owes.proofs.Walks.{IsToMake, IsToOwn, so_as, plan_unmade_so, call_makes, reserve_makes, sweep_makes, sum_at}
+use Rattle.papaya_moments.specs.Given.Scenes.Stepping.{has_ended}
 
 module _ {K V : Type 0} (m m2 : Mem (Node K V)) (told : Changed) (k : Kind) (unmade : told ≡ changed.Unmade k) where
   other : (x : Changed) → told ≡ x → x ≡ changed.Unmade k

@@ -27,9 +27,6 @@ use Rattle.papaya_moments.specs.Given.Schedules.Views.{call_of}
 use Rattle.papaya_moments.specs.Given.Callers.Together.{UnderWay}
 use Rattle.papaya_moments.specs.Given.Effects.Known.{Known}
 use Rattle.papaya_moments.specs.Given.Effects.declared.role.Role.TheVariants as role
-use Rattle.papaya_moments.specs.Given.Executor.IsAt.{Scene, IsAt}
-use Rattle.papaya_moments.specs.Given.Executor.Replying.{scene_with, unless_stopped}
-use Rattle.papaya_moments.specs.Given.Executor.declared.executor.Executor.{Executor}
 use Rattle.papaya_moments.specs.Given.Finishes.Machines.{machine_of}
 use Rattle.papaya_moments.specs.Given.Finishes.Maps.{with_call as with_in}
 use Rattle.papaya_moments.specs.Given.Follows.Calling.{NoneNamed}
@@ -44,6 +41,9 @@ use Rattle.papaya_owes.specs.TablesBeside.{WalksGoOnTables, WalksStopTables}
 use Rattle.papaya_owes.proofs.Kept.{calls_beside, calls_its, calls_without, HadAsMuch, fresh_has, others_there, told_had, left_had, come_had}
 use Rattle.papaya_owes.proofs.Tables.Held.{shape_of, some_making, its_block, role_there, call_hands, held_by}
 use Rattle.papaya_moments.specs.Given.Others.Walks.{given_up}
+use Rattle.papaya_moments.specs.Given.Scenes.Held.{Held, IsAt}
+use Rattle.papaya_moments.specs.Given.Scenes.Replying.{scene_with, unless_stopped}
+use Rattle.papaya_moments.specs.Given.Scenes.Scene.{Scene}
 
 -- a sweep that makes a table takes no reply; one that is asked for its next pair makes none; and one that is ready has none
 
@@ -101,7 +101,7 @@ module _ {K V : Type 0} (name : ℕ → List ℕ) (m : Moment K V) (known : Know
   has_as_much n j x is d had = had.2.1 ∙ tables.tables n j x is had.0 had.1
 
   -- where a call has come, or has gone on, what its machine has then was this caller's
-  module _ {S : Type 0} (same : K → K → Bool) (hash : K → ℕ) (old new : Executor K V S) (at : IsAt same hash old s) (whole : ShowsWhole same name m known s) (of i : ℕ) (next : UnderWay K V K) (v : Moment K V)
+  module _ (same : K → K → Bool) (hash : ℕ → K → ℕ) (old new : Held K V) (at : IsAt same hash old s) (whole : ShowsWhole same name m known s) (of i : ℕ) (next : UnderWay K V K) (v : Moment K V)
       (at_new : IsAt same hash new (scene_with of i next s)) (shown_new : Shows same name v known (scene_with of i next s)) where
     own_next : (t : Planned) → table_made (making_of (machine_of next)) ≡ Some t → HoldsTable s i (block_in t.link)
     own_next t has =
@@ -135,7 +135,7 @@ module _ {K V : Type 0} (name : ℕ → List ℕ) (m : Moment K V) (known : Know
     others_still j b ne (inr maker) = inr maker
 
   -- a call that begins
-  module _ {S : Type 0} (same : K → K → Bool) (hash : K → ℕ) (old new : Executor K V S) (at : IsAt same hash old s) (whole : ShowsWhole same name m known s) (of i : ℕ) (u : UnderWay K V K) (its : Call K V)
+  module _ (same : K → K → Bool) (hash : ℕ → K → ℕ) (old new : Held K V) (at : IsAt same hash old s) (whole : ShowsWhole same name m known s) (of i : ℕ) (u : UnderWay K V K) (its : Call K V)
       (guard : List ℕ) (apart : NoneNamed name (name i) s) (at_new : IsAt same hash new (scene_with of i u s)) (shown_new : Shows same name (with_call (name i) guard its (Some of) m) known (scene_with of i u s)) where
     no_call : (b : ℕ) → IsOfCall s i b → ⊥
     no_call b call = (let no = apart call.0 i call.1 call.2 in let yes = is_same_refl (name i) in cc (no, yes))
@@ -213,14 +213,14 @@ calls_come_to_tables K V same name m known s whole tables own o steps ended = re
   whose = tables.whose;
 }
 
-module _ (K V S : Type 0) (same : K → K → Bool) (hash : K → ℕ) where
-  pub calls_begin_tables : CallsBeginTables K V S same hash
+module _ (K V : Type 0) (same : K → K → Bool) (hash : ℕ → K → ℕ) where
+  pub calls_begin_tables : CallsBeginTables K V same hash
   calls_begin_tables name m known s old new at whole tables of i u its guard apart at_new shown_new = record {
     tables = begins_has name m known s tables same hash old new at whole of i u its guard apart at_new shown_new;
     whose = begins_whose name m known s tables same hash old new at whole of i u its guard apart at_new shown_new;
   }
 
-  pub calls_take_tables : CallsTakeTables K V S same hash
+  pub calls_take_tables : CallsTakeTables K V same hash
   calls_take_tables name m known s old new at whole tables of i u here reply next goes is_told at_new shown_new =
       let only = one_call same name m known s whole of i u here in
       record {
@@ -251,12 +251,12 @@ module _ (K V S : Type 0) (same : K → K → Bool) (hash : K → ℕ) where
         whose = on_whose name m known s tables of i u here only next goes;
       }
 
-  pub walks_go_on_tables : WalksGoOnTables K V S same hash
+  pub walks_go_on_tables : WalksGoOnTables K V same hash
   walks_go_on_tables name m known s old new whole tables i leads map u here =
       let to = leads map u here in
       goes_tables name m known s whole tables map i u here to.0 (ap (λ (y : Machine K V K). table_made (making_of y)) to.1 ∙ ap table_made (asked_making (machine_of u)))
 
-  pub walks_stop_tables : WalksStopTables K V S same hash
+  pub walks_stop_tables : WalksStopTables K V same hash
   walks_stop_tables name m known s old new whole tables i stopped leads map u here = by stopped (leads map u here).0
     where
       at_end : Bool → Scene K V

@@ -15,9 +15,6 @@ use Rattle.papaya_moments.specs.Given.Effects.Effects.{effects_of, known_after}
 use Rattle.papaya_moments.specs.Given.Effects.Known.{Known}
 use Rattle.papaya_moments.specs.Given.Effects.declared.acting.Acting.{Acting}
 use Rattle.papaya_moments.specs.Given.Effects.declared.acting.Acting.TheVariants as acts
-use Rattle.papaya_moments.specs.Given.Executor.IsAt.{Scene, IsAt}
-use Rattle.papaya_moments.specs.Given.Executor.Stepping.{StepLeads, scene_after}
-use Rattle.papaya_moments.specs.Given.Executor.declared.executor.Executor.{Executor}
 use Rattle.papaya_moments.specs.Given.Finishes.Machines.{machine_of}
 use Rattle.papaya_moments.proofs.Given.Follows.Steps.{WentTo, went_to}
 use Rattle.papaya_moments.proofs.Given.Hands.Asking.{which}
@@ -29,9 +26,12 @@ use Rattle.papaya_owes.proofs.Tables.Effects.{table_by, effect_table, tables_kep
 use Rattle.papaya_owes.proofs.Tables.Held.{shape_of}
 use Rattle.papaya_owes.proofs.Tables.Leaves.{TableGoes, Stays, IsMade, IsGivenUp, IsLinked, LeavesTables}
 use Rattle.papaya_owes.proofs.Tables.Step.{next_table, left_tables}
+use Rattle.papaya_moments.specs.Given.Scenes.Held.{Held, IsAt}
+use Rattle.papaya_moments.specs.Given.Scenes.Scene.{Scene}
+use Rattle.papaya_moments.specs.Given.Scenes.Stepping.{StepLeads, scene_after}
 
 -- What each call has after it, and whose tables are.
-module _ {K V S : Type 0} (same : K → K → Bool) (hash : K → ℕ) (name : ℕ → List ℕ) (m : Moment K V) (known : Known) (s : Scene K V) (old new : Executor K V S) (at : IsAt same hash old s)
+module _ {K V : Type 0} (same : K → K → Bool) (hash : ℕ → K → ℕ) (name : ℕ → List ℕ) (m : Moment K V) (known : Known) (s : Scene K V) (old new : Held K V) (at : IsAt same hash old s)
     (whole : ShowsWhole same name m known s) (tables : ShowsTables name m known s) (map i : ℕ) (u : UnderWay K V K) (here : s.calls map i ≡ Some u)
     (said : Progress (Node K V)) (leads : StepLeads same hash i said s old new) where
   abbrev to : WentTo same hash name m known s old new at whole.all.shown map i u here said leads
@@ -41,16 +41,16 @@ module _ {K V S : Type 0} (same : K → K → Bool) (hash : K → ℕ) (name : �
   its = acts.Call i map
 
   abbrev effects : List Effect
-  effects = effects_of its known new.memory.changed
+  effects = effects_of its known new.changed
 
   abbrev known2 : Known
-  known2 = known_after its new.memory.changed known
+  known2 = known_after its new.changed known
 
   abbrev v : Moment K V
   v = with_effects (Some (name i)) (Some map) effects m
 
   abbrev led : Scene K V
-  led = scene_after same hash s old new map i to.0 u to.1 said to.4
+  led = scene_after same s old new map i to.0 u to.1 said to.4
 
   abbrev had : Option Planned
   had = table_made (making_of (machine_of u))
@@ -61,11 +61,11 @@ module _ {K V S : Type 0} (same : K → K → Bool) (hash : K → ℕ) (name : �
   abbrev many : ℕ
   many = length (tables_of map m)
 
-  left_so : LeavesTables its known new.memory.changed s led i had now many
+  left_so : LeavesTables its known new.changed s led i had now many
   left_so = left_tables same hash name m known s old new at whole tables map i u here said leads
 
   abbrev Goes : Type 0
-  Goes = TableGoes its known new.memory.changed s led i had now many
+  Goes = TableGoes its known new.changed s led i had now many
 
   abbrev as_field : Option Planned → Option Table
   as_field o = option_map (of_map map) o
@@ -121,5 +121,5 @@ module _ {K V S : Type 0} (same : K → K → Bool) (hash : K → ℕ) (name : �
     λ none c c_is. own_field c c_is ∙ ap as_field (ap next_table none),
   )
 
-pub calls_keep_tables : (K V S : Type 0) (same : K → K → Bool) (hash : K → ℕ) → CallsKeepTables K V S same hash
-calls_keep_tables K V S same hash name m known s old new at whole tables map i u here said leads = step_keeps_tables same hash name m known s old new at whole tables map i u here said leads
+pub calls_keep_tables : (K V : Type 0) (same : K → K → Bool) (hash : ℕ → K → ℕ) → CallsKeepTables K V same hash
+calls_keep_tables K V same hash name m known s old new at whole tables map i u here said leads = step_keeps_tables same hash name m known s old new at whole tables map i u here said leads

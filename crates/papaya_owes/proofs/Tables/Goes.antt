@@ -26,7 +26,6 @@ use Rattle.papaya_moments.specs.Given.Effects.Known.{Known}
 use Rattle.papaya_moments.specs.Given.Effects.declared.acting.Acting.{Acting}
 use Rattle.papaya_moments.specs.Given.Effects.declared.role.Role.{Role}
 use Rattle.papaya_moments.specs.Given.Effects.declared.role.Role.TheVariants as role
-use Rattle.papaya_moments.specs.Given.Executor.IsAt.{Scene}
 use Rattle.papaya_moments.proofs.Given.Follows.Alike.{put_here, put_elsewhere}
 use Rattle.papaya_owes.specs.Tables.{table_in}
 use Rattle.papaya_owes.proofs.Planned.{IsInHands, IsInTurn}
@@ -36,6 +35,7 @@ use Rattle.papaya_owes.proofs.Tables.Leaves.{IsOneStep, LeavesTables, IsGivenUp,
 use Rattle.papaya_owes.proofs.Tables.Linking.{LinkedSo, root_links, table_links}
 use Rattle.papaya_owes.proofs.Tables.Makes.{GoesWithTable, Rests, Marks, Gives, Links, goes_with, made_with}
 use Rattle.papaya_owes.proofs.Tables.Roles.{own_table_of}
+use Rattle.papaya_moments.specs.Given.Scenes.Scene.{Scene}
 
 -- A table that has places is told as a table, with its turn.
 pub turn_told : (K V : Type 0) (u : Planned) (len limit turn : ℕ) → 8 ≤ u.len → kind_of {K = K} {V = V} (node.Table u.len u.limit u.turn) ≡ kind.Table len limit turn → u.turn ≡ turn

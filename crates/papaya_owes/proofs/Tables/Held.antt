@@ -26,9 +26,6 @@ use Rattle.papaya_moments.specs.Given.Callers.Sights.{seen_by, IsSight}
 use Rattle.papaya_moments.specs.Given.Callers.Together.{UnderWay, OnKey, ForRoom, Counting, OverAll, Together, no_blocks}
 use Rattle.papaya_moments.specs.Given.Effects.Known.{Known}
 use Rattle.papaya_moments.specs.Given.Effects.declared.role.Role.TheVariants as role
-use Rattle.papaya_moments.specs.Given.Executor.IsAt.{Scene, IsAt, slot_of}
-use Rattle.papaya_moments.specs.Given.Executor.declared.executor.Executor.{Executor}
-use Rattle.papaya_moments.proofs.Given.Executor.Changed.{standing_is}
 use Rattle.papaya_moments.specs.Given.Finishes.Machines.{machine_of}
 use Rattle.papaya_moments.specs.Given.Finishes.Makings.{Beginning, OpeningFacts}
 use Rattle.papaya_moments.specs.Given.Finishes.Maps.{Standing}
@@ -42,6 +39,9 @@ use Rattle.papaya_owes.proofs.Held.{IsInHand}
 use Rattle.papaya_owes.proofs.Machines.{call_none, room_none, sweep_none}
 use Rattle.papaya_owes.proofs.Planned.{IsInHands, IsMadeBy, HasLink, IsInTurn, IsItsMaking, key_made, reserve_made, over_all_made, new_made}
 use Rattle.papaya_owes.proofs.Tables.Kinds.{HasUnmade, HasUnmadeSo, has_unmade, row_unmade}
+use Rattle.papaya_moments.proofs.Given.Scenes.May.{standing_is}
+use Rattle.papaya_moments.specs.Given.Scenes.Held.{Held, IsAt}
+use Rattle.papaya_moments.specs.Given.Scenes.Scene.{Scene, slot_of}
 
 -- a table that was made is one of a making
 pub some_making : (o : Option NewTable) (t : Planned) → table_made o ≡ Some t → (n : NewTable) × (o ≡ Some n) × (table_in n.stands ≡ Some t)
@@ -77,7 +77,7 @@ IsNoted known b = (turn : ℕ) × (shape : TableShape) × (known.roles b ≡ rol
 abbrev pub IsLinkThere : Known → At → Type 0
 IsLinkThere known link = ((r : ℕ) × (link ≡ Root r)) ⊎ ((b : ℕ) × (len : ℕ) × (t : Table) × (link ≡ Word b NEXT) × (known.roles b ≡ role.Table t len))
 
-module _ {K V S : Type 0} (same : K → K → Bool) (hash : K → ℕ) (name : ℕ → List ℕ) (m : Moment K V) (known : Known) (s : Scene K V) (e : Executor K V S) (at : IsAt same hash e s)
+module _ {K V : Type 0} (same : K → K → Bool) (hash : ℕ → K → ℕ) (name : ℕ → List ℕ) (m : Moment K V) (known : Known) (s : Scene K V) (e : Held K V) (at : IsAt same hash e s)
     (shown : Shows same name m known s) where
   pub role_there : (j : ℕ) (t : Planned) → IsInHands s.world j t → known.roles (block_in t.link) ≡ role.OwnTable t.turn (shape_of t)
   role_there j t h =
@@ -153,7 +153,7 @@ module _ {K V S : Type 0} (same : K → K → Bool) (hash : K → ℕ) (name : �
 
   opening_made : (j roots : ℕ) (c : NewMap) (p : Opening) → OpeningFacts s.world roots j c p → (n : NewTable) → making_in_opening p ≡ Some n → OpeningMade j n
   opening_made j roots c (opening.Tables x) facts n is =
-      let its = new_made same hash s.world j c.setting (no_table {K = K}) no_blocks (Root c.setting.root) 0 x facts.2 in
+      let its = new_made same (λ key. 0) s.world j c.setting (no_table {K = K}) no_blocks (Root c.setting.root) 0 x facts.2 in
       let one : x ≡ n = cc is in subst (OpeningMade j) one (its.0, inl (c.setting.root, facts.2.link_is), its.2)
   opening_made j roots c opening.Takes facts n is = absurd (cc is)
   opening_made j roots c opening.Shards facts n is = absurd (cc is)
@@ -178,6 +178,6 @@ module _ {K V S : Type 0} (same : K → K → Bool) (hash : K → ℕ) (name : �
   noted_by j b (inl (map, u, here, t, has, is)) = (t.turn, shape_of t, ap known.roles is ∙ role_there j t (call_hands map j u here t has))
   noted_by j b (inr (d, here, t, has, is)) = (t.turn, shape_of t, ap known.roles is ∙ role_there j t (maker_hands j d here t has))
 
-pub tables_are_made : (K V S : Type 0) (same : K → K → Bool) (hash : K → ℕ) → TablesAreMade K V S same hash
-tables_are_made K V S same hash name m known s e at shown tables b turn shape is =
+pub tables_are_made : (K V : Type 0) (same : K → K → Bool) (hash : ℕ → K → ℕ) → TablesAreMade K V same hash
+tables_are_made K V same hash name m known s e at shown tables b turn shape is =
     let its = tables.whose b turn shape is in (its.0, (held_by same hash name m known s e at shown its.0 b its.1).hand)

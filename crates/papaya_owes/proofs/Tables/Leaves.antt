@@ -17,12 +17,12 @@ use Rattle.papaya_moments.specs.Given.Effects.Known.{Known}
 use Rattle.papaya_moments.specs.Given.Effects.declared.acting.Acting.{Acting}
 use Rattle.papaya_moments.specs.Given.Effects.declared.role.Role.{Role}
 use Rattle.papaya_moments.specs.Given.Effects.declared.role.Role.TheVariants as role
-use Rattle.papaya_moments.specs.Given.Executor.IsAt.{Scene}
 use Rattle.papaya_moments.proofs.Given.Follows.Alike.{put_here, put_elsewhere}
 use Rattle.papaya_owes.specs.Tables.{HoldsTable}
 use Rattle.papaya_owes.proofs.Held.{IsInHand}
 use Rattle.papaya_owes.proofs.Tables.Held.{shape_of, IsNoted}
 use Rattle.papaya_owes.proofs.Tables.Roles.{own_table_of, own_table_is, NoneOfTable, DoesToTables, Leaves, Makes, GivesUp, Links}
+use Rattle.papaya_moments.specs.Given.Scenes.Scene.{Scene}
 
 module _ {K V : Type 0} (its : Acting) (known : Known) (told : Changed) (s t : Scene K V) (i : ℕ) (had now : Option Planned) (many : ℕ) where
   abbrev known2 : Known

@@ -27,9 +27,6 @@ use Rattle.papaya_moments.specs.Given.Effects.Effects.{effects_of, known_after}
 use Rattle.papaya_moments.specs.Given.Effects.Known.{Known}
 use Rattle.papaya_moments.specs.Given.Effects.declared.acting.Acting.{Acting}
 use Rattle.papaya_moments.specs.Given.Effects.declared.acting.Acting.TheVariants as acts
-use Rattle.papaya_moments.specs.Given.Executor.IsAt.{Scene, IsAt, slot_of}
-use Rattle.papaya_moments.specs.Given.Executor.Making.{MakingStepsFrom, MakingComesTo}
-use Rattle.papaya_moments.specs.Given.Executor.declared.executor.Executor.{Executor}
 use Rattle.papaya_moments.specs.Given.Finishes.Endings.{MakingStepsAmong}
 use Rattle.papaya_moments.specs.Given.Finishes.Makings.{Beginning}
 use Rattle.papaya_moments.specs.Given.Follows.Shows.{Shows}
@@ -50,6 +47,9 @@ use Rattle.papaya_owes.proofs.Tables.Held.{OpeningMade, some_making, role_there,
 use Rattle.papaya_owes.proofs.Tables.Hosts.{Within, OpeningGoes, Any, opening_within}
 use Rattle.papaya_owes.proofs.Tables.Leaves.{IsOneStep, TableGoes, Stays, IsMade, IsGivenUp, IsLinked, LeavesTables, left_without}
 use Rattle.papaya_owes.proofs.Tables.Roles.{of_table, NoneOfTable, FreeBefore, does_to_tables}
+use Rattle.papaya_moments.specs.Given.Scenes.Held.{Held, IsAt}
+use Rattle.papaya_moments.specs.Given.Scenes.Making.{MakingComesTo, MakingStepsFrom}
+use Rattle.papaya_moments.specs.Given.Scenes.Scene.{Scene, slot_of}
 
 -- effects that say nothing of such a table make none
 first_none : (map : ℕ) (effects : List Effect) → NoneOfTable effects → MakesFirst map effects
@@ -60,16 +60,16 @@ first_none map (f ∷ effects) none = by f none.0 (first_none map effects none.1
     by (effect.TableMade t) e rest = absurd (cc e)
     by _ e rest = rest
 
-module _ {K V S : Type 0} (same : K → K → Bool) (hash : K → ℕ) (name : ℕ → List ℕ) (m : Moment K V) (known : Known) (s : Scene K V) (old new : Executor K V S) (at : IsAt same hash old s)
+module _ {K V : Type 0} (same : K → K → Bool) (hash : ℕ → K → ℕ) (name : ℕ → List ℕ) (m : Moment K V) (known : Known) (s : Scene K V) (old new : Held K V) (at : IsAt same hash old s)
     (shown : Shows same name m known s) (tables : ShowsTables name m known s) (i : ℕ) (b : Beginning K) (here : s.makers i ≡ Some b) (end : NewMap) (said : Progress Setting)
     (steps : MakingStepsFrom b.machine old new end said)
-    (did : MakingStepsAmong V same same old.batch_size old.roots slot_of s.world s.maps s.calls s.makers s.enders i b new.memory.memory (end, said)) (of : Option ℕ)
+    (did : MakingStepsAmong V same same old.batch_size old.roots slot_of s.world s.maps s.calls s.makers s.enders i b new.memory (end, said)) (of : Option ℕ)
     (comes : MakingComesTo same hash s old new i b end did.step.w2 said) where
   abbrev w2 : World (Node K V)
   w2 = did.step.w2
 
   abbrev told : Changed
-  told = new.memory.changed
+  told = new.changed
 
   abbrev its : Acting
   its = acts.Making b.map
@@ -164,8 +164,8 @@ module _ {K V S : Type 0} (same : K → K → Bool) (hash : K → ℕ) (name : �
 
     -- where the step is one of this making, it goes on so
     module _ (n : NewTable) (making_is : making_in_opening b.machine.stands ≡ Some n) where
-      abbrev inner : Within old.memory.memory new.memory.memory told n (OpeningGoes old.memory.memory new.memory.memory told b.machine (end, said)) (Any old.memory.memory new.memory.memory told b.machine (end, said))
-      inner = opening_within old.memory.memory new.memory.memory told b.machine (end, said) n making_is steps
+      abbrev inner : Within old.memory new.memory told n (OpeningGoes old.memory new.memory told b.machine (end, said)) (Any old.memory new.memory told b.machine (end, said))
+      inner = opening_within old.memory new.memory told b.machine (end, said) n making_is steps
 
       its_making : OpeningMade same hash name m known s old at shown i n
       its_making = maker_made same hash name m known s old at shown i b here n making_is
@@ -177,18 +177,18 @@ module _ {K V S : Type 0} (same : K → K → Bool) (hash : K → ℕ) (name : �
       with_its_table p has =
           let had_is : had ≡ Some p = ap table_made making_is ∙ has in
           let hands = maker_hands same hash name m known s old at shown i b here p had_is in
-          with_table its known told s led i had now 0 one old.memory.memory new.memory.memory n inner.0 inner.1 goes_on its_making.2
+          with_table its known told s led i had now 0 one old.memory new.memory n inner.0 inner.1 goes_on its_making.2
           p has had_is hands (role_there same hash name m known s old at shown i p hands) its_making.1
 
       made_its : had ≡ None → (value : Node K V) (table : Planned) → n.stands ≡ makings.Makes table → value ≡ node.Table table.len table.limit table.turn → (x len limit turn : ℕ)
           → told ≡ changed.Made (kind.Table len limit turn) x → kind_of value ≡ kind.Table len limit turn → Left
       made_its none value table stands value_is x len limit turn made_it kind_is =
-          with_made its known told s led i had now 0 one old.memory.memory new.memory.memory n inner.0 inner.1 goes_on its_making.2
+          with_made its known told s led i had now 0 one old.memory new.memory n inner.0 inner.1 goes_on its_making.2
           none table stands (subst (λ (p : Making). IsMadeBy s.world i p) stands its_making.0) x len limit turn made_it (ap kind_of (sym value_is) ∙ kind_is)
 
     made_table : had ≡ None → (x len limit turn : ℕ) → told ≡ changed.Made (kind.Table len limit turn) x → Left
     made_table none x len limit turn made_it =
-        elim (opening_which s.world i old.roots b.machine old.memory.memory new.memory.memory told (end, said) b.machine.stands steps (kind.Table len limit turn) x made_it) as (λ _. Left) [
+        elim (opening_which s.world i old.roots b.machine old.memory new.memory told (end, said) b.machine.stands steps (kind.Table len limit turn) x made_it) as (λ _. Left) [
           | inl (value, (n, table, making_is, stands, value_is), kind_is) ↦ made_its n making_is none value table stands value_is x len limit turn made_it kind_is
           | inr shards ↦ absurd (cc shards)
         ]
@@ -212,7 +212,7 @@ module _ {K V S : Type 0} (same : K → K → Bool) (hash : K → ℕ) (name : �
       record { tables = fields_still name m v known s led tables (calls_none of effects m) (same_calls said comes); whose = left_tables.whose },
     )
 
-module _ (K V S : Type 0) (same : K → K → Bool) (hash : K → ℕ) where
-  pub makings_keep_tables : MakingsKeepTables K V S same hash
+module _ (K V : Type 0) (same : K → K → Bool) (hash : ℕ → K → ℕ) where
+  pub makings_keep_tables : MakingsKeepTables K V same hash
   makings_keep_tables name m known s old new at shown tables i told leads b here of shown_then =
       let to = leads b here in making_keeps same hash name m known s old new at shown tables i b here to.0 told to.1 to.2 of to.3 shown_then

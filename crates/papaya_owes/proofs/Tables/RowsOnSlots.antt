@@ -1,5 +1,5 @@
 -- A step of a row on a slot takes no table that is not linked: it takes what was handed to the collector.
-use Rattle.std.specs.Prelude.{◌≡◌, ℕ, Bool, List, Some, None}
+use Rattle.std.specs.Prelude.{◌≡◌, ℕ, Bool, List, None}
 use Rattle.std.proofs.Common.{refl, ap}
 use Rattle.papaya_moments.specs.Given.SeizeWords.declared.at.At.TheVariants.{Root, Used, Slot, Entry, Word}
 use Rattle.papaya_moments.specs.Given.Seize.World.{Step}
@@ -14,12 +14,8 @@ use Rattle.papaya_moments.specs.Given.Effects.Known.{Known}
 use Rattle.papaya_moments.specs.Given.Effects.declared.acting.Acting.TheVariants.{Row}
 use Rattle.papaya_moments.specs.Given.Effects.declared.role.Role.{Role}
 use Rattle.papaya_moments.specs.Given.Effects.declared.role.Role.TheVariants as role
-use Rattle.papaya_moments.specs.Given.Executor.IsAt.{Scene, IsAt, work_of}
-use Rattle.papaya_moments.specs.Given.Executor.OnSlots.{RowSteps, HappensAt}
-use Rattle.papaya_moments.specs.Given.Executor.declared.executor.Executor.{Executor}
-use Rattle.papaya_moments.specs.Given.Executor.declared.row.RowTold.{RowTold}
-use Rattle.papaya_moments.specs.Given.Executor.declared.row.SlotRow.{SlotRow}
-use Rattle.papaya_moments.specs.Given.Executor.declared.worker.Work.TheVariants as work
+use Rattle.papaya_moments.specs.Given.Scenes.declared.row.RowTold.{RowTold}
+use Rattle.papaya_moments.specs.Given.Scenes.declared.row.SlotRow.{SlotRow}
 use Rattle.papaya_moments.specs.Given.Follows.Shows.{Shows}
 use Rattle.papaya_moments.proofs.Given.Follows.Told.{roomed_as_many}
 use Rattle.papaya_moments.specs.Given.Others.Rows.{scene_then}
@@ -31,16 +27,19 @@ use Rattle.papaya_owes.proofs.Tables.Aside.{AreTables, tables_still}
 use Rattle.papaya_owes.proofs.Tables.Held.{held_by}
 use Rattle.papaya_owes.proofs.Tables.Roles.{own_table_of, put_table}
 use Rattle.papaya_owes.proofs.Lasting.{row_keeps_held}
+use Rattle.papaya_moments.specs.Given.Scenes.Held.{Held, IsAt}
+use Rattle.papaya_moments.specs.Given.Scenes.OnSlots.{HappensAt, RowSteps}
+use Rattle.papaya_moments.specs.Given.Scenes.Scene.{IsOnSlot, Scene}
 
-module _ {K V S : Type 0} (same : K → K → Bool) (hash : K → ℕ) (name : ℕ → List ℕ) (m : Moment K V) (known : Known) (s : Scene K V) (old new : Executor K V S) (at : IsAt same hash old s)
-    (shown : Shows same name m known s) (tables : ShowsTables name m known s) (i : ℕ) (row : SlotRow) (here : work_of old i ≡ Some (work.OnSlot row)) (end : SlotRow × RowTold (Node K V))
-    (steps : RowSteps K V row old.memory.memory new.memory.memory new.memory.changed end) (happened : HappensAt same hash (Step i) s old new) where
+module _ {K V : Type 0} (same : K → K → Bool) (hash : ℕ → K → ℕ) (name : ℕ → List ℕ) (m : Moment K V) (known : Known) (s : Scene K V) (old new : Held K V) (at : IsAt same hash old s)
+    (shown : Shows same name m known s) (tables : ShowsTables name m known s) (i : ℕ) (row : SlotRow) (here : IsOnSlot s i row) (end : SlotRow × RowTold (Node K V))
+    (steps : RowSteps K V row old.memory new.memory new.changed end) (happened : HappensAt same hash (Step i) s old new) where
   -- a table that a call or a making has is there still
-  not_taken : (b turn : ℕ) (shape : TableShape) → new.memory.changed ≡ changed.Took b → known.roles b ≡ role.OwnTable turn shape → ⊥
+  not_taken : (b turn : ℕ) (shape : TableShape) → new.changed ≡ changed.Took b → known.roles b ≡ role.OwnTable turn shape → ⊥
   not_taken b turn shape took is =
       let it = tables.whose b turn shape is in row_keeps_held same hash s old new at i row here end steps happened b it.0 (held_by same hash name m known s old at shown it.0 b it.1) took
 
-  none_taken : (b : ℕ) → new.memory.changed ≡ changed.Took b → (r : Role) → known.roles b ≡ r → own_table_of role.Free ≡ own_table_of r
+  none_taken : (b : ℕ) → new.changed ≡ changed.Took b → (r : Role) → known.roles b ≡ r → own_table_of role.Free ≡ own_table_of r
   none_taken b took (role.OwnTable turn shape) e = absurd (not_taken b turn shape took e)
   none_taken b took role.Free e = refl
   none_taken b took (role.OwnPair j) e = refl
@@ -48,7 +47,7 @@ module _ {K V S : Type 0} (same : K → K → Bool) (hash : K → ℕ) (name : �
   none_taken b took (role.Table t len) e = refl
   none_taken b took (role.Counter of) e = refl
 
-  same_tables : (x : Changed) → new.memory.changed ≡ x → TellsRow x → AreTables known (known_after Row x known)
+  same_tables : (x : Changed) → new.changed ≡ x → TellsRow x → AreTables known (known_after Row x known)
   same_tables changed.Nothing told is b = refl
   same_tables (changed.Wrote (Slot t field) before after) told is b = refl
   same_tables (changed.Wrote (Entry x field) before after) told is b = refl
@@ -60,13 +59,13 @@ module _ {K V S : Type 0} (same : K → K → Bool) (hash : K → ℕ) (name : �
   same_tables (changed.Took x) told is b = put_table x role.Free known.roles (none_taken x told (known.roles x) refl) b
   same_tables (changed.Roomed bucket had) told is b = ap (λ (f : ℕ → Role). own_table_of (f b)) (roomed_as_many Row known bucket had).0
 
-  pub row_keeps : ShowsTables name (with_effects None None (effects_of Row known new.memory.changed) m) (known_after Row new.memory.changed known) (scene_then same hash (Step i) s old new happened)
+  pub row_keeps : ShowsTables name (with_effects None None (effects_of Row known new.changed) m) (known_after Row new.changed known) (scene_then same hash (Step i) s old new happened)
   row_keeps =
-      tables_still name m (with_effects None None (effects_of Row known new.memory.changed) m) known s (scene_then same hash (Step i) s old new happened) tables
-      (calls_none None (effects_of Row known new.memory.changed) m) refl (known_after Row new.memory.changed known) refl
-      (same_tables new.memory.changed refl (row_tells old.memory.memory new.memory.memory new.memory.changed end row steps))
+      tables_still name m (with_effects None None (effects_of Row known new.changed) m) known s (scene_then same hash (Step i) s old new happened) tables
+      (calls_none None (effects_of Row known new.changed) m) refl (known_after Row new.changed known) refl
+      (same_tables new.changed refl (row_tells old.memory new.memory new.changed end row steps))
 
-module _ (K V S : Type 0) (same : K → K → Bool) (hash : K → ℕ) where
-  pub rows_keep_tables : RowsKeepTables K V S same hash
+module _ (K V : Type 0) (same : K → K → Bool) (hash : ℕ → K → ℕ) where
+  pub rows_keep_tables : RowsKeepTables K V same hash
   rows_keep_tables name m known s old new at shown tables i told leads row here =
-      let to = leads row here in row_keeps same hash name m known s old new at shown tables i row here (to.0, told) to.1 to.4
+      let to = leads row here in row_keeps same hash name m known s old new at shown tables i row here (to.0, told) to.1 to.2

@@ -25,9 +25,6 @@ use Rattle.papaya_moments.specs.Given.Effects.Effects.{effects_of, known_after}
 use Rattle.papaya_moments.specs.Given.Effects.Known.{Known}
 use Rattle.papaya_moments.specs.Given.Effects.declared.acting.Acting.{Acting}
 use Rattle.papaya_moments.specs.Given.Effects.declared.acting.Acting.TheVariants as acts
-use Rattle.papaya_moments.specs.Given.Executor.IsAt.{Scene, IsAt}
-use Rattle.papaya_moments.specs.Given.Executor.Stepping.{StepLeads, scene_after}
-use Rattle.papaya_moments.specs.Given.Executor.declared.executor.Executor.{Executor}
 use Rattle.papaya_moments.specs.Given.Finishes.Machines.{machine_of, GoesOnAs}
 use Rattle.papaya_moments.specs.Given.Follows.Shows.{Shows}
 use Rattle.papaya_moments.proofs.Given.Follows.Calling.{is_same_refl}
@@ -46,13 +43,16 @@ use Rattle.papaya_owes.proofs.Tables.Hosts.{Within, CallGoes, CallRefuses, step_
 use Rattle.papaya_owes.proofs.Tables.Kinds.{which_made}
 use Rattle.papaya_owes.proofs.Tables.Leaves.{IsOneStep, LeavesTables, left_without}
 use Rattle.papaya_owes.proofs.Tables.Roles.{FreeBefore, does_to_tables}
+use Rattle.papaya_moments.specs.Given.Scenes.Held.{Held, IsAt}
+use Rattle.papaya_moments.specs.Given.Scenes.Scene.{Scene}
+use Rattle.papaya_moments.specs.Given.Scenes.Stepping.{StepLeads, scene_after}
 
 -- the table that a call has made, if it is under way
 abbrev pub next_table : {K V : Type 0} → Option (UnderWay K V K) → Option Planned
 next_table None = None
 next_table (Some x) = table_made (making_of (machine_of x))
 
-module _ {K V S : Type 0} (same : K → K → Bool) (hash : K → ℕ) (name : ℕ → List ℕ) (m : Moment K V) (known : Known) (s : Scene K V) (old new : Executor K V S) (at : IsAt same hash old s)
+module _ {K V : Type 0} (same : K → K → Bool) (hash : ℕ → K → ℕ) (name : ℕ → List ℕ) (m : Moment K V) (known : Known) (s : Scene K V) (old new : Held K V) (at : IsAt same hash old s)
     (whole : ShowsWhole same name m known s) (tables : ShowsTables name m known s) (map i : ℕ) (u : UnderWay K V K) (here : s.calls map i ≡ Some u)
     (said : Progress (Node K V)) (leads : StepLeads same hash i said s old new) where
   abbrev to : WentTo same hash name m known s old new at whole.all.shown map i u here said leads
@@ -62,7 +62,7 @@ module _ {K V S : Type 0} (same : K → K → Bool) (hash : K → ℕ) (name : �
   w = s.world
 
   abbrev told : Changed
-  told = new.memory.changed
+  told = new.changed
 
   abbrev its : Acting
   its = acts.Call i map
@@ -74,7 +74,7 @@ module _ {K V S : Type 0} (same : K → K → Bool) (hash : K → ℕ) (name : �
   v = with_effects (Some (name i)) (Some map) (effects_of its known told) m
 
   abbrev led : Scene K V
-  led = scene_after same hash s old new map i to.0 u to.1 said to.4
+  led = scene_after same s old new map i to.0 u to.1 said to.4
 
   abbrev had : Option Planned
   had = table_made (making_of (machine_of u))
@@ -86,11 +86,11 @@ module _ {K V S : Type 0} (same : K → K → Bool) (hash : K → ℕ) (name : �
   abbrev many : ℕ
   many = length (tables_of map m)
 
-  leaves : LeavesBy w.memory new.memory.memory told
-  leaves = operated_leaves w.memory new.memory.memory told (made_so same hash name m known s old new at whole.all.shown map i u here said leads)
+  leaves : LeavesBy w.memory new.memory told
+  leaves = operated_leaves w.memory new.memory told (made_so same hash name m known s old new at whole.all.shown map i u here said leads)
 
   shown_then : Shows same name v known2 led
-  shown_then = (calls_keep_whole K V S same hash name m known s old new at whole map i u here said leads).all.shown
+  shown_then = (calls_keep_whole K V same hash name m known s old new at whole map i u here said leads).all.shown
 
   -- this caller has one call, and makes no map: what is its own is the table of this call
 
@@ -133,8 +133,8 @@ module _ {K V S : Type 0} (same : K → K → Bool) (hash : K → ℕ) (name : �
 
   -- where the step is one of this making, it goes on so
   module _ (n : NewTable) (making_is : making_of (machine_of u) ≡ Some n) where
-    abbrev inner : Within old.memory.memory new.memory.memory told n (CallGoes old.memory.memory new.memory.memory told same same hash to.1 said) (CallRefuses old.memory.memory new.memory.memory told same same hash to.1 said)
-    inner = step_within old.memory.memory new.memory.memory told same same hash to.1 said (machine_of u) n making_is to.3
+    abbrev inner : Within old.memory new.memory told n (CallGoes old.memory new.memory told same same to.0.hash to.1 said) (CallRefuses old.memory new.memory told same same to.0.hash to.1 said)
+    inner = step_within old.memory new.memory told same same to.0.hash to.1 said (machine_of u) n making_is to.3
 
     its_making : MadeThere same hash name m known s old at whole.all.shown map i n
     its_making = call_made same hash name m known s old at whole.all.shown map i u here n making_is
@@ -146,25 +146,25 @@ module _ {K V S : Type 0} (same : K → K → Bool) (hash : K → ℕ) (name : �
     with_its_table t has =
         let had_is : had ≡ Some t = ap table_made making_is ∙ has in
         let hands = call_hands same hash name m known s old at whole.all.shown map i u here t had_is in
-        with_table its known told s led i had now many one old.memory.memory new.memory.memory n inner.0 inner.1 goes_on its_making.2
+        with_table its known told s led i had now many one old.memory new.memory n inner.0 inner.1 goes_on its_making.2
         t has had_is hands (role_there same hash name m known s old at whole.all.shown i t hands) its_making.1
 
     made_its : had ≡ None → (table : Planned) → n.stands ≡ making.Makes table → (b len limit turn : ℕ) → told ≡ changed.Made (kind.Table len limit turn) b
         → kind_of {K = K} {V = V} (node.Table table.len table.limit table.turn) ≡ kind.Table len limit turn → Left
     made_its none table stands b len limit turn made_it kind_is =
         let places : 8 ≤ table.len = subst (λ (p : Making). IsMadeBy w i p) stands its_making.0 in
-        with_made its known told s led i had now many one old.memory.memory new.memory.memory n inner.0 inner.1 goes_on its_making.2
+        with_made its known told s led i had now many one old.memory new.memory n inner.0 inner.1 goes_on its_making.2
         none table stands places b len limit turn made_it kind_is
 
   -- a table that it makes
   made_table : had ≡ None → (b len limit turn : ℕ) → told ≡ changed.Made (kind.Table len limit turn) b → Left
   made_table none b len limit turn made_it =
-      elim (which_made same same hash old.memory.memory new.memory.memory told to.1 said (machine_of u) (call_unmade same hash name m known s old at whole.all.shown map i u here) to.3 (kind.Table len limit turn) b made_it) as (λ _. Left) [
+      elim (which_made same same to.0.hash old.memory new.memory told to.1 said (machine_of u) (call_unmade same hash name m known s old at whole.all.shown map i u here) to.3 (kind.Table len limit turn) b made_it) as (λ _. Left) [
         | inl pair ↦ absurd (cc pair)
         | inr (value, (n, table, making_is, stands, value_is), kind_is) ↦ made_its n making_is none table stands b len limit turn made_it (ap kind_of (sym value_is) ∙ kind_is)
       ]
 
-  makes_free : (x : Changed) → LeavesBy w.memory new.memory.memory x → FreeBefore its known x
+  makes_free : (x : Changed) → LeavesBy w.memory new.memory x → FreeBefore its known x
   makes_free (changed.Made k b) l = free_there w m.stored known whole.all.shown.blocks.roles b l.0
   makes_free changed.Nothing l = tt
   makes_free (changed.Wrote place before after) l = tt

@@ -75,8 +75,8 @@ brief_as {K} {V} c moments m steps few = by c.call few
     by call.Len few = tt
     by call.Walk few = tt
 
-module _ (K V S : Type 0) (same : K → K → Bool) (hash : K → ℕ) where
-  pub events_read_briefly : EventsReadBriefly K V S same hash
+module _ (K V : Type 0) (same : K → K → Bool) (hash : ℕ → K → ℕ) where
+  pub events_read_briefly : EventsReadBriefly K V same hash
   events_read_briefly name log made m known s e at whole reading map i u here entry its l = by (s.maps map) refl
     where
       stands : (standing : Standing K) → s.maps map ≡ Some standing → ReadsBriefly log entry m

@@ -16,13 +16,13 @@ use Rattle.papaya_histories.proofs.Given.Callers.Together.At.{at_same}
 use Rattle.papaya_histories.proofs.Given.Callers.Together.Fits.{map_in_slot}
 use Rattle.papaya_histories.specs.Given.Finishes.Machines.{DidOfKind}
 use Rattle.papaya_histories.specs.Given.Finishes.Maps.{Standing, IsSameMap}
-use Rattle.papaya_histories.specs.Given.Executor.IsAt.{Scene, IsAt, slot_of}
-use Rattle.papaya_histories.specs.Given.Executor.Stepping.{StepLeads}
-use Rattle.papaya_histories.specs.Given.Executor.declared.executor.Executor.{Executor}
 use Rattle.papaya_histories.proofs.Given.Follows.Steps.{one_of}
 use Rattle.papaya_promises.specs.Brief.{TablesLast}
 use Rattle.papaya_promises.specs.Reading.{HasStood, StepsLeaveTables}
 use Rattle.papaya_promises.proofs.Brief.Stays.{same_tables}
+use Rattle.papaya_histories.specs.Given.Scenes.Held.{Held, IsAt}
+use Rattle.papaya_histories.specs.Given.Scenes.Scene.{Scene, slot_of}
+use Rattle.papaya_histories.specs.Given.Scenes.Stepping.{StepLeads}
 
 -- a map that is as it was
 pub same_stood : {K : Type 0} (maps : ℕ → Option (Standing K)) (n : ℕ) (after : Option (Standing K)) → IsSameMap (maps n) after → (st : Standing K) → after ≡ Some st → HasStood maps n st
@@ -38,7 +38,7 @@ same_stood {K} maps n after kept st is = by (maps n) refl kept
           subst (λ (x : Chart K). TablesLast before.chart x) (sym (ap (λ (x : Standing K). x.chart) one)) (same_tables before.chart),
         )
 
-module _ {K V S : Type 0} (same : K → K → Bool) (hash : K → ℕ) (s : Scene K V) (old new : Executor K V S) (at_old : IsAt same hash old s) (map i : ℕ) (u : UnderWay K V K)
+module _ {K V : Type 0} (same : K → K → Bool) (hash : ℕ → K → ℕ) (s : Scene K V) (old new : Held K V) (at_old : IsAt same hash old s) (map i : ℕ) (u : UnderWay K V K)
     (here : s.calls map i ≡ Some u) (said : Progress (Node K V)) (leads : StepLeads same hash i said s old new) where
   abbrev st : Standing K
   st = (leads map u here).0
@@ -52,7 +52,7 @@ module _ {K V S : Type 0} (same : K → K → Bool) (hash : K → ℕ) (s : Scen
       (map_in_slot same st.hash st.setting s.world st.chart st.blocks (slot_of i) stand.ground.map) (stand.ground.sight (slot_of i) (stand.inside i u here)).0
 
   went_last : (Told : World (Node K V) → Chart K → Blocks → Type 0)
-      (went : Went same st.hash (in_slot st.setting (slot_of i)) i s.world st.chart (seen_by st.blocks (st.sights (slot_of i))) new.memory.memory Told) → TablesLast st.chart went.c2
+      (went : Went same st.hash (in_slot st.setting (slot_of i)) i s.world st.chart (seen_by st.blocks (st.sights (slot_of i))) new.memory Told) → TablesLast st.chart went.c2
   went_last Told went =
       let lasts = moved_lasts same st.hash (in_slot st.setting (slot_of i)) (at_old.together.makings.standing.fit map st (leads map u here).2).0.lawful s.world st.chart went.c2
       (seen_by st.blocks (st.sights (slot_of i))) is_map went.moved in
@@ -73,7 +73,7 @@ module _ {K V S : Type 0} (same : K → K → Bool) (hash : K → ℕ) (s : Scen
 
   abbrev DidSo : UnderWay K V K → Type 0
   DidSo x =
-      DidOfKind V same same old.batch_size old.roots slot_of s.world s.maps s.calls s.makers s.enders map st i new.memory.memory (leads map u here).4.w2 (leads map u here).4.maps2
+      DidOfKind V same same old.batch_size old.roots slot_of s.world s.maps s.calls s.makers s.enders map st i new.memory (leads map u here).4.w2 (leads map u here).4.maps2
       (leads map u here).4.next x (leads map u here).1 said
 
   its : (n : ℕ) → n ≡ map → (after : Standing K) → (leads map u here).4.maps2 n ≡ Some after → (x : UnderWay K V K) → DidSo x → HasStood s.maps n after
@@ -91,5 +91,5 @@ module _ {K V S : Type 0} (same : K → K → Bool) (hash : K → ℕ) (s : Scen
     | inr ne ↦ same_stood s.maps n ((leads map u here).4.maps2 n) ((leads map u here).4.others n ne) after is
   ]
 
-pub steps_leave_tables : (K V S : Type 0) (same : K → K → Bool) (hash : K → ℕ) → StepsLeaveTables K V S same hash
-steps_leave_tables K V S same hash s old new at_old map i u here said leads n after is = maps_stood same hash s old new at_old map i u here said leads n after is
+pub steps_leave_tables : (K V : Type 0) (same : K → K → Bool) (hash : ℕ → K → ℕ) → StepsLeaveTables K V same hash
+steps_leave_tables K V same hash s old new at_old map i u here said leads n after is = maps_stood same hash s old new at_old map i u here said leads n after is

@@ -19,10 +19,7 @@ use Rattle.papaya_histories.specs.Given.Schedules.Views.{call_of}
 use Rattle.papaya_histories.specs.Given.Callers.Together.{UnderWay}
 use Rattle.papaya_histories.specs.Given.Effects.Effects.{effects_of}
 use Rattle.papaya_histories.specs.Given.Effects.declared.acting.Acting.TheVariants as acts
-use Rattle.papaya_histories.specs.Given.Executor.IsAt.{Scene}
-use Rattle.papaya_histories.specs.Given.Executor.Replying.{scene_with}
 use Rattle.papaya_histories.specs.Given.Schedules.declared.call.Reply.{Reply}
-use Rattle.papaya_histories.specs.Given.Executor.Stepping.{scene_after}
 use Rattle.papaya_histories.specs.Given.Finishes.Maps.{Standing}
 use Rattle.papaya_histories.specs.Given.Follows.Calling.{NoneNamed, come_to, told}
 use Rattle.papaya_histories.proofs.Given.Follows.Calling.{is_same_refl, apart_back, come, come_of_same, found_kept, replied_same}
@@ -37,6 +34,9 @@ use Rattle.papaya_promises.specs.Meanwhile.{CallsComeToReadings, CallsBeginReadi
 use Rattle.papaya_promises.specs.Reading.{looks, HasLooked, HasStood}
 use Rattle.papaya_promises.proofs.Brief.Maps.{same_stood, maps_stood}
 use Rattle.papaya_promises.proofs.Brief.Stays.{same_tables, readings_stay}
+use Rattle.papaya_histories.specs.Given.Scenes.Replying.{scene_with}
+use Rattle.papaya_histories.specs.Given.Scenes.Scene.{Scene}
+use Rattle.papaya_histories.specs.Given.Scenes.Stepping.{scene_after}
 
 module _ {K V : Type 0} where
   asks_steps : (question : Option ℕ) (c : CallThere K V) (stands : Stands) → (asks_on question c stands).steps ≡ c.steps
@@ -197,25 +197,25 @@ calls_begin_readings K V same name log m known s whole reading map i u its guard
         (let none = ap (λ (y : CallThere K V). y.steps) one in omega (arith, none)) (ap (λ (y : CallThere K V). looks y.call) (sym one) ∙ d_looks))
     reads_then n j x d d_is d_looks standing there (inr was) = reading.reads n j x was.1 d (found_now j false (apart n j x was.1) d d_is) d_looks standing there
 
-module _ (K V S : Type 0) (same : K → K → Bool) (hash : K → ℕ) where
-  pub others_keep_readings : OthersKeepReadings K V S same hash
+module _ (K V : Type 0) (same : K → K → Bool) (hash : ℕ → K → ℕ) where
+  pub others_keep_readings : OthersKeepReadings K V same hash
   others_keep_readings name log made m known s old new at_old whole reading map i u here said leads c c_is no_look =
-      readings_stay K V name log made made m (with_effects (Some (name i)) (Some map) (effects_of (acts.Call i map) known new.memory.changed) m) s
-      (scene_after same hash s old new map i (leads map u here).0 u (leads map u here).1 said (leads map u here).4)
+      readings_stay K V name log made made m (with_effects (Some (name i)) (Some map) (effects_of (acts.Call i map) known new.changed) m) s
+      (scene_after same s old new map i (leads map u here).0 u (leads map u here).1 said (leads map u here).4)
       (record { calls = calls; maps = λ n j x there after is. maps_stood same hash s old new at_old map i u here said leads n after is }) reading
     where
       effects : List Effect
-      effects = effects_of (acts.Call i map) known new.memory.changed
+      effects = effects_of (acts.Call i map) known new.changed
 
-      calls : (n j : ℕ) (x : UnderWay K V K) → (scene_after same hash s old new map i (leads map u here).0 u (leads map u here).1 said (leads map u here).4).calls n j ≡ Some x
-          → (d : CallThere K V) → call_of (name j) (with_effects (Some (name i)) (Some map) (effects_of (acts.Call i map) known new.memory.changed) m) ≡ Some d → looks d.call ≡ true
+      calls : (n j : ℕ) (x : UnderWay K V K) → (scene_after same s old new map i (leads map u here).0 u (leads map u here).1 said (leads map u here).4).calls n j ≡ Some x
+          → (d : CallThere K V) → call_of (name j) (with_effects (Some (name i)) (Some map) (effects_of (acts.Call i map) known new.changed) m) ≡ Some d → looks d.call ≡ true
           → (s.calls n j ≡ Some x) × (b : CallThere K V) × (call_of (name j) m ≡ Some b) × (looks b.call ≡ true) × (d.begun ≡ b.begun) × (d.steps + made j ≡ b.steps + made j)
       calls n j x is d d_is d_looks = by (which s.calls map i (leads map u here).4.next n j x is)
         where
           as_it_was : (b : CallThere K V) → call_of (name j) m ≡ Some b → (looks b.call ≡ true) × (d.begun ≡ b.begun) × (d.steps ≡ b.steps)
           as_it_was b b_is =
-              let kept = effects_steps (name i) map (name j) (effects_of (acts.Call i map) known new.memory.changed) m b b_is in
-              let begun = effects_begun (name i) map (name j) (effects_of (acts.Call i map) known new.memory.changed) m b b_is in
+              let kept = effects_steps (name i) map (name j) (effects_of (acts.Call i map) known new.changed) m b b_is in
+              let begun = effects_begun (name i) map (name j) (effects_of (acts.Call i map) known new.changed) m b b_is in
               let one : d ≡ kept.0 = one_of d kept.0 (sym d_is ∙ kept.1) in
               let two : d ≡ begun.0 = one_of d begun.0 (sym d_is ∙ begun.1) in (
                 ap looks (sym (ap (λ (y : CallThere K V). y.call) one ∙ kept.3)) ∙ d_looks,
@@ -244,8 +244,8 @@ other_work_keeps_readings K V name log made m s s2 of effects kept stood reading
         → (s.calls n j ≡ Some x) × (c : CallThere K V) × (call_of (name j) m ≡ Some c) × (looks c.call ≡ true) × (d.begun ≡ c.begun) × (d.steps + made j ≡ c.steps + made j)
     calls n j x is d d_is d_looks = (kept n j x is, d, sym (calls_left (name j) of effects m) ∙ d_is, d_looks, refl, refl)
 
-pub rows_keep_readings : (K V S : Type 0) (same : K → K → Bool) (hash : K → ℕ) → RowsKeepReadings K V S same hash
-rows_keep_readings K V S same hash name log made m s old new event happened effects reading =
+pub rows_keep_readings : (K V : Type 0) (same : K → K → Bool) (hash : ℕ → K → ℕ) → RowsKeepReadings K V same hash
+rows_keep_readings K V same hash name log made m s old new event happened effects reading =
     other_work_keeps_readings K V name log made m s (scene_then same hash event s old new happened) None effects (λ n j x is. is)
     (λ n j x is st there. same_stood s.maps n (happened.2 n) (happened.3 n) st there) reading
 

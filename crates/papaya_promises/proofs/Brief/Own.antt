@@ -42,13 +42,13 @@ use Rattle.papaya_histories.specs.Given.Teller.declared.changed.Changed.TheVaria
 use Rattle.papaya_histories.proofs.Given.Others.Outcomes.{told_in}
 use Rattle.papaya_histories.specs.Given.Effects.Effects.{effects_of}
 use Rattle.papaya_histories.specs.Given.Effects.declared.acting.Acting.TheVariants as acts
-use Rattle.papaya_histories.specs.Given.Executor.IsAt.{Scene, IsAt, slot_of}
-use Rattle.papaya_histories.specs.Given.Executor.Stepping.{StepLeads}
-use Rattle.papaya_histories.specs.Given.Executor.declared.executor.Executor.{Executor}
-use Rattle.papaya_histories.proofs.Given.Executor.Forgotten.{as_step}
 use Rattle.papaya_promises.specs.Brief.{ReadsAt, ReadsOn, IsRootOf}
 use Rattle.papaya_promises.specs.Reading.{LookupsDoNothing}
 use Rattle.papaya_promises.proofs.Brief.Going.{lookups_read_on, late_reads_on}
+use Rattle.papaya_histories.proofs.Given.Scenes.Told.{as_step}
+use Rattle.papaya_histories.specs.Given.Scenes.Held.{Held, IsAt}
+use Rattle.papaya_histories.specs.Given.Scenes.Scene.{Scene, slot_of}
+use Rattle.papaya_histories.specs.Given.Scenes.Stepping.{StepLeads}
 
 -- of a lookup's plan nothing is told
 
@@ -65,25 +65,25 @@ module _ {K V : Type 0} (m m2 : Mem (Node K V)) (told : Changed) where
   asked_none asks p l (Some q) end s = let it = told_in m m2 told (looked p) (lookup_plan (asks q) l) end s in tells_none (asks q) l l.stands it.0 it.2
   asked_none asks p l None end s = s.2
 
-module _ (K V S : Type 0) (same : K → K → Bool) (hash : K → ℕ) where
+module _ (K V : Type 0) (same : K → K → Bool) (hash : ℕ → K → ℕ) where
   -- what is told of its step
-  told_none : (old new : Executor K V S) (k : CallOnKey K V K) (l : Lookup) → k.call.stands ≡ at.Looks l → (end : Machine K V K × Progress (Node K V))
-      → StepsTold K V (Machine K V K × Progress (Node K V)) old.memory.memory changed.Nothing (machine_plan same same hash (kinds.Key k.call)) new.memory.memory new.memory.changed end
-      → new.memory.changed ≡ changed.Nothing
-  told_none old new k l e end s =
-      let it = told_in old.memory.memory new.memory.memory new.memory.changed called (call_plan same same hash k.call) end s in
-      asked_none old.memory.memory new.memory.memory new.memory.changed same k.call l k.call.asked it.0
-      (subst (λ (x : Calling). StepsTold K V (KeyCall K V K × Called (Node K V)) old.memory.memory changed.Nothing (plan_at same same hash k.call x) new.memory.memory new.memory.changed it.0) e it.2)
+  told_none : (its_hash : K → ℕ) (old new : Held K V) (k : CallOnKey K V K) (l : Lookup) → k.call.stands ≡ at.Looks l → (end : Machine K V K × Progress (Node K V))
+      → StepsTold K V (Machine K V K × Progress (Node K V)) old.memory changed.Nothing (machine_plan same same its_hash (kinds.Key k.call)) new.memory new.changed end
+      → new.changed ≡ changed.Nothing
+  told_none its_hash old new k l e end s =
+      let it = told_in old.memory new.memory new.changed called (call_plan same same its_hash k.call) end s in
+      asked_none old.memory new.memory new.changed same k.call l k.call.asked it.0
+      (subst (λ (x : Calling). StepsTold K V (KeyCall K V K × Called (Node K V)) old.memory changed.Nothing (plan_at same same its_hash k.call x) new.memory new.changed it.0) e it.2)
 
-  pub lookups_do_nothing : LookupsDoNothing K V S same hash
+  pub lookups_do_nothing : LookupsDoNothing K V same hash
   lookups_do_nothing known s old new i said leads map (OnKey k) here incremental c moments steps h =
       let to = leads map (OnKey k) here in
-      ap (effects_of (acts.Call i map) known) (told_none old new k h.0 h.1 (to.1, said) to.3)
+      ap (effects_of (acts.Call i map) known) (told_none to.0.hash old new k h.0 h.1 (to.1, said) to.3)
   lookups_do_nothing known s old new i said leads map (ForRoom r) here incremental c moments steps h = absurd h
   lookups_do_nothing known s old new i said leads map (Counting sum) here incremental c moments steps h = absurd h
   lookups_do_nothing known s old new i said leads map (OverAll o) here incremental c moments steps h = absurd h
 
-module _ {K V S : Type 0} (same : K → K → Bool) (hash : K → ℕ) (s : Scene K V) (old new : Executor K V S) (at_old : IsAt same hash old s) (map i : ℕ) (k : CallOnKey K V K)
+module _ {K V : Type 0} (same : K → K → Bool) (hash : ℕ → K → ℕ) (s : Scene K V) (old new : Held K V) (at_old : IsAt same hash old s) (map i : ℕ) (k : CallOnKey K V K)
     (here : s.calls map i ≡ Some (OnKey k)) (said : Progress (Node K V)) (leads : StepLeads same hash i said s old new) (l : Lookup) (is : k.call.stands ≡ at.Looks l) where
   abbrev c : Chart K
   c = (leads map (OnKey k) here).0.chart
@@ -129,15 +129,15 @@ module _ {K V S : Type 0} (same : K → K → Bool) (hash : K → ℕ) (s : Scen
 
   looked_so : (q : K) → k.call.asked ≡ Some q → LookedOn q
   looked_so q asked =
-      let st = as_step old.memory.memory changed.Nothing (machine_plan same same hash (kinds.Key k.call)) new.memory.memory new.memory.changed ((leads map (OnKey k) here).1, said) (leads map (OnKey k) here).3 in
-      let it = steps_back called old.memory.memory new.memory.memory (call_plan same same hash k.call) ((leads map (OnKey k) here).1, said) st in
-      let at_look = subst (λ (x : Calling). Steps Took value_at old.memory.memory (plan_at same same hash k.call x) new.memory.memory it.0) is it.1 in
-      let of_key = subst (λ (o : Option K). Steps Took value_at old.memory.memory (looks_for same k.call l o) new.memory.memory it.0) asked at_look in
-      let by = steps_back (looked k.call) old.memory.memory new.memory.memory (lookup_plan (same q) l) it.0 of_key in
+      let st = as_step old.memory changed.Nothing (machine_plan same same its_hash (kinds.Key k.call)) new.memory new.changed ((leads map (OnKey k) here).1, said) (leads map (OnKey k) here).3 in
+      let it = steps_back called old.memory new.memory (call_plan same same its_hash k.call) ((leads map (OnKey k) here).1, said) st in
+      let at_look = subst (λ (x : Calling). Steps Took value_at old.memory (plan_at same same its_hash k.call x) new.memory it.0) is it.1 in
+      let of_key = subst (λ (o : Option K). Steps Took value_at old.memory (looks_for same k.call l o) new.memory it.0) asked at_look in
+      let by = steps_back (looked k.call) old.memory new.memory (lookup_plan (same q) l) it.0 of_key in
       record {
-        m2 = new.memory.memory;
+        m2 = new.memory;
         end = by.0;
-        steps = subst (λ (x : Mem (Node K V)). Steps Took value_at x (lookup_plan (same q) l) new.memory.memory by.0) (sym at_old.memory) by.1;
+        steps = subst (λ (x : Mem (Node K V)). Steps Took value_at x (lookup_plan (same q) l) new.memory by.0) (sym at_old.memory) by.1;
         leads_to = (
           ap (λ (x : KeyCall K V K × Called (Node K V)). kinds.Key x.0) (sym by.2) ∙ ap (λ (x : Machine K V K × Progress (Node K V)). x.0) (sym it.2),
           ap (λ (x : KeyCall K V K × Called (Node K V)). of_called x.1) (sym by.2) ∙ ap (λ (x : Machine K V K × Progress (Node K V)). x.1) (sym it.2),

@@ -23,9 +23,6 @@ use Rattle.papaya_histories.specs.Given.Schedules.Lists.{OneOf}
 use Rattle.papaya_histories.specs.Given.Schedules.Moment.{UnderWay as CallThere, MapThere, TableThere, Moment}
 use Rattle.papaya_histories.specs.Given.Schedules.Views.{call_of}
 use Rattle.papaya_histories.specs.Given.Callers.Together.{CallOnKey, UnderWay, OnKey, ForRoom, Counting, OverAll}
-use Rattle.papaya_histories.specs.Given.Executor.IsAt.{Scene, IsAt}
-use Rattle.papaya_histories.specs.Given.Executor.Stepping.{StepLeads, scene_after}
-use Rattle.papaya_histories.specs.Given.Executor.declared.executor.Executor.{Executor}
 use Rattle.papaya_histories.specs.Given.Finishes.Machines.{GoesOnAs, machine_of}
 use Rattle.papaya_histories.specs.Given.Finishes.Maps.{Standing}
 use Rattle.papaya_histories.proofs.Given.Hands.Asking.{which}
@@ -36,6 +33,9 @@ use Rattle.papaya_promises.proofs.Brief.Maps.{maps_stood}
 use Rattle.papaya_promises.proofs.Brief.Own.{HasReadOn, has_read_on}
 use Rattle.papaya_promises.proofs.Brief.Shown.{roots_are_shown}
 use Rattle.papaya_promises.proofs.Brief.Stays.{first_made, looked_on, looked_as}
+use Rattle.papaya_histories.specs.Given.Scenes.Held.{Held, IsAt}
+use Rattle.papaya_histories.specs.Given.Scenes.Scene.{Scene}
+use Rattle.papaya_histories.specs.Given.Scenes.Stepping.{StepLeads, scene_after}
 
 module _ {K V : Type 0} (incremental : Bool) (map : ℕ) (c : Chart K) (moments : List (Moment K V)) where
   -- the turn from which it reads on, and a moment at which that was the root's
@@ -69,7 +69,7 @@ was_alike incremental map c first m v maps tables was =
 machine_is : {K V : Type 0} (p q : KeyCall K V K) → ◌≡◌ {A = Machine K V K} (kinds.Key p) (kinds.Key q) → p ≡ q
 machine_is p q e = cc e
 
-module _ {K V S : Type 0} (same : K → K → Bool) (hash : K → ℕ) (s : Scene K V) (old new : Executor K V S) (at_old : IsAt same hash old s) (map i : ℕ)
+module _ {K V : Type 0} (same : K → K → Bool) (hash : ℕ → K → ℕ) (s : Scene K V) (old new : Held K V) (at_old : IsAt same hash old s) (map i : ℕ)
     (said : Progress (Node K V)) (leads : StepLeads same hash i said s old new) (moments : List (Moment K V)) (steps : ℕ) where
   module _ (k : CallOnKey K V K) (here : s.calls map i ≡ Some (OnKey k)) (l : Lookup) (is : k.call.stands ≡ at.Looks l)
       (from : IsFrom (is_incremental (leads map (OnKey k) here).0.setting.mode) map (leads map (OnKey k) here).0.chart moments steps l.stands) where
@@ -124,15 +124,15 @@ module _ {K V S : Type 0} (same : K → K → Bool) (hash : K → ℕ) (s : Scen
   looked_then (Counting sum) here root h x next = absurd h
   looked_then (OverAll o) here root h x next = absurd h
 
-module _ (K V S : Type 0) (same : K → K → Bool) (hash : K → ℕ) where
-  pub lookups_keep_readings : LookupsKeepReadings K V S same hash
+module _ (K V : Type 0) (same : K → K → Bool) (hash : ℕ → K → ℕ) where
+  pub lookups_keep_readings : LookupsKeepReadings K V same hash
   lookups_keep_readings name log made m known s old new at_old whole reading maps tables map i u here said leads c c_is looks_for =
       record { begun = begun_then; reads = reads_then }
     where
       same_call : (d : CallThere K V) → call_of (name i) m ≡ Some d → d ≡ c
       same_call d is = cc (is, c_is)
 
-      begun_then : (n j : ℕ) (x : UnderWay K V K) → (scene_after same hash s old new map i (leads map u here).0 u (leads map u here).1 said (leads map u here).4).calls n j ≡ Some x
+      begun_then : (n j : ℕ) (x : UnderWay K V K) → (scene_after same s old new map i (leads map u here).0 u (leads map u here).1 said (leads map u here).4).calls n j ≡ Some x
           → (d : CallThere K V) → call_of (name j) m ≡ Some d → looks d.call ≡ true → d.begun ≤ length log
       begun_then n j x is d d_is d_looks = elim (which s.calls map i (leads map u here).4.next n j x is) as (λ _. d.begun ≤ length log) [
         | inl its ↦
@@ -190,9 +190,9 @@ module _ (K V S : Type 0) (same : K → K → Bool) (hash : K → ℕ) where
           moved n stood.0 after stood.2 stood.3 d (d.steps + made j) (d.steps + one_more_of i made j) (ap (λ (z : ℕ). d.steps + z) (other_count n j x apart was)) x
           (reading.reads n j x was d d_is d_looks stood.0 stood.1)
 
-      reads_then : (n j : ℕ) (x : UnderWay K V K) → (scene_after same hash s old new map i (leads map u here).0 u (leads map u here).1 said (leads map u here).4).calls n j ≡ Some x
+      reads_then : (n j : ℕ) (x : UnderWay K V K) → (scene_after same s old new map i (leads map u here).0 u (leads map u here).1 said (leads map u here).4).calls n j ≡ Some x
           → (d : CallThere K V) → call_of (name j) m ≡ Some d → looks d.call ≡ true → (after : Standing K)
-          → (scene_after same hash s old new map i (leads map u here).0 u (leads map u here).1 said (leads map u here).4).maps n ≡ Some after
+          → (scene_after same s old new map i (leads map u here).0 u (leads map u here).1 said (leads map u here).4).maps n ≡ Some after
           → HasLooked (is_incremental after.setting.mode) n after.chart (moments_from d.begun log) (d.steps + one_more_of i made j) x
       reads_then n j x is d d_is d_looks after there = elim (which s.calls map i (leads map u here).4.next n j x is) as (λ _. HasLooked (is_incremental after.setting.mode) n after.chart (moments_from d.begun log) (d.steps + one_more_of i made j) x) [
         | inl its ↦

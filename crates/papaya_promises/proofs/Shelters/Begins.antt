@@ -13,14 +13,14 @@ use Rattle.papaya_histories.specs.Given.Schedules.Moment.{Sheltered, Moment}
 use Rattle.papaya_histories.proofs.Given.Callers.Together.At.{at_other}
 use Rattle.papaya_histories.proofs.Given.Callers.Together.Handed.{inside_on}
 use Rattle.papaya_histories.specs.Given.Effects.Known.{Known}
-use Rattle.papaya_histories.specs.Given.Executor.IsAt.{slot_of}
-use Rattle.papaya_histories.specs.Given.Executor.Rows.{request_of}
-use Rattle.papaya_histories.specs.Given.Executor.declared.row.SlotCall.{SlotCall}
-use Rattle.papaya_histories.specs.Given.Executor.declared.row.SlotCall.TheVariants as call
+use Rattle.papaya_histories.specs.Given.Scenes.declared.row.SlotCall.{SlotCall}
+use Rattle.papaya_histories.specs.Given.Scenes.declared.row.SlotCall.TheVariants as call
 use Rattle.papaya_histories.specs.Given.Others.Walks.{given_up}
 use Rattle.papaya_promises.specs.Others.{SparesGuards, NobodyOn, RowsBeginShelter, HoldByCalls, HoldByMaps, SectionsGoOn}
 use Rattle.papaya_promises.specs.Sheltered.{GuardsAreInside, IsSheltered, AreSheltered, SectionsHold}
 use Rattle.papaya_promises.proofs.Lists.{all_of}
+use Rattle.papaya_histories.specs.Given.Scenes.Rows.{request_of}
+use Rattle.papaya_histories.specs.Given.Scenes.Scene.{slot_of}
 
 module _ {K V : Type 0} (size slot i : ℕ) (w w2 : World (Node K V)) where
   -- a guard on another slot is within its section still
@@ -71,10 +71,10 @@ module _ {K V : Type 0} (size slot i : ℕ) (w w2 : World (Node K V)) where
     begun_shelters xs all =
         (λ own g is. begun_inside there called h spares inside own g is (inside own g is), all_of (IsSheltered there w known) (IsSheltered there w2 known) xs one_goes_on all)
 
-module _ (K V S : Type 0) (same : K → K → Bool) (hash : K → ℕ) where
-  pub rows_begin_shelter : RowsBeginShelter K V S same hash
-  rows_begin_shelter s old new called i may leads there spares inside known xs all =
-      let to = (leads may).3 in begun_shelters old.batch_size (slot_of i) i s.world to.0 there called to.1.1 spares inside known xs all
+module _ (K V : Type 0) (same : K → K → Bool) (hash : ℕ → K → ℕ) where
+  pub rows_begin_shelter : RowsBeginShelter K V same hash
+  rows_begin_shelter s old new called i leads there spares inside known xs all =
+      let to = leads.2 in begun_shelters old.batch_size (slot_of i) i s.world to.0 there called to.1.1 spares inside known xs all
 
 module _ {K V : Type 0} (m : Moment K V) (known : Known) (w : World (Node K V)) (hold : SectionsHold m known w) where
   begins : (own guard : List ℕ) (call : Call K V) (map : Option ℕ) → SectionsHold (with_call own guard call map m) known w

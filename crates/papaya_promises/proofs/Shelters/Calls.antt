@@ -33,9 +33,6 @@ use Rattle.papaya_histories.specs.Given.Effects.Known.{Known}
 use Rattle.papaya_histories.specs.Given.Effects.declared.acting.Acting.TheVariants as acts
 use Rattle.papaya_histories.specs.Given.Effects.declared.role.Role.{Role}
 use Rattle.papaya_histories.specs.Given.Effects.declared.role.Role.TheVariants as role
-use Rattle.papaya_histories.specs.Given.Executor.IsAt.{Scene, IsAt}
-use Rattle.papaya_histories.specs.Given.Executor.Stepping.{StepLeads, scene_after}
-use Rattle.papaya_histories.specs.Given.Executor.declared.executor.Executor.{Executor}
 use Rattle.papaya_histories.specs.Given.Finishes.Maps.{Standing}
 use Rattle.papaya_histories.specs.Given.Follows.Blocks.{HasRole}
 use Rattle.papaya_histories.specs.Given.Follows.Finds.{FindsMap}
@@ -59,6 +56,9 @@ use Rattle.papaya_promises.proofs.Shelters.Lasting.{Lasts, of_map, all_last, gua
 use Rattle.papaya_promises.proofs.Lists.{all_append, all_of, passed_all, IsFound, all_found, all_shelter}
 use Rattle.papaya_promises.proofs.Shelters.Outs.{KeepsIn, OutFirst, AreFew, TakesOwn, calm_keep, room_keeps, effects_few, keep_all}
 use Rattle.papaya_promises.proofs.Shelters.Within.{GoOn, call_goes_on}
+use Rattle.papaya_histories.specs.Given.Scenes.Held.{Held, IsAt}
+use Rattle.papaya_histories.specs.Given.Scenes.Scene.{Scene}
+use Rattle.papaya_histories.specs.Given.Scenes.Stepping.{StepLeads, scene_after}
 
 -- what a row within a call does takes nothing out of a map
 
@@ -95,7 +95,7 @@ takes_own caller map known (changed.Took b) keeps =
     taken_few caller map (known.roles b) (λ last. (let one : role.Free ≡ known.roles b = sym (put_here b role.Free known.roles b refl) ∙ keeps b last in subst IsLasting (sym one) last))
 takes_own caller map known (changed.Roomed bucket had) keeps = tt
 
-module _ {K V S : Type 0} (same : K → K → Bool) (hash : K → ℕ) (name : ℕ → List ℕ) (m : Moment K V) (known : Known) (s : Scene K V) (old new : Executor K V S) (at : IsAt same hash old s)
+module _ {K V : Type 0} (same : K → K → Bool) (hash : ℕ → K → ℕ) (name : ℕ → List ℕ) (m : Moment K V) (known : Known) (s : Scene K V) (old new : Held K V) (at : IsAt same hash old s)
     (whole : ShowsWhole same name m known s) (map i : ℕ) (u : UnderWay K V K) (here : s.calls map i ≡ Some u) (told : Progress (Node K V)) (leads : StepLeads same hash i told s old new) where
   abbrev to : WentTo same hash name m known s old new at whole.all.shown map i u here told leads
   to = went_to same hash name m known s old new at whole.all.shown map i u here told leads
@@ -104,16 +104,16 @@ module _ {K V S : Type 0} (same : K → K → Bool) (hash : K → ℕ) (name : �
   w = s.world
 
   abbrev effects : List Effect
-  effects = effects_of (acts.Call i map) known new.memory.changed
+  effects = effects_of (acts.Call i map) known new.changed
 
   abbrev known2 : Known
-  known2 = known_after (acts.Call i map) new.memory.changed known
+  known2 = known_after (acts.Call i map) new.changed known
 
   abbrev v : Moment K V
   v = with_effects (Some (name i)) (Some map) effects m
 
   abbrev led : Scene K V
-  led = scene_after same hash s old new map i to.0 u to.1 told to.4
+  led = scene_after same s old new map i to.0 u to.1 told to.4
 
   abbrev st : Standing K
   st = to.0
@@ -225,7 +225,7 @@ module _ {K V S : Type 0} (same : K → K → Bool) (hash : K → ℕ) (name : �
     }
 
     few : AreFew effects
-    few = effects_few i map known new.memory.changed (takes_own i map known new.memory.changed on.keeps)
+    few = effects_few i map known new.changed (takes_own i map known new.changed on.keeps)
 
     abbrev pub Shelters : Type 0
     Shelters = GuardsAreInside m.there to.4.w2 × AreSheltered m.there to.4.w2 known2 v.sheltered × (flat_map thing_back effects ≡ [])
@@ -242,26 +242,26 @@ module _ {K V S : Type 0} (same : K → K → Bool) (hash : K → ℕ) (name : �
 
   own_shelters : NoRow → GuardsAreInside m.there w → AreSheltered m.there w known m.sheltered → Then
   own_shelters own inside so =
-      let stores = (calls_store_theirs K V S same hash name m known s old new at whole.all map i u here told leads own).0 in
+      let stores = (calls_store_theirs K V same hash name m known s old new at whole.all map i u here told leads own).0 in
       let step = step_shown same hash name m known s old new at whole.all.shown map i u here told leads own stores in
       shelters step.1 inside (all_shelter_so inside so effects (few step.1).0 step.0)
 
   row_left : (NoRow → ⊥) → AllByRecursion KeepsIn effects
   row_left other = by u to.4.did other
     where
-      none : TakesNone new.memory.changed
-      none = (rows_hand_theirs K V S same hash name m known s old new at whole.all map i u here told leads other).1
+      none : TakesNone new.changed
+      none = (rows_hand_theirs K V same hash name m known s old new at whole.all map i u here told leads other).1
 
       came : CameAbout to.0.setting.batch_size w
       came = (at.together.makings.standing.each map st to.2).ground.came
 
-      left : LeavesBy w.memory new.memory.memory new.memory.changed
-      left = operated_leaves w.memory new.memory.memory new.memory.changed (made_so same hash name m known s old new at whole.all.shown map i u here told leads)
+      left : LeavesBy w.memory new.memory new.changed
+      left = operated_leaves w.memory new.memory new.changed (made_so same hash name m known s old new at whole.all.shown map i u here told leads)
 
-      so : (w2 : World (Node K V)) → w2.memory ≡ new.memory.memory → IsOneStep to.0.setting i w w2 → AllByRecursion KeepsIn effects
+      so : (w2 : World (Node K V)) → w2.memory ≡ new.memory → IsOneStep to.0.setting i w w2 → AllByRecursion KeepsIn effects
       so w2 memory happened =
-          row_keeps i map m known w w2 whole.all.shown.blocks.roles (one_step_leaves to.0.setting i w w2 came happened) new.memory.changed none
-          (subst (λ (n : Mem (Node K V)). LeavesBy w.memory n new.memory.changed) (sym memory) left)
+          row_keeps i map m known w w2 whole.all.shown.blocks.roles (one_step_leaves to.0.setting i w w2 came happened) new.changed none
+          (subst (λ (n : Mem (Node K V)). LeavesBy w.memory n new.changed) (sym memory) left)
 
       by : (x : UnderWay K V K) → (did : DidSo same hash name m known s old new at whole.all.shown map i u here told leads x)
           → (OfNoRow same hash name m known s old new at whole.all.shown map i u here told leads x did → ⊥) → AllByRecursion KeepsIn effects
@@ -275,7 +275,7 @@ module _ {K V S : Type 0} (same : K → K → Bool) (hash : K → ℕ) (name : �
 
   row_shelters : (NoRow → ⊥) → GuardsAreInside m.there w → AreSheltered m.there w known m.sheltered → Then
   row_shelters other inside so =
-      let theirs = rows_hand_theirs K V S same hash name m known s old new at whole.all map i u here told leads other in
+      let theirs = rows_hand_theirs K V same hash name m known s old new at whole.all map i u here told leads other in
       let on = row_step_shown same hash name m known s old new at whole.all.shown map i u here told leads other theirs.1 theirs.0 in
       shelters on inside (subst (AreSheltered m.there w known) (sym (keep_all (Some (name i)) (Some map) effects m (row_left other))) so)
 
@@ -285,6 +285,6 @@ module _ {K V S : Type 0} (same : K → K → Bool) (hash : K → ℕ) (name : �
     | inr other ↦ row_shelters other inside so
   ]
 
-module _ (K V S : Type 0) (same : K → K → Bool) (hash : K → ℕ) where
-  pub calls_shelter : CallsShelter K V S same hash
+module _ (K V : Type 0) (same : K → K → Bool) (hash : ℕ → K → ℕ) where
+  pub calls_shelter : CallsShelter K V same hash
   calls_shelter name m known s old new at whole map i u here told leads inside so = call_shelters same hash name m known s old new at whole map i u here told leads inside so

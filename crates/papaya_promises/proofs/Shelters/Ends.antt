@@ -18,9 +18,6 @@ use Rattle.papaya_histories.specs.Given.Effects.declared.acting.Acting.{Acting}
 use Rattle.papaya_histories.specs.Given.Effects.declared.acting.Acting.TheVariants as acts
 use Rattle.papaya_histories.specs.Given.Effects.declared.role.Role.{Role}
 use Rattle.papaya_histories.specs.Given.Effects.declared.role.Role.TheVariants as role
-use Rattle.papaya_histories.specs.Given.Executor.Ending.{EndingStepsFrom, EndingComesTo}
-use Rattle.papaya_histories.specs.Given.Executor.IsAt.{Scene, IsAt, slot_of}
-use Rattle.papaya_histories.specs.Given.Executor.declared.executor.Executor.{Executor}
 use Rattle.papaya_histories.specs.Given.Finishes.Endings.{Finishing, StepsOfEnding}
 use Rattle.papaya_histories.specs.Given.Finishes.FactsEnds.{taken_by as taken_of}
 use Rattle.papaya_histories.specs.Given.Follows.Blocks.{HasRole}
@@ -34,10 +31,13 @@ use Rattle.papaya_promises.specs.Sheltered.{GuardsAreInside, AreSheltered, Secti
 use Rattle.papaya_promises.proofs.Shelters.Lasting.{Lasts, of_map, all_last, guards_last}
 use Rattle.papaya_promises.proofs.Shelters.Noted.{more_noted}
 use Rattle.papaya_promises.proofs.Shelters.Outs.{TakeNothing, calm_nothing, keep_all}
+use Rattle.papaya_histories.specs.Given.Scenes.Ending.{EndingComesTo, EndingStepsFrom}
+use Rattle.papaya_histories.specs.Given.Scenes.Held.{Held, IsAt}
+use Rattle.papaya_histories.specs.Given.Scenes.Scene.{Scene, slot_of}
 
-module _ {K V S : Type 0} (same : K → K → Bool) (hash : K → ℕ) (name : ℕ → List ℕ) (m : Moment K V) (known : Known) (s : Scene K V) (old new : Executor K V S) (at : IsAt same hash old s)
+module _ {K V : Type 0} (same : K → K → Bool) (hash : ℕ → K → ℕ) (name : ℕ → List ℕ) (m : Moment K V) (known : Known) (s : Scene K V) (old new : Held K V) (at : IsAt same hash old s)
     (whole : ShowsWhole same name m known s) (i : ℕ) (f : Finishing K V) (here : s.enders i ≡ Some f) (end : EndMap) (said : Settled (Node K V)) (steps : EndingStepsFrom f.machine old new end said)
-    (did : StepsOfEnding V same same old.batch_size old.roots slot_of s.world s.maps s.calls s.makers s.enders i f new.memory.memory (end, said))
+    (did : StepsOfEnding V same same old.batch_size old.roots slot_of s.world s.maps s.calls s.makers s.enders i f new.memory (end, said))
     (map : ℕ) (not_there : s.maps map ≡ None) (comes : EndingComesTo same hash s new i f end did.w2 did.deed said) where
   abbrev w : World (Node K V)
   w = s.world
@@ -46,7 +46,7 @@ module _ {K V S : Type 0} (same : K → K → Bool) (hash : K → ℕ) (name : �
   w2 = did.w2
 
   abbrev told : Changed
-  told = new.memory.changed
+  told = new.changed
 
   abbrev its : Acting
   its = acts.Ending map
@@ -117,7 +117,7 @@ module _ {K V S : Type 0} (same : K → K → Bool) (hash : K → ℕ) (name : �
     take_nothing.1,
   )
 
-module _ (K V S : Type 0) (same : K → K → Bool) (hash : K → ℕ) where
-  pub endings_shelter : EndingsShelter K V S same hash
+module _ (K V : Type 0) (same : K → K → Bool) (hash : ℕ → K → ℕ) where
+  pub endings_shelter : EndingsShelter K V same hash
   endings_shelter name m known s old new at whole i told leads f here map not_there =
       let to = leads f here in ending_shelters same hash name m known s old new at whole i f here to.0 told to.1 to.2 map not_there to.3

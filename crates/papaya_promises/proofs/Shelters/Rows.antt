@@ -1,5 +1,5 @@
 -- A step of a row on a slot leaves sheltered what is so, and reclaims none of it.
-use Rattle.std.specs.Prelude.{◌≡◌, ◌==◌, ℕ, nat_lt, Bool, true, false, ◌||◌, ◌&&◌, List, [], ◌∷◌, Some, if◌then◌else◌}
+use Rattle.std.specs.Prelude.{◌≡◌, ◌==◌, ℕ, nat_lt, Bool, true, false, ◌||◌, ◌&&◌, List, [], ◌∷◌, if◌then◌else◌}
 use Rattle.std.proofs.Common.{refl, sym, subst, ap, ◌∙◌, arith, inl}
 use Rattle.papaya_histories.specs.Given.SeizeWords.Mem.{Mem, value_at}
 use Rattle.papaya_histories.specs.Given.SeizeWords.declared.at.At.TheVariants.{Root, Used, Slot, Entry, Word}
@@ -27,13 +27,8 @@ use Rattle.papaya_histories.specs.Given.Effects.Known.{Known}
 use Rattle.papaya_histories.specs.Given.Effects.declared.acting.Acting.TheVariants.{Row}
 use Rattle.papaya_histories.specs.Given.Effects.declared.role.Role.{Role}
 use Rattle.papaya_histories.specs.Given.Effects.declared.role.Role.TheVariants as role
-use Rattle.papaya_histories.specs.Given.Executor.IsAt.{Scene, IsAt, slot_of, work_of}
-use Rattle.papaya_histories.specs.Given.Executor.OnSlots.{RowSteps, HappensAt}
-use Rattle.papaya_histories.specs.Given.Executor.declared.executor.Executor.{Executor}
-use Rattle.papaya_histories.specs.Given.Executor.declared.row.RowTold.{RowTold}
-use Rattle.papaya_histories.specs.Given.Executor.declared.row.SlotRow.{SlotRow}
-use Rattle.papaya_histories.specs.Given.Executor.declared.worker.Work.TheVariants as work
-use Rattle.papaya_histories.proofs.Given.Executor.OnSlots.{row_at, may_taken}
+use Rattle.papaya_histories.specs.Given.Scenes.declared.row.RowTold.{RowTold}
+use Rattle.papaya_histories.specs.Given.Scenes.declared.row.SlotRow.{SlotRow}
 use Rattle.papaya_histories.proofs.Given.Follows.Onward.{IsOfMap}
 use Rattle.papaya_histories.proofs.Given.Follows.Operations.{LeavesBy, operated_leaves}
 use Rattle.papaya_histories.proofs.Given.Follows.Told.{roomed_as_many}
@@ -44,6 +39,10 @@ use Rattle.papaya_promises.specs.Shelters.{RowsShelter, NoneIsBack}
 use Rattle.papaya_promises.specs.Sheltered.{IsOfThing, GuardsAreInside, IsSheltered, AreSheltered}
 use Rattle.papaya_promises.proofs.Shelters.Lasting.{Lasts, of_map, all_last, guards_last}
 use Rattle.papaya_promises.proofs.Lists.{all_of}
+use Rattle.papaya_histories.proofs.Given.Scenes.May.{may_row}
+use Rattle.papaya_histories.specs.Given.Scenes.Held.{Held, IsAt}
+use Rattle.papaya_histories.specs.Given.Scenes.OnSlots.{HappensAt, RowSteps}
+use Rattle.papaya_histories.specs.Given.Scenes.Scene.{IsOnSlot, Scene}
 
 -- two things that are the same
 
@@ -77,9 +76,9 @@ pub none_back : (xs : List Sheltered) → NoneIsBack [] xs
 none_back [] = tt
 none_back (x ∷ xs) = (refl, none_back xs)
 
-module _ {K V S : Type 0} (same : K → K → Bool) (hash : K → ℕ) (m : Moment K V) (known : Known) (s : Scene K V) (old new : Executor K V S) (at : IsAt same hash old s)
-    (i : ℕ) (row : SlotRow) (here : work_of old i ≡ Some (work.OnSlot row)) (end : SlotRow × RowTold (Node K V))
-    (steps : RowSteps K V row old.memory.memory new.memory.memory new.memory.changed end) (happened : HappensAt same hash (Step i) s old new) where
+module _ {K V : Type 0} (same : K → K → Bool) (hash : ℕ → K → ℕ) (m : Moment K V) (known : Known) (s : Scene K V) (old new : Held K V) (at : IsAt same hash old s)
+    (i : ℕ) (row : SlotRow) (here : IsOnSlot s i row) (end : SlotRow × RowTold (Node K V))
+    (steps : RowSteps K V row old.memory new.memory new.changed end) (happened : HappensAt same hash (Step i) s old new) where
   abbrev w : World (Node K V)
   w = s.world
 
@@ -87,20 +86,20 @@ module _ {K V S : Type 0} (same : K → K → Bool) (hash : K → ℕ) (m : Mome
   w2 = happened.0
 
   abbrev known2 : Known
-  known2 = known_after Row new.memory.changed known
+  known2 = known_after Row new.changed known
 
-  left : LeavesBy w.memory w2.memory new.memory.changed
+  left : LeavesBy w.memory w2.memory new.changed
   left =
-      subst (λ (n : Mem (Node K V)). LeavesBy w.memory n new.memory.changed) (sym happened.4.memory)
-      (subst (λ (n : Mem (Node K V)). LeavesBy n new.memory.memory new.memory.changed) (sym at.memory)
-      (operated_leaves old.memory.memory new.memory.memory new.memory.changed
-      (row_operated old.memory.memory new.memory.memory new.memory.changed end row (may_taken same hash old s at i row here (slot_of i) row (row_at same hash old s at i row here)) steps)))
+      subst (λ (n : Mem (Node K V)). LeavesBy w.memory n new.changed) (sym happened.4.memory)
+      (subst (λ (n : Mem (Node K V)). LeavesBy n new.memory new.changed) (sym at.memory)
+      (operated_leaves old.memory new.memory new.changed
+      (row_operated old.memory new.memory new.changed end row (may_row same hash old s at i row here) steps)))
 
   reached : Reached deferred_word old.batch_size w
   reached = came_reached old.batch_size w at.together.makings.standing.came
 
-  tells : TellsRow new.memory.changed
-  tells = row_tells old.memory.memory new.memory.memory new.memory.changed end row steps
+  tells : TellsRow new.changed
+  tells = row_tells old.memory new.memory new.changed end row steps
 
   as_many : (told : Changed) → TellsRow told → (known_after Row told known).stored ≡ known.stored
   as_many changed.Nothing is = refl
@@ -131,21 +130,21 @@ module _ {K V S : Type 0} (same : K → K → Bool) (hash : K → ℕ) (m : Mome
   lasts = record {
     inside = λ t inside. inside_kept deferred_word old.batch_size w reached i w2 happened.1 t inside;
     held = λ t b inside of h. still_held deferred_word old.batch_size w reached i w2 happened.1 t b inside h;
-    more = (let e = as_many new.memory.changed tells in omega (arith, e));
-    back = λ x b come of. inl (sym (was_so new.memory.changed tells b (of_map x (known2.roles b) of)));
+    more = (let e = as_many new.changed tells in omega (arith, e));
+    back = λ x b come of. inl (sym (was_so new.changed tells b (of_map x (known2.roles b) of)));
   }
 
   -- a block that a section holds is not taken away
-  not_gone : (t b : ℕ) → new.memory.changed ≡ changed.Took b → holds t b w.log ≡ true → ⊥
+  not_gone : (t b : ℕ) → new.changed ≡ changed.Took b → holds t b w.log ≡ true → ⊥
   not_gone t b took held =
       let it = subst (LeavesBy w.memory w2.memory) took left in
       none_some (value_at w.memory b) it.0 (sym (kept_value deferred_word old.batch_size w reached i w2 happened.1 b (IsHeld t held)) ∙ it.1)
 
   module _ (there : Present) where
-    not_it : (b : ℕ) → new.memory.changed ≡ changed.Took b → (y : Thing) → IsOfThing y (known.roles b) → (x : Sheltered) → IsSheltered there w known x → x.thing ≡ y → ⊥
+    not_it : (b : ℕ) → new.changed ≡ changed.Took b → (y : Thing) → IsOfThing y (known.roles b) → (x : Sheltered) → IsSheltered there w known x → x.thing ≡ y → ⊥
     not_it b took y of x (come, g, is, inside, each) e = not_gone g.slot b took (each b (subst (λ (z : Thing). IsOfThing z (known.roles b)) (sym e) of))
 
-    taken_back : (b : ℕ) → new.memory.changed ≡ changed.Took b → (r : Role) → known.roles b ≡ r → (xs : List Sheltered) → AreSheltered there w known xs → NoneIsBack (taken_by Row r) xs
+    taken_back : (b : ℕ) → new.changed ≡ changed.Took b → (r : Role) → known.roles b ≡ r → (xs : List Sheltered) → AreSheltered there w known xs → NoneIsBack (taken_by Row r) xs
     taken_back b took role.Free is xs all = none_back xs
     taken_back b took (role.OwnPair c) is xs all = none_back xs
     taken_back b took (role.OwnTable turn shape) is xs all = none_back xs
@@ -163,7 +162,7 @@ module _ {K V S : Type 0} (same : K → K → Bool) (hash : K → ℕ) (m : Mome
     roomed_back true xs = none_back xs
     roomed_back false xs = none_back xs
 
-    told_back : (told : Changed) → new.memory.changed ≡ told → TellsRow told → (xs : List Sheltered) → AreSheltered there w known xs → NoneIsBack (effects_of Row known told) xs
+    told_back : (told : Changed) → new.changed ≡ told → TellsRow told → (xs : List Sheltered) → AreSheltered there w known xs → NoneIsBack (effects_of Row known told) xs
     told_back changed.Nothing is tells_so xs all = none_back xs
     told_back (changed.Wrote (Slot t field) before now) is tells_so xs all = none_back xs
     told_back (changed.Wrote (Entry b field) before now) is tells_so xs all = nothing_back (names_same before now) xs
@@ -176,11 +175,11 @@ module _ {K V S : Type 0} (same : K → K → Bool) (hash : K → ℕ) (m : Mome
     told_back (changed.Roomed bucket had) is tells_so xs all = roomed_back (had && nat_lt bucket known.buckets) xs
 
     pub row_shelters : (xs : List Sheltered) → AreSheltered there w known xs
-        → (GuardsAreInside there w → GuardsAreInside there w2) × AreSheltered there w2 known2 xs × NoneIsBack (effects_of Row known new.memory.changed) xs
-    row_shelters xs all = (guards_last there known known2 w w2 lasts, all_last there known known2 w w2 lasts xs all, told_back new.memory.changed refl tells xs all)
+        → (GuardsAreInside there w → GuardsAreInside there w2) × AreSheltered there w2 known2 xs × NoneIsBack (effects_of Row known new.changed) xs
+    row_shelters xs all = (guards_last there known known2 w w2 lasts, all_last there known known2 w w2 lasts xs all, told_back new.changed refl tells xs all)
 
-module _ (K V S : Type 0) (same : K → K → Bool) (hash : K → ℕ) where
-  pub rows_shelter : RowsShelter K V S same hash
+module _ (K V : Type 0) (same : K → K → Bool) (hash : ℕ → K → ℕ) where
+  pub rows_shelter : RowsShelter K V same hash
   rows_shelter name m known s old new at whole i told leads row here there xs all =
       let to = leads row here in
-      row_shelters same hash m known s old new at i row here (to.0, told) to.1 to.4 there xs all
+      row_shelters same hash m known s old new at i row here (to.0, told) to.1 to.2 there xs all

@@ -19,11 +19,11 @@ use Rattle.papaya_histories.proofs.Given.Callers.Together.Came.{came_reached}
 use Rattle.papaya_histories.proofs.Given.Callers.Together.Handed.{inside_on}
 use Rattle.papaya_histories.proofs.Given.Callers.Together.Users.{events_uses}
 use Rattle.papaya_histories.specs.Given.Effects.Known.{Known}
-use Rattle.papaya_histories.specs.Given.Executor.IsAt.{Scene, IsAt}
-use Rattle.papaya_histories.specs.Given.Executor.Stepping.{StepLeads}
-use Rattle.papaya_histories.specs.Given.Executor.declared.executor.Executor.{Executor}
 use Rattle.papaya_histories.specs.Given.Follows.Shows.{Shows}
 use Rattle.papaya_histories.proofs.Given.Follows.Steps.{WentTo, went_to, DidSo}
+use Rattle.papaya_histories.specs.Given.Scenes.Held.{Held, IsAt}
+use Rattle.papaya_histories.specs.Given.Scenes.Scene.{Scene}
+use Rattle.papaya_histories.specs.Given.Scenes.Stepping.{StepLeads}
 
 -- whoever is within a section is so still, and that holds what it held
 pub record GoOn {K V : Type 0} (w w2 : World (Node K V)) : Type 0 where
@@ -62,7 +62,7 @@ module _ {K V : Type 0} where
         held = λ t b inside h. still_held deferred_word setting.batch_size begun r i w2 step t b (first.inside t inside) (first.held t b inside h);
       }
 
-module _ {K V S : Type 0} (same : K → K → Bool) (hash : K → ℕ) (name : ℕ → List ℕ) (m : Moment K V) (known : Known) (s : Scene K V) (old new : Executor K V S) (at : IsAt same hash old s)
+module _ {K V : Type 0} (same : K → K → Bool) (hash : ℕ → K → ℕ) (name : ℕ → List ℕ) (m : Moment K V) (known : Known) (s : Scene K V) (old new : Held K V) (at : IsAt same hash old s)
     (shown : Shows same name m known s) (map i : ℕ) (u : UnderWay K V K) (here : s.calls map i ≡ Some u) (told : Progress (Node K V)) (leads : StepLeads same hash i told s old new) where
   abbrev to : WentTo same hash name m known s old new at shown map i u here told leads
   to = went_to same hash name m known s old new at shown map i u here told leads

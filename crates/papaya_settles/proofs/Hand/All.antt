@@ -14,9 +14,6 @@ use Rattle.papaya_histories.specs.Given.Callers.OverAll.{CallOverAll}
 use Rattle.papaya_histories.specs.Given.Callers.Rooms.{CallForRoom}
 use Rattle.papaya_histories.specs.Given.Callers.Together.{CallOnKey, UnderWay, OnKey, ForRoom, Counting, OverAll}
 use Rattle.papaya_histories.specs.Given.Effects.Known.{Known}
-use Rattle.papaya_histories.specs.Given.Executor.IsAt.{Scene, IsAt}
-use Rattle.papaya_histories.specs.Given.Executor.Stepping.{StepLeads}
-use Rattle.papaya_histories.specs.Given.Executor.declared.executor.Executor.{Executor}
 use Rattle.papaya_histories.specs.Given.Follows.Shows.{Shows}
 use Rattle.papaya_histories.proofs.Given.Follows.Steps.{went_to, made_so, is_inside, DidSo, OfNoRow}
 use Rattle.papaya_histories.proofs.Given.Spots.Steps.{stayed_calm}
@@ -29,6 +26,9 @@ use Rattle.papaya_settles.proofs.Hand.Rooms.{room_goes_on}
 use Rattle.papaya_settles.proofs.Hand.Steps.{rows_hand_over}
 use Rattle.papaya_settles.proofs.Hand.Sweeps.{sweep_goes_on}
 use Rattle.papaya_settles.proofs.Takings.{all_calm}
+use Rattle.papaya_histories.specs.Given.Scenes.Held.{Held, IsAt}
+use Rattle.papaya_histories.specs.Given.Scenes.Scene.{Scene}
+use Rattle.papaya_histories.specs.Given.Scenes.Stepping.{StepLeads}
 
 -- it copies, or it does not
 copies_or_not : (p : Calling) → IsCopying p ⊎ (IsCopying p → ⊥)
@@ -36,7 +36,7 @@ copies_or_not (at.Helps copier goal) = inl tt
 copies_or_not (at.Copies copier) = inl tt
 copies_or_not _ = inr (λ copies. copies)
 
-module _ {K V S : Type 0} (same : K → K → Bool) (hash : K → ℕ) (name : ℕ → List ℕ) (m : Moment K V) (known : Known) (s : Scene K V) (old new : Executor K V S) (at_old : IsAt same hash old s)
+module _ {K V : Type 0} (same : K → K → Bool) (hash : ℕ → K → ℕ) (name : ℕ → List ℕ) (m : Moment K V) (known : Known) (s : Scene K V) (old new : Held K V) (at_old : IsAt same hash old s)
     (shown : Shows same name m known s) (map i : ℕ) (u : UnderWay K V K) (under_way : s.calls map i ≡ Some u) (said : Progress (Node K V)) (leads : StepLeads same hash i said s old new) where
   abbrev Did : UnderWay K V K → Type 0
   Did x = DidSo same hash name m known s old new at_old shown map i u under_way said leads x
@@ -67,41 +67,41 @@ module _ {K V S : Type 0} (same : K → K → Bool) (hash : K → ℕ) (name : �
   sweep_rests x (p2, end, machine_is, told_is, inl (step, moved)) own = step.no_row
   sweep_rests x (p2, end, machine_is, told_is, inr row) own = absurd own
 
-module _ (K V S : Type 0) (same : K → K → Bool) (hash : K → ℕ) where
-  pub calls_go_in_hand : CallsGoInHand K V S same hash
+module _ (K V : Type 0) (same : K → K → Bool) (hash : ℕ → K → ℕ) where
+  pub calls_go_in_hand : CallsGoInHand K V same hash
   calls_go_in_hand name m known s old new at_old shown rows entries owning map i (OnKey x) here said leads notes =
-      elim (own_or_row same hash name m known s old new at_old shown map i (OnKey x) here said leads (OnKey x) did) as (λ _. HandGoes K V S same hash m known s old new map i (OnKey x) said here leads) [
-        | inl own ↦ elim (copies_or_not x.call.stands) as (λ _. HandGoes K V S same hash m known s old new map i (OnKey x) said here leads) [
+      elim (own_or_row same hash name m known s old new at_old shown map i (OnKey x) here said leads (OnKey x) did) as (λ _. HandGoes K V same hash m known s old new map i (OnKey x) said here leads) [
+        | inl own ↦ elim (copies_or_not x.call.stands) as (λ _. HandGoes K V same hash m known s old new map i (OnKey x) said here leads) [
           | inl copies ↦ key_copies same hash name m known s old new at_old shown map i x here said leads notes
               (key_rests same hash name m known s old new at_old shown map i (OnKey x) here said leads x did own) own copies
-          | inr copies ↦ keys_go_in_hand K V S same hash name m known s old new at_old shown map i x here said leads copies notes own
+          | inr copies ↦ keys_go_in_hand K V same hash name m known s old new at_old shown map i x here said leads copies notes own
         ]
-        | inr other ↦ rows_hand_over K V S same hash name m known s old new at_old shown rows entries owning map i (OnKey x) here said leads notes other
+        | inr other ↦ rows_hand_over K V same hash name m known s old new at_old shown rows entries owning map i (OnKey x) here said leads notes other
       ]
     where
       did : DidSo same hash name m known s old new at_old shown map i (OnKey x) here said leads (OnKey x)
       did = (went_to same hash name m known s old new at_old shown map i (OnKey x) here said leads).4.did
   calls_go_in_hand name m known s old new at_old shown rows entries owning map i (ForRoom x) here said leads notes =
-      elim (own_or_row same hash name m known s old new at_old shown map i (ForRoom x) here said leads (ForRoom x) did) as (λ _. HandGoes K V S same hash m known s old new map i (ForRoom x) said here leads) [
+      elim (own_or_row same hash name m known s old new at_old shown map i (ForRoom x) here said leads (ForRoom x) did) as (λ _. HandGoes K V same hash m known s old new map i (ForRoom x) said here leads) [
         | inl own ↦ room_goes_on same hash name m known s old new at_old shown map i x here said leads notes
             (room_rests same hash name m known s old new at_old shown map i (ForRoom x) here said leads x did own) own
-        | inr other ↦ rows_hand_over K V S same hash name m known s old new at_old shown rows entries owning map i (ForRoom x) here said leads notes other
+        | inr other ↦ rows_hand_over K V same hash name m known s old new at_old shown rows entries owning map i (ForRoom x) here said leads notes other
       ]
     where
       did : DidSo same hash name m known s old new at_old shown map i (ForRoom x) here said leads (ForRoom x)
       did = (went_to same hash name m known s old new at_old shown map i (ForRoom x) here said leads).4.did
   calls_go_in_hand name m known s old new at_old shown rows entries owning map i (OverAll x) here said leads notes =
-      elim (own_or_row same hash name m known s old new at_old shown map i (OverAll x) here said leads (OverAll x) did) as (λ _. HandGoes K V S same hash m known s old new map i (OverAll x) said here leads) [
+      elim (own_or_row same hash name m known s old new at_old shown map i (OverAll x) here said leads (OverAll x) did) as (λ _. HandGoes K V same hash m known s old new map i (OverAll x) said here leads) [
         | inl own ↦ sweep_goes_on same hash name m known s old new at_old shown map i x here said leads notes
             (sweep_rests same hash name m known s old new at_old shown map i (OverAll x) here said leads x did own) own
-        | inr other ↦ rows_hand_over K V S same hash name m known s old new at_old shown rows entries owning map i (OverAll x) here said leads notes other
+        | inr other ↦ rows_hand_over K V same hash name m known s old new at_old shown rows entries owning map i (OverAll x) here said leads notes other
       ]
     where
       did : DidSo same hash name m known s old new at_old shown map i (OverAll x) here said leads (OverAll x)
       did = (went_to same hash name m known s old new at_old shown map i (OverAll x) here said leads).4.did
   calls_go_in_hand name m known s old new at_old shown rows entries owning map i (Counting x) here said leads notes = by (went_to same hash name m known s old new at_old shown map i (Counting x) here said leads).4.did
     where
-      by : DidSo same hash name m known s old new at_old shown map i (Counting x) here said leads (Counting x) → HandGoes K V S same hash m known s old new map i (Counting x) said here leads
+      by : DidSo same hash name m known s old new at_old shown map i (Counting x) here said leads (Counting x) → HandGoes K V same hash m known s old new map i (Counting x) said here leads
       by (sum2, end, machine_is, told_is, still, stayed) =
           let to = went_to same hash name m known s old new at_old shown map i (Counting x) here said leads in
           let none : in_hand known to.1 ≡ [] = ap (in_hand known) machine_is in

@@ -52,7 +52,6 @@ use Rattle.papaya_histories.proofs.Given.Rule.Keys.Always.{AlwaysOf, always_plan
 use Rattle.papaya_histories.specs.Given.Points.Told.{IsRowOf, IsRowOfCopier, IsRowOfCall}
 use Rattle.papaya_histories.specs.Given.Late.ToldReserves.{IsRowOfReserve}
 use Rattle.papaya_histories.specs.Given.Late.ToldSweeps.{IsRowOfSweep}
-use Rattle.papaya_histories.specs.Given.Executor.Stepping.{has_ended}
 use Rattle.papaya_settles.specs.Due.{Due, ToPut, word_due, due_in_settle, due_in_disposing, due_in_copying, due_in_calling, due_in_reserving, due_in_sweeping}
 use Rattle.papaya_settles.specs.Hand.{things_at, tables_from, tables_in_hand, in_hand_of_call, in_hand_of_room, in_hand_of_sweep, IsPairRole, NotesPair, NotesDue, NotesTable, NotesTables, NotesOfCall, NotesOfRoom, NotesOfSweep}
 use Rattle.papaya_settles.specs.InHand.{pair_in_disposing}
@@ -60,6 +59,7 @@ use Rattle.papaya_settles.proofs.DueRows.{GoesOn}
 use Rattle.papaya_settles.proofs.Hand.Rows.{KeepsBehind, Behind}
 use Rattle.papaya_settles.proofs.Held.{always_turned}
 use Rattle.papaya_settles.proofs.Passed.{GoesBehind, retired_behind}
+use Rattle.papaya_histories.specs.Given.Scenes.Stepping.{has_ended}
 
 -- what a row is to hand over it has still, or has none of any more
 abbrev pub GoesDue : Option Due → Option Due → Type 0

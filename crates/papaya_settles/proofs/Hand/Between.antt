@@ -14,7 +14,6 @@ use Rattle.papaya_histories.specs.Given.Schedules.Moment.{Stands, Going, Asking,
 use Rattle.papaya_histories.specs.Given.Schedules.Views.{call_of}
 use Rattle.papaya_histories.specs.Given.Callers.Together.{UnderWay}
 use Rattle.papaya_histories.specs.Given.Effects.Known.{Known}
-use Rattle.papaya_histories.specs.Given.Executor.IsAt.{Scene}
 use Rattle.papaya_histories.specs.Given.Finishes.Machines.{machine_of}
 use Rattle.papaya_histories.specs.Given.Finishes.Maps.{with_call as with_in}
 use Rattle.papaya_histories.specs.Given.Follows.Calling.{NoneNamed}
@@ -30,6 +29,7 @@ use Rattle.papaya_settles.specs.Owed.{OwedBegins, StaysOwed, EffectsLeaveOwed, C
 use Rattle.papaya_settles.proofs.Gains.{none_changed}
 use Rattle.papaya_settles.proofs.Hand.Asked.{told_stays, asked_stays}
 use Rattle.papaya_settles.proofs.Hand.Roles.{hand_same, hand_noted}
+use Rattle.papaya_histories.specs.Given.Scenes.Scene.{Scene}
 
 -- As a run begins there is no call.
 pub owed_begins : (K V : Type 0) → OwedBegins K V
@@ -193,8 +193,8 @@ calls_come_to_owed K V same name m known s whole shows own o steps ended = by (e
     by false e = changed_owe same name m _ known s whole.all.shown.calls shows (come o steps) (come_of_same o steps) (come_owes o steps) own refl
 
 -- a walk goes on to its next pair
-pub walks_go_on_owed : (K V S : Type 0) (same : K → K → Bool) (hash : K → ℕ) → WalksGoOnOwed K V S same hash
-walks_go_on_owed K V S same hash name m known s old new shows i leads of u here = record { owed = then_owes; noted = notes }
+pub walks_go_on_owed : (K V : Type 0) (same : K → K → Bool) (hash : ℕ → K → ℕ) → WalksGoOnOwed K V same hash
+walks_go_on_owed K V same hash name m known s old new shows i leads of u here = record { owed = then_owes; noted = notes }
   where
     next : UnderWay K V K
     next = (leads of u here).0
@@ -217,8 +217,8 @@ walks_go_on_owed K V S same hash name m known s old new shows i leads of u here 
     ]
 
 -- or is given up
-pub walks_stop_owed : (K V S : Type 0) (same : K → K → Bool) (hash : K → ℕ) → WalksStopOwed K V S same hash
-walks_stop_owed K V S same hash name m known s old new shown shows i true leads of u here apart = record { owed = left; noted = λ n j x is. shows.noted n j x (was n j x is) }
+pub walks_stop_owed : (K V : Type 0) (same : K → K → Bool) (hash : ℕ → K → ℕ) → WalksStopOwed K V same hash
+walks_stop_owed K V same hash name m known s old new shown shows i true leads of u here apart = record { owed = left; noted = λ n j x is. shows.noted n j x (was n j x is) }
   where
     after : Scene K V
     after = record s { calls = with_in s.calls of i None }
@@ -236,7 +236,7 @@ walks_stop_owed K V S same hash name m known s old new shown shows i true leads 
         let kept : not (is_same there.0.caller (name i)) ≡ true = ap (λ (l : List ℕ). not (is_same l (name i))) is_its ∙ ap not (apart_back (name i) (name j) (apart refl n j x is)) in
         let found_now = found_kept (λ c. is_same c.caller (name j)) (λ c. not (is_same c.caller (name i))) m.calls there.0 there.1 kept in
         subst (λ (z : CallThere K V). z.owes ≡ in_hand known (machine_of x)) (one_of there.0 d (sym found_now ∙ d_is)) (shows.owed n j x (was n j x is) there.0 there.1)
-walks_stop_owed K V S same hash name m known s old new shown shows i false leads of u here apart = record { owed = left; noted = notes }
+walks_stop_owed K V same hash name m known s old new shown shows i false leads of u here apart = record { owed = left; noted = notes }
   where
     left : (n j : ℕ) (x : UnderWay K V K) → with_in s.calls of i (Some u) n j ≡ Some x → (d : CallThere K V) → call_of (name j) (given_up (name i) false m) ≡ Some d → d.owes ≡ in_hand known (machine_of x)
     left n j x is d d_is = elim (which s.calls of i (Some u) n j x is) as (λ _. d.owes ≡ in_hand known (machine_of x)) [

@@ -15,9 +15,6 @@ use Rattle.papaya_histories.specs.Given.Callers.Together.{UnderWay}
 use Rattle.papaya_histories.specs.Given.Effects.Effects.{effects_of, known_after}
 use Rattle.papaya_histories.specs.Given.Effects.Known.{Known}
 use Rattle.papaya_histories.specs.Given.Effects.declared.acting.Acting.TheVariants as acts
-use Rattle.papaya_histories.specs.Given.Executor.IsAt.{Scene, IsAt}
-use Rattle.papaya_histories.specs.Given.Executor.Stepping.{StepLeads, scene_after}
-use Rattle.papaya_histories.specs.Given.Executor.declared.executor.Executor.{Executor}
 use Rattle.papaya_histories.specs.Given.Finishes.Machines.{machine_of}
 use Rattle.papaya_histories.specs.Given.Follows.Calls.{IsCalled}
 use Rattle.papaya_histories.specs.Given.Follows.Shows.{Shows}
@@ -35,10 +32,13 @@ use Rattle.papaya_settles.proofs.Gains.{others_stay}
 use Rattle.papaya_settles.proofs.Hand.All.{calls_go_in_hand}
 use Rattle.papaya_settles.proofs.Hand.Roles.{hand_same, hand_noted, hand_kept}
 use Rattle.papaya_settles.proofs.Owing.{owes_follow}
+use Rattle.papaya_histories.specs.Given.Scenes.Held.{Held, IsAt}
+use Rattle.papaya_histories.specs.Given.Scenes.Scene.{Scene}
+use Rattle.papaya_histories.specs.Given.Scenes.Stepping.{StepLeads, scene_after}
 
-module _ {K V S : Type 0} (same : K → K → Bool) (hash : K → ℕ) (name : ℕ → List ℕ) (m : Moment K V) (known : Known) (s : Scene K V) (old new : Executor K V S) (at : IsAt same hash old s)
+module _ {K V : Type 0} (same : K → K → Bool) (hash : ℕ → K → ℕ) (name : ℕ → List ℕ) (m : Moment K V) (known : Known) (s : Scene K V) (old new : Held K V) (at : IsAt same hash old s)
     (whole : ShowsWhole same name m known s) (shows : ShowsOwed name m known s) (map i : ℕ) (u : UnderWay K V K) (here : s.calls map i ≡ Some u) (said : Progress (Node K V))
-    (leads : StepLeads same hash i said s old new) (goes : HandGoes K V S same hash m known s old new map i u said here leads) where
+    (leads : StepLeads same hash i said s old new) (goes : HandGoes K V same hash m known s old new map i u said here leads) where
   abbrev shown : Shows same name m known s
   shown = whole.all.shown
 
@@ -46,10 +46,10 @@ module _ {K V S : Type 0} (same : K → K → Bool) (hash : K → ℕ) (name : �
   to = went_to same hash name m known s old new at shown map i u here said leads
 
   abbrev effects : List Effect
-  effects = effects_of (acts.Call i map) known new.memory.changed
+  effects = effects_of (acts.Call i map) known new.changed
 
   abbrev known2 : Known
-  known2 = known_after (acts.Call i map) new.memory.changed known
+  known2 = known_after (acts.Call i map) new.changed known
 
   abbrev v : Moment K V
   v = with_effects (Some (name i)) (Some map) effects m
@@ -92,7 +92,7 @@ module _ {K V S : Type 0} (same : K → K → Bool) (hash : K → ℕ) (name : �
 
   -- where it has come to
   abbrev led : Scene K V
-  led = scene_after same hash s old new map i to.0 u to.1 said to.4
+  led = scene_after same s old new map i to.0 u to.1 said to.4
 
   machine_then : (x : UnderWay K V K) → to.4.next ≡ Some x → machine_of x ≡ to.1
   machine_then x is = goes_as_one to.1 said to.4.next to.4.goes_on x is
@@ -113,7 +113,7 @@ module _ {K V S : Type 0} (same : K → K → Bool) (hash : K → ℕ) (name : �
   pub kept : Finds × ShowsOwed name v known2 led × (to.4.next ≡ None → (d : CallThere K V) → call_of (name i) v ≡ Some d → d.owes ≡ [])
   kept = (follows.0, record { owed = owes_then; noted = noted_then }, λ none d is. own_owes d is ∙ goes.2 none)
 
-pub calls_keep_owed : (K V S : Type 0) (same : K → K → Bool) (hash : K → ℕ) → CallsKeepOwed K V S same hash
-calls_keep_owed K V S same hash name m known s old new at whole entries owning shows map i u here said leads =
+pub calls_keep_owed : (K V : Type 0) (same : K → K → Bool) (hash : ℕ → K → ℕ) → CallsKeepOwed K V same hash
+calls_keep_owed K V same hash name m known s old new at whole entries owning shows map i u here said leads =
     kept same hash name m known s old new at whole shows map i u here said leads
-    (calls_go_in_hand K V S same hash name m known s old new at whole.all.shown whole.all.rows entries owning map i u here said leads (shows.noted map i u here))
+    (calls_go_in_hand K V same hash name m known s old new at whole.all.shown whole.all.rows entries owning map i u here said leads (shows.noted map i u here))

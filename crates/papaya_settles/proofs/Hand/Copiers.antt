@@ -50,10 +50,6 @@ use Rattle.papaya_histories.specs.Given.Effects.Known.{Known}
 use Rattle.papaya_histories.specs.Given.Effects.declared.acting.Acting.{Acting}
 use Rattle.papaya_histories.specs.Given.Effects.declared.acting.Acting.TheVariants as acts
 use Rattle.papaya_histories.specs.Given.Effects.declared.role.Role.TheVariants as role
-use Rattle.papaya_histories.specs.Given.Executor.IsAt.{Scene, IsAt, slot_of}
-use Rattle.papaya_histories.specs.Given.Executor.Stepping.{StepLeads}
-use Rattle.papaya_histories.specs.Given.Executor.declared.executor.Executor.{Executor}
-use Rattle.papaya_histories.proofs.Given.Executor.Forgotten.{as_step}
 use Rattle.papaya_histories.specs.Given.Finishes.Maps.{Standing}
 use Rattle.papaya_histories.specs.Given.Follows.Maps.{table_of}
 use Rattle.papaya_histories.specs.Given.Follows.Shows.{Shows}
@@ -64,12 +60,16 @@ use Rattle.papaya_settles.specs.Owing.{AllLeave, OwesGo, KeepsOwed, Passes}
 use Rattle.papaya_settles.proofs.CopierTables.{HasEnds, HasCutFrom, SeesTables, KnowsTables}
 use Rattle.papaya_settles.proofs.Here.{each, is_sight}
 use Rattle.papaya_settles.proofs.Passed.{numbered, passed_none, passed_first, tables_named, tables_none, copier_none}
+use Rattle.papaya_histories.proofs.Given.Scenes.Told.{as_step}
+use Rattle.papaya_histories.specs.Given.Scenes.Held.{Held, IsAt}
+use Rattle.papaya_histories.specs.Given.Scenes.Scene.{Scene, slot_of}
+use Rattle.papaya_histories.specs.Given.Scenes.Stepping.{StepLeads}
 
 -- it has unlinked none, or goes on
 abbrev pub GoesOrHas : {K V : Type 0} → Copier × Outcome (Node K V) Table → Type 0
 GoesOrHas e = (has_unlinked e.0.stands ≡ false) ⊎ (e.1 ≡ outcome.Goes)
 
-module _ {K V S : Type 0} (same : K → K → Bool) (hash : K → ℕ) (name : ℕ → List ℕ) (m : Moment K V) (known : Known) (s : Scene K V) (old new : Executor K V S) (at_old : IsAt same hash old s)
+module _ {K V : Type 0} (same : K → K → Bool) (hash : ℕ → K → ℕ) (name : ℕ → List ℕ) (m : Moment K V) (known : Known) (s : Scene K V) (old new : Held K V) (at_old : IsAt same hash old s)
     (shown : Shows same name m known s) (map i : ℕ) (u : UnderWay K V K) (under_way : s.calls map i ≡ Some u) (said : Progress (Node K V)) (leads : StepLeads same hash i said s old new) where
   abbrev st : Standing K
   st = (went_to same hash name m known s old new at_old shown map i u under_way said leads).0
@@ -81,7 +81,7 @@ module _ {K V S : Type 0} (same : K → K → Bool) (hash : K → ℕ) (name : �
   c = st.chart
 
   abbrev told : Changed
-  told = new.memory.changed
+  told = new.changed
 
   abbrev its : Acting
   its = acts.Call i map
@@ -134,7 +134,7 @@ module _ {K V S : Type 0} (same : K → K → Bool) (hash : K → ℕ) (name : �
 
   module _ (p : Copier) (knows : KnowsTables same st.hash s.world i setting c blocks p) (end : Copier × Outcome (Node K V) Table) where
     abbrev SteppedAt : Copying → Type 0
-    SteppedAt stands = StepsTold K V (Copier × Outcome (Node K V) Table) old.memory.memory changed.Nothing (copiers.plan_at hash p stands) new.memory.memory told end
+    SteppedAt stands = StepsTold K V (Copier × Outcome (Node K V) Table) old.memory changed.Nothing (copiers.plan_at st.hash p stands) new.memory told end
 
     -- what it had in hand at this point goes so
     abbrev pub GoesFrom : Copying → Copier × Outcome (Node K V) Table → Type 0
@@ -174,11 +174,11 @@ module _ {K V S : Type 0} (same : K → K → Bool) (hash : K → ℕ) (name : �
           ∙ (root_says its known p.setting.root from to apart (role.Table (table_of map x) (c.len x)) (role.Table (table_of map y) (c.len y))
           (table_role x ends.3.made ends.3.known from refl) (table_role y ends.4.made ends.4.known to refl)).0
 
-      promoted_goes : word_at old.memory.memory (Root p.setting.root) ≡ Some p.source.link → told ≡ changed.Wrote (Root p.setting.root) p.source.link p.target.link
+      promoted_goes : word_at old.memory (Root p.setting.root) ≡ Some p.source.link → told ≡ changed.Wrote (Root p.setting.root) p.source.link p.target.link
           → end ≡ (standing p copying.Announces, outcome.Goes) → GoesFrom copying.Promotes end
       promoted_goes read told_so e =
           let here : word_at s.world.memory (Root setting.root) ≡ Some p.source.link =
-          ap (λ (n : Mem (Node K V)). word_at n (Root setting.root)) at_old.memory ∙ subst (λ (z : Setting). word_at old.memory.memory (Root z.root) ≡ Some p.source.link) knows.0 read in
+          ap (λ (n : Mem (Node K V)). word_at n (Root setting.root)) at_old.memory ∙ subst (λ (z : Setting). word_at old.memory (Root z.root) ≡ Some p.source.link) knows.0 read in
           let root : x ≡ c.first = root_named p.source.link x here ends.3.made ends.3.known source_is in
           let hand : tables_from known (standing p copying.Announces) p.source.link ≡ passed map (first_of map m) y =
           from_table (standing p copying.Announces) x y turn_is ends.3.made ends.3.known p.source.link source_is ∙ ap (λ (k : ℕ). passed map k y) (root ∙ sym first_is) in
@@ -257,8 +257,8 @@ module _ {K V S : Type 0} (same : K → K → Bool) (hash : K → ℕ) (name : �
 
       succeeds_goes : SteppedAt (copying.Succeeds table) → GoesFrom (copying.Succeeds table) end
       succeeds_goes steps =
-          let l = loaded old.memory.memory (successor_read p table) (Word (table / 2048) NEXT) new.memory.memory end
-          (as_step old.memory.memory changed.Nothing (copiers.plan_at hash p (copying.Succeeds table)) new.memory.memory told end steps) in
+          let l = loaded old.memory (successor_read p table) (Word (table / 2048) NEXT) new.memory end
+          (as_step old.memory changed.Nothing (copiers.plan_at st.hash p (copying.Succeeds table)) new.memory told end steps) in
           let here : word_at s.world.memory (Word (table / 2048) NEXT) ≡ Some l.0 = ap (λ (n : Mem (Node K V)). word_at n (Word (table / 2048) NEXT)) at_old.memory ∙ l.1 in
           succeeds_as l.0 (next_read same st.hash i setting s.world c blocks is_map p knows.0 s0 t0 cut.2 cut.4 cut.5 table cut.3 l.0 here) l.3
 
@@ -267,8 +267,8 @@ module _ {K V S : Type 0} (same : K → K → Bool) (hash : K → ℕ) (name : �
     plain_goes stands is none other all steps =
         let before = copier_none known p stands none in
         let ended : has_unlinked end.0.stands ≡ false =
-        unlinks_none hash p old.memory.memory new.memory.memory end
-        (as_step old.memory.memory changed.Nothing (copier_plan hash p) new.memory.memory told end (subst SteppedAt (sym is) steps)) (ap has_unlinked is ∙ none) (ap is_promoting is ∙ other) in
+        unlinks_none st.hash p old.memory new.memory end
+        (as_step old.memory changed.Nothing (copier_plan st.hash p) new.memory told end (subst SteppedAt (sym is) steps)) (ap has_unlinked is ∙ none) (ap is_promoting is ∙ other) in
         let after = copier_none known end.0 end.0.stands ended in
         (KeepsOwed all (after.0 ∙ sym before.0), after.1, inl ended)
 
@@ -288,5 +288,5 @@ module _ {K V S : Type 0} (same : K → K → Bool) (hash : K → ℕ) (name : �
     CopierGoes = GoesFrom p.stands end
 
     pub copier_goes : (IsRowOfCopier p.stands → ⊥) → NotesTables known p p.stands → Leaves p.stands
-        → StepsTold K V (Copier × Outcome (Node K V) Table) old.memory.memory changed.Nothing (copier_plan hash p) new.memory.memory told end → CopierGoes
+        → StepsTold K V (Copier × Outcome (Node K V) Table) old.memory changed.Nothing (copier_plan st.hash p) new.memory told end → CopierGoes
     copier_goes row notes leaves steps = goes_at p.stands refl row knows.1 notes leaves steps

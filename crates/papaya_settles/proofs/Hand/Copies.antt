@@ -38,9 +38,6 @@ use Rattle.papaya_histories.specs.Given.Callers.Together.{UnderWay, in_slot}
 use Rattle.papaya_histories.specs.Given.Effects.Effects.{effects_of}
 use Rattle.papaya_histories.specs.Given.Effects.Known.{Known}
 use Rattle.papaya_histories.specs.Given.Effects.declared.acting.Acting.TheVariants as acts
-use Rattle.papaya_histories.specs.Given.Executor.IsAt.{Scene, IsAt, slot_of}
-use Rattle.papaya_histories.specs.Given.Executor.Stepping.{has_ended, StepLeads}
-use Rattle.papaya_histories.specs.Given.Executor.declared.executor.Executor.{Executor}
 use Rattle.papaya_histories.specs.Given.Finishes.Machines.{machine_of}
 use Rattle.papaya_histories.specs.Given.Finishes.Maps.{Standing}
 use Rattle.papaya_histories.specs.Given.Follows.Shows.{Shows}
@@ -54,8 +51,11 @@ use Rattle.papaya_settles.proofs.Hand.Asked.{NoneOfSweep, either_sweep, ending_n
 use Rattle.papaya_settles.proofs.Hand.Copiers.{GoesOrHas, CopierGoes, copier_goes}
 use Rattle.papaya_settles.proofs.Leaving.{has_gone, leaves}
 use Rattle.papaya_settles.proofs.Passed.{copier_none}
+use Rattle.papaya_histories.specs.Given.Scenes.Held.{Held, IsAt}
+use Rattle.papaya_histories.specs.Given.Scenes.Scene.{Scene, slot_of}
+use Rattle.papaya_histories.specs.Given.Scenes.Stepping.{StepLeads, has_ended}
 
-module _ {K V S : Type 0} (same : K → K → Bool) (hash : K → ℕ) (name : ℕ → List ℕ) (m : Moment K V) (known : Known) (s : Scene K V) (old new : Executor K V S) (at_old : IsAt same hash old s)
+module _ {K V : Type 0} (same : K → K → Bool) (hash : ℕ → K → ℕ) (name : ℕ → List ℕ) (m : Moment K V) (known : Known) (s : Scene K V) (old new : Held K V) (at_old : IsAt same hash old s)
     (shown : Shows same name m known s) (map i : ℕ) (u : UnderWay K V K) (under_way : s.calls map i ≡ Some u) (said : Progress (Node K V)) (leads : StepLeads same hash i said s old new) where
   abbrev to : WentTo same hash name m known s old new at_old shown map i u under_way said leads
   to = went_to same hash name m known s old new at_old shown map i u under_way said leads
@@ -64,16 +64,16 @@ module _ {K V S : Type 0} (same : K → K → Bool) (hash : K → ℕ) (name : �
   st = to.0
 
   abbrev effects : List Effect
-  effects = effects_of (acts.Call i map) known new.memory.changed
+  effects = effects_of (acts.Call i map) known new.changed
 
   -- its copier has taken the step, and the call has in hand what that has, if that has tables in hand or goes on; and once it has ended, it has nothing
   pub copying_goes : OfNoRow same hash name m known s old new at_old shown map i u under_way said leads u to.4.did
       → (p : Copier) → KnowsTables same st.hash s.world i (in_slot st.setting (slot_of i)) st.chart (seen_by st.blocks (st.sights (slot_of i))) p → (IsRowOfCopier p.stands → ⊥)
       → in_hand known (machine_of u) ≡ tables_in_hand known p p.stands → NotesTables known p p.stands → (r : Copier × Outcome (Node K V) Table)
-      → StepsTold K V (Copier × Outcome (Node K V) Table) old.memory.memory changed.Nothing (copier_plan hash p) new.memory.memory new.memory.changed r
+      → StepsTold K V (Copier × Outcome (Node K V) Table) old.memory changed.Nothing (copier_plan to.0.hash p) new.memory new.changed r
       → (GoesOrHas r → (in_hand known to.1 ≡ tables_in_hand known r.0 r.0.stands) × (NotesTables known r.0 r.0.stands → NotesInHand known to.1))
       → (has_ended said ≡ true → in_hand known to.1 ≡ []) → ((n : ℕ) → TakesPair effects n → ⊥) → (is_promoting p.stands ≡ false → (t : TableTurn) → effects ≡ effect.Promoted t ∷ [] → ⊥)
-      → HandGoes K V S same hash m known s old new map i u said under_way leads
+      → HandGoes K V same hash m known s old new map i u said under_way leads
   copying_goes own p knows row before notes r steps came ended no_pair no_table =
       let goes : CopierGoes same hash name m known s old new at_old shown map i u under_way said leads p knows r =
       copier_goes same hash name m known s old new at_old shown map i u under_way said leads p knows r row notes

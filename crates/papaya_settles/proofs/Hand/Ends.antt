@@ -19,10 +19,6 @@ use Rattle.papaya_histories.specs.Given.Effects.Known.{Known}
 use Rattle.papaya_histories.specs.Given.Effects.declared.acting.Acting.TheVariants as acts
 use Rattle.papaya_histories.specs.Given.Effects.declared.role.Role.{Role}
 use Rattle.papaya_histories.specs.Given.Effects.declared.role.Role.TheVariants as role
-use Rattle.papaya_histories.proofs.Given.Executor.Forgotten.{as_step}
-use Rattle.papaya_histories.specs.Given.Executor.Ending.{EndingComesTo, EndingStepsFrom}
-use Rattle.papaya_histories.specs.Given.Executor.IsAt.{Scene, IsAt, slot_of}
-use Rattle.papaya_histories.specs.Given.Executor.declared.executor.Executor.{Executor}
 use Rattle.papaya_histories.proofs.Given.Finishes.Ends.Frames.{that_one}
 use Rattle.papaya_histories.proofs.Given.Finishes.Ends.Points.{end_steps}
 use Rattle.papaya_histories.specs.Given.Finishes.Endings.{Finishing, FinishingFacts, StepsOfEnding}
@@ -41,11 +37,15 @@ use Rattle.papaya_settles.proofs.Hand.Between.{effects_leave_owed}
 use Rattle.papaya_settles.proofs.Hand.Lives.{IsTakenOut}
 use Rattle.papaya_settles.proofs.Hand.Others.{IsThere, role_there, all_there, pair_of_map, table_of_map}
 use Rattle.papaya_settles.proofs.Hand.Roles.{hand_both}
+use Rattle.papaya_histories.proofs.Given.Scenes.Told.{as_step}
+use Rattle.papaya_histories.specs.Given.Scenes.Ending.{EndingComesTo, EndingStepsFrom}
+use Rattle.papaya_histories.specs.Given.Scenes.Held.{Held, IsAt}
+use Rattle.papaya_histories.specs.Given.Scenes.Scene.{Scene, slot_of}
 
-module _ {K V S : Type 0} (same : K → K → Bool) (hash : K → ℕ) (name : ℕ → List ℕ) (m : Moment K V) (known : Known) (s : Scene K V) (old new : Executor K V S) (at : IsAt same hash old s)
+module _ {K V : Type 0} (same : K → K → Bool) (hash : ℕ → K → ℕ) (name : ℕ → List ℕ) (m : Moment K V) (known : Known) (s : Scene K V) (old new : Held K V) (at : IsAt same hash old s)
     (whole : ShowsWhole same name m known s) (shows : ShowsOwed name m known s) (i : ℕ) (f : Finishing K V) (here : s.enders i ≡ Some f) (end : EndMap) (said : Settled (Node K V))
     (steps : EndingStepsFrom f.machine old new end said)
-    (did : StepsOfEnding V same same old.batch_size old.roots slot_of s.world s.maps s.calls s.makers s.enders i f new.memory.memory (end, said))
+    (did : StepsOfEnding V same same old.batch_size old.roots slot_of s.world s.maps s.calls s.makers s.enders i f new.memory (end, said))
     (map : ℕ) (not_there : s.maps map ≡ None) (comes : EndingComesTo same hash s new i f end did.w2 did.deed said) where
   abbrev w : World (Node K V)
   w = s.world
@@ -54,7 +54,7 @@ module _ {K V S : Type 0} (same : K → K → Bool) (hash : K → ℕ) (name : �
   shown = whole.all.shown
 
   abbrev known2 : Known
-  known2 = known_after (acts.Ending map) new.memory.changed known
+  known2 = known_after (acts.Ending map) new.changed known
 
   abbrev led : Scene K V
   led = ending_after same hash s new i f end did.w2 did.deed said comes
@@ -63,11 +63,11 @@ module _ {K V S : Type 0} (same : K → K → Bool) (hash : K → ℕ) (name : �
   facts = at.together.facts i f here
 
   -- what it did, by what it knows of its map
-  went : EndWent f.setting f.chart f.blocks facts.lists false i f.hash f.began w facts.past f.back new.memory.memory (end, said)
+  went : EndWent f.setting f.chart f.blocks facts.lists false i f.hash f.began w facts.past f.back new.memory (end, said)
   went =
-      (end_steps same f.hash facts.lawful f.setting f.chart f.blocks facts.lists false i f.began facts.stood w f.machine facts.past f.back facts.facts).1 new.memory.memory (end, said)
-      (subst (λ (n : Mem (Node K V)). Steps Took value_at n (end_map_plan {K = K} {V = V} f.machine) new.memory.memory (end, said)) (sym at.memory)
-      (as_step old.memory.memory changed.Nothing (end_map_plan {K = K} {V = V} f.machine) new.memory.memory new.memory.changed (end, said) steps))
+      (end_steps same f.hash facts.lawful f.setting f.chart f.blocks facts.lists false i f.began facts.stood w f.machine facts.past f.back facts.facts).1 new.memory (end, said)
+      (subst (λ (n : Mem (Node K V)). Steps Took value_at n (end_map_plan {K = K} {V = V} f.machine) new.memory (end, said)) (sym at.memory)
+      (as_step old.memory changed.Nothing (end_map_plan {K = K} {V = V} f.machine) new.memory new.changed (end, said) steps))
 
   nothing : 0 < 0 → ⊥
   nothing l = omega (arith, l)
@@ -98,10 +98,10 @@ module _ {K V S : Type 0} (same : K → K → Bool) (hash : K → ℕ) (name : �
       by zero e = e
       by (suc n) e = absurd (not_taken b out of_map went.deed went.its went.fresh (omega (arith, e)))
 
-  abbrev Held : ℕ → Type 0
-  Held b = IsThere same hash name m known s old at shown b
+  abbrev Keeps : ℕ → Type 0
+  Keeps b = IsThere same hash name m known s old at shown b
 
-  some_then : (b : ℕ) → Held b → IsOfMap (known.roles b) → IsSome (value_at did.w2.memory b)
+  some_then : (b : ℕ) → Keeps b → IsOfMap (known.roles b) → IsSome (value_at did.w2.memory b)
   some_then b held of_map =
       let value = ap (λ (n : Mem (Node K V)). value_at n b) (did.memory ∙ sym went.memory) ∙ went.spares.values b (none_taken b held.1 of_map) in
       subst (λ (o : Option (Node K V)). IsSome o) (sym value) (role_there same hash name m known s old at shown b of_map)
@@ -125,22 +125,22 @@ module _ {K V S : Type 0} (same : K → K → Bool) (hash : K → ℕ) (name : �
   maps_are (settled.Gave value) it = refl
   maps_are settled.Done it = refl
 
-  beside : IsBeside m (with_effects None (Some map) (effects_of (acts.Ending map) known new.memory.changed) m) known known2 s led
+  beside : IsBeside m (with_effects None (Some map) (effects_of (acts.Ending map) known new.changed) m) known known2 s led
   beside =
       end_beside same hash name m known s old new at whole i f here end said steps did map not_there comes led (world_is said comes) (calls_are said comes) (maps_are said comes)
 
-  still : (b : ℕ) → Held b → IsOfMap (known.roles b) → known2.roles b ≡ known.roles b
+  still : (b : ℕ) → Keeps b → IsOfMap (known.roles b) → known2.roles b ≡ known.roles b
   still b held of_map =
       beside.roles b (subst (λ (x : World (Node K V)). IsSome (value_at x.memory b)) (sym (world_is said comes)) (some_then b held of_map)) of_map
 
   same_in_hand : (n j : ℕ) (u : UnderWay K V K) → s.calls n j ≡ Some u → SameInHand known known2 (machine_of u)
   same_in_hand n j u is =
-      hand_both Held (IsPairAt known) (IsSameRole known known2) Held (IsTableAt known) (IsSameRole known known2) (λ b held noted. still b held (pair_of_map (known.roles b) noted))
+      hand_both Keeps (IsPairAt known) (IsSameRole known known2) Keeps (IsTableAt known) (IsSameRole known known2) (λ b held noted. still b held (pair_of_map (known.roles b) noted))
       (λ b held noted. still b held (table_of_map (known.roles b) noted)) (machine_of u) (all_there same hash name m known s old at shown n j u is (shows.noted n j u is)) (shows.noted n j u is)
 
-  pub ending_leaves : ShowsOwed name (with_effects None (Some map) (effects_of (acts.Ending map) known new.memory.changed) m) known2 led
-  ending_leaves = effects_leave_owed K V name m known known2 s led shows (calls_are said comes) same_in_hand (Some map) (effects_of (acts.Ending map) known new.memory.changed)
+  pub ending_leaves : ShowsOwed name (with_effects None (Some map) (effects_of (acts.Ending map) known new.changed) m) known2 led
+  ending_leaves = effects_leave_owed K V name m known known2 s led shows (calls_are said comes) same_in_hand (Some map) (effects_of (acts.Ending map) known new.changed)
 
-pub endings_leave_owed : (K V S : Type 0) (same : K → K → Bool) (hash : K → ℕ) → EndingsLeaveOwed K V S same hash
-endings_leave_owed K V S same hash name m known s old new at whole shows i told leads f here map not_there =
+pub endings_leave_owed : (K V : Type 0) (same : K → K → Bool) (hash : ℕ → K → ℕ) → EndingsLeaveOwed K V same hash
+endings_leave_owed K V same hash name m known s old new at whole shows i told leads f here map not_there =
     let to = leads f here in ending_leaves same hash name m known s old new at whole shows i f here to.0 told to.1 to.2 map not_there to.3

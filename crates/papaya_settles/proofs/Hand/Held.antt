@@ -46,11 +46,11 @@ use Rattle.papaya_histories.specs.Given.Callers.OverAll.{row_of_sweep, past_swee
 use Rattle.papaya_histories.specs.Given.Callers.Rooms.{row_of_room, past_room}
 use Rattle.papaya_histories.specs.Given.Callers.Rows.{row_of_disposal, row_of_copier, row_of, past_copying, past_row, once_over}
 use Rattle.papaya_histories.specs.Given.Callers.Together.{UnderWay, OnKey, ForRoom, Counting, OverAll, Stands, in_slot}
-use Rattle.papaya_histories.specs.Given.Executor.IsAt.{slot_of}
 use Rattle.papaya_histories.specs.Given.Finishes.Machines.{machine_of}
 use Rattle.papaya_settles.specs.Due.{Due, ToRetire, ToPut, word_due, due_in_settle, due_in_defer}
 use Rattle.papaya_settles.specs.Hand.{HoldsAt, HoldsOf, HoldsTables, HoldsOfCall, HoldsOfRoom, HoldsOfSweep, HoldsInHand}
 use Rattle.papaya_settles.specs.InHand.{pair_in_calling, pair_in_disposing}
+use Rattle.papaya_histories.specs.Given.Scenes.Scene.{slot_of}
 
 -- somebody has taken it out of what it was in
 abbrev pub IsTakenOut : Hand → Type 0

@@ -31,9 +31,6 @@ use Rattle.papaya_histories.specs.Given.Callers.Together.{CallOnKey, OnKey, in_s
 use Rattle.papaya_histories.specs.Given.Effects.Effects.{effects_of}
 use Rattle.papaya_histories.specs.Given.Effects.Known.{Known}
 use Rattle.papaya_histories.specs.Given.Effects.declared.acting.Acting.TheVariants as acts
-use Rattle.papaya_histories.specs.Given.Executor.IsAt.{Scene, IsAt, slot_of}
-use Rattle.papaya_histories.specs.Given.Executor.Stepping.{has_ended, StepLeads}
-use Rattle.papaya_histories.specs.Given.Executor.declared.executor.Executor.{Executor}
 use Rattle.papaya_histories.specs.Given.Finishes.Maps.{Standing}
 use Rattle.papaya_histories.specs.Given.Follows.Shows.{Shows}
 use Rattle.papaya_histories.proofs.Given.Follows.Steps.{WentTo, went_to, OfNoRow}
@@ -46,8 +43,11 @@ use Rattle.papaya_settles.proofs.Hand.Copies.{copying_goes, KeyThen, helped_then
 use Rattle.papaya_settles.proofs.Here.{each}
 use Rattle.papaya_settles.proofs.Leaving.{no_promotion}
 use Rattle.papaya_settles.proofs.Taken.{calls_take_in_hand}
+use Rattle.papaya_histories.specs.Given.Scenes.Held.{Held, IsAt}
+use Rattle.papaya_histories.specs.Given.Scenes.Scene.{Scene, slot_of}
+use Rattle.papaya_histories.specs.Given.Scenes.Stepping.{StepLeads, has_ended}
 
-module _ {K V S : Type 0} (same : K → K → Bool) (hash : K → ℕ) (name : ℕ → List ℕ) (m : Moment K V) (known : Known) (s : Scene K V) (old new : Executor K V S) (at_old : IsAt same hash old s)
+module _ {K V : Type 0} (same : K → K → Bool) (hash : ℕ → K → ℕ) (name : ℕ → List ℕ) (m : Moment K V) (known : Known) (s : Scene K V) (old new : Held K V) (at_old : IsAt same hash old s)
     (shown : Shows same name m known s) (map i : ℕ) (x : CallOnKey K V K) (under_way : s.calls map i ≡ Some (OnKey x)) (said : Progress (Node K V)) (leads : StepLeads same hash i said s old new)
     (notes : NotesOfCall known x.call.stands) (no_row : IsRowOfCall x.call.stands → ⊥)
     (own : OfNoRow same hash name m known s old new at_old shown map i (OnKey x) under_way said leads (OnKey x) (went_to same hash name m known s old new at_old shown map i (OnKey x) under_way said leads).4.did) where
@@ -58,7 +58,7 @@ module _ {K V S : Type 0} (same : K → K → Bool) (hash : K → ℕ) (name : �
   st = to.0
 
   abbrev told : Changed
-  told = new.memory.changed
+  told = new.changed
 
   abbrev effects : List Effect
   effects = effects_of (acts.Call i map) known told
@@ -67,10 +67,10 @@ module _ {K V S : Type 0} (same : K → K → Bool) (hash : K → ℕ) (name : �
   blocks = seen_by st.blocks (st.sights (slot_of i))
 
   abbrev Stepped : Calling → KeyCall K V K × Called (Node K V) → Type 0
-  Stepped stands e = StepsTold K V (KeyCall K V K × Called (Node K V)) old.memory.memory changed.Nothing (plan_at same same hash x.call stands) new.memory.memory told e
+  Stepped stands e = StepsTold K V (KeyCall K V K × Called (Node K V)) old.memory changed.Nothing (plan_at same same to.0.hash x.call stands) new.memory told e
 
   inner : (e : KeyCall K V K × Called (Node K V)) × (◌≡◌ {A = Machine K V K × Progress (Node K V)} (to.1, said) (of_key e)) × Stepped x.call.stands e
-  inner = told_in old.memory.memory new.memory.memory told of_key (call_plan same same hash x.call) (to.1, said) to.3
+  inner = told_in old.memory new.memory told of_key (call_plan same same to.0.hash x.call) (to.1, said) to.3
 
   abbrev Knows : Copier → Type 0
   Knows p = KnowsTables same st.hash s.world i (in_slot st.setting (slot_of i)) st.chart blocks p
@@ -101,12 +101,12 @@ module _ {K V S : Type 0} (same : K → K → Bool) (hash : K → ℕ) (name : �
   ]
 
   abbrev Goes : Type 0
-  Goes = HandGoes K V S same hash m known s old new map i (OnKey x) said under_way leads
+  Goes = HandGoes K V same hash m known s old new map i (OnKey x) said under_way leads
 
   -- its copier has taken the step, and it has come to this by that
   module _ (p : Copier) (its : Knows p) (row : IsRowOfCopier p.stands → ⊥) (before : in_hand_of_call known x.call.stands ≡ tables_in_hand known p p.stands) (noted : NotesTables known p p.stands)
       (other : is_promoting p.stands ≡ false → call_is_promoting x.call.stands ≡ false) (r : Copier × Outcome (Node K V) Table)
-      (steps : StepsTold K V (Copier × Outcome (Node K V) Table) old.memory.memory changed.Nothing (copier_plan hash p) new.memory.memory told r)
+      (steps : StepsTold K V (Copier × Outcome (Node K V) Table) old.memory changed.Nothing (copier_plan to.0.hash p) new.memory told r)
       (e : KeyCall K V K × Called (Node K V)) (is : inner.0 ≡ e) (came : KeyThen known r e) where
     machine_is : to.1 ≡ kinds.Key e.0
     machine_is = ap (λ (z : Machine K V K × Progress (Node K V)). z.0) inner.1 ∙ ap (λ (z : KeyCall K V K × Called (Node K V)). kinds.Key z.0) is
@@ -116,7 +116,7 @@ module _ {K V S : Type 0} (same : K → K → Bool) (hash : K → ℕ) (name : �
 
     no_pair : (n : ℕ) → TakesPair effects n → ⊥
     no_pair n takes =
-        (let it = calls_take_in_hand K V S same hash name m known s old new at_old shown map i x under_way said leads own n takes in
+        (let it = calls_take_in_hand K V same hash name m known s old new at_old shown map i x under_way said leads own n takes in
         let machines : kinds.Key it.1 ≡ kinds.Key e.0 = sym it.2 ∙ machine_is in
         let one : it.1 ≡ e.0 = cc machines in
         let some : pair_in_calling e.0.stands ≡ Some it.3 = ap (λ (z : KeyCall K V K). pair_in_calling z.stands) (sym one) ∙ it.4 in
@@ -127,16 +127,16 @@ module _ {K V S : Type 0} (same : K → K → Bool) (hash : K → ℕ) (name : �
         copying_goes same hash name m known s old new at_old shown map i (OnKey x) under_way said leads own p its row before noted r steps
         (λ has. (ap (in_hand known) machine_is ∙ (came.0 has).0, λ n. subst (NotesInHand known) (sym machine_is) ((came.0 has).1 n)))
         (λ ended. ap (in_hand known) machine_is ∙ came.1 (ap has_ended (sym said_is) ∙ ended)) no_pair
-        (λ no. no_promotion same hash name m known s old new at_old shown map i (OnKey x) under_way said leads (call_plan same same hash x.call) inner.0
-        (spares_call same same hash x.call x.call.stands (other no) no_row) inner.2)
+        (λ no. no_promotion same hash name m known s old new at_old shown map i (OnKey x) under_way said leads (call_plan same same to.0.hash x.call) inner.0
+        (spares_call same same to.0.hash x.call x.call.stands (other no) no_row) inner.2)
 
   goes_at : (stands : Calling) → x.call.stands ≡ stands → IsCopying stands → Goes
   goes_at (at.Helps copier goal) is copies =
-      let d = told_in old.memory.memory new.memory.memory told (helped x.call goal) (copier_plan hash copier) inner.0 (subst (λ (z : Calling). Stepped z inner.0) is inner.2) in
+      let d = told_in old.memory new.memory told (helped x.call goal) (copier_plan to.0.hash copier) inner.0 (subst (λ (z : Calling). Stepped z inner.0) is inner.2) in
       goes_so copier (subst KnowsOf is knows) (λ row. no_row (subst IsRowOfCall (sym is) row)) (ap (in_hand_of_call known) is) (subst (NotesOfCall known) is notes)
       (λ no. ap call_is_promoting is ∙ no) d.0 d.2 (helped x.call goal d.0) d.1 (helped_then known x.call goal d.0)
   goes_at (at.Copies copier) is copies =
-      let d = told_in old.memory.memory new.memory.memory told (copied x.call) (copier_plan hash copier) inner.0 (subst (λ (z : Calling). Stepped z inner.0) is inner.2) in
+      let d = told_in old.memory new.memory told (copied x.call) (copier_plan to.0.hash copier) inner.0 (subst (λ (z : Calling). Stepped z inner.0) is inner.2) in
       goes_so copier (subst KnowsOf is knows) (λ row. no_row (subst IsRowOfCall (sym is) row)) (ap (in_hand_of_call known) is) (subst (NotesOfCall known) is notes)
       (λ no. ap call_is_promoting is ∙ no) d.0 d.2 (copied x.call d.0) d.1 (copied_then known x.call d.0)
   goes_at _ is copies = absurd copies

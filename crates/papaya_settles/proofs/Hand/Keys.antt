@@ -42,10 +42,6 @@ use Rattle.papaya_histories.specs.Given.Effects.Effects.{effects_of}
 use Rattle.papaya_histories.specs.Given.Effects.Known.{Known}
 use Rattle.papaya_histories.specs.Given.Effects.declared.acting.Acting.TheVariants as acts
 use Rattle.papaya_histories.specs.Given.Effects.declared.role.Role.TheVariants as role
-use Rattle.papaya_histories.specs.Given.Executor.IsAt.{Scene, IsAt, slot_of}
-use Rattle.papaya_histories.specs.Given.Executor.Stepping.{StepLeads}
-use Rattle.papaya_histories.specs.Given.Executor.declared.executor.Executor.{Executor}
-use Rattle.papaya_histories.proofs.Given.Executor.Forgotten.{as_step}
 use Rattle.papaya_histories.specs.Given.Finishes.Endings.{StepsAmong}
 use Rattle.papaya_histories.specs.Given.Finishes.Machines.{machine_of}
 use Rattle.papaya_histories.specs.Given.Finishes.Maps.{Standing}
@@ -71,6 +67,10 @@ use Rattle.papaya_settles.proofs.Status.{KindOf, ToCount, ToDispose, IsAtEnd, To
 use Rattle.papaya_settles.proofs.Taken.{calls_take_in_hand}
 use Rattle.papaya_settles.proofs.Takings.{steps_take_out}
 use Rattle.papaya_settles.proofs.Unpromoted.{NonePromotes, none_promotes, spared_tells}
+use Rattle.papaya_histories.proofs.Given.Scenes.Told.{as_step}
+use Rattle.papaya_histories.specs.Given.Scenes.Held.{Held, IsAt}
+use Rattle.papaya_histories.specs.Given.Scenes.Scene.{Scene, slot_of}
+use Rattle.papaya_histories.specs.Given.Scenes.Stepping.{StepLeads}
 
 no_copier : (p : Calling) → (IsCopying p → ⊥) → IsNoCopier p
 no_copier (at.Helps copier goal) none = absurd (none tt)
@@ -133,7 +133,7 @@ module _ (known : Known) where
     past_none (at.Over end) is row e past = subst (NoneOfCall known) (sym is) (refl, tt)
     past_none _ is row e past = absurd (past tt)
 
-module _ {K V S : Type 0} (same : K → K → Bool) (hash : K → ℕ) (name : ℕ → List ℕ) (m : Moment K V) (known : Known) (s : Scene K V) (old new : Executor K V S) (at_old : IsAt same hash old s)
+module _ {K V : Type 0} (same : K → K → Bool) (hash : ℕ → K → ℕ) (name : ℕ → List ℕ) (m : Moment K V) (known : Known) (s : Scene K V) (old new : Held K V) (at_old : IsAt same hash old s)
     (shown : Shows same name m known s) (map i : ℕ) (x : CallOnKey K V K) (under_way : s.calls map i ≡ Some (OnKey x)) (said : Progress (Node K V)) (leads : StepLeads same hash i said s old new)
     (copies : IsCopying x.call.stands → ⊥) (notes : NotesOfCall known x.call.stands)
     (own : OfNoRow same hash name m known s old new at_old shown map i (OnKey x) under_way said leads (OnKey x) (went_to same hash name m known s old new at_old shown map i (OnKey x) under_way said leads).4.did)
@@ -145,7 +145,7 @@ module _ {K V S : Type 0} (same : K → K → Bool) (hash : K → ℕ) (name : �
   st = to.0
 
   abbrev told : Changed
-  told = new.memory.changed
+  told = new.changed
 
   abbrev effects : List Effect
   effects = effects_of (acts.Call i map) known told
@@ -157,24 +157,24 @@ module _ {K V S : Type 0} (same : K → K → Bool) (hash : K → ℕ) (name : �
   Goal machine = OwesGo m effects before (in_hand known machine) × NotesInHand known machine
 
   taking : (taken : List Thing) × OwesGo m effects before (before ++ taken) × (list_any hands_over effects ≡ false)
-  taking = steps_take_out K V S same hash name m known s old new at_old shown map i (OnKey x) under_way said leads own before
+  taking = steps_take_out K V same hash name m known s old new at_old shown map i (OnKey x) under_way said leads own before
 
   none_handed : (f : Effect) (y : Thing) → effects ≡ f ∷ [] → HandsOver f y → ⊥
   none_handed = no_handing effects taking.2
 
   module _ (machine_is : to.1 ≡ kinds.Key p2) (told_is : said ≡ of_called end)
-      (step : StepsAmong V same same old.batch_size old.roots slot_of s.world s.maps s.calls s.makers s.enders map st i x new.memory.memory p2 end) where
+      (step : StepsAmong V same same old.batch_size old.roots slot_of s.world s.maps s.calls s.makers s.enders map st i x new.memory p2 end) where
     no_promotion : (t : Table) → effects ≡ effect.Promoted t ∷ [] → ⊥
     no_promotion t are =
         (let none = none_promotes i map known (nothing_free s.world m.stored known shown.blocks.roles) told
-        (spared_tells old.memory.memory new.memory.memory told (call_plan same same hash x.call) (p2, end) (spares_call same same hash x.call x.call.stands (promotes_none x.call.stands copies) step.no_row)
+        (spared_tells old.memory new.memory told (call_plan same same to.0.hash x.call) (p2, end) (spares_call same same to.0.hash x.call x.call.stands (promotes_none x.call.stands copies) step.no_row)
         (steps same hash name m known s old new at_old shown map i x under_way said leads p2 end machine_is told_is)) in
         let no = (subst NonePromotes are none).0 in cc no)
 
     -- it has a pair in hand, and has it still
     some_goes : (word : ℕ) → pair_in_calling x.call.stands ≡ Some word → Goal to.1
     some_goes word e =
-        let held = calls_hold_theirs K V S same hash name m known s old new at_old shown map i x under_way said leads own word e in
+        let held = calls_hold_theirs K V same hash name m known s old new at_old shown map i x under_way said leads own word e in
         let same_hand : in_hand_of_call known held.0.stands ≡ before =
         hand_of known held.0.stands held.2 held.3 ∙ ap (λ (b : ℕ). thing_as (known.roles b)) held.4 ∙ sym (hand_of known x.call.stands word e) in
         subst Goal (sym held.1)
@@ -182,9 +182,9 @@ module _ {K V S : Type 0} (same : K → K → Bool) (hash : K → ℕ) (name : �
       where
         by : OwesGo m effects before (before ++ taking.0) → AllLeave effects
         by (KeepsOwed all same_owed) = all
-        by (TakesOut p are more) = absurd (let none = (calls_take_in_hand K V S same hash name m known s old new at_old shown map i x under_way said leads own p (inl are)).0 in cc (none, e))
+        by (TakesOut p are more) = absurd (let none = (calls_take_in_hand K V same hash name m known s old new at_old shown map i x under_way said leads own p (inl are)).0 in cc (none, e))
         by (PutsOver p n sp are more) =
-            absurd (let none = (calls_take_in_hand K V S same hash name m known s old new at_old shown map i x under_way said leads own p (inr (n, sp, are))).0 in cc (none, e))
+            absurd (let none = (calls_take_in_hand K V same hash name m known s old new at_old shown map i x under_way said leads own p (inr (n, sp, are))).0 in cc (none, e))
         by (Passes t are more) = absurd (no_promotion t are)
         by (HandsFirst f y are hands less) = absurd (none_handed f y are hands)
 
@@ -196,24 +196,24 @@ module _ {K V S : Type 0} (same : K → K → Bool) (hash : K → ℕ) (name : �
 
     on_none : (e : Called (Node K V)) (tog : Tog e) → IsFreshAt p2.stands → call_has_unlinked p2.stands ≡ false → TakesNone (Took e tog)
         → Stands V same st.hash same st.setting slot_of tog.went.w2 tog.went.c2 (seen_by tog.blocks2 (tog.sights2 (slot_of i))) i
-        (OnKey (stepped same st.hash same st.setting slot_of s.world st.chart st.blocks st.sights (s.calls map) i x new.memory.memory p2 e tog)) → NoneOfCall known p2.stands
+        (OnKey (stepped same st.hash same st.setting slot_of s.world st.chart st.blocks st.sights (s.calls map) i x new.memory p2 e tog)) → NoneOfCall known p2.stands
     on_none e tog its linked takes stands =
         stands_none known same st.hash st.setting slot_of tog.went.w2 tog.went.c2 (seen_by tog.blocks2 (tog.sights2 (slot_of i))) i
-        (stepped same st.hash same st.setting slot_of s.world st.chart st.blocks st.sights (s.calls map) i x new.memory.memory p2 e tog) its linked takes stands
+        (stepped same st.hash same st.setting slot_of s.world st.chart st.blocks st.sights (s.calls map) i x new.memory p2 e tog) its linked takes stands
 
     -- where it goes on, or has ended, and took none out
     none_by : (e : Called (Node K V)) (tog : Tog e) → IsFresh (p2, e) → IsEnded (p2, e) → call_has_unlinked p2.stands ≡ false → TakesNone (Took e tog) → NoneOfCall known p2.stands
-    none_by called.Goes tog its ended linked takes = on_none called.Goes tog its linked takes (tog.together.stand i _ (here same st.hash same st.setting slot_of s.world st.chart st.blocks st.sights (s.calls map) i x new.memory.memory p2 called.Goes tog))
-    none_by called.Waits tog its ended linked takes = on_none called.Waits tog its linked takes (tog.together.stand i _ (here same st.hash same st.setting slot_of s.world st.chart st.blocks st.sights (s.calls map) i x new.memory.memory p2 called.Waits tog))
-    none_by (called.Gave value) tog its ended linked takes = on_none (called.Gave value) tog its linked takes (tog.together.stand i _ (here same st.hash same st.setting slot_of s.world st.chart st.blocks st.sights (s.calls map) i x new.memory.memory p2 (called.Gave value) tog))
-    none_by (called.Unstored value) tog its ended linked takes = on_none (called.Unstored value) tog its linked takes (tog.together.stand i _ (here same st.hash same st.setting slot_of s.world st.chart st.blocks st.sights (s.calls map) i x new.memory.memory p2 (called.Unstored value) tog))
-    none_by (called.Asks about) tog its ended linked takes = on_none (called.Asks about) tog its linked takes (tog.together.stand i _ (here same st.hash same st.setting slot_of s.world st.chart st.blocks st.sights (s.calls map) i x new.memory.memory p2 (called.Asks about) tog))
+    none_by called.Goes tog its ended linked takes = on_none called.Goes tog its linked takes (tog.together.stand i _ (here same st.hash same st.setting slot_of s.world st.chart st.blocks st.sights (s.calls map) i x new.memory p2 called.Goes tog))
+    none_by called.Waits tog its ended linked takes = on_none called.Waits tog its linked takes (tog.together.stand i _ (here same st.hash same st.setting slot_of s.world st.chart st.blocks st.sights (s.calls map) i x new.memory p2 called.Waits tog))
+    none_by (called.Gave value) tog its ended linked takes = on_none (called.Gave value) tog its linked takes (tog.together.stand i _ (here same st.hash same st.setting slot_of s.world st.chart st.blocks st.sights (s.calls map) i x new.memory p2 (called.Gave value) tog))
+    none_by (called.Unstored value) tog its ended linked takes = on_none (called.Unstored value) tog its linked takes (tog.together.stand i _ (here same st.hash same st.setting slot_of s.world st.chart st.blocks st.sights (s.calls map) i x new.memory p2 (called.Unstored value) tog))
+    none_by (called.Asks about) tog its ended linked takes = on_none (called.Asks about) tog its linked takes (tog.together.stand i _ (here same st.hash same st.setting slot_of s.world st.chart st.blocks st.sights (s.calls map) i x new.memory p2 (called.Asks about) tog))
     none_by (called.Done answer) tog its ended linked takes = over_none known p2.stands ended
     none_by (called.Refused fault) tog its ended linked takes = over_none known p2.stands ended
 
     went : IsEnded (p2, end)
-    went = ended_step same same hash x.call old.memory.memory new.memory.memory (p2, end)
-        (as_step old.memory.memory changed.Nothing (call_plan same same hash x.call) new.memory.memory told (p2, end)
+    went = ended_step same same to.0.hash x.call old.memory new.memory (p2, end)
+        (as_step old.memory changed.Nothing (call_plan same same to.0.hash x.call) new.memory told (p2, end)
         (steps same hash name m known s old new at_old shown map i x under_way said leads p2 end machine_is told_is))
 
     abbrev OutNow : Change
@@ -238,9 +238,9 @@ module _ {K V S : Type 0} (same : K → K → Bool) (hash : K → ℕ) (name : �
       where
         its : (IsBefore x.call.stands → ⊥) → NoneOfCall known p2.stands
         its past =
-            always_steps (NoneThen known same same hash x.call) old.memory.memory new.memory.memory (call_plan same same hash x.call) (p2, end)
-            (past_none known same same hash x.call x.call.stands refl step.no_row e past)
-            (as_step old.memory.memory changed.Nothing (call_plan same same hash x.call) new.memory.memory told (p2, end)
+            always_steps (NoneThen known same same to.0.hash x.call) old.memory new.memory (call_plan same same to.0.hash x.call) (p2, end)
+            (past_none known same same to.0.hash x.call x.call.stands refl step.no_row e past)
+            (as_step old.memory changed.Nothing (call_plan same same to.0.hash x.call) new.memory told (p2, end)
             (steps same hash name m known s old new at_old shown map i x under_way said leads p2 end machine_is told_is))
 
         by : KindOf x.call.stands → NoneOfCall known p2.stands
@@ -250,8 +250,8 @@ module _ {K V S : Type 0} (same : K → K → Bool) (hash : K → ℕ) (name : �
         by (ToChange early) =
             let none = no_copier x.call.stands copies in
             none_by end step.step (fresh same hash name m known s old new at_old shown map i x under_way said leads p2 end machine_is told_is step early) went
-            (before_links same same hash x.call x.call.stands none early (self_fresh x.call x.call.stands none early) old.memory.memory new.memory.memory (p2, end)
-            (as_step old.memory.memory changed.Nothing (call_plan same same hash x.call) new.memory.memory told (p2, end)
+            (before_links same same to.0.hash x.call x.call.stands none early (self_fresh x.call x.call.stands none early) old.memory new.memory (p2, end)
+            (as_step old.memory changed.Nothing (call_plan same same to.0.hash x.call) new.memory told (p2, end)
             (steps same hash name m known s old new at_old shown map i x under_way said leads p2 end machine_is told_is)))
             (takes_none early all)
 
@@ -272,11 +272,11 @@ module _ {K V S : Type 0} (same : K → K → Bool) (hash : K → ℕ) (name : �
         by : OwesGo m effects before (before ++ taking.0) → Goal to.1
         by (KeepsOwed all same_owed) = let none = none_after e all in subst Goal (sym machine_is) (KeepsOwed all (none.0 ∙ sym nothing), none.1)
         by (TakesOut p are more) =
-            let it = calls_take_in_hand K V S same hash name m known s old new at_old shown map i x under_way said leads own p (inl are) in
+            let it = calls_take_in_hand K V same hash name m known s old new at_old shown map i x under_way said leads own p (inl are) in
             let hand = out_goes p it.1 it.3 it.4 it.5 in
             subst Goal (sym it.2) (TakesOut p are hand.0, hand.1)
         by (PutsOver p n sp are more) =
-            let it = calls_take_in_hand K V S same hash name m known s old new at_old shown map i x under_way said leads own p (inr (n, sp, are)) in
+            let it = calls_take_in_hand K V same hash name m known s old new at_old shown map i x under_way said leads own p (inr (n, sp, are)) in
             let hand = out_goes p it.1 it.3 it.4 it.5 in
             subst Goal (sym it.2) (PutsOver p n sp are hand.0, hand.1)
         by (Passes t are more) = absurd (no_promotion t are)
@@ -303,21 +303,21 @@ module _ {K V S : Type 0} (same : K → K → Bool) (hash : K → ℕ) (name : �
     key_goes u moved = (goes, λ none. ended_none u end went (sym moved ∙ none))
 
 -- A step of a call on one key that is none of a row, where the call copies no pairs: what it has in hand goes so.
-abbrev KeysGoInHand : (K V S : Type 0) (same : K → K → Bool) (hash : K → ℕ) → Type 0
-KeysGoInHand K V S same hash =
-    (name : ℕ → List ℕ) (m : Moment K V) (known : Known) (s : Scene K V) (old new : Executor K V S) → IsAt same hash old s → Shows same name m known s
+abbrev KeysGoInHand : (K V : Type 0) (same : K → K → Bool) (hash : ℕ → K → ℕ) → Type 0
+KeysGoInHand K V same hash =
+    (name : ℕ → List ℕ) (m : Moment K V) (known : Known) (s : Scene K V) (old new : Held K V) → IsAt same hash old s → Shows same name m known s
     → (map i : ℕ) (x : CallOnKey K V K) (here : s.calls map i ≡ Some (OnKey x)) (said : Progress (Node K V)) (leads : StepLeads same hash i said s old new)
     → (IsCopying x.call.stands → ⊥) → NotesInHand known (machine_of (OnKey x))
     → (let to = leads map (OnKey x) here in
-    IsOfNoRow same old.batch_size old.roots s.world s.maps s.calls s.makers s.enders map to.0 i new.memory.memory to.4.w2 to.4.maps2 to.4.next (OnKey x) to.1 said to.4.did
-    → HandGoes K V S same hash m known s old new map i (OnKey x) said here leads)
+    IsOfNoRow same old.batch_size old.roots s.world s.maps s.calls s.makers s.enders map to.0 i new.memory to.4.w2 to.4.maps2 to.4.next (OnKey x) to.1 said to.4.did
+    → HandGoes K V same hash m known s old new map i (OnKey x) said here leads)
 
-pub keys_go_in_hand : (K V S : Type 0) (same : K → K → Bool) (hash : K → ℕ) → KeysGoInHand K V S same hash
-keys_go_in_hand K V S same hash name m known s old new at_old shown map i x under_way said leads copies notes own =
+pub keys_go_in_hand : (K V : Type 0) (same : K → K → Bool) (hash : ℕ → K → ℕ) → KeysGoInHand K V same hash
+keys_go_in_hand K V same hash name m known s old new at_old shown map i x under_way said leads copies notes own =
     by (went_to same hash name m known s old new at_old shown map i (OnKey x) under_way said leads).4.did own
   where
     by : (done : DidSo same hash name m known s old new at_old shown map i (OnKey x) under_way said leads (OnKey x))
-        → OfNoRow same hash name m known s old new at_old shown map i (OnKey x) under_way said leads (OnKey x) done → HandGoes K V S same hash m known s old new map i (OnKey x) said under_way leads
+        → OfNoRow same hash name m known s old new at_old shown map i (OnKey x) under_way said leads (OnKey x) done → HandGoes K V same hash m known s old new map i (OnKey x) said under_way leads
     by (p2, end, machine_is, told_is, inl (step, moved)) none =
         let it = key_goes same hash name m known s old new at_old shown map i x under_way said leads copies notes own p2 end machine_is told_is step _ moved.2 in (it.0.0, it.0.1, it.1)
     by (p2, end, machine_is, told_is, inr row) none = absurd none

@@ -26,14 +26,8 @@ use Rattle.papaya_histories.specs.Given.Effects.Known.{Known}
 use Rattle.papaya_histories.specs.Given.Effects.declared.acting.Acting.TheVariants as acts
 use Rattle.papaya_histories.specs.Given.Effects.declared.role.Role.{Role}
 use Rattle.papaya_histories.specs.Given.Effects.declared.role.Role.TheVariants as role
-use Rattle.papaya_histories.specs.Given.Executor.IsAt.{Scene, IsAt, slot_of, work_of}
-use Rattle.papaya_histories.specs.Given.Executor.OnSlots.{HappensAt, RowSteps}
-use Rattle.papaya_histories.specs.Given.Executor.declared.executor.Executor.{Executor}
-use Rattle.papaya_histories.specs.Given.Executor.declared.row.RowTold.{RowTold}
-use Rattle.papaya_histories.specs.Given.Executor.declared.row.SlotRow.{SlotRow}
-use Rattle.papaya_histories.specs.Given.Executor.declared.worker.Work.TheVariants as work
-use Rattle.papaya_histories.proofs.Given.Executor.Changed.{standing_is}
-use Rattle.papaya_histories.specs.Given.Executor.Making.{MakingComesTo, MakingLeads}
+use Rattle.papaya_histories.specs.Given.Scenes.declared.row.RowTold.{RowTold}
+use Rattle.papaya_histories.specs.Given.Scenes.declared.row.SlotRow.{SlotRow}
 use Rattle.papaya_histories.specs.Given.Finishes.Machines.{machine_of}
 use Rattle.papaya_histories.specs.Given.Finishes.Makings.{Beginning}
 use Rattle.papaya_histories.specs.Given.Finishes.Maps.{Standing}
@@ -53,6 +47,11 @@ use Rattle.papaya_settles.proofs.Hand.Between.{effects_leave_owed}
 use Rattle.papaya_settles.proofs.Hand.Lives.{IsKeptYet, taken_is_out, value_kept, out_there}
 use Rattle.papaya_settles.proofs.Hand.Roles.{hand_both}
 use Rattle.papaya_settles.proofs.Hand.There.{key_fresh, key_late, room_fresh, room_late, sweep_fresh, key_row, room_row, sweep_row}
+use Rattle.papaya_histories.proofs.Given.Scenes.May.{standing_is}
+use Rattle.papaya_histories.specs.Given.Scenes.Held.{Held, IsAt}
+use Rattle.papaya_histories.specs.Given.Scenes.Making.{MakingComesTo, MakingLeads}
+use Rattle.papaya_histories.specs.Given.Scenes.OnSlots.{HappensAt, RowSteps}
+use Rattle.papaya_histories.specs.Given.Scenes.Scene.{IsOnSlot, Scene, slot_of}
 
 pub pair_of_map : (r : Role) → IsPairRole r → IsOfMap r
 pair_of_map (role.Pair n) is = tt
@@ -62,7 +61,7 @@ pub table_of_map : (r : Role) → IsTableRole r → IsOfMap r
 table_of_map (role.Table t len) is = tt
 table_of_map _ is = absurd is
 
-module _ {K V S : Type 0} (same : K → K → Bool) (hash : K → ℕ) (name : ℕ → List ℕ) (m : Moment K V) (known : Known) (s : Scene K V) (e : Executor K V S) (at : IsAt same hash e s)
+module _ {K V : Type 0} (same : K → K → Bool) (hash : ℕ → K → ℕ) (name : ℕ → List ℕ) (m : Moment K V) (known : Known) (s : Scene K V) (e : Held K V) (at : IsAt same hash e s)
     (shown : Shows same name m known s) where
   pub reached : Reached deferred_word e.batch_size s.world
   reached = came_reached e.batch_size s.world at.together.makings.standing.came
@@ -148,16 +147,16 @@ module _ {K V S : Type 0} (same : K → K → Bool) (hash : K → ℕ) (name : �
   pub role_there : (b : ℕ) → IsOfMap (known.roles b) → IsSome (value_at s.world.memory b)
   role_there b is = map_there b (known.roles b) is (shown.blocks.roles b)
 
-module _ {K V S : Type 0} (same : K → K → Bool) (hash : K → ℕ) (name : ℕ → List ℕ) (m : Moment K V) (known : Known) (s : Scene K V) (old new : Executor K V S) (at : IsAt same hash old s)
-    (shown : Shows same name m known s) (shows : ShowsOwed name m known s) (i : ℕ) (row : SlotRow) (here : work_of old i ≡ Some (work.OnSlot row)) (end : SlotRow × RowTold (Node K V))
-    (steps : RowSteps K V row old.memory.memory new.memory.memory new.memory.changed end) (happened : HappensAt same hash (Step i) s old new) where
+module _ {K V : Type 0} (same : K → K → Bool) (hash : ℕ → K → ℕ) (name : ℕ → List ℕ) (m : Moment K V) (known : Known) (s : Scene K V) (old new : Held K V) (at : IsAt same hash old s)
+    (shown : Shows same name m known s) (shows : ShowsOwed name m known s) (i : ℕ) (row : SlotRow) (here : IsOnSlot s i row) (end : SlotRow × RowTold (Node K V))
+    (steps : RowSteps K V row old.memory new.memory new.changed end) (happened : HappensAt same hash (Step i) s old new) where
   abbrev known2 : Known
-  known2 = known_after acts.Row new.memory.changed known
+  known2 = known_after acts.Row new.changed known
 
-  abbrev Held : ℕ → Type 0
-  Held b = IsThere same hash name m known s old at shown b
+  abbrev Keeps : ℕ → Type 0
+  Keeps b = IsThere same hash name m known s old at shown b
 
-  still : (b : ℕ) → Held b → IsOfMap (known.roles b) → known2.roles b ≡ known.roles b
+  still : (b : ℕ) → Keeps b → IsOfMap (known.roles b) → known2.roles b ≡ known.roles b
   still b kept of_map =
       let value = value_kept deferred_word old.batch_size s.world (reached same hash name m known s old at shown) i happened.0 happened.1 b kept in
       (row_beside same hash m known s old new at i row here end steps happened).roles b
@@ -165,25 +164,25 @@ module _ {K V S : Type 0} (same : K → K → Bool) (hash : K → ℕ) (name : �
 
   same_in_hand : (map j : ℕ) (u : UnderWay K V K) → s.calls map j ≡ Some u → SameInHand known known2 (machine_of u)
   same_in_hand map j u is =
-      hand_both Held (IsPairAt known) (IsSameRole known known2) Held (IsTableAt known) (IsSameRole known known2) (λ b kept noted. still b kept (pair_of_map (known.roles b) noted))
+      hand_both Keeps (IsPairAt known) (IsSameRole known known2) Keeps (IsTableAt known) (IsSameRole known known2) (λ b kept noted. still b kept (pair_of_map (known.roles b) noted))
       (λ b kept noted. still b kept (table_of_map (known.roles b) noted)) (machine_of u) (all_there same hash name m known s old at shown map j u is (shows.noted map j u is)) (shows.noted map j u is)
 
-  pub row_leaves : ShowsOwed name (with_effects None None (effects_of acts.Row known new.memory.changed) m) known2 (scene_then same hash (Step i) s old new happened)
-  row_leaves = effects_leave_owed K V name m known known2 s (scene_then same hash (Step i) s old new happened) shows refl same_in_hand None (effects_of acts.Row known new.memory.changed)
+  pub row_leaves : ShowsOwed name (with_effects None None (effects_of acts.Row known new.changed) m) known2 (scene_then same hash (Step i) s old new happened)
+  row_leaves = effects_leave_owed K V name m known known2 s (scene_then same hash (Step i) s old new happened) shows refl same_in_hand None (effects_of acts.Row known new.changed)
 
-pub rows_leave_owed : (K V S : Type 0) (same : K → K → Bool) (hash : K → ℕ) → RowsLeaveOwed K V S same hash
-rows_leave_owed K V S same hash name m known s old new at shown shows i told leads row here =
-    let to = leads row here in row_leaves same hash name m known s old new at shown shows i row here (to.0, told) to.1 to.4
+pub rows_leave_owed : (K V : Type 0) (same : K → K → Bool) (hash : ℕ → K → ℕ) → RowsLeaveOwed K V same hash
+rows_leave_owed K V same hash name m known s old new at shown shows i told leads row here =
+    let to = leads row here in row_leaves same hash name m known s old new at shown shows i row here (to.0, told) to.1 to.2
 
 -- so it is after a step of the making of a map
-module _ {K V S : Type 0} (same : K → K → Bool) (hash : K → ℕ) (name : ℕ → List ℕ) (m : Moment K V) (known : Known) (s : Scene K V) (old new : Executor K V S) (at : IsAt same hash old s)
+module _ {K V : Type 0} (same : K → K → Bool) (hash : ℕ → K → ℕ) (name : ℕ → List ℕ) (m : Moment K V) (known : Known) (s : Scene K V) (old new : Held K V) (at : IsAt same hash old s)
     (whole : ShowsWhole same name m known s) (shows : ShowsOwed name m known s) (i : ℕ) (told : Progress Setting) (leads : MakingLeads same hash i told s old new) (b : Beginning K) (here : s.makers i ≡ Some b)
     (of : Option ℕ) (was_new : WasNew b.map told m) where
   abbrev shown : Shows same name m known s
   shown = whole.all.shown
 
   abbrev made2 : Known
-  made2 = known_after (acts.Making b.map) new.memory.changed known
+  made2 = known_after (acts.Making b.map) new.changed known
 
   abbrev w2 : World (Node K V)
   w2 = (leads b here).2.step.w2
@@ -197,8 +196,8 @@ module _ {K V S : Type 0} (same : K → K → Bool) (hash : K → ℕ) (name : �
   world_is (progress.Done setting) comes = refl
   world_is (progress.Refused fault) comes = refl
 
-  beside : IsBeside m (with_effects None of (effects_of (acts.Making b.map) known new.memory.changed) m) known made2 s led
-  beside = makings_go_beside K V S same hash name m known s old new at whole i told leads b here of was_new
+  beside : IsBeside m (with_effects None of (effects_of (acts.Making b.map) known new.changed) m) known made2 s led
+  beside = makings_go_beside K V same hash name m known s old new at whole i told leads b here of was_new
 
   some_then : (x : ℕ) → IsThere same hash name m known s old at shown x → IsSome (value_at led.world.memory x)
   some_then x kept =
@@ -214,9 +213,9 @@ module _ {K V S : Type 0} (same : K → K → Bool) (hash : K → ℕ) (name : �
       (λ x kept noted. beside.roles x (some_then x kept) (pair_of_map (known.roles x) noted)) (λ x kept noted. beside.roles x (some_then x kept) (table_of_map (known.roles x) noted)) (machine_of u)
       (all_there same hash name m known s old at shown map j u is (shows.noted map j u is)) (shows.noted map j u is)
 
-  pub making_leaves : ShowsOwed name (with_effects None of (effects_of (acts.Making b.map) known new.memory.changed) m) made2 led
-  making_leaves = effects_leave_owed K V name m known made2 s led shows beside.same_calls made_same of (effects_of (acts.Making b.map) known new.memory.changed)
+  pub making_leaves : ShowsOwed name (with_effects None of (effects_of (acts.Making b.map) known new.changed) m) made2 led
+  making_leaves = effects_leave_owed K V name m known made2 s led shows beside.same_calls made_same of (effects_of (acts.Making b.map) known new.changed)
 
-pub makings_leave_owed : (K V S : Type 0) (same : K → K → Bool) (hash : K → ℕ) → MakingsLeaveOwed K V S same hash
-makings_leave_owed K V S same hash name m known s old new at whole shows i told leads b here of was_new =
+pub makings_leave_owed : (K V : Type 0) (same : K → K → Bool) (hash : ℕ → K → ℕ) → MakingsLeaveOwed K V same hash
+makings_leave_owed K V same hash name m known s old new at whole shows i told leads b here of was_new =
     making_leaves same hash name m known s old new at whole shows i told leads b here of was_new

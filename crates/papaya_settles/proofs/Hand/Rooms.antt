@@ -43,10 +43,6 @@ use Rattle.papaya_histories.specs.Given.Callers.Together.{ForRoom, in_slot}
 use Rattle.papaya_histories.specs.Given.Effects.Effects.{effects_of}
 use Rattle.papaya_histories.specs.Given.Effects.Known.{Known}
 use Rattle.papaya_histories.specs.Given.Effects.declared.acting.Acting.TheVariants as acts
-use Rattle.papaya_histories.specs.Given.Executor.IsAt.{Scene, IsAt, slot_of}
-use Rattle.papaya_histories.specs.Given.Executor.Stepping.{has_ended, StepLeads}
-use Rattle.papaya_histories.specs.Given.Executor.declared.executor.Executor.{Executor}
-use Rattle.papaya_histories.proofs.Given.Executor.Forgotten.{as_step}
 use Rattle.papaya_histories.specs.Given.Finishes.Maps.{Standing}
 use Rattle.papaya_histories.specs.Given.Follows.Shows.{Shows}
 use Rattle.papaya_histories.proofs.Given.Follows.Steps.{WentTo, went_to, OfNoRow}
@@ -62,6 +58,10 @@ use Rattle.papaya_settles.proofs.Leaving.{shifts_take, no_promotion, leaves}
 use Rattle.papaya_settles.proofs.Passed.{copier_none}
 use Rattle.papaya_settles.proofs.Rest.{room_shifts}
 use Rattle.papaya_settles.proofs.Spares.{room_is_promoting, spares_room}
+use Rattle.papaya_histories.proofs.Given.Scenes.Told.{as_step}
+use Rattle.papaya_histories.specs.Given.Scenes.Held.{Held, IsAt}
+use Rattle.papaya_histories.specs.Given.Scenes.Scene.{Scene, slot_of}
+use Rattle.papaya_histories.specs.Given.Scenes.Stepping.{StepLeads, has_ended}
 
 -- one that is to copy a whole table has unlinked none
 pub begins_none : (setting : Setting) (table next : Table) → has_unlinked (copying_all setting table next).stands ≡ false
@@ -137,7 +137,7 @@ module _ (known : Known) (K V : Type 0) where
   none_at hash c reserving.Over is none = subst (NoneOfRoom known) (sym is) (refl, tt)
   none_at hash c (reserving.Refused fault) is none = subst (NoneOfRoom known) (sym is) (refl, tt)
 
-module _ {K V S : Type 0} (same : K → K → Bool) (hash : K → ℕ) (name : ℕ → List ℕ) (m : Moment K V) (known : Known) (s : Scene K V) (old new : Executor K V S) (at_old : IsAt same hash old s)
+module _ {K V : Type 0} (same : K → K → Bool) (hash : ℕ → K → ℕ) (name : ℕ → List ℕ) (m : Moment K V) (known : Known) (s : Scene K V) (old new : Held K V) (at_old : IsAt same hash old s)
     (shown : Shows same name m known s) (map i : ℕ) (x : CallForRoom) (under_way : s.calls map i ≡ Some (ForRoom x)) (said : Progress (Node K V)) (leads : StepLeads same hash i said s old new)
     (notes : NotesOfRoom known x.reserve.stands) (no_row : IsRowOfReserve x.reserve.stands → ⊥)
     (own : OfNoRow same hash name m known s old new at_old shown map i (ForRoom x) under_way said leads (ForRoom x) (went_to same hash name m known s old new at_old shown map i (ForRoom x) under_way said leads).4.did) where
@@ -148,7 +148,7 @@ module _ {K V S : Type 0} (same : K → K → Bool) (hash : K → ℕ) (name : �
   st = to.0
 
   abbrev told : Changed
-  told = new.memory.changed
+  told = new.changed
 
   abbrev effects : List Effect
   effects = effects_of (acts.Call i map) known told
@@ -157,10 +157,10 @@ module _ {K V S : Type 0} (same : K → K → Bool) (hash : K → ℕ) (name : �
   blocks = seen_by st.blocks (st.sights (slot_of i))
 
   abbrev Stepped : Reserving → Reserve × Outcome (Node K V) Unit → Type 0
-  Stepped stands e = StepsTold K V (Reserve × Outcome (Node K V) Unit) old.memory.memory changed.Nothing (reserves.plan_at hash x.reserve stands) new.memory.memory told e
+  Stepped stands e = StepsTold K V (Reserve × Outcome (Node K V) Unit) old.memory changed.Nothing (reserves.plan_at to.0.hash x.reserve stands) new.memory told e
 
   inner : (e : Reserve × Outcome (Node K V) Unit) × (◌≡◌ {A = Machine K V K × Progress (Node K V)} (to.1, said) (of_room e)) × Stepped x.reserve.stands e
-  inner = told_in old.memory.memory new.memory.memory told of_room (reserve_plan hash x.reserve) (to.1, said) to.3
+  inner = told_in old.memory new.memory told of_room (reserve_plan to.0.hash x.reserve) (to.1, said) to.3
 
   machine_is : to.1 ≡ kinds.Reserve inner.0.0
   machine_is = ap (λ (z : Machine K V K × Progress (Node K V)). z.0) inner.1
@@ -193,18 +193,18 @@ module _ {K V S : Type 0} (same : K → K → Bool) (hash : K → ℕ) (name : �
   ]
 
   abbrev Goes : Type 0
-  Goes = HandGoes K V S same hash m known s old new map i (ForRoom x) said under_way leads
+  Goes = HandGoes K V same hash m known s old new map i (ForRoom x) said under_way leads
 
   -- it copies no pairs, and has nothing in hand, before and after
   none_goes : (CopiesPairs x.reserve.stands → ⊥) → in_hand_of_room known x.reserve.stands ≡ [] → room_is_promoting x.reserve.stands ≡ false → Goes
   none_goes copies nothing other =
-      let after = always_steps (HasNone known K V) old.memory.memory new.memory.memory (reserve_plan hash x.reserve) inner.0 (none_at known K V hash x.reserve x.reserve.stands refl copies)
-      (as_step old.memory.memory changed.Nothing (reserve_plan hash x.reserve) new.memory.memory told inner.0 inner.2) in
+      let after = always_steps (HasNone known K V) old.memory new.memory (reserve_plan to.0.hash x.reserve) inner.0 (none_at known K V to.0.hash x.reserve x.reserve.stands refl copies)
+      (as_step old.memory changed.Nothing (reserve_plan to.0.hash x.reserve) new.memory told inner.0 inner.2) in
       let none : in_hand known to.1 ≡ [] = ap (in_hand known) machine_is ∙ after.0 in (
         KeepsOwed
             (leaves same hash name m known s old new at_old shown map i (ForRoom x) under_way said leads own no_pair
-            (no_promotion same hash name m known s old new at_old shown map i (ForRoom x) under_way said leads (reserve_plan hash x.reserve) inner.0
-            (spares_room K V hash x.reserve x.reserve.stands other no_row) inner.2))
+            (no_promotion same hash name m known s old new at_old shown map i (ForRoom x) under_way said leads (reserve_plan to.0.hash x.reserve) inner.0
+            (spares_room K V to.0.hash x.reserve x.reserve.stands other no_row) inner.2))
             (none ∙ sym nothing),
         subst (NotesInHand known) (sym machine_is) after.1,
         λ ended. none,
@@ -212,7 +212,7 @@ module _ {K V S : Type 0} (same : K → K → Bool) (hash : K → ℕ) (name : �
 
   goes_at : (stands : Reserving) → x.reserve.stands ≡ stands → Goes
   goes_at (reserving.Copies copier) is =
-      let d = told_in old.memory.memory new.memory.memory told (reserves.copied x.reserve) (copier_plan hash copier) inner.0 (subst (λ (z : Reserving). Stepped z inner.0) is inner.2) in
+      let d = told_in old.memory new.memory told (reserves.copied x.reserve) (copier_plan to.0.hash copier) inner.0 (subst (λ (z : Reserving). Stepped z inner.0) is inner.2) in
       let came = room_then known x.reserve d.0 in
       let machine : to.1 ≡ kinds.Reserve (reserves.copied x.reserve d.0).0 = machine_is ∙ ap (λ (z : Reserve × Outcome (Node K V) Unit). kinds.Reserve z.0) d.1 in
       let says : said ≡ of_outcome (reserves.copied x.reserve d.0).1 =
@@ -221,8 +221,8 @@ module _ {K V S : Type 0} (same : K → K → Bool) (hash : K → ℕ) (name : �
       (ap (in_hand_of_room known) is) (subst (NotesOfRoom known) is notes) d.0 d.2
       (λ has. (ap (in_hand known) machine ∙ (came.0 has).0, λ n. subst (NotesInHand known) (sym machine) ((came.0 has).1 n)))
       (λ ended. ap (in_hand known) machine ∙ came.1 (ap has_ended (sym says) ∙ ended)) no_pair
-      (λ no. no_promotion same hash name m known s old new at_old shown map i (ForRoom x) under_way said leads (reserve_plan hash x.reserve) inner.0
-      (spares_room K V hash x.reserve x.reserve.stands (ap room_is_promoting is ∙ no) no_row) inner.2)
+      (λ no. no_promotion same hash name m known s old new at_old shown map i (ForRoom x) under_way said leads (reserve_plan to.0.hash x.reserve) inner.0
+      (spares_room K V to.0.hash x.reserve x.reserve.stands (ap room_is_promoting is ∙ no) no_row) inner.2)
   goes_at stands is = none_goes (λ copies. subst CopiesPairs is copies) (ap (in_hand_of_room known) is) (ap room_is_promoting is)
 
   pub room_goes_on : Goes

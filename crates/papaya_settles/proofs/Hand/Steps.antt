@@ -20,10 +20,6 @@ use Rattle.papaya_histories.specs.Given.Callers.Together.{UnderWay, CallOnKey, O
 use Rattle.papaya_histories.specs.Given.Effects.Effects.{effects_of}
 use Rattle.papaya_histories.specs.Given.Effects.Known.{Known}
 use Rattle.papaya_histories.specs.Given.Effects.declared.acting.Acting.TheVariants as acts
-use Rattle.papaya_histories.specs.Given.Executor.IsAt.{Scene, IsAt}
-use Rattle.papaya_histories.specs.Given.Executor.Stepping.{has_ended, StepLeads, StepsFrom}
-use Rattle.papaya_histories.specs.Given.Executor.declared.executor.Executor.{Executor}
-use Rattle.papaya_histories.proofs.Given.Executor.Forgotten.{as_step}
 use Rattle.papaya_histories.specs.Given.Finishes.Machines.{machine_of}
 use Rattle.papaya_histories.specs.Given.Follows.Shows.{Shows}
 use Rattle.papaya_histories.proofs.Given.Follows.Steps.{WentTo, went_to, DidSo, OfNoRow}
@@ -41,6 +37,10 @@ use Rattle.papaya_settles.proofs.DueCalls.{rows_tell_due}
 use Rattle.papaya_settles.proofs.Hand.Behind.{GoesDue, KeyKeeps, key_keeps, key_puts, RoomKeeps, room_keeps, room_puts, SweepKeeps, sweep_keeps, sweep_puts}
 use Rattle.papaya_settles.proofs.Leaving.{has_gone}
 use Rattle.papaya_settles.proofs.Hand.Rows.{KeepsBehind, PutsPair, row_goes}
+use Rattle.papaya_histories.proofs.Given.Scenes.Told.{as_step}
+use Rattle.papaya_histories.specs.Given.Scenes.Held.{Held, IsAt}
+use Rattle.papaya_histories.specs.Given.Scenes.Scene.{Scene}
+use Rattle.papaya_histories.specs.Given.Scenes.Stepping.{StepLeads, StepsFrom, has_ended}
 
 -- a row has in hand what it had, or nothing any more
 goes_due : (caller map : ℕ) (known : Known) (effects : List Effect) (due due2 : Option Due) → RowTells caller map known effects due due2 → GoesDue due due2
@@ -48,20 +48,20 @@ goes_due caller map known effects due due2 (TellsNone none same) = inl same
 goes_due caller map known effects due due2 (TellsRetired word was gone are) = inr gone
 goes_due caller map known effects due due2 (TellsDeferred word block place t len was its gone table are) = inr gone
 
-module _ {K V S : Type 0} (same : K → K → Bool) (hash : K → ℕ) (name : ℕ → List ℕ) (m : Moment K V) (known : Known) (s : Scene K V) (old new : Executor K V S) (at_old : IsAt same hash old s)
+module _ {K V : Type 0} (same : K → K → Bool) (hash : ℕ → K → ℕ) (name : ℕ → List ℕ) (m : Moment K V) (known : Known) (s : Scene K V) (old new : Held K V) (at_old : IsAt same hash old s)
     (shown : Shows same name m known s) (rows : ShowsRows s) (entries : ShowsEntries s) (owning : OwnAreMade known s.world) (map i : ℕ) (u : UnderWay K V K) (under_way : s.calls map i ≡ Some u)
     (said : Progress (Node K V)) (leads : StepLeads same hash i said s old new) (other : OfNoRow same hash name m known s old new at_old shown map i u under_way said leads u (leads map u under_way).4.did → ⊥) where
   abbrev to : WentTo same hash name m known s old new at_old shown map i u under_way said leads
   to = went_to same hash name m known s old new at_old shown map i u under_way said leads
 
   abbrev told : Changed
-  told = new.memory.changed
+  told = new.changed
 
   abbrev effects : List Effect
   effects = effects_of (acts.Call i map) known told
 
   its_row : RowTells i map known effects (due_in_row (machine_of u)) (due_in_row to.1)
-  its_row = rows_tell_due K V S same hash name m known s old new at_old shown rows entries owning map i u under_way said leads other
+  its_row = rows_tell_due K V same hash name m known s old new at_old shown rows entries owning map i u under_way said leads other
 
   abbrev Goal : Machine K V K → Type 0
   Goal machine = OwesGo m effects (in_hand known (machine_of u)) (in_hand known machine) × NotesInHand known machine × (to.4.next ≡ None → in_hand known machine ≡ [])
@@ -79,8 +79,8 @@ module _ {K V S : Type 0} (same : K → K → Bool) (hash : K → ℕ) (name : �
       )
 
   -- the step, as one of this kind's machine
-  stepped : (x : UnderWay K V K) → u ≡ x → StepsFrom same hash (machine_of x) old new to.1 said
-  stepped x is = subst (λ (y : UnderWay K V K). StepsFrom same hash (machine_of y) old new to.1 said) is to.3
+  stepped : (x : UnderWay K V K) → u ≡ x → StepsFrom same to.0.hash (machine_of x) old new to.1 said
+  stepped x is = subst (λ (y : UnderWay K V K). StepsFrom same to.0.hash (machine_of y) old new to.1 said) is to.3
 
   abbrev Keeps : UnderWay K V K → Machine K V K → Type 0
   Keeps x machine =
@@ -96,26 +96,26 @@ module _ {K V S : Type 0} (same : K → K → Bool) (hash : K → ℕ) (name : �
   key_goes : (x : CallOnKey K V K) → u ≡ OnKey x → IsRowOfCall x.call.stands → NotesInHand known (machine_of u) → Goal to.1
   key_goes x is row noted =
       let notes = subst (λ (y : UnderWay K V K). NotesInHand known (machine_of y)) is noted in
-      let inner = told_in old.memory.memory new.memory.memory told of_key (call_plan same same hash x.call) (to.1, said) (stepped (OnKey x) is) in
-      let keeps = always_steps (KeyKeeps known same same hash x.call x.call.stands) old.memory.memory new.memory.memory (call_plan same same hash x.call) inner.0
-      (key_keeps known same same hash x.call x.call.stands row notes)
-      (as_step old.memory.memory changed.Nothing (call_plan same same hash x.call) new.memory.memory told inner.0 inner.2) in
+      let inner = told_in old.memory new.memory told of_key (call_plan same same to.0.hash x.call) (to.1, said) (stepped (OnKey x) is) in
+      let keeps = always_steps (KeyKeeps known same same to.0.hash x.call x.call.stands) old.memory new.memory (call_plan same same to.0.hash x.call) inner.0
+      (key_keeps known same same to.0.hash x.call x.call.stands row notes)
+      (as_step old.memory changed.Nothing (call_plan same same to.0.hash x.call) new.memory told inner.0 inner.2) in
       of_kind (OnKey x) is (kinds.Key inner.0.0) (ap (λ (z : Machine K V K × Progress (Node K V)). z.0) inner.1) (keeps.0, keeps.1) (λ word place e. key_puts known x.call.stands notes word place e) (λ e. keeps.2 (sym (ap (λ (z : Machine K V K × Progress (Node K V)). has_ended z.1) inner.1) ∙ e))
 
   room_goes : (x : CallForRoom) → u ≡ ForRoom x → IsRowOfReserve x.reserve.stands → NotesInHand known (machine_of u) → Goal to.1
   room_goes x is row noted =
       let notes = subst (λ (y : UnderWay K V K). NotesInHand known (machine_of y)) is noted in
-      let inner = told_in old.memory.memory new.memory.memory told of_room (reserve_plan hash x.reserve) (to.1, said) (stepped (ForRoom x) is) in
-      let keeps = always_steps (RoomKeeps V known hash x.reserve x.reserve.stands) old.memory.memory new.memory.memory (reserve_plan hash x.reserve) inner.0
-      (room_keeps V known hash x.reserve x.reserve.stands row notes) (as_step old.memory.memory changed.Nothing (reserve_plan hash x.reserve) new.memory.memory told inner.0 inner.2) in
+      let inner = told_in old.memory new.memory told of_room (reserve_plan to.0.hash x.reserve) (to.1, said) (stepped (ForRoom x) is) in
+      let keeps = always_steps (RoomKeeps V known to.0.hash x.reserve x.reserve.stands) old.memory new.memory (reserve_plan to.0.hash x.reserve) inner.0
+      (room_keeps V known to.0.hash x.reserve x.reserve.stands row notes) (as_step old.memory changed.Nothing (reserve_plan to.0.hash x.reserve) new.memory told inner.0 inner.2) in
       of_kind (ForRoom x) is (kinds.Reserve inner.0.0) (ap (λ (z : Machine K V K × Progress (Node K V)). z.0) inner.1) (keeps.0, keeps.1) (λ word place e. absurd (room_puts x.reserve.stands word place e)) (λ e. keeps.2 (sym (ap (λ (z : Machine K V K × Progress (Node K V)). has_ended z.1) inner.1) ∙ e))
 
   sweep_goes : (x : CallOverAll) → u ≡ OverAll x → IsRowOfSweep x.sweep.stands → NotesInHand known (machine_of u) → Goal to.1
   sweep_goes x is row noted =
       let notes = subst (λ (y : UnderWay K V K). NotesInHand known (machine_of y)) is noted in
-      let inner = told_in old.memory.memory new.memory.memory told of_sweep (sweep_plan hash x.sweep) (to.1, said) (stepped (OverAll x) is) in
-      let keeps = always_steps (SweepKeeps V known hash x.sweep x.sweep.stands) old.memory.memory new.memory.memory (sweep_plan hash x.sweep) inner.0
-      (sweep_keeps V known hash x.sweep x.sweep.stands row notes) (as_step old.memory.memory changed.Nothing (sweep_plan hash x.sweep) new.memory.memory told inner.0 inner.2) in
+      let inner = told_in old.memory new.memory told of_sweep (sweep_plan to.0.hash x.sweep) (to.1, said) (stepped (OverAll x) is) in
+      let keeps = always_steps (SweepKeeps V known to.0.hash x.sweep x.sweep.stands) old.memory new.memory (sweep_plan to.0.hash x.sweep) inner.0
+      (sweep_keeps V known to.0.hash x.sweep x.sweep.stands row notes) (as_step old.memory changed.Nothing (sweep_plan to.0.hash x.sweep) new.memory told inner.0 inner.2) in
       of_kind (OverAll x) is (kinds.Sweep inner.0.0) (ap (λ (z : Machine K V K × Progress (Node K V)). z.0) inner.1) (keeps.0, keeps.1) (λ word place e. sweep_puts known x.sweep.stands notes word place e) (λ e. keeps.2 (sym (ap (λ (z : Machine K V K × Progress (Node K V)). has_ended z.1) inner.1) ∙ e))
 
   pub row_hands : NotesInHand known (machine_of u) → Goal to.1
@@ -131,6 +131,6 @@ module _ {K V S : Type 0} (same : K → K → Bool) (hash : K → ℕ) (name : �
       by (OverAll x) is (p2, end, machine_is, told_is, inl step) none = absurd (none tt)
       by (OverAll x) is (p2, end, machine_is, told_is, inr (row, stayed)) none = sweep_goes x is row.is_row notes
 
-pub rows_hand_over : (K V S : Type 0) (same : K → K → Bool) (hash : K → ℕ) → RowsHandOver K V S same hash
-rows_hand_over K V S same hash name m known s old new at_old shown rows entries owning map i u here said leads notes other =
+pub rows_hand_over : (K V : Type 0) (same : K → K → Bool) (hash : ℕ → K → ℕ) → RowsHandOver K V same hash
+rows_hand_over K V same hash name m known s old new at_old shown rows entries owning map i u here said leads notes other =
     row_hands same hash name m known s old new at_old shown rows entries owning map i u here said leads other notes

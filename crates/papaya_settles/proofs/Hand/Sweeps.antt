@@ -46,10 +46,6 @@ use Rattle.papaya_histories.specs.Given.Callers.Together.{OverAll, in_slot, next
 use Rattle.papaya_histories.specs.Given.Effects.Effects.{effects_of}
 use Rattle.papaya_histories.specs.Given.Effects.Known.{Known}
 use Rattle.papaya_histories.specs.Given.Effects.declared.acting.Acting.TheVariants as acts
-use Rattle.papaya_histories.specs.Given.Executor.IsAt.{Scene, IsAt, slot_of}
-use Rattle.papaya_histories.specs.Given.Executor.Stepping.{has_ended, StepLeads}
-use Rattle.papaya_histories.specs.Given.Executor.declared.executor.Executor.{Executor}
-use Rattle.papaya_histories.proofs.Given.Executor.Forgotten.{as_step}
 use Rattle.papaya_histories.specs.Given.Finishes.Maps.{Standing}
 use Rattle.papaya_histories.specs.Given.Follows.Shows.{Shows}
 use Rattle.papaya_histories.proofs.Given.Follows.Steps.{WentTo, went_to, DidSo, OfNoRow}
@@ -71,6 +67,10 @@ use Rattle.papaya_settles.proofs.Passed.{copier_none}
 use Rattle.papaya_settles.proofs.Points.{IsNoTry, idle_step}
 use Rattle.papaya_settles.proofs.Rest.{sweep_counts, sweep_shifts}
 use Rattle.papaya_settles.proofs.Spares.{sweep_is_promoting, spares_sweep}
+use Rattle.papaya_histories.proofs.Given.Scenes.Told.{as_step}
+use Rattle.papaya_histories.specs.Given.Scenes.Held.{Held, IsAt}
+use Rattle.papaya_histories.specs.Given.Scenes.Scene.{Scene, slot_of}
+use Rattle.papaya_histories.specs.Given.Scenes.Stepping.{StepLeads, has_ended}
 
 -- by where it stands: it has a pair in hand; it copies; or it has nothing, and is not to count
 data KindOf (p : Sweeping) : Type 0 where
@@ -183,7 +183,7 @@ module _ (known : Known) where
     none_at hash c sweeping.Over is counts none copies disposes = λ e. subst (NoneOfSweep known) (sym is) none
     none_at hash c (sweeping.Refused fault) is counts none copies disposes = λ e. subst (NoneOfSweep known) (sym is) none
 
-module _ {K V S : Type 0} (same : K → K → Bool) (hash : K → ℕ) (name : ℕ → List ℕ) (m : Moment K V) (known : Known) (s : Scene K V) (old new : Executor K V S) (at_old : IsAt same hash old s)
+module _ {K V : Type 0} (same : K → K → Bool) (hash : ℕ → K → ℕ) (name : ℕ → List ℕ) (m : Moment K V) (known : Known) (s : Scene K V) (old new : Held K V) (at_old : IsAt same hash old s)
     (shown : Shows same name m known s) (map i : ℕ) (x : CallOverAll) (under_way : s.calls map i ≡ Some (OverAll x)) (said : Progress (Node K V)) (leads : StepLeads same hash i said s old new)
     (notes : NotesOfSweep known x.sweep.stands) (no_row : IsRowOfSweep x.sweep.stands → ⊥)
     (own : OfNoRow same hash name m known s old new at_old shown map i (OverAll x) under_way said leads (OverAll x) (went_to same hash name m known s old new at_old shown map i (OverAll x) under_way said leads).4.did) where
@@ -194,7 +194,7 @@ module _ {K V S : Type 0} (same : K → K → Bool) (hash : K → ℕ) (name : �
   st = to.0
 
   abbrev told : Changed
-  told = new.memory.changed
+  told = new.changed
 
   abbrev effects : List Effect
   effects = effects_of (acts.Call i map) known told
@@ -203,10 +203,10 @@ module _ {K V S : Type 0} (same : K → K → Bool) (hash : K → ℕ) (name : �
   blocks = seen_by st.blocks (st.sights (slot_of i))
 
   abbrev Stepped : Sweeping → Sweep × Swept (Node K V) → Type 0
-  Stepped stands e = StepsTold K V (Sweep × Swept (Node K V)) old.memory.memory changed.Nothing (sweeps.plan_at hash x.sweep stands) new.memory.memory told e
+  Stepped stands e = StepsTold K V (Sweep × Swept (Node K V)) old.memory changed.Nothing (sweeps.plan_at to.0.hash x.sweep stands) new.memory told e
 
   inner : (e : Sweep × Swept (Node K V)) × (◌≡◌ {A = Machine K V K × Progress (Node K V)} (to.1, said) (of_sweep e)) × Stepped x.sweep.stands e
-  inner = told_in old.memory.memory new.memory.memory told of_sweep (sweep_plan hash x.sweep) (to.1, said) to.3
+  inner = told_in old.memory new.memory told of_sweep (sweep_plan to.0.hash x.sweep) (to.1, said) to.3
 
   machine_is : to.1 ≡ kinds.Sweep inner.0.0
   machine_is = ap (λ (z : Machine K V K × Progress (Node K V)). z.0) inner.1
@@ -235,7 +235,7 @@ module _ {K V S : Type 0} (same : K → K → Bool) (hash : K → ℕ) (name : �
   Goal machine = OwesGo m effects (in_hand_of_sweep known x.sweep.stands) (in_hand known machine) × NotesInHand known machine
 
   abbrev Goes : Type 0
-  Goes = HandGoes K V S same hash m known s old new map i (OverAll x) said under_way leads
+  Goes = HandGoes K V same hash m known s old new map i (OverAll x) said under_way leads
 
   -- off a copying that promotes, and off a try, its effects leave what is owed
   none_taken : IsNoTry x.sweep.stands → (n : ℕ) → TakesPair effects n → ⊥
@@ -244,7 +244,7 @@ module _ {K V S : Type 0} (same : K → K → Bool) (hash : K → ℕ) (name : �
   all_leave : ((n : ℕ) → TakesPair effects n → ⊥) → sweep_is_promoting x.sweep.stands ≡ false → AllLeave effects
   all_leave no_pair other =
       leaves same hash name m known s old new at_old shown map i (OverAll x) under_way said leads own no_pair
-      (no_promotion same hash name m known s old new at_old shown map i (OverAll x) under_way said leads (sweep_plan hash x.sweep) inner.0 (spares_sweep K V hash x.sweep x.sweep.stands other no_row) inner.2)
+      (no_promotion same hash name m known s old new at_old shown map i (OverAll x) under_way said leads (sweep_plan to.0.hash x.sweep) inner.0 (spares_sweep K V to.0.hash x.sweep x.sweep.stands other no_row) inner.2)
 
   -- once it has ended it is over, and has nothing in hand
   ended_none : to.4.next ≡ None → in_hand known to.1 ≡ []
@@ -264,7 +264,7 @@ module _ {K V S : Type 0} (same : K → K → Bool) (hash : K → ℕ) (name : �
   -- it has a pair in hand, and has it still
   some_goes : (word : ℕ) → pair_in_sweeping x.sweep.stands ≡ Some word → IsNoTry x.sweep.stands → sweep_is_promoting x.sweep.stands ≡ false → Goal to.1
   some_goes word e apart other =
-      let held = sweeps_hold_theirs K V S same hash name m known s old new at_old shown map i x under_way said leads own word e in
+      let held = sweeps_hold_theirs K V same hash name m known s old new at_old shown map i x under_way said leads own word e in
       let same_hand : in_hand_of_sweep known held.0.stands ≡ in_hand_of_sweep known x.sweep.stands =
       hand_of known held.0.stands held.2 held.3 ∙ ap (λ (b : ℕ). thing_as (known.roles b)) held.4 ∙ sym (hand_of known x.sweep.stands word e) in
       subst Goal (sym held.1) (
@@ -276,10 +276,10 @@ module _ {K V S : Type 0} (same : K → K → Bool) (hash : K → ℕ) (name : �
   none_goes : in_hand_of_sweep known x.sweep.stands ≡ [] → AllLeave effects → NoneOfSweep known inner.0.0.stands → Goal to.1
   none_goes nothing all after = subst Goal (sym machine_is) (KeepsOwed all (after.0 ∙ sym nothing), after.1)
 
-  as_stepped : (stands : Sweeping) → x.sweep.stands ≡ stands → (P : Sweep × Swept (Node K V) → Type 0) → AlwaysOf P (sweeps.plan_at hash x.sweep stands) → P inner.0
+  as_stepped : (stands : Sweeping) → x.sweep.stands ≡ stands → (P : Sweep × Swept (Node K V) → Type 0) → AlwaysOf P (sweeps.plan_at to.0.hash x.sweep stands) → P inner.0
   as_stepped stands is P always =
-      always_steps P old.memory.memory new.memory.memory (sweeps.plan_at hash x.sweep stands) inner.0 always
-      (as_step old.memory.memory changed.Nothing (sweeps.plan_at hash x.sweep stands) new.memory.memory told inner.0 (subst (λ (z : Sweeping). Stepped z inner.0) is inner.2))
+      always_steps P old.memory new.memory (sweeps.plan_at to.0.hash x.sweep stands) inner.0 always
+      (as_step old.memory changed.Nothing (sweeps.plan_at to.0.hash x.sweep stands) new.memory told inner.0 (subst (λ (z : Sweeping). Stepped z inner.0) is inner.2))
 
   done_goes : (d : Dispose) → x.sweep.stands ≡ sweeping.Disposes d → pair_in_disposing d d.stands ≡ None → Goal to.1
   done_goes d is e =
@@ -291,7 +291,7 @@ module _ {K V S : Type 0} (same : K → K → Bool) (hash : K → ℕ) (name : �
     where
       is_idle : IsNoTry x.sweep.stands → counts_in_sweeping inner.0.0.stands ≡ false
       is_idle apart =
-          idle_step K V x.sweep hash apart old.memory.memory new.memory.memory inner.0 (as_step old.memory.memory changed.Nothing (sweep_plan hash x.sweep) new.memory.memory told inner.0 inner.2)
+          idle_step K V x.sweep to.0.hash apart old.memory new.memory inner.0 (as_step old.memory changed.Nothing (sweep_plan to.0.hash x.sweep) new.memory told inner.0 inner.2)
 
   -- one that has nothing in hand, and copies no pairs: it has none then, or has removed a pair, and has that in hand
   early_goes : counts_in_sweeping x.sweep.stands ≡ false → sweep_is_promoting x.sweep.stands ≡ false → NoneOfSweep known x.sweep.stands
@@ -301,7 +301,7 @@ module _ {K V S : Type 0} (same : K → K → Bool) (hash : K → ℕ) (name : �
     where
       takes : (p : ℕ) → effects ≡ effect.Removed p ∷ [] → Goal to.1
       takes p are =
-          let it = sweeps_take_in_hand K V S same hash name m known s old new at_old shown map i x under_way said leads own p are in
+          let it = sweeps_take_in_hand K V same hash name m known s old new at_old shown map i x under_way said leads own p are in
           let hand : in_hand_of_sweep known it.0.stands ≡ in_hand_of_sweep known x.sweep.stands ++ APair p ∷ [] =
           ap (in_hand_of_sweep known) it.3 ∙ ap thing_as it.4 ∙ ap (λ (l : List Thing). l ++ APair p ∷ []) (sym nothing.0) in
           subst Goal (sym it.1) (TakesOut p are hand, subst (NotesOfSweep known) (sym it.3) (subst IsPairRole (sym it.4) tt))
@@ -313,7 +313,7 @@ module _ {K V S : Type 0} (same : K → K → Bool) (hash : K → ℕ) (name : �
       by : CountGoes ⊥ (shard_for i st.setting) effects (counts_in_sweeping x.sweep.stands) (is_to_count to.1) → Goal to.1
       by (KeepsCount all same_count) =
           let idle : counts_in_sweeping inner.0.0.stands ≡ false = sym (ap is_to_count machine_is) ∙ same_count ∙ counts in
-          none_goes nothing.0 (all_leave (apart_takes all) other) (as_stepped x.sweep.stands refl (NoneThen known K V) (none_at known K V hash x.sweep x.sweep.stands refl counts nothing copies disposes) idle)
+          none_goes nothing.0 (all_leave (apart_takes all) other) (as_stepped x.sweep.stands refl (NoneThen known K V) (none_at known K V to.0.hash x.sweep x.sweep.stands refl counts nothing copies disposes) idle)
       by (AddsOne may n sp are is) = absurd may
       by (GivesWay may p n sp are is) = absurd may
       by (TakesOne p are is) = takes p are
@@ -321,7 +321,7 @@ module _ {K V S : Type 0} (same : K → K → Bool) (hash : K → ℕ) (name : �
 
   copies_goes : (copier : Copier) → x.sweep.stands ≡ sweeping.Copies copier → Goes
   copies_goes copier is =
-      let d = told_in old.memory.memory new.memory.memory told (sweeps.copied x.sweep) (copier_plan hash copier) inner.0 (subst (λ (z : Sweeping). Stepped z inner.0) is inner.2) in
+      let d = told_in old.memory new.memory told (sweeps.copied x.sweep) (copier_plan to.0.hash copier) inner.0 (subst (λ (z : Sweeping). Stepped z inner.0) is inner.2) in
       let came = sweep_then known x.sweep d.0 in
       let machine : to.1 ≡ kinds.Sweep (sweeps.copied x.sweep d.0).0 = machine_is ∙ ap (λ (z : Sweep × Swept (Node K V)). kinds.Sweep z.0) d.1 in
       let says : said ≡ of_swept (sweeps.copied x.sweep d.0).1 =
@@ -330,8 +330,8 @@ module _ {K V S : Type 0} (same : K → K → Bool) (hash : K → ℕ) (name : �
       (ap (in_hand_of_sweep known) is) (subst (NotesOfSweep known) is notes) d.0 d.2
       (λ has. (ap (in_hand known) machine ∙ (came.0 has).0, λ n. subst (NotesInHand known) (sym machine) ((came.0 has).1 n)))
       (λ ended. ap (in_hand known) machine ∙ came.1 (ap has_ended (sym says) ∙ ended)) (none_taken (subst IsNoTry (sym is) tt))
-      (λ no. no_promotion same hash name m known s old new at_old shown map i (OverAll x) under_way said leads (sweep_plan hash x.sweep) inner.0
-      (spares_sweep K V hash x.sweep x.sweep.stands (ap sweep_is_promoting is ∙ no) no_row) inner.2)
+      (λ no. no_promotion same hash name m known s old new at_old shown map i (OverAll x) under_way said leads (sweep_plan to.0.hash x.sweep) inner.0
+      (spares_sweep K V to.0.hash x.sweep x.sweep.stands (ap sweep_is_promoting is ∙ no) no_row) inner.2)
 
   of_goal : Goal to.1 → Goes
   of_goal goal = (goal.0, goal.1, ended_none)

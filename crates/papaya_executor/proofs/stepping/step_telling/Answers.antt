@@ -1,6 +1,6 @@
 -- A step of a machine in a memory that tells, and may refuse blocks.
-use Rattle.papaya_executor.proofs.Forgotten.{may_forgotten, none_made, steps_forgotten}
 use Rattle.papaya_executor.proofs.stepping.step_telling.Goals as goal
+use Rattle.papaya_executor.proofs.Forgotten.{may_forgotten, none_made, steps_forgotten}
 
 pub step-progress-requires : goal.step-progress-requires
 step-progress-requires g c = may_forgotten _ _ _ (record c.args.memory.now { refuses = c.args.refuse }) _ c.forget.ensures _ c.requires

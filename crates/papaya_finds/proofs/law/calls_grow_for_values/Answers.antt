@@ -13,7 +13,7 @@ returns c d = record {
   told = calls_take_growing _ _;
   walks = walks_go_on_growing _ _;
   gone = calls_go_growing _ _;
-  steps = calls_keep_growing _ _ _;
-  asked = key_calls_may_ask _ _ _;
-  linked = key_calls_link _ _ _;
+  steps = calls_keep_growing _ _;
+  asked = key_calls_may_ask _ _;
+  linked = key_calls_link _ _;
 }

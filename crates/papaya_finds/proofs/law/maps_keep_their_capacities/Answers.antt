@@ -9,6 +9,6 @@ returns c d = record {
   stays = capacities_stay _ _;
   effects = effects_keep_capacities _ _;
   stood = same_maps_stood _ _;
-  calls = calls_keep_capacities _ _ _;
-  makings = makings_keep_capacities _ _ _;
+  calls = calls_keep_capacities _ _;
+  makings = makings_keep_capacities _ _;
 }

@@ -13,7 +13,7 @@ returns c d = record {
   effects = effects_leave_held _ _;
   begun = calls_begin_waits _ _;
   goes_on = waits_go_on _ _;
-  steps = calls_keep_waits _ _ _;
-  past = calls_hand_past _ _ _;
+  steps = calls_keep_waits _ _;
+  past = calls_hand_past _ _;
   handed = past_is_handed _ _;
 }

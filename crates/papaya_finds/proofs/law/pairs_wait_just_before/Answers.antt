@@ -7,6 +7,6 @@ pub returns : goal.returns
 returns c d = record {
   begins = puts_begin c.row.K.Denot c.row.V.Denot;
   stays = puts_stay _ _;
-  steps = calls_keep_puts _ _ _;
-  behind = calls_put_behind _ _ _;
+  steps = calls_keep_puts _ _;
+  behind = calls_put_behind _ _;
 }

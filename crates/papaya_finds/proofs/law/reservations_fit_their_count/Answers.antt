@@ -6,5 +6,5 @@ pub returns : goal.returns
 returns c d = record {
   steps = rooms_keep_count c.row.K.Denot c.row.V.Denot;
   moments = rooms_count_on _ _;
-  asked = rooms_may_ask _ _ _;
+  asked = rooms_may_ask _ _;
 }

@@ -4,4 +4,4 @@ use Rattle.papaya_finds.proofs.Steps.{steps_do_theirs, steps_find_places, steps_
 use Rattle.papaya_finds.proofs.law.steps_find_theirs.Goals as goal
 
 pub returns : goal.returns
-returns c d = record { kinds = steps_do_theirs _ _ _; places = steps_find_places _ _ _; stores = steps_store_one _ _ _; parts = steps_find_parts _ _ _ }
+returns c d = record { kinds = steps_do_theirs _ _; places = steps_find_places _ _; stores = steps_store_one _ _; parts = steps_find_parts _ _ }

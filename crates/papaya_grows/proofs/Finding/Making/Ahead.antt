@@ -37,8 +37,6 @@ use Rattle.papaya_purposes.specs.Given.Late.LateReserves.{LateReserving}
 use Rattle.papaya_purposes.proofs.Given.Late.Copiers.LateWent.{aborted_behind}
 use Rattle.papaya_purposes.specs.Given.Callers.Sights.{IsSight, Sight, seen_by}
 use Rattle.papaya_purposes.specs.Given.Callers.Together.{Counting, ForRoom, OnKey, OverAll, Together, UnderWay, in_slot}
-use Rattle.papaya_purposes.specs.Given.Executor.IsAt.{IsAt, Scene, slot_of}
-use Rattle.papaya_purposes.specs.Given.Executor.declared.executor.Executor.{Executor}
 use Rattle.papaya_purposes.specs.Given.Finishes.Machines.{machine_of}
 use Rattle.papaya_purposes.specs.Given.Finishes.Maps.{Standing}
 use Rattle.papaya_purposes.proofs.Given.Finds.Grows.There.{last_has_none, unseen}
@@ -49,6 +47,8 @@ use Rattle.papaya_grows.proofs.Finding.Making.Machines.{MachineBegins}
 use Rattle.papaya_grows.proofs.Finding.Making.OffRoot.{CallCopier, HasCopier, RoomCopier, SweepCopier}
 use Rattle.papaya_grows.proofs.Finding.Making.Rooms.{RoomBegins}
 use Rattle.papaya_grows.proofs.Finding.Making.Sweeps.{SweepBegins}
+use Rattle.papaya_purposes.specs.Given.Scenes.Held.{Held, IsAt}
+use Rattle.papaya_purposes.specs.Given.Scenes.Scene.{Scene, slot_of}
 
 -- it is to read which table follows, and one does
 abbrev pub IsFollowed : {K V : Type 0} → World (Node K V) → Copier → Type 0
@@ -148,7 +148,7 @@ module _ {K V : Type 0} (Such : NewTable → Type 0) (same : K → K → Bool) (
     late_call_ahead keys x _ facts = inl tt
 
 -- so it is of each call that is under way
-module _ {K V S : Type 0} (Such : NewTable → Type 0) (same : K → K → Bool) (hash : K → ℕ) (s : Scene K V) (e : Executor K V S) (at : IsAt same hash e s) (map i : ℕ) (st : Standing K) (there : s.maps map ≡ Some st)
+module _ {K V : Type 0} (Such : NewTable → Type 0) (same : K → K → Bool) (hash : ℕ → K → ℕ) (s : Scene K V) (e : Held K V) (at : IsAt same hash e s) (map i : ℕ) (st : Standing K) (there : s.maps map ≡ Some st)
     (ahead : suc st.chart.first < st.chart.past → (given : Setting) (table : Table) → Such (table_after given table NoPlace)) where
   each : Together V same st.hash same st.setting slot_of s.world st.chart st.blocks st.sights (s.calls map)
   each = at.together.makings.standing.each map st there

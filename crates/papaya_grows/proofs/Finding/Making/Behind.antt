@@ -36,8 +36,6 @@ use Rattle.papaya_purposes.specs.Given.Late.ToldReserves.{IsRowOfReserve}
 use Rattle.papaya_purposes.specs.Given.Late.ToldSweeps.{IsRowOfSweep}
 use Rattle.papaya_purposes.specs.Given.Callers.Sights.{seen_by}
 use Rattle.papaya_purposes.specs.Given.Callers.Together.{Counting, ForRoom, OnKey, OverAll, Together, UnderWay, in_slot}
-use Rattle.papaya_purposes.specs.Given.Executor.IsAt.{IsAt, Scene, slot_of}
-use Rattle.papaya_purposes.specs.Given.Executor.declared.executor.Executor.{Executor}
 use Rattle.papaya_purposes.specs.Given.Finishes.Machines.{machine_of}
 use Rattle.papaya_purposes.specs.Given.Finishes.Maps.{Standing}
 use Rattle.papaya_grows.proofs.Finding.Making.Calls.{CallBegins}
@@ -45,6 +43,8 @@ use Rattle.papaya_grows.proofs.Finding.Making.Copiers.{CopierBegins}
 use Rattle.papaya_grows.proofs.Finding.Making.Machines.{MachineBegins}
 use Rattle.papaya_grows.proofs.Finding.Making.Rooms.{RoomBegins}
 use Rattle.papaya_grows.proofs.Finding.Making.Sweeps.{SweepBegins}
+use Rattle.papaya_purposes.specs.Given.Scenes.Held.{Held, IsAt}
+use Rattle.papaya_purposes.specs.Given.Scenes.Scene.{Scene, slot_of}
 
 -- within a row none begins
 module _ (Such : NewTable → Type 0) where
@@ -126,7 +126,7 @@ module _ {K V : Type 0} (Such : NewTable → Type 0) (same : K → K → Bool) (
     late_call_begins keys x _ facts = tt
 
 -- so it is of each call that is under way
-module _ {K V S : Type 0} (Such : NewTable → Type 0) (same : K → K → Bool) (hash : K → ℕ) (s : Scene K V) (e : Executor K V S) (at : IsAt same hash e s) (map i : ℕ) (st : Standing K) (there : s.maps map ≡ Some st)
+module _ {K V : Type 0} (Such : NewTable → Type 0) (same : K → K → Bool) (hash : ℕ → K → ℕ) (s : Scene K V) (e : Held K V) (at : IsAt same hash e s) (map i : ℕ) (st : Standing K) (there : s.maps map ≡ Some st)
     (tried : (given : Setting) (table : Table) (t : ℕ) → IsTable st.chart (seen_by st.blocks (st.sights (slot_of i))) table t → Such (table_after given table NoPlace)) where
   each : Together V same st.hash same st.setting slot_of s.world st.chart st.blocks st.sights (s.calls map)
   each = at.together.makings.standing.each map st there

@@ -11,9 +11,6 @@ use Rattle.papaya_purposes.specs.Given.Callers.OverAll.{CallOverAll}
 use Rattle.papaya_purposes.specs.Given.Callers.Pairs.{Given}
 use Rattle.papaya_purposes.specs.Given.Callers.Rooms.{CallForRoom}
 use Rattle.papaya_purposes.specs.Given.Callers.Together.{Computes, Counting, ForRoom, Gets, Inserts, IsBegun, OnKey, OverAll, Removes, RemovesIf, TriesToInsert, TriesToInsertWith, UnderWay, Updates, UpdatesOrInserts}
-use Rattle.papaya_purposes.specs.Given.Executor.Beginning.{Begins}
-use Rattle.papaya_purposes.specs.Given.Executor.IsAt.{Scene, slot_of}
-use Rattle.papaya_purposes.specs.Given.Executor.Replying.{scene_with}
 use Rattle.papaya_purposes.specs.Given.Finishes.Machines.{machine_of}
 use Rattle.papaya_purposes.specs.Given.Finishes.Maps.{Standing}
 use Rattle.papaya_purposes.proofs.Given.Follows.Steps.{one_of}
@@ -22,6 +19,9 @@ use Rattle.papaya_grows.specs.Further.{CallMakes, IsFurther, MachineMakes, RoomM
 use Rattle.papaya_grows.proofs.Finding.Making.Lengths.{KeepsLengths}
 use Rattle.papaya_grows.proofs.Finding.Making.Machines.{asked_makes, reply_makes}
 use Rattle.papaya_grows.proofs.Finding.Making.Steps.{later}
+use Rattle.papaya_purposes.specs.Given.Scenes.Beginning.{Begins}
+use Rattle.papaya_purposes.specs.Given.Scenes.Replying.{scene_with}
+use Rattle.papaya_purposes.specs.Given.Scenes.Scene.{Scene, slot_of}
 
 -- where calls are as they were, or under way no more
 pub further_stays : {K V : Type 0} (m v : Moment K V) (s t : Scene K V) → ShowsFurther m s → KeepsLengths m v

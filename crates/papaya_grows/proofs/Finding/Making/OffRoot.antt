@@ -58,7 +58,6 @@ use Rattle.papaya_purposes.specs.Given.Teller.declared.changed.Changed.{Changed}
 use Rattle.papaya_purposes.specs.Given.Teller.declared.changed.Changed.TheVariants as changed
 use Rattle.papaya_purposes.specs.Given.Tells.Seen.{seen_of}
 use Rattle.papaya_purposes.proofs.Given.Rule.Keys.Always.{Always, AlwaysOf, always_ends, always_steps}
-use Rattle.papaya_purposes.proofs.Given.Executor.Forgotten.{as_step}
 use Rattle.papaya_purposes.proofs.Given.Others.Outcomes.{told_in}
 use Rattle.papaya_purposes.proofs.Given.Finds.Grown.{number_is}
 use Rattle.papaya_grows.specs.Further.{CallMakes, CopierMakes, MachineMakes, RoomMakes, SweepMakes}
@@ -71,6 +70,7 @@ use Rattle.papaya_grows.proofs.Finding.Making.Rooms.{RoomEnds}
 use Rattle.papaya_grows.proofs.Finding.Making.Sweeps as sweeps
 use Rattle.papaya_grows.proofs.Finding.Making.Sweeps.{SweepEnds}
 use Rattle.papaya_grows.proofs.Finding.Making.Unpromoted.{OffRoot}
+use Rattle.papaya_purposes.proofs.Given.Scenes.Told.{as_step}
 
 -- the copier of a machine
 abbrev pub CallCopier : Calling → Copier → Type 0

@@ -22,10 +22,6 @@ use Rattle.papaya_purposes.specs.Given.Callers.Together.{UnderWay}
 use Rattle.papaya_purposes.specs.Given.Effects.Effects.{effects_of}
 use Rattle.papaya_purposes.specs.Given.Effects.Known.{Known}
 use Rattle.papaya_purposes.specs.Given.Effects.declared.acting.Acting.TheVariants as acts
-use Rattle.papaya_purposes.specs.Given.Executor.IsAt.{IsAt, Scene, slot_of}
-use Rattle.papaya_purposes.specs.Given.Executor.Stepping.{StepLeads, scene_after}
-use Rattle.papaya_purposes.specs.Given.Executor.declared.executor.Executor.{Executor}
-use Rattle.papaya_purposes.proofs.Given.Executor.Forgotten.{as_step}
 use Rattle.papaya_purposes.specs.Given.Finishes.Machines.{machine_of}
 use Rattle.papaya_purposes.specs.Given.Finishes.Maps.{Standing}
 use Rattle.papaya_purposes.proofs.Given.Follows.Steps.{WentTo, went_to}
@@ -37,12 +33,16 @@ use Rattle.papaya_grows.proofs.Finding.Making.Behind.{begins_behind}
 use Rattle.papaya_grows.proofs.Finding.Making.Lengths.{KeepsLengths, effects_keep_lengths, table_length}
 use Rattle.papaya_grows.proofs.Finding.Making.Machines.{Ends, machine_makes}
 use Rattle.papaya_grows.proofs.Finding.Making.Such.{further_begun, further_goes, further_more, machine_more}
+use Rattle.papaya_purposes.proofs.Given.Scenes.Told.{as_step}
+use Rattle.papaya_purposes.specs.Given.Scenes.Held.{Held, IsAt}
+use Rattle.papaya_purposes.specs.Given.Scenes.Scene.{Scene, slot_of}
+use Rattle.papaya_purposes.specs.Given.Scenes.Stepping.{StepLeads, scene_after}
 
 -- where a map has had further tables
 pub later : {K V Q : Type 0} (m v : Moment K V) → KeepsLengths m v → (map : ℕ) (machine : Machine K V Q) → MachineMakes (IsFurther (lengths_of map m)) machine → MachineMakes (IsFurther (lengths_of map v)) machine
 later m v keeps map machine makes = machine_more (IsFurther (lengths_of map m)) (IsFurther (lengths_of map v)) (λ n so. further_more (lengths_of map m) (lengths_of map v) (keeps map) n so) machine makes
 
-module _ {K V S : Type 0} (same : K → K → Bool) (hash : K → ℕ) (name : ℕ → List ℕ) (m : Moment K V) (known : Known) (s : Scene K V) (old new : Executor K V S) (at : IsAt same hash old s)
+module _ {K V : Type 0} (same : K → K → Bool) (hash : ℕ → K → ℕ) (name : ℕ → List ℕ) (m : Moment K V) (known : Known) (s : Scene K V) (old new : Held K V) (at : IsAt same hash old s)
     (whole : ShowsWhole same name m known s) (further : ShowsFurther m s) (map i : ℕ) (u : UnderWay K V K) (here : s.calls map i ≡ Some u) (said : Progress (Node K V))
     (leads : StepLeads same hash i said s old new) where
   abbrev to : WentTo same hash name m known s old new at whole.all.shown map i u here said leads
@@ -52,7 +52,7 @@ module _ {K V S : Type 0} (same : K → K → Bool) (hash : K → ℕ) (name : �
   st = to.0
 
   abbrev told : Changed
-  told = new.memory.changed
+  told = new.changed
 
   abbrev effects : List Effect
   effects = effects_of (acts.Call i map) known told
@@ -61,7 +61,7 @@ module _ {K V S : Type 0} (same : K → K → Bool) (hash : K → ℕ) (name : �
   v = with_effects (Some (name i)) (Some map) effects m
 
   abbrev led : Scene K V
-  led = scene_after same hash s old new map i st u to.1 said to.4
+  led = scene_after same s old new map i st u to.1 said to.4
 
   abbrev Such : NewTable → Type 0
   Such = IsFurther (lengths_of map m)
@@ -73,9 +73,9 @@ module _ {K V S : Type 0} (same : K → K → Bool) (hash : K → ℕ) (name : �
 
   came : MachineMakes Such to.1
   came =
-      always_steps (Ends Such K V K) old.memory.memory new.memory.memory (machine_plan same same hash (machine_of u)) (to.1, said)
-      (machine_makes Such K V K (further_goes (lengths_of map m) K V) same same hash (machine_of u) (further map i u here) (begins_behind Such same hash s old at map i st to.2 tried u here))
-      (as_step old.memory.memory changed.Nothing (machine_plan same same hash (machine_of u)) new.memory.memory told (to.1, said) to.3)
+      always_steps (Ends Such K V K) old.memory new.memory (machine_plan same same to.0.hash (machine_of u)) (to.1, said)
+      (machine_makes Such K V K (further_goes (lengths_of map m) K V) same same to.0.hash (machine_of u) (further map i u here) (begins_behind Such same hash s old at map i st to.2 tried u here))
+      (as_step old.memory changed.Nothing (machine_plan same same to.0.hash (machine_of u)) new.memory told (to.1, said) to.3)
 
   keeps : KeepsLengths m v
   keeps = effects_keep_lengths (Some (name i)) (Some map) effects m

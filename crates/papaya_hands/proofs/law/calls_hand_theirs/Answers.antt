@@ -9,9 +9,9 @@ use Rattle.papaya_hands.proofs.law.calls_hand_theirs.Goals as goal
 pub returns : goal.returns
 returns c d = record {
   begins = runs_begin_so _ _;
-  calls = calls_store_theirs _ _ _;
-  rows = rows_hand_theirs _ _ _;
+  calls = calls_store_theirs _ _;
+  rows = rows_hand_theirs _ _;
   begun = calls_begin_for _ _;
-  told = calls_take _ _ _;
+  told = calls_take _ _;
   come_to = calls_come_to_so _ _;
 }

@@ -7,13 +7,13 @@ use Rattle.papaya_histories.proofs.law.events_are_linearizable.Goals as goal
 
 pub returns : goal.returns
 returns c d = record {
-  begins = events_begin _ _ _;
-  begun = events_begin_calls _ _ _;
-  goes_on = events_go_on _ _ _;
-  keeps = events_keep_all _ _ _;
-  words = events_have_words _ _ _;
-  ends = events_end _ _ _;
-  asks = events_ask_there _ _ _;
-  over = events_are_over _ _ _;
+  begins = events_begin _ _;
+  begun = events_begin_calls _ _;
+  goes_on = events_go_on _ _;
+  keeps = events_keep_all _ _;
+  words = events_have_words _ _;
+  ends = events_end _ _;
+  asks = events_ask_there _ _;
+  over = events_are_over _ _;
   still_shown = all_stays_shown _ _;
 }

@@ -8,13 +8,13 @@ use Rattle.papaya_histories.proofs.law.histories_are_within.Goals as goal
 pub returns : goal.returns
 returns c d = record {
   begins = histories_begin _ _;
-  calls = calls_keep_histories _ _ _;
-  begun = calls_begin_histories _ _ _;
-  told = calls_take_histories _ _ _;
+  calls = calls_keep_histories _ _;
+  begun = calls_begin_histories _ _;
+  told = calls_take_histories _ _;
   come_to = calls_come_to_histories _ _;
   events = events_keep_histories _ _;
   first = first_steps_change_first _ _;
-  rows_begin = rows_begin_histories _ _ _;
-  rows = rows_keep_histories _ _ _;
-  elsewhere = histories_stay _ _ _;
+  rows_begin = rows_begin_histories _ _;
+  rows = rows_keep_histories _ _;
+  elsewhere = histories_stay _ _;
 }

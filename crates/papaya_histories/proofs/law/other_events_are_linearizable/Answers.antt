@@ -6,9 +6,9 @@ use Rattle.papaya_histories.proofs.law.other_events_are_linearizable.Goals as go
 pub returns : goal.returns
 returns c d = record {
   begins = other_midsts_begin _ _;
-  begun = other_midsts_begin_calls _ _ _;
-  goes_on = other_midsts_go_on _ _ _;
-  dues = other_midsts_keep_due _ _ _;
-  ends = other_midsts_end _ _ _;
-  still = other_midsts_ask_still _ _ _;
+  begun = other_midsts_begin_calls _ _;
+  goes_on = other_midsts_go_on _ _;
+  dues = other_midsts_keep_due _ _;
+  ends = other_midsts_end _ _;
+  still = other_midsts_ask_still _ _;
 }

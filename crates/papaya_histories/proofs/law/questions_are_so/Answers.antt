@@ -6,8 +6,8 @@ use Rattle.papaya_histories.proofs.law.questions_are_so.Goals as goal
 
 pub returns : goal.returns
 returns c d = record {
-  asks = questions_may_be_asked _ _ _;
-  stands = asking_steps_stand_there _ _ _;
-  still = asking_calls_ask_still _ _ _;
-  retain = retainings_may_ask _ _ _;
+  asks = questions_may_be_asked _ _;
+  stands = asking_steps_stand_there _ _;
+  still = asking_calls_ask_still _ _;
+  retain = retainings_may_ask _ _;
 }

@@ -6,9 +6,9 @@ use Rattle.papaya_histories.proofs.law.several_are_linearizable.Goals as goal
 
 pub returns : goal.returns
 returns c d = record {
-  begins = midsts_begin _ _ _;
-  begun = midsts_begin_calls _ _ _;
-  goes_on = midsts_go_on _ _ _;
-  ends = midsts_end _ _ _;
-  still = midsts_ask_still _ _ _;
+  begins = midsts_begin _ _;
+  begun = midsts_begin_calls _ _;
+  goes_on = midsts_go_on _ _;
+  ends = midsts_end _ _;
+  still = midsts_ask_still _ _;
 }

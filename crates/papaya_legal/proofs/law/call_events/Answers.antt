@@ -13,16 +13,16 @@ use Rattle.papaya_legal.proofs.law.call_events.Goals as goal
 
 pub returns : goal.returns
 returns c d = record {
-  begins = call_events_begin_so _ _ _;
-  whole = whole_calls_begin _ _ _;
-  nexts = nexts_begin _ _ _;
-  goes_on = call_events_go_on_so _ _ _;
-  legal = call_events_are_legal _ _ _;
-  follows = call_events_follow _ _ _;
-  ends = call_events_end_so _ _ _;
-  finds = steps_find_all _ _ _;
-  rest = steps_find_rest _ _ _;
-  swept = calls_are_swept _ _ _;
-  leaves = calls_leave_nothing _ _ _;
-  runs = call_events_run _ _ _;
+  begins = call_events_begin_so _ _;
+  whole = whole_calls_begin _ _;
+  nexts = nexts_begin _ _;
+  goes_on = call_events_go_on_so _ _;
+  legal = call_events_are_legal _ _;
+  follows = call_events_follow _ _;
+  ends = call_events_end_so _ _;
+  finds = steps_find_all _ _;
+  rest = steps_find_rest _ _;
+  swept = calls_are_swept _ _;
+  leaves = calls_leave_nothing _ _;
+  runs = call_events_run _ _;
 }

@@ -12,8 +12,8 @@ returns c d = record {
   quiet = quiet_events_end _ _;
   ends = idle_events_end _ _;
   chosen = choices_end _ _;
-  begun = begun_events_end _ _ _;
-  again = again_events_end _ _ _;
-  told = told_events_end _ _ _;
-  stopped = stopped_events_end _ _ _;
+  begun = begun_events_end _ _;
+  again = again_events_end _ _;
+  told = told_events_end _ _;
+  stopped = stopped_events_end _ _;
 }

@@ -8,4 +8,4 @@ use Rattle.papaya_legal.proofs.OfAll.Steps.{all_chain, all_events_begin}
 use Rattle.papaya_legal.proofs.law.reclaiming_all.Goals as goal
 
 pub returns : goal.returns
-returns c d = record { slots = slots_leave_roots _ _ _; told = behind_is_told _ _; begins = all_events_begin _ _ c.row.S.Denot; chain = all_chain _ _ _; pairs = all_find_pairs _ _ _; sets = all_reclaim_by_sets _ _ _; ends = all_runs_to_its_end _ _ _ }
+returns c d = record { slots = slots_leave_roots _ _; told = behind_is_told _ _; begins = all_events_begin _ _; chain = all_chain _ _; pairs = all_find_pairs _ _; sets = all_reclaim_by_sets _ _; ends = all_runs_to_its_end _ _ }

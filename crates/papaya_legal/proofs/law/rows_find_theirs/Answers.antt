@@ -3,4 +3,4 @@ use Rattle.papaya_legal.proofs.Found.{rows_find_theirs, rest_shows_retired, row_
 use Rattle.papaya_legal.proofs.law.rows_find_theirs.Goals as goal
 
 pub returns : goal.returns
-returns c d = record { found = rows_find_theirs _ _ _; chain = row_chains_find _ _ _; retired = rest_shows_retired _ _ _ }
+returns c d = record { found = rows_find_theirs _ _; chain = row_chains_find _ _; retired = rest_shows_retired _ _ }

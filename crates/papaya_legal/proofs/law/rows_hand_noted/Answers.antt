@@ -9,5 +9,5 @@ returns c d = record {
   begins = events_begin_with_things _ _;
   calls = calls_bring_things _ _;
   events = events_bring_things _ _;
-  noted = calls_hand_noted _ _ _;
+  noted = calls_hand_noted _ _;
 }

@@ -11,10 +11,10 @@ returns c d = record {
   others = others_leave_handed _ _;
   endings_begin = endings_begin_handed _ _;
   at_rest = handed_at_rest _ _;
-  rows_begin = rows_begin_handed _ _ _;
-  rows = rows_keep_handed _ _ _;
-  rows_find = rows_find_handed _ _ _;
-  makings = makings_keep_handed _ _ _;
-  calls = calls_keep_handed _ _ _;
-  endings = endings_keep_handed _ _ _;
+  rows_begin = rows_begin_handed _ _;
+  rows = rows_keep_handed _ _;
+  rows_find = rows_find_handed _ _;
+  makings = makings_keep_handed _ _;
+  calls = calls_keep_handed _ _;
+  endings = endings_keep_handed _ _;
 }

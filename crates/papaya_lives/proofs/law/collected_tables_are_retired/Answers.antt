@@ -9,10 +9,10 @@ returns c d = record {
   begins = retired_begins c.row.K.Denot c.row.V.Denot;
   others = others_leave_retired _ _;
   endings_begin = endings_begin_retired _ _;
-  rows_begin = rows_begin_retired _ _ _;
-  rows = rows_keep_retired _ _ _;
-  rows_find = rows_find_retired _ _ _;
-  makings = makings_keep_retired _ _ _;
-  calls = calls_keep_retired _ _ _;
-  endings = endings_keep_retired _ _ _;
+  rows_begin = rows_begin_retired _ _;
+  rows = rows_keep_retired _ _;
+  rows_find = rows_find_retired _ _;
+  makings = makings_keep_retired _ _;
+  calls = calls_keep_retired _ _;
+  endings = endings_keep_retired _ _;
 }

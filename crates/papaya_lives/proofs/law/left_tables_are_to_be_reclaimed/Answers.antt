@@ -11,9 +11,9 @@ returns c d = record {
   none_to = none_is_left_to _ _;
   none = none_is_left _ _;
   where_none = where_none_is_left _ _;
-  rows_begin = rows_begin_left _ _ _;
-  rows = rows_keep_left _ _ _;
-  makings = makings_keep_left _ _ _;
-  calls = calls_keep_left _ _ _;
-  endings = endings_keep_left _ _ _;
+  rows_begin = rows_begin_left _ _;
+  rows = rows_keep_left _ _;
+  makings = makings_keep_left _ _;
+  calls = calls_keep_left _ _;
+  endings = endings_keep_left _ _;
 }

@@ -9,9 +9,9 @@ returns c d = record {
   begins = order_begins c.row.K.Denot c.row.V.Denot;
   others = others_leave_order _ _;
   endings_begin = endings_begin_order _ _;
-  rows_begin = rows_begin_order _ _ _;
-  rows = rows_keep_order _ _ _;
-  makings = makings_keep_order _ _ _;
-  calls = calls_keep_order _ _ _;
-  endings = endings_keep_order _ _ _;
+  rows_begin = rows_begin_order _ _;
+  rows = rows_keep_order _ _;
+  makings = makings_keep_order _ _;
+  calls = calls_keep_order _ _;
+  endings = endings_keep_order _ _;
 }

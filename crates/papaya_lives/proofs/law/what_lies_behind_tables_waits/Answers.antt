@@ -9,9 +9,9 @@ returns c d = record {
   begins = lying_begins c.row.K.Denot c.row.V.Denot;
   others = others_leave_lying _ _;
   endings_begin = endings_begin_lying _ _;
-  rows_begin = rows_begin_lying _ _ _;
-  rows = rows_keep_lying _ _ _;
-  makings = makings_keep_lying _ _ _;
-  calls = calls_keep_lying _ _ _;
-  endings = endings_keep_lying _ _ _;
+  rows_begin = rows_begin_lying _ _;
+  rows = rows_keep_lying _ _;
+  makings = makings_keep_lying _ _;
+  calls = calls_keep_lying _ _;
+  endings = endings_keep_lying _ _;
 }

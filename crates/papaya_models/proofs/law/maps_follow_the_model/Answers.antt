@@ -7,9 +7,9 @@ use Rattle.papaya_models.proofs.law.maps_follow_the_model.Goals as goal
 
 pub returns : goal.returns
 returns c d = record {
-  makings = makings_follow _ _ _;
+  makings = makings_follow _ _;
   ends_begin = ends_begin _ _;
-  ends_go_on = ends_go_on _ _ _;
+  ends_go_on = ends_go_on _ _;
   ends_end = ends_end _ _;
   by_model = maps_are_by_model _ _;
 }

@@ -9,5 +9,5 @@ returns c d = record {
   goes = maps_go _ _;
   steps = steps_keep_numbers _ _;
   below = numbers_are_below _ _;
-  rows = rows_keep_numbers _ _ _;
+  rows = rows_keep_numbers _ _;
 }

@@ -11,18 +11,18 @@ use Rattle.papaya_moments.proofs.law.moments_show_all.Goals as goal
 pub returns : goal.returns
 returns c d = record {
   begins = whole_begins _ _;
-  calls = calls_keep_whole _ _ _;
+  calls = calls_keep_whole _ _;
   begun = calls_begin_whole _ _;
-  told = calls_take_whole _ _ _;
+  told = calls_take_whole _ _;
   come_to = calls_come_to_whole _ _;
-  rows_begin = rows_begin_whole _ _ _;
-  rows = rows_keep_whole _ _ _;
-  endings_begin = endings_begin_whole _ _ _;
-  endings = endings_keep_whole _ _ _;
+  rows_begin = rows_begin_whole _ _;
+  rows = rows_keep_whole _ _;
+  endings_begin = endings_begin_whole _ _;
+  endings = endings_keep_whole _ _;
   endings_over = endings_are_over_whole _ _;
   makings_begin = makings_begin_whole _ _;
   maps_come = maps_come_whole _ _;
-  makings = makings_keep_whole _ _ _;
-  walks = walks_go_on_whole _ _ _;
-  walks_stop = walks_stop_whole _ _ _;
+  makings = makings_keep_whole _ _;
+  walks = walks_go_on_whole _ _;
+  walks_stop = walks_stop_whole _ _;
 }

@@ -5,10 +5,10 @@ use Rattle.papaya_others.proofs.law.new_maps_are_noted.Goals as goal
 
 pub returns : goal.returns
 returns c d = record {
-  new = new_maps_stay _ _ _;
+  new = new_maps_stay _ _;
   begin = beginnings_note_counters _ _;
-  calls = calls_note_counters _ _ _;
-  rows = rows_note_counters _ _ _;
-  makings = makings_note_counters _ _ _;
-  endings = endings_note_counters _ _ _;
+  calls = calls_note_counters _ _;
+  rows = rows_note_counters _ _;
+  makings = makings_note_counters _ _;
+  endings = endings_note_counters _ _;
 }

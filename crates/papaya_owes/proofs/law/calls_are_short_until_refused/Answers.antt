@@ -6,11 +6,11 @@ use Rattle.papaya_owes.proofs.law.calls_are_short_until_refused.Goals as goal
 pub returns : goal.returns
 returns c d = record {
   begins = short_begins _ _;
-  calls = calls_keep_short _ _ _;
+  calls = calls_keep_short _ _;
   begun = calls_begin_short _ _;
   told = calls_take_short _ _;
   come_to = calls_come_to_short _ _;
   stays = stays_short _ _;
-  goes_on = walks_go_on_short _ _ _;
-  stops = walks_stop_short _ _ _;
+  goes_on = walks_go_on_short _ _;
+  stops = walks_stop_short _ _;
 }

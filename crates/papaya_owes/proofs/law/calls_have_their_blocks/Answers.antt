@@ -6,7 +6,7 @@ use Rattle.papaya_owes.proofs.law.calls_have_their_blocks.Goals as goal
 pub returns : goal.returns
 returns c d = record {
   begins = made_begins _ _;
-  calls = calls_keep_made _ _ _;
+  calls = calls_keep_made _ _;
   begun = calls_begin_made _ _;
   owning = calls_begin_owning _ _;
   told = calls_take_made _ _;

@@ -5,11 +5,11 @@ use Rattle.papaya_promises.proofs.law.events_are_protected.Goals as goal
 pub returns : goal.returns
 returns c d = record {
   begins = events_begin_protected _ _;
-  calls = calls_protect _ _ _;
-  makings = makings_protect _ _ _;
-  endings = endings_protect _ _ _;
-  rows_begin = rows_begin_protect _ _ _;
-  rows = rows_protect _ _ _;
+  calls = calls_protect _ _;
+  makings = makings_protect _ _;
+  endings = endings_protect _ _;
+  rows_begin = rows_begin_protect _ _;
+  rows = rows_protect _ _;
   ends = events_end_protected _ _;
   others_end = other_events_end_protected _ _;
   slots_end = slot_events_end_protected _ _;

@@ -11,17 +11,17 @@ use Rattle.papaya_purposes.proofs.law.purposes_are_kept.Goals as goal
 pub returns : goal.returns
 returns c d = record {
   begins = purposes_begin _ _;
-  calls = calls_keep_purposes _ _ _;
-  shows = walks_show_purposes _ _ _;
-  begun = calls_begin_purposes _ _ _;
-  told = calls_take_purposes _ _ _;
-  stops = walks_stop_purposes _ _ _;
+  calls = calls_keep_purposes _ _;
+  shows = walks_show_purposes _ _;
+  begun = calls_begin_purposes _ _;
+  told = calls_take_purposes _ _;
+  stops = walks_stop_purposes _ _;
   goes_on = walks_go_on_purposes _ _;
   come_to = calls_come_to_purposes _ _;
   events = events_keep_purposes _ _;
-  rows_begin = rows_begin_purposes _ _ _;
-  rows = rows_keep_purposes _ _ _;
-  elsewhere = purposes_stay _ _ _;
+  rows_begin = rows_begin_purposes _ _;
+  rows = rows_keep_purposes _ _;
+  elsewhere = purposes_stay _ _;
   first = first_steps_change_pairs_first _ _;
   still = still_steps_change_pairs_first _ _;
   removals = removals_change_pairs_first _ _;

@@ -4,6 +4,6 @@ use Rattle.papaya_purposes.proofs.law.removals_are_swept.Goals as goal
 
 pub returns : goal.returns
 returns c d = record {
-  clear = clearings_are_swept _ _ _;
-  retain = retainings_are_swept _ _ _;
+  clear = clearings_are_swept _ _;
+  retain = retainings_are_swept _ _;
 }

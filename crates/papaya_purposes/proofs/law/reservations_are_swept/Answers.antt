@@ -3,4 +3,4 @@ use Rattle.papaya_purposes.proofs.FindsRoom.{reservations_are_swept}
 use Rattle.papaya_purposes.proofs.law.reservations_are_swept.Goals as goal
 
 pub returns : goal.returns
-returns c d = record { events = reservations_are_swept _ _ _ }
+returns c d = record { events = reservations_are_swept _ _ }

@@ -6,7 +6,7 @@ use Rattle.papaya_purposes.proofs.law.walks_show.Goals as goal
 
 pub returns : goal.returns
 returns c d = record {
-  events = walks_show _ _ _;
-  all = walks_show_all _ _ _;
-  words = walks_have_words _ _ _;
+  events = walks_show _ _;
+  all = walks_show_all _ _;
+  words = walks_have_words _ _;
 }

@@ -4,9 +4,9 @@ use Rattle.papaya_remains.proofs.law.numbers_stay_counted.Goals as goal
 
 pub returns : goal.returns
 returns c d = record {
-  calls = calls_keep_count _ _ _;
-  rows = rows_keep_count _ _ _;
-  makings = makings_keep_count _ _ _;
+  calls = calls_keep_count _ _;
+  rows = rows_keep_count _ _;
+  makings = makings_keep_count _ _;
   ends = ends_keep_count _ _;
   more = more_are_counted _ _;
 }

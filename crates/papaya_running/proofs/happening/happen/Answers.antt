@@ -1,7 +1,6 @@
 -- An event is kept out, or happens by its kind.
 use Rattle.std.specs.Prelude.{IfOk}
 use Rattle.std.proofs.Common.{length, refl, sym, ap, subst, ◌∙◌}
-use Rattle.papaya_events.specs.Given.Executor.IsAt.{StaysGiven}
 use Rattle.papaya_events.specs.Asked.{HappensAt, HoldsThen}
 use Rattle.papaya_events.specs.OfAll.{KeepsAll}
 use Rattle.papaya_events.specs.OfCalls.{KeepsAt}
@@ -19,6 +18,7 @@ use Rattle.papaya_events.proofs.OfRows.Kept.{calls_keep, kept_in_turn, kept_out}
 use Rattle.papaya_events.proofs.OfSetups.{calls_set_none, none_set, setup_out}
 use Rattle.papaya_running.proofs.OfKinds.{a_call, maps_no_call, no_maps, slots_no_call}
 use Rattle.papaya_running.proofs.happening.happen.Goals as goal
+use Rattle.papaya_events.specs.Given.Executor.IsThere.{StaysGiven}
 
 pub returns-then-scheduler : goal.returns-then-scheduler
 returns-then-scheduler g c =

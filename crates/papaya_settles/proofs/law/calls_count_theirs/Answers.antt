@@ -7,7 +7,7 @@ use Rattle.papaya_settles.proofs.law.calls_count_theirs.Goals as goal
 pub returns : goal.returns
 returns c d = record {
   begins = counts_begin _ _;
-  calls = calls_keep_counts _ _ _;
+  calls = calls_keep_counts _ _;
   begun = calls_begin_counts _ _;
   uncounted = calls_begin_uncounted _ _;
   told = calls_take_counts _ _;

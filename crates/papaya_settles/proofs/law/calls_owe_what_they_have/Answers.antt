@@ -7,7 +7,7 @@ use Rattle.papaya_settles.proofs.law.calls_owe_what_they_have.Goals as goal
 pub returns : goal.returns
 returns c d = record {
   begins = owed_begins _ _;
-  calls = calls_keep_owed _ _ _;
+  calls = calls_keep_owed _ _;
   begun = calls_begin_owed _ _;
   told = calls_take_owed _ _;
   come_to = calls_come_to_owed _ _;

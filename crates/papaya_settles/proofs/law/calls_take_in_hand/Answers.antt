@@ -4,4 +4,4 @@ use Rattle.papaya_settles.proofs.Held.{calls_hold_theirs, sweeps_take_in_hand, s
 use Rattle.papaya_settles.proofs.law.calls_take_in_hand.Goals as goal
 
 pub returns : goal.returns
-returns c d = record { keys = calls_take_in_hand _ _ _; held = calls_hold_theirs _ _ _; sweeps = sweeps_take_in_hand _ _ _; sweeps_held = sweeps_hold_theirs _ _ _ }
+returns c d = record { keys = calls_take_in_hand _ _; held = calls_hold_theirs _ _; sweeps = sweeps_take_in_hand _ _; sweeps_held = sweeps_hold_theirs _ _ }

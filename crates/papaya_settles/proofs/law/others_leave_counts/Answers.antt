@@ -3,4 +3,4 @@ use Rattle.papaya_settles.proofs.Between.{stays_counts, effects_leave_counts, wa
 use Rattle.papaya_settles.proofs.law.others_leave_counts.Goals as goal
 
 pub returns : goal.returns
-returns c d = record { stays = stays_counts _ _; effects = effects_leave_counts _ _; goes_on = walks_go_on_counts _ _ _; stops = walks_stop_counts _ _ _ }
+returns c d = record { stays = stays_counts _ _; effects = effects_leave_counts _ _; goes_on = walks_go_on_counts _ _; stops = walks_stop_counts _ _ }

@@ -4,4 +4,4 @@ use Rattle.papaya_settles.proofs.Takings.{steps_take_out}
 use Rattle.papaya_settles.proofs.law.owes_follow.Goals as goal
 
 pub returns : goal.returns
-returns c d = record { owes = owes_follow _ _; handing = handing_follows _ _; takings = steps_take_out _ _ _ }
+returns c d = record { owes = owes_follow _ _; handing = handing_follows _ _; takings = steps_take_out _ _ }

@@ -4,4 +4,4 @@ use Rattle.papaya_settles.proofs.Hand.Steps.{rows_hand_over}
 use Rattle.papaya_settles.proofs.law.rows_hand_over_first.Goals as goal
 
 pub returns : goal.returns
-returns c d = record { rows = rows_hand_over _ _ _; calls = calls_go_in_hand _ _ _ }
+returns c d = record { rows = rows_hand_over _ _; calls = calls_go_in_hand _ _ }

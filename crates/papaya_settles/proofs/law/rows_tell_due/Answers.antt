@@ -3,4 +3,4 @@ use Rattle.papaya_settles.proofs.DueCalls.{rows_tell_due}
 use Rattle.papaya_settles.proofs.law.rows_tell_due.Goals as goal
 
 pub returns : goal.returns
-returns c d = record { rows = rows_tell_due _ _ _ }
+returns c d = record { rows = rows_tell_due _ _ }

@@ -9,6 +9,6 @@ pub returns : goal.returns
 returns c d = record {
   begins = sources_begin _ _;
   stay = sources_stay _ _;
-  steps = calls_keep_sources _ _ _;
-  space = calls_find_space _ _ _;
+  steps = calls_keep_sources _ _;
+  space = calls_find_space _ _;
 }

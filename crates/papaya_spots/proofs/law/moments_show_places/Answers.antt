@@ -6,4 +6,4 @@ use Rattle.papaya_spots.proofs.law.moments_show_places.Goals as goal
 
 pub returns : goal.returns
 returns c d =
-    record { begins = places_begin _ _; calls = calls_keep_places _ _ _; left = calls_leave_places _ _; fewer = fewer_maps_stand _ _; names = places_name_pairs _ _ _; finds = calls_find_places _ _ _ }
+    record { begins = places_begin _ _; calls = calls_keep_places _ _; left = calls_leave_places _ _; fewer = fewer_maps_stand _ _; names = places_name_pairs _ _; finds = calls_find_places _ _ }

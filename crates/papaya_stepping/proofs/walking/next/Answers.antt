@@ -5,7 +5,6 @@ use Rattle.papaya_scheduler.specs.Given.SeizeWords.declared.fault.Fault.TheVaria
 use Rattle.papaya_schedules.specs.After.{moment}
 use Rattle.papaya_schedules.specs.declared.event.Event.TheVariants.{Next}
 use Rattle.papaya_schedules.specs.declared.outcome.Outcome.TheVariants.{Refused}
-use Rattle.papaya_scheduler.specs.Given.Executor.IsAt.{HasCall}
 use Rattle.papaya_scheduler.proofs.Given.Logged.KeptGiven.{given_on}
 use Rattle.papaya_scheduler.proofs.KeptGiven.{given_as}
 use Rattle.papaya_scheduler.specs.Given.Logged.Calling.{WalkGoesOn}
@@ -16,6 +15,7 @@ use Rattle.papaya_stepping.proofs.NextTook.{took_next}
 use Rattle.papaya_stepping.proofs.StepSays.{the}
 use Rattle.papaya_scheduler.proofs.Rights.{entry, entry_is}
 use Rattle.papaya_stepping.proofs.walking.next.Goals as goal
+use Rattle.papaya_scheduler.specs.Given.Scenes.Scene.{HasCall}
 
 pub returns-in_default : goal.returns-in_default
 returns-in_default g c = record {

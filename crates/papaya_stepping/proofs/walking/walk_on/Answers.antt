@@ -2,7 +2,6 @@
 use Rattle.std.specs.Prelude.{suc, slice_get}
 use Rattle.std.proofs.Common.{◌+◌, refl, sym, ap, subst, ◌∙◌, arith}
 use Rattle.std.proofs.lemmas.List.{append-nil}
-use Rattle.papaya_scheduler.specs.Given.Executor.IsAt.{HasCall, IsAt}
 use Rattle.papaya_scheduler.proofs.Given.Logged.KeptGiven.{given_on}
 use Rattle.papaya_scheduler.specs.Given.Logged.Calling.{CallGoesOn}
 use Rattle.papaya_scheduler.specs.Given.Logged.Shown.{IsShown}
@@ -10,6 +9,8 @@ use Rattle.papaya_stepping.specs.Stepping.{ReadyAt}
 use Rattle.papaya_stepping.proofs.NextOn.{logged_on, may_walk, mid_few, mid_first, mid_next}
 use Rattle.papaya_stepping.proofs.StepSays.{the}
 use Rattle.papaya_stepping.proofs.walking.walk_on.Goals as goal
+use Rattle.papaya_scheduler.specs.Given.Executor.IsThere.{IsThere}
+use Rattle.papaya_scheduler.specs.Given.Scenes.Scene.{HasCall}
 
 pub way_of-number-requires : goal.way_of-number-requires
 way_of-number-requires g c = let r = c.requires in (r.2, r.4.1, (r.4.0, r.4.2))
@@ -35,7 +36,7 @@ step-requires g c =
     let read = c.way_of-number.ensures r.2 r.4.1 (r.4.0, r.4.2) in
     let may = may_walk g.K.PartialEq.eq (g.S.Hashes.hash c.args.scheduler.now.logged.executor.hasher) r.0 c.args.caller.now r.2 r.1 i.0 c.args.effects.now.items c.loop-steps.effects.items c.loop-steps.scheduler
     (i.4 r.2 r.4.0 r.0 r.1 c.args.caller.now r.3 r.4) r.4.1 there in
-    (may.0, subst (λ h. IsAt g.K.PartialEq.eq (g.S.Hashes.hash h) c.loop-steps.scheduler.logged.executor may.0) (sym i.3.0) may.1, subst (λ x. HasCall may.0 x.0) (sym read) may.2)
+    (may.0, subst (λ h. IsThere g.K.PartialEq.eq (g.S.Hashes.hash h) c.loop-steps.scheduler.logged.executor may.0) (sym i.3.0) may.1, subst (λ x. HasCall may.0 x.0) (sym read) may.2)
 
 pub returns-then-not-just_goes-clause-comes : goal.returns-then-not-just_goes-clause-comes
 returns-then-not-just_goes-clause-comes g c = λ place placed.

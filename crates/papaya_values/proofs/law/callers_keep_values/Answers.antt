@@ -3,4 +3,4 @@ use Rattle.papaya_values.proofs.Values.{inserts_tell_theirs, values_begin, value
 use Rattle.papaya_values.proofs.law.callers_keep_values.Goals as goal
 
 pub returns : goal.returns
-returns c d = record { begins = values_begin _ _; goes_on = values_go_on _ _ _; taken = values_taken _ _ _; tells = inserts_tell_theirs _ _ _ }
+returns c d = record { begins = values_begin _ _; goes_on = values_go_on _ _; taken = values_taken _ _; tells = inserts_tell_theirs _ _ }

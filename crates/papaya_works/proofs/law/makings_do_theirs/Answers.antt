@@ -4,4 +4,4 @@ use Rattle.papaya_works.proofs.TablesMade.{makings_count_tables}
 use Rattle.papaya_works.proofs.law.makings_do_theirs.Goals as goal
 
 pub returns : goal.returns
-returns c d = record { does = makings_do_theirs _ _ _; finds = makings_find_theirs _ _ _; counts = makings_count_tables _ _ _ }
+returns c d = record { does = makings_do_theirs _ _; finds = makings_find_theirs _ _; counts = makings_count_tables _ _ }

@@ -7,7 +7,7 @@ returns c d = record {
   begins = openings_begin c.row.K.Denot c.row.V.Denot;
   stays = openings_stay _ _;
   opens = makings_open _ _;
-  steps = makings_go_on _ _ _;
-  linked = makings_link_first _ _ _;
+  steps = makings_go_on _ _;
+  linked = makings_link_first _ _;
   found = firsts_are_all _ _;
 }

@@ -3,12 +3,12 @@ use Rattle.std.proofs.Common.{rules, ◌≡◌, ◌+◌, ◌*◌, ◌++◌, ◌�
 use Rattle.std.specs.Prelude.{Some, None}
 use Rattle.std.proofs.lemmas.List.{length-set}
 use Rattle.papaya_raw.specs.declared.machines.end_map.EndMap.{EndMap}
-use Rattle.papaya_executor.specs.Ending.{EndingBegins}
-use Rattle.papaya_executor.specs.declared.worker.TheConstants.{SLOTS}
+use Rattle.papaya_scenes.specs.declared.callers.TheConstants.{SLOTS}
 use Rattle.papaya_executor.specs.declared.worker.Work.TheVariants as work
+use Rattle.papaya_executor.proofs.executor.Executor.begin_ending.Goals as goal
 use Rattle.papaya_executor.proofs.EndingBegun.{ending_begins}
 use Rattle.papaya_executor.proofs.Places.{within}
-use Rattle.papaya_executor.proofs.executor.Executor.begin_ending.Goals as goal
+use Rattle.papaya_executor.specs.Ending.{EndingBegins}
 
 pub forget-requires : goal.forget-requires
 forget-requires g c = within c.args.self.now.maps.items c.args.map c.requires.stands.0 c.requires.stands.1

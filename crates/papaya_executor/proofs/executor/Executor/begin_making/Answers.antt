@@ -2,12 +2,12 @@
 use Rattle.std.proofs.Common.{rules, ◌≡◌, ◌+◌, ◌*◌, ◌++◌, ◌∷◌, [], ℕ, length, refl, sym, ap, subst, ◌∙◌}
 use Rattle.std.specs.Prelude.{Some}
 use Rattle.std.proofs.lemmas.List.{length-append}
-use Rattle.papaya_executor.specs.MakingBegins.{MakingBegins}
-use Rattle.papaya_executor.specs.declared.worker.TheConstants.{SLOTS}
+use Rattle.papaya_scenes.specs.declared.callers.TheConstants.{SLOTS}
 use Rattle.papaya_executor.specs.declared.worker.Work.TheVariants as work
+use Rattle.papaya_executor.proofs.executor.Executor.begin_making.Goals as goal
 use Rattle.papaya_executor.proofs.Kept.{if_refused, refused_so, refused_with}
 use Rattle.papaya_executor.proofs.MakingBegun.{making_begins}
-use Rattle.papaya_executor.proofs.executor.Executor.begin_making.Goals as goal
+use Rattle.papaya_executor.specs.MakingBegins.{MakingBegins}
 
 pub returns-clause-leads : goal.returns-clause-leads
 returns-clause-leads g c = λ same hash s at.

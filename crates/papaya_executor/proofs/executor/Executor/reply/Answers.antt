@@ -1,8 +1,8 @@
 -- What a call is told.
 use Rattle.std.proofs.Common.{length, refl, ap}
+use Rattle.papaya_executor.proofs.executor.Executor.reply.Goals as goal
 use Rattle.papaya_executor.proofs.Replies.{reply_leads}
 use Rattle.papaya_executor.proofs.Taken.{has_place}
-use Rattle.papaya_executor.proofs.executor.Executor.reply.Goals as goal
 
 pub take_call-slot-requires : goal.take_call-slot-requires
 take_call-slot-requires g c = has_place _ _ _ _ c.requires.3 c.args.caller c.requires.4

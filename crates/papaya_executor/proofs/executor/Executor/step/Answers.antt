@@ -1,8 +1,8 @@
 -- A step of a call that a caller has under way.
 use Rattle.std.proofs.Common.{length, refl, ap}
-use Rattle.papaya_executor.proofs.Steps.{may_step, leads_on}
-use Rattle.papaya_executor.proofs.Taken.{has_place, taken_call}
 use Rattle.papaya_executor.proofs.executor.Executor.step.Goals as goal
+use Rattle.papaya_executor.proofs.Steps.{leads_on, may_step}
+use Rattle.papaya_executor.proofs.Taken.{has_place, taken_call}
 
 pub take_call-slot-requires : goal.take_call-slot-requires
 take_call-slot-requires g c = has_place _ _ _ _ c.requires.1 c.args.caller c.requires.2

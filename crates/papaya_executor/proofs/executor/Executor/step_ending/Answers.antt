@@ -1,9 +1,9 @@
 -- A step of the end of a map.
 use Rattle.std.proofs.Common.{refl, ap, ◌∙◌}
 use Rattle.std.specs.Prelude.{None, slice_set}
-use Rattle.papaya_executor.specs.IsAt.{place_of}
-use Rattle.papaya_executor.proofs.Endings.{has_ending, may_taken, taken_ending, ending_leads}
 use Rattle.papaya_executor.proofs.executor.Executor.step_ending.Goals as goal
+use Rattle.papaya_executor.proofs.Endings.{ending_leads, has_ending, may_taken, taken_ending}
+use Rattle.papaya_executor.specs.IsThere.{place_of}
 
 pub take_ending-slot-requires : goal.take_ending-slot-requires
 take_ending-slot-requires g c = has_ending c.requires.0 c.requires.1 _ _ c.requires.3 c.args.caller c.requires.4

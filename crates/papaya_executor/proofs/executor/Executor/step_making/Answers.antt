@@ -1,9 +1,9 @@
 -- A step of the making of a map.
 use Rattle.std.proofs.Common.{length, refl, ap, ◌∙◌}
 use Rattle.std.specs.Prelude.{None, slice_set}
-use Rattle.papaya_executor.specs.IsAt.{place_of}
-use Rattle.papaya_executor.proofs.Makings.{has_making, has_number, may_taken, same_count, taken_making, making_leads}
 use Rattle.papaya_executor.proofs.executor.Executor.step_making.Goals as goal
+use Rattle.papaya_executor.proofs.Makings.{has_making, has_number, making_leads, may_taken, same_count, taken_making}
+use Rattle.papaya_executor.specs.IsThere.{place_of}
 
 pub take_making-slot-requires : goal.take_making-slot-requires
 take_making-slot-requires g c = has_making c.requires.0 c.requires.1 _ _ c.requires.3 c.args.caller c.requires.4

@@ -1,10 +1,11 @@
 -- A step of a row on a slot.
 use Rattle.std.proofs.Common.{refl, ap, ◌∙◌}
 use Rattle.std.specs.Prelude.{None, slice_set}
-use Rattle.papaya_executor.specs.IsAt.{place_of, slot_of}
-use Rattle.papaya_executor.specs.Rows.{uses_after}
-use Rattle.papaya_executor.proofs.OnSlots.{row_at, may_taken, taken_row, row_leads}
 use Rattle.papaya_executor.proofs.executor.Executor.step_on_slot.Goals as goal
+use Rattle.papaya_executor.proofs.OnSlots.{may_taken, row_at, row_leads, taken_row}
+use Rattle.papaya_executor.specs.IsThere.{place_of}
+use Rattle.papaya_scenes.specs.Rows.{uses_after}
+use Rattle.papaya_scenes.specs.Scene.{slot_of}
 
 pub take_row-slot-requires : goal.take_row-slot-requires
 take_row-slot-requires g c =

@@ -1,12 +1,12 @@
 -- The beginning of a call.
 use Rattle.std.proofs.Common.{refl, sym, subst, ℕ}
-use Rattle.papaya_executor.specs.Beginning.{BeginLeads}
 use Rattle.papaya_logged.specs.Calling.{CallBegins}
 use Rattle.papaya_logged.proofs.Begins.{call_begins}
 use Rattle.papaya_logged.proofs.logged.Logged.begin.Goals as goal
+use Rattle.papaya_executor.specs.Beginning.{BeginsThere}
 
 pub returns-clause-leads : goal.returns-clause-leads
 returns-clause-leads g c = λ same hash name m s shown.
     subst (λ (i : ℕ). CallBegins same hash name m s i c.args.map c.args.machine c.args.self.now (record { executor = c.begin.new.self; notes = c.args.self.now.notes })) (sym c.in_ok-caller.ensures.number)
     (call_begins same hash c.args.self.now (record { executor = c.begin.new.self; notes = c.args.self.now.notes }) c.args.slot c.args.map c.args.machine c.requires
-    (λ v at. subst (λ (i : ℕ). BeginLeads same hash c.args.map c.args.machine i v c.args.self.now.executor c.begin.new.self) c.in_ok-caller.ensures.number (c.in_ok-caller.ensures.leads same hash v at)) refl c.begin.ensures.given name m s shown)
+    (λ v at. subst (λ (i : ℕ). BeginsThere same hash c.args.map c.args.machine i v c.args.self.now.executor c.begin.new.self) c.in_ok-caller.ensures.number (c.in_ok-caller.ensures.leads same hash v at)) refl c.begin.ensures.given name m s shown)

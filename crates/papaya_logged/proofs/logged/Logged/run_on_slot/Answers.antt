@@ -33,7 +33,7 @@ returns-then-has_come-clause-comes g c =
     let i = c.loop-self.invariant in
     let t = still_there r.0 r.1 r.2 _ _ _ _ r.3 i.ran in
     let to = c.in_ok-told.ensures.steps r.0 r.1 t.0 t.1 i.under.0 i.under.1 in
-    (sym c.has_come.ensures ∙ c.if-has_come.true, (to.0, to.2))
+    (sym c.has_come.ensures ∙ c.if-has_come.true, (to.1, to.3))
 
 pub returns-then-has_come-clause-last : goal.returns-then-has_come-clause-last
 returns-then-has_come-clause-last g c = (c.loop-self.self.executor, c.loop-self.invariant.goes.0, c.loop-self.invariant.goes.1, c.in_ok-told.ensures.steps)

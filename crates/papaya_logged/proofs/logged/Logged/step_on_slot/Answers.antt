@@ -3,11 +3,11 @@ use Rattle.std.proofs.Common.{◌++◌, sym, ap, subst, ◌∙◌}
 use Rattle.papaya_effects.specs.Effects.{effects_of, known_after}
 use Rattle.papaya_effects.specs.Known.{known}
 use Rattle.papaya_effects.specs.declared.acting.Acting.TheVariants.{Row}
-use Rattle.papaya_executor.specs.OnSlots.{RowLeads}
 use Rattle.papaya_executor.specs.declared.executor.Executor.{Executor}
 use Rattle.papaya_logged.proofs.KeptGiven.{given_noted}
 use Rattle.papaya_logged.proofs.OnSlots.{on_slot_steps}
 use Rattle.papaya_logged.proofs.logged.Logged.step_on_slot.Goals as goal
+use Rattle.papaya_executor.specs.OnSlots.{RowStepsThere}
 
 pub returns-clause-leads : goal.returns-clause-leads
 returns-clause-leads g c =
@@ -16,7 +16,7 @@ returns-clause-leads g c =
 
 pub returns-clause-steps : goal.returns-clause-steps
 returns-clause-steps g c = λ same hash s at.
-    subst (λ (e : Executor _ _ _). RowLeads same hash c.args.caller c.step_on_slot-told.result s c.args.self.now.executor e) (sym c.note.ensures.executor)
+    subst (λ (e : Executor _ _ _). RowStepsThere same hash c.args.caller c.step_on_slot-told.result s c.args.self.now.executor e) (sym c.note.ensures.executor)
     (c.step_on_slot-told.ensures.leads same hash s at)
 
 pub returns-clause-did : goal.returns-clause-did

@@ -4,7 +4,7 @@ use Rattle.papaya_effects.specs.Effects.{effects_of, known_after}
 use Rattle.papaya_effects.specs.Known.{known}
 use Rattle.papaya_effects.specs.declared.acting.Acting.TheVariants.{Row}
 use Rattle.papaya_executor.specs.declared.executor.Executor.{Executor}
-use Rattle.papaya_reclaiming.specs.Reclaiming.{ReclaimingLeads}
+use Rattle.papaya_reclaiming.specs.Reclaiming.{ReclaimsThere}
 use Rattle.papaya_logged.proofs.KeptGiven.{given_noted}
 use Rattle.papaya_logged.proofs.ReclaimsOn.{reclaiming_steps}
 use Rattle.papaya_logged.proofs.logged.Logged.step_reclaiming.Goals as goal
@@ -16,7 +16,7 @@ returns-clause-leads g c =
 
 pub returns-clause-steps : goal.returns-clause-steps
 returns-clause-steps g c = λ same hash s i lists at.
-    subst (λ (e : Executor _ _ _). ReclaimingLeads same hash s i lists c.args.self.now.executor e c.args.reclaiming.now.all c.step-told.new.self.all c.step-told.result) (sym c.note.ensures.executor)
+    subst (λ (e : Executor _ _ _). ReclaimsThere same hash s i lists c.args.self.now.executor e c.args.reclaiming.now.all c.step-told.new.self.all c.step-told.result) (sym c.note.ensures.executor)
     (c.step-told.ensures.leads same hash s i lists at)
 
 pub returns-clause-did : goal.returns-clause-did

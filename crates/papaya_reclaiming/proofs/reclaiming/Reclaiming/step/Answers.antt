@@ -1,9 +1,10 @@
 -- A step of it.
-use Rattle.papaya_reclaiming.proofs.Reclaims.{may_step, leads, given_then}
+use Rattle.papaya_scenes.proofs.May.{may_reclaim}
+use Rattle.papaya_reclaiming.proofs.Reclaims.{leads, given_then}
 use Rattle.papaya_reclaiming.proofs.reclaiming.Reclaiming.step.Goals as goal
 
 pub step_nobodys-told-requires : goal.step_nobodys-told-requires
-step_nobodys-told-requires g c = may_step c.requires.0 c.requires.1 _ _ c.requires.3 c.requires.4 _ c.requires.5
+step_nobodys-told-requires g c = may_reclaim c.requires.0 (λ m. c.requires.1) _ _ c.requires.3 c.requires.4 _ c.requires.5.held
 
 pub returns-clause-leads : goal.returns-clause-leads
 returns-clause-leads g c = λ same hash s i lists at.

@@ -10,7 +10,7 @@ use Rattle.papaya_scheduler.proofs.Backs.{came, none_came}
 use Rattle.papaya_scheduler.proofs.Flushes.{by_held, by_none, not_living, its_word, is_held_now, may_flush, its_fits, has_run}
 use Rattle.papaya_scheduler.proofs.HeldTold.{held_is_told}
 use Rattle.papaya_scheduler.proofs.Rights.{so_played}
-use Rattle.papaya_executor.specs.declared.row.SlotCall.TheVariants as call
+use Rattle.papaya_scenes.specs.declared.row.SlotCall.TheVariants as call
 use Rattle.papaya_scheduler.proofs.Works.{did_refuse, did_row}
 use Rattle.papaya_scheduler.proofs.scheduler.Scheduler.flush.Goals as goal
 

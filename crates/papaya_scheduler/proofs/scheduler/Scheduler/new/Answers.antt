@@ -11,7 +11,7 @@ returns-clause-played g c = λ same hash.
 pub returns-clause-begun : goal.returns-clause-begun
 returns-clause-begun g c =
     let logged = c.in_ok-new.ensures in
-    let first = sym (logged.shown (λ k d. false) (λ k. 0) (λ i. [])).is_at.memory in record {
+    let first = sym (logged.shown (λ k d. false) (λ k. 0) (λ i. [])).is_at.held.memory in record {
       maps = logged.maps;
       known_is = logged.notes;
       many = logged.given.2;

@@ -7,7 +7,7 @@ use Rattle.papaya_scheduler.proofs.Busy.{none_quiet}
 use Rattle.papaya_scheduler.proofs.Backs.{came, none_came}
 use Rattle.papaya_scheduler.proofs.Owns.{joined_refused, joined_slot, name_taken, refused_quiet}
 use Rattle.papaya_scheduler.proofs.Rights.{so_played}
-use Rattle.papaya_executor.specs.declared.row.SlotCall.TheVariants as call
+use Rattle.papaya_scenes.specs.declared.row.SlotCall.TheVariants as call
 use Rattle.papaya_rows.specs.Taking.{told_as}
 use Rattle.papaya_scheduler.specs.Works.{told_so}
 use Rattle.papaya_scheduler.proofs.Works.{did_refuse, did_told}

@@ -8,7 +8,7 @@ use Rattle.papaya_scheduler.proofs.Backs.{came_as, none_came, stayed_as}
 use Rattle.papaya_scheduler.proofs.Refreshes.{not_free, may_refresh, its_fits, joined, joined_alone}
 use Rattle.papaya_scheduler.proofs.KeptGiven.{given_as, given_still}
 use Rattle.papaya_scheduler.proofs.Rights.{so_played}
-use Rattle.papaya_executor.specs.declared.row.SlotCall.TheVariants as call
+use Rattle.papaya_scenes.specs.declared.row.SlotCall.TheVariants as call
 use Rattle.papaya_scheduler.proofs.Works.{did_none, did_refuse, did_row}
 use Rattle.papaya_scheduler.proofs.scheduler.Scheduler.refresh.Goals as goal
 use Rattle.papaya_scheduler.proofs.scheduler.Scheduler.refresh.Goals.{then-guards_on-eq1+in_ok-do_row, else-guards_on-eq1}

@@ -3,11 +3,9 @@ use Rattle.std.specs.Prelude.{is_some}
 use Rattle.std.proofs.Common.{[], ℕ, refl, sym, ap, subst, ◌∙◌}
 use Rattle.papaya_named.proofs.Roll.Seats.{reads_at, ready_placed}
 use Rattle.papaya_present.proofs.Crowds.Homes.{none_told}
-use Rattle.papaya_executor.specs.Replying.{StopLeads}
 use Rattle.seize_words.specs.declared.fault.Fault.TheVariants.{Busy}
 use Rattle.papaya_schedules.specs.declared.event.Event.TheVariants.{Stop}
 use Rattle.papaya_schedules.specs.declared.outcome.Outcome.TheVariants.{Done, Refused}
-use Rattle.papaya_executor.specs.IsAt.{HasCall}
 use Rattle.papaya_logged.specs.Calling.{WalkStops}
 use Rattle.papaya_schedules.specs.After.{moment}
 use Rattle.papaya_scheduler.proofs.Busy.{none_quiet}
@@ -15,6 +13,8 @@ use Rattle.papaya_scheduler.proofs.Here.{here_at, read_here}
 use Rattle.papaya_scheduler.proofs.Stopped.{not_ready, ready_parts, has_call, done}
 use Rattle.papaya_scheduler.proofs.Rights.{so_played}
 use Rattle.papaya_scheduler.proofs.scheduler.Scheduler.stop.Goals as goal
+use Rattle.papaya_executor.specs.Replying.{StopsThere}
+use Rattle.papaya_scenes.specs.Scene.{HasCall}
 
 pub returns-in_default-clause-plays : goal.returns-in_default-clause-plays
 returns-in_default-clause-plays g c =
@@ -63,7 +63,7 @@ returns-clause-stopped g c = λ same hash is. (
     whose = c.in-Some.ensures.1;
     reads = (reads_at c.args.self.now.calls c.in-Some.ensures.0 c.in-Some.ensures.1 c.in-Some.ensures.3);
     stopped = c.stop.result;
-    leads = λ s at. subst (λ (n : ℕ). StopLeads same hash n c.stop.result s c.args.self.now.logged.executor c.stop.new.self.executor) c.in-Some.ensures.4 (c.stop.ensures.stopped same hash s at);
+    leads = λ s at. subst (λ (n : ℕ). StopsThere same hash n c.stop.result s c.args.self.now.logged.executor c.stop.new.self.executor) c.in-Some.ensures.4 (c.stop.ensures.stopped same hash s at);
     calls = c.remove.ensures.left c.in-Some.ensures.0 (ready_placed c.args.caller.now c.args.self.now.calls c.in-Some.ensures.0 c.in-Some.ensures.2);
     notes = c.stop.ensures.notes;
   },

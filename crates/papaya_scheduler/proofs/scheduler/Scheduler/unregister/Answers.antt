@@ -8,7 +8,7 @@ use Rattle.papaya_scheduler.proofs.Backs.{came_as, none_came, stayed_as}
 use Rattle.papaya_scheduler.proofs.Unregisters.{not_registered, guards_live, may_free, fits, joined, joined_last}
 use Rattle.papaya_scheduler.proofs.KeptGiven.{given_as, given_still}
 use Rattle.papaya_scheduler.proofs.Rights.{so_played}
-use Rattle.papaya_executor.specs.declared.row.SlotCall.TheVariants as call
+use Rattle.papaya_scenes.specs.declared.row.SlotCall.TheVariants as call
 use Rattle.papaya_scheduler.proofs.Works.{did_none, did_refuse, did_row}
 use Rattle.papaya_scheduler.proofs.scheduler.Scheduler.unregister.Goals as goal
 use Rattle.papaya_scheduler.proofs.scheduler.Scheduler.unregister.Goals.{in_default-via-in-Some+else-living_on-eq0, in_default-via-in_default, then-guards_on-eq0+in_ok-do_row, else-guards_on-eq0}

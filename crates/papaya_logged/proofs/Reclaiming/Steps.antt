@@ -26,10 +26,8 @@ use Rattle.papaya_kept.specs.Given.Callers.Together.{UnderWay}
 use Rattle.papaya_kept.specs.Given.Finishes.FactsEnds.{TakesLeft, WritesRoot, events_of}
 use Rattle.papaya_kept.specs.Given.Finishes.Maps.{Standing}
 use Rattle.papaya_reclaims.specs.Slots.{AreItsRows}
-use Rattle.papaya_executor.specs.IsAt.{Scene}
-use Rattle.papaya_executor.specs.declared.executor.Executor.{Executor}
-use Rattle.papaya_reclaiming.specs.Reclaiming.{IsReclaiming, ReclaimingLeads}
-use Rattle.papaya_reclaiming.proofs.Reclaims.{may_step}
+use Rattle.papaya_scenes.specs.Reclaiming.{IsReclaiming, ReclaimingLeads}
+use Rattle.papaya_scenes.proofs.May.{may_reclaim}
 use Rattle.papaya_kept.proofs.Given.Follows.Operations.{StaysThere, LeavesBy, operated, operated_leaves}
 use Rattle.papaya_kept.proofs.Given.Follows.Writes.{nothing_free}
 use Rattle.papaya_kept.specs.Given.Follows.Blocks.{WasLinked}
@@ -46,10 +44,12 @@ use Rattle.papaya_kept.specs.Given.Moments.OnSlots.{HadRetired}
 use Rattle.papaya_kept.specs.Given.Moments.Whole.{ShowsWhole}
 use Rattle.papaya_kept.proofs.Given.Moments.Beside.{IsBeside, hands_beside}
 use Rattle.papaya_kept.proofs.Given.Moments.OnSlots.{stood_same, with_outside, was_retired, row_alone, row_keeps}
-use Rattle.papaya_logged.proofs.ReclaimRows.{KeptThere, rows_kept, left_kept, root_kept, EmptiesRoot, reclaiming_tells}
+use Rattle.papaya_logged.proofs.Reclaiming.Rows.{KeptThere, rows_kept, left_kept, root_kept, EmptiesRoot, reclaiming_tells}
+use Rattle.papaya_scenes.specs.Held.{Held}
+use Rattle.papaya_scenes.specs.Scene.{Scene}
 
-module _ {K V S : Type 0} (same : K → K → Bool) (hash : K → ℕ) (name : ℕ → List ℕ) (m : Moment K V) (known : Known) (s : Scene K V) (whole : ShowsWhole same name m known s)
-    (old new : Executor K V S) (i : ℕ) (lists : ℕ → List ℕ) (before after : ReclaimAll) (told : Settled (Node K V)) (at : IsReclaiming same hash old s i lists before)
+module _ {K V : Type 0} (same : K → K → Bool) (hash : ℕ → K → ℕ) (name : ℕ → List ℕ) (m : Moment K V) (known : Known) (s : Scene K V) (whole : ShowsWhole same name m known s)
+    (old new : Held K V) (i : ℕ) (lists : ℕ → List ℕ) (before after : ReclaimAll) (told : Settled (Node K V)) (at : IsReclaiming same hash old s i lists before)
     (leads : ReclaimingLeads same hash s i lists old new before after told) where
   abbrev w : World (Node K V)
   w = s.world
@@ -80,12 +80,12 @@ module _ {K V S : Type 0} (same : K → K → Bool) (hash : K → ℕ) (name : �
       by (inr (inr (root, inl is))) = root_kept old.batch_size i (Root root) 0 w w2 (subst RunsBy is leads.1.runs)
       by (inr (inr (root, inr is))) = root_kept old.batch_size i (Used root) 0 w w2 (subst RunsBy is leads.1.runs)
 
-  pub left : LeavesBy w.memory w2.memory new.memory.changed
+  pub left : LeavesBy w.memory w2.memory new.changed
   left =
-      subst (λ (n : Mem (Node K V)). LeavesBy w.memory n new.memory.changed) (sym leads.1.memory)
-      (subst (λ (n : Mem (Node K V)). LeavesBy n new.memory.memory new.memory.changed) (sym at.memory)
-      (operated_leaves old.memory.memory new.memory.memory new.memory.changed
-      (operated old.memory.memory new.memory.memory new.memory.changed (reclaim_all_plan deferred_word was_left before) (after, told) (may_step same hash old s i lists before at) leads.0)))
+      subst (λ (n : Mem (Node K V)). LeavesBy w.memory n new.changed) (sym leads.1.memory)
+      (subst (λ (n : Mem (Node K V)). LeavesBy n new.memory new.changed) (sym at.memory)
+      (operated_leaves old.memory new.memory new.changed
+      (operated old.memory new.memory new.changed (reclaim_all_plan deferred_word was_left before) (after, told) (may_reclaim same hash old s i lists before at) leads.0)))
 
   stays : (b : ℕ) → StaysThere w.memory w2.memory b → StaysBlock w w2 b
   stays b there = by (value_at w.memory b) refl
@@ -139,7 +139,7 @@ module _ {K V S : Type 0} (same : K → K → Bool) (hash : K → ℕ) (name : �
             rows = record { none = λ map j u here. absurd (no_call map j u here); one = λ map j u here. absurd (no_call map j u here) };
           };
           places = places_stay None None (effects_of Row known x) m known then_known s.maps maps2 finds.0.0 finds.1 leads.1.as_they_were whole.places;
-          blocks = blocks_done K V S same hash name m known s whole.all.shown whole.blocks x tells unreclaimed;
+          blocks = blocks_done K V same hash name m known s whole.all.shown whole.blocks x tells unreclaimed;
           outside = effects_leave_outside K V None None (effects_of Row known x) m finds.0.1 whole.outside;
           counters = λ j b makes. absurd (let none = at.under_way.stand.no_makers j in cc (none, makes));
         }
@@ -164,13 +164,13 @@ module _ {K V S : Type 0} (same : K → K → Bool) (hash : K → ℕ) (name : �
   root_whole _ empty l = absurd empty
 
   abbrev effects : List Effect
-  effects = effects_of Row known new.memory.changed
+  effects = effects_of Row known new.changed
 
   pub reclaiming_whole : AtEachEffect HadRetired None None effects m → AtEachEffect WaitUnreclaimed None None effects m
-      → ShowsWhole same name (with_effects None None effects m) (known_after Row new.memory.changed known) s2
+      → ShowsWhole same name (with_effects None None effects m) (known_after Row new.changed known) s2
   reclaiming_whole retired unreclaimed =
-      elim (reclaiming_tells old.memory.memory new.memory.memory new.memory.changed before before.stands (after, told) leads.0)
-      as (λ _. ShowsWhole same name (with_effects None None effects m) (known_after Row new.memory.changed known) s2) [
-        | inl tells ↦ row_whole new.memory.changed tells left retired unreclaimed
-        | inr empties ↦ root_whole new.memory.changed empties left
+      elim (reclaiming_tells old.memory new.memory new.changed before before.stands (after, told) leads.0)
+      as (λ _. ShowsWhole same name (with_effects None None effects m) (known_after Row new.changed known) s2) [
+        | inl tells ↦ row_whole new.changed tells left retired unreclaimed
+        | inr empties ↦ root_whole new.changed empties left
       ]

@@ -36,9 +36,7 @@ use Rattle.papaya_effects.specs.declared.role.Role.{Role}
 use Rattle.papaya_effects.specs.declared.role.Role.TheVariants as role
 use Rattle.papaya_kept.specs.Given.Finishes.FactsEnds.{TakesLeft, WritesRoot, events_of}
 use Rattle.papaya_reclaims.specs.Slots.{IsForSlots, AreItsRows}
-use Rattle.papaya_executor.specs.IsAt.{Scene}
-use Rattle.papaya_executor.specs.declared.executor.Executor.{Executor}
-use Rattle.papaya_reclaiming.specs.Reclaiming.{IsReclaiming, ReclaimingLeads}
+use Rattle.papaya_scenes.specs.Reclaiming.{IsReclaiming, ReclaimingLeads}
 use Rattle.papaya_kept.specs.Given.Follows.Blocks.{HasRole}
 use Rattle.papaya_kept.proofs.Given.Follows.Alike.{put_elsewhere}
 use Rattle.papaya_kept.proofs.Given.Follows.Onward.{IsOfMap}
@@ -54,8 +52,11 @@ use Rattle.papaya_kept.proofs.Given.Lives.Logs.{waits_on}
 use Rattle.papaya_kept.proofs.Given.Lives.RetiredEnds.{handed_lives}
 use Rattle.papaya_kept.proofs.Given.Lives.Taken.{there_still}
 use Rattle.papaya_kept.proofs.Given.Lives.Worlds.{Kept, log_back, runs_kept, start_kept, has_it}
-use Rattle.papaya_logged.proofs.ReclaimRows.{rows_kept}
-use Rattle.papaya_logged.proofs.ReclaimSteps.{reached}
+use Rattle.papaya_logged.proofs.Reclaiming.Rows.{rows_kept}
+use Rattle.papaya_logged.proofs.Reclaiming.Steps.{reached}
+use Rattle.papaya_scenes.specs.Held.{Held}
+use Rattle.papaya_scenes.specs.Scene.{Scene}
+use Rattle.papaya_scenes.proofs.Leads.{happens}
 
 module _ {K V : Type 0} (size : ℕ) where
   -- such a row tells nothing as it begins
@@ -90,9 +91,9 @@ module _ {K V : Type 0} (size : ℕ) where
       by (suc k) e = absurd (none_some (value_at v.memory t) there (taken_gone deferred_word size w r j v happens t (λ z. omega (arith, e, z))))
   rows_wait i (_ ∷ events) its w w2 r runs p t some waits = absurd its
 
-module _ {K V S : Type 0} (same : K → K → Bool) (hash : K → ℕ) (name : ℕ → List ℕ) (m : Moment K V) (known : Known) (s : Scene K V) (whole : ShowsWhole same name m known s)
+module _ {K V : Type 0} (same : K → K → Bool) (hash : ℕ → K → ℕ) (name : ℕ → List ℕ) (m : Moment K V) (known : Known) (s : Scene K V) (whole : ShowsWhole same name m known s)
     (waiting : ShowsWaiting m known s.world) (once : WaitsOnce m.deferred) (no_table : NoTableLeft known s.world)
-    (old new : Executor K V S) (i : ℕ) (lists : ℕ → List ℕ) (before after : ReclaimAll) (told : Settled (Node K V)) (at : IsReclaiming same hash old s i lists before)
+    (old new : Held K V) (i : ℕ) (lists : ℕ → List ℕ) (before after : ReclaimAll) (told : Settled (Node K V)) (at : IsReclaiming same hash old s i lists before)
     (leads : ReclaimingLeads same hash s i lists old new before after told) where
   abbrev w : World (Node K V)
   w = s.world

@@ -1,6 +1,6 @@
 //! Rows between calls: what a caller does with a slot.
 ghost use Rattle.std.specs.Prelude.{◌≡◌};
-ghost use Rattle.papaya_executor.specs.Rows.{begun_row, change_of, left_by, taken_as, of_registering, of_settling, of_storing};
+ghost use Rattle.papaya_scenes.specs.Rows.{begun_row, change_of, left_by, taken_as, of_registering, of_settling, of_storing};
 
 use seize::Progress;
 use seize::rows::{Enter, Leave, Leaving, Register, Registering, Settle, Settled, Unregister};
@@ -117,7 +117,7 @@ fn taken_as(stands: Registering) -> SlotUse
 
 impl SlotRow {
     /// What it makes of a slot by its next step.
-    pub(crate) fn change(&self) -> SlotChange
+    pub fn change(&self) -> SlotChange
         ensures { result ≡ change_of self.now }
     {
         match self {
@@ -141,7 +141,7 @@ impl SlotRow {
 
 impl SlotCall {
     /// The row that begins, on this slot.
-    pub(crate) fn begin(self, slot: u64, batch_size: u64) -> SlotRow
+    pub fn begin(self, slot: u64, batch_size: u64) -> SlotRow
         ensures { result ≡ begun_row slot batch_size self }
     {
         match self {
@@ -158,7 +158,7 @@ impl SlotCall {
 
 impl<T> RowTold<T> {
     /// What a registering tells.
-    pub(crate) fn of_registering(progress: Progress<u64>) -> Self
+    pub fn of_registering(progress: Progress<u64>) -> Self
         ensures { result ≡ of_registering progress }
     {
         match progress {
@@ -170,7 +170,7 @@ impl<T> RowTold<T> {
     }
 
     /// What a row of one store tells.
-    pub(crate) fn of_storing(progress: Progress<()>) -> Self
+    pub fn of_storing(progress: Progress<()>) -> Self
         ensures { result ≡ of_storing progress }
     {
         match progress {
@@ -182,7 +182,7 @@ impl<T> RowTold<T> {
     }
 
     /// What a leaving or a flush tells.
-    pub(crate) fn of_settling(progress: Settled<T>) -> Self
+    pub fn of_settling(progress: Settled<T>) -> Self
         ensures { result ≡ of_settling progress }
     {
         match progress {

@@ -23,9 +23,7 @@ use Rattle.papaya_teller.specs.declared.changed.Changed.TheVariants as changed
 use Rattle.papaya_effects.specs.Effects.{linked_on, named, names_same, effects_of, known_after}
 use Rattle.papaya_effects.specs.Known.{Known}
 use Rattle.papaya_effects.specs.declared.acting.Acting.TheVariants.{Row}
-use Rattle.papaya_executor.specs.IsAt.{Scene, HasCall}
-use Rattle.papaya_executor.specs.declared.executor.Executor.{Executor}
-use Rattle.papaya_reclaiming.specs.Reclaiming.{IsReclaiming, ReclaimingLeads}
+use Rattle.papaya_scenes.specs.Reclaiming.{IsReclaiming, ReclaimingLeads}
 use Rattle.papaya_kept.proofs.Given.Follows.Operations.{LeavesBy}
 use Rattle.papaya_kept.proofs.Given.Others.RowPlans.{TellsRow}
 use Rattle.papaya_kept.proofs.Given.Others.Stays.{same_there}
@@ -40,15 +38,17 @@ use Rattle.papaya_kept.proofs.Given.Lives.RetiredEnds.{handed_lives}
 use Rattle.papaya_kept.proofs.Given.Lives.Stages.{still_retired}
 use Rattle.papaya_kept.proofs.Given.Lives.Users.{left_lives}
 use Rattle.papaya_kept.proofs.Given.Lives.Worlds.{Kept}
-use Rattle.papaya_logged.proofs.ReclaimLies.{reclaiming_lies}
-use Rattle.papaya_logged.proofs.ReclaimOrder.{reclaiming_order}
-use Rattle.papaya_logged.proofs.ReclaimRows.{EmptiesRoot, reclaiming_tells}
-use Rattle.papaya_logged.proofs.ReclaimSteps.{kept as kept_there, left, no_call, root_none, nothing_there}
-use Rattle.papaya_logged.proofs.ReclaimWaits.{kept_then, rows_leave_waiting}
+use Rattle.papaya_logged.proofs.Reclaiming.Lies.{reclaiming_lies}
+use Rattle.papaya_logged.proofs.Reclaiming.Order.{reclaiming_order}
+use Rattle.papaya_logged.proofs.Reclaiming.Rows.{EmptiesRoot, reclaiming_tells}
+use Rattle.papaya_logged.proofs.Reclaiming.Steps.{kept as kept_there, left, no_call, root_none, nothing_there}
+use Rattle.papaya_logged.proofs.Reclaiming.Waits.{kept_then, rows_leave_waiting}
+use Rattle.papaya_scenes.specs.Held.{Held}
+use Rattle.papaya_scenes.specs.Scene.{HasCall, Scene}
 
-module _ {K V S : Type 0} (same : K → K → Bool) (hash : K → ℕ) (name : ℕ → List ℕ) (m : Moment K V) (known : Known) (s : Scene K V) (whole : ShowsWhole same name m known s)
+module _ {K V : Type 0} (same : K → K → Bool) (hash : ℕ → K → ℕ) (name : ℕ → List ℕ) (m : Moment K V) (known : Known) (s : Scene K V) (whole : ShowsWhole same name m known s)
     (waiting : ShowsWaiting m known s.world) (once : WaitsOnce m.deferred) (retired : ShowsRetired m known s) (lying : ShowsLying m known s.world) (order : ShowsOrder m known s.world) (no_table : NoTableLeft known s.world)
-    (old new : Executor K V S) (i : ℕ) (lists : ℕ → List ℕ) (before after : ReclaimAll) (told : Settled (Node K V)) (at : IsReclaiming same hash old s i lists before)
+    (old new : Held K V) (i : ℕ) (lists : ℕ → List ℕ) (before after : ReclaimAll) (told : Settled (Node K V)) (at : IsReclaiming same hash old s i lists before)
     (leads : ReclaimingLeads same hash s i lists old new before after told) where
   abbrev w : World (Node K V)
   w = s.world
@@ -113,11 +113,11 @@ module _ {K V S : Type 0} (same : K → K → Bool) (hash : K → ℕ) (name : �
   root_comes (changed.Wrote (Used r) was now) empty l = idle_comes l.2
   root_comes _ empty l = absurd empty
 
-  pub reclaiming_comes : ComesSo (effects_of Row known new.memory.changed) (known_after Row new.memory.changed known)
+  pub reclaiming_comes : ComesSo (effects_of Row known new.changed) (known_after Row new.changed known)
   reclaiming_comes =
       let leaves = left same hash name m known s whole old new i lists before after told at leads in
-      elim (reclaiming_tells old.memory.memory new.memory.memory new.memory.changed before before.stands (after, told) leads.0)
-      as (λ _. ComesSo (effects_of Row known new.memory.changed) (known_after Row new.memory.changed known)) [
-        | inl tells ↦ rows_come new.memory.changed tells leaves
-        | inr empties ↦ root_comes new.memory.changed empties leaves
+      elim (reclaiming_tells old.memory new.memory new.changed before before.stands (after, told) leads.0)
+      as (λ _. ComesSo (effects_of Row known new.changed) (known_after Row new.changed known)) [
+        | inl tells ↦ rows_come new.changed tells leaves
+        | inr empties ↦ root_comes new.changed empties leaves
       ]

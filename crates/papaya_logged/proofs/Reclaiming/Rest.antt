@@ -26,9 +26,7 @@ use Rattle.papaya_effects.specs.declared.role.Role.TheVariants as role
 use Rattle.papaya_kept.specs.Given.Callers.Together.{UnderWay}
 use Rattle.papaya_kept.specs.Given.Finishes.FactsEnds.{TakesLeft, WritesRoot, events_of}
 use Rattle.papaya_reclaims.specs.Slots.{AreItsRows}
-use Rattle.papaya_executor.specs.IsAt.{Scene}
-use Rattle.papaya_executor.specs.declared.executor.Executor.{Executor}
-use Rattle.papaya_reclaiming.specs.Reclaiming.{IsReclaiming, ReclaimingLeads}
+use Rattle.papaya_scenes.specs.Reclaiming.{IsReclaiming, ReclaimingLeads}
 use Rattle.papaya_kept.proofs.Given.Follows.Alike.{put_here, put_elsewhere}
 use Rattle.papaya_kept.proofs.Given.Follows.Told.{roomed_as_many}
 use Rattle.papaya_kept.proofs.Given.Others.RowPlans.{TellsRow}
@@ -41,11 +39,14 @@ use Rattle.papaya_kept.proofs.Given.Lives.LeftTables.{none_is_left, where_none_i
 use Rattle.papaya_kept.specs.Kept.{ShowsKept}
 use Rattle.papaya_kept.proofs.Ends.{maps_stay, stood_so}
 use Rattle.papaya_logged.specs.Reclaims.{ReclaimRetired}
-use Rattle.papaya_logged.proofs.ReclaimFinds.{reclaiming_finds}
-use Rattle.papaya_logged.proofs.ReclaimHanded.{reclaiming_handed}
-use Rattle.papaya_logged.proofs.ReclaimKept.{reclaiming_comes}
-use Rattle.papaya_logged.proofs.ReclaimRows.{EmptiesRoot, reclaiming_tells}
-use Rattle.papaya_logged.proofs.ReclaimSteps.{reached, no_call, root_none, nothing_there}
+use Rattle.papaya_logged.proofs.Reclaiming.Finds.{reclaiming_finds}
+use Rattle.papaya_logged.proofs.Reclaiming.Handed.{reclaiming_handed}
+use Rattle.papaya_logged.proofs.Reclaiming.Kept.{reclaiming_comes}
+use Rattle.papaya_logged.proofs.Reclaiming.Rows.{EmptiesRoot, reclaiming_tells}
+use Rattle.papaya_logged.proofs.Reclaiming.Steps.{reached, no_call, root_none, nothing_there}
+use Rattle.papaya_scenes.specs.Held.{Held}
+use Rattle.papaya_scenes.specs.Scene.{Scene}
+use Rattle.papaya_scenes.proofs.Leads.{happens}
 
 module _ {K V : Type 0} (size : ℕ) where
   -- such rows leave entries blank,
@@ -80,11 +81,11 @@ row_back known (changed.Took c) tells b r some is = elim (cases_eq b c) as (λ _
 ]
 row_back known (changed.Roomed bucket had) tells b r some is = sym (ap (λ (f : ℕ → Role). f b) (roomed_as_many Row known bucket had).0) ∙ is
 
-module _ {K V S : Type 0} (same : K → K → Bool) (hash : K → ℕ) (name : ℕ → List ℕ) (m : Moment K V) (known : Known) (s : Scene K V) (whole : ShowsWhole same name m known s)
-    (kept : ShowsKept name m known s) (old new : Executor K V S) (i : ℕ) (lists : ℕ → List ℕ) (before after : ReclaimAll) (told : Settled (Node K V)) (at : IsReclaiming same hash old s i lists before)
+module _ {K V : Type 0} (same : K → K → Bool) (hash : ℕ → K → ℕ) (name : ℕ → List ℕ) (m : Moment K V) (known : Known) (s : Scene K V) (whole : ShowsWhole same name m known s)
+    (kept : ShowsKept name m known s) (old new : Held K V) (i : ℕ) (lists : ℕ → List ℕ) (before after : ReclaimAll) (told : Settled (Node K V)) (at : IsReclaiming same hash old s i lists before)
     (leads : ReclaimingLeads same hash s i lists old new before after told) where
   abbrev effects : List Effect
-  effects = effects_of Row known new.memory.changed
+  effects = effects_of Row known new.changed
 
   abbrev s2 : Scene K V
   s2 = record s { world = leads.1.w2; maps = leads.1.maps2 }
@@ -128,14 +129,14 @@ module _ {K V S : Type 0} (same : K → K → Bool) (hash : K → ℕ) (name : �
   root_back (changed.Wrote (Used root) was now) empty b r is = is
   root_back _ empty b r is = absurd empty
 
-  was_so : (b : ℕ) (r : Role) → (r ≡ role.Free → ⊥) → (known_after Row new.memory.changed known).roles b ≡ r → known.roles b ≡ r
+  was_so : (b : ℕ) (r : Role) → (r ≡ role.Free → ⊥) → (known_after Row new.changed known).roles b ≡ r → known.roles b ≡ r
   was_so b r some is =
-      elim (reclaiming_tells old.memory.memory new.memory.memory new.memory.changed before before.stands (after, told) leads.0) as (λ _. known.roles b ≡ r) [
-        | inl tells ↦ row_back known new.memory.changed tells b r some is
-        | inr empties ↦ root_back new.memory.changed empties b r is
+      elim (reclaiming_tells old.memory new.memory new.changed before before.stands (after, told) leads.0) as (λ _. known.roles b ≡ r) [
+        | inl tells ↦ row_back known new.changed tells b r some is
+        | inr empties ↦ root_back new.changed empties b r is
       ]
 
-  pub reclaiming_keeps : ShowsKept name (with_effects None None effects m) (known_after Row new.memory.changed known) s2
+  pub reclaiming_keeps : ShowsKept name (with_effects None None effects m) (known_after Row new.changed known) s2
   reclaiming_keeps =
       let comes = reclaiming_comes same hash name m known s whole kept.waiting kept.once kept.retired kept.lying kept.order no_table old new i lists before after told at leads in
       record {
@@ -160,7 +161,7 @@ module _ {K V S : Type 0} (same : K → K → Bool) (hash : K → ℕ) (name : �
         lying = comes.lies;
         order = comes.ordered;
         retired = comes.had;
-        left = where_none_is_left K V (known_after Row new.memory.changed known) s2 comes.none_left;
+        left = where_none_is_left K V (known_after Row new.changed known) s2 comes.none_left;
         handed = reclaiming_handed same hash name m known s whole kept.waiting kept.handed no_table old new i lists before after told at leads;
         ends = maps_stay s kept.ends s2 (λ n st is. stood_so (s.maps n) (leads.1.maps2 n) (leads.1.as_they_were n) st is) refl;
       }

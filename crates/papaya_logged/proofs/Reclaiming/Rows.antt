@@ -30,12 +30,13 @@ use Rattle.papaya_teller.specs.declared.changed.Changed.TheVariants as changed
 use Rattle.papaya_kept.proofs.Given.Callers.Together.At.{at_other, at_same}
 use Rattle.papaya_kept.specs.Given.Finishes.FactsEnds.{TakesLeft, WritesRoot, events_of}
 use Rattle.papaya_reclaims.specs.Slots.{IsForSlots, AreItsRows}
-use Rattle.papaya_executor.specs.Rows.{of_settling}
-use Rattle.papaya_executor.specs.declared.row.SlotRow.TheVariants as rows
+use Rattle.papaya_scenes.specs.declared.row.SlotRow.TheVariants as rows
 use Rattle.papaya_kept.proofs.Given.Others.Outcomes.{told_in}
 use Rattle.papaya_kept.proofs.Given.Others.RowPlans.{TellsRow, row_tells}
 use Rattle.papaya_kept.proofs.Given.Moments.OnSlots.{none_some}
 use Rattle.std.proofs.lemmas.Bool.{cases_eq}
+use Rattle.papaya_scenes.specs.Rows.{of_settling}
+use Rattle.papaya_scenes.proofs.Leads.{happens}
 
 -- a block that is there then is as it was, in the same hands
 abbrev pub KeptThere : {K V : Type 0} → World (Node K V) → World (Node K V) → Type 0

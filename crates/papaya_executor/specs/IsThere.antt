@@ -1,53 +1,24 @@
--- How callers, maps and a memory stand at a moment, and that an executor is there.
-use Rattle.std.specs.Prelude.{◌≡◌, ◌≢◌, ◌<◌, ◌≤◌, ◌^◌, ℕ, ◌==◌, ◌/◌, ◌%◌, Bool, length, Option, Some, None, option_map, slice_index_or, if◌then◌else◌}
-use Rattle.seize.specs.World.{World, Row, Rests, Registers, Enters, Settles, Leaves, Frees, Use, Vacant, Outside, Inside, Changing, at_start}
-use Rattle.papaya_finishes.specs.Given.Tables.Nodes.{deferred_word}
-use Rattle.papaya_finishes.specs.Given.Tables.declared.node.Node.{Node}
-use Rattle.papaya_finishes.specs.Given.Resize.declared.new_map.NewMap.{NewMap}
+-- That an executor is there, where callers, maps and a memory stand so at a moment.
+use Rattle.std.specs.Prelude.{◌≡◌, ◌≢◌, ◌<◌, ◌≤◌, ℕ, ◌==◌, ◌/◌, Bool, length, Option, Some, None, option_map, slice_index_or, if◌then◌else◌}
+use Rattle.seize.specs.World.{Row, Rests, Use, Vacant, Outside, Inside, Changing}
+use Rattle.papaya_scenes.specs.Given.Resize.declared.new_map.NewMap.{NewMap}
 use Rattle.papaya_raw.specs.declared.machines.end_map.EndMap.{EndMap}
 use Rattle.papaya_raw.specs.declared.machines.machine.Machine.{Machine}
-use Rattle.papaya_finishes.specs.Given.Callers.Rows.{IsRowOn}
-use Rattle.papaya_finishes.specs.Given.Callers.Together.{UnderWay}
-use Rattle.papaya_finishes.specs.Endings.{Finishing, EndingsTogether}
-use Rattle.papaya_finishes.specs.Machines.{machine_of}
-use Rattle.papaya_finishes.specs.Makings.{Beginning}
-use Rattle.papaya_finishes.specs.Maps.{Standing}
+use Rattle.papaya_scenes.specs.Given.Finishes.Machines.{machine_of}
+use Rattle.papaya_scenes.specs.Given.Finishes.Makings.{Beginning}
+use Rattle.papaya_scenes.specs.Held.{Held, IsAt}
+use Rattle.papaya_scenes.specs.Scene.{Scene, row_of, slot_of}
+use Rattle.papaya_scenes.specs.declared.callers.TheConstants.{SLOTS}
+use Rattle.papaya_scenes.specs.declared.row.SlotUse.{SlotUse}
+use Rattle.papaya_scenes.specs.declared.row.SlotUse.TheVariants as slot_use
 use Rattle.papaya_executor.specs.declared.executor.Executor.{Executor}
-use Rattle.papaya_executor.specs.declared.row.SlotRow.{SlotRow}
-use Rattle.papaya_executor.specs.declared.row.SlotRow.TheVariants as rows
-use Rattle.papaya_executor.specs.declared.row.SlotUse.{SlotUse}
-use Rattle.papaya_executor.specs.declared.row.SlotUse.TheVariants as slot_use
-use Rattle.papaya_executor.specs.declared.worker.TheConstants.{SLOTS}
 use Rattle.papaya_executor.specs.declared.worker.Work.{Work}
 use Rattle.papaya_executor.specs.declared.worker.Work.TheVariants as work
 use Rattle.papaya_executor.specs.declared.worker.Worker.{Worker}
 
--- the world, the maps by number, the calls by map and by caller, and the makings and ends of maps by caller
-pub record Scene (K V : Type 0) : Type 0 where
-  pub world : World (Node K V)
-  pub maps : ℕ → Option (Standing K)
-  pub calls : ℕ → ℕ → Option (UnderWay K V K)
-  pub makers : ℕ → Option (Beginning K)
-  pub enders : ℕ → Option (Finishing K V)
-
--- no map and no caller, in a memory with as many roots
-abbrev pub at_first : {K V : Type 0} → ℕ → Scene K V
-at_first roots = record { world = at_start deferred_word roots; maps = λ m. None; calls = λ m i. None; makers = λ i. None; enders = λ i. None }
-
--- The number of a caller tells its place, and its slot.
+-- The number of a caller tells its place.
 abbrev pub place_of : ℕ → ℕ
 place_of caller = caller / SLOTS
-
-abbrev pub slot_of : ℕ → ℕ
-slot_of caller = caller % SLOTS
-
--- A row between calls is this one.
-abbrev pub row_of : SlotRow → Row
-row_of (rows.Registers register) = Registers register
-row_of (rows.Enters enter) = Enters enter
-row_of (rows.Leaves leave) = Leaves leave
-row_of (rows.Flushes settle) = Settles settle
-row_of (rows.Frees unregister) = Frees unregister
 
 -- A slot is used so, however many rows work on it.
 abbrev pub IsUsedAs : SlotUse → Use → Type 0
@@ -57,18 +28,6 @@ IsUsedAs slot_use.Inside v = (n : ℕ) × (v ≡ Inside n)
 IsUsedAs slot_use.Changing v = v ≡ Changing
 
 module _ {K V : Type 0} where
-  -- a caller has a call under way, on some map
-  abbrev pub HasCall : Scene K V → ℕ → Type 0
-  HasCall s i = (m : ℕ) × (u : UnderWay K V K) × (s.calls m i ≡ Some u)
-
-  -- or makes a map
-  abbrev pub IsMaking : Scene K V → ℕ → Type 0
-  IsMaking s i = (b : Beginning K) × (s.makers i ≡ Some b)
-
-  -- or ends one
-  abbrev pub IsEnding : Scene K V → ℕ → Type 0
-  IsEnding s i = (f : Finishing K V) × (s.enders i ≡ Some f)
-
   -- whoever is at a place, if it stands in this slot
   abbrev pub in_slot : ℕ → Option (Worker K V) → Option (Work K V)
   in_slot slot None = None
@@ -103,6 +62,10 @@ module _ {K V : Type 0} where
   worker_with slot m machine = worker_of slot (option_map (λ machine. work.Call m machine) machine)
 
 module _ {K V S : Type 0} where
+  -- what it holds
+  abbrev pub held_by : Executor K V S → Held K V
+  held_by e = record { memory = e.memory.memory; changed = e.memory.changed; batch_size = e.batch_size; roots = e.roots }
+
   -- who is at a place
   abbrev pub worker_at : Executor K V S → ℕ → Option (Worker K V)
   worker_at e p = slice_index_or e.workers.items p None
@@ -136,21 +99,15 @@ module _ {K V S : Type 0} where
   KeepsGiven old new = (new.hasher ≡ old.hasher) × (new.batch_size ≡ old.batch_size) × (new.roots ≡ old.roots) × (length new.maps.items ≡ length old.maps.items)
 
 module _ {K V S : Type 0} (same : K → K → Bool) (hash : K → ℕ) where
-  -- The executor is there: it has the memory, the settings of the maps that stand, of each caller what it has under way, and of each slot how it is used;
-  -- all keys have one hash. A row is under way where a caller has one, and works on its slot.
-  pub record IsAt (e : Executor K V S) (s : Scene K V) : Type 0 where
-    pub memory : s.world.memory ≡ e.memory.memory
-    pub together : EndingsTogether V same same e.batch_size e.roots slot_of s.world s.maps s.calls s.makers s.enders
+  -- The executor is there: the scene is that of what it holds, where all keys have one hash; and it has the settings of the maps that stand, of each caller what it
+  -- has under way, and of each slot how it is used. A row is under way where a caller has one.
+  pub record IsThere (e : Executor K V S) (s : Scene K V) : Type 0 where
+    pub held : IsAt same (λ m. hash) (held_by e) s
     pub maps : (m : ℕ) → option_map (λ standing. standing.setting) (s.maps m) ≡ slice_index_or e.maps.items m None
-    pub hashes : (m : ℕ) (standing : Standing K) → s.maps m ≡ Some standing → standing.hash ≡ hash
     pub calls : (m i : ℕ) → option_map machine_of (s.calls m i) ≡ call_in (work_of e i) m
     pub makers : (i : ℕ) → option_map (λ b. (b.map, b.machine)) (s.makers i) ≡ making_in (work_of e i)
     pub enders : (i : ℕ) → option_map (λ f. f.machine) (s.enders i) ≡ ending_in (work_of e i)
-    -- keys of a map that is being made have that hash, too, and its setting has a place
-    pub hashes_made : (i : ℕ) (b : Beginning K) → s.makers i ≡ Some b → b.hash ≡ hash
     pub numbers : (i : ℕ) (b : Beginning K) → s.makers i ≡ Some b → b.map < length e.maps.items
     pub rows : (i : ℕ) → HasRow (work_of e i) (s.world.row i)
-    pub on_slots : (i : ℕ) → IsRowOn (slot_of i) (s.world.row i)
-    pub small : e.batch_size < 2 ^ 64
     pub slots : length e.slots.items ≡ SLOTS
     pub uses : (t : ℕ) → IsUsedAs (use_at e t) (s.world.uses t)

@@ -34,9 +34,7 @@ use Rattle.papaya_effects.specs.declared.role.Role.{Role}
 use Rattle.papaya_effects.specs.declared.role.Role.TheVariants as role
 use Rattle.papaya_kept.specs.Given.Finishes.FactsEnds.{TakesLeft, WritesRoot, events_of}
 use Rattle.papaya_reclaims.specs.Slots.{AreItsRows}
-use Rattle.papaya_executor.specs.IsAt.{Scene, HasCall}
-use Rattle.papaya_executor.specs.declared.executor.Executor.{Executor}
-use Rattle.papaya_reclaiming.specs.Reclaiming.{IsReclaiming, ReclaimingLeads}
+use Rattle.papaya_scenes.specs.Reclaiming.{IsReclaiming, ReclaimingLeads}
 use Rattle.papaya_kept.specs.Given.Follows.Blocks.{HasRole}
 use Rattle.papaya_kept.proofs.Given.Follows.Operations.{LeavesBy}
 use Rattle.papaya_kept.proofs.Given.Follows.Writes.{nothing_free}
@@ -50,8 +48,11 @@ use Rattle.papaya_kept.specs.Given.Lives.Retired.{ShowsRetired}
 use Rattle.papaya_kept.proofs.Given.Lives.Retires.{given_hand}
 use Rattle.papaya_kept.proofs.Given.Lives.Taken.{taken_retired}
 use Rattle.papaya_kept.proofs.Given.Lives.Waiting.{row_finds}
-use Rattle.papaya_logged.proofs.ReclaimRows.{EmptiesRoot, begun_kept, step_kept, reclaiming_tells}
-use Rattle.papaya_logged.proofs.ReclaimSteps.{left, reached}
+use Rattle.papaya_logged.proofs.Reclaiming.Rows.{EmptiesRoot, begun_kept, step_kept, reclaiming_tells}
+use Rattle.papaya_logged.proofs.Reclaiming.Steps.{left, reached}
+use Rattle.papaya_scenes.specs.Held.{Held}
+use Rattle.papaya_scenes.specs.Scene.{HasCall, Scene}
+use Rattle.papaya_scenes.proofs.Leads.{happens}
 
 module _ {K V : Type 0} (size : ℕ) where
   -- what a step of a row takes away the collector had,
@@ -102,9 +103,9 @@ module _ {K V : Type 0} (size : ℕ) where
   root_value i place word w w2 (v, (out, m, own, took, is), runs) x =
       ap (λ (u : World (Node K V)). value_at u.memory x) (runs ∙ is) ∙ ap (λ (z : Mem (Node K V)). value_at z x) took.1 ∙ own_op_value deferred_word w.memory x (Store place word) out own
 
-module _ {K V S : Type 0} (same : K → K → Bool) (hash : K → ℕ) (name : ℕ → List ℕ) (m : Moment K V) (known : Known) (s : Scene K V) (whole : ShowsWhole same name m known s)
+module _ {K V : Type 0} (same : K → K → Bool) (hash : ℕ → K → ℕ) (name : ℕ → List ℕ) (m : Moment K V) (known : Known) (s : Scene K V) (whole : ShowsWhole same name m known s)
     (waiting : ShowsWaiting m known s.world) (retired : ShowsRetired m known s) (no_table : NoTableLeft known s.world)
-    (old new : Executor K V S) (i : ℕ) (lists : ℕ → List ℕ) (before after : ReclaimAll) (told : Settled (Node K V)) (at : IsReclaiming same hash old s i lists before)
+    (old new : Held K V) (i : ℕ) (lists : ℕ → List ℕ) (before after : ReclaimAll) (told : Settled (Node K V)) (at : IsReclaiming same hash old s i lists before)
     (leads : ReclaimingLeads same hash s i lists old new before after told) where
   abbrev w : World (Node K V)
   w = s.world
@@ -113,7 +114,7 @@ module _ {K V S : Type 0} (same : K → K → Bool) (hash : K → ℕ) (name : �
   w2 = leads.1.w2
 
   abbrev effects : List Effect
-  effects = effects_of Row known new.memory.changed
+  effects = effects_of Row known new.changed
 
   abbrev RunsBy : List (Event (Node K V)) → Type 0
   RunsBy events = Runs deferred_word old.batch_size events w w2
@@ -186,14 +187,14 @@ module _ {K V S : Type 0} (same : K → K → Bool) (hash : K → ℕ) (name : �
 
   pub reclaiming_finds : AtEachEffect HadRetired None None effects m × AtEachEffect WaitUnreclaimed None None effects m
   reclaiming_finds =
-      elim (reclaiming_tells old.memory.memory new.memory.memory new.memory.changed before before.stands (after, told) leads.0)
+      elim (reclaiming_tells old.memory new.memory new.changed before before.stands (after, told) leads.0)
       as (λ _. AtEachEffect HadRetired None None effects m × AtEachEffect WaitUnreclaimed None None effects m) [
         | inl tells ↦ (
-          row_had new.memory.changed tells (left same hash name m known s whole old new i lists before after told at leads),
-          row_finds m known w waiting new.memory.changed tells,
+          row_had new.changed tells (left same hash name m known s whole old new i lists before after told at leads),
+          row_finds m known w waiting new.changed tells,
         )
         | inr empties ↦
-            let none = emptied new.memory.changed empties in (
+            let none = emptied new.changed empties in (
               subst (λ (xs : List Effect). AtEachEffect HadRetired None None xs m) (sym none) tt,
               subst (λ (xs : List Effect). AtEachEffect WaitUnreclaimed None None xs m) (sym none) tt,
             )

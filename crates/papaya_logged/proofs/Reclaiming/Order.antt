@@ -25,9 +25,7 @@ use Rattle.papaya_effects.specs.declared.acting.Acting.TheVariants.{Row as OfRow
 use Rattle.papaya_effects.specs.declared.role.Role.TheVariants as role
 use Rattle.papaya_kept.specs.Given.Finishes.FactsEnds.{TakesLeft, WritesRoot, events_of}
 use Rattle.papaya_reclaims.specs.Slots.{IsForSlots, AreItsRows}
-use Rattle.papaya_executor.specs.IsAt.{Scene}
-use Rattle.papaya_executor.specs.declared.executor.Executor.{Executor}
-use Rattle.papaya_reclaiming.specs.Reclaiming.{IsReclaiming, ReclaimingLeads}
+use Rattle.papaya_scenes.specs.Reclaiming.{IsReclaiming, ReclaimingLeads}
 use Rattle.papaya_kept.proofs.Given.Follows.Operations.{LeavesBy}
 use Rattle.papaya_kept.proofs.Given.Others.RowPlans.{TellsRow}
 use Rattle.papaya_kept.specs.Given.Moments.Whole.{ShowsWhole}
@@ -39,8 +37,11 @@ use Rattle.papaya_kept.proofs.Given.Lives.Lying.{row_pair}
 use Rattle.papaya_kept.proofs.Given.Lives.Order.{order_as, row_behind}
 use Rattle.papaya_kept.proofs.Given.Lives.Putting.{put_before}
 use Rattle.papaya_kept.proofs.Given.Lives.Reclaimed.{stays_so}
-use Rattle.papaya_logged.proofs.ReclaimLies.{own_none}
-use Rattle.papaya_logged.proofs.ReclaimSteps.{reached}
+use Rattle.papaya_logged.proofs.Reclaiming.Lies.{own_none}
+use Rattle.papaya_logged.proofs.Reclaiming.Steps.{reached}
+use Rattle.papaya_scenes.specs.Held.{Held}
+use Rattle.papaya_scenes.specs.Scene.{Scene}
+use Rattle.papaya_scenes.proofs.Leads.{happens}
 
 module _ {K V : Type 0} (size : ℕ) where
   -- the beginning of such a row leaves the memory, and who has what; and it puts nothing behind a block
@@ -97,8 +98,8 @@ module _ {K V : Type 0} (size : ℕ) where
         let was : w.hand c ≡ InUse o = ap (λ (u : World (Node K V)). u.hand c) (sym (runs.2 ∙ runs.1.4)) ∙ used in
         (o, was, still_leave_list deferred_word size (events_of i (WritesRoot place word)) w w2 r (tt, tt) runs c o o was used blocks are)
 
-module _ {K V S : Type 0} (same : K → K → Bool) (hash : K → ℕ) (name : ℕ → List ℕ) (m : Moment K V) (known : Known) (s : Scene K V) (whole : ShowsWhole same name m known s)
-    (lying : ShowsLying m known s.world) (order : ShowsOrder m known s.world) (old new : Executor K V S) (i : ℕ) (lists : ℕ → List ℕ) (before after : ReclaimAll) (told : Settled (Node K V))
+module _ {K V : Type 0} (same : K → K → Bool) (hash : ℕ → K → ℕ) (name : ℕ → List ℕ) (m : Moment K V) (known : Known) (s : Scene K V) (whole : ShowsWhole same name m known s)
+    (lying : ShowsLying m known s.world) (order : ShowsOrder m known s.world) (old new : Held K V) (i : ℕ) (lists : ℕ → List ℕ) (before after : ReclaimAll) (told : Settled (Node K V))
     (at : IsReclaiming same hash old s i lists before) (leads : ReclaimingLeads same hash s i lists old new before after told) where
   abbrev w : World (Node K V)
   w = s.world

@@ -26,9 +26,7 @@ use Rattle.papaya_kept.proofs.Given.Callers.Rows.Behind.{row_back}
 use Rattle.papaya_kept.specs.Given.Finishes.FactsEnds.{TakesLeft, WritesRoot, events_of}
 use Rattle.papaya_reclaims.specs.Reclaims.{ReclaimingAt}
 use Rattle.papaya_reclaims.specs.Slots.{IsForSlots, AreItsRows}
-use Rattle.papaya_executor.specs.IsAt.{Scene}
-use Rattle.papaya_executor.specs.declared.executor.Executor.{Executor}
-use Rattle.papaya_reclaiming.specs.Reclaiming.{IsReclaiming, ReclaimingLeads}
+use Rattle.papaya_scenes.specs.Reclaiming.{IsReclaiming, ReclaimingLeads}
 use Rattle.papaya_kept.specs.Given.Follows.Blocks.{HasRole}
 use Rattle.papaya_kept.proofs.Given.Follows.Operations.{LeavesBy}
 use Rattle.papaya_kept.proofs.Given.Others.RowPlans.{TellsRow}
@@ -37,8 +35,11 @@ use Rattle.papaya_kept.specs.Given.Lives.Lying.{ShowsLying}
 use Rattle.papaya_kept.specs.Given.Lives.Waiting.{IsPutting}
 use Rattle.papaya_kept.proofs.Given.Lives.Lying.{lying_on, row_among, row_pair}
 use Rattle.papaya_kept.proofs.Given.Lives.Reclaimed.{stays_so}
-use Rattle.papaya_logged.proofs.ReclaimSteps.{kept as kept_so, reached}
-use Rattle.papaya_logged.proofs.ReclaimWaits.{begun_log}
+use Rattle.papaya_logged.proofs.Reclaiming.Steps.{kept as kept_so, reached}
+use Rattle.papaya_logged.proofs.Reclaiming.Waits.{begun_log}
+use Rattle.papaya_scenes.specs.Held.{Held}
+use Rattle.papaya_scenes.specs.Scene.{Scene}
+use Rattle.papaya_scenes.proofs.Leads.{happens}
 
 module _ {K V : Type 0} (size : ℕ) where
   -- the beginning of such a row leaves the rows of others
@@ -87,8 +88,8 @@ module _ {K V : Type 0} (size : ℕ) where
   root_lie i place word w w2 (v, (out, m, own, took, is), runs) =
       (ap (λ (u : World (Node K V)). u.row) (runs ∙ is), λ b c at. sym (ap (λ (u : World (Node K V)). where_is b u.log) (runs ∙ is)) ∙ at)
 
-module _ {K V S : Type 0} (same : K → K → Bool) (hash : K → ℕ) (name : ℕ → List ℕ) (m : Moment K V) (known : Known) (s : Scene K V) (whole : ShowsWhole same name m known s)
-    (lying : ShowsLying m known s.world) (old new : Executor K V S) (i : ℕ) (lists : ℕ → List ℕ) (before after : ReclaimAll) (told : Settled (Node K V))
+module _ {K V : Type 0} (same : K → K → Bool) (hash : ℕ → K → ℕ) (name : ℕ → List ℕ) (m : Moment K V) (known : Known) (s : Scene K V) (whole : ShowsWhole same name m known s)
+    (lying : ShowsLying m known s.world) (old new : Held K V) (i : ℕ) (lists : ℕ → List ℕ) (before after : ReclaimAll) (told : Settled (Node K V))
     (at : IsReclaiming same hash old s i lists before) (leads : ReclaimingLeads same hash s i lists old new before after told) where
   abbrev w : World (Node K V)
   w = s.world

@@ -1,0 +1,11 @@
+pub mod Beginning
+pub mod Ending
+pub mod Held
+pub mod Making
+pub mod OnSlots
+pub mod Reclaiming
+pub mod Replying
+pub mod Rows
+pub mod Scene
+pub mod Stepping
+pub mod Given
