@@ -62,11 +62,11 @@ impl<T, R: Rule<T>> Blocks<T, R> {
     }
 
     /// A step without an operation.
-    pub fn turn<M: Turn<R::View>>(&self, seat: &mut Seat<T, R>)
+    pub fn turn<M: Turn<R::Fixed, R::View>>(&self, seat: &mut Seat<T, R>)
         requires own { seat.old.base ≡ self.now.words.id.views_name }
-        requires may { Turns (R.holds self.now.words.fixed) R.keeps seat.old.id seat.old.view (M.to seat.old.view) }
+        requires may { Turns (R.holds self.now.words.fixed) R.keeps seat.old.id seat.old.view (M.to self.now.words.fixed seat.old.view) }
         ensures same { (seat.new.base ≡ seat.old.base) × (seat.new.id ≡ seat.old.id) }
-        ensures goes { M.to seat.old.view seat.new.view }
+        ensures goes { M.to self.now.words.fixed seat.old.view seat.new.view }
     {
         self.words.turn::<M>(seat)
     }

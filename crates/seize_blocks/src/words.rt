@@ -78,10 +78,10 @@ impl<T, R: Rule<T>> Words<T, R> {
     }
 
     /// A step without an operation.
-    pub fn turn<M: Turn<R::View>>(&self, seat: &mut Seat<T, R>)
+    pub fn turn<M: Turn<R::Fixed, R::View>>(&self, seat: &mut Seat<T, R>)
         requires { (seat.old.base ≡ self.now.id.views_name)
-            × Turns (R.holds self.now.fixed) R.keeps seat.old.id seat.old.view (M.to seat.old.view) }
-        ensures { (seat.new.base ≡ seat.old.base) × (seat.new.id ≡ seat.old.id) × M.to seat.old.view seat.new.view }
+            × Turns (R.holds self.now.fixed) R.keeps seat.old.id seat.old.view (M.to self.now.fixed seat.old.view) }
+        ensures { (seat.new.base ≡ seat.old.base) × (seat.new.id ≡ seat.old.id) × M.to self.now.fixed seat.old.view seat.new.view }
     {}
 
     /// Tries to claim a number, whose sign lies at this place: it was free where 0 is found.

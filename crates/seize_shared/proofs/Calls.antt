@@ -1,19 +1,115 @@
 -- What a call of the shared memory asks for: by what the seat knows, its turn or operation is next.
-use Rattle.std.specs.Prelude.{Option, Some}
-use Rattle.std.proofs.Common.{◌≡◌, ℕ, sym, subst}
-use Rattle.seize_words.specs.Op.{Op}
+use Rattle.std.specs.Prelude.{◌<◌, ◌≤◌, Option, Some, None, nat_lt, if◌then◌else◌}
+use Rattle.std.proofs.Common.{◌≡◌, ℕ, ◌^◌, ◌%◌, Bool, true, false, refl, sym, subst, ap, ◌∙◌, arith}
+use Rattle.std.proofs.lemmas.Bool.{eq-eqb, ne_eqb}
+use Rattle.seize_words.specs.Op.{Op, Load, Swap, Make, Take, Found, Made as OutMade}
+use Rattle.seize_words.specs.Word.{block_in, link_to}
+use Rattle.seize_words.specs.declared.at.At.TheVariants.{Root}
+use Rattle.seize.specs.declared.states.TheConstants.{ACTIVE}
+use Rattle.seize.specs.Settle.{counting_down}
+use Rattle.seize_seats.specs.Lendings.{Shown}
 use Rattle.seize_seats.specs.State.{Allows, Turns}
-use Rattle.seize_shared.specs.Begun.{Makes}
-use Rattle.seize_shared.specs.Promises.{IsNext, op_of}
-use Rattle.seize_shared.specs.Rows.{Holds, Keeps, told}
+use Rattle.seize_shared.specs.Begun.{leaving, Makes}
+use Rattle.seize_shared.specs.Promises.{Names, IsLooking, IsNext, op_of}
+use Rattle.seize_shared.specs.Rows.{Holds, Keeps}
+use Rattle.seize_shared.specs.Told.{list_taken, cut_in, seen_in, told}
 use Rattle.seize_shared.specs.declared.view.View.{View}
+use Rattle.seize_shared.specs.declared.view.View.TheVariants.{Inside, Settles, Leaves, Left}
+use Rattle.seize_shared.specs.declared.view.Has.{Has}
+use Rattle.seize_shared.specs.declared.view.Has.TheVariants.{Nothing, Made, Seen, Cut}
+use Rattle.seize_shared.specs.declared.view.Why.TheVariants.{Ending}
 use Rattle.seize_shared.specs.declared.view.Fixed.{Fixed}
 use Rattle.seize_shared.proofs.Beginnings.{rows_turn}
-use Rattle.seize_shared.proofs.Registers.{rows_go_on}
+use Rattle.seize_shared.proofs.GoesOn.{rows_go_on}
+use Rattle.seize_shared.proofs.Blocks.{blocks_are_made, made_are_taken, made_are_linked, roots_are_cleared, roots_are_seen, known_are_shown}
 
-module _ {T : Type 0} (defers : T → Option ℕ) (fixed : Fixed) (id : ℕ) (v w : View) (is : v ≡ w) where
-  pub may_turn : (f : View → View) → IsNext w (f w) → Turns {T = T} (Holds defers fixed) Keeps id v (Makes f v)
-  may_turn f next = subst (λ (x : View). Turns {T = T} (Holds defers fixed) Keeps id x (Makes f x)) (sym is) (rows_turn T defers fixed id w (f w) next)
+module _ {T : Type 0} (defers : T → Option ℕ) (fixed : Fixed) (id : ℕ) (v w : View T) (is : v ≡ w) where
+  pub may_turn : (f : Fixed → View T → View T) → IsNext fixed w (f fixed w) → Turns (Holds defers fixed) Keeps id v (Makes f fixed v)
+  may_turn f next =
+      subst (λ (x : View T). Turns (Holds defers fixed) Keeps id x (Makes f fixed x)) (sym is) (rows_turn T defers fixed id w (f fixed w) next)
 
-  pub may_go_on : (op : Op T) → op_of w ≡ Some op → Allows (Holds defers fixed) Keeps id v op (told v op)
-  may_go_on op next = subst (λ (x : View). Allows (Holds defers fixed) Keeps id x op (told x op)) (sym is) (rows_go_on T defers fixed id w op next)
+  pub may_go_on : (op : Op T) → op_of defers w ≡ Some op → Allows (Holds defers fixed) Keeps id v op (told defers v op)
+  may_go_on op next =
+      subst (λ (x : View T). Allows (Holds defers fixed) Keeps id x op (told defers x op)) (sym is) (rows_go_on T defers fixed id w op next)
+
+module _ {T : Type 0} (defers : T → Option ℕ) (fixed : Fixed) (id : ℕ) (v : View T) (slot : ℕ) where
+  abbrev MayMake : Op T → Type 0
+  MayMake op = Allows (Holds defers fixed) Keeps id v op (told defers v op)
+
+  by_view : (w : View T) (op : Op T) → v ≡ w → Allows (Holds defers fixed) Keeps id w op (told defers w op) → MayMake op
+  by_view w op is may = subst (λ (x : View T). Allows (Holds defers fixed) Keeps id x op (told defers x op)) (sym is) may
+
+  pub may_make : v ≡ Inside slot Nothing → (value : T) → defers value ≡ None → MayMake (Make value 0)
+  may_make is value list = by_view (Inside slot Nothing) (Make value 0) is (blocks_are_made T defers value 0 list fixed id slot)
+
+  pub may_take : (b : ℕ) → v ≡ Inside slot (Made b) → MayMake (Take b)
+  may_take b is = by_view (Inside slot (Made b)) (Take b) is (made_are_taken T defers b fixed id slot)
+
+  -- the word that links to a block whose number is small enough
+  pub whole_link : (b : ℕ) → b < 2 ^ 53 → link_to b % 2 ^ 64 ≡ link_to b
+  whole_link b lt = omega (arith, lt)
+
+  pub may_link : (b r word : ℕ) → v ≡ Inside slot (Made b) → r < fixed.roots → b < 2 ^ 53 → word ≡ link_to b % 2 ^ 64 → MayMake (Swap (Root r) word)
+  may_link b r word is lt fits link =
+      subst (λ (w : ℕ). MayMake (Swap (Root r) w)) (sym (link ∙ whole_link b fits))
+      (by_view (Inside slot (Made b)) (Swap (Root r) (link_to b)) is (made_are_linked T defers b r fixed id slot lt))
+
+  pub may_clear : (r : ℕ) → v ≡ Inside slot Nothing → r < fixed.roots → MayMake (Swap (Root r) 0)
+  may_clear r is lt = by_view (Inside slot Nothing) (Swap (Root r) 0) is (roots_are_cleared T defers r fixed id slot lt)
+
+  pub may_see : (r : ℕ) → v ≡ Inside slot Nothing → r < fixed.roots → MayMake (Load (Root r))
+  may_see r is lt = by_view (Inside slot Nothing) (Load (Root r)) is (roots_are_seen T defers Nothing r fixed id slot tt lt)
+
+  pub is_shown : (has : Has) (b : ℕ) → v ≡ Inside slot has → Names has b → Shown (Holds defers fixed) id v b
+  is_shown has b is names = subst (λ (x : View T). Shown (Holds defers fixed) id x b) (sym is) (known_are_shown T defers has b fixed id slot names)
+
+module _ {T : Type 0} (fixed : Fixed) (slot : ℕ) where
+  -- leaving is next where a block was seen, or none is known
+  pub leaves_next : (has : Has) → IsLooking has → IsNext {T = T} fixed (Inside slot has) (leaving fixed (Inside slot has))
+  leaves_next Nothing looks = refl
+  leaves_next (Seen b) looks = refl
+  leaves_next (Made b) looks = absurd looks
+  leaves_next (Cut b) looks = absurd looks
+
+  pub leaves_so : (has : Has) → IsLooking has → leaving {T = T} fixed (Inside slot has) ≡ Leaves slot fixed.batch_size
+  leaves_so Nothing looks = refl
+  leaves_so (Seen b) looks = refl
+  leaves_so (Made b) looks = absurd looks
+  leaves_so (Cut b) looks = absurd looks
+
+-- a list with entries is counted down, and an empty one is settled
+pub list_settles : {T : Type 0} (slot size head : ℕ) → ACTIVE < head
+    → list_taken {T = T} slot size head ≡ Settles (counting_down slot size head) (Ending size) None
+list_settles {T} slot size head lt =
+    ap (λ (b : Bool). if b then Settles {T = T} (counting_down slot size head) (Ending size) None else Left slot size)
+    (let k : nat_lt ACTIVE head ≡ true = grind (arith, lt) in k)
+
+pub list_empty : {T : Type 0} (slot size head : ℕ) → head ≤ ACTIVE → list_taken {T = T} slot size head ≡ Left slot size
+list_empty {T} slot size head le =
+    ap (λ (b : Bool). if b then Settles {T = T} (counting_down slot size head) (Ending size) None else Left slot size)
+    (let k : nat_lt ACTIVE head ≡ false = grind (arith, le) in k)
+
+-- what a word of a root tells that was taken from there, or seen
+pub cut_some : (word b : ℕ) → b ≡ block_in word → (b ≡ 0 → ⊥) → cut_in word ≡ Cut b
+cut_some word b is ne = ap (λ (y : Bool). if y then Nothing else Cut (block_in word)) (ne_eqb (block_in word) 0 (λ e. ne (is ∙ e))) ∙ ap Cut (sym is)
+
+pub cut_none : (word : ℕ) → block_in word ≡ 0 → cut_in word ≡ Nothing
+cut_none word e = ap (λ (y : Bool). if y then Nothing else Cut (block_in word)) (eq-eqb (block_in word) 0 e)
+
+pub seen_some : (word b : ℕ) → b ≡ block_in word → (b ≡ 0 → ⊥) → seen_in word ≡ Seen b
+seen_some word b is ne = ap (λ (y : Bool). if y then Nothing else Seen (block_in word)) (ne_eqb (block_in word) 0 (λ e. ne (is ∙ e))) ∙ ap Seen (sym is)
+
+pub seen_none : (word : ℕ) → block_in word ≡ 0 → seen_in word ≡ Nothing
+seen_none word e = ap (λ (y : Bool). if y then Nothing else Seen (block_in word)) (eq-eqb (block_in word) 0 e)
+
+module _ {T : Type 0} (defers : T → Option ℕ) (v w : View T) (slot : ℕ) where
+  pub cut_told : (b r word old : ℕ) → v ≡ Inside slot (Made b) → told defers v (Swap (Root r) word) (Found old) w → w ≡ Inside slot (cut_in old)
+  cut_told b r word old is so =
+      let k = subst (λ (x : View T). told defers x (Swap (Root r) word) (Found old) w) is so in k.2 ∙ ap (Inside slot) k.1
+
+  pub removed_told : (r word old : ℕ) → v ≡ Inside slot Nothing → told defers v (Swap (Root r) word) (Found old) w → w ≡ Inside slot (cut_in old)
+  removed_told r word old is so =
+      let k = subst (λ (x : View T). told defers x (Swap (Root r) word) (Found old) w) is so in k.2 ∙ ap (Inside slot) k.1
+
+  pub seen_told : (r word : ℕ) → v ≡ Inside slot Nothing → told defers v (Load (Root r)) (Found word) w → w ≡ Inside slot (seen_in word)
+  seen_told r word is so = let k = subst (λ (x : View T). told defers x (Load (Root r)) (Found word) w) is so in k.2 ∙ ap (Inside slot) k.1

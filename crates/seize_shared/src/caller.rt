@@ -1,32 +1,45 @@
 //! One of those who share the memory.
-ghost use Rattle.std.specs.Prelude.{◌≡◌, ◌<◌, ◌+◌, true, false, IfOk, IfErr};
+ghost use Rattle.std.specs.Prelude.{◌≡◌, ◌≢◌, ◌<◌, ◌+◌, ◌^◌, None, true, false, IfOk, IfErr, IfSome, IfNone};
+ghost use Rattle.seize_words.specs.Word.{block_in};
 ghost use Rattle.seize.specs.declared.states.TheConstants.{LAST_SLOT};
 ghost use Rattle.seize.specs.declared.rows.register.Registering.TheVariants.{Take};
+ghost use Rattle.seize_shared.specs.Promises.{IsLooking};
 ghost use Rattle.seize_shared.specs.Seeking.{row_at, seeks};
+ghost use Rattle.seize_shared.specs.declared.view.Has.{Has};
 ghost use Rattle.seize_shared.specs.declared.view.View.TheVariants.{Rests, Registers, Outside, Inside};
+ghost use Rattle.seize_shared.specs.declared.view.Has.TheVariants.{Nothing, Made, Seen, Cut};
 
 use crate::rows::OfRows;
-use crate::turns::{Ending, Entering, Freeing, Leaving, Registering};
-use seize::rows::{Defers, needed_bucket};
+use crate::turns::{Ending, Entering, Freeing, Leaving, Registering, Retiring};
+use seize::rows::{Defers, Settle, needed_bucket};
 use seize::states::{ACTIVE, FREE, HEAD, IDLE, LAST_SLOT, NEVER};
 use seize_blocks::{Blocks, Seat};
-use seize_words::{At, Fault};
+use seize_words::{At, Fault, Link};
+use std::sync::Wait;
 
-/// One of those who share the memory: a seat of it, with the memory.
+/// One of those who share the memory: a seat of it, with the memory. It is a memory for the rows that it has under way.
 #[derive(Drop)]
 pub struct Caller<'a, T: Defers> {
     pub(crate) blocks: &'a Blocks<T, OfRows>,
+    pub(crate) batch_size: u64,
     pub(crate) seat: Seat<T, OfRows>,
     ghost own: { seat.base ≡ blocks.now.words.id.views_name },
+    ghost sized: { blocks.now.words.fixed.batch_size ≡ batch_size },
 }
 
 impl<'a, T: Defers> Caller<'a, T> {
-    /// One more of them, who holds no slot.
-    pub fn new(blocks: &'a Blocks<T, OfRows>) -> Self
-        ensures { result.seat.view ≡ Rests }
+    /// One more of them, who holds no slot. The size of batches is the one that was chosen as the memory was opened.
+    pub fn new(blocks: &'a Blocks<T, OfRows>, batch_size: u64) -> Self
+        requires { blocks.now.words.fixed.batch_size ≡ batch_size }
+        ensures rests { result.seat.view ≡ Rests }
+        ensures blocks { result.blocks.now ≡ blocks.now }
     {
         let seat = blocks.seat();
-        Caller { blocks, seat }
+        Caller {
+            blocks,
+            batch_size,
+            seat,
+        }
     }
 
     /// Begins to look for a slot.
@@ -34,16 +47,18 @@ impl<'a, T: Defers> Caller<'a, T> {
         requires rests { self.old.seat.view ≡ Rests }
         ensures looks { IfOk result (λ _. self.new.seat.view ≡ seeks 0) }
         ensures refused { IfErr result (λ fault. self.new.seat.view ≡ Rests) }
+        ensures blocks { self.new.blocks ≡ self.old.blocks }
     {
         self.blocks.turn::<Registering>(&mut self.seat);
         self.blocks.room(&mut self.seat, 0)
     }
 
     /// Takes a slot whose head was seen so, if no other caller is faster.
-    fn take(&mut self, slot: u64, seen: u64) -> bool
+    fn occupy(&mut self, slot: u64, seen: u64) -> bool
         requires { self.old.seat.view ≡ Registers (row_at slot (Take seen)) }
         ensures taken { result ≡ true → self.new.seat.view ≡ Outside slot }
         ensures lost { result ≡ false → self.new.seat.view ≡ seeks (slot + 1) }
+        ensures blocks { self.new.blocks ≡ self.old.blocks }
     {
         self.blocks
             .exchange(&mut self.seat, At::Slot(slot, HEAD), seen, IDLE)
@@ -57,6 +72,7 @@ impl<'a, T: Defers> Caller<'a, T> {
         ensures taken { IfOk result (λ t. t ≡ true → self.new.seat.view ≡ Outside slot) }
         ensures lost { IfOk result (λ t. t ≡ false → self.new.seat.view ≡ seeks (slot + 1)) }
         ensures refused { IfErr result (λ fault. self.new.seat.view ≡ Rests) }
+        ensures blocks { self.new.blocks ≡ self.old.blocks }
     {
         let seen = self.blocks.load(&mut self.seat, At::Slot(slot, HEAD));
         if seen != NEVER && seen != FREE {
@@ -65,7 +81,7 @@ impl<'a, T: Defers> Caller<'a, T> {
         if let Some(bucket) = needed_bucket(slot) {
             self.blocks.room(&mut self.seat, bucket)?;
         }
-        Ok(self.take(slot, seen))
+        Ok(self.occupy(slot, seen))
     }
 
     /// Takes the first slot that can be taken.
@@ -73,6 +89,7 @@ impl<'a, T: Defers> Caller<'a, T> {
         requires rests { self.old.seat.view ≡ Rests }
         ensures taken { IfOk result (λ slot. self.new.seat.view ≡ Outside slot) }
         ensures refused { IfErr result (λ fault. self.new.seat.view ≡ Rests) }
+        ensures blocks { self.new.blocks ≡ self.old.blocks }
     {
         self.begin()?;
         for slot in 0..LAST_SLOT + 1 {
@@ -86,20 +103,29 @@ impl<'a, T: Defers> Caller<'a, T> {
     /// Opens a section of its slot.
     pub fn enter(&mut self, slot: u64)
         requires outside { self.old.seat.view ≡ Outside slot }
-        ensures inside { self.new.seat.view ≡ Inside slot }
+        ensures inside { self.new.seat.view ≡ Inside slot Nothing }
+        ensures blocks { self.new.blocks ≡ self.old.blocks }
     {
         self.blocks.turn::<Entering>(&mut self.seat);
         self.blocks
             .store(&mut self.seat, At::Slot(slot, HEAD), ACTIVE);
     }
 
-    /// Ends the section.
-    pub fn leave(&mut self, slot: u64)
-        requires inside { self.old.seat.view ≡ Inside slot }
+    /// Ends the section: what its slot's list owes is settled. A value that is reclaimed is dropped.
+    pub fn leave<W: Wait>(&mut self, rt: &W, slot: u64)
+    where
+        T: Drop,
+        requires inside { (has : Has) × IsLooking has × (self.old.seat.view ≡ Inside slot has) }
         ensures outside { self.new.seat.view ≡ Outside slot }
+        ensures blocks { self.new.blocks ≡ self.old.blocks }
     {
         self.blocks.turn::<Leaving>(&mut self.seat);
-        self.blocks.swap(&mut self.seat, At::Slot(slot, HEAD), IDLE);
+        let head = self.blocks.swap(&mut self.seat, At::Slot(slot, HEAD), IDLE);
+        if head > ACTIVE {
+            let mut row = Settle::count_down(slot, self.batch_size, head);
+            self.settles(rt, &mut row);
+            self.blocks.turn::<Ending>(&mut self.seat);
+        }
         self.blocks.turn::<Ending>(&mut self.seat);
     }
 
@@ -107,9 +133,107 @@ impl<'a, T: Defers> Caller<'a, T> {
     pub fn unregister(&mut self, slot: u64)
         requires outside { self.old.seat.view ≡ Outside slot }
         ensures rests { self.new.seat.view ≡ Rests }
+        ensures blocks { self.new.blocks ≡ self.old.blocks }
     {
         self.blocks.turn::<Freeing>(&mut self.seat);
         self.blocks
             .store(&mut self.seat, At::Slot(slot, HEAD), FREE);
     }
+
+    /// Makes a block within the section of its slot, of a value that keeps no list. Where no number is free the value comes back.
+    pub fn make(&mut self, _slot: u64, value: T) -> Result<u64, T>
+        requires inside { self.old.seat.view ≡ Inside _slot Nothing }
+        requires plain { T.defers value ≡ None }
+        ensures made { IfOk result (λ block. (self.new.seat.view ≡ Inside _slot (Made block)) × (block < 2 ^ 53)) }
+        ensures refused { IfErr result (λ back. self.new.seat.view ≡ Inside _slot Nothing) }
+        ensures blocks { self.new.blocks ≡ self.old.blocks }
+    {
+        self.blocks.make(&mut self.seat, value, 0)
+    }
+
+    /// Takes the block away that it has made.
+    pub fn take(&mut self, _slot: u64, block: u64) -> T
+        requires has { self.old.seat.view ≡ Inside _slot (Made block) }
+        ensures taken { self.new.seat.view ≡ Inside _slot Nothing }
+        ensures blocks { self.new.blocks ≡ self.old.blocks }
+    {
+        self.blocks.take(&mut self.seat, block)
+    }
+
+    /// Puts the block that it has made at a root, and answers which one was there, and is to be retired.
+    pub fn publish(&mut self, _slot: u64, root: u64, block: u64) -> Option<u64>
+        requires has { self.old.seat.view ≡ Inside _slot (Made block) }
+        requires root { root < self.old.blocks.now.words.fixed.roots }
+        requires fits { block < 2 ^ 53 }
+        ensures cut { IfSome result (λ old. (self.new.seat.view ≡ Inside _slot (Cut old)) × (old < 2 ^ 53)) }
+        ensures none { IfNone result (self.new.seat.view ≡ Inside _slot Nothing) }
+        ensures blocks { self.new.blocks ≡ self.old.blocks }
+    {
+        let old = self
+            .blocks
+            .swap(&mut self.seat, At::Root(root), Link::to(block));
+        named(old)
+    }
+
+    /// Takes the block from a root, and answers which one was there, and is to be retired.
+    pub fn remove(&mut self, _slot: u64, root: u64) -> Option<u64>
+        requires inside { self.old.seat.view ≡ Inside _slot Nothing }
+        requires root { root < self.old.blocks.now.words.fixed.roots }
+        ensures cut { IfSome result (λ old. (self.new.seat.view ≡ Inside _slot (Cut old)) × (old < 2 ^ 53)) }
+        ensures none { IfNone result (self.new.seat.view ≡ Inside _slot Nothing) }
+        ensures blocks { self.new.blocks ≡ self.old.blocks }
+    {
+        let old = self.blocks.swap(&mut self.seat, At::Root(root), 0);
+        named(old)
+    }
+
+    /// Sees which block is at a root. Its section holds it from now on.
+    pub fn see(&mut self, _slot: u64, root: u64) -> Option<u64>
+        requires inside { self.old.seat.view ≡ Inside _slot Nothing }
+        requires root { root < self.old.blocks.now.words.fixed.roots }
+        ensures seen { IfSome result (λ block. self.new.seat.view ≡ Inside _slot (Seen block)) }
+        ensures none { IfNone result (self.new.seat.view ≡ Inside _slot Nothing) }
+        ensures blocks { self.new.blocks ≡ self.old.blocks }
+    {
+        let word = self.blocks.load(&mut self.seat, At::Root(root));
+        named(word)
+    }
+
+    /// The value of a block that it has seen, for as long as it is borrowed: whoever retires the block meanwhile, its section holds it.
+    pub fn value(&self, _slot: u64, block: u64) -> &T
+        requires seen { self.now.seat.view ≡ Inside _slot (Seen block) }
+    {
+        self.blocks.value(&self.seat, block)
+    }
+
+    /// The value of the block that it has made, for as long as it is borrowed.
+    pub fn own(&self, _slot: u64, block: u64) -> &T
+        requires made { self.now.seat.view ≡ Inside _slot (Made block) }
+    {
+        self.blocks.value(&self.seat, block)
+    }
+
+    /// Retires the block that it has taken from a root. A value that is reclaimed is dropped.
+    pub fn retire<W: Wait>(&mut self, rt: &W, slot: u64, block: u64)
+    where
+        T: Drop,
+        requires cut { self.old.seat.view ≡ Inside slot (Cut block) }
+        requires fits { block < 2 ^ 53 }
+        ensures inside { self.new.seat.view ≡ Inside slot Nothing }
+        ensures blocks { self.new.blocks ≡ self.old.blocks }
+    {
+        self.blocks.turn::<Retiring>(&mut self.seat);
+        let mut row = Settle::retire(slot, self.batch_size, Link::to(block));
+        self.settles(rt, &mut row);
+        self.blocks.turn::<Ending>(&mut self.seat);
+    }
+}
+
+/// The block that a word of a root names.
+fn named(word: u64) -> Option<u64>
+    ensures some { IfSome result (λ block. (block ≡ block_in word) × (block < 2 ^ 53) × (block ≢ 0)) }
+    ensures none { IfNone result (block_in word ≡ 0) }
+{
+    let block = Link::block_of(word);
+    if block == 0 { None } else { Some(block) }
 }

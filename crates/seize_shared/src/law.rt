@@ -1,5 +1,5 @@
 //! What is promised of the rule of the collector's rows.
-ghost use Rattle.seize_shared.specs.Promises.{RulesStart, SeatsCome, RowsGoOn, RowsTurn};
+ghost use Rattle.seize_shared.specs.Promises.{RulesStart, SeatsCome, RowsGoOn, RowsTurn, BlocksAreMade, MadeAreTaken, MadeAreLinked, RootsAreSeen, RootsAreCleared, KnownAreShown, LookedAreShown};
 
 use seize::rows::Defers;
 
@@ -9,4 +9,15 @@ pub fn rows_go_on<T: Defers>()
     ensures come { SeatsCome T T.defers }
     ensures on { RowsGoOn T T.defers }
     ensures turn { RowsTurn T T.defers }
+    ensures looked { LookedAreShown T T.defers }
+{}
+
+/// Within a section a block may be made, taken away by its maker, put at a root, seen there, and taken from there, and the block that is known may be looked at.
+pub fn sections_go_on<T: Defers>()
+    ensures made { BlocksAreMade T T.defers }
+    ensures taken { MadeAreTaken T T.defers }
+    ensures linked { MadeAreLinked T T.defers }
+    ensures seen { RootsAreSeen T T.defers }
+    ensures cleared { RootsAreCleared T T.defers }
+    ensures known { KnownAreShown T T.defers }
 {}

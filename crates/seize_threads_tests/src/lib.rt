@@ -4,8 +4,14 @@
 #[cfg(test)]
 mod counting;
 #[cfg(test)]
+mod ground;
+#[cfg(test)]
 mod looking;
 #[cfg(test)]
+mod making;
+#[cfg(test)]
 mod owning;
+#[cfg(test)]
+mod retiring;
 #[cfg(test)]
 mod sections;

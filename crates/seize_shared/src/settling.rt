@@ -1,0 +1,111 @@
+//! A caller as the memory of the rows that it has under way, and how it takes a settling to its end.
+ghost use Rattle.std.specs.Prelude.{◌≡◌, ◌≢◌, true, false};
+ghost use Rattle.seize.specs.declared.rows.settle.Settling.TheVariants.{Over};
+ghost use Rattle.seize_shared.specs.Made.{IsSettling};
+ghost use Rattle.seize_shared.specs.declared.view.Why.{Why};
+
+use crate::caller::Caller;
+use seize::Machine;
+use seize::rows::{Defers, Settle, Settled, Settling};
+use seize_words::{At, Fault, Look, Memory};
+use std::sync::Wait;
+
+/// Whether a settling has ended.
+fn is_over(row: &Settle) -> bool
+    ensures over { result ≡ true → row.now.stands ≡ Over }
+    ensures not { result ≡ false → row.now.stands ≢ Over }
+{
+    matches!(row.stands, Settling::Over)
+}
+
+impl<'a, T: Defers> Caller<'a, T> {
+    /// Takes the next step of a settling that is not over, and answers the value that it has reclaimed, if it has.
+    fn steps(&mut self, row: &mut Settle) -> Option<T>
+        requires settling { (why : Why) × IsSettling why row.old self.old.seat.view }
+        requires not { row.old.stands ≢ Over }
+        ensures settling { (why : Why) → IsSettling why row.old self.old.seat.view → IsSettling why row.new self.new.seat.view }
+        ensures slot { row.new.slot ≡ row.old.slot }
+        ensures blocks { self.new.blocks ≡ self.old.blocks }
+    {
+        match row.step(self) {
+            Settled::Gave(value) => Some(value),
+            _ => None,
+        }
+    }
+
+    /// Takes a settling to its end. A value that is reclaimed is dropped.
+    pub(crate) fn settles<W: Wait>(&mut self, rt: &W, row: &mut Settle)
+    where
+        T: Drop,
+        requires settling { (why : Why) × IsSettling why row.old self.old.seat.view }
+        ensures settling { (why : Why) → IsSettling why row.old self.old.seat.view → IsSettling why row.new self.new.seat.view }
+        ensures over { row.new.stands ≡ Over }
+        ensures slot { row.new.slot ≡ row.old.slot }
+        ensures blocks { self.new.blocks ≡ self.old.blocks }
+    {
+        for _ in rt.forever() {
+            if is_over(row) {
+                return;
+            }
+            drop(self.steps(row));
+        }
+        unreachable!()
+    }
+}
+
+impl<'a, T: Defers> Look<T> for Caller<'a, T> {
+    ghost use Rattle.seize_shared.specs.Made.{CanMake, HasMade, shown_of};
+
+    ghost can = { CanMake T.defers };
+
+    ghost took = { HasMade T.defers };
+
+    ghost shown = { shown_of };
+
+    fn load(&mut self, at: At) -> u64 {
+        self.blocks.load(&mut self.seat, at)
+    }
+
+    fn value(&self, block: u64) -> &T {
+        self.blocks.value(&self.seat, block)
+    }
+}
+
+impl<'a, T: Defers> Memory<T> for Caller<'a, T> {
+    fn store(&mut self, at: At, word: u64) {
+        self.blocks.store(&mut self.seat, at, word);
+    }
+
+    fn swap(&mut self, at: At, word: u64) -> u64 {
+        self.blocks.swap(&mut self.seat, at, word)
+    }
+
+    fn add(&mut self, at: At, by: u64) -> u64 {
+        self.blocks.add(&mut self.seat, at, by)
+    }
+
+    fn or(&mut self, at: At, bits: u64) -> u64 {
+        self.blocks.or(&mut self.seat, at, bits)
+    }
+
+    fn exchange(&mut self, at: At, old: u64, new: u64) -> Result<u64, u64> {
+        self.blocks.exchange(&mut self.seat, at, old, new)
+    }
+
+    fn make(&mut self, value: T, words: u64) -> Result<u64, T> {
+        self.blocks.make(&mut self.seat, value, words)
+    }
+
+    fn take(&mut self, block: u64) -> T {
+        self.blocks.take(&mut self.seat, block)
+    }
+
+    /// No row of the collector replaces a value.
+    fn rewrite(&mut self, _block: u64, _value: T) -> T {
+        unreachable!()
+    }
+
+    fn room(&mut self, bucket: u64) -> Result<(), Fault> {
+        self.blocks.room(&mut self.seat, bucket)
+    }
+}

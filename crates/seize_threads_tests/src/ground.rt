@@ -1,0 +1,16 @@
+//! A memory of the collector as the tests use it.
+ghost use Rattle.std.specs.Prelude.{◌≡◌, ◌<◌};
+
+use seize::rows::Defers;
+use seize_blocks::Blocks;
+use seize_shared::OfRows;
+
+/// The size of batches.
+pub(crate) const SIZE: u64 = 4;
+
+/// A memory with batches of four and a root.
+pub(crate) struct Ground<'a, T: Defers> {
+    pub(crate) blocks: &'a Blocks<T, OfRows>,
+    ghost sized: { blocks.now.words.fixed.batch_size ≡ 4 },
+    ghost rooted: { 0 < blocks.now.words.fixed.roots },
+}
