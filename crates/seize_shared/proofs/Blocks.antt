@@ -338,32 +338,29 @@ module _ {T : Type 0} (defers : T → Option ℕ) (fixed : Fixed) (s : State T (
       → Goes H Keeps s m id so
   unlinked a old m n so is u named still was fresh = by (block_in old == 0) refl was
     where
-      cut : ℕ
-      cut = block_in old
+      at_view : (y : Bool) → (block_in old == 0) ≡ y → so (Inside t (if y then Nothing else Cut (block_in old)))
+      at_view y e = subst (λ (z : Bool). so (Inside t (if z then Nothing else Cut (block_in old)))) e is
 
-      at_view : (y : Bool) → (cut == 0) ≡ y → so (Inside t (if y then Nothing else Cut cut))
-      at_view y e = subst (λ (z : Bool). so (Inside t (if z then Nothing else Cut cut))) e is
-
-      by : (y : Bool) → (cut == 0) ≡ y → (cut ≡ 0) ⊎ (w.hand cut ≡ world.InUse a) → Goes H Keeps s m id so
+      by : (y : Bool) → (block_in old == 0) ≡ y → (block_in old ≡ 0) ⊎ (w.hand (block_in old) ≡ world.InUse a) → Goes H Keeps s m id so
       by true e was = users m n Nothing u so (at_view true e)
-      by false e (inl none) = absurd (let k = eq-eqb cut 0 none in cc (k, e))
+      by false e (inl none) = absurd (let k = eq-eqb (block_in old) 0 none in cc (k, e))
       by false e (inr linked) =
-          let mine : n.hand cut ≡ world.InUse a = still cut linked in
-          let v : World T = with_effect (with_hand n cut (world.Cutting id)) (Unlinked cut) in
+          let mine : n.hand (block_in old) ≡ world.InUse a = still (block_in old) linked in
+          let v : World T = with_effect (with_hand n (block_in old) (world.Cutting id)) (Unlinked (block_in old)) in
           let keep : (b : ℕ) (k : Hand) → (k ≡ world.InUse a → ⊥) → n.hand b ≡ k → v.hand b ≡ k =
-          (λ b k ne f. with_other n.hand cut b (world.Cutting id) (λ q. ne (sym f ∙ ap n.hand q ∙ mine)) ∙ f) in
-          users m v (Cut cut) (record {
-            came = came_then defers fixed n v (Unlinks id cut) u.came (subst (λ (k : Hand). MayCut id k) (sym mine) tt, refl);
+          (λ b k ne f. with_other n.hand (block_in old) b (world.Cutting id) (λ q. ne (sym f ∙ ap n.hand q ∙ mine)) ∙ f) in
+          users m v (Cut (block_in old)) (record {
+            came = came_then defers fixed n v (Unlinks id (block_in old)) u.came (subst (λ (k : Hand). MayCut id k) (sym mine) tt, refl);
             memory = u.memory;
             row = u.row;
             uses = u.uses;
-            in_hand = with_here n.hand cut (world.Cutting id);
+            in_hand = with_here n.hand (block_in old) (world.Cutting id);
             hands = λ j b ne. (
               λ f. keep b (world.Making j) (making_use j a) ((u.hands j b ne).0 f),
               λ f. keep b (world.Cutting j) (cutting_use j a) ((u.hands j b ne).1 f),
             );
             values = u.values;
-            held = λ c b held. held_on c b (Unlinked cut) n.log tt (u.held c b held);
+            held = λ c b held. held_on c b (Unlinked (block_in old)) n.log tt (u.held c b held);
             over = u.over;
             roots = λ c found e. elim (fresh c found e) as (λ _. (block_in found ≡ 0) ⊎ (v.hand (block_in found) ≡ world.InUse c)) [
               | inl none ↦ inl none
@@ -372,10 +369,10 @@ module _ {T : Type 0} (defers : T → Option ℕ) (fixed : Fixed) (s : State T (
             rooted = u.rooted;
           }) so (at_view false e)
         where
-          other : (c found : ℕ) → (block_in found ≡ 0) ⊎ (n.hand (block_in found) ≡ world.InUse c) → block_in found ≢ cut
-              → (block_in found ≡ 0) ⊎ (with_at n.hand cut (world.Cutting id) (block_in found) ≡ world.InUse c)
+          other : (c found : ℕ) → (block_in found ≡ 0) ⊎ (n.hand (block_in found) ≡ world.InUse c) → block_in found ≢ (block_in old)
+              → (block_in found ≡ 0) ⊎ (with_at n.hand (block_in old) (world.Cutting id) (block_in found) ≡ world.InUse c)
           other c found (inl none) ne = inl none
-          other c found (inr f) ne = inr (with_other n.hand cut (block_in found) (world.Cutting id) ne ∙ f)
+          other c found (inr f) ne = inr (with_other n.hand (block_in old) (block_in found) (world.Cutting id) ne ∙ f)
 
   -- no root names the block that was taken from one
   fresh : (a word old : ℕ) (m : Mem T) → Took s.memory (Swap (Root a) word) (Found old) m → (block_in old ≡ 0) ⊎ (w.hand (block_in old) ≡ world.InUse a)
@@ -487,12 +484,9 @@ module _ (T : Type 0) (defers : T → Option ℕ) where
   pub made_are_linked : MadeAreLinked T defers
   made_are_linked b a fixed id t lt s h at = (root_can defers fixed s id t (Made b) h at a lt, λ out m took. by out m took)
     where
-      op : Op T
-      op = Swap (Root a) (link_to b)
-
-      by : (out : Out T) (m : Mem T) → Took s.memory op out m → Goes (Holds defers fixed) Keeps s m id (told defers (Inside t (Made b)) op out)
+      by : (out : Out T) (m : Mem T) → Took s.memory (Swap (Root a) (link_to b)) out m → Goes (Holds defers fixed) Keeps s m id (told defers (Inside t (Made b)) (Swap (Root a) (link_to b)) out)
       by (Found old) m took =
-          links defers fixed s id t (Made b) h at b a refl old m took (told defers (Inside t (Made b)) op (Found old)) (cut_in old, refl, refl)
+          links defers fixed s id t (Made b) h at b a refl old m took (told defers (Inside t (Made b)) (Swap (Root a) (link_to b)) (Found old)) (cut_in old, refl, refl)
       by Stored m took = absurd took.0
       by (Exchanged x) m took = absurd took.0
       by (OutMade x) m took = absurd took.0
@@ -502,12 +496,9 @@ module _ (T : Type 0) (defers : T → Option ℕ) where
   pub roots_are_cleared : RootsAreCleared T defers
   roots_are_cleared a fixed id t lt s h at = (root_can defers fixed s id t Nothing h at a lt, λ out m took. by out m took)
     where
-      op : Op T
-      op = Swap (Root a) 0
-
-      by : (out : Out T) (m : Mem T) → Took s.memory op out m → Goes (Holds defers fixed) Keeps s m id (told defers (Inside t Nothing) op out)
+      by : (out : Out T) (m : Mem T) → Took s.memory (Swap (Root a) 0) out m → Goes (Holds defers fixed) Keeps s m id (told defers (Inside t Nothing) (Swap (Root a) 0) out)
       by (Found old) m took =
-          clears defers fixed s id t Nothing h at a old m took (told defers (Inside t Nothing) op (Found old)) (cut_in old, refl, refl)
+          clears defers fixed s id t Nothing h at a old m took (told defers (Inside t Nothing) (Swap (Root a) 0) (Found old)) (cut_in old, refl, refl)
       by Stored m took = absurd took.0
       by (Exchanged x) m took = absurd took.0
       by (OutMade x) m took = absurd took.0

@@ -25,6 +25,7 @@ use Rattle.seize_shared.specs.declared.view.View.TheVariants.{Rests, Registers, 
 use Rattle.seize_shared.specs.declared.view.Why.{Why}
 use Rattle.seize_shared.specs.declared.view.Fixed.{Fixed}
 use Rattle.seize_shared.specs.declared.caller.Caller.{Caller}
+use Rattle.seize_shared.proofs.Calls.{may_go_on}
 use Rattle.seize_shared.proofs.Looks.{rest_of, LooksOnce, once, ends_may, ends_same}
 
 -- it makes an operation
@@ -55,7 +56,7 @@ module _ {T : Type 0} (defers : T → Option ℕ) where
   module _ (caller : Caller T) (c : Settle) (why : Why) (is : IsSettling why c caller.seat.view) (ne : c.stands ≡ at.Over → ⊥) where
     -- what is told of a settling's operation
     goes_on : (op : Op T) (out : Out T) (n : Caller T) → HasMade defers caller op out n → GoesOn defers c why out n.seat.view
-    goes_on op out n made = subst (λ (v : View T). told defers v op out n.seat.view) is.1 made.2
+    goes_on op out n made = subst (λ (v : View T). told defers v op out n.seat.view) is.1 made.told
 
     shows : (n : Caller T) (d : Settle) (seen : Option (ℕ × T)) → n.seat.view ≡ Settles d why seen → shown_of n ≡ shown_by seen
     shows n d seen e = ap (λ (v : View T). shown_in v) e
@@ -63,7 +64,10 @@ module _ {T : Type 0} (defers : T → Option ℕ) where
     pub may_step : May (CanMake defers) (HasMade defers) shown_of caller (settle_plan defers c)
     may_step =
         may_by (CanMake defers) (HasMade defers) shown_of caller (settle_plan defers c) (is_do c c.stands ne)
-        (λ op e. ap (op_of defers) is.1 ∙ e)
+        (λ op e. record {
+          next = ap (op_of defers) is.1 ∙ e;
+          may = may_go_on defers caller.blocks.now.words.fixed caller.seat.id caller.seat.view (Settles c why is.0) is.1 op e;
+        })
         (λ op out n e made.
         let g = goes_on op out n made in
         (g.end, subst (λ (f : ℕ → Option T). FollowsBy f (settle_plan defers c) out g.end) (sym (shows n g.end.0 g.seen g.view)) g.follows))
@@ -78,7 +82,7 @@ module _ {T : Type 0} (defers : T → Option ℕ) where
         (subst (λ (f : ℕ → Option T). FollowsBy f (settle_plan defers c) k.1 g.end) (sym (shows n g.end.0 g.seen g.view)) g.follows) in (
           (g.seen, g.view ∙ ap (λ (x : Settle × Settled T). Settles x.0 why g.seen) (sym same)),
           ap (λ (x : Settle × Settled T). x.0.slot) same ∙ g.slot,
-          k.2.0,
+          k.2.blocks,
         )
 
   -- no row rewrites a block

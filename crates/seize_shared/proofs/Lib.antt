@@ -9,6 +9,6 @@ pub mod Looks
 pub mod Settling
 pub mod GoesOn
 pub mod Blocks
-pub mod Drives
 pub mod Calls
+pub mod Drives
 pub mod Seen

@@ -85,21 +85,18 @@ module _ {T : Type 0} (defers : T → Option ℕ) (fixed : Fixed) where
       can : Can s.memory (Swap (Slot t HEAD) IDLE)
       can = subst (λ (m : Mem T). Can m (Swap (Slot t HEAD) IDLE)) (sym h.memory) (may s id (Leaves t size) h at).0
 
-      c : Leave
-      c = leave_of t size
-
       took_here : (head : ℕ) (m : Mem T) → Took s.memory (Swap (Slot t HEAD) IDLE) (Found head) m → Took s.world.memory (Swap (Slot t HEAD) IDLE) (Found head) m
       took_here head m took = subst (λ (x : Mem T). Took x (Swap (Slot t HEAD) IDLE) (Found head) m) h.memory took
 
-      slot : (d : Leave) (m : Mem T) → (leaves_on s.world id c m (d, settled.Goes)).uses t ≡ world.Changing
+      slot : (d : Leave) (m : Mem T) → (leaves_on s.world id (leave_of t size) m (d, settled.Goes)).uses t ≡ world.Changing
       slot d m = with_here s.world.uses t (s.world.uses t) ∙ (h.seats id (Leaves t size) at).slot
 
       goes : (head : ℕ) (m : Mem T) → Took s.memory (Swap (Slot t HEAD) IDLE) (Found head) m → (b : Bool) → nat_lt ACTIVE head ≡ b
           → Goes H Keeps s m id (λ u. u ≡ list_taken t size head)
       goes head m took true e =
           let u : View T = Settles (counting_down t size head) (Ending size) None in
-          let d : Leave = standing c (leaving_at.Settles (counting_down t size head)) in
-          let n : World T = leaves_on s.world id c m (d, settled.Goes) in
+          let d : Leave = standing (leave_of t size) (leaving_at.Settles (counting_down t size head)) in
+          let n : World T = leaves_on s.world id (leave_of t size) m (d, settled.Goes) in
           moved defers fixed s id (Leaves t size) u m n (λ x. x ≡ list_taken t size head) h at
           (stepped defers fixed s id (Leaves t size) h at u m n (m, (d, settled.Goes), (Found head, took_here head m took, rw e refl), refl) refl
           (record { row = with_here s.world.row id (world.Leaves d); slot = slot d m; short = tt; known = tt })
@@ -107,8 +104,8 @@ module _ {T : Type 0} (defers : T → Option ℕ) (fixed : Fixed) where
           (rw e refl)
       goes head m took false e =
           let u : View T = Left t size in
-          let d : Leave = standing c leaving_at.Over in
-          let n : World T = leaves_on s.world id c m (d, settled.Goes) in
+          let d : Leave = standing (leave_of t size) leaving_at.Over in
+          let n : World T = leaves_on s.world id (leave_of t size) m (d, settled.Goes) in
           moved defers fixed s id (Leaves t size) u m n (λ x. x ≡ list_taken t size head) h at
           (stepped defers fixed s id (Leaves t size) h at u m n (m, (d, settled.Goes), (Found head, took_here head m took, rw e refl), refl) refl
           (record { row = with_here s.world.row id (world.Leaves d); slot = slot d m; short = tt; known = tt })

@@ -93,7 +93,7 @@ module _ {T : Type 0} (defers : T → Option ℕ) (fixed : Fixed) (s : State T (
       (h.seats id v at_id).row (r.good.rows id))
 
   -- the world after a step, by what it is for
-  after : Why → Mem T → Settle × Settled T → World T
+  abbrev after : Why → Mem T → Settle × Settled T → World T
   after Retiring m end = settles_on w id c m end
   after (Ending size) m end = leaves_on w id (counting size c) m (leave_settled (counting size c) end)
 

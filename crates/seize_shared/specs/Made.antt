@@ -2,8 +2,10 @@
 use Rattle.std.specs.Prelude.{◌≡◌, ℕ, Option, Some, None}
 use Rattle.seize_words.specs.Op.{Op, Out}
 use Rattle.seize.specs.declared.rows.settle.Settle.{Settle}
+use Rattle.seize_seats.specs.State.{Allows}
+use Rattle.seize_shared.specs.Rows.{Holds, Keeps}
 use Rattle.seize_shared.specs.Promises.{op_of}
-use Rattle.seize_shared.specs.Told.{shown_by, told}
+use Rattle.seize_shared.specs.Told.{shown_by, told as has_been_told}
 use Rattle.seize_shared.specs.declared.view.View.{View}
 use Rattle.seize_shared.specs.declared.view.View.TheVariants.{Settles}
 use Rattle.seize_shared.specs.declared.view.Why.{Why}
@@ -18,13 +20,15 @@ module _ {T : Type 0} where
   abbrev pub shown_of : Caller T → ℕ → Option T
   shown_of c b = shown_in c.seat.view b
 
-  -- the next operation of its row is this one
-  abbrev pub CanMake : (T → Option ℕ) → Caller T → Op T → Type 0
-  CanMake defers c op = op_of defers c.seat.view ≡ Some op
+  -- the next operation of its row is this one, and it may be made
+  pub record CanMake (defers : T → Option ℕ) (c : Caller T) (op : Op T) : Type 0 where
+    pub next : op_of defers c.seat.view ≡ Some op
+    pub may : Allows (Holds defers c.blocks.now.words.fixed) Keeps c.seat.id c.seat.view op (has_been_told defers c.seat.view op)
 
   -- it has made it, and knows what it told
-  abbrev pub HasMade : (T → Option ℕ) → Caller T → Op T → Out T → Caller T → Type 0
-  HasMade defers c op out n = (n.blocks ≡ c.blocks) × (n.batch_size ≡ c.batch_size) × told defers c.seat.view op out n.seat.view
+  pub record HasMade (defers : T → Option ℕ) (c : Caller T) (op : Op T) (out : Out T) (n : Caller T) : Type 0 where
+    pub blocks : n.blocks ≡ c.blocks
+    pub told : has_been_told defers c.seat.view op out n.seat.view
 
   -- it has this settling under way
   abbrev pub IsSettling : Why → Settle → View T → Type 0

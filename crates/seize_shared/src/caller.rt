@@ -3,19 +3,16 @@ ghost use Rattle.std.specs.Prelude.{◌≡◌, ◌≢◌, ◌<◌, ◌+◌, ◌^
 ghost use Rattle.seize_words.specs.Word.{block_in};
 ghost use Rattle.seize.specs.declared.states.TheConstants.{LAST_SLOT};
 ghost use Rattle.seize.specs.declared.rows.register.Registering.TheVariants.{Take};
-ghost use Rattle.seize_shared.specs.Promises.{IsLooking};
 ghost use Rattle.seize_shared.specs.Seeking.{row_at, seeks};
-ghost use Rattle.seize_shared.specs.declared.view.Has.{Has};
 ghost use Rattle.seize_shared.specs.declared.view.View.TheVariants.{Rests, Registers, Outside, Inside};
 ghost use Rattle.seize_shared.specs.declared.view.Has.TheVariants.{Nothing, Made, Seen, Cut};
 
 use crate::rows::OfRows;
-use crate::turns::{Ending, Entering, Freeing, Leaving, Registering, Retiring};
-use seize::rows::{Defers, Settle, needed_bucket};
+use crate::turns::{Entering, Freeing, Registering};
+use seize::rows::{Defers, needed_bucket};
 use seize::states::{ACTIVE, FREE, HEAD, IDLE, LAST_SLOT, NEVER};
 use seize_blocks::{Blocks, Seat};
 use seize_words::{At, Fault, Link};
-use std::sync::Wait;
 
 /// One of those who share the memory: a seat of it, with the memory. It is a memory for the rows that it has under way.
 #[derive(Drop)]
@@ -111,24 +108,6 @@ impl<'a, T: Defers> Caller<'a, T> {
             .store(&mut self.seat, At::Slot(slot, HEAD), ACTIVE);
     }
 
-    /// Ends the section: what its slot's list owes is settled. A value that is reclaimed is dropped.
-    pub fn leave<W: Wait>(&mut self, rt: &W, slot: u64)
-    where
-        T: Drop,
-        requires inside { (has : Has) × IsLooking has × (self.old.seat.view ≡ Inside slot has) }
-        ensures outside { self.new.seat.view ≡ Outside slot }
-        ensures blocks { self.new.blocks ≡ self.old.blocks }
-    {
-        self.blocks.turn::<Leaving>(&mut self.seat);
-        let head = self.blocks.swap(&mut self.seat, At::Slot(slot, HEAD), IDLE);
-        if head > ACTIVE {
-            let mut row = Settle::count_down(slot, self.batch_size, head);
-            self.settles(rt, &mut row);
-            self.blocks.turn::<Ending>(&mut self.seat);
-        }
-        self.blocks.turn::<Ending>(&mut self.seat);
-    }
-
     /// Gives its slot up.
     pub fn unregister(&mut self, slot: u64)
         requires outside { self.old.seat.view ≡ Outside slot }
@@ -211,21 +190,6 @@ impl<'a, T: Defers> Caller<'a, T> {
         requires made { self.now.seat.view ≡ Inside _slot (Made block) }
     {
         self.blocks.value(&self.seat, block)
-    }
-
-    /// Retires the block that it has taken from a root. A value that is reclaimed is dropped.
-    pub fn retire<W: Wait>(&mut self, rt: &W, slot: u64, block: u64)
-    where
-        T: Drop,
-        requires cut { self.old.seat.view ≡ Inside slot (Cut block) }
-        requires fits { block < 2 ^ 53 }
-        ensures inside { self.new.seat.view ≡ Inside slot Nothing }
-        ensures blocks { self.new.blocks ≡ self.old.blocks }
-    {
-        self.blocks.turn::<Retiring>(&mut self.seat);
-        let mut row = Settle::retire(slot, self.batch_size, Link::to(block));
-        self.settles(rt, &mut row);
-        self.blocks.turn::<Ending>(&mut self.seat);
     }
 }
 

@@ -1,13 +1,19 @@
-//! A caller as the memory of the rows that it has under way, and how it takes a settling to its end.
-ghost use Rattle.std.specs.Prelude.{◌≡◌, ◌≢◌, true, false};
+//! A caller as the memory of the rows that it has under way: it retires blocks, and leaves.
+ghost use Rattle.std.specs.Prelude.{◌≡◌, ◌≢◌, ◌<◌, ◌^◌, true, false};
 ghost use Rattle.seize.specs.declared.rows.settle.Settling.TheVariants.{Over};
 ghost use Rattle.seize_shared.specs.Made.{IsSettling};
+ghost use Rattle.seize_shared.specs.Promises.{IsLooking};
+ghost use Rattle.seize_shared.specs.declared.view.Has.{Has};
+ghost use Rattle.seize_shared.specs.declared.view.Has.TheVariants.{Nothing, Cut};
+ghost use Rattle.seize_shared.specs.declared.view.View.TheVariants.{Outside, Inside};
 ghost use Rattle.seize_shared.specs.declared.view.Why.{Why};
 
 use crate::caller::Caller;
+use crate::turns::{Ending, Leaving, Retiring};
 use seize::Machine;
 use seize::rows::{Defers, Settle, Settled, Settling};
-use seize_words::{At, Fault, Look, Memory};
+use seize::states::{ACTIVE, HEAD, IDLE};
+use seize_words::{At, Fault, Link, Look, Memory};
 use std::sync::Wait;
 
 /// Whether a settling has ended.
@@ -32,11 +38,11 @@ impl<'a, T: Defers> Caller<'a, T> {
             _ => None,
         }
     }
+}
 
+impl<'a, T: Defers + Drop> Caller<'a, T> {
     /// Takes a settling to its end. A value that is reclaimed is dropped.
     pub(crate) fn settles<W: Wait>(&mut self, rt: &W, row: &mut Settle)
-    where
-        T: Drop,
         requires settling { (why : Why) × IsSettling why row.old self.old.seat.view }
         ensures settling { (why : Why) → IsSettling why row.old self.old.seat.view → IsSettling why row.new self.new.seat.view }
         ensures over { row.new.stands ≡ Over }
@@ -50,6 +56,35 @@ impl<'a, T: Defers> Caller<'a, T> {
             drop(self.steps(row));
         }
         unreachable!()
+    }
+
+    /// Ends the section: what its slot's list owes is settled. A value that is reclaimed is dropped.
+    pub fn leave<W: Wait>(&mut self, rt: &W, slot: u64)
+        requires inside { (has : Has) × IsLooking has × (self.old.seat.view ≡ Inside slot has) }
+        ensures outside { self.new.seat.view ≡ Outside slot }
+        ensures blocks { self.new.blocks ≡ self.old.blocks }
+    {
+        self.blocks.turn::<Leaving>(&mut self.seat);
+        let head = self.blocks.swap(&mut self.seat, At::Slot(slot, HEAD), IDLE);
+        if head > ACTIVE {
+            let mut row = Settle::count_down(slot, self.batch_size, head);
+            self.settles(rt, &mut row);
+            self.blocks.turn::<Ending>(&mut self.seat);
+        }
+        self.blocks.turn::<Ending>(&mut self.seat);
+    }
+
+    /// Retires the block that it has taken from a root. A value that is reclaimed is dropped.
+    pub fn retire<W: Wait>(&mut self, rt: &W, slot: u64, block: u64)
+        requires cut { self.old.seat.view ≡ Inside slot (Cut block) }
+        requires fits { block < 2 ^ 53 }
+        ensures inside { self.new.seat.view ≡ Inside slot Nothing }
+        ensures blocks { self.new.blocks ≡ self.old.blocks }
+    {
+        self.blocks.turn::<Retiring>(&mut self.seat);
+        let mut row = Settle::retire(slot, self.batch_size, Link::to(block));
+        self.settles(rt, &mut row);
+        self.blocks.turn::<Ending>(&mut self.seat);
     }
 }
 
