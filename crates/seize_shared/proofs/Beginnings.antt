@@ -22,7 +22,6 @@ use Rattle.seize.specs.World as world
 use Rattle.seize_rule.proofs.Rows.Others.{with_here, with_other}
 use Rattle.seize_acts.proofs.Answers.{same_some}
 use Rattle.seize_seats.specs.State.{State, view_of, Turns, Comes, Starts}
-<<<<<<< HEAD
 use Rattle.seize_shared.specs.Rows.{row_of, use_of, leave_of, counting, IsShort, IsUsed, IsKnown, Fits, Holds, Keeps}
 use Rattle.seize_shared.specs.Promises.{IsNext, RulesStart, SeatsCome, RowsTurn}
 use Rattle.seize_shared.specs.declared.view.View.{View}
@@ -30,13 +29,6 @@ use Rattle.seize_shared.specs.declared.view.View.TheVariants.{Rests, Registers, 
 use Rattle.seize_shared.specs.declared.view.Has.{Has}
 use Rattle.seize_shared.specs.declared.view.Has.TheVariants.{Nothing, Made, Seen, Cut}
 use Rattle.seize_shared.specs.declared.view.Why.TheVariants.{Retiring, Ending}
-=======
-use Rattle.seize_shared.specs.Rows.{row_of, use_of, IsShort, IsUsed, IsKnown, Fits, Holds, Keeps}
-use Rattle.seize_shared.specs.Promises.{IsNext, RulesStart, SeatsCome, RowsTurn}
-use Rattle.seize_shared.specs.declared.view.View.{View}
-use Rattle.seize_shared.specs.declared.view.View.TheVariants.{Rests, Registers, Outside, Enters, Inside, Leaves, Left, Frees}
-use Rattle.seize_shared.specs.declared.view.Has.TheVariants.{Nothing, Made}
->>>>>>> b-blocks3
 use Rattle.seize_shared.specs.declared.view.Fixed.{Fixed}
 use Rattle.seize_shared.proofs.Lists.{with_last, none_before}
 use Rattle.seize_shared.proofs.Moved.{moved, used_so}
@@ -83,11 +75,7 @@ module _ {T : Type 0} (defers : T → Option ℕ) (fixed : Fixed) where
       let n : World T = with_use (with_row s.world id row) t world.Changing in
       moved defers fixed s id v u s.memory n (λ x. x ≡ u) h at_id
       (begun defers fixed s id v h at_id request u n
-<<<<<<< HEAD
       ((h.seats id v at_id).row ∙ rests, happens s (used (h.seats id v at_id).slot)) refl refl (λ j b ne. (λ is. is, λ is. is)) (λ b r is. is)
-=======
-      ((h.seats id v at_id).row ∙ rests, happens s (used (h.seats id v at_id).slot)) refl refl refl
->>>>>>> b-blocks3
       (λ j ne. with_other s.world.row id j row ne)
       (λ x apart. with_other s.world.uses t x world.Changing (λ e. apart a (mine ∙ ap (λ (k : ℕ). used_as k a) (sym e))))
       (own s h)
@@ -103,11 +91,7 @@ module _ {T : Type 0} (defers : T → Option ℕ) (fixed : Fixed) where
   -- the row of a seat fits that has begun
   begun_fits : (id t : ℕ) (u : View T) (row : Row) (s : State T (View T) (World T)) → use_of u ≡ used_as t world.Changing → row_of u ≡ row
       → IsShort u
-<<<<<<< HEAD
       → ((w : World T) → IsKnown w id u) → Fits (with_use (with_row s.world id row) t world.Changing) id u
-=======
-      → ((w : World T) → IsKnown w id u) → Fits fixed.batch_size (with_use (with_row s.world id row) t world.Changing) id u
->>>>>>> b-blocks3
   begun_fits id t u row s its is short known =
       let n : World T = with_use (with_row s.world id row) t world.Changing in
       record {
@@ -125,7 +109,6 @@ module _ {T : Type 0} (defers : T → Option ℕ) (fixed : Fixed) where
   frees id t = begins_on id t (Outside t) (Frees t) (world.Outside 0) (world.Frees record { slot = t }) (Unregister' t) refl refl refl refl (λ s e. (e, refl))
       (λ s h. begun_fits id t (Frees t) (world.Frees record { slot = t }) s refl refl tt (λ w. tt))
 
-<<<<<<< HEAD
   leaves : (id t : ℕ) (has : Has) → Turns H Keeps id (Inside t has) (λ x. x ≡ Leaves t fixed.batch_size)
   leaves id t has =
       let c : Leave = leave_of t fixed.batch_size in
@@ -156,13 +139,6 @@ module _ {T : Type 0} (defers : T → Option ℕ) (fixed : Fixed) where
       })
       (λ x a e. same_slot t x (world.Inside 1) a (world.Inside 0) e))
       refl
-=======
-  leaves : (id t : ℕ) → Turns H Keeps id (Inside t Nothing) (λ x. x ≡ Leaves t)
-  leaves id t =
-      let c : Leave = leaving t fixed.batch_size IDLE false in
-      begins_on id t (Inside t Nothing) (Leaves t) (world.Inside 0) (world.Leaves c) (Leave' t) refl refl refl refl (λ s e. (e, refl))
-      (λ s h. begun_fits id t (Leaves t) (world.Leaves c) s refl refl tt (λ w. tt))
->>>>>>> b-blocks3
 
   -- a slot is looked for
   abbrev First : Register
@@ -172,17 +148,12 @@ module _ {T : Type 0} (defers : T → Option ℕ) (fixed : Fixed) where
   registers id s h at_id =
       let n : World T = with_row s.world id (world.Registers First) in
       moved defers fixed s id Rests (Registers First) s.memory n (λ x. x ≡ Registers First) h at_id
-<<<<<<< HEAD
       (begun defers fixed s id Rests h at_id (Register' false) (Registers First) n ((h.seats id Rests at_id).row, refl) refl refl (λ j b ne. (λ is. is, λ is. is)) (λ b r is. is)
-=======
-      (begun defers fixed s id Rests h at_id (Register' false) (Registers First) n ((h.seats id Rests at_id).row, refl) refl refl refl
->>>>>>> b-blocks3
       (λ j ne. with_other s.world.row id j (world.Registers First) ne) (λ t apart. refl)
       (record { row = with_here s.world.row id (world.Registers First); slot = tt; short = (refl, tt); known = tt })
       (λ t b e. absurd (cc e)))
       refl
 
-<<<<<<< HEAD
   -- a settling that is over ends
   settled_ends : (id : ℕ) (c : Settle) (seen : Option (ℕ × T)) → c.stands ≡ settling_at.Over → Turns H Keeps id (Settles c Retiring seen) (λ x. x ≡ Inside c.slot Nothing)
   settled_ends id c seen over s h at_id =
@@ -198,18 +169,6 @@ module _ {T : Type 0} (defers : T → Option ℕ) (fixed : Fixed) where
         known = tt;
       })
       (alone defers fixed s id v h at_id u (λ x b e. same_slot c.slot x (world.Inside 0) b (world.Inside 1) e)))
-=======
-  -- the row of a seat that has left ends
-  ends : (id t : ℕ) → Turns H Keeps id (Left t) (λ x. x ≡ Outside t)
-  ends id t s h at_id =
-      let d : Leave = standing (leaving t fixed.batch_size IDLE false) leaving_at.Over in
-      let n : World T = leaves_on s.world id d s.world.memory (d, settled.Done) in
-      moved defers fixed s id (Left t) (Outside t) s.memory n (λ x. x ≡ Outside t) h at_id
-      (stepped defers fixed s id (Left t) h at_id (Outside t) s.memory n (s.world.memory, (d, settled.Done), (refl, refl), refl) h.memory
-      (record { row = with_here s.world.row id world.Rests; slot = with_here s.world.uses t (world.Outside 0); short = tt; known = tt })
-      (alone defers fixed s id (Left t) h at_id (Outside t) (λ x b e. same_slot t x (world.Outside 0) b world.Changing e))
-      h.quiet)
->>>>>>> b-blocks3
       refl
 
   counted_ends : (id : ℕ) (c : Settle) (size : ℕ) (seen : Option (ℕ × T)) → c.stands ≡ settling_at.Over
@@ -252,7 +211,6 @@ module _ {T : Type 0} (defers : T → Option ℕ) (fixed : Fixed) where
   turns id (Outside t) u (inl is) = subst (λ (y : View T). Turns H Keeps id (Outside t) (λ x. x ≡ y)) (sym is) (enters id t)
   turns id (Outside t) u (inr is) = subst (λ (y : View T). Turns H Keeps id (Outside t) (λ x. x ≡ y)) (sym is) (frees id t)
   turns id (Enters t) u is = absurd is
-<<<<<<< HEAD
   turns id (Inside t Nothing) u is = subst (λ (y : View T). Turns H Keeps id (Inside t Nothing) (λ x. x ≡ y)) (sym is) (leaves id t Nothing)
   turns id (Inside t (Seen b)) u is = subst (λ (y : View T). Turns H Keeps id (Inside t (Seen b)) (λ x. x ≡ y)) (sym is) (leaves id t (Seen b))
   turns id (Inside t (Cut b)) u is = subst (λ (y : View T). Turns H Keeps id (Inside t (Cut b)) (λ x. x ≡ y)) (sym is) (retires id t b)
@@ -263,12 +221,6 @@ module _ {T : Type 0} (defers : T → Option ℕ) (fixed : Fixed) where
       subst (λ (y : View T). Turns H Keeps id (Settles c (Ending size) seen) (λ x. x ≡ y)) (sym is.1) (counted_ends id c size seen is.0)
   turns id (Leaves t size) u is = absurd is
   turns id (Left t size) u is = subst (λ (y : View T). Turns H Keeps id (Left t size) (λ x. x ≡ y)) (sym is) (ends id t size)
-=======
-  turns id (Inside t (Made b)) u is = absurd is
-  turns id (Inside t Nothing) u is = subst (λ (y : View). Turns H Keeps id (Inside t Nothing) (λ x. x ≡ y)) (sym is) (leaves id t)
-  turns id (Leaves t) u is = absurd is
-  turns id (Left t) u is = subst (λ (y : View). Turns H Keeps id (Left t) (λ x. x ≡ y)) (sym is) (ends id t)
->>>>>>> b-blocks3
   turns id (Frees t) u is = absurd is
 
   -- a seat comes, and knows nothing
@@ -289,11 +241,7 @@ module _ {T : Type 0} (defers : T → Option ℕ) (fixed : Fixed) where
     where
       fit : (j : ℕ) (x : View T) → (view_of s j ≡ Some x) ⊎ ((view_of s j ≡ None) × (Rests ≡ x)) → Fits s.world j x
       fit j x (inl e) = h.seats j x e
-<<<<<<< HEAD
       fit j x (inr e) = subst (λ (y : View T). Fits s.world j y) e.1 (record { row = h.unborn j e.0; slot = tt; short = tt; known = tt })
-=======
-      fit j x (inr e) = subst (λ (y : View). Fits fixed.batch_size s.world j y) e.1 (record { row = h.unborn j e.0; slot = tt; short = tt; known = tt })
->>>>>>> b-blocks3
 
       no_slot : (x : View T) (t : ℕ) (a : Use) → Rests ≡ x → use_of x ≡ used_as t a → ⊥
       no_slot x t a e p = cc (ap use_of e, p)

@@ -11,11 +11,7 @@ use Rattle.seize.specs.World as world
 use Rattle.seize_rule.proofs.World.Kept.{rows_may}
 use Rattle.seize_acts.proofs.Answers.{same_some}
 use Rattle.seize_seats.specs.State.{State, view_of, Goes}
-<<<<<<< HEAD
 use Rattle.seize_shared.specs.Rows.{use_of, row_of, settles_for, used_for, IsUsed, IsKnown, IsReclaiming, RootsNameLinked, Fits, Came, Holds, Keeps}
-=======
-use Rattle.seize_shared.specs.Rows.{use_of, IsUsed, IsKnown, IsQuiet, Fits, Came, Holds, Keeps}
->>>>>>> b-blocks3
 use Rattle.seize_shared.specs.declared.view.View.{View}
 use Rattle.seize_shared.specs.declared.view.View.TheVariants.{Rests, Registers, Outside, Enters, Inside, Settles, Leaves, Left, Frees}
 use Rattle.seize_shared.specs.declared.view.Has.{Has}
@@ -39,15 +35,10 @@ not_vacant {T} x t a e v = by x e
     by (Outside s) f = let k = so (s, world.Outside 0) (t, a) f in cc (k, v)
     by (Enters s) f = let k = so (s, world.Changing) (t, a) f in cc (k, v)
     by (Inside s has) f = let k = so (s, world.Inside 0) (t, a) f in cc (k, v)
-<<<<<<< HEAD
     by (Settles c Retiring seen) f = let k = so (c.slot, world.Inside 1) (t, a) f in cc (k, v)
     by (Settles c (Ending size) seen) f = let k = so (c.slot, world.Changing) (t, a) f in cc (k, v)
     by (Leaves s size) f = let k = so (s, world.Changing) (t, a) f in cc (k, v)
     by (Left s size) f = let k = so (s, world.Changing) (t, a) f in cc (k, v)
-=======
-    by (Leaves s) f = let k = so (s, world.Changing) (t, a) f in cc (k, v)
-    by (Left s) f = let k = so (s, world.Changing) (t, a) f in cc (k, v)
->>>>>>> b-blocks3
     by (Frees s) f = let k = so (s, world.Changing) (t, a) f in cc (k, v)
 
 module _ {T : Type 0} where
@@ -72,7 +63,6 @@ module _ {T : Type 0} (defers : T → Option ℕ) (fixed : Fixed) (s : State T (
     pub came : Came defers fixed n
     pub memory : m ≡ n.memory
     pub rows : (j : ℕ) → j ≢ id → n.row j ≡ s.world.row j
-<<<<<<< HEAD
     pub own : Fits n id u
     pub others : (j : ℕ) (x : View T) → j ≢ id → view_of s j ≡ Some x → IsUsed n (use_of x)
     pub alone : (j t : ℕ) (x : View T) (a b : Use) → j ≢ id → view_of s j ≡ Some x → use_of x ≡ Some (t, a) → use_of u ≡ Some (t, b) → ⊥
@@ -82,14 +72,6 @@ module _ {T : Type 0} (defers : T → Option ℕ) (fixed : Fixed) (s : State T (
     pub over : (t b : ℕ) → holds t b s.world.log ≡ true → is_over b n.log ≡ is_over b s.world.log
     pub roots : RootsNameLinked m n.hand
     pub rooted : length m.roots ≡ fixed.roots
-=======
-    pub own : Fits fixed.batch_size n id u
-    pub others : (j : ℕ) (x : View) → j ≢ id → view_of s j ≡ Some x → IsUsed n (use_of x)
-    pub known : (j : ℕ) (x : View) → j ≢ id → view_of s j ≡ Some x → IsKnown n j x
-    pub alone : (j t : ℕ) (x : View) (a b : Use) → j ≢ id → view_of s j ≡ Some x → use_of x ≡ Some (t, a) → use_of u ≡ Some (t, b) → ⊥
-    pub quiet : IsQuiet m
-    pub kept : (j b : ℕ) (x o : View) → j ≢ id → view_of s j ≡ Some x → Keeps x o s.world b → Keeps x o n b
->>>>>>> b-blocks3
 
   module _ (v u : View T) (m : Mem T) (n : World T) (so : View T → Type 0) (h : Holds defers fixed s) (at : view_of s id ≡ Some v) (mo : Moved u m n) where
     known : (j : ℕ) (x : View T) → j ≢ id → n.row j ≡ row_of x → Fits s.world j x → IsKnown n j x
@@ -135,17 +117,8 @@ module _ {T : Type 0} (defers : T → Option ℕ) (fixed : Fixed) (s : State T (
         own : (j : ℕ) (x : View T) → j ≡ id → slice_get (slice_set s.views id u) j ≡ Some x → u ≡ x
         own j x e f = same_some u x (sym (here j e) ∙ f)
 
-<<<<<<< HEAD
         before : (j : ℕ) (x : View T) → j ≢ id → slice_get (slice_set s.views id u) j ≡ Some x → view_of s j ≡ Some x
         before j x ne e = sym (elsewhere s.views id j u ne) ∙ e
-=======
-      fit : (j : ℕ) (x : View) → slice_get (slice_set s.views id u) j ≡ Some x → (j ≡ id) ⊎ (j ≢ id) → Fits fixed.batch_size n j x
-      fit j x e (inl same) =
-          subst (λ (y : View). Fits fixed.batch_size n j y) (own j x same e) (subst (λ (k : ℕ). Fits fixed.batch_size n k u) (sym same) mo.own)
-      fit j x e (inr ne) =
-          let f = h.seats j x (before j x ne e) in
-          record { row = mo.rows j ne ∙ f.row; slot = mo.others j x ne (before j x ne e); short = f.short; known = mo.known j x ne (before j x ne e) }
->>>>>>> b-blocks3
 
         fit : (j : ℕ) (x : View T) → slice_get (slice_set s.views id u) j ≡ Some x → (j ≡ id) ⊎ (j ≢ id) → Fits n j x
         fit j x e (inl same) =

@@ -20,14 +20,9 @@ use Rattle.seize_seats.specs.State.{State, view_of, Goes, Allows}
 use Rattle.seize_shared.specs.Rows.{row_of, leave_of, counting, Fits, Holds, Keeps}
 use Rattle.seize_shared.specs.Told.{list_taken, told}
 use Rattle.seize_shared.specs.declared.view.View.{View}
-<<<<<<< HEAD
 use Rattle.seize_shared.specs.declared.view.View.TheVariants.{Rests, Enters, Inside, Settles, Leaves, Left, Frees}
 use Rattle.seize_shared.specs.declared.view.Has.TheVariants.{Nothing}
 use Rattle.seize_shared.specs.declared.view.Why.TheVariants.{Ending}
-=======
-use Rattle.seize_shared.specs.declared.view.View.TheVariants.{Rests, Enters, Inside, Leaves, Left, Frees}
-use Rattle.seize_shared.specs.declared.view.Has.TheVariants.{Nothing}
->>>>>>> b-blocks3
 use Rattle.seize_shared.specs.declared.view.Fixed.{Fixed}
 use Rattle.seize_shared.proofs.Moved.{moved}
 use Rattle.seize_shared.proofs.Steps.{alone, stepped}
@@ -61,20 +56,11 @@ module _ {T : Type 0} (defers : T → Option ℕ) (fixed : Fixed) where
           → Goes H Keeps s m id (told defers (Enters t) (Store (Slot t HEAD) ACTIVE) out)
       goes out m took =
           let n : World T = with_use (after_step s.world id m world.Rests (Entered t ∷ [])) t (world.Inside 0) in
-<<<<<<< HEAD
           moved defers fixed s id (Enters t) (Inside t Nothing) m n (told defers (Enters t) (Store (Slot t HEAD) ACTIVE) out) h at
           (stepped defers fixed s id (Enters t) h at (Inside t Nothing) m n
           (m, (record { slot = t }, Done tt), (out, subst (λ (x : Mem T). Took x (Store (Slot t HEAD) ACTIVE) out m) h.memory took, refl), refl) refl
           (record { row = with_here s.world.row id world.Rests; slot = with_here s.world.uses t (world.Inside 0); short = tt; known = tt })
           (alone defers fixed s id (Enters t) h at (Inside t Nothing) (λ x b e. same_slot t x (world.Inside 0) b world.Changing e)))
-=======
-          moved defers fixed s id (Enters t) (Inside t Nothing) m n (told (Enters t) (Store (Slot t HEAD) ACTIVE) out) h at
-          (stepped defers fixed s id (Enters t) h at (Inside t Nothing) m n
-          (m, (record { slot = t }, Done tt), (out, subst (λ (x : Mem T). Took x (Store (Slot t HEAD) ACTIVE) out m) h.memory took, refl), refl) refl
-          (record { row = with_here s.world.row id world.Rests; slot = with_here s.world.uses t (world.Inside 0); short = tt; known = tt })
-          (alone defers fixed s id (Enters t) h at (Inside t Nothing) (λ x b e. same_slot t x (world.Inside 0) b world.Changing e))
-          (subst IsQuiet (sym took.1) (quiet_written s.memory (Slot t HEAD) ACTIVE (omega arith) can h.quiet)))
->>>>>>> b-blocks3
           refl
 
   pub frees : (id t : ℕ) → Allows H Keeps id (Frees t) (Store (Slot t HEAD) FREE) (told defers (Frees t) (Store (Slot t HEAD) FREE))
@@ -90,12 +76,7 @@ module _ {T : Type 0} (defers : T → Option ℕ) (fixed : Fixed) where
           (stepped defers fixed s id (Frees t) h at Rests m n
           (m, (record { slot = t }, Done tt), (out, subst (λ (x : Mem T). Took x (Store (Slot t HEAD) FREE) out m) h.memory took, refl), refl) refl
           (record { row = with_here s.world.row id world.Rests; slot = tt; short = tt; known = tt })
-<<<<<<< HEAD
           (alone defers fixed s id (Frees t) h at Rests (λ x b e. absurd (cc e))))
-=======
-          (alone defers fixed s id (Frees t) h at Rests (λ x b e. absurd (cc e)))
-          (subst IsQuiet (sym took.1) (quiet_written s.memory (Slot t HEAD) FREE (omega arith) can h.quiet)))
->>>>>>> b-blocks3
           refl
 
   pub leaves : (id t size : ℕ) → Allows H Keeps id (Leaves t size) (Swap (Slot t HEAD) IDLE) (told defers (Leaves t size) (Swap (Slot t HEAD) IDLE))
@@ -107,37 +88,8 @@ module _ {T : Type 0} (defers : T → Option ℕ) (fixed : Fixed) where
       took_here : (head : ℕ) (m : Mem T) → Took s.memory (Swap (Slot t HEAD) IDLE) (Found head) m → Took s.world.memory (Swap (Slot t HEAD) IDLE) (Found head) m
       took_here head m took = subst (λ (x : Mem T). Took x (Swap (Slot t HEAD) IDLE) (Found head) m) h.memory took
 
-<<<<<<< HEAD
       slot : (d : Leave) (m : Mem T) → (leaves_on s.world id (leave_of t size) m (d, settled.Goes)).uses t ≡ world.Changing
       slot d m = with_here s.world.uses t (s.world.uses t) ∙ (h.seats id (Leaves t size) at).slot
-=======
-      goes : (head : ℕ) (m : Mem T) → Took s.memory (Swap (Slot t HEAD) IDLE) (Found head) m → Goes H Keeps s m id (λ u. u ≡ Left t)
-      goes head m took =
-          let c : Leave = leaving t fixed.batch_size IDLE false in let d : Leave = standing c leaving_at.Over in
-          let n : World T = leaves_on s.world id c m (d, settled.Goes) in
-          moved defers fixed s id (Leaves t) (Left t) m n (λ u. u ≡ Left t) h at
-          (stepped defers fixed s id (Leaves t) h at (Left t) m n (
-            m,
-            (d, settled.Goes),
-            (
-              Found head,
-              subst (λ (x : Mem T). Took x (Swap (Slot t HEAD) IDLE) (Found head) m) h.memory took,
-              rw (short_list head
-                  (h.quiet t head took.0)) refl,
-            ),
-            refl,
-          ) refl
-          (record {
-            row = with_here s.world.row id (world.Leaves d);
-            slot = with_here s.world.uses t (s.world.uses t)
-                ∙ (h.seats id (Leaves t) at).slot;
-            short = tt;
-            known = tt;
-          })
-          (alone defers fixed s id (Leaves t) h at (Left t) (λ x b e. same_slot t x world.Changing b world.Changing e))
-          (subst IsQuiet (sym took.1) (quiet_written s.memory (Slot t HEAD) IDLE (omega arith) can h.quiet)))
-          refl
->>>>>>> b-blocks3
 
       goes : (head : ℕ) (m : Mem T) → Took s.memory (Swap (Slot t HEAD) IDLE) (Found head) m → (b : Bool) → nat_lt ACTIVE head ≡ b
           → Goes H Keeps s m id (λ u. u ≡ list_taken t size head)

@@ -68,11 +68,7 @@ module _ {T : Type 0} (defers : T → Option ℕ) (fixed : Fixed) (s : State T (
   outside at.Registered seeks = absurd seeks
   outside (at.Refused fault) seeks = absurd seeks
 
-<<<<<<< HEAD
   own : (m : Mem T) (d : Register) (o : Progress ℕ) → IsWell w.uses (d, o) → Fits (registers_on w id c m (d, o)) id (left_by (d, o))
-=======
-  own : (m : Mem T) (d : Register) (o : Progress ℕ) → IsWell w.uses (d, o) → Fits fixed.batch_size (registers_on w id c m (d, o)) id (left_by (d, o))
->>>>>>> b-blocks3
   own m d progress.Goes well = record { row = with_here w.row id (world.Registers d); slot = tt; short = well; known = tt }
   own m d progress.Waits well = record { row = with_here w.row id (world.Registers d); slot = tt; short = well; known = tt }
   own m d (progress.Done t) well = record {
@@ -212,23 +208,3 @@ module _ {T : Type 0} (defers : T → Option ℕ) (fixed : Fixed) (s : State T (
 
   pub registers : (op : Op T) → op_in (register_plan {T = T} c) ≡ Some op → Allowed op
   registers op is = by c.stands refl op is
-<<<<<<< HEAD
-=======
-
-module _ (T : Type 0) (defers : T → Option ℕ) where
-  pub rows_go_on : RowsGoOn T defers
-  rows_go_on fixed id Rests op e s h at_id = absurd (cc e)
-  rows_go_on fixed id (Registers c) op e s h at_id = registers defers fixed s id c h at_id op e
-  rows_go_on fixed id (Outside t) op e s h at_id = absurd (cc e)
-  rows_go_on fixed id (Enters t) op e s h at_id =
-      subst (λ (o : Op T). Allows (Holds defers fixed) Keeps id (Enters t) o (told (Enters t) o)) (same_some (Store (Slot t HEAD) ACTIVE) op e)
-      (enters defers fixed id t) s h at_id
-  rows_go_on fixed id (Inside t has) op e s h at_id = absurd (cc e)
-  rows_go_on fixed id (Leaves t) op e s h at_id =
-      subst (λ (o : Op T). Allows (Holds defers fixed) Keeps id (Leaves t) o (told (Leaves t) o)) (same_some (Swap (Slot t HEAD) IDLE) op e)
-      (leaves defers fixed id t) s h at_id
-  rows_go_on fixed id (Left t) op e s h at_id = absurd (cc e)
-  rows_go_on fixed id (Frees t) op e s h at_id =
-      subst (λ (o : Op T). Allows (Holds defers fixed) Keeps id (Frees t) o (told (Frees t) o)) (same_some (Store (Slot t HEAD) FREE) op e)
-      (frees defers fixed id t) s h at_id
->>>>>>> b-blocks3

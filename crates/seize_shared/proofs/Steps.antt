@@ -10,11 +10,7 @@ use Rattle.seize.specs.declared.rows.register.Registering.{Registering}
 use Rattle.seize.specs.declared.rows.register.Registering.TheVariants as at
 use Rattle.seize.specs.Sequence.{taken_in}
 use Rattle.seize.specs.Law.{Effect, Entered, Left as LeftSlot, Made, Linked, Unlinked, Deferred, Retired, Taken, Dropped, Ended, LeftOver, holds, is_over}
-<<<<<<< HEAD
 use Rattle.seize.specs.World.{World, Row, Use, Hand, Vacant, Event, Begin, Step, Request, Steps', Happens, Runs, at_start, times}
-=======
-use Rattle.seize.specs.World.{World, Row, Use, Hand, Vacant, Event, Begin, Step, Request, Steps', Happens, Runs, IsInside, at_start}
->>>>>>> b-blocks3
 use Rattle.seize.specs.World as world
 use Rattle.seize_rule.proofs.World.Start.{start_good}
 use Rattle.seize_rule.proofs.Rows.Effects.{IsOneStep}
@@ -22,7 +18,6 @@ use Rattle.seize_rule.proofs.Rows.Known.{works_on, registering_on}
 use Rattle.seize_alone.specs.Alone.{IsOfUsers}
 use Rattle.seize_alone.proofs.Spared.Rows.{RowStepped}
 use Rattle.seize_alone.proofs.Histories.Reached.{Reached, runs_reached}
-<<<<<<< HEAD
 use Rattle.seize_alone.proofs.Histories.NotTaken.{IsHad, still_held, kept_hand, taken_gone, did}
 use Rattle.seize_alone.proofs.Histories.Uses.{uses_kept}
 use Rattle.seize_seats.specs.State.{State, view_of}
@@ -30,16 +25,6 @@ use Rattle.seize_shared.specs.Rows.{row_of, use_of, IsSeeking, IsShort, IsUsed, 
 use Rattle.seize_shared.specs.declared.view.View.{View}
 use Rattle.seize_shared.specs.declared.view.View.TheVariants.{Rests, Registers, Outside, Enters, Inside, Settles, Leaves, Left, Frees}
 use Rattle.seize_shared.specs.declared.view.Why.TheVariants.{Retiring, Ending}
-=======
-use Rattle.seize_alone.proofs.Histories.NotTaken.{IsHad, still_held, kept_hand, did}
-use Rattle.seize_alone.proofs.Histories.Uses.{uses_kept}
-use Rattle.seize_seats.specs.State.{State, view_of}
-use Rattle.seize_shared.specs.Rows.{row_of, use_of, IsSeeking, IsShort, IsUsed, IsKnown, IsQuiet, Fits, Came, Holds}
-use Rattle.seize_shared.specs.declared.view.View.{View}
-use Rattle.seize_shared.specs.declared.view.View.TheVariants.{Rests, Registers, Outside, Enters, Inside, Leaves, Left, Frees}
-use Rattle.seize_shared.specs.declared.view.Has.{Has}
-use Rattle.seize_shared.specs.declared.view.Has.TheVariants.{Nothing, Made as HasMade}
->>>>>>> b-blocks3
 use Rattle.seize_shared.specs.declared.view.Fixed.{Fixed}
 use Rattle.seize_shared.proofs.Moved.{Moved, not_vacant, used_so, still_used}
 
@@ -72,7 +57,6 @@ works_on_own (Registers c) short t e = absurd (by c.stands short.1 e)
     by at.Enter seeks f = seeks
     by at.Registered seeks f = seeks
     by (at.Refused fault) seeks f = seeks
-<<<<<<< HEAD
 works_on_own (Outside s) short t e = absurd (omega (arith, e))
 works_on_own (Enters s) short t e = (world.Changing, ap (λ (k : ℕ). Some (k, world.Changing)) (omega (arith, e)))
 works_on_own (Inside s has) short t e = absurd (omega (arith, e))
@@ -95,14 +79,6 @@ module _ {T : Type 0} where
         | inl none ↦ inl none
         | inr is ↦ inr (linked (block_in word) r is)
       ]
-=======
-works_on_own size (Outside s) short t e = absurd (omega (arith, e))
-works_on_own size (Enters s) short t e = (world.Changing, ap (λ (k : ℕ). Some (k, world.Changing)) (omega (arith, e)))
-works_on_own size (Inside s has) short t e = absurd (omega (arith, e))
-works_on_own size (Leaves s) short t e = (world.Changing, ap (λ (k : ℕ). Some (k, world.Changing)) (omega (arith, e)))
-works_on_own size (Left s) short t e = (world.Changing, ap (λ (k : ℕ). Some (k, world.Changing)) (omega (arith, e)))
-works_on_own size (Frees s) short t e = (world.Changing, ap (λ (k : ℕ). Some (k, world.Changing)) (omega (arith, e)))
->>>>>>> b-blocks3
 
 module _ {T : Type 0} (defers : T → Option ℕ) (fixed : Fixed) where
   abbrev size : ℕ
@@ -122,43 +98,7 @@ module _ {T : Type 0} (defers : T → Option ℕ) (fixed : Fixed) where
   pub came_then : (w n : World T) (e : Event T) → Came defers fixed w → Happens defers size e w n → Came defers fixed n
   came_then w n e came step = (came.0 ++ e ∷ [], runs_then came.0 (at_start defers fixed.roots) w n e came.1 step)
 
-<<<<<<< HEAD
 module _ {T : Type 0} (defers : T → Option ℕ) (fixed : Fixed) (s : State T (View T) (World T)) (id : ℕ) (v : View T) (h : Holds defers fixed s)
-=======
-module _ {T : Type 0} where
-  -- what is in a seat's hand is some caller's
-  pub of_users : (w : World T) (b : ℕ) (k : Hand) → IsOfUsers k → w.hand b ≡ k → IsOfUsers (w.hand b)
-  of_users w b k is e = subst IsOfUsers (sym e) is
-
-  -- where no hand has changed a seat knows what it knew
-  pub same_hands : (w n : World T) (j : ℕ) (x : View) → n.hand ≡ w.hand → IsKnown w j x → IsKnown n j x
-  same_hands w n j (Inside t Nothing) e is = tt
-  same_hands w n j (Inside t (HasMade b)) e is = ap (λ (f : ℕ → Hand). f b) e ∙ is
-  same_hands w n j Rests e is = tt
-  same_hands w n j (Registers c) e is = tt
-  same_hands w n j (Outside t) e is = tt
-  same_hands w n j (Enters t) e is = tt
-  same_hands w n j (Leaves t) e is = tt
-  same_hands w n j (Left t) e is = tt
-  same_hands w n j (Frees t) e is = tt
-
-module _ {T : Type 0} (defers : T → Option ℕ) (fixed : Fixed) where
-  -- after a step of another seat's row, too
-  pub step_known : (w : World T) (r : Reached defers fixed.batch_size w) (i : ℕ) (n : World T) (step : Steps' defers i (w.row i) w n) (j : ℕ) (x : View)
-      → IsKnown w j x → IsKnown n j x
-  step_known w r i n step j (Inside t Nothing) is = tt
-  step_known w r i n step j (Inside t (HasMade b)) is =
-      kept_hand defers fixed.batch_size w r i n step b (IsHad (of_users w b (world.Making j) tt is)) ∙ is
-  step_known w r i n step j Rests is = tt
-  step_known w r i n step j (Registers c) is = tt
-  step_known w r i n step j (Outside t) is = tt
-  step_known w r i n step j (Enters t) is = tt
-  step_known w r i n step j (Leaves t) is = tt
-  step_known w r i n step j (Left t) is = tt
-  step_known w r i n step j (Frees t) is = tt
-
-module _ {T : Type 0} (defers : T → Option ℕ) (fixed : Fixed) (s : State T View (World T)) (id : ℕ) (v : View) (h : Holds defers fixed s)
->>>>>>> b-blocks3
     (at_id : view_of s id ≡ Some v) where
   abbrev w : World T
   w = s.world
@@ -176,7 +116,6 @@ module _ {T : Type 0} (defers : T → Option ℕ) (fixed : Fixed) (s : State T V
       → (j t : ℕ) (x : View T) (a b : Use) → j ≢ id → view_of s j ≡ Some x → use_of x ≡ Some (t, a) → use_of u ≡ Some (t, b) → ⊥
   alone u stays j t x a b ne e p q = let k = stays t b q in ne (h.apart j id t a k.0 x v e at_id p k.1)
 
-<<<<<<< HEAD
   -- the roots are in the world what they are in the memory
   pub world_roots : RootsNameLinked w.memory w.hand
   world_roots = subst (λ (m : Mem T). RootsNameLinked m w.hand) h.memory h.roots
@@ -190,30 +129,18 @@ module _ {T : Type 0} (defers : T → Option ℕ) (fixed : Fixed) (s : State T V
       → ((j : ℕ) → j ≢ id → n.row j ≡ w.row j) → ((t : ℕ) → ((a : Use) → use_of v ≡ Some (t, a) → ⊥) → n.uses t ≡ w.uses t) → Fits n id u
       → ((t : ℕ) (b : Use) → use_of u ≡ Some (t, b) → (a : Use) × (use_of v ≡ Some (t, a))) → Moved defers fixed s id u s.memory n
   begun request u n happens memory log hands linked rows uses own stays = record {
-=======
-  pub begun : (request : Request) (u : View) (n : World T) → Happens defers fixed.batch_size (Begin id request) w n → n.memory ≡ w.memory → n.log ≡ w.log → n.hand ≡ w.hand
-      → ((j : ℕ) → j ≢ id → n.row j ≡ w.row j) → ((t : ℕ) → ((a : Use) → use_of v ≡ Some (t, a) → ⊥) → n.uses t ≡ w.uses t) → Fits fixed.batch_size n id u
-      → ((t : ℕ) (b : Use) → use_of u ≡ Some (t, b) → (a : Use) × (use_of v ≡ Some (t, a))) → Moved defers fixed s id u s.memory n
-  begun request u n happens memory log hand rows uses own stays = record {
->>>>>>> b-blocks3
     came = came_then defers fixed w n (Begin id request) h.came happens;
     memory = h.memory ∙ sym memory;
     rows = rows;
     own = own;
     others = others n (λ t used. uses t);
-    known = λ j x ne e. same_hands w n j x hand (h.seats j x e).known;
     alone = alone u stays;
-<<<<<<< HEAD
     hands = hands;
     values = λ b some some2. ap (λ (m : Mem T). value_at m b) memory;
     held = λ t b inside held. ap (holds t b) log ∙ held;
     over = λ t b held. ap (is_over b) log;
     roots = roots_kept s.memory s.memory w.hand n.hand refl linked h.roots;
     rooted = h.rooted;
-=======
-    quiet = h.quiet;
-    kept = λ j b x o ne e keeps. (keeps.0, keeps.1, keeps.2, ap (holds keeps.0 b) log ∙ keeps.3, ap (is_over b) log ∙ keeps.4);
->>>>>>> b-blocks3
   }
 
   pub stepped : (u : View T) (m : Mem T) (n : World T) → Steps' defers id (row_of v) w n → m ≡ n.memory → Fits n id u
@@ -225,7 +152,6 @@ module _ {T : Type 0} (defers : T → Option ℕ) (fixed : Fixed) (s : State T V
     rows = d.rows;
     own = own;
     others = others n (λ t used apart. uses_kept defers fixed.batch_size w r id n step t used
-<<<<<<< HEAD
         (λ on. let k = works_on_own v fit.short t (sym (ap works_on fit.row) ∙ on) in apart k.0 k.1));
     alone = lone;
     hands = λ j b ne. (λ is. kept b (world.Making j) tt is, λ is. kept b (world.Cutting j) tt is);
@@ -234,19 +160,6 @@ module _ {T : Type 0} (defers : T → Option ℕ) (fixed : Fixed) (s : State T V
     over = λ t b held. ap (is_over b) d.logged ∙ not_over b d.effects w.log d.one;
     roots = roots_kept w.memory m w.hand n.hand same_roots (λ b r is. kept b (world.InUse r) tt is) world_roots;
     rooted = ap length same_roots ∙ world_rooted;
-=======
-        (λ on. let k = works_on_own fixed.batch_size v fit.short t (sym (ap works_on fit.row) ∙ on) in apart k.0 k.1));
-    known = λ j x ne e. step_known defers fixed w r id n step j x (h.seats j x e).known;
-    alone = lone;
-    quiet = quiet;
-    kept = λ j b x o ne e keeps. (
-      keeps.0,
-      keeps.1,
-      keeps.2,
-      still_held defers fixed.batch_size w r id n step keeps.0 b (inside j x keeps.0 keeps.1 e keeps.2) keeps.3,
-      ap (is_over b) d.logged ∙ not_over b d.effects w.log d.one ∙ keeps.4,
-    );
->>>>>>> b-blocks3
   }
     where
       fit : Fits w id v
@@ -261,7 +174,6 @@ module _ {T : Type 0} (defers : T → Option ℕ) (fixed : Fixed) (s : State T V
       d : RowStepped defers id w n
       d = did defers fixed.batch_size w r id n step
 
-<<<<<<< HEAD
       kept : (b : ℕ) (k : Hand) → IsOfUsers k → w.hand b ≡ k → n.hand b ≡ k
       kept b k is e = kept_hand defers fixed.batch_size w r id n step b (IsHad (of_users w.hand b k is e)) ∙ e
 
@@ -272,7 +184,3 @@ module _ {T : Type 0} (defers : T → Option ℕ) (fixed : Fixed) (s : State T V
           → value_at n.memory b ≡ value_at w.memory b
       value b some (inl e) = d.frames.values b e
       value b some (inr ne) = let none = taken_gone defers fixed.batch_size w r id n step b ne in absurd (cc (some, none))
-=======
-      inside : (j : ℕ) (x : View) (t : ℕ) (has : Has) → view_of s j ≡ Some x → x ≡ Inside t has → IsInside (w.uses t)
-      inside j x t has e k = subst (λ (a : Use). IsInside a) (sym (used_so w (use_of x) t (world.Inside 0) (h.seats j x e).slot (ap use_of k))) tt
->>>>>>> b-blocks3

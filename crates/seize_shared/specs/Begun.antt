@@ -4,15 +4,10 @@ use Rattle.seize_words.specs.Word.{link_to}
 use Rattle.seize.specs.declared.rows.register.Registering.TheVariants as at
 use Rattle.seize.specs.Settle.{retiring}
 use Rattle.seize_shared.specs.declared.view.View.{View}
-<<<<<<< HEAD
 use Rattle.seize_shared.specs.declared.view.View.TheVariants.{Rests, Registers, Outside, Enters, Inside, Settles, Leaves, Left, Frees}
 use Rattle.seize_shared.specs.declared.view.Has.TheVariants.{Nothing, Seen, Cut}
 use Rattle.seize_shared.specs.declared.view.Why.TheVariants.{Retiring, Ending}
 use Rattle.seize_shared.specs.declared.view.Fixed.{Fixed}
-=======
-use Rattle.seize_shared.specs.declared.view.View.TheVariants.{Rests, Registers, Outside, Enters, Inside, Leaves, Left, Frees}
-use Rattle.seize_shared.specs.declared.view.Has.TheVariants.{Nothing}
->>>>>>> b-blocks3
 
 module _ {T : Type 0} (fixed : Fixed) where
   abbrev pub registering : View T → View T
@@ -23,15 +18,9 @@ module _ {T : Type 0} (fixed : Fixed) where
   entering (Outside t) = Enters t
   entering v = v
 
-<<<<<<< HEAD
   abbrev pub retires : View T → View T
   retires (Inside t (Cut b)) = Settles (retiring t fixed.batch_size (link_to b)) Retiring None
   retires v = v
-=======
-abbrev pub leaving : View → View
-leaving (Inside t Nothing) = Leaves t
-leaving v = v
->>>>>>> b-blocks3
 
   abbrev pub leaving : View T → View T
   leaving (Inside t Nothing) = Leaves t fixed.batch_size

@@ -1,14 +1,8 @@
-<<<<<<< HEAD
 -- What is promised of the rule: it may start, seats may come, and each row may begin, go on and end, whatever the other seats do; and what a seat may do with
 -- blocks within its section.
 use Rattle.std.specs.Prelude.{◌≡◌, ◌<◌, ◌⊎◌, ℕ, false, Option, Some, None}
 use Rattle.seize_words.specs.Word.{link_to}
 use Rattle.seize_words.specs.Op.{Op, Load, Store, Swap, Make, Take}
-=======
--- What is promised of the rule: it may start, seats may come, and each row may begin, go on and end, whatever the other seats do.
-use Rattle.std.specs.Prelude.{◌≡◌, ◌⊎◌, ℕ, false, Option, Some, None}
-use Rattle.seize_words.specs.Op.{Op, Store, Swap, Make, Take}
->>>>>>> b-blocks3
 use Rattle.seize_words.specs.Plan.{Plan, Turn, Do}
 use Rattle.seize_words.specs.declared.at.At.TheVariants.{Root, Slot}
 use Rattle.seize.specs.declared.states.TheConstants.{HEAD, FREE, IDLE, ACTIVE}
@@ -16,26 +10,17 @@ use Rattle.seize.specs.declared.rows.register.Registering.TheVariants as at
 use Rattle.seize.specs.declared.rows.settle.Settling.TheVariants as settling_at
 use Rattle.seize.specs.declared.rows.settle.Settle.{Settle}
 use Rattle.seize.specs.Register.{register_plan}
-<<<<<<< HEAD
 use Rattle.seize.specs.Settle.{retiring, settle_plan}
 use Rattle.seize_seats.specs.Lendings.{Shown, IsValueOf}
-=======
-use Rattle.seize_seats.specs.Lendings.{Shown}
->>>>>>> b-blocks3
 use Rattle.seize_seats.specs.State.{Starts, Comes, Allows, Turns}
 use Rattle.seize_shared.specs.Rows.{Holds, Keeps}
 use Rattle.seize_shared.specs.Told.{told}
 use Rattle.seize_shared.specs.declared.view.View.{View}
-<<<<<<< HEAD
 use Rattle.seize_shared.specs.declared.view.View.TheVariants.{Rests, Registers, Outside, Enters, Inside, Settles, Leaves, Left, Frees}
 use Rattle.seize_shared.specs.declared.view.Has.{Has}
 use Rattle.seize_shared.specs.declared.view.Has.TheVariants.{Nothing, Made, Seen, Cut}
 use Rattle.seize_shared.specs.declared.view.Why.{Why}
 use Rattle.seize_shared.specs.declared.view.Why.TheVariants.{Retiring, Ending}
-=======
-use Rattle.seize_shared.specs.declared.view.View.TheVariants.{Rests, Registers, Outside, Enters, Inside, Leaves, Left, Frees}
-use Rattle.seize_shared.specs.declared.view.Has.TheVariants.{Nothing, Made}
->>>>>>> b-blocks3
 use Rattle.seize_shared.specs.declared.view.Fixed.{Fixed}
 
 -- the operation of a step, if it makes one
@@ -54,7 +39,6 @@ module _ {T : Type 0} (defers : T → Option ℕ) where
   op_of _ = None
 
 -- what a seat may come to know without an operation: a row begins, or ends
-<<<<<<< HEAD
 abbrev pub IsNext : {T : Type 0} → Fixed → View T → View T → Type 0
 IsNext fixed Rests u = u ≡ Registers record { slot = 0; enters = false; stands = at.Begin }
 IsNext fixed (Outside t) u = (u ≡ Enters t) ⊎ (u ≡ Frees t)
@@ -78,14 +62,6 @@ abbrev pub IsLooking : Has → Type 0
 IsLooking Nothing = Unit {0}
 IsLooking (Seen b) = Unit {0}
 IsLooking _ = ⊥
-=======
-abbrev pub IsNext : View → View → Type 0
-IsNext Rests u = u ≡ Registers record { slot = 0; enters = false; stands = at.Begin }
-IsNext (Outside t) u = (u ≡ Enters t) ⊎ (u ≡ Frees t)
-IsNext (Inside t Nothing) u = u ≡ Leaves t
-IsNext (Left t) u = u ≡ Outside t
-IsNext _ u = ⊥
->>>>>>> b-blocks3
 
 module _ (T : Type 0) (defers : T → Option ℕ) where
   -- The promise: the rule may start, whatever is chosen.
@@ -102,7 +78,6 @@ module _ (T : Type 0) (defers : T → Option ℕ) where
 
   -- and rows begin and end
   abbrev pub RowsTurn : Type 0
-<<<<<<< HEAD
   RowsTurn = (fixed : Fixed) (id : ℕ) (v u : View T) → IsNext fixed v u → Turns (Holds defers fixed) Keeps id v (λ x. x ≡ u)
 
   -- within a section of a slot this operation may be made by a seat that knows of this block
@@ -141,19 +116,3 @@ module _ (T : Type 0) (defers : T → Option ℕ) where
   LookedAreShown =
       (fixed : Fixed) (id : ℕ) (c : Settle) (why : Why) (b : ℕ) (x : T) → Shown (Holds defers fixed) id (Settles c why (Some (b, x))) b
       × ((y : T) → IsValueOf (Holds defers fixed) id (Settles c why (Some (b, x))) b y → y ≡ x)
-=======
-  RowsTurn = (fixed : Fixed) (id : ℕ) (v u : View) → IsNext v u → Turns (Holds defers fixed) Keeps id v (λ x. x ≡ u)
-
-  -- within a section a block may be made of a value that keeps no list, by a seat that has none
-  abbrev pub BlocksAreMade : Type 0
-  BlocksAreMade =
-      (fixed : Fixed) (id t words : ℕ) (value : T) → defers value ≡ None
-      → Allows (Holds defers fixed) Keeps id (Inside t Nothing) (Make value words) (told (Inside t Nothing) (Make value words))
-
-  -- and whoever has made it may look at it, and take it away
-  abbrev pub MadeAreShown : Type 0
-  MadeAreShown = (fixed : Fixed) (id t b : ℕ) → Shown (Holds defers fixed) id (Inside t (Made b)) b
-
-  abbrev pub MadeAreTaken : Type 0
-  MadeAreTaken = (fixed : Fixed) (id t b : ℕ) → Allows (Holds defers fixed) Keeps id (Inside t (Made b)) (Take b) (told (Inside t (Made b)) (Take b))
->>>>>>> b-blocks3

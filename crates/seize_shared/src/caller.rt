@@ -1,19 +1,11 @@
 //! One of those who share the memory.
-<<<<<<< HEAD
 ghost use Rattle.std.specs.Prelude.{◌≡◌, ◌≢◌, ◌<◌, ◌+◌, ◌^◌, None, true, false, IfOk, IfErr, IfSome, IfNone};
 ghost use Rattle.seize_words.specs.Word.{block_in};
-=======
-ghost use Rattle.std.specs.Prelude.{◌≡◌, ◌<◌, ◌+◌, None, true, false, IfOk, IfErr};
->>>>>>> b-blocks3
 ghost use Rattle.seize.specs.declared.states.TheConstants.{LAST_SLOT};
 ghost use Rattle.seize.specs.declared.rows.register.Registering.TheVariants.{Take};
 ghost use Rattle.seize_shared.specs.Seeking.{row_at, seeks};
 ghost use Rattle.seize_shared.specs.declared.view.View.TheVariants.{Rests, Registers, Outside, Inside};
-<<<<<<< HEAD
 ghost use Rattle.seize_shared.specs.declared.view.Has.TheVariants.{Nothing, Made, Seen, Cut};
-=======
-ghost use Rattle.seize_shared.specs.declared.view.Has.TheVariants.{Nothing, Made};
->>>>>>> b-blocks3
 
 use crate::rows::OfRows;
 use crate::turns::{Entering, Freeing, Registering};
@@ -109,54 +101,13 @@ impl<'a, T: Defers> Caller<'a, T> {
     pub fn enter(&mut self, slot: u64)
         requires outside { self.old.seat.view ≡ Outside slot }
         ensures inside { self.new.seat.view ≡ Inside slot Nothing }
-<<<<<<< HEAD
         ensures blocks { self.new.blocks ≡ self.old.blocks }
-=======
->>>>>>> b-blocks3
     {
         self.blocks.turn::<Entering>(&mut self.seat);
         self.blocks
             .store(&mut self.seat, At::Slot(slot, HEAD), ACTIVE);
     }
 
-<<<<<<< HEAD
-=======
-    /// Makes a block within the section of its slot, of a value that keeps no list. Where no number is free the value comes back.
-    pub fn make(&mut self, _slot: u64, value: T) -> Result<u64, T>
-        requires inside { self.old.seat.view ≡ Inside _slot Nothing }
-        requires plain { T.defers value ≡ None }
-        ensures made { IfOk result (λ block. self.new.seat.view ≡ Inside _slot (Made block)) }
-        ensures refused { IfErr result (λ back. self.new.seat.view ≡ Inside _slot Nothing) }
-    {
-        self.blocks.make(&mut self.seat, value, 0)
-    }
-
-    /// The value of the block that it has made, for as long as it is borrowed.
-    pub fn value(&self, _slot: u64, block: u64) -> &T
-        requires has { self.now.seat.view ≡ Inside _slot (Made block) }
-    {
-        self.blocks.value(&self.seat, block)
-    }
-
-    /// Takes the block away that it has made.
-    pub fn take(&mut self, _slot: u64, block: u64) -> T
-        requires has { self.old.seat.view ≡ Inside _slot (Made block) }
-        ensures taken { self.new.seat.view ≡ Inside _slot Nothing }
-    {
-        self.blocks.take(&mut self.seat, block)
-    }
-
-    /// Ends the section.
-    pub fn leave(&mut self, slot: u64)
-        requires inside { self.old.seat.view ≡ Inside slot Nothing }
-        ensures outside { self.new.seat.view ≡ Outside slot }
-    {
-        self.blocks.turn::<Leaving>(&mut self.seat);
-        self.blocks.swap(&mut self.seat, At::Slot(slot, HEAD), IDLE);
-        self.blocks.turn::<Ending>(&mut self.seat);
-    }
-
->>>>>>> b-blocks3
     /// Gives its slot up.
     pub fn unregister(&mut self, slot: u64)
         requires outside { self.old.seat.view ≡ Outside slot }

@@ -1,10 +1,5 @@
-<<<<<<< HEAD
 //! The collector's rows over a memory that threads share: slots are taken, entered, left and given up, and blocks are put at
 //! roots, seen there, taken from there and retired, by as many threads as there are.
-=======
-//! The collector's rows over a memory that threads share: slots are taken, entered, left and given up, and blocks are made, looked at and taken away within
-//! sections, by as many threads as there are.
->>>>>>> b-blocks3
 #![tactic(auto)]
 
 mod caller;
@@ -17,8 +12,4 @@ mod view;
 pub use caller::Caller;
 pub use law::{rows_go_on, sections_go_on};
 pub use rows::OfRows;
-<<<<<<< HEAD
 pub use view::{Fixed, Has, View, Why};
-=======
-pub use view::{Fixed, Has, View};
->>>>>>> b-blocks3

@@ -11,7 +11,6 @@ pub enum View<T> {
     Outside(u64),
     /// It is about to open a section of it.
     Enters(u64),
-<<<<<<< HEAD
     /// It holds this slot, and its section is open; and it knows of a block, or of none.
     Inside(u64, Has),
     /// It settles what its slot has to settle, and why; and this block, with its value, it is about to look at.
@@ -20,19 +19,10 @@ pub enum View<T> {
     Leaves(u64, u64),
     /// It has ended the section of this slot, and settled all that was to be settled.
     Left(u64, u64),
-=======
-    /// It holds this slot, and its section is open; and it has a block, or none.
-    Inside(u64, Has),
-    /// It is about to end the section of it.
-    Leaves(u64),
-    /// It has ended it, and took the list of the slot, which was empty.
-    Left(u64),
->>>>>>> b-blocks3
     /// It is about to give this slot up.
     Frees(u64),
 }
 
-<<<<<<< HEAD
 /// Which block a seat within a section knows of.
 pub enum Has {
     /// None.
@@ -51,14 +41,6 @@ pub enum Why {
     Retiring,
     /// Its section has ended, and the list of its slot is counted down; batches have this size.
     Ending(u64),
-=======
-/// Which block a seat has.
-pub enum Has {
-    /// It has none.
-    Nothing,
-    /// It has made this one, which nobody else can reach.
-    Made(u64),
->>>>>>> b-blocks3
 }
 
 /// What is chosen as the memory is opened.
