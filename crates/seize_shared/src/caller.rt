@@ -189,7 +189,8 @@ impl<'a, T: Defers> Caller<'a, T> {
     pub fn own(&self, _slot: u64, block: u64) -> &T
         requires made { self.now.seat.view ≡ Inside _slot (Made block) }
     {
-        self.blocks.value(&self.seat, block)
+        let seat = &self.seat;
+        self.blocks.value(seat, block)
     }
 }
 
