@@ -4,8 +4,8 @@
 
 mod caller;
 mod law;
+mod memory;
 mod rows;
-mod settling;
 mod turns;
 mod view;
 
