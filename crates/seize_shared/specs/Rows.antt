@@ -99,9 +99,9 @@ module _ {T : Type 0} where
   IsInHand w j t (Cut b) = w.hand b ≡ world.Cutting j
 
   -- the block that a settling is to look at is the one that it is about to reclaim, and has this value
-  abbrev pub IsLooked : World T → Settle → Option (ℕ × T) → Type 0
-  IsLooked w c None = Unit {0}
-  IsLooked w c (Some seen) = IsReclaiming c.stands × (seen.0 ≡ block_in c.reclaiming) × (value_at w.memory seen.0 ≡ Some seen.1)
+  abbrev pub IsLooked : Mem T → Settle → Option (ℕ × T) → Type 0
+  IsLooked m c None = Unit {0}
+  IsLooked m c (Some seen) = IsReclaiming c.stands × (seen.0 ≡ block_in c.reclaiming) × (value_at m seen.0 ≡ Some seen.1)
 
   abbrev pub IsKnown : World T → ℕ → View T → Type 0
   IsKnown w j (Inside t has) = IsInHand w j t has

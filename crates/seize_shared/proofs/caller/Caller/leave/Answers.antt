@@ -1,7 +1,7 @@
 use Rattle.seize_shared.specs.Begun.{leaving}
 use Rattle.seize_shared.specs.declared.view.View.TheVariants.{Inside}
 use Rattle.seize_shared.proofs.Calls.{may_turn, leaves_next}
-use Rattle.seize_shared.proofs.memory.Caller.leave.Goals as goal
+use Rattle.seize_shared.proofs.caller.Caller.leave.Goals as goal
 
 pub turn-requires-clause-may : goal.turn-requires-clause-may
 turn-requires-clause-may g c =

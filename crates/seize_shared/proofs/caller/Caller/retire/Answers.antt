@@ -6,7 +6,7 @@ use Rattle.seize_shared.specs.declared.view.View.TheVariants.{Inside, Settles}
 use Rattle.seize_shared.specs.declared.view.Has.TheVariants.{Cut}
 use Rattle.seize_shared.specs.declared.view.Why.TheVariants.{Retiring}
 use Rattle.seize_shared.proofs.Calls.{may_turn}
-use Rattle.seize_shared.proofs.memory.Caller.retire.Goals as goal
+use Rattle.seize_shared.proofs.caller.Caller.retire.Goals as goal
 
 pub turn-requires-clause-may : goal.turn-requires-clause-may
 turn-requires-clause-may g c =
