@@ -234,7 +234,7 @@ module _ {T : Type 0} (defers : T → Option ℕ) (fixed : Fixed) (s : State T (
           λ had. beside b c world.NoBlock (world.Making j) (λ e. ne (apart_making j id (e ∙ mine))) had,
           λ had. beside b c world.NoBlock (world.Cutting j) (λ e. cutting_making j id (e ∙ mine)) had,
         );
-        values = λ c some some2. value_left w.memory b c value m here some2 (cases_eq c b);
+        values = λ c some some2. value_left defers w.memory b c value m here some2 (cases_eq c b);
         held = λ a c held. held_beside a c b w.log (making_not_held a b c held mine) held;
         over = λ a c held. refl;
         roots = roots_kept w.memory m w.hand n.hand (ap (λ (x : Mem T). x.roots) here.1)
@@ -255,7 +255,7 @@ module _ {T : Type 0} (defers : T → Option ℕ) (fixed : Fixed) (s : State T (
       by : (u : Use) → u ≡ world.Inside 0
           → UseFits u (emptied (r.good.state.head t)) (length (r.good.used.team t)) (is_open t r.good.state.log) → is_open t r.good.state.log ≡ true
       by u e f =
-          (subst (λ (x : Use). UseFits x (emptied (r.good.state.head t)) (length (r.good.used.team t)) (is_open t r.good.state.log)) e f).1.1
+          (subst (λ (x : Use). UseFits x (emptied (r.good.state.head t)) (length (r.good.used.team t)) (is_open t r.good.state.log)) e f).2
 
   linked_held : (b a : ℕ) → w.hand b ≡ world.InUse a → holds t b w.log ≡ true
   linked_held b a is =

@@ -4,8 +4,9 @@ use Rattle.std.proofs.Common.{◌≡◌, ℕ, ◌^◌, ◌%◌, Bool, true, fals
 use Rattle.std.proofs.lemmas.Bool.{eq-eqb, ne_eqb}
 use Rattle.seize_words.specs.Op.{Op, Load, Swap, Make, Take, Found, Made as OutMade}
 use Rattle.seize_words.specs.Word.{block_in, link_to}
-use Rattle.seize_words.specs.declared.at.At.TheVariants.{Root}
-use Rattle.seize.specs.declared.states.TheConstants.{ACTIVE}
+use Rattle.seize_words.specs.declared.at.At.TheVariants.{Root, Slot}
+use Rattle.seize.specs.declared.states.TheConstants.{HEAD, IDLE, ACTIVE}
+use Rattle.seize.specs.declared.rows.settle.Settle.{Settle}
 use Rattle.seize.specs.Settle.{counting_down}
 use Rattle.seize_seats.specs.Lendings.{Shown}
 use Rattle.seize_seats.specs.State.{Allows, Turns}
@@ -63,7 +64,7 @@ module _ {T : Type 0} (defers : T → Option ℕ) (fixed : Fixed) (id : ℕ) (v 
   pub is_shown : (has : Has) (b : ℕ) → v ≡ Inside slot has → Names has b → Shown (Holds defers fixed) id v b
   is_shown has b is names = subst (λ (x : View T). Shown (Holds defers fixed) id x b) (sym is) (known_are_shown T defers has b fixed id slot names)
 
-module _ {T : Type 0} (fixed : Fixed) (slot : ℕ) where
+module _ (T : Type 0) (fixed : Fixed) (slot : ℕ) where
   -- leaving is next where a block was seen, or none is known
   pub leaves_next : (has : Has) → IsLooking has → IsNext {T = T} fixed (Inside slot has) (leaving fixed (Inside slot has))
   leaves_next Nothing looks = refl
@@ -78,16 +79,18 @@ module _ {T : Type 0} (fixed : Fixed) (slot : ℕ) where
   leaves_so (Cut b) looks = absurd looks
 
 -- a list with entries is counted down, and an empty one is settled
-pub list_settles : {T : Type 0} (slot size head : ℕ) → ACTIVE < head
-    → list_taken {T = T} slot size head ≡ Settles (counting_down slot size head) (Ending size) None
-list_settles {T} slot size head lt =
-    ap (λ (b : Bool). if b then Settles {T = T} (counting_down slot size head) (Ending size) None else Left slot size)
-    (let k : nat_lt ACTIVE head ≡ true = grind (arith, lt) in k)
+is_above : (head : ℕ) → ACTIVE < head → nat_lt ACTIVE head ≡ true
+is_above head lt = grind (arith, lt)
 
-pub list_empty : {T : Type 0} (slot size head : ℕ) → head ≤ ACTIVE → list_taken {T = T} slot size head ≡ Left slot size
-list_empty {T} slot size head le =
-    ap (λ (b : Bool). if b then Settles {T = T} (counting_down slot size head) (Ending size) None else Left slot size)
-    (let k : nat_lt ACTIVE head ≡ false = grind (arith, le) in k)
+is_not_above : (head : ℕ) → head ≤ ACTIVE → nat_lt ACTIVE head ≡ false
+is_not_above head le = grind (arith, le)
+
+pub list_settles : (T : Type 0) (slot size head : ℕ) → ACTIVE < head
+    → list_taken {T = T} slot size head ≡ Settles (counting_down slot size head) (Ending size) None
+list_settles T slot size head lt = rw (is_above head lt) refl
+
+pub list_empty : (T : Type 0) (slot size head : ℕ) → head ≤ ACTIVE → list_taken {T = T} slot size head ≡ Left slot size
+list_empty T slot size head le = rw (is_not_above head le) refl
 
 -- what a word of a root tells that was taken from there, or seen
 pub cut_some : (word b : ℕ) → b ≡ block_in word → (b ≡ 0 → ⊥) → cut_in word ≡ Cut b
@@ -113,3 +116,11 @@ module _ {T : Type 0} (defers : T → Option ℕ) (v w : View T) (slot : ℕ) wh
 
   pub seen_told : (r word : ℕ) → v ≡ Inside slot Nothing → told defers v (Load (Root r)) (Found word) w → w ≡ Inside slot (seen_in word)
   seen_told r word is so = let k = subst (λ (x : View T). told defers x (Load (Root r)) (Found word) w) is so in k.2 ∙ ap (Inside slot) k.1
+
+  -- what the taking of a list tells
+  pub list_told : (size head : ℕ) → v ≡ Leaves slot size → told defers v (Swap (Slot slot HEAD) IDLE) (Found head) w → w ≡ list_taken slot size head
+  list_told size head is so = subst (λ (x : View T). told defers x (Swap (Slot slot HEAD) IDLE) (Found head) w) is so
+
+  -- a list with entries is settled by the row that counts it down
+  pub row_told : (size head : ℕ) (row : Settle) → w ≡ list_taken slot size head → ACTIVE < head → row ≡ counting_down slot size head → w ≡ Settles row (Ending size) None
+  row_told size head row is lt row_is = is ∙ list_settles T slot size head lt ∙ ap (λ (c : Settle). Settles c (Ending size) None) (sym row_is)

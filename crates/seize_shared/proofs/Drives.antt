@@ -85,23 +85,32 @@ module _ {T : Type 0} (defers : T → Option ℕ) where
           k.2.blocks,
         )
 
-  -- no row rewrites a block
-  settling_none : (c : Settle) (p : Settling) (b : ℕ) (x : T) → op_in (plan_at defers c p) ≡ Some (Rewrite b x) → ⊥
-  settling_none c _ b x e = cc e
+  -- it replaces no value
+  abbrev IsNoRewrite : Option (Op T) → Type 0
+  IsNoRewrite None = Unit {0}
+  IsNoRewrite (Some (Rewrite b x)) = ⊥
+  IsNoRewrite (Some _) = Unit {0}
 
-  registering_none : (c : Register) (p : Registering) (b : ℕ) (x : T) → op_in (register.plan_at {T = T} c p) ≡ Some (Rewrite b x) → ⊥
-  registering_none c _ b x e = cc e
+  settling_none : (c : Settle) (p : Settling) → IsNoRewrite (op_in (plan_at defers c p))
+  settling_none c _ = tt
 
+  registering_none : (c : Register) (p : Registering) → IsNoRewrite (op_in (register.plan_at {T = T} c p))
+  registering_none c _ = tt
+
+  none_rewrites : (v : View T) → IsNoRewrite (op_of defers v)
+  none_rewrites Rests = tt
+  none_rewrites (Registers c) = registering_none c c.stands
+  none_rewrites (Outside t) = tt
+  none_rewrites (Enters t) = tt
+  none_rewrites (Inside t has) = tt
+  none_rewrites (Settles c why seen) = settling_none c c.stands
+  none_rewrites (Leaves t size) = tt
+  none_rewrites (Left t size) = tt
+  none_rewrites (Frees t) = tt
+
+  -- no row of the collector replaces a value
   pub never_rewrites : (v : View T) (b : ℕ) (x : T) → op_of defers v ≡ Some (Rewrite b x) → ⊥
-  never_rewrites Rests b x e = cc e
-  never_rewrites (Registers c) b x e = registering_none c c.stands b x e
-  never_rewrites (Outside t) b x e = cc e
-  never_rewrites (Enters t) b x e = cc e
-  never_rewrites (Inside t has) b x e = cc e
-  never_rewrites (Settles c why seen) b x e = settling_none c c.stands b x e
-  never_rewrites (Leaves t size) b x e = cc e
-  never_rewrites (Left t size) b x e = cc e
-  never_rewrites (Frees t) b x e = cc e
+  never_rewrites v b x e = subst IsNoRewrite e (none_rewrites v)
 
 module _ (T : Type 0) (defers : T → Option ℕ) where
   -- what a settling is to look at is there
@@ -117,7 +126,7 @@ module _ (T : Type 0) (defers : T → Option ℕ) where
 module _ {T : Type 0} (defers : T → Option ℕ) (fixed : Fixed) (id : ℕ) where
   some_same : (y : Bool) (o : Option T) → IsSome (if y then o else None) → y ≡ true
   some_same true o is = refl
-  some_same false o is = absurd is
+  some_same false o is = absurd (cc is)
 
   pub is_looked : (v : View T) (b : ℕ) → IsSome (shown_in v b)
       → Shown (Holds defers fixed) id v b × ((y : T) → IsValueOf (Holds defers fixed) id v b y → shown_in v b ≡ Some y)
@@ -128,12 +137,12 @@ module _ {T : Type 0} (defers : T → Option ℕ) (fixed : Fixed) (id : ℕ) whe
         λ y of. ap (λ (z : Bool). if z then Some x else None) (some_same (b == a) (Some x) is)
             ∙ ap Some (sym (k.1 y (subst (λ (n : ℕ). IsValueOf (Holds defers fixed) id (Settles c why (Some (a, x))) n y) e of))),
       )
-  is_looked (Settles c why None) b is = absurd is
-  is_looked Rests b is = absurd is
-  is_looked (Registers c) b is = absurd is
-  is_looked (Outside t) b is = absurd is
-  is_looked (Enters t) b is = absurd is
-  is_looked (Inside t has) b is = absurd is
-  is_looked (Leaves t size) b is = absurd is
-  is_looked (Left t size) b is = absurd is
-  is_looked (Frees t) b is = absurd is
+  is_looked (Settles c why None) b is = absurd (cc is)
+  is_looked Rests b is = absurd (cc is)
+  is_looked (Registers c) b is = absurd (cc is)
+  is_looked (Outside t) b is = absurd (cc is)
+  is_looked (Enters t) b is = absurd (cc is)
+  is_looked (Inside t has) b is = absurd (cc is)
+  is_looked (Leaves t size) b is = absurd (cc is)
+  is_looked (Left t size) b is = absurd (cc is)
+  is_looked (Frees t) b is = absurd (cc is)

@@ -19,8 +19,7 @@ free_head seen (inr e) = subst (λ (k : ℕ). can_be_taken k ≡ true) (sym e) r
 
 -- a slot that is looked at is one
 pub seeks_here : {T : Type 0} (slot : ℕ) → slot < LAST_SLOT + 1 → seeks {T = T} slot ≡ Registers (row_at slot at.Look)
-seeks_here {T} slot lt = ap (λ (b : Bool). if b then Registers {T = T} (row_at slot at.Look) else Rests) (let k : nat_lt slot (LAST_SLOT + 1) ≡ true = grind
-    (arith, lt) in k)
+seeks_here slot lt = rw (let k : nat_lt slot (LAST_SLOT + 1) ≡ true = grind (arith, lt) in k) refl
 
 module _ (T : Type 0) (defers : T → Option ℕ) (v w : View T) where
   known : (c : Register) (op : Op T) (out : Out T) → v ≡ Registers c → told defers v op out w → told defers (Registers c) op out w

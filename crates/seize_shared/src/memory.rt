@@ -3,9 +3,10 @@ ghost use Rattle.std.specs.Prelude.{◌≡◌, ◌≢◌, ◌<◌, ◌^◌, true
 ghost use Rattle.seize.specs.declared.rows.settle.Settling.TheVariants.{Over};
 ghost use Rattle.seize_shared.specs.Made.{IsSettling};
 ghost use Rattle.seize_shared.specs.Promises.{IsLooking};
+ghost use Rattle.seize_shared.specs.Told.{list_taken};
 ghost use Rattle.seize_shared.specs.declared.view.Has.{Has};
 ghost use Rattle.seize_shared.specs.declared.view.Has.TheVariants.{Nothing, Cut};
-ghost use Rattle.seize_shared.specs.declared.view.View.TheVariants.{Outside, Inside};
+ghost use Rattle.seize_shared.specs.declared.view.View.TheVariants.{Outside, Inside, Left};
 ghost use Rattle.seize_shared.specs.declared.view.Why.{Why};
 
 use crate::caller::Caller;
@@ -58,6 +59,20 @@ impl<'a, T: Defers + Drop> Caller<'a, T> {
         unreachable!()
     }
 
+    /// Counts a list down that was taken from its slot.
+    fn counts_down<W: Wait>(&mut self, rt: &W, slot: u64, head: u64)
+        requires taken { self.old.seat.view ≡ list_taken slot self.old.blocks.now.words.fixed.batch_size head }
+        ensures left { self.new.seat.view ≡ Left slot self.old.blocks.now.words.fixed.batch_size }
+        ensures blocks { self.new.blocks ≡ self.old.blocks }
+    {
+        if head <= ACTIVE {
+            return;
+        }
+        let mut row = Settle::count_down(slot, self.batch_size, head);
+        self.settles(rt, &mut row);
+        self.blocks.turn::<Ending>(&mut self.seat);
+    }
+
     /// Ends the section: what its slot's list owes is settled. A value that is reclaimed is dropped.
     pub fn leave<W: Wait>(&mut self, rt: &W, slot: u64)
         requires inside { (has : Has) × IsLooking has × (self.old.seat.view ≡ Inside slot has) }
@@ -66,11 +81,7 @@ impl<'a, T: Defers + Drop> Caller<'a, T> {
     {
         self.blocks.turn::<Leaving>(&mut self.seat);
         let head = self.blocks.swap(&mut self.seat, At::Slot(slot, HEAD), IDLE);
-        if head > ACTIVE {
-            let mut row = Settle::count_down(slot, self.batch_size, head);
-            self.settles(rt, &mut row);
-            self.blocks.turn::<Ending>(&mut self.seat);
-        }
+        self.counts_down(rt, slot, head);
         self.blocks.turn::<Ending>(&mut self.seat);
     }
 
