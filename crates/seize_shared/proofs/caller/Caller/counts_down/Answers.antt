@@ -1,5 +1,6 @@
 use Rattle.std.specs.Prelude.{None}
-use Rattle.std.proofs.Common.{◌≡◌, refl, ap, sym, ◌∙◌}
+use Rattle.std.proofs.Common.{◌≡◌, ℕ, refl, ap, sym, ◌∙◌}
+use Rattle.seize.specs.Settle.{counting_down}
 use Rattle.seize_shared.specs.Begun.{ended}
 use Rattle.seize_shared.specs.declared.view.View.TheVariants.{Settles, Left}
 use Rattle.seize_shared.specs.declared.view.Why.TheVariants.{Ending}
