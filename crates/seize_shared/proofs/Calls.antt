@@ -24,6 +24,10 @@ use Rattle.seize_shared.proofs.Beginnings.{rows_turn}
 use Rattle.seize_shared.proofs.GoesOn.{rows_go_on}
 use Rattle.seize_shared.proofs.Blocks.{blocks_are_made, made_are_taken, made_are_linked, roots_are_cleared, roots_are_seen, known_are_shown}
 
+-- the word that links to a block whose number is small enough
+pub whole_link : (b : ℕ) → b < 2 ^ 53 → link_to b % 2 ^ 64 ≡ link_to b
+whole_link b lt = omega (arith, lt)
+
 module _ {T : Type 0} (defers : T → Option ℕ) (fixed : Fixed) (id : ℕ) (v w : View T) (is : v ≡ w) where
   pub may_turn : (f : Fixed → View T → View T) → IsNext fixed w (f fixed w) → Turns (Holds defers fixed) Keeps id v (Makes f fixed v)
   may_turn f next =
@@ -45,10 +49,6 @@ module _ {T : Type 0} (defers : T → Option ℕ) (fixed : Fixed) (id : ℕ) (v 
 
   pub may_take : (b : ℕ) → v ≡ Inside slot (Made b) → MayMake (Take b)
   may_take b is = by_view (Inside slot (Made b)) (Take b) is (made_are_taken T defers b fixed id slot)
-
-  -- the word that links to a block whose number is small enough
-  pub whole_link : (b : ℕ) → b < 2 ^ 53 → link_to b % 2 ^ 64 ≡ link_to b
-  whole_link b lt = omega (arith, lt)
 
   pub may_link : (b r word : ℕ) → v ≡ Inside slot (Made b) → r < fixed.roots → b < 2 ^ 53 → word ≡ link_to b % 2 ^ 64 → MayMake (Swap (Root r) word)
   may_link b r word is lt fits link =

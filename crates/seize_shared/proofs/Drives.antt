@@ -6,6 +6,7 @@ use Rattle.seize.specs.World.{World}
 use Rattle.seize_words.specs.Op.{Op, Out, Rewrite}
 use Rattle.seize_words.specs.Plan.{Plan, Then, Turn, Do, Ends, MaySee, May, Steps}
 use Rattle.seize.specs.declared.rows.register.Registering.{Registering}
+use Rattle.seize.specs.declared.rows.register.Registering.TheVariants as registering_at
 use Rattle.seize.specs.declared.rows.register.Register.{Register}
 use Rattle.seize.specs.declared.rows.settle.Settle.{Settle}
 use Rattle.seize.specs.declared.rows.settle.Settling.{Settling}
@@ -92,9 +93,11 @@ module _ {T : Type 0} (defers : T → Option ℕ) where
   IsNoRewrite (Some _) = Unit {0}
 
   settling_none : (c : Settle) (p : Settling) → IsNoRewrite (op_in (plan_at defers c p))
+  settling_none c at.Over = tt
   settling_none c _ = tt
 
   registering_none : (c : Register) (p : Registering) → IsNoRewrite (op_in (register.plan_at {T = T} c p))
+  registering_none c registering_at.Begin = tt
   registering_none c _ = tt
 
   none_rewrites : (v : View T) → IsNoRewrite (op_of defers v)

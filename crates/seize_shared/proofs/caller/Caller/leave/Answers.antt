@@ -19,11 +19,16 @@ swap-head-requires-clause-may g c =
     (Swap (Slot c.args.slot HEAD) IDLE) refl
 
 pub counts_down-requires : goal.counts_down-requires
-counts_down-requires g c =
-    list_told g.T.Defers.defers c.turn.new.seat.view c.swap-head.new.seat.view c.args.slot c.args.self.now.blocks.now.words.fixed.batch_size c.swap-head.result
-    (c.turn.ensures.goes ∙ ap (leaving c.args.self.now.blocks.now.words.fixed) c.requires.inside.2 ∙ leaves_so g.row.T.Denot c.args.self.now.blocks.now.words.fixed c.args.slot c.requires.inside.0 c.requires.inside.1)
-    c.swap-head.ensures.goes
+counts_down-requires g c = record {
+  taken =
+      list_told g.T.Defers.defers c.turn.new.seat.view c.swap-head.new.seat.view c.args.slot c.args.self.now.blocks.now.words.fixed.batch_size c.swap-head.result
+      (c.turn.ensures.goes ∙ ap (leaving c.args.self.now.blocks.now.words.fixed) c.requires.inside.2 ∙ leaves_so g.row.T.Denot c.args.self.now.blocks.now.words.fixed c.args.slot c.requires.inside.0 c.requires.inside.1)
+      c.swap-head.ensures.goes;
+}
 
 pub turn-requires-2-clause-may : goal.turn-requires-2-clause-may
 turn-requires-2-clause-may g c =
-    may_turn g.T.Defers.defers c.args.self.now.blocks.now.words.fixed c.counts_down.new.seat.id c.counts_down.new.seat.view (Left c.args.slot c.args.self.now.blocks.now.words.fixed.batch_size) c.counts_down.ensures.left ended refl
+    may_turn g.T.Defers.defers c.counts_down.new.self.blocks.now.words.fixed c.counts_down.new.self.seat.id c.counts_down.new.self.seat.view (Left c.args.slot c.args.self.now.blocks.now.words.fixed.batch_size) c.counts_down.ensures.left ended refl
+
+pub returns-clause-outside : goal.returns-clause-outside
+returns-clause-outside g c = c.turn-2.ensures.goes ∙ ap (ended c.counts_down.new.self.blocks.now.words.fixed) c.counts_down.ensures.left

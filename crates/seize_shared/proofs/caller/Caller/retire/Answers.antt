@@ -1,11 +1,13 @@
 use Rattle.std.specs.Prelude.{None}
-use Rattle.std.proofs.Common.{refl, ap, sym, subst, ◌∙◌, ◌≡◌, ℕ}
+use Rattle.std.proofs.Common.{◌≡◌, ℕ, refl, ap, sym, ◌∙◌}
+use Rattle.seize.specs.declared.rows.settle.Settle.{Settle}
+use Rattle.seize.specs.Settle.{retiring}
+use Rattle.seize_words.specs.Word.{link_to}
 use Rattle.seize_shared.specs.Begun.{retires, ended}
-use Rattle.seize_shared.specs.declared.view.View.{View}
 use Rattle.seize_shared.specs.declared.view.View.TheVariants.{Inside, Settles}
-use Rattle.seize_shared.specs.declared.view.Has.TheVariants.{Cut}
+use Rattle.seize_shared.specs.declared.view.Has.TheVariants.{Nothing, Cut}
 use Rattle.seize_shared.specs.declared.view.Why.TheVariants.{Retiring}
-use Rattle.seize_shared.proofs.Calls.{may_turn}
+use Rattle.seize_shared.proofs.Calls.{may_turn, whole_link}
 use Rattle.seize_shared.proofs.caller.Caller.retire.Goals as goal
 
 pub turn-requires-clause-may : goal.turn-requires-clause-may
@@ -14,6 +16,17 @@ turn-requires-clause-may g c =
 
 pub turn-requires-2-clause-may : goal.turn-requires-2-clause-may
 turn-requires-2-clause-may g c =
-    let k = c.settles.ensures.settling Retiring (None, c.turn.ensures.goes ∙ ap (retires c.args.self.now.blocks.now.words.fixed) c.requires.cut) in
-    may_turn g.T.Defers.defers c.args.self.now.blocks.now.words.fixed c.settles.new.seat.id c.settles.new.seat.view (Settles c.settles.new-row Retiring k.0) k.1 ended
+    let row : c.retire-row.result ≡ retiring c.args.slot c.args.self.now.blocks.now.words.fixed.batch_size (link_to c.args.block) =
+    c.retire-row.ensures ∙ ap (λ (n : ℕ). retiring c.args.slot n c.to.result) (sym c.args.self.now.sized)
+    ∙ ap (retiring c.args.slot c.args.self.now.blocks.now.words.fixed.batch_size) (c.to.ensures ∙ whole_link c.args.block c.requires.fits) in
+    let k = c.settles.ensures.settling Retiring (None, c.turn.ensures.goes ∙ ap (retires c.args.self.now.blocks.now.words.fixed) c.requires.cut ∙ ap (λ (r : Settle). Settles r Retiring None) (sym row)) in
+    may_turn g.T.Defers.defers c.settles.new.self.blocks.now.words.fixed c.settles.new.self.seat.id c.settles.new.self.seat.view (Settles c.settles.new.row Retiring k.0) k.1 ended
     (c.settles.ensures.over, refl)
+
+pub returns-clause-inside : goal.returns-clause-inside
+returns-clause-inside g c =
+    let row : c.retire-row.result ≡ retiring c.args.slot c.args.self.now.blocks.now.words.fixed.batch_size (link_to c.args.block) =
+    c.retire-row.ensures ∙ ap (λ (n : ℕ). retiring c.args.slot n c.to.result) (sym c.args.self.now.sized)
+    ∙ ap (retiring c.args.slot c.args.self.now.blocks.now.words.fixed.batch_size) (c.to.ensures ∙ whole_link c.args.block c.requires.fits) in
+    let k = c.settles.ensures.settling Retiring (None, c.turn.ensures.goes ∙ ap (retires c.args.self.now.blocks.now.words.fixed) c.requires.cut ∙ ap (λ (r : Settle). Settles r Retiring None) (sym row)) in
+    c.turn-2.ensures.goes ∙ ap (ended c.settles.new.self.blocks.now.words.fixed) k.1 ∙ ap (λ (t : ℕ). Inside t Nothing) (c.settles.ensures.slot ∙ ap (λ (r : Settle). r.slot) row)
