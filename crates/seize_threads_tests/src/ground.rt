@@ -9,6 +9,7 @@ use seize_shared::OfRows;
 pub(crate) const SIZE: u64 = 4;
 
 /// A memory with batches of four and a root.
+#[derive(Drop)]
 pub(crate) struct Ground<'a, T: Defers> {
     pub(crate) blocks: &'a Blocks<T, OfRows>,
     ghost sized: { blocks.now.words.fixed.batch_size ≡ 4 },
