@@ -8,7 +8,8 @@ PROGRAM is the built program. Without it the one is taken that `rt run` has buil
 
 A script is made of its seed alone, so a seed that is told here can be run again: `--show SEED` prints its script. The kinds of
 line and how often each comes stand in WEIGHTS. A line names what was named before, mostly what is still there, so that most
-lines are events that are carried out, and some are refused.
+lines are events that are carried out, and some are refused. In half of the scripts all comes to its end behind them: calls,
+guards, maps and registrations, and then the collector is closed, or reclaims all.
 
 Each seed that memcheck finds something in, or at which the program ends with another status than 0, is told, with what was
 found. `--plain` runs the program without valgrind. The status is 1 where anything was found.
@@ -51,7 +52,7 @@ WEIGHTS = {
     "end": 8,
     "shape": 6,
     "reclaim_all": 3,
-    "close": 0.3,
+    "close": 0.05,
     "wrong": 0.2,
 }
 
@@ -77,6 +78,14 @@ REPLIES = {
     "retain": ["yes", "no"],
 }
 
+# by which such a call, or a walk, comes to its end
+ENDINGS = {
+    "compute": "reply {0} abort w\ngo {0}\n",
+    "remove_if": "reply {0} no\ngo {0}\n",
+    "retain": "reply {0} no\ngo {0}\n" * 8,
+    "walk": "stop {0}\n",
+}
+
 # these need no line more
 WHOLE = ["get", "insert", "try_insert", "remove", "reserve", "clear", "len"]
 
@@ -90,13 +99,14 @@ class Script:
         self.guards = []
         self.maps = []
         self.callers = {}
-        self.named = 0
+        self.called = {}
+        self.given = []
         self.keys = self.random.choice([4, 20, 100, 1000])
 
     def new(self, kind):
         """A name of its own."""
-        self.named += 1
-        return f"{kind}{self.named}"
+        self.given.append(f"{kind}{len(self.given) + 1}")
+        return self.given[-1]
 
     def some(self, names):
         """A name that was given, or now and then one that was not."""
@@ -107,7 +117,7 @@ class Script:
     def gone(self, names):
         """A name whose bearer ends, if the event is carried out."""
         name = self.some(names)
-        if name in names and self.random.random() < 0.9:
+        if name in names:
             names.remove(name)
         return name
 
@@ -133,6 +143,7 @@ class Script:
         asking = [name for name, kind in self.callers.items() if kind in REPLIES]
         name = self.some(asking)
         kind = self.random.choice(REPLIES[self.callers.get(name, "compute")])
+        self.over(name, ["compute", "remove_if"])
         if kind in ("insert", "abort"):
             kind = f"{kind} {self.value()}"
         return f"go {name}\nreply {name} {kind}\ngo {name}"
@@ -147,6 +158,12 @@ class Script:
     def caller(self):
         return self.some(list(self.callers))
 
+    def over(self, name, kinds):
+        """A caller whose call ends so, mostly, if it is one of these kinds."""
+        if self.callers.get(name) in kinds and self.random.random() < 0.9:
+            del self.callers[name]
+        return name
+
     def walker(self):
         return self.some([name for name, kind in self.callers.items() if kind == "walk"] or list(self.callers))
 
@@ -160,6 +177,7 @@ class Script:
             if len(self.callers) > 2:
                 del self.callers[next(iter(self.callers))]
         self.callers[name] = kind
+        self.called[name] = kind
         return f"begin {name} {self.some(self.guards)} {self.some(self.maps)} {self.call(kind)}"
 
     def guard_line(self, kind):
@@ -182,14 +200,17 @@ class Script:
             return f"{kind} {self.some(self.guards)}"
         if kind in ("drop", "forget"):
             return f"{kind} {self.gone(self.guards)}"
-        if kind in ("step", "go"):
-            return f"{kind} {self.caller()}"
+        if kind == "go":
+            return f"{kind} {self.over(self.caller(), WHOLE)}"
         if kind in ("next", "stop"):
             name = self.walker()
+            if kind == "stop":
+                self.over(name, ["walk"])
             return f"go {name}\n{kind} {name}"
         makers = {
             "call": lambda: f"call {self.some(self.guards)} {self.some(self.maps)} {self.call(self.kind(WHOLE))}",
             "begin": self.begun,
+            "step": lambda: f"step {self.caller()}",
             "refused step": lambda: f"step {self.caller()} nomem",
             "refused go": lambda: f"go {self.caller()} nomem",
             "reply": self.reply,
@@ -203,6 +224,23 @@ class Script:
         }
         return makers[kind]() if kind in makers else kind
 
+    def lacking(self):
+        """The kind of line without which most of the others are refused, if one is wanted."""
+        if not self.registrations:
+            return "register"
+        if not self.maps:
+            return "map"
+        return None if self.guards else "enter"
+
+    def ending(self):
+        """All comes to its end, but for calls that ask too often."""
+        for name, kind in self.called.items():
+            yield f"go {name}"
+            yield from ENDINGS.get(kind, "").format(name).split("\n")[:-1]
+        for kind, ends in (("g", "drop"), ("m", "end"), ("r", "unregister")):
+            yield from [f"{ends} {name}" for name in self.given if name.startswith(kind)]
+        yield self.random.choice(["close", "reclaim_all"])
+
     def lines(self, count):
         """So many lines: first what most of the others need."""
         if self.random.random() < 0.7:
@@ -212,7 +250,9 @@ class Script:
         for kind in ("register", "register", "map", "enter", "enter", "own"):
             yield self.line(kind)
         for _ in range(count):
-            yield from self.line(self.random.choices(list(WEIGHTS), WEIGHTS.values())[0]).split("\n")
+            yield from self.line(self.lacking() or self.random.choices(list(WEIGHTS), WEIGHTS.values())[0]).split("\n")
+        if self.random.random() < 0.5:
+            yield from self.ending()
 
 
 def script_of(seed, lines):

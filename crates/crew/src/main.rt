@@ -32,10 +32,10 @@ fn event(alloc: std::alloc::Global, number: u64, place: u64) -> Result<Event<u64
 }
 
 /// Each driver does its part, on a thread of its own.
-fn drive<S: Hashes<u64> + Drop + Send, N: CrewName + Send + Sync, W: Threads + Wait + Sync>(
+fn drive<R: Runner<u64, u64> + Drop + Send, N: CrewName + Send + Sync, W: Threads + Wait + Sync>(
     rt: &W,
     alloc: std::alloc::Global,
-    crew: &Crew<u64, u64, S, N>,
+    crew: &CrewOf<u64, u64, R, N>,
     drivers: &mut [Driver<u64, u64, N>],
 ) {
     let work = |_: usize, driver: &mut Driver<u64, u64, N>| {

@@ -5,7 +5,7 @@ ghost use Rattle.std.specs.Prelude.{◌≡◌, ℕ, Ok, OnErr, IfOk, None, Some}
 ghost use Rattle.std.specs.List.Sorted.{IsPermutation};
 ghost use Rattle.interner.specs.Numbers.{number_of, HasNext};
 
-use papaya_seq::{Fault, HashMap, Text};
+use papaya_seq::{Fault, FromJson, HashMap, Text, ToJson};
 use serde_json::Value;
 use std::alloc::Global;
 use std::io;

@@ -1,7 +1,7 @@
 -- A wrong plan: what is put behind a block is handed on as the block is unlinked, and not as it is reclaimed. So what is put there a step later is lost: refused
 -- by `NothingIsLost` of `seize_acts`, and by `NothingElseWaits` here.
-use Rattle.std.specs.Prelude.{Option, Some, None}
-use Rattle.std.proofs.Common.{◌≡◌, ℕ, false, List, [], ◌∷◌, refl}
+use Rattle.std.specs.Prelude.{Option, Some, None, ◌++◌}
+use Rattle.std.proofs.Common.{◌≡◌, ℕ, false, [], ◌∷◌, refl}
 use Rattle.papaya_executor.specs.Given.SeizeWords.Word.{link_to}
 use Rattle.papaya_executor.specs.Given.SeizeWords.declared.at.At.TheVariants.{Root}
 use Rattle.papaya_executor.specs.Given.SeizeWords.Mem.{value_at}

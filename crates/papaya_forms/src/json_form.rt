@@ -1,38 +1,26 @@
-//! How keys and values look in JSON.
-ghost use Rattle.std.specs.Prelude.{◌≡◌, ◌≤◌, ◌↔◌, ℕ, List, Bool, IfOk, IfErr, IsTrue, false, string_bytes};
+//! How values look in JSON.
+ghost use Rattle.std.specs.Prelude.{◌≡◌, ◌≤◌, ◌↔◌, Bool, IfOk, IfErr, IsTrue, false};
 ghost use Rattle.serde_json.specs.Data.{Data, depth};
 ghost use Rattle.serde_json.specs.Read.{max_depth};
 ghost use Rattle.serde_json.specs.View.{view};
 ghost use Rattle.serde_json.specs.Written.{has_float};
 ghost use Rattle.papaya_forms.specs.Forms.{Reads};
-ghost use Rattle.papaya_forms.specs.declared.fault.JsonFault.TheVariants.{BadKey, BadElement};
+ghost use Rattle.papaya_forms.specs.declared.fault.JsonFault.TheVariants.{BadElement};
 
 use crate::fault::JsonFault;
 use serde_json::Value;
 use std::alloc::{AllocError, Global};
 
-/// What has a form in JSON: one text as a key, and one value as a value of a map or an element of a set.
+/// What has a form in JSON: one value, as a value of a map or an element of a set.
 pub trait JsonForm: Eq {
     // What holds of each value of the type.
     ghost in_range: { Self → Type 0 };
 
-    // The text that it is written as where it is a key.
-    ghost key_text: { Self → List ℕ };
-
-    // The value that it is written as elsewhere.
+    // The value that it is written as.
     ghost json_value: { Self → Data };
 
     // Whether a value of the type has memory of its own.
     ghost takes_memory: { Bool };
-
-    /// Its text as a key.
-    fn to_key_text(&self, alloc: Global) -> Result<String, AllocError>
-        ensures in_range { in_range self.now }
-        ensures text { IfOk result (λ text. string_bytes text ≡ key_text self.now) };
-
-    /// The key of this text. BadKey where no key is written so, Memory where there was none for it.
-    fn from_key_text(alloc: Global, text: &str) -> Result<Self, JsonFault>
-        ensures { Reads takes_memory in_range key_text BadKey text.now result };
 
     /// Its value.
     fn to_value(&self, alloc: Global) -> Result<Value, AllocError>
@@ -43,9 +31,6 @@ pub trait JsonForm: Eq {
     /// What this value stands for. BadElement where nothing is written so, Memory where there was none for it.
     fn from_value(alloc: Global, value: &Value) -> Result<Self, JsonFault>
         ensures { Reads takes_memory in_range json_value BadElement (view value.now) result };
-
-    // Just what is equal has the same text.
-    ghost key_text_tells: { (x y : Self) → in_range x → in_range y → IsTrue (Self.eq x y) ↔ (key_text x ≡ key_text y) };
 
     // Just what is equal has the same value.
     ghost json_value_tells: { (x y : Self) → in_range x → in_range y → IsTrue (Self.eq x y) ↔ (json_value x ≡ json_value y) };

@@ -10,6 +10,7 @@ ghost use Rattle.papaya_forms.specs.declared.fault.JsonFault.TheVariants.{BadKey
 use crate::decimals::signed_of;
 use crate::fault::JsonFault;
 use crate::json_form::JsonForm;
+use crate::json_key::JsonKey;
 use serde_json::Value;
 use std::alloc::{AllocError, Global};
 
@@ -39,28 +40,15 @@ fn value_within(least: i64, most: i64, value: &Value) -> Result<i64, JsonFault>
 impl JsonForm for i8 {
     ghost in_range = { IsSigned 8 };
 
-    ghost key_text = { signed_decimal };
-
     ghost json_value = { signed_value };
 
     ghost takes_memory = { false };
-
-    ghost key_text_tells = { signed_texts_tell (2 ^ 7 - 1) (omega arith) };
 
     ghost json_value_tells = { λ x y _ _. signed_values_tell x y };
 
     ghost has_no_float = { signed_has_no_float };
 
     ghost is_read_back = { λ _. omega arith };
-
-    fn to_key_text(&self, alloc: Global) -> Result<String, AllocError> {
-        let number = *self;
-        number.to_string(alloc)
-    }
-
-    fn from_key_text(_alloc: Global, text: &str) -> Result<Self, JsonFault> {
-        Ok(key_within(i64::from(i8::MIN), i64::from(i8::MAX), text)? as i8)
-    }
 
     fn to_value(&self, _alloc: Global) -> Result<Value, AllocError> {
         Ok(Value::from(*self))
@@ -71,22 +59,10 @@ impl JsonForm for i8 {
     }
 }
 
-impl JsonForm for i16 {
-    ghost in_range = { IsSigned 16 };
-
+impl JsonKey for i8 {
     ghost key_text = { signed_decimal };
 
-    ghost json_value = { signed_value };
-
-    ghost takes_memory = { false };
-
-    ghost key_text_tells = { signed_texts_tell (2 ^ 15 - 1) (omega arith) };
-
-    ghost json_value_tells = { λ x y _ _. signed_values_tell x y };
-
-    ghost has_no_float = { signed_has_no_float };
-
-    ghost is_read_back = { λ _. omega arith };
+    ghost key_text_tells = { signed_texts_tell (2 ^ 7 - 1) (omega arith) };
 
     fn to_key_text(&self, alloc: Global) -> Result<String, AllocError> {
         let number = *self;
@@ -94,8 +70,22 @@ impl JsonForm for i16 {
     }
 
     fn from_key_text(_alloc: Global, text: &str) -> Result<Self, JsonFault> {
-        Ok(key_within(i64::from(i16::MIN), i64::from(i16::MAX), text)? as i16)
+        Ok(key_within(i64::from(i8::MIN), i64::from(i8::MAX), text)? as i8)
     }
+}
+
+impl JsonForm for i16 {
+    ghost in_range = { IsSigned 16 };
+
+    ghost json_value = { signed_value };
+
+    ghost takes_memory = { false };
+
+    ghost json_value_tells = { λ x y _ _. signed_values_tell x y };
+
+    ghost has_no_float = { signed_has_no_float };
+
+    ghost is_read_back = { λ _. omega arith };
 
     fn to_value(&self, _alloc: Global) -> Result<Value, AllocError> {
         Ok(Value::from(*self))
@@ -106,22 +96,10 @@ impl JsonForm for i16 {
     }
 }
 
-impl JsonForm for i32 {
-    ghost in_range = { IsSigned 32 };
-
+impl JsonKey for i16 {
     ghost key_text = { signed_decimal };
 
-    ghost json_value = { signed_value };
-
-    ghost takes_memory = { false };
-
-    ghost key_text_tells = { signed_texts_tell (2 ^ 31 - 1) (omega arith) };
-
-    ghost json_value_tells = { λ x y _ _. signed_values_tell x y };
-
-    ghost has_no_float = { signed_has_no_float };
-
-    ghost is_read_back = { λ _. omega arith };
+    ghost key_text_tells = { signed_texts_tell (2 ^ 15 - 1) (omega arith) };
 
     fn to_key_text(&self, alloc: Global) -> Result<String, AllocError> {
         let number = *self;
@@ -129,8 +107,22 @@ impl JsonForm for i32 {
     }
 
     fn from_key_text(_alloc: Global, text: &str) -> Result<Self, JsonFault> {
-        Ok(key_within(i64::from(i32::MIN), i64::from(i32::MAX), text)? as i32)
+        Ok(key_within(i64::from(i16::MIN), i64::from(i16::MAX), text)? as i16)
     }
+}
+
+impl JsonForm for i32 {
+    ghost in_range = { IsSigned 32 };
+
+    ghost json_value = { signed_value };
+
+    ghost takes_memory = { false };
+
+    ghost json_value_tells = { λ x y _ _. signed_values_tell x y };
+
+    ghost has_no_float = { signed_has_no_float };
+
+    ghost is_read_back = { λ _. omega arith };
 
     fn to_value(&self, _alloc: Global) -> Result<Value, AllocError> {
         Ok(Value::from(*self))
@@ -141,22 +133,47 @@ impl JsonForm for i32 {
     }
 }
 
+impl JsonKey for i32 {
+    ghost key_text = { signed_decimal };
+
+    ghost key_text_tells = { signed_texts_tell (2 ^ 31 - 1) (omega arith) };
+
+    fn to_key_text(&self, alloc: Global) -> Result<String, AllocError> {
+        let number = *self;
+        number.to_string(alloc)
+    }
+
+    fn from_key_text(_alloc: Global, text: &str) -> Result<Self, JsonFault> {
+        Ok(key_within(i64::from(i32::MIN), i64::from(i32::MAX), text)? as i32)
+    }
+}
+
 impl JsonForm for i64 {
     ghost in_range = { IsSigned 64 };
-
-    ghost key_text = { signed_decimal };
 
     ghost json_value = { signed_value };
 
     ghost takes_memory = { false };
-
-    ghost key_text_tells = { signed_texts_tell (2 ^ 63 - 1) (omega arith) };
 
     ghost json_value_tells = { λ x y _ _. signed_values_tell x y };
 
     ghost has_no_float = { signed_has_no_float };
 
     ghost is_read_back = { λ _. omega arith };
+
+    fn to_value(&self, _alloc: Global) -> Result<Value, AllocError> {
+        Ok(Value::from(*self))
+    }
+
+    fn from_value(_alloc: Global, value: &Value) -> Result<Self, JsonFault> {
+        value_within(i64::MIN, i64::MAX, value)
+    }
+}
+
+impl JsonKey for i64 {
+    ghost key_text = { signed_decimal };
+
+    ghost key_text_tells = { signed_texts_tell (2 ^ 63 - 1) (omega arith) };
 
     fn to_key_text(&self, alloc: Global) -> Result<String, AllocError> {
         let number = *self;
@@ -165,13 +182,5 @@ impl JsonForm for i64 {
 
     fn from_key_text(_alloc: Global, text: &str) -> Result<Self, JsonFault> {
         key_within(i64::MIN, i64::MAX, text)
-    }
-
-    fn to_value(&self, _alloc: Global) -> Result<Value, AllocError> {
-        Ok(Value::from(*self))
-    }
-
-    fn from_value(_alloc: Global, value: &Value) -> Result<Self, JsonFault> {
-        value_within(i64::MIN, i64::MAX, value)
     }
 }

@@ -5,16 +5,19 @@ ghost use Rattle.papaya_forms.specs.Tells.{text_values_tell};
 ghost use Rattle.std.specs.Str.{bytes_eq};
 ghost use Rattle.std.specs.Fmt.{debug_str};
 ghost use Rattle.std.specs.Hash as fed;
+ghost use Rattle.std.specs.Ordering.{nat_cmp};
 ghost use Rattle.std.specs.Cmp.{partial_equiv_from_equiv};
-ghost use Rattle.std.specs.Cmp.Lexicographic.{nat_list_eq_equiv};
+ghost use Rattle.std.specs.Cmp.Lexicographic.{nat_list_cmp_total, nat_list_eq_equiv, slice_cmp, texts_po, texts_ties};
 ghost use Rattle.std.proofs.Common.{arith, rules};
 ghost use Rattle.std.proofs.lemmas.Slice.Eq.{bytes_eq-Decides};
 
 use crate::fault::JsonFault;
 use crate::json_form::JsonForm;
+use crate::json_key::JsonKey;
 use papaya_tables::Equivalent;
 use serde_json::Value;
 use std::alloc::{AllocError, Global};
+use std::cmp::Ordering;
 use std::fmt;
 use std::hash::{Hash, Hasher};
 use std::marker::Model;
@@ -63,6 +66,31 @@ impl PartialEq for Text {
 
 impl Eq for Text {
     ghost laws = { nat_list_eq_equiv };
+}
+
+/// By the bytes, as the order of `String`.
+impl PartialOrd for Text {
+    ghost partial_cmp = { λ text other. Some (slice_cmp nat_cmp text other) };
+
+    ghost laws = { texts_po };
+
+    fn partial_cmp(&self, other: &Self) -> Option<Ordering> {
+        Some(self.cmp(other))
+    }
+}
+
+impl Ord for Text {
+    ghost cmp = { slice_cmp nat_cmp };
+
+    ghost total = { nat_list_cmp_total };
+
+    ghost matches_partial_cmp = { λ _ _. refl };
+
+    ghost matches_eq = { texts_ties };
+
+    fn cmp(&self, other: &Self) -> Ordering {
+        self.text.cmp(&other.text)
+    }
 }
 
 impl Hash for Text {
@@ -131,27 +159,15 @@ impl fmt::Debug for Text {
 impl JsonForm for Text {
     ghost in_range = { λ _. ⊤ };
 
-    ghost key_text = { λ text. text };
-
     ghost json_value = { string };
 
     ghost takes_memory = { true };
-
-    ghost key_text_tells = { λ x y _ _. bytes_eq-Decides x y };
 
     ghost json_value_tells = { λ x y _ _. text_values_tell x y };
 
     ghost has_no_float = { λ _. refl };
 
     ghost is_read_back = { λ _. omega arith };
-
-    fn to_key_text(&self, alloc: Global) -> Result<String, AllocError> {
-        String::from_str(alloc, self.as_str())
-    }
-
-    fn from_key_text(alloc: Global, text: &str) -> Result<Self, JsonFault> {
-        Ok(Text::new(alloc, text)?)
-    }
 
     fn to_value(&self, alloc: Global) -> Result<Value, AllocError> {
         Value::try_from_str(alloc, self.as_str())
@@ -162,5 +178,19 @@ impl JsonForm for Text {
             Some(text) => Ok(Text::new(alloc, text)?),
             None => Err(JsonFault::BadElement),
         }
+    }
+}
+
+impl JsonKey for Text {
+    ghost key_text = { λ text. text };
+
+    ghost key_text_tells = { λ x y _ _. bytes_eq-Decides x y };
+
+    fn to_key_text(&self, alloc: Global) -> Result<String, AllocError> {
+        String::from_str(alloc, self.as_str())
+    }
+
+    fn from_key_text(alloc: Global, text: &str) -> Result<Self, JsonFault> {
+        Ok(Text::new(alloc, text)?)
     }
 }

@@ -7,25 +7,36 @@ ghost use Rattle.papaya_forms.specs.Tells.{bool_texts_tell, bool_values_tell};
 
 use crate::fault::JsonFault;
 use crate::json_form::JsonForm;
+use crate::json_key::JsonKey;
 use serde_json::Value;
 use std::alloc::{AllocError, Global};
 
 impl JsonForm for bool {
     ghost in_range = { λ _. ⊤ };
 
-    ghost key_text = { bool_text };
-
     ghost json_value = { boolean };
 
     ghost takes_memory = { false };
-
-    ghost key_text_tells = { λ x y _ _. bool_texts_tell x y };
 
     ghost json_value_tells = { λ x y _ _. bool_values_tell x y };
 
     ghost has_no_float = { λ _. refl };
 
     ghost is_read_back = { λ _. omega arith };
+
+    fn to_value(&self, _alloc: Global) -> Result<Value, AllocError> {
+        Ok(Value::from(*self))
+    }
+
+    fn from_value(_alloc: Global, value: &Value) -> Result<Self, JsonFault> {
+        value.as_bool().ok_or(JsonFault::BadElement)
+    }
+}
+
+impl JsonKey for bool {
+    ghost key_text = { bool_text };
+
+    ghost key_text_tells = { λ x y _ _. bool_texts_tell x y };
 
     fn to_key_text(&self, alloc: Global) -> Result<String, AllocError> {
         String::from_str(alloc, if *self { "true" } else { "false" })
@@ -37,13 +48,5 @@ impl JsonForm for bool {
             "false" => Ok(false),
             _ => Err(JsonFault::BadKey),
         }
-    }
-
-    fn to_value(&self, _alloc: Global) -> Result<Value, AllocError> {
-        Ok(Value::from(*self))
-    }
-
-    fn from_value(_alloc: Global, value: &Value) -> Result<Self, JsonFault> {
-        value.as_bool().ok_or(JsonFault::BadElement)
     }
 }

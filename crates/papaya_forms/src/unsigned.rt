@@ -9,6 +9,7 @@ ghost use Rattle.papaya_forms.specs.declared.fault.JsonFault.TheVariants.{BadKey
 use crate::decimals::unsigned_of;
 use crate::fault::JsonFault;
 use crate::json_form::JsonForm;
+use crate::json_key::JsonKey;
 use serde_json::Value;
 use std::alloc::{AllocError, Global};
 
@@ -36,28 +37,15 @@ fn value_up_to(most: u64, value: &Value) -> Result<u64, JsonFault>
 impl JsonForm for u8 {
     ghost in_range = { IsUnsigned 8 };
 
-    ghost key_text = { decimal };
-
     ghost json_value = { unsigned_value };
 
     ghost takes_memory = { false };
-
-    ghost key_text_tells = { unsigned_texts_tell 8 (omega arith) };
 
     ghost json_value_tells = { λ x y _ _. unsigned_values_tell x y };
 
     ghost has_no_float = { λ _. refl };
 
     ghost is_read_back = { λ _. omega arith };
-
-    fn to_key_text(&self, alloc: Global) -> Result<String, AllocError> {
-        let number = *self;
-        number.to_string(alloc)
-    }
-
-    fn from_key_text(_alloc: Global, text: &str) -> Result<Self, JsonFault> {
-        Ok(key_up_to(u64::from(u8::MAX), text)? as u8)
-    }
 
     fn to_value(&self, _alloc: Global) -> Result<Value, AllocError> {
         Ok(Value::from(*self))
@@ -68,22 +56,10 @@ impl JsonForm for u8 {
     }
 }
 
-impl JsonForm for u16 {
-    ghost in_range = { IsUnsigned 16 };
-
+impl JsonKey for u8 {
     ghost key_text = { decimal };
 
-    ghost json_value = { unsigned_value };
-
-    ghost takes_memory = { false };
-
-    ghost key_text_tells = { unsigned_texts_tell 16 (omega arith) };
-
-    ghost json_value_tells = { λ x y _ _. unsigned_values_tell x y };
-
-    ghost has_no_float = { λ _. refl };
-
-    ghost is_read_back = { λ _. omega arith };
+    ghost key_text_tells = { unsigned_texts_tell 8 (omega arith) };
 
     fn to_key_text(&self, alloc: Global) -> Result<String, AllocError> {
         let number = *self;
@@ -91,8 +67,22 @@ impl JsonForm for u16 {
     }
 
     fn from_key_text(_alloc: Global, text: &str) -> Result<Self, JsonFault> {
-        Ok(key_up_to(u64::from(u16::MAX), text)? as u16)
+        Ok(key_up_to(u64::from(u8::MAX), text)? as u8)
     }
+}
+
+impl JsonForm for u16 {
+    ghost in_range = { IsUnsigned 16 };
+
+    ghost json_value = { unsigned_value };
+
+    ghost takes_memory = { false };
+
+    ghost json_value_tells = { λ x y _ _. unsigned_values_tell x y };
+
+    ghost has_no_float = { λ _. refl };
+
+    ghost is_read_back = { λ _. omega arith };
 
     fn to_value(&self, _alloc: Global) -> Result<Value, AllocError> {
         Ok(Value::from(*self))
@@ -103,22 +93,10 @@ impl JsonForm for u16 {
     }
 }
 
-impl JsonForm for u32 {
-    ghost in_range = { IsUnsigned 32 };
-
+impl JsonKey for u16 {
     ghost key_text = { decimal };
 
-    ghost json_value = { unsigned_value };
-
-    ghost takes_memory = { false };
-
-    ghost key_text_tells = { unsigned_texts_tell 32 (omega arith) };
-
-    ghost json_value_tells = { λ x y _ _. unsigned_values_tell x y };
-
-    ghost has_no_float = { λ _. refl };
-
-    ghost is_read_back = { λ _. omega arith };
+    ghost key_text_tells = { unsigned_texts_tell 16 (omega arith) };
 
     fn to_key_text(&self, alloc: Global) -> Result<String, AllocError> {
         let number = *self;
@@ -126,8 +104,22 @@ impl JsonForm for u32 {
     }
 
     fn from_key_text(_alloc: Global, text: &str) -> Result<Self, JsonFault> {
-        Ok(key_up_to(u64::from(u32::MAX), text)? as u32)
+        Ok(key_up_to(u64::from(u16::MAX), text)? as u16)
     }
+}
+
+impl JsonForm for u32 {
+    ghost in_range = { IsUnsigned 32 };
+
+    ghost json_value = { unsigned_value };
+
+    ghost takes_memory = { false };
+
+    ghost json_value_tells = { λ x y _ _. unsigned_values_tell x y };
+
+    ghost has_no_float = { λ _. refl };
+
+    ghost is_read_back = { λ _. omega arith };
 
     fn to_value(&self, _alloc: Global) -> Result<Value, AllocError> {
         Ok(Value::from(*self))
@@ -138,22 +130,47 @@ impl JsonForm for u32 {
     }
 }
 
+impl JsonKey for u32 {
+    ghost key_text = { decimal };
+
+    ghost key_text_tells = { unsigned_texts_tell 32 (omega arith) };
+
+    fn to_key_text(&self, alloc: Global) -> Result<String, AllocError> {
+        let number = *self;
+        number.to_string(alloc)
+    }
+
+    fn from_key_text(_alloc: Global, text: &str) -> Result<Self, JsonFault> {
+        Ok(key_up_to(u64::from(u32::MAX), text)? as u32)
+    }
+}
+
 impl JsonForm for u64 {
     ghost in_range = { IsUnsigned 64 };
-
-    ghost key_text = { decimal };
 
     ghost json_value = { unsigned_value };
 
     ghost takes_memory = { false };
-
-    ghost key_text_tells = { unsigned_texts_tell 64 (omega arith) };
 
     ghost json_value_tells = { λ x y _ _. unsigned_values_tell x y };
 
     ghost has_no_float = { λ _. refl };
 
     ghost is_read_back = { λ _. omega arith };
+
+    fn to_value(&self, _alloc: Global) -> Result<Value, AllocError> {
+        Ok(Value::from(*self))
+    }
+
+    fn from_value(_alloc: Global, value: &Value) -> Result<Self, JsonFault> {
+        value_up_to(u64::MAX, value)
+    }
+}
+
+impl JsonKey for u64 {
+    ghost key_text = { decimal };
+
+    ghost key_text_tells = { unsigned_texts_tell 64 (omega arith) };
 
     fn to_key_text(&self, alloc: Global) -> Result<String, AllocError> {
         let number = *self;
@@ -162,13 +179,5 @@ impl JsonForm for u64 {
 
     fn from_key_text(_alloc: Global, text: &str) -> Result<Self, JsonFault> {
         key_up_to(u64::MAX, text)
-    }
-
-    fn to_value(&self, _alloc: Global) -> Result<Value, AllocError> {
-        Ok(Value::from(*self))
-    }
-
-    fn from_value(_alloc: Global, value: &Value) -> Result<Self, JsonFault> {
-        value_up_to(u64::MAX, value)
     }
 }

@@ -15,3 +15,4 @@ pub mod Refreshes
 pub mod Rests
 pub mod Rooms
 pub mod Standing
+pub mod TooMany

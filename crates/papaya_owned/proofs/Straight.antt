@@ -1,5 +1,5 @@
 -- What straight code has made of a call on a key are steps of a run by the one owner.
-use Rattle.std.specs.Prelude.{◌≡◌, ℕ, Bool, true, Ok, Result}
+use Rattle.std.specs.Prelude.{◌≡◌, ℕ, Bool, true, false, Ok, Option, Result}
 use Rattle.std.proofs.Common.{refl, sym, subst}
 use denote.Ref.{Bor}
 use Rattle.seize_words.specs.Mem.{Mem, Can, Took, value_at}
@@ -9,10 +9,18 @@ use Rattle.seize_words.proofs.Plans.{may_as}
 use Rattle.seize.proofs.StepsInto.{steps_into}
 use Rattle.seize.specs.declared.progress.Progress.{Progress}
 use Rattle.seize.specs.declared.progress.Progress.TheVariants as progress
+use Rattle.seize.specs.Leave.{leave_plan, settled as leave_settled}
+use Rattle.seize.specs.Settle.{settle_plan}
+use Rattle.seize.specs.declared.rows.leave.Leaving.TheVariants as leaving
+use Rattle.seize.specs.declared.rows.settle.Settle.{Settle}
+use Rattle.seize.specs.declared.rows.settle.Settled.{Settled}
+use Rattle.seize.specs.declared.rows.settle.Settled.TheVariants as settled
+use Rattle.papaya_tables.specs.Nodes.{deferred_word}
 use Rattle.papaya_tables.specs.declared.node.Node.{Node}
 use Rattle.papaya_tables.specs.declared.table.Table.{Table}
 use Rattle.papaya_resize.specs.Copier.{copier_plan}
 use Rattle.papaya_resize.specs.declared.copier.Copier.{Copier}
+use Rattle.papaya_resize.specs.declared.dispose.Dispose.{Dispose}
 use Rattle.papaya_resize.specs.declared.outcome.Outcome.{Outcome}
 use Rattle.papaya_resize.specs.declared.outcome.Outcome.TheVariants as outcome
 use Rattle.papaya_raw.specs.Call.{call_plan}
@@ -20,17 +28,18 @@ use Rattle.papaya_raw.specs.declared.machines.answer.Called.{Called}
 use Rattle.papaya_raw.specs.declared.machines.answer.Called.TheVariants as called
 use Rattle.papaya_raw.specs.declared.machines.answer.KeyAnswer.{KeyAnswer}
 use Rattle.papaya_raw.specs.declared.machines.call.KeyCall.{KeyCall}
-use Rattle.papaya_straight.specs.Going.{CallGoes, CopyGoes}
+use Rattle.papaya_straight.specs.Going.{CallGoes, CopyGoes, DropGoes, DropLeads, MayDrop}
 use Rattle.papaya_straight.specs.Runs as Straight
 use Rattle.papaya_straight.specs.Runs.{MayRun}
 use Rattle.papaya_straight.proofs.Running.{by_law}
 use Rattle.papaya_owned.specs.Ending.{Ends, Leads, RunsTo, none_taken, one_more, stops}
-use Rattle.papaya_owned.specs.Inside.{helping, takes_more}
-use Rattle.papaya_owned.specs.Machines.{on_call, on_key_after, on_key_plan}
+use Rattle.papaya_owned.specs.Inside.{has_ended, helping, retiring, takes_more}
+use Rattle.papaya_owned.specs.Machines.{on_call, on_key_after, on_key_plan, refreshes_after, refreshes_plan}
+use Rattle.papaya_owned.specs.declared.machines.Refreshes.{Refreshes}
 use Rattle.papaya_owned.specs.declared.machines.OnKey.{OnKey}
 use Rattle.papaya_owned.specs.declared.machines.Stop.{Stop}
 use Rattle.papaya_owned.specs.declared.machines.Stop.TheVariants as stop
-use Rattle.papaya_owned.proofs.Inner.{copier_may, helps_on}
+use Rattle.papaya_owned.proofs.Inner.{copier_may, helps_on, settle_may, settles_on}
 use Rattle.papaya_owned.proofs.Runs.Leading.{ends_along, runs_along}
 use Rattle.papaya_owned.proofs.Runs.Steps.{ends_on, may_step}
 
@@ -83,6 +92,27 @@ module _ {K V Q S : Type 0} (asks : Q → K → Bool) (same : K → K → Bool) 
     pub runs_there : (x : OnKey K V Q S) (k : Mem (Node K V)) (result : Result Stop Fault) → RunsTo plan_of (on d) n x k result → RunsTo plan_of (on c) m x k result
     runs_there x k result r = runs_along plan_of (on c) (on d) m n (leads_to c d m n l) x k result r
 
+  -- the retirement of a pair, within a call
+  module _ (u : OnKey K V Q S) (answer : KeyAnswer) (dispose : Dispose) where
+    not_ended : (told : Settled (Node K V)) → DropGoes told → has_ended told ≡ false
+    not_ended settled.Goes so = refl
+    not_ended settled.Waits so = refl
+    not_ended (settled.Gave value) so = refl
+    not_ended settled.Done so = absurd so
+
+    pub settles_run : (s : Settle) (m : Mem (Node K V)) → Ends plan_of (retiring u answer dispose s) m → MayDrop deferred_word Took value_at Can s m
+    settles_run =
+        by_law DropGoes Took value_at (settle_plan deferred_word) Can (λ s m. Ends plan_of (retiring u answer dispose s) m)
+        (λ s m ends. settle_may asks same hashes m u answer dispose s ends)
+        (λ s m ends n t told so x. ends_on plan_of (retiring u answer dispose s) m ends n (retiring u answer dispose t) progress.Goes tt
+        (settles_on asks same hashes m u answer dispose s n t told (not_ended told so) x))
+
+    pub settles_lead : (s t : Settle) (m n : Mem (Node K V)) → DropLeads deferred_word Took value_at s m t n → Leads plan_of (retiring u answer dispose s) m (retiring u answer dispose t) n
+    settles_lead s t m n (Straight.none_taken _ _) = none_taken (retiring u answer dispose s) m
+    settles_lead s t m n (Straight.one_more _ _ x k l told so _ _ y) =
+        one_more (retiring u answer dispose s) m (retiring u answer dispose x) k (settles_lead s x m k l) progress.Goes tt (retiring u answer dispose t) n
+        (settles_on asks same hashes k u answer dispose x n t told (not_ended told so) y)
+
   -- the help with a resize, within a call
   module _ (u : OnKey K V Q S) (goal : Table) where
     abbrev copier_steps : Copier → Plan (Node K V) (Copier × Outcome (Node K V) Table)
@@ -113,3 +143,33 @@ pub places_on : {K V Q S : Type 0} (asks : Q → K → Bool) (same : K → K →
 places_on {K} {V} asks same hashes u goal hasher is c d m n l =
     copies_lead asks same hashes u.hasher u goal c d m n
     (subst (λ h. Straight.Leads (CopyGoes {T = Node K V} {A = Table}) Took value_at (copier_plan (hashes h)) c m d n) (sym is) l)
+
+-- a refresh counts its list down
+abbrev pub counting : Refreshes → Settle → Refreshes
+counting r s = record { leave = record r.leave { stands = leaving.Settles s } }
+
+module _ {T : Type 0} (defers : T → Option ℕ) (r : Refreshes) where
+  counts_on : (s t : Settle) (m n : Mem T) (told : Settled T) → DropGoes told → Steps Took value_at m (settle_plan defers s) n (t, told)
+      → Steps Took value_at m (refreshes_plan defers (counting r s)) n (counting r t, progress.Goes)
+  counts_on s t m n settled.Goes so x =
+      steps_into (refreshes_after (counting r s)) Can Took value_at m n (leave_plan defers (counting r s).leave) (leave_settled (counting r s).leave (t, settled.Goes)) (counting r t, progress.Goes) refl
+      (steps_into (leave_settled (counting r s).leave) Can Took value_at m n (settle_plan defers s) (t, settled.Goes) (leave_settled (counting r s).leave (t, settled.Goes)) refl x)
+  counts_on s t m n settled.Waits so x =
+      steps_into (refreshes_after (counting r s)) Can Took value_at m n (leave_plan defers (counting r s).leave) (leave_settled (counting r s).leave (t, settled.Waits)) (counting r t, progress.Goes) refl
+      (steps_into (leave_settled (counting r s).leave) Can Took value_at m n (settle_plan defers s) (t, settled.Waits) (leave_settled (counting r s).leave (t, settled.Waits)) refl x)
+  counts_on s t m n (settled.Gave value) so x =
+      steps_into (refreshes_after (counting r s)) Can Took value_at m n (leave_plan defers (counting r s).leave) (leave_settled (counting r s).leave (t, settled.Gave value)) (counting r t, progress.Goes) refl
+      (steps_into (leave_settled (counting r s).leave) Can Took value_at m n (settle_plan defers s) (t, settled.Gave value) (leave_settled (counting r s).leave (t, settled.Gave value)) refl x)
+  counts_on s t m n settled.Done so x = absurd so
+
+  pub counts_run : (s : Settle) (m : Mem T) → Ends (refreshes_plan defers) (counting r s) m → MayDrop defers Took value_at Can s m
+  counts_run =
+      by_law DropGoes Took value_at (settle_plan defers) Can (λ s m. Ends (refreshes_plan defers) (counting r s) m)
+      (λ s m ends. may_as (leave_settled (counting r s).leave) Can Took value_at m (settle_plan defers s)
+      (may_as (refreshes_after (counting r s)) Can Took value_at m (leave_plan defers (counting r s).leave) (may_step (refreshes_plan defers) (counting r s) m ends)))
+      (λ s m ends n t told so x. ends_on (refreshes_plan defers) (counting r s) m ends n (counting r t) progress.Goes tt (counts_on s t m n told so x))
+
+  pub counts_lead : (s t : Settle) (m n : Mem T) → DropLeads defers Took value_at s m t n → Leads (refreshes_plan defers) (counting r s) m (counting r t) n
+  counts_lead s t m n (Straight.none_taken _ _) = none_taken (counting r s) m
+  counts_lead s t m n (Straight.one_more _ _ x k l told so _ _ y) =
+      one_more (counting r s) m (counting r x) k (counts_lead s x m k l) progress.Goes tt (counting r t) n (counts_on x t k n told so y)

@@ -20,7 +20,7 @@ ghost use Rattle.papaya_owned.specs.declared.machines.Stop.TheVariants as stop;
 use crate::machines::{OnKey, Stop};
 use papaya_raw::Outcome;
 use papaya_raw::machines::{Calling, Copier, Dispose, Disposing, End, KeyAnswer};
-use papaya_straight::copy_places;
+use papaya_straight::{copy_places, reclaims};
 use papaya_tables::{Equivalent, Hashes, Node, Table};
 use seize::rows::{Settle, Settled};
 use seize::{Machine, Progress};
@@ -53,6 +53,7 @@ fn retires<K: Eq + Hash + Drop, V: Drop, Q: Equivalent<K>, S: Hashes<K>>(
         → Strides (on_key_plan Q.Equivalent.equivalent K.eq S.hash) (retiring u answer dispose settle.old) memory.old memory.new (retiring u answer dispose settle.new, progress.Goes) }
 {
     for _ in 0..MANY {
+        reclaims(settle, memory);
         let told = settle.step(memory);
         if has_ended(told) {
             return true;

@@ -8,6 +8,7 @@ mod looking;
 mod machines;
 mod most;
 mod most_looks;
+mod refreshes;
 mod removals;
 mod rooms;
 mod running;

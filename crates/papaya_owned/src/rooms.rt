@@ -1,10 +1,11 @@
 //! Room for further pairs in one owner's map: a reservation, run to its end.
-ghost use Rattle.std.specs.Prelude.{List};
+ghost use Rattle.std.specs.Prelude.{◌≡◌, List, length, Err};
 ghost use Rattle.papaya_owned.specs.Ending.{HasCome};
 ghost use Rattle.papaya_whole.specs.Given.Reserves.Reserve.{reserving};
 ghost use Rattle.papaya_owned.specs.Machines.{for_room_plan};
 ghost use Rattle.papaya_owned.specs.Owned.{Holds};
-ghost use Rattle.papaya_owned.specs.Rooms.{RoomBy};
+ghost use Rattle.papaya_owned.specs.Rooms.{NeedTooMany, RoomBy};
+ghost use Rattle.seize_words.specs.declared.fault.Fault.TheVariants.{Capacity};
 
 use crate::machines::ForRoom;
 use crate::running::run;
@@ -14,7 +15,8 @@ use seize_words::{Fault, Plain};
 use std::hash::Hash;
 
 /// Makes room for so many further pairs: the table of the root has as many places as they need, beside the pairs that are there. No pair changes.
-/// The faults are `Fault::Capacity`, where that is too many, or the map has had too many tables, and `Fault::Memory`.
+/// The faults are `Fault::Capacity`, where that is too many, or the map has had too many tables, and `Fault::Memory`. Where that is too many, it is
+/// refused so before a growth that is under way is seen through.
 pub fn make_room<K: Eq + Hash + Drop, V: Drop, S: Hashes<K>>(
     memory: &mut Plain<Node<K, V>>,
     setting: Setting,
@@ -23,6 +25,7 @@ pub fn make_room<K: Eq + Hash + Drop, V: Drop, S: Hashes<K>>(
 ) -> Result<(), Fault>
     requires { (xs : List (K × V)) × Holds K.eq (S.hash hasher.now) setting memory.old xs }
     ensures room { (xs : List (K × V)) → Holds K.eq (S.hash hasher.now) setting memory.old xs → RoomBy K.eq (S.hash hasher.now) setting additional memory.new xs result }
+    ensures refused { (xs : List (K × V)) → Holds K.eq (S.hash hasher.now) setting memory.old xs → NeedTooMany additional (length xs) → result ≡ Err Capacity }
     ensures ran { HasCome (for_room_plan S.hash) (record { reserve = reserving setting additional; hasher = hasher.entry }) memory.old memory.new result }
 {
     let reserve = Reserve::new(setting, additional);

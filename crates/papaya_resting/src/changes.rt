@@ -15,7 +15,7 @@ ghost use Rattle.papaya_sifts.specs.Given.Callers.Kind.{removes};
 ghost use Rattle.papaya_asks.specs.Asking.{by_lent};
 
 use crate::last::{Last, told_at};
-use papaya_owned::{Refreshes, Stop, run};
+use papaya_owned::{Refreshes, Stop, run_skimming};
 use papaya_raw::machines::KeyAnswer;
 use papaya_tables::{Equivalent, Node, Setting};
 use seize::rows::{Leave, Leaving, Settle};
@@ -48,7 +48,7 @@ pub fn refresh<K: Eq + Hash + Drop, V: Drop, S: BuildHasher>(
         stands: Leaving::Settles(settle),
     };
     let mut machine = Refreshes { leave };
-    let _ = run(&mut machine, memory);
+    let _ = run_skimming(&mut machine, memory);
 }
 
 /// Whether a removal has removed a pair.

@@ -1,9 +1,9 @@
 //! Room for further pairs, after a refresh.
-ghost use Rattle.std.specs.Prelude.{◌≡◌, List, [], length, IfErr, OnOk};
+ghost use Rattle.std.specs.Prelude.{◌≡◌, Err, List, [], length, IfErr, OnOk};
 ghost use Rattle.papaya_sifts.specs.Given.Late.Faults.{IsRoom};
 ghost use Rattle.papaya_holds.specs.Held.{HoldsOn, held_in};
 ghost use Rattle.papaya_owned.specs.Owned.{Holds, hashed_by};
-ghost use Rattle.papaya_owned.specs.Rooms.{CannotMakeRoom, HasRoomFor};
+ghost use Rattle.papaya_owned.specs.Rooms.{CannotMakeRoom, HasRoomFor, NeedTooMany};
 ghost use Rattle.papaya_owned.specs.Ending.{HasCome};
 ghost use Rattle.papaya_sifts.specs.Given.Reserves.Reserve.{reserving};
 ghost use Rattle.papaya_owned.specs.Machines.{for_room_plan};
@@ -16,7 +16,7 @@ use papaya_tables::{Node, Setting};
 use seize_words::{Fault, Plain};
 use std::hash::{BuildHasher, Hash};
 
-/// Makes room for so many further pairs, after a refresh.
+/// Makes room for so many further pairs, after a refresh. Where they need more places than a table can have, it is refused by `Fault::Capacity`.
 pub fn reserve<K: Eq + Hash + Drop, V: Drop, S: BuildHasher>(
     memory: &mut Plain<Node<K, V>>,
     setting: Setting,
@@ -31,6 +31,8 @@ pub fn reserve<K: Eq + Hash + Drop, V: Drop, S: BuildHasher>(
     ensures fault { IfErr result IsRoom }
     ensures capacity { (xs : List (K × V)) → Holds K.eq (hashed_by S.Hasher.finish S.Hasher.write S.build_hasher K.hash_input hasher.now) setting memory.old xs
         → IfErr result (λ fault. fault ≡ Capacity → CannotMakeRoom setting memory.new additional (length xs)) }
+    ensures refused { (xs : List (K × V)) → Holds K.eq (hashed_by S.Hasher.finish S.Hasher.write S.build_hasher K.hash_input hasher.now) setting memory.old xs
+        → NeedTooMany additional (length xs) → result ≡ Err Capacity }
     ensures ran { OnceRefreshed setting memory.old (λ m. HasCome (for_room_plan (hashed_by S.Hasher.finish S.Hasher.write S.build_hasher K.hash_input)) (record { reserve = reserving setting additional; hasher = hasher.entry }) m memory.new result) }
     ensures keeps { (xs : List (K × V)) → Holds K.eq (hashed_by S.Hasher.finish S.Hasher.write S.build_hasher K.hash_input hasher.now) setting memory.old xs
         → HoldsOn [] xs (held_in memory.old) (held_in memory.new) }

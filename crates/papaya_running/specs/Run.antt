@@ -4,6 +4,7 @@ use Rattle.std.specs.List.{AllByRecursion}
 use Rattle.std.specs.Ordering.{nat_cmp}
 use Rattle.papaya_runs.specs.Pairs.{numbers}
 use Rattle.papaya_runs.specs.Runs.{IsStored}
+use Rattle.seize_words.specs.Mem.{values_in}
 use Rattle.papaya_schedules.specs.declared.event.Event.{Event}
 use Rattle.papaya_schedules.specs.declared.record.Run.{Run}
 use Rattle.papaya_schedules.specs.After.{AtEachEvent, moment}
@@ -87,3 +88,10 @@ module _ {K V S : Type 0} (same : K → K → Bool) (hashes : S → K → ℕ) w
   pub record HasCome (terms : Terms) (events : List (Event K V)) (r : Running K V S) : Type 0 where
     pub so_far : SoFar same (hashes r.scheduler.logged.executor.hasher) terms events r.written r.tally r.scheduler
     pub back : BackSoFar (log_so events r.written) r.back.items
+
+  -- A run tells how many blocks are there at its end: those that hold a value in the memory of one that has come by these events, with just these outcomes, steps and effects.
+  pub record HoldsBlocks (terms : Terms) (events : List (Event K V)) (run : Run K V) : Type 0 where
+    pub last : Running K V S
+    pub come : HasCome terms events last
+    pub same_log : log_of events run ≡ log_so events last.written
+    pub live : run.live ≡ length (values_in last.scheduler.logged.executor.memory.memory.blocks)

@@ -6,7 +6,7 @@ ghost use Rattle.papaya_schedules.specs.Runs.{IsRunOf, log_of};
 ghost use Rattle.papaya_schedules.specs.Terms.{Terms};
 ghost use Rattle.papaya_schedules.specs.declared.event.Event.{Event};
 ghost use Rattle.papaya_scheduler.specs.Played.{terms_given};
-ghost use Rattle.papaya_running.specs.Run.{HandsOn, HasCome, IsRightRun, bounded};
+ghost use Rattle.papaya_running.specs.Run.{HandsOn, HasCome, HoldsBlocks, IsRightRun, bounded};
 
 use crate::acting::{acting_of, traced_as};
 use crate::ending::living;
@@ -107,6 +107,8 @@ impl<K: Drop, V: Drop, S: Drop> Running<K, V, S> {
             → IsRunOf same terms events run) }
         ensures hands { IfOk result (λ run. (same : K → K → Bool) (hashes : S → K → ℕ) (terms : Terms) (events : List (Event K V)) → HasCome same hashes terms events self
             → AtEachEvent HandsOn (log_of events run)) }
+        ensures live { IfOk result (λ run. (same : K → K → Bool) (hashes : S → K → ℕ) (terms : Terms) (events : List (Event K V)) → HasCome same hashes terms events self
+            → HoldsBlocks same hashes terms events run) }
     {
         let Running {
             scheduler,
@@ -118,6 +120,7 @@ impl<K: Drop, V: Drop, S: Drop> Running<K, V, S> {
         let Logged { executor, notes } = logged;
         let living = living(alloc, maps, &tally)?;
         let waiting = tally.waiting(alloc)?;
+        let live = executor.memory.memory.live();
         let kept = pairs_left(alloc, executor.memory.memory, &notes)?;
         Ok(Run {
             outcomes: written.outcomes,
@@ -130,6 +133,7 @@ impl<K: Drop, V: Drop, S: Drop> Running<K, V, S> {
             stored: notes.stored(),
             given_back: PairList::of(alloc, back)?,
             kept: PairList::of(alloc, kept)?,
+            live,
         })
     }
 }
@@ -146,6 +150,7 @@ pub fn run<K: Eq + Hash + Drop, V: Drop, S: BuildHasher + Drop>(
     ensures run { IfOk result (λ run. IsRightRun (terms_given (bounded setup)) schedule.items run) }
     ensures whole { IfOk result (λ run. IsRunOf K.eq (terms_given (bounded setup)) schedule.items run) }
     ensures hands { IfOk result (λ run. AtEachEvent HandsOn (log_of schedule.items run)) }
+    ensures live { IfOk result (λ run. HoldsBlocks K.eq ⟦<S as Hashes<K>>⟧.hash (terms_given (bounded setup)) schedule.items run) }
     ensures memory { IfErr result (λ fault. fault ≡ Fault.Memory) }
 {
     run_refusing(alloc, setup, hasher, schedule, choices, &[])
@@ -164,6 +169,7 @@ pub fn run_refusing<K: Eq + Hash + Drop, V: Drop, S: BuildHasher + Drop>(
     ensures run { IfOk result (λ run. IsRightRun (terms_given (bounded setup)) schedule.items run) }
     ensures whole { IfOk result (λ run. IsRunOf K.eq (terms_given (bounded setup)) schedule.items run) }
     ensures hands { IfOk result (λ run. AtEachEvent HandsOn (log_of schedule.items run)) }
+    ensures live { IfOk result (λ run. HoldsBlocks K.eq ⟦<S as Hashes<K>>⟧.hash (terms_given (bounded setup)) schedule.items run) }
     ensures memory { IfErr result (λ fault. fault ≡ Fault.Memory) }
 {
     let mut running = Running::begin(alloc, setup, hasher, choices)?;

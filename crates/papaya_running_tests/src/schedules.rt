@@ -26,9 +26,9 @@ use std::test::Fail;
 /// An event, what it comes to, and what it does.
 pub type Line = (Step, Shown, &'static [Deed]);
 
-/// How a run ends: how many pairs it has stored, how many came back, which ones wait, how many tables do, and how many pairs the map has, if it
-/// lives.
-type Ends = (u64, usize, &'static [u64], u64, Option<usize>);
+/// How a run ends: how many pairs it has stored, how many came back, which ones wait, how many tables do, how many pairs the map has, if it lives, and how many
+/// blocks are there: each pair that did not come back has one, each table that was not reclaimed or taken, the count of a map that lives, and what a call has made.
+type Ends = (u64, usize, &'static [u64], u64, Option<usize>, u64);
 
 /// The size of batches, the lines of a schedule, and how its run ends.
 type Schedule = (u64, &'static [&'static [Line]], Ends);
@@ -206,6 +206,29 @@ const RETIRES: [Line; 5] = [
     (Leave, DONE, &[Back(2), Back(1), TableBack(0)]),
 ];
 
+/// A pair is replaced, and comes back as its section ends.
+const REPLACED: [Line; 3] = [
+    (
+        Call(Insert(1, 1)),
+        ABSENT,
+        &[
+            Block,
+            Pair,
+            Block,
+            TableMade(0),
+            Linked(0, 32, 25),
+            Stored(1, 0, 1),
+            Counted,
+        ],
+    ),
+    (
+        Call(Insert(1, 2)),
+        ("found", 1, 0),
+        &[Block, Pair, Replaced(1), Stored(2, 0, 1), Retired(1)],
+    ),
+    (Leave, DONE, &[Back(1)]),
+];
+
 /// A map reclaims its pairs as it ends, and a value that found its key taken comes back at once.
 const OCCUPIED: [Line; 4] = [
     (
@@ -306,23 +329,29 @@ const ASKS: [Line; 10] = [
     (Leave, DONE, &[TableBack(0), Back(1)]),
 ];
 
-const SCHEDULES: [Schedule; 13] = [
+const SCHEDULES: [Schedule; 16] = [
+    (1, &[], (0, 0, &[], 0, None, 0)),
+    (1, &[&SMALL, &REPLACED], (2, 1, &[], 0, Some(1), 3)),
     (
         1,
         &[&INCREMENTAL, &EIGHT, &CARRIES, &LEAVES],
-        (9, 0, &[1], 0, Some(8)),
+        (9, 0, &[1], 0, Some(8), 12),
     ),
     (
         1,
         &[&INCREMENTAL, &EIGHT, &CARRIES, &ENDS],
-        (9, 7, &[1, 2], 0, None),
+        (9, 7, &[1, 2], 0, None, 2),
     ),
     (
         1,
         &[&INCREMENTAL, &EIGHT, &CARRIES, &ENDS, &GIVES_BACK],
-        (9, 9, &[], 0, None),
+        (9, 9, &[], 0, None, 0),
     ),
-    (1, &[&INCREMENTAL, &EIGHT, &ASKS], (9, 1, &[], 0, Some(8))),
+    (
+        1,
+        &[&INCREMENTAL, &EIGHT, &ASKS],
+        (9, 1, &[], 0, Some(8), 10),
+    ),
     (
         1,
         &[
@@ -332,7 +361,7 @@ const SCHEDULES: [Schedule; 13] = [
             &RESIZES_BESIDE,
             &UPDATES_THERE,
         ],
-        (10, 0, &[1], 0, Some(9)),
+        (10, 0, &[1], 0, Some(9), 13),
     ),
     (
         1,
@@ -343,27 +372,32 @@ const SCHEDULES: [Schedule; 13] = [
             &RESIZES_BESIDE,
             &ASKS_THERE,
         ],
-        (9, 0, &[], 0, Some(9)),
+        (9, 0, &[], 0, Some(9), 12),
     ),
+    (1, &[&INCREMENTAL, &ASKS_TWICE], (1, 0, &[], 0, Some(1), 4)),
     (
         1,
         &[&INCREMENTAL, &ASKS_TWICE, &UPDATES],
-        (2, 0, &[1], 0, Some(1)),
+        (2, 0, &[1], 0, Some(1), 4),
     ),
     (
         1,
         &[&INCREMENTAL, &ASKS_TWICE, &REMOVES],
-        (1, 0, &[1], 0, Some(0)),
+        (1, 0, &[1], 0, Some(0), 3),
     ),
     (
         1,
         &[&INCREMENTAL, &ASKS_TWICE, &ABORTS],
-        (1, 0, &[], 0, Some(1)),
+        (1, 0, &[], 0, Some(1), 3),
     ),
-    (1, &[&INCREMENTAL, &ASKS_ANEW], (2, 0, &[1, 2], 0, Some(0))),
-    (1, &[&BLOCKING, &EIGHT, &RETIRES], (9, 9, &[], 0, None)),
-    (1, &[&SMALL, &OCCUPIED], (1, 1, &[], 0, None)),
-    (32, &[&SMALL, &CLOSES], (3, 3, &[], 0, None)),
+    (
+        1,
+        &[&INCREMENTAL, &ASKS_ANEW],
+        (2, 0, &[1, 2], 0, Some(0), 4),
+    ),
+    (1, &[&BLOCKING, &EIGHT, &RETIRES], (9, 9, &[], 0, None, 0)),
+    (1, &[&SMALL, &OCCUPIED], (1, 1, &[], 0, None, 0)),
+    (32, &[&SMALL, &CLOSES], (3, 3, &[], 0, None, 0)),
 ];
 
 fn setup(batch_size: u64) -> Setup {
@@ -418,10 +452,10 @@ fn is_as_told(rt: &impl Abort, run: &Run<u64, u64>, parts: &[&[Line]]) {
 
 /// The run ends so.
 fn ends_as_told(rt: &impl Abort, run: &Run<u64, u64>, ends: Ends) {
-    let (stored, given_back, waiting, tables, living) = ends;
+    let (stored, given_back, waiting, tables, living, live) = ends;
     assert_eq!(rt;
-        (run.stored, run.given_back.len(), run.tables),
-        (stored, given_back, tables)
+        (run.stored, run.given_back.len(), run.tables, run.live),
+        (stored, given_back, tables, live)
     );
     assert_eq!(rt; run.waiting.as_slice(), waiting);
     match (run.maps.first(), living) {

@@ -28,4 +28,6 @@ pub struct Run<K, V> {
     pub given_back: PairList<K, V>,
     /// The pairs that were not, in no order.
     pub kept: PairList<K, V>,
+    /// How many blocks its memory held at the end: of pairs, of tables, of the shards of maps' counts.
+    pub live: u64,
 }

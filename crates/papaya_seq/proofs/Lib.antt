@@ -1,4 +1,5 @@
 -- Lemmas on sets for one owner.
+mod Members
 mod Sets
 mod Stored
 pub mod Given

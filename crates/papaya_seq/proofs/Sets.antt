@@ -1,15 +1,16 @@
 -- Elements of a set, which are the keys of a map with no values.
 use Rattle.std.specs.Prelude.{if◌then◌else◌}
 use denote.Ref.{Bor}
-use Rattle.std.specs.Fn.{Called, CalledAt, Mut}
+use Rattle.std.specs.Fn.{Called, CalledAt, ComputesKey, Mut}
 use Rattle.std.specs.List.{AllZip, FoldsTo}
 use Rattle.std.specs.List.Sorted.{IsPermutation}
 use Rattle.std.specs.Map.{keys_of}
 use Rattle.std.proofs.Common.{◌≡◌, Bool, true, false, cond, not, List, [], ◌∷◌, ◌++◌, find, filter, map, Option, Some, is_some, is_none, option_map, refl, ap, sym, subst, ◌∙◌}
+use Rattle.std.proofs.lemmas.Fn.{answers_by}
 use Rattle.std.proofs.lemmas.List.{map-append}
 use Rattle.std.proofs.lemmas.List.Sorted.{IsPermutation-trans, IsPermutation-append_left, IsPermutation-map}
-use Rattle.papaya_seq_map.specs.Given.{AskedAlong, IsCloneOf, KeepsOf, found_by, left_by, put, put_all, with_no_values}
-use Rattle.papaya_seq_map.specs.Maps.{Keeps, Map}
+use Rattle.papaya_seq_map.specs.Given.{AnswersByTest, AskedAlong, IsCloneOf, KeepsOf, found_by, left_by, put, put_all, with_no_values}
+use Rattle.papaya_seq_map.specs.Given.Maps.{Keeps, Map}
 use Rattle.papaya_seq.specs.Sets.{KeepsElements, KeepsIn, Set, last_taken_in, left_in, put_in, put_all_in, set_of}
 use Rattle.papaya_seq_map.proofs.Given.{kept_in_any_order, lifts, no_values, there_as}
 
@@ -155,6 +156,14 @@ module _ {C F K V : Type 0} {asks : Mut C (Bor K × (Bor V × Unit {0})) Bool} (
           ≡ map (λ (z : K × Bool). z.0) (cond b ((y.0.0, y.1) ∷ filter (λ z. z.1) (map (λ (z : (K × V) × Bool). (z.0.0, z.1)) answered)) (filter (λ z. z.1) (map (λ (z : (K × V) × Bool). (z.0.0, z.1)) answered)))
       by true so = ap (λ l. y.0.0 ∷ l) so
       by false so = so
+
+  -- asked by a test of elements, it answers by the test of their keys
+  pub asked_by_test : (test : K → Bool) (s : C) → ComputesKey g test (inner s) → AnswersByTest asks (λ k v. test k) s
+  asked_by_test test s so =
+      answers_by asks (λ about answer. answer ≡ test about.0.now) (λ t. ComputesKey g test (inner t))
+      (λ t about answer next called from.
+      let here = through t next about.0 about.1.0 answer called in
+      ((from.at ((about.0, tt) ∷ []) answer (inner next) here).0, record { at = λ others. (from.at ((about.0, tt) ∷ others) answer (inner next) here).1 })) s so
 
   pub keys_kept_of : (s : C) (xs kept : List (K × V)) → KeepsOf asks s xs kept → KeepsElements g (inner s) (keys_of xs) (keys_of kept)
   keys_kept_of s xs kept k = record {

@@ -5,8 +5,8 @@ use Rattle.std.proofs.Common.{◌≡◌, Bool, List, [], ◌∷◌, ◌++◌, fi
 use Rattle.std.proofs.lemmas.List.{map-append}
 use Rattle.std.proofs.lemmas.List.Sorted.{IsPermutation-refl}
 use Rattle.papaya_seq_map.specs.Given.{Balanced, found_by, last_put, last_taken, put, put_all}
-use Rattle.papaya_seq_map.specs.Maps.{Map}
-use Rattle.papaya_seq_map.specs.Stored.{IsMadeOf, IsMadeOfClones}
+use Rattle.papaya_seq_map.specs.Given.Maps.{Map}
+use Rattle.papaya_seq_map.specs.Given.Stored.{IsMadeOf, IsMadeOfClones}
 use Rattle.papaya_seq_map.proofs.Given.{balanced_first, balanced_more, kept_balances, put_is_last}
 use Rattle.papaya_seq.specs.Sets.{LastTookOut, Set, last_taken_in, put_all_in, set_of}
 use Rattle.papaya_seq.specs.Stored.{HasPutIn, IsSetMadeOf, IsSetMadeOfClones}

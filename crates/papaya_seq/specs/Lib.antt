@@ -2,3 +2,4 @@ pub mod Sets
 pub mod Stored
 pub mod Pairs
 pub mod Each
+pub mod Json

@@ -1,12 +1,12 @@
 -- A set for one owner, as its callers see it, and its elements, once some were put into it.
 use denote.Ref.{Bor}
 use Rattle.std.specs.Prelude.{◌≡◌, ℕ, Bool, List, [], ◌∷◌, ◌++◌, Option, filter, find, map, option_map}
-use Rattle.std.specs.Fn.{Called, CalledAt, Mut}
+use Rattle.std.specs.Fn.{CalledAt, Mut}
 use Rattle.std.specs.List.{FoldsTo}
 use Rattle.std.specs.List.Sorted.{IsPermutation}
 use Rattle.std.specs.Map.{keys_of}
 use Rattle.papaya_seq_map.specs.Given.{HoldsOn}
-use Rattle.papaya_seq_map.specs.Maps.{Map}
+use Rattle.papaya_seq_map.specs.Given.Maps.{Map}
 pub use Rattle.papaya_seq_map.specs.Given.{left_in}
 
 -- The value of a set: its elements, its hasher, and two elements that can be looked at until the next change. Which order the elements are in, a walk tells alone.
@@ -49,10 +49,6 @@ module _ {K : Type 0} (same : K → K → Bool) where
   abbrev pub last_taken_in : Option K → List K → List K → Option K
   last_taken_in before xs [] = before
   last_taken_in before xs (y ∷ ys) = last_taken_in (find (same y) xs) (put_in xs y) ys
-
--- whatever it has answered before, a closure answers by this test
-abbrev pub AnswersByTestOf : {F K : Type 0} → Mut F (Bor K × Unit {0}) Bool → (K → Bool) → Type 0
-AnswersByTestOf {F} {K} g test = (f : F) (p : Bor K) (r : Bool) (next : F) → Called g f (p, tt) r next → r ≡ test p.now
 
 module _ {F K : Type 0} (g : Mut F (Bor K × Unit {0}) Bool) where
   -- Asked about each of these elements once, in some order, a closure keeps those about which it has answered `true`, in the order in which they were.

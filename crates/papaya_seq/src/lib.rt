@@ -1,9 +1,12 @@
 //! A hash map and a hash set for one owner. The map, texts as keys and JSON forms stand in crates of their own, and are given on.
 #![tactic(auto)]
 
+mod json;
+mod map;
 mod set;
 
-pub use papaya_forms::{JsonFault, JsonForm, Text};
+pub use json::{FromJson, ToJson};
+pub use papaya_forms::{JsonFault, JsonForm, JsonKey, Text};
 pub use papaya_seq_map::{
     Aborted, Compute, Equivalent, Fault, HashMap, Keys, OccupiedError, Operation, Pairs, Present,
     Refused, RefusedKey, Removed, Replaced, Updated, Values, law,

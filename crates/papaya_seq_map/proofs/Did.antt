@@ -2,7 +2,7 @@
 use Rattle.std.specs.Prelude.{false, IsTrue, MatchOption, is_some}
 use Rattle.std.specs.Option.{unwrap_or}
 use Rattle.std.proofs.Common.{◌≡◌, Bool, [], ◌∷◌, ◌++◌, Option, Some, None, Ok, refl, sym, ap, subst}
-use Rattle.papaya_asks.specs.Closures.{Computing, Removing}
+use Rattle.papaya_asks.specs.Closures.{Removing}
 use Rattle.papaya_asks.specs.declared.computing.Operation.{Operation}
 use Rattle.papaya_asks.specs.declared.computing.Operation.TheVariants as operation
 use Rattle.seize_words.specs.declared.refused.RefusedKey.{RefusedKey}
@@ -14,7 +14,7 @@ use Rattle.papaya_resting.specs.declared.change.Change.TheVariants as change
 use Rattle.papaya_resting.specs.declared.change.Compute.{Compute}
 use Rattle.papaya_resting.specs.declared.change.Compute.TheVariants as compute
 use Rattle.papaya_seq_map.specs.Answers.{HasRemoved, HasReplaced, IsLeft}
-use Rattle.papaya_seq_map.specs.Maps.{HasNow, Keeps, Map}
+use Rattle.papaya_seq_shows.specs.Maps.{HasNow, Keeps, Map}
 
 module _ {K V S : Type 0} (old map : Map K V S) where
   -- the pair that was put there has the key of the call

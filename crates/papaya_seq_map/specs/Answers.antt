@@ -1,5 +1,5 @@
 -- What changes of a map for one owner have done, and what the map ends as once an answer has ended that borrows it.
-use Rattle.std.specs.Prelude.{◌≡◌, Bool, List, [], ◌∷◌, ◌++◌, Option, None, Some, Result, Ok, Err}
+use Rattle.std.specs.Prelude.{◌≡◌, Bool, [], ◌∷◌, ◌++◌, Option, None, Some, Result, Ok, Err}
 use Rattle.std.specs.Borrow.{Fml, GName, RattleType, MutBor, RestsIfErr}
 use Rattle.std.specs.HashMap.Lent.{HashMembers}
 use Rattle.std.specs.declared.hash.Hasher as hasher
@@ -9,7 +9,7 @@ use Rattle.seize_words.specs.declared.fault.Fault.TheVariants.{Capacity}
 use Rattle.papaya_resting.specs.Given.{left_by}
 use Rattle.papaya_shown.specs.Chain.{CannotGrow}
 use Rattle.papaya_seq_map.specs.Lent.{map_row}
-use Rattle.papaya_seq_map.specs.Maps.{HasNow, Keeps, Map}
+use Rattle.papaya_seq_shows.specs.Maps.{HasNow, Keeps, Map}
 
 module _ {K V S : Type 0} (before after : Map K V S) where
   -- no pair has changed, and this one was met at the key, or none

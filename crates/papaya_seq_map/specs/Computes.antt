@@ -5,7 +5,7 @@ use Rattle.papaya_asks.specs.declared.computing.Operation.{Operation}
 use Rattle.papaya_asks.specs.declared.computing.Operation.TheVariants as operation
 use Rattle.papaya_resting.specs.Given.{found_by}
 use Rattle.papaya_seq_map.specs.Answers.{HasAdded, HasRemoved, HasReplaced, IsLeft}
-use Rattle.papaya_seq_map.specs.Maps.{Map}
+use Rattle.papaya_seq_shows.specs.Maps.{Map}
 use Rattle.papaya_seq_map.specs.declared.answers.Compute.{Compute}
 use Rattle.papaya_seq_map.specs.declared.answers.Compute.TheVariants.{Inserted, Updated, Removed, Aborted}
 

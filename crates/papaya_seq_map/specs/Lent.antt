@@ -5,7 +5,7 @@ use Rattle.std.specs.HashMap.Lent.{HashMembers}
 use Rattle.std.specs.declared.hash.Hasher as hasher
 use Rattle.std.specs.declared.hash.BuildHasher as builder
 use mathlib.Core.Option.{none}
-use Rattle.papaya_seq_map.specs.Maps.{Map}
+use Rattle.papaya_seq_shows.specs.Maps.{Map}
 use Rattle.papaya_seq_map.specs.contracts.map.HashMap.{the_row}
 
 module _ (K V S H : RattleType) (key : HashMembers K.Denot) (build : builder.Ghosts S.Denot H.Denot) (hash : hasher.Ghosts H.Denot) where

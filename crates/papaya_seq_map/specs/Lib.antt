@@ -1,6 +1,3 @@
-pub mod Json
-pub mod Maps
-pub mod Stored
 pub mod Lent
 pub mod Given
 pub mod Answers

@@ -9,7 +9,7 @@ ghost use Rattle.seize_words.specs.declared.fault.Fault.TheVariants.{Capacity};
 ghost use Rattle.papaya_resting.specs.Given.{found_by};
 ghost use Rattle.papaya_resting.specs.Asking.{HasDone};
 ghost use Rattle.papaya_resting.specs.Held.{stored_in};
-ghost use Rattle.papaya_seq_map.specs.Maps.{HasNow, Keeps};
+ghost use Rattle.papaya_seq_shows.specs.Maps.{HasNow, Keeps};
 
 use crate::map::HashMap;
 use papaya_asks::{Refused, RefusedKey};

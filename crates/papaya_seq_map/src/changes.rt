@@ -7,7 +7,7 @@ ghost use Rattle.papaya_sifts.specs.Given.Late.Faults.{IsRoom};
 ghost use Rattle.papaya_shown.specs.Chain.{CannotGrow};
 ghost use Rattle.seize_words.specs.declared.fault.Fault.TheVariants.{Capacity};
 ghost use Rattle.papaya_resting.specs.Given.{found_by, left_by};
-ghost use Rattle.papaya_seq_map.specs.Maps.{HasNow, Keeps, LastTook};
+ghost use Rattle.papaya_seq_shows.specs.Maps.{HasNow, Keeps, LastTook};
 
 use crate::map::HashMap;
 use papaya_tables::Equivalent;

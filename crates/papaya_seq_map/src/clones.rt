@@ -4,7 +4,7 @@ ghost use Rattle.std.specs.List.Sorted.{IsPermutation};
 ghost use Rattle.papaya_sifts.specs.Given.Late.Faults.{IsRoom};
 ghost use Rattle.papaya_pairs.specs.Equals.{agree};
 ghost use Rattle.papaya_pairs.specs.Puts.{ClonesAreSame, IsCloneOf, put_all};
-ghost use Rattle.papaya_seq_map.specs.Stored.{ClonesAreEqual, HasPut, IsMadeOfClones};
+ghost use Rattle.papaya_seq_shows.specs.Stored.{ClonesAreEqual, HasPut, IsMadeOfClones};
 
 use crate::insertions::store;
 use crate::map::HashMap;

@@ -9,7 +9,7 @@ ghost use Rattle.papaya_resting.specs.Asking.{HasComputed, IsRefusedFor};
 ghost use Rattle.papaya_seq_map.specs.Answers.{IsRefused, RestsUnless};
 ghost use Rattle.papaya_seq_map.specs.Computes as computes;
 ghost use Rattle.papaya_resting.specs.Held.{stored_computing};
-ghost use Rattle.papaya_seq_map.specs.Maps.{HasNow, Keeps};
+ghost use Rattle.papaya_seq_shows.specs.Maps.{HasNow, Keeps};
 
 use crate::answers::{Aborted, Compute, Present, Removed, Updated};
 use crate::map::HashMap;

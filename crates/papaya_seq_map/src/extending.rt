@@ -4,7 +4,7 @@ ghost use Rattle.std.specs.Iterator.{IsFiniteIterable};
 ghost use Rattle.papaya_sifts.specs.Given.Late.Faults.{IsRoom};
 ghost use Rattle.papaya_shown.specs.Chain.{CannotGrow};
 ghost use Rattle.seize_words.specs.declared.fault.Fault.TheVariants.{Capacity};
-ghost use Rattle.papaya_seq_map.specs.Stored.{Collects, Extends};
+ghost use Rattle.papaya_seq_shows.specs.Stored.{Collects, Extends};
 
 use crate::insertions::put;
 use crate::map::HashMap;

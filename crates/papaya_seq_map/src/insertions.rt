@@ -8,8 +8,8 @@ ghost use Rattle.seize_words.specs.declared.fault.Fault.TheVariants.{Capacity};
 ghost use Rattle.papaya_resting.specs.Given.{found_by, left_by};
 ghost use Rattle.papaya_resting.specs.Held.{if_stored, if_tried};
 ghost use Rattle.papaya_seq_map.specs.Answers.{HasAdded, IsLeft, IsRefused, RestsUnless, name_of_either};
-ghost use Rattle.papaya_seq_map.specs.Maps.{Keeps, LastTook};
-ghost use Rattle.papaya_seq_map.specs.Stored.{HasPut};
+ghost use Rattle.papaya_seq_shows.specs.Maps.{Keeps, LastTook};
+ghost use Rattle.papaya_seq_shows.specs.Stored.{HasPut};
 
 use crate::answers::{OccupiedError, Present, Replaced};
 use crate::map::HashMap;
@@ -75,7 +75,7 @@ pub(crate) fn try_put<K: Eq + Hash + Drop, V: Drop, S: BuildHasher>(
 }
 
 /// Stores a pair that is not wanted back where it is refused.
-pub(crate) fn store<K: Eq + Hash + Drop, V: Drop, S: BuildHasher>(
+pub fn store<K: Eq + Hash + Drop, V: Drop, S: BuildHasher>(
     map: &mut HashMap<K, V, S>,
     key: K,
     value: V,

@@ -12,7 +12,6 @@ mod extending;
 mod formatting;
 mod getting;
 mod insertions;
-mod json;
 mod last;
 mod lookups;
 mod making;
@@ -25,7 +24,7 @@ mod walks;
 
 pub use answers::{Aborted, Compute, OccupiedError, Present, Removed, Replaced, Updated};
 pub use changes::take;
-pub use insertions::put;
+pub use insertions::{put, store};
 pub use map::HashMap;
 pub use papaya_asks::{Operation, Refused, RefusedKey};
 pub use papaya_pairs::law;

@@ -3,7 +3,7 @@ ghost use Rattle.std.specs.Prelude.{◌≡◌, [], None, IfOk, IfErr, OnOk};
 ghost use Rattle.seize_words.specs.declared.fault.Fault.TheVariants.{Memory};
 ghost use Rattle.papaya_sifts.specs.Given.Owned.Rooms.{tables_for};
 ghost use Rattle.papaya_resting.specs.Given.{AreTooMany, IsUnmade};
-ghost use Rattle.papaya_seq_map.specs.Maps.{LastTook};
+ghost use Rattle.papaya_seq_shows.specs.Maps.{LastTook};
 
 use crate::map::{HashMap, Resting};
 use papaya_resting::Last;

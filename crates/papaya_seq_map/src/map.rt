@@ -39,7 +39,7 @@ impl<K: Eq + Hash, V, S: BuildHasher> Model for HashMap<K, V, S> {
     ghost use Rattle.std.specs.Prelude.{List};
     ghost use Rattle.papaya_resting.specs.Given.{held_in, Holds, hashed_by};
     ghost use Rattle.papaya_resting.specs.Lasts.{pair_in};
-    ghost use Rattle.papaya_seq_map.specs.Maps.{Map, pairs_shown, tables_shown};
+    ghost use Rattle.papaya_seq_shows.specs.Maps.{Map, pairs_shown, tables_shown};
 
     ghost Value = { Map K V S };
 

@@ -1,12 +1,12 @@
 //! Room for further pairs in a map for one owner. It begins with a refresh, as a change does.
-ghost use Rattle.std.specs.Prelude.{◌≡◌, ◌⊎◌, [], None, IfErr, OnOk, length};
+ghost use Rattle.std.specs.Prelude.{◌≡◌, ◌⊎◌, [], Err, None, IfErr, OnOk, length};
 ghost use Rattle.std.specs.List.Sorted.{IsPermutation};
 ghost use Rattle.papaya_sifts.specs.Given.Late.Faults.{IsRoom};
 ghost use Rattle.papaya_sifts.specs.Given.Reserves.Reserve.{needed};
 ghost use Rattle.papaya_sifts.specs.Given.Owned.Rooms.{NeedTooMany};
 ghost use Rattle.papaya_shown.specs.Chain.{CannotGrow, FirstHas};
 ghost use Rattle.seize_words.specs.declared.fault.Fault.TheVariants.{Capacity};
-ghost use Rattle.papaya_seq_map.specs.Maps.{Keeps, LastTook};
+ghost use Rattle.papaya_seq_shows.specs.Maps.{Keeps, LastTook};
 
 use crate::map::HashMap;
 use papaya_resting::Last;
@@ -15,12 +15,13 @@ use std::hash::{BuildHasher, Hash};
 
 impl<K: Eq + Hash + Drop, V: Drop, S: BuildHasher> HashMap<K, V, S> {
     /// Makes room for so many further pairs beside those that it has: its first table has the places that they need. No pair changes, only
-    /// their order may. The faults are `Fault::Capacity`, where that is too many, or no table can follow the map's last one, and `Fault::Memory`.
+    /// their order may. The faults are `Fault::Capacity`, always where that is too many, and else where no table can follow the map's last one, and `Fault::Memory`.
     pub fn reserve(&mut self, additional: u64) -> Result<(), Fault>
         ensures pairs { IsPermutation self.new.pairs self.old.pairs }
         ensures room { OnOk result (FirstHas (needed additional (length self.old.pairs)) self.new.tables) }
         ensures fault { IfErr result IsRoom }
         ensures capacity { IfErr result (λ fault. fault ≡ Capacity → CannotGrow self.new.tables ⊎ NeedTooMany additional (length self.old.pairs)) }
+        ensures refused { NeedTooMany additional (length self.old.pairs) → result ≡ Err Capacity }
         ensures last { LastTook self.new None None }
         ensures hasher { self.new.hasher ≡ self.old.hasher }
         ensures keeps { Keeps [] self.old self.new }

@@ -5,7 +5,7 @@ ghost use Rattle.papaya_sifts.specs.Given.Late.Faults.{IsRoom};
 ghost use Rattle.papaya_shown.specs.Chain.{CannotGrow};
 ghost use Rattle.seize_words.specs.declared.fault.Fault.TheVariants.{Capacity};
 ghost use Rattle.papaya_resting.specs.Given.{AnswersByTest, KeepsOf};
-ghost use Rattle.papaya_seq_map.specs.Maps.{Keeps, LastTook};
+ghost use Rattle.papaya_seq_shows.specs.Maps.{Keeps, LastTook};
 
 use crate::map::HashMap;
 use papaya_resting::Last;
@@ -34,7 +34,7 @@ impl<K: Eq + Hash + Drop, V: Drop, S: BuildHasher> HashMap<K, V, S> {
     pub fn retain<F: FnMut(&K, &V) -> bool>(&mut self, keep: F) -> Result<(), Fault>
         requires callable { F.IsAlwaysCallable keep }
         ensures done { OnOk result ((kept : List (K × V)) × KeepsOf F.FnMut keep self.old.pairs kept × IsPermutation self.new.pairs kept) }
-        ensures by_test { (test : K → V → Bool) → AnswersByTest F.FnMut test → OnOk result (IsPermutation self.new.pairs (filter (λ x. test x.0 x.1) self.old.pairs)) }
+        ensures by_test { (test : K → V → Bool) → AnswersByTest F.FnMut test keep → OnOk result (IsPermutation self.new.pairs (filter (λ x. test x.0 x.1) self.old.pairs)) }
         ensures refused { OnErr result (IsPermutation self.new.pairs self.old.pairs) }
         ensures last { LastTook self.new None None }
         ensures fault { IfErr result IsRoom }

@@ -103,6 +103,21 @@ fn changed(map: &mut Numbers, call: &str) -> Result<(), Fault> {
     }
 }
 
+/// Puts the value that a key has in its place, more often than a batch has blocks, so that numbers of blocks are used again. Where that is refused, key and value
+/// come back.
+fn inserted_again(map: &mut Numbers, key: u64) -> Result<(), Fault> {
+    let value = key.wrapping_mul(10);
+    for _ in 0..40 {
+        if let Err(refused) = map.insert(key, value) {
+            if (refused.key, refused.value) != (key, value) {
+                return Err(NO_CALL);
+            }
+            return Err(refused.fault);
+        }
+    }
+    Ok(())
+}
+
 /// A call that may store a value.
 fn stored(map: &mut Numbers, call: &str, key: u64) -> Result<(), Fault> {
     match call {
@@ -112,6 +127,7 @@ fn stored(map: &mut Numbers, call: &str, key: u64) -> Result<(), Fault> {
         "try_insert" => {
             let _ = map.try_insert(key, 5)?;
         }
+        "insert_again" => inserted_again(map, key)?,
         "get_or_insert" => {
             map.get_or_insert(key, 5)?;
         }

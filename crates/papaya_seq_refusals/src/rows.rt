@@ -12,6 +12,7 @@ new-map from_array - 8 30 -
 new-map clone - 8 30 -
 map insert 8 9 30 5
 map insert 3 8 5 -
+map insert_again 3 8 30 -
 map try_insert 8 9 30 5
 map get_or_insert 8 9 30 5
 map get_or_insert_with 8 9 30 5

@@ -1,7 +1,7 @@
 //! Maps and sets with texts are read of JSON, cloned, and written as it, and looked at by texts that are lent.
 
 use crate::maps::Hashing;
-use papaya_seq::{Fault, HashMap, HashSet, JsonFault, Text};
+use papaya_seq::{Fault, FromJson, HashMap, HashSet, JsonFault, Text, ToJson};
 use serde_json::Value;
 use std::alloc::Global;
 

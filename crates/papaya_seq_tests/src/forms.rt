@@ -1,10 +1,10 @@
 //! Examples of which texts are keys of a type, and which JSON is a value of it: just those that are written as they are read.
-use papaya_forms::{JsonFault, JsonForm, Text};
+use papaya_forms::{JsonFault, JsonForm, JsonKey, Text};
 use serde_json::Value;
 use std::alloc::Global;
 
 /// Whether each of these texts is read as a key that is written as it again, or each is refused so.
-fn keys_answer<T: JsonForm + Drop>(
+fn keys_answer<T: JsonKey + Drop>(
     alloc: Global,
     texts: &str,
     expected: Result<bool, JsonFault>,
@@ -17,7 +17,7 @@ fn keys_answer<T: JsonForm + Drop>(
     true
 }
 
-fn key_again<T: JsonForm + Drop>(alloc: Global, text: &str) -> Result<bool, JsonFault> {
+fn key_again<T: JsonKey + Drop>(alloc: Global, text: &str) -> Result<bool, JsonFault> {
     let key = T::from_key_text(alloc, text)?;
     let written = key.to_key_text(alloc)?;
     Ok(written.as_str() == text)
@@ -46,7 +46,7 @@ fn value_again<T: JsonForm + Drop>(alloc: Global, text: &str) -> Result<bool, Js
 }
 
 /// Whether a type has these keys and not the others, and these values and not the others. Behind each text stands a bar.
-fn has<T: JsonForm + Drop>(
+fn has<T: JsonKey + Drop>(
     alloc: Global,
     keys: &str,
     no_keys: &str,

@@ -1,7 +1,7 @@
 //! Worked examples of the JSON of maps, of sets, and of lists of elements that have no hash.
 
 use papaya_forms::{Listed, array_of, elements_of};
-use papaya_seq::{HashMap, HashSet, JsonFault};
+use papaya_seq::{FromJson, HashMap, HashSet, JsonFault, ToJson};
 use serde_json::Value;
 use std::alloc::Global;
 use std::hash::{BuildHasherDefault, DefaultHasher};

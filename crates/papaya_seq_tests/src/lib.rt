@@ -4,6 +4,8 @@
 #[cfg(test)]
 mod answers;
 #[cfg(test)]
+mod conveniences;
+#[cfg(test)]
 mod forms;
 #[cfg(test)]
 mod json;

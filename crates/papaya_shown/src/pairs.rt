@@ -1,8 +1,10 @@
 //! The pairs of a map that are still to come.
+ghost use Rattle.std.specs.Prelude.{◌≡◌, ⊤};
 ghost use Rattle.papaya_shown.specs.Chain.{CountsTables, counts_tables_prop};
 
 use papaya_tables::{Node, Setting};
 use seize_words::Plain;
+use std::alloc::AllocError;
 
 /// The table at a link, and all behind it. There is none where the link is 0.
 #[derive(Drop)]
@@ -21,4 +23,33 @@ pub struct Pairs<'a, K, V> {
     pub(crate) len: u64,
     /// The place in it at which it goes on.
     pub(crate) place: u64,
+}
+
+impl<'a, K, V> Clone for Tables<'a, K, V> {
+    ghost is_clone = { λ tables copy. copy ≡ tables };
+
+    ghost is_infallible = { λ _. ⊤ };
+
+    fn clone(&self) -> Result<Self, AllocError> {
+        Ok(Tables {
+            memory: self.memory,
+            link: self.link,
+        })
+    }
+}
+
+/// Another walk over what is still to come. It takes no memory.
+impl<'a, K, V> Clone for Pairs<'a, K, V> {
+    ghost is_clone = { λ pairs copy. copy ≡ pairs };
+
+    ghost is_infallible = { λ _. ⊤ };
+
+    fn clone(&self) -> Result<Self, AllocError> {
+        Ok(Pairs {
+            tables: self.tables.clone()?,
+            setting: self.setting,
+            len: self.len,
+            place: self.place,
+        })
+    }
 }

@@ -2,7 +2,7 @@
 use Rattle.std.specs.Prelude.{◌≡◌, Bool, List, map, filter, IsPermutation}
 use Rattle.std.specs.List.{FoldsTo}
 use denote.Ref.{Bor}
-use Rattle.std.specs.Fn.{Called, Mut}
+use Rattle.std.specs.Fn.{AlwaysReturns, Called, Mut}
 
 module _ {F K V : Type 0} (g : Mut F (Bor K × (Bor V × Unit {0})) Bool) where
   -- It was asked about this pair, has answered so, and is so then.
@@ -28,6 +28,6 @@ module _ {F K V : Type 0} (g : Mut F (Bor K × (Bor V × Unit {0})) Bool) where
     pub along : AskedAlong f asked last
     pub kept_are : kept ≡ map (λ y. y.0) (filter (λ y. y.1) answered)
 
--- whatever it has answered before, it answers by this test
-abbrev pub AnswersByTest : {F K V : Type 0} → Mut F (Bor K × (Bor V × Unit {0})) Bool → (K → V → Bool) → Type 0
-AnswersByTest {F} {K} {V} g test = (f : F) (p : Bor K) (q : Bor V) (r : Bool) (next : F) → Called g f (p, (q, tt)) r next → r ≡ test p.now q.now
+-- each time that it is asked from here on, it answers by this test
+abbrev pub AnswersByTest : {F K V : Type 0} → Mut F (Bor K × (Bor V × Unit {0})) Bool → (K → V → Bool) → F → Type 0
+AnswersByTest g test = AlwaysReturns g (λ about answer. answer ≡ test about.0.now about.1.0.now)

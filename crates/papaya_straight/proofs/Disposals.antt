@@ -1,5 +1,5 @@
 -- The retirement of a pair within its disposal, and the disposal within a call on a key.
-use Rattle.std.specs.Prelude.{◌≡◌, ◌<◌, ◌≤◌, ℕ, Bool, true, false, IsSome, Option, Some}
+use Rattle.std.specs.Prelude.{◌≡◌, ◌<◌, ◌≤◌, ℕ, Bool, true, false, Option, Some}
 use Rattle.std.proofs.Common.{refl, sym, subst, ap}
 use Rattle.std.proofs.lemmas.Bool.{false≢true, le-ltb, lt-ltb}
 use Rattle.seize_words.specs.Op.{Op, Out, Load, Found}
@@ -20,22 +20,20 @@ use Rattle.papaya_tables.specs.declared.resize_mode.ResizeMode.{ResizeMode}
 use Rattle.papaya_tables.specs.declared.resize_mode.ResizeMode.TheVariants.{Incremental, Blocking}
 use Rattle.papaya_resize.specs.declared.dispose.Dispose.{Dispose}
 use Rattle.papaya_raw.specs.Call.{call_plan, disposed}
-use Rattle.papaya_raw.specs.declared.machines.answer.Called.{Called}
 use Rattle.papaya_raw.specs.declared.machines.answer.Called.TheVariants as called
 use Rattle.papaya_raw.specs.declared.machines.answer.KeyAnswer.{KeyAnswer}
 use Rattle.papaya_raw.specs.declared.machines.call.Calling.TheVariants as at
 use Rattle.papaya_raw.specs.declared.machines.call.KeyCall.{KeyCall}
 use Rattle.papaya_straight.specs.Disposing.{dispose_at, disposed as disposed_to, is_borrowed, settling as settling_at}
-use Rattle.papaya_straight.specs.Going.{CallGoes, SettleGoes}
-use Rattle.papaya_straight.specs.Reaches.{Reaches}
+use Rattle.papaya_straight.specs.Going.{CallGoes, CallLeads, DisposeLeads, DisposeReaches, MayCall, MayDispose, MaySettle, SettleGoes, SettleReaches}
 use Rattle.papaya_straight.specs.Retiring.{retired}
-use Rattle.papaya_straight.specs.Runs.{MayRun, Leads, none_taken, one_more, Tells}
+use Rattle.papaya_straight.specs.Runs.{Tells}
 use Rattle.papaya_straight.specs.declared.disposing.Disposed.{Disposed}
 use Rattle.papaya_straight.specs.declared.disposing.Disposed.TheVariants as to
 use Rattle.papaya_straight.specs.declared.retiring.Retired.{Retired}
 use Rattle.papaya_straight.specs.declared.retiring.Retired.TheVariants as retire
 use Rattle.papaya_straight.proofs.Inside.{leads_in, may_in, tells_in}
-use Rattle.papaya_straight.proofs.Running.{may_step, reaches_on, runs_along}
+use Rattle.papaya_straight.proofs.Running.{Led, begins, steps_to}
 
 module _ {K V M : Type 0} (can : M → Op (Node K V) → Type 0) (took : M → Op (Node K V) → Out (Node K V) → M → Type 0) (shown : M → ℕ → Option (Node K V)) where
   module _ (setting : Setting) (word : ℕ) (table : Table) where
@@ -51,93 +49,30 @@ module _ {K V M : Type 0} (can : M → Op (Node K V) → Type 0) (took : M → O
     abbrev begun : Settle
     begun = retiring setting.slot setting.batch_size (link_in word)
 
-    pub may_retire : (m : M) → MayRun (SettleGoes {T = Node K V}) took shown (dispose_plan {K = K} {V = V}) can (put_settle begun) m
-        → MayRun (SettleGoes {T = Node K V}) took shown (settle_plan deferred_word) can begun m
+    pub may_retire : (m : M) → MayDispose took shown can (put_settle begun) m
+        → MaySettle deferred_word took shown can begun m
     may_retire m h =
         may_in SettleGoes SettleGoes can took shown (settle_plan deferred_word) dispose_plan put_settle (λ x. settled (put_settle x)) (λ x. refl) settle_goes begun m h
 
-    retired_in : (m n : M) (end : Retired) → Reaches (SettleGoes {T = Node K V}) took shown (settle_plan deferred_word) begun m n (retired setting.slot setting.batch_size (link_in word) end)
-        → Reaches (SettleGoes {T = Node K V}) took shown (dispose_plan {K = K} {V = V}) (put_settle begun) m n (disposed_to setting word table (to.Retires end))
-    retired_in m n retire.Ended r =
+    -- it is retired from there on
+    pub pair_retired : (m n : M) (end : Retired) → SettleReaches deferred_word took shown begun m n (retired setting.slot setting.batch_size (link_in word) end)
+        → DisposeReaches took shown (put_settle begun) m n (disposed_to setting word table (to.Retires end))
+    pair_retired m n retire.Ended r =
         tells_in SettleGoes SettleGoes can took shown (settle_plan deferred_word) dispose_plan put_settle (λ x. settled (put_settle x)) (λ x. refl) settle_goes begun m n settling.Done settling.Done
         (λ y z. refl) (λ x. x) r
-    retired_in m n retire.Sees r =
+    pair_retired m n retire.Sees r =
         leads_in SettleGoes SettleGoes can took shown (settle_plan deferred_word) dispose_plan put_settle (λ x. settled (put_settle x)) (λ x. refl) settle_goes begun _ m n r
-    retired_in m n (retire.Pops pending last first) r =
+    pair_retired m n (retire.Pops pending last first) r =
         leads_in SettleGoes SettleGoes can took shown (settle_plan deferred_word) dispose_plan put_settle (λ x. settled (put_settle x)) (λ x. refl) settle_goes begun _ m n r
-    retired_in m n (retire.Scans pending last first) r =
+    pair_retired m n (retire.Scans pending last first) r =
         leads_in SettleGoes SettleGoes can took shown (settle_plan deferred_word) dispose_plan put_settle (λ x. settled (put_settle x)) (λ x. refl) settle_goes begun _ m n r
 
-    -- it is retired from there on
-    pub pair_retired : (m n : M) (end : Retired) → Reaches (SettleGoes {T = Node K V}) took shown (settle_plan deferred_word) begun m n (retired setting.slot setting.batch_size (link_in word) end)
-        → Reaches (SettleGoes {T = Node K V}) took shown (dispose_plan {K = K} {V = V}) (put_settle begun) m n (disposed_to setting word table (to.Retires end))
-    pair_retired = retired_in
-
-    starts : (mode : ResizeMode) → is_borrowed mode word ≡ false → start_of setting mode word ≡ disposal.Settles begun
-    starts (Incremental chunk) e = rw e refl
-    starts Blocking e = refl
-
-    starts_lent : (mode : ResizeMode) → is_borrowed mode word ≡ true → start_of setting mode word ≡ disposal.Reads
-    starts_lent (Incremental chunk) e = rw e refl
-    starts_lent Blocking e = absurd (false≢true e)
-
-    module _ (m : M) where
-      -- where no older table may name the pair, it begins with the retirement
-      module _ (alone : is_borrowed setting.mode word ≡ false) where
-        is : disposing setting word table ≡ put_settle begun
-        is = ap (λ s. record (disposing setting word table) { stands = s }) (starts setting.mode alone)
-
-        pub may_begin : MayRun (SettleGoes {T = Node K V}) took shown (dispose_plan {K = K} {V = V}) can (disposing setting word table) m
-            → MayRun (SettleGoes {T = Node K V}) took shown (dispose_plan {K = K} {V = V}) can (put_settle begun) m
-        may_begin h = subst (λ (d : Dispose). MayRun (SettleGoes {T = Node K V}) took shown (dispose_plan {K = K} {V = V}) can d m) is h
-
-        pub has_retired : (n : M) (end : Disposed) → Reaches (SettleGoes {T = Node K V}) took shown (dispose_plan {K = K} {V = V}) (put_settle begun) m n (disposed_to setting word table end)
-            → Reaches (SettleGoes {T = Node K V}) took shown (dispose_plan {K = K} {V = V}) (disposing setting word table) m n (disposed_to setting word table end)
-        has_retired n end r = subst (λ (d : Dispose). Reaches (SettleGoes {T = Node K V}) took shown (dispose_plan {K = K} {V = V}) d m n (disposed_to setting word table end)) (sym is) r
-
-      -- else the root is read
-      module _ (lent : is_borrowed setting.mode word ≡ true) (h : MayRun (SettleGoes {T = Node K V}) took shown (dispose_plan {K = K} {V = V}) can (disposing setting word table) m) where
-        abbrev reading : Dispose
-        reading = record (disposing setting word table) { stands = disposal.Reads }
-
-        reads : disposing setting word table ≡ reading
-        reads = ap (λ s. record (disposing setting word table) { stands = s }) (starts_lent setting.mode lent)
-
-        may_read : MayRun (SettleGoes {T = Node K V}) took shown (dispose_plan {K = K} {V = V}) can reading m
-        may_read = subst (λ (d : Dispose). MayRun (SettleGoes {T = Node K V}) took shown (dispose_plan {K = K} {V = V}) can d m) reads h
-
-        pub can_root : can m (Load (Root setting.root))
-        can_root = (may_step SettleGoes took shown dispose_plan can reading m may_read).0
-
-        module _ (n : M) (root : ℕ) (loads : took m (Load (Root setting.root)) (Found root) n) where
-          pub sees_root : IsSome (shown n (block_in root))
-          sees_root = ((may_step SettleGoes took shown dispose_plan can reading m may_read).1 (Found root) n loads).0
-
-          module _ (value : Node K V) (shows : shown n (block_in root) ≡ Some value) (older : ℕ) (is_turn : older ≡ (table_seen root value).turn) where
-            from : (d : Dispose) → Leads (SettleGoes {T = Node K V}) took shown (dispose_plan {K = K} {V = V}) reading m d n
-                → Leads (SettleGoes {T = Node K V}) took shown (dispose_plan {K = K} {V = V}) (disposing setting word table) m d n
-            from d l = subst (λ (x : Dispose). Leads (SettleGoes {T = Node K V}) took shown (dispose_plan {K = K} {V = V}) x m d n) (sym reads) l
-
-            pub to_walk : older < table.turn
-                → Leads (SettleGoes {T = Node K V}) took shown (dispose_plan {K = K} {V = V}) (disposing setting word table) m (dispose_at setting word table (to.Walks root)) n
-            to_walk less =
-                from (dispose_at setting word table (to.Walks root))
-                (one_more reading m reading m (none_taken reading m) settling.Goes tt (dispose_at setting word table (to.Walks root)) n
-                (Found root, loads, (value, shows, rw (lt-ltb (table_seen root value).turn table.turn (subst (λ t. t < table.turn) is_turn less)) refl)))
-
-            module _ (late : table.turn ≤ older) where
-              to_retire : Leads (SettleGoes {T = Node K V}) took shown (dispose_plan {K = K} {V = V}) (disposing setting word table) m (put_settle begun) n
-              to_retire =
-                  from (put_settle begun)
-                  (one_more reading m reading m (none_taken reading m) settling.Goes tt (put_settle begun) n
-                  (Found root, loads, (value, shows, rw (le-ltb (table_seen root value).turn table.turn (subst (λ t. table.turn ≤ t) is_turn late)) refl)))
-
-              pub may_end : MayRun (SettleGoes {T = Node K V}) took shown (dispose_plan {K = K} {V = V}) can (put_settle begun) n
-              may_end = runs_along SettleGoes took shown dispose_plan can (disposing setting word table) (put_settle begun) m n to_retire h
-
-              pub has_ended : (k : M) (end : Disposed) → Reaches (SettleGoes {T = Node K V}) took shown (dispose_plan {K = K} {V = V}) (put_settle begun) n k (disposed_to setting word table end)
-                  → Reaches (SettleGoes {T = Node K V}) took shown (dispose_plan {K = K} {V = V}) (disposing setting word table) m k (disposed_to setting word table end)
-              has_ended k end r = reaches_on SettleGoes took shown dispose_plan (disposing setting word table) (put_settle begun) m n k (disposed_to setting word table end) to_retire r
+    -- an older table may name the pair, so the root is read
+    pub record HasRoot (m n : M) (root : ℕ) (value : Node K V) : Type 0 where
+      pub lent : is_borrowed setting.mode word ≡ true
+      pub run : MayDispose took shown can (disposing setting word table) m
+      pub loads : took m (Load (Root setting.root)) (Found root) n
+      pub shows : shown n (block_in root) ≡ Some value
 
   -- within a call
   module _ {Q : Type 0} (asks : Q → K → Bool) (eq : K → K → Bool) (hashes : K → ℕ) (c : KeyCall K V Q) (answer : KeyAnswer) where
@@ -150,13 +85,13 @@ module _ {K V M : Type 0} (can : M → Op (Node K V) → Type 0) (took : M → O
     dispose_goes x y (settling.Gave value) so = absurd so
     dispose_goes x y settling.Done so = absurd so
 
-    pub may_dispose : (d : Dispose) (m : M) → MayRun (CallGoes {T = Node K V}) took shown (call_plan asks eq hashes) can (put_dispose d) m
-        → MayRun (SettleGoes {T = Node K V}) took shown (dispose_plan {K = K} {V = V}) can d m
+    pub may_dispose : (d : Dispose) (m : M) → MayCall asks eq hashes took shown can (put_dispose d) m
+        → MayDispose took shown can d m
     may_dispose d m h =
         may_in SettleGoes CallGoes can took shown dispose_plan (call_plan asks eq hashes) put_dispose (λ x. disposed (put_dispose x) answer) (λ x. refl) dispose_goes d m h
 
-    pub disposes_on : (d e : Dispose) (m n : M) → Leads (SettleGoes {T = Node K V}) took shown (dispose_plan {K = K} {V = V}) d m e n
-        → Leads (CallGoes {T = Node K V}) took shown (call_plan asks eq hashes) (put_dispose d) m (put_dispose e) n
+    pub disposes_on : (d e : Dispose) (m n : M) → DisposeLeads took shown d m e n
+        → CallLeads asks eq hashes took shown (put_dispose d) m (put_dispose e) n
     disposes_on d e m n l =
         leads_in SettleGoes CallGoes can took shown dispose_plan (call_plan asks eq hashes) put_dispose (λ x. disposed (put_dispose x) answer) (λ x. refl) dispose_goes d e m n l
 
@@ -165,3 +100,52 @@ module _ {K V M : Type 0} (can : M → Op (Node K V) → Type 0) (took : M → O
     disposes_over d m n t =
         tells_in SettleGoes CallGoes can took shown dispose_plan (call_plan asks eq hashes) put_dispose (λ x. disposed (put_dispose x) answer) (λ x. refl) dispose_goes d m n settling.Done
         (called.Done answer) (λ y z. refl) (λ x. x) t
+
+-- the disposal that begins with the retirement
+abbrev pub retires : Setting → ℕ → Table → Dispose
+retires s w t = settling_at s w t (retiring s.slot s.batch_size (link_in w))
+
+starts : (s : Setting) (word : ℕ) (mode : ResizeMode) → is_borrowed mode word ≡ false → start_of s mode word ≡ disposal.Settles (retiring s.slot s.batch_size (link_in word))
+starts s word (Incremental chunk) e = rw e refl
+starts s word Blocking e = refl
+
+starts_lent : (s : Setting) (word : ℕ) (mode : ResizeMode) → is_borrowed mode word ≡ true → start_of s mode word ≡ disposal.Reads
+starts_lent s word (Incremental chunk) e = rw e refl
+starts_lent s word Blocking e = absurd (false≢true e)
+
+-- where it begins
+is_alone : (s : Setting) (word : ℕ) (t : Table) → is_borrowed s.mode word ≡ false → disposing s word t ≡ retires s word t
+is_alone s word t alone = ap (λ x. record (disposing s word t) { stands = x }) (starts s word s.mode alone)
+
+is_lent : (s : Setting) (word : ℕ) (t : Table) → is_borrowed s.mode word ≡ true → disposing s word t ≡ record (disposing s word t) { stands = disposal.Reads }
+is_lent s word t lent = ap (λ x. record (disposing s word t) { stands = x }) (starts_lent s word s.mode lent)
+
+module _ {K V M : Type 0} {can : M → Op (Node K V) → Type 0} {took : M → Op (Node K V) → Out (Node K V) → M → Type 0} {shown : M → ℕ → Option (Node K V)}
+    (setting : Setting) (word : ℕ) (table : Table) {m : M} where
+  -- where no older table may name the pair, it begins with the retirement; else the root is read
+  pub may_begin : is_borrowed setting.mode word ≡ false → MayDispose took shown can (disposing setting word table) m → MayDispose took shown can (retires setting word table) m
+  may_begin alone h = subst (λ (d : Dispose). MayDispose took shown can d m) (is_alone setting word table alone) h
+
+  pub to_read : is_borrowed setting.mode word ≡ true → MayDispose took shown can (disposing setting word table) m
+      → Led SettleGoes took shown dispose_plan can (disposing setting word table) m (record (disposing setting word table) { stands = disposal.Reads }) m
+  to_read lent h = subst (λ (d : Dispose). Led SettleGoes took shown dispose_plan can (disposing setting word table) m d m) (is_lent setting word table lent) (begins h)
+
+  module _ {n : M} {root : ℕ} {value : Node K V} (h : HasRoot can took shown setting word table m n root value) where
+    pub to_walk : (older : ℕ) → older ≡ (table_seen root value).turn → older < table.turn
+        → DisposeLeads took shown (disposing setting word table) m (dispose_at setting word table (to.Walks root)) n
+    to_walk older is_turn less =
+        (steps_to (to_read h.lent h.run) settling.Goes tt (dispose_at setting word table (to.Walks root)) n
+        (Found root, h.loads, (value, h.shows, rw (lt-ltb (table_seen root value).turn table.turn (subst (λ t. t < table.turn) is_turn less)) refl))).leads
+
+    pub to_retire : (older : ℕ) → older ≡ (table_seen root value).turn → table.turn ≤ older
+        → Led SettleGoes took shown dispose_plan can (disposing setting word table) m (retires setting word table) n
+    to_retire older is_turn late =
+        steps_to (to_read h.lent h.run) settling.Goes tt (retires setting word table) n
+        (Found root, h.loads, (value, h.shows, rw (le-ltb (table_seen root value).turn table.turn (subst (λ t. table.turn ≤ t) is_turn late)) refl))
+
+-- and has come from there to what the retirement comes to
+pub has_retired : {K V M : Type 0} (took : M → Op (Node K V) → Out (Node K V) → M → Type 0) (shown : M → ℕ → Option (Node K V)) (s : Setting) (word : ℕ) (t : Table)
+    → is_borrowed s.mode word ≡ false → (m n : M) (end : Disposed) → DisposeReaches took shown (retires s word t) m n (disposed_to s word t end)
+    → DisposeReaches took shown (disposing s word t) m n (disposed_to s word t end)
+has_retired took shown s word t alone m n end r =
+    subst (λ (d : Dispose). DisposeReaches took shown d m n (disposed_to s word t end)) (sym (is_alone s word t alone)) r

@@ -1,6 +1,6 @@
 -- Steps of a machine within another one are steps of that one.
 use Rattle.std.specs.Prelude.{◌≡◌, ℕ, Option}
-use Rattle.std.proofs.Common.{refl, sym, subst}
+use Rattle.std.proofs.Common.{sym, subst}
 use Rattle.seize_words.specs.Op.{Op, Out}
 use Rattle.seize_words.specs.Plan.{Plan, May, Steps, plan_as}
 use Rattle.seize_words.proofs.Plans.{may_as, steps_as}

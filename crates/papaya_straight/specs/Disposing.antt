@@ -16,7 +16,6 @@ use Rattle.papaya_straight.specs.Reaches.{Reached, At, Told}
 use Rattle.papaya_straight.specs.Retiring.{settle_at}
 use Rattle.papaya_straight.specs.declared.disposing.Disposed.{Disposed}
 use Rattle.papaya_straight.specs.declared.disposing.Disposed.TheVariants as to
-use Rattle.papaya_straight.specs.declared.retiring.Retired.{Retired}
 use Rattle.papaya_straight.specs.declared.retiring.Retired.TheVariants as retire
 
 -- an older table may name the pair of a word, too

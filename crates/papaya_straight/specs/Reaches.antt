@@ -1,5 +1,5 @@
 -- What code that makes a machine's operations without being the machine has come to.
-use Rattle.std.specs.Prelude.{ℕ, Option}
+use Rattle.std.specs.Prelude.{◌≡◌, ℕ, Option}
 use Rattle.seize_words.specs.Op.{Op, Out}
 use Rattle.seize_words.specs.Plan.{Plan}
 use Rattle.papaya_straight.specs.Runs.{Leads, Tells}
@@ -14,3 +14,8 @@ module _ {T X P M : Type 0} (on : P → Type 0) (took : M → Op T → Out T →
   abbrev pub Reaches : X → M → M → Reached X P → Type 0
   Reaches x m n (At y) = Leads on took shown plan x m y n
   Reaches x m n (Told told) = Tells on took shown plan x m n told
+
+-- a step has come to that: it goes on from a point, or has told something and does not go on
+abbrev pub ComesTo : {X P : Type 0} → (P → Type 0) → X × P → Reached X P → Type 0
+ComesTo on end (At x) = (end.0 ≡ x) × on end.1
+ComesTo on end (Told told) = (end.1 ≡ told) × (on told → ⊥)

@@ -1,5 +1,5 @@
 -- A call that removes the pair of a key as straight code: where it stops.
-use Rattle.std.specs.Prelude.{◌≡◌, ℕ, if◌then◌else◌, Option}
+use Rattle.std.specs.Prelude.{ℕ, if◌then◌else◌, Option}
 use Rattle.seize_words.specs.Plan.{Then, Ends}
 use Rattle.papaya_tables.specs.declared.marks.TheConstants.{TOMBSTONE}
 use Rattle.papaya_tables.specs.declared.node.Node.{Node}
@@ -16,7 +16,7 @@ use Rattle.papaya_raw.specs.declared.machines.call.Calling.TheVariants as at
 use Rattle.papaya_raw.specs.declared.machines.call.KeyCall.{KeyCall}
 use Rattle.papaya_straight.specs.Disposing.{dispose_at}
 use Rattle.papaya_straight.specs.Going.{CallGoes}
-use Rattle.papaya_straight.specs.Reaches.{Reached, At, Told}
+use Rattle.papaya_straight.specs.Reaches.{ComesTo, Reached, At, Told}
 use Rattle.papaya_straight.specs.declared.disposing.Disposed.{Disposed}
 use Rattle.papaya_straight.specs.declared.disposing.Disposed.TheVariants as to
 use Rattle.papaya_straight.specs.declared.retiring.Retired.TheVariants as retire
@@ -60,11 +60,6 @@ module _ {K V Q : Type 0} (setting : Setting) (hash : ℕ) (asked : Q) where
   sought_at (sought.Next trial) = At (seeking trial at.Probes)
   sought_at (sought.Ends end) = removed_at end
 
-  -- a step has come to that
-  abbrev pub ComesTo : KeyCall K V Q × Called (Node K V) → Reached (KeyCall K V Q) (Called (Node K V)) → Type 0
-  ComesTo end (At c) = (end.0 ≡ c) × CallGoes end.1
-  ComesTo end (Told told) = (end.1 ≡ told) × (CallGoes told → ⊥)
-
   -- what is left of its step, once the word of its try is read, comes to that
   abbrev pub HasSought : (ℕ → Option (Node K V)) → Then (Node K V) (KeyCall K V Q × Called (Node K V)) → Sought → Type 0
-  HasSought shown rest result = (end : KeyCall K V Q × Called (Node K V)) × Ends shown rest end × ComesTo end (sought_at result)
+  HasSought shown rest result = (end : KeyCall K V Q × Called (Node K V)) × Ends shown rest end × ComesTo CallGoes end (sought_at result)

@@ -3,13 +3,11 @@ ghost use Rattle.std.specs.Prelude.{◌≡◌, ◌+◌, true};
 ghost use Rattle.papaya_tables.specs.Chunks.{is_incremental};
 ghost use Rattle.papaya_tables.specs.declared.marks.TheConstants.{BORROWED as LENT};
 ghost use Rattle.papaya_tables.specs.Marks.{unmarked_in};
-ghost use Rattle.papaya_resize.specs.Copier.{copier_plan};
 ghost use Rattle.papaya_resize.specs.CopierMarks.{probing};
 ghost use Rattle.papaya_resize.specs.CopierStates.{standing};
 ghost use Rattle.papaya_resize.specs.declared.copier.Copying.TheVariants as at;
 ghost use Rattle.papaya_straight.specs.Copying.{IsMidst, missed, placing};
-ghost use Rattle.papaya_straight.specs.Going.{CopyGoes};
-ghost use Rattle.papaya_straight.specs.Runs.{Leads, MayRun};
+ghost use Rattle.papaya_straight.specs.Going.{CopyLeads, MayCopy};
 
 use papaya_resize::{Copier, Copying, key_hash};
 use papaya_tables::marks::{BORROWED, COPIED, COPYING, has, unmarked};
@@ -76,8 +74,9 @@ fn try_put<K, V, S: Hashes<K>, M: Memory<Node<K, V>>>(
     probe: Probe,
 ) -> Placed
     requires mode { is_incremental copier.now.setting.mode ≡ true }
-    requires may { MayRun CopyGoes M.took M.shown (copier_plan {K = K} {V = V} (S.hash hasher.now)) M.can (standing copier.now (at.Probes word hash table probe)) memory.old }
-    ensures { Leads CopyGoes M.took M.shown (copier_plan {K = K} {V = V} (S.hash hasher.now)) (standing copier.now (at.Probes word hash table probe)) memory.old (standing copier.now (placing word hash table result)) memory.new }
+    requires may { MayCopy (S.hash hasher.now) M.took M.shown M.can (standing copier.now (at.Probes word hash table probe)) memory.old }
+    ensures { CopyLeads (S.hash hasher.now) M.took M.shown (standing copier.now (at.Probes word hash table probe))
+        memory.old (standing copier.now (placing word hash table result)) memory.new }
 {
     let place = table.at(probe.i);
     let found = memory.load(place);
@@ -101,8 +100,9 @@ fn put_pair<K, V, S: Hashes<K>, M: Memory<Node<K, V>>>(
     table: Table,
 ) -> Placed
     requires mode { is_incremental copier.now.setting.mode ≡ true }
-    requires may { MayRun CopyGoes M.took M.shown (copier_plan {K = K} {V = V} (S.hash hasher.now)) M.can (probing copier.now word hash table) memory.old }
-    ensures { Leads CopyGoes M.took M.shown (copier_plan {K = K} {V = V} (S.hash hasher.now)) (probing copier.now word hash table) memory.old (standing copier.now (placing word hash table result)) memory.new }
+    requires may { MayCopy (S.hash hasher.now) M.took M.shown M.can (probing copier.now word hash table) memory.old }
+    ensures { CopyLeads (S.hash hasher.now) M.took M.shown (probing copier.now word hash table)
+        memory.old (standing copier.now (placing word hash table result)) memory.new }
 {
     let mut probe = Probe::start(hash, table.mask());
     for _ in 0..table.limit {
@@ -121,8 +121,8 @@ fn copy_place<K: Drop, V: Drop, S: Hashes<K>, M: Memory<Node<K, V>>>(
     memory: &mut M,
     hasher: &S,
 ) -> bool
-    requires { MayRun CopyGoes M.took M.shown (copier_plan {K = K} {V = V} (S.hash hasher.now)) M.can copier.old memory.old }
-    ensures { Leads CopyGoes M.took M.shown (copier_plan {K = K} {V = V} (S.hash hasher.now)) copier.old memory.old copier.new memory.new }
+    requires { MayCopy (S.hash hasher.now) M.took M.shown M.can copier.old memory.old }
+    ensures { CopyLeads (S.hash hasher.now) M.took M.shown copier.old memory.old copier.new memory.new }
 {
     if !is_midst(copier) {
         return false;
@@ -175,8 +175,8 @@ pub fn copy_places<K: Drop, V: Drop, S: Hashes<K>, M: Memory<Node<K, V>>>(
     memory: &mut M,
     hasher: &S,
 )
-    requires { MayRun CopyGoes M.took M.shown (copier_plan {K = K} {V = V} (S.hash hasher.now)) M.can copier.old memory.old }
-    ensures { Leads CopyGoes M.took M.shown (copier_plan {K = K} {V = V} (S.hash hasher.now)) copier.old memory.old copier.new memory.new }
+    requires { MayCopy (S.hash hasher.now) M.took M.shown M.can copier.old memory.old }
+    ensures { CopyLeads (S.hash hasher.now) M.took M.shown copier.old memory.old copier.new memory.new }
 {
     for _ in copier.place..copier.end {
         if !copy_place::<K, V, S, M>(copier, memory, hasher) {

@@ -2,11 +2,9 @@
 ghost use Rattle.std.specs.Prelude.{◌≡◌};
 ghost use Rattle.seize.specs.Settle.{retiring};
 ghost use Rattle.papaya_tables.specs.Marks.{link_in};
-ghost use Rattle.papaya_resize.specs.Dispose.{dispose_plan, disposing};
+ghost use Rattle.papaya_resize.specs.Dispose.{disposing};
 ghost use Rattle.papaya_straight.specs.Disposing.{dispose_at, disposed, is_borrowed, settling};
-ghost use Rattle.papaya_straight.specs.Going.{SettleGoes};
-ghost use Rattle.papaya_straight.specs.Reaches.{Reaches};
-ghost use Rattle.papaya_straight.specs.Runs.{MayRun};
+ghost use Rattle.papaya_straight.specs.Going.{DisposeReaches, MayDispose};
 
 use crate::retiring::{Retired, retire, settle_of};
 use papaya_resize::{Dispose, Disposing};
@@ -41,8 +39,9 @@ fn retire_pair<K, V, M: Memory<Node<K, V>>>(
     word: u64,
     table: Table,
 ) -> Disposed
-    requires { MayRun SettleGoes M.took M.shown dispose_plan M.can (settling setting word table (retiring setting.slot setting.batch_size (link_in word))) memory.old }
-    ensures { Reaches SettleGoes M.took M.shown dispose_plan (settling setting word table (retiring setting.slot setting.batch_size (link_in word))) memory.old memory.new (disposed setting word table result) }
+    requires { MayDispose M.took M.shown M.can (settling setting word table (retiring setting.slot setting.batch_size (link_in word))) memory.old }
+    ensures { DisposeReaches M.took M.shown (settling setting word table (retiring setting.slot setting.batch_size (link_in word)))
+        memory.old memory.new (disposed setting word table result) }
 {
     let pair = link_of(word);
     let retired = retire(memory, setting.slot, setting.batch_size, pair);
@@ -57,8 +56,8 @@ pub fn dispose<K, V, M: Memory<Node<K, V>>>(
     word: u64,
     table: Table,
 ) -> Disposed
-    requires { MayRun SettleGoes M.took M.shown dispose_plan M.can (disposing setting word table) memory.old }
-    ensures { Reaches SettleGoes M.took M.shown dispose_plan (disposing setting word table) memory.old memory.new (disposed setting word table result) }
+    requires { MayDispose M.took M.shown M.can (disposing setting word table) memory.old }
+    ensures { DisposeReaches M.took M.shown (disposing setting word table) memory.old memory.new (disposed setting word table result) }
 {
     if !is_borrowed(setting.mode, word) {
         return retire_pair(memory, setting, word, table);

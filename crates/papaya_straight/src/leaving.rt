@@ -29,7 +29,8 @@ pub fn leave<T: Defers, M: Memory<T>>(
     frees: bool,
 ) -> Left
     requires { MayRun SettleGoes M.took M.shown (leave_plan T.defers) M.can (leaving slot batch_size becomes frees) memory.old }
-    ensures { Reaches SettleGoes M.took M.shown (leave_plan T.defers) (leaving slot batch_size becomes frees) memory.old memory.new (left slot batch_size becomes frees result) }
+    ensures { Reaches SettleGoes M.took M.shown (leave_plan T.defers) (leaving slot batch_size becomes frees)
+        memory.old memory.new (left slot batch_size becomes frees result) }
 {
     let head = memory.swap(At::Slot(slot, HEAD), becomes);
     if head > ACTIVE {

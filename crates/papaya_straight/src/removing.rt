@@ -2,14 +2,13 @@
 ghost use Rattle.std.specs.Prelude.{◌≡◌, ◌≢◌, Bool};
 ghost use Rattle.seize_words.specs.Plan.{MaySee, Ends};
 ghost use Rattle.papaya_tables.specs.declared.marks.TheConstants.{TOMBSTONE as BURIED};
-ghost use Rattle.papaya_raw.specs.Call.{call_plan, word_read};
+ghost use Rattle.papaya_raw.specs.Call.{word_read};
 ghost use Rattle.papaya_raw.specs.CallPoints.{told, told_of, untried};
 ghost use Rattle.papaya_raw.specs.declared.machines.call.Calling.{Calling as Point};
 ghost use Rattle.papaya_raw.specs.declared.machines.call.Calling.TheVariants as at;
-ghost use Rattle.papaya_straight.specs.Going.{CallGoes};
-ghost use Rattle.papaya_straight.specs.Reaches.{Reaches};
-ghost use Rattle.papaya_straight.specs.Removing.{ComesTo, HasSought, past_all, removed_at, removed_by, removing_at, seeking, sought_at};
-ghost use Rattle.papaya_straight.specs.Runs.{MayRun};
+ghost use Rattle.papaya_straight.specs.Going.{CallGoes, CallReaches, MayCall};
+ghost use Rattle.papaya_straight.specs.Reaches.{ComesTo};
+ghost use Rattle.papaya_straight.specs.Removing.{HasSought, past_all, removed_at, removed_by, removing_at, seeking, sought_at};
 
 use crate::disposing::{Disposed, dispose, dispose_of};
 use crate::retiring::Retired;
@@ -65,8 +64,13 @@ fn is_asked<K: Eq + Hash, V, Q: Equivalent<K>, M: Look<Node<K, V>>>(
     trial: Trial,
     word: u64,
 ) -> bool
-    requires { (stands : Point) × (loaded : Bool) × MaySee (M.shown memory.now) (word_read Q.Equivalent.equivalent K.eq loaded (seeking {K = K} {V = V} {Q = Q} setting hash asked.now trial stands) word) }
-    ensures { (stands : Point) (loaded : Bool) → Ends (M.shown memory.now) (word_read Q.Equivalent.equivalent K.eq loaded (seeking {K = K} {V = V} {Q = Q} setting hash asked.now trial stands) word) (told loaded (seeking setting hash asked.now trial stands) word result) }
+    requires { (stands : Point) × (loaded : Bool)
+        × MaySee (M.shown memory.now)
+        (word_read Q.Equivalent.equivalent K.eq loaded (seeking {K = K} {V = V} {Q = Q} setting hash asked.now trial stands) word) }
+    ensures { (stands : Point) (loaded : Bool)
+        → Ends (M.shown memory.now)
+        (word_read Q.Equivalent.equivalent K.eq loaded (seeking {K = K} {V = V} {Q = Q} setting hash asked.now trial stands) word)
+        (told loaded (seeking setting hash asked.now trial stands) word result) }
 {
     may_be(hash, word) && asks_for(asked, memory.value(Link::block_of(word)))
 }
@@ -93,7 +97,8 @@ fn weigh<K, V, Q>(
     word: u64,
     finding: Finding,
 ) -> Sought
-    ensures { (stands : Point) (loaded : Bool) → ComesTo {K = K} {V = V} {Q = Q} setting hash asked.now (told_of loaded (seeking setting hash asked.now trial stands) word finding) (sought_at setting hash asked.now result) }
+    ensures { (stands : Point) (loaded : Bool)
+        → ComesTo CallGoes (told_of loaded (seeking {K = K} {V = V} {Q = Q} setting hash asked.now trial stands) word finding) (sought_at setting hash asked.now result) }
 {
     match finding {
         Finding::Free => Sought::Ends(Removed::Answered(KeyAnswer::Absent)),
@@ -120,8 +125,12 @@ fn reread<K: Eq + Hash, V, Q: Equivalent<K>, M: Look<Node<K, V>>>(
     trial: Trial,
     word: u64,
 ) -> Sought
-    requires { (stands : Point) × (loaded : Bool) × MaySee (M.shown memory.now) (word_read Q.Equivalent.equivalent K.eq loaded (seeking {K = K} {V = V} {Q = Q} setting hash asked.now trial stands) word) }
-    ensures { (stands : Point) (loaded : Bool) → HasSought {K = K} {V = V} {Q = Q} setting hash asked.now (M.shown memory.now) (word_read Q.Equivalent.equivalent K.eq loaded (seeking setting hash asked.now trial stands) word) result }
+    requires { (stands : Point) × (loaded : Bool)
+        × MaySee (M.shown memory.now)
+        (word_read Q.Equivalent.equivalent K.eq loaded (seeking {K = K} {V = V} {Q = Q} setting hash asked.now trial stands) word) }
+    ensures { (stands : Point) (loaded : Bool)
+        → HasSought {K = K} {V = V} {Q = Q} setting hash asked.now (M.shown memory.now)
+        (word_read Q.Equivalent.equivalent K.eq loaded (seeking setting hash asked.now trial stands) word) result }
 {
     let same = is_asked::<K, V, Q, M>(memory, setting, hash, asked, trial, word);
     let finding = seen(setting.mode, Aim::Changes, word, same);
@@ -138,8 +147,9 @@ fn seek<K: Eq + Hash, V, Q: Equivalent<K>, S: Hashes<K>, M: Memory<Node<K, V>>>(
     asked: &Q,
     trial: Trial,
 ) -> Sought
-    requires { MayRun CallGoes M.took M.shown (call_plan Q.Equivalent.equivalent K.eq (S.hash hasher.now)) M.can (seeking {K = K} {V = V} {Q = Q} setting hash asked.now trial at.Probes) memory.old }
-    ensures { Reaches CallGoes M.took M.shown (call_plan Q.Equivalent.equivalent K.eq (S.hash hasher.now)) (seeking {K = K} {V = V} {Q = Q} setting hash asked.now trial at.Probes) memory.old memory.new (sought_at setting hash asked.now result) }
+    requires { MayCall Q.Equivalent.equivalent K.eq (S.hash hasher.now) M.took M.shown M.can (seeking setting hash asked.now trial at.Probes) memory.old }
+    ensures { CallReaches Q.Equivalent.equivalent K.eq (S.hash hasher.now) M.took M.shown (seeking setting hash asked.now trial at.Probes)
+        memory.old memory.new (sought_at setting hash asked.now result) }
 {
     let word = memory.load(trial.at());
     reread::<K, V, Q, M>(memory, setting, hash, asked, trial, word)
@@ -155,8 +165,9 @@ fn seek_on<K: Eq + Hash, V, Q: Equivalent<K>, S: Hashes<K>, M: Memory<Node<K, V>
     asked: &Q,
     first: Trial,
 ) -> Removed
-    requires { MayRun CallGoes M.took M.shown (call_plan Q.Equivalent.equivalent K.eq (S.hash hasher.now)) M.can (seeking {K = K} {V = V} {Q = Q} setting hash asked.now first at.Probes) memory.old }
-    ensures { Reaches CallGoes M.took M.shown (call_plan Q.Equivalent.equivalent K.eq (S.hash hasher.now)) (seeking {K = K} {V = V} {Q = Q} setting hash asked.now first at.Probes) memory.old memory.new (removed_at setting hash asked.now result) }
+    requires { MayCall Q.Equivalent.equivalent K.eq (S.hash hasher.now) M.took M.shown M.can (seeking setting hash asked.now first at.Probes) memory.old }
+    ensures { CallReaches Q.Equivalent.equivalent K.eq (S.hash hasher.now) M.took M.shown (seeking setting hash asked.now first at.Probes)
+        memory.old memory.new (removed_at setting hash asked.now result) }
 {
     let mut trial = first;
     for _ in 0..first.table.limit {
@@ -190,8 +201,10 @@ fn bury<K: Eq + Hash, V, Q: Equivalent<K>, S: Hashes<K>, M: Memory<Node<K, V>>>(
     trial: Trial,
     word: u64,
 ) -> Removed
-    requires { MayRun CallGoes M.took M.shown (call_plan Q.Equivalent.equivalent K.eq (S.hash hasher.now)) M.can (seeking {K = K} {V = V} {Q = Q} setting hash asked.now trial (at.Tries word BURIED)) memory.old }
-    ensures { Reaches CallGoes M.took M.shown (call_plan Q.Equivalent.equivalent K.eq (S.hash hasher.now)) (seeking {K = K} {V = V} {Q = Q} setting hash asked.now trial (at.Tries word BURIED)) memory.old memory.new (removed_at setting hash asked.now result) }
+    requires { MayCall Q.Equivalent.equivalent K.eq (S.hash hasher.now) M.took M.shown M.can (seeking setting hash asked.now trial (at.Tries word BURIED))
+        memory.old }
+    ensures { CallReaches Q.Equivalent.equivalent K.eq (S.hash hasher.now) M.took M.shown (seeking setting hash asked.now trial (at.Tries word BURIED))
+        memory.old memory.new (removed_at setting hash asked.now result) }
 {
     match memory.exchange(trial.at(), word, TOMBSTONE) {
         Ok(_) => {
@@ -218,8 +231,9 @@ pub fn remove<K: Eq + Hash, V, Q: Equivalent<K>, S: Hashes<K>, M: Memory<Node<K,
     hash: u64,
     asked: &Q,
 ) -> Removed
-    requires { MayRun CallGoes M.took M.shown (call_plan Q.Equivalent.equivalent K.eq (S.hash hasher.now)) M.can (seeking {K = K} {V = V} {Q = Q} setting hash asked.now untried at.Roots) memory.old }
-    ensures { Reaches CallGoes M.took M.shown (call_plan Q.Equivalent.equivalent K.eq (S.hash hasher.now)) (seeking {K = K} {V = V} {Q = Q} setting hash asked.now untried at.Roots) memory.old memory.new (removed_at setting hash asked.now result) }
+    requires { MayCall Q.Equivalent.equivalent K.eq (S.hash hasher.now) M.took M.shown M.can (seeking setting hash asked.now untried at.Roots) memory.old }
+    ensures { CallReaches Q.Equivalent.equivalent K.eq (S.hash hasher.now) M.took M.shown (seeking setting hash asked.now untried at.Roots)
+        memory.old memory.new (removed_at setting hash asked.now result) }
 {
     let link = memory.load(At::Root(setting.root));
     if link == 0 {

@@ -1,11 +1,9 @@
 //! The retirement of one block, up to a batch that is full.
 ghost use Rattle.std.specs.Prelude.{◌≡◌, ◌≢◌};
-ghost use Rattle.seize.specs.Settle.{retiring, settle_plan};
+ghost use Rattle.seize.specs.Settle.{retiring};
 ghost use Rattle.seize.specs.declared.rows.settle.Settling.TheVariants as at;
-ghost use Rattle.papaya_straight.specs.Going.{SettleGoes};
-ghost use Rattle.papaya_straight.specs.Reaches.{Reaches};
-ghost use Rattle.papaya_straight.specs.Retiring.{holding, retired, settle_at};
-ghost use Rattle.papaya_straight.specs.Runs.{MayRun};
+ghost use Rattle.papaya_straight.specs.Going.{MaySettle, SettleReaches};
+ghost use Rattle.papaya_straight.specs.Retiring.{grown, holding, retired, settle_at};
 
 use seize::rows::{Defers, Settle, Settling};
 use seize::states::{BATCH, COUNT, FIRST, HELD, NEXT};
@@ -46,8 +44,8 @@ pub fn retire<T: Defers, M: Memory<T>>(
     batch_size: u64,
     block: u64,
 ) -> Retired
-    requires { MayRun SettleGoes M.took M.shown (settle_plan T.defers) M.can (retiring slot batch_size block) memory.old }
-    ensures { Reaches SettleGoes M.took M.shown (settle_plan T.defers) (retiring slot batch_size block) memory.old memory.new (retired slot batch_size block result) }
+    requires { MaySettle T.defers M.took M.shown M.can (retiring slot batch_size block) memory.old }
+    ensures { SettleReaches T.defers M.took M.shown (retiring slot batch_size block) memory.old memory.new (retired slot batch_size block result) }
 {
     if block == 0 {
         return Retired::Sees;
@@ -61,13 +59,23 @@ pub fn retire<T: Defers, M: Memory<T>>(
         Err(_) => return Retired::Sees,
     }
     if word == 0 {
-        return Retired::Pops {
-            pending: block,
-            last: 0,
-            first: 0,
-        };
+        return open(memory, slot, batch_size, block);
     }
     append(memory, slot, batch_size, block, word)
+}
+
+/// Opens a batch with a block, while the slot's batch is held, and gives it up.
+#[inline(always)]
+fn open<T: Defers, M: Memory<T>>(memory: &mut M, slot: u64, batch_size: u64, block: u64) -> Retired
+    requires { MaySettle T.defers M.took M.shown M.can (holding slot batch_size block 0 0 at.Pops) memory.old }
+    ensures { SettleReaches T.defers M.took M.shown (holding slot batch_size block 0 0 at.Pops)
+        memory.old memory.new (retired slot batch_size block result) }
+{
+    let pending = memory.load(At::Entry(Link::block_of(block), NEXT));
+    memory.store(At::Entry(Link::block_of(block), FIRST), block);
+    memory.store(At::Entry(Link::block_of(block), NEXT), 0);
+    let count = memory.add(At::Entry(Link::block_of(block), COUNT), 1);
+    give(memory, slot, batch_size, pending, block, block, count)
 }
 
 /// Puts a block behind the last one of the batch, which is held, and gives the batch up.
@@ -81,8 +89,9 @@ fn append<T: Defers, M: Memory<T>>(
 ) -> Retired
     requires block { block ≢ 0 }
     requires last { last ≢ 0 }
-    requires may { MayRun SettleGoes M.took M.shown (settle_plan T.defers) M.can (holding slot batch_size block last 0 at.Pops) memory.old }
-    ensures { Reaches SettleGoes M.took M.shown (settle_plan T.defers) (holding slot batch_size block last 0 at.Pops) memory.old memory.new (retired slot batch_size block result) }
+    requires may { MaySettle T.defers M.took M.shown M.can (holding slot batch_size block last 0 at.Pops) memory.old }
+    ensures { SettleReaches T.defers M.took M.shown (holding slot batch_size block last 0 at.Pops)
+        memory.old memory.new (retired slot batch_size block result) }
 {
     let pending = memory.load(At::Entry(Link::block_of(block), NEXT));
     let first = memory.load(At::Entry(Link::block_of(last), FIRST));
@@ -90,22 +99,39 @@ fn append<T: Defers, M: Memory<T>>(
     memory.store(At::Entry(Link::block_of(block), NEXT), 0);
     memory.store(At::Entry(Link::block_of(last), NEXT), block);
     let count = memory.add(At::Entry(Link::block_of(first), COUNT), 1);
-    let last = block;
+    give(memory, slot, batch_size, pending, block, first, count)
+}
+
+/// Goes on once a block was counted into the batch: gives the batch up, where it is too short to be tried and no further block is pending.
+#[inline(always)]
+fn give<T: Defers, M: Memory<T>>(
+    memory: &mut M,
+    slot: u64,
+    batch_size: u64,
+    pending: u64,
+    block: u64,
+    first: u64,
+    count: u64,
+) -> Retired
+    requires { MaySettle T.defers M.took M.shown M.can (grown slot batch_size pending block first count) memory.old }
+    ensures { SettleReaches T.defers M.took M.shown (grown slot batch_size pending block first count)
+        memory.old memory.new (retired slot batch_size block result) }
+{
     if count.wrapping_add(1) >= batch_size {
         return Retired::Scans {
             pending,
-            last,
+            last: block,
             first,
         };
     }
     if pending != 0 {
         return Retired::Pops {
             pending,
-            last,
+            last: block,
             first,
         };
     }
-    memory.store(At::Slot(slot, BATCH), last);
+    memory.store(At::Slot(slot, BATCH), block);
     Retired::Ended
 }
 

@@ -2,13 +2,11 @@
 ghost use Rattle.std.specs.Prelude.{◌≡◌, ◌≢◌, Bool, true};
 ghost use Rattle.seize_words.specs.Plan.{MaySee, Ends};
 ghost use Rattle.papaya_tables.specs.declared.marks.TheConstants.{TOMBSTONE as BURIED};
-ghost use Rattle.papaya_raw.specs.Call.{call_plan, word_read};
+ghost use Rattle.papaya_raw.specs.Call.{word_read};
 ghost use Rattle.papaya_raw.specs.CallPoints.{told, told_of, untried};
 ghost use Rattle.papaya_raw.specs.declared.machines.call.Calling.{Calling as Point};
 ghost use Rattle.papaya_raw.specs.declared.machines.call.Calling.TheVariants as at;
-ghost use Rattle.papaya_straight.specs.Going.{CallGoes};
-ghost use Rattle.papaya_straight.specs.Reaches.{Reaches};
-ghost use Rattle.papaya_straight.specs.Runs.{Leads, MayRun};
+ghost use Rattle.papaya_straight.specs.Going.{CallLeads, CallReaches, MayCall};
 ghost use Rattle.papaya_straight.specs.Storing.{HasRead, HasTried, call_at, calling_at, is_plain, replaced_by, stored_at, storing, try_at};
 
 use crate::disposing::{Disposed, dispose, dispose_of};
@@ -83,8 +81,13 @@ fn is_of_own<K: Eq + Hash, V, Q: Equivalent<K>, M: Look<Node<K, V>>>(
     trial: Trial,
     word: u64,
 ) -> bool
-    requires { (stands : Point) × (loaded : Bool) × MaySee (M.shown memory.now) (word_read Q.Equivalent.equivalent K.eq loaded (storing {K = K} {V = V} {Q = Q} setting hash there own trial stands) word) }
-    ensures { (stands : Point) (loaded : Bool) → Ends (M.shown memory.now) (word_read Q.Equivalent.equivalent K.eq loaded (storing {K = K} {V = V} {Q = Q} setting hash there own trial stands) word) (told loaded (storing setting hash there own trial stands) word result) }
+    requires { (stands : Point) × (loaded : Bool)
+        × MaySee (M.shown memory.now)
+        (word_read Q.Equivalent.equivalent K.eq loaded (storing {K = K} {V = V} {Q = Q} setting hash there own trial stands) word) }
+    ensures { (stands : Point) (loaded : Bool)
+        → Ends (M.shown memory.now)
+        (word_read Q.Equivalent.equivalent K.eq loaded (storing {K = K} {V = V} {Q = Q} setting hash there own trial stands) word)
+        (told loaded (storing setting hash there own trial stands) word result) }
 {
     may_be(hash, word)
         && is_same_key(
@@ -106,7 +109,8 @@ fn judge<K, V, Q>(
 ) -> Tried
     requires plain { is_plain there ≡ true }
     requires own { own ≢ 0 }
-    ensures { (stands : Point) (loaded : Bool) → HasTried {K = K} {V = V} {Q = Q} setting hash there own (told_of loaded (storing setting hash there own trial stands) word finding) result }
+    ensures { (stands : Point) (loaded : Bool)
+        → HasTried {K = K} {V = V} {Q = Q} setting hash there own (told_of loaded (storing setting hash there own trial stands) word finding) result }
 {
     match finding {
         Finding::Free => Tried::Stands(trial, Spot::Tries(0)),
@@ -140,8 +144,12 @@ fn read<K: Eq + Hash, V, Q: Equivalent<K>, M: Look<Node<K, V>>>(
 ) -> Tried
     requires plain { is_plain there ≡ true }
     requires own { own ≢ 0 }
-    requires see { (stands : Point) × (loaded : Bool) × MaySee (M.shown memory.now) (word_read Q.Equivalent.equivalent K.eq loaded (storing {K = K} {V = V} {Q = Q} setting hash there own trial stands) word) }
-    ensures { (stands : Point) (loaded : Bool) → HasRead {K = K} {V = V} {Q = Q} setting hash there own (M.shown memory.now) (word_read Q.Equivalent.equivalent K.eq loaded (storing setting hash there own trial stands) word) result }
+    requires see { (stands : Point) × (loaded : Bool)
+        × MaySee (M.shown memory.now)
+        (word_read Q.Equivalent.equivalent K.eq loaded (storing {K = K} {V = V} {Q = Q} setting hash there own trial stands) word) }
+    ensures { (stands : Point) (loaded : Bool)
+        → HasRead {K = K} {V = V} {Q = Q} setting hash there own (M.shown memory.now)
+        (word_read Q.Equivalent.equivalent K.eq loaded (storing setting hash there own trial stands) word) result }
 {
     let same = is_of_own::<K, V, Q, M>(memory, setting, hash, there, own, trial, word);
     let finding = seen(setting.mode, Aim::Stores, word, same);
@@ -161,8 +169,9 @@ fn try_place<K: Eq + Hash, V, Q: Equivalent<K>, S: Hashes<K>, M: Memory<Node<K, 
 ) -> Tried
     requires plain { is_plain there ≡ true }
     requires own { own ≢ 0 }
-    requires may { MayRun CallGoes M.took M.shown (call_plan Q.Equivalent.equivalent K.eq (S.hash hasher.now)) M.can (storing {K = K} {V = V} {Q = Q} setting hash there own trial at.Probes) memory.old }
-    ensures { Leads CallGoes M.took M.shown (call_plan Q.Equivalent.equivalent K.eq (S.hash hasher.now)) (storing {K = K} {V = V} {Q = Q} setting hash there own trial at.Probes) memory.old (try_at setting hash there own result) memory.new }
+    requires may { MayCall Q.Equivalent.equivalent K.eq (S.hash hasher.now) M.took M.shown M.can (storing setting hash there own trial at.Probes) memory.old }
+    ensures { CallLeads Q.Equivalent.equivalent K.eq (S.hash hasher.now) M.took M.shown (storing setting hash there own trial at.Probes)
+        memory.old (try_at setting hash there own result) memory.new }
 {
     let word = memory.load(trial.at());
     read::<K, V, Q, M>(memory, setting, hash, there, own, trial, word)
@@ -181,8 +190,9 @@ fn try_places<K: Eq + Hash, V, Q: Equivalent<K>, S: Hashes<K>, M: Memory<Node<K,
 ) -> Tried
     requires plain { is_plain there ≡ true }
     requires own { own ≢ 0 }
-    requires may { MayRun CallGoes M.took M.shown (call_plan Q.Equivalent.equivalent K.eq (S.hash hasher.now)) M.can (storing {K = K} {V = V} {Q = Q} setting hash there own first at.Probes) memory.old }
-    ensures { Leads CallGoes M.took M.shown (call_plan Q.Equivalent.equivalent K.eq (S.hash hasher.now)) (storing {K = K} {V = V} {Q = Q} setting hash there own first at.Probes) memory.old (try_at setting hash there own result) memory.new }
+    requires may { MayCall Q.Equivalent.equivalent K.eq (S.hash hasher.now) M.took M.shown M.can (storing setting hash there own first at.Probes) memory.old }
+    ensures { CallLeads Q.Equivalent.equivalent K.eq (S.hash hasher.now) M.took M.shown (storing setting hash there own first at.Probes)
+        memory.old (try_at setting hash there own result) memory.new }
 {
     let mut trial = first;
     for _ in 0..first.table.limit {
@@ -209,8 +219,10 @@ fn put<K: Eq + Hash, V, Q: Equivalent<K>, S: Hashes<K>, M: Memory<Node<K, V>>>(
     requires plain { is_plain there ≡ true }
     requires own { own ≢ 0 }
     requires buried { own ≢ BURIED }
-    requires may { MayRun CallGoes M.took M.shown (call_plan Q.Equivalent.equivalent K.eq (S.hash hasher.now)) M.can (storing {K = K} {V = V} {Q = Q} setting hash there own trial (at.Tries word own)) memory.old }
-    ensures { Reaches CallGoes M.took M.shown (call_plan Q.Equivalent.equivalent K.eq (S.hash hasher.now)) (storing {K = K} {V = V} {Q = Q} setting hash there own trial (at.Tries word own)) memory.old memory.new (stored_at setting hash there own result) }
+    requires may { MayCall Q.Equivalent.equivalent K.eq (S.hash hasher.now) M.took M.shown M.can (storing setting hash there own trial (at.Tries word own))
+        memory.old }
+    ensures { CallReaches Q.Equivalent.equivalent K.eq (S.hash hasher.now) M.took M.shown (storing setting hash there own trial (at.Tries word own))
+        memory.old memory.new (stored_at setting hash there own result) }
 {
     match memory.exchange(trial.at(), word, own) {
         Ok(_) => {
@@ -322,8 +334,9 @@ pub fn store<K: Eq + Hash, V, Q: Equivalent<K>, S: Hashes<K>, M: Memory<Node<K, 
     there: There,
     own: u64,
 ) -> Stored
-    requires { MayRun CallGoes M.took M.shown (call_plan Q.Equivalent.equivalent K.eq (S.hash hasher.now)) M.can (storing {K = K} {V = V} {Q = Q} setting hash there own untried at.Roots) memory.old }
-    ensures { Reaches CallGoes M.took M.shown (call_plan Q.Equivalent.equivalent K.eq (S.hash hasher.now)) (storing {K = K} {V = V} {Q = Q} setting hash there own untried at.Roots) memory.old memory.new (stored_at setting hash there own result) }
+    requires { MayCall Q.Equivalent.equivalent K.eq (S.hash hasher.now) M.took M.shown M.can (storing setting hash there own untried at.Roots) memory.old }
+    ensures { CallReaches Q.Equivalent.equivalent K.eq (S.hash hasher.now) M.took M.shown (storing setting hash there own untried at.Roots)
+        memory.old memory.new (stored_at setting hash there own result) }
 {
     let none = no_trial();
     if !is_plain(there) {

@@ -1,7 +1,14 @@
 -- Flags of numbers, and the ascending list of the numbers whose flags are set.
-use Rattle.std.proofs.Common.{◌≡◌, ℕ, zero, suc, ◌+◌, ◌<◌, List, [], ◌∷◌, length, get_or, set, refl, sym, ap, ◌∙◌, arith, add-zero}
-use Rattle.std.specs.Prelude.{remove}
-use Rattle.seize_words.specs.FreeNumbers.{AreFlags, flagged_from, with_number}
+use Rattle.std.proofs.Common.{◌≡◌, ℕ, zero, suc, ◌+◌, ◌<◌, ◌≤◌, List, [], ◌∷◌, length, get_or, set, refl, sym, ap, ◌∙◌, arith, add-zero, inl, inr}
+use Rattle.std.specs.Prelude.{◌≢◌, ◌⊎◌, remove}
+use Rattle.std.proofs.lemmas.Bool.{cases_eq}
+use Rattle.std.proofs.lemmas.Grind.{get_or-set_at}
+use Rattle.std.proofs.lemmas.List.{get_or-set_other}
+use Rattle.seize_words.specs.FreeNumbers.{flagged_from, with_number}
+
+-- flags are 0 or 1
+abbrev pub AreBits : List ℕ → Type 0
+AreBits flags = (k : ℕ) → get_or flags k 0 ≤ 1
 
 -- trailing zeros do not count
 pub flagged-same : (n : ℕ) (xs ys : List ℕ) → ((k : ℕ) → get_or xs k 0 ≡ get_or ys k 0) → flagged_from n xs ≡ flagged_from n ys
@@ -46,6 +53,28 @@ flagged-given n (suc j) (suc x ∷ flags) h =
     ap (λ ns. n ∷ ns) (flagged-given (n + 1) j flags (omega arith) ∙ ap (λ b. with_number b (flagged_from (n + 1) flags)) e)
     ∙ sym (with_number-past (n + suc j) n (flagged_from (n + 1) flags) (omega arith))
 
+-- one that was set already
+pub flagged-there : (n j : ℕ) (flags : List ℕ) → j < length flags → get_or flags j 0 ≡ 1 → flagged_from n flags ≡ with_number (n + j) (flagged_from n flags)
+flagged-there n j flags h one = flagged-same n flags (set flags j 1) (λ k. at k (cases_eq k j)) ∙ flagged-given n j flags h
+  where
+    at : (k : ℕ) → (k ≡ j) ⊎ (k ≢ j) → get_or flags k 0 ≡ get_or (set flags j 1) k 0
+    at k (inl e) = ap (λ i. get_or flags i 0) e ∙ one ∙ sym (get_or-set_at flags j k 1 0 e h)
+    at k (inr other) = sym (get_or-set_other flags j k 1 0 other)
+
+-- one that was not makes a number more
+pub flagged-more : (n j : ℕ) (flags : List ℕ) → j < length flags → get_or flags j 0 ≡ 0
+    → length (flagged_from n (set flags j 1)) ≡ length (flagged_from n flags) + 1
+flagged-more n j [] h none = absurd (omega arith)
+flagged-more n zero (zero ∷ flags) h none = omega arith
+flagged-more n zero (suc x ∷ flags) h none = absurd (cc)
+flagged-more n (suc j) (zero ∷ flags) h none = flagged-more (n + 1) j flags (omega arith) none
+flagged-more n (suc j) (suc x ∷ flags) h none = omega (arith, flagged-more (n + 1) j flags (omega arith) none)
+
+pub length-flagged_le : (n : ℕ) (flags : List ℕ) → length (flagged_from n flags) ≤ length flags
+length-flagged_le n [] = omega arith
+length-flagged_le n (zero ∷ flags) = omega (arith, length-flagged_le (n + 1) flags)
+length-flagged_le n (suc x ∷ flags) = omega (arith, length-flagged_le (n + 1) flags)
+
 -- the sum of so many of the first flags
 abbrev pub sum_before : List ℕ → ℕ → ℕ
 sum_before [] j = 0
@@ -59,7 +88,7 @@ sum_before-more (x ∷ y ∷ flags) zero = omega arith
 sum_before-more (x ∷ flags) (suc j) = omega (arith, sum_before-more flags j)
 
 -- the number of a flag that is set stands behind those of the set flags before it
-pub flagged-at : (n j d : ℕ) (flags : List ℕ) → AreFlags flags → get_or flags j 0 ≡ 1 → get_or (flagged_from n flags) (sum_before flags j) d ≡ n + j
+pub flagged-at : (n j d : ℕ) (flags : List ℕ) → AreBits flags → get_or flags j 0 ≡ 1 → get_or (flagged_from n flags) (sum_before flags j) d ≡ n + j
 flagged-at n j d [] are one = absurd (cc)
 flagged-at n zero d (zero ∷ flags) are one = absurd (cc)
 flagged-at n zero d (suc x ∷ flags) are one = sym (add-zero n)
@@ -74,7 +103,7 @@ flagged-at n (suc j) d (suc zero ∷ flags) are one =
 flagged-at n (suc j) d (suc (suc x) ∷ flags) are one = absurd (omega (arith, are 0))
 
 -- and it goes from there where the flag is taken away
-pub flagged-taken : (n j : ℕ) (flags : List ℕ) → AreFlags flags → get_or flags j 0 ≡ 1
+pub flagged-taken : (n j : ℕ) (flags : List ℕ) → AreBits flags → get_or flags j 0 ≡ 1
     → flagged_from n (set flags j 0) ≡ remove (flagged_from n flags) (sum_before flags j)
 flagged-taken n j [] are one = absurd (cc)
 flagged-taken n zero (zero ∷ flags) are one = absurd (cc)
@@ -88,7 +117,7 @@ flagged-taken n (suc j) (suc zero ∷ flags) are one =
 flagged-taken n (suc j) (suc (suc x) ∷ flags) are one = absurd (omega (arith, are 0))
 
 -- as many numbers as flags are set
-pub length-flagged : (n : ℕ) (flags : List ℕ) → AreFlags flags → length (flagged_from n flags) ≡ sum_before flags (length flags)
+pub length-flagged : (n : ℕ) (flags : List ℕ) → AreBits flags → length (flagged_from n flags) ≡ sum_before flags (length flags)
 length-flagged n [] are = refl
 length-flagged n (zero ∷ flags) are = omega (arith, length-flagged (n + 1) flags (λ k. are (suc k)))
 length-flagged n (suc zero ∷ flags) are = omega (arith, length-flagged (n + 1) flags (λ k. are (suc k)))

@@ -1,351 +1,325 @@
--- Counts of flags in a tree.
-use Rattle.std.proofs.Common.{◌≡◌, ℕ, zero, suc, ◌+◌, ◌*◌, ◌/◌, ◌-◌, ◌^◌, ◌<◌, ◌≤◌, List, [], length, get_or, set, replicate, refl, sym, ap, ◌∙◌, arith, inl, inr}
-use Rattle.std.specs.Prelude.{◌≢◌, ◌⊎◌, remove}
-use Rattle.std.proofs.Math.Nat.{add-mul, mul-add}
-use Rattle.std.proofs.lemmas.Bool.{cases_eq, cases_lt}
-use Rattle.std.proofs.lemmas.Nat.{mul-le}
-use Rattle.std.proofs.lemmas.Grind.{get_or-set_at}
-use Rattle.std.proofs.lemmas.List.{get_or-set_other, length-replicate, length-set, nil_from_length}
-use Rattle.seize_words.specs.FreeNumbers.{AreCounted, AreFlags, IsRow, IsTree, doubled, flagged_from, sum_from, wider, with_number}
+-- Words in a tree: how it is mended, how the lowest flag is found, and how it gets a row or a word more.
+use Rattle.std.proofs.Common.{◌≡◌, ℕ, zero, suc, ◌+◌, ◌*◌, ◌-◌, ◌/◌, ◌%◌, ◌^◌, ◌<◌, ◌≤◌, List, length, get_or, set, refl, sym, ap, ◌∙◌, arith, inl, inr, w64, false}
+use Rattle.std.specs.Prelude.{◌≢◌, ◌⊎◌, count_ones, nat_eq}
+use Rattle.std.specs.Int.{bit_at}
+use Rattle.std.specs.Int.Count.{count_trailing_zeros}
+use Rattle.std.proofs.Math.Bool.{beq}
 use Rattle.std.proofs.Math.ListN.{get_or-eq_default}
-use Rattle.seize_words.proofs.FreeFlags.{flagged-at, flagged-given, flagged-same, flagged-taken, length-flagged, sum_before}
-use Rattle.seize_words.proofs.FreeSums.{sum-chunks, sum_from-add, sum_from-flags, sum_from-has, sum_from-le, sum_from-set, sum_from-set_other}
+use Rattle.std.proofs.lemmas.Bool.{cases_eq, cases_lt, ne_eqb, true≢false}
+use Rattle.std.proofs.lemmas.Grind.{get_or-set_at}
+use Rattle.std.proofs.lemmas.List.{get_or-set_other, length-set}
+use Rattle.std.proofs.lemmas.Nat.Bits.{bit_at-trailing_zeros}
+use Rattle.seize_words.specs.FreeNumbers.{AreFlags, IsBehind, IsTree, IsTurned, flag_at, flag_of, places, row_below, set_among}
+use Rattle.seize_words.proofs.FreeWords.{flag_at-kept, flag_at-node, flag_at-none, flag_at-same, flag_at-turned, ones-more, set_among-none, set_among-word, turned}
 
--- the sum over two rows of the tree that lie below one another
-pub sum_from-below : (counts : List ℕ) (a n : ℕ) → ((k : ℕ) → a ≤ k → k < a + n → get_or counts k 0 ≡ get_or counts (k + k) 0 + get_or counts (k + k + 1) 0)
-    → sum_from counts (a + a) (n + n) ≡ sum_from counts a n
-sum_from-below counts a zero sums = refl
-sum_from-below counts a (suc n) sums =
-    let e : suc n + suc n ≡ suc (suc (n + n)) = omega arith in
-    let i : a + a + (n + n) ≡ a + n + (a + n) = omega arith in
-    let j : a + a + suc (n + n) ≡ a + n + (a + n) + 1 = omega arith in
-    let r = sum_from-below counts a n (λ k l h. sums k l (omega arith)) in
-    let s = sums (a + n) (omega arith) (omega arith) in
-    rw e (rw (i, j) (omega (arith, r, s)))
+-- ---- a word is written, and its flag is mended
 
-pub doubled-le : (times n : ℕ) → n ≤ doubled times n
-doubled-le zero n = omega arith
-doubled-le (suc times) n = omega (arith, doubled-le times (n + n))
+flag_of-small : (word : ℕ) → flag_of word ≤ 1
+flag_of-small zero = omega arith
+flag_of-small (suc word) = omega arith
 
-pub doubled-twice : (times n : ℕ) → doubled times n + doubled times n ≡ doubled times (n + n)
-doubled-twice zero n = refl
-doubled-twice (suc times) n = doubled-twice times (n + n)
+-- words that the code finds unlike
+pub flag_of-unlike : (a b : ℕ) → beq (nat_eq a 0) (nat_eq b 0) ≡ false → flag_of a ≢ flag_of b
+flag_of-unlike zero zero unlike same = absurd (true≢false unlike)
+flag_of-unlike zero (suc b) unlike same = absurd (omega (arith, same))
+flag_of-unlike (suc a) zero unlike same = absurd (omega (arith, same))
+flag_of-unlike (suc a) (suc b) unlike same =
+    let e : nat_eq (suc a) 0 ≡ false = ne_eqb (suc a) 0 (λ z. absurd (omega (arith, z))) in
+    let i : nat_eq (suc b) 0 ≡ false = ne_eqb (suc b) 0 (λ z. absurd (omega (arith, z))) in
+    let both : beq false false ≡ false = rw (e, i) at unlike in
+    absurd (true≢false both)
 
-module _ (room : ℕ) (counts : List ℕ) (tree : IsTree room counts) where
-  sum_from-row : (times first : ℕ) → room ≡ doubled times first → 0 < first → sum_from counts room room ≡ sum_from counts first first
-  sum_from-row zero first is some = rw is
-  sum_from-row (suc times) first is some =
-      let le = doubled-le times (first + first) in
-      sum_from-row times (first + first) is (omega arith)
-      ∙ sum_from-below counts first first (λ k low high. tree.sums k (omega arith) (omega (arith, le, is)))
+some-flag_of : (word : ℕ) → flag_of word ≡ 1 → 0 < word
+some-flag_of zero one = absurd (omega (arith, one))
+some-flag_of (suc word) one = omega arith
 
-  -- the root counts all
-  pub sum-root : 0 < room → sum_from counts room room ≡ get_or counts 1 0
-  sum-root some =
-      let w = tree.whole some in
-      sum_from-row w.0 1 w.1 (omega arith) ∙ omega arith
+none-flag_of : (word : ℕ) → flag_of word ≡ 0 → word ≡ 0
+none-flag_of zero none = refl
+none-flag_of (suc word) none = absurd (omega (arith, none))
 
--- On the way down to the chunk with the flag behind as many others: `left` of them are below this node of the row that begins here, and before the flag.
-pub record IsOnWay (room : ℕ) (counts : List ℕ) (before first node left : ℕ) : Type 0 where
-  pub some : 0 < first
-  pub deep : (times : ℕ) × (room ≡ doubled times first)
+-- The flags are right, but that of this node, which is that of the word that was there. The lowest row is as it was.
+pub record IsMended (first : ℕ) (old nodes : List ℕ) (node was : ℕ) : Type 0 where
+  pub within : node < length nodes
+  pub flags : AreFlags first nodes (set nodes node was)
+  pub long : length nodes ≡ length old
+  pub lowest : (k : ℕ) → first ≤ k → get_or nodes k 0 ≡ get_or old k 0
+
+-- what is written twice is written the second time
+set_twice : (xs : List ℕ) (i x : ℕ) → i < length xs → (j : ℕ) → get_or (set (set xs i x) i (get_or xs i 0)) j 0 ≡ get_or xs j 0
+set_twice xs i x within j = at (cases_eq j i)
+  where
+    at : (j ≡ i) ⊎ (j ≢ i) → get_or (set (set xs i x) i (get_or xs i 0)) j 0 ≡ get_or xs j 0
+    at (inl e) =
+        get_or-set_at (set xs i x) i j (get_or xs i 0) 0 e (omega (arith, within, length-set xs i x)) ∙ ap (λ k. get_or xs k 0) (sym e)
+    at (inr other) = get_or-set_other (set xs i x) i j (get_or xs i 0) 0 other ∙ get_or-set_other xs i j x 0 other
+
+module _ (first : ℕ) (old nodes : List ℕ) (node was : ℕ) (m : IsMended first old nodes node was) where
+  flag-other : (k : ℕ) → k < 64 * first → k + 1 ≢ node → flag_at nodes k ≡ flag_of (get_or nodes (k + 1) 0)
+  flag-other k less other = m.flags k less ∙ ap flag_of (get_or-set_other nodes node (k + 1) was 0 other)
+
+  flag-node : (k : ℕ) → k < 64 * first → k + 1 ≡ node → flag_at nodes k ≡ flag_of was
+  flag-node k less is = m.flags k less ∙ ap flag_of (get_or-set_at nodes node (k + 1) was 0 is m.within)
+
+  module _ (up bit : ℕ) (high : length old ≤ 64 * first + 1) (some : 0 < node) (is_up : up ≡ (node - 1) / 64) (is_bit : bit ≡ (node - 1) % 64)
+      (differ : flag_of was ≢ flag_of (get_or nodes node 0)) where
+    abbrev next : List ℕ
+    next = set nodes up (turned (get_or nodes up 0) bit)
+
+    place : 64 * up + bit + 1 ≡ node
+    place = omega (arith, is_up, is_bit, some)
+
+    small : bit < 64
+    small = omega (arith, is_bit)
+
+    within_up : up < length nodes
+    within_up = omega (arith, is_up, m.within)
+
+    one_of : flag_of was + flag_of (get_or nodes node 0) ≡ 1
+    one_of = at (flag_of was) (flag_of (get_or nodes node 0)) (flag_of-small was) (flag_of-small (get_or nodes node 0)) differ
+      where
+        at : (a b : ℕ) → a ≤ 1 → b ≤ 1 → a ≢ b → a + b ≡ 1
+        at a b low high apart = omega (arith, low, high, apart)
+
+    pub mended-more : IsMended first old next up (get_or nodes up 0)
+    mended-more = record {
+      within = omega (arith, within_up, length-set nodes up (turned (get_or nodes up 0) bit));
+      flags = λ k less. at k less (cases_eq (k + 1) node) ∙ ap flag_of (sym (set_twice nodes up (turned (get_or nodes up 0) bit) within_up (k + 1)));
+      long = length-set nodes up (turned (get_or nodes up 0) bit) ∙ m.long;
+      lowest = λ k low.
+          get_or-set_other nodes up k (turned (get_or nodes up 0) bit) 0 (λ e. absurd (omega (arith, e, low, is_up, some, m.within, m.long, high)))
+          ∙ m.lowest k low;
+    }
+      where
+        at : (k : ℕ) → k < 64 * first → (k + 1 ≡ node) ⊎ (k + 1 ≢ node) → flag_at next k ≡ flag_of (get_or nodes (k + 1) 0)
+        at k less (inl e) =
+            flag_at-turned nodes up bit within_up small k (omega (arith, e, place))
+            ∙ omega (arith, flag-node k less e, one_of, ap (λ j. flag_of (get_or nodes j 0)) e)
+        at k less (inr other) =
+            flag_at-kept nodes up bit within_up small k (λ e. other (omega (arith, e, place))) ∙ flag-other k less other
+
+-- a flag of the lowest row is turned over
+module _ (first : ℕ) (nodes : List ℕ) (node bit : ℕ) (low : first ≤ node) (within : node < length nodes) (small : bit < 64) where
+  abbrev after : List ℕ
+  after = set nodes node (turned (get_or nodes node 0) bit)
+
+  pub turned-over : (new : List ℕ) → ((k : ℕ) → first ≤ k → get_or new k 0 ≡ get_or after k 0) → IsTurned first (64 * node + bit) nodes new
+  turned-over new lowest = record {
+    there = flag_at-same after new (64 * node + bit) (lowest ((64 * node + bit) / 64) (omega (arith, low)))
+        ∙ flag_at-turned nodes node bit within small (64 * node + bit) refl;
+    others = λ k past other. flag_at-same after new k (lowest (k / 64) (omega (arith, past))) ∙ flag_at-kept nodes node bit within small k other;
+  }
+
+-- ---- the way down to the first word with a flag
+
+pub row_below-le : (rows node : ℕ) → node ≤ row_below rows node
+row_below-le zero node = omega arith
+row_below-le (suc rows) node = omega (arith, row_below-le rows (64 * node + 1))
+
+pub row_below-more : (rows node : ℕ) → row_below rows (64 * node + 1) ≡ 64 * row_below rows node + 1
+row_below-more zero node = refl
+row_below-more (suc rows) node = row_below-more rows (64 * node + 1)
+
+-- The words of the row that begins here have no flag set up to this node, whose word has one.
+pub record IsOnWay (first : ℕ) (nodes : List ℕ) (row node : ℕ) : Type 0 where
+  pub deep : (rows : ℕ) × (first ≡ row_below rows row)
+  pub low : row ≤ node
+  pub high : node ≤ 64 * row
+  pub none : (k : ℕ) → row ≤ k → k < node → get_or nodes k 0 ≡ 0
+  pub some : 0 < get_or nodes node 0
+
+-- how deep it is where the lowest row is not reached
+deeper : (rows first row node : ℕ) → first ≡ row_below rows row → row ≤ node → node < first → (more : ℕ) × (first ≡ row_below more (64 * row + 1))
+deeper zero first row node is low less = absurd (omega (arith, is, low, less))
+deeper (suc more) first row node is low less = (more, is)
+
+module _ (first : ℕ) (nodes : List ℕ) (tree : IsTree first nodes) where
+  -- a node whose flag is not set has no flag set
+  empty_by : (k : ℕ) → k < 64 * first → flag_at nodes k ≡ 0 → get_or nodes (k + 1) 0 ≡ 0
+  empty_by k less none = none-flag_of (get_or nodes (k + 1) 0) (sym (tree.flags k less) ∙ none)
+
+  module _ (row node bit : ℕ) (way : IsOnWay first nodes row node) (less : node < first) (small : bit < 64)
+      (set : bit_at (get_or nodes node 0) bit ≡ 1) (unset : (i : ℕ) → i < bit → bit_at (get_or nodes node 0) i ≡ 0) where
+    flag_none : (k : ℕ) → 64 * row ≤ k → k < 64 * node + bit → flag_at nodes k ≡ 0
+    flag_none k past before = at (cases_lt k (64 * node))
+      where
+        at : (k < 64 * node) ⊎ (64 * node ≤ k) → flag_at nodes k ≡ 0
+        at (inl earlier) = flag_at-none nodes k (way.none (k / 64) (omega (arith, past)) (omega (arith, earlier)))
+        at (inr there) =
+            let e : k ≡ 64 * node + (k - 64 * node) = omega (arith, there) in
+            ap (flag_at nodes) e ∙ flag_at-node nodes node (k - 64 * node) (omega (arith, before, there, small))
+            ∙ unset (k - 64 * node) (omega (arith, before, there))
+
+    pub way-down : IsOnWay first nodes (64 * row + 1) (64 * node + bit + 1)
+    way-down = record {
+      deep = deeper way.deep.0 first row node way.deep.1 way.low less;
+      low = omega (arith, way.low);
+      high = omega (arith, way.high, small);
+      none = λ k past before.
+          let e : k - 1 + 1 ≡ k = omega (arith, past) in
+          ap (λ j. get_or nodes j 0) (sym e)
+          ∙ empty_by (k - 1) (omega (arith, before, less, small)) (flag_none (k - 1) (omega (arith, past)) (omega (arith, past, before)));
+      some = some-flag_of (get_or nodes (64 * node + bit + 1) 0)
+          (sym (tree.flags (64 * node + bit) (omega (arith, less, small))) ∙ flag_at-node nodes node bit small ∙ set);
+    }
+
+  pub way-next : (row node : ℕ) → IsOnWay first nodes row node → node < first → get_or nodes node 0 < 2 ^ 64
+      → IsOnWay first nodes (64 * row + 1) (64 * node + count_trailing_zeros 64 (get_or nodes node 0) + 1)
+  way-next row node way less word =
+      let z = bit_at-trailing_zeros w64 (get_or nodes node 0) way.some word in
+      way-down row node (count_trailing_zeros 64 (get_or nodes node 0)) way less z.0 z.1 z.2
+
+  row_none : (rows row : ℕ) → first ≡ row_below rows row → ((k : ℕ) → row ≤ k → k ≤ 64 * row → get_or nodes k 0 ≡ 0)
+      → (k : ℕ) → first ≤ k → k ≤ 64 * first → get_or nodes k 0 ≡ 0
+  row_none zero row is none k past before = none k (omega (arith, is, past)) (omega (arith, is, before))
+  row_none (suc rows) row is none k past before = row_none rows (64 * row + 1) is below k past before
+    where
+      below : (j : ℕ) → 64 * row + 1 ≤ j → j ≤ 64 * (64 * row + 1) → get_or nodes j 0 ≡ 0
+      below j from to =
+          let e : j - 1 + 1 ≡ j = omega (arith, from) in
+          let l = row_below-le rows (64 * row + 1) in
+          ap (λ i. get_or nodes i 0) (sym e)
+          ∙ empty_by (j - 1) (omega (arith, from, to, l, is)) (flag_at-none nodes (j - 1) (none ((j - 1) / 64) (omega (arith, from)) (omega (arith, from, to))))
+
+  -- the root has a flag set, where any flag of the lowest row is
+  pub way-begins : 0 < set_among nodes (64 * first) (places first nodes) → IsOnWay first nodes 0 0
+  way-begins any = record {
+    deep = tree.whole;
+    low = omega arith;
+    high = omega arith;
+    none = λ k past before. absurd (omega (arith, before));
+    some = at (cases_lt 0 (get_or nodes 0 0));
+  }
+    where
+      none : get_or nodes 0 0 ≤ 0 → set_among nodes (64 * first) (places first nodes) ≡ 0
+      none root = set_among-none nodes (64 * first) (places first nodes) (λ k less.
+          flag_at-none nodes (64 * first + k) (row_none tree.whole.0 0 tree.whole.1 (λ j past before.
+          let e : j ≡ 0 = omega (arith, before) in ap (λ i. get_or nodes i 0) e ∙ omega (arith, root))
+          ((64 * first + k) / 64) (omega arith) (omega (arith, less, tree.within))))
+
+      at : (0 < get_or nodes 0 0) ⊎ (get_or nodes 0 0 ≤ 0) → 0 < get_or nodes 0 0
+      at (inl some) = some
+      at (inr root) = absurd (omega (arith, any, none root))
+
+  pub way-within : (row node : ℕ) → IsOnWay first nodes row node → node < length nodes
+  way-within row node way = at (cases_lt node (length nodes))
+    where
+      at : (node < length nodes) ⊎ (length nodes ≤ node) → node < length nodes
+      at (inl within) = within
+      at (inr past) = absurd (omega (arith, way.some, get_or-eq_default nodes 0 past))
+
+  pub way-fits : (row node : ℕ) → IsOnWay first nodes row node → node < first → get_or nodes node 0 < 2 ^ 64
+      → 64 * node + count_trailing_zeros 64 (get_or nodes node 0) + 1 < length nodes
+  way-fits row node way less word =
+      way-within (64 * row + 1) (64 * node + count_trailing_zeros 64 (get_or nodes node 0) + 1) (way-next row node way less word)
+
+  pub way-ends : (row node : ℕ) → IsOnWay first nodes row node → first ≤ node → first ≡ row
+  way-ends row node way past = at way.deep.0 way.deep.1
+    where
+      at : (rows : ℕ) → first ≡ row_below rows row → first ≡ row
+      at zero is = is
+      at (suc rows) is = absurd (omega (arith, is, row_below-le rows (64 * row + 1), way.high, past))
+
+  -- the lowest flag of the first word with one
+  pub first-behind : (node bit : ℕ) → first ≤ node → node < length nodes → bit < 64 → bit_at (get_or nodes node 0) bit ≡ 1
+      → ((i : ℕ) → i < bit → bit_at (get_or nodes node 0) i ≡ 0) → ((k : ℕ) → first ≤ k → k < node → get_or nodes k 0 ≡ 0) → IsBehind first nodes 0 node bit
+  first-behind node bit low within small set unset none = record {
+    low = low;
+    within = within;
+    small = small;
+    set = set;
+    rank = set_among-none nodes (64 * first) (64 * (node - first) + bit) (λ k less. at k less (cases_lt k (64 * (node - first))));
+  }
+    where
+      at : (k : ℕ) → k < 64 * (node - first) + bit → (k < 64 * (node - first)) ⊎ (64 * (node - first) ≤ k) → flag_at nodes (64 * first + k) ≡ 0
+      at k less (inl earlier) = flag_at-none nodes (64 * first + k) (none ((64 * first + k) / 64) (omega arith) (omega (arith, earlier, low)))
+      at k less (inr there) =
+          let e : 64 * first + k ≡ 64 * node + (64 * first + k - 64 * node) = omega (arith, there, low) in
+          ap (flag_at nodes) e ∙ flag_at-node nodes node (64 * first + k - 64 * node) (omega (arith, less, small, there, low))
+          ∙ unset (64 * first + k - 64 * node) (omega (arith, less, there, low))
+
+-- ---- words and bits gone over
+
+-- The words up to this node are gone over, and so many of the flags behind which one is looked for are left.
+pub record IsScanned (first : ℕ) (nodes : List ℕ) (before node left : ℕ) : Type 0 where
   pub low : first ≤ node
-  pub high : node < first + first
-  pub rank : sum_from counts first (node - first) + left ≡ before
-  pub few : left < get_or counts node 0
+  pub within : node < length nodes
+  pub rank : set_among nodes (64 * first) (64 * (node - first)) + left ≡ before
 
-module _ (room : ℕ) (counts : List ℕ) (tree : IsTree room counts) (before : ℕ) where
-  module _ (first node left : ℕ) (on : IsOnWay room counts before first node left) where
-    -- the rows are as long as they are far from the root
-    deeper : (times : ℕ) → room ≡ doubled times first → first < room → (more : ℕ) × (room ≡ doubled more (first + first))
-    deeper zero is less = absurd (omega (arith, is, less))
-    deeper (suc more) is less = (more, is)
-
-    pub way-wide : first < room → first + first ≤ room
-    way-wide less =
-        let d = deeper on.deep.0 on.deep.1 less in
-        omega (arith, doubled-le d.0 (first + first), d.1)
-
-    pub way-at : first < room → get_or counts node 0 ≡ get_or counts (node + node) 0 + get_or counts (node + node + 1) 0
-    way-at less = tree.sums node (omega (arith, on.some, on.low)) (omega (arith, way-wide less, on.high))
-
-    rank_below : first < room → sum_from counts (first + first) (node - first + (node - first)) + left ≡ before
-    rank_below less =
-        let wide = way-wide less in
-        let b = sum_from-below counts first (node - first) (λ k low high. tree.sums k (omega (arith, on.some)) (omega (arith, wide, on.low, on.high))) in
-        omega (arith, b, on.rank)
-
-    pub way-lower : first < room → left < get_or counts (node + node) 0 → IsOnWay room counts before (first + first) (node + node) left
-    way-lower less few =
-        let e : node + node - (first + first) ≡ node - first + (node - first) = omega (arith, on.low) in
-        record {
-          some = omega (arith, on.some);
-          deep = deeper on.deep.0 on.deep.1 less;
-          low = omega (arith, on.low);
-          high = omega (arith, on.high);
-          rank = rw e (rank_below less);
-          few = few;
-        }
-
-    pub way-upper : first < room → get_or counts (node + node) 0 ≤ left
-        → IsOnWay room counts before (first + first) (node + node + 1) (left - get_or counts (node + node) 0)
-    way-upper less many =
-        let e : node + node + 1 - (first + first) ≡ suc (node - first + (node - first)) = omega (arith, on.low) in
-        let i : first + first + (node - first + (node - first)) ≡ node + node = omega (arith, on.low) in
-        let r = rank_below less in
-        let a = way-at less in
-        record {
-          some = omega (arith, on.some);
-          deep = deeper on.deep.0 on.deep.1 less;
-          low = omega (arith, on.low);
-          high = omega (arith, on.high);
-          rank = rw e (rw i (omega (arith, r, many)));
-          few = omega (arith, on.few, a, many);
-        }
-
-    -- at the last row
-    pub way-first : room ≤ first → first ≡ room
-    way-first past = omega (arith, past, doubled-le on.deep.0 first, on.deep.1)
-
-    pub way-ends : room ≤ first → (node - room < room) × (left < get_or counts (room + (node - room)) 0) × (sum_from counts room (node - room) + left ≡ before)
-    way-ends past =
-        let e = way-first past in
-        let n : room + (node - room) ≡ node = omega (arith, e, on.low) in
-        (omega (arith, e, on.high, on.low), rw n on.few, rw e at on.rank)
-
--- A flag was written, and each count above it up to this node: only the count of the node above that one may be another one than it is to be.
-pub record IsMended (room : ℕ) (counts flags : List ℕ) (node : ℕ) : Type 0 where
-  pub twice : length counts ≡ room + room
-  pub row : IsRow room
-  pub some : 0 < node
-  pub within : node < room + room
-  pub sums : (k : ℕ) → 0 < k → k < room → k + k ≢ node → k + k + 1 ≢ node → get_or counts k 0 ≡ get_or counts (k + k) 0 + get_or counts (k + k + 1) 0
-  pub light : (k : ℕ) → k * get_or counts k 0 ≤ (room + room) * 32
-  pub counted : AreCounted room counts flags
-
-light_sum : (k a b top : ℕ) → (k + k) * a ≤ top → (k + k + 1) * b ≤ top → k * (a + b) ≤ top
-light_sum k a b top la lb =
-    let pa : (k + k) * a ≡ k * a + k * a = add-mul k k a in
-    let pb : (k + k + 1) * b ≡ (k + k) * b + 1 * b = add-mul (k + k) 1 b in
-    let pc : (k + k) * b ≡ k * b + k * b = add-mul k k b in
-    let s = mul-add k a b in
-    omega (arith, pa, pb, pc, s, la, lb)
-
-module _ (room : ℕ) (was flags : List ℕ) (tree : IsTree room was) (counted : AreCounted room was flags) (place flag : ℕ)
-    (within : place < length flags) (small : flag ≤ 1) where
-  abbrev chunk : ℕ
-  chunk = place / 32
-
-  abbrev count : ℕ
-  count = get_or was (room + chunk) 0 - get_or flags place 0 + flag
-
-  chunk_lt : chunk < room
-  chunk_lt = omega (arith, within, counted.long)
-
-  chunk_within : room + chunk < length was
-  chunk_within = omega (arith, chunk_lt, tree.twice)
-
-  flag_in : get_or flags place 0 ≤ get_or was (room + chunk) 0
-  flag_in = rw (counted.chunks chunk chunk_lt) (sum_from-has flags place (chunk * 32) 32 within (omega arith) (omega arith))
-
-  small_after : AreFlags (set flags place flag)
-  small_after k = elim (cases_eq k place) as (λ _. get_or (set flags place flag) k 0 ≤ 1) [
-    | inl e ↦ rw (get_or-set_at flags place k flag 0 e within) small
-    | inr other ↦ rw (get_or-set_other flags place k flag 0 other) (counted.small k)
-  ]
-
-  count_is : count ≡ sum_from (set flags place flag) (chunk * 32) 32
-  count_is =
-      let s = sum_from-set flags place flag (chunk * 32) 32 within (omega arith) (omega arith) in
-      let c = counted.chunks chunk chunk_lt in
-      omega (arith, s, c, flag_in)
-
-  chunks_after : (c : ℕ) → c < room → (c ≡ chunk) ⊎ (c ≢ chunk)
-      → get_or (set was (room + chunk) count) (room + c) 0 ≡ sum_from (set flags place flag) (c * 32) 32
-  chunks_after c less (inl e) =
-      let i : room + c ≡ room + chunk = omega (arith, e) in
-      get_or-set_at was (room + chunk) (room + c) count 0 i chunk_within ∙ rw e count_is
-  chunks_after c less (inr other) =
-      get_or-set_other was (room + chunk) (room + c) count 0 (λ e. other (omega (arith, e))) ∙ counted.chunks c less
-      ∙ sym (sum_from-set_other flags place flag (c * 32) 32 (λ k few e. other (omega (arith, few, e))))
-
-  pub mended-begins : IsMended room (set was (room + chunk) count) (set flags place flag) (room + chunk)
-  mended-begins = record {
-    twice = length-set was (room + chunk) count ∙ tree.twice;
-    row = tree.whole;
-    some = omega (arith, chunk_lt);
-    within = omega (arith, chunk_lt);
-    sums = λ k some low left right.
-        let a = get_or-set_other was (room + chunk) k count 0 (λ e. absurd (omega (arith, e, low))) in
-        let b = get_or-set_other was (room + chunk) (k + k) count 0 left in
-        let c = get_or-set_other was (room + chunk) (k + k + 1) count 0 right in
-        omega (arith, a, b, c, tree.sums k some low);
-    light = λ k. light_at k (cases_eq k (room + chunk));
-    counted = record {
-      long = length-set flags place flag ∙ counted.long;
-      small = small_after;
-      chunks = λ c less. chunks_after c less (cases_eq c chunk);
-    };
+module _ (first : ℕ) (nodes : List ℕ) (before : ℕ) (few : before < set_among nodes (64 * first) (places first nodes)) where
+  pub scanned-begins : IsScanned first nodes before first before
+  scanned-begins = record {
+    low = omega arith;
+    within = at (cases_lt first (length nodes));
+    rank = let e : 64 * (first - first) ≡ 0 = omega arith in rw e (omega arith);
   }
     where
-      light_at : (k : ℕ) → (k ≡ room + chunk) ⊎ (k ≢ room + chunk) → k * get_or (set was (room + chunk) count) k 0 ≤ (room + room) * 32
-      light_at k (inl e) =
-          let a = get_or-set_at was (room + chunk) k count 0 e chunk_within in
-          let c : count ≤ 32 = rw count_is (sum_from-le (set flags place flag) small_after (chunk * 32) 32) in
-          let b : k * count ≤ k * 32 = mul-le k count k 32 (omega arith) c in
-          rw a (omega (arith, b, e, chunk_lt))
-      light_at k (inr n) =
-          let a = get_or-set_other was (room + chunk) k count 0 n in
-          rw a (tree.light k)
+      at : (first < length nodes) ⊎ (length nodes ≤ first) → first < length nodes
+      at (inl within) = within
+      at (inr past) = absurd (
+          let e : places first nodes ≡ 0 = omega (arith, past) in
+          let n : set_among nodes (64 * first) (places first nodes) ≡ 0 = ap (set_among nodes (64 * first)) e in
+          omega (arith, few, n))
 
-module _ (room : ℕ) (counts flags : List ℕ) (node up : ℕ) (m : IsMended room counts flags node) (above : (node ≡ up + up) ⊎ (node ≡ up + up + 1)) (some : 0 < up) where
-  low : up < room
-  low = elim above as (λ _. up < room) [
-    | inl e ↦ omega (arith, e, m.within)
-    | inr e ↦ omega (arith, e, m.within)
-  ]
+  -- all flags of a word
+  pub among-word : (node : ℕ) → first ≤ node → get_or nodes node 0 < 2 ^ 64
+      → set_among nodes (64 * first) (64 * (node + 1 - first)) ≡ set_among nodes (64 * first) (64 * (node - first)) + count_ones (get_or nodes node 0)
+  among-word node low word =
+      let e : 64 * (node + 1 - first) ≡ 64 * (node - first) + 64 = omega (arith, low) in
+      let i : first + (node - first) ≡ node = omega (arith, low) in
+      let w : get_or nodes node 0 % 2 ^ 64 ≡ get_or nodes node 0 = omega (arith, word) in
+      ap (set_among nodes (64 * first)) e ∙ set_among-word nodes first (node - first) 64 (omega arith)
+      ∙ ap (λ j. set_among nodes (64 * first) (64 * (node - first)) + count_ones (get_or nodes j 0 % 2 ^ 64)) i
+      ∙ ap (λ n. set_among nodes (64 * first) (64 * (node - first)) + count_ones n) w
 
-  abbrev new : ℕ
-  new = get_or counts (up + up) 0 + get_or counts (up + up + 1) 0
-
-  pub light-new : up * new ≤ (room + room) * 32
-  light-new = light_sum up (get_or counts (up + up) 0) (get_or counts (up + up + 1) 0) ((room + room) * 32) (m.light (up + up)) (m.light (up + up + 1))
-
-  pub new-fits : (room + room) * 32 < 2 ^ 64 → new < 2 ^ 64
-  new-fits fits =
-      let l : 1 * new ≤ up * new = mul-le 1 new up new some (omega arith) in
-      omega (arith, l, light-new, fits)
-
-  sums_new : (k : ℕ) → 0 < k → k < room → k + k ≢ up → k + k + 1 ≢ up → (k ≡ up) ⊎ (k ≢ up)
-      → get_or (set counts up new) k 0 ≡ get_or (set counts up new) (k + k) 0 + get_or (set counts up new) (k + k + 1) 0
-  sums_new k one less left right same =
-      let b = get_or-set_other counts up (k + k) new 0 left in
-      let c = get_or-set_other counts up (k + k + 1) new 0 right in
-      elim same as (λ _. get_or (set counts up new) k 0 ≡ get_or (set counts up new) (k + k) 0 + get_or (set counts up new) (k + k + 1) 0) [
-        | inl e ↦ (let a = get_or-set_at counts up k new 0 e (omega (arith, low, m.twice)) in
-            let i : get_or counts (k + k) 0 ≡ get_or counts (up + up) 0 = ap (λ x. get_or counts (x + x) 0) e in
-            let j : get_or counts (k + k + 1) 0 ≡ get_or counts (up + up + 1) 0 = ap (λ x. get_or counts (x + x + 1) 0) e in
-            omega (arith, a, b, c, i, j))
-        | inr n ↦ (let a = get_or-set_other counts up k new 0 n in
-            let s = m.sums k one less (λ e. not_above k n (inl e)) (λ e. not_above k n (inr e)) in
-            omega (arith, a, b, c, s))
-      ]
-    where
-      not_above : (k : ℕ) → k ≢ up → (k + k ≡ node) ⊎ (k + k + 1 ≡ node) → ⊥
-      not_above k n (inl e) = n (elim above as (λ _. k ≡ up) [ inl f ↦ omega (arith, e, f) | inr f ↦ omega (arith, e, f) ])
-      not_above k n (inr e) = n (elim above as (λ _. k ≡ up) [ inl f ↦ omega (arith, e, f) | inr f ↦ omega (arith, e, f) ])
-
-  pub mended-more : IsMended room (set counts up new) flags up
-  mended-more = record {
-    twice = length-set counts up new ∙ m.twice;
-    row = m.row;
-    some = some;
-    within = omega (arith, low);
-    sums = λ k one less left right. sums_new k one less left right (cases_eq k up);
-    light = λ k. light_at k (cases_eq k up);
-    counted = record {
-      long = m.counted.long;
-      small = m.counted.small;
-      chunks = λ c less. get_or-set_other counts up (room + c) new 0 (λ e. absurd (omega (arith, e, low))) ∙ m.counted.chunks c less;
-    };
+  pub scanned-more : (node left : ℕ) → IsScanned first nodes before node left → get_or nodes node 0 < 2 ^ 64 → count_ones (get_or nodes node 0) ≤ left
+      → IsScanned first nodes before (node + 1) (left - count_ones (get_or nodes node 0))
+  scanned-more node left s word many = record {
+    low = omega (arith, s.low);
+    within = at (cases_lt (node + 1) (length nodes));
+    rank = omega (arith, among-word node s.low word, s.rank, many);
   }
     where
-      light_at : (k : ℕ) → (k ≡ up) ⊎ (k ≢ up) → k * get_or (set counts up new) k 0 ≤ (room + room) * 32
-      light_at k (inl e) =
-          let a = get_or-set_at counts up k new 0 e (omega (arith, low, m.twice)) in
-          let b : k * new ≡ up * new = ap (λ x. x * new) e in
-          rw a (omega (arith, b, light-new))
-      light_at k (inr n) = rw (get_or-set_other counts up k new 0 n) (m.light k)
+      at : (node + 1 < length nodes) ⊎ (length nodes ≤ node + 1) → node + 1 < length nodes
+      at (inl within) = within
+      at (inr past) = absurd (
+          let e : places first nodes ≡ 64 * (node + 1 - first) = omega (arith, past, s.within) in
+          let n : set_among nodes (64 * first) (places first nodes) ≡ set_among nodes (64 * first) (64 * (node + 1 - first)) =
+          ap (set_among nodes (64 * first)) e in
+          omega (arith, few, n, among-word node s.low word, s.rank, many))
 
--- A wider tree of the same flags, as far as they were copied.
-pub record IsCopied (flags : List ℕ) (wide place : ℕ) (more more_flags : List ℕ) : Type 0 where
-  pub tree : IsTree wide more
-  pub counted : AreCounted wide more more_flags
-  pub done : (k : ℕ) → k < place → get_or more_flags k 0 ≡ get_or flags k 0
-  pub rest : (k : ℕ) → place ≤ k → get_or more_flags k 0 ≡ 0
+-- a flag in a word whose place is known
+pub node-behind : (first : ℕ) (nodes : List ℕ) (before node left bit : ℕ) → first ≤ node → node < length nodes → bit < 64
+    → set_among nodes (64 * first) (64 * (node - first)) + left ≡ before → bit_at (get_or nodes node 0) bit ≡ 1
+    → count_ones (get_or nodes node 0 % 2 ^ bit) ≡ left → IsBehind first nodes before node bit
+node-behind first nodes before node left bit low within small rank set ones = record {
+  low = low;
+  within = within;
+  small = small;
+  set = set;
+  rank =
+      let i : first + (node - first) ≡ node = omega (arith, low) in
+      let w = set_among-word nodes first (node - first) bit (omega (arith, small)) in
+      let o : count_ones (get_or nodes (first + (node - first)) 0 % 2 ^ bit) ≡ left = ap (λ j. count_ones (get_or nodes j 0 % 2 ^ bit)) i ∙ ones in
+      omega (arith, w, o, rank);
+}
 
-zeros_at : (n k : ℕ) → ◌≡◌ {A = ℕ} (get_or (replicate n 0) k 0) 0
-zeros_at zero k = refl
-zeros_at (suc n) zero = refl
-zeros_at (suc n) (suc k) = zeros_at n k
+-- The bits of a word up to this one are gone over.
+pub record IsSought (word before bit left : ℕ) : Type 0 where
+  pub small : bit < 64
+  pub rank : count_ones (word % 2 ^ bit) + left ≡ before
 
-sum_of_zeros : (m a n : ℕ) → ◌≡◌ {A = ℕ} 0 (sum_from (replicate m 0) a n)
-sum_of_zeros m a zero = refl
-sum_of_zeros m a (suc n) = omega (arith, sum_of_zeros m a n, zeros_at m (a + n))
-
-wider_some : (n : ℕ) → wider (suc n) ≡ suc n + suc n
-wider_some n = grind arith
-
-IsRow-wider : (room : ℕ) → IsRow room → (height : ℕ) × (wider room ≡ doubled height 1)
-IsRow-wider zero row = (0, refl)
-IsRow-wider (suc n) row = let w = row (omega arith) in (suc w.0, wider_some n ∙ ap (λ x. x + x) w.1 ∙ doubled-twice w.0 1)
-
-module _ (room : ℕ) (flags : List ℕ) (row : IsRow room) where
-  pub copied-begins : IsCopied flags (wider room) 0 (replicate (wider room + wider room) 0) (replicate (wider room * 32) 0)
-  copied-begins = record {
-    tree = record {
-      twice = length-replicate (wider room + wider room) 0;
-      whole = λ some. IsRow-wider room row;
-      sums = λ k some low.
-          let a = zeros_at (wider room + wider room) k in
-          let b = zeros_at (wider room + wider room) (k + k) in
-          let c = zeros_at (wider room + wider room) (k + k + 1) in
-          omega (arith, a, b, c);
-      light = λ k. rw (zeros_at (wider room + wider room) k) (omega arith);
-    };
-    counted = record {
-      long = length-replicate (wider room * 32) 0;
-      small = λ k. let a = zeros_at (wider room * 32) k in omega (arith, a);
-      chunks = λ c less. zeros_at (wider room + wider room) (wider room + c) ∙ sum_of_zeros (wider room * 32) (c * 32) 32;
-    };
-    done = λ k less. absurd (omega (arith, less));
-    rest = λ k past. zeros_at (wider room * 32) k;
-  }
-
-  pub copied-ends : (wide : ℕ) (more more_flags : List ℕ) → IsCopied flags wide (length flags) more more_flags → flagged_from 1 more_flags ≡ flagged_from 1 flags
-  copied-ends wide more more_flags copied = flagged-same 1 more_flags flags (λ k. at k (cases_lt k (length flags)))
+module _ (word before : ℕ) (fits : word < 2 ^ 64) (few : before < count_ones word) where
+  pub sought-more : (bit left : ℕ) → IsSought word before bit left → bit_at word bit ≤ left → IsSought word before (bit + 1) (left - bit_at word bit)
+  sought-more bit left s many =
+      let e : bit + 1 ≡ suc bit = omega arith in
+      let rank : count_ones (word % 2 ^ (bit + 1)) + (left - bit_at word bit) ≡ before =
+      rw e (omega (arith, ones-more word bit, s.rank, many)) in
+      record { small = at rank (cases_lt (bit + 1) 64); rank = rank }
     where
-      at : (k : ℕ) → (k < length flags) ⊎ (length flags ≤ k) → get_or more_flags k 0 ≡ get_or flags k 0
-      at k (inl less) = copied.done k less
-      at k (inr past) = copied.rest k past ∙ sym (get_or-eq_default flags 0 past)
-
--- what the flags of a tree show
-module _ (room : ℕ) (counts flags : List ℕ) (tree : IsTree room counts) (counted : AreCounted room counts flags) where
-  pub how-many : 0 < room → length (flagged_from 1 flags) ≡ get_or counts 1 0
-  how-many some =
-      length-flagged 1 flags counted.small ∙ ap (sum_before flags) counted.long ∙ sym (sum_from-flags flags (room * 32))
-      ∙ sym (sum-chunks room counts flags counted room (omega arith)) ∙ sum-root room counts tree some
-
-  pub number-given : (number : ℕ) → 0 < number → number ≤ room * 32
-      → flagged_from 1 (set flags (number - 1) 1) ≡ with_number number (flagged_from 1 flags)
-  number-given number some within =
-      let e : 1 + (number - 1) ≡ number = omega (arith, some) in
-      flagged-given 1 (number - 1) flags (omega (arith, counted.long, some, within)) ∙ ap (λ b. with_number b (flagged_from 1 flags)) e
-
-  -- a flag that is found in its chunk
-  module _ (chunk left place before : ℕ) (less : chunk < room) (low : chunk * 32 ≤ place) (flag : get_or flags place 0 ≡ 1)
-      (inside : sum_from flags (chunk * 32) (place - chunk * 32) ≡ left) (rank : sum_from counts room chunk + left ≡ before) where
-    behind : sum_before flags place ≡ before
-    behind =
-        let e : chunk * 32 + (place - chunk * 32) ≡ place = omega (arith, low) in
-        let i : 0 + chunk * 32 ≡ chunk * 32 = omega arith in
-        let s = sum_from-add flags 0 (chunk * 32) (place - chunk * 32) in
-        let c = sum-chunks room counts flags counted chunk (omega (arith, less)) in
-        sym (sum_from-flags flags place) ∙ omega (arith, rw (e, i) at s, c, inside, rank)
-
-    pub number-at : place + 1 ≡ get_or (flagged_from 1 flags) before (place + 1)
-    number-at =
-        let e : 1 + place ≡ place + 1 = omega arith in
-        sym (ap (λ c. get_or (flagged_from 1 flags) c (place + 1)) (sym behind) ∙ flagged-at 1 place (place + 1) flags counted.small flag ∙ e)
-
-    pub number-taken : flagged_from 1 (set flags place 0) ≡ remove (flagged_from 1 flags) before
-    number-taken = flagged-taken 1 place flags counted.small flag ∙ ap (remove (flagged_from 1 flags)) behind
-
-  pub has-room : (before : ℕ) → before < length (flagged_from 1 flags) → 0 < room
-  has-room before few = elim (cases_lt 0 room) as (λ _. 0 < room) [
-    | inl some ↦ some
-    | inr none ↦ absurd (let l : length flags ≡ 0 = omega (arith, none, counted.long) in
-        let e : flags ≡ [] = nil_from_length flags l in
-        let n : length (flagged_from 1 flags) ≡ 0 = ap (λ fs. length (flagged_from 1 fs)) e in
-        omega (arith, n, few))
-  ]
+      at : count_ones (word % 2 ^ (bit + 1)) + (left - bit_at word bit) ≡ before → (bit + 1 < 64) ⊎ (64 ≤ bit + 1) → bit + 1 < 64
+      at rank (inl small) = small
+      at rank (inr past) = absurd (
+          let e : bit + 1 ≡ 64 = omega (arith, past, s.small) in
+          let w : word % 2 ^ 64 ≡ word = omega (arith, fits) in
+          let o : count_ones (word % 2 ^ (bit + 1)) ≡ count_ones word = ap (λ n. count_ones (word % 2 ^ n)) e ∙ ap count_ones w in
+          omega (arith, rank, o, few))

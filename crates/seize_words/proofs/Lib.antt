@@ -1,7 +1,9 @@
 mod FreeFlags
+mod FreeGrown
 mod FreeKept
 mod FreeNumbers
-mod FreeSums
+mod FreeSteps
+mod FreeWords
 mod FreeTrees
 mod DirectoryKept
 pub mod OneOwner
@@ -9,3 +11,4 @@ pub mod Places
 pub mod Plans
 mod Stored
 mod Pieces
+mod Sent

@@ -1,5 +1,6 @@
--- Free numbers: the list that they are, and the counts that keep it.
-use Rattle.std.specs.Prelude.{◌≡◌, ℕ, zero, suc, ◌+◌, ◌*◌, ◌<◌, ◌≤◌, ◌==◌, List, [], ◌∷◌, length, slice_index, if◌then◌else◌, nat_lt}
+-- Free numbers: the list that they are, and the words that keep it.
+use Rattle.std.specs.Prelude.{◌≡◌, ◌≢◌, ℕ, zero, suc, ◌+◌, ◌-◌, ◌*◌, ◌/◌, ◌%◌, ◌<◌, ◌≤◌, ◌==◌, List, [], ◌∷◌, length, slice_index, if◌then◌else◌, nat_lt}
+use Rattle.std.specs.Int.{bit_at}
 
 -- The free numbers in ascending order, and the last number that there is room for.
 pub record FreeNumbers : Type 0 where
@@ -18,38 +19,59 @@ flagged_from n [] = []
 flagged_from n (zero ∷ flags) = flagged_from (n + 1) flags
 flagged_from n (suc flag ∷ flags) = n ∷ flagged_from (n + 1) flags
 
--- the sum of so many counts from a place on
-abbrev pub sum_from : List ℕ → ℕ → ℕ → ℕ
-sum_from counts a zero = 0
-sum_from counts a (suc n) = sum_from counts a n + slice_index counts (a + n)
+-- a flag of words with 64 each
+abbrev pub flag_at : List ℕ → ℕ → ℕ
+flag_at words k = bit_at (slice_index words (k / 64)) (k % 64)
 
--- a number doubled so many times
-abbrev pub doubled : ℕ → ℕ → ℕ
-doubled zero n = n
-doubled (suc times) n = doubled times (n + n)
+-- so many of the flags from a place on
+abbrev pub flags_from : List ℕ → ℕ → ℕ → List ℕ
+flags_from words k zero = []
+flags_from words k (suc n) = flag_at words k ∷ flags_from words (k + 1) n
 
--- a tree is made twice as wide, or one wide where it was empty
-abbrev pub wider : ℕ → ℕ
-wider room = if room == 0 then 1 else room + room
+-- how many of them are set
+abbrev pub set_among : List ℕ → ℕ → ℕ → ℕ
+set_among words k zero = 0
+set_among words k (suc n) = set_among words k n + flag_at words (k + n)
 
--- a row of a tree has as many places as the root doubled so many times
-abbrev pub IsRow : ℕ → Type 0
-IsRow room = 0 < room → (height : ℕ) × (room ≡ doubled height 1)
+-- the flag that says of a word whether any of its own flags is set
+abbrev pub flag_of : ℕ → ℕ
+flag_of zero = 0
+flag_of (suc word) = 1
 
--- flags are 0 or 1
-abbrev pub AreFlags : List ℕ → Type 0
-AreFlags flags = (k : ℕ) → slice_index flags k ≤ 1
+-- where the row begins that lies so many rows below the row from this node on
+abbrev pub row_below : ℕ → ℕ → ℕ
+row_below zero node = node
+row_below (suc rows) node = row_below rows (64 * node + 1)
 
--- Counts in a whole tree: the root at 1, below the place k the places 2 k and 2 k + 1, the lowest from the place `room` on. Each of the others is the sum of
--- those below it. A chunk has 32 numbers, so the further down a count is the less it can be.
-pub record IsTree (room : ℕ) (counts : List ℕ) : Type 0 where
-  pub twice : length counts ≡ room + room
-  pub whole : IsRow room
-  pub sums : (k : ℕ) → 0 < k → k < room → slice_index counts k ≡ slice_index counts (k + k) + slice_index counts (k + k + 1)
-  pub light : (k : ℕ) → k * slice_index counts k ≤ (room + room) * 32
+-- each flag above the lowest row says of its node whether the word there has a flag set
+abbrev pub AreFlags : ℕ → List ℕ → List ℕ → Type 0
+AreFlags first nodes words = (k : ℕ) → k < 64 * first → flag_at nodes k ≡ flag_of (slice_index words (k + 1))
 
--- Each of the lowest counts is of the 32 flags of a chunk, in order.
-pub record AreCounted (room : ℕ) (counts flags : List ℕ) : Type 0 where
-  pub long : length flags ≡ room * 32
-  pub small : AreFlags flags
-  pub chunks : (chunk : ℕ) → chunk < room → slice_index counts (room + chunk) ≡ sum_from flags (chunk * 32) 32
+-- Words in a tree, one row after another. The root is node 0, and flag `k` of all is that of node `k + 1`. The lowest row begins at
+-- `first`; its flags are those of numbers.
+pub record IsTree (first : ℕ) (nodes : List ℕ) : Type 0 where
+  pub whole : (rows : ℕ) × (first ≡ row_below rows 0)
+  pub some : first ≤ length nodes
+  pub within : length nodes ≤ 64 * first + 1
+  pub flags : AreFlags first nodes nodes
+
+-- how many flags the lowest row has
+abbrev pub places : ℕ → List ℕ → ℕ
+places first nodes = 64 * (length nodes - first)
+
+-- the numbers whose flags are set
+abbrev pub numbers_in : ℕ → List ℕ → List ℕ
+numbers_in first nodes = flagged_from 1 (flags_from nodes (64 * first) (places first nodes))
+
+-- This flag of the lowest row is set, behind so many others.
+pub record IsBehind (first : ℕ) (nodes : List ℕ) (before node bit : ℕ) : Type 0 where
+  pub low : first ≤ node
+  pub within : node < length nodes
+  pub small : bit < 64
+  pub set : bit_at (slice_index nodes node) bit ≡ 1
+  pub rank : set_among nodes (64 * first) (64 * (node - first) + bit) ≡ before
+
+-- This flag of the lowest row is turned over, and the others there stay.
+pub record IsTurned (first flag : ℕ) (old new : List ℕ) : Type 0 where
+  pub there : flag_at new flag ≡ 1 - flag_at old flag
+  pub others : (k : ℕ) → 64 * first ≤ k → k ≢ flag → flag_at new k ≡ flag_at old k

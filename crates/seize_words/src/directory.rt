@@ -1,5 +1,5 @@
 //! Blocks by their numbers, and the numbers that are free.
-ghost use Rattle.std.specs.Prelude.{◌≡◌, ◌<◌, ◌≤◌, ◌^◌, ◌+◌, ◌-◌, [], ◌∷◌, ◌++◌, None, Some, IsSome, IfOk, IfErr, OnOk, OnErr, length, slice_index_or, slice_set};
+ghost use Rattle.std.specs.Prelude.{◌≡◌, ◌<◌, ◌≤◌, ◌^◌, ◌+◌, ◌-◌, ◌%◌, [], ◌∷◌, ◌++◌, None, Some, IsSome, IfOk, IfErr, OnOk, OnErr, length, slice_index_or, slice_set};
 ghost use Rattle.seize_words.specs.Directory.{with_next};
 ghost use Rattle.seize_words.specs.Mem.{free_from, value_in, entry_in, word_in, with_entry, with_word_in, with_value_in, values_in, picked, with_made};
 
@@ -61,6 +61,15 @@ fn grow<T>(
         }
     }
     Ok(())
+}
+
+/// Behind how many of so many free numbers the one stands that a choice picks. Behind all of them stands the next number.
+fn rank_of(choice: u64, count: u64) -> u64
+    requires { count < 2 ^ 53 }
+    ensures { result ≡ choice % (count + 1) }
+{
+    // Where no choice is left it is 0, and a division takes as long as finding the number.
+    if choice == 0 { 0 } else { choice % (count + 1) }
 }
 
 impl<T> Directory<T> {
@@ -173,7 +182,7 @@ impl<T> Directory<T> {
         ensures err { IfErr result (λ back. (back ≡ made.value) × (self.new ≡ self.old)) }
     {
         let count = self.free.len();
-        let before = choice % (count + 1);
+        let before = rank_of(choice, count);
         if before < count {
             Ok(self.reuse(before, made))
         } else {

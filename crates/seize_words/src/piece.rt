@@ -80,6 +80,8 @@ impl<T> Model for Piece<T> {
     ghost invariant = { λ p. IsPiece p.value p.words p.frame.at p.frame.next p.frame.count };
 }
 
+unsafe impl<T: Send> Send for Piece<T> {}
+
 impl<T> Piece<T> {
     /// A block of a value and as many words, each 0. Where there is no memory the value comes back.
     pub(crate) fn make(alloc: Global, value: T, words: u64) -> Result<Self, T>

@@ -35,6 +35,8 @@ impl<T, W, A: Allocator> Model for Frame<T, W, A> {
     ghost also_owns = { λ f. frame T.row W.row (A.dealloc_token f.alloc) f.count f.at f.next };
 }
 
+unsafe impl<T: Send, W: Send, A: Allocator + Send> Send for Frame<T, W, A> {}
+
 impl<T, W, A: Allocator> Room<T, W, A> {
     /// A piece with places for so many words, of this size and alignment.
     pub(crate) fn new(alloc: &A, _count: usize, size: usize, align: usize) -> Option<Room<T, W, A>>

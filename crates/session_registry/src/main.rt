@@ -7,7 +7,7 @@ ghost use Rattle.std.specs.Str.{bytes_eq};
 ghost use Rattle.papaya_seq.specs.Pairs.{found_by};
 ghost use Rattle.session_registry.specs.Sessions.{AllLast};
 
-use papaya_seq::{Fault, HashMap, Text};
+use papaya_seq::{Fault, HashMap, Text, ToJson};
 use std::alloc::Global;
 use std::io;
 

@@ -56,7 +56,7 @@ module _ {K V S : Type 0} (same : K → K → Bool) (hashes : S → K → ℕ) (
   abbrev hash : K → ℕ
   hash = hashes b.now
 
-  abbrev slot_of : ℕ → ℕ
+  abbrev pub slot_of : ℕ → ℕ
   slot_of i = setting.slot
 
   -- of no key
@@ -85,7 +85,7 @@ module _ {K V S : Type 0} (same : K → K → Bool) (hashes : S → K → ℕ) (
       ∙ countings_come_to same hash setting h.world h.chart h.blocks h.rests.together.ground.map h.counted xs h.are
 
   -- where none was added, they say the same
-  said_still : (m : Mem (Node K V)) → HasAdded setting h.world.memory 0 m → said_in m ≡ length xs
+  pub said_still : (m : Mem (Node K V)) → HasAdded setting h.world.memory 0 m → said_in m ≡ length xs
   said_still m none = ap count_in none ∙ ap (λ (x : ℕ). count_in (x % 2 ^ 64)) (no_more (shards_sum h.world.memory setting.counter (suc setting.mask))) ∙ said_first
 
   abbrev RunsIt : Mem (Node K V) → Chart K → Blocks → Type 0
@@ -393,7 +393,7 @@ module _ {K V S : Type 0} (same : K → K → Bool) (hashes : S → K → ℕ) (
   by_result m (Err fault) c = (holds_then m c.0, c.1, λ long. why_not m c.0 (c.2 long))
 
   module _ (p : Reserve) (is : p ≡ reserving setting additional) where
-    begun : Under (it p) m0
+    pub begun : Under (it p) m0
     begun = subst (λ (x : Reserve). Under (it x) m0) (sym is) begins_under
 
     pub making_room_ends : Ends (for_room_plan {V = V} hashes) (record { reserve = p; hasher = b }) m0

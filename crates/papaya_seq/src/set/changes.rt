@@ -1,5 +1,5 @@
 //! An element is put into a set for one owner, or removed from it, or room is made for more.
-ghost use Rattle.std.specs.Prelude.{◌≡◌, ◌⊎◌, List, [], None, Some, is_none, is_some, find, length, IfOk, IfErr, OnOk, OnErr, MatchResult};
+ghost use Rattle.std.specs.Prelude.{◌≡◌, ◌⊎◌, Err, List, [], None, Some, is_none, is_some, find, length, IfOk, IfErr, OnOk, OnErr, MatchResult};
 ghost use Rattle.std.specs.List.Sorted.{IsPermutation};
 ghost use Rattle.papaya_seq_map.specs.Given.{CannotGrow, FirstHas, IsRoom, NeedTooMany, if_stored, needed};
 ghost use Rattle.seize_words.specs.declared.fault.Fault.TheVariants.{Capacity};
@@ -51,13 +51,14 @@ impl<K: Eq + Hash + Drop, S: BuildHasher> HashSet<K, S> {
     }
 
     /// Makes room for so many further elements beside those that it has: its first table has the places that they need. No element changes, only
-    /// their order may. The faults are `Fault::Capacity`, where that is too many, or no table can follow the set's last one, and `Fault::Memory`.
+    /// their order may. The faults are `Fault::Capacity`, always where that is too many, and else where no table can follow the set's last one, and `Fault::Memory`.
     pub fn reserve(&mut self, additional: u64) -> Result<(), Fault>
         ensures elements { IsPermutation self.new.elements self.old.elements }
         ensures last { LastTookOut self.new None None }
         ensures fault { IfErr result IsRoom }
         ensures room { OnOk result (FirstHas (needed additional (length self.old.elements)) self.new.tables) }
         ensures capacity { IfErr result (λ fault. fault ≡ Capacity → CannotGrow self.new.tables ⊎ NeedTooMany additional (length self.old.elements)) }
+        ensures refused { NeedTooMany additional (length self.old.elements) → result ≡ Err Capacity }
         ensures hasher { self.new.hasher ≡ self.old.hasher }
         ensures keeps { KeepsIn [] self.old self.new }
     {

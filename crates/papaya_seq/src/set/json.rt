@@ -1,11 +1,10 @@
 //! JSON of a set for one owner: it is written as the array of its elements, in the order of their texts, and read of one in whatever order.
-ghost use Rattle.std.specs.Prelude.{List, IfOk, IfErr};
-ghost use Rattle.std.specs.List.{All, IsDistinct};
-ghost use Rattle.serde_json.specs.View.{view};
-ghost use Rattle.papaya_forms.specs.Arrays.{AreItemsOf, HasElements, IsArrayOf, IsNotRead};
+ghost use Rattle.papaya_forms.specs.Arrays.{IsNotRead};
+ghost use Rattle.papaya_seq.specs.Json.{AreElementsOfArray, IsSetOf};
 ghost use Rattle.papaya_seq.specs.Stored.{IsSetMadeOf};
 
 use super::HashSet;
+use crate::json::{FromJson, ToJson};
 use papaya_forms::{Gathers, JsonFault, JsonForm, array_of, elements_of};
 use seize_words::Fault;
 use serde_json::Value;
@@ -33,26 +32,26 @@ impl<K: Eq + Hash + Drop, S: BuildHasher + Default + Drop> Gathers<K> for HashSe
     }
 }
 
-impl<K: JsonForm + Hash, S: BuildHasher> HashSet<K, S> {
-    /// The array that has the set's elements, each once, in the order of the bytes of their compact texts.
-    pub fn to_value(&self, alloc: Global) -> Result<Value, AllocError>
-        ensures array { IfOk result (λ written. IsArrayOf K.JsonForm.json_value self.now.elements (view written)) }
-        ensures in_range { IfOk result (λ _. All K.JsonForm.in_range self.now.elements) }
-    {
+/// The array that has the set's elements, each once, in the order of the bytes of their compact texts.
+impl<K: JsonForm + Hash, S: BuildHasher> ToJson for HashSet<K, S> {
+    ghost is_written = { λ set d. AreElementsOfArray K.JsonForm.in_range K.JsonForm.json_value set.elements d };
+
+    fn to_value(&self, alloc: Global) -> Result<Value, AllocError> {
         array_of(alloc, self.iter())
     }
 }
 
-impl<K: JsonForm + Hash + Drop, S: BuildHasher + Default + Drop> HashSet<K, S> {
-    /// The set of the elements of this array, in whatever order it has them; one that it has repeatedly counts once. The items are read in the array's
-    /// order, and the first fault counts: `BadElement`, or `Refused`, where memory or the length of a table was refused. What is no array is `NotAnArray`.
-    pub fn from_value(alloc: Global, value: &Value) -> Result<Self, JsonFault>
-        ensures elements { IfOk result (λ set. HasElements K.JsonForm.json_value set.elements (view value.now)) }
-        ensures in_range { IfOk result (λ set. All K.JsonForm.in_range set.elements) }
-        ensures once { IfOk result (λ set. IsDistinct K.eq set.elements) }
-        ensures made { IfOk result (λ set. (given : List K) × AreItemsOf K.JsonForm.in_range K.JsonForm.json_value given (view value.now) × IsSetMadeOf K.eq given set) }
-        ensures fault { IfErr result (λ why. IsNotRead K.JsonForm.in_range K.JsonForm.json_value why (view value.now)) }
-    {
-        elements_of::<K, HashSet<K, S>>(alloc, value)
+/// The elements may be in any order in the array; one that it has repeatedly counts once. The items are read in the array's order, and the first fault
+/// counts: `BadElement`, or `Refused`, where memory or the length of a table was refused. What is no array is `NotAnArray`.
+impl<K: JsonForm + Hash + Drop, S: BuildHasher + Default + Drop> FromJson for HashSet<K, S> {
+    ghost is_read = { λ set d. IsSetOf K.JsonForm.in_range K.JsonForm.json_value K.eq d set };
+
+    ghost is_unread = { λ why d. IsNotRead K.JsonForm.in_range K.JsonForm.json_value why d };
+
+    fn from_value(alloc: Global, value: &Value) -> Result<Self, JsonFault> {
+        match elements_of::<K, HashSet<K, S>>(alloc, value) {
+            Ok(set) => Ok(set),
+            Err(why) => Err(why),
+        }
     }
 }

@@ -1,8 +1,9 @@
 //! What goes over all elements of a set for one owner, and removes them.
 ghost use Rattle.std.specs.Prelude.{◌≡◌, None, Bool, List, [], IfErr, OnOk, OnErr, filter};
+ghost use Rattle.std.specs.Fn.{ComputesKey};
 ghost use Rattle.std.specs.List.Sorted.{IsPermutation};
 ghost use Rattle.papaya_seq_map.specs.Given.{CannotGrow, IsRoom};
-ghost use Rattle.papaya_seq.specs.Sets.{AnswersByTestOf, KeepsElements, KeepsIn, LastTookOut};
+ghost use Rattle.papaya_seq.specs.Sets.{KeepsElements, KeepsIn, LastTookOut};
 ghost use Rattle.seize_words.specs.declared.fault.Fault.TheVariants.{Capacity};
 
 use super::HashSet;
@@ -30,7 +31,7 @@ impl<K: Eq + Hash + Drop, S: BuildHasher> HashSet<K, S> {
     pub fn retain<F: FnMut(&K) -> bool>(&mut self, mut keep: F) -> Result<(), Fault>
         requires callable { F.IsAlwaysCallable keep }
         ensures done { OnOk result ((kept : List K) × KeepsElements F.FnMut keep self.old.elements kept × IsPermutation self.new.elements kept) }
-        ensures by_test { (test : K → Bool) → AnswersByTestOf F.FnMut test → OnOk result (IsPermutation self.new.elements (filter test self.old.elements)) }
+        ensures by_test { (test : K → Bool) → ComputesKey F.FnMut test keep → OnOk result (IsPermutation self.new.elements (filter test self.old.elements)) }
         ensures refused { OnErr result (IsPermutation self.new.elements self.old.elements) }
         ensures last { LastTookOut self.new None None }
         ensures fault { IfErr result IsRoom }

@@ -36,16 +36,20 @@ module _ {X : Type 0} where
       by false rest told e = e
 
 -- A closure that answers by a test keeps the pairs that pass it.
-module _ {F K V : Type 0} (g : Mut F (Bor K × (Bor V × Unit {0})) Bool) (test : K → V → Bool) (by_test : AnswersByTest g test) where
+module _ {F K V : Type 0} (g : Mut F (Bor K × (Bor V × Unit {0})) Bool) (test : K → V → Bool) where
   abbrev ByTest : (K × V) × Bool → Type 0
   ByTest y = y.1 ≡ test y.0.0 y.0.1
 
-  asked_by_test : (f : F) (asked : List ((K × V) × Bool)) (last : F) → AskedAlong g f asked last → All ByTest asked
-  asked_by_test f [] last along = All-nil ByTest
-  asked_by_test f (y ∷ asked) last along = All-cons ByTest y asked (one along.1) (asked_by_test along.0 asked last along.2)
+  asked_by_test : (f : F) → AnswersByTest g test f → (asked : List ((K × V) × Bool)) (last : F) → AskedAlong g f asked last → All ByTest asked
+  asked_by_test f by_test [] last along = All-nil ByTest
+  asked_by_test f by_test (y ∷ asked) last along =
+      All-cons ByTest y asked (one along.1) (asked_by_test along.0 (record { at = λ others. (by_test.at (about along.1 ∷ others) y.1 along.0 along.1.called).1 }) asked last along.2)
     where
+      about : AskedAbout g f y.0 y.1 along.0 → Bor K × (Bor V × Unit {0})
+      about a = (a.key, (a.value, tt))
+
       one : AskedAbout g f y.0 y.1 along.0 → ByTest y
-      one a = by_test f a.key a.value y.1 along.0 a.called ∙ ap (λ (k : K). test k a.value.now) a.shows.0 ∙ ap (test y.0.0) a.shows.1
+      one a = (by_test.at (about a ∷ []) y.1 along.0 a.called).0 ∙ ap (λ (k : K). test k a.value.now) a.shows.0 ∙ ap (test y.0.0) a.shows.1
 
   kept_by_test : (answered : List ((K × V) × Bool)) → All ByTest answered
       → map (λ (y : (K × V) × Bool). y.0) (filter (λ (y : (K × V) × Bool). y.1) answered) ≡ filter (λ (x : K × V). test x.0 x.1) (map (λ (y : (K × V) × Bool). y.0) answered)
@@ -63,7 +67,7 @@ module _ {F K V : Type 0} (g : Mut F (Bor K × (Bor V × Unit {0})) Bool) (test 
           rest
           ∙ ap (λ (t : Bool). cond t (y.0 ∷ filter (λ (x : K × V). test x.0 x.1) (map (λ (z : (K × V) × Bool). z.0) answered)) (filter (λ (x : K × V). test x.0 x.1) (map (λ (z : (K × V) × Bool). z.0) answered))) e
 
-  pub keeps_by_test : (f : F) (xs kept : List (K × V)) → KeepsOf g f xs kept → kept ≡ filter (λ (x : K × V). test x.0 x.1) xs
-  keeps_by_test f xs kept k =
-      k.kept_are ∙ kept_by_test k.answered (All-permutation ByTest k.asked k.answered k.each_once (asked_by_test f k.asked k.last k.along))
+  pub keeps_by_test : (f : F) → AnswersByTest g test f → (xs kept : List (K × V)) → KeepsOf g f xs kept → kept ≡ filter (λ (x : K × V). test x.0 x.1) xs
+  keeps_by_test f by_test xs kept k =
+      k.kept_are ∙ kept_by_test k.answered (All-permutation ByTest k.asked k.answered k.each_once (asked_by_test f by_test k.asked k.last k.along))
       ∙ ap (filter (λ (x : K × V). test x.0 x.1)) k.all

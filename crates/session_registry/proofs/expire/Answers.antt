@@ -1,9 +1,11 @@
 -- The closure answers by the moment alone.
-use Rattle.std.proofs.Common.{rules, ◌<◌}
-use Rattle.session_registry.proofs.Kept.{kept_are_so, where_ok}
+use Rattle.std.proofs.Common.{rules, ◌<◌, nat_lt, ltb-true}
+use Rattle.std.proofs.lemmas.Fn.{always_returns_same}
+use Rattle.session_registry.proofs.Kept.{kept_pass, where_ok}
 use Rattle.session_registry.proofs.expire.Goals as goal
 
 pub returns : goal.returns
 returns c = record {
-  last = where_ok c.retain.result (λ d. kept_are_so _ _ (λ s. c.args.now < s.until) (λ p q r next called. search rules) _ _ _ d.1 d.2) c.retain.ensures.done;
+  last = where_ok c.retain.result (kept_pass (λ token s. nat_lt c.args.now s.until) (λ s. c.args.now < s.until) (λ token s. ltb-true c.args.now s.until) _ _)
+      (c.retain.ensures.by_test (λ token s. nat_lt c.args.now s.until) (always_returns_same _ _ _ (λ about answer next called. search rules)));
 }

@@ -9,4 +9,4 @@ use Rattle.papaya_forms.proofs.objects.object_of.Given as goal
 abbrev pub invariant-loop-key : goal.invariant-loop-key
 invariant-loop-key g l =
     All (λ x. g.K.JsonForm.in_range x.0.now × g.V.JsonForm.in_range x.1.now) l.yielded
-    × (members_view l.members.entries ≡ members_with g.K.JsonForm.key_text g.V.JsonForm.json_value no_members (map (λ x. (x.0.now, x.1.now)) l.yielded))
+    × (members_view l.members.entries ≡ members_with g.K.JsonKey.key_text g.V.JsonForm.json_value no_members (map (λ x. (x.0.now, x.1.now)) l.yielded))

@@ -8,4 +8,4 @@ pub returns-clause-members : goal.returns-clause-members
 returns-clause-members g c =
     ap members_view c.in_ok-insert.ensures.entries ∙ members_view-insert_entry c.args.members.now.entries c.in_ok-name.name c.in_ok-value.value
     ∙ ap (λ t. put t (view c.in_ok-value.value) (members_view c.args.members.now.entries)) c.in_ok-name.ensures.text
-    ∙ ap (λ d. put (g.K.JsonForm.key_text c.args.key.now) d (members_view c.args.members.now.entries)) c.in_ok-value.ensures.value
+    ∙ ap (λ d. put (g.K.JsonKey.key_text c.args.key.now) d (members_view c.args.members.now.entries)) c.in_ok-value.ensures.value

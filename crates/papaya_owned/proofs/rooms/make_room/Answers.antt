@@ -4,6 +4,7 @@ use Rattle.papaya_whole.specs.Given.Reserves.declared.reserve.Reserve.{Reserve}
 use Rattle.papaya_owned.specs.Ending.{HasCome}
 use Rattle.papaya_owned.specs.Machines.{for_room_plan}
 use Rattle.papaya_owned.proofs.Owned.Rooms.{making_room_ends, making_room_by}
+use Rattle.papaya_owned.proofs.Owned.TooMany.{too_much_room}
 use Rattle.papaya_owned.proofs.rooms.make_room.Goals as goal
 
 pub run-requires : goal.run-requires
@@ -11,6 +12,9 @@ run-requires g c = let r = c.requires in making_room_ends {S = g.row.S.Denot} _ 
 
 pub returns-clause-room : goal.returns-clause-room
 returns-clause-room g c = λ xs has. making_room_by {S = g.row.S.Denot} _ _ c.args.hasher c.args.setting _ xs has _ _ c.new-reserve.ensures _ _ _ c.run.ensures
+
+pub returns-clause-refused : goal.returns-clause-refused
+returns-clause-refused g c = λ xs has. too_much_room {S = g.row.S.Denot} _ _ c.args.hasher c.args.setting _ xs has _ _ c.new-reserve.ensures _ _ _ c.run.ensures
 
 pub returns-clause-ran : goal.returns-clause-ran
 returns-clause-ran g c =

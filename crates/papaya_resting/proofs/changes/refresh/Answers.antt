@@ -8,14 +8,14 @@ swap-head-requires g c = let r = c.requires in head_can _ _ c.args.setting c.arg
 pub returns-then-head-le-ACTIVE-clause-holds : goal.returns-then-head-le-ACTIVE-clause-holds
 returns-then-head-le-ACTIVE-clause-holds g c = λ xs has. none_waits _ _ c.args.setting c.args.memory.now c.swap-head.new.self xs has c.swap-head.result c.swap-head.ensures c.if-head-le-ACTIVE.true
 
-pub run-requires : goal.run-requires
-run-requires g c =
+pub run_skimming-requires : goal.run_skimming-requires
+run_skimming-requires g c =
     let r = c.requires in
     counting_ends _ _ c.args.setting c.args.memory.now c.swap-head.new.self r.0 r.1 c.swap-head.result c.swap-head.ensures c.if-head-le-ACTIVE.false _ c.count_down-settle.ensures
 
 pub returns-clause-holds : goal.returns-clause-holds
 returns-clause-holds g c = λ xs has.
-    counted_holds _ _ c.args.setting c.args.memory.now c.swap-head.new.self xs has c.swap-head.result c.swap-head.ensures c.if-head-le-ACTIVE.false _ c.count_down-settle.ensures _ _ _ c.run.ensures
+    counted_holds _ _ c.args.setting c.args.memory.now c.swap-head.new.self xs has c.swap-head.result c.swap-head.ensures c.if-head-le-ACTIVE.false _ c.count_down-settle.ensures _ _ _ c.run_skimming.ensures
 
 pub returns-then-head-le-ACTIVE-clause-none : goal.returns-then-head-le-ACTIVE-clause-none
 returns-then-head-le-ACTIVE-clause-none g c =
@@ -24,7 +24,7 @@ returns-then-head-le-ACTIVE-clause-none g c =
 pub returns-clause-none : goal.returns-clause-none
 returns-clause-none g c =
     let r = c.requires in
-    counted_none _ _ c.args.setting c.args.memory.now c.swap-head.new.self r.0 r.1 c.swap-head.result c.swap-head.ensures c.if-head-le-ACTIVE.false _ c.count_down-settle.ensures _ _ _ c.run.ensures
+    counted_none _ _ c.args.setting c.args.memory.now c.swap-head.new.self r.0 r.1 c.swap-head.result c.swap-head.ensures c.if-head-le-ACTIVE.false _ c.count_down-settle.ensures _ _ _ c.run_skimming.ensures
 
 pub returns-then-head-le-ACTIVE-clause-ran : goal.returns-then-head-le-ACTIVE-clause-ran
 returns-then-head-le-ACTIVE-clause-ran g c =
@@ -33,4 +33,4 @@ returns-then-head-le-ACTIVE-clause-ran g c =
 pub returns-clause-ran : goal.returns-clause-ran
 returns-clause-ran g c =
     let r = c.requires in
-    counted_refreshes _ _ c.args.setting c.args.memory.now c.swap-head.new.self r.0 r.1 c.swap-head.result c.swap-head.ensures c.if-head-le-ACTIVE.false _ c.count_down-settle.ensures _ _ _ c.run.ensures
+    counted_refreshes _ _ c.args.setting c.args.memory.now c.swap-head.new.self r.0 r.1 c.swap-head.result c.swap-head.ensures c.if-head-le-ACTIVE.false _ c.count_down-settle.ensures _ _ _ c.run_skimming.ensures

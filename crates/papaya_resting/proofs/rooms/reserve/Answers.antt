@@ -16,6 +16,9 @@ returns-clause-fault g c = let r = c.requires in room_fault _ _ _ _ _ r.0 _ (c.m
 pub returns-clause-capacity : goal.returns-clause-capacity
 returns-clause-capacity g c = λ xs has. room_capacity _ _ _ _ _ xs _ (c.make_room.ensures.room xs (c.refresh.ensures.holds xs has))
 
+pub returns-clause-refused : goal.returns-clause-refused
+returns-clause-refused g c = λ xs has. c.make_room.ensures.refused xs (c.refresh.ensures.holds xs has)
+
 pub returns-clause-keeps : goal.returns-clause-keeps
 returns-clause-keeps g c = λ xs has.
     room_holds_on _ _ c.refresh.ensures.none g.K.PartialEq.eq (hashed_by g.S.Hasher.Hasher.finish g.S.Hasher.Hasher.write g.S.BuildHasher.build_hasher g.K.Hash.hash_input) c.args.hasher c.args.setting xs (c.refresh.ensures.holds xs has) _ c.make_room.ensures.ran (room_holds _ _ _ _ _ xs _ (c.make_room.ensures.room xs (c.refresh.ensures.holds xs has)))

@@ -7,7 +7,7 @@ use Rattle.papaya_schedules.specs.declared.event.Event.{Event}
 use Rattle.papaya_schedules.specs.After.{AtEachEvent}
 use Rattle.papaya_schedules.specs.Runs.{IsRunOf, log_of}
 use Rattle.papaya_scheduler.specs.Played.{terms_given}
-use Rattle.papaya_running.specs.Run.{HandsOn, HasCome, IsRightRun, bounded}
+use Rattle.papaya_running.specs.Run.{HandsOn, HasCome, HoldsBlocks, IsRightRun, bounded}
 use Rattle.papaya_running.specs.declared.running.Running.{Running}
 use Rattle.papaya_running.proofs.running.run_refusing.Goals as goal
 
@@ -78,6 +78,18 @@ returns-clause-hands g c =
     let all : events ≡ c.args.schedule.items = sym (append-nil events) ∙ ap (λ (l : List (Event g.row.K.Denot g.row.V.Denot)). events ++ l) (sym empty) ∙ c.loop-event.invariant.1 in
     subst (λ (l : List (Event g.row.K.Denot g.row.V.Denot)). AtEachEvent HandsOn (log_of l c.in_ok-end.field-0)) all
     (c.in_ok-end.ensures.hands g.K.PartialEq.eq (λ hasher key. g.S.Hasher.Hasher.finish (fold g.S.Hasher.Hasher.write (g.S.BuildHasher.build_hasher hasher) (g.K.Hash.hash_input key)) % 2 ^ 64)
+    (terms_given (bounded c.args.setup)) events c.loop-event.invariant.2)
+
+pub returns-clause-live : goal.returns-clause-live
+returns-clause-live g c =
+    let events = c.loop-event.invariant.0 in
+    let empty : c.loop-event.event-iterator.rest.items ≡ [] =
+    nil_from_length c.loop-event.event-iterator.rest.items (let a = c.loop-event.event-iterator.rest.ok in let s = c.in-None.ensures.steps in omega (arith, a, s.0)) in
+    let all : events ≡ c.args.schedule.items = sym (append-nil events) ∙ ap (λ (l : List (Event g.row.K.Denot g.row.V.Denot)). events ++ l) (sym empty) ∙ c.loop-event.invariant.1 in
+    subst (λ (l : List (Event g.row.K.Denot g.row.V.Denot)). HoldsBlocks {S = g.row.S.Denot} g.K.PartialEq.eq
+    (λ hasher key. g.S.Hasher.Hasher.finish (fold g.S.Hasher.Hasher.write (g.S.BuildHasher.build_hasher hasher) (g.K.Hash.hash_input key)) % 2 ^ 64)
+    (terms_given (bounded c.args.setup)) l c.in_ok-end.field-0) all
+    (c.in_ok-end.ensures.live g.K.PartialEq.eq (λ hasher key. g.S.Hasher.Hasher.finish (fold g.S.Hasher.Hasher.write (g.S.BuildHasher.build_hasher hasher) (g.K.Hash.hash_input key)) % 2 ^ 64)
     (terms_given (bounded c.args.setup)) events c.loop-event.invariant.2)
 
 pub returns-in_err-take_turn-clause-memory : goal.returns-in_err-take_turn-clause-memory

@@ -5,8 +5,8 @@ use Rattle.std.proofs.Common.{◌∙◌}
 use Rattle.papaya_asks.specs.Closures.{UpdatingOrStoring}
 use Rattle.seize_words.specs.declared.refused.RefusedKey.{RefusedKey}
 use Rattle.papaya_resting.specs.Given.{hashed_by}
-use Rattle.papaya_seq_map.proofs.Done.{comes_rests, room_alone, shows_changed, shows_unchanged}
-use Rattle.papaya_seq_map.proofs.Shows.{capacity_shown, counts, seen_first, seen_held, seen_keeps}
+use Rattle.papaya_seq_shows.proofs.Done.{comes_rests, room_alone, shows_changed, shows_unchanged}
+use Rattle.papaya_seq_shows.proofs.Shows.{capacity_shown, counts, seen_first, seen_held, seen_keeps}
 use Rattle.papaya_seq_map.proofs.asking.update_or_insert_with.Goals as goal
 
 pub update_or_insert_with-requires : goal.update_or_insert_with-requires

@@ -1,8 +1,8 @@
 -- By what the removal comes to in the order in which its pairs were stored.
 use Rattle.std.specs.Prelude.{[]}
 use Rattle.papaya_pairs.proofs.Orders.{left_same}
-use Rattle.papaya_seq_map.proofs.Kept.{either_rested, either_shown, holds_err, holds_ok}
-use Rattle.papaya_seq_map.proofs.Shows.{capacity_shown, counts, seen_first, seen_held, seen_keeps, shows_done, shows_refused, told_same}
+use Rattle.papaya_seq_shows.proofs.Kept.{either_rested, either_shown, holds_err, holds_ok}
+use Rattle.papaya_seq_shows.proofs.Shows.{capacity_shown, counts, seen_first, seen_held, seen_keeps, shows_done, shows_refused, told_same}
 use Rattle.papaya_tables.proofs.Classes.{one_class}
 use Rattle.papaya_seq_map.proofs.changes.take.Goals as goal
 

@@ -4,8 +4,8 @@ use Rattle.std.proofs.Common.{◌∙◌, sym}
 use Rattle.papaya_asks.specs.Closures.{ComputesAs}
 use Rattle.seize_words.specs.declared.refused.RefusedKey.{RefusedKey}
 use Rattle.papaya_resting.specs.Given.{hashed_by}
-use Rattle.papaya_seq_map.proofs.Done.{computes_rests, shows_computed, shows_uncomputed, shows_why}
-use Rattle.papaya_seq_map.proofs.Shows.{capacity_shown, counts, seen_first, seen_held, seen_keeps}
+use Rattle.papaya_seq_shows.proofs.Done.{computes_rests, shows_computed, shows_uncomputed, shows_why}
+use Rattle.papaya_seq_shows.proofs.Shows.{capacity_shown, counts, seen_first, seen_held, seen_keeps}
 use Rattle.papaya_seq_map.proofs.computing.decided.Goals as goal
 
 pub compute-requires : goal.compute-requires

@@ -1,7 +1,7 @@
 -- By what the insertion comes to in the order in which its pairs were stored.
 use Rattle.seize_words.specs.declared.refused.Refused.{Refused}
-use Rattle.papaya_seq_map.proofs.Kept.{each_rested, each_shown, holds_err, holds_found, holds_stored}
-use Rattle.papaya_seq_map.proofs.Shows.{capacity_shown, counts, seen_first, seen_held, seen_keeps, shows_found, shows_refused, shows_stored}
+use Rattle.papaya_seq_shows.proofs.Kept.{each_rested, each_shown, holds_err, holds_found, holds_stored}
+use Rattle.papaya_seq_shows.proofs.Shows.{capacity_shown, counts, seen_first, seen_held, seen_keeps, shows_found, shows_refused, shows_stored}
 use Rattle.papaya_seq_map.proofs.insertions.try_put.Goals as goal
 
 pub try_insert-requires : goal.try_insert-requires

@@ -1,14 +1,36 @@
 -- The place is marked, its pair put into the table that is copied into, and the place covered.
 use Rattle.std.specs.Prelude.{◌≡◌, bit_or, IsSome, Some}
 use Rattle.papaya_resize.specs.CopierMarks.{without_copying}
-use Rattle.std.proofs.Common.{refl, sym, ◌∙◌, subst}
+use Rattle.std.proofs.Common.{sym, ◌∙◌, subst}
 use Rattle.seize_words.specs.Op.{Or, Store, Found, Stored}
 use Rattle.seize_words.specs.declared.at.At.{At}
 use Rattle.papaya_tables.specs.declared.marks.TheConstants.{COPIED, COPYING}
 use Rattle.papaya_straight.specs.Runs.{none_taken}
 use Rattle.papaya_straight.specs.declared.copying.Placed.TheVariants as placed
 use Rattle.papaya_straight.proofs.Copies as by
+use Rattle.papaya_straight.proofs.copying.copy_place.Given as given
 use Rattle.papaya_straight.proofs.copying.copy_place.Goals as goal
+use Rattle.papaya_straight.proofs.copying.copy_place.Goals.{After-at-place, After-key_hash-hash, After-or-word}
+
+midst : (g : given.Over) (c : goal.After-at-place g) → by.Midst (g.S.Hashes.hash c.args.hasher.now) g.M.Look.can g.M.Look.took g.M.Look.shown c.args.copier.now c.args.memory.now
+midst g c = record { midst = c.is_midst.ensures c.if-not-is_midst.false; run = c.requires }
+
+marked : (g : given.Over) (c : goal.After-or-word g)
+    → by.Marked (g.S.Hashes.hash c.args.hasher.now) g.M.Look.can g.M.Look.took g.M.Look.shown c.args.copier.now c.args.memory.now c.or-word.new.self c.or-word.result
+marked g c = record {
+  before = record { midst = c.is_midst.ensures c.if-not-is_midst.false; run = c.requires };
+  ors = subst (λ (a : At). g.M.Look.took c.args.memory.now (Or a COPYING) (Found c.or-word.result) c.or-word.new.self) c.at-place.ensures c.or-word.ensures;
+}
+
+paired : (g : given.Over) (c : goal.After-key_hash-hash g) → by.Marked (g.S.Hashes.hash c.args.hasher.now) g.M.Look.can g.M.Look.took g.M.Look.shown c.args.copier.now c.args.memory.now c.or-word.new.self c.or-word.result
+    → by.Paired (g.S.Hashes.hash c.args.hasher.now) g.M.Look.can g.M.Look.took g.M.Look.shown c.args.copier.now c.args.memory.now c.or-word.new.self c.or-word.result c.value.result.now c.key_hash-hash.result
+paired g c mark = record {
+  mark = mark;
+  own = sym c.has.ensures ∙ c.if-has.false;
+  some = λ e. c.if-block_of-eq0.false (c.block_of.ensures ∙ e);
+  shows = subst (λ b. g.M.Look.shown c.or-word.new.self b ≡ Some c.value.result.now) c.block_of-2.ensures c.value.ensures;
+  hashes = c.key_hash-hash.ensures;
+}
 
 pub returns-then-not-is_midst : goal.returns-then-not-is_midst
 returns-then-not-is_midst g c =
@@ -16,19 +38,20 @@ returns-then-not-is_midst g c =
 
 pub or-word-requires : goal.or-word-requires
 or-word-requires g c =
-    subst (λ (a : At). g.M.Look.can c.args.memory.now (Or a COPYING)) (sym c.at-place.ensures) (by.can_mark (g.S.Hashes.hash c.args.hasher.now) g.M.Look.can g.M.Look.took g.M.Look.shown c.args.copier.now (c.is_midst.ensures c.if-not-is_midst.false) c.args.memory.now c.requires)
+    subst (λ (a : At). g.M.Look.can c.args.memory.now (Or a COPYING)) (sym c.at-place.ensures) (by.can_mark (midst g (goal.at.or-word-requires g c).After-at-place))
 
 pub returns-then-has : goal.returns-then-has
 returns-then-has g c =
-    by.is_others (g.S.Hashes.hash c.args.hasher.now) g.M.Look.can g.M.Look.took g.M.Look.shown c.args.copier.now (c.is_midst.ensures c.if-not-is_midst.false) c.args.memory.now c.requires c.or-word.new.self c.or-word.result (subst (λ (a : At). g.M.Look.took c.args.memory.now (Or a COPYING) (Found c.or-word.result) c.or-word.new.self) c.at-place.ensures c.or-word.ensures) (sym c.has.ensures ∙ c.if-has.true)
+    by.is_others (marked g (goal.at.returns-then-has g c).After-or-word) (sym c.has.ensures ∙ c.if-has.true)
 
 pub returns-then-block_of-eq0 : goal.returns-then-block_of-eq0
 returns-then-block_of-eq0 g c =
-    by.is_vacant (g.S.Hashes.hash c.args.hasher.now) g.M.Look.can g.M.Look.took g.M.Look.shown c.args.copier.now (c.is_midst.ensures c.if-not-is_midst.false) c.args.memory.now c.requires c.or-word.new.self c.or-word.result (subst (λ (a : At). g.M.Look.took c.args.memory.now (Or a COPYING) (Found c.or-word.result) c.or-word.new.self) c.at-place.ensures c.or-word.ensures) (sym c.has.ensures ∙ c.if-has.false) (sym c.block_of.ensures ∙ c.if-block_of-eq0.true)
+    by.is_vacant (marked g (goal.at.returns-then-block_of-eq0 g c).After-or-word) (sym c.has.ensures ∙ c.if-has.false) (sym c.block_of.ensures ∙ c.if-block_of-eq0.true)
 
 pub value-requires : goal.value-requires
 value-requires g c =
-    subst (λ b. IsSome (g.M.Look.shown c.or-word.new.self b)) (sym c.block_of-2.ensures) (by.can_look (g.S.Hashes.hash c.args.hasher.now) g.M.Look.can g.M.Look.took g.M.Look.shown c.args.copier.now (c.is_midst.ensures c.if-not-is_midst.false) c.args.memory.now c.requires c.or-word.new.self c.or-word.result (subst (λ (a : At). g.M.Look.took c.args.memory.now (Or a COPYING) (Found c.or-word.result) c.or-word.new.self) c.at-place.ensures c.or-word.ensures) (sym c.has.ensures ∙ c.if-has.false) (λ e. c.if-block_of-eq0.false (c.block_of.ensures ∙ e)))
+    subst (λ b. IsSome (g.M.Look.shown c.or-word.new.self b)) (sym c.block_of-2.ensures)
+    (by.can_look (marked g (goal.at.value-requires g c).After-or-word) (sym c.has.ensures ∙ c.if-has.false) (λ e. c.if-block_of-eq0.false (c.block_of.ensures ∙ e)))
 
 pub put_pair-requires-clause-mode : goal.put_pair-requires-clause-mode
 put_pair-requires-clause-mode g c =
@@ -36,20 +59,24 @@ put_pair-requires-clause-mode g c =
 
 pub put_pair-requires-clause-may : goal.put_pair-requires-clause-may
 put_pair-requires-clause-may g c =
-    by.may_place (g.S.Hashes.hash c.args.hasher.now) g.M.Look.can g.M.Look.took g.M.Look.shown c.args.copier.now (c.is_midst.ensures c.if-not-is_midst.false) c.args.memory.now c.requires c.or-word.new.self c.or-word.result (subst (λ (a : At). g.M.Look.took c.args.memory.now (Or a COPYING) (Found c.or-word.result) c.or-word.new.self) c.at-place.ensures c.or-word.ensures) (sym c.has.ensures ∙ c.if-has.false) (λ e. c.if-block_of-eq0.false (c.block_of.ensures ∙ e)) c.value.result.now (subst (λ b. g.M.Look.shown c.or-word.new.self b ≡ Some c.value.result.now) c.block_of-2.ensures c.value.ensures) c.key_hash-hash.result c.key_hash-hash.ensures
+    let x = goal.at.put_pair-requires-clause-may g c in by.may_place (paired g x.After-key_hash-hash (marked g x.After-or-word))
 
 pub store-requires : goal.store-requires
 store-requires g c =
-    subst (λ (a : At). g.M.Look.can c.put_pair.new.memory (Store a (bit_or (bit_or (without_copying c.or-word.result) COPYING) COPIED))) (sym c.at-place.ensures) (by.can_cover (g.S.Hashes.hash c.args.hasher.now) g.M.Look.can g.M.Look.took g.M.Look.shown c.args.copier.now (c.is_midst.ensures c.if-not-is_midst.false) c.args.memory.now c.requires c.or-word.new.self c.or-word.result (subst (λ (a : At). g.M.Look.took c.args.memory.now (Or a COPYING) (Found c.or-word.result) c.or-word.new.self) c.at-place.ensures c.or-word.ensures) (sym c.has.ensures ∙ c.if-has.false) (λ e. c.if-block_of-eq0.false (c.block_of.ensures ∙ e)) c.value.result.now (subst (λ b. g.M.Look.shown c.or-word.new.self b ≡ Some c.value.result.now) c.block_of-2.ensures c.value.ensures) c.key_hash-hash.result c.key_hash-hash.ensures c.put_pair.new.memory placed.Put c.in-Put.ensures refl)
+    let x = goal.at.store-requires g c in
+    subst (λ (a : At). g.M.Look.can c.put_pair.new.memory (Store a (bit_or (bit_or (without_copying c.or-word.result) COPYING) COPIED))) (sym c.at-place.ensures)
+    (by.can_cover (paired g x.After-key_hash-hash (marked g x.After-or-word)) c.put_pair.new.memory c.in-Put.ensures)
 
 pub returns-in-Put : goal.returns-in-Put
 returns-in-Put g c =
-    by.was_covered (g.S.Hashes.hash c.args.hasher.now) g.M.Look.can g.M.Look.took g.M.Look.shown c.args.copier.now (c.is_midst.ensures c.if-not-is_midst.false) c.args.memory.now c.requires c.or-word.new.self c.or-word.result (subst (λ (a : At). g.M.Look.took c.args.memory.now (Or a COPYING) (Found c.or-word.result) c.or-word.new.self) c.at-place.ensures c.or-word.ensures) (sym c.has.ensures ∙ c.if-has.false) (λ e. c.if-block_of-eq0.false (c.block_of.ensures ∙ e)) c.value.result.now (subst (λ b. g.M.Look.shown c.or-word.new.self b ≡ Some c.value.result.now) c.block_of-2.ensures c.value.ensures) c.key_hash-hash.result c.key_hash-hash.ensures c.put_pair.new.memory placed.Put c.in-Put.ensures refl c.store.new.self (subst (λ (a : At). g.M.Look.took c.put_pair.new.memory (Store a (bit_or (bit_or (without_copying c.or-word.result) COPYING) COPIED)) Stored c.store.new.self) c.at-place.ensures c.store.ensures)
+    let x = goal.at.returns-in-Put g c in
+    by.was_covered (paired g x.After-key_hash-hash (marked g x.After-or-word)) c.put_pair.new.memory c.in-Put.ensures c.store.new.self
+    (subst (λ (a : At). g.M.Look.took c.put_pair.new.memory (Store a (bit_or (bit_or (without_copying c.or-word.result) COPYING) COPIED)) Stored c.store.new.self) c.at-place.ensures c.store.ensures)
 
 pub returns-in-Past : goal.returns-in-Past
 returns-in-Past g c =
-    by.came (g.S.Hashes.hash c.args.hasher.now) g.M.Look.can g.M.Look.took g.M.Look.shown c.args.copier.now (c.is_midst.ensures c.if-not-is_midst.false) c.args.memory.now c.requires c.or-word.new.self c.or-word.result (subst (λ (a : At). g.M.Look.took c.args.memory.now (Or a COPYING) (Found c.or-word.result) c.or-word.new.self) c.at-place.ensures c.or-word.ensures) (sym c.has.ensures ∙ c.if-has.false) (λ e. c.if-block_of-eq0.false (c.block_of.ensures ∙ e)) c.value.result.now (subst (λ b. g.M.Look.shown c.or-word.new.self b ≡ Some c.value.result.now) c.block_of-2.ensures c.value.ensures) c.key_hash-hash.result c.key_hash-hash.ensures c.put_pair.new.memory placed.Past c.in-Past.ensures
+    let x = goal.at.returns-in-Past g c in by.came (paired g x.After-key_hash-hash (marked g x.After-or-word)) c.put_pair.new.memory placed.Past c.in-Past.ensures
 
 pub returns-in-Next : goal.returns-in-Next
 returns-in-Next g c =
-    by.came (g.S.Hashes.hash c.args.hasher.now) g.M.Look.can g.M.Look.took g.M.Look.shown c.args.copier.now (c.is_midst.ensures c.if-not-is_midst.false) c.args.memory.now c.requires c.or-word.new.self c.or-word.result (subst (λ (a : At). g.M.Look.took c.args.memory.now (Or a COPYING) (Found c.or-word.result) c.or-word.new.self) c.at-place.ensures c.or-word.ensures) (sym c.has.ensures ∙ c.if-has.false) (λ e. c.if-block_of-eq0.false (c.block_of.ensures ∙ e)) c.value.result.now (subst (λ b. g.M.Look.shown c.or-word.new.self b ≡ Some c.value.result.now) c.block_of-2.ensures c.value.ensures) c.key_hash-hash.result c.key_hash-hash.ensures c.put_pair.new.memory (placed.Next c.in-Next.probe) c.in-Next.ensures
+    let x = goal.at.returns-in-Next g c in by.came (paired g x.After-key_hash-hash (marked g x.After-or-word)) c.put_pair.new.memory (placed.Next c.in-Next.probe) c.in-Next.ensures

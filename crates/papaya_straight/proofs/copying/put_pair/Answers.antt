@@ -1,21 +1,19 @@
 -- Each try leads on.
-use Rattle.std.specs.Prelude.{◌≡◌}
 use Rattle.std.proofs.Common.{ap, sym, subst, ◌∙◌}
 use Rattle.papaya_tables.specs.Probes.{probe_from}
 use Rattle.papaya_tables.specs.declared.probe.Probe.{Probe}
-use Rattle.papaya_resize.specs.Copier.{copier_plan}
 use Rattle.papaya_resize.specs.CopierMarks.{probing}
 use Rattle.papaya_resize.specs.CopierStates.{standing}
 use Rattle.papaya_resize.specs.declared.copier.Copying.TheVariants as at
-use Rattle.papaya_straight.specs.Going.{CopyGoes}
-use Rattle.papaya_straight.specs.Runs.{Leads, none_taken}
+use Rattle.papaya_straight.specs.Going.{CopyLeads}
+use Rattle.papaya_straight.specs.Runs.{none_taken}
 use Rattle.papaya_straight.proofs.Running.{leads_on, runs_along}
 use Rattle.papaya_straight.proofs.copying.put_pair.Goals as goal
 
 pub loop-init : goal.loop-init
 loop-init g c =
     record {
-      led = subst (λ (p : Probe). Leads CopyGoes g.M.Look.took g.M.Look.shown (copier_plan {K = g.row.K.Denot} {V = g.row.V.Denot} (g.S.Hashes.hash c.args.hasher.now)) (probing c.args.copier.now c.args.word c.args.hash c.args.table) c.args.memory.now
+      led = subst (λ (p : Probe). CopyLeads (g.S.Hashes.hash c.args.hasher.now) g.M.Look.took g.M.Look.shown (probing c.args.copier.now c.args.word c.args.hash c.args.table) c.args.memory.now
           (standing c.args.copier.now (at.Probes c.args.word c.args.hash c.args.table p)) c.args.memory.now) (sym (c.start-probe.ensures.begins ∙ ap (λ k. probe_from c.args.hash k) c.mask.ensures)) (none_taken _ _);
     }
 

@@ -1,14 +1,12 @@
 -- The tries so far have led to the present one.
-use Rattle.papaya_resize.specs.Copier.{copier_plan}
 use Rattle.papaya_resize.specs.CopierMarks.{probing}
 use Rattle.papaya_resize.specs.CopierStates.{standing}
 use Rattle.papaya_resize.specs.declared.copier.Copying.TheVariants as at
-use Rattle.papaya_straight.specs.Going.{CopyGoes}
-use Rattle.papaya_straight.specs.Runs.{Leads}
+use Rattle.papaya_straight.specs.Going.{CopyLeads}
 use Rattle.papaya_straight.proofs.copying.put_pair.Given as goal
 
 abbrev pub invariant-loop : goal.invariant-loop
 invariant-loop g l = record {
-  led : Leads CopyGoes g.M.Look.took g.M.Look.shown (copier_plan {K = g.row.K.Denot} {V = g.row.V.Denot} (g.S.Hashes.hash l.hasher)) (probing l.copier l.word l.hash l.table) l.initial.memory
+  led : CopyLeads (g.S.Hashes.hash l.hasher) g.M.Look.took g.M.Look.shown (probing l.copier l.word l.hash l.table) l.initial.memory
       (standing l.copier (at.Probes l.word l.hash l.table l.probe)) l.memory;
 }

@@ -1,41 +1,74 @@
 -- The word is exchanged, the change counted, and the pair that was there disposed of.
-use Rattle.std.proofs.Common.{sym, ◌∙◌, subst}
+use Rattle.std.proofs.Common.{sym, subst}
 use Rattle.std.specs.Prelude.{false, Ok, Err}
 use Rattle.seize_words.specs.Op.{Exchange, Exchanged}
 use Rattle.seize_words.specs.declared.at.At.{At}
 use Rattle.papaya_tables.specs.declared.marks.TheConstants.{TOMBSTONE}
 use Rattle.papaya_raw.specs.declared.machines.call.Calling.TheVariants as at
+use Rattle.papaya_straight.specs.Going.{CallReaches}
+use Rattle.papaya_straight.specs.Removing.{seeking, sought_at}
+use Rattle.papaya_straight.specs.declared.removing.Sought.{Sought}
 use Rattle.papaya_straight.proofs.Removals as by
+use Rattle.papaya_straight.proofs.Running.{begins, next}
+use Rattle.papaya_straight.proofs.removing.bury.Given as given
 use Rattle.papaya_straight.proofs.removing.bury.Goals as goal
+use Rattle.papaya_straight.proofs.removing.bury.Goals.{After-count, After-reread, In-Ok}
+
+has_put : (g : given.Over) (c : goal.In-Ok g) → by.HasPut g.Q.Equivalent.equivalent g.K.PartialEq.eq (g.S.Hashes.hash c.args.hasher.now) g.M.Look.can g.M.Look.took g.M.Look.shown c.args.setting c.args.hash c.args.asked.now c.args.trial c.args.word c.args.memory.now c.exchange.new.self
+has_put g c = record {
+  run = c.requires;
+  was = c.in-Ok.field-0;
+  puts = subst (λ (a : At). g.M.Look.took c.args.memory.now (Exchange a c.args.word TOMBSTONE) (Exchanged (Ok c.in-Ok.field-0)) c.exchange.new.self) c.at.ensures c.in-Ok.ensures;
+}
+
+has_counted : (g : given.Over) (c : goal.After-count g) → by.HasPut g.Q.Equivalent.equivalent g.K.PartialEq.eq (g.S.Hashes.hash c.args.hasher.now) g.M.Look.can g.M.Look.took g.M.Look.shown c.args.setting c.args.hash c.args.asked.now c.args.trial c.args.word c.args.memory.now c.exchange.new.self
+    → by.HasCounted g.Q.Equivalent.equivalent g.K.PartialEq.eq (g.S.Hashes.hash c.args.hasher.now) g.M.Look.can g.M.Look.took g.M.Look.shown c.args.setting c.args.hash c.args.asked.now c.args.trial c.args.word c.args.memory.now c.count.new.memory
+has_counted g c put = record { between = c.exchange.new.self; put = put; pair = c.if-word-eq0.false; found = c.count.ensures.0; adds = c.count.ensures.1 }
+
+-- the exchange has failed, and the word found is weighed
+has_read : (g : given.Over) (c : goal.After-reread g) → CallReaches g.Q.Equivalent.equivalent g.K.PartialEq.eq (g.S.Hashes.hash c.args.hasher.now) g.M.Look.took g.M.Look.shown
+    (seeking c.args.setting c.args.hash c.args.asked.now c.args.trial (at.Tries c.args.word TOMBSTONE)) c.args.memory.now c.exchange.new.self (sought_at c.args.setting c.args.hash c.args.asked.now c.reread.result)
+has_read g c =
+    by.goes_by g.Q.Equivalent.equivalent g.K.PartialEq.eq (g.S.Hashes.hash c.args.hasher.now) c.requires c.exchange.new.self false c.in-Err.found c.reread.result (c.reread.ensures (at.Tries c.args.word TOMBSTONE) false)
+    (λ end e. (Exchanged (Err c.in-Err.found), subst (λ (a : At). g.M.Look.took c.args.memory.now (Exchange a c.args.word TOMBSTONE) (Exchanged (Err c.in-Err.found)) c.exchange.new.self) c.at.ensures c.in-Err.ensures, e))
 
 pub exchange-requires : goal.exchange-requires
 exchange-requires g c =
-    subst (λ (a : At). g.M.Look.can c.args.memory.now (Exchange a c.args.word TOMBSTONE)) (sym c.at.ensures) (by.can_put g.Q.Equivalent.equivalent g.K.PartialEq.eq (g.S.Hashes.hash c.args.hasher.now) g.M.Look.can g.M.Look.took g.M.Look.shown c.args.setting c.args.hash c.args.asked.now c.args.trial c.args.memory.now c.args.word c.requires)
+    subst (λ (a : At). g.M.Look.can c.args.memory.now (Exchange a c.args.word TOMBSTONE)) (sym c.at.ensures) (next (begins c.requires)).0
 
 pub returns-then-word-eq0 : goal.returns-then-word-eq0
 returns-then-word-eq0 g c =
-    by.counts g.Q.Equivalent.equivalent g.K.PartialEq.eq (g.S.Hashes.hash c.args.hasher.now) g.M.Look.can g.M.Look.took g.M.Look.shown c.args.setting c.args.hash c.args.asked.now c.args.trial c.args.memory.now c.args.word c.requires c.exchange.new.self c.in-Ok.field-0 (subst (λ (a : At). g.M.Look.took c.args.memory.now (Exchange a c.args.word TOMBSTONE) (Exchanged (Ok c.in-Ok.field-0)) c.exchange.new.self) c.at.ensures c.in-Ok.ensures)
+    (by.counts (has_put g (goal.at.returns-then-word-eq0 g c).In-Ok)).leads
 
 pub count-requires : goal.count-requires
 count-requires g c =
-    by.can_count g.Q.Equivalent.equivalent g.K.PartialEq.eq (g.S.Hashes.hash c.args.hasher.now) g.M.Look.can g.M.Look.took g.M.Look.shown c.args.setting c.args.hash c.args.asked.now c.args.trial c.args.memory.now c.args.word c.requires c.exchange.new.self c.in-Ok.field-0 (subst (λ (a : At). g.M.Look.took c.args.memory.now (Exchange a c.args.word TOMBSTONE) (Exchanged (Ok c.in-Ok.field-0)) c.exchange.new.self) c.at.ensures c.in-Ok.ensures)
+    (next (by.counts (has_put g (goal.at.count-requires g c).In-Ok))).0
 
 pub dispose-disposed-requires : goal.dispose-disposed-requires
 dispose-disposed-requires g c =
-    by.may_go_on g.Q.Equivalent.equivalent g.K.PartialEq.eq (g.S.Hashes.hash c.args.hasher.now) g.M.Look.can g.M.Look.took g.M.Look.shown c.args.setting c.args.hash c.args.asked.now c.args.trial c.args.memory.now c.args.word c.requires c.exchange.new.self c.in-Ok.field-0 (subst (λ (a : At). g.M.Look.took c.args.memory.now (Exchange a c.args.word TOMBSTONE) (Exchanged (Ok c.in-Ok.field-0)) c.exchange.new.self) c.at.ensures c.in-Ok.ensures) c.if-word-eq0.false c.count.new.memory c.count.ensures.0 c.count.ensures.1
+    let x = goal.at.dispose-disposed-requires g c in by.may_go_on (has_counted g x.After-count (has_put g x.In-Ok))
 
 pub returns-else-word-eq0 : goal.returns-else-word-eq0
 returns-else-word-eq0 g c =
-    by.was_removed g.Q.Equivalent.equivalent g.K.PartialEq.eq (g.S.Hashes.hash c.args.hasher.now) g.M.Look.can g.M.Look.took g.M.Look.shown c.args.setting c.args.hash c.args.asked.now c.args.trial c.args.memory.now c.args.word c.requires c.exchange.new.self c.in-Ok.field-0 (subst (λ (a : At). g.M.Look.took c.args.memory.now (Exchange a c.args.word TOMBSTONE) (Exchanged (Ok c.in-Ok.field-0)) c.exchange.new.self) c.at.ensures c.in-Ok.ensures) c.if-word-eq0.false c.count.new.memory c.count.ensures.0 c.count.ensures.1 c.dispose-disposed.new.memory c.dispose-disposed.result c.gone.result c.gone.ensures c.dispose-disposed.ensures
+    let x = goal.at.returns-else-word-eq0 g c in
+    by.was_removed (has_counted g x.After-count (has_put g x.In-Ok)) c.dispose-disposed.new.memory c.dispose-disposed.result c.gone.result c.gone.ensures c.dispose-disposed.ensures
 
 pub reread-requires : goal.reread-requires
-reread-requires g c =
-    (at.Tries c.args.word TOMBSTONE, false, by.may_read_again g.Q.Equivalent.equivalent g.K.PartialEq.eq (g.S.Hashes.hash c.args.hasher.now) g.M.Look.can g.M.Look.took g.M.Look.shown c.args.setting c.args.hash c.args.asked.now c.args.trial c.args.memory.now c.args.word c.requires c.exchange.new.self c.in-Err.found (subst (λ (a : At). g.M.Look.took c.args.memory.now (Exchange a c.args.word TOMBSTONE) (Exchanged (Err c.in-Err.found)) c.exchange.new.self) c.at.ensures c.in-Err.ensures))
+reread-requires g c = (
+  at.Tries c.args.word TOMBSTONE,
+  false,
+  (next (begins c.requires)).1 (Exchanged (Err c.in-Err.found)) c.exchange.new.self
+      (subst (λ (a : At). g.M.Look.took c.args.memory.now (Exchange a c.args.word TOMBSTONE) (Exchanged (Err c.in-Err.found)) c.exchange.new.self) c.at.ensures c.in-Err.ensures),
+)
 
 pub returns-in-Next : goal.returns-in-Next
 returns-in-Next g c =
-    by.to_next g.Q.Equivalent.equivalent g.K.PartialEq.eq (g.S.Hashes.hash c.args.hasher.now) g.M.Look.can g.M.Look.took g.M.Look.shown c.args.setting c.args.hash c.args.asked.now c.args.trial c.args.memory.now c.args.word c.requires c.exchange.new.self c.in-Err.found (subst (λ (a : At). g.M.Look.took c.args.memory.now (Exchange a c.args.word TOMBSTONE) (Exchanged (Err c.in-Err.found)) c.exchange.new.self) c.at.ensures c.in-Err.ensures) c.reread.result (c.reread.ensures (at.Tries c.args.word TOMBSTONE) false) c.in-Next.next c.in-Next.is
+    subst (λ (t : Sought). CallReaches g.Q.Equivalent.equivalent g.K.PartialEq.eq (g.S.Hashes.hash c.args.hasher.now) g.M.Look.took g.M.Look.shown
+    (seeking c.args.setting c.args.hash c.args.asked.now c.args.trial (at.Tries c.args.word TOMBSTONE)) c.args.memory.now c.exchange.new.self (sought_at c.args.setting c.args.hash c.args.asked.now t)) c.in-Next.is
+    (has_read g (goal.at.returns-in-Next g c).After-reread)
 
 pub returns-in-Ends : goal.returns-in-Ends
 returns-in-Ends g c =
-    by.to_end g.Q.Equivalent.equivalent g.K.PartialEq.eq (g.S.Hashes.hash c.args.hasher.now) g.M.Look.can g.M.Look.took g.M.Look.shown c.args.setting c.args.hash c.args.asked.now c.args.trial c.args.memory.now c.args.word c.requires c.exchange.new.self c.in-Err.found (subst (λ (a : At). g.M.Look.took c.args.memory.now (Exchange a c.args.word TOMBSTONE) (Exchanged (Err c.in-Err.found)) c.exchange.new.self) c.at.ensures c.in-Err.ensures) c.reread.result (c.reread.ensures (at.Tries c.args.word TOMBSTONE) false) c.in-Ends.end c.in-Ends.is
+    subst (λ (t : Sought). CallReaches g.Q.Equivalent.equivalent g.K.PartialEq.eq (g.S.Hashes.hash c.args.hasher.now) g.M.Look.took g.M.Look.shown
+    (seeking c.args.setting c.args.hash c.args.asked.now c.args.trial (at.Tries c.args.word TOMBSTONE)) c.args.memory.now c.exchange.new.self (sought_at c.args.setting c.args.hash c.args.asked.now t)) c.in-Ends.is
+    (has_read g (goal.at.returns-in-Ends g c).After-reread)

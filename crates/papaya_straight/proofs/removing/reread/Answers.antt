@@ -2,7 +2,9 @@
 use Rattle.std.proofs.Common.{subst}
 use Rattle.papaya_tables.specs.declared.finding.Finding.{Finding}
 use Rattle.papaya_raw.specs.CallPoints.{told, told_of}
-use Rattle.papaya_straight.specs.Removing.{ComesTo, seeking, sought_at}
+use Rattle.papaya_straight.specs.Going.{CallGoes}
+use Rattle.papaya_straight.specs.Reaches.{ComesTo}
+use Rattle.papaya_straight.specs.Removing.{seeking, sought_at}
 use Rattle.papaya_straight.proofs.removing.reread.Goals as goal
 
 pub returns : goal.returns
@@ -10,5 +12,5 @@ returns g c =
     λ stands loaded. (
       told loaded (seeking {K = g.row.K.Denot} {V = g.row.V.Denot} {Q = g.row.Q.Denot} c.args.setting c.args.hash c.args.asked.now c.args.trial stands) c.args.word c.is_asked-same.result,
       c.is_asked-same.ensures stands loaded,
-      subst (λ (f : Finding). ComesTo {K = g.row.K.Denot} {V = g.row.V.Denot} {Q = g.row.Q.Denot} c.args.setting c.args.hash c.args.asked.now (told_of loaded (seeking {K = g.row.K.Denot} {V = g.row.V.Denot} {Q = g.row.Q.Denot} c.args.setting c.args.hash c.args.asked.now c.args.trial stands) c.args.word f) (sought_at c.args.setting c.args.hash c.args.asked.now c.weigh.result)) c.seen-finding.ensures (c.weigh.ensures stands loaded),
+      subst (λ (f : Finding). ComesTo CallGoes (told_of loaded (seeking {K = g.row.K.Denot} {V = g.row.V.Denot} {Q = g.row.Q.Denot} c.args.setting c.args.hash c.args.asked.now c.args.trial stands) c.args.word f) (sought_at c.args.setting c.args.hash c.args.asked.now c.weigh.result)) c.seen-finding.ensures (c.weigh.ensures stands loaded),
     )

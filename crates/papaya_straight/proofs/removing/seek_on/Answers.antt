@@ -1,5 +1,4 @@
 -- Each try leads on.
-use Rattle.std.specs.Prelude.{◌≡◌}
 use Rattle.papaya_raw.specs.Call.{call_plan}
 use Rattle.papaya_straight.specs.Going.{CallGoes}
 use Rattle.papaya_straight.specs.Removing.{removed_at}

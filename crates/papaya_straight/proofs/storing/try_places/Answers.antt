@@ -1,5 +1,4 @@
 -- Each try leads on.
-use Rattle.std.specs.Prelude.{◌≡◌}
 use Rattle.papaya_straight.specs.Runs.{none_taken}
 use Rattle.papaya_straight.proofs.Running.{leads_on, runs_along}
 use Rattle.papaya_straight.proofs.storing.try_places.Goals as goal

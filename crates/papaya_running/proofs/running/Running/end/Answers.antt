@@ -34,3 +34,6 @@ pub returns-clause-hands : goal.returns-clause-hands
 returns-clause-hands g c = λ same hashes terms events come.
     let r = c.args.self in
     hands_so same (hashes r.scheduler.logged.executor.hasher) terms events r.written r.tally r.scheduler come.so_far
+
+pub returns-clause-live : goal.returns-clause-live
+returns-clause-live g c = λ same hashes terms events come. record { last = c.args.self; come = come; same_log = refl; live = c.live-live.ensures }

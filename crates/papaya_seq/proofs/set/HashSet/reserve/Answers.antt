@@ -30,6 +30,11 @@ returns-clause-capacity g c =
     let as_many = sym (length-map c.self.inside.map.pairs (λ (x : g.row.K.Denot × Unit {0}). x.0)) ∙ ap (λ (x : Set g.row.K.Denot g.row.S.Denot). length x.elements) c.self.view_is in
     subst (λ (n : ℕ). IfErr c.reserve.result (λ (fault : Fault). fault ≡ Capacity → CannotGrow c.reserve.new.self.tables ⊎ NeedTooMany c.args.additional n)) as_many c.reserve.ensures.capacity
 
+pub returns-clause-refused : goal.returns-clause-refused
+returns-clause-refused g c = λ many.
+    let as_many = sym (length-map c.self.inside.map.pairs (λ (x : g.row.K.Denot × Unit {0}). x.0)) ∙ ap (λ (x : Set g.row.K.Denot g.row.S.Denot). length x.elements) c.self.view_is in
+    c.reserve.ensures.refused (subst (NeedTooMany c.args.additional) (sym as_many) many)
+
 pub returns-clause-keeps : goal.returns-clause-keeps
 returns-clause-keeps g c =
     subst (λ (x : Set g.row.K.Denot g.row.S.Denot). KeepsIn [] x (set_of c.reserve.new.self)) c.self.view_is (keys_held [] c.self.inside.map c.reserve.new.self c.reserve.ensures.keeps)

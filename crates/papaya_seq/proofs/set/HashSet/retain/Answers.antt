@@ -6,7 +6,7 @@ use Rattle.std.specs.Map.{keys_of}
 use Rattle.std.proofs.Common.{ap, of_calls, refl, subst}
 use Rattle.std.proofs.lemmas.Result.{on_ok_weaker, on_err_weaker}
 use Rattle.papaya_seq.specs.Sets.{KeepsElements, KeepsIn, Set, set_of}
-use Rattle.papaya_seq.proofs.Sets.{kept_in_order, keys_held, keys_in_order, keys_kept_of}
+use Rattle.papaya_seq.proofs.Sets.{asked_by_test, kept_in_order, keys_held, keys_in_order, keys_kept_of}
 use Rattle.papaya_seq.proofs.set.HashSet.retain.Goals as goal
 
 pub retain-requires : goal.retain-requires
@@ -28,7 +28,7 @@ returns-clause-by_test g c = λ test so.
     let new = c.retain.new.self.pairs in
     on_ok_weaker c.retain.result
     (λ order. subst (λ (x : Set g.row.K.Denot g.row.S.Denot). IsPermutation (keys_of new) (filter test x.elements)) c.self.view_is (kept_in_order test new c.self.inside.map.pairs order))
-    (c.retain.ensures.by_test (λ k v. test k) (λ f p q r next e. so f.0 p r next.0 (search of_calls)))
+    (c.retain.ensures.by_test (λ k v. test k) (asked_by_test g.F.FnMut (λ s. s.0) (λ s next p q r e. search of_calls) test _ so))
 
 pub returns-clause-refused : goal.returns-clause-refused
 returns-clause-refused g c =

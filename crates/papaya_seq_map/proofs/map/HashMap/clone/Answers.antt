@@ -3,11 +3,11 @@ use Rattle.std.proofs.Common.{[], ◌∷◌, map, ◌∙◌, ap, refl, sym, subs
 use Rattle.std.proofs.lemmas.List.{map-append}
 use Rattle.papaya_shown.specs.Coming.{pairs_to_come}
 use Rattle.papaya_shown.specs.Lent.{pair_shown}
-use Rattle.papaya_seq_map.specs.Stored.{IsMadeOfClones}
+use Rattle.papaya_seq_shows.specs.Stored.{IsMadeOfClones}
 use Rattle.papaya_pairs.proofs.Puts.{clones_same_apart}
-use Rattle.papaya_seq_map.proofs.Cloned.{clones_equal}
-use Rattle.papaya_seq_map.proofs.Stored.{clones_more, made_first}
-use Rattle.papaya_seq_map.proofs.Walked.{shown_all}
+use Rattle.papaya_seq_shows.proofs.Cloned.{clones_equal}
+use Rattle.papaya_seq_shows.proofs.Stored.{clones_more, made_first}
+use Rattle.papaya_seq_shows.proofs.Walked.{shown_all}
 use Rattle.papaya_seq_map.proofs.map.HashMap.clone.Goals as goal
 
 pub loop-key-init : goal.loop-key-init

@@ -1,7 +1,7 @@
 -- Clones of what the walk has shown so far are stored.
 use Rattle.std.specs.Prelude.{◌≡◌, map}
 use Rattle.papaya_shown.specs.Lent.{pair_shown}
-use Rattle.papaya_seq_map.specs.Stored.{IsMadeOfClones}
+use Rattle.papaya_seq_shows.specs.Stored.{IsMadeOfClones}
 use Rattle.papaya_seq_map.proofs.map.HashMap.clone.Given as goal
 
 abbrev pub invariant-loop-key : goal.invariant-loop-key

@@ -2,7 +2,7 @@
 use Rattle.std.specs.Prelude.{is_some}
 use Rattle.std.proofs.Common.{◌∙◌, ap, sym}
 use Rattle.papaya_resting.proofs.Looks.{some_found}
-use Rattle.papaya_seq_map.proofs.Shows.{seen_found, seen_first}
+use Rattle.papaya_seq_shows.proofs.Shows.{seen_found, seen_first}
 use Rattle.papaya_tables.proofs.Classes.{one_class}
 use Rattle.papaya_seq_map.proofs.map.HashMap.contains_key.Goals as goal
 

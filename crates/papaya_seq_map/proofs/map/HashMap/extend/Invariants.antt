@@ -1,6 +1,6 @@
 -- What the iterator has given so far is stored.
 use Rattle.std.specs.Prelude.{◌≡◌}
-use Rattle.papaya_seq_map.proofs.Stored.{HasStored}
+use Rattle.papaya_seq_shows.proofs.Stored.{HasStored}
 use Rattle.papaya_seq_map.proofs.map.HashMap.extend.Given as goal
 
 abbrev pub invariant-loop-key : goal.invariant-loop-key

@@ -4,8 +4,8 @@ use Rattle.std.proofs.lemmas.List.{take_all}
 use Rattle.std.proofs.lemmas.List.Elements.{all_zip_more}
 use Rattle.papaya_pairs.specs.Puts.{IsCloneOf}
 use Rattle.papaya_pairs.proofs.Puts.{clones_same}
-use Rattle.papaya_seq_map.specs.Stored.{IsMadeOfClones}
-use Rattle.papaya_seq_map.proofs.Stored.{made_first, made_more}
+use Rattle.papaya_seq_shows.specs.Stored.{IsMadeOfClones}
+use Rattle.papaya_seq_shows.proofs.Stored.{made_first, made_more}
 use Rattle.papaya_seq_map.proofs.map.HashMap.from_array.Goals as goal
 
 pub loop-item-init : goal.loop-item-init

@@ -1,6 +1,6 @@
 -- Clones of so many items are stored, and the hasher is one by default.
 use Rattle.std.specs.Prelude.{take}
-use Rattle.papaya_seq_map.specs.Stored.{IsMadeOfClones}
+use Rattle.papaya_seq_shows.specs.Stored.{IsMadeOfClones}
 use Rattle.papaya_seq_map.proofs.map.HashMap.from_array.Given as goal
 
 abbrev pub invariant-loop-item : goal.invariant-loop-item

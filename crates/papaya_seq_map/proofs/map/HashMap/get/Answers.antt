@@ -1,7 +1,7 @@
 -- It reads the pair of the word that was found.
 use Rattle.std.specs.Prelude.{option_map, Some}
 use Rattle.std.proofs.Common.{◌∙◌, ap, sym}
-use Rattle.papaya_seq_map.proofs.Shows.{seen_found, seen_first}
+use Rattle.papaya_seq_shows.proofs.Shows.{seen_found, seen_first}
 use Rattle.papaya_tables.proofs.Classes.{one_class}
 use Rattle.papaya_seq_map.proofs.map.HashMap.get.Goals as goal
 

@@ -1,8 +1,10 @@
 -- No pair has changed.
 use Rattle.std.specs.Prelude.{[]}
+use Rattle.std.proofs.Common.{subst, sym}
 use Rattle.std.proofs.lemmas.Result.{on_ok_weaker}
+use Rattle.papaya_sifts.specs.Given.Owned.Rooms.{NeedTooMany}
 use Rattle.papaya_resting.proofs.Lasts.{none_in, none_named}
-use Rattle.papaya_seq_map.proofs.Shows.{counts, first_has, room_shown, seen_as_many, seen_held, seen_keeps, shown_as}
+use Rattle.papaya_seq_shows.proofs.Shows.{counts, first_has, room_shown, seen_as_many, seen_held, seen_keeps, shown_as}
 use Rattle.papaya_seq_map.proofs.map.HashMap.reserve.Goals as goal
 
 pub reserve-requires : goal.reserve-requires
@@ -35,6 +37,12 @@ pub returns-clause-capacity : goal.returns-clause-capacity
 returns-clause-capacity g c =
     let held = c.self.invariant in
     room_shown _ _ _ _ _ _ (seen_as_many _ _ _ _ held.0 held.1 c.self.inside.resting.tables _ _ _ _ c.self.view_is) c.reserve.result (c.reserve.ensures.capacity held.0 held.1)
+
+pub returns-clause-refused : goal.returns-clause-refused
+returns-clause-refused g c = λ many.
+    let held = c.self.invariant in
+    c.reserve.ensures.refused held.0 held.1
+    (subst (NeedTooMany c.args.additional) (sym (seen_as_many _ _ _ _ held.0 held.1 c.self.inside.resting.tables _ _ _ _ c.self.view_is)) many)
 
 pub returns-clause-keeps : goal.returns-clause-keeps
 returns-clause-keeps g c =

@@ -2,7 +2,7 @@
 use Rattle.std.specs.Prelude.{[]}
 use Rattle.papaya_resting.specs.Given.{KeepsOf}
 use Rattle.papaya_resting.proofs.Lasts.{none_in, none_named}
-use Rattle.papaya_seq_map.proofs.Shows.{capacity_shown, counts, seen_held, seen_keeps, shows_kept, shows_passing, shows_refused, some_rest}
+use Rattle.papaya_seq_shows.proofs.Shows.{capacity_shown, counts, seen_held, seen_keeps, shows_kept, shows_passing, shows_refused, some_rest}
 use Rattle.papaya_seq_map.proofs.map.HashMap.retain.Goals as goal
 
 pub retain-requires-clause-holds : goal.retain-requires-clause-holds

@@ -1,6 +1,6 @@
 -- Its word is that of a pair.
 use Rattle.std.proofs.Common.{◌∙◌, ap}
-use Rattle.papaya_seq_map.specs.Maps.{Map}
+use Rattle.papaya_seq_shows.specs.Maps.{Map}
 use Rattle.papaya_seq_map.proofs.map.HashMap.taken.Goals as goal
 
 pub shown-requires : goal.shown-requires

@@ -1,7 +1,7 @@
 -- By what is stored in a map with no pair.
 use Rattle.std.proofs.Common.{sym, subst}
 use Rattle.std.specs.Iterator.{Drains, IsFinite}
-use Rattle.papaya_seq_map.proofs.Stored.{made_by}
+use Rattle.papaya_seq_shows.proofs.Stored.{made_by}
 use Rattle.papaya_seq_map.proofs.map.HashMap.try_collect.Goals as goal
 
 pub extend-requires : goal.extend-requires

@@ -5,7 +5,7 @@ use Rattle.std.proofs.lemmas.Result.{err_from_is_err_and}
 use Rattle.papaya_resting.proofs.Makes.{nothing_happened, nothing_there, slot_refused, taken_inside}
 use Rattle.papaya_resting.proofs.Lasts.{none_in, none_named}
 use Rattle.papaya_pairs.proofs.Orders.{none_left}
-use Rattle.papaya_seq_map.proofs.Shows.{counts, made_shown, shown}
+use Rattle.papaya_seq_shows.proofs.Shows.{counts, made_shown, shown}
 use Rattle.papaya_seq_map.proofs.map.HashMap.with_capacity_and_hasher.Goals as goal
 
 pub register-requires : goal.register-requires

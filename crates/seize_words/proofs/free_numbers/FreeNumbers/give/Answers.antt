@@ -1,21 +1,64 @@
-use Rattle.std.proofs.Common.{◌≡◌, ◌≤◌, ◌*◌, ◌∙◌, ap, sym, length, arith}
-use Rattle.std.specs.Prelude.{◌-◌, slice_set}
-use Rattle.std.proofs.lemmas.List.{length-set, with_items_is}
-use Rattle.seize_words.proofs.FreeTrees.{number-given}
+use Rattle.std.proofs.Common.{rules, ◌≡◌, ◌<◌, ◌≤◌, ◌+◌, ◌-◌, ◌*◌, ◌/◌, ◌%◌, ◌^◌, ◌∙◌, ap, sym, arith, length}
+use Rattle.std.proofs.lemmas.List.{with_items_is}
+use Rattle.seize_words.specs.FreeNumbers.{IsTurned}
+use Rattle.seize_words.proofs.FreeSteps.{given-count, given-numbers, given-there, places-same}
+use Rattle.seize_words.proofs.FreeWords.{few_in}
 use Rattle.seize_words.proofs.free_numbers.FreeNumbers.give.Goals as goal
 
-pub set_flag-requires-clause-fits : goal.set_flag-requires-clause-fits
-set_flag-requires-clause-fits c =
-    omega (arith, c.self.inside.flags.small, c.self.inside.flags.ok.0, c.self.inside.flags.ok.1, c.self.invariant.1.long)
+pub overflow_add-self : goal.overflow_add-self
+overflow_add-self c =
+    let within : c.args.number ≤ c.self.inside.room = rw (← c.self.view_is) at c.requires.room in
+    let turned : IsTurned c.self.inside.first (64 * (c.self.inside.first + (c.args.number - 1) / 64) + (c.args.number - 1) % 64)
+    c.self.inside.nodes.items c.turn.new.nodes =
+    rw c.deref_mut.ensures.value at c.turn.ensures.turned in
+    let long : length c.turn.new.nodes ≡ length c.self.inside.nodes.items = c.turn.ensures.length ∙ ap length c.deref_mut.ensures.value in
+    let count = given-count c.self.inside.first c.self.inside.nodes.items c.self.inside.room c.args.number
+    c.requires.some within c.self.invariant.1 c.index.result.now c.index.ensures c.if-index-bit-eq0.true c.turn.new.nodes turned in
+    let small : c.self.inside.room < 2 ^ 64 = search rules in
+    record {
+      fits = omega (
+        arith,
+        count,
+        few_in c.self.inside.first c.turn.new.nodes,
+        places-same c.self.inside.first c.self.inside.nodes.items c.turn.new.nodes long,
+        c.self.invariant.1,
+        c.self.invariant.2,
+        small,
+      );
+    }
 
-pub returns : goal.returns
-returns c =
-    let t = c.self.inside in
-    let within : c.args.number ≤ c.self.inside.room * 32 = rw (← c.self.view_is) at c.requires.room in
-    let same : c.set_flag.new.flags ≡ slice_set c.self.inside.flags.items (c.args.number - 1) 1 = rw c.deref_mut-2.ensures.value at c.set_flag.ensures.flags in
-    let long : length c.set_flag.new.flags ≡ c.self.inside.flags.len =
-    ap length same ∙ length-set c.self.inside.flags.items (c.args.number - 1) 1 ∙ sym c.self.inside.flags.ok.0 in
+pub invariant_of-self : goal.invariant_of-self
+invariant_of-self c =
+    let within : c.args.number ≤ c.self.inside.room = rw (← c.self.view_is) at c.requires.room in
+    let turned : IsTurned c.self.inside.first (64 * (c.self.inside.first + (c.args.number - 1) / 64) + (c.args.number - 1) % 64)
+    c.self.inside.nodes.items c.turn.new.nodes =
+    rw c.deref_mut.ensures.value at c.turn.ensures.turned in
+    let long : length c.turn.new.nodes ≡ length c.self.inside.nodes.items = c.turn.ensures.length ∙ ap length c.deref_mut.ensures.value in
+    let count = given-count c.self.inside.first c.self.inside.nodes.items c.self.inside.room c.args.number
+    c.requires.some within c.self.invariant.1 c.index.result.now c.index.ensures c.if-index-bit-eq0.true c.turn.new.nodes turned in
+    rw (with_items_is c.self.inside.nodes c.turn.new.nodes (long ∙ sym c.self.inside.nodes.ok.0)) (
+      c.turn.ensures.tree,
+      c.self.invariant.1 ∙ places-same c.self.inside.first c.self.inside.nodes.items c.turn.new.nodes long,
+      omega (arith, count, c.self.invariant.2),
+    )
+
+pub returns-then-index-bit-eq0 : goal.returns-then-index-bit-eq0
+returns-then-index-bit-eq0 c =
+    let within : c.args.number ≤ c.self.inside.room = rw (← c.self.view_is) at c.requires.room in
+    let turned : IsTurned c.self.inside.first (64 * (c.self.inside.first + (c.args.number - 1) / 64) + (c.args.number - 1) % 64)
+    c.self.inside.nodes.items c.turn.new.nodes =
+    rw c.deref_mut.ensures.value at c.turn.ensures.turned in
+    let long : length c.turn.new.nodes ≡ length c.self.inside.nodes.items = c.turn.ensures.length ∙ ap length c.deref_mut.ensures.value in
     rw (← c.self.view_is)
-    (ap (λ ns. record { numbers = ns; room = c.self.inside.room * 32 })
-    (rw (with_items_is c.self.inside.flags c.set_flag.new.flags long, same)
-    (number-given t.room t.counts.items t.flags.items c.self.invariant.0 c.self.invariant.1 c.args.number c.requires.some within)))
+    (ap (λ ns. record { numbers = ns; room = c.self.inside.room })
+    (rw (with_items_is c.self.inside.nodes c.turn.new.nodes (long ∙ sym c.self.inside.nodes.ok.0))
+    (given-numbers c.self.inside.first c.self.inside.nodes.items c.self.inside.room c.args.number
+    c.requires.some within c.self.invariant.1 c.index.result.now c.index.ensures c.if-index-bit-eq0.true c.turn.new.nodes turned)))
+
+pub returns-else-index-bit-eq0 : goal.returns-else-index-bit-eq0
+returns-else-index-bit-eq0 c =
+    let within : c.args.number ≤ c.self.inside.room = rw (← c.self.view_is) at c.requires.room in
+    rw (← c.self.view_is)
+    (ap (λ ns. record { numbers = ns; room = c.self.inside.room })
+    (given-there c.self.inside.first c.self.inside.nodes.items c.self.inside.room c.args.number
+    c.requires.some within c.self.invariant.1 c.index.result.now c.index.ensures c.if-index-bit-eq0.false))

@@ -1,43 +1,50 @@
 use Rattle.std.proofs.Common.{◌≡◌, ◌<◌, ◌+◌, ◌-◌, ◌*◌, ◌∙◌, ap, sym, arith, length}
-use Rattle.std.specs.Prelude.{slice_index, slice_set}
-use Rattle.std.proofs.lemmas.List.{length-set, with_items_is}
-use Rattle.seize_words.specs.FreeNumbers.{flagged_from, sum_from}
-use Rattle.seize_words.proofs.FreeTrees.{has-room, how-many, number-at, number-taken}
+use Rattle.std.proofs.lemmas.List.{with_items_is}
+use Rattle.seize_words.specs.FreeNumbers.{IsBehind, IsTurned, numbers_in}
+use Rattle.seize_words.proofs.FreeSteps.{places-same, taken-at, taken-count, taken-numbers}
+use Rattle.seize_words.proofs.FreeWords.{how_many}
 use Rattle.seize_words.proofs.free_numbers.FreeNumbers.take.Goals as goal
 
-pub chunk_of-chunk-requires-clause-few : goal.chunk_of-chunk-requires-clause-few
-chunk_of-chunk-requires-clause-few c =
-    let t = c.self.inside in
-    let few : c.args.before < length (flagged_from 1 c.self.inside.flags.items) = rw (← c.self.view_is) at c.requires in
-    let some = has-room t.room t.counts.items t.flags.items c.self.invariant.0 c.self.invariant.1 c.args.before few in
-    let h = how-many t.room t.counts.items t.flags.items c.self.invariant.0 c.self.invariant.1 some in
-    rw c.deref.ensures.value (omega (arith, few, h))
+pub flag_behind-node-requires-clause-few : goal.flag_behind-node-requires-clause-few
+flag_behind-node-requires-clause-few c =
+    let few : c.args.before < length (numbers_in c.self.inside.first c.self.inside.nodes.items) = rw (← c.self.view_is) at c.requires in
+    rw c.deref.ensures.value (omega (arith, few, how_many c.self.inside.first c.self.inside.nodes.items))
+
+pub invariant_of-self : goal.invariant_of-self
+invariant_of-self c =
+    let few : c.args.before < length (numbers_in c.self.inside.first c.self.inside.nodes.items) = rw (← c.self.view_is) at c.requires in
+    let behind : IsBehind c.self.inside.first c.self.inside.nodes.items c.args.before c.flag_behind-node.result.0 c.flag_behind-node.result.1 =
+    rw c.deref.ensures.value at c.flag_behind-node.ensures in
+    let turned : IsTurned c.self.inside.first (64 * c.flag_behind-node.result.0 + c.flag_behind-node.result.1) c.self.inside.nodes.items c.turn.new.nodes =
+    rw c.deref_mut.ensures.value at c.turn.ensures.turned in
+    let long : length c.turn.new.nodes ≡ length c.self.inside.nodes.items = c.turn.ensures.length ∙ ap length c.deref_mut.ensures.value in
+    let count = taken-count c.self.inside.first c.self.inside.nodes.items c.args.before c.flag_behind-node.result.0 c.flag_behind-node.result.1 behind
+    c.turn.new.nodes turned few in
+    rw (with_items_is c.self.inside.nodes c.turn.new.nodes (long ∙ sym c.self.inside.nodes.ok.0)) (
+      c.turn.ensures.tree,
+      c.self.invariant.1 ∙ places-same c.self.inside.first c.self.inside.nodes.items c.turn.new.nodes long,
+      omega (arith, count, c.self.invariant.2),
+    )
 
 pub returns-clause-number : goal.returns-clause-number
 returns-clause-number c =
-    let t = c.self.inside in
-    let flag : slice_index c.self.inside.flags.items c.place_of-place.result ≡ 1 = rw c.deref-2.ensures.value at c.place_of-place.ensures.flag in
-    let inside : sum_from c.self.inside.flags.items (c.chunk_of-chunk.result.0 * 32) (c.place_of-place.result - c.chunk_of-chunk.result.0 * 32) ≡ c.chunk_of-chunk.result.1 =
-    rw c.deref-2.ensures.value at c.place_of-place.ensures.rank in
-    let rank : sum_from c.self.inside.counts.items c.self.inside.room c.chunk_of-chunk.result.0 + c.chunk_of-chunk.result.1 ≡ c.args.before =
-    rw c.deref.ensures.value at c.chunk_of-chunk.ensures.rank in
+    let behind : IsBehind c.self.inside.first c.self.inside.nodes.items c.args.before c.flag_behind-node.result.0 c.flag_behind-node.result.1 =
+    rw c.deref.ensures.value at c.flag_behind-node.ensures in
+    let same : (c.flag_behind-node.result.0 - c.self.inside.first) * 64 + c.flag_behind-node.result.1 + 1
+    ≡ 1 + (64 * (c.flag_behind-node.result.0 - c.self.inside.first) + c.flag_behind-node.result.1) = omega arith in
     rw (← c.self.view_is)
-    (number-at t.room t.counts.items t.flags.items c.self.invariant.0 c.self.invariant.1 c.chunk_of-chunk.result.0 c.chunk_of-chunk.result.1 c.place_of-place.result
-    c.args.before c.chunk_of-chunk.ensures.within c.place_of-place.ensures.within.0 flag inside rank)
+    (same ∙ sym (taken-at c.self.inside.first c.self.inside.nodes.items c.args.before c.flag_behind-node.result.0 c.flag_behind-node.result.1 behind
+    ((c.flag_behind-node.result.0 - c.self.inside.first) * 64 + c.flag_behind-node.result.1 + 1)))
 
 pub returns-clause-after : goal.returns-clause-after
 returns-clause-after c =
-    let t = c.self.inside in
-    let flag : slice_index c.self.inside.flags.items c.place_of-place.result ≡ 1 = rw c.deref-2.ensures.value at c.place_of-place.ensures.flag in
-    let inside : sum_from c.self.inside.flags.items (c.chunk_of-chunk.result.0 * 32) (c.place_of-place.result - c.chunk_of-chunk.result.0 * 32) ≡ c.chunk_of-chunk.result.1 =
-    rw c.deref-2.ensures.value at c.place_of-place.ensures.rank in
-    let rank : sum_from c.self.inside.counts.items c.self.inside.room c.chunk_of-chunk.result.0 + c.chunk_of-chunk.result.1 ≡ c.args.before =
-    rw c.deref.ensures.value at c.chunk_of-chunk.ensures.rank in
-    let same : c.set_flag.new.flags ≡ slice_set c.self.inside.flags.items c.place_of-place.result 0 = rw c.deref_mut-2.ensures.value at c.set_flag.ensures.flags in
-    let long : length c.set_flag.new.flags ≡ c.self.inside.flags.len =
-    ap length same ∙ length-set c.self.inside.flags.items c.place_of-place.result 0 ∙ sym c.self.inside.flags.ok.0 in
+    let behind : IsBehind c.self.inside.first c.self.inside.nodes.items c.args.before c.flag_behind-node.result.0 c.flag_behind-node.result.1 =
+    rw c.deref.ensures.value at c.flag_behind-node.ensures in
+    let turned : IsTurned c.self.inside.first (64 * c.flag_behind-node.result.0 + c.flag_behind-node.result.1) c.self.inside.nodes.items c.turn.new.nodes =
+    rw c.deref_mut.ensures.value at c.turn.ensures.turned in
+    let long : length c.turn.new.nodes ≡ length c.self.inside.nodes.items = c.turn.ensures.length ∙ ap length c.deref_mut.ensures.value in
     rw (← c.self.view_is)
-    (ap (λ ns. record { numbers = ns; room = c.self.inside.room * 32 })
-    (rw (with_items_is c.self.inside.flags c.set_flag.new.flags long, same)
-    (number-taken t.room t.counts.items t.flags.items c.self.invariant.0 c.self.invariant.1 c.chunk_of-chunk.result.0 c.chunk_of-chunk.result.1 c.place_of-place.result
-    c.args.before c.chunk_of-chunk.ensures.within c.place_of-place.ensures.within.0 flag inside rank)))
+    (ap (λ ns. record { numbers = ns; room = c.self.inside.room })
+    (rw (with_items_is c.self.inside.nodes c.turn.new.nodes (long ∙ sym c.self.inside.nodes.ok.0))
+    (taken-numbers c.self.inside.first c.self.inside.nodes.items c.args.before c.flag_behind-node.result.0 c.flag_behind-node.result.1 behind
+    c.turn.new.nodes turned)))

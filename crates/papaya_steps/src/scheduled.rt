@@ -1,0 +1,84 @@
+//! The run to which a crew applies events.
+ghost use Rattle.std.specs.Prelude.{◌≡◌, ◌++◌, ◌∷◌, [], List, IfOk, IfErr, OnOk};
+ghost use Rattle.papaya_runs.specs.declared.event.Setup.{Setup};
+ghost use Rattle.papaya_schedules.specs.declared.event.Event.{Event};
+ghost use Rattle.papaya_scheduler.specs.Played.{terms_given};
+ghost use Rattle.papaya_running.specs.Run.{HasCome, bounded};
+ghost use Rattle.papaya_steps.specs.Scheduled.{IsWholeRun};
+
+use papaya_crew::runner::Runner;
+use papaya_raw::Hashes;
+use papaya_running::running::{Running, run};
+use papaya_runs::event::Setup;
+use papaya_schedules::event::Event;
+use papaya_schedules::outcome::Outcome;
+use papaya_schedules::record::Run;
+use seize_words::Fault;
+use std::alloc::{AllocError, Global};
+use std::hash::{BuildHasher, Hash};
+
+/// A run as `run` makes it, event by event.
+#[derive(Drop)]
+pub struct Scheduled<K, V, S> {
+    /// What it has come to so far.
+    pub running: Running<K, V, S>,
+}
+
+impl<K: Eq + Hash + Drop, V: Drop, S: BuildHasher + Drop> Runner<K, V> for Scheduled<K, V, S> {
+    ghost use Rattle.papaya_scheduler.specs.Played.{terms_given};
+    ghost use Rattle.papaya_running.specs.Run.{HasCome, bounded};
+    ghost use Rattle.papaya_steps.specs.Scheduled.{IsWholeRun};
+
+    type Hasher = S;
+
+    ghost has_come = { λ setup events r. HasCome K.eq ⟦<S as Hashes<K>>⟧.hash (terms_given (bounded setup)) events r.running };
+
+    ghost is_run = { λ setup events run. IsWholeRun K.eq (terms_given (bounded setup)) events run };
+
+    ghost outcomes = { λ r. r.running.written.outcomes.items };
+
+    fn begin(
+        alloc: Global,
+        setup: Setup,
+        hasher: S,
+        choices: Vec<u64>,
+    ) -> Result<Self, AllocError> {
+        let running = Running::begin(alloc, setup, hasher, choices)?;
+        Ok(Scheduled { running })
+    }
+
+    fn take_turn(&mut self, event: Event<K, V>) -> Result<(), AllocError>
+        requires { (setup : Setup) × (events : List (Event K V)) × HasCome K.eq ⟦<S as Hashes<K>>⟧.hash (terms_given (bounded setup)) events self.old.running }
+        ensures { OnOk result ((setup : Setup) (events : List (Event K V)) → HasCome K.eq ⟦<S as Hashes<K>>⟧.hash (terms_given (bounded setup)) events self.old.running
+            → HasCome K.eq ⟦<S as Hashes<K>>⟧.hash (terms_given (bounded setup)) (events ++ event ∷ []) self.new.running) }
+    {
+        self.running.take_turn(event)?;
+        Ok(())
+    }
+
+    fn last_outcome(&self) -> Option<&Outcome<V>> {
+        self.running.last_outcome()
+    }
+
+    fn end(self, alloc: Global) -> Result<Run<K, V>, AllocError> {
+        Ok(self.running.end(alloc)?)
+    }
+
+    fn run_anew(
+        self,
+        alloc: Global,
+        setup: Setup,
+        choices: Vec<u64>,
+        schedule: Vec<Event<K, V>>,
+    ) -> Result<Run<K, V>, Fault>
+        ensures run { IfOk result (IsWholeRun K.eq (terms_given (bounded setup)) schedule.items) }
+        ensures memory { IfErr result (λ fault. fault ≡ Fault.Memory) }
+    {
+        let hasher = self.running.into_hasher();
+        Ok(run(alloc, setup, hasher, schedule, choices)?)
+    }
+
+    ghost counts = { λ setup events r come. come.so_far.outcomes };
+
+    ghost tells = { λ setup events run is. is.whole.outcomes };
+}

@@ -1,0 +1,176 @@
+//! Two drivers on two threads; and drivers that list what did not happen so.
+ghost use Rattle.std.specs.Prelude.{◌≡◌};
+
+use crate::wrong::{Wrong, apply_wrongly};
+use papaya_copies::outcomes;
+use papaya_crew::kept::events_again;
+use papaya_steps::{
+    Call, CrewName, CrewOf, Driver, Event, Fault, Finished, KeyHash, OneKey, ResizeMode, Run,
+    Runner, Scheduled, Setup, Token, run,
+};
+use std::alloc::{AllocError, Global};
+use std::marker::Brand;
+use std::process::Abort;
+use std::sync::Wait;
+use std::sync::ledger::Blank;
+use std::test::Fail;
+use std::thread::{Threads, for_each_mut};
+
+const SETUP: Setup = Setup {
+    batch_size: 1,
+    processors: 1,
+    roots: 1,
+};
+
+/// How many keys each driver stores pairs of.
+const KEYS: u64 = 20;
+
+type Ours = Scheduled<u64, u64, KeyHash>;
+
+/// What the driver of this number does at this place: both store pairs of the same keys, each under a guard of its own.
+fn event(alloc: Global, number: u64, place: u64) -> Result<Event<u64, u64>, AllocError> {
+    let guard = Token::copy_of(alloc, if number == 0 { b"g" } else { b"h" })?;
+    let map = Token::copy_of(alloc, b"m")?;
+    Ok(match place {
+        0 => Event::MakeMap {
+            map,
+            mode: ResizeMode::Incremental(1),
+            capacity: 0,
+        },
+        1 => Event::Own { guard },
+        2 => Event::DropGuard { guard },
+        _ => Event::OneCall {
+            guard,
+            map,
+            call: Call::On(OneKey::Insert(place, number)),
+        },
+    })
+}
+
+/// A driver applies its events, and drops its guard last.
+fn apply_all<R: Runner<u64, u64>, N: CrewName, W: Wait>(
+    rt: &W,
+    alloc: Global,
+    crew: &CrewOf<u64, u64, R, N>,
+    driver: &mut Driver<u64, u64, N>,
+) -> Result<(), Fault> {
+    let number = driver.number();
+    for nth in 0..KEYS + 3 {
+        let place = match nth {
+            0 | 1 => nth,
+            _ => KEYS + 4 - nth,
+        };
+        driver.apply(rt, alloc, crew, event(alloc, number, place)?)?;
+    }
+    Ok(())
+}
+
+/// The drivers apply their events, each on a thread.
+fn drive<R: Runner<u64, u64> + Drop + Send, N: CrewName + Send + Sync, W: Threads + Wait + Sync>(
+    rt: &W,
+    alloc: Global,
+    crew: &CrewOf<u64, u64, R, N>,
+    drivers: &mut [Driver<u64, u64, N>],
+) {
+    let work = |_: usize, driver: &mut Driver<u64, u64, N>| {
+        let _ = apply_all(rt, alloc, crew, driver);
+    };
+    for_each_mut(rt, drivers, 2, &work);
+}
+
+/// Two drivers apply their events to a crew of theirs.
+fn by_two<R: Runner<u64, u64> + Drop + Send, N: CrewName + Send + Sync, W: Threads + Wait + Sync>(
+    rt: &W,
+    alloc: Global,
+    setup: Setup,
+    hasher: R::Hasher,
+    blank: Blank,
+) -> Result<Option<Finished<u64, u64>>, Fault>
+where
+    R::Hasher: Drop,
+    requires setup { setup ≡ N.setup }
+    requires name { blank.name ≡ N.name }
+    requires parts { blank.parts ≡ N.parts }
+    requires two { blank.parts ≡ 2 }
+{
+    let none = Vec::new(alloc);
+    let (crew, mut drivers) = CrewOf::<_, _, R, N>::new(alloc, setup, hasher, none, 2, blank)?;
+    drive(rt, alloc, &crew, drivers.as_mut_slice());
+    crew.finish(alloc, drivers)
+}
+
+/// The same, by a ledger of its own.
+fn two<W: Threads + Wait + Sync>(
+    rt: &W,
+    alloc: Global,
+) -> Result<Option<Finished<u64, u64>>, Fault> {
+    by_two::<Ours, Brand, W>(rt, alloc, SETUP, KeyHash::Key, Blank::new(2))
+}
+
+/// The two runs came to the same.
+fn are_same(rt: &impl Abort, one: &Run<u64, u64>, other: &Run<u64, u64>) {
+    assert_eq!(rt; one.outcomes.len(), other.outcomes.len());
+    for (outcome, again) in one.outcomes.iter().zip(other.outcomes.iter()) {
+        assert!(rt; outcomes::same(outcome, again));
+    }
+    assert!(rt; one.steps.as_slice() == other.steps.as_slice());
+    assert!(rt; one.effects.as_slice() == other.effects.as_slice());
+    assert!(rt; one.waiting.as_slice() == other.waiting.as_slice());
+    assert_eq!(rt; one.tables, other.tables);
+    assert_eq!(rt; one.stored, other.stored);
+}
+
+#[test]
+fn two_threads_come_to_the_run_of_the_kept_schedule(rt: HostRuntime) -> Result<(), Fail> {
+    let alloc = rt.alloc();
+    match two(&rt, alloc)? {
+        Some(finished) => {
+            assert_eq!(rt; finished.schedule.len(), 46);
+            assert_eq!(rt; finished.run.stored, 40);
+            let again = events_again(alloc, finished.schedule.as_slice())?;
+            let run = run(alloc, SETUP, KeyHash::Key, again, Vec::new(alloc))?;
+            are_same(&rt, &finished.run, &run);
+        }
+        None => assert!(rt; false),
+    }
+    Ok(())
+}
+
+/// One driver makes a map, as it says, or wrongly: whether the crew finds that they agree.
+fn by_one<R: Runner<u64, u64> + Drop, N: CrewName, W: Wait>(
+    rt: &W,
+    alloc: Global,
+    setup: Setup,
+    hasher: R::Hasher,
+    blank: Blank,
+    wrong: Wrong,
+) -> Result<bool, Fault>
+where
+    R::Hasher: Drop,
+    requires setup { setup ≡ N.setup }
+    requires name { blank.name ≡ N.name }
+    requires parts { blank.parts ≡ N.parts }
+    requires one { blank.parts ≡ 1 }
+{
+    let none = Vec::new(alloc);
+    let (crew, mut drivers) = CrewOf::<_, _, R, N>::new(alloc, setup, hasher, none, 1, blank)?;
+    let Some(driver) = drivers.pop() else {
+        unreachable!()
+    };
+    drivers.push(apply_wrongly(rt, alloc, &crew, driver, wrong)?)?;
+    Ok(crew.finish(alloc, drivers)?.is_some())
+}
+
+/// The same, by a ledger of its own.
+fn one<W: Wait>(rt: &W, alloc: Global, wrong: Wrong) -> Result<bool, Fault> {
+    by_one::<Ours, Brand, W>(rt, alloc, SETUP, KeyHash::Key, Blank::new(1), wrong)
+}
+
+#[test]
+fn a_driver_that_lists_what_it_did_not_apply_is_found(rt: HostRuntime) -> Result<(), Fail> {
+    let alloc = rt.alloc();
+    assert!(rt; one(&rt, alloc, Wrong::Nothing)?);
+    assert!(rt; !one(&rt, alloc, Wrong::Event)?);
+    assert!(rt; !one(&rt, alloc, Wrong::Outcome)?);
+    Ok(())
+}
