@@ -1,14 +1,14 @@
 //! The memory as a whole, as those use it who share it.
 ghost use Rattle.std.specs.Prelude.{◌≡◌, ◌+◌, ◌*◌, ◌≤◌, ◌<◌, ◌^◌, IfSome};
-ghost use Rattle.seize_words.specs.Op.{Load, Store, Swap, Add, Or, Exchange, Make, Take, Room, Found, Stored, Exchanged, Made, Taken, Roomed};
-ghost use Rattle.seize_seats.specs.State.{Allows, Turns, Comes};
+ghost use Rattle.seize_words.specs.Op.{Load, Store, Swap, Add, Or, Exchange, Make, Take, Rewrite, Room, Found, Stored, Exchanged, Made, Taken, Roomed};
+ghost use Rattle.seize_seats.specs.State.{Allows, Owns, Turns, Comes, Meets, Renews};
 ghost use Rattle.seize_seats.specs.Lines.{long};
 ghost use Rattle.seize_seats.specs.Lendings.{Shown, IsValueOf};
 ghost use Rattle.seize_blocks.specs.Placed.{IsItsPlace};
 
 use crate::claim::Claim;
 use crate::place::Place;
-use crate::rule::{Rule, Turn};
+use crate::rule::{Meeting, Rule, Turn};
 use crate::seat::Seat;
 use crate::words::Words;
 use seize_words::{At, Fault};
@@ -69,6 +69,27 @@ impl<T, R: Rule<T>> Blocks<T, R> {
         ensures goes { M.to self.now.words.fixed seat.old.view seat.new.view }
     {
         self.words.turn::<M>(seat)
+    }
+
+    /// Two seats come to know something else, by what both knew.
+    pub fn meet<M: Meeting<R::Fixed, R::View>>(&self, one: &mut Seat<T, R>, other: &mut Seat<T, R>)
+        requires own { (one.old.base ≡ self.now.words.id.views_name) × (other.old.base ≡ self.now.words.id.views_name) }
+        requires may { Meets (R.holds self.now.words.fixed) one.old.id one.old.view other.old.id other.old.view
+            (M.to self.now.words.fixed one.old.view other.old.view) }
+        ensures same { (one.new.base ≡ one.old.base) × (one.new.id ≡ one.old.id) × (other.new.base ≡ other.old.base) × (other.new.id ≡ other.old.id) }
+        ensures goes { M.to self.now.words.fixed one.old.view other.old.view one.new.view other.new.view }
+    {
+        self.words.meet::<M>(one, other)
+    }
+
+    /// All seats end, and what was lent is back. Words and blocks stay as they are.
+    pub fn renew(&mut self)
+        requires ends { Renews (R.holds self.old.words.fixed) }
+        ensures same { (self.new.words.words ≡ self.old.words.words) × (self.new.words.fixed ≡ self.old.words.fixed) }
+        ensures names { (self.new.words.id.roots ≡ self.old.words.id.roots) × (self.new.words.id.count ≡ self.old.words.id.count)
+            × (self.new.words.id.values ≡ self.old.words.id.values) }
+    {
+        self.words.renew()
     }
 
     /// Makes the words of a bucket of slots where they are not there yet. There are those of the first alone, so for every other one
@@ -222,6 +243,28 @@ impl<T, R: Rule<T>> Blocks<T, R> {
         );
         match value {
             Some(value) => value,
+            None => unreachable!(),
+        }
+    }
+
+    /// Replaces the value of a block that the seat has to itself, and answers the one before.
+    pub fn rewrite(&self, seat: &mut Seat<T, R>, block: u64, value: T) -> T
+        requires own { seat.old.base ≡ self.now.words.id.views_name }
+        requires alone { Owns (R.holds self.now.words.fixed) R.keeps seat.old.id seat.old.view block }
+        requires may { Allows (R.holds self.now.words.fixed) R.keeps seat.old.id seat.old.view (Rewrite block value) (R.then seat.old.view (Rewrite block value)) }
+        ensures same { (seat.new.base ≡ seat.old.base) × (seat.new.id ≡ seat.old.id) }
+        ensures goes { R.then seat.old.view (Rewrite block value) (Taken result) seat.new.view }
+    {
+        let index = if block > 0 && block <= self.count {
+            block - 1
+        } else {
+            0
+        };
+        match self
+            .words
+            .rewrite(seat, block, index, self.values.at, value)
+        {
+            Some(before) => before,
             None => unreachable!(),
         }
     }

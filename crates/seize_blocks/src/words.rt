@@ -1,7 +1,7 @@
 //! The words, and what one step of a seat does to them: one atomic operation on a word, or none.
 ghost use Rattle.std.specs.Prelude.{◌≡◌, ℕ, ◌+◌, ◌-◌, ◌*◌, ◌^◌, ◌<◌, ◌≤◌, Some, None, Ok, Err, length, slice_index, slice_index_or};
-ghost use Rattle.seize_words.specs.Op.{Load, Store, Swap, Add, Or, Exchange, Make, Take, Room, Found, Stored, Exchanged, Made, Taken, Roomed};
-ghost use Rattle.seize_seats.specs.State.{Allows, Turns, Comes, Starts};
+ghost use Rattle.seize_words.specs.Op.{Load, Store, Swap, Add, Or, Exchange, Make, Take, Rewrite, Room, Found, Stored, Exchanged, Made, Taken, Roomed};
+ghost use Rattle.seize_seats.specs.State.{Allows, Owns, Turns, Comes, Meets, Renews, Starts};
 ghost use Rattle.seize_seats.specs.Lines.{whole, long};
 ghost use Rattle.seize_seats.specs.Steps.{roomed};
 ghost use Rattle.seize_seats.specs.Lendings.{Shown, IsValueOf};
@@ -11,7 +11,7 @@ ghost use Rattle.seize_blocks.specs.Placed.{IsItsPlace, IsItsSign};
 use crate::claim::Claim;
 use crate::place::Place;
 use crate::row::Row;
-use crate::rule::{Rule, Turn};
+use crate::rule::{Meeting, Rule, Turn};
 use crate::seat::Seat;
 use seize_words::At;
 use std::marker::{Brand, Model, PhantomData};
@@ -84,6 +84,21 @@ impl<T, R: Rule<T>> Words<T, R> {
         ensures { (seat.new.base ≡ seat.old.base) × (seat.new.id ≡ seat.old.id) × M.to self.now.fixed seat.old.view seat.new.view }
     {}
 
+    /// Two seats come to know something else, by what both knew.
+    pub fn meet<M: Meeting<R::Fixed, R::View>>(&self, one: &mut Seat<T, R>, other: &mut Seat<T, R>)
+        requires { (one.old.base ≡ self.now.id.views_name) × (other.old.base ≡ self.now.id.views_name)
+            × Meets (R.holds self.now.fixed) one.old.id one.old.view other.old.id other.old.view (M.to self.now.fixed one.old.view other.old.view) }
+        ensures { (one.new.base ≡ one.old.base) × (one.new.id ≡ one.old.id) × (other.new.base ≡ other.old.base) × (other.new.id ≡ other.old.id)
+            × M.to self.now.fixed one.old.view other.old.view one.new.view other.new.view }
+    {}
+
+    /// All seats end.
+    pub fn renew(&mut self)
+        requires { Renews (R.holds self.old.fixed) }
+        ensures { (self.new.words ≡ self.old.words) × (self.new.fixed ≡ self.old.fixed) × (self.new.id.roots ≡ self.old.id.roots)
+            × (self.new.id.count ≡ self.old.id.count) × (self.new.id.values ≡ self.old.id.values) × (self.new.id.hands_name ≡ self.old.id.hands_name) }
+    {}
+
     /// Tries to claim a number, whose sign lies at this place: it was free where 0 is found.
     pub(crate) fn claim(&self, _index: u64, place: u64) -> (u64, Claim)
         requires { IsItsSign self.now.id _index place }
@@ -145,6 +160,29 @@ impl<T, R: Rule<T>> Words<T, R> {
             words.add(fourth as usize).write(0);
             raw::store::<Brand>(words.add(sign as usize), 0, SeqCst);
             value
+        }
+    }
+
+    /// Replaces the value of a block that the seat has to itself, and answers the one before. The index is that of its number, if there is such a block.
+    pub(crate) fn rewrite(
+        &self,
+        seat: &mut Seat<T, R>,
+        block: u64,
+        index: u64,
+        values: *mut Option<T>,
+        value: T,
+    ) -> Option<T>
+        requires { (seat.old.base ≡ self.now.id.views_name) × (0 < block → block ≤ self.now.id.count → index ≡ block - 1)
+            × (values ≡ self.now.id.values)
+            × Owns (R.holds self.now.fixed) R.keeps seat.old.id seat.old.view block
+            × Allows (R.holds self.now.fixed) R.keeps seat.old.id seat.old.view (Rewrite block value) (R.then seat.old.view (Rewrite block value)) }
+        ensures { (seat.new.base ≡ seat.old.base) × (seat.new.id ≡ seat.old.id)
+            × ((x : T) × (result ≡ Some x) × R.then seat.old.view (Rewrite block value) (Taken x) seat.new.view) }
+    {
+        unsafe {
+            let before = values.add(index as usize).read();
+            values.add(index as usize).write(Some(value));
+            before
         }
     }
 

@@ -1,6 +1,6 @@
 -- The value of a block is lent to whoever has a `&` to the memory and to a seat whose view shows the block. Assumes `Logic`.
 use Rattle.std.specs.Prelude.{slice_get}
-use Rattle.std.proofs.Common.{◌≡◌, ℕ, suc, ◌+◌, ◌-◌, ◌*◌, ◌<◌, List, [], ◌∷◌, ◌++◌, sym, ap, ◌∙◌, subst, arith, Some}
+use Rattle.std.proofs.Common.{◌≡◌, ◌⊎◌, inl, inr, ℕ, suc, ◌+◌, ◌-◌, ◌*◌, ◌<◌, List, [], ◌∷◌, ◌++◌, sym, ap, ◌∙◌, subst, arith, Some}
 use seplogic.Ra.Ura.{Ura}
 use base.Fraction.{full_share}
 use base.FractionLaws.{common}
@@ -15,7 +15,7 @@ use types.Logic.{Logic, sem}
 use types.Owned.{basic}
 use types.Tokens.{bor_new, bor_fracture, shr_bor-open, shr_bor_dup, obor_close, lft-common}
 use types.Within.{tokens_halve}
-use types.Kit.{‵, raw, ◌⊛◌, some as items, given, later, ◌$◌, ◌∵◌, !, qed, by, move, drop, split, split3, group, fsplit, fsplit3, fjoin, fpick, fpack, pick, learn, check, show, frame, assume, suffices, settle, use0, use1, use2, use3, updating, await, now, done}
+use types.Kit.{‵, raw, ◌⊛◌, some as items, given, later, ◌$◌, ◌∵◌, !, qed, by, move, keep, drop, split, split3, group, fsplit, fsplit3, fjoin, fpick, fpack, pick, learn, check, show, frame, assume, suffices, settle, use0, use1, use2, use3, updating, await, now, done}
 use denote.RattleType.{RattleType, RowLaws}
 use denote.Memory.{shared_of}
 use denote.Moves.{moves}
@@ -151,7 +151,7 @@ module _ {M : Type 1} {𝓤 : Ura M} (𝓛 : Logic 𝓤) where
           use2 𝓛 (given (slice_get st.views id ≡ Some v) (‵ (Makings.Led 𝓛 R cv holds keeps p z st) ⊛ ‵ (Sn t)))
           (Ledgers.sits 𝓛 cv z.views_name st.blank st.views id t v) $ learn ! (λ at. split ! $ move ! (2 ∷ []) $ split3 ! $ move ! (5 ∷ []) $
           -- [the memory; the part; the account; the stretch; the views; the seat's]
-          by ! (of_cell st sound at (Makings.has_block 𝓛 R cv holds keeps p z n st sound.1 (shown (state_of z st) sound.0 at))))))
+          by ! (of_any st sound at (Makings.has_block 𝓛 R cv holds keeps p z n st sound.1 (shown (state_of z st) sound.0 at))))))
         where
           of_cell : (st : In) (sound : Makings.Sound 𝓛 R cv holds keeps p z st) → slice_get st.views id ≡ Some v → Makings.HasBlock 𝓛 R cv holds keeps p z n st
               → ⟦ Moves.Ws 𝓛 R cv holds keeps p z st.parts ⟧ ∗ ⟦ part ν full_share (0, s) ⟧ ∗ ⟦ finv Acc ⟧ ∗ ⟦ Told ⟧ ∗
@@ -167,7 +167,7 @@ module _ {M : Type 1} {𝓤 : Ura M} (𝓛 : Logic 𝓤) where
               qed 𝓛 (‵ (Moves.Ws 𝓛 R cv holds keeps p z st.parts) ∷ ‵ (part ν full_share (0, s)) ∷ ‵ (finv Acc) ∷ ‵ Told ∷
               ‵ (Makings.Led 𝓛 R cv holds keeps p z st) ∷ ‵ (Sn t) ∷ []) ∵
               use1 𝓛 (‵ (Makings.cell_of 𝓛 R cv holds keeps p z i c) ⊛ raw (all 𝓤 (Makings.Recells 𝓛 R cv holds keeps p z st i)))
-              (Numbers.celled 𝓛 R p z (Moves.lent 𝓛 R cv holds keeps p z) st.parts.words cs i c lt th.2) $ split ! $
+              (Numbers.celled 𝓛 R p z (Moves.lent 𝓛 R cv holds keeps p z) (Moves.had 𝓛 R cv holds keeps p z) st.parts.words cs i c lt th.2) $ split ! $
               fsplit ! $ move ! (1 ∷ []) $ fsplit ! $ move ! (1 ∷ []) $ fsplit ! $ move ! (1 ∷ []) $ fpick ! (λ l. let a : ℕ = l.atom in
               let e : Share = Share.left l.rest in let r : Share = Share.right l.rest in
               fsplit3 ! $ move ! (2 ∷ []) $ fsplit3 ! $ move ! (1 ∷ []) $ fpick ! (λ left. drop ! $
@@ -188,8 +188,17 @@ module _ {M : Type 1} {𝓤 : Ura M} (𝓛 : Logic 𝓤) where
               -- [the value; it is shared; three; e; the entry; the hand; the sign; the others; the views; the seat's]
               move ! (4 ∷ 0 ∷ []) $ fjoin ! $ move ! (4 ∷ 0 ∷ []) $ fjoin ! $ move ! (4 ∷ 0 ∷ []) $ fjoin ! $
               -- [the cell; it is shared; three; e; the others; the views; the seat's]
-              move ! (0 ∷ 4 ∷ 5 ∷ []) $ use3 𝓛 (‵ I) (Makings.recell 𝓛 R cv holds keeps p z st sound i c (sym (ap block_in th.2)) (λ y us q. sound.1.fours i y us (th.2 ∙ q))) $
+              move ! (0 ∷ 4 ∷ 5 ∷ []) $ use3 𝓛 (‵ I) (Makings.recell 𝓛 R cv holds keeps p z st sound i c (sym (ap block_in th.2))) $
               frame ! $ show ! Given (x, a, e) $ check ! so $ move ! (0 ∷ 2 ∷ 1 ∷ 3 ∷ []) $ done !))
+
+          of_any : (st : In) (sound : Makings.Sound 𝓛 R cv holds keeps p z st) → slice_get st.views id ≡ Some v
+              → Makings.HasBlock 𝓛 R cv holds keeps p z n st ⊎ Makings.HeldBlock 𝓛 R cv holds keeps p z n st
+              → ⟦ Moves.Ws 𝓛 R cv holds keeps p z st.parts ⟧ ∗ ⟦ part ν full_share (0, s) ⟧ ∗ ⟦ finv Acc ⟧ ∗ ⟦ Told ⟧ ∗
+              ⟦ Makings.Led 𝓛 R cv holds keeps p z st ⟧ ∗ ⟦ Sn t ⟧ ⊢ upd 𝓤 Gives
+          of_any st sound at (inl th) = of_cell st sound at th
+          of_any st sound at (inr h) = qed 𝓛 (‵ (Moves.Ws 𝓛 R cv holds keeps p z st.parts) ∷ ‵ (part ν full_share (0, s)) ∷ ‵ (finv Acc) ∷ ‵ Told ∷
+              ‵ (Makings.Led 𝓛 R cv holds keeps p z st) ∷ ‵ (Sn t) ∷ []) ∵ keep ! (0 ∷ 4 ∷ 5 ∷ []) $
+              by ! (Makings.held_away 𝓛 R cv holds keeps p z n st sound h id t v (upd 𝓤 Gives) shown)
 
     -- ---- what is shared for the value's lifetime is shared for as long as both are borrowed
     module _ (κ : Lft) where

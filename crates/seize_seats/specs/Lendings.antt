@@ -1,18 +1,18 @@
 -- How the value of a block is lent: it is shared for a lifetime of its own. Each lending puts a part of that lifetime's token under the stretch of a seat, so
 -- the value is shared as long as the stretch lasts, and the right to have the part back, once the stretch has ended, stands with the block.
-use Rattle.std.specs.Prelude.{◌≡◌, ℕ, suc, List, [], ◌∷◌, Some, IsSome}
+use Rattle.std.specs.Prelude.{◌≡◌, ◌≢◌, ℕ, suc, List, [], ◌∷◌, Some, IsSome}
 use mathlib.Mathlib.Data.Part.{◌∈◌}
 use base.Fraction.{full_share}
 use base.Share
 use base.Share.{quarter, three_quarters}
-use base.Stored.{Gv}
+use base.Stored.{Gv, coded×, coded_ℕ}
 use base.Fml.{Lft, Share, Fml, ftrue, fsep, fex, flft, flent, finv}
 use denote.RattleType.{RattleType}
 use denote.Memory.{part_at, shared_of}
 use Rattle.core.specs.contracts.option.Option.{the_row as OptionOf}
 use Rattle.seize_words.specs.Mem.{value_at}
 use Rattle.seize_seats.specs.State.{State, view_of}
-use Rattle.seize_seats.specs.Seen.{fact, seen, number_share_coded}
+use Rattle.seize_seats.specs.Seen.{fact, itself, seen, number_share_coded}
 use Rattle.seize_seats.specs.Stretches.{stretch_told}
 
 -- A lending begins with a part of the stretch's token in place of what is due, and lasts once the right to the part of the value's token is there.
@@ -63,6 +63,11 @@ Left q (l ∷ ls) r = (q' : Share) × Left q ls q' × (q' ∈ Share.op l.part r)
 abbrev pub Shown : {T V W : Type 0} → (State T V W → Type 0) → ℕ → V → ℕ → Type 0
 Shown {T} {V} {W} holds id v b = (t : State T V W) → holds t → view_of t id ≡ Some v → IsSome (value_at t.memory b)
 
+-- as long as the seat has this view no other one has a view that shows the block
+abbrev pub Alone : {T V W : Type 0} → (State T V W → Type 0) → ℕ → V → ℕ → Type 0
+Alone {T} {V} {W} holds id v b =
+    (t : State T V W) (j : ℕ) (u : V) → holds t → view_of t id ≡ Some v → j ≢ id → view_of t j ≡ Some u → Shown holds j u b → ⊥
+
 -- it is the value of the block in a state in which the seat has this view
 abbrev pub IsValueOf : {T V W : Type 0} → (State T V W → Type 0) → ℕ → V → ℕ → T → Type 0
 IsValueOf {T} {V} {W} holds id v b x = (t : State T V W) × holds t × (view_of t id ≡ Some v) × (value_at t.memory b ≡ Some x)
@@ -84,6 +89,15 @@ module _ (R : RattleType) (α : Lft) {V W : Type 0} (c : V → Gv) (γ : ℕ) (h
       fsep (shared_of (OptionOf R) (Some x) b o (n.atom ∷ []))
       (fsep (flent (n.atom ∷ []) (part_at (OptionOf R) full_share (Some x) b o))
       (fsep (flft (n.atom ∷ []) n.rest) (fsep (fact (Left full_share n.lendings n.rest)) (lendings i n.atom n.lendings))))
+
+  -- what is noted of a value that a call has in its hand: the value, and the seat with its view
+  abbrev pub note : ℕ → Share → R.Denot → ℕ → V → Fml
+  note ρ q x id v = seen (coded× R.coded (coded× coded_ℕ itself)).code ρ q 0 (x, (id, c v))
+
+  -- The value of the block of the i-th number is in the hand of a call of a seat, of whose view nobody else has a share meanwhile, and which has the block to itself.
+  abbrev pub in_hand : ℕ → ℕ → R.Denot → Fml
+  in_hand ρ i x =
+      fex (ℕ × V) (λ u. fsep (note ρ quarter x u.0 u.1) (fsep (seen c γ three_quarters u.0 u.1) (fact (Alone holds u.0 u.1 (suc i)))))
 
   -- the value of the block of the i-th number, at its place
   abbrev pub lendable : ℕ → R.Denot → ℕ → ℕ → Fml

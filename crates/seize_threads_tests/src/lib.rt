@@ -10,8 +10,14 @@ mod looking;
 #[cfg(test)]
 mod making;
 #[cfg(test)]
+mod meeting;
+#[cfg(test)]
 mod owning;
 #[cfg(test)]
+mod renewing;
+#[cfg(test)]
 mod retiring;
+#[cfg(test)]
+mod rewriting;
 #[cfg(test)]
 mod sections;
