@@ -22,7 +22,8 @@ use Rattle.seize_shared.specs.declared.view.Why.TheVariants.{Ending}
 use Rattle.seize_shared.specs.declared.view.Fixed.{Fixed}
 use Rattle.seize_shared.proofs.Beginnings.{rows_turn}
 use Rattle.seize_shared.proofs.GoesOn.{rows_go_on}
-use Rattle.seize_shared.proofs.Blocks.{blocks_are_made, made_are_taken, made_are_linked, roots_are_cleared, roots_are_seen, known_are_shown}
+use Rattle.seize_shared.proofs.Blocks.{blocks_are_made, made_are_taken, known_are_shown}
+use Rattle.seize_shared.proofs.Roots.{made_are_linked, roots_are_cleared, roots_are_seen}
 
 -- the word that links to a block whose number is small enough
 pub whole_link : (b : ℕ) → b < 2 ^ 53 → link_to b % 2 ^ 64 ≡ link_to b
