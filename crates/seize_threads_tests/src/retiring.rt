@@ -19,9 +19,9 @@ use std::thread;
 use std::thread::Threads;
 
 /// A value that counts its drops at its place of a table.
-struct Counted<'t> {
-    place: usize,
-    drops: &'t Vec<AtomicU64>,
+pub(crate) struct Counted<'t> {
+    pub(crate) place: usize,
+    pub(crate) drops: &'t Vec<AtomicU64>,
 }
 
 /// How often the value of a place was dropped.
@@ -50,7 +50,7 @@ impl<'t> Defers for Counted<'t> {
 }
 
 /// Puts a value at the root, and retires the one that was there; tells whether it is there. Where no number is free it is dropped.
-fn puts<'t, W: Wait>(
+pub(crate) fn puts<'t, W: Wait>(
     rt: &W,
     caller: &mut Caller<'_, Counted<'t>>,
     slot: u64,
@@ -73,7 +73,7 @@ fn puts<'t, W: Wait>(
 }
 
 /// Takes the value from the root, if there is one, and retires it.
-fn clears<'t, W: Wait>(rt: &W, caller: &mut Caller<'_, Counted<'t>>, slot: u64)
+pub(crate) fn clears<'t, W: Wait>(rt: &W, caller: &mut Caller<'_, Counted<'t>>, slot: u64)
     requires inside { caller.old.seat.view ≡ Inside slot Nothing }
     requires root { 0 < caller.old.blocks.now.words.fixed.roots }
     ensures inside { caller.new.seat.view ≡ Inside slot Nothing }
@@ -109,7 +109,11 @@ fn writes<'t, W: Wait>(
 }
 
 /// Looks at the root within a section, and tells whether the value that it has seen there had been dropped, if there was one.
-fn looks<'t, W: Wait>(rt: &W, caller: &mut Caller<'_, Counted<'t>>, slot: u64) -> Option<bool>
+pub(crate) fn looks<'t, W: Wait>(
+    rt: &W,
+    caller: &mut Caller<'_, Counted<'t>>,
+    slot: u64,
+) -> Option<bool>
     requires outside { caller.old.seat.view ≡ Outside slot }
     requires root { 0 < caller.old.blocks.now.words.fixed.roots }
     ensures outside { caller.new.seat.view ≡ Outside slot }
@@ -145,7 +149,7 @@ fn reads<'t, W: Wait>(rt: &W, ground: &Ground<'_, Counted<'t>>, times: usize) ->
 }
 
 /// Each of the first places of the table was counted so often.
-fn all_are(drops: &Vec<AtomicU64>, places: usize, times: u64) -> bool {
+pub(crate) fn all_are(drops: &Vec<AtomicU64>, places: usize, times: u64) -> bool {
     for place in 0..places {
         if dropped(drops, place) != times {
             return false;
@@ -155,7 +159,7 @@ fn all_are(drops: &Vec<AtomicU64>, places: usize, times: u64) -> bool {
 }
 
 /// A table of so many places.
-fn table(alloc: Global, places: usize) -> Result<Vec<AtomicU64>, AllocError> {
+pub(crate) fn table(alloc: Global, places: usize) -> Result<Vec<AtomicU64>, AllocError> {
     let mut drops = Vec::new(alloc);
     for _ in 0..places {
         drops.push(AtomicU64::new(0))?;
