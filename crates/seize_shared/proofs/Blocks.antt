@@ -23,7 +23,6 @@ use Rattle.seize_shared.specs.declared.view.View.TheVariants.{Inside}
 use Rattle.seize_shared.specs.declared.view.Has.{Has}
 use Rattle.seize_shared.specs.declared.view.Has.TheVariants.{Nothing, Made, Seen, Cut}
 use Rattle.seize_shared.specs.declared.view.Fixed.{Fixed}
-use Rattle.seize_shared.proofs.Lists.{there}
 use Rattle.seize_shared.proofs.Steps.{came_then, of_users, reached, roots_kept, world_roots, world_rooted}
 use Rattle.seize_shared.proofs.Users.{apart_making, cutting_making, use_making, beside, world_took, making_not_held, users}
 

@@ -2,7 +2,7 @@
 use Rattle.std.specs.Prelude.{◌<◌, ◌≤◌, Option, Some, None, nat_lt, if◌then◌else◌}
 use Rattle.std.proofs.Common.{◌≡◌, ℕ, ◌^◌, ◌%◌, Bool, true, false, refl, sym, subst, ap, ◌∙◌, arith}
 use Rattle.std.proofs.lemmas.Bool.{eq-eqb, ne_eqb}
-use Rattle.seize_words.specs.Op.{Op, Load, Swap, Make, Take, Found, Made as OutMade}
+use Rattle.seize_words.specs.Op.{Op, Load, Swap, Make, Take, Found}
 use Rattle.seize_words.specs.Word.{block_in, link_to}
 use Rattle.seize_words.specs.declared.at.At.TheVariants.{Root, Slot}
 use Rattle.seize.specs.declared.states.TheConstants.{HEAD, IDLE, ACTIVE}

@@ -18,7 +18,6 @@ use Rattle.seize_shared.specs.declared.view.View.{View}
 use Rattle.seize_shared.specs.declared.view.View.TheVariants.{Inside}
 use Rattle.seize_shared.specs.declared.view.Has.{Has}
 use Rattle.seize_shared.specs.declared.view.Fixed.{Fixed}
-use Rattle.seize_shared.proofs.Lists.{there}
 use Rattle.seize_shared.proofs.Moved.{StillHas, moved, still_used}
 use Rattle.seize_shared.proofs.Steps.{alone}
 

@@ -1,4 +1,4 @@
-use Rattle.seize_shared.proofs.Calls.{may_link, cut_told, cut_some, cut_none}
+use Rattle.seize_shared.proofs.Calls.{may_link}
 use Rattle.seize_shared.proofs.caller.Caller.publish.Goals as goal
 
 pub swap-old-requires-clause-may : goal.swap-old-requires-clause-may
