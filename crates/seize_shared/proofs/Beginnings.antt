@@ -1,5 +1,5 @@
 -- Rows begin and end, the rule starts, and seats come.
-use Rattle.std.specs.Prelude.{◌≢◌, Option, Some, None, length, replicate, slice_get}
+use Rattle.std.specs.Prelude.{◌≢◌, Option, Some, None, replicate, slice_get}
 use Rattle.std.proofs.Common.{◌≡◌, ℕ, zero, suc, false, [], ◌⊎◌, inl, inr, refl, sym, subst, ap, ◌∙◌}
 use Rattle.std.proofs.lemmas.List.{length-replicate}
 use Rattle.seize_words.specs.Mem.{Mem, Can, Took, value_at}

@@ -2,7 +2,7 @@
 use Rattle.std.specs.Prelude.{◌<◌, ◌≤◌, Option, Some, None, nat_lt, if◌then◌else◌}
 use Rattle.std.proofs.Common.{◌≡◌, ℕ, ◌^◌, ◌%◌, Bool, true, false, refl, sym, subst, ap, ◌∙◌, arith}
 use Rattle.std.proofs.lemmas.Bool.{eq-eqb, ne_eqb}
-use Rattle.seize_words.specs.Op.{Op, Load, Swap, Make, Take, Found, Made as OutMade}
+use Rattle.seize_words.specs.Op.{Op, Load, Swap, Make, Take, Found}
 use Rattle.seize_words.specs.Word.{block_in, link_to}
 use Rattle.seize_words.specs.declared.at.At.TheVariants.{Root, Slot}
 use Rattle.seize.specs.declared.states.TheConstants.{HEAD, IDLE, ACTIVE}
@@ -22,7 +22,8 @@ use Rattle.seize_shared.specs.declared.view.Why.TheVariants.{Ending}
 use Rattle.seize_shared.specs.declared.view.Fixed.{Fixed}
 use Rattle.seize_shared.proofs.Beginnings.{rows_turn}
 use Rattle.seize_shared.proofs.GoesOn.{rows_go_on}
-use Rattle.seize_shared.proofs.Blocks.{blocks_are_made, made_are_taken, made_are_linked, roots_are_cleared, roots_are_seen, known_are_shown}
+use Rattle.seize_shared.proofs.Blocks.{blocks_are_made, made_are_taken, known_are_shown}
+use Rattle.seize_shared.proofs.Roots.{made_are_linked, roots_are_cleared, roots_are_seen}
 
 -- the word that links to a block whose number is small enough
 pub whole_link : (b : ℕ) → b < 2 ^ 53 → link_to b % 2 ^ 64 ≡ link_to b

@@ -4,7 +4,7 @@ use Rattle.std.proofs.Common.{◌≡◌, ℕ, Bool, true, false, refl, sym, subs
 use Rattle.seize_words.specs.Mem.{Mem, value_at}
 use Rattle.seize.specs.World.{World}
 use Rattle.seize_words.specs.Op.{Op, Out, Rewrite}
-use Rattle.seize_words.specs.Plan.{Plan, Then, Turn, Do, Ends, MaySee, May, Steps}
+use Rattle.seize_words.specs.Plan.{Plan, Turn, Do, May, Steps}
 use Rattle.seize.specs.declared.rows.register.Registering.{Registering}
 use Rattle.seize.specs.declared.rows.register.Registering.TheVariants as registering_at
 use Rattle.seize.specs.declared.rows.register.Register.{Register}

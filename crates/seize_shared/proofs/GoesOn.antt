@@ -1,5 +1,5 @@
 -- Each row goes on: its next operation may be made at any moment.
-use Rattle.std.proofs.Common.{◌≡◌, ℕ, subst}
+use Rattle.std.proofs.Common.{ℕ, subst}
 use Rattle.std.specs.Prelude.{Option}
 use Rattle.seize_words.specs.Op.{Op, Store, Swap}
 use Rattle.seize_words.specs.declared.at.At.TheVariants.{Slot}
@@ -9,7 +9,6 @@ use Rattle.seize_seats.specs.State.{Allows}
 use Rattle.seize_shared.specs.Rows.{Holds, Keeps}
 use Rattle.seize_shared.specs.Told.{told}
 use Rattle.seize_shared.specs.Promises.{RowsGoOn}
-use Rattle.seize_shared.specs.declared.view.View.{View}
 use Rattle.seize_shared.specs.declared.view.View.TheVariants.{Rests, Registers, Outside, Enters, Inside, Settles, Leaves, Left, Frees}
 use Rattle.seize_shared.proofs.Operations.{enters, leaves, frees}
 use Rattle.seize_shared.proofs.Registers.{registers}

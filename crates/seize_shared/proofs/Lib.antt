@@ -8,7 +8,9 @@ pub mod Registers
 pub mod Looks
 pub mod Settling
 pub mod GoesOn
+pub mod Users
 pub mod Blocks
+pub mod Roots
 pub mod Calls
 pub mod Drives
 pub mod Seen

@@ -1,10 +1,10 @@
 -- What a step of a settling looks at: the block that it is about to reclaim, once its next one is read; nothing else.
 use Rattle.std.specs.Prelude.{Option, Some, None, IsSome, Result, Ok, Err, nat_lt, ◌==◌, ◌+◌, ◌%◌, ◌^◌, if◌then◌else◌}
-use Rattle.std.proofs.Common.{◌≡◌, ℕ, Bool, true, false, ◌⊎◌, inl, inr, refl, sym, subst, ap, ◌∙◌, arith}
+use Rattle.std.proofs.Common.{◌≡◌, ℕ, Bool, true, false, ◌⊎◌, inl, inr, refl, sym, subst, ap, ◌∙◌}
 use Rattle.std.proofs.lemmas.Bool.{eq-eqb}
 use Rattle.seize_words.specs.Mem.{Mem, value_at}
 use Rattle.seize_words.specs.declared.fault.Fault.{Fault}
-use Rattle.seize_words.specs.Op.{Op, Out, Found, Stored, Exchanged, Made, Taken, Roomed}
+use Rattle.seize_words.specs.Op.{Out, Found, Stored, Exchanged, Made, Taken, Roomed}
 use Rattle.seize_words.specs.Plan.{Plan, Then, Turn, Do, Now, Seeing, Sure, Ends, MaySee}
 use Rattle.seize_words.specs.Word.{block_in}
 use Rattle.seize.specs.declared.states.TheConstants.{HELD, NEVER, ACTIVE}

@@ -3,20 +3,17 @@ use Rattle.std.specs.Prelude.{◌≢◌, Option, Some, None, IsSome, length, sli
 use Rattle.std.proofs.Common.{◌≡◌, ℕ, ◌⊎◌, true, inl, inr, refl, sym, subst, ap, ◌∙◌}
 use Rattle.std.proofs.lemmas.Bool.{cases_eq}
 use Rattle.seize_words.specs.Mem.{Mem, value_at}
-use Rattle.seize_words.specs.Word.{block_in}
-use Rattle.seize.specs.declared.rows.settle.Settle.{Settle}
 use Rattle.seize.specs.Law.{holds, is_over}
 use Rattle.seize.specs.World.{World, Row, Use, Vacant, MayStep, IsInside}
 use Rattle.seize.specs.World as world
 use Rattle.seize_rule.proofs.World.Kept.{rows_may}
 use Rattle.seize_acts.proofs.Answers.{same_some}
 use Rattle.seize_seats.specs.State.{State, view_of, Goes}
-use Rattle.seize_shared.specs.Rows.{use_of, row_of, settles_for, used_for, IsUsed, IsKnown, IsReclaiming, RootsNameLinked, Fits, Came, Holds, Keeps}
+use Rattle.seize_shared.specs.Rows.{use_of, row_of, settles_for, IsUsed, IsKnown, RootsNameLinked, Fits, Came, Holds, Keeps}
 use Rattle.seize_shared.specs.declared.view.View.{View}
 use Rattle.seize_shared.specs.declared.view.View.TheVariants.{Rests, Registers, Outside, Enters, Inside, Settles, Leaves, Left, Frees}
 use Rattle.seize_shared.specs.declared.view.Has.{Has}
 use Rattle.seize_shared.specs.declared.view.Has.TheVariants.{Nothing, Made, Seen, Cut}
-use Rattle.seize_shared.specs.declared.view.Why.{Why}
 use Rattle.seize_shared.specs.declared.view.Why.TheVariants.{Retiring, Ending}
 use Rattle.seize_shared.specs.declared.view.Fixed.{Fixed}
 use Rattle.seize_shared.proofs.Lists.{there, elsewhere}

@@ -1,6 +1,6 @@
 -- Entering, leaving and giving up: the one operation of each may be made, and the rule holds after it.
 use Rattle.std.specs.Prelude.{Option, Some, None, nat_lt}
-use Rattle.std.proofs.Common.{◌≡◌, ℕ, Bool, true, false, [], ◌∷◌, refl, sym, subst, ap, ◌∙◌, arith}
+use Rattle.std.proofs.Common.{◌≡◌, ℕ, Bool, true, false, [], ◌∷◌, refl, sym, subst, ap, ◌∙◌}
 use Rattle.seize_words.specs.Mem.{Mem, Can, Took}
 use Rattle.seize_words.specs.Op.{Out, Store, Swap, Found, Stored, Exchanged, Made, Taken, Roomed}
 use Rattle.seize_words.specs.declared.at.At.TheVariants.{Slot}
@@ -17,7 +17,7 @@ use Rattle.seize.specs.World as world
 use Rattle.seize_rule.proofs.World.Kept.{rows_may}
 use Rattle.seize_rule.proofs.Rows.Others.{with_here}
 use Rattle.seize_seats.specs.State.{State, view_of, Goes, Allows}
-use Rattle.seize_shared.specs.Rows.{row_of, leave_of, counting, Fits, Holds, Keeps}
+use Rattle.seize_shared.specs.Rows.{row_of, leave_of, Holds, Keeps}
 use Rattle.seize_shared.specs.Told.{list_taken, told}
 use Rattle.seize_shared.specs.declared.view.View.{View}
 use Rattle.seize_shared.specs.declared.view.View.TheVariants.{Rests, Enters, Inside, Settles, Leaves, Left, Frees}

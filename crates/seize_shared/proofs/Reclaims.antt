@@ -1,6 +1,6 @@
 -- A block that a settling is about to reclaim is there.
 use Rattle.std.specs.Prelude.{Option, Some, None, IsSome}
-use Rattle.std.proofs.Common.{◌≡◌, ℕ, refl}
+use Rattle.std.proofs.Common.{ℕ, refl}
 use Rattle.seize_words.specs.Mem.{Mem, Can, Took, block_of, value_in, word_in, value_at}
 use Rattle.seize_words.specs.Word.{block_in}
 use Rattle.seize_words.specs.Plan.{May}

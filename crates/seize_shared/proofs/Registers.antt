@@ -1,6 +1,6 @@
 -- Registering: each of its operations may be made, and the rule holds after it; a slot that it takes nobody has.
-use Rattle.std.specs.Prelude.{◌≢◌, Option, Some, None, Ok, Err, is_some, nat_lt, if◌then◌else◌, length}
-use Rattle.std.proofs.Common.{◌≡◌, ℕ, ◌+◌, Bool, true, false, refl, sym, subst, ap, ◌∙◌, arith}
+use Rattle.std.specs.Prelude.{◌≢◌, Option, Some, None, Ok, Err, nat_lt, if◌then◌else◌, length}
+use Rattle.std.proofs.Common.{◌≡◌, ℕ, ◌+◌, Bool, true, false, refl, sym, subst, ap, ◌∙◌}
 use Rattle.seize_words.specs.Mem.{Mem, Can, Took, value_at, word_at}
 use Rattle.seize_words.specs.Op.{Op, Out, Load, Exchange, Room, Found, Stored, Exchanged, Made, Taken, Roomed}
 use Rattle.seize_words.specs.Plan.{Plan, Then, Do, Ends, Steps, May}

@@ -1,9 +1,9 @@
 -- A settling goes on: its next operation may be made at any moment, and the rule holds after it.
-use Rattle.std.specs.Prelude.{◌≢◌, Option, Some, None, length}
+use Rattle.std.specs.Prelude.{Option, Some, length}
 use Rattle.std.proofs.Common.{◌≡◌, ℕ, ◌+◌, Bool, true, false, refl, sym, subst, ap, ◌∙◌, arith}
 use Rattle.seize_words.specs.Mem.{Mem, Can, Took, value_at}
 use Rattle.seize_words.specs.Op.{Op, Out}
-use Rattle.seize_words.specs.Plan.{Plan, Then, Turn, Do, Ends, Steps, May}
+use Rattle.seize_words.specs.Plan.{Plan, Turn, Do, Ends, Steps, May}
 use Rattle.seize_words.proofs.Plans.{steps_as}
 use Rattle.seize.specs.declared.states.TheConstants.{LAST_SLOT}
 use Rattle.seize.specs.declared.rows.settle.Settle.{Settle}
@@ -29,8 +29,8 @@ use Rattle.seize_acts.proofs.Answers.{same_some, ended}
 use Rattle.seize_acts.proofs.Steps.{sees_end}
 use Rattle.seize_ends.proofs.Batches.Rows.{settles_memory}
 use Rattle.seize_seats.specs.State.{State, view_of, Goes as GoesOnBy}
-use Rattle.seize_shared.specs.Rows.{row_of, use_of, settles_for, used_for, leave_of, counting, IsUsed, IsLooked, Fits, Holds, Keeps}
-use Rattle.seize_shared.specs.Told.{shown_by, FollowsBy, GoesOn, told}
+use Rattle.seize_shared.specs.Rows.{settles_for, used_for, leave_of, counting, IsLooked, Holds, Keeps}
+use Rattle.seize_shared.specs.Told.{shown_by, FollowsBy, told}
 use Rattle.seize_shared.specs.Promises.{op_in}
 use Rattle.seize_shared.specs.declared.view.View.{View}
 use Rattle.seize_shared.specs.declared.view.View.TheVariants.{Settles}

@@ -1,7 +1,7 @@
 -- What an operation tells its seat.
-use Rattle.std.specs.Prelude.{◌≡◌, ◌<◌, ◌^◌, ℕ, ◌==◌, true, Option, Some, None, Ok, Err, nat_lt, if◌then◌else◌}
+use Rattle.std.specs.Prelude.{◌≡◌, ◌<◌, ◌^◌, ℕ, ◌==◌, Option, Some, None, Ok, Err, nat_lt, if◌then◌else◌}
 use Rattle.seize_words.specs.Mem.{Mem, Took, value_at}
-use Rattle.seize_words.specs.Word.{block_in, link_to}
+use Rattle.seize_words.specs.Word.{block_in}
 use Rattle.seize_words.specs.Op.{Op, Out, Load, Swap, Make, Take, Found, Made as OutMade, Taken}
 use Rattle.seize_words.specs.Plan.{Plan, Turn, Do, Ends}
 use Rattle.seize_words.specs.declared.at.At.TheVariants.{Root}
@@ -19,7 +19,7 @@ use Rattle.seize_shared.specs.declared.view.View.TheVariants.{Rests, Registers, 
 use Rattle.seize_shared.specs.declared.view.Has.{Has}
 use Rattle.seize_shared.specs.declared.view.Has.TheVariants.{Nothing, Made, Seen, Cut}
 use Rattle.seize_shared.specs.declared.view.Why.{Why}
-use Rattle.seize_shared.specs.declared.view.Why.TheVariants.{Retiring, Ending}
+use Rattle.seize_shared.specs.declared.view.Why.TheVariants.{Ending}
 
 -- the block that a word of a root names, if it names one, as it was seen, or unlinked
 abbrev pub seen_in : ℕ → Has

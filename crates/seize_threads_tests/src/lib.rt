@@ -4,6 +4,8 @@
 #[cfg(test)]
 mod counting;
 #[cfg(test)]
+mod crowd;
+#[cfg(test)]
 mod ground;
 #[cfg(test)]
 mod looking;

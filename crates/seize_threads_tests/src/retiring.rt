@@ -1,31 +1,34 @@
 //! One thread puts values at a root, one after another, and retires those that were there; another one looks at what is there, each time within a section.
 //! Each value names a place of a table that counts how often it was dropped, so a value that is looked at after its drop shows itself, and so does one that
 //! is dropped twice, or never.
-ghost use Rattle.std.specs.Prelude.{None};
+ghost use Rattle.std.specs.Prelude.{◌≡◌, ◌<◌, None};
+ghost use Rattle.seize_shared.specs.declared.view.Has.TheVariants.{Nothing};
+ghost use Rattle.seize_shared.specs.declared.view.View.TheVariants.{Outside, Inside};
 
+use crate::counting::{OneRoot, add, sees};
 use crate::ground::{Ground, SIZE};
 use seize::rows::Defers;
-use seize_blocks::Home;
+use seize_blocks::{Blocks, Home};
 use seize_shared::{Caller, Fixed, OfRows};
+use std::alloc::{AllocError, Global};
 use std::sync::Wait;
 use std::sync::atomic::AtomicU64;
 use std::sync::atomic::Ordering::SeqCst;
 use std::test::Fail;
 use std::thread;
+use std::thread::Threads;
 
 /// A value that counts its drops at its place of a table.
-struct Counted<'t> {
-    place: usize,
-    drops: &'t Vec<AtomicU64>,
+pub(crate) struct Counted<'t> {
+    pub(crate) place: usize,
+    pub(crate) drops: &'t Vec<AtomicU64>,
 }
 
-impl<'t> Counted<'t> {
-    /// How often it was dropped.
-    fn dropped(&self) -> u64 {
-        match self.drops.get(self.place) {
-            Some(count) => count.load(SeqCst),
-            None => 0,
-        }
+/// How often the value of a place was dropped.
+fn dropped(drops: &Vec<AtomicU64>, place: usize) -> u64 {
+    match drops.get(place) {
+        Some(count) => count.load(SeqCst),
+        None => 0,
     }
 }
 
@@ -46,7 +49,42 @@ impl<'t> Defers for Counted<'t> {
     }
 }
 
-/// Puts so many values at the root, and retires those that were there; answers how many it has put there.
+/// Puts a value at the root, and retires the one that was there; tells whether it is there. Where no number is free it is dropped.
+pub(crate) fn puts<'t, W: Wait>(
+    rt: &W,
+    caller: &mut Caller<'_, Counted<'t>>,
+    slot: u64,
+    value: Counted<'t>,
+) -> bool
+    requires inside { caller.old.seat.view ≡ Inside slot Nothing }
+    requires root { 0 < caller.old.blocks.now.words.fixed.roots }
+    ensures inside { caller.new.seat.view ≡ Inside slot Nothing }
+    ensures blocks { caller.new.blocks ≡ caller.old.blocks }
+{
+    match caller.make(slot, value) {
+        Ok(block) => {
+            if let Some(old) = caller.publish(slot, 0, block) {
+                caller.retire(rt, slot, old);
+            }
+            true
+        }
+        Err(_) => false,
+    }
+}
+
+/// Takes the value from the root, if there is one, and retires it.
+pub(crate) fn clears<'t, W: Wait>(rt: &W, caller: &mut Caller<'_, Counted<'t>>, slot: u64)
+    requires inside { caller.old.seat.view ≡ Inside slot Nothing }
+    requires root { 0 < caller.old.blocks.now.words.fixed.roots }
+    ensures inside { caller.new.seat.view ≡ Inside slot Nothing }
+    ensures blocks { caller.new.blocks ≡ caller.old.blocks }
+{
+    if let Some(old) = caller.remove(slot, 0) {
+        caller.retire(rt, slot, old);
+    }
+}
+
+/// Puts so many values at the root, each within a section, and takes the last one away; answers how many it has put there.
 fn writes<'t, W: Wait>(
     rt: &W,
     ground: &Ground<'_, Counted<'t>>,
@@ -58,21 +96,40 @@ fn writes<'t, W: Wait>(
     let mut put = 0;
     for place in 0..times {
         caller.enter(slot);
-        if let Ok(block) = caller.make(slot, Counted { place, drops }) {
+        if puts(rt, &mut caller, slot, Counted { place, drops }) {
             put = u64::wrapping_add(put, 1);
-            if let Some(old) = caller.publish(slot, 0, block) {
-                caller.retire(rt, slot, old);
-            }
         }
         caller.leave(rt, slot);
     }
     caller.enter(slot);
-    if let Some(old) = caller.remove(slot, 0) {
-        caller.retire(rt, slot, old);
-    }
+    clears(rt, &mut caller, slot);
     caller.leave(rt, slot);
     caller.unregister(slot);
     Some(put)
+}
+
+/// Looks at the root within a section, and tells whether the value that it has seen there had been dropped, if there was one.
+pub(crate) fn looks<'t, W: Wait>(
+    rt: &W,
+    caller: &mut Caller<'_, Counted<'t>>,
+    slot: u64,
+) -> Option<bool>
+    requires outside { caller.old.seat.view ≡ Outside slot }
+    requires root { 0 < caller.old.blocks.now.words.fixed.roots }
+    ensures outside { caller.new.seat.view ≡ Outside slot }
+    ensures blocks { caller.new.blocks ≡ caller.old.blocks }
+{
+    caller.enter(slot);
+    let Some(block) = caller.see(slot, 0) else {
+        caller.leave(rt, slot);
+        return None;
+    };
+    let value = caller.value(slot, block);
+    let before = dropped(value.drops, value.place);
+    thread::yield_now();
+    let stale = before != 0 || dropped(value.drops, value.place) != 0;
+    caller.leave(rt, slot);
+    Some(stale)
 }
 
 /// Looks at the root so many times, and tells how often it has seen a value, or none where one of them had been dropped.
@@ -82,42 +139,45 @@ fn reads<'t, W: Wait>(rt: &W, ground: &Ground<'_, Counted<'t>>, times: usize) ->
     let mut seen = 0;
     let mut stale = false;
     for _ in 0..times {
-        caller.enter(slot);
-        if let Some(block) = caller.see(slot, 0) {
-            let value = caller.value(slot, block);
-            if value.dropped() != 0 || value.dropped() != 0 {
-                stale = true;
-            }
+        if let Some(old) = looks(rt, &mut caller, slot) {
+            stale = stale || old;
             seen = u64::wrapping_add(seen, 1);
         }
-        caller.leave(rt, slot);
     }
     caller.unregister(slot);
     if stale { None } else { Some(seen) }
 }
 
-/// Each place of the table was counted once.
-fn all_once(drops: &Vec<AtomicU64>) -> bool {
-    for count in drops.iter() {
-        if count.load(SeqCst) != 1 {
+/// Each of the first places of the table was counted so often.
+pub(crate) fn all_are(drops: &Vec<AtomicU64>, places: usize, times: u64) -> bool {
+    for place in 0..places {
+        if dropped(drops, place) != times {
             return false;
         }
     }
     true
 }
 
-#[test]
-fn what_a_guard_has_seen_is_there_and_each_value_is_dropped_once(
-    rt: HostRuntime,
-) -> Result<(), Fail> {
-    let mut drops = Vec::new(rt.alloc());
-    for _ in 0..20_000 {
+/// A table of so many places.
+pub(crate) fn table(alloc: Global, places: usize) -> Result<Vec<AtomicU64>, AllocError> {
+    let mut drops = Vec::new(alloc);
+    for _ in 0..places {
         drops.push(AtomicU64::new(0))?;
     }
-    let home = Home::<Counted<'_>, OfRows>::open(
-        rt.alloc(),
+    Ok(drops)
+}
+
+/// A writer and a reader over one memory, which ends then.
+fn writes_beside_reads<'t, R: Threads + Wait + Sync>(
+    rt: &R,
+    alloc: Global,
+    drops: &'t Vec<AtomicU64>,
+    times: usize,
+) -> Result<(Option<u64>, Option<u64>), AllocError> {
+    let home = Home::<Counted<'t>, OfRows>::open(
+        alloc,
         1,
-        64,
+        4096,
         &Fixed {
             batch_size: SIZE,
             roots: 1,
@@ -126,13 +186,112 @@ fn what_a_guard_has_seen_is_there_and_each_value_is_dropped_once(
     let ground = Ground {
         blocks: &home.blocks,
     };
-    let (put, seen) = thread::join(
-        &rt,
-        || writes(&rt, &ground, &drops, 20_000),
-        || reads(&rt, &ground, 20_000),
-    );
+    Ok(thread::join(
+        rt,
+        || writes(rt, &ground, drops, times),
+        || reads(rt, &ground, times),
+    ))
+}
+
+#[test]
+fn what_a_section_has_seen_is_there_and_each_value_is_dropped_once(
+    rt: HostRuntime,
+) -> Result<(), Fail> {
+    let drops = table(rt.alloc(), 20_000)?;
+    let (put, seen) = writes_beside_reads(&rt, rt.alloc(), &drops, 20_000)?;
     assert!(rt; put.is_some() && seen.is_some());
-    drop(home);
-    assert!(rt; all_once(&drops));
+    assert!(rt; all_are(&drops, 20_000, 1));
+    Ok(())
+}
+
+/// Puts a value at the root, and four more once the other one has seen it; answers how often the first one was dropped while the other one is within its
+/// section.
+fn replaces<'t, W: Wait>(
+    rt: &W,
+    ground: &Ground<'_, Counted<'t>>,
+    bell: &Blocks<u64, OneRoot>,
+    drops: &'t Vec<AtomicU64>,
+) -> Option<u64> {
+    let mut caller = Caller::new(ground.blocks, SIZE);
+    let slot = caller.register().ok()?;
+    caller.enter(slot);
+    let mut there = puts(rt, &mut caller, slot, Counted { place: 0, drops });
+    caller.leave(rt, slot);
+    let seen = add(bell, 1) == 1 && sees(bell, 2);
+    caller.enter(slot);
+    for place in 1..5 {
+        there = puts(rt, &mut caller, slot, Counted { place, drops }) && there;
+    }
+    caller.leave(rt, slot);
+    let early = dropped(drops, 0);
+    let left = add(bell, 1) == 3 && sees(bell, 4);
+    caller.unregister(slot);
+    if there && seen && left {
+        Some(early)
+    } else {
+        None
+    }
+}
+
+/// Sees the first value, and is within its section until four more were put; tells whether the value was there all the time, and the four that were retired
+/// meanwhile were dropped as it left.
+fn stays<'t, W: Wait>(
+    rt: &W,
+    ground: &Ground<'_, Counted<'t>>,
+    bell: &Blocks<u64, OneRoot>,
+    drops: &'t Vec<AtomicU64>,
+) -> Option<bool> {
+    if !sees(bell, 1) {
+        return None;
+    }
+    let mut caller = Caller::new(ground.blocks, SIZE);
+    let slot = caller.register().ok()?;
+    caller.enter(slot);
+    let block = caller.see(slot, 0)?;
+    let replaced = add(bell, 1) == 2 && sees(bell, 3);
+    let value = caller.value(slot, block);
+    let kept = value.place == 0 && all_are(value.drops, 4, 0);
+    caller.leave(rt, slot);
+    let gone = all_are(drops, 4, 1);
+    let met = add(bell, 1) == 4;
+    caller.unregister(slot);
+    Some(replaced && kept && gone && met)
+}
+
+/// One who replaces a value and one who stays with it, over one memory, which ends then.
+fn replaces_beside_stays<'t, R: Threads + Wait + Sync>(
+    rt: &R,
+    alloc: Global,
+    bell: &Blocks<u64, OneRoot>,
+    drops: &'t Vec<AtomicU64>,
+) -> Result<(Option<u64>, Option<bool>), AllocError> {
+    let home = Home::<Counted<'t>, OfRows>::open(
+        alloc,
+        1,
+        8,
+        &Fixed {
+            batch_size: SIZE,
+            roots: 1,
+        },
+    )?;
+    let ground = Ground {
+        blocks: &home.blocks,
+    };
+    Ok(thread::join(
+        rt,
+        || replaces(rt, &ground, bell, drops),
+        || stays(rt, &ground, bell, drops),
+    ))
+}
+
+/// If one thread were served after the other, they would wait for each other in vain, and the test would fail.
+#[test]
+fn the_last_to_leave_drops_what_was_retired(rt: HostRuntime) -> Result<(), Fail> {
+    let drops = table(rt.alloc(), 5)?;
+    let gate = Home::<u64, OneRoot>::open(rt.alloc(), 1, 0, &())?;
+    let (early, kept) = replaces_beside_stays(&rt, rt.alloc(), &gate.blocks, &drops)?;
+    assert_eq!(rt; early, Some(0));
+    assert_eq!(rt; kept, Some(true));
+    assert!(rt; all_are(&drops, 5, 1));
     Ok(())
 }

@@ -1,5 +1,6 @@
 use Rattle.seize_shared.specs.contracts.law.sections_go_on.{T-type}
-use Rattle.seize_shared.proofs.Blocks.{blocks_are_made, made_are_taken, made_are_linked, roots_are_seen, roots_are_cleared, known_are_shown}
+use Rattle.seize_shared.proofs.Blocks.{blocks_are_made, made_are_taken, known_are_shown}
+use Rattle.seize_shared.proofs.Roots.{made_are_linked, roots_are_seen, roots_are_cleared}
 use Rattle.seize_shared.proofs.law.sections_go_on.Goals as goal
 
 pub returns-clause-made : goal.returns-clause-made

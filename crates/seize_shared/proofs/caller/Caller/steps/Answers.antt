@@ -1,4 +1,4 @@
-use Rattle.seize_shared.proofs.Drives.{may_step, has_stepped}
+use Rattle.seize_shared.proofs.Drives.{may_step}
 use Rattle.seize_shared.proofs.caller.Caller.steps.Goals as goal
 
 pub step-requires : goal.step-requires

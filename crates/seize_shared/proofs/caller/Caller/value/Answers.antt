@@ -5,4 +5,5 @@ use Rattle.seize_shared.proofs.caller.Caller.value.Goals as goal
 
 pub value-requires-clause-shown : goal.value-requires-clause-shown
 value-requires-clause-shown g c =
-    is_shown g.T.Defers.defers c.args.self.now.blocks.now.words.fixed c.args.self.now.seat.id c.args.self.now.seat.view c.args._slot (Seen c.args.block) c.args.block c.requires.seen refl
+    let x = c.args.self.now in
+    is_shown g.T.Defers.defers x.blocks.now.words.fixed x.seat.id x.seat.view c.args._slot (Seen c.args.block) c.args.block c.requires.seen refl
