@@ -146,9 +146,8 @@ impl<'a, T: Defers> Memory<T> for Caller<'a, T> {
         self.blocks.take(&mut self.seat, block)
     }
 
-    /// No row of the collector replaces a value.
-    fn rewrite(&mut self, _block: u64, _value: T) -> T {
-        unreachable!()
+    fn rewrite(&mut self, block: u64, value: T) -> T {
+        self.blocks.rewrite(&mut self.seat, block, value)
     }
 
     fn room(&mut self, bucket: u64) -> Result<(), Fault> {
