@@ -3,7 +3,7 @@ ghost use Rattle.std.specs.Prelude.{◌≡◌, ◌+◌, ◌*◌, ◌≤◌, ◌<
 ghost use Rattle.seize_words.specs.Op.{Load, Store, Swap, Add, Or, Exchange, Make, Take, Rewrite, Room, Found, Stored, Exchanged, Made, Taken, Roomed};
 ghost use Rattle.seize_seats.specs.State.{Allows, Owns, Turns, Comes, Meets, Renews};
 ghost use Rattle.seize_seats.specs.Lines.{long};
-ghost use Rattle.seize_seats.specs.Lendings.{Shown, IsValueOf};
+ghost use Rattle.seize_seats.specs.Lendings.{Shown, ShownToBoth, IsValueOf, IsValueOfBoth};
 ghost use Rattle.seize_blocks.specs.Placed.{IsItsPlace};
 
 use crate::claim::Claim;
@@ -275,12 +275,30 @@ impl<T, R: Rule<T>> Blocks<T, R> {
         requires shown { Shown (R.holds self.now.words.fixed) seat.now.id seat.now.view block }
         ensures { IsValueOf (R.holds self.now.words.fixed) seat.now.id seat.now.view block result.now }
     {
+        self.value_for(seat, seat, block)
+    }
+
+    /// The value of a block that the views of two seats show together, as that of a guard that holds it and that of who it belongs to, for as long as the
+    /// memory and both seats are borrowed.
+    pub fn value_for<'g>(
+        &'g self,
+        guard: &'g Seat<T, R>,
+        owner: &'g Seat<T, R>,
+        block: u64,
+    ) -> &'g T
+        requires own { (guard.now.base ≡ self.now.words.id.views_name) × (owner.now.base ≡ self.now.words.id.views_name) }
+        requires shown { ShownToBoth (R.holds self.now.words.fixed) guard.now.id guard.now.view owner.now.id owner.now.view block }
+        ensures { IsValueOfBoth (R.holds self.now.words.fixed) guard.now.id guard.now.view owner.now.id owner.now.view block result.now }
+    {
         let index = if block > 0 && block <= self.count {
             block - 1
         } else {
             0
         };
-        match self.words.value(seat, block, index, self.values.at) {
+        match self
+            .words
+            .value(guard, owner, block, index, self.values.at)
+        {
             Some(value) => value,
             None => unreachable!(),
         }

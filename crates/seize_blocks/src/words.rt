@@ -4,7 +4,7 @@ ghost use Rattle.seize_words.specs.Op.{Load, Store, Swap, Add, Or, Exchange, Mak
 ghost use Rattle.seize_seats.specs.State.{Allows, Owns, Turns, Comes, Meets, Renews, Starts};
 ghost use Rattle.seize_seats.specs.Lines.{whole, long};
 ghost use Rattle.seize_seats.specs.Steps.{roomed};
-ghost use Rattle.seize_seats.specs.Lendings.{Shown, IsValueOf};
+ghost use Rattle.seize_seats.specs.Lendings.{ShownToBoth, IsValueOfBoth};
 ghost use Rattle.seize_seats.specs.Owned.{BaseId, base_id_coded, words_own, words_share};
 ghost use Rattle.seize_blocks.specs.Placed.{IsItsPlace, IsItsSign};
 
@@ -186,17 +186,20 @@ impl<T, R: Rule<T>> Words<T, R> {
         }
     }
 
-    /// Where the value of a block lies, for as long as the words and the seat are borrowed. The index is that of its number, if there is such a block.
+    /// Where the value of a block lies, for as long as the words and both seats are borrowed. The index is that of its number, if there is such a block.
     pub(crate) fn value<'g>(
         &'g self,
-        seat: &'g Seat<T, R>,
+        guard: &'g Seat<T, R>,
+        owner: &'g Seat<T, R>,
         _block: u64,
         index: u64,
         values: *mut Option<T>,
     ) -> &'g Option<T>
-        requires { (seat.now.base ≡ self.now.id.views_name) × (0 < _block → _block ≤ self.now.id.count → index ≡ _block - 1)
-            × (values ≡ self.now.id.values) × Shown (R.holds self.now.fixed) seat.now.id seat.now.view _block }
-        ensures { (x : T) × (result.now ≡ Some x) × IsValueOf (R.holds self.now.fixed) seat.now.id seat.now.view _block x }
+        requires { (guard.now.base ≡ self.now.id.views_name) × (owner.now.base ≡ self.now.id.views_name)
+            × (0 < _block → _block ≤ self.now.id.count → index ≡ _block - 1) × (values ≡ self.now.id.values)
+            × ShownToBoth (R.holds self.now.fixed) guard.now.id guard.now.view owner.now.id owner.now.view _block }
+        ensures { (x : T) × (result.now ≡ Some x)
+            × IsValueOfBoth (R.holds self.now.fixed) guard.now.id guard.now.view owner.now.id owner.now.view _block x }
     {
         unsafe { &*values.add(index as usize) }
     }

@@ -20,10 +20,10 @@ use Rattle.seize_words.specs.Op.{Make, Take, Made, Taken}
 use Rattle.seize_words.specs.Op as Op
 use Rattle.seize_words.specs.declared.block.Block.{Block}
 use Rattle.seize_seats.specs.State.{State, Goes, Allows}
-use Rattle.seize_seats.specs.Lendings.{Shown}
+use Rattle.seize_seats.specs.Lendings.{ShownToBoth}
 use Rattle.seize_seats.specs.Cells.{Cell, Free, Claimed, Out, Has, Held, block_in, blocks_in, cell_at, sign_of}
 use Rattle.seize_seats.specs.Lines.{Parts, long, memory_of, AreLaid}
-use Rattle.seize_seats.specs.Owned.{fact, ledger, claim_owns, Hand, hand_coded, resting, busy, held, zeros, row, seen, stride, hand, inside, offered, lent_here, BaseId, age, Inside, state_of, standing, inner}
+use Rattle.seize_seats.specs.Owned.{fact, ledger, claim_owns, Hand, hand_coded, resting, busy, held, zeros, row, stride, hand, inside, offered, lent_here, BaseId, age, Inside, state_of, standing, inner}
 use Rattle.seize_seats.proofs.Cells.{recelled, laid_same, laid_with, block_is, blocks_made, blocks_set, cell_beyond}
 use Rattle.seize_seats.proofs.Numbers as Numbers
 use Rattle.seize_seats.proofs.Ledgers as Ledgers
@@ -422,18 +422,19 @@ module _ {M : Type 1} {𝓤 : Ura M} (𝓛 : Logic 𝓤) (R : RattleType) {V W :
       by low (Has x ws) is some = inl (x, ws, is, low)
       by low (Held ρ s x ws) is some = inr (ρ, s, x, ws, is, low)
 
-  -- that is of no block which another seat's view shows
-  pub held_away : (n : ℕ) (t : In) → Sound t → HeldBlock n t → (j : ℕ) (q : Share) (u : V) (Z : Pr) → Shown holds j u n
-      → ⟦ Ws t.parts.words t.parts.cells ⟧ ∗ ⟦ Led t ⟧ ∗ ⟦ seen cv.code z.views_name q j u ⟧ ⊢ Z
-  held_away n t sound h j q u Z shown =
+  -- that is of no block which the views of other seats show
+  pub held_away : (n : ℕ) (t : In) → Sound t → HeldBlock n t → (j : ℕ) (v : V) (k : ℕ) (u : V) (S : Fml) → Hands.Shows 𝓛 R cv holds p z j v k u S
+      → Hands.Crowds 𝓛 R cv holds p z j v k u S → (Z : Pr) → ShownToBoth holds j v k u n
+      → ⟦ Ws t.parts.words t.parts.cells ⟧ ∗ ⟦ Led t ⟧ ∗ ⟦ S ⟧ ⊢ Z
+  held_away n t sound h j v k u S shows crowds Z shown =
       let i : ℕ = n - 1 in let ρ : ℕ = h.0 in let x : R.Denot = h.2 in let ws : List ℕ = h.3 in let c : Cell R.Denot = Held ρ h.1 x ws in let low = h.5 in
       let cs : List (Cell R.Denot) = t.parts.cells in let lt = cell_beyond cs i c h.4 (λ e. absurd (cc e)) in
-      let one : n ≡ suc i = omega (arith, low) in let shows : Shown holds j u (suc i) = subst (λ (k : ℕ). Shown holds j u k) one shown in
-      qed 𝓛 (‵ (Ws t.parts.words cs) ∷ ‵ (Led t) ∷ ‵ (seen cv.code z.views_name q j u) ∷ []) ∵
+      let one : n ≡ suc i = omega (arith, low) in let here : ShownToBoth holds j v k u (suc i) = subst (λ (m : ℕ). ShownToBoth holds j v k u m) one shown in
+      qed 𝓛 (‵ (Ws t.parts.words cs) ∷ ‵ (Led t) ∷ ‵ S ∷ []) ∵
       use1 𝓛 (‵ (cell_of i c) ⊛ raw (all 𝓤 (Recells t i))) (Numbers.celled 𝓛 R p z lent had t.parts.words cs i c lt h.4) $ split ! $
       fsplit ! $ move ! (1 ∷ []) $ fsplit3 ! $ move ! (2 ∷ []) $ fsplit ! $
-      -- [the share; who has it; the hand; the entry; the sign; the others; the views; the seat's]
-      keep ! (6 ∷ 1 ∷ 7 ∷ []) $ by ! (Hands.excludes 𝓛 R cv holds p z t sound i ρ x j q u Z shows)
+      -- [the share; who has it; the hand; the entry; the sign; the others; the views; the seats']
+      keep ! (6 ∷ 1 ∷ 7 ∷ []) $ by ! (Hands.excludes 𝓛 R cv holds p z j v k u S shows crowds t sound i ρ x Z here)
 
   -- ---- A BLOCK IS TAKEN AWAY, and its place is taken out for a share of the lifetime
   module _ (id : ℕ) (v : V) (n : ℕ) (e : Share) (so : Op.Out R.Denot → V → Type 0) (law : Allows holds keeps id v (Take n) so) where
@@ -494,4 +495,5 @@ module _ {M : Type 1} {𝓤 : Ura M} (𝓛 : Logic 𝓤) (R : RattleType) {V W :
         by t g (inl th) = goes t g th
         by t g (inr h) = let Z : Pr = upd 𝓤 TakenOut in
             qed 𝓛 (‵ (Ws t.parts.words t.parts.cells) ∷ ‵ (Led t) ∷ ‵ (seat id v) ∷ ‵ (flft α e) ∷ []) ∵ keep ! (0 ∷ 1 ∷ 2 ∷ []) $
-            types.Kit.by ! (held_away n t (g.0, g.1) h id three_quarters v Z (λ s so at. (law s so at).0))
+            types.Kit.by ! (held_away n t (g.0, g.1) h id v id v (seat id v) (Hands.one_shows 𝓛 R cv holds p z id v id v three_quarters refl refl)
+            (Hands.one_crowds 𝓛 R cv holds p z id v id v three_quarters refl) Z (λ s so at _. (law s so at).0))

@@ -32,6 +32,7 @@ use Rattle.seize_seats.proofs.Numbers as Numbers
 use Rattle.seize_seats.proofs.Ledgers as Ledgers
 use Rattle.seize_seats.proofs.Moves as Moves
 use Rattle.seize_seats.proofs.Makings as Makings
+use Rattle.seize_seats.proofs.Hands as Hands
 
 unset : {A : Type 0} (xs : List (Option A)) (i : ℕ) → slice_index_or (slice_set xs i None) i None ≡ None
 unset [] i = refl
@@ -56,10 +57,10 @@ some_value (Some y) some = (y, refl)
 -- WHO MAY TAKE A BLOCK AWAY HAS IT TO ITSELF
 pub owns_alone : {T V W : Type 0} (holds : State T V W → Type 0) (keeps : V → V → W → ℕ → Type 0) (id : ℕ) (v : V) (n : ℕ) → Owns holds keeps id v n
     → Alone holds id v n
-owns_alone {T} {V} {W} holds keeps id v n own t j u so at ne there shown =
+owns_alone {T} {V} {W} holds keeps id v n own t i w j u so at ne nf here there shown =
     let a = own t so at in let x = some_value (value_at t.memory n) a.0 in let m : Mem T = with_block t.memory n None in
     let g = a.1 (Taken x.0) m (x.1, refl) in
-    let some = shown (State.after t m id g.0 g.1) g.2 (Ledgers.other_view t.views id j g.0 ne ∙ there) in
+    let some = shown (State.after t m id g.0 g.1) g.2 (Ledgers.other_view t.views id i g.0 ne ∙ here) (Ledgers.other_view t.views id j g.0 nf ∙ there) in
     let none = emptied t.memory n in absurd (cc (subst IsSome none some))
 
 module _ {M : Type 1} {𝓤 : Ura M} (𝓛 : Logic 𝓤) (R : RattleType) {V W : Type 0} (cv : Coded V) (holds : State R.Denot V W → Type 0) (keeps : V → V → W → ℕ
@@ -195,7 +196,8 @@ module _ {M : Type 1} {𝓤 : Ura M} (𝓛 : Logic 𝓤) (R : RattleType) {V W :
       any t g (inl th) = has t g th
       any t g (inr h) = let Z : Pr = upd 𝓤 TakenUp in
           qed 𝓛 (‵ (Ws t.parts) ∷ ‵ (Led t) ∷ ‵ (seat id v) ∷ ‵ (flft α e) ∷ []) ∵ keep ! (0 ∷ 1 ∷ 2 ∷ []) $
-          types.Kit.by ! (Makings.held_away 𝓛 R cv holds keeps p z n t (g.0, g.1) h id three_quarters v Z (λ s so at. (own s so at).0))
+          types.Kit.by ! (Makings.held_away 𝓛 R cv holds keeps p z n t (g.0, g.1) h id v id v (seat id v) (Hands.one_shows 𝓛 R cv holds p z id v id v three_quarters refl refl)
+          (Hands.one_crowds 𝓛 R cv holds p z id v id v three_quarters refl) Z (λ s so at _. (own s so at).0))
 
       pub takes_up : ⟦ I ⟧ ∗ (⟦ seat id v ⟧ ∗ ⟦ flft α e ⟧) ⊢ upd 𝓤 TakenUp
       takes_up = Makings.opens_seated 𝓛 R cv holds keeps p z id v ⟦ flft α e ⟧ (upd 𝓤 TakenUp)

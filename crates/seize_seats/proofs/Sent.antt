@@ -13,7 +13,7 @@ use Rattle.seize_seats.specs.State.{State}
 use Rattle.seize_seats.specs.Cells.{Cell, Free, Claimed, Out, Has, Held}
 use Rattle.seize_seats.specs.Lines.{long}
 use Rattle.seize_seats.specs.Owned.{shared_view, row, quarters, zeros, stride, kept, numbers, BaseId, age, inner, lent_here, had_here, words_own, words_share}
-use Rattle.seize_seats.specs.Lendings.{Phase, Begins, Lasts, Over, in_phase, Lending, lendings, lendable, in_hand}
+use Rattle.seize_seats.specs.Lendings.{Phase, Begins, Lasts, Over, in_phase, Holder, Lending, span, told, lendings, lendable, in_hand}
 use Rattle.seize_seats.specs.Stretches.{lasting, seat_owns, seat_shares}
 
 row_keyless : (b o : ℕ) (ns : List ℕ) → Keyless (row b o ns)
@@ -38,17 +38,20 @@ module _ {V : Type 0} (c : V → Gv) (γ : ℕ) where
 -- a value that can be lent
 module _ (R : RattleType) (sent : IsSend (OptionOf R)) (synced : IsSync (OptionOf R)) (α : Lft) {V W : Type 0} (c : V → Gv) (γ : ℕ) (holds : State R.Denot V W
     → Type 0) where
-  phase_keyless : (σ ν : ℕ) (s : Share) (ph : Phase) → Keyless (in_phase α σ ν s ph)
-  phase_keyless σ ν s Begins = tt
-  phase_keyless σ ν s Lasts = λ u. (entry_keyless shared_view ν 0 _, tt)
-  phase_keyless σ ν s Over = λ u. entry_keyless shared_view ν 0 _
+  phase_keyless : (μ : Lft) (ν : ℕ) (s : Share) (ph : Phase) → Keyless (in_phase μ ν s ph)
+  phase_keyless μ ν s Begins = tt
+  phase_keyless μ ν s Lasts = λ u. (entry_keyless shared_view ν 0 _, tt)
+  phase_keyless μ ν s Over = λ u. entry_keyless shared_view ν 0 _
+
+  told_keyless : (h : Holder V) → Keyless (told R α c γ holds h)
+  told_keyless h = λ n. ((λ _. tt), stretch_keyless c γ h.seat h.view h.stretch h.mark)
 
   lendings_keyless : (i a : ℕ) (ls : List (Lending V)) → Keyless (lendings R α c γ holds i a ls)
   lendings_keyless i a [] = tt
   lendings_keyless i a (l ∷ ls) = (
     (
       entry_keyless shared_view l.name 0 _,
-      (phase_keyless l.stretch l.name l.stake, ((λ n. ((λ _. tt), stretch_keyless c γ l.seat l.view l.stretch l.mark)), λ _. tt)),
+      (phase_keyless (span α l.guard l.owner) l.name l.stake, ((told_keyless l.guard, told_keyless l.owner), λ _. tt)),
     ),
     lendings_keyless i a ls,
   )

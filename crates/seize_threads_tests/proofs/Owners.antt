@@ -8,7 +8,7 @@ use Rattle.seize_words.specs.declared.block.Block.{Block}
 use Rattle.seize_words.proofs.OneOwner.AfterWrites.{block_of-with_block, block_of-made}
 use Rattle.seize_seats.specs.State.{State, Goes, Allows, Owns, Comes, Renews, Starts, view_of}
 use Rattle.seize_seats.specs.State as State
-use Rattle.seize_seats.specs.Lendings.{Shown, IsValueOf}
+use Rattle.seize_seats.specs.Lendings.{Shown, ShownToBoth, IsValueOf}
 use Rattle.seize_threads_tests.specs.Theirs.{Own, AreTheirs, tells}
 
 -- nothing is kept for another
@@ -204,6 +204,9 @@ rewrites id n x y v is s has at = (subst IsSome (sym there) refl, λ out m took.
 -- as long as a seat has a block it is there, and what is seen is the value that the seat has
 pub shows : (id n x : ℕ) (v : Own) → v ≡ Some (n, x) → Shown AreTheirs id v n
 shows id n x v is s has at = subst IsSome (sym (has.there id n x (at ∙ ap Some is))) refl
+
+pub shows_to_both : (i : ℕ) (w : Own) (id n x : ℕ) (v : Own) → v ≡ Some (n, x) → ShownToBoth AreTheirs i w id v n
+shows_to_both i w id n x v is s has _ at = shows id n x v is s has at
 
 pub is_its : (id n x : ℕ) (v : Own) (y : ℕ) → v ≡ Some (n, x) → IsValueOf AreTheirs id v n y → y ≡ x
 is_its id n x v y is of = let there = of.1.there id n x (of.2 ∙ ap Some is) in let found = of.3 in cc (there, found)
