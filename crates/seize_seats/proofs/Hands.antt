@@ -1,9 +1,10 @@
--- A call has the value of a block in its hand: no other seats have views that show the block. And what a share of a view shows, or shares of two. Assumes `Logic`.
+-- A call has the value of a block in its hand: no other seats have views that show the block. And what a share of a view shows, or shares of two. Assumes
+-- `Logic`.
 use Rattle.std.specs.Prelude.{slice_get}
-use Rattle.std.proofs.Common.{◌≡◌, ◌≢◌, ◌⊎◌, inl, inr, ℕ, suc, List, [], ◌∷◌, ap, sym, ◌∙◌, refl, Some}
+use Rattle.std.proofs.Common.{◌≡◌, ◌≢◌, ◌⊎◌, inl, inr, ℕ, suc, [], ◌∷◌, ap, sym, ◌∙◌, refl, Some}
 use Rattle.std.proofs.lemmas.Bool.{cases_eq}
 use seplogic.Ra.Ura.{Ura}
-use base.Share.{quarter, three_quarters}
+use base.Share.{three_quarters}
 use base.Stored.{Coded}
 use base.Logic.{SProp, ent, sep, guard}
 use base.Fml.{Share, Fml, fsep}
@@ -61,9 +62,11 @@ module _ {M : Type 1} {𝓤 : Ura M} (𝓛 : Logic 𝓤) (R : RattleType) {V W :
 
     pub two_show : (q r : Share) → Shows (two q r)
     two_show q r t = qed 𝓛 (‵ (Led t) ∷ ‵ (two q r) ∷ []) ∵ move ! (1 ∷ []) $ fsplit ! $ move ! (2 ∷ 0 ∷ []) $
-        use2 𝓛 (given (slice_get t.views j ≡ Some v) (‵ (Led t) ⊛ ‵ (Sn q j v))) (Ledgers.sits 𝓛 cv z.views_name t.blank t.views j q v) $ learn ! (λ at. split ! $
+        use2 𝓛 (given (slice_get t.views j ≡ Some v) (‵ (Led t) ⊛ ‵ (Sn q j v))) (Ledgers.sits 𝓛 cv z.views_name t.blank t.views j q v) $
+        learn ! (λ at. split ! $
         move ! (0 ∷ 2 ∷ []) $
-        use2 𝓛 (given (slice_get t.views k ≡ Some u) (‵ (Led t) ⊛ ‵ (Sn r k u))) (Ledgers.sits 𝓛 cv z.views_name t.blank t.views k r u) $ learn ! (λ at'. split ! $
+        use2 𝓛 (given (slice_get t.views k ≡ Some u) (‵ (Led t) ⊛ ‵ (Sn r k u))) (Ledgers.sits 𝓛 cv z.views_name t.blank t.views k r u) $
+        learn ! (λ at'. split ! $
         check ! (at, at') $ move ! (2 ∷ 1 ∷ []) $ fjoin ! $ move ! (1 ∷ 0 ∷ []) $ done !))
 
     pub two_crowd : (q r : Share) → Crowds (two q r)
@@ -87,7 +90,8 @@ module _ {M : Type 1} {𝓤 : Ura M} (𝓛 : Logic 𝓤) (R : RattleType) {V W :
         by_one (inr e) = same ∙ e
 
     -- where a value is in the hand of a call, S is not there if both seats' views show the block
-    module _ (S : Fml) (shows : Shows S) (crowds : Crowds S) (t : In) (sound : holds (state_of z t) × AreLaid z.roots z.count t.parts) (i ρ : ℕ) (x : R.Denot) (Z : Pr)
+    module _ (S : Fml) (shows : Shows S) (crowds : Crowds S) (t : In) (sound : holds (state_of z t) × AreLaid z.roots z.count t.parts) (i ρ : ℕ)
+        (x : R.Denot) (Z : Pr)
         (shown : ShownToBoth holds j v k u (suc i)) where
       by_seat : (w : ℕ × V) → Alone holds w.0 w.1 (suc i) → Sit t → (j ≡ w.0) ⊎ (j ≢ w.0) → (k ≡ w.0) ⊎ (k ≢ w.0)
           → ⟦ Led t ⟧ ∗ ⟦ Sn three_quarters w.0 w.1 ⟧ ∗ ⟦ S ⟧ ⊢ Z

@@ -2,7 +2,6 @@
 use Rattle.std.proofs.Common.{◌≡◌, ℕ, List, [], ◌∷◌, refl, sym, subst, Some}
 use seplogic.Ra.Ura.{Ura}
 use base.Fraction.{full_share}
-use base.Share
 use base.Share.{quarter}
 use base.Stored.{Coded}
 use base.Logic.{SProp, ent, sep, upd, via, never, never_e, upd_i}

@@ -34,8 +34,6 @@ use Rattle.seize_seats.specs.Owned.{stride, BaseId, age, Inside, state_of, inner
 use Rattle.seize_seats.proofs.Cells.{block_is, cell_beyond}
 use Rattle.seize_seats.proofs.Ledgers as Ledgers
 use Rattle.seize_seats.proofs.Numbers as Numbers
-use Rattle.seize_seats.proofs.Stretches as Stretches
-use Rattle.seize_seats.proofs.Lendings as Lendings
 use Rattle.seize_seats.proofs.Moves as Moves
 use Rattle.seize_seats.proofs.Makings as Makings
 use Rattle.seize_seats.proofs.Hands as Hands
@@ -181,7 +179,11 @@ module _ {M : Type 1} {𝓤 : Ura M} (𝓛 : Logic 𝓤) where
               let is = ap value_in (block_is z.roots z.count st.parts sound.1 n low ∙ ap block_in th.2) in
               let so : So x = ((state_of z st, sound.0, at.0, at.1, is), low, omega (arith, lt, all_of)) in
               let one : suc i ≡ n = omega (arith, low) in
-              let shows : Are = (subst (λ (k : ℕ). ShownToBoth holds g.seat g.view o.seat o.view k) (sym one) shown, two_or_one st at (cases_eq g.seat o.seat)) in
+              let shows : Are = (
+                subst (λ (k : ℕ). ShownToBoth holds g.seat g.view o.seat o.view k)
+                    (sym one) shown,
+                two_or_one st at (cases_eq g.seat o.seat),
+              ) in
               qed 𝓛 (‵ (Moves.Ws 𝓛 R cv holds keeps p z st.parts) ∷ ‵ (part ν full_share (0, s)) ∷ ‵ (finv Acc) ∷ ‵ Told ∷
               ‵ (Makings.Led 𝓛 R cv holds keeps p z st) ∷ ‵ (Sn t t') ∷ []) ∵
               use1 𝓛 (‵ (Makings.cell_of 𝓛 R cv holds keeps p z i c) ⊛ raw (all 𝓤 (Makings.Recells 𝓛 R cv holds keeps p z st i)))
@@ -189,17 +191,21 @@ module _ {M : Type 1} {𝓤 : Ura M} (𝓛 : Logic 𝓤) where
               fsplit ! $ move ! (1 ∷ []) $ fsplit ! $ move ! (1 ∷ []) $ fsplit ! $ move ! (1 ∷ []) $ fpick ! (λ l. let a : ℕ = l.atom in
               let e : Share = Share.left l.rest in let r : Share = Share.right l.rest in
               fsplit3 ! $ move ! (2 ∷ []) $ fsplit3 ! $ move ! (1 ∷ []) $ fpick ! (λ left. drop ! $
-              -- [the token; the lendings; it is shared; what is due; the entry; the hand; the sign; the others; the part; the account; the stretch; the views; the seat's]
+              -- [the token; the lendings; it is shared; what is due; the entry; the hand; the sign; the others; the part; the account; the stretch; the
+              -- views; the seat's]
               use1 𝓛 (‵ (flft (a ∷ []) e) ⊛ ‵ (flft (a ∷ []) r)) (𝓛.lfts.lft_split (a ∷ []) l.rest) $ split ! $
               move ! (9 ∷ []) $ use1 𝓛 (‵ (part ν quarter (0, s)) ⊛ ‵ (part ν three_quarters (0, s))) (Ledgers.cuts 𝓛 number_share_coded ν 0 (0, s)) $ split ! $
               use2 𝓛 (raw (upd 𝓤 (⟦ part ν quarter (a, e) ⟧ ∗ ⟦ part ν three_quarters (a, e) ⟧))) (Ledgers.sets 𝓛 number_share_coded ν 0 (0, s) (0, s) (a, e)) $
               settle 𝓛 Gives (‵ (part ν quarter (a, e)) ⊛ ‵ (part ν three_quarters (a, e))) $ split ! $ suffices ! _ (upd_i 𝓤 Gives) $
-              -- [a quarter; three; e; the token; the lendings; it is shared; what is due; the entry; the hand; the sign; the others; the account; the stretch; the views; the seat's]
+              -- [a quarter; three; e; the token; the lendings; it is shared; what is due; the entry; the hand; the sign; the others; the account; the
+              -- stretch; the views; the seat's]
               nothing ! $ fpack ! Are (λ _. ftrue) shows $ move ! (13 ∷ 0 ∷ []) $ fjoin ! $ move ! (12 ∷ 0 ∷ []) $ fjoin ! $
-              -- [the account and so on; a quarter; three; e; the token; the lendings; it is shared; what is due; the entry; the hand; the sign; the others; the views; the seat's]
+              -- [the account and so on; a quarter; three; e; the token; the lendings; it is shared; what is due; the entry; the hand; the sign; the others;
+              -- the views; the seat's]
               move ! (1 ∷ 0 ∷ []) $ fjoin ! $ move ! (0 ∷ 4 ∷ []) $ fjoin ! $
               -- [the lendings; three; e; the token; it is shared; what is due; the entry; the hand; the sign; the others; the views; the seat's]
-              nothing ! $ fpack ! (Left full_share (lending_of e ∷ l.lendings) r) (λ _. ftrue) (l.rest, left, Share.halves l.rest) $ move ! (0 ∷ 1 ∷ []) $ fjoin ! $
+              nothing ! $ fpack ! (Left full_share (lending_of e ∷ l.lendings) r) (λ _. ftrue) (l.rest, left, Share.halves l.rest) $ move ! (0 ∷ 1 ∷ []) $
+              fjoin ! $
               move ! (3 ∷ 0 ∷ []) $ fjoin ! $ move ! (4 ∷ 0 ∷ []) $ fjoin ! $ move ! (3 ∷ []) $
               use1 𝓛 (‵ (Sh x (a ∷ [])) ⊛ ‵ (Sh x (a ∷ []))) ((L (Some x) b e₀).contraction M 𝓤 𝓛 (a ∷ [])) $ split ! $ move ! (0 ∷ 2 ∷ []) $ fjoin ! $
               fpack ! (Loan V) (loan R α cv.code z.views_name holds i x b e₀) (new_loan l) $
@@ -216,7 +222,8 @@ module _ {M : Type 1} {𝓤 : Ura M} (𝓛 : Logic 𝓤) where
           of_any st sound at (inl th) = of_cell st sound at th
           of_any st sound at (inr h) = qed 𝓛 (‵ (Moves.Ws 𝓛 R cv holds keeps p z st.parts) ∷ ‵ (part ν full_share (0, s)) ∷ ‵ (finv Acc) ∷ ‵ Told ∷
               ‵ (Makings.Led 𝓛 R cv holds keeps p z st) ∷ ‵ (Sn t t') ∷ []) ∵ keep ! (0 ∷ 4 ∷ 5 ∷ []) $
-              by ! (Makings.held_away 𝓛 R cv holds keeps p z n st sound h g.seat g.view o.seat o.view (Sn t t') (Hands.two_show 𝓛 R cv holds p z g.seat g.view o.seat o.view t t')
+              by ! (Makings.held_away 𝓛 R cv holds keeps p z n st sound h g.seat g.view o.seat o.view (Sn t t')
+              (Hands.two_show 𝓛 R cv holds p z g.seat g.view o.seat o.view t t')
               (Hands.two_crowd 𝓛 R cv holds p z g.seat g.view o.seat o.view t t') (upd 𝓤 Gives) shown)
 
     -- ---- what is shared for the value's lifetime is shared for as long as both are borrowed
@@ -229,7 +236,8 @@ module _ {M : Type 1} {𝓤 : Ura M} (𝓛 : Logic 𝓤) where
       near x a = let σ : Lft = g.stretch ∷ [] in let ρ : Lft = o.stretch ∷ [] in let μ : Lft = α ++ κ in let ν : Lft = ρ ++ μ in let Ls = L (Some x) b e₀ in
           qed 𝓛 (‵ (fshr_bor Over (λ q. flft (a ∷ []) q)) ∷ ‵ (Sh x (a ∷ [])) ∷ ‵ (fshr_bor κ (λ q. flft α q)) ∷ ‵ (fshr_bor κ (λ q. flft σ q)) ∷
           ‵ (fshr_bor κ (λ q. flft ρ q)) ∷ []) ∵
-          move ! (1 ∷ []) $ use1 𝓛 (‵ (Sh x ((a ∷ []) ++ Over))) (shortens 𝓛 (Sh x) Ls (a ∷ []) ((a ∷ []) ++ Over) (meet_⊑_left (a ∷ []) Over)) $ move ! (1 ∷ 0 ∷ []) $
+          move ! (1 ∷ []) $ use1 𝓛 (‵ (Sh x ((a ∷ []) ++ Over))) (shortens 𝓛 (Sh x) Ls (a ∷ []) ((a ∷ []) ++ Over) (meet_⊑_left (a ∷ []) Over)) $
+          move ! (1 ∷ 0 ∷ []) $
           use2 𝓛 (‵ (Sh x Over)) (moves 𝓛 (Sh x) Ls Over (a ∷ [])) $
           use1 𝓛 (‵ (Sh x (σ ++ ν))) (shortens 𝓛 (Sh x) Ls Over (σ ++ ν) (meet_⊑_left Over κ)) $ move ! (2 ∷ []) $
           -- [the one stretch; it is shared; α; the other stretch]
@@ -270,21 +278,26 @@ module _ {M : Type 1} {𝓤 : Ura M} (𝓛 : Logic 𝓤) where
           move ! (10 ∷ 8 ∷ []) $ shr_bor-open ! tt (Ledgers.view_halves 𝓛 cv z.views_name o.seat o.view) (λ t'.
           let r₁ : Share = Share.left r in let r₂ : Share = Share.right r in let c₁ : Share = (common s' r₂).0 in let c : Share = (common s c₁).0 in
           let Owners : Pr = A.lft ρ s' ∗ A.lft α r₂ in let Both : Pr = A.lft σ s ∗ A.lft (ρ ++ α) c₁ in
-          -- [ρ's view is open; the view; σ's view is open; the view; ρ is open; its token; σ is open; its token; α is open; its token; ρ; its stretch; σ; its stretch; the invariant; α]
+          -- [ρ's view is open; the view; σ's view is open; the view; ρ is open; its token; σ is open; its token; α is open; its token; ρ; its stretch; σ;
+          -- its stretch; the invariant; α]
           move ! (9 ∷ []) $ use1 𝓛 (‵ (flft α r₁) ⊛ ‵ (flft α r₂)) (𝓛.lfts.lft_split α r) $ split ! $ move ! (7 ∷ 1 ∷ []) $
           use2 𝓛 (‵ (flft (ρ ++ α) c₁) ⊛ raw (wand 𝓤 (A.lft (ρ ++ α) c₁) Owners)) (lft-common 𝓛 ρ α s' r₂) $ split ! $ move ! (9 ∷ 0 ∷ []) $
           use2 𝓛 (‵ (flft Over c) ⊛ raw (wand 𝓤 (A.lft Over c) Both)) (lft-common 𝓛 σ (ρ ++ α) s c₁) $ split ! $
-          -- [all three; the way back; that to ρ and α; α's token; ρ's view is open; the view; σ's view is open; the view; ρ is open; σ is open; α is open; ρ; its stretch; σ; its stretch; the invariant; α]
+          -- [all three; the way back; that to ρ and α; α's token; ρ's view is open; the view; σ's view is open; the view; ρ is open; σ is open; α is open;
+          -- ρ; its stretch; σ; its stretch; the invariant; α]
           use0 𝓛 (later (items (λ (ν : ℕ). ‵ (unused c ν)))) (via 𝓤 _ (entries_new shared_view 𝓛 0 (λ _. (full_share, number_share_coded.code (0, c))))
           (basic 𝓛 (ex 𝓤 (Unused c)))) $ await ! tt $ pick ! (λ ν. let Ac : Fml = account Over ν c in
           let Rest : Fml = entries_from shared_view ν 1 (λ _. (full_share, number_share_coded.code (0, c))) in
           use1 𝓛 (‵ (part ν full_share (0, c)) ⊛ ‵ Rest) (entries_take shared_view 𝓛 ν 0 (λ _. (full_share, number_share_coded.code (0, c)))) $ split ! $
           move ! (1 ∷ []) $ drop ! $ move ! (1 ∷ []) $ fpack ! Phase (in_phase Over ν c) Begins $
           use1 𝓛 (later (‵ (finv Ac))) (𝓛.invs.inv_new Ac) $ await ! tt $ use1 𝓛 (‵ (finv Ac) ⊛ ‵ (finv Ac)) (𝓛.invs.inv_dup Ac) $ split ! $
-          -- [the account, twice; the part; the two ways back; α's token; ρ's view is open; the view; σ's view is open; the view; ρ is open; σ is open; α is open; ρ; its stretch; σ; its stretch; the invariant; α]
+          -- [the account, twice; the part; the two ways back; α's token; ρ's view is open; the view; σ's view is open; the view; ρ is open; σ is open; α is
+          -- open; ρ; its stretch; σ; its stretch; the invariant; α]
           move ! (9 ∷ 7 ∷ []) $ fjoin ! $ move ! (15 ∷ 13 ∷ []) $ fjoin ! $ move ! (1 ∷ 4 ∷ 2 ∷ 0 ∷ []) $ group ! 4 $ move ! (12 ∷ 4 ∷ 0 ∷ []) $
-          use3 𝓛 (later (items (given_item ν c t t') ⊛ ‵ (flft α r₁))) (Moves.reach 𝓛 R cv holds keeps p z r₁ (Asks ν c t t') (ex 𝓤 (Given ν c t t')) (gives ν c t t')) $
-          await ! tt $ split ! $ pick ! (λ u. learn ! (λ so. let x : R.Denot = u.0 in let a : ℕ = u.1 in let e : Share = u.2 in split3 ! $ move ! (2 ∷ []) $ split ! $
+          use3 𝓛 (later (items (given_item ν c t t') ⊛ ‵ (flft α r₁))) (Moves.reach 𝓛 R cv holds keeps p z r₁ (Asks ν c t t') (ex 𝓤 (Given ν c t t'))
+          (gives ν c t t')) $
+          await ! tt $ split ! $ pick ! (λ u. learn ! (λ so. let x : R.Denot = u.0 in let a : ℕ = u.1 in let e : Share = u.2 in split3 ! $ move ! (2 ∷ []) $
+          split ! $
           -- [three; the views; it is shared; e; α's token; the account; the two ways back; ρ's view is open; σ's; ρ is open; σ; α; ρ; σ; α]
           move ! (3 ∷ []) $ bor_new ! tt Over $ move ! (6 ∷ 2 ∷ 1 ∷ []) $
           use3 𝓛 (later (‵ (flft Over c))) (lasts Over ν c (a, e)) $ await ! tt $

@@ -242,7 +242,6 @@ module _ {M : Type 1} {𝓤 : Ura M} (𝓛 : Logic 𝓤) (R : RattleType) {V W :
         move ! (0 ∷ 4 ∷ []) $ fjoin ! $ move ! (3 ∷ 0 ∷ []) $ fjoin ! $
         -- [the cell; three quarters; the contents; the others; the views]
         move ! (0 ∷ 3 ∷ 4 ∷ []) $ use3 𝓛 (‵ I) (recell t sound i (Out e) (sym (ap block_in is))) $ done !
-
     takes_out t sound (Held ρ s x ws) is = let Z : Pr = upd 𝓤 Withdrawn in
         qed 𝓛 (‵ (cell_of i (Held ρ s x ws)) ∷ raw (all 𝓤 (Recells t i)) ∷ ‵ (Led t) ∷ (‵ (hands three_quarters i resting) ⊛ ‵ (flft α e)) ∷ []) ∵
         move ! (3 ∷ []) $ split ! $ move ! (2 ∷ 0 ∷ []) $
@@ -296,7 +295,6 @@ module _ {M : Type 1} {𝓤 : Ura M} (𝓛 : Logic 𝓤) (R : RattleType) {V W :
         fjoin ! $ move ! (2 ∷ 0 ∷ []) $ fjoin ! $ move ! (0 ∷ 2 ∷ 3 ∷ []) $
         use3 𝓛 (‵ I) (recell t sound i Free (sym (ap block_in is))) $
         move ! (1 ∷ []) $ rewrite ! 0 (λ (u : Share). ‵ (flft α u)) (ap (λ (h : Hand). h.1) same) refl $ move ! (1 ∷ 0 ∷ []) $ done !)))
-
     returns t sound (Held ρ s x ws) is = let Z : Pr = upd 𝓤 (ex 𝓤 Lf) in
         qed 𝓛 (‵ (cell_of i (Held ρ s x ws)) ∷ raw (all 𝓤 (Recells t i)) ∷ ‵ (Led t) ∷ (‵ (hands three_quarters i (busy e)) ⊛ ‵ (contents i zeros None)) ∷ []) ∵
         move ! (3 ∷ []) $ split ! $ move ! (2 ∷ 0 ∷ []) $
@@ -385,7 +383,6 @@ module _ {M : Type 1} {𝓤 : Ura M} (𝓛 : Logic 𝓤) (R : RattleType) {V W :
         (back id v t (recelled z.roots z.count t.parts g.1 i d r.0) (so (Made (Ok (i + 1)))) r.1 g.2 r.2) $
         settle 𝓛 Published (‵ I ⊛ ‵ (gone_on id (so (Made (Ok (i + 1)))))) $ split ! $ suffices ! _ (upd_i 𝓤 Published) $
         move ! (2 ∷ []) $ rewrite ! 0 (λ (u : Share). ‵ (flft α u)) (ap (λ (h : Hand). h.1) same) refl $ move ! (1 ∷ 2 ∷ 0 ∷ []) $ done !))
-
     puts t g (Held ρ s x' ws) is = let Z : Pr = upd 𝓤 Published in
         qed 𝓛 (‵ (cell_of i (Held ρ s x' ws)) ∷ raw (all 𝓤 (Recells t i)) ∷ ‵ (Led t) ∷ ‵ (seat id v) ∷
         (‵ (hands three_quarters i (busy e)) ⊛ ‵ (offers i zeros x)) ∷ []) ∵

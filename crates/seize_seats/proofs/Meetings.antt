@@ -8,7 +8,7 @@ use base.Stored.{Coded}
 use base.Logic.{SProp, ent, sep, upd, upd_i}
 use base.Fml.{Lft, Share, Fml, ftrue, fsep, fex}
 use types.Logic.{Logic, sem}
-use types.Kit.{‵, raw, ◌⊛◌, given, ◌$◌, ◌∵◌, !, qed, by, move, split, split3, fjoin, fjoin3, fpack, pick, learn, frame, suffices, settle, use2, rewrite, done}
+use types.Kit.{‵, raw, ◌⊛◌, given, ◌$◌, ◌∵◌, !, qed, move, split, split3, fjoin, fjoin3, fpack, pick, learn, frame, suffices, settle, use2, rewrite, done}
 use denote.RattleType.{RattleType}
 use denote.RawPtr.{Ptr}
 use denote.Steps.{nothing}
@@ -70,7 +70,8 @@ module _ {M : Type 1} {𝓤 : Ura M} (𝓛 : Logic 𝓤) (R : RattleType) {V W :
       use2 𝓛 (given ⊥ (‵ (seat i v) ⊛ ‵ (seat i u))) (Ledgers.once 𝓛 cv z.views_name i v u) $ learn ! (λ no. absurd no)
   apart (inr ne) = qed 𝓛 (‵ I ∷ (‵ (seat i v) ⊛ ‵ (seat j u)) ∷ []) ∵ move ! (1 ∷ []) $ split ! $ move ! (2 ∷ 0 ∷ []) $
       use2 𝓛 (Moves.opening 𝓛 R cv holds keeps p z i v) (Moves.opened 𝓛 R cv holds keeps p z i v) $ pick ! (λ t. learn ! (λ g. split3 ! $ move ! (1 ∷ 3 ∷ []) $
-      use2 𝓛 (given (slice_get t.views j ≡ Some u) (‵ (Led t.blank t.views) ⊛ ‵ (seat j u))) (Ledgers.sits 𝓛 cv z.views_name t.blank t.views j three_quarters u) $
+      use2 𝓛 (given (slice_get t.views j ≡ Some u) (‵ (Led t.blank t.views) ⊛ ‵ (seat j u)))
+      (Ledgers.sits 𝓛 cv z.views_name t.blank t.views j three_quarters u) $
       learn ! (λ at. split ! $
       -- [the views; the other; the memory; the one]
       let l = law (state_of z t) g.0 g.2 at ne in let v' : V = l.0 in let u' : V = l.1 in

@@ -1,6 +1,7 @@
--- The value of a block comes back from its lendings, where the block was taken away, and where a seat that has it to itself takes its value in the hand. Assumes `Logic`.
-use Rattle.std.specs.Prelude.{slice_get, IsSome}
-use Rattle.std.proofs.Common.{◌≡◌, ◌≢◌, ◌⊎◌, inl, inr, ℕ, suc, ◌-◌, ◌<◌, ◌+◌, ◌*◌, Bool, true, false, List, [], ◌∷◌, sym, ap, ◌∙◌, subst, arith, None, Some}
+-- The value of a block comes back from its lendings, where it was taken away, and where a seat that has it to itself takes its value in the hand. Assumes
+-- `Logic`.
+use Rattle.std.specs.Prelude.{IsSome}
+use Rattle.std.proofs.Common.{◌≡◌, ◌≢◌, ◌⊎◌, inl, inr, ℕ, suc, ◌-◌, ◌<◌, ◌+◌, ◌*◌, Bool, true, false, List, [], ◌∷◌, sym, ap, ◌∙◌, subst, arith, None}
 use mathlib.Core.Logic.Or
 use mathlib.Core.HLevel.{⊥_prop}
 use mathlib.Core.List.{mem-cons, not-mem-nil}
@@ -39,8 +40,10 @@ even_odd : (n m : ℕ) → IsEven n → (h : ℕ) → m ≡ h + h + 1 → ¬ (n 
 even_odd n m e h odd = λ same. (let even = e.1 in absurd (omega (arith, same, even, odd)))
 
 two : (id n m : ℕ) (P Q : Fml) → IsEven n → IsOfSeat id m → Apart ((n, P) ∷ (m, Q) ∷ [])
-two id n m P Q e o = ((λ in_it. Or.elim ⊥_prop ((mem-cons {a = n} {b = m} {l = []}).0 in_it) (even_odd n m e o.0 o.1) (λ x. not-mem-nil x)),
-    ((λ x. not-mem-nil x), tt))
+two id n m P Q e o = (
+  (λ in_it. Or.elim ⊥_prop ((mem-cons {a = n} {b = m} {l = []}).0 in_it) (even_odd n m e o.0 o.1) (λ x. not-mem-nil x)),
+  ((λ x. not-mem-nil x), tt),
+)
 
 three : (i j n m k : ℕ) (P Q S : Fml) → i ≢ j → IsEven n → IsOfSeat i m → IsOfSeat j k → Apart ((n, P) ∷ (m, Q) ∷ (k, S) ∷ [])
 three i j n m k P Q S ne e o u =
@@ -196,7 +199,8 @@ module _ {M : Type 1} {𝓤 : Ura M} (𝓛 : Logic 𝓤) (R : RattleType) {V W :
             use0 𝓛 (‵ ftrue) (id⊢ 𝓤 (emp 𝓤)) $
             move ! (2 ∷ 0 ∷ []) $ fjoin ! $ move ! (1 ∷ 0 ∷ []) $ fjoin ! $ move ! (1 ∷ 0 ∷ []) $ fjoin ! $ frame ! $ frame ! $
             assume ! (‵ I ⊛ ‵ (All m k)) $ split ! $
-            move ! (1 ∷ []) $ fsplit3 ! $ move ! (2 ∷ []) $ drop ! $ fpick ! (λ y. move ! (1 ∷ []) $ fpick ! (λ y'. move ! (1 ∷ 0 ∷ []) $ by ! (finds_two m k y y'))))
+            move ! (1 ∷ []) $ fsplit3 ! $ move ! (2 ∷ []) $ drop ! $ fpick ! (λ y. move ! (1 ∷ []) $ fpick ! (λ y'. move ! (1 ∷ 0 ∷ []) $
+            by ! (finds_two m k y y'))))
             (𝓛.invs.invs_bor_acc n α q I ((m, St g) ∷ (k, St o) ∷ []) Q (three g.seat o.seat n m k (fbor α I) (St g) (St o) ne e u w))
 
         ended_two : ⟦ Inv ⟧ ∗ A.lft α q ∗ ⟦ Told g ⟧ ∗ ⟦ Told o ⟧ ∗ ⟦ Hd ⟧ ⊢ H.⇛ (Q ∗ A.lft α q)
@@ -222,7 +226,8 @@ module _ {M : Type 1} {𝓤 : Ura M} (𝓛 : Logic 𝓤) (R : RattleType) {V W :
           let T : Holder V → Fml = λ h. stretch_told cv.code z.views_name h.seat h.view h.stretch h.mark in
           let St : Holder V → Fml = λ h. stretch cv.code z.views_name h.seat h.view h.stretch h.mark in
           let Are : Type 0 = AreShown R α cv.code z.views_name holds i g o in let Over : Lft = span α g o in
-          qed 𝓛 ((‵ Inv ⊛ ‵ (flft α q) ⊛ ‵ Hd) ∷ ‵ (One a l) ∷ []) ∵ updating ! $ split3 ! $ move ! (3 ∷ []) $ fsplit3 ! $ move ! (2 ∷ []) $ fsplit ! $ fsplit ! $
+          qed 𝓛 ((‵ Inv ⊛ ‵ (flft α q) ⊛ ‵ Hd) ∷ ‵ (One a l) ∷ []) ∵ updating ! $ split3 ! $ move ! (3 ∷ []) $ fsplit3 ! $ move ! (2 ∷ []) $ fsplit ! $
+          fsplit ! $
           -- [the guard's stretch; the owner's; what is shown; the part; the account; the invariant; the lifetime; the hand]
           use1 𝓛 (‵ (T g) ⊛ ‵ (T g)) (Stretches.twice 𝓛 (IsOfSeat g.seat) (St g)) $ split ! $ move ! (2 ∷ []) $
           use1 𝓛 (‵ (T o) ⊛ ‵ (T o)) (Stretches.twice 𝓛 (IsOfSeat o.seat) (St o)) $ split ! $
@@ -257,8 +262,8 @@ module _ {M : Type 1} {𝓤 : Ura M} (𝓛 : Logic 𝓤) (R : RattleType) {V W :
         let b = block_is z.roots z.count t.parts sound.1 (suc i) (omega arith) ∙ ap (λ (k : ℕ). block_in (cell_at t.parts.cells k)) one ∙ ap block_in is in
         absurd (cc (subst IsSome (ap value_in b) some))
 
-    by_cell : (g o : Holder V) (S : Fml) → Shows g o S → Crowds g o S → Shown g o → (Z : Pr) (t : In) (sound : Sound t) (c : Cell R.Denot) → cell_at t.parts.cells i ≡ c
-        → ⟦ cell_of c ⟧ ∗ all 𝓤 (Recells t) ∗ ⟦ Led t ⟧ ∗ ⟦ S ⟧ ∗ ⟦ Hd ⟧ ⊢ Z
+    by_cell : (g o : Holder V) (S : Fml) → Shows g o S → Crowds g o S → Shown g o → (Z : Pr) (t : In) (sound : Sound t) (c : Cell R.Denot)
+        → cell_at t.parts.cells i ≡ c → ⟦ cell_of c ⟧ ∗ all 𝓤 (Recells t) ∗ ⟦ Led t ⟧ ∗ ⟦ S ⟧ ∗ ⟦ Hd ⟧ ⊢ Z
     by_cell g o S shows crowds shown Z t sound Free is = qed 𝓛 (‵ (cell_of Free) ∷ raw (all 𝓤 (Recells t)) ∷ ‵ (Led t) ∷ (‵ S ⊛ ‵ Hd) ∷ []) ∵ move ! (3 ∷ []) $
         split ! $ move ! (2 ∷ []) $ fsplit ! $ move ! (1 ∷ []) $ fsplit ! $ move ! (0 ∷ 4 ∷ []) $
         use2 𝓛 (given ⊥ (‵ (hands full_share resting) ⊛ ‵ Hd)) (Makings.clash 𝓛 R cv holds keeps p z i (busy e) resting) $ learn ! (λ no. absurd no)
@@ -273,7 +278,8 @@ module _ {M : Type 1} {𝓤 : Ura M} (𝓛 : Logic 𝓤) (R : RattleType) {V W :
         move ! (3 ∷ []) $ split ! $ move ! (4 ∷ 0 ∷ []) $
         use2 𝓛 (given (Hands.Sit 𝓛 R cv holds p z g.seat g.view o.seat o.view t) (‵ (Led t) ⊛ ‵ S)) (shows t) $
         learn ! (λ at. absurd (gone g o shown t sound s is at))
-    by_cell g o S shows crowds shown Z t sound (Held ρ s x ws) is = qed 𝓛 (‵ (cell_of (Held ρ s x ws)) ∷ raw (all 𝓤 (Recells t)) ∷ ‵ (Led t) ∷ (‵ S ⊛ ‵ Hd) ∷ []) ∵
+    by_cell g o S shows crowds shown Z t sound (Held ρ s x ws) is = qed 𝓛 (‵ (cell_of (Held ρ s x ws)) ∷ raw (all 𝓤 (Recells t)) ∷ ‵ (Led t) ∷
+        (‵ S ⊛ ‵ Hd) ∷ []) ∵
         move ! (3 ∷ []) $ split ! $ move ! (2 ∷ 1 ∷ []) $
         use2 𝓛 (raw Z) (strange 1 (held ρ s) (busy e) (rest_of ρ s x ws) Z (Makings.busy_is_not_held 𝓛 R cv holds keeps p z ρ s e)) $ keep ! (0 ∷ []) $ done !
 
@@ -290,8 +296,8 @@ module _ {M : Type 1} {𝓤 : Ura M} (𝓛 : Logic 𝓤) (R : RattleType) {V W :
     abbrev Hh : Fml
     Hh = hands three_quarters (held ρ e)
 
-    by_hand : (g o : Holder V) (S : Fml) → Shows g o S → Crowds g o S → Shown g o → (Z : Pr) (t : In) (sound : Sound t) (c : Cell R.Denot) → cell_at t.parts.cells i ≡ c
-        → ⟦ cell_of c ⟧ ∗ all 𝓤 (Recells t) ∗ ⟦ Led t ⟧ ∗ ⟦ S ⟧ ∗ ⟦ Hh ⟧ ⊢ Z
+    by_hand : (g o : Holder V) (S : Fml) → Shows g o S → Crowds g o S → Shown g o → (Z : Pr) (t : In) (sound : Sound t) (c : Cell R.Denot)
+        → cell_at t.parts.cells i ≡ c → ⟦ cell_of c ⟧ ∗ all 𝓤 (Recells t) ∗ ⟦ Led t ⟧ ∗ ⟦ S ⟧ ∗ ⟦ Hh ⟧ ⊢ Z
     by_hand g o S shows crowds shown Z t sound Free is = qed 𝓛 (‵ (cell_of Free) ∷ raw (all 𝓤 (Recells t)) ∷ ‵ (Led t) ∷ (‵ S ⊛ ‵ Hh) ∷ []) ∵ move ! (3 ∷ []) $
         split ! $ move ! (2 ∷ []) $ fsplit ! $ move ! (1 ∷ []) $ fsplit ! $ move ! (0 ∷ 4 ∷ []) $
         use2 𝓛 (given ⊥ (‵ (hands full_share resting) ⊛ ‵ Hh)) (Makings.clash 𝓛 R cv holds keeps p z i (held ρ e) resting) $ learn ! (λ no. absurd no)

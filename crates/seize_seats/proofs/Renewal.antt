@@ -1,14 +1,13 @@
 -- The memory goes into another lifetime: what was lent is back, all seats have ended, and the rule holds of it with no seat. Assumes `Logic`.
-use Rattle.std.proofs.Common.{◌≡◌, ℕ, suc, ◌+◌, ◌*◌, List, [], ◌∷◌, refl, Some}
+use Rattle.std.proofs.Common.{◌≡◌, ℕ, suc, ◌+◌, ◌*◌, List, [], ◌∷◌, refl}
 use seplogic.Ra.Ura.{Ura}
-use base.Fraction.{full_share}
 use base.Stored.{Coded}
 use base.Logic.{SProp, ent, sep, ex, guard, via, never, never_e, guard_i, ex_i}
-use base.Fml.{Lft, Share, Fml, Incl, ftrue, fsep, flft, fdead, fbor}
+use base.Fml.{Lft, Share, Fml, Incl, ftrue, flft, fdead, fbor}
 use types.Logic.{Logic, sem}
 use types.Owned.{basic}
 use types.Tokens.{lft_new, lft_end, bor_new, lent_back}
-use types.Kit.{‵, raw, ◌⊛◌, some as items, later, ◌$◌, ◌∵◌, !, qed, by, move, keep, drop as leave, split, join, fsplit, fsplit3, fjoin, fjoin3, fpick, fpack, pick, use0, use1, use2, use3, updating, await, now, done}
+use types.Kit.{‵, raw, ◌⊛◌, some as items, later, ◌$◌, ◌∵◌, !, qed, by, move, keep, drop as leave, split, join, fsplit, fsplit3, fjoin, fjoin3, fpick, fpack, pick, use0, use1, use2, updating, await, now, done}
 use denote.RattleType.{RattleType}
 use denote.RawPtr.{Ptr, block_of, count_of}
 use denote.Shares.{Shares}
@@ -113,7 +112,8 @@ module _ {M : Type 1} {𝓤 : Ura M} (𝓛 : Logic 𝓤) (R : RattleType) {V W :
   module _ (law : Renews holds) (τ : Lft) (s : Share) (shares : Shares 𝓛 (OptionOf R) (OptionOf R).lives) (inc : Incl τ (OptionOf R).lives) where
     pub renews : ⟦ words_own R cv.code holds p z ⟧ ∗ A.lft τ s ⊢ H.⇛ (ex 𝓤 Renewed ∗ A.lft τ s)
     renews = let o : ℕ = count_of p in let o' : ℕ = count_of z.values in let f : ℕ = long z.roots * 8 + o in
-        qed 𝓛 (‵ (words_own R cv.code holds p z) ∷ ‵ (flft τ s) ∷ []) ∵ updating ! $ fsplit3 ! $ move ! (1 ∷ []) $ fsplit ! $ fpick ! (λ placed. leave ! $ leave ! $
+        qed 𝓛 (‵ (words_own R cv.code holds p z) ∷ ‵ (flft τ s) ∷ []) ∵ updating ! $ fsplit3 ! $ move ! (1 ∷ []) $ fsplit ! $ fpick ! (λ placed. leave ! $
+        leave ! $
         -- [the token; what was lent; the type's token]
         lft_end ! tt $ use1 𝓛 (‵ (fdead α) ⊛ ‵ (fdead α)) (𝓛.lfts.dead_dup α) $ split ! $ move ! (0 ∷ 2 ∷ []) $ lent_back ! tt $
         fpick ! (λ t. fsplit3 ! $ move ! (2 ∷ []) $ fpick ! (λ sound. leave ! $
@@ -137,7 +137,8 @@ module _ {M : Type 1} {𝓤 : Ura M} (𝓛 : Logic 𝓤) (R : RattleType) {V W :
         fpack ! (Inside R.Denot V W) (standing R cv.code holds p y) n $
         -- [all of it; dead and the type's token; the token]
         bor_new ! tt β $ use1 𝓛 (later (‵ (invariant IsEven (fbor β I)))) (Stretches.made 𝓛 IsEven (fbor β I) Stretches.evens) $ await ! tt $
-        nothing ! $ fpack ! (IsPlaced R p y) (λ _. ftrue) placed $ move ! (0 ∷ 1 ∷ []) $ fjoin ! $ move ! (0 ∷ 1 ∷ []) $ fjoin ! $ move ! (2 ∷ 0 ∷ []) $ fjoin ! $
+        nothing ! $ fpack ! (IsPlaced R p y) (λ _. ftrue) placed $ move ! (0 ∷ 1 ∷ []) $ fjoin ! $ move ! (0 ∷ 1 ∷ []) $ fjoin ! $ move ! (2 ∷ 0 ∷ []) $
+        fjoin ! $
         -- [the memory; dead and the type's token]
         move ! (1 ∷ []) $ split ! $ leave ! $ move ! (1 ∷ []) $
         use1 𝓛 (raw (ex 𝓤 Renewed)) (via 𝓤 (Renewed y) (guard_i 𝓤 (IsLike y) ⟦ words_own R cv.code holds p y ⟧ (refl, refl, refl, refl)) (ex_i 𝓤 Renewed y)) $

@@ -16,7 +16,7 @@ use denote.RattleType.{RattleType}
 use denote.RawPtr.{Ptr, block_of, count_of}
 use denote.Steps.{nothing}
 use Rattle.core.specs.Sync.RawAtomic.{word}
-use Rattle.seize_words.specs.Mem.{Mem, value_at, value_in, with_block, with_value_in, after}
+use Rattle.seize_words.specs.Mem.{Mem, value_at, value_in, with_block, with_value_in}
 use Rattle.seize_words.specs.Op.{Rewrite, Taken}
 use Rattle.seize_words.specs.Op as Op
 use Rattle.seize_words.specs.declared.block.Block.{Block}
@@ -24,7 +24,7 @@ use Rattle.seize_seats.specs.State.{State, Goes, Allows, Owns, view_of}
 use Rattle.seize_seats.specs.State as State
 use Rattle.seize_seats.specs.Cells.{Cell, Free, Claimed, Out, Has, Held, block_in, blocks_in, cell_at}
 use Rattle.seize_seats.specs.Lines.{Parts, long, memory_of, AreLaid}
-use Rattle.seize_seats.specs.Lendings.{Shown, Alone, note}
+use Rattle.seize_seats.specs.Lendings.{Alone, note}
 use Rattle.seize_seats.specs.Seen.{itself, shared_view, seen}
 use Rattle.seize_seats.specs.Owned.{fact, Hand, hand_coded, resting, busy, held, zeros, row, stride, had_here, BaseId, age, Inside, state_of, inner}
 use Rattle.seize_seats.proofs.Cells.{recelled, laid_with, block_is, blocks_set, cell_beyond, was_given}
@@ -177,13 +177,15 @@ module _ {M : Type 1} {𝓤 : Ura M} (𝓛 : Logic 𝓤) (R : RattleType) {V W :
           -- [a quarter of the note; three; the cell; the others; the views; the seat; the share]
           move ! (2 ∷ []) $ fsplit ! $ move ! (1 ∷ []) $ fsplit ! $ move ! (1 ∷ []) $ fsplit ! $
           -- [the entry; the value; the hand; the sign; a quarter; three; the others; the views; the seat; the share]
-          move ! (2 ∷ []) $ use1 𝓛 (‵ (hands quarter i resting) ⊛ ‵ (hands three_quarters i resting)) (Ledgers.cuts 𝓛 hand_coded z.hands_name i resting) $ split ! $
+          move ! (2 ∷ []) $ use1 𝓛 (‵ (hands quarter i resting) ⊛ ‵ (hands three_quarters i resting)) (Ledgers.cuts 𝓛 hand_coded z.hands_name i resting) $
+          split ! $
           use2 𝓛 (raw (upd 𝓤 (⟦ hands quarter i (held ρ e) ⟧ ∗ ⟦ hands three_quarters i (held ρ e) ⟧)))
           (Makings.turns_hand 𝓛 R cv holds keeps p z i resting resting (held ρ e)) $
           settle 𝓛 TakenUp (‵ (hands quarter i (held ρ e)) ⊛ ‵ (hands three_quarters i (held ρ e))) $ split ! $ suffices ! _ (upd_i 𝓤 TakenUp) $
           -- [the hand, by two; the entry; the value; the sign; a quarter; three; the others; the views; the seat; the share]
           nothing ! $ fpack ! (Alone holds id v (suc i)) (λ _. ftrue) alone $ move ! (10 ∷ 0 ∷ []) $ fjoin ! $ move ! (6 ∷ 0 ∷ []) $ fjoin ! $
-          fpack ! (ℕ × V) (λ u. fsep (Note ρ quarter x u.0 u.1) (fsep (seen cv.code z.views_name three_quarters u.0 u.1) (fact (Alone holds u.0 u.1 (suc i))))) (id, v) $
+          fpack ! (ℕ × V) (λ u. fsep (Note ρ quarter x u.0 u.1) (fsep (seen cv.code z.views_name three_quarters u.0 u.1)
+          (fact (Alone holds u.0 u.1 (suc i))))) (id, v) $
           -- [who has it; the hand, by two; the entry; the value; the sign; three; the others; the views; the share]
           move ! (9 ∷ 0 ∷ []) $ fjoin ! $ move ! (3 ∷ 0 ∷ []) $ fjoin ! $ move ! (1 ∷ 0 ∷ []) $ fjoin ! $ move ! (3 ∷ 0 ∷ []) $ fjoin ! $
           -- [the cell; three quarters of the hand; the value; three of the note; the others; the views]
@@ -196,7 +198,8 @@ module _ {M : Type 1} {𝓤 : Ura M} (𝓛 : Logic 𝓤) (R : RattleType) {V W :
       any t g (inl th) = has t g th
       any t g (inr h) = let Z : Pr = upd 𝓤 TakenUp in
           qed 𝓛 (‵ (Ws t.parts) ∷ ‵ (Led t) ∷ ‵ (seat id v) ∷ ‵ (flft α e) ∷ []) ∵ keep ! (0 ∷ 1 ∷ 2 ∷ []) $
-          types.Kit.by ! (Makings.held_away 𝓛 R cv holds keeps p z n t (g.0, g.1) h id v id v (seat id v) (Hands.one_shows 𝓛 R cv holds p z id v id v three_quarters refl refl)
+          types.Kit.by ! (Makings.held_away 𝓛 R cv holds keeps p z n t (g.0, g.1) h id v id v (seat id v)
+          (Hands.one_shows 𝓛 R cv holds p z id v id v three_quarters refl refl)
           (Hands.one_crowds 𝓛 R cv holds p z id v id v three_quarters refl) Z (λ s so at _. (own s so at).0))
 
       pub takes_up : ⟦ I ⟧ ∗ (⟦ seat id v ⟧ ∗ ⟦ flft α e ⟧) ⊢ upd 𝓤 TakenUp
@@ -204,7 +207,8 @@ module _ {M : Type 1} {𝓤 : Ura M} (𝓛 : Logic 𝓤) (R : RattleType) {V W :
           (λ t g. any t g (Makings.has_block 𝓛 R cv holds keeps p z n t g.1 (own (state_of z t) g.0 g.2).0))
 
     -- ---- ANOTHER VALUE IS PUT in its place, and the share comes back
-    module _ (ρ : ℕ) (x new : R.Denot) (so : Op.Out R.Denot → V → Type 0) (law : Allows holds keeps id v (Rewrite n new) so) (low : 0 < n) (lt : n - 1 < z.count) where
+    module _ (ρ : ℕ) (x new : R.Denot) (so : Op.Out R.Denot → V → Type 0) (law : Allows holds keeps id v (Rewrite n new) so) (low : 0 < n)
+        (lt : n - 1 < z.count) where
       abbrev pub PutBack : Pr
       PutBack = ⟦ I ⟧ ∗ (⟦ gone_on id (so (Taken x)) ⟧ ∗ ⟦ flft α e ⟧)
 
@@ -224,7 +228,8 @@ module _ {M : Type 1} {𝓤 : Ura M} (𝓛 : Logic 𝓤) (R : RattleType) {V W :
       goes : (t : In) (sound : Sound t) (s : Share) (ws : List ℕ) (ρ' : ℕ) → cell_at t.parts.cells i ≡ Held ρ' s x ws → slice_get t.views id ≡ Some v
           → AreLaid z.roots z.count (renewed t sound ws) × Goes holds keeps (state_of z t) (memory_of z.roots (renewed t sound ws)) id (so (Taken x))
       goes t sound s ws ρ' is at = let mo : Mem R.Denot = memory_of z.roots t.parts in
-          let here = block_is z.roots z.count t.parts sound.1 n low ∙ ap block_in is in let given = was_given z.roots z.count t.parts sound.1 i _ (ap block_in is) in
+          let here = block_is z.roots z.count t.parts sound.1 n low ∙ ap block_in is in
+          let given = was_given z.roots z.count t.parts sound.1 i _ (ap block_in is) in
           let four = sound.1.fours i _ (ap block_in is) in
           let same = ap (λ (l : List (Option (Block R.Denot))). record mo { blocks = l }) (blocks_set t.parts.given t.parts.cells i (Has new ws)
           ∙ ap (λ (y : Option (Block R.Denot)). slice_set (blocks_in t.parts.given t.parts.cells) i (with_value_in y new)) (sym here)) in (
@@ -239,8 +244,8 @@ module _ {M : Type 1} {𝓤 : Ura M} (𝓛 : Logic 𝓤) (R : RattleType) {V W :
       -- what the call has noted is what stands with the block
       found : (t : In) (sound : Sound t) (s : Share) (ρ' : ℕ) (y : R.Denot) (ws : List ℕ) (w : ℕ × V) → cell_at t.parts.cells i ≡ Held ρ' s y ws
           → held ρ' s ≡ held ρ e → y ≡ x → w.0 ≡ id → w.1 ≡ v
-          → ⟦ hands quarter i (held ρ' s) ⟧ ∗ ⟦ Hh ⟧ ∗ ⟦ word (block_of p) (i * 40 + (long z.roots * 8 + count_of p) + 32) 1 ⟧ ∗ ⟦ entry i ws ⟧ ∗ ⟦ value i new ⟧ ∗
-          ⟦ flft α s ⟧ ∗ ⟦ seen cv.code z.views_name three_quarters w.0 w.1 ⟧ ∗ all 𝓤 (Recells t i) ∗ ⟦ Led t ⟧ ⊢ upd 𝓤 PutBack
+          → ⟦ hands quarter i (held ρ' s) ⟧ ∗ ⟦ Hh ⟧ ∗ ⟦ word (block_of p) (i * 40 + (long z.roots * 8 + count_of p) + 32) 1 ⟧ ∗ ⟦ entry i ws ⟧ ∗
+          ⟦ value i new ⟧ ∗ ⟦ flft α s ⟧ ∗ ⟦ seen cv.code z.views_name three_quarters w.0 w.1 ⟧ ∗ all 𝓤 (Recells t i) ∗ ⟦ Led t ⟧ ⊢ upd 𝓤 PutBack
       found t sound s ρ' y ws w is same_hand same_value same_seat same_view =
           let d : Cell R.Denot = Has new ws in let cs : List (Cell R.Denot) = slice_set t.parts.cells i d in let told : V → Type 0 = so (Taken x) in
           let is_x : cell_at t.parts.cells i ≡ Held ρ' s x ws = is ∙ ap (λ (u : R.Denot). Held ρ' s u ws) same_value in
@@ -267,7 +272,8 @@ module _ {M : Type 1} {𝓤 : Ura M} (𝓛 : Logic 𝓤) (R : RattleType) {V W :
           settle 𝓛 PutBack (‵ I ⊛ ‵ (gone_on id told)) $ split ! $ suffices ! _ (upd_i 𝓤 PutBack) $ done !))
 
       by_cell : (t : In) (sound : Sound t) (c : Cell R.Denot) → cell_at t.parts.cells i ≡ c → Opened t c ⊢ upd 𝓤 PutBack
-      by_cell t sound Free is = qed 𝓛 (‵ (cell_of i Free) ∷ raw (all 𝓤 (Recells t i)) ∷ ‵ (Led t) ∷ (‵ Hh ⊛ ‵ (Note ρ three_quarters x id v) ⊛ ‵ (value i new)) ∷ []) ∵
+      by_cell t sound Free is = qed 𝓛 (‵ (cell_of i Free) ∷ raw (all 𝓤 (Recells t i)) ∷ ‵ (Led t) ∷
+          (‵ Hh ⊛ ‵ (Note ρ three_quarters x id v) ⊛ ‵ (value i new)) ∷ []) ∵
           move ! (3 ∷ []) $ split3 ! $ move ! (3 ∷ []) $ fsplit ! $ move ! (1 ∷ []) $ fsplit ! $ move ! (0 ∷ 3 ∷ []) $
           use2 𝓛 (given ⊥ (‵ (hands full_share i resting) ⊛ ‵ Hh)) (Makings.clash 𝓛 R cv holds keeps p z i (held ρ e) resting) $ learn ! (λ no. absurd no)
       by_cell t sound (Has y ws) is =

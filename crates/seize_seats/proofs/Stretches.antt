@@ -1,7 +1,6 @@
 -- A seat's stretch begins and ends, and invariants that are known by their numbers. Assumes `Logic`.
 use Rattle.std.proofs.Common.{◌≡◌, ℕ, zero, suc, ◌+◌, ◌≤◌, Bool, true, false, [], ◌∷◌, refl, ap, subst, arith}
 use seplogic.Ra.Ura.{Ura}
-use base.Share
 use base.Share.{three_quarters}
 use base.Stored.{Coded}
 use base.Logic.{SProp, ent, sep, ex, all, guard, upd, via, never, never_e, upd_i}

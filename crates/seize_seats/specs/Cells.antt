@@ -4,8 +4,8 @@ use base.Fml.{Share}
 use Rattle.seize_words.specs.declared.block.Block.{Block}
 
 -- `Claimed` is of a number that somebody has, and `Out` of one whose place a call has in its hand: it has left that share of the memory's lifetime for it.
--- `Has` is of a block, with the words of its entry. `Held` is of one whose value a call has in its hand: under which name it is noted whose call it is, the share
--- of the lifetime that it has left, the value that is there as long as the call has not ended, and the words.
+-- `Has` is of a block, with the words of its entry. `Held` is of one whose value a call has in its hand: the name under which it is noted whose call it is,
+-- the share of the lifetime that it has left, the value that is there as long as the call has not ended, and the words.
 pub data Cell (T : Type 0) : Type 0 where
   Free : Cell T
   Claimed : Cell T

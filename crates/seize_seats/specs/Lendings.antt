@@ -122,7 +122,8 @@ module _ (R : RattleType) (α : Lft) {V W : Type 0} (c : V → Gv) (γ : ℕ) (h
   abbrev pub note : ℕ → Share → R.Denot → ℕ → V → Fml
   note ρ q x id v = seen (coded× R.coded (coded× coded_ℕ itself)).code ρ q 0 (x, (id, c v))
 
-  -- The value of the block of the i-th number is in the hand of a call of a seat, of whose view nobody else has a share meanwhile, and which has the block to itself.
+  -- The value of the block of the i-th number is in the hand of a call of a seat, of whose view nobody else has a share meanwhile, and which has the block
+  -- to itself.
   abbrev pub in_hand : ℕ → ℕ → R.Denot → Fml
   in_hand ρ i x =
       fex (ℕ × V) (λ u. fsep (note ρ quarter x u.0 u.1) (fsep (seen c γ three_quarters u.0 u.1) (fact (Alone holds u.0 u.1 (suc i)))))

@@ -67,8 +67,8 @@ claim_owns δ i (suc found) = ftrue
 abbrev pub stride : RattleType → ℕ
 stride R = size (lone (OptionOf R).mir)
 
--- Under each number lie five words and a place for a value. α: the lifetime of the memory; δ: the name of the hands; lent: what stands for the value of a block,
--- which can be lent, under a number, at a place; had: what stands for one that a call has in its hand, by the name under which that is noted.
+-- Under each number lie five words and a place for a value. α: the lifetime of the memory; δ: the name of the hands; lent: what stands for the value of a
+-- block, which can be lent, under a number, at a place; had: what stands for one that a call has in its hand, by the name under which that is noted.
 module _ (R : RattleType) (α : Lft) (δ : ℕ) where
   abbrev pub hand : Share → ℕ → Hand → Fml
   hand q i h = seen hand_coded.code δ q i h

@@ -7,7 +7,7 @@ make-requires-clause-may c = makes c.loop-turn.owner.id ((c.args.from + c.loop-t
 
 pub value_for-seen-requires-clause-shown : goal.value_for-seen-requires-clause-shown
 value_for-seen-requires-clause-shown c =
-    shows_to_both c.loop-turn.guard.id c.loop-turn.guard.view c.make.new.owner.id c.in-Ok.number ((c.args.from + c.loop-turn.turn) % 2 ^ 64) c.make.new.owner.view c.in-Ok.ensures.goes
+    shows_to_both _ _ c.make.new.seat.id c.in-Ok.number ((c.args.from + c.loop-turn.turn) % 2 ^ 64) c.make.new.seat.view c.in-Ok.ensures.goes
 
 pub take-requires-clause-may : goal.take-requires-clause-may
-take-requires-clause-may c = takes c.make.new.owner.id c.in-Ok.number ((c.args.from + c.loop-turn.turn) % 2 ^ 64) c.make.new.owner.view c.in-Ok.ensures.goes
+take-requires-clause-may c = takes c.make.new.seat.id c.in-Ok.number ((c.args.from + c.loop-turn.turn) % 2 ^ 64) c.make.new.seat.view c.in-Ok.ensures.goes

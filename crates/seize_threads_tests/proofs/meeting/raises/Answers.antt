@@ -1,3 +1,4 @@
+use Rattle.std.proofs.Common.{arith}
 use Rattle.seize_threads_tests.proofs.Growing.{loads, raises}
 use Rattle.seize_threads_tests.proofs.meeting.raises.Goals as goal
 
