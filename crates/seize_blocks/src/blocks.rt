@@ -295,10 +295,7 @@ impl<T, R: Rule<T>> Blocks<T, R> {
         } else {
             0
         };
-        match self
-            .words
-            .value(guard, owner, block, index, self.values.at)
-        {
+        match self.words.value(guard, owner, block, index, self.values.at) {
             Some(value) => value,
             None => unreachable!(),
         }

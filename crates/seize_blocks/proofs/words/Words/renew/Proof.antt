@@ -1,11 +1,11 @@
 -- `renew` ends the lifetime of the memory and begins another one, and takes no step of the machine.
-use Rattle.std.proofs.Common.{◌≡◌, ℕ, List, [], ◌∷◌, sym, refl}
+use Rattle.std.proofs.Common.{◌≡◌, ℕ, List, [], ◌∷◌, refl}
 use mir.Syntax.{dcons, dnil, a_type, named}
 use mir.MapTy.{inst_fn}
 use mir.Val.{Val, vptr, vunit}
 use base.Logic.{SProp, emp}
-use base.Fml.{Lft, Fml, Incl-trans, ftrue, fsep, flft}
-use types.Kit.{‵, raw, ◌⊛◌, given, later, ◌$◌, ◌∵◌, !, qed, by, move, keep, drop, split, join, fsplit, fsplit3, fjoin, fjoin3, learn, use0, use2, await, feq_i, some as items, pick}
+use base.Fml.{Fml, Incl-trans, ftrue, fsep, flft}
+use types.Kit.{‵, raw, ◌⊛◌, given, later, ◌$◌, ◌∵◌, !, qed, by, move, keep, split, join, fsplit, fsplit3, fjoin, fjoin3, learn, use0, use2, await, feq_i, some as items, pick}
 use types.Run.{of_opd, unit_lit, returns, enter}
 use types.ByLocal.{alloc_all, pass_all, free_all, look_at, sets, env}
 use contract.Running.{tables}

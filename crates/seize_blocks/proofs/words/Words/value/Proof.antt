@@ -6,7 +6,7 @@ use mir.Val.{Val, vint, vptr}
 use prog.Wp.{WpFn}
 use base.Logic.{SProp, ent, emp, id⊢}
 use base.Fml.{Lft, Fml, ftrue, fsep, flft, fhide}
-use types.Kit.{‵, raw, ◌⊛◌, some as items, given, later, at_ret, ◌$◌, ◌∵◌, !, qed, by, move, keep, drop, split, join, fsplit, group, fsplit3, fjoin, pick, learn, use0, use1, use3, await, suffices, rewrite, feq_i}
+use types.Kit.{‵, raw, ◌⊛◌, some as items, given, later, at_ret, ◌$◌, ◌∵◌, !, qed, by, move, keep, drop, split, join, fsplit, group, fsplit3, fjoin, pick, learn, use0, use1, await, suffices, rewrite, feq_i}
 use types.Run.{stop, addr, of_opd, bin, size_word, first, blocks, exec, returns, enter}
 use types.ByLocal.{alloc_all, pass_all, free_all, look_at, get, through, sets, sets_last, is, env}
 use contract.Running.{tables}
