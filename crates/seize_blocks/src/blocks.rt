@@ -1,5 +1,5 @@
 //! The memory as a whole, as those use it who share it.
-ghost use Rattle.std.specs.Prelude.{◌≡◌, ◌+◌, ◌*◌, ◌≤◌, ◌<◌, ◌^◌, IfSome};
+ghost use Rattle.std.specs.Prelude.{◌≡◌, ◌+◌, ◌-◌, ◌*◌, ◌≤◌, ◌<◌, ◌^◌, IfSome};
 ghost use Rattle.seize_words.specs.Op.{Load, Store, Swap, Add, Or, Exchange, Make, Take, Rewrite, Room, Found, Stored, Exchanged, Made, Taken, Roomed};
 ghost use Rattle.seize_seats.specs.State.{Allows, Owns, Turns, Comes, Meets, Renews};
 ghost use Rattle.seize_seats.specs.Lines.{long};
@@ -51,6 +51,17 @@ impl<T, R: Rule<T>> Blocks<T, R> {
         ensures { result ≡ index * 5 + long self.now.words.id.roots }
     {
         index * 5 + (self.roots + self.roots + 32) * 16
+    }
+
+    /// The index of a number, if there is such a block.
+    fn index_of(&self, block: u64) -> u64
+        ensures { (result ≤ 2 ^ 32) × (0 < block → block ≤ self.now.words.id.count → result ≡ block - 1) }
+    {
+        if block > 0 && block <= self.count {
+            block - 1
+        } else {
+            0
+        }
     }
 
     /// A seat more.
@@ -224,11 +235,7 @@ impl<T, R: Rule<T>> Blocks<T, R> {
         ensures same { (seat.new.base ≡ seat.old.base) × (seat.new.id ≡ seat.old.id) }
         ensures goes { R.then seat.old.view (Take block) (Taken result) seat.new.view }
     {
-        let index = if block > 0 && block <= self.count {
-            block - 1
-        } else {
-            0
-        };
+        let index = self.index_of(block);
         let first = self.first_of(index);
         let value = self.words.take(
             seat,
@@ -255,11 +262,7 @@ impl<T, R: Rule<T>> Blocks<T, R> {
         ensures same { (seat.new.base ≡ seat.old.base) × (seat.new.id ≡ seat.old.id) }
         ensures goes { R.then seat.old.view (Rewrite block value) (Taken result) seat.new.view }
     {
-        let index = if block > 0 && block <= self.count {
-            block - 1
-        } else {
-            0
-        };
+        let index = self.index_of(block);
         match self
             .words
             .rewrite(seat, block, index, self.values.at, value)
@@ -290,11 +293,7 @@ impl<T, R: Rule<T>> Blocks<T, R> {
         requires shown { ShownToBoth (R.holds self.now.words.fixed) guard.now.id guard.now.view owner.now.id owner.now.view block }
         ensures { IsValueOfBoth (R.holds self.now.words.fixed) guard.now.id guard.now.view owner.now.id owner.now.view block result.now }
     {
-        let index = if block > 0 && block <= self.count {
-            block - 1
-        } else {
-            0
-        };
+        let index = self.index_of(block);
         match self.words.value(guard, owner, block, index, self.values.at) {
             Some(value) => value,
             None => unreachable!(),
