@@ -1,4 +1,4 @@
-//! Tests of the memory that threads share, and of the collector's rows over it: two threads at a time, each with a seat of its own.
+//! Tests of the memory that threads share, and of the collector's rows over it: two threads at a time, or four, each with a seat of its own.
 #![tactic(auto)]
 
 #[cfg(test)]
