@@ -1,35 +1,36 @@
 //! In which order values come back: the drop of each stores the next number of a count.
-ghost use Rattle.std.specs.Prelude.{None};
+ghost use Rattle.std.specs.Prelude.{◌≡◌, ◌<◌, None};
+ghost use Rattle.seize_shared.specs.declared.view.Has.TheVariants.{Nothing};
+ghost use Rattle.seize_shared.specs.declared.view.View.TheVariants.{Inside};
 
 use crate::ground::{Ground, SIZE};
-use crate::retiring::table;
+use crate::retiring::{Table, table};
 use seize::rows::Defers;
 use seize_blocks::Home;
 use seize_shared::{Caller, Fixed, OfRows};
 use std::alloc::{AllocError, Global};
-use std::sync::Wait;
-use std::sync::atomic::AtomicU64;
 use std::sync::atomic::Ordering::SeqCst;
+use std::sync::{Arc, Wait};
 use std::test::Fail;
 
 /// How many values are retired.
 const MANY: usize = 30;
 
 /// A value whose drop stores the next number at its place of a table; the table's first place has the count.
-struct Numbered<'t> {
+struct Numbered {
     place: usize,
-    numbers: &'t Vec<AtomicU64>,
+    numbers: Table,
 }
 
 /// The word of a place.
-fn at(numbers: &Vec<AtomicU64>, place: usize) -> u64 {
+fn at(numbers: &Table, place: usize) -> u64 {
     match numbers.get(place) {
         Some(word) => word.load(SeqCst),
         None => 0,
     }
 }
 
-impl<'t> Drop for Numbered<'t> {
+impl Drop for Numbered {
     fn drop(self) {
         let Numbered { place, numbers } = self;
         if let (Some(count), Some(word)) = (numbers.first(), numbers.get(place)) {
@@ -38,7 +39,7 @@ impl<'t> Drop for Numbered<'t> {
     }
 }
 
-impl<'t> Defers for Numbered<'t> {
+impl Defers for Numbered {
     ghost defers = { λ _. None };
 
     fn deferred(&self) -> Option<u64> {
@@ -46,24 +47,37 @@ impl<'t> Defers for Numbered<'t> {
     }
 }
 
-/// Within one section puts a value at the root for each place from 1 on, and one more; retires the one that was there and tries the batch, each time. It answers
-/// how many came back before it left.
-fn retires<'t, W: Wait>(
+/// Puts the value of a place at the root; retires the one that was there and tries the batch.
+fn puts<W: Wait>(
     rt: &W,
-    ground: &Ground<'_, Numbered<'t>>,
-    numbers: &'t Vec<AtomicU64>,
-) -> Option<u64> {
+    caller: &mut Caller<'_, Numbered>,
+    slot: u64,
+    numbers: &Table,
+    place: usize,
+) -> Option<()>
+    requires inside { caller.old.seat.view ≡ Inside slot Nothing }
+    requires root { 0 < caller.old.blocks.now.words.fixed.roots }
+    ensures inside { caller.new.seat.view ≡ Inside slot Nothing }
+    ensures blocks { caller.new.blocks ≡ caller.old.blocks }
+{
+    let numbers = Arc::try_clone(numbers).ok()?;
+    let Ok(block) = caller.make(slot, Numbered { place, numbers }) else {
+        return None;
+    };
+    if let Some(old) = caller.publish(slot, 0, block) {
+        caller.retire(rt, slot, old);
+        caller.flush(rt, slot);
+    }
+    Some(())
+}
+
+/// Within one section puts a value at the root for each place from 1 on, and one more; answers how many came back before it left.
+fn retires<W: Wait>(rt: &W, ground: &Ground<'_, Numbered>, numbers: &Table) -> Option<u64> {
     let mut caller = Caller::new(ground.blocks, SIZE);
     let slot = caller.register().ok()?;
     caller.enter(slot);
     for turn in 0..MANY + 1 {
-        let place = turn + 1;
-        if let Ok(block) = caller.make(slot, Numbered { place, numbers }) {
-            if let Some(old) = caller.publish(slot, 0, block) {
-                caller.retire(rt, slot, old);
-                caller.flush(rt, slot);
-            }
-        }
+        puts(rt, &mut caller, slot, numbers, turn + 1)?;
     }
     let early = at(numbers, 0);
     caller.leave(rt, slot);
@@ -71,13 +85,13 @@ fn retires<'t, W: Wait>(
     Some(early)
 }
 
-/// That over one memory, whose end is not waited for: what came back is told, too.
-fn retires_alone<'t, W: Wait>(
+/// That over one memory; answers how many came back before its guard ended, and before the memory does.
+fn retires_alone<W: Wait>(
     rt: &W,
     alloc: Global,
-    numbers: &'t Vec<AtomicU64>,
+    numbers: &Table,
 ) -> Result<Option<(u64, u64)>, AllocError> {
-    let home = Home::<Numbered<'t>, OfRows>::open(
+    let home = Home::<Numbered, OfRows>::open(
         alloc,
         1,
         64,
@@ -89,12 +103,14 @@ fn retires_alone<'t, W: Wait>(
     let ground = Ground {
         blocks: &home.blocks,
     };
-    let early = retires(rt, &ground, numbers);
-    Ok(early.map(|early| (early, at(numbers, 0))))
+    let Some(early) = retires(rt, &ground, numbers) else {
+        return Ok(None);
+    };
+    Ok(Some((early, at(numbers, 0))))
 }
 
 /// Each place from 1 on has the number of those that were retired after it, and one.
-fn is_last_first(numbers: &Vec<AtomicU64>) -> bool {
+fn is_last_first(numbers: &Table) -> bool {
     for turn in 0..MANY {
         if at(numbers, turn + 1) != (MANY - turn) as u64 {
             return false;
