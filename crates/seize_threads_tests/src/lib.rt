@@ -12,6 +12,8 @@ mod looking;
 #[cfg(test)]
 mod making;
 #[cfg(test)]
+mod order;
+#[cfg(test)]
 mod owning;
 #[cfg(test)]
 mod retiring;
