@@ -10,7 +10,7 @@ use std::thread;
 use std::thread::Threads;
 
 /// How often each of the four goes about.
-const TIMES: usize = 5_000;
+const TIMES: usize = 20_000;
 
 /// Looks at the root and puts a value there, so many times, and takes then away what is there. It answers how many values it has put, or none where one that it
 /// saw had been dropped.
