@@ -16,14 +16,15 @@ use Rattle.seize.specs.declared.rows.settle.Settling.TheVariants as settling_at
 use Rattle.seize.specs.declared.rows.settle.Settled.{Settled}
 use Rattle.seize.specs.declared.rows.settle.Settled.TheVariants as settled
 use Rattle.seize.specs.Leave.{standing, settled as leave_settled}
-use Rattle.seize.specs.Settle.{retiring, settle_plan, plan_at}
-use Rattle.seize.specs.World.{World, Row, Use, Hand, Request, Register', Enter', Leave', Unregister', Retire, IsTaken, one_more, one_less, with_at, with_row, with_use, with_hand, settles_on, leaves_on, at_start}
+use Rattle.seize.specs.Settle.{retiring, flushing, settle_plan, plan_at}
+use Rattle.seize.specs.World.{World, Row, Use, Hand, Request, Register', Enter', Leave', Unregister', Retire}
+use Rattle.seize.specs.World.{Flush, IsTaken, one_more, one_less, with_at, with_row, with_use, with_hand, settles_on, leaves_on, at_start}
 use Rattle.seize.specs.World as world
 use Rattle.seize_rule.proofs.Rows.Others.{with_here, with_other}
 use Rattle.seize_acts.proofs.Answers.{same_some}
 use Rattle.seize_seats.specs.State.{State, view_of, Turns, Comes, Starts}
 use Rattle.seize_shared.specs.Rows.{row_of, use_of, leave_of, counting, IsShort, IsUsed, IsKnown, Fits, Holds, Keeps}
-use Rattle.seize_shared.specs.Promises.{IsNext, RulesStart, SeatsCome, RowsTurn}
+use Rattle.seize_shared.specs.Promises.{IsNext, IsFree, RulesStart, SeatsCome, RowsTurn}
 use Rattle.seize_shared.specs.declared.view.View.{View}
 use Rattle.seize_shared.specs.declared.view.View.TheVariants.{Rests, Registers, Outside, Enters, Inside, Settles, Leaves, Left, Frees}
 use Rattle.seize_shared.specs.declared.view.Has.{Has}
@@ -140,6 +141,30 @@ module _ {T : Type 0} (defers : T → Option ℕ) (fixed : Fixed) where
       (λ x a e. same_slot t x (world.Inside 1) a (world.Inside 0) e))
       refl
 
+  -- the batch is tried
+  flushes : (id t : ℕ) (has : Has) → Turns H Keeps id (Inside t has) (λ x. x ≡ Settles (flushing t fixed.batch_size) Retiring None)
+  flushes id t has s h at_id =
+      let c : Settle = flushing t fixed.batch_size in let u : View T = Settles c Retiring None in
+      let f = h.seats id (Inside t has) at_id in
+      let n : World T = with_use (with_row s.world id (world.Settles c)) t (one_more (s.world.uses t)) in
+      moved defers fixed s id (Inside t has) u s.memory n (λ x. x ≡ u) h at_id
+      (begun defers fixed s id (Inside t has) h at_id (Flush t) u n (f.row, (subst (λ (a : Use). IsTaken a) (sym f.slot) tt, refl)) refl refl
+      (λ j c ne. (λ is. is, λ is. is)) (λ c r is. is)
+      (λ j ne. with_other s.world.row id j (world.Settles c) ne)
+      (λ x apart. with_other s.world.uses t x (one_more (s.world.uses t)) (λ e. apart (world.Inside 0) (ap (λ (k : ℕ). used_as k (world.Inside 0)) (sym e))))
+      (record {
+        row = with_here s.world.row id (world.Settles c);
+        slot = with_here s.world.uses t (one_more (s.world.uses t)) ∙ ap one_more f.slot;
+        short = tt;
+        known = tt;
+      })
+      (λ x a e. same_slot t x (world.Inside 1) a (world.Inside 0) e))
+      refl
+
+  goes_free : (id t : ℕ) (has : Has) (u : View T) → IsFree fixed t u → Turns H Keeps id (Inside t has) (λ x. x ≡ u)
+  goes_free id t has u (inl is) = subst (λ (y : View T). Turns H Keeps id (Inside t has) (λ x. x ≡ y)) (sym is) (leaves id t has)
+  goes_free id t has u (inr is) = subst (λ (y : View T). Turns H Keeps id (Inside t has) (λ x. x ≡ y)) (sym is) (flushes id t has)
+
   -- a slot is looked for
   abbrev First : Register
   First = record { slot = 0; enters = false; stands = at.Begin }
@@ -148,14 +173,16 @@ module _ {T : Type 0} (defers : T → Option ℕ) (fixed : Fixed) where
   registers id s h at_id =
       let n : World T = with_row s.world id (world.Registers First) in
       moved defers fixed s id Rests (Registers First) s.memory n (λ x. x ≡ Registers First) h at_id
-      (begun defers fixed s id Rests h at_id (Register' false) (Registers First) n ((h.seats id Rests at_id).row, refl) refl refl (λ j b ne. (λ is. is, λ is. is)) (λ b r is. is)
+      (begun defers fixed s id Rests h at_id (Register' false) (Registers First) n ((h.seats id Rests at_id).row, refl) refl refl
+      (λ j b ne. (λ is. is, λ is. is)) (λ b r is. is)
       (λ j ne. with_other s.world.row id j (world.Registers First) ne) (λ t apart. refl)
       (record { row = with_here s.world.row id (world.Registers First); slot = tt; short = (refl, tt); known = tt })
       (λ t b e. absurd (cc e)))
       refl
 
   -- a settling that is over ends
-  settled_ends : (id : ℕ) (c : Settle) (seen : Option (ℕ × T)) → c.stands ≡ settling_at.Over → Turns H Keeps id (Settles c Retiring seen) (λ x. x ≡ Inside c.slot Nothing)
+  settled_ends : (id : ℕ) (c : Settle) (seen : Option (ℕ × T)) → c.stands ≡ settling_at.Over
+      → Turns H Keeps id (Settles c Retiring seen) (λ x. x ≡ Inside c.slot Nothing)
   settled_ends id c seen over s h at_id =
       let v : View T = Settles c Retiring seen in let u : View T = Inside c.slot Nothing in
       let n : World T = settles_on s.world id c s.world.memory (c, settled.Done) in
@@ -211,8 +238,8 @@ module _ {T : Type 0} (defers : T → Option ℕ) (fixed : Fixed) where
   turns id (Outside t) u (inl is) = subst (λ (y : View T). Turns H Keeps id (Outside t) (λ x. x ≡ y)) (sym is) (enters id t)
   turns id (Outside t) u (inr is) = subst (λ (y : View T). Turns H Keeps id (Outside t) (λ x. x ≡ y)) (sym is) (frees id t)
   turns id (Enters t) u is = absurd is
-  turns id (Inside t Nothing) u is = subst (λ (y : View T). Turns H Keeps id (Inside t Nothing) (λ x. x ≡ y)) (sym is) (leaves id t Nothing)
-  turns id (Inside t (Seen b)) u is = subst (λ (y : View T). Turns H Keeps id (Inside t (Seen b)) (λ x. x ≡ y)) (sym is) (leaves id t (Seen b))
+  turns id (Inside t Nothing) u is = goes_free id t Nothing u is
+  turns id (Inside t (Seen b)) u is = goes_free id t (Seen b) u is
   turns id (Inside t (Cut b)) u is = subst (λ (y : View T). Turns H Keeps id (Inside t (Cut b)) (λ x. x ≡ y)) (sym is) (retires id t b)
   turns id (Inside t (Made b)) u is = absurd is
   turns id (Settles c Retiring seen) u is =

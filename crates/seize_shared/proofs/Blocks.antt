@@ -68,7 +68,9 @@ module _ {T : Type 0} (defers : T → Option ℕ) (fixed : Fixed) (s : State T (
       let here = world_took s h.memory op out m took in
       let free = (made_one w.memory value words b here.0.0).was_free in
       users defers fixed s id t had h at m n (Made b) (record {
-        came = came_then defers fixed w n (Makes id value words) h.came (out, m, subst (λ (o : Option ℕ). HasListWord defers o words) (sym list) tt, here, refl);
+        came =
+            came_then defers fixed w n (Makes id value words) h.came
+            (out, m, subst (λ (o : Option ℕ). HasListWord defers o words) (sym list) tt, here, refl);
         memory = refl;
         row = refl;
         uses = refl;
@@ -90,7 +92,9 @@ module _ {T : Type 0} (defers : T → Option ℕ) (fixed : Fixed) (s : State T (
       let n : World T = made_by defers w id m out in
       let here = world_took s h.memory op out m took in
       users defers fixed s id t had h at m n Nothing (record {
-        came = came_then defers fixed w n (Makes id value words) h.came (out, m, subst (λ (o : Option ℕ). HasListWord defers o words) (sym list) tt, here, refl);
+        came =
+            came_then defers fixed w n (Makes id value words) h.came
+            (out, m, subst (λ (o : Option ℕ). HasListWord defers o words) (sym list) tt, here, refl);
         memory = refl;
         row = refl;
         uses = refl;

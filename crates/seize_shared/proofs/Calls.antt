@@ -1,16 +1,16 @@
 -- What a call of the shared memory asks for: by what the seat knows, its turn or operation is next.
 use Rattle.std.specs.Prelude.{◌<◌, ◌≤◌, Option, Some, None, nat_lt, if◌then◌else◌}
-use Rattle.std.proofs.Common.{◌≡◌, ℕ, ◌^◌, ◌%◌, Bool, true, false, refl, sym, subst, ap, ◌∙◌, arith}
+use Rattle.std.proofs.Common.{◌≡◌, ℕ, ◌^◌, ◌%◌, Bool, true, false, inl, inr, refl, sym, subst, ap, ◌∙◌, arith}
 use Rattle.std.proofs.lemmas.Bool.{eq-eqb, ne_eqb}
 use Rattle.seize_words.specs.Op.{Op, Load, Swap, Make, Take, Found}
 use Rattle.seize_words.specs.Word.{block_in, link_to}
 use Rattle.seize_words.specs.declared.at.At.TheVariants.{Root, Slot}
 use Rattle.seize.specs.declared.states.TheConstants.{HEAD, IDLE, ACTIVE}
 use Rattle.seize.specs.declared.rows.settle.Settle.{Settle}
-use Rattle.seize.specs.Settle.{counting_down}
+use Rattle.seize.specs.Settle.{flushing, counting_down}
 use Rattle.seize_seats.specs.Lendings.{Shown}
 use Rattle.seize_seats.specs.State.{Allows, Turns}
-use Rattle.seize_shared.specs.Begun.{leaving, Makes}
+use Rattle.seize_shared.specs.Begun.{leaving, flushes, Makes}
 use Rattle.seize_shared.specs.Promises.{Names, IsLooking, IsNext, op_of}
 use Rattle.seize_shared.specs.Rows.{Holds, Keeps}
 use Rattle.seize_shared.specs.Told.{list_taken, cut_in, seen_in, told}
@@ -18,7 +18,7 @@ use Rattle.seize_shared.specs.declared.view.View.{View}
 use Rattle.seize_shared.specs.declared.view.View.TheVariants.{Inside, Settles, Leaves, Left}
 use Rattle.seize_shared.specs.declared.view.Has.{Has}
 use Rattle.seize_shared.specs.declared.view.Has.TheVariants.{Nothing, Made, Seen, Cut}
-use Rattle.seize_shared.specs.declared.view.Why.TheVariants.{Ending}
+use Rattle.seize_shared.specs.declared.view.Why.TheVariants.{Retiring, Ending}
 use Rattle.seize_shared.specs.declared.view.Fixed.{Fixed}
 use Rattle.seize_shared.proofs.Beginnings.{rows_turn}
 use Rattle.seize_shared.proofs.GoesOn.{rows_go_on}
@@ -68,8 +68,8 @@ module _ {T : Type 0} (defers : T → Option ℕ) (fixed : Fixed) (id : ℕ) (v 
 module _ (T : Type 0) (fixed : Fixed) (slot : ℕ) where
   -- leaving is next where a block was seen, or none is known
   pub leaves_next : (has : Has) → IsLooking has → IsNext {T = T} fixed (Inside slot has) (leaving fixed (Inside slot has))
-  leaves_next Nothing looks = refl
-  leaves_next (Seen b) looks = refl
+  leaves_next Nothing looks = inl refl
+  leaves_next (Seen b) looks = inl refl
   leaves_next (Made b) looks = absurd looks
   leaves_next (Cut b) looks = absurd looks
 
@@ -78,6 +78,19 @@ module _ (T : Type 0) (fixed : Fixed) (slot : ℕ) where
   leaves_so (Seen b) looks = refl
   leaves_so (Made b) looks = absurd looks
   leaves_so (Cut b) looks = absurd looks
+
+  -- and so is the trying of the batch
+  pub flushes_next : (has : Has) → IsLooking has → IsNext {T = T} fixed (Inside slot has) (flushes fixed (Inside slot has))
+  flushes_next Nothing looks = inr refl
+  flushes_next (Seen b) looks = inr refl
+  flushes_next (Made b) looks = absurd looks
+  flushes_next (Cut b) looks = absurd looks
+
+  pub flushes_so : (has : Has) → IsLooking has → flushes {T = T} fixed (Inside slot has) ≡ Settles (flushing slot fixed.batch_size) Retiring None
+  flushes_so Nothing looks = refl
+  flushes_so (Seen b) looks = refl
+  flushes_so (Made b) looks = absurd looks
+  flushes_so (Cut b) looks = absurd looks
 
 -- a list with entries is counted down, and an empty one is settled
 is_above : (head : ℕ) → ACTIVE < head → nat_lt ACTIVE head ≡ true
@@ -123,5 +136,6 @@ module _ {T : Type 0} (defers : T → Option ℕ) (v w : View T) (slot : ℕ) wh
   list_told size head is so = subst (λ (x : View T). told defers x (Swap (Slot slot HEAD) IDLE) (Found head) w) is so
 
   -- a list with entries is settled by the row that counts it down
-  pub row_told : (size head : ℕ) (row : Settle) → w ≡ list_taken slot size head → ACTIVE < head → row ≡ counting_down slot size head → w ≡ Settles row (Ending size) None
+  pub row_told : (size head : ℕ) (row : Settle) → w ≡ list_taken slot size head → ACTIVE < head → row ≡ counting_down slot size head
+      → w ≡ Settles row (Ending size) None
   row_told size head row is lt row_is = is ∙ list_settles T slot size head lt ∙ ap (λ (c : Settle). Settles c (Ending size) None) (sym row_is)

@@ -69,7 +69,8 @@ module _ {T : Type 0} (defers : T → Option ℕ) (fixed : Fixed) where
       can : Can s.memory (Store (Slot t HEAD) FREE)
       can = subst (λ (m : Mem T). Can m (Store (Slot t HEAD) FREE)) (sym h.memory) (may s id (Frees t) h at).0
 
-      goes : (out : Out T) (m : Mem T) → Took s.memory (Store (Slot t HEAD) FREE) out m → Goes H Keeps s m id (told defers (Frees t) (Store (Slot t HEAD) FREE) out)
+      goes : (out : Out T) (m : Mem T) → Took s.memory (Store (Slot t HEAD) FREE) out m
+          → Goes H Keeps s m id (told defers (Frees t) (Store (Slot t HEAD) FREE) out)
       goes out m took =
           let n : World T = with_use (after_step s.world id m world.Rests []) t world.Vacant in
           moved defers fixed s id (Frees t) Rests m n (told defers (Frees t) (Store (Slot t HEAD) FREE) out) h at

@@ -29,7 +29,8 @@ use Rattle.seize_shared.specs.declared.view.Has.TheVariants.{Nothing, Made, Seen
 use Rattle.seize_shared.specs.declared.view.Fixed.{Fixed}
 use Rattle.seize_shared.proofs.Lists.{there, elsewhere}
 use Rattle.seize_shared.proofs.Steps.{came_then, reached}
-use Rattle.seize_shared.proofs.Users.{apart_making, cutting_making, use_making, making_use, cutting_use, same_use, beside, world_took, making_not_held, Users, users}
+use Rattle.seize_shared.proofs.Users.{apart_making, cutting_making, use_making, making_use, cutting_use, same_use}
+use Rattle.seize_shared.proofs.Users.{beside, world_took, making_not_held, Users, users}
 
 -- a root is there
 root_there : (l : List ℕ) (r : ℕ) → r < length l → IsSome (slice_get l r)
@@ -73,7 +74,8 @@ module _ {T : Type 0} (defers : T → Option ℕ) (fixed : Fixed) (s : State T (
   linked_held b a is =
       let life : r.good.state.life b ≡ IsLinked = subst (λ (k : Hand). HandFits k (r.good.state.life b)) is (r.good.hands b) in
       let reach : reachable b w.log ≡ true =
-      ap (reachable b) (sym r.good.logged) ∙ ap is_somewhere (r.good.inv.logged.reaches b) ∙ ap (λ (l : Life). is_somewhere (place_of r.good.state.life l)) life in
+      ap (reachable b) (sym r.good.logged) ∙ ap is_somewhere (r.good.inv.logged.reaches b)
+      ∙ ap (λ (l : Life). is_somewhere (place_of r.good.state.life l)) life in
       reached_held t b w.log reach is_open_here
 
   -- what a root names is held by the section from now on
@@ -128,18 +130,22 @@ module _ {T : Type 0} (defers : T → Option ℕ) (fixed : Fixed) (s : State T (
           let same : word ≡ found = same_some word found (sym (there s.memory.roots a word old took.0) ∙ set) in
           subst (λ (k : ℕ). (block_in found ≡ 0) ⊎ (hand (block_in found) ≡ world.InUse k)) (sym is)
           (subst (λ (k : ℕ). (block_in k ≡ 0) ⊎ (hand (block_in k) ≡ world.InUse a)) same named)
-      by (inr ne) q = elim (h.roots c found (sym (elsewhere s.memory.roots a c word ne) ∙ q)) as (λ _. (block_in found ≡ 0) ⊎ (hand (block_in found) ≡ world.InUse c)) [
-        | inl none ↦ inl none
-        | inr is ↦ inr (others (block_in found) c ne is)
-      ]
+      by (inr ne) q =
+          let was = h.roots c found (sym (elsewhere s.memory.roots a c word ne) ∙ q) in
+          elim was as (λ _. (block_in found ≡ 0) ⊎ (hand (block_in found) ≡ world.InUse c)) [
+            | inl none ↦ inl none
+            | inr is ↦ inr (others (block_in found) c ne is)
+          ]
 
   wrote : (a word old : ℕ) (m : Mem T) → Took s.memory (Swap (Root a) word) (Found old) m → Came defers fixed (record w { memory = m })
   wrote a word old m took =
-      came_then defers fixed w (record w { memory = m }) (Operates (Swap (Root a) word)) h.came (Found old, m, tt, world_took s h.memory (Swap (Root a) word) (Found old) m took, refl)
+      came_then defers fixed w (record w { memory = m }) (Operates (Swap (Root a) word)) h.came
+      (Found old, m, tt, world_took s h.memory (Swap (Root a) word) (Found old) m took, refl)
 
   value_written : (a word old : ℕ) (m : Mem T) → Took s.memory (Swap (Root a) word) (Found old) m → (b : ℕ) → value_at m b ≡ value_at w.memory b
   value_written a word old m took b =
-      ap (λ (x : Mem T). value_at x b) (world_took s h.memory (Swap (Root a) word) (Found old) m took).1 ∙ own_op_value defers w.memory b (Swap (Root a) word) (Found old) tt
+      ap (λ (x : Mem T). value_at x b) (world_took s h.memory (Swap (Root a) word) (Found old) m took).1
+      ∙ own_op_value defers w.memory b (Swap (Root a) word) (Found old) tt
 
   -- the block that was at the root, if there was one, is unlinked; `n` is the world before that, in which it is linked there
   unlinked : (a old : ℕ) (m : Mem T) (n : World T) (so : View T → Type 0) → so (Inside t (cut_in old)) → Users defers fixed s id t m n Nothing
@@ -249,7 +255,8 @@ module _ {T : Type 0} (defers : T → Option ℕ) (fixed : Fixed) (s : State T (
           inr (λ e. making_use id a (sym mine ∙ ap w.hand (sym (block_of_link b) ∙ e) ∙ linked))
 
   -- a root is cleared
-  clears : (a old : ℕ) (m : Mem T) → Took s.memory (Swap (Root a) 0) (Found old) m → (so : View T → Type 0) → so (Inside t (cut_in old)) → Goes H Keeps s m id so
+  clears : (a old : ℕ) (m : Mem T) → Took s.memory (Swap (Root a) 0) (Found old) m → (so : View T → Type 0) → so (Inside t (cut_in old))
+      → Goes H Keeps s m id so
   clears a old m took so tells =
       let n : World T = record w { memory = m } in
       let was = h.roots a old took.0 in
@@ -286,9 +293,11 @@ module _ (T : Type 0) (defers : T → Option ℕ) where
   pub made_are_linked : MadeAreLinked T defers
   made_are_linked b a fixed id t lt s h at = (root_can defers fixed s id t (Made b) h at a lt, λ out m took. by out m took)
     where
-      by : (out : Out T) (m : Mem T) → Took s.memory (Swap (Root a) (link_to b)) out m → Goes (Holds defers fixed) Keeps s m id (told defers (Inside t (Made b)) (Swap (Root a) (link_to b)) out)
+      by : (out : Out T) (m : Mem T) → Took s.memory (Swap (Root a) (link_to b)) out m
+          → Goes (Holds defers fixed) Keeps s m id (told defers (Inside t (Made b)) (Swap (Root a) (link_to b)) out)
       by (Found old) m took =
-          links defers fixed s id t (Made b) h at b a refl old m took (told defers (Inside t (Made b)) (Swap (Root a) (link_to b)) (Found old)) (cut_in old, refl, refl)
+          links defers fixed s id t (Made b) h at b a refl old m took (told defers (Inside t (Made b)) (Swap (Root a) (link_to b)) (Found old))
+          (cut_in old, refl, refl)
       by Stored m took = absurd took.0
       by (Exchanged x) m took = absurd took.0
       by (OutMade x) m took = absurd took.0
@@ -298,7 +307,8 @@ module _ (T : Type 0) (defers : T → Option ℕ) where
   pub roots_are_cleared : RootsAreCleared T defers
   roots_are_cleared a fixed id t lt s h at = (root_can defers fixed s id t Nothing h at a lt, λ out m took. by out m took)
     where
-      by : (out : Out T) (m : Mem T) → Took s.memory (Swap (Root a) 0) out m → Goes (Holds defers fixed) Keeps s m id (told defers (Inside t Nothing) (Swap (Root a) 0) out)
+      by : (out : Out T) (m : Mem T) → Took s.memory (Swap (Root a) 0) out m
+          → Goes (Holds defers fixed) Keeps s m id (told defers (Inside t Nothing) (Swap (Root a) 0) out)
       by (Found old) m took =
           clears defers fixed s id t Nothing h at a old m took (told defers (Inside t Nothing) (Swap (Root a) 0) (Found old)) (cut_in old, refl, refl)
       by Stored m took = absurd took.0

@@ -2,7 +2,7 @@
 use Rattle.std.specs.Prelude.{◌≡◌, false, None}
 use Rattle.seize_words.specs.Word.{link_to}
 use Rattle.seize.specs.declared.rows.register.Registering.TheVariants as at
-use Rattle.seize.specs.Settle.{retiring}
+use Rattle.seize.specs.Settle.{retiring, flushing}
 use Rattle.seize_shared.specs.declared.view.View.{View}
 use Rattle.seize_shared.specs.declared.view.View.TheVariants.{Rests, Registers, Outside, Enters, Inside, Settles, Leaves, Left, Frees}
 use Rattle.seize_shared.specs.declared.view.Has.TheVariants.{Nothing, Seen, Cut}
@@ -21,6 +21,11 @@ module _ {T : Type 0} (fixed : Fixed) where
   abbrev pub retires : View T → View T
   retires (Inside t (Cut b)) = Settles (retiring t fixed.batch_size (link_to b)) Retiring None
   retires v = v
+
+  abbrev pub flushes : View T → View T
+  flushes (Inside t Nothing) = Settles (flushing t fixed.batch_size) Retiring None
+  flushes (Inside t (Seen b)) = Settles (flushing t fixed.batch_size) Retiring None
+  flushes v = v
 
   abbrev pub leaving : View T → View T
   leaving (Inside t Nothing) = Leaves t fixed.batch_size

@@ -10,7 +10,7 @@ use Rattle.seize.specs.declared.rows.register.Registering.TheVariants as at
 use Rattle.seize.specs.declared.rows.settle.Settling.TheVariants as settling_at
 use Rattle.seize.specs.declared.rows.settle.Settle.{Settle}
 use Rattle.seize.specs.Register.{register_plan}
-use Rattle.seize.specs.Settle.{retiring, settle_plan}
+use Rattle.seize.specs.Settle.{retiring, flushing, settle_plan}
 use Rattle.seize_seats.specs.Lendings.{Shown, IsValueOf}
 use Rattle.seize_seats.specs.State.{Starts, Comes, Allows, Turns}
 use Rattle.seize_shared.specs.Rows.{Holds, Keeps}
@@ -38,12 +38,16 @@ module _ {T : Type 0} (defers : T → Option ℕ) where
   op_of (Frees t) = Some (Store (Slot t HEAD) FREE)
   op_of _ = None
 
+-- within a section of this slot a seat that has no block in its hand may begin to leave, or to try its batch
+abbrev pub IsFree : {T : Type 0} → Fixed → ℕ → View T → Type 0
+IsFree fixed t u = (u ≡ Leaves t fixed.batch_size) ⊎ (u ≡ Settles (flushing t fixed.batch_size) Retiring None)
+
 -- what a seat may come to know without an operation: a row begins, or ends
 abbrev pub IsNext : {T : Type 0} → Fixed → View T → View T → Type 0
 IsNext fixed Rests u = u ≡ Registers record { slot = 0; enters = false; stands = at.Begin }
 IsNext fixed (Outside t) u = (u ≡ Enters t) ⊎ (u ≡ Frees t)
-IsNext fixed (Inside t Nothing) u = u ≡ Leaves t fixed.batch_size
-IsNext fixed (Inside t (Seen b)) u = u ≡ Leaves t fixed.batch_size
+IsNext fixed (Inside t Nothing) u = IsFree fixed t u
+IsNext fixed (Inside t (Seen b)) u = IsFree fixed t u
 IsNext fixed (Inside t (Cut b)) u = u ≡ Settles (retiring t fixed.batch_size (link_to b)) Retiring None
 IsNext fixed (Settles c Retiring seen) u = (c.stands ≡ settling_at.Over) × (u ≡ Inside c.slot Nothing)
 IsNext fixed (Settles c (Ending size) seen) u = (c.stands ≡ settling_at.Over) × (u ≡ Left c.slot size)

@@ -1,5 +1,6 @@
 //! What is promised of the rule of the collector's rows.
-ghost use Rattle.seize_shared.specs.Promises.{RulesStart, SeatsCome, RowsGoOn, RowsTurn, BlocksAreMade, MadeAreTaken, MadeAreLinked, RootsAreSeen, RootsAreCleared, KnownAreShown, LookedAreShown};
+ghost use Rattle.seize_shared.specs.Promises.{RulesStart, SeatsCome, RowsGoOn, RowsTurn, LookedAreShown};
+ghost use Rattle.seize_shared.specs.Promises.{BlocksAreMade, MadeAreTaken, MadeAreLinked, RootsAreSeen, RootsAreCleared, KnownAreShown};
 
 use seize::rows::Defers;
 
@@ -12,7 +13,8 @@ pub fn rows_go_on<T: Defers>()
     ensures looked { LookedAreShown T T.defers }
 {}
 
-/// Within a section a block may be made, taken away by its maker, put at a root, seen there, and taken from there, and the block that is known may be looked at.
+/// Within a section a block may be made, taken away by its maker, put at a root, seen there, and taken from there, and the block that is known may be
+/// looked at.
 pub fn sections_go_on<T: Defers>()
     ensures made { BlocksAreMade T T.defers }
     ensures taken { MadeAreTaken T T.defers }

@@ -10,7 +10,7 @@ ghost use Rattle.seize_shared.specs.declared.view.View.TheVariants.{Outside, Ins
 ghost use Rattle.seize_shared.specs.declared.view.Why.{Why};
 
 use crate::caller::Caller;
-use crate::turns::{Ending, Leaving, Retiring};
+use crate::turns::{Ending, Flushing, Leaving, Retiring};
 use seize::Machine;
 use seize::rows::{Defers, Settle, Settled, Settling};
 use seize::states::{ACTIVE, HEAD, IDLE};
@@ -82,6 +82,18 @@ impl<'a, T: Defers + Drop> Caller<'a, T> {
         self.blocks.turn::<Leaving>(&mut self.seat);
         let head = self.blocks.swap(&mut self.seat, At::Slot(slot, HEAD), IDLE);
         self.counts_down(rt, slot, head);
+        self.blocks.turn::<Ending>(&mut self.seat);
+    }
+
+    /// Tries its batch, whatever its length. A value that is reclaimed is dropped. What it has seen it doesn't know any more.
+    pub fn flush<W: Wait>(&mut self, rt: &W, slot: u64)
+        requires inside { (has : Has) × IsLooking has × (self.old.seat.view ≡ Inside slot has) }
+        ensures inside { self.new.seat.view ≡ Inside slot Nothing }
+        ensures blocks { self.new.blocks ≡ self.old.blocks }
+    {
+        self.blocks.turn::<Flushing>(&mut self.seat);
+        let mut row = Settle::flush(slot, self.batch_size);
+        self.settles(rt, &mut row);
         self.blocks.turn::<Ending>(&mut self.seat);
     }
 

@@ -11,6 +11,9 @@ pub(crate) struct Entering;
 /// A retirement begins.
 pub(crate) struct Retiring;
 
+/// The trying of a batch begins.
+pub(crate) struct Flushing;
+
 /// Leaving begins.
 pub(crate) struct Leaving;
 
@@ -36,6 +39,12 @@ impl<T> Turn<Fixed, View<T>> for Retiring {
     ghost use Rattle.seize_shared.specs.Begun.{retires, Makes};
 
     ghost to = { Makes retires };
+}
+
+impl<T> Turn<Fixed, View<T>> for Flushing {
+    ghost use Rattle.seize_shared.specs.Begun.{flushes, Makes};
+
+    ghost to = { Makes flushes };
 }
 
 impl<T> Turn<Fixed, View<T>> for Leaving {

@@ -37,7 +37,7 @@ pub enum Has {
 
 /// Why a seat settles.
 pub enum Why {
-    /// A block is retired within its section.
+    /// A block is retired, or its batch is tried, within its section.
     Retiring,
     /// Its section has ended, and the list of its slot is counted down; batches have this size.
     Ending(u64),

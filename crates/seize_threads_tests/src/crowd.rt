@@ -1,26 +1,20 @@
 //! Four threads over one memory: each puts values at the root, retires those that were there, and looks at those of the others.
 use crate::ground::{Ground, SIZE};
-use crate::retiring::{Counted, all_are, clears, looks, puts, table};
+use crate::retiring::{Counted, Table, all_are, clears, looks, puts, table};
 use seize_blocks::Home;
 use seize_shared::{Caller, Fixed, OfRows};
 use std::alloc::{AllocError, Global};
 use std::sync::Wait;
-use std::sync::atomic::AtomicU64;
 use std::test::Fail;
 use std::thread;
 use std::thread::Threads;
 
 /// How often each of the four goes about.
-const TIMES: usize = 5_000;
+const TIMES: usize = 20_000;
 
 /// Looks at the root and puts a value there, so many times, and takes then away what is there. It answers how many values it has put, or none where one that it
 /// saw had been dropped.
-fn goes<'t, W: Wait>(
-    rt: &W,
-    ground: &Ground<'_, Counted<'t>>,
-    drops: &'t Vec<AtomicU64>,
-    from: usize,
-) -> Option<u64> {
+fn goes<W: Wait>(rt: &W, ground: &Ground<'_, Counted>, drops: &Table, from: usize) -> Option<u64> {
     let mut caller = Caller::new(ground.blocks, SIZE);
     let slot = caller.register().ok()?;
     let mut put = 0;
@@ -29,9 +23,14 @@ fn goes<'t, W: Wait>(
         if let Some(old) = looks(rt, &mut caller, slot) {
             stale = stale || old;
         }
-        let place = usize::wrapping_add(from, turn);
         caller.enter(slot);
-        if puts(rt, &mut caller, slot, Counted { place, drops }) {
+        if puts(
+            rt,
+            &mut caller,
+            slot,
+            drops,
+            usize::wrapping_add(from, turn),
+        ) {
             put = u64::wrapping_add(put, 1);
         }
         caller.leave(rt, slot);
@@ -44,10 +43,10 @@ fn goes<'t, W: Wait>(
 }
 
 /// Two of them, of these places and those behind.
-fn pair<'t, R: Threads + Wait + Sync>(
+fn pair<R: Threads + Wait + Sync>(
     rt: &R,
-    ground: &Ground<'_, Counted<'t>>,
-    drops: &'t Vec<AtomicU64>,
+    ground: &Ground<'_, Counted>,
+    drops: &Table,
     from: usize,
 ) -> bool {
     let (first, second) = thread::join(
@@ -59,12 +58,12 @@ fn pair<'t, R: Threads + Wait + Sync>(
 }
 
 /// Four of them over one memory, which ends then; tells whether none of them saw a value that had been dropped.
-fn four<'t, R: Threads + Wait + Sync>(
+fn four<R: Threads + Wait + Sync>(
     rt: &R,
     alloc: Global,
-    drops: &'t Vec<AtomicU64>,
+    drops: &Table,
 ) -> Result<bool, AllocError> {
-    let home = Home::<Counted<'t>, OfRows>::open(
+    let home = Home::<Counted, OfRows>::open(
         alloc,
         1,
         4096,

@@ -1,4 +1,4 @@
-//! Tests of the memory that threads share, and of the collector's rows over it: two threads at a time, each with a seat of its own.
+//! Tests of the memory that threads share, and of the collector's rows over it: two threads at a time, or four, each with a seat of its own.
 #![tactic(auto)]
 
 #[cfg(test)]
@@ -15,6 +15,8 @@ mod looking;
 mod making;
 #[cfg(test)]
 mod meeting;
+#[cfg(test)]
+mod order;
 #[cfg(test)]
 mod owning;
 #[cfg(test)]
