@@ -20,7 +20,7 @@ use Rattle.seize_seats.specs.Lendings.{Shown, IsValueOf}
 use Rattle.seize_shared.specs.Rows.{Holds}
 use Rattle.seize_shared.specs.Told.{shown_by, FollowsBy, GoesOn, told}
 use Rattle.seize_shared.specs.Promises.{op_in, op_of, LookedAreShown}
-use Rattle.seize_shared.specs.Made.{shown_in, shown_of, CanMake, HasMade, IsSettling}
+use Rattle.seize_shared.specs.Made.{shown_in, shown_of, CanMake, HasAlone, HasMade, IsSettling}
 use Rattle.seize_shared.specs.declared.view.View.{View}
 use Rattle.seize_shared.specs.declared.view.View.TheVariants.{Rests, Registers, Outside, Enters, Inside, Settles, Leaves, Left, Frees}
 use Rattle.seize_shared.specs.declared.view.Why.{Why}
@@ -54,38 +54,6 @@ module _ {T : Type 0} (defers : T → Option ℕ) where
   is_do c at.Over ne = absurd (ne refl)
   is_do c _ ne = tt
 
-  module _ (caller : Caller T) (c : Settle) (why : Why) (is : IsSettling why c caller.seat.view) (ne : c.stands ≡ at.Over → ⊥) where
-    -- what is told of a settling's operation
-    goes_on : (op : Op T) (out : Out T) (n : Caller T) → HasMade defers caller op out n → GoesOn defers c why out n.seat.view
-    goes_on op out n made = subst (λ (v : View T). told defers v op out n.seat.view) is.1 made.told
-
-    shows : (n : Caller T) (d : Settle) (seen : Option (ℕ × T)) → n.seat.view ≡ Settles d why seen → shown_of n ≡ shown_by seen
-    shows n d seen e = ap (λ (v : View T). shown_in v) e
-
-    pub may_step : May (CanMake defers) (HasMade defers) shown_of caller (settle_plan defers c)
-    may_step =
-        may_by (CanMake defers) (HasMade defers) shown_of caller (settle_plan defers c) (is_do c c.stands ne)
-        (λ op e. record {
-          next = ap (op_of defers) is.1 ∙ e;
-          may = may_go_on defers caller.blocks.now.words.fixed caller.seat.id caller.seat.view (Settles c why is.0) is.1 op e;
-        })
-        (λ op out n e made.
-        let g = goes_on op out n made in
-        (g.end, subst (λ (f : ℕ → Option T). FollowsBy f (settle_plan defers c) out g.end) (sym (shows n g.end.0 g.seen g.view)) g.follows))
-        (λ out. once defers c c.stands out)
-
-    pub has_stepped : (n : Caller T) (end : Settle × Settled T) → Steps (HasMade defers) shown_of caller (settle_plan defers c) n end
-        → IsSettling why end.0 n.seat.view × (end.0.slot ≡ c.slot) × (n.blocks ≡ caller.blocks)
-    has_stepped n end st =
-        let k = was_made (CanMake defers) (HasMade defers) shown_of caller (settle_plan defers c) n end (is_do c c.stands ne) st in
-        let g = goes_on k.0 k.1 n k.2 in
-        let same : end ≡ g.end = k.3 g.end
-        (subst (λ (f : ℕ → Option T). FollowsBy f (settle_plan defers c) k.1 g.end) (sym (shows n g.end.0 g.seen g.view)) g.follows) in (
-          (g.seen, g.view ∙ ap (λ (x : Settle × Settled T). Settles x.0 why g.seen) (sym same)),
-          ap (λ (x : Settle × Settled T). x.0.slot) same ∙ g.slot,
-          k.2.blocks,
-        )
-
   -- it replaces no value
   abbrev IsNoRewrite : Option (Op T) → Type 0
   IsNoRewrite None = Unit {0}
@@ -111,9 +79,42 @@ module _ {T : Type 0} (defers : T → Option ℕ) where
   none_rewrites (Left t size) = tt
   none_rewrites (Frees t) = tt
 
-  -- no row of the collector replaces a value
-  pub never_rewrites : (v : View T) (b : ℕ) (x : T) → op_of defers v ≡ Some (Rewrite b x) → ⊥
-  never_rewrites v b x e = subst IsNoRewrite e (none_rewrites v)
+  -- so it needs no block to itself
+  has_alone : (caller : Caller T) (op : Op T) → IsNoRewrite (Some op) → HasAlone defers caller op
+  has_alone caller (Rewrite b x) is = absurd is
+  has_alone caller _ is = tt
+
+  module _ (caller : Caller T) (c : Settle) (why : Why) (is : IsSettling why c caller.seat.view) (ne : c.stands ≡ at.Over → ⊥) where
+    -- what is told of a settling's operation
+    goes_on : (op : Op T) (out : Out T) (n : Caller T) → HasMade defers caller op out n → GoesOn defers c why out n.seat.view
+    goes_on op out n made = subst (λ (v : View T). told defers v op out n.seat.view) is.1 made.told
+
+    shows : (n : Caller T) (d : Settle) (seen : Option (ℕ × T)) → n.seat.view ≡ Settles d why seen → shown_of n ≡ shown_by seen
+    shows n d seen e = ap (λ (v : View T). shown_in v) e
+
+    pub may_step : May (CanMake defers) (HasMade defers) shown_of caller (settle_plan defers c)
+    may_step =
+        may_by (CanMake defers) (HasMade defers) shown_of caller (settle_plan defers c) (is_do c c.stands ne)
+        (λ op e. record {
+          alone = has_alone caller op (subst IsNoRewrite (ap (op_of defers) is.1 ∙ e) (none_rewrites caller.seat.view));
+          may = may_go_on defers caller.blocks.now.words.fixed caller.seat.id caller.seat.view (Settles c why is.0) is.1 op e;
+        })
+        (λ op out n e made.
+        let g = goes_on op out n made in
+        (g.end, subst (λ (f : ℕ → Option T). FollowsBy f (settle_plan defers c) out g.end) (sym (shows n g.end.0 g.seen g.view)) g.follows))
+        (λ out. once defers c c.stands out)
+
+    pub has_stepped : (n : Caller T) (end : Settle × Settled T) → Steps (HasMade defers) shown_of caller (settle_plan defers c) n end
+        → IsSettling why end.0 n.seat.view × (end.0.slot ≡ c.slot) × (n.blocks ≡ caller.blocks)
+    has_stepped n end st =
+        let k = was_made (CanMake defers) (HasMade defers) shown_of caller (settle_plan defers c) n end (is_do c c.stands ne) st in
+        let g = goes_on k.0 k.1 n k.2 in
+        let same : end ≡ g.end = k.3 g.end
+        (subst (λ (f : ℕ → Option T). FollowsBy f (settle_plan defers c) k.1 g.end) (sym (shows n g.end.0 g.seen g.view)) g.follows) in (
+          (g.seen, g.view ∙ ap (λ (x : Settle × Settled T). Settles x.0 why g.seen) (sym same)),
+          ap (λ (x : Settle × Settled T). x.0.slot) same ∙ g.slot,
+          k.2.blocks,
+        )
 
 module _ (T : Type 0) (defers : T → Option ℕ) where
   -- what a settling is to look at is there

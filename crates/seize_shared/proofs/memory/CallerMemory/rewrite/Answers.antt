@@ -1,6 +1,5 @@
-use Rattle.seize_shared.proofs.Drives.{never_rewrites}
 use Rattle.seize_shared.proofs.memory.CallerMemory.rewrite.Goals as goal
 
--- no row of the collector replaces a value
+-- who may replace a value has its block to itself
 pub rewrite-requires-clause-alone : goal.rewrite-requires-clause-alone
-rewrite-requires-clause-alone g c = absurd (never_rewrites g.T.Defers.defers c.args.self.now.seat.view c.args.block c.args.value c.requires.next)
+rewrite-requires-clause-alone g c = c.requires.alone
