@@ -1,14 +1,14 @@
 //! The memory as a whole, as those use it who share it.
-ghost use Rattle.std.specs.Prelude.{◌≡◌, ◌+◌, ◌*◌, ◌≤◌, ◌<◌, ◌^◌, IfSome};
-ghost use Rattle.seize_words.specs.Op.{Load, Store, Swap, Add, Or, Exchange, Make, Take, Room, Found, Stored, Exchanged, Made, Taken, Roomed};
-ghost use Rattle.seize_seats.specs.State.{Allows, Turns, Comes};
+ghost use Rattle.std.specs.Prelude.{◌≡◌, ◌+◌, ◌-◌, ◌*◌, ◌≤◌, ◌<◌, ◌^◌, IfSome};
+ghost use Rattle.seize_words.specs.Op.{Load, Store, Swap, Add, Or, Exchange, Make, Take, Rewrite, Room, Found, Stored, Exchanged, Made, Taken, Roomed};
+ghost use Rattle.seize_seats.specs.State.{Allows, Owns, Turns, Comes, Meets, Renews};
 ghost use Rattle.seize_seats.specs.Lines.{long};
-ghost use Rattle.seize_seats.specs.Lendings.{Shown, IsValueOf};
+ghost use Rattle.seize_seats.specs.Lendings.{Shown, ShownToBoth, IsValueOf, IsValueOfBoth};
 ghost use Rattle.seize_blocks.specs.Placed.{IsItsPlace};
 
 use crate::claim::Claim;
 use crate::place::Place;
-use crate::rule::{Rule, Turn};
+use crate::rule::{Meeting, Rule, Turn};
 use crate::seat::Seat;
 use crate::words::Words;
 use seize_words::{At, Fault};
@@ -53,6 +53,17 @@ impl<T, R: Rule<T>> Blocks<T, R> {
         index * 5 + (self.roots + self.roots + 32) * 16
     }
 
+    /// The index of a number, if there is such a block.
+    fn index_of(&self, block: u64) -> u64
+        ensures { (result ≤ 2 ^ 32) × (0 < block → block ≤ self.now.words.id.count → result ≡ block - 1) }
+    {
+        if block > 0 && block <= self.count {
+            block - 1
+        } else {
+            0
+        }
+    }
+
     /// A seat more.
     pub fn seat(&self) -> Seat<T, R>
         requires { Comes (R.holds self.now.words.fixed) R.keeps (R.newcomer self.now.words.fixed) }
@@ -62,13 +73,34 @@ impl<T, R: Rule<T>> Blocks<T, R> {
     }
 
     /// A step without an operation.
-    pub fn turn<M: Turn<R::View>>(&self, seat: &mut Seat<T, R>)
+    pub fn turn<M: Turn<R::Fixed, R::View>>(&self, seat: &mut Seat<T, R>)
         requires own { seat.old.base ≡ self.now.words.id.views_name }
-        requires may { Turns (R.holds self.now.words.fixed) R.keeps seat.old.id seat.old.view (M.to seat.old.view) }
+        requires may { Turns (R.holds self.now.words.fixed) R.keeps seat.old.id seat.old.view (M.to self.now.words.fixed seat.old.view) }
         ensures same { (seat.new.base ≡ seat.old.base) × (seat.new.id ≡ seat.old.id) }
-        ensures goes { M.to seat.old.view seat.new.view }
+        ensures goes { M.to self.now.words.fixed seat.old.view seat.new.view }
     {
         self.words.turn::<M>(seat)
+    }
+
+    /// Two seats come to know something else, by what both knew.
+    pub fn meet<M: Meeting<R::Fixed, R::View>>(&self, one: &mut Seat<T, R>, other: &mut Seat<T, R>)
+        requires own { (one.old.base ≡ self.now.words.id.views_name) × (other.old.base ≡ self.now.words.id.views_name) }
+        requires may { Meets (R.holds self.now.words.fixed) one.old.id one.old.view other.old.id other.old.view
+            (M.to self.now.words.fixed one.old.view other.old.view) }
+        ensures same { (one.new.base ≡ one.old.base) × (one.new.id ≡ one.old.id) × (other.new.base ≡ other.old.base) × (other.new.id ≡ other.old.id) }
+        ensures goes { M.to self.now.words.fixed one.old.view other.old.view one.new.view other.new.view }
+    {
+        self.words.meet::<M>(one, other)
+    }
+
+    /// All seats end, and what was lent is back. Words and blocks stay as they are.
+    pub fn renew(&mut self)
+        requires ends { Renews (R.holds self.old.words.fixed) }
+        ensures same { (self.new.words.words ≡ self.old.words.words) × (self.new.words.fixed ≡ self.old.words.fixed) }
+        ensures names { (self.new.words.id.roots ≡ self.old.words.id.roots) × (self.new.words.id.count ≡ self.old.words.id.count)
+            × (self.new.words.id.values ≡ self.old.words.id.values) }
+    {
+        self.words.renew()
     }
 
     /// Makes the words of a bucket of slots where they are not there yet. There are those of the first alone, so for every other one
@@ -203,11 +235,7 @@ impl<T, R: Rule<T>> Blocks<T, R> {
         ensures same { (seat.new.base ≡ seat.old.base) × (seat.new.id ≡ seat.old.id) }
         ensures goes { R.then seat.old.view (Take block) (Taken result) seat.new.view }
     {
-        let index = if block > 0 && block <= self.count {
-            block - 1
-        } else {
-            0
-        };
+        let index = self.index_of(block);
         let first = self.first_of(index);
         let value = self.words.take(
             seat,
@@ -226,18 +254,47 @@ impl<T, R: Rule<T>> Blocks<T, R> {
         }
     }
 
+    /// Replaces the value of a block that the seat has to itself, and answers the one before.
+    pub fn rewrite(&self, seat: &mut Seat<T, R>, block: u64, value: T) -> T
+        requires own { seat.old.base ≡ self.now.words.id.views_name }
+        requires alone { Owns (R.holds self.now.words.fixed) R.keeps seat.old.id seat.old.view block }
+        requires may { Allows (R.holds self.now.words.fixed) R.keeps seat.old.id seat.old.view (Rewrite block value) (R.then seat.old.view (Rewrite block value)) }
+        ensures same { (seat.new.base ≡ seat.old.base) × (seat.new.id ≡ seat.old.id) }
+        ensures goes { R.then seat.old.view (Rewrite block value) (Taken result) seat.new.view }
+    {
+        let index = self.index_of(block);
+        match self
+            .words
+            .rewrite(seat, block, index, self.values.at, value)
+        {
+            Some(before) => before,
+            None => unreachable!(),
+        }
+    }
+
     /// The value of a block that the seat's view shows, for as long as the memory and the seat are borrowed.
     pub fn value<'g>(&'g self, seat: &'g Seat<T, R>, block: u64) -> &'g T
         requires own { seat.now.base ≡ self.now.words.id.views_name }
         requires shown { Shown (R.holds self.now.words.fixed) seat.now.id seat.now.view block }
         ensures { IsValueOf (R.holds self.now.words.fixed) seat.now.id seat.now.view block result.now }
     {
-        let index = if block > 0 && block <= self.count {
-            block - 1
-        } else {
-            0
-        };
-        match self.words.value(seat, block, index, self.values.at) {
+        self.value_for(seat, seat, block)
+    }
+
+    /// The value of a block that the views of two seats show together, as that of a guard that holds it and that of who it belongs to, for as long as the
+    /// memory and both seats are borrowed.
+    pub fn value_for<'g>(
+        &'g self,
+        guard: &'g Seat<T, R>,
+        owner: &'g Seat<T, R>,
+        block: u64,
+    ) -> &'g T
+        requires own { (guard.now.base ≡ self.now.words.id.views_name) × (owner.now.base ≡ self.now.words.id.views_name) }
+        requires shown { ShownToBoth (R.holds self.now.words.fixed) guard.now.id guard.now.view owner.now.id owner.now.view block }
+        ensures { IsValueOfBoth (R.holds self.now.words.fixed) guard.now.id guard.now.view owner.now.id owner.now.view block result.now }
+    {
+        let index = self.index_of(block);
+        match self.words.value(guard, owner, block, index, self.values.at) {
             Some(value) => value,
             None => unreachable!(),
         }

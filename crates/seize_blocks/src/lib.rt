@@ -12,6 +12,6 @@ mod words;
 
 pub use blocks::Blocks;
 pub use home::Home;
-pub use rule::{Rule, Turn};
+pub use rule::{Meeting, Rule, Turn};
 pub use seat::Seat;
 pub use words::Words;

@@ -27,7 +27,12 @@ pub trait Rule<T> {
     ghost newcomer: { Self.Fixed → Self.View };
 }
 
-/// What a step without an operation makes of a view.
-pub trait Turn<V> {
-    ghost to: { V → V → Type 0 };
+/// What a step without an operation makes of a view, by what was chosen as the memory was opened.
+pub trait Turn<F, V> {
+    ghost to: { F → V → V → Type 0 };
+}
+
+/// What a meeting of two seats makes of both views: what was chosen, the one view and the other before it, and after it.
+pub trait Meeting<F, V> {
+    ghost to: { F → V → V → V → V → Type 0 };
 }

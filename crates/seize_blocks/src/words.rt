@@ -1,17 +1,17 @@
 //! The words, and what one step of a seat does to them: one atomic operation on a word, or none.
 ghost use Rattle.std.specs.Prelude.{◌≡◌, ℕ, ◌+◌, ◌-◌, ◌*◌, ◌^◌, ◌<◌, ◌≤◌, Some, None, Ok, Err, length, slice_index, slice_index_or};
-ghost use Rattle.seize_words.specs.Op.{Load, Store, Swap, Add, Or, Exchange, Make, Take, Room, Found, Stored, Exchanged, Made, Taken, Roomed};
-ghost use Rattle.seize_seats.specs.State.{Allows, Turns, Comes, Starts};
+ghost use Rattle.seize_words.specs.Op.{Load, Store, Swap, Add, Or, Exchange, Make, Take, Rewrite, Room, Found, Stored, Exchanged, Made, Taken, Roomed};
+ghost use Rattle.seize_seats.specs.State.{Allows, Owns, Turns, Comes, Meets, Renews, Starts};
 ghost use Rattle.seize_seats.specs.Lines.{whole, long};
 ghost use Rattle.seize_seats.specs.Steps.{roomed};
-ghost use Rattle.seize_seats.specs.Lendings.{Shown, IsValueOf};
+ghost use Rattle.seize_seats.specs.Lendings.{ShownToBoth, IsValueOfBoth};
 ghost use Rattle.seize_seats.specs.Owned.{BaseId, base_id_coded, words_own, words_share};
 ghost use Rattle.seize_blocks.specs.Placed.{IsItsPlace, IsItsSign};
 
 use crate::claim::Claim;
 use crate::place::Place;
 use crate::row::Row;
-use crate::rule::{Rule, Turn};
+use crate::rule::{Meeting, Rule, Turn};
 use crate::seat::Seat;
 use seize_words::At;
 use std::marker::{Brand, Model, PhantomData};
@@ -78,10 +78,25 @@ impl<T, R: Rule<T>> Words<T, R> {
     }
 
     /// A step without an operation.
-    pub fn turn<M: Turn<R::View>>(&self, seat: &mut Seat<T, R>)
+    pub fn turn<M: Turn<R::Fixed, R::View>>(&self, seat: &mut Seat<T, R>)
         requires { (seat.old.base ≡ self.now.id.views_name)
-            × Turns (R.holds self.now.fixed) R.keeps seat.old.id seat.old.view (M.to seat.old.view) }
-        ensures { (seat.new.base ≡ seat.old.base) × (seat.new.id ≡ seat.old.id) × M.to seat.old.view seat.new.view }
+            × Turns (R.holds self.now.fixed) R.keeps seat.old.id seat.old.view (M.to self.now.fixed seat.old.view) }
+        ensures { (seat.new.base ≡ seat.old.base) × (seat.new.id ≡ seat.old.id) × M.to self.now.fixed seat.old.view seat.new.view }
+    {}
+
+    /// Two seats come to know something else, by what both knew.
+    pub fn meet<M: Meeting<R::Fixed, R::View>>(&self, one: &mut Seat<T, R>, other: &mut Seat<T, R>)
+        requires { (one.old.base ≡ self.now.id.views_name) × (other.old.base ≡ self.now.id.views_name)
+            × Meets (R.holds self.now.fixed) one.old.id one.old.view other.old.id other.old.view (M.to self.now.fixed one.old.view other.old.view) }
+        ensures { (one.new.base ≡ one.old.base) × (one.new.id ≡ one.old.id) × (other.new.base ≡ other.old.base) × (other.new.id ≡ other.old.id)
+            × M.to self.now.fixed one.old.view other.old.view one.new.view other.new.view }
+    {}
+
+    /// All seats end.
+    pub fn renew(&mut self)
+        requires { Renews (R.holds self.old.fixed) }
+        ensures { (self.new.words ≡ self.old.words) × (self.new.fixed ≡ self.old.fixed) × (self.new.id.roots ≡ self.old.id.roots)
+            × (self.new.id.count ≡ self.old.id.count) × (self.new.id.values ≡ self.old.id.values) × (self.new.id.hands_name ≡ self.old.id.hands_name) }
     {}
 
     /// Tries to claim a number, whose sign lies at this place: it was free where 0 is found.
@@ -148,17 +163,43 @@ impl<T, R: Rule<T>> Words<T, R> {
         }
     }
 
-    /// Where the value of a block lies, for as long as the words and the seat are borrowed. The index is that of its number, if there is such a block.
+    /// Replaces the value of a block that the seat has to itself, and answers the one before. The index is that of its number, if there is such a block.
+    pub(crate) fn rewrite(
+        &self,
+        seat: &mut Seat<T, R>,
+        block: u64,
+        index: u64,
+        values: *mut Option<T>,
+        value: T,
+    ) -> Option<T>
+        requires { (seat.old.base ≡ self.now.id.views_name) × (0 < block → block ≤ self.now.id.count → index ≡ block - 1)
+            × (values ≡ self.now.id.values)
+            × Owns (R.holds self.now.fixed) R.keeps seat.old.id seat.old.view block
+            × Allows (R.holds self.now.fixed) R.keeps seat.old.id seat.old.view (Rewrite block value) (R.then seat.old.view (Rewrite block value)) }
+        ensures { (seat.new.base ≡ seat.old.base) × (seat.new.id ≡ seat.old.id)
+            × ((x : T) × (result ≡ Some x) × R.then seat.old.view (Rewrite block value) (Taken x) seat.new.view) }
+    {
+        unsafe {
+            let before = values.add(index as usize).read();
+            values.add(index as usize).write(Some(value));
+            before
+        }
+    }
+
+    /// Where the value of a block lies, for as long as the words and both seats are borrowed. The index is that of its number, if there is such a block.
     pub(crate) fn value<'g>(
         &'g self,
-        seat: &'g Seat<T, R>,
+        guard: &'g Seat<T, R>,
+        owner: &'g Seat<T, R>,
         _block: u64,
         index: u64,
         values: *mut Option<T>,
     ) -> &'g Option<T>
-        requires { (seat.now.base ≡ self.now.id.views_name) × (0 < _block → _block ≤ self.now.id.count → index ≡ _block - 1)
-            × (values ≡ self.now.id.values) × Shown (R.holds self.now.fixed) seat.now.id seat.now.view _block }
-        ensures { (x : T) × (result.now ≡ Some x) × IsValueOf (R.holds self.now.fixed) seat.now.id seat.now.view _block x }
+        requires { (guard.now.base ≡ self.now.id.views_name) × (owner.now.base ≡ self.now.id.views_name)
+            × (0 < _block → _block ≤ self.now.id.count → index ≡ _block - 1) × (values ≡ self.now.id.values)
+            × ShownToBoth (R.holds self.now.fixed) guard.now.id guard.now.view owner.now.id owner.now.view _block }
+        ensures { (x : T) × (result.now ≡ Some x)
+            × IsValueOfBoth (R.holds self.now.fixed) guard.now.id guard.now.view owner.now.id owner.now.view _block x }
     {
         unsafe { &*values.add(index as usize) }
     }

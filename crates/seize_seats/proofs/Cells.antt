@@ -6,7 +6,7 @@ use Rattle.std.proofs.lemmas.List.{get_or-set_same, get_or-set_other, get_or_pas
 use Rattle.seize_words.specs.Mem.{block_of, entry_in, with_entry, with_made, word_at}
 use Rattle.seize_words.specs.declared.block.Block.{Block}
 use Rattle.seize_words.specs.declared.at.At.TheVariants.{Entry}
-use Rattle.seize_seats.specs.Cells.{Cell, Free, Claimed, Out, Has, block_in, blocks_in, cell_at}
+use Rattle.seize_seats.specs.Cells.{Cell, Free, Claimed, Out, Has, Held, block_in, blocks_in, cell_at, noted_in}
 use Rattle.seize_seats.specs.Lines.{Parts, memory_of, AreLaid}
 use Rattle.seize_seats.specs.Laws.{EntriesLie, EntriesAreApart}
 
@@ -132,15 +132,15 @@ module _ {T : Type 0} (roots count : ℕ) (s : Parts T) (laid : AreLaid roots co
   abbrev pub recelled : ℕ → Parts T
   recelled given = record { words = s.words; slots = s.slots; cells = slice_set s.cells i c; given = given }
 
-  pub laid_with : (given : ℕ) → s.given ≤ given → given ≤ count → (block_in c ≡ None) ⊎ (i < given) → ((x : T) (ws : List ℕ) → c ≡ Has x ws → length ws ≡ 4)
-      → AreLaid roots count (recelled given)
+  pub laid_with : (given : ℕ) → s.given ≤ given → given ≤ count → (block_in c ≡ None) ⊎ (i < given)
+      → ((x : Block T) → block_in c ≡ Some x → length x.entry ≡ 4) → AreLaid roots count (recelled given)
   laid_with given more le free four = record {
     all = laid.all;
     slots_are = laid.slots_are;
     counted = length-set s.cells i c ∙ laid.counted;
     within = le;
     rest = λ k h. rest k h (cases_eq k i);
-    fours = λ k x ws e. fours k x ws e (cases_eq k i);
+    fours = λ k x e. fours k x e (cases_eq k i);
   }
     where
       short : (k : ℕ) → k ≡ i → (cell_at (slice_set s.cells i c) k ≡ c) ⊎ (cell_at (slice_set s.cells i c) k ≡ Free)
@@ -159,19 +159,18 @@ module _ {T : Type 0} (roots count : ℕ) (s : Parts T) (laid : AreLaid roots co
       ]
       rest k h (inr ne) = ap block_in (get_or-set_other s.cells i k c Free ne) ∙ laid.rest k (omega (arith, h, more))
 
-      fours : (k : ℕ) (x : T) (ws : List ℕ) → cell_at (slice_set s.cells i c) k ≡ Has x ws → (k ≡ i) ⊎ (k ≢ i) → length ws ≡ 4
-      fours k x ws e (inl is) = elim (short k is) as (λ _. length ws ≡ 4) [
-        | inl same ↦ four x ws (sym same ∙ e)
-        | inr none ↦ absurd (cc (e, none))
+      fours : (k : ℕ) (x : Block T) → block_in (cell_at (slice_set s.cells i c) k) ≡ Some x → (k ≡ i) ⊎ (k ≢ i) → length x.entry ≡ 4
+      fours k x e (inl is) = elim (short k is) as (λ _. length x.entry ≡ 4) [
+        | inl same ↦ four x (sym (ap block_in same) ∙ e)
+        | inr none ↦ absurd (let here : block_in (cell_at (slice_set s.cells i c) k) ≡ None = ap block_in none in cc (here, e))
       ]
-      fours k x ws e (inr ne) = laid.fours k x ws (sym (get_or-set_other s.cells i k c Free ne) ∙ e)
+      fours k x e (inr ne) = laid.fours k x (sym (ap block_in (get_or-set_other s.cells i k c Free ne)) ∙ e)
 
 -- a cell with the same block leaves the memory as it was
 pub laid_same : {T : Type 0} (roots count : ℕ) (s : Parts T) (laid : AreLaid roots count s) (i : ℕ) (c : Cell T) → block_in c ≡ block_in (cell_at s.cells i)
-    → ((x : T) (ws : List ℕ) → c ≡ Has x ws → length ws ≡ 4)
     → AreLaid roots count (recelled roots count s laid i c s.given) × (memory_of roots (recelled roots count s laid i c s.given) ≡ memory_of roots s)
-laid_same {T} roots count s laid i c e four = (
-  laid_with roots count s laid i c s.given (omega arith) laid.within (free (cases_lt i s.given)) four,
+laid_same {T} roots count s laid i c e = (
+  laid_with roots count s laid i c s.given (omega arith) laid.within (free (cases_lt i s.given)) (λ x is. laid.fours i x (sym e ∙ is)),
   ap (λ (l : List (Option (Block T))). record (memory_of roots s) { blocks = l }) (blocks_same s.given s.cells i c e),
 )
   where
@@ -181,27 +180,44 @@ laid_same {T} roots count s laid i c e four = (
 
 pub entries_lie : (T : Type 0) → EntriesLie T
 entries_lie T roots count s b i w laid e = let low = numbered b e in
-    by low (cell_at s.cells (b - 1)) refl (ap (λ (x : Option (Block T)). entry_in x i) (sym (block_is roots count s laid b low)) ∙ e)
+    let here : entry_in (block_in (cell_at s.cells (b - 1))) i ≡ Some w = ap (λ (x : Option (Block T)). entry_in x i) (sym (block_is roots count s laid b low)) ∙ e in
+    by low (block_in (cell_at s.cells (b - 1))) refl here
   where
     numbered : (b : ℕ) → word_at (memory_of roots s) (Entry b i) ≡ Some w → 0 < b
     numbered zero e = absurd (cc e)
     numbered (suc b) e = omega arith
 
-    by : 0 < b → (c : Cell T) → cell_at s.cells (b - 1) ≡ c → entry_in (block_in c) i ≡ Some w
-        → ((0 < b) × (b ≤ count) × (i < 4)) × ((x : T) × (ws : List ℕ) × (cell_at s.cells (b - 1) ≡ Has x ws) × (slice_get ws i ≡ Some w))
-    by low Free is e = absurd (cc e)
-    by low Claimed is e = absurd (cc e)
-    by low (Out q) is e = absurd (cc e)
-    by low (Has x ws) is e =
-        let lt = cell_beyond s.cells (b - 1) (Has x ws) is (λ q. absurd (cc q)) in let small = get_some ws i w e in let four = laid.fours (b - 1) x ws is in
-        let all = laid.counted in ((low, omega (arith, lt, all), omega (arith, small, four)), (x, ws, is, e))
+    by : 0 < b → (x : Option (Block T)) → block_in (cell_at s.cells (b - 1)) ≡ x → entry_in x i ≡ Some w
+        → ((0 < b) × (b ≤ count) × (i < 4)) × (entry_in (block_in (cell_at s.cells (b - 1))) i ≡ Some w)
+    by low None is e = absurd (cc e)
+    by low (Some x) is e =
+        let lt = was_given roots count s laid (b - 1) x is in let small = get_some x.entry i w e in let four = laid.fours (b - 1) x is in
+        let within = laid.within in ((low, omega (arith, lt, within), omega (arith, small, four)), ap (λ (y : Option (Block T)). entry_in y i) is ∙ e)
+
+-- another word of the entry is one of the block
+pub noted_is : {T : Type 0} (c : Cell T) (i w : ℕ) → block_in (noted_in c i w) ≡ with_entry (block_in c) i w
+noted_is Free i w = refl
+noted_is Claimed i w = refl
+noted_is (Out e) i w = refl
+noted_is (Has x ws) i w = refl
+noted_is (Held ρ e x ws) i w = refl
 
 pub entries_are_apart : (T : Type 0) → EntriesAreApart T
-entries_are_apart T roots count s b i new x ws laid low is =
-    let c : Cell T = Has x (slice_set ws i new) in let j : ℕ = b - 1 in
-    let here : block_of (memory_of roots s) b ≡ block_in (Has x ws) = block_is roots count s laid b low ∙ ap block_in is in (
-      laid_with roots count s laid j c s.given (omega arith) laid.within (inr (was_given roots count s laid j _ (ap block_in is))) (λ y vs e.
-          let same : slice_set ws i new ≡ vs = cc e in sym (ap length same) ∙ length-set ws i new ∙ laid.fours j x ws is),
-      ap (λ (l : List (Option (Block T))). record (memory_of roots s) { blocks = l }) (blocks_set s.given s.cells j c
-          ∙ ap (λ (y : Option (Block T)). slice_set (blocks_in s.given s.cells) j (with_entry y i new)) (sym here)),
+entries_are_apart T roots count s b i new laid low =
+    let j : ℕ = b - 1 in let c : Cell T = cell_at s.cells j in let d : Cell T = noted_in c i new in (
+      laid_with roots count s laid j d s.given (omega arith) laid.within (free c (cases_lt j s.given))
+          (λ x e. long (block_in c) (λ y is. laid.fours j y is) x (sym (noted_is c i new) ∙ e)),
+      ap (λ (l : List (Option (Block T))). record (memory_of roots s) { blocks = l }) (blocks_set s.given s.cells j d
+          ∙ ap (slice_set (blocks_in s.given s.cells) j) (noted_is c i new ∙ ap (λ (y : Option (Block T)). with_entry y i new) (sym (block_is roots count s laid b low)))),
     )
+  where
+    free : (c : Cell T) → (b - 1 < s.given) ⊎ (s.given ≤ b - 1)
+        → (block_in (noted_in (cell_at s.cells (b - 1)) i new) ≡ None) ⊎ (b - 1 < s.given)
+    free c (inl h) = inr h
+    free c (inr h) = inl (noted_is (cell_at s.cells (b - 1)) i new ∙ ap (λ (y : Option (Block T)). with_entry y i new) (laid.rest (b - 1) h))
+
+    long : (y : Option (Block T)) → ((x : Block T) → y ≡ Some x → length x.entry ≡ 4) → (x : Block T) → with_entry y i new ≡ Some x → length x.entry ≡ 4
+    long None four x e = absurd (cc e)
+    long (Some y) four x e =
+        let same : record { value = y.value; entry = slice_set y.entry i new; words = y.words } ≡ x = cc e in
+        sym (ap (λ (z : Block T). length z.entry) same) ∙ length-set y.entry i new ∙ four y refl

@@ -1,5 +1,5 @@
 -- The list of views: a quarter of each stands in it, three quarters are with the seat. Assumes `Logic`.
-use Rattle.std.proofs.Common.{◌≡◌, ℕ, zero, suc, ◌+◌, List, [], ◌∷◌, ◌++◌, length, set, sym, refl, ap, subst, arith, Some}
+use Rattle.std.proofs.Common.{◌≡◌, ◌≢◌, ℕ, zero, suc, ◌+◌, List, [], ◌∷◌, ◌++◌, length, set, sym, refl, ap, subst, arith, Some}
 use Rattle.std.specs.Prelude.{slice_get}
 use mathlib.Core.Path.{Path}
 use mathlib.Mathlib.Data.Part.{◌∈◌, mem_unique}
@@ -21,6 +21,14 @@ use types.Logic.{Logic, sem}
 use types.Kit.{‵, raw, ◌⊛◌, given, ◌$◌, ◌∵◌, !, qed, move, split, split3, join, fsplit, fjoin, learn, check, frame, each, assume, suffices, settle, use1, use2, use3, rewrite, done}
 use ghost.Rules.{Halves}
 use Rattle.seize_seats.specs.Owned.{itself, shared_view, seen, unborn, quarters, ledger}
+
+-- the views of others stay
+pub other_view : {V : Type 0} (vs : List V) (i j : ℕ) (w : V) → j ≢ i → slice_get (set vs i w) j ≡ slice_get vs j
+other_view [] i j w ne = refl
+other_view (v ∷ vs) zero zero w ne = absurd (ne refl)
+other_view (v ∷ vs) zero (suc j) w ne = refl
+other_view (v ∷ vs) (suc i) zero w ne = refl
+other_view (v ∷ vs) (suc i) (suc j) w ne = other_view vs i j w (λ e. ne (ap suc e))
 
 module _ {M : Type 1} {𝓤 : Ura M} (𝓛 : Logic 𝓤) {V : Type 0} (cv : Coded V) (γ : ℕ) where
   abbrev Pr : Type 2
@@ -178,6 +186,15 @@ module _ {M : Type 1} {𝓤 : Ura M} (𝓛 : Logic 𝓤) {V : Type 0} (cv : Code
       use1 𝓛 (‵ (Sn quarter j v) ⊛ raw (all 𝓤 (Puts (suc k) ys i j))) (all_at ys (suc k) i j v (omega arith) at) $ split ! $ frame ! $
       each ! (Puts k (y ∷ ys) (suc i) j) (λ z. use1 𝓛 (raw (Puts (suc k) ys i j z)) (all_e 𝓤 (Puts (suc k) ys i j) z) $ assume ! (‵ (Sn quarter j z)) $
       use2 𝓛 (‵ (All (suc k) (set ys i z))) (apply∗ 𝓤 ⟦ Sn quarter j z ⟧ ⟦ All (suc k) (set ys i z) ⟧) $ move ! (1 ∷ 0 ∷ []) $ done !)
+
+  -- three quarters of a view and a quarter of the list's are all of it
+  pub crowded : (d : V) (vs : List V) (j : ℕ) (q : Share) (v u : V) (Z : Pr) → ⟦ Led d vs ⟧ ∗ ⟦ Sn three_quarters j v ⟧ ∗ ⟦ Sn q j u ⟧ ⊢ Z
+  crowded d vs j q v u Z = qed 𝓛 (‵ (Led d vs) ∷ ‵ (Sn three_quarters j v) ∷ ‵ (Sn q j u) ∷ []) ∵
+      use2 𝓛 (given (slice_get vs j ≡ Some v) (‵ (Led d vs) ⊛ ‵ (Sn three_quarters j v))) (sits d vs j three_quarters v) $ learn ! (λ at. split ! $ fsplit ! $
+      use1 𝓛 (‵ (Sn quarter j v) ⊛ raw (all 𝓤 (Puts 0 vs j j))) (all_at vs 0 j j v (omega arith) at) $ split ! $
+      -- [a quarter; the others; those to come; three quarters; the share]
+      move ! (0 ∷ 3 ∷ []) $ use2 𝓛 (given (v ≡ v) (‵ (Sn full_share j v))) (glues j v v) $ learn ! (λ _. move ! (0 ∷ 3 ∷ []) $
+      use2 𝓛 (given ⊥ (‵ (Sn full_share j v) ⊛ ‵ (Sn q j u))) (alone j q v u) $ learn ! (λ no. absurd no)))
 
   all_snoc : (vs : List V) (k j : ℕ) (v : V) → j ≡ k + length vs → ⟦ All k vs ⟧ ∗ ⟦ Sn quarter j v ⟧ ⊢ ⟦ All k (vs ++ v ∷ []) ⟧
   all_snoc [] k j v e = let is : j ≡ k = omega arith in qed 𝓛 (‵ ftrue ∷ ‵ (Sn quarter j v) ∷ []) ∵ rewrite ! 1 (λ (n : ℕ). ‵ (Sn quarter n v)) is refl $

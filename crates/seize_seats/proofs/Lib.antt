@@ -6,11 +6,15 @@ pub mod Stretches
 pub mod Lendings
 pub mod Numbers
 pub mod Moves
+pub mod Hands
 pub mod Makings
 pub mod Regains
+pub mod Rewrites
 pub mod Lends
 pub mod Steps
 pub mod Opening
+pub mod Meetings
+pub mod Renewal
 pub mod Shares
 pub mod Shown
 pub mod Rooms

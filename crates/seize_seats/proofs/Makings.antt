@@ -1,6 +1,6 @@
 -- How a block comes and goes: a number is claimed, its place taken out, a block published, taken away, and its number is free again. Assumes `Logic`.
 use Rattle.std.specs.Prelude.{slice_get, slice_set}
-use Rattle.std.proofs.Common.{◌≡◌, ℕ, zero, suc, ◌+◌, ◌-◌, ◌*◌, ◌^◌, ◌<◌, List, [], ◌∷◌, length, refl, sym, ap, ◌∙◌, subst, arith, inl, inr, Option, Some, None, Ok}
+use Rattle.std.proofs.Common.{◌≡◌, ◌⊎◌, ℕ, zero, suc, ◌+◌, ◌-◌, ◌*◌, ◌^◌, ◌<◌, List, [], ◌∷◌, length, refl, sym, ap, ◌∙◌, subst, arith, inl, inr, Option, Some, None, Ok}
 use Rattle.std.specs.Prelude.{bit_or, IsSome}
 use seplogic.Ra.Ura.{Ura}
 use base.Fraction.{full_share}
@@ -20,13 +20,15 @@ use Rattle.seize_words.specs.Op.{Make, Take, Made, Taken}
 use Rattle.seize_words.specs.Op as Op
 use Rattle.seize_words.specs.declared.block.Block.{Block}
 use Rattle.seize_seats.specs.State.{State, Goes, Allows}
-use Rattle.seize_seats.specs.Cells.{Cell, Free, Claimed, Out, Has, block_in, blocks_in, cell_at, sign_of}
+use Rattle.seize_seats.specs.Lendings.{ShownToBoth}
+use Rattle.seize_seats.specs.Cells.{Cell, Free, Claimed, Out, Has, Held, block_in, blocks_in, cell_at, sign_of}
 use Rattle.seize_seats.specs.Lines.{Parts, long, memory_of, AreLaid}
-use Rattle.seize_seats.specs.Owned.{fact, ledger, claim_owns, Hand, hand_coded, resting, busy, zeros, stride, hand, inside, offered, lent_here, BaseId, age, Inside, state_of, standing, inner}
+use Rattle.seize_seats.specs.Owned.{fact, ledger, claim_owns, Hand, hand_coded, resting, busy, held, zeros, row, stride, hand, inside, offered, lent_here, BaseId, age, Inside, state_of, standing, inner}
 use Rattle.seize_seats.proofs.Cells.{recelled, laid_same, laid_with, block_is, blocks_made, blocks_set, cell_beyond}
 use Rattle.seize_seats.proofs.Numbers as Numbers
 use Rattle.seize_seats.proofs.Ledgers as Ledgers
 use Rattle.seize_seats.proofs.Moves as Moves
+use Rattle.seize_seats.proofs.Hands as Hands
 
 module _ {M : Type 1} {𝓤 : Ura M} (𝓛 : Logic 𝓤) (R : RattleType) {V W : Type 0} (cv : Coded V) (holds : State R.Denot V W → Type 0) (keeps : V → V → W → ℕ
     → Type 0) (p : Ptr) (z : BaseId) where
@@ -79,14 +81,17 @@ module _ {M : Type 1} {𝓤 : Ura M} (𝓛 : Logic 𝓤) (R : RattleType) {V W :
   abbrev pub lent : ℕ → R.Denot → ℕ → ℕ → Fml
   lent = lent_here R cv.code holds p z
 
+  abbrev had : ℕ → ℕ → R.Denot → Fml
+  had = Moves.had 𝓛 R cv holds keeps p z
+
   abbrev Ws : List ℕ → List (Cell R.Denot) → Fml
-  Ws = Numbers.Ws 𝓛 R p z lent
+  Ws = Numbers.Ws 𝓛 R p z lent had
 
   abbrev pub cell_of : ℕ → Cell R.Denot → Fml
-  cell_of = Numbers.cell_of 𝓛 R p z lent
+  cell_of = Numbers.cell_of 𝓛 R p z lent had
 
   abbrev pub Recells : In → ℕ → Cell R.Denot → Pr
-  Recells t i = Numbers.Recells 𝓛 R p z lent t.parts.words t.parts.cells i
+  Recells t i = Numbers.Recells 𝓛 R p z lent had t.parts.words t.parts.cells i
 
   -- a share of who has a number, and what lies under it
   abbrev pub hands : Share → ℕ → Hand → Fml
@@ -97,7 +102,7 @@ module _ {M : Type 1} {𝓤 : Ura M} (𝓛 : Logic 𝓤) (R : RattleType) {V W :
 
   -- the same of a block, whose value can be lent
   abbrev pub offers : ℕ → List ℕ → R.Denot → Fml
-  offers i ws x = offered R α z.hands_name lent b (i * 40 + o) (block_of z.values) (i * stride R + count_of z.values) i ws x
+  offers i ws x = offered R α z.hands_name lent had b (i * 40 + o) (block_of z.values) (i * stride R + count_of z.values) i ws x
 
   abbrev pub Sound : In → Type 0
   Sound t = holds (state_of z t) × AreLaid z.roots z.count t.parts
@@ -107,11 +112,11 @@ module _ {M : Type 1} {𝓤 : Ura M} (𝓛 : Logic 𝓤) (R : RattleType) {V W :
 
   module _ (t : In) (sound : Sound t) where
     -- another cell with the same block
-    pub recell : (i : ℕ) (d : Cell R.Denot) → block_in d ≡ block_in (cell_at t.parts.cells i) → ((x : R.Denot) (ws : List ℕ) → d ≡ Has x ws → length ws ≡ 4)
+    pub recell : (i : ℕ) (d : Cell R.Denot) → block_in d ≡ block_in (cell_at t.parts.cells i)
         → ⟦ cell_of i d ⟧ ∗ all 𝓤 (Recells t i) ∗ ⟦ Led t ⟧ ⊢ ⟦ I ⟧
-    recell i d same four =
+    recell i d same =
         let ws : List ℕ = t.parts.words in let cs : List (Cell R.Denot) = slice_set t.parts.cells i d in
-        let l = laid_same z.roots z.count t.parts sound.1 i d same four in
+        let l = laid_same z.roots z.count t.parts sound.1 i d same in
         let n : In = record { parts = recelled z.roots z.count t.parts sound.1 i d t.parts.given; blank = t.blank; views = t.views; world = t.world } in
         let so : holds (state_of z n) = subst (λ (m : Mem R.Denot). holds record { memory = m; views = t.views; world = t.world }) (sym l.1) sound.0 in
         qed 𝓛 (‵ (cell_of i d) ∷ raw (all 𝓤 (Recells t i)) ∷ ‵ (Led t) ∷ []) ∵ move ! (1 ∷ []) $ use1 𝓛 (raw (Recells t i d)) (all_e 𝓤 (Recells t i) d) $
@@ -129,7 +134,7 @@ module _ {M : Type 1} {𝓤 : Ura M} (𝓛 : Logic 𝓤) (R : RattleType) {V W :
   opens X Z i lt then = qed 𝓛 (‵ I ∷ raw X ∷ []) ∵ fpick ! (λ t. fsplit3 ! $ move ! (2 ∷ []) $ fpick ! (λ sound. drop ! $ move ! (0 ∷ []) $
       -- [the memory; the views; X]
       let cs : List (Cell R.Denot) = t.parts.cells in let c : Cell R.Denot = cell_at cs i in
-      use1 𝓛 (‵ (cell_of i c) ⊛ raw (all 𝓤 (Recells t i))) (Numbers.celled 𝓛 R p z lent t.parts.words cs i c (few t sound i lt) refl) $ split ! $
+      use1 𝓛 (‵ (cell_of i c) ⊛ raw (all 𝓤 (Recells t i))) (Numbers.celled 𝓛 R p z lent had t.parts.words cs i c (few t sound i lt) refl) $ split ! $
       by ! (then t sound c refl)))
 
   -- ---- A NUMBER IS CLAIMED: bit 0 of its sign is set, and who has set it has the number
@@ -147,22 +152,22 @@ module _ {M : Type 1} {𝓤 : Ura M} (𝓛 : Logic 𝓤) (R : RattleType) {V W :
     Ag = Again 𝓛 α q I b e f always (claimed i)
 
     -- it was not free
-    had : (t : In) (sound : Sound t) (c : Cell R.Denot) → cell_at t.parts.cells i ≡ c → sign_of c ≡ 1 → ((x : R.Denot) (ws : List ℕ) → c ≡ Has x ws
-        → length ws ≡ 4)
+    found : (t : In) (sound : Sound t) (c : Cell R.Denot) → cell_at t.parts.cells i ≡ c → sign_of c ≡ 1
         → ⟦ cell_of i c ⟧ ∗ all 𝓤 (Recells t i) ∗ ⟦ Led t ⟧ ∗ emp 𝓤 ⊢ upd 𝓤 (ex 𝓤 Li)
-    had t sound c is sign four = let Z : Pr = ⟦ I ⟧ ∗ emp 𝓤 in
+    found t sound c is sign = let Z : Pr = ⟦ I ⟧ ∗ emp 𝓤 in
         qed 𝓛 (‵ (cell_of i c) ∷ raw (all 𝓤 (Recells t i)) ∷ ‵ (Led t) ∷ ‵ ftrue ∷ []) ∵ suffices ! _ (upd_i 𝓤 (ex 𝓤 Li)) $ fsplit ! $
         rewrite ! 0 (λ (u : ℕ × ℕ). ‵ (word b u.0 u.1)) (λ j. (at j, sign j)) refl $ show ! Li 1 $ frame ! $
         each ! (λ (_ : Unit {0}). Ag 1) (λ _. assume ! (‵ (word b e 1)) $
         rewrite ! 0 (λ (u : ℕ × ℕ). ‵ (word b u.0 u.1)) (λ j. (sym at j, sym sign j)) refl $ fjoin ! $
         -- [the cell; the others; the views; nothing]
-        suffices ! _ (upd_i 𝓤 Z) $ use3 𝓛 (‵ I) (recell t sound i c (sym (ap block_in is)) four) $ done !)
+        suffices ! _ (upd_i 𝓤 Z) $ use3 𝓛 (‵ I) (recell t sound i c (sym (ap block_in is))) $ done !)
 
     grants : (t : In) (sound : Sound t) (c : Cell R.Denot) → cell_at t.parts.cells i ≡ c
         → ⟦ cell_of i c ⟧ ∗ all 𝓤 (Recells t i) ∗ ⟦ Led t ⟧ ∗ emp 𝓤 ⊢ upd 𝓤 (ex 𝓤 Li)
-    grants t sound Claimed is = had t sound Claimed is refl (λ x ws e. absurd (cc e))
-    grants t sound (Out s) is = had t sound (Out s) is refl (λ x ws e. absurd (cc e))
-    grants t sound (Has x ws) is = had t sound (Has x ws) is refl (λ y us e. sound.1.fours i y us (is ∙ e))
+    grants t sound Claimed is = found t sound Claimed is refl
+    grants t sound (Out s) is = found t sound (Out s) is refl
+    grants t sound (Has x ws) is = found t sound (Has x ws) is refl
+    grants t sound (Held ρ s x ws) is = found t sound (Held ρ s x ws) is refl
     grants t sound Free is = let Z : Pr = ⟦ I ⟧ ∗ ⟦ hands three_quarters i resting ⟧ in
         qed 𝓛 (‵ (cell_of i Free) ∷ raw (all 𝓤 (Recells t i)) ∷ ‵ (Led t) ∷ ‵ ftrue ∷ []) ∵ suffices ! _ (upd_i 𝓤 (ex 𝓤 Li)) $ fsplit ! $
         rewrite ! 0 (λ (k : ℕ). ‵ (word b k 0)) at refl $ show ! Li 0 $ frame ! $
@@ -173,7 +178,7 @@ module _ {M : Type 1} {𝓤 : Ura M} (𝓛 : Logic 𝓤) (R : RattleType) {V W :
         move ! (0 ∷ 2 ∷ []) $ fjoin ! $ move ! (2 ∷ 0 ∷ []) $ fjoin ! $
         -- [the cell; three quarters; the others; the views; nothing]
         suffices ! _ (upd_i 𝓤 Z) $ move ! (0 ∷ 2 ∷ 3 ∷ []) $
-        use3 𝓛 (‵ I) (recell t sound i Claimed (sym (ap block_in is)) (λ x ws e. absurd (cc e))) $ keep ! (0 ∷ 1 ∷ []) $ done !)
+        use3 𝓛 (‵ I) (recell t sound i Claimed (sym (ap block_in is))) $ keep ! (0 ∷ 1 ∷ []) $ done !)
 
     pub claims : ⟦ Inv ⟧ ∗ (A.lft α q ∗ emp 𝓤) ⊢ asks 𝓛 (block_ptr b e) f always (λ n. fsep (flft α q) (claim_owns z.hands_name i n))
     claims = plainly (A.lft α q ∗ emp 𝓤) _ (borrowed 𝓛 α q I b e f always (claimed i) (emp 𝓤) (opens (emp 𝓤) (upd 𝓤 (ex 𝓤 Li)) i lt grants))
@@ -186,11 +191,24 @@ module _ {M : Type 1} {𝓤 : Ura M} (𝓛 : Logic 𝓤) (R : RattleType) {V W :
       ⊢ guard 𝓤 (w ≡ h) (⟦ hands quarter i w ⟧ ∗ ⟦ hands three_quarters i h ⟧)
   same_hand i h w = Ledgers.agree 𝓛 hand_coded z.hands_name i three_quarters w h
 
-  turns_hand : (i : ℕ) (w h u : Hand) → ⟦ hands quarter i w ⟧ ∗ ⟦ hands three_quarters i h ⟧ ⊢ upd 𝓤 (⟦ hands quarter i u ⟧ ∗ ⟦ hands three_quarters i u ⟧)
+  pub turns_hand : (i : ℕ) (w h u : Hand) → ⟦ hands quarter i w ⟧ ∗ ⟦ hands three_quarters i h ⟧ ⊢ upd 𝓤 (⟦ hands quarter i u ⟧ ∗ ⟦ hands three_quarters i u ⟧)
   turns_hand i w h u = Ledgers.sets 𝓛 hand_coded z.hands_name i w h u
 
   pub resting_is_not : (e : Share) → busy e ≡ resting → ⊥
   resting_is_not e same = let q : 1 ≡ 0 = ap (λ (h : Hand). h.0) same in absurd (omega (arith, q))
+
+  pub resting_is_not_held : (ρ : ℕ) (e : Share) → held ρ e ≡ resting → ⊥
+  resting_is_not_held ρ e same = let q : suc (suc ρ) ≡ 0 = ap (λ (h : Hand). h.0) same in absurd (omega (arith, q))
+
+  pub busy_is_not_held : (ρ : ℕ) (s e : Share) → held ρ s ≡ busy e → ⊥
+  busy_is_not_held ρ s e same = let q : suc (suc ρ) ≡ 1 = ap (λ (h : Hand). h.0) same in absurd (omega (arith, q))
+
+  -- a number of which a quarter stands in the memory, and whose hand is not this one
+  pub strange : (i n : ℕ) (w h : Hand) (K : Fml) (Z : Pr) → (w ≡ h → ⊥)
+      → ⟦ fsep (word b (i * 40 + o + 32) n) (fsep (hands quarter i w) K) ⟧ ∗ ⟦ hands three_quarters i h ⟧ ⊢ Z
+  strange i n w h K Z ne = qed 𝓛 (‵ (fsep (word b (i * 40 + o + 32) n) (fsep (hands quarter i w) K)) ∷ ‵ (hands three_quarters i h) ∷ []) ∵ fsplit ! $
+      move ! (1 ∷ []) $ fsplit ! $ move ! (0 ∷ 3 ∷ []) $
+      use2 𝓛 (given (w ≡ h) (‵ (hands quarter i w) ⊛ ‵ (hands three_quarters i h))) (same_hand i h w) $ learn ! (λ same. absurd (ne same))
 
   -- ---- ITS PLACE IS TAKEN OUT, for a share of the lifetime
   module _ (i : ℕ) (e : Share) (lt : i < z.count) where
@@ -223,7 +241,12 @@ module _ {M : Type 1} {𝓤 : Ura M} (𝓛 : Logic 𝓤) (R : RattleType) {V W :
         settle 𝓛 Withdrawn (‵ (hands quarter i (busy e)) ⊛ ‵ (hands three_quarters i (busy e))) $ split ! $ suffices ! _ (upd_i 𝓤 Withdrawn) $
         move ! (0 ∷ 4 ∷ []) $ fjoin ! $ move ! (3 ∷ 0 ∷ []) $ fjoin ! $
         -- [the cell; three quarters; the contents; the others; the views]
-        move ! (0 ∷ 3 ∷ 4 ∷ []) $ use3 𝓛 (‵ I) (recell t sound i (Out e) (sym (ap block_in is)) (λ x ws q. absurd (cc q))) $ done !
+        move ! (0 ∷ 3 ∷ 4 ∷ []) $ use3 𝓛 (‵ I) (recell t sound i (Out e) (sym (ap block_in is))) $ done !
+    takes_out t sound (Held ρ s x ws) is = let Z : Pr = upd 𝓤 Withdrawn in
+        qed 𝓛 (‵ (cell_of i (Held ρ s x ws)) ∷ raw (all 𝓤 (Recells t i)) ∷ ‵ (Led t) ∷ (‵ (hands three_quarters i resting) ⊛ ‵ (flft α e)) ∷ []) ∵
+        move ! (3 ∷ []) $ split ! $ move ! (2 ∷ 0 ∷ []) $
+        use2 𝓛 (raw Z) (strange i 1 (held ρ s) resting (fsep (row b (i * 40 + o) ws) (fsep (flft α s) (had ρ i x))) Z (resting_is_not_held ρ s)) $
+        keep ! (0 ∷ []) $ done !
 
     pub withdraws : ⟦ I ⟧ ∗ Asking ⊢ upd 𝓤 Withdrawn
     withdraws = opens Asking (upd 𝓤 Withdrawn) i lt takes_out
@@ -270,8 +293,13 @@ module _ {M : Type 1} {𝓤 : Ura M} (𝓛 : Logic 𝓤) (R : RattleType) {V W :
         use2 𝓛 (given (resting ≡ resting) (‵ (hands full_share i resting))) (Ledgers.glues 𝓛 hand_coded z.hands_name i resting resting) $ learn ! (λ _.
         -- [the hand; the contents; the share; the sign; the others; the views]
         fjoin ! $ move ! (2 ∷ 0 ∷ []) $ fjoin ! $ move ! (0 ∷ 2 ∷ 3 ∷ []) $
-        use3 𝓛 (‵ I) (recell t sound i Free (sym (ap block_in is)) (λ x ws v. absurd (cc v))) $
+        use3 𝓛 (‵ I) (recell t sound i Free (sym (ap block_in is))) $
         move ! (1 ∷ []) $ rewrite ! 0 (λ (u : Share). ‵ (flft α u)) (ap (λ (h : Hand). h.1) same) refl $ move ! (1 ∷ 0 ∷ []) $ done !)))
+    returns t sound (Held ρ s x ws) is = let Z : Pr = upd 𝓤 (ex 𝓤 Lf) in
+        qed 𝓛 (‵ (cell_of i (Held ρ s x ws)) ∷ raw (all 𝓤 (Recells t i)) ∷ ‵ (Led t) ∷ (‵ (hands three_quarters i (busy e)) ⊛ ‵ (contents i zeros None)) ∷ []) ∵
+        move ! (3 ∷ []) $ split ! $ move ! (2 ∷ 0 ∷ []) $
+        use2 𝓛 (raw Z) (strange i 1 (held ρ s) (busy e) (fsep (row b (i * 40 + o) ws) (fsep (flft α s) (had ρ i x))) Z (busy_is_not_held ρ s e)) $
+        keep ! (0 ∷ []) $ done !
 
     pub frees : ⟦ Inv ⟧ ∗ (A.lft α q ∗ Returning) ⊢ asks 𝓛 (block_ptr b k) g always (λ n. fsep (flft α q) (due n))
     frees = plainly (A.lft α q ∗ Returning) _ (borrowed 𝓛 α q I b k g always due Returning (opens Returning (upd 𝓤 (ex 𝓤 Lf)) i lt returns))
@@ -284,7 +312,7 @@ module _ {M : Type 1} {𝓤 : Ura M} (𝓛 : Logic 𝓤) (R : RattleType) {V W :
   Stands = Moves.Stands 𝓛 R cv holds keeps p z
 
   -- the cell of a number, as a seat sees it
-  opens_seated : (id : ℕ) (v : V) (X Z : Pr)
+  pub opens_seated : (id : ℕ) (v : V) (X Z : Pr)
       → ((t : In) (g : Stands id v t) → ⟦ Ws t.parts.words t.parts.cells ⟧ ∗ ⟦ Led t ⟧ ∗ ⟦ seat id v ⟧ ∗ X ⊢ Z) → ⟦ I ⟧ ∗ (⟦ seat id v ⟧ ∗ X) ⊢ Z
   opens_seated id v X Z then = qed 𝓛 (‵ I ∷ (‵ (seat id v) ⊛ raw X) ∷ []) ∵ move ! (1 ∷ []) $ split ! $ move ! (2 ∷ 0 ∷ []) $
       use2 𝓛 (Moves.opening 𝓛 R cv holds keeps p z id v) (Moves.opened 𝓛 R cv holds keeps p z id v) $ pick ! (λ t. learn ! (λ g. split3 ! $ by ! (then t g)))
@@ -313,8 +341,8 @@ module _ {M : Type 1} {𝓤 : Ura M} (𝓛 : Logic 𝓤) (R : RattleType) {V W :
         let is : memory_of z.roots (recelled z.roots z.count t.parts laid i d m.0) ≡ after mo (Make x 0) (Made (Ok (i + 1))) =
         ap (λ (l : List (Option (Block R.Denot))). record mo { blocks = l }) (ap (λ (k : ℕ). blocks_in m.0 (slice_set cs k d)) (sym same) ∙ m.4) in (
           m.0,
-          laid_with z.roots z.count t.parts laid i d m.0 m.1 (let h = m.3 in omega (arith, h, all)) (inr (let h = m.2 in omega (arith, h))) (λ y ws q.
-              let us : zeros ≡ ws = cc q in ap length (sym us)),
+          laid_with z.roots z.count t.parts laid i d m.0 m.1 (let h = m.3 in omega (arith, h, all)) (inr (let h = m.2 in omega (arith, h))) (λ y q.
+              let same : fresh x 0 ≡ y = cc q in sym (ap (λ (l : Block R.Denot). length l.entry) same)),
           (law (state_of z t) g.0 g.2).1 (Made (Ok (i + 1))) (memory_of z.roots (recelled z.roots z.count t.parts laid i d m.0)) ((free, small), is),
         )
 
@@ -355,18 +383,28 @@ module _ {M : Type 1} {𝓤 : Ura M} (𝓛 : Logic 𝓤) (R : RattleType) {V W :
         (back id v t (recelled z.roots z.count t.parts g.1 i d r.0) (so (Made (Ok (i + 1)))) r.1 g.2 r.2) $
         settle 𝓛 Published (‵ I ⊛ ‵ (gone_on id (so (Made (Ok (i + 1)))))) $ split ! $ suffices ! _ (upd_i 𝓤 Published) $
         move ! (2 ∷ []) $ rewrite ! 0 (λ (u : Share). ‵ (flft α u)) (ap (λ (h : Hand). h.1) same) refl $ move ! (1 ∷ 2 ∷ 0 ∷ []) $ done !))
+    puts t g (Held ρ s x' ws) is = let Z : Pr = upd 𝓤 Published in
+        qed 𝓛 (‵ (cell_of i (Held ρ s x' ws)) ∷ raw (all 𝓤 (Recells t i)) ∷ ‵ (Led t) ∷ ‵ (seat id v) ∷
+        (‵ (hands three_quarters i (busy e)) ⊛ ‵ (offers i zeros x)) ∷ []) ∵
+        move ! (4 ∷ []) $ split ! $ move ! (2 ∷ 0 ∷ []) $
+        use2 𝓛 (raw Z) (strange i 1 (held ρ s) (busy e) (fsep (row b (i * 40 + o) ws) (fsep (flft α s) (had ρ i x'))) Z (busy_is_not_held ρ s e)) $
+        keep ! (0 ∷ []) $ done !
 
     pub publishes : ⟦ I ⟧ ∗ (⟦ seat id v ⟧ ∗ Ready) ⊢ upd 𝓤 Published
     publishes = opens_seated id v Ready (upd 𝓤 Published) (λ t g. let cs : List (Cell R.Denot) = t.parts.cells in let c : Cell R.Denot = cell_at cs i in
         qed 𝓛 (‵ (Ws t.parts.words cs) ∷ ‵ (Led t) ∷ ‵ (seat id v) ∷ raw Ready ∷ []) ∵
-        use1 𝓛 (‵ (cell_of i c) ⊛ raw (all 𝓤 (Recells t i))) (Numbers.celled 𝓛 R p z lent t.parts.words cs i c (few t (g.0, g.1) i lt) refl) $ split ! $
+        use1 𝓛 (‵ (cell_of i c) ⊛ raw (all 𝓤 (Recells t i))) (Numbers.celled 𝓛 R p z lent had t.parts.words cs i c (few t (g.0, g.1) i lt) refl) $ split ! $
         by ! (puts t g c refl))
 
   -- a block that has a value is there
   abbrev pub HasBlock : ℕ → In → Type 0
   HasBlock n t = (x : R.Denot) × (ws : List ℕ) × (cell_at t.parts.cells (n - 1) ≡ Has x ws) × (0 < n)
 
-  pub has_block : (n : ℕ) (t : In) → AreLaid z.roots z.count t.parts → IsSome (value_at (memory_of z.roots t.parts) n) → HasBlock n t
+  -- or a call has its value in its hand
+  abbrev pub HeldBlock : ℕ → In → Type 0
+  HeldBlock n t = (ρ : ℕ) × (s : Share) × (x : R.Denot) × (ws : List ℕ) × (cell_at t.parts.cells (n - 1) ≡ Held ρ s x ws) × (0 < n)
+
+  pub has_block : (n : ℕ) (t : In) → AreLaid z.roots z.count t.parts → IsSome (value_at (memory_of z.roots t.parts) n) → HasBlock n t ⊎ HeldBlock n t
   has_block n t laid can = let low = numbered n can in
       by low (cell_at t.parts.cells (n - 1)) refl (subst IsSome (ap value_in (block_is z.roots z.count t.parts laid n low)) can)
     where
@@ -374,11 +412,26 @@ module _ {M : Type 1} {𝓤 : Ura M} (𝓛 : Logic 𝓤) (R : RattleType) {V W :
       numbered zero some = absurd (cc some)
       numbered (suc k) some = omega arith
 
-      by : 0 < n → (c : Cell R.Denot) → cell_at t.parts.cells (n - 1) ≡ c → IsSome (value_in (block_in c)) → HasBlock n t
+      by : 0 < n → (c : Cell R.Denot) → cell_at t.parts.cells (n - 1) ≡ c → IsSome (value_in (block_in c)) → HasBlock n t ⊎ HeldBlock n t
       by low Free is some = absurd (cc some)
       by low Claimed is some = absurd (cc some)
       by low (Out s) is some = absurd (cc some)
-      by low (Has x ws) is some = (x, ws, is, low)
+      by low (Has x ws) is some = inl (x, ws, is, low)
+      by low (Held ρ s x ws) is some = inr (ρ, s, x, ws, is, low)
+
+  -- that is of no block which the views of other seats show
+  pub held_away : (n : ℕ) (t : In) → Sound t → HeldBlock n t → (j : ℕ) (v : V) (k : ℕ) (u : V) (S : Fml) → Hands.Shows 𝓛 R cv holds p z j v k u S
+      → Hands.Crowds 𝓛 R cv holds p z j v k u S → (Z : Pr) → ShownToBoth holds j v k u n
+      → ⟦ Ws t.parts.words t.parts.cells ⟧ ∗ ⟦ Led t ⟧ ∗ ⟦ S ⟧ ⊢ Z
+  held_away n t sound h j v k u S shows crowds Z shown =
+      let i : ℕ = n - 1 in let ρ : ℕ = h.0 in let x : R.Denot = h.2 in let ws : List ℕ = h.3 in let c : Cell R.Denot = Held ρ h.1 x ws in let low = h.5 in
+      let cs : List (Cell R.Denot) = t.parts.cells in let lt = cell_beyond cs i c h.4 (λ e. absurd (cc e)) in
+      let one : n ≡ suc i = omega (arith, low) in let here : ShownToBoth holds j v k u (suc i) = subst (λ (m : ℕ). ShownToBoth holds j v k u m) one shown in
+      qed 𝓛 (‵ (Ws t.parts.words cs) ∷ ‵ (Led t) ∷ ‵ S ∷ []) ∵
+      use1 𝓛 (‵ (cell_of i c) ⊛ raw (all 𝓤 (Recells t i))) (Numbers.celled 𝓛 R p z lent had t.parts.words cs i c lt h.4) $ split ! $
+      fsplit ! $ move ! (1 ∷ []) $ fsplit3 ! $ move ! (2 ∷ []) $ fsplit ! $
+      -- [the share; who has it; the hand; the entry; the sign; the others; the views; the seats']
+      keep ! (6 ∷ 1 ∷ 7 ∷ []) $ by ! (Hands.excludes 𝓛 R cv holds p z j v k u S shows crowds t sound i ρ x Z here)
 
   -- ---- A BLOCK IS TAKEN AWAY, and its place is taken out for a share of the lifetime
   module _ (id : ℕ) (v : V) (n : ℕ) (e : Share) (so : Op.Out R.Denot → V → Type 0) (law : Allows holds keeps id v (Take n) so) where
@@ -394,9 +447,6 @@ module _ {M : Type 1} {𝓤 : Ura M} (𝓛 : Logic 𝓤) (R : RattleType) {V W :
     abbrev There : In → Type 0
     There = HasBlock n
 
-    there : (t : In) → Stands id v t → There t
-    there t g = has_block n t g.1 (law (state_of z t) g.0 g.2).0
-
     abbrev left : (t : In) (g : Stands id v t) → Parts R.Denot
     left t g = recelled z.roots z.count t.parts g.1 (n - 1) (Out e) t.parts.given
 
@@ -404,19 +454,19 @@ module _ {M : Type 1} {𝓤 : Ura M} (𝓛 : Logic 𝓤) (R : RattleType) {V W :
         × Goes holds keeps (state_of z t) (memory_of z.roots (left t g)) id (so (Taken th.0))
     taken t g th = let mo : Mem R.Denot = memory_of z.roots t.parts in
         let has : value_at mo n ≡ Some th.0 = ap value_in (block_is z.roots z.count t.parts g.1 n th.3 ∙ ap block_in th.2) in (
-          laid_with z.roots z.count t.parts g.1 (n - 1) (Out e) t.parts.given (omega arith) g.1.within (inl refl) (λ x ws q. absurd (cc q)),
+          laid_with z.roots z.count t.parts g.1 (n - 1) (Out e) t.parts.given (omega arith) g.1.within (inl refl) (λ x q. absurd (cc q)),
           (law (state_of z t) g.0 g.2).1 (Taken th.0) (memory_of z.roots (left t g))
               (has, ap (λ (l : List (Option (Block R.Denot))). record mo { blocks = l }) (blocks_set t.parts.given t.parts.cells (n - 1) (Out e))),
         )
 
-    pub leaves : ⟦ I ⟧ ∗ (⟦ seat id v ⟧ ∗ ⟦ flft α e ⟧) ⊢ upd 𝓤 TakenOut
-    leaves = opens_seated id v ⟦ flft α e ⟧ (upd 𝓤 TakenOut) (λ t g. let cs : List (Cell R.Denot) = t.parts.cells in let th = there t g in let i : ℕ = n - 1 in
+    goes : (t : In) (g : Stands id v t) → There t → ⟦ Ws t.parts.words t.parts.cells ⟧ ∗ ⟦ Led t ⟧ ∗ ⟦ seat id v ⟧ ∗ ⟦ flft α e ⟧ ⊢ upd 𝓤 TakenOut
+    goes t g th = let cs : List (Cell R.Denot) = t.parts.cells in let i : ℕ = n - 1 in
         let d : Cell R.Denot = Out e in let ds : List (Cell R.Denot) = slice_set cs i d in let ws : List ℕ = t.parts.words in
         let lt = cell_beyond cs i (Has th.0 th.1) th.2 (λ q. absurd (cc q)) in let all_of = g.1.counted in let r = taken t g th in
         let told : V → Type 0 = so (Taken th.0) in
-        let facts : (0 < n) × (i < z.count) × (length th.1 ≡ 4) = (th.3, omega (arith, lt, all_of), g.1.fours i th.0 th.1 th.2) in
+        let facts : (0 < n) × (i < z.count) × (length th.1 ≡ 4) = (th.3, omega (arith, lt, all_of), g.1.fours i _ (ap block_in th.2)) in
         qed 𝓛 (‵ (Ws ws cs) ∷ ‵ (Led t) ∷ ‵ (seat id v) ∷ ‵ (flft α e) ∷ []) ∵
-        use1 𝓛 (‵ (cell_of i (Has th.0 th.1)) ⊛ raw (all 𝓤 (Recells t i))) (Numbers.celled 𝓛 R p z lent ws cs i (Has th.0 th.1) lt th.2) $ split ! $
+        use1 𝓛 (‵ (cell_of i (Has th.0 th.1)) ⊛ raw (all 𝓤 (Recells t i))) (Numbers.celled 𝓛 R p z lent had ws cs i (Has th.0 th.1) lt th.2) $ split ! $
         fsplit ! $ move ! (1 ∷ []) $ fsplit ! $
         -- [the hand; the contents; the sign; the others; the views; the seat; the share]
         use1 𝓛 (‵ (hands quarter i resting) ⊛ ‵ (hands three_quarters i resting)) (Ledgers.cuts 𝓛 hand_coded z.hands_name i resting) $ split ! $
@@ -431,4 +481,16 @@ module _ {M : Type 1} {𝓤 : Ura M} (𝓛 : Logic 𝓤) (R : RattleType) {V W :
         -- [the seat; three quarters; the contents]
         move ! (1 ∷ 2 ∷ []) $ fjoin ! $ move ! (1 ∷ 0 ∷ []) $ fjoin ! $
         nothing ! $ fpack ! ((0 < n) × (i < z.count) × (length th.1 ≡ 4)) (λ _. ftrue) facts $ fjoin ! $ fpack ! (R.Denot × List ℕ) Taking (th.0, th.1) $
-        done !)
+        done !
+
+    -- The block is there, or somebody has its value in the hand: then no other seat's view shows it.
+    pub leaves : ⟦ I ⟧ ∗ (⟦ seat id v ⟧ ∗ ⟦ flft α e ⟧) ⊢ upd 𝓤 TakenOut
+    leaves = opens_seated id v ⟦ flft α e ⟧ (upd 𝓤 TakenOut) (λ t g. by t g (has_block n t g.1 (law (state_of z t) g.0 g.2).0))
+      where
+        by : (t : In) (g : Stands id v t) → HasBlock n t ⊎ HeldBlock n t
+            → ⟦ Ws t.parts.words t.parts.cells ⟧ ∗ ⟦ Led t ⟧ ∗ ⟦ seat id v ⟧ ∗ ⟦ flft α e ⟧ ⊢ upd 𝓤 TakenOut
+        by t g (inl th) = goes t g th
+        by t g (inr h) = let Z : Pr = upd 𝓤 TakenOut in
+            qed 𝓛 (‵ (Ws t.parts.words t.parts.cells) ∷ ‵ (Led t) ∷ ‵ (seat id v) ∷ ‵ (flft α e) ∷ []) ∵ keep ! (0 ∷ 1 ∷ 2 ∷ []) $
+            types.Kit.by ! (held_away n t (g.0, g.1) h id v id v (seat id v) (Hands.one_shows 𝓛 R cv holds p z id v id v three_quarters refl refl)
+            (Hands.one_crowds 𝓛 R cv holds p z id v id v three_quarters refl) Z (λ s so at _. (law s so at).0))

@@ -22,7 +22,7 @@ use Rattle.seize_words.specs.declared.at.At.{At}
 use Rattle.seize_seats.specs.State.{State, Goes, Allows, Turns, Comes}
 use Rattle.seize_seats.specs.Lines.{Parts, place_of, memory_of, AreLaid}
 use Rattle.seize_seats.specs.Steps.{IsStepOf, roomed}
-use Rattle.seize_seats.specs.Owned.{fact, ledger, BaseId, age, Inside, state_of, standing, inner, words_share, lent_here, seen}
+use Rattle.seize_seats.specs.Owned.{fact, ledger, BaseId, age, Inside, state_of, standing, inner, words_share, lent_here, had_here, seen}
 use Rattle.seize_seats.specs.Stretches.{IsEven, invariant}
 use Rattle.seize_seats.proofs.Numbers as Numbers
 use Rattle.seize_seats.proofs.Ledgers as Ledgers
@@ -69,9 +69,12 @@ module _ {M : Type 1} {𝓤 : Ura M} (𝓛 : Logic 𝓤) (R : RattleType) {V W :
   abbrev pub lent : ℕ → R.Denot → ℕ → ℕ → Fml
   lent = lent_here R cv.code holds p z
 
+  abbrev pub had : ℕ → ℕ → R.Denot → Fml
+  had = had_here R cv.code holds p z
+
   -- the words, and what lies under the numbers
   abbrev pub Ws : Parts R.Denot → Fml
-  Ws s = Numbers.Ws 𝓛 R p z lent s.words s.cells
+  Ws s = Numbers.Ws 𝓛 R p z lent had s.words s.cells
 
   abbrev Led : V → List V → Fml
   Led = ledger cv.code z.views_name
@@ -194,7 +197,7 @@ module _ {M : Type 1} {𝓤 : Ura M} (𝓛 : Logic 𝓤) (R : RattleType) {V W :
 
       -- where the word lies
       lies : (t : Inside R.Denot V W) → Stands id v t → (w : ℕ) → word_at (memory_of z.roots t.parts) at ≡ Some w → e ≡ place_of z.roots at * 8 + o
-      lies t g w found = ap (λ (k : ℕ). k * 8 + o) (is.lies (Numbers.is_word 𝓛 R p z lent t.parts g.1 at w found))
+      lies t g w found = ap (λ (k : ℕ). k * 8 + o) (is.lies (Numbers.is_word 𝓛 R p z lent had t.parts g.1 at w found))
 
       -- the memory with the other word is one after the operation
       goes : (t : Inside R.Denot V W) → Stands id v t → (w : ℕ) → word_at (memory_of z.roots t.parts) at ≡ Some w → (s : Parts R.Denot)
@@ -206,15 +209,15 @@ module _ {M : Type 1} {𝓤 : Ura M} (𝓛 : Logic 𝓤) (R : RattleType) {V W :
       taken q = let G : Pr = ex 𝓤 (Lies 𝓛 α q I b e f always told) in borrowed 𝓛 α q I b e f always told ⟦ seat id v ⟧
           (qed 𝓛 (‵ I ∷ ‵ (seat id v) ∷ []) ∵ suffices ! _ (upd_i 𝓤 G) $ use2 𝓛 (opening id v) (opened id v) $ pick ! (λ t. learn ! (λ g. split3 ! $
           let found = is.needs (memory_of z.roots t.parts) (law (state_of z t) g.0 g.2).0 in let w : ℕ = found.0 in
-          let P = Numbers.Rewrites 𝓛 R p z lent t.parts at e in let Z : Pr = ⟦ I ⟧ ∗ ⟦ told w ⟧ in
+          let P = Numbers.Rewrites 𝓛 R p z lent had t.parts at e in let Z : Pr = ⟦ I ⟧ ∗ ⟦ told w ⟧ in
           -- [the memory; the views; the seat]
-          use1 𝓛 (‵ (word b e w) ⊛ raw (all 𝓤 P)) (Numbers.word_opens 𝓛 R p z lent t.parts g.1 at e w found.1 (lies t g w found.1)) $ split ! $
+          use1 𝓛 (‵ (word b e w) ⊛ raw (all 𝓤 P)) (Numbers.word_opens 𝓛 R p z lent had t.parts g.1 at e w found.1 (lies t g w found.1)) $ split ! $
           show ! (Lies 𝓛 α q I b e f always told) w $ frame ! $
           each ! (λ (_ : Unit {0}). Again 𝓛 α q I b e f always told w) (λ _. assume ! (‵ (word b e (f w))) $
           -- [the word; the others; the views; the seat]
           move ! (1 ∷ []) $ use1 𝓛 (raw (P (f w))) (all_e 𝓤 P (f w)) $ move ! (1 ∷ 0 ∷ []) $
           use2 𝓛 (items (λ (s : Parts R.Denot). given (AreLaid z.roots z.count s × (memory_of z.roots s ≡ with_word (memory_of z.roots t.parts) at (f w)))
-          (‵ (Ws s)))) (apply∗ 𝓤 ⟦ word b e (f w) ⟧ (ex 𝓤 (Numbers.Rewritten 𝓛 R p z lent t.parts at (f w)))) $
+          (‵ (Ws s)))) (apply∗ 𝓤 ⟦ word b e (f w) ⟧ (ex 𝓤 (Numbers.Rewritten 𝓛 R p z lent had t.parts at (f w)))) $
           pick ! (λ s. learn ! (λ so_is. by ! (back id v t s (so (out w)) so_is.0 g.2 (goes t g w found.1 s so_is.1))))))))
 
       pub steps : (q : Share) → ⟦ Inv ⟧ ∗ (A.lft α q ∗ ⟦ seat id v ⟧) ⊢ asks 𝓛 (block_ptr b e) f always (λ n. fsep (flft α q) (told n))

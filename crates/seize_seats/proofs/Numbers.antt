@@ -3,31 +3,33 @@ use Rattle.std.specs.Prelude.{slice_get, slice_set}
 use Rattle.std.proofs.Common.{◌≡◌, ℕ, zero, suc, ◌+◌, ◌-◌, ◌*◌, ◌<◌, List, [], ◌∷◌, length, set, get_or, sym, refl, ap, ◌∙◌, arith, Option, Some}
 use seplogic.Ra.Ura.{Ura}
 use base.Fraction.{full_share}
-use base.Logic.{SProp, ent, sep, wand, ex, all, guard, apply∗, all_e}
-use base.Fml.{Lft, Fml, fsep}
+use base.Share.{quarter}
+use base.Logic.{SProp, ent, sep, wand, ex, all, guard, id⊢, apply∗, all_e}
+use base.Fml.{Lft, Fml, fsep, flft}
 use types.Logic.{Logic, sem}
 use types.Kit.{‵, raw, ◌⊛◌, ◌$◌, ◌∵◌, !, qed, move, split, frame, each, assume, fsplit, fjoin, show, check, use1, use2, rewrite, done}
 use denote.RattleType.{RattleType}
 use denote.RawPtr.{Ptr, block_of, count_of}
 use Rattle.core.specs.Sync.RawAtomic.{word}
-use Rattle.seize_words.specs.Mem.{word_at, word_in, with_word}
+use Rattle.seize_words.specs.Mem.{entry_in, word_at, word_in, with_word}
 use Rattle.seize_words.specs.declared.at.At.{At}
 use Rattle.seize_words.specs.declared.at.At.TheVariants.{Root, Used, Slot, Entry, Word}
 use Rattle.seize_words.specs.declared.block.Block.{Block}
-use Rattle.seize_seats.specs.Cells.{Cell, Free, Claimed, Out, Has, block_in, cell_at}
+use Rattle.seize_seats.specs.Cells.{Cell, Free, Claimed, Out, Has, Held, block_in, cell_at, noted_in}
 use Rattle.seize_seats.specs.Lines.{Parts, long, place_of, memory_of, IsWord, IsNoBlocks, AreLaid}
-use Rattle.seize_seats.specs.Owned.{row, stride, resting, hand, under, numbers, BaseId, age}
+use Rattle.seize_seats.specs.Laws.{noted}
+use Rattle.seize_seats.specs.Owned.{row, stride, resting, held, hand, under, numbers, BaseId, age}
 use Rattle.seize_seats.proofs.Cells.{block_is, entries_lie, entries_are_apart, cell_beyond, get_some}
 use Rattle.seize_seats.proofs.Columns.{words_lie, words_are_apart}
 use Rattle.seize_seats.proofs.Rows.{row_at}
 use Rattle.seize_seats.proofs.Rows as Rows
 
-module _ {M : Type 1} {𝓤 : Ura M} (𝓛 : Logic 𝓤) (R : RattleType) (α : Lft) (δ : ℕ) (lent : ℕ → R.Denot → ℕ → ℕ → Fml) (b b' : ℕ) where
+module _ {M : Type 1} {𝓤 : Ura M} (𝓛 : Logic 𝓤) (R : RattleType) (α : Lft) (δ : ℕ) (lent : ℕ → R.Denot → ℕ → ℕ → Fml) (had : ℕ → ℕ → R.Denot → Fml) (b b' : ℕ) where
   abbrev Under : ℕ → ℕ → ℕ → Cell R.Denot → Fml
-  Under o o' i c = under R α δ lent b o b' o' i c
+  Under o o' i c = under R α δ lent had b o b' o' i c
 
   abbrev All : ℕ → ℕ → ℕ → List (Cell R.Denot) → Fml
-  All o o' i cs = numbers R α δ lent b o b' o' i cs
+  All o o' i cs = numbers R α δ lent had b o b' o' i cs
 
   -- whoever has another cell of the number has all of them with it
   abbrev pub Puts : ℕ → ℕ → ℕ → List (Cell R.Denot) → ℕ → ℕ → ℕ → ℕ → Cell R.Denot → SProp 𝓤
@@ -55,7 +57,7 @@ module _ {M : Type 1} {𝓤 : Ura M} (𝓛 : Logic 𝓤) (R : RattleType) (α : 
       further : (i n o : ℕ) → suc i * n + o ≡ i * n + (o + n)
       further i n o = omega arith
 
-module _ {M : Type 1} {𝓤 : Ura M} (𝓛 : Logic 𝓤) (R : RattleType) (p : Ptr) (z : BaseId) (lent : ℕ → R.Denot → ℕ → ℕ → Fml) where
+module _ {M : Type 1} {𝓤 : Ura M} (𝓛 : Logic 𝓤) (R : RattleType) (p : Ptr) (z : BaseId) (lent : ℕ → R.Denot → ℕ → ℕ → Fml) (had : ℕ → ℕ → R.Denot → Fml) where
   abbrev ⟦◌⟧ : Fml → SProp 𝓤
   ⟦ P ⟧ = sem 𝓛 P
 
@@ -76,10 +78,10 @@ module _ {M : Type 1} {𝓤 : Ura M} (𝓛 : Logic 𝓤) (R : RattleType) (p : P
 
   -- all words, and what lies under the numbers
   abbrev pub Ws : List ℕ → List (Cell R.Denot) → Fml
-  Ws ws cs = fsep (row b o ws) (numbers R α z.hands_name lent b (long z.roots * 8 + o) b' o' 0 cs)
+  Ws ws cs = fsep (row b o ws) (numbers R α z.hands_name lent had b (long z.roots * 8 + o) b' o' 0 cs)
 
   abbrev pub cell_of : ℕ → Cell R.Denot → Fml
-  cell_of i c = under R α z.hands_name lent b (i * 40 + (long z.roots * 8 + o)) b' (i * stride R + o') i c
+  cell_of i c = under R α z.hands_name lent had b (i * 40 + (long z.roots * 8 + o)) b' (i * stride R + o') i c
 
   abbrev pub Recells : List ℕ → List (Cell R.Denot) → ℕ → Cell R.Denot → SProp 𝓤
   Recells ws cs i d = wand 𝓤 ⟦ cell_of i d ⟧ ⟦ Ws ws (slice_set cs i d) ⟧
@@ -89,11 +91,11 @@ module _ {M : Type 1} {𝓤 : Ura M} (𝓛 : Logic 𝓤) (R : RattleType) (p : P
       → ent 𝓤 ⟦ Ws ws cs ⟧ (sep 𝓤 ⟦ cell_of i c ⟧ (all 𝓤 (Recells ws cs i)))
   celled ws cs i c lt has =
       let e : ℕ = i * 40 + (long z.roots * 8 + o) in let e' : ℕ = i * stride R + o' in
-      let P = Puts 𝓛 R α z.hands_name lent b b' (long z.roots * 8 + o) o' 0 cs i e e' i in
-      let N : List (Cell R.Denot) → Fml = λ ds. numbers R α z.hands_name lent b (long z.roots * 8 + o) b' o' 0 ds in
+      let P = Puts 𝓛 R α z.hands_name lent had b b' (long z.roots * 8 + o) o' 0 cs i e e' i in
+      let N : List (Cell R.Denot) → Fml = λ ds. numbers R α z.hands_name lent had b (long z.roots * 8 + o) b' o' 0 ds in
       qed 𝓛 (‵ (row b o ws) ∷ ‵ (N cs) ∷ []) ∵ move ! (1 ∷ []) $
       use1 𝓛 (‵ (cell_of i c) ⊛ raw (all 𝓤 P))
-      (numbers_at 𝓛 R α z.hands_name lent b b' cs (long z.roots * 8 + o) o' 0 i e e' i c refl refl (omega arith) lt has) $ split ! $ frame ! $
+      (numbers_at 𝓛 R α z.hands_name lent had b b' cs (long z.roots * 8 + o) o' 0 i e e' i c refl refl (omega arith) lt has) $ split ! $ frame ! $
       each ! (Recells ws cs i) (λ d. use1 𝓛 (raw (P d)) (all_e 𝓤 P d) $ assume ! (‵ (cell_of i d)) $
       use2 𝓛 (‵ (N (set cs i d))) (apply∗ 𝓤 ⟦ cell_of i d ⟧ ⟦ N (set cs i d) ⟧) $ move ! (1 ∷ 0 ∷ []) $ fjoin ! $ done !)
 
@@ -111,7 +113,7 @@ module _ {M : Type 1} {𝓤 : Ura M} (𝓛 : Logic 𝓤) (R : RattleType) (p : P
     fixed : (at : At) (e w : ℕ) → IsNoBlocks at → word_at (memory_of z.roots s) at ≡ Some w → e ≡ place_of z.roots at * 8 + o → Opens at e w
     fixed at e w free is at_e =
         let ws : List ℕ = s.words in let i : ℕ = place_of z.roots at in let l = words_lie R.Denot z.roots z.count s at w laid free is in
-        let N : Fml = numbers R α z.hands_name lent b (long z.roots * 8 + o) b' o' 0 s.cells in let P = Rows.Puts 𝓛 b o ws i e in
+        let N : Fml = numbers R α z.hands_name lent had b (long z.roots * 8 + o) b' o' 0 s.cells in let P = Rows.Puts 𝓛 b o ws i e in
         qed 𝓛 (‵ (row b o ws) ∷ ‵ N ∷ []) ∵
         use1 𝓛 (‵ (word b e (get_or ws i 0)) ⊛ raw (all 𝓤 P)) (row_at 𝓛 b ws o i e at_e l.1) $ split ! $
         rewrite ! 0 (λ (k : ℕ). ‵ (word b e k)) l.2 refl $ frame ! $
@@ -120,32 +122,50 @@ module _ {M : Type 1} {𝓤 : Ura M} (𝓛 : Logic 𝓤) (R : RattleType) (p : P
         let a = words_are_apart R.Denot z.roots z.count s at w y laid free is in
         show ! (Rewritten s at y) (record { words = set ws i y; slots = s.slots; cells = s.cells; given = s.given }) $ check ! (a.0, a.1) $ fjoin ! $ done !)
 
-    entry : (n i e w : ℕ) → word_at (memory_of z.roots s) (Entry n i) ≡ Some w → e ≡ place_of z.roots (Entry n i) * 8 + o → Opens (Entry n i) e w
-    entry n i e w is at_e =
-        let l = entries_lie R.Denot z.roots z.count s n i w laid is in let x : R.Denot = l.1.0 in let es : List ℕ = l.1.1 in let j : ℕ = n - 1 in
-        let f : ℕ = j * 40 + (long z.roots * 8 + o) in let f' : ℕ = j * stride R + o' in
-        let lt = cell_beyond s.cells j (Has x es) l.1.2 (λ q. absurd (cc q)) in
-        let P = Recells s.words s.cells j in let Q = Rows.Puts 𝓛 b f es i e in let H : Fml = hand R α z.hands_name full_share j resting in
-        let V : Fml = lent j x b' f' in let S : Fml = word b (f + 32) 1 in
+    -- a sign, a hand, the words of an entry, and what lies beside them
+    abbrev Lying : ℕ → Fml → Fml → List ℕ → Fml
+    Lying n H V us = let f : ℕ = (n - 1) * 40 + (long z.roots * 8 + o) in fsep (word b (f + 32) 1) (fsep H (fsep (row b f us) V))
+
+    -- the word of an entry, whatever lies beside the words of the cell
+    noting : (n i e w : ℕ) (es : List ℕ) (d : List ℕ → Cell R.Denot) (H V : Fml) → cell_at s.cells (n - 1) ≡ d es → (d es ≡ Free → ⊥) → 0 < n
+        → slice_get es i ≡ Some w → ((us : List ℕ) → ent 𝓤 ⟦ cell_of (n - 1) (d us) ⟧ ⟦ Lying n H V us ⟧) → ((us : List ℕ) → ent 𝓤 ⟦ Lying n H V us ⟧ ⟦ cell_of (n - 1) (d us) ⟧)
+        → ((y : ℕ) → noted_in (d es) i y ≡ d (set es i y)) → e ≡ place_of z.roots (Entry n i) * 8 + o → Opens (Entry n i) e w
+    noting n i e w es d H V here ne low is to from same at_e =
+        let j : ℕ = n - 1 in let f : ℕ = j * 40 + (long z.roots * 8 + o) in
+        let lt = cell_beyond s.cells j (d es) here ne in let P = Recells s.words s.cells j in let Q = Rows.Puts 𝓛 b f es i e in let S : Fml = word b (f + 32) 1 in
         qed 𝓛 (‵ (Ws s.words s.cells) ∷ []) ∵
-        use1 𝓛 (‵ (fsep S (fsep H (fsep (row b f es) V))) ⊛ raw (all 𝓤 P)) (celled s.words s.cells j (Has x es) lt l.1.2) $ split ! $
+        use1 𝓛 (‵ (cell_of j (d es)) ⊛ raw (all 𝓤 P)) (celled s.words s.cells j (d es) lt here) $ split ! $ use1 𝓛 (‵ (Lying n H V es)) (to es) $
         fsplit ! $ move ! (1 ∷ []) $ fsplit ! $ move ! (1 ∷ []) $ fsplit ! $
-        -- [the entry; the value; the hand; the sign; the others]
-        use1 𝓛 (‵ (word b e (get_or es i 0)) ⊛ raw (all 𝓤 Q)) (row_at 𝓛 b es f i e (omega (arith, at_e)) (get_some es i w l.1.3)) $ split ! $
-        rewrite ! 0 (λ (k : ℕ). ‵ (word b e k)) (read es i w l.1.3) refl $ frame ! $
+        -- [the entry; what lies beside it; the hand; the sign; the others]
+        use1 𝓛 (‵ (word b e (get_or es i 0)) ⊛ raw (all 𝓤 Q)) (row_at 𝓛 b es f i e (omega (arith, at_e)) (get_some es i w is)) $ split ! $
+        rewrite ! 0 (λ (k : ℕ). ‵ (word b e k)) (read es i w is) refl $ frame ! $
         each ! (Rewrites s (Entry n i) e) (λ y. use1 𝓛 (raw (Q y)) (all_e 𝓤 Q y) $ assume ! (‵ (word b e y)) $
         use2 𝓛 (‵ (row b f (set es i y))) (apply∗ 𝓤 ⟦ word b e y ⟧ ⟦ row b f (set es i y) ⟧) $ fjoin ! $ move ! (1 ∷ 0 ∷ []) $ fjoin ! $ move ! (1 ∷ 0 ∷ []) $
-        fjoin ! $ move ! (1 ∷ []) $ let d : Cell R.Denot = Has x (set es i y) in
-        use1 𝓛 (raw (P d)) (all_e 𝓤 P d) $ move ! (1 ∷ 0 ∷ []) $
-        use2 𝓛 (‵ (Ws s.words (slice_set s.cells j d))) (apply∗ 𝓤 ⟦ cell_of j d ⟧ ⟦ Ws s.words (slice_set s.cells j d) ⟧) $
-        let a = entries_are_apart R.Denot z.roots z.count s n i y x es laid l.0.0 l.1.2 in
-        show ! (Rewritten s (Entry n i) y) (record { words = s.words; slots = s.slots; cells = slice_set s.cells j d; given = s.given }) $ check ! (a.0, a.1) $
-        done !)
+        fjoin ! $ use1 𝓛 (‵ (cell_of j (d (set es i y)))) (from (set es i y)) $ move ! (1 ∷ []) $ let c : Cell R.Denot = d (set es i y) in
+        use1 𝓛 (raw (P c)) (all_e 𝓤 P c) $ move ! (1 ∷ 0 ∷ []) $
+        use2 𝓛 (‵ (Ws s.words (slice_set s.cells j c))) (apply∗ 𝓤 ⟦ cell_of j c ⟧ ⟦ Ws s.words (slice_set s.cells j c) ⟧) $
+        let this : noted_in (cell_at s.cells j) i y ≡ c = ap (λ (x : Cell R.Denot). noted_in x i y) here ∙ same y in
+        rewrite ! 0 (λ (x : Cell R.Denot). ‵ (Ws s.words (slice_set s.cells j x))) (sym this) refl $
+        show ! (Rewritten s (Entry n i) y) (noted R.Denot s n i y) $ check ! (entries_are_apart R.Denot z.roots z.count s n i y laid low) $ done !)
       where
         read : (ws : List ℕ) (i w : ℕ) → slice_get ws i ≡ Some w → get_or ws i 0 ≡ w
         read [] i w e = absurd (cc e)
         read (v ∷ ws) zero w e = cc e
         read (v ∷ ws) (suc i) w e = read ws i w e
+
+    entry : (n i e w : ℕ) → word_at (memory_of z.roots s) (Entry n i) ≡ Some w → e ≡ place_of z.roots (Entry n i) * 8 + o → Opens (Entry n i) e w
+    entry n i e w is at_e = let l = entries_lie R.Denot z.roots z.count s n i w laid is in by l.0.0 (cell_at s.cells (n - 1)) refl l.1
+      where
+        by : 0 < n → (c : Cell R.Denot) → cell_at s.cells (n - 1) ≡ c → entry_in (block_in c) i ≡ Some w → Opens (Entry n i) e w
+        by low Free here got = absurd (cc got)
+        by low Claimed here got = absurd (cc got)
+        by low (Out q) here got = absurd (cc got)
+        by low (Has x es) here got = let j : ℕ = n - 1 in
+            noting n i e w es (Has x) (hand R α z.hands_name full_share j resting) (lent j x b' (j * stride R + o')) here (λ q. absurd (cc q)) low got
+            (λ us. id⊢ 𝓤 ⟦ cell_of j (Has x us) ⟧) (λ us. id⊢ 𝓤 ⟦ cell_of j (Has x us) ⟧) (λ y. refl) at_e
+        by low (Held ρ q x es) here got = let j : ℕ = n - 1 in
+            noting n i e w es (Held ρ q x) (hand R α z.hands_name quarter j (held ρ q)) (fsep (flft α q) (had ρ j x)) here (λ q. absurd (cc q)) low got
+            (λ us. id⊢ 𝓤 ⟦ cell_of j (Held ρ q x us) ⟧) (λ us. id⊢ 𝓤 ⟦ cell_of j (Held ρ q x us) ⟧) (λ y. refl) at_e
 
     -- no block has words of its own
     bare : (c : Cell R.Denot) (i w : ℕ) → word_in (block_in c) i ≡ Some w → ⊥
@@ -153,6 +173,7 @@ module _ {M : Type 1} {𝓤 : Ura M} (𝓛 : Logic 𝓤) (R : RattleType) (p : P
     bare Claimed i w e = absurd (cc e)
     bare (Out q) i w e = absurd (cc e)
     bare (Has x ws) i w e = absurd (cc e)
+    bare (Held ρ q x ws) i w e = absurd (cc e)
 
     none : (n i w : ℕ) → word_at (memory_of z.roots s) (Word n i) ≡ Some w → ⊥
     none zero i w e = absurd (cc e)

@@ -16,10 +16,11 @@ use denote.RattleType.{RattleType}
 use denote.RawPtr.{Ptr, block_of, count_of}
 use denote.Steps.{nothing}
 use Rattle.core.specs.Sync.RawAtomic.{word}
+use Rattle.seize_words.specs.declared.block.Block.{Block}
 use Rattle.seize_seats.specs.State.{State, Starts}
-use Rattle.seize_seats.specs.Cells.{Cell, Free, Claimed, Out, Has, block_in, cell_at, sign_of}
+use Rattle.seize_seats.specs.Cells.{Cell, Free, Claimed, Out, Has, Held, block_in, cell_at, sign_of}
 use Rattle.seize_seats.specs.Lines.{Parts, column, long, whole, memory_of, AreLaid}
-use Rattle.seize_seats.specs.Owned.{row, unborn, ledger, shared_view, hand_coded, resting, zeros, stride, place, places, hand, kept, under, numbers, BaseId, Inside, state_of, IsPlaced, standing, inner, lent_here, words_own}
+use Rattle.seize_seats.specs.Owned.{row, unborn, ledger, shared_view, hand_coded, resting, zeros, stride, place, places, hand, kept, under, numbers, BaseId, Inside, state_of, IsPlaced, standing, inner, lent_here, had_here, words_own}
 use Rattle.seize_seats.specs.Stretches.{IsEven, invariant}
 use Rattle.seize_seats.proofs.Ledgers as Ledgers
 use Rattle.seize_seats.proofs.Stretches as Stretches
@@ -62,7 +63,7 @@ module _ {M : Type 1} {𝓤 : Ura M} (𝓛 : Logic 𝓤) (b : ℕ) where
   row_joins (x ∷ xs) ys o e is = qed 𝓛 ((‵ (word b o x) ⊛ ‵ (row b (o + 8) xs)) ∷ ‵ (row b e ys) ∷ []) ∵ split ! $ move ! (1 ∷ 2 ∷ []) $
       use2 𝓛 (‵ (row b (o + 8) (xs ++ ys))) (row_joins xs ys (o + 8) e (omega (arith, is))) $ move ! (1 ∷ 0 ∷ []) $ fjoin ! $ done !
 
-module _ {M : Type 1} {𝓤 : Ura M} (𝓛 : Logic 𝓤) (R : RattleType) (α : Lft) (δ : ℕ) (lent : ℕ → R.Denot → ℕ → ℕ → Fml) (b b' : ℕ) where
+module _ {M : Type 1} {𝓤 : Ura M} (𝓛 : Logic 𝓤) (R : RattleType) (α : Lft) (δ : ℕ) (lent : ℕ → R.Denot → ℕ → ℕ → Fml) (had : ℕ → ℕ → R.Denot → Fml) (b b' : ℕ) where
   abbrev Unborn : ℕ → Fml
   Unborn i = unborn hand_coded.code δ i resting
 
@@ -71,7 +72,7 @@ module _ {M : Type 1} {𝓤 : Ura M} (𝓛 : Logic 𝓤) (R : RattleType) (α : 
   free n = replicate n Free
 
   builds : (n i o o' : ℕ) → ent 𝓤 (sep 𝓤 (sem 𝓛 (row b o (fives n))) (sep 𝓤 (sem 𝓛 (places R b' o' (replicate n None))) (sem 𝓛 (Unborn i))))
-      (sem 𝓛 (numbers R α δ lent b o b' o' i (free n)))
+      (sem 𝓛 (numbers R α δ lent had b o b' o' i (free n)))
   builds zero i o o' = qed 𝓛 (‵ ftrue ∷ ‵ ftrue ∷ ‵ (Unborn i) ∷ []) ∵ keep ! (0 ∷ []) $ done !
   builds (suc n) i o o' =
       let P : Fml = place R α δ b' o' None in let Ps : Fml = places R b' (o' + stride R) (replicate n None) in
@@ -85,36 +86,37 @@ module _ {M : Type 1} {𝓤 : Ura M} (𝓛 : Logic 𝓤) (R : RattleType) (α : 
         hand_coded.code resting,
       ))) $ split ! $
       -- [hand; hands; place; places; sign; the rest; w3; w2; w1; w0]
-      move ! (5 ∷ 3 ∷ 1 ∷ []) $ use3 𝓛 (‵ (numbers R α δ lent b (o + 40) b' (o' + stride R) (suc i) (free n))) (builds n (suc i) (o + 40) (o' + stride R)) $
+      move ! (5 ∷ 3 ∷ 1 ∷ []) $ use3 𝓛 (‵ (numbers R α δ lent had b (o + 40) b' (o' + stride R) (suc i) (free n))) (builds n (suc i) (o + 40) (o' + stride R)) $
       -- [numbers; hand; place; sign; w3; w2; w1; w0]
       nothing ! $ move ! (5 ∷ 0 ∷ []) $ fjoin ! $ move ! (5 ∷ 0 ∷ []) $ fjoin ! $ move ! (5 ∷ 0 ∷ []) $ fjoin ! $ move ! (5 ∷ 0 ∷ []) $ fjoin ! $
       -- [the entry; numbers; hand; place; sign]
       move ! (0 ∷ 3 ∷ []) $ fjoin ! $ move ! (2 ∷ 0 ∷ []) $ fjoin ! $ move ! (2 ∷ 0 ∷ []) $ fjoin ! $ fjoin ! $ done !
 
   -- values that are owned, and not lent
-  abbrev owned : ℕ → R.Denot → ℕ → ℕ → Fml
+  abbrev pub owned : ℕ → R.Denot → ℕ → ℕ → Fml
   owned i x c u = place R α δ c u (Some x)
 
   -- what was lent comes back
   module _ (back : (i : ℕ) (x : R.Denot) (c u : ℕ) → ent 𝓤 (sep 𝓤 (sem 𝓛 (fdead α)) (sem 𝓛 (lent i x c u))) (𝓛.H.⇛ (sep 𝓤 (sem 𝓛 (fdead α)) (sem 𝓛 (owned i x c u))))) where
-    unlends_one : (o o' i : ℕ) (c : Cell R.Denot) → ent 𝓤 (sep 𝓤 (sem 𝓛 (under R α δ lent b o b' o' i c)) (sem 𝓛 (fdead α)))
-        (𝓛.H.⇛ (sep 𝓤 (sem 𝓛 (under R α δ owned b o b' o' i c)) (sem 𝓛 (fdead α))))
-    unlends_one o o' i Free = qed 𝓛 (‵ (under R α δ owned b o b' o' i Free) ∷ ‵ (fdead α) ∷ []) ∵ updating ! $ now ! $ done !
-    unlends_one o o' i Claimed = qed 𝓛 (‵ (under R α δ owned b o b' o' i Claimed) ∷ ‵ (fdead α) ∷ []) ∵ updating ! $ now ! $ done !
-    unlends_one o o' i (Out e) = qed 𝓛 (‵ (under R α δ owned b o b' o' i (Out e)) ∷ ‵ (fdead α) ∷ []) ∵ updating ! $ now ! $ done !
-    unlends_one o o' i (Has x ws) = qed 𝓛 (‵ (under R α δ lent b o b' o' i (Has x ws)) ∷ ‵ (fdead α) ∷ []) ∵ updating ! $ fsplit ! $ move ! (1 ∷ []) $ fsplit ! $
+    unlends_one : (o o' i : ℕ) (c : Cell R.Denot) → ent 𝓤 (sep 𝓤 (sem 𝓛 (under R α δ lent had b o b' o' i c)) (sem 𝓛 (fdead α)))
+        (𝓛.H.⇛ (sep 𝓤 (sem 𝓛 (under R α δ owned had b o b' o' i c)) (sem 𝓛 (fdead α))))
+    unlends_one o o' i Free = qed 𝓛 (‵ (under R α δ owned had b o b' o' i Free) ∷ ‵ (fdead α) ∷ []) ∵ updating ! $ now ! $ done !
+    unlends_one o o' i Claimed = qed 𝓛 (‵ (under R α δ owned had b o b' o' i Claimed) ∷ ‵ (fdead α) ∷ []) ∵ updating ! $ now ! $ done !
+    unlends_one o o' i (Out e) = qed 𝓛 (‵ (under R α δ owned had b o b' o' i (Out e)) ∷ ‵ (fdead α) ∷ []) ∵ updating ! $ now ! $ done !
+    unlends_one o o' i (Held ρ e x ws) = qed 𝓛 (‵ (under R α δ owned had b o b' o' i (Held ρ e x ws)) ∷ ‵ (fdead α) ∷ []) ∵ updating ! $ now ! $ done !
+    unlends_one o o' i (Has x ws) = qed 𝓛 (‵ (under R α δ lent had b o b' o' i (Has x ws)) ∷ ‵ (fdead α) ∷ []) ∵ updating ! $ fsplit ! $ move ! (1 ∷ []) $ fsplit ! $
         move ! (1 ∷ []) $ fsplit ! $
         -- [the entry; the value; the hand; the sign; dead]
         move ! (4 ∷ 1 ∷ []) $ use2 𝓛 (later (‵ (fdead α) ⊛ ‵ (owned i x b' o'))) (back i x b' o') $ await ! tt $ split ! $ move ! (2 ∷ 1 ∷ []) $ fjoin ! $
         move ! (2 ∷ 0 ∷ []) $ fjoin ! $ move ! (2 ∷ 0 ∷ []) $ fjoin ! $ now ! $ done !
 
-    unlends : (cs : List (Cell R.Denot)) (o o' i : ℕ) → ent 𝓤 (sep 𝓤 (sem 𝓛 (numbers R α δ lent b o b' o' i cs)) (sem 𝓛 (fdead α)))
-        (𝓛.H.⇛ (sep 𝓤 (sem 𝓛 (numbers R α δ owned b o b' o' i cs)) (sem 𝓛 (fdead α))))
+    pub unlends : (cs : List (Cell R.Denot)) (o o' i : ℕ) → ent 𝓤 (sep 𝓤 (sem 𝓛 (numbers R α δ lent had b o b' o' i cs)) (sem 𝓛 (fdead α)))
+        (𝓛.H.⇛ (sep 𝓤 (sem 𝓛 (numbers R α δ owned had b o b' o' i cs)) (sem 𝓛 (fdead α))))
     unlends [] o o' i = qed 𝓛 (‵ ftrue ∷ ‵ (fdead α) ∷ []) ∵ updating ! $ now ! $ done !
-    unlends (c ∷ cs) o o' i = let Rest : (ℕ → R.Denot → ℕ → ℕ → Fml) → Fml = λ l. numbers R α δ l b (o + 40) b' (o' + stride R) (suc i) cs in
-        qed 𝓛 ((‵ (under R α δ lent b o b' o' i c) ⊛ ‵ (Rest lent)) ∷ ‵ (fdead α) ∷ []) ∵ updating ! $ split ! $ move ! (1 ∷ 2 ∷ []) $
+    unlends (c ∷ cs) o o' i = let Rest : (ℕ → R.Denot → ℕ → ℕ → Fml) → Fml = λ l. numbers R α δ l had b (o + 40) b' (o' + stride R) (suc i) cs in
+        qed 𝓛 ((‵ (under R α δ lent had b o b' o' i c) ⊛ ‵ (Rest lent)) ∷ ‵ (fdead α) ∷ []) ∵ updating ! $ split ! $ move ! (1 ∷ 2 ∷ []) $
         use2 𝓛 (later (‵ (Rest owned) ⊛ ‵ (fdead α))) (unlends cs (o + 40) (o' + stride R) (suc i)) $ await ! tt $ split ! $ move ! (2 ∷ 1 ∷ []) $
-        use2 𝓛 (later (‵ (under R α δ owned b o b' o' i c) ⊛ ‵ (fdead α))) (unlends_one o o' i c) $ await ! tt $ split ! $ move ! (0 ∷ 2 ∷ []) $ fjoin ! $
+        use2 𝓛 (later (‵ (under R α δ owned had b o b' o' i c) ⊛ ‵ (fdead α))) (unlends_one o o' i c) $ await ! tt $ split ! $ move ! (0 ∷ 2 ∷ []) $ fjoin ! $
         now ! $ done !
 
   -- what comes back of so many numbers
@@ -137,32 +139,37 @@ module _ {M : Type 1} {𝓤 : Ura M} (𝓛 : Logic 𝓤) (R : RattleType) (α : 
       move ! (0 ∷ 2 ∷ []) $ use2 𝓛 (‵ (row b o (ws ++ s ∷ u.0))) (row_joins 𝓛 b ws (s ∷ u.0) o (o + 32) (omega (arith, four))) $ move ! (1 ∷ 2 ∷ []) $ fjoin ! $
       show ! (Torn (suc n) o o') (ws ++ s ∷ u.0, x ∷ u.1) $ check ! (all, omega (arith, m)) $ move ! (1 ∷ 0 ∷ []) $ done !
 
-  tears : (cs : List (Cell R.Denot)) (o o' i : ℕ) → ((k : ℕ) (x : R.Denot) (ws : List ℕ) → cell_at cs k ≡ Has x ws → length ws ≡ 4)
-      → ent 𝓤 (sep 𝓤 (sem 𝓛 (numbers R α δ owned b o b' o' i cs)) (sem 𝓛 (fdead α))) (ex 𝓤 (Torn (length cs) o o'))
+  tears : (cs : List (Cell R.Denot)) (o o' i : ℕ) → ((k : ℕ) (x : Block R.Denot) → block_in (cell_at cs k) ≡ Some x → length x.entry ≡ 4)
+      → ent 𝓤 (sep 𝓤 (sem 𝓛 (numbers R α δ owned had b o b' o' i cs)) (sem 𝓛 (fdead α))) (ex 𝓤 (Torn (length cs) o o'))
   tears [] o o' i fours = qed 𝓛 (‵ ftrue ∷ ‵ (fdead α) ∷ []) ∵ show ! (Torn 0 o o') ([], []) $ check ! (refl, refl) $ leave ! $ leave ! $ nothing ! $ nothing ! $ done !
   tears (c ∷ cs) o o' i fours =
-      qed 𝓛 ((‵ (under R α δ owned b o b' o' i c) ⊛ ‵ (numbers R α δ owned b (o + 40) b' (o' + stride R) (suc i) cs)) ∷ ‵ (fdead α) ∷ []) ∵ split ! $ move ! (2 ∷ []) $
+      qed 𝓛 ((‵ (under R α δ owned had b o b' o' i c) ⊛ ‵ (numbers R α δ owned had b (o + 40) b' (o' + stride R) (suc i) cs)) ∷ ‵ (fdead α) ∷ []) ∵ split ! $ move ! (2 ∷ []) $
       use1 𝓛 (‵ (fdead α) ⊛ ‵ (fdead α)) (𝓛.lfts.dead_dup α) $ split ! $ move ! (3 ∷ 0 ∷ []) $
       use2 𝓛 (items (torn_item (length cs) (o + 40) (o' + stride R))) (tears cs (o + 40) (o' + stride R) (suc i) (λ k. fours (suc k))) $
-      pick ! (λ u. learn ! (λ l. split ! $ move ! (3 ∷ 2 ∷ []) $ fsplit ! $ by ! (parts c (λ x ws e. fours 0 x ws e) u l)))
+      pick ! (λ u. learn ! (λ l. split ! $ move ! (3 ∷ 2 ∷ []) $ fsplit ! $ by ! (parts c (λ x e. fours 0 x e) u l)))
     where
-      parts : (c : Cell R.Denot) → ((x : R.Denot) (ws : List ℕ) → c ≡ Has x ws → length ws ≡ 4) → (u : List ℕ × List (Option R.Denot))
+      parts : (c : Cell R.Denot) → ((x : Block R.Denot) → block_in c ≡ Some x → length x.entry ≡ 4) → (u : List ℕ × List (Option R.Denot))
           → (length u.0 ≡ length cs * 5) × (length u.1 ≡ length cs)
-          → ent 𝓤 (sep 𝓤 (sem 𝓛 (word b (o + 32) (sign_of c))) (sep 𝓤 (sem 𝓛 (kept R α δ owned b o b' o' i c)) (sep 𝓤 (sem 𝓛 (fdead α))
+          → ent 𝓤 (sep 𝓤 (sem 𝓛 (word b (o + 32) (sign_of c))) (sep 𝓤 (sem 𝓛 (kept R α δ owned had b o b' o' i c)) (sep 𝓤 (sem 𝓛 (fdead α))
           (sep 𝓤 (sem 𝓛 (row b (o + 40) u.0)) (sem 𝓛 (places R b' (o' + stride R) u.1)))))) (ex 𝓤 (Torn (suc (length cs)) o o'))
       parts Free four u l =
-          qed 𝓛 (‵ (word b (o + 32) 0) ∷ ‵ (kept R α δ owned b o b' o' i Free) ∷ ‵ (fdead α) ∷ ‵ (row b (o + 40) u.0) ∷ ‵ (places R b' (o' + stride R) u.1) ∷ []) ∵
+          qed 𝓛 (‵ (word b (o + 32) 0) ∷ ‵ (kept R α δ owned had b o b' o' i Free) ∷ ‵ (fdead α) ∷ ‵ (row b (o + 40) u.0) ∷ ‵ (places R b' (o' + stride R) u.1) ∷ []) ∵
           move ! (1 ∷ []) $ fsplit ! $ keep ! (2 ∷ 1 ∷ 4 ∷ 5 ∷ []) $ by ! (stacks (length cs) o o' 0 zeros None refl u l)
       parts Claimed four u l =
-          qed 𝓛 (‵ (word b (o + 32) 1) ∷ ‵ (kept R α δ owned b o b' o' i Claimed) ∷ ‵ (fdead α) ∷ ‵ (row b (o + 40) u.0) ∷ ‵ (places R b' (o' + stride R) u.1) ∷ []) ∵
+          qed 𝓛 (‵ (word b (o + 32) 1) ∷ ‵ (kept R α δ owned had b o b' o' i Claimed) ∷ ‵ (fdead α) ∷ ‵ (row b (o + 40) u.0) ∷ ‵ (places R b' (o' + stride R) u.1) ∷ []) ∵
           move ! (1 ∷ []) $ fsplit ! $ keep ! (2 ∷ 1 ∷ 4 ∷ 5 ∷ []) $ by ! (stacks (length cs) o o' 1 zeros None refl u l)
       parts (Has x ws) four u l =
-          qed 𝓛 (‵ (word b (o + 32) 1) ∷ ‵ (kept R α δ owned b o b' o' i (Has x ws)) ∷ ‵ (fdead α) ∷ ‵ (row b (o + 40) u.0) ∷ ‵ (places R b' (o' + stride R) u.1) ∷
+          qed 𝓛 (‵ (word b (o + 32) 1) ∷ ‵ (kept R α δ owned had b o b' o' i (Has x ws)) ∷ ‵ (fdead α) ∷ ‵ (row b (o + 40) u.0) ∷ ‵ (places R b' (o' + stride R) u.1) ∷
           []) ∵
-          move ! (1 ∷ []) $ fsplit ! $ keep ! (2 ∷ 1 ∷ 4 ∷ 5 ∷ []) $ by ! (stacks (length cs) o o' 1 ws (Some x) (four x ws refl) u l)
+          move ! (1 ∷ []) $ fsplit ! $ keep ! (2 ∷ 1 ∷ 4 ∷ 5 ∷ []) $ by ! (stacks (length cs) o o' 1 ws (Some x) (four _ refl) u l)
       parts (Out s) four u l =
-          qed 𝓛 (‵ (word b (o + 32) 1) ∷ ‵ (kept R α δ owned b o b' o' i (Out s)) ∷ ‵ (fdead α) ∷ ‵ (row b (o + 40) u.0) ∷ ‵ (places R b' (o' + stride R) u.1) ∷ []) ∵
+          qed 𝓛 (‵ (word b (o + 32) 1) ∷ ‵ (kept R α δ owned had b o b' o' i (Out s)) ∷ ‵ (fdead α) ∷ ‵ (row b (o + 40) u.0) ∷ ‵ (places R b' (o' + stride R) u.1) ∷ []) ∵
           move ! (1 ∷ []) $ fsplit ! $ move ! (1 ∷ 3 ∷ []) $ use2 𝓛 (raw (never 𝓤)) (𝓛.lfts.lft-dead α s) $ keep ! (0 ∷ []) $
+          by ! (never_e 𝓤 (ex 𝓤 (Torn (suc (length cs)) o o')))
+      parts (Held ρ s x ws) four u l =
+          qed 𝓛 (‵ (word b (o + 32) 1) ∷ ‵ (kept R α δ owned had b o b' o' i (Held ρ s x ws)) ∷ ‵ (fdead α) ∷ ‵ (row b (o + 40) u.0) ∷ ‵ (places R b' (o' + stride R) u.1) ∷
+          []) ∵
+          move ! (1 ∷ []) $ fsplit3 ! $ move ! (2 ∷ []) $ fsplit ! $ move ! (0 ∷ 5 ∷ []) $ use2 𝓛 (raw (never 𝓤)) (𝓛.lfts.lft-dead α s) $ keep ! (0 ∷ []) $
           by ! (never_e 𝓤 (ex 𝓤 (Torn (suc (length cs)) o o')))
 
 zeros_of : (n k : ℕ) → slice_index (replicate n 0) k ≡ 0
@@ -208,7 +215,7 @@ module _ {M : Type 1} {𝓤 : Ura M} (𝓛 : Logic 𝓤) (R : RattleType) {V W :
       counted = length-replicate count Free;
       within = omega arith;
       rest = λ k le. ap block_in (frees_of count k);
-      fours = λ k x us e. absurd (let f : cell_at {T = R.Denot} (replicate count Free) k ≡ Free = frees_of count k in cc (e, f));
+      fours = λ k x e. absurd (let none : block_in (cell_at {T = R.Denot} (replicate count Free) k) ≡ None = ap block_in (frees_of count k) in cc (none, e));
     }
 
     begins : holds record { memory = memory_of roots parts; views = []; world = starts.0 }
@@ -233,11 +240,11 @@ module _ {M : Type 1} {𝓤 : Ura M} (𝓛 : Logic 𝓤) (R : RattleType) {V W :
         use0 𝓛 (later (items (λ (δ : ℕ). ‵ (unborn hand_coded.code δ 0 resting)))) hands_new $ await ! tt $ pick ! (λ δ.
         -- [the hands; the views; the token; the words; the places]
         let z : BaseId = named a γ δ roots count in let I : Fml = inner R cv.code holds p z in
-        let N : Fml = numbers R α δ (lent_here R cv.code holds p z) b f b' o' 0 (replicate count Free) in
+        let N : Fml = numbers R α δ (lent_here R cv.code holds p z) (had_here R cv.code holds p z) b f b' o' 0 (replicate count Free) in
         move ! (3 ∷ []) $ rewrite ! 0 (λ (us : List ℕ). ‵ (row b o us)) (zeros_are (long roots) count ws all none) refl $
         use1 𝓛 (‵ (row b o head) ⊛ ‵ (row b f (fives count))) (row_splits 𝓛 b head (fives count) o f (omega (arith, l))) $ split ! $
         -- [the first words; the others; the hands; the views; the token; the places]
-        move ! (1 ∷ 5 ∷ 2 ∷ []) $ use3 𝓛 (‵ N) (builds 𝓛 R α δ (lent_here R cv.code holds p z) b b' count 0 f o') $ move ! (1 ∷ 0 ∷ []) $ fjoin ! $
+        move ! (1 ∷ 5 ∷ 2 ∷ []) $ use3 𝓛 (‵ N) (builds 𝓛 R α δ (lent_here R cv.code holds p z) (had_here R cv.code holds p z) b b' count 0 f o') $ move ! (1 ∷ 0 ∷ []) $ fjoin ! $
         -- [the memory; the views; the token]
         nothing ! $ fpack ! (holds (state_of z first) × AreLaid z.roots z.count parts) (λ _. ftrue) (begins, laid) $ move ! (1 ∷ 2 ∷ 0 ∷ []) $ fjoin3 ! $
         fpack ! (Inside R.Denot V W) (standing R cv.code holds p z) first $
@@ -260,10 +267,10 @@ module _ {M : Type 1} {𝓤 : Ura M} (𝓛 : Logic 𝓤) (R : RattleType) {V W :
         fpick ! (λ t. fsplit3 ! $ move ! (2 ∷ []) $ fpick ! (λ so. leave ! $
         -- [the memory; the views; dead]
         let ws : List ℕ = t.parts.words in let cs : List (Cell R.Denot) = t.parts.cells in fsplit ! $ move ! (1 ∷ 3 ∷ []) $
-        let L : ℕ → R.Denot → ℕ → ℕ → Fml = lent_here R cv.code holds p z in let Owned : ℕ → R.Denot → ℕ → ℕ → Fml = owned 𝓛 R α z.hands_name L b b' in
-        use2 𝓛 (later (‵ (numbers R α z.hands_name Owned b f b' o' 0 cs) ⊛ ‵ (fdead α)))
-        (unlends 𝓛 R α z.hands_name L b b' (Lendings.over 𝓛 R α cv z.views_name holds) cs f o' 0) $ await ! tt $ split ! $
-        use2 𝓛 (items (torn_item 𝓛 R α z.hands_name L b b' (length cs) f o')) (tears 𝓛 R α z.hands_name L b b' cs f o' 0 so.1.fours) $ pick ! (λ u. learn ! (λ l. split ! $
+        let L : ℕ → R.Denot → ℕ → ℕ → Fml = lent_here R cv.code holds p z in let Hd = had_here R cv.code holds p z in let Owned : ℕ → R.Denot → ℕ → ℕ → Fml = owned 𝓛 R α z.hands_name L Hd b b' in
+        use2 𝓛 (later (‵ (numbers R α z.hands_name Owned Hd b f b' o' 0 cs) ⊛ ‵ (fdead α)))
+        (unlends 𝓛 R α z.hands_name L Hd b b' (Lendings.over 𝓛 R α cv z.views_name holds) cs f o' 0) $ await ! tt $ split ! $
+        use2 𝓛 (items (torn_item 𝓛 R α z.hands_name L Hd b b' (length cs) f o')) (tears 𝓛 R α z.hands_name L Hd b b' cs f o' 0 so.1.fours) $ pick ! (λ u. learn ! (λ l. split ! $
         -- [the others; the places; the first words; the views]
         let head = so.1.all in let all_of = so.1.counted in let l0 = l.0 in let l1 = l.1 in
         let long_is : length (ws ++ u.0) ≡ whole z.roots z.count = length-append ws u.0 ∙ omega (arith, head, l0, all_of) in

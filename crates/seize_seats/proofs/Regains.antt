@@ -1,6 +1,7 @@
--- The value of a block that was taken away comes back from its lendings: a seat whose view shows the block has another view by now. Assumes `Logic`.
-use Rattle.std.specs.Prelude.{slice_get, IsSome}
-use Rattle.std.proofs.Common.{◌≡◌, ℕ, suc, ◌-◌, ◌<◌, Bool, true, false, [], ◌∷◌, sym, ap, ◌∙◌, subst, arith, Some}
+-- The value of a block comes back from its lendings, where it was taken away, and where a seat that has it to itself takes its value in the hand. Assumes
+-- `Logic`.
+use Rattle.std.specs.Prelude.{IsSome}
+use Rattle.std.proofs.Common.{◌≡◌, ◌≢◌, ◌⊎◌, inl, inr, ℕ, suc, ◌-◌, ◌<◌, ◌+◌, ◌*◌, Bool, true, false, List, [], ◌∷◌, sym, ap, ◌∙◌, subst, arith, None}
 use mathlib.Core.Logic.Or
 use mathlib.Core.HLevel.{⊥_prop}
 use mathlib.Core.List.{mem-cons, not-mem-nil}
@@ -11,34 +12,49 @@ use base.Stored.{Coded}
 use base.Logic.{SProp, ent, sep, all, upd, emp, id⊢, via, upd_i}
 use base.Fml.{Lft, Share, Fml, ftrue, fsep, flft, fdead, fbor, fnamed}
 use base.Several.{Apart, bodies}
-use contract.BorrowLft.{meet_⊑_left}
-use types.Keyed.{ticket}
+use contract.BorrowLft.{meet_⊑_left, meet_⊑_right}
 use types.Logic.{Logic, sem}
-use types.Kit.{‵, raw, ◌⊛◌, given, later, ◌$◌, ◌∵◌, !, qed, by, move, drop, split, split3, join, group, fsplit, fsplit3, fjoin, fpick, fpack, learn, frame, assume, suffices, use0, use1, use2, updating, await, now, done}
+use types.Kit.{‵, raw, ◌⊛◌, given, later, ◌$◌, ◌∵◌, !, qed, by, move, keep, drop, split, split3, join, group, fsplit, fsplit3, fjoin, fpick, fpack, learn, frame, assume, suffices, use0, use1, use2, updating, await, now, done}
 use denote.RattleType.{RattleType}
-use denote.RawPtr.{Ptr}
+use denote.RawPtr.{Ptr, block_of, count_of}
 use denote.Steps.{nothing}
+use Rattle.core.specs.Sync.RawAtomic.{word}
 use Rattle.seize_words.specs.Mem.{value_in}
 use Rattle.seize_seats.specs.State.{State}
-use Rattle.seize_seats.specs.Cells.{Cell, Free, Claimed, Out, Has, block_in, cell_at}
+use Rattle.seize_seats.specs.Cells.{Cell, Free, Claimed, Out, Has, Held, block_in, cell_at}
+use Rattle.seize_seats.specs.Lines.{long}
 use Rattle.seize_seats.specs.Seen.{seen}
-use Rattle.seize_seats.specs.Stretches.{IsEven, IsOdd, stretch_part, lasting, stretch, stretch_told}
-use Rattle.seize_seats.specs.Lendings.{Lending, Shown, lending}
-use Rattle.seize_seats.specs.Owned.{Hand, resting, busy, BaseId, age, Inside, state_of, inner}
+use Rattle.seize_seats.specs.Stretches.{IsEven, IsOfSeat, stretch_part, lasting, stretch, stretch_told}
+use Rattle.seize_seats.specs.Lendings.{Holder, Lending, ShownToBoth, AreShown, span, lending}
+use Rattle.seize_seats.specs.Owned.{Hand, resting, busy, held, zeros, row, had_here, BaseId, age, Inside, state_of, inner}
 use Rattle.seize_seats.proofs.Cells.{block_is}
-use Rattle.seize_seats.proofs.Ledgers as Ledgers
+use Rattle.seize_seats.proofs.Stretches.{one_seat}
 use Rattle.seize_seats.proofs.Stretches as Stretches
 use Rattle.seize_seats.proofs.Lendings as Lendings
 use Rattle.seize_seats.proofs.Moves as Moves
 use Rattle.seize_seats.proofs.Makings as Makings
+use Rattle.seize_seats.proofs.Hands as Hands
 
 -- an even number and an odd one are two
-two : (n m : ℕ) (P Q : Fml) → IsEven n → IsOdd m → Apart ((n, P) ∷ (m, Q) ∷ [])
-two n m P Q e o = let even = e.1 in let odd = o.1 in let ne : ¬ (n ≡ m) = λ same. absurd (omega (arith, same, even, odd)) in
-    ((λ in_it. Or.elim ⊥_prop ((mem-cons {a = n} {b = m} {l = []}).0 in_it) ne (λ x. not-mem-nil x)), ((λ x. not-mem-nil x), tt))
+even_odd : (n m : ℕ) → IsEven n → (h : ℕ) → m ≡ h + h + 1 → ¬ (n ≡ m)
+even_odd n m e h odd = λ same. (let even = e.1 in absurd (omega (arith, same, even, odd)))
+
+two : (id n m : ℕ) (P Q : Fml) → IsEven n → IsOfSeat id m → Apart ((n, P) ∷ (m, Q) ∷ [])
+two id n m P Q e o = (
+  (λ in_it. Or.elim ⊥_prop ((mem-cons {a = n} {b = m} {l = []}).0 in_it) (even_odd n m e o.0 o.1) (λ x. not-mem-nil x)),
+  ((λ x. not-mem-nil x), tt),
+)
+
+three : (i j n m k : ℕ) (P Q S : Fml) → i ≢ j → IsEven n → IsOfSeat i m → IsOfSeat j k → Apart ((n, P) ∷ (m, Q) ∷ (k, S) ∷ [])
+three i j n m k P Q S ne e o u =
+    let other : ¬ (m ≡ k) = λ same. ne (one_seat i j m o (subst (IsOfSeat j) (sym same) u)) in (
+      (λ in_it. Or.elim ⊥_prop ((mem-cons {a = n} {b = m} {l = k ∷ []}).0 in_it) (even_odd n m e o.0 o.1)
+          (λ x. Or.elim ⊥_prop ((mem-cons {a = n} {b = k} {l = []}).0 x) (even_odd n k e u.0 u.1) (λ y. not-mem-nil y))),
+      ((λ in_it. Or.elim ⊥_prop ((mem-cons {a = m} {b = k} {l = []}).0 in_it) other (λ x. not-mem-nil x)), ((λ x. not-mem-nil x), tt)),
+    )
 
 module _ {M : Type 1} {𝓤 : Ura M} (𝓛 : Logic 𝓤) (R : RattleType) {V W : Type 0} (cv : Coded V) (holds : State R.Denot V W → Type 0) (keeps : V → V → W → ℕ
-    → Type 0) (p : Ptr) (z : BaseId) (i : ℕ) (e : Share) (lt : i < z.count) where
+    → Type 0) (p : Ptr) (z : BaseId) (i : ℕ) where
   open 𝓛 use {H, A}
 
   abbrev Pr : Type 2
@@ -73,100 +89,238 @@ module _ {M : Type 1} {𝓤 : Ura M} (𝓛 : Logic 𝓤) (R : RattleType) {V W :
   abbrev Recells : In → Cell R.Denot → Pr
   Recells t = Makings.Recells 𝓛 R cv holds keeps p z t i
 
+  abbrev hands : Share → Hand → Fml
+  hands q h = Makings.hands 𝓛 R cv holds keeps p z q i h
+
+  abbrev strange : (n : ℕ) (w h : Hand) (K : Fml) (Z : Pr) → (w ≡ h → ⊥)
+      → ⟦ fsep (word (block_of p) (i * 40 + (long z.roots * 8 + count_of p) + 32) n) (fsep (hands quarter w) K) ⟧ ∗ ⟦ hands three_quarters h ⟧ ⊢ Z
+  strange = Makings.strange 𝓛 R cv holds keeps p z i
+
+  abbrev rest_of : ℕ → Share → R.Denot → List ℕ → Fml
+  rest_of ρ s x ws = fsep (row (block_of p) (i * 40 + (long z.roots * 8 + count_of p)) ws) (fsep (flft α s) (had_here R cv.code holds p z ρ i x))
+
   abbrev Led : In → Fml
   Led = Makings.Led 𝓛 R cv holds keeps p z
 
   abbrev Sound : In → Type 0
   Sound = Makings.Sound 𝓛 R cv holds keeps p z
 
-  abbrev hands : Share → Hand → Fml
-  hands q h = Makings.hands 𝓛 R cv holds keeps p z q i h
+  abbrev Sn : Holder V → Fml
+  Sn h = seen cv.code z.views_name stretch_part h.seat h.view
 
-  -- the place is in the hand of a call
-  abbrev Hd : Fml
-  Hd = hands three_quarters (busy e)
+  abbrev Shows : Holder V → Holder V → Fml → Type 1
+  Shows g o S = Hands.Shows 𝓛 R cv holds p z g.seat g.view o.seat o.view S
 
-  module _ (id : ℕ) (v : V) (shown : Shown holds id v (suc i)) where
-    abbrev Sn : Fml
-    Sn = seen cv.code z.views_name stretch_part id v
+  abbrev Crowds : Holder V → Holder V → Fml → Type 2
+  Crowds g o S = Hands.Crowds 𝓛 R cv holds p z g.seat g.view o.seat o.view S
 
-    gone : (t : In) (sound : Sound t) (s : Share) → cell_at t.parts.cells i ≡ Out s → slice_get t.views id ≡ Some v → ⊥
-    gone t sound s is at =
-        let some = shown (state_of z t) sound.0 at in let one : suc i - 1 ≡ i = omega arith in
+  abbrev Shown : Holder V → Holder V → Type 0
+  Shown g o = ShownToBoth holds g.seat g.view o.seat o.view (suc i)
+
+  -- The place is in the hand of a call, and no seats whose views show the block have those views now.
+  module _ (Hd : Fml) (none : (g o : Holder V) (S : Fml) → Shows g o S → Crowds g o S → Shown g o → (Z : Pr) → ⟦ I ⟧ ∗ (⟦ S ⟧ ∗ ⟦ Hd ⟧) ⊢ Z) where
+    module _ (g o : Holder V) (shown : Shown g o) (q : Share) where
+      abbrev St : Holder V → Fml
+      St h = stretch cv.code z.views_name h.seat h.view h.stretch h.mark
+
+      abbrev Lasts : Holder V → Bool → Fml
+      Lasts h y = lasting cv.code z.views_name h.seat h.view h.stretch h.mark y
+
+      abbrev Told : Holder V → Fml
+      Told h = stretch_told cv.code z.views_name h.seat h.view h.stretch h.mark
+
+      abbrev Over : Lft
+      Over = span α g o
+
+      abbrev Q : Pr
+      Q = A.dead Over ∗ ⟦ Hd ⟧
+
+      -- with the one stretch both are over
+      by_guard : A.dead (g.stretch ∷ []) ⊢ A.dead Over
+      by_guard = 𝓛.lfts.dead-incl Over (g.stretch ∷ []) (meet_⊑_left (g.stretch ∷ []) (o.stretch ∷ α))
+
+      by_owner : A.dead (o.stretch ∷ []) ⊢ A.dead Over
+      by_owner = qed 𝓛 (‵ (fdead (o.stretch ∷ [])) ∷ []) ∵
+          use1 𝓛 (‵ (fdead (o.stretch ∷ α))) (𝓛.lfts.dead-incl (o.stretch ∷ α) (o.stretch ∷ []) (meet_⊑_left (o.stretch ∷ []) α)) $
+          by ! (𝓛.lfts.dead-incl Over (o.stretch ∷ α) (meet_⊑_right (g.stretch ∷ []) (o.stretch ∷ α)))
+
+      -- it is one seat
+      module _ (same : g.seat ≡ o.seat) (view : g.view ≡ o.view) where
+        finds : (m : ℕ) (y : Bool) → ⟦ Lasts g y ⟧ ∗ ⟦ I ⟧ ∗ ⟦ Hd ⟧ ⊢ upd 𝓤 (⟦ I ⟧ ∗ ⟦ bodies ((m, St g) ∷ []) ⟧ ∗ Q)
+        finds m true = let Z : Pr = ⟦ I ⟧ ∗ ⟦ bodies ((m, St g) ∷ []) ⟧ ∗ Q in
+            qed 𝓛 (‵ (Sn g) ∷ ‵ I ∷ ‵ Hd ∷ []) ∵ move ! (0 ∷ 2 ∷ []) $ join ! $ move ! (1 ∷ 0 ∷ []) $
+            by ! (none g o (Sn g) (Hands.one_shows 𝓛 R cv holds p z g.seat g.view o.seat o.view stretch_part same view)
+            (Hands.one_crowds 𝓛 R cv holds p z g.seat g.view o.seat o.view stretch_part same) shown (upd 𝓤 Z))
+        finds m false = let Z : Pr = ⟦ I ⟧ ∗ ⟦ bodies ((m, St g) ∷ []) ⟧ ∗ Q in
+            qed 𝓛 (‵ (Lasts g false) ∷ ‵ I ∷ ‵ Hd ∷ []) ∵ suffices ! _ (upd_i 𝓤 Z) $ fsplit ! $
+            use1 𝓛 (‵ (fdead (g.stretch ∷ [])) ⊛ ‵ (fdead (g.stretch ∷ []))) (𝓛.lfts.dead_dup (g.stretch ∷ [])) $ split ! $ move ! (1 ∷ 2 ∷ []) $ fjoin ! $
+            fpack ! Bool (Lasts g) false $ nothing ! $ move ! (1 ∷ 0 ∷ []) $ fjoin ! $
+            -- [the stretch; dead; the invariant; the hand]
+            move ! (1 ∷ []) $ use1 𝓛 (‵ (fdead Over)) by_guard $ move ! (2 ∷ 1 ∷ 0 ∷ 3 ∷ []) $ frame ! $ frame ! $ done !
+
+        both : (n m : ℕ) → IsEven n → IsOfSeat g.seat m → A.named m (St g) ∗ A.named n (fbor α I) ∗ A.lft α q ∗ ⟦ Hd ⟧ ⊢ H.⇛ (Q ∗ A.lft α q)
+        both n m e u = via 𝓤 _ (qed 𝓛 (‵ (fnamed m (St g)) ∷ ‵ (fnamed n (fbor α I)) ∷ ‵ (flft α q) ∷ ‵ Hd ∷ []) ∵ use0 𝓛 (‵ ftrue) (id⊢ 𝓤 (emp 𝓤)) $
+            move ! (1 ∷ 0 ∷ []) $ fjoin ! $ move ! (1 ∷ 0 ∷ []) $ fjoin ! $ frame ! $ frame ! $ assume ! (‵ I ⊛ ‵ (bodies ((m, St g) ∷ []))) $ split ! $
+            move ! (1 ∷ []) $ fsplit ! $ move ! (1 ∷ []) $ drop ! $ fpick ! (λ y. by ! (finds m y)))
+            (𝓛.invs.invs_bor_acc n α q I ((m, St g) ∷ []) Q (two g.seat n m (fbor α I) (St g) e u))
+
+        ended : ⟦ Inv ⟧ ∗ A.lft α q ∗ ⟦ Told g ⟧ ∗ ⟦ Hd ⟧ ⊢ H.⇛ (Q ∗ A.lft α q)
+        ended = qed 𝓛 (‵ Inv ∷ ‵ (flft α q) ∷ ‵ (Told g) ∷ ‵ Hd ∷ []) ∵ fpick ! (λ n. fsplit ! $ fpick ! (λ e. drop ! $
+            move ! (2 ∷ []) $ fpick ! (λ m. fsplit ! $ fpick ! (λ u. drop ! $ by ! (both n m e u)))))
+
+      -- they are two
+      module _ (ne : g.seat ≢ o.seat) where
+        abbrev All : ℕ → ℕ → Fml
+        All m k = bodies ((m, St g) ∷ (k, St o) ∷ [])
+
+        finds_two : (m k : ℕ) (y y' : Bool) → ⟦ Lasts g y ⟧ ∗ ⟦ Lasts o y' ⟧ ∗ ⟦ I ⟧ ∗ ⟦ Hd ⟧ ⊢ upd 𝓤 (⟦ I ⟧ ∗ ⟦ All m k ⟧ ∗ Q)
+        finds_two m k true true = let Z : Pr = ⟦ I ⟧ ∗ ⟦ All m k ⟧ ∗ Q in let S : Fml = fsep (Sn g) (Sn o) in
+            qed 𝓛 (‵ (Sn g) ∷ ‵ (Sn o) ∷ ‵ I ∷ ‵ Hd ∷ []) ∵ fjoin ! $ move ! (0 ∷ 2 ∷ []) $ join ! $ move ! (1 ∷ 0 ∷ []) $
+            by ! (none g o S (Hands.two_show 𝓛 R cv holds p z g.seat g.view o.seat o.view stretch_part stretch_part)
+            (Hands.two_crowd 𝓛 R cv holds p z g.seat g.view o.seat o.view stretch_part stretch_part) shown (upd 𝓤 Z))
+        finds_two m k false y' = let Z : Pr = ⟦ I ⟧ ∗ ⟦ All m k ⟧ ∗ Q in
+            qed 𝓛 (‵ (Lasts g false) ∷ ‵ (Lasts o y') ∷ ‵ I ∷ ‵ Hd ∷ []) ∵ suffices ! _ (upd_i 𝓤 Z) $ fsplit ! $
+            use1 𝓛 (‵ (fdead (g.stretch ∷ [])) ⊛ ‵ (fdead (g.stretch ∷ []))) (𝓛.lfts.dead_dup (g.stretch ∷ [])) $ split ! $ move ! (1 ∷ 2 ∷ []) $ fjoin ! $
+            fpack ! Bool (Lasts g) false $ move ! (2 ∷ []) $ fpack ! Bool (Lasts o) y' $
+            -- [the owner's stretch; the guard's; dead; the invariant; the hand]
+            nothing ! $ move ! (1 ∷ 0 ∷ []) $ fjoin ! $ move ! (1 ∷ 0 ∷ []) $ fjoin ! $
+            move ! (1 ∷ []) $ use1 𝓛 (‵ (fdead Over)) by_guard $ move ! (2 ∷ 1 ∷ 0 ∷ 3 ∷ []) $ frame ! $ frame ! $ done !
+        finds_two m k true false = let Z : Pr = ⟦ I ⟧ ∗ ⟦ All m k ⟧ ∗ Q in
+            qed 𝓛 (‵ (Sn g) ∷ ‵ (Lasts o false) ∷ ‵ I ∷ ‵ Hd ∷ []) ∵ suffices ! _ (upd_i 𝓤 Z) $ fpack ! Bool (Lasts g) true $ move ! (1 ∷ []) $ fsplit ! $
+            use1 𝓛 (‵ (fdead (o.stretch ∷ [])) ⊛ ‵ (fdead (o.stretch ∷ []))) (𝓛.lfts.dead_dup (o.stretch ∷ [])) $ split ! $ move ! (1 ∷ 2 ∷ []) $ fjoin ! $
+            fpack ! Bool (Lasts o) false $
+            -- [the owner's stretch; dead; the guard's; the invariant; the hand]
+            nothing ! $ move ! (1 ∷ 0 ∷ []) $ fjoin ! $ move ! (2 ∷ 0 ∷ []) $ fjoin ! $
+            move ! (1 ∷ []) $ use1 𝓛 (‵ (fdead Over)) by_owner $ move ! (2 ∷ 1 ∷ 0 ∷ 3 ∷ []) $ frame ! $ frame ! $ done !
+
+        all_three : (n m k : ℕ) → IsEven n → IsOfSeat g.seat m → IsOfSeat o.seat k
+            → A.named m (St g) ∗ A.named k (St o) ∗ A.named n (fbor α I) ∗ A.lft α q ∗ ⟦ Hd ⟧ ⊢ H.⇛ (Q ∗ A.lft α q)
+        all_three n m k e u w = via 𝓤 _ (qed 𝓛 (‵ (fnamed m (St g)) ∷ ‵ (fnamed k (St o)) ∷ ‵ (fnamed n (fbor α I)) ∷ ‵ (flft α q) ∷ ‵ Hd ∷ []) ∵
+            use0 𝓛 (‵ ftrue) (id⊢ 𝓤 (emp 𝓤)) $
+            move ! (2 ∷ 0 ∷ []) $ fjoin ! $ move ! (1 ∷ 0 ∷ []) $ fjoin ! $ move ! (1 ∷ 0 ∷ []) $ fjoin ! $ frame ! $ frame ! $
+            assume ! (‵ I ⊛ ‵ (All m k)) $ split ! $
+            move ! (1 ∷ []) $ fsplit3 ! $ move ! (2 ∷ []) $ drop ! $ fpick ! (λ y. move ! (1 ∷ []) $ fpick ! (λ y'. move ! (1 ∷ 0 ∷ []) $
+            by ! (finds_two m k y y'))))
+            (𝓛.invs.invs_bor_acc n α q I ((m, St g) ∷ (k, St o) ∷ []) Q (three g.seat o.seat n m k (fbor α I) (St g) (St o) ne e u w))
+
+        ended_two : ⟦ Inv ⟧ ∗ A.lft α q ∗ ⟦ Told g ⟧ ∗ ⟦ Told o ⟧ ∗ ⟦ Hd ⟧ ⊢ H.⇛ (Q ∗ A.lft α q)
+        ended_two = qed 𝓛 (‵ Inv ∷ ‵ (flft α q) ∷ ‵ (Told g) ∷ ‵ (Told o) ∷ ‵ Hd ∷ []) ∵ fpick ! (λ n. fsplit ! $ fpick ! (λ e. drop ! $
+            -- [the invariant; the lifetime; the guard's stretch; the owner's; the hand]
+            move ! (3 ∷ []) $ fpick ! (λ k. fsplit ! $ fpick ! (λ w. drop ! $ move ! (3 ∷ []) $ fpick ! (λ m. fsplit ! $ fpick ! (λ u. drop ! $
+            by ! (all_three n m k e u w)))))))
+
+      ends : (g.seat ≢ o.seat) ⊎ ((g.seat ≡ o.seat) × (g.view ≡ o.view)) → ⟦ Inv ⟧ ∗ A.lft α q ∗ ⟦ Told g ⟧ ∗ ⟦ Told o ⟧ ∗ ⟦ Hd ⟧ ⊢ H.⇛ (Q ∗ A.lft α q)
+      ends (inl ne) = ended_two ne
+      ends (inr same) = qed 𝓛 (‵ Inv ∷ ‵ (flft α q) ∷ ‵ (Told g) ∷ ‵ (Told o) ∷ ‵ Hd ∷ []) ∵ keep ! (0 ∷ 1 ∷ 2 ∷ 4 ∷ []) $ by ! (ended same.0 same.1)
+
+    module _ (q : Share) where
+      abbrev One : ℕ → Lending V → Fml
+      One = lending R α cv.code z.views_name holds i
+
+      -- what is had with the value: the invariant, the lifetime, and the place
+      abbrev pub Having : Pr
+      Having = ⟦ Inv ⟧ ∗ A.lft α q ∗ ⟦ Hd ⟧
+
+      dies : (a : ℕ) (l : Lending V) → Having ∗ ⟦ One a l ⟧ ⊢ H.⇛ (Having ∗ A.dead (span α l.guard l.owner) ∗ ⟦ One a l ⟧)
+      dies a l = let g : Holder V = l.guard in let o : Holder V = l.owner in
+          let T : Holder V → Fml = λ h. stretch_told cv.code z.views_name h.seat h.view h.stretch h.mark in
+          let St : Holder V → Fml = λ h. stretch cv.code z.views_name h.seat h.view h.stretch h.mark in
+          let Are : Type 0 = AreShown R α cv.code z.views_name holds i g o in let Over : Lft = span α g o in
+          qed 𝓛 ((‵ Inv ⊛ ‵ (flft α q) ⊛ ‵ Hd) ∷ ‵ (One a l) ∷ []) ∵ updating ! $ split3 ! $ move ! (3 ∷ []) $ fsplit3 ! $ move ! (2 ∷ []) $ fsplit ! $
+          fsplit ! $
+          -- [the guard's stretch; the owner's; what is shown; the part; the account; the invariant; the lifetime; the hand]
+          use1 𝓛 (‵ (T g) ⊛ ‵ (T g)) (Stretches.twice 𝓛 (IsOfSeat g.seat) (St g)) $ split ! $ move ! (2 ∷ []) $
+          use1 𝓛 (‵ (T o) ⊛ ‵ (T o)) (Stretches.twice 𝓛 (IsOfSeat o.seat) (St o)) $ split ! $
+          -- [the owner's, twice; the guard's, twice; what is shown; the part; the account; the invariant; the lifetime; the hand]
+          move ! (4 ∷ []) $ fpick ! (λ are. fpack ! Are (λ _. ftrue) are $
+          -- [what is shown; the owner's, twice; the guard's, twice; the part; the account; the invariant; the lifetime; the hand]
+          move ! (7 ∷ []) $ use1 𝓛 (‵ Inv ⊛ ‵ Inv) (Stretches.twice 𝓛 IsEven (fbor α I)) $ split ! $
+          -- [the invariant, twice; what is shown; the owner's, twice; the guard's, twice; the part; the account; the lifetime; the hand]
+          move ! (0 ∷ 9 ∷ 5 ∷ 3 ∷ 10 ∷ []) $ group ! 5 $
+          use1 𝓛 (later ((‵ (fdead Over) ⊛ ‵ Hd) ⊛ ‵ (flft α q))) (ends g o are.0 q are.1) $ await ! tt $ split ! $ split ! $
+          -- [dead; the hand; the lifetime; the invariant; what is shown; the owner's; the guard's; the part; the account]
+          now ! $ move ! (6 ∷ 5 ∷ []) $ fjoin ! $ move ! (0 ∷ 5 ∷ []) $ fjoin ! $
+          -- [the stretches and what is shown; dead; the hand; the lifetime; the invariant; the part; the account]
+          move ! (6 ∷ 0 ∷ []) $ fjoin ! $ move ! (5 ∷ 0 ∷ []) $ fjoin ! $
+          -- [the lending; dead; the hand; the lifetime; the invariant]
+          move ! (4 ∷ 3 ∷ 2 ∷ []) $ group ! 3 $ move ! (0 ∷ 2 ∷ 1 ∷ []) $ done !)
+
+      -- THE VALUE COMES BACK: seats whose views show the block have other views by now
+      pub comes_back : (x : R.Denot) (b o : ℕ) → Having ∗ ⟦ Lendings.Lent 𝓛 R α cv z.views_name holds i x b o ⟧
+          ⊢ H.⇛ (Having ∗ ⟦ Lendings.Own 𝓛 R α cv z.views_name holds x b o ⟧)
+      comes_back = Lendings.regains 𝓛 R α cv z.views_name holds i Having dies
+
+  -- A BLOCK THAT WAS TAKEN AWAY: its place is in the hand of the call that has taken it
+  module _ (e : Share) (lt : i < z.count) where
+    abbrev Hd : Fml
+    Hd = hands three_quarters (busy e)
+
+    gone : (g o : Holder V) (shown : Shown g o) (t : In) (sound : Sound t) (s : Share) → cell_at t.parts.cells i ≡ Out s
+        → Hands.Sit 𝓛 R cv holds p z g.seat g.view o.seat o.view t → ⊥
+    gone g o shown t sound s is at =
+        let some = shown (state_of z t) sound.0 at.0 at.1 in let one : suc i - 1 ≡ i = omega arith in
         let b = block_is z.roots z.count t.parts sound.1 (suc i) (omega arith) ∙ ap (λ (k : ℕ). block_in (cell_at t.parts.cells k)) one ∙ ap block_in is in
         absurd (cc (subst IsSome (ap value_in b) some))
 
-    by_cell : (Z : Pr) (t : In) (sound : Sound t) (c : Cell R.Denot) → cell_at t.parts.cells i ≡ c
-        → ⟦ cell_of c ⟧ ∗ all 𝓤 (Recells t) ∗ ⟦ Led t ⟧ ∗ ⟦ Sn ⟧ ∗ ⟦ Hd ⟧ ⊢ Z
-    by_cell Z t sound Free is = qed 𝓛 (‵ (cell_of Free) ∷ raw (all 𝓤 (Recells t)) ∷ ‵ (Led t) ∷ (‵ Sn ⊛ ‵ Hd) ∷ []) ∵ move ! (3 ∷ []) $ split ! $
-        move ! (2 ∷ []) $ fsplit ! $ move ! (1 ∷ []) $ fsplit ! $ move ! (0 ∷ 4 ∷ []) $
+    by_cell : (g o : Holder V) (S : Fml) → Shows g o S → Crowds g o S → Shown g o → (Z : Pr) (t : In) (sound : Sound t) (c : Cell R.Denot)
+        → cell_at t.parts.cells i ≡ c → ⟦ cell_of c ⟧ ∗ all 𝓤 (Recells t) ∗ ⟦ Led t ⟧ ∗ ⟦ S ⟧ ∗ ⟦ Hd ⟧ ⊢ Z
+    by_cell g o S shows crowds shown Z t sound Free is = qed 𝓛 (‵ (cell_of Free) ∷ raw (all 𝓤 (Recells t)) ∷ ‵ (Led t) ∷ (‵ S ⊛ ‵ Hd) ∷ []) ∵ move ! (3 ∷ []) $
+        split ! $ move ! (2 ∷ []) $ fsplit ! $ move ! (1 ∷ []) $ fsplit ! $ move ! (0 ∷ 4 ∷ []) $
         use2 𝓛 (given ⊥ (‵ (hands full_share resting) ⊛ ‵ Hd)) (Makings.clash 𝓛 R cv holds keeps p z i (busy e) resting) $ learn ! (λ no. absurd no)
-    by_cell Z t sound (Has x ws) is = qed 𝓛 (‵ (cell_of (Has x ws)) ∷ raw (all 𝓤 (Recells t)) ∷ ‵ (Led t) ∷ (‵ Sn ⊛ ‵ Hd) ∷ []) ∵ move ! (3 ∷ []) $ split ! $
-        move ! (2 ∷ []) $ fsplit ! $ move ! (1 ∷ []) $ fsplit ! $ move ! (0 ∷ 4 ∷ []) $
+    by_cell g o S shows crowds shown Z t sound (Has x ws) is = qed 𝓛 (‵ (cell_of (Has x ws)) ∷ raw (all 𝓤 (Recells t)) ∷ ‵ (Led t) ∷ (‵ S ⊛ ‵ Hd) ∷ []) ∵
+        move ! (3 ∷ []) $ split ! $ move ! (2 ∷ []) $ fsplit ! $ move ! (1 ∷ []) $ fsplit ! $ move ! (0 ∷ 4 ∷ []) $
         use2 𝓛 (given ⊥ (‵ (hands full_share resting) ⊛ ‵ Hd)) (Makings.clash 𝓛 R cv holds keeps p z i (busy e) resting) $ learn ! (λ no. absurd no)
-    by_cell Z t sound Claimed is = qed 𝓛 (‵ (cell_of Claimed) ∷ raw (all 𝓤 (Recells t)) ∷ ‵ (Led t) ∷ (‵ Sn ⊛ ‵ Hd) ∷ []) ∵ move ! (3 ∷ []) $ split ! $
-        move ! (2 ∷ []) $ fsplit ! $ move ! (1 ∷ []) $ fsplit ! $ move ! (0 ∷ 4 ∷ []) $
+    by_cell g o S shows crowds shown Z t sound Claimed is = qed 𝓛 (‵ (cell_of Claimed) ∷ raw (all 𝓤 (Recells t)) ∷ ‵ (Led t) ∷ (‵ S ⊛ ‵ Hd) ∷ []) ∵
+        move ! (3 ∷ []) $ split ! $ move ! (2 ∷ []) $ fsplit ! $ move ! (1 ∷ []) $ fsplit ! $ move ! (0 ∷ 4 ∷ []) $
         use2 𝓛 (given (resting ≡ busy e) (‵ (hands quarter resting) ⊛ ‵ Hd)) (Makings.same_hand 𝓛 R cv holds keeps p z i (busy e) resting) $
         learn ! (λ same. absurd (Makings.resting_is_not 𝓛 R cv holds keeps p z e (sym same)))
-    by_cell Z t sound (Out s) is = qed 𝓛 (‵ (cell_of (Out s)) ∷ raw (all 𝓤 (Recells t)) ∷ ‵ (Led t) ∷ (‵ Sn ⊛ ‵ Hd) ∷ []) ∵ move ! (3 ∷ []) $ split ! $
-        move ! (4 ∷ 0 ∷ []) $
-        use2 𝓛 (given (slice_get t.views id ≡ Some v) (‵ (Led t) ⊛ ‵ Sn)) (Ledgers.sits 𝓛 cv z.views_name t.blank t.views id stretch_part v) $
-        learn ! (λ at. absurd (gone t sound s is at))
+    by_cell g o S shows crowds shown Z t sound (Out s) is = qed 𝓛 (‵ (cell_of (Out s)) ∷ raw (all 𝓤 (Recells t)) ∷ ‵ (Led t) ∷ (‵ S ⊛ ‵ Hd) ∷ []) ∵
+        move ! (3 ∷ []) $ split ! $ move ! (4 ∷ 0 ∷ []) $
+        use2 𝓛 (given (Hands.Sit 𝓛 R cv holds p z g.seat g.view o.seat o.view t) (‵ (Led t) ⊛ ‵ S)) (shows t) $
+        learn ! (λ at. absurd (gone g o shown t sound s is at))
+    by_cell g o S shows crowds shown Z t sound (Held ρ s x ws) is = qed 𝓛 (‵ (cell_of (Held ρ s x ws)) ∷ raw (all 𝓤 (Recells t)) ∷ ‵ (Led t) ∷
+        (‵ S ⊛ ‵ Hd) ∷ []) ∵
+        move ! (3 ∷ []) $ split ! $ move ! (2 ∷ 1 ∷ []) $
+        use2 𝓛 (raw Z) (strange 1 (held ρ s) (busy e) (rest_of ρ s x ws) Z (Makings.busy_is_not_held 𝓛 R cv holds keeps p z ρ s e)) $ keep ! (0 ∷ []) $ done !
 
     -- no seat has that view
-    none : (Z : Pr) → ⟦ I ⟧ ∗ (⟦ Sn ⟧ ∗ ⟦ Hd ⟧) ⊢ Z
-    none Z = Makings.opens 𝓛 R cv holds keeps p z (⟦ Sn ⟧ ∗ ⟦ Hd ⟧) Z i lt (by_cell Z)
+    pub none_taken : (g o : Holder V) (S : Fml) → Shows g o S → Crowds g o S → Shown g o → (Z : Pr) → ⟦ I ⟧ ∗ (⟦ S ⟧ ∗ ⟦ Hd ⟧) ⊢ Z
+    none_taken g o S shows crowds shown Z = Makings.opens 𝓛 R cv holds keeps p z (⟦ S ⟧ ∗ ⟦ Hd ⟧) Z i lt (by_cell g o S shows crowds shown Z)
 
-    module _ (σ θ : ℕ) (q : Share) where
-      abbrev St : Fml
-      St = stretch cv.code z.views_name id v σ θ
+    pub regains : (q : Share) (x : R.Denot) (b o : ℕ) → Having Hd none_taken q ∗ ⟦ Lendings.Lent 𝓛 R α cv z.views_name holds i x b o ⟧
+        ⊢ H.⇛ (Having Hd none_taken q ∗ ⟦ Lendings.Own 𝓛 R α cv z.views_name holds x b o ⟧)
+    regains = comes_back Hd none_taken
 
-      abbrev Q : Pr
-      Q = A.dead (σ ∷ []) ∗ ⟦ Hd ⟧
+  -- A BLOCK WHOSE VALUE IS IN THE HAND of a call: its seat has it to itself
+  module _ (ρ : ℕ) (e : Share) (lt : i < z.count) where
+    abbrev Hh : Fml
+    Hh = hands three_quarters (held ρ e)
 
-      finds : (m : ℕ) (y : Bool) → ⟦ lasting cv.code z.views_name id v σ θ y ⟧ ∗ ⟦ I ⟧ ∗ ⟦ Hd ⟧ ⊢ upd 𝓤 (⟦ I ⟧ ∗ ⟦ bodies ((m, St) ∷ []) ⟧ ∗ Q)
-      finds m true = let Z : Pr = ⟦ I ⟧ ∗ ⟦ bodies ((m, St) ∷ []) ⟧ ∗ Q in
-          qed 𝓛 (‵ Sn ∷ ‵ I ∷ ‵ Hd ∷ []) ∵ move ! (0 ∷ 2 ∷ []) $ join ! $ move ! (1 ∷ 0 ∷ []) $ by ! (none (upd 𝓤 Z))
-      finds m false = let Z : Pr = ⟦ I ⟧ ∗ ⟦ bodies ((m, St) ∷ []) ⟧ ∗ Q in
-          qed 𝓛 (‵ (fsep (fdead (σ ∷ [])) (ticket θ 0)) ∷ ‵ I ∷ ‵ Hd ∷ []) ∵ suffices ! _ (upd_i 𝓤 Z) $ fsplit ! $
-          use1 𝓛 (‵ (fdead (σ ∷ [])) ⊛ ‵ (fdead (σ ∷ []))) (𝓛.lfts.dead_dup (σ ∷ [])) $ split ! $ move ! (1 ∷ 2 ∷ []) $ fjoin ! $
-          fpack ! Bool (lasting cv.code z.views_name id v σ θ) false $ nothing ! $ move ! (1 ∷ 0 ∷ []) $ fjoin ! $
-          -- [the stretch; dead; the invariant; the hand]
-          move ! (2 ∷ 0 ∷ 1 ∷ 3 ∷ []) $ frame ! $ frame ! $ done !
+    by_hand : (g o : Holder V) (S : Fml) → Shows g o S → Crowds g o S → Shown g o → (Z : Pr) (t : In) (sound : Sound t) (c : Cell R.Denot)
+        → cell_at t.parts.cells i ≡ c → ⟦ cell_of c ⟧ ∗ all 𝓤 (Recells t) ∗ ⟦ Led t ⟧ ∗ ⟦ S ⟧ ∗ ⟦ Hh ⟧ ⊢ Z
+    by_hand g o S shows crowds shown Z t sound Free is = qed 𝓛 (‵ (cell_of Free) ∷ raw (all 𝓤 (Recells t)) ∷ ‵ (Led t) ∷ (‵ S ⊛ ‵ Hh) ∷ []) ∵ move ! (3 ∷ []) $
+        split ! $ move ! (2 ∷ []) $ fsplit ! $ move ! (1 ∷ []) $ fsplit ! $ move ! (0 ∷ 4 ∷ []) $
+        use2 𝓛 (given ⊥ (‵ (hands full_share resting) ⊛ ‵ Hh)) (Makings.clash 𝓛 R cv holds keeps p z i (held ρ e) resting) $ learn ! (λ no. absurd no)
+    by_hand g o S shows crowds shown Z t sound (Has x ws) is = qed 𝓛 (‵ (cell_of (Has x ws)) ∷ raw (all 𝓤 (Recells t)) ∷ ‵ (Led t) ∷ (‵ S ⊛ ‵ Hh) ∷ []) ∵
+        move ! (3 ∷ []) $ split ! $ move ! (2 ∷ []) $ fsplit ! $ move ! (1 ∷ []) $ fsplit ! $ move ! (0 ∷ 4 ∷ []) $
+        use2 𝓛 (given ⊥ (‵ (hands full_share resting) ⊛ ‵ Hh)) (Makings.clash 𝓛 R cv holds keeps p z i (held ρ e) resting) $ learn ! (λ no. absurd no)
+    by_hand g o S shows crowds shown Z t sound Claimed is = qed 𝓛 (‵ (cell_of Claimed) ∷ raw (all 𝓤 (Recells t)) ∷ ‵ (Led t) ∷ (‵ S ⊛ ‵ Hh) ∷ []) ∵
+        move ! (3 ∷ []) $ split ! $ move ! (2 ∷ 1 ∷ []) $
+        use2 𝓛 (raw Z) (strange 1 resting (held ρ e) (Makings.contents 𝓛 R cv holds keeps p z i zeros None) Z
+        (λ same. Makings.resting_is_not_held 𝓛 R cv holds keeps p z ρ e (sym same))) $ keep ! (0 ∷ []) $ done !
+    by_hand g o S shows crowds shown Z t sound (Out s) is = qed 𝓛 (‵ (cell_of (Out s)) ∷ raw (all 𝓤 (Recells t)) ∷ ‵ (Led t) ∷ (‵ S ⊛ ‵ Hh) ∷ []) ∵
+        move ! (3 ∷ []) $ split ! $ move ! (2 ∷ 1 ∷ []) $
+        use2 𝓛 (raw Z) (strange 1 (busy s) (held ρ e) (flft α s) Z (λ same. Makings.busy_is_not_held 𝓛 R cv holds keeps p z ρ e s (sym same))) $
+        keep ! (0 ∷ []) $ done !
+    by_hand g o S shows crowds shown Z t sound (Held ρ' s x ws) is =
+        qed 𝓛 (‵ (cell_of (Held ρ' s x ws)) ∷ raw (all 𝓤 (Recells t)) ∷ ‵ (Led t) ∷ (‵ S ⊛ ‵ Hh) ∷ []) ∵
+        move ! (3 ∷ []) $ split ! $ move ! (2 ∷ []) $ fsplit ! $ move ! (1 ∷ []) $ fsplit3 ! $ move ! (2 ∷ []) $ fsplit ! $
+        -- [the share; who has it; the hand; the entry; the sign; the seat's; three quarters; the others; the views]
+        keep ! (8 ∷ 1 ∷ 5 ∷ []) $ by ! (Hands.excludes 𝓛 R cv holds p z g.seat g.view o.seat o.view S shows crowds t sound i ρ' x Z shown)
 
-      both : (n m : ℕ) → IsEven n → IsOdd m → A.named m St ∗ A.named n (fbor α I) ∗ A.lft α q ∗ ⟦ Hd ⟧ ⊢ H.⇛ (Q ∗ A.lft α q)
-      both n m e o = via 𝓤 _ (qed 𝓛 (‵ (fnamed m St) ∷ ‵ (fnamed n (fbor α I)) ∷ ‵ (flft α q) ∷ ‵ Hd ∷ []) ∵ use0 𝓛 (‵ ftrue) (id⊢ 𝓤 (emp 𝓤)) $
-          move ! (1 ∷ 0 ∷ []) $ fjoin ! $ move ! (1 ∷ 0 ∷ []) $ fjoin ! $ frame ! $ frame ! $ assume ! (‵ I ⊛ ‵ (bodies ((m, St) ∷ []))) $ split ! $
-          move ! (1 ∷ []) $ fsplit ! $ move ! (1 ∷ []) $ drop ! $ fpick ! (λ y. by ! (finds m y)))
-          (𝓛.invs.invs_bor_acc n α q I ((m, St) ∷ []) Q (two n m (fbor α I) St e o))
+    pub none_held : (g o : Holder V) (S : Fml) → Shows g o S → Crowds g o S → Shown g o → (Z : Pr) → ⟦ I ⟧ ∗ (⟦ S ⟧ ∗ ⟦ Hh ⟧) ⊢ Z
+    none_held g o S shows crowds shown Z = Makings.opens 𝓛 R cv holds keeps p z (⟦ S ⟧ ∗ ⟦ Hh ⟧) Z i lt (by_hand g o S shows crowds shown Z)
 
-      -- so its stretch has ended
-      ended : ⟦ Inv ⟧ ∗ A.lft α q ∗ ⟦ stretch_told cv.code z.views_name id v σ θ ⟧ ∗ ⟦ Hd ⟧ ⊢ H.⇛ (Q ∗ A.lft α q)
-      ended = qed 𝓛 (‵ Inv ∷ ‵ (flft α q) ∷ ‵ (stretch_told cv.code z.views_name id v σ θ) ∷ ‵ Hd ∷ []) ∵ fpick ! (λ n. fsplit ! $ fpick ! (λ e. drop ! $
-          move ! (2 ∷ []) $ fpick ! (λ m. fsplit ! $ fpick ! (λ o. drop ! $ by ! (both n m e o)))))
-
-  module _ (q : Share) where
-    abbrev One : ℕ → Lending V → Fml
-    One = lending R α cv.code z.views_name holds i
-
-    -- what is had with the value: the invariant, the lifetime, and the place
-    abbrev pub Having : Pr
-    Having = ⟦ Inv ⟧ ∗ A.lft α q ∗ ⟦ Hd ⟧
-
-    dies : (a : ℕ) (l : Lending V) → Having ∗ ⟦ One a l ⟧ ⊢ H.⇛ (Having ∗ A.dead (l.stretch ∷ α) ∗ ⟦ One a l ⟧)
-    dies a l = let σ : ℕ = l.stretch in let T : Fml = stretch_told cv.code z.views_name l.seat l.view σ l.mark in
-        qed 𝓛 ((‵ Inv ⊛ ‵ (flft α q) ⊛ ‵ Hd) ∷ ‵ (One a l) ∷ []) ∵ updating ! $ split3 ! $ move ! (3 ∷ []) $ fsplit3 ! $ move ! (2 ∷ []) $ fsplit ! $
-        use1 𝓛 (‵ T ⊛ ‵ T) (Stretches.twice 𝓛 IsOdd (stretch cv.code z.views_name l.seat l.view σ l.mark)) $ split ! $
-        move ! (2 ∷ []) $ fpick ! (λ shown. fpack ! (Shown holds l.seat l.view (suc i)) (λ _. ftrue) shown $
-        -- [what is shown; the stretch, twice; the part; the account; the invariant; the lifetime; the hand]
-        move ! (5 ∷ []) $ use1 𝓛 (‵ Inv ⊛ ‵ Inv) (Stretches.twice 𝓛 IsEven (fbor α I)) $ split ! $ move ! (0 ∷ 7 ∷ 3 ∷ 8 ∷ []) $ group ! 4 $
-        use1 𝓛 (later ((‵ (fdead (σ ∷ [])) ⊛ ‵ Hd) ⊛ ‵ (flft α q))) (ended l.seat l.view shown σ l.mark q) $ await ! tt $ split ! $ split ! $
-        use1 𝓛 (‵ (fdead (σ ∷ α))) (𝓛.lfts.dead-incl (σ ∷ α) (σ ∷ []) (meet_⊑_left (σ ∷ []) α)) $
-        -- [dead; the hand; the lifetime; the invariant; what is shown; the stretch; the part; the account]
-        now ! $ move ! (5 ∷ 4 ∷ []) $ fjoin ! $ move ! (6 ∷ 0 ∷ []) $ fjoin ! $ move ! (5 ∷ 0 ∷ []) $ fjoin ! $ move ! (4 ∷ 3 ∷ 2 ∷ []) $ group ! 3 $
-        move ! (0 ∷ 2 ∷ 1 ∷ []) $ done !)
-
-    -- THE VALUE COMES BACK
-    pub regains : (x : R.Denot) (b o : ℕ) → Having ∗ ⟦ Lendings.Lent 𝓛 R α cv z.views_name holds i x b o ⟧
-        ⊢ H.⇛ (Having ∗ ⟦ Lendings.Own 𝓛 R α cv z.views_name holds x b o ⟧)
-    regains = Lendings.regains 𝓛 R α cv z.views_name holds i Having dies
+    pub regains_held : (q : Share) (x : R.Denot) (b o : ℕ) → Having Hh none_held q ∗ ⟦ Lendings.Lent 𝓛 R α cv z.views_name holds i x b o ⟧
+        ⊢ H.⇛ (Having Hh none_held q ∗ ⟦ Lendings.Own 𝓛 R α cv z.views_name holds x b o ⟧)
+    regains_held = comes_back Hh none_held

@@ -10,10 +10,10 @@ use denote.Param.Send.{IsSend, IsSync, part_keyless}
 use types.Keyed.{token, entry_keyless, entries_keyless}
 use Rattle.core.specs.contracts.option.Option.{the_row as OptionOf}
 use Rattle.seize_seats.specs.State.{State}
-use Rattle.seize_seats.specs.Cells.{Cell, Free, Claimed, Out, Has}
+use Rattle.seize_seats.specs.Cells.{Cell, Free, Claimed, Out, Has, Held}
 use Rattle.seize_seats.specs.Lines.{long}
-use Rattle.seize_seats.specs.Owned.{shared_view, row, quarters, zeros, stride, kept, numbers, BaseId, age, inner, lent_here, words_own, words_share}
-use Rattle.seize_seats.specs.Lendings.{Phase, Begins, Lasts, Over, in_phase, Lending, lendings, lendable}
+use Rattle.seize_seats.specs.Owned.{shared_view, row, quarters, zeros, stride, kept, numbers, BaseId, age, inner, lent_here, had_here, words_own, words_share}
+use Rattle.seize_seats.specs.Lendings.{Phase, Begins, Lasts, Over, in_phase, Holder, Lending, span, told, lendings, lendable, in_hand}
 use Rattle.seize_seats.specs.Stretches.{lasting, seat_owns, seat_shares}
 
 row_keyless : (b o : ℕ) (ns : List ℕ) → Keyless (row b o ns)
@@ -38,17 +38,20 @@ module _ {V : Type 0} (c : V → Gv) (γ : ℕ) where
 -- a value that can be lent
 module _ (R : RattleType) (sent : IsSend (OptionOf R)) (synced : IsSync (OptionOf R)) (α : Lft) {V W : Type 0} (c : V → Gv) (γ : ℕ) (holds : State R.Denot V W
     → Type 0) where
-  phase_keyless : (σ ν : ℕ) (s : Share) (ph : Phase) → Keyless (in_phase α σ ν s ph)
-  phase_keyless σ ν s Begins = tt
-  phase_keyless σ ν s Lasts = λ u. (entry_keyless shared_view ν 0 _, tt)
-  phase_keyless σ ν s Over = λ u. entry_keyless shared_view ν 0 _
+  phase_keyless : (μ : Lft) (ν : ℕ) (s : Share) (ph : Phase) → Keyless (in_phase μ ν s ph)
+  phase_keyless μ ν s Begins = tt
+  phase_keyless μ ν s Lasts = λ u. (entry_keyless shared_view ν 0 _, tt)
+  phase_keyless μ ν s Over = λ u. entry_keyless shared_view ν 0 _
+
+  told_keyless : (h : Holder V) → Keyless (told R α c γ holds h)
+  told_keyless h = λ n. ((λ _. tt), stretch_keyless c γ h.seat h.view h.stretch h.mark)
 
   lendings_keyless : (i a : ℕ) (ls : List (Lending V)) → Keyless (lendings R α c γ holds i a ls)
   lendings_keyless i a [] = tt
   lendings_keyless i a (l ∷ ls) = (
     (
       entry_keyless shared_view l.name 0 _,
-      (phase_keyless l.stretch l.name l.stake, ((λ n. ((λ _. tt), stretch_keyless c γ l.seat l.view l.stretch l.mark)), λ _. tt)),
+      (phase_keyless (span α l.guard l.owner) l.name l.stake, ((told_keyless l.guard, told_keyless l.owner), λ _. tt)),
     ),
     lendings_keyless i a ls,
   )
@@ -57,15 +60,19 @@ module _ (R : RattleType) (sent : IsSend (OptionOf R)) (synced : IsSync (OptionO
   lendable_keyless i x b o = λ n.
       (synced.shared (Some x) b o (n.atom ∷ []), (part_keyless (OptionOf R) sent full_share (Some x) b o, (tt, ((λ _. tt), lendings_keyless i n.atom n.lendings))))
 
+  in_hand_keyless : (ρ i : ℕ) (x : R.Denot) → Keyless (in_hand R α c γ holds ρ i x)
+  in_hand_keyless ρ i x = λ u. (entry_keyless shared_view ρ 0 _, (entry_keyless shared_view γ u.0 _, λ _. tt))
+
 module _ (R : RattleType) (sent : IsSend (OptionOf R)) (α : Lft) (δ : ℕ) (lent : ℕ → R.Denot → ℕ → ℕ → Fml) (lent_keyless : (i : ℕ) (x : R.Denot) (b o : ℕ)
-    → Keyless (lent i x b o)) (b b' : ℕ) where
-  kept_keyless : (o o' i : ℕ) (c : Cell R.Denot) → Keyless (kept R α δ lent b o b' o' i c)
+    → Keyless (lent i x b o)) (had : ℕ → ℕ → R.Denot → Fml) (had_keyless : (ρ i : ℕ) (x : R.Denot) → Keyless (had ρ i x)) (b b' : ℕ) where
+  kept_keyless : (o o' i : ℕ) (c : Cell R.Denot) → Keyless (kept R α δ lent had b o b' o' i c)
   kept_keyless o o' i Free = (entry_keyless shared_view δ i _, (row_keyless b o zeros, part_keyless (OptionOf R) sent full_share None b' o'))
   kept_keyless o o' i Claimed = (entry_keyless shared_view δ i _, (row_keyless b o zeros, part_keyless (OptionOf R) sent full_share None b' o'))
   kept_keyless o o' i (Out e) = (entry_keyless shared_view δ i _, tt)
   kept_keyless o o' i (Has x ws) = (entry_keyless shared_view δ i _, (row_keyless b o ws, lent_keyless i x b' o'))
+  kept_keyless o o' i (Held ρ e x ws) = (entry_keyless shared_view δ i _, (row_keyless b o ws, (tt, had_keyless ρ i x)))
 
-  numbers_keyless : (cs : List (Cell R.Denot)) (o o' i : ℕ) → Keyless (numbers R α δ lent b o b' o' i cs)
+  numbers_keyless : (cs : List (Cell R.Denot)) (o o' i : ℕ) → Keyless (numbers R α δ lent had b o b' o' i cs)
   numbers_keyless [] o o' i = tt
   numbers_keyless (c ∷ cs) o o' i = ((tt, kept_keyless o o' i c), numbers_keyless cs (o + 40) (o' + stride R) (suc i))
 
@@ -74,7 +81,7 @@ module _ (R : RattleType) (sent : IsSend (OptionOf R)) (synced : IsSync (OptionO
   inner_keyless = λ t. (
     (
       row_keyless (block_of p) (count_of p) t.parts.words,
-      numbers_keyless R sent (age z) z.hands_name (lent_here R c holds p z) (lendable_keyless R sent synced (age z) c z.views_name holds) (block_of p) (block_of z.values) t.parts.cells (long z.roots * 8 + count_of p) (count_of z.values) 0,
+      numbers_keyless R sent (age z) z.hands_name (lent_here R c holds p z) (lendable_keyless R sent synced (age z) c z.views_name holds) (had_here R c holds p z) (in_hand_keyless R sent synced (age z) c z.views_name holds) (block_of p) (block_of z.values) t.parts.cells (long z.roots * 8 + count_of p) (count_of z.values) 0,
     ),
     (
       (

@@ -17,7 +17,7 @@ use denote.Struct.Lending.{Lends, Lends-both}
 use Rattle.seize_seats.specs.State.{State}
 use types.Keyed.{ticket}
 use Rattle.seize_seats.specs.Seen.{seen}
-use Rattle.seize_seats.specs.Stretches.{IsEven, IsOdd, invariant, seats_part, stretch, stretch_told, seat_owns, seat_shares}
+use Rattle.seize_seats.specs.Stretches.{IsEven, IsOfSeat, invariant, seats_part, stretch, stretch_told, seat_owns, seat_shares}
 use Rattle.seize_seats.proofs.Stretches as Stretches
 use Rattle.seize_seats.proofs.Shares as Shares
 use Rattle.seize_seats.specs.Owned.{BaseId, age, IsPlaced, inner, common, words_own, words_share}
@@ -72,7 +72,7 @@ module _ {V : Type 0} (cv : Coded V) (γ id : ℕ) (v : V) (σ θ : ℕ) where
 
   rest_laws : ShrLaws (beside (one Vw) (said T))
   rest_laws = beside_shr_laws (one Vw) (said T) (one_shr_laws Vw) record {
-    contraction = λ M 𝓤 𝓛 ν. Stretches.twice 𝓛 IsOdd St;
+    contraction = λ M 𝓤 𝓛 ν. Stretches.twice 𝓛 (IsOfSeat id) St;
     mono =
         λ M 𝓤 𝓛 μ ν. snd∗ 𝓤 (sem 𝓛 (base.Before.before μ ν)) (sem 𝓛 T);
   }
@@ -83,4 +83,4 @@ module _ {V : Type 0} (cv : Coded V) (γ id : ℕ) (v : V) (σ θ : ℕ) where
   pub lends_seat : {M : Type 1} {𝓤 : Ura M} (𝓛 : Logic 𝓤) (l : Lft) → Lends 𝓛 (seat_owns cv.code γ id v σ θ) (seat_shares cv.code γ id v σ θ) l
   lends_seat 𝓛 l = let X : Fml = fsep T (ticket θ 0) in
       Lends-both 𝓛 (Tok full_share) (fsep (Vw seats_part) X) (one Tok) (beside (one Vw) (said T)) l (Shares.cut 𝓛 l Tok full_share)
-      (Lends-both 𝓛 (Vw seats_part) X (one Vw) (said T) l (Shares.cut 𝓛 l Vw seats_part) (Shares.told 𝓛 l T (ticket θ 0) (Stretches.twice 𝓛 IsOdd St)))
+      (Lends-both 𝓛 (Vw seats_part) X (one Vw) (said T) l (Shares.cut 𝓛 l Vw seats_part) (Shares.told 𝓛 l T (ticket θ 0) (Stretches.twice 𝓛 (IsOfSeat id) St)))

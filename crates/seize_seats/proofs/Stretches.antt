@@ -1,7 +1,6 @@
 -- A seat's stretch begins and ends, and invariants that are known by their numbers. Assumes `Logic`.
-use Rattle.std.proofs.Common.{ℕ, ◌+◌, ◌≤◌, Bool, true, false, [], ◌∷◌, refl, arith}
+use Rattle.std.proofs.Common.{◌≡◌, ℕ, zero, suc, ◌+◌, ◌≤◌, Bool, true, false, [], ◌∷◌, refl, ap, subst, arith}
 use seplogic.Ra.Ura.{Ura}
-use base.Share
 use base.Share.{three_quarters}
 use base.Stored.{Coded}
 use base.Logic.{SProp, ent, sep, ex, all, guard, upd, via, never, never_e, upd_i}
@@ -13,7 +12,7 @@ use types.Tokens.{lft_new, lft_end}
 use types.Kit.{‵, raw, ◌⊛◌, some as items, given, later, ◌$◌, ◌∵◌, !, qed, by, move, keep, drop, split, fsplit, fsplit3, fjoin, fpick, fpack, pick, learn, show, frame, each, assume, suffices, use0, use1, use2, use3, updating, await, now, done}
 use denote.Steps.{nothing}
 use Rattle.seize_seats.specs.Seen.{seen}
-use Rattle.seize_seats.specs.Stretches.{IsEven, IsOdd, numbered, invariant, seats_part, stretch_part, lasting, stretch, stretch_told, seat_owns}
+use Rattle.seize_seats.specs.Stretches.{IsEven, IsOdd, IsOfKind, IsOfSeat, numbered, invariant, seats_part, stretch_part, lasting, stretch, stretch_told, seat_owns}
 use Rattle.seize_seats.proofs.Ledgers as Ledgers
 
 pub evens : (n : ℕ) → (j : ℕ) × (n ≤ j) × IsEven j
@@ -21,6 +20,24 @@ evens n = (n + n, omega arith, (n, refl))
 
 pub odds : (n : ℕ) → (j : ℕ) × (n ≤ j) × IsOdd j
 odds n = (n + n + 1, omega arith, (n, refl))
+
+pub kinds : (k n : ℕ) → (j : ℕ) × (n ≤ j) × IsOfKind k j
+kinds zero n = odds n
+kinds (suc k) n = let r = kinds k n in let le = r.1 in (r.0 + r.0, omega (arith, le), (r.0, refl, r.2))
+
+pub numbers_of : (id n : ℕ) → (j : ℕ) × (n ≤ j) × IsOfSeat id j
+numbers_of id n = let r = kinds id n in let le = r.1 in (r.0 + r.0 + 1, omega (arith, le), (r.0, refl, r.2))
+
+-- no number is of two kinds
+pub one_kind : (i j m : ℕ) → IsOfKind i m → IsOfKind j m → i ≡ j
+one_kind zero zero m a b = refl
+one_kind zero (suc j) m a b = let odd = a.1 in let even = b.1 in absurd (omega (arith, odd, even))
+one_kind (suc i) zero m a b = let odd = b.1 in let even = a.1 in absurd (omega (arith, odd, even))
+one_kind (suc i) (suc j) m a b = let p = a.1 in let q = b.1 in let same : b.0 ≡ a.0 = omega (arith, p, q) in
+    ap suc (one_kind i j a.0 a.2 (subst (IsOfKind j) same b.2))
+
+pub one_seat : (i j n : ℕ) → IsOfSeat i n → IsOfSeat j n → i ≡ j
+one_seat i j n a b = let p = a.1 in let q = b.1 in let same : b.0 ≡ a.0 = omega (arith, p, q) in one_kind i j a.0 a.2 (subst (IsOfKind j) same b.2)
 
 module _ {M : Type 1} {𝓤 : Ura M} (𝓛 : Logic 𝓤) where
   open 𝓛 use {H, A}
@@ -86,7 +103,7 @@ module _ {M : Type 1} {𝓤 : Ura M} (𝓛 : Logic 𝓤) where
           use2 𝓛 (raw (never 𝓤)) (ticket_once 𝓛 θ 0) $ keep ! (0 ∷ []) $ by ! (never_e 𝓤 (upd 𝓤 Swapped))
 
       gets : ⟦ Told ⟧ ∗ ⟦ ticket θ 0 ⟧ ∗ A.dead (σ ∷ []) ⊢ H.⇛ ⟦ Sn stretch_part ⟧
-      gets = via 𝓤 _ (qed 𝓛 (‵ Told ∷ ‵ (ticket θ 0) ∷ ‵ (fdead (σ ∷ [])) ∷ []) ∵ use1 𝓛 (‵ (finv St)) (plain IsOdd St) $ frame ! $ assume ! (‵ St) $
+      gets = via 𝓤 _ (qed 𝓛 (‵ Told ∷ ‵ (ticket θ 0) ∷ ‵ (fdead (σ ∷ [])) ∷ []) ∵ use1 𝓛 (‵ (finv St)) (plain (IsOfSeat id) St) $ frame ! $ assume ! (‵ St) $
           fpick ! (λ y. by ! (swaps y))) (𝓛.invs.inv_acc St ⟦ Sn stretch_part ⟧)
 
       -- A STRETCH ENDS: the seat has all that is its own of its view
@@ -110,6 +127,6 @@ module _ {M : Type 1} {𝓤 : Ura M} (𝓛 : Logic 𝓤) where
         -- [the mark; other marks; the token; the view]
         move ! (3 ∷ []) $ use1 𝓛 (‵ (Sn stretch_part) ⊛ ‵ (Sn seats_part)) ((Ledgers.view_halves 𝓛 cv γ id v).cut three_quarters) $ split ! $
         fpack ! Bool (lasting cv.code γ id v σ θ) true $
-        use1 𝓛 (later (‵ (stretch_told cv.code γ id v σ θ))) (made IsOdd (stretch cv.code γ id v σ θ) odds) $ await ! tt $
+        use1 𝓛 (later (‵ (stretch_told cv.code γ id v σ θ))) (made (IsOfSeat id) (stretch cv.code γ id v σ θ) (numbers_of id)) $ await ! tt $
         -- [the stretch; the seat's part; the mark; other marks; the token]
         move ! (0 ∷ 2 ∷ []) $ fjoin ! $ move ! (1 ∷ 0 ∷ []) $ fjoin ! $ move ! (2 ∷ 0 ∷ []) $ fjoin ! $ now ! $ show ! begun (σ, θ) $ keep ! (0 ∷ []) $ done !))

@@ -1,15 +1,17 @@
 -- What lies under the number of each block: whose the number is, and the block that is there.
-use Rattle.std.specs.Prelude.{ℕ, zero, suc, List, [], ◌∷◌, Option, Some, None, slice_index_or}
+use Rattle.std.specs.Prelude.{ℕ, zero, suc, List, [], ◌∷◌, Option, Some, None, slice_index_or, slice_set}
 use base.Fml.{Share}
 use Rattle.seize_words.specs.declared.block.Block.{Block}
 
 -- `Claimed` is of a number that somebody has, and `Out` of one whose place a call has in its hand: it has left that share of the memory's lifetime for it.
--- `Has` is of a block, with the words of its entry.
+-- `Has` is of a block, with the words of its entry. `Held` is of one whose value a call has in its hand: the name under which it is noted whose call it is,
+-- the share of the lifetime that it has left, the value that is there as long as the call has not ended, and the words.
 pub data Cell (T : Type 0) : Type 0 where
   Free : Cell T
   Claimed : Cell T
   Out : Share → Cell T
   Has : T → List ℕ → Cell T
+  Held : ℕ → Share → T → List ℕ → Cell T
 
 module _ {T : Type 0} where
   -- the block that is there
@@ -18,6 +20,15 @@ module _ {T : Type 0} where
   block_in Claimed = None
   block_in (Out e) = None
   block_in (Has x ws) = Some record { value = x; entry = ws; words = [] }
+  block_in (Held ρ e x ws) = Some record { value = x; entry = ws; words = [] }
+
+  -- the same with another word of the entry
+  abbrev pub noted_in : Cell T → ℕ → ℕ → Cell T
+  noted_in Free i w = Free
+  noted_in Claimed i w = Claimed
+  noted_in (Out e) i w = Out e
+  noted_in (Has x ws) i w = Has x (slice_set ws i w)
+  noted_in (Held ρ e x ws) i w = Held ρ e x (slice_set ws i w)
 
   -- the blocks of so many numbers, from the first one on
   abbrev pub blocks_in : ℕ → List (Cell T) → List (Option (Block T))
@@ -34,3 +45,4 @@ module _ {T : Type 0} where
   sign_of Claimed = 1
   sign_of (Out e) = 1
   sign_of (Has x ws) = 1
+  sign_of (Held ρ e x ws) = 1

@@ -1,9 +1,9 @@
 -- What is promised of the places of words.
-use Rattle.std.specs.Prelude.{◌≡◌, ℕ, ◌-◌, ◌<◌, List, Some, length, slice_get, slice_index, slice_set}
-use Rattle.seize_words.specs.Mem.{word_at, with_word}
+use Rattle.std.specs.Prelude.{◌≡◌, ℕ, ◌-◌, ◌<◌, Some, length, slice_index, slice_set}
+use Rattle.seize_words.specs.Mem.{entry_in, word_at, with_word}
 use Rattle.seize_words.specs.declared.at.At.{At}
 use Rattle.seize_words.specs.declared.at.At.TheVariants.{Entry}
-use Rattle.seize_seats.specs.Cells.{Has, cell_at}
+use Rattle.seize_seats.specs.Cells.{block_in, cell_at, noted_in}
 use Rattle.seize_seats.specs.Lines.{Parts, place_of, memory_of, IsWord, IsNoBlocks, AreLaid}
 
 module _ (T : Type 0) where
@@ -26,12 +26,13 @@ module _ (T : Type 0) where
   abbrev pub EntriesLie : Type 0
   EntriesLie =
       (roots count : ℕ) (s : Parts T) (b i w : ℕ) → AreLaid roots count s → word_at (memory_of roots s) (Entry b i) ≡ Some w
-      → IsWord roots count (Entry b i) × ((x : T) × (ws : List ℕ) × (cell_at s.cells (b - 1) ≡ Has x ws) × (slice_get ws i ≡ Some w))
+      → IsWord roots count (Entry b i) × (entry_in (block_in (cell_at s.cells (b - 1))) i ≡ Some w)
 
-  abbrev pub noted : Parts T → ℕ → T → List ℕ → ℕ → ℕ → Parts T
-  noted s b x ws i new = record { words = s.words; slots = s.slots; cells = slice_set s.cells (b - 1) (Has x (slice_set ws i new)); given = s.given }
+  abbrev pub noted : Parts T → ℕ → ℕ → ℕ → Parts T
+  noted s b i new =
+      record { words = s.words; slots = s.slots; cells = slice_set s.cells (b - 1) (noted_in (cell_at s.cells (b - 1)) i new); given = s.given }
 
   abbrev pub EntriesAreApart : Type 0
   EntriesAreApart =
-      (roots count : ℕ) (s : Parts T) (b i new : ℕ) (x : T) (ws : List ℕ) → AreLaid roots count s → 0 < b → cell_at s.cells (b - 1) ≡ Has x ws
-      → AreLaid roots count (noted s b x ws i new) × (memory_of roots (noted s b x ws i new) ≡ with_word (memory_of roots s) (Entry b i) new)
+      (roots count : ℕ) (s : Parts T) (b i new : ℕ) → AreLaid roots count s → 0 < b
+      → AreLaid roots count (noted s b i new) × (memory_of roots (noted s b i new) ≡ with_word (memory_of roots s) (Entry b i) new)

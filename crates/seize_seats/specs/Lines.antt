@@ -1,10 +1,11 @@
 -- Where the words of a memory lie: each root's on lines of their own, each slot's on one, and then those of the blocks' entries. A line has 16 words, which
 -- are 128 bytes.
-use Rattle.std.specs.Prelude.{◌≡◌, ℕ, zero, suc, ◌+◌, ◌-◌, ◌*◌, ◌<◌, ◌≤◌, ◌⊎◌, List, [], ◌∷◌, None, length, slice_index}
+use Rattle.std.specs.Prelude.{◌≡◌, ℕ, zero, suc, ◌+◌, ◌-◌, ◌*◌, ◌<◌, ◌≤◌, ◌⊎◌, List, [], ◌∷◌, Some, None, length, slice_index}
 use Rattle.seize_words.specs.Mem.{Mem}
 use Rattle.seize_words.specs.declared.at.At.{At}
+use Rattle.seize_words.specs.declared.block.Block.{Block}
 use Rattle.seize_words.specs.declared.at.At.TheVariants.{Root, Used, Slot, Entry, Word}
-use Rattle.seize_seats.specs.Cells.{Cell, Has, block_in, blocks_in, cell_at}
+use Rattle.seize_seats.specs.Cells.{Cell, block_in, blocks_in, cell_at}
 
 -- the first word of each of so many lines, from a word on
 abbrev pub column : ℕ → List ℕ → ℕ → List ℕ
@@ -69,4 +70,4 @@ pub record AreLaid {T : Type 0} (roots count : ℕ) (s : Parts T) : Type 0 where
   pub counted : length s.cells ≡ count
   pub within : s.given ≤ count
   pub rest : (k : ℕ) → s.given ≤ k → block_in (cell_at s.cells k) ≡ None
-  pub fours : (k : ℕ) (x : T) (ws : List ℕ) → cell_at s.cells k ≡ Has x ws → length ws ≡ 4
+  pub fours : (k : ℕ) (x : Block T) → block_in (cell_at s.cells k) ≡ Some x → length x.entry ≡ 4

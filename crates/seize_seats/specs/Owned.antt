@@ -13,10 +13,10 @@ use denote.RawPtr.{Ptr, block_of, count_of, InBlock, coded_ptr}
 use Rattle.core.specs.contracts.option.Option.{the_row as OptionOf}
 use Rattle.core.specs.Sync.RawAtomic.{word}
 pub use Rattle.seize_seats.specs.Seen.{fact, itself, shared_view, seen, number_share_coded}
-use Rattle.seize_seats.specs.Lendings.{lendable}
+use Rattle.seize_seats.specs.Lendings.{lendable, in_hand}
 use Rattle.seize_seats.specs.State.{State}
 use Rattle.seize_seats.specs.Stretches.{IsEven, invariant}
-use Rattle.seize_seats.specs.Cells.{Cell, Free, Claimed, Out, Has, sign_of}
+use Rattle.seize_seats.specs.Cells.{Cell, Free, Claimed, Out, Has, Held, sign_of}
 use Rattle.seize_seats.specs.Lines.{Parts, whole, long, memory_of, AreLaid}
 
 -- the words lie side by side
@@ -38,7 +38,8 @@ module _ {V : Type 0} (c : V → Gv) (γ : ℕ) where
   abbrev pub ledger : V → List V → Fml
   ledger blank vs = fsep (quarters 0 vs) (unborn (length vs) blank)
 
--- Who has a number: 0, or 1 where a call has its place in its hand, with the share that it has left.
+-- Who has a number: 0, or 1 where a call has its place in its hand, or two more than the name under which it is noted whose call has its value in the hand. The
+-- call has left this share.
 abbrev pub Hand : Type 0
 Hand = ℕ × Share
 
@@ -50,6 +51,9 @@ resting = (0, full_share)
 
 abbrev pub busy : Share → Hand
 busy e = (1, e)
+
+abbrev pub held : ℕ → Share → Hand
+held ρ e = (suc (suc ρ), e)
 
 abbrev pub zeros : List ℕ
 zeros = 0 ∷ 0 ∷ 0 ∷ 0 ∷ []
@@ -63,8 +67,8 @@ claim_owns δ i (suc found) = ftrue
 abbrev pub stride : RattleType → ℕ
 stride R = size (lone (OptionOf R).mir)
 
--- Under each number lie five words and a place for a value. α: the lifetime of the memory; δ: the name of the hands; lent: what stands for the value of a block,
--- which can be lent, under a number, at a place.
+-- Under each number lie five words and a place for a value. α: the lifetime of the memory; δ: the name of the hands; lent: what stands for the value of a
+-- block, which can be lent, under a number, at a place; had: what stands for one that a call has in its hand, by the name under which that is noted.
 module _ (R : RattleType) (α : Lft) (δ : ℕ) where
   abbrev pub hand : Share → ℕ → Hand → Fml
   hand q i h = seen hand_coded.code δ q i h
@@ -76,7 +80,7 @@ module _ (R : RattleType) (α : Lft) (δ : ℕ) where
   abbrev pub inside : ℕ → ℕ → ℕ → ℕ → List ℕ → Option R.Denot → Fml
   inside b o b' o' ws x = fsep (row b o ws) (place b' o' x)
 
-  module _ (lent : ℕ → R.Denot → ℕ → ℕ → Fml) where
+  module _ (lent : ℕ → R.Denot → ℕ → ℕ → Fml) (had : ℕ → ℕ → R.Denot → Fml) where
     -- the entry's words, and a value that can be lent
     abbrev pub offered : ℕ → ℕ → ℕ → ℕ → ℕ → List ℕ → R.Denot → Fml
     offered b o b' o' i ws x = fsep (row b o ws) (lent i x b' o')
@@ -86,6 +90,7 @@ module _ (R : RattleType) (α : Lft) (δ : ℕ) where
     kept b o b' o' i Claimed = fsep (hand quarter i resting) (inside b o b' o' zeros None)
     kept b o b' o' i (Out e) = fsep (hand quarter i (busy e)) (flft α e)
     kept b o b' o' i (Has x ws) = fsep (hand full_share i resting) (offered b o b' o' i ws x)
+    kept b o b' o' i (Held ρ e x ws) = fsep (hand quarter i (held ρ e)) (fsep (row b o ws) (fsep (flft α e) (had ρ i x)))
 
     abbrev pub under : ℕ → ℕ → ℕ → ℕ → ℕ → Cell R.Denot → Fml
     under b o b' o' i c = fsep (word b (o + 32) (sign_of c)) (kept b o b' o' i c)
@@ -143,8 +148,12 @@ module _ (R : RattleType) {V W : Type 0} (c : V → Gv) (holds : State R.Denot V
   abbrev pub lent_here : ℕ → R.Denot → ℕ → ℕ → Fml
   lent_here = lendable R (age z) c z.views_name holds
 
+  -- what stands for one that a call has in its hand
+  abbrev pub had_here : ℕ → ℕ → R.Denot → Fml
+  had_here = in_hand R (age z) c z.views_name holds
+
   abbrev pub all_numbers : List (Cell R.Denot) → Fml
-  all_numbers cs = numbers R (age z) z.hands_name lent_here (block_of p) (long z.roots * 8 + count_of p) (block_of z.values) (count_of z.values) 0 cs
+  all_numbers cs = numbers R (age z) z.hands_name lent_here had_here (block_of p) (long z.roots * 8 + count_of p) (block_of z.values) (count_of z.values) 0 cs
 
   abbrev pub standing : Inside R.Denot V W → Fml
   standing i =

@@ -1,7 +1,7 @@
 -- The state of a memory that seats share, and what each step of a seat owes to the rule.
 use Rattle.std.specs.Prelude.{◌≡◌, ◌≢◌, ℕ, List, [], ◌∷◌, ◌++◌, Option, Some, slice_get, slice_set, replicate}
 use Rattle.seize_words.specs.Mem.{Mem, Can, Took}
-use Rattle.seize_words.specs.Op.{Op, Out}
+use Rattle.seize_words.specs.Op.{Op, Out, Take}
 
 -- A seat is known by its number; each has a view, which is plain data: what it knows. The world is what the rule keeps beside these.
 pub record State (T V W : Type 0) : Type 0 where
@@ -31,6 +31,16 @@ module _ {T V W : Type 0} where
         world = w;
       }
 
+  -- Two seats come to know something else at once, by what both knew, and all else stays.
+  abbrev pub Meets : (State T V W → Type 0) → ℕ → V → ℕ → V → (V → V → Type 0) → Type 0
+  Meets holds i v j u so =
+      (s : State T V W) → holds s → view_of s i ≡ Some v → view_of s j ≡ Some u → i ≢ j
+      → (v' u' : V) × holds record { memory = s.memory; views = slice_set (slice_set s.views i v') j u'; world = s.world } × so v' u'
+
+  -- The rule holds of the memory as it is with no seat.
+  abbrev pub Renews : (State T V W → Type 0) → Type 0
+  Renews holds = (s : State T V W) → holds s → (w : W) × holds record { memory = s.memory; views = []; world = w }
+
   -- What a rule says: `holds` of the state between any two steps, and which blocks the view of one seat keeps in a world, as long as what another seat
   -- owns lasts.
   module _ (holds : State T V W → Type 0) (keeps : V → V → W → ℕ → Type 0) where
@@ -47,6 +57,10 @@ module _ {T V W : Type 0} where
     abbrev pub Allows : ℕ → V → Op T → (Out T → V → Type 0) → Type 0
     Allows id v op so =
         (s : State T V W) → holds s → view_of s id ≡ Some v → Can s.memory op × ((out : Out T) (m : Mem T) → Took s.memory op out m → Goes s m id (so out))
+
+    -- The seat may take the block away. So it has the block to itself: what another seat knows is so, too, where the block is gone.
+    abbrev pub Owns : ℕ → V → ℕ → Type 0
+    Owns id v b = Allows id v (Take b) (λ _ _. Unit {0})
 
     -- a step without an operation
     abbrev pub Turns : ℕ → V → (V → Type 0) → Type 0

@@ -1,6 +1,6 @@
 -- For how long the view of a seat stays as it is: its stretch, a lifetime that ends with the seat's next step. Whoever is told of a stretch can find out at any
 -- time whether it has ended, or the view is still that one.
-use Rattle.std.specs.Prelude.{◌≡◌, ℕ, ◌+◌, Bool, true, false, [], ◌∷◌}
+use Rattle.std.specs.Prelude.{◌≡◌, ℕ, zero, suc, ◌+◌, Bool, true, false, [], ◌∷◌}
 use base.Fraction.{full_share}
 use base.Share
 use base.Share.{three_quarters}
@@ -15,6 +15,14 @@ IsEven n = (h : ℕ) × (n ≡ h + h)
 
 abbrev pub IsOdd : ℕ → Type 0
 IsOdd n = (h : ℕ) × (n ≡ h + h + 1)
+
+-- And those of the stretches of two seats have two numbers: m is of the k-th kind where it is 2 ^ k times an odd number.
+abbrev pub IsOfKind : ℕ → ℕ → Type 0
+IsOfKind zero m = IsOdd m
+IsOfKind (suc k) m = (h : ℕ) × (m ≡ h + h) × IsOfKind k h
+
+abbrev pub IsOfSeat : ℕ → ℕ → Type 0
+IsOfSeat id n = (m : ℕ) × (n ≡ m + m + 1) × IsOfKind id m
 
 abbrev pub numbered : (ℕ → Type 0) → Fml → ℕ → Fml
 numbered good P n = fsep (fact (good n)) (fnamed n P)
@@ -40,7 +48,7 @@ module _ {V : Type 0} (c : V → Gv) (γ id : ℕ) (v : V) (σ θ : ℕ) where
 
   -- what may be told to all
   abbrev pub stretch_told : Fml
-  stretch_told = invariant IsOdd stretch
+  stretch_told = invariant (IsOfSeat id) stretch
 
   abbrev pub seat_owns : Fml
   seat_owns = fsep (flft (σ ∷ []) full_share) (fsep (seen c γ seats_part id v) (fsep stretch_told (ticket θ 0)))

@@ -1,44 +1,82 @@
 -- Rows begin and end, the rule starts, and seats come.
-use Rattle.std.specs.Prelude.{Option, Some, None}
-use Rattle.std.proofs.Common.{◌≡◌, ℕ, false, [], ◌⊎◌, inl, inr, refl, sym, subst, ap, ◌∙◌}
-use Rattle.seize.specs.declared.states.TheConstants.{IDLE}
+use Rattle.std.specs.Prelude.{◌≢◌, Option, Some, None, replicate, slice_get}
+use Rattle.std.proofs.Common.{◌≡◌, ℕ, zero, suc, false, [], ◌⊎◌, inl, inr, refl, sym, subst, ap, ◌∙◌}
+use Rattle.std.proofs.lemmas.List.{length-replicate}
+use Rattle.seize_words.specs.Mem.{Mem, Can, Took, value_at}
+use Rattle.seize_words.specs.Plan.{Steps}
+use Rattle.seize_words.specs.Word.{block_in, link_to}
+use Rattle.seize_words.proofs.Plans.{steps_as}
 use Rattle.seize.specs.declared.rows.register.Register.{Register}
 use Rattle.seize.specs.declared.rows.register.Registering.TheVariants as at
 use Rattle.seize.specs.declared.rows.leave.Leave.{Leave}
 use Rattle.seize.specs.declared.rows.leave.Leaving.TheVariants as leaving_at
+use Rattle.seize.specs.declared.rows.settle.Settle.{Settle}
+use Rattle.seize.specs.declared.rows.settle.Settling.{Settling}
+use Rattle.seize.specs.declared.rows.settle.Settling.TheVariants as settling_at
+use Rattle.seize.specs.declared.rows.settle.Settled.{Settled}
 use Rattle.seize.specs.declared.rows.settle.Settled.TheVariants as settled
-use Rattle.seize.specs.Leave.{leaving, standing}
-use Rattle.seize.specs.World.{World, Row, Use, Request, Register', Enter', Leave', Unregister', with_row, with_use, leaves_on, at_start}
+use Rattle.seize.specs.Leave.{standing, settled as leave_settled}
+use Rattle.seize.specs.Settle.{retiring, flushing, settle_plan, plan_at}
+use Rattle.seize.specs.World.{World, Row, Use, Hand, Request, Register', Enter', Leave', Unregister', Retire}
+use Rattle.seize.specs.World.{Flush, IsTaken, one_more, one_less, with_at, with_row, with_use, with_hand, settles_on, leaves_on, at_start}
 use Rattle.seize.specs.World as world
 use Rattle.seize_rule.proofs.Rows.Others.{with_here, with_other}
+use Rattle.seize_acts.proofs.Answers.{same_some}
 use Rattle.seize_seats.specs.State.{State, view_of, Turns, Comes, Starts}
-use Rattle.seize_shared.specs.Rows.{row_of, use_of, IsShort, IsUsed, IsKnown, Fits, Holds, Keeps}
-use Rattle.seize_shared.specs.Promises.{IsNext, RulesStart, SeatsCome, RowsTurn}
+use Rattle.seize_shared.specs.Rows.{row_of, use_of, leave_of, counting, IsShort, IsUsed, IsKnown, Fits, Holds, Keeps}
+use Rattle.seize_shared.specs.Promises.{IsNext, IsFree, RulesStart, SeatsCome, RowsTurn}
 use Rattle.seize_shared.specs.declared.view.View.{View}
-use Rattle.seize_shared.specs.declared.view.View.TheVariants.{Rests, Registers, Outside, Enters, Inside, Leaves, Left, Frees}
-use Rattle.seize_shared.specs.declared.view.Has.TheVariants.{Nothing, Made}
+use Rattle.seize_shared.specs.declared.view.View.TheVariants.{Rests, Registers, Outside, Enters, Inside, Settles, Leaves, Left, Frees}
+use Rattle.seize_shared.specs.declared.view.Has.{Has}
+use Rattle.seize_shared.specs.declared.view.Has.TheVariants.{Nothing, Made, Seen, Cut}
+use Rattle.seize_shared.specs.declared.view.Why.TheVariants.{Retiring, Ending}
 use Rattle.seize_shared.specs.declared.view.Fixed.{Fixed}
 use Rattle.seize_shared.proofs.Lists.{with_last, none_before}
 use Rattle.seize_shared.proofs.Moved.{moved, used_so}
 use Rattle.seize_shared.proofs.Steps.{alone, begun, stepped}
 use Rattle.seize_shared.proofs.Operations.{used_as, slot_of, same_slot}
 
+not_making_cutting : (j i : ℕ) → world.Making j ≡ world.Cutting i → ⊥
+not_making_cutting j i e = cc e
+
+same_cutting : (j i : ℕ) → world.Cutting j ≡ world.Cutting i → j ≡ i
+same_cutting j i e = cc e
+
+not_use_cutting : (r i : ℕ) → world.InUse r ≡ world.Cutting i → ⊥
+not_use_cutting r i e = cc e
+
+-- another block is in the hand that it was in
+beside : (hand : ℕ → Hand) (b c : ℕ) (k : Hand) → c ≢ b → hand c ≡ k → with_at hand b world.Handed c ≡ k
+beside hand b c k ne is = with_other hand b c world.Handed ne ∙ is
+
+-- each root is 0 at the start
+zeros : (n r word : ℕ) → slice_get (replicate n 0) r ≡ Some word → 0 ≡ word
+zeros zero r word e = absurd (cc e)
+zeros (suc n) zero word e = same_some 0 word e
+zeros (suc n) (suc r) word e = zeros n r word e
+
+module _ {T : Type 0} (defers : T → Option ℕ) where
+  -- the step of a settling that is over
+  over_step : (c : Settle) (m : Mem T) (end : Settle × Settled T) → c.stands ≡ settling_at.Over → (m ≡ m) × (end ≡ (c, settled.Done))
+      → Steps Took value_at m (settle_plan defers c) m end
+  over_step c m end over is = subst (λ (p : Settling). Steps Took value_at m (plan_at defers c p) m end) (sym over) is
+
 module _ {T : Type 0} (defers : T → Option ℕ) (fixed : Fixed) where
-  abbrev H : State T View (World T) → Type 0
+  abbrev H : State T (View T) (World T) → Type 0
   H = Holds defers fixed
 
   -- a row begins on the slot of a seat that has one, outside of a section or inside
-  begins_on : (id t : ℕ) (v u : View) (a : Use) (row : Row) (request : Request) → use_of v ≡ used_as t a → use_of u ≡ used_as t world.Changing
-      → row_of fixed.batch_size v ≡ world.Rests → row_of fixed.batch_size u ≡ row
-      → ((s : State T View (World T)) → s.world.uses t ≡ a
+  begins_on : (id t : ℕ) (v u : View T) (a : Use) (row : Row) (request : Request) → use_of v ≡ used_as t a → use_of u ≡ used_as t world.Changing
+      → row_of v ≡ world.Rests → row_of u ≡ row
+      → ((s : State T (View T) (World T)) → s.world.uses t ≡ a
       → world.Begins defers fixed.batch_size id request s.world (with_use (with_row s.world id row) t world.Changing))
-      → ((s : State T View (World T)) → H s → Fits fixed.batch_size (with_use (with_row s.world id row) t world.Changing) id u)
+      → ((s : State T (View T) (World T)) → H s → Fits (with_use (with_row s.world id row) t world.Changing) id u)
       → Turns H Keeps id v (λ x. x ≡ u)
   begins_on id t v u a row request mine its rests is happens own s h at_id =
       let n : World T = with_use (with_row s.world id row) t world.Changing in
       moved defers fixed s id v u s.memory n (λ x. x ≡ u) h at_id
       (begun defers fixed s id v h at_id request u n
-      ((h.seats id v at_id).row ∙ rests, happens s (used (h.seats id v at_id).slot)) refl refl refl
+      ((h.seats id v at_id).row ∙ rests, happens s (used (h.seats id v at_id).slot)) refl refl (λ j b ne. (λ is. is, λ is. is)) (λ b r is. is)
       (λ j ne. with_other s.world.row id j row ne)
       (λ x apart. with_other s.world.uses t x world.Changing (λ e. apart a (mine ∙ ap (λ (k : ℕ). used_as k a) (sym e))))
       (own s h)
@@ -52,9 +90,9 @@ module _ {T : Type 0} (defers : T → Option ℕ) (fixed : Fixed) where
       slot_is x b e = slot_of (t, world.Changing) (x, b) e
 
   -- the row of a seat fits that has begun
-  begun_fits : (id t : ℕ) (u : View) (row : Row) (s : State T View (World T)) → use_of u ≡ used_as t world.Changing → row_of fixed.batch_size u ≡ row
+  begun_fits : (id t : ℕ) (u : View T) (row : Row) (s : State T (View T) (World T)) → use_of u ≡ used_as t world.Changing → row_of u ≡ row
       → IsShort u
-      → ((w : World T) → IsKnown w id u) → Fits fixed.batch_size (with_use (with_row s.world id row) t world.Changing) id u
+      → ((w : World T) → IsKnown w id u) → Fits (with_use (with_row s.world id row) t world.Changing) id u
   begun_fits id t u row s its is short known =
       let n : World T = with_use (with_row s.world id row) t world.Changing in
       record {
@@ -72,11 +110,60 @@ module _ {T : Type 0} (defers : T → Option ℕ) (fixed : Fixed) where
   frees id t = begins_on id t (Outside t) (Frees t) (world.Outside 0) (world.Frees record { slot = t }) (Unregister' t) refl refl refl refl (λ s e. (e, refl))
       (λ s h. begun_fits id t (Frees t) (world.Frees record { slot = t }) s refl refl tt (λ w. tt))
 
-  leaves : (id t : ℕ) → Turns H Keeps id (Inside t Nothing) (λ x. x ≡ Leaves t)
-  leaves id t =
-      let c : Leave = leaving t fixed.batch_size IDLE false in
-      begins_on id t (Inside t Nothing) (Leaves t) (world.Inside 0) (world.Leaves c) (Leave' t) refl refl refl refl (λ s e. (e, refl))
-      (λ s h. begun_fits id t (Leaves t) (world.Leaves c) s refl refl tt (λ w. tt))
+  leaves : (id t : ℕ) (has : Has) → Turns H Keeps id (Inside t has) (λ x. x ≡ Leaves t fixed.batch_size)
+  leaves id t has =
+      let c : Leave = leave_of t fixed.batch_size in
+      begins_on id t (Inside t has) (Leaves t fixed.batch_size) (world.Inside 0) (world.Leaves c) (Leave' t) refl refl refl refl (λ s e. (e, refl))
+      (λ s h. begun_fits id t (Leaves t fixed.batch_size) (world.Leaves c) s refl refl tt (λ w. tt))
+
+  -- a block is retired that the seat has unlinked
+  retires : (id t b : ℕ) → Turns H Keeps id (Inside t (Cut b)) (λ x. x ≡ Settles (retiring t fixed.batch_size (link_to b)) Retiring None)
+  retires id t b s h at_id =
+      let c : Settle = retiring t fixed.batch_size (link_to b) in let u : View T = Settles c Retiring None in
+      let f = h.seats id (Inside t (Cut b)) at_id in
+      let n : World T = with_hand (with_use (with_row s.world id (world.Settles c)) t (one_more (s.world.uses t))) b world.Handed in
+      moved defers fixed s id (Inside t (Cut b)) u s.memory n (λ x. x ≡ u) h at_id
+      (begun defers fixed s id (Inside t (Cut b)) h at_id (Retire t b) u n
+      (f.row, (subst (λ (a : Use). IsTaken a) (sym f.slot) tt, (id, f.known), refl)) refl refl
+      (λ j c ne. (
+        λ is. beside s.world.hand b c (world.Making j) (λ e. not_making_cutting j id (sym is ∙ ap s.world.hand e ∙ f.known)) is,
+        λ is. beside s.world.hand b c (world.Cutting j) (λ e. ne (same_cutting j id (sym is ∙ ap s.world.hand e ∙ f.known))) is,
+      ))
+      (λ c r is. beside s.world.hand b c (world.InUse r) (λ e. not_use_cutting r id (sym is ∙ ap s.world.hand e ∙ f.known)) is)
+      (λ j ne. with_other s.world.row id j (world.Settles c) ne)
+      (λ x apart. with_other s.world.uses t x (one_more (s.world.uses t)) (λ e. apart (world.Inside 0) (ap (λ (k : ℕ). used_as k (world.Inside 0)) (sym e))))
+      (record {
+        row = with_here s.world.row id (world.Settles c);
+        slot = with_here s.world.uses t (one_more (s.world.uses t)) ∙ ap one_more f.slot;
+        short = tt;
+        known = tt;
+      })
+      (λ x a e. same_slot t x (world.Inside 1) a (world.Inside 0) e))
+      refl
+
+  -- the batch is tried
+  flushes : (id t : ℕ) (has : Has) → Turns H Keeps id (Inside t has) (λ x. x ≡ Settles (flushing t fixed.batch_size) Retiring None)
+  flushes id t has s h at_id =
+      let c : Settle = flushing t fixed.batch_size in let u : View T = Settles c Retiring None in
+      let f = h.seats id (Inside t has) at_id in
+      let n : World T = with_use (with_row s.world id (world.Settles c)) t (one_more (s.world.uses t)) in
+      moved defers fixed s id (Inside t has) u s.memory n (λ x. x ≡ u) h at_id
+      (begun defers fixed s id (Inside t has) h at_id (Flush t) u n (f.row, (subst (λ (a : Use). IsTaken a) (sym f.slot) tt, refl)) refl refl
+      (λ j c ne. (λ is. is, λ is. is)) (λ c r is. is)
+      (λ j ne. with_other s.world.row id j (world.Settles c) ne)
+      (λ x apart. with_other s.world.uses t x (one_more (s.world.uses t)) (λ e. apart (world.Inside 0) (ap (λ (k : ℕ). used_as k (world.Inside 0)) (sym e))))
+      (record {
+        row = with_here s.world.row id (world.Settles c);
+        slot = with_here s.world.uses t (one_more (s.world.uses t)) ∙ ap one_more f.slot;
+        short = tt;
+        known = tt;
+      })
+      (λ x a e. same_slot t x (world.Inside 1) a (world.Inside 0) e))
+      refl
+
+  goes_free : (id t : ℕ) (has : Has) (u : View T) → IsFree fixed t u → Turns H Keeps id (Inside t has) (λ x. x ≡ u)
+  goes_free id t has u (inl is) = subst (λ (y : View T). Turns H Keeps id (Inside t has) (λ x. x ≡ y)) (sym is) (leaves id t has)
+  goes_free id t has u (inr is) = subst (λ (y : View T). Turns H Keeps id (Inside t has) (λ x. x ≡ y)) (sym is) (flushes id t has)
 
   -- a slot is looked for
   abbrev First : Register
@@ -86,34 +173,81 @@ module _ {T : Type 0} (defers : T → Option ℕ) (fixed : Fixed) where
   registers id s h at_id =
       let n : World T = with_row s.world id (world.Registers First) in
       moved defers fixed s id Rests (Registers First) s.memory n (λ x. x ≡ Registers First) h at_id
-      (begun defers fixed s id Rests h at_id (Register' false) (Registers First) n ((h.seats id Rests at_id).row, refl) refl refl refl
+      (begun defers fixed s id Rests h at_id (Register' false) (Registers First) n ((h.seats id Rests at_id).row, refl) refl refl
+      (λ j b ne. (λ is. is, λ is. is)) (λ b r is. is)
       (λ j ne. with_other s.world.row id j (world.Registers First) ne) (λ t apart. refl)
       (record { row = with_here s.world.row id (world.Registers First); slot = tt; short = (refl, tt); known = tt })
       (λ t b e. absurd (cc e)))
       refl
 
-  -- the row of a seat that has left ends
-  ends : (id t : ℕ) → Turns H Keeps id (Left t) (λ x. x ≡ Outside t)
-  ends id t s h at_id =
-      let d : Leave = standing (leaving t fixed.batch_size IDLE false) leaving_at.Over in
-      let n : World T = leaves_on s.world id d s.world.memory (d, settled.Done) in
-      moved defers fixed s id (Left t) (Outside t) s.memory n (λ x. x ≡ Outside t) h at_id
-      (stepped defers fixed s id (Left t) h at_id (Outside t) s.memory n (s.world.memory, (d, settled.Done), (refl, refl), refl) h.memory
-      (record { row = with_here s.world.row id world.Rests; slot = with_here s.world.uses t (world.Outside 0); short = tt; known = tt })
-      (alone defers fixed s id (Left t) h at_id (Outside t) (λ x b e. same_slot t x (world.Outside 0) b world.Changing e))
-      h.quiet)
+  -- a settling that is over ends
+  settled_ends : (id : ℕ) (c : Settle) (seen : Option (ℕ × T)) → c.stands ≡ settling_at.Over
+      → Turns H Keeps id (Settles c Retiring seen) (λ x. x ≡ Inside c.slot Nothing)
+  settled_ends id c seen over s h at_id =
+      let v : View T = Settles c Retiring seen in let u : View T = Inside c.slot Nothing in
+      let n : World T = settles_on s.world id c s.world.memory (c, settled.Done) in
+      moved defers fixed s id v u s.memory n (λ x. x ≡ u) h at_id
+      (stepped defers fixed s id v h at_id u s.memory n
+      (s.world.memory, (c, settled.Done), over_step defers c s.world.memory (c, settled.Done) over (refl, refl), refl) h.memory
+      (record {
+        row = with_here s.world.row id world.Rests;
+        slot = with_here s.world.uses c.slot (one_less (s.world.uses c.slot)) ∙ ap one_less (h.seats id v at_id).slot;
+        short = tt;
+        known = tt;
+      })
+      (alone defers fixed s id v h at_id u (λ x b e. same_slot c.slot x (world.Inside 0) b (world.Inside 1) e)))
       refl
 
-  turns : (id : ℕ) (v u : View) → IsNext v u → Turns H Keeps id v (λ x. x ≡ u)
-  turns id Rests u is = subst (λ (y : View). Turns H Keeps id Rests (λ x. x ≡ y)) (sym is) (registers id)
+  counted_ends : (id : ℕ) (c : Settle) (size : ℕ) (seen : Option (ℕ × T)) → c.stands ≡ settling_at.Over
+      → Turns H Keeps id (Settles c (Ending size) seen) (λ x. x ≡ Left c.slot size)
+  counted_ends id c size seen over s h at_id =
+      let v : View T = Settles c (Ending size) seen in let u : View T = Left c.slot size in
+      let d : Leave = counting size c in let e : Leave = standing (leave_of c.slot size) leaving_at.Over in
+      let n : World T = leaves_on s.world id d s.world.memory (e, settled.Goes) in
+      moved defers fixed s id v u s.memory n (λ x. x ≡ u) h at_id
+      (stepped defers fixed s id v h at_id u s.memory n (
+        s.world.memory,
+        (e, settled.Goes),
+        steps_as (leave_settled d) Can Took value_at s.world.memory s.world.memory (settle_plan defers c) (c, settled.Done)
+            (over_step defers c s.world.memory (c, settled.Done) over (refl, refl)),
+        refl,
+      ) h.memory
+      (record {
+        row = with_here s.world.row id (world.Leaves e);
+        slot = with_here s.world.uses c.slot (s.world.uses c.slot) ∙ (h.seats id v at_id).slot;
+        short = tt;
+        known = tt;
+      })
+      (alone defers fixed s id v h at_id u (λ x b q. same_slot c.slot x world.Changing b world.Changing q)))
+      refl
+
+  -- the row of a seat that has left ends
+  ends : (id t size : ℕ) → Turns H Keeps id (Left t size) (λ x. x ≡ Outside t)
+  ends id t size s h at_id =
+      let d : Leave = standing (leave_of t size) leaving_at.Over in
+      let n : World T = leaves_on s.world id d s.world.memory (d, settled.Done) in
+      moved defers fixed s id (Left t size) (Outside t) s.memory n (λ x. x ≡ Outside t) h at_id
+      (stepped defers fixed s id (Left t size) h at_id (Outside t) s.memory n (s.world.memory, (d, settled.Done), (refl, refl), refl) h.memory
+      (record { row = with_here s.world.row id world.Rests; slot = with_here s.world.uses t (world.Outside 0); short = tt; known = tt })
+      (alone defers fixed s id (Left t size) h at_id (Outside t) (λ x b e. same_slot t x (world.Outside 0) b world.Changing e)))
+      refl
+
+  turns : (id : ℕ) (v u : View T) → IsNext fixed v u → Turns H Keeps id v (λ x. x ≡ u)
+  turns id Rests u is = subst (λ (y : View T). Turns H Keeps id Rests (λ x. x ≡ y)) (sym is) (registers id)
   turns id (Registers c) u is = absurd is
-  turns id (Outside t) u (inl is) = subst (λ (y : View). Turns H Keeps id (Outside t) (λ x. x ≡ y)) (sym is) (enters id t)
-  turns id (Outside t) u (inr is) = subst (λ (y : View). Turns H Keeps id (Outside t) (λ x. x ≡ y)) (sym is) (frees id t)
+  turns id (Outside t) u (inl is) = subst (λ (y : View T). Turns H Keeps id (Outside t) (λ x. x ≡ y)) (sym is) (enters id t)
+  turns id (Outside t) u (inr is) = subst (λ (y : View T). Turns H Keeps id (Outside t) (λ x. x ≡ y)) (sym is) (frees id t)
   turns id (Enters t) u is = absurd is
+  turns id (Inside t Nothing) u is = goes_free id t Nothing u is
+  turns id (Inside t (Seen b)) u is = goes_free id t (Seen b) u is
+  turns id (Inside t (Cut b)) u is = subst (λ (y : View T). Turns H Keeps id (Inside t (Cut b)) (λ x. x ≡ y)) (sym is) (retires id t b)
   turns id (Inside t (Made b)) u is = absurd is
-  turns id (Inside t Nothing) u is = subst (λ (y : View). Turns H Keeps id (Inside t Nothing) (λ x. x ≡ y)) (sym is) (leaves id t)
-  turns id (Leaves t) u is = absurd is
-  turns id (Left t) u is = subst (λ (y : View). Turns H Keeps id (Left t) (λ x. x ≡ y)) (sym is) (ends id t)
+  turns id (Settles c Retiring seen) u is =
+      subst (λ (y : View T). Turns H Keeps id (Settles c Retiring seen) (λ x. x ≡ y)) (sym is.1) (settled_ends id c seen is.0)
+  turns id (Settles c (Ending size) seen) u is =
+      subst (λ (y : View T). Turns H Keeps id (Settles c (Ending size) seen) (λ x. x ≡ y)) (sym is.1) (counted_ends id c size seen is.0)
+  turns id (Leaves t size) u is = absurd is
+  turns id (Left t size) u is = subst (λ (y : View T). Turns H Keeps id (Left t size) (λ x. x ≡ y)) (sym is) (ends id t size)
   turns id (Frees t) u is = absurd is
 
   -- a seat comes, and knows nothing
@@ -126,19 +260,20 @@ module _ {T : Type 0} (defers : T → Option ℕ) (fixed : Fixed) where
       seats = λ j x e. fit j x (with_last s.views j Rests x e);
       unborn = λ j e. h.unborn j (none_before s.views j Rests e);
       apart = λ j k t a b x y e f p q. two j k t a b x y p q (with_last s.views j Rests x e) (with_last s.views k Rests y f);
-      quiet = h.quiet;
+      roots = h.roots;
+      rooted = h.rooted;
     },
     λ b u o keeps. keeps,
   )
     where
-      fit : (j : ℕ) (x : View) → (view_of s j ≡ Some x) ⊎ ((view_of s j ≡ None) × (Rests ≡ x)) → Fits fixed.batch_size s.world j x
+      fit : (j : ℕ) (x : View T) → (view_of s j ≡ Some x) ⊎ ((view_of s j ≡ None) × (Rests ≡ x)) → Fits s.world j x
       fit j x (inl e) = h.seats j x e
-      fit j x (inr e) = subst (λ (y : View). Fits fixed.batch_size s.world j y) e.1 (record { row = h.unborn j e.0; slot = tt; short = tt; known = tt })
+      fit j x (inr e) = subst (λ (y : View T). Fits s.world j y) e.1 (record { row = h.unborn j e.0; slot = tt; short = tt; known = tt })
 
-      no_slot : (x : View) (t : ℕ) (a : Use) → Rests ≡ x → use_of x ≡ used_as t a → ⊥
+      no_slot : (x : View T) (t : ℕ) (a : Use) → Rests ≡ x → use_of x ≡ used_as t a → ⊥
       no_slot x t a e p = cc (ap use_of e, p)
 
-      two : (j k t : ℕ) (a b : Use) (x y : View) → use_of x ≡ used_as t a → use_of y ≡ used_as t b
+      two : (j k t : ℕ) (a b : Use) (x y : View T) → use_of x ≡ used_as t a → use_of y ≡ used_as t b
           → (view_of s j ≡ Some x) ⊎ ((view_of s j ≡ None) × (Rests ≡ x))
           → (view_of s k ≡ Some y) ⊎ ((view_of s k ≡ None) × (Rests ≡ y)) → j ≡ k
       two j k t a b x y p q (inl e) (inl f) = h.apart j k t a b x y e f p q
@@ -154,7 +289,8 @@ module _ {T : Type 0} (defers : T → Option ℕ) (fixed : Fixed) where
       seats = λ j v e. absurd (cc e);
       unborn = λ j e. refl;
       apart = λ j k t a b v u e f p q. absurd (cc e);
-      quiet = λ t head e. absurd (cc e);
+      roots = λ r word e. inl (ap block_in (sym (zeros fixed.roots r word e)));
+      rooted = length-replicate fixed.roots 0;
     },
   )
 

@@ -1,155 +1,168 @@
--- Within a section a block is made, looked at by its maker, and taken away.
-use Rattle.std.specs.Prelude.{◌≢◌, Option, Some, None, IsSome, Ok, Err}
-use Rattle.std.proofs.Common.{◌≡◌, ℕ, ◌+◌, List, true, false, refl, sym, subst, ap, ◌∙◌}
+-- Within a section a block is made, looked at, and taken away.
+use Rattle.std.specs.Prelude.{◌≢◌, Option, Some, None, IsSome, Ok, Err, length}
+use Rattle.std.proofs.Common.{◌≡◌, ℕ, ◌⊎◌, inl, inr, refl, sym, subst, ap, ◌∙◌}
+use Rattle.std.proofs.lemmas.Bool.{cases_eq}
 use Rattle.seize_words.specs.Mem.{Mem, Took, value_at}
-use Rattle.seize_words.specs.SlotWords.{slot_word}
-use Rattle.seize.specs.declared.states.TheConstants.{HEAD, LAST_SLOT}
-use Rattle.seize_words.specs.Op.{Out, Make, Take, Found, Stored, Exchanged, Made as OutMade, Taken, Roomed}
-use Rattle.seize.specs.Law.{Effect, Dropped, holds, is_over}
-use Rattle.seize.specs.World.{World, Use, Hand, Event, Makes, Drops, Happens, HasListWord, IsInside, made_by, with_hand, with_effect}
+use Rattle.seize_words.specs.Op.{Op, Out, Make, Take, Found, Stored, Exchanged, Made as OutMade, Taken, Roomed}
+use Rattle.seize.specs.Law.{Dropped}
+use Rattle.seize.specs.World.{World, Hand, Makes, Drops, HasListWord, made_by, with_hand, with_effect}
 use Rattle.seize.specs.World as world
-use Rattle.seize_alone.proofs.Given.SeizeMoves.State.Ghost.{IsOwned}
-use Rattle.seize_alone.proofs.Given.SeizeMoves.Moves.Blocks.{never_held}
-use Rattle.seize_rule.proofs.Points.Aside.{HandFits}
 use Rattle.seize_alone.proofs.Given.SeizeMoves.State.Held.{held_beside}
-use Rattle.seize_rule.proofs.Rows.Others.{with_here, with_other}
-use Rattle.seize_rule.proofs.Words.Named.{made_one}
+use Rattle.seize_rule.proofs.Rows.Others.{with_here}
+use Rattle.seize_rule.proofs.Words.Named.{made_one, taken_one}
+use Rattle.seize_rule.proofs.World.Values.{taken_value, made_value}
+use Rattle.seize_alone.specs.Alone.{IsOfUsers}
 use Rattle.seize_alone.proofs.Histories.Reached.{Reached}
-use Rattle.seize_alone.proofs.Histories.NotTaken.{IsHad, kept_there}
+use Rattle.seize_alone.proofs.Histories.NotTaken.{IsHad, IsHeld, kept_there}
 use Rattle.seize_seats.specs.State.{State, view_of, Goes}
-use Rattle.seize_shared.specs.Rows.{use_of, IsKnown, IsInHand, Came, Holds, Keeps, told}
-use Rattle.seize_shared.specs.Promises.{BlocksAreMade, MadeAreShown, MadeAreTaken}
+use Rattle.seize_shared.specs.Rows.{IsInHand, Fits, Holds, Keeps}
+use Rattle.seize_shared.specs.Told.{told}
+use Rattle.seize_shared.specs.Promises.{Names, BlocksAreMade, MadeAreTaken, KnownAreShown}
 use Rattle.seize_shared.specs.declared.view.View.{View}
-use Rattle.seize_shared.specs.declared.view.View.TheVariants.{Rests, Registers, Outside, Enters, Inside, Leaves, Left, Frees}
+use Rattle.seize_shared.specs.declared.view.View.TheVariants.{Inside}
 use Rattle.seize_shared.specs.declared.view.Has.{Has}
-use Rattle.seize_shared.specs.declared.view.Has.TheVariants.{Nothing, Made}
+use Rattle.seize_shared.specs.declared.view.Has.TheVariants.{Nothing, Made, Seen, Cut}
 use Rattle.seize_shared.specs.declared.view.Fixed.{Fixed}
-use Rattle.seize_shared.proofs.Moved.{moved, still_used}
-use Rattle.seize_shared.proofs.Steps.{alone, came_then, of_users, same_hands, reached}
+use Rattle.seize_shared.proofs.Steps.{came_then, of_users, reached, roots_kept, world_roots, world_rooted}
+use Rattle.seize_shared.proofs.Users.{apart_making, cutting_making, use_making, beside, world_took, making_not_held, users}
 
-no_holder : (j i : ℕ) → world.Making j ≡ world.Making i → j ≡ i
-no_holder j i e = cc e
+module _ {T : Type 0} (defers : T → Option ℕ) where
+  taken_none : (m : Mem T) (b : ℕ) (x : T) (m2 : Mem T) → Took m (Take b) (Taken x) m2 → value_at m2 b ≡ None
+  taken_none m b x m2 took =
+      ap (λ (k : Mem T). value_at k b) took.1 ∙ ap (λ (f : ℕ → Option T). f b) (taken_one m b (subst IsSome (sym took.0) refl)).values
+      ∙ with_here (value_at m) b None
 
-module _ {T : Type 0} where
-  -- where another block's hand has changed a seat knows what it knew
-  beside_known : (w n : World T) (b j : ℕ) (x : View) (k : Hand) → n.hand ≡ world.with_at w.hand b k
-      → ((c : ℕ) → w.hand c ≡ world.Making j → c ≢ b) → IsKnown w j x → IsKnown n j x
-  beside_known w n b j (Inside t Nothing) k e ne is = tt
-  beside_known w n b j (Inside t (Made c)) k e ne is = ap (λ (f : ℕ → Hand). f c) e ∙ with_other w.hand b c k (ne c is) ∙ is
-  beside_known w n b j Rests k e ne is = tt
-  beside_known w n b j (Registers c) k e ne is = tt
-  beside_known w n b j (Outside t) k e ne is = tt
-  beside_known w n b j (Enters t) k e ne is = tt
-  beside_known w n b j (Leaves t) k e ne is = tt
-  beside_known w n b j (Left t) k e ne is = tt
-  beside_known w n b j (Frees t) k e ne is = tt
+  -- what is left once a block is taken away has its value
+  value_left : (m : Mem T) (b c : ℕ) (x : T) (m2 : Mem T) → Took m (Take b) (Taken x) m2 → IsSome (value_at m2 c) → (c ≡ b) ⊎ (c ≢ b)
+      → value_at m2 c ≡ value_at m c
+  value_left m b c x m2 took some (inl e) =
+      let none = taken_none m b x m2 took in let there = subst (λ (a : ℕ). IsSome (value_at m2 a)) e some in absurd (cc (there, none))
+  value_left m b c x m2 took some (inr ne) = taken_value defers m c b (Taken x) m2 took ne
 
-module _ {T : Type 0} (defers : T → Option ℕ) (fixed : Fixed) where
-  abbrev H : State T View (World T) → Type 0
+module _ {T : Type 0} (defers : T → Option ℕ) (fixed : Fixed) (s : State T (View T) (World T)) (id t : ℕ) (had : Has) (h : Holds defers fixed s)
+    (at : view_of s id ≡ Some (Inside t had)) where
+  abbrev w : World T
+  w = s.world
+
+  abbrev H : State T (View T) (World T) → Type 0
   H = Holds defers fixed
 
-  module _ (s : State T View (World T)) (id t : ℕ) (had : Has) (h : H s) (at : view_of s id ≡ Some (Inside t had)) where
-    abbrev w : World T
-    w = s.world
+  r : Reached defers fixed.batch_size w
+  r = reached defers fixed w h.came
 
-    r : Reached defers fixed.batch_size w
-    r = reached defers fixed w h.came
+  fit : Fits w id (Inside t had)
+  fit = h.seats id (Inside t had) at
 
-    -- an event of this seat that is no step of a row
-    users : (has : Has) (m : Mem T) (n : World T) → Came defers fixed n → m ≡ n.memory → n.row ≡ w.row → n.uses ≡ w.uses → m.slots ≡ s.memory.slots
-        → IsInHand n id has → ((j : ℕ) (x : View) → j ≢ id → view_of s j ≡ Some x → IsKnown n j x)
-        → ((a b : ℕ) → holds a b w.log ≡ true → holds a b n.log ≡ true) → ((b : ℕ) → is_over b n.log ≡ is_over b w.log)
-        → (so : View → Type 0) → so (Inside t has) → Goes H Keeps s m id so
-    users has m n came memory row uses slots in_hand known held over so is =
-        moved defers fixed s id (Inside t had) (Inside t has) m n so h at (record {
-          came = came;
-          memory = memory;
-          rows = λ j ne. ap (λ f. f j) row;
-          own = record {
-            row = ap (λ f. f id) row ∙ (h.seats id (Inside t had) at).row;
-            slot = ap (λ (f : ℕ → Use). f t) uses ∙ (h.seats id (Inside t had) at).slot;
-            short = tt;
-            known = in_hand;
-          };
-          others = λ j x ne e. still_used w n (use_of x) (h.seats j x e).slot (λ a b q. ap (λ (f : ℕ → Use). f a) uses);
-          known = known;
-          alone = alone defers fixed s id (Inside t had) h at (Inside t has) (λ a b q. (b, q));
-          quiet = λ a head e. h.quiet a head (subst (λ (l : List (List ℕ)). slot_word l a HEAD ≡ Some head) slots e);
-          kept = λ j b x o ne e keeps. (keeps.0, keeps.1, keeps.2, held keeps.0 b keeps.3, over b ∙ keeps.4);
-        }) is
+  -- a number that is free is in nobody's hand
+  free_hand : (b : ℕ) (k : Hand) → IsOfUsers k → value_at w.memory b ≡ None → k ≡ w.hand b → ⊥
+  free_hand b k of none e =
+      let some = kept_there defers fixed.batch_size w r b (IsHad (of_users w.hand b k of (sym e))) in cc (some, none)
 
-    -- a block that its maker has no section holds
-    making_not_held : (a b c : ℕ) → holds a c w.log ≡ true → w.hand b ≡ world.Making id → c ≡ b → ⊥
-    making_not_held a b c held mine e =
-        let life : r.good.state.life b ≡ IsOwned id = subst (λ (k : Hand). HandFits k (r.good.state.life b)) mine (r.good.hands b) in
-        let none = never_held (LAST_SLOT + 1) id r.good.state b r.good.inv life a in
-        cc (subst (λ (l : List Effect). holds a b l ≡ false) r.good.logged none, subst (λ (k : ℕ). holds a k w.log ≡ true) e held)
+  -- a block is made
 
-    -- a number that is free is in nobody's hand
-    free_hand : (b j : ℕ) → value_at w.memory b ≡ None → (c : ℕ) → w.hand c ≡ world.Making j → c ≢ b
-    free_hand b j none c is e =
-        let some = kept_there defers fixed.batch_size w r c (IsHad (of_users w c (world.Making j) tt is)) in
-        let there = subst (λ (a : ℕ). IsSome (value_at w.memory a)) e some in cc (subst IsSome none there)
+  makes : had ≡ Nothing → (value : T) (words : ℕ) → defers value ≡ None → (out : Out T) (m : Mem T) → Took s.memory (Make value words) out m
+      → Goes H Keeps s m id (told defers (Inside t Nothing) (Make value words) out)
+  makes none value words list (OutMade (Ok b)) m took =
+      let op : Op T = Make value words in let out : Out T = OutMade (Ok b) in
+      let n : World T = made_by defers w id m out in
+      let here = world_took s h.memory op out m took in
+      let free = (made_one w.memory value words b here.0.0).was_free in
+      users defers fixed s id t had h at m n (Made b) (record {
+        came =
+            came_then defers fixed w n (Makes id value words) h.came
+            (out, m, subst (λ (o : Option ℕ). HasListWord defers o words) (sym list) tt, here, refl);
+        memory = refl;
+        row = refl;
+        uses = refl;
+        in_hand = with_here w.hand b (world.Making id);
+        hands = λ j c ne. (
+          λ is. beside w b c (world.Making id) (world.Making j) (λ e. free_hand b (world.Making j) tt free e) is,
+          λ is. beside w b c (world.Making id) (world.Cutting j) (λ e. free_hand b (world.Cutting j) tt free e) is,
+        );
+        values = λ c some some2. made_value defers w.memory c value words out m some here;
+        held = λ a c held. held;
+        over = λ a c held. refl;
+        roots = roots_kept w.memory m w.hand n.hand (ap (λ (x : Mem T). x.roots) here.1)
+            (λ c a is. beside w b c (world.Making id) (world.InUse a) (λ e. free_hand b (world.InUse a) tt free e) is)
+            (world_roots defers fixed s id (Inside t had) h at);
+        rooted = ap (λ (x : Mem T). length x.roots) here.1 ∙ world_rooted defers fixed s id (Inside t had) h at;
+      }) (told defers (Inside t Nothing) op out) (Made b, (took.0.1, refl), refl)
+  makes none value words list (OutMade (Err back)) m took =
+      let op : Op T = Make value words in let out : Out T = OutMade (Err back) in
+      let n : World T = made_by defers w id m out in
+      let here = world_took s h.memory op out m took in
+      users defers fixed s id t had h at m n Nothing (record {
+        came =
+            came_then defers fixed w n (Makes id value words) h.came
+            (out, m, subst (λ (o : Option ℕ). HasListWord defers o words) (sym list) tt, here, refl);
+        memory = refl;
+        row = refl;
+        uses = refl;
+        in_hand = tt;
+        hands = λ j c ne. (λ is. is, λ is. is);
+        values = λ c some some2. made_value defers w.memory c value words out m some here;
+        held = λ a c held. held;
+        over = λ a c held. refl;
+        roots = roots_kept w.memory m w.hand n.hand (ap (λ (x : Mem T). x.roots) here.1) (λ c a is. is) (world_roots defers fixed s id (Inside t had) h at);
+        rooted = ap (λ (x : Mem T). length x.roots) here.1 ∙ world_rooted defers fixed s id (Inside t had) h at;
+      }) (told defers (Inside t Nothing) op out) (Nothing, refl, refl)
+  makes none value words list (Found x) m took = absurd took.0
+  makes none value words list Stored m took = absurd took.0
+  makes none value words list (Exchanged x) m took = absurd took.0
+  makes none value words list (Taken x) m took = absurd took.0
+  makes none value words list (Roomed x) m took = absurd took.0
 
-    makes : had ≡ Nothing → (value : T) (words : ℕ) → defers value ≡ None → (out : Out T) (m : Mem T) → Took s.memory (Make value words) out m
-        → Goes H Keeps s m id (told (Inside t Nothing) (Make value words) out)
-    makes none value words list (OutMade (Ok b)) m took =
-        let n : World T = made_by defers w id m (OutMade (Ok b)) in
-        let took_here : Took w.memory (Make value words) (OutMade (Ok b)) m = subst (λ (x : Mem T). Took x (Make value words) (OutMade (Ok b)) m) h.memory took in
-        users (Made b) m n
-        (came_then defers fixed w n (Makes id value words) h.came
-        (OutMade (Ok b), m, subst (λ (o : Option ℕ). HasListWord defers o words) (sym list) tt, took_here, refl)) refl refl refl
-        (ap (λ (x : Mem T). x.slots) took.1) (with_here w.hand b (world.Making id))
-        (λ j x ne e. beside_known w n b j x (world.Making id) refl (free_hand b j (made_one w.memory value words b took_here.0.0).was_free) (h.seats j x e).known)
-        (λ a c held. held) (λ c. refl) (told (Inside t Nothing) (Make value words) (OutMade (Ok b))) (Made b, refl, refl)
-    makes none value words list (OutMade (Err back)) m took =
-        let n : World T = made_by defers w id m (OutMade (Err back)) in
-        users Nothing m n
-        (came_then defers fixed w n (Makes id value words) h.came (
-          OutMade (Err back),
-          m,
-          subst (λ (o : Option ℕ). HasListWord defers o words) (sym list) tt,
-          subst (λ (x : Mem T). Took x (Make value words) (OutMade (Err back)) m) h.memory took,
-          refl,
-        )) refl refl refl
-        (ap (λ (x : Mem T). x.slots) took.1) tt
-        (λ j x ne e. same_hands w n j x refl (h.seats j x e).known)
-        (λ a c held. held) (λ c. refl) (told (Inside t Nothing) (Make value words) (OutMade (Err back))) (Nothing, refl, refl)
-    makes none value words list (Found x) m took = absurd took.0
-    makes none value words list Stored m took = absurd took.0
-    makes none value words list (Exchanged x) m took = absurd took.0
-    makes none value words list (Taken x) m took = absurd took.0
-    makes none value words list (Roomed x) m took = absurd took.0
+  -- the block that is known is there
 
-    there : (b : ℕ) → had ≡ Made b → IsSome (value_at s.memory b)
-    there b is =
-        let mine = subst (λ (a : Has). IsInHand w id a) is (h.seats id (Inside t had) at).known in
-        subst (λ (m : Mem T). IsSome (value_at m b)) (sym h.memory)
-        (kept_there defers fixed.batch_size w r b (IsHad (of_users w b (world.Making id) tt mine)))
+  known_there : (has : Has) (b : ℕ) → IsInHand w id t has → Names has b → IsSome (value_at w.memory b)
+  known_there Nothing b is names = absurd names
+  known_there (Made c) b is names =
+      subst (λ (a : ℕ). IsSome (value_at w.memory a)) names (kept_there defers fixed.batch_size w r c (IsHad (of_users w.hand c (world.Making id) tt is)))
+  known_there (Seen c) b is names = subst (λ (a : ℕ). IsSome (value_at w.memory a)) names (kept_there defers fixed.batch_size w r c (IsHeld t is))
+  known_there (Cut c) b is names =
+      subst (λ (a : ℕ). IsSome (value_at w.memory a)) names (kept_there defers fixed.batch_size w r c (IsHad (of_users w.hand c (world.Cutting id) tt is)))
 
-    takes : (b : ℕ) → had ≡ Made b → (out : Out T) (m : Mem T) → Took s.memory (Take b) out m → Goes H Keeps s m id (told (Inside t (Made b)) (Take b) out)
-    takes b is (Taken value) m took =
-        let mine : w.hand b ≡ world.Making id = subst (λ (a : Has). IsInHand w id a) is (h.seats id (Inside t had) at).known in
-        let n : World T = with_effect (with_hand (record w { memory = m }) b world.NoBlock) (Dropped b) in
-        users Nothing m n
-        (came_then defers fixed w n (Drops id b) h.came
-        (Taken value, m, (id, mine), subst (λ (x : Mem T). Took x (Take b) (Taken value) m) h.memory took, refl)) refl refl refl
-        (ap (λ (x : Mem T). x.slots) took.1) tt
-        (λ j x ne e. beside_known w n b j x world.NoBlock refl (λ c had e. ne (no_holder j id (sym had ∙ ap w.hand e ∙ mine))) (h.seats j x e).known)
-        (λ a c held. held_beside a c b w.log (making_not_held a b c held mine) held)
-        (λ c. refl) (told (Inside t (Made b)) (Take b) (Taken value)) (Nothing, refl, refl)
-    takes b is (Found x) m took = absurd took.0
-    takes b is Stored m took = absurd took.0
-    takes b is (Exchanged x) m took = absurd took.0
-    takes b is (OutMade x) m took = absurd took.0
-    takes b is (Roomed x) m took = absurd took.0
+  shown : (b : ℕ) → Names had b → IsSome (value_at s.memory b)
+  shown b names = subst (λ (m : Mem T). IsSome (value_at m b)) (sym h.memory) (known_there had b fit.known names)
+
+  -- the block that was made is taken away
+
+  takes : (b : ℕ) → had ≡ Made b → (out : Out T) (m : Mem T) → Took s.memory (Take b) out m → Goes H Keeps s m id (told defers (Inside t (Made b)) (Take b) out)
+  takes b is (Taken value) m took =
+      let op : Op T = Take b in let out : Out T = Taken value in
+      let mine : w.hand b ≡ world.Making id = subst (λ (a : Has). IsInHand w id t a) is fit.known in
+      let n : World T = with_effect (with_hand (record w { memory = m }) b world.NoBlock) (Dropped b) in
+      let here = world_took s h.memory op out m took in
+      users defers fixed s id t had h at m n Nothing (record {
+        came = came_then defers fixed w n (Drops id b) h.came (out, m, (id, mine), here, refl);
+        memory = refl;
+        row = refl;
+        uses = refl;
+        in_hand = tt;
+        hands = λ j c ne. (
+          λ had. beside w b c world.NoBlock (world.Making j) (λ e. ne (apart_making j id (e ∙ mine))) had,
+          λ had. beside w b c world.NoBlock (world.Cutting j) (λ e. cutting_making j id (e ∙ mine)) had,
+        );
+        values = λ c some some2. value_left defers w.memory b c value m here some2 (cases_eq c b);
+        held = λ a c held. held_beside a c b w.log (making_not_held defers fixed.batch_size w r id a b c held mine) held;
+        over = λ a c held. refl;
+        roots = roots_kept w.memory m w.hand n.hand (ap (λ (x : Mem T). x.roots) here.1)
+            (λ c a had. beside w b c world.NoBlock (world.InUse a) (λ e. use_making a id (e ∙ mine)) had) (world_roots defers fixed s id (Inside t had) h at);
+        rooted = ap (λ (x : Mem T). length x.roots) here.1 ∙ world_rooted defers fixed s id (Inside t had) h at;
+      }) (told defers (Inside t (Made b)) op out) (Nothing, refl, refl)
+  takes b is (Found x) m took = absurd took.0
+  takes b is Stored m took = absurd took.0
+  takes b is (Exchanged x) m took = absurd took.0
+  takes b is (OutMade x) m took = absurd took.0
+  takes b is (Roomed x) m took = absurd took.0
 
 module _ (T : Type 0) (defers : T → Option ℕ) where
   pub blocks_are_made : BlocksAreMade T defers
-  blocks_are_made fixed id t words value list s h at = (tt, λ out m took. makes defers fixed s id t Nothing h at refl value words list out m took)
-
-  pub made_are_shown : MadeAreShown T defers
-  made_are_shown fixed id t b s h at = there defers fixed s id t (Made b) h at b refl
+  blocks_are_made value words list fixed id t s h at = (tt, λ out m took. makes defers fixed s id t Nothing h at refl value words list out m took)
 
   pub made_are_taken : MadeAreTaken T defers
-  made_are_taken fixed id t b s h at = (there defers fixed s id t (Made b) h at b refl, λ out m took. takes defers fixed s id t (Made b) h at b refl out m took)
+  made_are_taken b fixed id t s h at =
+      (shown defers fixed s id t (Made b) h at b refl, λ out m took. takes defers fixed s id t (Made b) h at b refl out m took)
+
+  pub known_are_shown : KnownAreShown T defers
+  known_are_shown has b fixed id t names s h at = shown defers fixed s id t has h at b names

@@ -1,37 +1,141 @@
 -- What a call of the shared memory asks for: by what the seat knows, its turn or operation is next.
-use Rattle.std.specs.Prelude.{Option, Some, None}
-use Rattle.std.proofs.Common.{◌≡◌, ℕ, sym, subst}
-use Rattle.seize_words.specs.Op.{Op, Make, Take}
-use Rattle.seize_seats.specs.State.{Allows, Turns}
+use Rattle.std.specs.Prelude.{◌<◌, ◌≤◌, Option, Some, None, nat_lt, if◌then◌else◌}
+use Rattle.std.proofs.Common.{◌≡◌, ℕ, ◌^◌, ◌%◌, Bool, true, false, inl, inr, refl, sym, subst, ap, ◌∙◌, arith}
+use Rattle.std.proofs.lemmas.Bool.{eq-eqb, ne_eqb}
+use Rattle.seize_words.specs.Op.{Op, Load, Swap, Make, Take, Found}
+use Rattle.seize_words.specs.Word.{block_in, link_to}
+use Rattle.seize_words.specs.declared.at.At.TheVariants.{Root, Slot}
+use Rattle.seize.specs.declared.states.TheConstants.{HEAD, IDLE, ACTIVE}
+use Rattle.seize.specs.declared.rows.settle.Settle.{Settle}
+use Rattle.seize.specs.Settle.{flushing, counting_down}
 use Rattle.seize_seats.specs.Lendings.{Shown}
-use Rattle.seize_shared.specs.Begun.{Makes}
-use Rattle.seize_shared.specs.Promises.{IsNext, op_of}
-use Rattle.seize_shared.specs.Rows.{Holds, Keeps, told}
+use Rattle.seize_seats.specs.State.{Allows, Turns}
+use Rattle.seize_shared.specs.Begun.{leaving, flushes, Makes}
+use Rattle.seize_shared.specs.Promises.{Names, IsLooking, IsNext, op_of}
+use Rattle.seize_shared.specs.Rows.{Holds, Keeps}
+use Rattle.seize_shared.specs.Told.{list_taken, cut_in, seen_in, told}
 use Rattle.seize_shared.specs.declared.view.View.{View}
-use Rattle.seize_shared.specs.declared.view.View.TheVariants.{Inside}
-use Rattle.seize_shared.specs.declared.view.Has.TheVariants.{Nothing, Made}
+use Rattle.seize_shared.specs.declared.view.View.TheVariants.{Inside, Settles, Leaves, Left}
+use Rattle.seize_shared.specs.declared.view.Has.{Has}
+use Rattle.seize_shared.specs.declared.view.Has.TheVariants.{Nothing, Made, Seen, Cut}
+use Rattle.seize_shared.specs.declared.view.Why.TheVariants.{Retiring, Ending}
 use Rattle.seize_shared.specs.declared.view.Fixed.{Fixed}
 use Rattle.seize_shared.proofs.Beginnings.{rows_turn}
-use Rattle.seize_shared.proofs.Blocks.{blocks_are_made, made_are_shown, made_are_taken}
-use Rattle.seize_shared.proofs.Registers.{rows_go_on}
+use Rattle.seize_shared.proofs.GoesOn.{rows_go_on}
+use Rattle.seize_shared.proofs.Blocks.{blocks_are_made, made_are_taken, known_are_shown}
+use Rattle.seize_shared.proofs.Roots.{made_are_linked, roots_are_cleared, roots_are_seen}
 
-module _ {T : Type 0} (defers : T → Option ℕ) (fixed : Fixed) (id : ℕ) (v w : View) (is : v ≡ w) where
-  pub may_turn : (f : View → View) → IsNext w (f w) → Turns {T = T} (Holds defers fixed) Keeps id v (Makes f v)
-  may_turn f next = subst (λ (x : View). Turns {T = T} (Holds defers fixed) Keeps id x (Makes f x)) (sym is) (rows_turn T defers fixed id w (f w) next)
+-- the word that links to a block whose number is small enough
+pub whole_link : (b : ℕ) → b < 2 ^ 53 → link_to b % 2 ^ 64 ≡ link_to b
+whole_link b lt = omega (arith, lt)
 
-  pub may_go_on : (op : Op T) → op_of w ≡ Some op → Allows (Holds defers fixed) Keeps id v op (told v op)
-  may_go_on op next = subst (λ (x : View). Allows (Holds defers fixed) Keeps id x op (told x op)) (sym is) (rows_go_on T defers fixed id w op next)
+module _ {T : Type 0} (defers : T → Option ℕ) (fixed : Fixed) (id : ℕ) (v w : View T) (is : v ≡ w) where
+  pub may_turn : (f : Fixed → View T → View T) → IsNext fixed w (f fixed w) → Turns (Holds defers fixed) Keeps id v (Makes f fixed v)
+  may_turn f next =
+      subst (λ (x : View T). Turns (Holds defers fixed) Keeps id x (Makes f fixed x)) (sym is) (rows_turn T defers fixed id w (f fixed w) next)
 
-module _ {T : Type 0} (defers : T → Option ℕ) (fixed : Fixed) (id : ℕ) (v : View) (slot : ℕ) where
-  pub may_make : v ≡ Inside slot Nothing → (value : T) → defers value ≡ None
-      → Allows (Holds defers fixed) Keeps id v (Make value 0) (told v (Make value 0))
-  may_make is value list =
-      subst (λ (x : View). Allows (Holds defers fixed) Keeps id x (Make value 0) (told x (Make value 0))) (sym is)
-      (blocks_are_made T defers fixed id slot 0 value list)
+  pub may_go_on : (op : Op T) → op_of defers w ≡ Some op → Allows (Holds defers fixed) Keeps id v op (told defers v op)
+  may_go_on op next =
+      subst (λ (x : View T). Allows (Holds defers fixed) Keeps id x op (told defers x op)) (sym is) (rows_go_on T defers fixed id w op next)
 
-  module _ (b : ℕ) (is : v ≡ Inside slot (Made b)) where
-    pub may_take : Allows {T = T} (Holds defers fixed) Keeps id v (Take b) (told v (Take b))
-    may_take = subst (λ (x : View). Allows {T = T} (Holds defers fixed) Keeps id x (Take b) (told x (Take b))) (sym is) (made_are_taken T defers fixed id slot b)
+module _ {T : Type 0} (defers : T → Option ℕ) (fixed : Fixed) (id : ℕ) (v : View T) (slot : ℕ) where
+  abbrev MayMake : Op T → Type 0
+  MayMake op = Allows (Holds defers fixed) Keeps id v op (told defers v op)
 
-    pub is_shown : Shown (Holds defers fixed) id v b
-    is_shown = subst (λ (x : View). Shown (Holds defers fixed) id x b) (sym is) (made_are_shown T defers fixed id slot b)
+  by_view : (w : View T) (op : Op T) → v ≡ w → Allows (Holds defers fixed) Keeps id w op (told defers w op) → MayMake op
+  by_view w op is may = subst (λ (x : View T). Allows (Holds defers fixed) Keeps id x op (told defers x op)) (sym is) may
+
+  pub may_make : v ≡ Inside slot Nothing → (value : T) → defers value ≡ None → MayMake (Make value 0)
+  may_make is value list = by_view (Inside slot Nothing) (Make value 0) is (blocks_are_made T defers value 0 list fixed id slot)
+
+  pub may_take : (b : ℕ) → v ≡ Inside slot (Made b) → MayMake (Take b)
+  may_take b is = by_view (Inside slot (Made b)) (Take b) is (made_are_taken T defers b fixed id slot)
+
+  pub may_link : (b r word : ℕ) → v ≡ Inside slot (Made b) → r < fixed.roots → b < 2 ^ 53 → word ≡ link_to b % 2 ^ 64 → MayMake (Swap (Root r) word)
+  may_link b r word is lt fits link =
+      subst (λ (w : ℕ). MayMake (Swap (Root r) w)) (sym (link ∙ whole_link b fits))
+      (by_view (Inside slot (Made b)) (Swap (Root r) (link_to b)) is (made_are_linked T defers b r fixed id slot lt))
+
+  pub may_clear : (r : ℕ) → v ≡ Inside slot Nothing → r < fixed.roots → MayMake (Swap (Root r) 0)
+  may_clear r is lt = by_view (Inside slot Nothing) (Swap (Root r) 0) is (roots_are_cleared T defers r fixed id slot lt)
+
+  pub may_see : (r : ℕ) → v ≡ Inside slot Nothing → r < fixed.roots → MayMake (Load (Root r))
+  may_see r is lt = by_view (Inside slot Nothing) (Load (Root r)) is (roots_are_seen T defers Nothing r fixed id slot tt lt)
+
+  pub is_shown : (has : Has) (b : ℕ) → v ≡ Inside slot has → Names has b → Shown (Holds defers fixed) id v b
+  is_shown has b is names = subst (λ (x : View T). Shown (Holds defers fixed) id x b) (sym is) (known_are_shown T defers has b fixed id slot names)
+
+module _ (T : Type 0) (fixed : Fixed) (slot : ℕ) where
+  -- leaving is next where a block was seen, or none is known
+  pub leaves_next : (has : Has) → IsLooking has → IsNext {T = T} fixed (Inside slot has) (leaving fixed (Inside slot has))
+  leaves_next Nothing looks = inl refl
+  leaves_next (Seen b) looks = inl refl
+  leaves_next (Made b) looks = absurd looks
+  leaves_next (Cut b) looks = absurd looks
+
+  pub leaves_so : (has : Has) → IsLooking has → leaving {T = T} fixed (Inside slot has) ≡ Leaves slot fixed.batch_size
+  leaves_so Nothing looks = refl
+  leaves_so (Seen b) looks = refl
+  leaves_so (Made b) looks = absurd looks
+  leaves_so (Cut b) looks = absurd looks
+
+  -- and so is the trying of the batch
+  pub flushes_next : (has : Has) → IsLooking has → IsNext {T = T} fixed (Inside slot has) (flushes fixed (Inside slot has))
+  flushes_next Nothing looks = inr refl
+  flushes_next (Seen b) looks = inr refl
+  flushes_next (Made b) looks = absurd looks
+  flushes_next (Cut b) looks = absurd looks
+
+  pub flushes_so : (has : Has) → IsLooking has → flushes {T = T} fixed (Inside slot has) ≡ Settles (flushing slot fixed.batch_size) Retiring None
+  flushes_so Nothing looks = refl
+  flushes_so (Seen b) looks = refl
+  flushes_so (Made b) looks = absurd looks
+  flushes_so (Cut b) looks = absurd looks
+
+-- a list with entries is counted down, and an empty one is settled
+is_above : (head : ℕ) → ACTIVE < head → nat_lt ACTIVE head ≡ true
+is_above head lt = grind (arith, lt)
+
+is_not_above : (head : ℕ) → head ≤ ACTIVE → nat_lt ACTIVE head ≡ false
+is_not_above head le = grind (arith, le)
+
+pub list_settles : (T : Type 0) (slot size head : ℕ) → ACTIVE < head
+    → list_taken {T = T} slot size head ≡ Settles (counting_down slot size head) (Ending size) None
+list_settles T slot size head lt = rw (is_above head lt) refl
+
+pub list_empty : (T : Type 0) (slot size head : ℕ) → head ≤ ACTIVE → list_taken {T = T} slot size head ≡ Left slot size
+list_empty T slot size head le = rw (is_not_above head le) refl
+
+-- what a word of a root tells that was taken from there, or seen
+pub cut_some : (word b : ℕ) → b ≡ block_in word → (b ≡ 0 → ⊥) → cut_in word ≡ Cut b
+cut_some word b is ne = ap (λ (y : Bool). if y then Nothing else Cut (block_in word)) (ne_eqb (block_in word) 0 (λ e. ne (is ∙ e))) ∙ ap Cut (sym is)
+
+pub cut_none : (word : ℕ) → block_in word ≡ 0 → cut_in word ≡ Nothing
+cut_none word e = ap (λ (y : Bool). if y then Nothing else Cut (block_in word)) (eq-eqb (block_in word) 0 e)
+
+pub seen_some : (word b : ℕ) → b ≡ block_in word → (b ≡ 0 → ⊥) → seen_in word ≡ Seen b
+seen_some word b is ne = ap (λ (y : Bool). if y then Nothing else Seen (block_in word)) (ne_eqb (block_in word) 0 (λ e. ne (is ∙ e))) ∙ ap Seen (sym is)
+
+pub seen_none : (word : ℕ) → block_in word ≡ 0 → seen_in word ≡ Nothing
+seen_none word e = ap (λ (y : Bool). if y then Nothing else Seen (block_in word)) (eq-eqb (block_in word) 0 e)
+
+module _ {T : Type 0} (defers : T → Option ℕ) (v w : View T) (slot : ℕ) where
+  pub cut_told : (b r word old : ℕ) → v ≡ Inside slot (Made b) → told defers v (Swap (Root r) word) (Found old) w → w ≡ Inside slot (cut_in old)
+  cut_told b r word old is so =
+      let k = subst (λ (x : View T). told defers x (Swap (Root r) word) (Found old) w) is so in k.2 ∙ ap (Inside slot) k.1
+
+  pub removed_told : (r word old : ℕ) → v ≡ Inside slot Nothing → told defers v (Swap (Root r) word) (Found old) w → w ≡ Inside slot (cut_in old)
+  removed_told r word old is so =
+      let k = subst (λ (x : View T). told defers x (Swap (Root r) word) (Found old) w) is so in k.2 ∙ ap (Inside slot) k.1
+
+  pub seen_told : (r word : ℕ) → v ≡ Inside slot Nothing → told defers v (Load (Root r)) (Found word) w → w ≡ Inside slot (seen_in word)
+  seen_told r word is so = let k = subst (λ (x : View T). told defers x (Load (Root r)) (Found word) w) is so in k.2 ∙ ap (Inside slot) k.1
+
+  -- what the taking of a list tells
+  pub list_told : (size head : ℕ) → v ≡ Leaves slot size → told defers v (Swap (Slot slot HEAD) IDLE) (Found head) w → w ≡ list_taken slot size head
+  list_told size head is so = subst (λ (x : View T). told defers x (Swap (Slot slot HEAD) IDLE) (Found head) w) is so
+
+  -- a list with entries is settled by the row that counts it down
+  pub row_told : (size head : ℕ) (row : Settle) → w ≡ list_taken slot size head → ACTIVE < head → row ≡ counting_down slot size head
+      → w ≡ Settles row (Ending size) None
+  row_told size head row is lt row_is = is ∙ list_settles T slot size head lt ∙ ap (λ (c : Settle). Settles c (Ending size) None) (sym row_is)

@@ -1,10 +1,16 @@
 pub mod Lists
+pub mod Reclaims
 pub mod Moved
-pub mod Quiet
 pub mod Steps
 pub mod Operations
 pub mod Beginnings
 pub mod Registers
+pub mod Looks
+pub mod Settling
+pub mod GoesOn
+pub mod Users
 pub mod Blocks
+pub mod Roots
 pub mod Calls
+pub mod Drives
 pub mod Seen

@@ -1,33 +1,41 @@
 -- What a seat has done makes the rule hold again, where it has left what the other seats know.
-use Rattle.std.specs.Prelude.{◌≢◌, Option, Some, None, slice_get, slice_set}
-use Rattle.std.proofs.Common.{◌≡◌, ℕ, ◌⊎◌, inl, inr, refl, sym, subst, ap, ◌∙◌}
+use Rattle.std.specs.Prelude.{◌≢◌, Option, Some, None, IsSome, length, slice_get, slice_set}
+use Rattle.std.proofs.Common.{◌≡◌, ℕ, ◌⊎◌, true, inl, inr, refl, sym, subst, ap, ◌∙◌}
 use Rattle.std.proofs.lemmas.Bool.{cases_eq}
-use Rattle.seize_words.specs.Mem.{Mem}
-use Rattle.seize.specs.World.{World, Use, Vacant}
+use Rattle.seize_words.specs.Mem.{Mem, value_at}
+use Rattle.seize.specs.Law.{holds, is_over}
+use Rattle.seize.specs.World.{World, Row, Use, Vacant, MayStep, IsInside}
 use Rattle.seize.specs.World as world
+use Rattle.seize_rule.proofs.World.Kept.{rows_may}
 use Rattle.seize_acts.proofs.Answers.{same_some}
 use Rattle.seize_seats.specs.State.{State, view_of, Goes}
-use Rattle.seize_shared.specs.Rows.{use_of, IsUsed, IsKnown, IsQuiet, Fits, Came, Holds, Keeps}
+use Rattle.seize_shared.specs.Rows.{use_of, row_of, settles_for, IsUsed, IsKnown, RootsNameLinked, Fits, Came, Holds, Keeps}
 use Rattle.seize_shared.specs.declared.view.View.{View}
-use Rattle.seize_shared.specs.declared.view.View.TheVariants.{Rests, Registers, Outside, Enters, Inside, Leaves, Left, Frees}
+use Rattle.seize_shared.specs.declared.view.View.TheVariants.{Rests, Registers, Outside, Enters, Inside, Settles, Leaves, Left, Frees}
+use Rattle.seize_shared.specs.declared.view.Has.{Has}
+use Rattle.seize_shared.specs.declared.view.Has.TheVariants.{Nothing, Made, Seen, Cut}
+use Rattle.seize_shared.specs.declared.view.Why.TheVariants.{Retiring, Ending}
 use Rattle.seize_shared.specs.declared.view.Fixed.{Fixed}
 use Rattle.seize_shared.proofs.Lists.{there, elsewhere}
+use Rattle.seize_shared.proofs.Reclaims.{reclaiming_there}
 
 -- a slot that a seat has is not vacant
-pub not_vacant : (x : View) (t : ℕ) (a : Use) → use_of x ≡ Some (t, a) → a ≡ Vacant → ⊥
-not_vacant x t a e v = by x e
+pub not_vacant : {T : Type 0} (x : View T) (t : ℕ) (a : Use) → use_of x ≡ Some (t, a) → a ≡ Vacant → ⊥
+not_vacant {T} x t a e v = by x e
   where
     so : (p q : ℕ × Use) → Some p ≡ Some q → p.1 ≡ q.1
     so p q f = ap (λ (r : ℕ × Use). r.1) (same_some p q f)
 
-    by : (y : View) → use_of y ≡ Some (t, a) → ⊥
+    by : (y : View T) → use_of y ≡ Some (t, a) → ⊥
     by Rests f = cc f
     by (Registers c) f = cc f
     by (Outside s) f = let k = so (s, world.Outside 0) (t, a) f in cc (k, v)
     by (Enters s) f = let k = so (s, world.Changing) (t, a) f in cc (k, v)
     by (Inside s has) f = let k = so (s, world.Inside 0) (t, a) f in cc (k, v)
-    by (Leaves s) f = let k = so (s, world.Changing) (t, a) f in cc (k, v)
-    by (Left s) f = let k = so (s, world.Changing) (t, a) f in cc (k, v)
+    by (Settles c Retiring seen) f = let k = so (c.slot, world.Inside 1) (t, a) f in cc (k, v)
+    by (Settles c (Ending size) seen) f = let k = so (c.slot, world.Changing) (t, a) f in cc (k, v)
+    by (Leaves s size) f = let k = so (s, world.Changing) (t, a) f in cc (k, v)
+    by (Left s size) f = let k = so (s, world.Changing) (t, a) f in cc (k, v)
     by (Frees s) f = let k = so (s, world.Changing) (t, a) f in cc (k, v)
 
 module _ {T : Type 0} where
@@ -38,59 +46,97 @@ module _ {T : Type 0} where
   still_used w n None is same = tt
   still_used w n (Some slot) is same = same slot.0 slot.1 refl ∙ is
 
-module _ {T : Type 0} (defers : T → Option ℕ) (fixed : Fixed) (s : State T View (World T)) (id : ℕ) where
+  -- a seat is within the section of its slot
+  pub inside_of : (w : World T) (t : ℕ) (has : Has) → IsUsed w (use_of {T = T} (Inside t has)) → IsInside (w.uses t)
+  inside_of w t has is = subst (λ (a : Use). IsInside a) (sym is) tt
+
+module _ {T : Type 0} (defers : T → Option ℕ) (fixed : Fixed) (s : State T (View T) (World T)) (id : ℕ) where
+  -- what a caller has in hand it has still
+  abbrev pub StillHas : World T → ℕ → ℕ → Type 0
+  StillHas n j b = (s.world.hand b ≡ world.Making j → n.hand b ≡ world.Making j) × (s.world.hand b ≡ world.Cutting j → n.hand b ≡ world.Cutting j)
+
   -- the seat has come to this view, this memory and this world, and the others know what they knew
-  pub record Moved (u : View) (m : Mem T) (n : World T) : Type 0 where
+  pub record Moved (u : View T) (m : Mem T) (n : World T) : Type 0 where
     pub came : Came defers fixed n
     pub memory : m ≡ n.memory
     pub rows : (j : ℕ) → j ≢ id → n.row j ≡ s.world.row j
-    pub own : Fits fixed.batch_size n id u
-    pub others : (j : ℕ) (x : View) → j ≢ id → view_of s j ≡ Some x → IsUsed n (use_of x)
-    pub known : (j : ℕ) (x : View) → j ≢ id → view_of s j ≡ Some x → IsKnown n j x
-    pub alone : (j t : ℕ) (x : View) (a b : Use) → j ≢ id → view_of s j ≡ Some x → use_of x ≡ Some (t, a) → use_of u ≡ Some (t, b) → ⊥
-    pub quiet : IsQuiet m
-    pub kept : (j b : ℕ) (x o : View) → j ≢ id → view_of s j ≡ Some x → Keeps x o s.world b → Keeps x o n b
+    pub own : Fits n id u
+    pub others : (j : ℕ) (x : View T) → j ≢ id → view_of s j ≡ Some x → IsUsed n (use_of x)
+    pub alone : (j t : ℕ) (x : View T) (a b : Use) → j ≢ id → view_of s j ≡ Some x → use_of x ≡ Some (t, a) → use_of u ≡ Some (t, b) → ⊥
+    pub hands : (j b : ℕ) → j ≢ id → StillHas n j b
+    pub values : (b : ℕ) → IsSome (value_at s.world.memory b) → IsSome (value_at n.memory b) → value_at n.memory b ≡ value_at s.world.memory b
+    pub held : (t b : ℕ) → IsInside (s.world.uses t) → holds t b s.world.log ≡ true → holds t b n.log ≡ true
+    pub over : (t b : ℕ) → holds t b s.world.log ≡ true → is_over b n.log ≡ is_over b s.world.log
+    pub roots : RootsNameLinked m n.hand
+    pub rooted : length m.roots ≡ fixed.roots
 
-  pub moved : (v u : View) (m : Mem T) (n : World T) (so : View → Type 0) → Holds defers fixed s → view_of s id ≡ Some v → Moved u m n → so u
-      → Goes (Holds defers fixed) Keeps s m id so
-  moved v u m n so h at mo is = (
-    u,
-    n,
-    record {
-      came = mo.came;
-      memory = mo.memory;
-      seats = λ j x e. fit j x e (cases_eq j id);
-      unborn = λ j e. none j e (cases_eq j id);
-      apart = λ j k t a b x y e f p q. two j k t a b x y e f p q (cases_eq j id) (cases_eq k id);
-      quiet = mo.quiet;
-    },
-    (λ j k b x o ne ne2 e f keeps. mo.kept j b x o ne e keeps),
-    is,
-  )
-    where
-      here : (j : ℕ) → j ≡ id → slice_get (slice_set s.views id u) j ≡ Some u
-      here j e = subst (λ (k : ℕ). slice_get (slice_set s.views id u) k ≡ Some u) (sym e) (there s.views id u v at)
+  module _ (v u : View T) (m : Mem T) (n : World T) (so : View T → Type 0) (h : Holds defers fixed s) (at : view_of s id ≡ Some v) (mo : Moved u m n) where
+    known : (j : ℕ) (x : View T) → j ≢ id → n.row j ≡ row_of x → Fits s.world j x → IsKnown n j x
+    known j (Inside t Nothing) ne row f = tt
+    known j (Inside t (Made b)) ne row f = (mo.hands j b ne).0 f.known
+    known j (Inside t (Seen b)) ne row f = mo.held t b (inside_of s.world t (Seen b) f.slot) f.known
+    known j (Inside t (Cut b)) ne row f = (mo.hands j b ne).1 f.known
+    known j (Settles c why None) ne row f = tt
+    known j (Settles c why (Some seen)) ne row f =
+        let may : MayStep defers (settles_for why c) n.memory =
+        subst (λ (r : Row). MayStep defers r n.memory) row (rows_may defers fixed.batch_size fixed.roots mo.came.0 n mo.came.1 j) in
+        let some : IsSome (value_at n.memory seen.0) =
+        subst (λ (b : ℕ). IsSome (value_at n.memory b)) (sym f.known.1) (reclaiming_there defers c why n.memory may f.known.0) in
+        (f.known.0, f.known.1, mo.values seen.0 (subst IsSome (sym f.known.2) refl) some ∙ f.known.2)
+    known j Rests ne row f = tt
+    known j (Registers c) ne row f = tt
+    known j (Outside t) ne row f = tt
+    known j (Enters t) ne row f = tt
+    known j (Leaves t size) ne row f = tt
+    known j (Left t size) ne row f = tt
+    known j (Frees t) ne row f = tt
 
-      own : (j : ℕ) (x : View) → j ≡ id → slice_get (slice_set s.views id u) j ≡ Some x → u ≡ x
-      own j x e f = same_some u x (sym (here j e) ∙ f)
+    pub moved : so u → Goes (Holds defers fixed) Keeps s m id so
+    moved is = (
+      u,
+      n,
+      record {
+        came = mo.came;
+        memory = mo.memory;
+        seats = λ j x e. fit j x e (cases_eq j id);
+        unborn = λ j e. none j e (cases_eq j id);
+        apart = λ j k t a b x y e f p q. two j k t a b x y e f p q (cases_eq j id) (cases_eq k id);
+        roots = mo.roots;
+        rooted = mo.rooted;
+      },
+      (λ j k b x o ne ne2 e f keeps. still j b x o ne e keeps),
+      is,
+    )
+      where
+        here : (j : ℕ) → j ≡ id → slice_get (slice_set s.views id u) j ≡ Some u
+        here j e = subst (λ (k : ℕ). slice_get (slice_set s.views id u) k ≡ Some u) (sym e) (there s.views id u v at)
 
-      before : (j : ℕ) (x : View) → j ≢ id → slice_get (slice_set s.views id u) j ≡ Some x → view_of s j ≡ Some x
-      before j x ne e = sym (elsewhere s.views id j u ne) ∙ e
+        own : (j : ℕ) (x : View T) → j ≡ id → slice_get (slice_set s.views id u) j ≡ Some x → u ≡ x
+        own j x e f = same_some u x (sym (here j e) ∙ f)
 
-      fit : (j : ℕ) (x : View) → slice_get (slice_set s.views id u) j ≡ Some x → (j ≡ id) ⊎ (j ≢ id) → Fits fixed.batch_size n j x
-      fit j x e (inl same) =
-          subst (λ (y : View). Fits fixed.batch_size n j y) (own j x same e) (subst (λ (k : ℕ). Fits fixed.batch_size n k u) (sym same) mo.own)
-      fit j x e (inr ne) =
-          let f = h.seats j x (before j x ne e) in
-          record { row = mo.rows j ne ∙ f.row; slot = mo.others j x ne (before j x ne e); short = f.short; known = mo.known j x ne (before j x ne e) }
+        before : (j : ℕ) (x : View T) → j ≢ id → slice_get (slice_set s.views id u) j ≡ Some x → view_of s j ≡ Some x
+        before j x ne e = sym (elsewhere s.views id j u ne) ∙ e
 
-      none : (j : ℕ) → slice_get (slice_set s.views id u) j ≡ None → (j ≡ id) ⊎ (j ≢ id) → n.row j ≡ world.Rests
-      none j e (inl same) = let f = here j same in absurd (cc (e, f))
-      none j e (inr ne) = mo.rows j ne ∙ h.unborn j (sym (elsewhere s.views id j u ne) ∙ e)
+        fit : (j : ℕ) (x : View T) → slice_get (slice_set s.views id u) j ≡ Some x → (j ≡ id) ⊎ (j ≢ id) → Fits n j x
+        fit j x e (inl same) =
+            subst (λ (y : View T). Fits n j y) (own j x same e) (subst (λ (k : ℕ). Fits n k u) (sym same) mo.own)
+        fit j x e (inr ne) =
+            let f = h.seats j x (before j x ne e) in
+            let row = mo.rows j ne ∙ f.row in
+            record { row = row; slot = mo.others j x ne (before j x ne e); short = f.short; known = known j x ne row f }
 
-      two : (j k t : ℕ) (a b : Use) (x y : View) → slice_get (slice_set s.views id u) j ≡ Some x → slice_get (slice_set s.views id u) k ≡ Some y
-          → use_of x ≡ Some (t, a) → use_of y ≡ Some (t, b) → (j ≡ id) ⊎ (j ≢ id) → (k ≡ id) ⊎ (k ≢ id) → j ≡ k
-      two j k t a b x y e f p q (inl i) (inl l) = i ∙ sym l
-      two j k t a b x y e f p q (inl i) (inr ne) = absurd (mo.alone k t y b a ne (before k y ne f) q (ap use_of (own j x i e) ∙ p))
-      two j k t a b x y e f p q (inr ne) (inl l) = absurd (mo.alone j t x a b ne (before j x ne e) p (ap use_of (own k y l f) ∙ q))
-      two j k t a b x y e f p q (inr ne) (inr ne2) = h.apart j k t a b x y (before j x ne e) (before k y ne2 f) p q
+        none : (j : ℕ) → slice_get (slice_set s.views id u) j ≡ None → (j ≡ id) ⊎ (j ≢ id) → n.row j ≡ world.Rests
+        none j e (inl same) = let f = here j same in absurd (cc (e, f))
+        none j e (inr ne) = mo.rows j ne ∙ h.unborn j (sym (elsewhere s.views id j u ne) ∙ e)
+
+        two : (j k t : ℕ) (a b : Use) (x y : View T) → slice_get (slice_set s.views id u) j ≡ Some x → slice_get (slice_set s.views id u) k ≡ Some y
+            → use_of x ≡ Some (t, a) → use_of y ≡ Some (t, b) → (j ≡ id) ⊎ (j ≢ id) → (k ≡ id) ⊎ (k ≢ id) → j ≡ k
+        two j k t a b x y e f p q (inl i) (inl l) = i ∙ sym l
+        two j k t a b x y e f p q (inl i) (inr ne) = absurd (mo.alone k t y b a ne (before k y ne f) q (ap use_of (own j x i e) ∙ p))
+        two j k t a b x y e f p q (inr ne) (inl l) = absurd (mo.alone j t x a b ne (before j x ne e) p (ap use_of (own k y l f) ∙ q))
+        two j k t a b x y e f p q (inr ne) (inr ne2) = h.apart j k t a b x y (before j x ne e) (before k y ne2 f) p q
+
+        still : (j b : ℕ) (x o : View T) → j ≢ id → view_of s j ≡ Some x → Keeps x o s.world b → Keeps x o n b
+        still j b x o ne e keeps =
+            let slot = subst (λ (y : View T). IsUsed s.world (use_of y)) keeps.2 (h.seats j x e).slot in
+            (keeps.0, keeps.1, keeps.2, mo.held keeps.0 b (inside_of s.world keeps.0 keeps.1 slot) keeps.3, mo.over keeps.0 b keeps.3 ∙ keeps.4)

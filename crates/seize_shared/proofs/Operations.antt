@@ -1,6 +1,6 @@
 -- Entering, leaving and giving up: the one operation of each may be made, and the rule holds after it.
-use Rattle.std.specs.Prelude.{Option, Some, nat_lt, ◌≤◌}
-use Rattle.std.proofs.Common.{◌≡◌, ℕ, false, [], ◌∷◌, refl, sym, subst, ap, ◌∙◌, arith}
+use Rattle.std.specs.Prelude.{Option, Some, None, nat_lt}
+use Rattle.std.proofs.Common.{◌≡◌, ℕ, Bool, true, false, [], ◌∷◌, refl, sym, subst, ap, ◌∙◌}
 use Rattle.seize_words.specs.Mem.{Mem, Can, Took}
 use Rattle.seize_words.specs.Op.{Out, Store, Swap, Found, Stored, Exchanged, Made, Taken, Roomed}
 use Rattle.seize_words.specs.declared.at.At.TheVariants.{Slot}
@@ -9,20 +9,22 @@ use Rattle.seize.specs.declared.progress.Progress.TheVariants.{Done}
 use Rattle.seize.specs.declared.rows.leave.Leave.{Leave}
 use Rattle.seize.specs.declared.rows.leave.Leaving.TheVariants as leaving_at
 use Rattle.seize.specs.declared.rows.settle.Settled.TheVariants as settled
-use Rattle.seize.specs.Leave.{leaving, standing}
+use Rattle.seize.specs.Settle.{counting_down}
+use Rattle.seize.specs.Leave.{standing}
 use Rattle.seize.specs.Law.{Entered}
 use Rattle.seize.specs.World.{World, Row, Use, MayStep, Steps', after_step, with_use, leaves_on, at_start}
 use Rattle.seize.specs.World as world
 use Rattle.seize_rule.proofs.World.Kept.{rows_may}
 use Rattle.seize_rule.proofs.Rows.Others.{with_here}
 use Rattle.seize_seats.specs.State.{State, view_of, Goes, Allows}
-use Rattle.seize_shared.specs.Rows.{row_of, IsQuiet, Holds, Keeps, told}
+use Rattle.seize_shared.specs.Rows.{row_of, leave_of, Holds, Keeps}
+use Rattle.seize_shared.specs.Told.{list_taken, told}
 use Rattle.seize_shared.specs.declared.view.View.{View}
-use Rattle.seize_shared.specs.declared.view.View.TheVariants.{Rests, Enters, Inside, Leaves, Left, Frees}
+use Rattle.seize_shared.specs.declared.view.View.TheVariants.{Rests, Enters, Inside, Settles, Leaves, Left, Frees}
 use Rattle.seize_shared.specs.declared.view.Has.TheVariants.{Nothing}
+use Rattle.seize_shared.specs.declared.view.Why.TheVariants.{Ending}
 use Rattle.seize_shared.specs.declared.view.Fixed.{Fixed}
 use Rattle.seize_shared.proofs.Moved.{moved}
-use Rattle.seize_shared.proofs.Quiet.{quiet_written}
 use Rattle.seize_shared.proofs.Steps.{alone, stepped}
 
 -- the slot of one is that of the other
@@ -36,87 +38,84 @@ pub same_slot : (t s : ℕ) (a b c : Use) → used_as t a ≡ used_as s b → (d
 same_slot t s a b c e = (c, ap (λ (k : ℕ). used_as k c) (slot_of (t, a) (s, b) e))
 
 module _ {T : Type 0} (defers : T → Option ℕ) (fixed : Fixed) where
-  abbrev H : State T View (World T) → Type 0
+  abbrev H : State T (View T) (World T) → Type 0
   H = Holds defers fixed
 
   -- the row of a seat may take its next step
-  pub may : (s : State T View (World T)) (id : ℕ) (v : View) → H s → view_of s id ≡ Some v → MayStep defers (row_of fixed.batch_size v) s.world.memory
+  pub may : (s : State T (View T) (World T)) (id : ℕ) (v : View T) → H s → view_of s id ≡ Some v → MayStep defers (row_of v) s.world.memory
   may s id v h at =
       subst (λ (row : Row). MayStep defers row s.world.memory) (h.seats id v at).row (rows_may defers fixed.batch_size fixed.roots h.came.0 s.world h.came.1 id)
 
-  pub enters : (id t : ℕ) → Allows H Keeps id (Enters t) (Store (Slot t HEAD) ACTIVE) (told (Enters t) (Store (Slot t HEAD) ACTIVE))
+  pub enters : (id t : ℕ) → Allows H Keeps id (Enters t) (Store (Slot t HEAD) ACTIVE) (told defers (Enters t) (Store (Slot t HEAD) ACTIVE))
   enters id t s h at = (can, λ out m took. goes out m took)
     where
       can : Can s.memory (Store (Slot t HEAD) ACTIVE)
       can = subst (λ (m : Mem T). Can m (Store (Slot t HEAD) ACTIVE)) (sym h.memory) (may s id (Enters t) h at).0
 
       goes : (out : Out T) (m : Mem T) → Took s.memory (Store (Slot t HEAD) ACTIVE) out m
-          → Goes H Keeps s m id (told (Enters t) (Store (Slot t HEAD) ACTIVE) out)
+          → Goes H Keeps s m id (told defers (Enters t) (Store (Slot t HEAD) ACTIVE) out)
       goes out m took =
           let n : World T = with_use (after_step s.world id m world.Rests (Entered t ∷ [])) t (world.Inside 0) in
-          moved defers fixed s id (Enters t) (Inside t Nothing) m n (told (Enters t) (Store (Slot t HEAD) ACTIVE) out) h at
+          moved defers fixed s id (Enters t) (Inside t Nothing) m n (told defers (Enters t) (Store (Slot t HEAD) ACTIVE) out) h at
           (stepped defers fixed s id (Enters t) h at (Inside t Nothing) m n
           (m, (record { slot = t }, Done tt), (out, subst (λ (x : Mem T). Took x (Store (Slot t HEAD) ACTIVE) out m) h.memory took, refl), refl) refl
           (record { row = with_here s.world.row id world.Rests; slot = with_here s.world.uses t (world.Inside 0); short = tt; known = tt })
-          (alone defers fixed s id (Enters t) h at (Inside t Nothing) (λ x b e. same_slot t x (world.Inside 0) b world.Changing e))
-          (subst IsQuiet (sym took.1) (quiet_written s.memory (Slot t HEAD) ACTIVE (omega arith) can h.quiet)))
+          (alone defers fixed s id (Enters t) h at (Inside t Nothing) (λ x b e. same_slot t x (world.Inside 0) b world.Changing e)))
           refl
 
-  pub frees : (id t : ℕ) → Allows H Keeps id (Frees t) (Store (Slot t HEAD) FREE) (told (Frees t) (Store (Slot t HEAD) FREE))
+  pub frees : (id t : ℕ) → Allows H Keeps id (Frees t) (Store (Slot t HEAD) FREE) (told defers (Frees t) (Store (Slot t HEAD) FREE))
   frees id t s h at = (can, λ out m took. goes out m took)
     where
       can : Can s.memory (Store (Slot t HEAD) FREE)
       can = subst (λ (m : Mem T). Can m (Store (Slot t HEAD) FREE)) (sym h.memory) (may s id (Frees t) h at).0
 
-      goes : (out : Out T) (m : Mem T) → Took s.memory (Store (Slot t HEAD) FREE) out m → Goes H Keeps s m id (told (Frees t) (Store (Slot t HEAD) FREE) out)
+      goes : (out : Out T) (m : Mem T) → Took s.memory (Store (Slot t HEAD) FREE) out m
+          → Goes H Keeps s m id (told defers (Frees t) (Store (Slot t HEAD) FREE) out)
       goes out m took =
           let n : World T = with_use (after_step s.world id m world.Rests []) t world.Vacant in
-          moved defers fixed s id (Frees t) Rests m n (told (Frees t) (Store (Slot t HEAD) FREE) out) h at
+          moved defers fixed s id (Frees t) Rests m n (told defers (Frees t) (Store (Slot t HEAD) FREE) out) h at
           (stepped defers fixed s id (Frees t) h at Rests m n
           (m, (record { slot = t }, Done tt), (out, subst (λ (x : Mem T). Took x (Store (Slot t HEAD) FREE) out m) h.memory took, refl), refl) refl
           (record { row = with_here s.world.row id world.Rests; slot = tt; short = tt; known = tt })
-          (alone defers fixed s id (Frees t) h at Rests (λ x b e. absurd (cc e)))
-          (subst IsQuiet (sym took.1) (quiet_written s.memory (Slot t HEAD) FREE (omega arith) can h.quiet)))
+          (alone defers fixed s id (Frees t) h at Rests (λ x b e. absurd (cc e))))
           refl
 
-  pub leaves : (id t : ℕ) → Allows H Keeps id (Leaves t) (Swap (Slot t HEAD) IDLE) (told (Leaves t) (Swap (Slot t HEAD) IDLE))
-  leaves id t s h at = (can, λ out m took. by out m took)
+  pub leaves : (id t size : ℕ) → Allows H Keeps id (Leaves t size) (Swap (Slot t HEAD) IDLE) (told defers (Leaves t size) (Swap (Slot t HEAD) IDLE))
+  leaves id t size s h at = (can, λ out m took. by out m took)
     where
       can : Can s.memory (Swap (Slot t HEAD) IDLE)
-      can = subst (λ (m : Mem T). Can m (Swap (Slot t HEAD) IDLE)) (sym h.memory) (may s id (Leaves t) h at).0
+      can = subst (λ (m : Mem T). Can m (Swap (Slot t HEAD) IDLE)) (sym h.memory) (may s id (Leaves t size) h at).0
 
-      short_list : (head : ℕ) → head ≤ ACTIVE → nat_lt ACTIVE head ≡ false
-      short_list head le = grind (arith, le)
+      took_here : (head : ℕ) (m : Mem T) → Took s.memory (Swap (Slot t HEAD) IDLE) (Found head) m → Took s.world.memory (Swap (Slot t HEAD) IDLE) (Found head) m
+      took_here head m took = subst (λ (x : Mem T). Took x (Swap (Slot t HEAD) IDLE) (Found head) m) h.memory took
 
-      goes : (head : ℕ) (m : Mem T) → Took s.memory (Swap (Slot t HEAD) IDLE) (Found head) m → Goes H Keeps s m id (λ u. u ≡ Left t)
-      goes head m took =
-          let c : Leave = leaving t fixed.batch_size IDLE false in let d : Leave = standing c leaving_at.Over in
-          let n : World T = leaves_on s.world id c m (d, settled.Goes) in
-          moved defers fixed s id (Leaves t) (Left t) m n (λ u. u ≡ Left t) h at
-          (stepped defers fixed s id (Leaves t) h at (Left t) m n (
-            m,
-            (d, settled.Goes),
-            (
-              Found head,
-              subst (λ (x : Mem T). Took x (Swap (Slot t HEAD) IDLE) (Found head) m) h.memory took,
-              rw (short_list head
-                  (h.quiet t head took.0)) refl,
-            ),
-            refl,
-          ) refl
-          (record {
-            row = with_here s.world.row id (world.Leaves d);
-            slot = with_here s.world.uses t (s.world.uses t)
-                ∙ (h.seats id (Leaves t) at).slot;
-            short = tt;
-            known = tt;
-          })
-          (alone defers fixed s id (Leaves t) h at (Left t) (λ x b e. same_slot t x world.Changing b world.Changing e))
-          (subst IsQuiet (sym took.1) (quiet_written s.memory (Slot t HEAD) IDLE (omega arith) can h.quiet)))
-          refl
+      slot : (d : Leave) (m : Mem T) → (leaves_on s.world id (leave_of t size) m (d, settled.Goes)).uses t ≡ world.Changing
+      slot d m = with_here s.world.uses t (s.world.uses t) ∙ (h.seats id (Leaves t size) at).slot
 
-      by : (out : Out T) (m : Mem T) → Took s.memory (Swap (Slot t HEAD) IDLE) out m → Goes H Keeps s m id (told (Leaves t) (Swap (Slot t HEAD) IDLE) out)
-      by (Found head) m took = goes head m took
+      goes : (head : ℕ) (m : Mem T) → Took s.memory (Swap (Slot t HEAD) IDLE) (Found head) m → (b : Bool) → nat_lt ACTIVE head ≡ b
+          → Goes H Keeps s m id (λ u. u ≡ list_taken t size head)
+      goes head m took true e =
+          let u : View T = Settles (counting_down t size head) (Ending size) None in
+          let d : Leave = standing (leave_of t size) (leaving_at.Settles (counting_down t size head)) in
+          let n : World T = leaves_on s.world id (leave_of t size) m (d, settled.Goes) in
+          moved defers fixed s id (Leaves t size) u m n (λ x. x ≡ list_taken t size head) h at
+          (stepped defers fixed s id (Leaves t size) h at u m n (m, (d, settled.Goes), (Found head, took_here head m took, rw e refl), refl) refl
+          (record { row = with_here s.world.row id (world.Leaves d); slot = slot d m; short = tt; known = tt })
+          (alone defers fixed s id (Leaves t size) h at u (λ x b q. same_slot t x world.Changing b world.Changing q)))
+          (rw e refl)
+      goes head m took false e =
+          let u : View T = Left t size in
+          let d : Leave = standing (leave_of t size) leaving_at.Over in
+          let n : World T = leaves_on s.world id (leave_of t size) m (d, settled.Goes) in
+          moved defers fixed s id (Leaves t size) u m n (λ x. x ≡ list_taken t size head) h at
+          (stepped defers fixed s id (Leaves t size) h at u m n (m, (d, settled.Goes), (Found head, took_here head m took, rw e refl), refl) refl
+          (record { row = with_here s.world.row id (world.Leaves d); slot = slot d m; short = tt; known = tt })
+          (alone defers fixed s id (Leaves t size) h at u (λ x b q. same_slot t x world.Changing b world.Changing q)))
+          (rw e refl)
+
+      by : (out : Out T) (m : Mem T) → Took s.memory (Swap (Slot t HEAD) IDLE) out m
+          → Goes H Keeps s m id (told defers (Leaves t size) (Swap (Slot t HEAD) IDLE) out)
+      by (Found head) m took = goes head m took (nat_lt ACTIVE head) refl
       by Stored m took = absurd took.0
       by (Exchanged r) m took = absurd took.0
       by (Made r) m took = absurd took.0

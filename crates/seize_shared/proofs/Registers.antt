@@ -1,11 +1,11 @@
 -- Registering: each of its operations may be made, and the rule holds after it; a slot that it takes nobody has.
-use Rattle.std.specs.Prelude.{◌≢◌, Option, Some, None, Ok, Err, is_some, nat_lt, if◌then◌else◌, length}
-use Rattle.std.proofs.Common.{◌≡◌, ℕ, ◌+◌, Bool, true, false, refl, sym, subst, ap, ◌∙◌, arith}
+use Rattle.std.specs.Prelude.{◌≢◌, Option, Some, None, Ok, Err, nat_lt, if◌then◌else◌, length}
+use Rattle.std.proofs.Common.{◌≡◌, ℕ, ◌+◌, Bool, true, false, refl, sym, subst, ap, ◌∙◌}
 use Rattle.seize_words.specs.Mem.{Mem, Can, Took, value_at, word_at}
-use Rattle.seize_words.specs.Op.{Op, Out, Load, Store, Swap, Exchange, Room, Found, Stored, Exchanged, Made, Taken, Roomed}
+use Rattle.seize_words.specs.Op.{Op, Out, Load, Exchange, Room, Found, Stored, Exchanged, Made, Taken, Roomed}
 use Rattle.seize_words.specs.Plan.{Plan, Then, Do, Ends, Steps, May}
 use Rattle.seize_words.specs.declared.at.At.TheVariants.{Slot}
-use Rattle.seize.specs.declared.states.TheConstants.{HEAD, FREE, IDLE, ACTIVE, LAST_SLOT}
+use Rattle.seize.specs.declared.states.TheConstants.{HEAD, IDLE, LAST_SLOT}
 use Rattle.seize.specs.declared.progress.Progress.{Progress}
 use Rattle.seize.specs.declared.progress.Progress.TheVariants as progress
 use Rattle.seize.specs.declared.rows.register.Register.{Register}
@@ -22,16 +22,16 @@ use Rattle.seize_rule.proofs.Rows.Known.{FitsRow, FitsRegister}
 use Rattle.seize_rule.proofs.Rows.Register.{taken_use}
 use Rattle.seize_alone.proofs.Histories.Reached.{Reached}
 use Rattle.seize_acts.proofs.Answers.{same_some}
-use Rattle.seize_seats.specs.State.{State, view_of, Goes, Allows}
-use Rattle.seize_shared.specs.Rows.{use_of, left_by, ComesTo, IsSeeking, IsShort, IsQuiet, Fits, Holds, Keeps, told}
-use Rattle.seize_shared.specs.Promises.{op_in, RowsGoOn}
+use Rattle.seize_seats.specs.State.{State, view_of, Goes}
+use Rattle.seize_shared.specs.Rows.{use_of, IsSeeking, IsShort, Fits, Holds, Keeps}
+use Rattle.seize_shared.specs.Told.{left_by, ComesTo, told}
+use Rattle.seize_shared.specs.Promises.{op_in}
 use Rattle.seize_shared.specs.declared.view.View.{View}
-use Rattle.seize_shared.specs.declared.view.View.TheVariants.{Rests, Registers, Outside, Enters, Inside, Leaves, Left, Frees}
+use Rattle.seize_shared.specs.declared.view.View.TheVariants.{Registers}
 use Rattle.seize_shared.specs.declared.view.Fixed.{Fixed}
 use Rattle.seize_shared.proofs.Moved.{moved, not_vacant, used_so}
-use Rattle.seize_shared.proofs.Quiet.{quiet_written, quiet_roomed}
 use Rattle.seize_shared.proofs.Steps.{reached, stepped}
-use Rattle.seize_shared.proofs.Operations.{may, enters, leaves, frees, slot_of}
+use Rattle.seize_shared.proofs.Operations.{may, slot_of}
 
 -- registering that has come so far goes on without entering, or the slot that it has taken was nobody's
 abbrev pub IsWell : (ℕ → Use) → Register × Progress ℕ → Type 0
@@ -50,12 +50,12 @@ well_taking : (uses : ℕ → Use) (c : Register) (seen : ℕ) (bucket : Option 
 well_taking uses c seen (Some bucket) short = (short, tt)
 well_taking uses c seen None short = (short, tt)
 
-module _ {T : Type 0} (defers : T → Option ℕ) (fixed : Fixed) (s : State T View (World T)) (id : ℕ) (c : Register) (h : Holds defers fixed s)
+module _ {T : Type 0} (defers : T → Option ℕ) (fixed : Fixed) (s : State T (View T) (World T)) (id : ℕ) (c : Register) (h : Holds defers fixed s)
     (at_id : view_of s id ≡ Some (Registers c)) where
   abbrev w : World T
   w = s.world
 
-  short : IsShort (Registers c)
+  short : IsShort {T = T} (Registers c)
   short = (h.seats id (Registers c) at_id).short
 
   -- so it is registered, and no section is open
@@ -68,7 +68,7 @@ module _ {T : Type 0} (defers : T → Option ℕ) (fixed : Fixed) (s : State T V
   outside at.Registered seeks = absurd seeks
   outside (at.Refused fault) seeks = absurd seeks
 
-  own : (m : Mem T) (d : Register) (o : Progress ℕ) → IsWell w.uses (d, o) → Fits fixed.batch_size (registers_on w id c m (d, o)) id (left_by (d, o))
+  own : (m : Mem T) (d : Register) (o : Progress ℕ) → IsWell w.uses (d, o) → Fits (registers_on w id c m (d, o)) id (left_by (d, o))
   own m d progress.Goes well = record { row = with_here w.row id (world.Registers d); slot = tt; short = well; known = tt }
   own m d progress.Waits well = record { row = with_here w.row id (world.Registers d); slot = tt; short = well; known = tt }
   own m d (progress.Done t) well = record {
@@ -81,7 +81,7 @@ module _ {T : Type 0} (defers : T → Option ℕ) (fixed : Fixed) (s : State T V
   own m d (progress.Refused fault) well = record { row = with_here w.row id world.Rests; slot = tt; short = tt; known = tt }
 
   lone : (d : Register) (o : Progress ℕ) → IsWell w.uses (d, o)
-      → (j t : ℕ) (x : View) (a b : Use) → j ≢ id → view_of s j ≡ Some x → use_of x ≡ Some (t, a) → use_of (left_by (d, o)) ≡ Some (t, b) → ⊥
+      → (j t : ℕ) (x : View T) (a b : Use) → j ≢ id → view_of s j ≡ Some x → use_of x ≡ Some (t, a) → use_of {T = T} (left_by (d, o)) ≡ Some (t, b) → ⊥
   lone d progress.Goes well j t x a b ne e p q = cc q
   lone d progress.Waits well j t x a b ne e p q = cc q
   lone d (progress.Done k) well j t x a b ne e p q =
@@ -90,12 +90,12 @@ module _ {T : Type 0} (defers : T → Option ℕ) (fixed : Fixed) (s : State T V
 
   -- a step of its plan that ends so
   goes : (op : Op T) (out : Out T) (m : Mem T) (end : Register × Progress ℕ) → Steps Took value_at w.memory (register_plan c) m end
-      → ComesTo (register_plan {T = T} c) out end → IsWell w.uses end → IsQuiet m → Goes (Holds defers fixed) Keeps s m id (told (Registers c) op out)
-  goes op out m end steps comes well quiet =
-      moved defers fixed s id (Registers c) (left_by end) m (registers_on w id c m end) (told (Registers c) op out) h at_id
+      → ComesTo (register_plan {T = T} c) out end → IsWell w.uses end → Goes (Holds defers fixed) Keeps s m id (told defers (Registers c) op out)
+  goes op out m end steps comes well =
+      moved defers fixed s id (Registers c) (left_by end) m (registers_on w id c m end) (told defers (Registers c) op out) h at_id
       (stepped defers fixed s id (Registers c) h at_id (left_by end) m (registers_on w id c m end) (m, end, steps, refl) (sym
       (registers_memory w id m c end.0 end.1))
-      (own m end.0 end.1 well) (lone end.0 end.1 well) quiet)
+      (own m end.0 end.1 well) (lone end.0 end.1 well))
       (end, comes, refl, (own m end.0 end.1 well).short)
 
   module _ (p : Registering) (stands : c.stands ≡ p) where
@@ -108,13 +108,13 @@ module _ {T : Type 0} (defers : T → Option ℕ) (fixed : Fixed) (s : State T V
     -- the step ends so after this answer
     goes_at : (op : Op T) (rest : Out T → Then T (Register × Progress ℕ)) (out : Out T) (m : Mem T) (end : Register × Progress ℕ) → P ≡ Do op rest
         → Took s.memory op out m
-        → ((shown : ℕ → Option T) → Ends shown (rest out) end) → IsWell w.uses end → IsQuiet m
-        → Goes (Holds defers fixed) Keeps s m id (told (Registers c) op out)
-    goes_at op rest out m end is took ends well quiet =
+        → ((shown : ℕ → Option T) → Ends shown (rest out) end) → IsWell w.uses end
+        → Goes (Holds defers fixed) Keeps s m id (told defers (Registers c) op out)
+    goes_at op rest out m end is took ends well =
         goes op out m end
         (subst (λ (q : Plan T (Register × Progress ℕ)). Steps Took value_at w.memory q m end) (sym plan_is)
         (out, subst (λ (x : Mem T). Took x op out m) h.memory took, ends (value_at m)))
-        (subst (λ (q : Plan T (Register × Progress ℕ)). ComesTo q out end) (sym plan_is) (s.memory, m, took, ends (value_at m))) well quiet
+        (subst (λ (q : Plan T (Register × Progress ℕ)). ComesTo q out end) (sym plan_is) (s.memory, m, took, ends (value_at m))) well
       where
         plan_is : register_plan {T = T} c ≡ Do op rest
         plan_is = ap (plan_at {T = T} c) stands ∙ is
@@ -138,14 +138,13 @@ module _ {T : Type 0} (defers : T → Option ℕ) (fixed : Fixed) (s : State T V
       free = fits.sees.free
 
   abbrev Gone : Op T → Out T → Mem T → Type 0
-  Gone op out m = Took s.memory op out m → Goes (Holds defers fixed) Keeps s m id (told (Registers c) op out)
+  Gone op out m = Took s.memory op out m → Goes (Holds defers fixed) Keeps s m id (told defers (Registers c) op out)
 
   begins : c.stands ≡ at.Begin → (out : Out T) (m : Mem T) → Gone (Room 0) out m
   begins e (Roomed (Ok made)) m took =
       goes_at at.Begin e (Room 0) (begun c) (Roomed (Ok made)) m (going c at.Look) refl took (λ shown. refl) (short.0, tt)
-      (subst IsQuiet (sym took.1) (quiet_roomed s.memory 0 h.quiet))
   begins e (Roomed (Err fault)) m took =
-      goes_at at.Begin e (Room 0) (begun c) (Roomed (Err fault)) m (refused c fault) refl took (λ shown. refl) tt (subst IsQuiet (sym took.1) h.quiet)
+      goes_at at.Begin e (Room 0) (begun c) (Roomed (Err fault)) m (refused c fault) refl took (λ shown. refl) tt
   begins e (Found x) m took = absurd took.0
   begins e Stored m took = absurd took.0
   begins e (Exchanged x) m took = absurd took.0
@@ -158,7 +157,6 @@ module _ {T : Type 0} (defers : T → Option ℕ) (fixed : Fixed) (s : State T V
       (bucket_needed c.slot) else further c) refl took (λ shown. refl)
       (well_either w.uses (can_be_taken head) (taking c head (bucket_needed c.slot)) (further c) (well_taking w.uses c head (bucket_needed c.slot) short.0)
       (well_further w.uses c short.0))
-      (subst IsQuiet (sym took.1) h.quiet)
   looks e Stored m took = absurd took.0
   looks e (Exchanged x) m took = absurd took.0
   looks e (Made x) m took = absurd took.0
@@ -168,10 +166,8 @@ module _ {T : Type 0} (defers : T → Option ℕ) (fixed : Fixed) (s : State T V
   widens : (bucket seen : ℕ) → c.stands ≡ at.Widen bucket seen → (out : Out T) (m : Mem T) → Gone (Room bucket) out m
   widens bucket seen e (Roomed (Ok made)) m took =
       goes_at (at.Widen bucket seen) e (Room bucket) (widened c seen) (Roomed (Ok made)) m (going c (at.Take seen)) refl took (λ shown. refl) (short.0, tt)
-      (subst IsQuiet (sym took.1) (quiet_roomed s.memory bucket h.quiet))
   widens bucket seen e (Roomed (Err fault)) m took =
-      goes_at (at.Widen bucket seen) e (Room bucket) (widened c seen) (Roomed (Err fault)) m (refused c fault) refl took (λ shown. refl) tt (subst IsQuiet
-      (sym took.1) h.quiet)
+      goes_at (at.Widen bucket seen) e (Room bucket) (widened c seen) (Roomed (Err fault)) m (refused c fault) refl took (λ shown. refl) tt
   widens bucket seen e (Found x) m took = absurd took.0
   widens bucket seen e Stored m took = absurd took.0
   widens bucket seen e (Exchanged x) m took = absurd took.0
@@ -182,10 +178,9 @@ module _ {T : Type 0} (defers : T → Option ℕ) (fixed : Fixed) (s : State T V
   takes seen e (Exchanged (Ok found)) m took =
       goes_at (at.Take seen) e (Exchange (Slot c.slot HEAD) seen IDLE) (taken c) (Exchanged (Ok found)) m (registered c) refl took (λ shown. rw short.0 refl)
       (vacant seen e (ap (λ (x : Mem T). word_at x (Slot c.slot HEAD)) (sym h.memory) ∙ took.0.0 ∙ ap Some took.0.1))
-      (subst IsQuiet (sym took.1) (quiet_written s.memory (Slot c.slot HEAD) IDLE (omega arith) (ap is_some took.0.0) h.quiet))
   takes seen e (Exchanged (Err found)) m took =
       goes_at (at.Take seen) e (Exchange (Slot c.slot HEAD) seen IDLE) (taken c) (Exchanged (Err found)) m (further c) refl took (λ shown. refl)
-      (well_further w.uses c short.0) (subst IsQuiet (sym took.1) h.quiet)
+      (well_further w.uses c short.0)
   takes seen e (Found x) m took = absurd took.0
   takes seen e Stored m took = absurd took.0
   takes seen e (Made x) m took = absurd took.0
@@ -213,20 +208,3 @@ module _ {T : Type 0} (defers : T → Option ℕ) (fixed : Fixed) (s : State T V
 
   pub registers : (op : Op T) → op_in (register_plan {T = T} c) ≡ Some op → Allowed op
   registers op is = by c.stands refl op is
-
-module _ (T : Type 0) (defers : T → Option ℕ) where
-  pub rows_go_on : RowsGoOn T defers
-  rows_go_on fixed id Rests op e s h at_id = absurd (cc e)
-  rows_go_on fixed id (Registers c) op e s h at_id = registers defers fixed s id c h at_id op e
-  rows_go_on fixed id (Outside t) op e s h at_id = absurd (cc e)
-  rows_go_on fixed id (Enters t) op e s h at_id =
-      subst (λ (o : Op T). Allows (Holds defers fixed) Keeps id (Enters t) o (told (Enters t) o)) (same_some (Store (Slot t HEAD) ACTIVE) op e)
-      (enters defers fixed id t) s h at_id
-  rows_go_on fixed id (Inside t has) op e s h at_id = absurd (cc e)
-  rows_go_on fixed id (Leaves t) op e s h at_id =
-      subst (λ (o : Op T). Allows (Holds defers fixed) Keeps id (Leaves t) o (told (Leaves t) o)) (same_some (Swap (Slot t HEAD) IDLE) op e)
-      (leaves defers fixed id t) s h at_id
-  rows_go_on fixed id (Left t) op e s h at_id = absurd (cc e)
-  rows_go_on fixed id (Frees t) op e s h at_id =
-      subst (λ (o : Op T). Allows (Holds defers fixed) Keeps id (Frees t) o (told (Frees t) o)) (same_some (Store (Slot t HEAD) FREE) op e)
-      (frees defers fixed id t) s h at_id

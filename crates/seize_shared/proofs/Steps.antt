@@ -1,12 +1,15 @@
 -- A row that begins, and a step of one, as what a seat has done.
-use Rattle.std.specs.Prelude.{◌≢◌, ◌++◌, Option, Some}
-use Rattle.std.proofs.Common.{◌≡◌, ℕ, ◌+◌, List, [], ◌∷◌, refl, sym, subst, ap, ◌∙◌, arith}
-use Rattle.seize_words.specs.Mem.{Mem}
+use Rattle.std.specs.Prelude.{◌≢◌, ◌++◌, Option, Some, IsSome, length, slice_get}
+use Rattle.std.proofs.Common.{◌≡◌, ℕ, ◌+◌, List, [], ◌∷◌, ◌⊎◌, inl, inr, refl, sym, subst, ap, ◌∙◌, arith}
+use Rattle.std.proofs.lemmas.Bool.{cases_eq}
+use Rattle.seize_words.specs.Mem.{Mem, value_at}
+use Rattle.seize_words.specs.Word.{block_in}
 use Rattle.seize.specs.declared.states.TheConstants.{LAST_SLOT}
 use Rattle.seize.specs.declared.rows.register.Registering.{Registering}
 use Rattle.seize.specs.declared.rows.register.Registering.TheVariants as at
+use Rattle.seize.specs.Sequence.{taken_in}
 use Rattle.seize.specs.Law.{Effect, Entered, Left as LeftSlot, Made, Linked, Unlinked, Deferred, Retired, Taken, Dropped, Ended, LeftOver, holds, is_over}
-use Rattle.seize.specs.World.{World, Row, Use, Hand, Vacant, Event, Begin, Step, Request, Steps', Happens, Runs, IsInside, at_start}
+use Rattle.seize.specs.World.{World, Row, Use, Hand, Vacant, Event, Begin, Step, Request, Steps', Happens, Runs, at_start, times}
 use Rattle.seize.specs.World as world
 use Rattle.seize_rule.proofs.World.Start.{start_good}
 use Rattle.seize_rule.proofs.Rows.Effects.{IsOneStep}
@@ -14,14 +17,13 @@ use Rattle.seize_rule.proofs.Rows.Known.{works_on, registering_on}
 use Rattle.seize_alone.specs.Alone.{IsOfUsers}
 use Rattle.seize_alone.proofs.Spared.Rows.{RowStepped}
 use Rattle.seize_alone.proofs.Histories.Reached.{Reached, runs_reached}
-use Rattle.seize_alone.proofs.Histories.NotTaken.{IsHad, still_held, kept_hand, did}
+use Rattle.seize_alone.proofs.Histories.NotTaken.{IsHad, still_held, kept_hand, taken_gone, did}
 use Rattle.seize_alone.proofs.Histories.Uses.{uses_kept}
 use Rattle.seize_seats.specs.State.{State, view_of}
-use Rattle.seize_shared.specs.Rows.{row_of, use_of, IsSeeking, IsShort, IsUsed, IsKnown, IsQuiet, Fits, Came, Holds}
+use Rattle.seize_shared.specs.Rows.{row_of, use_of, IsSeeking, IsShort, IsUsed, RootsNameLinked, Fits, Came, Holds}
 use Rattle.seize_shared.specs.declared.view.View.{View}
-use Rattle.seize_shared.specs.declared.view.View.TheVariants.{Rests, Registers, Outside, Enters, Inside, Leaves, Left, Frees}
-use Rattle.seize_shared.specs.declared.view.Has.{Has}
-use Rattle.seize_shared.specs.declared.view.Has.TheVariants.{Nothing, Made as HasMade}
+use Rattle.seize_shared.specs.declared.view.View.TheVariants.{Rests, Registers, Outside, Enters, Inside, Settles, Leaves, Left, Frees}
+use Rattle.seize_shared.specs.declared.view.Why.TheVariants.{Retiring, Ending}
 use Rattle.seize_shared.specs.declared.view.Fixed.{Fixed}
 use Rattle.seize_shared.proofs.Moved.{Moved, not_vacant, used_so, still_used}
 
@@ -42,9 +44,9 @@ not_over b (Ended o ∷ []) log one = absurd one
 not_over b (LeftOver c further ∷ []) log one = absurd one
 
 -- a row of a seat works on no slot but the seat's
-works_on_own : (size : ℕ) (v : View) → IsShort v → (t : ℕ) → works_on (row_of size v) ≡ t + 1 → (a : Use) × (use_of v ≡ Some (t, a))
-works_on_own size Rests short t e = absurd (omega (arith, e))
-works_on_own size (Registers c) short t e = absurd (by c.stands short.1 e)
+works_on_own : {T : Type 0} (v : View T) → IsShort v → (t : ℕ) → works_on (row_of v) ≡ t + 1 → (a : Use) × (use_of v ≡ Some (t, a))
+works_on_own Rests short t e = absurd (omega (arith, e))
+works_on_own (Registers c) short t e = absurd (by c.stands short.1 e)
   where
     by : (p : Registering) → IsSeeking p → registering_on c.slot p ≡ t + 1 → ⊥
     by at.Begin seeks f = omega (arith, f)
@@ -54,12 +56,28 @@ works_on_own size (Registers c) short t e = absurd (by c.stands short.1 e)
     by at.Enter seeks f = seeks
     by at.Registered seeks f = seeks
     by (at.Refused fault) seeks f = seeks
-works_on_own size (Outside s) short t e = absurd (omega (arith, e))
-works_on_own size (Enters s) short t e = (world.Changing, ap (λ (k : ℕ). Some (k, world.Changing)) (omega (arith, e)))
-works_on_own size (Inside s has) short t e = absurd (omega (arith, e))
-works_on_own size (Leaves s) short t e = (world.Changing, ap (λ (k : ℕ). Some (k, world.Changing)) (omega (arith, e)))
-works_on_own size (Left s) short t e = (world.Changing, ap (λ (k : ℕ). Some (k, world.Changing)) (omega (arith, e)))
-works_on_own size (Frees s) short t e = (world.Changing, ap (λ (k : ℕ). Some (k, world.Changing)) (omega (arith, e)))
+works_on_own (Outside s) short t e = absurd (omega (arith, e))
+works_on_own (Enters s) short t e = (world.Changing, ap (λ (k : ℕ). Some (k, world.Changing)) (omega (arith, e)))
+works_on_own (Inside s has) short t e = absurd (omega (arith, e))
+works_on_own (Settles c Retiring seen) short t e = (world.Inside 1, ap (λ (k : ℕ). Some (k, world.Inside 1)) (omega (arith, e)))
+works_on_own (Settles c (Ending size) seen) short t e = (world.Changing, ap (λ (k : ℕ). Some (k, world.Changing)) (omega (arith, e)))
+works_on_own (Leaves s size) short t e = (world.Changing, ap (λ (k : ℕ). Some (k, world.Changing)) (omega (arith, e)))
+works_on_own (Left s size) short t e = (world.Changing, ap (λ (k : ℕ). Some (k, world.Changing)) (omega (arith, e)))
+works_on_own (Frees s) short t e = (world.Changing, ap (λ (k : ℕ). Some (k, world.Changing)) (omega (arith, e)))
+
+-- what is in a seat's hand is some caller's
+pub of_users : (hand : ℕ → Hand) (b : ℕ) (k : Hand) → IsOfUsers k → hand b ≡ k → IsOfUsers (hand b)
+of_users hand b k is e = subst IsOfUsers (sym e) is
+
+module _ {T : Type 0} where
+  -- the roots are as they were, and what was linked at them is
+  pub roots_kept : (m m2 : Mem T) (hand hand2 : ℕ → Hand) → m2.roots ≡ m.roots → ((b r : ℕ) → hand b ≡ world.InUse r → hand2 b ≡ world.InUse r)
+      → RootsNameLinked m hand → RootsNameLinked m2 hand2
+  roots_kept m m2 hand hand2 same linked named r word e =
+      elim (named r word (subst (λ (l : List ℕ). slice_get l r ≡ Some word) same e)) as (λ _. (block_in word ≡ 0) ⊎ (hand2 (block_in word) ≡ world.InUse r)) [
+        | inl none ↦ inl none
+        | inr is ↦ inr (linked (block_in word) r is)
+      ]
 
 module _ {T : Type 0} (defers : T → Option ℕ) (fixed : Fixed) where
   abbrev size : ℕ
@@ -79,94 +97,71 @@ module _ {T : Type 0} (defers : T → Option ℕ) (fixed : Fixed) where
   pub came_then : (w n : World T) (e : Event T) → Came defers fixed w → Happens defers size e w n → Came defers fixed n
   came_then w n e came step = (came.0 ++ e ∷ [], runs_then came.0 (at_start defers fixed.roots) w n e came.1 step)
 
-module _ {T : Type 0} where
-  -- what is in a seat's hand is some caller's
-  pub of_users : (w : World T) (b : ℕ) (k : Hand) → IsOfUsers k → w.hand b ≡ k → IsOfUsers (w.hand b)
-  of_users w b k is e = subst IsOfUsers (sym e) is
-
-  -- where no hand has changed a seat knows what it knew
-  pub same_hands : (w n : World T) (j : ℕ) (x : View) → n.hand ≡ w.hand → IsKnown w j x → IsKnown n j x
-  same_hands w n j (Inside t Nothing) e is = tt
-  same_hands w n j (Inside t (HasMade b)) e is = ap (λ (f : ℕ → Hand). f b) e ∙ is
-  same_hands w n j Rests e is = tt
-  same_hands w n j (Registers c) e is = tt
-  same_hands w n j (Outside t) e is = tt
-  same_hands w n j (Enters t) e is = tt
-  same_hands w n j (Leaves t) e is = tt
-  same_hands w n j (Left t) e is = tt
-  same_hands w n j (Frees t) e is = tt
-
-module _ {T : Type 0} (defers : T → Option ℕ) (fixed : Fixed) where
-  -- after a step of another seat's row, too
-  pub step_known : (w : World T) (r : Reached defers fixed.batch_size w) (i : ℕ) (n : World T) (step : Steps' defers i (w.row i) w n) (j : ℕ) (x : View)
-      → IsKnown w j x → IsKnown n j x
-  step_known w r i n step j (Inside t Nothing) is = tt
-  step_known w r i n step j (Inside t (HasMade b)) is =
-      kept_hand defers fixed.batch_size w r i n step b (IsHad (of_users w b (world.Making j) tt is)) ∙ is
-  step_known w r i n step j Rests is = tt
-  step_known w r i n step j (Registers c) is = tt
-  step_known w r i n step j (Outside t) is = tt
-  step_known w r i n step j (Enters t) is = tt
-  step_known w r i n step j (Leaves t) is = tt
-  step_known w r i n step j (Left t) is = tt
-  step_known w r i n step j (Frees t) is = tt
-
-module _ {T : Type 0} (defers : T → Option ℕ) (fixed : Fixed) (s : State T View (World T)) (id : ℕ) (v : View) (h : Holds defers fixed s)
+module _ {T : Type 0} (defers : T → Option ℕ) (fixed : Fixed) (s : State T (View T) (World T)) (id : ℕ) (v : View T) (h : Holds defers fixed s)
     (at_id : view_of s id ≡ Some v) where
   abbrev w : World T
   w = s.world
 
   -- the other seats have their slots as before
-  others : (n : World T) → ((t : ℕ) → (w.uses t ≡ Vacant → ⊥) → ((a : Use) → use_of v ≡ Some (t, a) → ⊥) → n.uses t ≡ w.uses t)
-      → (j : ℕ) (x : View) → j ≢ id → view_of s j ≡ Some x → IsUsed n (use_of x)
+  pub others : (n : World T) → ((t : ℕ) → (w.uses t ≡ Vacant → ⊥) → ((a : Use) → use_of v ≡ Some (t, a) → ⊥) → n.uses t ≡ w.uses t)
+      → (j : ℕ) (x : View T) → j ≢ id → view_of s j ≡ Some x → IsUsed n (use_of x)
   others n same j x ne e =
       let f = h.seats j x e in
       still_used w n (use_of x) f.slot (λ t a k. same t (λ z. not_vacant x t a k (sym (used_so w (use_of x) t a f.slot k)
       ∙ z)) (λ b l. ne (h.apart j id t a b x v e at_id k l)))
 
   -- a slot that is the seat's already is nobody else's
-  pub alone : (u : View) → ((t : ℕ) (b : Use) → use_of u ≡ Some (t, b) → (a : Use) × (use_of v ≡ Some (t, a)))
-      → (j t : ℕ) (x : View) (a b : Use) → j ≢ id → view_of s j ≡ Some x → use_of x ≡ Some (t, a) → use_of u ≡ Some (t, b) → ⊥
+  pub alone : (u : View T) → ((t : ℕ) (b : Use) → use_of u ≡ Some (t, b) → (a : Use) × (use_of v ≡ Some (t, a)))
+      → (j t : ℕ) (x : View T) (a b : Use) → j ≢ id → view_of s j ≡ Some x → use_of x ≡ Some (t, a) → use_of u ≡ Some (t, b) → ⊥
   alone u stays j t x a b ne e p q = let k = stays t b q in ne (h.apart j id t a k.0 x v e at_id p k.1)
 
-  pub begun : (request : Request) (u : View) (n : World T) → Happens defers fixed.batch_size (Begin id request) w n → n.memory ≡ w.memory → n.log ≡ w.log → n.hand ≡ w.hand
-      → ((j : ℕ) → j ≢ id → n.row j ≡ w.row j) → ((t : ℕ) → ((a : Use) → use_of v ≡ Some (t, a) → ⊥) → n.uses t ≡ w.uses t) → Fits fixed.batch_size n id u
+  -- the roots are in the world what they are in the memory
+  pub world_roots : RootsNameLinked w.memory w.hand
+  world_roots = subst (λ (m : Mem T). RootsNameLinked m w.hand) h.memory h.roots
+
+  pub world_rooted : length w.memory.roots ≡ fixed.roots
+  world_rooted = subst (λ (m : Mem T). length m.roots ≡ fixed.roots) h.memory h.rooted
+
+  pub begun : (request : Request) (u : View T) (n : World T) → Happens defers fixed.batch_size (Begin id request) w n → n.memory ≡ w.memory → n.log ≡ w.log
+      → ((j b : ℕ) → j ≢ id → (w.hand b ≡ world.Making j → n.hand b ≡ world.Making j) × (w.hand b ≡ world.Cutting j → n.hand b ≡ world.Cutting j))
+      → ((b r : ℕ) → w.hand b ≡ world.InUse r → n.hand b ≡ world.InUse r)
+      → ((j : ℕ) → j ≢ id → n.row j ≡ w.row j) → ((t : ℕ) → ((a : Use) → use_of v ≡ Some (t, a) → ⊥) → n.uses t ≡ w.uses t) → Fits n id u
       → ((t : ℕ) (b : Use) → use_of u ≡ Some (t, b) → (a : Use) × (use_of v ≡ Some (t, a))) → Moved defers fixed s id u s.memory n
-  begun request u n happens memory log hand rows uses own stays = record {
+  begun request u n happens memory log hands linked rows uses own stays = record {
     came = came_then defers fixed w n (Begin id request) h.came happens;
     memory = h.memory ∙ sym memory;
     rows = rows;
     own = own;
     others = others n (λ t used. uses t);
-    known = λ j x ne e. same_hands w n j x hand (h.seats j x e).known;
     alone = alone u stays;
-    quiet = h.quiet;
-    kept = λ j b x o ne e keeps. (keeps.0, keeps.1, keeps.2, ap (holds keeps.0 b) log ∙ keeps.3, ap (is_over b) log ∙ keeps.4);
+    hands = hands;
+    values = λ b some some2. ap (λ (m : Mem T). value_at m b) memory;
+    held = λ t b inside held. ap (holds t b) log ∙ held;
+    over = λ t b held. ap (is_over b) log;
+    roots = roots_kept s.memory s.memory w.hand n.hand refl linked h.roots;
+    rooted = h.rooted;
   }
 
-  pub stepped : (u : View) (m : Mem T) (n : World T) → Steps' defers id (row_of fixed.batch_size v) w n → m ≡ n.memory → Fits fixed.batch_size n id u
-      → ((j t : ℕ) (x : View) (a b : Use) → j ≢ id → view_of s j ≡ Some x → use_of x ≡ Some (t, a) → use_of u ≡ Some (t, b) → ⊥) → IsQuiet m
+  pub stepped : (u : View T) (m : Mem T) (n : World T) → Steps' defers id (row_of v) w n → m ≡ n.memory → Fits n id u
+      → ((j t : ℕ) (x : View T) (a b : Use) → j ≢ id → view_of s j ≡ Some x → use_of x ≡ Some (t, a) → use_of u ≡ Some (t, b) → ⊥)
       → Moved defers fixed s id u m n
-  stepped u m n taken memory own lone quiet = record {
+  stepped u m n taken memory own lone = record {
     came = came_then defers fixed w n (Step id) h.came step;
     memory = memory;
     rows = d.rows;
     own = own;
     others = others n (λ t used apart. uses_kept defers fixed.batch_size w r id n step t used
-        (λ on. let k = works_on_own fixed.batch_size v fit.short t (sym (ap works_on fit.row) ∙ on) in apart k.0 k.1));
-    known = λ j x ne e. step_known defers fixed w r id n step j x (h.seats j x e).known;
+        (λ on. let k = works_on_own v fit.short t (sym (ap works_on fit.row) ∙ on) in apart k.0 k.1));
     alone = lone;
-    quiet = quiet;
-    kept = λ j b x o ne e keeps. (
-      keeps.0,
-      keeps.1,
-      keeps.2,
-      still_held defers fixed.batch_size w r id n step keeps.0 b (inside j x keeps.0 keeps.1 e keeps.2) keeps.3,
-      ap (is_over b) d.logged ∙ not_over b d.effects w.log d.one ∙ keeps.4,
-    );
+    hands = λ j b ne. (λ is. kept b (world.Making j) tt is, λ is. kept b (world.Cutting j) tt is);
+    values = λ b some some2. value b some2 (cases_eq (times b (taken_in d.effects)) 0);
+    held = λ t b inside held. still_held defers fixed.batch_size w r id n step t b inside held;
+    over = λ t b held. ap (is_over b) d.logged ∙ not_over b d.effects w.log d.one;
+    roots = roots_kept w.memory m w.hand n.hand same_roots (λ b r is. kept b (world.InUse r) tt is) world_roots;
+    rooted = ap length same_roots ∙ world_rooted;
   }
     where
-      fit : Fits fixed.batch_size w id v
+      fit : Fits w id v
       fit = h.seats id v at_id
 
       r : Reached defers fixed.batch_size w
@@ -178,5 +173,13 @@ module _ {T : Type 0} (defers : T → Option ℕ) (fixed : Fixed) (s : State T V
       d : RowStepped defers id w n
       d = did defers fixed.batch_size w r id n step
 
-      inside : (j : ℕ) (x : View) (t : ℕ) (has : Has) → view_of s j ≡ Some x → x ≡ Inside t has → IsInside (w.uses t)
-      inside j x t has e k = subst (λ (a : Use). IsInside a) (sym (used_so w (use_of x) t (world.Inside 0) (h.seats j x e).slot (ap use_of k))) tt
+      kept : (b : ℕ) (k : Hand) → IsOfUsers k → w.hand b ≡ k → n.hand b ≡ k
+      kept b k is e = kept_hand defers fixed.batch_size w r id n step b (IsHad (of_users w.hand b k is e)) ∙ e
+
+      same_roots : m.roots ≡ w.memory.roots
+      same_roots = ap (λ (x : Mem T). x.roots) memory ∙ d.frames.roots
+
+      value : (b : ℕ) → IsSome (value_at n.memory b) → (times b (taken_in d.effects) ≡ 0) ⊎ (times b (taken_in d.effects) ≢ 0)
+          → value_at n.memory b ≡ value_at w.memory b
+      value b some (inl e) = d.frames.values b e
+      value b some (inr ne) = let none = taken_gone defers fixed.batch_size w r id n step b ne in absurd (cc (some, none))

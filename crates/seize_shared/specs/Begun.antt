@@ -1,30 +1,47 @@
 -- What a seat knows once a row of it has begun, or ended, without an operation.
-use Rattle.std.specs.Prelude.{◌≡◌, false}
+use Rattle.std.specs.Prelude.{◌≡◌, false, None}
+use Rattle.seize_words.specs.Word.{link_to}
 use Rattle.seize.specs.declared.rows.register.Registering.TheVariants as at
+use Rattle.seize.specs.Settle.{retiring, flushing}
 use Rattle.seize_shared.specs.declared.view.View.{View}
-use Rattle.seize_shared.specs.declared.view.View.TheVariants.{Rests, Registers, Outside, Enters, Inside, Leaves, Left, Frees}
-use Rattle.seize_shared.specs.declared.view.Has.TheVariants.{Nothing}
+use Rattle.seize_shared.specs.declared.view.View.TheVariants.{Rests, Registers, Outside, Enters, Inside, Settles, Leaves, Left, Frees}
+use Rattle.seize_shared.specs.declared.view.Has.TheVariants.{Nothing, Seen, Cut}
+use Rattle.seize_shared.specs.declared.view.Why.TheVariants.{Retiring, Ending}
+use Rattle.seize_shared.specs.declared.view.Fixed.{Fixed}
 
-abbrev pub registering : View → View
-registering Rests = Registers record { slot = 0; enters = false; stands = at.Begin }
-registering v = v
+module _ {T : Type 0} (fixed : Fixed) where
+  abbrev pub registering : View T → View T
+  registering Rests = Registers record { slot = 0; enters = false; stands = at.Begin }
+  registering v = v
 
-abbrev pub entering : View → View
-entering (Outside t) = Enters t
-entering v = v
+  abbrev pub entering : View T → View T
+  entering (Outside t) = Enters t
+  entering v = v
 
-abbrev pub leaving : View → View
-leaving (Inside t Nothing) = Leaves t
-leaving v = v
+  abbrev pub retires : View T → View T
+  retires (Inside t (Cut b)) = Settles (retiring t fixed.batch_size (link_to b)) Retiring None
+  retires v = v
 
-abbrev pub ended : View → View
-ended (Left t) = Outside t
-ended v = v
+  abbrev pub flushes : View T → View T
+  flushes (Inside t Nothing) = Settles (flushing t fixed.batch_size) Retiring None
+  flushes (Inside t (Seen b)) = Settles (flushing t fixed.batch_size) Retiring None
+  flushes v = v
 
-abbrev pub freeing : View → View
-freeing (Outside t) = Frees t
-freeing v = v
+  abbrev pub leaving : View T → View T
+  leaving (Inside t Nothing) = Leaves t fixed.batch_size
+  leaving (Inside t (Seen b)) = Leaves t fixed.batch_size
+  leaving v = v
+
+  abbrev pub ended : View T → View T
+  ended (Settles c Retiring seen) = Inside c.slot Nothing
+  ended (Settles c (Ending size) seen) = Left c.slot size
+  ended (Left t size) = Outside t
+  ended v = v
+
+  abbrev pub freeing : View T → View T
+  freeing (Outside t) = Frees t
+  freeing v = v
 
 -- a turn that makes this of a view
-abbrev pub Makes : (View → View) → View → View → Type 0
-Makes f v u = u ≡ f v
+abbrev pub Makes : {T : Type 0} → (Fixed → View T → View T) → Fixed → View T → View T → Type 0
+Makes f fixed v u = u ≡ f fixed v

@@ -1,4 +1,6 @@
 pub mod Rows
+pub mod Told
 pub mod Promises
 pub mod Begun
 pub mod Seeking
+pub mod Made

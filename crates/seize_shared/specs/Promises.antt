@@ -1,17 +1,26 @@
--- What is promised of the rule: it may start, seats may come, and each row may begin, go on and end, whatever the other seats do.
-use Rattle.std.specs.Prelude.{◌≡◌, ◌⊎◌, ℕ, false, Option, Some, None}
-use Rattle.seize_words.specs.Op.{Op, Store, Swap, Make, Take}
+-- What is promised of the rule: it may start, seats may come, and each row may begin, go on and end, whatever the other seats do; and what a seat may do with
+-- blocks within its section.
+use Rattle.std.specs.Prelude.{◌≡◌, ◌<◌, ◌⊎◌, ℕ, false, Option, Some, None}
+use Rattle.seize_words.specs.Word.{link_to}
+use Rattle.seize_words.specs.Op.{Op, Load, Store, Swap, Make, Take}
 use Rattle.seize_words.specs.Plan.{Plan, Turn, Do}
-use Rattle.seize_words.specs.declared.at.At.TheVariants.{Slot}
+use Rattle.seize_words.specs.declared.at.At.TheVariants.{Root, Slot}
 use Rattle.seize.specs.declared.states.TheConstants.{HEAD, FREE, IDLE, ACTIVE}
 use Rattle.seize.specs.declared.rows.register.Registering.TheVariants as at
+use Rattle.seize.specs.declared.rows.settle.Settling.TheVariants as settling_at
+use Rattle.seize.specs.declared.rows.settle.Settle.{Settle}
 use Rattle.seize.specs.Register.{register_plan}
-use Rattle.seize_seats.specs.Lendings.{Shown}
+use Rattle.seize.specs.Settle.{retiring, flushing, settle_plan}
+use Rattle.seize_seats.specs.Lendings.{Shown, IsValueOf}
 use Rattle.seize_seats.specs.State.{Starts, Comes, Allows, Turns}
-use Rattle.seize_shared.specs.Rows.{Holds, Keeps, told}
+use Rattle.seize_shared.specs.Rows.{Holds, Keeps}
+use Rattle.seize_shared.specs.Told.{told}
 use Rattle.seize_shared.specs.declared.view.View.{View}
-use Rattle.seize_shared.specs.declared.view.View.TheVariants.{Rests, Registers, Outside, Enters, Inside, Leaves, Left, Frees}
-use Rattle.seize_shared.specs.declared.view.Has.TheVariants.{Nothing, Made}
+use Rattle.seize_shared.specs.declared.view.View.TheVariants.{Rests, Registers, Outside, Enters, Inside, Settles, Leaves, Left, Frees}
+use Rattle.seize_shared.specs.declared.view.Has.{Has}
+use Rattle.seize_shared.specs.declared.view.Has.TheVariants.{Nothing, Made, Seen, Cut}
+use Rattle.seize_shared.specs.declared.view.Why.{Why}
+use Rattle.seize_shared.specs.declared.view.Why.TheVariants.{Retiring, Ending}
 use Rattle.seize_shared.specs.declared.view.Fixed.{Fixed}
 
 -- the operation of a step, if it makes one
@@ -19,21 +28,44 @@ abbrev pub op_in : {T R : Type 0} → Plan T R → Option (Op T)
 op_in (Turn rest) = None
 op_in (Do op rest) = Some op
 
--- the next operation of the row of a seat
-abbrev pub op_of : {T : Type 0} → View → Option (Op T)
-op_of {T} (Registers c) = op_in (register_plan {T = T} c)
-op_of (Enters t) = Some (Store (Slot t HEAD) ACTIVE)
-op_of (Leaves t) = Some (Swap (Slot t HEAD) IDLE)
-op_of (Frees t) = Some (Store (Slot t HEAD) FREE)
-op_of _ = None
+module _ {T : Type 0} (defers : T → Option ℕ) where
+  -- the next operation of the row of a seat
+  abbrev pub op_of : View T → Option (Op T)
+  op_of (Registers c) = op_in (register_plan {T = T} c)
+  op_of (Enters t) = Some (Store (Slot t HEAD) ACTIVE)
+  op_of (Settles c why seen) = op_in (settle_plan defers c)
+  op_of (Leaves t size) = Some (Swap (Slot t HEAD) IDLE)
+  op_of (Frees t) = Some (Store (Slot t HEAD) FREE)
+  op_of _ = None
+
+-- within a section of this slot a seat that has no block in its hand may begin to leave, or to try its batch
+abbrev pub IsFree : {T : Type 0} → Fixed → ℕ → View T → Type 0
+IsFree fixed t u = (u ≡ Leaves t fixed.batch_size) ⊎ (u ≡ Settles (flushing t fixed.batch_size) Retiring None)
 
 -- what a seat may come to know without an operation: a row begins, or ends
-abbrev pub IsNext : View → View → Type 0
-IsNext Rests u = u ≡ Registers record { slot = 0; enters = false; stands = at.Begin }
-IsNext (Outside t) u = (u ≡ Enters t) ⊎ (u ≡ Frees t)
-IsNext (Inside t Nothing) u = u ≡ Leaves t
-IsNext (Left t) u = u ≡ Outside t
-IsNext _ u = ⊥
+abbrev pub IsNext : {T : Type 0} → Fixed → View T → View T → Type 0
+IsNext fixed Rests u = u ≡ Registers record { slot = 0; enters = false; stands = at.Begin }
+IsNext fixed (Outside t) u = (u ≡ Enters t) ⊎ (u ≡ Frees t)
+IsNext fixed (Inside t Nothing) u = IsFree fixed t u
+IsNext fixed (Inside t (Seen b)) u = IsFree fixed t u
+IsNext fixed (Inside t (Cut b)) u = u ≡ Settles (retiring t fixed.batch_size (link_to b)) Retiring None
+IsNext fixed (Settles c Retiring seen) u = (c.stands ≡ settling_at.Over) × (u ≡ Inside c.slot Nothing)
+IsNext fixed (Settles c (Ending size) seen) u = (c.stands ≡ settling_at.Over) × (u ≡ Left c.slot size)
+IsNext fixed (Left t size) u = u ≡ Outside t
+IsNext fixed _ u = ⊥
+
+-- the block that is known
+abbrev pub Names : Has → ℕ → Type 0
+Names Nothing b = ⊥
+Names (Made c) b = c ≡ b
+Names (Seen c) b = c ≡ b
+Names (Cut c) b = c ≡ b
+
+-- a block was seen, or none is known
+abbrev pub IsLooking : Has → Type 0
+IsLooking Nothing = Unit {0}
+IsLooking (Seen b) = Unit {0}
+IsLooking _ = ⊥
 
 module _ (T : Type 0) (defers : T → Option ℕ) where
   -- The promise: the rule may start, whatever is chosen.
@@ -46,21 +78,45 @@ module _ (T : Type 0) (defers : T → Option ℕ) where
 
   -- the next operation of the row of a seat may be made at any moment
   abbrev pub RowsGoOn : Type 0
-  RowsGoOn = (fixed : Fixed) (id : ℕ) (v : View) (op : Op T) → op_of v ≡ Some op → Allows (Holds defers fixed) Keeps id v op (told v op)
+  RowsGoOn = (fixed : Fixed) (id : ℕ) (v : View T) (op : Op T) → op_of defers v ≡ Some op → Allows (Holds defers fixed) Keeps id v op (told defers v op)
 
   -- and rows begin and end
   abbrev pub RowsTurn : Type 0
-  RowsTurn = (fixed : Fixed) (id : ℕ) (v u : View) → IsNext v u → Turns (Holds defers fixed) Keeps id v (λ x. x ≡ u)
+  RowsTurn = (fixed : Fixed) (id : ℕ) (v u : View T) → IsNext fixed v u → Turns (Holds defers fixed) Keeps id v (λ x. x ≡ u)
 
-  -- within a section a block may be made of a value that keeps no list, by a seat that has none
+  -- within a section of a slot this operation may be made by a seat that knows of this block
+  abbrev pub MayInside : Has → Op T → Type 0
+  MayInside has op = (fixed : Fixed) (id t : ℕ) → Allows (Holds defers fixed) Keeps id (Inside t has) op (told defers (Inside t has) op)
+
+  -- a block of a value that keeps no list may be made, and taken away by whoever has made it
   abbrev pub BlocksAreMade : Type 0
-  BlocksAreMade =
-      (fixed : Fixed) (id t words : ℕ) (value : T) → defers value ≡ None
-      → Allows (Holds defers fixed) Keeps id (Inside t Nothing) (Make value words) (told (Inside t Nothing) (Make value words))
-
-  -- and whoever has made it may look at it, and take it away
-  abbrev pub MadeAreShown : Type 0
-  MadeAreShown = (fixed : Fixed) (id t b : ℕ) → Shown (Holds defers fixed) id (Inside t (Made b)) b
+  BlocksAreMade = (value : T) (words : ℕ) → defers value ≡ None → MayInside Nothing (Make value words)
 
   abbrev pub MadeAreTaken : Type 0
-  MadeAreTaken = (fixed : Fixed) (id t b : ℕ) → Allows (Holds defers fixed) Keeps id (Inside t (Made b)) (Take b) (told (Inside t (Made b)) (Take b))
+  MadeAreTaken = (b : ℕ) → MayInside (Made b) (Take b)
+
+  -- it may be put at a root, in place of what is there; what a root names may be seen, and taken from there
+  abbrev pub MadeAreLinked : Type 0
+  MadeAreLinked =
+      (b r : ℕ) (fixed : Fixed) (id t : ℕ) → r < fixed.roots
+      → Allows (Holds defers fixed) Keeps id (Inside t (Made b)) (Swap (Root r) (link_to b)) (told defers (Inside t (Made b)) (Swap (Root r) (link_to b)))
+
+  abbrev pub RootsAreSeen : Type 0
+  RootsAreSeen =
+      (has : Has) (r : ℕ) (fixed : Fixed) (id t : ℕ) → IsLooking has → r < fixed.roots
+      → Allows (Holds defers fixed) Keeps id (Inside t has) (Load (Root r)) (told defers (Inside t has) (Load (Root r)))
+
+  abbrev pub RootsAreCleared : Type 0
+  RootsAreCleared =
+      (r : ℕ) (fixed : Fixed) (id t : ℕ) → r < fixed.roots
+      → Allows (Holds defers fixed) Keeps id (Inside t Nothing) (Swap (Root r) 0) (told defers (Inside t Nothing) (Swap (Root r) 0))
+
+  -- and the block that a seat knows of is there
+  abbrev pub KnownAreShown : Type 0
+  KnownAreShown = (has : Has) (b : ℕ) (fixed : Fixed) (id t : ℕ) → Names has b → Shown (Holds defers fixed) id (Inside t has) b
+
+  -- as is the one that a settling is to look at, with the value that was told
+  abbrev pub LookedAreShown : Type 0
+  LookedAreShown =
+      (fixed : Fixed) (id : ℕ) (c : Settle) (why : Why) (b : ℕ) (x : T) → Shown (Holds defers fixed) id (Settles c why (Some (b, x))) b
+      × ((y : T) → IsValueOf (Holds defers fixed) id (Settles c why (Some (b, x))) b y → y ≡ x)

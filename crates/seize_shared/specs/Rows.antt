@@ -1,48 +1,69 @@
--- The rule of the collector's rows: there is a world that came about, of which the memory is that of the state; each seat knows its row there, and its slot.
-use Rattle.std.specs.Prelude.{◌≡◌, ℕ, ◌≤◌, true, false, List, Option, Some, None, Ok, Err}
-use Rattle.seize_words.specs.Mem.{Mem, Took, value_at, word_at}
-use Rattle.seize_words.specs.Op.{Op, Out, Make, Take, Made as OutMade, Taken}
-use Rattle.seize_words.specs.Plan.{Plan, Turn, Do, Ends}
-use Rattle.seize_words.specs.declared.at.At.TheVariants.{Slot}
-use Rattle.seize.specs.declared.states.TheConstants.{HEAD, IDLE, ACTIVE}
-use Rattle.seize.specs.declared.progress.Progress.{Progress}
-use Rattle.seize.specs.declared.progress.Progress.TheVariants as progress
-use Rattle.seize.specs.declared.rows.register.Register.{Register}
+-- The rule of the collector's rows: there is a world that came about, of which the memory is that of the state; each seat knows its row there, its slot, and a
+-- block; and what a root names is there.
+use Rattle.std.specs.Prelude.{◌≡◌, ℕ, true, false, List, Option, Some, None, length, ◌⊎◌}
+use Rattle.seize_words.specs.Mem.{Mem, value_at, word_at}
+use Rattle.seize_words.specs.Word.{block_in}
+use Rattle.seize_words.specs.declared.at.At.TheVariants.{Root}
+use Rattle.seize.specs.declared.states.TheConstants.{IDLE}
 use Rattle.seize.specs.declared.rows.register.Registering.{Registering}
 use Rattle.seize.specs.declared.rows.register.Registering.TheVariants as at
+use Rattle.seize.specs.declared.rows.settle.Settle.{Settle}
+use Rattle.seize.specs.declared.rows.settle.Settling.{Settling}
+use Rattle.seize.specs.declared.rows.settle.Settling.TheVariants as settling_at
+use Rattle.seize.specs.declared.rows.leave.Leave.{Leave}
 use Rattle.seize.specs.declared.rows.leave.Leaving.TheVariants as leaving_at
-use Rattle.seize.specs.Register.{register_plan}
 use Rattle.seize.specs.Leave.{leaving, standing}
 use Rattle.seize.specs.Law.{holds, is_over}
-use Rattle.seize.specs.World.{World, Row, Event, Use, Runs, at_start}
+use Rattle.seize.specs.World.{World, Row, Hand, Event, Use, Runs, at_start}
 use Rattle.seize.specs.World as world
 use Rattle.seize_seats.specs.State.{State, view_of}
 use Rattle.seize_shared.specs.declared.view.View.{View}
-use Rattle.seize_shared.specs.declared.view.View.TheVariants.{Rests, Registers, Outside, Enters, Inside, Leaves, Left, Frees}
+use Rattle.seize_shared.specs.declared.view.View.TheVariants.{Rests, Registers, Outside, Enters, Inside, Settles, Leaves, Left, Frees}
 use Rattle.seize_shared.specs.declared.view.Has.{Has}
-use Rattle.seize_shared.specs.declared.view.Has.TheVariants.{Nothing, Made}
+use Rattle.seize_shared.specs.declared.view.Has.TheVariants.{Nothing, Made, Seen, Cut}
+use Rattle.seize_shared.specs.declared.view.Why.{Why}
+use Rattle.seize_shared.specs.declared.view.Why.TheVariants.{Retiring, Ending}
 use Rattle.seize_shared.specs.declared.view.Fixed.{Fixed}
 
--- the row that a seat has under way, by the size of batches
-abbrev pub row_of : ℕ → View → Row
-row_of size Rests = world.Rests
-row_of size (Registers c) = world.Registers c
-row_of size (Outside t) = world.Rests
-row_of size (Enters t) = world.Enters record { slot = t }
-row_of size (Inside t has) = world.Rests
-row_of size (Leaves t) = world.Leaves (leaving t size IDLE false)
-row_of size (Left t) = world.Leaves (standing (leaving t size IDLE false) leaving_at.Over)
-row_of size (Frees t) = world.Frees record { slot = t }
+-- a slot that leaves, with batches of this size; and the same one as its list is counted down
+abbrev pub leave_of : ℕ → ℕ → Leave
+leave_of t size = leaving t size IDLE false
+
+abbrev pub counting : ℕ → Settle → Leave
+counting size c = standing (leave_of c.slot size) (leaving_at.Settles c)
+
+-- the row of a seat that settles
+abbrev pub settles_for : Why → Settle → Row
+settles_for Retiring c = world.Settles c
+settles_for (Ending size) c = world.Leaves (counting size c)
+
+-- how its slot is used meanwhile
+abbrev pub used_for : Why → Use
+used_for Retiring = world.Inside 1
+used_for (Ending size) = world.Changing
+
+-- the row that a seat has under way
+abbrev pub row_of : {T : Type 0} → View T → Row
+row_of Rests = world.Rests
+row_of (Registers c) = world.Registers c
+row_of (Outside t) = world.Rests
+row_of (Enters t) = world.Enters record { slot = t }
+row_of (Inside t has) = world.Rests
+row_of (Settles c why seen) = settles_for why c
+row_of (Leaves t size) = world.Leaves (leave_of t size)
+row_of (Left t size) = world.Leaves (standing (leave_of t size) leaving_at.Over)
+row_of (Frees t) = world.Frees record { slot = t }
 
 -- the slot that it holds, if it holds one, and how that is used
-abbrev pub use_of : View → Option (ℕ × Use)
+abbrev pub use_of : {T : Type 0} → View T → Option (ℕ × Use)
 use_of Rests = None
 use_of (Registers c) = None
 use_of (Outside t) = Some (t, world.Outside 0)
 use_of (Enters t) = Some (t, world.Changing)
 use_of (Inside t has) = Some (t, world.Inside 0)
-use_of (Leaves t) = Some (t, world.Changing)
-use_of (Left t) = Some (t, world.Changing)
+use_of (Settles c why seen) = Some (c.slot, used_for why)
+use_of (Leaves t size) = Some (t, world.Changing)
+use_of (Left t size) = Some (t, world.Changing)
 use_of (Frees t) = Some (t, world.Changing)
 
 -- registering seeks a slot, and has none yet
@@ -54,9 +75,15 @@ IsSeeking (at.Take seen) = Unit {0}
 IsSeeking _ = ⊥
 
 -- registering only takes a slot, and does not enter it
-abbrev pub IsShort : View → Type 0
+abbrev pub IsShort : {T : Type 0} → View T → Type 0
 IsShort (Registers c) = (c.enters ≡ false) × IsSeeking c.stands
 IsShort _ = Unit {0}
+
+-- a settling is about to reclaim a block
+abbrev pub IsReclaiming : Settling → Type 0
+IsReclaiming (settling_at.Takes next) = Unit {0}
+IsReclaiming (settling_at.Drains next word) = Unit {0}
+IsReclaiming _ = ⊥
 
 module _ {T : Type 0} where
   -- the slot is used so
@@ -64,22 +91,30 @@ module _ {T : Type 0} where
   IsUsed w None = Unit {0}
   IsUsed w (Some slot) = w.uses slot.0 ≡ slot.1
 
-  -- the block that the seat has is in its hand
-  abbrev pub IsInHand : World T → ℕ → Has → Type 0
-  IsInHand w j Nothing = Unit {0}
-  IsInHand w j (Made b) = w.hand b ≡ world.Making j
+  -- what a seat within a section of this slot knows of a block
+  abbrev pub IsInHand : World T → ℕ → ℕ → Has → Type 0
+  IsInHand w j t Nothing = Unit {0}
+  IsInHand w j t (Made b) = w.hand b ≡ world.Making j
+  IsInHand w j t (Seen b) = holds t b w.log ≡ true
+  IsInHand w j t (Cut b) = w.hand b ≡ world.Cutting j
 
-  abbrev pub IsKnown : World T → ℕ → View → Type 0
-  IsKnown w j (Inside t has) = IsInHand w j has
+  -- the block that a settling is to look at is the one that it is about to reclaim, and has this value
+  abbrev pub IsLooked : Mem T → Settle → Option (ℕ × T) → Type 0
+  IsLooked m c None = Unit {0}
+  IsLooked m c (Some seen) = IsReclaiming c.stands × (seen.0 ≡ block_in c.reclaiming) × (value_at m seen.0 ≡ Some seen.1)
+
+  abbrev pub IsKnown : World T → ℕ → View T → Type 0
+  IsKnown w j (Inside t has) = IsInHand w j t has
+  IsKnown w j (Settles c why seen) = IsLooked w.memory c seen
   IsKnown w j _ = Unit {0}
 
-  -- no list of a slot has an entry
-  abbrev pub IsQuiet : Mem T → Type 0
-  IsQuiet m = (t head : ℕ) → word_at m (Slot t HEAD) ≡ Some head → head ≤ ACTIVE
+  -- a root names no block, or one that is linked there
+  abbrev pub RootsNameLinked : Mem T → (ℕ → Hand) → Type 0
+  RootsNameLinked m hand = (r word : ℕ) → word_at m (Root r) ≡ Some word → (block_in word ≡ 0) ⊎ (hand (block_in word) ≡ world.InUse r)
 
   -- what a seat knows is so
-  pub record Fits (size : ℕ) (w : World T) (j : ℕ) (v : View) : Type 0 where
-    pub row : w.row j ≡ row_of size v
+  pub record Fits (w : World T) (j : ℕ) (v : View T) : Type 0 where
+    pub row : w.row j ≡ row_of v
     pub slot : IsUsed w (use_of v)
     pub short : IsShort v
     pub known : IsKnown w j v
@@ -89,44 +124,16 @@ module _ {T : Type 0} (defers : T → Option ℕ) (fixed : Fixed) where
   abbrev pub Came : World T → Type 0
   Came w = (events : List (Event T)) × Runs defers fixed.batch_size events (at_start defers fixed.roots) w
 
-  pub record Holds (s : State T View (World T)) : Type 0 where
+  pub record Holds (s : State T (View T) (World T)) : Type 0 where
     pub came : Came s.world
     pub memory : s.memory ≡ s.world.memory
-    pub seats : (j : ℕ) (v : View) → view_of s j ≡ Some v → Fits fixed.batch_size s.world j v
+    pub seats : (j : ℕ) (v : View T) → view_of s j ≡ Some v → Fits s.world j v
     pub unborn : (j : ℕ) → view_of s j ≡ None → s.world.row j ≡ world.Rests
-    pub apart : (j k t : ℕ) (a b : Use) (v u : View) → view_of s j ≡ Some v → view_of s k ≡ Some u → use_of v ≡ Some (t, a) → use_of u ≡ Some (t, b) → j ≡ k
-    pub quiet : IsQuiet s.memory
+    pub apart : (j k t : ℕ) (a b : Use) (v u : View T) → view_of s j ≡ Some v → view_of s k ≡ Some u → use_of v ≡ Some (t, a) → use_of u ≡ Some (t, b) → j ≡ k
+    pub roots : RootsNameLinked s.memory s.world.hand
+    pub rooted : length s.memory.roots ≡ fixed.roots
 
 module _ {T : Type 0} where
   -- the section of a seat holds the block, which is not over
-  abbrev pub Keeps : View → View → World T → ℕ → Type 0
+  abbrev pub Keeps : View T → View T → World T → ℕ → Type 0
   Keeps u o w b = (t : ℕ) × (has : Has) × (u ≡ Inside t has) × (holds t b w.log ≡ true) × (is_over b w.log ≡ false)
-
--- what a seat knows once registering has come so far
-abbrev pub left_by : Register × Progress ℕ → View
-left_by (c, progress.Done t) = Outside t
-left_by (c, progress.Refused fault) = Rests
-left_by (c, _) = Registers c
-
-module _ {T R : Type 0} where
-  -- the step that makes an operation comes, in some memory, to this outcome after this answer
-  abbrev pub ComesTo : Plan T R → Out T → R → Type 0
-  ComesTo (Turn rest) out end = ⊥
-  ComesTo (Do op rest) out end = (m n : Mem T) × Took m op out n × Ends (value_at n) (rest out) end
-
-module _ {T : Type 0} where
-  -- a block is made, or the one that was made is taken
-  abbrev pub has_told : Has → Op T → Out T → Has → Type 0
-  has_told Nothing (Make value words) (OutMade (Ok b)) after = after ≡ Made b
-  has_told Nothing (Make value words) (OutMade (Err back)) after = after ≡ Nothing
-  has_told (Made b) (Take c) (Taken value) after = after ≡ Nothing
-  has_told _ op out after = ⊥
-
-  -- what an operation tells its seat: how its row goes on
-  abbrev pub told : View → Op T → Out T → View → Type 0
-  told (Registers c) op out w = (end : Register × Progress ℕ) × ComesTo (register_plan {T = T} c) out end × (w ≡ left_by end) × IsShort w
-  told (Enters t) op out w = w ≡ Inside t Nothing
-  told (Inside t has) op out w = (after : Has) × has_told has op out after × (w ≡ Inside t after)
-  told (Leaves t) op out w = w ≡ Left t
-  told (Frees t) op out w = w ≡ Rests
-  told _ op out w = ⊥

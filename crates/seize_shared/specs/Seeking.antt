@@ -12,5 +12,5 @@ abbrev pub row_at : ℕ → Registering → Register
 row_at slot stands = record { slot = slot; enters = false; stands = stands }
 
 -- this slot is the next one to be looked at, if there is such a slot
-abbrev pub seeks : ℕ → View
+abbrev pub seeks : {T : Type 0} → ℕ → View T
 seeks slot = if nat_lt slot (LAST_SLOT + 1) then Registers (row_at slot at.Look) else Rests

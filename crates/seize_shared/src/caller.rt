@@ -1,33 +1,42 @@
 //! One of those who share the memory.
-ghost use Rattle.std.specs.Prelude.{◌≡◌, ◌<◌, ◌+◌, None, true, false, IfOk, IfErr};
+ghost use Rattle.std.specs.Prelude.{◌≡◌, ◌≢◌, ◌<◌, ◌+◌, ◌^◌, None, true, false, IfOk, IfErr, IfSome, IfNone};
+ghost use Rattle.seize_words.specs.Word.{block_in};
 ghost use Rattle.seize.specs.declared.states.TheConstants.{LAST_SLOT};
 ghost use Rattle.seize.specs.declared.rows.register.Registering.TheVariants.{Take};
 ghost use Rattle.seize_shared.specs.Seeking.{row_at, seeks};
 ghost use Rattle.seize_shared.specs.declared.view.View.TheVariants.{Rests, Registers, Outside, Inside};
-ghost use Rattle.seize_shared.specs.declared.view.Has.TheVariants.{Nothing, Made};
+ghost use Rattle.seize_shared.specs.declared.view.Has.TheVariants.{Nothing, Made, Seen, Cut};
 
 use crate::rows::OfRows;
-use crate::turns::{Ending, Entering, Freeing, Leaving, Registering};
+use crate::turns::{Entering, Freeing, Registering};
 use seize::rows::{Defers, needed_bucket};
 use seize::states::{ACTIVE, FREE, HEAD, IDLE, LAST_SLOT, NEVER};
 use seize_blocks::{Blocks, Seat};
-use seize_words::{At, Fault};
+use seize_words::{At, Fault, Link};
 
-/// One of those who share the memory: a seat of it, with the memory.
+/// One of those who share the memory: a seat of it, with the memory. It is a memory for the rows that it has under way.
 #[derive(Drop)]
 pub struct Caller<'a, T: Defers> {
     pub(crate) blocks: &'a Blocks<T, OfRows>,
+    pub(crate) batch_size: u64,
     pub(crate) seat: Seat<T, OfRows>,
     ghost own: { seat.base ≡ blocks.now.words.id.views_name },
+    ghost sized: { blocks.now.words.fixed.batch_size ≡ batch_size },
 }
 
 impl<'a, T: Defers> Caller<'a, T> {
-    /// One more of them, who holds no slot.
-    pub fn new(blocks: &'a Blocks<T, OfRows>) -> Self
-        ensures { result.seat.view ≡ Rests }
+    /// One more of them, who holds no slot. The size of batches is the one that was chosen as the memory was opened.
+    pub fn new(blocks: &'a Blocks<T, OfRows>, batch_size: u64) -> Self
+        requires { blocks.now.words.fixed.batch_size ≡ batch_size }
+        ensures rests { result.seat.view ≡ Rests }
+        ensures blocks { result.blocks.now ≡ blocks.now }
     {
         let seat = blocks.seat();
-        Caller { blocks, seat }
+        Caller {
+            blocks,
+            batch_size,
+            seat,
+        }
     }
 
     /// Begins to look for a slot.
@@ -35,6 +44,7 @@ impl<'a, T: Defers> Caller<'a, T> {
         requires rests { self.old.seat.view ≡ Rests }
         ensures looks { IfOk result (λ _. self.new.seat.view ≡ seeks 0) }
         ensures refused { IfErr result (λ fault. self.new.seat.view ≡ Rests) }
+        ensures blocks { self.new.blocks ≡ self.old.blocks }
     {
         self.blocks.turn::<Registering>(&mut self.seat);
         self.blocks.room(&mut self.seat, 0)
@@ -45,6 +55,7 @@ impl<'a, T: Defers> Caller<'a, T> {
         requires { self.old.seat.view ≡ Registers (row_at slot (Take seen)) }
         ensures taken { result ≡ true → self.new.seat.view ≡ Outside slot }
         ensures lost { result ≡ false → self.new.seat.view ≡ seeks (slot + 1) }
+        ensures blocks { self.new.blocks ≡ self.old.blocks }
     {
         self.blocks
             .exchange(&mut self.seat, At::Slot(slot, HEAD), seen, IDLE)
@@ -58,6 +69,7 @@ impl<'a, T: Defers> Caller<'a, T> {
         ensures taken { IfOk result (λ t. t ≡ true → self.new.seat.view ≡ Outside slot) }
         ensures lost { IfOk result (λ t. t ≡ false → self.new.seat.view ≡ seeks (slot + 1)) }
         ensures refused { IfErr result (λ fault. self.new.seat.view ≡ Rests) }
+        ensures blocks { self.new.blocks ≡ self.old.blocks }
     {
         let seen = self.blocks.load(&mut self.seat, At::Slot(slot, HEAD));
         if seen != NEVER && seen != FREE {
@@ -74,6 +86,7 @@ impl<'a, T: Defers> Caller<'a, T> {
         requires rests { self.old.seat.view ≡ Rests }
         ensures taken { IfOk result (λ slot. self.new.seat.view ≡ Outside slot) }
         ensures refused { IfErr result (λ fault. self.new.seat.view ≡ Rests) }
+        ensures blocks { self.new.blocks ≡ self.old.blocks }
     {
         self.begin()?;
         for slot in 0..LAST_SLOT + 1 {
@@ -88,54 +101,104 @@ impl<'a, T: Defers> Caller<'a, T> {
     pub fn enter(&mut self, slot: u64)
         requires outside { self.old.seat.view ≡ Outside slot }
         ensures inside { self.new.seat.view ≡ Inside slot Nothing }
+        ensures blocks { self.new.blocks ≡ self.old.blocks }
     {
         self.blocks.turn::<Entering>(&mut self.seat);
         self.blocks
             .store(&mut self.seat, At::Slot(slot, HEAD), ACTIVE);
     }
 
+    /// Gives its slot up.
+    pub fn unregister(&mut self, slot: u64)
+        requires outside { self.old.seat.view ≡ Outside slot }
+        ensures rests { self.new.seat.view ≡ Rests }
+        ensures blocks { self.new.blocks ≡ self.old.blocks }
+    {
+        self.blocks.turn::<Freeing>(&mut self.seat);
+        self.blocks
+            .store(&mut self.seat, At::Slot(slot, HEAD), FREE);
+    }
+
     /// Makes a block within the section of its slot, of a value that keeps no list. Where no number is free the value comes back.
     pub fn make(&mut self, _slot: u64, value: T) -> Result<u64, T>
         requires inside { self.old.seat.view ≡ Inside _slot Nothing }
         requires plain { T.defers value ≡ None }
-        ensures made { IfOk result (λ block. self.new.seat.view ≡ Inside _slot (Made block)) }
+        ensures made { IfOk result (λ block. (self.new.seat.view ≡ Inside _slot (Made block)) × (block < 2 ^ 53)) }
         ensures refused { IfErr result (λ back. self.new.seat.view ≡ Inside _slot Nothing) }
+        ensures blocks { self.new.blocks ≡ self.old.blocks }
     {
         self.blocks.make(&mut self.seat, value, 0)
-    }
-
-    /// The value of the block that it has made, for as long as it is borrowed.
-    pub fn value(&self, _slot: u64, block: u64) -> &T
-        requires has { self.now.seat.view ≡ Inside _slot (Made block) }
-    {
-        self.blocks.value(&self.seat, block)
     }
 
     /// Takes the block away that it has made.
     pub fn take(&mut self, _slot: u64, block: u64) -> T
         requires has { self.old.seat.view ≡ Inside _slot (Made block) }
         ensures taken { self.new.seat.view ≡ Inside _slot Nothing }
+        ensures blocks { self.new.blocks ≡ self.old.blocks }
     {
         self.blocks.take(&mut self.seat, block)
     }
 
-    /// Ends the section.
-    pub fn leave(&mut self, slot: u64)
-        requires inside { self.old.seat.view ≡ Inside slot Nothing }
-        ensures outside { self.new.seat.view ≡ Outside slot }
+    /// Puts the block that it has made at a root, and answers which one was there, and is to be retired.
+    pub fn publish(&mut self, _slot: u64, root: u64, block: u64) -> Option<u64>
+        requires has { self.old.seat.view ≡ Inside _slot (Made block) }
+        requires root { root < self.old.blocks.now.words.fixed.roots }
+        requires fits { block < 2 ^ 53 }
+        ensures cut { IfSome result (λ old. (self.new.seat.view ≡ Inside _slot (Cut old)) × (old < 2 ^ 53)) }
+        ensures none { IfNone result (self.new.seat.view ≡ Inside _slot Nothing) }
+        ensures blocks { self.new.blocks ≡ self.old.blocks }
     {
-        self.blocks.turn::<Leaving>(&mut self.seat);
-        self.blocks.swap(&mut self.seat, At::Slot(slot, HEAD), IDLE);
-        self.blocks.turn::<Ending>(&mut self.seat);
+        let old = self
+            .blocks
+            .swap(&mut self.seat, At::Root(root), Link::to(block));
+        named(old)
     }
 
-    /// Gives its slot up.
-    pub fn unregister(&mut self, slot: u64)
-        requires outside { self.old.seat.view ≡ Outside slot }
-        ensures rests { self.new.seat.view ≡ Rests }
+    /// Takes the block from a root, and answers which one was there, and is to be retired.
+    pub fn remove(&mut self, _slot: u64, root: u64) -> Option<u64>
+        requires inside { self.old.seat.view ≡ Inside _slot Nothing }
+        requires root { root < self.old.blocks.now.words.fixed.roots }
+        ensures cut { IfSome result (λ old. (self.new.seat.view ≡ Inside _slot (Cut old)) × (old < 2 ^ 53)) }
+        ensures none { IfNone result (self.new.seat.view ≡ Inside _slot Nothing) }
+        ensures blocks { self.new.blocks ≡ self.old.blocks }
     {
-        self.blocks.turn::<Freeing>(&mut self.seat);
-        self.blocks
-            .store(&mut self.seat, At::Slot(slot, HEAD), FREE);
+        let old = self.blocks.swap(&mut self.seat, At::Root(root), 0);
+        named(old)
     }
+
+    /// Sees which block is at a root. Its section holds it from now on.
+    pub fn see(&mut self, _slot: u64, root: u64) -> Option<u64>
+        requires inside { self.old.seat.view ≡ Inside _slot Nothing }
+        requires root { root < self.old.blocks.now.words.fixed.roots }
+        ensures seen { IfSome result (λ block. self.new.seat.view ≡ Inside _slot (Seen block)) }
+        ensures none { IfNone result (self.new.seat.view ≡ Inside _slot Nothing) }
+        ensures blocks { self.new.blocks ≡ self.old.blocks }
+    {
+        let word = self.blocks.load(&mut self.seat, At::Root(root));
+        named(word)
+    }
+
+    /// The value of a block that it has seen, for as long as it is borrowed: whoever retires the block meanwhile, its section holds it.
+    pub fn value(&self, _slot: u64, block: u64) -> &T
+        requires seen { self.now.seat.view ≡ Inside _slot (Seen block) }
+    {
+        self.blocks.value(&self.seat, block)
+    }
+
+    /// The value of the block that it has made, for as long as it is borrowed.
+    pub fn own(&self, _slot: u64, block: u64) -> &T
+        requires made { self.now.seat.view ≡ Inside _slot (Made block) }
+    {
+        let seat = &self.seat;
+        self.blocks.value(seat, block)
+    }
+}
+
+/// The block that a word of a root names.
+fn named(word: u64) -> Option<u64>
+    ensures some { IfSome result (λ block. (block ≡ block_in word) × (block < 2 ^ 53) × (block ≢ 0)) }
+    ensures none { IfNone result (block_in word ≡ 0) }
+{
+    let block = Link::block_of(word);
+    if block == 0 { None } else { Some(block) }
 }

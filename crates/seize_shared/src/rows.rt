@@ -8,10 +8,11 @@ pub struct OfRows;
 
 impl<T: Defers> Rule<T> for OfRows {
     ghost use Rattle.seize.specs.World.{World};
-    ghost use Rattle.seize_shared.specs.Rows.{Holds, Keeps, told};
+    ghost use Rattle.seize_shared.specs.Rows.{Holds, Keeps};
+    ghost use Rattle.seize_shared.specs.Told.{told};
     ghost use Rattle.seize_shared.specs.declared.view.View.TheVariants.{Rests};
 
-    type View = View;
+    type View = View<T>;
 
     type Fixed = Fixed;
 
@@ -21,7 +22,7 @@ impl<T: Defers> Rule<T> for OfRows {
 
     ghost keeps = { Keeps };
 
-    ghost then = { told };
+    ghost then = { told T.defers };
 
     ghost newcomer = { λ _. Rests };
 }

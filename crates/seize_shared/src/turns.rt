@@ -1,5 +1,5 @@
 //! The steps of a seat that make no operation.
-use crate::view::View;
+use crate::view::{Fixed, View};
 use seize_blocks::Turn;
 
 /// Registering begins.
@@ -8,40 +8,58 @@ pub(crate) struct Registering;
 /// Entering begins.
 pub(crate) struct Entering;
 
+/// A retirement begins.
+pub(crate) struct Retiring;
+
+/// The trying of a batch begins.
+pub(crate) struct Flushing;
+
 /// Leaving begins.
 pub(crate) struct Leaving;
 
-/// Leaving ends.
+/// What was begun ends.
 pub(crate) struct Ending;
 
 /// Giving up begins.
 pub(crate) struct Freeing;
 
-impl Turn<View> for Registering {
+impl<T> Turn<Fixed, View<T>> for Registering {
     ghost use Rattle.seize_shared.specs.Begun.{registering, Makes};
 
     ghost to = { Makes registering };
 }
 
-impl Turn<View> for Entering {
+impl<T> Turn<Fixed, View<T>> for Entering {
     ghost use Rattle.seize_shared.specs.Begun.{entering, Makes};
 
     ghost to = { Makes entering };
 }
 
-impl Turn<View> for Leaving {
+impl<T> Turn<Fixed, View<T>> for Retiring {
+    ghost use Rattle.seize_shared.specs.Begun.{retires, Makes};
+
+    ghost to = { Makes retires };
+}
+
+impl<T> Turn<Fixed, View<T>> for Flushing {
+    ghost use Rattle.seize_shared.specs.Begun.{flushes, Makes};
+
+    ghost to = { Makes flushes };
+}
+
+impl<T> Turn<Fixed, View<T>> for Leaving {
     ghost use Rattle.seize_shared.specs.Begun.{leaving, Makes};
 
     ghost to = { Makes leaving };
 }
 
-impl Turn<View> for Ending {
+impl<T> Turn<Fixed, View<T>> for Ending {
     ghost use Rattle.seize_shared.specs.Begun.{ended, Makes};
 
     ghost to = { Makes ended };
 }
 
-impl Turn<View> for Freeing {
+impl<T> Turn<Fixed, View<T>> for Freeing {
     ghost use Rattle.seize_shared.specs.Begun.{freeing, Makes};
 
     ghost to = { Makes freeing };

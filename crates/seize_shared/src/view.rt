@@ -1,8 +1,8 @@
 //! What those know that share the memory of a collector.
-use seize::rows::Register;
+use seize::rows::{Register, Settle};
 
 /// What a seat knows: whether it holds a slot, and which row it has under way.
-pub enum View {
+pub enum View<T> {
     /// It holds no slot.
     Rests,
     /// It looks for one.
@@ -11,22 +11,36 @@ pub enum View {
     Outside(u64),
     /// It is about to open a section of it.
     Enters(u64),
-    /// It holds this slot, and its section is open; and it has a block, or none.
+    /// It holds this slot, and its section is open; and it knows of a block, or of none.
     Inside(u64, Has),
-    /// It is about to end the section of it.
-    Leaves(u64),
-    /// It has ended it, and took the list of the slot, which was empty.
-    Left(u64),
+    /// It settles what its slot has to settle, and why; and this block, with its value, it is about to look at.
+    Settles(Settle, Why, Option<(u64, T)>),
+    /// It is about to end the section of this slot; batches have this size.
+    Leaves(u64, u64),
+    /// It has ended the section of this slot, and settled all that was to be settled.
+    Left(u64, u64),
     /// It is about to give this slot up.
     Frees(u64),
 }
 
-/// Which block a seat has.
+/// Which block a seat within a section knows of.
 pub enum Has {
-    /// It has none.
+    /// None.
     Nothing,
     /// It has made this one, which nobody else can reach.
     Made(u64),
+    /// It has seen this one, which its section holds.
+    Seen(u64),
+    /// It has unlinked this one, and is to retire it.
+    Cut(u64),
+}
+
+/// Why a seat settles.
+pub enum Why {
+    /// A block is retired, or its batch is tried, within its section.
+    Retiring,
+    /// Its section has ended, and the list of its slot is counted down; batches have this size.
+    Ending(u64),
 }
 
 /// What is chosen as the memory is opened.

@@ -2,9 +2,11 @@
 ghost use Rattle.std.specs.Prelude.{None};
 
 use crate::counting::{OneRoot, add, sees};
+use crate::ground::{Ground, SIZE};
 use seize::rows::Defers;
 use seize_blocks::{Blocks, Home};
 use seize_shared::{Caller, Fixed, OfRows};
+use std::sync::Wait;
 use std::test::Fail;
 use std::thread;
 
@@ -21,34 +23,34 @@ impl Defers for Plain {
 }
 
 /// Takes a slot, enters and leaves so many times, and gives it up; answers which it was.
-fn visit(blocks: &Blocks<Plain, OfRows>, times: u64) -> Option<u64> {
-    let mut caller = Caller::new(blocks);
+fn visit<W: Wait>(rt: &W, ground: &Ground<'_, Plain>, times: u64) -> Option<u64> {
+    let mut caller = Caller::new(ground.blocks, SIZE);
     let slot = caller.register().ok()?;
     for _ in 0..times {
         caller.enter(slot);
-        caller.leave(slot);
+        caller.leave(rt, slot);
     }
     caller.unregister(slot);
     Some(slot)
 }
 
 /// Is within a section until the other one has been there; answers the slot.
-fn stay(blocks: &Blocks<Plain, OfRows>, bell: &Blocks<u64, OneRoot>) -> Option<u64> {
-    let mut caller = Caller::new(blocks);
+fn stay<W: Wait>(rt: &W, ground: &Ground<'_, Plain>, bell: &Blocks<u64, OneRoot>) -> Option<u64> {
+    let mut caller = Caller::new(ground.blocks, SIZE);
     let slot = caller.register().ok()?;
     caller.enter(slot);
     let met = add(bell, 1) == 1 && sees(bell, 2);
-    caller.leave(slot);
+    caller.leave(rt, slot);
     caller.unregister(slot);
     if met { Some(slot) } else { None }
 }
 
 /// Waits until the other one is within a section, and is there then many times; answers the slot.
-fn pass(blocks: &Blocks<Plain, OfRows>, bell: &Blocks<u64, OneRoot>) -> Option<u64> {
+fn pass<W: Wait>(rt: &W, ground: &Ground<'_, Plain>, bell: &Blocks<u64, OneRoot>) -> Option<u64> {
     if !sees(bell, 1) {
         return None;
     }
-    let slot = visit(blocks, 20_000);
+    let slot = visit(rt, ground, 20_000);
     if add(bell, 1) == 2 { slot } else { None }
 }
 
@@ -59,14 +61,20 @@ fn two_threads_enter_and_leave(rt: HostRuntime) -> Result<(), Fail> {
         1,
         0,
         &Fixed {
-            batch_size: 32,
+            batch_size: SIZE,
             roots: 1,
         },
     )?;
-    let blocks = &home.blocks;
-    let (first, second) = thread::join(&rt, || visit(blocks, 20_000), || visit(blocks, 20_000));
+    let ground = Ground {
+        blocks: &home.blocks,
+    };
+    let (first, second) = thread::join(
+        &rt,
+        || visit(&rt, &ground, 20_000),
+        || visit(&rt, &ground, 20_000),
+    );
     assert!(rt; first.is_some() && second.is_some());
-    assert_eq!(rt; visit(blocks, 1), Some(0));
+    assert_eq!(rt; visit(&rt, &ground, 1), Some(0));
     Ok(())
 }
 
@@ -77,14 +85,20 @@ fn one_is_within_a_section_while_another_enters_and_leaves(rt: HostRuntime) -> R
         1,
         0,
         &Fixed {
-            batch_size: 32,
+            batch_size: SIZE,
             roots: 1,
         },
     )?;
     let gate = Home::<u64, OneRoot>::open(rt.alloc(), 1, 0, &())?;
-    let blocks = &home.blocks;
+    let ground = Ground {
+        blocks: &home.blocks,
+    };
     let bell = &gate.blocks;
-    let (first, second) = thread::join(&rt, || stay(blocks, bell), || pass(blocks, bell));
+    let (first, second) = thread::join(
+        &rt,
+        || stay(&rt, &ground, bell),
+        || pass(&rt, &ground, bell),
+    );
     assert_eq!(rt; first, Some(0));
     assert_eq!(rt; second, Some(1));
     Ok(())

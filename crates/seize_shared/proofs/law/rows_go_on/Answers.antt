@@ -1,30 +1,20 @@
 use Rattle.seize_shared.specs.contracts.law.rows_go_on.{T-type}
-use Rattle.seize_shared.proofs.Registers.{rows_go_on}
+use Rattle.seize_shared.proofs.GoesOn.{rows_go_on}
 use Rattle.seize_shared.proofs.Beginnings.{rules_start, seats_come, rows_turn}
-use Rattle.seize_shared.proofs.Blocks.{blocks_are_made, made_are_shown, made_are_taken}
+use Rattle.seize_shared.proofs.Drives.{looked_are_shown}
 use Rattle.seize_shared.proofs.law.rows_go_on.Goals as goal
 
--- src/law.rt:7:1
 pub returns-clause-starts : goal.returns-clause-starts
 returns-clause-starts g c = rules_start (T-type g.row.T) g.T.Defers.defers
 
--- src/law.rt:7:1
 pub returns-clause-come : goal.returns-clause-come
 returns-clause-come g c = seats_come (T-type g.row.T) g.T.Defers.defers
 
--- src/law.rt:7:1
 pub returns-clause-on : goal.returns-clause-on
 returns-clause-on g c = rows_go_on (T-type g.row.T) g.T.Defers.defers
 
--- src/law.rt:7:1
 pub returns-clause-turn : goal.returns-clause-turn
 returns-clause-turn g c = rows_turn (T-type g.row.T) g.T.Defers.defers
 
-pub returns-clause-made : goal.returns-clause-made
-returns-clause-made g c = blocks_are_made (T-type g.row.T) g.T.Defers.defers
-
-pub returns-clause-shown : goal.returns-clause-shown
-returns-clause-shown g c = made_are_shown (T-type g.row.T) g.T.Defers.defers
-
-pub returns-clause-taken : goal.returns-clause-taken
-returns-clause-taken g c = made_are_taken (T-type g.row.T) g.T.Defers.defers
+pub returns-clause-looked : goal.returns-clause-looked
+returns-clause-looked g c = looked_are_shown (T-type g.row.T) g.T.Defers.defers

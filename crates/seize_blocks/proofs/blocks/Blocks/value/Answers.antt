@@ -1,7 +1,7 @@
-use Rattle.std.proofs.Common.{◌≡◌, ap, ◌∙◌, Some}
 use Rattle.seize_blocks.proofs.blocks.Blocks.value.Goals as goal
 
+pub value_for-requires-clause-shown : goal.value_for-requires-clause-shown
+value_for-requires-clause-shown g c = λ t so at _. c.requires.shown t so at
+
 pub returns : goal.returns
-returns g c =
-    let e = c.value.ensures in let found = e.1 in let seen = c.in-Some.is in let same : e.0 ≡ c.in-Some.value = cc (found, seen) in let k = e.2 in
-    (k.0, k.1, k.2, k.3 ∙ ap Some same)
+returns g c = let k = c.value_for.ensures in (k.0, k.1, k.2, k.4)

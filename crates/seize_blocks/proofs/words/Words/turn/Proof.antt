@@ -53,7 +53,7 @@ turn_spec 𝓤 𝓛 𝓜 𝓡 wired X P U F N LX LP LU LF LN g d g' d' _ _ =
     (λ κs. (shr_vals, (mut_vals, tt))) (λ κs. (shr_Tells (named 0) κs.0 Row, (mut_Tells (named 1) κs.1.0 Sr, tt))) (λ κs qs bounds a gh are.
     let b : ℕ = a.0.ref_ptr.0 in let o : ℕ = a.0.ref_ptr.1 in let b' : ℕ = a.1.0.ref_ptr.0 in let o' : ℕ = a.1.0.ref_ptr.1 in let κ : Lft = κs.0 in
     let t : Row.Denot = a.0.now in let p : Ptr = t.words in let z : BaseId = t.id in let h : Sr.Denot = a.1.0.now in
-    let id : ℕ = h.id in let v : U.Denot = h.view in let cv = R₂.coded in let holds = g.holds t.fixed in let so : U.Denot → Type 0 = g'.to v in
+    let id : ℕ = h.id in let v : U.Denot = h.view in let cv = R₂.coded in let holds = g.holds t.fixed in let so : U.Denot → Type 0 = g'.to t.fixed v in
     let others : Fml = fsep (flft κs.1.1.0 qs.1.1.0) (fsep (flft κs.1.1.1.0 qs.1.1.1.0) (fsep (flft κs.1.1.1.1.0 qs.1.1.1.1.0)
     (fsep (flft κs.1.1.1.1.1.0 qs.1.1.1.1.1.0) (fsep (flft κs.1.1.1.1.1.1.0 qs.1.1.1.1.1.1.0) ftrue)))) in
     let Asked : Type 0 = (h.base ≡ z.views_name) × Turns holds g.keeps id v so in

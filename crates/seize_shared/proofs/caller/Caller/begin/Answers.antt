@@ -14,4 +14,4 @@ turn-requires-clause-may g c =
 pub room-requires-clause-may : goal.room-requires-clause-may
 room-requires-clause-may g c =
     may_go_on g.T.Defers.defers c.args.self.now.blocks.now.words.fixed c.turn.new.seat.id c.turn.new.seat.view (Registers (row_at 0 at.Begin))
-    (c.turn.ensures.goes ∙ ap registering c.requires.rests) (Room 0) refl
+    (c.turn.ensures.goes ∙ ap (registering c.args.self.now.blocks.now.words.fixed) c.requires.rests) (Room 0) refl

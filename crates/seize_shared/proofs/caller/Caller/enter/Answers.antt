@@ -15,4 +15,4 @@ turn-requires-clause-may g c =
 pub store-requires-clause-may : goal.store-requires-clause-may
 store-requires-clause-may g c =
     may_go_on g.T.Defers.defers c.args.self.now.blocks.now.words.fixed c.turn.new.seat.id c.turn.new.seat.view (Enters c.args.slot)
-    (c.turn.ensures.goes ∙ ap entering c.requires.outside) (Store (Slot c.args.slot HEAD) ACTIVE) refl
+    (c.turn.ensures.goes ∙ ap (entering c.args.self.now.blocks.now.words.fixed) c.requires.outside) (Store (Slot c.args.slot HEAD) ACTIVE) refl

@@ -3,5 +3,5 @@ use Rattle.seize_shared.proofs.caller.Caller.make.Goals as goal
 
 pub make-requires-clause-may : goal.make-requires-clause-may
 make-requires-clause-may g c =
-    may_make g.T.Defers.defers c.args.self.now.blocks.now.words.fixed c.args.self.now.seat.id c.args.self.now.seat.view c.args._slot c.requires.inside
-    c.args.value c.requires.plain
+    let x = c.args.self.now in
+    may_make g.T.Defers.defers x.blocks.now.words.fixed x.seat.id x.seat.view c.args._slot c.requires.inside c.args.value c.requires.plain

@@ -15,4 +15,4 @@ turn-requires-clause-may g c =
 pub store-requires-clause-may : goal.store-requires-clause-may
 store-requires-clause-may g c =
     may_go_on g.T.Defers.defers c.args.self.now.blocks.now.words.fixed c.turn.new.seat.id c.turn.new.seat.view (Frees c.args.slot)
-    (c.turn.ensures.goes ∙ ap freeing c.requires.outside) (Store (Slot c.args.slot HEAD) FREE) refl
+    (c.turn.ensures.goes ∙ ap (freeing c.args.self.now.blocks.now.words.fixed) c.requires.outside) (Store (Slot c.args.slot HEAD) FREE) refl

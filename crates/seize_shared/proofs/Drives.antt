@@ -1,0 +1,152 @@
+-- A settling as the row of a caller: it may take its next step, and is the one that its seat knows again.
+use Rattle.std.specs.Prelude.{◌==◌, Option, Some, None, IsSome, if◌then◌else◌}
+use Rattle.std.proofs.Common.{◌≡◌, ℕ, Bool, true, false, refl, sym, subst, ap, ◌∙◌, eqb-true}
+use Rattle.seize_words.specs.Mem.{Mem, value_at}
+use Rattle.seize.specs.World.{World}
+use Rattle.seize_words.specs.Op.{Op, Out, Rewrite}
+use Rattle.seize_words.specs.Plan.{Plan, Turn, Do, May, Steps}
+use Rattle.seize.specs.declared.rows.register.Registering.{Registering}
+use Rattle.seize.specs.declared.rows.register.Registering.TheVariants as registering_at
+use Rattle.seize.specs.declared.rows.register.Register.{Register}
+use Rattle.seize.specs.declared.rows.settle.Settle.{Settle}
+use Rattle.seize.specs.declared.rows.settle.Settling.{Settling}
+use Rattle.seize.specs.declared.rows.settle.Settling.TheVariants as at
+use Rattle.seize.specs.declared.rows.settle.Settled.{Settled}
+use Rattle.seize.specs.Register as register
+use Rattle.seize.specs.Settle.{settle_plan, plan_at}
+use Rattle.seize_acts.proofs.Answers.{same_some}
+use Rattle.seize_seats.specs.State.{State, view_of}
+use Rattle.seize_seats.specs.Lendings.{Shown, IsValueOf}
+use Rattle.seize_shared.specs.Rows.{Holds}
+use Rattle.seize_shared.specs.Told.{shown_by, FollowsBy, GoesOn, told}
+use Rattle.seize_shared.specs.Promises.{op_in, op_of, LookedAreShown}
+use Rattle.seize_shared.specs.Made.{shown_in, shown_of, CanMake, HasAlone, HasMade, IsSettling}
+use Rattle.seize_shared.specs.declared.view.View.{View}
+use Rattle.seize_shared.specs.declared.view.View.TheVariants.{Rests, Registers, Outside, Enters, Inside, Settles, Leaves, Left, Frees}
+use Rattle.seize_shared.specs.declared.view.Why.{Why}
+use Rattle.seize_shared.specs.declared.view.Fixed.{Fixed}
+use Rattle.seize_shared.specs.declared.caller.Caller.{Caller}
+use Rattle.seize_shared.proofs.Calls.{may_go_on}
+use Rattle.seize_shared.proofs.Looks.{rest_of, LooksOnce, once, ends_may, ends_same}
+
+-- it makes an operation
+abbrev pub IsDo : {T R : Type 0} → Plan T R → Type 0
+IsDo (Turn rest) = ⊥
+IsDo (Do op rest) = Unit {0}
+
+module _ {T R M : Type 0} (can : M → Op T → Type 0) (took : M → Op T → Out T → M → Type 0) (shown : M → ℕ → Option T) (m : M) where
+  -- a step may be taken where its operation may be made, and what it looks at is told with the answer
+  may_by : (plan : Plan T R) → IsDo plan → ((op : Op T) → op_in plan ≡ Some op → can m op)
+      → ((op : Op T) (out : Out T) (n : M) → op_in plan ≡ Some op → took m op out n → (end : R) × FollowsBy (shown n) plan out end)
+      → ((out : Out T) → LooksOnce (rest_of plan out)) → May can took shown m plan
+  may_by (Turn rest) is may tells looks = absurd is
+  may_by (Do op rest) is may tells looks =
+      (may op refl, λ out n t. let f = tells op out n refl t in ends_may (shown n) (rest out) f.0 (looks out) f.1)
+
+  -- the operation of a step that was taken, and its answer
+  was_made : (plan : Plan T R) (n : M) (end : R) → IsDo plan → Steps took shown m plan n end
+      → (op : Op T) × (out : Out T) × took m op out n × ((other : R) → FollowsBy (shown n) plan out other → end ≡ other)
+  was_made (Turn rest) n end is st = absurd is
+  was_made (Do op rest) n end is st = (op, st.0, st.1, λ other f. ends_same (shown n) (rest st.0) end other st.2 f)
+
+module _ {T : Type 0} (defers : T → Option ℕ) where
+  is_do : (c : Settle) (p : Settling) → (p ≡ at.Over → ⊥) → IsDo (plan_at defers c p)
+  is_do c at.Over ne = absurd (ne refl)
+  is_do c _ ne = tt
+
+  -- it replaces no value
+  abbrev IsNoRewrite : Option (Op T) → Type 0
+  IsNoRewrite None = Unit {0}
+  IsNoRewrite (Some (Rewrite b x)) = ⊥
+  IsNoRewrite (Some _) = Unit {0}
+
+  settling_none : (c : Settle) (p : Settling) → IsNoRewrite (op_in (plan_at defers c p))
+  settling_none c at.Over = tt
+  settling_none c _ = tt
+
+  registering_none : (c : Register) (p : Registering) → IsNoRewrite (op_in (register.plan_at {T = T} c p))
+  registering_none c registering_at.Begin = tt
+  registering_none c _ = tt
+
+  none_rewrites : (v : View T) → IsNoRewrite (op_of defers v)
+  none_rewrites Rests = tt
+  none_rewrites (Registers c) = registering_none c c.stands
+  none_rewrites (Outside t) = tt
+  none_rewrites (Enters t) = tt
+  none_rewrites (Inside t has) = tt
+  none_rewrites (Settles c why seen) = settling_none c c.stands
+  none_rewrites (Leaves t size) = tt
+  none_rewrites (Left t size) = tt
+  none_rewrites (Frees t) = tt
+
+  -- so it needs no block to itself
+  has_alone : (caller : Caller T) (op : Op T) → IsNoRewrite (Some op) → HasAlone defers caller op
+  has_alone caller (Rewrite b x) is = absurd is
+  has_alone caller _ is = tt
+
+  module _ (caller : Caller T) (c : Settle) (why : Why) (is : IsSettling why c caller.seat.view) (ne : c.stands ≡ at.Over → ⊥) where
+    -- what is told of a settling's operation
+    goes_on : (op : Op T) (out : Out T) (n : Caller T) → HasMade defers caller op out n → GoesOn defers c why out n.seat.view
+    goes_on op out n made = subst (λ (v : View T). told defers v op out n.seat.view) is.1 made.told
+
+    shows : (n : Caller T) (d : Settle) (seen : Option (ℕ × T)) → n.seat.view ≡ Settles d why seen → shown_of n ≡ shown_by seen
+    shows n d seen e = ap (λ (v : View T). shown_in v) e
+
+    pub may_step : May (CanMake defers) (HasMade defers) shown_of caller (settle_plan defers c)
+    may_step =
+        may_by (CanMake defers) (HasMade defers) shown_of caller (settle_plan defers c) (is_do c c.stands ne)
+        (λ op e. record {
+          alone = has_alone caller op (subst IsNoRewrite (ap (op_of defers) is.1 ∙ e) (none_rewrites caller.seat.view));
+          may = may_go_on defers caller.blocks.now.words.fixed caller.seat.id caller.seat.view (Settles c why is.0) is.1 op e;
+        })
+        (λ op out n e made.
+        let g = goes_on op out n made in
+        (g.end, subst (λ (f : ℕ → Option T). FollowsBy f (settle_plan defers c) out g.end) (sym (shows n g.end.0 g.seen g.view)) g.follows))
+        (λ out. once defers c c.stands out)
+
+    pub has_stepped : (n : Caller T) (end : Settle × Settled T) → Steps (HasMade defers) shown_of caller (settle_plan defers c) n end
+        → IsSettling why end.0 n.seat.view × (end.0.slot ≡ c.slot) × (n.blocks ≡ caller.blocks)
+    has_stepped n end st =
+        let k = was_made (CanMake defers) (HasMade defers) shown_of caller (settle_plan defers c) n end (is_do c c.stands ne) st in
+        let g = goes_on k.0 k.1 n k.2 in
+        let same : end ≡ g.end = k.3 g.end
+        (subst (λ (f : ℕ → Option T). FollowsBy f (settle_plan defers c) k.1 g.end) (sym (shows n g.end.0 g.seen g.view)) g.follows) in (
+          (g.seen, g.view ∙ ap (λ (x : Settle × Settled T). Settles x.0 why g.seen) (sym same)),
+          ap (λ (x : Settle × Settled T). x.0.slot) same ∙ g.slot,
+          k.2.blocks,
+        )
+
+module _ (T : Type 0) (defers : T → Option ℕ) where
+  -- what a settling is to look at is there
+  pub looked_are_shown : LookedAreShown T defers
+  looked_are_shown fixed id c why b x = (there, λ y of. same_some y x (sym of.3 ∙ here of.0 of.1 of.2))
+    where
+      here : (t : State T (View T) (World T)) → Holds defers fixed t → view_of t id ≡ Some (Settles c why (Some (b, x))) → value_at t.memory b ≡ Some x
+      here t h at = ap (λ (m : Mem T). value_at m b) h.memory ∙ (h.seats id (Settles c why (Some (b, x))) at).known.2
+
+      there : Shown (Holds defers fixed) id (Settles c why (Some (b, x))) b
+      there t h at = subst IsSome (sym (here t h at)) refl
+
+module _ {T : Type 0} (defers : T → Option ℕ) (fixed : Fixed) (id : ℕ) where
+  some_same : (y : Bool) (o : Option T) → IsSome (if y then o else None) → y ≡ true
+  some_same true o is = refl
+  some_same false o is = absurd (cc is)
+
+  pub is_looked : (v : View T) (b : ℕ) → IsSome (shown_in v b)
+      → Shown (Holds defers fixed) id v b × ((y : T) → IsValueOf (Holds defers fixed) id v b y → shown_in v b ≡ Some y)
+  is_looked (Settles c why (Some (a, x))) b is =
+      let e : b ≡ a = eqb-true b a (some_same (b == a) (Some x) is) in
+      let k = looked_are_shown T defers fixed id c why a x in (
+        subst (λ (n : ℕ). Shown (Holds defers fixed) id (Settles c why (Some (a, x))) n) (sym e) k.0,
+        λ y of. ap (λ (z : Bool). if z then Some x else None) (some_same (b == a) (Some x) is)
+            ∙ ap Some (sym (k.1 y (subst (λ (n : ℕ). IsValueOf (Holds defers fixed) id (Settles c why (Some (a, x))) n y) e of))),
+      )
+  is_looked (Settles c why None) b is = absurd (cc is)
+  is_looked Rests b is = absurd (cc is)
+  is_looked (Registers c) b is = absurd (cc is)
+  is_looked (Outside t) b is = absurd (cc is)
+  is_looked (Enters t) b is = absurd (cc is)
+  is_looked (Inside t has) b is = absurd (cc is)
+  is_looked (Leaves t size) b is = absurd (cc is)
+  is_looked (Left t size) b is = absurd (cc is)
+  is_looked (Frees t) b is = absurd (cc is)

@@ -1,0 +1,107 @@
+-- What a seat does within its section that is no step of a row, and that it goes on from there.
+use Rattle.std.specs.Prelude.{◌≢◌, Option, Some, IsSome, length}
+use Rattle.std.proofs.Common.{◌≡◌, ℕ, ◌+◌, List, true, false, sym, subst, ap, ◌∙◌}
+use Rattle.seize_words.specs.Mem.{Mem, Took, value_at}
+use Rattle.seize_words.specs.Op.{Op, Out}
+use Rattle.seize.specs.declared.states.TheConstants.{LAST_SLOT}
+use Rattle.seize.specs.Law.{Effect, holds, is_over}
+use Rattle.seize.specs.World.{World, Use, Hand, with_at}
+use Rattle.seize.specs.World as world
+use Rattle.seize_alone.proofs.Given.SeizeMoves.State.Ghost.{IsOwned}
+use Rattle.seize_alone.proofs.Given.SeizeMoves.Moves.Blocks.{never_held}
+use Rattle.seize_rule.proofs.Points.Aside.{HandFits}
+use Rattle.seize_rule.proofs.Rows.Others.{with_other}
+use Rattle.seize_alone.proofs.Histories.Reached.{Reached}
+use Rattle.seize_seats.specs.State.{State, view_of, Goes}
+use Rattle.seize_shared.specs.Rows.{use_of, IsInHand, RootsNameLinked, Fits, Came, Holds, Keeps}
+use Rattle.seize_shared.specs.declared.view.View.{View}
+use Rattle.seize_shared.specs.declared.view.View.TheVariants.{Inside}
+use Rattle.seize_shared.specs.declared.view.Has.{Has}
+use Rattle.seize_shared.specs.declared.view.Fixed.{Fixed}
+use Rattle.seize_shared.proofs.Moved.{StillHas, moved, still_used}
+use Rattle.seize_shared.proofs.Steps.{alone}
+
+-- hands of different kinds, and of different holders
+
+pub apart_making : (j i : ℕ) → world.Making j ≡ world.Making i → j ≡ i
+apart_making j i e = cc e
+
+pub cutting_making : (j i : ℕ) → world.Cutting j ≡ world.Making i → ⊥
+cutting_making j i e = cc e
+
+pub use_making : (r i : ℕ) → world.InUse r ≡ world.Making i → ⊥
+use_making r i e = cc e
+
+pub making_use : (j r : ℕ) → world.Making j ≡ world.InUse r → ⊥
+making_use j r e = cc e
+
+pub cutting_use : (j r : ℕ) → world.Cutting j ≡ world.InUse r → ⊥
+cutting_use j r e = cc e
+
+pub same_use : (a r : ℕ) → world.InUse a ≡ world.InUse r → a ≡ r
+same_use a r e = cc e
+
+module _ {T : Type 0} where
+  -- another block's hand is as it was
+  pub beside : (w : World T) (b c : ℕ) (k l : Hand) → (l ≡ w.hand b → ⊥) → w.hand c ≡ l → with_at w.hand b k c ≡ l
+  beside w b c k l ne is = with_other w.hand b c k (λ e. ne (sym is ∙ ap w.hand e)) ∙ is
+
+  -- an operation of the memory is one of the world's
+  pub world_took : (s : State T (View T) (World T)) → s.memory ≡ s.world.memory → (op : Op T) (out : Out T) (m : Mem T) → Took s.memory op out m
+      → Took s.world.memory op out m
+  world_took s is op out m took = subst (λ (x : Mem T). Took x op out m) is took
+
+  -- a block that its maker has no section holds
+  pub making_not_held : (defers : T → Option ℕ) (size : ℕ) (w : World T) (r : Reached defers size w) (id a b c : ℕ) → holds a c w.log ≡ true
+      → w.hand b ≡ world.Making id → c ≡ b → ⊥
+  making_not_held defers size w r id a b c held mine e =
+      let life : r.good.state.life b ≡ IsOwned id = subst (λ (k : Hand). HandFits k (r.good.state.life b)) mine (r.good.hands b) in
+      let none = never_held (LAST_SLOT + 1) id r.good.state b r.good.inv life a in
+      cc (subst (λ (l : List Effect). holds a b l ≡ false) r.good.logged none, subst (λ (k : ℕ). holds a k w.log ≡ true) e held)
+
+module _ {T : Type 0} (defers : T → Option ℕ) (fixed : Fixed) (s : State T (View T) (World T)) (id t : ℕ) where
+  abbrev w : World T
+  w = s.world
+
+  -- what events of a seat within a section have left that are no steps of rows
+  pub record Users (m : Mem T) (n : World T) (has : Has) : Type 0 where
+    pub came : Came defers fixed n
+    pub memory : m ≡ n.memory
+    pub row : n.row ≡ w.row
+    pub uses : n.uses ≡ w.uses
+    pub in_hand : IsInHand n id t has
+    pub hands : (j b : ℕ) → j ≢ id → StillHas defers fixed s id n j b
+    pub values : (b : ℕ) → IsSome (value_at w.memory b) → IsSome (value_at n.memory b) → value_at n.memory b ≡ value_at w.memory b
+    pub held : (a b : ℕ) → holds a b w.log ≡ true → holds a b n.log ≡ true
+    pub over : (a b : ℕ) → holds a b w.log ≡ true → is_over b n.log ≡ is_over b w.log
+    pub roots : RootsNameLinked m n.hand
+    pub rooted : length m.roots ≡ fixed.roots
+
+module _ {T : Type 0} (defers : T → Option ℕ) (fixed : Fixed) (s : State T (View T) (World T)) (id t : ℕ) (had : Has) (h : Holds defers fixed s)
+    (at : view_of s id ≡ Some (Inside t had)) where
+  fit : Fits s.world id (Inside t had)
+  fit = h.seats id (Inside t had) at
+
+  -- the seat goes on from there
+  pub users : (m : Mem T) (n : World T) (has : Has) → Users defers fixed s id t m n has → (so : View T → Type 0) → so (Inside t has)
+      → Goes (Holds defers fixed) Keeps s m id so
+  users m n has u so is =
+      moved defers fixed s id (Inside t had) (Inside t has) m n so h at (record {
+        came = u.came;
+        memory = u.memory;
+        rows = λ j ne. ap (λ f. f j) u.row;
+        own = record {
+          row = ap (λ f. f id) u.row ∙ fit.row;
+          slot = ap (λ (f : ℕ → Use). f t) u.uses ∙ fit.slot;
+          short = tt;
+          known = u.in_hand;
+        };
+        others = λ j x ne e. still_used s.world n (use_of x) (h.seats j x e).slot (λ a b q. ap (λ (f : ℕ → Use). f a) u.uses);
+        alone = alone defers fixed s id (Inside t had) h at (Inside t has) (λ a b q. (b, q));
+        hands = u.hands;
+        values = u.values;
+        held = λ a b inside held. u.held a b held;
+        over = u.over;
+        roots = u.roots;
+        rooted = u.rooted;
+      }) is

@@ -1,0 +1,84 @@
+-- What an operation tells its seat.
+use Rattle.std.specs.Prelude.{◌≡◌, ◌<◌, ◌^◌, ℕ, ◌==◌, Option, Some, None, Ok, Err, nat_lt, if◌then◌else◌}
+use Rattle.seize_words.specs.Mem.{Mem, Took, value_at}
+use Rattle.seize_words.specs.Word.{block_in}
+use Rattle.seize_words.specs.Op.{Op, Out, Load, Swap, Make, Take, Found, Made as OutMade, Taken}
+use Rattle.seize_words.specs.Plan.{Plan, Turn, Do, Ends}
+use Rattle.seize_words.specs.declared.at.At.TheVariants.{Root}
+use Rattle.seize.specs.declared.states.TheConstants.{ACTIVE}
+use Rattle.seize.specs.declared.progress.Progress.{Progress}
+use Rattle.seize.specs.declared.progress.Progress.TheVariants as progress
+use Rattle.seize.specs.declared.rows.register.Register.{Register}
+use Rattle.seize.specs.declared.rows.settle.Settle.{Settle}
+use Rattle.seize.specs.declared.rows.settle.Settled.{Settled}
+use Rattle.seize.specs.Register.{register_plan}
+use Rattle.seize.specs.Settle.{counting_down, settle_plan}
+use Rattle.seize_shared.specs.Rows.{IsShort}
+use Rattle.seize_shared.specs.declared.view.View.{View}
+use Rattle.seize_shared.specs.declared.view.View.TheVariants.{Rests, Registers, Outside, Enters, Inside, Settles, Leaves, Left, Frees}
+use Rattle.seize_shared.specs.declared.view.Has.{Has}
+use Rattle.seize_shared.specs.declared.view.Has.TheVariants.{Nothing, Made, Seen, Cut}
+use Rattle.seize_shared.specs.declared.view.Why.{Why}
+use Rattle.seize_shared.specs.declared.view.Why.TheVariants.{Ending}
+
+-- the block that a word of a root names, if it names one, as it was seen, or unlinked
+abbrev pub seen_in : ℕ → Has
+seen_in word = if block_in word == 0 then Nothing else Seen (block_in word)
+
+abbrev pub cut_in : ℕ → Has
+cut_in word = if block_in word == 0 then Nothing else Cut (block_in word)
+
+-- what a seat within a section comes to know: it makes a block, takes it away again, or puts it at a root; sees what a root names, or takes it from there
+abbrev pub has_told : {T : Type 0} → Has → Op T → Out T → Has → Type 0
+has_told Nothing (Make value words) (OutMade (Ok b)) after = (b < 2 ^ 53) × (after ≡ Made b)
+has_told Nothing (Make value words) (OutMade (Err back)) after = after ≡ Nothing
+has_told (Made b) (Take c) (Taken value) after = after ≡ Nothing
+has_told (Made b) (Swap (Root r) word) (Found old) after = after ≡ cut_in old
+has_told Nothing (Swap (Root r) word) (Found old) after = after ≡ cut_in old
+has_told Nothing (Load (Root r)) (Found word) after = after ≡ seen_in word
+has_told (Seen b) (Load (Root r)) (Found word) after = after ≡ seen_in word
+has_told _ op out after = ⊥
+
+-- what was looked at
+abbrev pub shown_by : {T : Type 0} → Option (ℕ × T) → ℕ → Option T
+shown_by None b = None
+shown_by (Some seen) b = if b == seen.0 then Some seen.1 else None
+
+module _ {T R : Type 0} where
+  -- the step that makes an operation comes, in some memory, to this outcome after this answer
+  abbrev pub ComesTo : Plan T R → Out T → R → Type 0
+  ComesTo (Turn rest) out end = ⊥
+  ComesTo (Do op rest) out end = (m n : Mem T) × Took m op out n × Ends (value_at n) (rest out) end
+
+  -- or by what it looked at
+  abbrev pub FollowsBy : (ℕ → Option T) → Plan T R → Out T → R → Type 0
+  FollowsBy shown (Turn rest) out end = ⊥
+  FollowsBy shown (Do op rest) out end = Ends shown (rest out) end
+
+-- what a seat knows once registering has come so far
+abbrev pub left_by : {T : Type 0} → Register × Progress ℕ → View T
+left_by (c, progress.Done t) = Outside t
+left_by (c, progress.Refused fault) = Rests
+left_by (c, _) = Registers c
+
+-- and once the list of its slot was taken, with this head
+abbrev pub list_taken : {T : Type 0} → ℕ → ℕ → ℕ → View T
+list_taken t size head = if nat_lt ACTIVE head then Settles (counting_down t size head) (Ending size) None else Left t size
+
+module _ {T : Type 0} (defers : T → Option ℕ) where
+  -- a settling goes on, with the same slot
+  pub record GoesOn (c : Settle) (why : Why) (out : Out T) (w : View T) : Type 0 where
+    pub end : Settle × Settled T
+    pub seen : Option (ℕ × T)
+    pub follows : FollowsBy (shown_by seen) (settle_plan defers c) out end
+    pub slot : end.0.slot ≡ c.slot
+    pub view : w ≡ Settles end.0 why seen
+
+  abbrev pub told : View T → Op T → Out T → View T → Type 0
+  told (Registers c) op out w = (end : Register × Progress ℕ) × ComesTo (register_plan {T = T} c) out end × (w ≡ left_by end) × IsShort w
+  told (Enters t) op out w = w ≡ Inside t Nothing
+  told (Inside t has) op out w = (after : Has) × has_told has op out after × (w ≡ Inside t after)
+  told (Settles c why seen) op out w = GoesOn c why out w
+  told (Leaves t size) op (Found head) w = w ≡ list_taken t size head
+  told (Frees t) op out w = w ≡ Rests
+  told _ op out w = ⊥

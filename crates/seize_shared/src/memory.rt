@@ -1,0 +1,168 @@
+//! A caller as the memory of the rows that it has under way: it retires blocks, and leaves.
+ghost use Rattle.std.specs.Prelude.{◌≡◌, ◌≢◌, ◌<◌, ◌^◌, true, false};
+ghost use Rattle.seize.specs.declared.rows.settle.Settling.TheVariants.{Over};
+ghost use Rattle.seize_shared.specs.Made.{IsSettling};
+ghost use Rattle.seize_shared.specs.Promises.{IsLooking};
+ghost use Rattle.seize_shared.specs.Told.{list_taken};
+ghost use Rattle.seize_shared.specs.declared.view.Has.{Has};
+ghost use Rattle.seize_shared.specs.declared.view.Has.TheVariants.{Nothing, Cut};
+ghost use Rattle.seize_shared.specs.declared.view.View.TheVariants.{Outside, Inside, Left};
+ghost use Rattle.seize_shared.specs.declared.view.Why.{Why};
+
+use crate::caller::Caller;
+use crate::turns::{Ending, Flushing, Leaving, Retiring};
+use seize::Machine;
+use seize::rows::{Defers, Settle, Settled, Settling};
+use seize::states::{ACTIVE, HEAD, IDLE};
+use seize_words::{At, Fault, Link, Look, Memory};
+use std::sync::Wait;
+
+/// Whether a settling has ended.
+fn is_over(row: &Settle) -> bool
+    ensures over { result ≡ true → row.now.stands ≡ Over }
+    ensures not { result ≡ false → row.now.stands ≢ Over }
+{
+    matches!(row.stands, Settling::Over)
+}
+
+impl<'a, T: Defers> Caller<'a, T> {
+    /// Takes the next step of a settling that is not over, and answers the value that it has reclaimed, if it has.
+    fn steps(&mut self, row: &mut Settle) -> Option<T>
+        requires settling { (why : Why) × IsSettling why row.old self.old.seat.view }
+        requires not { row.old.stands ≢ Over }
+        ensures settling { (why : Why) → IsSettling why row.old self.old.seat.view → IsSettling why row.new self.new.seat.view }
+        ensures slot { row.new.slot ≡ row.old.slot }
+        ensures blocks { self.new.blocks ≡ self.old.blocks }
+    {
+        match row.step(self) {
+            Settled::Gave(value) => Some(value),
+            _ => None,
+        }
+    }
+}
+
+impl<'a, T: Defers + Drop> Caller<'a, T> {
+    /// Takes a settling to its end. A value that is reclaimed is dropped.
+    pub(crate) fn settles<W: Wait>(&mut self, rt: &W, row: &mut Settle)
+        requires settling { (why : Why) × IsSettling why row.old self.old.seat.view }
+        ensures settling { (why : Why) → IsSettling why row.old self.old.seat.view → IsSettling why row.new self.new.seat.view }
+        ensures over { row.new.stands ≡ Over }
+        ensures slot { row.new.slot ≡ row.old.slot }
+        ensures blocks { self.new.blocks ≡ self.old.blocks }
+    {
+        for _ in rt.forever() {
+            if is_over(row) {
+                return;
+            }
+            drop(self.steps(row));
+        }
+        unreachable!()
+    }
+
+    /// Counts a list down that was taken from its slot.
+    fn counts_down<W: Wait>(&mut self, rt: &W, slot: u64, head: u64)
+        requires taken { self.old.seat.view ≡ list_taken slot self.old.blocks.now.words.fixed.batch_size head }
+        ensures left { self.new.seat.view ≡ Left slot self.old.blocks.now.words.fixed.batch_size }
+        ensures blocks { self.new.blocks ≡ self.old.blocks }
+    {
+        if head <= ACTIVE {
+            return;
+        }
+        let mut row = Settle::count_down(slot, self.batch_size, head);
+        self.settles(rt, &mut row);
+        self.blocks.turn::<Ending>(&mut self.seat);
+    }
+
+    /// Ends the section: what its slot's list owes is settled. A value that is reclaimed is dropped.
+    pub fn leave<W: Wait>(&mut self, rt: &W, slot: u64)
+        requires inside { (has : Has) × IsLooking has × (self.old.seat.view ≡ Inside slot has) }
+        ensures outside { self.new.seat.view ≡ Outside slot }
+        ensures blocks { self.new.blocks ≡ self.old.blocks }
+    {
+        self.blocks.turn::<Leaving>(&mut self.seat);
+        let head = self.blocks.swap(&mut self.seat, At::Slot(slot, HEAD), IDLE);
+        self.counts_down(rt, slot, head);
+        self.blocks.turn::<Ending>(&mut self.seat);
+    }
+
+    /// Tries its batch, whatever its length. A value that is reclaimed is dropped. What it has seen it doesn't know any more.
+    pub fn flush<W: Wait>(&mut self, rt: &W, slot: u64)
+        requires inside { (has : Has) × IsLooking has × (self.old.seat.view ≡ Inside slot has) }
+        ensures inside { self.new.seat.view ≡ Inside slot Nothing }
+        ensures blocks { self.new.blocks ≡ self.old.blocks }
+    {
+        self.blocks.turn::<Flushing>(&mut self.seat);
+        let mut row = Settle::flush(slot, self.batch_size);
+        self.settles(rt, &mut row);
+        self.blocks.turn::<Ending>(&mut self.seat);
+    }
+
+    /// Retires the block that it has taken from a root. A value that is reclaimed is dropped.
+    pub fn retire<W: Wait>(&mut self, rt: &W, slot: u64, block: u64)
+        requires cut { self.old.seat.view ≡ Inside slot (Cut block) }
+        requires fits { block < 2 ^ 53 }
+        ensures inside { self.new.seat.view ≡ Inside slot Nothing }
+        ensures blocks { self.new.blocks ≡ self.old.blocks }
+    {
+        self.blocks.turn::<Retiring>(&mut self.seat);
+        let mut row = Settle::retire(slot, self.batch_size, Link::to(block));
+        self.settles(rt, &mut row);
+        self.blocks.turn::<Ending>(&mut self.seat);
+    }
+}
+
+impl<'a, T: Defers> Look<T> for Caller<'a, T> {
+    ghost use Rattle.seize_shared.specs.Made.{CanMake, HasMade, shown_of};
+
+    ghost can = { CanMake T.defers };
+
+    ghost took = { HasMade T.defers };
+
+    ghost shown = { shown_of };
+
+    fn load(&mut self, at: At) -> u64 {
+        self.blocks.load(&mut self.seat, at)
+    }
+
+    fn value(&self, block: u64) -> &T {
+        self.blocks.value(&self.seat, block)
+    }
+}
+
+impl<'a, T: Defers> Memory<T> for Caller<'a, T> {
+    fn store(&mut self, at: At, word: u64) {
+        self.blocks.store(&mut self.seat, at, word);
+    }
+
+    fn swap(&mut self, at: At, word: u64) -> u64 {
+        self.blocks.swap(&mut self.seat, at, word)
+    }
+
+    fn add(&mut self, at: At, by: u64) -> u64 {
+        self.blocks.add(&mut self.seat, at, by)
+    }
+
+    fn or(&mut self, at: At, bits: u64) -> u64 {
+        self.blocks.or(&mut self.seat, at, bits)
+    }
+
+    fn exchange(&mut self, at: At, old: u64, new: u64) -> Result<u64, u64> {
+        self.blocks.exchange(&mut self.seat, at, old, new)
+    }
+
+    fn make(&mut self, value: T, words: u64) -> Result<u64, T> {
+        self.blocks.make(&mut self.seat, value, words)
+    }
+
+    fn take(&mut self, block: u64) -> T {
+        self.blocks.take(&mut self.seat, block)
+    }
+
+    fn rewrite(&mut self, block: u64, value: T) -> T {
+        self.blocks.rewrite(&mut self.seat, block, value)
+    }
+
+    fn room(&mut self, bucket: u64) -> Result<(), Fault> {
+        self.blocks.room(&mut self.seat, bucket)
+    }
+}
