@@ -1,5 +1,4 @@
 pub mod KeptGiven
-use Rattle.papaya_scenes.specs.Beginning.{Begins}
 pub mod Backs
 pub mod Works
 pub mod Rights
