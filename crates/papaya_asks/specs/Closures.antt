@@ -15,8 +15,8 @@ use Rattle.papaya_owned.specs.declared.machines.Stop.{Stop}
 use Rattle.papaya_owned.specs.declared.machines.Stop.TheVariants as stop
 use Rattle.papaya_asks.specs.declared.computing.Computed.{Computed}
 use Rattle.papaya_asks.specs.declared.computing.Computed.TheVariants as computed
-use Rattle.papaya_asks.specs.declared.computing.Operation.{Operation}
-use Rattle.papaya_asks.specs.declared.computing.Operation.TheVariants as operation
+use Rattle.papaya_operation.specs.declared.operation.Operation.{Operation}
+use Rattle.papaya_operation.specs.declared.operation.Operation.TheVariants as operation
 use Rattle.seize_words.specs.declared.refused.RefusedKey.{RefusedKey}
 use Rattle.seize_words.specs.declared.refused.Refused.{Refused}
 

@@ -8,22 +8,12 @@ ghost use Rattle.papaya_owned.specs.Owned.{Holds, IsWordOf, found_by, hashed_by}
 
 use crate::asking::{key_of, start};
 use crate::updates::replied;
+use papaya_operation::Operation;
 use papaya_owned::{OnKey, Stop, pair_at};
 use papaya_raw::machines::{KeyAnswer, KeyCall, Reply};
 use papaya_tables::{Hashes, Node, Setting};
 use seize_words::{Plain, RefusedKey};
 use std::hash::{BuildHasher, Hash};
-
-/// What a computing gives, by the pair that is there, or where there is none.
-#[derive(Debug, Drop, PartialEq, Eq)]
-pub enum Operation<V, T> {
-    /// This value is to be stored.
-    Insert(V),
-    /// The pair is to be removed.
-    Remove,
-    /// Nothing is to change.
-    Abort(T),
-}
 
 /// What a computing has come to.
 #[derive(Drop)]

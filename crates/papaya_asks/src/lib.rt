@@ -8,7 +8,7 @@ mod lent;
 mod removals;
 mod updates;
 
-pub use computing::{Computed, Operation, compute};
+pub use computing::{Computed, compute};
 pub use removals::{remove, remove_if};
 pub use seize_words::{Refused, RefusedKey};
 pub use updates::{insert_with, update, update_or_insert, update_or_insert_with};

@@ -14,7 +14,7 @@ use Rattle.papaya_asks.specs.Asking.{AnswersAs, EndsAs, RefusedAs}
 use Rattle.papaya_asks.specs.Closures.{ComesTo, ComesToWith, ComputesTo, Computing}
 use Rattle.papaya_asks.specs.declared.computing.Computed.{Computed}
 use Rattle.papaya_asks.specs.declared.computing.Computed.TheVariants as computed
-use Rattle.papaya_asks.specs.declared.computing.Operation.{Operation}
+use Rattle.papaya_operation.specs.declared.operation.Operation.{Operation}
 use Rattle.seize_words.specs.declared.refused.RefusedKey.{RefusedKey}
 use Rattle.seize_words.specs.declared.refused.Refused.{Refused}
 use Rattle.papaya_sifts.specs.Given.Shown.Chain.{CannotGrowIn}

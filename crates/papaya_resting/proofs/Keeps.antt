@@ -17,7 +17,7 @@ use Rattle.papaya_asks.specs.Asking.{AnswersAs, EndsAs}
 use Rattle.papaya_asks.specs.Closures.{ComputesTo, computing_stop}
 use Rattle.papaya_asks.specs.declared.computing.Computed.{Computed}
 use Rattle.papaya_asks.specs.declared.computing.Computed.TheVariants as computed
-use Rattle.papaya_asks.specs.declared.computing.Operation.{Operation}
+use Rattle.papaya_operation.specs.declared.operation.Operation.{Operation}
 use Rattle.seize_words.specs.declared.refused.RefusedKey.{RefusedKey}
 use Rattle.papaya_sifts.specs.Given.Callers.Pairs.{Given}
 use Rattle.papaya_owned.specs.Calling.{HasStopped, stop_by}

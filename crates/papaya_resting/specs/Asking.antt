@@ -10,8 +10,8 @@ use Rattle.papaya_sifts.specs.Given.Late.Faults.{IsRoom}
 use Rattle.papaya_asks.specs.Closures.{Computing}
 use Rattle.papaya_asks.specs.declared.computing.Computed.{Computed}
 use Rattle.papaya_asks.specs.declared.computing.Computed.TheVariants as computed
-use Rattle.papaya_asks.specs.declared.computing.Operation.{Operation}
-use Rattle.papaya_asks.specs.declared.computing.Operation.TheVariants as operation
+use Rattle.papaya_operation.specs.declared.operation.Operation.{Operation}
+use Rattle.papaya_operation.specs.declared.operation.Operation.TheVariants as operation
 use Rattle.papaya_owned.specs.Owned.{found_by, left_by}
 use Rattle.papaya_resting.specs.declared.change.Change.{Change}
 use Rattle.papaya_resting.specs.declared.change.Change.TheVariants as change

@@ -3,8 +3,8 @@ use Rattle.std.specs.Prelude.{false, IsTrue, MatchOption, is_some}
 use Rattle.std.specs.Option.{unwrap_or}
 use Rattle.std.proofs.Common.{◌≡◌, Bool, [], ◌∷◌, ◌++◌, Option, Some, None, Ok, refl, sym, ap, subst}
 use Rattle.papaya_asks.specs.Closures.{Removing}
-use Rattle.papaya_asks.specs.declared.computing.Operation.{Operation}
-use Rattle.papaya_asks.specs.declared.computing.Operation.TheVariants as operation
+use Rattle.papaya_operation.specs.declared.operation.Operation.{Operation}
+use Rattle.papaya_operation.specs.declared.operation.Operation.TheVariants as operation
 use Rattle.seize_words.specs.declared.refused.RefusedKey.{RefusedKey}
 use Rattle.papaya_resting.specs.Asking.{HasComputed, HasDone}
 use Rattle.papaya_resting.specs.Given.{found_by, left_by}

@@ -1,8 +1,8 @@
 -- What a computing has done with the pair of a key, which its answer lends.
 use Rattle.std.specs.Prelude.{◌≡◌, ⊤, Bool, IsTrue, Option, Some, None, is_some}
 use Rattle.std.specs.Borrow.{GName}
-use Rattle.papaya_asks.specs.declared.computing.Operation.{Operation}
-use Rattle.papaya_asks.specs.declared.computing.Operation.TheVariants as operation
+use Rattle.papaya_operation.specs.declared.operation.Operation.{Operation}
+use Rattle.papaya_operation.specs.declared.operation.Operation.TheVariants as operation
 use Rattle.papaya_resting.specs.Given.{found_by}
 use Rattle.papaya_seq_map.specs.Answers.{HasAdded, HasRemoved, HasReplaced, IsLeft}
 use Rattle.papaya_seq_shows.specs.Maps.{Map}

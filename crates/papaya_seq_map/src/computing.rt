@@ -13,7 +13,8 @@ ghost use Rattle.papaya_seq_shows.specs.Maps.{HasNow, Keeps};
 
 use crate::answers::{Aborted, Compute, Present, Removed, Updated};
 use crate::map::HashMap;
-use papaya_asks::{Operation, RefusedKey};
+use papaya_asks::RefusedKey;
+use papaya_operation::Operation;
 use papaya_resting::{Change, Compute as Done};
 use std::hash::{BuildHasher, Hash};
 

@@ -11,8 +11,8 @@ use Rattle.papaya_sifts.specs.Given.Raw.declared.machines.asking.Reply.{Reply}
 use Rattle.papaya_sifts.specs.Given.Raw.declared.machines.asking.Reply.TheVariants as reply
 use Rattle.papaya_sifts.specs.Given.Late.Faults.{IsRoom}
 use Rattle.papaya_asks.specs.Closures.{Computing}
-use Rattle.papaya_asks.specs.declared.computing.Operation.{Operation}
-use Rattle.papaya_asks.specs.declared.computing.Operation.TheVariants as operation
+use Rattle.papaya_operation.specs.declared.operation.Operation.{Operation}
+use Rattle.papaya_operation.specs.declared.operation.Operation.TheVariants as operation
 use Rattle.papaya_resting.specs.Given.{found_by, left_by}
 use Rattle.papaya_shown.specs.Chain.{CountsTables, root_link}
 use Rattle.papaya_resting.specs.Asking.{HasDone, HasComputed, IsRefusedFor, ComesToIt, ComputesToIt}

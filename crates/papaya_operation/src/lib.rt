@@ -1,0 +1,6 @@
+//! What is said to a map, whoever owns it.
+#![tactic(auto)]
+
+mod operation;
+
+pub use operation::Operation;
