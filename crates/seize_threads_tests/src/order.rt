@@ -1,5 +1,5 @@
 //! In which order values come back: the drop of each stores the next number of a count.
-ghost use Rattle.std.specs.Prelude.{◌≡◌, ◌<◌, None};
+ghost use Rattle.std.specs.Prelude.{◌≡◌, ◌<◌, None, IfOk};
 ghost use Rattle.seize_shared.specs.declared.view.Has.TheVariants.{Nothing};
 ghost use Rattle.seize_shared.specs.declared.view.View.TheVariants.{Inside};
 
@@ -12,6 +12,8 @@ use std::alloc::{AllocError, Global};
 use std::sync::atomic::Ordering::SeqCst;
 use std::sync::{Arc, Wait};
 use std::test::Fail;
+use std::thread;
+use std::thread::Threads;
 
 /// How many values are retired.
 const MANY: usize = 30;
@@ -47,37 +49,43 @@ impl Defers for Numbered {
     }
 }
 
-/// Puts the value of a place at the root; retires the one that was there and tries the batch.
+/// Puts the value of a place at the root, and retires the one that was there; tells whether it is there.
 fn puts<W: Wait>(
     rt: &W,
     caller: &mut Caller<'_, Numbered>,
     slot: u64,
     numbers: &Table,
     place: usize,
-) -> Option<()>
+) -> bool
     requires inside { caller.old.seat.view ≡ Inside slot Nothing }
     requires root { 0 < caller.old.blocks.now.words.fixed.roots }
     ensures inside { caller.new.seat.view ≡ Inside slot Nothing }
     ensures blocks { caller.new.blocks ≡ caller.old.blocks }
 {
-    let numbers = Arc::try_clone(numbers).ok()?;
-    let Ok(block) = caller.make(slot, Numbered { place, numbers }) else {
-        return None;
+    let Ok(numbers) = Arc::try_clone(numbers) else {
+        return false;
     };
-    if let Some(old) = caller.publish(slot, 0, block) {
-        caller.retire(rt, slot, old);
-        caller.flush(rt, slot);
+    match caller.make(slot, Numbered { place, numbers }) {
+        Ok(block) => {
+            if let Some(old) = caller.publish(slot, 0, block) {
+                caller.retire(rt, slot, old);
+            }
+            true
+        }
+        Err(_) => false,
     }
-    Some(())
 }
 
-/// Within one section puts a value at the root for each place from 1 on, and one more; answers how many came back before it left.
+/// Within one section puts a value at the root for each place from 1 on, and one more, with a flush after each; answers how many came back before it left.
 fn retires<W: Wait>(rt: &W, ground: &Ground<'_, Numbered>, numbers: &Table) -> Option<u64> {
     let mut caller = Caller::new(ground.blocks, SIZE);
     let slot = caller.register().ok()?;
     caller.enter(slot);
     for turn in 0..MANY + 1 {
-        puts(rt, &mut caller, slot, numbers, turn + 1)?;
+        if !puts(rt, &mut caller, slot, numbers, turn + 1) {
+            return None;
+        }
+        caller.flush(rt, slot);
     }
     let early = at(numbers, 0);
     caller.leave(rt, slot);
@@ -85,13 +93,63 @@ fn retires<W: Wait>(rt: &W, ground: &Ground<'_, Numbered>, numbers: &Table) -> O
     Some(early)
 }
 
-/// That over one memory; answers how many came back before its guard ended, and before the memory does.
-fn retires_alone<W: Wait>(
-    rt: &W,
-    alloc: Global,
+/// Takes the value from the root, if there is one, and retires it.
+fn clears<W: Wait>(rt: &W, caller: &mut Caller<'_, Numbered>, slot: u64)
+    requires inside { caller.old.seat.view ≡ Inside slot Nothing }
+    requires root { 0 < caller.old.blocks.now.words.fixed.roots }
+    ensures inside { caller.new.seat.view ≡ Inside slot Nothing }
+    ensures blocks { caller.new.blocks ≡ caller.old.blocks }
+{
+    if let Some(old) = caller.remove(slot, 0) {
+        caller.retire(rt, slot, old);
+    }
+}
+
+/// Within one section retires as many values as a batch has, without a flush; answers how many came back by its end.
+fn fills<W: Wait>(rt: &W, ground: &Ground<'_, Numbered>, numbers: &Table) -> Option<u64> {
+    let mut caller = Caller::new(ground.blocks, SIZE);
+    let slot = caller.register().ok()?;
+    caller.enter(slot);
+    for turn in 0..SIZE as usize {
+        if !puts(rt, &mut caller, slot, numbers, turn + 1) {
+            return None;
+        }
+    }
+    clears(rt, &mut caller, slot);
+    caller.leave(rt, slot);
+    caller.unregister(slot);
+    Some(at(numbers, 0))
+}
+
+/// Ends the section of a caller that was made elsewhere.
+fn leaves<W: Wait>(rt: &W, caller: Caller<'_, Numbered>, slot: u64)
+    requires { caller.seat.view ≡ Inside slot Nothing }
+{
+    let mut caller = caller;
+    caller.leave(rt, slot);
+    caller.unregister(slot);
+}
+
+/// Is within a section while another one retires a batch, and is then sent to another thread, where it leaves; answers how many came back by the other one's end,
+/// and by its own.
+fn sends<R: Threads + Wait + Sync>(
+    rt: &R,
+    ground: &Ground<'_, Numbered>,
     numbers: &Table,
-) -> Result<Option<(u64, u64)>, AllocError> {
-    let home = Home::<Numbered, OfRows>::open(
+) -> Option<(u64, u64)> {
+    let mut caller = Caller::new(ground.blocks, SIZE);
+    let slot = caller.register().ok()?;
+    caller.enter(slot);
+    let early = fills(rt, ground, numbers)?;
+    thread::join(rt, move || leaves(rt, caller, slot), || ());
+    Some((early, at(numbers, 0)))
+}
+
+/// A memory of such values.
+fn ground_of(alloc: Global) -> Result<Home<Numbered, OfRows>, AllocError>
+    ensures { IfOk result (λ home. home.blocks.words.fixed ≡ record { batch_size = 5; roots = 1 }) }
+{
+    Home::<Numbered, OfRows>::open(
         alloc,
         1,
         64,
@@ -99,7 +157,16 @@ fn retires_alone<W: Wait>(
             batch_size: SIZE,
             roots: 1,
         },
-    )?;
+    )
+}
+
+/// Thirty values over one memory; answers how many came back before their guard ended, and before the memory does.
+fn retires_alone<W: Wait>(
+    rt: &W,
+    alloc: Global,
+    numbers: &Table,
+) -> Result<Option<(u64, u64)>, AllocError> {
+    let home = ground_of(alloc)?;
     let ground = Ground {
         blocks: &home.blocks,
     };
@@ -107,6 +174,19 @@ fn retires_alone<W: Wait>(
         return Ok(None);
     };
     Ok(Some((early, at(numbers, 0))))
+}
+
+/// A batch over one memory, with a caller that is sent; answers how many came back by the end of the one who retired it, and of the other one.
+fn sends_one<R: Threads + Wait + Sync>(
+    rt: &R,
+    alloc: Global,
+    numbers: &Table,
+) -> Result<Option<(u64, u64)>, AllocError> {
+    let home = ground_of(alloc)?;
+    let ground = Ground {
+        blocks: &home.blocks,
+    };
+    Ok(sends(rt, &ground, numbers))
 }
 
 /// Each place from 1 on has the number of those that were retired after it, and one.
@@ -127,5 +207,26 @@ fn thirty_values_come_back_as_their_guard_ends_and_the_last_first(
     let counts = retires_alone(&rt, rt.alloc(), &numbers)?;
     assert_eq!(rt; counts, Some((0, MANY as u64)));
     assert!(rt; is_last_first(&numbers));
+    Ok(())
+}
+
+/// Each place from 1 on has its own number.
+fn is_in_order(numbers: &Table) -> bool {
+    for turn in 0..SIZE as usize {
+        if at(numbers, turn + 1) != turn as u64 + 1 {
+            return false;
+        }
+    }
+    true
+}
+
+#[test]
+fn a_batch_comes_back_in_order_where_a_guard_ends_on_another_thread(
+    rt: HostRuntime,
+) -> Result<(), Fail> {
+    let numbers = table(rt.alloc(), SIZE as usize + 1)?;
+    let counts = sends_one(&rt, rt.alloc(), &numbers)?;
+    assert_eq!(rt; counts, Some((0, SIZE)));
+    assert!(rt; is_in_order(&numbers));
     Ok(())
 }

@@ -215,7 +215,7 @@ fn what_a_section_has_seen_is_there_and_each_value_is_dropped_once(
     Ok(())
 }
 
-/// Puts a value at the root, and four more once the other one has seen it; answers how often the first one was dropped while the other one is within its
+/// Puts a value at the root, and five more once the other one has seen it; answers how often the first one was dropped while the other one is within its
 /// section.
 fn replaces<W: Wait>(
     rt: &W,
@@ -230,7 +230,7 @@ fn replaces<W: Wait>(
     caller.leave(rt, slot);
     let seen = add(bell, 1) == 1 && sees(bell, 2);
     caller.enter(slot);
-    for place in 1..5 {
+    for place in 1..6 {
         there = puts(rt, &mut caller, slot, drops, place) && there;
     }
     caller.leave(rt, slot);
@@ -244,7 +244,7 @@ fn replaces<W: Wait>(
     }
 }
 
-/// Sees the first value, and is within its section until four more were put; tells whether the value was there all the time, and the four that were retired
+/// Sees the first value, and is within its section until five more were put; tells whether the value was there all the time, and the five that were retired
 /// meanwhile were dropped as it left.
 fn stays<W: Wait>(
     rt: &W,
@@ -261,9 +261,9 @@ fn stays<W: Wait>(
     let block = caller.see(slot, 0)?;
     let replaced = add(bell, 1) == 2 && sees(bell, 3);
     let value = caller.value(slot, block);
-    let kept = value.place == 0 && all_are(&value.drops, 4, 0);
+    let kept = value.place == 0 && all_are(&value.drops, 5, 0);
     caller.leave(rt, slot);
-    let gone = all_are(drops, 4, 1);
+    let gone = all_are(drops, 5, 1);
     let met = add(bell, 1) == 4;
     caller.unregister(slot);
     Some(replaced && kept && gone && met)
@@ -298,11 +298,11 @@ fn replaces_beside_stays<R: Threads + Wait + Sync>(
 /// If one thread were served after the other, they would wait for each other in vain, and the test would fail.
 #[test]
 fn the_last_to_leave_drops_what_was_retired(rt: HostRuntime) -> Result<(), Fail> {
-    let drops = table(rt.alloc(), 5)?;
+    let drops = table(rt.alloc(), 6)?;
     let gate = Home::<u64, OneRoot>::open(rt.alloc(), 1, 0, &())?;
     let (early, kept) = replaces_beside_stays(&rt, rt.alloc(), &gate.blocks, &drops)?;
     assert_eq!(rt; early, Some(0));
     assert_eq!(rt; kept, Some(true));
-    assert!(rt; all_are(&drops, 5, 1));
+    assert!(rt; all_are(&drops, 6, 1));
     Ok(())
 }

@@ -1,0 +1,8 @@
+use Rattle.std.proofs.Common.{◌≡◌}
+use Rattle.seize_shared.specs.declared.view.Has.TheVariants.{Nothing}
+use Rattle.seize_shared.specs.declared.view.View.TheVariants.{Inside}
+use Rattle.seize_threads_tests.proofs.order.fills.Given as goal
+
+-- between two turns it is within its section
+abbrev pub invariant-loop-turn : goal.invariant-loop-turn
+invariant-loop-turn g l = (l.caller.seat.view ≡ Inside l.slot Nothing) × (l.caller.blocks.now ≡ l.ground.blocks.now)
