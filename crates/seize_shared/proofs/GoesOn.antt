@@ -3,7 +3,7 @@ use Rattle.std.proofs.Common.{ℕ, subst}
 use Rattle.std.specs.Prelude.{Option}
 use Rattle.seize_words.specs.Op.{Op, Store, Swap}
 use Rattle.seize_words.specs.declared.at.At.TheVariants.{Slot}
-use Rattle.seize.specs.declared.states.TheConstants.{HEAD, FREE, IDLE, ACTIVE}
+use Rattle.seize.specs.declared.states.TheConstants.{HEAD, FREE, ACTIVE}
 use Rattle.seize_acts.proofs.Answers.{same_some}
 use Rattle.seize_seats.specs.State.{Allows}
 use Rattle.seize_shared.specs.Rows.{Holds, Keeps, head_of}

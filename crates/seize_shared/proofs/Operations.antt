@@ -4,7 +4,7 @@ use Rattle.std.proofs.Common.{◌≡◌, ℕ, Bool, true, false, [], ◌∷◌, 
 use Rattle.seize_words.specs.Mem.{Mem, Can, Took}
 use Rattle.seize_words.specs.Op.{Out, Store, Swap, Found, Stored, Exchanged, Made, Taken, Roomed}
 use Rattle.seize_words.specs.declared.at.At.TheVariants.{Slot}
-use Rattle.seize.specs.declared.states.TheConstants.{HEAD, FREE, IDLE, ACTIVE}
+use Rattle.seize.specs.declared.states.TheConstants.{HEAD, FREE, ACTIVE}
 use Rattle.seize.specs.declared.progress.Progress.TheVariants.{Done}
 use Rattle.seize.specs.declared.rows.leave.Leave.{Leave}
 use Rattle.seize.specs.declared.rows.leave.Leaving.TheVariants as leaving_at
@@ -12,7 +12,7 @@ use Rattle.seize.specs.declared.rows.settle.Settled.TheVariants as settled
 use Rattle.seize.specs.Settle.{counting_down}
 use Rattle.seize.specs.Leave.{standing}
 use Rattle.seize.specs.Law.{Entered}
-use Rattle.seize.specs.World.{World, Row, Use, MayStep, Steps', after_step, with_use, leaves_on, at_start}
+use Rattle.seize.specs.World.{World, Row, Use, MayStep, after_step, with_use, leaves_on}
 use Rattle.seize.specs.World as world
 use Rattle.seize_rule.proofs.World.Kept.{rows_may}
 use Rattle.seize_rule.proofs.Rows.Others.{with_here}
