@@ -85,10 +85,11 @@ where
     }
 }
 
-impl<E: Drop, R: Runner<E> + Drop, N: CrewName> Crew<E, R, N>
+impl<E: Drop, R: Runner<E>, N: CrewName> Crew<E, R, N>
 where
     R::Outcome: Drop,
     R::Run: Drop,
+    R::Hasher: Drop,
 {
     /// The kept schedule with its run, where it holds of each driver just its list, events and outcomes compared by the runner's tests, and else none. If memory had run out for an event,
     /// the run is made anew. The one fault is Memory.

@@ -95,8 +95,8 @@ where
     ))
 }
 
-/// The run of a kept schedule: what is running comes to its end, or, if it is broken, the schedule runs anew.
-fn run_of<E: Drop, R: Runner<E> + Drop>(
+/// The run of a kept schedule: what is running comes to its end, or, if it is broken, the schedule runs anew, by the same hasher.
+fn run_of<E: Drop, R: Runner<E>>(
     alloc: Global,
     setup: Setup,
     choices: Vec<u64>,
@@ -104,14 +104,17 @@ fn run_of<E: Drop, R: Runner<E> + Drop>(
     runner: R,
     is_broken: bool,
 ) -> Result<R::Run, Fault>
+where
+    R::Hasher: Drop,
     requires copies { R.can_copy }
     requires come { is_broken ≡ false → R.has_come setup (events_of schedule.now) runner }
     ensures run { IfOk result (R.is_run setup (events_of schedule.now)) }
     ensures memory { IfErr result (λ fault. fault ≡ Fault.Memory) }
 {
     if is_broken {
+        let hasher = runner.into_hasher();
         let again = events_again::<E, R>(alloc, schedule)?;
-        return runner.run_anew(alloc, setup, choices, again);
+        return R::run_anew(alloc, setup, hasher, choices, again);
     }
     Ok(runner.end(alloc)?)
 }
@@ -186,7 +189,10 @@ where
     }
 }
 
-impl<E: Drop, R: Runner<E> + Drop, N: CrewName> Locked<E, R, N> {
+impl<E: Drop, R: Runner<E>, N: CrewName> Locked<E, R, N>
+where
+    R::Hasher: Drop,
+{
     /// The kept schedule with its run, and the book, whose total is the number of events. A broken run is made anew. The one fault is Memory.
     pub(crate) fn finish(self, alloc: Global) -> Result<(Finished<E, R::Run>, Book<N>), Fault>
         ensures run { IfOk result (λ f. R.is_run N.setup (events_of f.0.schedule.items) f.0.run) }

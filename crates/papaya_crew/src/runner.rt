@@ -66,11 +66,14 @@ pub trait Runner<E> {
         requires { (setup : Setup) × (events : List E) × has_come setup events self }
         ensures { IfOk result (λ run. (setup : Setup) (events : List E) → has_come setup events self → is_run setup events run) };
 
-    /// The run of a schedule from its first event on, by the same hasher. The one fault is Memory.
+    /// What gave its keys their hashes.
+    fn into_hasher(self) -> Self::Hasher;
+
+    /// The run of a schedule from its first event on. The one fault is Memory.
     fn run_anew(
-        self,
         alloc: Global,
         setup: Setup,
+        hasher: Self::Hasher,
         choices: Vec<u64>,
         schedule: Vec<E>,
     ) -> Result<Self::Run, Fault>

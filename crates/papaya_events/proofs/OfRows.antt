@@ -218,10 +218,12 @@ module _ {K V S : Type 0} (same : K → K → Bool) (hash : K → ℕ) (terms : 
     -- a registering asks for buckets in need, and others ask for none
     registers : (enters : Bool) → called ≡ call.Register enters → AtEachEffect AsksInNeed None None played.effects.items m
     registers enters is =
+        let begun =
+        subst (λ (c : SlotCall). (l : RowBegins same (λ map. hash) c ran.caller s (held_by old.logged.executor) (held_by ran.began.executor)) × (s1.world ≡ l.2.0)) is (leads, refl) in
         registers_need same (λ map. hash) terms m s (held_by old.logged.executor) ran.caller enters (none_on_vacant same hash terms m old run.stands ran.caller) (known old.logged.notes) run.reached
         (λ x vacant. ap (λ (there : Present). least_free (used_slots there)) run.stands.there ∙ (first_is same hash terms m old run.stands x vacant).least) (held_by ran.began.executor) run.stands.shown.is_at.held
-        (subst (λ (c : SlotCall). RowBegins same (λ map. hash) c ran.caller s (held_by old.logged.executor) (held_by ran.began.executor)) is leads) slots_noted ran.goes.0
-        (record { held = held_by ran.began.executor; did = []; now = m; notes = known old.logged.notes; scene = s1 }) (come_by (far played.effects.items new.logged) y.now y.scene) refl refl refl refl chain
+        begun.0 slots_noted ran.goes.0 (record { held = held_by ran.began.executor; did = []; now = m; notes = known old.logged.notes; scene = s1 })
+        (come_by (far played.effects.items new.logged) y.now y.scene) refl begun.1 refl refl chain
 
     in_need : (c : SlotCall) → called ≡ c → list_all (may_row c) played.effects.items ≡ true → AtEachEffect AsksInNeed None None played.effects.items m
     in_need (call.Register enters) is all = registers enters is

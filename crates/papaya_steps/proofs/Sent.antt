@@ -70,10 +70,10 @@ use Rattle.papaya_raw.specs.Given.Seize.contracts.rows.enter.Enter as Enter
 use Rattle.papaya_raw.specs.Given.Seize.contracts.rows.leave.Leaving as Leaving
 use Rattle.papaya_raw.specs.Given.Seize.contracts.rows.leave.Leave as Leave
 use Rattle.papaya_raw.specs.Given.Seize.contracts.rows.enter.Unregister as Unregister
-use Rattle.papaya_scheduler.specs.Given.Executor.contracts.row.SlotRow as SlotRow
+use Rattle.papaya_scheduler.specs.Given.Scenes.contracts.row.SlotRow as SlotRow
 use Rattle.papaya_scheduler.specs.Given.Executor.contracts.worker.Work as Work
 use Rattle.papaya_scheduler.specs.Given.Executor.contracts.worker.Worker as Worker
-use Rattle.papaya_scheduler.specs.Given.Executor.contracts.row.SlotUse as SlotUse
+use Rattle.papaya_scheduler.specs.Given.Scenes.contracts.row.SlotUse as SlotUse
 use Rattle.papaya_scheduler.specs.Given.Executor.contracts.executor.Executor as Executor
 use Rattle.papaya_scheduler.specs.Given.Logged.contracts.logged.Logged as Logged
 use Rattle.papaya_runs.specs.contracts.event.Setup as Setup

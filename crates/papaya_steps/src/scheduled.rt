@@ -83,17 +83,20 @@ impl<K: Eq + Hash + Clone + Drop, V: PartialEq + Clone + Drop, S: BuildHasher + 
         Ok(self.running.end(alloc)?)
     }
 
+    fn into_hasher(self) -> S {
+        self.running.into_hasher()
+    }
+
     fn run_anew(
-        self,
         alloc: Global,
         setup: Setup,
+        hasher: S,
         choices: Vec<u64>,
         schedule: Vec<Event<K, V>>,
     ) -> Result<Run<K, V>, Fault>
         ensures run { IfOk result (IsWholeRun K.eq ⟦<S as Hashes<K>>⟧.hash (terms_given (bounded setup)) schedule.items) }
         ensures memory { IfErr result (λ fault. fault ≡ Fault.Memory) }
     {
-        let hasher = self.running.into_hasher();
         Ok(run(alloc, setup, hasher, schedule, choices)?)
     }
 

@@ -67,7 +67,7 @@ fn apply_all<R: Runner<Event<u64, u64>, Outcome = Outcome<u64>>, N: CrewName, W:
 
 /// The drivers apply their events, each on a thread.
 fn drive<
-    R: Runner<Event<u64, u64>, Outcome = Outcome<u64>> + Drop + Send,
+    R: Runner<Event<u64, u64>, Outcome = Outcome<u64>> + Send,
     N: CrewName + Send + Sync,
     W: Threads + Wait + Sync,
 >(
@@ -84,7 +84,7 @@ fn drive<
 
 /// Two drivers apply their events to a crew of theirs.
 fn by_two<
-    R: Runner<Event<u64, u64>, Outcome = Outcome<u64>, Run = Run<u64, u64>> + Drop + Send,
+    R: Runner<Event<u64, u64>, Outcome = Outcome<u64>, Run = Run<u64, u64>> + Send,
     N: CrewName + Send + Sync,
     W: Threads + Wait + Sync,
 >(
@@ -176,9 +176,9 @@ fn two_threads_come_to_the_run_of_the_kept_schedule(rt: HostRuntime) -> Result<(
 
 /// One driver makes a map, as it says, or wrongly: whether the crew finds that they agree.
 fn by_one<
-    R: Runner<Event<u64, u64>, Outcome = Outcome<u64>, Run = Run<u64, u64>> + Drop,
+    R: Runner<Event<u64, u64>, Outcome = Outcome<u64>, Run = Run<u64, u64>>,
     N: CrewName,
-    W: Wait,
+    W: Wait + Abort,
 >(
     rt: &W,
     alloc: Global,
@@ -200,12 +200,15 @@ where
     let Some(driver) = drivers.pop() else {
         unreachable!()
     };
-    drivers.push(apply_wrongly(rt, alloc, &crew, driver, wrong)?)?;
+    let Ok(driver) = apply_wrongly(rt, alloc, &crew, driver, wrong) else {
+        panic!(rt; "no memory")
+    };
+    assert!(rt; drivers.push(driver).is_ok());
     Ok(crew.finish(alloc, drivers)?.is_some())
 }
 
 /// The same, by a ledger of its own.
-fn one<W: Wait>(rt: &W, alloc: Global, wrong: Wrong) -> Result<bool, Fault> {
+fn one<W: Wait + Abort>(rt: &W, alloc: Global, wrong: Wrong) -> Result<bool, Fault> {
     by_one::<Ours, Brand, W>(rt, alloc, SETUP, KeyHash::Key, Blank::new(1), wrong)
 }
 

@@ -55,7 +55,7 @@ impl<T, R: Rule<T>> Blocks<T, R> {
 
     /// The index of a number, if there is such a block.
     fn index_of(&self, block: u64) -> u64
-        ensures { (result ≤ 2 ^ 32) × (0 < block → block ≤ self.now.words.id.count → result ≡ block - 1) }
+        ensures { (result < 2 ^ 32) × (0 < block → block ≤ self.now.words.id.count → result ≡ block - 1) }
     {
         if block > 0 && block <= self.count {
             block - 1

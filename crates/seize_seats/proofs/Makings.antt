@@ -183,10 +183,6 @@ module _ {M : Type 1} {𝓤 : Ura M} (𝓛 : Logic 𝓤) (R : RattleType) {V W :
     pub claims : ⟦ Inv ⟧ ∗ (A.lft α q ∗ emp 𝓤) ⊢ asks 𝓛 (block_ptr b e) f always (λ n. fsep (flft α q) (claim_owns z.hands_name i n))
     claims = plainly (A.lft α q ∗ emp 𝓤) _ (borrowed 𝓛 α q I b e f always (claimed i) (emp 𝓤) (opens (emp 𝓤) (upd 𝓤 (ex 𝓤 Li)) i lt grants))
 
-  -- who has a number is not alone with it where the number is free, or a block has it
-  pub clash : (i : ℕ) (h w : Hand) → ⟦ hands full_share i w ⟧ ∗ ⟦ hands three_quarters i h ⟧ ⊢ guard 𝓤 ⊥ (⟦ hands full_share i w ⟧ ∗ ⟦ hands three_quarters i h ⟧)
-  clash i h w = Ledgers.alone 𝓛 hand_coded z.hands_name i three_quarters w h
-
   pub same_hand : (i : ℕ) (h w : Hand) → ⟦ hands quarter i w ⟧ ∗ ⟦ hands three_quarters i h ⟧
       ⊢ guard 𝓤 (w ≡ h) (⟦ hands quarter i w ⟧ ∗ ⟦ hands three_quarters i h ⟧)
   same_hand i h w = Ledgers.agree 𝓛 hand_coded z.hands_name i three_quarters w h
@@ -194,21 +190,51 @@ module _ {M : Type 1} {𝓤 : Ura M} (𝓛 : Logic 𝓤) (R : RattleType) {V W :
   pub turns_hand : (i : ℕ) (w h u : Hand) → ⟦ hands quarter i w ⟧ ∗ ⟦ hands three_quarters i h ⟧ ⊢ upd 𝓤 (⟦ hands quarter i u ⟧ ∗ ⟦ hands three_quarters i u ⟧)
   turns_hand i w h u = Ledgers.sets 𝓛 hand_coded z.hands_name i w h u
 
-  pub resting_is_not : (e : Share) → busy e ≡ resting → ⊥
-  resting_is_not e same = let q : 1 ≡ 0 = ap (λ (h : Hand). h.0) same in absurd (omega (arith, q))
+  pub busy_is_not : (e : Share) → busy e ≡ resting → ⊥
+  busy_is_not e same = let q : 1 ≡ 0 = ap (λ (h : Hand). h.0) same in absurd (omega (arith, q))
 
-  pub resting_is_not_held : (ρ : ℕ) (e : Share) → held ρ e ≡ resting → ⊥
-  resting_is_not_held ρ e same = let q : suc (suc ρ) ≡ 0 = ap (λ (h : Hand). h.0) same in absurd (omega (arith, q))
+  pub held_is_not : (ρ : ℕ) (e : Share) → held ρ e ≡ resting → ⊥
+  held_is_not ρ e same = let q : suc (suc ρ) ≡ 0 = ap (λ (h : Hand). h.0) same in absurd (omega (arith, q))
 
-  pub busy_is_not_held : (ρ : ℕ) (s e : Share) → held ρ s ≡ busy e → ⊥
-  busy_is_not_held ρ s e same = let q : suc (suc ρ) ≡ 1 = ap (λ (h : Hand). h.0) same in absurd (omega (arith, q))
+  pub held_is_not_busy : (ρ : ℕ) (s e : Share) → held ρ s ≡ busy e → ⊥
+  held_is_not_busy ρ s e same = let q : suc (suc ρ) ≡ 1 = ap (λ (h : Hand). h.0) same in absurd (omega (arith, q))
 
-  -- a number of which a quarter stands in the memory, and whose hand is not this one
-  pub strange : (i n : ℕ) (w h : Hand) (K : Fml) (Z : Pr) → (w ≡ h → ⊥)
-      → ⟦ fsep (word b (i * 40 + o + 32) n) (fsep (hands quarter i w) K) ⟧ ∗ ⟦ hands three_quarters i h ⟧ ⊢ Z
-  strange i n w h K Z ne = qed 𝓛 (‵ (fsep (word b (i * 40 + o + 32) n) (fsep (hands quarter i w) K)) ∷ ‵ (hands three_quarters i h) ∷ []) ∵ fsplit ! $
+  -- the hand of a cell is not this one, or the cell has the whole of its own
+  abbrev pub IsAnothers : Hand → Cell R.Denot → Type 0
+  IsAnothers h Free = Unit {0}
+  IsAnothers h Claimed = resting ≡ h → ⊥
+  IsAnothers h (Out e) = busy e ≡ h → ⊥
+  IsAnothers h (Has x ws) = Unit {0}
+  IsAnothers h (Held ρ e x ws) = held ρ e ≡ h → ⊥
+
+  -- a cell with this sign, this share of its hand, and what lies beside
+  abbrev cell_with : ℕ → ℕ → Share → Hand → Fml → Fml
+  cell_with i n q w K = fsep (word b (i * 40 + o + 32) n) (fsep (hands q i w) K)
+
+  whole : (i n : ℕ) (w h : Hand) (K : Fml) (Z : Pr) → ⟦ cell_with i n full_share w K ⟧ ∗ ⟦ hands three_quarters i h ⟧ ⊢ Z
+  whole i n w h K Z = qed 𝓛 (‵ (cell_with i n full_share w K) ∷ ‵ (hands three_quarters i h) ∷ []) ∵ fsplit ! $
+      move ! (1 ∷ []) $ fsplit ! $ move ! (0 ∷ 3 ∷ []) $
+      use2 𝓛 (given ⊥ (‵ (hands full_share i w) ⊛ ‵ (hands three_quarters i h))) (Ledgers.alone 𝓛 hand_coded z.hands_name i three_quarters w h) $
+      learn ! (λ no. absurd no)
+
+  strange : (i n : ℕ) (w h : Hand) (K : Fml) (Z : Pr) → (w ≡ h → ⊥) → ⟦ cell_with i n quarter w K ⟧ ∗ ⟦ hands three_quarters i h ⟧ ⊢ Z
+  strange i n w h K Z ne = qed 𝓛 (‵ (cell_with i n quarter w K) ∷ ‵ (hands three_quarters i h) ∷ []) ∵ fsplit ! $
       move ! (1 ∷ []) $ fsplit ! $ move ! (0 ∷ 3 ∷ []) $
       use2 𝓛 (given (w ≡ h) (‵ (hands quarter i w) ⊛ ‵ (hands three_quarters i h))) (same_hand i h w) $ learn ! (λ same. absurd (ne same))
+
+  -- who has a number finds no cell of another hand
+  pub not_theirs : (i : ℕ) (h : Hand) (c : Cell R.Denot) (Z : Pr) → IsAnothers h c → ⟦ cell_of i c ⟧ ∗ ⟦ hands three_quarters i h ⟧ ⊢ Z
+  not_theirs i h Free Z ne = whole i 0 resting h (contents i zeros None) Z
+  not_theirs i h Claimed Z ne = strange i 1 resting h (contents i zeros None) Z ne
+  not_theirs i h (Out e) Z ne = strange i 1 (busy e) h (flft α e) Z ne
+  not_theirs i h (Has x ws) Z ne = whole i 1 resting h (offers i ws x) Z
+  not_theirs i h (Held ρ e x ws) Z ne = strange i 1 (held ρ e) h (fsep (row b (i * 40 + o) ws) (fsep (flft α e) (had ρ i x))) Z ne
+
+  pub none_of_theirs : (t : In) (i : ℕ) (h : Hand) (c : Cell R.Denot) (X Z : Pr) → IsAnothers h c
+      → ⟦ cell_of i c ⟧ ∗ all 𝓤 (Recells t i) ∗ ⟦ Led t ⟧ ∗ ⟦ hands three_quarters i h ⟧ ∗ X ⊢ Z
+  none_of_theirs t i h c X Z ne =
+      qed 𝓛 (‵ (cell_of i c) ∷ raw (all 𝓤 (Recells t i)) ∷ ‵ (Led t) ∷ (‵ (hands three_quarters i h) ⊛ raw X) ∷ []) ∵ move ! (3 ∷ []) $ split ! $
+      move ! (2 ∷ 0 ∷ []) $ use2 𝓛 (raw Z) (not_theirs i h c Z ne) $ keep ! (0 ∷ []) $ done !
 
   -- ---- ITS PLACE IS TAKEN OUT, for a share of the lifetime
   module _ (i : ℕ) (e : Share) (lt : i < z.count) where
@@ -220,19 +246,9 @@ module _ {M : Type 1} {𝓤 : Ura M} (𝓛 : Logic 𝓤) (R : RattleType) {V W :
 
     takes_out : (t : In) (sound : Sound t) (c : Cell R.Denot) → cell_at t.parts.cells i ≡ c
         → ⟦ cell_of i c ⟧ ∗ all 𝓤 (Recells t i) ∗ ⟦ Led t ⟧ ∗ Asking ⊢ upd 𝓤 Withdrawn
-    takes_out t sound Free is =
-        qed 𝓛 (‵ (cell_of i Free) ∷ raw (all 𝓤 (Recells t i)) ∷ ‵ (Led t) ∷ (‵ (hands three_quarters i resting) ⊛ ‵ (flft α e)) ∷ []) ∵ move ! (3 ∷ []) $
-        split ! $ move ! (2 ∷ []) $ fsplit ! $ move ! (1 ∷ []) $ fsplit ! $ move ! (0 ∷ 3 ∷ []) $
-        use2 𝓛 (given ⊥ (‵ (hands full_share i resting) ⊛ ‵ (hands three_quarters i resting))) (clash i resting resting) $ learn ! (λ no. absurd no)
-    takes_out t sound (Has x ws) is =
-        qed 𝓛 (‵ (cell_of i (Has x ws)) ∷ raw (all 𝓤 (Recells t i)) ∷ ‵ (Led t) ∷ (‵ (hands three_quarters i resting) ⊛ ‵ (flft α e)) ∷ []) ∵ move ! (3 ∷ []) $
-        split ! $ move ! (2 ∷ []) $ fsplit ! $ move ! (1 ∷ []) $ fsplit ! $ move ! (0 ∷ 3 ∷ []) $
-        use2 𝓛 (given ⊥ (‵ (hands full_share i resting) ⊛ ‵ (hands three_quarters i resting))) (clash i resting resting) $ learn ! (λ no. absurd no)
-    takes_out t sound (Out s) is =
-        qed 𝓛 (‵ (cell_of i (Out s)) ∷ raw (all 𝓤 (Recells t i)) ∷ ‵ (Led t) ∷ (‵ (hands three_quarters i resting) ⊛ ‵ (flft α e)) ∷ []) ∵ move ! (3 ∷ []) $
-        split ! $ move ! (2 ∷ []) $ fsplit ! $ move ! (1 ∷ []) $ fsplit ! $ move ! (0 ∷ 3 ∷ []) $
-        use2 𝓛 (given (busy s ≡ resting) (‵ (hands quarter i (busy s)) ⊛ ‵ (hands three_quarters i resting))) (same_hand i resting (busy s)) $
-        learn ! (λ same. absurd (resting_is_not s same))
+    takes_out t sound Free is = none_of_theirs t i resting Free ⟦ flft α e ⟧ (upd 𝓤 Withdrawn) tt
+    takes_out t sound (Has x ws) is = none_of_theirs t i resting (Has x ws) ⟦ flft α e ⟧ (upd 𝓤 Withdrawn) tt
+    takes_out t sound (Out s) is = none_of_theirs t i resting (Out s) ⟦ flft α e ⟧ (upd 𝓤 Withdrawn) (busy_is_not s)
     takes_out t sound Claimed is =
         qed 𝓛 (‵ (cell_of i Claimed) ∷ raw (all 𝓤 (Recells t i)) ∷ ‵ (Led t) ∷ (‵ (hands three_quarters i resting) ⊛ ‵ (flft α e)) ∷ []) ∵ move ! (3 ∷ []) $
         split ! $ move ! (2 ∷ []) $ fsplit ! $ move ! (1 ∷ []) $ fsplit ! $ move ! (0 ∷ 3 ∷ []) $
@@ -242,11 +258,7 @@ module _ {M : Type 1} {𝓤 : Ura M} (𝓛 : Logic 𝓤) (R : RattleType) {V W :
         move ! (0 ∷ 4 ∷ []) $ fjoin ! $ move ! (3 ∷ 0 ∷ []) $ fjoin ! $
         -- [the cell; three quarters; the contents; the others; the views]
         move ! (0 ∷ 3 ∷ 4 ∷ []) $ use3 𝓛 (‵ I) (recell t sound i (Out e) (sym (ap block_in is))) $ done !
-    takes_out t sound (Held ρ s x ws) is = let Z : Pr = upd 𝓤 Withdrawn in
-        qed 𝓛 (‵ (cell_of i (Held ρ s x ws)) ∷ raw (all 𝓤 (Recells t i)) ∷ ‵ (Led t) ∷ (‵ (hands three_quarters i resting) ⊛ ‵ (flft α e)) ∷ []) ∵
-        move ! (3 ∷ []) $ split ! $ move ! (2 ∷ 0 ∷ []) $
-        use2 𝓛 (raw Z) (strange i 1 (held ρ s) resting (fsep (row b (i * 40 + o) ws) (fsep (flft α s) (had ρ i x))) Z (resting_is_not_held ρ s)) $
-        keep ! (0 ∷ []) $ done !
+    takes_out t sound (Held ρ s x ws) is = none_of_theirs t i resting (Held ρ s x ws) ⟦ flft α e ⟧ (upd 𝓤 Withdrawn) (held_is_not ρ s)
 
     pub withdraws : ⟦ I ⟧ ∗ Asking ⊢ upd 𝓤 Withdrawn
     withdraws = opens Asking (upd 𝓤 Withdrawn) i lt takes_out
@@ -267,19 +279,9 @@ module _ {M : Type 1} {𝓤 : Ura M} (𝓛 : Logic 𝓤) (R : RattleType) {V W :
 
     returns : (t : In) (sound : Sound t) (c : Cell R.Denot) → cell_at t.parts.cells i ≡ c
         → ⟦ cell_of i c ⟧ ∗ all 𝓤 (Recells t i) ∗ ⟦ Led t ⟧ ∗ Returning ⊢ upd 𝓤 (ex 𝓤 Lf)
-    returns t sound Free is =
-        qed 𝓛 (‵ (cell_of i Free) ∷ raw (all 𝓤 (Recells t i)) ∷ ‵ (Led t) ∷ (‵ (hands three_quarters i (busy e)) ⊛ ‵ (contents i zeros None)) ∷ []) ∵
-        move ! (3 ∷ []) $ split ! $ move ! (2 ∷ []) $ fsplit ! $ move ! (1 ∷ []) $ fsplit ! $ move ! (0 ∷ 3 ∷ []) $
-        use2 𝓛 (given ⊥ (‵ (hands full_share i resting) ⊛ ‵ (hands three_quarters i (busy e)))) (clash i (busy e) resting) $ learn ! (λ no. absurd no)
-    returns t sound (Has x ws) is =
-        qed 𝓛 (‵ (cell_of i (Has x ws)) ∷ raw (all 𝓤 (Recells t i)) ∷ ‵ (Led t) ∷ (‵ (hands three_quarters i (busy e)) ⊛ ‵ (contents i zeros None)) ∷ []) ∵
-        move ! (3 ∷ []) $ split ! $ move ! (2 ∷ []) $ fsplit ! $ move ! (1 ∷ []) $ fsplit ! $ move ! (0 ∷ 3 ∷ []) $
-        use2 𝓛 (given ⊥ (‵ (hands full_share i resting) ⊛ ‵ (hands three_quarters i (busy e)))) (clash i (busy e) resting) $ learn ! (λ no. absurd no)
-    returns t sound Claimed is =
-        qed 𝓛 (‵ (cell_of i Claimed) ∷ raw (all 𝓤 (Recells t i)) ∷ ‵ (Led t) ∷ (‵ (hands three_quarters i (busy e)) ⊛ ‵ (contents i zeros None)) ∷ []) ∵
-        move ! (3 ∷ []) $ split ! $ move ! (2 ∷ []) $ fsplit ! $ move ! (1 ∷ []) $ fsplit ! $ move ! (0 ∷ 3 ∷ []) $
-        use2 𝓛 (given (resting ≡ busy e) (‵ (hands quarter i resting) ⊛ ‵ (hands three_quarters i (busy e)))) (same_hand i (busy e) resting) $
-        learn ! (λ same. absurd (resting_is_not e (sym same)))
+    returns t sound Free is = none_of_theirs t i (busy e) Free ⟦ contents i zeros None ⟧ (upd 𝓤 (ex 𝓤 Lf)) tt
+    returns t sound (Has x ws) is = none_of_theirs t i (busy e) (Has x ws) ⟦ contents i zeros None ⟧ (upd 𝓤 (ex 𝓤 Lf)) tt
+    returns t sound Claimed is = none_of_theirs t i (busy e) Claimed ⟦ contents i zeros None ⟧ (upd 𝓤 (ex 𝓤 Lf)) (λ same. busy_is_not e (sym same))
     returns t sound (Out s) is = let Z : Pr = ⟦ I ⟧ ∗ ⟦ flft α e ⟧ in
         qed 𝓛 (‵ (cell_of i (Out s)) ∷ raw (all 𝓤 (Recells t i)) ∷ ‵ (Led t) ∷ (‵ (hands three_quarters i (busy e)) ⊛ ‵ (contents i zeros None)) ∷ []) ∵
         suffices ! _ (upd_i 𝓤 (ex 𝓤 Lf)) $ fsplit ! $ rewrite ! 0 (λ (n : ℕ). ‵ (word b n 1)) at refl $ show ! Lf 1 $ frame ! $
@@ -295,11 +297,7 @@ module _ {M : Type 1} {𝓤 : Ura M} (𝓛 : Logic 𝓤) (R : RattleType) {V W :
         fjoin ! $ move ! (2 ∷ 0 ∷ []) $ fjoin ! $ move ! (0 ∷ 2 ∷ 3 ∷ []) $
         use3 𝓛 (‵ I) (recell t sound i Free (sym (ap block_in is))) $
         move ! (1 ∷ []) $ rewrite ! 0 (λ (u : Share). ‵ (flft α u)) (ap (λ (h : Hand). h.1) same) refl $ move ! (1 ∷ 0 ∷ []) $ done !)))
-    returns t sound (Held ρ s x ws) is = let Z : Pr = upd 𝓤 (ex 𝓤 Lf) in
-        qed 𝓛 (‵ (cell_of i (Held ρ s x ws)) ∷ raw (all 𝓤 (Recells t i)) ∷ ‵ (Led t) ∷ (‵ (hands three_quarters i (busy e)) ⊛ ‵ (contents i zeros None)) ∷ []) ∵
-        move ! (3 ∷ []) $ split ! $ move ! (2 ∷ 0 ∷ []) $
-        use2 𝓛 (raw Z) (strange i 1 (held ρ s) (busy e) (fsep (row b (i * 40 + o) ws) (fsep (flft α s) (had ρ i x))) Z (busy_is_not_held ρ s e)) $
-        keep ! (0 ∷ []) $ done !
+    returns t sound (Held ρ s x ws) is = none_of_theirs t i (busy e) (Held ρ s x ws) ⟦ contents i zeros None ⟧ (upd 𝓤 (ex 𝓤 Lf)) (held_is_not_busy ρ s e)
 
     pub frees : ⟦ Inv ⟧ ∗ (A.lft α q ∗ Returning) ⊢ asks 𝓛 (block_ptr b k) g always (λ n. fsep (flft α q) (due n))
     frees = plainly (A.lft α q ∗ Returning) _ (borrowed 𝓛 α q I b k g always due Returning (opens Returning (upd 𝓤 (ex 𝓤 Lf)) i lt returns))
@@ -346,24 +344,17 @@ module _ {M : Type 1} {𝓤 : Ura M} (𝓛 : Logic 𝓤) (R : RattleType) {V W :
           (law (state_of z t) g.0 g.2).1 (Made (Ok (i + 1))) (memory_of z.roots (recelled z.roots z.count t.parts laid i d m.0)) ((free, small), is),
         )
 
+    another : (t : In) (c : Cell R.Denot) → IsAnothers (busy e) c
+        → ⟦ cell_of i c ⟧ ∗ all 𝓤 (Recells t i) ∗ ⟦ Led t ⟧ ∗ ⟦ seat id v ⟧ ∗ Ready ⊢ upd 𝓤 Published
+    another t c ne = let Z : Pr = upd 𝓤 Published in
+        qed 𝓛 (‵ (cell_of i c) ∷ raw (all 𝓤 (Recells t i)) ∷ ‵ (Led t) ∷ ‵ (seat id v) ∷ (‵ (hands three_quarters i (busy e)) ⊛ ‵ (offers i zeros x)) ∷ []) ∵
+        move ! (4 ∷ []) $ split ! $ move ! (2 ∷ 0 ∷ []) $ use2 𝓛 (raw Z) (not_theirs i (busy e) c Z ne) $ keep ! (0 ∷ []) $ done !
+
     puts : (t : In) (g : Stands id v t) (c : Cell R.Denot) → cell_at t.parts.cells i ≡ c
         → ⟦ cell_of i c ⟧ ∗ all 𝓤 (Recells t i) ∗ ⟦ Led t ⟧ ∗ ⟦ seat id v ⟧ ∗ Ready ⊢ upd 𝓤 Published
-    puts t g Free is =
-        qed 𝓛 (‵ (cell_of i Free) ∷ raw (all 𝓤 (Recells t i)) ∷ ‵ (Led t) ∷ ‵ (seat id v) ∷
-        (‵ (hands three_quarters i (busy e)) ⊛ ‵ (offers i zeros x)) ∷ []) ∵
-        move ! (4 ∷ []) $ split ! $ move ! (2 ∷ []) $ fsplit ! $ move ! (1 ∷ []) $ fsplit ! $ move ! (0 ∷ 3 ∷ []) $
-        use2 𝓛 (given ⊥ (‵ (hands full_share i resting) ⊛ ‵ (hands three_quarters i (busy e)))) (clash i (busy e) resting) $ learn ! (λ no. absurd no)
-    puts t g (Has y ws) is =
-        qed 𝓛 (‵ (cell_of i (Has y ws)) ∷ raw (all 𝓤 (Recells t i)) ∷ ‵ (Led t) ∷ ‵ (seat id v) ∷
-        (‵ (hands three_quarters i (busy e)) ⊛ ‵ (offers i zeros x)) ∷ []) ∵
-        move ! (4 ∷ []) $ split ! $ move ! (2 ∷ []) $ fsplit ! $ move ! (1 ∷ []) $ fsplit ! $ move ! (0 ∷ 3 ∷ []) $
-        use2 𝓛 (given ⊥ (‵ (hands full_share i resting) ⊛ ‵ (hands three_quarters i (busy e)))) (clash i (busy e) resting) $ learn ! (λ no. absurd no)
-    puts t g Claimed is =
-        qed 𝓛 (‵ (cell_of i Claimed) ∷ raw (all 𝓤 (Recells t i)) ∷ ‵ (Led t) ∷ ‵ (seat id v) ∷
-        (‵ (hands three_quarters i (busy e)) ⊛ ‵ (offers i zeros x)) ∷ []) ∵
-        move ! (4 ∷ []) $ split ! $ move ! (2 ∷ []) $ fsplit ! $ move ! (1 ∷ []) $ fsplit ! $ move ! (0 ∷ 3 ∷ []) $
-        use2 𝓛 (given (resting ≡ busy e) (‵ (hands quarter i resting) ⊛ ‵ (hands three_quarters i (busy e)))) (same_hand i (busy e) resting) $
-        learn ! (λ same. absurd (resting_is_not e (sym same)))
+    puts t g Free is = another t Free tt
+    puts t g (Has y ws) is = another t (Has y ws) tt
+    puts t g Claimed is = another t Claimed (λ same. busy_is_not e (sym same))
     puts t g (Out s) is = let r = made t g (ap block_in is) in let cs : List (Cell R.Denot) = slice_set t.parts.cells i d in let ws : List ℕ = t.parts.words in
         qed 𝓛 (‵ (cell_of i (Out s)) ∷ raw (all 𝓤 (Recells t i)) ∷ ‵ (Led t) ∷ ‵ (seat id v) ∷
         (‵ (hands three_quarters i (busy e)) ⊛ ‵ (offers i zeros x)) ∷ []) ∵
@@ -383,12 +374,7 @@ module _ {M : Type 1} {𝓤 : Ura M} (𝓛 : Logic 𝓤) (R : RattleType) {V W :
         (back id v t (recelled z.roots z.count t.parts g.1 i d r.0) (so (Made (Ok (i + 1)))) r.1 g.2 r.2) $
         settle 𝓛 Published (‵ I ⊛ ‵ (gone_on id (so (Made (Ok (i + 1)))))) $ split ! $ suffices ! _ (upd_i 𝓤 Published) $
         move ! (2 ∷ []) $ rewrite ! 0 (λ (u : Share). ‵ (flft α u)) (ap (λ (h : Hand). h.1) same) refl $ move ! (1 ∷ 2 ∷ 0 ∷ []) $ done !))
-    puts t g (Held ρ s x' ws) is = let Z : Pr = upd 𝓤 Published in
-        qed 𝓛 (‵ (cell_of i (Held ρ s x' ws)) ∷ raw (all 𝓤 (Recells t i)) ∷ ‵ (Led t) ∷ ‵ (seat id v) ∷
-        (‵ (hands three_quarters i (busy e)) ⊛ ‵ (offers i zeros x)) ∷ []) ∵
-        move ! (4 ∷ []) $ split ! $ move ! (2 ∷ 0 ∷ []) $
-        use2 𝓛 (raw Z) (strange i 1 (held ρ s) (busy e) (fsep (row b (i * 40 + o) ws) (fsep (flft α s) (had ρ i x'))) Z (busy_is_not_held ρ s e)) $
-        keep ! (0 ∷ []) $ done !
+    puts t g (Held ρ s x' ws) is = another t (Held ρ s x' ws) (held_is_not_busy ρ s e)
 
     pub publishes : ⟦ I ⟧ ∗ (⟦ seat id v ⟧ ∗ Ready) ⊢ upd 𝓤 Published
     publishes = opens_seated id v Ready (upd 𝓤 Published) (λ t g. let cs : List (Cell R.Denot) = t.parts.cells in let c : Cell R.Denot = cell_at cs i in

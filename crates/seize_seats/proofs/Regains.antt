@@ -92,12 +92,8 @@ module _ {M : Type 1} {𝓤 : Ura M} (𝓛 : Logic 𝓤) (R : RattleType) {V W :
   abbrev hands : Share → Hand → Fml
   hands q h = Makings.hands 𝓛 R cv holds keeps p z q i h
 
-  abbrev strange : (n : ℕ) (w h : Hand) (K : Fml) (Z : Pr) → (w ≡ h → ⊥)
-      → ⟦ fsep (word (block_of p) (i * 40 + (long z.roots * 8 + count_of p) + 32) n) (fsep (hands quarter w) K) ⟧ ∗ ⟦ hands three_quarters h ⟧ ⊢ Z
-  strange = Makings.strange 𝓛 R cv holds keeps p z i
-
-  abbrev rest_of : ℕ → Share → R.Denot → List ℕ → Fml
-  rest_of ρ s x ws = fsep (row (block_of p) (i * 40 + (long z.roots * 8 + count_of p)) ws) (fsep (flft α s) (had_here R cv.code holds p z ρ i x))
+  abbrev IsAnothers : Hand → Cell R.Denot → Type 0
+  IsAnothers = Makings.IsAnothers 𝓛 R cv holds keeps p z
 
   abbrev Led : In → Fml
   Led = Makings.Led 𝓛 R cv holds keeps p z
@@ -116,6 +112,12 @@ module _ {M : Type 1} {𝓤 : Ura M} (𝓛 : Logic 𝓤) (R : RattleType) {V W :
 
   abbrev Shown : Holder V → Holder V → Type 0
   Shown g o = ShownToBoth holds g.seat g.view o.seat o.view (suc i)
+
+  -- who has the number finds no cell of another hand
+  another : (h : Hand) (c : Cell R.Denot) → IsAnothers h c → (S : Fml) (Z : Pr) (t : In)
+      → ⟦ cell_of c ⟧ ∗ all 𝓤 (Recells t) ∗ ⟦ Led t ⟧ ∗ ⟦ S ⟧ ∗ ⟦ hands three_quarters h ⟧ ⊢ Z
+  another h c ne S Z t = qed 𝓛 (‵ (cell_of c) ∷ raw (all 𝓤 (Recells t)) ∷ ‵ (Led t) ∷ (‵ S ⊛ ‵ (hands three_quarters h)) ∷ []) ∵ move ! (3 ∷ []) $ split ! $
+      move ! (2 ∷ 1 ∷ []) $ use2 𝓛 (raw Z) (Makings.not_theirs 𝓛 R cv holds keeps p z i h c Z ne) $ keep ! (0 ∷ []) $ done !
 
   -- The place is in the hand of a call, and no seats whose views show the block have those views now.
   module _ (Hd : Fml) (none : (g o : Holder V) (S : Fml) → Shows g o S → Crowds g o S → Shown g o → (Z : Pr) → ⟦ I ⟧ ∗ (⟦ S ⟧ ∗ ⟦ Hd ⟧) ⊢ Z) where
@@ -264,24 +266,16 @@ module _ {M : Type 1} {𝓤 : Ura M} (𝓛 : Logic 𝓤) (R : RattleType) {V W :
 
     by_cell : (g o : Holder V) (S : Fml) → Shows g o S → Crowds g o S → Shown g o → (Z : Pr) (t : In) (sound : Sound t) (c : Cell R.Denot)
         → cell_at t.parts.cells i ≡ c → ⟦ cell_of c ⟧ ∗ all 𝓤 (Recells t) ∗ ⟦ Led t ⟧ ∗ ⟦ S ⟧ ∗ ⟦ Hd ⟧ ⊢ Z
-    by_cell g o S shows crowds shown Z t sound Free is = qed 𝓛 (‵ (cell_of Free) ∷ raw (all 𝓤 (Recells t)) ∷ ‵ (Led t) ∷ (‵ S ⊛ ‵ Hd) ∷ []) ∵ move ! (3 ∷ []) $
-        split ! $ move ! (2 ∷ []) $ fsplit ! $ move ! (1 ∷ []) $ fsplit ! $ move ! (0 ∷ 4 ∷ []) $
-        use2 𝓛 (given ⊥ (‵ (hands full_share resting) ⊛ ‵ Hd)) (Makings.clash 𝓛 R cv holds keeps p z i (busy e) resting) $ learn ! (λ no. absurd no)
-    by_cell g o S shows crowds shown Z t sound (Has x ws) is = qed 𝓛 (‵ (cell_of (Has x ws)) ∷ raw (all 𝓤 (Recells t)) ∷ ‵ (Led t) ∷ (‵ S ⊛ ‵ Hd) ∷ []) ∵
-        move ! (3 ∷ []) $ split ! $ move ! (2 ∷ []) $ fsplit ! $ move ! (1 ∷ []) $ fsplit ! $ move ! (0 ∷ 4 ∷ []) $
-        use2 𝓛 (given ⊥ (‵ (hands full_share resting) ⊛ ‵ Hd)) (Makings.clash 𝓛 R cv holds keeps p z i (busy e) resting) $ learn ! (λ no. absurd no)
-    by_cell g o S shows crowds shown Z t sound Claimed is = qed 𝓛 (‵ (cell_of Claimed) ∷ raw (all 𝓤 (Recells t)) ∷ ‵ (Led t) ∷ (‵ S ⊛ ‵ Hd) ∷ []) ∵
-        move ! (3 ∷ []) $ split ! $ move ! (2 ∷ []) $ fsplit ! $ move ! (1 ∷ []) $ fsplit ! $ move ! (0 ∷ 4 ∷ []) $
-        use2 𝓛 (given (resting ≡ busy e) (‵ (hands quarter resting) ⊛ ‵ Hd)) (Makings.same_hand 𝓛 R cv holds keeps p z i (busy e) resting) $
-        learn ! (λ same. absurd (Makings.resting_is_not 𝓛 R cv holds keeps p z e (sym same)))
+    by_cell g o S shows crowds shown Z t sound Free is = another (busy e) Free tt S Z t
+    by_cell g o S shows crowds shown Z t sound (Has x ws) is = another (busy e) (Has x ws) tt S Z t
+    by_cell g o S shows crowds shown Z t sound Claimed is =
+        another (busy e) Claimed (λ same. Makings.busy_is_not 𝓛 R cv holds keeps p z e (sym same)) S Z t
     by_cell g o S shows crowds shown Z t sound (Out s) is = qed 𝓛 (‵ (cell_of (Out s)) ∷ raw (all 𝓤 (Recells t)) ∷ ‵ (Led t) ∷ (‵ S ⊛ ‵ Hd) ∷ []) ∵
         move ! (3 ∷ []) $ split ! $ move ! (4 ∷ 0 ∷ []) $
         use2 𝓛 (given (Hands.Sit 𝓛 R cv holds p z g.seat g.view o.seat o.view t) (‵ (Led t) ⊛ ‵ S)) (shows t) $
         learn ! (λ at. absurd (gone g o shown t sound s is at))
-    by_cell g o S shows crowds shown Z t sound (Held ρ s x ws) is = qed 𝓛 (‵ (cell_of (Held ρ s x ws)) ∷ raw (all 𝓤 (Recells t)) ∷ ‵ (Led t) ∷
-        (‵ S ⊛ ‵ Hd) ∷ []) ∵
-        move ! (3 ∷ []) $ split ! $ move ! (2 ∷ 1 ∷ []) $
-        use2 𝓛 (raw Z) (strange 1 (held ρ s) (busy e) (rest_of ρ s x ws) Z (Makings.busy_is_not_held 𝓛 R cv holds keeps p z ρ s e)) $ keep ! (0 ∷ []) $ done !
+    by_cell g o S shows crowds shown Z t sound (Held ρ s x ws) is =
+        another (busy e) (Held ρ s x ws) (Makings.held_is_not_busy 𝓛 R cv holds keeps p z ρ s e) S Z t
 
     -- no seat has that view
     pub none_taken : (g o : Holder V) (S : Fml) → Shows g o S → Crowds g o S → Shown g o → (Z : Pr) → ⟦ I ⟧ ∗ (⟦ S ⟧ ∗ ⟦ Hd ⟧) ⊢ Z
@@ -298,20 +292,12 @@ module _ {M : Type 1} {𝓤 : Ura M} (𝓛 : Logic 𝓤) (R : RattleType) {V W :
 
     by_hand : (g o : Holder V) (S : Fml) → Shows g o S → Crowds g o S → Shown g o → (Z : Pr) (t : In) (sound : Sound t) (c : Cell R.Denot)
         → cell_at t.parts.cells i ≡ c → ⟦ cell_of c ⟧ ∗ all 𝓤 (Recells t) ∗ ⟦ Led t ⟧ ∗ ⟦ S ⟧ ∗ ⟦ Hh ⟧ ⊢ Z
-    by_hand g o S shows crowds shown Z t sound Free is = qed 𝓛 (‵ (cell_of Free) ∷ raw (all 𝓤 (Recells t)) ∷ ‵ (Led t) ∷ (‵ S ⊛ ‵ Hh) ∷ []) ∵ move ! (3 ∷ []) $
-        split ! $ move ! (2 ∷ []) $ fsplit ! $ move ! (1 ∷ []) $ fsplit ! $ move ! (0 ∷ 4 ∷ []) $
-        use2 𝓛 (given ⊥ (‵ (hands full_share resting) ⊛ ‵ Hh)) (Makings.clash 𝓛 R cv holds keeps p z i (held ρ e) resting) $ learn ! (λ no. absurd no)
-    by_hand g o S shows crowds shown Z t sound (Has x ws) is = qed 𝓛 (‵ (cell_of (Has x ws)) ∷ raw (all 𝓤 (Recells t)) ∷ ‵ (Led t) ∷ (‵ S ⊛ ‵ Hh) ∷ []) ∵
-        move ! (3 ∷ []) $ split ! $ move ! (2 ∷ []) $ fsplit ! $ move ! (1 ∷ []) $ fsplit ! $ move ! (0 ∷ 4 ∷ []) $
-        use2 𝓛 (given ⊥ (‵ (hands full_share resting) ⊛ ‵ Hh)) (Makings.clash 𝓛 R cv holds keeps p z i (held ρ e) resting) $ learn ! (λ no. absurd no)
-    by_hand g o S shows crowds shown Z t sound Claimed is = qed 𝓛 (‵ (cell_of Claimed) ∷ raw (all 𝓤 (Recells t)) ∷ ‵ (Led t) ∷ (‵ S ⊛ ‵ Hh) ∷ []) ∵
-        move ! (3 ∷ []) $ split ! $ move ! (2 ∷ 1 ∷ []) $
-        use2 𝓛 (raw Z) (strange 1 resting (held ρ e) (Makings.contents 𝓛 R cv holds keeps p z i zeros None) Z
-        (λ same. Makings.resting_is_not_held 𝓛 R cv holds keeps p z ρ e (sym same))) $ keep ! (0 ∷ []) $ done !
-    by_hand g o S shows crowds shown Z t sound (Out s) is = qed 𝓛 (‵ (cell_of (Out s)) ∷ raw (all 𝓤 (Recells t)) ∷ ‵ (Led t) ∷ (‵ S ⊛ ‵ Hh) ∷ []) ∵
-        move ! (3 ∷ []) $ split ! $ move ! (2 ∷ 1 ∷ []) $
-        use2 𝓛 (raw Z) (strange 1 (busy s) (held ρ e) (flft α s) Z (λ same. Makings.busy_is_not_held 𝓛 R cv holds keeps p z ρ e s (sym same))) $
-        keep ! (0 ∷ []) $ done !
+    by_hand g o S shows crowds shown Z t sound Free is = another (held ρ e) Free tt S Z t
+    by_hand g o S shows crowds shown Z t sound (Has x ws) is = another (held ρ e) (Has x ws) tt S Z t
+    by_hand g o S shows crowds shown Z t sound Claimed is =
+        another (held ρ e) Claimed (λ same. Makings.held_is_not 𝓛 R cv holds keeps p z ρ e (sym same)) S Z t
+    by_hand g o S shows crowds shown Z t sound (Out s) is =
+        another (held ρ e) (Out s) (λ same. Makings.held_is_not_busy 𝓛 R cv holds keeps p z ρ e s (sym same)) S Z t
     by_hand g o S shows crowds shown Z t sound (Held ρ' s x ws) is =
         qed 𝓛 (‵ (cell_of (Held ρ' s x ws)) ∷ raw (all 𝓤 (Recells t)) ∷ ‵ (Led t) ∷ (‵ S ⊛ ‵ Hh) ∷ []) ∵
         move ! (3 ∷ []) $ split ! $ move ! (2 ∷ []) $ fsplit ! $ move ! (1 ∷ []) $ fsplit3 ! $ move ! (2 ∷ []) $ fsplit ! $

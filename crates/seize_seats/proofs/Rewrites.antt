@@ -271,25 +271,15 @@ module _ {M : Type 1} {𝓤 : Ura M} (𝓛 : Logic 𝓤) (R : RattleType) {V W :
           use3 𝓛 (raw (upd 𝓤 (⟦ I ⟧ ∗ ⟦ gone_on id told ⟧))) (Moves.back 𝓛 R cv holds keeps p z id v t (renewed t sound ws) told r.0 at r.1) $
           settle 𝓛 PutBack (‵ I ⊛ ‵ (gone_on id told)) $ split ! $ suffices ! _ (upd_i 𝓤 PutBack) $ done !))
 
+      none_of_theirs : (t : In) (c : Cell R.Denot) → Makings.IsAnothers 𝓛 R cv holds keeps p z (held ρ e) c → Opened t c ⊢ upd 𝓤 PutBack
+      none_of_theirs t c ne =
+          Makings.none_of_theirs 𝓛 R cv holds keeps p z t i (held ρ e) c (⟦ Note ρ three_quarters x id v ⟧ ∗ ⟦ value i new ⟧) (upd 𝓤 PutBack) ne
+
       by_cell : (t : In) (sound : Sound t) (c : Cell R.Denot) → cell_at t.parts.cells i ≡ c → Opened t c ⊢ upd 𝓤 PutBack
-      by_cell t sound Free is = qed 𝓛 (‵ (cell_of i Free) ∷ raw (all 𝓤 (Recells t i)) ∷ ‵ (Led t) ∷
-          (‵ Hh ⊛ ‵ (Note ρ three_quarters x id v) ⊛ ‵ (value i new)) ∷ []) ∵
-          move ! (3 ∷ []) $ split3 ! $ move ! (3 ∷ []) $ fsplit ! $ move ! (1 ∷ []) $ fsplit ! $ move ! (0 ∷ 3 ∷ []) $
-          use2 𝓛 (given ⊥ (‵ (hands full_share i resting) ⊛ ‵ Hh)) (Makings.clash 𝓛 R cv holds keeps p z i (held ρ e) resting) $ learn ! (λ no. absurd no)
-      by_cell t sound (Has y ws) is =
-          qed 𝓛 (‵ (cell_of i (Has y ws)) ∷ raw (all 𝓤 (Recells t i)) ∷ ‵ (Led t) ∷ (‵ Hh ⊛ ‵ (Note ρ three_quarters x id v) ⊛ ‵ (value i new)) ∷ []) ∵
-          move ! (3 ∷ []) $ split3 ! $ move ! (3 ∷ []) $ fsplit ! $ move ! (1 ∷ []) $ fsplit ! $ move ! (0 ∷ 3 ∷ []) $
-          use2 𝓛 (given ⊥ (‵ (hands full_share i resting) ⊛ ‵ Hh)) (Makings.clash 𝓛 R cv holds keeps p z i (held ρ e) resting) $ learn ! (λ no. absurd no)
-      by_cell t sound Claimed is = let Z : Pr = upd 𝓤 PutBack in
-          qed 𝓛 (‵ (cell_of i Claimed) ∷ raw (all 𝓤 (Recells t i)) ∷ ‵ (Led t) ∷ (‵ Hh ⊛ ‵ (Note ρ three_quarters x id v) ⊛ ‵ (value i new)) ∷ []) ∵
-          move ! (3 ∷ []) $ split3 ! $ move ! (3 ∷ 0 ∷ []) $
-          use2 𝓛 (raw Z) (Makings.strange 𝓛 R cv holds keeps p z i 1 resting (held ρ e) (Makings.contents 𝓛 R cv holds keeps p z i zeros None) Z
-          (λ same. Makings.resting_is_not_held 𝓛 R cv holds keeps p z ρ e (sym same))) $ keep ! (0 ∷ []) $ done !
-      by_cell t sound (Out s) is = let Z : Pr = upd 𝓤 PutBack in
-          qed 𝓛 (‵ (cell_of i (Out s)) ∷ raw (all 𝓤 (Recells t i)) ∷ ‵ (Led t) ∷ (‵ Hh ⊛ ‵ (Note ρ three_quarters x id v) ⊛ ‵ (value i new)) ∷ []) ∵
-          move ! (3 ∷ []) $ split3 ! $ move ! (3 ∷ 0 ∷ []) $
-          use2 𝓛 (raw Z) (Makings.strange 𝓛 R cv holds keeps p z i 1 (busy s) (held ρ e) (flft α s) Z
-          (λ same. Makings.busy_is_not_held 𝓛 R cv holds keeps p z ρ e s (sym same))) $ keep ! (0 ∷ []) $ done !
+      by_cell t sound Free is = none_of_theirs t Free tt
+      by_cell t sound (Has y ws) is = none_of_theirs t (Has y ws) tt
+      by_cell t sound Claimed is = none_of_theirs t Claimed (λ same. Makings.held_is_not 𝓛 R cv holds keeps p z ρ e (sym same))
+      by_cell t sound (Out s) is = none_of_theirs t (Out s) (λ same. Makings.held_is_not_busy 𝓛 R cv holds keeps p z ρ e s (sym same))
       by_cell t sound (Held ρ' s y ws) is =
           qed 𝓛 (‵ (cell_of i (Held ρ' s y ws)) ∷ raw (all 𝓤 (Recells t i)) ∷ ‵ (Led t) ∷ (‵ Hh ⊛ ‵ (Note ρ three_quarters x id v) ⊛ ‵ (value i new)) ∷ []) ∵
           move ! (3 ∷ []) $ split3 ! $ move ! (3 ∷ []) $ fsplit ! $ move ! (1 ∷ []) $ fsplit3 ! $ move ! (2 ∷ []) $ fsplit ! $ move ! (1 ∷ []) $

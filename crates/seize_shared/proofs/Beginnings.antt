@@ -17,15 +17,17 @@ use Rattle.seize.specs.declared.rows.settle.Settled.{Settled}
 use Rattle.seize.specs.declared.rows.settle.Settled.TheVariants as settled
 use Rattle.seize.specs.Leave.{standing, settled as leave_settled}
 use Rattle.seize.specs.Settle.{retiring, flushing, settle_plan, plan_at}
-use Rattle.seize.specs.World.{World, Row, Use, Hand, Request, Register', Enter', Leave', Unregister', Retire}
+use Rattle.seize.specs.World.{World, Row, Use, Hand, Request, Register', Enter', Leave', Refresh, Unregister', Retire}
 use Rattle.seize.specs.World.{Flush, IsTaken, one_more, one_less, with_at, with_row, with_use, with_hand, settles_on, leaves_on, at_start}
 use Rattle.seize.specs.World as world
 use Rattle.seize_rule.proofs.Rows.Others.{with_here, with_other}
 use Rattle.seize_acts.proofs.Answers.{same_some}
 use Rattle.seize_seats.specs.State.{State, view_of, Turns, Comes, Starts}
 use Rattle.seize_shared.specs.Rows.{row_of, use_of, leave_of, counting, IsShort, IsUsed, IsKnown, Fits, Holds, Keeps}
-use Rattle.seize_shared.specs.Promises.{IsNext, IsFree, RulesStart, SeatsCome, RowsTurn}
+use Rattle.seize_shared.specs.Promises.{IsNext, IsFree, IsLeft, RulesStart, SeatsCome, RowsTurn}
 use Rattle.seize_shared.specs.declared.view.View.{View}
+use Rattle.seize_shared.specs.declared.view.Becomes.{Becomes}
+use Rattle.seize_shared.specs.declared.view.Becomes.TheVariants.{Idle, Active}
 use Rattle.seize_shared.specs.declared.view.View.TheVariants.{Rests, Registers, Outside, Enters, Inside, Settles, Leaves, Left, Frees}
 use Rattle.seize_shared.specs.declared.view.Has.{Has}
 use Rattle.seize_shared.specs.declared.view.Has.TheVariants.{Nothing, Made, Seen, Cut}
@@ -110,11 +112,16 @@ module _ {T : Type 0} (defers : T → Option ℕ) (fixed : Fixed) where
   frees id t = begins_on id t (Outside t) (Frees t) (world.Outside 0) (world.Frees record { slot = t }) (Unregister' t) refl refl refl refl (λ s e. (e, refl))
       (λ s h. begun_fits id t (Frees t) (world.Frees record { slot = t }) s refl refl tt (λ w. tt))
 
-  leaves : (id t : ℕ) (has : Has) → Turns H Keeps id (Inside t has) (λ x. x ≡ Leaves t fixed.batch_size)
-  leaves id t has =
-      let c : Leave = leave_of t fixed.batch_size in
-      begins_on id t (Inside t has) (Leaves t fixed.batch_size) (world.Inside 0) (world.Leaves c) (Leave' t) refl refl refl refl (λ s e. (e, refl))
-      (λ s h. begun_fits id t (Leaves t fixed.batch_size) (world.Leaves c) s refl refl tt (λ w. tt))
+  -- the section ends, or the next one begins at once
+  leaves : (id t : ℕ) (has : Has) (way : Becomes) → Turns H Keeps id (Inside t has) (λ x. x ≡ Leaves t fixed.batch_size way)
+  leaves id t has Idle =
+      let c : Leave = leave_of t fixed.batch_size Idle in
+      begins_on id t (Inside t has) (Leaves t fixed.batch_size Idle) (world.Inside 0) (world.Leaves c) (Leave' t) refl refl refl refl (λ s e. (e, refl))
+      (λ s h. begun_fits id t (Leaves t fixed.batch_size Idle) (world.Leaves c) s refl refl tt (λ w. tt))
+  leaves id t has Active =
+      let c : Leave = leave_of t fixed.batch_size Active in
+      begins_on id t (Inside t has) (Leaves t fixed.batch_size Active) (world.Inside 0) (world.Leaves c) (Refresh t) refl refl refl refl (λ s e. (e, refl))
+      (λ s h. begun_fits id t (Leaves t fixed.batch_size Active) (world.Leaves c) s refl refl tt (λ w. tt))
 
   -- a block is retired that the seat has unlinked
   retires : (id t b : ℕ) → Turns H Keeps id (Inside t (Cut b)) (λ x. x ≡ Settles (retiring t fixed.batch_size (link_to b)) Retiring None)
@@ -162,7 +169,7 @@ module _ {T : Type 0} (defers : T → Option ℕ) (fixed : Fixed) where
       refl
 
   goes_free : (id t : ℕ) (has : Has) (u : View T) → IsFree fixed t u → Turns H Keeps id (Inside t has) (λ x. x ≡ u)
-  goes_free id t has u (inl is) = subst (λ (y : View T). Turns H Keeps id (Inside t has) (λ x. x ≡ y)) (sym is) (leaves id t has)
+  goes_free id t has u (inl is) = subst (λ (y : View T). Turns H Keeps id (Inside t has) (λ x. x ≡ y)) (sym is.1) (leaves id t has is.0)
   goes_free id t has u (inr is) = subst (λ (y : View T). Turns H Keeps id (Inside t has) (λ x. x ≡ y)) (sym is) (flushes id t has)
 
   -- a slot is looked for
@@ -198,11 +205,11 @@ module _ {T : Type 0} (defers : T → Option ℕ) (fixed : Fixed) where
       (alone defers fixed s id v h at_id u (λ x b e. same_slot c.slot x (world.Inside 0) b (world.Inside 1) e)))
       refl
 
-  counted_ends : (id : ℕ) (c : Settle) (size : ℕ) (seen : Option (ℕ × T)) → c.stands ≡ settling_at.Over
-      → Turns H Keeps id (Settles c (Ending size) seen) (λ x. x ≡ Left c.slot size)
-  counted_ends id c size seen over s h at_id =
-      let v : View T = Settles c (Ending size) seen in let u : View T = Left c.slot size in
-      let d : Leave = counting size c in let e : Leave = standing (leave_of c.slot size) leaving_at.Over in
+  counted_ends : (id : ℕ) (c : Settle) (size : ℕ) (way : Becomes) (seen : Option (ℕ × T)) → c.stands ≡ settling_at.Over
+      → Turns H Keeps id (Settles c (Ending size way) seen) (λ x. x ≡ Left c.slot size way)
+  counted_ends id c size way seen over s h at_id =
+      let v : View T = Settles c (Ending size way) seen in let u : View T = Left c.slot size way in
+      let d : Leave = counting size way c in let e : Leave = standing (leave_of c.slot size way) leaving_at.Over in
       let n : World T = leaves_on s.world id d s.world.memory (e, settled.Goes) in
       moved defers fixed s id v u s.memory n (λ x. x ≡ u) h at_id
       (stepped defers fixed s id v h at_id u s.memory n (
@@ -222,15 +229,25 @@ module _ {T : Type 0} (defers : T → Option ℕ) (fixed : Fixed) where
       refl
 
   -- the row of a seat that has left ends
-  ends : (id t size : ℕ) → Turns H Keeps id (Left t size) (λ x. x ≡ Outside t)
-  ends id t size s h at_id =
-      let d : Leave = standing (leave_of t size) leaving_at.Over in
+  ends : (id t size : ℕ) (way : Becomes) (u : View T) → IsLeft way t u → Turns H Keeps id (Left t size way) (λ x. x ≡ u)
+  ends id t size Idle u is s h at_id =
+      let v : View T = Left t size Idle in
+      let d : Leave = standing (leave_of t size Idle) leaving_at.Over in
       let n : World T = leaves_on s.world id d s.world.memory (d, settled.Done) in
-      moved defers fixed s id (Left t size) (Outside t) s.memory n (λ x. x ≡ Outside t) h at_id
-      (stepped defers fixed s id (Left t size) h at_id (Outside t) s.memory n (s.world.memory, (d, settled.Done), (refl, refl), refl) h.memory
+      moved defers fixed s id v (Outside t) s.memory n (λ x. x ≡ u) h at_id
+      (stepped defers fixed s id v h at_id (Outside t) s.memory n (s.world.memory, (d, settled.Done), (refl, refl), refl) h.memory
       (record { row = with_here s.world.row id world.Rests; slot = with_here s.world.uses t (world.Outside 0); short = tt; known = tt })
-      (alone defers fixed s id (Left t size) h at_id (Outside t) (λ x b e. same_slot t x (world.Outside 0) b world.Changing e)))
-      refl
+      (alone defers fixed s id v h at_id (Outside t) (λ x b e. same_slot t x (world.Outside 0) b world.Changing e)))
+      (sym is)
+  ends id t size Active u is s h at_id =
+      let v : View T = Left t size Active in
+      let d : Leave = standing (leave_of t size Active) leaving_at.Over in
+      let n : World T = leaves_on s.world id d s.world.memory (d, settled.Done) in
+      moved defers fixed s id v (Inside t Nothing) s.memory n (λ x. x ≡ u) h at_id
+      (stepped defers fixed s id v h at_id (Inside t Nothing) s.memory n (s.world.memory, (d, settled.Done), (refl, refl), refl) h.memory
+      (record { row = with_here s.world.row id world.Rests; slot = with_here s.world.uses t (world.Inside 0); short = tt; known = tt })
+      (alone defers fixed s id v h at_id (Inside t Nothing) (λ x b e. same_slot t x (world.Inside 0) b world.Changing e)))
+      (sym is)
 
   turns : (id : ℕ) (v u : View T) → IsNext fixed v u → Turns H Keeps id v (λ x. x ≡ u)
   turns id Rests u is = subst (λ (y : View T). Turns H Keeps id Rests (λ x. x ≡ y)) (sym is) (registers id)
@@ -244,10 +261,10 @@ module _ {T : Type 0} (defers : T → Option ℕ) (fixed : Fixed) where
   turns id (Inside t (Made b)) u is = absurd is
   turns id (Settles c Retiring seen) u is =
       subst (λ (y : View T). Turns H Keeps id (Settles c Retiring seen) (λ x. x ≡ y)) (sym is.1) (settled_ends id c seen is.0)
-  turns id (Settles c (Ending size) seen) u is =
-      subst (λ (y : View T). Turns H Keeps id (Settles c (Ending size) seen) (λ x. x ≡ y)) (sym is.1) (counted_ends id c size seen is.0)
-  turns id (Leaves t size) u is = absurd is
-  turns id (Left t size) u is = subst (λ (y : View T). Turns H Keeps id (Left t size) (λ x. x ≡ y)) (sym is) (ends id t size)
+  turns id (Settles c (Ending size way) seen) u is =
+      subst (λ (y : View T). Turns H Keeps id (Settles c (Ending size way) seen) (λ x. x ≡ y)) (sym is.1) (counted_ends id c size way seen is.0)
+  turns id (Leaves t size way) u is = absurd is
+  turns id (Left t size way) u is = ends id t size way u is
   turns id (Frees t) u is = absurd is
 
   -- a seat comes, and knows nothing

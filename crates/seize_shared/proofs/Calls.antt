@@ -5,16 +5,18 @@ use Rattle.std.proofs.lemmas.Bool.{eq-eqb, ne_eqb}
 use Rattle.seize_words.specs.Op.{Op, Load, Swap, Make, Take, Found}
 use Rattle.seize_words.specs.Word.{block_in, link_to}
 use Rattle.seize_words.specs.declared.at.At.TheVariants.{Root, Slot}
-use Rattle.seize.specs.declared.states.TheConstants.{HEAD, IDLE, ACTIVE}
+use Rattle.seize.specs.declared.states.TheConstants.{HEAD, ACTIVE}
 use Rattle.seize.specs.declared.rows.settle.Settle.{Settle}
 use Rattle.seize.specs.Settle.{flushing, counting_down}
 use Rattle.seize_seats.specs.Lendings.{Shown}
 use Rattle.seize_seats.specs.State.{Allows, Turns}
-use Rattle.seize_shared.specs.Begun.{leaving, flushes, Makes}
+use Rattle.seize_shared.specs.Begun.{leaving, refreshes, flushes, Makes}
 use Rattle.seize_shared.specs.Promises.{Names, IsLooking, IsNext, op_of}
 use Rattle.seize_shared.specs.Rows.{Holds, Keeps}
 use Rattle.seize_shared.specs.Told.{list_taken, cut_in, seen_in, told}
 use Rattle.seize_shared.specs.declared.view.View.{View}
+use Rattle.seize_shared.specs.declared.view.Becomes.{Becomes}
+use Rattle.seize_shared.specs.declared.view.Becomes.TheVariants.{Idle, Active}
 use Rattle.seize_shared.specs.declared.view.View.TheVariants.{Inside, Settles, Leaves, Left}
 use Rattle.seize_shared.specs.declared.view.Has.{Has}
 use Rattle.seize_shared.specs.declared.view.Has.TheVariants.{Nothing, Made, Seen, Cut}
@@ -68,16 +70,29 @@ module _ {T : Type 0} (defers : T → Option ℕ) (fixed : Fixed) (id : ℕ) (v 
 module _ (T : Type 0) (fixed : Fixed) (slot : ℕ) where
   -- leaving is next where a block was seen, or none is known
   pub leaves_next : (has : Has) → IsLooking has → IsNext {T = T} fixed (Inside slot has) (leaving fixed (Inside slot has))
-  leaves_next Nothing looks = inl refl
-  leaves_next (Seen b) looks = inl refl
+  leaves_next Nothing looks = inl (Idle, refl)
+  leaves_next (Seen b) looks = inl (Idle, refl)
   leaves_next (Made b) looks = absurd looks
   leaves_next (Cut b) looks = absurd looks
 
-  pub leaves_so : (has : Has) → IsLooking has → leaving {T = T} fixed (Inside slot has) ≡ Leaves slot fixed.batch_size
+  pub leaves_so : (has : Has) → IsLooking has → leaving {T = T} fixed (Inside slot has) ≡ Leaves slot fixed.batch_size Idle
   leaves_so Nothing looks = refl
   leaves_so (Seen b) looks = refl
   leaves_so (Made b) looks = absurd looks
   leaves_so (Cut b) looks = absurd looks
+
+  -- and so is refreshing
+  pub refreshes_next : (has : Has) → IsLooking has → IsNext {T = T} fixed (Inside slot has) (refreshes fixed (Inside slot has))
+  refreshes_next Nothing looks = inl (Active, refl)
+  refreshes_next (Seen b) looks = inl (Active, refl)
+  refreshes_next (Made b) looks = absurd looks
+  refreshes_next (Cut b) looks = absurd looks
+
+  pub refreshes_so : (has : Has) → IsLooking has → refreshes {T = T} fixed (Inside slot has) ≡ Leaves slot fixed.batch_size Active
+  refreshes_so Nothing looks = refl
+  refreshes_so (Seen b) looks = refl
+  refreshes_so (Made b) looks = absurd looks
+  refreshes_so (Cut b) looks = absurd looks
 
   -- and so is the trying of the batch
   pub flushes_next : (has : Has) → IsLooking has → IsNext {T = T} fixed (Inside slot has) (flushes fixed (Inside slot has))
@@ -99,12 +114,12 @@ is_above head lt = grind (arith, lt)
 is_not_above : (head : ℕ) → head ≤ ACTIVE → nat_lt ACTIVE head ≡ false
 is_not_above head le = grind (arith, le)
 
-pub list_settles : (T : Type 0) (slot size head : ℕ) → ACTIVE < head
-    → list_taken {T = T} slot size head ≡ Settles (counting_down slot size head) (Ending size) None
-list_settles T slot size head lt = rw (is_above head lt) refl
+pub list_settles : (T : Type 0) (slot size : ℕ) (way : Becomes) (head : ℕ) → ACTIVE < head
+    → list_taken {T = T} slot size way head ≡ Settles (counting_down slot size head) (Ending size way) None
+list_settles T slot size way head lt = rw (is_above head lt) refl
 
-pub list_empty : (T : Type 0) (slot size head : ℕ) → head ≤ ACTIVE → list_taken {T = T} slot size head ≡ Left slot size
-list_empty T slot size head le = rw (is_not_above head le) refl
+pub list_empty : (T : Type 0) (slot size : ℕ) (way : Becomes) (head : ℕ) → head ≤ ACTIVE → list_taken {T = T} slot size way head ≡ Left slot size way
+list_empty T slot size way head le = rw (is_not_above head le) refl
 
 -- what a word of a root tells that was taken from there, or seen
 pub cut_some : (word b : ℕ) → b ≡ block_in word → (b ≡ 0 → ⊥) → cut_in word ≡ Cut b
@@ -132,10 +147,11 @@ module _ {T : Type 0} (defers : T → Option ℕ) (v w : View T) (slot : ℕ) wh
   seen_told r word is so = let k = subst (λ (x : View T). told defers x (Load (Root r)) (Found word) w) is so in k.2 ∙ ap (Inside slot) k.1
 
   -- what the taking of a list tells
-  pub list_told : (size head : ℕ) → v ≡ Leaves slot size → told defers v (Swap (Slot slot HEAD) IDLE) (Found head) w → w ≡ list_taken slot size head
-  list_told size head is so = subst (λ (x : View T). told defers x (Swap (Slot slot HEAD) IDLE) (Found head) w) is so
+  pub list_told : (size : ℕ) (way : Becomes) (word head : ℕ) → v ≡ Leaves slot size way → told defers v (Swap (Slot slot HEAD) word) (Found head) w
+      → w ≡ list_taken slot size way head
+  list_told size way word head is so = subst (λ (x : View T). told defers x (Swap (Slot slot HEAD) word) (Found head) w) is so
 
   -- a list with entries is settled by the row that counts it down
-  pub row_told : (size head : ℕ) (row : Settle) → w ≡ list_taken slot size head → ACTIVE < head → row ≡ counting_down slot size head
-      → w ≡ Settles row (Ending size) None
-  row_told size head row is lt row_is = is ∙ list_settles T slot size head lt ∙ ap (λ (c : Settle). Settles c (Ending size) None) (sym row_is)
+  pub row_told : (size : ℕ) (way : Becomes) (head : ℕ) (row : Settle) → w ≡ list_taken slot size way head → ACTIVE < head → row ≡ counting_down slot size head
+      → w ≡ Settles row (Ending size way) None
+  row_told size way head row is lt row_is = is ∙ list_settles T slot size way head lt ∙ ap (λ (c : Settle). Settles c (Ending size way) None) (sym row_is)

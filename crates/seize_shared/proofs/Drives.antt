@@ -75,8 +75,8 @@ module _ {T : Type 0} (defers : T → Option ℕ) where
   none_rewrites (Enters t) = tt
   none_rewrites (Inside t has) = tt
   none_rewrites (Settles c why seen) = settling_none c c.stands
-  none_rewrites (Leaves t size) = tt
-  none_rewrites (Left t size) = tt
+  none_rewrites (Leaves t size way) = tt
+  none_rewrites (Left t size way) = tt
   none_rewrites (Frees t) = tt
 
   -- so it needs no block to itself
@@ -147,6 +147,6 @@ module _ {T : Type 0} (defers : T → Option ℕ) (fixed : Fixed) (id : ℕ) whe
   is_looked (Outside t) b is = absurd (cc is)
   is_looked (Enters t) b is = absurd (cc is)
   is_looked (Inside t has) b is = absurd (cc is)
-  is_looked (Leaves t size) b is = absurd (cc is)
-  is_looked (Left t size) b is = absurd (cc is)
+  is_looked (Leaves t size way) b is = absurd (cc is)
+  is_looked (Left t size way) b is = absurd (cc is)
   is_looked (Frees t) b is = absurd (cc is)

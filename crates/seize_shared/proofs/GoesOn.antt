@@ -3,10 +3,10 @@ use Rattle.std.proofs.Common.{ℕ, subst}
 use Rattle.std.specs.Prelude.{Option}
 use Rattle.seize_words.specs.Op.{Op, Store, Swap}
 use Rattle.seize_words.specs.declared.at.At.TheVariants.{Slot}
-use Rattle.seize.specs.declared.states.TheConstants.{HEAD, FREE, IDLE, ACTIVE}
+use Rattle.seize.specs.declared.states.TheConstants.{HEAD, FREE, ACTIVE}
 use Rattle.seize_acts.proofs.Answers.{same_some}
 use Rattle.seize_seats.specs.State.{Allows}
-use Rattle.seize_shared.specs.Rows.{Holds, Keeps}
+use Rattle.seize_shared.specs.Rows.{Holds, Keeps, head_of}
 use Rattle.seize_shared.specs.Told.{told}
 use Rattle.seize_shared.specs.Promises.{RowsGoOn}
 use Rattle.seize_shared.specs.declared.view.View.TheVariants.{Rests, Registers, Outside, Enters, Inside, Settles, Leaves, Left, Frees}
@@ -24,10 +24,11 @@ module _ (T : Type 0) (defers : T → Option ℕ) where
       (enters defers fixed id t) s h at_id
   rows_go_on fixed id (Inside t has) op e s h at_id = absurd (cc e)
   rows_go_on fixed id (Settles c why seen) op e s h at_id = settles defers fixed s id c why seen h at_id op e
-  rows_go_on fixed id (Leaves t size) op e s h at_id =
-      subst (λ (o : Op T). Allows (Holds defers fixed) Keeps id (Leaves t size) o (told defers (Leaves t size) o)) (same_some (Swap (Slot t HEAD) IDLE) op e)
-      (leaves defers fixed id t size) s h at_id
-  rows_go_on fixed id (Left t size) op e s h at_id = absurd (cc e)
+  rows_go_on fixed id (Leaves t size way) op e s h at_id =
+      subst (λ (o : Op T). Allows (Holds defers fixed) Keeps id (Leaves t size way) o (told defers (Leaves t size way) o))
+      (same_some (Swap (Slot t HEAD) (head_of way)) op e)
+      (leaves defers fixed id t size way) s h at_id
+  rows_go_on fixed id (Left t size way) op e s h at_id = absurd (cc e)
   rows_go_on fixed id (Frees t) op e s h at_id =
       subst (λ (o : Op T). Allows (Holds defers fixed) Keeps id (Frees t) o (told defers (Frees t) o)) (same_some (Store (Slot t HEAD) FREE) op e)
       (frees defers fixed id t) s h at_id

@@ -33,9 +33,9 @@ not_vacant {T} x t a e v = by x e
     by (Enters s) f = let k = so (s, world.Changing) (t, a) f in cc (k, v)
     by (Inside s has) f = let k = so (s, world.Inside 0) (t, a) f in cc (k, v)
     by (Settles c Retiring seen) f = let k = so (c.slot, world.Inside 1) (t, a) f in cc (k, v)
-    by (Settles c (Ending size) seen) f = let k = so (c.slot, world.Changing) (t, a) f in cc (k, v)
-    by (Leaves s size) f = let k = so (s, world.Changing) (t, a) f in cc (k, v)
-    by (Left s size) f = let k = so (s, world.Changing) (t, a) f in cc (k, v)
+    by (Settles c (Ending size way) seen) f = let k = so (c.slot, world.Changing) (t, a) f in cc (k, v)
+    by (Leaves s size way) f = let k = so (s, world.Changing) (t, a) f in cc (k, v)
+    by (Left s size way) f = let k = so (s, world.Changing) (t, a) f in cc (k, v)
     by (Frees s) f = let k = so (s, world.Changing) (t, a) f in cc (k, v)
 
 module _ {T : Type 0} where
@@ -87,8 +87,8 @@ module _ {T : Type 0} (defers : T → Option ℕ) (fixed : Fixed) (s : State T (
     known j (Registers c) ne row f = tt
     known j (Outside t) ne row f = tt
     known j (Enters t) ne row f = tt
-    known j (Leaves t size) ne row f = tt
-    known j (Left t size) ne row f = tt
+    known j (Leaves t size way) ne row f = tt
+    known j (Left t size way) ne row f = tt
     known j (Frees t) ne row f = tt
 
     pub moved : so u → Goes (Holds defers fixed) Keeps s m id so

@@ -4,7 +4,7 @@ use Rattle.std.proofs.Common.{◌≡◌, ℕ, Bool, true, false, [], ◌∷◌, 
 use Rattle.seize_words.specs.Mem.{Mem, Can, Took}
 use Rattle.seize_words.specs.Op.{Out, Store, Swap, Found, Stored, Exchanged, Made, Taken, Roomed}
 use Rattle.seize_words.specs.declared.at.At.TheVariants.{Slot}
-use Rattle.seize.specs.declared.states.TheConstants.{HEAD, FREE, IDLE, ACTIVE}
+use Rattle.seize.specs.declared.states.TheConstants.{HEAD, FREE, ACTIVE}
 use Rattle.seize.specs.declared.progress.Progress.TheVariants.{Done}
 use Rattle.seize.specs.declared.rows.leave.Leave.{Leave}
 use Rattle.seize.specs.declared.rows.leave.Leaving.TheVariants as leaving_at
@@ -12,14 +12,15 @@ use Rattle.seize.specs.declared.rows.settle.Settled.TheVariants as settled
 use Rattle.seize.specs.Settle.{counting_down}
 use Rattle.seize.specs.Leave.{standing}
 use Rattle.seize.specs.Law.{Entered}
-use Rattle.seize.specs.World.{World, Row, Use, MayStep, Steps', after_step, with_use, leaves_on, at_start}
+use Rattle.seize.specs.World.{World, Row, Use, MayStep, after_step, with_use, leaves_on}
 use Rattle.seize.specs.World as world
 use Rattle.seize_rule.proofs.World.Kept.{rows_may}
 use Rattle.seize_rule.proofs.Rows.Others.{with_here}
 use Rattle.seize_seats.specs.State.{State, view_of, Goes, Allows}
-use Rattle.seize_shared.specs.Rows.{row_of, leave_of, Holds, Keeps}
+use Rattle.seize_shared.specs.Rows.{row_of, leave_of, Holds, Keeps, head_of}
 use Rattle.seize_shared.specs.Told.{list_taken, told}
 use Rattle.seize_shared.specs.declared.view.View.{View}
+use Rattle.seize_shared.specs.declared.view.Becomes.{Becomes}
 use Rattle.seize_shared.specs.declared.view.View.TheVariants.{Rests, Enters, Inside, Settles, Leaves, Left, Frees}
 use Rattle.seize_shared.specs.declared.view.Has.TheVariants.{Nothing}
 use Rattle.seize_shared.specs.declared.view.Why.TheVariants.{Ending}
@@ -80,41 +81,41 @@ module _ {T : Type 0} (defers : T → Option ℕ) (fixed : Fixed) where
           (alone defers fixed s id (Frees t) h at Rests (λ x b e. absurd (cc e))))
           refl
 
-  pub leaves : (id t size : ℕ) → Allows H Keeps id (Leaves t size) (Swap (Slot t HEAD) IDLE) (told defers (Leaves t size) (Swap (Slot t HEAD) IDLE))
-  leaves id t size s h at = (can, λ out m took. by out m took)
+  pub leaves : (id t size : ℕ) (way : Becomes) → Allows H Keeps id (Leaves t size way) (Swap (Slot t HEAD) (head_of way)) (told defers (Leaves t size way) (Swap (Slot t HEAD) (head_of way)))
+  leaves id t size way s h at = (can, λ out m took. by out m took)
     where
-      can : Can s.memory (Swap (Slot t HEAD) IDLE)
-      can = subst (λ (m : Mem T). Can m (Swap (Slot t HEAD) IDLE)) (sym h.memory) (may s id (Leaves t size) h at).0
+      can : Can s.memory (Swap (Slot t HEAD) (head_of way))
+      can = subst (λ (m : Mem T). Can m (Swap (Slot t HEAD) (head_of way))) (sym h.memory) (may s id (Leaves t size way) h at).0
 
-      took_here : (head : ℕ) (m : Mem T) → Took s.memory (Swap (Slot t HEAD) IDLE) (Found head) m → Took s.world.memory (Swap (Slot t HEAD) IDLE) (Found head) m
-      took_here head m took = subst (λ (x : Mem T). Took x (Swap (Slot t HEAD) IDLE) (Found head) m) h.memory took
+      took_here : (head : ℕ) (m : Mem T) → Took s.memory (Swap (Slot t HEAD) (head_of way)) (Found head) m → Took s.world.memory (Swap (Slot t HEAD) (head_of way)) (Found head) m
+      took_here head m took = subst (λ (x : Mem T). Took x (Swap (Slot t HEAD) (head_of way)) (Found head) m) h.memory took
 
-      slot : (d : Leave) (m : Mem T) → (leaves_on s.world id (leave_of t size) m (d, settled.Goes)).uses t ≡ world.Changing
-      slot d m = with_here s.world.uses t (s.world.uses t) ∙ (h.seats id (Leaves t size) at).slot
+      slot : (d : Leave) (m : Mem T) → (leaves_on s.world id (leave_of t size way) m (d, settled.Goes)).uses t ≡ world.Changing
+      slot d m = with_here s.world.uses t (s.world.uses t) ∙ (h.seats id (Leaves t size way) at).slot
 
-      goes : (head : ℕ) (m : Mem T) → Took s.memory (Swap (Slot t HEAD) IDLE) (Found head) m → (b : Bool) → nat_lt ACTIVE head ≡ b
-          → Goes H Keeps s m id (λ u. u ≡ list_taken t size head)
+      goes : (head : ℕ) (m : Mem T) → Took s.memory (Swap (Slot t HEAD) (head_of way)) (Found head) m → (b : Bool) → nat_lt ACTIVE head ≡ b
+          → Goes H Keeps s m id (λ u. u ≡ list_taken t size way head)
       goes head m took true e =
-          let u : View T = Settles (counting_down t size head) (Ending size) None in
-          let d : Leave = standing (leave_of t size) (leaving_at.Settles (counting_down t size head)) in
-          let n : World T = leaves_on s.world id (leave_of t size) m (d, settled.Goes) in
-          moved defers fixed s id (Leaves t size) u m n (λ x. x ≡ list_taken t size head) h at
-          (stepped defers fixed s id (Leaves t size) h at u m n (m, (d, settled.Goes), (Found head, took_here head m took, rw e refl), refl) refl
+          let u : View T = Settles (counting_down t size head) (Ending size way) None in
+          let d : Leave = standing (leave_of t size way) (leaving_at.Settles (counting_down t size head)) in
+          let n : World T = leaves_on s.world id (leave_of t size way) m (d, settled.Goes) in
+          moved defers fixed s id (Leaves t size way) u m n (λ x. x ≡ list_taken t size way head) h at
+          (stepped defers fixed s id (Leaves t size way) h at u m n (m, (d, settled.Goes), (Found head, took_here head m took, rw e refl), refl) refl
           (record { row = with_here s.world.row id (world.Leaves d); slot = slot d m; short = tt; known = tt })
-          (alone defers fixed s id (Leaves t size) h at u (λ x b q. same_slot t x world.Changing b world.Changing q)))
+          (alone defers fixed s id (Leaves t size way) h at u (λ x b q. same_slot t x world.Changing b world.Changing q)))
           (rw e refl)
       goes head m took false e =
-          let u : View T = Left t size in
-          let d : Leave = standing (leave_of t size) leaving_at.Over in
-          let n : World T = leaves_on s.world id (leave_of t size) m (d, settled.Goes) in
-          moved defers fixed s id (Leaves t size) u m n (λ x. x ≡ list_taken t size head) h at
-          (stepped defers fixed s id (Leaves t size) h at u m n (m, (d, settled.Goes), (Found head, took_here head m took, rw e refl), refl) refl
+          let u : View T = Left t size way in
+          let d : Leave = standing (leave_of t size way) leaving_at.Over in
+          let n : World T = leaves_on s.world id (leave_of t size way) m (d, settled.Goes) in
+          moved defers fixed s id (Leaves t size way) u m n (λ x. x ≡ list_taken t size way head) h at
+          (stepped defers fixed s id (Leaves t size way) h at u m n (m, (d, settled.Goes), (Found head, took_here head m took, rw e refl), refl) refl
           (record { row = with_here s.world.row id (world.Leaves d); slot = slot d m; short = tt; known = tt })
-          (alone defers fixed s id (Leaves t size) h at u (λ x b q. same_slot t x world.Changing b world.Changing q)))
+          (alone defers fixed s id (Leaves t size way) h at u (λ x b q. same_slot t x world.Changing b world.Changing q)))
           (rw e refl)
 
-      by : (out : Out T) (m : Mem T) → Took s.memory (Swap (Slot t HEAD) IDLE) out m
-          → Goes H Keeps s m id (told defers (Leaves t size) (Swap (Slot t HEAD) IDLE) out)
+      by : (out : Out T) (m : Mem T) → Took s.memory (Swap (Slot t HEAD) (head_of way)) out m
+          → Goes H Keeps s m id (told defers (Leaves t size way) (Swap (Slot t HEAD) (head_of way)) out)
       by (Found head) m took = goes head m took (nat_lt ACTIVE head) refl
       by Stored m took = absurd took.0
       by (Exchanged r) m took = absurd took.0

@@ -33,6 +33,7 @@ use Rattle.seize_shared.specs.Rows.{settles_for, used_for, leave_of, counting, I
 use Rattle.seize_shared.specs.Told.{shown_by, FollowsBy, told}
 use Rattle.seize_shared.specs.Promises.{op_in}
 use Rattle.seize_shared.specs.declared.view.View.{View}
+use Rattle.seize_shared.specs.declared.view.Becomes.{Becomes}
 use Rattle.seize_shared.specs.declared.view.View.TheVariants.{Settles}
 use Rattle.seize_shared.specs.declared.view.Why.{Why}
 use Rattle.seize_shared.specs.declared.view.Why.TheVariants.{Retiring, Ending}
@@ -86,7 +87,7 @@ module _ {T : Type 0} (defers : T → Option ℕ) (fixed : Fixed) (s : State T (
   fits_for : (y : Why) → FitsRow (LAST_SLOT + 1) id (view defers w.memory) r.good.state r.good.extra (length w.memory.slots) (settles_for y c)
       → FitsSettle (LAST_SLOT + 1) id (view defers w.memory) r.good.state r.good.extra c
   fits_for Retiring f = f
-  fits_for (Ending size) f = f.settles
+  fits_for (Ending size way) f = f.settles
 
   fits : FitsSettle (LAST_SLOT + 1) id (view defers w.memory) r.good.state r.good.extra c
   fits = fits_for why (subst (λ (row : Row). FitsRow (LAST_SLOT + 1) id (view defers w.memory) r.good.state r.good.extra (length w.memory.slots) row)
@@ -95,24 +96,24 @@ module _ {T : Type 0} (defers : T → Option ℕ) (fixed : Fixed) (s : State T (
   -- the world after a step, by what it is for
   abbrev after : Why → Mem T → Settle × Settled T → World T
   after Retiring m end = settles_on w id c m end
-  after (Ending size) m end = leaves_on w id (counting size c) m (leave_settled (counting size c) end)
+  after (Ending size way) m end = leaves_on w id (counting size way c) m (leave_settled (counting size way c) end)
 
   steps : (y : Why) (m : Mem T) (end : Settle × Settled T) → Steps Took value_at w.memory (settle_plan defers c) m end
       → Steps' defers id (settles_for y c) w (after y m end)
   steps Retiring m end st = (m, end, st, refl)
-  steps (Ending size) m end st =
-      let d : Leave = counting size c in
+  steps (Ending size way) m end st =
+      let d : Leave = counting size way c in
       (m, leave_settled d end, steps_as (leave_settled d) Can Took value_at w.memory m (settle_plan defers c) end st, refl)
 
   memory : (y : Why) (m : Mem T) (end : Settle × Settled T) → m ≡ (after y m end).memory
   memory Retiring m end = sym (settles_memory w id m c end.0 end.1)
-  memory (Ending size) m end = refl
+  memory (Ending size way) m end = refl
 
-  ending : (size : ℕ) (d : Settle) → d.slot ≡ c.slot
-      → with_at w.row id (world.Leaves (standing (counting size c) (leaving_at.Settles d))) id ≡ world.Leaves (counting size d)
-  ending size d slot =
-      with_here w.row id (world.Leaves (standing (counting size c) (leaving_at.Settles d)))
-      ∙ ap (λ (t : ℕ). world.Leaves (standing (leave_of t size) (leaving_at.Settles d))) (sym slot)
+  ending : (size : ℕ) (way : Becomes) (d : Settle) → d.slot ≡ c.slot
+      → with_at w.row id (world.Leaves (standing (counting size way c) (leaving_at.Settles d))) id ≡ world.Leaves (counting size way d)
+  ending size way d slot =
+      with_here w.row id (world.Leaves (standing (counting size way c) (leaving_at.Settles d)))
+      ∙ ap (λ (t : ℕ). world.Leaves (standing (leave_of t size way) (leaving_at.Settles d))) (sym slot)
 
   -- the row goes on
   row : (y : Why) (m : Mem T) (d : Settle) (p : Settled T) → IsGoing p → d.slot ≡ c.slot → (after y m (d, p)).row id ≡ settles_for y d
@@ -120,10 +121,10 @@ module _ {T : Type 0} (defers : T → Option ℕ) (fixed : Fixed) (s : State T (
   row Retiring m d Waits going slot = with_here w.row id (world.Settles d)
   row Retiring m d (Gave value) going slot = with_here w.row id (world.Settles d)
   row Retiring m d Done going slot = absurd going
-  row (Ending size) m d Goes going slot = ending size d slot
-  row (Ending size) m d Waits going slot = ending size d slot
-  row (Ending size) m d (Gave value) going slot = ending size d slot
-  row (Ending size) m d Done going slot = absurd going
+  row (Ending size way) m d Goes going slot = ending size way d slot
+  row (Ending size way) m d Waits going slot = ending size way d slot
+  row (Ending size way) m d (Gave value) going slot = ending size way d slot
+  row (Ending size way) m d Done going slot = absurd going
 
   used : (y : Why) (m : Mem T) (d : Settle) (p : Settled T) → IsGoing p → d.slot ≡ c.slot → w.uses c.slot ≡ used_for y
       → (after y m (d, p)).uses d.slot ≡ used_for y
@@ -131,8 +132,8 @@ module _ {T : Type 0} (defers : T → Option ℕ) (fixed : Fixed) (s : State T (
   used Retiring m d Waits going slot is = ap w.uses slot ∙ is
   used Retiring m d (Gave value) going slot is = ap w.uses slot ∙ is
   used Retiring m d Done going slot is = absurd going
-  used (Ending size) m d Done going slot is = absurd going
-  used (Ending size) m d _ going slot is =
+  used (Ending size way) m d Done going slot is = absurd going
+  used (Ending size way) m d _ going slot is =
       ap (λ (t : ℕ). with_at w.uses c.slot (w.uses c.slot) t) slot ∙ with_here w.uses c.slot (w.uses c.slot) ∙ is
 
   goes : (op : Op T) (out : Out T) (m : Mem T) (end : Settle × Settled T) → op_in (settle_plan defers c) ≡ Some op

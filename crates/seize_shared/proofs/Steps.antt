@@ -60,9 +60,9 @@ works_on_own (Outside s) short t e = absurd (omega (arith, e))
 works_on_own (Enters s) short t e = (world.Changing, ap (λ (k : ℕ). Some (k, world.Changing)) (omega (arith, e)))
 works_on_own (Inside s has) short t e = absurd (omega (arith, e))
 works_on_own (Settles c Retiring seen) short t e = (world.Inside 1, ap (λ (k : ℕ). Some (k, world.Inside 1)) (omega (arith, e)))
-works_on_own (Settles c (Ending size) seen) short t e = (world.Changing, ap (λ (k : ℕ). Some (k, world.Changing)) (omega (arith, e)))
-works_on_own (Leaves s size) short t e = (world.Changing, ap (λ (k : ℕ). Some (k, world.Changing)) (omega (arith, e)))
-works_on_own (Left s size) short t e = (world.Changing, ap (λ (k : ℕ). Some (k, world.Changing)) (omega (arith, e)))
+works_on_own (Settles c (Ending size way) seen) short t e = (world.Changing, ap (λ (k : ℕ). Some (k, world.Changing)) (omega (arith, e)))
+works_on_own (Leaves s size way) short t e = (world.Changing, ap (λ (k : ℕ). Some (k, world.Changing)) (omega (arith, e)))
+works_on_own (Left s size way) short t e = (world.Changing, ap (λ (k : ℕ). Some (k, world.Changing)) (omega (arith, e)))
 works_on_own (Frees s) short t e = (world.Changing, ap (λ (k : ℕ). Some (k, world.Changing)) (omega (arith, e)))
 
 -- what is in a seat's hand is some caller's

@@ -1,9 +1,11 @@
 -- What a seat knows once a row of it has begun, or ended, without an operation.
-use Rattle.std.specs.Prelude.{◌≡◌, false, None}
+use Rattle.std.specs.Prelude.{◌≡◌, false, None, ℕ}
 use Rattle.seize_words.specs.Word.{link_to}
 use Rattle.seize.specs.declared.rows.register.Registering.TheVariants as at
 use Rattle.seize.specs.Settle.{retiring, flushing}
 use Rattle.seize_shared.specs.declared.view.View.{View}
+use Rattle.seize_shared.specs.declared.view.Becomes.{Becomes}
+use Rattle.seize_shared.specs.declared.view.Becomes.TheVariants.{Idle, Active}
 use Rattle.seize_shared.specs.declared.view.View.TheVariants.{Rests, Registers, Outside, Enters, Inside, Settles, Leaves, Left, Frees}
 use Rattle.seize_shared.specs.declared.view.Has.TheVariants.{Nothing, Seen, Cut}
 use Rattle.seize_shared.specs.declared.view.Why.TheVariants.{Retiring, Ending}
@@ -28,14 +30,23 @@ module _ {T : Type 0} (fixed : Fixed) where
   flushes v = v
 
   abbrev pub leaving : View T → View T
-  leaving (Inside t Nothing) = Leaves t fixed.batch_size
-  leaving (Inside t (Seen b)) = Leaves t fixed.batch_size
+  leaving (Inside t Nothing) = Leaves t fixed.batch_size Idle
+  leaving (Inside t (Seen b)) = Leaves t fixed.batch_size Idle
   leaving v = v
+
+  abbrev pub refreshes : View T → View T
+  refreshes (Inside t Nothing) = Leaves t fixed.batch_size Active
+  refreshes (Inside t (Seen b)) = Leaves t fixed.batch_size Active
+  refreshes v = v
+
+  abbrev pub left_with : Becomes → ℕ → View T
+  left_with Idle t = Outside t
+  left_with Active t = Inside t Nothing
 
   abbrev pub ended : View T → View T
   ended (Settles c Retiring seen) = Inside c.slot Nothing
-  ended (Settles c (Ending size) seen) = Left c.slot size
-  ended (Left t size) = Outside t
+  ended (Settles c (Ending size way) seen) = Left c.slot size way
+  ended (Left t size way) = left_with way t
   ended v = v
 
   abbrev pub freeing : View T → View T

@@ -5,7 +5,7 @@ use Rattle.seize_words.specs.Word.{link_to}
 use Rattle.seize_words.specs.Op.{Op, Load, Store, Swap, Make, Take}
 use Rattle.seize_words.specs.Plan.{Plan, Turn, Do}
 use Rattle.seize_words.specs.declared.at.At.TheVariants.{Root, Slot}
-use Rattle.seize.specs.declared.states.TheConstants.{HEAD, FREE, IDLE, ACTIVE}
+use Rattle.seize.specs.declared.states.TheConstants.{HEAD, FREE, ACTIVE}
 use Rattle.seize.specs.declared.rows.register.Registering.TheVariants as at
 use Rattle.seize.specs.declared.rows.settle.Settling.TheVariants as settling_at
 use Rattle.seize.specs.declared.rows.settle.Settle.{Settle}
@@ -13,9 +13,11 @@ use Rattle.seize.specs.Register.{register_plan}
 use Rattle.seize.specs.Settle.{retiring, flushing, settle_plan}
 use Rattle.seize_seats.specs.Lendings.{Shown, IsValueOf}
 use Rattle.seize_seats.specs.State.{Starts, Comes, Allows, Turns}
-use Rattle.seize_shared.specs.Rows.{Holds, Keeps}
+use Rattle.seize_shared.specs.Rows.{head_of, Holds, Keeps}
 use Rattle.seize_shared.specs.Told.{told}
 use Rattle.seize_shared.specs.declared.view.View.{View}
+use Rattle.seize_shared.specs.declared.view.Becomes.{Becomes}
+use Rattle.seize_shared.specs.declared.view.Becomes.TheVariants.{Idle, Active}
 use Rattle.seize_shared.specs.declared.view.View.TheVariants.{Rests, Registers, Outside, Enters, Inside, Settles, Leaves, Left, Frees}
 use Rattle.seize_shared.specs.declared.view.Has.{Has}
 use Rattle.seize_shared.specs.declared.view.Has.TheVariants.{Nothing, Made, Seen, Cut}
@@ -34,13 +36,18 @@ module _ {T : Type 0} (defers : T → Option ℕ) where
   op_of (Registers c) = op_in (register_plan {T = T} c)
   op_of (Enters t) = Some (Store (Slot t HEAD) ACTIVE)
   op_of (Settles c why seen) = op_in (settle_plan defers c)
-  op_of (Leaves t size) = Some (Swap (Slot t HEAD) IDLE)
+  op_of (Leaves t size way) = Some (Swap (Slot t HEAD) (head_of way))
   op_of (Frees t) = Some (Store (Slot t HEAD) FREE)
   op_of _ = None
 
--- within a section of this slot a seat that has no block in its hand may begin to leave, or to try its batch
+-- within a section of this slot a seat that has no block in its hand may begin to leave, or to refresh, or to try its batch
 abbrev pub IsFree : {T : Type 0} → Fixed → ℕ → View T → Type 0
-IsFree fixed t u = (u ≡ Leaves t fixed.batch_size) ⊎ (u ≡ Settles (flushing t fixed.batch_size) Retiring None)
+IsFree fixed t u = ((way : Becomes) × (u ≡ Leaves t fixed.batch_size way)) ⊎ (u ≡ Settles (flushing t fixed.batch_size) Retiring None)
+
+-- where a section has ended so
+abbrev pub IsLeft : {T : Type 0} → Becomes → ℕ → View T → Type 0
+IsLeft Idle t u = u ≡ Outside t
+IsLeft Active t u = u ≡ Inside t Nothing
 
 -- what a seat may come to know without an operation: a row begins, or ends
 abbrev pub IsNext : {T : Type 0} → Fixed → View T → View T → Type 0
@@ -50,8 +57,8 @@ IsNext fixed (Inside t Nothing) u = IsFree fixed t u
 IsNext fixed (Inside t (Seen b)) u = IsFree fixed t u
 IsNext fixed (Inside t (Cut b)) u = u ≡ Settles (retiring t fixed.batch_size (link_to b)) Retiring None
 IsNext fixed (Settles c Retiring seen) u = (c.stands ≡ settling_at.Over) × (u ≡ Inside c.slot Nothing)
-IsNext fixed (Settles c (Ending size) seen) u = (c.stands ≡ settling_at.Over) × (u ≡ Left c.slot size)
-IsNext fixed (Left t size) u = u ≡ Outside t
+IsNext fixed (Settles c (Ending size way) seen) u = (c.stands ≡ settling_at.Over) × (u ≡ Left c.slot size way)
+IsNext fixed (Left t size way) u = IsLeft way t u
 IsNext fixed _ u = ⊥
 
 -- the block that is known

@@ -4,7 +4,7 @@ use Rattle.std.specs.Prelude.{◌≡◌, ℕ, true, false, List, Option, Some, N
 use Rattle.seize_words.specs.Mem.{Mem, value_at, word_at}
 use Rattle.seize_words.specs.Word.{block_in}
 use Rattle.seize_words.specs.declared.at.At.TheVariants.{Root}
-use Rattle.seize.specs.declared.states.TheConstants.{IDLE}
+use Rattle.seize.specs.declared.states.TheConstants.{IDLE, ACTIVE}
 use Rattle.seize.specs.declared.rows.register.Registering.{Registering}
 use Rattle.seize.specs.declared.rows.register.Registering.TheVariants as at
 use Rattle.seize.specs.declared.rows.settle.Settle.{Settle}
@@ -18,6 +18,8 @@ use Rattle.seize.specs.World.{World, Row, Hand, Event, Use, Runs, at_start}
 use Rattle.seize.specs.World as world
 use Rattle.seize_seats.specs.State.{State, view_of}
 use Rattle.seize_shared.specs.declared.view.View.{View}
+use Rattle.seize_shared.specs.declared.view.Becomes.{Becomes}
+use Rattle.seize_shared.specs.declared.view.Becomes.TheVariants.{Idle, Active}
 use Rattle.seize_shared.specs.declared.view.View.TheVariants.{Rests, Registers, Outside, Enters, Inside, Settles, Leaves, Left, Frees}
 use Rattle.seize_shared.specs.declared.view.Has.{Has}
 use Rattle.seize_shared.specs.declared.view.Has.TheVariants.{Nothing, Made, Seen, Cut}
@@ -25,22 +27,27 @@ use Rattle.seize_shared.specs.declared.view.Why.{Why}
 use Rattle.seize_shared.specs.declared.view.Why.TheVariants.{Retiring, Ending}
 use Rattle.seize_shared.specs.declared.view.Fixed.{Fixed}
 
--- a slot that leaves, with batches of this size; and the same one as its list is counted down
-abbrev pub leave_of : ℕ → ℕ → Leave
-leave_of t size = leaving t size IDLE false
+-- the head of a slot whose section has ended so
+abbrev pub head_of : Becomes → ℕ
+head_of Idle = IDLE
+head_of Active = ACTIVE
 
-abbrev pub counting : ℕ → Settle → Leave
-counting size c = standing (leave_of c.slot size) (leaving_at.Settles c)
+-- a slot that leaves so, with batches of this size; and the same one as its list is counted down
+abbrev pub leave_of : ℕ → ℕ → Becomes → Leave
+leave_of t size way = leaving t size (head_of way) false
+
+abbrev pub counting : ℕ → Becomes → Settle → Leave
+counting size way c = standing (leave_of c.slot size way) (leaving_at.Settles c)
 
 -- the row of a seat that settles
 abbrev pub settles_for : Why → Settle → Row
 settles_for Retiring c = world.Settles c
-settles_for (Ending size) c = world.Leaves (counting size c)
+settles_for (Ending size way) c = world.Leaves (counting size way c)
 
 -- how its slot is used meanwhile
 abbrev pub used_for : Why → Use
 used_for Retiring = world.Inside 1
-used_for (Ending size) = world.Changing
+used_for (Ending size way) = world.Changing
 
 -- the row that a seat has under way
 abbrev pub row_of : {T : Type 0} → View T → Row
@@ -50,8 +57,8 @@ row_of (Outside t) = world.Rests
 row_of (Enters t) = world.Enters record { slot = t }
 row_of (Inside t has) = world.Rests
 row_of (Settles c why seen) = settles_for why c
-row_of (Leaves t size) = world.Leaves (leave_of t size)
-row_of (Left t size) = world.Leaves (standing (leave_of t size) leaving_at.Over)
+row_of (Leaves t size way) = world.Leaves (leave_of t size way)
+row_of (Left t size way) = world.Leaves (standing (leave_of t size way) leaving_at.Over)
 row_of (Frees t) = world.Frees record { slot = t }
 
 -- the slot that it holds, if it holds one, and how that is used
@@ -62,8 +69,8 @@ use_of (Outside t) = Some (t, world.Outside 0)
 use_of (Enters t) = Some (t, world.Changing)
 use_of (Inside t has) = Some (t, world.Inside 0)
 use_of (Settles c why seen) = Some (c.slot, used_for why)
-use_of (Leaves t size) = Some (t, world.Changing)
-use_of (Left t size) = Some (t, world.Changing)
+use_of (Leaves t size way) = Some (t, world.Changing)
+use_of (Left t size way) = Some (t, world.Changing)
 use_of (Frees t) = Some (t, world.Changing)
 
 -- registering seeks a slot, and has none yet

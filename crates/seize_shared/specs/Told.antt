@@ -15,6 +15,7 @@ use Rattle.seize.specs.Register.{register_plan}
 use Rattle.seize.specs.Settle.{counting_down, settle_plan}
 use Rattle.seize_shared.specs.Rows.{IsShort}
 use Rattle.seize_shared.specs.declared.view.View.{View}
+use Rattle.seize_shared.specs.declared.view.Becomes.{Becomes}
 use Rattle.seize_shared.specs.declared.view.View.TheVariants.{Rests, Registers, Outside, Enters, Inside, Settles, Leaves, Left, Frees}
 use Rattle.seize_shared.specs.declared.view.Has.{Has}
 use Rattle.seize_shared.specs.declared.view.Has.TheVariants.{Nothing, Made, Seen, Cut}
@@ -62,8 +63,8 @@ left_by (c, progress.Refused fault) = Rests
 left_by (c, _) = Registers c
 
 -- and once the list of its slot was taken, with this head
-abbrev pub list_taken : {T : Type 0} → ℕ → ℕ → ℕ → View T
-list_taken t size head = if nat_lt ACTIVE head then Settles (counting_down t size head) (Ending size) None else Left t size
+abbrev pub list_taken : {T : Type 0} → ℕ → ℕ → Becomes → ℕ → View T
+list_taken t size way head = if nat_lt ACTIVE head then Settles (counting_down t size head) (Ending size way) None else Left t size way
 
 module _ {T : Type 0} (defers : T → Option ℕ) where
   -- a settling goes on, with the same slot
@@ -79,6 +80,6 @@ module _ {T : Type 0} (defers : T → Option ℕ) where
   told (Enters t) op out w = w ≡ Inside t Nothing
   told (Inside t has) op out w = (after : Has) × has_told has op out after × (w ≡ Inside t after)
   told (Settles c why seen) op out w = GoesOn c why out w
-  told (Leaves t size) op (Found head) w = w ≡ list_taken t size head
+  told (Leaves t size way) op (Found head) w = w ≡ list_taken t size way head
   told (Frees t) op out w = w ≡ Rests
   told _ op out w = ⊥

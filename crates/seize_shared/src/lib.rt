@@ -12,4 +12,4 @@ mod view;
 pub use caller::Caller;
 pub use law::{rows_go_on, sections_go_on};
 pub use rows::OfRows;
-pub use view::{Fixed, Has, View, Why};
+pub use view::{Becomes, Fixed, Has, View, Why};

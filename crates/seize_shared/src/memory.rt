@@ -4,13 +4,14 @@ ghost use Rattle.seize.specs.declared.rows.settle.Settling.TheVariants.{Over};
 ghost use Rattle.seize_shared.specs.Made.{IsSettling};
 ghost use Rattle.seize_shared.specs.Promises.{IsLooking};
 ghost use Rattle.seize_shared.specs.Told.{list_taken};
+ghost use Rattle.seize_shared.specs.declared.view.Becomes.{Becomes};
 ghost use Rattle.seize_shared.specs.declared.view.Has.{Has};
 ghost use Rattle.seize_shared.specs.declared.view.Has.TheVariants.{Nothing, Cut};
 ghost use Rattle.seize_shared.specs.declared.view.View.TheVariants.{Outside, Inside, Left};
 ghost use Rattle.seize_shared.specs.declared.view.Why.{Why};
 
 use crate::caller::Caller;
-use crate::turns::{Ending, Flushing, Leaving, Retiring};
+use crate::turns::{Ending, Flushing, Leaving, Refreshing, Retiring};
 use seize::Machine;
 use seize::rows::{Defers, Settle, Settled, Settling};
 use seize::states::{ACTIVE, HEAD, IDLE};
@@ -61,8 +62,9 @@ impl<'a, T: Defers + Drop> Caller<'a, T> {
 
     /// Counts a list down that was taken from its slot.
     fn counts_down<W: Wait>(&mut self, rt: &W, slot: u64, head: u64)
-        requires taken { self.old.seat.view ≡ list_taken slot self.old.blocks.now.words.fixed.batch_size head }
-        ensures left { self.new.seat.view ≡ Left slot self.old.blocks.now.words.fixed.batch_size }
+        requires taken { (way : Becomes) × (self.old.seat.view ≡ list_taken slot self.old.blocks.now.words.fixed.batch_size way head) }
+        ensures left { (way : Becomes) → self.old.seat.view ≡ list_taken slot self.old.blocks.now.words.fixed.batch_size way head
+            → self.new.seat.view ≡ Left slot self.old.blocks.now.words.fixed.batch_size way }
         ensures blocks { self.new.blocks ≡ self.old.blocks }
     {
         if head <= ACTIVE {
@@ -81,6 +83,20 @@ impl<'a, T: Defers + Drop> Caller<'a, T> {
     {
         self.blocks.turn::<Leaving>(&mut self.seat);
         let head = self.blocks.swap(&mut self.seat, At::Slot(slot, HEAD), IDLE);
+        self.counts_down(rt, slot, head);
+        self.blocks.turn::<Ending>(&mut self.seat);
+    }
+
+    /// Ends the section and begins the next one, by one step. What it has seen it doesn't know any more. A value that is reclaimed is dropped.
+    pub fn refresh<W: Wait>(&mut self, rt: &W, slot: u64)
+        requires inside { (has : Has) × IsLooking has × (self.old.seat.view ≡ Inside slot has) }
+        ensures inside { self.new.seat.view ≡ Inside slot Nothing }
+        ensures blocks { self.new.blocks ≡ self.old.blocks }
+    {
+        self.blocks.turn::<Refreshing>(&mut self.seat);
+        let head = self
+            .blocks
+            .swap(&mut self.seat, At::Slot(slot, HEAD), ACTIVE);
         self.counts_down(rt, slot, head);
         self.blocks.turn::<Ending>(&mut self.seat);
     }

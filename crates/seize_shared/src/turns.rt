@@ -17,6 +17,9 @@ pub(crate) struct Flushing;
 /// Leaving begins.
 pub(crate) struct Leaving;
 
+/// Refreshing begins.
+pub(crate) struct Refreshing;
+
 /// What was begun ends.
 pub(crate) struct Ending;
 
@@ -51,6 +54,12 @@ impl<T> Turn<Fixed, View<T>> for Leaving {
     ghost use Rattle.seize_shared.specs.Begun.{leaving, Makes};
 
     ghost to = { Makes leaving };
+}
+
+impl<T> Turn<Fixed, View<T>> for Refreshing {
+    ghost use Rattle.seize_shared.specs.Begun.{refreshes, Makes};
+
+    ghost to = { Makes refreshes };
 }
 
 impl<T> Turn<Fixed, View<T>> for Ending {

@@ -15,10 +15,10 @@ pub enum View<T> {
     Inside(u64, Has),
     /// It settles what its slot has to settle, and why; and this block, with its value, it is about to look at.
     Settles(Settle, Why, Option<(u64, T)>),
-    /// It is about to end the section of this slot; batches have this size.
-    Leaves(u64, u64),
-    /// It has ended the section of this slot, and settled all that was to be settled.
-    Left(u64, u64),
+    /// It is about to end the section of this slot, whose head becomes so; batches have this size.
+    Leaves(u64, u64, Becomes),
+    /// It has ended the section of this slot, whose head became so, and settled all that was to be settled.
+    Left(u64, u64, Becomes),
     /// It is about to give this slot up.
     Frees(u64),
 }
@@ -39,8 +39,16 @@ pub enum Has {
 pub enum Why {
     /// A block is retired, or its batch is tried, within its section.
     Retiring,
-    /// Its section has ended, and the list of its slot is counted down; batches have this size.
-    Ending(u64),
+    /// Its section has ended, and the list of its slot is counted down; batches have this size, and the head became so.
+    Ending(u64, Becomes),
+}
+
+/// What the head of a slot becomes whose section ends.
+pub enum Becomes {
+    /// No section is open then.
+    Idle,
+    /// The next one is.
+    Active,
 }
 
 /// What is chosen as the memory is opened.

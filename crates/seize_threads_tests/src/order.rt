@@ -145,6 +145,23 @@ fn sends<R: Threads + Wait + Sync>(
     Some((early, at(numbers, 0)))
 }
 
+/// Is within a section while another one retires a batch, and refreshes it then; answers how many came back by the other one's end, and by the refresh.
+fn refreshes<W: Wait>(
+    rt: &W,
+    ground: &Ground<'_, Numbered>,
+    numbers: &Table,
+) -> Option<(u64, u64)> {
+    let mut caller = Caller::new(ground.blocks, SIZE);
+    let slot = caller.register().ok()?;
+    caller.enter(slot);
+    let early = fills(rt, ground, numbers)?;
+    caller.refresh(rt, slot);
+    let then = at(numbers, 0);
+    caller.leave(rt, slot);
+    caller.unregister(slot);
+    Some((early, then))
+}
+
 /// A memory of such values.
 fn ground_of(alloc: Global) -> Result<Home<Numbered, OfRows>, AllocError>
     ensures { IfOk result (λ home. home.blocks.words.fixed ≡ record { batch_size = 5; roots = 1 }) }
@@ -189,6 +206,19 @@ fn sends_one<R: Threads + Wait + Sync>(
     Ok(sends(rt, &ground, numbers))
 }
 
+/// A batch over one memory, with a caller that refreshes; answers how many came back by the end of the one who retired it, and by the refresh.
+fn refreshes_one<W: Wait>(
+    rt: &W,
+    alloc: Global,
+    numbers: &Table,
+) -> Result<Option<(u64, u64)>, AllocError> {
+    let home = ground_of(alloc)?;
+    let ground = Ground {
+        blocks: &home.blocks,
+    };
+    Ok(refreshes(rt, &ground, numbers))
+}
+
 /// Each place from 1 on has the number of those that were retired after it, and one.
 fn is_last_first(numbers: &Table) -> bool {
     for turn in 0..MANY {
@@ -226,6 +256,15 @@ fn a_batch_comes_back_in_order_where_a_guard_ends_on_another_thread(
 ) -> Result<(), Fail> {
     let numbers = table(rt.alloc(), SIZE as usize + 1)?;
     let counts = sends_one(&rt, rt.alloc(), &numbers)?;
+    assert_eq!(rt; counts, Some((0, SIZE)));
+    assert!(rt; is_in_order(&numbers));
+    Ok(())
+}
+
+#[test]
+fn a_batch_comes_back_in_order_where_a_guard_is_refreshed(rt: HostRuntime) -> Result<(), Fail> {
+    let numbers = table(rt.alloc(), SIZE as usize + 1)?;
+    let counts = refreshes_one(&rt, rt.alloc(), &numbers)?;
     assert_eq!(rt; counts, Some((0, SIZE)));
     assert!(rt; is_in_order(&numbers));
     Ok(())

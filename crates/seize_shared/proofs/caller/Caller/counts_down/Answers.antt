@@ -15,8 +15,9 @@ settles-requires g c =
     let lt : ACTIVE < c.args.head = (let k = c.if-head-le-ACTIVE.false in grind (arith, k)) in
     let row : c.count_down-row.result ≡ counting_down c.args.slot size c.args.head =
     c.count_down-row.ensures ∙ ap (λ (n : ℕ). counting_down c.args.slot n c.args.head) (sym x.sized) in
-    let begins = row_told g.T.Defers.defers x.seat.view x.seat.view c.args.slot size c.args.head c.count_down-row.result c.requires.taken lt row in
-    record { settling = (Ending size, (None, begins)) }
+    let way = c.requires.taken.0 in
+    let begins = row_told g.T.Defers.defers x.seat.view x.seat.view c.args.slot size way c.args.head c.count_down-row.result c.requires.taken.1 lt row in
+    record { settling = (Ending size way, (None, begins)) }
 
 pub turn-requires-clause-may : goal.turn-requires-clause-may
 turn-requires-clause-may g c =
@@ -24,18 +25,19 @@ turn-requires-clause-may g c =
     let lt : ACTIVE < c.args.head = (let k = c.if-head-le-ACTIVE.false in grind (arith, k)) in
     let row : c.count_down-row.result ≡ counting_down c.args.slot size c.args.head =
     c.count_down-row.ensures ∙ ap (λ (n : ℕ). counting_down c.args.slot n c.args.head) (sym x.sized) in
-    let begins = row_told g.T.Defers.defers x.seat.view x.seat.view c.args.slot size c.args.head c.count_down-row.result c.requires.taken lt row in
-    let k = c.settles.ensures.settling (Ending size) (None, begins) in let n = c.settles.new.self in
-    may_turn g.T.Defers.defers n.blocks.now.words.fixed n.seat.id n.seat.view (Settles c.settles.new.row (Ending size) k.0) k.1 ended
+    let way = c.requires.taken.0 in
+    let begins = row_told g.T.Defers.defers x.seat.view x.seat.view c.args.slot size way c.args.head c.count_down-row.result c.requires.taken.1 lt row in
+    let k = c.settles.ensures.settling (Ending size way) (None, begins) in let n = c.settles.new.self in
+    may_turn g.T.Defers.defers n.blocks.now.words.fixed n.seat.id n.seat.view (Settles c.settles.new.row (Ending size way) k.0) k.1 ended
     (c.settles.ensures.over, refl)
 
 pub returns-clause-left : goal.returns-clause-left
-returns-clause-left g c =
+returns-clause-left g c way is =
     let x = c.args.self.now in let size = x.blocks.now.words.fixed.batch_size in
     let lt : ACTIVE < c.args.head = (let k = c.if-head-le-ACTIVE.false in grind (arith, k)) in
     let row : c.count_down-row.result ≡ counting_down c.args.slot size c.args.head =
     c.count_down-row.ensures ∙ ap (λ (n : ℕ). counting_down c.args.slot n c.args.head) (sym x.sized) in
-    let begins = row_told g.T.Defers.defers x.seat.view x.seat.view c.args.slot size c.args.head c.count_down-row.result c.requires.taken lt row in
-    let k = c.settles.ensures.settling (Ending size) (None, begins) in
+    let begins = row_told g.T.Defers.defers x.seat.view x.seat.view c.args.slot size way c.args.head c.count_down-row.result is lt row in
+    let k = c.settles.ensures.settling (Ending size way) (None, begins) in
     c.turn.ensures.goes ∙ ap (ended c.settles.new.self.blocks.now.words.fixed) k.1
-    ∙ ap (λ (t : ℕ). Left t size) (c.settles.ensures.slot ∙ ap (λ (r : Settle). r.slot) row)
+    ∙ ap (λ (t : ℕ). Left t size way) (c.settles.ensures.slot ∙ ap (λ (r : Settle). r.slot) row)

@@ -3,6 +3,7 @@ use Rattle.seize_words.specs.Op.{Swap}
 use Rattle.seize_words.specs.declared.at.At.TheVariants.{Slot}
 use Rattle.seize.specs.declared.states.TheConstants.{HEAD, IDLE}
 use Rattle.seize_shared.specs.Begun.{leaving, ended}
+use Rattle.seize_shared.specs.declared.view.Becomes.TheVariants.{Idle}
 use Rattle.seize_shared.specs.declared.view.View.TheVariants.{Inside, Leaves, Left}
 use Rattle.seize_shared.proofs.Calls.{may_turn, may_go_on, leaves_next, leaves_so, list_told}
 use Rattle.seize_shared.proofs.caller.Caller.leave.Goals as goal
@@ -16,25 +17,37 @@ turn-requires-clause-may g c =
 pub swap-head-requires-clause-may : goal.swap-head-requires-clause-may
 swap-head-requires-clause-may g c =
     let fixed = c.args.self.now.blocks.now.words.fixed in
-    may_go_on g.T.Defers.defers fixed c.turn.new.seat.id c.turn.new.seat.view (Leaves c.args.slot fixed.batch_size)
+    may_go_on g.T.Defers.defers fixed c.turn.new.seat.id c.turn.new.seat.view (Leaves c.args.slot fixed.batch_size Idle)
     (c.turn.ensures.goes ∙ ap (leaving fixed) c.requires.inside.2 ∙ leaves_so g.row.T.Denot fixed c.args.slot c.requires.inside.0 c.requires.inside.1)
     (Swap (Slot c.args.slot HEAD) IDLE) refl
 
 pub counts_down-requires : goal.counts_down-requires
 counts_down-requires g c =
     let fixed = c.args.self.now.blocks.now.words.fixed in
-    record {
-      taken =
-          list_told g.T.Defers.defers c.turn.new.seat.view c.swap-head.new.seat.view c.args.slot fixed.batch_size c.swap-head.result
-          (c.turn.ensures.goes ∙ ap (leaving fixed) c.requires.inside.2 ∙ leaves_so g.row.T.Denot fixed c.args.slot c.requires.inside.0 c.requires.inside.1)
-          c.swap-head.ensures.goes;
-    }
+    let leaves =
+    c.turn.ensures.goes ∙ ap (leaving fixed) c.requires.inside.2 ∙ leaves_so g.row.T.Denot fixed c.args.slot c.requires.inside.0 c.requires.inside.1 in
+    let told =
+    list_told g.T.Defers.defers c.turn.new.seat.view c.swap-head.new.seat.view c.args.slot fixed.batch_size Idle IDLE c.swap-head.result leaves
+    c.swap-head.ensures.goes in
+    record { taken = (Idle, told) }
 
 pub turn-requires-2-clause-may : goal.turn-requires-2-clause-may
 turn-requires-2-clause-may g c =
-    let x = c.counts_down.new.self in
-    may_turn g.T.Defers.defers x.blocks.now.words.fixed x.seat.id x.seat.view (Left c.args.slot c.args.self.now.blocks.now.words.fixed.batch_size)
-    c.counts_down.ensures.left ended refl
+    let fixed = c.args.self.now.blocks.now.words.fixed in let x = c.counts_down.new.self in
+    let leaves =
+    c.turn.ensures.goes ∙ ap (leaving fixed) c.requires.inside.2 ∙ leaves_so g.row.T.Denot fixed c.args.slot c.requires.inside.0 c.requires.inside.1 in
+    let told =
+    list_told g.T.Defers.defers c.turn.new.seat.view c.swap-head.new.seat.view c.args.slot fixed.batch_size Idle IDLE c.swap-head.result leaves
+    c.swap-head.ensures.goes in
+    may_turn g.T.Defers.defers x.blocks.now.words.fixed x.seat.id x.seat.view (Left c.args.slot fixed.batch_size Idle)
+    (c.counts_down.ensures.left Idle told) ended refl
 
 pub returns-clause-outside : goal.returns-clause-outside
-returns-clause-outside g c = c.turn-2.ensures.goes ∙ ap (ended c.counts_down.new.self.blocks.now.words.fixed) c.counts_down.ensures.left
+returns-clause-outside g c =
+    let fixed = c.args.self.now.blocks.now.words.fixed in
+    let leaves =
+    c.turn.ensures.goes ∙ ap (leaving fixed) c.requires.inside.2 ∙ leaves_so g.row.T.Denot fixed c.args.slot c.requires.inside.0 c.requires.inside.1 in
+    let told =
+    list_told g.T.Defers.defers c.turn.new.seat.view c.swap-head.new.seat.view c.args.slot fixed.batch_size Idle IDLE c.swap-head.result leaves
+    c.swap-head.ensures.goes in
+    c.turn-2.ensures.goes ∙ ap (ended c.counts_down.new.self.blocks.now.words.fixed) (c.counts_down.ensures.left Idle told)
