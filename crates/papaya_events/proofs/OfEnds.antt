@@ -10,7 +10,6 @@ use Rattle.papaya_folded.specs.Given.Runs.Same.{is_same}
 use Rattle.papaya_folded.specs.Given.Tables.Chunks.{is_incremental}
 use Rattle.papaya_folded.specs.Given.Tables.declared.node.Node.{Node}
 use Rattle.papaya_folded.proofs.Given.Callers.Together.At.{at_other, at_same}
-use Rattle.papaya_scheduler.specs.Given.Executor.declared.executor.Executor.{Executor}
 use Rattle.papaya_folded.specs.Given.Finishes.Endings.{Finishing, finishing_of}
 use Rattle.papaya_folded.specs.Given.Finishes.FactsEnds.{taken_by as taken_of}
 use Rattle.papaya_folded.specs.Given.Finishes.Maps.{Standing}

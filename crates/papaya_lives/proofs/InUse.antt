@@ -8,7 +8,6 @@ use Rattle.papaya_settles.specs.Given.SeizeWords.declared.at.At.TheVariants.{Ent
 use Rattle.papaya_settles.specs.Given.Seize.Further.{IsWordOf, ListFrom, FurtherFrom, FurtherAre}
 use Rattle.papaya_settles.specs.Given.Seize.Law.{Effect, Taken}
 use Rattle.papaya_settles.specs.Given.Seize.Sequence.{IsUsers}
-use Rattle.papaya_settles.specs.Given.Seize.declared.rows.defer.Deferring.TheVariants as deferring
 use Rattle.papaya_settles.specs.Given.Seize.declared.rows.settle.Settle.{Settle}
 use Rattle.papaya_settles.specs.Given.Seize.declared.states.TheConstants.{NEXT, LAST_SLOT}
 use Rattle.papaya_settles.specs.Given.Seize.World.{World, Row, Registers, Enters, Settles, Leaves, Frees, Use, Hand, NoBlock, Making, InUse, Parting, Cutting, Handed, LeftTo, Event, Begin, Step, Makes, Drops, Links, Parts, Unlinks, Rewrites, Operates, Ends, LeavesOver, Relinks, Clears, Chooses, Happens, Runs, Steps', made_by, handed_by, times, with_at}

@@ -29,7 +29,7 @@ use Rattle.papaya_logged.specs.Shown.{IsCounted}
 use Rattle.papaya_logged.specs.declared.logged.Logged.{Logged}
 use Rattle.papaya_logged.proofs.Counted.{numbers_as}
 use Rattle.papaya_executor.specs.IsThere.{IsThere}
-use Rattle.papaya_scenes.specs.Scene.{Scene, at_first}
+use Rattle.papaya_scenes.specs.Scene.{Scene}
 
 -- without its last place a list reads the same, if there was none
 module _ {X : Type 0} (items : List (Option X)) (map : ℕ) (long : length items ≡ map + 1) (none : slice_index_or items map None ≡ None) where

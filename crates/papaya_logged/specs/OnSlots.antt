@@ -1,6 +1,6 @@
 -- Where the beginning of a row on a slot leads, and where a step of it does, and what that does.
 use Rattle.std.specs.Prelude.{◌≡◌, ℕ, zero, suc, Bool, true, false, List, ◌++◌, Option, Some, None}
-use Rattle.seize.specs.World.{World, Begin, Step}
+use Rattle.seize.specs.World.{World, Step}
 use Rattle.papaya_kept.specs.Given.Tables.declared.node.Node.{Node}
 use Rattle.papaya_schedules.specs.declared.effect.Effect.{Effect}
 use Rattle.papaya_schedules.specs.Effects.{with_effects}

@@ -16,7 +16,7 @@ use Rattle.papaya_logged.specs.OnSlots.{EndsTelling, OnSlotBegins, OnSlotComes, 
 use Rattle.papaya_logged.specs.Shown.{IsShown}
 use Rattle.papaya_logged.specs.declared.logged.Logged.{Logged}
 use Rattle.papaya_rows.specs.Rows.{RowRan}
-use Rattle.papaya_logged.specs.Given.Executor.IsThere.{IsThere, KeepsGiven, in_slot, work_of}
+use Rattle.papaya_logged.specs.Given.Executor.IsThere.{IsThere, KeepsGiven, work_of}
 use Rattle.papaya_logged.specs.Given.Executor.OnSlots.{MayBegin, RowBeginsThere}
 use Rattle.papaya_logged.specs.Given.Scenes.Rows.{begun_row, uses_begun}
 use Rattle.papaya_logged.specs.Given.Scenes.Scene.{Scene, slot_of}

@@ -1,7 +1,7 @@
 -- Rows on slots in the world: the one that begins is there, and no two of them are one row of the world.
 use Rattle.std.specs.Prelude.{◌≡◌, ℕ, Option}
 use Rattle.std.proofs.Common.{ap, ◌∙◌}
-use Rattle.seize.specs.World.{World, Row, Rests, Registers, Enters, Leaves, Frees, Begins, with_at}
+use Rattle.seize.specs.World.{World, Row, Rests, Begins, with_at}
 use Rattle.papaya_finishes.proofs.Given.SeizeRule.Rows.Others.{with_here}
 use Rattle.papaya_scenes.specs.Rows.{begun_row, request_of}
 use Rattle.papaya_scenes.specs.Scene.{row_of}

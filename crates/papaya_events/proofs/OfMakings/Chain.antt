@@ -26,7 +26,6 @@ use Rattle.papaya_folded.specs.Given.Schedules.Views.{map_at}
 use Rattle.papaya_folded.specs.Given.Effects.Effects.{effects_of, known_after}
 use Rattle.papaya_folded.specs.Given.Effects.Known.{Known, known}
 use Rattle.papaya_folded.specs.Given.Effects.declared.acting.Acting.TheVariants as acts
-use Rattle.papaya_scheduler.specs.Given.Executor.declared.executor.Executor.{Executor}
 use Rattle.papaya_folded.specs.Given.Finishes.Makings.{Beginning, IsMade}
 use Rattle.papaya_folded.specs.Given.Finishes.Maps.{Standing}
 use Rattle.papaya_folded.specs.Given.Follows.Shows.{Shows}

@@ -15,7 +15,6 @@ use Rattle.papaya_kept.proofs.Given.SeizeAlone.Histories.Reached.{Reached, happe
 use Rattle.papaya_kept.proofs.Given.Rule.World.Hands.{at_cases}
 use Rattle.papaya_kept.specs.Given.Tables.Nodes.{deferred_word}
 use Rattle.papaya_kept.specs.Given.Tables.declared.node.Node.{Node}
-use Rattle.papaya_schedules.specs.declared.effect.Table.{Table}
 use Rattle.papaya_schedules.specs.Effects.{with_effects}
 use Rattle.papaya_schedules.specs.Moment.{Moment}
 use Rattle.papaya_teller.specs.declared.changed.Changed.{Changed}
