@@ -1,6 +1,7 @@
 -- A map that eight pairs have filled, one by one.
 use Rattle.std.specs.Prelude.{codes, drop, nat_eq}
 use Rattle.std.proofs.Common.{◌≡◌, ℕ, List, [], ◌∷◌, inl, inr, refl, arith}
+use Rattle.seize_words.specs.declared.fault.Fault.TheVariants.{Memory}
 use Rattle.papaya_raw.specs.Given.Tables.declared.resize_mode.ResizeMode.TheVariants.{Incremental}
 use Rattle.papaya_schedules.specs.declared.call.Call.TheVariants.{On}
 use Rattle.papaya_schedules.specs.declared.call.OneKey.TheVariants.{Insert}
@@ -8,12 +9,12 @@ use Rattle.papaya_schedules.specs.declared.call.Answer.TheVariants as answer
 use Rattle.papaya_schedules.specs.declared.event.Event.TheVariants.{Enter, MakeMap}
 use Rattle.papaya_schedules.specs.declared.effect.Effect.TheVariants.{Asked, TableMade, Stored, Counted}
 use Rattle.papaya_schedules.specs.declared.effect.Growth.TheVariants.{ABlock}
-use Rattle.papaya_schedules.specs.declared.outcome.Outcome.TheVariants.{Done, Answered}
+use Rattle.papaya_schedules.specs.declared.outcome.Outcome.TheVariants.{Done, Answered, Refused}
 use Rattle.papaya_schedules.specs.Sequential.{Puts}
 use Rattle.papaya_schedules.specs.Entry.{Entry}
 use Rattle.papaya_schedules.specs.Handing.{MovesOn}
 use Rattle.papaya_schedules.specs.Runs.{IsLegalLog}
-use Rattle.papaya_schedules.proofs.Samples.Words.{small, entry, spot, table, shape, makes_pair, makes_table, call, registered}
+use Rattle.papaya_schedules.proofs.Samples.Words.{no_yes, small, entry, spot, table, shape, makes_pair, makes_table, call, registered}
 
 -- a map with a first table of 8 places, of which a call copies one at a time
 abbrev pub made : List (Entry ℕ ℕ)
@@ -30,6 +31,11 @@ two_firsts :
     MovesOn small registered (entry (MakeMap (codes "m") (Incremental 1) 6) Done 0 (Asked ABlock ∷ Asked ABlock ∷ TableMade (table 0)
     ∷ makes_table 0 (shape 8 7) [])) → ⊥
 two_firsts h = one_two_tables (h.whole.0)
+
+-- wrong: it is refused for want of memory, and has made its table
+table_is_refused :
+    MovesOn small registered (entry (MakeMap (codes "m") (Incremental 1) 6) (Refused Memory) 0 (Asked ABlock ∷ makes_table 0 (shape 8 7) [])) → ⊥
+table_is_refused h = no_yes h.whole
 
 -- a pair of this key comes in, at the place of the key
 abbrev pub put_there : ℕ → ℕ → Entry ℕ ℕ
