@@ -11,4 +11,4 @@ pub mod Places
 pub mod Plans
 mod Stored
 mod Pieces
-mod Sent
+pub mod Sent
