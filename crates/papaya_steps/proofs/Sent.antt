@@ -1,15 +1,11 @@
 -- A run may go to another thread where its keys, values and hasher may: nothing of its memory is tied to one.
-use mir.Syntax.{Ty}
 use denote.Param.Send.{IsSend, sendable}
 use denote.Param.SendFields.{as_row_send, declared_send, variants_send}
 use denote.RattleType.{RattleType}
 use denote.Hole.{as_row}
 use denote.Struct.Field.{row_field}
-use denote.Struct.Owning.{shape, to}
-use Rattle.core.specs.Mem.Slots.Ownership.{slot, slots}
 use Rattle.std.proofs.Crossing.{crosses}
 use Rattle.std.proofs.MapsCrossing as maps
-use Rattle.std_alloc.proofs.SendSync.{lies}
 use Rattle.seize_words.specs.contracts.piece.Piece as Piece
 use Rattle.seize_words.specs.contracts.plain.Plain as Plain
 use Rattle.seize_words.proofs.Sent.{frame_send, slots_send}
