@@ -24,6 +24,8 @@ pub struct Scheduled<K, V, S> {
     pub running: Running<K, V, S>,
 }
 
+unsafe impl<K: Send, V: Send, S: Send> Send for Scheduled<K, V, S> {}
+
 impl<K: Eq + Hash + Drop, V: Drop, S: BuildHasher + Drop> Runner<K, V> for Scheduled<K, V, S> {
     ghost use Rattle.papaya_scheduler.specs.Played.{terms_given};
     ghost use Rattle.papaya_running.specs.Run.{HasCome, bounded};
