@@ -196,6 +196,15 @@ impl<'a, T: Defers> Caller<'a, T> {
         let seat = &self.seat;
         self.blocks.value(seat, block)
     }
+
+    /// The value of the block that it has taken from a root, for as long as it is borrowed: others may look at it still, so it is only lent.
+    pub fn unlinked(&self, _slot: u64, block: u64) -> &T
+        requires cut { self.now.seat.view ≡ Inside _slot (Cut block) }
+        ensures { IsValueOf (Holds T.defers self.now.blocks.now.words.fixed) self.now.seat.id self.now.seat.view block result.now }
+    {
+        let seat = &self.seat;
+        self.blocks.value(seat, block)
+    }
 }
 
 /// The block that a word of a root names.
