@@ -3,6 +3,8 @@ ghost use Rattle.std.specs.Prelude.{◌≡◌, ◌≢◌, ◌<◌, ◌+◌, ◌^
 ghost use Rattle.seize_words.specs.Word.{block_in};
 ghost use Rattle.seize.specs.declared.states.TheConstants.{LAST_SLOT};
 ghost use Rattle.seize.specs.declared.rows.register.Registering.TheVariants.{Take};
+ghost use Rattle.seize_seats.specs.Lendings.{IsValueOf};
+ghost use Rattle.seize_shared.specs.Rows.{Holds};
 ghost use Rattle.seize_shared.specs.Seeking.{row_at, seeks};
 ghost use Rattle.seize_shared.specs.declared.view.View.TheVariants.{Rests, Registers, Outside, Inside};
 ghost use Rattle.seize_shared.specs.declared.view.Has.TheVariants.{Nothing, Made, Seen, Cut};
@@ -181,6 +183,7 @@ impl<'a, T: Defers> Caller<'a, T> {
     /// The value of a block that it has seen, for as long as it is borrowed: whoever retires the block meanwhile, its section holds it.
     pub fn value(&self, _slot: u64, block: u64) -> &T
         requires seen { self.now.seat.view ≡ Inside _slot (Seen block) }
+        ensures { IsValueOf (Holds T.defers self.now.blocks.now.words.fixed) self.now.seat.id self.now.seat.view block result.now }
     {
         self.blocks.value(&self.seat, block)
     }
@@ -188,6 +191,16 @@ impl<'a, T: Defers> Caller<'a, T> {
     /// The value of the block that it has made, for as long as it is borrowed.
     pub fn own(&self, _slot: u64, block: u64) -> &T
         requires made { self.now.seat.view ≡ Inside _slot (Made block) }
+        ensures { IsValueOf (Holds T.defers self.now.blocks.now.words.fixed) self.now.seat.id self.now.seat.view block result.now }
+    {
+        let seat = &self.seat;
+        self.blocks.value(seat, block)
+    }
+
+    /// The value of the block that it has taken from a root, for as long as it is borrowed: others may look at it still, so it is only lent.
+    pub fn unlinked(&self, _slot: u64, block: u64) -> &T
+        requires cut { self.now.seat.view ≡ Inside _slot (Cut block) }
+        ensures { IsValueOf (Holds T.defers self.now.blocks.now.words.fixed) self.now.seat.id self.now.seat.view block result.now }
     {
         let seat = &self.seat;
         self.blocks.value(seat, block)

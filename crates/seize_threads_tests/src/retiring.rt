@@ -60,7 +60,8 @@ impl Defers for Counted {
     }
 }
 
-/// Puts the value of a place at the root, and retires the one that was there; tells whether it is there. Where no number is free it is dropped.
+/// Puts the value of a place at the root, and retires the one that was there; tells whether it is there, and the other one had not been dropped. Where no
+/// number is free it is dropped.
 pub(crate) fn puts<W: Wait>(
     rt: &W,
     caller: &mut Caller<'_, Counted>,
@@ -79,7 +80,10 @@ pub(crate) fn puts<W: Wait>(
     match caller.make(slot, value) {
         Ok(block) => {
             if let Some(old) = caller.publish(slot, 0, block) {
+                let value = caller.unlinked(slot, old);
+                let stale = dropped(&value.drops, value.place) != 0;
                 caller.retire(rt, slot, old);
+                return !stale;
             }
             true
         }
