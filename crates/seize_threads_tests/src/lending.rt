@@ -26,7 +26,7 @@ fn make_and_lend(blocks: &Blocks<u64, OneEach>, from: u64, times: u64) -> Option
 // Were one thread served after the other, each would find its values as well. What would show itself is a value that is looked at where it is not any more.
 #[test]
 fn two_threads_look_at_what_other_seats_have(rt: HostRuntime) -> Result<(), Fail> {
-    let home = Home::<u64, OneEach>::open(rt.alloc(), 0, 8, &())?;
+    let home = Home::<u64, OneEach>::open(rt.alloc(), 0, 4096, &())?;
     let blocks = &home.blocks;
     let (first, second) = thread::join(
         &rt,

@@ -55,7 +55,7 @@ fn two_threads_find_what_they_have_made(rt: HostRuntime) -> Result<(), Fail> {
     let home = Home::<Number, OfRows>::open(
         rt.alloc(),
         1,
-        8,
+        4096,
         &Fixed {
             batch_size: SIZE,
             roots: 1,

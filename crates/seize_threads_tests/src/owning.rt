@@ -48,7 +48,7 @@ fn make_and_take(blocks: &Blocks<u64, OneEach>, from: u64, times: u64) -> Option
 // find the value of the other, or none.
 #[test]
 fn two_threads_find_the_values_of_their_blocks(rt: HostRuntime) -> Result<(), Fail> {
-    let home = Home::<u64, OneEach>::open(rt.alloc(), 0, 8, &())?;
+    let home = Home::<u64, OneEach>::open(rt.alloc(), 0, 4096, &())?;
     let blocks = &home.blocks;
     let (first, second) = thread::join(
         &rt,

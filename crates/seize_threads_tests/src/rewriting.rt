@@ -29,7 +29,7 @@ fn make_and_rewrite(blocks: &Blocks<u64, OneEach>, from: u64, times: u64) -> Opt
 // Were one thread served after the other, each would find its values as well. What would show itself is a value that went to the place of another block.
 #[test]
 fn two_threads_find_the_values_that_they_have_put_last(rt: HostRuntime) -> Result<(), Fail> {
-    let home = Home::<u64, OneEach>::open(rt.alloc(), 0, 8, &())?;
+    let home = Home::<u64, OneEach>::open(rt.alloc(), 0, 4096, &())?;
     let blocks = &home.blocks;
     let (first, second) = thread::join(
         &rt,
