@@ -9,7 +9,7 @@ ghost use Rattle.papaya_owned.specs.Owned.{Holds, IsWordOf, found_by, hashed_by}
 use crate::asking::{key_of, start};
 use crate::updates::replied;
 use papaya_operation::Operation;
-use papaya_owned::{OnKey, Stop, pair_at};
+use papaya_owned::{OnKey, Stop, shown_at};
 use papaya_raw::machines::{KeyAnswer, KeyCall, Reply};
 use papaya_tables::{Hashes, Node, Setting};
 use seize_words::{Plain, RefusedKey};
@@ -22,17 +22,6 @@ pub enum Computed<T> {
     Changed(KeyAnswer),
     /// Nothing has changed: this was answered, of the pair that the call has found, or of none.
     Aborted(T, KeyAnswer),
-}
-
-/// The pair of a word, if there is one.
-fn shown_at<K, V>(memory: &Plain<Node<K, V>>, word: Option<u64>) -> Option<(&K, &V)>
-    requires { (keys : K → Bool) × (xs : List (K × V)) × IsWordOf keys memory.now xs word }
-    ensures { (keys : K → Bool) (xs : List (K × V)) → IsWordOf keys memory.now xs word → option_map (λ x. (x.0.now, x.1.now)) result ≡ found_by keys xs }
-{
-    match word {
-        Some(word) => Some(pair_at(memory, word)),
-        None => None,
-    }
 }
 
 /// Stores a value for a key, removes its pair, or leaves it, as a computing says. That is called with the pair that is there, or with none. Where it says that the

@@ -1,5 +1,4 @@
 -- Lemmas on what effects of calls find.
-pub mod Shapes
 pub mod FromRoot
 pub mod Ahead
 pub mod Replaces

@@ -20,7 +20,7 @@ use Rattle.papaya_owes.proofs.Fields.{its_effect}
 use Rattle.papaya_settles.specs.Given.Spots.Placed.{FindPlaces}
 use Rattle.papaya_settles.proofs.Given.Spots.Effects.{aside_all}
 use Rattle.papaya_finds.specs.Parts.{FindsPlace, FindsAhead, FindPlacesOf, FindAhead}
-use Rattle.papaya_finds.proofs.Shapes.{Shaped, TellsNothing, TellsOne, TellsOver, TellsMade}
+use Rattle.papaya_owes.proofs.Shapes.{Shaped, TellsNothing, TellsOne, TellsOver, TellsMade}
 
 module _ {K V : Type 0} (own : List ℕ) (map : ℕ) (m : Moment K V) (c : CallThere K V) (c_is : call_of own m ≡ Some c) where
   -- what is made finds nothing of places

@@ -52,7 +52,7 @@ use Rattle.papaya_finds.proofs.Life.{each_so}
 use Rattle.papaya_finds.proofs.Ahead.{none_behind}
 use Rattle.papaya_finds.proofs.Replaces.{replaces_none}
 use Rattle.papaya_finds.proofs.Shaped.{placed_all, ahead_all, rows_store_none, rows_promote_none}
-use Rattle.papaya_finds.proofs.Shapes.{Shaped, all_shaped, all_of_calls}
+use Rattle.papaya_owes.proofs.Shapes.{Shaped, all_shaped, all_of_calls}
 use Rattle.papaya_settles.specs.Given.Scenes.Held.{Held, IsAt}
 use Rattle.papaya_settles.specs.Given.Scenes.Scene.{Scene, slot_of}
 use Rattle.papaya_settles.specs.Given.Scenes.Stepping.{StepLeads, scene_after}

@@ -6,7 +6,6 @@ pub mod Sweeps
 pub mod Taken
 pub mod New
 pub mod Owes
-pub mod Facts
 pub mod Calls
 pub mod OnKeys
 pub mod OnSweeps

@@ -29,3 +29,5 @@ pub mod Looking
 pub mod Clear
 pub mod Ready
 pub mod Events
+pub mod Shapes
+pub mod Known

@@ -69,6 +69,11 @@ IsWordOf {K} {V} keys m xs (Some word) = (k : K) × (v : V) × (value_at m (bloc
 abbrev pub IsPairAt : {K V : Type 0} → Mem (Node K V) → ℕ → K × V → Type 0
 IsPairAt m word x = value_at m (block_in word) ≡ Some (node.Pair x.0 x.1)
 
+-- the pair of a word, where there is one, is this one
+abbrev pub IsShownAt : {K V : Type 0} → Mem (Node K V) → Option ℕ → Option (K × V) → Type 0
+IsShownAt m None shown = shown ≡ None
+IsShownAt {K} {V} m (Some word) shown = (x : K × V) × (shown ≡ Some x) × IsPairAt m word x
+
 -- some pair does
 abbrev pub NamesAPair : {K V : Type 0} → Mem (Node K V) → ℕ → Type 0
 NamesAPair {K} {V} m word = (k : K) × (v : V) × (value_at m (block_in word) ≡ Some (node.Pair k v))

@@ -1,19 +1,33 @@
 -- What the tries of a lookup at one table come to.
-use Rattle.std.specs.Prelude.{◌≡◌, ◌≤◌, ℕ, Bool, true, None, if◌then◌else◌}
+use Rattle.std.specs.Prelude.{◌≡◌, ◌≤◌, ℕ, Bool, true, false, Option, None, if◌then◌else◌}
 use Rattle.seize_words.specs.Mem.{Mem}
 use Rattle.papaya_tables.specs.Chunks.{is_incremental}
+use Rattle.papaya_tables.specs.declared.finding.Finding.{Finding}
+use Rattle.papaya_tables.specs.declared.finding.Finding.TheVariants as is
 use Rattle.papaya_tables.specs.declared.node.Node.{Node}
 use Rattle.papaya_tables.specs.declared.table.Table.{Table}
 use Rattle.papaya_resize.specs.declared.lookup.Lookup.{Lookup}
 use Rattle.papaya_whole.specs.Given.Rule.Chart.{Chart}
 use Rattle.papaya_whole.specs.Given.Rule.Words.{Blocks}
 use Rattle.papaya_owned.specs.Looking.{LooksIn, Finds, at_next}
+use Rattle.papaya_owned.specs.Owned.{IsShownAt}
 use Rattle.papaya_owned.specs.declared.tries.Tried.{Tried}
 use Rattle.papaya_owned.specs.declared.tries.Tried.TheVariants as tried
 
 -- all tries at a table are made
 abbrev pub tried_beyond : Lookup → Table → Tried
 tried_beyond l table = if is_incremental l.mode then tried.GoesBeyond table else tried.Ends None
+
+-- a try that ends a lookup with the pair that its word names
+abbrev pub is_there : Finding → Bool
+is_there is.Copying = true
+is_there is.There = true
+is_there _ = false
+
+-- with its answer the lookup has the pair of it
+abbrev pub IsMet : {K V : Type 0} → Mem (Node K V) → Tried → Option (K × V) → Type 0
+IsMet m (tried.Ends found) met = IsShownAt m found met
+IsMet m _ met = Unit {0}
 
 -- the lookup ends with an answer that is so, or it knows what it is to know where it goes on
 abbrev pub TriesTo : {K V : Type 0} → (K → K → Bool) → (K → ℕ) → (K → Bool) → Mem (Node K V) → Chart K → Blocks → Lookup → Lookup → Tried → Type 0

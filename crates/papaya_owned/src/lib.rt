@@ -16,7 +16,7 @@ mod skims;
 mod tries;
 
 pub use calls::last_try;
-pub use looking::{find, pair_at};
+pub use looking::{find, pair_at, shown_at};
 pub use machines::{ForRoom, OnKey, Refreshes, Stop};
 pub use removals::run_removal;
 pub use rooms::make_room;

@@ -1,11 +1,11 @@
 //! Lookups that the owner of a map runs to their ends, over a memory that is only read.
-ghost use Rattle.std.specs.Prelude.{◌≡◌, ℕ, Some};
+ghost use Rattle.std.specs.Prelude.{◌≡◌, ℕ, Option, Some, option_map};
 ghost use Rattle.seize_words.specs.Mem.{value_at};
 ghost use Rattle.seize_words.specs.Word.{block_in};
 ghost use Rattle.papaya_tables.specs.declared.node.Node.TheVariants as node;
 ghost use Rattle.papaya_owned.specs.Ending.{Ends};
 ghost use Rattle.papaya_owned.specs.Looking.{LooksIn, Finds};
-ghost use Rattle.papaya_owned.specs.Owned.{NamesAPair};
+ghost use Rattle.papaya_owned.specs.Owned.{IsShownAt, NamesAPair};
 ghost use Rattle.papaya_resize.specs.Lookup.{lookup_plan};
 ghost use Rattle.papaya_whole.specs.Given.Rule.Chart.{Chart};
 ghost use Rattle.papaya_whole.specs.Given.Rule.Words.{Blocks};
@@ -40,30 +40,43 @@ fn most<K: Eq + Hash, V, Q: Equivalent<K>>(
     }
 }
 
-/// Takes the steps of a lookup until it has ended, and answers the word of the pair that it has found.
-pub fn find<K: Eq + Hash, V, Q: Equivalent<K>>(
-    memory: &Plain<Node<K, V>>,
+/// Takes the steps of a lookup until it has ended, and answers the pair that it has found.
+pub fn find<'a, K: Eq + Hash, V, Q: Equivalent<K>>(
+    memory: &'a Plain<Node<K, V>>,
     mut lookup: Lookup,
     asked: &Q,
-) -> Option<u64>
+) -> Option<(&'a K, &'a V)>
     requires { (hash : K → ℕ) × (c : Chart K) × (blocks : Blocks) × LooksIn K.eq hash (Q.Equivalent.equivalent asked.now) memory.now c blocks lookup lookup }
-    ensures { (hash : K → ℕ) (c : Chart K) (blocks : Blocks) → LooksIn K.eq hash (Q.Equivalent.equivalent asked.now) memory.now c blocks lookup lookup → Finds K.eq hash (Q.Equivalent.equivalent asked.now) c blocks lookup result }
+    ensures { (hash : K → ℕ) (c : Chart K) (blocks : Blocks) → LooksIn K.eq hash (Q.Equivalent.equivalent asked.now) memory.now c blocks lookup lookup
+        → (found : Option ℕ) × Finds K.eq hash (Q.Equivalent.equivalent asked.now) c blocks lookup found × IsShownAt memory.now found (option_map (λ x. (x.0.now, x.1.now)) result) }
 {
     let mut look = memory.look();
     let mut left = most(memory, &lookup, asked);
     loop {
         match lookup.step(&mut look, asked) {
             Progress::Goes | Progress::Waits | Progress::Refused(_) => {}
-            Progress::Done(found) => return found,
+            Progress::Done(found) => return shown_at(memory, found),
         }
-        match tries(memory, &lookup, asked) {
-            Tried::Ends(found) => return found,
+        let (tried, met) = tries(memory, &lookup, asked);
+        match tried {
+            Tried::Ends(_) => return met,
             Tried::GoesBeyond(table) => {
                 lookup.stands = Looking::Nexts { table };
                 left = most(memory, &lookup, asked);
             }
             Tried::Stays => left = most(memory, &lookup, asked),
         }
+    }
+}
+
+/// The pair of a word, where there is one.
+pub fn shown_at<K, V>(memory: &Plain<Node<K, V>>, word: Option<u64>) -> Option<(&K, &V)>
+    requires { (shown : Option (K × V)) × IsShownAt memory.now word shown }
+    ensures { IsShownAt memory.now word (option_map (λ x. (x.0.now, x.1.now)) result) }
+{
+    match word {
+        Some(word) => Some(pair_at(memory, word)),
+        None => None,
     }
 }
 

@@ -1,16 +1,17 @@
 //! The tries of a lookup at one table, one after another.
-ghost use Rattle.std.specs.Prelude.{◌≡◌, ℕ, true};
+ghost use Rattle.std.specs.Prelude.{◌≡◌, ℕ, true, IfSome, IsSome, is_some, option_map};
 ghost use Rattle.seize_words.specs.Mem.{Can, Took, value_at};
 ghost use Rattle.seize_words.specs.Plan.{May, Steps};
-ghost use Rattle.papaya_resize.specs.Lookup.{lookup_plan, told_of};
+ghost use Rattle.papaya_tables.specs.declared.node.Node.TheVariants as node;
+ghost use Rattle.papaya_resize.specs.Lookup.{lookup_plan, names_pair, told_of};
 ghost use Rattle.papaya_whole.specs.Given.Rule.Chart.{Chart};
 ghost use Rattle.papaya_whole.specs.Given.Rule.Words.{Blocks};
 ghost use Rattle.papaya_owned.specs.Looking.{LooksIn, at_try};
-ghost use Rattle.papaya_owned.specs.Tries.{Nearer, TriesTo, tried_beyond};
+ghost use Rattle.papaya_owned.specs.Owned.{IsPairAt};
+ghost use Rattle.papaya_owned.specs.Tries.{IsMet, Nearer, TriesTo, is_there, tried_beyond};
 ghost use Rattle.papaya_owned.specs.Within.{within};
 
 use papaya_raw::machines::{Looking, Lookup};
-use papaya_resize::asks_for;
 use papaya_tables::{Aim, Equivalent, Finding, Node, Table, Trial, may_be, seen};
 use seize_words::{Link, Look, Plain};
 use std::hash::Hash;
@@ -26,19 +27,40 @@ pub(crate) enum Tried {
     Stays,
 }
 
-/// One try: its word, and what that says.
-fn try_at<K: Eq + Hash, V, Q: Equivalent<K>>(
-    memory: &Plain<Node<K, V>>,
+/// The pair of a node whose key this stands for.
+fn pair_asked<'a, K: Eq + Hash, V, Q: Equivalent<K>>(
+    asked: &Q,
+    node: &'a Node<K, V>,
+) -> Option<(&'a K, &'a V)>
+    ensures asks { is_some result ≡ names_pair (Q.Equivalent.equivalent asked.now) node.now }
+    ensures pair { IfSome result (λ x. node.now ≡ node.Pair x.0.now x.1.now) }
+{
+    match node {
+        Node::Pair(key, value) if asked.equivalent(key) => Some((key, value)),
+        Node::Pair(_, _) | Node::Table { .. } | Node::Shards => None,
+    }
+}
+
+/// One try: its word, what that says, and the pair that it names, if it is the one.
+fn try_at<'a, K: Eq + Hash, V, Q: Equivalent<K>>(
+    memory: &'a Plain<Node<K, V>>,
     lookup: &Lookup,
     asked: &Q,
     trial: Trial,
-) -> (u64, Finding)
+) -> (u64, Finding, Option<(&'a K, &'a V)>)
     requires { May Can Took value_at memory.now (lookup_plan (Q.Equivalent.equivalent asked.now) (at_try lookup.now trial)) }
-    ensures { Steps Took value_at memory.now (lookup_plan (Q.Equivalent.equivalent asked.now) (at_try lookup.now trial)) memory.now (told_of (at_try lookup.now trial) trial result.0 result.1) }
+    ensures step { Steps Took value_at memory.now (lookup_plan (Q.Equivalent.equivalent asked.now) (at_try lookup.now trial)) memory.now (told_of (at_try lookup.now trial) trial result.0 result.1) }
+    ensures there { is_there result.1 ≡ true → IsSome result.2 }
+    ensures pair { IfSome result.2 (λ x. IsPairAt memory.now result.0 (x.0.now, x.1.now)) }
 {
     let word = memory.look().load(trial.at());
-    let same = may_be(lookup.hash, word) && asks_for(asked, memory.value(Link::block_of(word)));
-    (word, seen(lookup.mode, Aim::Looks, word, same))
+    let met = if may_be(lookup.hash, word) {
+        pair_asked(asked, memory.value(Link::block_of(word)))
+    } else {
+        None
+    };
+    let finding = seen(lookup.mode, Aim::Looks, word, met.is_some());
+    (word, finding, met)
 }
 
 /// All tries at a table are made. In incremental mode the key may be in the next one.
@@ -53,30 +75,31 @@ fn beyond(lookup: &Lookup, table: Table) -> Tried
 }
 
 /// Makes the tries of a lookup at the table that it has entered, up to the one that tells. They are steps of the lookup, which is written only behind them.
-pub(crate) fn tries<K: Eq + Hash, V, Q: Equivalent<K>>(
-    memory: &Plain<Node<K, V>>,
+pub(crate) fn tries<'a, K: Eq + Hash, V, Q: Equivalent<K>>(
+    memory: &'a Plain<Node<K, V>>,
     lookup: &Lookup,
     asked: &Q,
-) -> Tried
+) -> (Tried, Option<(&'a K, &'a V)>)
     requires { (hash : K → ℕ) × (c : Chart K) × (blocks : Blocks) × (begun : Lookup) × LooksIn K.eq hash (Q.Equivalent.equivalent asked.now) memory.now c blocks begun lookup.now }
     ensures to { (hash : K → ℕ) (c : Chart K) (blocks : Blocks) (begun : Lookup) → LooksIn K.eq hash (Q.Equivalent.equivalent asked.now) memory.now c blocks begun lookup.now
-        → TriesTo K.eq hash (Q.Equivalent.equivalent asked.now) memory.now c blocks begun lookup.now result }
+        → TriesTo K.eq hash (Q.Equivalent.equivalent asked.now) memory.now c blocks begun lookup.now result.0 }
     ensures nearer { (n : ℕ) → within (lookup_plan (Q.Equivalent.equivalent asked.now)) n lookup.now memory.now ≡ true
-        → Nearer (λ k l. within (lookup_plan (Q.Equivalent.equivalent asked.now)) k l memory.now) n lookup.now result }
+        → Nearer (λ k l. within (lookup_plan (Q.Equivalent.equivalent asked.now)) k l memory.now) n lookup.now result.0 }
+    ensures met { IsMet memory.now result.0 (option_map (λ x. (x.0.now, x.1.now)) result.1) }
 {
     let Looking::Probes { trial: first } = lookup.stands else {
-        return Tried::Stays;
+        return (Tried::Stays, None);
     };
     let mut trial = first;
     loop {
-        let (word, finding) = try_at(memory, lookup, asked, trial);
+        let (word, finding, met) = try_at(memory, lookup, asked, trial);
         match finding {
-            Finding::Free => return Tried::Ends(None),
-            Finding::Copying | Finding::There => return Tried::Ends(Some(word)),
-            Finding::Moved => return Tried::GoesBeyond(trial.table),
+            Finding::Free => return (Tried::Ends(None), None),
+            Finding::Copying | Finding::There => return (Tried::Ends(Some(word)), met),
+            Finding::Moved => return (Tried::GoesBeyond(trial.table), None),
             Finding::Passed => match trial.next() {
                 Some(next) => trial = next,
-                None => return beyond(lookup, trial.table),
+                None => return (beyond(lookup, trial.table), None),
             },
         }
     }

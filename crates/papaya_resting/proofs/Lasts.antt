@@ -1,12 +1,12 @@
 -- The pairs of words, as they can be looked at.
 use Rattle.std.specs.Prelude.{◌≡◌, ℕ, Bool, true, List, Option, Some, None, is_some}
-use Rattle.std.proofs.Common.{refl, ap}
+use Rattle.std.proofs.Common.{refl, ap, sym, ◌∙◌}
 use Rattle.seize_words.specs.Mem.{Mem, value_at}
 use Rattle.seize_words.specs.Word.{block_in}
 use Rattle.papaya_tables.specs.declared.node.Node.{Node}
 use Rattle.papaya_tables.specs.declared.node.Node.TheVariants as node
 use Rattle.papaya_tables.specs.declared.setting.Setting.{Setting}
-use Rattle.papaya_owned.specs.Owned.{NamesAPair}
+use Rattle.papaya_owned.specs.Owned.{IsShownAt, NamesAPair}
 use Rattle.papaya_resting.specs.Lasts.{IsPairOf, RestsWith, is_named, pair_in, pair_of}
 use Rattle.papaya_resting.specs.declared.last.Last.{Last}
 
@@ -49,6 +49,15 @@ module _ {K V : Type 0} (m : Mem (Node K V)) where
   pub pair_there : (word : ℕ) (key : K) (value : V) → value_at m (block_in word) ≡ Some (node.Pair key value) → pair_in m (Some word) ≡ Some (key, value)
   unfolding pair_in
   pair_there word key value there = ap pair_of there
+
+  -- a word that may be none's shows its pair
+  pub can_show : (word : Option ℕ) → is_named m word ≡ true → (shown : Option (K × V)) × IsShownAt m word shown
+  can_show None is = (None, refl)
+  can_show (Some word) is = let n = names_a_pair word is in (Some (n.0, n.1), (n.0, n.1), refl, n.2)
+
+  pub shows_in : (word : Option ℕ) (shown : Option (K × V)) → IsShownAt m word shown → shown ≡ pair_in m word
+  shows_in None shown none = none ∙ sym none_in
+  shows_in (Some word) shown (x, is, at) = is ∙ sym (pair_there word x.0 x.1 at)
 
 -- both pairs can be looked at
 module _ {K V : Type 0} (same : K → K → Bool) (hash : K → ℕ) (setting : Setting) (m : Mem (Node K V)) (last : Last) (xs : List (K × V)) (taken met : Option (K × V)) (r : RestsWith same hash setting m last xs taken met) where

@@ -1,5 +1,5 @@
 -- Lookups of a map for one owner, and the counting of its pairs.
-use Rattle.std.specs.Prelude.{◌≡◌, ℕ, suc, ◌+◌, ◌-◌, ◌%◌, ◌^◌, ◌<◌, Bool, List, length, Option, Some, None, is_some}
+use Rattle.std.specs.Prelude.{◌≡◌, ℕ, suc, ◌+◌, ◌-◌, ◌%◌, ◌^◌, ◌<◌, Bool, List, length, Option, Some}
 use Rattle.std.proofs.Common.{sym, ◌∙◌, ap, subst, arith}
 use Rattle.seize_words.specs.Mem.{Mem, word_at}
 use Rattle.seize_words.specs.declared.at.At.TheVariants.{Word}
@@ -12,7 +12,7 @@ use Rattle.papaya_sifts.specs.Given.Rule.Maps.{IsClass}
 use Rattle.papaya_sifts.specs.Given.Alone.Counting.{shards_sum, number_in}
 use Rattle.papaya_sifts.proofs.Given.Whole.Contents.Length.{countings_come_to}
 use Rattle.papaya_owned.specs.Looking.{LooksIn, Finds}
-use Rattle.papaya_owned.specs.Owned.{Holds, IsWordOf, found_by}
+use Rattle.papaya_owned.specs.Owned.{Holds, IsWordOf}
 use Rattle.papaya_owned.proofs.Owned.Lookups.{look_in, finds_word}
 
 module _ {K V : Type 0} (same : K → K → Bool) (hash : K → ℕ) (setting : Setting) (m : Mem (Node K V)) (xs : List (K × V)) (h : Holds same hash setting m xs) where
@@ -37,8 +37,3 @@ module _ {K V : Type 0} (same : K → K → Bool) (hash : K → ℕ) (setting : 
       one_word : (total : ℕ) → total < 2 ^ 64 → shards_sum h.world.memory setting.counter (suc setting.mask) ≡ total + shards_sum h.world.memory setting.counter 0
           → total ≡ (0 + (shards_sum h.world.memory setting.counter (suc setting.mask) - shards_sum h.world.memory setting.counter 0)) % 2 ^ 64
       one_word total fits sum = omega (arith, fits, sum)
-
-module _ {K V : Type 0} (keys : K → Bool) (m : Mem (Node K V)) (xs : List (K × V)) where
-  pub some_found : (found : Option ℕ) → IsWordOf keys m xs found → is_some found ≡ is_some (found_by keys xs)
-  some_found None so = ap is_some (sym so)
-  some_found (Some word) so = ap is_some (sym so.3)

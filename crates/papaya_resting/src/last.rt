@@ -2,7 +2,7 @@
 ghost use Rattle.std.specs.Prelude.{◌≡◌, true, option_map};
 ghost use Rattle.papaya_resting.specs.Lasts.{is_named, pair_in, words_of, words_of_stop};
 
-use papaya_owned::{Stop, pair_at};
+use papaya_owned::{Stop, shown_at};
 use papaya_raw::machines::KeyAnswer;
 use papaya_tables::Node;
 use seize_words::Plain;
@@ -60,8 +60,5 @@ pub fn shown<K, V>(memory: &Plain<Node<K, V>>, word: Option<u64>) -> Option<(&K,
     requires { is_named memory.now word ≡ true }
     ensures { option_map (λ x. (x.0.now, x.1.now)) result ≡ pair_in memory.now word }
 {
-    match word {
-        Some(word) => Some(pair_at(memory, word)),
-        None => None,
-    }
+    shown_at(memory, word)
 }

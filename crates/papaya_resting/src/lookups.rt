@@ -1,6 +1,6 @@
 //! A lookup. It reads words, and takes no memory.
-ghost use Rattle.std.specs.Prelude.{List};
-ghost use Rattle.papaya_owned.specs.Owned.{Holds, IsWordOf, hashed_by};
+ghost use Rattle.std.specs.Prelude.{◌≡◌, List, option_map};
+ghost use Rattle.papaya_owned.specs.Owned.{Holds, found_by, hashed_by};
 
 use papaya_owned::find;
 use papaya_raw::machines::Lookup;
@@ -8,15 +8,16 @@ use papaya_tables::{Equivalent, Hashes, Node, Setting};
 use seize_words::Plain;
 use std::hash::{BuildHasher, Hash};
 
-/// The word of the pair that this asks for, in a map in this memory.
-pub fn word_of<K: Eq + Hash, V, S: BuildHasher, Q: Equivalent<K>>(
-    memory: &Plain<Node<K, V>>,
+/// The pair that this asks for, in a map in this memory.
+pub fn pair_of<'a, K: Eq + Hash, V, S: BuildHasher, Q: Equivalent<K>>(
+    memory: &'a Plain<Node<K, V>>,
     setting: Setting,
     hasher: &S,
     asked: &Q,
-) -> Option<u64>
+) -> Option<(&'a K, &'a V)>
     requires { (xs : List (K × V)) × Holds K.eq (hashed_by S.Hasher.finish S.Hasher.write S.build_hasher K.hash_input hasher.now) setting memory.now xs }
-    ensures { (xs : List (K × V)) → Holds K.eq (hashed_by S.Hasher.finish S.Hasher.write S.build_hasher K.hash_input hasher.now) setting memory.now xs → IsWordOf (Q.Equivalent.equivalent asked.now) memory.now xs result }
+    ensures { (xs : List (K × V)) → Holds K.eq (hashed_by S.Hasher.finish S.Hasher.write S.build_hasher K.hash_input hasher.now) setting memory.now xs
+        → option_map (λ x. (x.0.now, x.1.now)) result ≡ found_by (Q.Equivalent.equivalent asked.now) xs }
 {
     let hash = hasher.hash_of(asked);
     let lookup = Lookup::new(setting.root, setting.mode, hash);

@@ -1,13 +1,13 @@
 //! Parts of schedules in which another caller steps beside a call that is under way.
-use crate::deeds::Deed::{
+use crate::schedules::Line;
+use papaya_test_lines::deeds::Deed::{
     Block, Copied, Counted, Deferred, GivenUp, Linked, Pair, Removed, Replaced, Retired, Stored,
     TableMade,
 };
-use crate::schedules::Line;
-use crate::steps::Made::{Compute, Insert, RemoveIf, Retain};
-use crate::steps::Step::{Beside, Call, Go, GoBeside, Says};
-use crate::steps::Told::{Aborts, Decides, Gives, Removes};
-use crate::steps::{ABSENT, ASKS_NONE, COMPLETED, GOES};
+use papaya_test_lines::steps::Made::{Compute, Insert, RemoveIf, Retain};
+use papaya_test_lines::steps::Step::{Beside, Call, Go, GoBeside, Says};
+use papaya_test_lines::steps::Told::{Aborts, Decides, Gives, Removes};
+use papaya_test_lines::steps::{ABSENT, ASKS_NONE, COMPLETED, GOES};
 
 /// A call that asked about none asks about the pair, too, that another caller has stored there meanwhile. By then it has a block of its own.
 pub const ASKS_TWICE: [Line; 5] = [

@@ -4,12 +4,8 @@
 #[cfg(test)]
 mod beside;
 #[cfg(test)]
-mod deeds;
-#[cfg(test)]
 mod refused;
 #[cfg(test)]
 mod rows;
 #[cfg(test)]
 mod schedules;
-#[cfg(test)]
-mod steps;

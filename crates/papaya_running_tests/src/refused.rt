@@ -1,12 +1,12 @@
 //! Events that are refused memory at one growth after another, and happen again.
 use crate::rows::{MODES, ROWS, Row, Then, Tried};
-use crate::steps::Made::{Get, Insert};
-use crate::steps::Step::{self, Enter, Go, Make, Register, Says};
-use crate::steps::{ABSENT, DONE, GOES, NO_MEMORY, SLOT, Shown, found, shown};
 use papaya_raw::ResizeMode;
 use papaya_running::running::run_refusing;
 use papaya_runs::event::Setup;
 use papaya_runs::key_hash::KeyHash;
+use papaya_test_lines::steps::Made::{Get, Insert};
+use papaya_test_lines::steps::Step::{self, Enter, Go, Make, Register, Says};
+use papaya_test_lines::steps::{ABSENT, DONE, GOES, NO_MEMORY, SLOT, Shown, found, shown};
 use std::alloc::{AllocError, Global};
 use std::process::Abort;
 use std::test::Fail;

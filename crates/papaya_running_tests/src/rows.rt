@@ -1,13 +1,13 @@
 //! Calls that are refused memory: on which maps, what they are told, and how many growths they ask for.
 use crate::rows::Then::{Empty, Has, Lacks, Same, Unseen};
-use crate::steps::Made::{
+use papaya_raw::ResizeMode::{self, Blocking, Incremental};
+use papaya_runs::key_hash::KeyHash;
+use papaya_test_lines::steps::Made::{
     self, Clear, Compute, GetOrInsert, GetOrInsertWith, Insert, Len, Remove, RemoveIf, Reserve,
     Retain, TryInsert, TryInsertWith, Update, UpdateOrInsert, UpdateOrInsertWith, Walk,
 };
-use crate::steps::Told::{self, Aborts, Decides, Gives, Removes};
-use crate::steps::{ABSENT, ASKS_NONE, COMPLETED, NOTHING_TO_REMOVE, READY, Shown};
-use papaya_raw::ResizeMode::{self, Blocking, Incremental};
-use papaya_runs::key_hash::KeyHash;
+use papaya_test_lines::steps::Told::{self, Aborts, Decides, Gives, Removes};
+use papaya_test_lines::steps::{ABSENT, ASKS_NONE, COMPLETED, NOTHING_TO_REMOVE, READY, Shown};
 
 /// What the keys of a map have after a call: what they had; at this key the pair of this number, or none, and at others what they had; or none has a pair. Or
 /// it is not looked at: the call is still under way.

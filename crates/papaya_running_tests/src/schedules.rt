@@ -3,22 +3,22 @@ use crate::beside::{
     ABORTS, ASKS_ANEW, ASKS_THERE, ASKS_TWICE, COMPUTES, REMOVES, REMOVES_IF, RESIZES_BESIDE,
     UPDATES, UPDATES_THERE,
 };
-use crate::deeds::Deed::{
-    self, Back, Block, Bucket, Copied, Counted, Deferred, Ended, GivenUp, Linked, Pair, Promoted,
-    Removed, Replaced, Retired, Stored, TableBack, TableMade, TableRetired, Taken,
-};
-use crate::steps::Made::{Compute, Insert, Remove, RemoveIf, TryInsert, Walk};
-use crate::steps::Step::{
-    Call, Close, End, Enter, Go, Leave, Make, Next, ReclaimAll, Register, Says, Stop, Unregister,
-};
-use crate::steps::Told::{Decides, Gives};
-use crate::steps::{ABSENT, DONE, GOES, READY, SLOT, Shown, Step, shown};
 use papaya_raw::ResizeMode::{Blocking, Incremental};
 use papaya_running::running::run;
 use papaya_runs::event::Setup;
 use papaya_runs::key_hash::KeyHash;
 use papaya_schedules::effect::Effect;
 use papaya_schedules::record::Run;
+use papaya_test_lines::deeds::Deed::{
+    self, Back, Block, Bucket, Copied, Counted, Deferred, Ended, GivenUp, Linked, Pair, Promoted,
+    Removed, Replaced, Retired, Stored, TableBack, TableMade, TableRetired, Taken,
+};
+use papaya_test_lines::steps::Made::{Compute, Insert, Remove, RemoveIf, TryInsert, Walk};
+use papaya_test_lines::steps::Step::{
+    Call, Close, End, Enter, Go, Leave, Make, Next, ReclaimAll, Register, Says, Stop, Unregister,
+};
+use papaya_test_lines::steps::Told::{Decides, Gives};
+use papaya_test_lines::steps::{ABSENT, DONE, GOES, READY, SLOT, Shown, Step, shown};
 use std::alloc::Global;
 use std::process::Abort;
 use std::test::Fail;

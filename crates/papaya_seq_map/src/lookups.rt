@@ -5,7 +5,7 @@ ghost use Rattle.std.specs.Option.{option_copied};
 ghost use Rattle.papaya_resting.specs.Given.{found_by};
 
 use crate::map::HashMap;
-use papaya_resting::pair_at;
+use papaya_resting::pair_of;
 use papaya_tables::Equivalent;
 use std::hash::{BuildHasher, Hash};
 use std::ops::Index;
@@ -16,9 +16,8 @@ impl<K: Eq + Hash, V, S: BuildHasher> HashMap<K, V, S> {
         ensures value { option_copied result ≡ option_map (λ x. x.1) (found_by (Q.Equivalent.equivalent asked.now) self.now.pairs) }
         ensures in_any_order { (xs : List (K × V)) → IsPermutation self.now.pairs xs → option_copied result ≡ option_map (λ x. x.1) (found_by (Q.Equivalent.equivalent asked.now) xs) }
     {
-        let memory = &self.resting.memory;
-        match papaya_resting::word_of(memory, self.resting.setting, &self.hasher, asked) {
-            Some(word) => Some(pair_at(memory, word).1),
+        match self.get_key_value(asked) {
+            Some((_, value)) => Some(value),
             None => None,
         }
     }
@@ -29,10 +28,7 @@ impl<K: Eq + Hash, V, S: BuildHasher> HashMap<K, V, S> {
         ensures in_any_order { (xs : List (K × V)) → IsPermutation self.now.pairs xs → option_map (λ x. (x.0.now, x.1.now)) result ≡ found_by (Q.Equivalent.equivalent asked.now) xs }
     {
         let memory = &self.resting.memory;
-        match papaya_resting::word_of(memory, self.resting.setting, &self.hasher, asked) {
-            Some(word) => Some(pair_at(memory, word)),
-            None => None,
-        }
+        pair_of(memory, self.resting.setting, &self.hasher, asked)
     }
 
     /// Whether the key is in the map.
@@ -40,13 +36,7 @@ impl<K: Eq + Hash, V, S: BuildHasher> HashMap<K, V, S> {
         ensures there { result ≡ is_some (found_by (Q.Equivalent.equivalent asked.now) self.now.pairs) }
         ensures in_any_order { (xs : List (K × V)) → IsPermutation self.now.pairs xs → result ≡ is_some (found_by (Q.Equivalent.equivalent asked.now) xs) }
     {
-        papaya_resting::word_of(
-            &self.resting.memory,
-            self.resting.setting,
-            &self.hasher,
-            asked,
-        )
-        .is_some()
+        self.get_key_value(asked).is_some()
     }
 }
 

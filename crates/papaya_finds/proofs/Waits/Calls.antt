@@ -52,7 +52,7 @@ use Rattle.papaya_finds.specs.Parts.{FindPlacesOf}
 use Rattle.papaya_finds.specs.Waits.{waits_of, waits_in, pair_in, IsHeldPast, ShowsWaits, LeavesHeld}
 use Rattle.papaya_finds.proofs.Past.{calls_find_onward}
 use Rattle.papaya_finds.proofs.Steps.{steps_find_places}
-use Rattle.papaya_finds.proofs.Waits.Facts.{root_turn}
+use Rattle.papaya_owes.proofs.Known.{root_turn}
 use Rattle.papaya_finds.proofs.Waits.Held.{calls_leave_held, taken_held}
 use Rattle.papaya_finds.proofs.Waits.New.{new_lies}
 use Rattle.papaya_finds.proofs.Waits.Owes.{OwedBefore, owed_before, row_takes}

@@ -34,7 +34,7 @@ use Rattle.papaya_settles.specs.InHand.{pair_in_calling, TakesPair}
 use Rattle.papaya_settles.proofs.Hand.All.{own_or_row, key_rests}
 use Rattle.papaya_settles.proofs.Taken.{calls_take_in_hand}
 use Rattle.papaya_finds.specs.Waits.{waits_in_calling, waits_in, pair_in, IsHeldPast, ShowsWaits}
-use Rattle.papaya_finds.proofs.Waits.Facts.{key_tries, key_reads}
+use Rattle.papaya_owes.proofs.Known.{key_tries, key_reads}
 use Rattle.papaya_finds.proofs.Waits.Keys.{KeyWaits, HandNone, HandAlike, HandPast, HandNew, step_hands}
 use Rattle.papaya_finds.proofs.Waits.Owes.{OwedBefore, OwedIt, OwedNone, OwedMore, call_one, call_some}
 use Rattle.papaya_finds.proofs.Waits.Taken.{TookPair, took_pair}

@@ -34,7 +34,7 @@ use Rattle.papaya_settles.specs.Hand.{in_hand, in_hand_of_sweep, ShowsOwed}
 use Rattle.papaya_settles.specs.InHand.{pair_in_sweeping, TakesPair}
 use Rattle.papaya_settles.proofs.Hand.All.{own_or_row, sweep_rests}
 use Rattle.papaya_finds.specs.Waits.{waits_in_sweeping, waits_in, pair_in, IsHeldPast, ShowsWaits}
-use Rattle.papaya_finds.proofs.Waits.Facts.{sweep_tries, sweep_reads}
+use Rattle.papaya_owes.proofs.Known.{sweep_tries, sweep_reads}
 use Rattle.papaya_finds.proofs.Waits.Owes.{OwedBefore, OwedIt, OwedNone, OwedMore, sweep_one, sweep_some, sweep_noted}
 use Rattle.papaya_finds.proofs.Waits.Sweeps.{SweepWaits, SweptNone, SweptAlike, SweptPast, SweptNew, step_hands as sweep_step}
 use Rattle.papaya_finds.proofs.Waits.Taken.{TookPair, took_pair}

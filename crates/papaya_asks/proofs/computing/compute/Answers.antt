@@ -8,6 +8,7 @@ use Rattle.papaya_asks.specs.Closures.{ComesTo, ComputesAs, Computing}
 use Rattle.seize_words.specs.declared.refused.RefusedKey.{RefusedKey}
 use Rattle.papaya_owned.specs.Calling.{HasStopped, stop_by}
 use Rattle.papaya_owned.specs.Owned.{hashed_by, found_by}
+use Rattle.papaya_owned.proofs.Lookups.Found.{shown_found, word_shows}
 use Rattle.papaya_asks.proofs.Asks.Begins.{computes_so}
 use Rattle.papaya_asks.proofs.Asks.Comes.{comes_answered, comes_asking, comes_refused, comes_told, never_answers, aborted_answers, aborted_refused}
 use Rattle.papaya_asks.proofs.Asks.Ran.{stopped_refused, stopped_told}
@@ -20,13 +21,13 @@ pub shown_at-requires : goal.shown_at-requires
 shown_at-requires g c =
     let r = c.requires.holds in
     let h = c.start.ensures.starts r.0 computes (Some c.args.key) (g.K.PartialEq.eq c.args.key) r.1 (computes_so g.K.PartialEq.eq ((hashed_by g.S.Hasher.Hasher.finish g.S.Hasher.Hasher.write g.S.BuildHasher.build_hasher g.K.Hash.hash_input) c.args.hasher.now) c.args.setting c.args.key _ c.hash_of-hash.ensures _ c.compute-call.ensures) in
-    (g.K.PartialEq.eq c.args.key, r.0, (comes_asking g.K.PartialEq.eq g.K.PartialEq.eq (hashed_by g.S.Hasher.Hasher.finish g.S.Hasher.Hasher.write g.S.BuildHasher.build_hasher g.K.Hash.hash_input) c.args.hasher c.args.setting computes (Some c.args.key) (g.K.PartialEq.eq c.args.key) r.0 c.start.new.machine c.start.new.memory c.start.result h _ _ c.in-Ok-Asks.asked c.in-Ok-Asks.is c.in-Ok-Asks.field-0-is refl).2)
+    (found_by (g.K.PartialEq.eq c.args.key) r.0, word_shows c.start.new.memory (g.K.PartialEq.eq c.args.key) r.0 c.in-Ok-Asks.asked (comes_asking g.K.PartialEq.eq g.K.PartialEq.eq (hashed_by g.S.Hasher.Hasher.finish g.S.Hasher.Hasher.write g.S.BuildHasher.build_hasher g.K.Hash.hash_input) c.args.hasher c.args.setting computes (Some c.args.key) (g.K.PartialEq.eq c.args.key) r.0 c.start.new.machine c.start.new.memory c.start.result h _ _ c.in-Ok-Asks.asked c.in-Ok-Asks.is c.in-Ok-Asks.field-0-is refl).2)
 
 pub compute-requires : goal.compute-requires
 compute-requires g c =
     let r = c.requires.holds in
     let h = c.start.ensures.starts r.0 computes (Some c.args.key) (g.K.PartialEq.eq c.args.key) r.1 (computes_so g.K.PartialEq.eq ((hashed_by g.S.Hasher.Hasher.finish g.S.Hasher.Hasher.write g.S.BuildHasher.build_hasher g.K.Hash.hash_input) c.args.hasher.now) c.args.setting c.args.key _ c.hash_of-hash.ensures _ c.compute-call.ensures) in
-    r.2 c.shown_at.result (c.shown_at.ensures (g.K.PartialEq.eq c.args.key) r.0 (comes_asking g.K.PartialEq.eq g.K.PartialEq.eq (hashed_by g.S.Hasher.Hasher.finish g.S.Hasher.Hasher.write g.S.BuildHasher.build_hasher g.K.Hash.hash_input) c.args.hasher c.args.setting computes (Some c.args.key) (g.K.PartialEq.eq c.args.key) r.0 c.start.new.machine c.start.new.memory c.start.result h _ _ c.in-Ok-Asks.asked c.in-Ok-Asks.is c.in-Ok-Asks.field-0-is refl).2)
+    r.2 c.shown_at.result (shown_found c.start.new.memory (g.K.PartialEq.eq c.args.key) r.0 c.in-Ok-Asks.asked (comes_asking g.K.PartialEq.eq g.K.PartialEq.eq (hashed_by g.S.Hasher.Hasher.finish g.S.Hasher.Hasher.write g.S.BuildHasher.build_hasher g.K.Hash.hash_input) c.args.hasher c.args.setting computes (Some c.args.key) (g.K.PartialEq.eq c.args.key) r.0 c.start.new.machine c.start.new.memory c.start.result h _ _ c.in-Ok-Asks.asked c.in-Ok-Asks.is c.in-Ok-Asks.field-0-is refl).2 _ c.shown_at.ensures)
 
 pub replied-requires : goal.replied-requires
 replied-requires g c =
@@ -39,14 +40,14 @@ returns-in-Ok-clause-comes g c = λ xs has.
     let h = c.start.ensures.starts xs computes (Some c.args.key) (g.K.PartialEq.eq c.args.key) has (computes_so g.K.PartialEq.eq ((hashed_by g.S.Hasher.Hasher.finish g.S.Hasher.Hasher.write g.S.BuildHasher.build_hasher g.K.Hash.hash_input) c.args.hasher.now) c.args.setting c.args.key _ c.hash_of-hash.ensures _ c.compute-call.ensures) in
     let a = comes_asking g.K.PartialEq.eq g.K.PartialEq.eq (hashed_by g.S.Hasher.Hasher.finish g.S.Hasher.Hasher.write g.S.BuildHasher.build_hasher g.K.Hash.hash_input) c.args.hasher c.args.setting computes (Some c.args.key) (g.K.PartialEq.eq c.args.key) xs c.start.new.machine c.start.new.memory c.start.result h _ _ c.in-Ok-Asks.asked c.in-Ok-Asks.is c.in-Ok-Asks.field-0-is refl in
     subst (ComesTo g.K.PartialEq.eq ((hashed_by g.S.Hasher.Hasher.finish g.S.Hasher.Hasher.write g.S.BuildHasher.build_hasher g.K.Hash.hash_input) c.args.hasher.now) c.args.setting c.replied.new.memory c.args.key xs (Computing (ComputesAs g.F.FnOnce c.args.compute))) c.in-Ok.is (comes_told g.K.PartialEq.eq (hashed_by g.S.Hasher.Hasher.finish g.S.Hasher.Hasher.write g.S.BuildHasher.build_hasher g.K.Hash.hash_input) c.args.hasher c.start.new.machine.hasher a.1 c.args.setting xs c.replied.new.memory (Computing (ComputesAs g.F.FnOnce c.args.compute)) (reply.Insert c.in-Insert.value) (found_by (g.K.PartialEq.eq c.args.key) xs)
-    (c.shown_at.result, subst (λ o. g.F.FnOnce.post c.args.compute (c.shown_at.result, tt) o) c.in-Insert.is c.compute.ensures, c.shown_at.ensures (g.K.PartialEq.eq c.args.key) xs a.2) c.args.key refl c.replied.result (c.replied.ensures.comes xs computes c.args.key c.in-Ok-Asks.asked a.0 tt))
+    (c.shown_at.result, subst (λ o. g.F.FnOnce.post c.args.compute (c.shown_at.result, tt) o) c.in-Insert.is c.compute.ensures, shown_found c.start.new.memory (g.K.PartialEq.eq c.args.key) xs c.in-Ok-Asks.asked a.2 _ c.shown_at.ensures) c.args.key refl c.replied.result (c.replied.ensures.comes xs computes c.args.key c.in-Ok-Asks.asked a.0 tt))
 
 pub returns-in-Insert-clause-comes : goal.returns-in-Insert-clause-comes
 returns-in-Insert-clause-comes g c = λ xs has.
     let h = c.start.ensures.starts xs computes (Some c.args.key) (g.K.PartialEq.eq c.args.key) has (computes_so g.K.PartialEq.eq ((hashed_by g.S.Hasher.Hasher.finish g.S.Hasher.Hasher.write g.S.BuildHasher.build_hasher g.K.Hash.hash_input) c.args.hasher.now) c.args.setting c.args.key _ c.hash_of-hash.ensures _ c.compute-call.ensures) in
     let a = comes_asking g.K.PartialEq.eq g.K.PartialEq.eq (hashed_by g.S.Hasher.Hasher.finish g.S.Hasher.Hasher.write g.S.BuildHasher.build_hasher g.K.Hash.hash_input) c.args.hasher c.args.setting computes (Some c.args.key) (g.K.PartialEq.eq c.args.key) xs c.start.new.machine c.start.new.memory c.start.result h _ _ c.in-Ok-Asks.asked c.in-Ok-Asks.is c.in-Ok-Asks.field-0-is refl in
     subst (ComesTo g.K.PartialEq.eq ((hashed_by g.S.Hasher.Hasher.finish g.S.Hasher.Hasher.write g.S.BuildHasher.build_hasher g.K.Hash.hash_input) c.args.hasher.now) c.args.setting c.replied.new.memory c.args.key xs (Computing (ComputesAs g.F.FnOnce c.args.compute))) c.in-Err-replied.is (comes_told g.K.PartialEq.eq (hashed_by g.S.Hasher.Hasher.finish g.S.Hasher.Hasher.write g.S.BuildHasher.build_hasher g.K.Hash.hash_input) c.args.hasher c.start.new.machine.hasher a.1 c.args.setting xs c.replied.new.memory (Computing (ComputesAs g.F.FnOnce c.args.compute)) (reply.Insert c.in-Insert.value) (found_by (g.K.PartialEq.eq c.args.key) xs)
-    (c.shown_at.result, subst (λ o. g.F.FnOnce.post c.args.compute (c.shown_at.result, tt) o) c.in-Insert.is c.compute.ensures, c.shown_at.ensures (g.K.PartialEq.eq c.args.key) xs a.2) c.args.key refl c.replied.result (c.replied.ensures.comes xs computes c.args.key c.in-Ok-Asks.asked a.0 tt))
+    (c.shown_at.result, subst (λ o. g.F.FnOnce.post c.args.compute (c.shown_at.result, tt) o) c.in-Insert.is c.compute.ensures, shown_found c.start.new.memory (g.K.PartialEq.eq c.args.key) xs c.in-Ok-Asks.asked a.2 _ c.shown_at.ensures) c.args.key refl c.replied.result (c.replied.ensures.comes xs computes c.args.key c.in-Ok-Asks.asked a.0 tt))
 
 pub replied-requires-in-Remove : goal.replied-requires-in-Remove
 replied-requires-in-Remove g c =
@@ -59,14 +60,14 @@ returns-in-Ok-replied-clause-comes g c = λ xs has.
     let h = c.start.ensures.starts xs computes (Some c.args.key) (g.K.PartialEq.eq c.args.key) has (computes_so g.K.PartialEq.eq ((hashed_by g.S.Hasher.Hasher.finish g.S.Hasher.Hasher.write g.S.BuildHasher.build_hasher g.K.Hash.hash_input) c.args.hasher.now) c.args.setting c.args.key _ c.hash_of-hash.ensures _ c.compute-call.ensures) in
     let a = comes_asking g.K.PartialEq.eq g.K.PartialEq.eq (hashed_by g.S.Hasher.Hasher.finish g.S.Hasher.Hasher.write g.S.BuildHasher.build_hasher g.K.Hash.hash_input) c.args.hasher c.args.setting computes (Some c.args.key) (g.K.PartialEq.eq c.args.key) xs c.start.new.machine c.start.new.memory c.start.result h _ _ c.in-Ok-Asks.asked c.in-Ok-Asks.is c.in-Ok-Asks.field-0-is refl in
     subst (ComesTo g.K.PartialEq.eq ((hashed_by g.S.Hasher.Hasher.finish g.S.Hasher.Hasher.write g.S.BuildHasher.build_hasher g.K.Hash.hash_input) c.args.hasher.now) c.args.setting c.replied-in-Remove.new.memory c.args.key xs (Computing (ComputesAs g.F.FnOnce c.args.compute))) c.in-Ok-replied.is (comes_told g.K.PartialEq.eq (hashed_by g.S.Hasher.Hasher.finish g.S.Hasher.Hasher.write g.S.BuildHasher.build_hasher g.K.Hash.hash_input) c.args.hasher c.start.new.machine.hasher a.1 c.args.setting xs c.replied-in-Remove.new.memory (Computing (ComputesAs g.F.FnOnce c.args.compute)) reply.Remove (found_by (g.K.PartialEq.eq c.args.key) xs)
-    (c.shown_at.result, subst (λ o. g.F.FnOnce.post c.args.compute (c.shown_at.result, tt) o) c.in-Remove.is c.compute.ensures, c.shown_at.ensures (g.K.PartialEq.eq c.args.key) xs a.2) c.args.key refl c.replied-in-Remove.result (c.replied-in-Remove.ensures.comes xs computes c.args.key c.in-Ok-Asks.asked a.0 tt))
+    (c.shown_at.result, subst (λ o. g.F.FnOnce.post c.args.compute (c.shown_at.result, tt) o) c.in-Remove.is c.compute.ensures, shown_found c.start.new.memory (g.K.PartialEq.eq c.args.key) xs c.in-Ok-Asks.asked a.2 _ c.shown_at.ensures) c.args.key refl c.replied-in-Remove.result (c.replied-in-Remove.ensures.comes xs computes c.args.key c.in-Ok-Asks.asked a.0 tt))
 
 pub returns-in-Remove-clause-comes : goal.returns-in-Remove-clause-comes
 returns-in-Remove-clause-comes g c = λ xs has.
     let h = c.start.ensures.starts xs computes (Some c.args.key) (g.K.PartialEq.eq c.args.key) has (computes_so g.K.PartialEq.eq ((hashed_by g.S.Hasher.Hasher.finish g.S.Hasher.Hasher.write g.S.BuildHasher.build_hasher g.K.Hash.hash_input) c.args.hasher.now) c.args.setting c.args.key _ c.hash_of-hash.ensures _ c.compute-call.ensures) in
     let a = comes_asking g.K.PartialEq.eq g.K.PartialEq.eq (hashed_by g.S.Hasher.Hasher.finish g.S.Hasher.Hasher.write g.S.BuildHasher.build_hasher g.K.Hash.hash_input) c.args.hasher c.args.setting computes (Some c.args.key) (g.K.PartialEq.eq c.args.key) xs c.start.new.machine c.start.new.memory c.start.result h _ _ c.in-Ok-Asks.asked c.in-Ok-Asks.is c.in-Ok-Asks.field-0-is refl in
     subst (ComesTo g.K.PartialEq.eq ((hashed_by g.S.Hasher.Hasher.finish g.S.Hasher.Hasher.write g.S.BuildHasher.build_hasher g.K.Hash.hash_input) c.args.hasher.now) c.args.setting c.replied-in-Remove.new.memory c.args.key xs (Computing (ComputesAs g.F.FnOnce c.args.compute))) c.in-Err-replied-2.is (comes_told g.K.PartialEq.eq (hashed_by g.S.Hasher.Hasher.finish g.S.Hasher.Hasher.write g.S.BuildHasher.build_hasher g.K.Hash.hash_input) c.args.hasher c.start.new.machine.hasher a.1 c.args.setting xs c.replied-in-Remove.new.memory (Computing (ComputesAs g.F.FnOnce c.args.compute)) reply.Remove (found_by (g.K.PartialEq.eq c.args.key) xs)
-    (c.shown_at.result, subst (λ o. g.F.FnOnce.post c.args.compute (c.shown_at.result, tt) o) c.in-Remove.is c.compute.ensures, c.shown_at.ensures (g.K.PartialEq.eq c.args.key) xs a.2) c.args.key refl c.replied-in-Remove.result (c.replied-in-Remove.ensures.comes xs computes c.args.key c.in-Ok-Asks.asked a.0 tt))
+    (c.shown_at.result, subst (λ o. g.F.FnOnce.post c.args.compute (c.shown_at.result, tt) o) c.in-Remove.is c.compute.ensures, shown_found c.start.new.memory (g.K.PartialEq.eq c.args.key) xs c.in-Ok-Asks.asked a.2 _ c.shown_at.ensures) c.args.key refl c.replied-in-Remove.result (c.replied-in-Remove.ensures.comes xs computes c.args.key c.in-Ok-Asks.asked a.0 tt))
 
 pub replied-requires-in-Abort : goal.replied-requires-in-Abort
 replied-requires-in-Abort g c =
@@ -78,7 +79,7 @@ pub returns-in-Ok-replied-2-clause-comes : goal.returns-in-Ok-replied-2-clause-c
 returns-in-Ok-replied-2-clause-comes g c = λ xs has.
     let h = c.start.ensures.starts xs computes (Some c.args.key) (g.K.PartialEq.eq c.args.key) has (computes_so g.K.PartialEq.eq ((hashed_by g.S.Hasher.Hasher.finish g.S.Hasher.Hasher.write g.S.BuildHasher.build_hasher g.K.Hash.hash_input) c.args.hasher.now) c.args.setting c.args.key _ c.hash_of-hash.ensures _ c.compute-call.ensures) in
     let a = comes_asking g.K.PartialEq.eq g.K.PartialEq.eq (hashed_by g.S.Hasher.Hasher.finish g.S.Hasher.Hasher.write g.S.BuildHasher.build_hasher g.K.Hash.hash_input) c.args.hasher c.args.setting computes (Some c.args.key) (g.K.PartialEq.eq c.args.key) xs c.start.new.machine c.start.new.memory c.start.result h _ _ c.in-Ok-Asks.asked c.in-Ok-Asks.is c.in-Ok-Asks.field-0-is refl in
-    ((c.shown_at.result, subst (λ o. g.F.FnOnce.post c.args.compute (c.shown_at.result, tt) o) c.in-Abort.is c.compute.ensures, c.shown_at.ensures (g.K.PartialEq.eq c.args.key) xs a.2), aborted_answers g.K.PartialEq.eq (hashed_by g.S.Hasher.Hasher.finish g.S.Hasher.Hasher.write g.S.BuildHasher.build_hasher g.K.Hash.hash_input) c.args.hasher c.start.new.machine.hasher a.1 c.args.setting xs c.replied-in-Abort.new.memory c.args.key c.replied-in-Abort.result (c.replied-in-Abort.ensures.comes xs computes c.args.key c.in-Ok-Asks.asked a.0 tt) _ c.in-Ok-replied-2.is)
+    ((c.shown_at.result, subst (λ o. g.F.FnOnce.post c.args.compute (c.shown_at.result, tt) o) c.in-Abort.is c.compute.ensures, shown_found c.start.new.memory (g.K.PartialEq.eq c.args.key) xs c.in-Ok-Asks.asked a.2 _ c.shown_at.ensures), aborted_answers g.K.PartialEq.eq (hashed_by g.S.Hasher.Hasher.finish g.S.Hasher.Hasher.write g.S.BuildHasher.build_hasher g.K.Hash.hash_input) c.args.hasher c.start.new.machine.hasher a.1 c.args.setting xs c.replied-in-Abort.new.memory c.args.key c.replied-in-Abort.result (c.replied-in-Abort.ensures.comes xs computes c.args.key c.in-Ok-Asks.asked a.0 tt) _ c.in-Ok-replied-2.is)
 
 pub returns-in-Ok-Asks-clause-comes : goal.returns-in-Ok-Asks-clause-comes
 returns-in-Ok-Asks-clause-comes g c = λ xs has.

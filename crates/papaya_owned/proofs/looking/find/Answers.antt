@@ -2,9 +2,10 @@
 use Rattle.std.proofs.Common.{subst}
 use Rattle.papaya_resize.specs.Lookup.{lookup_plan}
 use Rattle.papaya_owned.specs.Looking.{at_next}
-use Rattle.papaya_owned.specs.Tries.{Nearer, TriesTo}
+use Rattle.papaya_owned.specs.Tries.{IsMet, Nearer, TriesTo}
 use Rattle.papaya_owned.specs.Within.{within}
 use Rattle.papaya_owned.proofs.Lookups.Ends.{looks_may, looks_tell, looks_end, looks_on, may_lent, steps_lent, not_done, lower_asked}
+use Rattle.papaya_owned.proofs.Lookups.Found.{finds_shown}
 use Rattle.papaya_owned.proofs.Lookups.Tries.{lower_behind}
 use Rattle.papaya_owned.proofs.looking.find.Goals as goal
 
@@ -16,11 +17,21 @@ step-requires g c =
     let r = c.requires in let i = c.loop-found.invariant in
     may_lent (g.Q.Equivalent.equivalent c.args.asked.now) c.loop-found.look c.loop-found.lookup _ i.look (looks_may g.K.PartialEq.eq r.0 _ _ r.1 r.2 _ _ (i.looks r.0 r.1 r.2 r.3))
 
+pub shown_at-requires : goal.shown_at-requires
+shown_at-requires g c =
+    let r = c.requires in let i = c.loop-found.invariant in let looks = i.looks r.0 r.1 r.2 r.3 in
+    finds_shown g.K.PartialEq.eq r.0 _ _ r.1 r.2 _ _ looks c.in-Done.found
+    (looks_tell g.K.PartialEq.eq r.0 _ _ r.1 r.2 _ _ looks _ _
+    (steps_lent (g.Q.Equivalent.equivalent c.args.asked.now) c.loop-found.look c.loop-found.lookup _ i.look _ _ c.in-Done.ensures).1).1
+
 pub returns-in-Done : goal.returns-in-Done
 returns-in-Done g c = λ hash chart blocks looks.
-    let i = c.loop-found.invariant in
-    (looks_tell g.K.PartialEq.eq hash _ _ chart blocks _ _ (i.looks hash chart blocks looks) _ _
-    (steps_lent (g.Q.Equivalent.equivalent c.args.asked.now) c.loop-found.look c.loop-found.lookup _ i.look _ _ c.in-Done.ensures).1).1
+    let i = c.loop-found.invariant in (
+      c.in-Done.found,
+      (looks_tell g.K.PartialEq.eq hash _ _ chart blocks _ _ (i.looks hash chart blocks looks) _ _
+          (steps_lent (g.Q.Equivalent.equivalent c.args.asked.now) c.loop-found.look c.loop-found.lookup _ i.look _ _ c.in-Done.ensures).1).1,
+      c.shown_at.ensures,
+    )
 
 pub tries-requires : goal.tries-requires
 tries-requires g c =
@@ -35,18 +46,21 @@ tries-requires g c =
 
 pub returns-in-Ends : goal.returns-in-Ends
 returns-in-Ends g c = λ hash chart blocks looks.
-    let i = c.loop-found.invariant in
-    subst (λ x. TriesTo g.K.PartialEq.eq hash (g.Q.Equivalent.equivalent c.args.asked.now) c.args.memory.now chart blocks c.args.lookup c.step.new.self x) c.in-Ends.is
-    (c.tries.ensures.to hash chart blocks c.args.lookup
-    (looks_on g.K.PartialEq.eq hash _ _ chart blocks _ _ _ (i.looks hash chart blocks looks) _ (not_done _ c.in-Goes.is)
-    (steps_lent (g.Q.Equivalent.equivalent c.args.asked.now) c.loop-found.look c.loop-found.lookup _ i.look _ _ c.step.ensures).1).0)
+    let i = c.loop-found.invariant in (
+      c.in-Ends.field-0,
+      subst (λ x. TriesTo g.K.PartialEq.eq hash (g.Q.Equivalent.equivalent c.args.asked.now) c.args.memory.now chart blocks c.args.lookup c.step.new.self x) c.in-Ends.is
+          (c.tries-tried.ensures.to hash chart blocks c.args.lookup
+          (looks_on g.K.PartialEq.eq hash _ _ chart blocks _ _ _ (i.looks hash chart blocks looks) _ (not_done _ c.in-Goes.is)
+          (steps_lent (g.Q.Equivalent.equivalent c.args.asked.now) c.loop-found.look c.loop-found.lookup _ i.look _ _ c.step.ensures).1).0),
+      subst (λ x. IsMet c.args.memory.now x _) c.in-Ends.is c.tries-tried.ensures.met,
+    )
 
 pub most-left-requires-in-GoesBeyond : goal.most-left-requires-in-GoesBeyond
 most-left-requires-in-GoesBeyond g c =
     let r = c.requires in let i = c.loop-found.invariant in
     looks_end g.K.PartialEq.eq r.0 _ _ r.1 r.2 _ _
     (subst (λ x. TriesTo g.K.PartialEq.eq r.0 (g.Q.Equivalent.equivalent c.args.asked.now) c.args.memory.now r.1 r.2 c.args.lookup c.step.new.self x) c.in-GoesBeyond.is
-    (c.tries.ensures.to r.0 r.1 r.2 c.args.lookup
+    (c.tries-tried.ensures.to r.0 r.1 r.2 c.args.lookup
     (looks_on g.K.PartialEq.eq r.0 _ _ r.1 r.2 _ _ _ (i.looks r.0 r.1 r.2 r.3) _ (not_done _ c.in-Goes.is)
     (steps_lent (g.Q.Equivalent.equivalent c.args.asked.now) c.loop-found.look c.loop-found.lookup _ i.look _ _ c.step.ensures).1).0))
 
@@ -57,7 +71,7 @@ loop-found-smaller-in-GoesBeyond g c =
     lower_behind g.Q.Equivalent.equivalent _ _ _ _ _ _ _ i.memory i.lookup i.asked c.loop-found.left.least.1 _ _
     (looks_on g.K.PartialEq.eq r.0 _ _ r.1 r.2 _ _ _ (i.looks r.0 r.1 r.2 r.3) _ (not_done _ c.in-Goes.is) s).1 s
     (at_next c.step.new.self c.in-GoesBeyond.table)
-    (λ n is. subst (λ x. Nearer (λ k y. within (lookup_plan {V = g.row.V.Denot} (g.Q.Equivalent.equivalent c.args.asked.now)) k y c.args.memory.now) n c.step.new.self x) c.in-GoesBeyond.is (c.tries.ensures.nearer n is))
+    (λ n is. subst (λ x. Nearer (λ k y. within (lookup_plan {V = g.row.V.Denot} (g.Q.Equivalent.equivalent c.args.asked.now)) k y c.args.memory.now) n c.step.new.self x) c.in-GoesBeyond.is (c.tries-tried.ensures.nearer n is))
     _ _ _ _ e.memory e.lookup e.asked c.most-left-in-GoesBeyond.result.least.1
 
 pub loop-found-preserved-in-GoesBeyond : goal.loop-found-preserved-in-GoesBeyond
@@ -67,7 +81,7 @@ loop-found-preserved-in-GoesBeyond g c =
       look = s.0;
       looks = λ hash chart blocks looks.
           subst (λ x. TriesTo g.K.PartialEq.eq hash (g.Q.Equivalent.equivalent c.args.asked.now) c.args.memory.now chart blocks c.args.lookup c.step.new.self x) c.in-GoesBeyond.is
-          (c.tries.ensures.to hash chart blocks c.args.lookup
+          (c.tries-tried.ensures.to hash chart blocks c.args.lookup
           (looks_on g.K.PartialEq.eq hash _ _ chart blocks _ _ _ (i.looks hash chart blocks looks) _ (not_done _ c.in-Goes.is) s.1).0);
       memory = e.memory;
       lookup = e.lookup;

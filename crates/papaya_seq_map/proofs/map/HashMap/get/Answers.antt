@@ -1,27 +1,16 @@
--- It reads the pair of the word that was found.
-use Rattle.std.specs.Prelude.{option_map, Some}
-use Rattle.std.proofs.Common.{◌∙◌, ap, sym}
-use Rattle.papaya_seq_shows.proofs.Shows.{seen_found, seen_first}
-use Rattle.papaya_tables.proofs.Classes.{one_class}
+-- It is the value of the pair.
+use Rattle.std.specs.Prelude.{option_map}
+use Rattle.std.proofs.Common.{ap}
 use Rattle.papaya_seq_map.proofs.map.HashMap.get.Goals as goal
 
-pub word_of-requires : goal.word_of-requires
-word_of-requires g c = c.self.invariant
-
-pub pair_at-requires : goal.pair_at-requires
-pair_at-requires g c = let held = c.self.invariant in let w = c.in-Some.ensures held.0 held.1 in (w.0, w.1, w.2)
-
 pub returns-in-Some : goal.returns-in-Some
-returns-in-Some g c =
-    let held = c.self.invariant in let w = c.in-Some.ensures held.0 held.1 in let p = c.pair_at.ensures w.0 w.1 w.2 in
-    let so = ap (λ v. Some v) p.1 ∙ sym (ap (option_map (λ x. x.1)) w.3) in record {
-      value = so ∙ sym (ap (option_map (λ x. x.1)) (seen_first _ _ _ _ held.0 held.1 c.self.inside.resting.tables _ _ _ _ c.self.view_is (g.Q.Equivalent.equivalent c.args.asked.now) (one_class g.K.PartialEq.eq g.met.K.Eq.laws g.Q.Equivalent.stands_for g.Q.Equivalent.equivalent g.met.Q.Equivalent.stands c.args.asked.now)));
-      in_any_order = λ xs order. so ∙ sym (ap (option_map (λ x. x.1)) (seen_found _ _ _ _ held.0 held.1 c.self.inside.resting.tables _ _ _ _ c.self.view_is (g.Q.Equivalent.equivalent c.args.asked.now) (one_class g.K.PartialEq.eq g.met.K.Eq.laws g.Q.Equivalent.stands_for g.Q.Equivalent.equivalent g.met.Q.Equivalent.stands c.args.asked.now) xs order));
-    }
+returns-in-Some g c = record {
+  value = ap (option_map (λ (x : g.row.K.Denot × g.row.V.Denot). x.1)) c.in-Some.ensures.pair;
+  in_any_order = λ xs order. ap (option_map (λ (x : g.row.K.Denot × g.row.V.Denot). x.1)) (c.in-Some.ensures.in_any_order xs order);
+}
 
 pub returns-in-None : goal.returns-in-None
-returns-in-None g c =
-    let held = c.self.invariant in let so = sym (ap (option_map (λ x. x.1)) (c.in-None.ensures held.0 held.1)) in record {
-      value = so ∙ sym (ap (option_map (λ x. x.1)) (seen_first _ _ _ _ held.0 held.1 c.self.inside.resting.tables _ _ _ _ c.self.view_is (g.Q.Equivalent.equivalent c.args.asked.now) (one_class g.K.PartialEq.eq g.met.K.Eq.laws g.Q.Equivalent.stands_for g.Q.Equivalent.equivalent g.met.Q.Equivalent.stands c.args.asked.now)));
-      in_any_order = λ xs order. so ∙ sym (ap (option_map (λ x. x.1)) (seen_found _ _ _ _ held.0 held.1 c.self.inside.resting.tables _ _ _ _ c.self.view_is (g.Q.Equivalent.equivalent c.args.asked.now) (one_class g.K.PartialEq.eq g.met.K.Eq.laws g.Q.Equivalent.stands_for g.Q.Equivalent.equivalent g.met.Q.Equivalent.stands c.args.asked.now) xs order));
-    }
+returns-in-None g c = record {
+  value = ap (option_map (λ (x : g.row.K.Denot × g.row.V.Denot). x.1)) c.in-None.ensures.pair;
+  in_any_order = λ xs order. ap (option_map (λ (x : g.row.K.Denot × g.row.V.Denot). x.1)) (c.in-None.ensures.in_any_order xs order);
+}

@@ -2,28 +2,28 @@
 use Rattle.std.specs.Prelude.{◌≡◌, ℕ, ◌==◌, Bool, true, false, ◌&&◌, List, [], ◌∷◌, if◌then◌else◌}
 use Rattle.std.specs.List.{list_all}
 use Rattle.std.proofs.Common.{refl, ap}
-use Rattle.papaya_settles.specs.Given.SeizeWords.declared.at.At.{At}
-use Rattle.papaya_settles.specs.Given.SeizeWords.declared.at.At.TheVariants.{Root, Used, Slot, Entry, Word}
-use Rattle.papaya_settles.specs.Given.Seize.declared.states.TheConstants.{FIRST}
-use Rattle.papaya_settles.specs.Given.Tables.declared.table_words.TheConstants.{NEXT, DEFERRED}
-use Rattle.papaya_settles.specs.Given.Schedules.declared.effect.Effect.{Effect}
-use Rattle.papaya_settles.specs.Given.Schedules.declared.effect.Effect.TheVariants as effect
-use Rattle.papaya_settles.specs.Given.Schedules.declared.effect.Growth.TheVariants.{ABlock}
-use Rattle.papaya_settles.specs.Given.Schedules.declared.effect.Spot.{Spot}
-use Rattle.papaya_settles.specs.Given.Schedules.declared.effect.Table.{Table}
-use Rattle.papaya_settles.specs.Given.Schedules.declared.effect.Thing.TheVariants.{APair, ATable}
-use Rattle.papaya_settles.specs.Given.Schedules.Handing.{is_call_effect, is_made}
-use Rattle.papaya_settles.specs.Given.Teller.declared.changed.Changed.{Changed}
-use Rattle.papaya_settles.specs.Given.Teller.declared.changed.Changed.TheVariants as changed
-use Rattle.papaya_settles.specs.Given.Teller.declared.changed.Kind.{Kind}
-use Rattle.papaya_settles.specs.Given.Teller.declared.changed.Kind.TheVariants as kind
-use Rattle.papaya_settles.specs.Given.Effects.Effects.{made_by, taken_by, table_at, names_same, followed_by, led_to, carried, placed, spot_at, is_place, in_table, in_block, batched, named, written_by, effects_of}
-use Rattle.papaya_settles.specs.Given.Effects.Known.{Known}
-use Rattle.papaya_settles.specs.Given.Effects.declared.acting.Acting.{Acting}
-use Rattle.papaya_settles.specs.Given.Effects.declared.acting.Acting.TheVariants as acts
-use Rattle.papaya_settles.specs.Given.Effects.declared.role.Role.{Role}
-use Rattle.papaya_settles.specs.Given.Effects.declared.role.Role.TheVariants as role
-use Rattle.papaya_settles.proofs.Given.Follows.Onward.{IsOfMap}
+use Rattle.papaya_moments.specs.Given.SeizeWords.declared.at.At.{At}
+use Rattle.papaya_moments.specs.Given.SeizeWords.declared.at.At.TheVariants.{Root, Used, Slot, Entry, Word}
+use Rattle.papaya_moments.specs.Given.Seize.declared.states.TheConstants.{FIRST}
+use Rattle.papaya_moments.specs.Given.Tables.declared.table_words.TheConstants.{NEXT, DEFERRED}
+use Rattle.papaya_moments.specs.Given.Schedules.declared.effect.Effect.{Effect}
+use Rattle.papaya_moments.specs.Given.Schedules.declared.effect.Effect.TheVariants as effect
+use Rattle.papaya_moments.specs.Given.Schedules.declared.effect.Growth.TheVariants.{ABlock}
+use Rattle.papaya_moments.specs.Given.Schedules.declared.effect.Spot.{Spot}
+use Rattle.papaya_moments.specs.Given.Schedules.declared.effect.Table.{Table}
+use Rattle.papaya_moments.specs.Given.Schedules.declared.effect.Thing.TheVariants.{APair, ATable}
+use Rattle.papaya_moments.specs.Given.Schedules.Handing.{is_call_effect, is_made}
+use Rattle.papaya_moments.specs.Given.Teller.declared.changed.Changed.{Changed}
+use Rattle.papaya_moments.specs.Given.Teller.declared.changed.Changed.TheVariants as changed
+use Rattle.papaya_moments.specs.Given.Teller.declared.changed.Kind.{Kind}
+use Rattle.papaya_moments.specs.Given.Teller.declared.changed.Kind.TheVariants as kind
+use Rattle.papaya_moments.specs.Given.Effects.Effects.{made_by, taken_by, table_at, names_same, followed_by, led_to, carried, placed, spot_at, is_place, in_table, in_block, batched, named, written_by, effects_of}
+use Rattle.papaya_moments.specs.Given.Effects.Known.{Known}
+use Rattle.papaya_moments.specs.Given.Effects.declared.acting.Acting.{Acting}
+use Rattle.papaya_moments.specs.Given.Effects.declared.acting.Acting.TheVariants as acts
+use Rattle.papaya_moments.specs.Given.Effects.declared.role.Role.{Role}
+use Rattle.papaya_moments.specs.Given.Effects.declared.role.Role.TheVariants as role
+use Rattle.papaya_moments.proofs.Given.Follows.Onward.{IsOfMap}
 
 pub data Shaped : List Effect → Type 0 where
   TellsNothing : Shaped []

@@ -3,8 +3,9 @@ use Rattle.std.proofs.Common.{◌∙◌, ap}
 use Rattle.papaya_resize.specs.Lookup.{looking}
 use Rattle.papaya_owned.specs.Owned.{hashed_by}
 use Rattle.papaya_owned.proofs.Owned.Lawful.{is_class}
+use Rattle.papaya_owned.proofs.Lookups.Found.{shown_found}
 use Rattle.papaya_resting.proofs.Looks.{look_ready, look_found}
-use Rattle.papaya_resting.proofs.lookups.word_of.Goals as goal
+use Rattle.papaya_resting.proofs.lookups.pair_of.Goals as goal
 
 pub find-requires : goal.find-requires
 find-requires g c =
@@ -19,10 +20,8 @@ find-requires g c =
 
 pub returns : goal.returns
 returns g c = λ xs has.
-    look_found _ _ _ _ xs has _ _
-    (is_class g.K.PartialEq.eq g.S.Hasher.Hasher.finish g.S.Hasher.Hasher.write g.S.BuildHasher.build_hasher g.K.Hash.hash_input c.args.hasher.now g.Q.Equivalent.equivalent g.Q.Hash.hash_input
-    g.Q.Equivalent.stands_for g.met.Q.Equivalent.stands g.met.Q.Equivalent.hashed g.met.K.Eq.laws g.met.K.Hash.respects_eq c.args.asked.now) _ (c.new-lookup.ensures ∙ ap (λ x. looking c.args.setting.root c.args.setting.mode x) c.hash_of-hash.ensures)
-    _ (c.find.ensures _ has.chart has.blocks
-    (look_ready _ _ _ _ xs has _ _
-    (is_class g.K.PartialEq.eq g.S.Hasher.Hasher.finish g.S.Hasher.Hasher.write g.S.BuildHasher.build_hasher g.K.Hash.hash_input c.args.hasher.now g.Q.Equivalent.equivalent g.Q.Hash.hash_input
-    g.Q.Equivalent.stands_for g.met.Q.Equivalent.stands g.met.Q.Equivalent.hashed g.met.K.Eq.laws g.met.K.Hash.respects_eq c.args.asked.now) _ (c.new-lookup.ensures ∙ ap (λ x. looking c.args.setting.root c.args.setting.mode x) c.hash_of-hash.ensures)))
+    let class = is_class g.K.PartialEq.eq g.S.Hasher.Hasher.finish g.S.Hasher.Hasher.write g.S.BuildHasher.build_hasher g.K.Hash.hash_input c.args.hasher.now g.Q.Equivalent.equivalent
+    g.Q.Hash.hash_input g.Q.Equivalent.stands_for g.met.Q.Equivalent.stands g.met.Q.Equivalent.hashed g.met.K.Eq.laws g.met.K.Hash.respects_eq c.args.asked.now in
+    let begins = c.new-lookup.ensures ∙ ap (λ x. looking c.args.setting.root c.args.setting.mode x) c.hash_of-hash.ensures in
+    let f = c.find.ensures _ has.chart has.blocks (look_ready _ _ _ _ xs has _ _ class _ begins) in
+    shown_found c.args.memory.now (g.Q.Equivalent.equivalent c.args.asked.now) xs f.0 (look_found _ _ _ _ xs has _ _ class _ begins _ f.1) _ f.2

@@ -51,6 +51,7 @@ impl Deed {
         }
     }
 
+    /// The effect.
     pub fn effect(self) -> Effect {
         match self {
             Deed::Pair => Effect::PairMade,
