@@ -30,12 +30,12 @@ pub(crate) enum Tried {
 /// The pair of a node whose key this stands for.
 fn pair_asked<'a, K: Eq + Hash, V, Q: Equivalent<K>>(
     asked: &Q,
-    node: &'a Node<K, V>,
+    named: &'a Node<K, V>,
 ) -> Option<(&'a K, &'a V)>
-    ensures asks { is_some result ≡ names_pair (Q.Equivalent.equivalent asked.now) node.now }
-    ensures pair { IfSome result (λ x. node.now ≡ node.Pair x.0.now x.1.now) }
+    ensures asks { is_some result ≡ names_pair (Q.Equivalent.equivalent asked.now) named.now }
+    ensures pair { IfSome result (λ x. named.now ≡ node.Pair x.0.now x.1.now) }
 {
-    match node {
+    match named {
         Node::Pair(key, value) if asked.equivalent(key) => Some((key, value)),
         Node::Pair(_, _) | Node::Table { .. } | Node::Shards => None,
     }

@@ -1,12 +1,11 @@
 -- What a lookup has found is there, and shows one pair.
-use Rattle.std.specs.Prelude.{◌≡◌, ℕ, ◌≤◌, ◌<◌, Bool, true, false, cond, List, [], Option, Some, None, IsSome, IfSome, option_map, if◌then◌else◌}
+use Rattle.std.specs.Prelude.{◌≡◌, ◌==◌, ℕ, ◌≤◌, Bool, true, false, cond, List, [], Option, Some, None, IsSome, IfSome, option_map, if◌then◌else◌}
 use Rattle.std.proofs.Common.{refl, sym, ◌∙◌, ap, arith}
 use Rattle.seize_words.specs.Mem.{Mem, value_at}
 use Rattle.seize_words.specs.Word.{block_in}
 use Rattle.papaya_tables.specs.Chunks.{is_incremental}
-use Rattle.papaya_tables.specs.Finding.{finding, vacant}
+use Rattle.papaya_tables.specs.Finding.{finding}
 use Rattle.papaya_tables.specs.declared.finding.Aim.TheVariants.{Looks}
-use Rattle.papaya_tables.specs.declared.finding.Finding.{Finding}
 use Rattle.papaya_tables.specs.declared.finding.Finding.TheVariants as is
 use Rattle.papaya_tables.specs.declared.node.Node.{Node}
 use Rattle.papaya_tables.specs.declared.node.Node.TheVariants as node
@@ -40,9 +39,9 @@ module _ {K V : Type 0} (same : K → K → Bool) (hash : K → ℕ) (keys : K �
   -- what is found can be shown
   pub finds_shown : (found : Option ℕ) → Finds same hash keys c blocks begun found → (shown : Option (K × V)) × IsShownAt m found shown
   finds_shown None absent = (None, refl)
-  finds_shown (Some word) (n, phase, borrowed, (now, key), is) =
+  finds_shown (Some word) (n, phase, borrowed, (now, k, key, of), is) =
       let p = pair_there n now in
-      (Some p.0, p.0, refl, ap (value_at m) (block_of_word hash h.lawful.fits m c blocks None [] begun.root h.map.shows word n phase borrowed is) ∙ p.1)
+      (Some p.0, (p.0, refl, ap (value_at m) (block_of_word hash h.lawful.fits m c blocks None [] begun.root h.map.shows word n phase borrowed is) ∙ p.1))
 
 module _ {K V : Type 0} (m : Mem (Node K V)) (keys : K → Bool) (xs : List (K × V)) where
   -- the word of a pair of the list shows that pair
@@ -62,7 +61,7 @@ module _ {K V : Type 0} (m : Mem (Node K V)) (keys : K → Bool) (xs : List (K �
 -- the pair that was met is shown
 pub met_shown : {K V R : Type 0} (m : Mem (Node K V)) (word : ℕ) (f : R → K × V) (met : Option R) → IsSome met → IfSome met (λ x. IsPairAt m word (f x)) → IsShownAt m (Some word) (option_map f met)
 met_shown m word f (Some x) some pair = (f x, refl, pair)
-met_shown m word f None some pair = absurd some
+met_shown m word f None some pair = absurd (cc some)
 
 -- a try that ends with a pair has met one of the key
 pub there_met : (mode : ResizeMode) (word : ℕ) (met : Bool) → is_there (finding mode Looks word met) ≡ true → met ≡ true

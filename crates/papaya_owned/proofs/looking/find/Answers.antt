@@ -1,5 +1,5 @@
 -- Its steps over the memory that is lent are those over the memory. The tries at a table are steps, too.
-use Rattle.std.proofs.Common.{subst}
+use Rattle.std.proofs.Common.{subst, option_map}
 use Rattle.papaya_resize.specs.Lookup.{lookup_plan}
 use Rattle.papaya_owned.specs.Looking.{at_next}
 use Rattle.papaya_owned.specs.Tries.{IsMet, Nearer, TriesTo}
@@ -33,8 +33,8 @@ returns-in-Done g c = λ hash chart blocks looks.
       c.shown_at.ensures,
     )
 
-pub tries-requires : goal.tries-requires
-tries-requires g c =
+pub tries-tried-requires : goal.tries-tried-requires
+tries-tried-requires g c =
     let r = c.requires in let i = c.loop-found.invariant in (
       r.0,
       r.1,
@@ -52,7 +52,7 @@ returns-in-Ends g c = λ hash chart blocks looks.
           (c.tries-tried.ensures.to hash chart blocks c.args.lookup
           (looks_on g.K.PartialEq.eq hash _ _ chart blocks _ _ _ (i.looks hash chart blocks looks) _ (not_done _ c.in-Goes.is)
           (steps_lent (g.Q.Equivalent.equivalent c.args.asked.now) c.loop-found.look c.loop-found.lookup _ i.look _ _ c.step.ensures).1).0),
-      subst (λ x. IsMet c.args.memory.now x _) c.in-Ends.is c.tries-tried.ensures.met,
+      subst (λ x. IsMet c.args.memory.now x (option_map (λ x. (x.0.now, x.1.now)) c.tries-tried.result.1)) c.in-Ends.is c.tries-tried.ensures.met,
     )
 
 pub most-left-requires-in-GoesBeyond : goal.most-left-requires-in-GoesBeyond

@@ -8,13 +8,13 @@ use Rattle.papaya_owned.specs.Looking.{LooksIn, at_try}
 use Rattle.papaya_owned.specs.Within.{within}
 use Rattle.papaya_owned.proofs.tries.tries.Given as goal
 
-abbrev pub invariant-loop-next : goal.invariant-loop-next
-invariant-loop-next g l = record {
+abbrev pub invariant-loop-met : goal.invariant-loop-met
+invariant-loop-met g l = record {
   looks : (hash : g.row.K.Denot → ℕ) (c : Chart g.row.K.Denot) (blocks : Blocks) (begun : Lookup) → LooksIn {V = g.row.V.Denot} g.K.PartialEq.eq hash (g.Q.Equivalent.equivalent l.asked) l.memory c blocks begun l.lookup
       → LooksIn {V = g.row.V.Denot} g.K.PartialEq.eq hash (g.Q.Equivalent.equivalent l.asked) l.memory c blocks begun (at_try l.lookup l.trial);
   nearer : (n : ℕ) → within (lookup_plan {V = g.row.V.Denot} (g.Q.Equivalent.equivalent l.asked)) n l.lookup l.memory ≡ true
       → (k : ℕ) × (k ≤ n) × (within (lookup_plan {V = g.row.V.Denot} (g.Q.Equivalent.equivalent l.asked)) k (at_try l.lookup l.trial) l.memory ≡ true);
 }
 
-abbrev pub decreases-loop-next : goal.decreases-loop-next
-decreases-loop-next g l = l.trial.table.limit - l.trial.probe.len
+abbrev pub decreases-loop-met : goal.decreases-loop-met
+decreases-loop-met g l = l.trial.table.limit - l.trial.probe.len

@@ -1,6 +1,6 @@
 -- It is a step of the lookup at this try.
-use Rattle.std.specs.Prelude.{◌≡◌, Some, IsSome}
-use Rattle.std.proofs.Common.{sym, ◌∙◌, subst}
+use Rattle.std.specs.Prelude.{◌≡◌, Some, IsSome, is_some}
+use Rattle.std.proofs.Common.{sym, ◌∙◌, ap, subst}
 use Rattle.seize_words.specs.Mem.{value_at}
 use Rattle.papaya_owned.proofs.Lookups.Tries.{found_at, try_sees, try_names, try_passes}
 use Rattle.papaya_owned.proofs.tries.try_at.Goals as goal
@@ -12,15 +12,16 @@ value-requires g c =
     (try_sees (g.Q.Equivalent.equivalent c.args.asked.now) c.args.memory.now c.args.lookup.now c.args.trial c.load-word.result
     (found_at _ _ c.look.ensures _ _ c.at.ensures _ c.load-word.ensures.0) c.requires (sym c.may_be.ensures ∙ c.if-may_be.true))
 
-pub returns : goal.returns
-returns g c =
+pub returns-clause-step : goal.returns-clause-step
+returns-clause-step g c =
     let keys = g.Q.Equivalent.equivalent c.args.asked.now in
     let found = found_at _ _ c.look.ensures _ _ c.at.ensures _ c.load-word.ensures.0 in
     elim c.if-may_be.branch [
       | then-may_be w ↦
-          try_names keys c.args.memory.now c.args.lookup.now c.args.trial c.load-word.result found c.seen.result c.if-may_be.same w.value.result.now (sym c.may_be.ensures ∙ w.if-may_be.true)
-          (subst (λ b. value_at c.args.memory.now b ≡ Some w.value.result.now) w.block_of.ensures w.value.ensures) (w.same-is ∙ w.asks_for-same.ensures) c.seen.ensures
+          try_names keys c.args.memory.now c.args.lookup.now c.args.trial c.load-word.result found c.seen-finding.result c.is_some.result w.value.result.now (sym c.may_be.ensures ∙ w.if-may_be.true)
+          (subst (λ b. value_at c.args.memory.now b ≡ Some w.value.result.now) w.block_of.ensures w.value.ensures) (c.is_some.ensures ∙ ap is_some w.met-is ∙ w.pair_asked-met.ensures.asks)
+          c.seen-finding.ensures
       | else-may_be w ↦
-          try_passes keys c.args.memory.now c.args.lookup.now c.args.trial c.load-word.result found c.seen.result c.if-may_be.same (sym c.may_be.ensures ∙ w.if-may_be.false)
-          (w.same-is ∙ w.if-may_be.false) c.seen.ensures
+          try_passes keys c.args.memory.now c.args.lookup.now c.args.trial c.load-word.result found c.seen-finding.result c.is_some.result (sym c.may_be.ensures ∙ w.if-may_be.false)
+          (c.is_some.ensures ∙ ap is_some w.met-is) c.seen-finding.ensures
     ]
