@@ -53,7 +53,7 @@ module _ {K V : Type 0} (m : Mem (Node K V)) where
   -- a word that may be none's shows its pair
   pub can_show : (word : Option ℕ) → is_named m word ≡ true → (shown : Option (K × V)) × IsShownAt m word shown
   can_show None is = (None, refl)
-  can_show (Some word) is = let n = names_a_pair word is in (Some (n.0, n.1), (n.0, n.1), refl, n.2)
+  can_show (Some word) is = let n = names_a_pair word is in (Some (n.0, n.1), ((n.0, n.1), refl, n.2))
 
   pub shows_in : (word : Option ℕ) (shown : Option (K × V)) → IsShownAt m word shown → shown ≡ pair_in m word
   shows_in None shown none = none ∙ sym none_in
