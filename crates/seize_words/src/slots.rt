@@ -22,8 +22,9 @@ pub fn place_of(slot: u64) -> (u64, u64)
     ensures place { IsPlace slot result.0 result.1 }
 {
     let number = slot + 32;
-    let bucket = u64::from(number.ilog2()) - 5;
-    (bucket, number - bucket_capacity(bucket))
+    let digits = number.ilog2();
+    // Without its first digit the number is the index.
+    (u64::from(digits) - 5, number ^ (1 << digits))
 }
 
 /// A place is one slot's, and a slot has one place.

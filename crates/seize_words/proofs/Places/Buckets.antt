@@ -2,7 +2,11 @@
 use Rattle.std.proofs.Common.{◌≡◌, ℕ, ◌+◌, ◌*◌, ◌-◌, ◌^◌, ◌<◌, ◌≤◌, ap, sym, ◌∙◌, arith, inl, inr}
 use Rattle.std.proofs.lemmas.Bool.{cases_lt}
 use Rattle.std.proofs.Math.Pow.{pow_mono}
-use Rattle.std.proofs.lemmas.Nat.{pow-add}
+use Rattle.std.specs.Prelude.{◌/◌, ◌%◌, bit_and, bit_xor}
+use Rattle.std.specs.Int.{bit_at}
+use Rattle.std.specs.Int.Bits.{xor_add_and}
+use Rattle.std.proofs.lemmas.Nat.Bits.{and_pow}
+use Rattle.std.proofs.lemmas.Nat.{div-mul-add, one_shl, pow-add}
 use Rattle.std.proofs.lemmas.Grind.{pow_more}
 use Rattle.seize_words.specs.Place.{capacity, IsPlace, HasOnePlace}
 
@@ -27,21 +31,25 @@ capacity-digits digits h =
     let e : 5 + (digits - 5) ≡ digits = omega arith in
     capacity-power (digits - 5) ∙ ap (λ k. 2 ^ k) e
 
-pub capacity_le : (slot digits bucket size : ℕ) → 2 ^ digits ≤ slot + 32 → slot + 32 < 2 * 2 ^ digits → bucket ≡ digits → size ≡ capacity (bucket - 5)
-    → size ≤ slot + 32
-capacity_le slot digits bucket size most below same is_size =
-    let five : 5 ≤ digits = five_le_digits digits (slot + 32) (omega arith) below in
-    let power : size ≡ 2 ^ digits = is_size ∙ ap (λ k. capacity (k - 5)) same ∙ capacity-digits digits five in
-    omega (arith, power)
+-- a number without its first digit
+pub without_first : (digits number : ℕ) → digits < 64 → 2 ^ digits ≤ number → number < 2 * 2 ^ digits
+    → bit_xor number (1 * 2 ^ digits % 2 ^ 64) + 2 ^ digits ≡ number
+without_first digits number small least below =
+    let split : number ≡ 1 * 2 ^ digits + (number - 2 ^ digits) = omega (arith, least) in
+    let one : number / 2 ^ digits ≡ 1 = ap (λ n. n / 2 ^ digits) split ∙ div-mul-add 1 (2 ^ digits) (number - 2 ^ digits) (omega (arith, least, below)) in
+    let set : bit_at number digits ≡ 1 = ap (λ n. n % 2) one in
+    let same : bit_and number (2 ^ digits) ≡ 2 ^ digits = and_pow number digits ∙ ap (λ n. n * 2 ^ digits) set ∙ omega arith in
+    ap (λ mask. bit_xor number mask + 2 ^ digits) (one_shl digits 64 small) ∙ omega (arith, xor_add_and number (2 ^ digits), same)
 
-pub is_place : (slot digits bucket size : ℕ) → 2 ^ digits ≤ slot + 32 → slot + 32 < 2 * 2 ^ digits → bucket ≡ digits → size ≡ capacity (bucket - 5)
-    → IsPlace slot (bucket - 5) (slot + 32 - size)
-is_place slot digits bucket size most below same is_size =
+pub is_place : (slot digits bucket : ℕ) → digits < 64 → 2 ^ digits ≤ slot + 32 → slot + 32 < 2 * 2 ^ digits → bucket ≡ digits
+    → IsPlace slot (bucket - 5) (bit_xor (slot + 32) (1 * 2 ^ digits % 2 ^ 64))
+is_place slot digits bucket small least below same =
     let five : 5 ≤ digits = five_le_digits digits (slot + 32) (omega arith) below in
-    let power : size ≡ 2 ^ digits = is_size ∙ ap (λ k. capacity (k - 5)) same ∙ capacity-digits digits five in
+    let power : capacity (bucket - 5) ≡ 2 ^ digits = ap (λ k. capacity (k - 5)) same ∙ capacity-digits digits five in
+    let rest = without_first digits (slot + 32) small least below in
     record {
-      within = omega (arith, power, is_size);
-      position = omega (arith, power, is_size);
+      within = omega (arith, power, rest, below);
+      position = omega (arith, power, rest);
     }
 
 -- a later bucket begins behind the end of an earlier one
