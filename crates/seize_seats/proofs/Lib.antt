@@ -4,6 +4,9 @@ pub mod Rows
 pub mod Ledgers
 pub mod Stretches
 pub mod Lendings
+pub mod Beside
+pub mod Strips
+pub mod Known
 pub mod Numbers
 pub mod Moves
 pub mod Hands
