@@ -2,6 +2,7 @@
 use Rattle.std.specs.Prelude.{slice_get}
 use Rattle.std.proofs.Common.{◌≡◌, ℕ, List, [], ◌∷◌, length, Some}
 use seplogic.Ra.Ura.{Ura}
+use base.Share
 use base.Stored.{Coded}
 use base.Logic.{SProp, ent, sep, ex, all, upd, apply∗, all_e, upd_i}
 use base.Fml.{Lft, Share, Fml, ftrue, fsep, flft, fbor, finv}
@@ -72,9 +73,9 @@ module _ {M : Type 1} {𝓤 : Ura M} (𝓛 : Logic 𝓤) (R : RattleType) {V W :
   pub comes_in : ⟦ E ⟧ ∗ ⟦ L ⟧ ⊢ ⟦ I ⟧
   comes_in = qed 𝓛 (‵ E ∷ ‵ L ∷ []) ∵ fpick ! (λ t. fsplit3 ! $ fsplit ! $ move ! (1 ∷ []) $ fpick ! (λ ss. fsplit3 ! $ move ! (1 ∷ []) $ fpick ! (λ are. drop ! $
       -- [the list; the strips; the words; the views; the facts; the share]
-      move ! (5 ∷ []) $ fpick ! (λ q. move ! (1 ∷ 0 ∷ []) $
+      move ! (5 ∷ []) $ fpick ! (λ q. move ! (1 ∷ []) $ fsplit ! $ move ! (0 ∷ 2 ∷ []) $
       use2 𝓛 (given (IsListed p z ss) (‵ (Book ss) ⊛ ‵ (Sh q))) (Ledgers.sits 𝓛 strip_coded z.strips_name no_strip ss z.place q (strip_of p z)) $
-      learn ! (λ at. split ! $ move ! (1 ∷ []) $ drop ! $
+      learn ! (λ at. split ! $ move ! (1 ∷ []) $ drop ! $ fjoin ! $
       nothing ! $ fpack ! (Are (IsListed p z) t ss) (λ _. ftrue) (are.0, at) $ move ! (1 ∷ 0 ∷ 2 ∷ []) $ fjoin3 ! $
       fpack ! (List Strip) (Listed (IsListed p z) t.parts.cells) ss $ move ! (1 ∷ 0 ∷ []) $ fjoin ! $ fjoin3 ! $
       fpack ! (Inside R.Denot V W) (standing R cv.code holds p z) t $ done !)))))

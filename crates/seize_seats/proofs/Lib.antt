@@ -16,6 +16,7 @@ pub mod Rewrites
 pub mod Lends
 pub mod Steps
 pub mod Opening
+pub mod Joining
 pub mod Meetings
 pub mod Renewal
 pub mod Shares

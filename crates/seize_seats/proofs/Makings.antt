@@ -1,6 +1,6 @@
 -- How a block comes and goes: a number is claimed, its place taken out, a block published, taken away, and its number is free again. Assumes `Logic`.
 use Rattle.std.specs.Prelude.{slice_get, slice_set}
-use Rattle.std.proofs.Common.{◌≡◌, ◌⊎◌, ℕ, zero, suc, ◌+◌, ◌-◌, ◌*◌, ◌^◌, ◌<◌, List, [], ◌∷◌, length, refl, sym, ap, ◌∙◌, subst, arith, inl, inr, Option, Some, None, Ok}
+use Rattle.std.proofs.Common.{◌≡◌, ◌⊎◌, ℕ, zero, suc, ◌+◌, ◌-◌, ◌*◌, ◌^◌, ◌<◌, ◌≤◌, List, [], ◌∷◌, length, refl, sym, ap, ◌∙◌, subst, arith, inl, inr, Option, Some, None, Ok}
 use Rattle.std.specs.Prelude.{bit_or, IsSome}
 use seplogic.Ra.Ura.{Ura}
 use base.Fraction.{full_share}

@@ -20,7 +20,7 @@ use Rattle.seize_seats.specs.Cells.{Cell, Free, Claimed, Out, Has, Held, block_i
 use Rattle.seize_seats.specs.Lines.{Parts, place_of, memory_of, IsWord, IsNoBlocks, AreLaid}
 use Rattle.seize_seats.specs.Strips.{Strip, AreStrips}
 use Rattle.seize_seats.specs.Laws.{noted}
-use Rattle.seize_seats.specs.Owned.{row, stride, resting, held, hand, under, strips, listed, all_strips, BaseId, age, strip_of, IsListed, IsIts, IsIn, place_in}
+use Rattle.seize_seats.specs.Owned.{row, stride, resting, held, hand, under, strips, listing, listed, all_strips, BaseId, age, strip_of, IsListed, IsIts, IsIn, place_in}
 use Rattle.seize_seats.proofs.Cells.{block_is, entries_lie, entries_are_apart, get_some}
 use Rattle.seize_seats.proofs.Columns.{words_lie, words_are_apart}
 use Rattle.seize_seats.proofs.Rows.{row_at}
@@ -82,14 +82,17 @@ module _ {M : Type 1} {𝓤 : Ura M} (𝓛 : Logic 𝓤) (R : RattleType) (p : P
   pub celled : (ws : List ℕ) (cs : List (Cell R.Denot)) (i : ℕ) (c : Cell R.Denot) → IsIts z i → cell_at cs i ≡ c
       → ent 𝓤 ⟦ Ws ws cs ⟧ (sep 𝓤 ⟦ cell_of i c ⟧ (all 𝓤 (Recells ws cs i)))
   celled ws cs i c of has = qed 𝓛 (‵ (Fixed ws) ∷ ‵ (All cs) ∷ []) ∵ move ! (1 ∷ []) $ fpick ! (λ ss. fsplit3 ! $ move ! (1 ∷ []) $ fpick ! (λ are. drop ! $
-      let P = Strips.Puts 𝓛 R α z.hands_name lent had ss cs 0 (strip_of p z) i in
+      let P = Strips.Puts 𝓛 R α z.hands_name lent had ss cs 0 (strip_of p z) i in let same : i - 0 ≡ i = omega arith in
       let Of : List (Cell R.Denot) → Fml = strips R α z.hands_name lent had ss in
       -- [the list; the strips; the words]
       move ! (1 ∷ []) $ use1 𝓛 (‵ (cell_of i c) ⊛ raw (all 𝓤 P))
-      (Strips.strips_at 𝓛 R α z.hands_name lent had ss cs 0 (length cs) z.place i (strip_of p z) c are.0 (omega arith) are.1 of has) $ split ! $ frame ! $
+      (Strips.strips_at 𝓛 R α z.hands_name lent had ss cs 0 (length cs) z.place i (strip_of p z) c are.0 (omega arith) are.1 of
+      (ap (cell_at cs) same ∙ has)) $ split ! $ frame ! $
       -- [the others; the list; the words]
       each ! (Recells ws cs i) (λ d. use1 𝓛 (raw (P d)) (all_e 𝓤 P d) $ assume ! (‵ (cell_of i d)) $
-      use2 𝓛 (‵ (Of (set cs i d))) (apply∗ 𝓤 ⟦ cell_of i d ⟧ ⟦ Of (set cs i d) ⟧) $
+      use2 𝓛 (‵ (Of (set cs (i - 0) d))) (apply∗ 𝓤 ⟦ cell_of i d ⟧ ⟦ Of (set cs (i - 0) d) ⟧) $
+      rewrite ! 0 (λ (k : ℕ). ‵ (Of (set cs k d))) same refl $
+      rewrite ! 1 (λ (n : ℕ). ‵ (listing R α z.hands_name lent had z.strips_name ss n)) (sym (length-set cs i d)) refl $
       let still : AreStrips 0 ss (length (set cs i d)) = subst (AreStrips 0 ss) (sym (length-set cs i d)) are.0 in
       nothing ! $ fpack ! (Are (set cs i d) ss) (λ _. ftrue) (still, are.1) $ move ! (2 ∷ 0 ∷ 1 ∷ []) $ fjoin3 ! $
       fpack ! (List Strip) (listed R α z.hands_name lent had z.strips_name (IsListed p z) (set cs i d)) ss $ move ! (1 ∷ 0 ∷ []) $ fjoin ! $ done !)))

@@ -40,7 +40,7 @@ column_zeros zero ws o none = refl
 column_zeros (suc k) ws o none = let first = none o in let rest = column_zeros k ws (o + 16) none in cc (first, rest)
 
 -- five words for each number
-abbrev fives : ℕ → List ℕ
+abbrev pub fives : ℕ → List ℕ
 fives zero = []
 fives (suc n) = 0 ∷ 0 ∷ 0 ∷ 0 ∷ 0 ∷ fives n
 
@@ -76,10 +76,11 @@ module _ {M : Type 1} {𝓤 : Ura M} (𝓛 : Logic 𝓤) (R : RattleType) (α : 
   abbrev free : ℕ → List (Cell R.Denot)
   free n = replicate n Free
 
-  builds : (b b' n i o o' : ℕ) → ent 𝓤 (sep 𝓤 (sem 𝓛 (row b o (fives n))) (sep 𝓤 (sem 𝓛 (places R b' o' (replicate n None))) (sem 𝓛 (Unborn i))))
-      (sem 𝓛 (numbers R α δ lent had b o b' o' i (free n)))
-  builds b b' zero i o o' = qed 𝓛 (‵ ftrue ∷ ‵ ftrue ∷ ‵ (Unborn i) ∷ []) ∵ keep ! (0 ∷ []) $ done !
-  builds b b' (suc n) i o o' =
+  pub builds : (b b' n i j o o' : ℕ) → j ≡ n + i → ent 𝓤 (sep 𝓤 (sem 𝓛 (row b o (fives n))) (sep 𝓤 (sem 𝓛 (places R b' o' (replicate n None))) (sem 𝓛 (Unborn i))))
+      (sep 𝓤 (sem 𝓛 (numbers R α δ lent had b o b' o' i (free n))) (sem 𝓛 (Unborn j)))
+  builds b b' zero i j o o' is = let same : i ≡ j = omega (arith, is) in qed 𝓛 (‵ ftrue ∷ ‵ ftrue ∷ ‵ (Unborn i) ∷ []) ∵
+      rewrite ! 2 (λ (k : ℕ). ‵ (Unborn k)) same refl $ keep ! (0 ∷ 2 ∷ []) $ done !
+  builds b b' (suc n) i j o o' is =
       let P : Fml = place R α δ b' o' None in let Ps : Fml = places R b' (o' + stride R) (replicate n None) in
       let at : o + 8 + 8 + 8 + 8 ≡ o + 32 = omega arith in let on : o + 8 + 8 + 8 + 8 + 8 ≡ o + 40 = omega arith in
       qed 𝓛 (‵ (row b o (fives (suc n))) ∷ ‵ (fsep P Ps) ∷ ‵ (Unborn i) ∷ []) ∵
@@ -91,10 +92,11 @@ module _ {M : Type 1} {𝓤 : Ura M} (𝓛 : Logic 𝓤) (R : RattleType) (α : 
         hand_coded.code resting,
       ))) $ split ! $
       -- [hand; hands; place; places; sign; the rest; w3; w2; w1; w0]
-      move ! (5 ∷ 3 ∷ 1 ∷ []) $ use3 𝓛 (‵ (numbers R α δ lent had b (o + 40) b' (o' + stride R) (suc i) (free n))) (builds b b' n (suc i) (o + 40) (o' + stride R)) $
-      -- [numbers; hand; place; sign; w3; w2; w1; w0]
+      move ! (5 ∷ 3 ∷ 1 ∷ []) $ use3 𝓛 (‵ (numbers R α δ lent had b (o + 40) b' (o' + stride R) (suc i) (free n)) ⊛ ‵ (Unborn j))
+      (builds b b' n (suc i) j (o + 40) (o' + stride R) (omega (arith, is))) $ split ! $ move ! (0 ∷ 2 ∷ 3 ∷ 4 ∷ 5 ∷ 6 ∷ 7 ∷ 8 ∷ 1 ∷ []) $
+      -- [numbers; hand; place; sign; w3; w2; w1; w0; hands]
       nothing ! $ move ! (5 ∷ 0 ∷ []) $ fjoin ! $ move ! (5 ∷ 0 ∷ []) $ fjoin ! $ move ! (5 ∷ 0 ∷ []) $ fjoin ! $ move ! (5 ∷ 0 ∷ []) $ fjoin ! $
-      -- [the entry; numbers; hand; place; sign]
+      -- [the entry; numbers; hand; place; sign; hands]
       move ! (0 ∷ 3 ∷ []) $ fjoin ! $ move ! (2 ∷ 0 ∷ []) $ fjoin ! $ move ! (2 ∷ 0 ∷ []) $ fjoin ! $ fjoin ! $ done !
 
   -- values that are owned, and not lent
@@ -285,9 +287,12 @@ module _ {M : Type 1} {𝓤 : Ura M} (𝓛 : Logic 𝓤) (R : RattleType) {V W :
         move ! (5 ∷ []) $ rewrite ! 0 (λ (us : List ℕ). ‵ (row b o us)) (zeros_are (long roots) count ws all none) refl $
         use1 𝓛 (‵ (row b o head) ⊛ ‵ (row b f (fives count))) (row_splits 𝓛 b head (fives count) o f (omega (arith, l))) $ split ! $
         -- [the first words; the others; the strip; the list; the hands; the views; the token; the places]
-        move ! (1 ∷ 7 ∷ 4 ∷ []) $ use3 𝓛 (‵ (N all_free)) (builds 𝓛 R α δ Lt Hd b b' count 0 f o') $
+        move ! (1 ∷ 7 ∷ 4 ∷ []) $ use3 𝓛 (‵ (N all_free) ⊛ ‵ (unborn hand_coded.code δ count resting)) (builds 𝓛 R α δ Lt Hd b b' count 0 count f o' (omega arith)) $ split ! $
         rewrite ! 0 (λ (cs : List (Cell R.Denot)). ‵ (N cs)) (sym same) refl $
-        -- [the numbers; the first words; the strip; the list; the views; the token]
+        rewrite ! 1 (λ (n : ℕ). ‵ (unborn hand_coded.code δ n resting)) (sym many) refl $
+        -- [the numbers; further hands; the first words; the strip; the list; the views; the token]
+        move ! (4 ∷ 1 ∷ []) $ fjoin ! $ move ! (1 ∷ 2 ∷ 3 ∷ 0 ∷ []) $
+        -- [the numbers; the first words; the strip; the list and the hands; the views; the token]
         nothing ! $ move ! (1 ∷ 0 ∷ []) $ fjoin ! $
         nothing ! $ fpack ! (AreStrips 0 (s ∷ []) (length all_free) × Unit {0}) (λ _. ftrue) ((refl, omega (arith, many)), tt) $
         -- [what is so; the numbers; the first words; the strip; the list; the views; the token]

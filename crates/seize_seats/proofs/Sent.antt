@@ -92,7 +92,7 @@ module _ (R : RattleType) (sent : IsSend (OptionOf R)) (synced : IsSync (OptionO
     (
       row_keyless (block_of k.fixed) (count_of k.fixed) t.parts.words,
       λ ss. (
-        ledger_keyless strip_coded.code k.strips_name no_strip ss,
+        (ledger_keyless strip_coded.code k.strips_name no_strip ss, entries_keyless shared_view k.hands_name (length t.parts.cells) _),
         (
           (λ _. tt),
           strips_keyless R sent (k.atom ∷ []) k.hands_name (lendable R (k.atom ∷ []) c k.views_name holds) (lendable_keyless R sent synced (k.atom ∷ []) c k.views_name holds)

@@ -20,7 +20,7 @@ take_set (suc n) [] i a = refl
 take_set (suc n) (x ∷ l) zero a = refl
 take_set (suc n) (x ∷ l) (suc i) a = ap (λ m. x ∷ m) (take_set n l i a)
 
-strips_up : (ss : List Strip) (i n : ℕ) → AreStrips i ss n → i ≤ n
+pub strips_up : (ss : List Strip) (i n : ℕ) → AreStrips i ss n → i ≤ n
 strips_up [] i n e = omega (arith, e)
 strips_up (s ∷ ss) i n e = let r = strips_up ss (i + s.size) n e.1 in omega (arith, r)
 

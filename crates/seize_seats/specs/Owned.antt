@@ -110,9 +110,13 @@ module _ (R : RattleType) (α : Lft) (δ : ℕ) where
     strips (s ∷ ss) cs =
         fsep (numbers (block_of s.words) (s.skip * 8 + count_of s.words) (block_of s.values) (count_of s.values) s.first (take s.size cs)) (strips ss (drop s.size cs))
 
-    -- with the list of the strips, which only grows; σ: its name; Known: what is known of it
+    -- the list of the strips, which only grows, and the hands of numbers that do not exist yet; σ: the name of the list
+    abbrev pub listing : ℕ → List Strip → ℕ → Fml
+    listing σ ss n = fsep (ledger strip_coded.code σ no_strip ss) (unborn hand_coded.code δ n resting)
+
+    -- with it; Known: what is known of the list
     abbrev pub listed : ℕ → (List Strip → Type 0) → List (Cell R.Denot) → List Strip → Fml
-    listed σ Known cs ss = fsep (ledger strip_coded.code σ no_strip ss) (fsep (fact (AreStrips 0 ss (length cs) × Known ss)) (strips ss cs))
+    listed σ Known cs ss = fsep (listing σ ss (length cs)) (fsep (fact (AreStrips 0 ss (length cs) × Known ss)) (strips ss cs))
 
     abbrev pub all_strips : ℕ → (List Strip → Type 0) → List (Cell R.Denot) → Fml
     all_strips σ Known cs = fex (List Strip) (listed σ Known cs)
