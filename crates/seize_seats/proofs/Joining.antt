@@ -7,7 +7,7 @@ use base.Share.{three_quarters}
 use base.Logic.{SProp, ent, sep, upd, upd_i}
 use base.Fml.{Lft, Fml, ftrue}
 use types.Logic.{Logic, sem}
-use types.Kit.{‵, raw, ◌⊛◌, ◌$◌, ◌∵◌, !, qed, by, move, keep, split, fsplit, fjoin, fjoin3, fpack, suffices, settle, use1, use2, use3, rewrite, done}
+use types.Kit.{‵, raw, ◌⊛◌, ◌$◌, ◌∵◌, !, qed, move, split, fsplit, fjoin, fjoin3, fpack, suffices, settle, use1, use2, use3, rewrite, done}
 use denote.RattleType.{RattleType}
 use denote.RawPtr.{block_of, count_of}
 use denote.Steps.{nothing}
@@ -114,7 +114,7 @@ module _ {M : Type 1} {𝓤 : Ura M} (𝓛 : Logic 𝓤) (R : RattleType) (α : 
         (upd 𝓤 (sep 𝓤 (sem 𝓛 Joined) (sem 𝓛 Sh)))
     joins = let Z : SProp 𝓤 = sep 𝓤 (sem 𝓛 Joined) (sem 𝓛 Sh) in let us : List Strip = ss ++ s ∷ [] in
         let long : length (more cs s.size) ≡ length cs + s.size = length-append cs (replicate s.size Free)
-            ∙ ap (λ (k : ℕ). length cs + k) (length-replicate {A = Cell R.Denot} s.size Free) in
+        ∙ ap (λ (k : ℕ). length cs + k) (length-replicate {A = Cell R.Denot} s.size Free) in
         let after = are_joined ss 0 (length cs) s are first in
         let still : AreStrips 0 us (length (more cs s.size)) = subst (AreStrips 0 us) (sym long) after in
         qed 𝓛 (‵ (listing R α δ lent had σ ss (length cs)) ∷ ‵ (All ss cs) ∷ ‵ Fives ∷ ‵ Nones ∷ []) ∵ fsplit ! $

@@ -1,6 +1,5 @@
 -- Whoever knows of a strip finds it among those of the invariant, as long as that is open. Assumes `Logic`.
-use Rattle.std.specs.Prelude.{slice_get}
-use Rattle.std.proofs.Common.{◌≡◌, ℕ, List, [], ◌∷◌, length, Some}
+use Rattle.std.proofs.Common.{ℕ, List, [], ◌∷◌, length}
 use seplogic.Ra.Ura.{Ura}
 use base.Share
 use base.Stored.{Coded}

@@ -1,13 +1,12 @@
 -- The value of a block comes back from its lendings, where it was taken away, and where a seat that has it to itself takes its value in the hand. Assumes
 -- `Logic`.
 use Rattle.std.specs.Prelude.{IsSome}
-use Rattle.std.proofs.Common.{◌≡◌, ◌≢◌, ◌⊎◌, inl, inr, ℕ, suc, ◌-◌, ◌<◌, ◌+◌, ◌*◌, Bool, true, false, List, [], ◌∷◌, sym, ap, ◌∙◌, subst, arith, None}
+use Rattle.std.proofs.Common.{◌≡◌, ◌≢◌, ◌⊎◌, inl, inr, ℕ, suc, ◌-◌, ◌+◌, Bool, true, false, [], ◌∷◌, sym, ap, ◌∙◌, subst, arith}
 use mathlib.Core.Logic.Or
 use mathlib.Core.HLevel.{⊥_prop}
 use mathlib.Core.List.{mem-cons, not-mem-nil}
 use seplogic.Ra.Ura.{Ura}
-use base.Fraction.{full_share}
-use base.Share.{quarter, three_quarters}
+use base.Share.{three_quarters}
 use base.Stored.{Coded}
 use base.Logic.{SProp, ent, sep, all, upd, emp, id⊢, via, upd_i}
 use base.Fml.{Lft, Share, Fml, ftrue, fsep, flft, fdead, fbor, fnamed}
@@ -16,16 +15,15 @@ use contract.BorrowLft.{meet_⊑_left, meet_⊑_right}
 use types.Logic.{Logic, sem}
 use types.Kit.{‵, raw, ◌⊛◌, given, later, ◌$◌, ◌∵◌, !, qed, by, move, keep, drop, split, split3, join, group, fsplit, fsplit3, fjoin, fpick, fpack, learn, frame, assume, suffices, settle, use0, use1, use2, use3, updating, await, now, done}
 use denote.RattleType.{RattleType}
-use denote.RawPtr.{Ptr, block_of, count_of}
+use denote.RawPtr.{Ptr}
 use denote.Steps.{nothing}
-use Rattle.core.specs.Sync.RawAtomic.{word}
 use Rattle.seize_words.specs.Mem.{value_in}
 use Rattle.seize_seats.specs.State.{State}
 use Rattle.seize_seats.specs.Cells.{Cell, Free, Claimed, Out, Has, Held, block_in, cell_at}
 use Rattle.seize_seats.specs.Seen.{seen}
 use Rattle.seize_seats.specs.Stretches.{IsEven, IsOfSeat, stretch_part, lasting, stretch, stretch_told}
 use Rattle.seize_seats.specs.Lendings.{Holder, Lending, ShownToBoth, AreShown, span, lending}
-use Rattle.seize_seats.specs.Owned.{Hand, resting, busy, held, zeros, row, had_here, BaseId, age, core_of, IsIts, is_listed, Inside, state_of, inner, everything}
+use Rattle.seize_seats.specs.Owned.{Hand, busy, held, BaseId, age, core_of, IsIts, is_listed, Inside, state_of, inner, everything}
 use Rattle.seize_seats.proofs.Cells.{block_is}
 use Rattle.seize_seats.proofs.Stretches.{one_seat}
 use Rattle.seize_seats.proofs.Stretches as Stretches

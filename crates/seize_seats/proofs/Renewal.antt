@@ -1,5 +1,5 @@
 -- The memory goes into another lifetime: what was lent is back, all seats have ended, and the rule holds of it with no seat. Assumes `Logic`.
-use Rattle.std.proofs.Common.{◌≡◌, ℕ, suc, ◌+◌, ◌*◌, List, [], ◌∷◌, take, drop, refl}
+use Rattle.std.proofs.Common.{ℕ, suc, ◌+◌, ◌*◌, List, [], ◌∷◌, take, drop, refl}
 use seplogic.Ra.Ura.{Ura}
 use base.Stored.{Coded}
 use base.Logic.{SProp, ent, sep, ex, guard, via, never, never_e, guard_i, ex_i}

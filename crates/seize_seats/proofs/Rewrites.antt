@@ -11,7 +11,7 @@ use base.Logic.{SProp, ent, sep, ex, all, upd, emp, apply∗, all_e, upd_i}
 use base.Fml.{Lft, Share, Fml, ftrue, fsep, fex, flft}
 use types.Keyed.{entries_from, entries_new, entries_take}
 use types.Logic.{Logic, sem}
-use types.Kit.{‵, raw, ◌⊛◌, some as items, given, ◌$◌, ◌∵◌, !, qed, move, keep, drop, split, split3, fsplit, fsplit3, fjoin, fjoin3, fpick, fpack, pick, learn, frame, suffices, settle, use0, use1, use2, use3, rewrite, done}
+use types.Kit.{‵, raw, ◌⊛◌, some as items, given, ◌$◌, ◌∵◌, !, qed, move, keep, drop, split, split3, fsplit, fsplit3, fjoin, fpick, fpack, pick, learn, frame, suffices, settle, use0, use1, use2, use3, rewrite, done}
 use denote.RattleType.{RattleType}
 use denote.RawPtr.{Ptr, block_of, count_of}
 use denote.Steps.{nothing}
@@ -20,13 +20,13 @@ use Rattle.seize_words.specs.Mem.{Mem, value_at, value_in, with_block, with_valu
 use Rattle.seize_words.specs.Op.{Rewrite, Taken}
 use Rattle.seize_words.specs.Op as Op
 use Rattle.seize_words.specs.declared.block.Block.{Block}
-use Rattle.seize_seats.specs.State.{State, Goes, Allows, Owns, view_of}
+use Rattle.seize_seats.specs.State.{State, Goes, Allows, Owns}
 use Rattle.seize_seats.specs.State as State
 use Rattle.seize_seats.specs.Cells.{Cell, Free, Claimed, Out, Has, Held, block_in, blocks_in, cell_at}
 use Rattle.seize_seats.specs.Lines.{Parts, memory_of, AreLaid}
 use Rattle.seize_seats.specs.Lendings.{Alone, note}
 use Rattle.seize_seats.specs.Seen.{itself, shared_view, seen}
-use Rattle.seize_seats.specs.Owned.{fact, Hand, hand_coded, resting, busy, held, zeros, row, stride, had_here, BaseId, age, IsIts, Inside, state_of, inner}
+use Rattle.seize_seats.specs.Owned.{fact, Hand, hand_coded, resting, held, row, stride, had_here, BaseId, age, IsIts, Inside, state_of, inner}
 use Rattle.seize_seats.proofs.Cells.{recelled, laid_with, block_is, blocks_set, was_given}
 use Rattle.seize_seats.proofs.Numbers as Numbers
 use Rattle.seize_seats.proofs.Ledgers as Ledgers

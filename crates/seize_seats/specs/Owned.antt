@@ -19,7 +19,7 @@ use Rattle.seize_seats.specs.State.{State}
 use Rattle.seize_seats.specs.Stretches.{IsEven, invariant}
 use Rattle.seize_seats.specs.Cells.{Cell, Free, Claimed, Out, Has, Held, sign_of}
 use Rattle.seize_seats.specs.Lines.{Parts, long, place_of, memory_of, AreLaid}
-use Rattle.seize_seats.specs.Strips.{Strip, strip_coded, no_strip, IsOf, AreStrips}
+use Rattle.seize_seats.specs.Strips.{Strip, strip_coded, no_strip, AreStrips}
 use Rattle.seize_words.specs.declared.at.At.{At}
 use Rattle.seize_words.specs.declared.at.At.TheVariants.{Root, Used, Slot, Entry, Word}
 

@@ -26,7 +26,7 @@ use Rattle.core.proofs.atomic.Steps.{Ptr-Good}
 use Rattle.std.proofs.raw_atomic.Walks.{proved, leaves}
 use Rattle.seize_seats.specs.Lines.{whole as all_words}
 use Rattle.core.specs.contracts.option.Option.{the_row as OptionOf}
-use Rattle.seize_seats.specs.Owned.{BaseId, IsPlaced, IsFirst, words_own, stride, places}
+use Rattle.seize_seats.specs.Owned.{BaseId, IsPlaced, IsFirst, stride, places}
 use Rattle.seize_seats.specs.Owned as Owned
 use Rattle.seize_blocks.specs.contracts.words.Words as words
 use Rattle.seize_blocks.specs.contracts.row.Row as row
