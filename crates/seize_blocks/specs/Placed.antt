@@ -1,16 +1,22 @@
 -- Where the word of a name is looked for, and places that are all full.
-use Rattle.std.specs.Prelude.{◌≡◌, ℕ, ◌+◌, ◌*◌, ◌<◌, ◌^◌, Bool, true, List, replicate}
+use Rattle.std.specs.Prelude.{◌≡◌, ℕ, ◌+◌, ◌-◌, ◌*◌, ◌<◌, ◌≤◌, ◌^◌, Bool, true, List, replicate}
+use denote.RawPtr.{Ptr}
 use Rattle.seize_words.specs.declared.at.At.{At}
-use Rattle.seize_seats.specs.Lines.{place_of, long, IsWord}
-use Rattle.seize_seats.specs.Owned.{BaseId}
+use Rattle.seize_seats.specs.Lines.{IsWord}
+use Rattle.seize_seats.specs.Owned.{BaseId, IsIts, IsIn, place_in}
 
 -- the place is that of the name, if there is such a word, and in any case a small number
-abbrev pub IsItsPlace : BaseId → At → ℕ → Type 0
-IsItsPlace z at place = (IsWord z.roots z.count at → place ≡ place_of z.roots at) × (place < 2 ^ 60)
+abbrev pub IsItsPlace : Ptr → BaseId → At → ℕ → Type 0
+IsItsPlace p z at place = (IsWord z.roots z.count at → IsIn p z at × (place ≡ place_in z at)) × (place < 2 ^ 60)
 
 -- there is such a number, and its sign lies at the place
 abbrev pub IsItsSign : BaseId → ℕ → ℕ → Type 0
-IsItsSign z index place = (place ≡ index * 5 + long z.roots + 4) × (place < 2 ^ 60) × (index < z.count)
+IsItsSign z index place = (place ≡ (index - z.first) * 5 + z.skip + 4) × (place < 2 ^ 60) × IsIts z index
+
+-- the number of a block is one of these, if there is such a number, and this is its index among them
+abbrev pub IsItsIndex : BaseId → ℕ → ℕ → Type 0
+IsItsIndex z block index =
+    (0 < block → block ≤ z.count → IsIts z (block - 1)) × (0 < block → IsIts z (block - 1) → index ≡ block - 1 - z.first)
 
 -- of so many places each is full
 abbrev pub all_full : ℕ → List Bool

@@ -3,8 +3,9 @@ ghost use Rattle.std.specs.Prelude.{◌≡◌, ◌+◌, ◌-◌, ◌*◌, ◌≤
 ghost use Rattle.seize_words.specs.Op.{Load, Store, Swap, Add, Or, Exchange, Make, Take, Rewrite, Room, Found, Stored, Exchanged, Made, Taken, Roomed};
 ghost use Rattle.seize_seats.specs.State.{Allows, Owns, Turns, Comes, Meets, Renews};
 ghost use Rattle.seize_seats.specs.Lines.{long};
+ghost use Rattle.seize_seats.specs.Owned.{IsFirst};
 ghost use Rattle.seize_seats.specs.Lendings.{Shown, ShownToBoth, IsValueOf, IsValueOfBoth};
-ghost use Rattle.seize_blocks.specs.Placed.{IsItsPlace};
+ghost use Rattle.seize_blocks.specs.Placed.{IsItsPlace, IsItsIndex};
 
 use crate::claim::Claim;
 use crate::place::Place;
@@ -25,13 +26,14 @@ pub struct Blocks<T, R: Rule<T>> {
     pub(crate) next: AtomicU64,
     ghost counted: { (words.id.roots ≡ roots) × (words.id.count ≡ count) },
     ghost lies: { words.id.values ≡ values.at },
+    ghost strip: { IsFirst words.words words.id × (words.id.size ≡ count) },
     ghost few: { (roots ≤ 65536) × (count ≤ 2 ^ 32) },
 }
 
 impl<T, R: Rule<T>> Blocks<T, R> {
     /// Where the word of a name lies.
     fn place_of(&self, at: At) -> u64
-        ensures { IsItsPlace self.now.words.id at result }
+        ensures { IsItsPlace self.now.words.words self.now.words.id at result }
     {
         match at {
             At::Root(root) if root < self.roots => root * 16,
@@ -55,7 +57,7 @@ impl<T, R: Rule<T>> Blocks<T, R> {
 
     /// The index of a number, if there is such a block.
     fn index_of(&self, block: u64) -> u64
-        ensures { (result < 2 ^ 32) × (0 < block → block ≤ self.now.words.id.count → result ≡ block - 1) }
+        ensures { (result < 2 ^ 32) × IsItsIndex self.now.words.id block result }
     {
         if block > 0 && block <= self.count {
             block - 1

@@ -2,11 +2,11 @@
 ghost use Rattle.std.specs.Prelude.{◌≡◌, ℕ, ◌+◌, ◌-◌, ◌*◌, ◌^◌, ◌<◌, ◌≤◌, Some, None, Ok, Err, length, slice_index, slice_index_or};
 ghost use Rattle.seize_words.specs.Op.{Load, Store, Swap, Add, Or, Exchange, Make, Take, Rewrite, Room, Found, Stored, Exchanged, Made, Taken, Roomed};
 ghost use Rattle.seize_seats.specs.State.{Allows, Owns, Turns, Comes, Meets, Renews, Starts};
-ghost use Rattle.seize_seats.specs.Lines.{whole, long};
+ghost use Rattle.seize_seats.specs.Lines.{whole};
 ghost use Rattle.seize_seats.specs.Steps.{roomed};
 ghost use Rattle.seize_seats.specs.Lendings.{ShownToBoth, IsValueOfBoth};
-ghost use Rattle.seize_seats.specs.Owned.{BaseId, base_id_coded, words_own, words_share};
-ghost use Rattle.seize_blocks.specs.Placed.{IsItsPlace, IsItsSign};
+ghost use Rattle.seize_seats.specs.Owned.{BaseId, base_id_coded, IsFirst, IsLike, words_own, words_share};
+ghost use Rattle.seize_blocks.specs.Placed.{IsItsPlace, IsItsSign, IsItsIndex};
 
 use crate::claim::Claim;
 use crate::place::Place;
@@ -18,7 +18,7 @@ use std::marker::{Brand, Model, PhantomData};
 use std::sync::atomic::Ordering::SeqCst;
 use std::sync::atomic::raw;
 
-/// The words of roots and slots.
+/// Words, and places for values, by one strip of the numbers of a memory.
 pub struct Words<T, R: Rule<T>> {
     pub(crate) words: *mut u64,
     marker: PhantomData<(T, R)>,
@@ -44,7 +44,7 @@ impl<T, R: Rule<T>> Words<T, R> {
         requires { ((k : ℕ) → slice_index row.items k ≡ 0) × (length row.items ≡ whole _roots _count) × Starts (R.holds fixed.now) _roots
             × ((k : ℕ) → slice_index_or values.items k None ≡ None) × (length values.items ≡ _count) }
         ensures { (result.0.words ≡ row.at) × (result.0.id.roots ≡ _roots) × (result.0.id.count ≡ _count) × (result.0.id.values ≡ values.at)
-            × (result.0.fixed ≡ fixed.now) × (result.1.at ≡ values.at) }
+            × (result.0.id.size ≡ _count) × IsFirst row.at result.0.id × (result.0.fixed ≡ fixed.now) × (result.1.at ≡ values.at) }
     {
         let Row { at } = row;
         let Row { at: places } = values;
@@ -59,9 +59,9 @@ impl<T, R: Rule<T>> Words<T, R> {
 
     /// The words and the values come back from under the rule.
     pub(crate) fn close(self, values: *mut Option<T>) -> (Row<u64>, Row<Option<T>>)
-        requires { values ≡ self.id.values }
-        ensures { (result.0.at ≡ self.words) × (length result.0.items ≡ whole self.id.roots self.id.count) × (result.1.at ≡ values)
-            × (length result.1.items ≡ self.id.count) }
+        requires { (values ≡ self.id.values) × IsFirst self.words self.id }
+        ensures { (result.0.at ≡ self.words) × (length result.0.items ≡ whole self.id.roots self.id.size) × (result.1.at ≡ values)
+            × (length result.1.items ≡ self.id.size) }
     {
         let Words { words, marker: _ } = self;
         (Row { at: words }, Row { at: values })
@@ -95,8 +95,7 @@ impl<T, R: Rule<T>> Words<T, R> {
     /// All seats end.
     pub fn renew(&mut self)
         requires { Renews (R.holds self.old.fixed) }
-        ensures { (self.new.words ≡ self.old.words) × (self.new.fixed ≡ self.old.fixed) × (self.new.id.roots ≡ self.old.id.roots)
-            × (self.new.id.count ≡ self.old.id.count) × (self.new.id.values ≡ self.old.id.values) × (self.new.id.hands_name ≡ self.old.id.hands_name) }
+        ensures { (self.new.words ≡ self.old.words) × (self.new.fixed ≡ self.old.fixed) × IsLike self.new.id self.old.id }
     {}
 
     /// Tries to claim a number, whose sign lies at this place: it was free where 0 is found.
@@ -108,7 +107,7 @@ impl<T, R: Rule<T>> Words<T, R> {
         (found, Claim { found })
     }
 
-    /// Makes a block of a value, without words of its own, under a number that was claimed.
+    /// Makes a block of a value, without words of its own, under a number that was claimed: the index-th of these.
     pub(crate) fn put(
         &self,
         seat: &mut Seat<T, R>,
@@ -118,12 +117,12 @@ impl<T, R: Rule<T>> Words<T, R> {
         value: T,
         _words: u64,
     )
-        requires { (seat.old.base ≡ self.now.id.views_name) × (claim.base ≡ self.now.id.hands_name) × (claim.found ≡ 0) × (claim.index ≡ index)
-            × (index < self.now.id.count) × (index + 1 < 2 ^ 53) × (values ≡ self.now.id.values)
+        requires { (seat.old.base ≡ self.now.id.views_name) × (claim.base ≡ self.now.id.hands_name) × (claim.found ≡ 0) × (claim.index ≡ self.now.id.first + index)
+            × (index < self.now.id.size) × (self.now.id.first + index + 1 < 2 ^ 53) × (values ≡ self.now.id.values)
             × (_words ≡ 0)
             × Allows (R.holds self.now.fixed) R.keeps seat.old.id seat.old.view (Make value _words) (R.then seat.old.view (Make value _words)) }
         ensures { (seat.new.base ≡ seat.old.base) × (seat.new.id ≡ seat.old.id)
-            × R.then seat.old.view (Make value _words) (Made (Ok (index + 1))) seat.new.view }
+            × R.then seat.old.view (Make value _words) (Made (Ok (self.now.id.first + index + 1))) seat.new.view }
     {
         let Claim { found: _ } = claim;
         unsafe { values.add(index as usize).write(Some(value)) }
@@ -142,9 +141,9 @@ impl<T, R: Rule<T>> Words<T, R> {
         fourth: u64,
         sign: u64,
     ) -> Option<T>
-        requires { (seat.old.base ≡ self.now.id.views_name) × (0 < block → block ≤ self.now.id.count → index ≡ block - 1)
+        requires { (seat.old.base ≡ self.now.id.views_name) × IsItsIndex self.now.id block index
             × (values ≡ self.now.id.values)
-            × (first ≡ index * 5 + long self.now.id.roots) × (second ≡ first + 1) × (third ≡ first + 2) × (fourth ≡ first + 3) × (sign ≡ first + 4)
+            × (first ≡ index * 5 + self.now.id.skip) × (second ≡ first + 1) × (third ≡ first + 2) × (fourth ≡ first + 3) × (sign ≡ first + 4)
             × (sign < 2 ^ 60)
             × Allows (R.holds self.now.fixed) R.keeps seat.old.id seat.old.view (Take block) (R.then seat.old.view (Take block)) }
         ensures { (seat.new.base ≡ seat.old.base) × (seat.new.id ≡ seat.old.id) × ((x : T) × (result ≡ Some x) × R.then seat.old.view (Take block) (Taken x) seat.new.view) }
@@ -172,7 +171,7 @@ impl<T, R: Rule<T>> Words<T, R> {
         values: *mut Option<T>,
         value: T,
     ) -> Option<T>
-        requires { (seat.old.base ≡ self.now.id.views_name) × (0 < block → block ≤ self.now.id.count → index ≡ block - 1)
+        requires { (seat.old.base ≡ self.now.id.views_name) × IsItsIndex self.now.id block index
             × (values ≡ self.now.id.values)
             × Owns (R.holds self.now.fixed) R.keeps seat.old.id seat.old.view block
             × Allows (R.holds self.now.fixed) R.keeps seat.old.id seat.old.view (Rewrite block value) (R.then seat.old.view (Rewrite block value)) }
@@ -196,7 +195,7 @@ impl<T, R: Rule<T>> Words<T, R> {
         values: *mut Option<T>,
     ) -> &'g Option<T>
         requires { (guard.now.base ≡ self.now.id.views_name) × (owner.now.base ≡ self.now.id.views_name)
-            × (0 < _block → _block ≤ self.now.id.count → index ≡ _block - 1) × (values ≡ self.now.id.values)
+            × IsItsIndex self.now.id _block index × (values ≡ self.now.id.values)
             × ShownToBoth (R.holds self.now.fixed) guard.now.id guard.now.view owner.now.id owner.now.view _block }
         ensures { (x : T) × (result.now ≡ Some x)
             × IsValueOfBoth (R.holds self.now.fixed) guard.now.id guard.now.view owner.now.id owner.now.view _block x }
@@ -222,7 +221,7 @@ impl<T, R: Rule<T>> Words<T, R> {
 
     /// Reads the word of a name, which lies at this place.
     pub fn load(&self, seat: &mut Seat<T, R>, at: &At, place: u64) -> u64
-        requires { (seat.old.base ≡ self.now.id.views_name) × IsItsPlace self.now.id at.now place
+        requires { (seat.old.base ≡ self.now.id.views_name) × IsItsPlace self.now.words self.now.id at.now place
             × Allows (R.holds self.now.fixed) R.keeps seat.old.id seat.old.view (Load at.now) (R.then seat.old.view (Load at.now)) }
         ensures { (seat.new.base ≡ seat.old.base) × (seat.new.id ≡ seat.old.id)
             × R.then seat.old.view (Load at.now) (Found result) seat.new.view }
@@ -232,7 +231,7 @@ impl<T, R: Rule<T>> Words<T, R> {
 
     /// Writes the word of a name.
     pub fn store(&self, seat: &mut Seat<T, R>, at: &At, place: u64, word: u64)
-        requires { (seat.old.base ≡ self.now.id.views_name) × IsItsPlace self.now.id at.now place
+        requires { (seat.old.base ≡ self.now.id.views_name) × IsItsPlace self.now.words self.now.id at.now place
             × Allows (R.holds self.now.fixed) R.keeps seat.old.id seat.old.view (Store at.now word) (R.then seat.old.view (Store at.now word)) }
         ensures { (seat.new.base ≡ seat.old.base) × (seat.new.id ≡ seat.old.id)
             × R.then seat.old.view (Store at.now word) Stored seat.new.view }
@@ -242,7 +241,7 @@ impl<T, R: Rule<T>> Words<T, R> {
 
     /// Writes the word of a name, and answers the one before.
     pub fn swap(&self, seat: &mut Seat<T, R>, at: &At, place: u64, word: u64) -> u64
-        requires { (seat.old.base ≡ self.now.id.views_name) × IsItsPlace self.now.id at.now place
+        requires { (seat.old.base ≡ self.now.id.views_name) × IsItsPlace self.now.words self.now.id at.now place
             × Allows (R.holds self.now.fixed) R.keeps seat.old.id seat.old.view (Swap at.now word) (R.then seat.old.view (Swap at.now word)) }
         ensures { (seat.new.base ≡ seat.old.base) × (seat.new.id ≡ seat.old.id)
             × R.then seat.old.view (Swap at.now word) (Found result) seat.new.view }
@@ -252,7 +251,7 @@ impl<T, R: Rule<T>> Words<T, R> {
 
     /// Adds to the word of a name, round at 2^64, and answers the one before.
     pub fn add(&self, seat: &mut Seat<T, R>, at: &At, place: u64, by: u64) -> u64
-        requires { (seat.old.base ≡ self.now.id.views_name) × IsItsPlace self.now.id at.now place
+        requires { (seat.old.base ≡ self.now.id.views_name) × IsItsPlace self.now.words self.now.id at.now place
             × Allows (R.holds self.now.fixed) R.keeps seat.old.id seat.old.view (Add at.now by) (R.then seat.old.view (Add at.now by)) }
         ensures { (seat.new.base ≡ seat.old.base) × (seat.new.id ≡ seat.old.id)
             × R.then seat.old.view (Add at.now by) (Found result) seat.new.view }
@@ -262,7 +261,7 @@ impl<T, R: Rule<T>> Words<T, R> {
 
     /// Sets bits of the word of a name, and answers the one before.
     pub fn or(&self, seat: &mut Seat<T, R>, at: &At, place: u64, bits: u64) -> u64
-        requires { (seat.old.base ≡ self.now.id.views_name) × IsItsPlace self.now.id at.now place
+        requires { (seat.old.base ≡ self.now.id.views_name) × IsItsPlace self.now.words self.now.id at.now place
             × Allows (R.holds self.now.fixed) R.keeps seat.old.id seat.old.view (Or at.now bits) (R.then seat.old.view (Or at.now bits)) }
         ensures { (seat.new.base ≡ seat.old.base) × (seat.new.id ≡ seat.old.id)
             × R.then seat.old.view (Or at.now bits) (Found result) seat.new.view }
@@ -279,7 +278,7 @@ impl<T, R: Rule<T>> Words<T, R> {
         old: u64,
         new: u64,
     ) -> Result<u64, u64>
-        requires { (seat.old.base ≡ self.now.id.views_name) × IsItsPlace self.now.id at.now place
+        requires { (seat.old.base ≡ self.now.id.views_name) × IsItsPlace self.now.words self.now.id at.now place
             × Allows (R.holds self.now.fixed) R.keeps seat.old.id seat.old.view (Exchange at.now old new) (R.then seat.old.view (Exchange at.now old new)) }
         ensures { (seat.new.base ≡ seat.old.base) × (seat.new.id ≡ seat.old.id)
             × R.then seat.old.view (Exchange at.now old new) (Exchanged result) seat.new.view }

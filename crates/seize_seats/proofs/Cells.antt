@@ -132,13 +132,13 @@ module _ {T : Type 0} (roots count : ℕ) (s : Parts T) (laid : AreLaid roots co
   abbrev pub recelled : ℕ → Parts T
   recelled given = record { words = s.words; slots = s.slots; cells = slice_set s.cells i c; given = given }
 
-  pub laid_with : (given : ℕ) → s.given ≤ given → given ≤ count → (block_in c ≡ None) ⊎ (i < given)
+  pub laid_with : (given : ℕ) → s.given ≤ given → given ≤ length s.cells → (block_in c ≡ None) ⊎ (i < given)
       → ((x : Block T) → block_in c ≡ Some x → length x.entry ≡ 4) → AreLaid roots count (recelled given)
   laid_with given more le free four = record {
     all = laid.all;
     slots_are = laid.slots_are;
-    counted = length-set s.cells i c ∙ laid.counted;
-    within = le;
+    counted = let l = length-set s.cells i c in let n = laid.counted in omega (arith, l, n);
+    within = let l = length-set s.cells i c in omega (arith, l, le);
     rest = λ k h. rest k h (cases_eq k i);
     fours = λ k x e. fours k x e (cases_eq k i);
   }
@@ -192,7 +192,7 @@ entries_lie T roots count s b i w laid e = let low = numbered b e in
     by low None is e = absurd (cc e)
     by low (Some x) is e =
         let lt = was_given roots count s laid (b - 1) x is in let small = get_some x.entry i w e in let four = laid.fours (b - 1) x is in
-        let within = laid.within in ((low, omega (arith, lt, within), omega (arith, small, four)), ap (λ (y : Option (Block T)). entry_in y i) is ∙ e)
+        let within = laid.within in let few = laid.counted in ((low, omega (arith, lt, within, few), omega (arith, small, four)), ap (λ (y : Option (Block T)). entry_in y i) is ∙ e)
 
 -- another word of the entry is one of the block
 pub noted_is : {T : Type 0} (c : Cell T) (i w : ℕ) → block_in (noted_in c i w) ≡ with_entry (block_in c) i w

@@ -30,8 +30,8 @@ use Rattle.seize_seats.specs.Cells.{Cell, Has, block_in}
 use Rattle.seize_seats.specs.Seen.{shared_view, number_share_coded}
 use Rattle.seize_seats.specs.Stretches.{stretch_told, seat_shares}
 use Rattle.seize_seats.specs.Lendings.{Phase, Begins, Lasts, Over as Ended, part, due, in_phase, account, Holder, Lending, Loan, Left, span, ShownToBoth, AreShown, IsValueOfBoth, loan}
-use Rattle.seize_seats.specs.Owned.{stride, BaseId, age, Inside, state_of, inner, words_share}
-use Rattle.seize_seats.proofs.Cells.{block_is, cell_beyond}
+use Rattle.seize_seats.specs.Owned.{stride, BaseId, age, IsIts, Inside, state_of, inner, words_share}
+use Rattle.seize_seats.proofs.Cells.{block_is}
 use Rattle.seize_seats.proofs.Ledgers as Ledgers
 use Rattle.seize_seats.proofs.Numbers as Numbers
 use Rattle.seize_seats.proofs.Moves as Moves
@@ -82,7 +82,8 @@ module _ {M : Type 1} {𝓤 : Ura M} (𝓛 : Logic 𝓤) where
         (𝓛.invs.inv_acc Ac (A.lft μ s))
 
   module _ (R : RattleType) (L : RowLaws (OptionOf R)) {V W : Type 0} (cv : Coded V) (holds : State R.Denot V W → Type 0) (keeps : V → V → W → ℕ
-      → Type 0) (p : Ptr) (z : BaseId) (g o : Holder V) (n : ℕ) (shown : ShownToBoth holds g.seat g.view o.seat o.view n) where
+      → Type 0) (p : Ptr) (z : BaseId) (g o : Holder V) (n : ℕ) (shown : ShownToBoth holds g.seat g.view o.seat o.view n)
+      (mine : Makings.Mine 𝓛 R cv holds keeps p z n) where
     abbrev α : Lft
     α = age z
 
@@ -105,7 +106,7 @@ module _ {M : Type 1} {𝓤 : Ura M} (𝓛 : Logic 𝓤) where
     b = block_of z.values
 
     abbrev e₀ : ℕ
-    e₀ = i * stride R + count_of z.values
+    e₀ = (i - z.first) * stride R + count_of z.values
 
     abbrev Sh : R.Denot → Lft → Fml
     Sh x = shared_of O (Some x) b e₀
@@ -120,9 +121,9 @@ module _ {M : Type 1} {𝓤 : Ura M} (𝓛 : Logic 𝓤) where
     abbrev Over : Lft
     Over = span α g o
 
-    -- it is the block's value, and the number is one of those that there are
+    -- it is the block's value, and the number is one of the strip
     abbrev pub So : R.Denot → Type 0
-    So x = IsValueOfBoth holds g.seat g.view o.seat o.view n x × (0 < n) × (i < z.count)
+    So x = IsValueOfBoth holds g.seat g.view o.seat o.view n x × (0 < n) × IsIts z i
 
     abbrev Sit : In → Type 0
     Sit = Hands.Sit 𝓛 R cv holds p z g.seat g.view o.seat o.view
@@ -174,10 +175,9 @@ module _ {M : Type 1} {𝓤 : Ura M} (𝓛 : Logic 𝓤) where
               ⟦ Makings.Led 𝓛 R cv holds keeps p z st ⟧ ∗ ⟦ Sn t t' ⟧ ⊢ upd 𝓤 Gives
           of_cell st sound at th =
               let x : R.Denot = th.0 in let ws : List ℕ = th.1 in let c : Cell R.Denot = Has x ws in let cs : List (Cell R.Denot) = st.parts.cells in
-              let lt = cell_beyond cs i c th.2 (λ e. absurd (cc e)) in let low = th.3 in
-              let all_of = sound.1.counted in
+              let low = th.3 in let of = Makings.is_mine 𝓛 R cv holds keeps p z n st c mine sound.1 th.2 (λ e. absurd (cc e)) low in
               let is = ap value_in (block_is z.roots z.count st.parts sound.1 n low ∙ ap block_in th.2) in
-              let so : So x = ((state_of z st, sound.0, at.0, at.1, is), low, omega (arith, lt, all_of)) in
+              let so : So x = ((state_of z st, sound.0, at.0, at.1, is), low, of) in
               let one : suc i ≡ n = omega (arith, low) in
               let shows : Are = (
                 subst (λ (k : ℕ). ShownToBoth holds g.seat g.view o.seat o.view k)
@@ -187,7 +187,7 @@ module _ {M : Type 1} {𝓤 : Ura M} (𝓛 : Logic 𝓤) where
               qed 𝓛 (‵ (Moves.Ws 𝓛 R cv holds keeps p z st.parts) ∷ ‵ (part ν full_share (0, s)) ∷ ‵ (finv Acc) ∷ ‵ Told ∷
               ‵ (Makings.Led 𝓛 R cv holds keeps p z st) ∷ ‵ (Sn t t') ∷ []) ∵
               use1 𝓛 (‵ (Makings.cell_of 𝓛 R cv holds keeps p z i c) ⊛ raw (all 𝓤 (Makings.Recells 𝓛 R cv holds keeps p z st i)))
-              (Numbers.celled 𝓛 R p z (Moves.lent 𝓛 R cv holds keeps p z) (Moves.had 𝓛 R cv holds keeps p z) st.parts.words cs i c lt th.2) $ split ! $
+              (Numbers.celled 𝓛 R p z (Moves.lent 𝓛 R cv holds keeps p z) (Moves.had 𝓛 R cv holds keeps p z) st.parts.words cs i c of th.2) $ split ! $
               fsplit ! $ move ! (1 ∷ []) $ fsplit ! $ move ! (1 ∷ []) $ fsplit ! $ move ! (1 ∷ []) $ fpick ! (λ l. let a : ℕ = l.atom in
               let e : Share = Share.left l.rest in let r : Share = Share.right l.rest in
               fsplit3 ! $ move ! (2 ∷ []) $ fsplit3 ! $ move ! (1 ∷ []) $ fpick ! (λ left. drop ! $
@@ -222,7 +222,7 @@ module _ {M : Type 1} {𝓤 : Ura M} (𝓛 : Logic 𝓤) where
           of_any st sound at (inl th) = of_cell st sound at th
           of_any st sound at (inr h) = qed 𝓛 (‵ (Moves.Ws 𝓛 R cv holds keeps p z st.parts) ∷ ‵ (part ν full_share (0, s)) ∷ ‵ (finv Acc) ∷ ‵ Told ∷
               ‵ (Makings.Led 𝓛 R cv holds keeps p z st) ∷ ‵ (Sn t t') ∷ []) ∵ keep ! (0 ∷ 4 ∷ 5 ∷ []) $
-              by ! (Makings.held_away 𝓛 R cv holds keeps p z n st sound h g.seat g.view o.seat o.view (Sn t t')
+              by ! (Makings.held_away 𝓛 R cv holds keeps p z n st mine sound h g.seat g.view o.seat o.view (Sn t t')
               (Hands.two_show 𝓛 R cv holds p z g.seat g.view o.seat o.view t t')
               (Hands.two_crowd 𝓛 R cv holds p z g.seat g.view o.seat o.view t t') (upd 𝓤 Gives) shown)
 

@@ -4,6 +4,9 @@ pub mod Rows
 pub mod Ledgers
 pub mod Stretches
 pub mod Lendings
+pub mod Beside
+pub mod Strips
+pub mod Known
 pub mod Numbers
 pub mod Moves
 pub mod Hands
@@ -13,6 +16,7 @@ pub mod Rewrites
 pub mod Lends
 pub mod Steps
 pub mod Opening
+pub mod Joining
 pub mod Meetings
 pub mod Renewal
 pub mod Shares

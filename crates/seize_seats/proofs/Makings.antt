@@ -1,20 +1,20 @@
 -- How a block comes and goes: a number is claimed, its place taken out, a block published, taken away, and its number is free again. Assumes `Logic`.
 use Rattle.std.specs.Prelude.{slice_get, slice_set}
-use Rattle.std.proofs.Common.{◌≡◌, ◌⊎◌, ℕ, zero, suc, ◌+◌, ◌-◌, ◌*◌, ◌^◌, ◌<◌, List, [], ◌∷◌, length, refl, sym, ap, ◌∙◌, subst, arith, inl, inr, Option, Some, None, Ok}
+use Rattle.std.proofs.Common.{◌≡◌, ◌⊎◌, ℕ, zero, suc, ◌+◌, ◌-◌, ◌*◌, ◌^◌, ◌<◌, ◌≤◌, List, [], ◌∷◌, length, refl, sym, ap, ◌∙◌, subst, arith, inl, inr, Option, Some, None, Ok}
 use Rattle.std.specs.Prelude.{bit_or, IsSome}
 use seplogic.Ra.Ura.{Ura}
 use base.Fraction.{full_share}
 use base.Share.{quarter, three_quarters}
 use base.Stored.{Coded}
 use base.Logic.{SProp, ent, sep, ex, all, guard, upd, emp, apply∗, all_e, upd_i}
-use base.Fml.{Lft, Share, Fml, ftrue, fsep, fex, flft, fbor, finv}
+use base.Fml.{Lft, Share, Fml, ftrue, fsep, fex, flft}
 use types.Logic.{Logic, sem}
 use types.Kit.{‵, raw, ◌⊛◌, given, ◌$◌, ◌∵◌, !, qed, by, move, keep, drop, split, split3, fsplit, fsplit3, fjoin, fjoin3, fpick, fpack, pick, learn, show, frame, each, assume, suffices, settle, use1, use2, use3, rewrite, done}
 use denote.RattleType.{RattleType}
 use denote.RawPtr.{Ptr, block_ptr, block_of, count_of}
 use denote.Steps.{nothing}
 use Rattle.core.specs.Sync.RawAtomic.{word, asks, always}
-use Rattle.core.proofs.raw_atomic.Asked.{borrowed, Lies, Again}
+use Rattle.core.proofs.raw_atomic.Asked.{Lies, Again}
 use Rattle.seize_words.specs.Mem.{Mem, value_at, value_in, fresh, after, IsFreeNumber}
 use Rattle.seize_words.specs.Op.{Make, Take, Made, Taken}
 use Rattle.seize_words.specs.Op as Op
@@ -22,13 +22,14 @@ use Rattle.seize_words.specs.declared.block.Block.{Block}
 use Rattle.seize_seats.specs.State.{State, Goes, Allows}
 use Rattle.seize_seats.specs.Lendings.{ShownToBoth}
 use Rattle.seize_seats.specs.Cells.{Cell, Free, Claimed, Out, Has, Held, block_in, blocks_in, cell_at, sign_of}
-use Rattle.seize_seats.specs.Lines.{Parts, long, memory_of, AreLaid}
-use Rattle.seize_seats.specs.Owned.{fact, ledger, claim_owns, Hand, hand_coded, resting, busy, held, zeros, row, stride, hand, inside, offered, lent_here, BaseId, age, Inside, state_of, standing, inner}
+use Rattle.seize_seats.specs.Lines.{Parts, memory_of, AreLaid}
+use Rattle.seize_seats.specs.Owned.{fact, ledger, claim_owns, Hand, hand_coded, resting, busy, held, zeros, row, stride, hand, inside, offered, lent_here, BaseId, age, IsIts, Inside, state_of, standing, inner}
 use Rattle.seize_seats.proofs.Cells.{recelled, laid_same, laid_with, block_is, blocks_made, blocks_set, cell_beyond}
 use Rattle.seize_seats.proofs.Numbers as Numbers
 use Rattle.seize_seats.proofs.Ledgers as Ledgers
 use Rattle.seize_seats.proofs.Moves as Moves
 use Rattle.seize_seats.proofs.Hands as Hands
+use Rattle.seize_seats.proofs.Known as Known
 
 module _ {M : Type 1} {𝓤 : Ura M} (𝓛 : Logic 𝓤) (R : RattleType) {V W : Type 0} (cv : Coded V) (holds : State R.Denot V W → Type 0) (keeps : V → V → W → ℕ
     → Type 0) (p : Ptr) (z : BaseId) where
@@ -57,9 +58,6 @@ module _ {M : Type 1} {𝓤 : Ura M} (𝓛 : Logic 𝓤) (R : RattleType) {V W :
   abbrev Inv : Fml
   Inv = Moves.Inv 𝓛 R cv holds keeps p z
 
-  plainly : (K G : Pr) → ⟦ finv (fbor α I) ⟧ ∗ K ⊢ G → ⟦ Inv ⟧ ∗ K ⊢ G
-  plainly = Moves.plainly 𝓛 R cv holds keeps p z
-
   abbrev In : Type 0
   In = Inside R.Denot V W
 
@@ -67,7 +65,11 @@ module _ {M : Type 1} {𝓤 : Ura M} (𝓛 : Logic 𝓤) (R : RattleType) {V W :
   b = block_of p
 
   abbrev o : ℕ
-  o = long z.roots * 8 + count_of p
+  o = z.skip * 8 + count_of p
+
+  -- a number of the strip, from its first one on
+  abbrev pub nth : ℕ → ℕ
+  nth i = i - z.first
 
   abbrev pub Led : In → Fml
   Led t = ledger cv.code z.views_name t.blank t.views
@@ -98,11 +100,11 @@ module _ {M : Type 1} {𝓤 : Ura M} (𝓛 : Logic 𝓤) (R : RattleType) {V W :
   hands q i h = hand R α z.hands_name q i h
 
   abbrev pub contents : ℕ → List ℕ → Option R.Denot → Fml
-  contents i ws x = inside R α z.hands_name b (i * 40 + o) (block_of z.values) (i * stride R + count_of z.values) ws x
+  contents i ws x = inside R α z.hands_name b (nth i * 40 + o) (block_of z.values) (nth i * stride R + count_of z.values) ws x
 
   -- the same of a block, whose value can be lent
   abbrev pub offers : ℕ → List ℕ → R.Denot → Fml
-  offers i ws x = offered R α z.hands_name lent had b (i * 40 + o) (block_of z.values) (i * stride R + count_of z.values) i ws x
+  offers i ws x = offered R α z.hands_name lent had b (nth i * 40 + o) (block_of z.values) (nth i * stride R + count_of z.values) i ws x
 
   abbrev pub Sound : In → Type 0
   Sound t = holds (state_of z t) × AreLaid z.roots z.count t.parts
@@ -124,24 +126,21 @@ module _ {M : Type 1} {𝓤 : Ura M} (𝓛 : Logic 𝓤) (R : RattleType) {V W :
         nothing ! $ fpack ! (holds (state_of z n) × AreLaid z.roots z.count n.parts) (λ _. ftrue) (so, l.0) $ move ! (1 ∷ 2 ∷ 0 ∷ []) $ fjoin3 ! $
         fpack ! In At_inside n $ done !
 
-    few : (i : ℕ) → i < z.count → i < length t.parts.cells
-    few i lt = let all = sound.1.counted in omega (arith, lt, all)
-
   -- the cell of a number
-  pub opens : (X : Pr) (Z : Pr) (i : ℕ) → i < z.count
+  pub opens : (X : Pr) (Z : Pr) (i : ℕ) → IsIts z i
       → ((t : In) (sound : Sound t) (c : Cell R.Denot) → cell_at t.parts.cells i ≡ c → ⟦ cell_of i c ⟧ ∗ all 𝓤 (Recells t i) ∗ ⟦ Led t ⟧ ∗ X ⊢ Z)
       → ⟦ I ⟧ ∗ X ⊢ Z
   opens X Z i lt then = qed 𝓛 (‵ I ∷ raw X ∷ []) ∵ fpick ! (λ t. fsplit3 ! $ move ! (2 ∷ []) $ fpick ! (λ sound. drop ! $ move ! (0 ∷ []) $
       -- [the memory; the views; X]
       let cs : List (Cell R.Denot) = t.parts.cells in let c : Cell R.Denot = cell_at cs i in
-      use1 𝓛 (‵ (cell_of i c) ⊛ raw (all 𝓤 (Recells t i))) (Numbers.celled 𝓛 R p z lent had t.parts.words cs i c (few t sound i lt) refl) $ split ! $
+      use1 𝓛 (‵ (cell_of i c) ⊛ raw (all 𝓤 (Recells t i))) (Numbers.celled 𝓛 R p z lent had t.parts.words cs i c lt refl) $ split ! $
       by ! (then t sound c refl)))
 
   -- ---- A NUMBER IS CLAIMED: bit 0 of its sign is set, and who has set it has the number
   abbrev claimed : ℕ → ℕ → Fml
   claimed i n = claim_owns z.hands_name i n
 
-  module _ (q : Share) (i e : ℕ) (lt : i < z.count) (at : i * 40 + o + 32 ≡ e) where
+  module _ (q : Share) (i e : ℕ) (lt : IsIts z i) (at : nth i * 40 + o + 32 ≡ e) where
     abbrev f : ℕ → ℕ
     f n = bit_or n 1
 
@@ -181,7 +180,7 @@ module _ {M : Type 1} {𝓤 : Ura M} (𝓛 : Logic 𝓤) (R : RattleType) {V W :
         use3 𝓛 (‵ I) (recell t sound i Claimed (sym (ap block_in is))) $ keep ! (0 ∷ 1 ∷ []) $ done !)
 
     pub claims : ⟦ Inv ⟧ ∗ (A.lft α q ∗ emp 𝓤) ⊢ asks 𝓛 (block_ptr b e) f always (λ n. fsep (flft α q) (claim_owns z.hands_name i n))
-    claims = plainly (A.lft α q ∗ emp 𝓤) _ (borrowed 𝓛 α q I b e f always (claimed i) (emp 𝓤) (opens (emp 𝓤) (upd 𝓤 (ex 𝓤 Li)) i lt grants))
+    claims = Known.stepped 𝓛 R cv holds p z q b e f (claimed i) (emp 𝓤) (opens (emp 𝓤) (upd 𝓤 (ex 𝓤 Li)) i lt grants)
 
   pub same_hand : (i : ℕ) (h w : Hand) → ⟦ hands quarter i w ⟧ ∗ ⟦ hands three_quarters i h ⟧
       ⊢ guard 𝓤 (w ≡ h) (⟦ hands quarter i w ⟧ ∗ ⟦ hands three_quarters i h ⟧)
@@ -209,7 +208,7 @@ module _ {M : Type 1} {𝓤 : Ura M} (𝓛 : Logic 𝓤) (R : RattleType) {V W :
 
   -- a cell with this sign, this share of its hand, and what lies beside
   abbrev cell_with : ℕ → ℕ → Share → Hand → Fml → Fml
-  cell_with i n q w K = fsep (word b (i * 40 + o + 32) n) (fsep (hands q i w) K)
+  cell_with i n q w K = fsep (word b (nth i * 40 + o + 32) n) (fsep (hands q i w) K)
 
   whole : (i n : ℕ) (w h : Hand) (K : Fml) (Z : Pr) → ⟦ cell_with i n full_share w K ⟧ ∗ ⟦ hands three_quarters i h ⟧ ⊢ Z
   whole i n w h K Z = qed 𝓛 (‵ (cell_with i n full_share w K) ∷ ‵ (hands three_quarters i h) ∷ []) ∵ fsplit ! $
@@ -228,7 +227,7 @@ module _ {M : Type 1} {𝓤 : Ura M} (𝓛 : Logic 𝓤) (R : RattleType) {V W :
   not_theirs i h Claimed Z ne = strange i 1 resting h (contents i zeros None) Z ne
   not_theirs i h (Out e) Z ne = strange i 1 (busy e) h (flft α e) Z ne
   not_theirs i h (Has x ws) Z ne = whole i 1 resting h (offers i ws x) Z
-  not_theirs i h (Held ρ e x ws) Z ne = strange i 1 (held ρ e) h (fsep (row b (i * 40 + o) ws) (fsep (flft α e) (had ρ i x))) Z ne
+  not_theirs i h (Held ρ e x ws) Z ne = strange i 1 (held ρ e) h (fsep (row b (nth i * 40 + o) ws) (fsep (flft α e) (had ρ i x))) Z ne
 
   pub none_of_theirs : (t : In) (i : ℕ) (h : Hand) (c : Cell R.Denot) (X Z : Pr) → IsAnothers h c
       → ⟦ cell_of i c ⟧ ∗ all 𝓤 (Recells t i) ∗ ⟦ Led t ⟧ ∗ ⟦ hands three_quarters i h ⟧ ∗ X ⊢ Z
@@ -237,7 +236,7 @@ module _ {M : Type 1} {𝓤 : Ura M} (𝓛 : Logic 𝓤) (R : RattleType) {V W :
       move ! (2 ∷ 0 ∷ []) $ use2 𝓛 (raw Z) (not_theirs i h c Z ne) $ keep ! (0 ∷ []) $ done !
 
   -- ---- ITS PLACE IS TAKEN OUT, for a share of the lifetime
-  module _ (i : ℕ) (e : Share) (lt : i < z.count) where
+  module _ (i : ℕ) (e : Share) (lt : IsIts z i) where
     abbrev Withdrawn : Pr
     Withdrawn = ⟦ I ⟧ ∗ (⟦ hands three_quarters i (busy e) ⟧ ∗ ⟦ contents i zeros None ⟧)
 
@@ -264,7 +263,7 @@ module _ {M : Type 1} {𝓤 : Ura M} (𝓛 : Logic 𝓤) (R : RattleType) {V W :
     withdraws = opens Asking (upd 𝓤 Withdrawn) i lt takes_out
 
   -- ---- ITS NUMBER IS FREE AGAIN: the sign becomes 0, and the share comes back
-  module _ (q : Share) (i : ℕ) (e : Share) (k : ℕ) (lt : i < z.count) (at : i * 40 + o + 32 ≡ k) where
+  module _ (q : Share) (i : ℕ) (e : Share) (k : ℕ) (lt : IsIts z i) (at : nth i * 40 + o + 32 ≡ k) where
     abbrev g : ℕ → ℕ
     g _ = 0
 
@@ -300,7 +299,7 @@ module _ {M : Type 1} {𝓤 : Ura M} (𝓛 : Logic 𝓤) (R : RattleType) {V W :
     returns t sound (Held ρ s x ws) is = none_of_theirs t i (busy e) (Held ρ s x ws) ⟦ contents i zeros None ⟧ (upd 𝓤 (ex 𝓤 Lf)) (held_is_not_busy ρ s e)
 
     pub frees : ⟦ Inv ⟧ ∗ (A.lft α q ∗ Returning) ⊢ asks 𝓛 (block_ptr b k) g always (λ n. fsep (flft α q) (due n))
-    frees = plainly (A.lft α q ∗ Returning) _ (borrowed 𝓛 α q I b k g always due Returning (opens Returning (upd 𝓤 (ex 𝓤 Lf)) i lt returns))
+    frees = Known.stepped 𝓛 R cv holds p z q b k g due Returning (opens Returning (upd 𝓤 (ex 𝓤 Lf)) i lt returns)
 
   abbrev back : (id : ℕ) (v : V) (t : In) (s : Parts R.Denot) (so : V → Type 0) → AreLaid z.roots z.count s → slice_get t.views id ≡ Some v
       → Goes holds keeps (state_of z t) (memory_of z.roots s) id so → ⟦ Ws s.words s.cells ⟧ ∗ ⟦ Led t ⟧ ∗ ⟦ seat id v ⟧ ⊢ upd 𝓤 (⟦ I ⟧ ∗ ⟦ gone_on id so ⟧)
@@ -317,7 +316,7 @@ module _ {M : Type 1} {𝓤 : Ura M} (𝓛 : Logic 𝓤) (R : RattleType) {V W :
 
   -- ---- A BLOCK IS MADE of a value in its place
   module _ (id : ℕ) (v : V) (i : ℕ) (e : Share) (x : R.Denot) (so : Op.Out R.Denot → V
-      → Type 0) (lt : i < z.count) (small : i + 1 < 2 ^ 53) (law : Allows holds keeps id v (Make x 0) so) where
+      → Type 0) (lt : IsIts z i) (small : i + 1 < 2 ^ 53) (law : Allows holds keeps id v (Make x 0) so) where
     abbrev d : Cell R.Denot
     d = Has x zeros
 
@@ -327,19 +326,18 @@ module _ {M : Type 1} {𝓤 : Ura M} (𝓛 : Logic 𝓤) (R : RattleType) {V W :
     abbrev Ready : Pr
     Ready = ⟦ hands three_quarters i (busy e) ⟧ ∗ ⟦ offers i zeros x ⟧
 
-    made : (t : In) (g : Stands id v t) → block_in (cell_at t.parts.cells i) ≡ None
+    made : (t : In) (g : Stands id v t) → i < length t.parts.cells → block_in (cell_at t.parts.cells i) ≡ None
         → (n : ℕ) × AreLaid z.roots z.count (recelled z.roots z.count t.parts g.1 i d n)
         × Goes holds keeps (state_of z t) (memory_of z.roots (recelled z.roots z.count t.parts g.1 i d n)) id (so (Made (Ok (i + 1))))
-    made t g none = let laid = g.1 in let cs : List (Cell R.Denot) = t.parts.cells in let same : i + 1 - 1 ≡ i = omega arith in
-        let all = laid.counted in let within = laid.within in
-        let m = blocks_made t.parts.given (i + 1) cs (fresh x 0) d refl (omega (arith, within, all)) (omega arith) (omega (arith, lt, all)) laid.rest in
+    made t g has none = let laid = g.1 in let cs : List (Cell R.Denot) = t.parts.cells in let same : i + 1 - 1 ≡ i = omega arith in
+        let m = blocks_made t.parts.given (i + 1) cs (fresh x 0) d refl laid.within (omega arith) (omega (arith, has)) laid.rest in
         let mo : Mem R.Denot = memory_of z.roots t.parts in
         let free : IsFreeNumber mo (i + 1) =
         (block_is z.roots z.count t.parts laid (i + 1) (omega arith) ∙ ap (λ (k : ℕ). block_in (cell_at cs k)) same ∙ none, omega arith) in
         let is : memory_of z.roots (recelled z.roots z.count t.parts laid i d m.0) ≡ after mo (Make x 0) (Made (Ok (i + 1))) =
         ap (λ (l : List (Option (Block R.Denot))). record mo { blocks = l }) (ap (λ (k : ℕ). blocks_in m.0 (slice_set cs k d)) (sym same) ∙ m.4) in (
           m.0,
-          laid_with z.roots z.count t.parts laid i d m.0 m.1 (let h = m.3 in omega (arith, h, all)) (inr (let h = m.2 in omega (arith, h))) (λ y q.
+          laid_with z.roots z.count t.parts laid i d m.0 m.1 m.3 (inr (let h = m.2 in omega (arith, h))) (λ y q.
               let same : fresh x 0 ≡ y = cc q in sym (ap (λ (l : Block R.Denot). length l.entry) same)),
           (law (state_of z t) g.0 g.2).1 (Made (Ok (i + 1))) (memory_of z.roots (recelled z.roots z.count t.parts laid i d m.0)) ((free, small), is),
         )
@@ -350,12 +348,12 @@ module _ {M : Type 1} {𝓤 : Ura M} (𝓛 : Logic 𝓤) (R : RattleType) {V W :
         qed 𝓛 (‵ (cell_of i c) ∷ raw (all 𝓤 (Recells t i)) ∷ ‵ (Led t) ∷ ‵ (seat id v) ∷ (‵ (hands three_quarters i (busy e)) ⊛ ‵ (offers i zeros x)) ∷ []) ∵
         move ! (4 ∷ []) $ split ! $ move ! (2 ∷ 0 ∷ []) $ use2 𝓛 (raw Z) (not_theirs i (busy e) c Z ne) $ keep ! (0 ∷ []) $ done !
 
-    puts : (t : In) (g : Stands id v t) (c : Cell R.Denot) → cell_at t.parts.cells i ≡ c
+    puts : (t : In) (g : Stands id v t) (c : Cell R.Denot) → i < length t.parts.cells → cell_at t.parts.cells i ≡ c
         → ⟦ cell_of i c ⟧ ∗ all 𝓤 (Recells t i) ∗ ⟦ Led t ⟧ ∗ ⟦ seat id v ⟧ ∗ Ready ⊢ upd 𝓤 Published
-    puts t g Free is = another t Free tt
-    puts t g (Has y ws) is = another t (Has y ws) tt
-    puts t g Claimed is = another t Claimed (λ same. busy_is_not e (sym same))
-    puts t g (Out s) is = let r = made t g (ap block_in is) in let cs : List (Cell R.Denot) = slice_set t.parts.cells i d in let ws : List ℕ = t.parts.words in
+    puts t g Free in_it is = another t Free tt
+    puts t g (Has y ws) in_it is = another t (Has y ws) tt
+    puts t g Claimed in_it is = another t Claimed (λ same. busy_is_not e (sym same))
+    puts t g (Out s) in_it is = let r = made t g in_it (ap block_in is) in let cs : List (Cell R.Denot) = slice_set t.parts.cells i d in let ws : List ℕ = t.parts.words in
         qed 𝓛 (‵ (cell_of i (Out s)) ∷ raw (all 𝓤 (Recells t i)) ∷ ‵ (Led t) ∷ ‵ (seat id v) ∷
         (‵ (hands three_quarters i (busy e)) ⊛ ‵ (offers i zeros x)) ∷ []) ∵
         move ! (4 ∷ []) $ split ! $ move ! (2 ∷ []) $ fsplit ! $ move ! (1 ∷ []) $ fsplit ! $ move ! (0 ∷ 3 ∷ []) $
@@ -374,13 +372,14 @@ module _ {M : Type 1} {𝓤 : Ura M} (𝓛 : Logic 𝓤) (R : RattleType) {V W :
         (back id v t (recelled z.roots z.count t.parts g.1 i d r.0) (so (Made (Ok (i + 1)))) r.1 g.2 r.2) $
         settle 𝓛 Published (‵ I ⊛ ‵ (gone_on id (so (Made (Ok (i + 1)))))) $ split ! $ suffices ! _ (upd_i 𝓤 Published) $
         move ! (2 ∷ []) $ rewrite ! 0 (λ (u : Share). ‵ (flft α u)) (ap (λ (h : Hand). h.1) same) refl $ move ! (1 ∷ 2 ∷ 0 ∷ []) $ done !))
-    puts t g (Held ρ s x' ws) is = another t (Held ρ s x' ws) (held_is_not_busy ρ s e)
+    puts t g (Held ρ s x' ws) in_it is = another t (Held ρ s x' ws) (held_is_not_busy ρ s e)
 
     pub publishes : ⟦ I ⟧ ∗ (⟦ seat id v ⟧ ∗ Ready) ⊢ upd 𝓤 Published
     publishes = opens_seated id v Ready (upd 𝓤 Published) (λ t g. let cs : List (Cell R.Denot) = t.parts.cells in let c : Cell R.Denot = cell_at cs i in
         qed 𝓛 (‵ (Ws t.parts.words cs) ∷ ‵ (Led t) ∷ ‵ (seat id v) ∷ raw Ready ∷ []) ∵
-        use1 𝓛 (‵ (cell_of i c) ⊛ raw (all 𝓤 (Recells t i))) (Numbers.celled 𝓛 R p z lent had t.parts.words cs i c (few t (g.0, g.1) i lt) refl) $ split ! $
-        by ! (puts t g c refl))
+        use1 𝓛 (given (i < length cs) (‵ (Ws t.parts.words cs))) (Numbers.there 𝓛 R p z lent had t.parts.words cs i lt) $ learn ! (λ in_it.
+        use1 𝓛 (‵ (cell_of i c) ⊛ raw (all 𝓤 (Recells t i))) (Numbers.celled 𝓛 R p z lent had t.parts.words cs i c lt refl) $ split ! $
+        by ! (puts t g c in_it refl)))
 
   -- a block that has a value is there
   abbrev pub HasBlock : ℕ → In → Type 0
@@ -405,25 +404,33 @@ module _ {M : Type 1} {𝓤 : Ura M} (𝓛 : Logic 𝓤) (R : RattleType) {V W :
       by low (Has x ws) is some = inl (x, ws, is, low)
       by low (Held ρ s x ws) is some = inr (ρ, s, x, ws, is, low)
 
+  -- if there is such a number, it is one of the strip
+  abbrev pub Mine : ℕ → Type 0
+  Mine n = 0 < n → n ≤ z.count → IsIts z (n - 1)
+
+  pub is_mine : (n : ℕ) (t : In) (c : Cell R.Denot) → Mine n → AreLaid z.roots z.count t.parts → cell_at t.parts.cells (n - 1) ≡ c → (c ≡ Free → ⊥) → 0 < n
+      → IsIts z (n - 1)
+  is_mine n t c mine laid is ne low = let lt = cell_beyond t.parts.cells (n - 1) c is ne in let few = laid.counted in mine low (omega (arith, lt, few, low))
+
   -- that is of no block which the views of other seats show
-  pub held_away : (n : ℕ) (t : In) → Sound t → HeldBlock n t → (j : ℕ) (v : V) (k : ℕ) (u : V) (S : Fml) → Hands.Shows 𝓛 R cv holds p z j v k u S
+  pub held_away : (n : ℕ) (t : In) → Mine n → Sound t → HeldBlock n t → (j : ℕ) (v : V) (k : ℕ) (u : V) (S : Fml) → Hands.Shows 𝓛 R cv holds p z j v k u S
       → Hands.Crowds 𝓛 R cv holds p z j v k u S → (Z : Pr) → ShownToBoth holds j v k u n
       → ⟦ Ws t.parts.words t.parts.cells ⟧ ∗ ⟦ Led t ⟧ ∗ ⟦ S ⟧ ⊢ Z
-  held_away n t sound h j v k u S shows crowds Z shown =
+  held_away n t mine sound h j v k u S shows crowds Z shown =
       let i : ℕ = n - 1 in let ρ : ℕ = h.0 in let x : R.Denot = h.2 in let ws : List ℕ = h.3 in let c : Cell R.Denot = Held ρ h.1 x ws in let low = h.5 in
-      let cs : List (Cell R.Denot) = t.parts.cells in let lt = cell_beyond cs i c h.4 (λ e. absurd (cc e)) in
+      let cs : List (Cell R.Denot) = t.parts.cells in let of = is_mine n t c mine sound.1 h.4 (λ e. absurd (cc e)) low in
       let one : n ≡ suc i = omega (arith, low) in let here : ShownToBoth holds j v k u (suc i) = subst (λ (m : ℕ). ShownToBoth holds j v k u m) one shown in
       qed 𝓛 (‵ (Ws t.parts.words cs) ∷ ‵ (Led t) ∷ ‵ S ∷ []) ∵
-      use1 𝓛 (‵ (cell_of i c) ⊛ raw (all 𝓤 (Recells t i))) (Numbers.celled 𝓛 R p z lent had t.parts.words cs i c lt h.4) $ split ! $
+      use1 𝓛 (‵ (cell_of i c) ⊛ raw (all 𝓤 (Recells t i))) (Numbers.celled 𝓛 R p z lent had t.parts.words cs i c of h.4) $ split ! $
       fsplit ! $ move ! (1 ∷ []) $ fsplit3 ! $ move ! (2 ∷ []) $ fsplit ! $
       -- [the share; who has it; the hand; the entry; the sign; the others; the views; the seats']
       keep ! (6 ∷ 1 ∷ 7 ∷ []) $ by ! (Hands.excludes 𝓛 R cv holds p z j v k u S shows crowds t sound i ρ x Z here)
 
   -- ---- A BLOCK IS TAKEN AWAY, and its place is taken out for a share of the lifetime
-  module _ (id : ℕ) (v : V) (n : ℕ) (e : Share) (so : Op.Out R.Denot → V → Type 0) (law : Allows holds keeps id v (Take n) so) where
+  module _ (id : ℕ) (v : V) (n : ℕ) (e : Share) (so : Op.Out R.Denot → V → Type 0) (law : Allows holds keeps id v (Take n) so) (mine : Mine n) where
     abbrev pub Taking : R.Denot × List ℕ → Fml
     Taking u =
-        fsep (fact ((0 < n) × (n - 1 < z.count) × (length u.1 ≡ 4)))
+        fsep (fact ((0 < n) × IsIts z (n - 1) × (length u.1 ≡ 4)))
         (fsep (gone_on id (so (Taken u.0))) (fsep (hands three_quarters (n - 1) (busy e)) (offers (n - 1) u.1 u.0)))
 
     abbrev TakenOut : Pr
@@ -448,11 +455,12 @@ module _ {M : Type 1} {𝓤 : Ura M} (𝓛 : Logic 𝓤) (R : RattleType) {V W :
     goes : (t : In) (g : Stands id v t) → There t → ⟦ Ws t.parts.words t.parts.cells ⟧ ∗ ⟦ Led t ⟧ ∗ ⟦ seat id v ⟧ ∗ ⟦ flft α e ⟧ ⊢ upd 𝓤 TakenOut
     goes t g th = let cs : List (Cell R.Denot) = t.parts.cells in let i : ℕ = n - 1 in
         let d : Cell R.Denot = Out e in let ds : List (Cell R.Denot) = slice_set cs i d in let ws : List ℕ = t.parts.words in
-        let lt = cell_beyond cs i (Has th.0 th.1) th.2 (λ q. absurd (cc q)) in let all_of = g.1.counted in let r = taken t g th in
+        let r = taken t g th in
         let told : V → Type 0 = so (Taken th.0) in
-        let facts : (0 < n) × (i < z.count) × (length th.1 ≡ 4) = (th.3, omega (arith, lt, all_of), g.1.fours i _ (ap block_in th.2)) in
+        let of = is_mine n t (Has th.0 th.1) mine g.1 th.2 (λ q. absurd (cc q)) th.3 in
+        let facts : (0 < n) × IsIts z i × (length th.1 ≡ 4) = (th.3, of, g.1.fours i _ (ap block_in th.2)) in
         qed 𝓛 (‵ (Ws ws cs) ∷ ‵ (Led t) ∷ ‵ (seat id v) ∷ ‵ (flft α e) ∷ []) ∵
-        use1 𝓛 (‵ (cell_of i (Has th.0 th.1)) ⊛ raw (all 𝓤 (Recells t i))) (Numbers.celled 𝓛 R p z lent had ws cs i (Has th.0 th.1) lt th.2) $ split ! $
+        use1 𝓛 (‵ (cell_of i (Has th.0 th.1)) ⊛ raw (all 𝓤 (Recells t i))) (Numbers.celled 𝓛 R p z lent had ws cs i (Has th.0 th.1) of th.2) $ split ! $
         fsplit ! $ move ! (1 ∷ []) $ fsplit ! $
         -- [the hand; the contents; the sign; the others; the views; the seat; the share]
         use1 𝓛 (‵ (hands quarter i resting) ⊛ ‵ (hands three_quarters i resting)) (Ledgers.cuts 𝓛 hand_coded z.hands_name i resting) $ split ! $
@@ -466,7 +474,7 @@ module _ {M : Type 1} {𝓤 : Ura M} (𝓛 : Logic 𝓤) (R : RattleType) {V W :
         settle 𝓛 TakenOut (‵ I ⊛ ‵ (gone_on id told)) $ split ! $ suffices ! _ (upd_i 𝓤 TakenOut) $ frame ! $
         -- [the seat; three quarters; the contents]
         move ! (1 ∷ 2 ∷ []) $ fjoin ! $ move ! (1 ∷ 0 ∷ []) $ fjoin ! $
-        nothing ! $ fpack ! ((0 < n) × (i < z.count) × (length th.1 ≡ 4)) (λ _. ftrue) facts $ fjoin ! $ fpack ! (R.Denot × List ℕ) Taking (th.0, th.1) $
+        nothing ! $ fpack ! ((0 < n) × IsIts z i × (length th.1 ≡ 4)) (λ _. ftrue) facts $ fjoin ! $ fpack ! (R.Denot × List ℕ) Taking (th.0, th.1) $
         done !
 
     -- The block is there, or somebody has its value in the hand: then no other seat's view shows it.
@@ -478,5 +486,5 @@ module _ {M : Type 1} {𝓤 : Ura M} (𝓛 : Logic 𝓤) (R : RattleType) {V W :
         by t g (inl th) = goes t g th
         by t g (inr h) = let Z : Pr = upd 𝓤 TakenOut in
             qed 𝓛 (‵ (Ws t.parts.words t.parts.cells) ∷ ‵ (Led t) ∷ ‵ (seat id v) ∷ ‵ (flft α e) ∷ []) ∵ keep ! (0 ∷ 1 ∷ 2 ∷ []) $
-            types.Kit.by ! (held_away n t (g.0, g.1) h id v id v (seat id v) (Hands.one_shows 𝓛 R cv holds p z id v id v three_quarters refl refl)
+            types.Kit.by ! (held_away n t mine (g.0, g.1) h id v id v (seat id v) (Hands.one_shows 𝓛 R cv holds p z id v id v three_quarters refl refl)
             (Hands.one_crowds 𝓛 R cv holds p z id v id v three_quarters refl) Z (λ s so at _. (law s so at).0))

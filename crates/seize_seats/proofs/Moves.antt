@@ -6,7 +6,7 @@ use seplogic.Ra.Ura.{Ura}
 use base.Share.{three_quarters}
 use base.Stored.{Coded}
 use base.Logic.{SProp, ent, sep, ex, all, guard, upd, emp, id⊢, via, apply∗, all_e, upd_i}
-use base.Fml.{Lft, Share, Fml, ftrue, fsep, fex, flft, fbor, finv, fnamed}
+use base.Fml.{Lft, Share, Fml, ftrue, fsep, fex, flft, fbor, fnamed}
 use types.Logic.{Logic, sem}
 use types.Kit.{‵, raw, ◌⊛◌, some as items, given, later, ◌$◌, ◌∵◌, !, qed, by, move, drop, split, split3, fsplit, fsplit3, fjoin, fjoin3, fpick, fpack, pick, learn, check, show, frame, each, assume, suffices, settle, use0, use1, use2, use3, updating, await, now, done}
 use types.Tokens.{shr_bor-open, obor_close}
@@ -15,18 +15,18 @@ use denote.RattleType.{RattleType}
 use denote.RawPtr.{Ptr, block_ptr, block_of, count_of}
 use denote.Steps.{nothing}
 use Rattle.core.specs.Sync.RawAtomic.{word, asks, always}
-use Rattle.core.proofs.raw_atomic.Asked.{borrowed, Lies, Again}
+use Rattle.core.proofs.raw_atomic.Asked.{Lies, Again}
 use Rattle.seize_words.specs.Mem.{word_at, with_word}
 use Rattle.seize_words.specs.Op.{Op, Out, Make, Made, Room, Roomed}
 use Rattle.seize_words.specs.declared.at.At.{At}
 use Rattle.seize_seats.specs.State.{State, Goes, Allows, Turns, Comes}
-use Rattle.seize_seats.specs.Lines.{Parts, place_of, memory_of, AreLaid}
+use Rattle.seize_seats.specs.Lines.{Parts, memory_of, AreLaid}
 use Rattle.seize_seats.specs.Steps.{IsStepOf, roomed}
-use Rattle.seize_seats.specs.Owned.{fact, ledger, BaseId, age, Inside, state_of, standing, inner, words_share, lent_here, had_here, seen}
-use Rattle.seize_seats.specs.Stretches.{IsEven, invariant}
+use Rattle.seize_seats.specs.Owned.{fact, ledger, BaseId, age, core_of, place_in, IsIn, Inside, state_of, standing, inner, everything, is_listed, words_share, lent_here, had_here, seen}
+use Rattle.seize_seats.specs.Owned as Owned
 use Rattle.seize_seats.proofs.Numbers as Numbers
 use Rattle.seize_seats.proofs.Ledgers as Ledgers
-use Rattle.seize_seats.proofs.Stretches as Stretches
+use Rattle.seize_seats.proofs.Known as Known
 use Rattle.seize_seats.proofs.Rooms as Rooms
 
 module _ {M : Type 1} {𝓤 : Ura M} (𝓛 : Logic 𝓤) (R : RattleType) {V W : Type 0} (cv : Coded V) (holds : State R.Denot V W → Type 0) (keeps : V → V → W → ℕ
@@ -54,11 +54,7 @@ module _ {M : Type 1} {𝓤 : Ura M} (𝓛 : Logic 𝓤) (R : RattleType) {V W :
   I = inner R cv.code holds p z
 
   abbrev pub Inv : Fml
-  Inv = invariant IsEven (fbor α I)
-
-  -- what the invariant gives, whatever its number is
-  pub plainly : (K G : Pr) → ⟦ finv (fbor α I) ⟧ ∗ K ⊢ G → ⟦ Inv ⟧ ∗ K ⊢ G
-  plainly K G go = qed 𝓛 (‵ Inv ∷ raw K ∷ []) ∵ use1 𝓛 (‵ (finv (fbor α I))) (Stretches.plain 𝓛 IsEven (fbor α I)) $ by ! go
+  Inv = Owned.told R cv.code holds p z
 
   abbrev b : ℕ
   b = block_of p
@@ -132,14 +128,21 @@ module _ {M : Type 1} {𝓤 : Ura M} (𝓛 : Logic 𝓤) (R : RattleType) {V W :
 
   -- the invariant is opened once, and no step is taken
   pub reach : (q : Share) (K Q : Pr) → ⟦ I ⟧ ∗ K ⊢ upd 𝓤 (⟦ I ⟧ ∗ Q) → ⟦ Inv ⟧ ∗ A.lft α q ∗ K ⊢ H.⇛ (Q ∗ A.lft α q)
-  reach q K Q go = qed 𝓛 (‵ Inv ∷ ‵ (flft α q) ∷ raw K ∷ []) ∵ fpick ! (λ n. fsplit ! $ fpick ! (λ is. drop ! $ by ! (named n)))
+  reach q K Q go = qed 𝓛 (‵ Inv ∷ ‵ (flft α q) ∷ raw K ∷ []) ∵ fsplit ! $ move ! (1 ∷ []) $ fpick ! (λ n. fsplit ! $ fpick ! (λ is. drop ! $
+      move ! (0 ∷ 2 ∷ []) $ by ! (named n)))
     where
-      named : (n : ℕ) → A.named n (fbor α I) ∗ A.lft α q ∗ K ⊢ H.⇛ (Q ∗ A.lft α q)
-      named n = let Z : Pr = ⟦ I ⟧ ∗ emp 𝓤 ∗ Q in via 𝓤 _ (qed 𝓛 (‵ (fnamed n (fbor α I)) ∷ ‵ (flft α q) ∷ raw K ∷ []) ∵ use0 𝓛 (‵ ftrue) (id⊢ 𝓤 (emp 𝓤)) $
+      E : Fml
+      E = everything R cv.code holds (core_of z)
+
+      K' : Pr
+      K' = ⟦ is_listed p z ⟧ ∗ K
+
+      named : (n : ℕ) → A.named n (fbor α E) ∗ A.lft α q ∗ K' ⊢ H.⇛ (Q ∗ A.lft α q)
+      named n = let Z : Pr = ⟦ E ⟧ ∗ emp 𝓤 ∗ Q in via 𝓤 _ (qed 𝓛 (‵ (fnamed n (fbor α E)) ∷ ‵ (flft α q) ∷ raw K' ∷ []) ∵ use0 𝓛 (‵ ftrue) (id⊢ 𝓤 (emp 𝓤)) $
           move ! (1 ∷ 0 ∷ []) $ fjoin ! $ frame ! $ frame ! $
-          assume ! (‵ I ⊛ ‵ ftrue) $ split ! $ move ! (0 ∷ 2 ∷ []) $ use2 𝓛 (raw (upd 𝓤 (⟦ I ⟧ ∗ Q))) go $ settle 𝓛 Z (‵ I ⊛ raw Q) $ split ! $
-          suffices ! _ (upd_i 𝓤 Z) $ frame ! $ move ! (1 ∷ 0 ∷ []) $ done !)
-          (𝓛.invs.invs_bor_acc n α q I [] Q ((λ m. not-mem-nil m), tt))
+          assume ! (‵ E ⊛ ‵ ftrue) $ split ! $ move ! (0 ∷ 2 ∷ []) $ use2 𝓛 (raw (upd 𝓤 (⟦ E ⟧ ∗ Q))) (Known.within 𝓛 R cv holds p z K Q go) $
+          settle 𝓛 Z (‵ E ⊛ raw Q) $ split ! $ suffices ! _ (upd_i 𝓤 Z) $ frame ! $ move ! (1 ∷ 0 ∷ []) $ done !)
+          (𝓛.invs.invs_bor_acc n α q E [] Q ((λ m. not-mem-nil m), tt))
 
   -- the same by what a `&` to the words has
   module _ (κ : Lft) (q : Share) (K Q : Pr) (go : ⟦ I ⟧ ∗ K ⊢ upd 𝓤 (⟦ I ⟧ ∗ Q)) where
@@ -191,13 +194,14 @@ module _ {M : Type 1} {𝓤 : Ura M} (𝓛 : Logic 𝓤) (R : RattleType) {V W :
     abbrev pub told : ℕ → Fml
     told n = gone_on id (so (out n))
 
-    module _ (is : IsStepOf R.Denot z.roots z.count at i op f out) (law : Allows holds keeps id v op so) where
+    module _ (is : IsStepOf R.Denot p z at i op f out) (law : Allows holds keeps id v op so) where
       abbrev e : ℕ
       e = i * 8 + o
 
       -- where the word lies
-      lies : (t : Inside R.Denot V W) → Stands id v t → (w : ℕ) → word_at (memory_of z.roots t.parts) at ≡ Some w → e ≡ place_of z.roots at * 8 + o
-      lies t g w found = ap (λ (k : ℕ). k * 8 + o) (is.lies (Numbers.is_word 𝓛 R p z lent had t.parts g.1 at w found))
+      lies : (t : Inside R.Denot V W) → Stands id v t → (w : ℕ) → word_at (memory_of z.roots t.parts) at ≡ Some w
+          → IsIn p z at × (e ≡ place_in z at * 8 + o)
+      lies t g w found = let l = is.lies (Numbers.is_word 𝓛 R p z lent had t.parts g.1 at w found) in (l.0, ap (λ (k : ℕ). k * 8 + o) l.1)
 
       -- the memory with the other word is one after the operation
       goes : (t : Inside R.Denot V W) → Stands id v t → (w : ℕ) → word_at (memory_of z.roots t.parts) at ≡ Some w → (s : Parts R.Denot)
@@ -205,13 +209,13 @@ module _ {M : Type 1} {𝓤 : Ura M} (𝓛 : Logic 𝓤) (R : RattleType) {V W :
       goes t g w found s same = let a = law (state_of z t) g.0 g.2 in let made = is.makes (memory_of z.roots t.parts) w found in
           a.1 (out w) (memory_of z.roots s) (made.0, same ∙ sym made.1)
 
-      taken : (q : Share) → ⟦ finv (fbor α I) ⟧ ∗ (A.lft α q ∗ ⟦ seat id v ⟧) ⊢ asks 𝓛 (block_ptr b e) f always (λ n. fsep (flft α q) (told n))
-      taken q = let G : Pr = ex 𝓤 (Lies 𝓛 α q I b e f always told) in borrowed 𝓛 α q I b e f always told ⟦ seat id v ⟧
+      pub steps : (q : Share) → ⟦ Inv ⟧ ∗ (A.lft α q ∗ ⟦ seat id v ⟧) ⊢ asks 𝓛 (block_ptr b e) f always (λ n. fsep (flft α q) (told n))
+      steps q = let G : Pr = ex 𝓤 (Lies 𝓛 α q I b e f always told) in Known.stepped 𝓛 R cv holds p z q b e f told ⟦ seat id v ⟧
           (qed 𝓛 (‵ I ∷ ‵ (seat id v) ∷ []) ∵ suffices ! _ (upd_i 𝓤 G) $ use2 𝓛 (opening id v) (opened id v) $ pick ! (λ t. learn ! (λ g. split3 ! $
           let found = is.needs (memory_of z.roots t.parts) (law (state_of z t) g.0 g.2).0 in let w : ℕ = found.0 in
-          let P = Numbers.Rewrites 𝓛 R p z lent had t.parts at e in let Z : Pr = ⟦ I ⟧ ∗ ⟦ told w ⟧ in
+          let P = Numbers.Rewrites 𝓛 R p z lent had t.parts at e in let l = lies t g w found.1 in
           -- [the memory; the views; the seat]
-          use1 𝓛 (‵ (word b e w) ⊛ raw (all 𝓤 P)) (Numbers.word_opens 𝓛 R p z lent had t.parts g.1 at e w found.1 (lies t g w found.1)) $ split ! $
+          use1 𝓛 (‵ (word b e w) ⊛ raw (all 𝓤 P)) (Numbers.word_opens 𝓛 R p z lent had t.parts g.1 at e w l.0 found.1 l.1) $ split ! $
           show ! (Lies 𝓛 α q I b e f always told) w $ frame ! $
           each ! (λ (_ : Unit {0}). Again 𝓛 α q I b e f always told w) (λ _. assume ! (‵ (word b e (f w))) $
           -- [the word; the others; the views; the seat]
@@ -219,6 +223,3 @@ module _ {M : Type 1} {𝓤 : Ura M} (𝓛 : Logic 𝓤) (R : RattleType) {V W :
           use2 𝓛 (items (λ (s : Parts R.Denot). given (AreLaid z.roots z.count s × (memory_of z.roots s ≡ with_word (memory_of z.roots t.parts) at (f w)))
           (‵ (Ws s)))) (apply∗ 𝓤 ⟦ word b e (f w) ⟧ (ex 𝓤 (Numbers.Rewritten 𝓛 R p z lent had t.parts at (f w)))) $
           pick ! (λ s. learn ! (λ so_is. by ! (back id v t s (so (out w)) so_is.0 g.2 (goes t g w found.1 s so_is.1))))))))
-
-      pub steps : (q : Share) → ⟦ Inv ⟧ ∗ (A.lft α q ∗ ⟦ seat id v ⟧) ⊢ asks 𝓛 (block_ptr b e) f always (λ n. fsep (flft α q) (told n))
-      steps q = plainly (A.lft α q ∗ ⟦ seat id v ⟧) _ (taken q)

@@ -1,12 +1,13 @@
 -- Words that are 0 and places without a value go under a rule that holds of them, and come back at the end. Assumes `Logic`.
-use Rattle.std.specs.Prelude.{slice_index, replicate}
-use Rattle.std.proofs.Common.{◌≡◌, ℕ, zero, suc, ◌+◌, ◌*◌, List, [], ◌∷◌, ◌++◌, length, refl, sym, ap, ◌∙◌, subst, inl, arith, Option, None, Some, length-append}
-use Rattle.std.proofs.lemmas.List.{length-replicate}
+use Rattle.std.specs.Prelude.{slice_index, slice_get, replicate}
+use Rattle.std.proofs.Common.{◌≡◌, ℕ, zero, suc, ◌+◌, ◌*◌, List, [], ◌∷◌, ◌++◌, length, take, drop, refl, sym, ap, ◌∙◌, subst, inl, arith, Option, None, Some, length-append}
+use Rattle.std.proofs.lemmas.List.{length-replicate, length-take-le, take_all}
 use seplogic.Ra.Ura.{Ura}
 use base.Fraction.{full_share}
+use base.Share.{three_quarters}
 use base.Stored.{Coded}
 use base.Logic.{SProp, ent, sep, ex, guard, via, never, never_e, emp}
-use base.Fml.{Lft, Fml, ftrue, fsep, fbor, fdead}
+use base.Fml.{Lft, Share, Fml, ftrue, fsep, fbor, fdead}
 use types.Logic.{Logic, sem}
 use types.Owned.{basic}
 use types.Keyed.{entries_take, entries_new}
@@ -20,11 +21,15 @@ use Rattle.seize_words.specs.declared.block.Block.{Block}
 use Rattle.seize_seats.specs.State.{State, Starts}
 use Rattle.seize_seats.specs.Cells.{Cell, Free, Claimed, Out, Has, Held, block_in, cell_at, sign_of}
 use Rattle.seize_seats.specs.Lines.{Parts, column, long, whole, memory_of, AreLaid}
-use Rattle.seize_seats.specs.Owned.{row, unborn, ledger, shared_view, hand_coded, resting, zeros, stride, place, places, hand, kept, under, numbers, BaseId, Inside, state_of, IsPlaced, standing, inner, lent_here, had_here, words_own}
+use Rattle.seize_seats.specs.Strips.{Strip, strip_coded, no_strip, AreStrips}
+use Rattle.seize_seats.specs.Seen.{seen}
+use Rattle.seize_seats.specs.Owned.{row, unborn, ledger, shared_view, hand_coded, resting, zeros, stride, place, places, hand, kept, under, numbers, strips, listed, BaseId, age, core_of, strip_of, IsFirst, Inside, state_of, IsPlaced, standing_in, inner, everything, lent_here, had_here, words_own}
 use Rattle.seize_seats.specs.Stretches.{IsEven, invariant}
 use Rattle.seize_seats.proofs.Ledgers as Ledgers
 use Rattle.seize_seats.proofs.Stretches as Stretches
 use Rattle.seize_seats.proofs.Lendings as Lendings
+use Rattle.seize_seats.proofs.Strips.{strip_within}
+use Rattle.seize_seats.proofs.Known as Known
 
 -- each word is 0
 abbrev pub AreZeros : List ℕ → Type 0
@@ -35,7 +40,7 @@ column_zeros zero ws o none = refl
 column_zeros (suc k) ws o none = let first = none o in let rest = column_zeros k ws (o + 16) none in cc (first, rest)
 
 -- five words for each number
-abbrev fives : ℕ → List ℕ
+abbrev pub fives : ℕ → List ℕ
 fives zero = []
 fives (suc n) = 0 ∷ 0 ∷ 0 ∷ 0 ∷ 0 ∷ fives n
 
@@ -63,7 +68,7 @@ module _ {M : Type 1} {𝓤 : Ura M} (𝓛 : Logic 𝓤) (b : ℕ) where
   row_joins (x ∷ xs) ys o e is = qed 𝓛 ((‵ (word b o x) ⊛ ‵ (row b (o + 8) xs)) ∷ ‵ (row b e ys) ∷ []) ∵ split ! $ move ! (1 ∷ 2 ∷ []) $
       use2 𝓛 (‵ (row b (o + 8) (xs ++ ys))) (row_joins xs ys (o + 8) e (omega (arith, is))) $ move ! (1 ∷ 0 ∷ []) $ fjoin ! $ done !
 
-module _ {M : Type 1} {𝓤 : Ura M} (𝓛 : Logic 𝓤) (R : RattleType) (α : Lft) (δ : ℕ) (lent : ℕ → R.Denot → ℕ → ℕ → Fml) (had : ℕ → ℕ → R.Denot → Fml) (b b' : ℕ) where
+module _ {M : Type 1} {𝓤 : Ura M} (𝓛 : Logic 𝓤) (R : RattleType) (α : Lft) (δ : ℕ) (lent : ℕ → R.Denot → ℕ → ℕ → Fml) (had : ℕ → ℕ → R.Denot → Fml) where
   abbrev Unborn : ℕ → Fml
   Unborn i = unborn hand_coded.code δ i resting
 
@@ -71,10 +76,11 @@ module _ {M : Type 1} {𝓤 : Ura M} (𝓛 : Logic 𝓤) (R : RattleType) (α : 
   abbrev free : ℕ → List (Cell R.Denot)
   free n = replicate n Free
 
-  builds : (n i o o' : ℕ) → ent 𝓤 (sep 𝓤 (sem 𝓛 (row b o (fives n))) (sep 𝓤 (sem 𝓛 (places R b' o' (replicate n None))) (sem 𝓛 (Unborn i))))
-      (sem 𝓛 (numbers R α δ lent had b o b' o' i (free n)))
-  builds zero i o o' = qed 𝓛 (‵ ftrue ∷ ‵ ftrue ∷ ‵ (Unborn i) ∷ []) ∵ keep ! (0 ∷ []) $ done !
-  builds (suc n) i o o' =
+  pub builds : (b b' n i j o o' : ℕ) → j ≡ n + i → ent 𝓤 (sep 𝓤 (sem 𝓛 (row b o (fives n))) (sep 𝓤 (sem 𝓛 (places R b' o' (replicate n None))) (sem 𝓛 (Unborn i))))
+      (sep 𝓤 (sem 𝓛 (numbers R α δ lent had b o b' o' i (free n))) (sem 𝓛 (Unborn j)))
+  builds b b' zero i j o o' is = let same : i ≡ j = omega (arith, is) in qed 𝓛 (‵ ftrue ∷ ‵ ftrue ∷ ‵ (Unborn i) ∷ []) ∵
+      rewrite ! 2 (λ (k : ℕ). ‵ (Unborn k)) same refl $ keep ! (0 ∷ 2 ∷ []) $ done !
+  builds b b' (suc n) i j o o' is =
       let P : Fml = place R α δ b' o' None in let Ps : Fml = places R b' (o' + stride R) (replicate n None) in
       let at : o + 8 + 8 + 8 + 8 ≡ o + 32 = omega arith in let on : o + 8 + 8 + 8 + 8 + 8 ≡ o + 40 = omega arith in
       qed 𝓛 (‵ (row b o (fives (suc n))) ∷ ‵ (fsep P Ps) ∷ ‵ (Unborn i) ∷ []) ∵
@@ -86,10 +92,11 @@ module _ {M : Type 1} {𝓤 : Ura M} (𝓛 : Logic 𝓤) (R : RattleType) (α : 
         hand_coded.code resting,
       ))) $ split ! $
       -- [hand; hands; place; places; sign; the rest; w3; w2; w1; w0]
-      move ! (5 ∷ 3 ∷ 1 ∷ []) $ use3 𝓛 (‵ (numbers R α δ lent had b (o + 40) b' (o' + stride R) (suc i) (free n))) (builds n (suc i) (o + 40) (o' + stride R)) $
-      -- [numbers; hand; place; sign; w3; w2; w1; w0]
+      move ! (5 ∷ 3 ∷ 1 ∷ []) $ use3 𝓛 (‵ (numbers R α δ lent had b (o + 40) b' (o' + stride R) (suc i) (free n)) ⊛ ‵ (Unborn j))
+      (builds b b' n (suc i) j (o + 40) (o' + stride R) (omega (arith, is))) $ split ! $ move ! (0 ∷ 2 ∷ 3 ∷ 4 ∷ 5 ∷ 6 ∷ 7 ∷ 8 ∷ 1 ∷ []) $
+      -- [numbers; hand; place; sign; w3; w2; w1; w0; hands]
       nothing ! $ move ! (5 ∷ 0 ∷ []) $ fjoin ! $ move ! (5 ∷ 0 ∷ []) $ fjoin ! $ move ! (5 ∷ 0 ∷ []) $ fjoin ! $ move ! (5 ∷ 0 ∷ []) $ fjoin ! $
-      -- [the entry; numbers; hand; place; sign]
+      -- [the entry; numbers; hand; place; sign; hands]
       move ! (0 ∷ 3 ∷ []) $ fjoin ! $ move ! (2 ∷ 0 ∷ []) $ fjoin ! $ move ! (2 ∷ 0 ∷ []) $ fjoin ! $ fjoin ! $ done !
 
   -- values that are owned, and not lent
@@ -98,79 +105,92 @@ module _ {M : Type 1} {𝓤 : Ura M} (𝓛 : Logic 𝓤) (R : RattleType) (α : 
 
   -- what was lent comes back
   module _ (back : (i : ℕ) (x : R.Denot) (c u : ℕ) → ent 𝓤 (sep 𝓤 (sem 𝓛 (fdead α)) (sem 𝓛 (lent i x c u))) (𝓛.H.⇛ (sep 𝓤 (sem 𝓛 (fdead α)) (sem 𝓛 (owned i x c u))))) where
-    unlends_one : (o o' i : ℕ) (c : Cell R.Denot) → ent 𝓤 (sep 𝓤 (sem 𝓛 (under R α δ lent had b o b' o' i c)) (sem 𝓛 (fdead α)))
+    unlends_one : (b b' o o' i : ℕ) (c : Cell R.Denot) → ent 𝓤 (sep 𝓤 (sem 𝓛 (under R α δ lent had b o b' o' i c)) (sem 𝓛 (fdead α)))
         (𝓛.H.⇛ (sep 𝓤 (sem 𝓛 (under R α δ owned had b o b' o' i c)) (sem 𝓛 (fdead α))))
-    unlends_one o o' i Free = qed 𝓛 (‵ (under R α δ owned had b o b' o' i Free) ∷ ‵ (fdead α) ∷ []) ∵ updating ! $ now ! $ done !
-    unlends_one o o' i Claimed = qed 𝓛 (‵ (under R α δ owned had b o b' o' i Claimed) ∷ ‵ (fdead α) ∷ []) ∵ updating ! $ now ! $ done !
-    unlends_one o o' i (Out e) = qed 𝓛 (‵ (under R α δ owned had b o b' o' i (Out e)) ∷ ‵ (fdead α) ∷ []) ∵ updating ! $ now ! $ done !
-    unlends_one o o' i (Held ρ e x ws) = qed 𝓛 (‵ (under R α δ owned had b o b' o' i (Held ρ e x ws)) ∷ ‵ (fdead α) ∷ []) ∵ updating ! $ now ! $ done !
-    unlends_one o o' i (Has x ws) = qed 𝓛 (‵ (under R α δ lent had b o b' o' i (Has x ws)) ∷ ‵ (fdead α) ∷ []) ∵ updating ! $ fsplit ! $ move ! (1 ∷ []) $ fsplit ! $
+    unlends_one b b' o o' i Free = qed 𝓛 (‵ (under R α δ owned had b o b' o' i Free) ∷ ‵ (fdead α) ∷ []) ∵ updating ! $ now ! $ done !
+    unlends_one b b' o o' i Claimed = qed 𝓛 (‵ (under R α δ owned had b o b' o' i Claimed) ∷ ‵ (fdead α) ∷ []) ∵ updating ! $ now ! $ done !
+    unlends_one b b' o o' i (Out e) = qed 𝓛 (‵ (under R α δ owned had b o b' o' i (Out e)) ∷ ‵ (fdead α) ∷ []) ∵ updating ! $ now ! $ done !
+    unlends_one b b' o o' i (Held ρ e x ws) = qed 𝓛 (‵ (under R α δ owned had b o b' o' i (Held ρ e x ws)) ∷ ‵ (fdead α) ∷ []) ∵ updating ! $ now ! $ done !
+    unlends_one b b' o o' i (Has x ws) = qed 𝓛 (‵ (under R α δ lent had b o b' o' i (Has x ws)) ∷ ‵ (fdead α) ∷ []) ∵ updating ! $ fsplit ! $ move ! (1 ∷ []) $ fsplit ! $
         move ! (1 ∷ []) $ fsplit ! $
         -- [the entry; the value; the hand; the sign; dead]
         move ! (4 ∷ 1 ∷ []) $ use2 𝓛 (later (‵ (fdead α) ⊛ ‵ (owned i x b' o'))) (back i x b' o') $ await ! tt $ split ! $ move ! (2 ∷ 1 ∷ []) $ fjoin ! $
         move ! (2 ∷ 0 ∷ []) $ fjoin ! $ move ! (2 ∷ 0 ∷ []) $ fjoin ! $ now ! $ done !
 
-    pub unlends : (cs : List (Cell R.Denot)) (o o' i : ℕ) → ent 𝓤 (sep 𝓤 (sem 𝓛 (numbers R α δ lent had b o b' o' i cs)) (sem 𝓛 (fdead α)))
+    unlends : (b b' : ℕ) (cs : List (Cell R.Denot)) (o o' i : ℕ) → ent 𝓤 (sep 𝓤 (sem 𝓛 (numbers R α δ lent had b o b' o' i cs)) (sem 𝓛 (fdead α)))
         (𝓛.H.⇛ (sep 𝓤 (sem 𝓛 (numbers R α δ owned had b o b' o' i cs)) (sem 𝓛 (fdead α))))
-    unlends [] o o' i = qed 𝓛 (‵ ftrue ∷ ‵ (fdead α) ∷ []) ∵ updating ! $ now ! $ done !
-    unlends (c ∷ cs) o o' i = let Rest : (ℕ → R.Denot → ℕ → ℕ → Fml) → Fml = λ l. numbers R α δ l had b (o + 40) b' (o' + stride R) (suc i) cs in
+    unlends b b' [] o o' i = qed 𝓛 (‵ ftrue ∷ ‵ (fdead α) ∷ []) ∵ updating ! $ now ! $ done !
+    unlends b b' (c ∷ cs) o o' i = let Rest : (ℕ → R.Denot → ℕ → ℕ → Fml) → Fml = λ l. numbers R α δ l had b (o + 40) b' (o' + stride R) (suc i) cs in
         qed 𝓛 ((‵ (under R α δ lent had b o b' o' i c) ⊛ ‵ (Rest lent)) ∷ ‵ (fdead α) ∷ []) ∵ updating ! $ split ! $ move ! (1 ∷ 2 ∷ []) $
-        use2 𝓛 (later (‵ (Rest owned) ⊛ ‵ (fdead α))) (unlends cs (o + 40) (o' + stride R) (suc i)) $ await ! tt $ split ! $ move ! (2 ∷ 1 ∷ []) $
-        use2 𝓛 (later (‵ (under R α δ owned had b o b' o' i c) ⊛ ‵ (fdead α))) (unlends_one o o' i c) $ await ! tt $ split ! $ move ! (0 ∷ 2 ∷ []) $ fjoin ! $
+        use2 𝓛 (later (‵ (Rest owned) ⊛ ‵ (fdead α))) (unlends b b' cs (o + 40) (o' + stride R) (suc i)) $ await ! tt $ split ! $ move ! (2 ∷ 1 ∷ []) $
+        use2 𝓛 (later (‵ (under R α δ owned had b o b' o' i c) ⊛ ‵ (fdead α))) (unlends_one b b' o o' i c) $ await ! tt $ split ! $ move ! (0 ∷ 2 ∷ []) $ fjoin ! $
         now ! $ done !
 
-  -- what comes back of so many numbers
-  abbrev Torn : ℕ → ℕ → ℕ → List ℕ × List (Option R.Denot) → SProp 𝓤
-  Torn n o o' u = guard 𝓤 ((length u.0 ≡ n * 5) × (length u.1 ≡ n)) (sep 𝓤 (sem 𝓛 (row b o u.0)) (sem 𝓛 (places R b' o' u.1)))
+    pub unlends_strips : (ss : List Strip) (cs : List (Cell R.Denot)) → ent 𝓤 (sep 𝓤 (sem 𝓛 (strips R α δ lent had ss cs)) (sem 𝓛 (fdead α)))
+        (𝓛.H.⇛ (sep 𝓤 (sem 𝓛 (strips R α δ owned had ss cs)) (sem 𝓛 (fdead α))))
+    unlends_strips [] cs = qed 𝓛 (‵ ftrue ∷ ‵ (fdead α) ∷ []) ∵ updating ! $ now ! $ done !
+    unlends_strips (s ∷ ss) cs =
+        let Here : (ℕ → R.Denot → ℕ → ℕ → Fml) → Fml = λ l. numbers R α δ l had (block_of s.words) (s.skip * 8 + count_of s.words) (block_of s.values)
+        (count_of s.values) s.first (take s.size cs) in
+        let Rest : (ℕ → R.Denot → ℕ → ℕ → Fml) → Fml = λ l. strips R α δ l had ss (drop s.size cs) in
+        qed 𝓛 ((‵ (Here lent) ⊛ ‵ (Rest lent)) ∷ ‵ (fdead α) ∷ []) ∵ updating ! $ split ! $ move ! (1 ∷ 2 ∷ []) $
+        use2 𝓛 (later (‵ (Rest owned) ⊛ ‵ (fdead α))) (unlends_strips ss (drop s.size cs)) $ await ! tt $ split ! $ move ! (2 ∷ 1 ∷ []) $
+        use2 𝓛 (later (‵ (Here owned) ⊛ ‵ (fdead α)))
+        (unlends (block_of s.words) (block_of s.values) (take s.size cs) (s.skip * 8 + count_of s.words) (count_of s.values) s.first) $ await ! tt $ split ! $
+        move ! (0 ∷ 2 ∷ []) $ fjoin ! $ now ! $ done !
 
-  abbrev torn_item : ℕ → ℕ → ℕ → List ℕ × List (Option R.Denot) → types.Kit.Item 𝓤
-  torn_item n o o' u = given ((length u.0 ≡ n * 5) × (length u.1 ≡ n)) (‵ (row b o u.0) ⊛ ‵ (places R b' o' u.1))
+  -- what comes back of so many numbers
+  abbrev Torn : ℕ → ℕ → ℕ → ℕ → ℕ → List ℕ × List (Option R.Denot) → SProp 𝓤
+  Torn b b' n o o' u = guard 𝓤 ((length u.0 ≡ n * 5) × (length u.1 ≡ n)) (sep 𝓤 (sem 𝓛 (row b o u.0)) (sem 𝓛 (places R b' o' u.1)))
+
+  abbrev torn_item : ℕ → ℕ → ℕ → ℕ → ℕ → List ℕ × List (Option R.Denot) → types.Kit.Item 𝓤
+  torn_item b b' n o o' u = given ((length u.0 ≡ n * 5) × (length u.1 ≡ n)) (‵ (row b o u.0) ⊛ ‵ (places R b' o' u.1))
 
   -- four words, a sign and the place, before those of further numbers
-  stacks : (n o o' s : ℕ) (ws : List ℕ) (x : Option R.Denot) → length ws ≡ 4 → (u : List ℕ × List (Option R.Denot)) → (length u.0 ≡ n * 5) × (length u.1 ≡ n)
+  stacks : (b b' n o o' s : ℕ) (ws : List ℕ) (x : Option R.Denot) → length ws ≡ 4 → (u : List ℕ × List (Option R.Denot)) → (length u.0 ≡ n * 5) × (length u.1 ≡ n)
       → ent 𝓤 (sep 𝓤 (sem 𝓛 (word b (o + 32) s)) (sep 𝓤 (sem 𝓛 (fsep (row b o ws) (place R α δ b' o' x))) (sep 𝓤 (sem 𝓛 (row b (o + 40) u.0)) (sem 𝓛 (places R b' (o' + stride R) u.1)))))
-      (ex 𝓤 (Torn (suc n) o o'))
-  stacks n o o' s ws x four u long_are =
+      (ex 𝓤 (Torn b b' (suc n) o o'))
+  stacks b b' n o o' s ws x four u long_are =
       let on : o + 40 ≡ o + 32 + 8 = omega arith in let l = long_are.0 in let m = long_are.1 in
       let all : length (ws ++ s ∷ u.0) ≡ suc n * 5 = length-append ws (s ∷ u.0) ∙ omega (arith, four, l) in
       qed 𝓛 (‵ (word b (o + 32) s) ∷ ‵ (fsep (row b o ws) (place R α δ b' o' x)) ∷ ‵ (row b (o + 40) u.0) ∷ ‵ (places R b' (o' + stride R) u.1) ∷ []) ∵
       move ! (2 ∷ []) $ rewrite ! 0 (λ (k : ℕ). ‵ (row b k u.0)) on refl $ move ! (1 ∷ 0 ∷ []) $ fjoin ! $ move ! (1 ∷ []) $ fsplit ! $
       -- [the entry; the place; the sign and the rest; places]
       move ! (0 ∷ 2 ∷ []) $ use2 𝓛 (‵ (row b o (ws ++ s ∷ u.0))) (row_joins 𝓛 b ws (s ∷ u.0) o (o + 32) (omega (arith, four))) $ move ! (1 ∷ 2 ∷ []) $ fjoin ! $
-      show ! (Torn (suc n) o o') (ws ++ s ∷ u.0, x ∷ u.1) $ check ! (all, omega (arith, m)) $ move ! (1 ∷ 0 ∷ []) $ done !
+      show ! (Torn b b' (suc n) o o') (ws ++ s ∷ u.0, x ∷ u.1) $ check ! (all, omega (arith, m)) $ move ! (1 ∷ 0 ∷ []) $ done !
 
-  tears : (cs : List (Cell R.Denot)) (o o' i : ℕ) → ((k : ℕ) (x : Block R.Denot) → block_in (cell_at cs k) ≡ Some x → length x.entry ≡ 4)
-      → ent 𝓤 (sep 𝓤 (sem 𝓛 (numbers R α δ owned had b o b' o' i cs)) (sem 𝓛 (fdead α))) (ex 𝓤 (Torn (length cs) o o'))
-  tears [] o o' i fours = qed 𝓛 (‵ ftrue ∷ ‵ (fdead α) ∷ []) ∵ show ! (Torn 0 o o') ([], []) $ check ! (refl, refl) $ leave ! $ leave ! $ nothing ! $ nothing ! $ done !
-  tears (c ∷ cs) o o' i fours =
+  tears : (b b' : ℕ) (cs : List (Cell R.Denot)) (o o' i : ℕ) → ((k : ℕ) (x : Block R.Denot) → block_in (cell_at cs k) ≡ Some x → length x.entry ≡ 4)
+      → ent 𝓤 (sep 𝓤 (sem 𝓛 (numbers R α δ owned had b o b' o' i cs)) (sem 𝓛 (fdead α))) (ex 𝓤 (Torn b b' (length cs) o o'))
+  tears b b' [] o o' i fours = qed 𝓛 (‵ ftrue ∷ ‵ (fdead α) ∷ []) ∵ show ! (Torn b b' 0 o o') ([], []) $ check ! (refl, refl) $ leave ! $ leave ! $ nothing ! $ nothing ! $ done !
+  tears b b' (c ∷ cs) o o' i fours =
       qed 𝓛 ((‵ (under R α δ owned had b o b' o' i c) ⊛ ‵ (numbers R α δ owned had b (o + 40) b' (o' + stride R) (suc i) cs)) ∷ ‵ (fdead α) ∷ []) ∵ split ! $ move ! (2 ∷ []) $
       use1 𝓛 (‵ (fdead α) ⊛ ‵ (fdead α)) (𝓛.lfts.dead_dup α) $ split ! $ move ! (3 ∷ 0 ∷ []) $
-      use2 𝓛 (items (torn_item (length cs) (o + 40) (o' + stride R))) (tears cs (o + 40) (o' + stride R) (suc i) (λ k. fours (suc k))) $
+      use2 𝓛 (items (torn_item b b' (length cs) (o + 40) (o' + stride R))) (tears b b' cs (o + 40) (o' + stride R) (suc i) (λ k. fours (suc k))) $
       pick ! (λ u. learn ! (λ l. split ! $ move ! (3 ∷ 2 ∷ []) $ fsplit ! $ by ! (parts c (λ x e. fours 0 x e) u l)))
     where
       parts : (c : Cell R.Denot) → ((x : Block R.Denot) → block_in c ≡ Some x → length x.entry ≡ 4) → (u : List ℕ × List (Option R.Denot))
           → (length u.0 ≡ length cs * 5) × (length u.1 ≡ length cs)
           → ent 𝓤 (sep 𝓤 (sem 𝓛 (word b (o + 32) (sign_of c))) (sep 𝓤 (sem 𝓛 (kept R α δ owned had b o b' o' i c)) (sep 𝓤 (sem 𝓛 (fdead α))
-          (sep 𝓤 (sem 𝓛 (row b (o + 40) u.0)) (sem 𝓛 (places R b' (o' + stride R) u.1)))))) (ex 𝓤 (Torn (suc (length cs)) o o'))
+          (sep 𝓤 (sem 𝓛 (row b (o + 40) u.0)) (sem 𝓛 (places R b' (o' + stride R) u.1)))))) (ex 𝓤 (Torn b b' (suc (length cs)) o o'))
       parts Free four u l =
           qed 𝓛 (‵ (word b (o + 32) 0) ∷ ‵ (kept R α δ owned had b o b' o' i Free) ∷ ‵ (fdead α) ∷ ‵ (row b (o + 40) u.0) ∷ ‵ (places R b' (o' + stride R) u.1) ∷ []) ∵
-          move ! (1 ∷ []) $ fsplit ! $ keep ! (2 ∷ 1 ∷ 4 ∷ 5 ∷ []) $ by ! (stacks (length cs) o o' 0 zeros None refl u l)
+          move ! (1 ∷ []) $ fsplit ! $ keep ! (2 ∷ 1 ∷ 4 ∷ 5 ∷ []) $ by ! (stacks b b' (length cs) o o' 0 zeros None refl u l)
       parts Claimed four u l =
           qed 𝓛 (‵ (word b (o + 32) 1) ∷ ‵ (kept R α δ owned had b o b' o' i Claimed) ∷ ‵ (fdead α) ∷ ‵ (row b (o + 40) u.0) ∷ ‵ (places R b' (o' + stride R) u.1) ∷ []) ∵
-          move ! (1 ∷ []) $ fsplit ! $ keep ! (2 ∷ 1 ∷ 4 ∷ 5 ∷ []) $ by ! (stacks (length cs) o o' 1 zeros None refl u l)
+          move ! (1 ∷ []) $ fsplit ! $ keep ! (2 ∷ 1 ∷ 4 ∷ 5 ∷ []) $ by ! (stacks b b' (length cs) o o' 1 zeros None refl u l)
       parts (Has x ws) four u l =
           qed 𝓛 (‵ (word b (o + 32) 1) ∷ ‵ (kept R α δ owned had b o b' o' i (Has x ws)) ∷ ‵ (fdead α) ∷ ‵ (row b (o + 40) u.0) ∷ ‵ (places R b' (o' + stride R) u.1) ∷
           []) ∵
-          move ! (1 ∷ []) $ fsplit ! $ keep ! (2 ∷ 1 ∷ 4 ∷ 5 ∷ []) $ by ! (stacks (length cs) o o' 1 ws (Some x) (four _ refl) u l)
+          move ! (1 ∷ []) $ fsplit ! $ keep ! (2 ∷ 1 ∷ 4 ∷ 5 ∷ []) $ by ! (stacks b b' (length cs) o o' 1 ws (Some x) (four _ refl) u l)
       parts (Out s) four u l =
           qed 𝓛 (‵ (word b (o + 32) 1) ∷ ‵ (kept R α δ owned had b o b' o' i (Out s)) ∷ ‵ (fdead α) ∷ ‵ (row b (o + 40) u.0) ∷ ‵ (places R b' (o' + stride R) u.1) ∷ []) ∵
           move ! (1 ∷ []) $ fsplit ! $ move ! (1 ∷ 3 ∷ []) $ use2 𝓛 (raw (never 𝓤)) (𝓛.lfts.lft-dead α s) $ keep ! (0 ∷ []) $
-          by ! (never_e 𝓤 (ex 𝓤 (Torn (suc (length cs)) o o')))
+          by ! (never_e 𝓤 (ex 𝓤 (Torn b b' (suc (length cs)) o o')))
       parts (Held ρ s x ws) four u l =
           qed 𝓛 (‵ (word b (o + 32) 1) ∷ ‵ (kept R α δ owned had b o b' o' i (Held ρ s x ws)) ∷ ‵ (fdead α) ∷ ‵ (row b (o + 40) u.0) ∷ ‵ (places R b' (o' + stride R) u.1) ∷
           []) ∵
           move ! (1 ∷ []) $ fsplit3 ! $ move ! (2 ∷ []) $ fsplit ! $ move ! (0 ∷ 5 ∷ []) $ use2 𝓛 (raw (never 𝓤)) (𝓛.lfts.lft-dead α s) $ keep ! (0 ∷ []) $
-          by ! (never_e 𝓤 (ex 𝓤 (Torn (suc (length cs)) o o')))
+          by ! (never_e 𝓤 (ex 𝓤 (Torn b b' (suc (length cs)) o o')))
 
 zeros_of : (n k : ℕ) → slice_index (replicate n 0) k ≡ 0
 zeros_of zero k = refl
@@ -193,14 +213,27 @@ module _ {M : Type 1} {𝓤 : Ura M} (𝓛 : Logic 𝓤) (R : RattleType) {V W :
   abbrev ⟦◌⟧ : Fml → SProp 𝓤
   ⟦ P ⟧ = sem 𝓛 P
 
-  -- which words these are, but for names
-  abbrev pub named : ℕ → ℕ → ℕ → ℕ → ℕ → BaseId
-  named a γ δ roots count = record { atom = a; views_name = γ; hands_name = δ; roots = roots; count = count; values = pv }
+  -- which words these are, but for names: those of roots and slots, and of the first strip, which has all numbers
+  abbrev pub named : ℕ → ℕ → ℕ → ℕ → ℕ → ℕ → BaseId
+  named a γ δ σ roots count = record {
+    atom = a;
+    views_name = γ;
+    hands_name = δ;
+    strips_name = σ;
+    roots = roots;
+    count = count;
+    fixed = p;
+    place = 0;
+    skip = long roots;
+    values = pv;
+    first = 0;
+    size = count;
+  }
 
-  module _ (roots count : ℕ) (blank : V) (ws : List ℕ) (none : AreZeros ws) (all : length ws ≡ whole roots count) (placed : IsPlaced R p (named 0 0 0 roots count))
+  module _ (roots count : ℕ) (blank : V) (ws : List ℕ) (none : AreZeros ws) (all : length ws ≡ whole roots count) (placed : IsPlaced R p (named 0 0 0 0 roots count))
       (starts : Starts holds roots) where
     abbrev pub Opened : BaseId → SProp 𝓤
-    Opened z = guard 𝓤 ((z.roots ≡ roots) × (z.count ≡ count) × (z.values ≡ pv)) ⟦ words_own R cv.code holds p z ⟧
+    Opened z = guard 𝓤 ((z.roots ≡ roots) × (z.count ≡ count) × (z.values ≡ pv) × (z.size ≡ count) × IsFirst p z) ⟦ words_own R cv.code holds p z ⟧
 
     abbrev parts : Parts R.Denot
     parts = record { words = replicate (long roots) 0; slots = 0; cells = replicate count Free; given = 0 }
@@ -212,7 +245,7 @@ module _ {M : Type 1} {𝓤 : Ura M} (𝓛 : Logic 𝓤) (R : RattleType) {V W :
     laid = record {
       all = length-replicate (long roots) 0;
       slots_are = inl (refl, λ k le. zeros_of (long roots) k);
-      counted = length-replicate count Free;
+      counted = let l = length-replicate {A = Cell R.Denot} count Free in omega (arith, l);
       within = omega arith;
       rest = λ k le. ap block_in (frees_of count k);
       fours = λ k x e. absurd (let none : block_in (cell_at {T = R.Denot} (replicate count Free) k) ≡ None = ap block_in (frees_of count k) in cc (none, e));
@@ -231,48 +264,117 @@ module _ {M : Type 1} {𝓤 : Ura M} (𝓛 : Logic 𝓤) (R : RattleType) {V W :
     hands_new = via 𝓤 _ (entries_new shared_view 𝓛 0 (λ _. (full_share, hand_coded.code resting)))
         (basic 𝓛 (ex 𝓤 (λ (δ : ℕ). ⟦ unborn hand_coded.code δ 0 resting ⟧)))
 
+    abbrev all_free : List (Cell R.Denot)
+    all_free = replicate count Free
+
     pub opens : ent 𝓤 (sep 𝓤 ⟦ row (block_of p) (count_of p) ws ⟧ ⟦ places R (block_of pv) (count_of pv) (replicate count None) ⟧) (H.⇛ (ex 𝓤 Opened))
     opens = let b : ℕ = block_of p in let o : ℕ = count_of p in let b' : ℕ = block_of pv in let o' : ℕ = count_of pv in let f : ℕ = long roots * 8 + o in
         let head : List ℕ = replicate (long roots) 0 in let l = length-replicate {A = ℕ} (long roots) 0 in
+        let many = length-replicate {A = Cell R.Denot} count Free in let same : take count all_free ≡ all_free = take_all count all_free (omega (arith, many)) in
         qed 𝓛 (‵ (row b o ws) ∷ ‵ (places R b' o' (replicate count None)) ∷ []) ∵ updating ! $ lft_new ! tt (λ a. let α : Lft = a ∷ [] in
         use0 𝓛 (later (items (λ (γ : ℕ). ‵ (ledger cv.code γ blank [])))) (via 𝓤 _ (Ledgers.begins 𝓛 cv 0 blank)
         (basic 𝓛 (ex 𝓤 (λ (γ : ℕ). ⟦ ledger cv.code γ blank [] ⟧)))) $ await ! tt $ pick ! (λ γ.
         use0 𝓛 (later (items (λ (δ : ℕ). ‵ (unborn hand_coded.code δ 0 resting)))) hands_new $ await ! tt $ pick ! (λ δ.
-        -- [the hands; the views; the token; the words; the places]
-        let z : BaseId = named a γ δ roots count in let I : Fml = inner R cv.code holds p z in
-        let N : Fml = numbers R α δ (lent_here R cv.code holds p z) (had_here R cv.code holds p z) b f b' o' 0 (replicate count Free) in
-        move ! (3 ∷ []) $ rewrite ! 0 (λ (us : List ℕ). ‵ (row b o us)) (zeros_are (long roots) count ws all none) refl $
+        use0 𝓛 (later (items (λ (σ : ℕ). ‵ (ledger strip_coded.code σ no_strip [])))) (via 𝓤 _ (Ledgers.begins 𝓛 strip_coded 0 no_strip)
+        (basic 𝓛 (ex 𝓤 (λ (σ : ℕ). ⟦ ledger strip_coded.code σ no_strip [] ⟧)))) $ await ! tt $ pick ! (λ σ.
+        let z : BaseId = named a γ δ σ roots count in let E : Fml = everything R cv.code holds (core_of z) in let s : Strip = strip_of p z in
+        let Book : Fml = ledger strip_coded.code σ no_strip (s ∷ []) in let Sh : Share → Fml = λ q. seen strip_coded.code σ q 0 s in
+        let Lt = lent_here R cv.code holds p z in let Hd = had_here R cv.code holds p z in
+        let N : List (Cell R.Denot) → Fml = λ cs. numbers R α δ Lt Hd b f b' o' 0 cs in
+        use1 𝓛 (later (‵ Book ⊛ ‵ (Sh three_quarters))) (via 𝓤 _ (Ledgers.comes 𝓛 strip_coded σ no_strip [] s) (basic 𝓛 _)) $ await ! tt $ split ! $
+        move ! (1 ∷ []) $ fpack ! Share Sh three_quarters $
+        -- [the strip; the list; the hands; the views; the token; the words; the places]
+        move ! (5 ∷ []) $ rewrite ! 0 (λ (us : List ℕ). ‵ (row b o us)) (zeros_are (long roots) count ws all none) refl $
         use1 𝓛 (‵ (row b o head) ⊛ ‵ (row b f (fives count))) (row_splits 𝓛 b head (fives count) o f (omega (arith, l))) $ split ! $
-        -- [the first words; the others; the hands; the views; the token; the places]
-        move ! (1 ∷ 5 ∷ 2 ∷ []) $ use3 𝓛 (‵ N) (builds 𝓛 R α δ (lent_here R cv.code holds p z) (had_here R cv.code holds p z) b b' count 0 f o') $ move ! (1 ∷ 0 ∷ []) $ fjoin ! $
-        -- [the memory; the views; the token]
-        nothing ! $ fpack ! (holds (state_of z first) × AreLaid z.roots z.count parts) (λ _. ftrue) (begins, laid) $ move ! (1 ∷ 2 ∷ 0 ∷ []) $ fjoin3 ! $
-        fpack ! (Inside R.Denot V W) (standing R cv.code holds p z) first $
-        bor_new ! tt α $ use1 𝓛 (later (‵ (invariant IsEven (fbor α I)))) (Stretches.made 𝓛 IsEven (fbor α I) Stretches.evens) $ await ! tt $
+        -- [the first words; the others; the strip; the list; the hands; the views; the token; the places]
+        move ! (1 ∷ 7 ∷ 4 ∷ []) $ use3 𝓛 (‵ (N all_free) ⊛ ‵ (unborn hand_coded.code δ count resting)) (builds 𝓛 R α δ Lt Hd b b' count 0 count f o' (omega arith)) $ split ! $
+        rewrite ! 0 (λ (cs : List (Cell R.Denot)). ‵ (N cs)) (sym same) refl $
+        rewrite ! 1 (λ (n : ℕ). ‵ (unborn hand_coded.code δ n resting)) (sym many) refl $
+        -- [the numbers; further hands; the first words; the strip; the list; the views; the token]
+        move ! (4 ∷ 1 ∷ []) $ fjoin ! $ move ! (1 ∷ 2 ∷ 3 ∷ 0 ∷ []) $
+        -- [the numbers; the first words; the strip; the list and the hands; the views; the token]
+        nothing ! $ move ! (1 ∷ 0 ∷ []) $ fjoin ! $
+        nothing ! $ fpack ! (AreStrips 0 (s ∷ []) (length all_free) × Unit {0}) (λ _. ftrue) ((refl, omega (arith, many)), tt) $
+        -- [what is so; the numbers; the first words; the strip; the list; the views; the token]
+        move ! (4 ∷ 0 ∷ 1 ∷ []) $ fjoin3 ! $ fpack ! (List Strip) (listed R α δ Lt Hd σ (λ _. Unit {0}) all_free) (s ∷ []) $ move ! (1 ∷ 0 ∷ []) $ fjoin ! $
+        -- [the memory; the strip; the views; the token]
+        nothing ! $ fpack ! (holds (state_of z first) × AreLaid z.roots z.count parts) (λ _. ftrue) (begins, laid) $ move ! (1 ∷ 3 ∷ 0 ∷ []) $ fjoin3 ! $
+        fpack ! (Inside R.Denot V W) (standing_in R cv.code holds (core_of z) (λ _. Unit {0})) first $
+        bor_new ! tt α $ use1 𝓛 (later (‵ (invariant IsEven (fbor α E)))) (Stretches.made 𝓛 IsEven (fbor α E) Stretches.evens) $ await ! tt $
+        -- [the invariant; what was lent; the strip; the token]
+        move ! (2 ∷ 0 ∷ []) $ fjoin ! $
         nothing ! $ fpack ! (IsPlaced R p z) (λ _. ftrue) placed $ move ! (0 ∷ 1 ∷ []) $ fjoin ! $ move ! (0 ∷ 1 ∷ []) $ fjoin ! $ move ! (1 ∷ 0 ∷ []) $ fjoin ! $
-        now ! $ show ! Opened z $ check ! (refl, refl, refl) $ done !)))
+        now ! $ show ! Opened z $ check ! (refl, refl, refl, refl, (refl, refl, refl, refl)) $ done !))))
 
-  module _ (z : BaseId) where
+  -- other cells of so many are the first ones
+  taken_cell : (n k : ℕ) (cs : List (Cell R.Denot)) (x : Block R.Denot) → block_in (cell_at (take n cs) k) ≡ Some x → block_in (cell_at cs k) ≡ Some x
+  taken_cell zero k cs x e = absurd (let none : block_in (cell_at {T = R.Denot} [] k) ≡ None = refl in cc (none, e))
+  taken_cell (suc n) k [] x e = e
+  taken_cell (suc n) zero (c ∷ cs) x e = e
+  taken_cell (suc n) (suc k) (c ∷ cs) x e = taken_cell n k cs x e
+
+  module _ (z : BaseId) (is : IsFirst p z) where
     abbrev pub Closed : List ℕ × List (Option R.Denot) → SProp 𝓤
     Closed u =
-        guard 𝓤 ((length u.0 ≡ whole z.roots z.count) × (length u.1 ≡ z.count) × IsPlaced R p z)
+        guard 𝓤 ((length u.0 ≡ whole z.roots z.size) × (length u.1 ≡ z.size) × IsPlaced R p z)
         (sep 𝓤 ⟦ row (block_of p) (count_of p) u.0 ⟧ ⟦ places R (block_of z.values) (count_of z.values) u.1 ⟧)
 
+    abbrev α : Lft
+    α = age z
+
+    abbrev Lt : ℕ → R.Denot → ℕ → ℕ → Fml
+    Lt = lent_here R cv.code holds p z
+
+    abbrev Hd : ℕ → ℕ → R.Denot → Fml
+    Hd = had_here R cv.code holds p z
+
+    abbrev Owned : ℕ → R.Denot → ℕ → ℕ → Fml
+    Owned = owned 𝓛 R α z.hands_name Lt Hd
+
+    abbrev Fixed : List ℕ → Fml
+    Fixed ws = row (block_of z.fixed) (count_of z.fixed) ws
+
+    abbrev Rest : Fml
+    Rest = fsep (fdead α) ftrue
+
+    -- the numbers of the first strip
+    gives_back : (t : Inside R.Denot V W) (laid : AreLaid z.roots z.count t.parts) (placed : IsPlaced R p z) (ss : List Strip)
+        → AreStrips 0 ss (length t.parts.cells) → slice_get ss 0 ≡ Some (strip_of p z)
+        → ent 𝓤 (sep 𝓤 ⟦ strips R α z.hands_name Owned Hd ss t.parts.cells ⟧ (sep 𝓤 ⟦ fdead α ⟧ ⟦ Fixed t.parts.words ⟧)) (ex 𝓤 Closed)
+    gives_back t laid placed [] are at = absurd (cc at)
+    gives_back t laid placed (s ∷ ss) are at =
+        let same : s ≡ strip_of p z = cc at in let up = strip_within (s ∷ ss) 0 (length t.parts.cells) 0 (strip_of p z) are at in let last = up.1 in
+        let cs : List (Cell R.Denot) = t.parts.cells in let us : List (Cell R.Denot) = take z.size cs in let ws : List ℕ = t.parts.words in
+        let Of : Strip → Fml = λ r. numbers R α z.hands_name Owned Hd (block_of r.words) (r.skip * 8 + count_of r.words) (block_of r.values) (count_of r.values) r.first
+        (take r.size cs) in
+        let b : ℕ = block_of p in let o : ℕ = count_of p in let b' : ℕ = block_of z.values in let o' : ℕ = count_of z.values in let f : ℕ = z.skip * 8 + o in
+        let size : length us ≡ z.size = length-take-le z.size cs (omega (arith, last)) in let skip = is.1 in let head = laid.all in
+        let At : Ptr → Fml = λ r. row (block_of r) (count_of r) ws in
+        qed 𝓛 (‵ (fsep (Of s) (strips R α z.hands_name Owned Hd ss (drop s.size cs))) ∷ ‵ (fdead α) ∷ ‵ (Fixed ws) ∷ []) ∵ fsplit ! $ move ! (1 ∷ []) $ leave ! $
+        rewrite ! 0 (λ (r : Strip). ‵ (Of r)) same refl $
+        rewrite ! 2 (λ (r : Ptr). ‵ (At r)) is.0 refl $
+        use2 𝓛 (items (torn_item 𝓛 R α z.hands_name Lt Hd b b' (length us) f o'))
+        (tears 𝓛 R α z.hands_name Lt Hd b b' us f o' z.first (λ k x e. laid.fours k x (taken_cell z.size k cs x e))) $ pick ! (λ u. learn ! (λ l. split ! $
+        -- [the others; the places; the first words]
+        let l0 = l.0 in let l1 = l.1 in
+        let long_is : length (ws ++ u.0) ≡ whole z.roots z.size = length-append ws u.0 ∙ omega (arith, head, l0, size) in
+        move ! (2 ∷ 0 ∷ []) $ use2 𝓛 (‵ (row b o (ws ++ u.0))) (row_joins 𝓛 b ws u.0 o f (omega (arith, head, skip))) $
+        show ! Closed (ws ++ u.0, u.1) $ check ! (long_is, omega (arith, l1, size), placed) $ done !))
+
     pub closes : ent 𝓤 ⟦ words_own R cv.code holds p z ⟧ (H.⇛ (ex 𝓤 Closed))
-    closes = let α : Lft = z.atom ∷ [] in let b : ℕ = block_of p in let o : ℕ = count_of p in let b' : ℕ = block_of z.values in let o' : ℕ = count_of z.values in
-        let f : ℕ = long z.roots * 8 + o in
-        qed 𝓛 (‵ (words_own R cv.code holds p z) ∷ []) ∵ updating ! $ fsplit3 ! $ move ! (1 ∷ []) $ fsplit ! $ fpick ! (λ placed. leave ! $ leave ! $
-        -- [the token; what was lent]
-        lft_end ! tt $ use1 𝓛 (‵ (fdead α) ⊛ ‵ (fdead α)) (𝓛.lfts.dead_dup α) $ split ! $ move ! (0 ∷ 2 ∷ []) $ lent_back ! tt $
+    closes = let E : Fml = everything R cv.code holds (core_of z) in
+        qed 𝓛 (‵ (words_own R cv.code holds p z) ∷ []) ∵ updating ! $ fsplit3 ! $ move ! (1 ∷ []) $ fsplit ! $ fpick ! (λ placed. leave ! $ fsplit ! $
+        -- [the strip; the invariant; the token; what was lent]
+        move ! (1 ∷ []) $ leave ! $ move ! (1 ∷ []) $
+        lft_end ! tt $ use1 𝓛 (‵ (fdead α) ⊛ ‵ (fdead α)) (𝓛.lfts.dead_dup α) $ split ! $ move ! (0 ∷ 3 ∷ []) $ lent_back ! tt $
+        -- [all of it; dead; the strip]
+        move ! (0 ∷ 2 ∷ []) $ use2 𝓛 (‵ (inner R cv.code holds p z)) (Known.comes_in 𝓛 R cv holds p z) $
         fpick ! (λ t. fsplit3 ! $ move ! (2 ∷ []) $ fpick ! (λ so. leave ! $
         -- [the memory; the views; dead]
-        let ws : List ℕ = t.parts.words in let cs : List (Cell R.Denot) = t.parts.cells in fsplit ! $ move ! (1 ∷ 3 ∷ []) $
-        let L : ℕ → R.Denot → ℕ → ℕ → Fml = lent_here R cv.code holds p z in let Hd = had_here R cv.code holds p z in let Owned : ℕ → R.Denot → ℕ → ℕ → Fml = owned 𝓛 R α z.hands_name L Hd b b' in
-        use2 𝓛 (later (‵ (numbers R α z.hands_name Owned Hd b f b' o' 0 cs) ⊛ ‵ (fdead α)))
-        (unlends 𝓛 R α z.hands_name L Hd b b' (Lendings.over 𝓛 R α cv z.views_name holds) cs f o' 0) $ await ! tt $ split ! $
-        use2 𝓛 (items (torn_item 𝓛 R α z.hands_name L Hd b b' (length cs) f o')) (tears 𝓛 R α z.hands_name L Hd b b' cs f o' 0 so.1.fours) $ pick ! (λ u. learn ! (λ l. split ! $
-        -- [the others; the places; the first words; the views]
-        let head = so.1.all in let all_of = so.1.counted in let l0 = l.0 in let l1 = l.1 in
-        let long_is : length (ws ++ u.0) ≡ whole z.roots z.count = length-append ws u.0 ∙ omega (arith, head, l0, all_of) in
-        move ! (2 ∷ 0 ∷ []) $ use2 𝓛 (‵ (row b o (ws ++ u.0))) (row_joins 𝓛 b ws u.0 o f (omega (arith, head))) $
-        now ! $ show ! Closed (ws ++ u.0, u.1) $ check ! (long_is, omega (arith, l1, all_of), placed) $ keep ! (0 ∷ 1 ∷ []) $ done !)))))
+        fsplit ! $ move ! (1 ∷ []) $ fpick ! (λ ss. fsplit3 ! $ move ! (1 ∷ []) $ fpick ! (λ are. leave ! $ leave ! $
+        -- [the strips; the words; the views; dead]
+        let cs : List (Cell R.Denot) = t.parts.cells in
+        move ! (0 ∷ 3 ∷ []) $
+        use2 𝓛 (later (‵ (strips R α z.hands_name Owned Hd ss cs) ⊛ ‵ (fdead α)))
+        (unlends_strips 𝓛 R α z.hands_name Lt Hd (Lendings.over 𝓛 R α cv z.views_name holds) ss cs) $ await ! tt $ split ! $
+        now ! $ keep ! (0 ∷ 1 ∷ 2 ∷ []) $ by ! (gives_back t so.1 placed ss are.0 (subst (λ (k : ℕ). slice_get ss k ≡ Some (strip_of p z)) is.2 are.1)))))))

@@ -1,32 +1,29 @@
 -- The value of a block comes back from its lendings, where it was taken away, and where a seat that has it to itself takes its value in the hand. Assumes
 -- `Logic`.
 use Rattle.std.specs.Prelude.{IsSome}
-use Rattle.std.proofs.Common.{◌≡◌, ◌≢◌, ◌⊎◌, inl, inr, ℕ, suc, ◌-◌, ◌<◌, ◌+◌, ◌*◌, Bool, true, false, List, [], ◌∷◌, sym, ap, ◌∙◌, subst, arith, None}
+use Rattle.std.proofs.Common.{◌≡◌, ◌≢◌, ◌⊎◌, inl, inr, ℕ, suc, ◌-◌, ◌+◌, Bool, true, false, [], ◌∷◌, sym, ap, ◌∙◌, subst, arith}
 use mathlib.Core.Logic.Or
 use mathlib.Core.HLevel.{⊥_prop}
 use mathlib.Core.List.{mem-cons, not-mem-nil}
 use seplogic.Ra.Ura.{Ura}
-use base.Fraction.{full_share}
-use base.Share.{quarter, three_quarters}
+use base.Share.{three_quarters}
 use base.Stored.{Coded}
 use base.Logic.{SProp, ent, sep, all, upd, emp, id⊢, via, upd_i}
 use base.Fml.{Lft, Share, Fml, ftrue, fsep, flft, fdead, fbor, fnamed}
 use base.Several.{Apart, bodies}
 use contract.BorrowLft.{meet_⊑_left, meet_⊑_right}
 use types.Logic.{Logic, sem}
-use types.Kit.{‵, raw, ◌⊛◌, given, later, ◌$◌, ◌∵◌, !, qed, by, move, keep, drop, split, split3, join, group, fsplit, fsplit3, fjoin, fpick, fpack, learn, frame, assume, suffices, use0, use1, use2, updating, await, now, done}
+use types.Kit.{‵, raw, ◌⊛◌, given, later, ◌$◌, ◌∵◌, !, qed, by, move, keep, drop, split, split3, join, group, fsplit, fsplit3, fjoin, fpick, fpack, learn, frame, assume, suffices, settle, use0, use1, use2, use3, updating, await, now, done}
 use denote.RattleType.{RattleType}
-use denote.RawPtr.{Ptr, block_of, count_of}
+use denote.RawPtr.{Ptr}
 use denote.Steps.{nothing}
-use Rattle.core.specs.Sync.RawAtomic.{word}
 use Rattle.seize_words.specs.Mem.{value_in}
 use Rattle.seize_seats.specs.State.{State}
 use Rattle.seize_seats.specs.Cells.{Cell, Free, Claimed, Out, Has, Held, block_in, cell_at}
-use Rattle.seize_seats.specs.Lines.{long}
 use Rattle.seize_seats.specs.Seen.{seen}
 use Rattle.seize_seats.specs.Stretches.{IsEven, IsOfSeat, stretch_part, lasting, stretch, stretch_told}
 use Rattle.seize_seats.specs.Lendings.{Holder, Lending, ShownToBoth, AreShown, span, lending}
-use Rattle.seize_seats.specs.Owned.{Hand, resting, busy, held, zeros, row, had_here, BaseId, age, Inside, state_of, inner}
+use Rattle.seize_seats.specs.Owned.{Hand, busy, held, BaseId, age, core_of, IsIts, is_listed, Inside, state_of, inner, everything}
 use Rattle.seize_seats.proofs.Cells.{block_is}
 use Rattle.seize_seats.proofs.Stretches.{one_seat}
 use Rattle.seize_seats.proofs.Stretches as Stretches
@@ -34,6 +31,7 @@ use Rattle.seize_seats.proofs.Lendings as Lendings
 use Rattle.seize_seats.proofs.Moves as Moves
 use Rattle.seize_seats.proofs.Makings as Makings
 use Rattle.seize_seats.proofs.Hands as Hands
+use Rattle.seize_seats.proofs.Known as Known
 
 -- an even number and an odd one are two
 even_odd : (n m : ℕ) → IsEven n → (h : ℕ) → m ≡ h + h + 1 → ¬ (n ≡ m)
@@ -76,6 +74,13 @@ module _ {M : Type 1} {𝓤 : Ura M} (𝓛 : Logic 𝓤) (R : RattleType) {V W :
 
   abbrev I : Fml
   I = inner R cv.code holds p z
+
+  -- the invariant itself, and what is known of the strip
+  abbrev E : Fml
+  E = everything R cv.code holds (core_of z)
+
+  abbrev L : Fml
+  L = is_listed p z
 
   abbrev Inv : Fml
   Inv = Moves.Inv 𝓛 R cv holds keeps p z
@@ -160,15 +165,20 @@ module _ {M : Type 1} {𝓤 : Ura M} (𝓛 : Logic 𝓤) (R : RattleType) {V W :
             -- [the stretch; dead; the invariant; the hand]
             move ! (1 ∷ []) $ use1 𝓛 (‵ (fdead Over)) by_guard $ move ! (2 ∷ 1 ∷ 0 ∷ 3 ∷ []) $ frame ! $ frame ! $ done !
 
-        both : (n m : ℕ) → IsEven n → IsOfSeat g.seat m → A.named m (St g) ∗ A.named n (fbor α I) ∗ A.lft α q ∗ ⟦ Hd ⟧ ⊢ H.⇛ (Q ∗ A.lft α q)
-        both n m e u = via 𝓤 _ (qed 𝓛 (‵ (fnamed m (St g)) ∷ ‵ (fnamed n (fbor α I)) ∷ ‵ (flft α q) ∷ ‵ Hd ∷ []) ∵ use0 𝓛 (‵ ftrue) (id⊢ 𝓤 (emp 𝓤)) $
-            move ! (1 ∷ 0 ∷ []) $ fjoin ! $ move ! (1 ∷ 0 ∷ []) $ fjoin ! $ frame ! $ frame ! $ assume ! (‵ I ⊛ ‵ (bodies ((m, St g) ∷ []))) $ split ! $
-            move ! (1 ∷ []) $ fsplit ! $ move ! (1 ∷ []) $ drop ! $ fpick ! (λ y. by ! (finds m y)))
-            (𝓛.invs.invs_bor_acc n α q I ((m, St g) ∷ []) Q (two g.seat n m (fbor α I) (St g) e u))
+        both : (n m : ℕ) → IsEven n → IsOfSeat g.seat m → A.named m (St g) ∗ A.named n (fbor α E) ∗ A.lft α q ∗ ⟦ L ⟧ ∗ ⟦ Hd ⟧ ⊢ H.⇛ (Q ∗ A.lft α q)
+        both n m e u = let Z : Pr = ⟦ E ⟧ ∗ ⟦ bodies ((m, St g) ∷ []) ⟧ ∗ Q in
+            via 𝓤 _ (qed 𝓛 (‵ (fnamed m (St g)) ∷ ‵ (fnamed n (fbor α E)) ∷ ‵ (flft α q) ∷ ‵ L ∷ ‵ Hd ∷ []) ∵ use0 𝓛 (‵ ftrue) (id⊢ 𝓤 (emp 𝓤)) $
+            move ! (1 ∷ 0 ∷ []) $ fjoin ! $ move ! (1 ∷ 0 ∷ []) $ fjoin ! $ frame ! $ frame ! $ assume ! (‵ E ⊛ ‵ (bodies ((m, St g) ∷ []))) $ split ! $
+            move ! (0 ∷ 2 ∷ []) $ use2 𝓛 (‵ I) (Known.comes_in 𝓛 R cv holds p z) $
+            move ! (1 ∷ []) $ fsplit ! $ move ! (1 ∷ []) $ drop ! $ fpick ! (λ y.
+            use3 𝓛 (raw (upd 𝓤 (⟦ I ⟧ ∗ ⟦ bodies ((m, St g) ∷ []) ⟧ ∗ Q))) (finds m y) $ settle 𝓛 Z (‵ I ⊛ ‵ (bodies ((m, St g) ∷ [])) ⊛ raw Q) $
+            split3 ! $ suffices ! _ (upd_i 𝓤 Z) $ use1 𝓛 (‵ E) (Known.goes_out 𝓛 R cv holds p z) $ done !))
+            (𝓛.invs.invs_bor_acc n α q E ((m, St g) ∷ []) Q (two g.seat n m (fbor α E) (St g) e u))
 
         ended : ⟦ Inv ⟧ ∗ A.lft α q ∗ ⟦ Told g ⟧ ∗ ⟦ Hd ⟧ ⊢ H.⇛ (Q ∗ A.lft α q)
-        ended = qed 𝓛 (‵ Inv ∷ ‵ (flft α q) ∷ ‵ (Told g) ∷ ‵ Hd ∷ []) ∵ fpick ! (λ n. fsplit ! $ fpick ! (λ e. drop ! $
-            move ! (2 ∷ []) $ fpick ! (λ m. fsplit ! $ fpick ! (λ u. drop ! $ by ! (both n m e u)))))
+        ended = qed 𝓛 (‵ Inv ∷ ‵ (flft α q) ∷ ‵ (Told g) ∷ ‵ Hd ∷ []) ∵ fsplit ! $ move ! (1 ∷ []) $ fpick ! (λ n. fsplit ! $ fpick ! (λ e. drop ! $
+            -- [the invariant; the strip; the lifetime; the stretch; the hand]
+            move ! (3 ∷ []) $ fpick ! (λ m. fsplit ! $ fpick ! (λ u. drop ! $ move ! (0 ∷ 1 ∷ 3 ∷ 2 ∷ []) $ by ! (both n m e u)))))
 
       -- they are two
       module _ (ne : g.seat ≢ o.seat) where
@@ -196,20 +206,22 @@ module _ {M : Type 1} {𝓤 : Ura M} (𝓛 : Logic 𝓤) (R : RattleType) {V W :
             move ! (1 ∷ []) $ use1 𝓛 (‵ (fdead Over)) by_owner $ move ! (2 ∷ 1 ∷ 0 ∷ 3 ∷ []) $ frame ! $ frame ! $ done !
 
         all_three : (n m k : ℕ) → IsEven n → IsOfSeat g.seat m → IsOfSeat o.seat k
-            → A.named m (St g) ∗ A.named k (St o) ∗ A.named n (fbor α I) ∗ A.lft α q ∗ ⟦ Hd ⟧ ⊢ H.⇛ (Q ∗ A.lft α q)
-        all_three n m k e u w = via 𝓤 _ (qed 𝓛 (‵ (fnamed m (St g)) ∷ ‵ (fnamed k (St o)) ∷ ‵ (fnamed n (fbor α I)) ∷ ‵ (flft α q) ∷ ‵ Hd ∷ []) ∵
+            → A.named m (St g) ∗ A.named k (St o) ∗ A.named n (fbor α E) ∗ A.lft α q ∗ ⟦ L ⟧ ∗ ⟦ Hd ⟧ ⊢ H.⇛ (Q ∗ A.lft α q)
+        all_three n m k e u w = let Z : Pr = ⟦ E ⟧ ∗ ⟦ All m k ⟧ ∗ Q in
+            via 𝓤 _ (qed 𝓛 (‵ (fnamed m (St g)) ∷ ‵ (fnamed k (St o)) ∷ ‵ (fnamed n (fbor α E)) ∷ ‵ (flft α q) ∷ ‵ L ∷ ‵ Hd ∷ []) ∵
             use0 𝓛 (‵ ftrue) (id⊢ 𝓤 (emp 𝓤)) $
             move ! (2 ∷ 0 ∷ []) $ fjoin ! $ move ! (1 ∷ 0 ∷ []) $ fjoin ! $ move ! (1 ∷ 0 ∷ []) $ fjoin ! $ frame ! $ frame ! $
-            assume ! (‵ I ⊛ ‵ (All m k)) $ split ! $
-            move ! (1 ∷ []) $ fsplit3 ! $ move ! (2 ∷ []) $ drop ! $ fpick ! (λ y. move ! (1 ∷ []) $ fpick ! (λ y'. move ! (1 ∷ 0 ∷ []) $
-            by ! (finds_two m k y y'))))
-            (𝓛.invs.invs_bor_acc n α q I ((m, St g) ∷ (k, St o) ∷ []) Q (three g.seat o.seat n m k (fbor α I) (St g) (St o) ne e u w))
+            assume ! (‵ E ⊛ ‵ (All m k)) $ split ! $ move ! (0 ∷ 2 ∷ []) $ use2 𝓛 (‵ I) (Known.comes_in 𝓛 R cv holds p z) $
+            move ! (1 ∷ []) $ fsplit3 ! $ move ! (2 ∷ []) $ drop ! $ fpick ! (λ y. move ! (1 ∷ []) $ fpick ! (λ y'. move ! (1 ∷ 0 ∷ 2 ∷ 3 ∷ []) $
+            group ! 4 $ use1 𝓛 (raw (upd 𝓤 (⟦ I ⟧ ∗ ⟦ All m k ⟧ ∗ Q))) (finds_two m k y y') $ settle 𝓛 Z (‵ I ⊛ ‵ (All m k) ⊛ raw Q) $
+            split3 ! $ suffices ! _ (upd_i 𝓤 Z) $ use1 𝓛 (‵ E) (Known.goes_out 𝓛 R cv holds p z) $ done !)))
+            (𝓛.invs.invs_bor_acc n α q E ((m, St g) ∷ (k, St o) ∷ []) Q (three g.seat o.seat n m k (fbor α E) (St g) (St o) ne e u w))
 
         ended_two : ⟦ Inv ⟧ ∗ A.lft α q ∗ ⟦ Told g ⟧ ∗ ⟦ Told o ⟧ ∗ ⟦ Hd ⟧ ⊢ H.⇛ (Q ∗ A.lft α q)
-        ended_two = qed 𝓛 (‵ Inv ∷ ‵ (flft α q) ∷ ‵ (Told g) ∷ ‵ (Told o) ∷ ‵ Hd ∷ []) ∵ fpick ! (λ n. fsplit ! $ fpick ! (λ e. drop ! $
-            -- [the invariant; the lifetime; the guard's stretch; the owner's; the hand]
-            move ! (3 ∷ []) $ fpick ! (λ k. fsplit ! $ fpick ! (λ w. drop ! $ move ! (3 ∷ []) $ fpick ! (λ m. fsplit ! $ fpick ! (λ u. drop ! $
-            by ! (all_three n m k e u w)))))))
+        ended_two = qed 𝓛 (‵ Inv ∷ ‵ (flft α q) ∷ ‵ (Told g) ∷ ‵ (Told o) ∷ ‵ Hd ∷ []) ∵ fsplit ! $ move ! (1 ∷ []) $ fpick ! (λ n. fsplit ! $ fpick ! (λ e. drop ! $
+            -- [the invariant; the strip; the lifetime; the guard's stretch; the owner's; the hand]
+            move ! (4 ∷ []) $ fpick ! (λ k. fsplit ! $ fpick ! (λ w. drop ! $ move ! (4 ∷ []) $ fpick ! (λ m. fsplit ! $ fpick ! (λ u. drop ! $
+            move ! (0 ∷ 1 ∷ 2 ∷ 4 ∷ 3 ∷ []) $ by ! (all_three n m k e u w)))))))
 
       ends : (g.seat ≢ o.seat) ⊎ ((g.seat ≡ o.seat) × (g.view ≡ o.view)) → ⟦ Inv ⟧ ∗ A.lft α q ∗ ⟦ Told g ⟧ ∗ ⟦ Told o ⟧ ∗ ⟦ Hd ⟧ ⊢ H.⇛ (Q ∗ A.lft α q)
       ends (inl ne) = ended_two ne
@@ -236,7 +248,7 @@ module _ {M : Type 1} {𝓤 : Ura M} (𝓛 : Logic 𝓤) (R : RattleType) {V W :
           -- [the owner's, twice; the guard's, twice; what is shown; the part; the account; the invariant; the lifetime; the hand]
           move ! (4 ∷ []) $ fpick ! (λ are. fpack ! Are (λ _. ftrue) are $
           -- [what is shown; the owner's, twice; the guard's, twice; the part; the account; the invariant; the lifetime; the hand]
-          move ! (7 ∷ []) $ use1 𝓛 (‵ Inv ⊛ ‵ Inv) (Stretches.twice 𝓛 IsEven (fbor α I)) $ split ! $
+          move ! (7 ∷ []) $ use1 𝓛 (‵ Inv ⊛ ‵ Inv) (Known.twice 𝓛 R cv holds p z) $ split ! $
           -- [the invariant, twice; what is shown; the owner's, twice; the guard's, twice; the part; the account; the lifetime; the hand]
           move ! (0 ∷ 9 ∷ 5 ∷ 3 ∷ 10 ∷ []) $ group ! 5 $
           use1 𝓛 (later ((‵ (fdead Over) ⊛ ‵ Hd) ⊛ ‵ (flft α q))) (ends g o are.0 q are.1) $ await ! tt $ split ! $ split ! $
@@ -253,7 +265,7 @@ module _ {M : Type 1} {𝓤 : Ura M} (𝓛 : Logic 𝓤) (R : RattleType) {V W :
       comes_back = Lendings.regains 𝓛 R α cv z.views_name holds i Having dies
 
   -- A BLOCK THAT WAS TAKEN AWAY: its place is in the hand of the call that has taken it
-  module _ (e : Share) (lt : i < z.count) where
+  module _ (e : Share) (lt : IsIts z i) where
     abbrev Hd : Fml
     Hd = hands three_quarters (busy e)
 
@@ -286,7 +298,7 @@ module _ {M : Type 1} {𝓤 : Ura M} (𝓛 : Logic 𝓤) (R : RattleType) {V W :
     regains = comes_back Hd none_taken
 
   -- A BLOCK WHOSE VALUE IS IN THE HAND of a call: its seat has it to itself
-  module _ (ρ : ℕ) (e : Share) (lt : i < z.count) where
+  module _ (ρ : ℕ) (e : Share) (lt : IsIts z i) where
     abbrev Hh : Fml
     Hh = hands three_quarters (held ρ e)
 

@@ -11,7 +11,7 @@ use base.Logic.{SProp, ent, sep, ex, all, upd, emp, apply∗, all_e, upd_i}
 use base.Fml.{Lft, Share, Fml, ftrue, fsep, fex, flft}
 use types.Keyed.{entries_from, entries_new, entries_take}
 use types.Logic.{Logic, sem}
-use types.Kit.{‵, raw, ◌⊛◌, some as items, given, ◌$◌, ◌∵◌, !, qed, move, keep, drop, split, split3, fsplit, fsplit3, fjoin, fjoin3, fpick, fpack, pick, learn, frame, suffices, settle, use0, use1, use2, use3, rewrite, done}
+use types.Kit.{‵, raw, ◌⊛◌, some as items, given, ◌$◌, ◌∵◌, !, qed, move, keep, drop, split, split3, fsplit, fsplit3, fjoin, fpick, fpack, pick, learn, frame, suffices, settle, use0, use1, use2, use3, rewrite, done}
 use denote.RattleType.{RattleType}
 use denote.RawPtr.{Ptr, block_of, count_of}
 use denote.Steps.{nothing}
@@ -20,14 +20,14 @@ use Rattle.seize_words.specs.Mem.{Mem, value_at, value_in, with_block, with_valu
 use Rattle.seize_words.specs.Op.{Rewrite, Taken}
 use Rattle.seize_words.specs.Op as Op
 use Rattle.seize_words.specs.declared.block.Block.{Block}
-use Rattle.seize_seats.specs.State.{State, Goes, Allows, Owns, view_of}
+use Rattle.seize_seats.specs.State.{State, Goes, Allows, Owns}
 use Rattle.seize_seats.specs.State as State
 use Rattle.seize_seats.specs.Cells.{Cell, Free, Claimed, Out, Has, Held, block_in, blocks_in, cell_at}
-use Rattle.seize_seats.specs.Lines.{Parts, long, memory_of, AreLaid}
+use Rattle.seize_seats.specs.Lines.{Parts, memory_of, AreLaid}
 use Rattle.seize_seats.specs.Lendings.{Alone, note}
 use Rattle.seize_seats.specs.Seen.{itself, shared_view, seen}
-use Rattle.seize_seats.specs.Owned.{fact, Hand, hand_coded, resting, busy, held, zeros, row, stride, had_here, BaseId, age, Inside, state_of, inner}
-use Rattle.seize_seats.proofs.Cells.{recelled, laid_with, block_is, blocks_set, cell_beyond, was_given}
+use Rattle.seize_seats.specs.Owned.{fact, Hand, hand_coded, resting, held, row, stride, had_here, BaseId, age, IsIts, Inside, state_of, inner}
+use Rattle.seize_seats.proofs.Cells.{recelled, laid_with, block_is, blocks_set, was_given}
 use Rattle.seize_seats.proofs.Numbers as Numbers
 use Rattle.seize_seats.proofs.Ledgers as Ledgers
 use Rattle.seize_seats.proofs.Moves as Moves
@@ -119,10 +119,10 @@ module _ {M : Type 1} {𝓤 : Ura M} (𝓛 : Logic 𝓤) (R : RattleType) {V W :
 
   -- the entry of a number, and the value at its place
   abbrev entry : ℕ → List ℕ → Fml
-  entry i ws = row (block_of p) (i * 40 + (long z.roots * 8 + count_of p)) ws
+  entry i ws = row (block_of p) ((i - z.first) * 40 + (z.skip * 8 + count_of p)) ws
 
   abbrev pub value : ℕ → R.Denot → Fml
-  value i x = Moves.lent 𝓛 R cv holds keeps p z i x (block_of z.values) (i * stride R + count_of z.values)
+  value i x = Moves.lent 𝓛 R cv holds keeps p z i x (block_of z.values) ((i - z.first) * stride R + count_of z.values)
 
   -- what is noted of the value that is in the hand
   abbrev Noted : Type 0
@@ -143,7 +143,7 @@ module _ {M : Type 1} {𝓤 : Ura M} (𝓛 : Logic 𝓤) (R : RattleType) {V W :
   notes : (x : R.Denot) (id : ℕ) (v : V) → emp 𝓤 ⊢ upd 𝓤 (ex 𝓤 (Fresh x id v))
   notes x id v = entries_new shared_view 𝓛 0 (λ _. (full_share, noted_coded.code (x, (id, cv.code v))))
 
-  module _ (id : ℕ) (v : V) (n : ℕ) (e : Share) where
+  module _ (id : ℕ) (v : V) (n : ℕ) (e : Share) (mine : Makings.Mine 𝓛 R cv holds keeps p z n) where
     abbrev i : ℕ
     i = n - 1
 
@@ -151,7 +151,7 @@ module _ {M : Type 1} {𝓤 : Ura M} (𝓛 : Logic 𝓤) (R : RattleType) {V W :
     module _ (own : Owns holds keeps id v n) where
       abbrev pub Holding : ℕ × R.Denot → Fml
       Holding u =
-          fsep (fact ((0 < n) × (n - 1 < z.count)))
+          fsep (fact ((0 < n) × IsIts z (n - 1)))
           (fsep (Note u.0 three_quarters u.1 id v) (fsep (hands three_quarters (n - 1) (held u.0 e)) (value (n - 1) u.1)))
 
       abbrev TakenUp : Pr
@@ -162,13 +162,13 @@ module _ {M : Type 1} {𝓤 : Ura M} (𝓛 : Logic 𝓤) (R : RattleType) {V W :
 
       has : (t : In) (g : Stands id v t) → Makings.HasBlock 𝓛 R cv holds keeps p z n t → Asked t ⊢ upd 𝓤 TakenUp
       has t g th = let x : R.Denot = th.0 in let ws : List ℕ = th.1 in let c : Cell R.Denot = Has x ws in let cs : List (Cell R.Denot) = t.parts.cells in
-          let lt = cell_beyond cs i c th.2 (λ q. absurd (cc q)) in let all_of = g.1.counted in let low = th.3 in
-          let facts : (0 < n) × (n - 1 < z.count) = (th.3, omega (arith, lt, all_of)) in
+          let low = th.3 in let of = Makings.is_mine 𝓛 R cv holds keeps p z n t c mine g.1 th.2 (λ q. absurd (cc q)) low in
+          let facts : (0 < n) × IsIts z (n - 1) = (low, of) in
           let one : n ≡ suc i = omega (arith, low) in
           let alone : Alone holds id v (suc i) = subst (λ (k : ℕ). Alone holds id v k) one (owns_alone holds keeps id v n own) in
           qed 𝓛 (‵ (Ws t.parts) ∷ ‵ (Led t) ∷ ‵ (seat id v) ∷ ‵ (flft α e) ∷ []) ∵
           use1 𝓛 (‵ (cell_of i c) ⊛ raw (all 𝓤 (Recells t i)))
-          (Numbers.celled 𝓛 R p z (Moves.lent 𝓛 R cv holds keeps p z) had t.parts.words cs i c lt th.2) $ split ! $
+          (Numbers.celled 𝓛 R p z (Moves.lent 𝓛 R cv holds keeps p z) had t.parts.words cs i c of th.2) $ split ! $
           use0 𝓛 (raw (upd 𝓤 (ex 𝓤 (Fresh x id v)))) (notes x id v) $ settle 𝓛 TakenUp (items (λ (ρ : ℕ). ‵ (fresh_note x id v ρ))) $ pick ! (λ ρ.
           let Rest : Fml = entries_from shared_view ρ 1 (λ _. (full_share, noted_coded.code (x, (id, cv.code v)))) in let d : Cell R.Denot = Held ρ e x ws in
           use1 𝓛 (‵ (Note ρ full_share x id v) ⊛ ‵ Rest) (entries_take shared_view 𝓛 ρ 0 (λ _. (full_share, noted_coded.code (x, (id, cv.code v))))) $ split ! $
@@ -192,13 +192,13 @@ module _ {M : Type 1} {𝓤 : Ura M} (𝓛 : Logic 𝓤) (R : RattleType) {V W :
           move ! (0 ∷ 4 ∷ 5 ∷ []) $ use3 𝓛 (‵ I) (Makings.recell 𝓛 R cv holds keeps p z t (g.0, g.1) i d (sym (ap block_in th.2))) $ frame ! $
           -- [three quarters of the hand; the value; three of the note]
           fjoin ! $ move ! (1 ∷ 0 ∷ []) $ fjoin ! $
-          nothing ! $ fpack ! ((0 < n) × (n - 1 < z.count)) (λ _. ftrue) facts $ fjoin ! $ fpack ! (ℕ × R.Denot) Holding (ρ, x) $ done !)
+          nothing ! $ fpack ! ((0 < n) × IsIts z (n - 1)) (λ _. ftrue) facts $ fjoin ! $ fpack ! (ℕ × R.Denot) Holding (ρ, x) $ done !)
 
       any : (t : In) (g : Stands id v t) → Makings.HasBlock 𝓛 R cv holds keeps p z n t ⊎ Makings.HeldBlock 𝓛 R cv holds keeps p z n t → Asked t ⊢ upd 𝓤 TakenUp
       any t g (inl th) = has t g th
       any t g (inr h) = let Z : Pr = upd 𝓤 TakenUp in
           qed 𝓛 (‵ (Ws t.parts) ∷ ‵ (Led t) ∷ ‵ (seat id v) ∷ ‵ (flft α e) ∷ []) ∵ keep ! (0 ∷ 1 ∷ 2 ∷ []) $
-          types.Kit.by ! (Makings.held_away 𝓛 R cv holds keeps p z n t (g.0, g.1) h id v id v (seat id v)
+          types.Kit.by ! (Makings.held_away 𝓛 R cv holds keeps p z n t mine (g.0, g.1) h id v id v (seat id v)
           (Hands.one_shows 𝓛 R cv holds p z id v id v three_quarters refl refl)
           (Hands.one_crowds 𝓛 R cv holds p z id v id v three_quarters refl) Z (λ s so at _. (own s so at).0))
 
@@ -208,7 +208,7 @@ module _ {M : Type 1} {𝓤 : Ura M} (𝓛 : Logic 𝓤) (R : RattleType) {V W :
 
     -- ---- ANOTHER VALUE IS PUT in its place, and the share comes back
     module _ (ρ : ℕ) (x new : R.Denot) (so : Op.Out R.Denot → V → Type 0) (law : Allows holds keeps id v (Rewrite n new) so) (low : 0 < n)
-        (lt : n - 1 < z.count) where
+        (of : IsIts z (n - 1)) where
       abbrev pub PutBack : Pr
       PutBack = ⟦ I ⟧ ∗ (⟦ gone_on id (so (Taken x)) ⟧ ∗ ⟦ flft α e ⟧)
 
@@ -244,12 +244,12 @@ module _ {M : Type 1} {𝓤 : Ura M} (𝓛 : Logic 𝓤) (R : RattleType) {V W :
       -- what the call has noted is what stands with the block
       found : (t : In) (sound : Sound t) (s : Share) (ρ' : ℕ) (y : R.Denot) (ws : List ℕ) (w : ℕ × V) → cell_at t.parts.cells i ≡ Held ρ' s y ws
           → held ρ' s ≡ held ρ e → y ≡ x → w.0 ≡ id → w.1 ≡ v
-          → ⟦ hands quarter i (held ρ' s) ⟧ ∗ ⟦ Hh ⟧ ∗ ⟦ word (block_of p) (i * 40 + (long z.roots * 8 + count_of p) + 32) 1 ⟧ ∗ ⟦ entry i ws ⟧ ∗
+          → ⟦ hands quarter i (held ρ' s) ⟧ ∗ ⟦ Hh ⟧ ∗ ⟦ word (block_of p) ((i - z.first) * 40 + (z.skip * 8 + count_of p) + 32) 1 ⟧ ∗ ⟦ entry i ws ⟧ ∗
           ⟦ value i new ⟧ ∗ ⟦ flft α s ⟧ ∗ ⟦ seen cv.code z.views_name three_quarters w.0 w.1 ⟧ ∗ all 𝓤 (Recells t i) ∗ ⟦ Led t ⟧ ⊢ upd 𝓤 PutBack
       found t sound s ρ' y ws w is same_hand same_value same_seat same_view =
           let d : Cell R.Denot = Has new ws in let cs : List (Cell R.Denot) = slice_set t.parts.cells i d in let told : V → Type 0 = so (Taken x) in
           let is_x : cell_at t.parts.cells i ≡ Held ρ' s x ws = is ∙ ap (λ (u : R.Denot). Held ρ' s u ws) same_value in
-          let S : Fml = word (block_of p) (i * 40 + (long z.roots * 8 + count_of p) + 32) 1 in
+          let S : Fml = word (block_of p) ((i - z.first) * 40 + (z.skip * 8 + count_of p) + 32) 1 in
           qed 𝓛 (‵ (hands quarter i (held ρ' s)) ∷ ‵ Hh ∷ ‵ S ∷ ‵ (entry i ws) ∷ ‵ (value i new) ∷ ‵ (flft α s) ∷
           ‵ (seen cv.code z.views_name three_quarters w.0 w.1) ∷ raw (all 𝓤 (Recells t i)) ∷ ‵ (Led t) ∷ []) ∵
           rewrite ! 6 (λ (u : ℕ × V). ‵ (seen cv.code z.views_name three_quarters u.0 u.1)) (λ k. (same_seat k, same_view k)) refl $
@@ -302,4 +302,4 @@ module _ {M : Type 1} {𝓤 : Ura M} (𝓛 : Logic 𝓤) (R : RattleType) {V W :
           two_less same = omega (arith, same)
 
       pub puts_back : ⟦ I ⟧ ∗ Ready ⊢ upd 𝓤 PutBack
-      puts_back = Makings.opens 𝓛 R cv holds keeps p z Ready (upd 𝓤 PutBack) i lt by_cell
+      puts_back = Makings.opens 𝓛 R cv holds keeps p z Ready (upd 𝓤 PutBack) i of by_cell

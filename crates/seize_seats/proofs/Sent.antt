@@ -1,5 +1,5 @@
 -- The words may be shared, and a seat may go to another thread: nothing of them is tied to one. Assumes nothing.
-use Rattle.std.proofs.Common.{ℕ, Bool, true, false, suc, ◌+◌, ◌*◌, List, [], ◌∷◌, length, None, Some}
+use Rattle.std.proofs.Common.{ℕ, Bool, true, false, suc, ◌+◌, ◌*◌, List, [], ◌∷◌, length, take, drop, None, Some}
 use base.Fraction.{full_share}
 use base.Stored.{Gv}
 use base.Fml.{Lft, Share, Fml}
@@ -11,8 +11,8 @@ use types.Keyed.{token, entry_keyless, entries_keyless}
 use Rattle.core.specs.contracts.option.Option.{the_row as OptionOf}
 use Rattle.seize_seats.specs.State.{State}
 use Rattle.seize_seats.specs.Cells.{Cell, Free, Claimed, Out, Has, Held}
-use Rattle.seize_seats.specs.Lines.{long}
-use Rattle.seize_seats.specs.Owned.{shared_view, row, quarters, zeros, stride, kept, numbers, BaseId, age, inner, lent_here, had_here, words_own, words_share}
+use Rattle.seize_seats.specs.Strips.{Strip, strip_coded, no_strip}
+use Rattle.seize_seats.specs.Owned.{shared_view, row, quarters, ledger, zeros, stride, kept, numbers, strips, Core, BaseId, core_of, everything, common, words_own, words_share}
 use Rattle.seize_seats.specs.Lendings.{Phase, Begins, Lasts, Over, in_phase, Holder, Lending, span, told, lendings, lendable, in_hand}
 use Rattle.seize_seats.specs.Stretches.{lasting, seat_owns, seat_shares}
 
@@ -64,36 +64,51 @@ module _ (R : RattleType) (sent : IsSend (OptionOf R)) (synced : IsSync (OptionO
   in_hand_keyless ρ i x = λ u. (entry_keyless shared_view ρ 0 _, (entry_keyless shared_view γ u.0 _, λ _. tt))
 
 module _ (R : RattleType) (sent : IsSend (OptionOf R)) (α : Lft) (δ : ℕ) (lent : ℕ → R.Denot → ℕ → ℕ → Fml) (lent_keyless : (i : ℕ) (x : R.Denot) (b o : ℕ)
-    → Keyless (lent i x b o)) (had : ℕ → ℕ → R.Denot → Fml) (had_keyless : (ρ i : ℕ) (x : R.Denot) → Keyless (had ρ i x)) (b b' : ℕ) where
-  kept_keyless : (o o' i : ℕ) (c : Cell R.Denot) → Keyless (kept R α δ lent had b o b' o' i c)
-  kept_keyless o o' i Free = (entry_keyless shared_view δ i _, (row_keyless b o zeros, part_keyless (OptionOf R) sent full_share None b' o'))
-  kept_keyless o o' i Claimed = (entry_keyless shared_view δ i _, (row_keyless b o zeros, part_keyless (OptionOf R) sent full_share None b' o'))
-  kept_keyless o o' i (Out e) = (entry_keyless shared_view δ i _, tt)
-  kept_keyless o o' i (Has x ws) = (entry_keyless shared_view δ i _, (row_keyless b o ws, lent_keyless i x b' o'))
-  kept_keyless o o' i (Held ρ e x ws) = (entry_keyless shared_view δ i _, (row_keyless b o ws, (tt, had_keyless ρ i x)))
+    → Keyless (lent i x b o)) (had : ℕ → ℕ → R.Denot → Fml) (had_keyless : (ρ i : ℕ) (x : R.Denot) → Keyless (had ρ i x)) where
+  kept_keyless : (b b' o o' i : ℕ) (c : Cell R.Denot) → Keyless (kept R α δ lent had b o b' o' i c)
+  kept_keyless b b' o o' i Free = (entry_keyless shared_view δ i _, (row_keyless b o zeros, part_keyless (OptionOf R) sent full_share None b' o'))
+  kept_keyless b b' o o' i Claimed = (entry_keyless shared_view δ i _, (row_keyless b o zeros, part_keyless (OptionOf R) sent full_share None b' o'))
+  kept_keyless b b' o o' i (Out e) = (entry_keyless shared_view δ i _, tt)
+  kept_keyless b b' o o' i (Has x ws) = (entry_keyless shared_view δ i _, (row_keyless b o ws, lent_keyless i x b' o'))
+  kept_keyless b b' o o' i (Held ρ e x ws) = (entry_keyless shared_view δ i _, (row_keyless b o ws, (tt, had_keyless ρ i x)))
 
-  numbers_keyless : (cs : List (Cell R.Denot)) (o o' i : ℕ) → Keyless (numbers R α δ lent had b o b' o' i cs)
-  numbers_keyless [] o o' i = tt
-  numbers_keyless (c ∷ cs) o o' i = ((tt, kept_keyless o o' i c), numbers_keyless cs (o + 40) (o' + stride R) (suc i))
+  numbers_keyless : (b b' : ℕ) (cs : List (Cell R.Denot)) (o o' i : ℕ) → Keyless (numbers R α δ lent had b o b' o' i cs)
+  numbers_keyless b b' [] o o' i = tt
+  numbers_keyless b b' (c ∷ cs) o o' i = ((tt, kept_keyless b b' o o' i c), numbers_keyless b b' cs (o + 40) (o' + stride R) (suc i))
 
-module _ (R : RattleType) (sent : IsSend (OptionOf R)) (synced : IsSync (OptionOf R)) {V W : Type 0} (c : V → Gv) (holds : State R.Denot V W → Type 0) (p : Ptr) (z : BaseId) where
-  inner_keyless : Keyless (inner R c holds p z)
-  inner_keyless = λ t. (
-    (
-      row_keyless (block_of p) (count_of p) t.parts.words,
-      numbers_keyless R sent (age z) z.hands_name (lent_here R c holds p z) (lendable_keyless R sent synced (age z) c z.views_name holds) (had_here R c holds p z) (in_hand_keyless R sent synced (age z) c z.views_name holds) (block_of p) (block_of z.values) t.parts.cells (long z.roots * 8 + count_of p) (count_of z.values) 0,
-    ),
-    (
-      (
-        quarters_keyless c z.views_name 0 t.views,
-        entries_keyless shared_view z.views_name (length t.views) _,
-      ),
-      λ _. tt,
-    ),
+  strips_keyless : (ss : List Strip) (cs : List (Cell R.Denot)) → Keyless (strips R α δ lent had ss cs)
+  strips_keyless [] cs = tt
+  strips_keyless (s ∷ ss) cs = (
+    numbers_keyless (block_of s.words) (block_of s.values) (take s.size cs) (s.skip * 8 + count_of s.words) (count_of s.values) s.first,
+    strips_keyless ss (drop s.size cs),
   )
 
-  pub owns_keyless : Keyless (words_own R c holds p z)
-  owns_keyless = (tt, (((λ _. tt), λ n. ((λ _. tt), inner_keyless)), inner_keyless))
+ledger_keyless : {V : Type 0} (c : V → Gv) (γ : ℕ) (d : V) (vs : List V) → Keyless (ledger c γ d vs)
+ledger_keyless c γ d vs = (quarters_keyless c γ 0 vs, entries_keyless shared_view γ (length vs) _)
 
-  pub shares_keyless : (ν : Lft) → Keyless (words_share R c holds p z ν)
-  shares_keyless ν = ((λ _. tt), ((λ _. tt), λ n. ((λ _. tt), inner_keyless)))
+module _ (R : RattleType) (sent : IsSend (OptionOf R)) (synced : IsSync (OptionOf R)) {V W : Type 0} (c : V → Gv) (holds : State R.Denot V W → Type 0) where
+  everything_keyless : (k : Core) → Keyless (everything R c holds k)
+  everything_keyless k = λ t. (
+    (
+      row_keyless (block_of k.fixed) (count_of k.fixed) t.parts.words,
+      λ ss. (
+        (ledger_keyless strip_coded.code k.strips_name no_strip ss, entries_keyless shared_view k.hands_name (length t.parts.cells) _),
+        (
+          (λ _. tt),
+          strips_keyless R sent (k.atom ∷ []) k.hands_name (lendable R (k.atom ∷ []) c k.views_name holds) (lendable_keyless R sent synced (k.atom ∷ []) c k.views_name holds)
+              (in_hand R (k.atom ∷ []) c k.views_name holds) (in_hand_keyless R sent synced (k.atom ∷ []) c k.views_name holds) ss t.parts.cells,
+        ),
+      ),
+    ),
+    (ledger_keyless c k.views_name t.blank t.views, λ _. tt),
+  )
+
+  module _ (p : Ptr) (z : BaseId) where
+    told_in_keyless : Keyless (common R c holds p z)
+    told_in_keyless = ((λ _. tt), ((λ q. entry_keyless shared_view z.strips_name z.place _), λ n. ((λ _. tt), everything_keyless (core_of z))))
+
+    pub owns_keyless : Keyless (words_own R c holds p z)
+    owns_keyless = (tt, (told_in_keyless, everything_keyless (core_of z)))
+
+    pub shares_keyless : (ν : Lft) → Keyless (words_share R c holds p z ν)
+    shares_keyless ν = ((λ _. tt), told_in_keyless)

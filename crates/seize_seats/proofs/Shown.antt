@@ -4,7 +4,7 @@ use seplogic.Ra.Ura.{Ura}
 use base.Fraction.{full_share}
 use base.Stored.{Coded}
 use base.Logic.{ent, sep, snd∗}
-use base.Fml.{Lft, Share, Fml, ftrue, fsep, flft, flent, fbor}
+use base.Fml.{Lft, Share, Fml, ftrue, fsep, flft, flent}
 use types.Logic.{Logic, sem}
 use types.Kit.{‵, ◌⊛◌, ◌$◌, ◌∵◌, !, qed, move, drop, split, fsplit, fjoin, fpick, fpack, check, use1, done}
 use base.Logic.{guard}
@@ -17,17 +17,18 @@ use denote.Struct.Lending.{Lends, Lends-both}
 use Rattle.seize_seats.specs.State.{State}
 use types.Keyed.{ticket}
 use Rattle.seize_seats.specs.Seen.{seen}
-use Rattle.seize_seats.specs.Stretches.{IsEven, IsOfSeat, invariant, seats_part, stretch, stretch_told, seat_owns, seat_shares}
+use Rattle.seize_seats.specs.Stretches.{IsOfSeat, seats_part, stretch, stretch_told, seat_owns, seat_shares}
 use Rattle.seize_seats.proofs.Stretches as Stretches
+use Rattle.seize_seats.proofs.Known as Known
 use Rattle.seize_seats.proofs.Shares as Shares
-use Rattle.seize_seats.specs.Owned.{BaseId, age, IsPlaced, inner, common, words_own, words_share}
+use Rattle.seize_seats.specs.Owned.{BaseId, age, core_of, IsPlaced, everything, told, common, words_own, words_share}
 
 module _ (R : RattleType) {V W : Type 0} (cv : Coded V) (holds : State R.Denot V W → Type 0) (p : Ptr) (z : BaseId) where
   abbrev α : Lft
   α = age z
 
   abbrev I : Fml
-  I = inner R cv.code holds p z
+  I = everything R cv.code holds (core_of z)
 
   abbrev C : Fml
   C = common R cv.code holds p z
@@ -40,7 +41,8 @@ module _ (R : RattleType) {V W : Type 0} (cv : Coded V) (holds : State R.Denot V
   placed 𝓛 = qed 𝓛 (‵ C ∷ []) ∵ fsplit ! $ fpick ! (λ i. drop ! $ check ! i $ nothing ! $ fpack ! (IsPlaced R p z) (λ _. ftrue) i $ fjoin ! $ done !)
 
   twice : {M : Type 1} {𝓤 : Ura M} (𝓛 : Logic 𝓤) → ent 𝓤 (sem 𝓛 C) (sep 𝓤 (sem 𝓛 C) (sem 𝓛 C))
-  twice 𝓛 = qed 𝓛 (‵ C ∷ []) ∵ fsplit ! $ fpick ! (λ i. drop ! $ use1 𝓛 (‵ (invariant IsEven (fbor α I)) ⊛ ‵ (invariant IsEven (fbor α I))) (Stretches.twice 𝓛 IsEven (fbor α I)) $ split ! $
+  twice 𝓛 = let Inv : Fml = told R cv.code holds p z in qed 𝓛 (‵ C ∷ []) ∵ fsplit ! $ fpick ! (λ i. drop ! $
+      use1 𝓛 (‵ Inv ⊛ ‵ Inv) (Known.twice 𝓛 R cv holds p z) $ split ! $
       nothing ! $ fpack ! (IsPlaced R p z) (λ _. ftrue) i $ fjoin ! $ move ! (1 ∷ []) $ nothing ! $ fpack ! (IsPlaced R p z) (λ _. ftrue) i $ fjoin ! $ done !)
 
   pub words_laws : ShrLaws (words_share R cv.code holds p z)

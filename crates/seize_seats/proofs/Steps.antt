@@ -11,7 +11,9 @@ use Rattle.seize_words.specs.Op.{Load, Store, Swap, Add, Or, Exchange, Found, St
 use Rattle.seize_words.specs.declared.at.At.{At}
 use Rattle.seize_words.specs.declared.at.At.TheVariants.{Root, Used, Slot, Entry, Word}
 use Rattle.seize_words.specs.declared.block.Block.{Block}
-use Rattle.seize_seats.specs.Lines.{place_of, IsWord}
+use denote.RawPtr.{Ptr}
+use Rattle.seize_seats.specs.Lines.{IsWord}
+use Rattle.seize_seats.specs.Owned.{BaseId, place_in, IsIn}
 use Rattle.seize_seats.specs.Steps.{IsStepOf, exchanged}
 
 pub answered : (old : ℕ) (r : Result ℕ ℕ) → MatchResult r (λ n. n ≡ old) (λ n. n ≢ old) → exchanged old (word_found r) ≡ r
@@ -77,23 +79,23 @@ module _ {T : Type 0} where
       let x : Option (Block T) = block_of m b in
       ap (λ (l : List (Option (Block T))). record m { blocks = l }) (ap (slice_set m.blocks (b - 1)) (own_same x i w e) ∙ block_back m b x refl (some_own x i w e))
 
-module _ (T : Type 0) (roots count : ℕ) (at : At) (i : ℕ) (lies : IsWord roots count at → i ≡ place_of roots at) where
-  pub loads : IsStepOf T roots count at i (Load at) (λ n. n) Found
+module _ (T : Type 0) (p : Ptr) (z : BaseId) (at : At) (i : ℕ) (lies : IsWord z.roots z.count at → IsIn p z at × (i ≡ place_in z at)) where
+  pub loads : IsStepOf T p z at i (Load at) (λ n. n) Found
   loads = record { needs = λ m is. some_word (word_at m at) is; makes = λ m w e. (e, sym (word_same m at w e)); lies = lies }
 
-  pub stores : (new : ℕ) → IsStepOf T roots count at i (Store at new) (λ _. new) (λ _. Stored)
+  pub stores : (new : ℕ) → IsStepOf T p z at i (Store at new) (λ _. new) (λ _. Stored)
   stores new = record { needs = λ m is. some_word (word_at m at) is; makes = λ m w e. (tt, refl); lies = lies }
 
-  pub swaps : (new : ℕ) → IsStepOf T roots count at i (Swap at new) (λ _. new) Found
+  pub swaps : (new : ℕ) → IsStepOf T p z at i (Swap at new) (λ _. new) Found
   swaps new = record { needs = λ m is. some_word (word_at m at) is; makes = λ m w e. (e, refl); lies = lies }
 
-  pub adds : (by : ℕ) → IsStepOf T roots count at i (Add at by) (λ n. (n + by) % 2 ^ 64) Found
+  pub adds : (by : ℕ) → IsStepOf T p z at i (Add at by) (λ n. (n + by) % 2 ^ 64) Found
   adds by = record { needs = λ m is. some_word (word_at m at) is; makes = λ m w e. (e, refl); lies = lies }
 
-  pub sets : (bits : ℕ) → IsStepOf T roots count at i (Or at bits) (λ n. bit_or n bits) Found
+  pub sets : (bits : ℕ) → IsStepOf T p z at i (Or at bits) (λ n. bit_or n bits) Found
   sets bits = record { needs = λ m is. some_word (word_at m at) is; makes = λ m w e. (e, refl); lies = lies }
 
-  pub exchanges : (old new : ℕ) → IsStepOf T roots count at i (Exchange at old new) (λ n. either (n == old) new n) (λ n. Exchanged (exchanged old n))
+  pub exchanges : (old new : ℕ) → IsStepOf T p z at i (Exchange at old new) (λ n. either (n == old) new n) (λ n. Exchanged (exchanged old n))
   exchanges old new = record { needs = λ m is. some_word (word_at m at) is; makes = λ m w e. by m w e (cases_eq w old); lies = lies }
     where
       by : (m : Mem T) (w : ℕ) → word_at m at ≡ Some w → (w ≡ old) ⊎ (w ≢ old) → Gives m (Exchange at old new) (Exchanged (exchanged old w))

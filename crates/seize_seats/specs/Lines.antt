@@ -1,6 +1,6 @@
 -- Where the words of a memory lie: each root's on lines of their own, each slot's on one, and then those of the blocks' entries. A line has 16 words, which
 -- are 128 bytes.
-use Rattle.std.specs.Prelude.{◌≡◌, ℕ, zero, suc, ◌+◌, ◌-◌, ◌*◌, ◌<◌, ◌≤◌, ◌⊎◌, List, [], ◌∷◌, Some, None, length, slice_index}
+use Rattle.std.specs.Prelude.{◌≡◌, ℕ, zero, suc, ◌+◌, ◌*◌, ◌<◌, ◌≤◌, ◌⊎◌, List, [], ◌∷◌, Some, None, length, slice_index}
 use Rattle.seize_words.specs.Mem.{Mem}
 use Rattle.seize_words.specs.declared.at.At.{At}
 use Rattle.seize_words.specs.declared.block.Block.{Block}
@@ -25,12 +25,12 @@ long roots = (roots + roots + 32) * 16
 abbrev pub whole : ℕ → ℕ → ℕ
 whole roots count = long roots + count * 5
 
--- where the word of a name lies
+-- where the word of a name lies, if it is no block's
 abbrev pub place_of : ℕ → At → ℕ
 place_of roots (Root r) = r * 16
 place_of roots (Used r) = (roots + r) * 16
 place_of roots (Slot s field) = (roots + roots + s) * 16 + field
-place_of roots (Entry b i) = (b - 1) * 5 + long roots + i
+place_of roots (Entry b i) = 0
 place_of roots (Word b i) = 0
 
 -- there is such a word, once the slots of the first bucket have theirs, and a block of the number is there
@@ -63,11 +63,12 @@ memory_of roots s = record {
   choices = [];
 }
 
--- All words are there. Either no slot has its words, and they are 0, or those of the first bucket have. There is no block of a number that was not given.
+-- All words are there, and no more numbers than so many. Either no slot has its words, and they are 0, or those of the first bucket have. There is no block
+-- of a number that was not given.
 pub record AreLaid {T : Type 0} (roots count : ℕ) (s : Parts T) : Type 0 where
   pub all : length s.words ≡ long roots
   pub slots_are : ((s.slots ≡ 0) × ((k : ℕ) → (roots + roots) * 16 ≤ k → slice_index s.words k ≡ 0)) ⊎ (s.slots ≡ 32)
-  pub counted : length s.cells ≡ count
-  pub within : s.given ≤ count
+  pub counted : length s.cells ≤ count
+  pub within : s.given ≤ length s.cells
   pub rest : (k : ℕ) → s.given ≤ k → block_in (cell_at s.cells k) ≡ None
   pub fours : (k : ℕ) (x : Block T) → block_in (cell_at s.cells k) ≡ Some x → length x.entry ≡ 4

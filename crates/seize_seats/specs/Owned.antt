@@ -1,6 +1,7 @@
 -- What the words, the places of values and a seat own. The words are lent for a lifetime of their own, whose token stays with whoever owns them, and a `&` to
--- them shows that it lasts. An invariant has the words, the values, and a quarter of each seat's view; three quarters of it are the seat's.
-use Rattle.std.specs.Prelude.{ℕ, zero, suc, ◌+◌, ◌*◌, ◌^◌, ◌<◌, List, [], ◌∷◌, Option, None, length}
+-- them shows that it lasts. An invariant has the words, the values, and a quarter of each seat's view; three quarters of it are the seat's. It has the strips
+-- of all numbers; whoever has the words has them by one strip, of which it is known that it is one of them.
+use Rattle.std.specs.Prelude.{◌≡◌, ℕ, zero, suc, ◌+◌, ◌-◌, ◌*◌, ◌^◌, ◌<◌, ◌≤◌, List, [], ◌∷◌, Option, Some, None, length, take, drop, slice_get}
 use prog.Memory.{size}
 use base.Fraction.{full_share}
 use base.Share.{quarter, three_quarters}
@@ -17,7 +18,10 @@ use Rattle.seize_seats.specs.Lendings.{lendable, in_hand}
 use Rattle.seize_seats.specs.State.{State}
 use Rattle.seize_seats.specs.Stretches.{IsEven, invariant}
 use Rattle.seize_seats.specs.Cells.{Cell, Free, Claimed, Out, Has, Held, sign_of}
-use Rattle.seize_seats.specs.Lines.{Parts, whole, long, memory_of, AreLaid}
+use Rattle.seize_seats.specs.Lines.{Parts, long, place_of, memory_of, AreLaid}
+use Rattle.seize_seats.specs.Strips.{Strip, strip_coded, no_strip, AreStrips}
+use Rattle.seize_words.specs.declared.at.At.{At}
+use Rattle.seize_words.specs.declared.at.At.TheVariants.{Root, Used, Slot, Entry, Word}
 
 -- the words lie side by side
 abbrev pub row : ℕ → ℕ → List ℕ → Fml
@@ -100,34 +104,119 @@ module _ (R : RattleType) (α : Lft) (δ : ℕ) where
     numbers b o b' o' i [] = ftrue
     numbers b o b' o' i (c ∷ cs) = fsep (under b o b' o' i c) (numbers b (o + 40) b' (o' + stride R) (suc i) cs)
 
+    -- of all numbers, strip by strip
+    abbrev pub strips : List Strip → List (Cell R.Denot) → Fml
+    strips [] cs = ftrue
+    strips (s ∷ ss) cs =
+        fsep (numbers (block_of s.words) (s.skip * 8 + count_of s.words) (block_of s.values) (count_of s.values) s.first (take s.size cs)) (strips ss (drop s.size cs))
+
+    -- the list of the strips, which only grows, and the hands of numbers that do not exist yet; σ: the name of the list
+    abbrev pub listing : ℕ → List Strip → ℕ → Fml
+    listing σ ss n = fsep (ledger strip_coded.code σ no_strip ss) (unborn hand_coded.code δ n resting)
+
+    -- with it; Known: what is known of the list
+    abbrev pub listed : ℕ → (List Strip → Type 0) → List (Cell R.Denot) → List Strip → Fml
+    listed σ Known cs ss = fsep (listing σ ss (length cs)) (fsep (fact (AreStrips 0 ss (length cs) × Known ss)) (strips ss cs))
+
+    abbrev pub all_strips : ℕ → (List Strip → Type 0) → List (Cell R.Denot) → Fml
+    all_strips σ Known cs = fex (List Strip) (listed σ Known cs)
+
 -- places for values, side by side
 abbrev pub places : (R : RattleType) → ℕ → ℕ → List (Option R.Denot) → Fml
 places R b o [] = ftrue
 places R b o (x ∷ xs) = fsep (part_at (OptionOf R) full_share x b o) (places R b (o + stride R) xs)
 
--- Which words these are: the atom of their lifetime, the names of the views and of the hands, how many roots and numbers they have, and where the values lie.
+-- Which memory: the atom of its lifetime, the names of the views, of the hands and of the strips, how many roots it has and how many numbers there may be, and
+-- where the words of roots and slots lie.
+pub record Core : Type 0 where
+  pub atom : ℕ
+  pub views_name : ℕ
+  pub hands_name : ℕ
+  pub strips_name : ℕ
+  pub roots : ℕ
+  pub count : ℕ
+  pub fixed : Ptr
+
+-- Which words these are: of which memory, and of which of its strips: the place of that in the list, and the strip, but for the address of the words.
 pub record BaseId : Type 0 where
   pub atom : ℕ
   pub views_name : ℕ
   pub hands_name : ℕ
+  pub strips_name : ℕ
   pub roots : ℕ
   pub count : ℕ
+  pub fixed : Ptr
+  pub place : ℕ
+  pub skip : ℕ
   pub values : Ptr
+  pub first : ℕ
+  pub size : ℕ
 
 abbrev pub base_id_coded : Coded BaseId
-base_id_coded = coded_via (coded× coded_ℕ (coded× coded_ℕ (coded× coded_ℕ (coded× coded_ℕ (coded× coded_ℕ coded_ptr)))))
-    (λ (z : BaseId). (z.atom, (z.views_name, (z.hands_name, (z.roots, (z.count, z.values))))))
+base_id_coded = coded_via (coded× coded_ℕ (coded× coded_ℕ (coded× coded_ℕ (coded× coded_ℕ (coded× coded_ℕ (coded× coded_ℕ
+    (coded× coded_ptr (coded× coded_ℕ (coded× coded_ℕ (coded× coded_ptr (coded× coded_ℕ coded_ℕ)))))))))))
+    (λ (z : BaseId). (z.atom, (z.views_name, (z.hands_name, (z.strips_name, (z.roots, (z.count, (z.fixed, (z.place, (z.skip, (z.values, (z.first, z.size))))))))))))
     (λ x y e i. record {
       atom = (e i).0;
       views_name = (e i).1.0;
       hands_name = (e i).1.1.0;
-      roots = (e i).1.1.1.0;
-      count = (e i).1.1.1.1.0;
-      values = (e i).1.1.1.1.1;
+      strips_name = (e i).1.1.1.0;
+      roots = (e i).1.1.1.1.0;
+      count = (e i).1.1.1.1.1.0;
+      fixed = (e i).1.1.1.1.1.1.0;
+      place = (e i).1.1.1.1.1.1.1.0;
+      skip = (e i).1.1.1.1.1.1.1.1.0;
+      values = (e i).1.1.1.1.1.1.1.1.1.0;
+      first = (e i).1.1.1.1.1.1.1.1.1.1.0;
+      size = (e i).1.1.1.1.1.1.1.1.1.1.1;
     })
+
+abbrev pub core_of : BaseId → Core
+core_of z = record {
+  atom = z.atom;
+  views_name = z.views_name;
+  hands_name = z.hands_name;
+  strips_name = z.strips_name;
+  roots = z.roots;
+  count = z.count;
+  fixed = z.fixed;
+}
 
 abbrev pub age : BaseId → Lft
 age z = z.atom ∷ []
+
+abbrev pub strip_of : Ptr → BaseId → Strip
+strip_of p z = record { words = p; skip = z.skip; values = z.values; first = z.first; size = z.size }
+
+-- the index is that of one of its numbers
+abbrev pub IsIts : BaseId → ℕ → Type 0
+IsIts z i = (z.first ≤ i) × (i < z.first + z.size)
+
+-- the same words, but for the names of the lifetime and of the views
+abbrev pub IsLike : BaseId → BaseId → Type 0
+IsLike y z =
+    (y.roots ≡ z.roots) × (y.count ≡ z.count) × (y.hands_name ≡ z.hands_name) × (y.strips_name ≡ z.strips_name) × (y.fixed ≡ z.fixed)
+    × (y.place ≡ z.place) × (y.skip ≡ z.skip) × (y.values ≡ z.values) × (y.first ≡ z.first) × (y.size ≡ z.size)
+
+-- it is the first strip: its words come behind those of roots and slots
+abbrev pub IsFirst : Ptr → BaseId → Type 0
+IsFirst p z = (z.fixed ≡ p) × (z.skip ≡ long z.roots) × (z.place ≡ 0) × (z.first ≡ 0)
+
+-- where the word of a name lies, if it is one of these words
+abbrev pub place_in : BaseId → At → ℕ
+place_in z (Root r) = place_of z.roots (Root r)
+place_in z (Used r) = place_of z.roots (Used r)
+place_in z (Slot s field) = place_of z.roots (Slot s field)
+place_in z (Entry b i) = (b - 1 - z.first) * 5 + z.skip + i
+place_in z (Word b i) = 0
+
+-- it is one of these words, if there is such a word: those of roots and slots lie before the words of the first strip
+abbrev pub IsIn : Ptr → BaseId → At → Type 0
+IsIn p z (Root r) = z.fixed ≡ p
+IsIn p z (Used r) = z.fixed ≡ p
+IsIn p z (Slot s field) = z.fixed ≡ p
+IsIn p z (Entry b i) = IsIts z (b - 1)
+IsIn p z (Word b i) = ⊥
 
 -- what the invariant has beside the rule: what the memory is made of, and the views
 pub record Inside (T V W : Type 0) : Type 0 where
@@ -141,33 +230,63 @@ state_of z i = record { memory = memory_of z.roots i.parts; views = i.views; wor
 
 -- they lie in a block each, and are not too many for one
 abbrev pub IsPlaced : RattleType → Ptr → BaseId → Type 0
-IsPlaced R p z = InBlock p × (whole z.roots z.count * 8 < 2 ^ 63) × InBlock z.values × (z.count * stride R < 2 ^ 63)
+IsPlaced R p z = InBlock p × ((z.skip + z.size * 5) * 8 < 2 ^ 63) × InBlock z.values × (z.size * stride R < 2 ^ 63)
 
-module _ (R : RattleType) {V W : Type 0} (c : V → Gv) (holds : State R.Denot V W → Type 0) (p : Ptr) (z : BaseId) where
-  -- what stands for the value of a block
-  abbrev pub lent_here : ℕ → R.Denot → ℕ → ℕ → Fml
-  lent_here = lendable R (age z) c z.views_name holds
+-- the invariant, where this is known of the list of the strips
+module _ (R : RattleType) {V W : Type 0} (c : V → Gv) (holds : State R.Denot V W → Type 0) (k : Core) (Known : List Strip → Type 0) where
+  abbrev pub lent_in : ℕ → R.Denot → ℕ → ℕ → Fml
+  lent_in = lendable R (k.atom ∷ []) c k.views_name holds
 
-  -- what stands for one that a call has in its hand
-  abbrev pub had_here : ℕ → ℕ → R.Denot → Fml
-  had_here = in_hand R (age z) c z.views_name holds
+  abbrev pub had_in : ℕ → ℕ → R.Denot → Fml
+  had_in = in_hand R (k.atom ∷ []) c k.views_name holds
 
-  abbrev pub all_numbers : List (Cell R.Denot) → Fml
-  all_numbers cs = numbers R (age z) z.hands_name lent_here had_here (block_of p) (long z.roots * 8 + count_of p) (block_of z.values) (count_of z.values) 0 cs
+  abbrev pub standing_in : Inside R.Denot V W → Fml
+  standing_in i =
+      fsep (fsep (row (block_of k.fixed) (count_of k.fixed) i.parts.words) (all_strips R (k.atom ∷ []) k.hands_name lent_in had_in k.strips_name Known i.parts.cells))
+      (fsep (ledger c k.views_name i.blank i.views)
+      (fact (holds record { memory = memory_of k.roots i.parts; views = i.views; world = i.world } × AreLaid k.roots k.count i.parts)))
 
-  abbrev pub standing : Inside R.Denot V W → Fml
-  standing i =
-      fsep (fsep (row (block_of p) (count_of p) i.parts.words) (all_numbers i.parts.cells))
-      (fsep (ledger c z.views_name i.blank i.views) (fact (holds (state_of z i) × AreLaid z.roots z.count i.parts)))
+  abbrev pub inner_in : Fml
+  inner_in = fex (Inside R.Denot V W) standing_in
 
-  abbrev pub inner : Fml
-  inner = fex (Inside R.Denot V W) standing
+-- the strip is one of the list
+abbrev pub IsListed : Ptr → BaseId → List Strip → Type 0
+IsListed p z ss = slice_get ss z.place ≡ Some (strip_of p z)
 
-  abbrev pub common : Fml
-  common = fsep (fact (IsPlaced R p z)) (invariant IsEven (fbor (age z) inner))
+-- and stays so: a share of its place in the list, which can be cut again and again
+abbrev pub is_listed : Ptr → BaseId → Fml
+is_listed p z = fex Share (λ q. seen strip_coded.code z.strips_name q z.place (strip_of p z))
 
-  abbrev pub words_own : Fml
-  words_own = fsep (flft (age z) full_share) (fsep common (flent (age z) inner))
+module _ (R : RattleType) {V W : Type 0} (c : V → Gv) (holds : State R.Denot V W → Type 0) where
+  -- the invariant itself
+  abbrev pub everything : Core → Fml
+  everything k = inner_in R c holds k (λ _. Unit {0})
 
-  abbrev pub words_share : Lft → Fml
-  words_share κ = fsep (fshr_bor κ (λ q. flft (age z) q)) common
+  module _ (p : Ptr) (z : BaseId) where
+    -- what stands for the value of a block
+    abbrev pub lent_here : ℕ → R.Denot → ℕ → ℕ → Fml
+    lent_here = lendable R (age z) c z.views_name holds
+
+    -- what stands for one that a call has in its hand
+    abbrev pub had_here : ℕ → ℕ → R.Denot → Fml
+    had_here = in_hand R (age z) c z.views_name holds
+
+    -- the invariant, as it is seen by who knows of the strip
+    abbrev pub standing : Inside R.Denot V W → Fml
+    standing = standing_in R c holds (core_of z) (IsListed p z)
+
+    abbrev pub inner : Fml
+    inner = inner_in R c holds (core_of z) (IsListed p z)
+
+    -- what is told to all: the invariant, and the strip
+    abbrev pub told : Fml
+    told = fsep (is_listed p z) (invariant IsEven (fbor (age z) (everything (core_of z))))
+
+    abbrev pub common : Fml
+    common = fsep (fact (IsPlaced R p z)) told
+
+    abbrev pub words_own : Fml
+    words_own = fsep (flft (age z) full_share) (fsep common (flent (age z) (everything (core_of z))))
+
+    abbrev pub words_share : Lft → Fml
+    words_share κ = fsep (fshr_bor κ (λ q. flft (age z) q)) common

@@ -5,13 +5,15 @@ use Rattle.seize_words.specs.Op.{Op, Out}
 use Rattle.seize_words.specs.declared.at.At.{At}
 use Rattle.seize_words.specs.declared.fault.Fault.{Fault}
 use Rattle.seize_words.specs.declared.fault.Fault.TheVariants.{Memory}
-use Rattle.seize_seats.specs.Lines.{place_of, IsWord}
+use denote.RawPtr.{Ptr}
+use Rattle.seize_seats.specs.Lines.{IsWord}
+use Rattle.seize_seats.specs.Owned.{BaseId, place_in, IsIn}
 
 -- The operation, on the word of this name, is one step on the word at a place: it becomes f of what it was, and `out` of that is the answer.
-pub record IsStepOf (T : Type 0) (roots count : ℕ) (at : At) (place : ℕ) (op : Op T) (f : ℕ → ℕ) (out : ℕ → Out T) : Type 0 where
+pub record IsStepOf (T : Type 0) (p : Ptr) (z : BaseId) (at : At) (place : ℕ) (op : Op T) (f : ℕ → ℕ) (out : ℕ → Out T) : Type 0 where
   pub needs : (m : Mem T) → Can m op → (w : ℕ) × (word_at m at ≡ Some w)
   pub makes : (m : Mem T) (w : ℕ) → word_at m at ≡ Some w → Gives m op (out w) × (after m op (out w) ≡ with_word m at (f w))
-  pub lies : IsWord roots count at → place ≡ place_of roots at
+  pub lies : IsWord z.roots z.count at → IsIn p z at × (place ≡ place_in z at)
 
 -- how an exchange is answered that found this word
 abbrev pub exchanged : ℕ → ℕ → Result ℕ ℕ

@@ -1,5 +1,5 @@
 -- `claim` sets a bit of a number's sign, and where it was free the number is claimed.
-use Rattle.std.proofs.Common.{◌≡◌, ℕ, List, [], ◌∷◌, ◌+◌, ◌*◌, ◌^◌, ◌<◌, sym, refl, ap, ◌∙◌, lit<, w64, arith}
+use Rattle.std.proofs.Common.{◌≡◌, ℕ, List, [], ◌∷◌, ◌+◌, ◌-◌, ◌*◌, ◌^◌, ◌<◌, sym, refl, ap, ◌∙◌, lit<, w64, arith}
 use mir.Syntax.{dcons, dnil, a_type, named}
 use mir.MapTy.{inst_fn}
 use mir.Val.{Val, vint, vptr, vstruct, vcons, vnil}
@@ -35,7 +35,6 @@ use Rattle.core.proofs.atomic.Steps.{tail}
 use Rattle.std.specs.contracts.marker.PhantomData as marker
 use Rattle.std.proofs.raw_atomic.Walks.{proved, leaves}
 use Rattle.std.proofs.raw_atomic.Calls.{fm, seq_cst, found, finds, ors}
-use Rattle.seize_seats.specs.Lines.{long}
 use Rattle.seize_seats.specs.Owned.{BaseId, IsPlaced, age, common, claim_owns, words_share}
 use Rattle.seize_seats.proofs.Shown.{placed}
 use Rattle.seize_seats.proofs.Makings.{claims}
@@ -97,7 +96,7 @@ claim_spec 𝓤 𝓛 𝓜 𝓡 wired X P U F LX LP LU LF g d _ =
     sets ! (bin ! (get ! refl) (get ! refl) tt) refl (tt, tt) $
     rewrite ! 1 (λ (ws : List Val). ‵ (cell_at q D.mir ws b o)) (sym ev) refl $ move ! (1 ∷ 0 ∷ 2 ∷ []) $ shuts ! tt D q (p, (tt, tt)) vs b o $
     move ! (3 ∷ 0 ∷ []) $
-    let e : ℕ = i * 8 + po in let is_at = asked.0 in let at : j * 40 + (long z.roots * 8 + po) + 32 ≡ e = omega (arith, is_at) in
+    let e : ℕ = i * 8 + po in let is_at = asked.0 in let at : (j - z.first) * 40 + (z.skip * 8 + po) + 32 ≡ e = omega (arith, is_at) in
     shr_bor-open ! tt (tokens_halve 𝓛 α) (λ s. let out : ℕ → Fml = λ n. fsep (flft α s) (claim_owns z.hands_name j n) in
     -- [open; the token; the fields; the invariant; the others]
     nothing ! $ move ! (4 ∷ 2 ∷ 0 ∷ []) $

@@ -1,5 +1,5 @@
 -- `close` ends the lifetime of the words, and they come back.
-use Rattle.std.proofs.Common.{◌≡◌, ℕ, List, [], ◌∷◌, length, ◌*◌, ◌^◌, ◌<◌, sym, refl, subst, Option}
+use Rattle.std.proofs.Common.{◌≡◌, ℕ, List, [], ◌∷◌, length, ◌+◌, ◌*◌, ◌^◌, ◌<◌, sym, refl, ap, ◌∙◌, subst, Option}
 use mir.Syntax.{dcons, dnil, a_type}
 use mir.MapTy.{inst_fn}
 use mir.Val.{Val, vstruct, vcons, vnil}
@@ -26,7 +26,7 @@ use Rattle.core.proofs.atomic.Steps.{Ptr-Good}
 use Rattle.std.proofs.raw_atomic.Walks.{proved, leaves}
 use Rattle.seize_seats.specs.Lines.{whole as all_words}
 use Rattle.core.specs.contracts.option.Option.{the_row as OptionOf}
-use Rattle.seize_seats.specs.Owned.{BaseId, IsPlaced, words_own, stride, places}
+use Rattle.seize_seats.specs.Owned.{BaseId, IsPlaced, IsFirst, stride, places}
 use Rattle.seize_seats.specs.Owned as Owned
 use Rattle.seize_blocks.specs.contracts.words.Words as words
 use Rattle.seize_blocks.specs.contracts.row.Row as row
@@ -59,20 +59,20 @@ close_spec 𝓤 𝓛 𝓜 𝓡 wired X P U F LX LP LU LF g d _ =
     (λ κs. ((λ x. hand_of x.words ∷ []), (rawptr_vals, tt)))
     (λ κs. ((λ x vs so. told R₀ R₁ R₂ R₃ g x.words vs so.0), (rawptr_Tells, tt))) (λ κs qs bounds a gh are.
     let p : Ptr = a.0.words in let z : BaseId = a.0.id in let pv : Ptr = a.1.0 in let cv = R₂.coded in let holds = g.holds a.0.fixed in
-    let Asked : Type 0 = pv ≡ z.values in
+    let Asked : Type 0 = (pv ≡ z.values) × IsFirst p z in
     let y : (walk_of 𝓛 En hs c).Ghost = ((κs, qs, bounds, a, (hand_of p ∷ [], (ptr_val pv ∷ [], tt))), gh) in
     let Post : Val → SProp 𝓤 = (walk_of 𝓛 En hs c).post y in
     qed 𝓛 ((raw (alive 𝓛 En.signature κs qs) ⊛ ‵ (owns (types_at En.signature.params κs) a y.0.4)) ∷ raw (fact 𝓤 _) ∷ raw (fact 𝓤 _) ∷ raw (fact 𝓤 _) ∷
     raw (fact 𝓤 _) ∷ raw (fact 𝓤 Asked) ∷ []) ∵
     keep ! (5 ∷ 0 ∷ []) $ heard ! Asked (λ asked. split ! $ move ! (1 ∷ []) $ fsplit ! $ fsplit ! $ keep ! (1 ∷ 3 ∷ []) $
     enter ! 𝓣.C 𝓣.Λ fn (hand_of p ∷ ptr_val pv ∷ []) Post $ alloc_all ! (λ l. pass_all ! refl (hand_good p, (Ptr-Good pv, tt)) $
-    use1 𝓛 (later (items (λ (u : List ℕ × List (Option X.Denot)). given ((length u.0 ≡ all_words z.roots z.count) × (length u.1 ≡ z.count) × IsPlaced R₀ p z)
+    use1 𝓛 (later (items (λ (u : List ℕ × List (Option X.Denot)). given ((length u.0 ≡ all_words z.roots z.size) × (length u.1 ≡ z.size) × IsPlaced R₀ p z)
     (‵ (Owned.row (block_of p) (count_of p) u.0) ⊛ ‵ (places R₀ (block_of z.values) (count_of z.values) u.1)))))
-    (closes 𝓛 R₀ cv holds p z.values z) $ await ! tt $ pick ! (λ u. learn ! (λ is. split ! $
+    (closes 𝓛 R₀ cv holds p z.values z asked.1) $ await ! tt $ pick ! (λ u. learn ! (λ is. split ! $
     let ws : List ℕ = u.0 in let xs : List (Option X.Denot) = u.1 in let placed = is.2 in
-    use1 𝓛 (‵ (Placing.Whole 𝓛 p ws)) (whole_in 𝓛 p ws (placed.0, subst (λ (n : ℕ). n * 8 < 2 ^ 63) (sym is.0) placed.1)) $ move ! (1 ∷ []) $
+    use1 𝓛 (‵ (Placing.Whole 𝓛 p ws)) (whole_in 𝓛 p ws (placed.0, subst (λ (n : ℕ). n * 8 < 2 ^ 63) (sym (is.0 ∙ ap (λ (k : ℕ). k + z.size * 5) (sym asked.1.1))) placed.1)) $ move ! (1 ∷ []) $
     use1 𝓛 (‵ (Values 𝓛 R₀ z.values xs)) (values_in 𝓛 R₀ z.values xs (placed.2, subst (λ (n : ℕ). n * stride R₀ < 2 ^ 63) (sym is.1) placed.3)) $
-    rewrite ! 0 (λ (r : Ptr). ‵ (Values 𝓛 R₀ r xs)) (sym asked) refl $
+    rewrite ! 0 (λ (r : Ptr). ‵ (Values 𝓛 R₀ r xs)) (sym asked.0) refl $
     -- [the values; the words; alive]
     let r₁ : Rw.Denot = record { at = p; items = ws } in let r₂ : Ro.Denot = record { at = pv; items = xs } in
     let pair : Val = vstruct (vcons (one_of p) (vcons (one_of pv) vnil)) in
@@ -80,7 +80,7 @@ close_spec 𝓤 𝓛 𝓜 𝓡 wired X P U F LX LP LU LF g d _ =
     sets ! (agg ! (and_then ! (get ! refl) (no_more !))) refl (one_good p) $
     sets ! (agg ! (and_then ! (get ! refl) (no_more !))) refl (one_good pv) $
     sets ! (agg ! (and_then ! (get ! refl) (and_then ! (get ! refl) (no_more !)))) refl (pair_good p pv) $
-    let Told : Type 0 = (p ≡ p) × (length ws ≡ all_words z.roots z.count) × (pv ≡ pv) × (length xs ≡ z.count) in
+    let Told : Type 0 = (p ≡ p) × (length ws ≡ all_words z.roots z.size) × (pv ≡ pv) × (length xs ≡ z.size) in
     use0 𝓛 (‵ ((Places O).own_val (pv, tt) (one_of pv ∷ []))) (places_made O 𝓛 pv) $ fjoin ! $ move ! (1 ∷ []) $
     use0 𝓛 (‵ ((Places u64).own_val (p, tt) (one_of p ∷ []))) (places_made u64 𝓛 p) $ fjoin ! $
     nothing ! $ move ! (1 ∷ 2 ∷ 0 ∷ []) $ fjoin3 ! $ feq_i ! (List Val) (pair ∷ []) (pair ∷ []) refl $ fjoin ! $

@@ -131,7 +131,7 @@ exchange_spec 𝓤 𝓛 𝓜 𝓡 wired X P U F LX LP LU LF g d _ =
     let f : ℕ → ℕ = λ n. either (n == old) new n in let says : ℕ → Out X.Denot = λ n. Exchanged (exchanged old n) in
     let others : Fml = fsep (flft κs.1.1.0 qs.1.1.0) (fsep (flft κs.1.1.1.0 qs.1.1.1.0) (fsep (flft κs.1.1.1.1.0 qs.1.1.1.1.0)
     (fsep (flft κs.1.1.1.1.1.0 qs.1.1.1.1.1.0) (fsep (flft κs.1.1.1.1.1.1.0 qs.1.1.1.1.1.1.0) ftrue)))) in
-    let Asked : Type 0 = (h.base ≡ z.views_name) × IsItsPlace z nm i × Allows holds g.keeps id v (Exchange nm old new) so in
+    let Asked : Type 0 = (h.base ≡ z.views_name) × IsItsPlace p z nm i × Allows holds g.keeps id v (Exchange nm old new) so in
     let vals : List Val = vptr b o ∷ vptr b' o' ∷ vptr b₂ o₂ ∷ vint w64 i ∷ vint w64 old ∷ vint w64 new ∷ [] in
     let y : (walk_of 𝓛 En hs c).Ghost =
     ((κs, qs, bounds, a, (vptr b o ∷ [], (vptr b' o' ∷ [], (vptr b₂ o₂ ∷ [], (vint w64 i ∷ [], (vint w64 old ∷ [], (vint w64 new ∷ [], tt))))))), gh) in
@@ -184,7 +184,7 @@ exchange_spec 𝓤 𝓛 𝓜 𝓡 wired X P U F LX LP LU LF g d _ =
     rewrite ! 1 (λ (u : ℕ). ‵ (seat_owns cv.code u id v h.stretch h.mark)) asked.0 refl $ move ! (1 ∷ []) $
     use1 𝓛 (later (‵ (seat_of 𝓛 R₀ cv holds g.keeps p z id v))) (ends 𝓛 cv z.views_name id v h.stretch h.mark) $ await ! tt $ move ! (1 ∷ 0 ∷ []) $ move ! (9 ∷ 7 ∷ 1 ∷ []) $
     use3 𝓛 (raw (𝓣.C _ (vptr pb e ∷ vint w64 old ∷ vint w64 new ∷ seq_cst ∷ seq_cst ∷ []) (λ u. mean 𝓛 (answered out old u))))
-    (via 𝓤 _ (steps 𝓛 R₀ cv holds g.keeps p z id v nm i (Exchange nm old new) f says so (Steps.exchanges X.Denot z.roots z.count nm i asked.1.0 old new) asked.2
+    (via 𝓤 _ (steps 𝓛 R₀ cv holds g.keeps p z id v nm i (Exchange nm old new) f says so (Steps.exchanges X.Denot p z nm i asked.1.0 old new) asked.2
     s) (exchanges 𝓛 𝓜 𝓡 (code.calls-core::raw_atomic::compare_exchange 𝓡.env wired) (block_ptr pb e) old new are.1.1.1.1.0.1 are.1.1.1.1.1.0.1 out)) $
     sets ! (agg ! (and_then ! (lit ! tt) (no_more !))) refl (tt, (record { fits = lit< tt }, tt)) $
     sets ! (agg ! (and_then ! (lit ! tt) (no_more !))) refl (tt, (record { fits = lit< tt }, tt)) $

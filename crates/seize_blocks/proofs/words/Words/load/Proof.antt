@@ -87,7 +87,7 @@ load_spec 𝓤 𝓛 𝓜 𝓡 wired X P U F LX LP LU LF g d _ =
     let holds = g.holds t.fixed in let so : Out X.Denot → U.Denot → Type 0 = g.then v (Load nm) in let f : ℕ → ℕ = λ n. n in
     let others : Fml = fsep (flft κs.1.1.0 qs.1.1.0) (fsep (flft κs.1.1.1.0 qs.1.1.1.0) (fsep (flft κs.1.1.1.1.0 qs.1.1.1.1.0)
     (fsep (flft κs.1.1.1.1.1.0 qs.1.1.1.1.1.0) (fsep (flft κs.1.1.1.1.1.1.0 qs.1.1.1.1.1.1.0) ftrue)))) in
-    let Asked : Type 0 = (h.base ≡ z.views_name) × IsItsPlace z nm i × Allows holds g.keeps id v (Load nm) so in
+    let Asked : Type 0 = (h.base ≡ z.views_name) × IsItsPlace p z nm i × Allows holds g.keeps id v (Load nm) so in
     let vals : List Val = vptr b o ∷ vptr b' o' ∷ vptr b₂ o₂ ∷ vint w64 i ∷ [] in
     let y : (walk_of 𝓛 En hs c).Ghost = ((κs, qs, bounds, a, (vptr b o ∷ [], (vptr b' o' ∷ [], (vptr b₂ o₂ ∷ [], (vint w64 i ∷ [], tt))))), gh) in
     let Post : Val → SProp 𝓤 = (walk_of 𝓛 En hs c).post y in
@@ -122,7 +122,7 @@ load_spec 𝓤 𝓛 𝓜 𝓡 wired X P U F LX LP LU LF g d _ =
     rewrite ! 1 (λ (u : ℕ). ‵ (seat_owns cv.code u id v h.stretch h.mark)) asked.0 refl $ move ! (1 ∷ []) $
     use1 𝓛 (later (‵ (seat_of 𝓛 R₀ cv holds g.keeps p z id v))) (ends 𝓛 cv z.views_name id v h.stretch h.mark) $ await ! tt $ move ! (1 ∷ 0 ∷ []) $ move ! (9 ∷ 7 ∷ 1 ∷ []) $
     use3 𝓛 (raw (𝓣.C _ (vptr pb e ∷ seq_cst ∷ []) (λ u. mean 𝓛 (found out u))))
-    (via 𝓤 _ (steps 𝓛 R₀ cv holds g.keeps p z id v nm i (Load nm) f Found so (Steps.loads X.Denot z.roots z.count nm i asked.1.0) asked.2 s)
+    (via 𝓤 _ (steps 𝓛 R₀ cv holds g.keeps p z id v nm i (Load nm) f Found so (Steps.loads X.Denot p z nm i asked.1.0) asked.2 s)
     (loads 𝓛 𝓜 𝓡 (code.calls-core::raw_atomic::load 𝓡.env wired) (block_ptr pb e) out)) $
     sets ! (agg ! (and_then ! (lit ! tt) (no_more !))) refl (tt, (record { fits = lit< tt }, tt)) $
     Calls-last ! (fm 𝓛 𝓜 𝓡) (found out) (and_then ! (get ! refl) (and_then ! (get ! refl) (no_more !))) (λ u. finds ! out (λ n fits.

@@ -29,7 +29,7 @@ use Rattle.core.proofs.atomic.Steps.{Ptr-Good}
 use Rattle.std.proofs.raw_atomic.Walks.{proved, leaves}
 use Rattle.seize_seats.specs.Lines.{whole as all_words}
 use Rattle.core.specs.contracts.option.Option.{the_row as OptionOf}
-use Rattle.seize_seats.specs.Owned.{BaseId, words_own, stride, places}
+use Rattle.seize_seats.specs.Owned.{BaseId, IsFirst, words_own, stride, places}
 use Rattle.seize_seats.specs.Owned as Owned
 use Rattle.seize_blocks.specs.contracts.words.Words as words
 use Rattle.seize_blocks.specs.contracts.row.Row as row
@@ -104,7 +104,7 @@ open_spec 𝓤 𝓛 𝓜 𝓡 wired X P U F LX LP LU LF g d _ =
     ) $
     let small : all_words roots count * 8 < 2 ^ 63 = subst (λ (n : ℕ). n * 8 < 2 ^ 63) asked.1 fits.1 in
     let room : count * stride R₀ < 2 ^ 63 = subst (λ (n : ℕ). n * stride R₀ < 2 ^ 63) asked.4 roomy.1 in
-    use2 𝓛 (later (items (λ (z : BaseId). given ((z.roots ≡ roots) × (z.count ≡ count) × (z.values ≡ pv)) (‵ (words_own R₀ cv.code holds p z)))))
+    use2 𝓛 (later (items (λ (z : BaseId). given ((z.roots ≡ roots) × (z.count ≡ count) × (z.values ≡ pv) × (z.size ≡ count) × IsFirst p z) (‵ (words_own R₀ cv.code holds p z)))))
     (opens 𝓛 R₀ cv holds p pv roots count (g.newcomer about_is) ws asked.0 asked.1 (fits.0, small, roomy.0, room) asked.2) $
     await ! tt $ pick ! (λ z. learn ! (λ is.
     sets ! (of_opd ! (get_in ! (fld ! refl (stop !)) (sub ! 0 refl (whole !)))) refl (Ptr-Good p) $
@@ -114,12 +114,12 @@ open_spec 𝓤 𝓛 𝓜 𝓡 wired X P U F LX LP LU LF g d _ =
     sets ! (agg ! (and_then ! (get ! refl) (and_then ! (get ! refl) (no_more !)))) refl (words_good p pv) $
     let t : Row.Denot = record { words = p; marker = record {}; id = z; fixed = about_is } in let q : Pl.Denot = record { at = pv } in
     let pair : Val = vstruct (vcons (hand_of p) (vcons (one_of pv) vnil)) in
-    let Told : Type 0 = (p ≡ p) × (z.roots ≡ roots) × (z.count ≡ count) × (z.values ≡ pv) × (about_is ≡ about_is) × (pv ≡ pv) in
+    let Told : Type 0 = (p ≡ p) × (z.roots ≡ roots) × (z.count ≡ count) × (z.values ≡ pv) × (z.size ≡ count) × IsFirst p z × (about_is ≡ about_is) × (pv ≡ pv) in
     use0 𝓛 (‵ ((Data R₀ R₁ R₂ R₃ g).own_val (p, (tt, tt)) (hand_of p ∷ []))) (hand_made R₀ R₁ R₂ R₃ g 𝓛 p) $ fjoin ! $
     use0 𝓛 (‵ (Pl.own_val q (one_of pv ∷ []))) (place_made R₀ 𝓛 pv) $
     nothing ! $ move ! (2 ∷ 1 ∷ 0 ∷ []) $ fjoin3 ! $ feq_i ! (List Val) (pair ∷ []) (pair ∷ []) refl $ fjoin ! $
     fpack ! (Valss (Row ∷ Pl ∷ [])) (within (declared.shape (tuple_type (Row ∷ Pl ∷ []))) (t, (q, tt)) (pair ∷ [])) (hand_of p ∷ [], (one_of pv ∷ [], tt)) $
     nothing ! $ nothing ! $ fjoin ! $ nothing ! $ fjoin ! $ nothing ! $ fjoin ! $ nothing ! $ fjoin ! $ nothing ! $ fjoin ! $ move ! (2 ∷ 3 ∷ []) $ join ! $
-    use0 𝓛 (raw (fact 𝓤 Told)) (fact_i 𝓤 Told (emp 𝓤) (refl, is.0, is.1, is.2, refl, refl)) $
+    use0 𝓛 (raw (fact 𝓤 Told)) (fact_i 𝓤 Told (emp 𝓤) (refl, is.0, is.1, is.2, is.3, is.4, refl, refl)) $
     returns ! (look_at ! 0 refl) $ free_all ! refl $ keep ! (1 ∷ 2 ∷ 3 ∷ 0 ∷ []) $
     by ! (leaves 𝓛 En hs c y pair (t, q) (tt, (tt, (tt, (tt, (tt, tt))))) (tt, (tt, (tt, (tt, (tt, tt)))))))))))))

@@ -1,5 +1,5 @@
 -- `put` takes the place of a claimed number out, writes the value there, and gives it back as a block.
-use Rattle.std.proofs.Common.{◌≡◌, ℕ, List, [], ◌∷◌, ◌++◌, ◌+◌, ◌*◌, ◌^◌, ◌<◌, sym, refl, ap, ◌∙◌, subst, w64, Option, None, Some, Ok}
+use Rattle.std.proofs.Common.{◌≡◌, ℕ, List, [], ◌∷◌, ◌++◌, ◌+◌, ◌-◌, ◌*◌, ◌^◌, ◌<◌, sym, refl, ap, ◌∙◌, subst, arith, w64, Option, None, Some, Ok}
 use mir.Syntax.{dcons, dnil, a_type}
 use mir.MapTy.{inst_fn}
 use mir.Raw.{raw as bare}
@@ -10,7 +10,7 @@ use base.Share
 use base.Share.{three_quarters}
 use base.Logic.{SProp, ent, sep, emp, id⊢}
 use types.Logic.{sem}
-use base.Fml.{Lft, Share, Fml, ftrue, fsep, flft, fhide, froom, fat, fbor, Incl-trans}
+use base.Fml.{Lft, Share, Fml, ftrue, fsep, flft, fhide, froom, fat, Incl-trans}
 use types.Kit.{‵, raw, ◌⊛◌, given, later, at_ret, ◌$◌, ◌∵◌, !, qed, by, move, keep, drop, split, split3, join, fsplit, fsplit3, fjoin, fjoin3, fpick, learn, use0, use1, use2, use3, await, suffices, rewrite, feq_i, some as items, pick}
 use types.Match.{live}
 use types.Part.{agg}
@@ -44,7 +44,7 @@ use Rattle.std.specs.contracts.marker.PhantomData as marker
 use Rattle.std.proofs.raw_atomic.Walks.{proved_at, leaves}
 use Rattle.seize_words.specs.Op.{Out, Make, Made}
 use Rattle.seize_seats.specs.State.{Allows}
-use Rattle.seize_seats.specs.Owned.{BaseId, IsPlaced, Hand, age, common, inner, claim_owns, resting, busy, zeros, place, stride, words_share}
+use Rattle.seize_seats.specs.Owned.{BaseId, IsPlaced, Hand, age, common, told as told_to_all, IsIts, claim_owns, resting, busy, zeros, place, stride, words_share}
 use Rattle.seize_seats.proofs.Shown.{placed}
 use Rattle.seize_seats.proofs.Moves.{reach, seat as seat_of, gone_on}
 use Rattle.seize_seats.proofs.Makings.{hands, contents, withdraws, publishes, offers as offered_at, lent}
@@ -57,8 +57,9 @@ use Rattle.seize_blocks.specs.contracts.words.Words.put.{ended, clauses}
 use Rattle.seize_blocks.specs.contracts.words.Words.put.Key.{name as #self}
 use Rattle.seize_blocks.proofs.words.Words.put.Statement.{statement}
 use Rattle.seize_blocks.proofs.words.Words.put.Code as code
-use Rattle.seize_seats.specs.Stretches.{seat_owns, IsEven, invariant}
-use Rattle.seize_seats.proofs.Stretches.{ends, begins, twice}
+use Rattle.seize_seats.specs.Stretches.{seat_owns}
+use Rattle.seize_seats.proofs.Stretches.{ends, begins}
+use Rattle.seize_seats.proofs.Known.{twice}
 use Rattle.seize_seats.proofs.Lendings.{offers}
 use contract.BorrowLft.{◌⊑◌}
 use Rattle.core.proofs.once.Steps.{option_lives}
@@ -108,8 +109,9 @@ put_spec 𝓤 𝓛 𝓜 𝓡 wired X P U F LX LP LU LF g d _ =
     let bv : ℕ = block_of pv in let ov : ℕ = count_of pv in let sz : ℕ = stride R₀ in let e : ℕ = j * sz + ov in
     let others : Fml = fsep (flft κs.1.1.0 qs.1.1.0) (fsep (flft κs.1.1.1.0 qs.1.1.1.0) (fsep (flft κs.1.1.1.1.0 qs.1.1.1.1.0)
     (fsep (flft κs.1.1.1.1.1.0 qs.1.1.1.1.1.0) ftrue))) in
-    let Asked : Type 0 = (h.base ≡ z.views_name) × (cl.base ≡ z.hands_name) × (cl.found ≡ 0) × (cl.index ≡ j) × (j < z.count) × (j + 1 < 2 ^ 53) ×
+    let Asked : Type 0 = (h.base ≡ z.views_name) × (cl.base ≡ z.hands_name) × (cl.found ≡ 0) × (cl.index ≡ z.first + j) × (j < z.size) × (z.first + j + 1 < 2 ^ 53) ×
     (pv ≡ z.values) × (count ≡ 0) × Allows holds g.keeps id v (Make new count) (g.then v (Make new count)) in
+    let n : ℕ = z.first + j in let d : ℕ = n - z.first in let nth_is : d ≡ j = omega arith in
     let got = one (layout X) vss.1.1.1.1.1.0 (LX₀.typed new vss.1.1.1.1.1.0 are.1.1.1.1.1.0) in let vy : Val = got.0 in
     let sv : Val = live 1 (of_list (vy ∷ [])) in
     let ct = claim_told cl.found vss.1.1.0 are.1.1.0.0 in
@@ -132,7 +134,8 @@ put_spec 𝓤 𝓛 𝓜 𝓡 wired X P U F LX LP LU LF g d _ =
     []))).coded) (words.the_heap R₀ R₁ R₂ R₃ g) (words.the_lent R₀ R₁ R₂ R₃ g) κ t b o) $
     split ! $ drop ! $ unhide ! $ fsplit ! $ move ! (1 ∷ []) $
     use1 𝓛 (given (IsPlaced R₀ p z) (‵ (common R₀ cv.code holds p z))) (placed R₀ cv holds p z 𝓛) $ learn ! (λ there. fsplit ! $ drop ! $
-    let room : z.count * sz < 2 ^ 63 = there.3 in let small : j * sz < 2 ^ 64 = indexed j z.count sz asked.4 room in
+    let room : z.size * sz < 2 ^ 63 = there.3 in let small : j * sz < 2 ^ 64 = indexed j z.size sz asked.4 room in
+    let lt = asked.4 in let of : IsIts z n = (omega arith, omega (arith, lt)) in
     let at_v : pv ≡ p' = at_block pv (subst InBlock (sym asked.6) there.2) in
     let linked : vss.1.1.1.1.0 ≡ ptr_val p' ∷ [] = are.1.1.1.1.0 ∙ ap (λ (u : Ptr). ptr_val u ∷ []) at_v in
     suffices ! (Run us) (subst (λ (ws : List Val). ent 𝓤 (Run us) (Run ws))
@@ -146,19 +149,19 @@ put_spec 𝓤 𝓛 𝓜 𝓡 wired X P U F LX LP LU LF g d _ =
           ((tt, record { fits = are.1.1.1.0.1 }), (Ptr-Good p', (got.2, ((tt, record { fits = are.1.1.1.1.1.1.0.1 }), tt)))),
         ),
       ),
-    ) $ let Ev = env fn.locals l in let I : Fml = inner R₀ cv.code holds p z in
+    ) $ let Ev = env fn.locals l in let Inv : Fml = told_to_all R₀ cv.code holds p z in
     -- [the invariant; its lifetime lasts; the claim; the value; the token; the seat, by two; its token; the others]
-    use1 𝓛 (‵ (invariant IsEven (fbor α I)) ⊛ ‵ (invariant IsEven (fbor α I))) (twice 𝓛 IsEven (fbor α I)) $ split ! $ move ! (2 ∷ 5 ∷ []) $
+    use1 𝓛 (‵ Inv ⊛ ‵ Inv) (twice 𝓛 R₀ cv holds p z) $ split ! $ move ! (2 ∷ 5 ∷ []) $
     shr_bor-open ! tt (tokens_halve 𝓛 α) (λ s. let q₁ : Share = Share.left s in let q₂ : Share = Share.right s in move ! (1 ∷ []) $
     use1 𝓛 (‵ (flft α q₁) ⊛ ‵ (flft α q₂)) (𝓛.lfts.lft_split α s) $ split ! $
-    let Hs : Hand → Fml = λ u. hands 𝓛 R₀ cv holds g.keeps p z three_quarters j u in
-    let Cs : Option X.Denot → Fml = λ u. contents 𝓛 R₀ cv holds g.keeps p z j zeros u in let Os : Fml = offered_at 𝓛 R₀ cv holds g.keeps p z j zeros new in
+    let Hs : Hand → Fml = λ u. hands 𝓛 R₀ cv holds g.keeps p z three_quarters n u in
+    let Cs : Option X.Denot → Fml = λ u. contents 𝓛 R₀ cv holds g.keeps p z n zeros u in let Os : Fml = offered_at 𝓛 R₀ cv holds g.keeps p z n zeros new in
     -- [its token, by two; open; the invariant, twice; the claim; the value; the seat, by two; its token; the others]
     move ! (5 ∷ 1 ∷ []) $ join ! $ move ! (3 ∷ 1 ∷ 0 ∷ []) $
     use3 𝓛 (later ((‵ (Hs (busy q₂)) ⊛ ‵ (Cs None)) ⊛ ‵ (flft α q₁)))
-    (reach 𝓛 R₀ cv holds g.keeps p z q₁ (sep 𝓤 (sem 𝓛 (Hs resting)) (sem 𝓛 (flft α q₂))) (sep 𝓤 (sem 𝓛 (Hs (busy q₂))) (sem 𝓛 (Cs None))) (withdraws 𝓛 R₀ cv holds g.keeps p z j q₂ asked.4)) $ await ! tt $ split ! $ split ! $ move ! (1 ∷ []) $ fsplit ! $
+    (reach 𝓛 R₀ cv holds g.keeps p z q₁ (sep 𝓤 (sem 𝓛 (Hs resting)) (sem 𝓛 (flft α q₂))) (sep 𝓤 (sem 𝓛 (Hs (busy q₂))) (sem 𝓛 (Cs None))) (withdraws 𝓛 R₀ cv holds g.keeps p z n q₂ of)) $ await ! tt $ split ! $ split ! $ move ! (1 ∷ []) $ fsplit ! $
     -- [the entry; the place; the hand; its token; open; the invariant; the value; the seat, by two; its token; the others]
-    move ! (1 ∷ []) $ rewrite ! 0 (λ (r : Ptr). ‵ (place R₀ α z.hands_name (block_of r) (j * sz + count_of r) None)) (sym asked.6) refl $
+    move ! (1 ∷ []) $ rewrite ! 0 (λ (r : Ptr × ℕ). ‵ (place R₀ α z.hands_name (block_of r.0) (r.1 * sz + count_of r.0) None)) (λ i. (sym asked.6 i, nth_is i)) refl $
     spread m ! LR None bv e (λ w good.
     use1 𝓛 (‵ (froom (bare (lone O.mir)) bv e)) (𝓛.laws.at_room (bare (lone O.mir)) bv e w) $
     use1 𝓛 (‵ (froom (lone O.mir) bv e)) (𝓛.laws.raw-room (lone O.mir) bv e) $ first ! $ blocks ! $
@@ -174,12 +177,12 @@ put_spec 𝓤 𝓛 𝓜 𝓡 wired X P U F LX LP LU LF g d _ =
     exec ! 𝓣.C 𝓣.Λ Ev (tail fn.body) (at_ret Ev Post) $ sets ! (of_opd ! (unit_lit !)) refl (tt, tt) $
     use1 𝓛 (‵ (fat full_share (bare (lone O.mir)) bv e sv)) (𝓛.laws.at_raw full_share (lone O.mir) bv e sv) $
     gather m ! (Some new) sv bv e $
-    rewrite ! 0 (λ (u : Ptr). ‵ (place R₀ α z.hands_name (block_of u) (j * sz + count_of u) (Some new))) asked.6 refl $
+    rewrite ! 0 (λ (r : Ptr × ℕ). ‵ (place R₀ α z.hands_name (block_of r.0) (r.1 * sz + count_of r.0) (Some new))) (λ i. (asked.6 i, sym nth_is i)) refl $
     -- [the place; what it held; the entry; the hand; its token; open; the invariant; the seat, by two; its token; the others]
-    let Value : Fml = lent 𝓛 R₀ cv holds g.keeps p z j new (block_of z.values) (j * sz + count_of z.values) in
+    let Value : Fml = lent 𝓛 R₀ cv holds g.keeps p z n new (block_of z.values) (d * sz + count_of z.values) in
     move ! (10 ∷ []) $ fsplit ! $ move ! (2 ∷ 0 ∷ []) $
     use2 𝓛 (later (‵ Value ⊛ ‵ (flft κs.1.1.0 qs.1.1.0)))
-    (offers 𝓛 R₀ α cv z.views_name holds (LO.shares 𝓛) j new (block_of z.values) (j * sz + count_of z.values) κs.1.1.0 qs.1.1.0
+    (offers 𝓛 R₀ α cv z.views_name holds (LO.shares 𝓛) n new (block_of z.values) (d * sz + count_of z.values) κs.1.1.0 qs.1.1.0
     (Incl-trans inc (option_lives R₀))) $ await ! tt $ split ! $ move ! (1 ∷ 2 ∷ []) $ fjoin ! $
     move ! (1 ∷ 2 ∷ 3 ∷ 4 ∷ 5 ∷ 6 ∷ 7 ∷ 8 ∷ 9 ∷ 10 ∷ []) $
     move ! (2 ∷ 0 ∷ []) $ fjoin ! $ move ! (2 ∷ 0 ∷ []) $ join ! $
@@ -189,18 +192,18 @@ put_spec 𝓤 𝓛 𝓜 𝓡 wired X P U F LX LP LU LF g d _ =
     use1 𝓛 (later (‵ (seat_of 𝓛 R₀ cv holds g.keeps p z id v))) (ends 𝓛 cv z.views_name id v h.stretch h.mark) $ await ! tt $ move ! (1 ∷ 0 ∷ []) $
     -- [the seat's fields; the seat; four of it; hand and contents; what it held; its token; open; the invariant; ..]
     move ! (1 ∷ 6 ∷ []) $ join ! $ move ! (9 ∷ 7 ∷ 0 ∷ []) $
-    use3 𝓛 (later ((‵ (gone_on 𝓛 R₀ cv holds g.keeps p z id (so (Made (Ok (j + 1))))) ⊛ ‵ (flft α q₂)) ⊛ ‵ (flft α q₁)))
+    use3 𝓛 (later ((‵ (gone_on 𝓛 R₀ cv holds g.keeps p z id (so (Made (Ok (n + 1))))) ⊛ ‵ (flft α q₂)) ⊛ ‵ (flft α q₁)))
     (reach 𝓛 R₀ cv holds g.keeps p z q₁
     (sep 𝓤 (sem 𝓛 (seat_of 𝓛 R₀ cv holds g.keeps p z id v)) (sep 𝓤 (sem 𝓛 (Hs (busy q₂))) (sem 𝓛 Os)))
-    (sep 𝓤 (sem 𝓛 (gone_on 𝓛 R₀ cv holds g.keeps p z id (so (Made (Ok (j + 1)))))) (sem 𝓛 (flft α q₂))) (publishes 𝓛 R₀ cv holds g.keeps p z id v j q₂ new so asked.4 asked.5 allowed)) $ await ! tt $ split ! $ split ! $
+    (sep 𝓤 (sem 𝓛 (gone_on 𝓛 R₀ cv holds g.keeps p z id (so (Made (Ok (n + 1)))))) (sem 𝓛 (flft α q₂))) (publishes 𝓛 R₀ cv holds g.keeps p z id v n q₂ new so of asked.5 allowed)) $ await ! tt $ split ! $ split ! $
     -- [the seat; the two parts of the token; the fields; four; what it held; open; its token; the others]
     move ! (2 ∷ 1 ∷ []) $ use2 𝓛 (‵ (flft α s)) (𝓛.lfts.lft_join α s) $ move ! (8 ∷ 0 ∷ []) $ obor_close ! tt $ drop ! $
     move ! (1 ∷ []) $ fpick ! (λ v'. fsplit ! $ fpick ! (λ such. drop ! $
     use1 𝓛 (later (items (λ (st : ℕ × ℕ). ‵ (seat_owns cv.code z.views_name id v' st.0 st.1)))) (begins 𝓛 cv z.views_name id v') $ await ! tt $
     pick ! (λ st.
     let h' : Sr.Denot = record { marker = h.marker; base = z.views_name; id = id; view = v'; stretch = st.0; mark = st.1 } in
-    let Told : Type 0 = (z.views_name ≡ h.base) × (id ≡ id) × g.then v (Make new count) (Made (Ok (j + 1))) v' in
-    let told_is = subst (λ (w : ℕ). g.then v (Make new w) (Made (Ok (j + 1))) v') (sym asked.7) such in
+    let Told : Type 0 = (z.views_name ≡ h.base) × (id ≡ id) × g.then v (Make new count) (Made (Ok (n + 1))) v' in
+    let told_is = subst (λ (w : ℕ). g.then v (Make new w) (Made (Ok (n + 1))) v') (sym asked.7) such in
     -- [the seat; the token; the fields; four; what it held; its token; the others]
     move ! (2 ∷ 0 ∷ []) $ fjoin ! $ move ! (2 ∷ 0 ∷ 3 ∷ 4 ∷ 5 ∷ []) $ closes ! tt Sr h' ts b' o' $
     feq_i ! (List Val) vss.1.0 (vptr b' o' ∷ []) are.1.0.0 $ fjoin3 ! $

@@ -20,8 +20,8 @@ use denote.Ref.{mut_vals, mut_Tells}
 use denote.Triple.Walked.{Stays, stay_ref, walk_of, Goes-ref}
 use Rattle.std.proofs.raw_atomic.Walks.{proved, leaves}
 use Rattle.seize_seats.specs.State.{Renews}
-use Rattle.seize_seats.specs.Owned.{BaseId, words_own}
-use Rattle.seize_seats.proofs.Renewal.{renews, IsLike}
+use Rattle.seize_seats.specs.Owned.{BaseId, IsLike, words_own}
+use Rattle.seize_seats.proofs.Renewal.{renews}
 use Rattle.seize_blocks.specs.contracts.words.Words as words
 use Rattle.seize_blocks.specs.contracts.words.Words.renew.{ended, clauses}
 use Rattle.seize_blocks.specs.contracts.words.Words.renew.Key.{name as #self}
@@ -58,13 +58,13 @@ renew_spec 𝓤 𝓛 𝓜 𝓡 wired X P U F LX LP LU LF g d _ =
     opens ! tt Row b o (λ ts. move ! (1 ∷ []) $ fsplit ! $
     -- [the fields; the memory; four of self; the others]
     move ! (6 ∷ []) $ fsplit ! $ move ! (3 ∷ 0 ∷ []) $
-    use2 𝓛 (later (items (λ (u : BaseId). given (IsLike 𝓛 R₀ cv holds p z u) (‵ (words_own R₀ cv.code holds p u))) ⊛ ‵ (flft κs.1.0 qs.1.0)))
+    use2 𝓛 (later (items (λ (u : BaseId). given (IsLike u z) (‵ (words_own R₀ cv.code holds p u))) ⊛ ‵ (flft κs.1.0 qs.1.0)))
     (renews 𝓛 R₀ cv holds p z asked κs.1.0 qs.1.0 (LO.shares 𝓛) (Incl-trans inc (option_lives R₀))) $ await ! tt $ split ! $ pick ! (λ u. learn ! (λ like.
     -- [the memory; the type's token; the rest; the fields; four of self]
     let t' : Row.Denot = record { words = p; marker = t.marker; id = u; fixed = t.fixed } in
-    let Told : Type 0 = (p ≡ p) × (t.fixed ≡ t.fixed) × (u.roots ≡ z.roots) × (u.count ≡ z.count) × (u.values ≡ z.values) × (u.hands_name ≡ z.hands_name) in
+    let Told : Type 0 = (p ≡ p) × (t.fixed ≡ t.fixed) × IsLike u z in
     move ! (1 ∷ 2 ∷ []) $ fjoin ! $ move ! (2 ∷ 1 ∷ []) $ fjoin ! $ move ! (2 ∷ 0 ∷ 3 ∷ 4 ∷ 5 ∷ []) $ closes ! tt Row t' ts b o $
     feq_i ! (List Val) (vptr b o ∷ []) (vptr b o ∷ []) refl $ fjoin3 ! $ nothing ! $ move ! (1 ∷ 0 ∷ []) $ fjoin ! $ move ! (1 ∷ 2 ∷ []) $ join ! $
     sets ! (of_opd ! (unit_lit !)) refl (tt, tt) $ feq_i ! (List Val) (vunit ∷ []) (vunit ∷ []) refl $
-    use0 𝓛 (raw (fact 𝓤 Told)) (fact_i 𝓤 Told (emp 𝓤) (refl, refl, like.0, like.1, like.2, like.3)) $
+    use0 𝓛 (raw (fact 𝓤 Told)) (fact_i 𝓤 Told (emp 𝓤) (refl, refl, like)) $
     returns ! (look_at ! 0 refl) $ free_all ! refl $ keep ! (2 ∷ 3 ∷ 1 ∷ 0 ∷ []) $ by ! (leaves 𝓛 En hs c y vunit tt (t', tt) (tt, tt)))))))))

@@ -1,5 +1,5 @@
 -- `rewrite` takes the value of a block in the hand, moves it out, puts another one in its place, and gives it back as the block's.
-use Rattle.std.proofs.Common.{◌≡◌, ℕ, List, [], ◌∷◌, ◌++◌, ◌+◌, ◌-◌, ◌*◌, ◌^◌, ◌<◌, ◌≤◌, sym, refl, ap, ◌∙◌, subst, w64, arith, Some}
+use Rattle.std.proofs.Common.{◌≡◌, ℕ, List, [], ◌∷◌, ◌++◌, ◌+◌, ◌-◌, ◌*◌, ◌^◌, ◌<◌, sym, refl, ap, ◌∙◌, subst, w64, arith, Some}
 use mir.Syntax.{dcons, dnil, a_type}
 use mir.MapTy.{inst_fn}
 use mir.Raw.{raw as bare}
@@ -10,7 +10,7 @@ use base.Share
 use base.Share.{three_quarters}
 use base.Logic.{SProp, ent, sep, emp, id⊢}
 use types.Logic.{sem}
-use base.Fml.{Lft, Share, Fml, ftrue, fsep, fex, flft, fhide, froom, fat, fbor, Incl-trans}
+use base.Fml.{Lft, Share, Fml, ftrue, fsep, fex, flft, fhide, froom, fat, Incl-trans}
 use types.Kit.{‵, raw, ◌⊛◌, given, later, at_ret, ◌$◌, ◌∵◌, !, qed, by, move, keep, drop, split, split3, join, group, fsplit, fsplit3, fjoin, fjoin3, fpick, learn, use0, use1, use2, use3, await, suffices, rewrite, feq_i, some as items, pick}
 use types.Match.{live}
 use types.Part.{agg}
@@ -44,12 +44,13 @@ use Rattle.std.specs.contracts.marker.PhantomData as marker
 use Rattle.std.proofs.raw_atomic.Walks.{proved_at, leaves}
 use Rattle.seize_words.specs.Op.{Out, Rewrite, Taken}
 use Rattle.seize_seats.specs.State.{Allows, Owns}
-use Rattle.seize_seats.specs.Owned.{BaseId, IsPlaced, age, common, held, inner, place, stride, words_share}
+use Rattle.seize_seats.specs.Owned.{BaseId, IsPlaced, age, common, held, told as told_to_all, place, stride, words_share}
 use Rattle.seize_seats.proofs.Shown.{placed}
 use Rattle.seize_seats.proofs.Moves.{reach, seat as seat_of, gone_on}
 use Rattle.seize_seats.proofs.Makings.{hands}
 use Rattle.seize_seats.proofs.Regains.{regains_held}
 use Rattle.seize_seats.proofs.Rewrites.{Note, Holding, takes_up, puts_back, value as value_at}
+use Rattle.seize_blocks.specs.Placed.{IsItsIndex}
 use Rattle.seize_blocks.specs.contracts.words.Words as words
 use Rattle.seize_blocks.specs.contracts.seat.Seat as seat
 use Rattle.seize_blocks.proofs.Fields.{Data}
@@ -58,8 +59,9 @@ use Rattle.seize_blocks.specs.contracts.words.Words.rewrite.{ended, clauses}
 use Rattle.seize_blocks.specs.contracts.words.Words.rewrite.Key.{name as #self}
 use Rattle.seize_blocks.proofs.words.Words.rewrite.Statement.{statement}
 use Rattle.seize_blocks.proofs.words.Words.rewrite.Code as code
-use Rattle.seize_seats.specs.Stretches.{seat_owns, IsEven, invariant}
-use Rattle.seize_seats.proofs.Stretches.{ends, begins, twice}
+use Rattle.seize_seats.specs.Stretches.{seat_owns}
+use Rattle.seize_seats.proofs.Stretches.{ends, begins}
+use Rattle.seize_seats.proofs.Known.{twice}
 use Rattle.seize_seats.proofs.Lendings.{offers}
 use contract.BorrowLft.{◌⊑◌}
 use Rattle.core.proofs.once.Steps.{option_lives}
@@ -106,7 +108,7 @@ rewrite_spec 𝓤 𝓛 𝓜 𝓡 wired X P U F LX LP LU LF g d _ =
     let bv : ℕ = block_of pv in let ov : ℕ = count_of pv in let sz : ℕ = stride R₀ in let e : ℕ = j * sz + ov in
     let others : Fml = fsep (flft κs.1.1.0 qs.1.1.0) (fsep (flft κs.1.1.1.0 qs.1.1.1.0) (fsep (flft κs.1.1.1.1.0 qs.1.1.1.1.0)
     (fsep (flft κs.1.1.1.1.1.0 qs.1.1.1.1.1.0) ftrue))) in
-    let Asked : Type 0 = (h.base ≡ z.views_name) × (0 < nr → nr ≤ z.count → j ≡ nr - 1) × (pv ≡ z.values) × Owns holds g.keeps id v nr ×
+    let Asked : Type 0 = (h.base ≡ z.views_name) × IsItsIndex z nr j × (pv ≡ z.values) × Owns holds g.keeps id v nr ×
     Allows holds g.keeps id v (Rewrite nr new) (g.then v (Rewrite nr new)) in
     let got = one (layout X) vss.1.1.1.1.1.0 (LX₀.typed new vss.1.1.1.1.1.0 are.1.1.1.1.1.0) in let vy : Val = got.0 in
     let sv : Val = live 1 (of_list (vy ∷ [])) in
@@ -117,7 +119,7 @@ rewrite_spec 𝓤 𝓛 𝓜 𝓡 wired X P U F LX LP LU LF g d _ =
     keep ! (4 ∷ 6 ∷ 1 ∷ 2 ∷ 7 ∷ 8 ∷ 5 ∷ []) $ move ! (6 ∷ []) $ fsplit3 ! $ move ! (2 ∷ []) $ fsplit3 ! $ keep ! (1 ∷ 5 ∷ 6 ∷ 7 ∷ 8 ∷ 9 ∷ 10 ∷ []) $
     -- [the value; self; its token; the seat, by two; its token; the others]
     rewrite ! 0 (λ (ws : List Val). ‵ (R₀.own_val new ws)) got.1 refl $
-    let so : Out X.Denot → U.Denot → Type 0 = g.then v (Rewrite nr new) in let own = asked.3 in let allowed = asked.4 in
+    let so : Out X.Denot → U.Denot → Type 0 = g.then v (Rewrite nr new) in let own = asked.3 in let allowed = asked.4 in let mine = asked.1.0 in let d : ℕ = nr - 1 - z.first in
     let p' : Ptr = block_ptr bv ov in let us : List Val = vptr b o ∷ vptr b' o' ∷ vint w64 nr ∷ vint w64 j ∷ ptr_val p' ∷ vy ∷ [] in
     let Run : List Val → SProp 𝓤 = λ ws. WpFn 𝓤 H 𝓣.C 𝓣.Λ fn ws Post in
     move ! (1 ∷ []) $
@@ -134,9 +136,9 @@ rewrite_spec 𝓤 𝓛 𝓜 𝓡 wired X P U F LX LP LU LF g d _ =
     enter ! 𝓣.C 𝓣.Λ fn us Post $ alloc_all ! (λ l. pass_all ! refl (
       (tt, tt),
       ((tt, tt), ((tt, record { fits = are.1.1.0.1 }), ((tt, record { fits = are.1.1.1.0.1 }), (Ptr-Good p', (got.2, tt))))),
-    ) $ let Ev = env fn.locals l in let I : Fml = inner R₀ cv.code holds p z in
+    ) $ let Ev = env fn.locals l in let Inv : Fml = told_to_all R₀ cv.code holds p z in
     -- [the invariant; its lifetime lasts; the value; the token; the seat, by two; its token; the others]
-    use1 𝓛 (‵ (invariant IsEven (fbor α I)) ⊛ ‵ (invariant IsEven (fbor α I))) (twice 𝓛 IsEven (fbor α I)) $ split ! $ move ! (2 ∷ 4 ∷ []) $
+    use1 𝓛 (‵ Inv ⊛ ‵ Inv) (twice 𝓛 R₀ cv holds p z) $ split ! $ move ! (2 ∷ 4 ∷ []) $
     shr_bor-open ! tt (tokens_halve 𝓛 α) (λ s. let q₁ : Share = Share.left s in let q₂ : Share = Share.right s in move ! (1 ∷ []) $
     use1 𝓛 (‵ (flft α q₁) ⊛ ‵ (flft α q₂)) (𝓛.lfts.lft_split α s) $ split ! $
     -- [its token, by two; open; the invariant, twice; the value; the seat, by two; its token; the others]
@@ -145,19 +147,19 @@ rewrite_spec 𝓤 𝓛 𝓜 𝓡 wired X P U F LX LP LU LF g d _ =
     use1 𝓛 (later (‵ (seat_of 𝓛 R₀ cv holds g.keeps p z id v))) (ends 𝓛 cv z.views_name id v h.stretch h.mark) $ await ! tt $ move ! (1 ∷ 0 ∷ []) $
     -- [the seat's fields; the seat; four of it; the token, by two; open; the invariant, twice; the value; the others]
     move ! (1 ∷ 7 ∷ []) $ join ! $ move ! (8 ∷ 6 ∷ 0 ∷ []) $
-    let Held : ℕ × X.Denot → Fml = Holding 𝓛 R₀ cv holds g.keeps p z id v nr q₂ own in
+    let Held : ℕ × X.Denot → Fml = Holding 𝓛 R₀ cv holds g.keeps p z id v nr q₂ mine own in
     use3 𝓛 (later (‵ (fex (ℕ × X.Denot) Held) ⊛ ‵ (flft α q₁)))
     (reach 𝓛 R₀ cv holds g.keeps p z q₁ (sep 𝓤 (sem 𝓛 (seat_of 𝓛 R₀ cv holds g.keeps p z id v)) (sem 𝓛 (flft α q₂)))
-    (sem 𝓛 (fex (ℕ × X.Denot) Held)) (takes_up 𝓛 R₀ cv holds g.keeps p z id v nr q₂ own)) $ await ! tt $ split ! $
+    (sem 𝓛 (fex (ℕ × X.Denot) Held)) (takes_up 𝓛 R₀ cv holds g.keeps p z id v nr q₂ mine own)) $ await ! tt $ split ! $
     fpick ! (λ u. fsplit ! $ fpick ! (λ facts. drop ! $ fsplit3 ! $
-    let few = facts.1 in let j_is : j ≡ nr - 1 = asked.1 facts.0 (omega (arith, few)) in let room : z.count * sz < 2 ^ 63 = there.3 in
-    let small : j * sz < 2 ^ 64 = indexed j z.count sz (omega (arith, few, j_is)) room in let ρ : ℕ = u.0 in let x : X.Denot = u.1 in
+    let few = facts.1 in let high = few.1 in let low_is = few.0 in let j_is : j ≡ d = asked.1.1 facts.0 few in let room : z.size * sz < 2 ^ 63 = there.3 in
+    let small : j * sz < 2 ^ 64 = indexed j z.size sz (omega (arith, high, low_is, j_is)) room in let ρ : ℕ = u.0 in let x : X.Denot = u.1 in
     -- [the note; the hand; the value that is there; the token; the fields; four; open; the invariant; the new value; the others]
-    let Here : Fml = place R₀ α z.hands_name (block_of z.values) ((nr - 1) * sz + count_of z.values) (Some x) in
+    let Here : Fml = place R₀ α z.hands_name (block_of z.values) (d * sz + count_of z.values) (Some x) in
     let Hd : Fml = hands 𝓛 R₀ cv holds g.keeps p z three_quarters (nr - 1) (held ρ q₂) in
     move ! (10 ∷ 3 ∷ 1 ∷ []) $ group ! 3 $ move ! (0 ∷ 2 ∷ []) $
-    use2 𝓛 (later ((‵ (invariant IsEven (fbor α I)) ⊛ ‵ (flft α q₁) ⊛ ‵ Hd) ⊛ ‵ Here))
-    (regains_held 𝓛 R₀ cv holds g.keeps p z (nr - 1) ρ q₂ few q₁ x (block_of z.values) ((nr - 1) * sz + count_of z.values)) $ await ! tt $ split ! $ split3 ! $
+    use2 𝓛 (later ((‵ Inv ⊛ ‵ (flft α q₁) ⊛ ‵ Hd) ⊛ ‵ Here))
+    (regains_held 𝓛 R₀ cv holds g.keeps p z (nr - 1) ρ q₂ few q₁ x (block_of z.values) (d * sz + count_of z.values)) $ await ! tt $ split ! $ split3 ! $
     -- [the invariant; the token; the hand; the place; the note; the fields; four; open; the new value; the others]
     move ! (3 ∷ []) $
     rewrite ! 0 (λ (r : Ptr × ℕ). ‵ (place R₀ α z.hands_name (block_of r.0) (r.1 * sz + count_of r.0) (Some x))) (λ i. (sym asked.2 i, sym j_is i)) refl $
@@ -186,7 +188,7 @@ rewrite_spec 𝓤 𝓛 𝓜 𝓡 wired X P U F LX LP LU LF g d _ =
     let Value : Fml = value_at 𝓛 R₀ cv holds g.keeps p z (nr - 1) new in
     move ! (12 ∷ []) $ fsplit ! $ move ! (2 ∷ 0 ∷ []) $
     use2 𝓛 (later (‵ Value ⊛ ‵ (flft κs.1.1.0 qs.1.1.0)))
-    (offers 𝓛 R₀ α cv z.views_name holds (LO.shares 𝓛) (nr - 1) new (block_of z.values) ((nr - 1) * sz + count_of z.values) κs.1.1.0 qs.1.1.0
+    (offers 𝓛 R₀ α cv z.views_name holds (LO.shares 𝓛) (nr - 1) new (block_of z.values) (d * sz + count_of z.values) κs.1.1.0 qs.1.1.0
     (Incl-trans inc (option_lives R₀))) $ await ! tt $ split ! $ move ! (1 ∷ 2 ∷ []) $ fjoin ! $
     -- [the others; the value; what it held; the invariant; the token; the hand; the note; the fields; four; open]
     move ! (5 ∷ 6 ∷ 1 ∷ []) $ group ! 3 $ move ! (3 ∷ 4 ∷ 0 ∷ []) $
@@ -194,7 +196,7 @@ rewrite_spec 𝓤 𝓛 𝓜 𝓡 wired X P U F LX LP LU LF g d _ =
     (reach 𝓛 R₀ cv holds g.keeps p z q₁
     (sep 𝓤 (sem 𝓛 Hd) (sep 𝓤 (sem 𝓛 (Note 𝓛 R₀ cv holds g.keeps p z ρ three_quarters x id v)) (sem 𝓛 Value)))
     (sep 𝓤 (sem 𝓛 (gone_on 𝓛 R₀ cv holds g.keeps p z id (so (Taken x)))) (sem 𝓛 (flft α q₂)))
-    (puts_back 𝓛 R₀ cv holds g.keeps p z id v nr q₂ ρ x new so allowed facts.0 few)) $ await ! tt $ split ! $ split ! $
+    (puts_back 𝓛 R₀ cv holds g.keeps p z id v nr q₂ mine ρ x new so allowed facts.0 few)) $ await ! tt $ split ! $ split ! $
     -- [the seat; the token, by two; the others; what it held; the fields; four; open]
     move ! (2 ∷ 1 ∷ []) $ use2 𝓛 (‵ (flft α s)) (𝓛.lfts.lft_join α s) $ move ! (9 ∷ 0 ∷ []) $ obor_close ! tt $ drop ! $
     move ! (1 ∷ []) $ fpick ! (λ v'. fsplit ! $ fpick ! (λ such. drop ! $

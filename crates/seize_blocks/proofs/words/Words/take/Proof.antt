@@ -1,5 +1,5 @@
 -- `take` takes a block away with its place, moves the value out, and frees the number.
-use Rattle.std.proofs.Common.{◌≡◌, ℕ, List, [], ◌∷◌, ◌+◌, ◌-◌, ◌*◌, ◌^◌, ◌<◌, ◌≤◌, sym, refl, ap, ◌∙◌, subst, lit<, w64, arith, None, Some}
+use Rattle.std.proofs.Common.{◌≡◌, ℕ, List, [], ◌∷◌, ◌+◌, ◌-◌, ◌*◌, ◌^◌, ◌<◌, sym, refl, ap, ◌∙◌, subst, lit<, w64, arith, None, Some}
 use mir.Syntax.{Ty, dcons, dnil, a_type, named, ty_int}
 use mir.MapTy.{inst_fn}
 use mir.Raw.{raw as bare}
@@ -10,7 +10,7 @@ use base.Share
 use base.Share.{three_quarters}
 use base.Logic.{SProp, ent, sep, emp, id⊢, via}
 use types.Logic.{sem}
-use base.Fml.{Lft, Share, Fml, ftrue, fsep, fex, flft, fhide, froom, fat, fbor}
+use base.Fml.{Lft, Share, Fml, ftrue, fsep, fex, flft, fhide, froom, fat}
 use types.Kit.{‵, raw, ◌⊛◌, given, later, mean, at_ret, ◌$◌, ◌∵◌, !, qed, by, move, keep, drop, split, split3, join, fsplit, fsplit3, fjoin, fjoin3, fpick, learn, use0, use1, use2, use3, await, suffices, rewrite, feq_i, some as items, pick, group}
 use types.Run.{stop, fld, load, look_raw, lit, size_word, of_opd, bin, no_more, and_then, first, blocks, exec, calls, returns, enter, init, assigns}
 use types.ByLocal.{alloc_all, pass_all, free_all, look_at, get, through, sets, sets_last, is, env, lands_as}
@@ -48,11 +48,11 @@ use Rattle.std.proofs.raw_atomic.Calls.{fm, seq_cst, stored, stores}
 use Rattle.core.specs.Sync.RawAtomic.{word}
 use Rattle.seize_words.specs.Op.{Out, Take, Taken}
 use Rattle.seize_seats.specs.State.{Allows}
-use Rattle.seize_seats.specs.Lines.{long}
-use Rattle.seize_seats.specs.Owned.{BaseId, IsPlaced, age, common, inner, place, row, stride, words_share, busy}
+use Rattle.seize_seats.specs.Owned.{BaseId, IsPlaced, age, common, told as told_to_all, place, row, stride, words_share, busy}
 use Rattle.seize_seats.proofs.Shown.{placed}
 use Rattle.seize_seats.proofs.Moves.{reach, seat as seat_of}
 use Rattle.seize_seats.proofs.Makings.{leaves as goes_out, Taking, frees, hands}
+use Rattle.seize_blocks.specs.Placed.{IsItsIndex}
 use Rattle.seize_blocks.specs.contracts.words.Words as words
 use Rattle.seize_blocks.specs.contracts.seat.Seat as seat
 use Rattle.seize_blocks.proofs.Fields.{hand_of, Data, told, opened}
@@ -61,8 +61,9 @@ use Rattle.seize_blocks.specs.contracts.words.Words.take.{ended, clauses}
 use Rattle.seize_blocks.specs.contracts.words.Words.take.Key.{name as #self}
 use Rattle.seize_blocks.proofs.words.Words.take.Statement.{statement}
 use Rattle.seize_blocks.proofs.words.Words.take.Code as code
-use Rattle.seize_seats.specs.Stretches.{seat_owns, IsEven, invariant}
-use Rattle.seize_seats.proofs.Stretches.{ends, begins, twice}
+use Rattle.seize_seats.specs.Stretches.{seat_owns}
+use Rattle.seize_seats.proofs.Stretches.{ends, begins}
+use Rattle.seize_seats.proofs.Known.{twice}
 use Rattle.seize_seats.proofs.Regains.{regains}
 
 pub take_spec : {M : Type 1} → statement M
@@ -88,10 +89,10 @@ take_spec 𝓤 𝓛 𝓜 𝓡 wired X P U F LX LP LU LF g d _ =
     let id : ℕ = h.id in let v : U.Denot = h.view in let cv = R₂.coded in let α : Lft = age z in let holds = g.holds t.fixed in
     let pb : ℕ = block_of p in let po : ℕ = count_of p in
     let bv : ℕ = block_of pv in let ov : ℕ = count_of pv in let sz : ℕ = stride R₀ in let e : ℕ = j * sz + ov in
-    let f : ℕ = (nr - 1) * 40 + (long z.roots * 8 + po) in
+    let d : ℕ = nr - 1 - z.first in let f : ℕ = d * 40 + (z.skip * 8 + po) in
     let others : Fml = fsep (flft κs.1.1.0 qs.1.1.0) (fsep (flft κs.1.1.1.0 qs.1.1.1.0) (fsep (flft κs.1.1.1.1.0 qs.1.1.1.1.0)
     (fsep (flft κs.1.1.1.1.1.0 qs.1.1.1.1.1.0) ftrue))) in
-    let Asked : Type 0 = (h.base ≡ z.views_name) × (0 < nr → nr ≤ z.count → j ≡ nr - 1) × (pv ≡ z.values) × (i₀ ≡ j * 5 + long z.roots) ×
+    let Asked : Type 0 = (h.base ≡ z.views_name) × IsItsIndex z nr j × (pv ≡ z.values) × (i₀ ≡ j * 5 + z.skip) ×
     (i₁ ≡ i₀ + 1) × (i₂ ≡ i₀ + 2) × (i₃ ≡ i₀ + 3) × (i₄ ≡ i₀ + 4) × (i₄ < 2 ^ 60) × Allows holds g.keeps id v (Take nr) (g.then v (Take nr)) in
     let y : (walk_of 𝓛 En hs c).Ghost = ((κs, qs, bounds, a, (vptr b o ∷ [], (vptr b' o' ∷ [], (vint w64 nr ∷ [], (vint w64 j ∷ [], (ptr_val pv ∷ [], (vint w64 i₀ ∷ [], (vint w64 i₁ ∷ [], (vint w64 i₂ ∷ [], (vint w64 i₃ ∷ [], (vint w64 i₄ ∷ [], tt))))))))))), gh) in
     let Post : Val → SProp 𝓤 = (walk_of 𝓛 En hs c).post y in
@@ -100,7 +101,7 @@ take_spec 𝓤 𝓛 𝓜 𝓡 wired X P U F LX LP LU LF g d _ =
     keep ! (5 ∷ 0 ∷ []) $ heard ! Asked (λ asked. split ! $ split3 ! $ move ! (3 ∷ []) $ fsplit3 ! $ fsplit ! $ move ! (2 ∷ []) $ fsplit3 ! $
     -- [the seat's address; the seat, by two; the address of self; self; the rest; the tokens; the others]
     keep ! (4 ∷ 6 ∷ 1 ∷ 2 ∷ 7 ∷ 8 ∷ []) $
-    let so : Out X.Denot → U.Denot → Type 0 = g.then v (Take nr) in let allowed = asked.9 in
+    let so : Out X.Denot → U.Denot → Type 0 = g.then v (Take nr) in let allowed = asked.9 in let mine = asked.1.0 in
     let p' : Ptr = block_ptr bv ov in let us : Ptr
     → List Val = λ r. vptr b o ∷ vptr b' o' ∷ vint w64 nr ∷ vint w64 j ∷ ptr_val r ∷ vint w64 i₀ ∷ vint w64 i₁ ∷ vint w64 i₂ ∷ vint w64 i₃ ∷ vint w64 i₄ ∷ [] in
     let Run : List Val → SProp 𝓤 = λ ws. WpFn 𝓤 H 𝓣.C 𝓣.Λ fn ws Post in
@@ -114,7 +115,7 @@ take_spec 𝓤 𝓛 𝓜 𝓡 wired X P U F LX LP LU LF g d _ =
     suffices ! (Run (us p')) (subst (λ (r : Ptr). ent 𝓤 (Run (us p')) (Run (us r))) (sym at_v) (id⊢ 𝓤 (Run (us p')))) $
     enter ! 𝓣.C 𝓣.Λ fn (us p') Post $
     alloc_all ! (λ l. pass_all ! refl ((tt, tt), ((tt, tt), ((tt, record { fits = are.1.1.0.1 }), ((tt, record { fits = are.1.1.1.0.1 }), (Ptr-Good p', ((tt, record { fits = are.1.1.1.1.1.0.1 }), ((tt, record { fits = are.1.1.1.1.1.1.0.1 }), ((tt, record { fits = are.1.1.1.1.1.1.1.0.1 }), ((tt, record { fits = are.1.1.1.1.1.1.1.1.0.1 }), ((tt, record { fits = are.1.1.1.1.1.1.1.1.1.0.1 }), tt)))))))))) $
-    let Ev = env fn.locals l in let I : Fml = inner R₀ cv.code holds p z in
+    let Ev = env fn.locals l in let Inv : Fml = told_to_all R₀ cv.code holds p z in
     let low = asked.8 in let at₀ = asked.3 in let a₁ = asked.4 in let a₂ = asked.5 in let a₃ = asked.6 in let a₄ = asked.7 in
     -- [the invariant; its lifetime lasts; the fields; the token; the seat, by two; its token; the others]
     move ! (2 ∷ 3 ∷ []) $ looks ! tt D (opened R₀ R₁ R₂ R₃ g 𝓛) (p, (tt, tt)) b o (λ q vs. move ! (1 ∷ []) $
@@ -125,25 +126,25 @@ take_spec 𝓤 𝓛 𝓜 𝓡 wired X P U F LX LP LU LF g d _ =
     rewrite ! 1 (λ (ws : List Val). ‵ (cell_at q D.mir ws b o)) (sym ev) refl $ move ! (1 ∷ 0 ∷ 2 ∷ []) $ shuts ! tt D q (p, (tt, tt)) vs b o $
     move ! (3 ∷ 0 ∷ []) $ shr_bor-open ! tt (tokens_halve 𝓛 α) (λ s. let q₁ : Share = Share.left s in let q₂ : Share = Share.right s in
     move ! (2 ∷ []) $ drop ! $ move ! (1 ∷ []) $ use1 𝓛 (‵ (flft α q₁) ⊛ ‵ (flft α q₂)) (𝓛.lfts.lft_split α s) $ split ! $ move ! (3 ∷ []) $
-    use1 𝓛 (‵ (invariant IsEven (fbor α I)) ⊛ ‵ (invariant IsEven (fbor α I))) (twice 𝓛 IsEven (fbor α I)) $ split ! $
+    use1 𝓛 (‵ Inv ⊛ ‵ Inv) (twice 𝓛 R₀ cv holds p z) $ split ! $
     -- [the invariant, twice; its token, by two; open; the seat, by two; its token; the others]
     move ! (5 ∷ 6 ∷ 7 ∷ []) $ opens ! tt Sr b' o' (λ ts. move ! (1 ∷ []) $ fsplit ! $
     rewrite ! 1 (λ (u : ℕ). ‵ (seat_owns cv.code u id v h.stretch h.mark)) asked.0 refl $ move ! (1 ∷ []) $
     use1 𝓛 (later (‵ (seat_of 𝓛 R₀ cv holds g.keeps p z id v))) (ends 𝓛 cv z.views_name id v h.stretch h.mark) $ await ! tt $ move ! (1 ∷ 0 ∷ []) $ move ! (1 ∷ 9 ∷ []) $ join ! $ move ! (6 ∷ 8 ∷ 0 ∷ []) $
-    use3 𝓛 (later (‵ (fex (X.Denot × List ℕ) (Taking 𝓛 R₀ cv holds g.keeps p z id v nr q₂ so allowed)) ⊛ ‵ (flft α q₁)))
+    use3 𝓛 (later (‵ (fex (X.Denot × List ℕ) (Taking 𝓛 R₀ cv holds g.keeps p z id v nr q₂ so allowed mine)) ⊛ ‵ (flft α q₁)))
     (reach 𝓛 R₀ cv holds g.keeps p z q₁ (sep 𝓤 (sem 𝓛 (seat_of 𝓛 R₀ cv holds g.keeps p z id v)) (sem 𝓛 (flft α q₂)))
-    (sem 𝓛 (fex (X.Denot × List ℕ) (Taking 𝓛 R₀ cv holds g.keeps p z id v nr q₂ so allowed))) (goes_out 𝓛 R₀ cv holds g.keeps p z id v nr q₂ so allowed)) $
+    (sem 𝓛 (fex (X.Denot × List ℕ) (Taking 𝓛 R₀ cv holds g.keeps p z id v nr q₂ so allowed mine))) (goes_out 𝓛 R₀ cv holds g.keeps p z id v nr q₂ so allowed mine)) $
     await ! tt $ split ! $
     fpick ! (λ u. fsplit ! $ fpick ! (λ facts. drop ! $ fsplit3 ! $ move ! (2 ∷ []) $ fsplit ! $ move ! (1 ∷ []) $
-    let few = facts.1 in let j_is : j ≡ nr - 1 = asked.1 facts.0 (omega (arith, few)) in let room : z.count * sz < 2 ^ 63 = there.3 in
-    let small : j * sz < 2 ^ 64 = indexed j z.count sz (omega (arith, few, j_is)) room in let nv : Val = live 0 (of_list []) in
+    let few = facts.1 in let high = few.1 in let low_is = few.0 in let j_is : j ≡ d = asked.1.1 facts.0 few in let room : z.size * sz < 2 ^ 63 = there.3 in
+    let small : j * sz < 2 ^ 64 = indexed j z.size sz (omega (arith, high, low_is, j_is)) room in let nv : Val = live 0 (of_list []) in
     let four = four_of u.1 facts.2 in let w₀ : ℕ = four.0 in let w₁ : ℕ = four.1 in let w₂ : ℕ = four.2 in let w₃ : ℕ = four.3 in
     -- [the value; the entry; the seat; the hand; its token; the fields; four; the invariant; open; the others]
-    let Here : Fml = place R₀ α z.hands_name (block_of z.values) ((nr - 1) * sz + count_of z.values) (Some u.0) in
+    let Here : Fml = place R₀ α z.hands_name (block_of z.values) (d * sz + count_of z.values) (Some u.0) in
     let Hd : Fml = hands 𝓛 R₀ cv holds g.keeps p z three_quarters (nr - 1) (busy q₂) in
     move ! (10 ∷ 4 ∷ 3 ∷ []) $ group ! 3 $ move ! (0 ∷ 1 ∷ []) $
-    use2 𝓛 (later ((‵ (invariant IsEven (fbor α I)) ⊛ ‵ (flft α q₁) ⊛ ‵ Hd) ⊛ ‵ Here))
-    (regains 𝓛 R₀ cv holds g.keeps p z (nr - 1) q₂ few q₁ u.0 (block_of z.values) ((nr - 1) * sz + count_of z.values)) $ await ! tt $ split ! $ split3 ! $
+    use2 𝓛 (later ((‵ Inv ⊛ ‵ (flft α q₁) ⊛ ‵ Hd) ⊛ ‵ Here))
+    (regains 𝓛 R₀ cv holds g.keeps p z (nr - 1) q₂ few q₁ u.0 (block_of z.values) (d * sz + count_of z.values)) $ await ! tt $ split ! $ split3 ! $
     move ! (3 ∷ 4 ∷ 5 ∷ 2 ∷ 1 ∷ 6 ∷ 7 ∷ 8 ∷ 9 ∷ 10 ∷ 0 ∷ []) $
     rewrite ! 0 (λ (r : Ptr × ℕ). ‵ (place R₀ α z.hands_name (block_of r.0) (r.1 * sz + count_of r.0) (Some u.0))) (λ i. (sym asked.2 i, sym j_is i)) refl $
     spread m ! LR (Some u.0) bv e (λ w good.

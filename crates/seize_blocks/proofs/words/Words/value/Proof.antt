@@ -1,5 +1,5 @@
 -- `value` lends the value of a block: a part of its token goes under the seat's stretch, and the address of its place is told.
-use Rattle.std.proofs.Common.{◌≡◌, ℕ, List, [], ◌∷◌, ◌+◌, ◌-◌, ◌*◌, ◌^◌, ◌<◌, ◌≤◌, sym, refl, ap, subst, w64, arith, Some}
+use Rattle.std.proofs.Common.{◌≡◌, ℕ, List, [], ◌∷◌, ◌+◌, ◌-◌, ◌*◌, ◌^◌, ◌<◌, sym, refl, ap, subst, w64, arith, Some}
 use mir.Syntax.{dcons, dnil, a_type, named}
 use mir.MapTy.{inst_fn}
 use mir.Val.{Val, vint, vptr}
@@ -36,6 +36,7 @@ use Rattle.seize_seats.specs.Owned.{BaseId, IsPlaced, common, stride, words_shar
 use Rattle.seize_seats.specs.Stretches.{seat_shares}
 use Rattle.seize_seats.proofs.Shown.{placed}
 use Rattle.seize_seats.proofs.Lends.{So, lent_to}
+use Rattle.seize_blocks.specs.Placed.{IsItsIndex}
 use Rattle.seize_blocks.specs.contracts.words.Words as words
 use Rattle.seize_blocks.specs.contracts.seat.Seat as seat
 use Rattle.seize_blocks.proofs.Fields.{Data, Token}
@@ -67,7 +68,7 @@ value_spec 𝓤 𝓛 𝓜 𝓡 wired X P U F LX LP LU LF g d _ =
     let ho : Holder U.Denot = record { seat = k.id; view = k.view; stretch = k.stretch; mark = k.mark } in let cv = R₂.coded in let holds = g.holds t.fixed in
     let bv : ℕ = block_of pv in let ov : ℕ = count_of pv in let sz : ℕ = stride R₀ in let e : ℕ = j * sz + ov in
     let others : Fml = fsep (flft κs.1.0 qs.1.0) (fsep (flft κs.1.1.0 qs.1.1.0) (fsep (flft κs.1.1.1.0 qs.1.1.1.0) (fsep (flft κs.1.1.1.1.0 qs.1.1.1.1.0) ftrue))) in
-    let Asked : Type 0 = (h.base ≡ z.views_name) × (k.base ≡ z.views_name) × (0 < nr → nr ≤ z.count → j ≡ nr - 1) × (pv ≡ z.values) ×
+    let Asked : Type 0 = (h.base ≡ z.views_name) × (k.base ≡ z.views_name) × IsItsIndex z nr j × (pv ≡ z.values) ×
     ShownToBoth holds h.id h.view k.id k.view nr in
     let y : (walk_of 𝓛 En hs c).Ghost = ((κs, qs, bounds, a, (vptr b o ∷ [], (vptr b' o' ∷ [], (vptr b₂ o₂ ∷ [], (vint w64 nr ∷ [], (vint w64 j ∷ [], (ptr_val pv ∷ [], tt))))))), gh) in
     let Post : Val → SProp 𝓤 = (walk_of 𝓛 En hs c).post y in
@@ -104,12 +105,12 @@ value_spec 𝓤 𝓛 𝓜 𝓡 wired X P U F LX LP LU LF g d _ =
     let Ev = env fn.locals l in
     -- [the owner; the guard; the words; the token; the others]
     move ! (2 ∷ 1 ∷ 0 ∷ 3 ∷ []) $ group ! 4 $
-    let here : ℕ = (nr - 1) * sz + count_of z.values in
-    use1 𝓛 (later (items (λ (x : X.Denot). given (So 𝓛 R₀ LO.shr_laws cv holds g.keeps p z hg ho nr asked.4 x)
+    let d : ℕ = nr - 1 - z.first in let here : ℕ = d * sz + count_of z.values in let mine = asked.2.0 in
+    use1 𝓛 (later (items (λ (x : X.Denot). given (So 𝓛 R₀ LO.shr_laws cv holds g.keeps p z hg ho nr asked.4 mine x)
     (‵ (shared_of O (Some x) (block_of z.values) here κ))) ⊛ ‵ (flft κ qs.0)))
-    (lent_to 𝓛 R₀ LO.shr_laws cv holds g.keeps p z hg ho nr asked.4 κ qs.0) $ await ! tt $ split ! $ pick ! (λ x. learn ! (λ so.
-    let few = so.2 in let low = so.1 in let j_is : j ≡ nr - 1 = asked.2 low (omega (arith, few)) in let room : z.count * sz < 2 ^ 63 = there.3 in
-    let small : j * sz < 2 ^ 64 = indexed j z.count sz (omega (arith, few, j_is)) room in
+    (lent_to 𝓛 R₀ LO.shr_laws cv holds g.keeps p z hg ho nr asked.4 mine κ qs.0) $ await ! tt $ split ! $ pick ! (λ x. learn ! (λ so.
+    let few = so.2 in let low = so.1 in let high = few.1 in let low_is = few.0 in let j_is : j ≡ d = asked.2.1 low few in let room : z.size * sz < 2 ^ 63 = there.3 in
+    let small : j * sz < 2 ^ 64 = indexed j z.size sz (omega (arith, high, low_is, j_is)) room in
     rewrite ! 0 (λ (r : Ptr × ℕ). ‵ (shared_of O (Some x) (block_of r.0) (r.1 * sz + count_of r.0) κ)) (λ i. (sym asked.3 i, sym j_is i)) refl $
     use1 𝓛 (‵ (hidden_shr O κ (Some x) bv e)) (id⊢ 𝓤 _) $
     -- [the value; the token; the others]
