@@ -1,8 +1,8 @@
 -- Rows begin and end, the rule starts, and seats come.
-use Rattle.std.specs.Prelude.{◌≢◌, Option, Some, None, replicate, slice_get}
-use Rattle.std.proofs.Common.{◌≡◌, ℕ, zero, suc, false, [], ◌⊎◌, inl, inr, refl, sym, subst, ap, ◌∙◌}
+use Rattle.std.specs.Prelude.{◌≢◌, ◌==◌, ◌-◌, Option, Some, None, replicate, slice_get, slice_index_or, if◌then◌else◌}
+use Rattle.std.proofs.Common.{◌≡◌, ℕ, zero, suc, Bool, true, false, [], ◌⊎◌, inl, inr, refl, sym, subst, ap, ◌∙◌}
 use Rattle.std.proofs.lemmas.List.{length-replicate}
-use Rattle.seize_words.specs.Mem.{Mem, Can, Took, value_at}
+use Rattle.seize_words.specs.Mem.{Mem, Can, Took, value_in, value_at}
 use Rattle.seize_words.specs.Plan.{Steps}
 use Rattle.seize_words.specs.Word.{block_in, link_to}
 use Rattle.seize_words.proofs.Plans.{steps_as}
@@ -23,7 +23,7 @@ use Rattle.seize.specs.World as world
 use Rattle.seize_rule.proofs.Rows.Others.{with_here, with_other}
 use Rattle.seize_acts.proofs.Answers.{same_some}
 use Rattle.seize_seats.specs.State.{State, view_of, Turns, Comes, Starts}
-use Rattle.seize_shared.specs.Rows.{row_of, use_of, leave_of, counting, IsShort, IsUsed, IsKnown, Fits, Holds, Keeps}
+use Rattle.seize_shared.specs.Rows.{row_of, use_of, leave_of, counting, IsShort, IsUsed, IsKnown, Fits, IsBounded, Holds, Keeps}
 use Rattle.seize_shared.specs.Promises.{IsNext, IsFree, IsLeft, RulesStart, SeatsCome, RowsTurn}
 use Rattle.seize_shared.specs.declared.view.View.{View}
 use Rattle.seize_shared.specs.declared.view.Becomes.{Becomes}
@@ -73,8 +73,8 @@ module _ {T : Type 0} (defers : T → Option ℕ) (fixed : Fixed) where
       → ((s : State T (View T) (World T)) → s.world.uses t ≡ a
       → world.Begins defers fixed.batch_size id request s.world (with_use (with_row s.world id row) t world.Changing))
       → ((s : State T (View T) (World T)) → H s → Fits (with_use (with_row s.world id row) t world.Changing) id u)
-      → Turns H Keeps id v (λ x. x ≡ u)
-  begins_on id t v u a row request mine its rests is happens own s h at_id =
+      → ((w : World T) → IsBounded defers fixed w id u) → Turns H Keeps id v (λ x. x ≡ u)
+  begins_on id t v u a row request mine its rests is happens own bounded s h at_id =
       let n : World T = with_use (with_row s.world id row) t world.Changing in
       moved defers fixed s id v u s.memory n (λ x. x ≡ u) h at_id
       (begun defers fixed s id v h at_id request u n
@@ -82,7 +82,7 @@ module _ {T : Type 0} (defers : T → Option ℕ) (fixed : Fixed) where
       (λ j ne. with_other s.world.row id j row ne)
       (λ x apart. with_other s.world.uses t x world.Changing (λ e. apart a (mine ∙ ap (λ (k : ℕ). used_as k a) (sym e))))
       (own s h)
-      (λ x b e. (a, mine ∙ ap (λ (k : ℕ). used_as k a) (slot_is x b (sym its ∙ e)))))
+      (λ x b e. (a, mine ∙ ap (λ (k : ℕ). used_as k a) (slot_is x b (sym its ∙ e)))) (bounded n))
       refl
     where
       used : IsUsed s.world (use_of v) → s.world.uses t ≡ a
@@ -106,27 +106,27 @@ module _ {T : Type 0} (defers : T → Option ℕ) (fixed : Fixed) where
 
   enters : (id t : ℕ) → Turns H Keeps id (Outside t) (λ x. x ≡ Enters t)
   enters id t = begins_on id t (Outside t) (Enters t) (world.Outside 0) (world.Enters record { slot = t }) (Enter' t) refl refl refl refl (λ s e. (e, refl))
-      (λ s h. begun_fits id t (Enters t) (world.Enters record { slot = t }) s refl refl tt (λ w. tt))
+      (λ s h. begun_fits id t (Enters t) (world.Enters record { slot = t }) s refl refl tt (λ w. tt)) (λ w. tt)
 
   frees : (id t : ℕ) → Turns H Keeps id (Outside t) (λ x. x ≡ Frees t)
   frees id t = begins_on id t (Outside t) (Frees t) (world.Outside 0) (world.Frees record { slot = t }) (Unregister' t) refl refl refl refl (λ s e. (e, refl))
-      (λ s h. begun_fits id t (Frees t) (world.Frees record { slot = t }) s refl refl tt (λ w. tt))
+      (λ s h. begun_fits id t (Frees t) (world.Frees record { slot = t }) s refl refl tt (λ w. tt)) (λ w. tt)
 
   -- the section ends, or the next one begins at once
   leaves : (id t : ℕ) (has : Has) (way : Becomes) → Turns H Keeps id (Inside t has) (λ x. x ≡ Leaves t fixed.batch_size way)
   leaves id t has Idle =
       let c : Leave = leave_of t fixed.batch_size Idle in
       begins_on id t (Inside t has) (Leaves t fixed.batch_size Idle) (world.Inside 0) (world.Leaves c) (Leave' t) refl refl refl refl (λ s e. (e, refl))
-      (λ s h. begun_fits id t (Leaves t fixed.batch_size Idle) (world.Leaves c) s refl refl tt (λ w. tt))
+      (λ s h. begun_fits id t (Leaves t fixed.batch_size Idle) (world.Leaves c) s refl refl tt (λ w. tt)) (λ w. tt)
   leaves id t has Active =
       let c : Leave = leave_of t fixed.batch_size Active in
       begins_on id t (Inside t has) (Leaves t fixed.batch_size Active) (world.Inside 0) (world.Leaves c) (Refresh t) refl refl refl refl (λ s e. (e, refl))
-      (λ s h. begun_fits id t (Leaves t fixed.batch_size Active) (world.Leaves c) s refl refl tt (λ w. tt))
+      (λ s h. begun_fits id t (Leaves t fixed.batch_size Active) (world.Leaves c) s refl refl tt (λ w. tt)) (λ w. tt)
 
   -- a block is retired that the seat has unlinked
-  retires : (id t b : ℕ) → Turns H Keeps id (Inside t (Cut b)) (λ x. x ≡ Settles (retiring t fixed.batch_size (link_to b)) Retiring None)
+  retires : (id t b : ℕ) → Turns H Keeps id (Inside t (Cut b)) (λ x. x ≡ Settles (retiring t fixed.batch_size (link_to b)) Retiring None 0)
   retires id t b s h at_id =
-      let c : Settle = retiring t fixed.batch_size (link_to b) in let u : View T = Settles c Retiring None in
+      let c : Settle = retiring t fixed.batch_size (link_to b) in let u : View T = Settles c Retiring None 0 in
       let f = h.seats id (Inside t (Cut b)) at_id in
       let n : World T = with_hand (with_use (with_row s.world id (world.Settles c)) t (one_more (s.world.uses t))) b world.Handed in
       moved defers fixed s id (Inside t (Cut b)) u s.memory n (λ x. x ≡ u) h at_id
@@ -145,13 +145,13 @@ module _ {T : Type 0} (defers : T → Option ℕ) (fixed : Fixed) where
         short = tt;
         known = tt;
       })
-      (λ x a e. same_slot t x (world.Inside 1) a (world.Inside 0) e))
+      (λ x a e. same_slot t x (world.Inside 1) a (world.Inside 0) e) tt)
       refl
 
   -- the batch is tried
-  flushes : (id t : ℕ) (has : Has) → Turns H Keeps id (Inside t has) (λ x. x ≡ Settles (flushing t fixed.batch_size) Retiring None)
+  flushes : (id t : ℕ) (has : Has) → Turns H Keeps id (Inside t has) (λ x. x ≡ Settles (flushing t fixed.batch_size) Retiring None 0)
   flushes id t has s h at_id =
-      let c : Settle = flushing t fixed.batch_size in let u : View T = Settles c Retiring None in
+      let c : Settle = flushing t fixed.batch_size in let u : View T = Settles c Retiring None 0 in
       let f = h.seats id (Inside t has) at_id in
       let n : World T = with_use (with_row s.world id (world.Settles c)) t (one_more (s.world.uses t)) in
       moved defers fixed s id (Inside t has) u s.memory n (λ x. x ≡ u) h at_id
@@ -165,7 +165,7 @@ module _ {T : Type 0} (defers : T → Option ℕ) (fixed : Fixed) where
         short = tt;
         known = tt;
       })
-      (λ x a e. same_slot t x (world.Inside 1) a (world.Inside 0) e))
+      (λ x a e. same_slot t x (world.Inside 1) a (world.Inside 0) e) tt)
       refl
 
   goes_free : (id t : ℕ) (has : Has) (u : View T) → IsFree fixed t u → Turns H Keeps id (Inside t has) (λ x. x ≡ u)
@@ -184,14 +184,14 @@ module _ {T : Type 0} (defers : T → Option ℕ) (fixed : Fixed) where
       (λ j b ne. (λ is. is, λ is. is)) (λ b r is. is)
       (λ j ne. with_other s.world.row id j (world.Registers First) ne) (λ t apart. refl)
       (record { row = with_here s.world.row id (world.Registers First); slot = tt; short = (refl, tt); known = tt })
-      (λ t b e. absurd (cc e)))
+      (λ t b e. absurd (cc e)) tt)
       refl
 
   -- a settling that is over ends
-  settled_ends : (id : ℕ) (c : Settle) (seen : Option (ℕ × T)) → c.stands ≡ settling_at.Over
-      → Turns H Keeps id (Settles c Retiring seen) (λ x. x ≡ Inside c.slot Nothing)
-  settled_ends id c seen over s h at_id =
-      let v : View T = Settles c Retiring seen in let u : View T = Inside c.slot Nothing in
+  settled_ends : (id : ℕ) (c : Settle) (seen : Option (ℕ × T)) (left : ℕ) → c.stands ≡ settling_at.Over
+      → Turns H Keeps id (Settles c Retiring seen left) (λ x. x ≡ Inside c.slot Nothing)
+  settled_ends id c seen left over s h at_id =
+      let v : View T = Settles c Retiring seen left in let u : View T = Inside c.slot Nothing in
       let n : World T = settles_on s.world id c s.world.memory (c, settled.Done) in
       moved defers fixed s id v u s.memory n (λ x. x ≡ u) h at_id
       (stepped defers fixed s id v h at_id u s.memory n
@@ -202,13 +202,13 @@ module _ {T : Type 0} (defers : T → Option ℕ) (fixed : Fixed) where
         short = tt;
         known = tt;
       })
-      (alone defers fixed s id v h at_id u (λ x b e. same_slot c.slot x (world.Inside 0) b (world.Inside 1) e)))
+      (alone defers fixed s id v h at_id u (λ x b e. same_slot c.slot x (world.Inside 0) b (world.Inside 1) e)) tt)
       refl
 
-  counted_ends : (id : ℕ) (c : Settle) (size : ℕ) (way : Becomes) (seen : Option (ℕ × T)) → c.stands ≡ settling_at.Over
-      → Turns H Keeps id (Settles c (Ending size way) seen) (λ x. x ≡ Left c.slot size way)
-  counted_ends id c size way seen over s h at_id =
-      let v : View T = Settles c (Ending size way) seen in let u : View T = Left c.slot size way in
+  counted_ends : (id : ℕ) (c : Settle) (size : ℕ) (way : Becomes) (seen : Option (ℕ × T)) (left : ℕ) → c.stands ≡ settling_at.Over
+      → Turns H Keeps id (Settles c (Ending size way) seen left) (λ x. x ≡ Left c.slot size way)
+  counted_ends id c size way seen left over s h at_id =
+      let v : View T = Settles c (Ending size way) seen left in let u : View T = Left c.slot size way in
       let d : Leave = counting size way c in let e : Leave = standing (leave_of c.slot size way) leaving_at.Over in
       let n : World T = leaves_on s.world id d s.world.memory (e, settled.Goes) in
       moved defers fixed s id v u s.memory n (λ x. x ≡ u) h at_id
@@ -225,7 +225,7 @@ module _ {T : Type 0} (defers : T → Option ℕ) (fixed : Fixed) where
         short = tt;
         known = tt;
       })
-      (alone defers fixed s id v h at_id u (λ x b q. same_slot c.slot x world.Changing b world.Changing q)))
+      (alone defers fixed s id v h at_id u (λ x b q. same_slot c.slot x world.Changing b world.Changing q)) tt)
       refl
 
   -- the row of a seat that has left ends
@@ -237,7 +237,7 @@ module _ {T : Type 0} (defers : T → Option ℕ) (fixed : Fixed) where
       moved defers fixed s id v (Outside t) s.memory n (λ x. x ≡ u) h at_id
       (stepped defers fixed s id v h at_id (Outside t) s.memory n (s.world.memory, (d, settled.Done), (refl, refl), refl) h.memory
       (record { row = with_here s.world.row id world.Rests; slot = with_here s.world.uses t (world.Outside 0); short = tt; known = tt })
-      (alone defers fixed s id v h at_id (Outside t) (λ x b e. same_slot t x (world.Outside 0) b world.Changing e)))
+      (alone defers fixed s id v h at_id (Outside t) (λ x b e. same_slot t x (world.Outside 0) b world.Changing e)) tt)
       (sym is)
   ends id t size Active u is s h at_id =
       let v : View T = Left t size Active in
@@ -246,7 +246,7 @@ module _ {T : Type 0} (defers : T → Option ℕ) (fixed : Fixed) where
       moved defers fixed s id v (Inside t Nothing) s.memory n (λ x. x ≡ u) h at_id
       (stepped defers fixed s id v h at_id (Inside t Nothing) s.memory n (s.world.memory, (d, settled.Done), (refl, refl), refl) h.memory
       (record { row = with_here s.world.row id world.Rests; slot = with_here s.world.uses t (world.Inside 0); short = tt; known = tt })
-      (alone defers fixed s id v h at_id (Inside t Nothing) (λ x b e. same_slot t x (world.Inside 0) b world.Changing e)))
+      (alone defers fixed s id v h at_id (Inside t Nothing) (λ x b e. same_slot t x (world.Inside 0) b world.Changing e)) tt)
       (sym is)
 
   turns : (id : ℕ) (v u : View T) → IsNext fixed v u → Turns H Keeps id v (λ x. x ≡ u)
@@ -259,10 +259,10 @@ module _ {T : Type 0} (defers : T → Option ℕ) (fixed : Fixed) where
   turns id (Inside t (Seen b)) u is = goes_free id t (Seen b) u is
   turns id (Inside t (Cut b)) u is = subst (λ (y : View T). Turns H Keeps id (Inside t (Cut b)) (λ x. x ≡ y)) (sym is) (retires id t b)
   turns id (Inside t (Made b)) u is = absurd is
-  turns id (Settles c Retiring seen) u is =
-      subst (λ (y : View T). Turns H Keeps id (Settles c Retiring seen) (λ x. x ≡ y)) (sym is.1) (settled_ends id c seen is.0)
-  turns id (Settles c (Ending size way) seen) u is =
-      subst (λ (y : View T). Turns H Keeps id (Settles c (Ending size way) seen) (λ x. x ≡ y)) (sym is.1) (counted_ends id c size way seen is.0)
+  turns id (Settles c Retiring seen left) u is =
+      subst (λ (y : View T). Turns H Keeps id (Settles c Retiring seen left) (λ x. x ≡ y)) (sym is.1) (settled_ends id c seen left is.0)
+  turns id (Settles c (Ending size way) seen left) u is =
+      subst (λ (y : View T). Turns H Keeps id (Settles c (Ending size way) seen left) (λ x. x ≡ y)) (sym is.1) (counted_ends id c size way seen left is.0)
   turns id (Leaves t size way) u is = absurd is
   turns id (Left t size way) u is = ends id t size way u is
   turns id (Frees t) u is = absurd is
@@ -279,6 +279,8 @@ module _ {T : Type 0} (defers : T → Option ℕ) (fixed : Fixed) where
       apart = λ j k t a b x y e f p q. two j k t a b x y p q (with_last s.views j Rests x e) (with_last s.views k Rests y f);
       roots = h.roots;
       rooted = h.rooted;
+      plain = h.plain;
+      bounded = λ j x e. bound j x (with_last s.views j Rests x e);
     },
     λ b u o keeps. keeps,
   )
@@ -286,6 +288,10 @@ module _ {T : Type 0} (defers : T → Option ℕ) (fixed : Fixed) where
       fit : (j : ℕ) (x : View T) → (view_of s j ≡ Some x) ⊎ ((view_of s j ≡ None) × (Rests ≡ x)) → Fits s.world j x
       fit j x (inl e) = h.seats j x e
       fit j x (inr e) = subst (λ (y : View T). Fits s.world j y) e.1 (record { row = h.unborn j e.0; slot = tt; short = tt; known = tt })
+
+      bound : (j : ℕ) (x : View T) → (view_of s j ≡ Some x) ⊎ ((view_of s j ≡ None) × (Rests ≡ x)) → IsBounded defers fixed s.world j x
+      bound j x (inl e) = h.bounded j x e
+      bound j x (inr e) = subst (λ (y : View T). IsBounded defers fixed s.world j y) e.1 tt
 
       no_slot : (x : View T) (t : ℕ) (a : Use) → Rests ≡ x → use_of x ≡ used_as t a → ⊥
       no_slot x t a e p = cc (ap use_of e, p)
@@ -308,8 +314,14 @@ module _ {T : Type 0} (defers : T → Option ℕ) (fixed : Fixed) where
       apart = λ j k t a b v u e f p q. absurd (cc e);
       roots = λ r word e. inl (ap block_in (sym (zeros fixed.roots r word e)));
       rooted = length-replicate fixed.roots 0;
+      plain = λ b x e. nothing (b == 0) b x e;
+      bounded = λ j v e. absurd (cc e);
     },
   )
+    where
+      nothing : (y : Bool) (b : ℕ) (x : T) → value_in (if y then None else slice_index_or [] (b - 1) None) ≡ Some x → defers x ≡ None
+      nothing true b x e = absurd (cc e)
+      nothing false b x e = absurd (cc e)
 
 module _ (T : Type 0) (defers : T → Option ℕ) where
   pub rules_start : RulesStart T defers

@@ -1,6 +1,6 @@
 -- Within a section a block is made, looked at, and taken away.
 use Rattle.std.specs.Prelude.{◌≢◌, Option, Some, None, IsSome, Ok, Err, length}
-use Rattle.std.proofs.Common.{◌≡◌, ℕ, ◌⊎◌, inl, inr, refl, sym, subst, ap, ◌∙◌}
+use Rattle.std.proofs.Common.{◌≡◌, ℕ, Bool, true, false, cond, eqb, ◌⊎◌, inl, inr, refl, sym, subst, ap, ◌∙◌}
 use Rattle.std.proofs.lemmas.Bool.{cases_eq}
 use Rattle.seize_words.specs.Mem.{Mem, Took, value_at}
 use Rattle.seize_words.specs.Op.{Op, Out, Make, Take, Found, Stored, Exchanged, Made as OutMade, Taken, Roomed}
@@ -14,7 +14,9 @@ use Rattle.seize_rule.proofs.World.Values.{taken_value, made_value}
 use Rattle.seize_alone.specs.Alone.{IsOfUsers}
 use Rattle.seize_alone.proofs.Histories.Reached.{Reached}
 use Rattle.seize_alone.proofs.Histories.NotTaken.{IsHad, IsHeld, kept_there}
+use Rattle.seize_acts.proofs.Answers.{same_some}
 use Rattle.seize_seats.specs.State.{State, view_of, Goes}
+use Rattle.seize_shared.specs.Bounds.{ArePlain}
 use Rattle.seize_shared.specs.Rows.{IsInHand, Fits, Holds, Keeps}
 use Rattle.seize_shared.specs.Told.{told}
 use Rattle.seize_shared.specs.Promises.{Names, BlocksAreMade, MadeAreTaken, KnownAreShown}
@@ -23,8 +25,8 @@ use Rattle.seize_shared.specs.declared.view.View.TheVariants.{Inside}
 use Rattle.seize_shared.specs.declared.view.Has.{Has}
 use Rattle.seize_shared.specs.declared.view.Has.TheVariants.{Nothing, Made, Seen, Cut}
 use Rattle.seize_shared.specs.declared.view.Fixed.{Fixed}
-use Rattle.seize_shared.proofs.Steps.{came_then, of_users, reached, roots_kept, world_roots, world_rooted}
-use Rattle.seize_shared.proofs.Users.{apart_making, cutting_making, use_making, beside, world_took, making_not_held, users}
+use Rattle.seize_shared.proofs.Steps.{came_then, of_users, reached, roots_kept, world_roots, world_rooted, world_plain}
+use Rattle.seize_shared.proofs.Users.{apart_making, cutting_making, use_making, beside, world_took, making_not_held, passes_one, users}
 
 module _ {T : Type 0} (defers : T → Option ℕ) where
   taken_none : (m : Mem T) (b : ℕ) (x : T) (m2 : Mem T) → Took m (Take b) (Taken x) m2 → value_at m2 b ≡ None
@@ -58,6 +60,23 @@ module _ {T : Type 0} (defers : T → Option ℕ) (fixed : Fixed) (s : State T (
   free_hand b k of none e =
       let some = kept_there defers fixed.batch_size w r b (IsHad (of_users w.hand b k of (sym e))) in cc (some, none)
 
+  -- no value keeps a list: where the memory is the same, a value comes that keeps none, or one goes
+
+  plain_same : (m : Mem T) → m ≡ w.memory → ArePlain defers m
+  plain_same m is = subst (λ (x : Mem T). ArePlain defers x) (sym is) (world_plain defers fixed s id (Inside t had) h at)
+
+  plain_made : (b : ℕ) (value : T) (words : ℕ) (m : Mem T) → defers value ≡ None → Took w.memory (Make value words) (OutMade (Ok b)) m → ArePlain defers m
+  plain_made b value words m list took c x e =
+      by (eqb c b) (sym (ap (λ (k : Mem T). value_at k c) took.1 ∙ ap (λ (f : ℕ → Option T). f c) (made_one w.memory value words b took.0.0).values) ∙ e)
+    where
+      by : (y : Bool) → cond y (Some value) (value_at w.memory c) ≡ Some x → defers x ≡ None
+      by true is = ap defers (sym (same_some value x is)) ∙ list
+      by false is = world_plain defers fixed s id (Inside t had) h at c x is
+
+  plain_left : (b : ℕ) (value : T) (m : Mem T) → Took w.memory (Take b) (Taken value) m → ArePlain defers m
+  plain_left b value m took c x e =
+      world_plain defers fixed s id (Inside t had) h at c x (sym (value_left defers w.memory b c value m took (subst IsSome (sym e) refl) (cases_eq c b)) ∙ e)
+
   -- a block is made
 
   makes : had ≡ Nothing → (value : T) (words : ℕ) → defers value ≡ None → (out : Out T) (m : Mem T) → Took s.memory (Make value words) out m
@@ -86,6 +105,9 @@ module _ {T : Type 0} (defers : T → Option ℕ) (fixed : Fixed) (s : State T (
             (λ c a is. beside w b c (world.Making id) (world.InUse a) (λ e. free_hand b (world.InUse a) tt free e) is)
             (world_roots defers fixed s id (Inside t had) h at);
         rooted = ap (λ (x : Mem T). length x.roots) here.1 ∙ world_rooted defers fixed s id (Inside t had) h at;
+        plain = plain_made b value words m list here;
+        passes = passes_one defers fixed s id t (Makes id value words) n (λ j. tt)
+            (out, m, subst (λ (o : Option ℕ). HasListWord defers o words) (sym list) tt, here, refl) (plain_made b value words m list here);
       }) (told defers (Inside t Nothing) op out) (Made b, (took.0.1, refl), refl)
   makes none value words list (OutMade (Err back)) m took =
       let op : Op T = Make value words in let out : Out T = OutMade (Err back) in
@@ -105,6 +127,9 @@ module _ {T : Type 0} (defers : T → Option ℕ) (fixed : Fixed) (s : State T (
         over = λ a c held. refl;
         roots = roots_kept w.memory m w.hand n.hand (ap (λ (x : Mem T). x.roots) here.1) (λ c a is. is) (world_roots defers fixed s id (Inside t had) h at);
         rooted = ap (λ (x : Mem T). length x.roots) here.1 ∙ world_rooted defers fixed s id (Inside t had) h at;
+        plain = plain_same m here.1;
+        passes = passes_one defers fixed s id t (Makes id value words) n (λ j. tt)
+            (out, m, subst (λ (o : Option ℕ). HasListWord defers o words) (sym list) tt, here, refl) (plain_same m here.1);
       }) (told defers (Inside t Nothing) op out) (Nothing, refl, refl)
   makes none value words list (Found x) m took = absurd took.0
   makes none value words list Stored m took = absurd took.0
@@ -149,6 +174,8 @@ module _ {T : Type 0} (defers : T → Option ℕ) (fixed : Fixed) (s : State T (
         roots = roots_kept w.memory m w.hand n.hand (ap (λ (x : Mem T). x.roots) here.1)
             (λ c a had. beside w b c world.NoBlock (world.InUse a) (λ e. use_making a id (e ∙ mine)) had) (world_roots defers fixed s id (Inside t had) h at);
         rooted = ap (λ (x : Mem T). length x.roots) here.1 ∙ world_rooted defers fixed s id (Inside t had) h at;
+        plain = plain_left b value m here;
+        passes = passes_one defers fixed s id t (Drops id b) n (λ j. tt) (out, m, (id, mine), here, refl) (plain_left b value m here);
       }) (told defers (Inside t (Made b)) op out) (Nothing, refl, refl)
   takes b is (Found x) m took = absurd took.0
   takes b is Stored m took = absurd took.0

@@ -101,7 +101,7 @@ module _ (T : Type 0) (fixed : Fixed) (slot : ℕ) where
   flushes_next (Made b) looks = absurd looks
   flushes_next (Cut b) looks = absurd looks
 
-  pub flushes_so : (has : Has) → IsLooking has → flushes {T = T} fixed (Inside slot has) ≡ Settles (flushing slot fixed.batch_size) Retiring None
+  pub flushes_so : (has : Has) → IsLooking has → flushes {T = T} fixed (Inside slot has) ≡ Settles (flushing slot fixed.batch_size) Retiring None 0
   flushes_so Nothing looks = refl
   flushes_so (Seen b) looks = refl
   flushes_so (Made b) looks = absurd looks
@@ -114,12 +114,12 @@ is_above head lt = grind (arith, lt)
 is_not_above : (head : ℕ) → head ≤ ACTIVE → nat_lt ACTIVE head ≡ false
 is_not_above head le = grind (arith, le)
 
-pub list_settles : (T : Type 0) (slot size : ℕ) (way : Becomes) (head : ℕ) → ACTIVE < head
-    → list_taken {T = T} slot size way head ≡ Settles (counting_down slot size head) (Ending size way) None
-list_settles T slot size way head lt = rw (is_above head lt) refl
+pub list_settles : (T : Type 0) (slot size : ℕ) (way : Becomes) (head left : ℕ) → ACTIVE < head
+    → list_taken {T = T} slot size way head left ≡ Settles (counting_down slot size head) (Ending size way) None left
+list_settles T slot size way head left lt = rw (is_above head lt) refl
 
-pub list_empty : (T : Type 0) (slot size : ℕ) (way : Becomes) (head : ℕ) → head ≤ ACTIVE → list_taken {T = T} slot size way head ≡ Left slot size way
-list_empty T slot size way head le = rw (is_not_above head le) refl
+pub list_empty : (T : Type 0) (slot size : ℕ) (way : Becomes) (head left : ℕ) → head ≤ ACTIVE → list_taken {T = T} slot size way head left ≡ Left slot size way
+list_empty T slot size way head left le = rw (is_not_above head le) refl
 
 -- what a word of a root tells that was taken from there, or seen
 pub cut_some : (word b : ℕ) → b ≡ block_in word → (b ≡ 0 → ⊥) → cut_in word ≡ Cut b
@@ -148,10 +148,11 @@ module _ {T : Type 0} (defers : T → Option ℕ) (v w : View T) (slot : ℕ) wh
 
   -- what the taking of a list tells
   pub list_told : (size : ℕ) (way : Becomes) (word head : ℕ) → v ≡ Leaves slot size way → told defers v (Swap (Slot slot HEAD) word) (Found head) w
-      → w ≡ list_taken slot size way head
+      → (left : ℕ) × (w ≡ list_taken slot size way head left)
   list_told size way word head is so = subst (λ (x : View T). told defers x (Swap (Slot slot HEAD) word) (Found head) w) is so
 
   -- a list with entries is settled by the row that counts it down
-  pub row_told : (size : ℕ) (way : Becomes) (head : ℕ) (row : Settle) → w ≡ list_taken slot size way head → ACTIVE < head → row ≡ counting_down slot size head
-      → w ≡ Settles row (Ending size way) None
-  row_told size way head row is lt row_is = is ∙ list_settles T slot size way head lt ∙ ap (λ (c : Settle). Settles c (Ending size way) None) (sym row_is)
+  pub row_told : (size : ℕ) (way : Becomes) (head left : ℕ) (row : Settle) → w ≡ list_taken slot size way head left → ACTIVE < head
+      → row ≡ counting_down slot size head → w ≡ Settles row (Ending size way) None left
+  row_told size way head left row is lt row_is =
+      is ∙ list_settles T slot size way head left lt ∙ ap (λ (c : Settle). Settles c (Ending size way) None left) (sym row_is)

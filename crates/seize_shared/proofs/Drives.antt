@@ -18,9 +18,9 @@ use Rattle.seize_acts.proofs.Answers.{same_some}
 use Rattle.seize_seats.specs.State.{State, view_of}
 use Rattle.seize_seats.specs.Lendings.{Shown, IsValueOf}
 use Rattle.seize_shared.specs.Rows.{Holds}
-use Rattle.seize_shared.specs.Told.{shown_by, FollowsBy, GoesOn, told}
+use Rattle.seize_shared.specs.Told.{shown_by, FollowsBy, FallsFor, GoesOn, told}
 use Rattle.seize_shared.specs.Promises.{op_in, op_of, LookedAreShown}
-use Rattle.seize_shared.specs.Made.{shown_in, shown_of, CanMake, HasAlone, HasMade, IsSettling}
+use Rattle.seize_shared.specs.Made.{shown_in, shown_of, left_in, CanMake, HasAlone, HasMade, IsSettling}
 use Rattle.seize_shared.specs.declared.view.View.{View}
 use Rattle.seize_shared.specs.declared.view.View.TheVariants.{Rests, Registers, Outside, Enters, Inside, Settles, Leaves, Left, Frees}
 use Rattle.seize_shared.specs.declared.view.Why.{Why}
@@ -74,7 +74,7 @@ module _ {T : Type 0} (defers : T → Option ℕ) where
   none_rewrites (Outside t) = tt
   none_rewrites (Enters t) = tt
   none_rewrites (Inside t has) = tt
-  none_rewrites (Settles c why seen) = settling_none c c.stands
+  none_rewrites (Settles c why seen left) = settling_none c c.stands
   none_rewrites (Leaves t size way) = tt
   none_rewrites (Left t size way) = tt
   none_rewrites (Frees t) = tt
@@ -86,45 +86,46 @@ module _ {T : Type 0} (defers : T → Option ℕ) where
 
   module _ (caller : Caller T) (c : Settle) (why : Why) (is : IsSettling why c caller.seat.view) (ne : c.stands ≡ at.Over → ⊥) where
     -- what is told of a settling's operation
-    goes_on : (op : Op T) (out : Out T) (n : Caller T) → HasMade defers caller op out n → GoesOn defers c why out n.seat.view
-    goes_on op out n made = subst (λ (v : View T). told defers v op out n.seat.view) is.1 made.told
+    goes_on : (op : Op T) (out : Out T) (n : Caller T) → HasMade defers caller op out n → GoesOn defers c why is.1 out n.seat.view
+    goes_on op out n made = subst (λ (v : View T). told defers v op out n.seat.view) is.2 made.told
 
-    shows : (n : Caller T) (d : Settle) (seen : Option (ℕ × T)) → n.seat.view ≡ Settles d why seen → shown_of n ≡ shown_by seen
-    shows n d seen e = ap (λ (v : View T). shown_in v) e
+    shows : (n : Caller T) (d : Settle) (seen : Option (ℕ × T)) (left : ℕ) → n.seat.view ≡ Settles d why seen left → shown_of n ≡ shown_by seen
+    shows n d seen left e = ap (λ (v : View T). shown_in v) e
 
     pub may_step : May (CanMake defers) (HasMade defers) shown_of caller (settle_plan defers c)
     may_step =
         may_by (CanMake defers) (HasMade defers) shown_of caller (settle_plan defers c) (is_do c c.stands ne)
         (λ op e. record {
-          alone = has_alone caller op (subst IsNoRewrite (ap (op_of defers) is.1 ∙ e) (none_rewrites caller.seat.view));
-          may = may_go_on defers caller.blocks.now.words.fixed caller.seat.id caller.seat.view (Settles c why is.0) is.1 op e;
+          alone = has_alone caller op (subst IsNoRewrite (ap (op_of defers) is.2 ∙ e) (none_rewrites caller.seat.view));
+          may = may_go_on defers caller.blocks.now.words.fixed caller.seat.id caller.seat.view (Settles c why is.0 is.1) is.2 op e;
         })
         (λ op out n e made.
         let g = goes_on op out n made in
-        (g.end, subst (λ (f : ℕ → Option T). FollowsBy f (settle_plan defers c) out g.end) (sym (shows n g.end.0 g.seen g.view)) g.follows))
+        (g.end, subst (λ (f : ℕ → Option T). FollowsBy f (settle_plan defers c) out g.end) (sym (shows n g.end.0 g.seen g.now g.view)) g.follows))
         (λ out. once defers c c.stands out)
 
     pub has_stepped : (n : Caller T) (end : Settle × Settled T) → Steps (HasMade defers) shown_of caller (settle_plan defers c) n end
-        → IsSettling why end.0 n.seat.view × (end.0.slot ≡ c.slot) × (n.blocks ≡ caller.blocks)
+        → IsSettling why end.0 n.seat.view × (end.0.slot ≡ c.slot) × (n.blocks ≡ caller.blocks) × FallsFor why (left_in caller.seat.view) (left_in n.seat.view)
     has_stepped n end st =
         let k = was_made (CanMake defers) (HasMade defers) shown_of caller (settle_plan defers c) n end (is_do c c.stands ne) st in
         let g = goes_on k.0 k.1 n k.2 in
         let same : end ≡ g.end = k.3 g.end
-        (subst (λ (f : ℕ → Option T). FollowsBy f (settle_plan defers c) k.1 g.end) (sym (shows n g.end.0 g.seen g.view)) g.follows) in (
-          (g.seen, g.view ∙ ap (λ (x : Settle × Settled T). Settles x.0 why g.seen) (sym same)),
+        (subst (λ (f : ℕ → Option T). FollowsBy f (settle_plan defers c) k.1 g.end) (sym (shows n g.end.0 g.seen g.now g.view)) g.follows) in (
+          (g.seen, g.now, g.view ∙ ap (λ (x : Settle × Settled T). Settles x.0 why g.seen g.now) (sym same)),
           ap (λ (x : Settle × Settled T). x.0.slot) same ∙ g.slot,
           k.2.blocks,
+          subst (λ (l : ℕ). FallsFor why l (left_in n.seat.view)) (sym (ap left_in is.2)) (subst (λ (l : ℕ). FallsFor why is.1 l) (sym (ap left_in g.view)) g.falls),
         )
 
 module _ (T : Type 0) (defers : T → Option ℕ) where
   -- what a settling is to look at is there
   pub looked_are_shown : LookedAreShown T defers
-  looked_are_shown fixed id c why b x = (there, λ y of. same_some y x (sym of.3 ∙ here of.0 of.1 of.2))
+  looked_are_shown fixed id c why b left x = (there, λ y of. same_some y x (sym of.3 ∙ here of.0 of.1 of.2))
     where
-      here : (t : State T (View T) (World T)) → Holds defers fixed t → view_of t id ≡ Some (Settles c why (Some (b, x))) → value_at t.memory b ≡ Some x
-      here t h at = ap (λ (m : Mem T). value_at m b) h.memory ∙ (h.seats id (Settles c why (Some (b, x))) at).known.2
+      here : (t : State T (View T) (World T)) → Holds defers fixed t → view_of t id ≡ Some (Settles c why (Some (b, x)) left) → value_at t.memory b ≡ Some x
+      here t h at = ap (λ (m : Mem T). value_at m b) h.memory ∙ (h.seats id (Settles c why (Some (b, x)) left) at).known.2
 
-      there : Shown (Holds defers fixed) id (Settles c why (Some (b, x))) b
+      there : Shown (Holds defers fixed) id (Settles c why (Some (b, x)) left) b
       there t h at = subst IsSome (sym (here t h at)) refl
 
 module _ {T : Type 0} (defers : T → Option ℕ) (fixed : Fixed) (id : ℕ) where
@@ -134,14 +135,14 @@ module _ {T : Type 0} (defers : T → Option ℕ) (fixed : Fixed) (id : ℕ) whe
 
   pub is_looked : (v : View T) (b : ℕ) → IsSome (shown_in v b)
       → Shown (Holds defers fixed) id v b × ((y : T) → IsValueOf (Holds defers fixed) id v b y → shown_in v b ≡ Some y)
-  is_looked (Settles c why (Some (a, x))) b is =
+  is_looked (Settles c why (Some (a, x)) left) b is =
       let e : b ≡ a = eqb-true b a (some_same (b == a) (Some x) is) in
-      let k = looked_are_shown T defers fixed id c why a x in (
-        subst (λ (n : ℕ). Shown (Holds defers fixed) id (Settles c why (Some (a, x))) n) (sym e) k.0,
+      let k = looked_are_shown T defers fixed id c why a left x in (
+        subst (λ (n : ℕ). Shown (Holds defers fixed) id (Settles c why (Some (a, x)) left) n) (sym e) k.0,
         λ y of. ap (λ (z : Bool). if z then Some x else None) (some_same (b == a) (Some x) is)
-            ∙ ap Some (sym (k.1 y (subst (λ (n : ℕ). IsValueOf (Holds defers fixed) id (Settles c why (Some (a, x))) n y) e of))),
+            ∙ ap Some (sym (k.1 y (subst (λ (n : ℕ). IsValueOf (Holds defers fixed) id (Settles c why (Some (a, x)) left) n y) e of))),
       )
-  is_looked (Settles c why None) b is = absurd (cc is)
+  is_looked (Settles c why None left) b is = absurd (cc is)
   is_looked Rests b is = absurd (cc is)
   is_looked (Registers c) b is = absurd (cc is)
   is_looked (Outside t) b is = absurd (cc is)

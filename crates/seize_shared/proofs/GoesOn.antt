@@ -23,7 +23,7 @@ module _ (T : Type 0) (defers : T → Option ℕ) where
       subst (λ (o : Op T). Allows (Holds defers fixed) Keeps id (Enters t) o (told defers (Enters t) o)) (same_some (Store (Slot t HEAD) ACTIVE) op e)
       (enters defers fixed id t) s h at_id
   rows_go_on fixed id (Inside t has) op e s h at_id = absurd (cc e)
-  rows_go_on fixed id (Settles c why seen) op e s h at_id = settles defers fixed s id c why seen h at_id op e
+  rows_go_on fixed id (Settles c why seen left) op e s h at_id = settles defers fixed s id c why seen left h at_id op e
   rows_go_on fixed id (Leaves t size way) op e s h at_id =
       subst (λ (o : Op T). Allows (Holds defers fixed) Keeps id (Leaves t size way) o (told defers (Leaves t size way) o))
       (same_some (Swap (Slot t HEAD) (head_of way)) op e)

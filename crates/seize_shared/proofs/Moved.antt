@@ -1,21 +1,23 @@
 -- What a seat has done makes the rule hold again, where it has left what the other seats know.
 use Rattle.std.specs.Prelude.{◌≢◌, Option, Some, None, IsSome, length, slice_get, slice_set}
-use Rattle.std.proofs.Common.{◌≡◌, ℕ, ◌⊎◌, true, inl, inr, refl, sym, subst, ap, ◌∙◌}
+use Rattle.std.proofs.Common.{◌≡◌, ℕ, List, ◌⊎◌, true, inl, inr, refl, sym, subst, ap, ◌∙◌}
 use Rattle.std.proofs.lemmas.Bool.{cases_eq}
 use Rattle.seize_words.specs.Mem.{Mem, value_at}
 use Rattle.seize.specs.Law.{holds, is_over}
-use Rattle.seize.specs.World.{World, Row, Use, Vacant, MayStep, IsInside}
+use Rattle.seize.specs.World.{World, Row, Use, Vacant, Event, MayStep, IsInside}
 use Rattle.seize.specs.World as world
 use Rattle.seize_rule.proofs.World.Kept.{rows_may}
 use Rattle.seize_acts.proofs.Answers.{same_some}
 use Rattle.seize_seats.specs.State.{State, view_of, Goes}
-use Rattle.seize_shared.specs.Rows.{use_of, row_of, settles_for, IsUsed, IsKnown, RootsNameLinked, Fits, Came, Holds, Keeps}
+use Rattle.seize_shared.specs.Bounds.{ArePlain, Meanwhile}
+use Rattle.seize_shared.specs.Rows.{use_of, row_of, settles_for, IsUsed, IsKnown, RootsNameLinked, Fits, Came, IsBounded, Holds, Keeps}
 use Rattle.seize_shared.specs.declared.view.View.{View}
 use Rattle.seize_shared.specs.declared.view.View.TheVariants.{Rests, Registers, Outside, Enters, Inside, Settles, Leaves, Left, Frees}
 use Rattle.seize_shared.specs.declared.view.Has.{Has}
 use Rattle.seize_shared.specs.declared.view.Has.TheVariants.{Nothing, Made, Seen, Cut}
 use Rattle.seize_shared.specs.declared.view.Why.TheVariants.{Retiring, Ending}
 use Rattle.seize_shared.specs.declared.view.Fixed.{Fixed}
+use Rattle.seize_shared.proofs.Bounds.Passing.{still_within}
 use Rattle.seize_shared.proofs.Lists.{there, elsewhere}
 use Rattle.seize_shared.proofs.Reclaims.{reclaiming_there}
 
@@ -32,8 +34,8 @@ not_vacant {T} x t a e v = by x e
     by (Outside s) f = let k = so (s, world.Outside 0) (t, a) f in cc (k, v)
     by (Enters s) f = let k = so (s, world.Changing) (t, a) f in cc (k, v)
     by (Inside s has) f = let k = so (s, world.Inside 0) (t, a) f in cc (k, v)
-    by (Settles c Retiring seen) f = let k = so (c.slot, world.Inside 1) (t, a) f in cc (k, v)
-    by (Settles c (Ending size way) seen) f = let k = so (c.slot, world.Changing) (t, a) f in cc (k, v)
+    by (Settles c Retiring seen left) f = let k = so (c.slot, world.Inside 1) (t, a) f in cc (k, v)
+    by (Settles c (Ending size way) seen left) f = let k = so (c.slot, world.Changing) (t, a) f in cc (k, v)
     by (Leaves s size way) f = let k = so (s, world.Changing) (t, a) f in cc (k, v)
     by (Left s size way) f = let k = so (s, world.Changing) (t, a) f in cc (k, v)
     by (Frees s) f = let k = so (s, world.Changing) (t, a) f in cc (k, v)
@@ -55,6 +57,10 @@ module _ {T : Type 0} (defers : T → Option ℕ) (fixed : Fixed) (s : State T (
   abbrev pub StillHas : World T → ℕ → ℕ → Type 0
   StillHas n j b = (s.world.hand b ≡ world.Making j → n.hand b ≡ world.Making j) × (s.world.hand b ≡ world.Cutting j → n.hand b ≡ world.Cutting j)
 
+  -- for each other seat it has passed meanwhile
+  abbrev pub Passes : World T → Type 0
+  Passes n = (j : ℕ) → j ≢ id → (events : List (Event T)) × Meanwhile defers fixed.batch_size j events s.world n
+
   -- the seat has come to this view, this memory and this world, and the others know what they knew
   pub record Moved (u : View T) (m : Mem T) (n : World T) : Type 0 where
     pub came : Came defers fixed n
@@ -69,6 +75,9 @@ module _ {T : Type 0} (defers : T → Option ℕ) (fixed : Fixed) (s : State T (
     pub over : (t b : ℕ) → holds t b s.world.log ≡ true → is_over b n.log ≡ is_over b s.world.log
     pub roots : RootsNameLinked m n.hand
     pub rooted : length m.roots ≡ fixed.roots
+    pub plain : ArePlain defers n.memory
+    pub passes : Passes n
+    pub bounded : IsBounded defers fixed n id u
 
   module _ (v u : View T) (m : Mem T) (n : World T) (so : View T → Type 0) (h : Holds defers fixed s) (at : view_of s id ≡ Some v) (mo : Moved u m n) where
     known : (j : ℕ) (x : View T) → j ≢ id → n.row j ≡ row_of x → Fits s.world j x → IsKnown n j x
@@ -76,8 +85,8 @@ module _ {T : Type 0} (defers : T → Option ℕ) (fixed : Fixed) (s : State T (
     known j (Inside t (Made b)) ne row f = (mo.hands j b ne).0 f.known
     known j (Inside t (Seen b)) ne row f = mo.held t b (inside_of s.world t (Seen b) f.slot) f.known
     known j (Inside t (Cut b)) ne row f = (mo.hands j b ne).1 f.known
-    known j (Settles c why None) ne row f = tt
-    known j (Settles c why (Some seen)) ne row f =
+    known j (Settles c why None left) ne row f = tt
+    known j (Settles c why (Some seen) left) ne row f =
         let may : MayStep defers (settles_for why c) n.memory =
         subst (λ (r : Row). MayStep defers r n.memory) row (rows_may defers fixed.batch_size fixed.roots mo.came.0 n mo.came.1 j) in
         let some : IsSome (value_at n.memory seen.0) =
@@ -91,6 +100,18 @@ module _ {T : Type 0} (defers : T → Option ℕ) (fixed : Fixed) (s : State T (
     known j (Left t size way) ne row f = tt
     known j (Frees t) ne row f = tt
 
+    bound : (j : ℕ) (x : View T) → j ≢ id → IsBounded defers fixed s.world j x → IsBounded defers fixed n j x
+    bound j (Settles c Retiring seen left) ne b = tt
+    bound j (Settles c (Ending size way) seen left) ne b = let p = mo.passes j ne in still_within defers fixed.batch_size j left s.world n p.0 p.1 b
+    bound j Rests ne b = tt
+    bound j (Registers c) ne b = tt
+    bound j (Outside t) ne b = tt
+    bound j (Enters t) ne b = tt
+    bound j (Inside t has) ne b = tt
+    bound j (Leaves t size way) ne b = tt
+    bound j (Left t size way) ne b = tt
+    bound j (Frees t) ne b = tt
+
     pub moved : so u → Goes (Holds defers fixed) Keeps s m id so
     moved is = (
       u,
@@ -103,6 +124,8 @@ module _ {T : Type 0} (defers : T → Option ℕ) (fixed : Fixed) (s : State T (
         apart = λ j k t a b x y e f p q. two j k t a b x y e f p q (cases_eq j id) (cases_eq k id);
         roots = mo.roots;
         rooted = mo.rooted;
+        plain = subst (λ (x : Mem T). ArePlain defers x) (sym mo.memory) mo.plain;
+        bounded = λ j x e. bound_at j x e (cases_eq j id);
       },
       (λ j k b x o ne ne2 e f keeps. still j b x o ne e keeps),
       is,
@@ -124,6 +147,11 @@ module _ {T : Type 0} (defers : T → Option ℕ) (fixed : Fixed) (s : State T (
             let f = h.seats j x (before j x ne e) in
             let row = mo.rows j ne ∙ f.row in
             record { row = row; slot = mo.others j x ne (before j x ne e); short = f.short; known = known j x ne row f }
+
+        bound_at : (j : ℕ) (x : View T) → slice_get (slice_set s.views id u) j ≡ Some x → (j ≡ id) ⊎ (j ≢ id) → IsBounded defers fixed n j x
+        bound_at j x e (inl same) =
+            subst (λ (y : View T). IsBounded defers fixed n j y) (own j x same e) (subst (λ (k : ℕ). IsBounded defers fixed n k u) (sym same) mo.bounded)
+        bound_at j x e (inr ne) = bound j x ne (h.bounded j x (before j x ne e))
 
         none : (j : ℕ) → slice_get (slice_set s.views id u) j ≡ None → (j ≡ id) ⊎ (j ≢ id) → n.row j ≡ world.Rests
         none j e (inl same) = let f = here j same in absurd (cc (e, f))

@@ -12,10 +12,11 @@ use Rattle.seize.specs.declared.rows.settle.Settled.TheVariants as settled
 use Rattle.seize.specs.Settle.{counting_down}
 use Rattle.seize.specs.Leave.{standing}
 use Rattle.seize.specs.Law.{Entered}
-use Rattle.seize.specs.World.{World, Row, Use, MayStep, after_step, with_use, leaves_on}
+use Rattle.seize.specs.World.{World, Row, Use, Steps', MayStep, after_step, with_use, leaves_on}
 use Rattle.seize.specs.World as world
 use Rattle.seize_rule.proofs.World.Kept.{rows_may}
 use Rattle.seize_rule.proofs.Rows.Others.{with_here}
+use Rattle.seize_alone.proofs.Histories.Reached.{steps_reached}
 use Rattle.seize_seats.specs.State.{State, view_of, Goes, Allows}
 use Rattle.seize_shared.specs.Rows.{row_of, leave_of, Holds, Keeps, head_of}
 use Rattle.seize_shared.specs.Told.{list_taken, told}
@@ -25,8 +26,9 @@ use Rattle.seize_shared.specs.declared.view.View.TheVariants.{Rests, Enters, Ins
 use Rattle.seize_shared.specs.declared.view.Has.TheVariants.{Nothing}
 use Rattle.seize_shared.specs.declared.view.Why.TheVariants.{Ending}
 use Rattle.seize_shared.specs.declared.view.Fixed.{Fixed}
+use Rattle.seize_shared.proofs.Bounds.Within.{counted_within}
 use Rattle.seize_shared.proofs.Moved.{moved}
-use Rattle.seize_shared.proofs.Steps.{alone, stepped}
+use Rattle.seize_shared.proofs.Steps.{alone, reached, step_of, step_plain, stepped}
 
 -- the slot of one is that of the other
 pub slot_of : (p q : ℕ × Use) → Some p ≡ Some q → p.0 ≡ q.0
@@ -61,7 +63,7 @@ module _ {T : Type 0} (defers : T → Option ℕ) (fixed : Fixed) where
           (stepped defers fixed s id (Enters t) h at (Inside t Nothing) m n
           (m, (record { slot = t }, Done tt), (out, subst (λ (x : Mem T). Took x (Store (Slot t HEAD) ACTIVE) out m) h.memory took, refl), refl) refl
           (record { row = with_here s.world.row id world.Rests; slot = with_here s.world.uses t (world.Inside 0); short = tt; known = tt })
-          (alone defers fixed s id (Enters t) h at (Inside t Nothing) (λ x b e. same_slot t x (world.Inside 0) b world.Changing e)))
+          (alone defers fixed s id (Enters t) h at (Inside t Nothing) (λ x b e. same_slot t x (world.Inside 0) b world.Changing e)) tt)
           refl
 
   pub frees : (id t : ℕ) → Allows H Keeps id (Frees t) (Store (Slot t HEAD) FREE) (told defers (Frees t) (Store (Slot t HEAD) FREE))
@@ -78,7 +80,7 @@ module _ {T : Type 0} (defers : T → Option ℕ) (fixed : Fixed) where
           (stepped defers fixed s id (Frees t) h at Rests m n
           (m, (record { slot = t }, Done tt), (out, subst (λ (x : Mem T). Took x (Store (Slot t HEAD) FREE) out m) h.memory took, refl), refl) refl
           (record { row = with_here s.world.row id world.Rests; slot = tt; short = tt; known = tt })
-          (alone defers fixed s id (Frees t) h at Rests (λ x b e. absurd (cc e))))
+          (alone defers fixed s id (Frees t) h at Rests (λ x b e. absurd (cc e))) tt)
           refl
 
   pub leaves : (id t size : ℕ) (way : Becomes) → Allows H Keeps id (Leaves t size way) (Swap (Slot t HEAD) (head_of way)) (told defers (Leaves t size way) (Swap (Slot t HEAD) (head_of way)))
@@ -94,25 +96,30 @@ module _ {T : Type 0} (defers : T → Option ℕ) (fixed : Fixed) where
       slot d m = with_here s.world.uses t (s.world.uses t) ∙ (h.seats id (Leaves t size way) at).slot
 
       goes : (head : ℕ) (m : Mem T) → Took s.memory (Swap (Slot t HEAD) (head_of way)) (Found head) m → (b : Bool) → nat_lt ACTIVE head ≡ b
-          → Goes H Keeps s m id (λ u. u ≡ list_taken t size way head)
+          → Goes H Keeps s m id (λ u. (left : ℕ) × (u ≡ list_taken t size way head left))
       goes head m took true e =
-          let u : View T = Settles (counting_down t size head) (Ending size way) None in
           let d : Leave = standing (leave_of t size way) (leaving_at.Settles (counting_down t size head)) in
           let n : World T = leaves_on s.world id (leave_of t size way) m (d, settled.Goes) in
-          moved defers fixed s id (Leaves t size way) u m n (λ x. x ≡ list_taken t size way head) h at
-          (stepped defers fixed s id (Leaves t size way) h at u m n (m, (d, settled.Goes), (Found head, took_here head m took, rw e refl), refl) refl
-          (record { row = with_here s.world.row id (world.Leaves d); slot = slot d m; short = tt; known = tt })
-          (alone defers fixed s id (Leaves t size way) h at u (λ x b q. same_slot t x world.Changing b world.Changing q)))
-          (rw e refl)
+          let taken : Steps' defers id (row_of (Leaves t size way)) s.world n = (m, (d, settled.Goes), (Found head, took_here head m took, rw e refl), refl) in
+          let row : n.row id ≡ world.Leaves d = with_here s.world.row id (world.Leaves d) in
+          let step = step_of defers fixed s id (Leaves t size way) h at n taken in
+          let r = steps_reached defers fixed.batch_size id s.world n (reached defers fixed s.world h.came) step in
+          let k = counted_within defers fixed.batch_size id n r (leave_of t size way) head row (step_plain defers fixed s id (Leaves t size way) h at n step) in
+          let u : View T = Settles (counting_down t size head) (Ending size way) None k.0 in
+          moved defers fixed s id (Leaves t size way) u m n (λ x. (left : ℕ) × (x ≡ list_taken t size way head left)) h at
+          (stepped defers fixed s id (Leaves t size way) h at u m n taken refl
+          (record { row = row; slot = slot d m; short = tt; known = tt })
+          (alone defers fixed s id (Leaves t size way) h at u (λ x b q. same_slot t x world.Changing b world.Changing q)) k.1)
+          (k.0, rw e refl)
       goes head m took false e =
           let u : View T = Left t size way in
           let d : Leave = standing (leave_of t size way) leaving_at.Over in
           let n : World T = leaves_on s.world id (leave_of t size way) m (d, settled.Goes) in
-          moved defers fixed s id (Leaves t size way) u m n (λ x. x ≡ list_taken t size way head) h at
+          moved defers fixed s id (Leaves t size way) u m n (λ x. (left : ℕ) × (x ≡ list_taken t size way head left)) h at
           (stepped defers fixed s id (Leaves t size way) h at u m n (m, (d, settled.Goes), (Found head, took_here head m took, rw e refl), refl) refl
           (record { row = with_here s.world.row id (world.Leaves d); slot = slot d m; short = tt; known = tt })
-          (alone defers fixed s id (Leaves t size way) h at u (λ x b q. same_slot t x world.Changing b world.Changing q)))
-          (rw e refl)
+          (alone defers fixed s id (Leaves t size way) h at u (λ x b q. same_slot t x world.Changing b world.Changing q)) tt)
+          (0, rw e refl)
 
       by : (out : Out T) (m : Mem T) → Took s.memory (Swap (Slot t HEAD) (head_of way)) out m
           → Goes H Keeps s m id (told defers (Leaves t size way) (Swap (Slot t HEAD) (head_of way)) out)

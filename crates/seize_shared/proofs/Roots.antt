@@ -19,6 +19,7 @@ use Rattle.seize_rule.proofs.World.Values.{own_op_value}
 use Rattle.seize_alone.proofs.Histories.Reached.{Reached}
 use Rattle.seize_acts.proofs.Answers.{same_some}
 use Rattle.seize_seats.specs.State.{State, view_of, Goes}
+use Rattle.seize_shared.specs.Bounds.{ArePlain}
 use Rattle.seize_shared.specs.Rows.{IsInHand, RootsNameLinked, Fits, Came, Holds, Keeps}
 use Rattle.seize_shared.specs.Told.{seen_in, cut_in, told}
 use Rattle.seize_shared.specs.Promises.{MadeAreLinked, RootsAreSeen, RootsAreCleared}
@@ -28,9 +29,10 @@ use Rattle.seize_shared.specs.declared.view.Has.{Has}
 use Rattle.seize_shared.specs.declared.view.Has.TheVariants.{Nothing, Made, Seen, Cut}
 use Rattle.seize_shared.specs.declared.view.Fixed.{Fixed}
 use Rattle.seize_shared.proofs.Lists.{there, elsewhere}
-use Rattle.seize_shared.proofs.Steps.{came_then, reached}
+use Rattle.seize_shared.proofs.Moved.{Passes}
+use Rattle.seize_shared.proofs.Steps.{came_then, reached, world_plain}
 use Rattle.seize_shared.proofs.Users.{apart_making, cutting_making, use_making, making_use, cutting_use, same_use}
-use Rattle.seize_shared.proofs.Users.{beside, world_took, making_not_held, Users, users}
+use Rattle.seize_shared.proofs.Users.{beside, world_took, making_not_held, passes_one, passes_then, Users, users}
 
 -- a root is there
 root_there : (l : List ℕ) (r : ℕ) → r < length l → IsSome (slice_get l r)
@@ -102,6 +104,8 @@ module _ {T : Type 0} (defers : T → Option ℕ) (fixed : Fixed) (s : State T (
         over = λ a c held. refl;
         roots = subst (λ (x : Mem T). RootsNameLinked x w.hand) (sym took.1) h.roots;
         rooted = ap (λ (x : Mem T). length x.roots) took.1 ∙ h.rooted;
+        plain = world_plain defers fixed s id (Inside t had) h at;
+        passes = λ j ne. ([], refl);
       }) so (is word refl)
   sees a Stored m took so is = absurd took.0
   sees a (Exchanged x) m took so is = absurd took.0
@@ -147,6 +151,14 @@ module _ {T : Type 0} (defers : T → Option ℕ) (fixed : Fixed) (s : State T (
       ap (λ (x : Mem T). value_at x b) (world_took s h.memory (Swap (Root a) word) (Found old) m took).1
       ∙ own_op_value defers w.memory b (Swap (Root a) word) (Found old) tt
 
+  written_plain : (a word old : ℕ) (m : Mem T) → Took s.memory (Swap (Root a) word) (Found old) m → ArePlain defers m
+  written_plain a word old m took b x e = world_plain defers fixed s id (Inside t had) h at b x (sym (value_written a word old m took b) ∙ e)
+
+  written_passes : (a word old : ℕ) (m : Mem T) → Took s.memory (Swap (Root a) word) (Found old) m → Passes defers fixed s id (record w { memory = m })
+  written_passes a word old m took =
+      passes_one defers fixed s id t (Operates (Swap (Root a) word)) (record w { memory = m }) (λ j. tt)
+      (Found old, m, tt, world_took s h.memory (Swap (Root a) word) (Found old) m took, refl) (written_plain a word old m took)
+
   -- the block that was at the root, if there was one, is unlinked; `n` is the world before that, in which it is linked there
   unlinked : (a old : ℕ) (m : Mem T) (n : World T) (so : View T → Type 0) → so (Inside t (cut_in old)) → Users defers fixed s id t m n Nothing
       → RootsNameLinked m n.hand
@@ -185,6 +197,8 @@ module _ {T : Type 0} (defers : T → Option ℕ) (fixed : Fixed) (s : State T (
               | inr ne ↦ other c found (named c found e) ne
             ];
             rooted = u.rooted;
+            plain = u.plain;
+            passes = passes_then defers fixed s id t n v (Unlinks id (block_in old)) (λ j. tt) u.passes (subst (λ (k : Hand). MayCut id k) (sym mine) tt, refl) u.plain;
           }) so (at_view false e)
         where
           other : (c found : ℕ) → (block_in found ≡ 0) ⊎ (n.hand (block_in found) ≡ world.InUse c) → block_in found ≢ (block_in old)
@@ -245,6 +259,8 @@ module _ {T : Type 0} (defers : T → Option ℕ) (fixed : Fixed) (s : State T (
         over = λ e c held. ap (λ (y : Bool). cond y false (is_over c w.log)) (ne_eqb c b (making_not_held defers fixed.batch_size w r id e b c held mine));
         roots = named;
         rooted = rooted_still a word old m took;
+        plain = written_plain a word old m took;
+        passes = passes_then defers fixed s id t (record w { memory = m }) n (Links id b a) (λ j. tt) (written_passes a word old m took) ((id, mine), refl) (written_plain a word old m took);
       }) named (λ c f. other c (world.InUse a) (use_making a id) f) was (fresh a word old m took was is_new)
     where
       new_block : (b a old : ℕ) → w.hand b ≡ world.Making id → (block_in old ≡ 0) ⊎ (w.hand (block_in old) ≡ world.InUse a) → (b ≡ 0) ⊎ (b ≢ 0)
@@ -273,6 +289,8 @@ module _ {T : Type 0} (defers : T → Option ℕ) (fixed : Fixed) (s : State T (
         over = λ e c held. refl;
         roots = named;
         rooted = rooted_still a 0 old m took;
+        plain = written_plain a 0 old m took;
+        passes = written_passes a 0 old m took;
       }) named (λ c f. f) was (fresh a 0 old m took was (inl refl))
 
 module _ (T : Type 0) (defers : T → Option ℕ) where

@@ -29,8 +29,9 @@ use Rattle.seize_acts.proofs.Answers.{same_some, ended}
 use Rattle.seize_acts.proofs.Steps.{sees_end}
 use Rattle.seize_ends.proofs.Batches.Rows.{settles_memory}
 use Rattle.seize_seats.specs.State.{State, view_of, Goes as GoesOnBy}
-use Rattle.seize_shared.specs.Rows.{settles_for, used_for, leave_of, counting, IsLooked, Holds, Keeps}
-use Rattle.seize_shared.specs.Told.{shown_by, FollowsBy, told}
+use Rattle.seize_shared.specs.Bounds.{HasCounted, ArePlain, CountsWithin}
+use Rattle.seize_shared.specs.Rows.{settles_for, used_for, leave_of, counting, IsLooked, IsBounded, Holds, Keeps}
+use Rattle.seize_shared.specs.Told.{shown_by, FollowsBy, FallsFor, told}
 use Rattle.seize_shared.specs.Promises.{op_in}
 use Rattle.seize_shared.specs.declared.view.View.{View}
 use Rattle.seize_shared.specs.declared.view.Becomes.{Becomes}
@@ -38,8 +39,9 @@ use Rattle.seize_shared.specs.declared.view.View.TheVariants.{Settles}
 use Rattle.seize_shared.specs.declared.view.Why.{Why}
 use Rattle.seize_shared.specs.declared.view.Why.TheVariants.{Retiring, Ending}
 use Rattle.seize_shared.specs.declared.view.Fixed.{Fixed}
+use Rattle.seize_shared.proofs.Bounds.Passing.{steps_within}
 use Rattle.seize_shared.proofs.Moved.{moved}
-use Rattle.seize_shared.proofs.Steps.{reached, alone, stepped}
+use Rattle.seize_shared.proofs.Steps.{reached, alone, step_of, step_plain, stepped}
 use Rattle.seize_shared.proofs.Operations.{may, used_as, slot_of}
 use Rattle.seize_shared.proofs.Reclaims.{may_settle}
 use Rattle.seize_shared.proofs.Looks.{rest_of, looked}
@@ -73,12 +75,12 @@ module _ {T : Type 0} (defers : T → Option ℕ) where
   not_over c p op e true is = absurd (cc (subst (λ (q : Settling). op_in (plan_at defers c q) ≡ Some op) (over_is p is) e))
 
 module _ {T : Type 0} (defers : T → Option ℕ) (fixed : Fixed) (s : State T (View T) (World T)) (id : ℕ) (c : Settle) (why : Why) (seen : Option (ℕ × T))
-    (h : Holds defers fixed s) (at_id : view_of s id ≡ Some (Settles c why seen)) where
+    (left : ℕ) (h : Holds defers fixed s) (at_id : view_of s id ≡ Some (Settles c why seen left)) where
   abbrev w : World T
   w = s.world
 
   abbrev v : View T
-  v = Settles c why seen
+  v = Settles c why seen left
 
   r : Reached defers fixed.batch_size w
   r = reached defers fixed w h.came
@@ -136,6 +138,26 @@ module _ {T : Type 0} (defers : T → Option ℕ) (fixed : Fixed) (s : State T (
   used (Ending size way) m d _ going slot is =
       ap (λ (t : ℕ). with_at w.uses c.slot (w.uses c.slot) t) slot ∙ with_here w.uses c.slot (w.uses c.slot) ∙ is
 
+  -- where the section has ended fewer steps are left
+  record Next (y : Why) (n : World T) : Type 0 where
+    pub now : ℕ
+    pub falls : FallsFor y left now
+    pub bounded : (d : Settle) (look : Option (ℕ × T)) → IsBounded defers fixed n id (Settles d y look now)
+
+  next : (y : Why) → why ≡ y → (n : World T) → Steps' defers id (w.row id) w n → ArePlain defers n.memory → is_over c.stands ≡ false → Next y n
+  next Retiring e n step plain on = record { now = 0; falls = tt; bounded = λ d look. tt }
+  next (Ending size way) e n step plain on =
+      let had : CountsWithin defers fixed.batch_size id left w = subst (λ (y : Why). IsBounded defers fixed w id (Settles c y seen left)) e (h.bounded id v at_id) in
+      let k = steps_within defers fixed.batch_size id left w n had not_counted step plain in
+      record { now = k.0; falls = k.1; bounded = λ d look. k.2 }
+    where
+      counted : HasCounted (settles_for (Ending size way) c) → c.stands ≡ at.Over
+      counted is = is
+
+      not_counted : HasCounted (w.row id) → ⊥
+      not_counted is =
+          let over = counted (subst HasCounted ((h.seats id v at_id).row ∙ ap (λ (y : Why). settles_for y c) e) is) in absurd (cc (on, ap is_over over))
+
   goes : (op : Op T) (out : Out T) (m : Mem T) (end : Settle × Settled T) → op_in (settle_plan defers c) ≡ Some op
       → Steps Took value_at w.memory (settle_plan defers c) m end → Ends (value_at m) (rest_of (settle_plan defers c) out) end
       → GoesOnBy (Holds defers fixed) Keeps s m id (told defers v op out)
@@ -144,8 +166,10 @@ module _ {T : Type 0} (defers : T → Option ℕ) (fixed : Fixed) (s : State T (
       r.good.inv r.good.shows c.stands refl (not_over defers c c.stands op makes (is_over c.stands) refl) fits st in
       let slot : end.0.slot ≡ c.slot = went.0.slot_is in
       let look = looked defers c c.stands out m end ends in
-      let u : View T = Settles end.0 why look.0 in
       let n : World T = after why m end in
+      let step = step_of defers fixed s id v h at_id n (steps why m end st) in
+      let k = next why refl n step (step_plain defers fixed s id v h at_id n step) (not_over defers c c.stands op makes (is_over c.stands) refl) in
+      let u : View T = Settles end.0 why look.0 k.now in
       moved defers fixed s id v u m n (told defers v op out) h at_id
       (stepped defers fixed s id v h at_id u m n (steps why m end st) (memory why m end)
       (record {
@@ -154,12 +178,14 @@ module _ {T : Type 0} (defers : T → Option ℕ) (fixed : Fixed) (s : State T (
         short = tt;
         known = subst (λ (x : Mem T). IsLooked x end.0 look.0) (memory why m end) look.2;
       })
-      (alone defers fixed s id v h at_id u (λ t b e. (used_for why, ap (λ (k : ℕ). used_as k (used_for why)) (sym slot ∙ slot_of (end.0.slot, used_for why) (t, b) e)))))
+      (alone defers fixed s id v h at_id u (λ t b e. (used_for why, ap (λ (k : ℕ). used_as k (used_for why)) (sym slot ∙ slot_of (end.0.slot, used_for why) (t, b) e)))) (k.bounded end.0 look.0))
       (record {
         end = end;
         seen = look.0;
+        now = k.now;
         follows = follows (shown_by look.0) (settle_plan defers c) op out end makes look.1;
         slot = slot;
+        falls = k.falls;
         view = refl;
       })
 

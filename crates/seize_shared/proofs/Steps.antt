@@ -1,5 +1,5 @@
 -- A row that begins, and a step of one, as what a seat has done.
-use Rattle.std.specs.Prelude.{◌≢◌, ◌++◌, Option, Some, IsSome, length, slice_get}
+use Rattle.std.specs.Prelude.{◌≢◌, ◌++◌, Option, Some, None, IsSome, length, slice_get}
 use Rattle.std.proofs.Common.{◌≡◌, ℕ, ◌+◌, List, [], ◌∷◌, ◌⊎◌, inl, inr, refl, sym, subst, ap, ◌∙◌, arith}
 use Rattle.std.proofs.lemmas.Bool.{cases_eq}
 use Rattle.seize_words.specs.Mem.{Mem, value_at}
@@ -20,7 +20,8 @@ use Rattle.seize_alone.proofs.Histories.Reached.{Reached, runs_reached}
 use Rattle.seize_alone.proofs.Histories.NotTaken.{IsHad, still_held, kept_hand, taken_gone, did}
 use Rattle.seize_alone.proofs.Histories.Uses.{uses_kept}
 use Rattle.seize_seats.specs.State.{State, view_of}
-use Rattle.seize_shared.specs.Rows.{row_of, use_of, IsSeeking, IsShort, IsUsed, RootsNameLinked, Fits, Came, Holds}
+use Rattle.seize_shared.specs.Bounds.{ArePlain}
+use Rattle.seize_shared.specs.Rows.{row_of, use_of, IsSeeking, IsShort, IsUsed, RootsNameLinked, Fits, Came, IsBounded, Holds}
 use Rattle.seize_shared.specs.declared.view.View.{View}
 use Rattle.seize_shared.specs.declared.view.View.TheVariants.{Rests, Registers, Outside, Enters, Inside, Settles, Leaves, Left, Frees}
 use Rattle.seize_shared.specs.declared.view.Why.TheVariants.{Retiring, Ending}
@@ -59,8 +60,8 @@ works_on_own (Registers c) short t e = absurd (by c.stands short.1 e)
 works_on_own (Outside s) short t e = absurd (omega (arith, e))
 works_on_own (Enters s) short t e = (world.Changing, ap (λ (k : ℕ). Some (k, world.Changing)) (omega (arith, e)))
 works_on_own (Inside s has) short t e = absurd (omega (arith, e))
-works_on_own (Settles c Retiring seen) short t e = (world.Inside 1, ap (λ (k : ℕ). Some (k, world.Inside 1)) (omega (arith, e)))
-works_on_own (Settles c (Ending size way) seen) short t e = (world.Changing, ap (λ (k : ℕ). Some (k, world.Changing)) (omega (arith, e)))
+works_on_own (Settles c Retiring seen left) short t e = (world.Inside 1, ap (λ (k : ℕ). Some (k, world.Inside 1)) (omega (arith, e)))
+works_on_own (Settles c (Ending size way) seen left) short t e = (world.Changing, ap (λ (k : ℕ). Some (k, world.Changing)) (omega (arith, e)))
 works_on_own (Leaves s size way) short t e = (world.Changing, ap (λ (k : ℕ). Some (k, world.Changing)) (omega (arith, e)))
 works_on_own (Left s size way) short t e = (world.Changing, ap (λ (k : ℕ). Some (k, world.Changing)) (omega (arith, e)))
 works_on_own (Frees s) short t e = (world.Changing, ap (λ (k : ℕ). Some (k, world.Changing)) (omega (arith, e)))
@@ -122,12 +123,33 @@ module _ {T : Type 0} (defers : T → Option ℕ) (fixed : Fixed) (s : State T (
   pub world_rooted : length w.memory.roots ≡ fixed.roots
   world_rooted = subst (λ (m : Mem T). length m.roots ≡ fixed.roots) h.memory h.rooted
 
+  -- and no value keeps a list
+  pub world_plain : ArePlain defers w.memory
+  world_plain = subst (λ (m : Mem T). ArePlain defers m) h.memory h.plain
+
+  -- a step of its row, after which none does
+  pub step_of : (n : World T) → Steps' defers id (row_of v) w n → Steps' defers id (w.row id) w n
+  step_of n taken = subst (λ (row : Row). Steps' defers id row w n) (sym (h.seats id v at_id).row) taken
+
+  pub step_plain : (n : World T) → Steps' defers id (w.row id) w n → ArePlain defers n.memory
+  step_plain n step b x there = by (cases_eq (times b (taken_in d.effects)) 0)
+    where
+      r : Reached defers fixed.batch_size w
+      r = reached defers fixed w h.came
+
+      d : RowStepped defers id w n
+      d = did defers fixed.batch_size w r id n step
+
+      by : (times b (taken_in d.effects) ≡ 0) ⊎ (times b (taken_in d.effects) ≢ 0) → defers x ≡ None
+      by (inl e) = world_plain b x (sym (d.frames.values b e) ∙ there)
+      by (inr ne) = let none = taken_gone defers fixed.batch_size w r id n step b ne in absurd (cc (there, none))
+
   pub begun : (request : Request) (u : View T) (n : World T) → Happens defers fixed.batch_size (Begin id request) w n → n.memory ≡ w.memory → n.log ≡ w.log
       → ((j b : ℕ) → j ≢ id → (w.hand b ≡ world.Making j → n.hand b ≡ world.Making j) × (w.hand b ≡ world.Cutting j → n.hand b ≡ world.Cutting j))
       → ((b r : ℕ) → w.hand b ≡ world.InUse r → n.hand b ≡ world.InUse r)
       → ((j : ℕ) → j ≢ id → n.row j ≡ w.row j) → ((t : ℕ) → ((a : Use) → use_of v ≡ Some (t, a) → ⊥) → n.uses t ≡ w.uses t) → Fits n id u
-      → ((t : ℕ) (b : Use) → use_of u ≡ Some (t, b) → (a : Use) × (use_of v ≡ Some (t, a))) → Moved defers fixed s id u s.memory n
-  begun request u n happens memory log hands linked rows uses own stays = record {
+      → ((t : ℕ) (b : Use) → use_of u ≡ Some (t, b) → (a : Use) × (use_of v ≡ Some (t, a))) → IsBounded defers fixed n id u → Moved defers fixed s id u s.memory n
+  begun request u n happens memory log hands linked rows uses own stays bounded = record {
     came = came_then defers fixed w n (Begin id request) h.came happens;
     memory = h.memory ∙ sym memory;
     rows = rows;
@@ -140,12 +162,18 @@ module _ {T : Type 0} (defers : T → Option ℕ) (fixed : Fixed) (s : State T (
     over = λ t b held. ap (is_over b) log;
     roots = roots_kept s.memory s.memory w.hand n.hand refl linked h.roots;
     rooted = h.rooted;
+    plain = plain;
+    passes = λ j ne. (Begin id request ∷ [], (n, (λ e. ne (sym e)), happens, plain, refl));
+    bounded = bounded;
   }
+    where
+      plain : ArePlain defers n.memory
+      plain = subst (λ (m : Mem T). ArePlain defers m) (sym memory) world_plain
 
   pub stepped : (u : View T) (m : Mem T) (n : World T) → Steps' defers id (row_of v) w n → m ≡ n.memory → Fits n id u
       → ((j t : ℕ) (x : View T) (a b : Use) → j ≢ id → view_of s j ≡ Some x → use_of x ≡ Some (t, a) → use_of u ≡ Some (t, b) → ⊥)
-      → Moved defers fixed s id u m n
-  stepped u m n taken memory own lone = record {
+      → IsBounded defers fixed n id u → Moved defers fixed s id u m n
+  stepped u m n taken memory own lone bounded = record {
     came = came_then defers fixed w n (Step id) h.came step;
     memory = memory;
     rows = d.rows;
@@ -159,6 +187,9 @@ module _ {T : Type 0} (defers : T → Option ℕ) (fixed : Fixed) (s : State T (
     over = λ t b held. ap (is_over b) d.logged ∙ not_over b d.effects w.log d.one;
     roots = roots_kept w.memory m w.hand n.hand same_roots (λ b r is. kept b (world.InUse r) tt is) world_roots;
     rooted = ap length same_roots ∙ world_rooted;
+    plain = step_plain n step;
+    passes = λ j ne. (Step id ∷ [], (n, (λ e. ne (sym e)), step, step_plain n step, refl));
+    bounded = bounded;
   }
     where
       fit : Fits w id v
@@ -168,7 +199,7 @@ module _ {T : Type 0} (defers : T → Option ℕ) (fixed : Fixed) (s : State T (
       r = reached defers fixed w h.came
 
       step : Steps' defers id (w.row id) w n
-      step = subst (λ (row : Row). Steps' defers id row w n) (sym fit.row) taken
+      step = step_of n taken
 
       d : RowStepped defers id w n
       d = did defers fixed.batch_size w r id n step

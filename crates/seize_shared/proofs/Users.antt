@@ -1,11 +1,11 @@
 -- What a seat does within its section that is no step of a row, and that it goes on from there.
-use Rattle.std.specs.Prelude.{◌≢◌, Option, Some, IsSome, length}
-use Rattle.std.proofs.Common.{◌≡◌, ℕ, ◌+◌, List, true, false, sym, subst, ap, ◌∙◌}
+use Rattle.std.specs.Prelude.{◌≢◌, ◌++◌, Option, Some, IsSome, length}
+use Rattle.std.proofs.Common.{◌≡◌, ℕ, ◌+◌, List, [], ◌∷◌, true, false, refl, sym, subst, ap, ◌∙◌}
 use Rattle.seize_words.specs.Mem.{Mem, Took, value_at}
 use Rattle.seize_words.specs.Op.{Op, Out}
 use Rattle.seize.specs.declared.states.TheConstants.{LAST_SLOT}
 use Rattle.seize.specs.Law.{Effect, holds, is_over}
-use Rattle.seize.specs.World.{World, Use, Hand, with_at}
+use Rattle.seize.specs.World.{World, Use, Hand, Event, Happens, with_at}
 use Rattle.seize.specs.World as world
 use Rattle.seize_alone.proofs.Given.SeizeMoves.State.Ghost.{IsOwned}
 use Rattle.seize_alone.proofs.Given.SeizeMoves.Moves.Blocks.{never_held}
@@ -13,12 +13,14 @@ use Rattle.seize_rule.proofs.Points.Aside.{HandFits}
 use Rattle.seize_rule.proofs.Rows.Others.{with_other}
 use Rattle.seize_alone.proofs.Histories.Reached.{Reached}
 use Rattle.seize_seats.specs.State.{State, view_of, Goes}
+use Rattle.seize_shared.specs.Bounds.{IsOfOthers, ArePlain}
 use Rattle.seize_shared.specs.Rows.{use_of, IsInHand, RootsNameLinked, Fits, Came, Holds, Keeps}
 use Rattle.seize_shared.specs.declared.view.View.{View}
 use Rattle.seize_shared.specs.declared.view.View.TheVariants.{Inside}
 use Rattle.seize_shared.specs.declared.view.Has.{Has}
 use Rattle.seize_shared.specs.declared.view.Fixed.{Fixed}
-use Rattle.seize_shared.proofs.Moved.{StillHas, moved, still_used}
+use Rattle.seize_shared.proofs.Bounds.Passing.{both}
+use Rattle.seize_shared.proofs.Moved.{StillHas, Passes, moved, still_used}
 use Rattle.seize_shared.proofs.Steps.{alone}
 
 -- hands of different kinds, and of different holders
@@ -76,6 +78,18 @@ module _ {T : Type 0} (defers : T → Option ℕ) (fixed : Fixed) (s : State T (
     pub over : (a b : ℕ) → holds a b w.log ≡ true → is_over b n.log ≡ is_over b w.log
     pub roots : RootsNameLinked m n.hand
     pub rooted : length m.roots ≡ fixed.roots
+    pub plain : ArePlain defers n.memory
+    pub passes : Passes defers fixed s id n
+
+  -- one event of a user, and one more
+  pub passes_one : (e : Event T) (n : World T) → ((j : ℕ) → IsOfOthers j e) → Happens defers fixed.batch_size e w n → ArePlain defers n.memory → Passes defers fixed s id n
+  passes_one e n is happens plain j ne = (e ∷ [], (n, is j, happens, plain, refl))
+
+  pub passes_then : (n v : World T) (e : Event T) → ((j : ℕ) → IsOfOthers j e) → Passes defers fixed s id n → Happens defers fixed.batch_size e n v → ArePlain defers v.memory
+      → Passes defers fixed s id v
+  passes_then n v e is before happens plain j ne =
+      let p = before j ne in
+      (p.0 ++ e ∷ [], both defers fixed.batch_size j p.0 (e ∷ []) w n v p.1 (v, is j, happens, plain, refl))
 
 module _ {T : Type 0} (defers : T → Option ℕ) (fixed : Fixed) (s : State T (View T) (World T)) (id t : ℕ) (had : Has) (h : Holds defers fixed s)
     (at : view_of s id ≡ Some (Inside t had)) where
@@ -104,4 +118,7 @@ module _ {T : Type 0} (defers : T → Option ℕ) (fixed : Fixed) (s : State T (
         over = u.over;
         roots = u.roots;
         rooted = u.rooted;
+        plain = u.plain;
+        passes = u.passes;
+        bounded = tt;
       }) is

@@ -21,12 +21,12 @@ module _ {T : Type 0} (fixed : Fixed) where
   entering v = v
 
   abbrev pub retires : View T → View T
-  retires (Inside t (Cut b)) = Settles (retiring t fixed.batch_size (link_to b)) Retiring None
+  retires (Inside t (Cut b)) = Settles (retiring t fixed.batch_size (link_to b)) Retiring None 0
   retires v = v
 
   abbrev pub flushes : View T → View T
-  flushes (Inside t Nothing) = Settles (flushing t fixed.batch_size) Retiring None
-  flushes (Inside t (Seen b)) = Settles (flushing t fixed.batch_size) Retiring None
+  flushes (Inside t Nothing) = Settles (flushing t fixed.batch_size) Retiring None 0
+  flushes (Inside t (Seen b)) = Settles (flushing t fixed.batch_size) Retiring None 0
   flushes v = v
 
   abbrev pub leaving : View T → View T
@@ -44,8 +44,8 @@ module _ {T : Type 0} (fixed : Fixed) where
   left_with Active t = Inside t Nothing
 
   abbrev pub ended : View T → View T
-  ended (Settles c Retiring seen) = Inside c.slot Nothing
-  ended (Settles c (Ending size way) seen) = Left c.slot size way
+  ended (Settles c Retiring seen left) = Inside c.slot Nothing
+  ended (Settles c (Ending size way) seen left) = Left c.slot size way
   ended (Left t size way) = left_with way t
   ended v = v
 

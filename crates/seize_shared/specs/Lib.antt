@@ -1,3 +1,4 @@
+pub mod Bounds
 pub mod Rows
 pub mod Told
 pub mod Promises

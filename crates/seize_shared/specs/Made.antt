@@ -13,7 +13,7 @@ use Rattle.seize_shared.specs.declared.caller.Caller.{Caller}
 module _ {T : Type 0} where
   -- what a settling is about to look at
   abbrev pub shown_in : View T → ℕ → Option T
-  shown_in (Settles c why seen) b = shown_by seen b
+  shown_in (Settles c why seen left) b = shown_by seen b
   shown_in _ b = None
 
   abbrev pub shown_of : Caller T → ℕ → Option T
@@ -36,4 +36,9 @@ module _ {T : Type 0} where
 
   -- it has this settling under way
   abbrev pub IsSettling : Why → Settle → View T → Type 0
-  IsSettling why c v = (seen : Option (ℕ × T)) × (v ≡ Settles c why seen)
+  IsSettling why c v = (seen : Option (ℕ × T)) × (left : ℕ) × (v ≡ Settles c why seen left)
+
+  -- within so many further steps
+  abbrev pub left_in : View T → ℕ
+  left_in (Settles c why seen left) = left
+  left_in _ = 0

@@ -35,14 +35,14 @@ module _ {T : Type 0} (defers : T → Option ℕ) where
   abbrev pub op_of : View T → Option (Op T)
   op_of (Registers c) = op_in (register_plan {T = T} c)
   op_of (Enters t) = Some (Store (Slot t HEAD) ACTIVE)
-  op_of (Settles c why seen) = op_in (settle_plan defers c)
+  op_of (Settles c why seen left) = op_in (settle_plan defers c)
   op_of (Leaves t size way) = Some (Swap (Slot t HEAD) (head_of way))
   op_of (Frees t) = Some (Store (Slot t HEAD) FREE)
   op_of _ = None
 
 -- within a section of this slot a seat that has no block in its hand may begin to leave, or to refresh, or to try its batch
 abbrev pub IsFree : {T : Type 0} → Fixed → ℕ → View T → Type 0
-IsFree fixed t u = ((way : Becomes) × (u ≡ Leaves t fixed.batch_size way)) ⊎ (u ≡ Settles (flushing t fixed.batch_size) Retiring None)
+IsFree fixed t u = ((way : Becomes) × (u ≡ Leaves t fixed.batch_size way)) ⊎ (u ≡ Settles (flushing t fixed.batch_size) Retiring None 0)
 
 -- where a section has ended so
 abbrev pub IsLeft : {T : Type 0} → Becomes → ℕ → View T → Type 0
@@ -55,9 +55,9 @@ IsNext fixed Rests u = u ≡ Registers record { slot = 0; enters = false; stands
 IsNext fixed (Outside t) u = (u ≡ Enters t) ⊎ (u ≡ Frees t)
 IsNext fixed (Inside t Nothing) u = IsFree fixed t u
 IsNext fixed (Inside t (Seen b)) u = IsFree fixed t u
-IsNext fixed (Inside t (Cut b)) u = u ≡ Settles (retiring t fixed.batch_size (link_to b)) Retiring None
-IsNext fixed (Settles c Retiring seen) u = (c.stands ≡ settling_at.Over) × (u ≡ Inside c.slot Nothing)
-IsNext fixed (Settles c (Ending size way) seen) u = (c.stands ≡ settling_at.Over) × (u ≡ Left c.slot size way)
+IsNext fixed (Inside t (Cut b)) u = u ≡ Settles (retiring t fixed.batch_size (link_to b)) Retiring None 0
+IsNext fixed (Settles c Retiring seen left) u = (c.stands ≡ settling_at.Over) × (u ≡ Inside c.slot Nothing)
+IsNext fixed (Settles c (Ending size way) seen left) u = (c.stands ≡ settling_at.Over) × (u ≡ Left c.slot size way)
 IsNext fixed (Left t size way) u = IsLeft way t u
 IsNext fixed _ u = ⊥
 
@@ -125,5 +125,5 @@ module _ (T : Type 0) (defers : T → Option ℕ) where
   -- as is the one that a settling is to look at, with the value that was told
   abbrev pub LookedAreShown : Type 0
   LookedAreShown =
-      (fixed : Fixed) (id : ℕ) (c : Settle) (why : Why) (b : ℕ) (x : T) → Shown (Holds defers fixed) id (Settles c why (Some (b, x))) b
-      × ((y : T) → IsValueOf (Holds defers fixed) id (Settles c why (Some (b, x))) b y → y ≡ x)
+      (fixed : Fixed) (id : ℕ) (c : Settle) (why : Why) (b left : ℕ) (x : T) → Shown (Holds defers fixed) id (Settles c why (Some (b, x)) left) b
+      × ((y : T) → IsValueOf (Holds defers fixed) id (Settles c why (Some (b, x)) left) b y → y ≡ x)

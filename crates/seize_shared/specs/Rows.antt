@@ -17,6 +17,7 @@ use Rattle.seize.specs.Law.{holds, is_over}
 use Rattle.seize.specs.World.{World, Row, Hand, Event, Use, Runs, at_start}
 use Rattle.seize.specs.World as world
 use Rattle.seize_seats.specs.State.{State, view_of}
+use Rattle.seize_shared.specs.Bounds.{ArePlain, CountsWithin}
 use Rattle.seize_shared.specs.declared.view.View.{View}
 use Rattle.seize_shared.specs.declared.view.Becomes.{Becomes}
 use Rattle.seize_shared.specs.declared.view.Becomes.TheVariants.{Idle, Active}
@@ -56,7 +57,7 @@ row_of (Registers c) = world.Registers c
 row_of (Outside t) = world.Rests
 row_of (Enters t) = world.Enters record { slot = t }
 row_of (Inside t has) = world.Rests
-row_of (Settles c why seen) = settles_for why c
+row_of (Settles c why seen left) = settles_for why c
 row_of (Leaves t size way) = world.Leaves (leave_of t size way)
 row_of (Left t size way) = world.Leaves (standing (leave_of t size way) leaving_at.Over)
 row_of (Frees t) = world.Frees record { slot = t }
@@ -68,7 +69,7 @@ use_of (Registers c) = None
 use_of (Outside t) = Some (t, world.Outside 0)
 use_of (Enters t) = Some (t, world.Changing)
 use_of (Inside t has) = Some (t, world.Inside 0)
-use_of (Settles c why seen) = Some (c.slot, used_for why)
+use_of (Settles c why seen left) = Some (c.slot, used_for why)
 use_of (Leaves t size way) = Some (t, world.Changing)
 use_of (Left t size way) = Some (t, world.Changing)
 use_of (Frees t) = Some (t, world.Changing)
@@ -112,7 +113,7 @@ module _ {T : Type 0} where
 
   abbrev pub IsKnown : World T → ℕ → View T → Type 0
   IsKnown w j (Inside t has) = IsInHand w j t has
-  IsKnown w j (Settles c why seen) = IsLooked w.memory c seen
+  IsKnown w j (Settles c why seen left) = IsLooked w.memory c seen
   IsKnown w j _ = Unit {0}
 
   -- a root names no block, or one that is linked there
@@ -127,6 +128,11 @@ module _ {T : Type 0} where
     pub known : IsKnown w j v
 
 module _ {T : Type 0} (defers : T → Option ℕ) (fixed : Fixed) where
+  -- where the section of a seat has ended, its list is counted down within so many steps
+  abbrev pub IsBounded : World T → ℕ → View T → Type 0
+  IsBounded w j (Settles c (Ending size way) seen left) = CountsWithin defers fixed.batch_size j left w
+  IsBounded w j _ = Unit {0}
+
   -- the world came about from the start
   abbrev pub Came : World T → Type 0
   Came w = (events : List (Event T)) × Runs defers fixed.batch_size events (at_start defers fixed.roots) w
@@ -139,6 +145,8 @@ module _ {T : Type 0} (defers : T → Option ℕ) (fixed : Fixed) where
     pub apart : (j k t : ℕ) (a b : Use) (v u : View T) → view_of s j ≡ Some v → view_of s k ≡ Some u → use_of v ≡ Some (t, a) → use_of u ≡ Some (t, b) → j ≡ k
     pub roots : RootsNameLinked s.memory s.world.hand
     pub rooted : length s.memory.roots ≡ fixed.roots
+    pub plain : ArePlain defers s.memory
+    pub bounded : (j : ℕ) (v : View T) → view_of s j ≡ Some v → IsBounded s.world j v
 
 module _ {T : Type 0} where
   -- the section of a seat holds the block, which is not over

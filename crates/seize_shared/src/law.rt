@@ -1,4 +1,5 @@
 //! What is promised of the rule of the collector's rows.
+ghost use Rattle.seize_shared.specs.Bounds.{ListsAreCounted};
 ghost use Rattle.seize_shared.specs.Promises.{RulesStart, SeatsCome, RowsGoOn, RowsTurn, LookedAreShown};
 ghost use Rattle.seize_shared.specs.Promises.{BlocksAreMade, MadeAreTaken, MadeAreLinked, RootsAreSeen, RootsAreCleared, KnownAreShown};
 
@@ -22,4 +23,10 @@ pub fn sections_go_on<T: Defers>()
     ensures seen { RootsAreSeen T T.defers }
     ensures cleared { RootsAreCleared T T.defers }
     ensures known { KnownAreShown T T.defers }
+{}
+
+/// A list that was taken from a slot, as a section ends or is refreshed, is counted down within a number of steps of its row, whatever the others do meanwhile, as
+/// long as no value keeps a list.
+pub fn lists_are_counted<T: Defers>()
+    ensures counted { ListsAreCounted T.defers }
 {}

@@ -10,6 +10,6 @@ mod turns;
 mod view;
 
 pub use caller::Caller;
-pub use law::{rows_go_on, sections_go_on};
+pub use law::{lists_are_counted, rows_go_on, sections_go_on};
 pub use rows::OfRows;
 pub use view::{Becomes, Fixed, Has, View, Why};

@@ -1,7 +1,7 @@
 //! A caller as the memory of the rows that it has under way: it retires blocks, and leaves.
-ghost use Rattle.std.specs.Prelude.{◌≡◌, ◌≢◌, ◌<◌, ◌^◌, true, false};
+ghost use Rattle.std.specs.Prelude.{◌≡◌, ◌≢◌, ◌<◌, ◌^◌, ℕ, true, false};
 ghost use Rattle.seize.specs.declared.rows.settle.Settling.TheVariants.{Over};
-ghost use Rattle.seize_shared.specs.Made.{IsSettling};
+ghost use Rattle.seize_shared.specs.Made.{IsSettling, left_in};
 ghost use Rattle.seize_shared.specs.Promises.{IsLooking};
 ghost use Rattle.seize_shared.specs.Told.{list_taken};
 ghost use Rattle.seize_shared.specs.declared.view.Becomes.{Becomes};
@@ -9,6 +9,7 @@ ghost use Rattle.seize_shared.specs.declared.view.Has.{Has};
 ghost use Rattle.seize_shared.specs.declared.view.Has.TheVariants.{Nothing, Cut};
 ghost use Rattle.seize_shared.specs.declared.view.View.TheVariants.{Outside, Inside, Left};
 ghost use Rattle.seize_shared.specs.declared.view.Why.{Why};
+ghost use Rattle.seize_shared.specs.declared.view.Why.TheVariants.{Ending as Counting};
 
 use crate::caller::Caller;
 use crate::turns::{Ending, Flushing, Leaving, Refreshing, Retiring};
@@ -32,6 +33,7 @@ impl<'a, T: Defers> Caller<'a, T> {
         requires settling { (why : Why) × IsSettling why row.old self.old.seat.view }
         requires not { row.old.stands ≢ Over }
         ensures settling { (why : Why) → IsSettling why row.old self.old.seat.view → IsSettling why row.new self.new.seat.view }
+        ensures falls { (size : ℕ) (way : Becomes) → IsSettling (Counting size way) row.old self.old.seat.view → left_in self.new.seat.view < left_in self.old.seat.view }
         ensures slot { row.new.slot ≡ row.old.slot }
         ensures blocks { self.new.blocks ≡ self.old.blocks }
     {
@@ -60,10 +62,24 @@ impl<'a, T: Defers + Drop> Caller<'a, T> {
         unreachable!()
     }
 
+    /// Takes a settling to its end that counts a list down: others can't make that longer. A value that is reclaimed is dropped.
+    fn counts(&mut self, row: &mut Settle)
+        requires settling { (size : ℕ) × (way : Becomes) × IsSettling (Counting size way) row.old self.old.seat.view }
+        ensures settling { (size : ℕ) (way : Becomes) → IsSettling (Counting size way) row.old self.old.seat.view
+            → IsSettling (Counting size way) row.new self.new.seat.view }
+        ensures over { row.new.stands ≡ Over }
+        ensures slot { row.new.slot ≡ row.old.slot }
+        ensures blocks { self.new.blocks ≡ self.old.blocks }
+    {
+        while !is_over(row) {
+            drop(self.steps(row));
+        }
+    }
+
     /// Counts a list down that was taken from its slot.
-    fn counts_down<W: Wait>(&mut self, rt: &W, slot: u64, head: u64)
-        requires taken { (way : Becomes) × (self.old.seat.view ≡ list_taken slot self.old.blocks.now.words.fixed.batch_size way head) }
-        ensures left { (way : Becomes) → self.old.seat.view ≡ list_taken slot self.old.blocks.now.words.fixed.batch_size way head
+    fn counts_down(&mut self, slot: u64, head: u64)
+        requires taken { (way : Becomes) × (left : ℕ) × (self.old.seat.view ≡ list_taken slot self.old.blocks.now.words.fixed.batch_size way head left) }
+        ensures left { (way : Becomes) (left : ℕ) → self.old.seat.view ≡ list_taken slot self.old.blocks.now.words.fixed.batch_size way head left
             → self.new.seat.view ≡ Left slot self.old.blocks.now.words.fixed.batch_size way }
         ensures blocks { self.new.blocks ≡ self.old.blocks }
     {
@@ -71,24 +87,24 @@ impl<'a, T: Defers + Drop> Caller<'a, T> {
             return;
         }
         let mut row = Settle::count_down(slot, self.batch_size, head);
-        self.settles(rt, &mut row);
+        self.counts(&mut row);
         self.blocks.turn::<Ending>(&mut self.seat);
     }
 
     /// Ends the section: what its slot's list owes is settled. A value that is reclaimed is dropped.
-    pub fn leave<W: Wait>(&mut self, rt: &W, slot: u64)
+    pub fn leave(&mut self, slot: u64)
         requires inside { (has : Has) × IsLooking has × (self.old.seat.view ≡ Inside slot has) }
         ensures outside { self.new.seat.view ≡ Outside slot }
         ensures blocks { self.new.blocks ≡ self.old.blocks }
     {
         self.blocks.turn::<Leaving>(&mut self.seat);
         let head = self.blocks.swap(&mut self.seat, At::Slot(slot, HEAD), IDLE);
-        self.counts_down(rt, slot, head);
+        self.counts_down(slot, head);
         self.blocks.turn::<Ending>(&mut self.seat);
     }
 
     /// Ends the section and begins the next one, by one step. What it has seen it doesn't know any more. A value that is reclaimed is dropped.
-    pub fn refresh<W: Wait>(&mut self, rt: &W, slot: u64)
+    pub fn refresh(&mut self, slot: u64)
         requires inside { (has : Has) × IsLooking has × (self.old.seat.view ≡ Inside slot has) }
         ensures inside { self.new.seat.view ≡ Inside slot Nothing }
         ensures blocks { self.new.blocks ≡ self.old.blocks }
@@ -97,7 +113,7 @@ impl<'a, T: Defers + Drop> Caller<'a, T> {
         let head = self
             .blocks
             .swap(&mut self.seat, At::Slot(slot, HEAD), ACTIVE);
-        self.counts_down(rt, slot, head);
+        self.counts_down(slot, head);
         self.blocks.turn::<Ending>(&mut self.seat);
     }
 

@@ -20,7 +20,7 @@ fn goes<W: Wait>(rt: &W, ground: &Ground<'_, Counted>, drops: &Table, from: usiz
     let mut put = 0;
     let mut stale = false;
     for turn in 0..TIMES {
-        if let Some(old) = looks(rt, &mut caller, slot) {
+        if let Some(old) = looks(&mut caller, slot) {
             stale = stale || old;
         }
         caller.enter(slot);
@@ -33,11 +33,11 @@ fn goes<W: Wait>(rt: &W, ground: &Ground<'_, Counted>, drops: &Table, from: usiz
         ) {
             put = u64::wrapping_add(put, 1);
         }
-        caller.leave(rt, slot);
+        caller.leave(slot);
     }
     caller.enter(slot);
     clears(rt, &mut caller, slot);
-    caller.leave(rt, slot);
+    caller.leave(slot);
     caller.unregister(slot);
     if stale { None } else { Some(put) }
 }

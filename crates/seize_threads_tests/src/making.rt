@@ -5,7 +5,6 @@ use crate::ground::{Ground, SIZE};
 use seize::rows::Defers;
 use seize_blocks::Home;
 use seize_shared::{Caller, Fixed, OfRows};
-use std::sync::Wait;
 use std::test::Fail;
 use std::thread;
 
@@ -25,12 +24,7 @@ impl Defers for Number {
 
 /// Makes a block within a section, looks at its value, and takes it away, so many times, each time with another value. It answers how often it found what it
 /// had put in.
-fn make_and_take<W: Wait>(
-    rt: &W,
-    ground: &Ground<'_, Number>,
-    from: u64,
-    times: u64,
-) -> Option<u64> {
+fn make_and_take(ground: &Ground<'_, Number>, from: u64, times: u64) -> Option<u64> {
     let mut caller = Caller::new(ground.blocks, SIZE);
     let slot = caller.register().ok()?;
     let mut found = 0;
@@ -43,7 +37,7 @@ fn make_and_take<W: Wait>(
                 found += 1;
             }
         }
-        caller.leave(rt, slot);
+        caller.leave(slot);
     }
     caller.unregister(slot);
     Some(found)
@@ -66,8 +60,8 @@ fn two_threads_find_what_they_have_made(rt: HostRuntime) -> Result<(), Fail> {
     };
     let (first, second) = thread::join(
         &rt,
-        || make_and_take(&rt, &ground, 0, 20_000),
-        || make_and_take(&rt, &ground, 1_000_000, 20_000),
+        || make_and_take(&ground, 0, 20_000),
+        || make_and_take(&ground, 1_000_000, 20_000),
     );
     assert_eq!(rt; first, Some(20_000));
     assert_eq!(rt; second, Some(20_000));

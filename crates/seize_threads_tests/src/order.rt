@@ -88,7 +88,7 @@ fn retires<W: Wait>(rt: &W, ground: &Ground<'_, Numbered>, numbers: &Table) -> O
         caller.flush(rt, slot);
     }
     let early = at(numbers, 0);
-    caller.leave(rt, slot);
+    caller.leave(slot);
     caller.unregister(slot);
     Some(early)
 }
@@ -116,17 +116,17 @@ fn fills<W: Wait>(rt: &W, ground: &Ground<'_, Numbered>, numbers: &Table) -> Opt
         }
     }
     clears(rt, &mut caller, slot);
-    caller.leave(rt, slot);
+    caller.leave(slot);
     caller.unregister(slot);
     Some(at(numbers, 0))
 }
 
 /// Ends the section of a caller that was made elsewhere.
-fn leaves<W: Wait>(rt: &W, caller: Caller<'_, Numbered>, slot: u64)
+fn leaves(caller: Caller<'_, Numbered>, slot: u64)
     requires { caller.seat.view ≡ Inside slot Nothing }
 {
     let mut caller = caller;
-    caller.leave(rt, slot);
+    caller.leave(slot);
     caller.unregister(slot);
 }
 
@@ -141,7 +141,7 @@ fn sends<R: Threads + Wait + Sync>(
     let slot = caller.register().ok()?;
     caller.enter(slot);
     let early = fills(rt, ground, numbers)?;
-    thread::join(rt, move || leaves(rt, caller, slot), || ());
+    thread::join(rt, move || leaves(caller, slot), || ());
     Some((early, at(numbers, 0)))
 }
 
@@ -155,9 +155,9 @@ fn refreshes<W: Wait>(
     let slot = caller.register().ok()?;
     caller.enter(slot);
     let early = fills(rt, ground, numbers)?;
-    caller.refresh(rt, slot);
+    caller.refresh(slot);
     let then = at(numbers, 0);
-    caller.leave(rt, slot);
+    caller.leave(slot);
     caller.unregister(slot);
     Some((early, then))
 }

@@ -118,17 +118,17 @@ fn writes<W: Wait>(
         if puts(rt, &mut caller, slot, drops, place) {
             put = u64::wrapping_add(put, 1);
         }
-        caller.leave(rt, slot);
+        caller.leave(slot);
     }
     caller.enter(slot);
     clears(rt, &mut caller, slot);
-    caller.leave(rt, slot);
+    caller.leave(slot);
     caller.unregister(slot);
     Some(put)
 }
 
 /// Looks at the root within a section, and tells whether the value that it has seen there had been dropped, if there was one.
-pub(crate) fn looks<W: Wait>(rt: &W, caller: &mut Caller<'_, Counted>, slot: u64) -> Option<bool>
+pub(crate) fn looks(caller: &mut Caller<'_, Counted>, slot: u64) -> Option<bool>
     requires outside { caller.old.seat.view ≡ Outside slot }
     requires root { 0 < caller.old.blocks.now.words.fixed.roots }
     ensures outside { caller.new.seat.view ≡ Outside slot }
@@ -136,25 +136,25 @@ pub(crate) fn looks<W: Wait>(rt: &W, caller: &mut Caller<'_, Counted>, slot: u64
 {
     caller.enter(slot);
     let Some(block) = caller.see(slot, 0) else {
-        caller.leave(rt, slot);
+        caller.leave(slot);
         return None;
     };
     let value = caller.value(slot, block);
     let before = dropped(&value.drops, value.place);
     thread::yield_now();
     let stale = before != 0 || dropped(&value.drops, value.place) != 0;
-    caller.leave(rt, slot);
+    caller.leave(slot);
     Some(stale)
 }
 
 /// Looks at the root so many times, and tells how often it has seen a value, or none where one of them had been dropped.
-fn reads<W: Wait>(rt: &W, ground: &Ground<'_, Counted>, times: usize) -> Option<u64> {
+fn reads(ground: &Ground<'_, Counted>, times: usize) -> Option<u64> {
     let mut caller = Caller::new(ground.blocks, SIZE);
     let slot = caller.register().ok()?;
     let mut seen = 0;
     let mut stale = false;
     for _ in 0..times {
-        if let Some(old) = looks(rt, &mut caller, slot) {
+        if let Some(old) = looks(&mut caller, slot) {
             stale = stale || old;
             seen = u64::wrapping_add(seen, 1);
         }
@@ -204,7 +204,7 @@ fn writes_beside_reads<R: Threads + Wait + Sync>(
     Ok(thread::join(
         rt,
         || writes(rt, &ground, drops, times),
-        || reads(rt, &ground, times),
+        || reads(&ground, times),
     ))
 }
 
@@ -231,13 +231,13 @@ fn replaces<W: Wait>(
     let slot = caller.register().ok()?;
     caller.enter(slot);
     let mut there = puts(rt, &mut caller, slot, drops, 0);
-    caller.leave(rt, slot);
+    caller.leave(slot);
     let seen = add(bell, 1) == 1 && sees(bell, 2);
     caller.enter(slot);
     for place in 1..6 {
         there = puts(rt, &mut caller, slot, drops, place) && there;
     }
-    caller.leave(rt, slot);
+    caller.leave(slot);
     let early = dropped(drops, 0);
     let left = add(bell, 1) == 3 && sees(bell, 4);
     caller.unregister(slot);
@@ -266,7 +266,7 @@ fn stays<W: Wait>(
     let replaced = add(bell, 1) == 2 && sees(bell, 3);
     let value = caller.value(slot, block);
     let kept = value.place == 0 && all_are(&value.drops, 5, 0);
-    caller.leave(rt, slot);
+    caller.leave(slot);
     let gone = all_are(drops, 5, 1);
     let met = add(bell, 1) == 4;
     caller.unregister(slot);

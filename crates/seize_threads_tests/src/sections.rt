@@ -6,7 +6,6 @@ use crate::ground::{Ground, SIZE};
 use seize::rows::Defers;
 use seize_blocks::{Blocks, Home};
 use seize_shared::{Caller, Fixed, OfRows};
-use std::sync::Wait;
 use std::test::Fail;
 use std::thread;
 
@@ -23,34 +22,34 @@ impl Defers for Plain {
 }
 
 /// Takes a slot, enters and leaves so many times, and gives it up; answers which it was.
-fn visit<W: Wait>(rt: &W, ground: &Ground<'_, Plain>, times: u64) -> Option<u64> {
+fn visit(ground: &Ground<'_, Plain>, times: u64) -> Option<u64> {
     let mut caller = Caller::new(ground.blocks, SIZE);
     let slot = caller.register().ok()?;
     for _ in 0..times {
         caller.enter(slot);
-        caller.leave(rt, slot);
+        caller.leave(slot);
     }
     caller.unregister(slot);
     Some(slot)
 }
 
 /// Is within a section until the other one has been there; answers the slot.
-fn stay<W: Wait>(rt: &W, ground: &Ground<'_, Plain>, bell: &Blocks<u64, OneRoot>) -> Option<u64> {
+fn stay(ground: &Ground<'_, Plain>, bell: &Blocks<u64, OneRoot>) -> Option<u64> {
     let mut caller = Caller::new(ground.blocks, SIZE);
     let slot = caller.register().ok()?;
     caller.enter(slot);
     let met = add(bell, 1) == 1 && sees(bell, 2);
-    caller.leave(rt, slot);
+    caller.leave(slot);
     caller.unregister(slot);
     if met { Some(slot) } else { None }
 }
 
 /// Waits until the other one is within a section, and is there then many times; answers the slot.
-fn pass<W: Wait>(rt: &W, ground: &Ground<'_, Plain>, bell: &Blocks<u64, OneRoot>) -> Option<u64> {
+fn pass(ground: &Ground<'_, Plain>, bell: &Blocks<u64, OneRoot>) -> Option<u64> {
     if !sees(bell, 1) {
         return None;
     }
-    let slot = visit(rt, ground, 20_000);
+    let slot = visit(ground, 20_000);
     if add(bell, 1) == 2 { slot } else { None }
 }
 
@@ -68,13 +67,9 @@ fn two_threads_enter_and_leave(rt: HostRuntime) -> Result<(), Fail> {
     let ground = Ground {
         blocks: &home.blocks,
     };
-    let (first, second) = thread::join(
-        &rt,
-        || visit(&rt, &ground, 20_000),
-        || visit(&rt, &ground, 20_000),
-    );
+    let (first, second) = thread::join(&rt, || visit(&ground, 20_000), || visit(&ground, 20_000));
     assert!(rt; first.is_some() && second.is_some());
-    assert_eq!(rt; visit(&rt, &ground, 1), Some(0));
+    assert_eq!(rt; visit(&ground, 1), Some(0));
     Ok(())
 }
 
@@ -94,11 +89,7 @@ fn one_is_within_a_section_while_another_enters_and_leaves(rt: HostRuntime) -> R
         blocks: &home.blocks,
     };
     let bell = &gate.blocks;
-    let (first, second) = thread::join(
-        &rt,
-        || stay(&rt, &ground, bell),
-        || pass(&rt, &ground, bell),
-    );
+    let (first, second) = thread::join(&rt, || stay(&ground, bell), || pass(&ground, bell));
     assert_eq!(rt; first, Some(0));
     assert_eq!(rt; second, Some(1));
     Ok(())

@@ -21,8 +21,8 @@ settles-requires g c =
     let row : c.flush-row.result ≡ flushing c.args.slot fixed.batch_size = c.flush-row.ensures ∙ ap (flushing c.args.slot) (sym x.sized) in
     let begins =
     c.turn.ensures.goes ∙ ap (flushes fixed) c.requires.inside.2 ∙ flushes_so g.row.T.Denot fixed c.args.slot has c.requires.inside.1
-    ∙ ap (λ (r : Settle). Settles r Retiring None) (sym row) in
-    record { settling = (Retiring, (None, begins)) }
+    ∙ ap (λ (r : Settle). Settles r Retiring None 0) (sym row) in
+    record { settling = (Retiring, (None, 0, begins)) }
 
 pub turn-requires-2-clause-may : goal.turn-requires-2-clause-may
 turn-requires-2-clause-may g c =
@@ -30,9 +30,9 @@ turn-requires-2-clause-may g c =
     let row : c.flush-row.result ≡ flushing c.args.slot fixed.batch_size = c.flush-row.ensures ∙ ap (flushing c.args.slot) (sym x.sized) in
     let begins =
     c.turn.ensures.goes ∙ ap (flushes fixed) c.requires.inside.2 ∙ flushes_so g.row.T.Denot fixed c.args.slot has c.requires.inside.1
-    ∙ ap (λ (r : Settle). Settles r Retiring None) (sym row) in
-    let k = c.settles.ensures.settling Retiring (None, begins) in let n = c.settles.new.self in
-    may_turn g.T.Defers.defers n.blocks.now.words.fixed n.seat.id n.seat.view (Settles c.settles.new.row Retiring k.0) k.1 ended
+    ∙ ap (λ (r : Settle). Settles r Retiring None 0) (sym row) in
+    let k = c.settles.ensures.settling Retiring (None, 0, begins) in let n = c.settles.new.self in
+    may_turn g.T.Defers.defers n.blocks.now.words.fixed n.seat.id n.seat.view (Settles c.settles.new.row Retiring k.0 k.1) k.2 ended
     (c.settles.ensures.over, refl)
 
 pub returns-clause-inside : goal.returns-clause-inside
@@ -41,7 +41,7 @@ returns-clause-inside g c =
     let row : c.flush-row.result ≡ flushing c.args.slot fixed.batch_size = c.flush-row.ensures ∙ ap (flushing c.args.slot) (sym x.sized) in
     let begins =
     c.turn.ensures.goes ∙ ap (flushes fixed) c.requires.inside.2 ∙ flushes_so g.row.T.Denot fixed c.args.slot has c.requires.inside.1
-    ∙ ap (λ (r : Settle). Settles r Retiring None) (sym row) in
-    let k = c.settles.ensures.settling Retiring (None, begins) in
-    c.turn-2.ensures.goes ∙ ap (ended c.settles.new.self.blocks.now.words.fixed) k.1
+    ∙ ap (λ (r : Settle). Settles r Retiring None 0) (sym row) in
+    let k = c.settles.ensures.settling Retiring (None, 0, begins) in
+    c.turn-2.ensures.goes ∙ ap (ended c.settles.new.self.blocks.now.words.fixed) k.2
     ∙ ap (λ (t : ℕ). Inside t Nothing) (c.settles.ensures.slot ∙ ap (λ (r : Settle). r.slot) row)

@@ -29,7 +29,7 @@ counts_down-requires g c =
     let told =
     list_told g.T.Defers.defers c.turn.new.seat.view c.swap-head.new.seat.view c.args.slot fixed.batch_size Active ACTIVE c.swap-head.result leaves
     c.swap-head.ensures.goes in
-    record { taken = (Active, told) }
+    record { taken = (Active, told.0, told.1) }
 
 pub turn-requires-2-clause-may : goal.turn-requires-2-clause-may
 turn-requires-2-clause-may g c =
@@ -40,7 +40,7 @@ turn-requires-2-clause-may g c =
     list_told g.T.Defers.defers c.turn.new.seat.view c.swap-head.new.seat.view c.args.slot fixed.batch_size Active ACTIVE c.swap-head.result leaves
     c.swap-head.ensures.goes in
     may_turn g.T.Defers.defers x.blocks.now.words.fixed x.seat.id x.seat.view (Left c.args.slot fixed.batch_size Active)
-    (c.counts_down.ensures.left Active told) ended refl
+    (c.counts_down.ensures.left Active told.0 told.1) ended refl
 
 pub returns-clause-inside : goal.returns-clause-inside
 returns-clause-inside g c =
@@ -50,4 +50,4 @@ returns-clause-inside g c =
     let told =
     list_told g.T.Defers.defers c.turn.new.seat.view c.swap-head.new.seat.view c.args.slot fixed.batch_size Active ACTIVE c.swap-head.result leaves
     c.swap-head.ensures.goes in
-    c.turn-2.ensures.goes ∙ ap (ended c.counts_down.new.self.blocks.now.words.fixed) (c.counts_down.ensures.left Active told)
+    c.turn-2.ensures.goes ∙ ap (ended c.counts_down.new.self.blocks.now.words.fixed) (c.counts_down.ensures.left Active told.0 told.1)

@@ -21,10 +21,10 @@ turn-requires-2-clause-may g c =
     let row : c.retire-row.result ≡ retiring c.args.slot fixed.batch_size (link_to c.args.block) =
     c.retire-row.ensures ∙ ap (λ (n : ℕ). retiring c.args.slot n c.to.result) (sym x.sized)
     ∙ ap (retiring c.args.slot fixed.batch_size) (c.to.ensures ∙ whole_link c.args.block c.requires.fits) in
-    let begins = c.turn.ensures.goes ∙ ap (retires fixed) c.requires.cut ∙ ap (λ (r : Settle). Settles r Retiring None) (sym row) in
-    let k = c.settles.ensures.settling Retiring (None, begins) in
+    let begins = c.turn.ensures.goes ∙ ap (retires fixed) c.requires.cut ∙ ap (λ (r : Settle). Settles r Retiring None 0) (sym row) in
+    let k = c.settles.ensures.settling Retiring (None, 0, begins) in
     let n = c.settles.new.self in
-    may_turn g.T.Defers.defers n.blocks.now.words.fixed n.seat.id n.seat.view (Settles c.settles.new.row Retiring k.0) k.1 ended
+    may_turn g.T.Defers.defers n.blocks.now.words.fixed n.seat.id n.seat.view (Settles c.settles.new.row Retiring k.0 k.1) k.2 ended
     (c.settles.ensures.over, refl)
 
 pub returns-clause-inside : goal.returns-clause-inside
@@ -33,7 +33,7 @@ returns-clause-inside g c =
     let row : c.retire-row.result ≡ retiring c.args.slot fixed.batch_size (link_to c.args.block) =
     c.retire-row.ensures ∙ ap (λ (n : ℕ). retiring c.args.slot n c.to.result) (sym x.sized)
     ∙ ap (retiring c.args.slot fixed.batch_size) (c.to.ensures ∙ whole_link c.args.block c.requires.fits) in
-    let begins = c.turn.ensures.goes ∙ ap (retires fixed) c.requires.cut ∙ ap (λ (r : Settle). Settles r Retiring None) (sym row) in
-    let k = c.settles.ensures.settling Retiring (None, begins) in
-    c.turn-2.ensures.goes ∙ ap (ended c.settles.new.self.blocks.now.words.fixed) k.1
+    let begins = c.turn.ensures.goes ∙ ap (retires fixed) c.requires.cut ∙ ap (λ (r : Settle). Settles r Retiring None 0) (sym row) in
+    let k = c.settles.ensures.settling Retiring (None, 0, begins) in
+    c.turn-2.ensures.goes ∙ ap (ended c.settles.new.self.blocks.now.words.fixed) k.2
     ∙ ap (λ (t : ℕ). Inside t Nothing) (c.settles.ensures.slot ∙ ap (λ (r : Settle). r.slot) row)

@@ -1,0 +1,8 @@
+-- A list that was taken from a slot is counted down within a number of steps, whatever the others do meanwhile.
+pub mod Beside
+pub mod Entries
+pub mod Machine
+pub mod Passing
+pub mod Hands
+pub mod Steps
+pub mod Within
