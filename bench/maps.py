@@ -95,7 +95,7 @@ def table(maps, given):
 def main():
     parser = argparse.ArgumentParser(description=__doc__, formatter_class=argparse.RawDescriptionHelpFormatter)
     parser.add_argument("program", nargs="?", default=BUILT)
-    parser.add_argument("--keys", nargs="+", type=int, default=[10_000, 1_000_000])
+    parser.add_argument("--keys", nargs="+", type=int, default=[10_000, 100_000, 1_000_000])
     parser.add_argument("--kinds", nargs="+", choices=KINDS, default=KINDS)
     parser.add_argument("--turns", type=int, default=1_000_000)
     parser.add_argument("--runs", type=int, default=5)
