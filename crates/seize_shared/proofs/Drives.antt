@@ -114,7 +114,8 @@ module _ {T : Type 0} (defers : T → Option ℕ) where
           (g.seen, g.now, g.view ∙ ap (λ (x : Settle × Settled T). Settles x.0 why g.seen g.now) (sym same)),
           ap (λ (x : Settle × Settled T). x.0.slot) same ∙ g.slot,
           k.2.blocks,
-          subst (λ (l : ℕ). FallsFor why l (left_in n.seat.view)) (sym (ap left_in is.2)) (subst (λ (l : ℕ). FallsFor why is.1 l) (sym (ap left_in g.view)) g.falls),
+          subst (λ (l : ℕ). FallsFor why l (left_in n.seat.view)) (sym (ap left_in is.2))
+              (subst (λ (l : ℕ). FallsFor why is.1 l) (sym (ap left_in g.view)) g.falls),
         )
 
 module _ (T : Type 0) (defers : T → Option ℕ) where

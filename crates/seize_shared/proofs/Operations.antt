@@ -83,13 +83,15 @@ module _ {T : Type 0} (defers : T → Option ℕ) (fixed : Fixed) where
           (alone defers fixed s id (Frees t) h at Rests (λ x b e. absurd (cc e))) tt)
           refl
 
-  pub leaves : (id t size : ℕ) (way : Becomes) → Allows H Keeps id (Leaves t size way) (Swap (Slot t HEAD) (head_of way)) (told defers (Leaves t size way) (Swap (Slot t HEAD) (head_of way)))
+  pub leaves : (id t size : ℕ) (way : Becomes)
+      → Allows H Keeps id (Leaves t size way) (Swap (Slot t HEAD) (head_of way)) (told defers (Leaves t size way) (Swap (Slot t HEAD) (head_of way)))
   leaves id t size way s h at = (can, λ out m took. by out m took)
     where
       can : Can s.memory (Swap (Slot t HEAD) (head_of way))
       can = subst (λ (m : Mem T). Can m (Swap (Slot t HEAD) (head_of way))) (sym h.memory) (may s id (Leaves t size way) h at).0
 
-      took_here : (head : ℕ) (m : Mem T) → Took s.memory (Swap (Slot t HEAD) (head_of way)) (Found head) m → Took s.world.memory (Swap (Slot t HEAD) (head_of way)) (Found head) m
+      took_here : (head : ℕ) (m : Mem T) → Took s.memory (Swap (Slot t HEAD) (head_of way)) (Found head) m
+          → Took s.world.memory (Swap (Slot t HEAD) (head_of way)) (Found head) m
       took_here head m took = subst (λ (x : Mem T). Took x (Swap (Slot t HEAD) (head_of way)) (Found head) m) h.memory took
 
       slot : (d : Leave) (m : Mem T) → (leaves_on s.world id (leave_of t size way) m (d, settled.Goes)).uses t ≡ world.Changing
@@ -100,7 +102,8 @@ module _ {T : Type 0} (defers : T → Option ℕ) (fixed : Fixed) where
       goes head m took true e =
           let d : Leave = standing (leave_of t size way) (leaving_at.Settles (counting_down t size head)) in
           let n : World T = leaves_on s.world id (leave_of t size way) m (d, settled.Goes) in
-          let taken : Steps' defers id (row_of (Leaves t size way)) s.world n = (m, (d, settled.Goes), (Found head, took_here head m took, rw e refl), refl) in
+          let taken : Steps' defers id (row_of {T = T} (Leaves t size way)) s.world n =
+          (m, (d, settled.Goes), (Found head, took_here head m took, rw e refl), refl) in
           let row : n.row id ≡ world.Leaves d = with_here s.world.row id (world.Leaves d) in
           let step = step_of defers fixed s id (Leaves t size way) h at n taken in
           let r = steps_reached defers fixed.batch_size id s.world n (reached defers fixed s.world h.came) step in

@@ -198,7 +198,8 @@ module _ {T : Type 0} (defers : T → Option ℕ) (fixed : Fixed) (s : State T (
             ];
             rooted = u.rooted;
             plain = u.plain;
-            passes = passes_then defers fixed s id t n v (Unlinks id (block_in old)) (λ j. tt) u.passes (subst (λ (k : Hand). MayCut id k) (sym mine) tt, refl) u.plain;
+            passes = passes_then defers fixed s id t n v (Unlinks id (block_in old)) (λ j. tt) u.passes
+                (subst (λ (k : Hand). MayCut id k) (sym mine) tt, refl) u.plain;
           }) so (at_view false e)
         where
           other : (c found : ℕ) → (block_in found ≡ 0) ⊎ (n.hand (block_in found) ≡ world.InUse c) → block_in found ≢ (block_in old)
@@ -260,7 +261,8 @@ module _ {T : Type 0} (defers : T → Option ℕ) (fixed : Fixed) (s : State T (
         roots = named;
         rooted = rooted_still a word old m took;
         plain = written_plain a word old m took;
-        passes = passes_then defers fixed s id t (record w { memory = m }) n (Links id b a) (λ j. tt) (written_passes a word old m took) ((id, mine), refl) (written_plain a word old m took);
+        passes = passes_then defers fixed s id t (record w { memory = m }) n (Links id b a) (λ j. tt) (written_passes a word old m took) ((id, mine), refl)
+            (written_plain a word old m took);
       }) named (λ c f. other c (world.InUse a) (use_making a id) f) was (fresh a word old m took was is_new)
     where
       new_block : (b a old : ℕ) → w.hand b ≡ world.Making id → (block_in old ≡ 0) ⊎ (w.hand (block_in old) ≡ world.InUse a) → (b ≡ 0) ⊎ (b ≢ 0)

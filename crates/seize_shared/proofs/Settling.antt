@@ -147,7 +147,8 @@ module _ {T : Type 0} (defers : T → Option ℕ) (fixed : Fixed) (s : State T (
   next : (y : Why) → why ≡ y → (n : World T) → Steps' defers id (w.row id) w n → ArePlain defers n.memory → is_over c.stands ≡ false → Next y n
   next Retiring e n step plain on = record { now = 0; falls = tt; bounded = λ d look. tt }
   next (Ending size way) e n step plain on =
-      let had : CountsWithin defers fixed.batch_size id left w = subst (λ (y : Why). IsBounded defers fixed w id (Settles c y seen left)) e (h.bounded id v at_id) in
+      let had : CountsWithin defers fixed.batch_size id left w =
+      subst (λ (y : Why). IsBounded defers fixed w id (Settles c y seen left)) e (h.bounded id v at_id) in
       let k = steps_within defers fixed.batch_size id left w n had not_counted step plain in
       record { now = k.0; falls = k.1; bounded = λ d look. k.2 }
     where
@@ -178,7 +179,8 @@ module _ {T : Type 0} (defers : T → Option ℕ) (fixed : Fixed) (s : State T (
         short = tt;
         known = subst (λ (x : Mem T). IsLooked x end.0 look.0) (memory why m end) look.2;
       })
-      (alone defers fixed s id v h at_id u (λ t b e. (used_for why, ap (λ (k : ℕ). used_as k (used_for why)) (sym slot ∙ slot_of (end.0.slot, used_for why) (t, b) e)))) (k.bounded end.0 look.0))
+      (alone defers fixed s id v h at_id u
+      (λ t b e. (used_for why, ap (λ (k : ℕ). used_as k (used_for why)) (sym slot ∙ slot_of (end.0.slot, used_for why) (t, b) e)))) (k.bounded end.0 look.0))
       (record {
         end = end;
         seen = look.0;

@@ -148,7 +148,8 @@ module _ {T : Type 0} (defers : T → Option ℕ) (fixed : Fixed) (s : State T (
       → ((j b : ℕ) → j ≢ id → (w.hand b ≡ world.Making j → n.hand b ≡ world.Making j) × (w.hand b ≡ world.Cutting j → n.hand b ≡ world.Cutting j))
       → ((b r : ℕ) → w.hand b ≡ world.InUse r → n.hand b ≡ world.InUse r)
       → ((j : ℕ) → j ≢ id → n.row j ≡ w.row j) → ((t : ℕ) → ((a : Use) → use_of v ≡ Some (t, a) → ⊥) → n.uses t ≡ w.uses t) → Fits n id u
-      → ((t : ℕ) (b : Use) → use_of u ≡ Some (t, b) → (a : Use) × (use_of v ≡ Some (t, a))) → IsBounded defers fixed n id u → Moved defers fixed s id u s.memory n
+      → ((t : ℕ) (b : Use) → use_of u ≡ Some (t, b) → (a : Use) × (use_of v ≡ Some (t, a))) → IsBounded defers fixed n id u
+      → Moved defers fixed s id u s.memory n
   begun request u n happens memory log hands linked rows uses own stays bounded = record {
     came = came_then defers fixed w n (Begin id request) h.came happens;
     memory = h.memory ∙ sym memory;

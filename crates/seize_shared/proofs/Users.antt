@@ -82,10 +82,12 @@ module _ {T : Type 0} (defers : T → Option ℕ) (fixed : Fixed) (s : State T (
     pub passes : Passes defers fixed s id n
 
   -- one event of a user, and one more
-  pub passes_one : (e : Event T) (n : World T) → ((j : ℕ) → IsOfOthers j e) → Happens defers fixed.batch_size e w n → ArePlain defers n.memory → Passes defers fixed s id n
+  pub passes_one : (e : Event T) (n : World T) → ((j : ℕ) → IsOfOthers j e) → Happens defers fixed.batch_size e w n → ArePlain defers n.memory
+      → Passes defers fixed s id n
   passes_one e n is happens plain j ne = (e ∷ [], (n, is j, happens, plain, refl))
 
-  pub passes_then : (n v : World T) (e : Event T) → ((j : ℕ) → IsOfOthers j e) → Passes defers fixed s id n → Happens defers fixed.batch_size e n v → ArePlain defers v.memory
+  pub passes_then : (n v : World T) (e : Event T) → ((j : ℕ) → IsOfOthers j e) → Passes defers fixed s id n → Happens defers fixed.batch_size e n v
+      → ArePlain defers v.memory
       → Passes defers fixed s id v
   passes_then n v e is before happens plain j ne =
       let p = before j ne in

@@ -25,8 +25,8 @@ pub fn sections_go_on<T: Defers>()
     ensures known { KnownAreShown T T.defers }
 {}
 
-/// A list that was taken from a slot, as a section ends or is refreshed, is counted down within a number of steps of its row, whatever the others do meanwhile, as
-/// long as no value keeps a list.
+/// A list that was taken from a slot, as a section ends or is refreshed, is counted down within a number of steps of its row, whatever the others
+/// do meanwhile, as long as no value keeps a list.
 pub fn lists_are_counted<T: Defers>()
     ensures counted { ListsAreCounted T.defers }
 {}

@@ -33,7 +33,8 @@ impl<'a, T: Defers> Caller<'a, T> {
         requires settling { (why : Why) × IsSettling why row.old self.old.seat.view }
         requires not { row.old.stands ≢ Over }
         ensures settling { (why : Why) → IsSettling why row.old self.old.seat.view → IsSettling why row.new self.new.seat.view }
-        ensures falls { (size : ℕ) (way : Becomes) → IsSettling (Counting size way) row.old self.old.seat.view → left_in self.new.seat.view < left_in self.old.seat.view }
+        ensures falls { (size : ℕ) (way : Becomes) → IsSettling (Counting size way) row.old self.old.seat.view
+            → left_in self.new.seat.view < left_in self.old.seat.view }
         ensures slot { row.new.slot ≡ row.old.slot }
         ensures blocks { self.new.blocks ≡ self.old.blocks }
     {

@@ -21,7 +21,9 @@ use Rattle.seize.specs.declared.rows.defer.Deferring.TheVariants as deferring
 use Rattle.seize.specs.Leave as leave
 use Rattle.seize.specs.Register as register
 use Rattle.seize.specs.Defer as defer
-use Rattle.seize.specs.World.{World, Row, Rests, Registers, Enters, Settles, Leaves, Defers, Frees, Event, Begin, Step, Makes, Drops, Links, Parts, Unlinks, Rewrites, Operates, Ends, LeavesOver, Relinks, Clears, Chooses, Happens, Steps', IsOwn, IsOwnOp, Hand, Making, LeftTo, Handed, made_by}
+use Rattle.seize.specs.World.{World, Row, Rests, Registers, Enters, Settles, Leaves, Defers, Frees, Event, Begin, Step, Makes, Drops, Links, Parts, Unlinks}
+use Rattle.seize.specs.World.{Rewrites, Operates, Ends, LeavesOver, Relinks, Clears, Chooses, Happens, Steps', IsOwn, IsOwnOp, Hand, Making, LeftTo, Handed}
+use Rattle.seize.specs.World.{made_by}
 use Rattle.seize.specs.Sequence.{IsBetween}
 use Rattle.seize_rule.proofs.Words.Named.{words_of, wrote, made_one, taken_one, write_apart}
 use Rattle.seize_rule.proofs.Words.View.{View, view_next}
@@ -58,7 +60,8 @@ module _ {T : Type 0} (hand : ℕ → Hand) (m : Mem T) where
     where
       go : (o : Option ℕ) → word_at m (Word b f) ≡ o → link_of (with_word m (Word b f) v) c ≡ link_of m c
       go None e = ap (λ (k : Mem T). link_of k c) (missing defers m (Word b f) v own e)
-      go (Some x) e = ap (λ (g : At → ℕ). g (Entry c LINK)) (wrote m (Word b f) v (subst IsSome (sym e) refl)).words ∙ write_apart (words_of m) (Word b f) v (Entry c LINK) refl
+      go (Some x) e = ap (λ (g : At → ℕ). g (Entry c LINK)) (wrote m (Word b f) v (subst IsSome (sym e) refl)).words
+          ∙ write_apart (words_of m) (Word b f) v (Entry c LINK) refl
 
   own_op : (defers : T → Option ℕ) (op : Op T) (out : Out T) → IsOwnOp defers m op → SameLinks hand m (after m op out)
   own_op defers (Load at) out own c h = refl
@@ -114,7 +117,8 @@ module _ {T : Type 0} (hand : ℕ → Hand) (m : Mem T) where
   rewrites b new old (Roomed (Ok a)) g c h = absurd g
   rewrites b new old (Roomed (Err a)) g c h = absurd g
 
-module _ {T : Type 0} (defers : T → Option ℕ) (size : ℕ) (w v : World T) (left : (b i : ℕ) → w.hand b ≡ LeftTo i → IsSome (word_at w.memory (Entry b NEXT))) where
+module _ {T : Type 0} (defers : T → Option ℕ) (size : ℕ) (w v : World T)
+    (left : (b i : ℕ) → w.hand b ≡ LeftTo i → IsSome (word_at w.memory (Entry b NEXT))) where
   abbrev So : Mem T → Type 0
   So m2 = SameLinks w.hand w.memory m2
 
@@ -141,7 +145,9 @@ module _ {T : Type 0} (defers : T → Option ℕ) (size : ℕ) (w v : World T) (
   users_links (LeavesOver i b further) u h = same w.hand w.memory v.memory (ap (λ (x : World T). x.memory) h.4)
   users_links (Relinks i b word) u h =
       to h.1 (ap (λ (x : World T). x.memory) h.4)
-      (subst So (sym h.3.1) (λ c k. ap (λ (g : View). g.links c) (view_next defers w.memory b word (with_word w.memory (Entry b NEXT) word) (wrote w.memory (Entry b NEXT) word (left b h.2.0 h.2.1)))))
+      (subst So (sym h.3.1)
+      (λ c k. ap (λ (g : View). g.links c)
+      (view_next defers w.memory b word (with_word w.memory (Entry b NEXT) word) (wrote w.memory (Entry b NEXT) word (left b h.2.0 h.2.1)))))
   users_links (Clears i b) u h =
       to h.1 (ap (λ (x : World T). x.memory) h.5) (subst So (sym h.4.1) (takes w.hand w.memory b h.0 (λ c k e. apart_left w.hand b c h.2.0 h.2.1 k e) h.4.0))
   users_links (Chooses choice) u h = to _ (ap (λ (x : World T). x.memory) h) (λ c k. refl)
@@ -176,13 +182,15 @@ module _ {T : Type 0} (defers : T → Option ℕ) (size : ℕ) (w v : World T) (
   register_links c registering.Registered looks m2 end st = absurd looks
   register_links c (registering.Refused fault) looks m2 end st = absurd looks
 
-  leave_links : (c : Leave) (p : Leaving) → IsSettled p → (m2 : Mem T) (end : Leave × Settled T) → Steps Took value_at w.memory (leave.plan_at defers c p) m2 end → So m2
+  leave_links : (c : Leave) (p : Leaving) → IsSettled p → (m2 : Mem T) (end : Leave × Settled T)
+      → Steps Took value_at w.memory (leave.plan_at defers c p) m2 end → So m2
   leave_links c leaving.Swaps is m2 end st = absurd is
   leave_links c (leaving.Settles settle) is m2 end st = absurd is
   leave_links c leaving.Frees is m2 end st = subst So (sym st.1.1) (λ c h. refl)
   leave_links c leaving.Over is m2 end st = subst So (sym st.0) (λ c h. refl)
 
-  defer_links : (c : Defer) → c.stands ≡ deferring.Over → (m2 : Mem T) (end : Defer × Progress Unit) → Steps Took value_at w.memory (defer.defer_plan c) m2 end → So m2
+  defer_links : (c : Defer) → c.stands ≡ deferring.Over → (m2 : Mem T) (end : Defer × Progress Unit)
+      → Steps Took value_at w.memory (defer.defer_plan c) m2 end → So m2
   defer_links c is m2 end st =
       let s = subst (λ (p : Deferring). Steps Took value_at w.memory (defer.plan_at c p) m2 end) is st in subst So (sym s.0) (λ c h. refl)
 

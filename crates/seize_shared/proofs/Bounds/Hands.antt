@@ -10,7 +10,9 @@ use Rattle.seize.specs.declared.rows.settle.Settling.TheVariants as at
 use Rattle.seize.specs.declared.rows.leave.Leave.{Leave}
 use Rattle.seize.specs.declared.rows.leave.Leaving.{Leaving}
 use Rattle.seize.specs.declared.rows.leave.Leaving.TheVariants as leaving
-use Rattle.seize.specs.World.{World, Row, Leaves, Event, Begin, Step, Makes, Drops, Links, Parts, Unlinks, Rewrites, Operates, Ends, LeavesOver, Relinks, Clears, Chooses, Happens, Hand, NoBlock, Making, InUse, Parting, Cutting, Handed, LeftTo, Request, Register', Enter', Leave', LeaveOwned, Refresh, Unregister', Retire, Flush, Defer'}
+use Rattle.seize.specs.World.{World, Row, Leaves, Event, Begin, Step, Makes, Drops, Links, Parts, Unlinks, Rewrites, Operates, Ends, LeavesOver, Relinks}
+use Rattle.seize.specs.World.{Clears, Chooses, Happens, Hand, NoBlock, Making, InUse, Parting, Cutting, Handed, LeftTo, Request, Register', Enter', Leave'}
+use Rattle.seize.specs.World.{LeaveOwned, Refresh, Unregister', Retire, Flush, Defer'}
 use Rattle.seize.specs.Sequence.{IsBetween}
 use Rattle.seize_alone.specs.Given.SeizeWaiting.Held.{count}
 use Rattle.seize_alone.proofs.Given.SeizeMoves.State.Ghost.{State, Entry, Life, IsLeft}
@@ -78,7 +80,8 @@ in_hand (Cutting i) l f e = absurd (let a = ap is_handed f in cc (a, e))
 in_hand Handed l f e = refl
 in_hand (LeftTo i) l f e = absurd (let a = ap is_handed f in cc (a, e))
 
-pub hand_at : (n j : ℕ) (f : View) (m : State) (x : Extra) (d : Settle) (p : Settling) → IsCounting p → FitsAt n j f m x (bare d) p → x.hand j ≡ list_word d.list
+pub hand_at : (n j : ℕ) (f : View) (m : State) (x : Extra) (d : Settle) (p : Settling) → IsCounting p → FitsAt n j f m x (bare d) p
+    → x.hand j ≡ list_word d.list
 hand_at n j f m x d at.Lists is r = r.rest.common.hand
 hand_at n j f m x d (at.Owns next) is r = r.lists.rest.common.hand
 hand_at n j f m x d (at.Downs next batch) is r = r.owns.lists.rest.common.hand
@@ -93,19 +96,24 @@ pub record SameLong (j : ℕ) (m m2 : State) : Type 0 where
   pub left : length (m2.left j) ≡ length (m.left j)
 
 module _ {T : Type 0} (defers : T → Option ℕ) (size j : ℕ) (c : Leave) (d : Settle) (stands_at : c.stands ≡ leaving.Settles d) where
-  pub fits_in : (w : World T) (good : Good defers (LAST_SLOT + 1) size w) → w.row j ≡ Leaves c → Fits (LAST_SLOT + 1) j (view defers w.memory) good.state good.extra d
+  pub fits_in : (w : World T) (good : Good defers (LAST_SLOT + 1) size w) → w.row j ≡ Leaves c
+      → Fits (LAST_SLOT + 1) j (view defers w.memory) good.state good.extra d
   fits_in w good is =
       (subst (λ (p : Leaving). FitsLeave (LAST_SLOT + 1) j (view defers w.memory) good.state good.extra c.slot c.becomes c.frees p) stands_at
       (subst (λ (r : Row). FitsRow (LAST_SLOT + 1) j (view defers w.memory) good.state good.extra (length w.memory.slots) r) is (good.rows j))).settles
 
-module _ {T : Type 0} (defers : T → Option ℕ) (size j : ℕ) (c : Leave) (d : Settle) (stands_at : c.stands ≡ leaving.Settles d) (counting : IsCounting d.stands) where
-  module _ (w v : World T) (good : Good defers (LAST_SLOT + 1) size w) (good2 : Good defers (LAST_SLOT + 1) size v) (is : w.row j ≡ Leaves c) (is2 : v.row j ≡ Leaves c) where
+module _ {T : Type 0} (defers : T → Option ℕ) (size j : ℕ) (c : Leave) (d : Settle) (stands_at : c.stands ≡ leaving.Settles d)
+    (counting : IsCounting d.stands) where
+  module _ (w v : World T) (good : Good defers (LAST_SLOT + 1) size w) (good2 : Good defers (LAST_SLOT + 1) size v) (is : w.row j ≡ Leaves c)
+      (is2 : v.row j ≡ Leaves c) where
     -- its list is as long as long as the words of its entries are the same
     loose_same : SameLinks w.hand w.memory v.memory → length (good2.state.loose j) ≡ length (good.state.loose j)
     loose_same links =
         let a = hand_at (LAST_SLOT + 1) j (view defers w.memory) good.state good.extra d d.stands counting (fits_in defers size j c d stands_at w good is) in
-        let b = hand_at (LAST_SLOT + 1) j (view defers v.memory) good2.state good2.extra d d.stands counting (fits_in defers size j c d stands_at v good2 is2) in
-        let k = chains_agree (view defers w.memory).links (view defers v.memory).links (list_word d.list) (blocks_of (good.state.loose j)) (blocks_of (good2.state.loose j))
+        let b = hand_at (LAST_SLOT + 1) j (view defers v.memory) good2.state good2.extra d d.stands counting
+        (fits_in defers size j c d stands_at v good2 is2) in
+        let k = chains_agree (view defers w.memory).links (view defers v.memory).links (list_word d.list) (blocks_of (good.state.loose j))
+        (blocks_of (good2.state.loose j))
         (λ b p. links b (handed b p))
         (subst (λ (u : ℕ). Chain 3 (view defers w.memory).links u (blocks_of (good.state.loose j))) a (good.shows.entries.loosed j))
         (subst (λ (u : ℕ). Chain 3 (view defers v.memory).links u (blocks_of (good2.state.loose j))) b (good2.shows.entries.loosed j)) in
@@ -128,7 +136,8 @@ module _ {T : Type 0} (defers : T → Option ℕ) (size j : ℕ) (c : Leave) (d 
     by_state : (q : State) → good2.state ≡ q → SameLong j good.state q → SameLong j good.state good2.state
     by_state q e h = subst (λ (m : State). SameLong j good.state m) (sym e) h
 
-    long_begun : (i : ℕ) (request : Request) → SameLinks w.hand w.memory v.memory → BeginTold (LAST_SLOT + 1) i request good.state good2.state → SameLong j good.state good2.state
+    long_begun : (i : ℕ) (request : Request) → SameLinks w.hand w.memory v.memory → BeginTold (LAST_SLOT + 1) i request good.state good2.state
+        → SameLong j good.state good2.state
     long_begun i (Retire s b) links told = by_state (Moves.begins_retire good.state i b) told (record { loose = refl; left = refl })
     long_begun i (Flush s) links told = by_state good.state told (record { loose = refl; left = refl })
     long_begun i (Register' enters) links told = long_unmoved told links
@@ -151,7 +160,8 @@ module _ {T : Type 0} (defers : T → Option ℕ) (size j : ℕ) (c : Leave) (d 
         let life : r.good.state.life b ≡ IsLeft i = subst (λ (k : Hand). HandFits k (r.good.state.life b)) e (r.good.hands b) in
         entry_there defers (LAST_SLOT + 1) w.memory r.good.state r.good.extra b NEXT r.good.stocked r.good.shows (ap lives life) (omega arith)
 
-    came : (e : Event T) → Happens defers size e w v → (good2 : Good defers (LAST_SLOT + 1) size v) → v.row j ≡ Leaves c → SameLong j r.good.state good2.state → After
+    came : (e : Event T) → Happens defers size e w v → (good2 : Good defers (LAST_SLOT + 1) size v) → v.row j ≡ Leaves c → SameLong j r.good.state good2.state
+        → After
     came e h good2 row long = record { reached = record { good = good2; sized = happens_sized defers size w v r.sized e h }; row = row; long = long }
 
     between : (e : Event T) → IsBetween e → IsStill e → IsOfOthers j e → Happens defers size e w v → After
@@ -173,7 +183,11 @@ module _ {T : Type 0} (defers : T → Option ℕ) (size j : ℕ) (c : Leave) (d 
         (elim (row_same (LAST_SLOT + 1) i j (λ z. ne (sym z)) r.good.state next.good.state (w.row i) (v.row i) w.uses v.uses next.told)
         as (λ _. SameLong j r.good.state next.good.state) [
           | inl same ↦ long_hand w v r.good next.good is row same
-          | inr beside ↦ record { loose = loose_same w v r.good next.good is row (row_links defers size w v left i (w.row i) beside.aside h); left = ap (length) beside.left }
+          | inr beside ↦ record {
+            loose = loose_same w v r.good next.good is row (row_links defers size w v left i (w.row i) beside.aside h);
+            left =
+                ap (length) beside.left;
+          }
         ])
     after_event (LeavesOver i b further) ne h =
         let row = event_row defers size j (LeavesOver i b further) w v ne h ∙ is in

@@ -9,7 +9,9 @@ use Rattle.seize.specs.Settle.{onward, with_batch, with_put, without_block, stan
 use Rattle.seize_alone.proofs.Given.SeizeMoves.State.Ghost.{State, Entry, put}
 use Rattle.seize_alone.proofs.Given.SeizeMoves.State.Moves
 use Rattle.seize_rule.proofs.Points.Passed.{passed_rest}
-use Rattle.seize_rule.proofs.Points.Told.{Part, Plain, Pushing, Draining, part, batch_now, Told, Stays, Holds, HoldsNone, Gives, Begins, Appends, Fills, Skips, Passes, Finds, Marks, GivesUp, Closes, Pushes, Misses, Sums, SumsLast, Drains, DrainsNone, Takes, TakesLast, Joins, Counts, CountsLast}
+use Rattle.seize_rule.proofs.Points.Told.{Part, Plain, Pushing, Draining, part, batch_now, Told, Stays, Holds, HoldsNone, Gives, Begins, Appends, Fills, Skips}
+use Rattle.seize_rule.proofs.Points.Told.{Passes, Finds, Marks, GivesUp, Closes, Pushes, Misses, Sums, SumsLast, Drains, DrainsNone, Takes, TakesLast, Joins}
+use Rattle.seize_rule.proofs.Points.Told.{Counts, CountsLast}
 
 -- it counts its list, or reclaims, or is over
 abbrev pub IsCounting : Settling → Type 0
@@ -61,7 +63,9 @@ onward_counts c p f h q = one (c.reclaiming == 0) (c.pending == 0) (ap (λ (k : 
     so s is near plain = record { counts = record { counting = is; pending = p; flushing = f; held = h; put = q }; near = near; list = refl; plain = plain }
 
     one : (a b : Bool) → b ≡ true → (l g : Bool) → g ≡ false → (k : Bool) → k ≡ false
-        → Onward (if a then (if b then (if g then with_batch c else (if l then standing c at.Lists else (if k then standing c at.Gives else standing c at.Over))) else with_batch c) else standing c at.Nexts) c
+        → Onward (if a then (if b then
+        (if g then with_batch c else
+        (if l then standing c at.Lists else (if k then standing c at.Gives else standing c at.Over))) else with_batch c) else standing c at.Nexts) c
     one false b e l g i k j = so at.Nexts tt (omega arith) refl
     one true false e l g i k j = absurd (cc e)
     one true true e l true i k j = absurd (cc i)
@@ -74,10 +78,13 @@ pub without_counts : (c : Settle) (next : ℕ) → OnlyCounts c → Onward (with
 without_counts c next k = one (next == 0) (c.put_first == 0) (ap (λ (z : ℕ). z == 0) k.put) (c.pending == 0)
   where
     past : Onward (onward (record c { reclaiming = next })) c
-    past = let o = onward_counts (record c { reclaiming = next }) k.pending k.flushing k.held k.put in record { counts = o.counts; near = o.near; list = o.list; plain = o.plain }
+    past = let o = onward_counts (record c { reclaiming = next }) k.pending k.flushing k.held k.put in
+        record { counts = o.counts; near = o.near; list = o.list; plain = o.plain }
 
     one : (t u : Bool) → u ≡ true → (z : Bool)
-        → Onward (if t then (if u then onward (record c { reclaiming = next }) else (if z then with_put (record c { reclaiming = next }) else record c { reclaiming = next; stands = at.Puts })) else onward (record c { reclaiming = next })) c
+        → Onward (if t then (if u then onward (record c { reclaiming = next }) else
+        (if z then with_put (record c { reclaiming = next }) else record c { reclaiming = next; stands = at.Puts })) else onward
+        (record c { reclaiming = next })) c
     one true true e z = past
     one true false e z = absurd (cc e)
     one false u e z = past
@@ -99,7 +106,8 @@ module _ (n most j : ℕ) (m m2 : State) (few : length (m2.left j) ≤ most) whe
     same : (q : State) → m2 ≡ q → weight most j q ≡ weight most j m → weight most j m2 ≤ weight most j m
     same q e h = let a = ap (weight most j) e in omega (arith, a, h)
 
-    fewer_left : (q : State) (b : ℕ) (bs : List ℕ) → m.left j ≡ b ∷ bs → m2 ≡ q → q.loose ≡ m.loose → q.left ≡ put m.left j bs → weight most j m2 + 3 ≤ weight most j m
+    fewer_left : (q : State) (b : ℕ) (bs : List ℕ) → m.left j ≡ b ∷ bs → m2 ≡ q → q.loose ≡ m.loose → q.left ≡ put m.left j bs
+        → weight most j m2 + 3 ≤ weight most j m
     fewer_left q b bs is e loose left =
         let a = ap (λ (s : State). length (s.left j)) e ∙ ap (λ (f : ℕ → List ℕ). length (f j)) left ∙ ap (length) (put_here m.left j bs) in
         let k = ap (λ (s : State). each (3 * most + 4) (length (s.loose j))) e ∙ ap (λ (f : ℕ → List Entry). each (3 * most + 4) (length (f j))) loose in

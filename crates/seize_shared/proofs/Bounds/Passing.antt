@@ -1,7 +1,8 @@
 -- What is so of a row that counts its list down is so after what the others do meanwhile; and each step of it lowers how many are left.
 use Rattle.std.specs.Prelude.{◌++◌, Option}
 use Rattle.std.proofs.Common.{◌≡◌, ℕ, zero, suc, ◌<◌, List, [], ◌∷◌, inl, inr, refl, arith, ap, sym, subst, ◌∙◌}
-use Rattle.seize.specs.World.{World, Event, Begin, Step, Makes, Drops, Links, Parts, Unlinks, Rewrites, Operates, Ends, LeavesOver, Relinks, Clears, Chooses, Happens, Steps'}
+use Rattle.seize.specs.World.{World, Event, Begin, Step, Makes, Drops, Links, Parts, Unlinks, Rewrites, Operates, Ends, LeavesOver, Relinks, Clears, Chooses}
+use Rattle.seize.specs.World.{Happens, Steps'}
 use Rattle.seize.specs.Sequence.{IsBetween}
 use Rattle.seize_rule.proofs.Rows.Others.{begins_others, steps_others, users_rows}
 use Rattle.seize_shared.specs.Bounds.{HasCounted, IsOfOthers, ArePlain, Meanwhile, CountsWithin}
@@ -37,13 +38,15 @@ module _ {T : Type 0} (defers : T → Option ℕ) (size j : ℕ) where
   row_kept [] w n h = ap (λ (x : World T). x.row j) h
   row_kept (e ∷ events) w n h = row_kept events h.0 n h.4 ∙ event_row e w h.0 h.1 h.2
 
-  pub still_within : (k : ℕ) (w n : World T) (events : List (Event T)) → Meanwhile defers size j events w n → CountsWithin defers size j k w → CountsWithin defers size j k n
+  pub still_within : (k : ℕ) (w n : World T) (events : List (Event T)) → Meanwhile defers size j events w n → CountsWithin defers size j k w
+      → CountsWithin defers size j k n
   still_within zero w n events h c = subst HasCounted (sym (row_kept events w n h)) c
   still_within (suc k) w n events h (inl c) = inl (subst HasCounted (sym (row_kept events w n h)) c)
   still_within (suc k) w n events h (inr f) = inr (λ more v m g step plain. f (events ++ more) v m (both events more w n v h g) step plain)
 
   -- a step of its own
-  pub steps_within : (k : ℕ) (w n : World T) → CountsWithin defers size j k w → (HasCounted (w.row j) → ⊥) → Steps' defers j (w.row j) w n → ArePlain defers n.memory
+  pub steps_within : (k : ℕ) (w n : World T) → CountsWithin defers size j k w → (HasCounted (w.row j) → ⊥) → Steps' defers j (w.row j) w n
+      → ArePlain defers n.memory
       → (l : ℕ) × (l < k) × CountsWithin defers size j l n
   steps_within zero w n c ne step plain = absurd (ne c)
   steps_within (suc k) w n (inl c) ne step plain = absurd (ne c)

@@ -26,8 +26,10 @@ use Rattle.seize_shared.specs.Bounds.{ArePlain}
 use Rattle.seize_shared.proofs.Bounds.Machine.{IsCounting, OnlyCounts, Onward, onward_counts, without_counts, point, weight, less_loose, no_more, taken_less}
 use Rattle.seize_shared.proofs.Bounds.Hands.{chains_agree, hand_at}
 
-module _ {T : Type 0} (defers : T → Option ℕ) (n most j : ℕ) (mem mem2 : Mem T) (m : State) (x : Extra) (c : Settle) (end : Settle × Settled T) (m2 : State) (x2 : Extra)
-    (v : Shows n (view defers mem) m x) (v2 : Shows n (view defers mem2) m2 x2) (few : length (m2.left j) ≤ most) (plain : ArePlain defers mem) (counts : OnlyCounts c)
+module _ {T : Type 0} (defers : T → Option ℕ) (n most j : ℕ) (mem mem2 : Mem T) (m : State) (x : Extra) (c : Settle) (end : Settle × Settled T) (m2 : State)
+    (x2 : Extra)
+    (v : Shows n (view defers mem) m x) (v2 : Shows n (view defers mem2) m2 x2) (few : length (m2.left j) ≤ most) (plain : ArePlain defers mem)
+    (counts : OnlyCounts c)
     (fits2 : Fits n j (view defers mem2) m2 x2 end.0) where
   -- it goes on so, from this point
   pub record Less (p : Settling) : Type 0 where
@@ -78,18 +80,21 @@ module _ {T : Type 0} (defers : T → Option ℕ) (n most j : ℕ) (mem mem2 : M
 
   -- an entry is counted
   module _ (next batch : ℕ) (r : Downs n j (view defers mem) m x (bare c) next batch) (st : Steps Took value_at mem (plans.downs c next batch) mem2 end) where
-    one_less : (k : ℕ) → IsSome (word_at mem (Entry (batch / 2048) COUNT)) → mem2 ≡ with_word mem (Entry (batch / 2048) COUNT) k → end.0.list ≡ next → OnlyCounts end.0
+    one_less : (k : ℕ) → IsSome (word_at mem (Entry (batch / 2048) COUNT)) → mem2 ≡ with_word mem (Entry (batch / 2048) COUNT) k → end.0.list ≡ next
+        → OnlyCounts end.0
         → length (m2.loose j) + 1 ≡ length (m.loose j)
     one_less k there is list after =
         let hand = hand_at n j (view defers mem2) m2 x2 end.0 end.0.stands after.counting fits2 ∙ ap list_word list in
         let links : (view defers mem2).links ≡ (view defers mem).links =
         ap (λ (q : Mem T). (view defers q).links) is
-        ∙ ap (λ (g : View). g.links) (view_count defers mem (batch / 2048) k (with_word mem (Entry (batch / 2048) COUNT) k) (wrote mem (Entry (batch / 2048) COUNT) k there)) in
+        ∙ ap (λ (g : View). g.links)
+        (view_count defers mem (batch / 2048) k (with_word mem (Entry (batch / 2048) COUNT) k) (wrote mem (Entry (batch / 2048) COUNT) k there)) in
         let was : Chain 3 (view defers mem).links next (blocks_of r.owns.es) = rw (r.owns.next_is) at ((rw (r.owns.loose) at (v.entries.loosed j)).2) in
         let word = word_of_list (view defers mem).links next (blocks_of r.owns.es) was in
         let now : Chain 3 (view defers mem2).links next (blocks_of (m2.loose j)) =
         subst (λ (u : ℕ). Chain 3 (view defers mem2).links u (blocks_of (m2.loose j))) (hand ∙ word) (v2.entries.loosed j) in
-        let same = chains_agree (view defers mem).links (view defers mem2).links next (blocks_of r.owns.es) (blocks_of (m2.loose j)) (λ b p. ap (λ (f : ℕ → ℕ). f b) links) was now in
+        let same = chains_agree (view defers mem).links (view defers mem2).links next (blocks_of r.owns.es) (blocks_of (m2.loose j))
+        (λ b p. ap (λ (f : ℕ → ℕ). f b) links) was now in
         let a = blocks_long (m2.loose j) in
         let b = blocks_long r.owns.es in
         let z = ap (length) r.owns.loose in
@@ -102,7 +107,8 @@ module _ {T : Type 0} (defers : T → Option ℕ) (n most j : ℕ) (mem mem2 : M
         one k (d.0 == 1) (rw (d.1) refl) d.2 (subst (λ (q : Mem T). Ends (value_at q) (plans.counted_down c next batch (Found d.0)) end) (sym d.2) d.3)
       where
         by : (k : ℕ) → IsSome (word_at mem (Entry (batch / 2048) COUNT)) → mem2 ≡ with_word mem (Entry (batch / 2048) COUNT) k
-            → (b : Settle) → b.list ≡ next → b.pending ≡ 0 → b.flushing ≡ false → b.held ≡ false → b.put_first ≡ 0 → end ≡ (plans.onward b, Goes) → Less (at.Downs next batch)
+            → (b : Settle) → b.list ≡ next → b.pending ≡ 0 → b.flushing ≡ false → b.held ≡ false → b.put_first ≡ 0 → end ≡ (plans.onward b, Goes)
+            → Less (at.Downs next batch)
         by k there is b list pending flushing held put e =
             let o = onward_counts b pending flushing held put in
             let near = o.near in
@@ -111,7 +117,9 @@ module _ {T : Type 0} (defers : T → Option ℕ) (n most j : ℕ) (mem mem2 : M
             less (at.Downs next batch) (plans.onward b) Goes e o.counts (omega (arith, a, near))
 
         one : (k : ℕ) (t : Bool) → IsSome (word_at mem (Entry (batch / 2048) COUNT)) → mem2 ≡ with_word mem (Entry (batch / 2048) COUNT) k
-            → Ends (value_at mem2) (if t then plans.to {T = T} (plans.onward (record c { list = next; reclaiming = batch })) else plans.to (plans.onward (record c { list = next }))) end
+            → Ends (value_at mem2)
+            (if t then plans.to {T = T} (plans.onward (record c { list = next; reclaiming = batch })) else plans.to
+            (plans.onward (record c { list = next }))) end
             → Less (at.Downs next batch)
         one k true there is e = by k there is (record c { list = next; reclaiming = batch }) refl counts.pending counts.flushing counts.held counts.put e
         one k false there is e = by k there is (record c { list = next }) refl counts.pending counts.flushing counts.held counts.put e

@@ -25,7 +25,8 @@ use Rattle.seize_rule.proofs.Points.Settle.{is_over, settle_steps}
 use Rattle.seize_rule.proofs.Rows.Leaving.{steps_back}
 use Rattle.seize_rule.proofs.Rows.Others.{with_here}
 use Rattle.seize_rule.proofs.Rows.SizesKept.{happens_sized}
-use Rattle.seize_rule.proofs.Rows.Told.{RowTold, SettleGoes, SettleEnds, LeaveSwaps, LeaveGoes, LeaveSettled, LeaveEnds, RegisterLooks, RegisterRefused, RegisterTakes, RegisterEnters, EntersSlot, FreesSlot, DeferGoes, DeferPushes, DeferEnds, IsSettled}
+use Rattle.seize_rule.proofs.Rows.Told.{RowTold, SettleGoes, SettleEnds, LeaveSwaps, LeaveGoes, LeaveSettled, LeaveEnds, RegisterLooks, RegisterRefused}
+use Rattle.seize_rule.proofs.Rows.Told.{RegisterTakes, RegisterEnters, EntersSlot, FreesSlot, DeferGoes, DeferPushes, DeferEnds, IsSettled}
 use Rattle.seize_rule.proofs.World.Good.{Good}
 use Rattle.seize_rule.proofs.World.Kept.{steps_next}
 use Rattle.seize_rule.proofs.World.Start.{start_good, words_good}
@@ -48,11 +49,13 @@ module _ (n j : ℕ) (c : Leave) (d d2 : Settle) (stands_at : c.stands ≡ leavi
   same_settle : (a b : Settle) → leaving.Settles a ≡ leaving.Settles b → a ≡ b
   same_settle a b e = cc e
 
-  told_of : (row row2 : Row) (uses uses2 : ℕ → Use) → row ≡ Leaves c → row2 ≡ Leaves (standing c (leaving.Settles d2)) → RowTold n j row m uses row2 m2 uses2 → Told n j d (part d) m d2 m2
+  told_of : (row row2 : Row) (uses uses2 : ℕ → Use) → row ≡ Leaves c → row2 ≡ Leaves (standing c (leaving.Settles d2)) → RowTold n j row m uses row2 m2 uses2
+      → Told n j d (part d) m d2 m2
   told_of row row2 uses uses2 is is2 (LeaveGoes a s s2 e f g slot told) =
       let q : a ≡ c = same_leave a c (sym e ∙ is) in
       let p : s ≡ d = same_settle s d (sym g ∙ ap (λ (l : Leave). l.stands) q ∙ stands_at) in
-      let z : s2 ≡ d2 = same_settle s2 d2 (ap (λ (l : Leave). l.stands) (same_leave (standing a (leaving.Settles s2)) (standing c (leaving.Settles d2)) (sym f ∙ is2))) in
+      let z : s2 ≡ d2 = same_settle s2 d2
+      (ap (λ (l : Leave). l.stands) (same_leave (standing a (leaving.Settles s2)) (standing c (leaving.Settles d2)) (sym f ∙ is2))) in
       subst (λ (k : Settle). Told n j d (part d) m k m2) z (subst (λ (k : Settle). Told n j k (part k) m s2 m2) p told)
   told_of row row2 uses uses2 is is2 (LeaveSettled a s e g over f h) =
       let q : a ≡ c = same_leave a c (sym e ∙ is) in
@@ -89,7 +92,8 @@ module _ {T : Type 0} (defers : T → Option ℕ) (size j : ℕ) where
       living l e p = grind (arith, e, p)
 
   -- what the row is after a step of its settling
-  went : (w : World T) (c : Leave) (m : Mem T) (d : Settle) (o : Settled T) → IsGoing o → (leaves_on w j c m (settled c (d, o))).row j ≡ Leaves (standing c (leaving.Settles d))
+  went : (w : World T) (c : Leave) (m : Mem T) (d : Settle) (o : Settled T) → IsGoing o
+      → (leaves_on w j c m (settled c (d, o))).row j ≡ Leaves (standing c (leaving.Settles d))
   went w c m d Goes going = with_here w.row j _
   went w c m d Waits going = with_here w.row j _
   went w c m d (Gave value) going = with_here w.row j _
@@ -116,7 +120,8 @@ module _ {T : Type 0} (defers : T → Option ℕ) (size j : ℕ) where
     pub counts : OnlyCounts d
     pub falls : left_of v reached d < was
 
-  module _ (w v : World T) (r : Reached defers size w) (c : Leave) (d : Settle) (is : w.row j ≡ Leaves c) (stands_at : c.stands ≡ leaving.Settles d) (counts : OnlyCounts d)
+  module _ (w v : World T) (r : Reached defers size w) (c : Leave) (d : Settle) (is : w.row j ≡ Leaves c) (stands_at : c.stands ≡ leaving.Settles d)
+      (counts : OnlyCounts d)
       (ne : d.stands ≡ at.Over → ⊥) (plain : ArePlain defers w.memory) (step : Steps' defers j (w.row j) w v) where
     own_step : (d2 : Settle) × Less c d2 (left_of w r d) v
     own_step =
@@ -124,7 +129,8 @@ module _ {T : Type 0} (defers : T → Option ℕ) (size j : ℕ) where
         let st = subst (λ (p : Leaving). Steps Took value_at w.memory (plan_at defers c p) h.0 h.1) stands_at h.2 in
         let b = steps_back (settled c) w.memory h.0 (settle_plan defers d) h.1 st in
         let fits = fits_in defers size j c d stands_at w r.good is in
-        let going = (settle_steps defers (LAST_SLOT + 1) j w.memory h.0 r.good.state r.good.extra d b.0 refl (words_good defers (LAST_SLOT + 1) w r.good) r.good.inv r.good.shows
+        let going = (settle_steps defers (LAST_SLOT + 1) j w.memory h.0 r.good.state r.good.extra d b.0 refl
+        (words_good defers (LAST_SLOT + 1) w r.good) r.good.inv r.good.shows
         d.stands refl (not_over d.stands ne) fits b.1).1 in
         let now : v.row j ≡ Leaves (standing c (leaving.Settles b.0.0)) =
         ap (λ (x : World T). x.row j) h.3 ∙ ap (λ (q : Leave × Settled T). (leaves_on w j c h.0 q).row j) b.2 ∙ went w c h.0 b.0.0 b.0.1 going in
@@ -132,10 +138,19 @@ module _ {T : Type 0} (defers : T → Option ℕ) (size j : ℕ) where
         let next = steps_next defers (LAST_SLOT + 1) size refl w v r.good r.sized j (w.row j) refl step in
         let told = told_of (LAST_SLOT + 1) j c d b.0.0 stands_at ne r.good.state next.good.state (w.row j) (v.row j) w.uses v.uses is now next.told in
         let fits2 = fits_in defers size j (standing c (leaving.Settles b.0.0)) b.0.0 refl v next.good now in
-        let less = step_less defers (LAST_SLOT + 1) MOST j w.memory v.memory r.good.state r.good.extra d b.0 next.good.state next.good.extra r.good.shows next.good.shows
+        let less = step_less defers
+        (LAST_SLOT + 1) MOST j w.memory v.memory r.good.state r.good.extra d b.0 next.good.state next.good.extra r.good.shows next.good.shows
         (few_left v next.good) plain counts fits2 d.stands counts.counting ne fits told
-        (subst (λ (k : Mem T). Steps Took value_at w.memory (settle_plan defers d) k b.0) (sym memory) b.1) in
-        (b.0.0, record { reached = record { good = next.good; sized = happens_sized defers size w v r.sized (Step j) step }; row = now; counts = less.still; falls = less.falls })
+        (subst (λ (k : Mem T). Steps Took value_at w.memory (settle_plan defers d) k b.0) (sym memory) b.1) in (
+          b.0.0,
+          record {
+            reached = record { good = next.good; sized = happens_sized defers size w v r.sized (Step j) step };
+            row = now;
+            counts =
+                less.still;
+            falls = less.falls;
+          },
+        )
 
   -- what the others leave
   record Meant (w v : World T) (r : Reached defers size w) (c : Leave) : Type 0 where
@@ -145,7 +160,8 @@ module _ {T : Type 0} (defers : T → Option ℕ) (size j : ℕ) where
     pub long : SameLong j r.good.state reached.good.state
 
   module _ (c : Leave) (d : Settle) (stands_at : c.stands ≡ leaving.Settles d) (counts : OnlyCounts d) where
-    meanwhile : (events : List (Event T)) (w v : World T) (r : Reached defers size w) → w.row j ≡ Leaves c → ArePlain defers w.memory → Meanwhile defers size j events w v → Meant w v r c
+    meanwhile : (events : List (Event T)) (w v : World T) (r : Reached defers size w) → w.row j ≡ Leaves c → ArePlain defers w.memory
+        → Meanwhile defers size j events w v → Meant w v r c
     meanwhile [] w v r is plain h =
         subst (λ (x : World T). Meant w x r c) (sym h) (record { reached = r; row = is; plain = plain; long = record { loose = refl; left = refl } })
     meanwhile (e ∷ events) w v r is plain h =
@@ -169,7 +185,8 @@ module _ {T : Type 0} (defers : T → Option ℕ) (size j : ℕ) where
   -- within so many steps, in every world in which no more is left
   abbrev AllWithin : ℕ → Type 0
   AllWithin k =
-      (w : World T) (r : Reached defers size w) (c : Leave) (d : Settle) → w.row j ≡ Leaves c → c.stands ≡ leaving.Settles d → OnlyCounts d → ArePlain defers w.memory
+      (w : World T) (r : Reached defers size w) (c : Leave) (d : Settle) → w.row j ≡ Leaves c → c.stands ≡ leaving.Settles d → OnlyCounts d
+      → ArePlain defers w.memory
       → left_of w r d ≤ k → CountsWithin defers size j k w
 
   one_more : (k : ℕ) → AllWithin k → AllWithin (suc k)
@@ -178,7 +195,8 @@ module _ {T : Type 0} (defers : T → Option ℕ) (size j : ℕ) where
       over_is : is_over d.stands ≡ true → d.stands ≡ at.Over
       over_is e = grind arith
 
-      on : is_over d.stands ≡ false → (events : List (Event T)) (v n : World T) → Meanwhile defers size j events w v → Steps' defers j (v.row j) v n → ArePlain defers n.memory
+      on : is_over d.stands ≡ false → (events : List (Event T)) (v n : World T) → Meanwhile defers size j events w v → Steps' defers j (v.row j) v n
+          → ArePlain defers n.memory
           → CountsWithin defers size j k n
       on go events v n h step plain2 =
           let a = meanwhile c d stands_at counts events w v r is plain h in
@@ -206,7 +224,8 @@ module _ {T : Type 0} (defers : T → Option ℕ) where
   counting_only slot size head = record { counting = tt; pending = refl; flushing = refl; held = refl; put = refl }
 
   pub counted_within : (size j : ℕ) (w : World T) → Reached defers size w → (c : Leave) (head : ℕ)
-      → w.row j ≡ Leaves (standing c (leaving.Settles (counting_down c.slot c.batch_size head))) → ArePlain defers w.memory → (k : ℕ) × CountsWithin defers size j k w
+      → w.row j ≡ Leaves (standing c (leaving.Settles (counting_down c.slot c.batch_size head))) → ArePlain defers w.memory → (k : ℕ)
+      × CountsWithin defers size j k w
   counted_within size j w r c head is plain =
       let d = counting_down c.slot c.batch_size head in
       let k = left_of defers size j w r d in

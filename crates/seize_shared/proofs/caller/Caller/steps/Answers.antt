@@ -1,6 +1,18 @@
-use Rattle.seize_shared.proofs.Drives.{may_step}
+use Rattle.seize_shared.specs.declared.view.Why.TheVariants.{Ending}
+use Rattle.seize_shared.proofs.Drives.{may_step, has_stepped}
 use Rattle.seize_shared.proofs.caller.Caller.steps.Goals as goal
 
 pub step-requires : goal.step-requires
 step-requires g c =
     may_step g.T.Defers.defers c.args.self.now c.args.row.now c.requires.settling.0 c.requires.settling.1 c.requires.not
+
+pub returns-in_default : goal.returns-in_default
+returns-in_default g c =
+    let x = c.args.self.now in let row = c.args.row.now in let n = c.step.new.memory in
+    let k = has_stepped g.T.Defers.defers x row c.requires.settling.0 c.requires.settling.1 c.requires.not n (c.step.new.self, c.step.result) c.step.ensures in
+    record {
+      settling = λ why is. (has_stepped g.T.Defers.defers x row why is c.requires.not n (c.step.new.self, c.step.result) c.step.ensures).0;
+      falls = λ size way is. (has_stepped g.T.Defers.defers x row (Ending size way) is c.requires.not n (c.step.new.self, c.step.result) c.step.ensures).3;
+      slot = k.1;
+      blocks = k.2;
+    }
