@@ -49,7 +49,7 @@ use Rattle.papaya_acts.proofs.Calls.{ready_is}
 use Rattle.papaya_acts.proofs.Counts.{its_call, other_call}
 use Rattle.papaya_acts.proofs.Lists.{all_may_step}
 use Rattle.papaya_acts.proofs.RowSteps.{row_step_alike, row_begin_alike}
-use Rattle.papaya_scenes.proofs.NoCall.{none_is}
+use Rattle.papaya_scenes.proofs.NoCall.{none_is, none_of}
 use Rattle.papaya_scenes.proofs.Goes.{goes_as}
 use Rattle.papaya_scenes.specs.Replying.{unless_stopped}
 use Rattle.papaya_scenes.specs.Scene.{Scene, HasNoCall}
@@ -58,10 +58,6 @@ use Rattle.papaya_scenes.specs.Stepping.{going_on}
 -- what is there in both, if the same is told of both
 told_both : {A B : Type 0} (f : A → B) (o p : Option A) → option_map f o ≡ option_map f p → (a b : A) → o ≡ Some a → p ≡ Some b → f a ≡ f b
 told_both f o p is a b e g = same_some (f a) (f b) (sym (ap (option_map f) e) ∙ is ∙ ap (option_map f) g)
-
-told_none : {A B : Type 0} (f : A → B) (o : Option A) → option_map f o ≡ None → o ≡ None
-told_none f None e = refl
-told_none f (Some a) e = absurd (cc e)
 
 -- the same is told of both after the same changes in one place
 both_at : {X Y : Type 0} (h : X → Y) (f g : ℕ → X) (k : ℕ) (v w : X) → h v ≡ h w → ((j : ℕ) → h (f j) ≡ h (g j)) → (j : ℕ) → h (with_at f k v j) ≡ h (with_at g k w j)
@@ -181,7 +177,7 @@ module _ {K V : Type 0} (same : K → K → Bool) (hash : ℕ → K → ℕ) (ba
         to (record { world = came.did.w2; maps = came.did.maps2; calls = with_call s.calls m i came.did.next; makers = s.makers; enders = s.enders })
             (record { world = came2.did.w2; maps = came2.did.maps2; calls = with_call t.calls m i came2.did.next; makers = t.makers; enders = t.enders }) came.comes came2.comes
             (with_calls m i came.did.next came2.did.next came.did.w2 came2.did.w2 came.did.maps2 came2.did.maps2 next_both
-            (λ none. came.did.rests none ∙ sym (came2.did.rests (told_none machine_of came2.did.next (sym next_both ∙ ap (option_map machine_of) none))))
+            (λ none. came.did.rests none ∙ sym (came2.did.rests (none_of machine_of came2.did.next (sym next_both ∙ ap (option_map machine_of) none))))
             (came.did.memory ∙ ap (λ (x : End). x.0) one_step ∙ sym came2.did.memory)
             (λ k. maps_set_up s n i m g told came k ∙ alike.maps k ∙ sym (maps_set_up t o i m g told2 came2 k)) (λ j ne. (came.did.rows j ne, came2.did.rows j ne))),
         came.tells ∙ ap (λ (x : End). OfCall x.1.1) one_step ∙ sym came2.tells,
@@ -279,7 +275,7 @@ module _ {K V : Type 0} (same : K → K → Bool) (hash : ℕ → K → ℕ) (ba
           with_call_alone m i (unless_stopped (machine_asked (machine_of u)).1 u) (unless_stopped (machine_asked (machine_of u2)).1 u2) both
               (λ none. stop_rests s all m i u here (machine_asked (machine_of u)).1 refl none
               ∙ sym (stop_rests t all2 m i u2 here2 (machine_asked (machine_of u2)).1 refl
-              (told_none machine_of (unless_stopped (machine_asked (machine_of u2)).1 u2) (sym both ∙ ap (option_map machine_of) none)))) is is2,
+              (none_of machine_of (unless_stopped (machine_asked (machine_of u2)).1 u2) (sym both ∙ ap (option_map machine_of) none)))) is is2,
           told_is ∙ ap (λ (x : Machine K V K). OfAsking (machine_asked x).1) one ∙ sym told_is2,
         )
     by_act (BeginsMaking i map given places) may told told2 (told_is, is) (told_is2, is2) = (

@@ -10,8 +10,6 @@ mod Counts
 mod RowSteps
 mod Courses
 mod Agree
-mod ExecutorsBegin
-mod Executors
 mod Samples
 mod Untrue
 pub mod Reclaiming

@@ -2,7 +2,6 @@
 ghost use Rattle.std.specs.Prelude.{ℕ, Bool};
 ghost use Rattle.papaya_acts.specs.Counts.{CountingsAddUp, CountingsAnswerTheSum};
 ghost use Rattle.papaya_acts.specs.Courses.{CoursesAgree};
-ghost use Rattle.papaya_acts.specs.Executors.{ExecutorsAct};
 ghost use Rattle.papaya_acts.specs.Reclaiming.{ReclaimingIsByActs};
 ghost use Rattle.papaya_acts.specs.Lists.{Course, StepsAreActs, ListsDetermine};
 
@@ -23,12 +22,6 @@ pub fn lists_of_acts_determine<K, V>()
 pub fn countings_answer_the_sum<K, V>()
     ensures adds { (same : K → K → Bool) (hash : ℕ → K → ℕ) (batch_size roots : ℕ) (slot : ℕ → ℕ) (course : Course V same hash batch_size roots slot) → CountingsAddUp same hash batch_size roots slot course }
     ensures answers { (same : K → K → Bool) (hash : ℕ → K → ℕ) (batch_size roots : ℕ) (slot : ℕ → ℕ) (course : Course V same hash batch_size roots slot) → CountingsAnswerTheSum same hash batch_size roots slot course }
-{}
-
-/// An executor, which drives calls, makings, ends of maps and rows of many callers step by step, does so by acts: where it was in a scene, and does what it
-/// promises, it is then in the one to which an act leads, and tells what that tells.
-pub fn executors_act<K, V, S>()
-    ensures acts { (same : K → K → Bool) (hash : K → ℕ) → ExecutorsAct V S same hash }
 {}
 
 /// And where nobody has anything under way, a caller that reclaims all does so by what may be in a list of acts: each of its steps is one operation at most,

@@ -16,7 +16,8 @@ use Rattle.papaya_executor.specs.declared.worker.Work.{Work}
 use Rattle.papaya_executor.specs.declared.worker.Work.TheVariants as work
 use Rattle.papaya_scenes.specs.declared.row.SlotUse.TheVariants as slot_use
 use Rattle.papaya_executor.proofs.Again.{there_again, used_on, work_own}
-use Rattle.papaya_executor.proofs.Places.{call_found, no_call, none_of, own_call, within}
+use Rattle.papaya_executor.proofs.Places.{call_found, no_call, own_call, within}
+use Rattle.papaya_scenes.proofs.NoCall.{none_of}
 use Rattle.papaya_executor.specs.IsThere.{ChangesAt, HasRow, IsThere, IsUsedAs, call_in, ending_in, making_in, place_of, use_at, worker_at, worker_with}
 use Rattle.papaya_scenes.specs.Scene.{Scene, slot_of}
 

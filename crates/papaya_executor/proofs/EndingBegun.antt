@@ -17,7 +17,8 @@ use Rattle.papaya_scenes.specs.declared.callers.TheConstants.{SLOTS}
 use Rattle.papaya_executor.specs.declared.worker.Work.TheVariants as work
 use Rattle.papaya_executor.proofs.Fresh.{caller_in, fresh_before, fresh_changes, no_calls_yet, no_ending_yet, no_making_yet, resting}
 use Rattle.papaya_executor.proofs.Made.{finished_at}
-use Rattle.papaya_executor.proofs.Places.{none_of, within}
+use Rattle.papaya_executor.proofs.Places.{within}
+use Rattle.papaya_scenes.proofs.NoCall.{none_of}
 use Rattle.papaya_executor.specs.Ending.{EndingBegins}
 use Rattle.papaya_executor.specs.IsThere.{IsThere}
 use Rattle.papaya_scenes.specs.Ending.{ending_begun}

@@ -8,7 +8,7 @@ use Rattle.papaya_scenes.specs.Given.Finishes.Machines.{machine_of}
 use Rattle.papaya_executor.specs.declared.executor.Executor.{Executor}
 use Rattle.papaya_scenes.specs.declared.callers.TheConstants.{SLOTS}
 use Rattle.papaya_executor.specs.declared.worker.Work.{Work}
-use Rattle.papaya_executor.proofs.Places.{none_of}
+use Rattle.papaya_scenes.proofs.NoCall.{none_of}
 use Rattle.papaya_executor.specs.IsThere.{ChangesAt, HasRow, IsThere, call_in, ending_in, in_slot, making_in, place_of, work_of, worker_at, worker_of}
 use Rattle.papaya_scenes.specs.Scene.{Scene, slot_of}
 

@@ -13,7 +13,7 @@ use Rattle.papaya_executor.specs.declared.executor.Executor.{Executor}
 use Rattle.papaya_scenes.specs.declared.row.SlotUse.TheVariants as slot_use
 use Rattle.papaya_executor.specs.declared.worker.Work.{Work}
 use Rattle.papaya_executor.proofs.Again.{own, there_again, used_on}
-use Rattle.papaya_executor.proofs.Places.{none_of}
+use Rattle.papaya_scenes.proofs.NoCall.{none_of}
 use Rattle.papaya_executor.specs.IsThere.{ChangesAt, HasRow, IsThere, IsUsedAs, call_in, ending_in, making_in, place_of, use_at, worker_at, worker_of}
 use Rattle.papaya_scenes.specs.Scene.{Scene, slot_of}
 

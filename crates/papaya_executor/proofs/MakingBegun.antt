@@ -12,7 +12,8 @@ use Rattle.papaya_scenes.specs.declared.callers.TheConstants.{SLOTS}
 use Rattle.papaya_executor.specs.declared.worker.Work.TheVariants as work
 use Rattle.papaya_executor.proofs.Fresh.{caller_in, fresh_before, fresh_changes, no_calls_yet, no_ending_yet, no_making_yet, resting}
 use Rattle.papaya_executor.proofs.Made.{made_at}
-use Rattle.papaya_executor.proofs.Places.{none_of, one_number}
+use Rattle.papaya_executor.proofs.Places.{one_number}
+use Rattle.papaya_scenes.proofs.NoCall.{none_of}
 use Rattle.papaya_executor.specs.IsThere.{IsThere}
 use Rattle.papaya_executor.specs.MakingBegins.{MakingBegins, next_making}
 use Rattle.papaya_scenes.specs.Scene.{Scene, slot_of}

@@ -26,7 +26,8 @@ use Rattle.papaya_executor.specs.declared.worker.Work.TheVariants as work
 use Rattle.papaya_executor.specs.declared.worker.Worker.{Worker}
 use Rattle.papaya_executor.proofs.Again.{later, there_again}
 use Rattle.papaya_executor.proofs.Makings.{set_there}
-use Rattle.papaya_executor.proofs.Places.{found_in, none_of}
+use Rattle.papaya_executor.proofs.Places.{found_in}
+use Rattle.papaya_scenes.proofs.NoCall.{none_of}
 use Rattle.papaya_executor.proofs.RowsGo.{Goes, goes}
 use Rattle.papaya_executor.specs.IsThere.{ChangesAt, HasRow, IsThere, IsUsedAs, call_in, ending_in, making_in, place_of, work_of, worker_at, worker_of, held_by}
 use Rattle.papaya_executor.specs.OnSlots.{row_on}

@@ -13,11 +13,6 @@ use Rattle.papaya_executor.specs.declared.worker.Worker.{Worker}
 use Rattle.papaya_executor.specs.IsThere.{call_in, ending_in, in_slot, making_in, place_of, worker_of, worker_with}
 use Rattle.papaya_scenes.specs.Scene.{slot_of}
 
--- what maps to nothing is nothing
-pub none_of : {X Y : Type 0} (f : X → Y) (it : Option X) → option_map f it ≡ None → it ≡ None
-none_of f None is = refl
-none_of f (Some x) is = absurd (cc is)
-
 -- a list has no more in it with a place for one more
 nothing : {X : Type 0} (k : ℕ) → slice_index_or {A = Option X} (None ∷ []) k None ≡ None
 nothing zero = refl

@@ -35,7 +35,7 @@ use Rattle.papaya_grows.proofs.Given.Settles.Hand.Asked.{walks_have_nothing}
 use Rattle.papaya_grows.proofs.Given.Settles.Hand.Calls.{calls_keep_owed}
 use Rattle.papaya_legal.specs.CallRuns.{CallsLeaveNothing, TellsEnd}
 use Rattle.papaya_grows.proofs.Given.Scenes.Goes.{goes_as}
-use Rattle.papaya_logged.proofs.Given.Executor.Places.{none_of}
+use Rattle.papaya_grows.proofs.Given.Scenes.NoCall.{none_of}
 use Rattle.papaya_grows.specs.Given.Scenes.Scene.{Scene}
 use Rattle.papaya_grows.specs.Given.Scenes.Stepping.{has_ended, scene_after}
 

@@ -23,7 +23,7 @@ use Rattle.papaya_executor.specs.declared.executor.Executor.{Executor}
 use Rattle.papaya_scenes.specs.declared.row.SlotUse.{SlotUse}
 use Rattle.papaya_executor.specs.declared.worker.Work.{Work}
 use Rattle.papaya_reclaiming.specs.Reclaiming.{NobodyHas, MayReclaim, IsReclaimingThere, Leaves, ReclaimsThere}
-use Rattle.papaya_executor.proofs.Places.{none_of}
+use Rattle.papaya_scenes.proofs.NoCall.{none_of}
 use Rattle.papaya_executor.specs.IsThere.{HasRow, IsThere, IsUsedAs, KeepsGiven, call_in, ending_in, held_by, making_in}
 use Rattle.papaya_scenes.proofs.Goes.{same_map_keeps}
 use Rattle.papaya_scenes.proofs.Told.{as_step}

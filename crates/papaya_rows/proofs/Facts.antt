@@ -11,7 +11,7 @@ use Rattle.papaya_logged.specs.Given.Scenes.declared.row.SlotUse.TheVariants as 
 use Rattle.papaya_logged.specs.Given.Scenes.declared.callers.TheConstants.{SLOTS}
 use Rattle.papaya_logged.specs.Given.Executor.declared.worker.Work.{Work}
 use Rattle.papaya_logged.specs.Given.Executor.declared.worker.Work.TheVariants as work
-use Rattle.papaya_logged.proofs.Given.Executor.Places.{none_of}
+use Rattle.papaya_logged.proofs.Given.Scenes.NoCall.{none_of}
 use Rattle.papaya_logged.specs.Given.Executor.IsThere.{HasRow, IsThere, IsUsedAs, call_in, ending_in, making_in, use_at, work_of}
 use Rattle.papaya_logged.specs.Given.Scenes.Scene.{Scene}
 use Rattle.papaya_logged.proofs.Given.Scenes.Rows.{never_rests}

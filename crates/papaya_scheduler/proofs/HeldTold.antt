@@ -31,7 +31,7 @@ use Rattle.papaya_rows.proofs.Facts.{row_rests}
 use Rattle.papaya_rows.proofs.Holders.{held, works_there}
 use Rattle.papaya_rows.proofs.Lists.{all_so, both_some, found_alike, found_has, found_once}
 use Rattle.papaya_scheduler.proofs.RanOn.{both_true}
-use Rattle.papaya_executor.proofs.Places.{none_of}
+use Rattle.papaya_scenes.proofs.NoCall.{none_of}
 use Rattle.papaya_executor.specs.IsThere.{call_in, work_of}
 use Rattle.papaya_scenes.specs.Scene.{slot_of}
 

@@ -25,7 +25,7 @@ use Rattle.papaya_scheduler.specs.Played.{StandsFor}
 use Rattle.papaya_scheduler.specs.declared.scheduler.Scheduler.{Scheduler}
 use Rattle.papaya_rows.proofs.Facts.{row_rests, used_once}
 use Rattle.papaya_rows.proofs.Least.{least_is, least_past}
-use Rattle.papaya_executor.proofs.Places.{none_of}
+use Rattle.papaya_scenes.proofs.NoCall.{none_of}
 use Rattle.papaya_executor.specs.IsThere.{IsUsedAs, call_in, use_at, work_of}
 use Rattle.papaya_scenes.specs.Scene.{Scene}
 

@@ -29,10 +29,10 @@ use Rattle.papaya_scenes.specs.Given.Finishes.Makings.{Beginning}
 use Rattle.papaya_scenes.specs.Given.Finishes.Maps.{with_call}
 use Rattle.papaya_executor.specs.declared.executor.Executor.{Executor}
 use Rattle.papaya_acts.specs.Acts.{OfCall, OfReply, OfAsking, OfMaking, OfEnding, StepsCall, StepsMaking, StepsEnding}
-use Rattle.papaya_acts.specs.Executors.{IsAct, CallsAreActs, OthersAreActs, ExecutorsAct}
+use Rattle.papaya_drives.specs.Executors.{IsAct, CallsAreActs, OthersAreActs, ExecutorsAct}
 use Rattle.papaya_acts.specs.Leads.{MakingCame, EndingCame}
 use Rattle.papaya_acts.specs.Lists.{AllMayStep}
-use Rattle.papaya_acts.proofs.ExecutorsBegin.{wants}
+use Rattle.papaya_drives.proofs.Begins.{wants}
 use Rattle.papaya_acts.proofs.Lists.{all_may_step}
 use Rattle.papaya_executor.specs.Ending.{EndsThere}
 use Rattle.papaya_executor.specs.IsThere.{IsThere, held_by}

@@ -1,0 +1,4 @@
+//! An executor does what it does by acts.
+#![tactic(auto)]
+
+pub mod law;
