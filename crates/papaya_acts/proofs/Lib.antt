@@ -5,6 +5,7 @@ pub mod Rows
 pub mod Left
 pub mod Lists
 mod Once
+pub mod Further
 mod Sums
 mod Counts
 mod RowSteps

@@ -1,4 +1,5 @@
 pub mod Acts
+pub mod Codes
 pub mod Leads
 pub mod Doings
 pub mod Lists
