@@ -3,7 +3,7 @@ use Rattle.std.specs.Prelude.{◌≡◌, ◌<◌, ◌+◌, ◌==◌, ℕ, Bool, 
 use Rattle.std.proofs.Common.{refl, sym, ap, subst, ◌∙◌, arith}
 use Rattle.seize_words.specs.Mem.{Mem, Took, value_at}
 use Rattle.seize_words.specs.Op.{Out, Found, Exchanged, Roomed}
-use Rattle.seize_words.specs.Plan.{Now, Steps, Ends}
+use Rattle.seize_words.specs.Plan.{Steps, Ends}
 use Rattle.seize_words.specs.declared.fault.Fault.{Fault}
 use Rattle.seize_words.specs.declared.fault.Fault.TheVariants.{SlotsUsedUp}
 use Rattle.seize.specs.declared.states.TheConstants.{LAST_SLOT, ACTIVE}
@@ -24,11 +24,10 @@ use Rattle.seize.specs.Enter.{enter_plan, unregister_plan}
 use Rattle.seize.specs.Law.{Entered}
 use Rattle.seize.specs.Leave as leave
 use Rattle.seize.specs.Register as register
-use Rattle.seize.specs.Settle.{counting_down, settle_plan}
+use Rattle.seize.specs.Settle.{settle_plan}
 use Rattle.seize.specs.World.{World, Row, Rests, Registers, Enters, Settles, Leaves, Frees, Use, Vacant, Outside, Inside, left_as, left_row, with_at, with_use, after_step, settles_on, leaves_on, registers_on, registered_use, Steps'}
 use Rattle.papaya_scenes.proofs.Given.SeizeMoves.State.Ghost.{State}
 use Rattle.papaya_scenes.proofs.Given.SeizeRule.Rows.Known.{FitsRow, FitsRegister, FitsLeave}
-use Rattle.papaya_scenes.proofs.Given.SeizeRule.Rows.Leaving.{steps_back}
 use Rattle.papaya_scenes.proofs.Given.SeizeRule.Rows.Others.{with_here}
 use Rattle.papaya_scenes.proofs.Given.SeizeRule.Rows.Teams.{shares}
 use Rattle.papaya_scenes.proofs.Given.SeizeRule.Words.Shows.{Extra}
@@ -52,6 +51,7 @@ use Rattle.papaya_executor.proofs.Again.{used_on}
 use Rattle.papaya_executor.proofs.Uses.{reached, used_then}
 use Rattle.papaya_executor.specs.IsThere.{HasRow, IsThere, IsUsedAs, use_at}
 use Rattle.papaya_executor.specs.OnSlots.{row_on}
+use Rattle.papaya_scenes.proofs.OnSlots.{left_at}
 use Rattle.papaya_scenes.proofs.Told.{as_step}
 use Rattle.papaya_scenes.specs.OnSlots.{RowSteps}
 use Rattle.papaya_scenes.specs.Rows.{change_of, left_by, of_registering, of_settling, of_storing, taken_as, uses_after}
@@ -121,36 +121,6 @@ module _ {T : Type 0} (c c2 : Register) (slot : ℕ) (m m2 : Mem T) where
       same : ◌≡◌ {A = Progress ℕ} (progress.Done slot) (progress.Done c.slot) → slot ≡ c.slot
       same is = cc is
   registered_at (registers.Refused fault) st = not_refused (value_at m2) c c2 slot c fault st.1
-
--- a leaving keeps its slot
-module _ {T : Type 0} (shown : ℕ → Option T) (c : Leave) (end : Leave × Settled T) where
-  counted : (b : Bool) → (if b then leave.standing c leaves.Frees else leave.standing c leaves.Over).slot ≡ c.slot
-  counted true = refl
-  counted false = refl
-
-  by_list : (b : Bool) (x y : Leave × Settled T) → x.0.slot ≡ c.slot → y.0.slot ≡ c.slot → Ends shown (if b then Now x else Now y) end → end.0.slot ≡ c.slot
-  by_list true x y same same2 is = ap (λ (p : Leave × Settled T). p.0.slot) is ∙ same
-  by_list false x y same same2 is = ap (λ (p : Leave × Settled T). p.0.slot) is ∙ same2
-
-  list_at : (out : Out T) → Ends shown (leave.list_taken c out) end → end.0.slot ≡ c.slot
-  list_at (Found head) is =
-      by_list (nat_lt ACTIVE head) (leave.standing c (leaves.Settles (counting_down c.slot c.batch_size head)), settled.Goes) (leave.counted_down c, settled.Goes) refl (counted c.frees) is
-  list_at _ is = ap (λ (p : Leave × Settled T). p.0.slot) is
-
-  settled_at : (settle : Settle) (p : Settled T) → (leave.settled c (settle, p)).0.slot ≡ c.slot
-  settled_at settle settled.Goes = refl
-  settled_at settle settled.Waits = refl
-  settled_at settle (settled.Gave value) = refl
-  settled_at settle settled.Done = counted c.frees
-
-module _ {T : Type 0} (defers : T → Option ℕ) (c : Leave) (m m2 : Mem T) (end : Leave × Settled T) where
-  left_at : (p : Leaving) → Steps Took value_at m (leave.plan_at defers c p) m2 end → end.0.slot ≡ c.slot
-  left_at leaves.Swaps st = list_at (value_at m2) c end st.0 st.2
-  left_at (leaves.Settles settle) st =
-      let back = steps_back (leave.settled c) m m2 (settle_plan defers settle) end st in
-      ap (λ (p : Leave × Settled T). p.0.slot) back.2 ∙ settled_at (value_at m2) c end back.0.0 back.0.1
-  left_at leaves.Frees st = ap (λ (p : Leave × Settled T). p.0.slot) st.2
-  left_at leaves.Over st = ap (λ (p : Leave × Settled T). p.0.slot) st.1
 
 -- a slot that a row works on is one of so many
 module _ (i : ℕ) (m : State) (x : Extra) where
