@@ -6,7 +6,6 @@ use Rattle.seize_words.specs.Plan.{May, Steps}
 use Rattle.seize.specs.World.{Row, Rests, with_at}
 use Rattle.seize.specs.declared.rows.settle.Settled.{Settled}
 use Rattle.seize.specs.declared.rows.settle.Settled.TheVariants as settled
-use Rattle.papaya_scenes.proofs.Given.SeizeAlone.Histories.UsersTurn.{AreBetween}
 use Rattle.papaya_scenes.specs.Given.Tables.Nodes.{deferred_word}
 use Rattle.papaya_scenes.specs.Given.Tables.declared.node.Node.{Node}
 use Rattle.papaya_raw.specs.EndMap.{end_map_plan}
@@ -15,7 +14,7 @@ use Rattle.papaya_teller.specs.declared.changed.Changed.TheVariants.{Nothing}
 use Rattle.papaya_scenes.proofs.Given.Callers.Together.Slots.{between_rows, between_slots}
 use Rattle.papaya_scenes.specs.Given.Callers.Rows.{LeavesSlots}
 use Rattle.papaya_scenes.specs.Given.Finishes.Endings.{Finishing, EndingsTogether, FinishingTold, StepsOfEnding, waiting_by}
-use Rattle.papaya_scenes.specs.Given.Finishes.FactsEnds.{Deed, Looks, TakesPair, LeavesTable, JoinsPair, TakesLeft, TakesCounter, WritesRoot, events_of}
+use Rattle.papaya_scenes.specs.Given.Finishes.FactsEnds.{events_of}
 use Rattle.papaya_scenes.proofs.Given.Finishes.Among.Own.Steps.{endings_stand}
 use Rattle.papaya_executor.specs.declared.executor.Executor.{Executor}
 use Rattle.papaya_executor.specs.declared.worker.Work.{Work}
@@ -27,19 +26,10 @@ use Rattle.papaya_executor.proofs.Makings.{set_there}
 use Rattle.papaya_executor.proofs.Places.{ending_found}
 use Rattle.papaya_executor.specs.Ending.{ending_on}
 use Rattle.papaya_executor.specs.IsThere.{ChangesAt, HasRow, IsThere, call_in, ending_in, making_in, place_of, worker_at, worker_of, held_by}
+use Rattle.papaya_scenes.proofs.Between.{deed_between}
 use Rattle.papaya_scenes.proofs.Told.{as_step}
 use Rattle.papaya_scenes.specs.Ending.{EndingComesToThere, EndingStepsFrom}
 use Rattle.papaya_scenes.specs.Scene.{IsEnding, Scene, slot_of}
-
--- what a step of an end does is none of a row
-deed_between : (T : Type 0) (i : ℕ) (deed : Deed) → AreBetween {T = T} (events_of i deed)
-deed_between T i Looks = tt
-deed_between T i (TakesPair b) = (tt, (tt, (tt, tt)))
-deed_between T i (LeavesTable b further) = (tt, (tt, tt))
-deed_between T i (JoinsPair b word) = (tt, tt)
-deed_between T i (TakesLeft b) = (tt, tt)
-deed_between T i (TakesCounter b) = (tt, tt)
-deed_between T i (WritesRoot at word) = (tt, tt)
 
 module _ (K V : Type 0) where
   no_call : (m : ℕ) (ending : EndMap) (told : Settled (Node K V)) → call_in (ending_on ending told) m ≡ None

@@ -26,20 +26,12 @@ use Rattle.papaya_executor.proofs.Uses.{inside_now, outside_now, taken_now, used
 use Rattle.papaya_executor.specs.IsThere.{ChangesAt, IsThere, IsUsedAs, call_in, place_of, use_at, work_of, worker_of, held_by}
 use Rattle.papaya_executor.specs.OnSlots.{MayBegin, NobodyIn, RowBeginsThere}
 use Rattle.papaya_scenes.proofs.Goes.{same_map_keeps}
+use Rattle.papaya_scenes.proofs.OnSlots.{its_row}
 use Rattle.papaya_scenes.specs.OnSlots.{HappensTo}
 use Rattle.papaya_scenes.specs.Rows.{begun_row, request_of, uses_begun}
 use Rattle.papaya_scenes.specs.Scene.{Scene, row_of, slot_of}
 
--- the row of each works on its slot, and neither retires nor defers a block
-its_row : (slot size : ℕ) (called : SlotCall) → IsRowOn slot (row_of (begun_row slot size called))
-its_row slot size (call.Register enters) = tt
-its_row slot size call.Enter = refl
-its_row slot size call.Leave = refl
-its_row slot size call.LeaveOwned = refl
-its_row slot size call.Refresh = refl
-its_row slot size call.Flush = refl
-its_row slot size call.Unregister = refl
-
+-- the row of each neither retires nor defers a block
 of_slots : (slot : ℕ) (called : SlotCall) → IsOfSlots (request_of slot called)
 of_slots slot (call.Register enters) = tt
 of_slots slot call.Enter = tt

@@ -1,3 +1,4 @@
+pub mod Between
 pub mod Goes
 pub mod Leads
 pub mod May

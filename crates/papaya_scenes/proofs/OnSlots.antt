@@ -1,4 +1,4 @@
--- A row that works on a slot does so after its step: a leaving keeps its slot.
+-- The row that begins works on its slot, and does so after a step: a leaving keeps its slot.
 use Rattle.std.specs.Prelude.{◌≡◌, ℕ, Bool, true, false, Option, nat_lt, if◌then◌else◌}
 use Rattle.std.proofs.Common.{refl, ap, ◌∙◌}
 use Rattle.seize_words.specs.Mem.{Mem, Took, value_at}
@@ -14,6 +14,21 @@ use Rattle.seize.specs.declared.states.TheConstants.{ACTIVE}
 use Rattle.seize.specs.Leave as leave
 use Rattle.seize.specs.Settle.{counting_down, settle_plan}
 use Rattle.papaya_finishes.proofs.Given.SeizeRule.Rows.Leaving.{steps_back}
+use Rattle.papaya_finishes.specs.Given.Callers.Rows.{IsRowOn}
+use Rattle.papaya_scenes.specs.Rows.{begun_row}
+use Rattle.papaya_scenes.specs.Scene.{row_of}
+use Rattle.papaya_scenes.specs.declared.row.SlotCall.{SlotCall}
+use Rattle.papaya_scenes.specs.declared.row.SlotCall.TheVariants as call
+
+-- the row of each works on its slot
+pub its_row : (slot size : ℕ) (called : SlotCall) → IsRowOn slot (row_of (begun_row slot size called))
+its_row slot size (call.Register enters) = tt
+its_row slot size call.Enter = refl
+its_row slot size call.Leave = refl
+its_row slot size call.LeaveOwned = refl
+its_row slot size call.Refresh = refl
+its_row slot size call.Flush = refl
+its_row slot size call.Unregister = refl
 
 -- a leaving keeps its slot
 module _ {T : Type 0} (shown : ℕ → Option T) (c : Leave) (end : Leave × Settled T) where
