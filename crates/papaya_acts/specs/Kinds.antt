@@ -86,13 +86,14 @@ module _ {K V : Type 0} where
   held_in batch_size roots changed s = record { memory = s.world.memory; changed = changed; batch_size = batch_size; roots = roots }
 
 -- Keys have a hash by each hasher, and each map has one by its number. A caller's number tells its slot.
-module _ {K V S : Type 0} (same : K → K → Bool) (by_hasher : S → K → ℕ) (hash : ℕ → K → ℕ) where
+module _ {K V S : Type 0} (by_hasher : S → K → ℕ) (hash : ℕ → K → ℕ) where
   -- A map is made with a hasher of which it has its hash, and a row begins on the slot of its caller.
   abbrev pub IsOwn : Act K V S → Type 0
   IsOwn (BeginsMaking i map hasher given places) = by_hasher hasher ≡ hash map
   IsOwn (BeginsRow i request) = (called : SlotCall) × (request ≡ request_of (slot_of i) called)
   IsOwn act = Unit {0}
 
+module _ {K V S : Type 0} (same : K → K → Bool) (by_hasher : S → K → ℕ) (hash : ℕ → K → ℕ) where
   -- where a step of its kind leads from there, that has told this
   abbrev pub LeadsAs : Act K V S → Scene K V → Answer K V → Held K V → Held K V → Type 0
   LeadsAs (BeginsCall i m wanted) s answer old new =
@@ -110,9 +111,9 @@ module _ {K V S : Type 0} (same : K → K → Bool) (by_hasher : S → K → ℕ
   LeadsAs (BeginsRow i request) s answer old new = (called : SlotCall) × (request ≡ request_of (slot_of i) called) × RowBegins same hash called i s old new
   LeadsAs (StepsRow i g) s answer old new = RowLeads same hash i (row_told (s.world.row i) g s.world.memory) s old new
 
-  -- The promise: an act of its own leads so, from a scene of what is held to one of what is held then.
-  abbrev pub ActsLeadAsSteps : ℕ → ℕ → Type 0
-  ActsLeadAsSteps batch_size roots =
-      (s n : Scene K V) (before : Changed) → IsAt same hash (held_in batch_size roots before s) s → AllStand same by_hasher batch_size roots slot_of n → (act : Act K V S) → IsOwn act
-      → MayBe same by_hasher batch_size roots slot_of act s → (told : Answer K V) → Led same by_hasher batch_size roots slot_of act s told n
-      → LeadsAs act s told (held_in batch_size roots before s) (held_in batch_size roots (changed_by same act s) n) × IsAt same hash (held_in batch_size roots (changed_by same act s) n) n
+-- The promise: an act of its own leads so, from a scene of what is held to one of what is held then.
+abbrev pub ActsLeadAsSteps : {K S : Type 0} (V : Type 0) (same : K → K → Bool) (by_hasher : S → K → ℕ) (hash : ℕ → K → ℕ) (batch_size roots : ℕ) → Type 0
+ActsLeadAsSteps {K} {S} V same by_hasher hash batch_size roots =
+    (s n : Scene K V) (before : Changed) → IsAt same hash (held_in batch_size roots before s) s → AllStand same by_hasher batch_size roots slot_of n
+    → (act : Act K V S) → IsOwn by_hasher hash act → MayBe same by_hasher batch_size roots slot_of act s → (told : Answer K V) → Led same by_hasher batch_size roots slot_of act s told n
+    → LeadsAs same by_hasher hash act s told (held_in batch_size roots before s) (held_in batch_size roots (changed_by same act s) n) × IsAt same hash (held_in batch_size roots (changed_by same act s) n) n

@@ -2,6 +2,7 @@
 ghost use Rattle.std.specs.Prelude.{ℕ, Bool};
 ghost use Rattle.papaya_acts.specs.Counts.{CountingsAddUp, CountingsAnswerTheSum};
 ghost use Rattle.papaya_acts.specs.Courses.{CoursesAgree};
+ghost use Rattle.papaya_acts.specs.Kinds.{ActsLeadAsSteps};
 ghost use Rattle.papaya_acts.specs.Reclaiming.{ReclaimingIsByActs};
 ghost use Rattle.papaya_acts.specs.Lists.{Course, StepsAreActs, ListsDetermine};
 
@@ -29,4 +30,11 @@ pub fn countings_answer_the_sum<K, V, S>()
 /// computed from the memory and from what that was free to choose, and none is left out.
 pub fn reclaiming_is_by_acts<K, V>()
     ensures acts { (same : K → K → Bool) (batch_size roots : ℕ) (slot : ℕ → ℕ) → ReclaimingIsByActs V same batch_size roots slot }
+{}
+
+/// Each act leads where a step of its kind does, of what is held: a call begins, takes a step, is told something, asked for a pair or given up, a making or an
+/// end begins or takes a step, and so does a row on the slot of its caller. What its one operation has changed is computed from the memory, and from what that
+/// was free to choose, and so is what a row tells. So whatever is so of each kind of step is so of each act.
+pub fn acts_lead_as_steps<K, V, S>()
+    ensures leads { (same : K → K → Bool) (by_hasher : S → K → ℕ) (hash : ℕ → K → ℕ) (batch_size roots : ℕ) → ActsLeadAsSteps V same by_hasher hash batch_size roots }
 {}

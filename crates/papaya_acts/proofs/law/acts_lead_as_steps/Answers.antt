@@ -1,0 +1,6 @@
+-- Acts lead where steps of their kinds do.
+use Rattle.papaya_acts.proofs.Kinds.{acts_lead_as_steps}
+use Rattle.papaya_acts.proofs.law.acts_lead_as_steps.Goals as goal
+
+pub returns : goal.returns
+returns c d = record { leads = acts_lead_as_steps _ }
