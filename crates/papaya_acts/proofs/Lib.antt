@@ -14,4 +14,4 @@ mod Agree
 mod Samples
 mod Untrue
 pub mod Reclaiming
-pub mod Kinds
+pub mod AsSteps

@@ -6,4 +6,4 @@ pub mod Lists
 pub mod Counts
 pub mod Reclaiming
 pub mod Courses
-pub mod Kinds
+pub mod AsSteps

@@ -2,7 +2,7 @@
 ghost use Rattle.std.specs.Prelude.{ℕ, Bool};
 ghost use Rattle.papaya_acts.specs.Counts.{CountingsAddUp, CountingsAnswerTheSum};
 ghost use Rattle.papaya_acts.specs.Courses.{CoursesAgree};
-ghost use Rattle.papaya_acts.specs.Kinds.{ActsLeadAsSteps};
+ghost use Rattle.papaya_acts.specs.AsSteps.{ActsLeadAsSteps};
 ghost use Rattle.papaya_acts.specs.Reclaiming.{ReclaimingIsByActs};
 ghost use Rattle.papaya_acts.specs.Lists.{Course, StepsAreActs, ListsDetermine};
 

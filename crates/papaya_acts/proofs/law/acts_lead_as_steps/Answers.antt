@@ -1,5 +1,5 @@
 -- Acts lead where steps of their kinds do.
-use Rattle.papaya_acts.proofs.Kinds.{acts_lead_as_steps}
+use Rattle.papaya_acts.proofs.AsSteps.All.{acts_lead_as_steps}
 use Rattle.papaya_acts.proofs.law.acts_lead_as_steps.Goals as goal
 
 pub returns : goal.returns

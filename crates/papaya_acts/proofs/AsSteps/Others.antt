@@ -32,10 +32,10 @@ use Rattle.papaya_scenes.specs.Given.Finishes.Makings.{Beginning}
 use Rattle.papaya_scenes.specs.Given.Finishes.Maps.{Standing}
 use Rattle.papaya_scenes.proofs.Given.Finishes.Among.Begins.{endings_begin}
 use Rattle.papaya_acts.specs.Acts.{Act, Answer, OfMaking, OfEnding, BeginsMaking, StepsMaking, BeginsEnding, StepsEnding}
-use Rattle.papaya_acts.specs.Kinds.{LeadsAs, changed_by, changed_of, held_in}
+use Rattle.papaya_acts.specs.AsSteps.{LeadsAs, changed_by, changed_of, held_in}
 use Rattle.papaya_acts.specs.Leads.{AllStand, Led, MakingCame, EndingCame, MayBe, making_steps, ending_steps}
-use Rattle.papaya_acts.proofs.Kinds.There.{OnSlots, Stand, held_as, one_made}
-use Rattle.papaya_acts.proofs.Kinds.Told.{of_some, was_told}
+use Rattle.papaya_acts.proofs.AsSteps.There.{OnSlots, Stand, held_as, one_made}
+use Rattle.papaya_acts.proofs.AsSteps.Told.{of_some, was_told}
 use Rattle.papaya_scenes.proofs.Between.{deed_between}
 use Rattle.papaya_scenes.proofs.NoCall.{none_is}
 use Rattle.papaya_scenes.specs.Ending.{EndingComesToThere, ending_begun}

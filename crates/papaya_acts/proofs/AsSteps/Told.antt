@@ -9,7 +9,7 @@ use Rattle.seize_acts.proofs.Answers.{answer_gives, ended, same_some, some}
 use Rattle.papaya_scenes.specs.Given.Tables.declared.node.Node.{Node}
 use Rattle.papaya_scenes.specs.Given.Teller.Tells.{StepsTold}
 use Rattle.papaya_scenes.specs.Given.Teller.declared.changed.Changed.TheVariants.{Nothing as NoChange}
-use Rattle.papaya_acts.specs.Kinds.{changed_as, changed_of}
+use Rattle.papaya_acts.specs.AsSteps.{changed_as, changed_of}
 
 module _ {K V R : Type 0} (m : Mem (Node K V)) (g : Grant) where
   pub was_told : (plan : Plan (Node K V) R) (p : Mem (Node K V) × R) → stepped m g plan ≡ Some p → StepsTold K V R m NoChange plan p.0 (changed_of m g plan) p.1

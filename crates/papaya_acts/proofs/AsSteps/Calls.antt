@@ -20,10 +20,10 @@ use Rattle.papaya_scenes.specs.Given.Finishes.Machines.{machine_of, MachineSteps
 use Rattle.papaya_scenes.specs.Given.Finishes.Maps.{Standing, with_call}
 use Rattle.papaya_acts.specs.Acts.{Answer, OfCall, OfReply, OfAsking, Wanted, Get, Remove, Insert, TryToInsert, Compute, Update, UpdateOrInsert, TryToInsertWith, RemoveIf, MakeRoom, Count, GoOver, begun}
 use Rattle.papaya_acts.specs.Acts.{Act, BeginsCall, StepsCall, TellsCall, AsksCall, StopsCall}
-use Rattle.papaya_acts.specs.Kinds.{LeadsAs, changed_by, changed_of, held_in}
+use Rattle.papaya_acts.specs.AsSteps.{LeadsAs, changed_by, changed_of, held_in}
 use Rattle.papaya_acts.specs.Leads.{AllStand, CallCame, Led, call_at}
-use Rattle.papaya_acts.proofs.Kinds.There.{Hashed, Stand, calls_there, held_as, one_on_slot}
-use Rattle.papaya_acts.proofs.Kinds.Told.{of_some, was_told}
+use Rattle.papaya_acts.proofs.AsSteps.There.{Hashed, Stand, calls_there, held_as, one_on_slot}
+use Rattle.papaya_acts.proofs.AsSteps.Told.{of_some, was_told}
 use Rattle.papaya_acts.proofs.Tests.{its_class}
 use Rattle.papaya_scenes.proofs.Goes.{moved_map_keeps, same_map_keeps}
 use Rattle.papaya_scenes.specs.Beginning.{Begins}

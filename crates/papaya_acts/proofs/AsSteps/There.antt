@@ -15,7 +15,7 @@ use Rattle.papaya_scenes.specs.Given.Finishes.Maps.{Standing, IsSameMap}
 use Rattle.papaya_scenes.proofs.Goes.{same_map_keeps}
 use Rattle.papaya_scenes.specs.Held.{Held, IsAt}
 use Rattle.papaya_scenes.specs.Scene.{Scene, slot_of}
-use Rattle.papaya_acts.specs.Kinds.{held_in}
+use Rattle.papaya_acts.specs.AsSteps.{held_in}
 
 module _ {K V : Type 0} (batch_size roots : ℕ) where
   -- what is held is that of its memory and of what was changed

@@ -36,10 +36,10 @@ use Rattle.papaya_scenes.proofs.Given.Callers.Together.Came.{came_reached}
 use Rattle.papaya_scenes.proofs.Given.Callers.Together.Slots.{step_leaves}
 use Rattle.papaya_scenes.specs.Given.Finishes.Maps.{Standing, IsSameMap}
 use Rattle.papaya_acts.specs.Acts.{Act, Answer, BeginsRow, StepsRow}
-use Rattle.papaya_acts.specs.Kinds.{LeadsAs, changed_by, changed_of, held_in, row_changed, row_told}
+use Rattle.papaya_acts.specs.AsSteps.{LeadsAs, changed_by, changed_of, held_in, row_changed, row_told}
 use Rattle.papaya_acts.specs.Leads.{AllStand, Led, MayBe}
-use Rattle.papaya_acts.proofs.Kinds.There.{Stand, one_on_slot, same_hashed}
-use Rattle.papaya_acts.proofs.Kinds.Told.{of_some, was_told}
+use Rattle.papaya_acts.proofs.AsSteps.There.{Stand, one_on_slot, same_hashed}
+use Rattle.papaya_acts.proofs.AsSteps.Told.{of_some, was_told}
 use Rattle.papaya_scenes.proofs.OnSlots.{its_row, left_at}
 use Rattle.papaya_scenes.proofs.Rows.{begun_there}
 use Rattle.papaya_scenes.specs.Held.{Held, IsAt}

@@ -1,15 +1,10 @@
--- Each act leads where a step of its kind does.
-pub mod Told
-pub mod There
-pub mod Calls
-pub mod Others
-pub mod Rows
+-- Each act leads where a step of its kind does, whichever it is.
 use Rattle.std.specs.Prelude.{ℕ, Bool}
 use Rattle.papaya_acts.specs.Acts.{BeginsCall, StepsCall, TellsCall, AsksCall, StopsCall, BeginsMaking, StepsMaking, BeginsEnding, StepsEnding, BeginsRow, StepsRow}
-use Rattle.papaya_acts.specs.Kinds.{ActsLeadAsSteps}
-use Rattle.papaya_acts.proofs.Kinds.Calls.{begins_as, steps_as, told_as, asked_as, stopped_as}
-use Rattle.papaya_acts.proofs.Kinds.Others.{making_begins_as, making_steps_as, ending_begins_as, ending_steps_as}
-use Rattle.papaya_acts.proofs.Kinds.Rows.{row_begins_as, row_steps_as}
+use Rattle.papaya_acts.specs.AsSteps.{ActsLeadAsSteps}
+use Rattle.papaya_acts.proofs.AsSteps.Calls.{begins_as, steps_as, told_as, asked_as, stopped_as}
+use Rattle.papaya_acts.proofs.AsSteps.Others.{making_begins_as, making_steps_as, ending_begins_as, ending_steps_as}
+use Rattle.papaya_acts.proofs.AsSteps.Rows.{row_begins_as, row_steps_as}
 
 pub acts_lead_as_steps : {K S : Type 0} (V : Type 0) (same : K → K → Bool) (by_hasher : S → K → ℕ) (hash : ℕ → K → ℕ) (batch_size roots : ℕ) → ActsLeadAsSteps V same by_hasher hash batch_size roots
 acts_lead_as_steps V same by_hasher hash batch_size roots s n before at all (BeginsCall i m wanted) own may told led =
