@@ -241,9 +241,9 @@ module _ {K V S : Type 0} (same : K → K → Bool) (hash : S → K → ℕ) (ba
   add_up : (i m : ℕ) (doings : List (Doing K V S)) (x y : Reached V same hash batch_size roots slot) (words : List ℕ) → HaveRead i m x words
       → (led : LedOn V same hash batch_size roots slot course doings x y) → HaveRead i m y (words_on same hash batch_size roots slot course i m doings x y words led)
   add_up i m [] x y words before led c here = before c (ap (λ (z : Reached V same hash batch_size roots slot). z.0.0.calls m i) (sym led) ∙ here)
-  add_up i m (doing ∷ doings) x y words before (may, led) =
+  add_up i m (doing ∷ doings) x y words before (may, led) c here =
       add_up i m doings (on_by V same hash batch_size roots slot course x doing may) y (read_by i m doing x.0.0 words)
-      (λ c here. by_doing same hash batch_size roots slot i m words x.0 (course.next x.0 doing may) before c here doing (course.told x.0 doing may) (course.leads x.0 doing may)) led
+      (λ c here. by_doing same hash batch_size roots slot i m words x.0 (course.next x.0 doing may) before c here doing (course.told x.0 doing may) (course.leads x.0 doing may)) led c here
 
   pub countings_add_up : CountingsAddUp same hash batch_size roots slot course
   countings_add_up doings x led i m = add_up i m doings (nothing_done V same hash batch_size roots slot course) x [] (λ c here. absurd (cc here)) led

@@ -69,6 +69,9 @@ ActParts K V S =
     (ℕ × (ℕ × Wanted K V))
     ⊎ ((ℕ × (ℕ × Grant)) ⊎ ((ℕ × (ℕ × Reply V)) ⊎ ((ℕ × (ℕ × ℕ)) ⊎ ((ℕ × (ℕ × (S × (Setting × ℕ)))) ⊎ ((ℕ × (ℕ × Grant)) ⊎ (ℕ × Request))))))
 
+abbrev DoingParts : Type 0 → Type 0 → Type 0 → Type 0
+DoingParts K V S = Act K V S ⊎ ((ℕ × ℕ) ⊎ Grant)
+
 module _ {K V : Type 0} where
   abbrev wanted_split : Wanted K V → WantedParts K V
   wanted_split (Get key) = inl (0, key)
@@ -220,10 +223,7 @@ module _ {K V S : Type 0} where
 
   -- and what a caller does that reclaims all
 
-  abbrev DoingParts : Type 0
-  DoingParts = Act K V S ⊎ ((ℕ × ℕ) ⊎ Grant)
-
-  abbrev doing_split : Doing K V S → DoingParts
+  abbrev doing_split : Doing K V S → DoingParts K V S
   doing_split (Does act) = inl act
   doing_split (BeginsReclaiming i) = inr (inl (0, i))
   doing_split (BeginsClearing i) = inr (inl (1, i))
@@ -233,7 +233,7 @@ module _ {K V S : Type 0} where
   all_kind zero i = BeginsReclaiming i
   all_kind (suc k) i = BeginsClearing i
 
-  abbrev doing_join : DoingParts → Doing K V S
+  abbrev doing_join : DoingParts K V S → Doing K V S
   doing_join (inl act) = Does act
   doing_join (inr (inl p)) = all_kind p.0 p.1
   doing_join (inr (inr g)) = StepsReclaiming g
@@ -245,7 +245,7 @@ module _ {K V S : Type 0} where
   doing_join-split (StepsReclaiming g) = refl
 
   abbrev pub coded_doing : Coded K → Coded V → Coded S → Coded (Doing K V S)
-  coded_doing k v s = code_by DoingParts (coded⊎ (coded_act k v s) (coded⊎ (coded× coded_ℕ coded_ℕ) coded_grant)) doing_split doing_join doing_join-split
+  coded_doing k v s = code_by (DoingParts K V S) (coded⊎ (coded_act k v s) (coded⊎ (coded× coded_ℕ coded_ℕ) coded_grant)) doing_split doing_join doing_join-split
 
   -- and lists of both, the newest last
   abbrev pub coded_doings : Coded K → Coded V → Coded S → Coded (List (Doing K V S))

@@ -119,11 +119,11 @@ module _ {K V S : Type 0} (same : K → K → Bool) (by_hasher : S → K → ℕ
     goes : Stands after → Goes m came.call
     goes stand = (came.standing, came.machine, came.stands, was_told s.world.memory g plan (came.memory, (came.machine, came.progress)) came.computed, came.did, there stand)
 
-    pub steps_as : Leads (StepsCall i m g) told (changed_by same {S = S} (StepsCall i m g) s) n
+    pub steps_as : Leads (StepsCall i m g) told (changed_by {S = S} same (StepsCall i m g) s) n
     steps_as =
-        onto (StepsCall i m g) told (changed_by same {S = S} (StepsCall i m g) s) after came.comes
+        onto (StepsCall i m g) told (changed_by {S = S} same (StepsCall i m g) s) after came.comes
         (λ stand. subst (λ (h : Held K V). LeadsAs same by_hasher hash (StepsCall i m g) s told old h × IsAt same hash h after)
-        (sym (held_as batch_size roots came.did.w2.memory came.memory (changed_by same {S = S} (StepsCall i m g) s) new.changed came.did.memory
+        (sym (held_as batch_size roots came.did.w2.memory came.memory (changed_by {S = S} same (StepsCall i m g) s) new.changed came.did.memory
         (of_some (λ it. changed_of s.world.memory g (machine_plan same same it.0.hash (machine_of it.1))) NoChange (call_at s i m) (came.standing, came.call) its_call)))
         ((came.progress, came.tells, one_call came.call came.here Goes (goes stand)), there stand))
 

@@ -140,11 +140,11 @@ module _ {K V S : Type 0} (same : K → K → Bool) (by_hasher : S → K → ℕ
           × (did : MakingStepsAmong V same same batch_size roots slot_of s.world s.maps s.calls s.makers s.enders i c m2 (opening, told))
           × MakingComesToThere same (IsAt same hash new) s old i c opening did.step.w2 told
 
-      pub making_steps_as : (answer : Answer K V) → answer ≡ OfMaking told → Leads (StepsMaking i g) answer (changed_by same {S = S} (StepsMaking i g) s) n
+      pub making_steps_as : (answer : Answer K V) → answer ≡ OfMaking told → Leads (StepsMaking i g) answer (changed_by {S = S} same (StepsMaking i g) s) n
       making_steps_as answer told_is =
           let to = made told did came in
           subst (λ (h : Held K V). LeadsAs same by_hasher hash (StepsMaking i g) s answer old h × IsAt same hash h n)
-          (sym (held_as batch_size roots n.world.memory m2 (changed_by same {S = S} (StepsMaking i g) s) new.changed to.0
+          (sym (held_as batch_size roots n.world.memory m2 (changed_by {S = S} same (StepsMaking i g) s) new.changed to.0
           (of_some (λ b. changed_of s.world.memory g (new_map_plan b.machine)) NoChange (s.makers i) b makes)))
           ((told, told_is, λ c here. subst Goes (same_some b c (sym makes ∙ here)) (machine, was_told s.world.memory g making (m2, (machine, told)) computed, did, to.1)), to.2)
 
@@ -216,10 +216,10 @@ module _ {K V S : Type 0} (same : K → K → Bool) (by_hasher : S → K → ℕ
           × (did : StepsOfEnding V same same batch_size roots slot_of s.world s.maps s.calls s.makers s.enders i c m2 (ending, told))
           × EndingComesToThere same (IsAt same hash newer) s i c ending did.w2 did.deed told
 
-      pub ending_steps_as : (answer : Answer K V) → answer ≡ OfEnding told → Leads (StepsEnding i g) answer (changed_by same {S = S} (StepsEnding i g) s) n
+      pub ending_steps_as : (answer : Answer K V) → answer ≡ OfEnding told → Leads (StepsEnding i g) answer (changed_by {S = S} same (StepsEnding i g) s) n
       ending_steps_as answer told_is =
           let to = gone told did came in
           subst (λ (h : Held K V). LeadsAs same by_hasher hash (StepsEnding i g) s answer old h × IsAt same hash h n)
-          (sym (held_as batch_size roots n.world.memory m2 (changed_by same {S = S} (StepsEnding i g) s) newer.changed to.0
+          (sym (held_as batch_size roots n.world.memory m2 (changed_by {S = S} same (StepsEnding i g) s) newer.changed to.0
           (of_some (λ f. changed_of s.world.memory g (end_map_plan f.machine)) NoChange (s.enders i) f ends)))
           ((told, told_is, λ c here. subst Ends (same_some f c (sym ends ∙ here)) (machine, was_told s.world.memory g ending (m2, (machine, told)) computed, did, to.1)), to.2)

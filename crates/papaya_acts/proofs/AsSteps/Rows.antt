@@ -241,7 +241,7 @@ module _ {K V S : Type 0} (same : K → K → Bool) (by_hasher : S → K → ℕ
   row_begins_as request called own may told (w2, happens, maps2, as_they_were, none, is) =
       onto (Leads (BeginsRow i request) told NoChange) (record s { world = w2; maps = maps2 }) is
       (λ stand. let at2 = there w2 maps2 as_they_were its (λ j ne. begins_others deferred_word batch_size s.world w2 i j ne request happens.1) NoChange stand in
-      ((called, own, begins_memory deferred_word batch_size i request s.world w2 happens.1, may.0, w2, it, maps2, as_they_were, at2), at2))
+      ((called, own, (begins_memory deferred_word batch_size i request s.world w2 happens.1, may.0, (w2, it, maps2, as_they_were, at2))), at2))
     where
       it : Happens deferred_word batch_size (Begin i (request_of (slot_of i) called)) s.world w2
       it = subst (λ (r : Request). Happens deferred_word batch_size (Begin i r) s.world w2) own happens
@@ -249,7 +249,7 @@ module _ {K V S : Type 0} (same : K → K → Bool) (by_hasher : S → K → ℕ
       its : IsRowOn (slot_of i) (w2.row i)
       its = subst (IsRowOn (slot_of i)) (sym (begun_there deferred_word batch_size i s.world w2 (slot_of i) called it.1)) (its_row (slot_of i) batch_size called)
 
-  pub row_steps_as : (g : Grant) → (told : Answer K V) → Led same by_hasher batch_size roots slot_of (StepsRow i g) s told n → Leads (StepsRow i g) told (changed_by same {S = S} (StepsRow i g) s) n
+  pub row_steps_as : (g : Grant) → (told : Answer K V) → Led same by_hasher batch_size roots slot_of (StepsRow i g) s told n → Leads (StepsRow i g) told (changed_by {S = S} same (StepsRow i g) s) n
   row_steps_as g told (w2, computed, happens, maps2, as_they_were, none, is) =
       onto (Leads (StepsRow i g) told (row_changed (s.world.row i) g s.world.memory)) (record s { world = w2; maps = maps2 }) is (λ stand. (leads stand, at2 stand))
     where
@@ -264,9 +264,9 @@ module _ {K V S : Type 0} (same : K → K → Bool) (by_hasher : S → K → ℕ
 
       leads : Stands (record s { world = w2; maps = maps2 })
           → RowLeads same hash i (row_told (s.world.row i) g s.world.memory) s old (held_in batch_size roots (row_changed (s.world.row i) g s.world.memory) (record s { world = w2; maps = maps2 }))
-      leads stand row here =
-          let k = goes s.world i g batch_size came w2 row here.1 (subst (λ (r : Row). row_steps deferred_word i r g s.world ≡ Some w2) here.1 computed) in
+      leads stand row on =
+          let k = goes s.world i g batch_size came w2 row on.1 (subst (λ (r : Row). row_steps deferred_word i r g s.world ≡ Some w2) on.1 computed) in
           subst (λ (r : Row). (after : SlotRow) × RowSteps K V row s.world.memory w2.memory (row_changed r g s.world.memory) (after, row_told r g s.world.memory)
           × (did : HappensTo (IsAt same hash (held_in batch_size roots (row_changed (s.world.row i) g s.world.memory) (record s { world = w2; maps = maps2 }))) (Step i) s old)
-          × (did.0.row i ≡ row_then after (row_told r g s.world.memory))) (sym here.1)
+          × (did.0.row i ≡ row_then after (row_told r g s.world.memory))) (sym on.1)
           (k.after, k.steps, (w2, happens, maps2, as_they_were, at2 stand), k.row_is)
