@@ -9,7 +9,6 @@ use Rattle.seize_acts.specs.Codes.{coded_request}
 use Rattle.papaya_scenes.specs.Given.Tables.declared.resize_mode.ResizeMode.{ResizeMode}
 use Rattle.papaya_scenes.specs.Given.Tables.declared.resize_mode.ResizeMode.TheVariants as mode
 use Rattle.papaya_scenes.specs.Given.Tables.declared.setting.Setting.{Setting}
-use Rattle.papaya_scenes.specs.Given.Sweeps.declared.sweep.Purpose.{Purpose}
 use Rattle.papaya_scenes.specs.Given.Sweeps.declared.sweep.Purpose.TheVariants as purpose
 use Rattle.papaya_scenes.specs.Given.Raw.declared.machines.asking.Reply.{Reply}
 use Rattle.papaya_scenes.specs.Given.Raw.declared.machines.asking.Reply.TheVariants as reply

@@ -2,10 +2,10 @@
 use Rattle.std.specs.Prelude.{◌≡◌, ℕ, ◌==◌, Bool, true, false, if◌then◌else◌, Option, Some, None, Ok, Err, option_map}
 use Rattle.std.proofs.Common.{refl, ap, sym, subst, ◌∙◌}
 use Rattle.std.proofs.Math.Path.{fun_ext}
-use Rattle.seize_words.specs.Op.{Out, Exchange, Load, Make, Rewrite, Take, Add, Exchanged, Found, Made, Taken}
+use Rattle.seize_words.specs.Op.{Out, Exchange, Load, Make, Rewrite, Take, Exchanged, Found, Made, Taken}
 use Rattle.seize_words.specs.Plan.{Plan, Then, Turn, Do, Now, Seeing, Sure, then_as, plan_as}
 use Rattle.seize_words.specs.Word.{block_in}
-use Rattle.seize_words.specs.declared.at.At.TheVariants.{Root, Word}
+use Rattle.seize_words.specs.declared.at.At.TheVariants.{Root}
 use Rattle.seize.specs.declared.progress.Progress.{Progress}
 use Rattle.seize.specs.declared.progress.Progress.TheVariants as progress
 use Rattle.seize.specs.declared.rows.settle.Settled.{Settled}
@@ -31,10 +31,10 @@ use Rattle.papaya_resize.specs.declared.outcome.Outcome.{Outcome}
 use Rattle.papaya_resize.specs.declared.outcome.Outcome.TheVariants as outcome
 use Rattle.papaya_reserves.specs.Reserve.{reserve_plan}
 use Rattle.papaya_sweeps.specs.Sweep.{sweep_plan}
-use Rattle.papaya_raw.specs.Call.{have_one_key, made, makes_of, root_read, root_found, next_read, next_found, dropped, key_read, pair_read, word_read, word_found, tried, looked, looks_for, first_made, next_made, disposed, helped, copied, plan_at, call_plan}
+use Rattle.papaya_raw.specs.Call.{have_one_key, made, makes_of, root_found, next_read, next_found, dropped, key_read, pair_read, word_read, word_found, tried, looked, looks_for, first_made, next_made, disposed, helped, copied, plan_at, call_plan}
 use Rattle.papaya_raw.specs.CallFills.{filled, putting_by, fill_by, emptied, fills_with, given_up, asks_at}
-use Rattle.papaya_raw.specs.CallPoints.{changed, counted, entering, tableless, at_last, told, went_on, having_met}
-use Rattle.papaya_raw.specs.Machine.{machine_plan, machine_replied, machine_asked, called, reserved, swept, counted as sum_counted}
+use Rattle.papaya_raw.specs.CallPoints.{counted, entering, tableless, at_last, told, went_on, having_met}
+use Rattle.papaya_raw.specs.Machine.{machine_plan, machine_asked, called, reserved, swept, counted as sum_counted}
 use Rattle.papaya_raw.specs.Replies.{value_for, as_own}
 use Rattle.papaya_raw.specs.declared.machines.answer.Called.{Called}
 use Rattle.papaya_raw.specs.declared.machines.answer.End.{End}
@@ -42,13 +42,12 @@ use Rattle.papaya_raw.specs.declared.machines.answer.End.TheVariants as ends
 use Rattle.papaya_raw.specs.declared.machines.answer.KeyAnswer.{KeyAnswer}
 use Rattle.papaya_raw.specs.declared.machines.asking.Asking.{Asking}
 use Rattle.papaya_raw.specs.declared.machines.asking.Asking.TheVariants as asking
-use Rattle.papaya_raw.specs.declared.machines.asking.Reply.{Reply}
 use Rattle.papaya_raw.specs.declared.machines.call.Calling.{Calling}
 use Rattle.papaya_raw.specs.declared.machines.call.Calling.TheVariants as at
 use Rattle.papaya_raw.specs.declared.machines.call.KeyCall.{KeyCall}
 use Rattle.papaya_raw.specs.declared.machines.machine.Machine.{Machine}
 use Rattle.papaya_raw.specs.declared.machines.machine.Machine.TheVariants as kinds
-use Rattle.papaya_by_key.specs.ByKey.{by_key, end_by_key, key_call, StepsByKey, RepliesByKey}
+use Rattle.papaya_by_key.specs.ByKey.{by_key, end_by_key, StepsByKey, RepliesByKey}
 use Rattle.papaya_by_key.proofs.Points.{by, on, changed_on, counted_on, ending_on, at_last_on, replied_on, tableless_on, told_on, went_further}
 
 -- the same step, with its outcome turned into another by one way and by another

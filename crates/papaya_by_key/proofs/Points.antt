@@ -1,5 +1,5 @@
 -- From each point the call by the key goes on to where the one by another form does.
-use Rattle.std.specs.Prelude.{◌≡◌, ℕ, ◌==◌, Bool, true, false, if◌then◌else◌, Option, Some, None, Result, Ok, Err}
+use Rattle.std.specs.Prelude.{◌≡◌, ℕ, ◌==◌, Bool, true, false, if◌then◌else◌, Option, Some, None, Result, Ok}
 use Rattle.std.proofs.Common.{refl, ap}
 use Rattle.seize_words.specs.Word.{block_in}
 use Rattle.seize_words.specs.declared.fault.Fault.TheVariants.{RemoveNothing}
@@ -15,7 +15,7 @@ use Rattle.papaya_tables.specs.declared.trial.Trial.{Trial}
 use Rattle.papaya_resize.specs.CopierStates.{helping, copying_all}
 use Rattle.papaya_resize.specs.Dispose.{disposing}
 use Rattle.papaya_raw.specs.CallAsks.{absent_told, present_told, told_at, with_absent, with_present}
-use Rattle.papaya_raw.specs.CallPoints.{going, over, standing, storing, ending, burying, at_gap, gap_by, pair_by, asking_of, tableless, at_free, at_end, beyond, at_last, at_pair, having_met, passed, halted, told_of, aim_of, told, entering, went_on, changed, counted, following_made}
+use Rattle.papaya_raw.specs.CallPoints.{going, over, standing, storing, ending, burying, at_gap, gap_by, pair_by, asking_of, tableless, at_free, at_end, beyond, at_last, at_pair, having_met, passed, told_of, aim_of, told, entering, went_on, changed, counted, following_made}
 use Rattle.papaya_raw.specs.declared.machines.answer.Called.{Called}
 use Rattle.papaya_raw.specs.declared.machines.answer.Called.TheVariants.{Waits}
 use Rattle.papaya_raw.specs.declared.machines.answer.End.{End}

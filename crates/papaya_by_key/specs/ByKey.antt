@@ -1,5 +1,5 @@
 -- A call by another form of a key, and the call by the key for which that stands.
-use Rattle.std.specs.Prelude.{◌≡◌, ℕ, Bool, Result, option_map}
+use Rattle.std.specs.Prelude.{◌≡◌, ℕ, Bool, option_map}
 use Rattle.seize_words.specs.Plan.{plan_as}
 use Rattle.papaya_tables.specs.declared.node.Node.{Node}
 use Rattle.papaya_raw.specs.Machine.{machine_plan, machine_replied, machine_asked}

@@ -1,6 +1,6 @@
 -- Wherever a list of acts has led, the world is tied, what one more step unlinks no links lead to, and what callers see is closed.
 use Rattle.std.specs.Prelude.{Some}
-use Rattle.std.proofs.Common.{◌≡◌, ◌⊎◌, ◌<◌, ℕ, Bool, true, false, List, ◌∷◌, inl, inr, refl, arith, ap, sym, subst, ◌∙◌}
+use Rattle.std.proofs.Common.{◌≡◌, ◌⊎◌, ◌<◌, ℕ, Bool, true, false, List, inl, inr, refl, arith, ap, sym, subst, ◌∙◌}
 use Rattle.papaya_scenes.specs.Given.SeizeWords.Mem.{Mem, word_at}
 use Rattle.papaya_scenes.specs.Given.SeizeWords.declared.at.At.TheVariants.{Root, Used}
 use Rattle.papaya_scenes.specs.Given.Seize.Law.{reachable}

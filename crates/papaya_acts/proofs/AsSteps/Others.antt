@@ -5,7 +5,7 @@ use Rattle.std.proofs.lemmas.Bool.{cases_eq}
 use Rattle.papaya_scenes.specs.Given.SeizeWords.Mem.{Mem}
 use Rattle.papaya_scenes.specs.Given.SeizeWords.Plan.{Plan}
 use Rattle.papaya_scenes.specs.Given.Seize.Law.{Ended}
-use Rattle.papaya_scenes.specs.Given.Seize.World.{World, Row, with_at, with_effect}
+use Rattle.papaya_scenes.specs.Given.Seize.World.{Row, with_at, with_effect}
 use Rattle.papaya_scenes.specs.Given.Seize.declared.progress.Progress.{Progress}
 use Rattle.papaya_scenes.specs.Given.Seize.declared.progress.Progress.TheVariants as progress
 use Rattle.papaya_scenes.specs.Given.Seize.declared.rows.settle.Settled.{Settled}

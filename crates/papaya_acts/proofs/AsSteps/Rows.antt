@@ -1,7 +1,7 @@
 -- Rows on slots lead where a step of their kind does, and tell what is computed of them.
-use Rattle.std.specs.Prelude.{◌≢◌, Option, Some, None}
+use Rattle.std.specs.Prelude.{◌≢◌, Option, Some}
 use Rattle.std.specs.Option.{option_map_or}
-use Rattle.std.proofs.Common.{◌≡◌, ℕ, Bool, true, [], ◌∷◌, refl, sym, ap, subst, ◌∙◌}
+use Rattle.std.proofs.Common.{◌≡◌, ℕ, Bool, [], ◌∷◌, refl, sym, ap, subst, ◌∙◌}
 use Rattle.papaya_scenes.specs.Given.SeizeWords.Mem.{Mem, Took, value_at}
 use Rattle.papaya_scenes.specs.Given.SeizeWords.Plan.{Plan, Steps}
 use Rattle.papaya_scenes.specs.Given.Seize.Enter.{enter_plan, unregister_plan}
@@ -45,7 +45,7 @@ use Rattle.papaya_scenes.proofs.Rows.{begun_there}
 use Rattle.papaya_scenes.specs.Held.{Held, IsAt}
 use Rattle.papaya_scenes.specs.OnSlots.{HappensTo, RowLeads, RowSteps, row_then}
 use Rattle.papaya_scenes.specs.Rows.{request_of, of_registering, of_storing, of_settling}
-use Rattle.papaya_scenes.specs.Scene.{HasNoCall, Scene, row_of, slot_of}
+use Rattle.papaya_scenes.specs.Scene.{Scene, row_of, slot_of}
 use Rattle.papaya_scenes.specs.declared.row.RowTold.{RowTold}
 use Rattle.papaya_scenes.specs.declared.row.RowTold.TheVariants as told
 use Rattle.papaya_scenes.specs.declared.row.SlotCall.{SlotCall}
