@@ -31,10 +31,10 @@ use Rattle.papaya_resize.specs.declared.outcome.Outcome.{Outcome}
 use Rattle.papaya_resize.specs.declared.outcome.Outcome.TheVariants as outcome
 use Rattle.papaya_reserves.specs.Reserve.{reserve_plan}
 use Rattle.papaya_sweeps.specs.Sweep.{sweep_plan}
-use Rattle.papaya_raw.specs.Call.{have_one_key, made, makes_of, root_found, next_read, next_found, dropped, key_read, pair_read, word_read, word_found, tried, looked, looks_for, first_made, next_made, disposed, helped, copied, plan_at, call_plan}
+use Rattle.papaya_raw.specs.Call.{have_one_key, made, makes_of, root_found, next_found, dropped, key_read, pair_read, word_read, word_found, tried, looked, looks_for, first_made, next_made, disposed, helped, copied, plan_at, call_plan}
 use Rattle.papaya_raw.specs.CallFills.{filled, putting_by, fill_by, emptied, fills_with, given_up, asks_at}
-use Rattle.papaya_raw.specs.CallPoints.{counted, entering, tableless, at_last, told, went_on, having_met}
-use Rattle.papaya_raw.specs.Machine.{machine_plan, machine_asked, called, reserved, swept, counted as sum_counted}
+use Rattle.papaya_raw.specs.CallPoints.{entering, tableless, at_last, told, went_on}
+use Rattle.papaya_raw.specs.Machine.{machine_plan, called, reserved, swept, counted as sum_counted}
 use Rattle.papaya_raw.specs.Replies.{value_for, as_own}
 use Rattle.papaya_raw.specs.declared.machines.answer.Called.{Called}
 use Rattle.papaya_raw.specs.declared.machines.answer.End.{End}

@@ -17,7 +17,7 @@ use Rattle.papaya_scenes.specs.Given.Callers.Together.{UnderWay}
 use Rattle.papaya_scenes.specs.Given.Callers.Together as begins
 use Rattle.papaya_scenes.specs.Given.Finishes.Machines.{machine_of, MachineStepsAmong, ToldOfKind}
 use Rattle.papaya_scenes.specs.Given.Finishes.Maps.{Standing, with_call}
-use Rattle.papaya_acts.specs.Acts.{Answer, OfReply, OfAsking, Wanted, Get, Remove, Insert, TryToInsert, Compute, Update, UpdateOrInsert, TryToInsertWith, RemoveIf, MakeRoom, Count, GoOver, begun}
+use Rattle.papaya_acts.specs.Acts.{Answer, Wanted, Get, Remove, Insert, TryToInsert, Compute, Update, UpdateOrInsert, TryToInsertWith, RemoveIf, MakeRoom, Count, GoOver, begun}
 use Rattle.papaya_acts.specs.Acts.{Act, BeginsCall, StepsCall, TellsCall, AsksCall, StopsCall}
 use Rattle.papaya_acts.specs.AsSteps.{LeadsAs, changed_by, changed_of, held_in}
 use Rattle.papaya_acts.specs.Leads.{AllStand, CallCame, Led, call_at}

@@ -1,6 +1,6 @@
 -- What the one operation of a step has changed is told of it.
 use Rattle.std.proofs.Common.{◌≡◌, refl, ap, subst}
-use Rattle.std.specs.Prelude.{Option, Some, None}
+use Rattle.std.specs.Prelude.{Option, Some}
 use Rattle.std.specs.Option.{option_map_or}
 use Rattle.papaya_scenes.specs.Given.SeizeWords.Mem.{Mem, after, value_at}
 use Rattle.papaya_scenes.specs.Given.SeizeWords.Plan.{Plan, Turn, Do}
