@@ -1,6 +1,10 @@
 -- What is promised of each entry of a history: linearizability, protection and sweeps, by what is promised of calls at moments.
-use Rattle.std.specs.Prelude.{◌≡◌, ℕ, ◌==◌, nat_lt, Bool, false, List, [], ◌∷◌, length, flat_map, Option, Some, None, if◌then◌else◌}
+use Rattle.std.specs.Prelude.{◌≡◌, ℕ, ◌==◌, nat_lt, Bool, false, List, [], ◌∷◌, ◌++◌, length, flat_map, Option, Some, None, if◌then◌else◌}
 use Rattle.std.specs.List.{list_any}
+use Rattle.papaya_schedules.specs.declared.call.Answer.{Answer}
+use Rattle.papaya_schedules.specs.declared.call.Call.{Call}
+use Rattle.papaya_schedules.specs.declared.outcome.Outcome.{Outcome}
+use Rattle.papaya_schedules.specs.declared.outcome.Outcome.TheVariants.{Answered}
 use Rattle.papaya_schedules.specs.Entry.{IfCall, acting}
 use Rattle.papaya_schedules.specs.Linearizable.{AsksRight, Changes, Ends, shift_of}
 use Rattle.papaya_schedules.specs.Lists.{is_in}
@@ -9,7 +13,7 @@ use Rattle.papaya_schedules.specs.Model.{thing_back}
 use Rattle.papaya_schedules.specs.Sweeps.{Sweeps}
 use Rattle.papaya_schedules.specs.Terms.{Terms}
 use Rattle.papaya_schedules.specs.Things.{same_thing}
-use Rattle.papaya_played.specs.Deeds.{Entry, after, at_work, caller_of, moment, worked}
+use Rattle.papaya_played.specs.Deeds.{Deed, Entry, Steps, after, at_work, caller_of, moment, worked}
 
 module _ {K V : Type 0} where
   -- the moments since so many entries had come, the newest first
@@ -46,3 +50,16 @@ module _ {K V : Type 0} where
   abbrev pub AtEach : (List (Entry K V) → Entry K V → Type 0) → List (Entry K V) → Type 0
   AtEach P [] = Unit {0}
   AtEach P (e ∷ log) = P log e × AtEach P log
+
+  -- what a caller was answered, to which call, the newest first
+  abbrev pub answered : Option (UnderWay K V) → Outcome V → List (Call K V × Answer V)
+  answered (Some c) (Answered a) = (c.call, a) ∷ []
+  answered _ outcome = []
+
+  abbrev pub is_of : ℕ → Deed K V → Bool
+  is_of i (Steps j) = i == j
+  is_of i deed = false
+
+  abbrev pub answers_of : ℕ → List (Entry K V) → List (Call K V × Answer V)
+  answers_of i [] = []
+  answers_of i (e ∷ log) = if is_of i e.deed then answered (acting (caller_of e.deed) (moment log)) e.outcome ++ answers_of i log else answers_of i log
