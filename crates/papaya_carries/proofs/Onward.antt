@@ -152,7 +152,7 @@ module _ {K S : Type 0} (V : Type 0) (same : K → K → Bool) (hash : S → K �
   pub lists_reclaim_all : ListsReclaimAll V same hash batch_size roots slot course
   lists_reclaim_all word doings x led (rest, none) i =
       let k = by (word_at x.0.0.world.memory (Slot 0 HEAD)) refl in
-      (k.0, k.1, led_further V same hash batch_size roots slot course doings k.0 (nothing_done V same hash batch_size roots slot course) x k.1 led k.2, k.3)
+      (k.0, k.1, led_further V same hash batch_size roots slot course doings k.0 (nothing_done V same hash batch_size roots slot course) x k.1 led k.2, k.3.0, k.3.1)
     where
       theirs : AreTheirs x.0.0
       theirs = lists_keep_theirs V same hash batch_size roots slot course doings x led
