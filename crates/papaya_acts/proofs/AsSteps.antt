@@ -4,4 +4,5 @@ pub mod There
 pub mod Calls
 pub mod Others
 pub mod Rows
+pub mod Reclaiming
 pub mod All

@@ -1,18 +1,20 @@
 -- A kind of step is a constructor of what is done: each act leads where a step of its kind does, of what is held before and after it.
-use Rattle.std.specs.Prelude.{◌≡◌, ℕ, Bool, Option, Some, None, Result}
+use Rattle.std.specs.Prelude.{◌≡◌, ℕ, Bool, List, Option, Some, None, Result}
 use Rattle.std.specs.Option.{option_map_or}
 use Rattle.papaya_scenes.specs.Given.SeizeWords.Mem.{Mem}
 use Rattle.papaya_scenes.specs.Given.SeizeWords.Op.{Op, Out}
 use Rattle.papaya_scenes.specs.Given.SeizeWords.Plan.{Plan, Turn, Do}
 use Rattle.papaya_scenes.specs.Given.Seize.Enter.{enter_plan, unregister_plan}
 use Rattle.papaya_scenes.specs.Given.Seize.Leave.{leave_plan}
+use Rattle.papaya_scenes.specs.Given.Seize.ReclaimAll.{reclaim_all_plan}
 use Rattle.papaya_scenes.specs.Given.Seize.Register.{register_plan}
 use Rattle.papaya_scenes.specs.Given.Seize.Settle.{settle_plan}
 use Rattle.papaya_scenes.specs.Given.Seize.World.{Row, Rests, Registers, Enters, Settles, Leaves, Defers, Frees}
 use Rattle.papaya_scenes.specs.Given.Seize.declared.progress.Progress.{Progress}
+use Rattle.papaya_scenes.specs.Given.Seize.declared.rows.reclaim_all.ReclaimAll.{ReclaimAll}
 use Rattle.papaya_scenes.specs.Given.Seize.declared.rows.settle.Settled.{Settled}
 use Rattle.seize_acts.specs.Answers.{Grant, answer, stepped}
-use Rattle.papaya_scenes.specs.Given.Tables.Nodes.{deferred_word}
+use Rattle.papaya_scenes.specs.Given.Tables.Nodes.{deferred_word, was_left}
 use Rattle.papaya_scenes.specs.Given.Tables.declared.node.Node.{Node}
 use Rattle.papaya_scenes.specs.Given.Tables.declared.setting.Setting.{Setting}
 use Rattle.papaya_scenes.specs.Given.Resize.NewMap.{new_map_plan}
@@ -34,6 +36,8 @@ use Rattle.papaya_scenes.specs.Ending.{EndingBeginsTo, EndingLeads}
 use Rattle.papaya_scenes.specs.Held.{Held, IsAt}
 use Rattle.papaya_scenes.specs.Making.{MakingLeads, making_begun, scene_making}
 use Rattle.papaya_scenes.specs.OnSlots.{RowBegins, RowLeads}
+use Rattle.papaya_acts.specs.Reclaiming.{ReclaimedOn}
+use Rattle.papaya_scenes.specs.Reclaiming.{IsReclaiming, ReclaimingLeads}
 use Rattle.papaya_scenes.specs.Replying.{ReplyLeads, AskLeads, StopLeads, scene_with}
 use Rattle.papaya_scenes.specs.Rows.{request_of, of_registering, of_storing, of_settling}
 use Rattle.papaya_scenes.specs.Scene.{Scene, slot_of}
@@ -117,3 +121,10 @@ ActsLeadAsSteps {K} {S} V same by_hasher hash batch_size roots =
     (s n : Scene K V) (before : Changed) → IsAt same hash (held_in batch_size roots before s) s → AllStand same by_hasher batch_size roots slot_of n
     → (act : Act K V S) → IsOwn by_hasher hash act → MayBe same by_hasher batch_size roots slot_of act s → (told : Answer K V) → Led same by_hasher batch_size roots slot_of act s told n
     → LeadsAs same by_hasher hash act s told (held_in batch_size roots before s) (held_in batch_size roots (changed_by same act s) n) × IsAt same hash (held_in batch_size roots (changed_by same act s) n) n
+
+-- And so does a step of a caller that reclaims all.
+abbrev pub ReclaimingLeadsAsSteps : {K : Type 0} (V : Type 0) (same : K → K → Bool) (hash : ℕ → K → ℕ) (batch_size roots : ℕ) → Type 0
+ReclaimingLeadsAsSteps {K} V same hash batch_size roots =
+    (s n : Scene K V) (before : Changed) (i : ℕ) (lists : ℕ → List ℕ) (c : ReclaimAll) → IsReclaiming same hash (held_in batch_size roots before s) s i lists c
+    → (g : Grant) (end : Settled (Node K V)) (lists2 : ℕ → List ℕ) (c2 : ReclaimAll) → ReclaimedOn V same batch_size roots slot_of s i lists c g end n lists2 c2
+    → ReclaimingLeads same hash s i lists (held_in batch_size roots before s) (held_in batch_size roots (changed_of s.world.memory g (reclaim_all_plan deferred_word was_left c)) n) c c2 end

@@ -2,7 +2,7 @@
 ghost use Rattle.std.specs.Prelude.{ℕ, Bool};
 ghost use Rattle.papaya_acts.specs.Counts.{CountingsAddUp, CountingsAnswerTheSum};
 ghost use Rattle.papaya_acts.specs.Courses.{CoursesAgree};
-ghost use Rattle.papaya_acts.specs.AsSteps.{ActsLeadAsSteps};
+ghost use Rattle.papaya_acts.specs.AsSteps.{ActsLeadAsSteps, ReclaimingLeadsAsSteps};
 ghost use Rattle.papaya_acts.specs.Reclaiming.{ReclaimingIsByActs};
 ghost use Rattle.papaya_acts.specs.Lists.{Course, StepsAreActs, ListsDetermine};
 
@@ -34,7 +34,8 @@ pub fn reclaiming_is_by_acts<K, V>()
 
 /// Each act leads where a step of its kind does, of what is held: a call begins, takes a step, is told something, asked for a pair or given up, a making or an
 /// end begins or takes a step, and so does a row on the slot of its caller. What its one operation has changed is computed from the memory, and from what that
-/// was free to choose, and so is what a row tells. So whatever is so of each kind of step is so of each act.
+/// was free to choose, and so is what a row tells. And so does a step of a caller that reclaims all. So whatever is so of each kind of step is so of each act.
 pub fn acts_lead_as_steps<K, V, S>()
     ensures leads { (same : K → K → Bool) (by_hasher : S → K → ℕ) (hash : ℕ → K → ℕ) (batch_size roots : ℕ) → ActsLeadAsSteps V same by_hasher hash batch_size roots }
+    ensures all { (same : K → K → Bool) (hash : ℕ → K → ℕ) (batch_size roots : ℕ) → ReclaimingLeadsAsSteps V same hash batch_size roots }
 {}

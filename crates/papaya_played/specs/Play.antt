@@ -124,6 +124,15 @@ pub record State (K V S : Type 0) : Type 0 where
   pub known : Known
   pub history : List (Entry K V)
 
+abbrev pub calling : {K V : Type 0} → ℕ → Call K V → Machine K V K → Calling K V
+calling m call machine = record { map = m; call = call; machine = machine; value = None }
+
+abbrev pub making : {S : Type 0} → ℕ → S → NewMap → Making S
+making map hasher machine = record { map = map; hasher = hasher; machine = machine }
+
+abbrev pub ending_as : ℕ → EndMap → Ending
+ending_as map machine = record { map = map; machine = machine }
+
 abbrev pub put_at : {X : Type 0} → ℕ → X → (ℕ → X) → ℕ → X
 put_at i x f j = if j == i then x else f j
 
@@ -144,7 +153,7 @@ keeps kind (comes.Unstored back) value = kept kind back value
 keeps kind progress value = value
 
 -- A section begins by the last step of an entering, of a registering that enters, and of a refreshing; and ends by the first step of a leaving or a refreshing.
-abbrev pub registers_as : Registering → ℕ → {K V : Type 0} → Deed K V
+abbrev pub registers_as : {K V : Type 0} → Registering → ℕ → Deed K V
 registers_as registers.Enter s = Opens s
 registers_as _ s = Works None
 
@@ -237,7 +246,7 @@ module _ {K V S : Type 0} (same : K → K → Bool) (hash : S → K → ℕ) (ba
   abbrev pub call_begun : ℕ → ℕ → Wanted K V → State K V S → Setting × S → State K V S
   call_begun i m wanted s at =
       noted (Begins i (slot_of i) m (call_for wanted)) outcome.Goes
-      (record s { calls = put_at i (Some (record { map = m; call = call_for wanted; machine = machine_for (in_slot at.0 (slot_of i)) (hash at.1) (call_for wanted); value = None })) s.calls })
+      (record s { calls = put_at i (Some (calling m (call_for wanted) (machine_for (in_slot at.0 (slot_of i)) (hash at.1) (call_for wanted)))) s.calls })
 
   -- it goes on as this machine, unless it has ended
   abbrev pub going : Calling K V → Machine K V K → CallProgress (Node K V) → Option (Calling K V)
@@ -290,11 +299,11 @@ module _ {K V S : Type 0} (same : K → K → Bool) (hash : S → K → ℕ) (ba
   play_act (StopsCall i m) s =
       option_map (λ c. if (machine_asked c.machine).1 then noted (Stops i) outcome.Done (record s { calls = put_at i None s.calls }) else noted (Stops i) outcome.Goes s) (s.calls i)
   play_act (BeginsMaking i map hasher setting places) s =
-      Some (record s { makers = put_at i (Some (record { map = map; hasher = hasher; machine = opening setting roots places })) s.makers })
+      Some (record s { makers = put_at i (Some (making map hasher (opening setting roots places))) s.makers })
   play_act (StepsMaking i g) s =
       then_on (s.makers i) (λ b. option_map (making_stepped i b (changed_of {K = K} {V = V} s.memory g (new_map_plan b.machine)) s) (stepped s.memory g (new_map_plan b.machine)))
   play_act (BeginsEnding i m) s =
-      option_map (λ at. record s { maps = put_at m None s.maps; enders = put_at i (Some (record { map = m; machine = ending at.0 false })) s.enders }) (s.maps m)
+      option_map (λ at. record s { maps = put_at m None s.maps; enders = put_at i (Some (ending_as m (ending at.0 false))) s.enders }) (s.maps m)
   play_act (StepsEnding i g) s =
       then_on (s.enders i) (λ f. option_map (ending_stepped i f (changed_of {K = K} {V = V} s.memory g (end_map_plan f.machine)) s) (stepped s.memory g (end_map_plan f.machine)))
   play_act (BeginsRow i request) s = option_map (λ called. record s { rows = put_at i (Some (begun_row (slot_of i) batch_size called)) s.rows }) (slot_call_of request)
