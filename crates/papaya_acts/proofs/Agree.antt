@@ -1,5 +1,5 @@
 -- By any two courses a list leads to what is alike: so do acts, and so do the steps of a caller that reclaims all.
-use Rattle.std.specs.Prelude.{◌≢◌, Option}
+use Rattle.std.specs.Prelude.{◌≢◌, ◌++◌, Option}
 use Rattle.std.proofs.Common.{◌≡◌, ℕ, Bool, List, [], ◌∷◌, ◌⊎◌, inl, inr, refl, ap, sym, subst, ◌∙◌}
 use Rattle.std.proofs.lemmas.Bool.{cases_eq}
 use Rattle.papaya_scenes.specs.Given.SeizeWords.Mem.{Mem}
@@ -23,10 +23,10 @@ use Rattle.papaya_reclaims.specs.Slots.{AreItsRows}
 use Rattle.papaya_acts.specs.Acts.{Answer, OfReclaiming}
 use Rattle.papaya_acts.specs.Courses.{AreAlike, CoursesAgree}
 use Rattle.papaya_acts.specs.Doings.{Doing, Does, BeginsReclaiming, BeginsClearing, StepsReclaiming, still, Stage, reclaiming, behind, MayDo, HasBegun, HasStepped, HasDone}
-use Rattle.papaya_acts.specs.Lists.{Reached}
+use Rattle.papaya_acts.specs.Lists.{Course, Reached, LedOn, nothing_done, on_by}
 use Rattle.papaya_acts.specs.Reclaiming.{ReclaimedOn}
 use Rattle.papaya_acts.proofs.Courses.{by_act, same_set_up}
-use Rattle.papaya_scenes.specs.Scene.{Scene, HasNoCall, at_first}
+use Rattle.papaya_scenes.specs.Scene.{Scene, HasNoCall}
 
 module _ {K V : Type 0} (size i : ℕ) where
   -- who reclaims all leaves the rows of others as they are
@@ -66,7 +66,7 @@ module _ {K V : Type 0} (batch_size roots i : ℕ) (c : ReclaimAll) (w : World (
   row_is (at.Unuses root) is = is.0.rests i
   row_is at.Over is = is.0.rests i
 
-module _ {K : Type 0} (V : Type 0) (same : K → K → Bool) (hash : ℕ → K → ℕ) (batch_size roots : ℕ) (slot : ℕ → ℕ) where
+module _ {K S : Type 0} (V : Type 0) (same : K → K → Bool) (hash : S → K → ℕ) (batch_size roots : ℕ) (slot : ℕ → ℕ) where
   -- the rows of others, by a step of who reclaims all
   others_rest : (s n : Scene K V) (i : ℕ) (lists lists2 : ℕ → List ℕ) (c c2 : ReclaimAll) (g : Grant) (told : Settled (Node K V))
       (on : ReclaimedOn V same batch_size roots slot s i lists c g told n lists2 c2) (j : ℕ) → j ≢ i → on.did.w2.row j ≡ s.world.row j
@@ -136,7 +136,7 @@ module _ {K : Type 0} (V : Type 0) (same : K → K → Bool) (hash : ℕ → K �
         one.goes_on ∙ ap (λ (x : End). still x.1.1 (one.caller, x.1.0)) step ∙ ap (λ (x : Its). still two.end (x.0, two.next)) it ∙ sym two.goes_on,
       )
 
-    by_doing : (doing : Doing K V) → MayDo V same hash batch_size roots slot doing p → (told told2 : Answer K V) → HasDone V same hash batch_size roots slot doing p told n
+    by_doing : (doing : Doing K V S) → MayDo V same hash batch_size roots slot doing p → (told told2 : Answer K V) → HasDone V same hash batch_size roots slot doing p told n
         → HasDone V same hash batch_size roots slot doing q told2 o → Agreed n o told told2
     by_doing (Does act) may told told2 (led, idle) (led2, idle2) =
         let so = by_act same hash batch_size roots slot p.0 q.0 n.0 o.0 p.1 q.1 alike act may.1 told told2 led led2 in (so.0, so.1, idle ∙ sym idle2)
@@ -144,18 +144,24 @@ module _ {K : Type 0} (V : Type 0) (same : K → K → Bool) (hash : ℕ → K �
     by_doing (BeginsClearing i) may told told2 begun begun2 = begun_agree i (clearing roots) told told2 begun begun2
     by_doing (StepsReclaiming g) may told told2 one two = stepped_agree g told told2 one two
 
-abbrev SoFar : {K : Type 0} (V : Type 0) (same : K → K → Bool) (hash : ℕ → K → ℕ) (batch_size roots : ℕ) (slot : ℕ → ℕ) (x y : Reached V same hash batch_size roots slot) → Type 0
+abbrev SoFar : {K S : Type 0} (V : Type 0) (same : K → K → Bool) (hash : S → K → ℕ) (batch_size roots : ℕ) (slot : ℕ → ℕ) (x y : Reached V same hash batch_size roots slot) → Type 0
 SoFar V same hash batch_size roots slot x y = AreAlike x.0.0 y.0.0 × (x.1 ≡ y.1) × (reclaiming V same hash batch_size roots slot x.0 ≡ reclaiming V same hash batch_size roots slot y.0)
 
-pub courses_agree : {K : Type 0} (V : Type 0) (same : K → K → Bool) (hash : ℕ → K → ℕ) (batch_size roots : ℕ) (slot : ℕ → ℕ) → CoursesAgree V same hash batch_size roots slot
-courses_agree {K} V same hash batch_size roots slot one other [] x y led led2 =
-    subst (λ (z : Reached V same hash batch_size roots slot). SoFar V same hash batch_size roots slot z y) (sym led)
-    (subst (λ (z : Reached V same hash batch_size roots slot). SoFar V same hash batch_size roots slot ((at_first roots, one.first, inl ((λ r. []), one.left)), []) z) (sym led2)
-    (record { memory = refl; maps = λ m. refl; calls = λ m i. refl; makers = λ i. refl; enders = λ i. refl; rows = λ i none. refl }, refl, refl))
-courses_agree {K} V same hash batch_size roots slot one other (doing ∷ doings) x y (x1, led, may, is) (y1, led2, may2, is2) =
-    let so = courses_agree V same hash batch_size roots slot one other doings x1 y1 led led2 in
-    let then = by_doing V same hash batch_size roots slot x1.0 y1.0 (one.next x1.0 doing may) (other.next y1.0 doing may2) so.0 so.2 doing may (one.told x1.0 doing may) (other.told y1.0 doing may2)
-    (one.leads x1.0 doing may) (other.leads y1.0 doing may2) in
-    subst (λ (z : Reached V same hash batch_size roots slot). SoFar V same hash batch_size roots slot z y) (sym is)
-    (subst (λ (z : Reached V same hash batch_size roots slot). SoFar V same hash batch_size roots slot (one.next x1.0 doing may, one.told x1.0 doing may ∷ x1.1) z) (sym is2)
-    (then.0, ap (λ (a : Answer K V). a ∷ x1.1) then.1 ∙ ap (λ (l : List (Answer K V)). other.told y1.0 doing may2 ∷ l) so.1, then.2))
+module _ {K S : Type 0} (V : Type 0) (same : K → K → Bool) (hash : S → K → ℕ) (batch_size roots : ℕ) (slot : ℕ → ℕ) (one other : Course V same hash batch_size roots slot) where
+  agree_on : (doings : List (Doing K V S)) (x y x2 y2 : Reached V same hash batch_size roots slot) → SoFar V same hash batch_size roots slot x y
+      → LedOn V same hash batch_size roots slot one doings x x2 → LedOn V same hash batch_size roots slot other doings y y2 → SoFar V same hash batch_size roots slot x2 y2
+  agree_on [] x y x2 y2 so led led2 =
+      subst (λ (z : Reached V same hash batch_size roots slot). SoFar V same hash batch_size roots slot z y2) (sym led) (subst (SoFar V same hash batch_size roots slot x) (sym led2) so)
+  agree_on (doing ∷ doings) x y x2 y2 so (may, led) (may2, led2) =
+      let then = by_doing V same hash batch_size roots slot x.0 y.0 (one.next x.0 doing may) (other.next y.0 doing may2) so.0 so.2 doing may (one.told x.0 doing may) (other.told y.0 doing may2)
+      (one.leads x.0 doing may) (other.leads y.0 doing may2) in
+      agree_on doings (on_by V same hash batch_size roots slot one x doing may) (on_by V same hash batch_size roots slot other y doing may2) x2 y2
+      (then.0, ap (λ (a : Answer K V). x.1 ++ a ∷ []) then.1 ∙ ap (λ (l : List (Answer K V)). l ++ other.told y.0 doing may2 ∷ []) so.1, then.2) led led2
+
+  at_first_alike : SoFar V same hash batch_size roots slot (nothing_done V same hash batch_size roots slot one) (nothing_done V same hash batch_size roots slot other)
+  at_first_alike = (record { memory = refl; maps = λ m. refl; calls = λ m i. refl; makers = λ i. refl; enders = λ i. refl; rows = λ i none. refl }, refl, refl)
+
+pub courses_agree : {K S : Type 0} (V : Type 0) (same : K → K → Bool) (hash : S → K → ℕ) (batch_size roots : ℕ) (slot : ℕ → ℕ) → CoursesAgree V same hash batch_size roots slot
+courses_agree V same hash batch_size roots slot one other doings x y led led2 =
+    agree_on V same hash batch_size roots slot one other doings (nothing_done V same hash batch_size roots slot one) (nothing_done V same hash batch_size roots slot other) x y
+    (at_first_alike V same hash batch_size roots slot one other) led led2

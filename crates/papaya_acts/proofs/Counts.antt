@@ -38,10 +38,10 @@ use Rattle.papaya_scenes.specs.Given.Finishes.Machines.{machine_of, GoesOnAs}
 use Rattle.papaya_scenes.specs.Given.Finishes.Maps.{Standing, with_call}
 use Rattle.papaya_acts.specs.Acts.{Act, Answer, OfCall, Wanted, Count, its, begun}
 use Rattle.papaya_acts.specs.Acts.{BeginsCall, StepsCall, TellsCall, AsksCall, StopsCall, BeginsMaking, StepsMaking, BeginsEnding, StepsEnding, BeginsRow, StepsRow}
-use Rattle.papaya_acts.specs.Counts.{HasRead, is_its, next_shard, read_on, shard_of_call, read_by, words_read, CountingsAddUp, CountingsAnswerTheSum}
+use Rattle.papaya_acts.specs.Counts.{HasRead, is_its, next_shard, read_on, shard_of_call, read_by, words_on, words_read, CountingsAddUp, CountingsAnswerTheSum}
 use Rattle.papaya_acts.specs.Doings.{Doing, Does, BeginsReclaiming, BeginsClearing, StepsReclaiming, Stage, MayDo, HasDone}
 use Rattle.papaya_acts.specs.Leads.{Led, CallCame, MakingCame, EndingCame}
-use Rattle.papaya_acts.specs.Lists.{Course, Reached, LedTo}
+use Rattle.papaya_acts.specs.Lists.{Course, Reached, LedOn, LedTo, nothing_done, on_by}
 use Rattle.papaya_acts.proofs.Sums.{Added, adds_on}
 use Rattle.papaya_scenes.specs.Replying.{unless_stopped}
 use Rattle.papaya_scenes.specs.Scene.{Scene}
@@ -106,7 +106,7 @@ module _ {K V : Type 0} where
   begins_counting same slot s j Count c e = let at_start : summing (its slot s j) ≡ c = cc e in ap (λ (x : Sum). x.stands) (sym at_start)
   begins_counting same slot s j _ c e = absurd (cc e)
 
-module _ {K V : Type 0} (same : K → K → Bool) (hash : ℕ → K → ℕ) (batch_size roots : ℕ) (slot : ℕ → ℕ) (s : Scene K V) (i m : ℕ) (words : List ℕ)
+module _ {K V S : Type 0} (same : K → K → Bool) (hash : S → K → ℕ) (batch_size roots : ℕ) (slot : ℕ → ℕ) (s : Scene K V) (i m : ℕ) (words : List ℕ)
     (before : (c : Sum) → s.calls m i ≡ Some (Counting c) → HasRead c words) where
   -- the step of a counting
   module _ (g : Option ℕ) (told : Answer K V) (n : Scene K V) (came : CallCame same hash batch_size roots slot s i m g told n) where
@@ -178,7 +178,7 @@ module _ {K V : Type 0} (same : K → K → Bool) (hash : ℕ → K → ℕ) (ba
     as_it_was : n.calls ≡ s.calls → HasRead c words
     as_it_was is = before c (ap (λ (f : ℕ → ℕ → Option (UnderWay K V K)). f m i) (sym is) ∙ now)
 
-    pub by_act : (act : Act K V) (told : Answer K V) → Led same hash batch_size roots slot act s told n → HasRead c (read_on i m act s words)
+    pub by_act : (act : Act K V S) (told : Answer K V) → Led same hash batch_size roots slot act s told n → HasRead c (read_on i m act s words)
     by_act (BeginsCall j k wanted) told (standing, stands, none, is) =
         own_or_other j k (Some (begun same slot standing j wanted)) (ap (λ (x : Scene K V). x.calls) is) (is_its i m j k) refl []
         (λ e f own. begins_counting same slot standing j wanted c (same_some (begun same slot standing j wanted) (Counting c) own))
@@ -204,7 +204,7 @@ module _ {K V : Type 0} (same : K → K → Bool) (hash : ℕ → K → ℕ) (ba
         unstopped : (y : Bool) → unless_stopped y u ≡ Some (Counting c) → Some u ≡ Some (Counting c)
         unstopped true e = absurd (cc e)
         unstopped false e = e
-    by_act (BeginsMaking j map given places) told (none, is) = as_it_was (ap (λ (x : Scene K V). x.calls) is)
+    by_act (BeginsMaking j map hasher given places) told (none, is) = as_it_was (ap (λ (x : Scene K V). x.calls) is)
     by_act (StepsMaking j g) told (b, makes, m2, machine, end, computed, told_is, did, came) = by end did came
       where
         by : (end : Counted Setting) (did : MakingStepsAmong V same same batch_size roots slot s.world s.maps s.calls s.makers s.enders j b m2 (machine, end))
@@ -225,24 +225,30 @@ module _ {K V : Type 0} (same : K → K → Bool) (hash : ℕ → K → ℕ) (ba
     by_act (BeginsRow j request) told (w2, happens, maps2, same_maps, none, is) = as_it_was (ap (λ (x : Scene K V). x.calls) is)
     by_act (StepsRow j g) told (w2, computed, happens, maps2, same_maps, none, is) = as_it_was (ap (λ (x : Scene K V). x.calls) is)
 
-module _ {K V : Type 0} (same : K → K → Bool) (hash : ℕ → K → ℕ) (batch_size roots : ℕ) (slot : ℕ → ℕ) where
+module _ {K V S : Type 0} (same : K → K → Bool) (hash : S → K → ℕ) (batch_size roots : ℕ) (slot : ℕ → ℕ) where
   -- whatever is done, who reclaims all has no counting
   by_doing : (i m : ℕ) (words : List ℕ) (p n : Stage V same hash batch_size roots slot) → ((c : Sum) → p.0.calls m i ≡ Some (Counting c) → HasRead c words)
-      → (c : Sum) → n.0.calls m i ≡ Some (Counting c) → (doing : Doing K V) (told : Answer K V) → HasDone V same hash batch_size roots slot doing p told n → HasRead c (read_by i m doing p.0 words)
+      → (c : Sum) → n.0.calls m i ≡ Some (Counting c) → (doing : Doing K V S) (told : Answer K V) → HasDone V same hash batch_size roots slot doing p told n → HasRead c (read_by i m doing p.0 words)
   by_doing i m words p n before c now (Does act) told (led, idle) = by_act same hash batch_size roots slot p.0 i m words before n.0 c now act told led
   by_doing i m words p n before c now (BeginsReclaiming j) told (none, is, lists, begun) = before c (ap (λ (s : Scene K V). s.calls m i) (sym is) ∙ now)
   by_doing i m words p n before c now (BeginsClearing j) told (none, is, lists, begun) = before c (ap (λ (s : Scene K V). s.calls m i) (sym is) ∙ now)
   by_doing i m words p n before c now (StepsReclaiming g) told stepped = before c (ap (λ (s : Scene K V). s.calls m i) (sym stepped.did.comes) ∙ now)
 
-module _ {K V : Type 0} (same : K → K → Bool) (hash : ℕ → K → ℕ) (batch_size roots : ℕ) (slot : ℕ → ℕ) (course : Course V same hash batch_size roots slot) where
-  pub countings_add_up : CountingsAddUp same hash batch_size roots slot course
-  countings_add_up [] x led i m c here = absurd (cc (here, ap (λ (y : Reached V same hash batch_size roots slot). y.0.0.calls m i) led))
-  countings_add_up (doing ∷ doings) x (y, led, may, is) i m c here =
-      by_doing same hash batch_size roots slot i m (words_read same hash batch_size roots slot course i m doings y led) y.0 (course.next y.0 doing may)
-      (λ c0 here0. countings_add_up doings y led i m c0 here0) c
-      (ap (λ (z : Reached V same hash batch_size roots slot). z.0.0.calls m i) (sym is) ∙ here) doing (course.told y.0 doing may) (course.leads y.0 doing may)
+module _ {K V S : Type 0} (same : K → K → Bool) (hash : S → K → ℕ) (batch_size roots : ℕ) (slot : ℕ → ℕ) (course : Course V same hash batch_size roots slot) where
+  abbrev HaveRead : ℕ → ℕ → Reached V same hash batch_size roots slot → List ℕ → Type 0
+  HaveRead i m x words = (c : Sum) → x.0.0.calls m i ≡ Some (Counting c) → HasRead c words
 
-  module _ (doings : List (Doing K V)) (x : Reached V same hash batch_size roots slot) (led : LedTo V same hash batch_size roots slot course doings x) (i m : ℕ) (c : Sum)
+  add_up : (i m : ℕ) (doings : List (Doing K V S)) (x y : Reached V same hash batch_size roots slot) (words : List ℕ) → HaveRead i m x words
+      → (led : LedOn V same hash batch_size roots slot course doings x y) → HaveRead i m y (words_on same hash batch_size roots slot course i m doings x y words led)
+  add_up i m [] x y words before led c here = before c (ap (λ (z : Reached V same hash batch_size roots slot). z.0.0.calls m i) (sym led) ∙ here)
+  add_up i m (doing ∷ doings) x y words before (may, led) c here =
+      add_up i m doings (on_by V same hash batch_size roots slot course x doing may) y (read_by i m doing x.0.0 words)
+      (λ c here. by_doing same hash batch_size roots slot i m words x.0 (course.next x.0 doing may) before c here doing (course.told x.0 doing may) (course.leads x.0 doing may)) led c here
+
+  pub countings_add_up : CountingsAddUp same hash batch_size roots slot course
+  countings_add_up doings x led i m = add_up i m doings (nothing_done V same hash batch_size roots slot course) x [] (λ c here. absurd (cc here)) led
+
+  module _ (doings : List (Doing K V S)) (x : Reached V same hash batch_size roots slot) (led : LedTo V same hash batch_size roots slot course doings x) (i m : ℕ) (c : Sum)
       (here : x.0.0.calls m i ≡ Some (Counting c)) (s : Standing K) (stands : x.0.0.maps m ≡ Some s) (g : Option ℕ) (may : MayDo V same hash batch_size roots slot (Does (StepsCall i m g)) x.0) where
     abbrev words : List ℕ
     words = words_read same hash batch_size roots slot course i m doings x led

@@ -92,7 +92,7 @@ stopped_as : {K V Q : Type 0} (ready : Bool) (u : UnderWay K V Q) → option_map
 stopped_as true u = refl
 stopped_as false u = refl
 
-module _ {K V : Type 0} (same : K → K → Bool) (hash : ℕ → K → ℕ) (batch_size roots : ℕ) (slot : ℕ → ℕ) where
+module _ {K V S : Type 0} (same : K → K → Bool) (hash : S → K → ℕ) (batch_size roots : ℕ) (slot : ℕ → ℕ) where
   -- a walk that is given up has no row under way
   stop_rests : (s : Scene K V) → AllStand same hash batch_size roots slot s → (m i : ℕ) (u : UnderWay K V K) → s.calls m i ≡ Some u → (ready : Bool) → (machine_asked (machine_of u)).1 ≡ ready
       → unless_stopped ready u ≡ None → s.world.row i ≡ Rests
@@ -251,7 +251,7 @@ module _ {K V : Type 0} (same : K → K → Bool) (hash : ℕ → K → ℕ) (ba
         rows j none (inl at) = ap w.row at ∙ here ∙ ap v.row (sym at)
         rows j none (inr ne) = (others j ne).0 ∙ alike.rows j none ∙ sym (others j ne).1
 
-    pub by_act : (act : Act K V) → MayBe same hash batch_size roots slot act s → (told told2 : Answer K V) → Led same hash batch_size roots slot act s told n → Led same hash batch_size roots slot act t told2 o → Agree told told2
+    pub by_act : (act : Act K V S) → MayBe same hash batch_size roots slot act s → (told told2 : Answer K V) → Led same hash batch_size roots slot act s told n → Led same hash batch_size roots slot act t told2 o → Agree told told2
     by_act (BeginsCall i m wanted) may told told2 (it, stands, none, is) (it2, stands2, none2, is2) = (
       with_call_alone m i (Some (begun same slot it i wanted)) (Some (begun same slot it2 i wanted)) (ap Some (begins_as same slot i it it2 (set_both m it it2 stands stands2) wanted))
           (some_rests (begun same slot it i wanted) i) is is2,
@@ -278,12 +278,12 @@ module _ {K V : Type 0} (same : K → K → Bool) (hash : ℕ → K → ℕ) (ba
               (none_of machine_of (unless_stopped (machine_asked (machine_of u2)).1 u2) (sym both ∙ ap (option_map machine_of) none)))) is is2,
           told_is ∙ ap (λ (x : Machine K V K). OfAsking (machine_asked x).1) one ∙ sym told_is2,
         )
-    by_act (BeginsMaking i map given places) may told told2 (told_is, is) (told_is2, is2) = (
+    by_act (BeginsMaking i map hasher given places) may told told2 (told_is, is) (told_is2, is2) = (
       to _ _ is is2 (record {
         memory = alike.memory;
         maps = alike.maps;
         calls = alike.calls;
-        makers = both_at (λ (x : Option (Beginning K)). x) s.makers t.makers i (Some (making_begun (hash map) roots map given places)) (Some (making_begun (hash map) roots map given places)) refl alike.makers;
+        makers = both_at (λ (x : Option (Beginning K)). x) s.makers t.makers i (Some (making_begun (hash hasher) roots map given places)) (Some (making_begun (hash hasher) roots map given places)) refl alike.makers;
         enders = alike.enders;
         rows = alike.rows;
       }),

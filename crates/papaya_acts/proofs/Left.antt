@@ -76,7 +76,7 @@ module _ {K V : Type 0} (roots : ℕ) (w : World (Node K V)) (maps : ℕ → Opt
     apart = left.apart;
   }
 
-module _ {K V : Type 0} (same : K → K → Bool) (hash : ℕ → K → ℕ) (batch_size roots : ℕ) (slot : ℕ → ℕ) (s n : Scene K V) (all : AllStand same hash batch_size roots slot s)
+module _ {K V S : Type 0} (same : K → K → Bool) (hash : S → K → ℕ) (batch_size roots : ℕ) (slot : ℕ → ℕ) (s n : Scene K V) (all : AllStand same hash batch_size roots slot s)
     (lists : ℕ → List ℕ) (left : IsLeft roots s lists) where
   abbrev Is : Scene K V → (ℕ → List ℕ) → Type 0
   Is x lists2 = IsLeft roots x lists2
@@ -120,7 +120,7 @@ module _ {K V : Type 0} (same : K → K → Bool) (hash : ℕ → K → ℕ) (ba
             ((endings_leave_it V same same batch_size roots slot s.world s.maps s.calls s.makers s.enders lists all left i f ends m2 (machine, settled.Done) d).1 finished),
       )
 
-  pub by_act : (act : Act K V) → MayBe same hash batch_size roots slot act s → (told : Answer K V) → Led same hash batch_size roots slot act s told n → Then
+  pub by_act : (act : Act K V S) → MayBe same hash batch_size roots slot act s → (told : Answer K V) → Led same hash batch_size roots slot act s told n → Then
   by_act (BeginsCall i m wanted) may told (standing, stands, none, is) = to _ is left
   by_act (StepsCall i m g) may told led =
       to _ led.comes (machines_leave_it V same same batch_size roots slot s.world s.maps s.calls s.makers s.enders lists all left m led.standing led.stands i led.call led.here led.memory led.machine led.progress
@@ -128,8 +128,8 @@ module _ {K V : Type 0} (same : K → K → Bool) (hash : ℕ → K → ℕ) (ba
   by_act (TellsCall i m reply) may told (standing, stands, u, next, here, machine_is, told_is, kind, is) = to _ is left
   by_act (AsksCall i m) may told (u, next, here, machine_is, told_is, is) = to _ is left
   by_act (StopsCall i m) may told (u, here, told_is, is) = to _ is left
-  by_act (BeginsMaking i map given places) may told (told_is, is) =
-      to _ is (makings_begin_and_leave_it V same same batch_size roots slot s.world s.maps s.calls s.makers s.enders lists left i (none_is (s.makers i) may.0.no_making) (making_begun (hash map) roots map given places)
+  by_act (BeginsMaking i map hasher given places) may told (told_is, is) =
+      to _ is (makings_begin_and_leave_it V same same batch_size roots slot s.world s.maps s.calls s.makers s.enders lists left i (none_is (s.makers i) may.0.no_making) (making_begun (hash hasher) roots map given places)
       (λ taken. taken))
   by_act (StepsMaking i g) may told (b, makes, m2, machine, end, computed, told_is, did, came) = made i b makes m2 machine end did came
   by_act (BeginsEnding i m) may told (standing, stands, told_is, is) =
@@ -141,5 +141,5 @@ module _ {K V : Type 0} (same : K → K → Bool) (hash : ℕ → K → ℕ) (ba
   by_act (StepsRow i g) may told (w2, computed, happens, maps2, same_maps, told_is, is) =
       to _ is ((guards_leave_it V same same batch_size roots slot s.world s.maps s.calls s.makers s.enders lists all left i w2 maps2 same_maps).1 happens)
 
-pub acts_leave_it : {K : Type 0} (V : Type 0) (same : K → K → Bool) (hash : ℕ → K → ℕ) (batch_size roots : ℕ) (slot : ℕ → ℕ) → ActsLeaveIt V same hash batch_size roots slot
+pub acts_leave_it : {K S : Type 0} (V : Type 0) (same : K → K → Bool) (hash : S → K → ℕ) (batch_size roots : ℕ) (slot : ℕ → ℕ) → ActsLeaveIt V same hash batch_size roots slot
 acts_leave_it V same hash batch_size roots slot s n all act may told led lists left = by_act same hash batch_size roots slot s n all lists left act may told led

@@ -5,6 +5,7 @@ pub mod Rows
 pub mod Left
 pub mod Lists
 mod Once
+pub mod Further
 mod Sums
 mod Counts
 mod RowSteps
@@ -13,3 +14,4 @@ mod Agree
 mod Samples
 mod Untrue
 pub mod Reclaiming
+pub mod AsSteps

@@ -61,7 +61,7 @@ is_there : {X : Type 0} (o : Option X) → is_none o ≡ false → IsSome o
 is_there None e = absurd (cc e)
 is_there (Some x) e = refl
 
-module _ {K V : Type 0} (same : K → K → Bool) (hash : ℕ → K → ℕ) (batch_size roots : ℕ) (slot : ℕ → ℕ) where
+module _ {K V S : Type 0} (same : K → K → Bool) (hash : S → K → ℕ) (batch_size roots : ℕ) (slot : ℕ → ℕ) where
   -- at first all stand together
   first : AllStand {V = V} same hash batch_size roots slot (at_first roots)
   first =
@@ -70,16 +70,16 @@ module _ {K V : Type 0} (same : K → K → Bool) (hash : ℕ → K → ℕ) (ba
       (no_maps_begin V same same batch_size slot (at_start deferred_word roots) (roots, [], refl)) (start_roots {Q = K} V same same batch_size roots slot) (λ m s here. absurd (cc here)))
 
   module _ (s : Scene K V) (all : AllStand same hash batch_size roots slot s) where
-    abbrev LeadsOn : Act K V → Type 0
+    abbrev LeadsOn : Act K V S → Type 0
     LeadsOn act = (told : Answer K V) × (n : Scene K V) × Led same hash batch_size roots slot act s told n × AllStand same hash batch_size roots slot n
 
-    leads_on : ((map : ℕ) → AreLawful same (hash map)) → (act : Act K V) → MayBe same hash batch_size roots slot act s → LeadsOn act
+    leads_on : ((hasher : S) → AreLawful same (hash hasher)) → (act : Act K V S) → MayBe same hash batch_size roots slot act s → LeadsOn act
     leads_on lawful (BeginsCall i m wanted) may = (let to = call_begins same hash batch_size roots slot s all i m wanted may in (Nothing, to.0, to.1, to.2))
     leads_on lawful (StepsCall i m g) may = call_goes_on same hash batch_size roots slot s all i m g may
     leads_on lawful (TellsCall i m reply) may = call_told same hash batch_size roots slot s all i m may reply
     leads_on lawful (AsksCall i m) may = call_asked same hash batch_size roots slot s all i m may
     leads_on lawful (StopsCall i m) may = call_stops same hash batch_size roots slot s all i m may
-    leads_on lawful (BeginsMaking i map given places) may = (let to = making_begins same hash batch_size roots slot s all i map (lawful map) given places may in (Nothing, to.0, to.1, to.2))
+    leads_on lawful (BeginsMaking i map hasher given places) may = (let to = making_begins same hash batch_size roots slot s all i map hasher (lawful hasher) given places may in (Nothing, to.0, to.1, to.2))
     leads_on lawful (StepsMaking i g) may = making_goes_on same hash batch_size roots slot s all i g may
     leads_on lawful (BeginsEnding i m) may = (let to = ending_begins same hash batch_size roots slot s all i m may in (Nothing, to.0, to.1, to.2))
     leads_on lawful (StepsEnding i g) may = ending_goes_on same hash batch_size roots slot s all i g may
@@ -110,7 +110,7 @@ module _ {K V : Type 0} (same : K → K → Bool) (hash : ℕ → K → ℕ) (ba
   pub steps_are_acts : StepsAreActs V same hash batch_size roots slot
   steps_are_acts s all = (all_may_step s all, all_are_acts s all)
 
-  abbrev DoesOn : Stage V same hash batch_size roots slot → Doing K V → Type 0
+  abbrev DoesOn : Stage V same hash batch_size roots slot → Doing K V S → Type 0
   DoesOn p doing = (told : Answer K V) × (n : Stage V same hash batch_size roots slot) × HasDone V same hash batch_size roots slot doing p told n
 
   -- who reclaims all may begin, where nobody has anything under way
@@ -184,7 +184,7 @@ module _ {K V : Type 0} (same : K → K → Bool) (hash : ℕ → K → ℕ) (ba
     )
 
   -- So each of what may be done leads on.
-  does_on : ((map : ℕ) → AreLawful same (hash map)) → (p : Stage V same hash batch_size roots slot) (doing : Doing K V) → MayDo V same hash batch_size roots slot doing p → DoesOn p doing
+  does_on : ((hasher : S) → AreLawful same (hash hasher)) → (p : Stage V same hash batch_size roots slot) (doing : Doing K V S) → MayDo V same hash batch_size roots slot doing p → DoesOn p doing
   does_on lawful (s, all, inl (lists, left)) (Does act) (idle, may) =
       let to = leads_on s all lawful act may in
       let then = left_by_act same hash batch_size roots slot s to.1 all lists left act may to.0 to.2 in (to.0, (to.1, to.3, inl then), (to.2, refl))
@@ -203,7 +203,7 @@ module _ {K V : Type 0} (same : K → K → Bool) (hash : ℕ → K → ℕ) (ba
   free_at_first : IsLeft {K = K} {V = V} roots (at_first roots) (λ r. [])
   free_at_first = nothing_is_left K V roots (at_start deferred_word roots) (λ m. None) (λ i. None) (λ i. None) (λ r below. inr (zero_at roots r below, zero_at roots r below))
 
-  course : ((map : ℕ) → AreLawful same (hash map)) → Course V same hash batch_size roots slot
+  course : ((hasher : S) → AreLawful same (hash hasher)) → Course V same hash batch_size roots slot
   course lawful = record {
     first = first;
     left = free_at_first;

@@ -31,21 +31,21 @@ use Rattle.papaya_scenes.proofs.NoCall.{none_is}
 use Rattle.papaya_scenes.specs.Ending.{ending_begun}
 use Rattle.papaya_scenes.specs.Scene.{Scene}
 
-module _ {K V : Type 0} (same : K → K → Bool) (hash : ℕ → K → ℕ) (batch_size roots : ℕ) (slot : ℕ → ℕ) (s : Scene K V) (all : AllStand same hash batch_size roots slot s) (i : ℕ) where
+module _ {K V S : Type 0} (same : K → K → Bool) (hash : S → K → ℕ) (batch_size roots : ℕ) (slot : ℕ → ℕ) (s : Scene K V) (all : AllStand same hash batch_size roots slot s) (i : ℕ) where
   abbrev Stands : Scene K V → Type 0
   Stands n = AllStand same hash batch_size roots slot n
 
-  pub making_begins : (map : ℕ) → AreLawful same (hash map) → (given : Setting) (places : ℕ)
-      → MayBe same hash batch_size roots slot (BeginsMaking i map given places) s
-      → (n : Scene K V) × Led same hash batch_size roots slot (BeginsMaking i map given places) s Nothing n × Stands n
-  making_begins map lawful given places (free, no_map, others, batches, mask, some, power, sized) =
-      let b : Beginning K = making_begun (hash map) roots map given places in
+  pub making_begins : (map : ℕ) (hasher : S) → AreLawful same (hash hasher) → (given : Setting) (places : ℕ)
+      → MayBe same hash batch_size roots slot (BeginsMaking i map hasher given places) s
+      → (n : Scene K V) × Led same hash batch_size roots slot (BeginsMaking i map hasher given places) s Nothing n × Stands n
+  making_begins map hasher lawful given places (free, no_map, others, batches, mask, some, power, sized) =
+      let b : Beginning K = making_begun (hash hasher) roots map given places in
       let no_call : (m : ℕ) → s.calls m i ≡ None = λ m. none_is (s.calls m i) (free.no_call m) in (
         record s { makers = with_at s.makers i (Some b) },
         (refl, refl),
         makings_begin_among {Q = K} V same same batch_size roots slot s.world s.maps s.calls s.makers s.enders all i (none_is (s.enders i) free.no_ending) b
             (makings_begin {Q = K} V same same batch_size roots slot s.world s.maps s.calls s.makers all.makings i (none_is (s.makers i) free.no_making) no_call
-            map (none_is (s.maps map) no_map) others given (hash map) places lawful power batches mask some sized) refl,
+            map (none_is (s.maps map) no_map) others given (hash hasher) places lawful power batches mask some sized) refl,
       )
 
   -- by what a making tells

@@ -1,5 +1,5 @@
 -- That an act may be made, or a step of who reclaims all, is known in one way alone, so a course leads by a list to one stage.
-use Rattle.std.specs.Prelude.{◌≡◌, ◌⊎◌, ℕ, ◌<◌, ◌^◌, Bool, [], ◌∷◌}
+use Rattle.std.specs.Prelude.{◌≡◌, ◌⊎◌, ℕ, ◌<◌, ◌^◌, Bool, List, [], ◌∷◌}
 use Rattle.std.specs.Int.{IsPowerOfTwo}
 use Rattle.std.specs.Coded.{Coded-set, coded_bool, coded_ℕ, le_prop}
 use Rattle.std.proofs.Common.{inl, inr, refl, sym, ap, subst, arith, ◌∙◌}
@@ -10,7 +10,7 @@ use Rattle.papaya_scenes.specs.Given.Callers.Together.{IsOfSlots}
 use Rattle.papaya_acts.specs.Acts.{Act, BeginsCall, StepsCall, TellsCall, AsksCall, StopsCall, BeginsMaking, StepsMaking, BeginsEnding, StepsEnding, BeginsRow, StepsRow}
 use Rattle.papaya_acts.specs.Doings.{Doing, Does, BeginsReclaiming, BeginsClearing, StepsReclaiming, AllAreFree, SlotsAreFree, Stage, MayDo}
 use Rattle.papaya_acts.specs.Leads.{IsFree, AreFewWith, MayBe}
-use Rattle.papaya_acts.specs.Lists.{Course, Reached, on_by, IsDetermined}
+use Rattle.papaya_acts.specs.Lists.{Course, Reached, LedOn, nothing_done, on_by, IsDetermined}
 use Rattle.papaya_scenes.specs.Scene.{Scene}
 
 bool_set : IsSet Bool
@@ -52,14 +52,14 @@ module _ {K V : Type 0} (s : Scene K V) where
   few_prop : (i m : ℕ) → IsProp (AreFewWith s i m)
   few_prop i m = hlevel le_prop
 
-module _ {K V : Type 0} (same : K → K → Bool) (hash : ℕ → K → ℕ) (batch_size roots : ℕ) (slot : ℕ → ℕ) where
-  pub may_prop : (act : Act K V) (s : Scene K V) → IsProp (MayBe same hash batch_size roots slot act s)
+module _ {K V S : Type 0} (same : K → K → Bool) (hash : S → K → ℕ) (batch_size roots : ℕ) (slot : ℕ → ℕ) where
+  pub may_prop : (act : Act K V S) (s : Scene K V) → IsProp (MayBe same hash batch_size roots slot act s)
   may_prop (BeginsCall i m wanted) s = hlevel (bool_set, free_prop s i, few_prop s i m)
   may_prop (StepsCall i m g) s = bool_set _ _
   may_prop (TellsCall i m reply) s = bool_set _ _
   may_prop (AsksCall i m) s = bool_set _ _
   may_prop (StopsCall i m) s = bool_set _ _
-  may_prop (BeginsMaking i map given places) s = hlevel (bool_set, free_prop s i, Coded-set coded_ℕ, le_prop, power_prop)
+  may_prop (BeginsMaking i map hasher given places) s = hlevel (bool_set, free_prop s i, Coded-set coded_ℕ, le_prop, power_prop)
   may_prop (StepsMaking i g) s = bool_set _ _
   may_prop (BeginsEnding i m) s = hlevel (bool_set, free_prop s i)
   may_prop (StepsEnding i g) s = bool_set _ _
@@ -72,17 +72,20 @@ module _ {K V : Type 0} (same : K → K → Bool) (hash : ℕ → K → ℕ) (ba
   slots_prop : (s : Scene K V) → IsProp (SlotsAreFree s)
   slots_prop s = hlevel (bool_set, Coded-set coded_ℕ)
 
-  pub may_do_prop : (doing : Doing K V) (p : Stage V same hash batch_size roots slot) → IsProp (MayDo V same hash batch_size roots slot doing p)
+  pub may_do_prop : (doing : Doing K V S) (p : Stage V same hash batch_size roots slot) → IsProp (MayDo V same hash batch_size roots slot doing p)
   may_do_prop (Does act) p = hlevel (bool_set, may_prop act p.0)
   may_do_prop (BeginsReclaiming i) p = hlevel (bool_set, le_prop, free_all_prop p.0)
   may_do_prop (BeginsClearing i) p = hlevel (bool_set, le_prop, free_all_prop p.0, slots_prop p.0)
   may_do_prop (StepsReclaiming g) p = hlevel (bool_set, le_prop)
 
   module _ (course : Course V same hash batch_size roots slot) where
+    led_once : (doings : List (Doing K V S)) (x y z : Reached V same hash batch_size roots slot) → LedOn V same hash batch_size roots slot course doings x y
+        → LedOn V same hash batch_size roots slot course doings x z → y ≡ z
+    led_once [] x y z led other = led ∙ sym other
+    led_once (doing ∷ doings) x y z (may, led) (may2, led2) =
+        led_once doings (on_by V same hash batch_size roots slot course x doing may) y z led
+        (subst (λ (m : MayDo V same hash batch_size roots slot doing x.0). LedOn V same hash batch_size roots slot course doings (on_by V same hash batch_size roots slot course x doing m) z)
+        (may_do_prop doing x.0 may2 may) led2)
+
     pub is_determined : IsDetermined V same hash batch_size roots slot course
-    is_determined [] x y led other = led ∙ sym other
-    is_determined (doing ∷ doings) x y (before, led, may, is) (before2, led2, may2, is2) =
-        is ∙ subst (λ (z : Reached V same hash batch_size roots slot). (m : MayDo V same hash batch_size roots slot doing z.0)
-        → on_by V same hash batch_size roots slot course before doing may ≡ on_by V same hash batch_size roots slot course z doing m)
-        (is_determined doings before before2 led led2)
-        (λ m. ap (on_by V same hash batch_size roots slot course before doing) (may_do_prop doing before.0 may m)) may2 ∙ sym is2
+    is_determined doings x y led other = led_once doings (nothing_done V same hash batch_size roots slot course) x y led other

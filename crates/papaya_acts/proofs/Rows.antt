@@ -15,7 +15,7 @@ use Rattle.papaya_acts.proofs.Tests.{some_is}
 use Rattle.papaya_scenes.proofs.NoCall.{none_is}
 use Rattle.papaya_scenes.specs.Scene.{Scene}
 
-module _ {K V : Type 0} (same : K → K → Bool) (hash : ℕ → K → ℕ) (batch_size roots : ℕ) (slot : ℕ → ℕ) (s : Scene K V) (all : AllStand same hash batch_size roots slot s) (i : ℕ) where
+module _ {K V S : Type 0} (same : K → K → Bool) (hash : S → K → ℕ) (batch_size roots : ℕ) (slot : ℕ → ℕ) (s : Scene K V) (all : AllStand same hash batch_size roots slot s) (i : ℕ) where
   abbrev Stands : Scene K V → Type 0
   Stands n = AllStand same hash batch_size roots slot n
 

@@ -23,19 +23,19 @@ not_three : (k : ℕ) → 3 ≡ 2 ^ k → ⊥
 not_three zero e = omega (arith, e)
 not_three (suc k) e = let twice : 2 ^ suc k ≡ 2 ^ k * 2 = pow-suc 2 k in omega (arith, e, twice)
 
-module _ {K : Type 0} (V : Type 0) (same : K → K → Bool) (hash : ℕ → K → ℕ) (batch_size : ℕ) (slot : ℕ → ℕ) where
-  abbrev First : Act K V → Type 0
+module _ {K S : Type 0} (V : Type 0) (same : K → K → Bool) (hash : S → K → ℕ) (batch_size : ℕ) (slot : ℕ → ℕ) where
+  abbrev First : Act K V S → Type 0
   First act = MayBe same hash batch_size 1 slot act (at_first 1)
 
   -- At first any caller may begin to make a map, or take a slot.
-  may_make : (i map places : ℕ) (given : Setting) → IsPowerOfTwo given.initial → (max places 8 ≤ 2 ^ 48 → IsTableLen (max places 8))
-      → given.batch_size ≡ batch_size → given.mask + 1 < 2 ^ 64 → First (BeginsMaking i map given places)
-  may_make i map places given power sized batches mask =
+  may_make : (i map places : ℕ) (hasher : S) (given : Setting) → IsPowerOfTwo given.initial → (max places 8 ≤ 2 ^ 48 → IsTableLen (max places 8))
+      → given.batch_size ≡ batch_size → given.mask + 1 < 2 ^ 64 → First (BeginsMaking i map hasher given places)
+  may_make i map places hasher given power sized batches mask =
       (record { no_call = λ m. refl; no_making = refl; no_ending = refl }, refl, (λ j d has e. cc has), batches, mask, omega arith, power, sized)
 
   -- No map is made whose tables would begin with a length that is no power of two.
-  none_of_three : (i map places : ℕ) (given : Setting) → given.initial ≡ 3 → First (BeginsMaking i map given places) → ⊥
-  none_of_three i map places given three may = not_three may.6.0 (sym three ∙ may.6.1)
+  none_of_three : (i map places : ℕ) (hasher : S) (given : Setting) → given.initial ≡ 3 → First (BeginsMaking i map hasher given places) → ⊥
+  none_of_three i map places hasher given three may = not_three may.6.0 (sym three ∙ may.6.1)
 
   may_register : (i : ℕ) (enters : Bool) → First (BeginsRow i (Register' enters))
   may_register i enters = ((λ m. refl), refl, tt, (λ m j u has closes. closes), refl)
@@ -47,10 +47,10 @@ module _ {K : Type 0} (V : Type 0) (same : K → K → Bool) (hash : ℕ → K �
   no_call_yet : (i m : ℕ) (g : Grant) → First (StepsCall i m g) → ⊥
   no_call_yet i m g may = cc may
 
-  module _ (given : Setting) where
+  module _ (hasher : S) (given : Setting) where
     -- A map is being made. Its caller has something under way, and may take the next step, which takes the root.
     abbrev b : Beginning K
-    b = making_begun (hash 0) 1 0 given 0
+    b = making_begun (hash hasher) 1 0 given 0
 
     abbrev Makes : Beginning K → Scene K V
     Makes b = record (at_first 1) { makers = with_at (λ i. None) 0 (Some b) }
@@ -94,7 +94,7 @@ module _ {K : Type 0} (V : Type 0) (same : K → K → Bool) (hash : ℕ → K �
     abbrev within : Stage V same hash batch_size 1 slot
     within = (s, all, inr (i, lists, c, idle))
 
-    no_act : (act : Act K V) → MayDo V same hash batch_size 1 slot (Does act) within → ⊥
+    no_act : (act : Act K V S) → MayDo V same hash batch_size 1 slot (Does act) within → ⊥
     no_act act may = cc (may.0)
 
     not_twice : (j : ℕ) → MayDo V same hash batch_size 1 slot (BeginsClearing j) within → ⊥

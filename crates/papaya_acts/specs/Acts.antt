@@ -39,19 +39,19 @@ pub data Wanted (K V : Type 0) : Type 0 where
   GoOver : Purpose → Wanted K V
 
 -- A grant is what the memory is free to choose at a step: the number of the block that is made, or that it refuses.
-pub data Act (K V : Type 0) : Type 0 where
-  BeginsCall : ℕ → ℕ → Wanted K V → Act K V  -- this caller begins to do this on this map
-  StepsCall : ℕ → ℕ → Grant → Act K V  -- its call on this map takes its next step
-  TellsCall : ℕ → ℕ → Reply V → Act K V  -- its call on this map is told this
-  AsksCall : ℕ → ℕ → Act K V  -- or is asked for its next pair
-  StopsCall : ℕ → ℕ → Act K V  -- or is given up, if it is a walk that is ready
-  -- this caller begins to make this map, with this setting and a first table of so many places, or none for 0
-  BeginsMaking : ℕ → ℕ → Setting → ℕ → Act K V
-  StepsMaking : ℕ → Grant → Act K V
-  BeginsEnding : ℕ → ℕ → Act K V  -- this caller begins to end this map
-  StepsEnding : ℕ → Grant → Act K V
-  BeginsRow : ℕ → Request → Act K V  -- this caller begins a row on its slot, between calls
-  StepsRow : ℕ → Grant → Act K V
+pub data Act (K V S : Type 0) : Type 0 where
+  BeginsCall : ℕ → ℕ → Wanted K V → Act K V S  -- this caller begins to do this on this map
+  StepsCall : ℕ → ℕ → Grant → Act K V S  -- its call on this map takes its next step
+  TellsCall : ℕ → ℕ → Reply V → Act K V S  -- its call on this map is told this
+  AsksCall : ℕ → ℕ → Act K V S  -- or is asked for its next pair
+  StopsCall : ℕ → ℕ → Act K V S  -- or is given up, if it is a walk that is ready
+  -- this caller begins to make this map, with this hasher and setting, and a first table of so many places, or none for 0
+  BeginsMaking : ℕ → ℕ → S → Setting → ℕ → Act K V S
+  StepsMaking : ℕ → Grant → Act K V S
+  BeginsEnding : ℕ → ℕ → Act K V S  -- this caller begins to end this map
+  StepsEnding : ℕ → Grant → Act K V S
+  BeginsRow : ℕ → Request → Act K V S  -- this caller begins a row on its slot, between calls
+  StepsRow : ℕ → Grant → Act K V S
 
 -- what the caller is told
 pub data Answer (K V : Type 0) : Type 0 where

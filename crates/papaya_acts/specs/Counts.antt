@@ -15,7 +15,7 @@ use Rattle.papaya_scenes.specs.Given.Callers.Together.{UnderWay, Counting}
 use Rattle.papaya_scenes.specs.Given.Finishes.Maps.{Standing}
 use Rattle.papaya_acts.specs.Acts.{Act, OfCall, BeginsCall, StepsCall}
 use Rattle.papaya_acts.specs.Doings.{Doing, Does, MayDo}
-use Rattle.papaya_acts.specs.Lists.{Course, Reached, LedTo}
+use Rattle.papaya_acts.specs.Lists.{Course, Reached, LedOn, LedTo, nothing_done, on_by}
 use Rattle.papaya_scenes.specs.Scene.{Scene}
 
 -- what is there, as a list
@@ -41,34 +41,39 @@ HasRead c words = c.stands ≡ sums.Adds (length words) (sum words % 2 ^ 64)
 abbrev pub is_its : ℕ → ℕ → ℕ → ℕ → Bool
 is_its i m j n = (j == i) && (n == m)
 
-module _ {K V : Type 0} (i m : ℕ) where
+module _ {K V S : Type 0} (i m : ℕ) where
   -- what the counting has read by an act: nothing as it begins, and one shard more by each step, as it stands then
-  abbrev pub read_on : Act K V → Scene K V → List ℕ → List ℕ
+  abbrev pub read_on : Act K V S → Scene K V → List ℕ → List ℕ
   read_on (BeginsCall j n wanted) s words = if is_its i m j n then [] else words
   read_on (StepsCall j n g) s words = if is_its i m j n then shard_of_call s.world.memory (s.calls m i) ++ words else words
   read_on act s words = words
 
   -- it reads nothing while all is reclaimed
-  abbrev pub read_by : Doing K V → Scene K V → List ℕ → List ℕ
+  abbrev pub read_by : Doing K V S → Scene K V → List ℕ → List ℕ
   read_by (Does act) s words = read_on act s words
   read_by doing s words = words
 
-module _ {K V : Type 0} (same : K → K → Bool) (hash : ℕ → K → ℕ) (batch_size roots : ℕ) (slot : ℕ → ℕ) (course : Course V same hash batch_size roots slot) where
+module _ {K V S : Type 0} (same : K → K → Bool) (hash : S → K → ℕ) (batch_size roots : ℕ) (slot : ℕ → ℕ) (course : Course V same hash batch_size roots slot) where
+  -- what it has read by the end of these acts, if it had read so much before them
+  abbrev pub words_on : ℕ → ℕ → (doings : List (Doing K V S)) (x y : Reached V same hash batch_size roots slot) → List ℕ → LedOn V same hash batch_size roots slot course doings x y → List ℕ
+  words_on i m [] x y words led = words
+  words_on i m (doing ∷ doings) x y words led =
+      words_on i m doings (on_by V same hash batch_size roots slot course x doing led.0) y (read_by i m doing x.0.0 words) led.1
+
   -- The words that the counting has read that this caller has under way on this map: each is that of its shard, at a moment since the counting began.
-  abbrev pub words_read : ℕ → ℕ → (doings : List (Doing K V)) (x : Reached V same hash batch_size roots slot) → LedTo V same hash batch_size roots slot course doings x → List ℕ
-  words_read i m [] x led = []
-  words_read i m (doing ∷ doings) x led = read_by i m doing led.0.0.0 (words_read i m doings led.0 led.1)
+  abbrev pub words_read : ℕ → ℕ → (doings : List (Doing K V S)) (x : Reached V same hash batch_size roots slot) → LedTo V same hash batch_size roots slot course doings x → List ℕ
+  words_read i m doings x led = words_on i m doings (nothing_done V same hash batch_size roots slot course) x [] led
 
   -- Wherever a list of acts has led, a counting that is under way has come to the sum of the words that it has read, shard by shard from the first on.
   abbrev pub CountingsAddUp : Type 0
   CountingsAddUp =
-      (doings : List (Doing K V)) (x : Reached V same hash batch_size roots slot) (led : LedTo V same hash batch_size roots slot course doings x)
+      (doings : List (Doing K V S)) (x : Reached V same hash batch_size roots slot) (led : LedTo V same hash batch_size roots slot course doings x)
       → (i m : ℕ) (c : Sum) → x.0.0.calls m i ≡ Some (Counting c) → HasRead c (words_read i m doings x led)
 
   -- And what it answers by its last step is the sum of the words of all shards, which is none where that is negative.
   abbrev pub CountingsAnswerTheSum : Type 0
   CountingsAnswerTheSum =
-      (doings : List (Doing K V)) (x : Reached V same hash batch_size roots slot) (led : LedTo V same hash batch_size roots slot course doings x)
+      (doings : List (Doing K V S)) (x : Reached V same hash batch_size roots slot) (led : LedTo V same hash batch_size roots slot course doings x)
       → (i m : ℕ) (c : Sum) → x.0.0.calls m i ≡ Some (Counting c) → (s : Standing K) → x.0.0.maps m ≡ Some s
       → (g : Grant) (may : MayDo V same hash batch_size roots slot (Does (StepsCall i m g)) x.0) (count : ℕ)
       → course.told x.0 (Does (StepsCall i m g)) may ≡ OfCall (progress.Done (answers.Count count))

@@ -21,8 +21,8 @@ pub record AreAlike {K V : Type 0} (s t : Scene K V) : Type 0 where
   pub rows : (i : ℕ) → HasNoCall s i → s.world.row i ≡ t.world.row i
 
 -- The promise: where a list of acts leads by one course, and where by another one, is alike, the same was told, and who reclaims all is as far.
-abbrev pub CoursesAgree : {K : Type 0} (V : Type 0) (same : K → K → Bool) (hash : ℕ → K → ℕ) (batch_size roots : ℕ) (slot : ℕ → ℕ) → Type 0
-CoursesAgree {K} V same hash batch_size roots slot =
-    (one other : Course V same hash batch_size roots slot) (doings : List (Doing K V)) (x y : Reached V same hash batch_size roots slot)
+abbrev pub CoursesAgree : {K S : Type 0} (V : Type 0) (same : K → K → Bool) (hash : S → K → ℕ) (batch_size roots : ℕ) (slot : ℕ → ℕ) → Type 0
+CoursesAgree {K} {S} V same hash batch_size roots slot =
+    (one other : Course V same hash batch_size roots slot) (doings : List (Doing K V S)) (x y : Reached V same hash batch_size roots slot)
     → LedTo V same hash batch_size roots slot one doings x → LedTo V same hash batch_size roots slot other doings y
     → AreAlike x.0.0 y.0.0 × (x.1 ≡ y.1) × (reclaiming V same hash batch_size roots slot x.0 ≡ reclaiming V same hash batch_size roots slot y.0)

@@ -21,11 +21,11 @@ use Rattle.papaya_acts.specs.Leads.{MayBe, AllStand, Led}
 use Rattle.papaya_acts.specs.Reclaiming.{IsReclaimingAll, ReclaimedOn, reclaiming_steps}
 use Rattle.papaya_scenes.specs.Scene.{Scene}
 
-pub data Doing (K V : Type 0) : Type 0 where
-  Does : Act K V → Doing K V
-  BeginsReclaiming : ℕ → Doing K V  -- this caller begins to reclaim all, with the slots
-  BeginsClearing : ℕ → Doing K V  -- or with the roots, where no slot is in use and none has a batch
-  StepsReclaiming : Grant → Doing K V  -- it takes its next step
+pub data Doing (K V S : Type 0) : Type 0 where
+  Does : Act K V S → Doing K V S
+  BeginsReclaiming : ℕ → Doing K V S  -- this caller begins to reclaim all, with the slots
+  BeginsClearing : ℕ → Doing K V S  -- or with the roots, where no slot is in use and none has a batch
+  StepsReclaiming : Grant → Doing K V S  -- it takes its next step
 
 abbrev pub is_vacant : Use → Bool
 is_vacant Vacant = true
@@ -53,11 +53,11 @@ abbrev pub still : {T : Type 0} → Settled T → ℕ × ReclaimAll → Option (
 still settled.Done it = None
 still told it = Some it
 
-module _ {K : Type 0} (V : Type 0) (same : K → K → Bool) (hash : ℕ → K → ℕ) (batch_size roots : ℕ) (slot : ℕ → ℕ) where
+module _ {K S : Type 0} (V : Type 0) (same : K → K → Bool) (hash : S → K → ℕ) (batch_size roots : ℕ) (slot : ℕ → ℕ) where
   -- The promise of one act: what ended maps have left stays there, whichever comes to it.
   abbrev pub ActsLeaveIt : Type 0
   ActsLeaveIt =
-      (s n : Scene K V) → AllStand same hash batch_size roots slot s → (act : Act K V) → MayBe same hash batch_size roots slot act s
+      (s n : Scene K V) → AllStand same hash batch_size roots slot s → (act : Act K V S) → MayBe same hash batch_size roots slot act s
       → (told : Answer K V) → Led same hash batch_size roots slot act s told n → (lists : ℕ → List ℕ) → IsLeft roots s lists → (lists2 : ℕ → List ℕ) × IsLeft roots n lists2
 
   -- this caller reclaims all, with this machine, and these lists are behind the roots still
@@ -80,7 +80,7 @@ module _ {K : Type 0} (V : Type 0) (same : K → K → Bool) (hash : ℕ → K �
 
   -- When each may be done. Acts may be made while nobody reclaims all. Any caller may begin to where nobody has anything under way, with the slots if one was ever
   -- taken; and takes a step where the memory may choose so.
-  abbrev pub MayDo : Doing K V → Stage → Type 0
+  abbrev pub MayDo : Doing K V S → Stage → Type 0
   MayDo (Does act) p = (is_none (reclaiming p) ≡ true) × MayBe same hash batch_size roots slot act p.0
   MayDo (BeginsReclaiming i) p =
       (is_none (reclaiming p) ≡ true) × (batch_size < 2 ^ 64) × AllAreFree p.0 × (is_none (word_at p.0.world.memory (Slot 0 HEAD)) ≡ false)
@@ -105,7 +105,7 @@ module _ {K : Type 0} (V : Type 0) (same : K → K → Bool) (hash : ℕ → K �
     pub behind_is : (end ≡ settled.Done → ⊥) → behind n ≡ lists
 
   -- from this stage it has led to that one, and has told this
-  abbrev pub HasDone : Doing K V → Stage → Answer K V → Stage → Type 0
+  abbrev pub HasDone : Doing K V S → Stage → Answer K V → Stage → Type 0
   HasDone (Does act) p told n = Led same hash batch_size roots slot act p.0 told n.0 × (reclaiming n ≡ None)
   HasDone (BeginsReclaiming i) p told n = HasBegun i (reclaiming_all batch_size roots) p told n
   HasDone (BeginsClearing i) p told n = HasBegun i (clearing roots) p told n

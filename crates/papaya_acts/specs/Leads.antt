@@ -51,8 +51,8 @@ module _ {K V : Type 0} where
   abbrev pub call_at : Scene K V → ℕ → ℕ → Option (Standing K × UnderWay K V K)
   call_at s i m = then_on (s.maps m) (λ standing. then_on (s.calls m i) (λ u. Some (standing, u)))
 
--- Each map has a hash, by its number; a batch has such a size, there are so many roots, and each caller has a slot.
-module _ {K V : Type 0} (same : K → K → Bool) (hash : ℕ → K → ℕ) (batch_size roots : ℕ) (slot : ℕ → ℕ) where
+-- Keys have a hash by each hasher; a batch has such a size, there are so many roots, and each caller has a slot.
+module _ {K V S : Type 0} (same : K → K → Bool) (hash : S → K → ℕ) (batch_size roots : ℕ) (slot : ℕ → ℕ) where
   -- what the next step of a call, of a making, and of an end comes to, if they are there and the memory may choose so
   abbrev pub call_steps : Scene K V → Grant → Standing K × UnderWay K V K → Option (Mem (Node K V) × (Machine K V K × CallProgress (Node K V)))
   call_steps s g it = stepped s.world.memory g (machine_plan same same it.0.hash (machine_of it.1))
@@ -66,14 +66,14 @@ module _ {K V : Type 0} (same : K → K → Bool) (hash : ℕ → K → ℕ) (ba
   -- When an act may be made. A call begins within a section, on a map that stands; a step is taken where the memory may choose so; a map that has no number yet
   -- is made, with lengths that tables may have; one ends on which nobody has a call; a row begins on a slot between calls, as that is used, and ends no section
   -- in which a call is under way.
-  abbrev pub MayBe : Act K V → Scene K V → Type 0
+  abbrev pub MayBe : Act K V S → Scene K V → Type 0
   MayBe (BeginsCall i m wanted) s =
       IsFree s i × (rests (s.world.row i) ≡ true) × (is_within (s.world.uses (slot i)) ≡ true) × (is_none (s.maps m) ≡ false) × AreFewWith s i m
   MayBe (StepsCall i m g) s = is_none (then_on (call_at s i m) (call_steps s g)) ≡ false
   MayBe (TellsCall i m reply) s = is_none (call_at s i m) ≡ false
   MayBe (AsksCall i m) s = is_none (call_at s i m) ≡ false
   MayBe (StopsCall i m) s = is_none (call_at s i m) ≡ false
-  MayBe (BeginsMaking i map given places) s =
+  MayBe (BeginsMaking i map hasher given places) s =
       IsFree s i × (is_none (s.maps map) ≡ true) × ((j : ℕ) (d : Beginning K) → s.makers j ≡ Some d → map ≢ d.map)
       × (given.batch_size ≡ batch_size) × (given.mask + 1 < 2 ^ 64) × (0 < roots) × IsPowerOfTwo given.initial × (max places 8 ≤ 2 ^ 48 → IsTableLen (max places 8))
   MayBe (StepsMaking i g) s = is_none (then_on (s.makers i) (making_steps s g)) ≡ false
@@ -122,7 +122,7 @@ module _ {K V : Type 0} (same : K → K → Bool) (hash : ℕ → K → ℕ) (ba
     pub comes : n ≡ record { world = did.w2; maps = did.maps2; calls = with_call s.calls m i did.next; makers = s.makers; enders = s.enders }
 
   -- From this scene the act has led to that one, and has told this. A step is computed from the memory and from what that was free to choose.
-  abbrev pub Led : Act K V → Scene K V → Answer K V → Scene K V → Type 0
+  abbrev pub Led : Act K V S → Scene K V → Answer K V → Scene K V → Type 0
   Led (BeginsCall i m wanted) s told n =
       (standing : Standing K) × (s.maps m ≡ Some standing) × (told ≡ Nothing) × (n ≡ scene_with m i (begun same slot standing i wanted) s)
   Led (StepsCall i m g) s told n = CallCame s i m g told n
@@ -136,7 +136,7 @@ module _ {K V : Type 0} (same : K → K → Bool) (hash : ℕ → K → ℕ) (ba
   Led (StopsCall i m) s told n =
       (u : UnderWay K V K) × (s.calls m i ≡ Some u) × (told ≡ OfAsking (machine_asked (machine_of u)).1)
       × (n ≡ record s { calls = with_call s.calls m i (unless_stopped (machine_asked (machine_of u)).1 u) })
-  Led (BeginsMaking i map given places) s told n = (told ≡ Nothing) × (n ≡ record s { makers = with_at s.makers i (Some (making_begun (hash map) roots map given places)) })
+  Led (BeginsMaking i map hasher given places) s told n = (told ≡ Nothing) × (n ≡ record s { makers = with_at s.makers i (Some (making_begun (hash hasher) roots map given places)) })
   Led (StepsMaking i g) s told n =
       (b : Beginning K) × (s.makers i ≡ Some b) × (m2 : Mem (Node K V)) × (machine : NewMap) × (progress : Progress Setting)
       × (making_steps s g b ≡ Some (m2, (machine, progress))) × (told ≡ OfMaking progress)

@@ -1,5 +1,5 @@
 -- Lists of acts: to which scene each leads, and what is promised of it.
-use Rattle.std.specs.Prelude.{◌≡◌, ℕ, Bool, List, [], ◌∷◌, Some}
+use Rattle.std.specs.Prelude.{◌≡◌, ℕ, Bool, List, [], ◌∷◌, ◌++◌, Some}
 use Rattle.std.proofs.Common.{inl}
 use Rattle.papaya_scenes.specs.Given.SeizeWords.Mem.{Mem, Can, Took, value_at}
 use Rattle.papaya_scenes.specs.Given.SeizeWords.Plan.{May, Steps}
@@ -29,7 +29,7 @@ use Rattle.papaya_acts.specs.Doings.{Doing, IsLeft, Stage, MayDo, HasDone}
 use Rattle.papaya_acts.specs.Leads.{AllStand, call_steps, making_steps, ending_steps}
 use Rattle.papaya_scenes.specs.Scene.{Scene, HasNoCall, at_first}
 
-module _ {K : Type 0} (V : Type 0) (same : K → K → Bool) (hash : ℕ → K → ℕ) (batch_size roots : ℕ) (slot : ℕ → ℕ) where
+module _ {K S : Type 0} (V : Type 0) (same : K → K → Bool) (hash : S → K → ℕ) (batch_size roots : ℕ) (slot : ℕ → ℕ) where
   -- whichever caller takes the next step of what it has under way, it may take it: all that the step looks at is there
   pub record AllMayStep (s : Scene K V) : Type 0 where
     pub calls : (m i : ℕ) (standing : Standing K) (u : UnderWay K V K) → s.maps m ≡ Some standing → s.calls m i ≡ Some u
@@ -62,29 +62,37 @@ module _ {K : Type 0} (V : Type 0) (same : K → K → Bool) (hash : ℕ → K �
   pub record Course : Type 0 where
     pub first : AllStand {V = V} same hash batch_size roots slot (at_first roots)
     pub left : IsLeft {K = K} {V = V} roots (at_first roots) (λ r. [])
-    pub next : (p : Stage V same hash batch_size roots slot) (doing : Doing K V) → MayDo V same hash batch_size roots slot doing p → Stage V same hash batch_size roots slot
-    pub told : (p : Stage V same hash batch_size roots slot) (doing : Doing K V) → MayDo V same hash batch_size roots slot doing p → Answer K V
-    pub leads : (p : Stage V same hash batch_size roots slot) (doing : Doing K V) (may : MayDo V same hash batch_size roots slot doing p)
+    pub next : (p : Stage V same hash batch_size roots slot) (doing : Doing K V S) → MayDo V same hash batch_size roots slot doing p → Stage V same hash batch_size roots slot
+    pub told : (p : Stage V same hash batch_size roots slot) (doing : Doing K V S) → MayDo V same hash batch_size roots slot doing p → Answer K V
+    pub leads : (p : Stage V same hash batch_size roots slot) (doing : Doing K V S) (may : MayDo V same hash batch_size roots slot doing p)
         → HasDone V same hash batch_size roots slot doing p (told p doing may) (next p doing may)
 
-  -- where a list has led, and what it has told, the newest first
+  -- where a list has led, and what it has told, the newest last
   abbrev pub Reached : Type 0
   Reached = Stage V same hash batch_size roots slot × List (Answer K V)
 
   module _ (course : Course) where
-    abbrev pub on_by : (x : Reached) (doing : Doing K V) → MayDo V same hash batch_size roots slot doing x.0 → Reached
-    on_by x doing may = (course.next x.0 doing may, course.told x.0 doing may ∷ x.1)
+    -- where nothing was done yet
+    abbrev pub nothing_done : Reached
+    nothing_done = ((at_first roots, course.first, inl ((λ r. []), course.left)), [])
 
-    -- A list of acts, the newest first, has led there. A caller may have reclaimed all in between.
-    abbrev pub LedTo : List (Doing K V) → Reached → Type 0
-    LedTo [] x = x ≡ ((at_first roots, course.first, inl ((λ r. []), course.left)), [])
-    LedTo (doing ∷ doings) x = (y : Reached) × LedTo doings y × (may : MayDo V same hash batch_size roots slot doing y.0) × (x ≡ on_by y doing may)
+    abbrev pub on_by : (x : Reached) (doing : Doing K V S) → MayDo V same hash batch_size roots slot doing x.0 → Reached
+    on_by x doing may = (course.next x.0 doing may, x.1 ++ course.told x.0 doing may ∷ [])
+
+    -- From there these acts, the newest last, have led here. A caller may have reclaimed all in between.
+    abbrev pub LedOn : List (Doing K V S) → Reached → Reached → Type 0
+    LedOn [] x y = y ≡ x
+    LedOn (doing ∷ doings) x y = (may : MayDo V same hash batch_size roots slot doing x.0) × LedOn doings (on_by x doing may) y
+
+    -- A list of acts has led there.
+    abbrev pub LedTo : List (Doing K V S) → Reached → Type 0
+    LedTo doings x = LedOn doings nothing_done x
 
     -- A list leads to one stage, and tells one list of answers.
     abbrev pub IsDetermined : Type 0
-    IsDetermined = (doings : List (Doing K V)) (x y : Reached) → LedTo doings x → LedTo doings y → x ≡ y
+    IsDetermined = (doings : List (Doing K V S)) (x y : Reached) → LedTo doings x → LedTo doings y → x ≡ y
 
   -- The promise of lists: there is a course, and by each one a list of plain data determines world, maps, calls, makings, ends, who reclaims all, and all
   -- that was told.
   abbrev pub ListsDetermine : Type 0
-  ListsDetermine = ((map : ℕ) → AreLawful same (hash map)) → Course × ((course : Course) → IsDetermined course)
+  ListsDetermine = ((hasher : S) → AreLawful same (hash hasher)) → Course × ((course : Course) → IsDetermined course)

@@ -37,7 +37,7 @@ use Rattle.papaya_carries.proofs.Told.{told_on, next_on, not_stopped}
 use Rattle.papaya_scenes.specs.Replying.{unless_stopped}
 use Rattle.papaya_scenes.specs.Scene.{Scene}
 
-module _ {K V : Type 0} (same : K → K → Bool) (hash : ℕ → K → ℕ) (batch_size roots : ℕ) (slot : ℕ → ℕ) (s n : Scene K V) (all : AllStand same hash batch_size roots slot s)
+module _ {K V S : Type 0} (same : K → K → Bool) (hash : S → K → ℕ) (batch_size roots : ℕ) (slot : ℕ → ℕ) (s n : Scene K V) (all : AllStand same hash batch_size roots slot s)
     (stand : AllStand same hash batch_size roots slot n) (theirs : AreTheirs s) where
   to : (x : Scene K V) → n ≡ x → AreTheirs x → AreTheirs n
   to x is so = subst AreTheirs (sym is) so
@@ -84,7 +84,7 @@ module _ {K V : Type 0} (same : K → K → Bool) (hash : ℕ → K → ℕ) (ba
       by settled.Done d (none, finished, is) =
           to _ is ((endings_keep_theirs V same same batch_size roots slot s.world s.maps s.calls s.makers s.enders theirs i f ends m2 (machine, settled.Done) d).1 finished)
 
-  pub by_act : (act : Act K V) → MayBe same hash batch_size roots slot act s → (told : Answer K V) → Led same hash batch_size roots slot act s told n → AreTheirs n
+  pub by_act : (act : Act K V S) → MayBe same hash batch_size roots slot act s → (told : Answer K V) → Led same hash batch_size roots slot act s told n → AreTheirs n
   by_act (BeginsCall i m wanted) may told (standing, stands, none, is) =
       to _ is (changed m i (Some (begun same slot standing i wanted)) (λ u p here has. absurd (let free = none_is (s.calls m i) (may.0.no_call m) in cc (free, here))))
   by_act (StepsCall i m g) may told led =
@@ -98,7 +98,7 @@ module _ {K V : Type 0} (same : K → K → Bool) (hash : ℕ → K → ℕ) (ba
   by_act (StopsCall i m) may told (u, here, told_is, is) =
       to _ is (changed m i (unless_stopped (machine_asked (machine_of u)).1 u)
       (λ v p there has. let k = of_call m i u here v p there has in (u, not_stopped p u (machine_asked (machine_of u)).1 refl k, k)))
-  by_act (BeginsMaking i map given places) may told (told_is, is) = to _ is theirs
+  by_act (BeginsMaking i map hasher given places) may told (told_is, is) = to _ is theirs
   by_act (StepsMaking i g) may told (b, makes, m2, machine, end, computed, told_is, did, came) = made i b makes m2 machine end did came
   by_act (BeginsEnding i m) may told (standing, stands, told_is, is) =
       to _ is (endings_begin_and_keep_theirs V same same batch_size roots slot s.world s.maps s.calls s.makers s.enders theirs i (none_is (s.enders i) may.0.no_ending) m standing stands
@@ -109,5 +109,5 @@ module _ {K V : Type 0} (same : K → K → Bool) (hash : ℕ → K → ℕ) (ba
   by_act (StepsRow i g) may told (w2, computed, happens, maps2, same_maps, told_is, is) =
       to _ is ((guards_keep_theirs V same same batch_size roots slot s.world s.maps s.calls s.makers s.enders all theirs i (λ m. none_is (s.calls m i) (may.0 m)) w2 maps2 same_maps).1 happens)
 
-pub acts_keep_theirs : {K : Type 0} (V : Type 0) (same : K → K → Bool) (hash : ℕ → K → ℕ) (batch_size roots : ℕ) (slot : ℕ → ℕ) → ActsKeepTheirs V same hash batch_size roots slot
+pub acts_keep_theirs : {K S : Type 0} (V : Type 0) (same : K → K → Bool) (hash : S → K → ℕ) (batch_size roots : ℕ) (slot : ℕ → ℕ) → ActsKeepTheirs V same hash batch_size roots slot
 acts_keep_theirs V same hash batch_size roots slot s n all stand act may told led theirs = by_act same hash batch_size roots slot s n all stand theirs act may told led

@@ -19,7 +19,7 @@ use Rattle.papaya_reclaims.proofs.Left.Stays.{left_is_left_behind}
 use Rattle.papaya_reclaims.proofs.Promised.{reclaiming_begins}
 use Rattle.papaya_acts.specs.Acts.{Answer}
 use Rattle.papaya_acts.specs.Doings.{Doing, Does, BeginsReclaiming, BeginsClearing, StepsReclaiming, IsLeft, Stage, reclaiming, behind, MayDo, HasDone}
-use Rattle.papaya_acts.specs.Lists.{Course, Reached}
+use Rattle.papaya_acts.specs.Lists.{Course, Reached, LedOn, nothing_done, on_by}
 use Rattle.papaya_acts.specs.Reclaiming.{IsReclaimingAll, ReclaimedOn}
 use Rattle.papaya_carries.specs.Lists.{AreTheirs, ReclaimsTo, OnlyPairsAreLeft, ListsKeepTheirs, ReclaimingBeginsThere, OnlyPairsWaitThere, AllCanBeReclaimedThere}
 use Rattle.papaya_carries.proofs.Acts.{by_act}
@@ -28,7 +28,7 @@ use Rattle.papaya_carries.proofs.Reclaimed.{reclaiming_comes_to_end}
 use Rattle.papaya_carries.proofs.Reclaiming.{reclaiming_keeps_theirs, nothing_else_waits}
 use Rattle.papaya_scenes.specs.Scene.{Scene, at_first}
 
-module _ {K : Type 0} (V : Type 0) (same : K → K → Bool) (hash : ℕ → K → ℕ) (batch_size roots : ℕ) (slot : ℕ → ℕ) where
+module _ {K S : Type 0} (V : Type 0) (same : K → K → Bool) (hash : S → K → ℕ) (batch_size roots : ℕ) (slot : ℕ → ℕ) where
   -- at first users have nothing, and all roots are free
   none_at_first : AreTheirs (at_first {K = K} {V = V} roots)
   none_at_first =
@@ -72,21 +72,26 @@ module _ {K : Type 0} (V : Type 0) (same : K → K → Bool) (hash : ℕ → K �
   reclaimed_theirs i s n lists c idle theirs (g ∷ grants) (told, v, lists2, c2, on, inr more) =
       reclaimed_theirs i v n lists2 c2 (goes_on i s lists c idle theirs g told v lists2 c2 on) (then_theirs i s lists c idle theirs g told v lists2 c2 on) grants more
 
+  -- by whatever is done
+  by_doing : (p n : Stage V same hash batch_size roots slot) (doing : Doing K V S) → MayDo V same hash batch_size roots slot doing p → (told : Answer K V)
+      → HasDone V same hash batch_size roots slot doing p told n → AreTheirs p.0 → AreTheirs n.0
+  by_doing p n (Does act) may told (led, idle) theirs = by_act same hash batch_size roots slot p.0 n.0 p.1 n.1 theirs act may.1 told led
+  by_doing p n (BeginsReclaiming i) may told (none, is, behind_is, begun) theirs = subst AreTheirs (sym is) theirs
+  by_doing p n (BeginsClearing i) may told (none, is, behind_is, begun) theirs = subst AreTheirs (sym is) theirs
+  by_doing p n (StepsReclaiming g) may told st theirs =
+      then_theirs st.caller p.0 (behind V same hash batch_size roots slot p) st.machine (idle_there p st.caller st.machine st.here) theirs g st.end n.0 st.lists st.next st.did
+
   module _ (course : Course V same hash batch_size roots slot) where
-    -- by whatever is done
-    by_doing : (p n : Stage V same hash batch_size roots slot) (doing : Doing K V) → MayDo V same hash batch_size roots slot doing p → (told : Answer K V)
-        → HasDone V same hash batch_size roots slot doing p told n → AreTheirs p.0 → AreTheirs n.0
-    by_doing p n (Does act) may told (led, idle) theirs = by_act same hash batch_size roots slot p.0 n.0 p.1 n.1 theirs act may.1 told led
-    by_doing p n (BeginsReclaiming i) may told (none, is, behind_is, begun) theirs = subst AreTheirs (sym is) theirs
-    by_doing p n (BeginsClearing i) may told (none, is, behind_is, begun) theirs = subst AreTheirs (sym is) theirs
-    by_doing p n (StepsReclaiming g) may told st theirs =
-        then_theirs st.caller p.0 (behind V same hash batch_size roots slot p) st.machine (idle_there p st.caller st.machine st.here) theirs g st.end n.0 st.lists st.next st.did
+    pub theirs_on : (x : Reached V same hash batch_size roots slot) (doing : Doing K V S) (may : MayDo V same hash batch_size roots slot doing x.0) → AreTheirs x.0.0
+        → AreTheirs (course.next x.0 doing may).0
+    theirs_on x doing may theirs = by_doing x.0 (course.next x.0 doing may) doing may (course.told x.0 doing may) (course.leads x.0 doing may) theirs
+
+    all_theirs : (doings : List (Doing K V S)) (x y : Reached V same hash batch_size roots slot) → LedOn V same hash batch_size roots slot course doings x y → AreTheirs x.0.0 → AreTheirs y.0.0
+    all_theirs [] x y led theirs = subst (λ (z : Reached V same hash batch_size roots slot). AreTheirs z.0.0) (sym led) theirs
+    all_theirs (doing ∷ doings) x y (may, led) theirs = all_theirs doings (on_by V same hash batch_size roots slot course x doing may) y led (theirs_on x doing may theirs)
 
     pub lists_keep_theirs : ListsKeepTheirs V same hash batch_size roots slot course
-    lists_keep_theirs [] x led = subst (λ (y : Reached V same hash batch_size roots slot). AreTheirs y.0.0) (sym led) none_at_first
-    lists_keep_theirs (doing ∷ doings) x (y, led, may, is) =
-        subst (λ (z : Reached V same hash batch_size roots slot). AreTheirs z.0.0) (sym is)
-        (by_doing y.0 (course.next y.0 doing may) doing may (course.told y.0 doing may) (course.leads y.0 doing may) (lists_keep_theirs doings y led))
+    lists_keep_theirs doings x led = all_theirs doings (nothing_done V same hash batch_size roots slot course) x led none_at_first
 
     -- while nobody reclaims all, what ended maps have left is behind roots that are nobody's
     left_there : (p : Stage V same hash batch_size roots slot) → reclaiming V same hash batch_size roots slot p ≡ None → (lists : ℕ → List ℕ) × IsLeft roots p.0 lists

@@ -59,7 +59,7 @@ module _ {T : Type 0} (m : Mem T) where
 pub some_is_there : {X : Type 0} (o : Option X) (x : X) → o ≡ Some x → is_none o ≡ false
 some_is_there o x e = ap is_none e
 
-module _ {K : Type 0} (V : Type 0) (same : K → K → Bool) (hash : ℕ → K → ℕ) (batch_size roots : ℕ) (slot : ℕ → ℕ) (i : ℕ) where
+module _ {K S : Type 0} (V : Type 0) (same : K → K → Bool) (hash : S → K → ℕ) (batch_size roots : ℕ) (slot : ℕ → ℕ) (i : ℕ) where
   abbrev Ends : Scene K V → (ℕ → List ℕ) → ReclaimAll → Type 0
   Ends s lists c = (grants : List Grant) × (n : Scene K V) × ReclaimsTo V same hash batch_size roots slot i grants s lists c n
 

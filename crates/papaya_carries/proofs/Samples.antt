@@ -83,6 +83,6 @@ making_goes_on : {K V : Type 0} (roots : ℕ) (b : Beginning K) → IsAtRest (re
 making_goes_on roots b rest = let none = rest.no_makers 0 in cc none
 
 -- Whoever reclaims all, and has taken no step of it, has not come to its end.
-no_step_yet : {K : Type 0} (V : Type 0) (same : K → K → Bool) (hash : ℕ → K → ℕ) (batch_size roots : ℕ) (slot : ℕ → ℕ) (i : ℕ) (s n : Scene K V) (lists : ℕ → List ℕ) (c : ReclaimAll)
+no_step_yet : {K S : Type 0} (V : Type 0) (same : K → K → Bool) (hash : S → K → ℕ) (batch_size roots : ℕ) (slot : ℕ → ℕ) (i : ℕ) (s n : Scene K V) (lists : ℕ → List ℕ) (c : ReclaimAll)
     → ReclaimsTo V same hash batch_size roots slot i [] s lists c n → ⊥
 no_step_yet V same hash batch_size roots slot i s n lists c to = to

@@ -14,9 +14,9 @@ use Rattle.papaya_reclaims.specs.Deferred.{OnlyPairsWait}
 use Rattle.papaya_reclaims.specs.Reclaims.{AllIsReclaimed}
 use Rattle.papaya_reclaims.specs.Slots.{AllRest, IsQuiet}
 use Rattle.papaya_acts.specs.Acts.{Act, Answer}
-use Rattle.papaya_acts.specs.Doings.{Doing, StepsReclaiming, reclaiming}
+use Rattle.papaya_acts.specs.Doings.{Doing, StepsReclaiming, MayDo, reclaiming}
 use Rattle.papaya_acts.specs.Leads.{MayBe, AllStand, Led}
-use Rattle.papaya_acts.specs.Lists.{Course, Reached, LedTo}
+use Rattle.papaya_acts.specs.Lists.{Course, Reached, LedTo, on_by}
 use Rattle.papaya_acts.specs.Reclaiming.{IsReclaimingAll, ReclaimedOn}
 use Rattle.papaya_carries.specs.Theirs.{AllAreTheirs}
 use Rattle.papaya_scenes.specs.Scene.{Scene}
@@ -32,11 +32,11 @@ pub record IsAtRest {K V : Type 0} (s : Scene K V) : Type 0 where
   pub no_enders : (i : ℕ) → s.enders i ≡ None
   pub rows : AllRest s.world
 
-module _ {K : Type 0} (V : Type 0) (same : K → K → Bool) (hash : ℕ → K → ℕ) (batch_size roots : ℕ) (slot : ℕ → ℕ) where
+module _ {K S : Type 0} (V : Type 0) (same : K → K → Bool) (hash : S → K → ℕ) (batch_size roots : ℕ) (slot : ℕ → ℕ) where
   -- The promise of one act: where each such block is somebody's, each is then.
   abbrev pub ActsKeepTheirs : Type 0
   ActsKeepTheirs =
-      (s n : Scene K V) → AllStand same hash batch_size roots slot s → AllStand same hash batch_size roots slot n → (act : Act K V) → MayBe same hash batch_size roots slot act s
+      (s n : Scene K V) → AllStand same hash batch_size roots slot s → AllStand same hash batch_size roots slot n → (act : Act K V S) → MayBe same hash batch_size roots slot act s
       → (told : Answer K V) → Led same hash batch_size roots slot act s told n → AreTheirs s → AreTheirs n
 
   -- All is reclaimed there, and nothing waits but pairs that are deferred on linked tables of maps that stand, in resizes that are unfinished.
@@ -64,12 +64,12 @@ module _ {K : Type 0} (V : Type 0) (same : K → K → Bool) (hash : ℕ → K �
     -- The promise: wherever a list of acts has led, each block behind which something may be put is somebody's.
     abbrev pub ListsKeepTheirs : Type 0
     ListsKeepTheirs =
-        (doings : List (Doing K V)) (x : Reached V same hash batch_size roots slot) → LedTo V same hash batch_size roots slot course doings x → AreTheirs x.0.0
+        (doings : List (Doing K V S)) (x : Reached V same hash batch_size roots slot) → LedTo V same hash batch_size roots slot course doings x → AreTheirs x.0.0
 
     -- There, if nobody has anything under way, any caller may begin to reclaim all, with what is behind the roots then.
     abbrev pub ReclaimingBeginsThere : Type 0
     ReclaimingBeginsThere =
-        batch_size < 2 ^ 64 → (doings : List (Doing K V)) (x : Reached V same hash batch_size roots slot) → LedTo V same hash batch_size roots slot course doings x → AllRestThere x
+        batch_size < 2 ^ 64 → (doings : List (Doing K V S)) (x : Reached V same hash batch_size roots slot) → LedTo V same hash batch_size roots slot course doings x → AllRestThere x
         → (lists : ℕ → List ℕ) × ((i : ℕ)
         → (IsSome (word_at x.0.0.world.memory (Slot 0 HEAD)) → IsReclaimingAll V same batch_size roots slot x.0.0 i lists (reclaiming_all batch_size roots))
         × (IsQuiet x.0.0.world → IsReclaimingAll V same batch_size roots slot x.0.0 i lists (clearing roots))
@@ -78,25 +78,26 @@ module _ {K : Type 0} (V : Type 0) (same : K → K → Bool) (hash : ℕ → K �
     -- And once it has come to its end only pairs are left.
     abbrev pub OnlyPairsWaitThere : Type 0
     OnlyPairsWaitThere =
-        (doings : List (Doing K V)) (x : Reached V same hash batch_size roots slot) → LedTo V same hash batch_size roots slot course doings x
+        (doings : List (Doing K V S)) (x : Reached V same hash batch_size roots slot) → LedTo V same hash batch_size roots slot course doings x
         → (i : ℕ) (lists : ℕ → List ℕ) (c : ReclaimAll) → IsReclaimingAll V same batch_size roots slot x.0.0 i lists c
         → (grants : List Grant) (n : Scene K V) → ReclaimsTo i grants x.0.0 lists c n → OnlyPairsAreLeft n
 
     -- In one piece: there, if nobody has anything under way, any caller can reclaim all, so that only pairs are left.
     abbrev pub AllCanBeReclaimedThere : Type 0
     AllCanBeReclaimedThere =
-        batch_size < 2 ^ 64 → (doings : List (Doing K V)) (x : Reached V same hash batch_size roots slot) → LedTo V same hash batch_size roots slot course doings x → AllRestThere x
+        batch_size < 2 ^ 64 → (doings : List (Doing K V S)) (x : Reached V same hash batch_size roots slot) → LedTo V same hash batch_size roots slot course doings x → AllRestThere x
         → (i : ℕ) → (lists : ℕ → List ℕ) × (c : ReclaimAll) × (grants : List Grant) × (n : Scene K V) × ReclaimsTo i grants x.0.0 lists c n × OnlyPairsAreLeft n
 
     -- So a list goes on by which all is reclaimed, and other acts may come behind it: nobody has anything under way then.
     abbrev pub ListsReclaimAll : Type 0
     ListsReclaimAll =
-        batch_size < 2 ^ 64 → (doings : List (Doing K V)) (x : Reached V same hash batch_size roots slot) → LedTo V same hash batch_size roots slot course doings x → AllRestThere x
-        → (i : ℕ) → (more : List (Doing K V)) × (y : Reached V same hash batch_size roots slot) × LedTo V same hash batch_size roots slot course (more ++ doings) y
+        batch_size < 2 ^ 64 → (doings : List (Doing K V S)) (x : Reached V same hash batch_size roots slot) → LedTo V same hash batch_size roots slot course doings x → AllRestThere x
+        → (i : ℕ) → (more : List (Doing K V S)) × (y : Reached V same hash batch_size roots slot) × LedTo V same hash batch_size roots slot course (doings ++ more) y
         × AllRestThere y × OnlyPairsAreLeft y.0.0
 
-    -- Wherever a list has led by the last step of a caller that reclaims all, only pairs are left, and nobody has anything under way.
+    -- Wherever a list has led, and then the last step of a caller that reclaims all, only pairs are left, and nobody has anything under way.
     abbrev pub OnlyPairsWaitBehind : Type 0
     OnlyPairsWaitBehind =
-        (g : Grant) (doings : List (Doing K V)) (x : Reached V same hash batch_size roots slot) → LedTo V same hash batch_size roots slot course (StepsReclaiming g ∷ doings) x
-        → reclaiming V same hash batch_size roots slot x.0 ≡ None → AllRestThere x × OnlyPairsAreLeft x.0.0
+        (g : Grant) (doings : List (Doing K V S)) (x : Reached V same hash batch_size roots slot) → LedTo V same hash batch_size roots slot course doings x
+        → (may : MayDo V same hash batch_size roots slot (StepsReclaiming g) x.0) → reclaiming V same hash batch_size roots slot (course.next x.0 (StepsReclaiming g) may) ≡ None
+        → AllRestThere (on_by V same hash batch_size roots slot course x (StepsReclaiming g) may) × OnlyPairsAreLeft (course.next x.0 (StepsReclaiming g) may).0

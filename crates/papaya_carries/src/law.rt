@@ -41,14 +41,14 @@ pub fn what_carries_is_somebodys<K, V, Q>()
 /// behind roots that are nobody's. Where nobody has anything under way then, any caller may begin to reclaim all. There are steps by which it comes to its end,
 /// and whichever led it there, nothing waits then but pairs that are deferred on linked tables of maps that stand, in resizes that are unfinished. The list goes
 /// on by those steps, and by other acts behind them, as often as one likes: all of this is so then, too.
-pub fn lists_leave_only_pairs<K, V>()
-    ensures acts { (same : K → K → Bool) (hash : ℕ → K → ℕ) (batch_size roots : ℕ) (slot : ℕ → ℕ) → ActsKeepTheirs V same hash batch_size roots slot }
-    ensures left { (same : K → K → Bool) (hash : ℕ → K → ℕ) (batch_size roots : ℕ) (slot : ℕ → ℕ) → ActsLeaveIt V same hash batch_size roots slot }
-    ensures lists { (same : K → K → Bool) (hash : ℕ → K → ℕ) (batch_size roots : ℕ) (slot : ℕ → ℕ) (course : Course V same hash batch_size roots slot) → ListsKeepTheirs V same hash batch_size roots slot course }
-    ensures begins { (same : K → K → Bool) (hash : ℕ → K → ℕ) (batch_size roots : ℕ) (slot : ℕ → ℕ) (course : Course V same hash batch_size roots slot) → ReclaimingBeginsThere V same hash batch_size roots slot course }
-    ensures ends { (same : K → K → Bool) (hash : ℕ → K → ℕ) (batch_size roots : ℕ) (slot : ℕ → ℕ) (i : ℕ) → ReclaimingComesToEnd V same hash batch_size roots slot i }
-    ensures waits { (same : K → K → Bool) (hash : ℕ → K → ℕ) (batch_size roots : ℕ) (slot : ℕ → ℕ) (course : Course V same hash batch_size roots slot) → OnlyPairsWaitThere V same hash batch_size roots slot course }
-    ensures all { (same : K → K → Bool) (hash : ℕ → K → ℕ) (batch_size roots : ℕ) (slot : ℕ → ℕ) (course : Course V same hash batch_size roots slot) → AllCanBeReclaimedThere V same hash batch_size roots slot course }
-    ensures by_lists { (same : K → K → Bool) (hash : ℕ → K → ℕ) (batch_size roots : ℕ) (slot : ℕ → ℕ) (course : Course V same hash batch_size roots slot) → ListsReclaimAll V same hash batch_size roots slot course }
-    ensures after { (same : K → K → Bool) (hash : ℕ → K → ℕ) (batch_size roots : ℕ) (slot : ℕ → ℕ) (course : Course V same hash batch_size roots slot) → OnlyPairsWaitBehind V same hash batch_size roots slot course }
+pub fn lists_leave_only_pairs<K, V, S>()
+    ensures acts { (same : K → K → Bool) (hash : S → K → ℕ) (batch_size roots : ℕ) (slot : ℕ → ℕ) → ActsKeepTheirs V same hash batch_size roots slot }
+    ensures left { (same : K → K → Bool) (hash : S → K → ℕ) (batch_size roots : ℕ) (slot : ℕ → ℕ) → ActsLeaveIt V same hash batch_size roots slot }
+    ensures lists { (same : K → K → Bool) (hash : S → K → ℕ) (batch_size roots : ℕ) (slot : ℕ → ℕ) (course : Course V same hash batch_size roots slot) → ListsKeepTheirs V same hash batch_size roots slot course }
+    ensures begins { (same : K → K → Bool) (hash : S → K → ℕ) (batch_size roots : ℕ) (slot : ℕ → ℕ) (course : Course V same hash batch_size roots slot) → ReclaimingBeginsThere V same hash batch_size roots slot course }
+    ensures ends { (same : K → K → Bool) (hash : S → K → ℕ) (batch_size roots : ℕ) (slot : ℕ → ℕ) (i : ℕ) → ReclaimingComesToEnd V same hash batch_size roots slot i }
+    ensures waits { (same : K → K → Bool) (hash : S → K → ℕ) (batch_size roots : ℕ) (slot : ℕ → ℕ) (course : Course V same hash batch_size roots slot) → OnlyPairsWaitThere V same hash batch_size roots slot course }
+    ensures all { (same : K → K → Bool) (hash : S → K → ℕ) (batch_size roots : ℕ) (slot : ℕ → ℕ) (course : Course V same hash batch_size roots slot) → AllCanBeReclaimedThere V same hash batch_size roots slot course }
+    ensures by_lists { (same : K → K → Bool) (hash : S → K → ℕ) (batch_size roots : ℕ) (slot : ℕ → ℕ) (course : Course V same hash batch_size roots slot) → ListsReclaimAll V same hash batch_size roots slot course }
+    ensures after { (same : K → K → Bool) (hash : S → K → ℕ) (batch_size roots : ℕ) (slot : ℕ → ℕ) (course : Course V same hash batch_size roots slot) → OnlyPairsWaitBehind V same hash batch_size roots slot course }
 {}

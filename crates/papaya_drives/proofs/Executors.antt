@@ -44,9 +44,9 @@ use Rattle.papaya_scenes.specs.Making.{MakingComesToThere}
 use Rattle.papaya_scenes.specs.Replying.{unless_stopped}
 use Rattle.papaya_scenes.specs.Scene.{Scene, slot_of}
 
-module _ {K V S : Type 0} (same : K → K → Bool) (hash : K → ℕ) (e e2 : Executor K V S) (s : Scene K V) (at : IsThere same hash e s) (i : ℕ) where
-  abbrev may : AllMayStep V same (λ map. hash) e.batch_size e.roots slot_of s
-  may = all_may_step same (λ map. hash) e.batch_size e.roots slot_of s at.held.together
+module _ {K V S : Type 0} (same : K → K → Bool) (hash : S → K → ℕ) (e e2 : Executor K V S) (s : Scene K V) (at : IsThere same (hash e.hasher) e s) (i : ℕ) where
+  abbrev may : AllMayStep V same hash e.batch_size e.roots slot_of s
+  may = all_may_step same hash e.batch_size e.roots slot_of s at.held.together
 
   -- a step that is told, in the memory of the executor, is computed from the one of its scene
   computed : {R : Type 0} (plan : Plan (Node K V) R) (end : R) → May Can Took value_at s.world.memory plan
@@ -55,7 +55,7 @@ module _ {K V S : Type 0} (same : K → K → Bool) (hash : K → ℕ) (e e2 : E
       steps_so s.world.memory plan e2.memory.memory end can
       (subst (λ (m : Mem (Node K V)). Steps Took value_at m plan e2.memory.memory end) (sym at.held.memory) (as_step e.memory.memory NoChange plan e2.memory.memory e2.memory.changed end st))
 
-  step : (told : CallProgress (Node K V)) → StepsThere same hash i told s e e2 → (m : ℕ) (u : UnderWay K V K) → s.calls m i ≡ Some u → (g : Grant) × IsAct same hash e e2 s (StepsCall i m g) (OfCall told)
+  step : (told : CallProgress (Node K V)) → StepsThere same (hash e.hasher) i told s e e2 → (m : ℕ) (u : UnderWay K V K) → s.calls m i ≡ Some u → (g : Grant) × IsAct same hash e e2 s (StepsCall i m g) (OfCall told)
   step told leads m u here =
       let to = leads m u here in
       let so = computed (machine_plan same same to.0.hash (machine_of u)) (to.1, told) (may.calls m i to.0 u to.2 here)
@@ -93,14 +93,14 @@ module _ {K V S : Type 0} (same : K → K → Bool) (hash : K → ℕ) (e e2 : E
   }
 
   making_comes : (b : Beginning K) (machine : NewMap) (told : Progress Setting) (did : MakingStepsAmong V same same e.batch_size e.roots slot_of s.world s.maps s.calls s.makers s.enders i b e2.memory.memory (machine, told))
-      → MakingComesToThere same (IsThere same hash e2) s (held_by e) i b machine did.step.w2 told
-      → (n : Scene K V) × MakingCame same (λ map. hash) e.batch_size e.roots slot_of s i b did.step.w2 machine n told × IsThere same hash e2 n
+      → MakingComesToThere same (IsThere same (hash e.hasher) e2) s (held_by e) i b machine did.step.w2 told
+      → (n : Scene K V) × MakingCame same hash e.batch_size e.roots slot_of s i b did.step.w2 machine n told × IsThere same (hash e.hasher) e2 n
   making_comes b machine progress.Goes did is = (_, refl, is)
   making_comes b machine progress.Waits did never = absurd never
   making_comes b machine (progress.Done setting) did (standing, made, is) = (_, (standing, made, refl), is)
   making_comes b machine (progress.Refused fault) did is = (_, refl, is)
 
-  making : (told : Progress Setting) → MakesThere same hash i told s e e2 → (b : Beginning K) → s.makers i ≡ Some b → (g : Grant) × IsAct same hash e e2 s (StepsMaking i g) (OfMaking told)
+  making : (told : Progress Setting) → MakesThere same (hash e.hasher) i told s e e2 → (b : Beginning K) → s.makers i ≡ Some b → (g : Grant) × IsAct same hash e e2 s (StepsMaking i g) (OfMaking told)
   making told leads b makes =
       let to = leads b makes in
       let so = computed (new_map_plan b.machine) (to.0, told) (may.makings i b makes) to.1 in
@@ -108,14 +108,14 @@ module _ {K V S : Type 0} (same : K → K → Bool) (hash : K → ℕ) (e e2 : E
       (so.0, (comes.0, (b, makes, e2.memory.memory, to.0, told, so.1, refl, to.2, comes.1), comes.2))
 
   ending_comes : (f : Finishing K V) (machine : EndMap) (told : Settled (Node K V)) (did : StepsOfEnding V same same e.batch_size e.roots slot_of s.world s.maps s.calls s.makers s.enders i f e2.memory.memory (machine, told))
-      → EndingComesToThere same (IsThere same hash e2) s i f machine did.w2 did.deed told
-      → (n : Scene K V) × EndingCame same (λ map. hash) e.batch_size e.roots slot_of s i f did.w2 did.deed machine n told × IsThere same hash e2 n
+      → EndingComesToThere same (IsThere same (hash e.hasher) e2) s i f machine did.w2 did.deed told
+      → (n : Scene K V) × EndingCame same hash e.batch_size e.roots slot_of s i f did.w2 did.deed machine n told × IsThere same (hash e.hasher) e2 n
   ending_comes f machine settled.Goes did (none, is) = (_, (none, refl), is)
   ending_comes f machine settled.Waits did never = absurd never
   ending_comes f machine (settled.Gave value) did (b, there, taken, is) = (_, (b, there, taken, refl), is)
   ending_comes f machine settled.Done did (none, finished, is) = (_, (none, finished, refl), is)
 
-  ending : (told : Settled (Node K V)) → EndsThere same hash i told s e e2 → (f : Finishing K V) → s.enders i ≡ Some f → (g : Grant) × IsAct same hash e e2 s (StepsEnding i g) (OfEnding told)
+  ending : (told : Settled (Node K V)) → EndsThere same (hash e.hasher) i told s e e2 → (f : Finishing K V) → s.enders i ≡ Some f → (g : Grant) × IsAct same hash e e2 s (StepsEnding i g) (OfEnding told)
   ending told leads f ends =
       let to = leads f ends in
       let so = computed (end_map_plan f.machine) (to.0, told) (may.endings i f ends) to.1 in
@@ -136,5 +136,5 @@ module _ {K V S : Type 0} (same : K → K → Bool) (hash : K → ℕ) (e e2 : E
         (so.0, (_, (to.0, so.1, to.1, to.2, to.3, refl, refl), to.4)));
   }
 
-pub executors_act : {K : Type 0} (V S : Type 0) (same : K → K → Bool) (hash : K → ℕ) → ExecutorsAct V S same hash
-executors_act V S same hash e e2 s at i = (calls_are_acts same hash e e2 s at i, others_are_acts same hash e e2 s at i)
+pub executors_act : {K S : Type 0} (V : Type 0) (same : K → K → Bool) (hash : S → K → ℕ) → ExecutorsAct V same hash
+executors_act V same hash e e2 s at i = (calls_are_acts same hash e e2 s at i, others_are_acts same hash e e2 s at i)

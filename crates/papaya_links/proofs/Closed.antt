@@ -58,5 +58,5 @@ module _ {K Q : Type 0} (V : Type 0) (same : K → K → Bool) (asks : Q → K �
   pub all_are_closed : AllAreClosed w maps
   all_are_closed m s here x inside = record { root = root_seen m s here x inside; tables = table_seen m s here x inside; held = seen_held m s here x inside }
 
-pub scenes_are_closed : {K : Type 0} (V : Type 0) (same : K → K → Bool) (hash : ℕ → K → ℕ) (batch_size roots : ℕ) (slot : ℕ → ℕ) → ScenesAreClosed V same hash batch_size roots slot
+pub scenes_are_closed : {K S : Type 0} (V : Type 0) (same : K → K → Bool) (hash : S → K → ℕ) (batch_size roots : ℕ) (slot : ℕ → ℕ) → ScenesAreClosed V same hash batch_size roots slot
 scenes_are_closed V same hash batch_size roots slot s all = all_are_closed V same same batch_size slot s.world s.maps s.calls all.makings.standing

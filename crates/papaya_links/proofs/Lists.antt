@@ -1,6 +1,6 @@
 -- Wherever a list of acts has led, the world is tied, what one more step unlinks no links lead to, and what callers see is closed.
 use Rattle.std.specs.Prelude.{Some}
-use Rattle.std.proofs.Common.{◌≡◌, ◌⊎◌, ◌<◌, ℕ, Bool, true, false, List, ◌∷◌, inl, inr, refl, arith, ap, sym, subst, ◌∙◌}
+use Rattle.std.proofs.Common.{◌≡◌, ◌⊎◌, ◌<◌, ℕ, Bool, true, false, List, inl, inr, refl, arith, ap, sym, subst, ◌∙◌}
 use Rattle.papaya_scenes.specs.Given.SeizeWords.Mem.{Mem, word_at}
 use Rattle.papaya_scenes.specs.Given.SeizeWords.declared.at.At.TheVariants.{Root, Used}
 use Rattle.papaya_scenes.specs.Given.Seize.Law.{reachable}
@@ -25,10 +25,10 @@ use Rattle.papaya_acts.specs.Acts.{Act, Answer}
 use Rattle.papaya_acts.specs.Acts.{BeginsCall, StepsCall, TellsCall, AsksCall, StopsCall, BeginsMaking, StepsMaking, BeginsEnding, StepsEnding, BeginsRow, StepsRow}
 use Rattle.papaya_acts.specs.Doings.{Doing, Does, BeginsReclaiming, BeginsClearing, StepsReclaiming, Stage, HasDone}
 use Rattle.papaya_acts.specs.Leads.{AllStand, Led, MakingCame, EndingCame}
-use Rattle.papaya_acts.specs.Lists.{Course, on_by}
+use Rattle.papaya_acts.specs.Lists.{Course}
 use Rattle.papaya_carries.specs.Lists.{AreTheirs}
 use Rattle.papaya_carries.proofs.Acts.{acts_keep_theirs}
-use Rattle.papaya_carries.proofs.Lists.{lists_keep_theirs}
+use Rattle.papaya_carries.proofs.Lists.{lists_keep_theirs, theirs_on}
 use Rattle.papaya_links.specs.Lists.{ActsUnlink, ListsAreTied, ListsHold, ListsUnlink, ListsAreClosed}
 use Rattle.papaya_links.specs.Tied.{LinksLead, UnlinksWhatNoneNames, unlinkings}
 use Rattle.papaya_links.proofs.Closed.{scenes_are_closed}
@@ -38,7 +38,7 @@ use Rattle.papaya_links.proofs.Tied.{is_held_inside, scenes_are_tied}
 use Rattle.papaya_links.proofs.Unlinked.{IsCutOff, begin_none, step_none}
 use Rattle.papaya_scenes.specs.Scene.{Scene}
 
-module _ {K V : Type 0} (same : K → K → Bool) (hash : ℕ → K → ℕ) (batch_size roots : ℕ) (slot : ℕ → ℕ) (s n : Scene K V) (all : AllStand same hash batch_size roots slot s) (stand : AllStand same hash batch_size roots slot n) (b : ℕ) where
+module _ {K V S : Type 0} (same : K → K → Bool) (hash : S → K → ℕ) (batch_size roots : ℕ) (slot : ℕ → ℕ) (s n : Scene K V) (all : AllStand same hash batch_size roots slot s) (stand : AllStand same hash batch_size roots slot n) (b : ℕ) where
   reached : IsReached deferred_word batch_size s.world
   reached = came_reached batch_size s.world all.makings.standing.came
 
@@ -78,7 +78,7 @@ module _ {K V : Type 0} (same : K → K → Bool) (hash : ℕ → K → ℕ) (ba
       by (settled.Gave value) (x, was, taken, is) = to _ is cut
       by settled.Done (none, finished, is) = to _ is cut
 
-  pub act_cut : (act : Act K V) (told : Answer K V) → Led same hash batch_size roots slot act s told n → IsCutOff b s.world n.world
+  pub act_cut : (act : Act K V S) (told : Answer K V) → Led same hash batch_size roots slot act s told n → IsCutOff b s.world n.world
   act_cut (BeginsCall i m wanted) told (standing, stands, none, is) = to _ is (inl refl)
   act_cut (StepsCall i m g) told led =
       to _ led.comes (kind_cut V same same batch_size roots slot s.world s.maps s.calls s.makers s.enders m led.standing i b led.memory led.did.w2 led.did.maps2 led.did.next
@@ -86,7 +86,7 @@ module _ {K V : Type 0} (same : K → K → Bool) (hash : ℕ → K → ℕ) (ba
   act_cut (TellsCall i m reply) told (standing, stands, u, next, here, machine_is, told_is, kind, is) = to _ is (inl refl)
   act_cut (AsksCall i m) told (u, next, here, machine_is, told_is, is) = to _ is (inl refl)
   act_cut (StopsCall i m) told (u, here, told_is, is) = to _ is (inl refl)
-  act_cut (BeginsMaking i map given places) told (told_is, is) = to _ is (inl refl)
+  act_cut (BeginsMaking i map hasher given places) told (told_is, is) = to _ is (inl refl)
   act_cut (StepsMaking i g) told (d, makes, m2, machine, end, computed, told_is, did, came) = made i d m2 machine end did came
   act_cut (BeginsEnding i m) told (standing, stands, told_is, is) = to _ is (inl refl)
   act_cut (StepsEnding i g) told (f, ends, m2, machine, end, computed, told_is, did, came) = ended i f m2 machine end did came
@@ -94,7 +94,7 @@ module _ {K V : Type 0} (same : K → K → Bool) (hash : ℕ → K → ℕ) (ba
   act_cut (StepsRow i g) told (w2, computed, happens, maps2, same_maps, told_is, is) = to _ is (inl (step_none deferred_word batch_size b i s.world w2 reached happens))
 
 -- what links lead to can be reached, so none lead to what can't
-unlinked_unnamed : {K : Type 0} (V : Type 0) (same : K → K → Bool) (hash : ℕ → K → ℕ) (batch_size roots : ℕ) (slot : ℕ → ℕ) (w : World (Node K V)) (n : Scene K V) → AllStand same hash batch_size roots slot n → AreTheirs n
+unlinked_unnamed : {K S : Type 0} (V : Type 0) (same : K → K → Bool) (hash : S → K → ℕ) (batch_size roots : ℕ) (slot : ℕ → ℕ) (w : World (Node K V)) (n : Scene K V) → AllStand same hash batch_size roots slot n → AreTheirs n
     → ((b : ℕ) → IsCutOff b w n.world) → UnlinksWhatNoneNames w n.world n.maps
 unlinked_unnamed {K} V same hash batch_size roots slot w n stand theirs cut b more = by (cut b)
   where
@@ -102,12 +102,12 @@ unlinked_unnamed {K} V same hash batch_size roots slot w n stand theirs cut b mo
     by (inl same_often) = absurd (omega (arith, same_often, more))
     by (inr (before, none)) = (before, none, λ lead. let there = scenes_are_tied V same hash batch_size roots slot n stand theirs b lead in cc (none, there))
 
-pub acts_unlink : {K : Type 0} (V : Type 0) (same : K → K → Bool) (hash : ℕ → K → ℕ) (batch_size roots : ℕ) (slot : ℕ → ℕ) → ActsUnlink V same hash batch_size roots slot
+pub acts_unlink : {K S : Type 0} (V : Type 0) (same : K → K → Bool) (hash : S → K → ℕ) (batch_size roots : ℕ) (slot : ℕ → ℕ) → ActsUnlink V same hash batch_size roots slot
 acts_unlink V same hash batch_size roots slot s n all stand theirs act may told led =
     unlinked_unnamed V same hash batch_size roots slot s.world n stand (acts_keep_theirs V same hash batch_size roots slot s n all stand act may told led theirs)
     (λ b. act_cut same hash batch_size roots slot s n all stand b act told led)
 
-module _ {K : Type 0} (V : Type 0) (same : K → K → Bool) (hash : ℕ → K → ℕ) (batch_size roots : ℕ) (slot : ℕ → ℕ) where
+module _ {K S : Type 0} (V : Type 0) (same : K → K → Bool) (hash : S → K → ℕ) (batch_size roots : ℕ) (slot : ℕ → ℕ) where
   -- a step of a caller that reclaims all
   module _ (s : Scene K V) (all : AllStand same hash batch_size roots slot s) (b : ℕ) where
     there : IsReached deferred_word batch_size s.world
@@ -124,7 +124,7 @@ module _ {K : Type 0} (V : Type 0) (same : K → K → Bool) (hash : ℕ → K �
     event_cut i events w2 runs (inr (inr (root, inr is))) =
         deed_cut batch_size b s.world there i (WritesRoot (Used root) 0) w2 (subst (λ (l : List (Event (Node K V))). Runs deferred_word batch_size l s.world w2) is runs)
 
-  doing_cut : (p n : Stage V same hash batch_size roots slot) (doing : Doing K V) (told : Answer K V) → HasDone V same hash batch_size roots slot doing p told n
+  doing_cut : (p n : Stage V same hash batch_size roots slot) (doing : Doing K V S) (told : Answer K V) → HasDone V same hash batch_size roots slot doing p told n
       → (b : ℕ) → IsCutOff b p.0.world n.0.world
   doing_cut p n (Does act) told (led, idle) b = act_cut same hash batch_size roots slot p.0 n.0 p.1 n.1 b act told led
   doing_cut p n (BeginsReclaiming i) told (none, is, behind_is, begun) b = inl (ap (λ (x : Scene K V). unlinkings b x.world.log) is)
@@ -144,7 +144,7 @@ module _ {K : Type 0} (V : Type 0) (same : K → K → Bool) (hash : ℕ → K �
     pub lists_unlink : ListsUnlink V same hash batch_size roots slot course
     lists_unlink doings x led doing may =
         unlinked_unnamed V same hash batch_size roots slot x.0.0.world (course.next x.0 doing may).0 (course.next x.0 doing may).1
-        (lists_keep_theirs V same hash batch_size roots slot course (doing ∷ doings) (on_by V same hash batch_size roots slot course x doing may) (x, led, may, refl))
+        (theirs_on V same hash batch_size roots slot course x doing may (lists_keep_theirs V same hash batch_size roots slot course doings x led))
         (doing_cut x.0 (course.next x.0 doing may) doing (course.told x.0 doing may) (course.leads x.0 doing may))
 
     pub lists_are_closed : ListsAreClosed V same hash batch_size roots slot course

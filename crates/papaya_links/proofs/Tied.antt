@@ -116,5 +116,5 @@ module _ {K Q : Type 0} (V : Type 0) (same : K → K → Bool) (asks : Q → K �
     pub is_held_inside : IsHeldInside w maps
     is_held_inside x inside b lead = reached_held x b w.log (is_tied b lead) (inside_open deferred_word batch_size w reached x inside)
 
-pub scenes_are_tied : {K : Type 0} (V : Type 0) (same : K → K → Bool) (hash : ℕ → K → ℕ) (batch_size roots : ℕ) (slot : ℕ → ℕ) → ScenesAreTied V same hash batch_size roots slot
+pub scenes_are_tied : {K S : Type 0} (V : Type 0) (same : K → K → Bool) (hash : S → K → ℕ) (batch_size roots : ℕ) (slot : ℕ → ℕ) → ScenesAreTied V same hash batch_size roots slot
 scenes_are_tied V same hash batch_size roots slot s all theirs = is_tied V same same batch_size roots slot s.world s.maps s.calls s.makers s.enders all theirs

@@ -8,7 +8,7 @@ use Rattle.papaya_carries.specs.Lists.{AreTheirs}
 use Rattle.papaya_links.specs.Tied.{IsTied, IsHeldInside, AllAreClosed, UnlinksWhatNoneNames}
 use Rattle.papaya_scenes.specs.Scene.{Scene}
 
-module _ {K : Type 0} (V : Type 0) (same : K → K → Bool) (hash : ℕ → K → ℕ) (batch_size roots : ℕ) (slot : ℕ → ℕ) where
+module _ {K S : Type 0} (V : Type 0) (same : K → K → Bool) (hash : S → K → ℕ) (batch_size roots : ℕ) (slot : ℕ → ℕ) where
   -- The promise of a scene: where all stand together, and each block behind which something may be put is somebody's, the world is tied.
   abbrev pub ScenesAreTied : Type 0
   ScenesAreTied = (s : Scene K V) → AllStand same hash batch_size roots slot s → AreTheirs s → IsTied s.world s.maps
@@ -20,24 +20,24 @@ module _ {K : Type 0} (V : Type 0) (same : K → K → Bool) (hash : ℕ → K �
   -- The promise of one act.
   abbrev pub ActsUnlink : Type 0
   ActsUnlink =
-      (s n : Scene K V) → AllStand same hash batch_size roots slot s → AllStand same hash batch_size roots slot n → AreTheirs s → (act : Act K V)
+      (s n : Scene K V) → AllStand same hash batch_size roots slot s → AllStand same hash batch_size roots slot n → AreTheirs s → (act : Act K V S)
       → MayBe same hash batch_size roots slot act s → (told : Answer K V) → Led same hash batch_size roots slot act s told n → UnlinksWhatNoneNames s.world n.world n.maps
 
   module _ (course : Course V same hash batch_size roots slot) where
     -- The promise: wherever a list of acts has led, what links lead to can be reached.
     abbrev pub ListsAreTied : Type 0
-    ListsAreTied = (doings : List (Doing K V)) (x : Reached V same hash batch_size roots slot) → LedTo V same hash batch_size roots slot course doings x → IsTied x.0.0.world x.0.0.maps
+    ListsAreTied = (doings : List (Doing K V S)) (x : Reached V same hash batch_size roots slot) → LedTo V same hash batch_size roots slot course doings x → IsTied x.0.0.world x.0.0.maps
 
     -- Each section that is open there holds it.
     abbrev pub ListsHold : Type 0
-    ListsHold = (doings : List (Doing K V)) (x : Reached V same hash batch_size roots slot) → LedTo V same hash batch_size roots slot course doings x → IsHeldInside x.0.0.world x.0.0.maps
+    ListsHold = (doings : List (Doing K V S)) (x : Reached V same hash batch_size roots slot) → LedTo V same hash batch_size roots slot course doings x → IsHeldInside x.0.0.world x.0.0.maps
 
     -- And what one more step unlinks no links lead to then.
     abbrev pub ListsUnlink : Type 0
     ListsUnlink =
-        (doings : List (Doing K V)) (x : Reached V same hash batch_size roots slot) → LedTo V same hash batch_size roots slot course doings x
-        → (doing : Doing K V) (may : MayDo V same hash batch_size roots slot doing x.0)
+        (doings : List (Doing K V S)) (x : Reached V same hash batch_size roots slot) → LedTo V same hash batch_size roots slot course doings x
+        → (doing : Doing K V S) (may : MayDo V same hash batch_size roots slot doing x.0)
         → UnlinksWhatNoneNames x.0.0.world (course.next x.0 doing may).0.world (course.next x.0 doing may).0.maps
 
     abbrev pub ListsAreClosed : Type 0
-    ListsAreClosed = (doings : List (Doing K V)) (x : Reached V same hash batch_size roots slot) → LedTo V same hash batch_size roots slot course doings x → AllAreClosed x.0.0.world x.0.0.maps
+    ListsAreClosed = (doings : List (Doing K V S)) (x : Reached V same hash batch_size roots slot) → LedTo V same hash batch_size roots slot course doings x → AllAreClosed x.0.0.world x.0.0.maps

@@ -9,12 +9,12 @@ ghost use Rattle.papaya_links.specs.Lists.{ScenesAreTied, ScenesAreClosed, ActsU
 /// exception. Each section that somebody is inside holds it. So a block that a step unlinks could be reached before, and no link leads to it then, from a root or
 /// from such a table. And what the section of a caller sees of a map is closed: it sees what the root names, and with a table what its links name, also once those
 /// were unlinked; and it holds what it sees.
-pub fn links_lead_to_what_can_be_reached<K, V>()
-    ensures scenes { (same : K → K → Bool) (hash : ℕ → K → ℕ) (batch_size roots : ℕ) (slot : ℕ → ℕ) → ScenesAreTied V same hash batch_size roots slot }
-    ensures acts { (same : K → K → Bool) (hash : ℕ → K → ℕ) (batch_size roots : ℕ) (slot : ℕ → ℕ) → ActsUnlink V same hash batch_size roots slot }
-    ensures sights { (same : K → K → Bool) (hash : ℕ → K → ℕ) (batch_size roots : ℕ) (slot : ℕ → ℕ) → ScenesAreClosed V same hash batch_size roots slot }
-    ensures tied { (same : K → K → Bool) (hash : ℕ → K → ℕ) (batch_size roots : ℕ) (slot : ℕ → ℕ) (course : Course V same hash batch_size roots slot) → ListsAreTied V same hash batch_size roots slot course }
-    ensures held { (same : K → K → Bool) (hash : ℕ → K → ℕ) (batch_size roots : ℕ) (slot : ℕ → ℕ) (course : Course V same hash batch_size roots slot) → ListsHold V same hash batch_size roots slot course }
-    ensures unlinking { (same : K → K → Bool) (hash : ℕ → K → ℕ) (batch_size roots : ℕ) (slot : ℕ → ℕ) (course : Course V same hash batch_size roots slot) → ListsUnlink V same hash batch_size roots slot course }
-    ensures closed { (same : K → K → Bool) (hash : ℕ → K → ℕ) (batch_size roots : ℕ) (slot : ℕ → ℕ) (course : Course V same hash batch_size roots slot) → ListsAreClosed V same hash batch_size roots slot course }
+pub fn links_lead_to_what_can_be_reached<K, V, S>()
+    ensures scenes { (same : K → K → Bool) (hash : S → K → ℕ) (batch_size roots : ℕ) (slot : ℕ → ℕ) → ScenesAreTied V same hash batch_size roots slot }
+    ensures acts { (same : K → K → Bool) (hash : S → K → ℕ) (batch_size roots : ℕ) (slot : ℕ → ℕ) → ActsUnlink V same hash batch_size roots slot }
+    ensures sights { (same : K → K → Bool) (hash : S → K → ℕ) (batch_size roots : ℕ) (slot : ℕ → ℕ) → ScenesAreClosed V same hash batch_size roots slot }
+    ensures tied { (same : K → K → Bool) (hash : S → K → ℕ) (batch_size roots : ℕ) (slot : ℕ → ℕ) (course : Course V same hash batch_size roots slot) → ListsAreTied V same hash batch_size roots slot course }
+    ensures held { (same : K → K → Bool) (hash : S → K → ℕ) (batch_size roots : ℕ) (slot : ℕ → ℕ) (course : Course V same hash batch_size roots slot) → ListsHold V same hash batch_size roots slot course }
+    ensures unlinking { (same : K → K → Bool) (hash : S → K → ℕ) (batch_size roots : ℕ) (slot : ℕ → ℕ) (course : Course V same hash batch_size roots slot) → ListsUnlink V same hash batch_size roots slot course }
+    ensures closed { (same : K → K → Bool) (hash : S → K → ℕ) (batch_size roots : ℕ) (slot : ℕ → ℕ) (course : Course V same hash batch_size roots slot) → ListsAreClosed V same hash batch_size roots slot course }
 {}

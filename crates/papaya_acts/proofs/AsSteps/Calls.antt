@@ -1,0 +1,162 @@
+-- What callers do with calls leads where a step of its kind does.
+use Rattle.std.specs.Prelude.{◌≢◌, Option, Some, Result}
+use Rattle.std.proofs.Common.{◌≡◌, ◌⊎◌, ℕ, Bool, inl, inr, refl, sym, ap, subst, ◌∙◌}
+use Rattle.std.proofs.lemmas.Bool.{cases_eq}
+use Rattle.papaya_scenes.specs.Given.SeizeWords.Plan.{Plan}
+use Rattle.seize_acts.specs.Answers.{Grant, then_on}
+use Rattle.seize_acts.proofs.Answers.{same_some}
+use Rattle.papaya_scenes.specs.Given.Tables.declared.node.Node.{Node}
+use Rattle.papaya_scenes.specs.Given.Raw.Machine.{machine_plan, machine_replied, machine_asked}
+use Rattle.papaya_scenes.specs.Given.Raw.declared.machines.asking.Reply.{Reply}
+use Rattle.papaya_scenes.specs.Given.Raw.declared.machines.machine.Machine.{Machine}
+use Rattle.papaya_scenes.specs.Given.Raw.declared.machines.progress.Progress.{Progress}
+use Rattle.papaya_scenes.specs.Given.Points.Steps.{AreLawful}
+use Rattle.papaya_scenes.specs.Given.Teller.declared.changed.Changed.{Changed}
+use Rattle.papaya_scenes.specs.Given.Teller.declared.changed.Changed.TheVariants.{Nothing as NoChange}
+use Rattle.papaya_scenes.specs.Given.Callers.Together.{UnderWay}
+use Rattle.papaya_scenes.specs.Given.Callers.Together as begins
+use Rattle.papaya_scenes.specs.Given.Finishes.Machines.{machine_of, MachineStepsAmong, ToldOfKind}
+use Rattle.papaya_scenes.specs.Given.Finishes.Maps.{Standing, with_call}
+use Rattle.papaya_acts.specs.Acts.{Answer, Wanted, Get, Remove, Insert, TryToInsert, Compute, Update, UpdateOrInsert, TryToInsertWith, RemoveIf, MakeRoom, Count, GoOver, begun}
+use Rattle.papaya_acts.specs.Acts.{Act, BeginsCall, StepsCall, TellsCall, AsksCall, StopsCall}
+use Rattle.papaya_acts.specs.AsSteps.{LeadsAs, changed_by, changed_of, held_in}
+use Rattle.papaya_acts.specs.Leads.{AllStand, CallCame, Led, call_at}
+use Rattle.papaya_acts.proofs.AsSteps.There.{Hashed, Stand, calls_there, held_as, one_on_slot}
+use Rattle.papaya_acts.proofs.AsSteps.Told.{of_some, was_told}
+use Rattle.papaya_acts.proofs.Tests.{its_class}
+use Rattle.papaya_scenes.proofs.Goes.{moved_map_keeps, same_map_keeps}
+use Rattle.papaya_scenes.specs.Beginning.{Begins}
+use Rattle.papaya_scenes.specs.Held.{Held, IsAt}
+use Rattle.papaya_scenes.specs.Replying.{scene_with, unless_stopped}
+use Rattle.papaya_scenes.specs.Scene.{Scene, slot_of}
+use Rattle.papaya_scenes.specs.Stepping.{StepsFrom, scene_after}
+
+-- what is wanted of a map begins so
+begins_so : {K V : Type 0} (same : K → K → Bool) (s : Standing K) → AreLawful same s.hash → (i : ℕ) (wanted : Wanted K V) → Begins same s i (begun same slot_of s i wanted)
+begins_so same s lawful i (Get key) = (begins.Gets key (s.hash key) (lawful.fits key) (its_class same s.hash lawful key), refl)
+begins_so same s lawful i (Remove key) = (begins.Removes key (s.hash key) (lawful.fits key) (its_class same s.hash lawful key), refl)
+begins_so same s lawful i (Insert key value) = (begins.Inserts key value, refl)
+begins_so same s lawful i (TryToInsert key value) = (begins.TriesToInsert key value, refl)
+begins_so same s lawful i (Compute key) = (begins.Computes key, refl)
+begins_so same s lawful i (Update key) = (begins.Updates key, refl)
+begins_so same s lawful i (UpdateOrInsert key absent) = (begins.UpdatesOrInserts key absent, refl)
+begins_so same s lawful i (TryToInsertWith key) = (begins.TriesToInsertWith key, refl)
+begins_so same s lawful i (RemoveIf key) = (begins.RemovesIf key (s.hash key) (lawful.fits key) (its_class same s.hash lawful key), refl)
+begins_so same s lawful i (MakeRoom additional) = (additional, refl)
+begins_so same s lawful i Count = refl
+begins_so same s lawful i (GoOver purpose) = (purpose, refl)
+
+module _ {K V S : Type 0} (same : K → K → Bool) (by_hasher : S → K → ℕ) (hash : ℕ → K → ℕ) (batch_size roots : ℕ) (s n : Scene K V) (before : Changed)
+    (at : IsAt same hash (held_in batch_size roots before s) s) (all : AllStand same by_hasher batch_size roots slot_of n) (i m : ℕ) where
+  abbrev old : Held K V
+  old = held_in batch_size roots before s
+
+  abbrev Stands : Scene K V → Type 0
+  Stands x = Stand same hash batch_size roots s before at x
+
+  -- where an act leads that has changed this
+  abbrev Leads : Act K V S → Answer K V → Changed → Scene K V → Type 0
+  Leads act told changed x =
+      LeadsAs same by_hasher hash act s told old (held_in batch_size roots changed x) × IsAt same hash (held_in batch_size roots changed x) x
+
+  -- it is so of the scene that is named so
+  onto : (act : Act K V S) (told : Answer K V) (changed : Changed) (x : Scene K V) → n ≡ x → (Stands x → Leads act told changed x) → Leads act told changed n
+  onto act told changed x is so = subst (Leads act told changed) (sym is) (so (subst Stands is all))
+
+  -- the calls of a caller are one
+  one_call : (u : UnderWay K V K) → s.calls m i ≡ Some u → (P : (k : ℕ) → UnderWay K V K → Type 0) → P m u → (k : ℕ) (v : UnderWay K V K) → s.calls k i ≡ Some v → P k v
+  one_call u here P so k v there =
+      subst (λ (x : ℕ). (w : UnderWay K V K) → s.calls x i ≡ Some w → P x w) (at.together.makings.standing.once m k i (λ none. cc (none, here)) (λ none. cc (none, there)))
+      (λ w has. subst (P m) (same_some u w (sym here ∙ has)) so) v there
+
+  pub begins_as : (wanted : Wanted K V) (told : Answer K V) → Led same by_hasher batch_size roots slot_of (BeginsCall i m wanted) s told n → Leads (BeginsCall i m wanted) told NoChange n
+  begins_as wanted told (standing, stands, none, is) =
+      onto (BeginsCall i m wanted) told NoChange (scene_with m i (begun same slot_of standing i wanted) s) is
+      (λ stand. let there = calls_there same hash batch_size roots s before at (with_call s.calls m i (Some (begun same slot_of standing i wanted))) NoChange stand in
+      ((standing, stands, begins_so same standing (at.together.makings.standing.fit m standing stands).0 i wanted, refl, there), there))
+
+  module _ (g : Grant) (told : Answer K V) (came : CallCame same by_hasher batch_size roots slot_of s i m g told n) where
+    abbrev plan : Plan (Node K V) (Machine K V K × Progress (Node K V))
+    plan = machine_plan same same came.standing.hash (machine_of came.call)
+
+    abbrev new : Held K V
+    new = record { memory = came.memory; changed = changed_of s.world.memory g plan; batch_size = batch_size; roots = roots }
+
+    abbrev after : Scene K V
+    after = record { world = came.did.w2; maps = came.did.maps2; calls = with_call s.calls m i came.did.next; makers = s.makers; enders = s.enders }
+
+    its_call : call_at s i m ≡ Some (came.standing, came.call)
+    its_call =
+        ap (λ (o : Option (Standing K)). then_on o (λ standing. then_on (s.calls m i) (λ u. Some (standing, u)))) came.stands
+        ∙ ap (λ (o : Option (UnderWay K V K)). then_on o (λ u. Some (came.standing, u))) came.here
+
+    hashed : Hashed same hash batch_size roots s before at came.did.maps2
+    hashed k = by (cases_eq k m)
+      where
+        by : (k ≡ m) ⊎ (k ≢ m) → (standing : Standing K) → came.did.maps2 k ≡ Some standing → standing.hash ≡ hash k
+        by (inl e) =
+            subst (λ (x : ℕ). (standing : Standing K) → came.did.maps2 x ≡ Some standing → standing.hash ≡ hash x) (sym e)
+            (moved_map_keeps (hash m) came.standing (s.maps m) (came.did.maps2 m) came.stands (at.hashes m came.standing came.stands) came.did.its_map).hashes
+        by (inr ne) = (same_map_keeps (hash k) (s.maps k) (came.did.maps2 k) (at.hashes k) (came.did.others k ne)).hashes
+
+    there : Stands after → IsAt same hash new after
+    there stand = record {
+      memory = came.did.memory;
+      together = stand;
+      hashes = hashed;
+      hashes_made = at.hashes_made;
+      on_slots = one_on_slot same hash batch_size roots s before at i came.did.w2 (came.did.slots.on_slot (at.on_slots i)) came.did.rows;
+      small = at.small;
+    }
+
+    abbrev Goes : ℕ → UnderWay K V K → Type 0
+    Goes k u =
+        (standing : Standing K) × (machine : Machine K V K) × (s.maps k ≡ Some standing) × StepsFrom same standing.hash (machine_of u) old new machine came.progress
+        × (did : MachineStepsAmong V same same batch_size roots slot_of s.world s.maps s.calls s.makers s.enders k standing i came.memory u machine came.progress)
+        × IsAt same hash new (scene_after same s old new k i standing u machine came.progress did)
+
+    goes : Stands after → Goes m came.call
+    goes stand = (came.standing, came.machine, came.stands, was_told s.world.memory g plan (came.memory, (came.machine, came.progress)) came.computed, came.did, there stand)
+
+    pub steps_as : Leads (StepsCall i m g) told (changed_by {S = S} same (StepsCall i m g) s) n
+    steps_as =
+        onto (StepsCall i m g) told (changed_by {S = S} same (StepsCall i m g) s) after came.comes
+        (λ stand. subst (λ (h : Held K V). LeadsAs same by_hasher hash (StepsCall i m g) s told old h × IsAt same hash h after)
+        (sym (held_as batch_size roots came.did.w2.memory came.memory (changed_by {S = S} same (StepsCall i m g) s) new.changed came.did.memory
+        (of_some (λ it. changed_of s.world.memory g (machine_plan same same it.0.hash (machine_of it.1))) NoChange (call_at s i m) (came.standing, came.call) its_call)))
+        ((came.progress, came.tells, one_call came.call came.here Goes (goes stand)), there stand))
+
+  -- what a call is told, and asked for, and that it is given up
+  abbrev Replied : Reply V → Result Unit (Reply V) → ℕ → UnderWay K V K → Type 0
+  Replied reply result k u =
+      (standing : Standing K) × (next : UnderWay K V K) × (s.maps k ≡ Some standing) × (machine_of next ≡ (machine_replied (machine_of u) reply).0)
+      × (result ≡ (machine_replied (machine_of u) reply).1) × ToldOfKind V same same batch_size roots slot_of standing i u reply next
+      × (s.world.memory ≡ s.world.memory) × IsAt same hash (held_in batch_size roots NoChange s) (scene_with k i next s)
+
+  pub told_as : (reply : Reply V) (told : Answer K V) → Led same by_hasher batch_size roots slot_of (TellsCall i m reply) s told n → Leads (TellsCall i m reply) told NoChange n
+  told_as reply told (standing, stands, u, next, here, machine_is, told_is, kind, is) =
+      onto (TellsCall i m reply) told NoChange (scene_with m i next s) is
+      (λ stand. let there = calls_there same hash batch_size roots s before at (with_call s.calls m i (Some next)) NoChange stand in
+      (((machine_replied (machine_of u) reply).1, told_is, one_call u here (Replied reply (machine_replied (machine_of u) reply).1) (standing, next, stands, machine_is, refl, kind, refl, there)), there))
+
+  abbrev Asked : Bool → ℕ → UnderWay K V K → Type 0
+  Asked ready k u =
+      (next : UnderWay K V K) × (machine_of next ≡ (machine_asked (machine_of u)).0) × (ready ≡ (machine_asked (machine_of u)).1)
+      × (s.world.memory ≡ s.world.memory) × IsAt same hash (held_in batch_size roots NoChange s) (scene_with k i next s)
+
+  pub asked_as : (told : Answer K V) → Led same by_hasher batch_size roots slot_of (AsksCall i m) s told n → Leads (AsksCall i m) told NoChange n
+  asked_as told (u, next, here, machine_is, told_is, is) =
+      onto (AsksCall i m) told NoChange (scene_with m i next s) is
+      (λ stand. let there = calls_there same hash batch_size roots s before at (with_call s.calls m i (Some next)) NoChange stand in
+      (((machine_asked (machine_of u)).1, told_is, one_call u here (Asked (machine_asked (machine_of u)).1) (next, machine_is, refl, refl, there)), there))
+
+  abbrev Stopped : Bool → ℕ → UnderWay K V K → Type 0
+  Stopped stopped k u =
+      (stopped ≡ (machine_asked (machine_of u)).1) × (s.world.memory ≡ s.world.memory)
+      × IsAt same hash (held_in batch_size roots NoChange s) (record s { calls = with_call s.calls k i (unless_stopped stopped u) })
+
+  pub stopped_as : (told : Answer K V) → Led same by_hasher batch_size roots slot_of (StopsCall i m) s told n → Leads (StopsCall i m) told NoChange n
+  stopped_as told (u, here, told_is, is) =
+      onto (StopsCall i m) told NoChange (record s { calls = with_call s.calls m i (unless_stopped (machine_asked (machine_of u)).1 u) }) is
+      (λ stand. let there = calls_there same hash batch_size roots s before at (with_call s.calls m i (unless_stopped (machine_asked (machine_of u)).1 u)) NoChange stand in
+      (((machine_asked (machine_of u)).1, told_is, one_call u here (Stopped (machine_asked (machine_of u)).1) (refl, refl, there)), there))

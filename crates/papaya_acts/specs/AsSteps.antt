@@ -1,0 +1,130 @@
+-- A kind of step is a constructor of what is done: each act leads where a step of its kind does, of what is held before and after it.
+use Rattle.std.specs.Prelude.{◌≡◌, ℕ, Bool, List, Option, Some, None, Result}
+use Rattle.std.specs.Option.{option_map_or}
+use Rattle.papaya_scenes.specs.Given.SeizeWords.Mem.{Mem}
+use Rattle.papaya_scenes.specs.Given.SeizeWords.Op.{Op, Out}
+use Rattle.papaya_scenes.specs.Given.SeizeWords.Plan.{Plan, Turn, Do}
+use Rattle.papaya_scenes.specs.Given.Seize.Enter.{enter_plan, unregister_plan}
+use Rattle.papaya_scenes.specs.Given.Seize.Leave.{leave_plan}
+use Rattle.papaya_scenes.specs.Given.Seize.ReclaimAll.{reclaim_all_plan}
+use Rattle.papaya_scenes.specs.Given.Seize.Register.{register_plan}
+use Rattle.papaya_scenes.specs.Given.Seize.Settle.{settle_plan}
+use Rattle.papaya_scenes.specs.Given.Seize.World.{Row, Rests, Registers, Enters, Settles, Leaves, Defers, Frees}
+use Rattle.papaya_scenes.specs.Given.Seize.declared.progress.Progress.{Progress}
+use Rattle.papaya_scenes.specs.Given.Seize.declared.rows.reclaim_all.ReclaimAll.{ReclaimAll}
+use Rattle.papaya_scenes.specs.Given.Seize.declared.rows.settle.Settled.{Settled}
+use Rattle.seize_acts.specs.Answers.{Grant, answer, stepped}
+use Rattle.papaya_scenes.specs.Given.Tables.Nodes.{deferred_word, was_left}
+use Rattle.papaya_scenes.specs.Given.Tables.declared.node.Node.{Node}
+use Rattle.papaya_scenes.specs.Given.Tables.declared.setting.Setting.{Setting}
+use Rattle.papaya_scenes.specs.Given.Resize.NewMap.{new_map_plan}
+use Rattle.papaya_scenes.specs.Given.Raw.EndMap.{end_map_plan}
+use Rattle.papaya_scenes.specs.Given.Raw.Machine.{machine_plan}
+use Rattle.papaya_scenes.specs.Given.Raw.declared.machines.asking.Reply.{Reply}
+use Rattle.papaya_scenes.specs.Given.Raw.declared.machines.progress.Progress.{Progress as CallProgress}
+use Rattle.papaya_scenes.specs.Given.Tells.Seen.{seen_of}
+use Rattle.papaya_scenes.specs.Given.Teller.Tells.{told_of}
+use Rattle.papaya_scenes.specs.Given.Teller.declared.changed.Changed.{Changed}
+use Rattle.papaya_scenes.specs.Given.Teller.declared.changed.Changed.TheVariants.{Nothing as NoChange}
+use Rattle.papaya_scenes.specs.Given.Finishes.Machines.{machine_of}
+use Rattle.papaya_scenes.specs.Given.Finishes.Maps.{Standing}
+use Rattle.papaya_acts.specs.Acts.{Act, Answer, OfCall, OfReply, OfAsking, OfMaking, OfEnding, begun}
+use Rattle.papaya_acts.specs.Acts.{BeginsCall, StepsCall, TellsCall, AsksCall, StopsCall, BeginsMaking, StepsMaking, BeginsEnding, StepsEnding, BeginsRow, StepsRow}
+use Rattle.papaya_acts.specs.Leads.{MayBe, AllStand, Led, call_at}
+use Rattle.papaya_scenes.specs.Beginning.{Begins}
+use Rattle.papaya_scenes.specs.Ending.{EndingBeginsTo, EndingLeads}
+use Rattle.papaya_scenes.specs.Held.{Held, IsAt}
+use Rattle.papaya_scenes.specs.Making.{MakingLeads, making_begun, scene_making}
+use Rattle.papaya_scenes.specs.OnSlots.{RowBegins, RowLeads}
+use Rattle.papaya_acts.specs.Reclaiming.{ReclaimedOn}
+use Rattle.papaya_scenes.specs.Reclaiming.{IsReclaiming, ReclaimingLeads}
+use Rattle.papaya_scenes.specs.Replying.{ReplyLeads, AskLeads, StopLeads, scene_with}
+use Rattle.papaya_scenes.specs.Rows.{request_of, of_registering, of_storing, of_settling}
+use Rattle.papaya_scenes.specs.Scene.{Scene, slot_of}
+use Rattle.papaya_scenes.specs.Stepping.{StepLeads}
+use Rattle.papaya_scenes.specs.declared.row.RowTold.{RowTold}
+use Rattle.papaya_scenes.specs.declared.row.RowTold.TheVariants as told
+use Rattle.papaya_scenes.specs.declared.row.SlotCall.{SlotCall}
+
+module _ {K V : Type 0} where
+  -- what an operation has changed, by its answer, if it has one
+  abbrev pub changed_as : Mem (Node K V) → Op (Node K V) → Option (Out (Node K V)) → Changed
+  changed_as m op None = NoChange
+  changed_as m op (Some out) = told_of op out (seen_of m op out)
+
+  -- what the one operation of a step has changed, where the memory chooses so
+  abbrev pub changed_of : {R : Type 0} → Mem (Node K V) → Grant → Plan (Node K V) R → Changed
+  changed_of m g (Turn rest) = NoChange
+  changed_of m g (Do op rest) = changed_as m op (answer m g op)
+
+  -- of a row
+  abbrev pub row_changed : Row → Grant → Mem (Node K V) → Changed
+  row_changed Rests g m = NoChange
+  row_changed (Registers c) g m = changed_of m g (register_plan c)
+  row_changed (Enters c) g m = changed_of m g (enter_plan c)
+  row_changed (Settles c) g m = changed_of m g (settle_plan deferred_word c)
+  row_changed (Leaves c) g m = changed_of m g (leave_plan deferred_word c)
+  row_changed (Defers s c) g m = NoChange
+  row_changed (Frees c) g m = changed_of m g (unregister_plan c)
+
+  -- and what that tells by its step
+  abbrev pub row_told : Row → Grant → Mem (Node K V) → RowTold (Node K V)
+  row_told (Registers c) g m = option_map_or (λ p. of_registering p.1.1) (stepped m g (register_plan c)) told.Goes
+  row_told (Enters c) g m = option_map_or (λ p. of_storing p.1.1) (stepped m g (enter_plan c)) told.Goes
+  row_told (Settles c) g m = option_map_or (λ p. of_settling p.1.1) (stepped m g (settle_plan deferred_word c)) told.Goes
+  row_told (Leaves c) g m = option_map_or (λ p. of_settling p.1.1) (stepped m g (leave_plan deferred_word c)) told.Goes
+  row_told (Frees c) g m = option_map_or (λ p. of_storing p.1.1) (stepped m g (unregister_plan c)) told.Goes
+  row_told _ g m = told.Goes
+
+  module _ {S : Type 0} (same : K → K → Bool) where
+    -- what the one operation of an act has changed
+    abbrev pub changed_by : Act K V S → Scene K V → Changed
+    changed_by (StepsCall i m g) s = option_map_or (λ it. changed_of s.world.memory g (machine_plan same same it.0.hash (machine_of it.1))) (call_at s i m) NoChange
+    changed_by (StepsMaking i g) s = option_map_or (λ b. changed_of s.world.memory g (new_map_plan b.machine)) (s.makers i) NoChange
+    changed_by (StepsEnding i g) s = option_map_or (λ f. changed_of s.world.memory g (end_map_plan f.machine)) (s.enders i) NoChange
+    changed_by (StepsRow i g) s = row_changed (s.world.row i) g s.world.memory
+    changed_by act s = NoChange
+
+  -- what is held where a scene is, after an operation that has changed this
+  abbrev pub held_in : ℕ → ℕ → Changed → Scene K V → Held K V
+  held_in batch_size roots changed s = record { memory = s.world.memory; changed = changed; batch_size = batch_size; roots = roots }
+
+-- Keys have a hash by each hasher, and each map has one by its number. A caller's number tells its slot.
+module _ {K V S : Type 0} (by_hasher : S → K → ℕ) (hash : ℕ → K → ℕ) where
+  -- A map is made with a hasher of which it has its hash, and a row begins on the slot of its caller.
+  abbrev pub IsOwn : Act K V S → Type 0
+  IsOwn (BeginsMaking i map hasher given places) = by_hasher hasher ≡ hash map
+  IsOwn (BeginsRow i request) = (called : SlotCall) × (request ≡ request_of (slot_of i) called)
+  IsOwn act = Unit {0}
+
+module _ {K V S : Type 0} (same : K → K → Bool) (by_hasher : S → K → ℕ) (hash : ℕ → K → ℕ) where
+  -- where a step of its kind leads from there, that has told this
+  abbrev pub LeadsAs : Act K V S → Scene K V → Answer K V → Held K V → Held K V → Type 0
+  LeadsAs (BeginsCall i m wanted) s answer old new =
+      (standing : Standing K) × (s.maps m ≡ Some standing) × Begins same standing i (begun same slot_of standing i wanted)
+      × (new.memory ≡ old.memory) × IsAt same hash new (scene_with m i (begun same slot_of standing i wanted) s)
+  LeadsAs (StepsCall i m g) s answer old new = (told : CallProgress (Node K V)) × (answer ≡ OfCall told) × StepLeads same hash i told s old new
+  LeadsAs (TellsCall i m reply) s answer old new = (result : Result Unit (Reply V)) × (answer ≡ OfReply result) × ReplyLeads same hash i reply result s old new
+  LeadsAs (AsksCall i m) s answer old new = (ready : Bool) × (answer ≡ OfAsking ready) × AskLeads same hash i ready s old new
+  LeadsAs (StopsCall i m) s answer old new = (stopped : Bool) × (answer ≡ OfAsking stopped) × StopLeads same hash i stopped s old new
+  LeadsAs (BeginsMaking i map hasher given places) s answer old new =
+      (new.memory ≡ old.memory) × IsAt same hash new (scene_making i (making_begun (by_hasher hasher) old.roots map given places) s)
+  LeadsAs (StepsMaking i g) s answer old new = (told : Progress Setting) × (answer ≡ OfMaking told) × MakingLeads same hash i told s old new
+  LeadsAs (BeginsEnding i m) s answer old new = EndingBeginsTo same (IsAt same hash new) m i s old new
+  LeadsAs (StepsEnding i g) s answer old new = (told : Settled (Node K V)) × (answer ≡ OfEnding told) × EndingLeads same hash i told s old new
+  LeadsAs (BeginsRow i request) s answer old new = (called : SlotCall) × (request ≡ request_of (slot_of i) called) × RowBegins same hash called i s old new
+  LeadsAs (StepsRow i g) s answer old new = RowLeads same hash i (row_told (s.world.row i) g s.world.memory) s old new
+
+-- The promise: an act of its own leads so, from a scene of what is held to one of what is held then.
+abbrev pub ActsLeadAsSteps : {K S : Type 0} (V : Type 0) (same : K → K → Bool) (by_hasher : S → K → ℕ) (hash : ℕ → K → ℕ) (batch_size roots : ℕ) → Type 0
+ActsLeadAsSteps {K} {S} V same by_hasher hash batch_size roots =
+    (s n : Scene K V) (before : Changed) → IsAt same hash (held_in batch_size roots before s) s → AllStand same by_hasher batch_size roots slot_of n
+    → (act : Act K V S) → IsOwn by_hasher hash act → MayBe same by_hasher batch_size roots slot_of act s → (told : Answer K V) → Led same by_hasher batch_size roots slot_of act s told n
+    → LeadsAs same by_hasher hash act s told (held_in batch_size roots before s) (held_in batch_size roots (changed_by same act s) n) × IsAt same hash (held_in batch_size roots (changed_by same act s) n) n
+
+-- And so does a step of a caller that reclaims all.
+abbrev pub ReclaimingLeadsAsSteps : {K : Type 0} (V : Type 0) (same : K → K → Bool) (hash : ℕ → K → ℕ) (batch_size roots : ℕ) → Type 0
+ReclaimingLeadsAsSteps {K} V same hash batch_size roots =
+    (s n : Scene K V) (before : Changed) (i : ℕ) (lists : ℕ → List ℕ) (c : ReclaimAll) → IsReclaiming same hash (held_in batch_size roots before s) s i lists c
+    → (g : Grant) (end : Settled (Node K V)) (lists2 : ℕ → List ℕ) (c2 : ReclaimAll) → ReclaimedOn V same batch_size roots slot_of s i lists c g end n lists2 c2
+    → ReclaimingLeads same hash s i lists (held_in batch_size roots before s) (held_in batch_size roots (changed_of s.world.memory g (reclaim_all_plan deferred_word was_left c)) n) c c2 end
