@@ -1,15 +1,16 @@
 -- Each step of a call by another form of a key has the plan of the call's by the key, with its ends turned into that call's.
-use Rattle.std.specs.Prelude.{◌≡◌, ℕ, ◌==◌, Bool, true, false, if◌then◌else◌, Option, Some, None, Ok, Err, option_map}
+use Rattle.std.specs.Prelude.{◌≡◌, ℕ, bit_and, ◌==◌, Bool, true, false, if◌then◌else◌, Option, Some, None, Ok, Err, option_map}
 use Rattle.std.proofs.Common.{refl, ap, sym, subst, ◌∙◌}
 use Rattle.std.proofs.Math.Path.{fun_ext}
-use Rattle.seize_words.specs.Op.{Out, Exchange, Load, Make, Rewrite, Take, Exchanged, Found, Made, Taken}
+use Rattle.seize_words.specs.Op.{Out, Add, Exchange, Load, Make, Rewrite, Take, Exchanged, Found, Made, Taken}
 use Rattle.seize_words.specs.Plan.{Plan, Then, Turn, Do, Now, Seeing, Sure, then_as, plan_as}
 use Rattle.seize_words.specs.Word.{block_in}
-use Rattle.seize_words.specs.declared.at.At.TheVariants.{Root}
+use Rattle.seize_words.specs.declared.at.At.TheVariants.{Root, Word}
 use Rattle.seize.specs.declared.progress.Progress.{Progress}
 use Rattle.seize.specs.declared.progress.Progress.TheVariants as progress
 use Rattle.seize.specs.declared.rows.settle.Settled.{Settled}
 use Rattle.seize.specs.declared.rows.settle.Settled.TheVariants as settling
+use Rattle.papaya_tables.specs.Counts.{count_change}
 use Rattle.papaya_tables.specs.Finding.{may_name}
 use Rattle.papaya_tables.specs.Nodes.{table_seen, vacant}
 use Rattle.papaya_tables.specs.TablePlaces.{at_word}
@@ -71,12 +72,13 @@ module _ {T A B C : Type 0} (f : A → C) (g : B → C) (h : A → B) (is : (a :
   plan_through (Turn rest) = ap Turn (then_through rest)
   plan_through (Do op rest) = ap (Do op) (fun_ext (λ out. then_through (rest out)))
 
+-- whether a form stands for a key
+abbrev asked_as : {K Q : Type 0} → (K → K → Bool) → (Q → K) → Q → K → Bool
+asked_as eq stands_for asked key = eq (stands_for asked) key
+
 module _ {K V Q : Type 0} (eq : K → K → Bool) (stands_for : Q → K) where
   abbrev It : KeyCall K V Q → KeyCall K V K
   It c = by stands_for c
-
-  abbrev asks : Q → K → Bool
-  asks asked key = eq (stands_for asked) key
 
   abbrev On : KeyCall K V Q × Called (Node K V) → KeyCall K V K × Called (Node K V)
   On end = on stands_for end
@@ -118,28 +120,28 @@ module _ {K V Q : Type 0} (eq : K → K → Bool) (stands_for : Q → K) where
   dropped_on c end (Taken node) = refl
   dropped_on c end _ = refl
 
-  key_on : (loaded : Bool) (c : KeyCall K V Q) (word : ℕ) (key : Option K) → key_read eq eq loaded (It c) word key ≡ ThenOn (key_read asks eq loaded c word key)
+  key_on : (loaded : Bool) (c : KeyCall K V Q) (word : ℕ) (key : Option K) → key_read eq eq loaded (It c) word key ≡ ThenOn (key_read (asked_as eq stands_for) eq loaded c word key)
   key_on loaded c word (Some key) = ap (Seeing (block_in word)) (fun_ext (λ value. ap Now (told_on stands_for loaded c word (names_pair (eq key) value))))
   key_on loaded c word None =
       ap (Seeing (block_in c.own)) (fun_ext (λ own. ap (Seeing (block_in word)) (fun_ext (λ value. ap Now (told_on stands_for loaded c word (have_one_key eq own value))))))
 
-  pair_on : (loaded : Bool) (c : KeyCall K V Q) (word : ℕ) (asked : Option Q) → pair_read eq eq loaded (It c) word (option_map stands_for asked) ≡ ThenOn (pair_read asks eq loaded c word asked)
-  pair_on loaded c word (Some asked) = ap (Seeing (block_in word)) (fun_ext (λ value. ap Now (told_on stands_for loaded c word (names_pair (asks asked) value))))
+  pair_on : (loaded : Bool) (c : KeyCall K V Q) (word : ℕ) (asked : Option Q) → pair_read eq eq loaded (It c) word (option_map stands_for asked) ≡ ThenOn (pair_read (asked_as eq stands_for) eq loaded c word asked)
+  pair_on loaded c word (Some asked) = ap (Seeing (block_in word)) (fun_ext (λ value. ap Now (told_on stands_for loaded c word (names_pair (asked_as eq stands_for asked) value))))
   pair_on loaded c word None = key_on loaded c word c.replies.key
 
-  word_on : (loaded : Bool) (c : KeyCall K V Q) (word : ℕ) → word_read eq eq loaded (It c) word ≡ ThenOn (word_read asks eq loaded c word)
+  word_on : (loaded : Bool) (c : KeyCall K V Q) (word : ℕ) → word_read eq eq loaded (It c) word ≡ ThenOn (word_read (asked_as eq stands_for) eq loaded c word)
   word_on loaded c word = of (may_name c.hash word)
     where
       of : (b : Bool) → (if b then pair_read eq eq loaded (It c) word (option_map stands_for c.asked) else Now (told loaded (It c) word false))
-          ≡ ThenOn (if b then pair_read asks eq loaded c word c.asked else Now (told loaded c word false))
+          ≡ ThenOn (if b then pair_read (asked_as eq stands_for) eq loaded c word c.asked else Now (told loaded c word false))
       of true = pair_on loaded c word c.asked
       of false = ap Now (told_on stands_for loaded c word false)
 
-  found_on : (c : KeyCall K V Q) (out : Out (Node K V)) → word_found eq eq (It c) out ≡ ThenOn (word_found asks eq c out)
+  found_on : (c : KeyCall K V Q) (out : Out (Node K V)) → word_found eq eq (It c) out ≡ ThenOn (word_found (asked_as eq stands_for) eq c out)
   found_on c (Found word) = word_on true c word
   found_on c _ = refl
 
-  tried_on : (c : KeyCall K V Q) (word new : ℕ) (out : Out (Node K V)) → tried eq eq (It c) word new out ≡ ThenOn (tried asks eq c word new out)
+  tried_on : (c : KeyCall K V Q) (word new : ℕ) (out : Out (Node K V)) → tried eq eq (It c) word new out ≡ ThenOn (tried (asked_as eq stands_for) eq c word new out)
   tried_on c word new (Exchanged (Ok found)) = ap Now (changed_on stands_for c word new)
   tried_on c word new (Exchanged (Err found)) = word_on false c found
   tried_on c word new _ = refl
@@ -151,8 +153,8 @@ module _ {K V Q : Type 0} (eq : K → K → Bool) (stands_for : Q → K) where
   looked_on c (lookup, progress.Done None) = refl
   looked_on c (lookup, progress.Refused fault) = refl
 
-  looks_on : (c : KeyCall K V Q) (lookup : Lookup) (asked : Option Q) → looks_for eq (It c) lookup (option_map stands_for asked) ≡ PlanOn (looks_for asks c lookup asked)
-  looks_on c lookup (Some asked) = plan_through (looked (It c)) On (looked c) (looked_on c) (lookup_plan (asks asked) lookup)
+  looks_on : (c : KeyCall K V Q) (lookup : Lookup) (asked : Option Q) → looks_for eq (It c) lookup (option_map stands_for asked) ≡ PlanOn (looks_for (asked_as eq stands_for) c lookup asked)
+  looks_on c lookup (Some asked) = plan_through (looked (It c)) On (looked c) (looked_on c) (lookup_plan (asked_as eq stands_for asked) lookup)
   looks_on c lookup None = refl
 
   first_on : (c : KeyCall K V Q) (end : NewTable × Progress Table) → first_made (It c) end ≡ On (first_made c end)
@@ -222,13 +224,14 @@ module _ {K V Q : Type 0} (eq : K → K → Bool) (stands_for : Q → K) where
   asks_on c (asking.GivesUp word) = ap (Do (Take (block_in c.own))) (fun_ext (given_on c word))
 
   -- each point
-  at_on : (hash : K → ℕ) (c : KeyCall K V Q) (p : Calling) → plan_at eq eq hash (It c) p ≡ PlanOn (plan_at asks eq hash c p)
+  at_on : (hash : K → ℕ) (c : KeyCall K V Q) (p : Calling) → plan_at eq eq hash (It c) p ≡ PlanOn (plan_at (asked_as eq stands_for) eq hash c p)
   at_on hash c at.Makes = makes_on c c.unmade
   at_on hash c (at.Looks lookup) = looks_on c lookup c.asked
   at_on hash c at.Roots = ap (Do (Load (Root c.setting.root))) (fun_ext (root_on c))
   at_on hash c at.Probes = ap (Do (Load (place_tried c.trial))) (fun_ext (found_on c))
   at_on hash c (at.Tries word new) = ap (Do (Exchange (place_tried c.trial) word new)) (fun_ext (tried_on c word new))
-  at_on hash c (at.Counts removed) = ap (Do _) (fun_ext (λ out. ap Now (counted_on stands_for c removed)))
+  at_on hash c (at.Counts removed) =
+      ap (Do (Add (Word c.setting.counter (bit_and c.setting.slot c.setting.mask)) (count_change removed))) (fun_ext (λ out. ap Now (counted_on stands_for c removed)))
   at_on hash c at.Nexts = ap (Do (Load (at_word c.trial.table NEXT))) (fun_ext (next_on c))
   at_on hash c (at.Firsts making) = plan_through (first_made (It c)) On (first_made c) (first_on c) (new_table_plan making)
   at_on hash c (at.Allocs making) = plan_through (next_made (It c)) On (next_made c) (next_made_on c) (new_table_plan making)
@@ -241,9 +244,9 @@ module _ {K V Q : Type 0} (eq : K → K → Bool) (stands_for : Q → K) where
 
   -- whichever machine it is
   machine_on : (hash : K → ℕ) (machine : Machine K V Q)
-      → machine_plan eq eq hash (by_key stands_for machine) ≡ plan_as (end_by_key stands_for) (machine_plan asks eq hash machine)
+      → machine_plan eq eq hash (by_key stands_for machine) ≡ plan_as (end_by_key stands_for) (machine_plan (asked_as eq stands_for) eq hash machine)
   machine_on hash (kinds.Key c) =
-      ap (plan_as called) (at_on hash c c.stands) ∙ plan_square On (end_by_key stands_for) called called (λ end. refl) (call_plan asks eq hash c)
+      ap (plan_as called) (at_on hash c c.stands) ∙ plan_square On (end_by_key stands_for) called called (λ end. refl) (call_plan (asked_as eq stands_for) eq hash c)
   machine_on hash (kinds.Reserve c) = plan_through reserved (end_by_key stands_for) reserved (λ end. refl) (reserve_plan hash c)
   machine_on hash (kinds.Sweep c) = plan_through swept (end_by_key stands_for) swept (λ end. refl) (sweep_plan hash c)
   machine_on hash (kinds.Count c) = plan_through sum_counted (end_by_key stands_for) sum_counted (λ end. refl) (sum_plan c)
