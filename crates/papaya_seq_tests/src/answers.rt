@@ -1,5 +1,5 @@
 //! Callers of changes whose answers lend: what each has of the answer, and what the map is then, follows with no proof of its own.
-ghost use Rattle.std.specs.Prelude.{◌≡◌, ◌++◌, ◌∷◌, [], nat_eq, option_map, IfErr, IfOk, IfSome, MatchOption, OnErr, OnOk};
+ghost use Rattle.std.specs.Prelude.{◌≡◌, ◌++◌, ◌∷◌, ◌+◌, ◌%◌, ◌^◌, [], None, Some, nat_eq, option_map, IfErr, IfOk, IfSome, MatchOption, OnErr, OnOk};
 ghost use Rattle.std.specs.List.Sorted.{IsPermutation};
 ghost use Rattle.papaya_seq.specs.Pairs.{found_by, left_by};
 
@@ -41,6 +41,7 @@ fn gets(map: &mut Map, key: u64, value: u64) -> Result<u64, Refused<u64, u64>>
 
 /// Adds one to the value of a key, and answers the new one, if the key is there.
 fn adds(map: &mut Map, key: u64) -> Result<Option<u64>, RefusedKey<u64>>
+    ensures done { IfOk result (λ new. MatchOption (found_by (nat_eq key) map.old.pairs) (new ≡ None) (λ x. new ≡ Some ((x.1 + 1) % 2 ^ 64))) }
     ensures refused { OnErr result (IsPermutation map.new.pairs map.old.pairs) }
     ensures back { IfErr result (λ r. r.key ≡ key) }
 {
@@ -69,11 +70,23 @@ fn counts(map: &mut Map, key: u64) -> Result<u64, RefusedKey<u64>>
 
 /// Removes the pair of a key if its value is 1, and answers its value, be it gone or there.
 fn removes(map: &mut Map, key: u64) -> Result<Option<u64>, Fault>
+    ensures was { IfOk result (λ was. was ≡ option_map (λ x. x.1) (found_by (nat_eq key) map.old.pairs)) }
     ensures refused { OnErr result (IsPermutation map.new.pairs map.old.pairs) }
 {
     match map.remove_if(&key, |_, value| *value == 1)? {
         Ok(was) => Ok(was.map(|(_, value)| *value)),
         Err((_, value)) => Ok(Some(*value)),
+    }
+}
+
+/// The value of a key, if it is there.
+fn value_of(map: &Map, key: u64) -> Option<u64>
+    ensures { result ≡ option_map (λ x. x.1) (found_by (nat_eq key) map.now.pairs) }
+{
+    if map.contains_key(&key) {
+        Some(map[&key])
+    } else {
+        None
     }
 }
 
@@ -85,6 +98,7 @@ fn answer_so(map: &mut Map) -> Result<bool, Fault> {
     so = so && adds(map, 9)? == Some(6) && adds(map, 10)? == None;
     so = so && counts(map, 9)? == 106 && counts(map, 7)? == 2 && counts(map, 7)? == 0;
     so = so && counts(map, 7)? == 1 && removes(map, 8)? == Some(9) && removes(map, 7)? == Some(1);
+    so = so && value_of(map, 9) == Some(6) && value_of(map, 7) == None;
     Ok(so && removes(map, 7)? == None && map.len() == 2)
 }
 
