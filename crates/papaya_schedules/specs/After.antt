@@ -149,17 +149,24 @@ module _ {K V : Type 0} where
         remains = remains_on e.event e.outcome e.effects m;
       }
 
-  -- the moment after all events of a log, of which the newest comes first
+-- the moment after all entries of a log, of which the newest comes first, by the moment after one
+abbrev pub moment_by : {K V E : Type 0} → (E → Moment K V → Moment K V) → List E → Moment K V
+moment_by after [] = start
+moment_by after (e ∷ log) = after e (moment_by after log)
+
+-- the moments since so many entries had come, the newest first, by the moment after a log
+abbrev pub moments_by : {K V E : Type 0} → (List E → Moment K V) → ℕ → List E → List (Moment K V)
+moments_by moment begun [] = if begun == 0 then start ∷ [] else []
+moments_by moment begun (e ∷ log) = if nat_lt (length (e ∷ log)) begun then [] else moment (e ∷ log) ∷ moments_by moment begun log
+
+-- P holds of each entry and of the log before it
+abbrev pub AtEachEvent : {E : Type 0} → (List E → E → Type 0) → List E → Type 0
+AtEachEvent P [] = Unit {0}
+AtEachEvent P (e ∷ log) = P log e × AtEachEvent P log
+
+module _ {K V : Type 0} where
   abbrev pub moment : List (Entry K V) → Moment K V
-  moment [] = start
-  moment (e ∷ log) = after e (moment log)
+  moment log = moment_by after log
 
-  -- the moments since so many events had come, the newest first
   abbrev pub moments_from : ℕ → List (Entry K V) → List (Moment K V)
-  moments_from begun [] = if begun == 0 then start ∷ [] else []
-  moments_from begun (e ∷ log) = if nat_lt (length (e ∷ log)) begun then [] else moment (e ∷ log) ∷ moments_from begun log
-
-  -- P holds of each event and of the log before it
-  abbrev pub AtEachEvent : (List (Entry K V) → Entry K V → Type 0) → List (Entry K V) → Type 0
-  AtEachEvent P [] = Unit {0}
-  AtEachEvent P (e ∷ log) = P log e × AtEachEvent P log
+  moments_from begun log = moments_by moment begun log

@@ -164,15 +164,21 @@ module _ {K V : Type 0} where
   LeavesOf false outcome c = Unit {0}
 
 module _ {K V : Type 0} (terms : Terms) where
+  -- at which moments a call has been, by those since so many entries had come
+  abbrev pub moments_since : (ℕ → List (Moment K V)) → Option (UnderWay K V) → List (Moment K V)
+  moments_since since None = []
+  moments_since since (Some c) = since c.begun
+
+  -- these effects find what they must, from this moment on
+  abbrev pub EachFinds : Option (List ℕ) → Option ℕ → Bool → (ℕ → List (Moment K V)) → List Effect → Moment K V → Type 0
+  EachFinds caller map everything since effects b = AtEachEffect (Finds terms caller map everything (moments_since since (acting caller b))) caller map effects b
+
   -- at which moments the call of an event has been
   abbrev pub moments_of : List (Entry K V) → Option (UnderWay K V) → List (Moment K V)
-  moments_of log None = []
-  moments_of log (Some c) = moments_from c.begun log
+  moments_of log call = moments_since (λ n. moments_from n log) call
 
   abbrev pub AllFind : List (Entry K V) → Entry K V → Moment K V → Type 0
-  AllFind log e b =
-      let map = acted_on e.event b in
-      AtEachEffect (Finds terms (caller_of e.event) map (gives_all e.event) (moments_of log (acting (caller_of e.event) b))) (caller_of e.event) map e.effects b
+  AllFind log e b = EachFinds (caller_of e.event) (acted_on e.event b) (gives_all e.event) (λ n. moments_from n log) e.effects b
 
   -- each effect finds what it must, the event may have it, and what has to come of an event does
   pub record MovesOn (log : List (Entry K V)) (e : Entry K V) : Type 0 where

@@ -8,6 +8,7 @@ pub mod Entry
 pub mod Beginning
 pub mod Effects
 pub mod After
+pub mod Transition
 pub mod Counts
 pub mod Tries
 pub mod Growing

@@ -15,10 +15,8 @@ use Rattle.papaya_schedules.specs.Things.{same_question}
 use Rattle.papaya_schedules.specs.Sequential.{Meaning, Answers, Refuses, Wants, Deed, Leaves, Shift, ComesIn, GivesWay, GoesOut, means, key_of, asks_again, shifts}
 use Rattle.papaya_schedules.specs.Moment.{Stands, Asking, UnderWay, Moment}
 use Rattle.papaya_schedules.specs.Views.{finite_map, is_in_map, reply_to}
-use Rattle.papaya_schedules.specs.Entry.{Entry, caller_of, acting}
-use Rattle.papaya_schedules.specs.Beginning.{at_work}
-use Rattle.papaya_schedules.specs.Effects.{worked}
-use Rattle.papaya_schedules.specs.After.{moment, moments_from}
+use Rattle.papaya_schedules.specs.Entry.{Entry}
+use Rattle.papaya_schedules.specs.Transition.{Transition, call_found, call_left, transition}
 
 -- how an effect changes a finite map
 abbrev pub shift_of : Effect → List Shift
@@ -89,17 +87,26 @@ module _ {K V : Type 0} (eq : K → K → Bool) where
   AsksRight _ c moments (Asks question) = MayAsk c.call c moments question
   AsksRight _ c moments _ = Unit {0}
 
-  -- the call before and after the effects of its event
-  pub record ActsRight (log : List (Entry K V)) (e : Entry K V) (before c : UnderWay K V) : Type 0 where
-    pub changes : Changes before.call before (at_work e (moment log)) (flat_map shift_of e.effects)
-    pub ends : Ends c.call c (moments_from c.begun log) e.outcome
-    pub asks : AsksRight c.stands c (moments_from c.begun log) e.outcome
+  -- the call before and after the effects of its entry
+  pub record IsRight (t : Transition K V) (before c : UnderWay K V) : Type 0 where
+    pub changes : Changes before.call before t.found (flat_map shift_of t.effects)
+    pub ends : Ends c.call c (t.before.since c.begun) t.outcome
+    pub asks : AsksRight c.stands c (t.before.since c.begun) t.outcome
+
+  abbrev pub IsRightOf : Transition K V → Option (UnderWay K V) → Option (UnderWay K V) → Type 0
+  IsRightOf t (Some before) (Some c) = IsRight t before c
+  IsRightOf t _ _ = flat_map shift_of t.effects ≡ []
+
+  -- it changes maps, answers and asks as the finite map says; where it is no step of a call it changes none
+  abbrev pub Linearizes : Transition K V → Type 0
+  Linearizes t = IsRightOf t (call_found t) (call_left t)
+
+  -- of an entry of a log
+  abbrev pub ActsRight : List (Entry K V) → Entry K V → UnderWay K V → UnderWay K V → Type 0
+  ActsRight log e before c = IsRight (transition log e) before c
 
   abbrev pub ActsOf : List (Entry K V) → Entry K V → Option (UnderWay K V) → Option (UnderWay K V) → Type 0
-  ActsOf log e (Some before) (Some c) = ActsRight log e before c
-  ActsOf log e _ _ = flat_map shift_of e.effects ≡ []
+  ActsOf log e before c = IsRightOf (transition log e) before c
 
-  -- the event changes maps, answers and asks as the finite map says; one that is no step of a call changes none
   abbrev pub IsLinearizable : List (Entry K V) → Entry K V → Type 0
-  IsLinearizable log e =
-      let m = moment log in ActsOf log e (acting (caller_of e.event) (at_work e m)) (acting (caller_of e.event) (worked e m))
+  IsLinearizable log e = Linearizes (transition log e)

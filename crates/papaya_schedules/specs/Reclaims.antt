@@ -16,6 +16,7 @@ use Rattle.papaya_schedules.specs.Moment.{Place, Out, Handed, Behind, TableThere
 use Rattle.papaya_schedules.specs.Views.{is_waiting, places_below, is_stage, is_linked, is_retired, tables_of, chain_of}
 use Rattle.papaya_schedules.specs.Entry.{Entry}
 use Rattle.papaya_schedules.specs.After.{after, moment}
+use Rattle.papaya_schedules.specs.Transition.{Transition, transition}
 use Rattle.papaya_schedules.specs.Model.{thing_back, all_left}
 
 abbrev pub is_handed : Place → Bool
@@ -87,9 +88,12 @@ module _ {K V : Type 0} where
   IfAll Close Done before m things = IsEmptied m × ComesLast (all_left before) things
   IfAll _ _ before m things = Unit {0}
 
-  -- Nothing is reclaimed that left its map in a critical section that the event does not end.
+  -- Nothing is reclaimed that left its map in a critical section that the entry does not end.
+  abbrev pub Protects : Transition K V → Type 0
+  Protects t = list_any (λ s. is_in same_thing s.thing (flat_map thing_back t.effects)) t.left.sheltered ≡ false
+
   abbrev pub IsProtected : List (Entry K V) → Entry K V → Type 0
-  IsProtected log e = list_any (λ s. is_in same_thing s.thing (flat_map thing_back e.effects)) (after e (moment log)).sheltered ≡ false
+  IsProtected log e = Protects (transition log e)
 
 module _ {K V : Type 0} (terms : Terms) where
   pub record LeavesLittle (log : List (Entry K V)) (e : Entry K V) : Type 0 where

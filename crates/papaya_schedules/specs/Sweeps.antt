@@ -16,9 +16,8 @@ use Rattle.papaya_schedules.specs.Terms.{Terms, shards_of}
 use Rattle.papaya_schedules.specs.Counts.{Counts}
 use Rattle.papaya_schedules.specs.Moment.{UnderWay, TableThere, Moment}
 use Rattle.papaya_schedules.specs.Views.{finite_map, is_in_map, reply_to, first_of}
-use Rattle.papaya_schedules.specs.Entry.{Entry, IfCall, caller_of, acting}
-use Rattle.papaya_schedules.specs.Effects.{worked}
-use Rattle.papaya_schedules.specs.After.{moment, moments_from}
+use Rattle.papaya_schedules.specs.Entry.{Entry, IfCall}
+use Rattle.papaya_schedules.specs.Transition.{Transition, call_left, transition, worked_by}
 use Rattle.papaya_schedules.specs.Steps.{met_from}
 
 -- the reply was yes
@@ -86,6 +85,8 @@ module _ {K V : Type 0} (eq : K → K → Bool) (terms : Terms) where
   Sweeps _ c moments now _ = Unit {0}
 
   -- a call on a whole map does what it is for
+  abbrev pub SweepsRight : Transition K V → Type 0
+  SweepsRight t = IfCall (λ c. Sweeps c.call c (t.before.since c.begun) (worked_by t) t.outcome) (call_left t)
+
   abbrev pub IsSwept : List (Entry K V) → Entry K V → Type 0
-  IsSwept log e =
-      let w = worked e (moment log) in IfCall (λ c. Sweeps c.call c (moments_from c.begun log) w e.outcome) (acting (caller_of e.event) w)
+  IsSwept log e = SweepsRight (transition log e)
