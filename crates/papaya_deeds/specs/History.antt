@@ -31,7 +31,6 @@ module _ {K V : Type 0} where
   abbrev pub transition : List (Entry K V) → Entry K V → Transition K V
   transition log e =
       record {
-        before = past log;
         caller = caller_of e.deed;
         map = acted_on e.deed (at_work e (moment log));
         outcome = e.outcome;
@@ -47,11 +46,11 @@ module _ {K V : Type 0} where
 module _ {K V : Type 0} (eq : K → K → Bool) where
   -- it changes maps, answers and asks as the finite map says; one that is no step of a call changes none
   abbrev pub IsLinearizable : List (Entry K V) → Entry K V → Type 0
-  IsLinearizable log e = Linearizes eq (transition log e)
+  IsLinearizable log e = Linearizes eq (past log) (transition log e)
 
   -- what a sweep has shown, removed and left is right at its end
   abbrev pub IsSwept : Terms → List (Entry K V) → Entry K V → Type 0
-  IsSwept terms log e = SweepsRight eq terms (transition log e)
+  IsSwept terms log e = SweepsRight eq terms (past log) (transition log e)
 
 module _ {K V : Type 0} where
   -- whether a deed may have an effect
@@ -77,15 +76,15 @@ module _ {K V : Type 0} where
 
 module _ {K V : Type 0} (terms : Terms) where
   -- each effect finds what it must, the deed may have it, and what has to come of it does
-  pub record Moves (d : Deed K V) (t : Transition K V) : Type 0 where
-    pub finds : EachFinds terms t.caller t.map (gives_all d) t.before.since t.effects t.found
+  pub record Moves (log : Past K V) (d : Deed K V) (t : Transition K V) : Type 0 where
+    pub finds : EachFinds terms log t.caller t.map (gives_all d) t.effects t.found
     pub may : list_all (may_do d) t.effects ≡ true
     pub granted : is_granted false t.effects ≡ true
     pub whole : IsWhole d (worked_by t)
     pub leaves : IfCall (LeavesOf (comes_clear t.outcome) t.outcome) (call_left t)
 
   abbrev pub MovesOn : List (Entry K V) → Entry K V → Type 0
-  MovesOn log e = Moves e.deed (transition log e)
+  MovesOn log e = Moves (past log) e.deed (transition log e)
 
 module _ {K V : Type 0} where
   -- what a caller was answered, to which call, the newest first

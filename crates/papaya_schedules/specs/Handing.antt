@@ -18,7 +18,8 @@ use Rattle.papaya_schedules.specs.Views.{number_of, size_of, chain_of, tables_of
 use Rattle.papaya_schedules.specs.Entry.{Entry, IfCall, caller_of, acting, acted_on, ends_call}
 use Rattle.papaya_schedules.specs.Beginning.{at_work}
 use Rattle.papaya_schedules.specs.Effects.{worked, AtEachEffect}
-use Rattle.papaya_schedules.specs.After.{moment, moments_from, tables_taken}
+use Rattle.papaya_schedules.specs.After.{moment, tables_taken}
+use Rattle.papaya_schedules.specs.Transition.{Past, past}
 use Rattle.papaya_schedules.specs.Lives.{Finds}
 use Rattle.papaya_schedules.specs.InTurn.{is_growth}
 
@@ -164,21 +165,21 @@ module _ {K V : Type 0} where
   LeavesOf false outcome c = Unit {0}
 
 module _ {K V : Type 0} (terms : Terms) where
-  -- at which moments a call has been, by those since so many entries had come
-  abbrev pub moments_since : (ℕ → List (Moment K V)) → Option (UnderWay K V) → List (Moment K V)
-  moments_since since None = []
-  moments_since since (Some c) = since c.begun
+  -- at which moments a call has been
+  abbrev pub moments_since : Past K V → Option (UnderWay K V) → List (Moment K V)
+  moments_since log None = []
+  moments_since log (Some c) = log.since c.begun
 
   -- these effects find what they must, from this moment on
-  abbrev pub EachFinds : Option (List ℕ) → Option ℕ → Bool → (ℕ → List (Moment K V)) → List Effect → Moment K V → Type 0
-  EachFinds caller map everything since effects b = AtEachEffect (Finds terms caller map everything (moments_since since (acting caller b))) caller map effects b
+  abbrev pub EachFinds : Past K V → Option (List ℕ) → Option ℕ → Bool → List Effect → Moment K V → Type 0
+  EachFinds log caller map everything effects b = AtEachEffect (Finds terms caller map everything (moments_since log (acting caller b))) caller map effects b
 
-  -- at which moments the call of an event has been
+  -- of an event
   abbrev pub moments_of : List (Entry K V) → Option (UnderWay K V) → List (Moment K V)
-  moments_of log call = moments_since (λ n. moments_from n log) call
+  moments_of log call = moments_since (past log) call
 
   abbrev pub AllFind : List (Entry K V) → Entry K V → Moment K V → Type 0
-  AllFind log e b = EachFinds (caller_of e.event) (acted_on e.event b) (gives_all e.event) (λ n. moments_from n log) e.effects b
+  AllFind log e b = EachFinds (past log) (caller_of e.event) (acted_on e.event b) (gives_all e.event) e.effects b
 
   -- each effect finds what it must, the event may have it, and what has to come of an event does
   pub record MovesOn (log : List (Entry K V)) (e : Entry K V) : Type 0 where

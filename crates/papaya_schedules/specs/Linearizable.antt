@@ -16,7 +16,7 @@ use Rattle.papaya_schedules.specs.Sequential.{Meaning, Answers, Refuses, Wants, 
 use Rattle.papaya_schedules.specs.Moment.{Stands, Asking, UnderWay, Moment}
 use Rattle.papaya_schedules.specs.Views.{finite_map, is_in_map, reply_to}
 use Rattle.papaya_schedules.specs.Entry.{Entry}
-use Rattle.papaya_schedules.specs.Transition.{Transition, call_found, call_left, transition}
+use Rattle.papaya_schedules.specs.Transition.{Past, Transition, call_found, call_left, past, transition}
 
 -- how an effect changes a finite map
 abbrev pub shift_of : Effect → List Shift
@@ -88,25 +88,25 @@ module _ {K V : Type 0} (eq : K → K → Bool) where
   AsksRight _ c moments _ = Unit {0}
 
   -- the call before and after the effects of its entry
-  pub record IsRight (t : Transition K V) (before c : UnderWay K V) : Type 0 where
+  pub record IsRight (log : Past K V) (t : Transition K V) (before c : UnderWay K V) : Type 0 where
     pub changes : Changes before.call before t.found (flat_map shift_of t.effects)
-    pub ends : Ends c.call c (t.before.since c.begun) t.outcome
-    pub asks : AsksRight c.stands c (t.before.since c.begun) t.outcome
+    pub ends : Ends c.call c (log.since c.begun) t.outcome
+    pub asks : AsksRight c.stands c (log.since c.begun) t.outcome
 
-  abbrev pub IsRightOf : Transition K V → Option (UnderWay K V) → Option (UnderWay K V) → Type 0
-  IsRightOf t (Some before) (Some c) = IsRight t before c
-  IsRightOf t _ _ = flat_map shift_of t.effects ≡ []
+  abbrev pub IsRightOf : Past K V → Transition K V → Option (UnderWay K V) → Option (UnderWay K V) → Type 0
+  IsRightOf log t (Some before) (Some c) = IsRight log t before c
+  IsRightOf log t _ _ = flat_map shift_of t.effects ≡ []
 
   -- it changes maps, answers and asks as the finite map says; where it is no step of a call it changes none
-  abbrev pub Linearizes : Transition K V → Type 0
-  Linearizes t = IsRightOf t (call_found t) (call_left t)
+  abbrev pub Linearizes : Past K V → Transition K V → Type 0
+  Linearizes log t = IsRightOf log t (call_found t) (call_left t)
 
-  -- of an entry of a log
+  -- of an event
   abbrev pub ActsRight : List (Entry K V) → Entry K V → UnderWay K V → UnderWay K V → Type 0
-  ActsRight log e before c = IsRight (transition log e) before c
+  ActsRight log e before c = IsRight (past log) (transition log e) before c
 
   abbrev pub ActsOf : List (Entry K V) → Entry K V → Option (UnderWay K V) → Option (UnderWay K V) → Type 0
-  ActsOf log e before c = IsRightOf (transition log e) before c
+  ActsOf log e before c = IsRightOf (past log) (transition log e) before c
 
   abbrev pub IsLinearizable : List (Entry K V) → Entry K V → Type 0
-  IsLinearizable log e = Linearizes (transition log e)
+  IsLinearizable log e = Linearizes (past log) (transition log e)

@@ -17,7 +17,7 @@ use Rattle.papaya_schedules.specs.Counts.{Counts}
 use Rattle.papaya_schedules.specs.Moment.{UnderWay, TableThere, Moment}
 use Rattle.papaya_schedules.specs.Views.{finite_map, is_in_map, reply_to, first_of}
 use Rattle.papaya_schedules.specs.Entry.{Entry, IfCall}
-use Rattle.papaya_schedules.specs.Transition.{Transition, call_left, transition, worked_by}
+use Rattle.papaya_schedules.specs.Transition.{Past, Transition, call_left, past, transition, worked_by}
 use Rattle.papaya_schedules.specs.Steps.{met_from}
 
 -- the reply was yes
@@ -85,8 +85,8 @@ module _ {K V : Type 0} (eq : K → K → Bool) (terms : Terms) where
   Sweeps _ c moments now _ = Unit {0}
 
   -- a call on a whole map does what it is for
-  abbrev pub SweepsRight : Transition K V → Type 0
-  SweepsRight t = IfCall (λ c. Sweeps c.call c (t.before.since c.begun) (worked_by t) t.outcome) (call_left t)
+  abbrev pub SweepsRight : Past K V → Transition K V → Type 0
+  SweepsRight log t = IfCall (λ c. Sweeps c.call c (log.since c.begun) (worked_by t) t.outcome) (call_left t)
 
   abbrev pub IsSwept : List (Entry K V) → Entry K V → Type 0
-  IsSwept log e = SweepsRight (transition log e)
+  IsSwept log e = SweepsRight (past log) (transition log e)

@@ -1,6 +1,6 @@
 -- What an entry of a history does, whoever tells of it: whose call takes steps, what that comes to, which effects it has, and from which moment to which. Whether it is
--- linearizable, does what a sweep is for, and protects what sections hold is a matter of these alone.
-use Rattle.std.specs.Prelude.{ℕ, List, length, Option}
+-- linearizable, does what a sweep is for, and protects what sections hold is a matter of this and of what has been before it.
+use Rattle.std.specs.Prelude.{ℕ, nat_lt, suc, List, [], ◌∷◌, length, Option, if◌then◌else◌}
 use Rattle.papaya_schedules.specs.declared.effect.Effect.{Effect}
 use Rattle.papaya_schedules.specs.declared.outcome.Outcome.{Outcome}
 use Rattle.papaya_schedules.specs.Moment.{Moment, UnderWay}
@@ -16,7 +16,6 @@ pub record Past (K V : Type 0) : Type 0 where
   pub since : ℕ → List (Moment K V)  -- the moments since so many had come, the newest first
 
 pub record Transition (K V : Type 0) : Type 0 where
-  pub before : Past K V
   pub caller : Option (List ℕ)  -- whose call takes steps
   pub map : Option ℕ  -- the map on which it acts
   pub outcome : Outcome V
@@ -25,6 +24,11 @@ pub record Transition (K V : Type 0) : Type 0 where
   pub left : Moment K V  -- the moment after it
 
 module _ {K V : Type 0} where
+  -- one entry more, with the moment after it
+  abbrev pub further : Moment K V → Past K V → Past K V
+  further m log =
+      record { entries = suc log.entries; now = m; since = λ begun. if nat_lt (suc log.entries) begun then [] else m ∷ log.since begun }
+
   -- the moment at which its effects are there
   abbrev pub worked_by : Transition K V → Moment K V
   worked_by t = with_effects t.caller t.map t.effects t.found
@@ -44,7 +48,6 @@ module _ {K V : Type 0} where
   abbrev pub transition : List (Entry K V) → Entry K V → Transition K V
   transition log e =
       record {
-        before = past log;
         caller = caller_of e.event;
         map = acted_on e.event (at_work e (moment log));
         outcome = e.outcome;
