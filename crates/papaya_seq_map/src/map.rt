@@ -5,7 +5,7 @@ ghost use Rattle.papaya_shown.specs.Chain.{CountsTables, counts_tables_prop, roo
 
 use papaya_resting::Last;
 use papaya_tables::{Node, Setting};
-use seize_receivers::Drops;
+use seize_receivers::{Drops, Receiver};
 use seize_words::Plain;
 use std::hash::{BuildHasher, BuildHasherDefault, FoldHasher, Hash};
 use std::marker::{Model, PhantomData};
@@ -31,14 +31,19 @@ pub(crate) struct Resting<K, V> {
 /// A contract sees its pairs, its hasher, these two pairs, what the memory holds, the pairs that were stored and not given back, and how many places its
 /// tables have. The pairs are in the order in which a walk shows them; a change may put them in any other order.
 #[derive(Drop)]
-pub struct HashMap<K: Eq + Hash, V, S: BuildHasher = BuildHasherDefault<FoldHasher>, R = Drops> {
+pub struct HashMap<
+    K: Eq + Hash,
+    V,
+    S: BuildHasher = BuildHasherDefault<FoldHasher>,
+    R: Receiver<(K, V)> = Drops,
+> {
     pub(crate) resting: Resting<K, V>,
     pub(crate) hasher: S,
     /// What gets the pairs that are reclaimed. There is one such type, and no call takes a value of it.
     pub(crate) receiver: PhantomData<R>,
 }
 
-impl<K: Eq + Hash, V, S: BuildHasher, R> Model for HashMap<K, V, S, R> {
+impl<K: Eq + Hash, V, S: BuildHasher, R: Receiver<(K, V)>> Model for HashMap<K, V, S, R> {
     ghost use Rattle.std.specs.Prelude.{List};
     ghost use Rattle.papaya_resting.specs.Given.{held_in, Holds, hashed_by};
     ghost use Rattle.papaya_resting.specs.Lasts.{pair_in};
