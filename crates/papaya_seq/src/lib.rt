@@ -9,6 +9,6 @@ pub use json::{FromJson, ToJson};
 pub use papaya_forms::{JsonFault, JsonForm, JsonKey, Text};
 pub use papaya_seq_map::{
     Aborted, Compute, Drops, Equivalent, Fault, HashMap, Keys, OccupiedError, Operation, Pairs,
-    Present, Refused, RefusedKey, Removed, Replaced, Updated, Values, law,
+    Present, Receiver, Refused, RefusedKey, Removed, Replaced, Updated, Values, law,
 };
 pub use set::HashSet;
