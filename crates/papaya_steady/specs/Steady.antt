@@ -30,18 +30,18 @@ HasOneTable setting m = (tables : CountsTables m (root_link m setting)) × (tabl
 abbrev pub OnlyRemoves : Kind → Type 0
 OnlyRemoves kind = (kind ≡ kinds.removes) ⊎ (kind ≡ removes_if)
 
--- Such a call is done, where the map had one table at most as it began.
+-- Such a call is done, where the map had one table at most as it began, and wherever it stops, that is so.
 abbrev pub RemovalsAreSteady : (K V Q S : Type 0) → Type 0
 RemovalsAreSteady K V Q S =
     (asks : Q → K → Bool) (same : K → K → Bool) (hashes : S → K → ℕ) (b : Bor S) (setting : Setting) (m0 : Mem (Node K V)) (xs : List (K × V)) → Holds same (hashes b.now) setting m0 xs → HasOneTable setting m0
     → (keys : K → Bool) (given : Given K V) → OnlyRemoves (kind_of given)
-    → (m : Mem (Node K V)) (result : Result Stop Fault) → HasStopped asks same hashes b setting m0 keys given m result → IsOk result
+    → (m : Mem (Node K V)) (result : Result Stop Fault) → HasStopped asks same hashes b setting m0 keys given m result → IsOk result × HasOneTable setting m
 
 -- So is a sweep that removes pairs,
 abbrev pub SweepsAreSteady : (K V S : Type 0) → Type 0
 SweepsAreSteady K V S =
     (same : K → K → Bool) (hashes : S → K → ℕ) (b : Bor S) (setting : Setting) (m0 : Mem (Node K V)) (xs : List (K × V)) → Holds same (hashes b.now) setting m0 xs → HasOneTable setting m0
-    → (purpose : Purpose) → removes purpose ≡ true → (m : Mem (Node K V)) (result : Result Unit Fault) → HasSwept hashes b setting purpose m0 m result → IsOk result
+    → (purpose : Purpose) → removes purpose ≡ true → (m : Mem (Node K V)) (result : Result Unit Fault) → HasSwept hashes b setting purpose m0 m result → IsOk result × HasOneTable setting m
 
 -- and a refresh leaves the map with one table at most.
 abbrev pub RefreshesKeepOneTable : (K V : Type 0) → Type 0

@@ -3,7 +3,7 @@ ghost use Rattle.papaya_steady.specs.Steady.{RefreshesKeepOneTable, RemovalsAreS
 
 /// A change that stores nothing asks for no memory of its own: it is refused only where a table is behind the first one of its map, so that it has to see pairs
 /// copied. So while a map has one table at most, a removal, of whatever is at a key, or of what a test says, and a sweep that removes all pairs, or some, are
-/// done. The refresh of the section before them leaves the map with one table at most.
+/// done, and it has one table at most then. So it has after the refresh of the section that comes before them.
 pub fn removals_are_steady<K, V, Q, S>()
     ensures calls { RemovalsAreSteady K V Q S }
     ensures sweeps { SweepsAreSteady K V S }

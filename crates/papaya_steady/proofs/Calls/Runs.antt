@@ -37,7 +37,7 @@ use Rattle.papaya_sifts.specs.Given.Owned.Owned.{Holds}
 use Rattle.papaya_sifts.specs.Given.Owned.declared.machines.OnKey.{OnKey}
 use Rattle.papaya_sifts.specs.Given.Owned.declared.machines.Stop.{Stop}
 use Rattle.papaya_sifts.specs.Given.Owned.declared.machines.Stop.TheVariants as stop
-use Rattle.papaya_steady.proofs.Ends.{EndsAt, ends_at, root}
+use Rattle.papaya_steady.proofs.Ends.{EndsAt, ends_at, root, shows_one}
 use Rattle.papaya_steady.proofs.Calls.Kept.{call_keeps}
 use Rattle.papaya_steady.proofs.Calls.Points.{IsSteady, So, comes_steady, told_steady}
 use Rattle.papaya_steady.specs.Steady.{HasOneTable, OnlyRemoves, RemovalsAreSteady}
@@ -86,7 +86,7 @@ module _ {K V Q S : Type 0} (asks : Q → K → Bool) (same : K → K → Bool) 
   abbrev Next : OnKey K V Q S → Mem (Node K V) → Progress Stop → Type 0
   Next x m progress.Goes = Under x m
   Next x m progress.Waits = ⊥
-  Next x m (progress.Done (stop.Answered answer)) = Unit {0}
+  Next x m (progress.Done (stop.Answered answer)) = EndsAt setting link m
   Next x m (progress.Done (stop.Asks about)) = AsksAt x m
   Next x m (progress.Refused fault) = ⊥
 
@@ -96,6 +96,9 @@ module _ {K V Q S : Type 0} (asks : Q → K → Bool) (same : K → K → Bool) 
 
     led : StepLeads same hash asks setting slot_of here.w here.c here.blocks u m2 p2 told
     led = (calls_go_on_alone same hash asks setting slot_of h.lawful h.initial here.w here.c here.blocks here.sights u here.alone).1 m2 p2 told there
+
+    linked_then : EndsAt setting link m2
+    linked_then = call_keeps same hash asks setting slot_of h.lawful h.initial here.w here.c here.blocks here.sights u here.alone link (subst (EndsAt setting link) (sym here.memory) here.linked) here.steady.1 m2 p2 told there
 
     steady_then : So setting link (p2, told)
     steady_then = comes_steady setting link asks same hash m m2 here.linked u.call here.steady (p2, told) s
@@ -115,7 +118,7 @@ module _ {K V Q S : Type 0} (asks : Q → K → Bool) (same : K → K → Bool) 
         sights = led.sights2;
         alone = alone;
         memory = led.memory;
-        linked = call_keeps same hash asks setting slot_of h.lawful h.initial here.w here.c here.blocks here.sights u here.alone link (subst (EndsAt setting link) (sym here.memory) here.linked) here.steady.1 m2 p2 told there;
+        linked = linked_then;
         steady = steady_then.0;
       };
     }
@@ -129,7 +132,7 @@ module _ {K V Q S : Type 0} (asks : Q → K → Bool) (same : K → K → Bool) 
   next_by u unstored m here m2 p2 (called.Unstored value) s = under_of u m here m2 p2 (called.Unstored value) s (Some value) (led u m here m2 p2 (called.Unstored value) s).leads
   next_by u unstored m here m2 p2 (called.Asks about) s =
       let l = (led u m here m2 p2 (called.Asks about) s).leads in record { under = under_of u m here m2 p2 (called.Asks about) s unstored l.0; asks_at = l.1; stands = l.2 }
-  next_by u unstored m here m2 p2 (called.Done answer) s = tt
+  next_by u unstored m here m2 p2 (called.Done answer) s = linked_then u m here m2 p2 (called.Done answer) s
   next_by u unstored m here m2 p2 (called.Refused fault) s = (steady_then u m here m2 p2 (called.Refused fault) s).1
 
   next_of : (x : OnKey K V Q S) (m : Mem (Node K V)) (v : Under x m) (m2 : Mem (Node K V)) (x2 : OnKey K V Q S) (told : Progress Stop) → Steps Took value_at m (on_key_plan asks same hashes x) m2 (x2, told) → Next x2 m2 told
@@ -140,7 +143,7 @@ module _ {K V Q S : Type 0} (asks : Q → K → Bool) (same : K → K → Bool) 
 
   -- where it stops
   abbrev StopsAt : OnKey K V Q S → Mem (Node K V) → Result Stop Fault → Type 0
-  StopsAt x m (Ok (stop.Answered answer)) = Unit {0}
+  StopsAt x m (Ok (stop.Answered answer)) = EndsAt setting link m
   StopsAt x m (Ok (stop.Asks about)) = AsksAt x m
   StopsAt x m (Err fault) = ⊥
 
@@ -226,12 +229,13 @@ module _ {K V Q S : Type 0} (asks : Q → K → Bool) (same : K → K → Bool) 
   under_way keys given only _ _ (begun call is) = begins keys given call is only
   under_way keys given only _ _ (asked x m before x2 m2 about runs told) = told_on x2 m2 (stops_at x m (under_way keys given only x m before) x2 m2 (Ok (stop.Asks about)) runs) told
 
-  at_stop : (x : OnKey K V Q S) (m : Mem (Node K V)) (result : Result Stop Fault) → StopsAt x m result → IsOk result
-  at_stop x m (Ok end) s = refl
+  at_stop : (x : OnKey K V Q S) (m : Mem (Node K V)) (result : Result Stop Fault) → StopsAt x m result → IsOk result × HasOneTable setting m
+  at_stop x m (Ok (stop.Answered answer)) s = (refl, shows_one setting link m s)
+  at_stop x m (Ok (stop.Asks about)) s = (refl, shows_one setting link m s.under.course.linked)
   at_stop x m (Err fault) s = absurd s
 
   stays_steady : (keys : K → Bool) (given : Given K V) → OnlyRemoves (kind_of given) → (x : OnKey K V Q S) (m : Mem (Node K V)) → IsCalling asks same hashes b setting m0 keys given x m → (x2 : OnKey K V Q S) (m2 : Mem (Node K V))
-      (result : Result Stop Fault) → RunsTo (on_key_plan asks same hashes) x m x2 m2 result → IsOk result
+      (result : Result Stop Fault) → RunsTo (on_key_plan asks same hashes) x m x2 m2 result → IsOk result × HasOneTable setting m2
   stays_steady keys given only x m is x2 m2 result runs = at_stop x2 m2 result (stops_at x m (under_way keys given only x m is) x2 m2 result runs)
 
 pub removals_are_steady : (K V Q S : Type 0) → RemovalsAreSteady K V Q S

@@ -34,7 +34,7 @@ use Rattle.papaya_sifts.specs.Sweeping.{IsSweeping, begun, asked, over_pairs_aft
 use Rattle.papaya_sifts.specs.declared.sweeping.OverPairs.{OverPairs}
 use Rattle.papaya_sifts.specs.declared.sweeping.Pause.{Pause}
 use Rattle.papaya_sifts.specs.declared.sweeping.Pause.TheVariants as pause
-use Rattle.papaya_steady.proofs.Ends.{EndsAt, ends_at, root}
+use Rattle.papaya_steady.proofs.Ends.{EndsAt, ends_at, root, shows_one}
 use Rattle.papaya_steady.proofs.Sweeps.Kept.{sweep_keeps}
 use Rattle.papaya_steady.proofs.Sweeps.Points.{IsSteady, So, comes_steady, told_steady}
 use Rattle.papaya_steady.specs.Steady.{HasOneTable, SweepsAreSteady}
@@ -78,7 +78,7 @@ module _ {K V S : Type 0} (same : K → K → Bool) (hashes : S → K → ℕ) (
   Next x m progress.Goes = Under x m
   Next x m progress.Waits = ⊥
   Next x m (progress.Done (pause.Asks word)) = Under x m × (x.sweep.stands ≡ at.Asks word)
-  Next x m (progress.Done _) = Unit {0}
+  Next x m (progress.Done _) = EndsAt setting link m
   Next x m (progress.Refused fault) = ⊥
 
   module _ (o : CallOverAll) (m : Mem (Node K V)) (here : Course o m) (m2 : Mem (Node K V)) (p2 : Sweep) (end : Swept (Node K V)) (s : Steps Took value_at m (sweep_plan hash o.sweep) m2 (p2, end)) where
@@ -87,6 +87,10 @@ module _ {K V S : Type 0} (same : K → K → Bool) (hashes : S → K → ℕ) (
 
     led : SweepStepLeads {Q = K} same hash same setting slot_of here.w here.c here.blocks o m2 p2 end
     led = (sweeps_go_on_alone {Q = K} same hash same setting slot_of h.lawful h.initial here.w here.c here.blocks here.sights o here.alone).1 m2 p2 end there
+
+    linked_then : EndsAt setting link m2
+    linked_then =
+        sweep_keeps {Q = K} same hash same setting slot_of h.lawful h.initial here.w here.c here.blocks here.sights o here.alone link (subst (EndsAt setting link) (sym here.memory) here.linked) here.steady.1 m2 p2 end there
 
     steady_then : So setting link (p2, end)
     steady_then = comes_steady setting link hash m m2 here.linked o.sweep here.steady (p2, end) s
@@ -105,7 +109,7 @@ module _ {K V S : Type 0} (same : K → K → Bool) (hashes : S → K → ℕ) (
         sights = led.sights2;
         alone = alone;
         memory = led.memory;
-        linked = sweep_keeps {Q = K} same hash same setting slot_of h.lawful h.initial here.w here.c here.blocks here.sights o here.alone link (subst (EndsAt setting link) (sym here.memory) here.linked) here.steady.1 m2 p2 end there;
+        linked = linked_then;
         steady = steady_then.0;
       };
     }
@@ -115,10 +119,10 @@ module _ {K V S : Type 0} (same : K → K → Bool) (hashes : S → K → ℕ) (
   next_by o m here m2 p2 swept.Goes s = under_of o m here m2 p2 swept.Goes s (led o m here m2 p2 swept.Goes s).leads
   next_by o m here m2 p2 swept.Waits s = absurd ((led o m here m2 p2 swept.Waits s).leads)
   next_by o m here m2 p2 (swept.Gave value) s = under_of o m here m2 p2 (swept.Gave value) s (led o m here m2 p2 (swept.Gave value) s).leads.0
-  next_by o m here m2 p2 swept.Ready s = tt
-  next_by o m here m2 p2 (swept.Pair word) s = tt
+  next_by o m here m2 p2 swept.Ready s = linked_then o m here m2 p2 swept.Ready s
+  next_by o m here m2 p2 (swept.Pair word) s = linked_then o m here m2 p2 (swept.Pair word) s
   next_by o m here m2 p2 (swept.Asks word) s = let l = led o m here m2 p2 (swept.Asks word) s in (under_of o m here m2 p2 (swept.Asks word) s l.leads.0, l.leads.1)
-  next_by o m here m2 p2 swept.Done s = tt
+  next_by o m here m2 p2 swept.Done s = linked_then o m here m2 p2 swept.Done s
   next_by o m here m2 p2 (swept.Refused fault) s = (steady_then o m here m2 p2 (swept.Refused fault) s).1
 
   next_of : (x : OverPairs S) (m : Mem (Node K V)) (u : Under x m) (m2 : Mem (Node K V)) (x2 : OverPairs S) (told : Progress Pause) → Steps Took value_at m (over_pairs_plan {K = K} {V = V} hashes x) m2 (x2, told) → Next x2 m2 told
@@ -130,7 +134,7 @@ module _ {K V S : Type 0} (same : K → K → Bool) (hashes : S → K → ℕ) (
   -- where it stops
   abbrev StopsAt : OverPairs S → Mem (Node K V) → Result Pause Fault → Type 0
   StopsAt x m (Ok (pause.Asks word)) = Under x m × (x.sweep.stands ≡ at.Asks word)
-  StopsAt x m (Ok _) = Unit {0}
+  StopsAt x m (Ok _) = EndsAt setting link m
   StopsAt x m (Err fault) = ⊥
 
   stopped : (x : OverPairs S) (m : Mem (Node K V)) (told : Progress Pause) (result : Result Pause Fault) → Next x m told → Tells told result → StopsAt x m result
@@ -202,14 +206,17 @@ module _ {K V S : Type 0} (same : K → K → Bool) (hashes : S → K → ℕ) (
   under_way purpose removing _ _ (asked x m before x2 m2 word runs keeps) =
       let k = stops_at x m (under_way purpose removing x m before) x2 m2 (Ok (pause.Asks word)) runs in told_on x2 m2 k.0 word k.1 keeps
 
-  at_stop : (x : OverPairs S) (m : Mem (Node K V)) (result : Result Pause Fault) → StopsAt x m result → IsOk (swept_by result)
-  at_stop x m (Ok end) s = refl
+  at_stop : (x : OverPairs S) (m : Mem (Node K V)) (result : Result Pause Fault) → StopsAt x m result → IsOk (swept_by result) × HasOneTable setting m
+  at_stop x m (Ok (pause.Asks word)) s = (refl, shows_one setting link m s.0.course.linked)
+  at_stop x m (Ok pause.Ended) s = (refl, shows_one setting link m s)
+  at_stop x m (Ok pause.Ready) s = (refl, shows_one setting link m s)
+  at_stop x m (Ok (pause.Shows word)) s = (refl, shows_one setting link m s)
   at_stop x m (Err fault) s = absurd s
 
   stays_steady : (purpose : Purpose) → removes purpose ≡ true → (x : OverPairs S) (m : Mem (Node K V)) → IsSweeping hashes b setting purpose m0 x m → (x2 : OverPairs S) (m2 : Mem (Node K V)) (result : Result Pause Fault)
-      → RunsTo (over_pairs_plan {K = K} {V = V} hashes) x m x2 m2 result → IsOk (swept_by result)
+      → RunsTo (over_pairs_plan {K = K} {V = V} hashes) x m x2 m2 result → IsOk (swept_by result) × HasOneTable setting m2
   stays_steady purpose removing x m is x2 m2 result runs = at_stop x2 m2 result (stops_at x m (under_way purpose removing x m is) x2 m2 result runs)
 
 pub sweeps_are_steady : (K V S : Type 0) → SweepsAreSteady K V S
 sweeps_are_steady K V S same hashes b setting m0 xs h one purpose removing m result ran =
-    subst (λ (r : Result Unit Fault). IsOk r) (sym ran.6) (stays_steady same hashes b setting m0 xs h one purpose removing ran.0 ran.1 ran.2 ran.3 m ran.4 ran.5)
+    subst (λ (r : Result Unit Fault). IsOk r × HasOneTable setting m) (sym ran.6) (stays_steady same hashes b setting m0 xs h one purpose removing ran.0 ran.1 ran.2 ran.3 m ran.4 ran.5)
