@@ -9,6 +9,7 @@ use Rattle.papaya_sifts.specs.Given.SeizeWords.Word.{block_in}
 use Rattle.papaya_sifts.specs.Given.SeizeWords.declared.at.At.{At}
 use Rattle.papaya_sifts.specs.Given.SeizeWords.declared.at.At.TheVariants.{Root, Word}
 use Rattle.papaya_sifts.specs.Given.Seize.World.{World}
+use Rattle.papaya_sifts.specs.Given.Tables.Nodes.{table_seen}
 use Rattle.papaya_sifts.specs.Given.Tables.TablePlaces.{at_place}
 use Rattle.papaya_sifts.specs.Given.Tables.declared.node.Node.{Node}
 use Rattle.papaya_sifts.specs.Given.Tables.declared.node.Node.TheVariants as node
@@ -36,6 +37,12 @@ pub record EndsAt {T : Type 0} (setting : Setting) (link : ℕ) (m : Mem T) : Ty
   pub root : word_at m (Root setting.root) ≡ Some link
   pub last : link ≢ 0 → word_at m (Word (block_in link) NEXT) ≡ Some 0
 
+-- a table that was seen is that of its link
+pub seen_link : {K V : Type 0} (link : ℕ) (value : Node K V) → (table_seen link value).link ≡ link
+seen_link link (node.Pair key value) = refl
+seen_link link (node.Table len limit turn) = refl
+seen_link link node.Shards = refl
+
 -- so its words show
 pub shows_one : {K V : Type 0} (setting : Setting) (link : ℕ) (m : Mem (Node K V)) → EndsAt setting link m → HasOneTable setting m
 shows_one setting link m ends =
@@ -45,12 +52,9 @@ shows_one setting link m ends =
     ])
 
 module _ {K V : Type 0} (same : K → K → Bool) (hash : K → ℕ) (setting : Setting) (c : Chart K) (blocks : Blocks) where
-  abbrev pub root : ℕ
-  root = root_word hash c blocks
-
   module _ (w : World (Node K V)) (map : IsMapIn same hash setting w c blocks) where
     -- where the root leads to a table
-    module _ (some : root ≢ 0) where
+    module _ (some : root_word hash c blocks ≢ 0) where
       made : c.first < c.past
       made =
           map.map.rule.common.rooted (elim (cases_eq c.past 0) as (λ _. 0 < c.past) [
@@ -61,22 +65,22 @@ module _ {K V : Type 0} (same : K → K → Bool) (hash : K → ℕ) (setting : 
       past_some : eqb c.past 0 ≡ false
       past_some = ne_eqb c.past 0 (λ e. let m = made in omega (arith, m, e))
 
-      pub its_block : block_in root ≡ blocks.table c.first
+      pub its_block : block_in (root_word hash c blocks) ≡ blocks.table c.first
       its_block = ap (λ (b : Bool). block_in (cond b 0 (blocks.table c.first * 2048))) past_some ∙ block_of_link (blocks.table c.first)
 
-      pub its_value : value_at w.memory (block_in root) ≡ Some (node.Table (c.len c.first) (c.limit c.first) c.first)
+      pub its_value : value_at w.memory (block_in (root_word hash c blocks)) ≡ Some (node.Table (c.len c.first) (c.limit c.first) c.first)
       its_value = ap (value_at w.memory) its_block ∙ (map.map.shows.tables c.first made (map.map.shows.linked c.first (omega arith) made)).value
 
-      its_next : word_at w.memory (Word (block_in root) NEXT) ≡ Some (next_word hash c blocks c.first)
+      its_next : word_at w.memory (Word (block_in (root_word hash c blocks)) NEXT) ≡ Some (next_word hash c blocks c.first)
       its_next = ap (λ (b : ℕ). word_at w.memory (Word b NEXT)) its_block ∙ (map.map.shows.tables c.first made (map.map.shows.linked c.first (omega arith) made)).next
 
-    none_behind : root ≢ 0 → (tables : ℕ) → tables ≤ 1 → HasTables w.memory tables root → behind w.memory root ≡ 0
+    none_behind : root_word hash c blocks ≢ 0 → (tables : ℕ) → tables ≤ 1 → HasTables w.memory tables (root_word hash c blocks) → behind w.memory (root_word hash c blocks) ≡ 0
     none_behind some zero few has = absurd (some has)
     none_behind some (suc zero) few has = has.1
     none_behind some (suc (suc tables)) few has = absurd (omega (arith, few))
 
     -- where the words show one table at most
-    pub ends_at : HasOneTable setting w.memory → EndsAt setting root w.memory
+    pub ends_at : HasOneTable setting w.memory → EndsAt setting (root_word hash c blocks) w.memory
     ends_at one = record {
       root = map.map.shows.root_there;
       last = λ some.
@@ -85,7 +89,7 @@ module _ {K V : Type 0} (same : K → K → Bool) (hash : K → ℕ) (setting : 
           ∙ none_behind some one.0.0 one.1 (subst (HasTables w.memory one.0.0) (ap word_or_none map.map.shows.root_there) one.0.1) in its_next some ∙ ap (λ (n : ℕ). Some n) zero;
     }
 
-    pub same_root : (link : ℕ) → EndsAt setting link w.memory → link ≡ root
+    pub same_root : (link : ℕ) → EndsAt setting link w.memory → link ≡ root_word hash c blocks
     same_root link ends = let there = map.map.shows.root_there in let here = ends.root in cc (there, here)
 
     -- in another memory that has the same tables
@@ -94,7 +98,7 @@ module _ {K V : Type 0} (same : K → K → Bool) (hash : K → ℕ) (setting : 
         let is = same_root link ends in
         subst (λ (l : ℕ). EndsAt setting l w2.memory) (sym is) (record { root = map2.map.shows.root_there; last = λ some. next_then w2 map2 some ∙ subst (λ (l : ℕ). l ≢ 0 → word_at w.memory (Word (block_in l) NEXT) ≡ Some 0) is ends.last some })
       where
-        next_then : (w2 : World (Node K V)) → IsMapIn same hash setting w2 c blocks → (some : root ≢ 0) → word_at w2.memory (Word (block_in root) NEXT) ≡ word_at w.memory (Word (block_in root) NEXT)
+        next_then : (w2 : World (Node K V)) → IsMapIn same hash setting w2 c blocks → (some : root_word hash c blocks ≢ 0) → word_at w2.memory (Word (block_in (root_word hash c blocks)) NEXT) ≡ word_at w.memory (Word (block_in (root_word hash c blocks)) NEXT)
         next_then w2 map2 some =
             ap (λ (b : ℕ). word_at w2.memory (Word b NEXT)) (its_block some)
             ∙ (map2.map.shows.tables c.first (made some) (map2.map.shows.linked c.first (omega arith) (made some))).next ∙ sym (its_next some)
@@ -104,13 +108,13 @@ module _ {K V : Type 0} (same : K → K → Bool) (hash : K → ℕ) (setting : 
       pub no_shard : (shard : ℕ) → same_at (Word (block_in link) NEXT) (Word setting.counter shard) ≡ false
       no_shard shard = ap (λ (b : Bool). b && (NEXT == shard)) (ne_eqb (block_in link) setting.counter apart)
         where
-          is : link ≡ root
+          is : link ≡ root_word hash c blocks
           is = same_root link ends
 
           apart : block_in link ≢ setting.counter
           apart =
               subst (λ (l : ℕ). block_in l ≢ setting.counter) (sym is)
-              (values_apart w.memory (block_in root) setting.counter (node.Table (c.len c.first) (c.limit c.first) c.first) node.Shards (its_value (λ e. some (is ∙ e))) map.counter (λ e. cc e))
+              (values_apart w.memory (block_in (root_word hash c blocks)) setting.counter (node.Table (c.len c.first) (c.limit c.first) c.first) node.Shards (its_value (λ e. some (is ∙ e))) map.counter (λ e. cc e))
 
 -- it is none of a place
 module _ {K V : Type 0} (same : K → K → Bool) (hash : K → ℕ) (setting : Setting) (w : World (Node K V)) (c : Chart K) (blocks : Blocks) (map : IsMapIn same hash setting w c blocks) (link : ℕ) where

@@ -17,7 +17,7 @@ use Rattle.papaya_sifts.proofs.Given.SeizeRule.Rows.Others.{with_here}
 use Rattle.papaya_sifts.specs.Given.Tables.Nodes.{deferred_word}
 use Rattle.papaya_sifts.specs.Given.Tables.declared.node.Node.{Node}
 use Rattle.papaya_sifts.specs.Given.Tables.declared.setting.Setting.{Setting}
-use Rattle.papaya_sifts.specs.Given.Rule.Words.{Blocks}
+use Rattle.papaya_sifts.specs.Given.Rule.Words.{Blocks, root_word}
 use Rattle.papaya_sifts.specs.Given.Callers.Sights.{Sight}
 use Rattle.papaya_sifts.specs.Given.Callers.Together.{Together, AllStand}
 use Rattle.papaya_sifts.proofs.Given.Callers.Together.Guards.{guards_stand_together}
@@ -27,7 +27,7 @@ use Rattle.papaya_sifts.specs.Given.Owned.Machines.{refreshes_plan, refreshes_af
 use Rattle.papaya_sifts.specs.Given.Owned.Owned.{Holds}
 use Rattle.papaya_sifts.specs.Given.Owned.declared.machines.Refreshes.{Refreshes}
 use Rattle.papaya_sifts.proofs.Given.Owned.Owned.Refreshes.{begins_refreshing}
-use Rattle.papaya_steady.proofs.Ends.{EndsAt, ends_at, ends_on, root, shows_one}
+use Rattle.papaya_steady.proofs.Ends.{EndsAt, ends_at, ends_on, shows_one}
 use Rattle.papaya_steady.specs.Steady.{HasOneTable, RefreshesKeepOneTable}
 
 module _ {K V : Type 0} (same : K → K → Bool) (hash : K → ℕ) (setting : Setting) (m0 : Mem (Node K V)) (xs : List (K × V)) (h : Holds same hash setting m0 xs) where
@@ -111,7 +111,7 @@ module _ {K V : Type 0} (same : K → K → Bool) (hash : K → ℕ) (setting : 
       → RunsTo (refreshes_plan deferred_word) (record { leave = leaving setting.slot setting.batch_size ACTIVE false }) m0 x m result → HasOneTable setting m
   keeps_one one x m result runs =
       let b = begins_refreshing same hash setting m0 xs h in
-      let link = root same hash setting h.chart b.blocks in
+      let link = root_word hash h.chart b.blocks in
       shows_one setting link m (kept link _ m0 (record {
         w = b.w;
         blocks = b.blocks;

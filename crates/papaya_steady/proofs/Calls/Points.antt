@@ -5,9 +5,9 @@ use Rattle.std.proofs.Common.{refl, sym, subst, ap, ◌∙◌, inl, inr}
 use Rattle.std.proofs.lemmas.Bool.{cases_eq, ne_eqb}
 use Rattle.papaya_sifts.specs.Given.SeizeWords.Mem.{Mem, value_at, word_at, Took}
 use Rattle.papaya_sifts.specs.Given.SeizeWords.Op.{Out, Found, Stored, Exchanged, Made, Taken, Roomed}
-use Rattle.papaya_sifts.specs.Given.SeizeWords.Plan.{Steps}
+use Rattle.papaya_sifts.specs.Given.SeizeWords.Plan.{Now, Seeing, Steps}
 use Rattle.papaya_sifts.specs.Given.SeizeWords.Word.{block_in}
-use Rattle.papaya_sifts.specs.Given.SeizeWords.declared.at.At.TheVariants.{Root}
+use Rattle.papaya_sifts.specs.Given.SeizeWords.declared.at.At.TheVariants.{Root, Word}
 use Rattle.papaya_sifts.specs.Given.Seize.declared.rows.settle.Settled.{Settled}
 use Rattle.papaya_sifts.specs.Given.Seize.declared.rows.settle.Settled.TheVariants as settled
 use Rattle.papaya_sifts.specs.Given.Tables.Chunks.{is_incremental}
@@ -54,7 +54,7 @@ use Rattle.papaya_sifts.specs.Given.Raw.declared.machines.call.Calling.TheVarian
 use Rattle.papaya_sifts.specs.Given.Raw.declared.machines.call.KeyCall.{KeyCall}
 use Rattle.papaya_sifts.proofs.Given.Rule.Keys.Always.{Always, always_ends, always_if, always_plan_as, always_steps}
 use Rattle.papaya_sifts.proofs.Given.SeizeWords.OneOwner.Operations.{loaded}
-use Rattle.papaya_steady.proofs.Ends.{EndsAt}
+use Rattle.papaya_steady.proofs.Ends.{EndsAt, seen_link}
 
 -- It has no block of its own, and stores nothing where the key is missing. Where it is there, it removes the pair, or asks whether to.
 pub record Removing {K V : Type 0} (own : ℕ) (absent : Missing) (present : There) (replies : Replies K V) (its setting : Setting) : Type 0 where
@@ -70,6 +70,18 @@ pub record Removing {K V : Type 0} (own : ℕ) (absent : Missing) (present : The
 abbrev pub IsDone : {T : Type 0} → Called T → Type 0
 IsDone (called.Refused fault) = ⊥
 IsDone _ = Unit {0}
+
+-- the same table
+abbrev KeepsTable : Trial → Option Trial → Type 0
+KeepsTable trial None = Unit {0}
+KeepsTable trial (Some next) = next.table ≡ trial.table
+
+next_keeps : (trial : Trial) → KeepsTable trial (next_trial trial)
+next_keeps trial = by (nat_lt trial.probe.len trial.table.limit)
+  where
+    by : (b : Bool) → KeepsTable trial (if b then Some (record { table = trial.table; probe = probe_after trial.probe (trial.table.len - 1); met = trial.met; most = trial.most }) else None)
+    by true = refl
+    by false = tt
 
 module _ (setting : Setting) (link : ℕ) where
   -- the table is that of the root
@@ -101,23 +113,6 @@ module _ (setting : Setting) (link : ℕ) where
     either : (b : Bool) (x y : KeyCall K V Q × Called (Node K V)) → So x → So y → So (if b then x else y)
     either true x y f g = f
     either false x y f g = g
-
-    -- the same table
-    abbrev KeepsTable : Trial → Option Trial → Type 0
-    KeepsTable trial None = Unit {0}
-    KeepsTable trial (Some next) = next.table ≡ trial.table
-
-    next_keeps : (trial : Trial) → KeepsTable trial (next_trial trial)
-    next_keeps trial = by (nat_lt trial.probe.len trial.table.limit)
-      where
-        by : (b : Bool) → KeepsTable trial (if b then Some (record { table = trial.table; probe = probe_after trial.probe (trial.table.len - 1); met = trial.met; most = trial.most }) else None)
-        by true = refl
-        by false = tt
-
-    seen_link : (value : Node K V) → (table_seen link value).link ≡ link
-    seen_link (node.Pair key value) = refl
-    seen_link (node.Table len limit turn) = refl
-    seen_link node.Shards = refl
 
     -- where it goes on from a point
     module _ (p : KeyCall K V Q) (r : Removes p) where
@@ -187,7 +182,7 @@ module _ (setting : Setting) (link : ℕ) where
           by finds.There = pair_so p r t word
 
       module _ (asks : Q → K → Bool) (same : K → K → Bool) where
-        key_so : (from : Bool) (word : ℕ) (key : Option K) → Always So (key_read same from p word key)
+        key_so : (from : Bool) (word : ℕ) (key : Option K) → Always So (key_read asks same from p word key)
         key_so from word (Some key) = λ value. told_so from word _
         key_so from word None = λ own value. told_so from word _
 
@@ -209,33 +204,29 @@ module _ (setting : Setting) (link : ℕ) where
       stays : So (p, called.Goes)
       stays = (s0, tt)
 
+      root_is : (word : ℕ) → word_at m (Root p.setting.root) ≡ Some word → word ≡ link
+      root_is word here = let root = ap (λ (i : ℕ). word_at m (Root i)) r.root_is ∙ linked.root in cc (here, root)
+
+      root_so : Always So (root_read p link)
+      root_so = elim (cases_eq link 0) as (λ _. Always So (root_read p link)) [
+        | inl none ↦ subst (λ (n : ℕ). Always So (root_read p n)) (sym none) (tableless_so p r)
+        | inr some ↦ subst (λ (b : Bool). Always So (if b then Now (tableless p.missing p) else Seeing (block_in link) (λ (value : Node K V). Now (entering p (table_seen link value))))) (sym (ne_eqb link 0 some))
+            (λ value. ((r, (seen_link link value, some)), tt))
+      ]
+
       roots_so : Stepped at.Roots → So end
-      roots_so s = always_ends So (value_at m) (root_found p (Found d.0)) end read d.3
-        where
-          d = loaded m (root_found p) (Root p.setting.root) m2 end s
+      roots_so s =
+          let d = loaded m (root_found p) (Root p.setting.root) m2 end s in
+          always_ends So (value_at m) (root_found p (Found d.0)) end (subst (λ (n : ℕ). Always So (root_read p n)) (sym (root_is d.0 d.1)) root_so) d.3
 
-          is : d.0 ≡ link
-          is = let here = d.1 in let root = ap (λ (i : ℕ). word_at m (Root i)) r.root_is ∙ linked.root in cc (here, root)
-
-          by_link : Always So (root_read p link)
-          by_link = elim (cases_eq link 0) as (λ _. Always So (root_read p link)) [
-            | inl none ↦ subst (λ (n : ℕ). Always So (root_read p n)) (sym none) (tableless_so p r)
-            | inr some ↦ subst (λ (b : Bool). Always So (if b then _ else _)) (sym (ne_eqb link 0 some)) (λ value. ((r, (seen_link value, some)), tt))
-          ]
-
-          read : Always So (root_read p d.0)
-          read = subst (λ (n : ℕ). Always So (root_read p n)) (sym is) by_link
+      next_is : AtTable p.trial.table → (word : ℕ) → word_at m (at_word p.trial.table NEXT) ≡ Some word → word ≡ 0
+      next_is t word here =
+          let none : word_at m (at_word p.trial.table NEXT) ≡ Some 0 = subst (λ (l : ℕ). word_at m (Word (block_in l) NEXT) ≡ Some 0) (sym t.0) (linked.last t.1) in cc (here, none)
 
       nexts_so : AtTable p.trial.table → Stepped at.Nexts → So end
-      nexts_so t s = always_ends So (value_at m) (next_found p (Found d.0)) end (subst (λ (n : ℕ). Always So (next_read p n)) (sym zero) (last_so p r)) d.3
-        where
-          d = loaded m (next_found p) (at_word p.trial.table NEXT) m2 end s
-
-          zero : d.0 ≡ 0
-          zero =
-              let here = d.1 in
-              let none : word_at m (at_word p.trial.table NEXT) ≡ Some 0 = subst (λ (l : ℕ). word_at m (at_word (record { link = l; len = 0; limit = 0; turn = 0 }) NEXT) ≡ Some 0) (sym t.0) (linked.last t.1) in
-              cc (here, none)
+      nexts_so t s =
+          let d = loaded m (next_found p) (at_word p.trial.table NEXT) m2 end s in
+          always_ends So (value_at m) (next_found p (Found d.0)) end (subst (λ (n : ℕ). Always So (next_read p n)) (sym (next_is t d.0 d.1)) (last_so p r)) d.3
 
       word_so : AtTable p.trial.table → (out : Out (Node K V)) → Always So (word_found asks same p out)
       word_so t (Found word) = read_so p r t asks same true word

@@ -15,12 +15,15 @@ use Rattle.papaya_sifts.specs.Given.Raw.Call.{call_plan}
 use Rattle.papaya_sifts.specs.Given.Raw.CallAsks.{replied}
 use Rattle.papaya_sifts.specs.Given.Raw.declared.machines.answer.Called.{Called}
 use Rattle.papaya_sifts.specs.Given.Raw.declared.machines.answer.Called.TheVariants as called
+use Rattle.papaya_sifts.specs.Given.Raw.declared.machines.answer.There.TheVariants as there
 use Rattle.papaya_sifts.specs.Given.Raw.declared.machines.asking.Asking.{Asking}
 use Rattle.papaya_sifts.specs.Given.Raw.declared.machines.asking.Reply.{Reply}
+use Rattle.papaya_sifts.specs.Given.Raw.declared.machines.asking.Takes.TheVariants as takes
 use Rattle.papaya_sifts.specs.Given.Raw.declared.machines.call.Calling.TheVariants as at
 use Rattle.papaya_sifts.specs.Given.Raw.declared.machines.call.KeyCall.{KeyCall}
 use Rattle.papaya_sifts.specs.Given.Rule.Chart.{Chart}
-use Rattle.papaya_sifts.specs.Given.Rule.Words.{Blocks}
+use Rattle.papaya_sifts.specs.Given.Rule.Words.{Blocks, root_word}
+use Rattle.papaya_sifts.specs.Given.Callers.Kind.{Kind, computes, gets, inserts, tries_to_insert, tries_to_insert_with, updates, updates_or_inserts}
 use Rattle.papaya_sifts.specs.Given.Callers.Pairs.{Given, kind_of}
 use Rattle.papaya_sifts.specs.Given.Callers.Sights.{Sight}
 use Rattle.papaya_sifts.specs.Given.Callers.Together.{CallOnKey, OnKey as OnKeyOf, IsBegun, Gets, Removes, Inserts, TriesToInsert, Computes, Updates, UpdatesOrInserts, TriesToInsertWith, RemovesIf, begun_at, told_about}
@@ -37,7 +40,7 @@ use Rattle.papaya_sifts.specs.Given.Owned.Owned.{Holds}
 use Rattle.papaya_sifts.specs.Given.Owned.declared.machines.OnKey.{OnKey}
 use Rattle.papaya_sifts.specs.Given.Owned.declared.machines.Stop.{Stop}
 use Rattle.papaya_sifts.specs.Given.Owned.declared.machines.Stop.TheVariants as stop
-use Rattle.papaya_steady.proofs.Ends.{EndsAt, ends_at, root, shows_one}
+use Rattle.papaya_steady.proofs.Ends.{EndsAt, ends_at, shows_one}
 use Rattle.papaya_steady.proofs.Calls.Kept.{call_keeps}
 use Rattle.papaya_steady.proofs.Calls.Points.{IsSteady, So, comes_steady, told_steady}
 use Rattle.papaya_steady.specs.Steady.{HasOneTable, OnlyRemoves, RemovalsAreSteady}
@@ -58,7 +61,7 @@ module _ {K V Q S : Type 0} (asks : Q → K → Bool) (same : K → K → Bool) 
 
   -- where the root leads all the while
   abbrev link : ℕ
-  link = root same hash setting h.chart h.blocks
+  link = root_word hash h.chart h.blocks
 
   -- it is under way, alone, and at such a point
   record Course (u : CallOnKey K V Q) (m : Mem (Node K V)) : Type 0 where
@@ -91,14 +94,14 @@ module _ {K V Q S : Type 0} (asks : Q → K → Bool) (same : K → K → Bool) 
   Next x m (progress.Refused fault) = ⊥
 
   module _ (u : CallOnKey K V Q) (m : Mem (Node K V)) (here : Course u m) (m2 : Mem (Node K V)) (p2 : KeyCall K V Q) (told : Called (Node K V)) (s : Steps Took value_at m (call_plan asks same hash u.call) m2 (p2, told)) where
-    there : Steps Took value_at here.w.memory (call_plan asks same hash u.call) m2 (p2, told)
-    there = subst (λ (y : Mem (Node K V)). Steps Took value_at y (call_plan asks same hash u.call) m2 (p2, told)) (sym here.memory) s
+    from_here : Steps Took value_at here.w.memory (call_plan asks same hash u.call) m2 (p2, told)
+    from_here = subst (λ (y : Mem (Node K V)). Steps Took value_at y (call_plan asks same hash u.call) m2 (p2, told)) (sym here.memory) s
 
     led : StepLeads same hash asks setting slot_of here.w here.c here.blocks u m2 p2 told
-    led = (calls_go_on_alone same hash asks setting slot_of h.lawful h.initial here.w here.c here.blocks here.sights u here.alone).1 m2 p2 told there
+    led = (calls_go_on_alone same hash asks setting slot_of h.lawful h.initial here.w here.c here.blocks here.sights u here.alone).1 m2 p2 told from_here
 
     linked_then : EndsAt setting link m2
-    linked_then = call_keeps same hash asks setting slot_of h.lawful h.initial here.w here.c here.blocks here.sights u here.alone link (subst (EndsAt setting link) (sym here.memory) here.linked) here.steady.1 m2 p2 told there
+    linked_then = call_keeps same hash asks setting slot_of h.lawful h.initial here.w here.c here.blocks here.sights u here.alone link (subst (EndsAt setting link) (sym here.memory) here.linked) here.steady.1 m2 p2 told from_here
 
     steady_then : So setting link (p2, told)
     steady_then = comes_steady setting link asks same hash m m2 here.linked u.call here.steady (p2, told) s
@@ -170,19 +173,24 @@ module _ {K V Q S : Type 0} (asks : Q → K → Bool) (same : K → K → Bool) 
   stops_at x m v x2 m2 result (stops _ _ _ _ told _ s tells) = stopped x2 m2 told result (next_of x m v m2 x2 told s) tells
   stops_at x m v x2 m2 result (goes _ _ x1 m1 told on s _ _ _ runs) = stops_at x1 m1 (goes_on x1 m1 told on (next_of x m v m1 x1 told s)) x2 m2 result runs
 
+  -- what such a kind does where the key is there
+  presents : (kind : Kind) → OnlyRemoves kind → (kind.present ≡ there.Removes) ⊎ ((kind.present ≡ there.Asks) × (kind.takes ≡ takes.Choices))
+  presents kind (inl e) = inl (ap (λ (x : Kind). x.present) e)
+  presents kind (inr e) = inr (ap (λ (x : Kind). x.present) e, ap (λ (x : Kind). x.takes) e)
+
   -- A call that only removes begins so.
   steady_first : (keys : K → Bool) (given : Given K V) (call : KeyCall K V Q) → IsBegun V same hash asks setting slot_of 0 keys given call → OnlyRemoves (kind_of given) → IsSteady setting link call
   steady_first _ _ _ (Removes q code few class) only =
       (record { bare = refl; answers_none = refl; removes = inl refl; chooses = inl refl; untold = refl; bits = h.incremental; root_is = refl }, tt)
   steady_first _ _ _ (RemovesIf q code few class) only =
       (record { bare = refl; answers_none = refl; removes = inr refl; chooses = inr refl; untold = refl; bits = h.incremental; root_is = refl }, tt)
-  steady_first _ _ _ (Gets q code few class) only = absurd (elim only as (λ _. ⊥) [ inl e ↦ cc e | inr e ↦ cc e ])
-  steady_first _ _ _ (Inserts key value) only = absurd (elim only as (λ _. ⊥) [ inl e ↦ cc e | inr e ↦ cc e ])
-  steady_first _ _ _ (TriesToInsert key value) only = absurd (elim only as (λ _. ⊥) [ inl e ↦ cc e | inr e ↦ cc e ])
-  steady_first _ _ _ (Computes key) only = absurd (elim only as (λ _. ⊥) [ inl e ↦ cc e | inr e ↦ cc e ])
-  steady_first _ _ _ (Updates key) only = absurd (elim only as (λ _. ⊥) [ inl e ↦ cc e | inr e ↦ cc e ])
-  steady_first _ _ _ (UpdatesOrInserts key absent) only = absurd (elim only as (λ _. ⊥) [ inl e ↦ cc e | inr e ↦ cc e ])
-  steady_first _ _ _ (TriesToInsertWith key) only = absurd (elim only as (λ _. ⊥) [ inl e ↦ cc e | inr e ↦ cc e ])
+  steady_first _ _ _ (Gets q code few class) only = absurd (elim (presents gets only) as (λ _. ⊥) [ inl e ↦ cc e | inr e ↦ (let a = e.0 in let b = e.1 in cc (a, b)) ])
+  steady_first _ _ _ (Inserts key value) only = absurd (elim (presents inserts only) as (λ _. ⊥) [ inl e ↦ cc e | inr e ↦ (let a = e.0 in let b = e.1 in cc (a, b)) ])
+  steady_first _ _ _ (TriesToInsert key value) only = absurd (elim (presents tries_to_insert only) as (λ _. ⊥) [ inl e ↦ cc e | inr e ↦ (let a = e.0 in let b = e.1 in cc (a, b)) ])
+  steady_first _ _ _ (Computes key) only = absurd (elim (presents computes only) as (λ _. ⊥) [ inl e ↦ cc e | inr e ↦ (let a = e.0 in let b = e.1 in cc (a, b)) ])
+  steady_first _ _ _ (Updates key) only = absurd (elim (presents updates only) as (λ _. ⊥) [ inl e ↦ cc e | inr e ↦ (let a = e.0 in let b = e.1 in cc (a, b)) ])
+  steady_first _ _ _ (UpdatesOrInserts key absent) only = absurd (elim (presents updates_or_inserts only) as (λ _. ⊥) [ inl e ↦ cc e | inr e ↦ (let a = e.0 in let b = e.1 in cc (a, b)) ])
+  steady_first _ _ _ (TriesToInsertWith key) only = absurd (elim (presents tries_to_insert_with only) as (λ _. ⊥) [ inl e ↦ cc e | inr e ↦ (let a = e.0 in let b = e.1 in cc (a, b)) ])
 
   begins : (keys : K → Bool) (given : Given K V) (call : KeyCall K V Q) → IsBegun V same hash asks setting slot_of 0 keys given call → OnlyRemoves (kind_of given) → Under (it call None) m0
   begins keys given call is only = record {

@@ -5,9 +5,9 @@ use Rattle.std.proofs.Common.{refl, sym, subst, ap, ◌∙◌, inl, inr}
 use Rattle.std.proofs.lemmas.Bool.{cases_eq, ne_eqb}
 use Rattle.papaya_sifts.specs.Given.SeizeWords.Mem.{Mem, value_at, word_at, Took}
 use Rattle.papaya_sifts.specs.Given.SeizeWords.Op.{Out, Found, Stored, Exchanged, Made, Taken, Roomed}
-use Rattle.papaya_sifts.specs.Given.SeizeWords.Plan.{Steps}
+use Rattle.papaya_sifts.specs.Given.SeizeWords.Plan.{Now, Seeing, Steps}
 use Rattle.papaya_sifts.specs.Given.SeizeWords.Word.{block_in}
-use Rattle.papaya_sifts.specs.Given.SeizeWords.declared.at.At.TheVariants.{Root}
+use Rattle.papaya_sifts.specs.Given.SeizeWords.declared.at.At.TheVariants.{Root, Word}
 use Rattle.papaya_sifts.specs.Given.Seize.declared.rows.settle.Settled.{Settled}
 use Rattle.papaya_sifts.specs.Given.Seize.declared.rows.settle.Settled.TheVariants as settled
 use Rattle.papaya_sifts.specs.Given.Tables.Chunks.{is_incremental}
@@ -35,7 +35,7 @@ use Rattle.papaya_sifts.specs.Given.Sweeps.declared.sweep.Swept.{Swept}
 use Rattle.papaya_sifts.specs.Given.Sweeps.declared.sweep.Swept.TheVariants as swept
 use Rattle.papaya_sifts.proofs.Given.Rule.Keys.Always.{Always, always_ends, always_if, always_plan_as, always_steps}
 use Rattle.papaya_sifts.proofs.Given.SeizeWords.OneOwner.Operations.{loaded}
-use Rattle.papaya_steady.proofs.Ends.{EndsAt}
+use Rattle.papaya_steady.proofs.Ends.{EndsAt, seen_link}
 
 -- it removes pairs
 pub record Removing (purpose : Purpose) (its setting : Setting) : Type 0 where
@@ -71,10 +71,10 @@ module _ (setting : Setting) (link : ℕ) where
   abbrev pub IsSteady : Sweep → Type 0
   IsSteady p = Removes p × StandsSo p.table p.stands
 
-  module _ {T : Type 0} where
-    abbrev pub So : Sweep × Swept T → Type 0
-    So end = IsSteady end.0 × IsDone end.1
+  abbrev pub So : {T : Type 0} → Sweep × Swept T → Type 0
+  So end = IsSteady end.0 × IsDone end.1
 
+  module _ (T : Type 0) where
     tells_so : (table : Table) (stands : Sweeping) → StandsSo table stands → IsDone (points.told {T = T} stands)
     tells_so table at.Reads so = tt
     tells_so table at.Over so = tt
@@ -88,7 +88,7 @@ module _ (setting : Setting) (link : ℕ) where
     tells_so table (at.Copies copier) so = absurd so
     tells_so table (at.Refused fault) so = absurd so
 
-    telling_so : (p : Sweep) → IsSteady p → So (telling p)
+    telling_so : (p : Sweep) → IsSteady p → So (telling {T = T} p)
     telling_so p so = (so, tells_so p.table p.stands so.1)
 
     either : (b : Bool) (x y : Sweep × Swept T) → So x → So y → So (if b then x else y)
@@ -117,26 +117,26 @@ module _ (setting : Setting) (link : ℕ) where
       further_so =
           (r, stands_either (nat_lt (past p).place p.table.len) at.Words (at_end (past p)) t (stands_either (removes p.purpose && p.met) at.Follows at.Over t tt))
 
-      pair_so : {T : Type 0} (word : ℕ) → So {T = T} (at_pair p.purpose p word)
-      pair_so {T} word = by p.purpose r.removing
+      pair_so : (T : Type 0) (word : ℕ) → So {T = T} (at_pair p.purpose p word)
+      pair_so T word = by p.purpose r.removing
         where
           by : (purpose : Purpose) → removes purpose ≡ true → So {T = T} (at_pair purpose p word)
           by Walks e = absurd (cc e)
           by Clears e = ((r, t), tt)
           by Retains e = ((r, t), tt)
 
-  module _ {T : Type 0} (p : Sweep) (r : Removes p) (t : AtTable p.table) where
+  module _ (T : Type 0) (p : Sweep) (r : Removes p) (t : AtTable p.table) where
     seen_so : (word : ℕ) → So {T = T} (seen p word)
     seen_so word =
-        either (removes p.purpose && has_mark word COPYING) (telling (further (record p { met = true }))) _
-        (telling_so (further (record p { met = true })) (further_so (record p { met = true }) r t))
-        (either (block_in word == 0) (telling (further p)) (at_pair p.purpose p word) (telling_so (further p) (further_so p r t)) (pair_so p r t word))
+        either T (removes p.purpose && has_mark word COPYING) (telling (further (record p { met = true }))) _
+        (telling_so T (further (record p { met = true })) (further_so (record p { met = true }) r t))
+        (either T (block_in word == 0) (telling (further p)) (at_pair p.purpose p word) (telling_so T (further p) (further_so p r t)) (pair_so p r t T word))
 
     disposed_so : (e : Dispose × Settled T) → So (disposed p e)
     disposed_so (d, settled.Goes) = ((r, t), tt)
     disposed_so (d, settled.Waits) = ((r, t), tt)
     disposed_so (d, settled.Gave value) = ((r, t), tt)
-    disposed_so (d, settled.Done) = telling_so (further p) (further_so p r t)
+    disposed_so (d, settled.Done) = telling_so T (further p) (further_so p r t)
 
   -- where a step leads
   module _ {K V : Type 0} (hash : K → ℕ) (m m2 : Mem (Node K V)) (linked : EndsAt setting link m) (p : Sweep) (s0 : IsSteady p) (end : Sweep × Swept (Node K V)) where
@@ -146,46 +146,36 @@ module _ (setting : Setting) (link : ℕ) where
     r : Removes p
     r = s0.0
 
-    stays : So (p, swept.Goes {T = Node K V})
+    stays : So {T = Node K V} (p, swept.Goes)
     stays = (s0, tt)
 
-    seen_link : (value : Node K V) → (table_seen link value).link ≡ link
-    seen_link (node.Pair key value) = refl
-    seen_link (node.Table len limit turn) = refl
-    seen_link node.Shards = refl
+    root_is : (word : ℕ) → word_at m (Root p.setting.root) ≡ Some word → word ≡ link
+    root_is word here = let root = ap (λ (i : ℕ). word_at m (Root i)) r.root_is ∙ linked.root in cc (here, root)
+
+    root_so : Always (So {T = Node K V}) (root_read {K = K} {V = V} p (Found link))
+    root_so = elim (cases_eq link 0) as (λ _. Always (So {T = Node K V}) (root_read {K = K} {V = V} p (Found link))) [
+      | inl none ↦ subst (λ (n : ℕ). Always (So {T = Node K V}) (root_read {K = K} {V = V} p (Found n))) (sym none) (telling_so (Node K V) (tableless p) (tableless_so p r))
+      | inr some ↦ subst (λ (b : Bool). Always (So {T = Node K V}) (if b then Now (telling (tableless p)) else Seeing (block_in link) (λ (value : Node K V). Now (telling (entering p (table_seen link value)))))) (sym (ne_eqb link 0 some))
+          (λ value. telling_so (Node K V) (entering p (table_seen link value)) (entering_so p r (table_seen link value) (seen_link link value, some)))
+    ]
 
     reads_so : Stepped at.Reads → So end
-    reads_so s = always_ends So (value_at m) (root_read p (Found d.0)) end read d.3
-      where
-        d = loaded m (root_read p) (Root p.setting.root) m2 end s
+    reads_so s =
+        let d = loaded m (root_read p) (Root p.setting.root) m2 end s in
+        always_ends So (value_at m) (root_read p (Found d.0)) end (subst (λ (n : ℕ). Always (So {T = Node K V}) (root_read {K = K} {V = V} p (Found n))) (sym (root_is d.0 d.1)) root_so) d.3
 
-        is : d.0 ≡ link
-        is = let here = d.1 in let root = ap (λ (i : ℕ). word_at m (Root i)) r.root_is ∙ linked.root in cc (here, root)
-
-        by_link : Always So (root_read p (Found link))
-        by_link = elim (cases_eq link 0) as (λ _. Always So (root_read p (Found link))) [
-          | inl none ↦ subst (λ (n : ℕ). Always So (root_read p (Found n))) (sym none) (telling_so (tableless p) (tableless_so p r))
-          | inr some ↦ subst (λ (b : Bool). Always So (if b then _ else _)) (sym (ne_eqb link 0 some))
-              (λ value. telling_so (entering p (table_seen link value)) (entering_so p r (table_seen link value) (seen_link value, some)))
-        ]
-
-        read : Always So (root_read p (Found d.0))
-        read = subst (λ (n : ℕ). Always So (root_read p (Found n))) (sym is) by_link
+    next_is : AtTable p.table → (word : ℕ) → word_at m (at_word p.table NEXT) ≡ Some word → word ≡ 0
+    next_is t word here =
+        let none : word_at m (at_word p.table NEXT) ≡ Some 0 = subst (λ (l : ℕ). word_at m (Word (block_in l) NEXT) ≡ Some 0) (sym t.0) (linked.last t.1) in cc (here, none)
 
     follows_so : AtTable p.table → Stepped at.Follows → So end
     follows_so t s =
-        always_ends So (value_at m) (next_read p (Found d.0)) end (subst (λ (n : ℕ). Always So (next_read p (Found n))) (sym zero) (telling_so (beginning p) (beginning_so p r t))) d.3
-      where
-        d = loaded m (next_read p) (at_word p.table NEXT) m2 end s
-
-        zero : d.0 ≡ 0
-        zero =
-            let here = d.1 in
-            let none : word_at m (at_word p.table NEXT) ≡ Some 0 = subst (λ (l : ℕ). word_at m (at_word (record { link = l; len = 0; limit = 0; turn = 0 }) NEXT) ≡ Some 0) (sym t.0) (linked.last t.1) in
-            cc (here, none)
+        let d = loaded m (next_read p) (at_word p.table NEXT) m2 end s in
+        always_ends So (value_at m) (next_read p (Found d.0)) end
+        (subst (λ (n : ℕ). Always (So {T = Node K V}) (next_read {K = K} {V = V} p (Found n))) (sym (next_is t d.0 d.1)) (telling_so (Node K V) (beginning p) (beginning_so p r t))) d.3
 
     word_so : AtTable p.table → (out : Out (Node K V)) → Always So (word_found p out)
-    word_so t (Found word) = seen_so p r t word
+    word_so t (Found word) = seen_so (Node K V) p r t word
     word_so t Stored = stays
     word_so t (Exchanged e) = stays
     word_so t (Made e) = stays
@@ -194,7 +184,7 @@ module _ (setting : Setting) (link : ℕ) where
 
     tried_so : AtTable p.table → (word : ℕ) (out : Out (Node K V)) → Always So (tried p word out)
     tried_so t word (Exchanged (Ok found)) = ((r, t), tt)
-    tried_so t word (Exchanged (Err found)) = seen_so p r t found
+    tried_so t word (Exchanged (Err found)) = seen_so (Node K V) p r t found
     tried_so t word (Found found) = stays
     tried_so t word Stored = stays
     tried_so t word (Made e) = stays
@@ -210,7 +200,7 @@ module _ (setting : Setting) (link : ℕ) where
         by at.Words t st = always_steps So m m2 (words p) end (word_so t) st
         by (at.Tries word) t st = always_steps So m m2 (tries p word) end (tried_so t word) st
         by (at.Counts removed) t st = always_steps So m m2 (counts p removed) end (λ out. ((r, t), tt)) st
-        by (at.Disposes dispose) t st = always_steps So m m2 (sweeps.plan_at hash p (at.Disposes dispose)) end (always_plan_as So (disposed p) (disposed_so p r t) (dispose_plan dispose)) st
+        by (at.Disposes dispose) t st = always_steps So m m2 (sweeps.plan_at hash p (at.Disposes dispose)) end (always_plan_as So (disposed p) (disposed_so (Node K V) p r t) (dispose_plan dispose)) st
         by (at.Asks word) t st = always_steps So m m2 (sweeps.plan_at hash p (at.Asks word)) end (s0, tt) st
         by at.Over t st = always_steps So m m2 (sweeps.plan_at hash p at.Over) end (s0, tt) st
         by at.Ready t st = absurd t

@@ -19,7 +19,7 @@ use Rattle.papaya_sifts.specs.Given.Sweeps.declared.sweep.Sweeping.TheVariants a
 use Rattle.papaya_sifts.specs.Given.Sweeps.declared.sweep.Swept.{Swept}
 use Rattle.papaya_sifts.specs.Given.Sweeps.declared.sweep.Swept.TheVariants as swept
 use Rattle.papaya_sifts.specs.Given.Rule.Chart.{Chart}
-use Rattle.papaya_sifts.specs.Given.Rule.Words.{Blocks}
+use Rattle.papaya_sifts.specs.Given.Rule.Words.{Blocks, root_word}
 use Rattle.papaya_sifts.specs.Given.Callers.OverAll.{CallOverAll, begun_over_all, come_to, told_of}
 use Rattle.papaya_sifts.specs.Given.Callers.Sights.{Sight}
 use Rattle.papaya_sifts.specs.Given.Callers.Together.{OverAll, in_slot}
@@ -34,7 +34,7 @@ use Rattle.papaya_sifts.specs.Sweeping.{IsSweeping, begun, asked, over_pairs_aft
 use Rattle.papaya_sifts.specs.declared.sweeping.OverPairs.{OverPairs}
 use Rattle.papaya_sifts.specs.declared.sweeping.Pause.{Pause}
 use Rattle.papaya_sifts.specs.declared.sweeping.Pause.TheVariants as pause
-use Rattle.papaya_steady.proofs.Ends.{EndsAt, ends_at, root, shows_one}
+use Rattle.papaya_steady.proofs.Ends.{EndsAt, ends_at, shows_one}
 use Rattle.papaya_steady.proofs.Sweeps.Kept.{sweep_keeps}
 use Rattle.papaya_steady.proofs.Sweeps.Points.{IsSteady, So, comes_steady, told_steady}
 use Rattle.papaya_steady.specs.Steady.{HasOneTable, SweepsAreSteady}
@@ -55,7 +55,7 @@ module _ {K V S : Type 0} (same : K → K → Bool) (hashes : S → K → ℕ) (
 
   -- where the root leads all the while
   abbrev link : ℕ
-  link = root same hash setting h.chart h.blocks
+  link = root_word hash h.chart h.blocks
 
   -- it is under way, alone, and at such a point
   record Course (o : CallOverAll) (m : Mem (Node K V)) : Type 0 where
