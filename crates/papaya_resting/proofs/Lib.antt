@@ -8,5 +8,6 @@ pub mod Looks
 pub mod Makes
 mod Removals
 mod Reservations
+mod Steady
 mod Stores
 mod Straight

@@ -4,3 +4,4 @@ pub use Rattle.papaya_owned.specs.Owned.{Holds, found_by, hashed_by, left_by}
 pub use Rattle.papaya_owned.specs.Rooms.{AreTooMany, IsUnmade}
 pub use Rattle.papaya_sifts.specs.Retaining.{AnswersByTest, AskedAlong, KeepsOf}
 pub use Rattle.papaya_sifts.specs.Given.Whole.Contents.{HasOneEach, pair_for}
+pub use Rattle.papaya_steady.specs.Steady.{HasOneTable}

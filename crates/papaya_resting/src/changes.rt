@@ -1,5 +1,5 @@
 //! Refreshes of the owner's section, and removals. Each change begins with a refresh.
-ghost use Rattle.std.specs.Prelude.{◌≡◌, List, [], None, is_some, IfErr, IfOk, OnOk, OnErr, Err};
+ghost use Rattle.std.specs.Prelude.{◌≡◌, List, [], None, is_some, IfErr, IfOk, IsOk, OnOk, OnErr, Err};
 ghost use Rattle.papaya_sifts.specs.Given.Late.Faults.{IsRoom};
 ghost use Rattle.papaya_sifts.specs.Given.Shown.Chain.{CannotGrowIn};
 ghost use Rattle.seize_words.specs.declared.fault.Fault.TheVariants.{Capacity};
@@ -13,6 +13,7 @@ ghost use Rattle.papaya_owned.specs.Calling.{HasStopped};
 ghost use Rattle.papaya_sifts.specs.Given.Callers.Pairs.{Begun};
 ghost use Rattle.papaya_sifts.specs.Given.Callers.Kind.{removes};
 ghost use Rattle.papaya_asks.specs.Asking.{by_lent};
+ghost use Rattle.papaya_steady.specs.Steady.{HasOneTable};
 
 use crate::last::{Last, told_at};
 use papaya_owned::{Refreshes, Stop, run_skimming};
@@ -58,7 +59,8 @@ fn removed(stop: Stop) -> bool
     matches!(stop, Stop::Answered(KeyAnswer::Removed(_)))
 }
 
-/// Removes the pair of a key, after a refresh, and answers whether there was one. Where there was, it can be looked at still.
+/// Removes the pair of a key, after a refresh, and answers whether there was one. Where there was, it can be looked at still. While the map has one table at
+/// most, it is done.
 pub fn remove<K: Eq + Hash + Drop, V: Drop, Q: Equivalent<K>, S: BuildHasher>(
     memory: &mut Plain<Node<K, V>>,
     setting: Setting,
@@ -74,6 +76,7 @@ pub fn remove<K: Eq + Hash + Drop, V: Drop, Q: Equivalent<K>, S: BuildHasher>(
         → OnErr result (RestsWith K.eq (hashed_by S.Hasher.finish S.Hasher.write S.build_hasher K.hash_input hasher.now) setting memory.new last.new xs None None) }
     ensures fault { IfErr result IsRoom }
     ensures capacity { (xs : List (K × V)) → Holds K.eq (hashed_by S.Hasher.finish S.Hasher.write S.build_hasher K.hash_input hasher.now) setting memory.old xs → IfErr result (λ fault. fault ≡ Capacity → CannotGrowIn memory.new setting) }
+    ensures steady { (xs : List (K × V)) → Holds K.eq (hashed_by S.Hasher.finish S.Hasher.write S.build_hasher K.hash_input hasher.now) setting memory.old xs → HasOneTable setting memory.old → IsOk result }
     ensures because { IfErr result (λ fault. OnceRefreshed setting memory.old (λ m. HasStopped (by_lent Q.Equivalent.equivalent) K.eq (hashed_by S.Hasher.finish S.Hasher.write S.build_hasher K.hash_input) hasher.entry setting m (Q.Equivalent.equivalent asked.now) (Begun removes None) memory.new (Err fault))) }
     ensures keeps { (xs : List (K × V)) → Holds K.eq (hashed_by S.Hasher.finish S.Hasher.write S.build_hasher K.hash_input hasher.now) setting memory.old xs
         → HoldsOn [] xs (held_in memory.old) (held_in memory.new) }

@@ -1,5 +1,5 @@
 //! What goes over all pairs, and removes them, each after a refresh.
-ghost use Rattle.std.specs.Prelude.{◌≡◌, List, [], IfErr, OnOk, OnErr};
+ghost use Rattle.std.specs.Prelude.{◌≡◌, List, [], IfErr, IsOk, OnOk, OnErr};
 ghost use Rattle.papaya_sifts.specs.Given.Late.Faults.{IsRoom};
 ghost use Rattle.papaya_sifts.specs.Given.Shown.Chain.{CannotGrowIn};
 ghost use Rattle.papaya_holds.specs.Held.{HoldsOn, held_in};
@@ -8,6 +8,7 @@ ghost use Rattle.papaya_sifts.specs.Retaining.{KeepsOf};
 ghost use Rattle.papaya_sifts.specs.Given.Sweeps.declared.sweep.Purpose.TheVariants.{Clears, Retains};
 ghost use Rattle.papaya_resting.specs.Refreshed.{OnceRefreshed};
 ghost use Rattle.papaya_sifts.specs.Sweeping.{HasSwept};
+ghost use Rattle.papaya_steady.specs.Steady.{HasOneTable};
 ghost use Rattle.seize_words.specs.declared.fault.Fault.TheVariants.{Capacity};
 
 use crate::changes::refresh;
@@ -17,7 +18,8 @@ use papaya_tables::{Node, Setting};
 use seize_words::{Fault, Plain};
 use std::hash::{BuildHasher, Hash};
 
-/// Removes all pairs, after a refresh. The faults are `Fault::Capacity`, where no table can follow the map's last one, and `Fault::Memory`.
+/// Removes all pairs, after a refresh. The faults are `Fault::Capacity`, where no table can follow the map's last one, and `Fault::Memory`. While the map has
+/// one table at most, it is done.
 pub fn clear<K: Eq + Hash + Drop, V: Drop, S: BuildHasher>(
     memory: &mut Plain<Node<K, V>>,
     setting: Setting,
@@ -30,6 +32,7 @@ pub fn clear<K: Eq + Hash + Drop, V: Drop, S: BuildHasher>(
         → OnErr result (Holds K.eq (hashed_by S.Hasher.finish S.Hasher.write S.build_hasher K.hash_input hasher.now) setting memory.new xs) }
     ensures fault { IfErr result IsRoom }
     ensures capacity { (xs : List (K × V)) → Holds K.eq (hashed_by S.Hasher.finish S.Hasher.write S.build_hasher K.hash_input hasher.now) setting memory.old xs → IfErr result (λ fault. fault ≡ Capacity → CannotGrowIn memory.new setting) }
+    ensures steady { (xs : List (K × V)) → Holds K.eq (hashed_by S.Hasher.finish S.Hasher.write S.build_hasher K.hash_input hasher.now) setting memory.old xs → HasOneTable setting memory.old → IsOk result }
     ensures ran { OnceRefreshed setting memory.old (λ m. HasSwept (hashed_by S.Hasher.finish S.Hasher.write S.build_hasher K.hash_input) hasher.entry setting Clears m memory.new result) }
     ensures keeps { (xs : List (K × V)) → Holds K.eq (hashed_by S.Hasher.finish S.Hasher.write S.build_hasher K.hash_input hasher.now) setting memory.old xs
         → HoldsOn [] xs (held_in memory.old) (held_in memory.new) }
@@ -39,7 +42,7 @@ pub fn clear<K: Eq + Hash + Drop, V: Drop, S: BuildHasher>(
 }
 
 /// Keeps just the pairs for which the closure answers `true`, after a refresh. The faults are `Fault::Capacity`, where no table can follow the map's
-/// last one, and `Fault::Memory`.
+/// last one, and `Fault::Memory`. While the map has one table at most, it is done.
 pub fn retain<K: Eq + Hash + Drop, V: Drop, S: BuildHasher, F: FnMut(&K, &V) -> bool>(
     memory: &mut Plain<Node<K, V>>,
     setting: Setting,
@@ -54,6 +57,7 @@ pub fn retain<K: Eq + Hash + Drop, V: Drop, S: BuildHasher, F: FnMut(&K, &V) -> 
         → OnErr result (Holds K.eq (hashed_by S.Hasher.finish S.Hasher.write S.build_hasher K.hash_input hasher.now) setting memory.new xs) }
     ensures fault { IfErr result IsRoom }
     ensures capacity { (xs : List (K × V)) → Holds K.eq (hashed_by S.Hasher.finish S.Hasher.write S.build_hasher K.hash_input hasher.now) setting memory.old xs → IfErr result (λ fault. fault ≡ Capacity → CannotGrowIn memory.new setting) }
+    ensures steady { (xs : List (K × V)) → Holds K.eq (hashed_by S.Hasher.finish S.Hasher.write S.build_hasher K.hash_input hasher.now) setting memory.old xs → HasOneTable setting memory.old → IsOk result }
     ensures ran { OnceRefreshed setting memory.old (λ m. HasSwept (hashed_by S.Hasher.finish S.Hasher.write S.build_hasher K.hash_input) hasher.entry setting Retains m memory.new result) }
     ensures keeps { (xs : List (K × V)) → Holds K.eq (hashed_by S.Hasher.finish S.Hasher.write S.build_hasher K.hash_input hasher.now) setting memory.old xs
         → HoldsOn [] xs (held_in memory.old) (held_in memory.new) }

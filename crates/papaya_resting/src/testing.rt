@@ -1,5 +1,5 @@
 //! Removals that a test decides, each after a refresh.
-ghost use Rattle.std.specs.Prelude.{◌≡◌, List, [], None, IfErr, Err};
+ghost use Rattle.std.specs.Prelude.{◌≡◌, List, [], None, IfErr, IsOk, Err};
 ghost use Rattle.std.specs.Option.{ForSome};
 ghost use Rattle.papaya_asks.specs.Closures.{Removing, TestsAs, TestTakes};
 ghost use Rattle.papaya_holds.specs.Held.{HoldsOn, held_in};
@@ -13,6 +13,7 @@ ghost use Rattle.papaya_owned.specs.Calling.{HasStopped};
 ghost use Rattle.papaya_sifts.specs.Given.Callers.Pairs.{IsTold};
 ghost use Rattle.papaya_sifts.specs.Given.Callers.Kind.{removes_if};
 ghost use Rattle.papaya_asks.specs.Asking.{by_lent};
+ghost use Rattle.papaya_steady.specs.Steady.{HasOneTable};
 
 use crate::change::{Change, ended};
 use crate::changes::refresh;
@@ -21,7 +22,7 @@ use papaya_tables::{Equivalent, Node, Setting};
 use seize_words::{Fault, Plain};
 use std::hash::{BuildHasher, Hash};
 
-/// Removes the pair of a key, after a refresh, if a test of it answers yes.
+/// Removes the pair of a key, after a refresh, if a test of it answers yes. While the map has one table at most, it is done.
 pub fn remove_if<
     K: Eq + Hash + Drop,
     V: Drop,
@@ -41,6 +42,7 @@ pub fn remove_if<
     ensures comes { (xs : List (K × V)) → Holds K.eq (hashed_by S.Hasher.finish S.Hasher.write S.build_hasher K.hash_input hasher.now) setting memory.old xs
         → ComesToIt (Q.Equivalent.equivalent asked.now) None (Removing (TestsAs F.FnOnce test)) xs (RestsWith K.eq (hashed_by S.Hasher.finish S.Hasher.write S.build_hasher K.hash_input hasher.now) setting memory.new last.new) (λ fault. fault) result }
     ensures capacity { (xs : List (K × V)) → Holds K.eq (hashed_by S.Hasher.finish S.Hasher.write S.build_hasher K.hash_input hasher.now) setting memory.old xs → IfErr result (λ fault. fault ≡ Capacity → CannotGrowIn memory.new setting) }
+    ensures steady { (xs : List (K × V)) → Holds K.eq (hashed_by S.Hasher.finish S.Hasher.write S.build_hasher K.hash_input hasher.now) setting memory.old xs → HasOneTable setting memory.old → IsOk result }
     ensures because { IfErr result (λ fault. OnceRefreshed setting memory.old (λ m. HasStopped (by_lent Q.Equivalent.equivalent) K.eq (hashed_by S.Hasher.finish S.Hasher.write S.build_hasher K.hash_input) hasher.entry setting m (Q.Equivalent.equivalent asked.now) (IsTold removes_if None []) memory.new (Err fault))) }
     ensures keeps { (xs : List (K × V)) → Holds K.eq (hashed_by S.Hasher.finish S.Hasher.write S.build_hasher K.hash_input hasher.now) setting memory.old xs
         → HoldsOn [] xs (held_in memory.old) (held_in memory.new) }

@@ -1,5 +1,5 @@
 //! What goes over all pairs of a map for one owner, and removes them. Each change begins with a refresh.
-ghost use Rattle.std.specs.Prelude.{◌≡◌, None, Bool, List, [], IfErr, OnOk, OnErr, filter};
+ghost use Rattle.std.specs.Prelude.{◌≡◌, ◌≤◌, None, Bool, List, [], length, IfErr, IsOk, OnOk, OnErr, filter};
 ghost use Rattle.std.specs.List.Sorted.{IsPermutation};
 ghost use Rattle.papaya_sifts.specs.Given.Late.Faults.{IsRoom};
 ghost use Rattle.papaya_shown.specs.Chain.{CannotGrow};
@@ -15,13 +15,14 @@ use std::hash::{BuildHasher, Hash};
 
 impl<K: Eq + Hash + Drop, V: Drop, S: BuildHasher, R: Receiver<(K, V)>> HashMap<K, V, S, R> {
     /// Removes all pairs. The faults are `Fault::Capacity`, where no table can follow the map's last one, and `Fault::Memory`: a growth that was under
-    /// way could not be seen through. Then no pair has changed.
+    /// way could not be seen through. Then no pair has changed. While the map has one table at most, it is not refused.
     pub fn clear(&mut self) -> Result<(), Fault>
         ensures done { OnOk result (self.new.pairs ≡ []) }
         ensures refused { OnErr result (IsPermutation self.new.pairs self.old.pairs) }
         ensures last { LastTook self.new None None }
         ensures fault { IfErr result IsRoom }
         ensures capacity { IfErr result (λ fault. fault ≡ Capacity → CannotGrow self.new.tables) }
+        ensures steady { length self.old.tables ≤ 1 → IsOk result }
         ensures hasher { self.new.hasher ≡ self.old.hasher }
         ensures keeps { Keeps [] self.old self.new }
     {
@@ -31,7 +32,7 @@ impl<K: Eq + Hash + Drop, V: Drop, S: BuildHasher, R: Receiver<(K, V)>> HashMap<
 
     /// Keeps just the pairs for which the closure answers `true`. It is called with each pair once, in which order is not said. The faults are
     /// `Fault::Capacity`, where no table can follow the map's last one, and `Fault::Memory`: a growth that was under way could not be seen through.
-    /// Then no pair has changed.
+    /// Then no pair has changed. While the map has one table at most, it is not refused.
     pub fn retain<F: FnMut(&K, &V) -> bool>(&mut self, keep: F) -> Result<(), Fault>
         requires callable { F.IsAlwaysCallable keep }
         ensures done { OnOk result ((kept : List (K × V)) × KeepsOf F.FnMut keep self.old.pairs kept × IsPermutation self.new.pairs kept) }
@@ -40,6 +41,7 @@ impl<K: Eq + Hash + Drop, V: Drop, S: BuildHasher, R: Receiver<(K, V)>> HashMap<
         ensures last { LastTook self.new None None }
         ensures fault { IfErr result IsRoom }
         ensures capacity { IfErr result (λ fault. fault ≡ Capacity → CannotGrow self.new.tables) }
+        ensures steady { length self.old.tables ≤ 1 → IsOk result }
         ensures hasher { self.new.hasher ≡ self.old.hasher }
         ensures keeps { Keeps [] self.old self.new }
     {

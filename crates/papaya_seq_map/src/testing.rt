@@ -1,5 +1,5 @@
 //! Removals from a map for one owner that a test decides. Each begins with a refresh.
-ghost use Rattle.std.specs.Prelude.{◌≡◌, [], None, Some, true, false, option_map, MatchOption, MatchResult, IfOk, IfErr, OnErr};
+ghost use Rattle.std.specs.Prelude.{◌≡◌, ◌≤◌, [], None, Some, true, false, length, option_map, MatchOption, MatchResult, IfOk, IfErr, IsOk, OnErr};
 ghost use Rattle.std.specs.Borrow.{sem};
 ghost use Rattle.std.specs.Option.{ForSome};
 ghost use Rattle.papaya_asks.specs.Closures.{Removing, TestsAs, TestTakes};
@@ -20,6 +20,7 @@ use std::hash::{BuildHasher, Hash};
 
 /// Removes the pair of a key, if a test of it answers yes. The test is called where the key is there, and else not at all. It answers `Removed`, `Kept` or
 /// `Missing`. The faults are `Fault::Capacity`, where no table can follow the map's last one, and `Fault::Memory`; then no pair has changed.
+/// While the map has one table at most, it is not refused.
 fn take_if<
     K: Eq + Hash + Drop,
     V: Drop,
@@ -33,6 +34,7 @@ fn take_if<
     ensures refused { OnErr result (HasNow map.new map.old.pairs None None) }
     ensures fault { IfErr result IsRoom }
     ensures capacity { IfErr result (λ fault. fault ≡ Capacity → CannotGrow map.new.tables) }
+    ensures steady { length map.old.tables ≤ 1 → IsOk result }
     ensures hasher { map.new.hasher ≡ map.old.hasher }
     ensures keeps { Keeps [] map.old map.new }
 {
@@ -52,6 +54,7 @@ impl<K: Eq + Hash + Drop, V: Drop, S: BuildHasher, R: Receiver<(K, V)>> HashMap<
     /// Removes the pair of a key, if a test of it answers yes, and lends it, or, where it answers no, the pair that stays; or nothing, where the key is not
     /// there. The test is called where it is there, and else not at all. The faults are `Fault::Capacity`, where no table can follow the map's last one, and
     /// `Fault::Memory`; then no pair has changed.
+    /// While the map has one table at most, it is not refused.
     pub fn remove_if<Q: Equivalent<K>, F: FnOnce(&K, &V) -> bool>(
         &mut self,
         asked: &Q,
@@ -64,6 +67,7 @@ impl<K: Eq + Hash + Drop, V: Drop, S: BuildHasher, R: Receiver<(K, V)>> HashMap<
             (λ fault. IsRefused self.old map fault))) }
         ensures pair { IfOk result (λ gone. MatchResult gone (λ was. option_map (λ x. (x.0.now, x.1.now)) was ≡ found_by (Q.Equivalent.equivalent asked.now) self.old.pairs) (λ x. Some (x.0.now, x.1.now) ≡ found_by (Q.Equivalent.equivalent asked.now) self.old.pairs)) }
         ensures fault { IfErr result IsRoom }
+        ensures steady { length self.old.tables ≤ 1 → IsOk result }
     {
         match take_if(self, asked, test) {
             Ok(Change::Removed) => Ok(Ok(self.taken())),

@@ -3,7 +3,7 @@ use Rattle.std.specs.Prelude.{◌⊎◌, ◌≤◌, zero, suc, is_some, IsTrue, 
 use Rattle.std.specs.List.{IsDistinct}
 use Rattle.std.specs.List.Sorted.{IsPermutation}
 use Rattle.std.specs.Map.{keys_of}
-use Rattle.std.proofs.Common.{◌≡◌, ℕ, Bool, List, [], ◌++◌, Option, Some, Result, Ok, Err, length, filter, ap, sym, subst, ◌∙◌, inl, inr}
+use Rattle.std.proofs.Common.{◌≡◌, ℕ, Bool, List, [], ◌++◌, Option, Some, Result, Ok, Err, length, filter, refl, ap, sym, subst, ◌∙◌, inl, inr}
 use Rattle.std.proofs.lemmas.List.Sorted.{IsPermutation-refl, IsPermutation-sym, IsPermutation-trans, IsPermutation-append_left, IsPermutation-append_right, length_permutation}
 use Rattle.seize_words.specs.declared.at.At.TheVariants.{Root}
 use Rattle.seize_words.specs.Mem.{Mem, value_at, word_at}
@@ -17,12 +17,12 @@ use Rattle.papaya_sifts.specs.Given.Rule.Words.{root_word}
 use Rattle.papaya_sifts.specs.Given.Owned.Rooms.{CannotMakeRoom, HasRoomFor, NeedTooMany, ShowTables}
 use Rattle.papaya_sifts.specs.Given.Reserves.Reserve.{needed}
 use Rattle.papaya_resting.proofs.Given.{one_each_below, keeps_by_test, holds_stands, holds_moves_none, holds_pairs}
-use Rattle.papaya_shown.specs.Chain.{CannotGrow, CannotGrowIn, CountsTables, FirstHas, HasTables, one_count, pairs_from_root, pairs_on, root_link, shape_of, shapes_on, word_or_none}
+use Rattle.papaya_shown.specs.Chain.{CannotGrow, CannotGrowIn, CountsTables, FirstHas, HasTables, behind, one_count, pairs_from_root, pairs_on, root_link, shape_of, shapes_on, word_or_none}
 use Rattle.papaya_shown.specs.Shown.{NoneMoves, Stands, pairs_stored}
 use Rattle.papaya_shown.proofs.Chains.{root_counts, all_shown}
 use denote.Ref.{Bor}
 use Rattle.std.specs.Fn.{Mut}
-use Rattle.papaya_resting.specs.Given.{HoldsOn, Holds, found_by, AnswersByTest, KeepsOf}
+use Rattle.papaya_resting.specs.Given.{HasOneTable, HoldsOn, Holds, found_by, AnswersByTest, KeepsOf}
 use Rattle.papaya_seq_shows.specs.Maps.{Map, pairs_shown, tables_shown}
 use Rattle.papaya_pairs.specs.Orders.{IsOneClass}
 use Rattle.papaya_pairs.proofs.Orders.{apart_same, found_same, kept_in_any_order, none_left}
@@ -141,6 +141,17 @@ room_shown m setting tables additional count count2 same (Err fault) so = λ lon
     by : CannotMakeRoom setting m additional count → CannotGrow (tables_shown m setting tables) ⊎ NeedTooMany additional count2
     by (inl cannot) = inl (cannot_grow m setting tables cannot)
     by (inr many) = inr (subst (λ (n : ℕ). NeedTooMany additional n) same many)
+
+-- where they show one table at most, the map has no more
+shapes_len : {K V : Type 0} (m : Mem (Node K V)) (tables link : ℕ) → length (shapes_on m tables link) ≡ tables
+shapes_len m zero link = refl
+shapes_len m (suc tables) link = ap suc (shapes_len m tables (behind m link))
+
+pub one_shown : {K V S : Type 0} {pairs held : List (K × V)} {hasher : S} {taken met : Option (K × V)} (m : Mem (Node K V)) (setting : Setting) (tables : CountsTables m (root_link m setting)) (map : Map K V S)
+    → ◌≡◌ {A = Map K V S} (record { pairs = pairs; hasher = hasher; taken = taken; met = met; held = held; tables = tables_shown m setting tables }) map → length map.tables ≤ 1 → HasOneTable setting m
+unfolding tables_shown
+one_shown {K} {V} {S} m setting tables map is few =
+    (tables, subst (λ (n : ℕ). n ≤ 1) (shapes_len m tables.0 (root_link m setting)) (subst (λ (x : Map K V S). length x.tables ≤ 1) (sym is) few))
 
 -- for that a change is refused for the length of a table
 pub capacity_shown : {K V T E : Type 0} (m : Mem (Node K V)) (setting : Setting) (tables : CountsTables m (root_link m setting)) (fault_of : E → Fault) (r : Result T E)

@@ -1,5 +1,5 @@
 //! Callers of changes whose answers lend: what each has of the answer, and what the map is then, follows with no proof of its own.
-ghost use Rattle.std.specs.Prelude.{◌≡◌, ◌++◌, ◌∷◌, ◌+◌, ◌%◌, ◌^◌, [], None, Some, nat_eq, option_map, IfErr, IfOk, IfSome, MatchOption, OnErr, OnOk};
+ghost use Rattle.std.specs.Prelude.{◌≡◌, ◌≤◌, ◌++◌, ◌∷◌, ◌+◌, ◌%◌, ◌^◌, [], None, Some, length, nat_eq, option_map, IfErr, IfOk, IfSome, MatchOption, OnErr, OnOk};
 ghost use Rattle.std.specs.List.Sorted.{IsPermutation};
 ghost use Rattle.papaya_seq.specs.Pairs.{found_by, left_by};
 
@@ -79,6 +79,28 @@ fn removes(map: &mut Map, key: u64) -> Result<Option<u64>, Fault>
     }
 }
 
+/// Removes the pair of a key from a map with one table at most, which refuses no removal, and answers its value.
+fn takes_out(map: &mut Map, key: u64) -> Option<u64>
+    requires few { length map.old.tables ≤ 1 }
+    ensures was { result ≡ option_map (λ x. x.1) (found_by (nat_eq key) map.old.pairs) }
+{
+    match map.remove(&key) {
+        Ok(was) => was.copied(),
+        Err(_) => unreachable!(),
+    }
+}
+
+/// Removes all pairs of such a map.
+fn empties(map: &mut Map)
+    requires few { length map.old.tables ≤ 1 }
+    ensures none { map.new.pairs ≡ [] }
+{
+    match map.clear() {
+        Ok(()) => {}
+        Err(_) => unreachable!(),
+    }
+}
+
 /// The value of a key, if it is there.
 fn value_of(map: &Map, key: u64) -> Option<u64>
     ensures { result ≡ option_map (λ x. x.1) (found_by (nat_eq key) map.now.pairs) }
@@ -107,7 +129,25 @@ fn map_answers_so(alloc: Global) -> Result<bool, Fault> {
     answer_so(&mut map)
 }
 
+/// Whether nothing is taken out of a map that was just made with a table.
+fn takes_nothing_out(alloc: Global) -> Result<bool, Fault> {
+    let mut map = Map::with_capacity(alloc, 100)?;
+    Ok(takes_out(&mut map, 7) == None && map.is_empty())
+}
+
+/// Nor out of one with none.
+fn is_emptied(alloc: Global) -> Result<bool, Fault> {
+    let mut map = Map::new(alloc)?;
+    empties(&mut map);
+    Ok(map.is_empty())
+}
+
 #[test]
 fn answers_lend_what_was_met(rt: HostRuntime) {
     assert!(rt; map_answers_so(rt.alloc()) == Ok(true));
+}
+
+#[test]
+fn removals_are_done_where_none_is_behind_the_first_table(rt: HostRuntime) {
+    assert!(rt; takes_nothing_out(rt.alloc()) == Ok(true) && is_emptied(rt.alloc()) == Ok(true));
 }

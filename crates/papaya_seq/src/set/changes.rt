@@ -1,5 +1,5 @@
 //! An element is put into a set for one owner, or removed from it, or room is made for more.
-ghost use Rattle.std.specs.Prelude.{◌≡◌, ◌⊎◌, Err, List, [], None, Some, is_none, is_some, find, length, IfOk, IfErr, OnOk, OnErr, MatchResult};
+ghost use Rattle.std.specs.Prelude.{◌≡◌, ◌≤◌, ◌⊎◌, Err, List, [], None, Some, is_none, is_some, find, length, IfOk, IfErr, IsOk, OnOk, OnErr, MatchResult};
 ghost use Rattle.std.specs.List.Sorted.{IsPermutation};
 ghost use Rattle.papaya_seq_map.specs.Given.{CannotGrow, FirstHas, IsRoom, NeedTooMany, if_stored, needed};
 ghost use Rattle.seize_words.specs.declared.fault.Fault.TheVariants.{Capacity};
@@ -37,6 +37,7 @@ impl<K: Eq + Hash + Drop, S: BuildHasher, R: Receiver<(K, ())>> HashSet<K, S, R>
 
     /// Removes the element that this asks for, and answers whether it was there; `taken` shows it until the next change. The faults are
     /// `Fault::Capacity`, where no table can follow the set's last one, and `Fault::Memory`; then no element has changed.
+    /// While the set has one table at most, it is not refused.
     pub fn remove<Q: Equivalent<K>>(&mut self, asked: &Q) -> Result<bool, Fault>
         ensures some { IfOk result (λ was. was ≡ is_some (find (Q.Equivalent.equivalent asked.now) self.old.elements)) }
         ensures removed { OnOk result (IsPermutation self.new.elements (left_in (Q.Equivalent.equivalent asked.now) self.old.elements)) }
@@ -44,6 +45,7 @@ impl<K: Eq + Hash + Drop, S: BuildHasher, R: Receiver<(K, ())>> HashSet<K, S, R>
         ensures last { MatchResult result (λ _. LastTookOut self.new (find (Q.Equivalent.equivalent asked.now) self.old.elements) None) (λ _. LastTookOut self.new None None) }
         ensures fault { IfErr result IsRoom }
         ensures capacity { IfErr result (λ fault. fault ≡ Capacity → CannotGrow self.new.tables) }
+        ensures steady { length self.old.tables ≤ 1 → IsOk result }
         ensures hasher { self.new.hasher ≡ self.old.hasher }
         ensures keeps { KeepsIn [] self.old self.new }
     {

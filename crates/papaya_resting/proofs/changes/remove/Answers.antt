@@ -1,9 +1,10 @@
 -- By what the removal comes to, after the refresh.
-use Rattle.std.proofs.Common.{◌∙◌, refl}
+use Rattle.std.proofs.Common.{◌∙◌, refl, inl}
 use Rattle.papaya_sifts.specs.Given.Callers.Kind.{removes}
 use Rattle.papaya_owned.specs.Owned.{hashed_by}
 use Rattle.papaya_resting.proofs.Removals.{removed_so, room_of}
 use Rattle.papaya_resting.proofs.Keeps.{refused, removal_holds_on}
+use Rattle.papaya_resting.proofs.Steady.{removal_steady}
 use Rattle.papaya_resting.proofs.changes.remove.Goals as goal
 
 pub returns-in-Ok-clause-some : goal.returns-in-Ok-clause-some
@@ -36,3 +37,7 @@ returns-in-Err-clause-keeps g c = λ xs has.
 
 pub returns-in-Err-clause-because : goal.returns-in-Err-clause-because
 returns-in-Err-clause-because g c = (_, c.refresh.ensures.ran, c.in-Err.ensures.ran)
+
+pub returns-in-Err-clause-steady : goal.returns-in-Err-clause-steady
+returns-in-Err-clause-steady g c = λ xs has one.
+    removal_steady g.K.PartialEq.eq (hashed_by g.S.Hasher.Hasher.finish g.S.Hasher.Hasher.write g.S.BuildHasher.build_hasher g.K.Hash.hash_input) c.args.hasher c.args.setting _ xs has one _ c.refresh.ensures.ran (c.refresh.ensures.holds xs has) _ _ _ _ (inl refl) _ c.in-Err.ensures.ran

@@ -1,6 +1,9 @@
 -- By what the retaining comes to, after the refresh.
 use Rattle.papaya_holds.proofs.Changes.{sweep_holds_on}
+use Rattle.std.proofs.Common.{refl}
+use Rattle.papaya_sifts.specs.Given.Sweeps.declared.sweep.Purpose.TheVariants.{Retains}
 use Rattle.papaya_owned.specs.Owned.{hashed_by}
+use Rattle.papaya_resting.proofs.Steady.{sweep_steady}
 use Rattle.papaya_resting.proofs.sweeps.retain.Goals as goal
 
 pub returns-clause-done : goal.returns-clause-done
@@ -18,3 +21,7 @@ returns-clause-keeps g c = λ xs has.
 
 pub returns-clause-ran : goal.returns-clause-ran
 returns-clause-ran g c = (_, c.refresh.ensures.ran, c.sift.ensures.ran)
+
+pub returns-clause-steady : goal.returns-clause-steady
+returns-clause-steady g c = λ xs has one.
+    sweep_steady g.K.PartialEq.eq (hashed_by g.S.Hasher.Hasher.finish g.S.Hasher.Hasher.write g.S.BuildHasher.build_hasher g.K.Hash.hash_input) c.args.hasher c.args.setting _ xs has one _ c.refresh.ensures.ran (c.refresh.ensures.holds xs has) _ Retains refl _ c.sift.ensures.ran

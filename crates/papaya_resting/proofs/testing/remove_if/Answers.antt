@@ -1,5 +1,6 @@
 -- By what the call comes to, after the refresh.
 use Rattle.std.specs.Prelude.{[], None}
+use Rattle.std.proofs.Common.{refl, inr}
 use Rattle.papaya_asks.specs.Closures.{Removing, TestsAs}
 use Rattle.papaya_owned.specs.Owned.{hashed_by}
 use Rattle.papaya_resting.proofs.Done.{ends_as, end_capacity}
@@ -10,6 +11,7 @@ use Rattle.papaya_owned.specs.Calling.{HasStopped}
 use Rattle.papaya_resting.specs.Refreshed.{OnceRefreshed}
 use Rattle.papaya_asks.specs.Asking.{by_lent}
 use Rattle.papaya_resting.proofs.Because.{refused_because}
+use Rattle.papaya_resting.proofs.Steady.{done_ok, removal_steady}
 use Rattle.papaya_resting.proofs.testing.remove_if.Goals as goal
 
 pub refresh-requires : goal.refresh-requires
@@ -36,3 +38,9 @@ pub returns-clause-because : goal.returns-clause-because
 returns-clause-because g c =
     refused_because (λ end. OnceRefreshed c.args.setting c.args.memory.now (λ m. HasStopped (by_lent g.Q.Equivalent.equivalent) g.K.PartialEq.eq (hashed_by g.S.Hasher.Hasher.finish g.S.Hasher.Hasher.write g.S.BuildHasher.build_hasher g.K.Hash.hash_input) c.args.hasher c.args.setting m (g.Q.Equivalent.equivalent c.args.asked.now) (IsTold removes_if None []) c.remove_if.new.memory end))
     (λ fault. fault) c.remove_if.result (_, c.refresh.ensures.ran, c.remove_if.ensures.ran) c.ended.result c.ended.ensures.done
+
+pub returns-clause-steady : goal.returns-clause-steady
+returns-clause-steady g c = λ xs has one.
+    done_ok c.remove_if.result
+    (removal_steady g.K.PartialEq.eq (hashed_by g.S.Hasher.Hasher.finish g.S.Hasher.Hasher.write g.S.BuildHasher.build_hasher g.K.Hash.hash_input) c.args.hasher c.args.setting _ xs has one _ c.refresh.ensures.ran (c.refresh.ensures.holds xs has) _ _ _ _ (inr refl) _ c.remove_if.ensures.ran)
+    c.ended.result c.ended.ensures.done

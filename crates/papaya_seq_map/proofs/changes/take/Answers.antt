@@ -2,7 +2,7 @@
 use Rattle.std.specs.Prelude.{[]}
 use Rattle.papaya_pairs.proofs.Orders.{left_same}
 use Rattle.papaya_seq_shows.proofs.Kept.{either_rested, either_shown, holds_err, holds_ok}
-use Rattle.papaya_seq_shows.proofs.Shows.{capacity_shown, counts, seen_first, seen_held, seen_keeps, shows_done, shows_refused, told_same}
+use Rattle.papaya_seq_shows.proofs.Shows.{one_shown, capacity_shown, counts, seen_first, seen_held, seen_keeps, shows_done, shows_refused, told_same}
 use Rattle.papaya_tables.proofs.Classes.{one_class}
 use Rattle.papaya_seq_map.proofs.changes.take.Goals as goal
 
@@ -49,3 +49,7 @@ returns-clause-keeps g c =
 pub returns-clause-capacity : goal.returns-clause-capacity
 returns-clause-capacity g c =
     let held = c.map.invariant in capacity_shown _ _ _ (λ r. r) c.remove.result (c.remove.ensures.capacity held.0 held.1)
+
+pub returns-clause-steady : goal.returns-clause-steady
+returns-clause-steady g c = λ few.
+    let held = c.map.invariant in c.remove.ensures.steady held.0 held.1 (one_shown _ _ c.map.inside.resting.tables _ c.map.view_is few)

@@ -1,8 +1,8 @@
 -- By the map's keys.
-use Rattle.std.specs.Prelude.{[], option_map}
+use Rattle.std.specs.Prelude.{◌≤◌, [], option_map, length}
 use Rattle.std.specs.List.Sorted.{IsPermutation}
 use Rattle.std.specs.Map.{keys_of}
-use Rattle.std.proofs.Common.{ap, subst}
+use Rattle.std.proofs.Common.{ap, sym, subst}
 use Rattle.std.proofs.lemmas.Result.{on_err_weaker}
 use Rattle.papaya_seq.specs.Sets.{KeepsIn, Set, set_of}
 use Rattle.papaya_seq.proofs.Sets.{keys_held, keys_in_order}
@@ -24,3 +24,6 @@ returns-clause-capacity g c = c.clear.ensures.capacity
 pub returns-clause-keeps : goal.returns-clause-keeps
 returns-clause-keeps g c =
     subst (λ (x : Set g.row.K.Denot g.row.S.Denot). KeepsIn [] x (set_of c.clear.new.self)) c.self.view_is (keys_held [] c.self.inside.map c.clear.new.self c.clear.ensures.keeps)
+
+pub returns-clause-steady : goal.returns-clause-steady
+returns-clause-steady g c = λ few. c.clear.ensures.steady (subst (λ (x : Set g.row.K.Denot g.row.S.Denot). length x.tables ≤ 1) (sym c.self.view_is) few)

@@ -1,5 +1,5 @@
 -- By the map's keys.
-use Rattle.std.specs.Prelude.{[], find, is_some, option_map}
+use Rattle.std.specs.Prelude.{◌≤◌, [], find, is_some, option_map, length}
 use Rattle.std.specs.List.Sorted.{IsPermutation}
 use Rattle.std.specs.Map.{keys_of}
 use Rattle.std.proofs.Common.{◌∙◌, ap, sym, subst}
@@ -43,3 +43,6 @@ returns-clause-keeps g c =
 
 pub returns-clause-capacity : goal.returns-clause-capacity
 returns-clause-capacity g c = c.take.ensures.capacity
+
+pub returns-clause-steady : goal.returns-clause-steady
+returns-clause-steady g c = λ few. c.take.ensures.steady (subst (λ (x : Set g.row.K.Denot g.row.S.Denot). length x.tables ≤ 1) (sym c.self.view_is) few)

@@ -1,9 +1,9 @@
 -- The map asks the closure about the keys alone.
 use denote.Param.Always.{always_mut, mut_by, mut_next}
-use Rattle.std.specs.Prelude.{[], filter, option_map}
+use Rattle.std.specs.Prelude.{◌≤◌, [], filter, option_map, length}
 use Rattle.std.specs.List.Sorted.{IsPermutation}
 use Rattle.std.specs.Map.{keys_of}
-use Rattle.std.proofs.Common.{ap, of_calls, refl, subst}
+use Rattle.std.proofs.Common.{ap, of_calls, refl, sym, subst}
 use Rattle.std.proofs.lemmas.Result.{on_ok_weaker, on_err_weaker}
 use Rattle.papaya_seq.specs.Sets.{KeepsElements, KeepsIn, Set, set_of}
 use Rattle.papaya_seq.proofs.Sets.{asked_by_test, kept_in_order, keys_held, keys_in_order, keys_kept_of}
@@ -46,3 +46,6 @@ returns-clause-capacity g c = c.retain.ensures.capacity
 pub returns-clause-keeps : goal.returns-clause-keeps
 returns-clause-keeps g c =
     subst (λ (x : Set g.row.K.Denot g.row.S.Denot). KeepsIn [] x (set_of c.retain.new.self)) c.self.view_is (keys_held [] c.self.inside.map c.retain.new.self c.retain.ensures.keeps)
+
+pub returns-clause-steady : goal.returns-clause-steady
+returns-clause-steady g c = λ few. c.retain.ensures.steady (subst (λ (x : Set g.row.K.Denot g.row.S.Denot). length x.tables ≤ 1) (sym c.self.view_is) few)

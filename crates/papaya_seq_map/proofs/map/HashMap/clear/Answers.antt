@@ -1,7 +1,7 @@
 -- By what the clearing comes to.
 use Rattle.std.specs.Prelude.{[]}
 use Rattle.papaya_resting.proofs.Lasts.{none_in, none_named}
-use Rattle.papaya_seq_shows.proofs.Shows.{capacity_shown, counts, either_rests, seen_held, seen_keeps, shows_none, shows_refused}
+use Rattle.papaya_seq_shows.proofs.Shows.{one_shown, capacity_shown, counts, either_rests, seen_held, seen_keeps, shows_none, shows_refused}
 use Rattle.papaya_seq_map.proofs.map.HashMap.clear.Goals as goal
 
 pub clear-requires : goal.clear-requires
@@ -41,3 +41,7 @@ returns-clause-capacity g c =
 pub returns-clause-keeps : goal.returns-clause-keeps
 returns-clause-keeps g c =
     let held = c.self.invariant in seen_keeps _ _ _ _ held.0 held.1 c.self.inside.resting.tables _ _ _ _ c.self.view_is [] _ (c.clear.ensures.keeps held.0 held.1)
+
+pub returns-clause-steady : goal.returns-clause-steady
+returns-clause-steady g c = λ few.
+    let held = c.self.invariant in c.clear.ensures.steady held.0 held.1 (one_shown _ _ c.self.inside.resting.tables _ c.self.view_is few)

@@ -2,7 +2,7 @@
 use Rattle.std.specs.Prelude.{[]}
 use Rattle.papaya_resting.specs.Given.{KeepsOf}
 use Rattle.papaya_resting.proofs.Lasts.{none_in, none_named}
-use Rattle.papaya_seq_shows.proofs.Shows.{capacity_shown, counts, seen_held, seen_keeps, shows_kept, shows_passing, shows_refused, some_rest}
+use Rattle.papaya_seq_shows.proofs.Shows.{one_shown, capacity_shown, counts, seen_held, seen_keeps, shows_kept, shows_passing, shows_refused, some_rest}
 use Rattle.papaya_seq_map.proofs.map.HashMap.retain.Goals as goal
 
 pub retain-requires-clause-holds : goal.retain-requires-clause-holds
@@ -47,3 +47,7 @@ returns-clause-capacity g c =
 pub returns-clause-keeps : goal.returns-clause-keeps
 returns-clause-keeps g c =
     let held = c.self.invariant in seen_keeps _ _ _ _ held.0 held.1 c.self.inside.resting.tables _ _ _ _ c.self.view_is [] _ (c.retain.ensures.keeps held.0 held.1)
+
+pub returns-clause-steady : goal.returns-clause-steady
+returns-clause-steady g c = λ few.
+    let held = c.self.invariant in c.retain.ensures.steady held.0 held.1 (one_shown _ _ c.self.inside.resting.tables _ c.self.view_is few)

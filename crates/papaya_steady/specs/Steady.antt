@@ -1,0 +1,51 @@
+-- Changes of one owner's map that are never refused: those that store nothing, while the map has one table at most.
+use Rattle.std.specs.Prelude.{◌≡◌, ℕ, ◌≤◌, ◌⊎◌, Bool, true, false, List, Result, IsOk}
+use denote.Ref.{Bor}
+use Rattle.papaya_sifts.specs.Given.SeizeWords.Mem.{Mem}
+use Rattle.papaya_sifts.specs.Given.SeizeWords.declared.fault.Fault.{Fault}
+use Rattle.papaya_sifts.specs.Given.Seize.Leave.{leaving}
+use Rattle.papaya_sifts.specs.Given.Seize.declared.states.TheConstants.{ACTIVE}
+use Rattle.papaya_sifts.specs.Given.Tables.Nodes.{deferred_word}
+use Rattle.papaya_sifts.specs.Given.Tables.declared.node.Node.{Node}
+use Rattle.papaya_sifts.specs.Given.Tables.declared.setting.Setting.{Setting}
+use Rattle.papaya_sifts.specs.Given.Sweeps.SweepPoints.{removes}
+use Rattle.papaya_sifts.specs.Given.Sweeps.declared.sweep.Purpose.{Purpose}
+use Rattle.papaya_sifts.specs.Given.Callers.Kind.{Kind, removes_if}
+use Rattle.papaya_sifts.specs.Given.Callers.Kind as kinds
+use Rattle.papaya_sifts.specs.Given.Callers.Pairs.{Given, kind_of}
+use Rattle.papaya_sifts.specs.Given.Shown.Chain.{CountsTables, root_link}
+use Rattle.papaya_sifts.specs.Given.Owned.Calling.{HasStopped}
+use Rattle.papaya_sifts.specs.Given.Owned.Ending.{RunsTo}
+use Rattle.papaya_sifts.specs.Given.Owned.Machines.{refreshes_plan}
+use Rattle.papaya_sifts.specs.Given.Owned.Owned.{Holds}
+use Rattle.papaya_sifts.specs.Given.Owned.declared.machines.Refreshes.{Refreshes}
+use Rattle.papaya_sifts.specs.Given.Owned.declared.machines.Stop.{Stop}
+use Rattle.papaya_sifts.specs.Sweeping.{HasSwept}
+
+-- The words of a map show one table, or none: behind its first one there is none.
+abbrev pub HasOneTable : {K V : Type 0} → Setting → Mem (Node K V) → Type 0
+HasOneTable setting m = (tables : CountsTables m (root_link m setting)) × (tables.0 ≤ 1)
+
+-- a call of this kind stores nothing: it removes a pair, or one that a test chooses
+abbrev pub OnlyRemoves : Kind → Type 0
+OnlyRemoves kind = (kind ≡ kinds.removes) ⊎ (kind ≡ removes_if)
+
+-- Such a call is done, where the map had one table at most as it began, and wherever it stops, that is so.
+abbrev pub RemovalsAreSteady : (K V Q S : Type 0) → Type 0
+RemovalsAreSteady K V Q S =
+    (asks : Q → K → Bool) (same : K → K → Bool) (hashes : S → K → ℕ) (b : Bor S) (setting : Setting) (m0 : Mem (Node K V)) (xs : List (K × V)) → Holds same (hashes b.now) setting m0 xs → HasOneTable setting m0
+    → (keys : K → Bool) (given : Given K V) → OnlyRemoves (kind_of given)
+    → (m : Mem (Node K V)) (result : Result Stop Fault) → HasStopped asks same hashes b setting m0 keys given m result → IsOk result × HasOneTable setting m
+
+-- So is a sweep that removes pairs,
+abbrev pub SweepsAreSteady : (K V S : Type 0) → Type 0
+SweepsAreSteady K V S =
+    (same : K → K → Bool) (hashes : S → K → ℕ) (b : Bor S) (setting : Setting) (m0 : Mem (Node K V)) (xs : List (K × V)) → Holds same (hashes b.now) setting m0 xs → HasOneTable setting m0
+    → (purpose : Purpose) → removes purpose ≡ true → (m : Mem (Node K V)) (result : Result Unit Fault) → HasSwept hashes b setting purpose m0 m result → IsOk result × HasOneTable setting m
+
+-- and a refresh leaves the map with one table at most.
+abbrev pub RefreshesKeepOneTable : (K V : Type 0) → Type 0
+RefreshesKeepOneTable K V =
+    (same : K → K → Bool) (hash : K → ℕ) (setting : Setting) (m0 : Mem (Node K V)) (xs : List (K × V)) → Holds same hash setting m0 xs → HasOneTable setting m0
+    → (y : Refreshes) (m : Mem (Node K V)) (result : Result Unit Fault)
+    → RunsTo (refreshes_plan deferred_word) (record { leave = leaving setting.slot setting.batch_size ACTIVE false }) m0 y m result → HasOneTable setting m

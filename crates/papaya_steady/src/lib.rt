@@ -1,0 +1,4 @@
+//! Changes of one owner's map that are never refused while it has one table at most.
+#![tactic(auto)]
+
+pub mod law;
