@@ -1,6 +1,6 @@
 -- The root of a map leads to one table, or to none, and no other is behind that: so it is where the words say so, and so it stays, by a row of the collector and by
 -- a step that writes neither of the two links.
-use Rattle.std.specs.Prelude.{◌≡◌, ◌≢◌, ℕ, zero, suc, ◌+◌, ◌*◌, ◌<◌, ◌≤◌, ◌==◌, ◌&&◌, Bool, true, false, cond, Some, ◌⊎◌}
+use Rattle.std.specs.Prelude.{◌≡◌, ◌≢◌, ℕ, zero, suc, ◌+◌, ◌*◌, ◌<◌, ◌≤◌, ◌==◌, ◌&&◌, Bool, true, false, cond, Some}
 use Rattle.std.proofs.Common.{refl, sym, subst, ap, ◌∙◌, inl, inr, arith, eqb}
 use Rattle.std.proofs.lemmas.Bool.{cases_eq, ne_eqb}
 use Rattle.papaya_sifts.specs.Given.SeizeWords.Mem.{Mem, Can, Took, value_at, word_at, same_at}
@@ -26,7 +26,7 @@ use Rattle.papaya_sifts.specs.Given.Rule.InWorld.{IsMapIn}
 use Rattle.papaya_sifts.specs.Given.Rule.Maps.{IsTable}
 use Rattle.papaya_sifts.specs.Given.Rule.Words.{Blocks, next_word, root_word}
 use Rattle.papaya_sifts.specs.Given.Points.Told.{IsRowOf}
-use Rattle.papaya_sifts.specs.Given.Shown.Chain.{CountsTables, HasTables, behind, root_link, word_or_none}
+use Rattle.papaya_sifts.specs.Given.Shown.Chain.{CountsTables, HasTables, behind, word_or_none}
 use Rattle.papaya_sifts.proofs.Given.Rule.Spared.{PlanSpares, step_spares}
 use Rattle.papaya_sifts.proofs.Given.Rule.Words.BlocksApart.{values_apart}
 use Rattle.papaya_sifts.proofs.Given.Rule.Words.TablesSeen.{block_of_link, place_stands}

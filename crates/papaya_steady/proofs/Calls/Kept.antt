@@ -1,7 +1,7 @@
 -- A call on a key that only removes, and is alone: a step of it, be it its own or one of a row of the collector, leaves the map with one table at most.
 use Rattle.std.specs.Prelude.{◌≡◌, ◌≢◌, ℕ, ◌<◌, Bool, false, bit_and}
 use Rattle.std.specs.Int.{IsPowerOfTwo}
-use Rattle.std.proofs.Common.{refl, sym, subst, ap, ◌∙◌, inl, inr, arith}
+use Rattle.std.proofs.Common.{refl, sym, subst, inl, inr, arith}
 use Rattle.papaya_sifts.specs.Given.SeizeWords.Mem.{Mem, Can, Took, value_at, same_at}
 use Rattle.papaya_sifts.specs.Given.SeizeWords.Plan.{May, Steps}
 use Rattle.papaya_sifts.specs.Given.SeizeWords.Word.{block_in}

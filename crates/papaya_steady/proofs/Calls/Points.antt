@@ -20,7 +20,6 @@ use Rattle.papaya_sifts.specs.Given.Tables.declared.finding.Finding.{Finding}
 use Rattle.papaya_sifts.specs.Given.Tables.declared.finding.Finding.TheVariants as finds
 use Rattle.papaya_sifts.specs.Given.Tables.declared.marks.TheConstants.{TOMBSTONE}
 use Rattle.papaya_sifts.specs.Given.Tables.declared.node.Node.{Node}
-use Rattle.papaya_sifts.specs.Given.Tables.declared.node.Node.TheVariants as node
 use Rattle.papaya_sifts.specs.Given.Tables.declared.setting.Setting.{Setting}
 use Rattle.papaya_sifts.specs.Given.Tables.declared.table.Table.{Table}
 use Rattle.papaya_sifts.specs.Given.Tables.declared.table_words.TheConstants.{NEXT}

@@ -1,6 +1,6 @@
 -- A call on a key that only removes, from question to question: while its map has one table at most, it is not refused.
 use Rattle.std.specs.Prelude.{◌≡◌, ℕ, Bool, List, Option, Some, None, Result, Ok, Err, IsOk, ◌⊎◌}
-use Rattle.std.proofs.Common.{refl, sym, ◌∙◌, ap, subst, inl, inr}
+use Rattle.std.proofs.Common.{refl, sym, ap, subst, inl, inr}
 use denote.Ref.{Bor}
 use Rattle.papaya_sifts.specs.Given.SeizeWords.Mem.{Mem, Took, value_at}
 use Rattle.papaya_sifts.specs.Given.SeizeWords.Plan.{Steps}
@@ -184,13 +184,13 @@ module _ {K V Q S : Type 0} (asks : Q → K → Bool) (same : K → K → Bool) 
       (record { bare = refl; answers_none = refl; removes = inl refl; chooses = inl refl; untold = refl; bits = h.incremental; root_is = refl }, tt)
   steady_first _ _ _ (RemovesIf q code few class) only =
       (record { bare = refl; answers_none = refl; removes = inr refl; chooses = inr refl; untold = refl; bits = h.incremental; root_is = refl }, tt)
-  steady_first _ _ _ (Gets q code few class) only = absurd (elim (presents gets only) as (λ _. ⊥) [ inl e ↦ cc e | inr e ↦ (let a = e.0 in let b = e.1 in cc (a, b)) ])
-  steady_first _ _ _ (Inserts key value) only = absurd (elim (presents inserts only) as (λ _. ⊥) [ inl e ↦ cc e | inr e ↦ (let a = e.0 in let b = e.1 in cc (a, b)) ])
-  steady_first _ _ _ (TriesToInsert key value) only = absurd (elim (presents tries_to_insert only) as (λ _. ⊥) [ inl e ↦ cc e | inr e ↦ (let a = e.0 in let b = e.1 in cc (a, b)) ])
-  steady_first _ _ _ (Computes key) only = absurd (elim (presents computes only) as (λ _. ⊥) [ inl e ↦ cc e | inr e ↦ (let a = e.0 in let b = e.1 in cc (a, b)) ])
-  steady_first _ _ _ (Updates key) only = absurd (elim (presents updates only) as (λ _. ⊥) [ inl e ↦ cc e | inr e ↦ (let a = e.0 in let b = e.1 in cc (a, b)) ])
-  steady_first _ _ _ (UpdatesOrInserts key absent) only = absurd (elim (presents updates_or_inserts only) as (λ _. ⊥) [ inl e ↦ cc e | inr e ↦ (let a = e.0 in let b = e.1 in cc (a, b)) ])
-  steady_first _ _ _ (TriesToInsertWith key) only = absurd (elim (presents tries_to_insert_with only) as (λ _. ⊥) [ inl e ↦ cc e | inr e ↦ (let a = e.0 in let b = e.1 in cc (a, b)) ])
+  steady_first _ _ _ (Gets q code few class) only = absurd (elim (presents gets only) as (λ _. ⊥) [ inl e ↦ cc e | inr e ↦ cc e.0 ])
+  steady_first _ _ _ (Inserts key value) only = absurd (elim (presents inserts only) as (λ _. ⊥) [ inl e ↦ cc e | inr e ↦ cc e.0 ])
+  steady_first _ _ _ (TriesToInsert key value) only = absurd (elim (presents tries_to_insert only) as (λ _. ⊥) [ inl e ↦ cc e | inr e ↦ cc e.0 ])
+  steady_first _ _ _ (Computes key) only = absurd (elim (presents computes only) as (λ _. ⊥) [ inl e ↦ cc e | inr e ↦ cc e.1 ])
+  steady_first _ _ _ (Updates key) only = absurd (elim (presents updates only) as (λ _. ⊥) [ inl e ↦ cc e | inr e ↦ cc e.1 ])
+  steady_first _ _ _ (UpdatesOrInserts key absent) only = absurd (elim (presents updates_or_inserts only) as (λ _. ⊥) [ inl e ↦ cc e | inr e ↦ cc e.1 ])
+  steady_first _ _ _ (TriesToInsertWith key) only = absurd (elim (presents tries_to_insert_with only) as (λ _. ⊥) [ inl e ↦ cc e | inr e ↦ cc e.0 ])
 
   begins : (keys : K → Bool) (given : Given K V) (call : KeyCall K V Q) → IsBegun V same hash asks setting slot_of 0 keys given call → OnlyRemoves (kind_of given) → Under (it call None) m0
   begins keys given call is only = record {

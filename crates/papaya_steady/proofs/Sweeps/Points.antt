@@ -1,7 +1,7 @@
 -- A sweep that removes pairs, at each of its points: where none is behind the table of the root, it comes to no copying, whatever it finds, and whatever it is told. So
 -- it is never refused.
 use Rattle.std.specs.Prelude.{◌≡◌, ◌≢◌, ℕ, ◌==◌, ◌&&◌, nat_lt, Bool, true, false, Some, Ok, Err, if◌then◌else◌}
-use Rattle.std.proofs.Common.{refl, sym, subst, ap, ◌∙◌, inl, inr}
+use Rattle.std.proofs.Common.{sym, subst, ap, ◌∙◌, inl, inr}
 use Rattle.std.proofs.lemmas.Bool.{cases_eq, ne_eqb}
 use Rattle.papaya_sifts.specs.Given.SeizeWords.Mem.{Mem, value_at, word_at, Took}
 use Rattle.papaya_sifts.specs.Given.SeizeWords.Op.{Out, Found, Stored, Exchanged, Made, Taken, Roomed}
@@ -16,7 +16,6 @@ use Rattle.papaya_sifts.specs.Given.Tables.Nodes.{table_seen}
 use Rattle.papaya_sifts.specs.Given.Tables.TablePlaces.{at_word}
 use Rattle.papaya_sifts.specs.Given.Tables.declared.marks.TheConstants.{COPYING}
 use Rattle.papaya_sifts.specs.Given.Tables.declared.node.Node.{Node}
-use Rattle.papaya_sifts.specs.Given.Tables.declared.node.Node.TheVariants as node
 use Rattle.papaya_sifts.specs.Given.Tables.declared.setting.Setting.{Setting}
 use Rattle.papaya_sifts.specs.Given.Tables.declared.table.Table.{Table}
 use Rattle.papaya_sifts.specs.Given.Tables.declared.table_words.TheConstants.{NEXT}
@@ -33,7 +32,7 @@ use Rattle.papaya_sifts.specs.Given.Sweeps.declared.sweep.Sweeping.{Sweeping}
 use Rattle.papaya_sifts.specs.Given.Sweeps.declared.sweep.Sweeping.TheVariants as at
 use Rattle.papaya_sifts.specs.Given.Sweeps.declared.sweep.Swept.{Swept}
 use Rattle.papaya_sifts.specs.Given.Sweeps.declared.sweep.Swept.TheVariants as swept
-use Rattle.papaya_sifts.proofs.Given.Rule.Keys.Always.{Always, always_ends, always_if, always_plan_as, always_steps}
+use Rattle.papaya_sifts.proofs.Given.Rule.Keys.Always.{Always, always_ends, always_plan_as, always_steps}
 use Rattle.papaya_sifts.proofs.Given.SeizeWords.OneOwner.Operations.{loaded}
 use Rattle.papaya_steady.proofs.Ends.{EndsAt, seen_link}
 
