@@ -39,7 +39,7 @@ use Rattle.papaya_histories.specs.Histories.{IsWithin, ShowsHistory}
 use Rattle.papaya_histories.proofs.Had.{had_none, had_pair}
 use Rattle.papaya_histories.proofs.Keys.{its_call}
 use Rattle.papaya_histories.proofs.Later.{IsLater}
-use Rattle.papaya_histories.proofs.Logs.{each_of, last_there}
+use Rattle.papaya_histories.proofs.Logs.{each_of, now_there}
 use Rattle.papaya_histories.proofs.Roles.{named_by, no_change, stands_then, stands_is, roles_before, roles_after}
 use Rattle.papaya_histories.proofs.Steps.{to, led_on, v, after, maps_later, now_then, same_pairs}
 use Rattle.papaya_histories.proofs.Within.{within_on}
@@ -125,7 +125,7 @@ module _ {K V : Type 0} (same : K → K → Bool) (hash : ℕ → K → ℕ) (na
             ap (λ (z : Option ℕ). means one (reply_to z c.replies) z (length y.stored + 1)) (ap (λ (z : ℕ). finite_map same z y k) its.0 ∙ e) ∙ meaning (length y.stored + 1)
 
         by : OneOf (λ (y : Moment K V). HadThen same st2 number2 time k (finite_map same map y k)) (v2 ∷ log.since c.begun) → Goal
-        by (inl had) = last_there log history.past Means c.begun begun (so log.now (sym still ∙ sym (same_then k) ∙ is (finite_map same map v2 k) had))
+        by (inl had) = now_there log history.past Means c.begun begun (so log.now (sym still ∙ sym (same_then k) ∙ is (finite_map same map v2 k) had))
         by (inr had) =
             each_of (λ (y : Moment K V). HadThen same st2 number2 time k (finite_map same map y k)) Means (log.since c.begun) (λ y h. so y (is (finite_map same map y k) h)) had
 

@@ -30,5 +30,20 @@ module _ {K V : Type 0} where
       none begun l = grind (arith, l)
 
   -- the last moment is one of them
-  pub last_there : (log : Past K V) → IsPast log → (P : Moment K V → Type 0) (begun : ℕ) → begun ≤ log.entries → P log.now → OneOf P (log.since begun)
-  last_there log is P begun l p = let last = is.last begun l in subst (OneOf P) (sym last.1) (inl p)
+  pub now_there : (log : Past K V) → IsPast log → (P : Moment K V → Type 0) (begun : ℕ) → begun ≤ log.entries → P log.now → OneOf P (log.since begun)
+  now_there log is P begun l p = let last = is.last begun l in subst (OneOf P) (sym last.1) (inl p)
+
+  -- of a log of events
+  pub moments_grow : (begun : ℕ) (e : Entry K V) (log : List (Entry K V)) → begun ≤ length (e ∷ log) → moments_from begun (e ∷ log) ≡ moment (e ∷ log) ∷ moments_from begun log
+  moments_grow begun e log l = grows (moment (e ∷ log)) (past log) begun l
+
+  pub events_are : (log : List (Entry K V)) → (moment log).events ≡ length log
+  events_are [] = refl
+  events_are (e ∷ log) = let rest = events_are log in omega (arith, rest)
+
+  pub past_is : (log : List (Entry K V)) → IsPast (past log)
+  past_is [] = first_is_past
+  past_is (e ∷ log) = further_is_past (moment (e ∷ log)) (past log) (events_are (e ∷ log))
+
+  pub last_there : (P : Moment K V → Type 0) (begun : ℕ) (log : List (Entry K V)) → begun ≤ length log → P (moment log) → OneOf P (moments_from begun log)
+  last_there P begun log l p = now_there (past log) (past_is log) P begun l p

@@ -42,7 +42,7 @@ use Rattle.papaya_histories.specs.Had.{HadThen}
 use Rattle.papaya_histories.specs.Questions.{unanswered, replied_to, ShowsQuestions}
 use Rattle.papaya_histories.proofs.Had.{had_none, had_pair}
 use Rattle.papaya_histories.proofs.Keys.{its_call}
-use Rattle.papaya_histories.proofs.Logs.{each_of, last_there}
+use Rattle.papaya_histories.proofs.Logs.{each_of, now_there}
 use Rattle.papaya_histories.proofs.Roles.{named_by}
 use Rattle.papaya_histories.proofs.Several.{stands}
 use Rattle.papaya_histories.proofs.Untold.{never_asked, wants_none, wants_pair, fits_it, untold_none, untold_pair}
@@ -136,7 +136,7 @@ module _ {K V : Type 0} (same : K → K → Bool) (hash : ℕ → K → ℕ) (na
         so y e = (ap (λ (z : ℕ). finite_map same z y k) its.0 ∙ e, wants (length y.stored + 1))
 
         by : OneOf (λ (y : Moment K V). HadThen same st number time k (finite_map same map y k)) (m ∷ log.since c.begun) → OneOf (Wanted o) (log.since c.begun)
-        by (inl had) = last_there log dues.history.past (Wanted o) c.begun (dues.history.begun map i (OnKey u) here c c_is) (so log.now (sym still ∙ is (finite_map same map m k) had))
+        by (inl had) = now_there log dues.history.past (Wanted o) c.begun (dues.history.begun map i (OnKey u) here c c_is) (so log.now (sym still ∙ is (finite_map same map m k) had))
         by (inr had) =
             each_of (λ (y : Moment K V). HadThen same st number time k (finite_map same map y k)) (Wanted o) (log.since c.begun) (λ y h. so y (is (finite_map same map y k) h)) had
 

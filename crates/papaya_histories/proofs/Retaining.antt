@@ -24,7 +24,7 @@ use Rattle.papaya_histories.specs.Histories.{ShowsHistory}
 use Rattle.papaya_histories.specs.Retaining.{RetainingsMayAsk}
 use Rattle.papaya_histories.proofs.Found.{FoundIn, found}
 use Rattle.papaya_histories.proofs.Had.{had_pair}
-use Rattle.papaya_histories.proofs.Logs.{each_of, last_there}
+use Rattle.papaya_histories.proofs.Logs.{each_of, now_there}
 use Rattle.papaya_histories.proofs.Now.{both_true}
 use Rattle.papaya_histories.proofs.Roles.{named_by}
 use Rattle.papaya_histories.proofs.Several.{stands}
@@ -91,7 +91,7 @@ module _ {K V : Type 0} (same : K → K → Bool) (hash : ℕ → K → ℕ) (na
       before has (inr gone) = absurd (cc (has, gone))
 
       by : OneOf (λ (y : Moment K V). HadThen same st number time k (finite_map same map y k)) (m ∷ log.since c.begun) → OneOf InMap (log.since c.begun)
-      by (inl had) = last_there log history.past InMap c.begun (history.begun map i (OverAll o) here c c_is) (before (is (finite_map same map m k) had) (fewer k))
+      by (inl had) = now_there log history.past InMap c.begun (history.begun map i (OverAll o) here c c_is) (before (is (finite_map same map m k) had) (fewer k))
       by (inr had) = each_of (λ (y : Moment K V). HadThen same st number time k (finite_map same map y k)) InMap (log.since c.begun) (λ y h. so y (is (finite_map same map y k) h)) had
 
   asks : OneOf InMap (log.since c.begun)

@@ -10,7 +10,7 @@ use Rattle.papaya_histories.specs.Had.{HadThen}
 use Rattle.papaya_histories.specs.Histories.{IsPast, IsWithin}
 use Rattle.papaya_histories.proofs.Had.{had_on}
 use Rattle.papaya_histories.proofs.Later.{IsLater}
-use Rattle.papaya_histories.proofs.Logs.{each_of, last_there}
+use Rattle.papaya_histories.proofs.Logs.{each_of, now_there}
 use Rattle.papaya_moments.specs.Given.Schedules.Transition.{Past}
 
 -- from one moment to the next, of the map and of the run
@@ -33,7 +33,7 @@ module _ {K V : Type 0} (same : K → K → Bool) (map : ℕ) (s s2 : Standing K
 
         here : Then m → (finite_map same map v k ≡ finite_map same map m k) ⊎ (finite_map same map m k ≡ finite_map same map log.now k) → OneOf Then (v ∷ log.since begun)
         here h (inl kept) = inl (subst (λ (o : Option ℕ). HadThen same s2 number2 time k o) (sym kept) h)
-        here h (inr was) = inr (last_there log is_past Then begun before (subst (λ (o : Option ℕ). HadThen same s2 number2 time k o) was h))
+        here h (inr was) = inr (now_there log is_past Then begun before (subst (λ (o : Option ℕ). HadThen same s2 number2 time k o) was h))
 
         by : OneOf Was (m ∷ log.since begun) → OneOf Then (v ∷ log.since begun)
         by (inl h) = here (on m h) (changes k)
