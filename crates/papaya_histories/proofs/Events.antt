@@ -158,7 +158,7 @@ module _ {K V : Type 0} (same : K → K → Bool) (hash : ℕ → K → ℕ) (na
   no_going replies about _ told goes = told
 
   module _ (c_is : call_of (name i) beginning ≡ Some c) (said : Progress (Node K V)) (leads : StepLeads same hash i said s old new) (t : Transition K V) (is_caller : t.caller ≡ Some (name i))
-      (begun : t.found ≡ beginning) (acts_on : t.mapeginning ≡ Some map)
+      (begun : t.found ≡ beginning) (acts_on : t.map ≡ Some map)
       (effects_are : t.effects ≡ done ++ effects_of (acts.Call i map) known new.changed) (comes : ComesToIt known2 one c.replies said t.outcome) where
     abbrev call : CallThere K V
     call = call_then said leads
@@ -166,7 +166,7 @@ module _ {K V : Type 0} (same : K → K → Bool) (hash : ℕ → K → ℕ) (na
     worked_is : worked_by t ≡ then_at same hash name log beginning map i one c one_is done m known s u midst old new at said leads
     worked_is =
         ap (λ (b : Moment K V). with_effects t.caller t.map t.effects b) begun
-        ∙ ap (λ (o : Option (List ℕ)). with_effects o (t.mapeginning) t.effects beginning) is_caller
+        ∙ ap (λ (o : Option (List ℕ)). with_effects o (t.map) t.effects beginning) is_caller
         ∙ ap (λ (o : Option ℕ). with_effects (Some (name i)) o t.effects beginning) acts_on
         ∙ ap (λ (l : List Effect). with_effects (Some (name i)) (Some map) l beginning) effects_are
         ∙ sym (worked_then same hash name log beginning map i one c one_is done m known s u midst old new at said leads)

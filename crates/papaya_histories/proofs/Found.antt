@@ -5,7 +5,6 @@ use Rattle.std.proofs.lemmas.Bool.{cases_eq}
 use Rattle.papaya_moments.specs.Given.Runs.Log.{pair_at, is_key}
 use Rattle.papaya_moments.specs.Given.Schedules.Moment.{Place, Moment}
 use Rattle.papaya_moments.specs.Given.Schedules.Views.{is_in_map, found_below, finite_map}
-use Rattle.papaya_moments.specs.Given.Schedules.Transition.{further}
 
 module _ {K V : Type 0} (eq : K → K → Bool) (map : ℕ) (k : K) (m : Moment K V) where
   -- the pair of a number is in the map, and has such a key

@@ -1,6 +1,8 @@
 -- The moments of a run since an event: the last one is among them, and more come.
-use Rattle.std.specs.Prelude.{◌≡◌, ℕ, ◌==◌, nat_lt, ◌≤◌, suc, true, false, List, [], ◌∷◌, if◌then◌else◌}
+use Rattle.std.specs.Prelude.{◌≡◌, ℕ, ◌==◌, nat_lt, ◌≤◌, suc, true, false, List, [], ◌∷◌, length, if◌then◌else◌}
 use Rattle.std.proofs.Common.{refl, ap, subst, sym, ◌∙◌, arith, inl, inr}
+use Rattle.papaya_moments.specs.Given.Schedules.After.{moment, moments_from}
+use Rattle.papaya_moments.specs.Given.Schedules.Entry.{Entry}
 use Rattle.papaya_moments.specs.Given.Schedules.Lists.{OneOf}
 use Rattle.papaya_moments.specs.Given.Schedules.Moment.{Moment, start}
 use Rattle.papaya_moments.specs.Given.Schedules.Transition.{Past, further, past}

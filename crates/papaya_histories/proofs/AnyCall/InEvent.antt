@@ -280,7 +280,7 @@ module _ (K V : Type 0) (same : K → K → Bool) (hash : ℕ → K → ℕ) whe
 
   module _ (name : ℕ → List ℕ) (log : Past K V) (beginning : Moment K V) (map i : ℕ) (c : CallThere K V) (c_is : call_of (name i) beginning ≡ Some c)
       (done : List Effect) (m : Moment K V) (known : Known) (s : Scene K V) (old new : Held K V) (at_old : IsAt same hash old s) (said : Progress (Node K V)) (leads : StepLeads same hash i said s old new)
-      (t : Transition K V) (is_caller : t.caller ≡ Some (name i)) (begun : t.found ≡ beginning) (acts_on : t.mapeginning ≡ Some map)
+      (t : Transition K V) (is_caller : t.caller ≡ Some (name i)) (begun : t.found ≡ beginning) (acts_on : t.map ≡ Some map)
       (effects_are : t.effects ≡ done ++ effects_of (acts.Call i map) known new.changed) (comes : ComesSo (known_after (acts.Call i map) new.changed known) c.call c.replies said t.outcome) where
     other_ends : (u : UnderWay K V K) → InOtherMidst same name log beginning map i c done m known s u → Linearizes same log t × AsksOnStill t
     other_ends u midst =

@@ -1,6 +1,6 @@
 -- Once an event of steps of a call is over, the moment after it shows all of the scene, what calls owe, and what those on no key are called for, told and ask.
 use Rattle.std.specs.Prelude.{◌≡◌, ℕ, Bool, true, false, List, ◌∷◌, Option, Some, None, length, suc}
-use Rattle.std.proofs.Common.{refl, ap, sym, ◌∙◌, inl, inr}
+use Rattle.std.proofs.Common.{refl, ap, sym, ◌∙◌, inl, inr, arith}
 use Rattle.papaya_moments.specs.Given.Tables.declared.node.Node.{Node}
 use Rattle.papaya_moments.specs.Given.Runs.Same.{is_same}
 use Rattle.papaya_moments.specs.Given.Raw.declared.machines.machine.Machine.{Machine}

@@ -221,7 +221,7 @@ module _ {K V : Type 0} (same : K → K → Bool) (hash : ℕ → K → ℕ) (na
   asked _ leads question as_said = absurd as_said
 
   module _ (c_is : call_of (name i) beginning ≡ Some c) (said : Progress (Node K V)) (leads : StepLeads same hash i said s old new) (t : Transition K V) (is_caller : t.caller ≡ Some (name i))
-      (begun : t.found ≡ beginning) (acts_on : t.mapeginning ≡ Some map)
+      (begun : t.found ≡ beginning) (acts_on : t.map ≡ Some map)
       (effects_are : t.effects ≡ done ++ effects_of (acts.Call i map) known new.changed) (as_said : AsksAsSaid known2 said t.outcome) where
     abbrev call_at_end : CallThere K V
     call_at_end = at_end said leads
@@ -230,7 +230,7 @@ module _ {K V : Type 0} (same : K → K → Bool) (hash : ℕ → K → ℕ) (na
     end_is =
         ap (call_of (name i)) (
         ap (λ (b : Moment K V). with_effects (t.caller) (t.map) t.effects b) begun
-        ∙ ap (λ (o : Option (List ℕ)). with_effects o (t.mapeginning) t.effects beginning) is_caller
+        ∙ ap (λ (o : Option (List ℕ)). with_effects o (t.map) t.effects beginning) is_caller
         ∙ ap (λ (o : Option ℕ). with_effects (Some (name i)) o t.effects beginning) acts_on
         ∙ ap (λ (l : List Effect). with_effects (Some (name i)) (Some map) l beginning) effects_are
         ∙ sym (worked_then same hash name log beginning map i c done m known s u midst old new at_old said leads))
