@@ -17,7 +17,7 @@ use Rattle.papaya_legal.specs.Given.Schedules.Lives.{CallFinds, Finds, MayDefer}
 use Rattle.papaya_legal.specs.Given.Schedules.Moment.{UnderWay as CallThere, Moment}
 use Rattle.papaya_legal.specs.Given.Schedules.Terms.{Terms}
 use Rattle.papaya_legal.specs.Given.Schedules.Views.{call_of}
-use Rattle.papaya_legal.proofs.Given.Histories.BeginsCall.{events_are}
+use Rattle.papaya_legal.proofs.Given.Histories.Logs.{events_are}
 use Rattle.papaya_legal.proofs.Given.Finds.Life.{each_so}
 use Rattle.papaya_folded.specs.Folded.{CallsFold, DeferralsAreRight, EndedCallsFold, HandsInOrder, handed, handed_in, if_its, out_in, since, took}
 use Rattle.papaya_folded.proofs.Effects.{all_go, joined}

@@ -33,6 +33,7 @@ use Rattle.papaya_folded.specs.Steps.{CallEventsHandInOrder, StepsHandInOrder}
 use Rattle.papaya_legal.specs.Given.Scenes.Held.{Held, IsAt}
 use Rattle.papaya_legal.specs.Given.Scenes.Scene.{Scene}
 use Rattle.papaya_legal.specs.Given.Scenes.Stepping.{StepLeads}
+use Rattle.papaya_legal.specs.Given.Schedules.Transition.{past}
 
 -- what leaves all that is owed hands nothing over
 none_in : (f : Effect) → leaves_owed f ≡ true → handed_in f ≡ []
@@ -126,7 +127,7 @@ module _ (K V : Type 0) (same : K → K → Bool) (hash : ℕ → K → ℕ) whe
           × HandInOrder (Some (name i)) (Some map) x.come.did beginning
 
       its_here : (x : CallCome K V) → SoFar x → x.come.scene.calls map i ≡ Some x.under
-      its_here x so_far = here_of same name log beginning map i c x.come.did x.come.now x.come.notes x.come.scene x.under so_far.0.event_so
+      its_here x so_far = here_of same name (past log) beginning map i c x.come.did x.come.now x.come.notes x.come.scene x.under so_far.0.event_so
 
       after_one : (x : CallCome K V) → SoFar x → (then_held : Held K V) (told : Progress (Node K V)) → IsAt same hash x.come.held x.come.scene
           → StepLeads same hash i told x.come.scene x.come.held then_held

@@ -16,8 +16,6 @@ use Rattle.papaya_moments.specs.Given.Raw.declared.machines.progress.Progress.Th
 use Rattle.papaya_moments.specs.Given.Schedules.declared.call.Answer.{Answer}
 use Rattle.papaya_moments.specs.Given.Schedules.declared.call.Call.TheVariants.{On}
 use Rattle.papaya_moments.specs.Given.Schedules.declared.call.OneKey.{OneKey}
-use Rattle.papaya_moments.specs.Given.Schedules.After.{moment, moments_from}
-use Rattle.papaya_moments.specs.Given.Schedules.Entry.{Entry}
 use Rattle.papaya_moments.specs.Given.Schedules.Linearizable.{meaning_at}
 use Rattle.papaya_moments.specs.Given.Schedules.Lists.{OneOf}
 use Rattle.papaya_moments.specs.Given.Schedules.Moment.{UnderWay as CallThere, Moment}
@@ -41,13 +39,14 @@ use Rattle.papaya_histories.specs.Histories.{IsWithin, ShowsHistory}
 use Rattle.papaya_histories.proofs.Had.{had_none, had_pair}
 use Rattle.papaya_histories.proofs.Keys.{its_call}
 use Rattle.papaya_histories.proofs.Later.{IsLater}
-use Rattle.papaya_histories.proofs.Logs.{each_of, last_there}
+use Rattle.papaya_histories.proofs.Logs.{each_of, now_there}
 use Rattle.papaya_histories.proofs.Roles.{named_by, no_change, stands_then, stands_is, roles_before, roles_after}
 use Rattle.papaya_histories.proofs.Steps.{to, led_on, v, after, maps_later, now_then, same_pairs}
 use Rattle.papaya_histories.proofs.Within.{within_on}
 use Rattle.papaya_moments.specs.Given.Scenes.Held.{Held, IsAt}
 use Rattle.papaya_moments.specs.Given.Scenes.Scene.{Scene, slot_of}
 use Rattle.papaya_moments.specs.Given.Scenes.Stepping.{StepLeads}
+use Rattle.papaya_moments.specs.Given.Schedules.Transition.{Past}
 
 pub ended : {T : Type 0} (end : Called T) (answer : KeyAnswer) → Done (Key answer) ≡ of_called end → end ≡ called.Done answer
 ended called.Goes answer e = absurd (cc e)
@@ -58,11 +57,11 @@ ended (called.Asks about) answer e = absurd (cc e)
 ended (called.Done other) answer e = let one : other ≡ answer = cc e in ap called.Done one
 ended (called.Refused fault) answer e = absurd (cc e)
 
-module _ {K V : Type 0} (same : K → K → Bool) (hash : ℕ → K → ℕ) (name : ℕ → List ℕ) (log : List (Entry K V)) (m : Moment K V) (known : Known) (s : Scene K V) (old new : Held K V)
+module _ {K V : Type 0} (same : K → K → Bool) (hash : ℕ → K → ℕ) (name : ℕ → List ℕ) (log : Past K V) (m : Moment K V) (known : Known) (s : Scene K V) (old new : Held K V)
     (at : IsAt same hash old s) (whole : ShowsWhole same name m known s) (history : ShowsHistory same name log m known s) (map i : ℕ) (x : CallOnKey K V K)
     (here : s.calls map i ≡ Some (OnKey x)) (said : Progress (Node K V)) (leads : StepLeads same hash i said s old new)
     (c : CallThere K V) (c_is : call_of (name i) m ≡ Some c) (one : OneKey K V) (one_is : c.call ≡ On one)
-    (still : finite_map same map m (key_of one) ≡ finite_map same map (moment log) (key_of one)) (mean : Meaning V) where
+    (still : finite_map same map m (key_of one) ≡ finite_map same map log.now (key_of one)) (mean : Meaning V) where
   abbrev shown : Shows same name m known s
   shown = history.shown
 
@@ -88,12 +87,12 @@ module _ {K V : Type 0} (same : K → K → Bool) (hash : ℕ → K → ℕ) (na
   Means y = meaning_at same one c y ≡ mean
 
   abbrev Goal : Type 0
-  Goal = OneOf Means (moments_from c.begun log)
+  Goal = OneOf Means (log.since c.begun)
 
   its : (c.map ≡ map) × (x.keys ≡ same k)
   its = its_call same name m known s shown map i x here c c_is one one_is
 
-  begun : c.begun ≤ length log
+  begun : c.begun ≤ log.entries
   begun = history.begun map i (OnKey x) here c c_is
 
   module _ (st2 : Standing K) (st2_is : went.4.maps2 map ≡ Some st2) (kept : st2.chart.current ≡ st.chart.current) where
@@ -112,8 +111,8 @@ module _ {K V : Type 0} (same : K → K → Bool) (hash : ℕ → K → ℕ) (na
     same_then : (key : K) → finite_map same map v2 key ≡ finite_map same map m key
     same_then key = same_pairs same hash name m known s old new at whole shown map i (OnKey x) here said leads map st2 st2_is st went.2 kept key
 
-    within2 : IsWithin same map st2 number2 (v2 ∷ moments_from c.begun log) x.began
-    within2 = within_on same map st st2 (shown.number map) number2 later (on.numbers map st went.2) log m v2 c.begun begun (λ key. inl (same_then key)) now2 x.began
+    within2 : IsWithin same map st2 number2 (v2 ∷ log.since c.begun) x.began
+    within2 = within_on same map st st2 (shown.number map) number2 later (on.numbers map st went.2) log history.past m v2 c.begun begun (λ key. inl (same_then key)) now2 x.began
         (history.within map i (OnKey x) here st went.2 c c_is x.began refl)
 
     -- what the class had at a moment of the map since the call began, it had at one between two events
@@ -125,10 +124,10 @@ module _ {K V : Type 0} (same : K → K → Bool) (hash : ℕ → K → ℕ) (na
         so y e =
             ap (λ (z : Option ℕ). means one (reply_to z c.replies) z (length y.stored + 1)) (ap (λ (z : ℕ). finite_map same z y k) its.0 ∙ e) ∙ meaning (length y.stored + 1)
 
-        by : OneOf (λ (y : Moment K V). HadThen same st2 number2 time k (finite_map same map y k)) (v2 ∷ moments_from c.begun log) → Goal
-        by (inl had) = last_there Means c.begun log begun (so (moment log) (sym still ∙ sym (same_then k) ∙ is (finite_map same map v2 k) had))
+        by : OneOf (λ (y : Moment K V). HadThen same st2 number2 time k (finite_map same map y k)) (v2 ∷ log.since c.begun) → Goal
+        by (inl had) = now_there log history.past Means c.begun begun (so log.now (sym still ∙ sym (same_then k) ∙ is (finite_map same map v2 k) had))
         by (inr had) =
-            each_of (λ (y : Moment K V). HadThen same st2 number2 time k (finite_map same map y k)) Means (moments_from c.begun log) (λ y h. so y (is (finite_map same map y k) h)) had
+            each_of (λ (y : Moment K V). HadThen same st2 number2 time k (finite_map same map y k)) Means (log.since c.begun) (λ y h. so y (is (finite_map same map y k) h)) had
 
     module _ (seen : Blocks) (roles : (n : ℕ) → n < st2.chart.stored → seen.pair_known n ≡ true → known2.roles (seen.pair n) ≡ role.Pair (number2 n)) where
       -- where its key's class had the pair that was found
@@ -167,11 +166,11 @@ module _ {K V : Type 0} (same : K → K → Bool) (hash : ℕ → K → ℕ) (na
     pub stands_on_is : went.4.maps2 map ≡ Some stands_on
     stands_on_is = same_map.2
 
-module _ {K V : Type 0} (same : K → K → Bool) (hash : ℕ → K → ℕ) (name : ℕ → List ℕ) (log : List (Entry K V)) (m : Moment K V) (known : Known) (s : Scene K V) (old new : Held K V)
+module _ {K V : Type 0} (same : K → K → Bool) (hash : ℕ → K → ℕ) (name : ℕ → List ℕ) (log : Past K V) (m : Moment K V) (known : Known) (s : Scene K V) (old new : Held K V)
     (at : IsAt same hash old s) (whole : ShowsWhole same name m known s) (history : ShowsHistory same name log m known s) (map i : ℕ) (x : CallOnKey K V K)
     (here : s.calls map i ≡ Some (OnKey x)) (answer : KeyAnswer) (leads : StepLeads same hash i (Done (Key answer)) s old new)
     (c : CallThere K V) (c_is : call_of (name i) m ≡ Some c) (one : OneKey K V) (one_is : c.call ≡ On one)
-    (still : finite_map same map m (key_of one) ≡ finite_map same map (moment log) (key_of one)) (a : Answer V) where
+    (still : finite_map same map m (key_of one) ≡ finite_map same map log.now (key_of one)) (a : Answer V) where
   abbrev said : Progress (Node K V)
   said = Done (Key answer)
 
@@ -188,7 +187,7 @@ module _ {K V : Type 0} (same : K → K → Bool) (hash : ℕ → K → ℕ) (na
   noted = after same hash name m known s old new at whole its_shown map i (OnKey x) here said leads
 
   abbrev Answered : Type 0
-  Answered = OneOf (λ (y : Moment K V). meaning_at same one c y ≡ Answers a Leaves) (moments_from c.begun log)
+  Answered = OneOf (λ (y : Moment K V). meaning_at same one c y ≡ Answers a Leaves) (log.since c.begun)
 
   module _ (st2 : Standing K) (st2_is : its_step.4.maps2 map ≡ Some st2) (kept : st2.chart.current ≡ stood.chart.current) (seen : Blocks)
       (roles : (n : ℕ) → n < st2.chart.stored → seen.pair_known n ≡ true → noted.roles (seen.pair n) ≡ role.Pair ((led_on same hash name m known s old new at whole its_shown map i (OnKey x) here said leads).shows.number map n)) where

@@ -6,8 +6,6 @@ use Rattle.papaya_moments.specs.Given.Schedules.declared.call.Call.TheVariants.{
 use Rattle.papaya_moments.specs.Given.Schedules.declared.call.OneKey.{OneKey}
 use Rattle.papaya_moments.specs.Given.Schedules.declared.effect.Effect.{Effect}
 use Rattle.papaya_moments.specs.Given.Schedules.declared.outcome.Outcome.TheVariants as outcome
-use Rattle.papaya_moments.specs.Given.Schedules.After.{moment, moments_from}
-use Rattle.papaya_moments.specs.Given.Schedules.Entry.{Entry}
 use Rattle.papaya_moments.specs.Given.Schedules.Linearizable.{MayAsk, AsksRight}
 use Rattle.papaya_moments.specs.Given.Schedules.Moment.{Stands, Going, Asking, Told, IsReady, UnderWay as CallThere, Moment}
 use Rattle.papaya_moments.specs.Given.Schedules.Sequential.{key_of}
@@ -22,8 +20,9 @@ use Rattle.papaya_histories.proofs.MayAsk.{may_ask, asks_unchanged}
 use Rattle.papaya_histories.proofs.Questions.{effects_keep_questions}
 use Rattle.papaya_moments.specs.Given.Scenes.Held.{Held, IsAt}
 use Rattle.papaya_moments.specs.Given.Scenes.Scene.{Scene}
+use Rattle.papaya_moments.specs.Given.Schedules.Transition.{Past}
 
-module _ {K V : Type 0} (same : K → K → Bool) (hash : ℕ → K → ℕ) (name : ℕ → List ℕ) (log : List (Entry K V)) (beginning : Moment K V) (map i : ℕ) (one : OneKey K V) (c : CallThere K V)
+module _ {K V : Type 0} (same : K → K → Bool) (hash : ℕ → K → ℕ) (name : ℕ → List ℕ) (log : Past K V) (beginning : Moment K V) (map i : ℕ) (one : OneKey K V) (c : CallThere K V)
     (one_is : c.call ≡ On one) (questions : ShowsQuestions beginning)
     (done : List Effect) (m : Moment K V) (known : Known) (s : Scene K V) (u : CallOnKey K V K) (midst : InMidst same name log beginning map i one c done m known s u)
     (x : Held K V) (at_x : IsAt same hash x s) (question : Option ℕ) (asks : AsksThere known u.call.stands question) where
@@ -38,16 +37,16 @@ module _ {K V : Type 0} (same : K → K → Bool) (hash : ℕ → K → ℕ) (na
   then_asked = subst (λ (y : Moment K V). ShowsQuestions y) (sym midst.worked) (effects_keep_questions K V (Some (name i)) (Some map) done beginning questions)
 
   -- it has changed nothing
-  still : finite_map same map m (key_of one) ≡ finite_map same map (moment log) (key_of one)
+  still : finite_map same map m (key_of one) ≡ finite_map same map log.now (key_of one)
   still = (midst.untouched (asks_unchanged same hash name log m known s x at_x midst.dues map i u midst.here there midst.there_is one there_one question asks)).1 (key_of one)
-      ∙ map_alike same map (key_of one) (moment log) beginning midst.begins.0 midst.begins.1
+      ∙ map_alike same map (key_of one) log.now beginning midst.begins.0 midst.begins.1
 
   -- so it may ask, if it does not ask already
-  may : unanswered there.stands ≡ [] → MayAsk same there.call there (moments_from there.begun log) question
-  may first = subst (λ (z : Call K V). MayAsk same z there (moments_from there.begun log) question) (sym there_one)
+  may : unanswered there.stands ≡ [] → MayAsk same there.call there (log.since there.begun) question
+  may first = subst (λ (z : Call K V). MayAsk same z there (log.since there.begun) question) (sym there_one)
       (may_ask same hash name log m known s x at_x midst.dues map i u midst.here there midst.there_is one there_one then_asked still first question asks)
 
-  pub asks_right : (stands : Stands) → there.stands ≡ stands → AsksRight same stands there (moments_from there.begun log) (outcome.Asks question)
+  pub asks_right : (stands : Stands) → there.stands ≡ stands → AsksRight same stands there (log.since there.begun) (outcome.Asks question)
   asks_right (Asking q) is = tt
   asks_right Going is = may (ap unanswered is)
   asks_right Told is = may (ap unanswered is)

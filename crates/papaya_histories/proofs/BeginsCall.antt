@@ -1,12 +1,10 @@
 -- In the midst of an event that begins its call: nothing was done yet.
-use Rattle.std.specs.Prelude.{◌≡◌, ℕ, Bool, List, [], ◌∷◌, length, cond, find, Option, Some}
+use Rattle.std.specs.Prelude.{◌≡◌, ℕ, Bool, List, [], ◌∷◌, cond, find, Option, Some}
 use Rattle.std.proofs.Common.{refl, ap, sym, ◌∙◌, arith}
 use Rattle.papaya_moments.specs.Given.Seize.World.{with_at}
 use Rattle.papaya_moments.specs.Given.Runs.Same.{is_same}
 use Rattle.papaya_moments.specs.Given.Schedules.declared.call.Call.TheVariants.{On}
-use Rattle.papaya_moments.specs.Given.Schedules.After.{moment}
 use Rattle.papaya_moments.specs.Given.Schedules.Beginning.{fresh_call, with_call}
-use Rattle.papaya_moments.specs.Given.Schedules.Entry.{Entry}
 use Rattle.papaya_moments.specs.Given.Schedules.Moment.{UnderWay as CallThere, Moment}
 use Rattle.papaya_moments.specs.Given.Schedules.Views.{call_of}
 use Rattle.papaya_moments.specs.Given.Points.FactsCalls.{Unchanged}
@@ -23,24 +21,19 @@ use Rattle.papaya_histories.proofs.Several.{midsts_begin}
 use Rattle.papaya_moments.specs.Given.Scenes.Replying.{scene_with}
 use Rattle.papaya_moments.specs.Given.Scenes.Scene.{Scene}
 
--- as many events have come as the log has
-pub events_are : {K V : Type 0} (log : List (Entry K V)) → (moment log).events ≡ length log
-events_are [] = refl
-events_are (e ∷ log) = let rest = events_are log in omega (arith, rest)
-
 module _ (K V : Type 0) (same : K → K → Bool) (hash : ℕ → K → ℕ) where
   pub midsts_begin_calls : MidstsBeginCalls K V same hash
   midsts_begin_calls name log known s old at_old whole dues map i u one guard standing there now unchanged apart called begun rests new at_new =
       (c_is, midsts_begin K V same hash name log beginning (refl, refl) known _ new at_new whole2 dues2 map i u here c c_is one refl)
     where
       beginning : Moment K V
-      beginning = with_call (name i) guard (On one) (Some map) (moment log)
+      beginning = with_call (name i) guard (On one) (Some map) log.now
 
       c : CallThere K V
-      c = fresh_call (name i) guard (On one) map (moment log).events
+      c = fresh_call (name i) guard (On one) map log.now.events
 
       c_is : call_of (name i) beginning ≡ Some c
-      c_is = ap (λ q. cond q (Some c) (find (λ (x : CallThere K V). is_same x.caller (name i)) (moment log).calls)) (is_same_refl (name i))
+      c_is = ap (λ q. cond q (Some c) (find (λ (x : CallThere K V). is_same x.caller (name i)) log.now.calls)) (is_same_refl (name i))
 
       s2 : Scene K V
       s2 = scene_with map i (OnKey u) s
@@ -51,12 +44,12 @@ module _ (K V : Type 0) (same : K → K → Bool) (hash : ℕ → K → ℕ) whe
           ∙ at_same (s.calls map) i (Some (OnKey u)) i refl
 
       whole2 : ShowsWhole same name beginning known s2
-      whole2 = calls_begin_whole K V same name (moment log) known s whole map i (OnKey u) (On one) guard apart called begun rests
+      whole2 = calls_begin_whole K V same name log.now known s whole map i (OnKey u) (On one) guard apart called begun rests
 
       at_begin : (v : CallOnKey K V K) → ◌≡◌ {A = UnderWay K V K} (OnKey u) (OnKey v) → v.change ≡ Unchanged
       at_begin v e = let one_call : u ≡ v = cc e in ap (λ (z : CallOnKey K V K). z.change) (sym one_call) ∙ unchanged
 
       dues2 : ShowsDue same name log beginning known s2
       dues2 =
-          calls_begin_due K V same hash name log (moment log) known s old at_old dues map i (OnKey u) (On one) guard standing there
-          (λ began e. sym (one_of u.began began e) ∙ now) at_begin apart called begun (events_are log)
+          calls_begin_due K V same hash name log log.now known s old at_old dues map i (OnKey u) (On one) guard standing there
+          (λ began e. sym (one_of u.began began e) ∙ now) at_begin apart called begun dues.history.past.counted

@@ -1,12 +1,12 @@
 -- Before all events, between the steps of calls, and where an event is over, histories stay within the moments of the run.
-use Rattle.std.specs.Prelude.{◌≡◌, ℕ, ◌+◌, ◌≤◌, Bool, true, false, cond, not, List, ◌∷◌, length, find, map, Option, Some, if◌then◌else◌, ◌⊎◌}
+use Rattle.std.specs.Prelude.{◌≡◌, ℕ, ◌+◌, ◌≤◌, Bool, true, false, cond, not, List, ◌∷◌, find, map, Option, Some, if◌then◌else◌, ◌⊎◌}
 use Rattle.std.proofs.Common.{refl, ap, sym, subst, ◌∙◌, arith, inl, inr}
 use Rattle.papaya_moments.specs.Given.Runs.Same.{is_same}
 use Rattle.papaya_moments.specs.Given.Raw.declared.machines.asking.Reply.{Reply as MachineReply}
 use Rattle.papaya_moments.specs.Given.Schedules.declared.outcome.Outcome.{Outcome}
-use Rattle.papaya_moments.specs.Given.Schedules.After.{moment, moments_from, replied, without_call}
+use Rattle.papaya_moments.specs.Given.Schedules.After.{replied, without_call}
 use Rattle.papaya_moments.specs.Given.Schedules.Beginning.{fresh_call, with_call}
-use Rattle.papaya_moments.specs.Given.Schedules.Entry.{Entry, ends_call}
+use Rattle.papaya_moments.specs.Given.Schedules.Entry.{ends_call}
 use Rattle.papaya_moments.specs.Given.Schedules.Lists.{OneOf}
 use Rattle.papaya_moments.specs.Given.Schedules.Moment.{UnderWay as CallThere, Moment}
 use Rattle.papaya_moments.specs.Given.Schedules.Views.{call_of, finite_map}
@@ -29,15 +29,17 @@ use Rattle.papaya_histories.specs.Histories.{began_of, since, IsWithin, ShowsHis
 use Rattle.papaya_histories.specs.Kept.{HistoriesBegin, CallsBeginHistories, CallsTakeHistories, CallsComeToHistories, EventsKeepHistories, FirstStepsChangeFirst}
 use Rattle.papaya_histories.proofs.Begun.{if_begun, replied_begun, comes_begun}
 use Rattle.papaya_histories.proofs.Found.{map_alike}
-use Rattle.papaya_histories.proofs.Logs.{moments_grow}
+use Rattle.papaya_histories.proofs.Logs.{first_is_past, further_is_past, grows}
 use Rattle.papaya_histories.proofs.Now.{now_had}
 use Rattle.papaya_histories.proofs.Within.{within_alike}
 use Rattle.papaya_moments.specs.Given.Scenes.Replying.{scene_with}
 use Rattle.papaya_moments.specs.Given.Scenes.Scene.{Scene, slot_of}
+use Rattle.papaya_moments.specs.Given.Schedules.Transition.{Past, further}
 
 pub histories_begin : (K V : Type 0) → HistoriesBegin K V
 histories_begin K V same roots name =
     let all = runs_begin_so K V same roots name in record {
+      past = first_is_past;
       shown = all.shown;
       asked = all.asked;
       begun = λ n i u is c found. absurd (cc is);
@@ -45,23 +47,24 @@ histories_begin K V same roots name =
     }
 
 pub first_steps_change_first : (K V : Type 0) (same : K → K → Bool) → FirstStepsChangeFirst K V same
-first_steps_change_first K V same log m v map begun k = inr (map_alike same map k (moment log) m begun.0 begun.1)
+first_steps_change_first K V same log m v map begun k = inr (map_alike same map k log.now m begun.0 begun.1)
 
 pub events_keep_histories : (K V : Type 0) (same : K → K → Bool) → EventsKeepHistories K V same
-events_keep_histories K V same name log e known s history = (
+events_keep_histories K V same name log m known s history counted = (
   record {
+    past = further_is_past m log counted;
     shown = history.shown;
     asked = history.asked;
     begun = λ n i u is c found. (let b = history.begun n i u is c found in omega (arith, b));
     within = λ n i u is st there c found began began_is time from to k.
-        more n c (history.begun n i u is c found) (λ x. HadThen same st (history.shown.number n) time k (finite_map same n x k)) (history.within n i u is st there c found began began_is time from to k);
+        more c (history.begun n i u is c found) (λ x. HadThen same st (history.shown.number n) time k (finite_map same n x k)) (history.within n i u is st there c found began began_is time from to k);
   },
   refl,
 )
   where
-    more : (n : ℕ) (c : CallThere K V) → c.begun ≤ length log → (P : Moment K V → Type 0) → OneOf P (since log (moment (e ∷ log)) c) → OneOf P (since (e ∷ log) (moment (e ∷ log)) c)
-    more n c b P (inl here) = inl here
-    more n c b P (inr there) = inr (subst (OneOf P) (sym (moments_grow c.begun e log (omega (arith, b)))) (inr there))
+    more : (c : CallThere K V) → c.begun ≤ log.entries → (P : Moment K V → Type 0) → OneOf P (since log m c) → OneOf P (since (further m log) m c)
+    more c b P (inl here) = inl here
+    more c b P (inr there) = inr (subst (OneOf P) (sym (grows m log c.begun (omega (arith, b)))) (inr there))
 
 -- a call that was told something began when it began
 told_began : {K V : Type 0} (same : K → K → Bool) (batch_size roots : ℕ) (standing : Standing K) (i : ℕ) (u : UnderWay K V K) (reply : MachineReply V) (next : UnderWay K V K)
@@ -75,7 +78,7 @@ told_began same batch_size roots standing i (OverAll o) reply next (inl (word, n
 told_began same batch_size roots standing i (OverAll o) reply next (inr is) = ap (λ (z : UnderWay _ _ _). began_of z) is
 
 -- Only calls have changed: each that is there then was there, begun by the same event and at the same moment of its map, or it begins now.
-module _ {K V : Type 0} (same : K → K → Bool) (name : ℕ → List ℕ) (log : List (Entry K V)) (m m2 : Moment K V) (known : Known) (s : Scene K V) (history : ShowsHistory same name log m known s)
+module _ {K V : Type 0} (same : K → K → Bool) (name : ℕ → List ℕ) (log : Past K V) (m m2 : Moment K V) (known : Known) (s : Scene K V) (history : ShowsHistory same name log m known s)
     (place : m2.place ≡ m.place) (stored : m2.stored ≡ m.stored) (calls2 : ℕ → ℕ → Option (UnderWay K V K))
     (after : Shows same name m2 known (record s { calls = calls2 })) (numbers : after.number ≡ history.shown.number)
     (asked : ShowsAsked name history.shown.number m2 known (record s { calls = calls2 })) where
@@ -84,12 +87,12 @@ module _ {K V : Type 0} (same : K → K → Bool) (name : ℕ → List ℕ) (log
 
   abbrev pub BeginsNow : ℕ → UnderWay K V K → CallThere K V → Type 0
   BeginsNow n x d =
-      (d.begun ≤ length log)
+      (d.begun ≤ log.entries)
       × ((st : Standing K) → s.maps n ≡ Some st → (began : ℕ) → began_of x ≡ Some began → IsWithin same n st (after.number n) (since log m2 d) began)
 
   module _ (which_is : (n j : ℕ) (x : UnderWay K V K) → calls2 n j ≡ Some x → (d : CallThere K V) → call_of (name j) m2 ≡ Some d → IsAsBefore n j x d ⊎ BeginsNow n x d) where
-    begun_then : (n j : ℕ) (x : UnderWay K V K) (d : CallThere K V) → IsAsBefore n j x d ⊎ BeginsNow n x d → d.begun ≤ length log
-    begun_then n j x d (inl was) = subst (λ (b : ℕ). b ≤ length log) (sym was.5) (history.begun n j was.0 was.1 was.3 was.4)
+    begun_then : (n j : ℕ) (x : UnderWay K V K) (d : CallThere K V) → IsAsBefore n j x d ⊎ BeginsNow n x d → d.begun ≤ log.entries
+    begun_then n j x d (inl was) = subst (λ (b : ℕ). b ≤ log.entries) (sym was.5) (history.begun n j was.0 was.1 was.3 was.4)
     begun_then n j x d (inr now) = now.0
 
     within_then : (n j : ℕ) (x : UnderWay K V K) (d : CallThere K V) → IsAsBefore n j x d ⊎ BeginsNow n x d → (st : Standing K) → s.maps n ≡ Some st → (began : ℕ) → began_of x ≡ Some began
@@ -97,13 +100,14 @@ module _ {K V : Type 0} (same : K → K → Bool) (name : ℕ → List ℕ) (log
     within_then n j x d (inl was) st there began began_is =
         subst (λ (f : ℕ → ℕ → ℕ). IsWithin same n st (f n) (since log m2 d) began) (sym numbers)
         (subst (λ (b : ℕ). IsWithin same n st (history.shown.number n) (since log m2 (record d { begun = b })) began) (sym was.5)
-        (within_alike same n st (history.shown.number n) (moments_from was.3.begun log) m m2 began (λ k. map_alike same n k m m2 place stored)
+        (within_alike same n st (history.shown.number n) (log.since was.3.begun) m m2 began (λ k. map_alike same n k m m2 place stored)
         (history.within n j was.0 was.1 st there was.3 was.4 began (sym was.2 ∙ began_is))))
     within_then n j x d (inr now) st there began began_is = now.1 st there began began_is
 
     pub calls_changed : StaysWithin same name log m known s history log m2 (record s { calls = calls2 })
     calls_changed = (
       record {
+        past = history.past;
         shown = after;
         asked = subst (λ (f : ℕ → ℕ → ℕ). ShowsAsked name f m2 known (record s { calls = calls2 })) (sym numbers) asked;
         begun = λ n j x is d d_is. begun_then n j x d (which_is n j x is d d_is);
@@ -164,7 +168,7 @@ module _ (K V : Type 0) (same : K → K → Bool) (hash : ℕ → K → ℕ) whe
 
       -- it begins within the next event, at the present moment of its map
       new : (n : ℕ) → n ≡ map → (x : UnderWay K V K) → x ≡ u → (d : CallThere K V) → d ≡ fresh
-          → (d.begun ≤ length log) × ((st : Standing K) → s.maps n ≡ Some st → (began : ℕ) → began_of x ≡ Some began → IsWithin same n st (b.0.number n) (since log m2 d) began)
+          → (d.begun ≤ log.entries) × ((st : Standing K) → s.maps n ≡ Some st → (began : ℕ) → began_of x ≡ Some began → IsWithin same n st (b.0.number n) (since log m2 d) began)
       new n n_is x x_is d d_is = (
         (let one = ap (λ (z : CallThere K V). z.begun) d_is in omega (arith, one, events)),
         λ st st_is began began_is time from to k.
@@ -181,7 +185,7 @@ module _ (K V : Type 0) (same : K → K → Bool) (hash : ℕ → K → ℕ) whe
       one : (n j : ℕ) (x : UnderWay K V K) (d : CallThere K V) → call_of (name j) m2 ≡ Some d
           → ((n ≡ map) × (j ≡ i) × (◌≡◌ {A = Option (UnderWay K V K)} (Some u) (Some x))) ⊎ ((n ≡ map → j ≡ i → ⊥) × (s.calls n j ≡ Some x))
           → ((y : UnderWay K V K) × (s.calls n j ≡ Some y) × (began_of x ≡ began_of y) × (c : CallThere K V) × (call_of (name j) m ≡ Some c) × (d.begun ≡ c.begun))
-          ⊎ ((d.begun ≤ length log) × ((st : Standing K) → s.maps n ≡ Some st → (began : ℕ) → began_of x ≡ Some began → IsWithin same n st (b.0.number n) (since log m2 d) began))
+          ⊎ ((d.begun ≤ log.entries) × ((st : Standing K) → s.maps n ≡ Some st → (began : ℕ) → began_of x ≡ Some began → IsWithin same n st (b.0.number n) (since log m2 d) began))
       one n j x d d_is (inl its_is) =
           inr (new n its_is.0 x (one_of x u (sym its_is.2)) d
           (one_of d fresh (sym (found_now j true (ap (λ (k : ℕ). is_same (name i) (name k)) its_is.1 ∙ is_same_refl (name i)) d d_is))))

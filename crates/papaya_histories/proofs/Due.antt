@@ -15,7 +15,6 @@ use Rattle.papaya_moments.specs.Given.Schedules.declared.effect.Effect.{Effect}
 use Rattle.papaya_moments.specs.Given.Schedules.declared.effect.Effect.TheVariants as effect
 use Rattle.papaya_moments.specs.Given.Schedules.declared.effect.Spot.{Spot}
 use Rattle.papaya_moments.specs.Given.Schedules.Effects.{due_for, call_by, with_effect, with_effects}
-use Rattle.papaya_moments.specs.Given.Schedules.Entry.{Entry}
 use Rattle.papaya_moments.specs.Given.Schedules.Linearizable.{shift_of}
 use Rattle.papaya_moments.specs.Given.Schedules.Moment.{InMap, UnderWay as CallThere, Moment}
 use Rattle.papaya_moments.specs.Given.Schedules.Sequential.{Meaning, Answers, Deed, Puts, Takes, means, answer_due}
@@ -55,6 +54,7 @@ use Rattle.papaya_histories.proofs.Steps.{to, led_on, v, s2, after, maps_later, 
 use Rattle.papaya_moments.specs.Given.Scenes.Held.{Held, IsAt}
 use Rattle.papaya_moments.specs.Given.Scenes.Scene.{Scene, slot_of}
 use Rattle.papaya_moments.specs.Given.Scenes.Stepping.{StepLeads}
+use Rattle.papaya_moments.specs.Given.Schedules.Transition.{Past}
 
 module _ {K V : Type 0} (number number2 : ℕ → ℕ) (stored stored2 : ℕ) (numbers : (n : ℕ) → n < stored → number2 n ≡ number n) (more : stored ≤ stored2) (one : OneKey K V) (c d : CallThere K V)
     (due_is : d.due ≡ c.due) (replies_are : d.replies ≡ c.replies) where
@@ -92,7 +92,7 @@ due_when its c one old new is = ap (λ (z : Call _ _). (due_for z c old new).due
 pub same_change : {K V : Type 0} (x y : CallOnKey K V K) → ◌≡◌ {A = UnderWay K V K} (OnKey x) (OnKey y) → x.change ≡ y.change
 same_change x y e = let one : x ≡ y = cc e in ap (λ (z : CallOnKey _ _ _). z.change) one
 
-module _ {K V : Type 0} (same : K → K → Bool) (hash : ℕ → K → ℕ) (name : ℕ → List ℕ) (log : List (Entry K V)) (m : Moment K V) (known : Known) (s : Scene K V) (old new : Held K V)
+module _ {K V : Type 0} (same : K → K → Bool) (hash : ℕ → K → ℕ) (name : ℕ → List ℕ) (log : Past K V) (m : Moment K V) (known : Known) (s : Scene K V) (old new : Held K V)
     (at : IsAt same hash old s) (whole : ShowsWhole same name m known s) (dues : ShowsDue same name log m known s) (map i : ℕ) (u : UnderWay K V K) (here : s.calls map i ≡ Some u)
     (said : Progress (Node K V)) (leads : StepLeads same hash i said s old new) where
   abbrev shown : Shows same name m known s
@@ -194,7 +194,7 @@ module _ {K V : Type 0} (same : K → K → Bool) (hash : ℕ → K → ℕ) (na
   no_key (OverAll o) none (p2, end, machine_is, told_is, inr (row, stayed)) x e = cc (sweep_goes_on _ end (OnKey x) (sym stayed.2 ∙ e))
 
 -- a call on one key
-module _ {K V : Type 0} (same : K → K → Bool) (hash : ℕ → K → ℕ) (name : ℕ → List ℕ) (log : List (Entry K V)) (m : Moment K V) (known : Known) (s : Scene K V) (old new : Held K V)
+module _ {K V : Type 0} (same : K → K → Bool) (hash : ℕ → K → ℕ) (name : ℕ → List ℕ) (log : Past K V) (m : Moment K V) (known : Known) (s : Scene K V) (old new : Held K V)
     (at : IsAt same hash old s) (whole : ShowsWhole same name m known s) (dues : ShowsDue same name log m known s) (map i : ℕ) (z : CallOnKey K V K) (here : s.calls map i ≡ Some (OnKey z))
     (said : Progress (Node K V)) (leads : StepLeads same hash i said s old new) where
   abbrev shown1 : Shows same name m known s

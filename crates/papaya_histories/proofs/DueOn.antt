@@ -73,8 +73,8 @@ module _ (K V : Type 0) (same : K → K → Bool) where
       record { history = histories_begin K V same roots name; owes = λ map i u is st there c found one one_is. absurd (cc is); taken = λ map i u is c found one one_is. absurd (cc is) }
 
   pub events_keep_due : EventsKeepDue K V same
-  events_keep_due name log e known s dues =
-      let on = events_keep_histories K V same name log e known s dues.history in
+  events_keep_due name log m known s dues counted =
+      let on = events_keep_histories K V same name log m known s dues.history counted in
       record {
         history = on.0;
         owes = λ map i u is st there c found one one_is. subst (λ (f : ℕ → ℕ → ℕ). Owes (f map) st.chart.stored one c u.change) (sym on.1) (dues.owes map i u is st there c found one one_is);

@@ -1,10 +1,12 @@
--- The moments of a run since an event: those of the log are among them, and more come.
-use Rattle.std.specs.Prelude.{◌≡◌, ℕ, ◌==◌, nat_lt, ◌≤◌, true, false, List, [], ◌∷◌, length, if◌then◌else◌}
-use Rattle.std.proofs.Common.{ap, subst, sym, arith, inl, inr}
+-- The moments of a run since an event: the last one is among them, and more come.
+use Rattle.std.specs.Prelude.{◌≡◌, ℕ, ◌==◌, nat_lt, ◌≤◌, suc, true, false, List, [], ◌∷◌, length, if◌then◌else◌}
+use Rattle.std.proofs.Common.{refl, ap, subst, sym, ◌∙◌, arith, inl, inr}
 use Rattle.papaya_moments.specs.Given.Schedules.After.{moment, moments_from}
 use Rattle.papaya_moments.specs.Given.Schedules.Entry.{Entry}
 use Rattle.papaya_moments.specs.Given.Schedules.Lists.{OneOf}
 use Rattle.papaya_moments.specs.Given.Schedules.Moment.{Moment, start}
+use Rattle.papaya_moments.specs.Given.Schedules.Transition.{Past, further, past}
+use Rattle.papaya_histories.specs.Histories.{IsPast}
 
 pub each_of : {X : Type 0} (P Q : X → Type 0) (xs : List X) → ((x : X) → P x → Q x) → OneOf P xs → OneOf Q xs
 each_of P Q [] so one = one
@@ -15,14 +17,35 @@ not_before : (n begun : ℕ) → begun ≤ n → nat_lt n begun ≡ false
 not_before n begun l = grind (arith, l)
 
 module _ {K V : Type 0} where
-  -- an event after that one adds its moment
-  pub moments_grow : (begun : ℕ) (e : Entry K V) (log : List (Entry K V)) → begun ≤ length (e ∷ log) → moments_from begun (e ∷ log) ≡ moment (e ∷ log) ∷ moments_from begun log
-  moments_grow begun e log l = ap (λ q. if q then [] else moment (e ∷ log) ∷ moments_from begun log) (not_before (length (e ∷ log)) begun l)
+  -- what comes next adds its moment
+  pub grows : (m : Moment K V) (log : Past K V) (begun : ℕ) → begun ≤ suc log.entries → (further m log).since begun ≡ m ∷ log.since begun
+  grows m log begun l = ap (λ q. if q then [] else m ∷ log.since begun) (not_before (suc log.entries) begun l)
+
+  pub further_is_past : (m : Moment K V) (log : Past K V) → m.events ≡ suc log.entries → IsPast (further m log)
+  further_is_past m log counted = record { counted = counted; last = λ begun l. (log.since begun, grows m log begun l) }
+
+  -- of no entry
+  pub first_is_past : IsPast (past {K = K} {V = V} [])
+  first_is_past = record { counted = refl; last = λ begun l. ([], ap (λ q. if q then start ∷ [] else []) (none begun l)) }
+    where
+      none : (begun : ℕ) → begun ≤ 0 → (begun == 0) ≡ true
+      none begun l = grind (arith, l)
 
   -- the last moment is one of them
+  pub now_there : (log : Past K V) → IsPast log → (P : Moment K V → Type 0) (begun : ℕ) → begun ≤ log.entries → P log.now → OneOf P (log.since begun)
+  now_there log is P begun l p = let last = is.last begun l in subst (OneOf P) (sym last.1) (inl p)
+
+  -- of a log of events
+  pub moments_grow : (begun : ℕ) (e : Entry K V) (log : List (Entry K V)) → begun ≤ length (e ∷ log) → moments_from begun (e ∷ log) ≡ moment (e ∷ log) ∷ moments_from begun log
+  moments_grow begun e log l = grows (moment (e ∷ log)) (past log) begun l
+
+  pub events_are : (log : List (Entry K V)) → (moment log).events ≡ length log
+  events_are [] = refl
+  events_are (e ∷ log) = let rest = events_are log in omega (arith, rest)
+
+  pub past_is : (log : List (Entry K V)) → IsPast (past log)
+  past_is [] = first_is_past
+  past_is (e ∷ log) = further_is_past (moment (e ∷ log)) (past log) (events_are (e ∷ log))
+
   pub last_there : (P : Moment K V → Type 0) (begun : ℕ) (log : List (Entry K V)) → begun ≤ length log → P (moment log) → OneOf P (moments_from begun log)
-  last_there P begun [] l p = subst (λ q. OneOf P (if q then start ∷ [] else [])) (sym none) (inl p)
-    where
-      none : (begun == 0) ≡ true
-      none = grind (arith, l)
-  last_there P begun (e ∷ log) l p = subst (OneOf P) (sym (moments_grow begun e log l)) (inl p)
+  last_there P begun log l p = now_there (past log) (past_is log) P begun l p

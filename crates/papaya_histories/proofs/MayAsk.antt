@@ -12,8 +12,6 @@ use Rattle.papaya_moments.specs.Given.Raw.declared.machines.call.Calling.TheVari
 use Rattle.papaya_moments.specs.Given.Schedules.declared.call.Call.{Call}
 use Rattle.papaya_moments.specs.Given.Schedules.declared.call.Call.TheVariants.{On}
 use Rattle.papaya_moments.specs.Given.Schedules.declared.call.OneKey.{OneKey}
-use Rattle.papaya_moments.specs.Given.Schedules.After.{moment, moments_from}
-use Rattle.papaya_moments.specs.Given.Schedules.Entry.{Entry}
 use Rattle.papaya_moments.specs.Given.Schedules.Linearizable.{there_for, MayAsk}
 use Rattle.papaya_moments.specs.Given.Schedules.Lists.{OneOf, is_in}
 use Rattle.papaya_moments.specs.Given.Schedules.Moment.{UnderWay as CallThere, Moment}
@@ -44,14 +42,15 @@ use Rattle.papaya_histories.specs.Had.{HadThen}
 use Rattle.papaya_histories.specs.Questions.{unanswered, replied_to, ShowsQuestions}
 use Rattle.papaya_histories.proofs.Had.{had_none, had_pair}
 use Rattle.papaya_histories.proofs.Keys.{its_call}
-use Rattle.papaya_histories.proofs.Logs.{each_of, last_there}
+use Rattle.papaya_histories.proofs.Logs.{each_of, now_there}
 use Rattle.papaya_histories.proofs.Roles.{named_by}
 use Rattle.papaya_histories.proofs.Several.{stands}
 use Rattle.papaya_histories.proofs.Untold.{never_asked, wants_none, wants_pair, fits_it, untold_none, untold_pair}
 use Rattle.papaya_moments.specs.Given.Scenes.Held.{Held, IsAt}
 use Rattle.papaya_moments.specs.Given.Scenes.Scene.{Scene, slot_of}
+use Rattle.papaya_moments.specs.Given.Schedules.Transition.{Past}
 
-module _ {K V : Type 0} (same : K → K → Bool) (hash : ℕ → K → ℕ) (name : ℕ → List ℕ) (log : List (Entry K V)) (m : Moment K V) (known : Known) (s : Scene K V) (e : Held K V)
+module _ {K V : Type 0} (same : K → K → Bool) (hash : ℕ → K → ℕ) (name : ℕ → List ℕ) (log : Past K V) (m : Moment K V) (known : Known) (s : Scene K V) (e : Held K V)
     (at_e : IsAt same hash e s) (dues : ShowsDue same name log m known s) (map i : ℕ) (u : CallOnKey K V K) (here : s.calls map i ≡ Some (OnKey u))
     (c : CallThere K V) (c_is : call_of (name i) m ≡ Some c) (one : OneKey K V) (one_is : c.call ≡ On one) where
   abbrev st : Standing K
@@ -121,25 +120,25 @@ module _ {K V : Type 0} (same : K → K → Bool) (hash : ℕ → K → ℕ) (na
     fits : FitsAsking (kind_of (given_by one asked.asked)).present (kind_of (given_by one asked.asked)).absent (kind_of (given_by one asked.asked)).takes it
     fits = fits_it st.hash s.world.memory st.chart seen u.keys u.change u.call (given_by one asked.asked) it keeps
 
-  module _ (questions : ShowsQuestions m) (still : finite_map same map m k ≡ finite_map same map (moment log) k) (first : unanswered c.stands ≡ []) where
+  module _ (questions : ShowsQuestions m) (still : finite_map same map m k ≡ finite_map same map log.now k) (first : unanswered c.stands ≡ []) where
     abbrev Wanted : Option ℕ → Moment K V → Type 0
     Wanted question y = (there_for same one c y ≡ question) × (means one None question (length y.stored + 1) ≡ Wants)
 
     abbrev May : Option ℕ → Type 0
-    May question = MayAsk same (On one) c (moments_from c.begun log) question
+    May question = MayAsk same (On one) c (log.since c.begun) question
 
     -- what the class had at a moment of the map since the call began, it had at one between two events, and the call wants a reply for that
     wanted_then : (o : Option ℕ) → ((n : ℕ) → means one None o n ≡ Wants) → (time : ℕ) → u.began ≤ time → time ≤ st.chart.now
-        → ((p : Option ℕ) → HadThen same st number time k p → p ≡ o) → OneOf (Wanted o) (moments_from c.begun log)
+        → ((p : Option ℕ) → HadThen same st number time k p → p ≡ o) → OneOf (Wanted o) (log.since c.begun)
     wanted_then o wants time from to is = by (dues.history.within map i (OnKey u) here st st_is c c_is u.began refl time from to k)
       where
         so : (y : Moment K V) → finite_map same map y k ≡ o → Wanted o y
         so y e = (ap (λ (z : ℕ). finite_map same z y k) its.0 ∙ e, wants (length y.stored + 1))
 
-        by : OneOf (λ (y : Moment K V). HadThen same st number time k (finite_map same map y k)) (m ∷ moments_from c.begun log) → OneOf (Wanted o) (moments_from c.begun log)
-        by (inl had) = last_there (Wanted o) c.begun log (dues.history.begun map i (OnKey u) here c c_is) (so (moment log) (sym still ∙ is (finite_map same map m k) had))
+        by : OneOf (λ (y : Moment K V). HadThen same st number time k (finite_map same map y k)) (m ∷ log.since c.begun) → OneOf (Wanted o) (log.since c.begun)
+        by (inl had) = now_there log dues.history.past (Wanted o) c.begun (dues.history.begun map i (OnKey u) here c c_is) (so log.now (sym still ∙ is (finite_map same map m k) had))
         by (inr had) =
-            each_of (λ (y : Moment K V). HadThen same st number time k (finite_map same map y k)) (Wanted o) (moments_from c.begun log) (λ y h. so y (is (finite_map same map y k) h)) had
+            each_of (λ (y : Moment K V). HadThen same st number time k (finite_map same map y k)) (Wanted o) (log.since c.begun) (λ y h. so y (is (finite_map same map y k) h)) had
 
     -- what it was told nothing of it has not asked
     new_question : (about question : Option ℕ) → IsSameQuestion number st.chart.stored about question → last_told about asked.asked ≡ None → is_in same_question question c.asked ≡ false
@@ -159,7 +158,7 @@ module _ {K V : Type 0} (same : K → K → Bool) (hash : ℕ → K → ℕ) (na
         unknown : KnowsFirst one → ⊥
         unknown knows_it = not_first same st s.world i u (asking.Absent gap) stands_at (each.stand i (OnKey u) here) gap refl one asked.asked asked.given knows_it (asked.first knows_it)
 
-        was : SoSince st.hash st.chart seen u.keys u.began answers.Absent → OneOf (Wanted None) (moments_from c.begun log)
+        was : SoSince st.hash st.chart seen u.keys u.began answers.Absent → OneOf (Wanted None) (log.since c.begun)
         was (time, from, until, none) =
             wanted_then None (wants_none asked.asked one (fits (asking.Absent gap) stands_at) unknown) time from until
             (λ p h. had_none same st number time k p h
@@ -176,7 +175,7 @@ module _ {K V : Type 0} (same : K → K → Bool) (hash : ℕ → K → ℕ) (na
         asks_there : FitsAsking (kind_of (given_by one asked.asked)).present (kind_of (given_by one asked.asked)).absent (kind_of (given_by one asked.asked)).takes (asking.Present word)
         asks_there = fits (asking.Present word) stands_at
 
-        was : SoSince st.hash st.chart seen u.keys u.began (answers.Found word) → OneOf (Wanted (Some q)) (moments_from c.begun log)
+        was : SoSince st.hash st.chart seen u.keys u.began (answers.Found word) → OneOf (Wanted (Some q)) (log.since c.begun)
         was (time, from, until, (n, had, known_too, phase, borrowed, word_is)) =
             wanted_then (Some q) (wants_pair asked.asked one asks_there.0 q) time from until
             (λ p h. had_pair same st number time k p h n (had.0, had.1, had.2, had.3, ap (λ (f : K → Bool). f had.2) (sym its.1) ∙ had.4)

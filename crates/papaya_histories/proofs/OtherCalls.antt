@@ -14,11 +14,9 @@ use Rattle.papaya_moments.specs.Given.Schedules.declared.call.Call.TheVariants a
 use Rattle.papaya_moments.specs.Given.Schedules.declared.effect.Effect.{Effect}
 use Rattle.papaya_moments.specs.Given.Schedules.declared.outcome.Outcome.{Outcome}
 use Rattle.papaya_moments.specs.Given.Schedules.declared.outcome.Outcome.TheVariants as outcome
-use Rattle.papaya_moments.specs.Given.Schedules.After.{moment, moments_from}
-use Rattle.papaya_moments.specs.Given.Schedules.Beginning.{at_work}
-use Rattle.papaya_moments.specs.Given.Schedules.Effects.{with_effects, worked}
-use Rattle.papaya_moments.specs.Given.Schedules.Entry.{caller_of, acting, acted_on}
-use Rattle.papaya_moments.specs.Given.Schedules.Linearizable.{shift_of, MayRemove, RemovesOnly, Changes, Ends, AsksRight, ActsRight, ActsOf}
+use Rattle.papaya_moments.specs.Given.Schedules.Effects.{with_effects}
+use Rattle.papaya_moments.specs.Given.Schedules.Entry.{acting}
+use Rattle.papaya_moments.specs.Given.Schedules.Linearizable.{shift_of, MayRemove, RemovesOnly, Changes, Ends, AsksRight, IsRight, IsRightOf}
 use Rattle.papaya_moments.specs.Given.Schedules.Moment.{Stands, Going, Asking, Told, IsReady, UnderWay as CallThere, Moment}
 use Rattle.papaya_moments.specs.Given.Schedules.Sequential.{Shift, ComesIn, GivesWay, GoesOut}
 use Rattle.papaya_moments.specs.Given.Schedules.Views.{call_of, reply_to}
@@ -52,6 +50,7 @@ use Rattle.papaya_histories.proofs.Which.{did_once, none_shifted}
 use Rattle.papaya_moments.specs.Given.Scenes.Held.{Held, IsAt}
 use Rattle.papaya_moments.specs.Given.Scenes.Scene.{Scene, slot_of}
 use Rattle.papaya_moments.specs.Given.Scenes.Stepping.{StepLeads}
+use Rattle.papaya_moments.specs.Given.Schedules.Transition.{call_found, call_left, worked_by}
 
 module _ {K V : Type 0} (same : K → K → Bool) where
   -- nothing is what each call may remove
@@ -275,35 +274,35 @@ module _ {K V : Type 0} (same : K → K → Bool) where
 
 module _ (K V : Type 0) (same : K → K → Bool) where
   pub no_calls_are_linearizable : NoCallsAreLinearizable K V same
-  no_calls_are_linearizable log e none shifts =
-      subst (λ (o : Option (List ℕ)). ActsOf same log e (acting o (at_work e (moment log))) (acting o (worked e (moment log)))) (sym none) shifts
+  no_calls_are_linearizable log t none shifts =
+      subst (λ (o : Option (List ℕ)). IsRightOf same log t (acting o t.found) (acting o (worked_by t))) (sym none) shifts
 
   pub others_are_linearizable : OthersAreLinearizable K V same
-  others_are_linearizable log e own map c caller c_is acts other only asks =
-      subst (λ (x : Option (CallThere K V)). ActsOf same log e x (acting (caller_of e.event) (worked e (moment log)))) (sym before)
-      (subst (λ (x : Option (CallThere K V)). ActsOf same log e (Some c) x) (sym then_is) right)
+  others_are_linearizable log t own map c caller c_is acts other only asks =
+      subst (λ (x : Option (CallThere K V)). IsRightOf same log t x (call_left t)) (sym before)
+      (subst (λ (x : Option (CallThere K V)). IsRightOf same log t (Some c) x) (sym then_is) right)
     where
       b : Moment K V
-      b = at_work e (moment log)
+      b = t.found
 
-      now : (d : CallThere K V) × (call_of own (with_effects (Some own) (Some map) e.effects b) ≡ Some d) × (d.call ≡ c.call)
-      now = let it = calls_after own map own e.effects b c c_is in (it.0, it.1, it.2.0.call)
+      now : (d : CallThere K V) × (call_of own (with_effects (Some own) (Some map) t.effects b) ≡ Some d) × (d.call ≡ c.call)
+      now = let it = calls_after own map own t.effects b c c_is in (it.0, it.1, it.2.0.call)
 
-      worked_is : worked e (moment log) ≡ with_effects (Some own) (Some map) e.effects b
+      worked_is : worked_by t ≡ with_effects (Some own) (Some map) t.effects b
       worked_is =
-          ap (λ (o : Option (List ℕ)). with_effects o (acted_on e.event b) e.effects b) caller
-          ∙ ap (λ (o : Option ℕ). with_effects (Some own) o e.effects b) acts
+          ap (λ (o : Option (List ℕ)). with_effects o t.map t.effects b) caller
+          ∙ ap (λ (o : Option ℕ). with_effects (Some own) o t.effects b) acts
 
-      before : acting (caller_of e.event) b ≡ Some c
+      before : call_found t ≡ Some c
       before = ap (λ (o : Option (List ℕ)). acting o b) caller ∙ c_is
 
-      then_is : acting (caller_of e.event) (worked e (moment log)) ≡ Some now.0
-      then_is = ap (λ (o : Option (List ℕ)). acting o (worked e (moment log))) caller ∙ ap (call_of own) worked_is ∙ now.1
+      then_is : call_left t ≡ Some now.0
+      then_is = ap (λ (o : Option (List ℕ)). acting o (worked_by t)) caller ∙ ap (call_of own) worked_is ∙ now.1
 
-      right : ActsRight same log e c now.0
+      right : IsRight same log t c now.0
       right = record {
-        changes = changes_so same c.call c b (flat_map shift_of e.effects) other only;
-        ends = ends_so same now.0.call now.0 (moments_from now.0.begun log) e.outcome (subst (λ (x : Call K V). IsOnNoKey x) (sym now.2) other);
+        changes = changes_so same c.call c b (flat_map shift_of t.effects) other only;
+        ends = ends_so same now.0.call now.0 (log.since now.0.begun) t.outcome (subst (λ (x : Call K V). IsOnNoKey x) (sym now.2) other);
         asks = asks now.0 (ap (call_of own) worked_is ∙ now.1);
       }
 

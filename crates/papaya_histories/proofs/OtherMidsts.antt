@@ -9,10 +9,8 @@ use Rattle.papaya_moments.specs.Given.Runs.Same.{is_same}
 use Rattle.papaya_moments.specs.Given.Schedules.declared.call.Call.{Call}
 use Rattle.papaya_moments.specs.Given.Schedules.declared.call.Call.TheVariants as call
 use Rattle.papaya_moments.specs.Given.Schedules.declared.effect.Effect.{Effect}
-use Rattle.papaya_moments.specs.Given.Schedules.After.{moment}
 use Rattle.papaya_moments.specs.Given.Schedules.Beginning.{fresh_call, with_call}
 use Rattle.papaya_moments.specs.Given.Schedules.Effects.{with_effects}
-use Rattle.papaya_moments.specs.Given.Schedules.Entry.{Entry}
 use Rattle.papaya_moments.specs.Given.Schedules.Linearizable.{shift_of, RemovesOnly}
 use Rattle.papaya_moments.specs.Given.Schedules.Moment.{UnderWay as CallThere, Moment}
 use Rattle.papaya_moments.specs.Given.Schedules.Sequential.{Shift}
@@ -44,7 +42,6 @@ use Rattle.papaya_histories.specs.OtherMidsts.{InOtherMidst, OtherMidstsBegin, O
 use Rattle.papaya_histories.specs.Several.{IsSameCall}
 use Rattle.papaya_histories.proofs.NoKey.AsCalled.{calls_keep_as_called}
 use Rattle.papaya_histories.proofs.NoKey.AsCalledOn.{calls_begin_as_called}
-use Rattle.papaya_histories.proofs.BeginsCall.{events_are}
 use Rattle.papaya_histories.proofs.Due.{calls_keep_due}
 use Rattle.papaya_histories.proofs.DueOn.{calls_begin_due}
 use Rattle.papaya_histories.proofs.Found.{map_alike}
@@ -58,6 +55,7 @@ use Rattle.papaya_moments.specs.Given.Scenes.Held.{Held, IsAt}
 use Rattle.papaya_moments.specs.Given.Scenes.Replying.{scene_with}
 use Rattle.papaya_moments.specs.Given.Scenes.Scene.{Scene, slot_of}
 use Rattle.papaya_moments.specs.Given.Scenes.Stepping.{StepLeads}
+use Rattle.papaya_moments.specs.Given.Schedules.Transition.{Past}
 
 -- what is called for on no key is no call on a key
 pub on_no_key : {K V : Type 0} (same : K → K → Bool) (u : UnderWay K V K) (its : Call K V) → IsCalled same u its → IsOnNoKey its → (x : CallOnKey K V K) → u ≡ OnKey x → ⊥
@@ -151,7 +149,7 @@ module _ {K V : Type 0} (same : K → K → Bool) (hash : ℕ → K → ℕ) (na
       by None e = inr e
       by (Some q) e = inl (e ∙ sym (has q (subst (λ (o : Option ℕ). HadJust same st2 (on.shows.number map) st2.chart.now k o) e now2.just)))
 
-module _ {K V : Type 0} (same : K → K → Bool) (hash : ℕ → K → ℕ) (name : ℕ → List ℕ) (log : List (Entry K V)) (beginning : Moment K V) (map i : ℕ) (c : CallThere K V)
+module _ {K V : Type 0} (same : K → K → Bool) (hash : ℕ → K → ℕ) (name : ℕ → List ℕ) (log : Past K V) (beginning : Moment K V) (map i : ℕ) (c : CallThere K V)
     (done : List Effect) (m : Moment K V) (known : Known) (s : Scene K V) (u : UnderWay K V K) (midst : InOtherMidst same name log beginning map i c done m known s u)
     (old new : Held K V) (at : IsAt same hash old s) (said : Progress (Node K V)) (leads : StepLeads same hash i said s old new) where
   abbrev pub effects : List Effect
@@ -192,9 +190,9 @@ module _ {K V : Type 0} (same : K → K → Bool) (hash : ℕ → K → ℕ) (na
   first_change k = by (fewer_now k) (midst.fewer k)
     where
       by : (finite_map same map then_at k ≡ finite_map same map m k) ⊎ (finite_map same map then_at k ≡ None) → (finite_map same map m k ≡ finite_map same map beginning k) ⊎ (finite_map same map m k ≡ None)
-          → (finite_map same map then_at k ≡ finite_map same map m k) ⊎ (finite_map same map m k ≡ finite_map same map (moment log) k)
+          → (finite_map same map then_at k ≡ finite_map same map m k) ⊎ (finite_map same map m k ≡ finite_map same map log.now k)
       by (inl kept) before = inl kept
-      by (inr gone) (inl was) = inr (was ∙ map_alike same map k (moment log) beginning midst.begins.0 midst.begins.1)
+      by (inr gone) (inl was) = inr (was ∙ map_alike same map k log.now beginning midst.begins.0 midst.begins.1)
       by (inr gone) (inr none) = inl (gone ∙ sym none)
 
   pub fewer_so : (k : K) → (finite_map same map then_at k ≡ finite_map same map beginning k) ⊎ (finite_map same map then_at k ≡ None)
@@ -262,13 +260,13 @@ module _ (K V : Type 0) (same : K → K → Bool) (hash : ℕ → K → ℕ) whe
       (c_is, other_midsts_begin K V same name log beginning (refl, refl) known s2 whole2 dues2 all2 map i u here c c_is other)
     where
       beginning : Moment K V
-      beginning = with_call (name i) guard its (Some map) (moment log)
+      beginning = with_call (name i) guard its (Some map) log.now
 
       c : CallThere K V
-      c = fresh_call (name i) guard its map (moment log).events
+      c = fresh_call (name i) guard its map log.now.events
 
       c_is : call_of (name i) beginning ≡ Some c
-      c_is = ap (λ q. cond q (Some c) (find (λ (x : CallThere K V). is_same x.caller (name i)) (moment log).calls)) (is_same_refl (name i))
+      c_is = ap (λ q. cond q (Some c) (find (λ (x : CallThere K V). is_same x.caller (name i)) log.now.calls)) (is_same_refl (name i))
 
       s2 : Scene K V
       s2 = scene_with map i u s
@@ -283,11 +281,11 @@ module _ (K V : Type 0) (same : K → K → Bool) (hash : ℕ → K → ℕ) whe
       begun_for (OverAll o) is = tt
 
       whole2 : ShowsWhole same name beginning known s2
-      whole2 = calls_begin_whole K V same name (moment log) known s whole map i u its guard apart called (begun_for u called) rests
+      whole2 = calls_begin_whole K V same name log.now known s whole map i u its guard apart called (begun_for u called) rests
 
       dues2 : ShowsDue same name log beginning known s2
-      dues2 = calls_begin_due K V same hash name log (moment log) known s old at_old dues map i u its guard standing there now (λ x e. absurd (on_no_key same u its called other x e)) apart called
-          (begun_for u called) (events_are log)
+      dues2 = calls_begin_due K V same hash name log log.now known s old at_old dues map i u its guard standing there now (λ x e. absurd (on_no_key same u its called other x e)) apart called
+          (begun_for u called) dues.history.past.counted
 
       all2 : ShowsAsCalled same name beginning known s2
-      all2 = calls_begin_as_called K V same name (moment log) known s all map i u its guard apart called begun
+      all2 = calls_begin_as_called K V same name log.now known s all map i u its guard apart called begun

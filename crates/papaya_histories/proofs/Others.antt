@@ -4,7 +4,6 @@ use Rattle.std.proofs.Common.{ap, sym, subst, ◌∙◌, arith, inl, inr}
 use Rattle.papaya_moments.specs.Given.Runs.Same.{is_same}
 use Rattle.papaya_moments.specs.Given.Schedules.declared.call.Call.TheVariants.{On}
 use Rattle.papaya_moments.specs.Given.Schedules.declared.call.OneKey.{OneKey}
-use Rattle.papaya_moments.specs.Given.Schedules.Entry.{Entry}
 use Rattle.papaya_moments.specs.Given.Schedules.Moment.{UnderWay as CallThere, Moment}
 use Rattle.papaya_moments.specs.Given.Schedules.Views.{call_of, finite_map}
 use Rattle.papaya_moments.specs.Given.Rule.Chart.{Chart}
@@ -27,8 +26,9 @@ use Rattle.papaya_histories.proofs.Now.{now_had}
 use Rattle.papaya_histories.proofs.Within.{within_on}
 use Rattle.papaya_moments.specs.Given.Scenes.Held.{Held, IsAt}
 use Rattle.papaya_moments.specs.Given.Scenes.Scene.{Scene}
+use Rattle.papaya_moments.specs.Given.Schedules.Transition.{Past}
 
-module _ {K V : Type 0} (same : K → K → Bool) (hash : ℕ → K → ℕ) (name : ℕ → List ℕ) (log : List (Entry K V)) (m m2 : Moment K V) (known known2 : Known) (s s2 : Scene K V) (old new : Held K V)
+module _ {K V : Type 0} (same : K → K → Bool) (hash : ℕ → K → ℕ) (name : ℕ → List ℕ) (log : Past K V) (m m2 : Moment K V) (known known2 : Known) (s s2 : Scene K V) (old new : Held K V)
     (at : IsAt same hash old s) (at2 : IsAt same hash new s2) (history : ShowsHistory same name log m known s) (after : ShowsAfter same name m known s history.shown m2 known2 s2)
     (calls : m2.calls ≡ m.calls) (was_here : (n j : ℕ) (x : UnderWay K V K) → s2.calls n j ≡ Some x → s.calls n j ≡ Some x)
     (stand : (n : ℕ) (st : Standing K) → s2.maps n ≡ Some st → StoodSo known known2 s s2 n st ⊎ StandsNew known known2 s s2 n) where
@@ -58,11 +58,12 @@ module _ {K V : Type 0} (same : K → K → Bool) (hash : ℕ → K → ℕ) (na
     within_then : (j : ℕ) (x : UnderWay K V K) → s2.calls n j ≡ Some x → (c : CallThere K V) → call_of (name j) m2 ≡ Some c → (began : ℕ) → began_of x ≡ Some began
         → IsWithin same n st (after.shows.number n) (since log m2 c) began
     within_then j x is c found began began_is =
-        within_on same n stood.0 st (history.shown.number n) (after.shows.number n) later (λ o l. numbers o) log m m2 c.begun (history.begun n j x (was_here n j x is) c (was_called j c found))
+        within_on same n stood.0 st (history.shown.number n) (after.shows.number n) later (λ o l. numbers o) log history.past m m2 c.begun (history.begun n j x (was_here n j x is) c (was_called j c found))
         (λ k. inl (same_then k)) now_then began (history.within n j x (was_here n j x is) stood.0 stood.1 c (was_called j c found) began began_is)
 
   pub aside_history : ShowsAsked name after.shows.number m2 known2 s2 → ShowsHistory same name log m2 known2 s2
   aside_history asked = record {
+    past = history.past;
     shown = after.shows;
     asked = asked;
     begun = λ n j x is c found. history.begun n j x (was_here n j x is) c (was_called j c found);
@@ -76,7 +77,7 @@ module _ {K V : Type 0} (same : K → K → Bool) (hash : ℕ → K → ℕ) (na
       within_so n st there j x is c found began began_is (inr new_map) = absurd (let none = new_map.0 j in cc (none, is))
 
 -- and calls owe what they owed
-module _ {K V : Type 0} (same : K → K → Bool) (hash : ℕ → K → ℕ) (name : ℕ → List ℕ) (log : List (Entry K V)) (m m2 : Moment K V) (known known2 : Known) (s s2 : Scene K V) (old new : Held K V)
+module _ {K V : Type 0} (same : K → K → Bool) (hash : ℕ → K → ℕ) (name : ℕ → List ℕ) (log : Past K V) (m m2 : Moment K V) (known known2 : Known) (s s2 : Scene K V) (old new : Held K V)
     (at : IsAt same hash old s) (at2 : IsAt same hash new s2) (dues : ShowsDue same name log m known s) (after : ShowsAfter same name m known s dues.history.shown m2 known2 s2)
     (calls : m2.calls ≡ m.calls) (was_here : (n j : ℕ) (x : UnderWay K V K) → s2.calls n j ≡ Some x → s.calls n j ≡ Some x)
     (stand : (n : ℕ) (st : Standing K) → s2.maps n ≡ Some st → StoodSo known known2 s s2 n st ⊎ StandsNew known known2 s s2 n) where
@@ -100,7 +101,7 @@ module _ {K V : Type 0} (same : K → K → Bool) (hash : ℕ → K → ℕ) (na
   }
 
 -- where what is of no call leaves all as it was
-module _ {K V : Type 0} (same : K → K → Bool) (hash : ℕ → K → ℕ) (name : ℕ → List ℕ) (log : List (Entry K V)) (m m2 : Moment K V) (known known2 : Known) (s s2 : Scene K V) (old new : Held K V)
+module _ {K V : Type 0} (same : K → K → Bool) (hash : ℕ → K → ℕ) (name : ℕ → List ℕ) (log : Past K V) (m m2 : Moment K V) (known known2 : Known) (s s2 : Scene K V) (old new : Held K V)
     (at : IsAt same hash old s) (at2 : IsAt same hash new s2) (beside : IsBeside m m2 known known2 s s2) where
   before : (n j : ℕ) (x : UnderWay K V K) → s2.calls n j ≡ Some x → s.calls n j ≡ Some x
   before n j x is = subst (λ (f : ℕ → ℕ → Option (UnderWay K V K)). f n j ≡ Some x) beside.same_calls is

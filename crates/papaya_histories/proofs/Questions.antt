@@ -21,6 +21,7 @@ use Rattle.papaya_moments.proofs.Given.Follows.Calling.{is_same_is, found_passes
 use Rattle.papaya_moments.proofs.Given.Follows.Calls.{IsOfSame, changed_same, changed, of_same}
 use Rattle.papaya_moments.proofs.Given.Follows.Steps.{one_of}
 use Rattle.papaya_histories.specs.Questions.{unanswered, replied_to, GoesItself, AsksStill, HasAskedJust, EventAsksStill, QuestionsBegin, EffectsKeepQuestions, CallsBeginQuestions, CallsTakeQuestions, CallsComeToQuestions, EventsKeepQuestions, RunsKeepQuestions}
+use Rattle.papaya_moments.specs.Given.Schedules.Transition.{further}
 
 -- one that goes on does not ask
 quiet : (V : Type 0) (stands : Stands) (o : Outcome V) → GoesItself o → AsksStill stands o → unanswered stands ≡ []

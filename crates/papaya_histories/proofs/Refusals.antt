@@ -12,8 +12,6 @@ use Rattle.papaya_moments.specs.Given.Raw.declared.machines.progress.Progress.Th
 use Rattle.papaya_moments.specs.Given.Schedules.declared.call.Call.{Call}
 use Rattle.papaya_moments.specs.Given.Schedules.declared.call.Call.TheVariants.{On}
 use Rattle.papaya_moments.specs.Given.Schedules.declared.call.OneKey.{OneKey}
-use Rattle.papaya_moments.specs.Given.Schedules.After.{moment, moments_from}
-use Rattle.papaya_moments.specs.Given.Schedules.Entry.{Entry}
 use Rattle.papaya_moments.specs.Given.Schedules.Linearizable.{meaning_at}
 use Rattle.papaya_moments.specs.Given.Schedules.Lists.{OneOf}
 use Rattle.papaya_moments.specs.Given.Schedules.Moment.{UnderWay as CallThere, Moment}
@@ -41,6 +39,7 @@ use Rattle.papaya_histories.proofs.Steps.{to, led_on, v}
 use Rattle.papaya_moments.specs.Given.Scenes.Held.{Held, IsAt}
 use Rattle.papaya_moments.specs.Given.Scenes.Scene.{Scene, slot_of}
 use Rattle.papaya_moments.specs.Given.Scenes.Stepping.{StepLeads}
+use Rattle.papaya_moments.specs.Given.Schedules.Transition.{Past}
 
 pub refused : {T : Type 0} (end : Called T) (fault : Fault) → Refused fault ≡ of_called end → end ≡ called.Refused fault
 refused called.Goes fault e = absurd (cc e)
@@ -51,10 +50,10 @@ refused (called.Asks about) fault e = absurd (cc e)
 refused (called.Done other) fault e = absurd (cc e)
 refused (called.Refused other) fault e = let one : other ≡ fault = cc e in ap called.Refused one
 
-module _ {K V : Type 0} (same : K → K → Bool) (hash : ℕ → K → ℕ) (name : ℕ → List ℕ) (log : List (Entry K V)) (m : Moment K V) (known : Known) (s : Scene K V) (old new : Held K V)
+module _ {K V : Type 0} (same : K → K → Bool) (hash : ℕ → K → ℕ) (name : ℕ → List ℕ) (log : Past K V) (m : Moment K V) (known : Known) (s : Scene K V) (old new : Held K V)
     (at : IsAt same hash old s) (whole : ShowsWhole same name m known s) (dues : ShowsDue same name log m known s) (map i : ℕ) (x : CallOnKey K V K) (here : s.calls map i ≡ Some (OnKey x))
     (fault : Fault) (leads : StepLeads same hash i (Refused fault) s old new) (c : CallThere K V) (c_is : call_of (name i) m ≡ Some c) (one : OneKey K V) (one_is : c.call ≡ On one)
-    (still : finite_map same map m (key_of one) ≡ finite_map same map (moment log) (key_of one)) where
+    (still : finite_map same map m (key_of one) ≡ finite_map same map log.now (key_of one)) where
   abbrev said : Progress (Node K V)
   said = Refused fault
 
@@ -75,7 +74,7 @@ module _ {K V : Type 0} (same : K → K → Bool) (hash : ℕ → K → ℕ) (na
 
   -- where it was told to remove what is not there
   abbrev NoneThere : Type 0
-  NoneThere = OneOf (λ (y : Moment K V). meaning_at same one c y ≡ Refuses) (moments_from c.begun log)
+  NoneThere = OneOf (λ (y : Moment K V). meaning_at same one c y ≡ Refuses) (log.since c.begun)
 
   asked : IsAskedOn (shown.number map) st.chart.stored known x one c
   asked = subst (λ (z : Call K V). IsAskedAs (shown.number map) st.chart.stored known x z c) one_is (dues.history.asked.each map i (OnKey x) here st went.2 c c_is)
@@ -113,7 +112,7 @@ module _ {K V : Type 0} (same : K → K → Bool) (hash : ℕ → K → ℕ) (na
     )
 
 -- a call that is refused has changed nothing
-module _ {K V : Type 0} (same : K → K → Bool) (hash : ℕ → K → ℕ) (name : ℕ → List ℕ) (log : List (Entry K V)) (m : Moment K V) (known : Known) (s : Scene K V) (old new : Held K V)
+module _ {K V : Type 0} (same : K → K → Bool) (hash : ℕ → K → ℕ) (name : ℕ → List ℕ) (log : Past K V) (m : Moment K V) (known : Known) (s : Scene K V) (old new : Held K V)
     (at : IsAt same hash old s) (whole : ShowsWhole same name m known s) (dues : ShowsDue same name log m known s) (map i : ℕ) (x : CallOnKey K V K) (here : s.calls map i ≡ Some (OnKey x))
     (fault : Fault) (leads : StepLeads same hash i (Refused fault) s old new) (c : CallThere K V) (c_is : call_of (name i) m ≡ Some c) (one : OneKey K V) (one_is : c.call ≡ On one)
     (st2 : Standing K) (st2_is : (leads map (OnKey x) here).4.maps2 map ≡ Some st2) (d : CallThere K V)

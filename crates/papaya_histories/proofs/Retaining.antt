@@ -3,8 +3,6 @@ use Rattle.std.specs.Prelude.{◌≡◌, ℕ, ◌≤◌, Bool, true, List, ◌�
 use Rattle.std.proofs.Common.{refl, ap, sym, subst, ◌∙◌, arith, inl, inr}
 use Rattle.papaya_moments.specs.Given.Sweeps.declared.sweep.Sweeping.TheVariants as at
 use Rattle.papaya_moments.specs.Given.Runs.Log.{pair_at, is_key}
-use Rattle.papaya_moments.specs.Given.Schedules.After.{moment, moments_from}
-use Rattle.papaya_moments.specs.Given.Schedules.Entry.{Entry}
 use Rattle.papaya_moments.specs.Given.Schedules.Lists.{OneOf}
 use Rattle.papaya_moments.specs.Given.Schedules.Moment.{UnderWay as CallThere, Moment}
 use Rattle.papaya_moments.specs.Given.Schedules.Views.{call_of, is_in_map, finite_map}
@@ -26,12 +24,13 @@ use Rattle.papaya_histories.specs.Histories.{ShowsHistory}
 use Rattle.papaya_histories.specs.Retaining.{RetainingsMayAsk}
 use Rattle.papaya_histories.proofs.Found.{FoundIn, found}
 use Rattle.papaya_histories.proofs.Had.{had_pair}
-use Rattle.papaya_histories.proofs.Logs.{each_of, last_there}
+use Rattle.papaya_histories.proofs.Logs.{each_of, now_there}
 use Rattle.papaya_histories.proofs.Now.{both_true}
 use Rattle.papaya_histories.proofs.Roles.{named_by}
 use Rattle.papaya_histories.proofs.Several.{stands}
 use Rattle.papaya_moments.specs.Given.Scenes.Held.{Held, IsAt}
 use Rattle.papaya_moments.specs.Given.Scenes.Scene.{Scene, slot_of}
+use Rattle.papaya_moments.specs.Given.Schedules.Transition.{Past}
 
 -- what the finite map has of a class is in the map
 pub found_there : {K V : Type 0} (same : K → K → Bool) (map : ℕ) (m : Moment K V) (k : K) (q : ℕ) → finite_map same map m k ≡ Some q → is_in_map map (m.place q) ≡ true
@@ -39,10 +38,10 @@ found_there same map m k q is =
     let it : FoundIn same map k m (length m.stored) (Some q) = subst (FoundIn same map k m (length m.stored)) is (found same map k m (length m.stored)) in
     (both_true (is_in_map map (m.place q)) (is_key same (pair_at m.stored q) k) it.2).0
 
-module _ {K V : Type 0} (same : K → K → Bool) (hash : ℕ → K → ℕ) (name : ℕ → List ℕ) (log : List (Entry K V)) (m : Moment K V) (known : Known) (s : Scene K V) (e : Held K V)
+module _ {K V : Type 0} (same : K → K → Bool) (hash : ℕ → K → ℕ) (name : ℕ → List ℕ) (log : Past K V) (m : Moment K V) (known : Known) (s : Scene K V) (e : Held K V)
     (at_e : IsAt same hash e s) (history : ShowsHistory same name log m known s) (map i : ℕ) (o : CallOverAll) (here : s.calls map i ≡ Some (OverAll o))
     (c : CallThere K V) (c_is : call_of (name i) m ≡ Some c)
-    (fewer : (k : K) → (finite_map same map m k ≡ finite_map same map (moment log) k) ⊎ (finite_map same map m k ≡ None))
+    (fewer : (k : K) → (finite_map same map m k ≡ finite_map same map log.now k) ⊎ (finite_map same map m k ≡ None))
     (word q : ℕ) (stands_at : o.sweep.stands ≡ at.Asks word) (names : NamesPair known word q) where
   abbrev shown : Shows same name m known s
   shown = history.shown
@@ -81,24 +80,24 @@ module _ {K V : Type 0} (same : K → K → Bool) (hash : ℕ → K → ℕ) (na
   InMap y = is_in_map c.map (y.place q) ≡ true
 
   -- what a class of its map had, that pair alone, is there at one of these moments
-  there_then : (k : K) (time : ℕ) → o.began ≤ time → time ≤ st.chart.now → ((p : Option ℕ) → HadThen same st number time k p → p ≡ Some q) → OneOf InMap (moments_from c.begun log)
+  there_then : (k : K) (time : ℕ) → o.began ≤ time → time ≤ st.chart.now → ((p : Option ℕ) → HadThen same st number time k p → p ≡ Some q) → OneOf InMap (log.since c.begun)
   there_then k time from to is = by (history.within map i (OverAll o) here st st_is c c_is o.began refl time from to k)
     where
       so : (y : Moment K V) → finite_map same map y k ≡ Some q → InMap y
       so y has = ap (λ (z : ℕ). is_in_map z (y.place q)) on_map ∙ found_there same map y k q has
 
-      before : finite_map same map m k ≡ Some q → (finite_map same map m k ≡ finite_map same map (moment log) k) ⊎ (finite_map same map m k ≡ None) → InMap (moment log)
-      before has (inl kept) = so (moment log) (sym kept ∙ has)
+      before : finite_map same map m k ≡ Some q → (finite_map same map m k ≡ finite_map same map log.now k) ⊎ (finite_map same map m k ≡ None) → InMap log.now
+      before has (inl kept) = so log.now (sym kept ∙ has)
       before has (inr gone) = absurd (cc (has, gone))
 
-      by : OneOf (λ (y : Moment K V). HadThen same st number time k (finite_map same map y k)) (m ∷ moments_from c.begun log) → OneOf InMap (moments_from c.begun log)
-      by (inl had) = last_there InMap c.begun log (history.begun map i (OverAll o) here c c_is) (before (is (finite_map same map m k) had) (fewer k))
-      by (inr had) = each_of (λ (y : Moment K V). HadThen same st number time k (finite_map same map y k)) InMap (moments_from c.begun log) (λ y h. so y (is (finite_map same map y k) h)) had
+      by : OneOf (λ (y : Moment K V). HadThen same st number time k (finite_map same map y k)) (m ∷ log.since c.begun) → OneOf InMap (log.since c.begun)
+      by (inl had) = now_there log history.past InMap c.begun (history.begun map i (OverAll o) here c c_is) (before (is (finite_map same map m k) had) (fewer k))
+      by (inr had) = each_of (λ (y : Moment K V). HadThen same st number time k (finite_map same map y k)) InMap (log.since c.begun) (λ y h. so y (is (finite_map same map y k) h)) had
 
-  asks : OneOf InMap (moments_from c.begun log)
+  asks : OneOf InMap (log.since c.begun)
   asks = by (subst (CoversAt st.hash st.chart seen o.sweep o.entered o.done) stands_at knows.covers)
     where
-      by : CoversAt st.hash st.chart seen o.sweep o.entered o.done (at.Asks word) → OneOf InMap (moments_from c.begun log)
+      by : CoversAt st.hash st.chart seen o.sweep o.entered o.done (at.Asks word) → OneOf InMap (log.since c.begun)
       by (covers, n, (l, known_too, phase, borrowed, word_is), about) =
           let was = about.was in
           let pair_known = its_sight.pairs n l known_too in

@@ -9,9 +9,7 @@ use Rattle.papaya_moments.specs.Given.Schedules.declared.call.Call.TheVariants.{
 use Rattle.papaya_moments.specs.Given.Schedules.declared.call.OneKey.{OneKey}
 use Rattle.papaya_moments.specs.Given.Schedules.declared.call.Reply.{Reply}
 use Rattle.papaya_moments.specs.Given.Schedules.declared.effect.Effect.{Effect}
-use Rattle.papaya_moments.specs.Given.Schedules.After.{moment}
 use Rattle.papaya_moments.specs.Given.Schedules.Effects.{with_effects}
-use Rattle.papaya_moments.specs.Given.Schedules.Entry.{Entry}
 use Rattle.papaya_moments.specs.Given.Schedules.Linearizable.{shift_of, there_for, meaning_at, ChangesOnce}
 use Rattle.papaya_moments.specs.Given.Schedules.Moment.{UnderWay as CallThere, Moment}
 use Rattle.papaya_moments.specs.Given.Schedules.Sequential.{Shift, means, key_of, shifts}
@@ -40,6 +38,7 @@ use Rattle.papaya_histories.proofs.Steady.{effects_stored, Kinds, step_kinds}
 use Rattle.papaya_moments.specs.Given.Scenes.Held.{Held, IsAt}
 use Rattle.papaya_moments.specs.Given.Scenes.Scene.{Scene}
 use Rattle.papaya_moments.specs.Given.Scenes.Stepping.{StepLeads, scene_after}
+use Rattle.papaya_moments.specs.Given.Schedules.Transition.{Past}
 
 -- what a call has changed by a step it has changed since the beginning of the event, where nothing had changed before
 module _ {K V : Type 0} (same : K → K → Bool) (map : ℕ) (one : OneKey K V) (c d : CallThere K V) (m v : Moment K V) (same_call : IsSameCall c d) (on_map : c.map ≡ map)
@@ -66,7 +65,7 @@ module _ {K V : Type 0} (same : K → K → Bool) (map : ℕ) (one : OneKey K V)
     did ∙ ap (λ (o : Option ℕ). shifts o (length v.stored + 1) deed) same_there ∙ ap (λ (z : ℕ). shifts (there_for same one c m) z deed) same_new,
   )
 
-module _ {K V : Type 0} (same : K → K → Bool) (name : ℕ → List ℕ) (log : List (Entry K V)) (map i : ℕ) where
+module _ {K V : Type 0} (same : K → K → Bool) (name : ℕ → List ℕ) (log : Past K V) (map i : ℕ) where
   -- a call after effects of its own is the same call
   pub call_then : (effects : List Effect) (m : Moment K V) (c : CallThere K V) → call_of (name i) m ≡ Some c → (d : CallThere K V) → call_of (name i) (with_effects (Some (name i)) (Some map) effects m) ≡ Some d → IsSameCall c d
   call_then effects m c c_is d d_is =
@@ -82,7 +81,7 @@ module _ {K V : Type 0} (same : K → K → Bool) (name : ℕ → List ℕ) (log
 pub same_then : {K V : Type 0} (c d e : CallThere K V) → IsSameCall c d → IsSameCall d e → IsSameCall c e
 same_then c d e h k = record { map = k.map ∙ h.map; call = k.call ∙ h.call; replies = k.replies ∙ h.replies; begun = k.begun ∙ h.begun }
 
-module _ {K V : Type 0} (same : K → K → Bool) (hash : ℕ → K → ℕ) (name : ℕ → List ℕ) (log : List (Entry K V)) (beginning : Moment K V) (map i : ℕ) (one : OneKey K V) (c : CallThere K V) (one_is : c.call ≡ On one)
+module _ {K V : Type 0} (same : K → K → Bool) (hash : ℕ → K → ℕ) (name : ℕ → List ℕ) (log : Past K V) (beginning : Moment K V) (map i : ℕ) (one : OneKey K V) (c : CallThere K V) (one_is : c.call ≡ On one)
     (done : List Effect) (m : Moment K V) (known : Known) (s : Scene K V) (u : CallOnKey K V K) (midst : InMidst same name log beginning map i one c done m known s u)
     (old new : Held K V) (at : IsAt same hash old s) (said : Progress (Node K V)) (leads : StepLeads same hash i said s old new) where
   abbrev pub step_effects : List Effect
@@ -176,9 +175,9 @@ module _ {K V : Type 0} (same : K → K → Bool) (hash : ℕ → K → ℕ) (na
   pub first_change : ChangesFirst log m same map then_at
   first_change k = kind its_kinds
     where
-      kind : ItsKinds → (finite_map same map then_at k ≡ finite_map same map m k) ⊎ (finite_map same map m k ≡ finite_map same map (moment log) k)
+      kind : ItsKinds → (finite_map same map then_at k ≡ finite_map same map m k) ⊎ (finite_map same map m k ≡ finite_map same map log.now k)
       kind (inl (e, no_shift, kept)) = inl (kept k)
-      kind (inr (unchanged, first)) = inr ((midst.untouched unchanged).1 k ∙ map_alike same map k (moment log) beginning midst.begins.0 midst.begins.1)
+      kind (inr (unchanged, first)) = inr ((midst.untouched unchanged).1 k ∙ map_alike same map k log.now beginning midst.begins.0 midst.begins.1)
 
   pub worked_then : then_at ≡ with_effects (Some (name i)) (Some map) (done ++ step_effects) beginning
   worked_then = ap (λ (x : Moment K V). with_effects (Some (name i)) (Some map) step_effects x) midst.worked ∙ sym (effects_after (Some (name i)) (Some map) done step_effects beginning)

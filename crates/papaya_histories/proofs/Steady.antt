@@ -9,7 +9,7 @@ use Rattle.papaya_moments.specs.Given.Schedules.declared.call.OneKey.{OneKey}
 use Rattle.papaya_moments.specs.Given.Schedules.declared.effect.Effect.{Effect}
 use Rattle.papaya_moments.specs.Given.Schedules.declared.effect.Effect.TheVariants as effect
 use Rattle.papaya_moments.specs.Given.Schedules.Effects.{stored_by, with_effect, with_effects}
-use Rattle.papaya_moments.specs.Given.Schedules.Entry.{Entry, acting}
+use Rattle.papaya_moments.specs.Given.Schedules.Entry.{acting}
 use Rattle.papaya_moments.specs.Given.Schedules.Linearizable.{shift_of}
 use Rattle.papaya_moments.specs.Given.Schedules.Moment.{UnderWay as CallThere, Moment}
 use Rattle.papaya_moments.specs.Given.Schedules.Views.{call_of, finite_map}
@@ -35,6 +35,7 @@ use Rattle.papaya_histories.proofs.Steps.{to, v, same_pairs}
 use Rattle.papaya_moments.specs.Given.Scenes.Held.{Held, IsAt}
 use Rattle.papaya_moments.specs.Given.Scenes.Scene.{Scene, slot_of}
 use Rattle.papaya_moments.specs.Given.Scenes.Stepping.{StepLeads}
+use Rattle.papaya_moments.specs.Given.Schedules.Transition.{Past}
 
 -- a moment after effects that shift no pair has the pairs that it had
 module _ {K V : Type 0} where
@@ -49,7 +50,7 @@ module _ {K V : Type 0} where
       let two = none_of (shift_of f) (flat_map shift_of effects) none in
       effects_stored caller acted effects (with_effect caller acted f m) two.1 ∙ stored_kept (acting caller m) f m.stored two.0
 
-module _ {K V : Type 0} (same : K → K → Bool) (hash : ℕ → K → ℕ) (name : ℕ → List ℕ) (log : List (Entry K V)) (m : Moment K V) (known : Known) (s : Scene K V) (old new : Held K V)
+module _ {K V : Type 0} (same : K → K → Bool) (hash : ℕ → K → ℕ) (name : ℕ → List ℕ) (log : Past K V) (m : Moment K V) (known : Known) (s : Scene K V) (old new : Held K V)
     (at : IsAt same hash old s) (whole : ShowsWhole same name m known s) (dues : ShowsDue same name log m known s) (map i : ℕ) (z : CallOnKey K V K) (here : s.calls map i ≡ Some (OnKey z))
     (said : Progress (Node K V)) (leads : StepLeads same hash i said s old new) (c : CallThere K V) (c_is : call_of (name i) m ≡ Some c) (one : OneKey K V) (one_is : c.call ≡ On one)
     (st2 : Standing K) (st2_is : (leads map (OnKey z) here).4.maps2 map ≡ Some st2) (d : CallThere K V)

@@ -1,5 +1,5 @@
 -- A step of a call, whoever's: the history of each map stays within the moments of the run.
-use Rattle.std.specs.Prelude.{◌≡◌, ◌≢◌, ℕ, ◌≤◌, Bool, List, length, Option, Some, ◌⊎◌}
+use Rattle.std.specs.Prelude.{◌≡◌, ◌≢◌, ℕ, ◌≤◌, Bool, List, Option, Some, ◌⊎◌}
 use Rattle.std.proofs.Common.{refl, ap, sym, subst, ◌∙◌, arith, inl, inr}
 use Rattle.std.proofs.lemmas.Bool.{cases_eq}
 use Rattle.papaya_moments.specs.Given.Seize.World.{World, with_at}
@@ -7,9 +7,7 @@ use Rattle.papaya_moments.specs.Given.Tables.Chunks.{is_incremental}
 use Rattle.papaya_moments.specs.Given.Tables.declared.node.Node.{Node}
 use Rattle.papaya_moments.specs.Given.Raw.declared.machines.progress.Progress.{Progress}
 use Rattle.papaya_moments.specs.Given.Schedules.declared.effect.Effect.{Effect}
-use Rattle.papaya_moments.specs.Given.Schedules.After.{moment}
 use Rattle.papaya_moments.specs.Given.Schedules.Effects.{with_effects}
-use Rattle.papaya_moments.specs.Given.Schedules.Entry.{Entry}
 use Rattle.papaya_moments.specs.Given.Schedules.Moment.{UnderWay as CallThere, Moment}
 use Rattle.papaya_moments.specs.Given.Schedules.Views.{call_of, finite_map}
 use Rattle.papaya_moments.specs.Given.Rule.Chart.{Chart}
@@ -48,6 +46,7 @@ use Rattle.papaya_histories.proofs.Within.{within_on}
 use Rattle.papaya_moments.specs.Given.Scenes.Held.{Held, IsAt}
 use Rattle.papaya_moments.specs.Given.Scenes.Scene.{Scene, slot_of}
 use Rattle.papaya_moments.specs.Given.Scenes.Stepping.{StepLeads, scene_after}
+use Rattle.papaya_moments.specs.Given.Schedules.Transition.{Past}
 
 module _ {K V : Type 0} (same : K → K → Bool) (hash : ℕ → K → ℕ) (name : ℕ → List ℕ) (m : Moment K V) (known : Known) (s : Scene K V) (old new : Held K V) (at : IsAt same hash old s)
     (whole : ShowsWhole same name m known s) (shown : Shows same name m known s) (map i : ℕ) (u : UnderWay K V K) (here : s.calls map i ≡ Some u) (said : Progress (Node K V))
@@ -179,7 +178,7 @@ module _ {K V : Type 0} (same : K → K → Bool) (hash : ℕ → K → ℕ) (na
   same_elsewhere n ne st there k =
       let it = stood_same (s.maps n) (to.4.maps2 n) (to.4.others n ne) st there in same_pairs n st there it.0 it.1 (ap (λ (c : Chart K). c.current) it.2) k
 
-module _ {K V : Type 0} (same : K → K → Bool) (hash : ℕ → K → ℕ) (name : ℕ → List ℕ) (log : List (Entry K V)) (m : Moment K V) (known : Known) (s : Scene K V) (old new : Held K V)
+module _ {K V : Type 0} (same : K → K → Bool) (hash : ℕ → K → ℕ) (name : ℕ → List ℕ) (log : Past K V) (m : Moment K V) (known : Known) (s : Scene K V) (old new : Held K V)
     (at : IsAt same hash old s) (whole : ShowsWhole same name m known s) (history : ShowsHistory same name log m known s) (map i : ℕ) (u : UnderWay K V K) (here : s.calls map i ≡ Some u)
     (said : Progress (Node K V)) (leads : StepLeads same hash i said s old new) where
   abbrev pub then_shown : LeadsThere same hash name m known s old new at history.shown map i u here said leads
@@ -200,13 +199,13 @@ module _ {K V : Type 0} (same : K → K → Bool) (hash : ℕ → K → ℕ) (na
       let now = effects_begun (name i) map (name j) (effects_of (acts.Call i map) known new.changed) m call.0 call.1 in
       (was.0, was.1, was.2, call.0, call.1, ap (λ (z : CallThere K V). z.begun) (one_of d now.0 (sym found ∙ now.1)) ∙ now.2)
 
-  pub begun_then : (n j : ℕ) (x : UnderWay K V K) → scene2.calls n j ≡ Some x → (d : CallThere K V) → call_of (name j) v2 ≡ Some d → d.begun ≤ length log
-  begun_then n j x is d found = let was = was_there n j x is d found in subst (λ (b : ℕ). b ≤ length log) (sym was.5) (history.begun n j was.0 was.1 was.3 was.4)
+  pub begun_then : (n j : ℕ) (x : UnderWay K V K) → scene2.calls n j ≡ Some x → (d : CallThere K V) → call_of (name j) v2 ≡ Some d → d.begun ≤ log.entries
+  begun_then n j x is d found = let was = was_there n j x is d found in subst (λ (b : ℕ). b ≤ log.entries) (sym was.5) (history.begun n j was.0 was.1 was.3 was.4)
 
   module _ (changes : ChangesFirst log m same map v2) where
-    changes_then : (n : ℕ) (st : Standing K) → scene2.maps n ≡ Some st → (k : K) → (finite_map same n v2 k ≡ finite_map same n m k) ⊎ (finite_map same n m k ≡ finite_map same n (moment log) k)
-    changes_then n st there k = elim (cases_eq n map) as (λ _. (finite_map same n v2 k ≡ finite_map same n m k) ⊎ (finite_map same n m k ≡ finite_map same n (moment log) k)) [
-      | inl e ↦ subst (λ (z : ℕ). (finite_map same z v2 k ≡ finite_map same z m k) ⊎ (finite_map same z m k ≡ finite_map same z (moment log) k)) (sym e) (changes k)
+    changes_then : (n : ℕ) (st : Standing K) → scene2.maps n ≡ Some st → (k : K) → (finite_map same n v2 k ≡ finite_map same n m k) ⊎ (finite_map same n m k ≡ finite_map same n log.now k)
+    changes_then n st there k = elim (cases_eq n map) as (λ _. (finite_map same n v2 k ≡ finite_map same n m k) ⊎ (finite_map same n m k ≡ finite_map same n log.now k)) [
+      | inl e ↦ subst (λ (z : ℕ). (finite_map same z v2 k ≡ finite_map same z m k) ⊎ (finite_map same z m k ≡ finite_map same z log.now k)) (sym e) (changes k)
       | inr ne ↦ inl (same_elsewhere same hash name m known s old new at whole history.shown map i u here said leads n ne st there k)
     ]
 
@@ -216,12 +215,13 @@ module _ {K V : Type 0} (same : K → K → Bool) (hash : ℕ → K → ℕ) (na
         let was = was_there n j x is d found in
         let before = maps_later same hash name m known s old new at whole history.shown map i u here said leads n st there in
         subst (λ (b : ℕ). IsWithin same n st (then_shown.shows.number n) (since log v2 (record d { begun = b })) began) (sym was.5)
-        (within_on same n before.0 st (history.shown.number n) (then_shown.shows.number n) before.2 (then_shown.numbers n before.0 before.1) log m v2 was.3.begun
+        (within_on same n before.0 st (history.shown.number n) (then_shown.shows.number n) before.2 (then_shown.numbers n before.0 before.1) log history.past m v2 was.3.begun
         (history.begun n j was.0 was.1 was.3 was.4) (changes_then n st there) (now_then same hash name m known s old new at whole history.shown map i u here said leads n st there) began
         (history.within n j was.0 was.1 before.0 before.1 was.3 was.4 began (sym was.2 ∙ began_is)))
 
     abbrev pub step_history : ShowsHistory same name log v2 (after same hash name m known s old new at whole history.shown map i u here said leads) scene2
     step_history = record {
+      past = history.past;
       shown = then_shown.shows;
       asked = asked_on same hash name m known s old new at history.shown map i u here said leads history.asked then_shown;
       begun = begun_then;

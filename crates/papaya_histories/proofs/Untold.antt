@@ -29,6 +29,7 @@ use Rattle.papaya_moments.specs.Given.Callers.Pairs.{Given, Begun, IsTold, kind_
 use Rattle.papaya_moments.specs.Given.Hands.Asked.{as_told, given_by, KnowsFirst}
 use Rattle.papaya_moments.proofs.Given.Hands.Replies.{told_since}
 use Rattle.papaya_histories.specs.Questions.{replied_to}
+use Rattle.papaya_moments.specs.Given.Schedules.Transition.{further}
 
 -- what has no reply is none of what has
 unreplied : {V : Type 0} (question : Option ℕ) (replies : List (Option ℕ × Reply V)) → reply_to question replies ≡ None → is_in same_question question (replied_to replies) ≡ false

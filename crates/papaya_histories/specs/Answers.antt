@@ -11,9 +11,7 @@ use Rattle.papaya_moments.specs.Given.Schedules.declared.call.Answer.{Answer}
 use Rattle.papaya_moments.specs.Given.Schedules.declared.call.Call.TheVariants.{On}
 use Rattle.papaya_moments.specs.Given.Schedules.declared.call.OneKey.{OneKey}
 use Rattle.papaya_moments.specs.Given.Schedules.declared.call.Reply.{Reply}
-use Rattle.papaya_moments.specs.Given.Schedules.After.{moment, moments_from}
 use Rattle.papaya_moments.specs.Given.Schedules.Effects.{with_effects}
-use Rattle.papaya_moments.specs.Given.Schedules.Entry.{Entry}
 use Rattle.papaya_moments.specs.Given.Schedules.Linearizable.{meaning_at}
 use Rattle.papaya_moments.specs.Given.Schedules.Lists.{OneOf}
 use Rattle.papaya_moments.specs.Given.Schedules.Moment.{UnderWay as CallThere, Moment}
@@ -30,6 +28,7 @@ use Rattle.papaya_histories.specs.Histories.{ShowsHistory}
 use Rattle.papaya_moments.specs.Given.Scenes.Held.{Held, IsAt}
 use Rattle.papaya_moments.specs.Given.Scenes.Scene.{Scene}
 use Rattle.papaya_moments.specs.Given.Scenes.Stepping.{StepLeads}
+use Rattle.papaya_moments.specs.Given.Schedules.Transition.{Past}
 
 -- a word names the pair of this number
 abbrev pub NamesPair : Known → ℕ → ℕ → Type 0
@@ -54,17 +53,17 @@ module _ (K V : Type 0) (same : K → K → Bool) (hash : ℕ → K → ℕ) whe
   -- the present event.
   abbrev pub AnswersWereSo : Type 0
   AnswersWereSo =
-      (name : ℕ → List ℕ) (log : List (Entry K V)) (m : Moment K V) (known : Known) (s : Scene K V) (old new : Held K V) → IsAt same hash old s
+      (name : ℕ → List ℕ) (log : Past K V) (m : Moment K V) (known : Known) (s : Scene K V) (old new : Held K V) → IsAt same hash old s
       → ShowsWhole same name m known s → ShowsHistory same name log m known s
       → (map i : ℕ) (u : CallOnKey K V K) (here : s.calls map i ≡ Some (OnKey u)) (answer : KeyAnswer) (leads : StepLeads same hash i (Done (Key answer)) s old new)
-      → (c : CallThere K V) → call_of (name i) m ≡ Some c → (one : OneKey K V) → c.call ≡ On one → finite_map same map m (key_of one) ≡ finite_map same map (moment log) (key_of one)
+      → (c : CallThere K V) → call_of (name i) m ≡ Some c → (one : OneKey K V) → c.call ≡ On one → finite_map same map m (key_of one) ≡ finite_map same map log.now (key_of one)
       → (a : Answer V) → IsToldAs (known_after (acts.Call i map) new.changed known) one c.replies answer a
-      → OneOf (λ v. meaning_at same one c v ≡ Answers a Leaves) (moments_from c.begun log)
+      → OneOf (λ v. meaning_at same one c v ≡ Answers a Leaves) (log.since c.begun)
 
   -- The promise: an answer that tells a change is the one that the call owes since it has changed its map.
   abbrev pub AnswersAreOwed : Type 0
   AnswersAreOwed =
-      (name : ℕ → List ℕ) (log : List (Entry K V)) (m : Moment K V) (known : Known) (s : Scene K V) (old new : Held K V) → IsAt same hash old s
+      (name : ℕ → List ℕ) (log : Past K V) (m : Moment K V) (known : Known) (s : Scene K V) (old new : Held K V) → IsAt same hash old s
       → ShowsWhole same name m known s → ShowsDue same name log m known s
       → (map i : ℕ) (u : CallOnKey K V K) (here : s.calls map i ≡ Some (OnKey u)) (answer : KeyAnswer) (leads : StepLeads same hash i (Done (Key answer)) s old new)
       → (c : CallThere K V) → call_of (name i) m ≡ Some c → (one : OneKey K V) → c.call ≡ On one
@@ -74,9 +73,9 @@ module _ (K V : Type 0) (same : K → K → Bool) (hash : ℕ → K → ℕ) whe
   -- The promise: a call that is refused owes no answer; and where it was told to remove what is not there, that is what it means at a moment of it between two events.
   abbrev pub RefusalsWereSo : Type 0
   RefusalsWereSo =
-      (name : ℕ → List ℕ) (log : List (Entry K V)) (m : Moment K V) (known : Known) (s : Scene K V) (old new : Held K V) → IsAt same hash old s
+      (name : ℕ → List ℕ) (log : Past K V) (m : Moment K V) (known : Known) (s : Scene K V) (old new : Held K V) → IsAt same hash old s
       → ShowsWhole same name m known s → ShowsDue same name log m known s
       → (map i : ℕ) (u : CallOnKey K V K) (here : s.calls map i ≡ Some (OnKey u)) (fault : Fault) (leads : StepLeads same hash i (Refused fault) s old new)
-      → (c : CallThere K V) → call_of (name i) m ≡ Some c → (one : OneKey K V) → c.call ≡ On one → finite_map same map m (key_of one) ≡ finite_map same map (moment log) (key_of one)
+      → (c : CallThere K V) → call_of (name i) m ≡ Some c → (one : OneKey K V) → c.call ≡ On one → finite_map same map m (key_of one) ≡ finite_map same map log.now (key_of one)
       → (d : CallThere K V) → call_of (name i) (with_effects (Some (name i)) (Some map) (effects_of (acts.Call i map) known new.changed) m) ≡ Some d
-      → (d.due ≡ None) × (fault ≡ RemoveNothing → OneOf (λ v. meaning_at same one c v ≡ Refuses) (moments_from c.begun log))
+      → (d.due ≡ None) × (fault ≡ RemoveNothing → OneOf (λ v. meaning_at same one c v ≡ Refuses) (log.since c.begun))

@@ -5,8 +5,6 @@ use Rattle.papaya_moments.specs.Given.Raw.declared.machines.progress.Progress.{P
 use Rattle.papaya_moments.specs.Given.Raw.declared.machines.progress.Progress.TheVariants as progress
 use Rattle.papaya_moments.specs.Given.Schedules.declared.call.Call.TheVariants.{On}
 use Rattle.papaya_moments.specs.Given.Schedules.declared.call.OneKey.{OneKey}
-use Rattle.papaya_moments.specs.Given.Schedules.After.{moment, moments_from}
-use Rattle.papaya_moments.specs.Given.Schedules.Entry.{Entry}
 use Rattle.papaya_moments.specs.Given.Schedules.Linearizable.{MayAsk}
 use Rattle.papaya_moments.specs.Given.Schedules.Moment.{Asking, UnderWay as CallThere, Moment}
 use Rattle.papaya_moments.specs.Given.Schedules.Sequential.{key_of}
@@ -20,6 +18,7 @@ use Rattle.papaya_histories.specs.Questions.{unanswered, ShowsQuestions}
 use Rattle.papaya_moments.specs.Given.Scenes.Held.{Held, IsAt}
 use Rattle.papaya_moments.specs.Given.Scenes.Scene.{Scene}
 use Rattle.papaya_moments.specs.Given.Scenes.Stepping.{StepLeads}
+use Rattle.papaya_moments.specs.Given.Schedules.Transition.{Past}
 
 -- what the machine asks is told as this question: about the pair of its word, or about none
 abbrev pub IsToldQuestion : Known → Option ℕ → Option ℕ → Type 0
@@ -31,10 +30,10 @@ module _ (K V : Type 0) (same : K → K → Bool) (hash : ℕ → K → ℕ) whe
   -- The promise: what a call stands at to ask, and has not asked yet, it may ask; where no pair of its key's class has come or gone within the present event.
   abbrev pub QuestionsMayBeAsked : Type 0
   QuestionsMayBeAsked =
-      (name : ℕ → List ℕ) (log : List (Entry K V)) (m : Moment K V) (known : Known) (s : Scene K V) (e : Held K V) → IsAt same hash e s → ShowsDue same name log m known s → ShowsQuestions m
+      (name : ℕ → List ℕ) (log : Past K V) (m : Moment K V) (known : Known) (s : Scene K V) (e : Held K V) → IsAt same hash e s → ShowsDue same name log m known s → ShowsQuestions m
       → (map i : ℕ) (u : CallOnKey K V K) (here : s.calls map i ≡ Some (OnKey u)) (c : CallThere K V) → call_of (name i) m ≡ Some c → (one : OneKey K V) → c.call ≡ On one
-      → finite_map same map m (key_of one) ≡ finite_map same map (moment log) (key_of one)
-      → (question : Option ℕ) → AsksThere known u.call.stands question → unanswered c.stands ≡ [] → MayAsk same (On one) c (moments_from c.begun log) question
+      → finite_map same map m (key_of one) ≡ finite_map same map log.now (key_of one)
+      → (question : Option ℕ) → AsksThere known u.call.stands question → unanswered c.stands ≡ [] → MayAsk same (On one) c (log.since c.begun) question
 
   -- The promise: a step that says that its call asks has led to where it asks that, by whatever is known then,
   abbrev pub AskingStepsStandThere : Type 0

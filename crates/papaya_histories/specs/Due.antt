@@ -1,5 +1,5 @@
 -- What a call on one key owes as an answer, by what it has changed.
-use Rattle.std.specs.Prelude.{◌≡◌, ℕ, ◌<◌, Bool, true, List, [], ◌∷◌, length, Option, Some, None, Ok}
+use Rattle.std.specs.Prelude.{◌≡◌, ℕ, ◌<◌, Bool, true, List, [], ◌∷◌, Option, Some, None, Ok, suc}
 use Rattle.papaya_moments.specs.Given.Tables.declared.node.Node.{Node}
 use Rattle.papaya_moments.specs.Given.Runs.Same.{is_same}
 use Rattle.papaya_moments.specs.Given.Raw.declared.machines.progress.Progress.{Progress}
@@ -11,9 +11,8 @@ use Rattle.papaya_moments.specs.Given.Schedules.declared.call.Reply.{Reply}
 use Rattle.papaya_moments.specs.Given.Schedules.Beginning.{with_call}
 use Rattle.papaya_moments.specs.Given.Schedules.declared.call.OneKey.{OneKey}
 use Rattle.papaya_moments.specs.Given.Schedules.declared.outcome.Outcome.{Outcome}
-use Rattle.papaya_moments.specs.Given.Schedules.After.{moment}
 use Rattle.papaya_moments.specs.Given.Schedules.Effects.{with_effects}
-use Rattle.papaya_moments.specs.Given.Schedules.Entry.{Entry, ends_call}
+use Rattle.papaya_moments.specs.Given.Schedules.Entry.{ends_call}
 use Rattle.papaya_moments.specs.Given.Schedules.Moment.{Asking, UnderWay as CallThere, Moment, start}
 use Rattle.papaya_moments.specs.Given.Schedules.Sequential.{Answers, Puts, Takes, means}
 use Rattle.papaya_moments.specs.Given.Schedules.Views.{call_of, reply_to}
@@ -36,6 +35,7 @@ use Rattle.papaya_moments.specs.Given.Scenes.Held.{Held, IsAt}
 use Rattle.papaya_moments.specs.Given.Scenes.Replying.{scene_with}
 use Rattle.papaya_moments.specs.Given.Scenes.Scene.{Scene, at_first, slot_of}
 use Rattle.papaya_moments.specs.Given.Scenes.Stepping.{StepLeads, scene_after}
+use Rattle.papaya_moments.specs.Given.Schedules.Transition.{Past, further, past}
 
 -- Of a map, whose pairs have these numbers of the run, and of which so many were stored.
 module _ {K V : Type 0} (number : ℕ → ℕ) (stored : ℕ) (one : OneKey K V) (c : CallThere K V) where
@@ -48,7 +48,7 @@ module _ {K V : Type 0} (number : ℕ → ℕ) (stored : ℕ) (one : OneKey K V)
   Owes (Removed o) = (o < stored) × (a : Answer V) × (new : ℕ) × (means one (reply_to (Some (number o)) c.replies) (Some (number o)) new ≡ Answers a Takes) × (c.due ≡ Some a)
 
 -- the history is within the run, and each call on one key owes what it is to answer, and got such replies alone as it takes
-pub record ShowsDue {K V : Type 0} (same : K → K → Bool) (name : ℕ → List ℕ) (log : List (Entry K V)) (m : Moment K V) (known : Known) (s : Scene K V) : Type 0 where
+pub record ShowsDue {K V : Type 0} (same : K → K → Bool) (name : ℕ → List ℕ) (log : Past K V) (m : Moment K V) (known : Known) (s : Scene K V) : Type 0 where
   pub history : ShowsHistory same name log m known s
   pub owes : (map i : ℕ) (u : CallOnKey K V K) → s.calls map i ≡ Some (OnKey u) → (standing : Standing K) → s.maps map ≡ Some standing → (c : CallThere K V) → call_of (name i) m ≡ Some c
       → (one : OneKey K V) → c.call ≡ On one → Owes (history.shown.number map) standing.chart.stored one c u.change
@@ -58,7 +58,7 @@ module _ (K V : Type 0) (same : K → K → Bool) (hash : ℕ → K → ℕ) whe
   -- The promise: so it is after each step of a call, whoever's, if no class changes twice within one event by it.
   abbrev pub CallsKeepDue : Type 0
   CallsKeepDue =
-      (name : ℕ → List ℕ) (log : List (Entry K V)) (m : Moment K V) (known : Known) (s : Scene K V) (old new : Held K V) → IsAt same hash old s
+      (name : ℕ → List ℕ) (log : Past K V) (m : Moment K V) (known : Known) (s : Scene K V) (old new : Held K V) → IsAt same hash old s
       → ShowsWhole same name m known s → ShowsDue same name log m known s
       → (map i : ℕ) (u : UnderWay K V K) (here : s.calls map i ≡ Some u) (said : Progress (Node K V)) (leads : StepLeads same hash i said s old new)
       → ChangesFirst log m same map (with_effects (Some (name i)) (Some map) (effects_of (acts.Call i map) known new.changed) m)
@@ -69,12 +69,12 @@ module _ (K V : Type 0) (same : K → K → Bool) (hash : ℕ → K → ℕ) whe
 module _ (K V : Type 0) (same : K → K → Bool) where
   -- So it is before all events,
   abbrev pub DuesBegin : Type 0
-  DuesBegin = (roots : ℕ) (name : ℕ → List ℕ) → ShowsDue {K = K} {V = V} same name [] start nothing_known (at_first roots)
+  DuesBegin = (roots : ℕ) (name : ℕ → List ℕ) → ShowsDue {K = K} {V = V} same name (past []) start nothing_known (at_first roots)
 
   -- where a call comes to an outcome,
   abbrev pub CallsComeToDue : Type 0
   CallsComeToDue =
-      (name : ℕ → List ℕ) (log : List (Entry K V)) (m : Moment K V) (known : Known) (s : Scene K V) → ShowsDue same name log m known s
+      (name : ℕ → List ℕ) (log : Past K V) (m : Moment K V) (known : Known) (s : Scene K V) → ShowsDue same name log m known s
       → (own : List ℕ) (outcome : Outcome V) (steps : ℕ) → (ends_call outcome ≡ true → NoneNamed name own s)
       → ((map i : ℕ) (u : UnderWay K V K) → s.calls map i ≡ Some u → is_same (name i) own ≡ true → AsksJust known u outcome)
       → ShowsDue same name log (come_to own outcome steps m) known s
@@ -82,22 +82,22 @@ module _ (K V : Type 0) (same : K → K → Bool) where
   -- and where an event is over.
   abbrev pub EventsKeepDue : Type 0
   EventsKeepDue =
-      (name : ℕ → List ℕ) (log : List (Entry K V)) (e : Entry K V) (known : Known) (s : Scene K V) → ShowsDue same name log (moment (e ∷ log)) known s
-      → ShowsDue same name (e ∷ log) (moment (e ∷ log)) known s
+      (name : ℕ → List ℕ) (log : Past K V) (m : Moment K V) (known : Known) (s : Scene K V) → ShowsDue same name log m known s → m.events ≡ suc log.entries
+      → ShowsDue same name (further m log) m known s
 
 module _ (K V : Type 0) (same : K → K → Bool) (hash : ℕ → K → ℕ) where
   -- So it is where a call begins, that has changed nothing,
   abbrev pub CallsBeginDue : Type 0
   CallsBeginDue =
-      (name : ℕ → List ℕ) (log : List (Entry K V)) (m : Moment K V) (known : Known) (s : Scene K V) (e : Held K V) → IsAt same hash e s → ShowsDue same name log m known s
+      (name : ℕ → List ℕ) (log : Past K V) (m : Moment K V) (known : Known) (s : Scene K V) (e : Held K V) → IsAt same hash e s → ShowsDue same name log m known s
       → (map i : ℕ) (u : UnderWay K V K) (call : Call K V) (guard : List ℕ) (standing : Standing K) → s.maps map ≡ Some standing → ((began : ℕ) → began_of u ≡ Some began → began ≡ standing.chart.now)
-      → ((v : CallOnKey K V K) → u ≡ OnKey v → v.change ≡ Unchanged) → NoneNamed name (name i) s → IsCalled same u call → IsBegunFor u call → m.events ≡ length log
+      → ((v : CallOnKey K V K) → u ≡ OnKey v → v.change ≡ Unchanged) → NoneNamed name (name i) s → IsCalled same u call → IsBegunFor u call → m.events ≡ log.entries
       → ShowsDue same name log (with_call (name i) guard call (Some map) m) known (scene_with map i u s)
 
   -- and where one that asks takes a reply that such a call takes.
   abbrev pub CallsTakeDue : Type 0
   CallsTakeDue =
-      (name : ℕ → List ℕ) (log : List (Entry K V)) (m : Moment K V) (known : Known) (s : Scene K V) (e : Held K V) → IsAt same hash e s → ShowsDue same name log m known s
+      (name : ℕ → List ℕ) (log : Past K V) (m : Moment K V) (known : Known) (s : Scene K V) (e : Held K V) → IsAt same hash e s → ShowsDue same name log m known s
       → (map i : ℕ) (u : UnderWay K V K) → s.calls map i ≡ Some u → (c : CallThere K V) → call_of (name i) m ≡ Some c → (question : Option ℕ) → c.stands ≡ Asking question
       → (standing : Standing K) → s.maps map ≡ Some standing → (is_told : Reply V) (next : UnderWay K V K)
       → machine_of next ≡ (machine_replied (machine_of u) (as_told is_told)).0 → (machine_replied (machine_of u) (as_told is_told)).1 ≡ Ok tt

@@ -8,7 +8,6 @@ use Rattle.papaya_moments.specs.Given.Runs.Same.{is_same}
 use Rattle.papaya_moments.specs.Given.Seize.declared.progress.Progress.{Progress}
 use Rattle.papaya_moments.specs.Given.Schedules.Beginning.{with_map}
 use Rattle.papaya_moments.specs.Given.Schedules.Effects.{with_effects, AtEachEffect}
-use Rattle.papaya_moments.specs.Given.Schedules.Entry.{Entry}
 use Rattle.papaya_moments.specs.Given.Schedules.Linearizable.{shift_of}
 use Rattle.papaya_moments.specs.Given.Schedules.Moment.{MapThere, Remains, Moment}
 use Rattle.papaya_moments.specs.Given.Schedules.Views.{map_at, tables_of}
@@ -43,6 +42,7 @@ use Rattle.papaya_moments.specs.Given.Scenes.OnSlots.{RowBegins, RowLeads}
 use Rattle.papaya_moments.specs.Given.Scenes.Replying.{AskLeads, StopLeads, scene_with, unless_stopped}
 use Rattle.papaya_moments.specs.Given.Scenes.Rows.{request_of}
 use Rattle.papaya_moments.specs.Given.Scenes.Scene.{IsOnSlot, Scene, slot_of}
+use Rattle.papaya_moments.specs.Given.Schedules.Transition.{Past}
 
 module _ {K V : Type 0} (same : K → K → Bool) (hash : ℕ → K → ℕ) (name : ℕ → List ℕ) (P : Moment K V → Known → Scene K V → Type 0) where
   -- from a moment that shows all of a scene, and at which it is so
@@ -94,11 +94,11 @@ module _ {K V : Type 0} (same : K → K → Bool) (hash : ℕ → K → ℕ) (na
 module _ (K V : Type 0) (same : K → K → Bool) (hash : ℕ → K → ℕ) where
   -- The promises: so do the histories of maps,
   abbrev pub HistoriesStay : Type 0
-  HistoriesStay = (name : ℕ → List ℕ) (log : List (Entry K V)) → StaysElsewhere same hash name (ShowsHistory same name log)
+  HistoriesStay = (name : ℕ → List ℕ) (log : Past K V) → StaysElsewhere same hash name (ShowsHistory same name log)
 
   -- what calls owe,
   abbrev pub DuesStay : Type 0
-  DuesStay = (name : ℕ → List ℕ) (log : List (Entry K V)) → StaysElsewhere same hash name (ShowsDue same name log)
+  DuesStay = (name : ℕ → List ℕ) (log : Past K V) → StaysElsewhere same hash name (ShowsDue same name log)
 
   -- and what those on no key are called for, told and ask.
   abbrev pub AsCalledStays : Type 0

@@ -9,10 +9,6 @@ use Rattle.papaya_moments.specs.Given.Schedules.declared.call.OneKey.{OneKey}
 use Rattle.papaya_moments.specs.Given.Schedules.declared.call.Reply.{Reply}
 use Rattle.papaya_moments.specs.Given.Schedules.declared.outcome.Outcome.{Outcome}
 use Rattle.papaya_moments.specs.Given.Schedules.declared.outcome.Outcome.TheVariants as outcome
-use Rattle.papaya_moments.specs.Given.Schedules.After.{moment}
-use Rattle.papaya_moments.specs.Given.Schedules.Beginning.{at_work}
-use Rattle.papaya_moments.specs.Given.Schedules.Entry.{Entry, caller_of, acted_on}
-use Rattle.papaya_moments.specs.Given.Schedules.Linearizable.{IsLinearizable}
 use Rattle.papaya_moments.specs.Given.Schedules.Moment.{UnderWay as CallThere, Moment}
 use Rattle.papaya_moments.specs.Given.Schedules.Views.{call_of}
 use Rattle.papaya_moments.specs.Given.Callers.Together.{CallOnKey, OnKey}
@@ -28,6 +24,8 @@ use Rattle.papaya_histories.specs.Questions.{ShowsQuestions}
 use Rattle.papaya_moments.specs.Given.Scenes.Held.{Held, IsAt}
 use Rattle.papaya_moments.specs.Given.Scenes.Scene.{Scene}
 use Rattle.papaya_moments.specs.Given.Scenes.Stepping.{StepLeads}
+use Rattle.papaya_moments.specs.Given.Schedules.Transition.{Past, Transition}
+use Rattle.papaya_moments.specs.Given.Schedules.Linearizable.{Linearizes}
 
 -- What such a step comes to: it goes on or waits, asks, is refused, or has answered; and what is asked or answered is told by numbers of pairs.
 abbrev pub ComesToIt : {K V : Type 0} → Known → OneKey K V → List (Option ℕ × Reply V) → Progress (Node K V) → Outcome V → Type 0
@@ -45,11 +43,11 @@ module _ (K V : Type 0) (same : K → K → Bool) (hash : ℕ → K → ℕ) whe
   -- changes maps, answers and asks as one finite map says.
   abbrev pub StepsAreLinearizable : Type 0
   StepsAreLinearizable =
-      (name : ℕ → List ℕ) (log : List (Entry K V)) (beginning : Moment K V) → HasJustBegun log beginning
+      (name : ℕ → List ℕ) (log : Past K V) (beginning : Moment K V) → HasJustBegun log beginning
       → (known : Known) (s : Scene K V) (old new : Held K V) → IsAt same hash old s
       → ShowsWhole same name beginning known s → ShowsDue same name log beginning known s → ShowsQuestions beginning
       → (map i : ℕ) (u : CallOnKey K V K) (here : s.calls map i ≡ Some (OnKey u)) (said : Progress (Node K V)) (leads : StepLeads same hash i said s old new)
       → (c : CallThere K V) → call_of (name i) beginning ≡ Some c → (one : OneKey K V) → c.call ≡ On one
-      → (e : Entry K V) → caller_of e.event ≡ Some (name i) → at_work e (moment log) ≡ beginning → acted_on e.event beginning ≡ Some map
-      → e.effects ≡ effects_of (acts.Call i map) known new.changed → ComesToIt (known_after (acts.Call i map) new.changed known) one c.replies said e.outcome
-      → IsLinearizable same log e
+      → (t : Transition K V) → t.caller ≡ Some (name i) → t.found ≡ beginning → t.map ≡ Some map
+      → t.effects ≡ effects_of (acts.Call i map) known new.changed → ComesToIt (known_after (acts.Call i map) new.changed known) one c.replies said t.outcome
+      → Linearizes same log t

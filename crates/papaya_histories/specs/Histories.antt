@@ -1,7 +1,5 @@
 -- The history of a map since a call on it began, by the moments of the run since then.
-use Rattle.std.specs.Prelude.{◌≡◌, ℕ, ◌≤◌, Bool, List, ◌∷◌, length, Option, Some, None}
-use Rattle.papaya_moments.specs.Given.Schedules.After.{moments_from}
-use Rattle.papaya_moments.specs.Given.Schedules.Entry.{Entry}
+use Rattle.std.specs.Prelude.{◌≡◌, ℕ, ◌≤◌, Bool, List, ◌∷◌, Option, Some, None}
 use Rattle.papaya_moments.specs.Given.Schedules.Lists.{OneOf}
 use Rattle.papaya_moments.specs.Given.Schedules.Moment.{UnderWay as CallThere, Moment}
 use Rattle.papaya_moments.specs.Given.Schedules.Views.{call_of, finite_map}
@@ -12,6 +10,7 @@ use Rattle.papaya_moments.specs.Given.Follows.Shows.{Shows}
 use Rattle.papaya_moments.specs.Given.Hands.Asked.{ShowsAsked}
 use Rattle.papaya_histories.specs.Had.{HadThen}
 use Rattle.papaya_moments.specs.Given.Scenes.Scene.{Scene}
+use Rattle.papaya_moments.specs.Given.Schedules.Transition.{Past}
 
 module _ {K V : Type 0} where
   -- the moment of its map at which a call began, if it looks at pairs or makes room for them; a counting looks at shards alone
@@ -22,25 +21,31 @@ module _ {K V : Type 0} where
   began_of (OverAll o) = Some o.began
 
   -- the moments of the run since the event that began a call, and the one to which the run has come, be it in the midst of an event
-  abbrev pub since : List (Entry K V) → Moment K V → CallThere K V → List (Moment K V)
-  since log m c = m ∷ moments_from c.begun log
+  abbrev pub since : Past K V → Moment K V → CallThere K V → List (Moment K V)
+  since log m c = m ∷ log.since c.begun
 
   -- Class by class, what the map had at each of its moments since this one, the finite map has at one of these moments of the run.
   abbrev pub IsWithin : (K → K → Bool) → ℕ → Standing K → (ℕ → ℕ) → List (Moment K V) → ℕ → Type 0
   IsWithin same map s number moments began =
       (time : ℕ) → began ≤ time → time ≤ s.chart.now → (k : K) → OneOf (λ m. HadThen same s number time k (finite_map same map m k)) moments
 
+-- The moments since any entry are those up to now, and each entry is counted.
+pub record IsPast {K V : Type 0} (log : Past K V) : Type 0 where
+  pub counted : log.now.events ≡ log.entries
+  pub last : (begun : ℕ) → begun ≤ log.entries → (rest : List (Moment K V)) × (log.since begun ≡ log.now ∷ rest)
+
 -- The moment shows the scene, and what its calls were told. The event that began a call is one of the log or the next one, and the history of its map since it
 -- began is within the moments of the run since then.
-pub record ShowsHistory {K V : Type 0} (same : K → K → Bool) (name : ℕ → List ℕ) (log : List (Entry K V)) (m : Moment K V) (known : Known) (s : Scene K V) : Type 0 where
+pub record ShowsHistory {K V : Type 0} (same : K → K → Bool) (name : ℕ → List ℕ) (log : Past K V) (m : Moment K V) (known : Known) (s : Scene K V) : Type 0 where
+  pub past : IsPast log
   pub shown : Shows same name m known s
   pub asked : ShowsAsked name shown.number m known s
-  pub begun : (map i : ℕ) (u : UnderWay K V K) → s.calls map i ≡ Some u → (c : CallThere K V) → call_of (name i) m ≡ Some c → c.begun ≤ length log
+  pub begun : (map i : ℕ) (u : UnderWay K V K) → s.calls map i ≡ Some u → (c : CallThere K V) → call_of (name i) m ≡ Some c → c.begun ≤ log.entries
   pub within : (map i : ℕ) (u : UnderWay K V K) → s.calls map i ≡ Some u → (standing : Standing K) → s.maps map ≡ Some standing
       → (c : CallThere K V) → call_of (name i) m ≡ Some c
       → (began : ℕ) → began_of u ≡ Some began → IsWithin same map standing (shown.number map) (since log m c) began
 
 -- the moment shows it so, and pairs have the numbers that they had
-abbrev pub StaysWithin : {K V : Type 0} (same : K → K → Bool) (name : ℕ → List ℕ) (log : List (Entry K V)) (m : Moment K V) (known : Known) (s : Scene K V) → ShowsHistory same name log m known s
-    → List (Entry K V) → Moment K V → Scene K V → Type 0
+abbrev pub StaysWithin : {K V : Type 0} (same : K → K → Bool) (name : ℕ → List ℕ) (log : Past K V) (m : Moment K V) (known : Known) (s : Scene K V) → ShowsHistory same name log m known s
+    → Past K V → Moment K V → Scene K V → Type 0
 StaysWithin same name log m known s history log2 m2 s2 = (after : ShowsHistory same name log2 m2 known s2) × (after.shown.number ≡ history.shown.number)

@@ -14,7 +14,6 @@ use Rattle.papaya_moments.specs.Given.Schedules.After.{moment}
 use Rattle.papaya_moments.specs.Given.Schedules.Beginning.{at_work, fresh_call, with_call}
 use Rattle.papaya_moments.specs.Given.Schedules.Effects.{with_effects}
 use Rattle.papaya_moments.specs.Given.Schedules.Entry.{Entry, ends_call, caller_of, acted_on}
-use Rattle.papaya_moments.specs.Given.Schedules.Linearizable.{IsLinearizable}
 use Rattle.papaya_moments.specs.Given.Schedules.Moment.{Remains, Sheltered, UnderWay as CallThere, Moment}
 use Rattle.papaya_moments.specs.Given.Schedules.Views.{call_of}
 use Rattle.papaya_moments.specs.Given.Points.FactsCalls.{Unchanged}
@@ -33,19 +32,21 @@ use Rattle.papaya_histories.specs.Events.{ComesToIt}
 use Rattle.papaya_histories.specs.Histories.{began_of}
 use Rattle.papaya_histories.specs.Kept.{HasJustBegun}
 use Rattle.papaya_histories.specs.OtherMidsts.{AsksAsSaid, InOtherMidst}
-use Rattle.papaya_histories.specs.Questions.{ShowsQuestions, EventAsksStill}
+use Rattle.papaya_histories.specs.Questions.{ShowsQuestions, AsksOnStill}
 use Rattle.papaya_histories.specs.Several.{InMidst}
 use Rattle.papaya_moments.specs.Given.Scenes.Held.{Held, IsAt}
 use Rattle.papaya_moments.specs.Given.Scenes.Replying.{scene_with}
 use Rattle.papaya_moments.specs.Given.Scenes.Scene.{Scene}
 use Rattle.papaya_moments.specs.Given.Scenes.Stepping.{StepLeads, has_ended, scene_after}
+use Rattle.papaya_moments.specs.Given.Schedules.Transition.{Past, Transition, past}
+use Rattle.papaya_moments.specs.Given.Schedules.Linearizable.{Linearizes}
 
 -- what such a step comes to, told by numbers of pairs: of a call on one key all, and of any other one what it asks
 abbrev pub ComesSo : {K V : Type 0} → Known → Call K V → List (Option ℕ × Reply V) → Progress (Node K V) → Outcome V → Type 0
 ComesSo known (On one) replies said outcome = ComesToIt known one replies said outcome
 ComesSo known _ replies said outcome = AsksAsSaid known said outcome
 
-module _ {K V : Type 0} (same : K → K → Bool) (name : ℕ → List ℕ) (log : List (Entry K V)) (beginning : Moment K V) (map i : ℕ) (c : CallThere K V) where
+module _ {K V : Type 0} (same : K → K → Bool) (name : ℕ → List ℕ) (log : Past K V) (beginning : Moment K V) (map i : ℕ) (c : CallThere K V) where
   -- In the midst of an event, after so many effects, since the moment at which it has begun what it begins.
   abbrev pub InEvent : List Effect → Moment K V → Known → Scene K V → UnderWay K V K → Type 0
   InEvent done m known s (OnKey u) = (one : OneKey K V) × (c.call ≡ On one)
@@ -62,7 +63,7 @@ module _ (K V : Type 0) (same : K → K → Bool) (hash : ℕ → K → ℕ) whe
   -- The promises: so it is at the beginning of an event,
   abbrev pub EventsBegin : Type 0
   EventsBegin =
-      (name : ℕ → List ℕ) (log : List (Entry K V)) (beginning : Moment K V) → HasJustBegun log beginning
+      (name : ℕ → List ℕ) (log : Past K V) (beginning : Moment K V) → HasJustBegun log beginning
       → (known : Known) (s : Scene K V) (e : Held K V) → IsAt same hash e s
       → ShowsWhole same name beginning known s → ShowsDue same name log beginning known s → ShowsAsCalled same name beginning known s
       → (map i : ℕ) (u : UnderWay K V K) → s.calls map i ≡ Some u → (c : CallThere K V) → call_of (name i) beginning ≡ Some c
@@ -71,21 +72,21 @@ module _ (K V : Type 0) (same : K → K → Bool) (hash : ℕ → K → ℕ) whe
   -- which may begin the call, too, as it does at this moment of its map, by a name that no call under way has,
   abbrev pub EventsBeginCalls : Type 0
   EventsBeginCalls =
-      (name : ℕ → List ℕ) (log : List (Entry K V)) (known : Known) (s : Scene K V) (old : Held K V) → IsAt same hash old s
-      → ShowsWhole same name (moment log) known s → ShowsDue same name log (moment log) known s → ShowsAsCalled same name (moment log) known s
+      (name : ℕ → List ℕ) (log : Past K V) (known : Known) (s : Scene K V) (old : Held K V) → IsAt same hash old s
+      → ShowsWhole same name log.now known s → ShowsDue same name log log.now known s → ShowsAsCalled same name log.now known s
       → (map i : ℕ) (u : UnderWay K V K) (call : Call K V) (guard : List ℕ) (standing : Standing K) → s.maps map ≡ Some standing
       → ((began : ℕ) → began_of u ≡ Some began → began ≡ standing.chart.now)
       → ((v : CallOnKey K V K) → u ≡ OnKey v → v.change ≡ Unchanged) → NoneNamed name (name i) s → IsCalled same u call → IsBegunFor u call → IsBegunAs u call
       → s.world.row i ≡ Rests
       → (new : Held K V) → IsAt same hash new (scene_with map i u s)
-      → (let beginning = with_call (name i) guard call (Some map) (moment log) in
-      let c = fresh_call (name i) guard call map (moment log).events in
+      → (let beginning = with_call (name i) guard call (Some map) log.now in
+      let c = fresh_call (name i) guard call map log.now.events in
       (call_of (name i) beginning ≡ Some c) × InEvent same name log beginning map i c [] beginning known (scene_with map i u s) u)
 
   -- after each step of the call, where it goes on;
   abbrev pub EventsGoOn : Type 0
   EventsGoOn =
-      (name : ℕ → List ℕ) (log : List (Entry K V)) (beginning : Moment K V) (map i : ℕ) (c : CallThere K V)
+      (name : ℕ → List ℕ) (log : Past K V) (beginning : Moment K V) (map i : ℕ) (c : CallThere K V)
       → (done : List Effect) (m : Moment K V) (known : Known) (s : Scene K V) (u : UnderWay K V K)
       → (midst : InEvent same name log beginning map i c done m known s u)
       → (old new : Held K V) → IsAt same hash old s → (said : Progress (Node K V)) (leads : StepLeads same hash i said s old new)
@@ -99,7 +100,7 @@ module _ (K V : Type 0) (same : K → K → Bool) (hash : ℕ → K → ℕ) whe
   -- after the last one, too, the moment shows all of the scene, what calls owe, and what those on no key are called for, told and ask;
   abbrev pub EventsKeepAll : Type 0
   EventsKeepAll =
-      (name : ℕ → List ℕ) (log : List (Entry K V)) (beginning : Moment K V) (map i : ℕ) (c : CallThere K V)
+      (name : ℕ → List ℕ) (log : Past K V) (beginning : Moment K V) (map i : ℕ) (c : CallThere K V)
       → (done : List Effect) (m : Moment K V) (known : Known) (s : Scene K V) (u : UnderWay K V K)
       → (midst : InEvent same name log beginning map i c done m known s u)
       → (old new : Held K V) → IsAt same hash old s → (said : Progress (Node K V)) (leads : StepLeads same hash i said s old new)
@@ -112,7 +113,7 @@ module _ (K V : Type 0) (same : K → K → Bool) (hash : ℕ → K → ℕ) whe
   -- what that step says has words;
   abbrev pub EventsHaveWords : Type 0
   EventsHaveWords =
-      (name : ℕ → List ℕ) (log : List (Entry K V)) (beginning : Moment K V) (map i : ℕ) (c : CallThere K V)
+      (name : ℕ → List ℕ) (log : Past K V) (beginning : Moment K V) (map i : ℕ) (c : CallThere K V)
       → (done : List Effect) (m : Moment K V) (known : Known) (s : Scene K V) (u : UnderWay K V K) → InEvent same name log beginning map i c done m known s u
       → (old new : Held K V) → IsAt same hash old s → (said : Progress (Node K V)) → StepLeads same hash i said s old new
       → (outcome : Outcome V) × ComesSo (known_after (acts.Call i map) new.changed known) c.call c.replies said outcome
@@ -120,19 +121,19 @@ module _ (K V : Type 0) (same : K → K → Bool) (hash : ℕ → K → ℕ) whe
   -- and the event that comes to that changes maps, answers and asks as one finite map says, and by it a call that asks does not go on by itself.
   abbrev pub EventsEnd : Type 0
   EventsEnd =
-      (name : ℕ → List ℕ) (log : List (Entry K V)) (beginning : Moment K V) (map i : ℕ) (c : CallThere K V) → call_of (name i) beginning ≡ Some c
+      (name : ℕ → List ℕ) (log : Past K V) (beginning : Moment K V) (map i : ℕ) (c : CallThere K V) → call_of (name i) beginning ≡ Some c
       → ShowsQuestions beginning
       → (done : List Effect) (m : Moment K V) (known : Known) (s : Scene K V) (u : UnderWay K V K) → InEvent same name log beginning map i c done m known s u
       → (old new : Held K V) → IsAt same hash old s → (said : Progress (Node K V)) → StepLeads same hash i said s old new
-      → (e : Entry K V) → caller_of e.event ≡ Some (name i) → at_work e (moment log) ≡ beginning → acted_on e.event beginning ≡ Some map
-      → e.effects ≡ done ++ effects_of (acts.Call i map) known new.changed
-      → ComesSo (known_after (acts.Call i map) new.changed known) c.call c.replies said e.outcome
-      → IsLinearizable same log e × EventAsksStill log e
+      → (t : Transition K V) → t.caller ≡ Some (name i) → t.found ≡ beginning → t.map ≡ Some map
+      → t.effects ≡ done ++ effects_of (acts.Call i map) known new.changed
+      → ComesSo (known_after (acts.Call i map) new.changed known) c.call c.replies said t.outcome
+      → Linearizes same log t × AsksOnStill t
 
   -- A call that is under way after such a step asks there just what that comes to, if it asks.
   abbrev pub EventsAskThere : Type 0
   EventsAskThere =
-      (name : ℕ → List ℕ) (log : List (Entry K V)) (beginning : Moment K V) (map i : ℕ) (c : CallThere K V)
+      (name : ℕ → List ℕ) (log : Past K V) (beginning : Moment K V) (map i : ℕ) (c : CallThere K V)
       → (done : List Effect) (m : Moment K V) (known : Known) (s : Scene K V) (u : UnderWay K V K)
       → (midst : InEvent same name log beginning map i c done m known s u)
       → (old new : Held K V) → IsAt same hash old s → (said : Progress (Node K V)) (leads : StepLeads same hash i said s old new)
@@ -147,15 +148,15 @@ module _ (K V : Type 0) (same : K → K → Bool) (hash : ℕ → K → ℕ) whe
   EventsAreOver =
       (name : ℕ → List ℕ) (log : List (Entry K V)) (beginning : Moment K V) (map i : ℕ) (c : CallThere K V)
       → (done : List Effect) (m : Moment K V) (known : Known) (s : Scene K V) (u : UnderWay K V K)
-      → (midst : InEvent same name log beginning map i c done m known s u)
+      → (midst : InEvent same name (past log) beginning map i c done m known s u)
       → (old new : Held K V) → IsAt same hash old s → (said : Progress (Node K V)) (leads : StepLeads same hash i said s old new)
       → (e : Entry K V) → caller_of e.event ≡ Some (name i) → at_work e (moment log) ≡ beginning → acted_on e.event beginning ≡ Some map
       → e.effects ≡ done ++ effects_of (acts.Call i map) known new.changed
       → ComesSo (known_after (acts.Call i map) new.changed known) c.call c.replies said e.outcome → ends_call e.outcome ≡ has_ended said
-      → (let to = leads map u (here_of same name log beginning map i c done m known s u midst) in
+      → (let to = leads map u (here_of same name (past log) beginning map i c done m known s u midst) in
       let known2 = known_after (acts.Call i map) new.changed known in
       let s2 = scene_after same s old new map i to.0 u to.1 said to.4 in
-      ShowsWhole same name (moment (e ∷ log)) known2 s2 × ShowsDue same name (e ∷ log) (moment (e ∷ log)) known2 s2
+      ShowsWhole same name (moment (e ∷ log)) known2 s2 × ShowsDue same name (past (e ∷ log)) (moment (e ∷ log)) known2 s2
       × ShowsAsCalled same name (moment (e ∷ log)) known2 s2)
 
 module _ (K V : Type 0) (same : K → K → Bool) where

@@ -1,5 +1,5 @@
 -- Where a run goes on, the history of each map since a call began stays within the moments of the run since then.
-use Rattle.std.specs.Prelude.{◌≡◌, ℕ, Bool, true, List, [], ◌∷◌, length, Option, Some, Ok, ◌⊎◌}
+use Rattle.std.specs.Prelude.{◌≡◌, ℕ, Bool, true, List, [], ◌∷◌, Option, Some, Ok, ◌⊎◌, suc}
 use Rattle.papaya_moments.specs.Given.Tables.declared.node.Node.{Node}
 use Rattle.papaya_moments.specs.Given.Runs.Same.{is_same}
 use Rattle.papaya_moments.specs.Given.Raw.Machine.{machine_replied}
@@ -7,10 +7,9 @@ use Rattle.papaya_moments.specs.Given.Raw.declared.machines.progress.Progress.{P
 use Rattle.papaya_moments.specs.Given.Schedules.declared.call.Call.{Call}
 use Rattle.papaya_moments.specs.Given.Schedules.declared.call.Reply.{Reply}
 use Rattle.papaya_moments.specs.Given.Schedules.declared.outcome.Outcome.{Outcome}
-use Rattle.papaya_moments.specs.Given.Schedules.After.{moment}
 use Rattle.papaya_moments.specs.Given.Schedules.Beginning.{with_call}
 use Rattle.papaya_moments.specs.Given.Schedules.Effects.{with_effects}
-use Rattle.papaya_moments.specs.Given.Schedules.Entry.{Entry, ends_call}
+use Rattle.papaya_moments.specs.Given.Schedules.Entry.{ends_call}
 use Rattle.papaya_moments.specs.Given.Schedules.Moment.{Asking, UnderWay as CallThere, Moment, start}
 use Rattle.papaya_moments.specs.Given.Schedules.Views.{call_of, finite_map}
 use Rattle.papaya_moments.specs.Given.Callers.Together.{UnderWay}
@@ -29,25 +28,26 @@ use Rattle.papaya_moments.specs.Given.Scenes.Held.{Held, IsAt}
 use Rattle.papaya_moments.specs.Given.Scenes.Replying.{scene_with}
 use Rattle.papaya_moments.specs.Given.Scenes.Scene.{Scene, at_first, slot_of}
 use Rattle.papaya_moments.specs.Given.Scenes.Stepping.{StepLeads, scene_after}
+use Rattle.papaya_moments.specs.Given.Schedules.Transition.{Past, further, past}
 
-module _ {K V : Type 0} (log : List (Entry K V)) (m : Moment K V) where
+module _ {K V : Type 0} (log : Past K V) (m : Moment K V) where
   -- no pair has come or gone since the last event of the log
   abbrev pub HasJustBegun : Type 0
-  HasJustBegun = (m.place ≡ (moment log).place) × (m.stored ≡ (moment log).stored)
+  HasJustBegun = (m.place ≡ log.now.place) × (m.stored ≡ log.now.stored)
 
   -- A class that has another pair of this map then, or none any more, had what it had at the end of the last event: no class changes twice within one event.
   abbrev pub ChangesFirst : (K → K → Bool) → ℕ → Moment K V → Type 0
-  ChangesFirst same map v = (k : K) → (finite_map same map v k ≡ finite_map same map m k) ⊎ (finite_map same map m k ≡ finite_map same map (moment log) k)
+  ChangesFirst same map v = (k : K) → (finite_map same map v k ≡ finite_map same map m k) ⊎ (finite_map same map m k ≡ finite_map same map log.now k)
 
 -- The promises: so it is before all events,
 abbrev pub HistoriesBegin : Type 0 → Type 0 → Type 0
-HistoriesBegin K V = (same : K → K → Bool) (roots : ℕ) (name : ℕ → List ℕ) → ShowsHistory {K = K} {V = V} same name [] start nothing_known (at_first roots)
+HistoriesBegin K V = (same : K → K → Bool) (roots : ℕ) (name : ℕ → List ℕ) → ShowsHistory {K = K} {V = V} same name (past []) start nothing_known (at_first roots)
 
 module _ (K V : Type 0) (same : K → K → Bool) (hash : ℕ → K → ℕ) where
   -- after each step of a call, whoever's, if no class changes twice within one event by it,
   abbrev pub CallsKeepHistories : Type 0
   CallsKeepHistories =
-      (name : ℕ → List ℕ) (log : List (Entry K V)) (m : Moment K V) (known : Known) (s : Scene K V) (old new : Held K V) → IsAt same hash old s
+      (name : ℕ → List ℕ) (log : Past K V) (m : Moment K V) (known : Known) (s : Scene K V) (old new : Held K V) → IsAt same hash old s
       → ShowsWhole same name m known s → ShowsHistory same name log m known s
       → (map i : ℕ) (u : UnderWay K V K) (here : s.calls map i ≡ Some u) (said : Progress (Node K V)) (leads : StepLeads same hash i said s old new)
       → ChangesFirst log m same map (with_effects (Some (name i)) (Some map) (effects_of (acts.Call i map) known new.changed) m)
@@ -58,15 +58,15 @@ module _ (K V : Type 0) (same : K → K → Bool) (hash : ℕ → K → ℕ) whe
   -- where a call begins at this moment of its map, by a name that no call under way has, within the next event,
   abbrev pub CallsBeginHistories : Type 0
   CallsBeginHistories =
-      (name : ℕ → List ℕ) (log : List (Entry K V)) (m : Moment K V) (known : Known) (s : Scene K V) (e : Held K V) → IsAt same hash e s → (history : ShowsHistory same name log m known s)
+      (name : ℕ → List ℕ) (log : Past K V) (m : Moment K V) (known : Known) (s : Scene K V) (e : Held K V) → IsAt same hash e s → (history : ShowsHistory same name log m known s)
       → (map i : ℕ) (u : UnderWay K V K) (call : Call K V) (guard : List ℕ) (standing : Standing K) → s.maps map ≡ Some standing → ((began : ℕ) → began_of u ≡ Some began → began ≡ standing.chart.now)
-      → NoneNamed name (name i) s → IsCalled same u call → IsBegunFor u call → m.events ≡ length log
+      → NoneNamed name (name i) s → IsCalled same u call → IsBegunFor u call → m.events ≡ log.entries
       → StaysWithin same name log m known s history log (with_call (name i) guard call (Some map) m) (scene_with map i u s)
 
   -- where one that asks takes what it is told,
   abbrev pub CallsTakeHistories : Type 0
   CallsTakeHistories =
-      (name : ℕ → List ℕ) (log : List (Entry K V)) (m : Moment K V) (known : Known) (s : Scene K V) (e : Held K V) → IsAt same hash e s → (history : ShowsHistory same name log m known s)
+      (name : ℕ → List ℕ) (log : Past K V) (m : Moment K V) (known : Known) (s : Scene K V) (e : Held K V) → IsAt same hash e s → (history : ShowsHistory same name log m known s)
       → (map i : ℕ) (u : UnderWay K V K) → s.calls map i ≡ Some u → (c : CallThere K V) → call_of (name i) m ≡ Some c → (question : Option ℕ) → c.stands ≡ Asking question
       → (standing : Standing K) → s.maps map ≡ Some standing → (is_told : Reply V) (next : UnderWay K V K)
       → machine_of next ≡ (machine_replied (machine_of u) (as_told is_told)).0 → (machine_replied (machine_of u) (as_told is_told)).1 ≡ Ok tt
@@ -77,7 +77,7 @@ module _ (K V : Type 0) (same : K → K → Bool) where
   -- where one comes to an outcome,
   abbrev pub CallsComeToHistories : Type 0
   CallsComeToHistories =
-      (name : ℕ → List ℕ) (log : List (Entry K V)) (m : Moment K V) (known : Known) (s : Scene K V) → (history : ShowsHistory same name log m known s)
+      (name : ℕ → List ℕ) (log : Past K V) (m : Moment K V) (known : Known) (s : Scene K V) → (history : ShowsHistory same name log m known s)
       → (own : List ℕ) (outcome : Outcome V) (steps : ℕ) → (ends_call outcome ≡ true → NoneNamed name own s)
       → ((map i : ℕ) (u : UnderWay K V K) → s.calls map i ≡ Some u → is_same (name i) own ≡ true → AsksJust known u outcome)
       → StaysWithin same name log m known s history log (come_to own outcome steps m) s
@@ -85,9 +85,9 @@ module _ (K V : Type 0) (same : K → K → Bool) where
   -- and where an event is over, and its moment is one of the log.
   abbrev pub EventsKeepHistories : Type 0
   EventsKeepHistories =
-      (name : ℕ → List ℕ) (log : List (Entry K V)) (e : Entry K V) (known : Known) (s : Scene K V) → (history : ShowsHistory same name log (moment (e ∷ log)) known s)
-      → StaysWithin same name log (moment (e ∷ log)) known s history (e ∷ log) (moment (e ∷ log)) s
+      (name : ℕ → List ℕ) (log : Past K V) (m : Moment K V) (known : Known) (s : Scene K V) → (history : ShowsHistory same name log m known s) → m.events ≡ suc log.entries
+      → StaysWithin same name log m known s history (further m log) m s
 
   -- The first step of an event changes no class twice.
   abbrev pub FirstStepsChangeFirst : Type 0
-  FirstStepsChangeFirst = (log : List (Entry K V)) (m v : Moment K V) (map : ℕ) → HasJustBegun log m → ChangesFirst log m same map v
+  FirstStepsChangeFirst = (log : Past K V) (m v : Moment K V) (map : ℕ) → HasJustBegun log m → ChangesFirst log m same map v

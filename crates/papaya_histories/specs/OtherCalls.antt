@@ -7,11 +7,7 @@ use Rattle.papaya_moments.specs.Given.Schedules.declared.call.Call.{Call}
 use Rattle.papaya_moments.specs.Given.Schedules.declared.call.Call.TheVariants.{On}
 use Rattle.papaya_moments.specs.Given.Schedules.declared.outcome.Outcome.{Outcome}
 use Rattle.papaya_moments.specs.Given.Schedules.declared.outcome.Outcome.TheVariants.{Asks, Answered, Refused}
-use Rattle.papaya_moments.specs.Given.Schedules.After.{moment, moments_from}
-use Rattle.papaya_moments.specs.Given.Schedules.Beginning.{at_work}
-use Rattle.papaya_moments.specs.Given.Schedules.Effects.{worked}
-use Rattle.papaya_moments.specs.Given.Schedules.Entry.{Entry, caller_of, acted_on}
-use Rattle.papaya_moments.specs.Given.Schedules.Linearizable.{shift_of, RemovesOnly, AsksRight, IsLinearizable}
+use Rattle.papaya_moments.specs.Given.Schedules.Linearizable.{shift_of, RemovesOnly, AsksRight, Linearizes}
 use Rattle.papaya_moments.specs.Given.Schedules.Moment.{UnderWay as CallThere, Moment}
 use Rattle.papaya_moments.specs.Given.Schedules.Sequential.{Shift}
 use Rattle.papaya_moments.specs.Given.Schedules.Views.{call_of}
@@ -24,6 +20,7 @@ use Rattle.papaya_histories.specs.AsCalled.{ShowsAsCalled}
 use Rattle.papaya_moments.specs.Given.Scenes.Held.{Held, IsAt}
 use Rattle.papaya_moments.specs.Given.Scenes.Scene.{Scene}
 use Rattle.papaya_moments.specs.Given.Scenes.Stepping.{StepLeads}
+use Rattle.papaya_moments.specs.Given.Schedules.Transition.{Past, Transition, worked_by}
 
 -- it is a reservation, a counting, a clearing, a retaining or a walk
 abbrev pub IsOnNoKey : {K V : Type 0} → Call K V → Type 0
@@ -57,16 +54,15 @@ module _ (K V : Type 0) (same : K → K → Bool) where
   -- and an event by which a call on no key removes only what it may, and asks what it may, is linearizable,
   abbrev pub OthersAreLinearizable : Type 0
   OthersAreLinearizable =
-      (log : List (Entry K V)) (e : Entry K V) (own : List ℕ) (map : ℕ) (c : CallThere K V) → caller_of e.event ≡ Some own
-      → call_of own (at_work e (moment log)) ≡ Some c
-      → acted_on e.event (at_work e (moment log)) ≡ Some map → IsOnNoKey c.call → RemovesOnly same c.call c (flat_map shift_of e.effects)
-      → ((d : CallThere K V) → call_of own (worked e (moment log)) ≡ Some d → AsksRight same d.stands d (moments_from d.begun log) e.outcome)
-      → IsLinearizable same log e
+      (log : Past K V) (t : Transition K V) (own : List ℕ) (map : ℕ) (c : CallThere K V) → t.caller ≡ Some own → call_of own t.found ≡ Some c
+      → t.map ≡ Some map → IsOnNoKey c.call → RemovesOnly same c.call c (flat_map shift_of t.effects)
+      → ((d : CallThere K V) → call_of own (worked_by t) ≡ Some d → AsksRight same d.stands d (log.since d.begun) t.outcome)
+      → Linearizes same log t
 
   -- and one that is no step of a call, and by which no pair comes or goes.
   abbrev pub NoCallsAreLinearizable : Type 0
-  NoCallsAreLinearizable = (log : List (Entry K V)) (e : Entry K V) → caller_of e.event ≡ None → flat_map shift_of e.effects ≡ [] → IsLinearizable same log e
+  NoCallsAreLinearizable = (log : Past K V) (t : Transition K V) → t.caller ≡ None → flat_map shift_of t.effects ≡ [] → Linearizes same log t
 
   -- So is one that does nothing, and by which no call has come to an end or asks.
   abbrev pub IdleAreLinearizable : Type 0
-  IdleAreLinearizable = (log : List (Entry K V)) (e : Entry K V) → e.effects ≡ [] → IsIdle e.outcome → IsLinearizable same log e
+  IdleAreLinearizable = (log : Past K V) (t : Transition K V) → t.effects ≡ [] → IsIdle t.outcome → Linearizes same log t

@@ -8,11 +8,9 @@ use Rattle.papaya_moments.specs.Given.Schedules.declared.call.Call.{Call}
 use Rattle.papaya_moments.specs.Given.Schedules.declared.effect.Effect.{Effect}
 use Rattle.papaya_moments.specs.Given.Schedules.declared.outcome.Outcome.{Outcome}
 use Rattle.papaya_moments.specs.Given.Schedules.declared.outcome.Outcome.TheVariants as outcome
-use Rattle.papaya_moments.specs.Given.Schedules.After.{moment}
-use Rattle.papaya_moments.specs.Given.Schedules.Beginning.{at_work, fresh_call, with_call}
+use Rattle.papaya_moments.specs.Given.Schedules.Beginning.{fresh_call, with_call}
 use Rattle.papaya_moments.specs.Given.Schedules.Effects.{with_effects}
-use Rattle.papaya_moments.specs.Given.Schedules.Entry.{Entry, caller_of, acted_on}
-use Rattle.papaya_moments.specs.Given.Schedules.Linearizable.{shift_of, RemovesOnly, IsLinearizable}
+use Rattle.papaya_moments.specs.Given.Schedules.Linearizable.{shift_of, RemovesOnly, Linearizes}
 use Rattle.papaya_moments.specs.Given.Schedules.Moment.{UnderWay as CallThere, Moment}
 use Rattle.papaya_moments.specs.Given.Schedules.Views.{call_of, finite_map}
 use Rattle.papaya_moments.specs.Given.Callers.Together.{UnderWay}
@@ -29,12 +27,13 @@ use Rattle.papaya_histories.specs.Due.{ShowsDue}
 use Rattle.papaya_histories.specs.Histories.{began_of}
 use Rattle.papaya_histories.specs.Kept.{HasJustBegun}
 use Rattle.papaya_histories.specs.OtherCalls.{IsOnNoKey}
-use Rattle.papaya_histories.specs.Questions.{EventAsksStill}
 use Rattle.papaya_histories.specs.Several.{IsSameCall}
 use Rattle.papaya_moments.specs.Given.Scenes.Held.{Held, IsAt}
 use Rattle.papaya_moments.specs.Given.Scenes.Replying.{scene_with}
 use Rattle.papaya_moments.specs.Given.Scenes.Scene.{Scene}
 use Rattle.papaya_moments.specs.Given.Scenes.Stepping.{StepLeads, scene_after}
+use Rattle.papaya_moments.specs.Given.Schedules.Transition.{Past, Transition}
+use Rattle.papaya_histories.specs.Questions.{AsksOnStill}
 
 -- What a step says that its call asks the event asks, by the number of the pair; and it asks nothing else.
 abbrev pub AsksAsSaid : {K V : Type 0} → Known → Progress (Node K V) → Outcome V → Type 0
@@ -45,7 +44,7 @@ AsksAsSaid known _ _ = Unit {0}
 
 -- After so many effects of an event, since the moment at which it has begun what it begins, the moment shows the scene, what calls owe, and what those on no
 -- key were called for, told and ask. Each class has what it had there, or nothing any more; and the effects remove only what such a call may.
-pub record InOtherMidst {K V : Type 0} (same : K → K → Bool) (name : ℕ → List ℕ) (log : List (Entry K V)) (beginning : Moment K V) (map i : ℕ) (c : CallThere K V)
+pub record InOtherMidst {K V : Type 0} (same : K → K → Bool) (name : ℕ → List ℕ) (log : Past K V) (beginning : Moment K V) (map i : ℕ) (c : CallThere K V)
     (done : List Effect) (m : Moment K V) (known : Known) (s : Scene K V) (u : UnderWay K V K) : Type 0 where
   pub here : s.calls map i ≡ Some u
   pub other : IsOnNoKey c.call
@@ -64,7 +63,7 @@ module _ (K V : Type 0) (same : K → K → Bool) where
   -- The promises: so it is at the beginning of an event,
   abbrev pub OtherMidstsBegin : Type 0
   OtherMidstsBegin =
-      (name : ℕ → List ℕ) (log : List (Entry K V)) (beginning : Moment K V) → HasJustBegun log beginning
+      (name : ℕ → List ℕ) (log : Past K V) (beginning : Moment K V) → HasJustBegun log beginning
       → (known : Known) (s : Scene K V) → ShowsWhole same name beginning known s → ShowsDue same name log beginning known s
       → ShowsAsCalled same name beginning known s
       → (map i : ℕ) (u : UnderWay K V K) → s.calls map i ≡ Some u → (c : CallThere K V) → call_of (name i) beginning ≡ Some c → IsOnNoKey c.call
@@ -74,19 +73,19 @@ module _ (K V : Type 0) (same : K → K → Bool) (hash : ℕ → K → ℕ) whe
   -- which may begin the call, too, as it does at this moment of its map, by a name that no call under way has,
   abbrev pub OtherMidstsBeginCalls : Type 0
   OtherMidstsBeginCalls =
-      (name : ℕ → List ℕ) (log : List (Entry K V)) (known : Known) (s : Scene K V) (old : Held K V) → IsAt same hash old s
-      → ShowsWhole same name (moment log) known s → ShowsDue same name log (moment log) known s → ShowsAsCalled same name (moment log) known s
+      (name : ℕ → List ℕ) (log : Past K V) (known : Known) (s : Scene K V) (old : Held K V) → IsAt same hash old s
+      → ShowsWhole same name log.now known s → ShowsDue same name log log.now known s → ShowsAsCalled same name log.now known s
       → (map i : ℕ) (u : UnderWay K V K) (call : Call K V) (guard : List ℕ) (standing : Standing K) → s.maps map ≡ Some standing
       → ((began : ℕ) → began_of u ≡ Some began → began ≡ standing.chart.now)
       → NoneNamed name (name i) s → IsCalled same u call → IsOnNoKey call → IsBegunAs u call → s.world.row i ≡ Rests
-      → (let beginning = with_call (name i) guard call (Some map) (moment log) in
-      let c = fresh_call (name i) guard call map (moment log).events in
+      → (let beginning = with_call (name i) guard call (Some map) log.now in
+      let c = fresh_call (name i) guard call map log.now.events in
       (call_of (name i) beginning ≡ Some c) × InOtherMidst same name log beginning map i c [] beginning known (scene_with map i u s) u)
 
   -- after each step of the call, where it goes on,
   abbrev pub OtherMidstsGoOn : Type 0
   OtherMidstsGoOn =
-      (name : ℕ → List ℕ) (log : List (Entry K V)) (beginning : Moment K V) (map i : ℕ) (c : CallThere K V)
+      (name : ℕ → List ℕ) (log : Past K V) (beginning : Moment K V) (map i : ℕ) (c : CallThere K V)
       → (done : List Effect) (m : Moment K V) (known : Known) (s : Scene K V) (u : UnderWay K V K)
       → (midst : InOtherMidst same name log beginning map i c done m known s u)
       → (old new : Held K V) → IsAt same hash old s → (said : Progress (Node K V)) (leads : StepLeads same hash i said s old new)
@@ -100,7 +99,7 @@ module _ (K V : Type 0) (same : K → K → Bool) (hash : ℕ → K → ℕ) whe
   -- after the last one what calls owe is shown, and the history of each map is within the run,
   abbrev pub OtherMidstsKeepDue : Type 0
   OtherMidstsKeepDue =
-      (name : ℕ → List ℕ) (log : List (Entry K V)) (beginning : Moment K V) (map i : ℕ) (c : CallThere K V)
+      (name : ℕ → List ℕ) (log : Past K V) (beginning : Moment K V) (map i : ℕ) (c : CallThere K V)
       → (done : List Effect) (m : Moment K V) (known : Known) (s : Scene K V) (u : UnderWay K V K)
       → (midst : InOtherMidst same name log beginning map i c done m known s u)
       → (old new : Held K V) → IsAt same hash old s → (said : Progress (Node K V)) (leads : StepLeads same hash i said s old new)
@@ -112,21 +111,21 @@ module _ (K V : Type 0) (same : K → K → Bool) (hash : ℕ → K → ℕ) whe
   -- and an event that asks what the last of its steps says is linearizable;
   abbrev pub OtherMidstsEnd : Type 0
   OtherMidstsEnd =
-      (name : ℕ → List ℕ) (log : List (Entry K V)) (beginning : Moment K V) (map i : ℕ) (c : CallThere K V) → call_of (name i) beginning ≡ Some c
+      (name : ℕ → List ℕ) (log : Past K V) (beginning : Moment K V) (map i : ℕ) (c : CallThere K V) → call_of (name i) beginning ≡ Some c
       → (done : List Effect) (m : Moment K V) (known : Known) (s : Scene K V) (u : UnderWay K V K)
       → (midst : InOtherMidst same name log beginning map i c done m known s u)
       → (old new : Held K V) → IsAt same hash old s → (said : Progress (Node K V)) (leads : StepLeads same hash i said s old new)
-      → (e : Entry K V) → caller_of e.event ≡ Some (name i) → at_work e (moment log) ≡ beginning → acted_on e.event beginning ≡ Some map
-      → e.effects ≡ done ++ effects_of (acts.Call i map) known new.changed
-      → AsksAsSaid (known_after (acts.Call i map) new.changed known) said e.outcome → IsLinearizable same log e
+      → (t : Transition K V) → t.caller ≡ Some (name i) → t.found ≡ beginning → t.map ≡ Some map
+      → t.effects ≡ done ++ effects_of (acts.Call i map) known new.changed
+      → AsksAsSaid (known_after (acts.Call i map) new.changed known) said t.outcome → Linearizes same log t
 
   -- by it a call that asks does not go on by itself.
   abbrev pub OtherMidstsAskStill : Type 0
   OtherMidstsAskStill =
-      (name : ℕ → List ℕ) (log : List (Entry K V)) (beginning : Moment K V) (map i : ℕ) (c : CallThere K V) → call_of (name i) beginning ≡ Some c
+      (name : ℕ → List ℕ) (log : Past K V) (beginning : Moment K V) (map i : ℕ) (c : CallThere K V) → call_of (name i) beginning ≡ Some c
       → (done : List Effect) (m : Moment K V) (known : Known) (s : Scene K V) (u : UnderWay K V K)
       → (midst : InOtherMidst same name log beginning map i c done m known s u)
       → (old new : Held K V) → IsAt same hash old s → (said : Progress (Node K V)) (leads : StepLeads same hash i said s old new)
-      → (e : Entry K V) → caller_of e.event ≡ Some (name i) → at_work e (moment log) ≡ beginning → acted_on e.event beginning ≡ Some map
-      → e.effects ≡ done ++ effects_of (acts.Call i map) known new.changed
-      → AsksAsSaid (known_after (acts.Call i map) new.changed known) said e.outcome → EventAsksStill log e
+      → (t : Transition K V) → t.caller ≡ Some (name i) → t.found ≡ beginning → t.map ≡ Some map
+      → t.effects ≡ done ++ effects_of (acts.Call i map) known new.changed
+      → AsksAsSaid (known_after (acts.Call i map) new.changed known) said t.outcome → AsksOnStill t

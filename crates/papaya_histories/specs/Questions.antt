@@ -7,11 +7,12 @@ use Rattle.papaya_moments.specs.Given.Schedules.declared.outcome.Outcome.{Outcom
 use Rattle.papaya_moments.specs.Given.Schedules.declared.outcome.Outcome.TheVariants.{Goes, Waits, Ready}
 use Rattle.papaya_moments.specs.Given.Schedules.After.{moment, AtEachEvent}
 use Rattle.papaya_moments.specs.Given.Schedules.Beginning.{with_call}
-use Rattle.papaya_moments.specs.Given.Schedules.Effects.{with_effects, worked}
-use Rattle.papaya_moments.specs.Given.Schedules.Entry.{Entry, acting, caller_of, IfCall}
+use Rattle.papaya_moments.specs.Given.Schedules.Effects.{with_effects}
+use Rattle.papaya_moments.specs.Given.Schedules.Entry.{Entry, IfCall}
 use Rattle.papaya_moments.specs.Given.Schedules.Moment.{Stands, Asking, UnderWay as CallThere, Moment, start}
 use Rattle.papaya_moments.specs.Given.Schedules.Views.{call_of}
 use Rattle.papaya_moments.specs.Given.Follows.Calling.{told, come_to}
+use Rattle.papaya_moments.specs.Given.Schedules.Transition.{Transition, call_left, transition}
 
 -- the question that has no reply yet, if there is one
 abbrev pub unanswered : Stands → List (Option ℕ)
@@ -42,9 +43,12 @@ module _ {K V : Type 0} where
   abbrev pub ShowsQuestions : Moment K V → Type 0
   ShowsQuestions m = (own : List ℕ) (c : CallThere K V) → call_of own m ≡ Some c → HasAskedJust c
 
-  -- by the event, a call that asks does not go on by itself
+  -- by what is done, a call that asks does not go on by itself
+  abbrev pub AsksOnStill : Transition K V → Type 0
+  AsksOnStill t = IfCall (λ c. AsksStill c.stands t.outcome) (call_left t)
+
   abbrev pub EventAsksStill : List (Entry K V) → Entry K V → Type 0
-  EventAsksStill log e = IfCall (λ c. AsksStill c.stands e.outcome) (acting (caller_of e.event) (worked e (moment log)))
+  EventAsksStill log e = AsksOnStill (transition log e)
 
 module _ (K V : Type 0) where
   -- The promises: so it is before all events,

@@ -6,11 +6,9 @@ use Rattle.papaya_moments.specs.Given.Raw.declared.machines.progress.Progress.{P
 use Rattle.papaya_moments.specs.Given.Schedules.declared.call.Call.TheVariants.{On}
 use Rattle.papaya_moments.specs.Given.Schedules.declared.call.OneKey.{OneKey}
 use Rattle.papaya_moments.specs.Given.Schedules.declared.effect.Effect.{Effect}
-use Rattle.papaya_moments.specs.Given.Schedules.After.{moment}
-use Rattle.papaya_moments.specs.Given.Schedules.Beginning.{at_work, fresh_call, with_call}
+use Rattle.papaya_moments.specs.Given.Schedules.Beginning.{fresh_call, with_call}
 use Rattle.papaya_moments.specs.Given.Schedules.Effects.{with_effects}
-use Rattle.papaya_moments.specs.Given.Schedules.Entry.{Entry, caller_of, acted_on}
-use Rattle.papaya_moments.specs.Given.Schedules.Linearizable.{shift_of, ChangesOnce, IsLinearizable}
+use Rattle.papaya_moments.specs.Given.Schedules.Linearizable.{shift_of, ChangesOnce, Linearizes}
 use Rattle.papaya_moments.specs.Given.Schedules.Moment.{UnderWay as CallThere, Moment}
 use Rattle.papaya_moments.specs.Given.Schedules.Views.{call_of, finite_map}
 use Rattle.papaya_moments.specs.Given.Points.FactsCalls.{Unchanged}
@@ -26,11 +24,12 @@ use Rattle.papaya_moments.specs.Whole.{ShowsWhole}
 use Rattle.papaya_histories.specs.Due.{ShowsDue}
 use Rattle.papaya_histories.specs.Events.{ComesToIt}
 use Rattle.papaya_histories.specs.Kept.{HasJustBegun}
-use Rattle.papaya_histories.specs.Questions.{ShowsQuestions, EventAsksStill}
+use Rattle.papaya_histories.specs.Questions.{ShowsQuestions, AsksOnStill}
 use Rattle.papaya_moments.specs.Given.Scenes.Held.{Held, IsAt}
 use Rattle.papaya_moments.specs.Given.Scenes.Replying.{scene_with}
 use Rattle.papaya_moments.specs.Given.Scenes.Scene.{Scene}
 use Rattle.papaya_moments.specs.Given.Scenes.Stepping.{StepLeads, scene_after}
+use Rattle.papaya_moments.specs.Given.Schedules.Transition.{Past, Transition}
 
 -- the call is the same one, with the replies that it had
 pub record IsSameCall {K V : Type 0} (c d : CallThere K V) : Type 0 where
@@ -41,7 +40,7 @@ pub record IsSameCall {K V : Type 0} (c d : CallThere K V) : Type 0 where
 
 -- After so many effects of an event, since the moment at which it has begun what it begins, the moment shows the scene, and what calls owe. The class of the call's
 -- key has changed once at most since then, by what the call meant there; and no class has, nor has a pair come, as long as the call has changed nothing.
-pub record InMidst {K V : Type 0} (same : K → K → Bool) (name : ℕ → List ℕ) (log : List (Entry K V)) (beginning : Moment K V) (map i : ℕ) (one : OneKey K V) (c : CallThere K V)
+pub record InMidst {K V : Type 0} (same : K → K → Bool) (name : ℕ → List ℕ) (log : Past K V) (beginning : Moment K V) (map i : ℕ) (one : OneKey K V) (c : CallThere K V)
     (done : List Effect) (m : Moment K V) (known : Known) (s : Scene K V) (u : CallOnKey K V K) : Type 0 where
   pub here : s.calls map i ≡ Some (OnKey u)
   pub whole : ShowsWhole same name m known s
@@ -59,7 +58,7 @@ module _ (K V : Type 0) (same : K → K → Bool) (hash : ℕ → K → ℕ) whe
   -- The promises: so it is at the beginning of an event, which may begin the call, too,
   abbrev pub MidstsBegin : Type 0
   MidstsBegin =
-      (name : ℕ → List ℕ) (log : List (Entry K V)) (beginning : Moment K V) → HasJustBegun log beginning
+      (name : ℕ → List ℕ) (log : Past K V) (beginning : Moment K V) → HasJustBegun log beginning
       → (known : Known) (s : Scene K V) (e : Held K V) → IsAt same hash e s → ShowsWhole same name beginning known s → ShowsDue same name log beginning known s
       → (map i : ℕ) (u : CallOnKey K V K) (here : s.calls map i ≡ Some (OnKey u)) (c : CallThere K V) → call_of (name i) beginning ≡ Some c → (one : OneKey K V) → c.call ≡ On one
       → InMidst same name log beginning map i one c [] beginning known s u
@@ -67,19 +66,19 @@ module _ (K V : Type 0) (same : K → K → Bool) (hash : ℕ → K → ℕ) whe
   -- as it does at this moment of its map, by a name that no call under way has,
   abbrev pub MidstsBeginCalls : Type 0
   MidstsBeginCalls =
-      (name : ℕ → List ℕ) (log : List (Entry K V)) (known : Known) (s : Scene K V) (old : Held K V) → IsAt same hash old s
-      → ShowsWhole same name (moment log) known s → ShowsDue same name log (moment log) known s
+      (name : ℕ → List ℕ) (log : Past K V) (known : Known) (s : Scene K V) (old : Held K V) → IsAt same hash old s
+      → ShowsWhole same name log.now known s → ShowsDue same name log log.now known s
       → (map i : ℕ) (u : CallOnKey K V K) (one : OneKey K V) (guard : List ℕ) (standing : Standing K) → s.maps map ≡ Some standing → u.began ≡ standing.chart.now → u.change ≡ Unchanged
       → NoneNamed name (name i) s → IsCalled same (OnKey u) (On one) → IsBegunFor (OnKey u) (On one) → s.world.row i ≡ Rests
       → (new : Held K V) → IsAt same hash new (scene_with map i (OnKey u) s)
-      → (let beginning = with_call (name i) guard (On one) (Some map) (moment log) in
-      let c = fresh_call (name i) guard (On one) map (moment log).events in
+      → (let beginning = with_call (name i) guard (On one) (Some map) log.now in
+      let c = fresh_call (name i) guard (On one) map log.now.events in
       (call_of (name i) beginning ≡ Some c) × InMidst same name log beginning map i one c [] beginning known (scene_with map i (OnKey u) s) u)
 
   -- after each step of the call, where it goes on,
   abbrev pub MidstsGoOn : Type 0
   MidstsGoOn =
-      (name : ℕ → List ℕ) (log : List (Entry K V)) (beginning : Moment K V) (map i : ℕ) (one : OneKey K V) (c : CallThere K V) → c.call ≡ On one
+      (name : ℕ → List ℕ) (log : Past K V) (beginning : Moment K V) (map i : ℕ) (one : OneKey K V) (c : CallThere K V) → c.call ≡ On one
       → (done : List Effect) (m : Moment K V) (known : Known) (s : Scene K V) (u : CallOnKey K V K) (midst : InMidst same name log beginning map i one c done m known s u)
       → (old new : Held K V) → IsAt same hash old s → (said : Progress (Node K V)) (leads : StepLeads same hash i said s old new)
       → (let to = leads map (OnKey u) midst.here in
@@ -91,20 +90,20 @@ module _ (K V : Type 0) (same : K → K → Bool) (hash : ℕ → K → ℕ) whe
   -- and an event that comes to what the last of its steps came to is linearizable;
   abbrev pub MidstsEnd : Type 0
   MidstsEnd =
-      (name : ℕ → List ℕ) (log : List (Entry K V)) (beginning : Moment K V) (map i : ℕ) (one : OneKey K V) (c : CallThere K V) → call_of (name i) beginning ≡ Some c → c.call ≡ On one
+      (name : ℕ → List ℕ) (log : Past K V) (beginning : Moment K V) (map i : ℕ) (one : OneKey K V) (c : CallThere K V) → call_of (name i) beginning ≡ Some c → c.call ≡ On one
       → ShowsQuestions beginning
       → (done : List Effect) (m : Moment K V) (known : Known) (s : Scene K V) (u : CallOnKey K V K) (midst : InMidst same name log beginning map i one c done m known s u)
       → (old new : Held K V) → IsAt same hash old s → (said : Progress (Node K V)) (leads : StepLeads same hash i said s old new)
-      → (e : Entry K V) → caller_of e.event ≡ Some (name i) → at_work e (moment log) ≡ beginning → acted_on e.event beginning ≡ Some map
-      → e.effects ≡ done ++ effects_of (acts.Call i map) known new.changed → ComesToIt (known_after (acts.Call i map) new.changed known) one c.replies said e.outcome
-      → IsLinearizable same log e
+      → (t : Transition K V) → t.caller ≡ Some (name i) → t.found ≡ beginning → t.map ≡ Some map
+      → t.effects ≡ done ++ effects_of (acts.Call i map) known new.changed → ComesToIt (known_after (acts.Call i map) new.changed known) one c.replies said t.outcome
+      → Linearizes same log t
 
   -- by it a call that asks does not go on by itself.
   abbrev pub MidstsAskStill : Type 0
   MidstsAskStill =
-      (name : ℕ → List ℕ) (log : List (Entry K V)) (beginning : Moment K V) (map i : ℕ) (one : OneKey K V) (c : CallThere K V) → call_of (name i) beginning ≡ Some c → c.call ≡ On one
+      (name : ℕ → List ℕ) (log : Past K V) (beginning : Moment K V) (map i : ℕ) (one : OneKey K V) (c : CallThere K V) → call_of (name i) beginning ≡ Some c → c.call ≡ On one
       → (done : List Effect) (m : Moment K V) (known : Known) (s : Scene K V) (u : CallOnKey K V K) (midst : InMidst same name log beginning map i one c done m known s u)
       → (old new : Held K V) → IsAt same hash old s → (said : Progress (Node K V)) (leads : StepLeads same hash i said s old new)
-      → (e : Entry K V) → caller_of e.event ≡ Some (name i) → at_work e (moment log) ≡ beginning → acted_on e.event beginning ≡ Some map
-      → e.effects ≡ done ++ effects_of (acts.Call i map) known new.changed → ComesToIt (known_after (acts.Call i map) new.changed known) one c.replies said e.outcome
-      → EventAsksStill log e
+      → (t : Transition K V) → t.caller ≡ Some (name i) → t.found ≡ beginning → t.map ≡ Some map
+      → t.effects ≡ done ++ effects_of (acts.Call i map) known new.changed → ComesToIt (known_after (acts.Call i map) new.changed known) one c.replies said t.outcome
+      → AsksOnStill t

@@ -6,7 +6,6 @@ use Rattle.papaya_moments.specs.Given.Raw.declared.machines.progress.Progress.Th
 use Rattle.papaya_moments.specs.Given.Schedules.declared.call.Call.TheVariants.{On}
 use Rattle.papaya_moments.specs.Given.Schedules.declared.call.OneKey.{OneKey}
 use Rattle.papaya_moments.specs.Given.Schedules.declared.outcome.Outcome.{Outcome}
-use Rattle.papaya_moments.specs.Given.Schedules.Entry.{Entry}
 use Rattle.papaya_moments.specs.Given.Schedules.Moment.{UnderWay as CallThere, Moment}
 use Rattle.papaya_moments.specs.Given.Schedules.Views.{call_of}
 use Rattle.papaya_moments.specs.Given.Callers.Together.{CallOnKey, UnderWay, OnKey}
@@ -20,6 +19,7 @@ use Rattle.papaya_histories.specs.Events.{ComesToIt}
 use Rattle.papaya_moments.specs.Given.Scenes.Held.{Held, IsAt}
 use Rattle.papaya_moments.specs.Given.Scenes.Scene.{Scene}
 use Rattle.papaya_moments.specs.Given.Scenes.Stepping.{StepLeads}
+use Rattle.papaya_moments.specs.Given.Schedules.Transition.{Past}
 
 module _ (K V : Type 0) (same : K → K → Bool) (hash : ℕ → K → ℕ) where
   -- The promises: what any call asks by a step is about none, or about a pair of the run,
@@ -32,7 +32,7 @@ module _ (K V : Type 0) (same : K → K → Bool) (hash : ℕ → K → ℕ) whe
   -- and whatever a call on one key comes to by a step is an outcome.
   abbrev pub StepsHaveWords : Type 0
   StepsHaveWords =
-      (name : ℕ → List ℕ) (log : List (Entry K V)) (m : Moment K V) (known : Known) (s : Scene K V) (old new : Held K V) → IsAt same hash old s
+      (name : ℕ → List ℕ) (log : Past K V) (m : Moment K V) (known : Known) (s : Scene K V) (old new : Held K V) → IsAt same hash old s
       → ShowsWhole same name m known s → ShowsDue same name log m known s
       → (map i : ℕ) (u : CallOnKey K V K) → s.calls map i ≡ Some (OnKey u) → (said : Progress (Node K V)) → StepLeads same hash i said s old new
       → (c : CallThere K V) → call_of (name i) m ≡ Some c → (one : OneKey K V) → c.call ≡ On one

@@ -46,6 +46,7 @@ use Rattle.papaya_legal.proofs.Idle.{still_events_are_legal}
 use Rattle.papaya_legal.proofs.Over.{quiet_events_end}
 use Rattle.papaya_grows.specs.Given.Scenes.Held.{Held, IsAt}
 use Rattle.papaya_grows.specs.Given.Scenes.Scene.{Scene}
+use Rattle.papaya_grows.specs.Given.Schedules.Transition.{past, transition}
 
 module _ {K V : Type 0} where
   -- a call that says again how far it is has changed nothing, and is as it was
@@ -140,7 +141,7 @@ module _ (K V : Type 0) (same : K → K → Bool) (hash : ℕ → K → ℕ) (na
           (subst (λ (o : Option (CallThere K V)). ActsOf same log (e_so told) (acting (caller_of its) (at_work (e_so told) m)) o) (its_call (worked (e_so told) m) (stays told)) acts)
 
       goes_as : ActsRight same log (e_so outcome.Goes) c c
-      goes_as = acts_as outcome.Goes (idle_are_linearizable K V same log (e_so outcome.Goes) refl tt)
+      goes_as = acts_as outcome.Goes (idle_are_linearizable K V same (past log) (transition log (e_so outcome.Goes)) refl tt)
 
       at_goes : at_work (e_so outcome.Goes) m ≡ at_work e m
       at_goes = begins outcome.Goes ∙ sym (begins said)

@@ -24,7 +24,7 @@ use Rattle.papaya_grows.specs.Given.Others.Walks.{given_up}
 use Rattle.papaya_grows.proofs.Given.Follows.Calling.{apart_back, found_kept}
 use Rattle.papaya_grows.proofs.Given.Hands.Asking.{which}
 use Rattle.papaya_grows.proofs.Given.Hands.Calling.{caller_is}
-use Rattle.papaya_grows.proofs.Given.Histories.BeginsCall.{events_are}
+use Rattle.papaya_grows.proofs.Given.Histories.Logs.{events_are}
 use Rattle.papaya_grows.proofs.Given.Purposes.Nothing.{no_calls_are_swept}
 use Rattle.papaya_promises.specs.Reading.{HasLooked, LookupsStay, ShowsReading, looks}
 use Rattle.papaya_promises.specs.Sheltered.{SectionsHold}

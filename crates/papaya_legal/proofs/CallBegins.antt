@@ -18,7 +18,7 @@ use Rattle.papaya_grows.specs.Given.Follows.Calls.{IsCalled}
 use Rattle.papaya_grows.proofs.Given.Follows.Calling.{is_same_refl}
 use Rattle.papaya_grows.proofs.Given.Follows.Steps.{one_of}
 use Rattle.papaya_grows.proofs.Given.Hands.Asking.{which}
-use Rattle.papaya_grows.proofs.Given.Histories.BeginsCall.{events_are}
+use Rattle.papaya_grows.proofs.Given.Histories.Logs.{events_are}
 use Rattle.papaya_promises.specs.Reading.{LookupsStay, ShowsReading, looks}
 use Rattle.papaya_promises.proofs.Brief.Meanwhile.{calls_begin_readings}
 use Rattle.papaya_promises.proofs.Brief.Stays.{readings_stay}

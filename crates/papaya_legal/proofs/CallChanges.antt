@@ -28,16 +28,17 @@ use Rattle.papaya_grows.specs.Given.Shards.ShardWords.{ShowsCounters}
 use Rattle.papaya_grows.specs.Given.Scenes.Held.{Held, IsAt}
 use Rattle.papaya_grows.specs.Given.Scenes.Scene.{Scene}
 use Rattle.papaya_grows.specs.Given.Scenes.Stepping.{StepLeads}
+use Rattle.papaya_grows.specs.Given.Schedules.Transition.{past}
 
 -- no class changes twice
 module _ {K V : Type 0} (same : K → K → Bool) (hash : ℕ → K → ℕ) (name : ℕ → List ℕ) (log : List (Entry K V)) (beginning : Moment K V) (map i : ℕ) (c : CallThere K V) (done : List Effect) (m : Moment K V)
     (known : Known) (s : Scene K V) (old new : Held K V) (at : IsAt same hash old s) (said : Progress (Node K V)) (leads : StepLeads same hash i said s old new) where
-  pub changes_first : (u : UnderWay K V K) → InEvent same name log beginning map i c done m known s u
-      → ChangesFirst log m same map (with_effects (Some (name i)) (Some map) (effects_of (acts.Call i map) known new.changed) m)
-  changes_first (OnKey x) midst = key_changes_first same hash name log beginning map i midst.0 c midst.1 done m known s x midst.2 old new at said leads
-  changes_first (ForRoom r) midst = other_changes_first same hash name log beginning map i c done m known s (ForRoom r) midst old new at said leads
-  changes_first (Counting sum) midst = other_changes_first same hash name log beginning map i c done m known s (Counting sum) midst old new at said leads
-  changes_first (OverAll o) midst = other_changes_first same hash name log beginning map i c done m known s (OverAll o) midst old new at said leads
+  pub changes_first : (u : UnderWay K V K) → InEvent same name (past log) beginning map i c done m known s u
+      → ChangesFirst (past log) m same map (with_effects (Some (name i)) (Some map) (effects_of (acts.Call i map) known new.changed) m)
+  changes_first (OnKey x) midst = key_changes_first same hash name (past log) beginning map i midst.0 c midst.1 done m known s x midst.2 old new at said leads
+  changes_first (ForRoom r) midst = other_changes_first same hash name (past log) beginning map i c done m known s (ForRoom r) midst old new at said leads
+  changes_first (Counting sum) midst = other_changes_first same hash name (past log) beginning map i c done m known s (Counting sum) midst old new at said leads
+  changes_first (OverAll o) midst = other_changes_first same hash name (past log) beginning map i c done m known s (OverAll o) midst old new at said leads
 
 -- a call that adds shards up has done so before
 module _ {K V : Type 0} where

@@ -25,6 +25,7 @@ use Rattle.papaya_legal.specs.CallEvents.{CallEventsFollow}
 use Rattle.papaya_legal.specs.Carried.{ComesAlone, FollowsOrRows}
 use Rattle.papaya_legal.proofs.Calls.{out_of_slots}
 use Rattle.papaya_grows.specs.Given.Scenes.Scene.{slot_of}
+use Rattle.papaya_grows.specs.Given.Schedules.Transition.{past}
 
 -- an event that is none of a slot is no row on one
 pub of_no_slot : {K V : Type 0} (event : Event K V) → is_of_slots event ≡ false → IsOfNoSlot event
@@ -55,7 +56,7 @@ call_events_follow K V same hash name terms log beginning map i c steps done m k
     (by_model_so terms log e busy (λ alone. (over alone).0), λ alone. or_rows (over (was_alone terms log e busy alone)).1)
   where
     here : s.calls map i ≡ Some u
-    here = here_of same name log beginning map i c done m known s u midst.event_so
+    here = here_of same name (past log) beginning map i c done m known s u midst.event_so
 
     effects : List Effect
     effects = effects_of (acts.Call i map) known new.changed
@@ -72,7 +73,7 @@ call_events_follow K V same hash name terms log beginning map i c steps done m k
         subst (λ (fs : List Effect). FollowsInEvent terms.batch_size terms.roots (things_in log) (sets_in terms.batch_size log) (slot_of i) i fs then_known then_world) (sym effects_are)
         (subst (λ (n : ℕ). FollowsInEvent n terms.roots (things_in log) (sets_in terms.batch_size log) (slot_of i) i (done ++ effects) then_known then_world) size
         (call_events_go_on K V same hash name m known s old new at midst.calls.whole map i u here said leads
-        (moments_note_once K V same name _ then_known _ (events_keep_all K V same hash name log beginning map i c done m known s u midst.event_so old new at said leads).0) terms.roots (things_in log)
+        (moments_note_once K V same name _ then_known _ (events_keep_all K V same hash name (past log) beginning map i c done m known s u midst.event_so old new at said leads).0) terms.roots (things_in log)
         (sets_in terms.batch_size log) (slot_of i) done
         (subst (λ (n : ℕ). FollowsInEvent n terms.roots (things_in log) (sets_in terms.batch_size log) (slot_of i) i done known s.world) (sym size) (midst.follows alone)) noted))
 

@@ -33,6 +33,7 @@ use Rattle.papaya_legal.proofs.CallChanges.{changes_first}
 use Rattle.papaya_grows.specs.Given.Scenes.Held.{Held, IsAt}
 use Rattle.papaya_grows.specs.Given.Scenes.Scene.{Scene}
 use Rattle.papaya_grows.specs.Given.Scenes.Stepping.{StepLeads, scene_after}
+use Rattle.papaya_grows.specs.Given.Schedules.Transition.{past}
 
 -- so it is at a moment that shows the map
 pub each_is_its_own : {K V : Type 0} (same : K → K → Bool) (hash : ℕ → K → ℕ) (name : ℕ → List ℕ) (m : Moment K V) (known : Known) (s : Scene K V) (e : Held K V) → IsAt same hash e s
@@ -71,10 +72,10 @@ module _ {K V : Type 0} (caller : Option (List ℕ)) (acted : Option ℕ) where
 
 module _ {K V : Type 0} (same : K → K → Bool) (hash : ℕ → K → ℕ) (name : ℕ → List ℕ) (log : List (Entry K V)) (beginning : Moment K V) (map i : ℕ) (c : CallThere K V) (done : List Effect) (m : Moment K V)
     (known : Known) (s : Scene K V) (whole : ShowsWhole same name m known s) (old new : Held K V) (at : IsAt same hash old s) (said : Progress (Node K V)) (leads : StepLeads same hash i said s old new)
-    (u : UnderWay K V K) (midst : InEvent same name log beginning map i c done m known s u) (begun : HasJustBegun log beginning) (its_worked : m ≡ with_effects (Some (name i)) (Some map) done beginning)
+    (u : UnderWay K V K) (midst : InEvent same name (past log) beginning map i c done m known s u) (begun : HasJustBegun (past log) beginning) (its_worked : m ≡ with_effects (Some (name i)) (Some map) done beginning)
     (own_first : EachIsItsOwn same map (moment log)) where
   abbrev here : s.calls map i ≡ Some u
-  here = here_of same name log beginning map i c done m known s u midst
+  here = here_of same name (past log) beginning map i c done m known s u midst
 
   abbrev effects : List Effect
   effects = effects_of (acts.Call i map) known new.changed
@@ -98,7 +99,7 @@ module _ {K V : Type 0} (same : K → K → Bool) (hash : ℕ → K → ℕ) (na
   own_then : EachIsItsOwn same map v
   own_then = each_is_its_own same hash name v (known_after (acts.Call i map) new.changed known)
       (scene_after same s old new map i standing u (leads map u here).1 said (leads map u here).4) new (leads map u here).5
-      (events_keep_all K V same hash name log beginning map i c done m known s u midst old new at said leads).0 map standing_then (leads map u here).4.its_map.4
+      (events_keep_all K V same hash name (past log) beginning map i c done m known s u midst old new at said leads).0 map standing_then (leads map u here).4.its_map.4
 
   lasts : (n : ℕ) (p : K × V) → pair_at (moment log).stored n ≡ Some p → pair_at v.stored n ≡ Some p
   lasts n p is = stored_lasts (Some (name i)) (Some map) effects m n p (subst (λ (x : Moment K V). pair_at x.stored n ≡ Some p) (sym its_worked)
@@ -151,7 +152,7 @@ module _ {K V : Type 0} (same : K → K → Bool) (hash : ℕ → K → ℕ) (na
 -- where its event began
 module _ {K V : Type 0} (same : K → K → Bool) (name : ℕ → List ℕ) (log : List (Entry K V)) (beginning : Moment K V) (map i : ℕ) (c : CallThere K V) (done : List Effect) (m : Moment K V)
     (known : Known) (s : Scene K V) where
-  pub begun_so : (u : UnderWay K V K) → InEvent same name log beginning map i c done m known s u → HasJustBegun log beginning
+  pub begun_so : (u : UnderWay K V K) → InEvent same name (past log) beginning map i c done m known s u → HasJustBegun (past log) beginning
   begun_so (OnKey x) midst = midst.2.begins
   begun_so (ForRoom r) midst = midst.begins
   begun_so (Counting sum) midst = midst.begins

@@ -35,11 +35,12 @@ use Rattle.papaya_legal.specs.CallEvents.{InCallEvent}
 use Rattle.papaya_grows.specs.Given.Scenes.Held.{Held, IsAt}
 use Rattle.papaya_grows.specs.Given.Scenes.Scene.{Scene}
 use Rattle.papaya_grows.specs.Given.Scenes.Stepping.{StepLeads, scene_after}
+use Rattle.papaya_grows.specs.Given.Schedules.Transition.{past}
 
 -- the call of the event is there still, as it was
 module _ {K V : Type 0} (same : K → K → Bool) (name : ℕ → List ℕ) (log : List (Entry K V)) (beginning : Moment K V) (map i : ℕ) (c : CallThere K V) (done : List Effect) (m : Moment K V) (known : Known)
     (s : Scene K V) where
-  pub there_still : (u : UnderWay K V K) → InEvent same name log beginning map i c done m known s u → (d : CallThere K V) × (call_of (name i) m ≡ Some d) × IsSameCall c d
+  pub there_still : (u : UnderWay K V K) → InEvent same name (past log) beginning map i c done m known s u → (d : CallThere K V) × (call_of (name i) m ≡ Some d) × IsSameCall c d
   there_still (OnKey x) midst = (midst.2.there, midst.2.there_is, midst.2.same_call)
   there_still (ForRoom r) midst = (midst.there, midst.there_is, midst.same_call)
   there_still (Counting sum) midst = (midst.there, midst.there_is, midst.same_call)
@@ -69,7 +70,7 @@ module _ (K V : Type 0) (same : K → K → Bool) (hash : ℕ → K → ℕ) (na
     (steps : ℕ) (done : List Effect) (m : Moment K V) (known : Known) (s : Scene K V) (u : UnderWay K V K) (midst : InCallEvent same name terms log event beginning map i c steps done m known s u)
     (old new : Held K V) (at_old : IsAt same hash old s) (said : Progress (Node K V)) (leads : StepLeads same hash i said s old new) where
   abbrev here : s.calls map i ≡ Some u
-  here = here_of same name log beginning map i c done m known s u midst.event_so
+  here = here_of same name (past log) beginning map i c done m known s u midst.event_so
 
   abbrev effects : List Effect
   effects = effects_of (acts.Call i map) known new.changed
@@ -134,7 +135,7 @@ module _ (K V : Type 0) (same : K → K → Bool) (hash : ℕ → K → ℕ) (na
     (midst : InCallEvent same name terms log e.event beginning map i c steps done m known s u)
     (old new : Held K V) (at_old : IsAt same hash old s) (said : Progress (Node K V)) (leads : StepLeads same hash i said s old new) where
   abbrev had : s.calls map i ≡ Some u
-  had = here_of same name log beginning map i c done m known s u midst.event_so
+  had = here_of same name (past log) beginning map i c done m known s u midst.event_so
 
   abbrev then_moment : Moment K V
   then_moment = with_effects (Some (name i)) (Some map) (effects_of (acts.Call i map) known new.changed) m

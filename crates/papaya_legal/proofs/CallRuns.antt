@@ -54,6 +54,7 @@ use Rattle.papaya_legal.proofs.CallsAfter.{call_events_end_so}
 use Rattle.papaya_legal.proofs.CallsEnd.{call_events_are_legal}
 use Rattle.papaya_grows.specs.Given.Scenes.Scene.{Scene}
 use Rattle.papaya_grows.specs.Given.Scenes.Stepping.{StepLeads, scene_after}
+use Rattle.papaya_grows.specs.Given.Schedules.Transition.{past, transition}
 
 module _ {K V : Type 0} (own : List ℕ) where
   -- what calls have asked is so where such an event has begun what it begins
@@ -90,7 +91,7 @@ call_events_run K V same hash name terms log beginning map i c c_is first before
     whole = midst.calls.whole
 
     here : s.calls map i ≡ Some u
-    here = here_of same name log beginning map i c done m known s u midst.event_so
+    here = here_of same name (past log) beginning map i c done m known s u midst.event_so
 
     v : Moment K V
     v = with_effects (Some (name i)) (Some map) (effects_of (acts.Call i map) known new.changed) m
@@ -108,7 +109,7 @@ call_events_run K V same hash name terms log beginning map i c c_is first before
     questions = subst (λ (b : Moment K V). ShowsQuestions b) begins (questions_begun (name i) e.event e.outcome (moment log) midst.of_call run.calls.questions)
 
     asked : EventAsksStill log e
-    asked = (events_end K V same hash name log beginning map i c c_is questions done m known s u midst.event_so old new at said leads e midst.of_call begins acted effects_are comes).1
+    asked = (events_end K V same hash name (past log) beginning map i c c_is questions done m known s u midst.event_so old new at said leads (transition log e) midst.of_call begins (ap (acted_on e.event) begins ∙ acted) effects_are comes).1
 
     by_model : IsByModel terms log e × ((moment (e ∷ log)).is_alone ≡ true → FollowsOrRows terms (e ∷ log) then_known s2.world)
     by_model = call_events_follow K V same hash name terms log beginning map i c steps done m known s u e midst old new at size said leads effects_are busy noted slot active
@@ -128,7 +129,7 @@ call_events_run K V same hash name terms log beginning map i c c_is first before
         (calls_leave_nothing K V same hash name log m known s old new at whole midst.calls.kept map i u here said leads e midst.of_call worked_is tells_end) by_model.0
 
     all : ShowsWhole same name v then_known s2
-    all = (events_keep_all K V same hash name log beginning map i c done m known s u midst.event_so old new at said leads).0
+    all = (events_keep_all K V same hash name (past log) beginning map i c done m known s u midst.event_so old new at said leads).0
 
     none : ends_call e.outcome ≡ true → NoneNamed name (name i) s2
     none = none_named same hash name log m known s midst.calls.dues map i u here old new said leads e tells_end.ends

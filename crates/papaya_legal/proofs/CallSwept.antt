@@ -36,6 +36,7 @@ use Rattle.papaya_legal.proofs.CallChanges.{reads_shards}
 use Rattle.papaya_legal.proofs.CallPairs.{begun_so, none_comes, pairs_first}
 use Rattle.papaya_legal.proofs.CallReads.{there_still}
 use Rattle.papaya_grows.specs.Given.Scenes.Stepping.{StepLeads}
+use Rattle.papaya_grows.specs.Given.Schedules.Transition.{past}
 
 pub calls_are_swept : (K V : Type 0) (same : K → K → Bool) (hash : ℕ → K → ℕ) → CallsAreSwept K V same hash
 calls_are_swept K V same hash name terms log beginning map i c steps done m known s u e midst old new at said leads begins acted effects_are mask tells = by c.call refl tells
@@ -44,7 +45,7 @@ calls_are_swept K V same hash name terms log beginning map i c steps done m know
     whole = midst.calls.whole
 
     here : s.calls map i ≡ Some u
-    here = here_of same name log beginning map i c done m known s u midst.event_so
+    here = here_of same name (past log) beginning map i c done m known s u midst.event_so
 
     v : Moment K V
     v = with_effects (Some (name i)) (Some map) (effects_of (acts.Call i map) known new.changed) m
@@ -72,12 +73,12 @@ calls_are_swept K V same hash name terms log beginning map i c steps done m know
     shards = reads_shards K V same hash name log m known s old new at whole midst.calls.counters map i u here said leads midst.unadded
 
     -- a walk brings no pair, nor takes one in
-    fewer : (x : UnderWay K V K) → InEvent same name log beginning map i c done m known s x → c.call ≡ Walk
+    fewer : (x : UnderWay K V K) → InEvent same name (past log) beginning map i c done m known s x → c.call ≡ Walk
         → (k : K) → (finite_map same map v k ≡ finite_map same map beginning k) ⊎ (finite_map same map v k ≡ None)
     fewer (OnKey x) event_so walk = absurd (let on_key = event_so.1 in cc (on_key, walk))
-    fewer (ForRoom r) event_so walk = fewer_so same hash name log beginning map i c done m known s (ForRoom r) event_so old new at said leads
-    fewer (Counting sum) event_so walk = fewer_so same hash name log beginning map i c done m known s (Counting sum) event_so old new at said leads
-    fewer (OverAll o) event_so walk = fewer_so same hash name log beginning map i c done m known s (OverAll o) event_so old new at said leads
+    fewer (ForRoom r) event_so walk = fewer_so same hash name (past log) beginning map i c done m known s (ForRoom r) event_so old new at said leads
+    fewer (Counting sum) event_so walk = fewer_so same hash name (past log) beginning map i c done m known s (Counting sum) event_so old new at said leads
+    fewer (OverAll o) event_so walk = fewer_so same hash name (past log) beginning map i c done m known s (OverAll o) event_so old new at said leads
 
     Told : Outcome V → Type 0
     Told o = IsToldSo then_known said o

@@ -62,6 +62,7 @@ use Rattle.papaya_grows.proofs.Finding.Nexts.{nexts_go_on, others_at_first, othe
 use Rattle.papaya_legal.proofs.Uncounted.{calls_leave_uncounted}
 use Rattle.papaya_grows.specs.Given.Scenes.Scene.{Scene, slot_of}
 use Rattle.papaya_grows.specs.Given.Scenes.Stepping.{scene_after}
+use Rattle.papaya_grows.specs.Given.Schedules.Transition.{past}
 
 -- no steps, whoever's
 none_made : (q : Bool) → ◌≡◌ {A = ℕ} 0 (if q then 0 else 0)
@@ -80,7 +81,7 @@ module _ {K V : Type 0} (own : List ℕ) (m : Moment K V) (known : Known) (w : W
 pub call_events_begin_so : (K V : Type 0) (same : K → K → Bool) (hash : ℕ → K → ℕ) → CallEventsBegin K V same hash
 call_events_begin_so K V same hash name terms log beginning begins maps tables shards born spot tableless known s x at all reading sections follows event map i caller_is u here c c_is only = record {
   of_call = caller_is;
-  event_so = events_begin K V same hash name log beginning begins known s x at all.whole all.dues all.as_called map i u here c c_is;
+  event_so = events_begin K V same hash name (past log) beginning begins known s x at all.whole all.dues all.as_called map i u here c c_is;
   calls = all;
   others = others_at_first name log i beginning s maps tables all.purposes.begun all.nexts;
   other_limits = limits_at_first name log i beginning s maps tables all.purposes.begun all.limits;
@@ -134,7 +135,7 @@ out_of_slots own _ is = absurd (cc is)
 pub call_events_go_on_so : (K V : Type 0) (same : K → K → Bool) (hash : ℕ → K → ℕ) → CallEventsGoOn K V same hash
 call_events_go_on_so K V same hash name terms log event beginning map i c steps done m known s u midst old new at size said leads none noted next next_is = record {
   of_call = midst.of_call;
-  event_so = events_go_on K V same hash name log beginning map i c done m known s u midst.event_so old new at said leads next next_is;
+  event_so = events_go_on K V same hash name (past log) beginning map i c done m known s u midst.event_so old new at said leads next next_is;
   calls = record {
     whole = all.0;
     numbers = (
@@ -185,7 +186,7 @@ call_events_go_on_so K V same hash name terms log event beginning map i c steps 
     whole = midst.calls.whole
 
     here : s.calls map i ≡ Some u
-    here = here_of same name log beginning map i c done m known s u midst.event_so
+    here = here_of same name (past log) beginning map i c done m known s u midst.event_so
 
     effects : List Effect
     effects = effects_of (acts.Call i map) known new.changed
@@ -204,8 +205,8 @@ call_events_go_on_so K V same hash name terms log event beginning map i c steps 
     below =
         let there = (whole.all.shown.maps map (leads map u here).0 (leads map u here).2).there in numbers_are_below K V m midst.calls.numbers.0 map there.there there.is
 
-    all : ShowsWhole same name v then_known s2 × ShowsDue same name log v then_known s2 × ShowsAsCalled same name v then_known s2
-    all = events_keep_all K V same hash name log beginning map i c done m known s u midst.event_so old new at said leads
+    all : ShowsWhole same name v then_known s2 × ShowsDue same name (past log) v then_known s2 × ShowsAsCalled same name v then_known s2
+    all = events_keep_all K V same hash name (past log) beginning map i c done m known s u midst.event_so old new at said leads
 
     -- a lookup does nothing by its steps
     quiet_still : looks c.call ≡ true → (v.maps ≡ (moment log).maps) × (v.tables ≡ (moment log).tables)

@@ -62,6 +62,7 @@ use Rattle.papaya_grows.proofs.Tries.Steps.{tries_go_on}
 use Rattle.papaya_legal.proofs.Uncounted.{calls_leave_uncounted}
 use Rattle.papaya_grows.specs.Given.Scenes.Scene.{Scene}
 use Rattle.papaya_grows.specs.Given.Scenes.Stepping.{scene_after}
+use Rattle.papaya_grows.specs.Given.Schedules.Transition.{past}
 
 -- numbers of maps are those after its effects
 module _ {K V : Type 0} (log : List (Entry K V)) (own : List ℕ) (outcome : Outcome V) (steps : ℕ) (effects : List Effect) where
@@ -123,7 +124,7 @@ call_events_end_so K V same hash name terms log beginning map i c first before r
     whole = midst.calls.whole
 
     here : s.calls map i ≡ Some u
-    here = here_of same name log beginning map i c done m known s u midst.event_so
+    here = here_of same name (past log) beginning map i c done m known s u midst.event_so
 
     effects : List Effect
     effects = effects_of (acts.Call i map) known new.changed
@@ -143,10 +144,10 @@ call_events_end_so K V same hash name terms log beginning map i c first before r
     last : Moment K V
     last = after e (moment log)
 
-    all : ShowsWhole same name v then_known s2 × ShowsDue same name log v then_known s2 × ShowsAsCalled same name v then_known s2
-    all = events_keep_all K V same hash name log beginning map i c done m known s u midst.event_so old new at said leads
+    all : ShowsWhole same name v then_known s2 × ShowsDue same name (past log) v then_known s2 × ShowsAsCalled same name v then_known s2
+    all = events_keep_all K V same hash name (past log) beginning map i c done m known s u midst.event_so old new at said leads
 
-    over : ShowsWhole same name last then_known s2 × ShowsDue same name (e ∷ log) last then_known s2 × ShowsAsCalled same name last then_known s2
+    over : ShowsWhole same name last then_known s2 × ShowsDue same name (past (e ∷ log)) last then_known s2 × ShowsAsCalled same name last then_known s2
     over = events_are_over K V same hash name log beginning map i c done m known s u midst.event_so old new at said leads e midst.of_call begins acted effects_are comes ends
 
     none : ends_call e.outcome ≡ true → NoneNamed name (name i) s2

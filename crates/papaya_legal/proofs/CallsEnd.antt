@@ -11,7 +11,7 @@ use Rattle.papaya_grows.specs.Given.Schedules.declared.outcome.Outcome.TheVarian
 use Rattle.papaya_grows.specs.Given.Schedules.After.{after, moment, moments_from}
 use Rattle.papaya_grows.specs.Given.Schedules.Beginning.{at_work}
 use Rattle.papaya_grows.specs.Given.Schedules.Effects.{with_effects, worked}
-use Rattle.papaya_grows.specs.Given.Schedules.Entry.{caller_of, is_busy}
+use Rattle.papaya_grows.specs.Given.Schedules.Entry.{acted_on, caller_of, is_busy}
 use Rattle.papaya_grows.specs.Given.Schedules.Handing.{AllFind, IsWhole, is_call_effect, is_granted, may_do}
 use Rattle.papaya_grows.specs.Given.Schedules.Linearizable.{IsLinearizable}
 use Rattle.papaya_grows.specs.Given.Schedules.Moment.{Moment}
@@ -37,6 +37,7 @@ use Rattle.papaya_grows.proofs.Given.Finds.Steps.{steps_do_theirs}
 use Rattle.papaya_legal.specs.CallEvents.{CallEventsAreLegal}
 use Rattle.papaya_legal.proofs.Calls.{out_of_slots}
 use Rattle.papaya_legal.proofs.CallReads.{reads_briefly}
+use Rattle.papaya_grows.specs.Given.Schedules.Transition.{past, transition}
 
 -- an event of a call that was not kept out need do nothing whole
 module _ {K V : Type 0} (own : List ℕ) (effects : List Effect) (m w : Moment K V) where
@@ -76,7 +77,7 @@ call_events_are_legal K V same hash name terms log beginning map i c c_is steps 
     whole = midst.calls.whole
 
     here : s.calls map i ≡ Some u
-    here = here_of same name log beginning map i c done m known s u midst.event_so
+    here = here_of same name (past log) beginning map i c done m known s u midst.event_so
 
     effects : List Effect
     effects = effects_of (acts.Call i map) known new.changed
@@ -88,7 +89,7 @@ call_events_are_legal K V same hash name terms log beginning map i c c_is steps 
     then_known = known_after (acts.Call i map) new.changed known
 
     asked : IsLinearizable same log e × EventAsksStill log e
-    asked = events_end K V same hash name log beginning map i c c_is questions done m known s u midst.event_so old new at said leads e midst.of_call begins acted effects_are comes
+    asked = events_end K V same hash name (past log) beginning map i c c_is questions done m known s u midst.event_so old new at said leads (transition log e) midst.of_call begins (ap (acted_on e.event) begins ∙ acted) effects_are comes
 
     -- the map of the call is that on which the event acts
     its_map : map ≡ c.map

@@ -27,6 +27,7 @@ use Rattle.papaya_legal.proofs.MapsOver.{end_events_begin_so, end_events_end_so,
 use Rattle.papaya_legal.proofs.Slots.{slot_events_begin_so, slot_events_go_on_so}
 use Rattle.papaya_legal.proofs.SlotsAfter.{slot_events_end_so}
 use Rattle.papaya_legal.proofs.SlotsEnd.{slot_events_are_legal}
+use Rattle.papaya_grows.specs.Given.Schedules.Transition.{past}
 
 -- what each step keeps, a chain of them does
 pub chains_keep : {X : Type 0} (P : X → Type 0) (Steps : X → X → Type 0) → ((x y : X) → Steps x y → P x → P y) → (n : ℕ) (from to : X) → Chain Steps n from to → P from → P to
@@ -86,7 +87,7 @@ module _ (K V : Type 0) (same : K → K → Bool) (hash : ℕ → K → ℕ) whe
 
       keeps : (x y : CallCome K V) → CallSteps same hash name terms log map i x y → Midst x → Midst y
       keeps x y step midst =
-          let here = here_of same name log beginning map i c x.come.did x.come.now x.come.notes x.come.scene x.under midst.event_so in
+          let here = here_of same name (past log) beginning map i c x.come.did x.come.now x.come.notes x.come.scene x.under midst.event_so in
           subst Midst (sym (step.comes here))
           (call_events_go_on_so K V same hash name terms log event beginning map i c x.steps x.come.did x.come.now x.come.notes x.come.scene x.under midst x.come.held y.come.held step.is_at
           step.size step.said step.leads step.none (step.noted here) y.under (step.goes_on here))

@@ -25,6 +25,7 @@ use Rattle.papaya_promises.specs.Sheltered.{SectionsHold}
 use Rattle.papaya_promises.proofs.Protected.{idle_events_are_protected}
 use Rattle.papaya_legal.specs.CallEvents.{IsLegalBut}
 use Rattle.papaya_legal.specs.MapEvents.{IdleEventsAreLegal}
+use Rattle.papaya_grows.specs.Given.Schedules.Transition.{past, transition}
 
 -- nothing was made
 none_made : (q : Bool) → (not q || true) ≡ true
@@ -62,4 +63,4 @@ module _ (K V : Type 0) (same : K → K → Bool) (terms : Terms) (log : List (E
 
 pub idle_events_are_legal : (K V : Type 0) (same : K → K → Bool) → IdleEventsAreLegal K V same
 idle_events_are_legal K V same terms log known w e nothing idle hold enters unchanged none_left brief swept whole leaves =
-    still_events_are_legal K V same terms log known w e nothing (idle_are_linearizable K V same log e nothing idle) hold enters unchanged none_left brief swept whole leaves
+    still_events_are_legal K V same terms log known w e nothing (idle_are_linearizable K V same (past log) (transition log e) nothing idle) hold enters unchanged none_left brief swept whole leaves

@@ -69,6 +69,7 @@ use Rattle.papaya_grows.specs.Given.Scenes.Ending.{EndingLeads}
 use Rattle.papaya_grows.specs.Given.Scenes.Held.{Held, IsAt}
 use Rattle.papaya_grows.specs.Given.Scenes.Making.{MakingLeads}
 use Rattle.papaya_grows.specs.Given.Scenes.Scene.{Scene}
+use Rattle.papaya_grows.specs.Given.Schedules.Transition.{past}
 
 -- a map that stands as it does
 pub stands_so : {K : Type 0} (maps : ℕ → Option (Standing K)) (n : ℕ) (st : Standing K) → maps n ≡ Some st → HasStood maps n st
@@ -143,7 +144,7 @@ making_events_go_on_so K V same hash name terms log event beginning done m known
       limits = makings_keep_limits K V same hash name log m known s old new midst.0.calls.limits at whole i said leads b here was_new;
       counters = makings_keep_counters K V same hash name m known s old new at whole midst.0.calls.counters i said leads b here (Some b.map);
       uncounted = none_counted None (Some b.map) effects m midst.0.calls.uncounted (none_shards (Some b.map) effects m);
-      dues = (dues_stay K V same hash name log).makings m known s old new at whole midst.0.calls.dues i said leads b here (Some b.map) was_new;
+      dues = (dues_stay K V same hash name (past log)).makings m known s old new at whole midst.0.calls.dues i said leads b here (Some b.map) was_new;
       as_called = (as_called_stays K V same hash name).makings m known s old new at whole midst.0.calls.as_called i said leads b here (Some b.map) was_new;
       questions = effects_keep_questions K V None (Some b.map) effects m midst.0.calls.questions;
       purposes = (purposes_stay K V same hash name log).makings m known s old new at whole midst.0.calls.purposes i said leads b here (Some b.map) was_new;
@@ -255,7 +256,7 @@ end_events_go_on_so K V same hash name terms log event map beginning first done 
       limits = endings_keep_limits K V same hash name log m known s old new midst.0.calls.limits at whole i f here said leads map not_there;
       counters = endings_keep_counters K V same hash name m known s old new at midst.0.calls.counters i said leads f here map;
       uncounted = none_counted None (Some map) effects m midst.0.calls.uncounted (none_shards (Some map) effects m);
-      dues = (dues_stay K V same hash name log).endings m known s old new at whole midst.0.calls.dues i said leads f here map not_there its;
+      dues = (dues_stay K V same hash name (past log)).endings m known s old new at whole midst.0.calls.dues i said leads f here map not_there its;
       as_called = (as_called_stays K V same hash name).endings m known s old new at whole midst.0.calls.as_called i said leads f here map not_there its;
       questions = effects_keep_questions K V None (Some map) effects m midst.0.calls.questions;
       purposes = (purposes_stay K V same hash name log).endings m known s old new at whole midst.0.calls.purposes i said leads f here map not_there its;

@@ -25,6 +25,7 @@ use Rattle.papaya_promises.proofs.Protected.{other_events_end_protected}
 use Rattle.papaya_grows.proofs.Given.Purposes.Nothing.{no_calls_are_swept}
 use Rattle.papaya_grows.proofs.Given.Spots.Unreclaimed.{and_both}
 use Rattle.papaya_legal.specs.MapEvents.{MapEventsAreLegal}
+use Rattle.papaya_grows.specs.Given.Schedules.Transition.{past, transition}
 
 -- Its effects bring no pair and take none out that is not ended.
 
@@ -66,7 +67,7 @@ pub map_events_are_legal : (K V : Type 0) (same : K → K → Bool) → MapEvent
 map_events_are_legal K V same name terms log map beginning m known s e midst may finds none begins acted whole by_model = (
   record {
     brief = subst (λ (o : Option (List ℕ)). IfCall (λ (c : CallThere K V). IsBrief c.call c (moments_from c.begun log) (worked e (moment log)) (c.steps + e.steps)) (acting o (worked e (moment log)))) (sym none) tt;
-    linearizable = no_calls_are_linearizable K V same log e none (all_shift_none e.event (moment log) e.effects midst.of_maps none may);
+    linearizable = no_calls_are_linearizable K V same (past log) (transition log e) none (all_shift_none e.event (moment log) e.effects midst.of_maps none may);
     swept = no_calls_are_swept K V same terms log e none;
     life = record {
       finds = all_find;

@@ -44,6 +44,7 @@ use Rattle.papaya_legal.proofs.Over.{reading_like, runs_go_on}
 use Rattle.papaya_legal.proofs.Sourced.{none_born}
 use Rattle.papaya_grows.specs.Given.Scenes.Held.{Held, IsAt}
 use Rattle.papaya_grows.specs.Given.Scenes.Scene.{Scene}
+use Rattle.papaya_grows.specs.Given.Schedules.Transition.{past, transition}
 
 -- As it begins the event is in its midst.
 module _ (K V : Type 0) (same : K → K → Bool) (hash : ℕ → K → ℕ) (name : ℕ → List ℕ) (terms : Terms) (log : List (Entry K V)) (known : Known) (s : Scene K V) (old new : Held K V) (at : IsAt same hash old s)
@@ -113,7 +114,7 @@ module _ (K V : Type 0) (same : K → K → Bool) (name : ℕ → List ℕ) (ter
   legal : IsLegalBut same terms log e
   legal = record {
     brief = tt;
-    linearizable = no_calls_are_linearizable K V same log e refl (asks_shift effects asks);
+    linearizable = no_calls_are_linearizable K V same (past log) (transition log e) refl (asks_shift effects asks);
     swept = no_calls_are_swept K V same terms log e refl;
     life = record {
       finds = asks_find terms (acted_on e.event m) effects m asks firsts;

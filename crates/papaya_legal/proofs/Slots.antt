@@ -50,6 +50,7 @@ use Rattle.papaya_grows.proofs.Finding.Others.{rows_begin_finding, rows_keep_fin
 use Rattle.papaya_legal.proofs.Uncounted.{none_counted}
 use Rattle.papaya_grows.specs.Given.Scenes.Rows.{request_of}
 use Rattle.papaya_grows.specs.Given.Scenes.Scene.{Scene, slot_of}
+use Rattle.papaya_grows.specs.Given.Schedules.Transition.{past}
 
 -- each row on a slot is one
 of_slots : (slot : ℕ) (called : SlotCall) → IsOfSlots (request_of slot called)
@@ -101,7 +102,7 @@ slot_events_begin_so K V same hash name terms log known s old new at size run ev
         limits = rows_begin_limits K V same hash name log m known s old new run.calls.limits called i leads;
         counters = rows_begin_counters K V same hash name m s old new at run.calls.counters called i leads;
         uncounted = run.calls.uncounted;
-        dues = (dues_stay K V same hash name log).rows_begin m known s old new at run.calls.whole run.calls.dues called i leads;
+        dues = (dues_stay K V same hash name (past log)).rows_begin m known s old new at run.calls.whole run.calls.dues called i leads;
         as_called = (as_called_stays K V same hash name).rows_begin m known s old new at run.calls.whole run.calls.as_called called i leads;
         questions = run.calls.questions;
         purposes = (purposes_stay K V same hash name log).rows_begin m known s old new at run.calls.whole run.calls.purposes called i leads;
@@ -132,7 +133,7 @@ slot_events_go_on_so K V same hash name terms log event i called first began don
     limits = rows_keep_limits K V same hash name log m known s old new midst.calls.limits at whole i said leads row here;
     counters = rows_keep_counters K V same hash name m known s old new at whole midst.calls.counters i said leads row here;
     uncounted = none_counted None None effects m midst.calls.uncounted (none_shards None effects m);
-    dues = (dues_stay K V same hash name log).rows m known s old new at whole midst.calls.dues i said leads row here found.0;
+    dues = (dues_stay K V same hash name (past log)).rows m known s old new at whole midst.calls.dues i said leads row here found.0;
     as_called = (as_called_stays K V same hash name).rows m known s old new at whole midst.calls.as_called i said leads row here found.0;
     questions = effects_keep_questions K V None None effects m midst.calls.questions;
     purposes = (purposes_stay K V same hash name log).rows m known s old new at whole midst.calls.purposes i said leads row here found.0;

@@ -61,6 +61,7 @@ use Rattle.papaya_grows.specs.Given.Scenes.Held.{Held, IsAt}
 use Rattle.papaya_grows.specs.Given.Scenes.Replying.{AskLeads, scene_with}
 use Rattle.papaya_grows.specs.Given.Scenes.Scene.{Scene, slot_of}
 use Rattle.papaya_grows.specs.Given.Scenes.Stepping.{StepLeads, has_ended, scene_after}
+use Rattle.papaya_grows.specs.Given.Schedules.Transition.{past}
 
 -- each pair that is in this map is the one of its class there
 abbrev pub EachIsItsOwn : {K V : Type 0} → (K → K → Bool) → ℕ → Moment K V → Type 0
@@ -70,7 +71,7 @@ module _ {K V : Type 0} (same : K → K → Bool) (name : ℕ → List ℕ) (ter
   -- In the midst of an event of the call of caller i, which has made so many steps, and done this, since the moment at which it has begun what it begins.
   pub record InCallEvent (steps : ℕ) (done : List Effect) (m : Moment K V) (known : Known) (s : Scene K V) (u : UnderWay K V K) : Type 0 where
     pub of_call : caller_of event ≡ Some (name i)
-    pub event_so : InEvent same name log beginning map i c done m known s u
+    pub event_so : InEvent same name (past log) beginning map i c done m known s u
     pub calls : ShowsCalls same name log m known s
     -- where the copier of another call makes a table its map had a second one at a moment of the log
     pub others : OthersHadNext name log i m s
@@ -111,7 +112,7 @@ module _ (K V : Type 0) (same : K → K → Bool) (hash : ℕ → K → ℕ) whe
   -- The promises: so it is where an event of a call that is under way has begun what it begins, in whose midst alone a row may be if the event comes alone;
   abbrev pub CallEventsBegin : Type 0
   CallEventsBegin =
-      (name : ℕ → List ℕ) (terms : Terms) (log : List (Entry K V)) (beginning : Moment K V) → HasJustBegun log beginning → beginning.maps ≡ (moment log).maps → beginning.tables ≡ (moment log).tables
+      (name : ℕ → List ℕ) (terms : Terms) (log : List (Entry K V)) (beginning : Moment K V) → HasJustBegun (past log) beginning → beginning.maps ≡ (moment log).maps → beginning.tables ≡ (moment log).tables
       → beginning.shards ≡ (moment log).shards → beginning.born ≡ (moment log).born → beginning.spot ≡ (moment log).spot → TablelessUncounted (moment log)
       → (known : Known) (s : Scene K V) (x : Held K V) → IsAt same hash x s → ShowsCalls same name log beginning known s → ShowsReading name log (λ j. 0) beginning s
       → SectionsHold beginning known s.world → ((moment log).is_alone ≡ true → FollowsOrRows terms log known s.world)
@@ -148,7 +149,7 @@ module _ (K V : Type 0) (same : K → K → Bool) (hash : ℕ → K → ℕ) whe
       → (old new : Held K V) → IsAt same hash old s → old.batch_size ≡ terms.batch_size → (said : Progress (Node K V)) (leads : StepLeads same hash i said s old new)
       → (let effects = effects_of (acts.Call i map) known new.changed in
       let v = with_effects (Some (name i)) (Some map) effects m in
-      let to = leads map u (here_of same name log beginning map i c done m known s u midst.event_so) in
+      let to = leads map u (here_of same name (past log) beginning map i c done m known s u midst.event_so) in
       let s2 = scene_after same s old new map i to.0 u to.1 said to.4 in
       ShowsNone said
       → ((request : Request) (begun : World (Node K V)) → HandsOver to.0.setting i s.world request → Happens deferred_word old.batch_size (Begin i request) s.world begun
@@ -169,7 +170,7 @@ module _ (K V : Type 0) (same : K → K → Bool) (hash : ℕ → K → ℕ) whe
       → e.steps ≤ steps + 1 → IsSwept same terms log e → (not (refuses e.event) || not (list_any is_made e.effects)) ≡ true
       → IfCall (LeavesOf (comes_clear e.outcome) e.outcome) (acting (caller_of e.event) (worked e (moment log))) → IsByModel terms log e
       → IsLegalBut same terms log e
-      × SectionsHold (after e (moment log)) (known_after (acts.Call i map) new.changed known) (leads map u (here_of same name log beginning map i c done m known s u midst.event_so)).4.w2
+      × SectionsHold (after e (moment log)) (known_after (acts.Call i map) new.changed known) (leads map u (here_of same name (past log) beginning map i c done m known s u midst.event_so)).4.w2
 
   -- The moment after it shows all by which the next event keeps its promises, if it shows what calls are for and have read once the call has come to its outcome, and the sets are as they must be.
   abbrev pub CallEventsEnd : Type 0
@@ -181,7 +182,7 @@ module _ (K V : Type 0) (same : K → K → Bool) (hash : ℕ → K → ℕ) whe
       → ComesSo (known_after (acts.Call i map) new.changed known) c.call c.replies said e.outcome → ends_call e.outcome ≡ has_ended said → ComesRight terms log e
       → IsLegalBut same terms log e → EventAsksStill log e → ReclaimsAll log e
       → (let known2 = known_after (acts.Call i map) new.changed known in
-      let to = leads map u (here_of same name log beginning map i c done m known s u midst.event_so) in
+      let to = leads map u (here_of same name (past log) beginning map i c done m known s u midst.event_so) in
       let s2 = scene_after same s old new map i to.0 u to.1 said to.4 in
       let come = come_to (name i) e.outcome e.steps (with_effects (Some (name i)) (Some map) (effects_of (acts.Call i map) known new.changed) m) in
       ShowsPurposes same name log come known2 s2 → ShowsReading name log (λ j. 0) come s2 → SectionsHold (after e (moment log)) known2 s2.world
@@ -195,7 +196,7 @@ module _ (K V : Type 0) (same : K → K → Bool) (hash : ℕ → K → ℕ) whe
       (s : Scene K V) (u : UnderWay K V K) (e : Entry K V) (midst : InCallEvent same name terms log e.event beginning map i c steps done m known s u)
       → (old new : Held K V) → IsAt same hash old s → old.batch_size ≡ terms.batch_size → (said : Progress (Node K V)) (leads : StepLeads same hash i said s old new)
       → e.effects ≡ done ++ effects_of (acts.Call i map) known new.changed → is_busy e.outcome ≡ false
-      → (let to = leads map u (here_of same name log beginning map i c done m known s u midst.event_so) in
+      → (let to = leads map u (here_of same name (past log) beginning map i c done m known s u midst.event_so) in
       let known2 = known_after (acts.Call i map) new.changed known in
       ((request : Request) (begun : World (Node K V)) → HandsOver to.0.setting i s.world request → Happens deferred_word old.batch_size (Begin i request) s.world begun
       → Happens deferred_word old.batch_size (Step i) begun to.4.w2 → IsNoted (things_then (things_in log) done) known (slot_of i) request)

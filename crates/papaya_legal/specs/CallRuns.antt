@@ -40,6 +40,7 @@ use Rattle.papaya_legal.specs.Carried.{ComesAlone, ShowsRun}
 use Rattle.papaya_grows.specs.Given.Scenes.Held.{Held, IsAt}
 use Rattle.papaya_grows.specs.Given.Scenes.Scene.{Scene, slot_of}
 use Rattle.papaya_grows.specs.Given.Scenes.Stepping.{StepLeads, has_ended, scene_after}
+use Rattle.papaya_grows.specs.Given.Schedules.Transition.{past}
 
 -- a step that shows a pair of a walk comes to that, by its number, and any other one shows none
 abbrev pub ShowsAsTold : {K V : Type 0} → Known → Progress (Node K V) → Outcome V → Type 0
@@ -82,7 +83,7 @@ module _ (K V : Type 0) (same : K → K → Bool) (hash : ℕ → K → ℕ) whe
       → (old new : Held K V) → IsAt same hash old s → old.batch_size ≡ terms.batch_size → (said : Progress (Node K V)) (leads : StepLeads same hash i said s old new)
       → at_work e (moment log) ≡ beginning → acted_on e.event beginning ≡ Some map → e.effects ≡ done ++ effects_of (acts.Call i map) known new.changed → e.steps ≡ steps + 1
       → (let known2 = known_after (acts.Call i map) new.changed known in
-      let to = leads map u (here_of same name log beginning map i c done m known s u midst.event_so) in
+      let to = leads map u (here_of same name (past log) beginning map i c done m known s u midst.event_so) in
       ComesSo known2 c.call c.replies said e.outcome → TellsEnd said e.outcome → ShowsAsTold known2 said e.outcome
       → (takes_steps e.event ≡ true) ⊎ (e.effects ≡ []) → is_busy e.outcome ≡ false → ComesRight terms log e
       → FindAll terms (moments_from c.begun log) (name i) map e.effects beginning → IsSwept same terms log e → (not (refuses e.event) || not (list_any is_made e.effects)) ≡ true

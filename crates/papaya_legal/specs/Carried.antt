@@ -35,6 +35,7 @@ use Rattle.papaya_grows.specs.Limits.{ShowsLimits}
 use Rattle.papaya_grows.specs.Nexts.{ShowsNexts}
 use Rattle.papaya_grows.specs.Tries.{ShowsTries}
 use Rattle.papaya_grows.specs.Given.Scenes.Scene.{Scene, at_first, slot_of}
+use Rattle.papaya_grows.specs.Given.Schedules.Transition.{past}
 
 -- calls came one after another so far, and the event is one of those that do
 abbrev pub ComesAlone : {K V : Type 0} → Event K V → List (Entry K V) → Type 0
@@ -57,7 +58,7 @@ pub record ShowsCalls {K V : Type 0} (same : K → K → Bool) (name : ℕ → L
   pub sources : ShowsSources same name m known s
   pub counters : ShowsCounters name m s
   pub uncounted : NoneCounted m
-  pub dues : ShowsDue same name log m known s
+  pub dues : ShowsDue same name (past log) m known s
   pub as_called : ShowsAsCalled same name m known s
   pub questions : ShowsQuestions m
   pub purposes : ShowsPurposes same name log m known s

@@ -19,6 +19,7 @@ use Rattle.papaya_purposes.proofs.Still.{for_still}
 use Rattle.papaya_finds.specs.Given.Scenes.Held.{Held, IsAt}
 use Rattle.papaya_finds.specs.Given.Scenes.Scene.{Scene}
 use Rattle.papaya_finds.specs.Given.Scenes.Stepping.{StepLeads}
+use Rattle.papaya_finds.specs.Given.Schedules.Transition.{past}
 
 module _ {K V : Type 0} (same : K → K → Bool) (hash : ℕ → K → ℕ) (name : ℕ → List ℕ) (log : List (Entry K V)) (m : Moment K V) (known : Known) (s : Scene K V) (old new : Held K V)
     (at : IsAt same hash old s) (whole : ShowsWhole same name m known s) (purposes : ShowsPurposes same name log m known s) (of i : ℕ) (u : UnderWay K V K) (here : s.calls of i ≡ Some u)
@@ -62,7 +63,7 @@ module _ {K V : Type 0} (same : K → K → Bool) (hash : ℕ → K → ℕ) (na
       let c = purposes.shown.calls n j x other.1 in
       for_still c.0 d (same_call same hash name log m known s old new at whole purposes of i u here said leads j c.0 d c.1 d_is) x (purposes.is_for n j x other.1 c.0 c.1)
 
-  module _ (changes : PairsChangeFirst log m of v) (class_first : ChangesFirst log m same of v) where
+  module _ (changes : PairsChangeFirst log m of v) (class_first : ChangesFirst (past log) m same of v) where
     pub other_come : (n j : ℕ) (x : UnderWay K V K) → s.calls n j ≡ Some x → (st : Standing K) → then_at.maps n ≡ Some st → (d : CallThere K V) → call_of (name j) v ≡ Some d
         → HasCome same n st (number2 n) log v x d
     other_come n j x is st there d d_is =

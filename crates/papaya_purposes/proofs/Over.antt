@@ -18,13 +18,14 @@ use Rattle.papaya_purposes.proofs.Done.{tells_kept}
 use Rattle.papaya_purposes.proofs.Lists.{all_on}
 use Rattle.papaya_purposes.proofs.Shown.{IsStill}
 use Rattle.papaya_purposes.proofs.Within.{pairs_within_on}
+use Rattle.papaya_finds.specs.Given.Schedules.Transition.{past}
 
 module _ {K V : Type 0} (same : K → K → Bool) (of : ℕ) (st st2 : Standing K) (number number2 : ℕ → ℕ) (later : IsLater st.chart st2.chart) (first : st.chart.first ≤ st2.chart.first) (numbers : (n : ℕ) → n < st.chart.stored → number2 n ≡ number n)
     (log : List (Entry K V)) (m v : Moment K V) (c d : CallThere K V) (still : IsStill c d) (begun : c.begun ≤ length log) (changes : PairsChangeFirst log m of v)
     (now_stored : (n : ℕ) → st2.chart.was st2.chart.now n ≡ true → n < st2.chart.stored)
     (now_there : (n : ℕ) → n < st2.chart.stored → is_in_map of (v.place (number2 n)) ≡ st2.chart.was st2.chart.now n)
     (absent : (n : ℕ) → st.chart.stored ≤ n → n < st2.chart.stored → is_in_map of (m.place (number2 n)) ≡ false) where
-  pub within_over : (began : ℕ) → PairsWithin of st number (since log m c) began → PairsWithin of st2 number2 (since log v d) began
+  pub within_over : (began : ℕ) → PairsWithin of st number (since (past log) m c) began → PairsWithin of st2 number2 (since (past log) v d) began
   within_over began within =
       subst (λ (b : ℕ). PairsWithin of st2 number2 (v ∷ moments_from b log) began) (sym still.begun)
       (pairs_within_on of st st2 number number2 later numbers log m v c.begun begun changes now_stored now_there absent began within)
@@ -33,8 +34,8 @@ module _ {K V : Type 0} (same : K → K → Bool) (of : ℕ) (st st2 : Standing 
   below_over done below = all_on (λ k. k < st.chart.stored) (λ k. k < st2.chart.stored) (λ k l. (let g = later.stored in omega (arith, l, g))) done below
 
   pub come_over : (u : UnderWay K V K)
-      → ((o : CallOverAll) → u ≡ OverAll o → HasSwept same of st number (since log m c) o c → o.sweep.purpose ≡ Walks → KeysOf same st2 o)
-      → ((began : ℕ) → IsWithin same of st number (since log m c) began → IsWithin same of st2 number2 (since log v d) began) → HasCome same of st number log m u c → HasCome same of st2 number2 log v u d
+      → ((o : CallOverAll) → u ≡ OverAll o → HasSwept same of st number (since (past log) m c) o c → o.sweep.purpose ≡ Walks → KeysOf same st2 o)
+      → ((began : ℕ) → IsWithin same of st number (since (past log) m c) began → IsWithin same of st2 number2 (since (past log) v d) began) → HasCome same of st number log m u c → HasCome same of st2 number2 log v u d
   come_over (OnKey u) carries on h = tt
   come_over (ForRoom r) carries on h =
       subst (λ (b : ℕ). HasMet of st2 (moments_from b log) r) (sym still.begun)

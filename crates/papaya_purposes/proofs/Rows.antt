@@ -22,6 +22,7 @@ use Rattle.papaya_finds.specs.Given.Histories.Had.{HadThen}
 use Rattle.papaya_finds.specs.Given.Histories.Histories.{since, IsWithin}
 use Rattle.papaya_finds.proofs.Given.Histories.Had.{had_on, had_one}
 use Rattle.papaya_finds.proofs.Given.Histories.Now.{now_had}
+use Rattle.papaya_finds.proofs.Given.Histories.Logs.{past_is}
 use Rattle.papaya_finds.proofs.Given.Histories.Within.{within_on}
 use Rattle.papaya_finds.proofs.Given.Histories.Later.{IsLater, same_later}
 use Rattle.papaya_purposes.specs.Purposes.{KeysOf, HasSwept, HasCome, ShowsPurposes}
@@ -33,6 +34,7 @@ use Rattle.papaya_purposes.proofs.Present.{now_stored, now_there, absent}
 use Rattle.papaya_purposes.proofs.Shown.{same_still}
 use Rattle.papaya_finds.specs.Given.Scenes.Held.{Held, IsAt}
 use Rattle.papaya_finds.specs.Given.Scenes.Scene.{Scene, slot_of}
+use Rattle.papaya_finds.specs.Given.Schedules.Transition.{past}
 
 module _ {K V : Type 0} (same : K → K → Bool) (hash : ℕ → K → ℕ) (name : ℕ → List ℕ) (log : List (Entry K V)) (m m2 : Moment K V) (known known2 : Known) (s s2 : Scene K V) (old new : Held K V)
     (at : IsAt same hash old s) (at2 : IsAt same hash new s2) (purposes : ShowsPurposes same name log m known s) (after : ShowsAfter same name m known s purposes.shown m2 known2 s2)
@@ -94,12 +96,12 @@ module _ {K V : Type 0} (same : K → K → Bool) (hash : ℕ → K → ℕ) (na
             (now_had same n (purposes.shown.number n) before m known s.world (s.calls n) (at.together.makings.standing.fit n before stood.1).0 (at.together.makings.standing.each n before stood.1)
             (purposes.shown.maps n before stood.1).pairs purposes.shown.blocks k)))
 
-        classes : (began : ℕ) → IsWithin same n before (purposes.shown.number n) (since log m c) began → IsWithin same n st (after.shows.number n) (since log m2 c) began
+        classes : (began : ℕ) → IsWithin same n before (purposes.shown.number n) (since (past log) m c) began → IsWithin same n st (after.shows.number n) (since (past log) m2 c) began
         classes began =
-            within_on same n before st (purposes.shown.number n) (after.shows.number n) later numbers log m m2 c.begun (purposes.begun n j x (was_here n j x is) c (was_called j c found))
+            within_on same n before st (purposes.shown.number n) (after.shows.number n) later numbers (past log) (past_is log) m m2 c.begun (purposes.begun n j x (was_here n j x is) c (was_called j c found))
             (λ k. inl (same_then k)) now_then began
 
-        keys : (o : CallOverAll) → x ≡ OverAll o → HasSwept same n before (purposes.shown.number n) (since log m c) o c → o.sweep.purpose ≡ Walks → KeysOf same st o
+        keys : (o : CallOverAll) → x ≡ OverAll o → HasSwept same n before (purposes.shown.number n) (since (past log) m c) o c → o.sweep.purpose ≡ Walks → KeysOf same st o
         keys o o_is h walks =
             keys_kept same 0 before st how (at.together.makings.standing.fit n before stood.1).0 (at.together.makings.standing.fit n before stood.1).1 slot_of s.world (s.calls n)
             (at.together.makings.standing.each n before stood.1) j o (was_here n j x is ∙ ap Some o_is) h.within.stored h.stored (h.keys walks)

@@ -49,6 +49,7 @@ use Rattle.papaya_purposes.proofs.Walks.{adds_one}
 use Rattle.papaya_finds.specs.Given.Scenes.Held.{Held, IsAt}
 use Rattle.papaya_finds.specs.Given.Scenes.Scene.{Scene, slot_of}
 use Rattle.papaya_finds.specs.Given.Scenes.Stepping.{StepLeads}
+use Rattle.papaya_finds.specs.Given.Schedules.Transition.{past}
 
 -- a sweep that is ready has shown each pair that it has done once
 module _ {K : Type 0} (hash : K → ℕ) (c : Chart K) (blocks : Blocks) (p : Sweep) (entered : ℕ) (done : List ℕ) where
@@ -137,7 +138,7 @@ module _ {K V : Type 0} (same : K → K → Bool) (hash : ℕ → K → ℕ) (na
     q_is : q ≡ number2 p
     q_is = number_told same hash name log m known s old new at whole purposes of i u here (progress.Pair word) leads o p2 end step moved word p q one.1.1 names
 
-    within : PairsWithin of st2 number2 (since log v d) o.began
+    within : PairsWithin of st2 number2 (since (past log) v d) o.began
     within = own_within same hash name log m known s old new at whole purposes of i u here (progress.Pair word) leads changes o o_is st2 there2 c d c_is d_is
 
     abbrev There : Moment K V → Type 0
@@ -162,7 +163,7 @@ module _ {K V : Type 0} (same : K → K → Bool) (hash : ℕ → K → ℕ) (na
             each_of (λ (x : Moment K V). is_in_map of (x.place (number2 p)) ≡ st2.chart.was was.0 p) There (moments_from d.begun log) (λ x h. so x (h ∙ w)) before
 
     abbrev before : HasSwept same of (its_before same hash name log m known s old new at whole purposes of i u here (progress.Pair word) leads changes o o_is st2 there2 c d c_is d_is)
-        (purposes.shown.number of) (since log m c) o c
+        (purposes.shown.number of) (since (past log) m c) o c
     before = had same hash name log m known s old new at whole purposes of i u here (progress.Pair word) leads changes o o_is st2 there2 c d c_is d_is
 
     not_shown : is_among q d.shown ≡ false

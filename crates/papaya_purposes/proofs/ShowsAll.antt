@@ -56,6 +56,7 @@ use Rattle.papaya_purposes.proofs.Swept.{then_call, then_is, still, on_map, swep
 use Rattle.papaya_finds.specs.Given.Scenes.Held.{Held, IsAt}
 use Rattle.papaya_finds.specs.Given.Scenes.Scene.{Scene, slot_of}
 use Rattle.papaya_finds.specs.Given.Scenes.Stepping.{StepLeads, StepsFrom}
+use Rattle.papaya_finds.specs.Given.Schedules.Transition.{past}
 
 -- the pair of a number has such a key
 key_some : {K V : Type 0} (same : K → K → Bool) (k : K) (o : Option (K × V)) → is_key same o k ≡ true → (p : K × V) × (o ≡ Some p) × (same p.0 k ≡ true)
@@ -124,7 +125,7 @@ module _ {K V : Type 0} (same : K → K → Bool) (hash : ℕ → K → ℕ) (na
   module _ (o : CallOverAll) (o_is : s.calls of i ≡ Some (OverAll o)) (walks : o.sweep.purpose ≡ Walks)
       (steps : StepsFrom same (went same hash name log m known s old new at whole purposes of i u here said leads).0.hash (machine_of (OverAll o)) old new (went same hash name log m known s old new at whole purposes of i u here said leads).1 said)
       (did : Did same hash name log m known s old new at whole purposes of i u here said leads (OverAll o)) (worked_is : (e : Entry K V) × (worked e (moment log) ≡ v)) where
-    its : HasSwept same of st number (since log m c) o c
+    its : HasSwept same of st number (since (past log) m c) o c
     its = purposes.come of i (OverAll o) o_is st (went same hash name log m known s old new at whole purposes of i u here said leads).2 c c_is
 
     begun : c.begun ≤ length log

@@ -56,6 +56,7 @@ use Rattle.papaya_purposes.proofs.Steps.{went, on, v2, known2, scene2, Did, same
 use Rattle.papaya_finds.specs.Given.Scenes.Held.{Held, IsAt}
 use Rattle.papaya_finds.specs.Given.Scenes.Scene.{Scene}
 use Rattle.papaya_finds.specs.Given.Scenes.Stepping.{StepLeads, StepsFrom}
+use Rattle.papaya_finds.specs.Given.Schedules.Transition.{past}
 
 -- what is so of the call is so of the event
 module _ {K V : Type 0} (same : K → K → Bool) (terms : Terms) (log : List (Entry K V)) (e : Entry K V) (own : List ℕ) (v : Moment K V) (d : CallThere K V) (caller : caller_of e.event ≡ Some own)
@@ -168,7 +169,7 @@ module _ {K V : Type 0} (same : K → K → Bool) (hash : ℕ → K → ℕ) (na
       abbrev number2 : ℕ → ℕ
       number2 = (on same hash name log m known s old new at whole purposes of i u here said leads).shows.number of
 
-      within : PairsWithin of ended.st number2 (since log v then_call) o.began
+      within : PairsWithin of ended.st number2 (since (past log) v then_call) o.began
       within = own_within same hash name log m known s old new at whole purposes of i u here said leads changes o o_is ended.st ended.there c then_call c_is then_is
 
       both : (a b : Bool) → (a && b) ≡ true → (a ≡ true) × (b ≡ true)
@@ -210,7 +211,7 @@ module _ {K V : Type 0} (same : K → K → Bool) (hash : ℕ → K → ℕ) (na
           all_pass (λ n. not (stays then_call.map (moments_from then_call.begun log) v n) || is_yes (reply_to (Some n) then_call.replies)) each (numbers_from 1 (length v.stored))
         where
           before : HasSwept same of (its_before same hash name log m known s old new at whole purposes of i u here said leads changes o o_is ended.st ended.there c then_call c_is then_is)
-              (purposes.shown.number of) (since log m c) o c
+              (purposes.shown.number of) (since (past log) m c) o c
           before = had same hash name log m known s old new at whole purposes of i u here said leads changes o o_is ended.st ended.there c then_call c_is then_is
 
           said_yes : AllByRecursion (λ p. is_yes (reply_to (Some (number2 p)) then_call.replies) ≡ true) o.done

@@ -54,6 +54,7 @@ use Rattle.papaya_purposes.proofs.Still.{within_still, classes_still, come_still
 use Rattle.papaya_finds.specs.Given.Scenes.Held.{Held, IsAt}
 use Rattle.papaya_finds.specs.Given.Scenes.Replying.{scene_with}
 use Rattle.papaya_finds.specs.Given.Scenes.Scene.{Scene, slot_of}
+use Rattle.papaya_finds.specs.Given.Schedules.Transition.{past}
 
 -- a pair that is not among them is none of them
 apart_step : (p x : ℕ) (xs : List ℕ) → times p (x ∷ xs) ≡ 0 → (x ≢ p) × (times p xs ≡ 0)
@@ -146,7 +147,7 @@ module _ {K V : Type 0} (same : K → K → Bool) (hash : ℕ → K → ℕ) (na
 
   -- once it is told about that pair
   module _ (c d : CallThere K V) (told_so : Reply V) (m2 : Moment K V) (place : m2.place ≡ m.place) (stored : m2.stored ≡ m.stored) (same_call : d.call ≡ c.call) (begun : d.begun ≡ c.begun)
-      (replies : d.replies ≡ (Some q, told_so) ∷ c.replies) (is_for : IsFor (OverAll o) c.call) (had : HasSwept same of st number (since log m c) o c) where
+      (replies : d.replies ≡ (Some q, told_so) ∷ c.replies) (is_for : IsFor (OverAll o) c.call) (had : HasSwept same of st number (since (past log) m c) o c) where
     -- it has done that, by yes, or no more
     abbrev pub Does : List ℕ → Type 0
     Does done2 = (done2 ≡ o.done) ⊎ ((p : ℕ) × (done2 ≡ p ∷ o.done) × (p < st.chart.stored) × (number p ≡ q) × (told_so ≡ Decides true))
@@ -181,14 +182,14 @@ module _ {K V : Type 0} (same : K → K → Bool) (hash : ℕ → K → ℕ) (na
     below_done done2 (inl kept) = subst (AllByRecursion (λ n. n < st.chart.stored)) (sym kept) had.stored
     below_done done2 (inr (p, is, below, number_p, told_yes)) = subst (AllByRecursion (λ n. n < st.chart.stored)) (sym is) (below, had.stored)
 
-    pub told_come : (x : CallOverAll) → x.began ≡ o.began → x.sweep.purpose ≡ o.sweep.purpose → Does x.done → HasSwept same of st number (since log m2 d) x d
+    pub told_come : (x : CallOverAll) → x.began ≡ o.began → x.sweep.purpose ≡ o.sweep.purpose → Does x.done → HasSwept same of st number (since (past log) m2 d) x d
     told_come x began purpose does = record {
-      within = subst (PairsWithin of st number (since log m2 d)) (sym began) (within_still same of st number log m m2 place stored c d begun o.began had.within);
+      within = subst (PairsWithin of st number (since (past log) m2 d)) (sym began) (within_still same of st number log m m2 place stored c d begun o.began had.within);
       stored = below_done x.done does;
       tells = subst (λ (y : Call K V). TellsDone y number x.done d) (sym same_call) (tells c.call is_for had.tells x.done does);
       none = λ walks first. absurd (let r = retains in cc (walks, purpose, r));
       keys = λ walks. absurd (let r = retains in cc (walks, purpose, r));
-      classes = subst (IsWithin same of st number (since log m2 d)) (sym began) (classes_still same of st number log m m2 place stored c d begun o.began had.classes);
+      classes = subst (IsWithin same of st number (since (past log) m2 d)) (sym began) (classes_still same of st number log m m2 place stored c d begun o.began had.classes);
     }
 
 module _ {K V : Type 0} (same : K → K → Bool) (hash : ℕ → K → ℕ) (name : ℕ → List ℕ) (log : List (Entry K V)) (m : Moment K V) (known : Known) (s : Scene K V) (e : Held K V)
@@ -247,13 +248,13 @@ module _ {K V : Type 0} (same : K → K → Bool) (hash : ℕ → K → ℕ) (na
       asked : (q : ℕ) × (question ≡ Some q) × NamesNumber known asks.0 q
       asked = about o u_is asks.0 asks.1
 
-      had : HasSwept same of st (purposes.shown.number of) (since log m c) o c
+      had : HasSwept same of st (purposes.shown.number of) (since (past log) m c) o c
       had = purposes.come of i (OverAll o) o_is st there c c_is
 
       abbrev DoesNow : List ℕ → Type 0
       DoesNow done2 = (done2 ≡ o.done) ⊎ ((p : ℕ) × (done2 ≡ p ∷ o.done) × (p < st.chart.stored) × (purposes.shown.number of p ≡ asked.0) × (is_told ≡ Decides true))
 
-      come_by : (x : CallOverAll) → x.began ≡ o.began → x.sweep.purpose ≡ o.sweep.purpose → DoesNow x.done → HasSwept same of st (purposes.shown.number of) (since log v d) x d
+      come_by : (x : CallOverAll) → x.began ≡ o.began → x.sweep.purpose ≡ o.sweep.purpose → DoesNow x.done → HasSwept same of st (purposes.shown.number of) (since (past log) v d) x d
       come_by x began purpose does =
           told_come same hash name log m known s e at purposes.shown of i o o_is st there asks.0 asks.1 asked.0 asked.2 c d is_told v refl refl (ap (λ (f : CallThere K V). f.call) d_is)
           (ap (λ (f : CallThere K V). f.begun) d_is)

@@ -68,6 +68,7 @@ use Rattle.papaya_purposes.proofs.Still.{within_still, classes_still, come_still
 use Rattle.papaya_finds.specs.Given.Scenes.Held.{Held, IsAt}
 use Rattle.papaya_finds.specs.Given.Scenes.Scene.{Scene, slot_of}
 use Rattle.papaya_finds.specs.Given.Scenes.Stepping.{StepLeads, StepsFrom}
+use Rattle.papaya_finds.specs.Given.Schedules.Transition.{past}
 
 module _ {K : Type 0} (hash : K → ℕ) (c : Chart K) (blocks : Blocks) (done done2 : List ℕ) (entered entered2 word : ℕ) where
   -- one that shows a pair has read its word at a place of its table, and has done one pair more
@@ -101,7 +102,7 @@ module _ {K V : Type 0} (same : K → K → Bool) (hash : ℕ → K → ℕ) (na
     (at : IsAt same hash old s) (whole : ShowsWhole same name m known s) (purposes : ShowsPurposes same name log m known s) (of i : ℕ) (u : UnderWay K V K) (here : s.calls of i ≡ Some u)
     (word : ℕ) (leads : StepLeads same hash i (progress.Pair word) s old new)
     (changes : PairsChangeFirst log m of (v same hash name log m known s old new at whole purposes of i u here (progress.Pair word) leads))
-    (class_first : ChangesFirst log m same of (v same hash name log m known s old new at whole purposes of i u here (progress.Pair word) leads)) (q steps : ℕ)
+    (class_first : ChangesFirst (past log) m same of (v same hash name log m known s old new at whole purposes of i u here (progress.Pair word) leads)) (q steps : ℕ)
     (names : NamesPair (known2 same hash name log m known s old new at whole purposes of i u here (progress.Pair word) leads) word q) where
   abbrev then_there : Scene K V
   then_there = then_at same hash name log m known s old new at whole purposes of i u here (progress.Pair word) leads
@@ -150,7 +151,7 @@ module _ {K V : Type 0} (same : K → K → Bool) (hash : ℕ → K → ℕ) (na
       (d_is : call_of (name i) v1 ≡ Some d) (p2 : Sweep) (n entered2 : ℕ) (done2 : List ℕ) (done_is : done2 ≡ n ∷ o.done) (below : n < st.chart.stored) (told : q ≡ numbers2 of n)
       (purpose : p2.purpose ≡ o.sweep.purpose) (walks : p2.purpose ≡ Walks) (ready : p2.stands ≡ sweeping.Ready) (keys : KeysOf same st (came_to o entered2 done2 p2)) where
     abbrev before : HasSwept same of (its_before same hash name log m known s old new at whole purposes of i u here (progress.Pair word) leads changes o o_is st there c d c_is d_is)
-        (purposes.shown.number of) (since log m c) o c
+        (purposes.shown.number of) (since (past log) m c) o c
     before = had same hash name log m known s old new at whole purposes of i u here (progress.Pair word) leads changes o o_is st there c d c_is d_is
 
     still : IsStill c d
@@ -174,7 +175,7 @@ module _ {K V : Type 0} (same : K → K → Bool) (hash : ℕ → K → ℕ) (na
     tells call.Walk is has =
         cons_both q (numbers2 of n) d.shown (map (numbers2 of) o.done) told (still.shown ∙ has ∙ sym numbers_of) ∙ ap (map (numbers2 of)) (sym done_is)
 
-    pub own_shows : HasSwept same of st (numbers2 of) (since log v3 (come (ShowsOne q) steps d)) (came_to o entered2 done2 p2) (come (ShowsOne q) steps d)
+    pub own_shows : HasSwept same of st (numbers2 of) (since (past log) v3 (come (ShowsOne q) steps d)) (came_to o entered2 done2 p2) (come (ShowsOne q) steps d)
     own_shows = record {
       within = within_still same of st (numbers2 of) log v1 v3 refl refl d (come (ShowsOne q) steps d) refl o.began
           (own_within same hash name log m known s old new at whole purposes of i u here (progress.Pair word) leads changes o o_is st there c d c_is d_is);
@@ -231,7 +232,7 @@ module _ {K V : Type 0} (same : K → K → Bool) (hash : ℕ → K → ℕ) (na
       walked : o.sweep.purpose ≡ Walks
       walked = sym step.step.went.told.stands.purpose ∙ walks
 
-      was : HasSwept same of its (purposes.shown.number of) (since log m c) o c
+      was : HasSwept same of its (purposes.shown.number of) (since (past log) m c) o c
       was = purposes.come of i (OverAll o) y_is its (went same hash name log m known s old new at whole purposes of i u here (progress.Pair word) leads).2 c c_is
 
       -- the pair that it shows is the one that stands at its place
@@ -265,7 +266,7 @@ module _ {K V : Type 0} (same : K → K → Bool) (hash : ℕ → K → ℕ) (na
                 ),
           )
 
-      so : HasSwept same of st (numbers2 of) (since log v3 (come (ShowsOne q) steps d)) (came_to o step.step.entered2 step.step.done2 p2) (come (ShowsOne q) steps d)
+      so : HasSwept same of st (numbers2 of) (since (past log) v3 (come (ShowsOne q) steps d)) (came_to o step.step.entered2 step.step.done2 p2) (come (ShowsOne q) steps d)
       so =
           own_shows o y_is st there c d c_is d_is p2 one.1.0 step.step.entered2 step.step.done2 one.1.2 (subst (λ (z : Standing K). one.1.0 < z.chart.stored) then_is one.1.1.0)
           (number_told same hash name log m known s old new at whole purposes of i u here (progress.Pair word) leads o p2 end step moved.1 word one.1.0 q one.1.1 names)

@@ -37,6 +37,7 @@ use Rattle.papaya_finds.specs.Given.Scenes.Held.{Held, IsAt}
 use Rattle.papaya_finds.specs.Given.Scenes.Replying.{StopLeads, scene_with, unless_stopped}
 use Rattle.papaya_finds.specs.Given.Scenes.Scene.{Scene, at_first, slot_of}
 use Rattle.papaya_finds.specs.Given.Scenes.Stepping.{StepLeads, scene_after}
+use Rattle.papaya_finds.specs.Given.Schedules.Transition.{past}
 
 -- the step shows no pair of a walk
 abbrev pub ShowsNone : {T : Type 0} → Progress T → Type 0
@@ -74,7 +75,7 @@ module _ (K V : Type 0) (same : K → K → Bool) (hash : ℕ → K → ℕ) whe
       → ShowsWhole same name m known s → ShowsPurposes same name log m known s
       → (of i : ℕ) (u : UnderWay K V K) (here : s.calls of i ≡ Some u) (said : Progress (Node K V)) (leads : StepLeads same hash i said s old new)
       → PairsChangeFirst log m of (with_effects (Some (name i)) (Some of) (effects_of (acts.Call i of) known new.changed) m)
-      → ChangesFirst log m same of (with_effects (Some (name i)) (Some of) (effects_of (acts.Call i of) known new.changed) m) → ReadsShards log m s of u → ShowsNone said
+      → ChangesFirst (past log) m same of (with_effects (Some (name i)) (Some of) (effects_of (acts.Call i of) known new.changed) m) → ReadsShards log m s of u → ShowsNone said
       → (let to = leads of u here in
       ShowsPurposes same name log (with_effects (Some (name i)) (Some of) (effects_of (acts.Call i of) known new.changed) m) (known_after (acts.Call i of) new.changed known)
       (scene_after same s old new of i to.0 u to.1 said to.4))
@@ -86,7 +87,7 @@ module _ (K V : Type 0) (same : K → K → Bool) (hash : ℕ → K → ℕ) whe
       → ShowsWhole same name m known s → ShowsPurposes same name log m known s
       → (of i : ℕ) (u : UnderWay K V K) (here : s.calls of i ≡ Some u) (word : ℕ) (leads : StepLeads same hash i (progress.Pair word) s old new)
       → PairsChangeFirst log m of (with_effects (Some (name i)) (Some of) (effects_of (acts.Call i of) known new.changed) m)
-      → ChangesFirst log m same of (with_effects (Some (name i)) (Some of) (effects_of (acts.Call i of) known new.changed) m)
+      → ChangesFirst (past log) m same of (with_effects (Some (name i)) (Some of) (effects_of (acts.Call i of) known new.changed) m)
       → (q steps : ℕ) → NamesPair (known_after (acts.Call i of) new.changed known) word q
       → (let to = leads of u here in
       ShowsPurposes same name log (come_to (name i) (Shows q) steps (with_effects (Some (name i)) (Some of) (effects_of (acts.Call i of) known new.changed) m))
@@ -143,7 +144,7 @@ module _ (K V : Type 0) (same : K → K → Bool) where
 module _ (K V : Type 0) where
   -- The first step of an event changes no pair twice; nor does one by which none comes or goes; nor one by which some only go, where none has come before.
   abbrev pub FirstStepsChangePairsFirst : Type 0
-  FirstStepsChangePairsFirst = (log : List (Entry K V)) (m v : Moment K V) (of : ℕ) → HasJustBegun log m → PairsChangeFirst log m of v
+  FirstStepsChangePairsFirst = (log : List (Entry K V)) (m v : Moment K V) (of : ℕ) → HasJustBegun (past log) m → PairsChangeFirst log m of v
 
   abbrev pub StillStepsChangePairsFirst : Type 0
   StillStepsChangePairsFirst = (log : List (Entry K V)) (m v : Moment K V) (of : ℕ) → ((n : ℕ) → is_in_map of (v.place n) ≡ is_in_map of (m.place n)) → PairsChangeFirst log m of v

@@ -30,6 +30,7 @@ use Rattle.papaya_purposes.specs.Keys.{KeysAt, AreKeyed}
 use Rattle.papaya_purposes.specs.Needs.{NeedsAt}
 use Rattle.papaya_finds.specs.Given.Named.Machines.{IsBefore}
 use Rattle.papaya_finds.specs.Given.Scenes.Scene.{Scene}
+use Rattle.papaya_finds.specs.Given.Schedules.Transition.{past}
 
 -- by key, what a sweep that is a walk has come to in its map
 abbrev pub KeysOf : {K : Type 0} → (K → K → Bool) → Standing K → CallOverAll → Type 0
@@ -96,7 +97,7 @@ module _ {K V : Type 0} where
   HasCome same of s number log m (OnKey u) c = Unit {0}
   HasCome same of s number log m (ForRoom r) c = HasMet of s (moments_from c.begun log) r
   HasCome same of s number log m (Counting sum) c = HasAdded of (moments_from c.begun log) sum.setting.mask sum.stands
-  HasCome same of s number log m (OverAll o) c = HasSwept same of s number (since log m c) o c
+  HasCome same of s number log m (OverAll o) c = HasSwept same of s number (since (past log) m c) o c
 
 -- The moment shows the scene. The event that began a call is one of the log or the next one; each call is for what was called, and has come to what it says.
 pub record ShowsPurposes {K V : Type 0} (same : K → K → Bool) (name : ℕ → List ℕ) (log : List (Entry K V)) (m : Moment K V) (known : Known) (s : Scene K V) : Type 0 where

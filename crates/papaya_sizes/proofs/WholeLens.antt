@@ -21,7 +21,7 @@ use Rattle.papaya_finds.specs.Given.Schedules.Moment.{UnderWay, Moment}
 use Rattle.papaya_finds.specs.Given.Schedules.Runs.{IsLegalLog}
 use Rattle.papaya_finds.specs.Given.Schedules.Terms.{Terms}
 use Rattle.papaya_finds.specs.Given.Schedules.Views.{call_of, number_of, size_of}
-use Rattle.papaya_finds.proofs.Given.Histories.BeginsCall.{events_are}
+use Rattle.papaya_finds.proofs.Given.Histories.Logs.{events_are}
 use Rattle.papaya_finds.proofs.Given.Histories.Logs.{moments_grow}
 use Rattle.papaya_finds.proofs.Endings.{entry}
 use Rattle.papaya_finds.proofs.Grown.{number_is}

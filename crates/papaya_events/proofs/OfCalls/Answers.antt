@@ -45,6 +45,7 @@ use Rattle.papaya_events.specs.OfCalls.{LastStepsTell}
 use Rattle.papaya_events.proofs.OfCalls.Words.{tells_of}
 use Rattle.papaya_folded.specs.Given.Scenes.Scene.{Scene}
 use Rattle.papaya_folded.specs.Given.Scenes.Stepping.{StepLeads}
+use Rattle.papaya_folded.specs.Given.Schedules.Transition.{past}
 
 -- what is stored is the reply's value, and else nothing is meant
 module _ {V : Type 0} where
@@ -283,7 +284,7 @@ module _ {K V : Type 0} (by : Known) (value : Option V) (replies : List (Option 
 
 -- a call on one key is under way as one
 on_key : {K V : Type 0} (same : K → K → Bool) (name : ℕ → List ℕ) (log : List (Entry K V)) (beginning : Moment K V) (map i : ℕ) (c : CallThere K V) (done : List Effect) (m : Moment K V) (known : Known) (s : Scene K V)
-    (u : UnderWay K V K) → InEvent same name log beginning map i c done m known s u → (one : OneKey K V) → c.call ≡ On one → (x : CallOnKey K V K) × (u ≡ OnKey x)
+    (u : UnderWay K V K) → InEvent same name (past log) beginning map i c done m known s u → (one : OneKey K V) → c.call ≡ On one → (x : CallOnKey K V K) × (u ≡ OnKey x)
 on_key same name log beginning map i c done m known s (OnKey x) midst one is = (x, refl)
 on_key same name log beginning map i c done m known s (ForRoom r) midst one is = absurd (subst IsOnNoKey is midst.other)
 on_key same name log beginning map i c done m known s (Counting sum) midst one is = absurd (subst IsOnNoKey is midst.other)
@@ -291,12 +292,12 @@ on_key same name log beginning map i c done m known s (OverAll o) midst one is =
 
 pub last_steps_tell : (K V : Type 0) (same : K → K → Bool) (hash : ℕ → K → ℕ) → LastStepsTell K V same hash
 last_steps_tell K V same hash name terms log event beginning map i c steps done m known s u midst old new at said leads d d_is call_so replies_so value comes keeps =
-    let words = events_have_words K V same hash name log beginning map i c done m known s u midst.event_so old new at said leads in
+    let words = events_have_words K V same hash name (past log) beginning map i c done m known s u midst.event_so old new at said leads in
     let by = known_after (acts.Call i map) new.changed known in
     (comes_so by value c.replies c.call said words.0 words.1 tells, tells_of same log m map by value c.call said comes)
   where
     here : s.calls map i ≡ Some u
-    here = here_of same name log beginning map i c done m known s u midst.event_so
+    here = here_of same name (past log) beginning map i c done m known s u midst.event_so
 
     keeps_now : KeepsValue d.call d.replies (machine_of u) value
     keeps_now =

@@ -73,6 +73,7 @@ use Rattle.papaya_events.proofs.OfCalls.Words.{shows_none}
 use Rattle.papaya_scheduler.specs.Given.Executor.IsThere.{KeepsGiven, held_by}
 use Rattle.papaya_folded.specs.Given.Scenes.Scene.{Scene, slot_of}
 use Rattle.papaya_folded.specs.Given.Scenes.Stepping.{StepLeads, has_ended, scene_after}
+use Rattle.papaya_folded.specs.Given.Schedules.Transition.{past}
 
 one_more : (n : ℕ) → n + 1 ≡ suc n
 one_more n = omega arith
@@ -139,7 +140,7 @@ module _ {K V S : Type 0} (same : K → K → Bool) (hash : K → ℕ) (name : �
   -- a step from there
   module _ (n : ℕ) (mid after : List Effect) (p new : Scheduler K V S) (come : HasCome n mid p) (step : IsStep same hash place mid after p new) where
     abbrev pub its_here : come.scene.calls map i ≡ Some come.under
-    its_here = here_of same name log beginning map i c mid come.now (known p.logged.notes) come.scene come.under come.midst.event_so
+    its_here = here_of same name (past log) beginning map i c mid come.now (known p.logged.notes) come.scene come.under come.midst.event_so
 
     pub caller_is : step.caller ≡ come.caller
     caller_is = the step.caller come.caller (sym step.at ∙ come.at)

@@ -50,6 +50,7 @@ use Rattle.papaya_events.specs.OfCalls.{Runs, RunsOn}
 use Rattle.papaya_events.specs.OfRows.{is_of_rows}
 use Rattle.papaya_events.proofs.OfCalls.AsBefore.{as_before}
 use Rattle.papaya_events.proofs.OfRows.Facts.{inside_by, slot_is}
+use Rattle.papaya_folded.specs.Given.Schedules.Transition.{past, transition}
 
 none_made : (q : Bool) → (not q || true) ≡ true
 none_made true = refl
@@ -74,7 +75,7 @@ module _ {K V : Type 0} where
     record {
       brief = subst (λ (o : Option (List ℕ)). IfCall (λ (c : CallThere K V). IsBrief c.call c (moments_from c.begun log) (worked e (moment log)) (c.steps + e.steps)) (acting o (worked e (moment log))))
           (sym still.caller) tt;
-      linearizable = no_calls_are_linearizable K V same log e still.caller (ap (flat_map shift_of) nothing);
+      linearizable = no_calls_are_linearizable K V same (past log) (transition log e) still.caller (ap (flat_map shift_of) nothing);
       swept = no_calls_are_swept K V same terms log e still.caller;
       life = record {
         finds = subst (λ (fs : List Effect). AtEachEffect (Finds terms (caller_of e.event) (acted_on e.event (at_work e (moment log))) (gives_all e.event)

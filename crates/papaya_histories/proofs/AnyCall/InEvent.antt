@@ -12,11 +12,9 @@ use Rattle.papaya_moments.specs.Given.Schedules.declared.call.Reply.{Reply}
 use Rattle.papaya_moments.specs.Given.Schedules.declared.effect.Effect.{Effect}
 use Rattle.papaya_moments.specs.Given.Schedules.declared.outcome.Outcome.{Outcome}
 use Rattle.papaya_moments.specs.Given.Schedules.declared.outcome.Outcome.TheVariants as outcome
-use Rattle.papaya_moments.specs.Given.Schedules.After.{moment}
-use Rattle.papaya_moments.specs.Given.Schedules.Beginning.{at_work, fresh_call, with_call}
+use Rattle.papaya_moments.specs.Given.Schedules.Beginning.{fresh_call, with_call}
 use Rattle.papaya_moments.specs.Given.Schedules.Effects.{with_effects}
-use Rattle.papaya_moments.specs.Given.Schedules.Entry.{Entry, caller_of, acted_on}
-use Rattle.papaya_moments.specs.Given.Schedules.Linearizable.{IsLinearizable}
+use Rattle.papaya_moments.specs.Given.Schedules.Linearizable.{Linearizes}
 use Rattle.papaya_moments.specs.Given.Schedules.Moment.{UnderWay as CallThere, Moment}
 use Rattle.papaya_moments.specs.Given.Schedules.Views.{call_of}
 use Rattle.papaya_moments.specs.Given.Points.FactsCalls.{Unchanged}
@@ -41,7 +39,7 @@ use Rattle.papaya_histories.specs.Histories.{began_of}
 use Rattle.papaya_histories.specs.InEvent.{ComesSo, InEvent, EventsBegin, EventsBeginCalls, EventsGoOn, EventsKeepAll, EventsHaveWords, EventsEnd}
 use Rattle.papaya_histories.specs.OtherCalls.{IsOnNoKey}
 use Rattle.papaya_histories.specs.OtherMidsts.{AsksAsSaid, InOtherMidst}
-use Rattle.papaya_histories.specs.Questions.{ShowsQuestions, EventAsksStill}
+use Rattle.papaya_histories.specs.Questions.{ShowsQuestions, AsksOnStill}
 use Rattle.papaya_histories.specs.Several.{InMidst}
 use Rattle.papaya_histories.proofs.NoKey.AsCalled.{calls_keep_as_called}
 use Rattle.papaya_histories.proofs.NoKey.AsCalledOn.{calls_begin_as_called}
@@ -56,6 +54,7 @@ use Rattle.papaya_moments.specs.Given.Scenes.Held.{Held, IsAt}
 use Rattle.papaya_moments.specs.Given.Scenes.Replying.{scene_with}
 use Rattle.papaya_moments.specs.Given.Scenes.Scene.{Scene}
 use Rattle.papaya_moments.specs.Given.Scenes.Stepping.{StepLeads, scene_after}
+use Rattle.papaya_moments.specs.Given.Schedules.Transition.{Past, Transition}
 
 module _ {K V : Type 0} (same : K → K → Bool) where
   -- a call on one key was called on it, and any other one on none
@@ -124,7 +123,7 @@ module _ {K V : Type 0} (same : K → K → Bool) (hash : ℕ → K → ℕ) (s 
     other_still (OverAll o) other (p2, end, machine_is, told_is, inl (step, moved)) = subst (IsOther same) (sym (sweep_goes_on _ end next (sym moved.2 ∙ goes))) tt
     other_still (OverAll o) other (p2, end, machine_is, told_is, inr (row, stayed)) = subst (IsOther same) (sym (sweep_goes_on _ end next (sym stayed.2 ∙ goes))) tt
 
-module _ {K V : Type 0} (same : K → K → Bool) (name : ℕ → List ℕ) (log : List (Entry K V)) (beginning : Moment K V) (map i : ℕ) (c : CallThere K V) (done : List Effect) (m : Moment K V) (known : Known)
+module _ {K V : Type 0} (same : K → K → Bool) (name : ℕ → List ℕ) (log : Past K V) (beginning : Moment K V) (map i : ℕ) (c : CallThere K V) (done : List Effect) (m : Moment K V) (known : Known)
     (s : Scene K V) where
   -- of one on no key it is what it is of such calls
   of_other : (u : UnderWay K V K) → IsOther same u → InOtherMidst same name log beginning map i c done m known s u → InEvent same name log beginning map i c done m known s u
@@ -148,13 +147,13 @@ module _ (K V : Type 0) (same : K → K → Bool) (hash : ℕ → K → ℕ) whe
       other_midsts_begin K V same name log beginning begins known s whole dues called map i (OverAll o) here c c_is
       (on_none same (OverAll o) c.call tt (called_so same name beginning known s dues.history.shown map i (OverAll o) here c c_is))
 
-  module _ (name : ℕ → List ℕ) (log : List (Entry K V)) (known : Known) (s : Scene K V) (old : Held K V) (at_old : IsAt same hash old s)
-      (whole : ShowsWhole same name (moment log) known s) (dues : ShowsDue same name log (moment log) known s) (all : ShowsAsCalled same name (moment log) known s)
+  module _ (name : ℕ → List ℕ) (log : Past K V) (known : Known) (s : Scene K V) (old : Held K V) (at_old : IsAt same hash old s)
+      (whole : ShowsWhole same name log.now known s) (dues : ShowsDue same name log log.now known s) (all : ShowsAsCalled same name log.now known s)
       (map i : ℕ) (guard : List ℕ) (standing : Standing K) (there : s.maps map ≡ Some standing) (apart : NoneNamed name (name i) s) (rests : s.world.row i ≡ Rests) where
     abbrev Begins : UnderWay K V K → Call K V → Type 0
     Begins x y =
-        (let beginning = with_call (name i) guard y (Some map) (moment log) in
-        let c = fresh_call (name i) guard y map (moment log).events in
+        (let beginning = with_call (name i) guard y (Some map) log.now in
+        let c = fresh_call (name i) guard y map log.now.events in
         (call_of (name i) beginning ≡ Some c) × InEvent same name log beginning map i c [] beginning known (scene_with map i x s) x)
 
     abbrev BeganNow : UnderWay K V K → Type 0
@@ -164,7 +163,7 @@ module _ (K V : Type 0) (same : K → K → Bool) (hash : ℕ → K → ℕ) whe
     others_begin x its other now called begun_as =
         let it = other_midsts_begin_calls K V same hash name log known s old at_old whole dues all map i x its guard standing there now apart called (on_none same x its other called) begun_as rests in (
           it.0,
-          of_other same name log (with_call (name i) guard its (Some map) (moment log)) map i (fresh_call (name i) guard its map (moment log).events) [] (with_call (name i) guard its (Some map) (moment log))
+          of_other same name log (with_call (name i) guard its (Some map) log.now) map i (fresh_call (name i) guard its map log.now.events) [] (with_call (name i) guard its (Some map) log.now)
               known (scene_with map i x s) x other it.1,
         )
 
@@ -172,7 +171,7 @@ module _ (K V : Type 0) (same : K → K → Bool) (hash : ℕ → K → ℕ) whe
         → IsAt same hash new (scene_with map i (OnKey x) s) → Begins (OnKey x) (call.On one)
     key_begins x one now unchanged called begun new at_new =
         let it = midsts_begin_calls K V same hash name log known s old at_old whole dues map i x one guard standing there (now x.began refl) unchanged apart called begun rests new at_new in
-        (it.0, (one, refl, it.1, calls_begin_as_called K V same name (moment log) known s all map i (OnKey x) (call.On one) guard apart called tt))
+        (it.0, (one, refl, it.1, calls_begin_as_called K V same name log.now known s all map i (OnKey x) (call.On one) guard apart called tt))
 
   pub events_begin_calls : EventsBeginCalls K V same hash
   events_begin_calls name log known s old at_old whole dues all map i (OnKey x) its guard standing there now unchanged apart called begun begun_as rests new at_new =
@@ -187,7 +186,7 @@ module _ (K V : Type 0) (same : K → K → Bool) (hash : ℕ → K → ℕ) whe
   events_begin_calls name log known s old at_old whole dues all map i (OverAll o) its guard standing there now unchanged apart called begun begun_as rests new at_new =
       others_begin name log known s old at_old whole dues all map i guard standing there apart rests (OverAll o) its tt now called begun_as
 
-  module _ (name : ℕ → List ℕ) (log : List (Entry K V)) (beginning : Moment K V) (map i : ℕ) (c : CallThere K V) (done : List Effect) (m : Moment K V) (known : Known) (s : Scene K V)
+  module _ (name : ℕ → List ℕ) (log : Past K V) (beginning : Moment K V) (map i : ℕ) (c : CallThere K V) (done : List Effect) (m : Moment K V) (known : Known) (s : Scene K V)
       (old new : Held K V) (at_old : IsAt same hash old s) (said : Progress (Node K V)) (leads : StepLeads same hash i said s old new) where
     abbrev m2 : Moment K V
     m2 = with_effects (Some (name i)) (Some map) (effects_of (acts.Call i map) known new.changed) m
@@ -279,30 +278,30 @@ module _ (K V : Type 0) (same : K → K → Bool) (hash : ℕ → K → ℕ) whe
   events_have_words name log beginning map i c done m known s (Counting sum) midst old new at_old said leads = other_says name log beginning map i c done m known s old new at_old said leads (Counting sum) tt midst
   events_have_words name log beginning map i c done m known s (OverAll o) midst old new at_old said leads = other_says name log beginning map i c done m known s old new at_old said leads (OverAll o) tt midst
 
-  module _ (name : ℕ → List ℕ) (log : List (Entry K V)) (beginning : Moment K V) (map i : ℕ) (c : CallThere K V) (c_is : call_of (name i) beginning ≡ Some c)
+  module _ (name : ℕ → List ℕ) (log : Past K V) (beginning : Moment K V) (map i : ℕ) (c : CallThere K V) (c_is : call_of (name i) beginning ≡ Some c)
       (done : List Effect) (m : Moment K V) (known : Known) (s : Scene K V) (old new : Held K V) (at_old : IsAt same hash old s) (said : Progress (Node K V)) (leads : StepLeads same hash i said s old new)
-      (e : Entry K V) (is_caller : caller_of e.event ≡ Some (name i)) (begun : at_work e (moment log) ≡ beginning) (acts_on : acted_on e.event beginning ≡ Some map)
-      (effects_are : e.effects ≡ done ++ effects_of (acts.Call i map) known new.changed) (comes : ComesSo (known_after (acts.Call i map) new.changed known) c.call c.replies said e.outcome) where
-    other_ends : (u : UnderWay K V K) → InOtherMidst same name log beginning map i c done m known s u → IsLinearizable same log e × EventAsksStill log e
+      (t : Transition K V) (is_caller : t.caller ≡ Some (name i)) (begun : t.found ≡ beginning) (acts_on : t.map ≡ Some map)
+      (effects_are : t.effects ≡ done ++ effects_of (acts.Call i map) known new.changed) (comes : ComesSo (known_after (acts.Call i map) new.changed known) c.call c.replies said t.outcome) where
+    other_ends : (u : UnderWay K V K) → InOtherMidst same name log beginning map i c done m known s u → Linearizes same log t × AsksOnStill t
     other_ends u midst =
-        let as_said = comes_of_none same (known_after (acts.Call i map) new.changed known) c.replies said e.outcome c.call midst.other comes in (
-          other_midsts_end K V same hash name log beginning map i c c_is done m known s u midst old new at_old said leads e is_caller begun acts_on effects_are as_said,
-          other_midsts_ask_still K V same hash name log beginning map i c c_is done m known s u midst old new at_old said leads e is_caller begun acts_on effects_are as_said,
+        let as_said = comes_of_none same (known_after (acts.Call i map) new.changed known) c.replies said t.outcome c.call midst.other comes in (
+          other_midsts_end K V same hash name log beginning map i c c_is done m known s u midst old new at_old said leads t is_caller begun acts_on effects_are as_said,
+          other_midsts_ask_still K V same hash name log beginning map i c c_is done m known s u midst old new at_old said leads t is_caller begun acts_on effects_are as_said,
         )
 
-    key_ends : (x : CallOnKey K V K) (one : OneKey K V) → c.call ≡ call.On one → ShowsQuestions beginning → InMidst same name log beginning map i one c done m known s x → IsLinearizable same log e × EventAsksStill log e
+    key_ends : (x : CallOnKey K V K) (one : OneKey K V) → c.call ≡ call.On one → ShowsQuestions beginning → InMidst same name log beginning map i one c done m known s x → Linearizes same log t × AsksOnStill t
     key_ends x one one_is questions midst =
-        let to_it = comes_of_key same (known_after (acts.Call i map) new.changed known) c.replies said e.outcome c.call one one_is comes in (
-          midsts_end K V same hash name log beginning map i one c c_is one_is questions done m known s x midst old new at_old said leads e is_caller begun acts_on effects_are to_it,
-          midsts_ask_still K V same hash name log beginning map i one c c_is one_is done m known s x midst old new at_old said leads e is_caller begun acts_on effects_are to_it,
+        let to_it = comes_of_key same (known_after (acts.Call i map) new.changed known) c.replies said t.outcome c.call one one_is comes in (
+          midsts_end K V same hash name log beginning map i one c c_is one_is questions done m known s x midst old new at_old said leads t is_caller begun acts_on effects_are to_it,
+          midsts_ask_still K V same hash name log beginning map i one c c_is one_is done m known s x midst old new at_old said leads t is_caller begun acts_on effects_are to_it,
         )
 
   pub events_end : EventsEnd K V same hash
-  events_end name log beginning map i c c_is questions done m known s (OnKey x) midst old new at_old said leads e is_caller begun acts_on effects_are comes =
-      key_ends name log beginning map i c c_is done m known s old new at_old said leads e is_caller begun acts_on effects_are comes x midst.0 midst.1 questions midst.2
-  events_end name log beginning map i c c_is questions done m known s (ForRoom r) midst old new at_old said leads e is_caller begun acts_on effects_are comes =
-      other_ends name log beginning map i c c_is done m known s old new at_old said leads e is_caller begun acts_on effects_are comes (ForRoom r) midst
-  events_end name log beginning map i c c_is questions done m known s (Counting sum) midst old new at_old said leads e is_caller begun acts_on effects_are comes =
-      other_ends name log beginning map i c c_is done m known s old new at_old said leads e is_caller begun acts_on effects_are comes (Counting sum) midst
-  events_end name log beginning map i c c_is questions done m known s (OverAll o) midst old new at_old said leads e is_caller begun acts_on effects_are comes =
-      other_ends name log beginning map i c c_is done m known s old new at_old said leads e is_caller begun acts_on effects_are comes (OverAll o) midst
+  events_end name log beginning map i c c_is questions done m known s (OnKey x) midst old new at_old said leads t is_caller begun acts_on effects_are comes =
+      key_ends name log beginning map i c c_is done m known s old new at_old said leads t is_caller begun acts_on effects_are comes x midst.0 midst.1 questions midst.2
+  events_end name log beginning map i c c_is questions done m known s (ForRoom r) midst old new at_old said leads t is_caller begun acts_on effects_are comes =
+      other_ends name log beginning map i c c_is done m known s old new at_old said leads t is_caller begun acts_on effects_are comes (ForRoom r) midst
+  events_end name log beginning map i c c_is questions done m known s (Counting sum) midst old new at_old said leads t is_caller begun acts_on effects_are comes =
+      other_ends name log beginning map i c c_is done m known s old new at_old said leads t is_caller begun acts_on effects_are comes (Counting sum) midst
+  events_end name log beginning map i c c_is questions done m known s (OverAll o) midst old new at_old said leads t is_caller begun acts_on effects_are comes =
+      other_ends name log beginning map i c c_is done m known s old new at_old said leads t is_caller begun acts_on effects_are comes (OverAll o) midst

@@ -1,6 +1,6 @@
 -- Once an event of steps of a call is over, the moment after it shows all of the scene, what calls owe, and what those on no key are called for, told and ask.
-use Rattle.std.specs.Prelude.{◌≡◌, ℕ, Bool, true, false, List, ◌∷◌, Option, Some, None}
-use Rattle.std.proofs.Common.{refl, ap, sym, ◌∙◌, inl, inr}
+use Rattle.std.specs.Prelude.{◌≡◌, ℕ, Bool, true, false, List, ◌∷◌, Option, Some, None, length, suc}
+use Rattle.std.proofs.Common.{refl, ap, sym, ◌∙◌, inl, inr, arith}
 use Rattle.papaya_moments.specs.Given.Tables.declared.node.Node.{Node}
 use Rattle.papaya_moments.specs.Given.Runs.Same.{is_same}
 use Rattle.papaya_moments.specs.Given.Raw.declared.machines.machine.Machine.{Machine}
@@ -37,6 +37,7 @@ use Rattle.papaya_histories.proofs.Aside.Stays.{dues_stay, as_called_stays}
 use Rattle.papaya_moments.specs.Given.Scenes.Held.{Held}
 use Rattle.papaya_moments.specs.Given.Scenes.Scene.{Scene}
 use Rattle.papaya_moments.specs.Given.Scenes.Stepping.{StepLeads, has_ended, scene_after}
+use Rattle.papaya_moments.specs.Given.Schedules.Transition.{past}
 
 module _ {K V : Type 0} where
   pub like_over : (log : List (Entry K V)) (e : Entry K V) (own : List ℕ) (m2 : Moment K V) → caller_of e.event ≡ Some own → worked e (moment log) ≡ m2 → HasSame (come_to own e.outcome e.steps m2) (moment (e ∷ log))
@@ -55,7 +56,7 @@ module _ {K V : Type 0} where
   gone machine (progress.Refused fault) next e it = it
   gone machine _ next e it = absurd (cc e)
 
-module _ {K V : Type 0} (same : K → K → Bool) (hash : ℕ → K → ℕ) (name : ℕ → List ℕ) (log : List (Entry K V)) (m : Moment K V) (known : Known) (s : Scene K V) (dues : ShowsDue same name log m known s)
+module _ {K V : Type 0} (same : K → K → Bool) (hash : ℕ → K → ℕ) (name : ℕ → List ℕ) (log : List (Entry K V)) (m : Moment K V) (known : Known) (s : Scene K V) (dues : ShowsDue same name (past log) m known s)
     (map i : ℕ) (u : UnderWay K V K) (here : s.calls map i ≡ Some u) (old new : Held K V) (said : Progress (Node K V)) (leads : StepLeads same hash i said s old new) (e : Entry K V)
     (ends : ends_call e.outcome ≡ has_ended said) where
   abbrev known2 : Known
@@ -92,15 +93,18 @@ module _ {K V : Type 0} (same : K → K → Bool) (hash : ℕ → K → ℕ) (na
     ]
 
     module _ (is_caller : caller_of e.event ≡ Some (name i)) (worked_is : worked e (moment log) ≡ m2) where
+      counted : (moment (e ∷ log)).events ≡ suc (length log)
+      counted = let before = dues.history.past.counted in omega (arith, before)
+
       pub all_over : ShowsWhole same name m2 known2 s2 → ShowsWhole same name (moment (e ∷ log)) known2 s2
       all_over whole2 = whole_over same name log e (name i) m2 is_caller worked_is known2 s2
           (calls_come_to_whole K V same name m2 known2 s2 whole2 (name i) e.outcome e.steps none_named (λ n j x is named. (asks_just n j x is named).0))
 
-      pub due_over : ShowsDue same name log m2 known2 s2 → ShowsDue same name (e ∷ log) (moment (e ∷ log)) known2 s2
-      due_over dues2 = events_keep_due K V same name log e known2 s2
-          ((dues_stay K V same hash name log).alike (come_to (name i) e.outcome e.steps m2) (moment (e ∷ log)) known2 s2
-          (calls_come_to_due K V same name log m2 known2 s2 dues2 (name i) e.outcome e.steps none_named (λ n j x is named. (asks_just n j x is named).0))
-          (like_over log e (name i) m2 is_caller worked_is))
+      pub due_over : ShowsDue same name (past log) m2 known2 s2 → ShowsDue same name (past (e ∷ log)) (moment (e ∷ log)) known2 s2
+      due_over dues2 = events_keep_due K V same name (past log) (moment (e ∷ log)) known2 s2
+          ((dues_stay K V same hash name (past log)).alike (come_to (name i) e.outcome e.steps m2) (moment (e ∷ log)) known2 s2
+          (calls_come_to_due K V same name (past log) m2 known2 s2 dues2 (name i) e.outcome e.steps none_named (λ n j x is named. (asks_just n j x is named).0))
+          (like_over log e (name i) m2 is_caller worked_is)) counted
 
       pub as_called_over : ShowsAsCalled same name m2 known2 s2 → ShowsAsCalled same name (moment (e ∷ log)) known2 s2
       as_called_over called2 =
@@ -110,13 +114,13 @@ module _ {K V : Type 0} (same : K → K → Bool) (hash : ℕ → K → ℕ) (na
 
 module _ {K V : Type 0} (same : K → K → Bool) (name : ℕ → List ℕ) (log : List (Entry K V)) (beginning : Moment K V) (map i : ℕ) (c : CallThere K V) (done : List Effect) (m : Moment K V) (known : Known)
     (s : Scene K V) where
-  dues_of : (u : UnderWay K V K) → InEvent same name log beginning map i c done m known s u → ShowsDue same name log m known s
+  dues_of : (u : UnderWay K V K) → InEvent same name (past log) beginning map i c done m known s u → ShowsDue same name (past log) m known s
   dues_of (OnKey x) midst = midst.2.dues
   dues_of (ForRoom r) midst = midst.dues
   dues_of (Counting sum) midst = midst.dues
   dues_of (OverAll o) midst = midst.dues
 
-  worked_of : (u : UnderWay K V K) → InEvent same name log beginning map i c done m known s u → m ≡ with_effects (Some (name i)) (Some map) done beginning
+  worked_of : (u : UnderWay K V K) → InEvent same name (past log) beginning map i c done m known s u → m ≡ with_effects (Some (name i)) (Some map) done beginning
   worked_of (OnKey x) midst = midst.2.worked
   worked_of (ForRoom r) midst = midst.worked
   worked_of (Counting sum) midst = midst.worked
@@ -126,19 +130,19 @@ module _ (K V : Type 0) (same : K → K → Bool) (hash : ℕ → K → ℕ) whe
   pub events_are_over : EventsAreOver K V same hash
   events_are_over name log beginning map i c done m known s u midst old new at_old said leads e is_caller begun acts_on effects_are comes ends = (
     all_over same hash name log m known s (dues_of same name log beginning map i c done m known s u midst) map i u
-        (here_of same name log beginning map i c done m known s u midst) old new said leads e ends asks is_caller worked_is
-        (events_keep_all K V same hash name log beginning map i c done m known s u midst old new at_old said leads).0,
+        (here_of same name (past log) beginning map i c done m known s u midst) old new said leads e ends asks is_caller worked_is
+        (events_keep_all K V same hash name (past log) beginning map i c done m known s u midst old new at_old said leads).0,
     due_over same hash name log m known s (dues_of same name log beginning map i c done m known s u midst) map i u
-        (here_of same name log beginning map i c done m known s u midst) old new said leads e ends asks is_caller worked_is
-        (events_keep_all K V same hash name log beginning map i c done m known s u midst old new at_old said leads).1,
+        (here_of same name (past log) beginning map i c done m known s u midst) old new said leads e ends asks is_caller worked_is
+        (events_keep_all K V same hash name (past log) beginning map i c done m known s u midst old new at_old said leads).1,
     as_called_over same hash name log m known s (dues_of same name log beginning map i c done m known s u midst) map i u
-        (here_of same name log beginning map i c done m known s u midst) old new said leads e ends asks is_caller worked_is
-        (events_keep_all K V same hash name log beginning map i c done m known s u midst old new at_old said leads).2,
+        (here_of same name (past log) beginning map i c done m known s u midst) old new said leads e ends asks is_caller worked_is
+        (events_keep_all K V same hash name (past log) beginning map i c done m known s u midst old new at_old said leads).2,
   )
     where
-      asks : (x : UnderWay K V K) → (leads map u (here_of same name log beginning map i c done m known s u midst)).4.next ≡ Some x
+      asks : (x : UnderWay K V K) → (leads map u (here_of same name (past log) beginning map i c done m known s u midst)).4.next ≡ Some x
           → AsksJust (known_after (acts.Call i map) new.changed known) x e.outcome × AsksAsCalled (known_after (acts.Call i map) new.changed known) x e.outcome
-      asks x goes = events_ask_there K V same hash name log beginning map i c done m known s u midst old new at_old said leads e.outcome comes x goes
+      asks x goes = events_ask_there K V same hash name (past log) beginning map i c done m known s u midst old new at_old said leads e.outcome comes x goes
 
       worked_is : worked e (moment log) ≡ with_effects (Some (name i)) (Some map) (effects_of (acts.Call i map) known new.changed) m
       worked_is =

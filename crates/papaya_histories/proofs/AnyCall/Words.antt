@@ -17,6 +17,7 @@ use Rattle.papaya_moments.specs.Given.Callers.Asked.{Asked, is_about, last_told,
 use Rattle.papaya_moments.specs.Given.Callers.Pairs.{Given, Begun, IsTold, kind_of}
 use Rattle.papaya_moments.specs.Given.Hands.Asked.{as_told, given_by, IsSameQuestion, AreReplies}
 use Rattle.papaya_moments.proofs.Given.Hands.Replies.{told_as}
+use Rattle.papaya_moments.specs.Given.Schedules.Transition.{further}
 
 module _ {V : Type 0} where
   -- what was told to abort was that, and what was told not to remove a pair was a no

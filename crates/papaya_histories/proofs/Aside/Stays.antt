@@ -9,8 +9,6 @@ use Rattle.papaya_moments.specs.Given.Runs.Same.{is_same}
 use Rattle.papaya_moments.specs.Given.Sweeps.declared.sweep.Sweeping.{Sweeping}
 use Rattle.papaya_moments.specs.Given.Sweeps.declared.sweep.Sweeping.TheVariants as at
 use Rattle.papaya_moments.specs.Given.Schedules.declared.outcome.Outcome.TheVariants.{Refused}
-use Rattle.papaya_moments.specs.Given.Schedules.After.{moments_from}
-use Rattle.papaya_moments.specs.Given.Schedules.Entry.{Entry}
 use Rattle.papaya_moments.specs.Given.Schedules.Moment.{UnderWay as CallThere, Moment}
 use Rattle.papaya_moments.specs.Given.Schedules.Views.{call_of}
 use Rattle.papaya_moments.specs.Given.Rule.Chart.{Chart, Holds, Still}
@@ -45,6 +43,7 @@ use Rattle.papaya_histories.proofs.Aside.WalksOn.{walk_history, walk_due, walk_a
 use Rattle.papaya_histories.proofs.Within.{within_alike}
 use Rattle.papaya_moments.specs.Given.Scenes.Held.{Held, IsAt}
 use Rattle.papaya_moments.specs.Given.Scenes.Scene.{Scene, slot_of}
+use Rattle.papaya_moments.specs.Given.Schedules.Transition.{Past}
 
 -- the same pairs were stored and lie where they lay, and no call comes
 module _ {K V : Type 0} (same : K → K → Bool) (name : ℕ → List ℕ) (m m2 : Moment K V) (known : Known) (s s2 : Scene K V) (calls : m2.calls ≡ m.calls)
@@ -55,7 +54,7 @@ module _ {K V : Type 0} (same : K → K → Bool) (name : ℕ → List ℕ) (m m
   stood : (n : ℕ) (st : Standing K) → s2.maps n ≡ Some st → s.maps n ≡ Some st
   stood n st is = subst (λ (f : ℕ → Option (Standing K)). f n ≡ Some st) maps is
 
-  module _ (place : m2.place ≡ m.place) (stored : m2.stored ≡ m.stored) (log : List (Entry K V)) where
+  module _ (place : m2.place ≡ m.place) (stored : m2.stored ≡ m.stored) (log : Past K V) where
     module _ (history : ShowsHistory same name log m known s) (after : ShowsAfter same name m known s history.shown m2 known s2) where
       between_asked : ShowsAsked name after.shows.number m2 known s2
       between_asked = record {
@@ -66,11 +65,12 @@ module _ {K V : Type 0} (same : K → K → Bool) (name : ℕ → List ℕ) (m m
 
       pub between_history : ShowsHistory same name log m2 known s2
       between_history = record {
+        past = history.past;
         shown = after.shows;
         asked = between_asked;
         begun = λ n j x is c found. history.begun n j x (fewer n j x is) c (was_called j c found);
         within = λ n j x is st there c found began began_is. subst (λ (f : ℕ → ℕ). IsWithin same n st f (since log m2 c) began) (sym (after.numbers n st (stood n st there)))
-            (within_alike same n st (history.shown.number n) (moments_from c.begun log) m m2 began (λ k. map_alike same n k m m2 place stored)
+            (within_alike same n st (history.shown.number n) (log.since c.begun) m m2 began (λ k. map_alike same n k m m2 place stored)
             (history.within n j x (fewer n j x is) st (stood n st there) c (was_called j c found) began began_is));
       }
 

@@ -7,7 +7,6 @@ use Rattle.papaya_moments.specs.Given.Sweeps.declared.sweep.Sweeping.TheVariants
 use Rattle.papaya_moments.specs.Given.Schedules.declared.call.Call.{Call}
 use Rattle.papaya_moments.specs.Given.Schedules.declared.call.Call.TheVariants.{On}
 use Rattle.papaya_moments.specs.Given.Schedules.declared.call.OneKey.{OneKey}
-use Rattle.papaya_moments.specs.Given.Schedules.Entry.{Entry}
 use Rattle.papaya_moments.specs.Given.Schedules.Moment.{UnderWay as CallThere, Moment}
 use Rattle.papaya_moments.specs.Given.Schedules.Views.{call_of}
 use Rattle.papaya_moments.specs.Given.Callers.OverAll.{CallOverAll, gone_on}
@@ -26,6 +25,7 @@ use Rattle.papaya_histories.specs.Histories.{began_of, ShowsHistory, StaysWithin
 use Rattle.papaya_histories.proofs.Calling.{calls_changed}
 use Rattle.papaya_moments.specs.Given.Scenes.Replying.{scene_with}
 use Rattle.papaya_moments.specs.Given.Scenes.Scene.{Scene}
+use Rattle.papaya_moments.specs.Given.Schedules.Transition.{Past}
 
 module _ {K V : Type 0} (same : K → K → Bool) (name : ℕ → List ℕ) (m : Moment K V) (known : Known) (s : Scene K V) (map i : ℕ) (o : CallOverAll) (here : s.calls map i ≡ Some (OverAll o)) where
   abbrev walk : UnderWay K V K
@@ -52,7 +52,7 @@ module _ {K V : Type 0} (same : K → K → Bool) (name : ℕ → List ℕ) (m :
   was_there n j x (inl a) = (OverAll o, ap (λ (k : ℕ). s.calls k j) a.0 ∙ ap (s.calls map) a.1 ∙ here, ap (λ (y : UnderWay K V K). began_of y) (sym (one_of walk x a.2)))
   was_there n j x (inr a) = (x, a.1, refl)
 
-  module _ (log : List (Entry K V)) where
+  module _ (log : Past K V) where
     module _ (history : ShowsHistory same name log m known s) where
       asked_then : ShowsAsked name history.shown.number m known s2
       asked_then = record {

@@ -7,15 +7,12 @@ use Rattle.papaya_moments.specs.Given.Schedules.declared.call.Call.TheVariants a
 use Rattle.papaya_moments.specs.Given.Schedules.declared.effect.Effect.{Effect}
 use Rattle.papaya_moments.specs.Given.Schedules.declared.outcome.Outcome.{Outcome}
 use Rattle.papaya_moments.specs.Given.Schedules.declared.outcome.Outcome.TheVariants as outcome
-use Rattle.papaya_moments.specs.Given.Schedules.After.{moment, moments_from}
-use Rattle.papaya_moments.specs.Given.Schedules.Beginning.{at_work}
-use Rattle.papaya_moments.specs.Given.Schedules.Effects.{worked}
-use Rattle.papaya_moments.specs.Given.Schedules.Entry.{Entry, caller_of, acting}
-use Rattle.papaya_moments.specs.Given.Schedules.Linearizable.{shift_of, Changes, Ends, ActsRight, ActsOf}
+use Rattle.papaya_moments.specs.Given.Schedules.Linearizable.{shift_of, Changes, Ends, IsRight, IsRightOf}
 use Rattle.papaya_moments.specs.Given.Schedules.Moment.{UnderWay as CallThere, Moment}
 use Rattle.papaya_moments.specs.Given.Schedules.Sequential.{Shift}
 use Rattle.papaya_histories.specs.OtherCalls.{IsIdle, IdleAreLinearizable}
 use Rattle.papaya_histories.proofs.OtherCalls.{IsNoQuestion, asks_none}
+use Rattle.papaya_moments.specs.Given.Schedules.Transition.{Past, Transition, call_found, call_left}
 
 no_question : {V : Type 0} (o : Outcome V) → IsIdle o → IsNoQuestion o
 no_question (outcome.Asks question) idle = idle
@@ -41,21 +38,21 @@ module _ {K V : Type 0} (same : K → K → Bool) where
   ends_none call.Len c moments o idle = tt
   ends_none call.Walk c moments o idle = tt
 
-  module _ (log : List (Entry K V)) (e : Entry K V) (none : e.effects ≡ []) (idle : IsIdle e.outcome) where
-    shifts_none : flat_map shift_of e.effects ≡ []
+  module _ (log : Past K V) (t : Transition K V) (none : t.effects ≡ []) (idle : IsIdle t.outcome) where
+    shifts_none : flat_map shift_of t.effects ≡ []
     shifts_none = subst (λ (l : List Effect). flat_map shift_of l ≡ []) (sym none) refl
 
-    right : (before c : CallThere K V) → ActsRight same log e before c
+    right : (before c : CallThere K V) → IsRight same log t before c
     right before c = record {
-      changes = subst (λ (l : List Shift). Changes same before.call before (at_work e (moment log)) l) (sym shifts_none) (changes_none before.call before (at_work e (moment log)));
-      ends = ends_none c.call c (moments_from c.begun log) e.outcome idle;
-      asks = asks_none same c (moments_from c.begun log) c.stands e.outcome (no_question e.outcome idle);
+      changes = subst (λ (l : List Shift). Changes same before.call before t.found l) (sym shifts_none) (changes_none before.call before t.found);
+      ends = ends_none c.call c (log.since c.begun) t.outcome idle;
+      asks = asks_none same c (log.since c.begun) c.stands t.outcome (no_question t.outcome idle);
     }
 
-    acts_none : (before after : Option (CallThere K V)) → ActsOf same log e before after
+    acts_none : (before after : Option (CallThere K V)) → IsRightOf same log t before after
     acts_none (Some before) (Some c) = right before c
     acts_none (Some before) None = shifts_none
     acts_none None after = shifts_none
 
 pub idle_are_linearizable : (K V : Type 0) (same : K → K → Bool) → IdleAreLinearizable K V same
-idle_are_linearizable K V same log e none idle = acts_none same log e none idle (acting (caller_of e.event) (at_work e (moment log))) (acting (caller_of e.event) (worked e (moment log)))
+idle_are_linearizable K V same log t none idle = acts_none same log t none idle (call_found t) (call_left t)

@@ -20,11 +20,9 @@ use Rattle.papaya_moments.specs.Given.Schedules.declared.call.Call.TheVariants a
 use Rattle.papaya_moments.specs.Given.Schedules.declared.effect.Effect.{Effect}
 use Rattle.papaya_moments.specs.Given.Schedules.declared.outcome.Outcome.{Outcome}
 use Rattle.papaya_moments.specs.Given.Schedules.declared.outcome.Outcome.TheVariants as outcome
-use Rattle.papaya_moments.specs.Given.Schedules.After.{moment, moments_from}
-use Rattle.papaya_moments.specs.Given.Schedules.Beginning.{at_work}
-use Rattle.papaya_moments.specs.Given.Schedules.Effects.{with_effects, worked}
-use Rattle.papaya_moments.specs.Given.Schedules.Entry.{Entry, caller_of, acting, acted_on, IfCall}
-use Rattle.papaya_moments.specs.Given.Schedules.Linearizable.{shift_of, RemovesOnly, MayAsk, AsksRight, IsLinearizable}
+use Rattle.papaya_moments.specs.Given.Schedules.Effects.{with_effects}
+use Rattle.papaya_moments.specs.Given.Schedules.Entry.{acting, IfCall}
+use Rattle.papaya_moments.specs.Given.Schedules.Linearizable.{shift_of, RemovesOnly, MayAsk, AsksRight, Linearizes}
 use Rattle.papaya_moments.specs.Given.Schedules.Moment.{Stands, Going, Asking, Told, IsReady, UnderWay as CallThere, Moment}
 use Rattle.papaya_moments.specs.Given.Schedules.Views.{call_of, finite_map}
 use Rattle.papaya_moments.specs.Given.Rule.Words.{Blocks}
@@ -45,7 +43,7 @@ use Rattle.papaya_histories.specs.AsCalled.{purpose_of, IsAsCalled, ShowsAsCalle
 use Rattle.papaya_histories.specs.Asking.{IsToldQuestion}
 use Rattle.papaya_histories.specs.Due.{ShowsDue}
 use Rattle.papaya_histories.specs.OtherMidsts.{AsksAsSaid, InOtherMidst, OtherMidstsEnd, OtherMidstsAskStill}
-use Rattle.papaya_histories.specs.Questions.{GoesItself, AsksStill, EventAsksStill}
+use Rattle.papaya_histories.specs.Questions.{GoesItself, AsksStill, AsksOnStill}
 use Rattle.papaya_histories.proofs.NoKey.AsCalled.{calls_keep_as_called}
 use Rattle.papaya_histories.proofs.Found.{map_alike}
 use Rattle.papaya_histories.proofs.OtherCalls.{IsNoQuestion, asks_none, others_are_linearizable}
@@ -56,6 +54,7 @@ use Rattle.papaya_histories.proofs.NoKey.Sweeps.{SweepsOn, sweeps_on, asks_still
 use Rattle.papaya_moments.specs.Given.Scenes.Held.{Held, IsAt}
 use Rattle.papaya_moments.specs.Given.Scenes.Scene.{Scene, slot_of}
 use Rattle.papaya_moments.specs.Given.Scenes.Stepping.{StepLeads, StepsFrom, scene_after}
+use Rattle.papaya_moments.specs.Given.Schedules.Transition.{Past, Transition, worked_by}
 
 -- a reservation and a counting say of nothing that they ask it
 module _ {T : Type 0} where
@@ -82,7 +81,7 @@ no_going : (K : Type 0) {V : Type 0} (known : Known) (about : Option ℕ) (o : O
 no_going K known about (outcome.Asks question) as_said goes = goes
 no_going K known about _ as_said goes = as_said
 
-module _ {K V : Type 0} (same : K → K → Bool) (hash : ℕ → K → ℕ) (name : ℕ → List ℕ) (log : List (Entry K V)) (beginning : Moment K V) (map i : ℕ) (c : CallThere K V)
+module _ {K V : Type 0} (same : K → K → Bool) (hash : ℕ → K → ℕ) (name : ℕ → List ℕ) (log : Past K V) (beginning : Moment K V) (map i : ℕ) (c : CallThere K V)
     (done : List Effect) (m : Moment K V) (known : Known) (s : Scene K V) (u : UnderWay K V K) (midst : InOtherMidst same name log beginning map i c done m known s u)
     (old new : Held K V) (at_old : IsAt same hash old s) where
   abbrev known2 : Known
@@ -120,10 +119,10 @@ module _ {K V : Type 0} (same : K → K → Bool) (hash : ℕ → K → ℕ) (na
     called2 = calls_keep_as_called K V same hash name m known s old new at_old midst.whole midst.called map i u midst.here (progress.Asks about) leads
 
     -- what each class has then
-    fewer_then : (k : K) → (finite_map same map then_at k ≡ finite_map same map (moment log) k) ⊎ (finite_map same map then_at k ≡ None)
+    fewer_then : (k : K) → (finite_map same map then_at k ≡ finite_map same map log.now k) ⊎ (finite_map same map then_at k ≡ None)
     fewer_then k = elim (fewer_so same hash name log beginning map i c done m known s u midst old new at_old (progress.Asks about) leads k)
-        as (λ _. (finite_map same map then_at k ≡ finite_map same map (moment log) k) ⊎ (finite_map same map then_at k ≡ None)) [
-          | inl kept ↦ inl (kept ∙ map_alike same map k (moment log) beginning midst.begins.0 midst.begins.1)
+        as (λ _. (finite_map same map then_at k ≡ finite_map same map log.now k) ⊎ (finite_map same map then_at k ≡ None)) [
+          | inl kept ↦ inl (kept ∙ map_alike same map k log.now beginning midst.begins.0 midst.begins.1)
           | inr gone ↦ inr gone
         ]
 
@@ -197,17 +196,17 @@ module _ {K V : Type 0} (same : K → K → Bool) (hash : ℕ → K → ℕ) (na
           then_is : call_of (name i) then_at ≡ Some call_then
           then_is = d_is same hash name log beginning map i c done m known s u midst old new at_old (progress.Asks about) leads
 
-      may_ask : (question : Option ℕ) → IsToldQuestion known2 (Some word) question → MayAsk same call_then.call call_then (moments_from call_then.begun log) question
+      may_ask : (question : Option ℕ) → IsToldQuestion known2 (Some word) question → MayAsk same call_then.call call_then (log.since call_then.begun) question
       may_ask None told = absurd told
-      may_ask (Some q) names = subst (λ (x : Call K V). MayAsk same x call_then (moments_from call_then.begun log) (Some q)) (sym its_call)
+      may_ask (Some q) names = subst (λ (x : Call K V). MayAsk same x call_then (log.since call_then.begun) (Some q)) (sym its_call)
           (retainings_may_ask K V same hash name log then_at known2 s2 new at_new dues2.history map i o here2 call_then
           (d_is same hash name log beginning map i c done m known s u midst old new at_old (progress.Asks about) leads) fewer_then word q stands_at names)
 
-    may_ask_that : (question : Option ℕ) → IsToldQuestion known2 about question → MayAsk same call_then.call call_then (moments_from call_then.begun log) question
+    may_ask_that : (question : Option ℕ) → IsToldQuestion known2 about question → MayAsk same call_then.call call_then (log.since call_then.begun) question
     may_ask_that question told =
         let it = asks_there in may_ask it.0 it.1 it.2 it.4 question (subst (λ (z : Option ℕ). IsToldQuestion known2 z question) it.3 told)
 
-    asks_right : (question : Option ℕ) → IsToldQuestion known2 about question → (its : Stands) → AsksRight same its call_then (moments_from call_then.begun log) (outcome.Asks question)
+    asks_right : (question : Option ℕ) → IsToldQuestion known2 about question → (its : Stands) → AsksRight same its call_then (log.since call_then.begun) (outcome.Asks question)
     asks_right question told (Asking q) = tt
     asks_right question told Going = may_ask_that question told
     asks_right question told Told = may_ask_that question told
@@ -217,41 +216,41 @@ module _ {K V : Type 0} (same : K → K → Bool) (hash : ℕ → K → ℕ) (na
   at_end said leads = d same hash name log beginning map i c done m known s u midst old new at_old said leads
 
   asked : (said : Progress (Node K V)) (leads : StepLeads same hash i said s old new) (question : Option ℕ) → AsksAsSaid known2 said (outcome.Asks question)
-      → AsksRight same (at_end said leads).stands (at_end said leads) (moments_from (at_end said leads).begun log) (outcome.Asks question)
+      → AsksRight same (at_end said leads).stands (at_end said leads) (log.since (at_end said leads).begun) (outcome.Asks question)
   asked (progress.Asks about) leads question as_said = asks_right about leads question as_said (at_end (progress.Asks about) leads).stands
   asked _ leads question as_said = absurd as_said
 
-  module _ (c_is : call_of (name i) beginning ≡ Some c) (said : Progress (Node K V)) (leads : StepLeads same hash i said s old new) (e : Entry K V) (is_caller : caller_of e.event ≡ Some (name i))
-      (begun : at_work e (moment log) ≡ beginning) (acts_on : acted_on e.event beginning ≡ Some map)
-      (effects_are : e.effects ≡ done ++ effects_of (acts.Call i map) known new.changed) (as_said : AsksAsSaid known2 said e.outcome) where
+  module _ (c_is : call_of (name i) beginning ≡ Some c) (said : Progress (Node K V)) (leads : StepLeads same hash i said s old new) (t : Transition K V) (is_caller : t.caller ≡ Some (name i))
+      (begun : t.found ≡ beginning) (acts_on : t.map ≡ Some map)
+      (effects_are : t.effects ≡ done ++ effects_of (acts.Call i map) known new.changed) (as_said : AsksAsSaid known2 said t.outcome) where
     abbrev call_at_end : CallThere K V
     call_at_end = at_end said leads
 
-    end_is : call_of (name i) (worked e (moment log)) ≡ Some call_at_end
+    end_is : call_of (name i) (worked_by t) ≡ Some call_at_end
     end_is =
         ap (call_of (name i)) (
-        ap (λ (b : Moment K V). with_effects (caller_of e.event) (acted_on e.event b) e.effects b) begun
-        ∙ ap (λ (o : Option (List ℕ)). with_effects o (acted_on e.event beginning) e.effects beginning) is_caller
-        ∙ ap (λ (o : Option ℕ). with_effects (Some (name i)) o e.effects beginning) acts_on
+        ap (λ (b : Moment K V). with_effects (t.caller) (t.map) t.effects b) begun
+        ∙ ap (λ (o : Option (List ℕ)). with_effects o (t.map) t.effects beginning) is_caller
+        ∙ ap (λ (o : Option ℕ). with_effects (Some (name i)) o t.effects beginning) acts_on
         ∙ ap (λ (l : List Effect). with_effects (Some (name i)) (Some map) l beginning) effects_are
         ∙ sym (worked_then same hash name log beginning map i c done m known s u midst old new at_old said leads))
         ∙ d_is same hash name log beginning map i c done m known s u midst old new at_old said leads
 
-    right : AsksRight same call_at_end.stands call_at_end (moments_from call_at_end.begun log) e.outcome
-    right = elim (asks_or_none e.outcome) as (λ _. AsksRight same call_at_end.stands call_at_end (moments_from call_at_end.begun log) e.outcome) [
+    right : AsksRight same call_at_end.stands call_at_end (log.since call_at_end.begun) t.outcome
+    right = elim (asks_or_none t.outcome) as (λ _. AsksRight same call_at_end.stands call_at_end (log.since call_at_end.begun) t.outcome) [
       | inl (question, is) ↦
-          subst (λ (o : Outcome V). AsksRight same call_at_end.stands call_at_end (moments_from call_at_end.begun log) o) (sym is) (asked said leads question (subst (λ (o : Outcome V). AsksAsSaid known2 said o) is as_said))
-      | inr none ↦ asks_none same call_at_end (moments_from call_at_end.begun log) call_at_end.stands e.outcome none
+          subst (λ (o : Outcome V). AsksRight same call_at_end.stands call_at_end (log.since call_at_end.begun) o) (sym is) (asked said leads question (subst (λ (o : Outcome V). AsksAsSaid known2 said o) is as_said))
+      | inr none ↦ asks_none same call_at_end (log.since call_at_end.begun) call_at_end.stands t.outcome none
     ]
 
-    pub linearizable : IsLinearizable same log e
-    linearizable = others_are_linearizable K V same log e (name i) map c is_caller (ap (call_of (name i)) begun ∙ c_is) (ap (acted_on e.event) begun ∙ acts_on) midst.other
+    pub linearizable : Linearizes same log t
+    linearizable = others_are_linearizable K V same log t (name i) map c is_caller (ap (call_of (name i)) begun ∙ c_is) acts_on midst.other
         (subst (λ (l : List Effect). RemovesOnly same c.call c (flat_map shift_of l)) (sym effects_are)
         (removes_so same hash name log beginning map i c done m known s u midst old new at_old said leads))
-        (λ x x_is. subst (λ (y : CallThere K V). AsksRight same y.stands y (moments_from y.begun log) e.outcome) (one_of call_at_end x (sym end_is ∙ x_is)) right)
+        (λ x x_is. subst (λ (y : CallThere K V). AsksRight same y.stands y (log.since y.begun) t.outcome) (one_of call_at_end x (sym end_is ∙ x_is)) right)
 
     -- a call that asks says so by the last step, too
-    still_asks : (question : Option ℕ) → midst.there.stands ≡ Asking question → GoesItself e.outcome → ⊥
+    still_asks : (question : Option ℕ) → midst.there.stands ≡ Asking question → GoesItself t.outcome → ⊥
     still_asks question asks goes =
         by u (on_no_key same u midst.there.call (there_called same hash name log beginning map i c done m known s u midst old new at_old said leads)
         (there_other same hash name log beginning map i c done m known s u midst old new at_old said leads)) (leads map u midst.here).3
@@ -265,24 +264,24 @@ module _ {K V : Type 0} (same : K → K → Bool) (hash : ℕ → K → ℕ) (na
         by (OverAll o) none steps h =
             let at_word = h.asks question asks in
             let says = (asks_still same (leads map u midst.here).0.hash old new o.sweep (leads map u midst.here).1 said steps at_word.0 at_word.1).1 in
-            no_going K known2 (Some at_word.0) e.outcome (subst (λ (x : Progress (Node K V)). AsksAsSaid known2 x e.outcome) says as_said) goes
+            no_going K known2 (Some at_word.0) t.outcome (subst (λ (x : Progress (Node K V)). AsksAsSaid known2 x t.outcome) says as_said) goes
 
-    still_so : (its : Stands) → call_at_end.stands ≡ its → AsksStill its e.outcome
+    still_so : (its : Stands) → call_at_end.stands ≡ its → AsksStill its t.outcome
     still_so (Asking question) is = still_asks question (sym (d_stands same hash name log beginning map i c done m known s u midst old new at_old said leads) ∙ is)
     still_so Going is = tt
     still_so Told is = tt
     still_so IsReady is = tt
 
-    pub asks_on : EventAsksStill log e
+    pub asks_on : AsksOnStill t
     asks_on =
-        subst (λ (o : Option (List ℕ)). IfCall (λ (y : CallThere K V). AsksStill y.stands e.outcome) (acting o (worked e (moment log)))) (sym is_caller)
-        (subst (λ (x : Option (CallThere K V)). IfCall (λ (y : CallThere K V). AsksStill y.stands e.outcome) x) (sym end_is) (still_so call_at_end.stands refl))
+        subst (λ (o : Option (List ℕ)). IfCall (λ (y : CallThere K V). AsksStill y.stands t.outcome) (acting o (worked_by t))) (sym is_caller)
+        (subst (λ (x : Option (CallThere K V)). IfCall (λ (y : CallThere K V). AsksStill y.stands t.outcome) x) (sym end_is) (still_so call_at_end.stands refl))
 
 module _ (K V : Type 0) (same : K → K → Bool) (hash : ℕ → K → ℕ) where
   pub other_midsts_end : OtherMidstsEnd K V same hash
-  other_midsts_end name log beginning map i c c_is done m known s u midst old new at_old said leads e is_caller begun acts_on effects_are as_said =
-      linearizable same hash name log beginning map i c done m known s u midst old new at_old c_is said leads e is_caller begun acts_on effects_are as_said
+  other_midsts_end name log beginning map i c c_is done m known s u midst old new at_old said leads t is_caller begun acts_on effects_are as_said =
+      linearizable same hash name log beginning map i c done m known s u midst old new at_old c_is said leads t is_caller begun acts_on effects_are as_said
 
   pub other_midsts_ask_still : OtherMidstsAskStill K V same hash
-  other_midsts_ask_still name log beginning map i c c_is done m known s u midst old new at_old said leads e is_caller begun acts_on effects_are as_said =
-      asks_on same hash name log beginning map i c done m known s u midst old new at_old c_is said leads e is_caller begun acts_on effects_are as_said
+  other_midsts_ask_still name log beginning map i c c_is done m known s u midst old new at_old said leads t is_caller begun acts_on effects_are as_said =
+      asks_on same hash name log beginning map i c done m known s u midst old new at_old c_is said leads t is_caller begun acts_on effects_are as_said
