@@ -317,9 +317,11 @@ module _ {K Q : Type 0} (V : Type 0) (same : K → K → Bool) (hash : K → ℕ
   change_told (Fresh told) = told.change2
   change_told (Late blocking none told) = Unchanged
 
-  -- Where a step of a call leads that is none of a row: one move at most was made, by this caller, it tells what it did, and all calls stand together.
+  -- Where a step of a call leads that is none of a row, from within its section: one move at most was made, by this caller, it tells what it did, and all
+  -- calls stand together.
   pub record StepsTogether (w : World (Node K V)) (c : Chart K) (blocks : Blocks) (sights : ℕ → Sight) (calls : ℕ → Option (UnderWay K V Q)) (i : ℕ) (u : CallOnKey K V Q)
       (m2 : Mem (Node K V)) (p2 : KeyCall K V Q) (progress : Called (Node K V)) : Type 0 where
+    pub inside : IsInside (w.uses (slot i))
     pub went : Went same hash (in_slot setting (slot i)) i w c (seen_by blocks (sights (slot i))) m2 (StepTold c i u p2 progress)
     pub remembers : Remembers (is_incremental setting.mode) c went.c2
     pub blocks2 : Blocks
@@ -428,6 +430,7 @@ module _ {K Q : Type 0} (V : Type 0) (same : K → K → Bool) (hash : K → ℕ
   -- stand together.
   pub record RoomStepsTogether (w : World (Node K V)) (c : Chart K) (blocks : Blocks) (sights : ℕ → Sight) (calls : ℕ → Option (UnderWay K V Q)) (i : ℕ) (r : CallForRoom)
       (m2 : Mem (Node K V)) (p2 : Reserve) (end : Outcome (Node K V) Unit) : Type 0 where
+    pub inside : IsInside (w.uses (slot i))
     pub went : Went same hash (in_slot setting (slot i)) i w c (seen_by blocks (sights (slot i))) m2 (RoomTold c i r p2 end)
     pub remembers : Remembers (is_incremental setting.mode) c went.c2
     pub same_pairs : went.c2.current ≡ c.current

@@ -183,7 +183,7 @@ module _ {K V : Type 0} (same : K → K → Bool) (hash : ℕ → K → ℕ) (na
   room_shifts x (p2, end, machine_is, told_is, inl (step, moved)) own =
       none_kept step.step.went.c2
       (moved_shifts same hash m known s old new at_old name shown map i st to.2 (name i) (made_so same hash name m known s old new at_old shown map i u under_way said leads)
-      (is_inside same hash name m known s old new at_old shown map i u under_way said leads) _ step.step.went step.step.blocks2 step.step.grown step.step.sights2) step.step.same_pairs
+      step.step.inside _ step.step.went step.step.blocks2 step.step.grown step.step.sights2) step.step.same_pairs
   room_shifts x (p2, end, machine_is, told_is, inr row) own = absurd own
 
   pub room_counts : (x : CallForRoom) → u ≡ ForRoom x → (done : Did (ForRoom x)) → ((NoRow (ForRoom x) done → ⊥) → TakesNone told) → Goes false (is_to_count to.1) × (to.4.next ≡ None → is_to_count to.1 ≡ false)
@@ -275,7 +275,7 @@ module _ {K V : Type 0} (same : K → K → Bool) (hash : ℕ → K → ℕ) (na
         its_shifts : Shifts ch c2 (shown.number map) known.stored effects
         its_shifts =
             moved_shifts same hash m known s old new at_old name shown map i st to.2 (name i) (made_so same hash name m known s old new at_old shown map i u under_way said leads)
-            (is_inside same hash name m known s old new at_old shown map i u under_way said leads) _ step.step.went step.step.blocks2 step.step.grown step.step.sights2
+            step.step.inside _ step.step.went step.step.blocks2 step.step.grown step.step.sights2
 
         -- what it knew before
         abbrev Facts : Sweeping → Type 0
