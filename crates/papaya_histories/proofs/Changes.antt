@@ -42,7 +42,7 @@ use Rattle.papaya_moments.proofs.Given.Follows.Calls.{changed_same, found}
 use Rattle.papaya_moments.proofs.Given.Follows.Operations.{operated_leaves, LeavesBy}
 use Rattle.papaya_moments.proofs.Given.Follows.Rows.{HandsOn, IsStill, Puts as PutsBehind, Retires, one_step_leaves}
 use Rattle.papaya_moments.proofs.Given.Follows.RowSteps.{row_done}
-use Rattle.papaya_moments.proofs.Given.Follows.Steps.{WentTo, went_to, made_so, is_inside, DidSo, OfNoRow}
+use Rattle.papaya_moments.proofs.Given.Follows.Steps.{WentTo, went_to, made_so, DidSo, OfNoRow}
 use Rattle.papaya_moments.specs.Given.Hands.Asked.{IsAskedOn, IsAskedAs, ShowsAsked}
 use Rattle.papaya_moments.proofs.Given.Hands.Calling.{caller_is}
 use Rattle.papaya_moments.proofs.Given.Hands.Done.{done}
