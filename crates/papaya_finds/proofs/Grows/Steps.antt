@@ -24,7 +24,7 @@ use Rattle.papaya_settles.specs.Given.Teller.Tells.{StepsTold}
 use Rattle.papaya_settles.specs.Given.Teller.declared.changed.Changed.{Changed}
 use Rattle.papaya_settles.specs.Given.Teller.declared.changed.Changed.TheVariants as changed
 use Rattle.papaya_settles.specs.Given.Points.FactsCalls.{IsCopying}
-use Rattle.papaya_settles.specs.Given.Callers.Sights.{seen_by, IsSight}
+use Rattle.papaya_settles.specs.Given.Callers.Sights.{seen_by}
 use Rattle.papaya_settles.specs.Given.Callers.Together.{CallOnKey, UnderWay, OnKey, ForRoom, Counting, OverAll, Together}
 use Rattle.papaya_settles.specs.Given.Effects.Effects.{effects_of}
 use Rattle.papaya_settles.specs.Given.Effects.Known.{Known}

@@ -48,7 +48,7 @@ use Rattle.papaya_purposes.specs.Given.Points.Steps.{AreLawful}
 use Rattle.papaya_purposes.specs.Given.Points.Told.{IsRowOfCall}
 use Rattle.papaya_purposes.specs.Given.Late.LateCalls.{LateCalling}
 use Rattle.papaya_purposes.specs.Given.Late.Left.{Left}
-use Rattle.papaya_purposes.specs.Given.Callers.Sights.{IsSight, seen_by}
+use Rattle.papaya_purposes.specs.Given.Callers.Sights.{seen_by}
 use Rattle.papaya_purposes.specs.Given.Callers.Together.{CallOnKey, Counting, ForRoom, OnKey, OverAll, Together, UnderWay, in_slot}
 use Rattle.papaya_purposes.proofs.Given.Callers.Sights.Seen.{map_seen}
 use Rattle.papaya_purposes.proofs.Given.Callers.Together.Fits.{map_in_slot}
