@@ -34,7 +34,8 @@ use Rattle.papaya_scenes.proofs.Given.Finishes.Among.Machines.{machines_stand_am
 use Rattle.papaya_scenes.proofs.Given.Finishes.Among.MachinesTold.{machines_told_among}
 use Rattle.papaya_scenes.proofs.Given.Finishes.Among.Rooms.{rooms_begin_among}
 use Rattle.papaya_scenes.proofs.Given.Finishes.Among.Sweeps.{sweeps_begin_among, walks_stop_among}
-use Rattle.papaya_acts.specs.Acts.{Wanted, Get, Remove, Insert, TryToInsert, Compute, Update, UpdateOrInsert, TryToInsertWith, RemoveIf, MakeRoom, Count, GoOver, Answer, Nothing, OfCall, OfReply, OfAsking, BeginsCall, StepsCall, TellsCall, AsksCall, StopsCall, its, begun}
+use Rattle.seize_acts.specs.Acts.{is_within}
+use Rattle.papaya_acts.specs.Acts.{Wanted, Get, Remove, Insert, TryToInsert, Compute, Update, UpdateOrInsert, TryToInsertWith, RemoveIf, MakeRoom, Count, GoOver, Answer, Nothing, OfCall, OfReply, OfAsking, BeginsCall, StepsCall, TellsCall, AsksCall, StopsCall, UnlessToCount, its, begun}
 use Rattle.papaya_acts.specs.Leads.{MayBe, AllStand, Led, call_at, call_steps}
 use Rattle.papaya_acts.proofs.Tests.{some_is, inside_is, its_class}
 use Rattle.papaya_scenes.proofs.NoCall.{none_is}
@@ -60,7 +61,7 @@ module _ {K V S : Type 0} (same : K → K → Bool) (hash : S → K → ℕ) (ba
 
   pub call_begins : (wanted : Wanted K V) → MayBe same hash batch_size roots slot (BeginsCall i m wanted) s
       → (n : Scene K V) × Led same hash batch_size roots slot (BeginsCall i m wanted) s Nothing n × Stands n
-  call_begins wanted (free, rest, within, there, few) = (scene_with m i (begun same slot standing i wanted) s, (standing, stands, refl, refl), by wanted)
+  call_begins wanted (free, rest, within, there, few) = (scene_with m i (begun same slot standing i wanted) s, (standing, stands, refl, refl), by wanted within)
     where
       standing : Standing K
       standing = (some_is (s.maps m) there).0
@@ -74,37 +75,37 @@ module _ {K V S : Type 0} (same : K → K → Bool) (hash : S → K → ℕ) (ba
       lawful : AreLawful same standing.hash
       lawful = (all.makings.standing.fit m standing stands).0
 
-      on : (keys : K → Bool) (pair : Given K V) (call : KeyCall K V K) → IsBegun V same standing.hash same standing.setting slot i keys pair call
+      on : is_within (s.world.uses (slot i)) ≡ true → (keys : K → Bool) (pair : Given K V) (call : KeyCall K V K) → IsBegun V same standing.hash same standing.setting slot i keys pair call
           → Stands (scene_with m i (OnKey (begins.begun_at V same standing.hash same standing.setting slot standing.chart keys pair call)) s)
-      on keys pair call is =
+      on within keys pair call is =
           calls_begin_among V same same batch_size roots slot s.world s.maps s.calls s.makers s.enders all i (none_is (s.makers i) free.no_making) (none_is (s.enders i) free.no_ending)
           no_call (rests_is (s.world.row i) rest) (inside_is (s.world.uses (slot i)) within) m standing stands (few standing stands) keys pair call is
 
-      by : (wanted : Wanted K V) → Stands (scene_with m i (begun same slot standing i wanted) s)
-      by (Get key) = on (same key) (Begun gets None) (getting (its slot standing i) (standing.hash key) key)
+      by : (wanted : Wanted K V) → UnlessToCount wanted (is_within (s.world.uses (slot i)) ≡ true) → Stands (scene_with m i (begun same slot standing i wanted) s)
+      by (Get key) within = on within (same key) (Begun gets None) (getting (its slot standing i) (standing.hash key) key)
           (begins.Gets key (standing.hash key) (lawful.fits key) (its_class same standing.hash lawful key))
-      by (Remove key) = on (same key) (Begun removes None) (removing (its slot standing i) (standing.hash key) key)
+      by (Remove key) within = on within (same key) (Begun removes None) (removing (its slot standing i) (standing.hash key) key)
           (begins.Removes key (standing.hash key) (lawful.fits key) (its_class same standing.hash lawful key))
-      by (Insert key value) =
-          on (same key) (Begun inserts (Some (node.Pair key value))) (inserting (its slot standing i) (standing.hash key) key value) (begins.Inserts key value)
-      by (TryToInsert key value) =
-          on (same key) (Begun tries_to_insert (Some (node.Pair key value))) (trying_to_insert (its slot standing i) (standing.hash key) key value) (begins.TriesToInsert key value)
-      by (Compute key) = on (same key) (IsTold computes (Some key) []) (computing (its slot standing i) (standing.hash key) key) (begins.Computes key)
-      by (Update key) = on (same key) (IsTold updates (Some key) []) (updating (its slot standing i) (standing.hash key) key) (begins.Updates key)
-      by (UpdateOrInsert key absent) =
-          on (same key) (IsTold updates_or_inserts (Some key) (told_before absent)) (updating_or_inserting (its slot standing i) (standing.hash key) key (told_first absent))
+      by (Insert key value) within =
+          on within (same key) (Begun inserts (Some (node.Pair key value))) (inserting (its slot standing i) (standing.hash key) key value) (begins.Inserts key value)
+      by (TryToInsert key value) within =
+          on within (same key) (Begun tries_to_insert (Some (node.Pair key value))) (trying_to_insert (its slot standing i) (standing.hash key) key value) (begins.TriesToInsert key value)
+      by (Compute key) within = on within (same key) (IsTold computes (Some key) []) (computing (its slot standing i) (standing.hash key) key) (begins.Computes key)
+      by (Update key) within = on within (same key) (IsTold updates (Some key) []) (updating (its slot standing i) (standing.hash key) key) (begins.Updates key)
+      by (UpdateOrInsert key absent) within =
+          on within (same key) (IsTold updates_or_inserts (Some key) (told_before absent)) (updating_or_inserting (its slot standing i) (standing.hash key) key (told_first absent))
           (begins.UpdatesOrInserts key absent)
-      by (TryToInsertWith key) =
-          on (same key) (IsTold tries_to_insert_with (Some key) []) (trying_to_insert_with (its slot standing i) (standing.hash key) key) (begins.TriesToInsertWith key)
-      by (RemoveIf key) = on (same key) (IsTold removes_if None []) (removing_if (its slot standing i) (standing.hash key) key)
+      by (TryToInsertWith key) within =
+          on within (same key) (IsTold tries_to_insert_with (Some key) []) (trying_to_insert_with (its slot standing i) (standing.hash key) key) (begins.TriesToInsertWith key)
+      by (RemoveIf key) within = on within (same key) (IsTold removes_if None []) (removing_if (its slot standing i) (standing.hash key) key)
           (begins.RemovesIf key (standing.hash key) (lawful.fits key) (its_class same standing.hash lawful key))
-      by (MakeRoom additional) =
+      by (MakeRoom additional) within =
           rooms_begin_among V same same batch_size roots slot s.world s.maps s.calls s.makers s.enders all i (none_is (s.makers i) free.no_making) (none_is (s.enders i) free.no_ending)
           no_call (rests_is (s.world.row i) rest) (inside_is (s.world.uses (slot i)) within) m standing stands (few standing stands) additional
-      by Count =
+      by Count within =
           countings_begin_among V same same batch_size roots slot s.world s.maps s.calls s.makers s.enders all i (none_is (s.makers i) free.no_making) (none_is (s.enders i) free.no_ending)
-          no_call (rests_is (s.world.row i) rest) (inside_is (s.world.uses (slot i)) within) m standing stands (few standing stands)
-      by (GoOver purpose) =
+          no_call (rests_is (s.world.row i) rest) m standing stands (few standing stands)
+      by (GoOver purpose) within =
           sweeps_begin_among V same same batch_size roots slot s.world s.maps s.calls s.makers s.enders all i (none_is (s.makers i) free.no_making) (none_is (s.enders i) free.no_ending)
           no_call (rests_is (s.world.row i) rest) (inside_is (s.world.uses (slot i)) within) m standing stands (few standing stands) purpose
 

@@ -6,9 +6,11 @@ use Rattle.std.proofs.Common.{inl, inr, refl, sym, ap, subst, arith, ◌∙◌}
 use Rattle.std.proofs.Math.Pow.{pow-lt}
 use Rattle.std.proofs.lemmas.Bool.{cases_order}
 use Rattle.papaya_scenes.specs.Given.Seize.World.{Request, Register', Enter', Leave', LeaveOwned, Refresh, Unregister', Retire, Flush, Defer'}
-use Rattle.papaya_scenes.specs.Given.Callers.Together.{IsOfSlots}
+use Rattle.papaya_scenes.specs.Given.Callers.Together.{UnderWay, OnKey, ForRoom, Counting, OverAll, UnlessCounts, IsOfSlots, Closes}
+use Rattle.papaya_acts.specs.Acts.{Wanted, Get, Remove, Insert, TryToInsert, Compute, Update, UpdateOrInsert, TryToInsertWith, RemoveIf, MakeRoom, Count, GoOver, UnlessToCount}
 use Rattle.papaya_acts.specs.Acts.{Act, BeginsCall, StepsCall, TellsCall, AsksCall, StopsCall, BeginsMaking, StepsMaking, BeginsEnding, StepsEnding, BeginsRow, StepsRow}
 use Rattle.papaya_acts.specs.Doings.{Doing, Does, BeginsReclaiming, BeginsClearing, StepsReclaiming, AllAreFree, SlotsAreFree, Stage, MayDo}
+use Rattle.seize_acts.specs.Acts.{is_within}
 use Rattle.papaya_acts.specs.Leads.{IsFree, AreFewWith, MayBe}
 use Rattle.papaya_acts.specs.Lists.{Course, Reached, LedOn, nothing_done, on_by, IsDetermined}
 use Rattle.papaya_scenes.specs.Scene.{Scene}
@@ -45,6 +47,26 @@ of_slots_prop (Refresh s) x y = refl
 of_slots_prop (Unregister' s) x y = refl
 of_slots_prop (Flush s) x y = refl
 
+unless_prop : {K V Q A : Type 0} → IsProp A → (u : UnderWay K V Q) → IsProp (UnlessCounts u A)
+unless_prop same (OnKey u) = same
+unless_prop same (ForRoom r) = same
+unless_prop same (Counting sum) x y = refl
+unless_prop same (OverAll o) = same
+
+to_count_prop : {K V A : Type 0} → IsProp A → (wanted : Wanted K V) → IsProp (UnlessToCount wanted A)
+to_count_prop same Count x y = refl
+to_count_prop same (Get key) = same
+to_count_prop same (Remove key) = same
+to_count_prop same (Insert key value) = same
+to_count_prop same (TryToInsert key value) = same
+to_count_prop same (Compute key) = same
+to_count_prop same (Update key) = same
+to_count_prop same (UpdateOrInsert key absent) = same
+to_count_prop same (TryToInsertWith key) = same
+to_count_prop same (RemoveIf key) = same
+to_count_prop same (MakeRoom additional) = same
+to_count_prop same (GoOver purpose) = same
+
 module _ {K V : Type 0} (s : Scene K V) where
   free_prop : (i : ℕ) → IsProp (IsFree s i)
   free_prop i = hlevel bool_set
@@ -53,8 +75,11 @@ module _ {K V : Type 0} (s : Scene K V) where
   few_prop i m = hlevel le_prop
 
 module _ {K V S : Type 0} (same : K → K → Bool) (hash : S → K → ℕ) (batch_size roots : ℕ) (slot : ℕ → ℕ) where
+  closes_prop : (request : Request) (j : ℕ) → IsProp (Closes request (slot j) → ⊥)
+  closes_prop request j = hlevel
+
   pub may_prop : (act : Act K V S) (s : Scene K V) → IsProp (MayBe same hash batch_size roots slot act s)
-  may_prop (BeginsCall i m wanted) s = hlevel (bool_set, free_prop s i, few_prop s i m)
+  may_prop (BeginsCall i m wanted) s = hlevel (bool_set, free_prop s i, to_count_prop (bool_set (is_within (s.world.uses (slot i))) true) wanted, few_prop s i m)
   may_prop (StepsCall i m g) s = bool_set _ _
   may_prop (TellsCall i m reply) s = bool_set _ _
   may_prop (AsksCall i m) s = bool_set _ _
@@ -63,7 +88,7 @@ module _ {K V S : Type 0} (same : K → K → Bool) (hash : S → K → ℕ) (ba
   may_prop (StepsMaking i g) s = bool_set _ _
   may_prop (BeginsEnding i m) s = hlevel (bool_set, free_prop s i)
   may_prop (StepsEnding i g) s = bool_set _ _
-  may_prop (BeginsRow i request) s = hlevel (bool_set, of_slots_prop request)
+  may_prop (BeginsRow i request) s = hlevel (bool_set, of_slots_prop request, λ (j : ℕ) (u : UnderWay K V K). unless_prop (closes_prop request j) u)
   may_prop (StepsRow i g) s = hlevel bool_set
 
   free_all_prop : (s : Scene K V) → IsProp (AllAreFree s)

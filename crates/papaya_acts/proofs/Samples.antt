@@ -38,7 +38,7 @@ module _ {K S : Type 0} (V : Type 0) (same : K → K → Bool) (hash : S → K �
   none_of_three i map places hasher given three may = not_three may.6.0 (sym three ∙ may.6.1)
 
   may_register : (i : ℕ) (enters : Bool) → First (BeginsRow i (Register' enters))
-  may_register i enters = ((λ m. refl), refl, tt, (λ m j u has closes. closes), refl)
+  may_register i enters = ((λ m. refl), refl, tt, (λ m j u has. absurd (cc has)), refl)
 
   -- No call begins where no map stands, and none takes a step that is not there.
   no_map_yet : (i m : ℕ) (wanted : Wanted K V) → First (BeginsCall i m wanted) → ⊥

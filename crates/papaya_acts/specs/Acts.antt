@@ -38,6 +38,11 @@ pub data Wanted (K V : Type 0) : Type 0 where
   Count : Wanted K V
   GoOver : Purpose → Wanted K V
 
+-- What is asked of who begins this, but for a counting, which needs no section.
+abbrev pub UnlessToCount : {K V : Type 0} → Wanted K V → Type 0 → Type 0
+UnlessToCount Count Asked = Unit {0}
+UnlessToCount _ Asked = Asked
+
 -- A grant is what the memory is free to choose at a step: the number of the block that is made, or that it refuses.
 pub data Act (K V S : Type 0) : Type 0 where
   BeginsCall : ℕ → ℕ → Wanted K V → Act K V S  -- this caller begins to do this on this map

@@ -23,13 +23,13 @@ use Rattle.papaya_scenes.specs.Given.Raw.declared.machines.end_map.EndMap.{EndMa
 use Rattle.papaya_scenes.specs.Given.Raw.declared.machines.machine.Machine.{Machine}
 use Rattle.papaya_scenes.specs.Given.Raw.declared.machines.progress.Progress.{Progress as CallProgress}
 use Rattle.papaya_scenes.specs.Given.Callers.Claims.{AreFew}
-use Rattle.papaya_scenes.specs.Given.Callers.Together.{UnderWay, HasCall, IsOfSlots, Closes}
+use Rattle.papaya_scenes.specs.Given.Callers.Together.{UnderWay, UnlessCounts, HasCall, IsOfSlots, Closes}
 use Rattle.papaya_scenes.specs.Given.Finishes.Endings.{Finishing, EndingsTogether, StepsOfEnding, MakingStepsAmong, HasFinished, waiting_by}
 use Rattle.papaya_scenes.specs.Given.Finishes.FactsEnds.{Deed, taken_by}
 use Rattle.papaya_scenes.specs.Given.Finishes.Machines.{machine_of, ToldOfKind, MachineStepsAmong}
 use Rattle.papaya_scenes.specs.Given.Finishes.Makings.{Beginning, IsMade}
 use Rattle.papaya_scenes.specs.Given.Finishes.Maps.{Standing, IsSameMap, with_call}
-use Rattle.papaya_acts.specs.Acts.{Act, Answer, Nothing, OfCall, OfReply, OfAsking, OfMaking, OfEnding, begun}
+use Rattle.papaya_acts.specs.Acts.{Act, Answer, Nothing, OfCall, OfReply, OfAsking, OfMaking, OfEnding, UnlessToCount, begun}
 use Rattle.papaya_acts.specs.Acts.{BeginsCall, StepsCall, TellsCall, AsksCall, StopsCall, BeginsMaking, StepsMaking, BeginsEnding, StepsEnding, BeginsRow, StepsRow}
 use Rattle.papaya_scenes.specs.Ending.{ending_begun}
 use Rattle.papaya_scenes.specs.Replying.{scene_with, unless_stopped}
@@ -63,12 +63,12 @@ module _ {K V S : Type 0} (same : K → K → Bool) (hash : S → K → ℕ) (ba
   abbrev pub ending_steps : Scene K V → Grant → Finishing K V → Option (Mem (Node K V) × (EndMap × Settled (Node K V)))
   ending_steps s g f = stepped s.world.memory g (end_map_plan f.machine)
 
-  -- When an act may be made. A call begins within a section, on a map that stands; a step is taken where the memory may choose so; a map that has no number yet
-  -- is made, with lengths that tables may have; one ends on which nobody has a call; a row begins on a slot between calls, as that is used, and ends no section
-  -- in which a call is under way.
+  -- When an act may be made. A call begins within a section, or outside of any to count, on a map that stands; a step is taken where the memory may choose so; a
+  -- map that has no number yet is made, with lengths that tables may have; one ends on which nobody has a call; a row begins on a slot between calls, as that is
+  -- used, and ends no section in which a call is under way that needs it.
   abbrev pub MayBe : Act K V S → Scene K V → Type 0
   MayBe (BeginsCall i m wanted) s =
-      IsFree s i × (rests (s.world.row i) ≡ true) × (is_within (s.world.uses (slot i)) ≡ true) × (is_none (s.maps m) ≡ false) × AreFewWith s i m
+      IsFree s i × (rests (s.world.row i) ≡ true) × UnlessToCount wanted (is_within (s.world.uses (slot i)) ≡ true) × (is_none (s.maps m) ≡ false) × AreFewWith s i m
   MayBe (StepsCall i m g) s = is_none (then_on (call_at s i m) (call_steps s g)) ≡ false
   MayBe (TellsCall i m reply) s = is_none (call_at s i m) ≡ false
   MayBe (AsksCall i m) s = is_none (call_at s i m) ≡ false
@@ -80,7 +80,7 @@ module _ {K V S : Type 0} (same : K → K → Bool) (hash : S → K → ℕ) (ba
   MayBe (BeginsEnding i m) s = IsFree s i × (is_none (s.maps m) ≡ false) × ((j : ℕ) → is_none (s.calls m j) ≡ true)
   MayBe (StepsEnding i g) s = is_none (then_on (s.enders i) (ending_steps s g)) ≡ false
   MayBe (BeginsRow i request) s =
-      HasNoCall s i × (rests (s.world.row i) ≡ true) × IsOfSlots request × ((m j : ℕ) (u : UnderWay K V K) → s.calls m j ≡ Some u → Closes request (slot j) → ⊥)
+      HasNoCall s i × (rests (s.world.row i) ≡ true) × IsOfSlots request × ((m j : ℕ) (u : UnderWay K V K) → s.calls m j ≡ Some u → UnlessCounts u (Closes request (slot j) → ⊥))
       × (is_none (row_begun deferred_word batch_size i request s.world) ≡ false)
   MayBe (StepsRow i g) s = HasNoCall s i × (is_none (row_steps deferred_word i (s.world.row i) g s.world) ≡ false)
 

@@ -52,6 +52,7 @@ module _ {K Q : Type 0} (V : Type 0) (same : K → K → Bool) (hash : K → ℕ
     -- Where a step of a sweep leads that is none of a row: one move at most was made, by this caller, which removes no pair but as it was told. A pair
     -- that it shows or asks about the map had since it began; and at its end it has come to what it comes to. All calls stand together.
     pub record SweepStepsTogether (m2 : Mem (Node K V)) (p2 : Sweep) (end : Swept (Node K V)) : Type 0 where
+      pub inside : IsInside (w.uses (slot i))
       pub went : Went same hash (in_slot setting (slot i)) i w c (seen_by blocks (sights (slot i))) m2
           (λ w2 c2 blocks2. SweepTold same hash i (in_slot setting (slot i)) o.began c (seen_by blocks (sights (slot i))) o.sweep w2 c2 blocks2 p2 end)
       pub remembers : Remembers (is_incremental setting.mode) c went.c2

@@ -85,6 +85,13 @@ pub data UnderWay (K V Q : Type 0) : Type 0 where
   Counting : Sum → UnderWay K V Q
   OverAll : CallOverAll → UnderWay K V Q
 
+-- What is asked of each call but a counting: that looks at the map's counter alone, which is there as long as the map, and needs no section.
+abbrev pub UnlessCounts : {K V Q : Type 0} → UnderWay K V Q → Type 0 → Type 0
+UnlessCounts (OnKey u) Asked = Asked
+UnlessCounts (ForRoom r) Asked = Asked
+UnlessCounts (Counting sum) Asked = Unit {0}
+UnlessCounts (OverAll o) Asked = Asked
+
 -- whether it is under way after a step
 abbrev pub next_of : {K V Q : Type 0} → CallOnKey K V Q → Called (Node K V) → Option (UnderWay K V Q)
 next_of u (called.Done answer) = None
@@ -233,11 +240,11 @@ module _ {K Q : Type 0} (V : Type 0) (same : K → K → Bool) (hash : K → ℕ
     pub counter : IsMaking (w.hand setting.counter)
     pub sight : (s : ℕ) → IsInside (w.uses s) → IsSight c blocks (sights s) × IsWithin w s c (seen_by blocks (sights s)) setting
 
-  -- Callers have calls on one map, by caller, each within a critical section of its slot, and each section has a sight. Each call knows what its
-  -- program point knows, and a caller that has none has no part in a copying, and puts nothing behind a linked table.
+  -- Callers have calls on one map, by caller, each but a counting within a critical section of its slot, and each section has a sight. Each call knows
+  -- what its program point knows, and a caller that has none has no part in a copying, and puts nothing behind a linked table.
   pub record Together (w : World (Node K V)) (c : Chart K) (blocks : Blocks) (sights : ℕ → Sight) (calls : ℕ → Option (UnderWay K V Q)) : Type 0 where
     pub ground : Ground w c blocks sights
-    pub inside : (i : ℕ) (u : UnderWay K V Q) → calls i ≡ Some u → IsInside (w.uses (slot i))
+    pub inside : (i : ℕ) (u : UnderWay K V Q) → calls i ≡ Some u → UnlessCounts u (IsInside (w.uses (slot i)))
     pub stand : (i : ℕ) (u : UnderWay K V Q) → calls i ≡ Some u → Stands w c (seen_by blocks (sights (slot i))) i u
     pub idle : (i : ℕ) → calls i ≡ None → IsIdle same hash w i (in_slot setting (slot i)) c blocks
     pub onto : PutsWithin calls w c blocks
@@ -310,9 +317,11 @@ module _ {K Q : Type 0} (V : Type 0) (same : K → K → Bool) (hash : K → ℕ
   change_told (Fresh told) = told.change2
   change_told (Late blocking none told) = Unchanged
 
-  -- Where a step of a call leads that is none of a row: one move at most was made, by this caller, it tells what it did, and all calls stand together.
+  -- Where a step of a call leads that is none of a row, from within its section: one move at most was made, by this caller, it tells what it did, and all
+  -- calls stand together.
   pub record StepsTogether (w : World (Node K V)) (c : Chart K) (blocks : Blocks) (sights : ℕ → Sight) (calls : ℕ → Option (UnderWay K V Q)) (i : ℕ) (u : CallOnKey K V Q)
       (m2 : Mem (Node K V)) (p2 : KeyCall K V Q) (progress : Called (Node K V)) : Type 0 where
+    pub inside : IsInside (w.uses (slot i))
     pub went : Went same hash (in_slot setting (slot i)) i w c (seen_by blocks (sights (slot i))) m2 (StepTold c i u p2 progress)
     pub remembers : Remembers (is_incremental setting.mode) c went.c2
     pub blocks2 : Blocks
@@ -366,10 +375,10 @@ module _ {K Q : Type 0} (V : Type 0) (same : K → K → Bool) (hash : K → ℕ
   AllStand w c before calls = (blocks : Blocks) × (sights : ℕ → Sight) × Together w c blocks sights calls × IsPartOf c blocks before
 
   -- what a caller that has no call may do: it registers, enters, leaves, refreshes, flushes or gives up its slot, and ends no section in which a call
-  -- is under way
+  -- is under way that needs it
   abbrev pub GuardsOf : World (Node K V) → Chart K → Blocks → (ℕ → Option (UnderWay K V Q)) → ℕ → Type 0
   GuardsOf w c blocks calls i =
-      ((request : Request) → IsOfSlots request → ((j : ℕ) (u : UnderWay K V Q) → calls j ≡ Some u → Closes request (slot j) → ⊥)
+      ((request : Request) → IsOfSlots request → ((j : ℕ) (u : UnderWay K V Q) → calls j ≡ Some u → UnlessCounts u (Closes request (slot j) → ⊥))
       → (w2 : World (Node K V)) → Happens deferred_word setting.batch_size (Begin i request) w w2 → AllStand w2 c blocks calls)
       × MayStep deferred_word (w.row i) w.memory
       × ((w2 : World (Node K V)) → Happens deferred_word setting.batch_size (Step i) w w2 → AllStand w2 c blocks calls)
@@ -421,6 +430,7 @@ module _ {K Q : Type 0} (V : Type 0) (same : K → K → Bool) (hash : K → ℕ
   -- stand together.
   pub record RoomStepsTogether (w : World (Node K V)) (c : Chart K) (blocks : Blocks) (sights : ℕ → Sight) (calls : ℕ → Option (UnderWay K V Q)) (i : ℕ) (r : CallForRoom)
       (m2 : Mem (Node K V)) (p2 : Reserve) (end : Outcome (Node K V) Unit) : Type 0 where
+    pub inside : IsInside (w.uses (slot i))
     pub went : Went same hash (in_slot setting (slot i)) i w c (seen_by blocks (sights (slot i))) m2 (RoomTold c i r p2 end)
     pub remembers : Remembers (is_incremental setting.mode) c went.c2
     pub same_pairs : went.c2.current ≡ c.current
@@ -460,11 +470,12 @@ module _ {K Q : Type 0} (V : Type 0) (same : K → K → Bool) (hash : K → ℕ
       × ((m2 : Mem (Node K V)) (p2 : Reserve) (end : Outcome (Node K V) Unit) → Steps Took value_at w.memory (reserve_plan hash r.reserve) m2 (p2, end)
       → RoomRowsTogether w c blocks sights calls i r m2 p2 end)
 
-  -- A caller that has no call, and no row under way, begins to count the pairs within its section. In blocking mode, few calls are under way with it.
+  -- A caller that has no call, and no row under way, begins to count the pairs, within a section or outside of any. In blocking mode, few calls are under
+  -- way with it.
   abbrev pub CountingsBeginTogether : Type 0
   CountingsBeginTogether =
       (w : World (Node K V)) (c : Chart K) (blocks : Blocks) (sights : ℕ → Sight) (calls : ℕ → Option (UnderWay K V Q)) (i : ℕ) → Together w c blocks sights calls → calls i ≡ None
-      → w.row i ≡ Rests → IsInside (w.uses (slot i)) → (is_incremental setting.mode ≡ false → AreFew (λ j. (j ≡ i) ⊎ HasCall calls j))
+      → w.row i ≡ Rests → (is_incremental setting.mode ≡ false → AreFew (λ j. (j ≡ i) ⊎ HasCall calls j))
       → Together w c blocks sights (with_at calls i (Some (Counting (summing (in_slot setting (slot i))))))
 
   -- The promise: whichever caller takes a step of its counting, it may take it. It changes nothing, never waits, and is never refused.

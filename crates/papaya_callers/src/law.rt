@@ -38,8 +38,8 @@ pub fn reservations_stand_together<K, V, Q>()
     ensures rows { (same : K → K → Bool) (hash : K → ℕ) (asks : Q → K → Bool) (setting : Setting) (slot : ℕ → ℕ) → RoomRowsStandTogether V same hash asks setting slot }
 {}
 
-/// And so do countings of the pairs. A caller that has no call may begin one within its section, and may take each of its steps: it reads a shard of the
-/// counter, changes nothing, never waits, and is never refused.
+/// And so do countings of the pairs. A caller that has no call may begin one, outside of any section too, and may take each of its steps: it reads a shard of
+/// the counter, changes nothing, never waits, and is never refused.
 pub fn countings_stand_together<K, V, Q>()
     ensures begins { (same : K → K → Bool) (hash : K → ℕ) (asks : Q → K → Bool) (setting : Setting) (slot : ℕ → ℕ) → CountingsBeginTogether V same hash asks setting slot }
     ensures steps { (same : K → K → Bool) (hash : K → ℕ) (asks : Q → K → Bool) (setting : Setting) (slot : ℕ → ℕ) → CountingsStandTogether V same hash asks setting slot }

@@ -4,7 +4,7 @@ use Rattle.std.specs.Prelude.{◌≢◌, Option, Some, None, IsSome}
 use Rattle.std.proofs.Common.{◌≡◌, ℕ, ◌<◌, ◌≤◌, zero, suc, Bool, true, ◌⊎◌, inl, inr, refl, arith, ap, sym, subst, ◌∙◌}
 use Rattle.std.proofs.lemmas.Bool.{cases_lt, cases_eq}
 use Rattle.papaya_scenes.specs.Given.SeizeWords.Mem.{Mem, value_at}
-use Rattle.papaya_scenes.specs.Given.Seize.World.{World, Row, Hand, NoBlock, Making, InUse, Parting, Cutting, Handed, LeftTo, with_at}
+use Rattle.papaya_scenes.specs.Given.Seize.World.{World, Row, Hand, NoBlock, Making, InUse, Parting, Cutting, Handed, LeftTo, IsInside, with_at}
 use Rattle.seize_acts.specs.Reclaimed.{IsStillHad}
 use Rattle.papaya_scenes.specs.Given.SeizeAlone.Alone.{IsOfUsers}
 use Rattle.papaya_scenes.proofs.Given.SeizeAlone.Histories.NotTaken.{IsHad, kept_there}
@@ -101,7 +101,7 @@ module _ {K Q : Type 0} (V : Type 0) (same : K → K → Bool) (asks : Q → K �
   pub owes_after : (u2 : UnderWay K V Q) (q : Copier) → next ≡ Some u2 → copier_of u2 ≡ Some q → (b : ℕ) → IsToHandOver w maps m i q b → Due b
   owes_after u2 q is copies b hands = (u2, is, (q, copies, hands_on w went.w2 maps maps2 m i q b (λ rests. rows_are i ∙ rests) (stand_on m) hands))
 
-  module _ (b : ℕ) where
+  module _ (in_it : IsInside (w.uses (slot i))) (b : ℕ) where
     -- whose it was, it is
     theirs_on : ((t : ℕ) → s.chart.first ≤ t → t < went.c2.first → b ≡ s.blocks.table t → Due b) → (Owes w maps m i u b → Due b)
         → IsTheirs w maps calls enders b → IsTheirs went.w2 maps2 calls2 enders b
@@ -124,7 +124,7 @@ module _ {K Q : Type 0} (V : Type 0) (same : K → K → Bool) (asks : Q → K �
         by (inr ne) = inl (n, r, other n ne ∙ is, t, from, made, at)
 
     seen_out : (x : ℕ) → IsKnownBlock s.chart (seen_by s.blocks (s.sights (slot i))) x → IsOut (w.hand x)
-    seen_out x seen = known_out same s.hash asks s.setting slot w s.chart s.blocks s.sights (calls m) together x (seen_known V same asks size slot w maps calls all m s here i u has x seen)
+    seen_out x seen = known_out same s.hash asks s.setting slot w s.chart s.blocks s.sights (calls m) together x (seen_known V same asks size slot w maps calls all m s here i u has in_it x seen)
 
     -- a table that its caller had made
     new_linked : w.hand b ≡ Making i → (t : ℕ) → t < went.c2.past → went.blocks2.table_known t ≡ true → b ≡ went.blocks2.table t → IsLinkedTable went.w2 maps2 b
@@ -185,11 +185,11 @@ module _ {K Q : Type 0} (V : Type 0) (same : K → K → Bool) (asks : Q → K �
         by (inr making) = inr (of_made making can (went.links.known b making (out_of (went.w2.hand b) can.0)))
 
   -- so each is somebody's
-  pub went_theirs : AllAreTheirs w maps calls enders
+  pub went_theirs : IsInside (w.uses (slot i)) → AllAreTheirs w maps calls enders
       → ((b t : ℕ) → s.chart.first ≤ t → t < went.c2.first → b ≡ s.blocks.table t → Due b) → ((b : ℕ) → Owes w maps m i u b → Due b)
       → AllAreTheirs went.w2 maps2 calls2 enders
-  went_theirs theirs passes keeps b can = by (carried b can)
+  went_theirs in_it theirs passes keeps b can = by (carried in_it b can)
     where
       by : CanCarry w maps calls enders b ⊎ IsLinkedTable went.w2 maps2 b → IsTheirs went.w2 maps2 calls2 enders b
-      by (inl was) = theirs_on b (passes b) (keeps b) (theirs b was)
+      by (inl was) = theirs_on in_it b (passes b) (keeps b) (theirs b was)
       by (inr linked) = inl linked

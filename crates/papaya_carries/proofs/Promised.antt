@@ -27,7 +27,7 @@ module _ {K Q : Type 0} (V : Type 0) (same : K → K → Bool) (asks : Q → K �
     (w : World (Node K V)) (maps : ℕ → Option (Standing K)) (calls : ℕ → ℕ → Option (UnderWay K V Q)) (makers : ℕ → Option (Beginning K)) (enders : ℕ → Option (Finishing K V)) where
   pub calls_keep_theirs : CallsKeepTheirs V same asks batch_size roots slot w maps calls makers enders
   calls_keep_theirs all theirs m s here i u has row m2 p2 progress steps st =
-      step_theirs V same asks batch_size slot w maps calls enders all.makings.standing m s here i (OnKey u) has m2 _ st.step.went st.step.blocks2 st.step.grown st.step.sights2 next
+      step_theirs V same asks batch_size slot w maps calls enders all.makings.standing m s here i (OnKey u) has ((all.makings.standing.each m s here).inside i (OnKey u) has) m2 _ st.step.went st.step.blocks2 st.step.grown st.step.sights2 next
       knows.0 without within theirs
     where
       then : CallOnKey K V Q
@@ -73,7 +73,7 @@ module _ {K Q : Type 0} (V : Type 0) (same : K → K → Bool) (asks : Q → K �
       either x is (inr late) = left u.call.stands x is late.1.point
 
       within : (x : Copier) → copier_of_call u.call.stands ≡ Some x
-          → StepsBy V same asks batch_size slot w maps calls enders all.makings.standing m s here i (OnKey u) has m2 _ st.step.went st.step.blocks2 st.step.grown st.step.sights2 next x
+          → StepsBy V same asks batch_size slot w maps calls enders all.makings.standing m s here i (OnKey u) has ((all.makings.standing.each m s here).inside i (OnKey u) has) m2 _ st.step.went st.step.blocks2 st.step.grown st.step.sights2 next x
       within x is =
           let k = call_copies same s.hash asks u.call w.memory m2 (p2, progress) u.call.stands x is steps in record {
             no_row = λ at_row. row ((call_row u.call.stands x is).1 at_row);
@@ -90,5 +90,5 @@ module _ {K Q : Type 0} (V : Type 0) (same : K → K → Bool) (asks : Q → K �
       without : copier_of_call u.call.stands ≡ None → st.step.went.c2.first ≡ s.chart.first
       without none =
           first_kept same s.hash (in_slot s.setting (slot i)) w st.step.went.w2 s.chart st.step.went.c2 (seen_by s.blocks (s.sights (slot i))) st.step.went.blocks2
-          (map_here V same asks batch_size slot w maps calls enders all.makings.standing m s here i (OnKey u) has) st.step.went.map st.step.went.blocks_same st.step.went.moved
+          (map_here V same asks batch_size slot w maps calls enders all.makings.standing m s here i (OnKey u) has ((all.makings.standing.each m s here).inside i (OnKey u) has)) st.step.went.map st.step.went.blocks_same st.step.went.moved
           (subst (λ (n : Mem (Node K V)). RootStays s.setting.root w.memory n) (sym st.step.went.memory) (root none))

@@ -31,7 +31,7 @@ module _ {K Q : Type 0} (V : Type 0) (same : K → K → Bool) (asks : Q → K �
     (w : World (Node K V)) (maps : ℕ → Option (Standing K)) (calls : ℕ → ℕ → Option (UnderWay K V Q)) (makers : ℕ → Option (Beginning K)) (enders : ℕ → Option (Finishing K V)) where
   pub rooms_keep_theirs : RoomsKeepTheirs V same asks batch_size roots slot w maps calls makers enders
   rooms_keep_theirs all theirs m s here i r has row m2 p2 end steps st =
-      step_theirs V same asks batch_size slot w maps calls enders all.makings.standing m s here i (ForRoom r) has m2 _ st.step.went st.step.blocks2 st.step.grown st.step.sights2 next
+      step_theirs V same asks batch_size slot w maps calls enders all.makings.standing m s here i (ForRoom r) has ((all.makings.standing.each m s here).inside i (ForRoom r) has) m2 _ st.step.went st.step.blocks2 st.step.grown st.step.sights2 next
       knows.0 (λ none. same_first s.hash s.setting.mode s.chart st.step.went.c2 (beside st.step.went.told (room_without r.reserve.stands none))) within theirs
     where
       then : CallForRoom
@@ -79,7 +79,7 @@ module _ {K Q : Type 0} (V : Type 0) (same : K → K → Bool) (asks : Q → K �
       either x is (inr late) = left r.reserve.stands x is late.point
 
       within : (x : Copier) → copier_of_room r.reserve.stands ≡ Some x
-          → StepsBy V same asks batch_size slot w maps calls enders all.makings.standing m s here i (ForRoom r) has m2 _ st.step.went st.step.blocks2 st.step.grown st.step.sights2 next x
+          → StepsBy V same asks batch_size slot w maps calls enders all.makings.standing m s here i (ForRoom r) has ((all.makings.standing.each m s here).inside i (ForRoom r) has) m2 _ st.step.went st.step.blocks2 st.step.grown st.step.sights2 next x
       within x is =
           let k = room_copies Q s.hash r.reserve w.memory m2 (p2, end) r.reserve.stands x is steps in record {
             no_row = λ at_row. row ((room_row r.reserve.stands x is).1 at_row);

@@ -4,7 +4,7 @@ use Rattle.std.specs.Prelude.{Option, Some, None}
 use Rattle.std.proofs.Common.{◌≡◌, ℕ, ◌<◌, ◌≤◌, Bool, false, inl, inr, refl, arith, ap, sym, subst, ◌∙◌}
 use Rattle.papaya_scenes.specs.Given.SeizeWords.Mem.{Mem, Took, value_at}
 use Rattle.papaya_scenes.specs.Given.SeizeWords.Plan.{Steps}
-use Rattle.papaya_scenes.specs.Given.Seize.World.{World, Rests}
+use Rattle.papaya_scenes.specs.Given.Seize.World.{World, Rests, IsInside}
 use Rattle.papaya_scenes.specs.Given.Tables.Chunks.{is_incremental}
 use Rattle.papaya_scenes.specs.Given.Tables.declared.node.Node.{Node}
 use Rattle.papaya_scenes.specs.Given.Tables.declared.table.Table.{Table}
@@ -21,7 +21,6 @@ use Rattle.papaya_scenes.proofs.Given.Callers.Sights.Seen.{map_seen}
 use Rattle.papaya_scenes.proofs.Given.Callers.Together.Fits.{map_in_slot}
 use Rattle.papaya_scenes.specs.Given.Finishes.Endings.{Finishing}
 use Rattle.papaya_scenes.specs.Given.Finishes.Maps.{Standing, MapsTogether}
-use Rattle.papaya_scenes.proofs.Given.Finishes.Beside.Maps.Steps.{its_inside}
 use Rattle.papaya_carries.specs.Theirs.{IsAhead, next_of_them, copier_of, IsToHandOver, AllAreTheirs}
 use Rattle.papaya_carries.proofs.Calls.{Due, calls2, maps2, owes_after, went_theirs}
 use Rattle.papaya_carries.proofs.Copiers.{GoesOwing, IsItsNext, copier_left, copier_stays}
@@ -31,13 +30,13 @@ use Rattle.papaya_carries.proofs.Owed.{one_some}
 
 module _ {K Q : Type 0} (V : Type 0) (same : K → K → Bool) (asks : Q → K → Bool) (size : ℕ) (slot : ℕ → ℕ)
     (w : World (Node K V)) (maps : ℕ → Option (Standing K)) (calls : ℕ → ℕ → Option (UnderWay K V Q)) (enders : ℕ → Option (Finishing K V)) (all : MapsTogether V same asks size slot w maps calls)
-    (m : ℕ) (s : Standing K) (here : maps m ≡ Some s) (i : ℕ) (u : UnderWay K V Q) (has : calls m i ≡ Some u) where
+    (m : ℕ) (s : Standing K) (here : maps m ≡ Some s) (i : ℕ) (u : UnderWay K V Q) (has : calls m i ≡ Some u) (in_it : IsInside (w.uses (slot i))) where
   -- the map, as the caller sees it
   pub map_here : IsMapIn same s.hash (in_slot s.setting (slot i)) w s.chart (seen_by s.blocks (s.sights (slot i)))
   map_here =
       map_seen same s.hash (in_slot s.setting (slot i)) w s.chart s.blocks (s.sights (slot i))
       (map_in_slot same s.hash s.setting w s.chart s.blocks (slot i) (all.each m s here).ground.map)
-      ((all.each m s here).ground.sight (slot i) (its_inside V same asks size slot w maps calls all m s here i u has)).0
+      ((all.each m s here).ground.sight (slot i) in_it).0
 
   module _ (m2 : Mem (Node K V)) (Told : World (Node K V) → Chart K → Blocks → Type 0)
       (went : Went same s.hash (in_slot s.setting (slot i)) i w s.chart (seen_by s.blocks (s.sights (slot i))) m2 Told)
@@ -92,7 +91,7 @@ module _ {K Q : Type 0} (V : Type 0) (same : K → K → Bool) (asks : Q → K �
         → AllAreTheirs went.w2 (maps2 V same asks size slot w maps calls enders all m s here i u has m2 Told went blocks2 grown sights2 next)
         (calls2 V same asks size slot w maps calls enders all m s here i u has m2 Told went blocks2 grown sights2 next) enders
     step_theirs rests without within theirs =
-        went_theirs V same asks size slot w maps calls enders all m s here i u has m2 Told went blocks2 grown sights2 next theirs
+        went_theirs V same asks size slot w maps calls enders all m s here i u has m2 Told went blocks2 grown sights2 next in_it theirs
         (λ b t from to at. subst DueThen (sym at) (passes (copier_of u) refl t from to))
         (λ b owes. keeps_by owes.0 (within owes.0 owes.1) rests b owes.2)
       where

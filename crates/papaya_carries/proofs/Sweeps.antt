@@ -30,7 +30,7 @@ module _ {K Q : Type 0} (V : Type 0) (same : K → K → Bool) (asks : Q → K �
     (w : World (Node K V)) (maps : ℕ → Option (Standing K)) (calls : ℕ → ℕ → Option (UnderWay K V Q)) (makers : ℕ → Option (Beginning K)) (enders : ℕ → Option (Finishing K V)) where
   pub sweeps_keep_theirs : SweepsKeepTheirs V same asks batch_size roots slot w maps calls makers enders
   sweeps_keep_theirs all theirs m s here i o has row m2 p2 end steps st =
-      step_theirs V same asks batch_size slot w maps calls enders all.makings.standing m s here i (OverAll o) has m2 _ st.step.went st.step.blocks2 st.step.grown st.step.sights2 next
+      step_theirs V same asks batch_size slot w maps calls enders all.makings.standing m s here i (OverAll o) has ((all.makings.standing.each m s here).inside i (OverAll o) has) m2 _ st.step.went st.step.blocks2 st.step.grown st.step.sights2 next
       knows.0 (λ none. same_first s.hash s.setting.mode s.chart st.step.went.c2 (st.step.went.told.beside (sweep_without o.sweep.stands none))) within theirs
     where
       then : CallOverAll
@@ -61,7 +61,7 @@ module _ {K Q : Type 0} (V : Type 0) (same : K → K → Bool) (asks : Q → K �
       tables _ x is point = absurd (cc is)
 
       within : (x : Copier) → copier_of_sweep o.sweep.stands ≡ Some x
-          → StepsBy V same asks batch_size slot w maps calls enders all.makings.standing m s here i (OverAll o) has m2 _ st.step.went st.step.blocks2 st.step.grown st.step.sights2 next x
+          → StepsBy V same asks batch_size slot w maps calls enders all.makings.standing m s here i (OverAll o) has ((all.makings.standing.each m s here).inside i (OverAll o) has) m2 _ st.step.went st.step.blocks2 st.step.grown st.step.sights2 next x
       within x is =
           let k = sweep_copies Q s.hash o.sweep w.memory m2 (p2, end) o.sweep.stands x is steps in record {
             no_row = λ at_row. row ((sweep_row o.sweep.stands x is).1 at_row);

@@ -57,7 +57,7 @@ module _ {K V S : Type 0} (same : K → K → Bool) (hash : K → ℕ) (e : Exec
     together (Counting sum) is =
         subst (λ x. EndingsTogether V same same e.batch_size e.roots slot_of s.world s.maps (with_call s.calls m caller (Some (Counting x))) s.makers s.enders) (sym is)
         (countings_begin_among V same same e.batch_size e.roots slot_of s.world s.maps s.calls s.makers s.enders at.held.together caller no_maker no_ender no_calls
-        (resting same hash e s at slot fits) inside m standing stands (λ blocking. are_few same hash e s at m caller place_is few))
+        (resting same hash e s at slot fits) m standing stands (λ blocking. are_few same hash e s at m caller place_is few))
     together (OverAll o) (purpose, is) =
         subst (λ x. EndingsTogether V same same e.batch_size e.roots slot_of s.world s.maps (with_call s.calls m caller (Some (OverAll x))) s.makers s.enders) (sym is)
         (sweeps_begin_among V same same e.batch_size e.roots slot_of s.world s.maps s.calls s.makers s.enders at.held.together caller no_maker no_ender no_calls

@@ -9,6 +9,7 @@ use Rattle.papaya_scenes.specs.Given.Tables.Nodes.{deferred_word}
 use Rattle.papaya_scenes.specs.Given.Tables.declared.node.Node.{Node}
 use Rattle.papaya_scenes.specs.Given.Callers.Rows.{IsRowOn}
 use Rattle.papaya_scenes.specs.Given.Callers.Together.{UnderWay, IsOfSlots, Closes}
+use Rattle.papaya_scenes.proofs.Given.Callers.Together.Fits.{unless_so}
 use Rattle.papaya_scenes.proofs.Given.Callers.Together.Slots.{alike_more, alike_at}
 use Rattle.papaya_scenes.specs.Given.Finishes.Endings.{AllEndingsStand}
 use Rattle.papaya_scenes.specs.Given.Finishes.Machines.{machine_of}
@@ -148,7 +149,7 @@ module _ {K V S : Type 0} (same : K → K → Bool) (hash : K → ℕ) (e : Exec
 
       all : AllEndingsStand V same same e.batch_size e.roots slot_of w2 s.maps s.calls s.makers s.enders
       all = (guards_stand_among {Q = K} V same same e.batch_size e.roots slot_of s.world s.maps s.calls s.makers s.enders at.held.together i (no_calls_yet same hash e s at slot fits)).0
-          (request_of slot called) (of_slots slot called) (closes_none same hash e s at i slot called may) w2 happens
+          (request_of slot called) (of_slots slot called) (λ m j u has. unless_so u (closes_none same hash e s at i slot called may m j u has)) w2 happens
 
       there : IsThere same hash e2 (record s { world = w2; maps = all.0 })
       there = there_again same hash e s at i None (Some (its called)) (fresh_before e slot fits) mid e2 changes refl batch_size roots (omega (arith, ap length maps)) (record s { world = w2; maps = all.0 }) (record {

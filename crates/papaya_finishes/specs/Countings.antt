@@ -3,7 +3,7 @@ use Rattle.std.specs.Prelude.{◌≡◌, ◌≢◌, ℕ, ◌⊎◌, Bool, false,
 use Rattle.papaya_callers.specs.Given.SeizeWords.Mem.{Mem, Can, Took, value_at}
 use Rattle.papaya_callers.specs.Given.SeizeWords.Plan.{May, Steps}
 use Rattle.papaya_callers.specs.Given.SeizeWords.declared.fault.Fault.{Fault}
-use Rattle.papaya_callers.specs.Given.Seize.World.{World, Rests, IsInside}
+use Rattle.papaya_callers.specs.Given.Seize.World.{World, Rests}
 use Rattle.papaya_callers.specs.Given.Seize.declared.progress.Progress.{Progress}
 use Rattle.papaya_callers.specs.Given.Seize.declared.progress.Progress.TheVariants as progress
 use Rattle.papaya_callers.specs.Given.Tables.Chunks.{is_incremental}
@@ -17,12 +17,12 @@ use Rattle.papaya_callers.specs.Together.{UnderWay, Counting, HasCall, in_slot, 
 use Rattle.papaya_finishes.specs.Endings.{Finishing, EndingsTogether}
 
 module _ {K Q : Type 0} (V : Type 0) (same : K → K → Bool) (asks : Q → K → Bool) (batch_size roots : ℕ) (slot : ℕ → ℕ) where
-  -- A caller that has no call on any map, makes none and ends none, and has no row under way, begins to count the pairs of one, within its section.
+  -- A caller that has no call on any map, makes none and ends none, and has no row under way, begins to count the pairs of one, outside of any section too.
   abbrev pub CountingsBeginAmong : Type 0
   CountingsBeginAmong =
       (w : World (Node K V)) (maps : ℕ → Option (Standing K)) (calls : ℕ → ℕ → Option (UnderWay K V Q)) (makers : ℕ → Option (Beginning K)) (enders : ℕ → Option (Finishing K V))
       → EndingsTogether V same asks batch_size roots slot w maps calls makers enders
-      → (i : ℕ) → makers i ≡ None → enders i ≡ None → ((n : ℕ) → calls n i ≡ None) → w.row i ≡ Rests → IsInside (w.uses (slot i))
+      → (i : ℕ) → makers i ≡ None → enders i ≡ None → ((n : ℕ) → calls n i ≡ None) → w.row i ≡ Rests
       → (m : ℕ) (s : Standing K) → maps m ≡ Some s → (is_incremental s.setting.mode ≡ false → AreFew (λ j. (j ≡ i) ⊎ HasCall (calls m) j))
       → EndingsTogether V same asks batch_size roots slot w maps (with_call calls m i (Some (Counting (summing (in_slot s.setting (slot i)))))) makers enders
 

@@ -30,7 +30,7 @@ use Rattle.papaya_callers.specs.Claims.{AreFew}
 use Rattle.papaya_finishes.specs.Maps.{Standing, IsSameMap, with_call}
 use Rattle.papaya_finishes.specs.Makings.{Beginning, HasTaken, HasMade, MakingsTogether, StepsOfMaking, IsMade}
 use Rattle.papaya_callers.specs.Sights.{seen_by}
-use Rattle.papaya_callers.specs.Together.{RepliesTaken, CallOnKey, UnderWay, OnKey, HasCall, IsOfSlots, Closes, IsBegun, begun_at, next_of, change_told, StepsTogether, RowStepsTogether}
+use Rattle.papaya_callers.specs.Together.{RepliesTaken, CallOnKey, UnderWay, OnKey, UnlessCounts, HasCall, IsOfSlots, Closes, IsBegun, begun_at, next_of, change_told, StepsTogether, RowStepsTogether}
 use Rattle.papaya_finishes.specs.FactsEnds.{Deed, LeavesTable, events_of, taken_by, left_by, joined_by, Spares, RootIs, BeganIn, CarryTheirs, EndFacts, back_of, wait_before}
 use Rattle.papaya_finishes.specs.Orders.{pairs_of}
 
@@ -226,7 +226,7 @@ module _ {K Q : Type 0} (V : Type 0) (same : K → K → Bool) (asks : Q → K �
   GuardsStandAmong =
       (w : World (Node K V)) (maps : ℕ → Option (Standing K)) (calls : ℕ → ℕ → Option (UnderWay K V Q)) (makers : ℕ → Option (Beginning K)) (enders : ℕ → Option (Finishing K V))
       → EndingsTogether w maps calls makers enders → (i : ℕ) → ((m : ℕ) → calls m i ≡ None)
-      → ((request : Request) → IsOfSlots request → ((m j : ℕ) (u : UnderWay K V Q) → calls m j ≡ Some u → Closes request (slot j) → ⊥)
+      → ((request : Request) → IsOfSlots request → ((m j : ℕ) (u : UnderWay K V Q) → calls m j ≡ Some u → UnlessCounts u (Closes request (slot j) → ⊥))
       → (w2 : World (Node K V)) → Happens deferred_word batch_size (Begin i request) w w2 → AllEndingsStand w2 maps calls makers enders)
       × MayStep deferred_word (w.row i) w.memory
       × ((w2 : World (Node K V)) → Happens deferred_word batch_size (Step i) w w2 → AllEndingsStand w2 maps calls makers enders)

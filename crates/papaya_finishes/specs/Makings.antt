@@ -37,7 +37,7 @@ use Rattle.papaya_callers.specs.Pairs.{Given}
 use Rattle.papaya_callers.specs.Claims.{AreFew}
 use Rattle.papaya_finishes.specs.Maps.{Standing, IsSameMap, with_call, MapsTogether}
 use Rattle.papaya_callers.specs.Sights.{seen_by}
-use Rattle.papaya_callers.specs.Together.{RepliesTaken, OnKey, CallOnKey, UnderWay, HasCall, IsOfSlots, Closes, IsBegun, begun_at, next_of, change_told, no_blocks, StepsTogether, RowStepsTogether}
+use Rattle.papaya_callers.specs.Together.{RepliesTaken, OnKey, CallOnKey, UnderWay, UnlessCounts, HasCall, IsOfSlots, Closes, IsBegun, begun_at, next_of, change_told, no_blocks, StepsTogether, RowStepsTogether}
 
 -- The making of a map that is under way: the number that the map is to have, the setting that the making began with, as many places as its first
 -- table is to have, 0 for no table, the hash of its keys, and the machine. The map stands from the step on at which the machine answers.
@@ -278,7 +278,7 @@ module _ {K Q : Type 0} (V : Type 0) (same : K → K → Bool) (asks : Q → K �
   GuardsStandBeside =
       (w : World (Node K V)) (maps : ℕ → Option (Standing K)) (calls : ℕ → ℕ → Option (UnderWay K V Q)) (makers : ℕ → Option (Beginning K)) → MakingsTogether w maps calls makers
       → (i : ℕ) → ((m : ℕ) → calls m i ≡ None)
-      → ((request : Request) → IsOfSlots request → ((m j : ℕ) (u : UnderWay K V Q) → calls m j ≡ Some u → Closes request (slot j) → ⊥)
+      → ((request : Request) → IsOfSlots request → ((m j : ℕ) (u : UnderWay K V Q) → calls m j ≡ Some u → UnlessCounts u (Closes request (slot j) → ⊥))
       → (w2 : World (Node K V)) → Happens deferred_word batch_size (Begin i request) w w2 → AllMakingsStand w2 maps calls makers)
       × MayStep deferred_word (w.row i) w.memory
       × ((w2 : World (Node K V)) → Happens deferred_word batch_size (Step i) w w2 → AllMakingsStand w2 maps calls makers)

@@ -24,7 +24,7 @@ use Rattle.papaya_callers.specs.Pairs.{Given}
 use Rattle.papaya_callers.specs.Claims.{AreFew}
 use Rattle.papaya_callers.specs.Kept.{IsMaking}
 use Rattle.papaya_callers.specs.Sights.{Sight, IsPartOf, seen_by}
-use Rattle.papaya_callers.specs.Together.{RepliesTaken, CallOnKey, UnderWay, OnKey, HasCall, CameAbout, IsOfSlots, Closes, IsBegun, begun_at, next_of, change_told, no_blocks, no_sight, Together, StepsTogether, RowStepsTogether}
+use Rattle.papaya_callers.specs.Together.{RepliesTaken, CallOnKey, UnderWay, OnKey, UnlessCounts, HasCall, CameAbout, IsOfSlots, Closes, IsBegun, begun_at, next_of, change_told, no_blocks, no_sight, Together, StepsTogether, RowStepsTogether}
 
 -- a map that stands: its setting, the hash of its keys, its tables, the blocks that may be looked at, and what each section sees of them
 pub record Standing (K : Type 0) : Type 0 where
@@ -126,11 +126,11 @@ module _ {K Q : Type 0} (V : Type 0) (same : K → K → Bool) (asks : Q → K �
       → RowStepsInMaps w maps calls m s i u m2 p2 progress)
 
   -- The promise of rows between calls: a caller that has no call on any map registers, enters, leaves, refreshes, flushes or gives up its slot; it
-  -- ends no section in which a call is under way, on whichever map.
+  -- ends no section in which a call is under way that needs it, on whichever map.
   abbrev pub GuardsStandInMaps : Type 0
   GuardsStandInMaps =
       (w : World (Node K V)) (maps : ℕ → Option (Standing K)) (calls : ℕ → ℕ → Option (UnderWay K V Q)) → MapsTogether w maps calls → (i : ℕ) → ((m : ℕ) → calls m i ≡ None)
-      → ((request : Request) → IsOfSlots request → ((m j : ℕ) (u : UnderWay K V Q) → calls m j ≡ Some u → Closes request (slot j) → ⊥)
+      → ((request : Request) → IsOfSlots request → ((m j : ℕ) (u : UnderWay K V Q) → calls m j ≡ Some u → UnlessCounts u (Closes request (slot j) → ⊥))
       → (w2 : World (Node K V)) → Happens deferred_word batch_size (Begin i request) w w2 → AllMapsStand w2 maps calls)
       × MayStep deferred_word (w.row i) w.memory
       × ((w2 : World (Node K V)) → Happens deferred_word batch_size (Step i) w w2 → AllMapsStand w2 maps calls)

@@ -33,7 +33,7 @@ use Rattle.papaya_scenes.proofs.Given.Rule.World.WentTold.{went_as}
 use Rattle.papaya_scenes.specs.Given.Points.Steps.{AreLawful}
 use Rattle.papaya_scenes.proofs.Given.Points.MovedLasts.{moved_lasts}
 use Rattle.papaya_scenes.specs.Given.Callers.Sights.{Sight, seen_by, IsGrown, IsSight}
-use Rattle.papaya_scenes.specs.Given.Callers.Together.{UnderWay, OnKey, ForRoom, Counting, OverAll, in_slot, Together}
+use Rattle.papaya_scenes.specs.Given.Callers.Together.{UnderWay, UnlessCounts, OnKey, ForRoom, Counting, OverAll, in_slot, Together}
 use Rattle.papaya_scenes.proofs.Given.Callers.Sights.Seen.{map_seen}
 use Rattle.papaya_scenes.proofs.Given.Callers.Together.At.{at_other, at_same}
 use Rattle.papaya_scenes.proofs.Given.Callers.Together.Fits.{map_in_slot}
@@ -280,70 +280,73 @@ module _ {K V : Type 0} (same : K → K → Bool) (hash : ℕ → K → ℕ) (m 
             },
           )
 
-    -- A step that has left the memory as it was has moved nothing.
-    module _ (still : m2 ≡ w.memory) where
-      abbrev stayed : Went same standing.hash setting i w standing.chart (seen_by standing.blocks sight) m2 (λ w2 c2 blocks2. Unit {0})
-      stayed = went_nowhere same standing.hash setting i w standing.chart (seen_by standing.blocks sight) is_map m2 still
+  -- A step that has left the memory as it was has moved nothing, within a section or outside of any.
+  whole : IsMapIn same standing.hash setting w standing.chart standing.blocks
+  whole = map_in_slot same standing.hash standing.setting w standing.chart standing.blocks (slot_of i) each.ground.map
 
-      same_word : (at : At) (x y : ℕ) → told ≡ changed.Wrote at x y → y ≡ x
-      same_word at x y e =
-          let words = subst (LeavesBy w.memory m2) e left in
-          let now : word_at w.memory at ≡ Some y = ap (λ (n : Mem (Node K V)). word_at n at) (sym still) ∙ words.1 in
-          let was = words.0 in cc (now, was)
+  module _ (still : m2 ≡ w.memory) where
+    abbrev stayed : Went same standing.hash setting i w standing.chart standing.blocks m2 (λ w2 c2 blocks2. Unit {0})
+    stayed = went_nowhere same standing.hash setting i w standing.chart standing.blocks whole m2 still
 
-      keeps_names : (at : At) (x y : ℕ) → y ≡ x → KeepsNames setting standing.chart (seen_by standing.blocks sight) at x y
-      keeps_names (Root r) x y e = λ is. e
-      keeps_names (Used r) x y e = tt
-      keeps_names (Slot r field) x y e = tt
-      keeps_names (Entry b field) x y e = tt
-      keeps_names (Word b field) x y e = λ t l known is. (λ next. e, λ place l is. ap block_in e)
+    same_word : (at : At) (x y : ℕ) → told ≡ changed.Wrote at x y → y ≡ x
+    same_word at x y e =
+        let words = subst (LeavesBy w.memory m2) e left in
+        let now : word_at w.memory at ≡ Some y = ap (λ (n : Mem (Node K V)). word_at n at) (sym still) ∙ words.1 in
+        let was = words.0 in cc (now, was)
 
-      quiet : IsQuiet same standing.hash setting i w standing.chart (seen_by standing.blocks sight) m2 (λ w2 c2 blocks2. Unit {0}) stayed is_map map m.stored known
-          shown.blocks.roles shown.blocks.once (λ t l seen. is_shown.tables.roles t l (is_sight.tables t l seen)) effects after
-      quiet = quiet_told same standing.hash setting i w standing.chart (seen_by standing.blocks sight) m2 (λ w2 c2 blocks2. Unit {0}) stayed is_map map m.stored known
-          shown.blocks.roles shown.blocks.once (λ t l seen. is_shown.tables.roles t l (is_sight.tables t l seen)) told left (λ at x y e. keeps_names at x y (same_word at x y e))
+    keeps_names : (at : At) (x y : ℕ) → y ≡ x → KeepsNames setting standing.chart standing.blocks at x y
+    keeps_names (Root r) x y e = λ is. e
+    keeps_names (Used r) x y e = tt
+    keeps_names (Slot r field) x y e = tt
+    keeps_names (Entry b field) x y e = tt
+    keeps_names (Word b field) x y e = λ t l known is. (λ next. e, λ place l is. ap block_in e)
 
-      -- it stores no pair
-      pub stayed_stores : StoreTheirs w.memory told caller map effects m
-      stayed_stores = stores_none w.memory (named_now told) (Some caller) (Some map) effects m quiet.still
+    quiet : IsQuiet same standing.hash setting i w standing.chart standing.blocks m2 (λ w2 c2 blocks2. Unit {0}) stayed whole map m.stored known
+        shown.blocks.roles shown.blocks.once is_shown.tables.roles effects after
+    quiet = quiet_told same standing.hash setting i w standing.chart standing.blocks m2 (λ w2 c2 blocks2. Unit {0}) stayed whole map m.stored known
+        shown.blocks.roles shown.blocks.once is_shown.tables.roles told left (λ at x y e. keeps_names at x y (same_word at x y e))
 
-      module _ (w2 : World (Node K V)) (maps2 : ℕ → Option (Standing K)) (w_is : w2 ≡ w) (maps_same : (n : ℕ) → IsSameMap (s.maps n) (maps2 n)) where
-        same_map : (n : ℕ) (o : Option (Standing K)) → s.maps n ≡ o → IsSameMap o (maps2 n) → (st : Standing K) → maps2 n ≡ Some st → ShowsMap n (shown.number n) st v after
-        same_map n None e none st is = absurd (cc (none, is))
-        same_map n (Some before) e (blocks, sights, here, part) st is =
-            let alike = alike_same n m v (still_all (Some caller) map effects m quiet.still) in
-            let now = record before { blocks = blocks; sights = sights } in
-            subst (λ (x : Standing K). ShowsMap n (shown.number n) x v after) (one_of now st (sym here ∙ is))
-            (map_on n (shown.number n) before now m v known after (blocks_part before.chart before.blocks blocks part) quiet.keeps refl (tables_same before.chart) (pairs_same before.chart) alike (shown.maps n before e))
+    -- it stores no pair
+    pub stayed_stores : StoreTheirs w.memory told caller map effects m
+    stayed_stores = stores_none w.memory (named_now told) (Some caller) (Some map) effects m quiet.still
 
-        module _ (rest : Scene K V) (calls : ShowsCalls same name v rest.calls) where
-          same_so : AreSame m v
-          same_so = still_all (Some caller) map effects m quiet.still
+    module _ (w2 : World (Node K V)) (maps2 : ℕ → Option (Standing K)) (w_is : w2 ≡ w) (maps_same : (n : ℕ) → IsSameMap (s.maps n) (maps2 n)) where
+      same_map : (n : ℕ) (o : Option (Standing K)) → s.maps n ≡ o → IsSameMap o (maps2 n) → (st : Standing K) → maps2 n ≡ Some st → ShowsMap n (shown.number n) st v after
+      same_map n None e none st is = absurd (cc (none, is))
+      same_map n (Some before) e (blocks, sights, here, part) st is =
+          let alike = alike_same n m v (still_all (Some caller) map effects m quiet.still) in
+          let now = record before { blocks = blocks; sights = sights } in
+          subst (λ (x : Standing K). ShowsMap n (shown.number n) x v after) (one_of now st (sym here ∙ is))
+          (map_on n (shown.number n) before now m v known after (blocks_part before.chart before.blocks blocks part) quiet.keeps refl (tables_same before.chart) (pairs_same before.chart) alike (shown.maps n before e))
 
-          as_many : length v.stored ≡ length m.stored
-          as_many = ap length same_so.stored
+      module _ (rest : Scene K V) (calls : ShowsCalls same name v rest.calls) where
+        same_so : AreSame m v
+        same_so = still_all (Some caller) map effects m quiet.still
 
-          pub stayed_shown : AtEachEffect (FindsMap map) (Some caller) (Some map) effects m × ShowsOn same name m known s shown v after (record rest { world = w2; maps = maps2 })
-          stayed_shown = (
-            still_find map (Some caller) effects m quiet.still,
-            record {
-              shows = record {
-                blocks = subst (λ (x : World (Node K V)). ShowsBlocks v after x) (sym w_is) (record {
-                  roles = λ b. subst (λ (xs : List (K × V)). HasRole w xs b (after.roles b)) (sym same_so.stored) (quiet.roles b);
-                  once = quiet.once;
-                  stored = quiet.stored ∙ shown.blocks.stored ∙ sym as_many;
-                });
-                number = shown.number;
-                maps = λ n st is. same_map n (s.maps n) refl (maps_same n) st is;
-                calls = calls;
-              };
-              numbers = λ n st is o l. refl;
-              keeps = quiet.keeps;
-              back = λ b of. inl (quiet.back b of);
-              stood = λ n st is. same_stood (s.maps n) (maps2 n) st is (maps_same n);
-              none = λ n gone. (same_gone (s.maps n) (maps2 n) gone (maps_same n), (alike_same n m v same_so).pairs, (alike_same n m v same_so).tables.there);
-            },
-          )
+        as_many : length v.stored ≡ length m.stored
+        as_many = ap length same_so.stored
+
+        pub stayed_shown : AtEachEffect (FindsMap map) (Some caller) (Some map) effects m × ShowsOn same name m known s shown v after (record rest { world = w2; maps = maps2 })
+        stayed_shown = (
+          still_find map (Some caller) effects m quiet.still,
+          record {
+            shows = record {
+              blocks = subst (λ (x : World (Node K V)). ShowsBlocks v after x) (sym w_is) (record {
+                roles = λ b. subst (λ (xs : List (K × V)). HasRole w xs b (after.roles b)) (sym same_so.stored) (quiet.roles b);
+                once = quiet.once;
+                stored = quiet.stored ∙ shown.blocks.stored ∙ sym as_many;
+              });
+              number = shown.number;
+              maps = λ n st is. same_map n (s.maps n) refl (maps_same n) st is;
+              calls = calls;
+            };
+            numbers = λ n st is o l. refl;
+            keeps = quiet.keeps;
+            back = λ b of. inl (quiet.back b of);
+            stood = λ n st is. same_stood (s.maps n) (maps2 n) st is (maps_same n);
+            none = λ n gone. (same_gone (s.maps n) (maps2 n) gone (maps_same n), (alike_same n m v same_so).pairs, (alike_same n m v same_so).tables.there);
+          },
+        )
 
 -- The step of a call that has led somewhere: it may be taken, and was one of its machine.
 module _ {K V : Type 0} (same : K → K → Bool) (hash : ℕ → K → ℕ) (name : ℕ → List ℕ) (m : Moment K V) (known : Known) (s : Scene K V) (old new : Held K V) (at : IsAt same hash old s)
@@ -366,7 +369,7 @@ module _ {K V : Type 0} (same : K → K → Bool) (hash : ℕ → K → ℕ) (na
   calls_then = calls_on same name (name i) map (effects_of (Call i map) known new.changed) m s.calls map i u here went_to.4.next
       (called_on same old.batch_size old.roots s.world s.maps s.calls s.makers s.enders map went_to.0 i new.memory went_to.4.w2 went_to.4.maps2 went_to.4.next u went_to.1 told went_to.4.did) shown.calls
 
-  pub is_inside : IsInside (s.world.uses (slot_of i))
+  pub is_inside : UnlessCounts u (IsInside (s.world.uses (slot_of i)))
   is_inside = (at.together.makings.standing.each map went_to.0 went_to.2).inside i u here
 
   -- what such a step has led to
@@ -388,18 +391,18 @@ module _ {K V : Type 0} (same : K → K → Bool) (hash : ℕ → K → ℕ) (na
     where
       by : (x : UnderWay K V K) → (did : DidSo x) → OfNoRow x did → AtEachEffect (FindsMap map) (Some (name i)) (Some map) (effects_of (Call i map) known new.changed) m × LeadsThere
       by (OnKey x) (p2, end, machine_is, told_is, inl (step, moved)) own =
-          moved_shown same hash m known s old new at name shown map i went_to.0 went_to.2 (name i) made_so is_inside _ step.step.went step.step.blocks2 step.step.grown step.step.sights2 stores went_to.4.w2 went_to.4.maps2 moved.0 moved.1
+          moved_shown same hash m known s old new at name shown map i went_to.0 went_to.2 (name i) made_so step.step.inside _ step.step.went step.step.blocks2 step.step.grown step.step.sights2 stores went_to.4.w2 went_to.4.maps2 moved.0 moved.1
           (scene_after same s old new map i went_to.0 u went_to.1 told went_to.4) calls_then
       by (OnKey x) (p2, end, machine_is, told_is, inr row) own = absurd own
       by (ForRoom x) (p2, end, machine_is, told_is, inl (step, moved)) own =
-          moved_shown same hash m known s old new at name shown map i went_to.0 went_to.2 (name i) made_so is_inside _ step.step.went step.step.blocks2 step.step.grown step.step.sights2 stores went_to.4.w2 went_to.4.maps2 moved.0 moved.1
+          moved_shown same hash m known s old new at name shown map i went_to.0 went_to.2 (name i) made_so step.step.inside _ step.step.went step.step.blocks2 step.step.grown step.step.sights2 stores went_to.4.w2 went_to.4.maps2 moved.0 moved.1
           (scene_after same s old new map i went_to.0 u went_to.1 told went_to.4) calls_then
       by (ForRoom x) (p2, end, machine_is, told_is, inr row) own = absurd own
       by (Counting x) (p2, end, machine_is, told_is, still, stayed) own =
-          stayed_shown same hash m known s old new at name shown map i went_to.0 went_to.2 (name i) made_so is_inside still went_to.4.w2 went_to.4.maps2 stayed.0 stayed.1
+          stayed_shown same hash m known s old new at name shown map i went_to.0 went_to.2 (name i) made_so still went_to.4.w2 went_to.4.maps2 stayed.0 stayed.1
           (scene_after same s old new map i went_to.0 u went_to.1 told went_to.4) calls_then
       by (OverAll x) (p2, end, machine_is, told_is, inl (step, moved)) own =
-          moved_shown same hash m known s old new at name shown map i went_to.0 went_to.2 (name i) made_so is_inside _ step.step.went step.step.blocks2 step.step.grown step.step.sights2 stores went_to.4.w2 went_to.4.maps2 moved.0 moved.1
+          moved_shown same hash m known s old new at name shown map i went_to.0 went_to.2 (name i) made_so step.step.inside _ step.step.went step.step.blocks2 step.step.grown step.step.sights2 stores went_to.4.w2 went_to.4.maps2 moved.0 moved.1
           (scene_after same s old new map i went_to.0 u went_to.1 told went_to.4) calls_then
       by (OverAll x) (p2, end, machine_is, told_is, inr row) own = absurd own
 

@@ -10,6 +10,7 @@ use Rattle.papaya_follows.specs.Given.Tables.Nodes.{deferred_word}
 use Rattle.papaya_follows.specs.Given.Tables.declared.node.Node.{Node}
 use Rattle.papaya_follows.specs.Given.Callers.Together.{UnderWay}
 use Rattle.papaya_follows.proofs.Given.Callers.Together.Came.{came_reached}
+use Rattle.papaya_follows.proofs.Given.Callers.Together.Fits.{unless_on}
 use Rattle.papaya_follows.proofs.Given.Callers.Together.Users.{events_rows}
 use Rattle.papaya_follows.specs.Given.Finishes.FactsEnds.{Deed, Looks, TakesPair, LeavesTable, JoinsPair, TakesLeft, TakesCounter, WritesRoot, events_of, taken_by}
 use Rattle.papaya_follows.specs.Given.Finishes.Maps.{with_call}
@@ -17,7 +18,7 @@ use Rattle.papaya_hands.specs.Others.{RowsBeginAside, RowsGoAside, MakingsGoAsid
 use Rattle.papaya_hands.specs.Rows.{ReclaimsNone, HoldsOne, KeepsOne, ShowsRows}
 use Rattle.papaya_hands.proofs.Asking.{which}
 use Rattle.papaya_hands.proofs.Guarded.{AllBetween, IsInStill, in_at_first, all_between_in, one_of_still, there_still, step_keeps_one, begin_keeps_one, runs_keep_one}
-use Rattle.papaya_hands.proofs.RowsOn.{RowSo, inside_of}
+use Rattle.papaya_hands.proofs.RowsOn.{RowSo, inside_of, kept_within}
 use Rattle.papaya_hands.proofs.SettlingRows.{one_kept}
 use Rattle.papaya_follows.specs.Given.Scenes.Ending.{ending_begun}
 use Rattle.papaya_follows.specs.Given.Scenes.Held.{Held, IsAt}
@@ -26,14 +27,14 @@ use Rattle.papaya_follows.specs.Given.Scenes.Scene.{HasNoCall, Scene, slot_of}
 use Rattle.papaya_follows.proofs.Given.Scenes.NoCall.{no_call}
 
 module _ {K V : Type 0} (s : Scene K V) (rows : ShowsRows s) (w2 : World (Node K V)) where
-  -- the row of a call that is under way is as it was, and so is the batch of each such block
+  -- the row of a call that is under way is as it was, and keeps its block of a batch
   abbrev IsSameRow : ℕ → Type 0
-  IsSameRow j = (w2.row j ≡ s.world.row j) × ((first : ℕ) → HoldsOne s.world (slot_of j) first → HoldsOne w2 (slot_of j) first)
+  IsSameRow j = (w2.row j ≡ s.world.row j) × KeepsOne (HoldsOne w2 (slot_of j)) (s.world.row j)
 
   row_so : (n j : ℕ) (x : UnderWay K V K) → s.calls n j ≡ Some x → IsSameRow j → RowSo w2 j
   row_so n j x is it = (
     subst ReclaimsNone (sym it.0) (rows.none n j x is),
-    subst (KeepsOne (HoldsOne w2 (slot_of j))) (sym it.0) (one_kept (HoldsOne s.world (slot_of j)) (HoldsOne w2 (slot_of j)) it.1 (s.world.row j) (rows.one n j x is)),
+    subst (KeepsOne (HoldsOne w2 (slot_of j))) (sym it.0) it.1,
   )
 
   -- so they reclaim nothing still
@@ -83,7 +84,8 @@ module _ (K V : Type 0) (same : K → K → Bool) (hash : ℕ → K → ℕ) whe
       let to = leads.2 in
       rows_still s rows to.0 (record s { world = to.0; maps = to.2 }) refl refl (λ n j x is. (
         begins_others deferred_word old.batch_size s.world to.0 i j (another s i leads.1 n j x is) (request_of (slot_of i) called) to.1.1,
-        λ first one. begin_keeps_one s.world (reached s old at) (slot_of j) first one i (request_of (slot_of i) called) to.0 to.1,
+        one_kept (HoldsOne s.world (slot_of j)) (HoldsOne to.0 (slot_of j))
+            (λ first one. begin_keeps_one s.world (reached s old at) (slot_of j) first one i (request_of (slot_of i) called) to.0 to.1) (s.world.row j) (rows.one n j x is),
       ))
 
   pub rows_go_aside : RowsGoAside K V same hash
@@ -91,7 +93,8 @@ module _ (K V : Type 0) (same : K → K → Bool) (hash : ℕ → K → ℕ) whe
       let to = (leads row here).2 in
       rows_still s rows to.0 (record s { world = to.0; maps = to.2 }) refl refl (λ n j x is. (
         steps_others deferred_word old.batch_size s.world to.0 i j (another s i here.0 n j x is) (s.world.row i) to.1,
-        λ first one. step_keeps_one s.world (reached s old at) (slot_of j) first one i to.0 (inside_of same hash s old at n j x is) to.1,
+        kept_within same hash s old at (HoldsOne to.0 (slot_of j)) n j x is
+            (unless_on x (λ in_it first one. step_keeps_one s.world (reached s old at) (slot_of j) first one i to.0 in_it to.1) (inside_of same hash s old at n j x is)) (rows.one n j x is),
       ))
 
   pub makings_go_aside : MakingsGoAside K V same hash
@@ -99,7 +102,9 @@ module _ (K V : Type 0) (same : K → K → Bool) (hash : ℕ → K → ℕ) whe
       let step = (leads b here).2.step in
       rows_still s rows step.w2 (record s { world = step.w2 }) refl refl (λ n j x is. (
         ap (λ (f : ℕ → Row). f j) (events_rows old.batch_size step.events s.world step.w2 step.users step.runs),
-        λ first one. runs_keep_one (slot_of j) first s.world (reached s old at) one step.events step.w2 (inside_of same hash s old at n j x is) step.users step.runs,
+        kept_within same hash s old at (HoldsOne step.w2 (slot_of j)) n j x is
+            (unless_on x (λ in_it first one. runs_keep_one (slot_of j) first s.world (reached s old at) one step.events step.w2 in_it step.users step.runs) (inside_of same hash s old at n j x is))
+            (rows.one n j x is),
       ))
 
   pub endings_go_aside : EndingsGoAside K V same hash
@@ -107,7 +112,8 @@ module _ (K V : Type 0) (same : K → K → Bool) (hash : ℕ → K → ℕ) whe
       let did = (leads f here).2 in
       rows_still s rows did.w2 (record s { world = did.w2 }) refl refl (λ n j x is. (
         ap (λ (g : ℕ → Row). g j) did.spares.rows,
-        λ first one. end_keeps_one s.world (reached s old at) (slot_of j) first one i did.deed did.w2 did.runs did.spares.held did.spares.gone,
+        one_kept (HoldsOne s.world (slot_of j)) (HoldsOne did.w2 (slot_of j))
+            (λ first one. end_keeps_one s.world (reached s old at) (slot_of j) first one i did.deed did.w2 did.runs did.spares.held did.spares.gone) (s.world.row j) (rows.one n j x is),
       ))
 
 module _ (K V : Type 0) where
@@ -115,7 +121,8 @@ module _ (K V : Type 0) where
   endings_begin_aside s rows map i standing =
       rows_still s rows (with_effect s.world (Ended standing.setting.counter)) (ending_begun map i standing s) refl refl (λ n j x is. (
         refl,
-        λ first one. record { block = one.block; held = one.held; retired = one.retired; is_first = one.is_first },
+        one_kept (HoldsOne s.world (slot_of j)) (HoldsOne (with_effect s.world (Ended standing.setting.counter)) (slot_of j))
+            (λ first one. record { block = one.block; held = one.held; retired = one.retired; is_first = one.is_first }) (s.world.row j) (rows.one n j x is),
       ))
 
   pub calls_go_aside : CallsGoAside K V

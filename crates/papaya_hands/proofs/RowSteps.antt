@@ -7,7 +7,7 @@ use Rattle.papaya_follows.specs.Given.Tables.declared.node.Node.{Node}
 use Rattle.papaya_follows.specs.Given.Raw.declared.machines.progress.Progress.{Progress}
 use Rattle.papaya_follows.specs.Given.Schedules.declared.effect.Table.{Table}
 use Rattle.papaya_follows.specs.Given.Schedules.Moment.{InMap, Moment}
-use Rattle.papaya_follows.specs.Given.Callers.Together.{UnderWay, OnKey, ForRoom, Counting, OverAll, IsOneStep, Together}
+use Rattle.papaya_follows.specs.Given.Callers.Together.{UnderWay, UnlessCounts, OnKey, ForRoom, Counting, OverAll, IsOneStep, Together}
 use Rattle.papaya_follows.specs.Given.Effects.Effects.{effects_of}
 use Rattle.papaya_follows.specs.Given.Effects.Known.{Known}
 use Rattle.papaya_follows.specs.Given.Effects.declared.acting.Acting.TheVariants as acts
@@ -70,12 +70,23 @@ module _ {K V : Type 0} (same : K → K → Bool) (hash : ℕ → K → ℕ) (na
   pub takes_theirs : (NoRow u to.4.did → ⊥) → (IsToTake (s.world.row i) → ⊥) → TakesNone new.changed
   takes_theirs other never = let row = row_step other in takes_none to.0.setting i s.world row.0 each.ground.came never row.1.1 new.changed (its_left other)
 
+  -- it is within its section
+  row_inside : (NoRow u to.4.did → ⊥) → IsInside (s.world.uses (slot_of i))
+  row_inside other = by u to.4.did (inside_of same hash s old at map i u here) other
+    where
+      by : (x : UnderWay K V K) → (did : DidSo same hash name m known s old new at shown map i u here told leads x) → UnlessCounts x (IsInside (s.world.uses (slot_of i))) → (NoRow x did → ⊥)
+          → IsInside (s.world.uses (slot_of i))
+      by (OnKey x) did in_it other = in_it
+      by (ForRoom x) did in_it other = in_it
+      by (Counting x) did in_it other = absurd (other tt)
+      by (OverAll x) did in_it other = in_it
+
   -- and it goes on so where it reclaims nothing, and leaves the others the blocks of their batches
   pub reclaims_none : (NoRow u to.4.did → ⊥) → ShowsRows s → (IsToTake (s.world.row i) → ⊥) × RowSo to.4.w2 i
       × ((slot : ℕ) → IsInside (s.world.uses slot) → (first : ℕ) → HoldsOne s.world slot first → HoldsOne to.4.w2 slot first)
   reclaims_none other rows =
       let row = row_step other in
-      let inside = inside_of same hash s old at map i u here in (
+      let inside = row_inside other in (
         not_to_take (s.world.row i) (rows.none map i u here),
         subst (λ (v : World (Node K V)). RowSo v i) (sym row.1.2) (goes_so to.0.setting i (slot_of i) s.world row.0 each.ground.came inside (rows.none map i u here) (rows.one map i u here) row.1.1),
         λ slot its first one. subst (λ (v : World (Node K V)). HoldsOne v slot first) (sym row.1.2) (leaves_one to.0.setting i slot s.world row.0 each.ground.came its row.1.1 first one),

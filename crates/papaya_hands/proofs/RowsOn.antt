@@ -2,14 +2,16 @@
 use Rattle.std.specs.Prelude.{◌≡◌, ◌≢◌, ℕ, Bool, List, [], Option, Some, None, ◌⊎◌}
 use Rattle.std.proofs.Common.{refl, ap, sym, subst, inl, inr}
 use Rattle.std.proofs.lemmas.Bool.{cases_eq}
-use Rattle.papaya_follows.specs.Given.Seize.World.{World, Row, Event, Runs, IsInside}
+use Rattle.papaya_follows.specs.Given.Seize.World.{World, Row, Rests, Event, Runs, IsInside}
 use Rattle.papaya_follows.specs.Given.Tables.Nodes.{deferred_word}
 use Rattle.papaya_follows.specs.Given.Tables.declared.node.Node.{Node}
 use Rattle.papaya_follows.specs.Given.Raw.declared.machines.progress.Progress.{Progress}
+use Rattle.papaya_follows.specs.Given.Resize.declared.sum.Sum.{Sum}
 use Rattle.papaya_follows.specs.Given.Rule.InWorld.{AllUsers}
 use Rattle.papaya_follows.specs.Given.Schedules.Moment.{Moment}
-use Rattle.papaya_follows.specs.Given.Callers.Together.{UnderWay, OnKey, ForRoom, Counting, OverAll, CameAbout}
+use Rattle.papaya_follows.specs.Given.Callers.Together.{UnderWay, UnlessCounts, OnKey, ForRoom, Counting, OverAll, CameAbout}
 use Rattle.papaya_follows.proofs.Given.Callers.Together.Came.{came_reached}
+use Rattle.papaya_follows.proofs.Given.Callers.Together.Fits.{unless_on}
 use Rattle.papaya_follows.proofs.Given.Callers.Together.Users.{events_rows}
 use Rattle.papaya_follows.specs.Given.Effects.Known.{Known}
 use Rattle.papaya_follows.specs.Given.Finishes.Maps.{Standing}
@@ -39,14 +41,30 @@ module _ {K V : Type 0} (s : Scene K V) (map i : ℕ) (u : UnderWay K V K) (rows
   pub rows_with : ShowsRows (scene_with map i u s)
   rows_with = record { none = λ n j x is. (each_so n j x is).0; one = λ n j x is. (each_so n j x is).1 }
 
--- whoever has a call under way is within its section
+-- whoever has a call under way that needs it is within its section
 module _ {K V : Type 0} (same : K → K → Bool) (hash : ℕ → K → ℕ) (s : Scene K V) (e : Held K V) (at : IsAt same hash e s) where
-  pub inside_of : (n j : ℕ) (x : UnderWay K V K) → s.calls n j ≡ Some x → IsInside (s.world.uses (slot_of j))
+  pub inside_of : (n j : ℕ) (x : UnderWay K V K) → s.calls n j ≡ Some x → UnlessCounts x (IsInside (s.world.uses (slot_of j)))
   inside_of n j x is = by (s.maps n) refl
     where
-      by : (o : Option (Standing K)) → s.maps n ≡ o → IsInside (s.world.uses (slot_of j))
+      by : (o : Option (Standing K)) → s.maps n ≡ o → UnlessCounts x (IsInside (s.world.uses (slot_of j)))
       by None gone = absurd (let none = at.together.makings.standing.only n j gone in cc (none, is))
       by (Some st) there = (at.together.makings.standing.each n st there).inside j x is
+
+  -- a counting has no row under way
+  count_rests : (n j : ℕ) (sum : Sum) → s.calls n j ≡ Some (Counting sum) → s.world.row j ≡ Rests
+  count_rests n j sum is = by (s.maps n) refl
+    where
+      by : (o : Option (Standing K)) → s.maps n ≡ o → s.world.row j ≡ Rests
+      by None gone = absurd (let none = at.together.makings.standing.only n j gone in cc (none, is))
+      by (Some st) there = ((at.together.makings.standing.each n st there).stand j (Counting sum) is).0
+
+  -- So a row goes on with its block of a batch, if that stays where the section is open.
+  pub kept_within : (Two : ℕ → Type 0) (n j : ℕ) (x : UnderWay K V K) → s.calls n j ≡ Some x → UnlessCounts x ((first : ℕ) → HoldsOne s.world (slot_of j) first → Two first)
+      → KeepsOne (HoldsOne s.world (slot_of j)) (s.world.row j) → KeepsOne Two (s.world.row j)
+  kept_within Two n j (OnKey u) is keeps one = one_kept (HoldsOne s.world (slot_of j)) Two keeps (s.world.row j) one
+  kept_within Two n j (ForRoom r) is keeps one = one_kept (HoldsOne s.world (slot_of j)) Two keeps (s.world.row j) one
+  kept_within Two n j (Counting sum) is keeps one = subst (KeepsOne Two) (sym (count_rests n j sum is)) tt
+  kept_within Two n j (OverAll o) is keeps one = one_kept (HoldsOne s.world (slot_of j)) Two keeps (s.world.row j) one
 
 module _ {K V : Type 0} (same : K → K → Bool) (hash : ℕ → K → ℕ) (name : ℕ → List ℕ) (m : Moment K V) (known : Known) (s : Scene K V) (old new : Held K V) (at : IsAt same hash old s)
     (shown : Shows same name m known s) (map i : ℕ) (u : UnderWay K V K) (here : s.calls map i ≡ Some u) (told : Progress (Node K V)) (leads : StepLeads same hash i told s old new)
@@ -70,7 +88,7 @@ module _ {K V : Type 0} (same : K → K → Bool) (hash : ℕ → K → ℕ) (na
       by n j x (inr was) (inr ne) = (
         subst ReclaimsNone (sym (to.4.rows j ne)) (rows.none n j x was.1),
         subst (KeepsOne (HoldsOne to.4.w2 (slot_of j))) (sym (to.4.rows j ne))
-            (one_kept (HoldsOne s.world (slot_of j)) (HoldsOne to.4.w2 (slot_of j)) (keeps (slot_of j) (inside_of same hash s old at n j x was.1)) (s.world.row j) (rows.one n j x was.1)),
+            (kept_within same hash s old at (HoldsOne to.4.w2 (slot_of j)) n j x was.1 (unless_on x (keeps (slot_of j)) (inside_of same hash s old at n j x was.1)) (rows.one n j x was.1)),
       )
 
       one : (n j : ℕ) (x : UnderWay K V K) → (scene_after same s old new map i to.0 u to.1 told to.4).calls n j ≡ Some x → RowSo to.4.w2 j
@@ -112,5 +130,5 @@ module _ {K V : Type 0} (same : K → K → Bool) (hash : ℕ → K → ℕ) (na
       let row = ap (λ (f : ℕ → Row). f i) left.0 in (
         subst ReclaimsNone (sym row) (rows.none map i u here),
         subst (KeepsOne (HoldsOne to.4.w2 (slot_of i))) (sym row)
-            (one_kept (HoldsOne s.world (slot_of i)) (HoldsOne to.4.w2 (slot_of i)) (left.1 (slot_of i) (inside_of same hash s old at map i u here)) (s.world.row i) (rows.one map i u here)),
+            (kept_within same hash s old at (HoldsOne to.4.w2 (slot_of i)) map i u here (unless_on u (left.1 (slot_of i)) (inside_of same hash s old at map i u here)) (rows.one map i u here)),
       )

@@ -2,7 +2,7 @@
 use Rattle.std.specs.Prelude.{◌≡◌, ℕ, Bool, List, Option, Some, None}
 use Rattle.std.proofs.Common.{ap, sym, subst, ◌∙◌, inl, inr}
 use Rattle.papaya_follows.specs.Given.SeizeWords.Mem.{value_at}
-use Rattle.papaya_follows.specs.Given.Seize.World.{World, Hand, Row, Making}
+use Rattle.papaya_follows.specs.Given.Seize.World.{World, Hand, Row, Making, IsInside}
 use Rattle.papaya_follows.specs.Given.Tables.declared.node.Node.{Node}
 use Rattle.papaya_follows.specs.Given.Resize.declared.copier.Copying.{Copying}
 use Rattle.papaya_follows.specs.Given.Resize.declared.copier.Copying.TheVariants as copies
@@ -29,7 +29,7 @@ use Rattle.papaya_follows.specs.Given.Finishes.Maps.{Standing}
 use Rattle.papaya_follows.specs.Blocks.{HasRole}
 use Rattle.papaya_follows.specs.Maps.{table_of}
 use Rattle.papaya_follows.specs.Shows.{Shows}
-use Rattle.papaya_follows.proofs.Steps.{WentTo, went_to, made_so, is_inside, is_sight, DidSo, OfNoRow, spares_beside}
+use Rattle.papaya_follows.proofs.Steps.{WentTo, went_to, made_so, is_sight, DidSo, OfNoRow, spares_beside}
 use Rattle.papaya_hands.specs.Hands.{IsInUse, ShowsHands}
 use Rattle.papaya_hands.proofs.Handing.{IsHandingRow}
 use Rattle.papaya_hands.proofs.HandsOn.{used_as}
@@ -83,7 +83,8 @@ module _ {K V : Type 0} (same : K → K → Bool) (hash : ℕ → K → ℕ) (na
   Its b = IsIts i s.world to.0.chart (seen_by to.0.blocks (to.0.sights (slot_of i))) b
 
   -- blocks that are not its own are in the hands that had them
-  hand_same : OfNoRow same hash name m known s old new at_old shown map i u here told leads u to.4.did → (b : ℕ) (value : Node K V) → value_at s.world.memory b ≡ Some value → (Its b → ⊥) → to.4.w2.hand b ≡ s.world.hand b
+  hand_same : OfNoRow same hash name m known s old new at_old shown map i u here told leads u to.4.did → (b : ℕ) (value : Node K V) → value_at s.world.memory b ≡ Some value → (IsInside (s.world.uses (slot_of i)) → Its b → ⊥)
+      → to.4.w2.hand b ≡ s.world.hand b
   hand_same own b value is other = by u to.4.did own
     where
       by : (x : UnderWay K V K) → (did : DidSo same hash name m known s old new at_old shown map i u here told leads x) → OfNoRow same hash name m known s old new at_old shown map i u here told leads x did
@@ -91,23 +92,22 @@ module _ {K V : Type 0} (same : K → K → Bool) (hash : ℕ → K → ℕ) (na
       by (OnKey x) (p2, end, machine_is, told_is, inl (step, moved)) own =
           ap (λ (y : World (Node K V)). y.hand b) moved.0
           ∙ spares_beside same hash m known s old new at_old name shown map i to.0 to.2 (name i) (made_so same hash name m known s old new at_old shown map i u here told leads)
-          (is_inside same hash name m known s old new at_old shown map i u here told leads) _ step.step.went step.step.blocks2 step.step.grown step.step.sights2 b value is other
+          step.step.inside _ step.step.went step.step.blocks2 step.step.grown step.step.sights2 b value is (other step.step.inside)
       by (OnKey x) (p2, end, machine_is, told_is, inr row) own = absurd own
       by (ForRoom x) (p2, end, machine_is, told_is, inl (step, moved)) own =
           ap (λ (y : World (Node K V)). y.hand b) moved.0
           ∙ spares_beside same hash m known s old new at_old name shown map i to.0 to.2 (name i) (made_so same hash name m known s old new at_old shown map i u here told leads)
-          (is_inside same hash name m known s old new at_old shown map i u here told leads) _ step.step.went step.step.blocks2 step.step.grown step.step.sights2 b value is other
+          step.step.inside _ step.step.went step.step.blocks2 step.step.grown step.step.sights2 b value is (other step.step.inside)
       by (ForRoom x) (p2, end, machine_is, told_is, inr row) own = absurd own
       by (Counting x) (p2, end, machine_is, told_is, still, stayed) own = ap (λ (y : World (Node K V)). y.hand b) stayed.0
       by (OverAll x) (p2, end, machine_is, told_is, inl (step, moved)) own =
           ap (λ (y : World (Node K V)). y.hand b) moved.0
           ∙ spares_beside same hash m known s old new at_old name shown map i to.0 to.2 (name i) (made_so same hash name m known s old new at_old shown map i u here told leads)
-          (is_inside same hash name m known s old new at_old shown map i u here told leads) _ step.step.went step.step.blocks2 step.step.grown step.step.sights2 b value is other
+          step.step.inside _ step.step.went step.step.blocks2 step.step.grown step.step.sights2 b value is (other step.step.inside)
       by (OverAll x) (p2, end, machine_is, told_is, inr row) own = absurd own
 
-  sight : IsSight to.0.chart to.0.blocks (to.0.sights (slot_of i))
+  sight : IsInside (s.world.uses (slot_of i)) → IsSight to.0.chart to.0.blocks (to.0.sights (slot_of i))
   sight = is_sight same hash m known s old new at_old name shown map i to.0 to.2 (name i) (made_so same hash name m known s old new at_old shown map i u here told leads)
-      (is_inside same hash name m known s old new at_old shown map i u here told leads)
 
   not_made : (h : Hand) → IsInUse h → h ≡ Making i → ⊥
   not_made h used e = subst IsInUse e used
@@ -119,13 +119,13 @@ module _ {K V : Type 0} (same : K → K → Bool) (hash : ℕ → K → ℕ) (na
       let has = subst (HasRole s.world m.stored b) is (shown.blocks.roles b) in
       used_as (s.world.hand b) (to.4.w2.hand b) (hand_same own b _ has.3 other) used
     where
-      other : Its b → ⊥
-      other (inl mine) = not_made (s.world.hand b) used mine.0
-      other (inr (inl (t, l, seen, e))) =
-          let its = ap known.roles e ∙ (shown.maps map to.0 to.2).tables.roles t l (sight.tables t l seen) in cc (its, is)
-      other (inr (inr (k, l, seen, e))) =
+      other : IsInside (s.world.uses (slot_of i)) → Its b → ⊥
+      other in_it (inl mine) = not_made (s.world.hand b) used mine.0
+      other in_it (inr (inl (t, l, seen, e))) =
+          let its = ap known.roles e ∙ (shown.maps map to.0 to.2).tables.roles t l ((sight in_it).tables t l seen) in cc (its, is)
+      other in_it (inr (inr (k, l, seen, e))) =
           let pairs = (shown.maps map to.0 to.2).pairs in
-          let its = ap known.roles e ∙ pairs.roles k l (sight.pairs k l seen) in
+          let its = ap known.roles e ∙ pairs.roles k l ((sight in_it).pairs k l seen) in
           let one : role.Pair n ≡ role.Pair (shown.number map k) = sym is ∙ its in
           let number : n ≡ shown.number map k = cc one in
           let map_is : of ≡ map = sym (hands.born n of there).1 ∙ ap (λ (x : ℕ). (m.born x).map) number ∙ pairs.born k l in
@@ -138,12 +138,12 @@ module _ {K V : Type 0} (same : K → K → Bool) (hash : ℕ → K → ℕ) (na
       let has = subst (HasRole s.world m.stored b) is (shown.blocks.roles b) in
       used_as (s.world.hand b) (to.4.w2.hand b) (hand_same own b _ has.1 other) used
     where
-      other : Its b → ⊥
-      other (inl mine) = not_made (s.world.hand b) used mine.0
-      other (inr (inl (u, l, seen, e))) =
-          let its = ap known.roles e ∙ (shown.maps map to.0 to.2).tables.roles u l (sight.tables u l seen) in
+      other : IsInside (s.world.uses (slot_of i)) → Its b → ⊥
+      other in_it (inl mine) = not_made (s.world.hand b) used mine.0
+      other in_it (inr (inl (u, l, seen, e))) =
+          let its = ap known.roles e ∙ (shown.maps map to.0 to.2).tables.roles u l ((sight in_it).tables u l seen) in
           let one : role.Table t len ≡ role.Table (table_of map u) (to.0.chart.len u) = sym is ∙ its in
           let table_is : t ≡ table_of map u = cc one in
           let stands = ap (λ (x : Table). s.maps x.map) table_is ∙ to.2 in cc (stands, gone)
-      other (inr (inr (k, l, seen, e))) =
-          let its = ap known.roles e ∙ (shown.maps map to.0 to.2).pairs.roles k l (sight.pairs k l seen) in cc (its, is)
+      other in_it (inr (inr (k, l, seen, e))) =
+          let its = ap known.roles e ∙ (shown.maps map to.0 to.2).pairs.roles k l ((sight in_it).pairs k l seen) in cc (its, is)

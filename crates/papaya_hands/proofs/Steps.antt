@@ -14,7 +14,7 @@ use Rattle.papaya_follows.specs.Given.Rule.InWorld.{IsMapIn}
 use Rattle.papaya_follows.specs.Maps.{ShowsPairs}
 use Rattle.papaya_follows.specs.Shows.{Shows}
 use Rattle.papaya_follows.specs.Steps.{StoreTheirs}
-use Rattle.papaya_follows.proofs.Steps.{WentTo, went_to, made_so, is_inside, DidSo, OfNoRow, step_shown, stores_its, stayed_stores}
+use Rattle.papaya_follows.proofs.Steps.{WentTo, went_to, made_so, DidSo, OfNoRow, step_shown, stores_its, stayed_stores}
 use Rattle.papaya_hands.specs.Asked.{ShowsAsked}
 use Rattle.papaya_hands.specs.Steps.{CallsStoreTheirs}
 use Rattle.papaya_hands.proofs.AskedOn.{asked_on}
@@ -58,21 +58,20 @@ module _ {K V : Type 0} (same : K → K → Bool) (hash : ℕ → K → ℕ) (na
       by (OnKey x) has (p2, end, machine_is, told_is, inl (step, moved)) own =
           let there = shown.calls map i (OnKey x) has in
           stores_its same hash m known s old new at name shown map i to.0 to.2 (name i) (made_so same hash name m known s old new at shown map i u here told leads)
-          (is_inside same hash name m known s old new at shown map i u here told leads) _ step.step.went step.step.blocks2 step.step.grown step.step.sights2
+          step.step.inside _ step.step.went step.step.blocks2 step.step.grown step.step.sights2
           (key_gives same to.0 s.world is_map map (name i) (shown.number map) (numbers_apart map (shown.number map) to.0 m known (shown.maps map to.0 to.2).pairs) m known (s.calls map) i x there.0 there.1 there.3
           (asked.each map i (OnKey x) has to.0 to.2 there.0 there.1) new.memory p2 end step.step)
       by (OnKey x) has (p2, end, machine_is, told_is, inr row) own = absurd own
       by (ForRoom x) has (p2, end, machine_is, told_is, inl (step, moved)) own =
           stores_its same hash m known s old new at name shown map i to.0 to.2 (name i) (made_so same hash name m known s old new at shown map i u here told leads)
-          (is_inside same hash name m known s old new at shown map i u here told leads) _ step.step.went step.step.blocks2 step.step.grown step.step.sights2
+          step.step.inside _ step.step.went step.step.blocks2 step.step.grown step.step.sights2
           (room_gives same to.0 s.world is_map map (Some (name i)) (shown.number map) (step.step.went.blocks2.pair to.0.chart.stored) m new.memory step.step.went.c2 step.step.same_pairs)
       by (ForRoom x) has (p2, end, machine_is, told_is, inr row) own = absurd own
       by (Counting x) has (p2, end, machine_is, told_is, still, stayed) own =
-          stayed_stores same hash m known s old new at name shown map i to.0 to.2 (name i) (made_so same hash name m known s old new at shown map i u here told leads)
-          (is_inside same hash name m known s old new at shown map i u here told leads) still
+          stayed_stores same hash m known s old new at name shown map i to.0 to.2 (name i) (made_so same hash name m known s old new at shown map i u here told leads) still
       by (OverAll x) has (p2, end, machine_is, told_is, inl (step, moved)) own =
           stores_its same hash m known s old new at name shown map i to.0 to.2 (name i) (made_so same hash name m known s old new at shown map i u here told leads)
-          (is_inside same hash name m known s old new at shown map i u here told leads) _ step.step.went step.step.blocks2 step.step.grown step.step.sights2
+          step.step.inside _ step.step.went step.step.blocks2 step.step.grown step.step.sights2
           (sweep_gives same to.0 s.world is_map map (Some (name i)) (shown.number map) (step.step.went.blocks2.pair to.0.chart.stored) m new.memory step.step.went.c2 x step.step.removes)
       by (OverAll x) has (p2, end, machine_is, told_is, inr row) own = absurd own
 

@@ -42,7 +42,7 @@ use Rattle.papaya_moments.proofs.Given.Follows.Calls.{changed_same, found}
 use Rattle.papaya_moments.proofs.Given.Follows.Operations.{operated_leaves, LeavesBy}
 use Rattle.papaya_moments.proofs.Given.Follows.Rows.{HandsOn, IsStill, Puts as PutsBehind, Retires, one_step_leaves}
 use Rattle.papaya_moments.proofs.Given.Follows.RowSteps.{row_done}
-use Rattle.papaya_moments.proofs.Given.Follows.Steps.{WentTo, went_to, made_so, is_inside, DidSo, OfNoRow}
+use Rattle.papaya_moments.proofs.Given.Follows.Steps.{WentTo, went_to, made_so, DidSo, OfNoRow}
 use Rattle.papaya_moments.specs.Given.Hands.Asked.{IsAskedOn, IsAskedAs, ShowsAsked}
 use Rattle.papaya_moments.proofs.Given.Hands.Calling.{caller_is}
 use Rattle.papaya_moments.proofs.Given.Hands.Done.{done}
@@ -253,7 +253,7 @@ module _ {K V : Type 0} (same : K → K → Bool) (hash : ℕ → K → ℕ) (na
     pub its_shifts : Shifts ch step.step.went.c2 number known.stored effects
     its_shifts =
         moved_shifts same hash m known s old new at name shown map i st to.2 (name i) (made_so same hash name m known s old new at shown map i (OnKey x) here said leads)
-        (is_inside same hash name m known s old new at shown map i (OnKey x) here said leads) _ step.step.went step.step.blocks2 step.step.grown step.step.sights2
+        step.step.inside _ step.step.went step.step.blocks2 step.step.grown step.step.sights2
 
     pub its_done : Did (change_told V same st.hash same st.setting slot_of step.step.went.told)
     its_done = elim (done same st.hash same st.setting slot_of s.world ch st.blocks st.sights (s.calls map) i x new.memory p2 end step.step) as

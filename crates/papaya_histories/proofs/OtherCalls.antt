@@ -36,7 +36,7 @@ use Rattle.papaya_moments.specs.Given.Follows.Steps.{TakesNone}
 use Rattle.papaya_moments.proofs.Given.Follows.Operations.{operated_leaves, LeavesBy}
 use Rattle.papaya_moments.proofs.Given.Follows.Rows.{one_step_leaves}
 use Rattle.papaya_moments.proofs.Given.Follows.RowSteps.{row_done}
-use Rattle.papaya_moments.proofs.Given.Follows.Steps.{WentTo, went_to, made_so, is_inside, DidSo, OfNoRow, one_of}
+use Rattle.papaya_moments.proofs.Given.Follows.Steps.{WentTo, went_to, made_so, DidSo, OfNoRow, one_of}
 use Rattle.papaya_moments.proofs.Given.Hands.Replacing.{calls_after}
 use Rattle.papaya_moments.proofs.Given.Hands.RowSteps.{rows_hand_theirs}
 use Rattle.papaya_moments.proofs.Given.Spots.Shifts.{Shifts, KeepsAll, StoresOne, ReplacesOne, RemovesOne, calm_shifts}
@@ -191,26 +191,25 @@ module _ {K V : Type 0} (same : K → K → Bool) (hash : ℕ → K → ℕ) (na
     by_own (ForRoom r) (call.Reserve n) e is other so (p2, end, machine_is, told_is, inl (step, moved)) own =
         none_removed same (call.Reserve n) c (flat_map shift_of effects) (kept_none step.step.went.c2
         (moved_shifts same hash m known s old new at name shown map i st to.2 (name i) (made_so same hash name m known s old new at shown map i u here said leads)
-        (is_inside same hash name m known s old new at shown map i u here said leads) _ step.step.went step.step.blocks2 step.step.grown step.step.sights2) step.step.same_pairs)
+        step.step.inside _ step.step.went step.step.blocks2 step.step.grown step.step.sights2) step.step.same_pairs)
     by_own (ForRoom r) (call.Reserve n) e is other so (p2, end, machine_is, told_is, inr row) own = absurd own
     by_own (Counting sum) call.Len e is other so (p2, end, machine_is, told_is, still, stayed) own =
         none_removed same call.Len c (flat_map shift_of effects) (calm_shifts effects
-        (stayed_calm same hash m known s old new at name shown map i st to.2 (name i) (made_so same hash name m known s old new at shown map i u here said leads)
-        (is_inside same hash name m known s old new at shown map i u here said leads) still).calm)
+        (stayed_calm same hash m known s old new at name shown map i st to.2 (name i) (made_so same hash name m known s old new at shown map i u here said leads) still).calm)
     by_own (OverAll o) call.Clear e is other so (p2, end, machine_is, told_is, inl (step, moved)) own =
         clears same c (flat_map shift_of effects) (gone_told o step.step.went.c2
         (moved_shifts same hash m known s old new at name shown map i st to.2 (name i) (made_so same hash name m known s old new at shown map i u here said leads)
-        (is_inside same hash name m known s old new at shown map i u here said leads) _ step.step.went step.step.blocks2 step.step.grown step.step.sights2) step.step.removes)
+        step.step.inside _ step.step.went step.step.blocks2 step.step.grown step.step.sights2) step.step.removes)
     by_own (OverAll o) call.Clear e is other so (p2, end, machine_is, told_is, inr row) own = absurd own
     by_own (OverAll o) call.Retain e is other so (p2, end, machine_is, told_is, inl (step, moved)) own =
         retains o step.step.went.c2 so.last (for_its o call.Retain Retains e so refl)
         (moved_shifts same hash m known s old new at name shown map i st to.2 (name i) (made_so same hash name m known s old new at shown map i u here said leads)
-        (is_inside same hash name m known s old new at shown map i u here said leads) _ step.step.went step.step.blocks2 step.step.grown step.step.sights2) step.step.removes
+        step.step.inside _ step.step.went step.step.blocks2 step.step.grown step.step.sights2) step.step.removes
     by_own (OverAll o) call.Retain e is other so (p2, end, machine_is, told_is, inr row) own = absurd own
     by_own (OverAll o) call.Walk e is other so (p2, end, machine_is, told_is, inl (step, moved)) own =
         none_removed same call.Walk c (flat_map shift_of effects) (kept_none step.step.went.c2
         (moved_shifts same hash m known s old new at name shown map i st to.2 (name i) (made_so same hash name m known s old new at shown map i u here said leads)
-        (is_inside same hash name m known s old new at shown map i u here said leads) _ step.step.went step.step.blocks2 step.step.grown step.step.sights2)
+        step.step.inside _ step.step.went step.step.blocks2 step.step.grown step.step.sights2)
         (walk_keeps o st.chart step.step.went.c2 step.step.removes (for_its o call.Walk Walks e so refl)))
     by_own (OverAll o) call.Walk e is other so (p2, end, machine_is, told_is, inr row) own = absurd own
     by_own _ _ e is other so did own = absurd is

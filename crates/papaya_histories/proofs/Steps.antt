@@ -2,7 +2,7 @@
 use Rattle.std.specs.Prelude.{◌≡◌, ◌≢◌, ℕ, ◌≤◌, Bool, List, Option, Some, ◌⊎◌}
 use Rattle.std.proofs.Common.{refl, ap, sym, subst, ◌∙◌, arith, inl, inr}
 use Rattle.std.proofs.lemmas.Bool.{cases_eq}
-use Rattle.papaya_moments.specs.Given.Seize.World.{World, with_at}
+use Rattle.papaya_moments.specs.Given.Seize.World.{World, IsInside, with_at}
 use Rattle.papaya_moments.specs.Given.Tables.Chunks.{is_incremental}
 use Rattle.papaya_moments.specs.Given.Tables.declared.node.Node.{Node}
 use Rattle.papaya_moments.specs.Given.Raw.declared.machines.progress.Progress.{Progress}
@@ -27,7 +27,7 @@ use Rattle.papaya_moments.specs.Given.Effects.declared.acting.Acting.TheVariants
 use Rattle.papaya_moments.specs.Given.Follows.Shows.{Shows}
 use Rattle.papaya_moments.proofs.Given.Follows.Called.{key_goes_on, room_goes_on, sweep_goes_on, counting_goes_on}
 use Rattle.papaya_moments.proofs.Given.Follows.RowSteps.{row_step_shown}
-use Rattle.papaya_moments.proofs.Given.Follows.Steps.{WentTo, went_to, made_so, is_inside, is_sight, DidSo, LeadsThere, step_shown, one_of}
+use Rattle.papaya_moments.proofs.Given.Follows.Steps.{WentTo, went_to, made_so, is_sight, DidSo, LeadsThere, step_shown, one_of}
 use Rattle.papaya_moments.proofs.Given.Hands.AskedOn.{asked_on}
 use Rattle.papaya_moments.proofs.Given.Hands.Asking.{which}
 use Rattle.papaya_moments.proofs.Given.Hands.RowSteps.{rows_hand_theirs}
@@ -78,20 +78,19 @@ module _ {K V : Type 0} (same : K → K → Bool) (hash : ℕ → K → ℕ) (na
       (one_of st (record to.0 { chart = c2; blocks = blocks2; sights = sights2 })
       (sym is ∙ ap (λ (f : ℕ → Option (Standing K)). f map) e ∙ at_same s.maps map (Some (record to.0 { chart = c2; blocks = blocks2; sights = sights2 })) map refl))
 
-  its_map : IsMapIn same to.0.hash (in_slot to.0.setting (slot_of i)) s.world to.0.chart (seen_by to.0.blocks (to.0.sights (slot_of i)))
-  its_map =
+  its_map : IsInside (s.world.uses (slot_of i)) → IsMapIn same to.0.hash (in_slot to.0.setting (slot_of i)) s.world to.0.chart (seen_by to.0.blocks (to.0.sights (slot_of i)))
+  its_map inside =
       map_seen same to.0.hash (in_slot to.0.setting (slot_of i)) s.world to.0.chart to.0.blocks (to.0.sights (slot_of i))
       (map_in_slot same to.0.hash to.0.setting s.world to.0.chart to.0.blocks (slot_of i) (at.together.makings.standing.each map to.0 to.2).ground.map)
-      (is_sight same hash m known s old new at name shown map i to.0 to.2 (name i) (made_so same hash name m known s old new at shown map i u here said leads)
-      (is_inside same hash name m known s old new at shown map i u here said leads))
+      (is_sight same hash m known s old new at name shown map i to.0 to.2 (name i) (made_so same hash name m known s old new at shown map i u here said leads) inside)
 
-  went_later : (Told : World (Node K V) → Chart K → Blocks → Type 0)
+  went_later : IsInside (s.world.uses (slot_of i)) → (Told : World (Node K V) → Chart K → Blocks → Type 0)
       (went : Went same to.0.hash (in_slot to.0.setting (slot_of i)) i s.world to.0.chart (seen_by to.0.blocks (to.0.sights (slot_of i))) new.memory Told)
       → Remembers (is_incremental to.0.setting.mode) to.0.chart went.c2 → IsLater to.0.chart went.c2
-  went_later Told went remembers =
+  went_later inside Told went remembers =
       moved_later same to.0.hash to.0.setting.mode to.0.chart went.c2 i went.moved
       (moved_lasts same to.0.hash (in_slot to.0.setting (slot_of i)) (at.together.makings.standing.fit map to.0 to.2).0.lawful s.world to.0.chart went.c2 (seen_by to.0.blocks (to.0.sights (slot_of i)))
-      its_map went.moved) remembers
+      (its_map inside) went.moved) remembers
 
   same_map_later : (n : ℕ) → IsSameMap (s.maps n) (to.4.maps2 n) → (st : Standing K) → to.4.maps2 n ≡ Some st → (before : Standing K) × (s.maps n ≡ Some before) × IsLater before.chart st.chart
   same_map_later n kept st is =
@@ -113,12 +112,12 @@ module _ {K V : Type 0} (same : K → K → Bool) (hash : ℕ → K → ℕ) (na
           (to.0, ap s.maps e ∙ to.2, subst (IsLater to.0.chart) (sym (moved_chart c2 blocks2 sights2 maps_are st (ap to.4.maps2 (sym e) ∙ is))) later)
 
       its : n ≡ map → (x : UnderWay K V K) → Did x → Was
-      its e (OnKey x) (p2, end, machine_is, told_is, inl (step, moved)) = moved_on e step.step.went.c2 step.step.blocks2 step.step.sights2 moved.1 (went_later _ step.step.went step.step.remembers)
+      its e (OnKey x) (p2, end, machine_is, told_is, inl (step, moved)) = moved_on e step.step.went.c2 step.step.blocks2 step.step.sights2 moved.1 (went_later step.step.inside _ step.step.went step.step.remembers)
       its e (OnKey x) (p2, end, machine_is, told_is, inr (row, stayed)) = same_map_later n (stayed.1 n) st is
-      its e (ForRoom x) (p2, end, machine_is, told_is, inl (step, moved)) = moved_on e step.step.went.c2 step.step.blocks2 step.step.sights2 moved.1 (went_later _ step.step.went step.step.remembers)
+      its e (ForRoom x) (p2, end, machine_is, told_is, inl (step, moved)) = moved_on e step.step.went.c2 step.step.blocks2 step.step.sights2 moved.1 (went_later step.step.inside _ step.step.went step.step.remembers)
       its e (ForRoom x) (p2, end, machine_is, told_is, inr (row, stayed)) = same_map_later n (stayed.1 n) st is
       its e (Counting x) (sum2, end, machine_is, told_is, still, stayed) = same_map_later n (stayed.1 n) st is
-      its e (OverAll x) (p2, end, machine_is, told_is, inl (step, moved)) = moved_on e step.step.went.c2 step.step.blocks2 step.step.sights2 moved.1 (went_later _ step.step.went step.step.remembers)
+      its e (OverAll x) (p2, end, machine_is, told_is, inl (step, moved)) = moved_on e step.step.went.c2 step.step.blocks2 step.step.sights2 moved.1 (went_later step.step.inside _ step.step.went step.step.remembers)
       its e (OverAll x) (p2, end, machine_is, told_is, inr (row, stayed)) = same_map_later n (stayed.1 n) st is
 
   -- a call that goes on began when it began

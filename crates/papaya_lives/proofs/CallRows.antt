@@ -58,7 +58,7 @@ use Rattle.papaya_settles.specs.Given.Follows.Blocks.{HasRole}
 use Rattle.papaya_settles.proofs.Given.Follows.Alike.{AllCalm, put_here, put_elsewhere}
 use Rattle.papaya_settles.proofs.Given.Follows.Onward.{IsLasting}
 use Rattle.papaya_settles.proofs.Given.Follows.RowSteps.{row_step_shown}
-use Rattle.papaya_settles.proofs.Given.Follows.Steps.{WentTo, went_to, made_so, is_inside, DidSo, OfNoRow}
+use Rattle.papaya_settles.proofs.Given.Follows.Steps.{WentTo, went_to, made_so, DidSo, OfNoRow}
 use Rattle.papaya_settles.specs.Given.Hands.Rows.{ReclaimsNone}
 use Rattle.papaya_settles.proofs.Given.Hands.RowSteps.{rows_hand_theirs}
 use Rattle.papaya_settles.proofs.Given.Spots.Steps.{stayed_calm}
@@ -289,7 +289,7 @@ module _ {K V : Type 0} (same : K → K → Bool) (hash : ℕ → K → ℕ) (na
     not_waiting : w3.memory ≡ new.memory → IsOneStep to.0.setting i w w3 → (n k : ℕ) (t : Table) (l : LiesBehind known w n t) → IsDue l.pair (due_in_row (machine_of u)) → effects ≡ Retired (APair k) ∷ [] → ⊥
     not_waiting memory (inr (request, begun, over, begin, step)) n k t l due alone =
         (let calm = (stayed_calm same hash m known s old new at name whole.all.shown map i to.0 to.2 (name i) (made_so same hash name m known s old new at whole.all.shown map i u here_is said leads)
-        (is_inside same hash name m known s old new at whole.all.shown map i u here_is said leads) (sym memory ∙ looked request begun over begin.1 step)).calm in
+        (sym memory ∙ looked request begun over begin.1 step)).calm in
         let one = (subst AllCalm alone calm).0 in cc one)
     not_waiting memory (inl step) n k t l due alone = by l.waits
       where
@@ -368,7 +368,7 @@ module _ {K V : Type 0} (same : K → K → Bool) (hash : ℕ → K → ℕ) (na
     pub under_way : w3.memory ≡ new.memory → IsOneStep to.0.setting i w w3 → (k : ℕ) (t : Table) → effects ≡ Deferred k t ∷ [] → w.row i ≡ Rests → ⊥
     under_way memory (inr (request, begun, over, begin, step)) k t alone rests =
         (let calm = (stayed_calm same hash m known s old new at name whole.all.shown map i to.0 to.2 (name i) (made_so same hash name m known s old new at whole.all.shown map i u here_is said leads)
-        (is_inside same hash name m known s old new at whole.all.shown map i u here_is said leads) (sym memory ∙ looked request begun over begin.1 step)).calm in
+        (sym memory ∙ looked request begun over begin.1 step)).calm in
         let one = (subst AllCalm alone calm).0 in cc one)
     under_way memory (inl step) k t alone rests = subst (λ (r : Row). Steps' deferred_word i r w w3) rests step
 

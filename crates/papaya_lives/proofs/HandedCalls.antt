@@ -46,7 +46,7 @@ use Rattle.papaya_settles.proofs.Given.Follows.Alike.{is_calm, AllCalm, put_here
 use Rattle.papaya_settles.proofs.Given.Follows.Contents.{pair_within}
 use Rattle.papaya_settles.proofs.Given.Follows.Onward.{IsLasting, KeepsRoles}
 use Rattle.papaya_settles.proofs.Given.Follows.RowSteps.{row_step_shown}
-use Rattle.papaya_settles.proofs.Given.Follows.Steps.{WentTo, went_to, made_so, is_inside, DidSo, OfNoRow, step_shown}
+use Rattle.papaya_settles.proofs.Given.Follows.Steps.{WentTo, went_to, made_so, DidSo, OfNoRow, step_shown}
 use Rattle.papaya_settles.specs.Given.Hands.Hands.{IsInUse}
 use Rattle.papaya_settles.proofs.Given.Hands.RowSteps.{rows_hand_theirs}
 use Rattle.papaya_settles.proofs.Given.Hands.Steps.{calls_store_theirs}
@@ -272,7 +272,6 @@ module _ {K V : Type 0} (same : K → K → Bool) (hash : ℕ → K → ℕ) (na
       due_over (inr (request, begun, hands_over, begin, step)) x alone b due value there =
           absurd (
           let calm = (stayed_calm same hash m known s old new at name whole.all.shown map i to.0 to.2 (name i) (made_so same hash name m known s old new at whole.all.shown map i u here said leads)
-          (is_inside same hash name m known s old new at whole.all.shown map i u here said leads)
           (sym memory ∙ looked same hash name m known s old new at whole entries owning waiting map i u here said leads other w3 is request begun hands_over begin.1 step)).calm in
           clash x (subst AllCalm alone calm).0
           )

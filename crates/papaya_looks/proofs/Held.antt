@@ -21,7 +21,7 @@ use Rattle.papaya_finishes.specs.Given.Rule.Words.{Blocks}
 use Rattle.papaya_finishes.specs.Given.Rule.InWorld.{IsHeldBy, IsMapIn}
 use Rattle.papaya_finishes.proofs.Given.Rule.History.LeavingOn.{leaves_same}
 use Rattle.papaya_finishes.proofs.Given.Rule.World.Framed.{shows_kept}
-use Rattle.papaya_finishes.proofs.Given.Rule.World.WentWrote.{counter_of}
+use Rattle.papaya_finishes.proofs.Given.Rule.World.WentWrote.{HasCounter, counter_of}
 use Rattle.papaya_finishes.specs.Given.Points.FactsCalls.{Unchanged, CallFacts}
 use Rattle.papaya_finishes.specs.Given.Points.Others.{OthersStep}
 use Rattle.papaya_finishes.specs.Given.Points.Steps.{AreLawful}
@@ -224,5 +224,26 @@ module _ {K V Q : Type 0} (same : K → K → Bool) (hash : K → ℕ) (asks : Q
           (sweeps_know_on V same hash lawful here i w w2 c c seen seen map map2 s.ground.moments others few o.began knows.began_before o.sweep knows.facts) none).0
       by (inr (row, is_row, knows)) = absurd (none is_row)
 
-  pub may_count : (sum : Sum) → calls i ≡ Some (Counting sum) → May Can Took value_at less (sum_plan sum)
-  may_count sum is = may_sum here less (counter_of same hash here w2 c seen map2) sum (s.stand i (Counting sum) is).1
+-- a counting looks at the counter alone
+module _ {K V Q : Type 0} (same : K → K → Bool) (hash : K → ℕ) (asks : Q → K → Bool) (setting : Setting) (slot : ℕ → ℕ)
+    (w : World (Node K V)) (c : Chart K) (blocks : Blocks) (sights : ℕ → Sight) (calls : ℕ → Option (UnderWay K V Q)) (s : Together V same hash asks setting slot w c blocks sights calls)
+    (i : ℕ) where
+  abbrev pub keep_counter : ℕ → Bool
+  keep_counter b = b == setting.counter
+
+  pub counter_for : (b : ℕ) → keep_counter b ≡ true → IsHeldFor w (slot i) i setting.counter b
+  counter_for b is = inr (inr (eqb-true b setting.counter is))
+
+  counter_there : HasCounter setting (restricted keep_counter w.memory)
+  counter_there =
+      let had = counter_of same hash setting w c blocks s.ground.map in
+      let kept : keep_counter setting.counter ≡ true = eq-eqb setting.counter setting.counter refl in
+      record {
+        counter = value_kept keep_counter w.memory setting.counter kept ∙ had.counter;
+        shards = λ shard l. let is = had.shards shard l in (is.0, word_kept keep_counter w.memory setting.counter shard kept ∙ is.1);
+      }
+
+  pub may_count : (sum : Sum) → calls i ≡ Some (Counting sum) → May Can Took value_at (restricted keep_counter w.memory) (sum_plan sum)
+  may_count sum is =
+      let had = counter_there in
+      may_sum (in_slot setting (slot i)) (restricted keep_counter w.memory) (record { counter = had.counter; shards = had.shards }) sum (s.stand i (Counting sum) is).1

@@ -35,7 +35,7 @@ use Rattle.papaya_finishes.specs.Maps.{Standing}
 use Rattle.papaya_finishes.proofs.Among.Machines.{machines_stand_among}
 use Rattle.papaya_looks.specs.Blocks.{LooksAt, MayMake}
 use Rattle.papaya_looks.specs.Looks.{IsAtRow, IsHeldFor, StepsLookAtWhatIsHeld}
-use Rattle.papaya_looks.proofs.Held.{keep, held_for, may_key, may_room, may_sweep, may_count}
+use Rattle.papaya_looks.proofs.Held.{keep, held_for, may_key, may_room, may_sweep, keep_counter, counter_for, may_count}
 use Rattle.papaya_looks.proofs.Restricted.{restricted, looks_kept}
 use Rattle.papaya_looks.proofs.There.{blocks_there}
 
@@ -80,14 +80,8 @@ module _ {K Q : Type 0} (V : Type 0) (same : K → K → Bool) (asks : Q → K �
     initial = (all.makings.standing.fit m s here).1
 
     module _ (b : ℕ) (u : UnderWay K V Q) (has : calls m i ≡ Some u) (looks : LooksAt b w.memory (machine_plan asks same s.hash (machine_of u))) where
-      inside : IsInside (w.uses (slot i))
-      inside = stands.inside i u has
-
       abbrev Looks : Type 0
       Looks = (IsSome (value_at w.memory b) × (IsAtRow u ⊎ IsHeldFor w (slot i) i s.setting.counter b)) ⊎ MayMake b w.memory (machine_plan asks same s.hash (machine_of u))
-
-      abbrev here_keep : ℕ → Bool
-      here_keep = keep same s.hash asks s.setting slot lawful initial w s.chart s.blocks s.sights (calls m) stands i inside
 
       -- at a row
       at_row : IsAtRow u → Looks
@@ -97,37 +91,45 @@ module _ {K Q : Type 0} (V : Type 0) (same : K → K → Bool) (asks : Q → K �
             | inr made ↦ inr made
           ]
 
-      -- and at none
-      at_none : May Can Took value_at (restricted here_keep w.memory) (machine_plan asks same s.hash (machine_of u)) → Looks
-      at_none may =
-          elim (looks_kept here_keep w.memory (machine_plan asks same s.hash (machine_of u)) may b looks) as (λ _. Looks) [
-            | inl is ↦ inl (is.1, inr (held_for same s.hash asks s.setting slot lawful initial w s.chart s.blocks s.sights (calls m) stands i inside b is.0))
+      -- and at none, where what is kept is held for it
+      at_none : (kept : ℕ → Bool) → (kept b ≡ true → IsHeldFor w (slot i) i s.setting.counter b) → May Can Took value_at (restricted kept w.memory) (machine_plan asks same s.hash (machine_of u)) → Looks
+      at_none kept held may =
+          elim (looks_kept kept w.memory (machine_plan asks same s.hash (machine_of u)) may b looks) as (λ _. Looks) [
+            | inl is ↦ inl (is.1, inr (held is.0))
             | inr made ↦ inr made
           ]
 
-    abbrev less : (u : UnderWay K V Q) → calls m i ≡ Some u → Mem (Node K V)
-    less u has = restricted (keep same s.hash asks s.setting slot lawful initial w s.chart s.blocks s.sights (calls m) stands i (stands.inside i u has)) w.memory
+    module _ (inside : IsInside (w.uses (slot i))) where
+      abbrev kept_for : ℕ → Bool
+      kept_for = keep same s.hash asks s.setting slot lawful initial w s.chart s.blocks s.sights (calls m) stands i inside
+
+      kept_held : (b : ℕ) → kept_for b ≡ true → IsHeldFor w (slot i) i s.setting.counter b
+      kept_held = held_for same s.hash asks s.setting slot lawful initial w s.chart s.blocks s.sights (calls m) stands i inside
+
+      abbrev less : Mem (Node K V)
+      less = restricted kept_for w.memory
 
     each : (b : ℕ) (u : UnderWay K V Q) (has : calls m i ≡ Some u) (looks : LooksAt b w.memory (machine_plan asks same s.hash (machine_of u))) → Looks b u has looks
     each b (OnKey u) has looks = elim (call_decided u.call.stands) as (λ _. Looks b (OnKey u) has looks) [
       | inl row ↦ at_row b (OnKey u) has looks row
-      | inr none ↦ at_none b (OnKey u) has looks
-          (as_may machines.called Can Took value_at (less (OnKey u) has) (call_plan asks same s.hash u.call)
+      | inr none ↦ at_none b (OnKey u) has looks (kept_for (stands.inside i (OnKey u) has)) (kept_held (stands.inside i (OnKey u) has) b)
+          (as_may machines.called Can Took value_at (less (stands.inside i (OnKey u) has)) (call_plan asks same s.hash u.call)
           (may_key same s.hash asks s.setting slot lawful initial w s.chart s.blocks s.sights (calls m) stands i (stands.inside i (OnKey u) has) u has none))
     ]
     each b (ForRoom r) has looks = elim (room_decided r.reserve.stands) as (λ _. Looks b (ForRoom r) has looks) [
       | inl row ↦ at_row b (ForRoom r) has looks row
-      | inr none ↦ at_none b (ForRoom r) has looks
-          (as_may machines.reserved Can Took value_at (less (ForRoom r) has) (reserve_plan s.hash r.reserve)
+      | inr none ↦ at_none b (ForRoom r) has looks (kept_for (stands.inside i (ForRoom r) has)) (kept_held (stands.inside i (ForRoom r) has) b)
+          (as_may machines.reserved Can Took value_at (less (stands.inside i (ForRoom r) has)) (reserve_plan s.hash r.reserve)
           (may_room same s.hash asks s.setting slot lawful initial w s.chart s.blocks s.sights (calls m) stands i (stands.inside i (ForRoom r) has) r has none))
     ]
-    each b (Counting sum) has looks = at_none b (Counting sum) has looks
-        (as_may machines.counted Can Took value_at (less (Counting sum) has) (sum_plan sum)
-        (may_count same s.hash asks s.setting slot lawful initial w s.chart s.blocks s.sights (calls m) stands i (stands.inside i (Counting sum) has) sum has))
+    each b (Counting sum) has looks =
+        let kept = keep_counter same s.hash asks s.setting slot w s.chart s.blocks s.sights (calls m) stands i in
+        at_none b (Counting sum) has looks kept (counter_for same s.hash asks s.setting slot w s.chart s.blocks s.sights (calls m) stands i b)
+        (as_may machines.counted Can Took value_at (restricted kept w.memory) (sum_plan sum) (may_count same s.hash asks s.setting slot w s.chart s.blocks s.sights (calls m) stands i sum has))
     each b (OverAll o) has looks = elim (sweep_decided o.sweep.stands) as (λ _. Looks b (OverAll o) has looks) [
       | inl row ↦ at_row b (OverAll o) has looks row
-      | inr none ↦ at_none b (OverAll o) has looks
-          (as_may machines.swept Can Took value_at (less (OverAll o) has) (sweep_plan s.hash o.sweep)
+      | inr none ↦ at_none b (OverAll o) has looks (kept_for (stands.inside i (OverAll o) has)) (kept_held (stands.inside i (OverAll o) has) b)
+          (as_may machines.swept Can Took value_at (less (stands.inside i (OverAll o) has)) (sweep_plan s.hash o.sweep)
           (may_sweep same s.hash asks s.setting slot lawful initial w s.chart s.blocks s.sights (calls m) stands i (stands.inside i (OverAll o) has) o has none))
     ]
 

@@ -35,7 +35,7 @@ use Rattle.papaya_maps.proofs.Given.Points.Making.EndsSum.{sum_lowers}
 use Rattle.papaya_maps.specs.Given.Points.Steps.{AreLawful}
 use Rattle.papaya_maps.specs.Given.Callers.OverAll.{CallOverAll, gone_on}
 use Rattle.papaya_maps.specs.Given.Callers.Rooms.{CallForRoom}
-use Rattle.papaya_maps.specs.Given.Callers.Together.{UnderWay, CallOnKey, OnKey, ForRoom, Counting, OverAll, Together, next_of, next_for_room, next_over_all}
+use Rattle.papaya_maps.specs.Given.Callers.Together.{UnderWay, UnlessCounts, CallOnKey, OnKey, ForRoom, Counting, OverAll, Together, next_of, next_for_room, next_over_all}
 use Rattle.papaya_maps.proofs.Given.Callers.Together.At.{at_same}
 use Rattle.papaya_maps.specs.Given.Finishes.Endings.{Finishing, EndingsTogether}
 use Rattle.papaya_maps.specs.Given.Finishes.Machines.{machine_of, DidOfKind, MachineStepsAmong}
@@ -184,7 +184,7 @@ module _ {K Q : Type 0} (V : Type 0) (same : K → K → Bool) (asks : Q → K �
       has2 : calls2 i ≡ Some v
       has2 = ap (λ (f : ℕ → Option (UnderWay K V Q)). f i) (at_same calls m (with_at (calls m) i to.next) m refl) ∙ at_same (calls m) i to.next i refl ∙ next_is
 
-      inside2 : IsInside (to.w2.uses (slot i))
+      inside2 : UnlessCounts v (IsInside (to.w2.uses (slot i)))
       inside2 = then.inside i v has2
 
     -- A call on one key.

@@ -5,7 +5,7 @@ use Rattle.std.proofs.lemmas.Bool.{cases_eq}
 use Rattle.papaya_moments.specs.Given.SeizeWords.Mem.{Mem, Can, Took, value_at}
 use Rattle.papaya_moments.specs.Given.SeizeWords.Plan.{May}
 use Rattle.papaya_moments.specs.Given.SeizeWords.Word.{block_in}
-use Rattle.papaya_moments.specs.Given.Seize.World.{World, with_at}
+use Rattle.papaya_moments.specs.Given.Seize.World.{World, with_at, IsInside}
 use Rattle.papaya_moments.specs.Given.Tables.declared.node.Node.{Node}
 use Rattle.papaya_moments.specs.Given.Resize.declared.new_table.NewTable.{NewTable}
 use Rattle.papaya_moments.specs.Given.Raw.Machine.{machine_plan, called as of_key}
@@ -140,8 +140,8 @@ module _ {K V : Type 0} (same : K → K → Bool) (hash : ℕ → K → ℕ) (na
   each : Together V same st.hash same st.setting slot_of w st.chart st.blocks st.sights (s.calls map)
   each = at.together.makings.standing.each map st to.2
 
-  sight : IsSight st.chart st.blocks (st.sights (slot_of i))
-  sight = (each.ground.sight (slot_of i) (each.inside i u here)).0
+  sight : IsInside (s.world.uses (slot_of i)) → IsSight st.chart st.blocks (st.sights (slot_of i))
+  sight inside = (each.ground.sight (slot_of i) inside).0
 
   -- a block that is made was free
   makes_free : (x : Changed) → LeavesBy w.memory new.memory x → MakesFree its known x
@@ -328,7 +328,7 @@ module _ {K V : Type 0} (same : K → K → Bool) (hash : ℕ → K → ℕ) (na
   module _ (x : CallOnKey K V K) (p2 : KeyCall K V K) (end : Called (Node K V)) (step : StepsAmong V same same old.batch_size old.roots slot_of s.world s.maps s.calls s.makers s.enders map st i x new.memory p2 end)
       (moved : to.4.maps2 ≡ with_at s.maps map (Some (record st { chart = step.step.went.c2; blocks = step.step.blocks2; sights = step.step.sights2 }))) where
     seen_then : (n : ℕ) → n < step.step.went.c2.stored → step.step.went.blocks2.pair_known n ≡ true → known2.roles (step.step.went.blocks2.pair n) ≡ role.Pair (then_shown.number map n)
-    seen_then n l known_too = roles_then same old.batch_size old.roots s map i st sight x new.memory p2 end step then_shown moved n l known_too
+    seen_then n l known_too = roles_then same old.batch_size old.roots s map i st (sight step.step.inside) x new.memory p2 end step then_shown moved n l known_too
 
   module _ (x : CallOnKey K V K) (is : s.calls map i ≡ Some (OnKey x)) (steps : Stepped (OnKey x)) (may_x : MayStep (OnKey x)) (owns_x : Owns x.call) (b : ℕ) (its_block : IsItsBlock known2 i b) where
     -- the block that its machine names is no pair's
@@ -371,8 +371,8 @@ module _ {K V : Type 0} (same : K → K → Bool) (hash : ℕ → K → ℕ) (na
           | inr refused ↦ names_some did (refused_own r refused.0 (sym (told_is ∙ ap of_called refused.1) ∙ says) tells)
           | inl answered ↦
               not_a_pair did (answer_pair same st.hash st.setting slot_of row.step.w2 st.chart (seen_by st.blocks (st.sights (slot_of i))) i x (at.together.makings.standing.fit map st to.2).0 known2 (shown.number map)
-              (λ n l k. ap (λ (f : ℕ → Role). f (st.blocks.pair n)) (quiet (λ own. own)) ∙ (shown.maps map st to.2).pairs.roles n l (sight.pairs n l k))
-              (λ n l k. (each.ground.map.map.shows.pair_numbers n l (sight.pairs n l k)).0) r.0 code (names_some did) x.change answered.0 (row.step.answers answered.0 answered.1)
+              (λ n l k. ap (λ (f : ℕ → Role). f (st.blocks.pair n)) (quiet (λ own. own)) ∙ (shown.maps map st to.2).pairs.roles n l ((sight (each.inside i (OnKey x) is)).pairs n l k))
+              (λ n l k. (each.ground.map.map.shows.pair_numbers n l ((sight (each.inside i (OnKey x) is)).pairs n l k)).0) r.0 code (names_some did) x.change answered.0 (row.step.answers answered.0 answered.1)
               (answered_own r answered.0 (sym (told_is ∙ ap of_called answered.1) ∙ says) tells))
         ]
 

@@ -2,6 +2,7 @@
 use Rattle.std.specs.Prelude.{◌≡◌, ℕ, zero, suc, ◌+◌, ◌<◌, ◌≤◌, nat_le, Bool, true, false, cond, List, [], ◌∷◌, ◌++◌, filter, Option, Some, ◌⊎◌}
 use Rattle.std.proofs.Common.{refl, ap, sym, subst, ◌∙◌, arith, inl, inr}
 use Rattle.std.proofs.lemmas.Bool.{cases_eq}
+use Rattle.papaya_finds.specs.Given.Seize.World.{IsInside}
 use Rattle.papaya_finds.specs.Given.Tables.Lengths.{len_of}
 use Rattle.papaya_finds.specs.Given.Tables.declared.node.Node.{Node}
 use Rattle.papaya_finds.specs.Given.Resize.declared.outcome.Outcome.{Outcome}
@@ -36,7 +37,7 @@ use Rattle.papaya_finds.specs.Given.Effects.Known.{Known}
 use Rattle.papaya_finds.specs.Given.Finishes.Machines.{machine_of}
 use Rattle.papaya_finds.specs.Given.Finishes.Maps.{Standing}
 use Rattle.papaya_finds.specs.Given.Follows.Maps.{tables_to, ShowsTables}
-use Rattle.papaya_finds.proofs.Given.Follows.Steps.{WentTo, made_so, is_inside, is_sight}
+use Rattle.papaya_finds.proofs.Given.Follows.Steps.{WentTo, made_so, is_sight}
 use Rattle.papaya_finds.proofs.Given.Histories.Logs.{each_of}
 use Rattle.papaya_finds.specs.Given.Moments.Whole.{ShowsWhole}
 use Rattle.papaya_purposes.specs.Purposes.{IsFor, HasMet, ShowsPurposes}
@@ -97,12 +98,11 @@ module _ {K V : Type 0} (same : K → K → Bool) (hash : ℕ → K → ℕ) (na
   abbrev d : CallThere K V
   d = then_call same hash name log m known s old new at whole purposes of i u here said leads c c_is
 
-  its_map : IsMapIn same to.0.hash (in_slot to.0.setting (slot_of i)) s.world to.0.chart (seen_by to.0.blocks (to.0.sights (slot_of i)))
-  its_map =
+  its_map : IsInside (s.world.uses (slot_of i)) → IsMapIn same to.0.hash (in_slot to.0.setting (slot_of i)) s.world to.0.chart (seen_by to.0.blocks (to.0.sights (slot_of i)))
+  its_map inside =
       map_seen same to.0.hash (in_slot to.0.setting (slot_of i)) s.world to.0.chart to.0.blocks (to.0.sights (slot_of i))
       (map_in_slot same to.0.hash to.0.setting s.world to.0.chart to.0.blocks (slot_of i) (at.together.makings.standing.each of to.0 to.2).ground.map)
-      (is_sight same hash m known s old new at name purposes.shown of i to.0 to.2 (name i) (made_so same hash name m known s old new at purposes.shown of i u here said leads)
-      (is_inside same hash name m known s old new at purposes.shown of i u here said leads))
+      (is_sight same hash m known s old new at name purposes.shown of i to.0 to.2 (name i) (made_so same hash name m known s old new at purposes.shown of i u here said leads) inside)
 
   -- the map as it is then has its tables, as long as they were
   pub record StandsOn : Type 0 where
@@ -115,7 +115,7 @@ module _ {K V : Type 0} (same : K → K → Bool) (hash : ℕ → K → ℕ) (na
   stands_on : (r : CallForRoom) → Did same hash name log m known s old new at whole purposes of i u here said leads (ForRoom r) → StandsOn
   stands_on r (p2, end, machine_is, told_is, inl (step, moved)) =
       let lasts = moved_lasts same to.0.hash (in_slot to.0.setting (slot_of i)) (at.together.makings.standing.fit of to.0 to.2).0.lawful s.world to.0.chart step.step.went.c2
-      (seen_by to.0.blocks (to.0.sights (slot_of i))) its_map step.step.went.moved in
+      (seen_by to.0.blocks (to.0.sights (slot_of i))) (its_map step.step.inside) step.step.went.moved in
       record {
         st = record to.0 { chart = step.step.went.c2; blocks = step.step.blocks2; sights = step.step.sights2 };
         there = ap (λ (f : ℕ → Option (Standing K)). f of) moved.1

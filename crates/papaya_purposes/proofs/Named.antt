@@ -2,7 +2,7 @@
 use Rattle.std.specs.Prelude.{◌≡◌, ℕ, ◌<◌, Bool, true, List, Option, Some}
 use Rattle.std.proofs.Common.{refl, ap, sym, ◌∙◌, inl, inr}
 use Rattle.std.proofs.lemmas.Bool.{cases_lt}
-use Rattle.papaya_finds.specs.Given.Seize.World.{with_at}
+use Rattle.papaya_finds.specs.Given.Seize.World.{with_at, IsInside}
 use Rattle.papaya_finds.specs.Given.Tables.declared.node.Node.{Node}
 use Rattle.papaya_finds.specs.Given.Sweeps.declared.sweep.Sweep.{Sweep}
 use Rattle.papaya_finds.specs.Given.Sweeps.declared.sweep.Swept.{Swept}
@@ -18,7 +18,7 @@ use Rattle.papaya_finds.specs.Given.Effects.Known.{Known}
 use Rattle.papaya_finds.specs.Given.Effects.declared.role.Role.TheVariants as role
 use Rattle.papaya_finds.specs.Given.Finishes.Sweeps.{SweepStepsAmong}
 use Rattle.papaya_finds.specs.Given.Finishes.Maps.{Standing}
-use Rattle.papaya_finds.proofs.Given.Follows.Steps.{made_so, is_inside, is_sight}
+use Rattle.papaya_finds.proofs.Given.Follows.Steps.{made_so, is_sight}
 use Rattle.papaya_finds.specs.Given.Histories.Answers.{NamesPair as NamesNumber}
 use Rattle.papaya_finds.proofs.Given.Histories.Roles.{named_by}
 use Rattle.papaya_finds.specs.Given.Moments.Whole.{ShowsWhole}
@@ -40,10 +40,9 @@ module _ {K V : Type 0} (same : K → K → Bool) (hash : ℕ → K → ℕ) (na
   abbrev sight : Sight
   sight = st.sights (slot_of i)
 
-  its_sight : IsSight st.chart st.blocks sight
+  its_sight : IsInside (s.world.uses (slot_of i)) → IsSight st.chart st.blocks sight
   its_sight =
       is_sight same hash m known s old new at name purposes.shown of i st st_is (name i) (made_so same hash name m known s old new at purposes.shown of i u here said leads)
-      (is_inside same hash name m known s old new at purposes.shown of i u here said leads)
 
   abbrev number2 : ℕ → ℕ
   number2 = (on same hash name log m known s old new at whole purposes of i u here said leads).shows.number of
@@ -65,7 +64,7 @@ module _ {K V : Type 0} (same : K → K → Bool) (hash : ℕ → K → ℕ) (na
           let was = step.step.went.blocks_same.pairs_back n before known_too in
           let grown = step.step.grown.pairs n before in
           ap (known2 same hash name log m known s old new at whole purposes of i u here said leads).roles ((step.step.went.blocks_same.pairs n before was).0 ∙ sym grown.0)
-          ∙ ((on same hash name log m known s old new at whole purposes of i u here said leads).shows.maps of stands_then stands_is).pairs.roles n l (grown.1 ∙ its_sight.pairs n before was)
+          ∙ ((on same hash name log m known s old new at whole purposes of i u here said leads).shows.maps of stands_then stands_is).pairs.roles n l (grown.1 ∙ (its_sight step.step.inside).pairs n before was)
       | inr fresh ↦
           let grown = step.step.grown.new_pairs n fresh in
           ap (known2 same hash name log m known s old new at whole purposes of i u here said leads).roles (sym grown.0)

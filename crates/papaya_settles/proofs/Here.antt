@@ -2,7 +2,7 @@
 use Rattle.std.specs.Prelude.{◌≡◌, ◌≢◌, ◌<◌, ◌+◌, ℕ, Bool, true, List, Option, Some, None}
 use Rattle.std.proofs.Common.{ap, sym, subst, inl, inr}
 use Rattle.papaya_histories.specs.Given.SeizeWords.Mem.{value_at}
-use Rattle.papaya_histories.specs.Given.Seize.World.{World, Defers}
+use Rattle.papaya_histories.specs.Given.Seize.World.{World, Defers, IsInside}
 use Rattle.papaya_histories.specs.Given.Seize.declared.rows.defer.Defer.{Defer}
 use Rattle.papaya_histories.specs.Given.Seize.declared.rows.defer.Deferring.{Deferring}
 use Rattle.papaya_histories.specs.Given.Seize.declared.rows.defer.Deferring.TheVariants as deferring
@@ -63,12 +63,12 @@ module _ {K V : Type 0} (same : K → K → Bool) (hash : ℕ → K → ℕ) (na
   pub each : Together V same st.hash same st.setting slot_of w st.chart st.blocks st.sights (s.calls map)
   each = at.together.makings.standing.each map st there
 
-  pub is_sight : IsSight st.chart st.blocks sight
-  is_sight = (each.ground.sight (slot_of i) (each.inside i u here)).0
+  pub is_sight : IsInside (w.uses (slot_of i)) → IsSight st.chart st.blocks sight
+  is_sight inside = (each.ground.sight (slot_of i) inside).0
 
   -- tables of the map are none
-  tables_no : (t : ℕ) → t < st.chart.past → sight.tables t ≡ true → IsNoCount known (st.blocks.table t)
-  tables_no t made known_table of is = (let its = (shown.maps map st there).tables.roles t made (is_sight.tables t made known_table) in cc (its, is))
+  tables_no : IsInside (w.uses (slot_of i)) → (t : ℕ) → t < st.chart.past → sight.tables t ≡ true → IsNoCount known (st.blocks.table t)
+  tables_no inside t made known_table of is = (let its = (shown.maps map st there).tables.roles t made ((is_sight inside).tables t made known_table) in cc (its, is))
 
   -- nor is a table that was made
   value_no : (b : ℕ) (value : Node K V) → value_at w.memory b ≡ Some value → value ≢ node.Shards → IsNoCount known b
@@ -122,8 +122,8 @@ module _ {K V : Type 0} (same : K → K → Bool) (hash : ℕ → K → ℕ) (na
       → CallingAims (IsNoCount known) x.call x.call.stands
   key_no x is elsewhere = elim (each.stand i (OnKey x) is) as (λ _. CallingAims (IsNoCount known) x.call x.call.stands) [
     | inl (rests, knows) ↦ elim (knows.facts) as (λ _. CallingAims (IsNoCount known) x.call x.call.stands) [
-      | inl facts ↦ key_aims same st.hash w i _ st.chart seen (IsNoCount known) tables_no own_no x.keys x.change x.call x.call.stands elsewhere facts.point
-      | inr late ↦ late_key_aims same st.hash w i _ st.chart seen (IsNoCount known) tables_no own_no x.keys x.began x.call x.call.stands late.1.point
+      | inl facts ↦ key_aims same st.hash w i _ st.chart seen (IsNoCount known) (tables_no (each.inside i (OnKey x) is)) own_no x.keys x.change x.call x.call.stands elsewhere facts.point
+      | inr late ↦ late_key_aims same st.hash w i _ st.chart seen (IsNoCount known) (tables_no (each.inside i (OnKey x) is)) own_no x.keys x.began x.call x.call.stands late.1.point
     ]
     | inr (row, is_row, knows) ↦ by x.call.stands is_row row
   ]
@@ -138,8 +138,8 @@ module _ {K V : Type 0} (same : K → K → Bool) (hash : ℕ → K → ℕ) (na
   pub room_no : (x : CallForRoom) → s.calls map i ≡ Some (ForRoom x) → ReservingAims (IsNoCount known) x.reserve.stands
   room_no x is = elim (each.stand i (ForRoom x) is) as (λ _. ReservingAims (IsNoCount known) x.reserve.stands) [
     | inl (rests, knows) ↦ elim (knows.facts) as (λ _. ReservingAims (IsNoCount known) x.reserve.stands) [
-      | inl facts ↦ room_aims same st.hash w i _ st.chart seen (IsNoCount known) tables_no own_no x.reserve.stands facts.point
-      | inr late ↦ late_room_aims same st.hash w i _ st.chart seen (IsNoCount known) tables_no own_no x.began x.reserve.stands late.point
+      | inl facts ↦ room_aims same st.hash w i _ st.chart seen (IsNoCount known) (tables_no (each.inside i (ForRoom x) is)) own_no x.reserve.stands facts.point
+      | inr late ↦ late_room_aims same st.hash w i _ st.chart seen (IsNoCount known) (tables_no (each.inside i (ForRoom x) is)) own_no x.began x.reserve.stands late.point
     ]
     | inr (row, is_row, knows) ↦ by x.reserve.stands is_row
   ]
@@ -152,7 +152,7 @@ module _ {K V : Type 0} (same : K → K → Bool) (hash : ℕ → K → ℕ) (na
   pub over_all_no : (x : CallOverAll) → s.calls map i ≡ Some (OverAll x) → IsElsewhere x.sweep.stands
       → SweepingAims (IsNoCount known) x.sweep x.sweep.stands
   over_all_no x is elsewhere = elim (each.stand i (OverAll x) is) as (λ _. SweepingAims (IsNoCount known) x.sweep x.sweep.stands) [
-    | inl (rests, knows) ↦ over_all_aims same st.hash w i _ st.chart seen (IsNoCount known) tables_no own_no x.began x.sweep x.sweep.stands elsewhere knows.facts.point
+    | inl (rests, knows) ↦ over_all_aims same st.hash w i _ st.chart seen (IsNoCount known) (tables_no (each.inside i (OverAll x) is)) own_no x.began x.sweep x.sweep.stands elsewhere knows.facts.point
     | inr (row, is_row, knows) ↦ by x.sweep.stands is_row row
   ]
     where

@@ -6,7 +6,7 @@ use Rattle.papaya_histories.specs.Given.SeizeWords.declared.at.At.TheVariants.{W
 use Rattle.papaya_histories.specs.Given.SeizeWords.Mem.{Mem}
 use Rattle.papaya_histories.specs.Given.SeizeWords.Op.{Found, Stored as StoredOut, Exchanged, Made, Taken, Roomed}
 use Rattle.papaya_histories.specs.Given.SeizeWords.Word.{block_in}
-use Rattle.papaya_histories.specs.Given.Seize.World.{World}
+use Rattle.papaya_histories.specs.Given.Seize.World.{World, IsInside}
 use Rattle.papaya_histories.specs.Given.Tables.Chunks.{is_incremental}
 use Rattle.papaya_histories.specs.Given.Tables.Counts.{count_change}
 use Rattle.papaya_histories.specs.Given.Tables.TablePlaces.{at_place}
@@ -63,7 +63,7 @@ use Rattle.papaya_histories.specs.Given.Follows.Steps.{TakesNone}
 use Rattle.papaya_histories.proofs.Given.Follows.Operations.{LeavesBy, operated_leaves}
 use Rattle.papaya_histories.proofs.Given.Follows.RowSteps.{row_done}
 use Rattle.papaya_histories.proofs.Given.Follows.Rows.{one_step_leaves}
-use Rattle.papaya_histories.proofs.Given.Follows.Steps.{WentTo, went_to, made_so, is_inside, DidSo, OfNoRow}
+use Rattle.papaya_histories.proofs.Given.Follows.Steps.{WentTo, went_to, made_so, DidSo, OfNoRow}
 use Rattle.papaya_histories.proofs.Given.Follows.Writes.{nothing_free, place_says}
 use Rattle.papaya_histories.proofs.Given.Others.Outcomes.{told_in}
 use Rattle.papaya_histories.proofs.Given.Spots.Shifts.{calm_shifts, Shifts}
@@ -143,7 +143,7 @@ module _ {K V : Type 0} (same : K → K → Bool) (hash : ℕ → K → ℕ) (na
   here_each : Together V same st.hash same st.setting slot_of s.world ch st.blocks st.sights (s.calls map)
   here_each = each same hash name m known s old at_old shown map i st to.2 u under_way
 
-  here_sight : IsSight ch st.blocks (st.sights (slot_of i))
+  here_sight : IsInside (s.world.uses (slot_of i)) → IsSight ch st.blocks (st.sights (slot_of i))
   here_sight = is_sight same hash name m known s old at_old shown map i st to.2 u under_way
 
   pairs_there : (n : ℕ) → ch.current n ≡ true → n < ch.stored
@@ -183,7 +183,7 @@ module _ {K V : Type 0} (same : K → K → Bool) (hash : ℕ → K → ℕ) (na
   room_shifts x (p2, end, machine_is, told_is, inl (step, moved)) own =
       none_kept step.step.went.c2
       (moved_shifts same hash m known s old new at_old name shown map i st to.2 (name i) (made_so same hash name m known s old new at_old shown map i u under_way said leads)
-      (is_inside same hash name m known s old new at_old shown map i u under_way said leads) _ step.step.went step.step.blocks2 step.step.grown step.step.sights2) step.step.same_pairs
+      step.step.inside _ step.step.went step.step.blocks2 step.step.grown step.step.sights2) step.step.same_pairs
   room_shifts x (p2, end, machine_is, told_is, inr row) own = absurd own
 
   pub room_counts : (x : CallForRoom) → u ≡ ForRoom x → (done : Did (ForRoom x)) → ((NoRow (ForRoom x) done → ⊥) → TakesNone told) → Goes false (is_to_count to.1) × (to.4.next ≡ None → is_to_count to.1 ≡ false)
@@ -210,8 +210,7 @@ module _ {K V : Type 0} (same : K → K → Bool) (hash : ℕ → K → ℕ) (na
       let never : is_to_count to.1 ≡ false = ap is_to_count machine_is in (
         KeepsCount (all_apart effects
             (calm_shifts effects
-            (stayed_calm same hash m known s old new at_old name shown map i st to.2 (name i) (made_so same hash name m known s old new at_old shown map i u under_way said leads)
-            (is_inside same hash name m known s old new at_old shown map i u under_way said leads) still).calm) uncounted) never,
+            (stayed_calm same hash m known s old new at_old name shown map i st to.2 (name i) (made_so same hash name m known s old new at_old shown map i u under_way said leads) still).calm) uncounted) never,
         λ none. never,
       )
     where
@@ -275,7 +274,7 @@ module _ {K V : Type 0} (same : K → K → Bool) (hash : ℕ → K → ℕ) (na
         its_shifts : Shifts ch c2 (shown.number map) known.stored effects
         its_shifts =
             moved_shifts same hash m known s old new at_old name shown map i st to.2 (name i) (made_so same hash name m known s old new at_old shown map i u under_way said leads)
-            (is_inside same hash name m known s old new at_old shown map i u under_way said leads) _ step.step.went step.step.blocks2 step.step.grown step.step.sights2
+            step.step.inside _ step.step.went step.step.blocks2 step.step.grown step.step.sights2
 
         -- what it knew before
         abbrev Facts : Sweeping → Type 0
@@ -337,7 +336,7 @@ module _ {K V : Type 0} (same : K → K → Bool) (hash : ℕ → K → ℕ) (na
               (bytes_are_few st.hash (at_old.together.makings.standing.fit map st to.2).0.fits (ch.key n))
 
           was_pair : known.roles (block_in word) ≡ role.Pair (shown.number map n)
-          was_pair = ap known.roles names ∙ (shown.maps map st to.2).pairs.roles n facts.1.2 (here_sight.pairs n facts.1.2 facts.1.3)
+          was_pair = ap known.roles names ∙ (shown.maps map st to.2).pairs.roles n facts.1.2 ((here_sight (here_each.inside i (OverAll x) under_over)).pairs n facts.1.2 facts.1.3)
 
           free : known.roles 0 ≡ role.Free
           free = nothing_free s.world m.stored known shown.blocks.roles
@@ -345,7 +344,7 @@ module _ {K V : Type 0} (same : K → K → Bool) (hash : ℕ → K → ℕ) (na
           removes : told ≡ changed.Wrote (at_place x.sweep.table x.sweep.place) word TOMBSTONE → effects ≡ effect.Removed (shown.number map n) ∷ []
           removes told_so =
               ap (effects_of its known) (told_so ∙ ap (λ (a : At). changed.Wrote a word TOMBSTONE) place_is)
-              ∙ (place_says its known (st.blocks.table t) (table_of map t) (ch.len t) ((shown.maps map st to.2).tables.roles t made (here_sight.tables t made facts.3.0.table.known)) word TOMBSTONE
+              ∙ (place_says its known (st.blocks.table t) (table_of map t) (ch.len t) ((shown.maps map st to.2).tables.roles t made ((here_sight (here_each.inside i (OverAll x) under_over)).tables t made facts.3.0.table.known)) word TOMBSTONE
               (λ e. (let one : role.Pair (shown.number map n) ≡ role.Free = sym was_pair ∙ ap known.roles e ∙ free in cc one)) (role.Pair (shown.number map n)) role.Free was_pair free x.sweep.place within).0
 
           abbrev Tried : Type 0

@@ -36,7 +36,7 @@ use Rattle.papaya_histories.specs.Given.Finishes.Maps.{Standing}
 use Rattle.papaya_histories.specs.Given.Follows.Shows.{Shows}
 use Rattle.papaya_histories.proofs.Given.Follows.Alike.{is_calm, AllCalm}
 use Rattle.papaya_histories.proofs.Given.Follows.Operations.{LeavesBy, Operated, operated_leaves, seen_write, told_write}
-use Rattle.papaya_histories.proofs.Given.Follows.Steps.{WentTo, went_to, made_so, is_inside, DidSo, OfNoRow}
+use Rattle.papaya_histories.proofs.Given.Follows.Steps.{WentTo, went_to, made_so, DidSo, OfNoRow}
 use Rattle.papaya_histories.proofs.Given.Spots.Done.{DidBy, DidMoved, did_moved}
 use Rattle.papaya_histories.proofs.Given.Spots.Steps.{stayed_calm}
 use Rattle.papaya_settles.specs.Owing.{hands_over, leaves_owed, AllLeave, OwesGo, KeepsOwed, TakesOut, PutsOver, Passes, StepsTakeOut}
@@ -58,8 +58,7 @@ all_calm [] all = (tt, refl)
 all_calm (f ∷ fs) all = let one = calm_leaves f all.0 in let rest = all_calm fs all.1 in ((one.0, rest.0), ap (λ (q : Bool). q || list_any hands_over fs) one.1 ∙ rest.1)
 
 module _ {K V : Type 0} (same : K → K → Bool) (hash : ℕ → K → ℕ) (m : Moment K V) (known : Known) (s : Scene K V) (old new : Held K V) (at : IsAt same hash old s)
-    (name : ℕ → List ℕ) (shown : Shows same name m known s) (map i : ℕ) (standing : Standing K) (there : s.maps map ≡ Some standing) (made : Operated s.world.memory new.memory new.changed)
-    (inside : IsInside (s.world.uses (slot_of i))) (owes : List Thing) where
+    (name : ℕ → List ℕ) (shown : Shows same name m known s) (map i : ℕ) (standing : Standing K) (there : s.maps map ≡ Some standing) (made : Operated s.world.memory new.memory new.changed) (owes : List Thing) where
   abbrev m2 : Mem (Node K V)
   m2 = new.memory
 
@@ -97,14 +96,15 @@ module _ {K V : Type 0} (same : K → K → Bool) (hash : ℕ → K → ℕ) (m 
   left : LeavesBy w.memory m2 told
   left = operated_leaves w.memory m2 told made
 
-  is_sight : IsSight standing.chart standing.blocks sight
-  is_sight = (here.ground.sight (slot_of i) inside).0
-
-  is_map : IsMapIn same standing.hash setting w standing.chart (seen_by standing.blocks sight)
-  is_map = map_seen same standing.hash setting w standing.chart standing.blocks sight (map_in_slot same standing.hash standing.setting w standing.chart standing.blocks (slot_of i) here.ground.map) is_sight
-
-  module _ (Told : World (Node K V) → Chart K → Blocks → Type 0) (had : Went same standing.hash setting i w standing.chart (seen_by standing.blocks sight) m2 Told)
+  module _ (inside : IsInside (w.uses (slot_of i))) (Told : World (Node K V) → Chart K → Blocks → Type 0)
+      (had : Went same standing.hash setting i w standing.chart (seen_by standing.blocks sight) m2 Told)
       (blocks2 : Blocks) (grown : IsGrown standing.chart standing.blocks had.blocks2 blocks2) (sights2 : ℕ → Sight) where
+    is_sight : IsSight standing.chart standing.blocks sight
+    is_sight = (here.ground.sight (slot_of i) inside).0
+
+    is_map : IsMapIn same standing.hash setting w standing.chart (seen_by standing.blocks sight)
+    is_map = map_seen same standing.hash setting w standing.chart standing.blocks sight (map_in_slot same standing.hash standing.setting w standing.chart standing.blocks (slot_of i) here.ground.map) is_sight
+
     abbrev went : Went same standing.hash setting i w standing.chart (seen_by standing.blocks sight) m2 (λ w2 c2 blocks2. Unit {0})
     went = went_as same standing.hash setting i w standing.chart (seen_by standing.blocks sight) m2 Told (λ w2 c2 blocks2. Unit {0}) (λ w2 c2 blocks2 map moved alike told. tt) had
 
@@ -167,23 +167,20 @@ module _ {K V : Type 0} (same : K → K → Bool) (hash : ℕ → K → ℕ) (na
   its_made : Operated s.world.memory new.memory new.changed
   its_made = made_so same hash name m known s old new at shown map i u under_way said leads
 
-  its_inside : IsInside (s.world.uses (slot_of i))
-  its_inside = is_inside same hash name m known s old new at shown map i u under_way said leads
-
   abbrev Takes : Type 0
-  Takes = TakesMore same hash m known s old new at name shown map i to.0 to.2 its_made its_inside owes
+  Takes = TakesMore same hash m known s old new at name shown map i to.0 to.2 its_made owes
 
   takes_out : (x : UnderWay K V K) → (did : DidSo same hash name m known s old new at shown map i u under_way said leads x) → OfNoRow same hash name m known s old new at shown map i u under_way said leads x did → Takes
   takes_out (OnKey x) (p2, end, machine_is, told_is, inl (step, moved)) none =
-      takes_more same hash m known s old new at name shown map i to.0 to.2 its_made its_inside owes _ step.step.went step.step.blocks2 step.step.grown step.step.sights2
+      takes_more same hash m known s old new at name shown map i to.0 to.2 its_made owes step.step.inside _ step.step.went step.step.blocks2 step.step.grown step.step.sights2
   takes_out (OnKey x) (p2, end, machine_is, told_is, inr row) none = absurd none
   takes_out (ForRoom x) (p2, end, machine_is, told_is, inl (step, moved)) none =
-      takes_more same hash m known s old new at name shown map i to.0 to.2 its_made its_inside owes _ step.step.went step.step.blocks2 step.step.grown step.step.sights2
+      takes_more same hash m known s old new at name shown map i to.0 to.2 its_made owes step.step.inside _ step.step.went step.step.blocks2 step.step.grown step.step.sights2
   takes_out (ForRoom x) (p2, end, machine_is, told_is, inr row) none = absurd none
   takes_out (Counting x) (p2, end, machine_is, told_is, still, stayed) none =
-      let all = all_calm _ (stayed_calm same hash m known s old new at name shown map i to.0 to.2 (name i) its_made its_inside still).calm in ([], KeepsOwed all.0 (append-nil owes), all.1)
+      let all = all_calm _ (stayed_calm same hash m known s old new at name shown map i to.0 to.2 (name i) its_made still).calm in ([], KeepsOwed all.0 (append-nil owes), all.1)
   takes_out (OverAll x) (p2, end, machine_is, told_is, inl (step, moved)) none =
-      takes_more same hash m known s old new at name shown map i to.0 to.2 its_made its_inside owes _ step.step.went step.step.blocks2 step.step.grown step.step.sights2
+      takes_more same hash m known s old new at name shown map i to.0 to.2 its_made owes step.step.inside _ step.step.went step.step.blocks2 step.step.grown step.step.sights2
   takes_out (OverAll x) (p2, end, machine_is, told_is, inr row) none = absurd none
 
 pub steps_take_out : (K V : Type 0) (same : K → K → Bool) (hash : ℕ → K → ℕ) → StepsTakeOut K V same hash

@@ -38,7 +38,7 @@ use Rattle.papaya_finds.specs.Given.Finishes.Maps.{Standing, IsSameMap}
 use Rattle.papaya_finds.specs.Given.Follows.Shows.{Shows}
 use Rattle.papaya_finds.proofs.Given.Follows.Operations.{LeavesBy, Operated, operated_leaves, seen_write, told_write}
 use Rattle.papaya_finds.proofs.Given.Follows.Rows.{one_step_leaves}
-use Rattle.papaya_finds.proofs.Given.Follows.Steps.{WentTo, went_to, made_so, is_inside, DidSo, LeadsThere, one_of}
+use Rattle.papaya_finds.proofs.Given.Follows.Steps.{WentTo, went_to, made_so, DidSo, LeadsThere, one_of}
 use Rattle.papaya_finds.specs.Given.Spots.Spots.{LiesAt}
 use Rattle.papaya_finds.proofs.Given.Spots.Done.{DidMoved, did_moved}
 use Rattle.papaya_finds.proofs.Given.Spots.Effects.{AllAside, aside_all, calm_aside}
@@ -128,9 +128,6 @@ module _ {K V : Type 0} (same : K → K → Bool) (hash : ℕ → K → ℕ) (na
   made : Operated w.memory m2 told
   made = made_so same hash name m known s old new at shown map i u here said leads
 
-  inside : IsInside (w.uses (slot_of i))
-  inside = is_inside same hash name m known s old new at shown map i u here said leads
-
   left : LeavesBy w.memory m2 told
   left = operated_leaves w.memory m2 told made
 
@@ -150,13 +147,6 @@ module _ {K V : Type 0} (same : K → K → Bool) (hash : ℕ → K → ℕ) (na
   lawful : AreLawful same standing.hash
   lawful = (at.together.makings.standing.fit map standing to.2).0
 
-  is_sight : IsSight standing.chart standing.blocks sight
-  is_sight = (ground.ground.sight (slot_of i) inside).0
-
-  is_map : IsMapIn same standing.hash (in_slot standing.setting (slot_of i)) w standing.chart (seen_by standing.blocks sight)
-  is_map = map_seen same standing.hash (in_slot standing.setting (slot_of i)) w standing.chart standing.blocks sight
-      (map_in_slot same standing.hash standing.setting w standing.chart standing.blocks (slot_of i) ground.ground.map) is_sight
-
   -- where a pair of the map lies
   lies : (n : ℕ) → standing.chart.current n ≡ true → LiesAt standing.chart (is_incremental standing.setting.mode) n (m.spot (shown.number map n)) (m.born (shown.number map n)).turn
   lies n current =
@@ -164,10 +154,17 @@ module _ {K V : Type 0} (same : K → K → Bool) (hash : ℕ → K → ℕ) (na
       (whole.places.each map standing to.2).lies n (shown.number map n) (it.0, it.1, (shown.maps map standing to.2).pairs.roles n it.0 it.1) current
 
   -- the tables of the map have moved
-  module _ (Told : World (Node K V) → Chart K → Blocks → Type 0)
+  module _ (inside : IsInside (w.uses (slot_of i))) (Told : World (Node K V) → Chart K → Blocks → Type 0)
       (had : Went same standing.hash (in_slot standing.setting (slot_of i)) i w standing.chart (seen_by standing.blocks sight) m2 Told)
       (blocks2 : Blocks) (grown : IsGrown standing.chart standing.blocks had.blocks2 blocks2) (sights2 : ℕ → Sight)
       (maps_are : to.4.maps2 ≡ with_at s.maps map (Some (record standing { chart = had.c2; blocks = blocks2; sights = sights2 }))) where
+    is_sight : IsSight standing.chart standing.blocks sight
+    is_sight = (ground.ground.sight (slot_of i) inside).0
+
+    is_map : IsMapIn same standing.hash (in_slot standing.setting (slot_of i)) w standing.chart (seen_by standing.blocks sight)
+    is_map = map_seen same standing.hash (in_slot standing.setting (slot_of i)) w standing.chart standing.blocks sight
+        (map_in_slot same standing.hash standing.setting w standing.chart standing.blocks (slot_of i) ground.ground.map) is_sight
+
     abbrev went : Went same standing.hash (in_slot standing.setting (slot_of i)) i w standing.chart (seen_by standing.blocks sight) m2 (λ w2 c2 blocks2. Unit {0})
     went = went_as same standing.hash (in_slot standing.setting (slot_of i)) i w standing.chart (seen_by standing.blocks sight) m2 Told (λ w2 c2 blocks2. Unit {0}) (λ w2 c2 blocks2 map moved alike told. tt) had
 
@@ -302,13 +299,13 @@ module _ {K V : Type 0} (same : K → K → Bool) (hash : ℕ → K → ℕ) (na
     }
 
   then_sources : (x : UnderWay K V K) → DidSo same hash name m known s old new at shown map i u here said leads x → Goal
-  then_sources (OnKey x) (p2, end, machine_is, told_is, inl (step, moved)) = moved_sources _ step.step.went step.step.blocks2 step.step.grown step.step.sights2 moved.1
+  then_sources (OnKey x) (p2, end, machine_is, told_is, inl (step, moved)) = moved_sources step.step.inside _ step.step.went step.step.blocks2 step.step.grown step.step.sights2 moved.1
   then_sources (OnKey x) (p2, end, machine_is, told_is, inr (row, stayed)) = row_stays row.step.w2 row.step.memory row.step.happened stayed.1
-  then_sources (ForRoom x) (p2, end, machine_is, told_is, inl (step, moved)) = moved_sources _ step.step.went step.step.blocks2 step.step.grown step.step.sights2 moved.1
+  then_sources (ForRoom x) (p2, end, machine_is, told_is, inl (step, moved)) = moved_sources step.step.inside _ step.step.went step.step.blocks2 step.step.grown step.step.sights2 moved.1
   then_sources (ForRoom x) (p2, end, machine_is, told_is, inr (row, stayed)) = row_stays row.step.w2 row.step.memory row.step.happened stayed.1
   then_sources (Counting x) (p2, end, machine_is, told_is, still, stayed) =
-      stays_aside (calm_aside effects (stayed_calm same hash m known s old new at name shown map i to.0 to.2 (name i) made inside still).calm) stayed.1
-  then_sources (OverAll x) (p2, end, machine_is, told_is, inl (step, moved)) = moved_sources _ step.step.went step.step.blocks2 step.step.grown step.step.sights2 moved.1
+      stays_aside (calm_aside effects (stayed_calm same hash m known s old new at name shown map i to.0 to.2 (name i) made still).calm) stayed.1
+  then_sources (OverAll x) (p2, end, machine_is, told_is, inl (step, moved)) = moved_sources step.step.inside _ step.step.went step.step.blocks2 step.step.grown step.step.sights2 moved.1
   then_sources (OverAll x) (p2, end, machine_is, told_is, inr (row, stayed)) = row_stays row.step.w2 row.step.memory row.step.happened stayed.1
 
 pub calls_keep_sources : (K V : Type 0) (same : K → K → Bool) (hash : ℕ → K → ℕ) → CallsKeepSources K V same hash

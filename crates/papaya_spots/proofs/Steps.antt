@@ -205,57 +205,60 @@ module _ {K V : Type 0} (same : K → K → Bool) (hash : ℕ → K → ℕ) (m 
           fresh = λ k l. (let more = stored_grows (Some caller) (Some map) effects m in let before : length m.stored < k = omega (arith, more, l) in leaves.elsewhere.beyond k before ∙ lying.fresh k before);
         }
 
-    -- A step of a row has moved none.
-    pub row_places : (lying : ShowsPlaces m known s.maps) (w2 : World (Node K V)) → w2.memory ≡ m2 → IsOneStep standing.setting i w w2 → (maps2 : ℕ → Option (Standing K)) → ((n : ℕ) → IsSameMap (s.maps n) (maps2 n)) → ShowsPlaces v known2 maps2
-    row_places lying w2 memory happened maps2 maps_same =
-        let aside = row_aside i map m known w w2 shown.blocks (one_step_leaves standing.setting i w w2 (together map standing there).ground.came happened) told
-        (subst (λ (n : Mem (Node K V)). LeavesBy w.memory n told) (sym memory) left) in
-        places_stay (Some caller) (Some map) effects m known known2 s.maps maps2 aside.0 aside.1 maps_same lying
+  -- A step of a row has moved none.
+  pub row_places : (lying : ShowsPlaces m known s.maps) (w2 : World (Node K V)) → w2.memory ≡ m2 → IsOneStep standing.setting i w w2 → (maps2 : ℕ → Option (Standing K)) → ((n : ℕ) → IsSameMap (s.maps n) (maps2 n)) → ShowsPlaces v known2 maps2
+  row_places lying w2 memory happened maps2 maps_same =
+      let aside = row_aside i map m known w w2 shown.blocks (one_step_leaves standing.setting i w w2 (together map standing there).ground.came happened) told
+      (subst (λ (n : Mem (Node K V)). LeavesBy w.memory n told) (sym memory) left) in
+      places_stay (Some caller) (Some map) effects m known known2 s.maps maps2 aside.0 aside.1 maps_same lying
 
-    pub row_finds_places : (w2 : World (Node K V)) → w2.memory ≡ m2 → IsOneStep standing.setting i w w2 → FindPlaces map m effects
-    row_finds_places w2 memory happened =
-        row_finds i map m known w w2 shown.blocks (one_step_leaves standing.setting i w w2 (together map standing there).ground.came happened) told
-        (subst (λ (n : Mem (Node K V)). LeavesBy w.memory n told) (sym memory) left)
+  pub row_finds_places : (w2 : World (Node K V)) → w2.memory ≡ m2 → IsOneStep standing.setting i w w2 → FindPlaces map m effects
+  row_finds_places w2 memory happened =
+      row_finds i map m known w w2 shown.blocks (one_step_leaves standing.setting i w w2 (together map standing there).ground.came happened) told
+      (subst (λ (n : Mem (Node K V)). LeavesBy w.memory n told) (sym memory) left)
 
-    pub row_outside : (w2 : World (Node K V)) → w2.memory ≡ m2 → IsOneStep standing.setting i w w2 → AtEachEffect FindsNumbers (Some caller) (Some map) effects m
-    row_outside w2 memory happened =
-        row_numbers i map (Some caller) m known w w2 shown.blocks (one_step_leaves standing.setting i w w2 (together map standing there).ground.came happened) told
-        (subst (λ (n : Mem (Node K V)). LeavesBy w.memory n told) (sym memory) left)
+  pub row_outside : (w2 : World (Node K V)) → w2.memory ≡ m2 → IsOneStep standing.setting i w w2 → AtEachEffect FindsNumbers (Some caller) (Some map) effects m
+  row_outside w2 memory happened =
+      row_numbers i map (Some caller) m known w w2 shown.blocks (one_step_leaves standing.setting i w w2 (together map standing there).ground.came happened) told
+      (subst (λ (n : Mem (Node K V)). LeavesBy w.memory n told) (sym memory) left)
 
-    pub row_blocks : (w2 : World (Node K V)) → w2.memory ≡ m2 → IsOneStep standing.setting i w w2 → TakesNone told → ShowsUnreclaimed m known → ShowsUnreclaimed v known2
-    row_blocks w2 memory happened none h =
-        row_holds i map (Some caller) m known h w w2 shown.blocks (one_step_leaves standing.setting i w w2 (together map standing there).ground.came happened) told
-        (subst (λ (n : Mem (Node K V)). LeavesBy w.memory n told) (sym memory) left) none
+  pub row_blocks : (w2 : World (Node K V)) → w2.memory ≡ m2 → IsOneStep standing.setting i w w2 → TakesNone told → ShowsUnreclaimed m known → ShowsUnreclaimed v known2
+  row_blocks w2 memory happened none h =
+      row_holds i map (Some caller) m known h w w2 shown.blocks (one_step_leaves standing.setting i w w2 (together map standing there).ground.came happened) told
+      (subst (λ (n : Mem (Node K V)). LeavesBy w.memory n told) (sym memory) left) none
 
-    -- A step that has left the memory as it was has moved nothing.
-    module _ (still : m2 ≡ w.memory) where
-      abbrev stayed : Went same standing.hash setting i w standing.chart (seen_by standing.blocks sight) m2 (λ w2 c2 blocks2. Unit {0})
-      stayed = went_nowhere same standing.hash setting i w standing.chart (seen_by standing.blocks sight) is_map m2 still
+  -- A step that has left the memory as it was has moved nothing, within a section or outside of any.
+  whole : IsMapIn same standing.hash setting w standing.chart standing.blocks
+  whole = map_in_slot same standing.hash standing.setting w standing.chart standing.blocks (slot_of i) (together map standing there).ground.map
 
-      same_word : (at : At) (x y : ℕ) → told ≡ changed.Wrote at x y → y ≡ x
-      same_word at x y e =
-          let words = subst (LeavesBy w.memory m2) e left in
-          let now : word_at w.memory at ≡ Some y = ap (λ (n : Mem (Node K V)). word_at n at) (sym still) ∙ words.1 in
-          let was = words.0 in cc (now, was)
+  module _ (still : m2 ≡ w.memory) where
+    abbrev stayed : Went same standing.hash setting i w standing.chart standing.blocks m2 (λ w2 c2 blocks2. Unit {0})
+    stayed = went_nowhere same standing.hash setting i w standing.chart standing.blocks whole m2 still
 
-      keeps_names : (at : At) (x y : ℕ) → y ≡ x → KeepsNames setting standing.chart (seen_by standing.blocks sight) at x y
-      keeps_names (Root r) x y e = λ is. e
-      keeps_names (Used r) x y e = tt
-      keeps_names (Slot r field) x y e = tt
-      keeps_names (Entry b field) x y e = tt
-      keeps_names (Word b field) x y e = λ t l known is. (λ next. e, λ place l is. ap block_in e)
+    same_word : (at : At) (x y : ℕ) → told ≡ changed.Wrote at x y → y ≡ x
+    same_word at x y e =
+        let words = subst (LeavesBy w.memory m2) e left in
+        let now : word_at w.memory at ≡ Some y = ap (λ (n : Mem (Node K V)). word_at n at) (sym still) ∙ words.1 in
+        let was = words.0 in cc (now, was)
 
-      pub stayed_calm : IsCalm known effects known2
-      stayed_calm = calm_done same standing.hash setting i w standing.chart (seen_by standing.blocks sight) m2 (λ w2 c2 blocks2. Unit {0}) stayed is_map map m.stored known
-          shown.blocks.roles shown.blocks.once (λ t l seen. is_shown.tables.roles t l (is_sight.tables t l seen)) told left (λ at x y e. keeps_names at x y (same_word at x y e))
+    keeps_names : (at : At) (x y : ℕ) → y ≡ x → KeepsNames setting standing.chart standing.blocks at x y
+    keeps_names (Root r) x y e = λ is. e
+    keeps_names (Used r) x y e = tt
+    keeps_names (Slot r field) x y e = tt
+    keeps_names (Entry b field) x y e = tt
+    keeps_names (Word b field) x y e = λ t l known is. (λ next. e, λ place l is. ap block_in e)
 
-      pub stayed_places : (lying : ShowsPlaces m known s.maps) (maps2 : ℕ → Option (Standing K)) → ((n : ℕ) → IsSameMap (s.maps n) (maps2 n)) → ShowsPlaces v known2 maps2
-      stayed_places lying maps2 maps_same =
-          places_stay (Some caller) (Some map) effects m known known2 s.maps maps2 (calm_aside effects stayed_calm.calm)
-          (λ b k is. sym (stayed_calm.back b (subst IsOfMap (sym is) tt)) ∙ is) maps_same lying
+    pub stayed_calm : IsCalm known effects known2
+    stayed_calm = calm_done same standing.hash setting i w standing.chart standing.blocks m2 (λ w2 c2 blocks2. Unit {0}) stayed whole map m.stored known
+        shown.blocks.roles shown.blocks.once is_shown.tables.roles told left (λ at x y e. keeps_names at x y (same_word at x y e))
 
-      pub stayed_blocks : ShowsUnreclaimed m known → ShowsUnreclaimed v known2
-      stayed_blocks h = calm_holds i map (Some caller) m known h effects known2 stayed_calm
+    pub stayed_places : (lying : ShowsPlaces m known s.maps) (maps2 : ℕ → Option (Standing K)) → ((n : ℕ) → IsSameMap (s.maps n) (maps2 n)) → ShowsPlaces v known2 maps2
+    stayed_places lying maps2 maps_same =
+        places_stay (Some caller) (Some map) effects m known known2 s.maps maps2 (calm_aside effects stayed_calm.calm)
+        (λ b k is. sym (stayed_calm.back b (subst IsOfMap (sym is) tt)) ∙ is) maps_same lying
+
+    pub stayed_blocks : ShowsUnreclaimed m known → ShowsUnreclaimed v known2
+    stayed_blocks h = calm_holds i map (Some caller) m known h effects known2 stayed_calm
 
 -- A step of a call, whichever kind that is of: it has moved its map's tables, or was one of a row, or has left the memory as it was.
 module _ {K V : Type 0} (same : K → K → Bool) (hash : ℕ → K → ℕ) (name : ℕ → List ℕ) (m : Moment K V) (known : Known) (s : Scene K V) (old new : Held K V) (at : IsAt same hash old s)
@@ -273,9 +276,6 @@ module _ {K V : Type 0} (same : K → K → Bool) (hash : ℕ → K → ℕ) (na
   made = subst (λ (x : Mem (Node K V)). Operated x new.memory new.changed) (sym at.memory)
       (operated old.memory new.memory new.changed (machine_plan same same to.0.hash (machine_of u)) (to.1, told) (may_step same hash old s at map to.0 to.2 i u here) to.3)
 
-  inside : IsInside (s.world.uses (slot_of i))
-  inside = (at.together.makings.standing.each map to.0 to.2).inside i u here
-
   abbrev DidSo : UnderWay K V K → Type 0
   DidSo x = Did same old.batch_size old.roots s.world s.maps s.calls s.makers s.enders map to.0 i new.memory to.4.w2 to.4.maps2 to.4.next x to.1 told
 
@@ -287,7 +287,7 @@ module _ {K V : Type 0} (same : K → K → Bool) (hash : ℕ → K → ℕ) (na
   Stayed = (n : ℕ) → IsSameMap (s.maps n) (to.4.maps2 n)
 
   module _ (Goal : Type 0)
-      (moved : (Told : World (Node K V) → Chart K → Blocks → Type 0) (had : Went same to.0.hash (in_slot to.0.setting (slot_of i)) i s.world to.0.chart (seen_by to.0.blocks (to.0.sights (slot_of i))) new.memory Told)
+      (moved : IsInside (s.world.uses (slot_of i)) → (Told : World (Node K V) → Chart K → Blocks → Type 0) (had : Went same to.0.hash (in_slot to.0.setting (slot_of i)) i s.world to.0.chart (seen_by to.0.blocks (to.0.sights (slot_of i))) new.memory Told)
       (blocks2 : Blocks) (grown : IsGrown to.0.chart to.0.blocks had.blocks2 blocks2) (sights2 : ℕ → Sight)
       → to.4.maps2 ≡ with_at s.maps map (Some (record to.0 { chart = had.c2; blocks = blocks2; sights = sights2 })) → Goal)
       (row : (w2 : World (Node K V)) → w2.memory ≡ new.memory → IsOneStep to.0.setting i s.world w2 → Stayed → (NoRow u to.4.did → ⊥) → Goal)
@@ -296,49 +296,49 @@ module _ {K V : Type 0} (same : K → K → Bool) (hash : ℕ → K → ℕ) (na
     by_kind = by u to.4.did row
       where
         by : (x : UnderWay K V K) (did : DidSo x) → ((w2 : World (Node K V)) → w2.memory ≡ new.memory → IsOneStep to.0.setting i s.world w2 → Stayed → (NoRow x did → ⊥) → Goal) → Goal
-        by (OnKey x) (p2, end, machine_is, told_is, inl (step, has)) row = moved _ step.step.went step.step.blocks2 step.step.grown step.step.sights2 has.1
+        by (OnKey x) (p2, end, machine_is, told_is, inl (step, has)) row = moved step.step.inside _ step.step.went step.step.blocks2 step.step.grown step.step.sights2 has.1
         by (OnKey x) (p2, end, machine_is, told_is, inr (step, has)) row = row step.step.w2 step.step.memory step.step.happened has.1 (λ no. no)
-        by (ForRoom x) (p2, end, machine_is, told_is, inl (step, has)) row = moved _ step.step.went step.step.blocks2 step.step.grown step.step.sights2 has.1
+        by (ForRoom x) (p2, end, machine_is, told_is, inl (step, has)) row = moved step.step.inside _ step.step.went step.step.blocks2 step.step.grown step.step.sights2 has.1
         by (ForRoom x) (p2, end, machine_is, told_is, inr (step, has)) row = row step.step.w2 step.step.memory step.step.happened has.1 (λ no. no)
         by (Counting x) (p2, end, machine_is, told_is, same_memory, has) row = still same_memory has.1
-        by (OverAll x) (p2, end, machine_is, told_is, inl (step, has)) row = moved _ step.step.went step.step.blocks2 step.step.grown step.step.sights2 has.1
+        by (OverAll x) (p2, end, machine_is, told_is, inl (step, has)) row = moved step.step.inside _ step.step.went step.step.blocks2 step.step.grown step.step.sights2 has.1
         by (OverAll x) (p2, end, machine_is, told_is, inr (step, has)) row = row step.step.w2 step.step.memory step.step.happened has.1 (λ no. no)
 
   -- what is none of a row hands nothing over
   pub hands_nothing : NoRow u to.4.did → AllHandNothing (effects_of (Call i map) known new.changed)
   hands_nothing own = by_kind _
-      (λ Told had blocks2 grown sights2 are. moved_hands same hash m known s old new at name shown map i to.0 to.2 (name i) made inside Told had blocks2 grown sights2)
+      (λ inside Told had blocks2 grown sights2 are. moved_hands same hash m known s old new at name shown map i to.0 to.2 (name i) made inside Told had blocks2 grown sights2)
       (λ w2 memory happened stayed no. absurd (no own))
-      (λ same_memory stayed. calm_hand (effects_of (Call i map) known new.changed) (stayed_calm same hash m known s old new at name shown map i to.0 to.2 (name i) made inside same_memory).calm)
+      (λ same_memory stayed. calm_hand (effects_of (Call i map) known new.changed) (stayed_calm same hash m known s old new at name shown map i to.0 to.2 (name i) made same_memory).calm)
 
   -- where pairs lie then
   keeps_places : ShowsPlaces m known s.maps → ShowsPlaces (with_effects (Some (name i)) (Some map) (effects_of (Call i map) known new.changed) m) (known_after (Call i map) new.changed known) to.4.maps2
   keeps_places lying = by_kind _
-      (λ Told had blocks2 grown sights2 are. moved_places same hash m known s old new at name shown map i to.0 to.2 (name i) made inside Told had blocks2 grown sights2 lying to.4.maps2 are)
-      (λ w2 memory happened stayed no. row_places same hash m known s old new at name shown map i to.0 to.2 (name i) made inside lying w2 memory happened to.4.maps2 stayed)
-      (λ same_memory stayed. stayed_places same hash m known s old new at name shown map i to.0 to.2 (name i) made inside same_memory lying to.4.maps2 stayed)
+      (λ inside Told had blocks2 grown sights2 are. moved_places same hash m known s old new at name shown map i to.0 to.2 (name i) made inside Told had blocks2 grown sights2 lying to.4.maps2 are)
+      (λ w2 memory happened stayed no. row_places same hash m known s old new at name shown map i to.0 to.2 (name i) made lying w2 memory happened to.4.maps2 stayed)
+      (λ same_memory stayed. stayed_places same hash m known s old new at name shown map i to.0 to.2 (name i) made same_memory lying to.4.maps2 stayed)
 
   -- which blocks are unreclaimed
   keeps_blocks : ((NoRow u to.4.did → ⊥) → TakesNone new.changed) → ShowsUnreclaimed m known
       → ShowsUnreclaimed (with_effects (Some (name i)) (Some map) (effects_of (Call i map) known new.changed) m) (known_after (Call i map) new.changed known)
   keeps_blocks none held = by_kind _
-      (λ Told had blocks2 grown sights2 are. moved_blocks same hash m known s old new at name shown map i to.0 to.2 (name i) made inside Told had blocks2 grown sights2 held)
-      (λ w2 memory happened stayed no. row_blocks same hash m known s old new at name shown map i to.0 to.2 (name i) made inside w2 memory happened (none no) held)
-      (λ same_memory stayed. stayed_blocks same hash m known s old new at name shown map i to.0 to.2 (name i) made inside same_memory held)
+      (λ inside Told had blocks2 grown sights2 are. moved_blocks same hash m known s old new at name shown map i to.0 to.2 (name i) made inside Told had blocks2 grown sights2 held)
+      (λ w2 memory happened stayed no. row_blocks same hash m known s old new at name shown map i to.0 to.2 (name i) made w2 memory happened (none no) held)
+      (λ same_memory stayed. stayed_blocks same hash m known s old new at name shown map i to.0 to.2 (name i) made same_memory held)
 
   -- what it finds of places
   finds_places : ShowsPlaces m known s.maps → ShowsUnreclaimed m known → FindPlaces map m (effects_of (Call i map) known new.changed)
   finds_places lying held = by_kind _
-      (λ Told had blocks2 grown sights2 are. moved_finds_places same hash m known s old new at name shown map i to.0 to.2 (name i) made inside Told had blocks2 grown sights2 lying held)
-      (λ w2 memory happened stayed no. row_finds_places same hash m known s old new at name shown map i to.0 to.2 (name i) made inside w2 memory happened)
-      (λ same_memory stayed. calm_finds map m (effects_of (Call i map) known new.changed) (stayed_calm same hash m known s old new at name shown map i to.0 to.2 (name i) made inside same_memory).calm)
+      (λ inside Told had blocks2 grown sights2 are. moved_finds_places same hash m known s old new at name shown map i to.0 to.2 (name i) made inside Told had blocks2 grown sights2 lying held)
+      (λ w2 memory happened stayed no. row_finds_places same hash m known s old new at name shown map i to.0 to.2 (name i) made w2 memory happened)
+      (λ same_memory stayed. calm_finds map m (effects_of (Call i map) known new.changed) (stayed_calm same hash m known s old new at name shown map i to.0 to.2 (name i) made same_memory).calm)
 
   -- and of numbers
   finds_numbers : AtEachEffect FindsNumbers (Some (name i)) (Some map) (effects_of (Call i map) known new.changed) m
   finds_numbers = by_kind _
-      (λ Told had blocks2 grown sights2 are. moved_outside same hash m known s old new at name shown map i to.0 to.2 (name i) made inside Told had blocks2 grown sights2)
-      (λ w2 memory happened stayed no. row_outside same hash m known s old new at name shown map i to.0 to.2 (name i) made inside w2 memory happened)
-      (λ same_memory stayed. calm_numbers (Some (name i)) (Some map) (effects_of (Call i map) known new.changed) m (stayed_calm same hash m known s old new at name shown map i to.0 to.2 (name i) made inside same_memory).calm)
+      (λ inside Told had blocks2 grown sights2 are. moved_outside same hash m known s old new at name shown map i to.0 to.2 (name i) made inside Told had blocks2 grown sights2)
+      (λ w2 memory happened stayed no. row_outside same hash m known s old new at name shown map i to.0 to.2 (name i) made w2 memory happened)
+      (λ same_memory stayed. calm_numbers (Some (name i)) (Some map) (effects_of (Call i map) known new.changed) m (stayed_calm same hash m known s old new at name shown map i to.0 to.2 (name i) made same_memory).calm)
 
 module _ (K V : Type 0) (same : K → K → Bool) (hash : ℕ → K → ℕ) where
   pub calls_keep_places : CallsKeepPlaces K V same hash

@@ -5,7 +5,7 @@ use Rattle.std.proofs.Common.{◌≡◌, ◌≢◌, ℕ, suc, ◌<◌, ◌⊎◌
 use Rattle.papaya_scheduler.specs.Given.Waits.Others.{EndsAt, copier_in, copier_in_room, copier_in_sweep, copier_of}
 use Rattle.papaya_scheduler.proofs.Given.Waiters.Stands.{copier_knows as knows_at_once}
 use Rattle.papaya_scheduler.specs.Given.SeizeWords.Word.{block_in}
-use Rattle.papaya_scheduler.specs.Given.Seize.World.{World}
+use Rattle.papaya_scheduler.specs.Given.Seize.World.{World, IsInside}
 use Rattle.papaya_scheduler.proofs.Given.SeizeRule.Words.There.{live_pos}
 use Rattle.papaya_scheduler.specs.Given.Tables.Chunks.{is_incremental}
 use Rattle.papaya_scheduler.specs.Given.Tables.declared.node.Node.{Node}
@@ -36,7 +36,7 @@ use Rattle.papaya_scheduler.specs.Given.Late.LateCopies.{LateCopierFacts, LateCo
 use Rattle.papaya_scheduler.specs.Given.Late.ToldReserves.{IsRowOfReserve}
 use Rattle.papaya_scheduler.specs.Given.Late.ToldSweeps.{IsRowOfSweep}
 use Rattle.papaya_scheduler.specs.Given.Callers.Sights.{IsSight, seen_by}
-use Rattle.papaya_scheduler.specs.Given.Callers.Together.{CallOnKey, UnderWay, OnKey, ForRoom, Counting, OverAll, Together, in_slot}
+use Rattle.papaya_scheduler.specs.Given.Callers.Together.{CallOnKey, UnderWay, UnlessCounts, OnKey, ForRoom, Counting, OverAll, Together, in_slot}
 use Rattle.papaya_scheduler.proofs.Given.Waits.Awaited.{HasOther}
 use Rattle.papaya_scheduler.proofs.Given.Waits.Claimed.{chosen}
 use Rattle.papaya_schedules.specs.Moment.{UnderWay as CallThere, Moment}
@@ -136,6 +136,17 @@ module _ {K V S : Type 0} (same : K → K → Bool) (hash : K → ℕ) (terms : 
   pub is_lawful : AreLawful same hash
   is_lawful = subst (λ (h : K → ℕ). AreLawful same h) hash_is (stands.shown.is_at.held.together.makings.standing.fit of st is).0
 
+  -- a call within a copier is none that counts
+  copies_within : {A : Type 0} (u : UnderWay K V K) (q : Copier) → copier_of u ≡ Some q → UnlessCounts u A → A
+  copies_within (OnKey u) q is a = a
+  copies_within (ForRoom r) q is a = a
+  copies_within (Counting sum) q is a = absurd (cc is)
+  copies_within (OverAll o) q is a = a
+
+  -- so it is within its section
+  pub within_section : (k : ℕ) (u : UnderWay K V K) → stands.scene.calls of k ≡ Some u → (q : Copier) → copier_of u ≡ Some q → IsInside (w.uses (slot_of k))
+  within_section k u has q is = copies_within u q is (all_together.inside k u has)
+
   -- of one call
   module _ (i : ℕ) (x : UnderWay K V K) (under : stands.scene.calls of i ≡ Some x) where
     abbrev seen : Blocks
@@ -144,21 +155,21 @@ module _ {K V S : Type 0} (same : K → K → Bool) (hash : K → ℕ) (terms : 
     abbrev its_setting : Setting
     its_setting = in_slot st.setting (slot_of i)
 
-    its_sight : IsSight st.chart st.blocks (st.sights (slot_of i))
-    its_sight = (all_together.ground.sight (slot_of i) (all_together.inside i x under)).0
+    its_sight : IsInside (w.uses (slot_of i)) → IsSight st.chart st.blocks (st.sights (slot_of i))
+    its_sight inside = (all_together.ground.sight (slot_of i) inside).0
 
     -- a table of its sight is noted as one of the map
-    pub noted_table : (t : ℕ) (table : Table) → IsTable st.chart seen table t
+    pub noted_table : IsInside (w.uses (slot_of i)) → (t : ℕ) (table : Table) → IsTable st.chart seen table t
         → (known p.logged.notes).roles (block_in table.link) ≡ role.Table (table_of of t) (st.chart.len t)
-    noted_table t table it =
+    noted_table inside t table it =
         let link : table.link ≡ st.blocks.table t * 2048 = ap (λ (y : Table). y.link) it.is in
         let block : block_in table.link ≡ st.blocks.table t = omega (arith, link) in
-        ap (λ (b : ℕ). by_notes.roles b) block ∙ (stands.shown.shows.all.shown.maps of st is).tables.roles t it.made (its_sight.tables t it.made it.known)
+        ap (λ (b : ℕ). by_notes.roles b) block ∙ (stands.shown.shows.all.shown.maps of st is).tables.roles t it.made ((its_sight inside).tables t it.made it.known)
 
     -- and there, so no word of a link to it is 0
-    table_there : (t : ℕ) (table : Table) → IsTable st.chart seen table t → table.link ≢ 0
-    table_there t table it none =
-        let role_is = noted_table t table it in
+    table_there : IsInside (w.uses (slot_of i)) → (t : ℕ) (table : Table) → IsTable st.chart seen table t → table.link ≢ 0
+    table_there inside t table it none =
+        let role_is = noted_table inside t table it in
         let has : HasRole w m.stored (block_in table.link) (role.Table (table_of of t) (st.chart.len t)) =
         subst (λ (r : Role). HasRole w m.stored (block_in table.link) r) role_is (stands.shown.shows.all.shown.blocks.roles (block_in table.link)) in
         let pos : 0 < block_in table.link = live_pos w.memory (block_in table.link) (ap is_some has.1) in
@@ -271,7 +282,8 @@ module _ {K V S : Type 0} (same : K → K → Bool) (hash : K → ℕ) (terms : 
           let cut = unlinked k u has q within here in
           let owes : one.0.owes ≡ passed of cut.0 q.target.turn =
           stands.shown.kept.owed.owed of k u has one.0 one.1 ∙ hand_of by_notes q u within ∙ ap (λ (y : Copying). tables_in_hand by_notes q y) here
-          ∙ tables_named by_notes q q.source.link (st.chart.len cut.0) (table_of of cut.0) (table_there k u has cut.0 q.source cut.3) (noted_table k u has cut.0 q.source cut.3) in
+          ∙ tables_named by_notes q q.source.link (st.chart.len cut.0) (table_of of cut.0) (table_there k u has (within_section k u has q within) cut.0 q.source cut.3)
+          (noted_table k u has (within_section k u has q within) cut.0 q.source cut.3) in
           let first : passed of cut.0 q.target.turn ≡ numbered of cut.0 ∷ passed of (suc cut.0) q.target.turn =
           passed_first of cut.0 q.target.turn (let behind = cut.2 in let turn = cut.4 in omega (arith, behind, turn)) in
           waits_for_handing same hash terms m p stands of of i k x u under has other resizes refl never

@@ -67,7 +67,7 @@ use Rattle.papaya_scheduler.specs.Given.Follows.Maps.{table_of}
 use Rattle.papaya_scheduler.proofs.Given.Owes.Tables.Hosts.{Step}
 use Rattle.papaya_scheduler.specs.Played.{StandsFor}
 use Rattle.papaya_scheduler.specs.declared.scheduler.Scheduler.{Scheduler}
-use Rattle.papaya_stepping.proofs.CopiesWait.{all_together, copier_knows, is_lawful, noted_table, other_waits}
+use Rattle.papaya_stepping.proofs.CopiesWait.{all_together, within_section, copier_knows, is_lawful, noted_table, other_waits}
 use Rattle.papaya_stepping.proofs.QuietCopies.{IsQuiet, quiet_does, room_copier_told, room_row_quiet, sweep_copier_told, sweep_row_quiet}
 use Rattle.papaya_stepping.proofs.Waiting.{IsForResizes, room_for_resizes, sweep_for_resizes, waits_for_holder}
 use Rattle.papaya_scheduler.specs.Given.Points.FactsCopiesBlocking.{CopierFactsBlocking, CopyingFactsBlocking}
@@ -194,7 +194,7 @@ module _ {K V S : Type 0} (same : K → K → Bool) (hash : K → ℕ) (terms : 
       noted mode = by copier.stands awaits (copier_knows same hash terms m p stands of st is i x under mode copier none within).point
         where
           source : (t : ℕ) → IsTable st.chart seen copier.source t → Noted
-          source t it = (table_of of t, st.chart.len t, noted_table same hash terms m p stands of st is i x under t copier.source it)
+          source t it = (table_of of t, st.chart.len t, noted_table same hash terms m p stands of st is i x under (within_section same hash terms m p stands of st is i x under copier within) t copier.source it)
 
           by : (q : Copying) → CopierAwaits st.chart (is_incremental st.setting.mode) copier q → CopyingFacts same hash w i its_setting st.chart seen copier q → Noted
           by copies.Marks awaits_so facts = source facts.0 facts.1.0

@@ -197,12 +197,12 @@ module _ {K Q : Type 0} (V : Type 0) (same : K → K → Bool) (hash : K → ℕ
       abbrev After : Type 0
       After = HaveEndsBlocking leads.went.c2 (with_at calls i next)
 
-      reached : Reached same hash its_setting mode w i c seen (its_map V same hash asks setting slot are power mode w c blocks sights calls s all i (OnKey u) has) m2 leads.went.c2 leads.went.blocks2
+      reached : Reached same hash its_setting mode w i c seen (its_map V same hash asks setting slot are power mode w c blocks sights calls s all i (OnKey u) has leads.inside) m2 leads.went.c2 leads.went.blocks2
       reached = (leads.went.w2, leads.went.memory, leads.went.map, leads.went.blocks_same, leads.went.tables, leads.went.moved)
 
       by_beside : copier_in u.call.stands ≡ None → (IsCopying u.call.stands → ⊥) → After
       by_beside within apart =
-          beside_keeps V same hash asks setting slot are power mode w c blocks sights calls s all i (OnKey u) has m2 leads.went.c2 leads.went.blocks2 reached next within none
+          beside_keeps V same hash asks setting slot are power mode w c blocks sights calls s all i (OnKey u) has leads.inside m2 leads.went.c2 leads.went.blocks2 reached next within none
           (first_beside hash (is_incremental setting.mode) c leads.went.c2 (told leads.went.told)) (key_spent like leads.went.c2 p2 progress (call_new asks same hash u.call w.memory m2 (p2, progress) within steps))
         where
           told : StepTold V same hash asks setting slot c i u p2 progress leads.went.w2 leads.went.c2 leads.went.blocks2 → MovedBeside hash its_setting.mode c leads.went.c2
@@ -213,7 +213,7 @@ module _ {K Q : Type 0} (V : Type 0) (same : K → K → Bool) (hash : K → ℕ
       by_copier copier here =
           let b = steps_back (copied u.call) w.memory m2 (copier_plan hash copier) (p2, progress)
           (subst (λ (stands : Calling). Steps Took value_at w.memory (plan_at asks same hash u.call stands) m2 (p2, progress)) here steps) in
-          copier_keeps V same hash asks setting slot are power mode w c blocks sights calls s all i (OnKey u) has m2 leads.went.c2 leads.went.blocks2 reached next copier (ap copier_in here)
+          copier_keeps V same hash asks setting slot are power mode w c blocks sights calls s all i (OnKey u) has leads.inside m2 leads.went.c2 leads.went.blocks2 reached next copier (ap copier_in here)
           (λ row. none (subst (λ (stands : Calling). IsRowOfCall stands) (sym here) row)) b.0 b.1 (key_within like u.call b.0 (p2, progress) b.2)
           leads.went.w2 (seen_by leads.blocks2 (leads.sights2 (slot i))) (knows_then leads.went.w2 leads.went.c2 leads.blocks2 leads.sights2 next leads.together b.0.0)
 
@@ -243,12 +243,12 @@ module _ {K Q : Type 0} (V : Type 0) (same : K → K → Bool) (hash : K → ℕ
       abbrev RoomsAfter : Type 0
       RoomsAfter = HaveEndsBlocking leads.went.c2 (with_at calls i rooms_next)
 
-      rooms_reached : Reached same hash its_setting mode w i c seen (its_map V same hash asks setting slot are power mode w c blocks sights calls s all i (ForRoom r) has) m2 leads.went.c2 leads.went.blocks2
+      rooms_reached : Reached same hash its_setting mode w i c seen (its_map V same hash asks setting slot are power mode w c blocks sights calls s all i (ForRoom r) has leads.inside) m2 leads.went.c2 leads.went.blocks2
       rooms_reached = (leads.went.w2, leads.went.memory, leads.went.map, leads.went.blocks_same, leads.went.tables, leads.went.moved)
 
       room_beside : copier_in_room r.reserve.stands ≡ None → (CopiesPairs r.reserve.stands → ⊥) → RoomsAfter
       room_beside within apart =
-          beside_keeps V same hash asks setting slot are power mode w c blocks sights calls s all i (ForRoom r) has m2 leads.went.c2 leads.went.blocks2 rooms_reached rooms_next within none
+          beside_keeps V same hash asks setting slot are power mode w c blocks sights calls s all i (ForRoom r) has leads.inside m2 leads.went.c2 leads.went.blocks2 rooms_reached rooms_next within none
           (first_links hash its_setting.mode c leads.went.c2 (told leads.went.told)) (room_spent Q leads.went.c2 r.began p2 end (room_new hash w.memory m2 r.reserve (p2, end) within steps))
         where
           told : RoomTold V same hash asks setting slot c i r p2 end leads.went.w2 leads.went.c2 leads.went.blocks2 → OnlyLinks hash its_setting.mode c leads.went.c2
@@ -259,7 +259,7 @@ module _ {K Q : Type 0} (V : Type 0) (same : K → K → Bool) (hash : K → ℕ
       room_copier copier here =
           let b = steps_back (room_plans.copied r.reserve) w.memory m2 (copier_plan hash copier) (p2, end)
           (subst (λ (stands : Reserving). Steps Took value_at w.memory (room_plans.plan_at hash r.reserve stands) m2 (p2, end)) here steps) in
-          copier_keeps V same hash asks setting slot are power mode w c blocks sights calls s all i (ForRoom r) has m2 leads.went.c2 leads.went.blocks2 rooms_reached rooms_next copier
+          copier_keeps V same hash asks setting slot are power mode w c blocks sights calls s all i (ForRoom r) has leads.inside m2 leads.went.c2 leads.went.blocks2 rooms_reached rooms_next copier
           (ap copier_in_room here) (λ row. none (subst (λ (stands : Reserving). IsRowOfReserve stands) (sym here) row)) b.0 b.1 (room_within Q r.began r.reserve b.0 (p2, end) b.2)
           leads.went.w2 (seen_by leads.blocks2 (leads.sights2 (slot i))) (knows_then leads.went.w2 leads.went.c2 leads.blocks2 leads.sights2 rooms_next leads.together b.0.0)
 
@@ -279,12 +279,12 @@ module _ {K Q : Type 0} (V : Type 0) (same : K → K → Bool) (hash : K → ℕ
       abbrev SweepsAfter : Type 0
       SweepsAfter = HaveEndsBlocking leads.went.c2 (with_at calls i sweeps_next)
 
-      sweeps_reached : Reached same hash its_setting mode w i c seen (its_map V same hash asks setting slot are power mode w c blocks sights calls s all i (OverAll o) has) m2 leads.went.c2 leads.went.blocks2
+      sweeps_reached : Reached same hash its_setting mode w i c seen (its_map V same hash asks setting slot are power mode w c blocks sights calls s all i (OverAll o) has leads.inside) m2 leads.went.c2 leads.went.blocks2
       sweeps_reached = (leads.went.w2, leads.went.memory, leads.went.map, leads.went.blocks_same, leads.went.tables, leads.went.moved)
 
       sweep_beside : copier_in_sweep o.sweep.stands ≡ None → (SweepCopies o.sweep.stands → ⊥) → SweepsAfter
       sweep_beside within apart =
-          beside_keeps V same hash asks setting slot are power mode w c blocks sights calls s all i (OverAll o) has m2 leads.went.c2 leads.went.blocks2 sweeps_reached sweeps_next within none
+          beside_keeps V same hash asks setting slot are power mode w c blocks sights calls s all i (OverAll o) has leads.inside m2 leads.went.c2 leads.went.blocks2 sweeps_reached sweeps_next within none
           (first_removes hash its_setting.mode c leads.went.c2 (leads.went.told.beside apart))
           (sweep_spent Q o leads.entered2 leads.done2 leads.went.c2 p2 end (sweep_new hash w.memory m2 o.sweep (p2, end) within steps))
 
@@ -292,7 +292,7 @@ module _ {K Q : Type 0} (V : Type 0) (same : K → K → Bool) (hash : K → ℕ
       sweep_copier copier here =
           let b = steps_back (sweep_plans.copied o.sweep) w.memory m2 (copier_plan hash copier) (p2, end)
           (subst (λ (stands : Sweeping). Steps Took value_at w.memory (sweep_plans.plan_at hash o.sweep stands) m2 (p2, end)) here steps) in
-          copier_keeps V same hash asks setting slot are power mode w c blocks sights calls s all i (OverAll o) has m2 leads.went.c2 leads.went.blocks2 sweeps_reached sweeps_next copier
+          copier_keeps V same hash asks setting slot are power mode w c blocks sights calls s all i (OverAll o) has leads.inside m2 leads.went.c2 leads.went.blocks2 sweeps_reached sweeps_next copier
           (ap copier_in_sweep here) (λ row. none (subst (λ (stands : Sweeping). IsRowOfSweep stands) (sym here) row)) b.0 b.1
           (sweep_within Q o leads.entered2 leads.done2 o.sweep b.0 (p2, end) b.2)
           leads.went.w2 (seen_by leads.blocks2 (leads.sights2 (slot i))) (knows_then leads.went.w2 leads.went.c2 leads.blocks2 leads.sights2 sweeps_next leads.together b.0.0)

@@ -5,7 +5,7 @@ use Rattle.std.proofs.Common.{◌≡◌, ◌≢◌, ℕ, ◌<◌, ◌≤◌, ◌
 use Rattle.papaya_callers.specs.Given.SeizeWords.Mem.{Can, Mem, Took, value_at, word_at}
 use Rattle.papaya_callers.specs.Given.SeizeWords.Plan.{May, Steps}
 use Rattle.papaya_callers.specs.Given.SeizeWords.declared.at.At.TheVariants.{Word}
-use Rattle.papaya_callers.specs.Given.Seize.World.{World, with_at}
+use Rattle.papaya_callers.specs.Given.Seize.World.{World, IsInside, with_at}
 use Rattle.papaya_callers.specs.Given.Resize.Copier.{copier_plan, plan_at}
 use Rattle.papaya_callers.specs.Given.Resize.CopierStates.{behind, none_left, standing}
 use Rattle.papaya_callers.specs.Given.Resize.declared.outcome.Outcome.{Outcome}
@@ -58,7 +58,8 @@ use Rattle.papaya_waiters.proofs.Own.{OwnLoses, OwnSpent, as_own, with_own}
 module _ {K Q : Type 0} (V : Type 0) (same : K → K → Bool) (hash : K → ℕ) (asks : Q → K → Bool) (setting : Setting) (slot : ℕ → ℕ)
     (are : AreLawful same hash) (power : IsPowerOfTwo setting.initial) (mode : is_incremental setting.mode ≡ false)
     (w : World (Node K V)) (c : Chart K) (blocks : Blocks) (sights : ℕ → Sight) (calls : ℕ → Option (UnderWay K V Q))
-    (s : Together V same hash asks setting slot w c blocks sights calls) (all : HaveEndsBlocking c calls) (i : ℕ) (x : UnderWay K V Q) (has : calls i ≡ Some x) where
+    (s : Together V same hash asks setting slot w c blocks sights calls) (all : HaveEndsBlocking c calls) (i : ℕ) (x : UnderWay K V Q) (has : calls i ≡ Some x)
+    (in_it : IsInside (w.uses (slot i))) where
   abbrev pub seen : Blocks
   seen = seen_by blocks (sights (slot i))
 
@@ -66,7 +67,7 @@ module _ {K Q : Type 0} (V : Type 0) (same : K → K → Bool) (hash : K → ℕ
   its_setting = in_slot setting (slot i)
 
   pub its_map : IsMapIn same hash its_setting w c seen
-  its_map = map_of V same hash asks setting slot w c blocks sights calls s i x has
+  its_map = map_of V same hash asks setting slot w c blocks sights calls s i in_it
 
   abbrev P : ℕ → Type 0
   P = AnotherAt calls i at.Promotes

@@ -62,7 +62,7 @@ module _ {K Q : Type 0} (V : Type 0) (same : K → K → Bool) (hash : K → ℕ
     its_setting = in_slot setting (slot i)
 
     map : IsMapIn same hash its_setting w c seen
-    map = map_of V same hash asks setting slot w c blocks sights calls s i (OnKey u) has
+    map = map_of V same hash asks setting slot w c blocks sights calls s i (s.inside i (OnKey u) has)
 
     abbrev like : KeyCall K V Q → CallOnKey K V Q
     like p = record { keys = u.keys; pair = u.pair; began = u.began; change = change_told V same hash asks setting slot leads.went.told; call = p }

@@ -3,7 +3,7 @@ use Rattle.std.specs.Prelude.{Option, Some}
 use Rattle.std.proofs.Common.{◌≡◌, ℕ, ◌<◌, Bool, true, false, cond, ◌⊎◌, inl, inr, refl, ap, sym, subst, ◌∙◌, arith}
 use Rattle.papaya_callers.specs.Given.SeizeWords.Mem.{Took, value_at}
 use Rattle.papaya_callers.specs.Given.SeizeWords.Plan.{Steps}
-use Rattle.papaya_callers.specs.Given.Seize.World.{World, Rests}
+use Rattle.papaya_callers.specs.Given.Seize.World.{World, Rests, IsInside}
 use Rattle.papaya_callers.specs.Given.Tables.Chunks.{is_incremental}
 use Rattle.papaya_callers.specs.Given.Tables.declared.node.Node.{Node}
 use Rattle.papaya_callers.specs.Given.Tables.declared.setting.Setting.{Setting}
@@ -155,13 +155,13 @@ module _ {K Q : Type 0} (V : Type 0) (same : K → K → Bool) (hash : K → ℕ
           late_call_at same hash w i
           (in_slot setting (slot i)) c seen map asks u.keys u.call late.setting_is u.began late.blocking u.call.stands late.point sees
 
-  -- what a caller sees of the map
+  -- what a caller sees of the map within its section
   pub map_of : (w : World (Node K V)) (c : Chart K) (blocks : Blocks) (sights : ℕ → Sight) (calls : ℕ → Option (UnderWay K V Q))
       → Together V same hash asks setting slot w c blocks sights calls
-      → (i : ℕ) (u : UnderWay K V Q) → calls i ≡ Some u → IsMapIn same hash (in_slot setting (slot i)) w c (seen_by blocks (sights (slot i)))
-  map_of w c blocks sights calls s i u has =
+      → (i : ℕ) → IsInside (w.uses (slot i)) → IsMapIn same hash (in_slot setting (slot i)) w c (seen_by blocks (sights (slot i)))
+  map_of w c blocks sights calls s i inside =
       map_seen same hash (in_slot setting (slot i)) w c blocks (sights (slot i)) (map_in_slot same hash setting w c blocks (slot i) s.ground.map)
-      (s.ground.sight (slot i) (s.inside i u has)).0
+      (s.ground.sight (slot i) inside).0
 
   pub calls_wait_for_a_copying : CallsWaitForACopying V same hash asks setting slot
   calls_wait_for_a_copying are w c blocks sights calls s i u has none m2 p2 st =
@@ -170,7 +170,7 @@ module _ {K Q : Type 0} (V : Type 0) (same : K → K → Bool) (hash : K → ℕ
       by : ((w.row i ≡ Rests) × Knows V same hash asks setting slot w c (seen_by blocks (sights (slot i))) i u u.call)
           ⊎ ((w.row i ≡ row_of (slot i) u.call.stands) × IsRowOfCall u.call.stands × Knows V same hash asks setting slot w c (seen_by blocks (sights (slot i))) i u (once_over u.call))
           → CallSees u.call w.memory u.call.stands → CallAwaits c (is_incremental setting.mode) u.call u.call.stands
-      by (inl rests) sees = call_awaits w c (seen_by blocks (sights (slot i))) i u (map_of w c blocks sights calls s i (OnKey u) has) rests.1 sees
+      by (inl rests) sees = call_awaits w c (seen_by blocks (sights (slot i))) i u (map_of w c blocks sights calls s i (s.inside i (OnKey u) has)) rests.1 sees
       by (inr within) sees = absurd (none within.1)
 
   pub rooms_wait_for_a_copying : RoomsWaitForACopying V same hash asks setting slot
@@ -178,7 +178,7 @@ module _ {K Q : Type 0} (V : Type 0) (same : K → K → Bool) (hash : K → ℕ
       let h = room_waits K V r.reserve hash w.memory m2 p2 none st in (h.0, by (s.stand i (ForRoom r) has) h.1)
     where
       map : IsMapIn same hash (in_slot setting (slot i)) w c (seen_by blocks (sights (slot i)))
-      map = map_of w c blocks sights calls s i (ForRoom r) has
+      map = map_of w c blocks sights calls s i (s.inside i (ForRoom r) has)
 
       knows : ReserveFacts same hash w i (in_slot setting (slot i)) c (seen_by blocks (sights (slot i))) r.reserve
           ⊎ LateReserveFacts same hash w i (in_slot setting (slot i)) c (seen_by blocks (sights (slot i))) r.began r.reserve

@@ -101,7 +101,7 @@ module _ {K Q : Type 0} (V : Type 0) (same : K → K → Bool) (hash : K → ℕ
         (steps : Steps Took value_at w.memory (room_plans.reserve_plan hash r.reserve) m2 (p2, end))
         (leads : RoomStepsTogether V same hash asks setting slot w c blocks sights calls i r m2 p2 end) where
       map : IsMapIn same hash its_setting w c seen
-      map = map_of V same hash asks setting slot w c blocks sights calls s i (ForRoom r) has
+      map = map_of V same hash asks setting slot w c blocks sights calls s i (s.inside i (ForRoom r) has)
 
       abbrev next : Option (UnderWay K V Q)
       next = next_for_room (record { began = r.began; reserve = p2 }) end
@@ -144,7 +144,7 @@ module _ {K Q : Type 0} (V : Type 0) (same : K → K → Bool) (hash : K → ℕ
         (steps : Steps Took value_at w.memory (sweep_plans.sweep_plan hash o.sweep) m2 (p2, end))
         (leads : SweepStepsTogether V same hash asks setting slot w c blocks sights calls i o m2 p2 end) where
       sweeps_map : IsMapIn same hash its_setting w c seen
-      sweeps_map = map_of V same hash asks setting slot w c blocks sights calls s i (OverAll o) has
+      sweeps_map = map_of V same hash asks setting slot w c blocks sights calls s i (s.inside i (OverAll o) has)
 
       abbrev sweeps_next : Option (UnderWay K V Q)
       sweeps_next = next_over_all (come_to o leads.entered2 leads.done2 p2) end

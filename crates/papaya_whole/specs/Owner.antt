@@ -59,12 +59,13 @@ module _ {K V Q : Type 0} (same : K → K → Bool) (hash : K → ℕ) (asks : Q
     pub inside : IsInside (w.uses (slot 0))
     pub alone : RestsAlone (is_incremental setting.mode) 0 c
 
-  -- This call of it is under way, at a point of its own or within a row of the collector, and no other call or row is.
+  -- This call of it is under way within its section, at a point of its own or within a row of the collector, and no other call or row is.
   pub record IsAlone (w : World (Node K V)) (c : Chart K) (blocks : Blocks) (sights : ℕ → Sight) (u : UnderWay K V Q) : Type 0 where
     pub calls : ℕ → Option (UnderWay K V Q)
     pub has : calls 0 ≡ Some u
     pub others : (i : ℕ) → i ≢ 0 → calls i ≡ None
     pub together : Together V same hash asks setting slot w c blocks sights calls
     pub rows : (i : ℕ) → i ≢ 0 → w.row i ≡ Rests
+    pub inside : IsInside (w.uses (slot 0))
     pub lone : LoneAt (is_incremental setting.mode) c u
     pub of_root : IsOfRoot w c (seen_by blocks (sights (slot 0))) u (together.stand 0 u has)

@@ -26,7 +26,7 @@ use Rattle.papaya_callers.proofs.Rows.Within.{inside_taken}
 use Rattle.papaya_callers.proofs.Together.Came.{came_next}
 use Rattle.papaya_callers.proofs.Together.Handed as handed
 use Rattle.papaya_callers.proofs.Together.Few.{few_with}
-use Rattle.papaya_callers.proofs.Together.Fits.{Fits, fits_some, stands_by}
+use Rattle.papaya_callers.proofs.Together.Fits.{unless_so, Fits, fits_some, stands_by}
 use Rattle.papaya_callers.proofs.Together.RetiresBlocking.{handed_over}
 use Rattle.papaya_callers.proofs.Together.Slots.{alike_more, alike_at}
 
@@ -106,7 +106,7 @@ module _ {K V Q : Type 0} (same : K → K → Bool) (hash : K → ℕ) (asks : Q
     begun_stands stands claims =
         subst (Together V same hash asks setting slot b.v c blocks sights) (ap (with_at calls i) (sym has) ∙ with_same calls i)
         (stands_by same hash asks setting slot b.v c blocks sights calls i (Some x) b.ground
-        (fits_some same hash asks setting slot b.v c blocks (sights (slot i)) i x b.now_inside stands) b.others
+        (fits_some same hash asks setting slot b.v c blocks (sights (slot i)) i x (unless_so x b.now_inside) stands) b.others
         (λ blocking. few_with calls i c (s.few blocking) (λ none. cc (has, none)) x claims) begun_puts (λ none. absurd (cc none)))
 
   -- what is given back in a step after it was in a block that no open section held before it

@@ -26,9 +26,9 @@ module _ {K V Q : Type 0} (same : K → K → Bool) (hash : K → ℕ) (asks : Q
   same_call x y e = cc e
 
   pub countings_begin_together : CountingsBeginTogether V same hash asks setting slot
-  countings_begin_together w c blocks sights calls i s none rests inside few =
+  countings_begin_together w c blocks sights calls i s none rests few =
       stands_by same hash asks setting slot w c blocks sights calls i (Some (Counting it)) s.ground
-      (fits_some same hash asks setting slot w c blocks (sights (slot i)) i (Counting it) inside (rests, (refl, (let e : 0 ≤ setting.mask = omega arith in e)), s.idle i none))
+      (fits_some same hash asks setting slot w c blocks (sights (slot i)) i (Counting it) tt (rests, (refl, (let e : 0 ≤ setting.mask = omega arith in e)), s.idle i none))
       (λ j other. fits_of same hash asks setting slot w c blocks sights calls s j)
       (λ blocking. few_begun calls i (Some (Counting it)) c (s.few blocking) (λ t v is claims. subst (ClaimsInto t) (same_call (Counting it) v is) claims) (few blocking)) s.onto (λ none. absurd (cc none))
     where

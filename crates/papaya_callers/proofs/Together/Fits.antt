@@ -7,9 +7,9 @@ use Rattle.papaya_callers.proofs.Once.Stays.{once_on}
 use Rattle.papaya_callers.specs.Pairs.{KeepsGiven}
 use Rattle.papaya_callers.proofs.Since.Given.{given_as}
 use Rattle.std.specs.Prelude.{◌≡◌, ◌≢◌, ℕ, Bool, false, List, Option, Some, None, ◌⊎◌}
-use Rattle.std.proofs.Common.{◌∙◌, ap, sym, subst, inl, inr, arith}
+use Rattle.std.proofs.Common.{◌∙◌, refl, ap, sym, subst, inl, inr, arith}
 use Rattle.std.proofs.lemmas.Bool.{cases_eq}
-use Rattle.papaya_late.specs.Given.Seize.World.{World, Rests, IsInside, IsOnto, with_at}
+use Rattle.papaya_late.specs.Given.Seize.World.{World, Rests, Use, IsInside, IsOnto, with_at}
 use Rattle.papaya_late.specs.Given.Rule.InWorld.{IsMapIn, Moved}
 use Rattle.papaya_callers.specs.Rows.{once_over}
 use Rattle.papaya_late.specs.Given.Reserves.declared.reserve.Reserve.{Reserve}
@@ -24,7 +24,7 @@ use Rattle.papaya_late.specs.Given.Sweeps.declared.sweep.Sweeping.TheVariants as
 use Rattle.papaya_late.proofs.Swept.Covers.Kept.{names_on, kept_moved}
 use Rattle.papaya_late.proofs.Swept.Lasts.Sweeps.{knows_then}
 use Rattle.papaya_callers.specs.OverAll.{Verdict, CallOverAll, sweep_once_over, TriesTold}
-use Rattle.papaya_callers.specs.Together.{OverAll, KnowsSweep, Counting, ForRoom, KnowsRoom, OnKey, CallOnKey, UnderWay, HasCall, PutsWithin, in_slot, StayFew, Knows, Stands, Ground, Together}
+use Rattle.papaya_callers.specs.Together.{OverAll, KnowsSweep, Counting, ForRoom, KnowsRoom, OnKey, CallOnKey, UnderWay, UnlessCounts, HasCall, PutsWithin, in_slot, StayFew, Knows, Stands, Ground, Together}
 use Rattle.papaya_late.specs.Given.Tables.Chunks.{is_incremental}
 use Rattle.papaya_late.specs.Given.Tables.declared.node.Node.{Node}
 use Rattle.papaya_late.specs.Given.Tables.declared.setting.Setting.{Setting}
@@ -41,6 +41,25 @@ use Rattle.papaya_late.specs.Given.Raw.declared.machines.answer.KeyAnswer.TheVar
 use Rattle.papaya_callers.proofs.Since.Began.{since_on, so_since_on}
 use Rattle.papaya_callers.proofs.Together.At.{at_other, at_same}
 use Rattle.papaya_callers.proofs.Together.FactsOn.{idle_on, KnowsOfCall, call_knows_on}
+
+-- what is asked of each call but a counting is so of it if it is so of any
+pub unless_so : {K V Q : Type 0} {A : Type 0} (u : UnderWay K V Q) → A → UnlessCounts u A
+unless_so (OnKey u) a = a
+unless_so (ForRoom r) a = a
+unless_so (Counting sum) a = tt
+unless_so (OverAll o) a = a
+
+pub unless_on : {K V Q : Type 0} {A B : Type 0} (u : UnderWay K V Q) → (A → B) → UnlessCounts u A → UnlessCounts u B
+unless_on (OnKey u) on a = on a
+unless_on (ForRoom r) on a = on a
+unless_on (Counting sum) on a = tt
+unless_on (OverAll o) on a = on a
+
+pub unless_both : {K V Q : Type 0} {A B C : Type 0} (u : UnderWay K V Q) → (A → B → C) → UnlessCounts u A → UnlessCounts u B → UnlessCounts u C
+unless_both (OnKey u) on a b = on a b
+unless_both (ForRoom r) on a b = on a b
+unless_both (Counting sum) on a b = tt
+unless_both (OverAll o) on a b = on a b
 
 module _ {K V : Type 0} (same : K → K → Bool) (hash : K → ℕ) (setting : Setting) (w : World (Node K V)) (c : Chart K) (blocks : Blocks) where
   -- a map says nothing of its callers' slots
@@ -67,14 +86,14 @@ module _ {K V Q : Type 0} (same : K → K → Bool) (hash : K → ℕ) (asks : Q
 
   -- what holds of a caller, by whether it has a call
   pub record Fits (w : World (Node K V)) (c : Chart K) (blocks : Blocks) (sight : Sight) (i : ℕ) (it : Option (UnderWay K V Q)) : Type 0 where
-    pub inside : (u : UnderWay K V Q) → it ≡ Some u → IsInside (w.uses (slot i))
+    pub inside : (u : UnderWay K V Q) → it ≡ Some u → UnlessCounts u (IsInside (w.uses (slot i)))
     pub stand : (u : UnderWay K V Q) → it ≡ Some u → Stands V same hash asks setting slot w c (seen_by blocks sight) i u
     pub idle : it ≡ None → IsIdle same hash w i (in_slot setting (slot i)) c blocks
 
-  pub fits_some : (w : World (Node K V)) (c : Chart K) (blocks : Blocks) (sight : Sight) (i : ℕ) (u : UnderWay K V Q) → IsInside (w.uses (slot i))
+  pub fits_some : (w : World (Node K V)) (c : Chart K) (blocks : Blocks) (sight : Sight) (i : ℕ) (u : UnderWay K V Q) → UnlessCounts u (IsInside (w.uses (slot i)))
       → Stands V same hash asks setting slot w c (seen_by blocks sight) i u → Fits w c blocks sight i (Some u)
   fits_some w c blocks sight i u inside stands = record {
-    inside = λ v e. inside;
+    inside = λ v e. subst (λ (x : UnderWay K V Q). UnlessCounts x (IsInside (w.uses (slot i)))) (one u v e) inside;
     stand = λ v e. subst (Stands V same hash asks setting slot w c (seen_by blocks sight) i) (one u v e) stands;
     idle = λ e. absurd (cc e);
   }
@@ -110,6 +129,16 @@ module _ {K V Q : Type 0} (same : K → K → Bool) (hash : K → ℕ) (asks : Q
       fits : (j : ℕ) → (j ≡ i) ⊎ (j ≢ i) → Fits w c blocks (sights (slot j)) j (with_at calls i it j)
       fits j (inl e) = subst (Fits w c blocks (sights (slot j)) j) (sym (at_same calls i it j e)) (subst (λ (x : ℕ). Fits w c blocks (sights (slot x)) x it) (sym e) mine)
       fits j (inr ne) = subst (Fits w c blocks (sights (slot j)) j) (sym (at_other calls i it j ne)) (others j ne)
+
+  -- It knows of its call what it knew, if it does so by what its section sees: a counting only needs its row, and to have no part in a copying.
+  pub stands_of : (how : Use) (j : ℕ) (w w2 : World (Node K V)) (c c2 : Chart K) (blocks blocks2 : Blocks) (sight sight2 : Sight) → w2.row j ≡ w.row j
+      → (IsIdle same hash w j (in_slot setting (slot j)) c blocks → IsIdle same hash w2 j (in_slot setting (slot j)) c2 blocks2) → (u : UnderWay K V Q) → UnlessCounts u (IsInside how)
+      → (IsInside how → Stands V same hash asks setting slot w c (seen_by blocks sight) j u → Stands V same hash asks setting slot w2 c2 (seen_by blocks2 sight2) j u)
+      → Stands V same hash asks setting slot w c (seen_by blocks sight) j u → Stands V same hash asks setting slot w2 c2 (seen_by blocks2 sight2) j u
+  stands_of how j w w2 c c2 blocks blocks2 sight sight2 row idle (OnKey u) is by stands = by is stands
+  stands_of how j w w2 c c2 blocks blocks2 sight sight2 row idle (ForRoom r) is by stands = by is stands
+  stands_of how j w w2 c c2 blocks blocks2 sight sight2 row idle (Counting sum) is by (rests, facts, had) = (row ∙ rests, facts, idle had)
+  stands_of how j w w2 c c2 blocks blocks2 sight sight2 row idle (OverAll o) is by stands = by is stands
 
   -- what a caller knows of its call it knows on, over a step of another one
   module _ (lawful : AreLawful same hash) (j : ℕ) (w w2 : World (Node K V)) (c c2 : Chart K) (seen seen2 : Blocks) where

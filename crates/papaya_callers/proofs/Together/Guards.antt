@@ -13,8 +13,9 @@ use Rattle.papaya_late.specs.Given.Rule.Words.{Blocks}
 use Rattle.papaya_late.specs.Given.Points.Steps.{AreLawful}
 use Rattle.papaya_late.proofs.Given.Rule.World.Hands.{at_cases}
 use Rattle.papaya_callers.specs.Sights.{Sight}
-use Rattle.papaya_callers.specs.Together.{UnderWay, CameAbout, IsOfSlots, Closes, Together, AllStand, GuardsStandTogether}
+use Rattle.papaya_callers.specs.Together.{UnderWay, UnlessCounts, CameAbout, IsOfSlots, Closes, Together, AllStand, GuardsStandTogether}
 use Rattle.papaya_callers.proofs.Together.Came.{came_reached, came_next}
+use Rattle.papaya_callers.proofs.Together.Fits.{unless_on, unless_both}
 use Rattle.papaya_callers.proofs.Together.Handed.{inside_on, inside_back}
 use Rattle.papaya_callers.proofs.Together.Narrowed.{begun, narrowed}
 use Rattle.papaya_callers.proofs.Together.Opened.{opened}
@@ -41,7 +42,7 @@ module _ {K V Q : Type 0} (same : K → K → Bool) (hash : K → ℕ) (asks : Q
     module _ (w2 : World (Node K V)) (came : CameAbout setting.batch_size w2) where
       -- it comes to this world
       comes : (row : Row) (uses2 : ℕ → Use) → ((b : ℕ) → IsOnto b row → ⊥) → w2 ≡ begun same hash asks setting slot lawful w c blocks sights calls s (with_at w.row i row) uses2
-          → ((r : ℕ) → IsInside (uses2 r) → IsInside (w.uses r)) → ((j : ℕ) (u : UnderWay K V Q) → calls j ≡ Some u → IsInside (uses2 (slot j))) → AllStand V same hash asks setting slot w2 c blocks calls
+          → ((r : ℕ) → IsInside (uses2 r) → IsInside (w.uses r)) → ((j : ℕ) (u : UnderWay K V Q) → calls j ≡ Some u → UnlessCounts u (IsInside (uses2 (slot j)))) → AllStand V same hash asks setting slot w2 c blocks calls
       comes row uses2 none_onto e back calls_in =
           subst (λ (v : World (Node K V)). AllStand V same hash asks setting slot v c blocks calls) (sym e)
           (narrowed same hash asks setting slot lawful w c blocks sights calls s (with_at w.row i row) uses2 back
@@ -49,19 +50,20 @@ module _ {K V Q : Type 0} (same : K → K → Bool) (hash : K → ℕ) (asks : Q
           (λ j b. at_cases (λ (r : Row). IsOnto b r → IsOnto b (w.row j)) w.row i row j (λ e on. absurd (none_onto b on)) (λ ne on. on)))
 
       changes : (row : Row) (t : ℕ) → ((b : ℕ) → IsOnto b row → ⊥) → w2 ≡ begun same hash asks setting slot lawful w c blocks sights calls s (with_at w.row i row) (with_at w.uses t Changing)
-          → ((j : ℕ) (u : UnderWay K V Q) → calls j ≡ Some u → slot j ≢ t) → AllStand V same hash asks setting slot w2 c blocks calls
+          → ((j : ℕ) (u : UnderWay K V Q) → calls j ≡ Some u → UnlessCounts u (slot j ≢ t)) → AllStand V same hash asks setting slot w2 c blocks calls
       changes row t none_onto e apart =
-          comes row (with_at w.uses t Changing) none_onto e (changing_back w.uses t) (λ j u has. changing_on w.uses t (slot j) (apart j u has) (s.inside j u has))
+          comes row (with_at w.uses t Changing) none_onto e (changing_back w.uses t)
+          (λ j u has. unless_both u (changing_on w.uses t (slot j)) (apart j u has) (s.inside j u has))
 
-      begins : (request : Request) → IsOfSlots request → ((j : ℕ) (u : UnderWay K V Q) → calls j ≡ Some u → Closes request (slot j) → ⊥) → Happens deferred_word setting.batch_size (Begin i request) w w2
+      begins : (request : Request) → IsOfSlots request → ((j : ℕ) (u : UnderWay K V Q) → calls j ≡ Some u → UnlessCounts u (Closes request (slot j) → ⊥)) → Happens deferred_word setting.batch_size (Begin i request) w w2
           → AllStand V same hash asks setting slot w2 c blocks calls
       begins (Register' enters) of apart h = comes _ w.uses (λ b on. on) h.1 (λ r inside. inside) (λ j u has. s.inside j u has)
-      begins (Enter' t) of apart h = changes _ t (λ b on. on) h.1.1 (λ j u has. not_outside w.uses t (slot j) h.1.0 (s.inside j u has))
+      begins (Enter' t) of apart h = changes _ t (λ b on. on) h.1.1 (λ j u has. unless_on u (not_outside w.uses t (slot j) h.1.0) (s.inside j u has))
       begins (Leave' t) of apart h = changes _ t (λ b on. on) h.1.1 apart
       begins (LeaveOwned t) of apart h = changes _ t (λ b on. on) h.1.1 apart
       begins (Refresh t) of apart h = changes _ t (λ b on. on) h.1.1 apart
-      begins (Unregister' t) of apart h = changes _ t (λ b on. on) h.1.1 (λ j u has. not_outside w.uses t (slot j) h.1.0 (s.inside j u has))
-      begins (Flush t) of apart h = comes _ (with_at w.uses t (one_more (w.uses t))) (λ b on. on) h.1.1 (inside_back w.uses t) (λ j u has. inside_on w.uses t (slot j) (s.inside j u has))
+      begins (Unregister' t) of apart h = changes _ t (λ b on. on) h.1.1 (λ j u has. unless_on u (not_outside w.uses t (slot j) h.1.0) (s.inside j u has))
+      begins (Flush t) of apart h = comes _ (with_at w.uses t (one_more (w.uses t))) (λ b on. on) h.1.1 (inside_back w.uses t) (λ j u has. unless_on u (inside_on w.uses t (slot j)) (s.inside j u has))
       begins (Retire t b) of apart h = absurd of
       begins (Defer' t b d) of apart h = absurd of
 

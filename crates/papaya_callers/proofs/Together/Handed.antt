@@ -12,6 +12,7 @@ use Rattle.papaya_late.specs.Given.Rule.Chart.{Chart}
 use Rattle.papaya_late.specs.Given.Rule.Words.{Blocks}
 use Rattle.papaya_late.specs.Given.Rule.Maps.{spot_of}
 use Rattle.papaya_late.specs.Given.Rule.InWorld.{IsHeldBy, IsMapIn}
+use Rattle.papaya_late.specs.Given.Points.FactsIdle.{IsIdle}
 use Rattle.papaya_late.specs.Given.Points.Steps.{AreLawful}
 use Rattle.papaya_late.proofs.Given.Rule.World.Hands.{at_cases, hand_kept}
 use Rattle.papaya_late.proofs.Given.Rule.History.LeavingOn.{leaves_same}
@@ -23,7 +24,7 @@ use Rattle.papaya_callers.specs.Together.{Ground, UnderWay, in_slot, CameAbout, 
 use Rattle.papaya_callers.proofs.Rows.Behind.{pair_on}
 use Rattle.papaya_callers.proofs.Sights.Seen.{map_seen}
 use Rattle.papaya_callers.proofs.Together.FactsOn.{idle_on}
-use Rattle.papaya_callers.proofs.Together.Fits.{map_in_slot, Fits, stands_on}
+use Rattle.papaya_callers.proofs.Together.Fits.{unless_on, map_in_slot, Fits, stands_of, stands_on}
 
 more_inside : (u : Use) → IsInside u → IsInside (one_more u)
 more_inside Vacant h = h
@@ -118,12 +119,16 @@ module _ {K V Q : Type 0} (same : K → K → Bool) (hash : K → ℕ) (asks : Q
     part : (v : World (Node K V)) (j : ℕ) → IsMapIn same hash setting v c blocks → IsInside (w.uses (slot j)) → IsMapIn same hash (in_slot setting (slot j)) v c (seen_by blocks (sights (slot j)))
     part v j m in_it = map_seen same hash (in_slot setting (slot j)) v c blocks (sights (slot j)) (map_in_slot same hash setting v c blocks (slot j) m) (s.ground.sight (slot j) in_it).0
 
+    idle_begun : (j : ℕ) → j ≢ i → IsIdle same hash w j (in_slot setting (slot j)) c blocks → IsIdle same hash begun j (in_slot setting (slot j)) c blocks
+    idle_begun j ne =
+        idle_on same hash asks (in_slot setting (slot j)) j lawful w begun c c blocks blocks (map_in_slot same hash setting w c blocks (slot j) s.ground.map) (map_in_slot same hash setting begun c blocks (slot j) map)
+        s.ground.moments (others_step j ne blocks) (λ blocking t made l. l)
+
     pub others_begun : (j : ℕ) → j ≢ i → Fits same hash asks setting slot begun c blocks (sights (slot j)) j (calls j)
     others_begun j ne = record {
-      inside = λ v e. now_inside (slot j) (s.inside j v e);
-      stand = λ v e. let in_it = s.inside j v e in
-          stands_on same hash asks setting slot lawful j w begun c c (seen_by blocks (sights (slot j))) (seen_by blocks (sights (slot j))) (part w j s.ground.map in_it) (part begun j map in_it)
-          s.ground.moments (others_step j ne (seen_by blocks (sights (slot j)))) (λ blocking t made l. l) i (inl refl) (with_other w.row i j row ne) v (s.stand j v e);
-      idle = λ e. idle_on same hash asks (in_slot setting (slot j)) j lawful w begun c c blocks blocks (map_in_slot same hash setting w c blocks (slot j) s.ground.map) (map_in_slot same hash setting begun c blocks (slot j) map)
-          s.ground.moments (others_step j ne blocks) (λ blocking t made l. l) (s.idle j e);
+      inside = λ v e. unless_on v (now_inside (slot j)) (s.inside j v e);
+      stand = λ v e. stands_of same hash asks setting slot (w.uses (slot j)) j w begun c c blocks blocks (sights (slot j)) (sights (slot j)) (with_other w.row i j row ne) (idle_begun j ne) v (s.inside j v e)
+          (λ in_it. stands_on same hash asks setting slot lawful j w begun c c (seen_by blocks (sights (slot j))) (seen_by blocks (sights (slot j))) (part w j s.ground.map in_it) (part begun j map in_it)
+          s.ground.moments (others_step j ne (seen_by blocks (sights (slot j)))) (λ blocking t made l. l) i (inl refl) (with_other w.row i j row ne) v) (s.stand j v e);
+      idle = λ e. idle_begun j ne (s.idle j e);
     }

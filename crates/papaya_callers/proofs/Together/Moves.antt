@@ -23,6 +23,7 @@ use Rattle.papaya_late.specs.Given.Tables.declared.setting.Setting.{Setting}
 use Rattle.papaya_late.specs.Given.Rule.Chart.{Chart}
 use Rattle.papaya_late.specs.Given.Rule.Words.{Blocks}
 use Rattle.papaya_late.specs.Given.Rule.Moments.{Moments, Remembers}
+use Rattle.papaya_late.specs.Given.Points.FactsIdle.{IsIdle}
 use Rattle.papaya_late.specs.Given.Points.Steps.{AreLawful}
 use Rattle.papaya_late.specs.Given.Rule.Lasts.{Lasts}
 use Rattle.papaya_late.proofs.Given.Rule.World.CounterSpared.{spares_counter}
@@ -38,7 +39,7 @@ use Rattle.papaya_callers.proofs.Sights.Wider.{wider, is_wider, table_agrees, pa
 use Rattle.papaya_callers.proofs.Together.Few.{claim_few}
 use Rattle.papaya_callers.proofs.Together.Linked.{behind_went, puts_went}
 use Rattle.papaya_callers.proofs.Together.FactsOn.{idle_on}
-use Rattle.papaya_callers.proofs.Together.Fits.{map_in_slot, map_of_slot, Fits, stands_by, stands_on}
+use Rattle.papaya_callers.proofs.Together.Fits.{unless_on, map_in_slot, map_of_slot, Fits, stands_by, stands_of, stands_on}
 
 module _ {K V Q : Type 0} (same : K → K → Bool) (hash : K → ℕ) (asks : Q → K → Bool) (setting : Setting) (slot : ℕ → ℕ) where
   abbrev Stand : World (Node K V) → Chart K → Blocks → (ℕ → Sight) → (ℕ → Option (UnderWay K V Q)) → Type 0
@@ -250,13 +251,17 @@ module _ {K V Q : Type 0} (same : K → K → Bool) (hash : K → ℕ) (asks : Q
             own = o.own;
           }
 
+      idle_then : (j : ℕ) → j ≢ i → IsIdle same hash w j (in_slot setting (slot j)) c blocks → IsIdle same hash went.w2 j (in_slot setting (slot j)) went.c2 blocks_then
+      idle_then j other =
+          idle_on same hash asks (in_slot setting (slot j)) j lawful w went.w2 c went.c2 blocks blocks_then (whole (slot j)) (whole2 (slot j)) s.ground.moments (step_whole j other) claims_few
+
       others : (j : ℕ) → j ≢ i → Fits same hash asks setting slot went.w2 went.c2 blocks_then (sights_then (slot j)) j (calls j)
       others j other = record {
-        inside = λ v e. inside_on setting.batch_size slot i went.events w went.w2 reached inside went.users went.runs (slot j) (s.inside j v e);
-        stand = λ v e. let in_it = s.inside j v e in
-            stands_on same hash asks setting slot lawful j w went.w2 c went.c2 (seen_by blocks (sights (slot j))) (seen_by blocks_then (sights_then (slot j))) (part (slot j) j in_it) (part2 (slot j) j in_it)
-            s.ground.moments (step j other in_it) claims_few i went.moved (row_same j) v (s.stand j v e);
-        idle = λ e. idle_on same hash asks (in_slot setting (slot j)) j lawful w went.w2 c went.c2 blocks blocks_then (whole (slot j)) (whole2 (slot j)) s.ground.moments (step_whole j other) claims_few (s.idle j e);
+        inside = λ v e. unless_on v (inside_then (slot j)) (s.inside j v e);
+        stand = λ v e. stands_of same hash asks setting slot (w.uses (slot j)) j w went.w2 c went.c2 blocks blocks_then (sights (slot j)) (sights_then (slot j)) (row_same j) (idle_then j other) v (s.inside j v e)
+            (λ in_it. stands_on same hash asks setting slot lawful j w went.w2 c went.c2 (seen_by blocks (sights (slot j))) (seen_by blocks_then (sights_then (slot j))) (part (slot j) j in_it)
+            (part2 (slot j) j in_it) s.ground.moments (step j other in_it) claims_few i went.moved (row_same j) v) (s.stand j v e);
+        idle = λ e. idle_then j other (s.idle j e);
       }
 
       -- and so all stand together, if the caller does

@@ -20,7 +20,7 @@ use Rattle.papaya_late.proofs.Given.Rule.World.OthersSpared.{keeps_same}
 use Rattle.papaya_late.specs.Given.Points.Others.{OthersStep}
 use Rattle.papaya_callers.specs.Kept.{IsKeptBy, IsWithin}
 use Rattle.papaya_callers.specs.Sights.{SeesSources, Sight, seen_by, IsSight}
-use Rattle.papaya_callers.specs.Together.{UnderWay, in_slot, CameAbout, Stands, Together, AllStand}
+use Rattle.papaya_callers.specs.Together.{UnderWay, UnlessCounts, in_slot, CameAbout, Stands, Together, AllStand}
 use Rattle.papaya_callers.proofs.Rows.Begins.{beside_in}
 use Rattle.papaya_callers.proofs.Rows.Behind.{pair_on}
 use Rattle.papaya_callers.proofs.Rows.Forgets.{forgotten_in}
@@ -32,7 +32,7 @@ use Rattle.papaya_callers.proofs.Together.Any.{any_below, any_in, any_out}
 use Rattle.papaya_callers.proofs.Together.Came.{came_reached}
 use Rattle.papaya_callers.proofs.Together.Inside.{is_inside, inside_is, is_inside_so, inside_below}
 use Rattle.papaya_callers.proofs.Together.Opened.{named_reached, known_reached}
-use Rattle.papaya_callers.proofs.Together.Fits.{map_in_slot, stands_on}
+use Rattle.papaya_callers.proofs.Together.Fits.{map_in_slot, stands_of, stands_on}
 
 module _ {K V Q : Type 0} (same : K → K → Bool) (hash : K → ℕ) (asks : Q → K → Bool) (setting : Setting) (slot : ℕ → ℕ) (lawful : AreLawful same hash)
     (w : World (Node K V)) (c : Chart K) (blocks : Blocks) (sights : ℕ → Sight) (calls : ℕ → Option (UnderWay K V Q)) (s : Together V same hash asks setting slot w c blocks sights calls)
@@ -181,8 +181,8 @@ module _ {K V Q : Type 0} (same : K → K → Bool) (hash : K → ℕ) (asks : Q
     within2 : (r : ℕ) → IsInside (uses2 r) → IsWithin begun r c (seen_by fewer (sights r)) setting
     within2 r inside = let h = (s.ground.sight r (back r inside)).1 in record { inside = inside; tables = h.tables; pairs = h.pairs; counter = h.counter }
 
-    -- who has a call is inside still, and has the row that it had, and no row came onto a block
-    module _ (came : CameAbout setting.batch_size begun) (calls_in : (j : ℕ) (u : UnderWay K V Q) → calls j ≡ Some u → IsInside (uses2 (slot j)))
+    -- who has a call is inside still, if it needs to be, and has the row that it had, and no row came onto a block
+    module _ (came : CameAbout setting.batch_size begun) (calls_in : (j : ℕ) (u : UnderWay K V Q) → calls j ≡ Some u → UnlessCounts u (IsInside (uses2 (slot j))))
         (rows_same : (j : ℕ) (u : UnderWay K V Q) → calls j ≡ Some u → row2 j ≡ w.row j) (onto : (j b : ℕ) → IsOnto b (row2 j) → IsOnto b (w.row j)) where
       step : (j : ℕ) (seen : Blocks) → OthersStep same hash (in_slot setting (slot j)) j w c seen begun c seen
       step j seen = record {
@@ -195,11 +195,11 @@ module _ {K V Q : Type 0} (same : K → K → Bool) (hash : K → ℕ) (asks : Q
 
       stand : (j : ℕ) (u : UnderWay K V Q) → calls j ≡ Some u → Stands V same hash asks setting slot begun c (seen_by fewer (sights (slot j))) j u
       stand j u has =
-          let inside = calls_in j u has in
-          stands_on same hash asks setting slot lawful j w begun c c (seen_by blocks (sights (slot j))) (seen_by blocks (sights (slot j)))
+          stands_of same hash asks setting slot (uses2 (slot j)) j w begun c c blocks fewer (sights (slot j)) (sights (slot j)) (rows_same j u has) (λ idle. idle) u (calls_in j u has)
+          (λ inside. stands_on same hash asks setting slot lawful j w begun c c (seen_by blocks (sights (slot j))) (seen_by blocks (sights (slot j)))
           (map_seen same hash (in_slot setting (slot j)) w c blocks (sights (slot j)) (map_in_slot same hash setting w c blocks (slot j) s.ground.map) (closed (slot j) inside))
           (map_seen same hash (in_slot setting (slot j)) begun c fewer (sights (slot j)) (map_in_slot same hash setting begun c fewer (slot j) map2) (closed2 (slot j) inside))
-          s.ground.moments (step j (seen_by blocks (sights (slot j)))) (λ blocking t made l. l) j (inl refl) (rows_same j u has) u (s.stand j u has)
+          s.ground.moments (step j (seen_by blocks (sights (slot j)))) (λ blocking t made l. l) j (inl refl) (rows_same j u has) u) (s.stand j u has)
 
       pub narrowed : AllStand V same hash asks setting slot begun c blocks calls
       narrowed = (

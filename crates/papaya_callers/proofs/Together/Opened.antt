@@ -25,6 +25,7 @@ use Rattle.papaya_callers.proofs.Rows.Defers.{used_stands, standing_stands}
 use Rattle.papaya_callers.proofs.Sights.Sources.{aborted_from}
 use Rattle.papaya_callers.proofs.Together.Came.{came_reached, came_next}
 use Rattle.papaya_callers.proofs.Together.Inside.{is_inside, inside_is, is_inside_so}
+use Rattle.papaya_callers.proofs.Together.Fits.{stands_of}
 use Rattle.papaya_callers.proofs.Together.Rows.{owned2, behind2, puts2, kept_on, map2, counter2, within2, others_row}
 
 -- one of two sights
@@ -121,8 +122,9 @@ module _ {K V Q : Type 0} (same : K → K → Bool) (hash : K → ℕ) (asks : Q
   stand : (j : ℕ) (u : UnderWay K V Q) → calls j ≡ Some u → Stands V same hash asks setting slot w2 c (seen_by blocks (sights2 (slot j))) j u
   stand j u has =
       let fits = others_row same hash asks setting slot lawful w c blocks sights calls s i w2 step j (other j u has) in
-      subst (λ (z : Bool). Stands V same hash asks setting slot w2 c (seen_by blocks (choose z (sights (slot j)) (fresh same hash setting w2 c blocks r2 map))) j u)
-      (sym (inside_is (w.uses (slot j)) (s.inside j u has))) (fits.stand u has)
+      stands_of same hash asks setting slot (w.uses (slot j)) j w2 w2 c c blocks blocks (sights (slot j)) (sights2 (slot j)) refl (λ idle. idle) u (s.inside j u has)
+      (λ in_it. subst (λ (z : Bool). Stands V same hash asks setting slot w2 c (seen_by blocks (choose z (sights (slot j)) (fresh same hash setting w2 c blocks r2 map))) j u)
+      (sym (inside_is (w.uses (slot j)) in_it))) (fits.stand u has)
 
   pub opened : AllStand V same hash asks setting slot w2 c blocks calls
   opened = (

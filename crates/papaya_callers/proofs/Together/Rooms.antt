@@ -166,6 +166,7 @@ module _ {K V Q : Type 0} (same : K → K → Bool) (hash : K → ℕ) (asks : Q
       abbrev pub room_leads : RoomStepsTogether V same hash asks setting slot w c blocks sights calls i r m2 p2 end
       room_leads = record {
         went = went;
+        inside = inside;
         remembers = remembers;
         same_pairs = pairs_same;
         blocks2 = blocks_then;

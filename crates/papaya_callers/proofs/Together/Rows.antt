@@ -17,6 +17,7 @@ use Rattle.papaya_late.specs.Given.Rule.Chart.{Chart}
 use Rattle.papaya_late.specs.Given.Rule.Words.{Blocks}
 use Rattle.papaya_late.specs.Given.Rule.Maps.{spot_of}
 use Rattle.papaya_late.specs.Given.Rule.InWorld.{IsMapIn}
+use Rattle.papaya_late.specs.Given.Points.FactsIdle.{IsIdle}
 use Rattle.papaya_late.specs.Given.Points.Steps.{AreLawful}
 use Rattle.papaya_late.proofs.Given.Rule.History.LeavingOn.{leaves_same}
 use Rattle.papaya_late.specs.Given.Points.Others.{OthersStep}
@@ -30,7 +31,7 @@ use Rattle.papaya_callers.proofs.Rows.Within.{row_within}
 use Rattle.papaya_callers.proofs.Sights.Seen.{map_seen}
 use Rattle.papaya_callers.proofs.Together.Came.{came_reached, came_next}
 use Rattle.papaya_callers.proofs.Together.FactsOn.{idle_on}
-use Rattle.papaya_callers.proofs.Together.Fits.{map_in_slot, Fits, knows_on, stands_on}
+use Rattle.papaya_callers.proofs.Together.Fits.{unless_on, map_in_slot, Fits, stands_of, knows_on, stands_on}
 
 module _ {K V Q : Type 0} (same : K → K → Bool) (hash : K → ℕ) (asks : Q → K → Bool) (setting : Setting) (slot : ℕ → ℕ) (lawful : AreLawful same hash)
     (w : World (Node K V)) (c : Chart K) (blocks : Blocks) (sights : ℕ → Sight) (calls : ℕ → Option (UnderWay K V Q)) (s : Together V same hash asks setting slot w c blocks sights calls)
@@ -118,13 +119,19 @@ module _ {K V Q : Type 0} (same : K → K → Bool) (hash : K → ℕ) (asks : Q
       knows_on same hash asks setting slot lawful i w w2 c c (seen_by blocks (sights (slot i))) (seen_by blocks (sights (slot i))) (part i inside) (part2 i inside) s.ground.moments
       (others_step i (sights (slot i)) (s.ground.sight (slot i) inside).0.pairs) (λ blocking t made l. l) u p k
 
+  row_same : (j : ℕ) → j ≢ i → w2.row j ≡ w.row j
+  row_same j other = (did deferred_word setting.batch_size w r i w2 step).rows j other
+
+  idle_row : (j : ℕ) → IsIdle same hash w j (in_slot setting (slot j)) c blocks → IsIdle same hash w2 j (in_slot setting (slot j)) c blocks
+  idle_row j =
+      idle_on same hash asks (in_slot setting (slot j)) j lawful w w2 c c blocks blocks (map_in_slot same hash setting w c blocks (slot j) s.ground.map) (map_in_slot same hash setting w2 c blocks (slot j) map2)
+      s.ground.moments (others_step j (record { tables = blocks.table_known; pairs = blocks.pair_known }) (λ n was known. known)) (λ blocking t made l. l)
+
   pub others_row : (j : ℕ) → j ≢ i → Fits same hash asks setting slot w2 c blocks (sights (slot j)) j (calls j)
   others_row j other = record {
-    inside = λ v e. inside_on (slot j) (s.inside j v e);
-    stand = λ v e. let in_it = s.inside j v e in
-        stands_on same hash asks setting slot lawful j w w2 c c (seen_by blocks (sights (slot j))) (seen_by blocks (sights (slot j))) (part j in_it) (part2 j in_it)
-        s.ground.moments (others_step j (sights (slot j)) (s.ground.sight (slot j) in_it).0.pairs) (λ blocking t made l. l) i (inl refl)
-        ((did deferred_word setting.batch_size w r i w2 step).rows j other) v (s.stand j v e);
-    idle = λ e. idle_on same hash asks (in_slot setting (slot j)) j lawful w w2 c c blocks blocks (map_in_slot same hash setting w c blocks (slot j) s.ground.map) (map_in_slot same hash setting w2 c blocks (slot j) map2)
-        s.ground.moments (others_step j (record { tables = blocks.table_known; pairs = blocks.pair_known }) (λ n was known. known)) (λ blocking t made l. l) (s.idle j e);
+    inside = λ v e. unless_on v (inside_on (slot j)) (s.inside j v e);
+    stand = λ v e. stands_of same hash asks setting slot (w.uses (slot j)) j w w2 c c blocks blocks (sights (slot j)) (sights (slot j)) (row_same j other) (idle_row j) v (s.inside j v e)
+        (λ in_it. stands_on same hash asks setting slot lawful j w w2 c c (seen_by blocks (sights (slot j))) (seen_by blocks (sights (slot j))) (part j in_it) (part2 j in_it)
+        s.ground.moments (others_step j (sights (slot j)) (s.ground.sight (slot j) in_it).0.pairs) (λ blocking t made l. l) i (inl refl) (row_same j other) v) (s.stand j v e);
+    idle = λ e. idle_row j (s.idle j e);
   }

@@ -8,7 +8,7 @@ use Rattle.papaya_late.specs.Given.Tables.declared.setting.Setting.{Setting}
 use Rattle.papaya_late.specs.Given.Rule.Chart.{Chart}
 use Rattle.papaya_late.specs.Given.Rule.Words.{Blocks}
 use Rattle.papaya_callers.specs.Sights.{Sight}
-use Rattle.papaya_callers.specs.Together.{UnderWay, IsReclaimed, Together}
+use Rattle.papaya_callers.specs.Together.{CallOnKey, UnderWay, OnKey, IsReclaimed, Together}
 
 -- a value is given back from a block that an open section holds, whichever it is
 gives_what_is_held : {T : Type 0} (w w2 : World T) (value : T) (s : ℕ) → ((b : ℕ) → holds s b w.log ≡ true) → IsReclaimed w w2 value → ⊥
@@ -17,8 +17,8 @@ gives_what_is_held w w2 value s held (b, is, none, hand, gone) = let is_held = h
 module _ {K V Q : Type 0} (same : K → K → Bool) (hash : K → ℕ) (asks : Q → K → Bool) (setting : Setting) (slot : ℕ → ℕ)
     (w : World (Node K V)) (c : Chart K) (blocks : Blocks) (sights : ℕ → Sight) (calls : ℕ → Option (UnderWay K V Q)) where
   -- a section is being ended while a call is under way in it
-  ends_under_a_call : (i : ℕ) (u : UnderWay K V Q) → calls i ≡ Some u → w.uses (slot i) ≡ Changing → Together V same hash asks setting slot w c blocks sights calls → ⊥
-  ends_under_a_call i u has changing s = subst IsInside changing (s.inside i u has)
+  ends_under_a_call : (i : ℕ) (u : CallOnKey K V Q) → calls i ≡ Some (OnKey u) → w.uses (slot i) ≡ Changing → Together V same hash asks setting slot w c blocks sights calls → ⊥
+  ends_under_a_call i u has changing s = subst IsInside changing (s.inside i (OnKey u) has)
 
   -- a caller looks at a table that its section does not hold
   looks_past_its_section : (s t : ℕ) → IsInside (w.uses s) → t < c.past → (sights s).tables t ≡ true → holds s (blocks.table t) w.log ≡ false → Together V same hash asks setting slot w c blocks sights calls → ⊥

@@ -152,6 +152,7 @@ module _ {K V Q : Type 0} (same : K → K → Bool) (hash : K → ℕ) (asks : Q
       abbrev pub leads : StepsTogether V same hash asks setting slot w c blocks sights calls i u m2 p2 progress
       leads = record {
         went = went;
+        inside = inside;
         remembers = remembers;
         blocks2 = blocks_then;
         grown = moves.grown_then same hash asks setting slot lawful w c blocks sights calls s i inside m2 Tells rests went (next_of after progress) few;

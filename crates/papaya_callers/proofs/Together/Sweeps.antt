@@ -175,6 +175,7 @@ module _ {K V Q : Type 0} (same : K → K → Bool) (hash : K → ℕ) (asks : Q
       abbrev pub sweep_leads : SweepStepsTogether V same hash asks setting slot w c blocks sights calls i o m2 p2 end
       sweep_leads = record {
         went = went;
+        inside = inside;
         remembers = remembers;
         removes = changes went.told.changes;
         entered2 = more.0;

@@ -24,7 +24,7 @@ use Rattle.papaya_settles.specs.Given.Teller.Tells.{StepsTold}
 use Rattle.papaya_settles.specs.Given.Teller.declared.changed.Changed.{Changed}
 use Rattle.papaya_settles.specs.Given.Teller.declared.changed.Changed.TheVariants as changed
 use Rattle.papaya_settles.specs.Given.Points.FactsCalls.{IsCopying}
-use Rattle.papaya_settles.specs.Given.Callers.Sights.{seen_by, IsSight}
+use Rattle.papaya_settles.specs.Given.Callers.Sights.{seen_by}
 use Rattle.papaya_settles.specs.Given.Callers.Together.{CallOnKey, UnderWay, OnKey, ForRoom, Counting, OverAll, Together}
 use Rattle.papaya_settles.specs.Given.Effects.Effects.{effects_of}
 use Rattle.papaya_settles.specs.Given.Effects.Known.{Known}
@@ -89,9 +89,6 @@ module _ {K V : Type 0} (same : K → K → Bool) (hash : ℕ → K → ℕ) (na
   each : Together V same st.hash same st.setting slot_of s.world st.chart st.blocks st.sights (s.calls map)
   each = at.together.makings.standing.each map st to.2
 
-  sight : IsSight st.chart st.blocks (st.sights (slot_of i))
-  sight = (each.ground.sight (slot_of i) (each.inside i u here)).0
-
   many_now : st.chart.past ≡ many_of map m
   many_now = tables_many map (whole.all.shown.number map) st m known (whole.all.shown.maps map st to.2)
 
@@ -107,7 +104,7 @@ module _ {K V : Type 0} (same : K → K → Bool) (hash : ℕ → K → ℕ) (na
     its_table = subst (λ (n : ℕ). TableTells n x.call old.memory x.call.stands) many_now
         (subst (λ (n : Mem (Node K V)). TableTells st.chart.past x.call n x.call.stands) at.memory
         (elim (each.stand i (OnKey x) is) as (λ _. TableTells st.chart.past x.call s.world.memory x.call.stands) [
-          | inl k ↦ table_tells same st.hash st.setting slot_of s.world st.chart st.blocks (st.sights (slot_of i)) each.ground.map sight i x x.call k.1
+          | inl k ↦ table_tells same st.hash st.setting slot_of s.world st.chart st.blocks (st.sights (slot_of i)) each.ground.map (each.ground.sight (slot_of i) (each.inside i (OnKey x) is)).0 i x x.call k.1
           | inr k ↦ row_tells st.chart.past x.call s.world.memory x.call.stands k.1
         ]))
 

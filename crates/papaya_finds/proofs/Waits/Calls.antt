@@ -36,7 +36,7 @@ use Rattle.papaya_settles.specs.Given.Follows.Finds.{FindsMap}
 use Rattle.papaya_settles.specs.Given.Follows.Shows.{Shows}
 use Rattle.papaya_settles.proofs.Given.Follows.Finds.{first_is}
 use Rattle.papaya_settles.proofs.Given.Follows.Operations.{Operated}
-use Rattle.papaya_settles.proofs.Given.Follows.Steps.{WentTo, went_to, made_so, is_inside, OfNoRow}
+use Rattle.papaya_settles.proofs.Given.Follows.Steps.{WentTo, went_to, made_so, OfNoRow}
 use Rattle.papaya_settles.specs.Given.Moments.Whole.{ShowsWhole}
 use Rattle.papaya_settles.specs.Due.{OwnAreMade}
 use Rattle.papaya_settles.specs.Entries.{ShowsEntries}
@@ -135,13 +135,10 @@ module _ {K V : Type 0} (same : K → K → Bool) (hash : ℕ → K → ℕ) (na
   abbrev made_it : Operated s.world.memory new.memory new.changed
   made_it = made_so same hash name m known s old new at_old shown map i u here said leads
 
-  abbrev inside_it : IsInside (s.world.uses (slot_of i))
-  inside_it = is_inside same hash name m known s old new at_old shown map i u here said leads
-
   -- a root that is none before its table is past where it lies
-  pub past_then : (k : ℕ) (d : Dispose) → DisposeFacts s.world i (in_slot st.setting (slot_of i)) st.chart seen d → (root : ℕ) (value : Node K V) → word_at old.memory (Root d.setting.root) ≡ Some root
+  pub past_then : IsInside (s.world.uses (slot_of i)) → (k : ℕ) (d : Dispose) → DisposeFacts s.world i (in_slot st.setting (slot_of i)) st.chart seen d → (root : ℕ) (value : Node K V) → word_at old.memory (Root d.setting.root) ≡ Some root
       → value_at old.memory (block_in root) ≡ Some value → d.table.turn ≤ (table_seen root value).turn → IsHeldPast map m k (Some d.table.turn) → IsHeldPast map m k None
-  past_then k d facts root value read sees before_root held =
+  past_then inside_it k d facts root value read sees before_root held =
       let turn = root_turn same st.hash (in_slot st.setting (slot_of i)) s.world i st.chart seen (is_map same hash m known s old new at_old name shown whole.places map i st to.2 made_it inside_it k) d facts root value
       (ap (λ (x : Mem (Node K V)). word_at x (Root d.setting.root)) at_old.memory ∙ read) (ap (λ (x : Mem (Node K V)). value_at x (block_in root)) at_old.memory ∙ sees) in
       let first = first_now in
@@ -149,10 +146,10 @@ module _ {K V : Type 0} (same : K → K → Bool) (hash : ℕ → K → ℕ) (na
       (held.0, past_of (m.born k).turn (m.spot k).turn (first_of map m) (omega (arith, turn, first, lies, before_root)))
 
   -- a pair that it has just taken lies so
-  pub took_then : (k : ℕ) → TakesPair effects k → TookPair same hash m known s old new at_old name shown whole.places map i st to.2 made_it inside_it k
+  pub took_then : (inside_it : IsInside (s.world.uses (slot_of i))) (k : ℕ) → TakesPair effects k → TookPair same hash m known s old new at_old name shown whole.places map i st to.2 made_it inside_it k
       → (table : Table) (t : ℕ) → IsTable st.chart seen table t → (own : Setting) → own ≡ in_slot st.setting (slot_of i) → (field word new_word : ℕ)
       → told ≡ changed.Wrote (Word (block_in table.link) field) word new_word → IsHeldPast map v k (waits_of (disposing own word table))
-  took_then k takes took table t is_table own own_is field word new_word wrote =
+  took_then inside_it k takes took table t is_table own own_is field word new_word wrote =
       taken_held (name i) map m map k (waits_of (disposing own word table)) took.stored
       (new_lies same hash m known s old new at_old name shown whole.places map i st to.2 made_it inside_it k took table t is_table own (ap (λ (x : Setting). x.mode) own_is) field word new_word wrote)
       effects finds onward takes

@@ -110,7 +110,8 @@ module _ {K V : Type 0} (same : K → K → Bool) (hash : ℕ → K → ℕ) (na
       (waits_in_calling y y.stands) alike
   by_owed k it y (HandPast d root value no_copy pair were none answer is reads nothing read sees before_root) word some =
       lies_then same hash name m known s old new at_old whole entries owning owes waits map i (OnKey x) here said leads k None
-      (past_then same hash name m known s old new at_old whole entries owning owes waits map i (OnKey x) here said leads k d
+      (past_then same hash name m known s old new at_old whole entries owning owes waits map i (OnKey x) here said leads
+      (is_inside same hash name m known s old new at_old whole.all.shown map i (OnKey x) here said leads) k d
       (key_reads same st.hash st.setting slot_of s.world st.chart seen i x stands d answer is reads) root value read sees before_root (subst (IsHeldPast map m k) were (was k no_copy it)))
       (waits_in_calling y y.stands) none
   by_owed k it y (HandNew word2 new_word is wrote alike) word some = absurd (let none = sym it ∙ ap (in_hand_of_call known) is in cc none)
@@ -145,7 +146,8 @@ module _ {K V : Type 0} (same : K → K → Bool) (hash : ℕ → K → ℕ) (na
     by_none y (HandNew word2 new_word is wrote alike) word some =
         let its_table = key_tries same st.hash st.setting slot_of s.world st.chart seen i x stands word2 new_word is in
         subst (IsHeldPast map v k) (sym alike)
-        (took_then same hash name m known s old new at_old whole entries owning owes waits map i (OnKey x) here said leads k takes (took k takes to.4.did own) x.call.trial.table its_table.0 its_table.1
+        (took_then same hash name m known s old new at_old whole entries owning owes waits map i (OnKey x) here said leads
+        (is_inside same hash name m known s old new at_old whole.all.shown map i (OnKey x) here said leads) k takes (took k takes to.4.did own) x.call.trial.table its_table.0 its_table.1
         x.call.setting its_table.2 _ word2 new_word wrote)
 
   -- So it lies, whatever it had in hand.

@@ -112,7 +112,8 @@ module _ {K V : Type 0} (same : K → K → Bool) (hash : ℕ → K → ℕ) (na
       (waits_in_sweeping y y.stands) alike
   by_owed k it y (SweptPast d root value no_copy pair were none is reads nothing read sees before_root) word some =
       lies_then same hash name m known s old new at_old whole entries owning owes waits map i (OverAll x) here said leads k None
-      (past_then same hash name m known s old new at_old whole entries owning owes waits map i (OverAll x) here said leads k d
+      (past_then same hash name m known s old new at_old whole entries owning owes waits map i (OverAll x) here said leads
+      (is_inside same hash name m known s old new at_old whole.all.shown map i (OverAll x) here said leads) k d
       (sweep_reads same st.hash st.setting slot_of s.world st.chart seen i x stands d is reads) root value read sees before_root (subst (IsHeldPast map m k) were (was k no_copy it)))
       (waits_in_sweeping y y.stands) none
   by_owed k it y (SweptNew word2 is wrote alike) word some = absurd (let none = sym it ∙ ap (in_hand_of_sweep known) is in cc none)
@@ -147,7 +148,8 @@ module _ {K V : Type 0} (same : K → K → Bool) (hash : ℕ → K → ℕ) (na
     by_none y (SweptNew word2 is wrote alike) word some =
         let its_table = sweep_tries same st.hash st.setting slot_of s.world st.chart seen i x stands word2 is in
         subst (IsHeldPast map v k) (sym alike)
-        (took_then same hash name m known s old new at_old whole entries owning owes waits map i (OverAll x) here said leads k takes (took k takes to.4.did own) x.sweep.table its_table.0 its_table.1
+        (took_then same hash name m known s old new at_old whole entries owning owes waits map i (OverAll x) here said leads
+        (is_inside same hash name m known s old new at_old whole.all.shown map i (OverAll x) here said leads) k takes (took k takes to.4.did own) x.sweep.table its_table.0 its_table.1
         x.sweep.setting its_table.2 _ word2 TOMBSTONE wrote)
 
   -- So it lies, whatever it had in hand.

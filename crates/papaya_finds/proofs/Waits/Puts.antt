@@ -39,7 +39,7 @@ use Rattle.papaya_settles.specs.Given.Callers.Rooms.{CallForRoom}
 use Rattle.papaya_settles.proofs.Given.Hands.Asking.{which}
 use Rattle.papaya_settles.proofs.Calls.{goes_as_one}
 use Rattle.papaya_settles.specs.Given.SeizeWords.declared.at.At.{At}
-use Rattle.papaya_settles.specs.Given.Seize.World.{World, Row, Rests}
+use Rattle.papaya_settles.specs.Given.Seize.World.{World, Row, Rests, IsInside}
 use Rattle.papaya_settles.proofs.Given.Callers.Together.Users.{events_rows}
 use Rattle.papaya_settles.proofs.Given.Follows.Onward.{IsLasting, KeepsRoles}
 use Rattle.papaya_settles.proofs.Given.Histories.Steps.{led_on}
@@ -121,17 +121,17 @@ module _ {K V : Type 0} (same : K → K → Bool) (hash : ℕ → K → ℕ) (na
     together2 : Together V same st2.hash same st2.setting slot_of led.world st2.chart st2.blocks st2.sights (led.calls map)
     together2 = to.5.together.makings.standing.each map st2 stood.1
 
-    as_next : (y : UnderWay K V K) → led.calls map i ≡ Some y → (word : ℕ) (place : At) (waits : Option ℕ) → IsBehind word place led.world st2.chart seen2 waits → IsBehindNext known2 map place waits
-    as_next y is word place waits (t, made, seen_there, its, goes_by) =
-        let sight = (together2.ground.sight (slot_of i) (together2.inside i y is)).0 in
+    as_next : IsInside (led.world.uses (slot_of i)) → (word : ℕ) (place : At) (waits : Option ℕ) → IsBehind word place led.world st2.chart seen2 waits → IsBehindNext known2 map place waits
+    as_next inside word place waits (t, made, seen_there, its, goes_by) =
+        let sight = (together2.ground.sight (slot_of i) inside).0 in
         (st2.blocks.table t, t, st2.chart.len t, its, goes_by, (after.all.shown.maps map st2 stood.1).tables.roles t made (sight.tables t made seen_there))
 
     pub rest_puts : Own
     rest_puts (OnKey x) is machine word place due =
-        as_next (OnKey x) is word place (waits_in_calling x.call x.call.stands)
+        as_next (together2.inside i (OnKey x) is) word place (waits_in_calling x.call x.call.stands)
         (key_behind word place led.world st2.chart seen2 same st2.hash st2.setting slot_of i rests x (together2.stand i (OnKey x) is) x.call.stands refl due)
     rest_puts (OverAll x) is machine word place due =
-        as_next (OverAll x) is word place (waits_in_sweeping x.sweep x.sweep.stands)
+        as_next (together2.inside i (OverAll x) is) word place (waits_in_sweeping x.sweep x.sweep.stands)
         (sweep_behind word place led.world st2.chart seen2 same st2.hash st2.setting slot_of i rests x (together2.stand i (OverAll x) is) x.sweep.stands refl due)
     rest_puts (ForRoom r) is machine word place due = absurd (room_never word place r.reserve.stands due)
     rest_puts (Counting sum) is machine word place due = absurd (cc due)

@@ -2,7 +2,7 @@
 use Rattle.std.specs.Prelude.{◌≢◌, Option, Some, None}
 use Rattle.std.proofs.Common.{◌≡◌, ℕ, Bool, ap, sym, subst, ◌∙◌}
 use Rattle.papaya_callers.specs.Given.SeizeWords.Mem.{Mem}
-use Rattle.papaya_callers.specs.Given.Seize.World.{World}
+use Rattle.papaya_callers.specs.Given.Seize.World.{World, IsInside}
 use Rattle.papaya_callers.specs.Given.Tables.declared.node.Node.{Node}
 use Rattle.papaya_callers.specs.Given.Rule.Chart.{Chart}
 use Rattle.papaya_callers.specs.Given.Rule.InWorld.{Went}
@@ -45,7 +45,8 @@ module _ {K Q : Type 0} (V : Type 0) (same : K → K → Bool) (asks : Q → K �
     their_counters = all.their_counters;
   }
 
-  module _ (m : ℕ) (s : Standing K) (here : maps m ≡ Some s) (i : ℕ) (u : UnderWay K V Q) (has : calls m i ≡ Some u) (m2 : Mem (Node K V)) (Told : World (Node K V) → Chart K → Blocks → Type 0)
+  module _ (m : ℕ) (s : Standing K) (here : maps m ≡ Some s) (i : ℕ) (u : UnderWay K V Q) (has : calls m i ≡ Some u) (in_it : IsInside (w.uses (slot i))) (m2 : Mem (Node K V))
+      (Told : World (Node K V) → Chart K → Blocks → Type 0)
       (went : Went same s.hash (in_slot s.setting (slot i)) i w s.chart (seen_by s.blocks (s.sights (slot i))) m2 Told) where
     pub call_spares : (j : ℕ) (f : Finishing K V) → enders j ≡ Some f → IsSparedEnd batch_size w went.w2 j f
     call_spares j f ends =
@@ -55,8 +56,8 @@ module _ {K Q : Type 0} (V : Type 0) (same : K → K → Bool) (asks : Q → K �
           o.1,
           subst (λ (size : ℕ). SparesEnd w went.w2 size o.0 f.setting.root j) (all.makings.standing.fit m s here).2
               (call_spares_end same s.hash (in_slot s.setting (slot i)) i w s.chart (seen_by s.blocks (s.sights (slot i))) m2 Told went stands.ground.came stands.ground.counter
-              (λ b seen. known_out same s.hash asks s.setting slot w s.chart s.blocks s.sights (calls m) stands b (seen_known V same asks batch_size slot w maps calls all.makings.standing m s here i u has b seen))
-              (λ b seen. known_owner same s.hash asks s.setting slot w s.chart s.blocks s.sights (calls m) stands b (seen_known V same asks batch_size slot w maps calls all.makings.standing m s here i u has b seen))
+              (λ b seen. known_out same s.hash asks s.setting slot w s.chart s.blocks s.sights (calls m) stands b (seen_known V same asks batch_size slot w maps calls all.makings.standing m s here i u has in_it b seen))
+              (λ b seen. known_owner same s.hash asks s.setting slot w s.chart s.blocks s.sights (calls m) stands b (seen_known V same asks batch_size slot w maps calls all.makings.standing m s here i u has in_it b seen))
               o.0 f.setting.root j o.2 (all.roots_apart j m f s ends here)),
         )
 
@@ -71,7 +72,7 @@ module _ {K Q : Type 0} (V : Type 0) (same : K → K → Bool) (asks : Q → K �
               no_row = none;
               step = to.step;
               together = endings_same V same asks batch_size roots slot w maps calls makers enders all to.step.went.w2
-                  (call_spares V same asks batch_size roots slot w maps calls makers enders all m s here i (OnKey u) has m2 _ to.step.went) _ _ to.together
+                  (call_spares V same asks batch_size roots slot w maps calls makers enders all m s here i (OnKey u) has ((all.makings.standing.each m s here).inside i (OnKey u) has) m2 _ to.step.went) _ _ to.together
                   (ender_alone V same asks batch_size roots slot w maps calls makers enders all m i _ (no_ender V same asks batch_size roots slot w maps calls makers enders all m i (OnKey u) has))
                   (settings V same asks batch_size roots slot w maps calls makers all.makings m s here i (OnKey u) has to.step.went.c2 to.step.blocks2 to.step.sights2);
             },

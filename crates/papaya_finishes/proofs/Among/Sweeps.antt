@@ -44,12 +44,12 @@ module _ {K Q : Type 0} (V : Type 0) (same : K → K → Bool) (asks : Q → K �
               no_row = none;
               step = step;
               together = endings_same V same asks batch_size roots slot w maps calls makers enders all step.went.w2
-                  (call_spares V same asks batch_size roots slot w maps calls makers enders all m s here i (OverAll o) has m2 _ step.went) _ _
+                  (call_spares V same asks batch_size roots slot w maps calls makers enders all m s here i (OverAll o) has ((standing.each m s here).inside i (OverAll o) has) m2 _ step.went) _ _
                   (makings_on V same asks batch_size roots slot w maps calls makers all.makings step.went.w2
-                  (call_leaves V same asks batch_size roots slot w maps calls makers all.makings m s here i (OverAll o) has m2 _ step.went) _ _
+                  (call_leaves V same asks batch_size roots slot w maps calls makers all.makings m s here i (OverAll o) has ((standing.each m s here).inside i (OverAll o) has) m2 _ step.went) _ _
                   (all_together V same asks batch_size slot w maps calls standing m s here i (OverAll o) has step.went.w2 step.went.c2 step.blocks2 step.sights2
                   (next_over_all (come_to o step.entered2 step.done2 p2) end) step.together
-                  (others_stand V same asks batch_size slot w maps calls standing m s here i (OverAll o) has m2 _ step.went))
+                  (others_stand V same asks batch_size slot w maps calls standing m s here i (OverAll o) has ((standing.each m s here).inside i (OverAll o) has) m2 _ step.went))
                   (settings V same asks batch_size roots slot w maps calls makers all.makings m s here i (OverAll o) has step.went.c2 step.blocks2 step.sights2)
                   (nones V same asks batch_size roots slot w maps calls makers all.makings m s here i (OverAll o) has step.went.c2 step.blocks2 step.sights2)
                   (still_alone V same asks batch_size roots slot w maps calls makers all.makings m i _ (no_maker V same asks batch_size roots slot w maps calls makers all.makings m i (OverAll o) has)))

@@ -4,7 +4,7 @@ use Rattle.std.proofs.Common.{refl, ap, sym, subst, ◌∙◌, inl, inr}
 use Rattle.papaya_purposes.specs.Given.SeizeWords.Mem.{value_at}
 use Rattle.papaya_purposes.specs.Given.SeizeWords.declared.at.At.{At}
 use Rattle.papaya_purposes.specs.Given.Seize.Further.{IsWordOf}
-use Rattle.papaya_purposes.specs.Given.Seize.World.{Defers, World}
+use Rattle.papaya_purposes.specs.Given.Seize.World.{Defers, World, IsInside}
 use Rattle.papaya_purposes.specs.Given.Seize.declared.rows.defer.Defer.{Defer}
 use Rattle.papaya_purposes.specs.Given.Seize.declared.rows.defer.Deferring.{Deferring}
 use Rattle.papaya_purposes.specs.Given.Seize.declared.rows.defer.Deferring.TheVariants as deferring
@@ -116,22 +116,22 @@ module _ {K V : Type 0} (same : K → K → Bool) (hash : ℕ → K → ℕ) (na
     each = at.together.makings.standing.each map st its_map.1
 
     -- before its row it knows the table
-    as_next : (waits : Option ℕ) → IsBehind word place t.world st.chart seen waits → IsBehindNext known2 map place waits
-    as_next waits (k, made, seen_there, its, goes_by) =
-        let sight = (each.ground.sight (slot_of i) (each.inside i u here)).0 in
+    as_next : IsInside (t.world.uses (slot_of i)) → (waits : Option ℕ) → IsBehind word place t.world st.chart seen waits → IsBehindNext known2 map place waits
+    as_next inside waits (k, made, seen_there, its, goes_by) =
+        let sight = (each.ground.sight (slot_of i) inside).0 in
         (st.blocks.table k, k, st.chart.len k, its, goes_by, (whole.all.shown.maps map st its_map.1).tables.roles k made (sight.tables k made seen_there))
 
   of_kind : (map i : ℕ) (u : UnderWay K V K) → t.calls map i ≡ Some u → (word : ℕ) (place : At) → due_in_row (machine_of u) ≡ Some (ToPut word place) → IsBehindNext known2 map place (waits_in (machine_of u))
   of_kind map i (OnKey x) here word place due =
       elim ((each map i (OnKey x) here word place due).stand i (OnKey x) here) as (λ _. IsBehindNext known2 map place (waits_in_calling x.call x.call.stands)) [
-        | inl k ↦ as_next map i (OnKey x) here word place due (waits_in_calling x.call x.call.stands)
+        | inl k ↦ as_next map i (OnKey x) here word place due ((each map i (OnKey x) here word place due).inside i (OnKey x) here) (waits_in_calling x.call x.call.stands)
             (key_behind word place t.world (st map i (OnKey x) here word place due).chart (seen map i (OnKey x) here word place due) same (st map i (OnKey x) here word place due).hash
             (st map i (OnKey x) here word place due).setting slot_of i k.0 x ((each map i (OnKey x) here word place due).stand i (OnKey x) here) x.call.stands refl due)
         | inr k ↦ kept map i (OnKey x) here word place due (λ b its. call_there t.world reached i word place b its (slot_of i) x.call.stands k.0 due)
       ]
   of_kind map i (OverAll o) here word place due =
       elim ((each map i (OverAll o) here word place due).stand i (OverAll o) here) as (λ _. IsBehindNext known2 map place (waits_in_sweeping o.sweep o.sweep.stands)) [
-        | inl k ↦ as_next map i (OverAll o) here word place due (waits_in_sweeping o.sweep o.sweep.stands)
+        | inl k ↦ as_next map i (OverAll o) here word place due ((each map i (OverAll o) here word place due).inside i (OverAll o) here) (waits_in_sweeping o.sweep o.sweep.stands)
             (sweep_behind word place t.world (st map i (OverAll o) here word place due).chart (seen map i (OverAll o) here word place due) same (st map i (OverAll o) here word place due).hash
             (st map i (OverAll o) here word place due).setting slot_of i k.0 o ((each map i (OverAll o) here word place due).stand i (OverAll o) here) o.sweep.stands refl due)
         | inr k ↦ kept map i (OverAll o) here word place due (λ b its. sweep_there t.world reached i word place b its (slot_of i) o.sweep.stands k.0 due)

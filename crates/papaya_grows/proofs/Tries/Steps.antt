@@ -10,6 +10,7 @@ use Rattle.papaya_purposes.specs.Given.Tables.Trials.{place_tried}
 use Rattle.papaya_purposes.specs.Given.Tables.declared.finding.Finding.TheVariants as finds
 use Rattle.papaya_purposes.specs.Given.Tables.declared.node.Node.{Node}
 use Rattle.papaya_purposes.specs.Given.Tables.declared.table.Table.{Table as Planned}
+use Rattle.papaya_purposes.specs.Given.Seize.World.{IsInside}
 use Rattle.papaya_purposes.specs.Given.Seize.declared.progress.Progress.{Progress as Counting_told}
 use Rattle.papaya_purposes.specs.Given.Resize.Sum.{sum_plan}
 use Rattle.papaya_purposes.specs.Given.Resize.declared.outcome.Outcome.{Outcome}
@@ -47,7 +48,7 @@ use Rattle.papaya_purposes.specs.Given.Points.Steps.{AreLawful}
 use Rattle.papaya_purposes.specs.Given.Points.Told.{IsRowOfCall}
 use Rattle.papaya_purposes.specs.Given.Late.LateCalls.{LateCalling}
 use Rattle.papaya_purposes.specs.Given.Late.Left.{Left}
-use Rattle.papaya_purposes.specs.Given.Callers.Sights.{IsSight, seen_by}
+use Rattle.papaya_purposes.specs.Given.Callers.Sights.{seen_by}
 use Rattle.papaya_purposes.specs.Given.Callers.Together.{CallOnKey, Counting, ForRoom, OnKey, OverAll, Together, UnderWay, in_slot}
 use Rattle.papaya_purposes.proofs.Given.Callers.Sights.Seen.{map_seen}
 use Rattle.papaya_purposes.proofs.Given.Callers.Together.Fits.{map_in_slot}
@@ -57,7 +58,7 @@ use Rattle.papaya_purposes.specs.Given.Effects.declared.acting.Acting.TheVariant
 use Rattle.papaya_purposes.specs.Given.Finishes.Machines.{machine_of}
 use Rattle.papaya_purposes.specs.Given.Finishes.Maps.{Standing}
 use Rattle.papaya_purposes.proofs.Given.Follows.Finds.{tables_many}
-use Rattle.papaya_purposes.proofs.Given.Follows.Steps.{WentTo, is_inside, went_to}
+use Rattle.papaya_purposes.proofs.Given.Follows.Steps.{WentTo, went_to}
 use Rattle.papaya_purposes.proofs.Given.Others.Outcomes.{told_in}
 use Rattle.papaya_purposes.specs.Given.Spots.Spots.{LiesAt}
 use Rattle.papaya_purposes.specs.Given.Moments.Whole.{ShowsWhole}
@@ -126,12 +127,9 @@ module _ {K V : Type 0} (same : K → K → Bool) (hash : ℕ → K → ℕ) (na
     abbrev seen : Blocks
     seen = seen_by st.blocks (st.sights (slot_of i))
 
-    is_sight : IsSight st.chart st.blocks (st.sights (slot_of i))
-    is_sight = (each.ground.sight (slot_of i) (is_inside same hash name m known s old new at whole.all.shown map i u here said leads)).0
-
-    is_map : IsMapIn same st.hash (in_slot st.setting (slot_of i)) s.world st.chart seen
-    is_map = map_seen same st.hash (in_slot st.setting (slot_of i)) s.world st.chart st.blocks (st.sights (slot_of i))
-        (map_in_slot same st.hash st.setting s.world st.chart st.blocks (slot_of i) each.ground.map) is_sight
+    is_map : IsInside (s.world.uses (slot_of i)) → IsMapIn same st.hash (in_slot st.setting (slot_of i)) s.world st.chart seen
+    is_map inside = map_seen same st.hash (in_slot st.setting (slot_of i)) s.world st.chart st.blocks (st.sights (slot_of i))
+        (map_in_slot same st.hash st.setting s.world st.chart st.blocks (slot_of i) each.ground.map) (each.ground.sight (slot_of i) inside).0
 
     lies : (n : ℕ) → st.chart.current n ≡ true → LiesAt st.chart (is_incremental st.setting.mode) n (m.spot (sources.shown.number map n)) (m.born (sources.shown.number map n)).turn
     lies n current =
@@ -142,7 +140,7 @@ module _ {K V : Type 0} (same : K → K → Bool) (hash : ℕ → K → ℕ) (na
     many_now = tables_many map (sources.shown.number map) st m known (sources.shown.maps map st to.2)
 
     -- at a try
-    module _ (x : CallOnKey K V K) (t j : ℕ) (is : IsTrial st.chart seen x.call.trial x.call.hash t j) (root : is_incremental st.setting.mode ≡ false → suc t ≡ st.chart.past → t ≡ st.chart.first) where
+    module _ (inside : IsInside (s.world.uses (slot_of i))) (x : CallOnKey K V K) (t j : ℕ) (is : IsTrial st.chart seen x.call.trial x.call.hash t j) (root : is_incremental st.setting.mode ≡ false → suc t ≡ st.chart.past → t ≡ st.chart.first) where
       turn_is : x.call.trial.table.turn ≡ t
       turn_is = ap (λ (y : Planned). y.turn) is.table.is
 
@@ -152,7 +150,7 @@ module _ {K V : Type 0} (same : K → K → Bool) (hash : ℕ → K → ℕ) (na
       tries_within : (x.call.trial.probe.len ≤ x.call.trial.table.limit) × (suc x.call.trial.table.limit < 2 ^ 64)
       tries_within = (
         (let try = is.try in let most = is.most in omega (arith, try, most, limit_is)),
-        (let sized = (is_map.map.shows.sized t is.table.made).most in let low = (is_map.map.rule.common.lens t is.table.made).1 in omega (arith, sized, low, limit_is)),
+        (let sized = (each.ground.map.map.shows.sized t is.table.made).most in let low = (each.ground.map.map.rule.common.lens t is.table.made).1 in omega (arith, sized, low, limit_is)),
       )
         where
           limit_is : x.call.trial.table.limit ≡ st.chart.limit t
@@ -163,8 +161,8 @@ module _ {K V : Type 0} (same : K → K → Bool) (hash : ℕ → K → ℕ) (na
       tries_take word e some = elim (cases_eq (suc t) st.chart.past) as (λ _. Before (try_at x.call.trial.table.turn x.call.trial.table.len x.call.hash x.call.trial.probe.len, if block_in word == 0 then 0 else 1)) [
         | inl last ↦
             inr (inl (subst (λ (y : Spot). FindsTaken map y m (if block_in word == 0 then 0 else 1))
-            (sym (at_try same map (sources.shown.number map) st lawful.fits lawful.lawful s.world.memory seen is_map.map m known (sources.shown.maps map st to.2) lies (sources.left map st to.2) x.call.trial x.call.hash t j is))
-            (takes_here same map (sources.shown.number map) st lawful.fits lawful.lawful s.world.memory seen is_map.map m known (sources.shown.maps map st to.2) lies (sources.left map st to.2) x.call.trial x.call.hash t j is last
+            (sym (at_try same map (sources.shown.number map) st lawful.fits lawful.lawful s.world.memory seen (is_map inside).map m known (sources.shown.maps map st to.2) lies (sources.left map st to.2) x.call.trial x.call.hash t j is))
+            (takes_here same map (sources.shown.number map) st lawful.fits lawful.lawful s.world.memory seen (is_map inside).map m known (sources.shown.maps map st to.2) lies (sources.left map st to.2) x.call.trial x.call.hash t j is last
             (λ alone. root alone last) word e some)))
         | inr ne ↦ passed_or _ turn_is ne
       ]
@@ -173,7 +171,7 @@ module _ {K V : Type 0} (same : K → K → Bool) (hash : ℕ → K → ℕ) (na
           → (y : Spot × ℕ) → y.0.turn ≡ x.call.trial.table.turn → Before y
       tries_move word e flag moved y same_turn = elim (cases_eq (suc t) st.chart.past) as (λ _. Before y) [
         | inl last ↦
-            absurd (moves_none same map (sources.shown.number map) st lawful.fits lawful.lawful s.world.memory seen is_map.map m known (sources.shown.maps map st to.2) lies (sources.left map st to.2) x.call.trial x.call.hash t j is last
+            absurd (moves_none same map (sources.shown.number map) st lawful.fits lawful.lawful s.world.memory seen (is_map inside).map m known (sources.shown.maps map st to.2) lies (sources.left map st to.2) x.call.trial x.call.hash t j is last
             (λ alone. root alone last) x.call.setting.mode (aim_of x.call.missing) flag word e moved)
         | inr ne ↦ passed_or y (same_turn ∙ turn_is) ne
       ]
@@ -214,7 +212,7 @@ module _ {K V : Type 0} (same : K → K → Bool) (hash : ℕ → K → ℕ) (na
 
       -- a table that the root has left is not the last one
       no_last : (t began : ℕ) → Left st.chart began t → suc t ≡ st.chart.past → ⊥
-      no_last t began gone last = let behind = gone.behind in let root = is_map.map.rule.common.rooted (omega (arith, last)) in omega (arith, behind, root, last)
+      no_last t began gone last = let behind = gone.behind in let root = each.ground.map.map.rule.common.rooted (omega (arith, last)) in omega (arith, behind, root, last)
 
       then_late : (began : ℕ) (stands : Calling) → Tries stands → LateCalling same st.hash same s.world i (in_slot st.setting (slot_of i)) st.chart seen x.keys began x.call stands → At x
       then_late began calling.Probes trying late = (late.1.0, late.1.1, late.1.2, λ alone last. absurd (no_last late.1.0 began late.1.4 last))

@@ -3,7 +3,7 @@ use Rattle.std.specs.Prelude.{◌≡◌, ℕ, ◌<◌, Bool, true, false, List, 
 use Rattle.std.specs.Int.{IsPowerOfTwo}
 use Rattle.std.proofs.Common.{refl, ap, sym, subst, ◌∙◌, inl, inr}
 use Rattle.papaya_moments.specs.Given.SeizeWords.Mem.{Mem}
-use Rattle.papaya_moments.specs.Given.Seize.World.{World, with_at}
+use Rattle.papaya_moments.specs.Given.Seize.World.{World, with_at, IsInside}
 use Rattle.papaya_moments.specs.Given.Tables.declared.node.Node.{Node}
 use Rattle.papaya_moments.specs.Given.Sweeps.declared.sweep.Sweeping.{Sweeping}
 use Rattle.papaya_moments.specs.Given.Sweeps.declared.sweep.Sweeping.TheVariants as sweeping
@@ -97,11 +97,11 @@ module _ {K V : Type 0} (same : K → K → Bool) (hash : ℕ → K → ℕ) (na
   abbrev Named : ℕ → Type 0
   Named word = (q : ℕ) × NamesPair known word q
 
-  names : (word n : ℕ) (borrowed : Bool) → n < there.chart.stored → seen.pair_known n ≡ true → word ≡ place_word there.hash there.chart seen (Holds n Still borrowed) → Named word
-  names word n borrowed l known_too is = (
+  names : IsInside (s.world.uses (slot_of i)) → (word n : ℕ) (borrowed : Bool) → n < there.chart.stored → seen.pair_known n ≡ true → word ≡ place_word there.hash there.chart seen (Holds n Still borrowed) → Named word
+  names inside word n borrowed l known_too is = (
     shown.number map n,
     ap known.roles (named_by same there.hash lawful.0 there.chart seen word n Still borrowed is)
-        ∙ (shown.maps map there there_is).pairs.roles n l ((each.ground.sight (slot_of i) (each.inside i x here)).0.pairs n l known_too),
+        ∙ (shown.maps map there there_is).pairs.roles n l ((each.ground.sight (slot_of i) inside).0.pairs n l known_too),
   )
 
   pub key_names : (u : CallOnKey K V K) → x ≡ OnKey u → (word : ℕ) → u.call.stands ≡ at.Asks (asking.Present word) → Named word
@@ -112,7 +112,7 @@ module _ {K V : Type 0} (same : K → K → Bool) (hash : ℕ → K → ℕ) (na
 
       by : (q : Option ℕ) → AsksAbout V same there.hash same there.setting slot_of there.chart seen (asking.Present word) q → Named word
       by None asks = absurd asks
-      by (Some n) (l, known_too, borrowed, word_is) = names word n borrowed l known_too word_is
+      by (Some n) (l, known_too, borrowed, word_is) = names (each.inside i (OnKey u) (here ∙ ap Some is)) word n borrowed l known_too word_is
 
   pub sweep_names : (o : CallOverAll) → x ≡ OverAll o → (word : ℕ) → o.sweep.stands ≡ sweeping.Asks word → Named word
   sweep_names o is word stands_at = elim (each.stand i (OverAll o) (here ∙ ap Some is)) as (λ _. Named word) [
@@ -121,7 +121,7 @@ module _ {K V : Type 0} (same : K → K → Bool) (hash : ℕ → K → ℕ) (na
   ]
     where
       by : SweepingFacts same there.hash s.world i (in_slot there.setting (slot_of i)) there.chart seen o.began o.sweep (sweeping.Asks word) → Named word
-      by (retains, (n, borrowed, l, known_too, word_is), t, place) = names word n borrowed l known_too word_is
+      by (retains, (n, borrowed, l, known_too, word_is), t, place) = names (each.inside i (OverAll o) (here ∙ ap Some is)) word n borrowed l known_too word_is
 
 module _ {K V : Type 0} (same : K → K → Bool) (hash : ℕ → K → ℕ) (name : ℕ → List ℕ) (m : Moment K V) (known : Known) (s : Scene K V) (old new : Held K V) (at_old : IsAt same hash old s)
     (whole : ShowsWhole same name m known s) (shown : Shows same name m known s) (map i : ℕ) (u : UnderWay K V K) (here : s.calls map i ≡ Some u) (about : Option ℕ)

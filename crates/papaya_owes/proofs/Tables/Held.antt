@@ -5,7 +5,7 @@ use Rattle.papaya_moments.specs.Given.SeizeWords.Mem.{value_at}
 use Rattle.papaya_moments.specs.Given.SeizeWords.Word.{block_in}
 use Rattle.papaya_moments.specs.Given.SeizeWords.declared.at.At.{At}
 use Rattle.papaya_moments.specs.Given.SeizeWords.declared.at.At.TheVariants.{Root, Word}
-use Rattle.papaya_moments.specs.Given.Seize.World.{World}
+use Rattle.papaya_moments.specs.Given.Seize.World.{World, IsInside}
 use Rattle.papaya_moments.specs.Given.Tables.declared.node.Node.{Node}
 use Rattle.papaya_moments.specs.Given.Tables.declared.node.Node.TheVariants as node
 use Rattle.papaya_moments.specs.Given.Tables.declared.table.Table.{Table as Planned}
@@ -98,34 +98,34 @@ module _ {K V : Type 0} (same : K → K → Bool) (hash : ℕ → K → ℕ) (na
     each : Together V same st.hash same st.setting slot_of s.world st.chart st.blocks st.sights (s.calls map)
     each = at.together.makings.standing.each map st there
 
-    sight : IsSight st.chart st.blocks (st.sights (slot_of j))
-    sight = (each.ground.sight (slot_of j) (each.inside j u here)).0
+    sight : IsInside (s.world.uses (slot_of j)) → IsSight st.chart st.blocks (st.sights (slot_of j))
+    sight inside = (each.ground.sight (slot_of j) inside).0
 
-    link_there : HasLink st.chart (seen_by st.blocks (st.sights (slot_of j))) n.link → IsLinkThere known n.link
-    link_there (inl root) = inl root
-    link_there (inr (t, is, before, seen)) = inr (st.blocks.table t, st.chart.len t, table_of map t, is, (shown.maps map st there).tables.roles t before (sight.tables t before seen))
+    link_there : IsInside (s.world.uses (slot_of j)) → HasLink st.chart (seen_by st.blocks (st.sights (slot_of j))) n.link → IsLinkThere known n.link
+    link_there inside (inl root) = inl root
+    link_there inside (inr (t, is, before, seen)) = inr (st.blocks.table t, st.chart.len t, table_of map t, is, (shown.maps map st there).tables.roles t before ((sight inside).tables t before seen))
 
-    from : IsItsMaking s.world j st.chart (seen_by st.blocks (st.sights (slot_of j))) n → MadeThere map j n
-    from its = (its.0, link_there its.1, subst (λ (many : ℕ). IsInTurn many n.stands) (tables_many map (shown.number map) st m known (shown.maps map st there)) its.2)
+    from : IsInside (s.world.uses (slot_of j)) → IsItsMaking s.world j st.chart (seen_by st.blocks (st.sights (slot_of j))) n → MadeThere map j n
+    from inside its = (its.0, link_there inside its.1, subst (λ (many : ℕ). IsInTurn many n.stands) (tables_many map (shown.number map) st m known (shown.maps map st there)) its.2)
 
   pub call_made : (map j : ℕ) (u : UnderWay K V K) → s.calls map j ≡ Some u → (n : NewTable) → making_of (machine_of u) ≡ Some n → MadeThere map j n
   call_made map j (OnKey x) here n is = elim ((each map j (OnKey x) here n).stand j (OnKey x) here) as (λ _. MadeThere map j n) [
     | inl k ↦
         let its = st map j (OnKey x) here n in
-        from map j (OnKey x) here n (key_made same its.hash its.setting slot_of s.world its.chart (seen_by its.blocks (its.sights (slot_of j))) j n x x.call k.1 is)
+        from map j (OnKey x) here n ((each map j (OnKey x) here n).inside j (OnKey x) here) (key_made same its.hash its.setting slot_of s.world its.chart (seen_by its.blocks (its.sights (slot_of j))) j n x x.call k.1 is)
     | inr k ↦ absurd (let none = call_none x.call.stands k.1 in cc (none, is))
   ]
   call_made map j (ForRoom x) here n is = elim ((each map j (ForRoom x) here n).stand j (ForRoom x) here) as (λ _. MadeThere map j n) [
     | inl k ↦
         let its = st map j (ForRoom x) here n in
-        from map j (ForRoom x) here n (reserve_made same its.hash its.setting slot_of s.world its.chart (seen_by its.blocks (its.sights (slot_of j))) j n x.began x.reserve k.1 is)
+        from map j (ForRoom x) here n ((each map j (ForRoom x) here n).inside j (ForRoom x) here) (reserve_made same its.hash its.setting slot_of s.world its.chart (seen_by its.blocks (its.sights (slot_of j))) j n x.began x.reserve k.1 is)
     | inr k ↦ absurd (let none = room_none x.reserve.stands k.1 in cc (none, is))
   ]
   call_made map j (Counting sum) here n is = absurd (cc is)
   call_made map j (OverAll x) here n is = elim ((each map j (OverAll x) here n).stand j (OverAll x) here) as (λ _. MadeThere map j n) [
     | inl k ↦
         let its = st map j (OverAll x) here n in
-        from map j (OverAll x) here n (over_all_made same its.hash its.setting slot_of s.world its.chart (seen_by its.blocks (its.sights (slot_of j))) j n x x.sweep k.1 is)
+        from map j (OverAll x) here n ((each map j (OverAll x) here n).inside j (OverAll x) here) (over_all_made same its.hash its.setting slot_of s.world its.chart (seen_by its.blocks (its.sights (slot_of j))) j n x x.sweep k.1 is)
     | inr k ↦ absurd (let none = sweep_none x.sweep.stands k.1 in cc (none, is))
   ]
 

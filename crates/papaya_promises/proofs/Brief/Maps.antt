@@ -2,7 +2,7 @@
 use Rattle.std.specs.Prelude.{◌≡◌, ℕ, Bool, Option, Some, None}
 use Rattle.std.proofs.Common.{refl, ap, sym, subst, ◌∙◌, inl, inr}
 use Rattle.std.proofs.lemmas.Bool.{cases_eq}
-use Rattle.papaya_histories.specs.Given.Seize.World.{World, with_at}
+use Rattle.papaya_histories.specs.Given.Seize.World.{World, with_at, IsInside}
 use Rattle.papaya_histories.specs.Given.Tables.declared.node.Node.{Node}
 use Rattle.papaya_histories.specs.Given.Raw.declared.machines.progress.Progress.{Progress}
 use Rattle.papaya_histories.specs.Given.Rule.Chart.{Chart}
@@ -46,16 +46,16 @@ module _ {K V : Type 0} (same : K → K → Bool) (hash : ℕ → K → ℕ) (s 
   stand : Together V same st.hash same st.setting slot_of s.world st.chart st.blocks st.sights (s.calls map)
   stand = at_old.together.makings.standing.each map st (leads map u here).2
 
-  is_map : IsMapIn same st.hash (in_slot st.setting (slot_of i)) s.world st.chart (seen_by st.blocks (st.sights (slot_of i)))
-  is_map =
+  is_map : IsInside (s.world.uses (slot_of i)) → IsMapIn same st.hash (in_slot st.setting (slot_of i)) s.world st.chart (seen_by st.blocks (st.sights (slot_of i)))
+  is_map inside =
       map_seen same st.hash (in_slot st.setting (slot_of i)) s.world st.chart st.blocks (st.sights (slot_of i))
-      (map_in_slot same st.hash st.setting s.world st.chart st.blocks (slot_of i) stand.ground.map) (stand.ground.sight (slot_of i) (stand.inside i u here)).0
+      (map_in_slot same st.hash st.setting s.world st.chart st.blocks (slot_of i) stand.ground.map) (stand.ground.sight (slot_of i) inside).0
 
-  went_last : (Told : World (Node K V) → Chart K → Blocks → Type 0)
+  went_last : IsInside (s.world.uses (slot_of i)) → (Told : World (Node K V) → Chart K → Blocks → Type 0)
       (went : Went same st.hash (in_slot st.setting (slot_of i)) i s.world st.chart (seen_by st.blocks (st.sights (slot_of i))) new.memory Told) → TablesLast st.chart went.c2
-  went_last Told went =
+  went_last inside Told went =
       let lasts = moved_lasts same st.hash (in_slot st.setting (slot_of i)) (at_old.together.makings.standing.fit map st (leads map u here).2).0.lawful s.world st.chart went.c2
-      (seen_by st.blocks (st.sights (slot_of i))) is_map went.moved in
+      (seen_by st.blocks (st.sights (slot_of i))) (is_map inside) went.moved in
       record { past = lasts.past; limits = λ t l. (lasts.lens t l).1 }
 
   moved_on : (c2 : Chart K) (blocks2 : Blocks) (sights2 : ℕ → Sight)
@@ -77,12 +77,12 @@ module _ {K V : Type 0} (same : K → K → Bool) (hash : ℕ → K → ℕ) (s 
       (leads map u here).4.next x (leads map u here).1 said
 
   its : (n : ℕ) → n ≡ map → (after : Standing K) → (leads map u here).4.maps2 n ≡ Some after → (x : UnderWay K V K) → DidSo x → HasStood s.maps n after
-  its n e after is (OnKey x) (p2, end, machine_is, told_is, inl (step, moved)) = moved_on step.step.went.c2 step.step.blocks2 step.step.sights2 moved.1 (went_last _ step.step.went) n e after is
+  its n e after is (OnKey x) (p2, end, machine_is, told_is, inl (step, moved)) = moved_on step.step.went.c2 step.step.blocks2 step.step.sights2 moved.1 (went_last step.step.inside _ step.step.went) n e after is
   its n e after is (OnKey x) (p2, end, machine_is, told_is, inr (row, stayed)) = same_stood s.maps n _ (stayed.1 n) after is
-  its n e after is (ForRoom x) (p2, end, machine_is, told_is, inl (step, moved)) = moved_on step.step.went.c2 step.step.blocks2 step.step.sights2 moved.1 (went_last _ step.step.went) n e after is
+  its n e after is (ForRoom x) (p2, end, machine_is, told_is, inl (step, moved)) = moved_on step.step.went.c2 step.step.blocks2 step.step.sights2 moved.1 (went_last step.step.inside _ step.step.went) n e after is
   its n e after is (ForRoom x) (p2, end, machine_is, told_is, inr (row, stayed)) = same_stood s.maps n _ (stayed.1 n) after is
   its n e after is (Counting x) (sum2, end, machine_is, told_is, still, stayed) = same_stood s.maps n _ (stayed.1 n) after is
-  its n e after is (OverAll x) (p2, end, machine_is, told_is, inl (step, moved)) = moved_on step.step.went.c2 step.step.blocks2 step.step.sights2 moved.1 (went_last _ step.step.went) n e after is
+  its n e after is (OverAll x) (p2, end, machine_is, told_is, inl (step, moved)) = moved_on step.step.went.c2 step.step.blocks2 step.step.sights2 moved.1 (went_last step.step.inside _ step.step.went) n e after is
   its n e after is (OverAll x) (p2, end, machine_is, told_is, inr (row, stayed)) = same_stood s.maps n _ (stayed.1 n) after is
 
   pub maps_stood : (n : ℕ) (after : Standing K) → (leads map u here).4.maps2 n ≡ Some after → HasStood s.maps n after

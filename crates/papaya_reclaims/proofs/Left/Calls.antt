@@ -4,7 +4,7 @@ use Rattle.std.proofs.Common.{◌≡◌, ℕ, suc, Bool, inl, inr, arith, ap, sy
 use Rattle.std.proofs.lemmas.Bool.{cases_eq}
 use Rattle.papaya_finishes.specs.Given.SeizeWords.declared.at.At.TheVariants.{Root, Used}
 use Rattle.papaya_finishes.specs.Given.SeizeWords.Mem.{Mem, word_at}
-use Rattle.papaya_finishes.specs.Given.Seize.World.{World}
+use Rattle.papaya_finishes.specs.Given.Seize.World.{World, IsInside}
 use Rattle.papaya_finishes.specs.Given.Tables.declared.node.Node.{Node}
 use Rattle.papaya_finishes.specs.Given.Tables.declared.setting.Setting.{Setting}
 use Rattle.papaya_finishes.specs.Given.Raw.declared.machines.machine.Machine.{Machine}
@@ -50,14 +50,14 @@ module _ {K Q : Type 0} (V : Type 0) (same : K → K → Bool) (asks : Q → K �
           (λ j. one_step_spares_end s.setting w came (suc s.setting.counter) 0 j i (more s.setting.counter) w2 one) (λ r a apart is. leaves.root r a is (λ k. apart (k.0, k.1, k.2, sym k.3))) (λ r a apart is. leaves.used r a is)
 
       -- a step of a call that is none of a row
-      module _ (u : UnderWay K V Q) (has : calls m i ≡ Some u) (m2 : Mem (Node K V)) (Told : World (Node K V) → Chart K → Blocks → Type 0)
+      module _ (u : UnderWay K V Q) (has : calls m i ≡ Some u) (in_it : IsInside (w.uses (slot i))) (m2 : Mem (Node K V)) (Told : World (Node K V) → Chart K → Blocks → Type 0)
           (went : Went same s.hash (in_slot s.setting (slot i)) i w s.chart (seen_by s.blocks (s.sights (slot i))) m2 Told) where
         spares : (j : ℕ) → SparesEnd w went.w2 s.setting.batch_size (suc s.setting.counter) (suc s.setting.root) j
         spares j =
             let stands = all.makings.standing.each m s here in
             call_spares_end same s.hash (in_slot s.setting (slot i)) i w s.chart (seen_by s.blocks (s.sights (slot i))) m2 Told went stands.ground.came stands.ground.counter
-            (λ b seen. known_out same s.hash asks s.setting slot w s.chart s.blocks s.sights (calls m) stands b (seen_known V same asks batch_size slot w maps calls all.makings.standing m s here i u has b seen))
-            (λ b seen. known_owner same s.hash asks s.setting slot w s.chart s.blocks s.sights (calls m) stands b (seen_known V same asks batch_size slot w maps calls all.makings.standing m s here i u has b seen))
+            (λ b seen. known_out same s.hash asks s.setting slot w s.chart s.blocks s.sights (calls m) stands b (seen_known V same asks batch_size slot w maps calls all.makings.standing m s here i u has in_it b seen))
+            (λ b seen. known_owner same s.hash asks s.setting slot w s.chart s.blocks s.sights (calls m) stands b (seen_known V same asks batch_size slot w maps calls all.makings.standing m s here i u has in_it b seen))
             (suc s.setting.counter) (suc s.setting.root) j (more s.setting.counter) (more s.setting.root)
 
         pub went_keeps : KeepsLeft (IsRootOf maps) w went.w2
@@ -73,12 +73,12 @@ module _ {K Q : Type 0} (V : Type 0) (same : K → K → Bool) (asks : Q → K �
       machine_keeps : (u : UnderWay K V Q) → calls m i ≡ Some u → (m2 : Mem (Node K V)) (w2 : World (Node K V)) (maps2 : ℕ → Option (Standing K)) (next : Option (UnderWay K V Q))
           (machine : Machine K V Q) (told : Progress (Node K V))
           → DidOfKind V same asks batch_size roots slot w maps calls makers enders m s i m2 w2 maps2 next u machine told → KeepsLeft (IsRootOf maps) w w2
-      machine_keeps (OnKey u) has m2 w2 maps2 next machine told (p2, end, is, tells, inl (st, e)) = to_world st.step.went.w2 w2 (sym e.0) (went_keeps (OnKey u) has m2 _ st.step.went)
+      machine_keeps (OnKey u) has m2 w2 maps2 next machine told (p2, end, is, tells, inl (st, e)) = to_world st.step.went.w2 w2 (sym e.0) (went_keeps (OnKey u) has ((all.makings.standing.each m s here).inside i (OnKey u) has) m2 _ st.step.went)
       machine_keeps (OnKey u) has m2 w2 maps2 next machine told (p2, end, is, tells, inr (st, e)) = to_world st.step.w2 w2 (sym e.0) (row_keeps st.step.w2 st.step.happened)
-      machine_keeps (ForRoom r) has m2 w2 maps2 next machine told (p2, end, is, tells, inl (st, e)) = to_world st.step.went.w2 w2 (sym e.0) (went_keeps (ForRoom r) has m2 _ st.step.went)
+      machine_keeps (ForRoom r) has m2 w2 maps2 next machine told (p2, end, is, tells, inl (st, e)) = to_world st.step.went.w2 w2 (sym e.0) (went_keeps (ForRoom r) has ((all.makings.standing.each m s here).inside i (ForRoom r) has) m2 _ st.step.went)
       machine_keeps (ForRoom r) has m2 w2 maps2 next machine told (p2, end, is, tells, inr (st, e)) = to_world st.step.w2 w2 (sym e.0) (row_keeps st.step.w2 st.step.happened)
       machine_keeps (Counting sum) has m2 w2 maps2 next machine told (p2, end, is, tells, same_memory, e) = to_world w w2 (sym e.0) (keeps_still (IsRootOf maps) w)
-      machine_keeps (OverAll o) has m2 w2 maps2 next machine told (p2, end, is, tells, inl (st, e)) = to_world st.step.went.w2 w2 (sym e.0) (went_keeps (OverAll o) has m2 _ st.step.went)
+      machine_keeps (OverAll o) has m2 w2 maps2 next machine told (p2, end, is, tells, inl (st, e)) = to_world st.step.went.w2 w2 (sym e.0) (went_keeps (OverAll o) has ((all.makings.standing.each m s here).inside i (OverAll o) has) m2 _ st.step.went)
       machine_keeps (OverAll o) has m2 w2 maps2 next machine told (p2, end, is, tells, inr (st, e)) = to_world st.step.w2 w2 (sym e.0) (row_keeps st.step.w2 st.step.happened)
 
       -- which roots are those of maps

@@ -15,7 +15,7 @@ use Rattle.papaya_histories.specs.Given.Callers.Rooms.{CallForRoom}
 use Rattle.papaya_histories.specs.Given.Callers.Together.{CallOnKey, UnderWay, OnKey, ForRoom, Counting, OverAll}
 use Rattle.papaya_histories.specs.Given.Effects.Known.{Known}
 use Rattle.papaya_histories.specs.Given.Follows.Shows.{Shows}
-use Rattle.papaya_histories.proofs.Given.Follows.Steps.{went_to, made_so, is_inside, DidSo, OfNoRow}
+use Rattle.papaya_histories.proofs.Given.Follows.Steps.{went_to, made_so, DidSo, OfNoRow}
 use Rattle.papaya_histories.proofs.Given.Spots.Steps.{stayed_calm}
 use Rattle.papaya_settles.specs.Hand.{in_hand, NotesInHand}
 use Rattle.papaya_settles.specs.Owed.{HandGoes, CallsGoInHand}
@@ -105,6 +105,5 @@ module _ (K V : Type 0) (same : K → K → Bool) (hash : ℕ → K → ℕ) whe
       by (sum2, end, machine_is, told_is, still, stayed) =
           let to = went_to same hash name m known s old new at_old shown map i (Counting x) here said leads in
           let none : in_hand known to.1 ≡ [] = ap (in_hand known) machine_is in
-          let calm = stayed_calm same hash m known s old new at_old name shown map i to.0 to.2 (name i) (made_so same hash name m known s old new at_old shown map i (Counting x) here said leads)
-          (is_inside same hash name m known s old new at_old shown map i (Counting x) here said leads) still in
+          let calm = stayed_calm same hash m known s old new at_old name shown map i to.0 to.2 (name i) (made_so same hash name m known s old new at_old shown map i (Counting x) here said leads) still in
           (KeepsOwed (all_calm _ calm.calm).0 none, subst (NotesInHand known) (sym machine_is) tt, λ ended. none)

@@ -7,6 +7,7 @@ use Rattle.papaya_histories.specs.Given.SeizeWords.Mem.{Mem, word_at}
 use Rattle.papaya_histories.specs.Given.SeizeWords.Op.{Found, Stored, Exchanged, Made, Taken, Roomed}
 use Rattle.papaya_histories.specs.Given.SeizeWords.Word.{block_in}
 use Rattle.papaya_histories.proofs.Given.SeizeWords.OneOwner.Operations.{loaded}
+use Rattle.papaya_histories.specs.Given.Seize.World.{IsInside}
 use Rattle.papaya_histories.specs.Given.Tables.Chunks.{is_incremental}
 use Rattle.papaya_histories.specs.Given.Tables.declared.node.Node.{Node}
 use Rattle.papaya_histories.specs.Given.Tables.declared.setting.Setting.{Setting}
@@ -70,7 +71,8 @@ abbrev pub GoesOrHas : {K V : Type 0} → Copier × Outcome (Node K V) Table →
 GoesOrHas e = (has_unlinked e.0.stands ≡ false) ⊎ (e.1 ≡ outcome.Goes)
 
 module _ {K V : Type 0} (same : K → K → Bool) (hash : ℕ → K → ℕ) (name : ℕ → List ℕ) (m : Moment K V) (known : Known) (s : Scene K V) (old new : Held K V) (at_old : IsAt same hash old s)
-    (shown : Shows same name m known s) (map i : ℕ) (u : UnderWay K V K) (under_way : s.calls map i ≡ Some u) (said : Progress (Node K V)) (leads : StepLeads same hash i said s old new) where
+    (shown : Shows same name m known s) (map i : ℕ) (u : UnderWay K V K) (under_way : s.calls map i ≡ Some u) (said : Progress (Node K V)) (leads : StepLeads same hash i said s old new)
+    (inside : IsInside (s.world.uses (slot_of i))) where
   abbrev st : Standing K
   st = (went_to same hash name m known s old new at_old shown map i u under_way said leads).0
 
@@ -99,7 +101,7 @@ module _ {K V : Type 0} (same : K → K → Bool) (hash : ℕ → K → ℕ) (na
   here_each = each same hash name m known s old at_old shown map i st there u under_way
 
   here_sight : IsSight c st.blocks (st.sights (slot_of i))
-  here_sight = is_sight same hash name m known s old at_old shown map i st there u under_way
+  here_sight = is_sight same hash name m known s old at_old shown map i st there u under_way inside
 
   is_map : IsMapIn same st.hash setting s.world c blocks
   is_map = map_seen same st.hash setting s.world c st.blocks (st.sights (slot_of i)) (map_in_slot same st.hash st.setting s.world c st.blocks (slot_of i) here_each.ground.map) here_sight

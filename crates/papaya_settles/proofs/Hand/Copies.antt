@@ -1,6 +1,7 @@
 -- A step of a call that copies pairs, none of a row: what its copier has in hand goes with the effects of the step, and the call has that in hand.
 use Rattle.std.specs.Prelude.{◌≡◌, ℕ, ◌==◌, Bool, true, false, List, [], ◌∷◌, Some, None, if◌then◌else◌}
 use Rattle.std.proofs.Common.{refl, sym, subst, ◌∙◌, inl, inr}
+use Rattle.papaya_histories.specs.Given.Seize.World.{IsInside}
 use Rattle.papaya_histories.specs.Given.Tables.declared.node.Node.{Node}
 use Rattle.papaya_histories.specs.Given.Tables.declared.table.Table.{Table}
 use Rattle.papaya_histories.specs.Given.Resize.Copier.{copier_plan}
@@ -67,16 +68,16 @@ module _ {K V : Type 0} (same : K → K → Bool) (hash : ℕ → K → ℕ) (na
   effects = effects_of (acts.Call i map) known new.changed
 
   -- its copier has taken the step, and the call has in hand what that has, if that has tables in hand or goes on; and once it has ended, it has nothing
-  pub copying_goes : OfNoRow same hash name m known s old new at_old shown map i u under_way said leads u to.4.did
+  pub copying_goes : IsInside (s.world.uses (slot_of i)) → OfNoRow same hash name m known s old new at_old shown map i u under_way said leads u to.4.did
       → (p : Copier) → KnowsTables same st.hash s.world i (in_slot st.setting (slot_of i)) st.chart (seen_by st.blocks (st.sights (slot_of i))) p → (IsRowOfCopier p.stands → ⊥)
       → in_hand known (machine_of u) ≡ tables_in_hand known p p.stands → NotesTables known p p.stands → (r : Copier × Outcome (Node K V) Table)
       → StepsTold K V (Copier × Outcome (Node K V) Table) old.memory changed.Nothing (copier_plan to.0.hash p) new.memory new.changed r
       → (GoesOrHas r → (in_hand known to.1 ≡ tables_in_hand known r.0 r.0.stands) × (NotesTables known r.0 r.0.stands → NotesInHand known to.1))
       → (has_ended said ≡ true → in_hand known to.1 ≡ []) → ((n : ℕ) → TakesPair effects n → ⊥) → (is_promoting p.stands ≡ false → (t : TableTurn) → effects ≡ effect.Promoted t ∷ [] → ⊥)
       → HandGoes K V same hash m known s old new map i u said under_way leads
-  copying_goes own p knows row before notes r steps came ended no_pair no_table =
-      let goes : CopierGoes same hash name m known s old new at_old shown map i u under_way said leads p knows r =
-      copier_goes same hash name m known s old new at_old shown map i u under_way said leads p knows r row notes
+  copying_goes inside own p knows row before notes r steps came ended no_pair no_table =
+      let goes : CopierGoes same hash name m known s old new at_old shown map i u under_way said leads inside p knows r =
+      copier_goes same hash name m known s old new at_old shown map i u under_way said leads inside p knows r row notes
       (λ other. leaves same hash name m known s old new at_old shown map i u under_way said leads own no_pair (no_table other)) steps in
       let it = came goes.2 in (
         subst (λ (l : List Thing). OwesGo m effects l (in_hand known to.1)) (sym before)

@@ -33,7 +33,7 @@ use Rattle.papaya_histories.specs.Given.Effects.Known.{Known}
 use Rattle.papaya_histories.specs.Given.Effects.declared.acting.Acting.TheVariants as acts
 use Rattle.papaya_histories.specs.Given.Finishes.Maps.{Standing}
 use Rattle.papaya_histories.specs.Given.Follows.Shows.{Shows}
-use Rattle.papaya_histories.proofs.Given.Follows.Steps.{WentTo, went_to, OfNoRow}
+use Rattle.papaya_histories.proofs.Given.Follows.Steps.{WentTo, went_to, is_inside, OfNoRow}
 use Rattle.papaya_histories.proofs.Given.Others.Outcomes.{told_in}
 use Rattle.papaya_settles.specs.Hand.{tables_in_hand, in_hand_of_call, in_hand, NotesTables, NotesOfCall, NotesInHand}
 use Rattle.papaya_settles.specs.InHand.{TakesPair, pair_in_calling}
@@ -124,7 +124,8 @@ module _ {K V : Type 0} (same : K → K → Bool) (hash : ℕ → K → ℕ) (na
 
     goes_so : Goes
     goes_so =
-        copying_goes same hash name m known s old new at_old shown map i (OnKey x) under_way said leads own p its row before noted r steps
+        copying_goes same hash name m known s old new at_old shown map i (OnKey x) under_way said leads
+        (is_inside same hash name m known s old new at_old shown map i (OnKey x) under_way said leads) own p its row before noted r steps
         (λ has. (ap (in_hand known) machine_is ∙ (came.0 has).0, λ n. subst (NotesInHand known) (sym machine_is) ((came.0 has).1 n)))
         (λ ended. ap (in_hand known) machine_is ∙ came.1 (ap has_ended (sym said_is) ∙ ended)) no_pair
         (λ no. no_promotion same hash name m known s old new at_old shown map i (OnKey x) under_way said leads (call_plan same same to.0.hash x.call) inner.0

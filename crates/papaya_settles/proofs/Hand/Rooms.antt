@@ -45,7 +45,7 @@ use Rattle.papaya_histories.specs.Given.Effects.Known.{Known}
 use Rattle.papaya_histories.specs.Given.Effects.declared.acting.Acting.TheVariants as acts
 use Rattle.papaya_histories.specs.Given.Finishes.Maps.{Standing}
 use Rattle.papaya_histories.specs.Given.Follows.Shows.{Shows}
-use Rattle.papaya_histories.proofs.Given.Follows.Steps.{WentTo, went_to, OfNoRow}
+use Rattle.papaya_histories.proofs.Given.Follows.Steps.{WentTo, went_to, is_inside, OfNoRow}
 use Rattle.papaya_histories.proofs.Given.Others.Outcomes.{told_in}
 use Rattle.papaya_settles.specs.Hand.{in_hand_of_room, in_hand, NotesOfRoom, NotesInHand}
 use Rattle.papaya_settles.specs.InHand.{TakesPair}
@@ -217,7 +217,8 @@ module _ {K V : Type 0} (same : K → K → Bool) (hash : ℕ → K → ℕ) (na
       let machine : to.1 ≡ kinds.Reserve (reserves.copied x.reserve d.0).0 = machine_is ∙ ap (λ (z : Reserve × Outcome (Node K V) Unit). kinds.Reserve z.0) d.1 in
       let says : said ≡ of_outcome (reserves.copied x.reserve d.0).1 =
       ap (λ (z : Machine K V K × Progress (Node K V)). z.1) inner.1 ∙ ap (λ (z : Reserve × Outcome (Node K V) Unit). of_outcome z.1) d.1 in
-      copying_goes same hash name m known s old new at_old shown map i (ForRoom x) under_way said leads own copier (subst KnowsOf is knows) (λ row. no_row (subst IsRowOfReserve (sym is) row))
+      copying_goes same hash name m known s old new at_old shown map i (ForRoom x) under_way said leads
+      (is_inside same hash name m known s old new at_old shown map i (ForRoom x) under_way said leads) own copier (subst KnowsOf is knows) (λ row. no_row (subst IsRowOfReserve (sym is) row))
       (ap (in_hand_of_room known) is) (subst (NotesOfRoom known) is notes) d.0 d.2
       (λ has. (ap (in_hand known) machine ∙ (came.0 has).0, λ n. subst (NotesInHand known) (sym machine) ((came.0 has).1 n)))
       (λ ended. ap (in_hand known) machine ∙ came.1 (ap has_ended (sym says) ∙ ended)) no_pair

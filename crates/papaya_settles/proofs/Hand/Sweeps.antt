@@ -48,7 +48,7 @@ use Rattle.papaya_histories.specs.Given.Effects.Known.{Known}
 use Rattle.papaya_histories.specs.Given.Effects.declared.acting.Acting.TheVariants as acts
 use Rattle.papaya_histories.specs.Given.Finishes.Maps.{Standing}
 use Rattle.papaya_histories.specs.Given.Follows.Shows.{Shows}
-use Rattle.papaya_histories.proofs.Given.Follows.Steps.{WentTo, went_to, DidSo, OfNoRow}
+use Rattle.papaya_histories.proofs.Given.Follows.Steps.{WentTo, went_to, is_inside, DidSo, OfNoRow}
 use Rattle.papaya_histories.proofs.Given.Others.Outcomes.{told_in}
 use Rattle.papaya_settles.specs.Counts.{counts_in_sweeping, is_to_count, shard_for}
 use Rattle.papaya_settles.specs.Hand.{thing_as, things_at, in_hand_of_sweep, in_hand, IsPairRole, NotesPair, NotesOfSweep, NotesInHand}
@@ -326,7 +326,8 @@ module _ {K V : Type 0} (same : K → K → Bool) (hash : ℕ → K → ℕ) (na
       let machine : to.1 ≡ kinds.Sweep (sweeps.copied x.sweep d.0).0 = machine_is ∙ ap (λ (z : Sweep × Swept (Node K V)). kinds.Sweep z.0) d.1 in
       let says : said ≡ of_swept (sweeps.copied x.sweep d.0).1 =
       ap (λ (z : Machine K V K × Progress (Node K V)). z.1) inner.1 ∙ ap (λ (z : Sweep × Swept (Node K V)). of_swept z.1) d.1 in
-      copying_goes same hash name m known s old new at_old shown map i (OverAll x) under_way said leads own copier (subst KnowsOf is knows) (λ row. no_row (subst IsRowOfSweep (sym is) row))
+      copying_goes same hash name m known s old new at_old shown map i (OverAll x) under_way said leads
+      (is_inside same hash name m known s old new at_old shown map i (OverAll x) under_way said leads) own copier (subst KnowsOf is knows) (λ row. no_row (subst IsRowOfSweep (sym is) row))
       (ap (in_hand_of_sweep known) is) (subst (NotesOfSweep known) is notes) d.0 d.2
       (λ has. (ap (in_hand known) machine ∙ (came.0 has).0, λ n. subst (NotesInHand known) (sym machine) ((came.0 has).1 n)))
       (λ ended. ap (in_hand known) machine ∙ came.1 (ap has_ended (sym says) ∙ ended)) (none_taken (subst IsNoTry (sym is) tt))

@@ -113,6 +113,7 @@ module _ {K V Q : Type 0} (same : K → K → Bool) (hash : K → ℕ) (asks : Q
       together = together2;
       rows = λ i other. a.rows i;
       lone = record { idle = a.alone.idle; point = begun_lone (is_incremental setting.mode) c a.alone.tables keys pair call begun };
+      inside = together2.inside 0 (OnKey it) has2;
       of_root = of_root (together2.stand 0 (OnKey it) has2);
     }
 

@@ -170,6 +170,7 @@ module _ {K V Q : Type 0} (same : K → K → Bool) (hash : K → ℕ) (asks : Q
         idle = a.lone.idle;
         point = replied_so (StandsAlone (is_incremental setting.mode) c) (λ x. tables) (λ word new. tables) tables (λ p. tables) (λ p. tables) (λ end none. tables) (λ end none. tables) u.call asks_at is told;
       };
+      inside = together2.inside 0 (OnKey after) has2;
       of_root = of_root (together2.stand 0 (OnKey after) has2);
     }
 

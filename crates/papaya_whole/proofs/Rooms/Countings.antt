@@ -30,7 +30,7 @@ module _ {K V Q : Type 0} (same : K → K → Bool) (hash : K → ℕ) (asks : Q
   pub countings_begin_alone : CountingsBeginAlone V same hash asks setting slot
   countings_begin_alone w c blocks sights a =
       let it = summing (in_slot setting (slot 0)) in
-      let together2 = countings_begin_together same hash asks setting slot w c blocks sights a.calls 0 a.together (a.none 0) (a.rows 0) a.inside (λ blocking. one_few a.calls a.none) in
+      let together2 = countings_begin_together same hash asks setting slot w c blocks sights a.calls 0 a.together (a.none 0) (a.rows 0) (λ blocking. one_few a.calls a.none) in
       let has2 : with_at a.calls 0 (Some (Counting it)) 0 ≡ Some (Counting it) = at_same a.calls 0 (Some (Counting it)) 0 refl in
       record {
         calls = with_at a.calls 0 (Some (Counting it));
@@ -38,6 +38,7 @@ module _ {K V Q : Type 0} (same : K → K → Bool) (hash : K → ℕ) (asks : Q
         others = λ i other. at_other a.calls 0 (Some (Counting it)) i other ∙ a.none i;
         together = together2;
         rows = λ i other. a.rows i;
+        inside = a.inside;
         lone = a.alone;
         of_root = of_none w c (seen_by blocks (sights (slot 0))) it (together2.stand 0 (Counting it) has2);
       }
@@ -56,6 +57,7 @@ module _ {K V Q : Type 0} (same : K → K → Bool) (hash : K → ℕ) (asks : Q
             others = λ i other. at_other a.calls 0 (next_of_counting sum2 end) i other ∙ a.others i other;
             together = together2;
             rows = a.rows;
+            inside = a.inside;
             lone = a.lone;
             of_root = of_none w c (seen_by blocks (sights (slot 0))) sum2 (together2.stand 0 (Counting sum2) has2);
           }
@@ -72,7 +74,7 @@ module _ {K V Q : Type 0} (same : K → K → Bool) (hash : K → ℕ) (asks : Q
           | inl e ↦ ap w.row e ∙ rests
           | inr other ↦ a.rows i other
         ];
-        inside = a.together.inside 0 (Counting sum) a.has;
+        inside = a.inside;
         alone = a.lone;
       }
 

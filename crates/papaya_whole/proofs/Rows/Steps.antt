@@ -117,6 +117,7 @@ module _ {K V Q : Type 0} (same : K → K → Bool) (hash : K → ℕ) (asks : Q
           together = led.together;
           rows = row_other;
           lone = alone;
+          inside = led.together.inside 0 (OnKey after) has2;
           of_root = of_root (led.together.stand 0 (OnKey after) has2);
         }
 

@@ -251,6 +251,7 @@ module _ {K V Q : Type 0} (same : K → K → Bool) (hash : K → ℕ) (asks : Q
               together = together2;
               rows = λ i other. row_same i ∙ a.rows i other;
               lone = alone;
+              inside = together2.inside 0 (OverAll after) has2;
               of_root = of_root_then (together2.stand 0 (OverAll after) has2);
             }
 

@@ -63,6 +63,7 @@ module _ {K V Q : Type 0} (same : K → K → Bool) (hash : K → ℕ) (asks : Q
         together = together2;
         rows = a.rows;
         lone = record { idle = a.lone.idle; point = alone_at b c tables x.sweep.stands copies };
+        inside = together2.inside 0 (OverAll x) has2;
         of_root = of_root (together2.stand 0 (OverAll x) has2);
       }
     where

@@ -4,7 +4,7 @@ use Rattle.std.proofs.Common.{refl, ap, sym, subst, ◌∙◌, inl, inr}
 use Rattle.papaya_callers.specs.Given.SeizeWords.declared.at.At.{At}
 use Rattle.papaya_callers.specs.Given.SeizeWords.declared.at.At.TheVariants.{Root, Used, Word}
 use Rattle.papaya_callers.specs.Given.SeizeWords.Mem.{Mem, word_at}
-use Rattle.papaya_callers.specs.Given.Seize.World.{World, with_at}
+use Rattle.papaya_callers.specs.Given.Seize.World.{World, IsInside, with_at}
 use Rattle.papaya_callers.specs.Given.Tables.declared.node.Node.{Node}
 use Rattle.papaya_callers.specs.Given.Tables.declared.node.Node.TheVariants as node
 use Rattle.papaya_callers.specs.Given.Tables.declared.setting.Setting.{Setting}
@@ -67,12 +67,13 @@ module _ {K Q : Type 0} (V : Type 0) (same : K → K → Bool) (asks : Q → K �
     abbrev its : Setting
     its = in_slot s.setting (slot i)
 
-    module _ (m2 : Mem (Node K V)) (Told : World (Node K V) → Chart K → Blocks → Type 0) (went : Went same s.hash (in_slot s.setting (slot i)) i w s.chart (seen_by s.blocks (s.sights (slot i))) m2 Told) where
+    module _ (in_it : IsInside (w.uses (slot i))) (m2 : Mem (Node K V)) (Told : World (Node K V) → Chart K → Blocks → Type 0)
+        (went : Went same s.hash (in_slot s.setting (slot i)) i w s.chart (seen_by s.blocks (s.sights (slot i))) m2 Told) where
       word_stays : (at : At) (word : ℕ) → word_at w.memory at ≡ Some word → (InFootprint its i w s.chart seen at → ⊥) → word_at went.w2.memory at ≡ Some word
       word_stays at word is apart = ap (λ (x : Mem (Node K V)). word_at x at) went.memory ∙ went.frame.words at word is apart
 
       out : (b : ℕ) → IsKnownBlock s.chart seen b → IsOut (w.hand b)
-      out b known = known_out same s.hash asks s.setting slot w s.chart s.blocks s.sights (calls m) (all.standing.each m s here) b (seen_known V same asks batch_size slot w maps calls all.standing m s here i u has b known)
+      out b known = known_out same s.hash asks s.setting slot w s.chart s.blocks s.sights (calls m) (all.standing.each m s here) b (seen_known V same asks batch_size slot w maps calls all.standing m s here i u has in_it b known)
 
       -- a counter that is being filled in is none of the step
       module _ (j : ℕ) (b : Beginning K) (makes : makers j ≡ Some b) (made : HasMade b.machine.stands) (h : HasOwnCounter w j b.machine.setting) where
@@ -121,7 +122,7 @@ module _ {K Q : Type 0} (V : Type 0) (same : K → K → Bool) (asks : Q → K �
             record {
               step = to.step;
               together = makings_on V same asks batch_size roots slot w maps calls makers all to.step.went.w2
-                  (call_leaves V same asks batch_size roots slot w maps calls makers all m s here i (OnKey u) has m2 _ to.step.went) _ _ to.together
+                  (call_leaves V same asks batch_size roots slot w maps calls makers all m s here i (OnKey u) has ((all.standing.each m s here).inside i (OnKey u) has) m2 _ to.step.went) _ _ to.together
                   (settings V same asks batch_size roots slot w maps calls makers all m s here i (OnKey u) has to.step.went.c2 to.step.blocks2 to.step.sights2)
                   (nones V same asks batch_size roots slot w maps calls makers all m s here i (OnKey u) has to.step.went.c2 to.step.blocks2 to.step.sights2)
                   (still_alone V same asks batch_size roots slot w maps calls makers all m i _ (no_maker V same asks batch_size roots slot w maps calls makers all m i (OnKey u) has));

@@ -12,6 +12,7 @@ use Rattle.papaya_callers.specs.Given.Rule.Words.{Blocks}
 use Rattle.papaya_callers.specs.Given.Rule.Maps.{spot_of}
 use Rattle.papaya_callers.specs.Given.Rule.InWorld.{KeepsBlocks, IsKnownBlock, IsMapIn}
 use Rattle.papaya_callers.proofs.Given.Rule.History.LeavingOn.{leaves_same}
+use Rattle.papaya_callers.specs.Given.Points.FactsIdle.{IsIdle}
 use Rattle.papaya_callers.specs.Given.Points.Others.{OthersStep}
 use Rattle.papaya_callers.specs.Given.Points.Steps.{AreLawful}
 use Rattle.papaya_callers.specs.Kept.{IsMaking, IsKeptBy, IsWithin}
@@ -19,7 +20,8 @@ use Rattle.papaya_callers.specs.Sights.{Sight, seen_by}
 use Rattle.papaya_callers.specs.Together.{UnderWay, in_slot, CameAbout, Ground, Stands, Together}
 use Rattle.papaya_callers.proofs.Rows.Behind.{LaySo, pair_on}
 use Rattle.papaya_callers.proofs.Sights.Seen.{map_seen}
-use Rattle.papaya_callers.proofs.Together.Fits.{map_in_slot, stands_on}
+use Rattle.papaya_callers.proofs.Together.FactsOn.{idle_on}
+use Rattle.papaya_callers.proofs.Together.Fits.{unless_on, map_in_slot, stands_of, stands_on}
 
 module _ {K V Q : Type 0} (setting : Setting) (w : World (Node K V)) (c : Chart K) (blocks : Blocks) (calls : ℕ → Option (UnderWay K V Q)) (same : K → K → Bool) (hash : K → ℕ) (w2 : World (Node K V)) where
   -- Such a step: the map stands as it stood, what may be looked at of it is kept and held as it was, nothing came behind a linked table, and no row onto
@@ -90,17 +92,23 @@ module _ {K V Q : Type 0} (same : K → K → Bool) (hash : K → ℕ) (asks : Q
   part : (v : World (Node K V)) (j : ℕ) → IsMapIn same hash setting v c blocks → IsInside (w.uses (slot j)) → IsMapIn same hash (in_slot setting (slot j)) v c (seen_by blocks (sights (slot j)))
   part v j m in_it = map_seen same hash (in_slot setting (slot j)) v c blocks (sights (slot j)) (map_in_slot same hash setting v c blocks (slot j) m) (s.ground.sight (slot j) in_it).0
 
+  idle : (j : ℕ) (u : UnderWay K V Q) → calls j ≡ Some u → IsIdle same hash w j (in_slot setting (slot j)) c blocks → IsIdle same hash w2 j (in_slot setting (slot j)) c blocks
+  idle j u has =
+      idle_on same hash asks (in_slot setting (slot j)) j lawful w w2 c c blocks blocks (map_in_slot same hash setting w c blocks (slot j) s.ground.map)
+      (map_in_slot same hash setting w2 c blocks (slot j) spared.map) s.ground.moments (step j u has (record { tables = blocks.table_known; pairs = blocks.pair_known }) (λ n was known. known))
+      (λ blocking t made l. l)
+
   stand : (j : ℕ) (u : UnderWay K V Q) → calls j ≡ Some u → Stands V same hash asks setting slot w2 c (seen_by blocks (sights (slot j))) j u
   stand j u has =
-      let in_it = s.inside j u has in
-      stands_on same hash asks setting slot lawful j w w2 c c (seen_by blocks (sights (slot j))) (seen_by blocks (sights (slot j))) (part w j s.ground.map in_it) (part w2 j spared.map in_it)
-      s.ground.moments (step j u has (sights (slot j)) (s.ground.sight (slot j) in_it).0.pairs) (λ blocking t made l. l) j (inl refl) (spared.rows j u has) u (s.stand j u has)
+      stands_of same hash asks setting slot (w.uses (slot j)) j w w2 c c blocks blocks (sights (slot j)) (sights (slot j)) (spared.rows j u has) (idle j u has) u (s.inside j u has)
+      (λ in_it. stands_on same hash asks setting slot lawful j w w2 c c (seen_by blocks (sights (slot j))) (seen_by blocks (sights (slot j))) (part w j s.ground.map in_it) (part w2 j spared.map in_it)
+      s.ground.moments (step j u has (sights (slot j)) (s.ground.sight (slot j) in_it).0.pairs) (λ blocking t made l. l) j (inl refl) (spared.rows j u has) u) (s.stand j u has)
 
   -- it stands on
   pub stays : Together V same hash asks setting slot w2 c blocks sights calls
   stays = record {
     ground = ground;
-    inside = λ j u has. spared.inside (slot j) (s.inside j u has);
+    inside = λ j u has. unless_on u (spared.inside (slot j)) (s.inside j u has);
     stand = stand;
     idle = λ j none. s.idle j none;
     onto = λ t j l made on. s.onto t j l made (spared.onto t j l made on);

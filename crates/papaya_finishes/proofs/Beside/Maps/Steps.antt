@@ -33,26 +33,23 @@ module _ {K Q : Type 0} (V : Type 0) (same : K → K → Bool) (asks : Q → K �
       by None e = refl
       by (Some v) e = absurd (ne (all.once n m i (not_none v (calls n i) e) (not_none u (calls m i) has)))
 
-  -- it is inside its section
-  pub its_inside : IsInside (w.uses (slot i))
-  its_inside = (all.each m s here).inside i u has
-
-  -- what it sees is the map's
-  pub seen_known : (b : ℕ) → IsKnownBlock s.chart (seen_by s.blocks (s.sights (slot i))) b → IsKnownBlock s.chart s.blocks b
-  seen_known b (inl (t, made, seen, is)) = inl (t, made, ((all.each m s here).ground.sight (slot i) its_inside).0.tables t made seen, is)
-  seen_known b (inr (n, was, seen, is)) = inr (n, was, ((all.each m s here).ground.sight (slot i) its_inside).0.pairs n was seen, is)
+  -- what it sees is the map's, if it is inside its section
+  pub seen_known : IsInside (w.uses (slot i)) → (b : ℕ) → IsKnownBlock s.chart (seen_by s.blocks (s.sights (slot i))) b → IsKnownBlock s.chart s.blocks b
+  seen_known in_it b (inl (t, made, seen, is)) = inl (t, made, ((all.each m s here).ground.sight (slot i) in_it).0.tables t made seen, is)
+  seen_known in_it b (inr (n, was, seen, is)) = inr (n, was, ((all.each m s here).ground.sight (slot i) in_it).0.pairs n was seen, is)
 
   -- each other map stands on
-  module _ (m2 : Mem (Node K V)) (Told : World (Node K V) → Chart K → Blocks → Type 0) (went : Went same s.hash (in_slot s.setting (slot i)) i w s.chart (seen_by s.blocks (s.sights (slot i))) m2 Told) where
+  module _ (in_it : IsInside (w.uses (slot i))) (m2 : Mem (Node K V)) (Told : World (Node K V) → Chart K → Blocks → Type 0)
+      (went : Went same s.hash (in_slot s.setting (slot i)) i w s.chart (seen_by s.blocks (s.sights (slot i))) m2 Told) where
     pub others_stand : (n : ℕ) (r : Standing K) → n ≢ m → maps n ≡ Some r → StandsSo V same asks size slot went.w2 r (calls n)
     others_stand n r ne is =
         stays same r.hash asks r.setting slot (all.fit n r is).0 w r.chart r.blocks r.sights (calls n) (all.each n r is) went.w2
         (other_spared same r.hash asks r.setting slot w r.chart r.blocks r.sights (calls n) (all.each n r is) s.hash (in_slot s.setting (slot i)) i (no_other n ne) s.chart (seen_by s.blocks (s.sights (slot i))) m2
         (all.roots n m r s ne is here) (all.counters n m r s ne is here) ((all.fit m s here).2 ∙ sym (all.fit n r is).2)
         (all.each m s here).ground.counter
-        (λ b seen. known_out same s.hash asks s.setting slot w s.chart s.blocks s.sights (calls m) (all.each m s here) b (seen_known b seen))
-        (λ b seen. known_owner same s.hash asks s.setting slot w s.chart s.blocks s.sights (calls m) (all.each m s here) b (seen_known b seen))
-        (slot i) its_inside
+        (λ b seen. known_out same s.hash asks s.setting slot w s.chart s.blocks s.sights (calls m) (all.each m s here) b (seen_known in_it b seen))
+        (λ b seen. known_owner same s.hash asks s.setting slot w s.chart s.blocks s.sights (calls m) (all.each m s here) b (seen_known in_it b seen))
+        (slot i) in_it
         (went_as same s.hash (in_slot s.setting (slot i)) i w s.chart (seen_by s.blocks (s.sights (slot i))) m2 Told (λ w3 c3 b3. Unit {0}) (λ w3 c3 b3 map moved blocks_same told. tt) went))
 
   -- where its own map stands after it, and the others do, all maps stand
@@ -86,7 +83,7 @@ module _ {K Q : Type 0} (V : Type 0) (same : K → K → Bool) (asks : Q → K �
     step = step;
     together = all_together V same asks size slot w maps calls all m s here i (OnKey u) has step.went.w2 step.went.c2 step.blocks2 step.sights2
         (next_of (record { keys = u.keys; pair = u.pair; began = u.began; change = change_told V same s.hash asks s.setting slot step.went.told; call = p2 }) progress)
-        step.together (others_stand V same asks size slot w maps calls all m s here i (OnKey u) has m2 _ step.went);
+        step.together (others_stand V same asks size slot w maps calls all m s here i (OnKey u) has ((all.each m s here).inside i (OnKey u) has) m2 _ step.went);
   }
 
 module _ {K Q : Type 0} (V : Type 0) (same : K → K → Bool) (asks : Q → K → Bool) (size : ℕ) (slot : ℕ → ℕ) where
