@@ -1,10 +1,8 @@
 -- What the step of a row leaves to another one that counts a list down: what that one has in hand. Where a move says less, no entry was written.
-use Rattle.std.proofs.Common.{◌≡◌, ℕ, ◌+◌, Bool, true, false, List, [], ◌⊎◌, inl, inr, refl, arith, ap, sym, subst, ◌∙◌}
+use Rattle.std.proofs.Common.{◌≡◌, ℕ, Bool, true, false, List, [], ◌⊎◌, inl, inr, refl, arith, ap, sym, subst, ◌∙◌}
 use Rattle.seize.specs.declared.rows.settle.Settle.{Settle}
-use Rattle.seize.specs.declared.rows.defer.Deferring.{Deferring}
 use Rattle.seize.specs.declared.rows.defer.Deferring.TheVariants as deferring
-use Rattle.seize.specs.World.{Row, Rests, Registers, Enters, Settles, Leaves, Defers, Frees, Use, Request, Register', Enter', Leave', LeaveOwned, Refresh}
-use Rattle.seize.specs.World.{Unregister', Retire, Flush, Defer'}
+use Rattle.seize.specs.World.{Row, Registers, Leaves, Defers, Frees, Use}
 use Rattle.seize_alone.proofs.Given.SeizeMoves.State.Ghost.{State, Entry, put}
 use Rattle.seize_alone.proofs.Given.SeizeMoves.State.Moves
 use Rattle.seize_alone.proofs.Given.SeizeMoves.Sets.Unmoved.{Unmoved}
@@ -12,7 +10,7 @@ use Rattle.seize_rule.proofs.Points.Passed.{passed_rest}
 use Rattle.seize_rule.proofs.Points.Told.{Part, part, batch_now, Told, Stays, Holds, HoldsNone, Gives, Begins, Appends, Fills, Skips, Passes, Finds, Marks}
 use Rattle.seize_rule.proofs.Points.Told.{GivesUp, Closes, Pushes, Misses, Sums, SumsLast, Drains, DrainsNone, Takes, TakesLast, Joins, Counts, CountsLast}
 use Rattle.seize_rule.proofs.Rows.Told.{RowTold, SettleGoes, SettleEnds, LeaveSwaps, LeaveGoes, LeaveSettled, LeaveEnds, RegisterLooks, RegisterRefused}
-use Rattle.seize_rule.proofs.Rows.Told.{RegisterTakes, RegisterEnters, EntersSlot, FreesSlot, DeferGoes, DeferPushes, DeferEnds, BeginTold, IsSettled}
+use Rattle.seize_rule.proofs.Rows.Told.{RegisterTakes, RegisterEnters, EntersSlot, FreesSlot, DeferGoes, DeferPushes, DeferEnds, IsSettled}
 use Rattle.seize_rule.proofs.Rows.Told.{IsLooking, list_off}
 
 -- what a row has in hand is the same

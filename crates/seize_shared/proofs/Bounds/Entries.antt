@@ -3,7 +3,7 @@ use Rattle.std.specs.Prelude.{◌%◌, ◌^◌, Option, Some, None, Ok, Err, IsS
 use Rattle.std.proofs.Common.{◌≡◌, ℕ, ◌+◌, Bool, true, false, cond, eqb, refl, ap, sym, subst, eqb-true, ◌∙◌}
 use Rattle.seize_words.specs.declared.at.At.{At}
 use Rattle.seize_words.specs.declared.at.At.TheVariants.{Root, Used, Slot, Entry, Word}
-use Rattle.seize_words.specs.Mem.{Mem, Took, Gives, after, value_at, word_at, with_word, with_block}
+use Rattle.seize_words.specs.Mem.{Mem, Took, Gives, after, value_at, word_at, with_word}
 use Rattle.seize_words.specs.Op.{Op, Out, Load, Store, Swap, Add, Or, Exchange, Make, Take, Rewrite, Room, Found, Stored, Exchanged, Made, Taken, Roomed}
 use Rattle.seize_words.specs.Plan.{Steps}
 use Rattle.seize.specs.declared.states.TheConstants.{LINK, NEXT}
@@ -23,7 +23,6 @@ use Rattle.seize.specs.Register as register
 use Rattle.seize.specs.Defer as defer
 use Rattle.seize.specs.World.{World, Row, Rests, Registers, Enters, Settles, Leaves, Defers, Frees, Event, Begin, Step, Makes, Drops, Links, Parts, Unlinks}
 use Rattle.seize.specs.World.{Rewrites, Operates, Ends, LeavesOver, Relinks, Clears, Chooses, Happens, Steps', IsOwn, IsOwnOp, Hand, Making, LeftTo, Handed}
-use Rattle.seize.specs.World.{made_by}
 use Rattle.seize.specs.Sequence.{IsBetween}
 use Rattle.seize_rule.proofs.Words.Named.{words_of, wrote, made_one, taken_one, write_apart}
 use Rattle.seize_rule.proofs.Words.View.{View, view_next}

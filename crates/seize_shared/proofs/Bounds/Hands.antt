@@ -1,5 +1,5 @@
 -- What a row that counts a list down has in hand is as long as before, whatever one event of the others is.
-use Rattle.std.specs.Prelude.{◌≢◌, Option, IsSome}
+use Rattle.std.specs.Prelude.{Option, IsSome}
 use Rattle.std.proofs.Common.{◌≡◌, ℕ, ◌+◌, ◌<◌, Bool, true, false, cond, eqb, List, [], ◌∷◌, length, inl, inr, refl, arith, ap, sym, subst, ◌∙◌}
 use Rattle.seize_words.specs.declared.at.At.TheVariants.{Entry as EntryWord}
 use Rattle.seize_words.specs.Mem.{Mem, word_at}
@@ -22,7 +22,7 @@ use Rattle.seize_rule.proofs.Words.Chains.{Chain, blocks_of, count_first}
 use Rattle.seize_rule.proofs.Words.Sums.{blocks_long}
 use Rattle.seize_rule.proofs.Words.There.{entry_there}
 use Rattle.seize_rule.proofs.Words.View.{View, view}
-use Rattle.seize_rule.proofs.Words.Shows.{Extra, Shows, Spot, Nowhere, Unspent, On, InHands, SpotLife, stands, is_in_hands, lives}
+use Rattle.seize_rule.proofs.Words.Shows.{Extra, Spot, Nowhere, Unspent, On, InHands, SpotLife, stands, is_in_hands, lives}
 use Rattle.seize_rule.proofs.Points.Aside.{HandFits, is_handed}
 use Rattle.seize_rule.proofs.Points.Known.{FitsAt, Fits, bare, list_word}
 use Rattle.seize_rule.proofs.Rows.Known.{FitsRow, FitsLeave}
@@ -30,12 +30,12 @@ use Rattle.seize_rule.proofs.Rows.SizesKept.{happens_sized}
 use Rattle.seize_rule.proofs.Rows.Told.{BeginTold}
 use Rattle.seize_rule.proofs.World.Begins.{begins_next}
 use Rattle.seize_rule.proofs.World.Events.{leaves_over_good}
-use Rattle.seize_rule.proofs.World.Good.{Good, Next, StillGood}
+use Rattle.seize_rule.proofs.World.Good.{Good}
 use Rattle.seize_rule.proofs.World.Kept.{IsStill, steps_next, users_good}
 use Rattle.seize_ends.proofs.Batches.Rows.{begins_memory}
 use Rattle.seize_alone.proofs.Histories.Reached.{Reached}
 use Rattle.seize_shared.specs.Bounds.{IsOfOthers}
-use Rattle.seize_shared.proofs.Bounds.Beside.{SameHand, HandAside, row_same}
+use Rattle.seize_shared.proofs.Bounds.Beside.{SameHand, row_same}
 use Rattle.seize_shared.proofs.Bounds.Machine.{IsCounting}
 use Rattle.seize_shared.proofs.Bounds.Passing.{event_row}
 use Rattle.seize_shared.proofs.Bounds.Entries.{link_of, SameLinks, users_links, row_links}

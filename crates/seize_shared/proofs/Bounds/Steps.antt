@@ -1,10 +1,10 @@
 -- A step of a settling that only counts: it goes on only counting, and has less to do, unless it was over.
-use Rattle.std.specs.Prelude.{if◌then◌else◌, ◌==◌, ◌/◌, ◌%◌, ◌^◌, ◌-◌, IsSome, Option, Some, None, nat_lt}
+use Rattle.std.specs.Prelude.{if◌then◌else◌, ◌==◌, ◌/◌, ◌%◌, ◌^◌, ◌-◌, IsSome, Option, Some}
 use Rattle.std.proofs.Common.{◌≡◌, ℕ, ◌+◌, ◌<◌, ◌≤◌, Bool, true, false, length, refl, arith, ap, sym, subst, ◌∙◌}
 use Rattle.seize_words.specs.declared.at.At.TheVariants.{Entry}
 use Rattle.seize_words.specs.Mem.{Mem, Took, value_at, word_at, with_word}
 use Rattle.seize_words.specs.Op.{Found}
-use Rattle.seize_words.specs.Plan.{Steps, Ends, Now}
+use Rattle.seize_words.specs.Plan.{Steps, Ends}
 use Rattle.seize_words.proofs.OneOwner.Operations.{loaded, added, taken as taken_value}
 use Rattle.seize.specs.declared.states.TheConstants.{NEXT, LINK, FIRST, COUNT}
 use Rattle.seize.specs.declared.rows.settle.Settle.{Settle}
@@ -23,7 +23,7 @@ use Rattle.seize_rule.proofs.Points.Told.{Plain, Pushing, Draining, part, part_a
 use Rattle.seize_rule.proofs.Points.Known.{FitsAt, Fits, Downs, bare, list_word}
 use Rattle.seize_rule.proofs.Points.Down.{word_of_list}
 use Rattle.seize_shared.specs.Bounds.{ArePlain}
-use Rattle.seize_shared.proofs.Bounds.Machine.{IsCounting, OnlyCounts, Onward, onward_counts, without_counts, point, weight, less_loose, no_more, taken_less}
+use Rattle.seize_shared.proofs.Bounds.Machine.{IsCounting, OnlyCounts, onward_counts, without_counts, point, weight, less_loose, no_more, taken_less}
 use Rattle.seize_shared.proofs.Bounds.Hands.{chains_agree, hand_at}
 
 module _ {T : Type 0} (defers : T → Option ℕ) (n most j : ℕ) (mem mem2 : Mem T) (m : State) (x : Extra) (c : Settle) (end : Settle × Settled T) (m2 : State)

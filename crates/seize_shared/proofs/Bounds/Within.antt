@@ -1,5 +1,5 @@
 -- A row that counts a list down has done so within a number of its own steps, whatever the others do meanwhile.
-use Rattle.std.specs.Prelude.{◌/◌, ◌^◌, Option}
+use Rattle.std.specs.Prelude.{◌^◌, Option}
 use Rattle.std.proofs.Common.{◌≡◌, ℕ, zero, suc, ◌+◌, ◌*◌, ◌<◌, ◌≤◌, Bool, true, false, List, [], ◌∷◌, length, inl, inr, refl, arith, ap, sym, subst, ◌∙◌}
 use Rattle.seize_words.specs.Mem.{Mem, Took, value_at}
 use Rattle.seize_words.specs.Plan.{Steps}
@@ -14,11 +14,10 @@ use Rattle.seize.specs.declared.rows.leave.Leaving.{Leaving}
 use Rattle.seize.specs.declared.rows.leave.Leaving.TheVariants as leaving
 use Rattle.seize.specs.Settle.{counting_down, settle_plan}
 use Rattle.seize.specs.Leave.{standing, settled, plan_at}
-use Rattle.seize.specs.World.{World, Row, Rests, Registers, Enters, Settles, Leaves, Defers, Frees, Use, Event, Step, Steps', leaves_on, at_start}
+use Rattle.seize.specs.World.{World, Row, Leaves, Use, Event, Step, Steps', leaves_on, at_start}
 use Rattle.seize_alone.proofs.Given.SeizeMoves.State.Ghost.{State, Life, is_doomed}
 use Rattle.seize_rule.proofs.Words.Sums.{list_below}
 use Rattle.seize_rule.proofs.Words.Shows.{lives}
-use Rattle.seize_rule.proofs.Words.View.{view}
 use Rattle.seize_rule.proofs.Points.Told.{part, Told}
 use Rattle.seize_rule.proofs.Points.Stepped.{IsGoing}
 use Rattle.seize_rule.proofs.Points.Settle.{is_over, settle_steps}
@@ -33,7 +32,7 @@ use Rattle.seize_rule.proofs.World.Start.{start_good, words_good}
 use Rattle.seize_alone.proofs.Histories.Reached.{Reached, runs_reached}
 use Rattle.seize_shared.specs.Bounds.{HasCounted, IsCountedAt, ArePlain, Meanwhile, CountsWithin, ListsAreCounted}
 use Rattle.seize_shared.proofs.Bounds.Machine.{IsCounting, OnlyCounts, point, each, weight}
-use Rattle.seize_shared.proofs.Bounds.Hands.{SameLong, After, after_event, fits_in}
+use Rattle.seize_shared.proofs.Bounds.Hands.{SameLong, after_event, fits_in}
 use Rattle.seize_shared.proofs.Bounds.Steps.{step_less}
 
 -- no more blocks than there are numbers
