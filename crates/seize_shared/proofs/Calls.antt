@@ -61,8 +61,8 @@ module _ {T : Type 0} (defers : T → Option ℕ) (fixed : Fixed) (id : ℕ) (v 
   pub may_clear : (r : ℕ) → v ≡ Inside slot Nothing → r < fixed.roots → MayMake (Swap (Root r) 0)
   may_clear r is lt = by_view (Inside slot Nothing) (Swap (Root r) 0) is (roots_are_cleared T defers r fixed id slot lt)
 
-  pub may_see : (r : ℕ) → v ≡ Inside slot Nothing → r < fixed.roots → MayMake (Load (Root r))
-  may_see r is lt = by_view (Inside slot Nothing) (Load (Root r)) is (roots_are_seen T defers Nothing r fixed id slot tt lt)
+  pub may_see : (has : Has) (r : ℕ) → IsLooking has → v ≡ Inside slot has → r < fixed.roots → MayMake (Load (Root r))
+  may_see has r looks is lt = by_view (Inside slot has) (Load (Root r)) is (roots_are_seen T defers has r fixed id slot looks lt)
 
   pub is_shown : (has : Has) (b : ℕ) → v ≡ Inside slot has → Names has b → Shown (Holds defers fixed) id v b
   is_shown has b is names = subst (λ (x : View T). Shown (Holds defers fixed) id x b) (sym is) (known_are_shown T defers has b fixed id slot names)
@@ -143,8 +143,11 @@ module _ {T : Type 0} (defers : T → Option ℕ) (v w : View T) (slot : ℕ) wh
   removed_told r word old is so =
       let k = subst (λ (x : View T). told defers x (Swap (Root r) word) (Found old) w) is so in k.2 ∙ ap (Inside slot) k.1
 
-  pub seen_told : (r word : ℕ) → v ≡ Inside slot Nothing → told defers v (Load (Root r)) (Found word) w → w ≡ Inside slot (seen_in word)
-  seen_told r word is so = let k = subst (λ (x : View T). told defers x (Load (Root r)) (Found word) w) is so in k.2 ∙ ap (Inside slot) k.1
+  pub seen_told : (has : Has) (r word : ℕ) → IsLooking has → v ≡ Inside slot has → told defers v (Load (Root r)) (Found word) w → w ≡ Inside slot (seen_in word)
+  seen_told Nothing r word looks is so = let k = subst (λ (x : View T). told defers x (Load (Root r)) (Found word) w) is so in k.2 ∙ ap (Inside slot) k.1
+  seen_told (Seen b) r word looks is so = let k = subst (λ (x : View T). told defers x (Load (Root r)) (Found word) w) is so in k.2 ∙ ap (Inside slot) k.1
+  seen_told (Made b) r word looks is so = absurd looks
+  seen_told (Cut b) r word looks is so = absurd looks
 
   -- what the taking of a list tells
   pub list_told : (size : ℕ) (way : Becomes) (word head : ℕ) → v ≡ Leaves slot size way → told defers v (Swap (Slot slot HEAD) word) (Found head) w

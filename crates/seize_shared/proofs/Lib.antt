@@ -15,3 +15,4 @@ pub mod Roots
 pub mod Calls
 pub mod Drives
 pub mod Seen
+pub mod Standing

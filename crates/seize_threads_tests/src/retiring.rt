@@ -29,14 +29,14 @@ pub(crate) struct Counted {
 
 impl Counted {
     /// The value of a place. There is none where the table has too many owners.
-    fn of(drops: &Table, place: usize) -> Option<Counted> {
+    pub(crate) fn of(drops: &Table, place: usize) -> Option<Counted> {
         let drops = Arc::try_clone(drops).ok()?;
         Some(Counted { place, drops })
     }
 }
 
 /// How often the value of a place was dropped.
-fn dropped(drops: &Table, place: usize) -> u64 {
+pub(crate) fn dropped(drops: &Table, place: usize) -> u64 {
     match drops.get(place) {
         Some(count) => count.load(SeqCst),
         None => 0,
