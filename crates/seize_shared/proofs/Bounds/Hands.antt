@@ -218,8 +218,8 @@ module _ {T : Type 0} (defers : T → Option ℕ) (size j : ℕ) where
           (still_open g.0.state g.1)
 
       begun_open : (i : ℕ) (request : Request) (m : State) → BeginTold (LAST_SLOT + 1) i request r.good.state m → StaysOpen j w r.good.state m
-      begun_open i (Retire s b) m told t lt none = ap (λ (q : State). q.blocks (q.open_batch t)) told
-      begun_open i (Flush s) m told t lt none = ap (λ (q : State). q.blocks (q.open_batch t)) told
+      begun_open i (Retire s b) m told = λ t lt none. ap (λ (q : State). q.blocks (q.open_batch t)) told
+      begun_open i (Flush s) m told = λ t lt none. ap (λ (q : State). q.blocks (q.open_batch t)) told
       begun_open i (Register' enters) m told = still_open m told
       begun_open i (Enter' s) m told = still_open m told
       begun_open i (Leave' s) m told = still_open m told

@@ -36,7 +36,7 @@ module _ {T : Type 0} (defers : T → Option ℕ) (size : ℕ) (w : World T) (go
     where
       by : (row : Row) → FitsRow (LAST_SLOT + 1) i (view defers w.memory) good.state good.extra (length w.memory.slots) row → WorksThere (LAST_SLOT + 1) row
       by (Settles c) f = (known_at (LAST_SLOT + 1) i (view defers w.memory) good.state good.extra c c.stands f).common.slot_lt
-      by (Leaves c) f settle e =
+      by (Leaves c) f = λ settle e.
           let k = subst (λ (p : Leaving). FitsLeave (LAST_SLOT + 1) i (view defers w.memory) good.state good.extra c.slot c.becomes c.frees p) e f in
           (k.slot_is, (known_at (LAST_SLOT + 1) i (view defers w.memory) good.state good.extra settle settle.stands k.settles).common.slot_lt)
       by Rests f = tt

@@ -163,7 +163,7 @@ module _ {T : Type 0} (defers : T → Option ℕ) (size j : ℕ) where
     meanwhile (e ∷ events) w v r is plain h =
         let a = after_event defers size j (Leaves c) d (leaving_fits defers size j c d stands_at) w h.0 r is e h.1 h.2 in
         let b = meanwhile events h.0 v a.reached a.row_is h.3 h.5 in
-        record { reached = b.reached; row = b.row; plain = b.plain; long = b.long.loose ∙ a.long.loose; left = b.long.left ∙ a.long.left }
+        record { reached = b.reached; row = b.row; plain = b.plain; long = b.long ∙ a.long.loose; left = b.left ∙ a.long.left }
 
   -- a settling that has nothing left, and only counts, is over
   none_left : (p : Settling) → IsCounting p → point p ≡ 0 → p ≡ at.Over

@@ -102,11 +102,12 @@ pub record Onward (d c : Settle) : Type 0 where
   pub pending : d.pending ≡ c.pending
 
 module _ (c : Settle) (put : c.put_first ≡ 0) (list : c.list ≡ 0) where
-  stays : (p : Settling) → IsTrying p → point c.lost p ≤ 6 → ((m : State) → SeenAt m c p) → is_popped p ≡ false → Onward (standing c p) c
+  stays : (p : Settling) → IsTrying p → point c.lost p ≤ 6 → ((m : State) → HasSeen m (standing c p)) → is_popped p ≡ false → Onward (standing c p) c
   stays p is le seen popped =
       record { tries = record { trying = is; put = put; list = list }; near = omega (arith, le); seen = seen; popped = popped; pending = refl }
 
-  tried : (p : Settling) → IsTrying p → point c.lost p ≤ cond c.flushing TRYING 0 + 6 → ((m : State) → SeenAt m c p) → is_popped p ≡ false
+  tried : (p : Settling) → IsTrying p → point c.lost p ≤ cond c.flushing TRYING 0 + 6
+      → ((m : State) → HasSeen m (record c { flushing = false; stands = p })) → is_popped p ≡ false
       → Onward (record c { flushing = false; stands = p }) c
   tried p is le seen popped =
       record { tries = record { trying = is; put = put; list = list }; near = omega (arith, le); seen = seen; popped = popped; pending = refl }

@@ -21,7 +21,7 @@ use Rattle.seize_rule.proofs.Words.Chains.{Chain, last_of, waiting}
 use Rattle.seize_rule.proofs.Words.View.{View, view, view_count}
 use Rattle.seize_rule.proofs.Words.Shows.{Extra, Shows}
 use Rattle.seize_rule.proofs.Points.Told.{Part, Plain, Pushing, Draining, part, part_at, flush_part, Told, onward_part}
-use Rattle.seize_rule.proofs.Points.Known.{Fits, Counts as CountsKnown, bare}
+use Rattle.seize_rule.proofs.Points.Known.{FitsAt, Fits, Counts as CountsKnown, bare}
 use Rattle.seize_shared.specs.Bounds.{ArePlain}
 use Rattle.seize_shared.proofs.Bounds.Hands.{chains_agree}
 use Rattle.seize_shared.proofs.Bounds.Knows.{is_popped, known_at}
@@ -74,7 +74,7 @@ module _ {T : Type 0} (defers : T → Option ℕ) (j : ℕ) (mem mem2 : Mem T) (
       less p (plans.onward d) o e a.tries (a.seen m2) (omega (arith, near, h))
 
   -- as it is, at another point
-  goes : (p q : Settling) (d : Settle) → end ≡ (plans.standing d q, Goes) → IsTrying q → d.put_first ≡ 0 → d.list ≡ 0 → SeenAt m2 d q
+  goes : (p q : Settling) (d : Settle) → end ≡ (plans.standing d q, Goes) → IsTrying q → d.put_first ≡ 0 → d.list ≡ 0 → HasSeen m2 (plans.standing d q)
       → owes j m2 + (ahead d.held d.flushing + point d.lost q) < before p → Less p
   goes p q d e is put list seen h = less p (plans.standing d q) Goes e (record { trying = is; put = put; list = list }) seen h
 
@@ -91,7 +91,7 @@ module _ {T : Type 0} (defers : T → Option ℕ) (j : ℕ) (mem mem2 : Mem T) (
 
   -- the batch is held
 
-  pub sees_less : c.held ≡ false → Told (LAST_SLOT + 1) j c (part_at c.flushing at.Sees) m end.0 m2 → Steps Took value_at mem (plans.sees c) mem2 end → Less at.Sees
+  sees_less : c.held ≡ false → Told (LAST_SLOT + 1) j c (part_at c.flushing at.Sees) m end.0 m2 → Steps Took value_at mem (plans.sees c) mem2 end → Less at.Sees
   sees_less held told st =
       let d = loaded mem (plans.seen c) (Slot c.slot BATCH) mem2 end st in
       one d.0 (d.0 == HELD) refl (word_found mem (Slot c.slot BATCH) d.0 d.1) d.2 d.3
@@ -106,7 +106,7 @@ module _ {T : Type 0} (defers : T → Option ℕ) (j : ℕ) (mem mem2 : Mem T) (
           (sym now ∙ word_is (LAST_SLOT + 1) (view defers mem2) m2 x2 c.slot v2 there (λ z. eqb-false w HELD q (sym now ∙ z)))
           (omega (arith, a))
 
-  pub holds_less : c.held ≡ false → SeenAt m c at.Holds → Told (LAST_SLOT + 1) j c (part_at c.flushing at.Holds) m end.0 m2
+  holds_less : c.held ≡ false → SeenAt m c at.Holds → Told (LAST_SLOT + 1) j c (part_at c.flushing at.Holds) m end.0 m2
       → Steps Took value_at mem (plans.holds c) mem2 end → Less at.Holds
   holds_less held seen told st = elim (exchanged mem (plans.taken_hold c) (Slot c.slot BATCH) c.last HELD mem2 end st) as (λ _. Less at.Holds) [
     | inl d ↦ (let a = owes_less at.Holds (λ z k. flush_not c.flushing z) told in
@@ -118,7 +118,7 @@ module _ {T : Type 0} (defers : T → Option ℕ) (j : ℕ) (mem mem2 : Mem T) (
 
   -- a block goes into it
 
-  pub pops_less : (c.pending ≡ 0 → ⊥) → Told (LAST_SLOT + 1) j c Plain m end.0 m2 → Steps Took value_at mem (plans.pops c) mem2 end → Less at.Pops
+  pops_less : (c.pending ≡ 0 → ⊥) → Told (LAST_SLOT + 1) j c Plain m end.0 m2 → Steps Took value_at mem (plans.pops c) mem2 end → Less at.Pops
   pops_less some told st =
       let d = loaded mem (plans.popped c) (Entry (c.pending / 2048) NEXT) mem2 end st in
       one d.0 (c.last == 0) (owes_less at.Pops (λ z k. cc z) told) d.3
@@ -133,7 +133,7 @@ module _ {T : Type 0} (defers : T → Option ℕ) (j : ℕ) (mem mem2 : Mem T) (
           let k = ap (λ (t : Bool). cond t (TRYING + 1) 5) (ne_eqb c.pending 0 some) in
           goes at.Pops (at.Firsts c.pending) (record c { pending = next }) e tt tries.put tries.list tt (omega (arith, a, k))
 
-  pub firsts_less : (block : ℕ) → Told (LAST_SLOT + 1) j c (part_at c.flushing (at.Firsts block)) m end.0 m2
+  firsts_less : (block : ℕ) → Told (LAST_SLOT + 1) j c (part_at c.flushing (at.Firsts block)) m end.0 m2
       → Steps Took value_at mem (plans.firsts c block) mem2 end → Less (at.Firsts block)
   firsts_less block told st =
       let d = loaded mem (plans.first_read c block) (Entry (c.last / 2048) FIRST) mem2 end st in
@@ -149,13 +149,13 @@ module _ {T : Type 0} (defers : T → Option ℕ) (j : ℕ) (mem mem2 : Mem T) (
           let k = ap (λ (t : Bool). cond t (TRYING + 1) 5) (ne_eqb block 0 (eqb-false block 0 q)) in
           goes (at.Firsts block) (at.Batches block) (record c { first = first }) e tt tries.put tries.list tt (omega (arith, a, k))
 
-  pub batches_less : (block : ℕ) → Told (LAST_SLOT + 1) j c Plain m end.0 m2 → Steps Took value_at mem (plans.batches c block) mem2 end → Less (at.Batches block)
+  batches_less : (block : ℕ) → Told (LAST_SLOT + 1) j c Plain m end.0 m2 → Steps Took value_at mem (plans.batches c block) mem2 end → Less (at.Batches block)
   batches_less block told st =
       let d = stored {R = Settle × Settled T} mem (λ out. plans.goes c (at.Ends block)) (Entry (block / 2048) FIRST) c.first mem2 end st in
       let a = owes_less (at.Batches block) (λ z k. cc z) told in
       goes (at.Batches block) (at.Ends block) c d.1 tt tries.put tries.list tt (omega (arith, a))
 
-  pub ends_less : (block : ℕ) → Told (LAST_SLOT + 1) j c Plain m end.0 m2 → Steps Took value_at mem (plans.ends c block) mem2 end → Less (at.Ends block)
+  ends_less : (block : ℕ) → Told (LAST_SLOT + 1) j c Plain m end.0 m2 → Steps Took value_at mem (plans.ends c block) mem2 end → Less (at.Ends block)
   ends_less block told st =
       let d = stored {R = Settle × Settled T} mem (λ out. plans.goes c (plans.ended c block)) (Entry (block / 2048) NEXT) 0 mem2 end st in
       one (c.last == 0) (owes_less (at.Ends block) (λ z k. cc z) told) d.1
@@ -164,7 +164,7 @@ module _ {T : Type 0} (defers : T → Option ℕ) (j : ℕ) (mem mem2 : Mem T) (
       one true a e = goes (at.Ends block) (at.Counts block) c e tt tries.put tries.list tt (omega (arith, a))
       one false a e = goes (at.Ends block) (at.Appends block) c e tt tries.put tries.list tt (omega (arith, a))
 
-  pub appends_less : (block : ℕ) → Told (LAST_SLOT + 1) j c Plain m end.0 m2 → Steps Took value_at mem (plans.appends c block) mem2 end → Less (at.Appends block)
+  appends_less : (block : ℕ) → Told (LAST_SLOT + 1) j c Plain m end.0 m2 → Steps Took value_at mem (plans.appends c block) mem2 end → Less (at.Appends block)
   appends_less block told st =
       let d = stored {R = Settle × Settled T} mem (λ out. plans.goes c (at.Counts block)) (Entry (c.last / 2048) NEXT) block mem2 end st in
       let a = owes_less (at.Appends block) (λ z k. cc z) told in
@@ -192,7 +192,7 @@ module _ {T : Type 0} (defers : T → Option ℕ) (j : ℕ) (mem mem2 : Mem T) (
         let long = ap (length) r.putting.pending in
         omega (arith, agree, long)
 
-    pub counts_less : Told (LAST_SLOT + 1) j c Plain m end.0 m2 → Steps Took value_at mem (plans.counts c block) mem2 end → Less (at.Counts block)
+    counts_less : Told (LAST_SLOT + 1) j c Plain m end.0 m2 → Steps Took value_at mem (plans.counts c block) mem2 end → Less (at.Counts block)
     counts_less told st =
         let d = added mem (plans.counted c block) (Entry (c.first / 2048) COUNT) 1 mem2 end st in
         one (nat_lt ((d.0 + 1) % 2 ^ 64) c.batch_size) ((d.0 + 1) % 2 ^ 64) (rw (d.1) refl) d.2
@@ -226,7 +226,7 @@ module _ {T : Type 0} (defers : T → Option ℕ) (j : ℕ) (mem mem2 : Mem T) (
       one true e = goes p (at.Scans (slot + 1) block marks) c e tt tries.put tries.list tt (omega (arith, a, far, lt))
       one false e = goes p (at.Closes marks) c e tt tries.put tries.list tt (omega (arith, a, near))
 
-  pub scans_less : (slot block marks : ℕ) → slot < LAST_SLOT + 1 → Told (LAST_SLOT + 1) j c (part_at c.flushing (at.Scans slot block marks)) m end.0 m2
+  scans_less : (slot block marks : ℕ) → slot < LAST_SLOT + 1 → Told (LAST_SLOT + 1) j c (part_at c.flushing (at.Scans slot block marks)) m end.0 m2
       → Steps Took value_at mem (plans.scans c slot block marks) mem2 end → Less (at.Scans slot block marks)
   scans_less slot block marks lt told st =
       let d = loaded mem (plans.scanned c slot block marks) (Slot slot HEAD) mem2 end st in
@@ -241,14 +241,14 @@ module _ {T : Type 0} (defers : T → Option ℕ) (j : ℕ) (mem mem2 : Mem T) (
       one false false true a e = on (at.Scans slot block marks) c Goes e tries.put tries.list (omega (arith, a))
       one false false false a e = goes (at.Scans slot block marks) (at.Marks slot block marks) c e tt tries.put tries.list tt (omega (arith, a))
 
-  pub marks_less : (slot block marks : ℕ) → Told (LAST_SLOT + 1) j c (part_at c.flushing (at.Marks slot block marks)) m end.0 m2
+  marks_less : (slot block marks : ℕ) → Told (LAST_SLOT + 1) j c (part_at c.flushing (at.Marks slot block marks)) m end.0 m2
       → Steps Took value_at mem (plans.marks_block c slot block marks) mem2 end → Less (at.Marks slot block marks)
   marks_less slot block marks told st =
       let d = stored {R = Settle × Settled T} mem (λ out. plans.goes c (at.Marked slot block marks)) (Entry (block / 2048) LINK) slot mem2 end st in
       let a = owes_less (at.Marks slot block marks) (λ z k. cc z) told in
       goes (at.Marks slot block marks) (at.Marked slot block marks) c d.1 tt tries.put tries.list tt (omega (arith, a))
 
-  pub marked_less : (slot block marks : ℕ) → slot < LAST_SLOT + 1 → Told (LAST_SLOT + 1) j c (part_at c.flushing (at.Marked slot block marks)) m end.0 m2
+  marked_less : (slot block marks : ℕ) → slot < LAST_SLOT + 1 → Told (LAST_SLOT + 1) j c (part_at c.flushing (at.Marked slot block marks)) m end.0 m2
       → Steps Took value_at mem (plans.marked c slot block marks) mem2 end → Less (at.Marked slot block marks)
   marked_less slot block marks lt told st =
       let d = loaded mem (plans.marked_next c slot marks) (Entry (block / 2048) NEXT) mem2 end st in
@@ -256,7 +256,7 @@ module _ {T : Type 0} (defers : T → Option ℕ) (j : ℕ) (mem mem2 : Mem T) (
       let w : (marks + 1) % 2 ^ 64 ≤ marks + 1 = omega arith in
       behind_less (at.Marked slot block marks) slot d.0 ((marks + 1) % 2 ^ 64) lt d.3 a (omega (arith, w)) (omega (arith, w, lt))
 
-  pub closes_less : (marks : ℕ) → Told (LAST_SLOT + 1) j c (part_at c.flushing (at.Closes marks)) m end.0 m2
+  closes_less : (marks : ℕ) → Told (LAST_SLOT + 1) j c (part_at c.flushing (at.Closes marks)) m end.0 m2
       → Steps Took value_at mem (plans.closes c marks) mem2 end → Less (at.Closes marks)
   closes_less marks told st =
       let d = stored {R = Settle × Settled T} mem (λ out. plans.to (plans.closed c marks)) (Entry (c.first / 2048) COUNT) 0 mem2 end st in
@@ -269,7 +269,7 @@ module _ {T : Type 0} (defers : T → Option ℕ) (j : ℕ) (mem mem2 : Mem T) (
 
   -- its entries are put
 
-  pub reads_less : (block left pushed : ℕ) → Told (LAST_SLOT + 1) j c Pushing m end.0 m2 → Steps Took value_at mem (plans.reads c block left pushed) mem2 end
+  reads_less : (block left pushed : ℕ) → Told (LAST_SLOT + 1) j c Pushing m end.0 m2 → Steps Took value_at mem (plans.reads c block left pushed) mem2 end
       → Less (at.Reads block left pushed)
   reads_less block left pushed told st =
       let d = loaded mem (plans.slot_read c block left pushed) (Entry (block / 2048) LINK) mem2 end st in
@@ -277,7 +277,7 @@ module _ {T : Type 0} (defers : T → Option ℕ) (j : ℕ) (mem mem2 : Mem T) (
       (λ z k. still_pushing (record c { lost = 0; stands = at.Links block left pushed d.0 ACTIVE }) Goes d.3 refl k) told in
       goes (at.Reads block left pushed) (at.Links block left pushed d.0 ACTIVE) (record c { lost = 0 }) d.3 tt tries.put tries.list tt (omega (arith, a))
 
-  pub links_less : (block left pushed slot head : ℕ) → Told (LAST_SLOT + 1) j c Pushing m end.0 m2
+  links_less : (block left pushed slot head : ℕ) → Told (LAST_SLOT + 1) j c Pushing m end.0 m2
       → Steps Took value_at mem (plans.links c block left pushed slot head) mem2 end → Less (at.Links block left pushed slot head)
   links_less block left pushed slot head told st =
       let d = stored {R = Settle × Settled T} mem (λ out. plans.goes c (at.Pushes block left pushed slot head)) (Entry (block / 2048) LINK) head mem2 end st in
@@ -300,7 +300,7 @@ module _ {T : Type 0} (defers : T → Option ℕ) (j : ℕ) (mem mem2 : Mem T) (
             let a = owes_less (at.Pushes block left pushed slot head) (λ z y. still_pushing (plans.standing c (at.Sums k)) Goes e refl y) told in
             goes (at.Pushes block left pushed slot head) (at.Sums k) c e tt tries.put tries.list tt (omega (arith, a, some))
 
-    pub pushes_less : Steps Took value_at mem (plans.pushes c block left pushed slot head) mem2 end → Here
+    pushes_less : Steps Took value_at mem (plans.pushes c block left pushed slot head) mem2 end → Here
     pushes_less st = elim (exchanged mem (plans.push_told c block left pushed slot) (Slot slot HEAD) head block mem2 end st) as (λ _. Here) [
       | inl d ↦ pushed_less ((pushed + 1) % 2 ^ 64) d.3
       | inr d ↦ one d.0 (nat_lt d.0 ACTIVE) (nat_lt c.lost MOST_LOST) refl d.3
@@ -317,7 +317,7 @@ module _ {T : Type 0} (defers : T → Option ℕ) (j : ℕ) (mem mem2 : Mem T) (
             (λ z y. still_pushing (record c { lost = c.lost + 1; stands = at.Links block left pushed slot w }) Goes e refl y) told in
             goes (at.Pushes block left pushed slot head) (at.Links block left pushed slot w) (record c { lost = c.lost + 1 }) e tt tries.put tries.list tt (omega (arith, a, lt))
 
-  pub pushed_goes : (block left pushed : ℕ) → Told (LAST_SLOT + 1) j c Pushing m end.0 m2 → Steps Took value_at mem (plans.pushed_next c block left pushed) mem2 end
+  pushed_goes : (block left pushed : ℕ) → Told (LAST_SLOT + 1) j c Pushing m end.0 m2 → Steps Took value_at mem (plans.pushed_next c block left pushed) mem2 end
       → Less (at.Pushed block left pushed)
   pushed_goes block left pushed told st =
       let d = loaded mem (plans.next_pushed c left pushed) (Entry (block / 2048) NEXT) mem2 end st in
@@ -325,7 +325,7 @@ module _ {T : Type 0} (defers : T → Option ℕ) (j : ℕ) (mem mem2 : Mem T) (
       goes (at.Pushed block left pushed) (at.Reads d.0 left pushed) c d.3 tt tries.put tries.list tt (omega (arith, a))
 
   -- the batch may come to nothing at once
-  pub sums_less : (pushed : ℕ) → Told (LAST_SLOT + 1) j c Pushing m end.0 m2 → Steps Took value_at mem (plans.sums c pushed) mem2 end → Less (at.Sums pushed)
+  sums_less : (pushed : ℕ) → Told (LAST_SLOT + 1) j c Pushing m end.0 m2 → Steps Took value_at mem (plans.sums c pushed) mem2 end → Less (at.Sums pushed)
   sums_less pushed told st =
       let d = added mem (plans.summed c pushed) (Entry (c.first / 2048) COUNT) pushed mem2 end st in
       one ((d.0 + pushed) % 2 ^ 64 == 0) (no_more (LAST_SLOT + 1) j m m2 c Pushing end.0 none_loose none_put told).pending
@@ -339,7 +339,7 @@ module _ {T : Type 0} (defers : T → Option ℕ) (j : ℕ) (mem mem2 : Mem T) (
 
   -- a batch is reclaimed
 
-  pub nexts_less : Told (LAST_SLOT + 1) j c Plain m end.0 m2 → Steps Took value_at mem (plans.nexts defers c) mem2 end → Less at.Nexts
+  nexts_less : Told (LAST_SLOT + 1) j c Plain m end.0 m2 → Steps Took value_at mem (plans.nexts defers c) mem2 end → Less at.Nexts
   nexts_less told st =
       let d = loaded mem (plans.next_read defers c) (Entry (c.reclaiming / 2048) NEXT) mem2 end st in
       let q : (value : T) × (value_at mem (c.reclaiming / 2048) ≡ Some value) × Ends (value_at mem) (plans.drained_first c d.0 (defers value)) end = d.3 in
@@ -348,10 +348,10 @@ module _ {T : Type 0} (defers : T → Option ℕ) (j : ℕ) (mem mem2 : Mem T) (
       let a = owes_less at.Nexts (λ z k. cc z) told in
       goes at.Nexts (at.Takes d.0) c e tt tries.put tries.list tt (omega (arith, a))
 
-  pub takes_less : (next : ℕ) → c.flushing ≡ false → Told (LAST_SLOT + 1) j c Draining m end.0 m2 → Steps Took value_at mem (plans.takes c next) mem2 end → Less (at.Takes next)
+  takes_less : (next : ℕ) → c.flushing ≡ false → Told (LAST_SLOT + 1) j c Draining m end.0 m2 → Steps Took value_at mem (plans.takes c next) mem2 end → Less (at.Takes next)
   takes_less next once told st =
       let d = taken_value {R = Settle × Settled T} mem (plans.given_back c next) (c.reclaiming / 2048) mem2 end st in
-      one (next == 0) (c.put_first == 0) (ap (λ (k : ℕ). k == 0) tries.put) (c.pending == 0) d.3
+      one d.0 (next == 0) (c.put_first == 0) (ap (λ (k : ℕ). k == 0) tries.put) (c.pending == 0) d.3
     where
       pends : length (m2.pending j) ≤ length (m.pending j)
       pends = (no_more (LAST_SLOT + 1) j m m2 c Draining end.0 none_loose none_put told).pending
@@ -363,15 +363,42 @@ module _ {T : Type 0} (defers : T → Option ℕ) (j : ℕ) (mem mem2 : Mem T) (
           let b = pends in
           on (at.Takes next) (record c { reclaiming = next }) o e tries.put tries.list (omega (arith, a, b))
 
-      one : {value : T} (t u : Bool) → u ≡ true → (z : Bool)
+      one : (value : T) (t u : Bool) → u ≡ true → (z : Bool)
           → end ≡ ((if t then (if u then plans.onward (record c { reclaiming = next }) else (if z then plans.with_put (record c { reclaiming = next }) else record c { reclaiming = next; stands = at.Puts })) else plans.onward (record c { reclaiming = next })), Gave value)
           → Less (at.Takes next)
-      one {value} true true q z e = past (Gave value) e
-      one true false q z e = absurd (cc q)
-      one {value} false u q z e = past (Gave value) e
+      one value true true q z e = past (Gave value) e
+      one value true false q z e = absurd (cc q)
+      one value false u q z e = past (Gave value) e
 
-  pub gives_less : c.held ≡ true → Told (LAST_SLOT + 1) j c Plain m end.0 m2 → Steps Took value_at mem (plans.gives c) mem2 end → Less at.Gives
-  gives_less held told st =
+  gives_less : Told (LAST_SLOT + 1) j c Plain m end.0 m2 → Steps Took value_at mem (plans.gives c) mem2 end → Less at.Gives
+  gives_less told st =
       let d = stored {R = Settle × Settled T} mem (λ out. plans.to (record c { held = false; stands = at.Over })) (Slot c.slot BATCH) c.last mem2 end st in
       let a = owes_less at.Gives (λ z k. cc z) told in
       goes at.Gives at.Over (record c { held = false }) d.1 tt tries.put tries.list tt (omega (arith, a))
+
+  -- each point
+  pub step_less : (p : Settling) → IsTrying p → (p ≡ at.Over → ⊥) → SeenAt m c p → FitsAt (LAST_SLOT + 1) j (view defers mem) m x (bare c) p
+      → Told (LAST_SLOT + 1) j c (part_at c.flushing p) m end.0 m2 → Steps Took value_at mem (plans.plan_at defers c p) mem2 end → Less p
+  step_less at.Sees is ne seen r told st = sees_less r.retiring.holds told st
+  step_less at.Holds is ne seen r told st = holds_less r.retiring.holds seen told st
+  step_less at.Pops is ne seen r told st = pops_less r.some told st
+  step_less (at.Firsts block) is ne seen r told st = firsts_less block told st
+  step_less (at.Batches block) is ne seen r told st = batches_less block told st
+  step_less (at.Ends block) is ne seen r told st = ends_less block told st
+  step_less (at.Appends block) is ne seen r told st = appends_less block told st
+  step_less (at.Counts block) is ne seen r told st = counts_less block r told st
+  step_less (at.Scans slot block marks) is ne seen r told st = scans_less slot block marks r.lt told st
+  step_less (at.Marks slot block marks) is ne seen r told st = marks_less slot block marks told st
+  step_less (at.Marked slot block marks) is ne seen r told st = marked_less slot block marks r.lt told st
+  step_less (at.Closes marks) is ne seen r told st = closes_less marks told st
+  step_less (at.Reads block left pushed) is ne seen r told st = reads_less block left pushed told st
+  step_less (at.Links block left pushed slot head) is ne seen r told st = links_less block left pushed slot head told st
+  step_less (at.Pushes block left pushed slot head) is ne seen r told st =
+      let some = r.links.reads.shuts.left_is in pushes_less block left pushed slot head (omega (arith, some)) told st
+  step_less (at.Pushed block left pushed) is ne seen r told st = pushed_goes block left pushed told st
+  step_less (at.Sums pushed) is ne seen r told st = sums_less pushed told st
+  step_less at.Nexts is ne seen r told st = nexts_less told st
+  step_less (at.Takes next) is ne seen r told st = takes_less next r.backs.once told st
+  step_less at.Gives is ne seen r told st = gives_less told st
+  step_less at.Over is ne seen r told st = absurd (ne refl)
+  step_less _ is ne seen r told st = absurd is

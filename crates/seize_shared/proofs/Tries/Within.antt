@@ -40,7 +40,7 @@ use Rattle.seize_shared.proofs.Bounds.Knows.{Known, known_at, is_popped}
 use Rattle.seize_shared.proofs.Bounds.Opened.{WorksThere, works_there}
 use Rattle.seize_shared.proofs.Bounds.Within.{few_left, start_reached}
 use Rattle.seize_shared.proofs.Tries.Measure.{here, owes, OnlyTries, SeenAt, HasSeen}
-use Rattle.seize_shared.proofs.Tries.Steps.{step_less}
+use Rattle.seize_shared.proofs.Tries.Points.{step_less}
 
 -- a list whose word is the one that ends it is empty
 empty : (e : ℕ) → e < 2048 → (f : ℕ → ℕ) (w : ℕ) (l : List ℕ) → w ≡ e → Chain e f w l → l ≡ []
