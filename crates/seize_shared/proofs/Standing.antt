@@ -50,11 +50,11 @@ module _ {T : Type 0} (t : ℕ) where
   pub is_outside : (k : ℕ) (v : View T) → standing v ≡ Some (stands t false k) → v ≡ Outside t
   is_outside k (Outside s) e = ap Outside (same t s k 0 false false e).0
   is_outside k (Inside s Nothing) e = absurd (let p = (same t s k 0 true false e).1 in cc p)
-  is_outside k (Inside s (Seen b)) e = by (b == 0) e
+  is_outside k (Inside s (Seen b)) e = absurd (by (b == 0) e)
     where
-      by : (y : Bool) → (if y then None else Some (stands s true b)) ≡ Some (stands t false k) → Inside s (Seen b) ≡ Outside t
-      by true f = absurd (cc f)
-      by false f = absurd (let p = (same t s k b true false f).1 in cc p)
+      by : (y : Bool) → (if y then None else Some (stands s true b)) ≡ Some (stands t false k) → ⊥
+      by true f = cc f
+      by false f = let p = (same t s k b true false f).1 in cc p
   is_outside k (Inside s (Made b)) e = absurd (cc e)
   is_outside k (Inside s (Cut b)) e = absurd (cc e)
   is_outside k Rests e = absurd (cc e)
@@ -67,11 +67,12 @@ module _ {T : Type 0} (t : ℕ) where
 
   inside : (k : ℕ) (v : View T) → standing v ≡ Some (stands t true k) → (has : Has) × Knows has k × (v ≡ Inside t has)
   inside k (Inside s Nothing) e = let p = same t s k 0 true true e in (Nothing, sym p.2, ap (λ (n : ℕ). Inside n Nothing) p.0)
-  inside k (Inside s (Seen b)) e = by (b == 0) refl e
+  inside k (Inside s (Seen b)) e = by (Inside s (Seen b)) refl (b == 0) refl e
     where
-      by : (y : Bool) → (b == 0) ≡ y → (if y then None else Some (stands s true b)) ≡ Some (stands t true k) → (has : Has) × Knows has k × (Inside s (Seen b) ≡ Inside t has)
-      by true is f = absurd (cc f)
-      by false is f = let p = same t s k b true true f in (Seen b, (p.2, eqb-false b 0 is), ap (λ (n : ℕ). Inside n (Seen b)) p.0)
+      by : (v : View T) → v ≡ Inside s (Seen b) → (y : Bool) → (b == 0) ≡ y → (if y then None else Some (stands s true b)) ≡ Some (stands t true k)
+          → (has : Has) × Knows has k × (v ≡ Inside t has)
+      by v at true is f = absurd (cc f)
+      by v at false is f = let p = same t s k b true true f in (Seen b, (p.2, eqb-false b 0 is), at ∙ ap (λ (n : ℕ). Inside n (Seen b)) p.0)
   inside k (Outside s) e = absurd (let p = (same t s k 0 false true e).1 in cc p)
   inside k (Inside s (Made b)) e = absurd (cc e)
   inside k (Inside s (Cut b)) e = absurd (cc e)

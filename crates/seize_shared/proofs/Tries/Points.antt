@@ -110,7 +110,7 @@ module _ {T : Type 0} (defers : T → Option ℕ) (j : ℕ) (mem mem2 : Mem T) (
       → Steps Took value_at mem (plans.holds c) mem2 end → Less at.Holds
   holds_less held seen told st = elim (exchanged mem (plans.taken_hold c) (Slot c.slot BATCH) c.last HELD mem2 end st) as (λ _. Less at.Holds) [
     | inl d ↦ (let a = owes_less at.Holds (λ z k. flush_not c.flushing z) told in
-        let h = ap (λ (t : Bool). cond t 0 5) held in
+        let h = ap (λ (t : Bool). ahead t false) held in
         on at.Holds (record c { held = true }) Goes d.3 tries.put tries.list (omega (arith, a, h)))
     | inr d ↦ absurd (d.1.1 (sym (word_found mem (Slot c.slot BATCH) d.0 d.1.0)
         ∙ word_is (LAST_SLOT + 1) (view defers mem) m x c.slot v there (free held) ∙ sym seen))
