@@ -1,6 +1,6 @@
 -- No two rows settle on one slot, since no two seats have one.
-use Rattle.std.specs.Prelude.{◌≢◌, Option, Some, None}
-use Rattle.std.proofs.Common.{◌≡◌, ℕ, refl, sym, subst, ap}
+use Rattle.std.specs.Prelude.{Option, Some, None}
+use Rattle.std.proofs.Common.{◌≡◌, ℕ, refl, subst, ap}
 use Rattle.seize.specs.World.{World, Row, Use}
 use Rattle.seize.specs.World as world
 use Rattle.seize_acts.specs.Waits.{SettlesOn}

@@ -1,6 +1,6 @@
 -- What a call of the shared memory asks for: by what the seat knows, its turn or operation is next.
 use Rattle.std.specs.Prelude.{◌<◌, ◌≤◌, Option, Some, None, nat_lt, if◌then◌else◌}
-use Rattle.std.proofs.Common.{◌≡◌, ℕ, ◌^◌, ◌%◌, Bool, true, false, inl, inr, refl, sym, subst, ap, ◌∙◌, arith}
+use Rattle.std.proofs.Common.{◌≡◌, ℕ, ◌^◌, ◌%◌, Bool, true, false, refl, sym, subst, ap, ◌∙◌, arith}
 use Rattle.std.proofs.lemmas.Bool.{eq-eqb, ne_eqb}
 use Rattle.seize_words.specs.Op.{Op, Load, Swap, Make, Take, Found}
 use Rattle.seize_words.specs.Word.{block_in, link_to}

@@ -19,7 +19,7 @@ use Rattle.seize_alone.proofs.Given.SeizeMoves.Sets.Unmoved.{Unmoved}
 use Rattle.seize_rule.proofs.Words.Chains.{Chain, blocks_of, count_first, waiting}
 use Rattle.seize_rule.proofs.Words.Sums.{blocks_long}
 use Rattle.seize_rule.proofs.Words.There.{entry_there}
-use Rattle.seize_rule.proofs.Words.View.{View, view}
+use Rattle.seize_rule.proofs.Words.View.{view}
 use Rattle.seize_rule.proofs.Words.Shows.{Extra, Spot, Nowhere, Unspent, On, InHands, SpotLife, stands, is_in_hands, lives}
 use Rattle.seize_rule.proofs.Points.Aside.{HandFits, is_handed}
 use Rattle.seize_rule.proofs.Points.Known.{Fits, list_word}

@@ -1,6 +1,6 @@
 -- What a row that settles knows at each of its points of the words of its lists, and whether the first block to be retired is on its way into the batch.
 use Rattle.std.specs.Prelude.{not}
-use Rattle.std.proofs.Common.{◌≡◌, ℕ, ◌+◌, ◌<◌, Bool, true, false, cond, eqb, List, [], ◌∷◌, length, refl, arith, ap}
+use Rattle.std.proofs.Common.{◌≡◌, ℕ, ◌+◌, ◌<◌, Bool, true, false, eqb, List, [], ◌∷◌, length, refl, arith}
 use Rattle.seize.specs.declared.rows.settle.Settle.{Settle}
 use Rattle.seize.specs.declared.rows.settle.Settling.{Settling}
 use Rattle.seize.specs.declared.rows.settle.Settling.TheVariants as at

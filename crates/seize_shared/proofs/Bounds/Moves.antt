@@ -1,5 +1,5 @@
 -- What the moves of a row leave of what it has in hand: where it only tries its batch there is never more to be retired, and more to be taken only at the end of a try.
-use Rattle.std.proofs.Common.{◌≡◌, ℕ, ◌+◌, ◌≤◌, Bool, true, false, List, [], ◌∷◌, ◌++◌, length, refl, arith, ap, ◌∙◌}
+use Rattle.std.proofs.Common.{◌≡◌, ℕ, ◌+◌, ◌≤◌, List, [], ◌∷◌, ◌++◌, length, refl, arith, ap, ◌∙◌}
 use Rattle.seize.specs.declared.rows.settle.Settle.{Settle}
 use Rattle.seize_alone.proofs.Given.SeizeMoves.State.Ghost.{State, Entry, put}
 use Rattle.seize_alone.proofs.Given.SeizeMoves.State.Moves

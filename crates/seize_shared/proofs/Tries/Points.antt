@@ -1,6 +1,6 @@
 -- Each step of a settling that retires a block or tries its batch lowers what is left, where the word of its batch stays as it has seen it.
-use Rattle.std.specs.Prelude.{if◌then◌else◌, nat_lt, ◌==◌, ◌||◌, not, ◌/◌, Option, Some, None, IsSome}
-use Rattle.std.proofs.Common.{◌≡◌, ℕ, ◌+◌, ◌-◌, ◌*◌, ◌%◌, ◌^◌, ◌<◌, ◌≤◌, Bool, true, false, cond, eqb, List, [], ◌∷◌, length, refl, arith, ap, sym, subst, inl, inr}
+use Rattle.std.specs.Prelude.{if◌then◌else◌, nat_lt, ◌==◌, ◌||◌, not, ◌/◌, Option, Some, IsSome}
+use Rattle.std.proofs.Common.{◌≡◌, ℕ, ◌+◌, ◌-◌, ◌*◌, ◌%◌, ◌^◌, ◌<◌, ◌≤◌, Bool, true, false, cond, eqb, List, [], length, refl, arith, ap, sym, subst, inl, inr}
 use Rattle.std.proofs.Common.{eqb-true, ltb-true, ◌∙◌}
 use Rattle.std.proofs.lemmas.Bool.{eqb-false, eq-eqb, ne_eqb}
 use Rattle.seize_words.specs.declared.at.At.TheVariants.{Slot, Entry}
@@ -20,14 +20,14 @@ use Rattle.seize_rule.proofs.Words.Named.{words_of, word_found, wrote, link}
 use Rattle.seize_rule.proofs.Words.Chains.{Chain, last_of, waiting}
 use Rattle.seize_rule.proofs.Words.View.{View, view, view_count}
 use Rattle.seize_rule.proofs.Words.Shows.{Extra, Shows}
-use Rattle.seize_rule.proofs.Points.Told.{Part, Plain, Pushing, Draining, part, part_at, flush_part, Told, onward_part}
+use Rattle.seize_rule.proofs.Points.Told.{Plain, Pushing, Draining, part, part_at, flush_part, Told, onward_part}
 use Rattle.seize_rule.proofs.Points.Known.{FitsAt, Fits, Counts as CountsKnown, bare}
 use Rattle.seize_shared.specs.Bounds.{ArePlain}
 use Rattle.seize_shared.proofs.Bounds.Hands.{chains_agree}
 use Rattle.seize_shared.proofs.Bounds.Knows.{is_popped, known_at}
 use Rattle.seize_shared.proofs.Bounds.Machine.{MOST}
 use Rattle.seize_shared.proofs.Bounds.Moves.{taken_off, no_more}
-use Rattle.seize_shared.proofs.Tries.Measure.{TAKING, PUSHING, SHUTTING, SCANNING, TRYING, FILLING, point, ahead, here, owes, IsTrying, OnlyTries, SeenAt, HasSeen}
+use Rattle.seize_shared.proofs.Tries.Measure.{PUSHING, SHUTTING, SCANNING, TRYING, point, ahead, here, owes, IsTrying, OnlyTries, SeenAt, HasSeen}
 use Rattle.seize_shared.proofs.Tries.Measure.{onward_tries}
 
 flush_not : (g : Bool) → flush_part g ≡ Pushing → ⊥

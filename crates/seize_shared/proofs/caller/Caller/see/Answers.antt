@@ -1,6 +1,4 @@
-use Rattle.std.proofs.Common.{ap, ◌∙◌}
-use Rattle.seize_shared.specs.declared.view.View.TheVariants.{Inside}
-use Rattle.seize_shared.proofs.Calls.{may_see, seen_some, seen_none, seen_told}
+use Rattle.seize_shared.proofs.Calls.{may_see}
 use Rattle.seize_shared.proofs.caller.Caller.see.Goals as goal
 
 pub load-word-requires-clause-may : goal.load-word-requires-clause-may
