@@ -1,4 +1,6 @@
+pub mod Aside
 pub mod Bounds
+pub mod Tries
 pub mod Lists
 pub mod Reclaims
 pub mod Moved

@@ -9,7 +9,6 @@ use seize::rows::Defers;
 use seize_blocks::Blocks;
 use seize_words::Fault;
 use std::marker::PhantomData;
-use std::sync::Wait;
 
 /// A slot of its owner's, on whose thread it stays. It is given up as this ends.
 pub struct Registration<'a, T: Defers + Drop> {
@@ -98,7 +97,7 @@ impl<'a, T: Defers + Drop> Registration<'a, T> {
     }
 
     /// Puts a value at a root, and retires the one that was there. It comes back where there is no such root, or no number is free.
-    fn puts<W: Wait>(&mut self, rt: &W, root: u64, value: T) -> Result<(), T>
+    fn puts(&mut self, root: u64, value: T) -> Result<(), T>
         requires plain { T.defers value ≡ None }
     {
         self.refreshes();
@@ -110,20 +109,20 @@ impl<'a, T: Defers + Drop> Registration<'a, T> {
             Err(value) => return Err(value),
         };
         if let Some(old) = self.caller.publish(self.slot, root, block) {
-            self.caller.retire(rt, self.slot, old);
+            self.caller.retire(self.slot, old);
         }
         Ok(())
     }
 
     /// Takes the value from a root, and retires it; tells whether there was one.
-    fn clears<W: Wait>(&mut self, rt: &W, root: u64) -> bool {
+    fn clears(&mut self, root: u64) -> bool {
         self.refreshes();
         if root >= self.roots {
             return false;
         }
         match self.caller.remove(self.slot, root) {
             Some(old) => {
-                self.caller.retire(rt, self.slot, old);
+                self.caller.retire(self.slot, old);
                 true
             }
             None => false,
@@ -131,9 +130,9 @@ impl<'a, T: Defers + Drop> Registration<'a, T> {
     }
 
     /// Tries the slot's batch, whatever its length.
-    fn flushes<W: Wait>(&mut self, rt: &W) {
+    fn flushes(&mut self) {
         if self.inside {
-            self.caller.flush(rt, self.slot);
+            self.caller.flush(self.slot);
         }
         self.seen = 0;
     }
@@ -184,20 +183,20 @@ impl<'r, 'a, T: Defers + Drop> LocalGuard<'r, 'a, T> {
     }
 
     /// Puts a value at a root, and retires the one that was there. It comes back where there is no such root, or no number is free. The section is begun anew.
-    pub fn put<W: Wait>(&mut self, rt: &W, root: u64, value: T) -> Result<(), T>
+    pub fn put(&mut self, root: u64, value: T) -> Result<(), T>
         requires plain { T.defers value ≡ None }
     {
-        self.registration.puts(rt, root, value)
+        self.registration.puts(root, value)
     }
 
     /// Takes the value from a root, and retires it; tells whether there was one. The section is begun anew.
-    pub fn clear<W: Wait>(&mut self, rt: &W, root: u64) -> bool {
-        self.registration.clears(rt, root)
+    pub fn clear(&mut self, root: u64) -> bool {
+        self.registration.clears(root)
     }
 
     /// Tries the slot's batch, whatever its length. A value that is reclaimed is dropped. What it has seen it doesn't know any more.
-    pub fn flush<W: Wait>(&mut self, rt: &W) {
-        self.registration.flushes(rt);
+    pub fn flush(&mut self) {
+        self.registration.flushes();
     }
 }
 

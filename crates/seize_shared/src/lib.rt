@@ -12,6 +12,6 @@ mod view;
 
 pub use caller::Caller;
 pub use guard::{LocalGuard, Registration};
-pub use law::{lists_are_counted, rows_go_on, sections_go_on};
+pub use law::{batches_are_tried, lists_are_counted, rows_go_on, sections_go_on};
 pub use rows::OfRows;
 pub use view::{Becomes, Fixed, Has, View, Why};

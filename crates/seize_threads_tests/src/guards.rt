@@ -6,7 +6,6 @@ use crate::retiring::{Counted, Table, all_are, dropped, table};
 use seize_blocks::{Blocks, Home};
 use seize_shared::{Fixed, OfRows, Registration};
 use std::alloc::{AllocError, Global};
-use std::sync::Wait;
 use std::test::Fail;
 use std::thread::Threads;
 use std::{mem, thread};
@@ -22,12 +21,7 @@ const CHOSEN: Fixed = Fixed {
 
 /// Looks at the root and puts a value there within each of so many sections, and takes then away what is there. It tells whether no value that it saw had been
 /// dropped.
-fn goes<W: Wait>(
-    rt: &W,
-    blocks: &Blocks<Counted, OfRows>,
-    drops: &Table,
-    from: usize,
-) -> Option<bool>
+fn goes(blocks: &Blocks<Counted, OfRows>, drops: &Table, from: usize) -> Option<bool>
     requires { blocks.now.words.fixed ≡ record { batch_size = 5; roots = 1 } }
 {
     let mut registration = Registration::new(blocks, &CHOSEN).ok()?;
@@ -41,26 +35,22 @@ fn goes<W: Wait>(
             fresh = fresh && before == 0 && dropped(&value.drops, value.place) == 0;
         }
         if let Some(value) = Counted::of(drops, usize::wrapping_add(from, turn)) {
-            drop(guard.put(rt, 0, value));
+            drop(guard.put(0, value));
         }
     }
     let mut guard = registration.enter();
-    guard.clear(rt, 0);
+    guard.clear(0);
     Some(fresh)
 }
 
 /// Two of them over one memory, which ends then; tells whether none of them saw a value that had been dropped.
-fn both<R: Threads + Wait + Sync>(
-    rt: &R,
-    alloc: Global,
-    drops: &Table,
-) -> Result<bool, AllocError> {
+fn both<R: Threads + Sync>(rt: &R, alloc: Global, drops: &Table) -> Result<bool, AllocError> {
     let home = Home::<Counted, OfRows>::open(alloc, 1, 4096, &CHOSEN)?;
     let blocks = &home.blocks;
     let (first, second) = thread::join(
         rt,
-        || goes(rt, blocks, drops, 0),
-        || goes(rt, blocks, drops, TIMES),
+        || goes(blocks, drops, 0),
+        || goes(blocks, drops, TIMES),
     );
     Ok(first == Some(true) && second == Some(true))
 }
@@ -76,22 +66,22 @@ fn guards_end_where_their_scope_does_and_each_value_is_dropped_once(
 }
 
 /// Puts six values at the root, each under a guard that is forgotten.
-fn forgets<W: Wait>(rt: &W, blocks: &Blocks<Counted, OfRows>, drops: &Table) -> Option<()>
+fn forgets(blocks: &Blocks<Counted, OfRows>, drops: &Table) -> Option<()>
     requires { blocks.now.words.fixed ≡ record { batch_size = 5; roots = 1 } }
 {
     let mut registration = Registration::new(blocks, &CHOSEN).ok()?;
     for place in 0..6 {
         let mut guard = registration.enter();
-        drop(guard.put(rt, 0, Counted::of(drops, place)?));
+        drop(guard.put(0, Counted::of(drops, place)?));
         mem::forget(guard);
     }
     Some(())
 }
 
 /// The same over one memory; answers how many of the five that were retired were dropped as the registration ended, and before the memory does.
-fn forgets_all<W: Wait>(rt: &W, alloc: Global, drops: &Table) -> Result<bool, AllocError> {
+fn forgets_all(alloc: Global, drops: &Table) -> Result<bool, AllocError> {
     let home = Home::<Counted, OfRows>::open(alloc, 1, 64, &CHOSEN)?;
-    let went = forgets(rt, &home.blocks, drops).is_some();
+    let went = forgets(&home.blocks, drops).is_some();
     Ok(went && all_are(drops, 5, 1) && dropped(drops, 5) == 0)
 }
 
@@ -100,7 +90,7 @@ fn what_was_retired_under_forgotten_guards_is_dropped_as_their_registration_ends
     rt: HostRuntime,
 ) -> Result<(), Fail> {
     let drops = table(rt.alloc(), 6)?;
-    assert!(rt; forgets_all(&rt, rt.alloc(), &drops)?);
+    assert!(rt; forgets_all(rt.alloc(), &drops)?);
     assert!(rt; all_are(&drops, 6, 1));
     Ok(())
 }
