@@ -17,14 +17,17 @@ use Rattle.seize.specs.declared.rows.settle.Settled.{Settled}
 use Rattle.seize.specs.declared.rows.settle.Settled.TheVariants as settled
 use Rattle.seize.specs.Leave.{standing, settled as leave_settled}
 use Rattle.seize.specs.Settle.{retiring, flushing, settle_plan, plan_at}
-use Rattle.seize.specs.World.{World, Row, Use, Hand, Request, Register', Enter', Leave', Refresh, Unregister', Retire}
+use Rattle.seize.specs.World.{World, Row, Use, Hand, Event, Begin, Happens, Request, Register', Enter', Leave', Refresh, Unregister', Retire}
 use Rattle.seize.specs.World.{Flush, IsTaken, one_more, one_less, with_at, with_row, with_use, with_hand, settles_on, leaves_on, at_start}
 use Rattle.seize.specs.World as world
 use Rattle.seize_rule.proofs.Rows.Others.{with_here, with_other}
 use Rattle.seize_acts.proofs.Answers.{same_some}
 use Rattle.seize_seats.specs.State.{State, view_of, Turns, Comes, Starts}
-use Rattle.seize_shared.specs.Rows.{row_of, use_of, leave_of, counting, IsShort, IsUsed, IsKnown, Fits, IsBounded, Holds, Keeps}
-use Rattle.seize_shared.specs.Promises.{IsNext, IsFree, IsLeft, RulesStart, SeatsCome, RowsTurn}
+use Rattle.seize_acts.specs.Waits.{SettlesOn}
+use Rattle.seize_shared.specs.Begun.{IsBegun}
+use Rattle.seize_shared.specs.Bounds.{IsToTry, IsAloneOnSlot, ArePlain, TriesWithin}
+use Rattle.seize_shared.specs.Rows.{row_of, use_of, leave_of, counting, IsShort, IsUsed, IsKnown, Fits, Came, IsBounded, Holds, Keeps}
+use Rattle.seize_shared.specs.Promises.{IsNext, IsFree, IsLeft, RulesStart, SeatsCome, RowsTurn, SettlingsBegin}
 use Rattle.seize_shared.specs.declared.view.View.{View}
 use Rattle.seize_shared.specs.declared.view.Becomes.{Becomes}
 use Rattle.seize_shared.specs.declared.view.Becomes.TheVariants.{Idle, Active}
@@ -34,9 +37,11 @@ use Rattle.seize_shared.specs.declared.view.Has.TheVariants.{Nothing, Made, Seen
 use Rattle.seize_shared.specs.declared.view.Why.TheVariants.{Retiring, Ending}
 use Rattle.seize_shared.specs.declared.view.Fixed.{Fixed}
 use Rattle.seize_shared.proofs.Lists.{with_last, none_before}
+use Rattle.seize_shared.proofs.Aside.{has_it}
 use Rattle.seize_shared.proofs.Moved.{moved, used_so}
-use Rattle.seize_shared.proofs.Steps.{alone, begun, stepped}
+use Rattle.seize_shared.proofs.Steps.{alone, begun, came_then, stepped, world_plain}
 use Rattle.seize_shared.proofs.Operations.{used_as, slot_of, same_slot}
+use Rattle.seize_shared.proofs.Tries.Within.{batches_are_tried}
 
 not_making_cutting : (j i : ℕ) → world.Making j ≡ world.Cutting i → ⊥
 not_making_cutting j i e = cc e
@@ -123,15 +128,33 @@ module _ {T : Type 0} (defers : T → Option ℕ) (fixed : Fixed) where
       begins_on id t (Inside t has) (Leaves t fixed.batch_size Active) (world.Inside 0) (world.Leaves c) (Refresh t) refl refl refl refl (λ s e. (e, refl))
       (λ s h. begun_fits id t (Leaves t fixed.batch_size Active) (world.Leaves c) s refl refl tt (λ w. tt)) (λ w. tt)
 
+  -- a settling that begins on the slot of a seat takes so many steps
+  settles_within : (s : State T (View T) (World T)) → H s → (id t : ℕ) (v : View T) (a : Use) → view_of s id ≡ Some v → use_of v ≡ used_as t a
+      → (c : Settle) (n : World T) → c.slot ≡ t → IsToTry fixed.batch_size c → Came defers fixed n → n.row id ≡ world.Settles c
+      → ((j : ℕ) → j ≢ id → n.row j ≡ s.world.row j) → ArePlain defers n.memory → (k : ℕ) × TriesWithin defers fixed.batch_size id k n
+  settles_within s h id t v a at_id mine c n on to came row rows plain =
+      batches_are_tried defers fixed.batch_size fixed.roots came.0 n came.1 plain id c alone to row
+    where
+      alone : IsAloneOnSlot id n
+      alone i slot ne its other =
+          let p : c.slot ≡ slot = subst (λ (r : Row). SettlesOn slot r) row its in
+          let b = has_it s.world (view_of s) (λ j x e. (h.seats j x e).row) h.unborn h.apart i slot (subst (λ (r : Row). SettlesOn slot r) (rows i ne) other) in
+          ne (h.apart i id slot b.1 a b.0 v b.2 at_id b.3 (mine ∙ ap (λ (k : ℕ). used_as k a) (sym on ∙ p)))
+
   -- a block is retired that the seat has unlinked
-  retires : (id t b : ℕ) → Turns H Keeps id (Inside t (Cut b)) (λ x. x ≡ Settles (retiring t fixed.batch_size (link_to b)) Retiring None 0)
+  retires : (id t b : ℕ) → Turns H Keeps id (Inside t (Cut b)) (IsBegun (retiring t fixed.batch_size (link_to b)))
   retires id t b s h at_id =
-      let c : Settle = retiring t fixed.batch_size (link_to b) in let u : View T = Settles c Retiring None 0 in
+      let c : Settle = retiring t fixed.batch_size (link_to b) in
       let f = h.seats id (Inside t (Cut b)) at_id in
       let n : World T = with_hand (with_use (with_row s.world id (world.Settles c)) t (one_more (s.world.uses t))) b world.Handed in
-      moved defers fixed s id (Inside t (Cut b)) u s.memory n (λ x. x ≡ u) h at_id
-      (begun defers fixed s id (Inside t (Cut b)) h at_id (Retire t b) u n
-      (f.row, (subst (λ (a : Use). IsTaken a) (sym f.slot) tt, (id, f.known), refl)) refl refl
+      let happens : Happens defers fixed.batch_size (Begin id (Retire t b)) s.world n =
+      (f.row, (subst (λ (a : Use). IsTaken a) (sym f.slot) tt, (id, f.known), refl)) in
+      let k = settles_within s h id t (Inside t (Cut b)) (world.Inside 0) at_id refl c n refl (inl (t, link_to b, refl))
+      (came_then defers fixed s.world n (Begin id (Retire t b)) h.came happens) (with_here s.world.row id (world.Settles c))
+      (λ j ne. with_other s.world.row id j (world.Settles c) ne) (world_plain defers fixed s id (Inside t (Cut b)) h at_id) in
+      let u : View T = Settles c Retiring None k.0 in
+      moved defers fixed s id (Inside t (Cut b)) u s.memory n (IsBegun c) h at_id
+      (begun defers fixed s id (Inside t (Cut b)) h at_id (Retire t b) u n happens refl refl
       (λ j c ne. (
         λ is. beside s.world.hand b c (world.Making j) (λ e. not_making_cutting j id (sym is ∙ ap s.world.hand e ∙ f.known)) is,
         λ is. beside s.world.hand b c (world.Cutting j) (λ e. ne (same_cutting j id (sym is ∙ ap s.world.hand e ∙ f.known))) is,
@@ -145,17 +168,22 @@ module _ {T : Type 0} (defers : T → Option ℕ) (fixed : Fixed) where
         short = tt;
         known = tt;
       })
-      (λ x a e. same_slot t x (world.Inside 1) a (world.Inside 0) e) tt)
-      refl
+      (λ x a e. same_slot t x (world.Inside 1) a (world.Inside 0) e) k.1)
+      (k.0, refl)
 
   -- the batch is tried
-  flushes : (id t : ℕ) (has : Has) → Turns H Keeps id (Inside t has) (λ x. x ≡ Settles (flushing t fixed.batch_size) Retiring None 0)
+  flushes : (id t : ℕ) (has : Has) → Turns H Keeps id (Inside t has) (IsBegun (flushing t fixed.batch_size))
   flushes id t has s h at_id =
-      let c : Settle = flushing t fixed.batch_size in let u : View T = Settles c Retiring None 0 in
+      let c : Settle = flushing t fixed.batch_size in
       let f = h.seats id (Inside t has) at_id in
       let n : World T = with_use (with_row s.world id (world.Settles c)) t (one_more (s.world.uses t)) in
-      moved defers fixed s id (Inside t has) u s.memory n (λ x. x ≡ u) h at_id
-      (begun defers fixed s id (Inside t has) h at_id (Flush t) u n (f.row, (subst (λ (a : Use). IsTaken a) (sym f.slot) tt, refl)) refl refl
+      let happens : Happens defers fixed.batch_size (Begin id (Flush t)) s.world n = (f.row, (subst (λ (a : Use). IsTaken a) (sym f.slot) tt, refl)) in
+      let k = settles_within s h id t (Inside t has) (world.Inside 0) at_id refl c n refl (inr (t, refl))
+      (came_then defers fixed s.world n (Begin id (Flush t)) h.came happens) (with_here s.world.row id (world.Settles c))
+      (λ j ne. with_other s.world.row id j (world.Settles c) ne) (world_plain defers fixed s id (Inside t has) h at_id) in
+      let u : View T = Settles c Retiring None k.0 in
+      moved defers fixed s id (Inside t has) u s.memory n (IsBegun c) h at_id
+      (begun defers fixed s id (Inside t has) h at_id (Flush t) u n happens refl refl
       (λ j c ne. (λ is. is, λ is. is)) (λ c r is. is)
       (λ j ne. with_other s.world.row id j (world.Settles c) ne)
       (λ x apart. with_other s.world.uses t x (one_more (s.world.uses t)) (λ e. apart (world.Inside 0) (ap (λ (k : ℕ). used_as k (world.Inside 0)) (sym e))))
@@ -165,12 +193,11 @@ module _ {T : Type 0} (defers : T → Option ℕ) (fixed : Fixed) where
         short = tt;
         known = tt;
       })
-      (λ x a e. same_slot t x (world.Inside 1) a (world.Inside 0) e) tt)
-      refl
+      (λ x a e. same_slot t x (world.Inside 1) a (world.Inside 0) e) k.1)
+      (k.0, refl)
 
   goes_free : (id t : ℕ) (has : Has) (u : View T) → IsFree fixed t u → Turns H Keeps id (Inside t has) (λ x. x ≡ u)
-  goes_free id t has u (inl is) = subst (λ (y : View T). Turns H Keeps id (Inside t has) (λ x. x ≡ y)) (sym is.1) (leaves id t has is.0)
-  goes_free id t has u (inr is) = subst (λ (y : View T). Turns H Keeps id (Inside t has) (λ x. x ≡ y)) (sym is) (flushes id t has)
+  goes_free id t has u is = subst (λ (y : View T). Turns H Keeps id (Inside t has) (λ x. x ≡ y)) (sym is.1) (leaves id t has is.0)
 
   -- a slot is looked for
   abbrev First : Register
@@ -257,7 +284,7 @@ module _ {T : Type 0} (defers : T → Option ℕ) (fixed : Fixed) where
   turns id (Enters t) u is = absurd is
   turns id (Inside t Nothing) u is = goes_free id t Nothing u is
   turns id (Inside t (Seen b)) u is = goes_free id t (Seen b) u is
-  turns id (Inside t (Cut b)) u is = subst (λ (y : View T). Turns H Keeps id (Inside t (Cut b)) (λ x. x ≡ y)) (sym is) (retires id t b)
+  turns id (Inside t (Cut b)) u is = absurd is
   turns id (Inside t (Made b)) u is = absurd is
   turns id (Settles c Retiring seen left) u is =
       subst (λ (y : View T). Turns H Keeps id (Settles c Retiring seen left) (λ x. x ≡ y)) (sym is.1) (settled_ends id c seen left is.0)
@@ -332,3 +359,20 @@ module _ (T : Type 0) (defers : T → Option ℕ) where
 
   pub rows_turn : RowsTurn T defers
   rows_turn fixed id v u is = turns defers fixed id v u is
+
+  pub settlings_begin : SettlingsBegin T defers
+  settlings_begin fixed id (Inside t (Cut b)) c is =
+      subst (λ (d : Settle). Turns (Holds defers fixed) Keeps id (Inside t (Cut b)) (IsBegun d)) (sym is) (retires defers fixed id t b)
+  settlings_begin fixed id (Inside t Nothing) c is =
+      subst (λ (d : Settle). Turns (Holds defers fixed) Keeps id (Inside t Nothing) (IsBegun d)) (sym is) (flushes defers fixed id t Nothing)
+  settlings_begin fixed id (Inside t (Seen b)) c is =
+      subst (λ (d : Settle). Turns (Holds defers fixed) Keeps id (Inside t (Seen b)) (IsBegun d)) (sym is) (flushes defers fixed id t (Seen b))
+  settlings_begin fixed id (Inside t (Made b)) c is = absurd is
+  settlings_begin fixed id Rests c is = absurd is
+  settlings_begin fixed id (Registers d) c is = absurd is
+  settlings_begin fixed id (Outside t) c is = absurd is
+  settlings_begin fixed id (Enters t) c is = absurd is
+  settlings_begin fixed id (Settles d why seen left) c is = absurd is
+  settlings_begin fixed id (Leaves t size way) c is = absurd is
+  settlings_begin fixed id (Left t size way) c is = absurd is
+  settlings_begin fixed id (Frees t) c is = absurd is

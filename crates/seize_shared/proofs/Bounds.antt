@@ -1,7 +1,10 @@
 -- A list that was taken from a slot is counted down within a number of steps, whatever the others do meanwhile.
 pub mod Beside
 pub mod Entries
+pub mod Knows
+pub mod Opened
 pub mod Machine
+pub mod Moves
 pub mod Passing
 pub mod Hands
 pub mod Steps

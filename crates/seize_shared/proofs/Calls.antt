@@ -1,16 +1,17 @@
 -- What a call of the shared memory asks for: by what the seat knows, its turn or operation is next.
 use Rattle.std.specs.Prelude.{◌<◌, ◌≤◌, Option, Some, None, nat_lt, if◌then◌else◌}
-use Rattle.std.proofs.Common.{◌≡◌, ℕ, ◌^◌, ◌%◌, Bool, true, false, inl, inr, refl, sym, subst, ap, ◌∙◌, arith}
+use Rattle.std.proofs.Common.{◌≡◌, ℕ, ◌^◌, ◌%◌, Bool, true, false, refl, sym, subst, ap, ◌∙◌, arith}
 use Rattle.std.proofs.lemmas.Bool.{eq-eqb, ne_eqb}
 use Rattle.seize_words.specs.Op.{Op, Load, Swap, Make, Take, Found}
 use Rattle.seize_words.specs.Word.{block_in, link_to}
 use Rattle.seize_words.specs.declared.at.At.TheVariants.{Root, Slot}
 use Rattle.seize.specs.declared.states.TheConstants.{HEAD, ACTIVE}
 use Rattle.seize.specs.declared.rows.settle.Settle.{Settle}
-use Rattle.seize.specs.Settle.{flushing, counting_down}
+use Rattle.seize.specs.Settle.{retiring, flushing, counting_down}
 use Rattle.seize_seats.specs.Lendings.{Shown}
 use Rattle.seize_seats.specs.State.{Allows, Turns}
-use Rattle.seize_shared.specs.Begun.{leaving, refreshes, flushes, Makes}
+use Rattle.seize_shared.specs.Begun.{leaving, refreshes, IsBegun, Retires, Flushes, Makes}
+use Rattle.seize_shared.specs.Made.{IsSettling}
 use Rattle.seize_shared.specs.Promises.{Names, IsLooking, IsNext, op_of}
 use Rattle.seize_shared.specs.Rows.{Holds, Keeps}
 use Rattle.seize_shared.specs.Told.{list_taken, cut_in, seen_in, told}
@@ -22,7 +23,7 @@ use Rattle.seize_shared.specs.declared.view.Has.{Has}
 use Rattle.seize_shared.specs.declared.view.Has.TheVariants.{Nothing, Made, Seen, Cut}
 use Rattle.seize_shared.specs.declared.view.Why.TheVariants.{Retiring, Ending}
 use Rattle.seize_shared.specs.declared.view.Fixed.{Fixed}
-use Rattle.seize_shared.proofs.Beginnings.{rows_turn}
+use Rattle.seize_shared.proofs.Beginnings.{rows_turn, settlings_begin}
 use Rattle.seize_shared.proofs.GoesOn.{rows_go_on}
 use Rattle.seize_shared.proofs.Blocks.{blocks_are_made, made_are_taken, known_are_shown}
 use Rattle.seize_shared.proofs.Roots.{made_are_linked, roots_are_cleared, roots_are_seen}
@@ -39,6 +40,40 @@ module _ {T : Type 0} (defers : T → Option ℕ) (fixed : Fixed) (id : ℕ) (v 
   pub may_go_on : (op : Op T) → op_of defers w ≡ Some op → Allows (Holds defers fixed) Keeps id v op (told defers v op)
   may_go_on op next =
       subst (λ (x : View T). Allows (Holds defers fixed) Keeps id x op (told defers x op)) (sym is) (rows_go_on T defers fixed id w op next)
+
+module _ {T : Type 0} (defers : T → Option ℕ) (fixed : Fixed) (id : ℕ) (v : View T) (slot : ℕ) where
+  -- a settling is next where a block was unlinked, or none is known
+
+  pub may_retire : (b : ℕ) → v ≡ Inside slot (Cut b) → Turns (Holds defers fixed) Keeps id v (Retires fixed v)
+  may_retire b is =
+      subst (λ (x : View T). Turns (Holds defers fixed) Keeps id x (Retires fixed x)) (sym is)
+      (settlings_begin T defers fixed id (Inside slot (Cut b)) (retiring slot fixed.batch_size (link_to b)) refl)
+
+  flushes_by : (has : Has) → IsLooking has → Turns (Holds defers fixed) Keeps id (Inside slot has) (Flushes fixed (Inside slot has))
+  flushes_by Nothing looks = settlings_begin T defers fixed id (Inside slot Nothing) (flushing slot fixed.batch_size) refl
+  flushes_by (Seen b) looks = settlings_begin T defers fixed id (Inside slot (Seen b)) (flushing slot fixed.batch_size) refl
+  flushes_by (Made b) looks = absurd looks
+  flushes_by (Cut b) looks = absurd looks
+
+  pub may_flush : (has : Has) → IsLooking has → v ≡ Inside slot has → Turns (Holds defers fixed) Keeps id v (Flushes fixed v)
+  may_flush has looks is = subst (λ (x : View T). Turns (Holds defers fixed) Keeps id x (Flushes fixed x)) (sym is) (flushes_by has looks)
+
+module _ {T : Type 0} (fixed : Fixed) (v u : View T) (slot : ℕ) where
+  pub retires_told : (b : ℕ) → v ≡ Inside slot (Cut b) → Retires fixed v u → IsBegun (retiring slot fixed.batch_size (link_to b)) u
+  retires_told b is so = subst (λ (x : View T). Retires fixed x u) is so
+
+  flushes_so : (has : Has) → IsLooking has → Flushes fixed (Inside slot has) u → IsBegun (flushing slot fixed.batch_size) u
+  flushes_so Nothing looks so = so
+  flushes_so (Seen b) looks so = so
+  flushes_so (Made b) looks so = absurd looks
+  flushes_so (Cut b) looks so = absurd looks
+
+  pub flushes_told : (has : Has) → IsLooking has → v ≡ Inside slot has → Flushes fixed v u → IsBegun (flushing slot fixed.batch_size) u
+  flushes_told has looks is so = flushes_so has looks (subst (λ (x : View T). Flushes fixed x u) is so)
+
+-- a settling that has begun is the row that was made for it
+pub settling_row : {T : Type 0} (c row : Settle) (u : View T) → IsBegun c u → row ≡ c → IsSettling Retiring row u
+settling_row c row u is same = (None, is.0, is.1 ∙ ap (λ (r : Settle). Settles r Retiring None is.0) (sym same))
 
 module _ {T : Type 0} (defers : T → Option ℕ) (fixed : Fixed) (id : ℕ) (v : View T) (slot : ℕ) where
   abbrev MayMake : Op T → Type 0
@@ -61,8 +96,8 @@ module _ {T : Type 0} (defers : T → Option ℕ) (fixed : Fixed) (id : ℕ) (v 
   pub may_clear : (r : ℕ) → v ≡ Inside slot Nothing → r < fixed.roots → MayMake (Swap (Root r) 0)
   may_clear r is lt = by_view (Inside slot Nothing) (Swap (Root r) 0) is (roots_are_cleared T defers r fixed id slot lt)
 
-  pub may_see : (r : ℕ) → v ≡ Inside slot Nothing → r < fixed.roots → MayMake (Load (Root r))
-  may_see r is lt = by_view (Inside slot Nothing) (Load (Root r)) is (roots_are_seen T defers Nothing r fixed id slot tt lt)
+  pub may_see : (has : Has) (r : ℕ) → IsLooking has → v ≡ Inside slot has → r < fixed.roots → MayMake (Load (Root r))
+  may_see has r looks is lt = by_view (Inside slot has) (Load (Root r)) is (roots_are_seen T defers has r fixed id slot looks lt)
 
   pub is_shown : (has : Has) (b : ℕ) → v ≡ Inside slot has → Names has b → Shown (Holds defers fixed) id v b
   is_shown has b is names = subst (λ (x : View T). Shown (Holds defers fixed) id x b) (sym is) (known_are_shown T defers has b fixed id slot names)
@@ -70,8 +105,8 @@ module _ {T : Type 0} (defers : T → Option ℕ) (fixed : Fixed) (id : ℕ) (v 
 module _ (T : Type 0) (fixed : Fixed) (slot : ℕ) where
   -- leaving is next where a block was seen, or none is known
   pub leaves_next : (has : Has) → IsLooking has → IsNext {T = T} fixed (Inside slot has) (leaving fixed (Inside slot has))
-  leaves_next Nothing looks = inl (Idle, refl)
-  leaves_next (Seen b) looks = inl (Idle, refl)
+  leaves_next Nothing looks = (Idle, refl)
+  leaves_next (Seen b) looks = (Idle, refl)
   leaves_next (Made b) looks = absurd looks
   leaves_next (Cut b) looks = absurd looks
 
@@ -83,8 +118,8 @@ module _ (T : Type 0) (fixed : Fixed) (slot : ℕ) where
 
   -- and so is refreshing
   pub refreshes_next : (has : Has) → IsLooking has → IsNext {T = T} fixed (Inside slot has) (refreshes fixed (Inside slot has))
-  refreshes_next Nothing looks = inl (Active, refl)
-  refreshes_next (Seen b) looks = inl (Active, refl)
+  refreshes_next Nothing looks = (Active, refl)
+  refreshes_next (Seen b) looks = (Active, refl)
   refreshes_next (Made b) looks = absurd looks
   refreshes_next (Cut b) looks = absurd looks
 
@@ -93,19 +128,6 @@ module _ (T : Type 0) (fixed : Fixed) (slot : ℕ) where
   refreshes_so (Seen b) looks = refl
   refreshes_so (Made b) looks = absurd looks
   refreshes_so (Cut b) looks = absurd looks
-
-  -- and so is the trying of the batch
-  pub flushes_next : (has : Has) → IsLooking has → IsNext {T = T} fixed (Inside slot has) (flushes fixed (Inside slot has))
-  flushes_next Nothing looks = inr refl
-  flushes_next (Seen b) looks = inr refl
-  flushes_next (Made b) looks = absurd looks
-  flushes_next (Cut b) looks = absurd looks
-
-  pub flushes_so : (has : Has) → IsLooking has → flushes {T = T} fixed (Inside slot has) ≡ Settles (flushing slot fixed.batch_size) Retiring None 0
-  flushes_so Nothing looks = refl
-  flushes_so (Seen b) looks = refl
-  flushes_so (Made b) looks = absurd looks
-  flushes_so (Cut b) looks = absurd looks
 
 -- a list with entries is counted down, and an empty one is settled
 is_above : (head : ℕ) → ACTIVE < head → nat_lt ACTIVE head ≡ true
@@ -143,8 +165,11 @@ module _ {T : Type 0} (defers : T → Option ℕ) (v w : View T) (slot : ℕ) wh
   removed_told r word old is so =
       let k = subst (λ (x : View T). told defers x (Swap (Root r) word) (Found old) w) is so in k.2 ∙ ap (Inside slot) k.1
 
-  pub seen_told : (r word : ℕ) → v ≡ Inside slot Nothing → told defers v (Load (Root r)) (Found word) w → w ≡ Inside slot (seen_in word)
-  seen_told r word is so = let k = subst (λ (x : View T). told defers x (Load (Root r)) (Found word) w) is so in k.2 ∙ ap (Inside slot) k.1
+  pub seen_told : (has : Has) (r word : ℕ) → IsLooking has → v ≡ Inside slot has → told defers v (Load (Root r)) (Found word) w → w ≡ Inside slot (seen_in word)
+  seen_told Nothing r word looks is so = let k = subst (λ (x : View T). told defers x (Load (Root r)) (Found word) w) is so in k.2 ∙ ap (Inside slot) k.1
+  seen_told (Seen b) r word looks is so = let k = subst (λ (x : View T). told defers x (Load (Root r)) (Found word) w) is so in k.2 ∙ ap (Inside slot) k.1
+  seen_told (Made b) r word looks is so = absurd looks
+  seen_told (Cut b) r word looks is so = absurd looks
 
   -- what the taking of a list tells
   pub list_told : (size : ℕ) (way : Becomes) (word head : ℕ) → v ≡ Leaves slot size way → told defers v (Swap (Slot slot HEAD) word) (Found head) w

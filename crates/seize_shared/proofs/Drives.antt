@@ -1,6 +1,6 @@
 -- A settling as the row of a caller: it may take its next step, and is the one that its seat knows again.
 use Rattle.std.specs.Prelude.{◌==◌, Option, Some, None, IsSome, if◌then◌else◌}
-use Rattle.std.proofs.Common.{◌≡◌, ℕ, Bool, true, false, refl, sym, subst, ap, ◌∙◌, eqb-true}
+use Rattle.std.proofs.Common.{◌≡◌, ℕ, ◌<◌, Bool, true, false, refl, sym, subst, ap, ◌∙◌, eqb-true, arith}
 use Rattle.seize_words.specs.Mem.{Mem, value_at}
 use Rattle.seize.specs.World.{World}
 use Rattle.seize_words.specs.Op.{Op, Out, Rewrite}
@@ -18,7 +18,7 @@ use Rattle.seize_acts.proofs.Answers.{same_some}
 use Rattle.seize_seats.specs.State.{State, view_of}
 use Rattle.seize_seats.specs.Lendings.{Shown, IsValueOf}
 use Rattle.seize_shared.specs.Rows.{Holds}
-use Rattle.seize_shared.specs.Told.{shown_by, FollowsBy, FallsFor, GoesOn, told}
+use Rattle.seize_shared.specs.Told.{shown_by, FollowsBy, GoesOn, told}
 use Rattle.seize_shared.specs.Promises.{op_in, op_of, LookedAreShown}
 use Rattle.seize_shared.specs.Made.{shown_in, shown_of, left_in, CanMake, HasAlone, HasMade, IsSettling}
 use Rattle.seize_shared.specs.declared.view.View.{View}
@@ -105,7 +105,7 @@ module _ {T : Type 0} (defers : T → Option ℕ) where
         (λ out. once defers c c.stands out)
 
     pub has_stepped : (n : Caller T) (end : Settle × Settled T) → Steps (HasMade defers) shown_of caller (settle_plan defers c) n end
-        → IsSettling why end.0 n.seat.view × (end.0.slot ≡ c.slot) × (n.blocks ≡ caller.blocks) × FallsFor why (left_in caller.seat.view) (left_in n.seat.view)
+        → IsSettling why end.0 n.seat.view × (end.0.slot ≡ c.slot) × (n.blocks ≡ caller.blocks) × (left_in n.seat.view < left_in caller.seat.view)
     has_stepped n end st =
         let k = was_made (CanMake defers) (HasMade defers) shown_of caller (settle_plan defers c) n end (is_do c c.stands ne) st in
         let g = goes_on k.0 k.1 n k.2 in
@@ -114,8 +114,7 @@ module _ {T : Type 0} (defers : T → Option ℕ) where
           (g.seen, g.now, g.view ∙ ap (λ (x : Settle × Settled T). Settles x.0 why g.seen g.now) (sym same)),
           ap (λ (x : Settle × Settled T). x.0.slot) same ∙ g.slot,
           k.2.blocks,
-          subst (λ (l : ℕ). FallsFor why l (left_in n.seat.view)) (sym (ap left_in is.2))
-              (subst (λ (l : ℕ). FallsFor why is.1 l) (sym (ap left_in g.view)) g.falls),
+          (let before = ap left_in is.2 in let after = ap left_in g.view in let falls = g.falls in omega (arith, before, after, falls)),
         )
 
 module _ (T : Type 0) (defers : T → Option ℕ) where

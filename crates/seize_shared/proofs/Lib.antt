@@ -1,4 +1,6 @@
+pub mod Aside
 pub mod Bounds
+pub mod Tries
 pub mod Lists
 pub mod Reclaims
 pub mod Moved
@@ -15,3 +17,4 @@ pub mod Roots
 pub mod Calls
 pub mod Drives
 pub mod Seen
+pub mod Standing

@@ -9,7 +9,7 @@ use Rattle.seize.specs.World as world
 use Rattle.seize_rule.proofs.World.Kept.{rows_may}
 use Rattle.seize_acts.proofs.Answers.{same_some}
 use Rattle.seize_seats.specs.State.{State, view_of, Goes}
-use Rattle.seize_shared.specs.Bounds.{ArePlain, Meanwhile}
+use Rattle.seize_shared.specs.Bounds.{HasCounted, HasTried, IsAloneOnSlot, IsAny, ArePlain, Meanwhile}
 use Rattle.seize_shared.specs.Rows.{use_of, row_of, settles_for, IsUsed, IsKnown, RootsNameLinked, Fits, Came, IsBounded, Holds, Keeps}
 use Rattle.seize_shared.specs.declared.view.View.{View}
 use Rattle.seize_shared.specs.declared.view.View.TheVariants.{Rests, Registers, Outside, Enters, Inside, Settles, Leaves, Left, Frees}
@@ -17,7 +17,8 @@ use Rattle.seize_shared.specs.declared.view.Has.{Has}
 use Rattle.seize_shared.specs.declared.view.Has.TheVariants.{Nothing, Made, Seen, Cut}
 use Rattle.seize_shared.specs.declared.view.Why.TheVariants.{Retiring, Ending}
 use Rattle.seize_shared.specs.declared.view.Fixed.{Fixed}
-use Rattle.seize_shared.proofs.Bounds.Passing.{still_within}
+use Rattle.seize_shared.proofs.Aside.{alone_on_slot}
+use Rattle.seize_shared.proofs.Bounds.Passing.{any, still_within}
 use Rattle.seize_shared.proofs.Lists.{there, elsewhere}
 use Rattle.seize_shared.proofs.Reclaims.{reclaiming_there}
 
@@ -57,9 +58,11 @@ module _ {T : Type 0} (defers : T → Option ℕ) (fixed : Fixed) (s : State T (
   abbrev pub StillHas : World T → ℕ → ℕ → Type 0
   StillHas n j b = (s.world.hand b ≡ world.Making j → n.hand b ≡ world.Making j) × (s.world.hand b ≡ world.Cutting j → n.hand b ≡ world.Cutting j)
 
-  -- for each other seat it has passed meanwhile
+  -- for each other seat it has passed meanwhile, and nobody settles on that one's slot
   abbrev pub Passes : World T → Type 0
-  Passes n = (j : ℕ) → j ≢ id → (events : List (Event T)) × Meanwhile defers fixed.batch_size j events s.world n
+  Passes n =
+      (j : ℕ) → j ≢ id → IsAloneOnSlot j s.world → IsAloneOnSlot j n
+      → (events : List (Event T)) × Meanwhile defers (IsAloneOnSlot j) fixed.batch_size j events s.world n
 
   -- the seat has come to this view, this memory and this world, and the others know what they knew
   pub record Moved (u : View T) (m : Mem T) (n : World T) : Type 0 where
@@ -100,17 +103,21 @@ module _ {T : Type 0} (defers : T → Option ℕ) (fixed : Fixed) (s : State T (
     known j (Left t size way) ne row f = tt
     known j (Frees t) ne row f = tt
 
-    bound : (j : ℕ) (x : View T) → j ≢ id → IsBounded defers fixed s.world j x → IsBounded defers fixed n j x
-    bound j (Settles c Retiring seen left) ne b = tt
-    bound j (Settles c (Ending size way) seen left) ne b = let p = mo.passes j ne in still_within defers fixed.batch_size j left s.world n p.0 p.1 b
-    bound j Rests ne b = tt
-    bound j (Registers c) ne b = tt
-    bound j (Outside t) ne b = tt
-    bound j (Enters t) ne b = tt
-    bound j (Inside t has) ne b = tt
-    bound j (Leaves t size way) ne b = tt
-    bound j (Left t size way) ne b = tt
-    bound j (Frees t) ne b = tt
+    bound : (j : ℕ) (x : View T) → j ≢ id → IsAloneOnSlot j n → IsBounded defers fixed s.world j x → IsBounded defers fixed n j x
+    bound j (Settles c Retiring seen left) ne after b =
+        let p = mo.passes j ne (alone_on_slot s.world (view_of s) (λ i y e. (h.seats i y e).row) h.unborn h.apart j) after in
+        still_within defers (IsAloneOnSlot j) HasTried fixed.batch_size j left s.world n p.0 p.1 b
+    bound j (Settles c (Ending size way) seen left) ne after b =
+        let p = mo.passes j ne (alone_on_slot s.world (view_of s) (λ i y e. (h.seats i y e).row) h.unborn h.apart j) after in
+        still_within defers IsAny HasCounted fixed.batch_size j left s.world n p.0 (any defers (IsAloneOnSlot j) fixed.batch_size j p.0 s.world n p.1) b
+    bound j Rests ne after b = tt
+    bound j (Registers c) ne after b = tt
+    bound j (Outside t) ne after b = tt
+    bound j (Enters t) ne after b = tt
+    bound j (Inside t has) ne after b = tt
+    bound j (Leaves t size way) ne after b = tt
+    bound j (Left t size way) ne after b = tt
+    bound j (Frees t) ne after b = tt
 
     pub moved : so u → Goes (Holds defers fixed) Keeps s m id so
     moved is = (
@@ -148,11 +155,6 @@ module _ {T : Type 0} (defers : T → Option ℕ) (fixed : Fixed) (s : State T (
             let row = mo.rows j ne ∙ f.row in
             record { row = row; slot = mo.others j x ne (before j x ne e); short = f.short; known = known j x ne row f }
 
-        bound_at : (j : ℕ) (x : View T) → slice_get (slice_set s.views id u) j ≡ Some x → (j ≡ id) ⊎ (j ≢ id) → IsBounded defers fixed n j x
-        bound_at j x e (inl same) =
-            subst (λ (y : View T). IsBounded defers fixed n j y) (own j x same e) (subst (λ (k : ℕ). IsBounded defers fixed n k u) (sym same) mo.bounded)
-        bound_at j x e (inr ne) = bound j x ne (h.bounded j x (before j x ne e))
-
         none : (j : ℕ) → slice_get (slice_set s.views id u) j ≡ None → (j ≡ id) ⊎ (j ≢ id) → n.row j ≡ world.Rests
         none j e (inl same) = let f = here j same in absurd (cc (e, f))
         none j e (inr ne) = mo.rows j ne ∙ h.unborn j (sym (elsewhere s.views id j u ne) ∙ e)
@@ -163,6 +165,16 @@ module _ {T : Type 0} (defers : T → Option ℕ) (fixed : Fixed) (s : State T (
         two j k t a b x y e f p q (inl i) (inr ne) = absurd (mo.alone k t y b a ne (before k y ne f) q (ap use_of (own j x i e) ∙ p))
         two j k t a b x y e f p q (inr ne) (inl l) = absurd (mo.alone j t x a b ne (before j x ne e) p (ap use_of (own k y l f) ∙ q))
         two j k t a b x y e f p q (inr ne) (inr ne2) = h.apart j k t a b x y (before j x ne e) (before k y ne2 f) p q
+
+        -- nobody settles on another one's slot then, either
+        after : (j : ℕ) → IsAloneOnSlot j n
+        after j = alone_on_slot n (slice_get (slice_set s.views id u)) (λ i x e. (fit i x e (cases_eq i id)).row) (λ i e. none i e (cases_eq i id))
+            (λ i k t a b x y e f p q. two i k t a b x y e f p q (cases_eq i id) (cases_eq k id)) j
+
+        bound_at : (j : ℕ) (x : View T) → slice_get (slice_set s.views id u) j ≡ Some x → (j ≡ id) ⊎ (j ≢ id) → IsBounded defers fixed n j x
+        bound_at j x e (inl same) =
+            subst (λ (y : View T). IsBounded defers fixed n j y) (own j x same e) (subst (λ (k : ℕ). IsBounded defers fixed n k u) (sym same) mo.bounded)
+        bound_at j x e (inr ne) = bound j x ne (after j) (h.bounded j x (before j x ne e))
 
         still : (j b : ℕ) (x o : View T) → j ≢ id → view_of s j ≡ Some x → Keeps x o s.world b → Keeps x o n b
         still j b x o ne e keeps =

@@ -105,7 +105,7 @@ module _ {T : Type 0} (defers : T → Option ℕ) (fixed : Fixed) (s : State T (
         roots = subst (λ (x : Mem T). RootsNameLinked x w.hand) (sym took.1) h.roots;
         rooted = ap (λ (x : Mem T). length x.roots) took.1 ∙ h.rooted;
         plain = world_plain defers fixed s id (Inside t had) h at;
-        passes = λ j ne. ([], refl);
+        passes = λ j ne was now. ([], refl);
       }) so (is word refl)
   sees a Stored m took so is = absurd took.0
   sees a (Exchanged x) m took so is = absurd took.0
@@ -198,7 +198,7 @@ module _ {T : Type 0} (defers : T → Option ℕ) (fixed : Fixed) (s : State T (
             ];
             rooted = u.rooted;
             plain = u.plain;
-            passes = passes_then defers fixed s id t n v (Unlinks id (block_in old)) (λ j. tt) u.passes
+            passes = passes_then defers fixed s id t n v (Unlinks id (block_in old)) tt (λ j. tt) u.passes
                 (subst (λ (k : Hand). MayCut id k) (sym mine) tt, refl) u.plain;
           }) so (at_view false e)
         where
@@ -261,7 +261,7 @@ module _ {T : Type 0} (defers : T → Option ℕ) (fixed : Fixed) (s : State T (
         roots = named;
         rooted = rooted_still a word old m took;
         plain = written_plain a word old m took;
-        passes = passes_then defers fixed s id t (record w { memory = m }) n (Links id b a) (λ j. tt) (written_passes a word old m took) ((id, mine), refl)
+        passes = passes_then defers fixed s id t (record w { memory = m }) n (Links id b a) tt (λ j. tt) (written_passes a word old m took) ((id, mine), refl)
             (written_plain a word old m took);
       }) named (λ c f. other c (world.InUse a) (use_making a id) f) was (fresh a word old m took was is_new)
     where

@@ -1,6 +1,6 @@
 -- A settling goes on: its next operation may be made at any moment, and the rule holds after it.
 use Rattle.std.specs.Prelude.{Option, Some, length}
-use Rattle.std.proofs.Common.{◌≡◌, ℕ, ◌+◌, Bool, true, false, refl, sym, subst, ap, ◌∙◌, arith}
+use Rattle.std.proofs.Common.{◌≡◌, ℕ, ◌+◌, ◌<◌, Bool, true, false, refl, sym, subst, ap, ◌∙◌, arith}
 use Rattle.seize_words.specs.Mem.{Mem, Can, Took, value_at}
 use Rattle.seize_words.specs.Op.{Op, Out}
 use Rattle.seize_words.specs.Plan.{Plan, Turn, Do, Ends, Steps, May}
@@ -29,9 +29,9 @@ use Rattle.seize_acts.proofs.Answers.{same_some, ended}
 use Rattle.seize_acts.proofs.Steps.{sees_end}
 use Rattle.seize_ends.proofs.Batches.Rows.{settles_memory}
 use Rattle.seize_seats.specs.State.{State, view_of, Goes as GoesOnBy}
-use Rattle.seize_shared.specs.Bounds.{HasCounted, ArePlain, CountsWithin}
+use Rattle.seize_shared.specs.Bounds.{HasCounted, HasTried, IsAloneOnSlot, IsAny, ArePlain, CountsWithin, TriesWithin}
 use Rattle.seize_shared.specs.Rows.{settles_for, used_for, leave_of, counting, IsLooked, IsBounded, Holds, Keeps}
-use Rattle.seize_shared.specs.Told.{shown_by, FollowsBy, FallsFor, told}
+use Rattle.seize_shared.specs.Told.{shown_by, FollowsBy, told}
 use Rattle.seize_shared.specs.Promises.{op_in}
 use Rattle.seize_shared.specs.declared.view.View.{View}
 use Rattle.seize_shared.specs.declared.view.Becomes.{Becomes}
@@ -138,18 +138,29 @@ module _ {T : Type 0} (defers : T → Option ℕ) (fixed : Fixed) (s : State T (
   used (Ending size way) m d _ going slot is =
       ap (λ (t : ℕ). with_at w.uses c.slot (w.uses c.slot) t) slot ∙ with_here w.uses c.slot (w.uses c.slot) ∙ is
 
-  -- where the section has ended fewer steps are left
+  -- fewer steps are left
   record Next (y : Why) (n : World T) : Type 0 where
     pub now : ℕ
-    pub falls : FallsFor y left now
+    pub falls : now < left
     pub bounded : (d : Settle) (look : Option (ℕ × T)) → IsBounded defers fixed n id (Settles d y look now)
 
   next : (y : Why) → why ≡ y → (n : World T) → Steps' defers id (w.row id) w n → ArePlain defers n.memory → is_over c.stands ≡ false → Next y n
-  next Retiring e n step plain on = record { now = 0; falls = tt; bounded = λ d look. tt }
+  next Retiring e n step plain on =
+      let had : TriesWithin defers fixed.batch_size id left w =
+      subst (λ (y : Why). IsBounded defers fixed w id (Settles c y seen left)) e (h.bounded id v at_id) in
+      let k = steps_within defers (IsAloneOnSlot id) HasTried fixed.batch_size id left w n had not_tried step plain in
+      record { now = k.0; falls = k.1; bounded = λ d look. k.2 }
+    where
+      tried : HasTried (settles_for Retiring c) → c.stands ≡ at.Over
+      tried is = is
+
+      not_tried : HasTried (w.row id) → ⊥
+      not_tried is =
+          let over = tried (subst HasTried ((h.seats id v at_id).row ∙ ap (λ (y : Why). settles_for y c) e) is) in absurd (cc (on, ap is_over over))
   next (Ending size way) e n step plain on =
       let had : CountsWithin defers fixed.batch_size id left w =
       subst (λ (y : Why). IsBounded defers fixed w id (Settles c y seen left)) e (h.bounded id v at_id) in
-      let k = steps_within defers fixed.batch_size id left w n had not_counted step plain in
+      let k = steps_within defers IsAny HasCounted fixed.batch_size id left w n had not_counted step plain in
       record { now = k.0; falls = k.1; bounded = λ d look. k.2 }
     where
       counted : HasCounted (settles_for (Ending size way) c) → c.stands ≡ at.Over

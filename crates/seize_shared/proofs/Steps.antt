@@ -164,7 +164,7 @@ module _ {T : Type 0} (defers : T → Option ℕ) (fixed : Fixed) (s : State T (
     roots = roots_kept s.memory s.memory w.hand n.hand refl linked h.roots;
     rooted = h.rooted;
     plain = plain;
-    passes = λ j ne. (Begin id request ∷ [], (n, (λ e. ne (sym e)), happens, plain, refl));
+    passes = λ j ne was now. (Begin id request ∷ [], (n, (λ e. ne (sym e)), happens, plain, now, refl));
     bounded = bounded;
   }
     where
@@ -189,7 +189,7 @@ module _ {T : Type 0} (defers : T → Option ℕ) (fixed : Fixed) (s : State T (
     roots = roots_kept w.memory m w.hand n.hand same_roots (λ b r is. kept b (world.InUse r) tt is) world_roots;
     rooted = ap length same_roots ∙ world_rooted;
     plain = step_plain n step;
-    passes = λ j ne. (Step id ∷ [], (n, (λ e. ne (sym e)), step, step_plain n step, refl));
+    passes = λ j ne was now. (Step id ∷ [], (n, (λ e. ne (sym e)), step, step_plain n step, now, refl));
     bounded = bounded;
   }
     where

@@ -5,15 +5,16 @@ use Rattle.seize_words.specs.Mem.{Mem, Took, value_at}
 use Rattle.seize_words.specs.Op.{Op, Out}
 use Rattle.seize.specs.declared.states.TheConstants.{LAST_SLOT}
 use Rattle.seize.specs.Law.{Effect, holds, is_over}
-use Rattle.seize.specs.World.{World, Use, Hand, Event, Happens, with_at}
+use Rattle.seize.specs.Sequence.{IsBetween}
+use Rattle.seize.specs.World.{World, Row, Use, Hand, Event, Happens, with_at}
 use Rattle.seize.specs.World as world
 use Rattle.seize_alone.proofs.Given.SeizeMoves.State.Ghost.{IsOwned}
 use Rattle.seize_alone.proofs.Given.SeizeMoves.Moves.Blocks.{never_held}
 use Rattle.seize_rule.proofs.Points.Aside.{HandFits}
-use Rattle.seize_rule.proofs.Rows.Others.{with_other}
+use Rattle.seize_rule.proofs.Rows.Others.{with_other, users_rows}
 use Rattle.seize_alone.proofs.Histories.Reached.{Reached}
 use Rattle.seize_seats.specs.State.{State, view_of, Goes}
-use Rattle.seize_shared.specs.Bounds.{IsOfOthers, ArePlain}
+use Rattle.seize_shared.specs.Bounds.{IsOfOthers, IsAloneOnSlot, ArePlain}
 use Rattle.seize_shared.specs.Rows.{use_of, IsInHand, RootsNameLinked, Fits, Came, Holds, Keeps}
 use Rattle.seize_shared.specs.declared.view.View.{View}
 use Rattle.seize_shared.specs.declared.view.View.TheVariants.{Inside}
@@ -84,14 +85,14 @@ module _ {T : Type 0} (defers : T → Option ℕ) (fixed : Fixed) (s : State T (
   -- one event of a user, and one more
   pub passes_one : (e : Event T) (n : World T) → ((j : ℕ) → IsOfOthers j e) → Happens defers fixed.batch_size e w n → ArePlain defers n.memory
       → Passes defers fixed s id n
-  passes_one e n is happens plain j ne = (e ∷ [], (n, is j, happens, plain, refl))
+  passes_one e n is happens plain j ne was now = (e ∷ [], (n, is j, happens, plain, now, refl))
 
-  pub passes_then : (n v : World T) (e : Event T) → ((j : ℕ) → IsOfOthers j e) → Passes defers fixed s id n → Happens defers fixed.batch_size e n v
-      → ArePlain defers v.memory
-      → Passes defers fixed s id v
-  passes_then n v e is before happens plain j ne =
-      let p = before j ne in
-      (p.0 ++ e ∷ [], both defers fixed.batch_size j p.0 (e ∷ []) w n v p.1 (v, is j, happens, plain, refl))
+  pub passes_then : (n v : World T) (e : Event T) → IsBetween e → ((j : ℕ) → IsOfOthers j e) → Passes defers fixed s id n
+      → Happens defers fixed.batch_size e n v → ArePlain defers v.memory → Passes defers fixed s id v
+  passes_then n v e between is before happens plain j ne was now =
+      let mid : IsAloneOnSlot j n = subst (λ (rows : ℕ → Row). IsAloneOnSlot j (record v { row = rows })) (users_rows defers fixed.batch_size n v e between happens) now in
+      let p = before j ne was mid in
+      (p.0 ++ e ∷ [], both defers (IsAloneOnSlot j) fixed.batch_size j p.0 (e ∷ []) w n v p.1 (v, is j, happens, plain, now, refl))
 
 module _ {T : Type 0} (defers : T → Option ℕ) (fixed : Fixed) (s : State T (View T) (World T)) (id t : ℕ) (had : Has) (h : Holds defers fixed s)
     (at : view_of s id ≡ Some (Inside t had)) where

@@ -2,6 +2,7 @@
 use Rattle.std.specs.Prelude.{◌≡◌, false, None, ℕ}
 use Rattle.seize_words.specs.Word.{link_to}
 use Rattle.seize.specs.declared.rows.register.Registering.TheVariants as at
+use Rattle.seize.specs.declared.rows.settle.Settle.{Settle}
 use Rattle.seize.specs.Settle.{retiring, flushing}
 use Rattle.seize_shared.specs.declared.view.View.{View}
 use Rattle.seize_shared.specs.declared.view.Becomes.{Becomes}
@@ -19,15 +20,6 @@ module _ {T : Type 0} (fixed : Fixed) where
   abbrev pub entering : View T → View T
   entering (Outside t) = Enters t
   entering v = v
-
-  abbrev pub retires : View T → View T
-  retires (Inside t (Cut b)) = Settles (retiring t fixed.batch_size (link_to b)) Retiring None 0
-  retires v = v
-
-  abbrev pub flushes : View T → View T
-  flushes (Inside t Nothing) = Settles (flushing t fixed.batch_size) Retiring None 0
-  flushes (Inside t (Seen b)) = Settles (flushing t fixed.batch_size) Retiring None 0
-  flushes v = v
 
   abbrev pub leaving : View T → View T
   leaving (Inside t Nothing) = Leaves t fixed.batch_size Idle
@@ -52,6 +44,21 @@ module _ {T : Type 0} (fixed : Fixed) where
   abbrev pub freeing : View T → View T
   freeing (Outside t) = Frees t
   freeing v = v
+
+-- a settling begins, which takes so many steps
+abbrev pub IsBegun : {T : Type 0} → Settle → View T → Type 0
+IsBegun c u = (left : ℕ) × (u ≡ Settles c Retiring None left)
+
+-- a block is retired that was unlinked
+abbrev pub Retires : {T : Type 0} → Fixed → View T → View T → Type 0
+Retires fixed (Inside t (Cut b)) u = IsBegun (retiring t fixed.batch_size (link_to b)) u
+Retires fixed v u = u ≡ v
+
+-- the batch is tried, by who has no block in its hand
+abbrev pub Flushes : {T : Type 0} → Fixed → View T → View T → Type 0
+Flushes fixed (Inside t Nothing) u = IsBegun (flushing t fixed.batch_size) u
+Flushes fixed (Inside t (Seen b)) u = IsBegun (flushing t fixed.batch_size) u
+Flushes fixed v u = u ≡ v
 
 -- a turn that makes this of a view
 abbrev pub Makes : {T : Type 0} → (Fixed → View T → View T) → Fixed → View T → View T → Type 0

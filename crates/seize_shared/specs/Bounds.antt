@@ -1,13 +1,15 @@
--- How many steps of its own a row takes at most until its list is counted down, whatever the others do meanwhile.
+-- How many steps of its own a row takes at most until it has settled, whatever the others do meanwhile.
 use Rattle.std.specs.Prelude.{◌≡◌, ◌≢◌, ◌⊎◌, ℕ, zero, suc, List, [], ◌∷◌, Option, Some, None}
 use Rattle.seize_words.specs.Mem.{Mem, value_at}
+use Rattle.seize.specs.declared.rows.settle.Settle.{Settle}
 use Rattle.seize.specs.declared.rows.settle.Settling.TheVariants as settling
 use Rattle.seize.specs.declared.rows.leave.Leaving.{Leaving}
 use Rattle.seize.specs.declared.rows.leave.Leaving.TheVariants as leaving
 use Rattle.seize.specs.declared.rows.leave.Leave.{Leave}
-use Rattle.seize.specs.Settle.{counting_down}
+use Rattle.seize.specs.Settle.{retiring, flushing, counting_down}
 use Rattle.seize.specs.Leave.{standing}
-use Rattle.seize.specs.World.{World, Row, Leaves, Event, Begin, Step, Happens, Runs, Steps', at_start}
+use Rattle.seize.specs.World.{World, Row, Settles, Leaves, Event, Begin, Step, Happens, Runs, Steps', at_start}
+use Rattle.seize_acts.specs.Waits.{SettlesOn}
 
 -- a row that ends a section has counted down what its slot's list named
 abbrev pub IsCountedAt : Leaving → Type 0
@@ -20,28 +22,55 @@ abbrev pub HasCounted : Row → Type 0
 HasCounted (Leaves c) = IsCountedAt c.stands
 HasCounted _ = ⊥
 
+-- a row that retires a block, or tries its batch, has done so
+abbrev pub HasTried : Row → Type 0
+HasTried (Settles c) = c.stands ≡ settling.Over
+HasTried _ = ⊥
+
+-- it has just begun to
+abbrev pub IsToTry : ℕ → Settle → Type 0
+IsToTry size c = ((slot : ℕ) × (block : ℕ) × (c ≡ retiring slot size block)) ⊎ ((slot : ℕ) × (c ≡ flushing slot size))
+
 -- an event that is not this caller's, nor begins a row of it
 abbrev pub IsOfOthers : {T : Type 0} → ℕ → Event T → Type 0
 IsOfOthers j (Begin i request) = i ≢ j
 IsOfOthers j (Step i) = i ≢ j
 IsOfOthers j _ = Unit {0}
 
+-- nobody else's row settles on the slot that the row of this caller settles on
+abbrev pub IsAloneOnSlot : {T : Type 0} → ℕ → World T → Type 0
+IsAloneOnSlot j w = (i slot : ℕ) → i ≢ j → SettlesOn slot (w.row j) → SettlesOn slot (w.row i) → ⊥
+
+-- nothing more is asked
+abbrev pub IsAny : {T : Type 0} → World T → Type 0
+IsAny w = Unit {0}
+
 module _ {T : Type 0} (defers : T → Option ℕ) where
   -- no value keeps a list of further ones
   abbrev pub ArePlain : Mem T → Type 0
   ArePlain m = (b : ℕ) (value : T) → value_at m b ≡ Some value → defers value ≡ None
 
-  -- the others do this, one after another, and no value keeps a list meanwhile
-  abbrev pub Meanwhile : ℕ → ℕ → List (Event T) → World T → World T → Type 0
-  Meanwhile size j [] w n = n ≡ w
-  Meanwhile size j (e ∷ events) w n = (v : World T) × IsOfOthers j e × Happens defers size e w v × ArePlain v.memory × Meanwhile size j events v n
+  -- the others do this, one after another; no value keeps a list meanwhile, and each world is such a one
+  abbrev pub Meanwhile : (World T → Type 0) → ℕ → ℕ → List (Event T) → World T → World T → Type 0
+  Meanwhile so size j [] w n = n ≡ w
+  Meanwhile so size j (e ∷ events) w n =
+      (v : World T) × IsOfOthers j e × Happens defers size e w v × ArePlain v.memory × so v × Meanwhile so size j events v n
 
-  -- the row of this caller has counted its list down after so many further steps of its own, at most
+  -- the row of this caller has come so far after so many further steps of its own, at most, as long as the worlds are such ones
+  abbrev pub Within : (World T → Type 0) → (Row → Type 0) → ℕ → ℕ → ℕ → World T → Type 0
+  Within so done size j zero w = done (w.row j)
+  Within so done size j (suc k) w =
+      done (w.row j)
+      ⊎ ((events : List (Event T)) (v n : World T) → Meanwhile so size j events w v → Steps' defers j (v.row j) v n → ArePlain n.memory
+      → Within so done size j k n)
+
+  -- it has counted its list down
   abbrev pub CountsWithin : ℕ → ℕ → ℕ → World T → Type 0
-  CountsWithin size j zero w = HasCounted (w.row j)
-  CountsWithin size j (suc k) w =
-      HasCounted (w.row j)
-      ⊎ ((events : List (Event T)) (v n : World T) → Meanwhile size j events w v → Steps' defers j (v.row j) v n → ArePlain n.memory → CountsWithin size j k n)
+  CountsWithin size j k w = Within IsAny HasCounted size j k w
+
+  -- it has retired its block, or tried its batch, as long as nobody else settles on its slot
+  abbrev pub TriesWithin : ℕ → ℕ → ℕ → World T → Type 0
+  TriesWithin size j k w = Within (IsAloneOnSlot j) HasTried size j k w
 
   -- A list that was taken from a slot is counted down within a number of steps.
   abbrev pub ListsAreCounted : Type 0
@@ -49,3 +78,9 @@ module _ {T : Type 0} (defers : T → Option ℕ) where
       (size roots : ℕ) (events : List (Event T)) (w : World T) → Runs defers size events (at_start defers roots) w → ArePlain w.memory
       → (j head : ℕ) (c : Leave) → w.row j ≡ Leaves (standing c (leaving.Settles (counting_down c.slot c.batch_size head)))
       → (k : ℕ) × CountsWithin size j k w
+
+  -- A block is retired, and a batch tried, within a number of steps.
+  abbrev pub BatchesAreTried : Type 0
+  BatchesAreTried =
+      (size roots : ℕ) (events : List (Event T)) (w : World T) → Runs defers size events (at_start defers roots) w → ArePlain w.memory
+      → (j : ℕ) (c : Settle) → IsAloneOnSlot j w → IsToTry size c → w.row j ≡ Settles c → (k : ℕ) × TriesWithin size j k w

@@ -5,3 +5,4 @@ pub mod Promises
 pub mod Begun
 pub mod Seeking
 pub mod Made
+pub mod Standing

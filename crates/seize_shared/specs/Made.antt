@@ -1,5 +1,5 @@
 -- A caller as the memory of the rows that it has under way: what it may do next, what it has done, and what it shows.
-use Rattle.std.specs.Prelude.{◌≡◌, ℕ, Option, Some, None}
+use Rattle.std.specs.Prelude.{◌≡◌, ℕ, Option, None}
 use Rattle.seize_words.specs.Op.{Op, Out, Rewrite}
 use Rattle.seize.specs.declared.rows.settle.Settle.{Settle}
 use Rattle.seize_seats.specs.State.{Allows, Owns}

@@ -13,6 +13,7 @@ use Rattle.seize.specs.Register.{register_plan}
 use Rattle.seize.specs.Settle.{retiring, flushing, settle_plan}
 use Rattle.seize_seats.specs.Lendings.{Shown, IsValueOf}
 use Rattle.seize_seats.specs.State.{Starts, Comes, Allows, Turns}
+use Rattle.seize_shared.specs.Begun.{IsBegun}
 use Rattle.seize_shared.specs.Rows.{head_of, Holds, Keeps}
 use Rattle.seize_shared.specs.Told.{told}
 use Rattle.seize_shared.specs.declared.view.View.{View}
@@ -40,9 +41,9 @@ module _ {T : Type 0} (defers : T → Option ℕ) where
   op_of (Frees t) = Some (Store (Slot t HEAD) FREE)
   op_of _ = None
 
--- within a section of this slot a seat that has no block in its hand may begin to leave, or to refresh, or to try its batch
+-- within a section of this slot a seat that has no block in its hand may begin to leave, or to refresh
 abbrev pub IsFree : {T : Type 0} → Fixed → ℕ → View T → Type 0
-IsFree fixed t u = ((way : Becomes) × (u ≡ Leaves t fixed.batch_size way)) ⊎ (u ≡ Settles (flushing t fixed.batch_size) Retiring None 0)
+IsFree fixed t u = (way : Becomes) × (u ≡ Leaves t fixed.batch_size way)
 
 -- where a section has ended so
 abbrev pub IsLeft : {T : Type 0} → Becomes → ℕ → View T → Type 0
@@ -55,11 +56,17 @@ IsNext fixed Rests u = u ≡ Registers record { slot = 0; enters = false; stands
 IsNext fixed (Outside t) u = (u ≡ Enters t) ⊎ (u ≡ Frees t)
 IsNext fixed (Inside t Nothing) u = IsFree fixed t u
 IsNext fixed (Inside t (Seen b)) u = IsFree fixed t u
-IsNext fixed (Inside t (Cut b)) u = u ≡ Settles (retiring t fixed.batch_size (link_to b)) Retiring None 0
 IsNext fixed (Settles c Retiring seen left) u = (c.stands ≡ settling_at.Over) × (u ≡ Inside c.slot Nothing)
 IsNext fixed (Settles c (Ending size way) seen left) u = (c.stands ≡ settling_at.Over) × (u ≡ Left c.slot size way)
 IsNext fixed (Left t size way) u = IsLeft way t u
 IsNext fixed _ u = ⊥
+
+-- within a section a settling may begin: of the block that was unlinked, or of the batch
+abbrev pub IsToSettle : {T : Type 0} → Fixed → View T → Settle → Type 0
+IsToSettle fixed (Inside t (Cut b)) c = c ≡ retiring t fixed.batch_size (link_to b)
+IsToSettle fixed (Inside t Nothing) c = c ≡ flushing t fixed.batch_size
+IsToSettle fixed (Inside t (Seen b)) c = c ≡ flushing t fixed.batch_size
+IsToSettle fixed _ c = ⊥
 
 -- the block that is known
 abbrev pub Names : Has → ℕ → Type 0
@@ -90,6 +97,10 @@ module _ (T : Type 0) (defers : T → Option ℕ) where
   -- and rows begin and end
   abbrev pub RowsTurn : Type 0
   RowsTurn = (fixed : Fixed) (id : ℕ) (v u : View T) → IsNext fixed v u → Turns (Holds defers fixed) Keeps id v (λ x. x ≡ u)
+
+  -- a settling begins, with as many steps left as it takes at most
+  abbrev pub SettlingsBegin : Type 0
+  SettlingsBegin = (fixed : Fixed) (id : ℕ) (v : View T) (c : Settle) → IsToSettle fixed v c → Turns (Holds defers fixed) Keeps id v (IsBegun c)
 
   -- within a section of a slot this operation may be made by a seat that knows of this block
   abbrev pub MayInside : Has → Op T → Type 0

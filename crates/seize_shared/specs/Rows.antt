@@ -17,7 +17,7 @@ use Rattle.seize.specs.Law.{holds, is_over}
 use Rattle.seize.specs.World.{World, Row, Hand, Event, Use, Runs, at_start}
 use Rattle.seize.specs.World as world
 use Rattle.seize_seats.specs.State.{State, view_of}
-use Rattle.seize_shared.specs.Bounds.{ArePlain, CountsWithin}
+use Rattle.seize_shared.specs.Bounds.{ArePlain, CountsWithin, TriesWithin}
 use Rattle.seize_shared.specs.declared.view.View.{View}
 use Rattle.seize_shared.specs.declared.view.Becomes.{Becomes}
 use Rattle.seize_shared.specs.declared.view.Becomes.TheVariants.{Idle, Active}
@@ -128,9 +128,10 @@ module _ {T : Type 0} where
     pub known : IsKnown w j v
 
 module _ {T : Type 0} (defers : T → Option ℕ) (fixed : Fixed) where
-  -- where the section of a seat has ended, its list is counted down within so many steps
+  -- What a seat settles it has settled within so many steps: the list of its section that has ended is counted down; or its block is retired, or its batch tried.
   abbrev pub IsBounded : World T → ℕ → View T → Type 0
   IsBounded w j (Settles c (Ending size way) seen left) = CountsWithin defers fixed.batch_size j left w
+  IsBounded w j (Settles c Retiring seen left) = TriesWithin defers fixed.batch_size j left w
   IsBounded w j _ = Unit {0}
 
   -- the world came about from the start

@@ -20,7 +20,7 @@ use Rattle.seize_shared.specs.declared.view.View.TheVariants.{Rests, Registers, 
 use Rattle.seize_shared.specs.declared.view.Has.{Has}
 use Rattle.seize_shared.specs.declared.view.Has.TheVariants.{Nothing, Made, Seen, Cut}
 use Rattle.seize_shared.specs.declared.view.Why.{Why}
-use Rattle.seize_shared.specs.declared.view.Why.TheVariants.{Retiring, Ending}
+use Rattle.seize_shared.specs.declared.view.Why.TheVariants.{Ending}
 
 -- the block that a word of a root names, if it names one, as it was seen, or unlinked
 abbrev pub seen_in : ℕ → Has
@@ -66,20 +66,15 @@ left_by (c, _) = Registers c
 abbrev pub list_taken : {T : Type 0} → ℕ → ℕ → Becomes → ℕ → ℕ → View T
 list_taken t size way head left = if nat_lt ACTIVE head then Settles (counting_down t size head) (Ending size way) None left else Left t size way
 
--- where a section has ended fewer steps are left
-abbrev pub FallsFor : Why → ℕ → ℕ → Type 0
-FallsFor Retiring was now = Unit {0}
-FallsFor (Ending size way) was now = now < was
-
 module _ {T : Type 0} (defers : T → Option ℕ) where
-  -- a settling goes on, with the same slot
+  -- a settling goes on, with the same slot, and fewer steps are left
   pub record GoesOn (c : Settle) (why : Why) (left : ℕ) (out : Out T) (w : View T) : Type 0 where
     pub end : Settle × Settled T
     pub seen : Option (ℕ × T)
     pub now : ℕ
     pub follows : FollowsBy (shown_by seen) (settle_plan defers c) out end
     pub slot : end.0.slot ≡ c.slot
-    pub falls : FallsFor why left now
+    pub falls : now < left
     pub view : w ≡ Settles end.0 why seen now
 
   abbrev pub told : View T → Op T → Out T → View T → Type 0

@@ -4,9 +4,11 @@ ghost use Rattle.seize_words.specs.Word.{block_in};
 ghost use Rattle.seize.specs.declared.states.TheConstants.{LAST_SLOT};
 ghost use Rattle.seize.specs.declared.rows.register.Registering.TheVariants.{Take};
 ghost use Rattle.seize_seats.specs.Lendings.{IsValueOf};
+ghost use Rattle.seize_shared.specs.Promises.{IsLooking};
 ghost use Rattle.seize_shared.specs.Rows.{Holds};
 ghost use Rattle.seize_shared.specs.Seeking.{row_at, seeks};
 ghost use Rattle.seize_shared.specs.declared.view.View.TheVariants.{Rests, Registers, Outside, Inside};
+ghost use Rattle.seize_shared.specs.declared.view.Has.{Has};
 ghost use Rattle.seize_shared.specs.declared.view.Has.TheVariants.{Nothing, Made, Seen, Cut};
 
 use crate::rows::OfRows;
@@ -168,11 +170,12 @@ impl<'a, T: Defers> Caller<'a, T> {
         named(old)
     }
 
-    /// Sees which block is at a root. Its section holds it from now on.
+    /// Sees which block is at a root. Its section holds it from now on. What it has seen before it doesn't know any more.
     pub fn see(&mut self, _slot: u64, root: u64) -> Option<u64>
-        requires inside { self.old.seat.view ≡ Inside _slot Nothing }
+        requires inside { (has : Has) × IsLooking has × (self.old.seat.view ≡ Inside _slot has) }
         requires root { root < self.old.blocks.now.words.fixed.roots }
         ensures seen { IfSome result (λ block. self.new.seat.view ≡ Inside _slot (Seen block)) }
+        ensures some { IfSome result (λ block. block ≢ 0) }
         ensures none { IfNone result (self.new.seat.view ≡ Inside _slot Nothing) }
         ensures blocks { self.new.blocks ≡ self.old.blocks }
     {

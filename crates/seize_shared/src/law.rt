@@ -1,6 +1,6 @@
 //! What is promised of the rule of the collector's rows.
-ghost use Rattle.seize_shared.specs.Bounds.{ListsAreCounted};
-ghost use Rattle.seize_shared.specs.Promises.{RulesStart, SeatsCome, RowsGoOn, RowsTurn, LookedAreShown};
+ghost use Rattle.seize_shared.specs.Bounds.{ListsAreCounted, BatchesAreTried};
+ghost use Rattle.seize_shared.specs.Promises.{RulesStart, SeatsCome, RowsGoOn, RowsTurn, SettlingsBegin, LookedAreShown};
 ghost use Rattle.seize_shared.specs.Promises.{BlocksAreMade, MadeAreTaken, MadeAreLinked, RootsAreSeen, RootsAreCleared, KnownAreShown};
 
 use seize::rows::Defers;
@@ -11,6 +11,7 @@ pub fn rows_go_on<T: Defers>()
     ensures come { SeatsCome T T.defers }
     ensures on { RowsGoOn T T.defers }
     ensures turn { RowsTurn T T.defers }
+    ensures settle { SettlingsBegin T T.defers }
     ensures looked { LookedAreShown T T.defers }
 {}
 
@@ -29,4 +30,10 @@ pub fn sections_go_on<T: Defers>()
 /// do meanwhile, as long as no value keeps a list.
 pub fn lists_are_counted<T: Defers>()
     ensures counted { ListsAreCounted T.defers }
+{}
+
+/// A block is retired, and a batch tried, within a number of steps of its row, whatever the others do meanwhile, as long as no value keeps a list and
+/// nobody else settles on the slot.
+pub fn batches_are_tried<T: Defers>()
+    ensures tried { BatchesAreTried T.defers }
 {}

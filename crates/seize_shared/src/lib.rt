@@ -3,6 +3,7 @@
 #![tactic(auto)]
 
 mod caller;
+mod guard;
 mod law;
 mod memory;
 mod rows;
@@ -10,6 +11,7 @@ mod turns;
 mod view;
 
 pub use caller::Caller;
-pub use law::{lists_are_counted, rows_go_on, sections_go_on};
+pub use guard::{LocalGuard, Registration};
+pub use law::{batches_are_tried, lists_are_counted, rows_go_on, sections_go_on};
 pub use rows::OfRows;
 pub use view::{Becomes, Fixed, Has, View, Why};

@@ -9,7 +9,6 @@ ghost use Rattle.seize_shared.specs.declared.view.Has.{Has};
 ghost use Rattle.seize_shared.specs.declared.view.Has.TheVariants.{Nothing, Cut};
 ghost use Rattle.seize_shared.specs.declared.view.View.TheVariants.{Outside, Inside, Left};
 ghost use Rattle.seize_shared.specs.declared.view.Why.{Why};
-ghost use Rattle.seize_shared.specs.declared.view.Why.TheVariants.{Ending as Counting};
 
 use crate::caller::Caller;
 use crate::turns::{Ending, Flushing, Leaving, Refreshing, Retiring};
@@ -17,7 +16,6 @@ use seize::Machine;
 use seize::rows::{Defers, Settle, Settled, Settling};
 use seize::states::{ACTIVE, HEAD, IDLE};
 use seize_words::{At, Fault, Link, Look, Memory};
-use std::sync::Wait;
 
 /// Whether a settling has ended.
 fn is_over(row: &Settle) -> bool
@@ -33,8 +31,7 @@ impl<'a, T: Defers> Caller<'a, T> {
         requires settling { (why : Why) × IsSettling why row.old self.old.seat.view }
         requires not { row.old.stands ≢ Over }
         ensures settling { (why : Why) → IsSettling why row.old self.old.seat.view → IsSettling why row.new self.new.seat.view }
-        ensures falls { (size : ℕ) (way : Becomes) → IsSettling (Counting size way) row.old self.old.seat.view
-            → left_in self.new.seat.view < left_in self.old.seat.view }
+        ensures falls { left_in self.new.seat.view < left_in self.old.seat.view }
         ensures slot { row.new.slot ≡ row.old.slot }
         ensures blocks { self.new.blocks ≡ self.old.blocks }
     {
@@ -46,28 +43,10 @@ impl<'a, T: Defers> Caller<'a, T> {
 }
 
 impl<'a, T: Defers + Drop> Caller<'a, T> {
-    /// Takes a settling to its end. A value that is reclaimed is dropped.
-    pub(crate) fn settles<W: Wait>(&mut self, rt: &W, row: &mut Settle)
+    /// Takes a settling to its end: others can't make it longer. A value that is reclaimed is dropped.
+    fn settles(&mut self, row: &mut Settle)
         requires settling { (why : Why) × IsSettling why row.old self.old.seat.view }
         ensures settling { (why : Why) → IsSettling why row.old self.old.seat.view → IsSettling why row.new self.new.seat.view }
-        ensures over { row.new.stands ≡ Over }
-        ensures slot { row.new.slot ≡ row.old.slot }
-        ensures blocks { self.new.blocks ≡ self.old.blocks }
-    {
-        for _ in rt.forever() {
-            if is_over(row) {
-                return;
-            }
-            drop(self.steps(row));
-        }
-        unreachable!()
-    }
-
-    /// Takes a settling to its end that counts a list down: others can't make that longer. A value that is reclaimed is dropped.
-    fn counts(&mut self, row: &mut Settle)
-        requires settling { (size : ℕ) × (way : Becomes) × IsSettling (Counting size way) row.old self.old.seat.view }
-        ensures settling { (size : ℕ) (way : Becomes) → IsSettling (Counting size way) row.old self.old.seat.view
-            → IsSettling (Counting size way) row.new self.new.seat.view }
         ensures over { row.new.stands ≡ Over }
         ensures slot { row.new.slot ≡ row.old.slot }
         ensures blocks { self.new.blocks ≡ self.old.blocks }
@@ -88,7 +67,7 @@ impl<'a, T: Defers + Drop> Caller<'a, T> {
             return;
         }
         let mut row = Settle::count_down(slot, self.batch_size, head);
-        self.counts(&mut row);
+        self.settles(&mut row);
         self.blocks.turn::<Ending>(&mut self.seat);
     }
 
@@ -119,19 +98,19 @@ impl<'a, T: Defers + Drop> Caller<'a, T> {
     }
 
     /// Tries its batch, whatever its length. A value that is reclaimed is dropped. What it has seen it doesn't know any more.
-    pub fn flush<W: Wait>(&mut self, rt: &W, slot: u64)
+    pub fn flush(&mut self, slot: u64)
         requires inside { (has : Has) × IsLooking has × (self.old.seat.view ≡ Inside slot has) }
         ensures inside { self.new.seat.view ≡ Inside slot Nothing }
         ensures blocks { self.new.blocks ≡ self.old.blocks }
     {
         self.blocks.turn::<Flushing>(&mut self.seat);
         let mut row = Settle::flush(slot, self.batch_size);
-        self.settles(rt, &mut row);
+        self.settles(&mut row);
         self.blocks.turn::<Ending>(&mut self.seat);
     }
 
     /// Retires the block that it has taken from a root. A value that is reclaimed is dropped.
-    pub fn retire<W: Wait>(&mut self, rt: &W, slot: u64, block: u64)
+    pub fn retire(&mut self, slot: u64, block: u64)
         requires cut { self.old.seat.view ≡ Inside slot (Cut block) }
         requires fits { block < 2 ^ 53 }
         ensures inside { self.new.seat.view ≡ Inside slot Nothing }
@@ -139,7 +118,7 @@ impl<'a, T: Defers + Drop> Caller<'a, T> {
     {
         self.blocks.turn::<Retiring>(&mut self.seat);
         let mut row = Settle::retire(slot, self.batch_size, Link::to(block));
-        self.settles(rt, &mut row);
+        self.settles(&mut row);
         self.blocks.turn::<Ending>(&mut self.seat);
     }
 }

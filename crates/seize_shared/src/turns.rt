@@ -39,15 +39,15 @@ impl<T> Turn<Fixed, View<T>> for Entering {
 }
 
 impl<T> Turn<Fixed, View<T>> for Retiring {
-    ghost use Rattle.seize_shared.specs.Begun.{retires, Makes};
+    ghost use Rattle.seize_shared.specs.Begun.{Retires};
 
-    ghost to = { Makes retires };
+    ghost to = { Retires };
 }
 
 impl<T> Turn<Fixed, View<T>> for Flushing {
-    ghost use Rattle.seize_shared.specs.Begun.{flushes, Makes};
+    ghost use Rattle.seize_shared.specs.Begun.{Flushes};
 
-    ghost to = { Makes flushes };
+    ghost to = { Flushes };
 }
 
 impl<T> Turn<Fixed, View<T>> for Leaving {

@@ -13,8 +13,8 @@ pub enum View<T> {
     Enters(u64),
     /// It holds this slot, and its section is open; and it knows of a block, or of none.
     Inside(u64, Has),
-    /// It settles what its slot has to settle, and why; this block, with its value, it is about to look at; and where its section has
-    /// ended it does so within so many further steps.
+    /// It settles what its slot has to settle, and why; this block, with its value, it is about to look at; and it has done so within
+    /// so many further steps.
     Settles(Settle, Why, Option<(u64, T)>, u64),
     /// It is about to end the section of this slot, whose head becomes so; batches have this size.
     Leaves(u64, u64, Becomes),

@@ -4,7 +4,6 @@ use crate::retiring::{Counted, Table, all_are, clears, looks, puts, table};
 use seize_blocks::Home;
 use seize_shared::{Caller, Fixed, OfRows};
 use std::alloc::{AllocError, Global};
-use std::sync::Wait;
 use std::test::Fail;
 use std::thread;
 use std::thread::Threads;
@@ -14,7 +13,7 @@ const TIMES: usize = 20_000;
 
 /// Looks at the root and puts a value there, so many times, and takes then away what is there. It answers how many values it has put, or none where one that it
 /// saw had been dropped.
-fn goes<W: Wait>(rt: &W, ground: &Ground<'_, Counted>, drops: &Table, from: usize) -> Option<u64> {
+fn goes(ground: &Ground<'_, Counted>, drops: &Table, from: usize) -> Option<u64> {
     let mut caller = Caller::new(ground.blocks, SIZE);
     let slot = caller.register().ok()?;
     let mut put = 0;
@@ -24,26 +23,20 @@ fn goes<W: Wait>(rt: &W, ground: &Ground<'_, Counted>, drops: &Table, from: usiz
             stale = stale || old;
         }
         caller.enter(slot);
-        if puts(
-            rt,
-            &mut caller,
-            slot,
-            drops,
-            usize::wrapping_add(from, turn),
-        ) {
+        if puts(&mut caller, slot, drops, usize::wrapping_add(from, turn)) {
             put = u64::wrapping_add(put, 1);
         }
         caller.leave(slot);
     }
     caller.enter(slot);
-    clears(rt, &mut caller, slot);
+    clears(&mut caller, slot);
     caller.leave(slot);
     caller.unregister(slot);
     if stale { None } else { Some(put) }
 }
 
 /// Two of them, of these places and those behind.
-fn pair<R: Threads + Wait + Sync>(
+fn pair<R: Threads + Sync>(
     rt: &R,
     ground: &Ground<'_, Counted>,
     drops: &Table,
@@ -51,18 +44,14 @@ fn pair<R: Threads + Wait + Sync>(
 ) -> bool {
     let (first, second) = thread::join(
         rt,
-        || goes(rt, ground, drops, from),
-        || goes(rt, ground, drops, usize::wrapping_add(from, TIMES)),
+        || goes(ground, drops, from),
+        || goes(ground, drops, usize::wrapping_add(from, TIMES)),
     );
     first.is_some() && second.is_some()
 }
 
 /// Four of them over one memory, which ends then; tells whether none of them saw a value that had been dropped.
-fn four<R: Threads + Wait + Sync>(
-    rt: &R,
-    alloc: Global,
-    drops: &Table,
-) -> Result<bool, AllocError> {
+fn four<R: Threads + Sync>(rt: &R, alloc: Global, drops: &Table) -> Result<bool, AllocError> {
     let home = Home::<Counted, OfRows>::open(
         alloc,
         1,

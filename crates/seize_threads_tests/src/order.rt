@@ -9,8 +9,8 @@ use seize::rows::Defers;
 use seize_blocks::Home;
 use seize_shared::{Caller, Fixed, OfRows};
 use std::alloc::{AllocError, Global};
+use std::sync::Arc;
 use std::sync::atomic::Ordering::SeqCst;
-use std::sync::{Arc, Wait};
 use std::test::Fail;
 use std::thread;
 use std::thread::Threads;
@@ -50,13 +50,7 @@ impl Defers for Numbered {
 }
 
 /// Puts the value of a place at the root, and retires the one that was there; tells whether it is there.
-fn puts<W: Wait>(
-    rt: &W,
-    caller: &mut Caller<'_, Numbered>,
-    slot: u64,
-    numbers: &Table,
-    place: usize,
-) -> bool
+fn puts(caller: &mut Caller<'_, Numbered>, slot: u64, numbers: &Table, place: usize) -> bool
     requires inside { caller.old.seat.view ≡ Inside slot Nothing }
     requires root { 0 < caller.old.blocks.now.words.fixed.roots }
     ensures inside { caller.new.seat.view ≡ Inside slot Nothing }
@@ -68,7 +62,7 @@ fn puts<W: Wait>(
     match caller.make(slot, Numbered { place, numbers }) {
         Ok(block) => {
             if let Some(old) = caller.publish(slot, 0, block) {
-                caller.retire(rt, slot, old);
+                caller.retire(slot, old);
             }
             true
         }
@@ -77,15 +71,15 @@ fn puts<W: Wait>(
 }
 
 /// Within one section puts a value at the root for each place from 1 on, and one more, with a flush after each; answers how many came back before it left.
-fn retires<W: Wait>(rt: &W, ground: &Ground<'_, Numbered>, numbers: &Table) -> Option<u64> {
+fn retires(ground: &Ground<'_, Numbered>, numbers: &Table) -> Option<u64> {
     let mut caller = Caller::new(ground.blocks, SIZE);
     let slot = caller.register().ok()?;
     caller.enter(slot);
     for turn in 0..MANY + 1 {
-        if !puts(rt, &mut caller, slot, numbers, turn + 1) {
+        if !puts(&mut caller, slot, numbers, turn + 1) {
             return None;
         }
-        caller.flush(rt, slot);
+        caller.flush(slot);
     }
     let early = at(numbers, 0);
     caller.leave(slot);
@@ -94,28 +88,28 @@ fn retires<W: Wait>(rt: &W, ground: &Ground<'_, Numbered>, numbers: &Table) -> O
 }
 
 /// Takes the value from the root, if there is one, and retires it.
-fn clears<W: Wait>(rt: &W, caller: &mut Caller<'_, Numbered>, slot: u64)
+fn clears(caller: &mut Caller<'_, Numbered>, slot: u64)
     requires inside { caller.old.seat.view ≡ Inside slot Nothing }
     requires root { 0 < caller.old.blocks.now.words.fixed.roots }
     ensures inside { caller.new.seat.view ≡ Inside slot Nothing }
     ensures blocks { caller.new.blocks ≡ caller.old.blocks }
 {
     if let Some(old) = caller.remove(slot, 0) {
-        caller.retire(rt, slot, old);
+        caller.retire(slot, old);
     }
 }
 
 /// Within one section retires as many values as a batch has, without a flush; answers how many came back by its end.
-fn fills<W: Wait>(rt: &W, ground: &Ground<'_, Numbered>, numbers: &Table) -> Option<u64> {
+fn fills(ground: &Ground<'_, Numbered>, numbers: &Table) -> Option<u64> {
     let mut caller = Caller::new(ground.blocks, SIZE);
     let slot = caller.register().ok()?;
     caller.enter(slot);
     for turn in 0..SIZE as usize {
-        if !puts(rt, &mut caller, slot, numbers, turn + 1) {
+        if !puts(&mut caller, slot, numbers, turn + 1) {
             return None;
         }
     }
-    clears(rt, &mut caller, slot);
+    clears(&mut caller, slot);
     caller.leave(slot);
     caller.unregister(slot);
     Some(at(numbers, 0))
@@ -132,7 +126,7 @@ fn leaves(caller: Caller<'_, Numbered>, slot: u64)
 
 /// Is within a section while another one retires a batch, and is then sent to another thread, where it leaves; answers how many came back by the other one's end,
 /// and by its own.
-fn sends<R: Threads + Wait + Sync>(
+fn sends<R: Threads + Sync>(
     rt: &R,
     ground: &Ground<'_, Numbered>,
     numbers: &Table,
@@ -140,21 +134,17 @@ fn sends<R: Threads + Wait + Sync>(
     let mut caller = Caller::new(ground.blocks, SIZE);
     let slot = caller.register().ok()?;
     caller.enter(slot);
-    let early = fills(rt, ground, numbers)?;
+    let early = fills(ground, numbers)?;
     thread::join(rt, move || leaves(caller, slot), || ());
     Some((early, at(numbers, 0)))
 }
 
 /// Is within a section while another one retires a batch, and refreshes it then; answers how many came back by the other one's end, and by the refresh.
-fn refreshes<W: Wait>(
-    rt: &W,
-    ground: &Ground<'_, Numbered>,
-    numbers: &Table,
-) -> Option<(u64, u64)> {
+fn refreshes(ground: &Ground<'_, Numbered>, numbers: &Table) -> Option<(u64, u64)> {
     let mut caller = Caller::new(ground.blocks, SIZE);
     let slot = caller.register().ok()?;
     caller.enter(slot);
-    let early = fills(rt, ground, numbers)?;
+    let early = fills(ground, numbers)?;
     caller.refresh(slot);
     let then = at(numbers, 0);
     caller.leave(slot);
@@ -178,23 +168,19 @@ fn ground_of(alloc: Global) -> Result<Home<Numbered, OfRows>, AllocError>
 }
 
 /// Thirty values over one memory; answers how many came back before their guard ended, and before the memory does.
-fn retires_alone<W: Wait>(
-    rt: &W,
-    alloc: Global,
-    numbers: &Table,
-) -> Result<Option<(u64, u64)>, AllocError> {
+fn retires_alone(alloc: Global, numbers: &Table) -> Result<Option<(u64, u64)>, AllocError> {
     let home = ground_of(alloc)?;
     let ground = Ground {
         blocks: &home.blocks,
     };
-    let Some(early) = retires(rt, &ground, numbers) else {
+    let Some(early) = retires(&ground, numbers) else {
         return Ok(None);
     };
     Ok(Some((early, at(numbers, 0))))
 }
 
 /// A batch over one memory, with a caller that is sent; answers how many came back by the end of the one who retired it, and of the other one.
-fn sends_one<R: Threads + Wait + Sync>(
+fn sends_one<R: Threads + Sync>(
     rt: &R,
     alloc: Global,
     numbers: &Table,
@@ -207,16 +193,12 @@ fn sends_one<R: Threads + Wait + Sync>(
 }
 
 /// A batch over one memory, with a caller that refreshes; answers how many came back by the end of the one who retired it, and by the refresh.
-fn refreshes_one<W: Wait>(
-    rt: &W,
-    alloc: Global,
-    numbers: &Table,
-) -> Result<Option<(u64, u64)>, AllocError> {
+fn refreshes_one(alloc: Global, numbers: &Table) -> Result<Option<(u64, u64)>, AllocError> {
     let home = ground_of(alloc)?;
     let ground = Ground {
         blocks: &home.blocks,
     };
-    Ok(refreshes(rt, &ground, numbers))
+    Ok(refreshes(&ground, numbers))
 }
 
 /// Each place from 1 on has the number of those that were retired after it, and one.
@@ -234,7 +216,7 @@ fn thirty_values_come_back_as_their_guard_ends_and_the_last_first(
     rt: HostRuntime,
 ) -> Result<(), Fail> {
     let numbers = table(rt.alloc(), MANY + 2)?;
-    let counts = retires_alone(&rt, rt.alloc(), &numbers)?;
+    let counts = retires_alone(rt.alloc(), &numbers)?;
     assert_eq!(rt; counts, Some((0, MANY as u64)));
     assert!(rt; is_last_first(&numbers));
     Ok(())
@@ -264,7 +246,7 @@ fn a_batch_comes_back_in_order_where_a_guard_ends_on_another_thread(
 #[test]
 fn a_batch_comes_back_in_order_where_a_guard_is_refreshed(rt: HostRuntime) -> Result<(), Fail> {
     let numbers = table(rt.alloc(), SIZE as usize + 1)?;
-    let counts = refreshes_one(&rt, rt.alloc(), &numbers)?;
+    let counts = refreshes_one(rt.alloc(), &numbers)?;
     assert_eq!(rt; counts, Some((0, SIZE)));
     assert!(rt; is_in_order(&numbers));
     Ok(())

@@ -11,9 +11,9 @@ use seize::rows::Defers;
 use seize_blocks::{Blocks, Home};
 use seize_shared::{Caller, Fixed, OfRows};
 use std::alloc::{AllocError, Global};
+use std::sync::Arc;
 use std::sync::atomic::AtomicU64;
 use std::sync::atomic::Ordering::SeqCst;
-use std::sync::{Arc, Wait};
 use std::test::Fail;
 use std::thread;
 use std::thread::Threads;
@@ -29,14 +29,14 @@ pub(crate) struct Counted {
 
 impl Counted {
     /// The value of a place. There is none where the table has too many owners.
-    fn of(drops: &Table, place: usize) -> Option<Counted> {
+    pub(crate) fn of(drops: &Table, place: usize) -> Option<Counted> {
         let drops = Arc::try_clone(drops).ok()?;
         Some(Counted { place, drops })
     }
 }
 
 /// How often the value of a place was dropped.
-fn dropped(drops: &Table, place: usize) -> u64 {
+pub(crate) fn dropped(drops: &Table, place: usize) -> u64 {
     match drops.get(place) {
         Some(count) => count.load(SeqCst),
         None => 0,
@@ -62,13 +62,7 @@ impl Defers for Counted {
 
 /// Puts the value of a place at the root, and retires the one that was there; tells whether it is there, and the other one had not been dropped. Where no
 /// number is free it is dropped.
-pub(crate) fn puts<W: Wait>(
-    rt: &W,
-    caller: &mut Caller<'_, Counted>,
-    slot: u64,
-    drops: &Table,
-    place: usize,
-) -> bool
+pub(crate) fn puts(caller: &mut Caller<'_, Counted>, slot: u64, drops: &Table, place: usize) -> bool
     requires inside { caller.old.seat.view ≡ Inside slot Nothing }
     requires root { 0 < caller.old.blocks.now.words.fixed.roots }
     ensures inside { caller.new.seat.view ≡ Inside slot Nothing }
@@ -82,7 +76,7 @@ pub(crate) fn puts<W: Wait>(
             if let Some(old) = caller.publish(slot, 0, block) {
                 let value = caller.unlinked(slot, old);
                 let stale = dropped(&value.drops, value.place) != 0;
-                caller.retire(rt, slot, old);
+                caller.retire(slot, old);
                 return !stale;
             }
             true
@@ -92,36 +86,31 @@ pub(crate) fn puts<W: Wait>(
 }
 
 /// Takes the value from the root, if there is one, and retires it.
-pub(crate) fn clears<W: Wait>(rt: &W, caller: &mut Caller<'_, Counted>, slot: u64)
+pub(crate) fn clears(caller: &mut Caller<'_, Counted>, slot: u64)
     requires inside { caller.old.seat.view ≡ Inside slot Nothing }
     requires root { 0 < caller.old.blocks.now.words.fixed.roots }
     ensures inside { caller.new.seat.view ≡ Inside slot Nothing }
     ensures blocks { caller.new.blocks ≡ caller.old.blocks }
 {
     if let Some(old) = caller.remove(slot, 0) {
-        caller.retire(rt, slot, old);
+        caller.retire(slot, old);
     }
 }
 
 /// Puts so many values at the root, each within a section, and takes the last one away; answers how many it has put there.
-fn writes<W: Wait>(
-    rt: &W,
-    ground: &Ground<'_, Counted>,
-    drops: &Table,
-    times: usize,
-) -> Option<u64> {
+fn writes(ground: &Ground<'_, Counted>, drops: &Table, times: usize) -> Option<u64> {
     let mut caller = Caller::new(ground.blocks, SIZE);
     let slot = caller.register().ok()?;
     let mut put = 0;
     for place in 0..times {
         caller.enter(slot);
-        if puts(rt, &mut caller, slot, drops, place) {
+        if puts(&mut caller, slot, drops, place) {
             put = u64::wrapping_add(put, 1);
         }
         caller.leave(slot);
     }
     caller.enter(slot);
-    clears(rt, &mut caller, slot);
+    clears(&mut caller, slot);
     caller.leave(slot);
     caller.unregister(slot);
     Some(put)
@@ -183,7 +172,7 @@ pub(crate) fn table(alloc: Global, places: usize) -> Result<Table, AllocError> {
 }
 
 /// A writer and a reader over one memory, which ends then.
-fn writes_beside_reads<R: Threads + Wait + Sync>(
+fn writes_beside_reads<R: Threads + Sync>(
     rt: &R,
     alloc: Global,
     drops: &Table,
@@ -203,7 +192,7 @@ fn writes_beside_reads<R: Threads + Wait + Sync>(
     };
     Ok(thread::join(
         rt,
-        || writes(rt, &ground, drops, times),
+        || writes(&ground, drops, times),
         || reads(&ground, times),
     ))
 }
@@ -221,8 +210,7 @@ fn what_a_section_has_seen_is_there_and_each_value_is_dropped_once(
 
 /// Puts a value at the root, and five more once the other one has seen it; answers how often the first one was dropped while the other one is within its
 /// section.
-fn replaces<W: Wait>(
-    rt: &W,
+fn replaces(
     ground: &Ground<'_, Counted>,
     bell: &Blocks<u64, OneRoot>,
     drops: &Table,
@@ -230,12 +218,12 @@ fn replaces<W: Wait>(
     let mut caller = Caller::new(ground.blocks, SIZE);
     let slot = caller.register().ok()?;
     caller.enter(slot);
-    let mut there = puts(rt, &mut caller, slot, drops, 0);
+    let mut there = puts(&mut caller, slot, drops, 0);
     caller.leave(slot);
     let seen = add(bell, 1) == 1 && sees(bell, 2);
     caller.enter(slot);
     for place in 1..6 {
-        there = puts(rt, &mut caller, slot, drops, place) && there;
+        there = puts(&mut caller, slot, drops, place) && there;
     }
     caller.leave(slot);
     let early = dropped(drops, 0);
@@ -250,12 +238,7 @@ fn replaces<W: Wait>(
 
 /// Sees the first value, and is within its section until five more were put; tells whether the value was there all the time, and the five that were retired
 /// meanwhile were dropped as it left.
-fn stays<W: Wait>(
-    rt: &W,
-    ground: &Ground<'_, Counted>,
-    bell: &Blocks<u64, OneRoot>,
-    drops: &Table,
-) -> Option<bool> {
+fn stays(ground: &Ground<'_, Counted>, bell: &Blocks<u64, OneRoot>, drops: &Table) -> Option<bool> {
     if !sees(bell, 1) {
         return None;
     }
@@ -274,7 +257,7 @@ fn stays<W: Wait>(
 }
 
 /// One who replaces a value and one who stays with it, over one memory, which ends then.
-fn replaces_beside_stays<R: Threads + Wait + Sync>(
+fn replaces_beside_stays<R: Threads + Sync>(
     rt: &R,
     alloc: Global,
     bell: &Blocks<u64, OneRoot>,
@@ -294,8 +277,8 @@ fn replaces_beside_stays<R: Threads + Wait + Sync>(
     };
     Ok(thread::join(
         rt,
-        || replaces(rt, &ground, bell, drops),
-        || stays(rt, &ground, bell, drops),
+        || replaces(&ground, bell, drops),
+        || stays(&ground, bell, drops),
     ))
 }
 

@@ -1,6 +1,6 @@
 -- A settling that counts a list down, and reclaims what comes to nothing, and has no batch in hand: how much it has left to do.
 use Rattle.std.specs.Prelude.{◌==◌, nat_lt, if◌then◌else◌}
-use Rattle.std.proofs.Common.{◌≡◌, ℕ, zero, suc, ◌+◌, ◌*◌, ◌≤◌, Bool, true, false, List, [], ◌∷◌, length, refl, arith, ap, sym, ◌∙◌}
+use Rattle.std.proofs.Common.{◌≡◌, ℕ, zero, suc, ◌+◌, ◌*◌, ◌^◌, ◌≤◌, Bool, true, false, List, [], ◌∷◌, length, refl, arith, ap, ◌∙◌}
 use Rattle.seize.specs.declared.states.TheConstants.{ACTIVE}
 use Rattle.seize.specs.declared.rows.settle.Settle.{Settle}
 use Rattle.seize.specs.declared.rows.settle.Settling.{Settling}
@@ -12,6 +12,7 @@ use Rattle.seize_rule.proofs.Points.Passed.{passed_rest}
 use Rattle.seize_rule.proofs.Points.Told.{Part, Plain, Pushing, Draining, part, batch_now, Told, Stays, Holds, HoldsNone, Gives, Begins, Appends, Fills, Skips}
 use Rattle.seize_rule.proofs.Points.Told.{Passes, Finds, Marks, GivesUp, Closes, Pushes, Misses, Sums, SumsLast, Drains, DrainsNone, Takes, TakesLast, Joins}
 use Rattle.seize_rule.proofs.Points.Told.{Counts, CountsLast}
+use Rattle.seize_shared.proofs.Bounds.Moves.{put_here, taken_off}
 
 -- it counts its list, or reclaims, or is over
 abbrev pub IsCounting : Settling → Type 0
@@ -30,6 +31,10 @@ pub record OnlyCounts (c : Settle) : Type 0 where
   pub flushing : c.flushing ≡ false
   pub held : c.held ≡ false
   pub put : c.put_first ≡ 0
+
+-- no more blocks than there are numbers
+abbrev pub MOST : ℕ
+MOST = 2 ^ 53
 
 -- how far a point is from the end of the work that it belongs to
 abbrev pub point : Settling → ℕ
@@ -89,9 +94,6 @@ without_counts c next k = one (next == 0) (c.put_first == 0) (ap (λ (z : ℕ). 
     one true false e z = absurd (cc e)
     one false u e z = past
 
-put_here : {X : Type 0} (f : ℕ → X) (k : ℕ) (x : X) → put f k x k ≡ x
-put_here f k x = grind arith
-
 -- what its moves leave
 
 module _ (n most j : ℕ) (m m2 : State) (few : length (m2.left j) ≤ most) where
@@ -149,27 +151,8 @@ module _ (n most j : ℕ) (m m2 : State) (few : length (m2.left j) ≤ most) whe
 
     -- a block was reclaimed
     pub taken_less : p ≡ Draining → part c2 ≡ Plain → Told n j c p m c2 m2 → weight most j m2 + 3 ≤ weight most j m
-    taken_less pl dr (Takes b bs l d e q r) = fewer_left (Moves.taken m j b bs) b bs l e refl refl
-    taken_less pl dr (TakesLast b l d e q r) = fewer_left (Moves.joined (Moves.taken m j b []) j) b [] l e refl refl
-    taken_less pl dr (Stays e q) = absurd (cc (q, pl, dr))
-    taken_less pl dr (Holds e q) = absurd (cc (q, pl, dr))
-    taken_less pl dr (HoldsNone e q r s t u) = absurd (cc (q, pl))
-    taken_less pl dr (Gives e q r) = absurd (cc (q, pl))
-    taken_less pl dr (Begins e q r s t u v) = absurd (cc (q, pl))
-    taken_less pl dr (Appends b bs pd e q r s t) = absurd (cc (q, pl))
-    taken_less pl dr (Fills b bs pd e q r s t u) = absurd (cc (q, pl))
-    taken_less pl dr (Skips t l s a e q r) = absurd (cc (q, pl))
-    taken_less pl dr (Passes a e q r) = absurd (cc (q, pl))
-    taken_less pl dr (Finds t l s a e q r) = absurd (cc (q, pl))
-    taken_less pl dr (Marks t l s e q r) = absurd (cc (q, pl))
-    taken_less pl dr (GivesUp t l s a k e q r u) = absurd (cc (q, pl))
-    taken_less pl dr (Closes s k b e q r u) = absurd (cc (q, pl))
-    taken_less pl dr (Pushes y t f es rest a b k e q r) = absurd (cc (q, pl))
-    taken_less pl dr (Misses y t rest a b k e q r) = absurd (cc (q, pl))
-    taken_less pl dr (Sums y a b k e q r u) = absurd (cc (q, pl))
-    taken_less pl dr (SumsLast y a b k e q r u) = absurd (cc (q, pl))
-    taken_less pl dr (Drains b bs l e q r) = absurd (cc (q, pl))
-    taken_less pl dr (DrainsNone b bs l d e q r) = absurd (cc (q, pl))
-    taken_less pl dr (Joins l e q r) = absurd (cc (q, pl))
-    taken_less pl dr (Counts x xs l d k e q r u v w) = absurd (cc (q, pl))
-    taken_less pl dr (CountsLast x xs l d k e q r u v w) = absurd (cc (q, pl))
+    taken_less pl dr told =
+        let k = taken_off n j m m2 c p c2 pl dr told in
+        let l = ap (λ (es : List Entry). each (3 * most + 4) (length es)) k.loose in
+        let b = k.left in
+        omega (arith, l, b)

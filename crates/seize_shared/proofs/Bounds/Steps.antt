@@ -1,10 +1,10 @@
 -- A step of a settling that only counts: it goes on only counting, and has less to do, unless it was over.
-use Rattle.std.specs.Prelude.{if◌then◌else◌, ◌==◌, ◌/◌, ◌%◌, ◌^◌, ◌-◌, IsSome, Option, Some, None, nat_lt}
+use Rattle.std.specs.Prelude.{if◌then◌else◌, ◌==◌, ◌/◌, ◌%◌, ◌^◌, ◌-◌, IsSome, Option, Some}
 use Rattle.std.proofs.Common.{◌≡◌, ℕ, ◌+◌, ◌<◌, ◌≤◌, Bool, true, false, length, refl, arith, ap, sym, subst, ◌∙◌}
 use Rattle.seize_words.specs.declared.at.At.TheVariants.{Entry}
 use Rattle.seize_words.specs.Mem.{Mem, Took, value_at, word_at, with_word}
 use Rattle.seize_words.specs.Op.{Found}
-use Rattle.seize_words.specs.Plan.{Steps, Ends, Now}
+use Rattle.seize_words.specs.Plan.{Steps, Ends}
 use Rattle.seize_words.proofs.OneOwner.Operations.{loaded, added, taken as taken_value}
 use Rattle.seize.specs.declared.states.TheConstants.{NEXT, LINK, FIRST, COUNT}
 use Rattle.seize.specs.declared.rows.settle.Settle.{Settle}
@@ -23,8 +23,9 @@ use Rattle.seize_rule.proofs.Points.Told.{Plain, Pushing, Draining, part, part_a
 use Rattle.seize_rule.proofs.Points.Known.{FitsAt, Fits, Downs, bare, list_word}
 use Rattle.seize_rule.proofs.Points.Down.{word_of_list}
 use Rattle.seize_shared.specs.Bounds.{ArePlain}
-use Rattle.seize_shared.proofs.Bounds.Machine.{IsCounting, OnlyCounts, Onward, onward_counts, without_counts, point, weight, less_loose, no_more, taken_less}
-use Rattle.seize_shared.proofs.Bounds.Hands.{chains_agree, hand_at}
+use Rattle.seize_shared.proofs.Bounds.Machine.{IsCounting, OnlyCounts, onward_counts, without_counts, point, weight, less_loose, no_more, taken_less}
+use Rattle.seize_shared.proofs.Bounds.Hands.{chains_agree}
+use Rattle.seize_shared.proofs.Bounds.Knows.{known_at}
 
 module _ {T : Type 0} (defers : T → Option ℕ) (n most j : ℕ) (mem mem2 : Mem T) (m : State) (x : Extra) (c : Settle) (end : Settle × Settled T) (m2 : State)
     (x2 : Extra)
@@ -84,7 +85,7 @@ module _ {T : Type 0} (defers : T → Option ℕ) (n most j : ℕ) (mem mem2 : M
         → OnlyCounts end.0
         → length (m2.loose j) + 1 ≡ length (m.loose j)
     one_less k there is list after =
-        let hand = hand_at n j (view defers mem2) m2 x2 end.0 end.0.stands after.counting fits2 ∙ ap list_word list in
+        let hand = (known_at n j (view defers mem2) m2 x2 end.0 end.0.stands fits2).common.hand ∙ ap list_word list in
         let links : (view defers mem2).links ≡ (view defers mem).links =
         ap (λ (q : Mem T). (view defers q).links) is
         ∙ ap (λ (g : View). g.links)
@@ -93,7 +94,7 @@ module _ {T : Type 0} (defers : T → Option ℕ) (n most j : ℕ) (mem mem2 : M
         let word = word_of_list (view defers mem).links next (blocks_of r.owns.es) was in
         let now : Chain 3 (view defers mem2).links next (blocks_of (m2.loose j)) =
         subst (λ (u : ℕ). Chain 3 (view defers mem2).links u (blocks_of (m2.loose j))) (hand ∙ word) (v2.entries.loosed j) in
-        let same = chains_agree (view defers mem).links (view defers mem2).links next (blocks_of r.owns.es) (blocks_of (m2.loose j))
+        let same = chains_agree 3 (omega arith) (view defers mem).links (view defers mem2).links next (blocks_of r.owns.es) (blocks_of (m2.loose j))
         (λ b p. ap (λ (f : ℕ → ℕ). f b) links) was now in
         let a = blocks_long (m2.loose j) in
         let b = blocks_long r.owns.es in

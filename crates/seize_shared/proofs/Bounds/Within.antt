@@ -1,5 +1,5 @@
 -- A row that counts a list down has done so within a number of its own steps, whatever the others do meanwhile.
-use Rattle.std.specs.Prelude.{◌/◌, ◌^◌, Option}
+use Rattle.std.specs.Prelude.{Option}
 use Rattle.std.proofs.Common.{◌≡◌, ℕ, zero, suc, ◌+◌, ◌*◌, ◌<◌, ◌≤◌, Bool, true, false, List, [], ◌∷◌, length, inl, inr, refl, arith, ap, sym, subst, ◌∙◌}
 use Rattle.seize_words.specs.Mem.{Mem, Took, value_at}
 use Rattle.seize_words.specs.Plan.{Steps}
@@ -14,11 +14,10 @@ use Rattle.seize.specs.declared.rows.leave.Leaving.{Leaving}
 use Rattle.seize.specs.declared.rows.leave.Leaving.TheVariants as leaving
 use Rattle.seize.specs.Settle.{counting_down, settle_plan}
 use Rattle.seize.specs.Leave.{standing, settled, plan_at}
-use Rattle.seize.specs.World.{World, Row, Rests, Registers, Enters, Settles, Leaves, Defers, Frees, Use, Event, Step, Steps', leaves_on, at_start}
+use Rattle.seize.specs.World.{World, Row, Leaves, Use, Event, Step, Steps', leaves_on, at_start}
 use Rattle.seize_alone.proofs.Given.SeizeMoves.State.Ghost.{State, Life, is_doomed}
 use Rattle.seize_rule.proofs.Words.Sums.{list_below}
 use Rattle.seize_rule.proofs.Words.Shows.{lives}
-use Rattle.seize_rule.proofs.Words.View.{view}
 use Rattle.seize_rule.proofs.Points.Told.{part, Told}
 use Rattle.seize_rule.proofs.Points.Stepped.{IsGoing}
 use Rattle.seize_rule.proofs.Points.Settle.{is_over, settle_steps}
@@ -31,14 +30,10 @@ use Rattle.seize_rule.proofs.World.Good.{Good}
 use Rattle.seize_rule.proofs.World.Kept.{steps_next}
 use Rattle.seize_rule.proofs.World.Start.{start_good, words_good}
 use Rattle.seize_alone.proofs.Histories.Reached.{Reached, runs_reached}
-use Rattle.seize_shared.specs.Bounds.{HasCounted, IsCountedAt, ArePlain, Meanwhile, CountsWithin, ListsAreCounted}
-use Rattle.seize_shared.proofs.Bounds.Machine.{IsCounting, OnlyCounts, point, each, weight}
-use Rattle.seize_shared.proofs.Bounds.Hands.{SameLong, After, after_event, fits_in}
+use Rattle.seize_shared.specs.Bounds.{HasCounted, IsCountedAt, IsAny, ArePlain, Meanwhile, CountsWithin, ListsAreCounted}
+use Rattle.seize_shared.proofs.Bounds.Machine.{IsCounting, OnlyCounts, MOST, point, each, weight}
+use Rattle.seize_shared.proofs.Bounds.Hands.{after_event, leaving_fits}
 use Rattle.seize_shared.proofs.Bounds.Steps.{step_less}
-
--- no more blocks than there are numbers
-abbrev pub MOST : ℕ
-MOST = 2 ^ 53
 
 -- what a step of a row that leaves tells, where it settles
 
@@ -79,7 +74,7 @@ module _ (n j : ℕ) (c : Leave) (d d2 : Settle) (stands_at : c.stands ≡ leavi
 
 module _ {T : Type 0} (defers : T → Option ℕ) (size j : ℕ) where
   -- what a row still has to take is no more than there can be
-  few_left : (w : World T) (good : Good defers (LAST_SLOT + 1) size w) → length (good.state.left j) ≤ MOST
+  pub few_left : (w : World T) (good : Good defers (LAST_SLOT + 1) size w) → length (good.state.left j) ≤ MOST
   few_left w good =
       list_below (good.state.left j) MOST
       (λ c. once (good.state.life c) (good.inv.places.to_take j c))
@@ -128,7 +123,7 @@ module _ {T : Type 0} (defers : T → Option ℕ) (size j : ℕ) where
         let h = subst (λ (row : Row). Steps' defers j row w v) is step in
         let st = subst (λ (p : Leaving). Steps Took value_at w.memory (plan_at defers c p) h.0 h.1) stands_at h.2 in
         let b = steps_back (settled c) w.memory h.0 (settle_plan defers d) h.1 st in
-        let fits = fits_in defers size j c d stands_at w r.good is in
+        let fits = leaving_fits defers size j c d stands_at w r.good is in
         let going = (settle_steps defers (LAST_SLOT + 1) j w.memory h.0 r.good.state r.good.extra d b.0 refl
         (words_good defers (LAST_SLOT + 1) w r.good) r.good.inv r.good.shows
         d.stands refl (not_over d.stands ne) fits b.1).1 in
@@ -137,7 +132,7 @@ module _ {T : Type 0} (defers : T → Option ℕ) (size j : ℕ) where
         let memory : v.memory ≡ h.0 = ap (λ (x : World T). x.memory) h.3 in
         let next = steps_next defers (LAST_SLOT + 1) size refl w v r.good r.sized j (w.row j) refl step in
         let told = told_of (LAST_SLOT + 1) j c d b.0.0 stands_at ne r.good.state next.good.state (w.row j) (v.row j) w.uses v.uses is now next.told in
-        let fits2 = fits_in defers size j (standing c (leaving.Settles b.0.0)) b.0.0 refl v next.good now in
+        let fits2 = leaving_fits defers size j (standing c (leaving.Settles b.0.0)) b.0.0 refl v next.good now in
         let less = step_less defers
         (LAST_SLOT + 1) MOST j w.memory v.memory r.good.state r.good.extra d b.0 next.good.state next.good.extra r.good.shows next.good.shows
         (few_left v next.good) plain counts fits2 d.stands counts.counting ne fits told
@@ -157,17 +152,18 @@ module _ {T : Type 0} (defers : T → Option ℕ) (size j : ℕ) where
     pub reached : Reached defers size v
     pub row : v.row j ≡ Leaves c
     pub plain : ArePlain defers v.memory
-    pub long : SameLong j r.good.state reached.good.state
+    pub long : length (reached.good.state.loose j) ≡ length (r.good.state.loose j)
+    pub left : length (reached.good.state.left j) ≡ length (r.good.state.left j)
 
   module _ (c : Leave) (d : Settle) (stands_at : c.stands ≡ leaving.Settles d) (counts : OnlyCounts d) where
     meanwhile : (events : List (Event T)) (w v : World T) (r : Reached defers size w) → w.row j ≡ Leaves c → ArePlain defers w.memory
-        → Meanwhile defers size j events w v → Meant w v r c
+        → Meanwhile defers IsAny size j events w v → Meant w v r c
     meanwhile [] w v r is plain h =
-        subst (λ (x : World T). Meant w x r c) (sym h) (record { reached = r; row = is; plain = plain; long = record { loose = refl; left = refl } })
+        subst (λ (x : World T). Meant w x r c) (sym h) (record { reached = r; row = is; plain = plain; long = refl; left = refl })
     meanwhile (e ∷ events) w v r is plain h =
-        let a = after_event defers size j c d stands_at counts.counting w h.0 r is e h.1 h.2 in
-        let b = meanwhile events h.0 v a.reached a.row h.3 h.4 in
-        record { reached = b.reached; row = b.row; plain = b.plain; long = record { loose = b.long.loose ∙ a.long.loose; left = b.long.left ∙ a.long.left } }
+        let a = after_event defers size j (Leaves c) d (leaving_fits defers size j c d stands_at) w h.0 r is e h.1 h.2 in
+        let b = meanwhile events h.0 v a.reached a.row_is h.3 h.5 in
+        record { reached = b.reached; row = b.row; plain = b.plain; long = b.long ∙ a.long.loose; left = b.left ∙ a.long.left }
 
   -- a settling that has nothing left, and only counts, is over
   none_left : (p : Settling) → IsCounting p → point p ≡ 0 → p ≡ at.Over
@@ -195,7 +191,7 @@ module _ {T : Type 0} (defers : T → Option ℕ) (size j : ℕ) where
       over_is : is_over d.stands ≡ true → d.stands ≡ at.Over
       over_is e = grind arith
 
-      on : is_over d.stands ≡ false → (events : List (Event T)) (v n : World T) → Meanwhile defers size j events w v → Steps' defers j (v.row j) v n
+      on : is_over d.stands ≡ false → (events : List (Event T)) (v n : World T) → Meanwhile defers IsAny size j events w v → Steps' defers j (v.row j) v n
           → ArePlain defers n.memory
           → CountsWithin defers size j k n
       on go events v n h step plain2 =
@@ -203,8 +199,8 @@ module _ {T : Type 0} (defers : T → Option ℕ) (size j : ℕ) where
           let ne : d.stands ≡ at.Over → ⊥ = (λ e. absurd (cc (go, ap is_over e))) in
           let o = own_step v n a.reached c d a.row stands_at counts ne a.plain step in
           let falls = o.1.falls in
-          let loose = ap (each (3 * MOST + 4)) a.long.loose in
-          let left = a.long.left in
+          let loose = ap (each (3 * MOST + 4)) a.long in
+          let left = a.left in
           all n o.1.reached (standing c (leaving.Settles o.0)) o.0 o.1.row refl o.1.counts plain2 (omega (arith, le, falls, loose, left))
 
       by : (t : Bool) → is_over d.stands ≡ t → CountsWithin defers size j (suc k) w
@@ -216,7 +212,7 @@ module _ {T : Type 0} (defers : T → Option ℕ) (size j : ℕ) where
   counts_within (suc k) w r c d is stands_at counts plain le = one_more k (counts_within k) w r c d is stands_at counts plain le
 
 module _ {T : Type 0} (defers : T → Option ℕ) where
-  start_reached : (size roots : ℕ) → Reached defers size (at_start defers roots)
+  pub start_reached : (size roots : ℕ) → Reached defers size (at_start defers roots)
   start_reached size roots = record { good = start_good defers (LAST_SLOT + 1) size roots; sized = λ i. tt }
 
   -- a list that was just taken only has to be counted

@@ -1,6 +1,6 @@
 use Rattle.seize_shared.specs.contracts.law.rows_go_on.{T-type}
 use Rattle.seize_shared.proofs.GoesOn.{rows_go_on}
-use Rattle.seize_shared.proofs.Beginnings.{rules_start, seats_come, rows_turn}
+use Rattle.seize_shared.proofs.Beginnings.{rules_start, seats_come, rows_turn, settlings_begin}
 use Rattle.seize_shared.proofs.Drives.{looked_are_shown}
 use Rattle.seize_shared.proofs.law.rows_go_on.Goals as goal
 
@@ -15,6 +15,9 @@ returns-clause-on g c = rows_go_on (T-type g.row.T) g.T.Defers.defers
 
 pub returns-clause-turn : goal.returns-clause-turn
 returns-clause-turn g c = rows_turn (T-type g.row.T) g.T.Defers.defers
+
+pub returns-clause-settle : goal.returns-clause-settle
+returns-clause-settle g c = settlings_begin (T-type g.row.T) g.T.Defers.defers
 
 pub returns-clause-looked : goal.returns-clause-looked
 returns-clause-looked g c = looked_are_shown (T-type g.row.T) g.T.Defers.defers

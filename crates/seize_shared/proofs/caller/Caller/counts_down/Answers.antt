@@ -9,15 +9,15 @@ use Rattle.seize_shared.specs.declared.view.Why.TheVariants.{Ending}
 use Rattle.seize_shared.proofs.Calls.{may_turn, row_told}
 use Rattle.seize_shared.proofs.caller.Caller.counts_down.Goals as goal
 
-pub counts-requires : goal.counts-requires
-counts-requires g c =
+pub settles-requires : goal.settles-requires
+settles-requires g c =
     let x = c.args.self.now in let size = x.blocks.now.words.fixed.batch_size in
     let lt : ACTIVE < c.args.head = (let k = c.if-head-le-ACTIVE.false in grind (arith, k)) in
     let row : c.count_down-row.result ≡ counting_down c.args.slot size c.args.head =
     c.count_down-row.ensures ∙ ap (λ (n : ℕ). counting_down c.args.slot n c.args.head) (sym x.sized) in
     let way = c.requires.taken.0 in let left = c.requires.taken.1 in
     let begins = row_told g.T.Defers.defers x.seat.view x.seat.view c.args.slot size way c.args.head left c.count_down-row.result c.requires.taken.2 lt row in
-    record { settling = (size, way, (None, left, begins)) }
+    record { settling = (Ending size way, (None, left, begins)) }
 
 pub turn-requires-clause-may : goal.turn-requires-clause-may
 turn-requires-clause-may g c =
@@ -27,9 +27,9 @@ turn-requires-clause-may g c =
     c.count_down-row.ensures ∙ ap (λ (n : ℕ). counting_down c.args.slot n c.args.head) (sym x.sized) in
     let way = c.requires.taken.0 in let left = c.requires.taken.1 in
     let begins = row_told g.T.Defers.defers x.seat.view x.seat.view c.args.slot size way c.args.head left c.count_down-row.result c.requires.taken.2 lt row in
-    let k = c.counts.ensures.settling size way (None, left, begins) in let n = c.counts.new.self in
-    may_turn g.T.Defers.defers n.blocks.now.words.fixed n.seat.id n.seat.view (Settles c.counts.new.row (Ending size way) k.0 k.1) k.2 ended
-    (c.counts.ensures.over, refl)
+    let k = c.settles.ensures.settling (Ending size way) (None, left, begins) in let n = c.settles.new.self in
+    may_turn g.T.Defers.defers n.blocks.now.words.fixed n.seat.id n.seat.view (Settles c.settles.new.row (Ending size way) k.0 k.1) k.2 ended
+    (c.settles.ensures.over, refl)
 
 pub returns-clause-left : goal.returns-clause-left
 returns-clause-left g c way left is =
@@ -38,6 +38,6 @@ returns-clause-left g c way left is =
     let row : c.count_down-row.result ≡ counting_down c.args.slot size c.args.head =
     c.count_down-row.ensures ∙ ap (λ (n : ℕ). counting_down c.args.slot n c.args.head) (sym x.sized) in
     let begins = row_told g.T.Defers.defers x.seat.view x.seat.view c.args.slot size way c.args.head left c.count_down-row.result is lt row in
-    let k = c.counts.ensures.settling size way (None, left, begins) in
-    c.turn.ensures.goes ∙ ap (ended c.counts.new.self.blocks.now.words.fixed) k.2
-    ∙ ap (λ (t : ℕ). Left t size way) (c.counts.ensures.slot ∙ ap (λ (r : Settle). r.slot) row)
+    let k = c.settles.ensures.settling (Ending size way) (None, left, begins) in
+    c.turn.ensures.goes ∙ ap (ended c.settles.new.self.blocks.now.words.fixed) k.2
+    ∙ ap (λ (t : ℕ). Left t size way) (c.settles.ensures.slot ∙ ap (λ (r : Settle). r.slot) row)

@@ -1,4 +1,3 @@
-use Rattle.seize_shared.specs.declared.view.Why.TheVariants.{Ending}
 use Rattle.seize_shared.proofs.Drives.{may_step, has_stepped}
 use Rattle.seize_shared.proofs.caller.Caller.steps.Goals as goal
 
@@ -12,7 +11,7 @@ returns-in_default g c =
     let k = has_stepped g.T.Defers.defers x row c.requires.settling.0 c.requires.settling.1 c.requires.not n (c.step.new.self, c.step.result) c.step.ensures in
     record {
       settling = λ why is. (has_stepped g.T.Defers.defers x row why is c.requires.not n (c.step.new.self, c.step.result) c.step.ensures).0;
-      falls = λ size way is. (has_stepped g.T.Defers.defers x row (Ending size way) is c.requires.not n (c.step.new.self, c.step.result) c.step.ensures).3;
+      falls = k.3;
       slot = k.1;
       blocks = k.2;
     }
