@@ -5,7 +5,7 @@ ghost use Rattle.seize_seats.specs.State.{Allows, Owns, Turns, Comes, Meets, Ren
 ghost use Rattle.seize_seats.specs.Lines.{whole};
 ghost use Rattle.seize_seats.specs.Steps.{roomed};
 ghost use Rattle.seize_seats.specs.Lendings.{ShownToBoth, IsValueOfBoth};
-ghost use Rattle.seize_seats.specs.Owned.{BaseId, base_id_coded, IsFirst, IsLike, words_own, words_share};
+ghost use Rattle.seize_seats.specs.Owned.{BaseId, base_id_coded, core_of, IsFirst, IsLike, words_own, words_share};
 ghost use Rattle.seize_blocks.specs.Placed.{IsItsPlace, IsItsSign, IsItsIndex};
 
 use crate::claim::Claim;
@@ -13,6 +13,7 @@ use crate::place::Place;
 use crate::row::Row;
 use crate::rule::{Meeting, Rule, Turn};
 use crate::seat::Seat;
+use crate::strip::Strip;
 use seize_words::At;
 use std::marker::{Brand, Model, PhantomData};
 use std::sync::atomic::Ordering::SeqCst;
@@ -97,6 +98,14 @@ impl<T, R: Rule<T>> Words<T, R> {
         requires { Renews (R.holds self.old.fixed) }
         ensures { (self.new.words ≡ self.old.words) × (self.new.fixed ≡ self.old.fixed) × IsLike self.new.id self.old.id }
     {}
+
+    /// The words of a strip of the same memory, for as long as both are borrowed.
+    pub(crate) fn by<'g>(&'g self, strip: &'g Strip<T>) -> &'g Words<T, R>
+        requires { core_of strip.now.id ≡ core_of self.now.id }
+        ensures { (result.now.words ≡ strip.now.words) × (result.now.id ≡ strip.now.id) × (result.now.fixed ≡ self.now.fixed) }
+    {
+        unsafe { &*(strip as *const Strip<T> as *const Words<T, R>) }
+    }
 
     /// Tries to claim a number, whose sign lies at this place: it was free where 0 is found.
     pub(crate) fn claim(&self, _index: u64, place: u64) -> (u64, Claim)

@@ -17,6 +17,7 @@ pub mod Lends
 pub mod Steps
 pub mod Opening
 pub mod Joining
+pub mod Doors
 pub mod Meetings
 pub mod Renewal
 pub mod Shares
