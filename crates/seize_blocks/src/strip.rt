@@ -4,9 +4,10 @@ ghost use Rattle.seize_seats.specs.Owned.{BaseId, base_id_coded, strip_told, str
 use std::marker::{Model, PhantomData};
 
 /// The address of the words of a strip, with what shows that it is one of a memory's.
+#[derive(Drop)]
 pub(crate) struct Strip<T> {
     pub(crate) words: *mut u64,
-    marker: PhantomData<T>,
+    pub(crate) marker: PhantomData<T>,
     pub(crate) ghost id: { BaseId } by { base_id_coded },
 }
 
