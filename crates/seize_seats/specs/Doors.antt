@@ -2,7 +2,7 @@
 -- exchange.
 use Rattle.std.specs.Prelude.{ℕ, zero, suc, ◌+◌, List, [], ◌∷◌}
 use base.Fml.{Share, Fml, ftrue, fsep, fex}
-use denote.RawPtr.{Ptr, null_ptr, InBlock, Testable}
+use denote.RawPtr.{null_ptr, InBlock, Testable}
 use Rattle.core.specs.Sync.RawAtomic.Pointer.{cell}
 use Rattle.seize_seats.specs.Seen.{fact, seen}
 use Rattle.seize_seats.specs.Strips.{Strip, strip_coded}
