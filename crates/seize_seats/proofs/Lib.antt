@@ -17,7 +17,6 @@ pub mod Lends
 pub mod Steps
 pub mod Opening
 pub mod Joining
-pub mod Doors
 pub mod Meetings
 pub mod Renewal
 pub mod Shares
