@@ -25,6 +25,7 @@ use Rattle.seize_blocks.specs.contracts.words.Words as words
 use Rattle.seize_blocks.specs.contracts.seat.Seat as seat
 use Rattle.seize_blocks.specs.contracts.row.Row as row
 use Rattle.seize_blocks.specs.contracts.claim.Claim as claim
+use Rattle.seize_blocks.specs.contracts.strip.Strip as strip
 use Rattle.seize_blocks.specs.contracts.place.Place as place
 
 -- an address and no more
@@ -110,6 +111,20 @@ module _ (X R V F : RattleType) (g : Ghosts R.Denot X.Denot V.Denot F.Denot) whe
     ),
     (refl, (refl, ((tt, (refl, tt)), tt))),
   )
+
+-- the address of the words of a strip
+module _ (R : RattleType) where
+  abbrev pub StripData : RattleType
+  StripData = Struct (shape (strip.the_type R))
+
+pub strip_made : {M : Type 1} {𝓤 : Ura M} (𝓛 : Logic 𝓤) (R : RattleType) (p : Ptr) → ent 𝓤 (emp 𝓤) (sem 𝓛 ((StripData R).own_val (p, (tt, tt)) (hand_of p ∷ [])))
+strip_made 𝓛 R p = makes_shadow 𝓛 ((StripData R).own_val (p, (tt, tt)) (hand_of p ∷ [])) (λ vss. (tt, (tt, ((λ uss. (tt, tt)), tt)))) (
+  (
+    ptr_val p ∷ [],
+    (vstruct vnil ∷ [], tt),
+  ),
+  (refl, (refl, ((tt, (refl, tt)), tt))),
+)
 
 -- what an attempt to claim a number found
 abbrev pub claim_of : ℕ → Val

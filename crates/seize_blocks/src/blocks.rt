@@ -3,7 +3,7 @@ ghost use Rattle.std.specs.Prelude.{◌≡◌, ◌+◌, ◌-◌, ◌*◌, ◌≤
 ghost use Rattle.seize_words.specs.Op.{Load, Store, Swap, Add, Or, Exchange, Make, Take, Rewrite, Room, Found, Stored, Exchanged, Made, Taken, Roomed};
 ghost use Rattle.seize_seats.specs.State.{Allows, Owns, Turns, Comes, Meets, Renews};
 ghost use Rattle.seize_seats.specs.Lines.{long};
-ghost use Rattle.seize_seats.specs.Owned.{IsFirst};
+ghost use Rattle.seize_seats.specs.Owned.{core_of, IsFirst};
 ghost use Rattle.seize_seats.specs.Lendings.{Shown, ShownToBoth, IsValueOf, IsValueOfBoth};
 ghost use Rattle.seize_blocks.specs.Placed.{IsItsPlace, IsItsIndex};
 
@@ -11,6 +11,7 @@ use crate::claim::Claim;
 use crate::place::Place;
 use crate::rule::{Meeting, Rule, Turn};
 use crate::seat::Seat;
+use crate::strip::Strip;
 use crate::words::Words;
 use seize_words::{At, Fault};
 use std::sync::atomic::AtomicU64;
@@ -31,8 +32,15 @@ pub struct Blocks<T, R: Rule<T>> {
 }
 
 impl<T, R: Rule<T>> Blocks<T, R> {
-    /// Where the word of a name lies.
-    fn place_of(&self, at: At) -> u64
+    /// Where the word of a name lies: in which strip, and at which place.
+    fn place_of(&self, at: At) -> (Strip<T>, u64)
+        ensures { (core_of result.0.id ≡ core_of self.now.words.id) × IsItsPlace result.0.words result.0.id at result.1 }
+    {
+        (self.words.strip(), self.place_in(at))
+    }
+
+    /// Where it lies in the first strip.
+    fn place_in(&self, at: At) -> u64
         ensures { IsItsPlace self.now.words.words self.now.words.id at result }
     {
         match at {
@@ -55,15 +63,18 @@ impl<T, R: Rule<T>> Blocks<T, R> {
         index * 5 + (self.roots + self.roots + 32) * 16
     }
 
-    /// The index of a number, if there is such a block.
-    fn index_of(&self, block: u64) -> u64
-        ensures { (result < 2 ^ 32) × IsItsIndex self.now.words.id block result }
+    /// In which strip a number is, and its index there, if there is such a block.
+    fn index_of(&self, block: u64) -> (Strip<T>, u64)
+        ensures strip { (core_of result.0.id ≡ core_of self.now.words.id) × (result.0.id.skip ≡ long self.now.words.id.roots)
+            × (result.0.id.values ≡ self.now.values.at) }
+        ensures index { (result.1 < 2 ^ 32) × IsItsIndex result.0.id block result.1 }
     {
-        if block > 0 && block <= self.count {
+        let index = if block > 0 && block <= self.count {
             block - 1
         } else {
             0
-        }
+        };
+        (self.words.strip(), index)
     }
 
     /// A seat more.
@@ -128,8 +139,8 @@ impl<T, R: Rule<T>> Blocks<T, R> {
         ensures same { (seat.new.base ≡ seat.old.base) × (seat.new.id ≡ seat.old.id) }
         ensures goes { R.then seat.old.view (Load at) (Found result) seat.new.view }
     {
-        let place = self.place_of(at);
-        self.words.load(seat, &at, place)
+        let (strip, place) = self.place_of(at);
+        self.words.by(&strip).load(seat, &at, place)
     }
 
     /// Writes the word of a name.
@@ -139,8 +150,8 @@ impl<T, R: Rule<T>> Blocks<T, R> {
         ensures same { (seat.new.base ≡ seat.old.base) × (seat.new.id ≡ seat.old.id) }
         ensures goes { R.then seat.old.view (Store at word) Stored seat.new.view }
     {
-        let place = self.place_of(at);
-        self.words.store(seat, &at, place, word)
+        let (strip, place) = self.place_of(at);
+        self.words.by(&strip).store(seat, &at, place, word)
     }
 
     /// Writes the word of a name, and answers the one before.
@@ -150,8 +161,8 @@ impl<T, R: Rule<T>> Blocks<T, R> {
         ensures same { (seat.new.base ≡ seat.old.base) × (seat.new.id ≡ seat.old.id) }
         ensures goes { R.then seat.old.view (Swap at word) (Found result) seat.new.view }
     {
-        let place = self.place_of(at);
-        self.words.swap(seat, &at, place, word)
+        let (strip, place) = self.place_of(at);
+        self.words.by(&strip).swap(seat, &at, place, word)
     }
 
     /// Adds to the word of a name, round at 2^64, and answers the one before.
@@ -161,8 +172,8 @@ impl<T, R: Rule<T>> Blocks<T, R> {
         ensures same { (seat.new.base ≡ seat.old.base) × (seat.new.id ≡ seat.old.id) }
         ensures goes { R.then seat.old.view (Add at by) (Found result) seat.new.view }
     {
-        let place = self.place_of(at);
-        self.words.add(seat, &at, place, by)
+        let (strip, place) = self.place_of(at);
+        self.words.by(&strip).add(seat, &at, place, by)
     }
 
     /// Sets bits of the word of a name, and answers the one before.
@@ -172,8 +183,8 @@ impl<T, R: Rule<T>> Blocks<T, R> {
         ensures same { (seat.new.base ≡ seat.old.base) × (seat.new.id ≡ seat.old.id) }
         ensures goes { R.then seat.old.view (Or at bits) (Found result) seat.new.view }
     {
-        let place = self.place_of(at);
-        self.words.or(seat, &at, place, bits)
+        let (strip, place) = self.place_of(at);
+        self.words.by(&strip).or(seat, &at, place, bits)
     }
 
     /// Writes a new word where the old one, the whole word, is found, and answers the word found: `Ok` where it was written.
@@ -183,8 +194,8 @@ impl<T, R: Rule<T>> Blocks<T, R> {
         ensures same { (seat.new.base ≡ seat.old.base) × (seat.new.id ≡ seat.old.id) }
         ensures goes { R.then seat.old.view (Exchange at old new) (Exchanged result) seat.new.view }
     {
-        let place = self.place_of(at);
-        self.words.exchange(seat, &at, place, old, new)
+        let (strip, place) = self.place_of(at);
+        self.words.by(&strip).exchange(seat, &at, place, old, new)
     }
 
     /// A number that was free and is claimed now, for a block without words of its own. One after the other is tried, from that on which
@@ -237,9 +248,9 @@ impl<T, R: Rule<T>> Blocks<T, R> {
         ensures same { (seat.new.base ≡ seat.old.base) × (seat.new.id ≡ seat.old.id) }
         ensures goes { R.then seat.old.view (Take block) (Taken result) seat.new.view }
     {
-        let index = self.index_of(block);
+        let (strip, index) = self.index_of(block);
         let first = self.first_of(index);
-        let value = self.words.take(
+        let value = self.words.by(&strip).take(
             seat,
             block,
             index,
@@ -264,9 +275,10 @@ impl<T, R: Rule<T>> Blocks<T, R> {
         ensures same { (seat.new.base ≡ seat.old.base) × (seat.new.id ≡ seat.old.id) }
         ensures goes { R.then seat.old.view (Rewrite block value) (Taken result) seat.new.view }
     {
-        let index = self.index_of(block);
+        let (strip, index) = self.index_of(block);
         match self
             .words
+            .by(&strip)
             .rewrite(seat, block, index, self.values.at, value)
         {
             Some(before) => before,
@@ -295,8 +307,11 @@ impl<T, R: Rule<T>> Blocks<T, R> {
         requires shown { ShownToBoth (R.holds self.now.words.fixed) guard.now.id guard.now.view owner.now.id owner.now.view block }
         ensures { IsValueOfBoth (R.holds self.now.words.fixed) guard.now.id guard.now.view owner.now.id owner.now.view block result.now }
     {
-        let index = self.index_of(block);
-        match self.words.value(guard, owner, block, index, self.values.at) {
+        let (strip, index) = self.index_of(block);
+        match self
+            .words
+            .value(&strip, guard, owner, block, index, self.values.at)
+        {
             Some(value) => value,
             None => unreachable!(),
         }

@@ -8,6 +8,7 @@ mod place;
 mod row;
 mod rule;
 mod seat;
+mod strip;
 mod words;
 
 pub use blocks::Blocks;

@@ -5,7 +5,7 @@ ghost use Rattle.seize_seats.specs.State.{Allows, Owns, Turns, Comes, Meets, Ren
 ghost use Rattle.seize_seats.specs.Lines.{whole};
 ghost use Rattle.seize_seats.specs.Steps.{roomed};
 ghost use Rattle.seize_seats.specs.Lendings.{ShownToBoth, IsValueOfBoth};
-ghost use Rattle.seize_seats.specs.Owned.{BaseId, base_id_coded, IsFirst, IsLike, words_own, words_share};
+ghost use Rattle.seize_seats.specs.Owned.{BaseId, base_id_coded, core_of, IsFirst, IsLike, words_own, words_share};
 ghost use Rattle.seize_blocks.specs.Placed.{IsItsPlace, IsItsSign, IsItsIndex};
 
 use crate::claim::Claim;
@@ -13,6 +13,7 @@ use crate::place::Place;
 use crate::row::Row;
 use crate::rule::{Meeting, Rule, Turn};
 use crate::seat::Seat;
+use crate::strip::Strip;
 use seize_words::At;
 use std::marker::{Brand, Model, PhantomData};
 use std::sync::atomic::Ordering::SeqCst;
@@ -97,6 +98,25 @@ impl<T, R: Rule<T>> Words<T, R> {
         requires { Renews (R.holds self.old.fixed) }
         ensures { (self.new.words ≡ self.old.words) × (self.new.fixed ≡ self.old.fixed) × IsLike self.new.id self.old.id }
     {}
+
+    /// The strip by which these words are had.
+    pub(crate) fn strip(&self) -> Strip<T>
+        ensures { (result.words ≡ self.now.words) × (result.id ≡ self.now.id) }
+    {
+        Strip {
+            words: self.words,
+            marker: PhantomData,
+        }
+    }
+
+    /// The words of a strip of the same memory, for as long as both are borrowed.
+    pub(crate) fn by<'g>(&'g self, strip: &'g Strip<T>) -> &'g Words<T, R>
+        requires { core_of strip.now.id ≡ core_of self.now.id }
+        ensures { (result.now.words ≡ strip.now.words) × (result.now.id ≡ strip.now.id) × (result.now.fixed ≡ self.now.fixed)
+            × (strip.now.id.views_name ≡ self.now.id.views_name) × (strip.now.id.hands_name ≡ self.now.id.hands_name) }
+    {
+        unsafe { &*(strip as *const Strip<T> as *const Words<T, R>) }
+    }
 
     /// Tries to claim a number, whose sign lies at this place: it was free where 0 is found.
     pub(crate) fn claim(&self, _index: u64, place: u64) -> (u64, Claim)
@@ -185,17 +205,20 @@ impl<T, R: Rule<T>> Words<T, R> {
         }
     }
 
-    /// Where the value of a block lies, for as long as the words and both seats are borrowed. The index is that of its number, if there is such a block.
+    /// Where the value of a block lies, for as long as the words and both seats are borrowed. The index is that of its number in the strip, if there is such a
+    /// block.
     pub(crate) fn value<'g>(
         &'g self,
+        strip: &Strip<T>,
         guard: &'g Seat<T, R>,
         owner: &'g Seat<T, R>,
         _block: u64,
         index: u64,
         values: *mut Option<T>,
     ) -> &'g Option<T>
-        requires { (guard.now.base ≡ self.now.id.views_name) × (owner.now.base ≡ self.now.id.views_name)
-            × IsItsIndex self.now.id _block index × (values ≡ self.now.id.values)
+        requires { (core_of strip.now.id ≡ core_of self.now.id)
+            × (guard.now.base ≡ self.now.id.views_name) × (owner.now.base ≡ self.now.id.views_name)
+            × IsItsIndex strip.now.id _block index × (values ≡ strip.now.id.values)
             × ShownToBoth (R.holds self.now.fixed) guard.now.id guard.now.view owner.now.id owner.now.view _block }
         ensures { (x : T) × (result.now ≡ Some x)
             × IsValueOfBoth (R.holds self.now.fixed) guard.now.id guard.now.view owner.now.id owner.now.view _block x }

@@ -21,6 +21,14 @@ use Rattle.seize_seats.specs.Owned.{ledger, listed, BaseId, Inside, age, core_of
 use Rattle.seize_seats.proofs.Ledgers as Ledgers
 use Rattle.seize_seats.proofs.Stretches as Stretches
 
+-- that a strip is listed may be told again
+pub listed_twice : {M : Type 1} {𝓤 : Ura M} (𝓛 : Logic 𝓤) (p : Ptr) (z : BaseId)
+    → ent 𝓤 (sem 𝓛 (is_listed p z)) (sep 𝓤 (sem 𝓛 (is_listed p z)) (sem 𝓛 (is_listed p z)))
+listed_twice 𝓛 p z = let Sh : Share → Fml = λ q. seen strip_coded.code z.strips_name q z.place (strip_of p z) in
+    qed 𝓛 (‵ (is_listed p z) ∷ []) ∵ fpick ! (λ q. let q₁ : Share = Share.left q in let q₂ : Share = Share.right q in
+    use1 𝓛 (‵ (Sh q₁) ⊛ ‵ (Sh q₂)) ((Ledgers.view_halves 𝓛 strip_coded z.strips_name z.place (strip_of p z)).cut q) $ split ! $
+    fpack ! Share Sh q₁ $ move ! (1 ∷ []) $ fpack ! Share Sh q₂ $ done !)
+
 module _ {M : Type 1} {𝓤 : Ura M} (𝓛 : Logic 𝓤) (R : RattleType) {V W : Type 0} (cv : Coded V) (holds : State R.Denot V W → Type 0) (p : Ptr) (z : BaseId) where
   open 𝓛 use {H, A}
 
@@ -85,14 +93,9 @@ module _ {M : Type 1} {𝓤 : Ura M} (𝓛 : Logic 𝓤) (R : RattleType) {V W :
       fpack ! (List Strip) (Listed Any t.parts.cells) ss $ move ! (1 ∷ 0 ∷ []) $ fjoin ! $ fjoin3 ! $
       fpack ! (Inside R.Denot V W) (standing_in R cv.code holds (core_of z) Any) t $ done !)))
 
-  listed_twice : ⟦ L ⟧ ⊢ ⟦ L ⟧ ∗ ⟦ L ⟧
-  listed_twice = qed 𝓛 (‵ L ∷ []) ∵ fpick ! (λ q. let q₁ : Share = Share.left q in let q₂ : Share = Share.right q in
-      use1 𝓛 (‵ (Sh q₁) ⊛ ‵ (Sh q₂)) ((Ledgers.view_halves 𝓛 strip_coded z.strips_name z.place (strip_of p z)).cut q) $ split ! $
-      fpack ! Share Sh q₁ $ move ! (1 ∷ []) $ fpack ! Share Sh q₂ $ done !)
-
   -- it may be told again
   pub twice : ⟦ Inv ⟧ ⊢ ⟦ Inv ⟧ ∗ ⟦ Inv ⟧
-  twice = let P : Fml = invariant IsEven (fbor α E) in qed 𝓛 (‵ Inv ∷ []) ∵ fsplit ! $ use1 𝓛 (‵ L ⊛ ‵ L) listed_twice $ split ! $ move ! (2 ∷ []) $
+  twice = let P : Fml = invariant IsEven (fbor α E) in qed 𝓛 (‵ Inv ∷ []) ∵ fsplit ! $ use1 𝓛 (‵ L ⊛ ‵ L) (listed_twice 𝓛 p z) $ split ! $ move ! (2 ∷ []) $
       use1 𝓛 (‵ P ⊛ ‵ P) (Stretches.twice 𝓛 IsEven (fbor α E)) $ split ! $ move ! (2 ∷ 0 ∷ []) $ fjoin ! $ move ! (2 ∷ 1 ∷ []) $ fjoin ! $ done !
 
   -- where it stays open but for a step

@@ -257,6 +257,13 @@ IsListed p z ss = slice_get ss z.place ≡ Some (strip_of p z)
 abbrev pub is_listed : Ptr → BaseId → Fml
 is_listed p z = fex Share (λ q. seen strip_coded.code z.strips_name q z.place (strip_of p z))
 
+-- what shows that a strip is one of a memory's
+abbrev pub strip_told : RattleType → Ptr → BaseId → Fml
+strip_told R p z = fsep (fact (IsPlaced R p z)) (is_listed p z)
+
+abbrev pub strip_owns : RattleType → Ptr → BaseId → Fml
+strip_owns R p z = fsep (strip_told R p z) ftrue
+
 module _ (R : RattleType) {V W : Type 0} (c : V → Gv) (holds : State R.Denot V W → Type 0) where
   -- the invariant itself
   abbrev pub everything : Core → Fml

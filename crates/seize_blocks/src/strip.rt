@@ -1,0 +1,18 @@
+//! What a strip of the numbers of a memory is known by.
+ghost use Rattle.seize_seats.specs.Owned.{BaseId, base_id_coded, strip_told, strip_owns};
+
+use std::marker::{Model, PhantomData};
+
+/// The address of the words of a strip, with what shows that it is one of a memory's.
+#[derive(Drop)]
+pub(crate) struct Strip<T> {
+    pub(crate) words: *mut u64,
+    pub(crate) marker: PhantomData<T>,
+    pub(crate) ghost id: { BaseId } by { base_id_coded },
+}
+
+impl<T> Model for Strip<T> {
+    ghost also_owns = { λ s. strip_owns T.row s.words s.id };
+
+    ghost also_shares = { λ s _ κ. strip_told T.row s.words s.id };
+}
