@@ -1,5 +1,5 @@
 -- That an act may be made, or a step of who reclaims all, is known in one way alone, so a course leads by a list to one stage.
-use Rattle.std.specs.Prelude.{◌≡◌, ◌⊎◌, ℕ, ◌<◌, ◌^◌, Bool, List, [], ◌∷◌}
+use Rattle.std.specs.Prelude.{◌≡◌, ◌⊎◌, ℕ, ◌<◌, ◌^◌, Bool, true, List, [], ◌∷◌}
 use Rattle.std.specs.Int.{IsPowerOfTwo}
 use Rattle.std.specs.Coded.{Coded-set, coded_bool, coded_ℕ, le_prop}
 use Rattle.std.proofs.Common.{inl, inr, refl, sym, ap, subst, arith, ◌∙◌}
@@ -50,11 +50,17 @@ of_slots_prop (Flush s) x y = refl
 unless_prop : {K V Q A : Type 0} → IsProp A → (u : UnderWay K V Q) → IsProp (UnlessCounts u A)
 unless_prop same (OnKey u) = same
 unless_prop same (ForRoom r) = same
-unless_prop same (Counting sum) x y = refl
+unless_prop same (Counting sum) = λ x y. refl
 unless_prop same (OverAll o) = same
 
+never_prop : {A : Type 0} → IsProp (A → ⊥)
+never_prop = hlevel bool_set
+
+apart_prop : {K V Q : Type 0} (slot : ℕ → ℕ) (request : Request) (j : ℕ) (u : UnderWay K V Q) → IsProp (UnlessCounts u (Closes request (slot j) → ⊥))
+apart_prop slot request j u = unless_prop never_prop u
+
 to_count_prop : {K V A : Type 0} → IsProp A → (wanted : Wanted K V) → IsProp (UnlessToCount wanted A)
-to_count_prop same Count x y = refl
+to_count_prop same Count = λ x y. refl
 to_count_prop same (Get key) = same
 to_count_prop same (Remove key) = same
 to_count_prop same (Insert key value) = same
@@ -75,9 +81,6 @@ module _ {K V : Type 0} (s : Scene K V) where
   few_prop i m = hlevel le_prop
 
 module _ {K V S : Type 0} (same : K → K → Bool) (hash : S → K → ℕ) (batch_size roots : ℕ) (slot : ℕ → ℕ) where
-  closes_prop : (request : Request) (j : ℕ) → IsProp (Closes request (slot j) → ⊥)
-  closes_prop request j = hlevel
-
   pub may_prop : (act : Act K V S) (s : Scene K V) → IsProp (MayBe same hash batch_size roots slot act s)
   may_prop (BeginsCall i m wanted) s = hlevel (bool_set, free_prop s i, to_count_prop (bool_set (is_within (s.world.uses (slot i))) true) wanted, few_prop s i m)
   may_prop (StepsCall i m g) s = bool_set _ _
@@ -88,7 +91,7 @@ module _ {K V S : Type 0} (same : K → K → Bool) (hash : S → K → ℕ) (ba
   may_prop (StepsMaking i g) s = bool_set _ _
   may_prop (BeginsEnding i m) s = hlevel (bool_set, free_prop s i)
   may_prop (StepsEnding i g) s = bool_set _ _
-  may_prop (BeginsRow i request) s = hlevel (bool_set, of_slots_prop request, λ (j : ℕ) (u : UnderWay K V K). unless_prop (closes_prop request j) u)
+  may_prop (BeginsRow i request) s = hlevel (bool_set, of_slots_prop request, apart_prop slot request)
   may_prop (StepsRow i g) s = hlevel bool_set
 
   free_all_prop : (s : Scene K V) → IsProp (AllAreFree s)

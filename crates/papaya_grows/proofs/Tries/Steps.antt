@@ -262,9 +262,9 @@ module _ {K V : Type 0} (same : K → K → Bool) (hash : ℕ → K → ℕ) (na
         let there : s.calls map i ≡ Some (OnKey x) = here ∙ ap (λ (y : UnderWay K V K). Some y) is in
         let it = told_in old.memory new.memory step_told of_key (call_plan same same to.0.hash x.call) (to.1, said) (step_of (OnKey x) is) in
         elim (call_tried Before same same to.0.hash old.memory new.memory step_told x.call it.0
-        (λ trying. let a = at_try_of x there trying in tries_within x a.0 a.1 a.2 a.3)
-        (λ trying word e some. let a = at_try_of x there trying in tries_take x a.0 a.1 a.2 a.3 word (subst (λ (q : Mem (Node K V)). word_at q (place_tried x.call.trial) ≡ Some word) (sym at.memory) e) some)
-        (λ trying word e. let a = at_try_of x there trying in tries_move x a.0 a.1 a.2 a.3 word (subst (λ (q : Mem (Node K V)). word_at q (place_tried x.call.trial) ≡ Some word) (sym at.memory) e))
+        (λ trying. let a = at_try_of x there trying in tries_within (each.inside i (OnKey x) there) x a.0 a.1 a.2 a.3)
+        (λ trying word e some. let a = at_try_of x there trying in tries_take (each.inside i (OnKey x) there) x a.0 a.1 a.2 a.3 word (subst (λ (q : Mem (Node K V)). word_at q (place_tried x.call.trial) ≡ Some word) (sym at.memory) e) some)
+        (λ trying word e. let a = at_try_of x there trying in tries_move (each.inside i (OnKey x) there) x a.0 a.1 a.2 a.3 word (subst (λ (q : Mem (Node K V)). word_at q (place_tried x.call.trial) ≡ Some word) (sym at.memory) e))
         (tries map i (OnKey x) there c c_is) it.2) as (λ _. MachineTried After to.1) [
           | inl none ↦ came (of_key it.0) it.1 (machine_more OfNone After (λ y never. absurd never) (of_key {K = K} {V = V} {Q = K} it.0).0 (of_key_tried OfNone it.0 none))
           | inr so ↦ came (of_key it.0) it.1 (machine_more Before After (follow so.0) (of_key {K = K} {V = V} {Q = K} it.0).0 (of_key_tried Before it.0 so.1))

@@ -320,7 +320,7 @@ module _ {K V : Type 0} (same : K → K → Bool) (hash : K → ℕ) (setting : 
   began : AllStand {K = K} {Q = K} V same hash same setting slot_of w1 h.chart h.blocks (λ i. None)
   began =
       (guards_stand_together {Q = K} same hash same setting slot_of h.lawful h.world h.chart h.blocks h.sights (λ i. None) still 0 refl).0
-      (Refresh setting.slot) tt (λ j u is closes. absurd (cc is)) w1 (h.rests.rows 0, (inside0, refl))
+      (Refresh setting.slot) tt (λ j u is. absurd (cc is)) w1 (h.rests.rows 0, (inside0, refl))
 
   pub begins_refreshing : Refreshing (record { leave = first_leave }) m0
   begins_refreshing = record {
