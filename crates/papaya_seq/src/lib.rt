@@ -8,7 +8,7 @@ mod set;
 pub use json::{FromJson, ToJson};
 pub use papaya_forms::{JsonFault, JsonForm, JsonKey, Text};
 pub use papaya_seq_map::{
-    Aborted, Compute, Equivalent, Fault, HashMap, Keys, OccupiedError, Operation, Pairs, Present,
-    Refused, RefusedKey, Removed, Replaced, Updated, Values, law,
+    Aborted, Compute, Drops, Equivalent, Fault, HashMap, Keys, OccupiedError, Operation, Pairs,
+    Present, Receiver, Refused, RefusedKey, Removed, Replaced, Updated, Values, law,
 };
 pub use set::HashSet;

@@ -11,7 +11,7 @@ mod lookups;
 mod making;
 mod sweeps;
 
-use papaya_seq_map::HashMap;
+use papaya_seq_map::{Drops, HashMap, Receiver};
 use std::hash::{BuildHasher, BuildHasherDefault, FoldHasher, Hash};
 use std::marker::Model;
 
@@ -23,11 +23,15 @@ use std::marker::Model;
 /// A contract sees its elements, its hasher, these two elements, what the memory holds, the elements that were stored and not given back, and how many
 /// places its tables have. The elements are in the order in which a walk shows them; a change may put them in any other order.
 #[derive(Drop)]
-pub struct HashSet<K: Eq + Hash, S: BuildHasher = BuildHasherDefault<FoldHasher>> {
-    pub(crate) map: HashMap<K, (), S>,
+pub struct HashSet<
+    K: Eq + Hash,
+    S: BuildHasher = BuildHasherDefault<FoldHasher>,
+    R: Receiver<(K, ())> = Drops,
+> {
+    pub(crate) map: HashMap<K, (), S, R>,
 }
 
-impl<K: Eq + Hash, S: BuildHasher> Model for HashSet<K, S> {
+impl<K: Eq + Hash, S: BuildHasher, R: Receiver<(K, ())>> Model for HashSet<K, S, R> {
     ghost use Rattle.papaya_seq.specs.Sets.{Set, set_of};
 
     ghost Value = { Set K S };

@@ -9,30 +9,30 @@ use Rattle.papaya_seq_shows.specs.Maps.{Map}
 use Rattle.papaya_seq_map.specs.declared.answers.Compute.{Compute}
 use Rattle.papaya_seq_map.specs.declared.answers.Compute.TheVariants.{Inserted, Updated, Removed, Aborted}
 
-module _ {K V S T H : Type 0} where
+module _ {K V S T R H : Type 0} where
   -- the name under which an answer has the map
-  abbrev pub name_of : Compute K V S T H → GName
+  abbrev pub name_of : Compute K V S T R H → GName
   name_of (Inserted x) = x.map.ghost_name
   name_of (Updated x) = x.map.ghost_name
   name_of (Removed x) = x.map.ghost_name
   name_of (Aborted x) = x.map.ghost_name
 
   -- by which the map is so now
-  abbrev pub IsNow : Compute K V S T H → (Map K V S → Type 0) → Type 0
+  abbrev pub IsNow : Compute K V S T R H → (Map K V S → Type 0) → Type 0
   IsNow (Inserted x) Holds = Holds x.map.now
   IsNow (Updated x) Holds = Holds x.map.now
   IsNow (Removed x) Holds = Holds x.map.now
   IsNow (Aborted x) Holds = Holds x.map.now
 
   -- what was stored, or removed, can be looked at
-  abbrev pub IsShown : Compute K V S T H → Type 0
+  abbrev pub IsShown : Compute K V S T R H → Type 0
   IsShown (Inserted x) = IsTrue (is_some x.map.now.met)
   IsShown (Updated x) = ⊤
   IsShown (Removed x) = IsTrue (is_some x.map.now.taken)
   IsShown (Aborted x) = ⊤
 
   -- The computing gave this operation for the pair that was there, or for none, and it was done.
-  abbrev pub HasComputed : (K → Bool) → K → (Option (K × V) → Operation V T → Type 0) → Map K V S → Compute K V S T H → Type 0
+  abbrev pub HasComputed : (K → Bool) → K → (Option (K × V) → Operation V T → Type 0) → Map K V S → Compute K V S T R H → Type 0
   HasComputed keys key Gives old (Inserted x) =
       (found_by keys old.pairs ≡ None) × (value : V) × Gives None (operation.Insert value) × HasAdded old x.map.now (key, value)
   HasComputed keys key Gives old (Updated x) =

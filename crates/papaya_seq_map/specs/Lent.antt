@@ -8,10 +8,10 @@ use mathlib.Core.Option.{none}
 use Rattle.papaya_seq_shows.specs.Maps.{Map}
 use Rattle.papaya_seq_map.specs.contracts.map.HashMap.{the_row}
 
-module _ (K V S H : RattleType) (key : HashMembers K.Denot) (build : builder.Ghosts S.Denot H.Denot) (hash : hasher.Ghosts H.Denot) where
+module _ (K V S R H : RattleType) (key : HashMembers K.Denot) (build : builder.Ghosts S.Denot H.Denot) (hash : hasher.Ghosts H.Denot) where
   -- the map's type, as the logic holds it
   abbrev pub map_row : RattleType
-  map_row = the_row K V S H (record { eq = key.eq }) (record { hash_input = key.hash_input }) build hash
+  map_row = the_row K V S R H (record { eq = key.eq }) (record { hash_input = key.hash_input }) build hash
 
   -- the map ends as one of which this holds
   abbrev pub EndsSo : MutBor (Map K.Denot V.Denot S.Denot) → (Map K.Denot V.Denot S.Denot → Type 0) → Fml

@@ -4,15 +4,16 @@ ghost use Rattle.std.specs.Prelude.{◌≡◌, Some, IsTrue, is_some, option_map
 ghost use Rattle.std.specs.Option.{option_copied};
 
 use crate::map::HashMap;
+use seize_receivers::{Drops, Receiver};
 use std::hash::{BuildHasher, Hash};
 
 /// A pair was stored, perhaps in the place of another one.
 #[derive(Drop)]
-pub struct Replaced<'a, K: Eq + Hash, V, S: BuildHasher> {
-    pub(crate) map: &'a mut HashMap<K, V, S>,
+pub struct Replaced<'a, K: Eq + Hash, V, S: BuildHasher, R: Receiver<(K, V)> = Drops> {
+    pub(crate) map: &'a mut HashMap<K, V, S, R>,
 }
 
-impl<'a, K: Eq + Hash, V, S: BuildHasher> Replaced<'a, K, V, S> {
+impl<'a, K: Eq + Hash, V, S: BuildHasher, R: Receiver<(K, V)>> Replaced<'a, K, V, S, R> {
     /// The value that was replaced, if the key was there.
     pub fn value(&self) -> Option<&V>
         ensures { option_copied result ≡ option_map (λ x. x.1) self.now.map.now.taken }
@@ -26,11 +27,11 @@ impl<'a, K: Eq + Hash, V, S: BuildHasher> Replaced<'a, K, V, S> {
 
 /// A value was replaced, if its key is there.
 #[derive(Drop)]
-pub struct Updated<'a, K: Eq + Hash, V, S: BuildHasher> {
-    pub(crate) map: &'a mut HashMap<K, V, S>,
+pub struct Updated<'a, K: Eq + Hash, V, S: BuildHasher, R: Receiver<(K, V)> = Drops> {
+    pub(crate) map: &'a mut HashMap<K, V, S, R>,
 }
 
-impl<'a, K: Eq + Hash, V, S: BuildHasher> Updated<'a, K, V, S> {
+impl<'a, K: Eq + Hash, V, S: BuildHasher, R: Receiver<(K, V)>> Updated<'a, K, V, S, R> {
     /// The new value, if the key is there.
     pub fn value(&self) -> Option<&V>
         ensures { option_copied result ≡ option_map (λ x. x.1) self.now.map.now.met }
@@ -54,11 +55,11 @@ impl<'a, K: Eq + Hash, V, S: BuildHasher> Updated<'a, K, V, S> {
 
 /// A pair is at the key now: the one that was there, or one that was stored.
 #[derive(Drop)]
-pub struct Present<'a, K: Eq + Hash, V, S: BuildHasher> {
-    pub(crate) map: &'a mut HashMap<K, V, S>,
+pub struct Present<'a, K: Eq + Hash, V, S: BuildHasher, R: Receiver<(K, V)> = Drops> {
+    pub(crate) map: &'a mut HashMap<K, V, S, R>,
 }
 
-impl<'a, K: Eq + Hash, V, S: BuildHasher> Present<'a, K, V, S> {
+impl<'a, K: Eq + Hash, V, S: BuildHasher, R: Receiver<(K, V)>> Present<'a, K, V, S, R> {
     /// Its value.
     pub fn value(&self) -> &V
         requires { IsTrue (is_some self.now.map.now.met) }
@@ -72,12 +73,13 @@ impl<'a, K: Eq + Hash, V, S: BuildHasher> Present<'a, K, V, S> {
 }
 
 /// A value was not stored, since its key has one.
-pub struct OccupiedError<'a, K: Eq + Hash, V, S: BuildHasher> {
-    pub(crate) map: &'a mut HashMap<K, V, S>,
+pub struct OccupiedError<'a, K: Eq + Hash, V, S: BuildHasher, R: Receiver<(K, V)> = Drops> {
+    pub(crate) map: &'a mut HashMap<K, V, S, R>,
     pub(crate) not_inserted: Option<V>,
 }
 
-impl<K: Eq + Hash, V: Drop, S: BuildHasher> Drop for OccupiedError<'_, K, V, S> {
+impl<K: Eq + Hash, V: Drop, S: BuildHasher, R: Receiver<(K, V)>> Drop
+    for OccupiedError<'_, K, V, S, R> {
     fn drop(self)
         ensures { self.exit.0.now ≡ self.entry.map.now }
     {
@@ -88,7 +90,7 @@ impl<K: Eq + Hash, V: Drop, S: BuildHasher> Drop for OccupiedError<'_, K, V, S> 
     }
 }
 
-impl<'a, K: Eq + Hash, V: Drop, S: BuildHasher> OccupiedError<'a, K, V, S> {
+impl<'a, K: Eq + Hash, V: Drop, S: BuildHasher, R: Receiver<(K, V)>> OccupiedError<'a, K, V, S, R> {
     /// The value that the key has.
     pub fn current(&self) -> &V
         requires { IsTrue (is_some self.now.map.now.met) }
@@ -111,11 +113,11 @@ impl<'a, K: Eq + Hash, V: Drop, S: BuildHasher> OccupiedError<'a, K, V, S> {
 
 /// A pair was removed.
 #[derive(Drop)]
-pub struct Removed<'a, K: Eq + Hash, V, S: BuildHasher> {
-    pub(crate) map: &'a mut HashMap<K, V, S>,
+pub struct Removed<'a, K: Eq + Hash, V, S: BuildHasher, R: Receiver<(K, V)> = Drops> {
+    pub(crate) map: &'a mut HashMap<K, V, S, R>,
 }
 
-impl<'a, K: Eq + Hash, V, S: BuildHasher> Removed<'a, K, V, S> {
+impl<'a, K: Eq + Hash, V, S: BuildHasher, R: Receiver<(K, V)>> Removed<'a, K, V, S, R> {
     /// Its value.
     pub fn value(&self) -> &V
         requires { IsTrue (is_some self.now.map.now.taken) }
@@ -129,12 +131,13 @@ impl<'a, K: Eq + Hash, V, S: BuildHasher> Removed<'a, K, V, S> {
 }
 
 /// A computing has left the map as it was, for a reason of its own.
-pub struct Aborted<'a, K: Eq + Hash, V, S: BuildHasher, T> {
-    pub(crate) map: &'a mut HashMap<K, V, S>,
+pub struct Aborted<'a, K: Eq + Hash, V, S: BuildHasher, T, R: Receiver<(K, V)> = Drops> {
+    pub(crate) map: &'a mut HashMap<K, V, S, R>,
     pub(crate) why: Option<T>,
 }
 
-impl<K: Eq + Hash, V, S: BuildHasher, T: Drop> Drop for Aborted<'_, K, V, S, T> {
+impl<K: Eq + Hash, V, S: BuildHasher, R: Receiver<(K, V)>, T: Drop> Drop
+    for Aborted<'_, K, V, S, T, R> {
     fn drop(self)
         ensures { self.exit.0.now ≡ self.entry.map.now }
     {
@@ -142,7 +145,7 @@ impl<K: Eq + Hash, V, S: BuildHasher, T: Drop> Drop for Aborted<'_, K, V, S, T> 
     }
 }
 
-impl<'a, K: Eq + Hash, V, S: BuildHasher, T: Drop> Aborted<'a, K, V, S, T> {
+impl<'a, K: Eq + Hash, V, S: BuildHasher, R: Receiver<(K, V)>, T: Drop> Aborted<'a, K, V, S, T, R> {
     /// The reason, if it was not taken before.
     pub fn take(&mut self) -> Option<T>
         ensures same { (self.new.map.ghost_name ≡ self.old.map.ghost_name) × (self.new.map.now ≡ self.old.map.now) }
@@ -154,13 +157,13 @@ impl<'a, K: Eq + Hash, V, S: BuildHasher, T: Drop> Aborted<'a, K, V, S, T> {
 
 /// What a computing has done.
 #[derive(Drop)]
-pub enum Compute<'a, K: Eq + Hash, V, S: BuildHasher, T> {
+pub enum Compute<'a, K: Eq + Hash, V, S: BuildHasher, T, R: Receiver<(K, V)> = Drops> {
     /// A value was stored for a key that was not there.
-    Inserted(Present<'a, K, V, S>),
+    Inserted(Present<'a, K, V, S, R>),
     /// The value of a key was replaced.
-    Updated(Updated<'a, K, V, S>),
+    Updated(Updated<'a, K, V, S, R>),
     /// The pair of a key was removed.
-    Removed(Removed<'a, K, V, S>),
+    Removed(Removed<'a, K, V, S, R>),
     /// Nothing has changed.
-    Aborted(Aborted<'a, K, V, S, T>),
+    Aborted(Aborted<'a, K, V, S, T, R>),
 }

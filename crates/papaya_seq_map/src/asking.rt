@@ -14,16 +14,19 @@ ghost use Rattle.papaya_seq_shows.specs.Maps.{HasNow, Keeps};
 use crate::map::HashMap;
 use papaya_asks::{Refused, RefusedKey};
 use papaya_resting::Change;
+use seize_receivers::Receiver;
 use std::hash::{BuildHasher, Hash};
 
 /// Replaces the value of a key by one that is made of it, if the key is there. The closure is called where it is, and else not at all. It answers
 /// `Replaced` or `Missing`. The faults are `Fault::Capacity`, where no table can follow the map's last one, and `Fault::Memory`; then no pair has changed,
 /// and the key comes back.
-pub(crate) fn update<K: Eq + Hash + Drop, V: Drop, S: BuildHasher, F: FnOnce(&V) -> V>(
-    map: &mut HashMap<K, V, S>,
-    key: K,
-    make: F,
-) -> Result<Change, RefusedKey<K>>
+pub(crate) fn update<
+    K: Eq + Hash + Drop,
+    V: Drop,
+    S: BuildHasher,
+    R: Receiver<(K, V)>,
+    F: FnOnce(&V) -> V,
+>(map: &mut HashMap<K, V, S, R>, key: K, make: F) -> Result<Change, RefusedKey<K>>
     requires callable { ForSome (found_by (K.eq key) map.old.pairs) (λ x. FnOnceTakesAt F.FnOnce make x.1) }
     ensures done { IfOk result (λ done. HasDone (K.eq key) (Some key) (Updating (FnOnceReturnsAt F.FnOnce make)) map.old.pairs (HasNow map.new) done) }
     ensures refused { OnErr result (HasNow map.new map.old.pairs None None) }
@@ -50,9 +53,10 @@ pub(crate) fn update_or_insert_with<
     K: Eq + Hash + Drop,
     V: Drop,
     S: BuildHasher,
+    R: Receiver<(K, V)>,
     F: FnOnce(&V) -> V,
     B: FnOnce() -> V,
->(map: &mut HashMap<K, V, S>, key: K, make: F, begin: B) -> Result<Change, RefusedKey<K>>
+>(map: &mut HashMap<K, V, S, R>, key: K, make: F, begin: B) -> Result<Change, RefusedKey<K>>
     requires begins { ForNone (found_by (K.eq key) map.old.pairs) (B.pre begin) }
     requires makes { ForSome (found_by (K.eq key) map.old.pairs) (λ x. FnOnceTakesAt F.FnOnce make x.1) }
     ensures done { IfOk result (λ done. HasDone (K.eq key) (Some key) (UpdatingOrStoring (FnOnceReturnsAt F.FnOnce make) (λ value. FnOnceReturns B.FnOnce begin tt value)) map.old.pairs (HasNow map.new) done) }
@@ -77,11 +81,13 @@ pub(crate) fn update_or_insert_with<
 /// Stores a value that is begun, if its key is not there yet. The closure is called where it is not, and else not at all. It answers `Stored` or
 /// `Kept`. The faults are `Fault::Capacity`, where no table can follow the map's last one, and `Fault::Memory`; then no pair has changed, and the key
 /// comes back.
-pub(crate) fn try_insert_with<K: Eq + Hash + Drop, V: Drop, S: BuildHasher, B: FnOnce() -> V>(
-    map: &mut HashMap<K, V, S>,
-    key: K,
-    begin: B,
-) -> Result<Change, RefusedKey<K>>
+pub(crate) fn try_insert_with<
+    K: Eq + Hash + Drop,
+    V: Drop,
+    S: BuildHasher,
+    R: Receiver<(K, V)>,
+    B: FnOnce() -> V,
+>(map: &mut HashMap<K, V, S, R>, key: K, begin: B) -> Result<Change, RefusedKey<K>>
     requires callable { ForNone (found_by (K.eq key) map.old.pairs) (B.pre begin) }
     ensures done { IfOk result (λ done. HasDone (K.eq key) (Some key) (Storing (λ value. FnOnceReturns B.FnOnce begin tt value)) map.old.pairs (HasNow map.new) done) }
     ensures refused { OnErr result (HasNow map.new map.old.pairs None None) }
@@ -104,12 +110,13 @@ pub(crate) fn try_insert_with<K: Eq + Hash + Drop, V: Drop, S: BuildHasher, B: F
 /// Replaces the value of a key by one that is made of it, if the key is there, and else stores this one. The closure is called where the key is there,
 /// and else not at all. It answers `Replaced` or `Stored`. The faults are `Fault::Capacity`, where no table can follow the map's last one, and `Fault::Memory`;
 /// then no pair has changed, and the key and this value come back.
-pub(crate) fn update_or_insert<K: Eq + Hash + Drop, V: Drop, S: BuildHasher, F: FnOnce(&V) -> V>(
-    map: &mut HashMap<K, V, S>,
-    key: K,
-    make: F,
-    value: V,
-) -> Result<Change, Refused<K, V>>
+pub(crate) fn update_or_insert<
+    K: Eq + Hash + Drop,
+    V: Drop,
+    S: BuildHasher,
+    R: Receiver<(K, V)>,
+    F: FnOnce(&V) -> V,
+>(map: &mut HashMap<K, V, S, R>, key: K, make: F, value: V) -> Result<Change, Refused<K, V>>
     requires callable { ForSome (found_by (K.eq key) map.old.pairs) (λ x. FnOnceTakesAt F.FnOnce make x.1) }
     ensures done { IfOk result (λ done. HasDone (K.eq key) (Some key) (UpdatingOrStoring (FnOnceReturnsAt F.FnOnce make) (λ new. new ≡ value)) map.old.pairs (HasNow map.new) done) }
     ensures refused { OnErr result (HasNow map.new map.old.pairs None None) }

@@ -11,14 +11,15 @@ ghost use Rattle.papaya_seq_shows.specs.Maps.{HasNow, Keeps, LastTook};
 
 use crate::map::HashMap;
 use papaya_tables::Equivalent;
+use seize_receivers::Receiver;
 use seize_words::Fault;
 use std::hash::{BuildHasher, Hash};
 
 /// Removes the pair of a key, and answers whether there was one, which `taken` shows until the next change. The faults are `Fault::Capacity`, where no
 /// table can follow the map's last one, and `Fault::Memory`; then no pair has changed.
 /// While the map has one table at most, it is not refused.
-pub fn take<K: Eq + Hash + Drop, V: Drop, S: BuildHasher, Q: Equivalent<K>>(
-    map: &mut HashMap<K, V, S>,
+pub fn take<K: Eq + Hash + Drop, V: Drop, S: BuildHasher, R: Receiver<(K, V)>, Q: Equivalent<K>>(
+    map: &mut HashMap<K, V, S, R>,
     asked: &Q,
 ) -> Result<bool, Fault>
     ensures some { IfOk result (λ was. was ≡ is_some (found_by (Q.Equivalent.equivalent asked.now) map.old.pairs)) }
@@ -40,14 +41,14 @@ pub fn take<K: Eq + Hash + Drop, V: Drop, S: BuildHasher, Q: Equivalent<K>>(
     )
 }
 
-impl<K: Eq + Hash + Drop, V: Drop, S: BuildHasher> HashMap<K, V, S> {
+impl<K: Eq + Hash + Drop, V: Drop, S: BuildHasher, R: Receiver<(K, V)>> HashMap<K, V, S, R> {
     ghost use Rattle.papaya_seq_map.specs.Lent.{EndsSo};
 
     /// Removes the pair of a key, and answers its value, which can be looked at until the next change, if the key was in the map. The faults are
     /// `Fault::Capacity`, where no table can follow the map's last one, and `Fault::Memory`; then no pair has changed.
     /// While the map has one table at most, it is not refused.
     pub fn remove<Q: Equivalent<K>>(&mut self, asked: &Q) -> Result<Option<&V>, Fault>
-        ensures* after { sem 𝓛 (EndsSo K.row V.row S.row S.Hasher.row K.Hash S.BuildHasher S.Hasher.Hasher self.entry (λ map. MatchResult result (λ _. HasNow map (left_by (Q.Equivalent.equivalent asked.now) self.old.pairs) (found_by (Q.Equivalent.equivalent asked.now) self.old.pairs) None) (λ fault. HasNow map self.old.pairs None None × (fault ≡ Capacity → CannotGrow map.tables)) × (map.hasher ≡ self.old.hasher) × Keeps [] self.old map)) }
+        ensures* after { sem 𝓛 (EndsSo K.row V.row S.row R.row S.Hasher.row K.Hash S.BuildHasher S.Hasher.Hasher self.entry (λ map. MatchResult result (λ _. HasNow map (left_by (Q.Equivalent.equivalent asked.now) self.old.pairs) (found_by (Q.Equivalent.equivalent asked.now) self.old.pairs) None) (λ fault. HasNow map self.old.pairs None None × (fault ≡ Capacity → CannotGrow map.tables)) × (map.hasher ≡ self.old.hasher) × Keeps [] self.old map)) }
         ensures value { IfOk result (λ was. option_copied was ≡ option_map (λ x. x.1) (found_by (Q.Equivalent.equivalent asked.now) self.old.pairs)) }
         ensures fault { IfErr result IsRoom }
         ensures steady { length self.old.tables ≤ 1 → IsOk result }
@@ -65,7 +66,7 @@ impl<K: Eq + Hash + Drop, V: Drop, S: BuildHasher> HashMap<K, V, S> {
     /// `Fault::Capacity`, where no table can follow the map's last one, and `Fault::Memory`; then no pair has changed.
     /// While the map has one table at most, it is not refused.
     pub fn remove_entry<Q: Equivalent<K>>(&mut self, asked: &Q) -> Result<Option<(&K, &V)>, Fault>
-        ensures* after { sem 𝓛 (EndsSo K.row V.row S.row S.Hasher.row K.Hash S.BuildHasher S.Hasher.Hasher self.entry (λ map. MatchResult result (λ _. HasNow map (left_by (Q.Equivalent.equivalent asked.now) self.old.pairs) (found_by (Q.Equivalent.equivalent asked.now) self.old.pairs) None) (λ fault. HasNow map self.old.pairs None None × (fault ≡ Capacity → CannotGrow map.tables)) × (map.hasher ≡ self.old.hasher) × Keeps [] self.old map)) }
+        ensures* after { sem 𝓛 (EndsSo K.row V.row S.row R.row S.Hasher.row K.Hash S.BuildHasher S.Hasher.Hasher self.entry (λ map. MatchResult result (λ _. HasNow map (left_by (Q.Equivalent.equivalent asked.now) self.old.pairs) (found_by (Q.Equivalent.equivalent asked.now) self.old.pairs) None) (λ fault. HasNow map self.old.pairs None None × (fault ≡ Capacity → CannotGrow map.tables)) × (map.hasher ≡ self.old.hasher) × Keeps [] self.old map)) }
         ensures pair { IfOk result (λ was. option_map (λ x. (x.0.now, x.1.now)) was ≡ found_by (Q.Equivalent.equivalent asked.now) self.old.pairs) }
         ensures fault { IfErr result IsRoom }
         ensures steady { length self.old.tables ≤ 1 → IsOk result }

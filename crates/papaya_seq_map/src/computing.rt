@@ -16,6 +16,7 @@ use crate::map::HashMap;
 use papaya_asks::RefusedKey;
 use papaya_operation::Operation;
 use papaya_resting::{Change, Compute as Done};
+use seize_receivers::Receiver;
 use std::hash::{BuildHasher, Hash};
 
 /// Stores a value for a key, removes its pair, or leaves it, as a computing says, which is called with the pair that is there, or with none. The faults are
@@ -25,9 +26,10 @@ fn decided<
     K: Eq + Hash + Drop,
     V: Drop,
     S: BuildHasher,
+    R: Receiver<(K, V)>,
     T: Drop,
     F: FnOnce(Option<(&K, &V)>) -> Operation<V, T>,
->(map: &mut HashMap<K, V, S>, key: K, decide: F) -> Result<Done<T>, RefusedKey<K>>
+>(map: &mut HashMap<K, V, S, R>, key: K, decide: F) -> Result<Done<T>, RefusedKey<K>>
     requires callable { ComputingTakes F.FnOnce decide (found_by (K.eq key) map.old.pairs) }
     ensures done { IfOk result (λ done. HasComputed (K.eq key) (Some key) (ComputesAs F.FnOnce decide) map.old.pairs (HasNow map.new) done) }
     ensures refused { OnErr result (HasNow map.new map.old.pairs None None) }
@@ -47,7 +49,7 @@ fn decided<
     )
 }
 
-impl<K: Eq + Hash + Drop, V: Drop, S: BuildHasher> HashMap<K, V, S> {
+impl<K: Eq + Hash + Drop, V: Drop, S: BuildHasher, R: Receiver<(K, V)>> HashMap<K, V, S, R> {
     /// Stores a value for a key, removes its pair, or leaves it, as a computing says, which is called with the pair that is there, or with none; and lends what
     /// was stored, replaced or removed. The faults are `Fault::Capacity`, where no table can follow the map's last one, `Fault::Memory`, and
     /// `Fault::RemoveNothing`, where it says that the pair is to be removed that is not there; then no pair has changed, and the key comes back.
@@ -55,9 +57,9 @@ impl<K: Eq + Hash + Drop, V: Drop, S: BuildHasher> HashMap<K, V, S> {
         &mut self,
         key: K,
         decide: F,
-    ) -> Result<Compute<'_, K, V, S, T>, RefusedKey<K>>
+    ) -> Result<Compute<'_, K, V, S, T, R>, RefusedKey<K>>
         requires callable { ComputingTakes F.FnOnce decide (found_by (K.eq key) self.old.pairs) }
-        ensures* after { sem 𝓛 (RestsUnless K.row V.row S.row S.Hasher.row K.Hash S.BuildHasher S.Hasher.Hasher self.entry result (λ done. computes.name_of done) (λ map. IfErr result (λ r. IsRefused self.old map r.fault))) }
+        ensures* after { sem 𝓛 (RestsUnless K.row V.row S.row R.row S.Hasher.row K.Hash S.BuildHasher S.Hasher.Hasher self.entry result (λ done. computes.name_of done) (λ map. IfErr result (λ r. IsRefused self.old map r.fault))) }
         ensures same { IfOk result (λ done. computes.name_of done ≡ self.entry.ghost_name) }
         ensures done { IfOk result (λ done. computes.HasComputed (K.eq key) key (ComputesAs F.FnOnce decide) self.old done) }
         ensures shown { IfOk result (λ done. computes.IsShown done) }

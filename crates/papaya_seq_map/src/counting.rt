@@ -5,9 +5,10 @@ ghost use Rattle.std.specs.List.Sorted.{IsPermutation};
 ghost use Rattle.std.specs.Map.{keys_of};
 
 use crate::map::HashMap;
+use seize_receivers::Receiver;
 use std::hash::{BuildHasher, Hash};
 
-impl<K: Eq + Hash, V, S: BuildHasher> HashMap<K, V, S> {
+impl<K: Eq + Hash, V, S: BuildHasher, R: Receiver<(K, V)>> HashMap<K, V, S, R> {
     /// How many pairs it has. No two of them have equal keys, and all are held, beside those that wait.
     pub fn len(&self) -> u64
         ensures len { result ≡ length self.now.pairs }

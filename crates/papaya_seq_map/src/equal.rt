@@ -6,11 +6,12 @@ ghost use Rattle.papaya_resting.specs.Given.{found_by};
 ghost use Rattle.papaya_pairs.specs.Equals.{agree, agree_turned, agree_through, agree_itself};
 
 use crate::map::HashMap;
+use seize_receivers::Receiver;
 use std::hash::{BuildHasher, Hash};
 
 /// Whether a map has this key, with an equal value.
-fn has_equal<K: Eq + Hash, V: PartialEq, S: BuildHasher>(
-    map: &HashMap<K, V, S>,
+fn has_equal<K: Eq + Hash, V: PartialEq, S: BuildHasher, R: Receiver<(K, V)>>(
+    map: &HashMap<K, V, S, R>,
     key: &K,
     value: &V,
 ) -> bool
@@ -22,12 +23,13 @@ fn has_equal<K: Eq + Hash, V: PartialEq, S: BuildHasher>(
     }
 }
 
-impl<K: Eq + Hash, V: PartialEq, S: BuildHasher> PartialEq for HashMap<K, V, S> {
+impl<K: Eq + Hash, V: PartialEq, S: BuildHasher, R: Receiver<(K, V)>> PartialEq
+    for HashMap<K, V, S, R> {
     ghost eq = { λ m n. agree K.eq V.eq m.pairs n.pairs };
 
     ghost laws = { record { symm = λ m n. agree_turned K.eq V.eq V.laws.symm m.pairs n.pairs; trans = λ l m n. agree_through K.eq V.eq K.Eq.laws V.laws.trans l.pairs m.pairs n.pairs } };
 
-    fn eq(&self, other: &HashMap<K, V, S>) -> bool {
+    fn eq(&self, other: &HashMap<K, V, S, R>) -> bool {
         if self.len() != other.len() {
             return false;
         }
@@ -40,6 +42,6 @@ impl<K: Eq + Hash, V: PartialEq, S: BuildHasher> PartialEq for HashMap<K, V, S> 
     }
 }
 
-impl<K: Eq + Hash, V: Eq, S: BuildHasher> Eq for HashMap<K, V, S> {
+impl<K: Eq + Hash, V: Eq, S: BuildHasher, R: Receiver<(K, V)>> Eq for HashMap<K, V, S, R> {
     ghost laws = { equiv (record { symm = λ m n. agree_turned K.eq V.eq V.Eq.laws.symm m.pairs n.pairs; trans = λ l m n. agree_through K.eq V.eq K.Eq.laws (partial_equiv_from_equiv V.Eq.laws).trans l.pairs m.pairs n.pairs }) (λ m. agree_itself K.eq V.eq V.Eq.laws.refl m.pairs) };
 }

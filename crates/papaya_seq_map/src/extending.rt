@@ -9,11 +9,12 @@ ghost use Rattle.papaya_seq_shows.specs.Stored.{Collects, Extends};
 use crate::insertions::put;
 use crate::map::HashMap;
 use papaya_asks::Refused;
+use seize_receivers::Receiver;
 use seize_words::Fault;
 use std::alloc::Global;
 use std::hash::{BuildHasher, Hash};
 
-impl<K: Eq + Hash + Drop, V: Drop, S: BuildHasher> HashMap<K, V, S> {
+impl<K: Eq + Hash + Drop, V: Drop, S: BuildHasher, R: Receiver<(K, V)>> HashMap<K, V, S, R> {
     /// Stores what an iterator gives, one pair after another, each also in the place of another one of its key. Where a pair is refused, it is
     /// handed back, those that came before stay, and no further one is asked for. `taken` and `met` show then what they show after the last one, or,
     /// where one was refused, nothing. The faults are `Fault::Capacity`, where no table can follow the map's last one, and `Fault::Memory`.

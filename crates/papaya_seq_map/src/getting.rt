@@ -13,13 +13,18 @@ use crate::insertions::try_put;
 use crate::map::HashMap;
 use papaya_asks::{Refused, RefusedKey};
 use papaya_resting::Change;
+use seize_receivers::Receiver;
 use std::hash::{BuildHasher, Hash};
 
-impl<K: Eq + Hash + Drop, V: Drop, S: BuildHasher> HashMap<K, V, S> {
+impl<K: Eq + Hash + Drop, V: Drop, S: BuildHasher, R: Receiver<(K, V)>> HashMap<K, V, S, R> {
     /// Lends the value of a key. Where the key is not there, this one is stored first. The faults are `Fault::Capacity`, where no table can follow the map's
     /// last one, and `Fault::Memory`; then no pair has changed, and key and value come back.
-    pub fn get_or_insert(&mut self, key: K, value: V) -> Result<Present<'_, K, V, S>, Refused<K, V>>
-        ensures* after { sem 𝓛 (RestsUnless K.row V.row S.row S.Hasher.row K.Hash S.BuildHasher S.Hasher.Hasher self.entry result (λ done. done.map.ghost_name) (λ map. IfErr result (λ r. IsRefused self.old map r.fault))) }
+    pub fn get_or_insert(
+        &mut self,
+        key: K,
+        value: V,
+    ) -> Result<Present<'_, K, V, S, R>, Refused<K, V>>
+        ensures* after { sem 𝓛 (RestsUnless K.row V.row S.row R.row S.Hasher.row K.Hash S.BuildHasher S.Hasher.Hasher self.entry result (λ done. done.map.ghost_name) (λ map. IfErr result (λ r. IsRefused self.old map r.fault))) }
         ensures same { IfOk result (λ done. done.map.ghost_name ≡ self.entry.ghost_name) }
         ensures got { IfOk result (λ done. MatchOption (found_by (K.eq key) self.old.pairs) (HasAdded self.old done.map.now (key, value)) (λ x. IsLeft self.old done.map.now (Some x))) }
         ensures met { IfOk result (λ done. IsTrue (is_some done.map.now.met)) }
@@ -39,9 +44,9 @@ impl<K: Eq + Hash + Drop, V: Drop, S: BuildHasher> HashMap<K, V, S> {
         &mut self,
         key: K,
         begin: B,
-    ) -> Result<Present<'_, K, V, S>, RefusedKey<K>>
+    ) -> Result<Present<'_, K, V, S, R>, RefusedKey<K>>
         requires callable { ForNone (found_by (K.eq key) self.old.pairs) (B.pre begin) }
-        ensures* after { sem 𝓛 (RestsUnless K.row V.row S.row S.Hasher.row K.Hash S.BuildHasher S.Hasher.Hasher self.entry result (λ done. done.map.ghost_name) (λ map. IfErr result (λ r. IsRefused self.old map r.fault))) }
+        ensures* after { sem 𝓛 (RestsUnless K.row V.row S.row R.row S.Hasher.row K.Hash S.BuildHasher S.Hasher.Hasher self.entry result (λ done. done.map.ghost_name) (λ map. IfErr result (λ r. IsRefused self.old map r.fault))) }
         ensures same { IfOk result (λ done. done.map.ghost_name ≡ self.entry.ghost_name) }
         ensures got { IfOk result (λ done. MatchOption (found_by (K.eq key) self.old.pairs) ((new : V) × FnOnceReturns B.FnOnce begin tt new × HasAdded self.old done.map.now (key, new)) (λ x. IsLeft self.old done.map.now (Some x))) }
         ensures met { IfOk result (λ done. IsTrue (is_some done.map.now.met)) }
@@ -62,9 +67,9 @@ impl<K: Eq + Hash + Drop, V: Drop, S: BuildHasher> HashMap<K, V, S> {
         &mut self,
         key: K,
         begin: B,
-    ) -> Result<Result<Present<'_, K, V, S>, Present<'_, K, V, S>>, RefusedKey<K>>
+    ) -> Result<Result<Present<'_, K, V, S, R>, Present<'_, K, V, S, R>>, RefusedKey<K>>
         requires callable { ForNone (found_by (K.eq key) self.old.pairs) (B.pre begin) }
-        ensures* after { sem 𝓛 (RestsUnless K.row V.row S.row S.Hasher.row K.Hash S.BuildHasher S.Hasher.Hasher self.entry result (λ tried. name_of_either tried (λ done. done.map.ghost_name) (λ there. there.map.ghost_name)) (λ map. IfErr result (λ r. IsRefused self.old map r.fault))) }
+        ensures* after { sem 𝓛 (RestsUnless K.row V.row S.row R.row S.Hasher.row K.Hash S.BuildHasher S.Hasher.Hasher self.entry result (λ tried. name_of_either tried (λ done. done.map.ghost_name) (λ there. there.map.ghost_name)) (λ map. IfErr result (λ r. IsRefused self.old map r.fault))) }
         ensures same { IfOk result (λ tried. MatchResult tried (λ done. done.map.ghost_name ≡ self.entry.ghost_name) (λ there. there.map.ghost_name ≡ self.entry.ghost_name)) }
         ensures stored { IfOk result (λ tried. IfOk tried (λ done. (found_by (K.eq key) self.old.pairs ≡ None) × (new : V) × FnOnceReturns B.FnOnce begin tt new × HasAdded self.old done.map.now (key, new))) }
         ensures found { IfOk result (λ tried. IfErr tried (λ there. IsLeft self.old there.map.now (found_by (K.eq key) self.old.pairs))) }

@@ -14,13 +14,14 @@ ghost use Rattle.papaya_seq_shows.specs.Stored.{HasPut};
 use crate::answers::{OccupiedError, Present, Replaced};
 use crate::map::HashMap;
 use papaya_asks::Refused;
+use seize_receivers::Receiver;
 use seize_words::Fault;
 use std::hash::{BuildHasher, Hash};
 
 /// Stores a pair, also in the place of another one of its key, and answers whether there was one, which `taken` shows until the next change. The faults
 /// are `Fault::Capacity`, where no table can follow the map's last one, and `Fault::Memory`; then no pair has changed.
-pub fn put<K: Eq + Hash + Drop, V: Drop, S: BuildHasher>(
-    map: &mut HashMap<K, V, S>,
+pub fn put<K: Eq + Hash + Drop, V: Drop, S: BuildHasher, R: Receiver<(K, V)>>(
+    map: &mut HashMap<K, V, S, R>,
     key: K,
     value: V,
 ) -> Result<bool, Refused<K, V>>
@@ -48,8 +49,8 @@ pub fn put<K: Eq + Hash + Drop, V: Drop, S: BuildHasher>(
 /// Stores a pair, if its key is not there yet. Where it is there, no pair has changed, the value that was not stored is handed back, and
 /// `met` shows the pair that is there until the next change. The faults are `Fault::Capacity`, where no table can follow the map's last one, and
 /// `Fault::Memory`; then no pair has changed, either.
-pub(crate) fn try_put<K: Eq + Hash + Drop, V: Drop, S: BuildHasher>(
-    map: &mut HashMap<K, V, S>,
+pub(crate) fn try_put<K: Eq + Hash + Drop, V: Drop, S: BuildHasher, R: Receiver<(K, V)>>(
+    map: &mut HashMap<K, V, S, R>,
     key: K,
     value: V,
 ) -> Result<Result<(), V>, Refused<K, V>>
@@ -75,8 +76,8 @@ pub(crate) fn try_put<K: Eq + Hash + Drop, V: Drop, S: BuildHasher>(
 }
 
 /// Stores a pair that is not wanted back where it is refused.
-pub fn store<K: Eq + Hash + Drop, V: Drop, S: BuildHasher>(
-    map: &mut HashMap<K, V, S>,
+pub fn store<K: Eq + Hash + Drop, V: Drop, S: BuildHasher, R: Receiver<(K, V)>>(
+    map: &mut HashMap<K, V, S, R>,
     key: K,
     value: V,
 ) -> Result<(), Fault>
@@ -90,11 +91,11 @@ pub fn store<K: Eq + Hash + Drop, V: Drop, S: BuildHasher>(
     }
 }
 
-impl<K: Eq + Hash + Drop, V: Drop, S: BuildHasher> HashMap<K, V, S> {
+impl<K: Eq + Hash + Drop, V: Drop, S: BuildHasher, R: Receiver<(K, V)>> HashMap<K, V, S, R> {
     /// Stores a pair, also in the place of another one of its key, and lends the value that it replaced, if there was one. The faults are `Fault::Capacity`,
     /// where no table can follow the map's last one, and `Fault::Memory`; then no pair has changed, and key and value come back.
-    pub fn insert(&mut self, key: K, value: V) -> Result<Replaced<'_, K, V, S>, Refused<K, V>>
-        ensures* after { sem 𝓛 (RestsUnless K.row V.row S.row S.Hasher.row K.Hash S.BuildHasher S.Hasher.Hasher self.entry result (λ done. done.map.ghost_name) (λ map. IfErr result (λ r. IsRefused self.old map r.fault))) }
+    pub fn insert(&mut self, key: K, value: V) -> Result<Replaced<'_, K, V, S, R>, Refused<K, V>>
+        ensures* after { sem 𝓛 (RestsUnless K.row V.row S.row R.row S.Hasher.row K.Hash S.BuildHasher S.Hasher.Hasher self.entry result (λ done. done.map.ghost_name) (λ map. IfErr result (λ r. IsRefused self.old map r.fault))) }
         ensures same { IfOk result (λ done. done.map.ghost_name ≡ self.entry.ghost_name) }
         ensures stored { IfOk result (λ done. IsPermutation done.map.now.pairs (left_by (K.eq key) self.old.pairs ++ ((key, value) ∷ []))) }
         ensures last { IfOk result (λ done. LastTook done.map.now (found_by (K.eq key) self.old.pairs) (Some (key, value))) }
@@ -117,8 +118,8 @@ impl<K: Eq + Hash + Drop, V: Drop, S: BuildHasher> HashMap<K, V, S> {
         &mut self,
         key: K,
         value: V,
-    ) -> Result<Result<Present<'_, K, V, S>, OccupiedError<'_, K, V, S>>, Refused<K, V>>
-        ensures* after { sem 𝓛 (RestsUnless K.row V.row S.row S.Hasher.row K.Hash S.BuildHasher S.Hasher.Hasher self.entry result (λ tried. name_of_either tried (λ done. done.map.ghost_name) (λ there. there.map.ghost_name)) (λ map. IfErr result (λ r. IsRefused self.old map r.fault))) }
+    ) -> Result<Result<Present<'_, K, V, S, R>, OccupiedError<'_, K, V, S, R>>, Refused<K, V>>
+        ensures* after { sem 𝓛 (RestsUnless K.row V.row S.row R.row S.Hasher.row K.Hash S.BuildHasher S.Hasher.Hasher self.entry result (λ tried. name_of_either tried (λ done. done.map.ghost_name) (λ there. there.map.ghost_name)) (λ map. IfErr result (λ r. IsRefused self.old map r.fault))) }
         ensures same { IfOk result (λ tried. MatchResult tried (λ done. done.map.ghost_name ≡ self.entry.ghost_name) (λ there. there.map.ghost_name ≡ self.entry.ghost_name)) }
         ensures stored { IfOk result (λ tried. IfOk tried (λ done. (found_by (K.eq key) self.old.pairs ≡ None) × HasAdded self.old done.map.now (key, value))) }
         ensures found { IfOk result (λ tried. IfErr tried (λ there. IsLeft self.old there.map.now (found_by (K.eq key) self.old.pairs))) }

@@ -3,9 +3,10 @@ ghost use Rattle.std.specs.Prelude.{◌≡◌, option_map};
 
 use crate::map::HashMap;
 use papaya_resting::shown;
+use seize_receivers::Receiver;
 use std::hash::{BuildHasher, Hash};
 
-impl<K: Eq + Hash, V, S: BuildHasher> HashMap<K, V, S> {
+impl<K: Eq + Hash, V, S: BuildHasher, R: Receiver<(K, V)>> HashMap<K, V, S, R> {
     /// The pair that the last change took out of the map, where it removed or replaced one. What `clear`, `retain` and `reserve` take out is not
     /// shown.
     pub fn taken(&self) -> Option<(&K, &V)>

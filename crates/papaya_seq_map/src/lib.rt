@@ -31,4 +31,5 @@ pub use papaya_operation::Operation;
 pub use papaya_pairs::law;
 pub use papaya_shown::{Keys, Pairs, Values};
 pub use papaya_tables::Equivalent;
+pub use seize_receivers::{Drops, Receiver};
 pub use seize_words::Fault;

@@ -7,10 +7,11 @@ ghost use Rattle.papaya_resting.specs.Given.{found_by};
 use crate::map::HashMap;
 use papaya_resting::pair_of;
 use papaya_tables::Equivalent;
+use seize_receivers::Receiver;
 use std::hash::{BuildHasher, Hash};
 use std::ops::Index;
 
-impl<K: Eq + Hash, V, S: BuildHasher> HashMap<K, V, S> {
+impl<K: Eq + Hash, V, S: BuildHasher, R: Receiver<(K, V)>> HashMap<K, V, S, R> {
     /// The value of a key, if the key is in the map.
     pub fn get<Q: Equivalent<K>>(&self, asked: &Q) -> Option<&V>
         ensures value { option_copied result ≡ option_map (λ x. x.1) (found_by (Q.Equivalent.equivalent asked.now) self.now.pairs) }
@@ -40,7 +41,8 @@ impl<K: Eq + Hash, V, S: BuildHasher> HashMap<K, V, S> {
     }
 }
 
-impl<K: Eq + Hash, V, S: BuildHasher, Q: Equivalent<K>> Index<&Q> for HashMap<K, V, S> {
+impl<K: Eq + Hash, V, S: BuildHasher, R: Receiver<(K, V)>, Q: Equivalent<K>> Index<&Q>
+    for HashMap<K, V, S, R> {
     type Output = V;
 
     ghost can_index = { λ m q. IsSome (found_by (Q.Equivalent.equivalent q.now) m.pairs) };

@@ -11,6 +11,7 @@ use seize_alone::register;
 use seize_words::{Fault, Plain};
 use std::alloc::Global;
 use std::hash::{BuildHasher, Hash};
+use std::marker::PhantomData;
 
 impl<K: Eq + Hash + Drop, V: Drop, S: BuildHasher + Default + Drop> HashMap<K, V, S> {
     /// A map with no pair, and with no table yet. The only fault is `Fault::Memory`.
@@ -75,6 +76,7 @@ impl<K: Eq + Hash + Drop, V: Drop, S: BuildHasher + Drop> HashMap<K, V, S> {
                 last: Last::NONE,
             },
             hasher,
+            receiver: PhantomData,
         })
     }
 }

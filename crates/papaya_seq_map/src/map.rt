@@ -5,9 +5,10 @@ ghost use Rattle.papaya_shown.specs.Chain.{CountsTables, counts_tables_prop, roo
 
 use papaya_resting::Last;
 use papaya_tables::{Node, Setting};
+use seize_receivers::{Drops, Receiver};
 use seize_words::Plain;
 use std::hash::{BuildHasher, BuildHasherDefault, FoldHasher, Hash};
-use std::marker::Model;
+use std::marker::{Model, PhantomData};
 
 /// The memory of a map between its calls, with its setting, and the words of the pairs that the last change took out of it, and met. Only proofs
 /// read how many tables it has.
@@ -23,19 +24,26 @@ pub(crate) struct Resting<K, V> {
 
 /// A hash map for one owner.
 ///
-/// Its hasher is that of the standard library's maps, where none is named. It has its memory and its collector for itself. Each change begins with a refresh of its one section: what changes before it took out of
+/// Its hasher is that of the standard library's maps, where none is named; what is reclaimed is dropped. It has its memory and its collector for itself. Each change begins with a refresh of its one section: what changes before it took out of
 /// the map may be given back then, once enough of it waits, and no earlier. So the pair that the last change took out of the map can be looked
 /// at until the next one, by `taken`, and the one that it met at its key or put there, by `met`.
 ///
 /// A contract sees its pairs, its hasher, these two pairs, what the memory holds, the pairs that were stored and not given back, and how many places its
 /// tables have. The pairs are in the order in which a walk shows them; a change may put them in any other order.
 #[derive(Drop)]
-pub struct HashMap<K: Eq + Hash, V, S: BuildHasher = BuildHasherDefault<FoldHasher>> {
+pub struct HashMap<
+    K: Eq + Hash,
+    V,
+    S: BuildHasher = BuildHasherDefault<FoldHasher>,
+    R: Receiver<(K, V)> = Drops,
+> {
     pub(crate) resting: Resting<K, V>,
     pub(crate) hasher: S,
+    /// What gets the pairs that are reclaimed. There is one such type, and no call takes a value of it.
+    pub(crate) receiver: PhantomData<R>,
 }
 
-impl<K: Eq + Hash, V, S: BuildHasher> Model for HashMap<K, V, S> {
+impl<K: Eq + Hash, V, S: BuildHasher, R: Receiver<(K, V)>> Model for HashMap<K, V, S, R> {
     ghost use Rattle.std.specs.Prelude.{List};
     ghost use Rattle.papaya_resting.specs.Given.{held_in, Holds, hashed_by};
     ghost use Rattle.papaya_resting.specs.Lasts.{pair_in};

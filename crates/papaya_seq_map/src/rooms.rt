@@ -10,10 +10,11 @@ ghost use Rattle.papaya_seq_shows.specs.Maps.{Keeps, LastTook};
 
 use crate::map::HashMap;
 use papaya_resting::Last;
+use seize_receivers::Receiver;
 use seize_words::Fault;
 use std::hash::{BuildHasher, Hash};
 
-impl<K: Eq + Hash + Drop, V: Drop, S: BuildHasher> HashMap<K, V, S> {
+impl<K: Eq + Hash + Drop, V: Drop, S: BuildHasher, R: Receiver<(K, V)>> HashMap<K, V, S, R> {
     /// Makes room for so many further pairs beside those that it has: its first table has the places that they need. No pair changes, only
     /// their order may. The faults are `Fault::Capacity`, always where that is too many, and else where no table can follow the map's last one, and `Fault::Memory`.
     pub fn reserve(&mut self, additional: u64) -> Result<(), Fault>

@@ -14,6 +14,7 @@ ghost use Rattle.papaya_seq_shows.specs.Maps.{HasNow, Keeps};
 use crate::map::HashMap;
 use papaya_resting::Change;
 use papaya_tables::Equivalent;
+use seize_receivers::Receiver;
 use seize_words::Fault;
 use std::hash::{BuildHasher, Hash};
 
@@ -24,9 +25,10 @@ fn take_if<
     K: Eq + Hash + Drop,
     V: Drop,
     S: BuildHasher,
+    R: Receiver<(K, V)>,
     Q: Equivalent<K>,
     F: FnOnce(&K, &V) -> bool,
->(map: &mut HashMap<K, V, S>, asked: &Q, test: F) -> Result<Change, Fault>
+>(map: &mut HashMap<K, V, S, R>, asked: &Q, test: F) -> Result<Change, Fault>
     requires callable { ForSome (found_by (Q.Equivalent.equivalent asked.now) map.old.pairs) (TestTakes F.FnOnce test) }
     ensures done { IfOk result (λ done. HasDone (Q.Equivalent.equivalent asked.now) None (Removing (TestsAs F.FnOnce test)) map.old.pairs (HasNow map.new) done) }
     ensures refused { OnErr result (HasNow map.new map.old.pairs None None) }
@@ -46,7 +48,7 @@ fn take_if<
     )
 }
 
-impl<K: Eq + Hash + Drop, V: Drop, S: BuildHasher> HashMap<K, V, S> {
+impl<K: Eq + Hash + Drop, V: Drop, S: BuildHasher, R: Receiver<(K, V)>> HashMap<K, V, S, R> {
     ghost use Rattle.papaya_seq_map.specs.Lent.{EndsSo};
 
     /// Removes the pair of a key, if a test of it answers yes, and lends it, or, where it answers no, the pair that stays; or nothing, where the key is not
@@ -59,7 +61,7 @@ impl<K: Eq + Hash + Drop, V: Drop, S: BuildHasher> HashMap<K, V, S> {
         test: F,
     ) -> Result<Result<Option<(&K, &V)>, (&K, &V)>, Fault>
         requires callable { ForSome (found_by (Q.Equivalent.equivalent asked.now) self.old.pairs) (TestTakes F.FnOnce test) }
-        ensures* after { sem 𝓛 (EndsSo K.row V.row S.row S.Hasher.row K.Hash S.BuildHasher S.Hasher.Hasher self.entry (λ map. MatchResult result (λ gone. MatchResult gone
+        ensures* after { sem 𝓛 (EndsSo K.row V.row S.row R.row S.Hasher.row K.Hash S.BuildHasher S.Hasher.Hasher self.entry (λ map. MatchResult result (λ gone. MatchResult gone
             (λ _. MatchOption (found_by (Q.Equivalent.equivalent asked.now) self.old.pairs) (IsLeft self.old map None) (λ x. TestsAs F.FnOnce test x true × HasRemoved self.old map (Q.Equivalent.equivalent asked.now) x))
             (λ _. MatchOption (found_by (Q.Equivalent.equivalent asked.now) self.old.pairs) ⊥ (λ x. TestsAs F.FnOnce test x false × IsLeft self.old map (Some x))) × (map.hasher ≡ self.old.hasher))
             (λ fault. IsRefused self.old map fault))) }

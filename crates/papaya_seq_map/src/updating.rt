@@ -11,9 +11,10 @@ use crate::answers::{Present, Updated};
 use crate::asking;
 use crate::map::HashMap;
 use papaya_asks::{Refused, RefusedKey};
+use seize_receivers::Receiver;
 use std::hash::{BuildHasher, Hash};
 
-impl<K: Eq + Hash + Drop, V: Drop, S: BuildHasher> HashMap<K, V, S> {
+impl<K: Eq + Hash + Drop, V: Drop, S: BuildHasher, R: Receiver<(K, V)>> HashMap<K, V, S, R> {
     /// Replaces the value of a key by one that is made of it, and lends the new one, if the key is there. The closure is called where it is, and else not at
     /// all. The faults are `Fault::Capacity`, where no table can follow the map's last one, and `Fault::Memory`; then no pair has
     /// changed, and the key comes back.
@@ -21,9 +22,9 @@ impl<K: Eq + Hash + Drop, V: Drop, S: BuildHasher> HashMap<K, V, S> {
         &mut self,
         key: K,
         make: F,
-    ) -> Result<Updated<'_, K, V, S>, RefusedKey<K>>
+    ) -> Result<Updated<'_, K, V, S, R>, RefusedKey<K>>
         requires callable { ForSome (found_by (K.eq key) self.old.pairs) (λ x. FnOnceTakesAt F.FnOnce make x.1) }
-        ensures* after { sem 𝓛 (RestsUnless K.row V.row S.row S.Hasher.row K.Hash S.BuildHasher S.Hasher.Hasher self.entry result (λ done. done.map.ghost_name) (λ map. IfErr result (λ r. IsRefused self.old map r.fault))) }
+        ensures* after { sem 𝓛 (RestsUnless K.row V.row S.row R.row S.Hasher.row K.Hash S.BuildHasher S.Hasher.Hasher self.entry result (λ done. done.map.ghost_name) (λ map. IfErr result (λ r. IsRefused self.old map r.fault))) }
         ensures same { IfOk result (λ done. done.map.ghost_name ≡ self.entry.ghost_name) }
         ensures done { IfOk result (λ done. MatchOption (found_by (K.eq key) self.old.pairs) (IsLeft self.old done.map.now None) (λ x. (new : V) × FnOnceReturnsAt F.FnOnce make x.1 new × HasReplaced self.old done.map.now (K.eq key) x (key, new))) }
         ensures back { IfErr result (λ r. r.key ≡ key) }
@@ -44,10 +45,10 @@ impl<K: Eq + Hash + Drop, V: Drop, S: BuildHasher> HashMap<K, V, S> {
         key: K,
         make: F,
         begin: B,
-    ) -> Result<Present<'_, K, V, S>, RefusedKey<K>>
+    ) -> Result<Present<'_, K, V, S, R>, RefusedKey<K>>
         requires begins { ForNone (found_by (K.eq key) self.old.pairs) (B.pre begin) }
         requires makes { ForSome (found_by (K.eq key) self.old.pairs) (λ x. FnOnceTakesAt F.FnOnce make x.1) }
-        ensures* after { sem 𝓛 (RestsUnless K.row V.row S.row S.Hasher.row K.Hash S.BuildHasher S.Hasher.Hasher self.entry result (λ done. done.map.ghost_name) (λ map. IfErr result (λ r. IsRefused self.old map r.fault))) }
+        ensures* after { sem 𝓛 (RestsUnless K.row V.row S.row R.row S.Hasher.row K.Hash S.BuildHasher S.Hasher.Hasher self.entry result (λ done. done.map.ghost_name) (λ map. IfErr result (λ r. IsRefused self.old map r.fault))) }
         ensures same { IfOk result (λ done. done.map.ghost_name ≡ self.entry.ghost_name) }
         ensures done { IfOk result (λ done. MatchOption (found_by (K.eq key) self.old.pairs) ((new : V) × FnOnceReturns B.FnOnce begin tt new × HasAdded self.old done.map.now (key, new)) (λ x. (new : V) × FnOnceReturnsAt F.FnOnce make x.1 new × HasReplaced self.old done.map.now (K.eq key) x (key, new))) }
         ensures met { IfOk result (λ done. IsTrue (is_some done.map.now.met)) }
@@ -69,9 +70,9 @@ impl<K: Eq + Hash + Drop, V: Drop, S: BuildHasher> HashMap<K, V, S> {
         key: K,
         make: F,
         value: V,
-    ) -> Result<Present<'_, K, V, S>, Refused<K, V>>
+    ) -> Result<Present<'_, K, V, S, R>, Refused<K, V>>
         requires callable { ForSome (found_by (K.eq key) self.old.pairs) (λ x. FnOnceTakesAt F.FnOnce make x.1) }
-        ensures* after { sem 𝓛 (RestsUnless K.row V.row S.row S.Hasher.row K.Hash S.BuildHasher S.Hasher.Hasher self.entry result (λ done. done.map.ghost_name) (λ map. IfErr result (λ r. IsRefused self.old map r.fault))) }
+        ensures* after { sem 𝓛 (RestsUnless K.row V.row S.row R.row S.Hasher.row K.Hash S.BuildHasher S.Hasher.Hasher self.entry result (λ done. done.map.ghost_name) (λ map. IfErr result (λ r. IsRefused self.old map r.fault))) }
         ensures same { IfOk result (λ done. done.map.ghost_name ≡ self.entry.ghost_name) }
         ensures done { IfOk result (λ done. MatchOption (found_by (K.eq key) self.old.pairs) (HasAdded self.old done.map.now (key, value)) (λ x. (new : V) × FnOnceReturnsAt F.FnOnce make x.1 new × HasReplaced self.old done.map.now (K.eq key) x (key, new))) }
         ensures met { IfOk result (λ done. IsTrue (is_some done.map.now.met)) }

@@ -7,9 +7,10 @@ ghost use Rattle.papaya_shown.specs.Coming.{pairs_to_come, can_go_on};
 
 use crate::map::HashMap;
 use papaya_shown::{Keys, Pairs, Values, pairs_of};
+use seize_receivers::Receiver;
 use std::hash::{BuildHasher, Hash};
 
-impl<K: Eq + Hash, V, S: BuildHasher> HashMap<K, V, S> {
+impl<K: Eq + Hash, V, S: BuildHasher, R: Receiver<(K, V)>> HashMap<K, V, S, R> {
     /// The pairs, each once: every key with its value. In which order is not said, but no two have equal keys.
     pub fn iter(&self) -> Pairs<'_, K, V>
         ensures can { can_go_on result }
@@ -39,7 +40,8 @@ impl<K: Eq + Hash, V, S: BuildHasher> HashMap<K, V, S> {
     }
 }
 
-impl<'a, K: Eq + Hash, V, S: BuildHasher> IntoIterator for &'a HashMap<K, V, S> {
+impl<'a, K: Eq + Hash, V, S: BuildHasher, R: Receiver<(K, V)>> IntoIterator
+    for &'a HashMap<K, V, S, R> {
     type Item = (&'a K, &'a V);
 
     type IntoIter = Pairs<'a, K, V>;

@@ -10,7 +10,7 @@ ghost use Rattle.papaya_seq_map.specs.Given.Stored.{HasPut};
 
 use crate::json::{FromJson, ToJson};
 use papaya_forms::{JsonFault, JsonForm, JsonKey, object_of};
-use papaya_seq_map::{HashMap, store};
+use papaya_seq_map::{HashMap, Receiver, store};
 use serde_json::Value;
 use serde_json::value::Map;
 use std::alloc::{AllocError, Global};
@@ -90,7 +90,8 @@ fn map_in<K: JsonKey + Hash + Drop, V: JsonForm + Drop, S: BuildHasher + Default
 }
 
 /// The object that has the map's pairs for its members, each key's text for a name.
-impl<K: JsonKey + Hash, V: JsonForm, S: BuildHasher> ToJson for HashMap<K, V, S> {
+impl<K: JsonKey + Hash, V: JsonForm, S: BuildHasher, R: Receiver<(K, V)>> ToJson
+    for HashMap<K, V, S, R> {
     ghost is_written = { λ map d. ArePairsOf K.JsonForm.in_range K.JsonKey.key_text V.JsonForm.in_range V.JsonForm.json_value map.pairs d };
 
     fn to_value(&self, alloc: Global) -> Result<Value, AllocError> {

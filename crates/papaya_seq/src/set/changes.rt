@@ -6,12 +6,12 @@ ghost use Rattle.seize_words.specs.declared.fault.Fault.TheVariants.{Capacity};
 ghost use Rattle.papaya_seq.specs.Sets.{KeepsIn, LastTookOut, left_in, put_in};
 
 use super::HashSet;
-use papaya_seq_map::{RefusedKey, put, take};
+use papaya_seq_map::{Receiver, RefusedKey, put, take};
 use papaya_tables::Equivalent;
 use seize_words::Fault;
 use std::hash::{BuildHasher, Hash};
 
-impl<K: Eq + Hash + Drop, S: BuildHasher> HashSet<K, S> {
+impl<K: Eq + Hash + Drop, S: BuildHasher, R: Receiver<(K, ())>> HashSet<K, S, R> {
     /// Stores an element, also in the place of one that equals it, and answers whether there was none. The one whose place it took is shown by `taken`
     /// until the next change. The faults are `Fault::Capacity`, where no table can follow the set's last one, and `Fault::Memory`; then no element has changed.
     pub fn insert(&mut self, element: K) -> Result<bool, RefusedKey<K>>

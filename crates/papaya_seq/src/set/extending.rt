@@ -6,12 +6,12 @@ ghost use Rattle.seize_words.specs.declared.fault.Fault.TheVariants.{Capacity};
 ghost use Rattle.papaya_seq.specs.Stored.{CollectsSet, ExtendsSet};
 
 use super::HashSet;
-use papaya_seq_map::RefusedKey;
+use papaya_seq_map::{Receiver, RefusedKey};
 use seize_words::Fault;
 use std::alloc::Global;
 use std::hash::{BuildHasher, Hash};
 
-impl<K: Eq + Hash + Drop, S: BuildHasher> HashSet<K, S> {
+impl<K: Eq + Hash + Drop, S: BuildHasher, R: Receiver<(K, ())>> HashSet<K, S, R> {
     /// Stores what an iterator gives, one element after another, each also in the place of one that equals it. Where one is refused, it is handed
     /// back, those that came before stay, and no further one is asked for. `taken` and `met` show then what they show after the last one, or, where one
     /// was refused, nothing. The faults are `Fault::Capacity`, where no table can follow the set's last one, and `Fault::Memory`.

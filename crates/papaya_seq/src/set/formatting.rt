@@ -1,10 +1,11 @@
 //! How a set for one owner is written for who debugs.
 
 use super::HashSet;
+use papaya_seq_map::Receiver;
 use std::fmt::{Debug, Formatter, Result, Write};
 use std::hash::{BuildHasher, Hash};
 
-impl<K: Eq + Hash + Debug, S: BuildHasher> Debug for HashSet<K, S> {
+impl<K: Eq + Hash + Debug, S: BuildHasher, R: Receiver<(K, ())>> Debug for HashSet<K, S, R> {
     fn fmt<W: Write>(&self, f: &mut Formatter<W>) -> Result {
         let mut out = f.debug_set();
         for element in self.iter() {

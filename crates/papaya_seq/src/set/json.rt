@@ -6,6 +6,7 @@ ghost use Rattle.papaya_seq.specs.Stored.{IsSetMadeOf};
 use super::HashSet;
 use crate::json::{FromJson, ToJson};
 use papaya_forms::{Gathers, JsonFault, JsonForm, array_of, elements_of};
+use papaya_seq_map::Receiver;
 use seize_words::Fault;
 use serde_json::Value;
 use std::alloc::{AllocError, Global};
@@ -33,7 +34,7 @@ impl<K: Eq + Hash + Drop, S: BuildHasher + Default + Drop> Gathers<K> for HashSe
 }
 
 /// The array that has the set's elements, each once, in the order of the bytes of their compact texts.
-impl<K: JsonForm + Hash, S: BuildHasher> ToJson for HashSet<K, S> {
+impl<K: JsonForm + Hash, S: BuildHasher, R: Receiver<(K, ())>> ToJson for HashSet<K, S, R> {
     ghost is_written = { λ set d. AreElementsOfArray K.JsonForm.in_range K.JsonForm.json_value set.elements d };
 
     fn to_value(&self, alloc: Global) -> Result<Value, AllocError> {

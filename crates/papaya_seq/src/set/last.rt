@@ -3,9 +3,10 @@ ghost use Rattle.std.specs.Prelude.{◌≡◌};
 ghost use Rattle.std.specs.Option.{option_copied};
 
 use super::HashSet;
+use papaya_seq_map::Receiver;
 use std::hash::{BuildHasher, Hash};
 
-impl<K: Eq + Hash, S: BuildHasher> HashSet<K, S> {
+impl<K: Eq + Hash, S: BuildHasher, R: Receiver<(K, ())>> HashSet<K, S, R> {
     /// The element that the last change took out of the set, where it removed or replaced one. What `clear`, `retain` and `reserve` take out is not
     /// shown.
     pub fn taken(&self) -> Option<&K>

@@ -7,11 +7,12 @@ ghost use Rattle.papaya_shown.specs.Coming.{can_go_on};
 ghost use Rattle.papaya_shown.specs.Columns.{keys_to_come};
 
 use super::HashSet;
+use papaya_seq_map::Receiver;
 use papaya_shown::Keys;
 use papaya_tables::Equivalent;
 use std::hash::{BuildHasher, Hash};
 
-impl<K: Eq + Hash, S: BuildHasher> HashSet<K, S> {
+impl<K: Eq + Hash, S: BuildHasher, R: Receiver<(K, ())>> HashSet<K, S, R> {
     /// How many elements it has. No two of them are equal, and all are held, beside those that wait.
     pub fn len(&self) -> u64
         ensures len { result ≡ length self.now.elements }
@@ -57,7 +58,7 @@ impl<K: Eq + Hash, S: BuildHasher> HashSet<K, S> {
     }
 }
 
-impl<'a, K: Eq + Hash, S: BuildHasher> IntoIterator for &'a HashSet<K, S> {
+impl<'a, K: Eq + Hash, S: BuildHasher, R: Receiver<(K, ())>> IntoIterator for &'a HashSet<K, S, R> {
     type Item = &'a K;
 
     type IntoIter = Keys<'a, K, ()>;

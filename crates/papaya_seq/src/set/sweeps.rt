@@ -7,10 +7,11 @@ ghost use Rattle.papaya_seq.specs.Sets.{KeepsElements, KeepsIn, LastTookOut};
 ghost use Rattle.seize_words.specs.declared.fault.Fault.TheVariants.{Capacity};
 
 use super::HashSet;
+use papaya_seq_map::Receiver;
 use seize_words::Fault;
 use std::hash::{BuildHasher, Hash};
 
-impl<K: Eq + Hash + Drop, S: BuildHasher> HashSet<K, S> {
+impl<K: Eq + Hash + Drop, S: BuildHasher, R: Receiver<(K, ())>> HashSet<K, S, R> {
     /// Removes all elements. The faults are `Fault::Capacity`, where no table can follow the set's last one, and `Fault::Memory`: a growth that was under
     /// way could not be seen through. Then no element has changed. While the set has one table at most, it is not refused.
     pub fn clear(&mut self) -> Result<(), Fault>

@@ -6,7 +6,7 @@ use Rattle.papaya_pairs.specs.Puts.{IsCloneOf}
 use Rattle.papaya_pairs.proofs.Puts.{clones_same}
 use Rattle.papaya_seq_shows.specs.Stored.{IsMadeOfClones}
 use Rattle.papaya_seq_shows.proofs.Stored.{made_first, made_more}
-use Rattle.papaya_seq_map.proofs.map.HashMap.from_array.Goals as goal
+use Rattle.papaya_seq_map.proofs.clones.HashMap+K+V+S.from_array.Goals as goal
 
 pub loop-item-init : goal.loop-item-init
 loop-item-init g c =

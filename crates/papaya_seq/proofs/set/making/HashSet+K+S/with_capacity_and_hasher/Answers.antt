@@ -1,7 +1,7 @@
 -- By the map's pairs.
 use Rattle.std.specs.Prelude.{option_map}
 use Rattle.std.proofs.Common.{ap}
-use Rattle.papaya_seq.proofs.set.HashSet.with_capacity_and_hasher.Goals as goal
+use Rattle.papaya_seq.proofs.set.making.HashSet+K+S.with_capacity_and_hasher.Goals as goal
 
 pub returns-clause-last : goal.returns-clause-last
 returns-clause-last g c =

@@ -10,7 +10,7 @@ use Rattle.papaya_seq.specs.Sets.{Set, set_of}
 use Rattle.papaya_seq.specs.Stored.{IsSetMadeOfClones}
 use Rattle.papaya_seq.proofs.Sets.{keys_in_order}
 use Rattle.papaya_seq.proofs.Stored.{keys_of_clones}
-use Rattle.papaya_seq.proofs.set.HashSet.clone.Goals as goal
+use Rattle.papaya_seq.proofs.set.clones.HashSet+K+S.clone.Goals as goal
 
 pub returns-clause-clones : goal.returns-clause-clones
 returns-clause-clones g c =

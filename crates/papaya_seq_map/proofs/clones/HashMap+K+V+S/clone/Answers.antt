@@ -8,7 +8,7 @@ use Rattle.papaya_pairs.proofs.Puts.{clones_same_apart}
 use Rattle.papaya_seq_shows.proofs.Cloned.{clones_equal}
 use Rattle.papaya_seq_shows.proofs.Stored.{clones_more, made_first}
 use Rattle.papaya_seq_shows.proofs.Walked.{shown_all}
-use Rattle.papaya_seq_map.proofs.map.HashMap.clone.Goals as goal
+use Rattle.papaya_seq_map.proofs.clones.HashMap+K+V+S.clone.Goals as goal
 
 pub loop-key-init : goal.loop-key-init
 loop-key-init g c =

@@ -2,7 +2,7 @@
 use Rattle.std.proofs.Common.{sym, subst}
 use Rattle.std.specs.Iterator.{Drains, IsFinite}
 use Rattle.papaya_seq_shows.proofs.Stored.{made_by}
-use Rattle.papaya_seq_map.proofs.map.HashMap.try_collect.Goals as goal
+use Rattle.papaya_seq_map.proofs.extending.HashMap+K+V+S.try_collect.Goals as goal
 
 pub extend-requires : goal.extend-requires
 extend-requires g c = λ it is.

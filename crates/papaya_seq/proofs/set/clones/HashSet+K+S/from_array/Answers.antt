@@ -6,7 +6,7 @@ use Rattle.std.proofs.lemmas.List.Elements.{all_zip_more, same_from_all_zip}
 use Rattle.papaya_seq.specs.Sets.{put_all_in}
 use Rattle.papaya_seq.specs.Stored.{IsSetMadeOfClones}
 use Rattle.papaya_seq.proofs.Stored.{made_first, made_more}
-use Rattle.papaya_seq.proofs.set.HashSet.from_array.Goals as goal
+use Rattle.papaya_seq.proofs.set.clones.HashSet+K+S.from_array.Goals as goal
 
 pub loop-item-init : goal.loop-item-init
 loop-item-init g c =

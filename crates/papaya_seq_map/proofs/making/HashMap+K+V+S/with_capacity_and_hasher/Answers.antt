@@ -6,7 +6,7 @@ use Rattle.papaya_resting.proofs.Makes.{nothing_happened, nothing_there, slot_re
 use Rattle.papaya_resting.proofs.Lasts.{none_in, none_named}
 use Rattle.papaya_pairs.proofs.Orders.{none_left}
 use Rattle.papaya_seq_shows.proofs.Shows.{counts, made_shown, shown}
-use Rattle.papaya_seq_map.proofs.map.HashMap.with_capacity_and_hasher.Goals as goal
+use Rattle.papaya_seq_map.proofs.making.HashMap+K+V+S.with_capacity_and_hasher.Goals as goal
 
 pub register-requires : goal.register-requires
 register-requires g c = (32, 1, nothing_yet, nothing_happened {K = g.row.K.Denot} {V = g.row.V.Denot} c.in_ok-memory.memory c.in_ok-memory.ensures)
