@@ -1,5 +1,5 @@
 -- The steps of a call that stores a pair of its own, as straight code makes them, are those of a run by one owner.
-use Rattle.std.specs.Prelude.{◌≡◌, ℕ, Bool, Option, Some, None, Result, Ok, Err}
+use Rattle.std.specs.Prelude.{ℕ, Bool, Option, Some, None, Result, Ok, Err}
 use Rattle.std.proofs.Common.{refl}
 use denote.Ref.{Bor}
 use Rattle.seize_words.specs.Mem.{Mem, Took, value_at}

@@ -1,5 +1,4 @@
 -- It goes on from where the straight code has stopped, or has ended there.
-use Rattle.std.proofs.Common.{sym, subst}
 use Rattle.papaya_raw.specs.CallPoints.{untried}
 use Rattle.papaya_raw.specs.declared.machines.call.Calling.TheVariants as at
 use Rattle.papaya_straight.specs.Storing.{call_at, storing}
