@@ -7,14 +7,13 @@
 
 The programs are compiled in a folder of their own beside links to this workspace's crates, and are not proved or run.
 """
-import os
-import re
-import subprocess
 import sys
-import tempfile
 
-TOP = os.path.dirname(os.path.dirname(os.path.abspath(__file__)))
-NAME = "late_reads"
+sys.dont_write_bytecode = True
+
+from programs import compiled
+
+NAME, BELOW = "late_reads", "papaya_seq papaya_forms"
 HEAD = """//! Reads what a map lent before its next change, or after it began.
 #![tactic(auto)]
 
@@ -96,27 +95,9 @@ def program():
     return text + MAIN % calls, early, late
 
 
-def compiled(text):
-    """What the compiler says of this program, which stands on the map for one owner, and the lines and codes of its errors."""
-    with tempfile.TemporaryDirectory(prefix="late-reads-") as room:
-        with open(f"{TOP}/crates.txt", encoding="utf-8") as lines, open(f"{room}/crates.txt", "w", encoding="utf-8") as to:
-            to.write(lines.read() + f"{NAME}: papaya_seq papaya_forms\n")
-        os.symlink(f"{TOP}/HANDLES", f"{room}/HANDLES")
-        for crate in os.listdir(f"{TOP}/crates"):
-            os.makedirs(f"{room}/crates/{crate}")
-            for part in ("src", "specs", "proofs"):
-                if os.path.isdir(f"{TOP}/crates/{crate}/{part}"):
-                    os.symlink(f"{TOP}/crates/{crate}/{part}", f"{room}/crates/{crate}/{part}")
-        os.makedirs(f"{room}/crates/{NAME}/src")
-        with open(f"{room}/crates/{NAME}/src/main.rt", "w", encoding="utf-8") as it:
-            it.write(text)
-        ran = subprocess.run(["rt", "try"], cwd=f"{room}/crates/{NAME}", stdout=subprocess.PIPE, stderr=subprocess.STDOUT, text=True, check=False)
-        return ran.stdout, re.findall(r"^src/main\.rt:(\d+):\d+: error\[([\w-]+)\]", ran.stdout, re.M)
-
-
 def main():
     text, early, late = program()
-    said, errors = compiled(text)
+    said, errors = compiled(NAME, BELOW, text)
     refused = {int(line) for line, code in errors if code in REFUSALS}
     wrong = [f"{name} compiles" for name, line in late.items() if line not in refused]
     wrong += [f"{name} is refused" for name, line in early.items() if line in refused]
@@ -124,7 +105,7 @@ def main():
     if wrong or not errors:
         print(said)
         sys.exit(f"late reads: {'; '.join(wrong) or 'nothing was refused'}")
-    said, errors = compiled(SHARING)
+    said, errors = compiled(NAME, BELOW, SHARING)
     if errors != [(str(SHARING[: SHARING.index(SHARED)].count("\n") + 1), "move-out-of-place")]:
         print(said)
         sys.exit("late reads: a pair that is lent is put into another map")
