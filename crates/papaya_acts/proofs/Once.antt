@@ -91,7 +91,7 @@ module _ {K V S : Type 0} (same : K → K → Bool) (hash : S → K → ℕ) (ba
   may_prop (StepsMaking i g) s = bool_set _ _
   may_prop (BeginsEnding i m) s = hlevel (bool_set, free_prop s i)
   may_prop (StepsEnding i g) s = bool_set _ _
-  may_prop (BeginsRow i request) s = hlevel (bool_set, of_slots_prop request, apart_prop slot request)
+  may_prop (BeginsRow i request) s = hlevel (bool_set, of_slots_prop request, apart_prop {K = K} {V = V} {Q = K} slot request)
   may_prop (StepsRow i g) s = hlevel bool_set
 
   free_all_prop : (s : Scene K V) → IsProp (AllAreFree s)

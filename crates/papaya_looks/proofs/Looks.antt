@@ -1,7 +1,7 @@
 -- Each block that a step of a call looks at is there; and at no row it is held for it.
 use Rattle.std.specs.Prelude.{◌≡◌, ℕ, Bool, Option, Some, IsSome, ◌⊎◌}
 use Rattle.std.specs.Int.{IsPowerOfTwo}
-use Rattle.std.proofs.Common.{inl, inr}
+use Rattle.std.proofs.Common.{true, inl, inr}
 use Rattle.papaya_finishes.specs.Given.SeizeWords.Mem.{Mem, Can, Took, value_at}
 use Rattle.papaya_finishes.specs.Given.SeizeWords.Plan.{May}
 use Rattle.papaya_finishes.proofs.Given.SeizeWords.Plans.{as_may}

@@ -154,7 +154,7 @@ module _ {K Q : Type 0} (V : Type 0) (same : K → K → Bool) (asks : Q → K �
     seen = seen_by s.blocks (s.sights (slot i))
 
     map : IsMapIn same s.hash its w s.chart seen
-    map = map_of V same s.hash asks s.setting slot w s.chart s.blocks s.sights (calls m) stands i (OnKey u) has
+    map = map_of V same s.hash asks s.setting slot w s.chart s.blocks s.sights (calls m) stands i (stands.inside i (OnKey u) has)
 
     -- what it is asked with, and what it knows by that
     record Asked : Type 0 where

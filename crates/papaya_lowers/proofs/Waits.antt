@@ -148,7 +148,7 @@ module _ {K Q : Type 0} (V : Type 0) (same : K → K → Bool) (asks : Q → K �
         known (inl (rests, knows)) here awaits = elim knows.facts as (λ _. AwaitsItsPair s u at.Probes) [
           | inl facts ↦
               waits_for_its_pair same s.hash asks i (in_slot s.setting (slot i)) u.keys lawful w s.chart (seen_by s.blocks (s.sights (slot i)))
-              (map_of V same s.hash asks s.setting slot w s.chart s.blocks s.sights (calls m) stands i (OnKey u) has) u.call u.change facts here m3 q st
+              (map_of V same s.hash asks s.setting slot w s.chart s.blocks s.sights (calls m) stands i (stands.inside i (OnKey u) has)) u.call u.change facts here m3 q st
           | inr late ↦ absurd (let blocking = late.1.blocking in let mode = awaits.0 in cc (blocking, mode))
         ]
 
@@ -231,7 +231,7 @@ module _ {K Q : Type 0} (V : Type 0) (same : K → K → Bool) (asks : Q → K �
         by : (IsRowOfSweep o.sweep.stands → ⊥) → StandsSo → Reason (OverAll o)
         by none (inl h) =
             let a = laws.sweeps_wait_for_a_copying V same s.hash lawful (in_slot s.setting (slot i)) w i s.chart (seen_by s.blocks (s.sights (slot i))) o.began o.sweep
-            (map_of V same s.hash asks s.setting slot w s.chart s.blocks s.sights (calls m) stands i (OverAll o) has) h.1.facts none m2 e.0.0 waiting in
+            (map_of V same s.hash asks s.setting slot w s.chart s.blocks s.sights (calls m) stands i (stands.inside i (OverAll o) has)) h.1.facts none m2 e.0.0 waiting in
             (sweep_unwritten w.memory m2 s.hash o.sweep none e.0.0 waiting, machine_is ∙ ap kinds.Sweep a.0, inl a.1)
         by none (inr h) = absurd (none h.1)
 
