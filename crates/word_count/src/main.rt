@@ -39,8 +39,10 @@ fn read<R: Input>(rt: &R, alloc: Global, counts: &mut Counts) -> io::Result<Vec<
     let mut words = Vec::new(alloc);
     for line in rt.lines(alloc) {
         for word in line?.as_str().split_whitespace() {
-            if count(counts, alloc, word)? == 1 {
-                words.push(String::from_str(alloc, word)?)?;
+            match count(counts, alloc, word) {
+                Ok(1) => words.push(String::from_str(alloc, word)?)?,
+                Ok(_) => {}
+                Err(fault) => return Err(fault.into()),
             }
         }
     }
