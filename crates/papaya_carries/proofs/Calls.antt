@@ -111,16 +111,16 @@ module _ {K Q : Type 0} (V : Type 0) (same : K → K → Bool) (asks : Q → K �
     theirs_on passes keeps (inr (inr ending)) = inr (inr ending)
     theirs_on passes keeps (inl (n, r, is, t, from, made, at)) = by (cases_eq n m)
       where
-        in_it : r ≡ s → (t < went.c2.first) ⊎ (went.c2.first ≤ t) → IsTheirs went.w2 maps2 calls2 enders b
-        in_it e (inl left) =
+        in_its : r ≡ s → (t < went.c2.first) ⊎ (went.c2.first ≤ t) → IsTheirs went.w2 maps2 calls2 enders b
+        in_its e (inl left) =
             let k = passes t (subst (λ (x : Standing K). x.chart.first ≤ t) e from) left (subst (λ (x : Standing K). b ≡ x.blocks.table t) e at) in
             inr (inl (owed_then w went.w2 maps maps2 calls enders enders m i next b k))
-        in_it e (inr linked) =
+        in_its e (inr linked) =
             let was : t < s.chart.past = subst (λ (x : Standing K). t < x.chart.past) e made in
             inl (m, its, its_now, t, linked, omega (arith, was, past), subst (λ (x : Standing K). b ≡ x.blocks.table t) e at ∙ sym (grown.tables t was).0)
 
         by : (n ≡ m) ⊎ (n ≢ m) → IsTheirs went.w2 maps2 calls2 enders b
-        by (inl e) = in_it (one_some (maps n) r s is (ap maps e ∙ here)) (cases_lt t went.c2.first)
+        by (inl e) = in_its (one_some (maps n) r s is (ap maps e ∙ here)) (cases_lt t went.c2.first)
         by (inr ne) = inl (n, r, other n ne ∙ is, t, from, made, at)
 
     seen_out : (x : ℕ) → IsKnownBlock s.chart (seen_by s.blocks (s.sights (slot i))) x → IsOut (w.hand x)
