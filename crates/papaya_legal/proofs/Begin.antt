@@ -7,6 +7,7 @@ use Rattle.papaya_grows.proofs.Given.Moments.Calls.{whole_begins}
 use Rattle.papaya_grows.proofs.Given.Moments.NewMaps.{pairs_begin}
 use Rattle.papaya_grows.proofs.Given.Moments.Numbers.{numbers_begin}
 use Rattle.papaya_grows.proofs.Given.Kept.Stays.{begins_kept}
+use Rattle.papaya_grows.proofs.Given.Histories.Logs.{first_is_past}
 use Rattle.papaya_grows.proofs.Given.Histories.Questions.{questions_begin}
 use Rattle.papaya_promises.proofs.Guards.{no_guard}
 use Rattle.papaya_models.specs.Numbers.{HasNumber}
@@ -42,6 +43,7 @@ runs_begin_in K V same terms name known w whole kept came = record {
     uncounted = λ of low shard. refl;
     dues = record {
       history = record {
+        past = first_is_past;
         shown = whole.all.shown;
         asked = whole.all.asked;
         begun = λ n i u is c found. absurd (cc is);

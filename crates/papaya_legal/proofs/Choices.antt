@@ -46,6 +46,7 @@ module _ {K V : Type 0} (choice : ℕ) (same : K → K → Bool) (name : ℕ →
     uncounted = all.uncounted;
     dues = record {
       history = record {
+        past = all.dues.history.past;
         shown = shown_then all.dues.history.shown;
         asked = record { apart = all.dues.history.asked.apart; each = all.dues.history.asked.each };
         begun = all.dues.history.begun;

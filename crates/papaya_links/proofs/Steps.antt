@@ -118,14 +118,14 @@ module _ {K Q : Type 0} (V : Type 0) (same : K → K → Bool) (asks : Q → K �
       → IsCutOff b w w2
   kind_cut (OnKey u) has machine told (p2, end, is, tells, inl (st, moved)) =
       come _ moved.0 (went_cut_off same s.hash (in_slot s.setting (slot i)) i b w s.chart (seen_by s.blocks (s.sights (slot i))) m2 _ r
-      (map_here V same asks batch_size slot w maps calls enders all m s here i (OnKey u) has) st.step.went)
+      (map_here V same asks batch_size slot w maps calls enders all m s here i (OnKey u) has ((all.each m s here).inside i (OnKey u) has)) st.step.went)
   kind_cut (OnKey u) has machine told (p2, end, is, tells, inr (st, stayed)) = come _ stayed.0 (one_none b s.setting i w st.step.w2 r st.step.happened)
   kind_cut (ForRoom k) has machine told (p2, end, is, tells, inl (st, moved)) =
       come _ moved.0 (went_cut_off same s.hash (in_slot s.setting (slot i)) i b w s.chart (seen_by s.blocks (s.sights (slot i))) m2 _ r
-      (map_here V same asks batch_size slot w maps calls enders all m s here i (ForRoom k) has) st.step.went)
+      (map_here V same asks batch_size slot w maps calls enders all m s here i (ForRoom k) has ((all.each m s here).inside i (ForRoom k) has)) st.step.went)
   kind_cut (ForRoom k) has machine told (p2, end, is, tells, inr (st, stayed)) = come _ stayed.0 (one_none b s.setting i w st.step.w2 r st.step.happened)
   kind_cut (Counting sum) has machine told (sum2, end, is, tells, still, stayed) = inl (ap (λ (x : World (Node K V)). unlinkings b x.log) stayed.0)
   kind_cut (OverAll o) has machine told (p2, end, is, tells, inl (st, moved)) =
       come _ moved.0 (went_cut_off same s.hash (in_slot s.setting (slot i)) i b w s.chart (seen_by s.blocks (s.sights (slot i))) m2 _ r
-      (map_here V same asks batch_size slot w maps calls enders all m s here i (OverAll o) has) st.step.went)
+      (map_here V same asks batch_size slot w maps calls enders all m s here i (OverAll o) has ((all.each m s here).inside i (OverAll o) has)) st.step.went)
   kind_cut (OverAll o) has machine told (p2, end, is, tells, inr (st, stayed)) = come _ stayed.0 (one_none b s.setting i w st.step.w2 r st.step.happened)

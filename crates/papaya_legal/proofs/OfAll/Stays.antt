@@ -146,6 +146,7 @@ module _ {K V : Type 0} (same : K → K → Bool) (hash : ℕ → K → ℕ) (na
     uncounted = none_counted None None effects m calls.uncounted (none_shards None effects m);
     dues = record {
       history = record {
+        past = calls.dues.history.past;
         shown = whole_then.all.shown;
         asked = record { apart = λ n j k l y z is is2 names. none n j y is; each = λ n j u is st there c found. none n j u is };
         begun = λ n j u is c found. none n j u is;
