@@ -321,7 +321,7 @@ module _ {K V S : Type 0} (same : K → K → Bool) (hash : K → ℕ) (terms : 
       | inr none ↦
           by o.sweep.stands refl
           (sweeps_wait_for_a_copying V same hash (is_lawful same hash terms m p stands of st is) (its_setting i (OverAll o) under) w i st.chart (seen i (OverAll o) under) o.began o.sweep
-          (map_of V same hash same st.setting slot_of w st.chart st.blocks st.sights calls_on together i (OverAll o) under) (its_facts none) none m2 p2 steps).1 s
+          (map_of V same hash same st.setting slot_of w st.chart st.blocks st.sights calls_on together i (together.inside i (OverAll o) under)) (its_facts none) none m2 p2 steps).1 s
     ]
       where
         steps : Steps Took value_at w.memory (plans.sweep_plan hash o.sweep) m2 (p2, swept.Waits)

@@ -149,7 +149,7 @@ module _ {K V S : Type 0} (same : K → K → Bool) (hash : K → ℕ) (terms : 
           of_key : (one : OneKey K V) → u.keys ≡ same (key_of one) → is_to_be_copied its.0.map m (finite_map same its.0.map m (key_of one)) ≡ true
           of_key one keys =
               let pair =
-              waits_for_its_pair same hash same i its_setting u.keys lawful w st.chart seen (map_of V same hash same st.setting slot_of w st.chart st.blocks st.sights calls_on together i (OnKey u) under)
+              waits_for_its_pair same hash same i its_setting u.keys lawful w st.chart seen (map_of V same hash same st.setting slot_of w st.chart st.blocks st.sights calls_on together i (together.inside i (OnKey u) under))
               u.call u.change (knows mode here) here m2 p2 steps in
               subst (λ (n : ℕ). is_to_be_copied n m (finite_map same n m (key_of one)) ≡ true) (sym its.2)
               (may_be_copied same hash terms m p stands of st is (key_of one) pair.0 u.call.trial.probe.i pair.1 pair.2 pair.3 pair.4 pair.5 (sym (ap (λ (f : K → Bool). f pair.4) keys) ∙ pair.6) linked)
