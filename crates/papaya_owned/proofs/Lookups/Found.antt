@@ -1,16 +1,10 @@
 -- What a lookup has found is there, and shows one pair.
-use Rattle.std.specs.Prelude.{◌≡◌, ◌==◌, ℕ, ◌≤◌, Bool, true, false, cond, List, [], Option, Some, None, IsSome, IfSome, option_map, if◌then◌else◌}
+use Rattle.std.specs.Prelude.{◌≡◌, ℕ, ◌≤◌, Bool, true, false, cond, List, [], Option, Some, None, IsSome, IfSome, option_map}
 use Rattle.std.proofs.Common.{refl, sym, ◌∙◌, ap, arith}
 use Rattle.seize_words.specs.Mem.{Mem, value_at}
-use Rattle.seize_words.specs.Word.{block_in}
 use Rattle.papaya_tables.specs.Chunks.{is_incremental}
-use Rattle.papaya_tables.specs.Finding.{finding}
-use Rattle.papaya_tables.specs.declared.finding.Aim.TheVariants.{Looks}
-use Rattle.papaya_tables.specs.declared.finding.Finding.TheVariants as is
 use Rattle.papaya_tables.specs.declared.node.Node.{Node}
 use Rattle.papaya_tables.specs.declared.node.Node.TheVariants as node
-use Rattle.papaya_tables.specs.declared.resize_mode.ResizeMode.{ResizeMode}
-use Rattle.papaya_tables.specs.declared.marks.TheConstants.{COPYING}
 use Rattle.papaya_resize.specs.declared.lookup.Lookup.{Lookup}
 use Rattle.papaya_whole.specs.Given.Rule.Chart.{Chart}
 use Rattle.papaya_whole.specs.Given.Rule.Words.{Blocks}
@@ -19,7 +13,6 @@ use Rattle.papaya_whole.proofs.Given.Rule.Moves.Links.{linked_there}
 use Rattle.papaya_whole.proofs.Given.Callers.Asked.By.{block_of_word}
 use Rattle.papaya_owned.specs.Looking.{LooksIn, Finds}
 use Rattle.papaya_owned.specs.Owned.{IsPairAt, IsShownAt, IsWordOf, found_by}
-use Rattle.papaya_owned.specs.Tries.{is_there}
 
 module _ {K V : Type 0} (same : K → K → Bool) (hash : K → ℕ) (keys : K → Bool) (m : Mem (Node K V)) (c : Chart K) (blocks : Blocks) (begun l : Lookup)
     (h : LooksIn same hash keys m c blocks begun l) where
@@ -62,16 +55,3 @@ module _ {K V : Type 0} (m : Mem (Node K V)) (keys : K → Bool) (xs : List (K �
 pub met_shown : {K V R : Type 0} (m : Mem (Node K V)) (word : ℕ) (f : R → K × V) (met : Option R) → IsSome met → IfSome met (λ x. IsPairAt m word (f x)) → IsShownAt m (Some word) (option_map f met)
 met_shown m word f (Some x) some pair = (f x, refl, pair)
 met_shown m word f None some pair = absurd (cc some)
-
--- a try that ends with a pair has met one of the key
-pub there_met : (mode : ResizeMode) (word : ℕ) (met : Bool) → is_there (finding mode Looks word met) ≡ true → met ≡ true
-there_met mode word true there = refl
-there_met mode word false there = absurd (by (block_in word == 0) (word == 0) (word == COPYING) (is_incremental mode) there)
-  where
-    by : (free empty shut incremental : Bool)
-        → is_there (if free then (if empty then is.Free else (if shut then (if incremental then is.Passed else is.Free) else is.Passed)) else is.Passed) ≡ true → ⊥
-    by false empty shut incremental there = cc there
-    by true true shut incremental there = cc there
-    by true false false incremental there = cc there
-    by true false true false there = cc there
-    by true false true true there = cc there
