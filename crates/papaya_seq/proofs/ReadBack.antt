@@ -11,9 +11,8 @@ use Rattle.papaya_forms.specs.ArrayLaws.{HaveSameValues}
 use Rattle.papaya_forms.specs.Objects.{IsObjectOf}
 use Rattle.papaya_forms.proofs.OneArray.{arrays_tell}
 use Rattle.papaya_forms.proofs.Members.{first_is, later_is}
-use Rattle.papaya_owned.specs.Owned.{found_by}
-use Rattle.papaya_pairs.specs.Equals.{agree_from_each, with_no_values}
-use Rattle.papaya_pairs.specs.ReadBack.{OneArrayOneSet, OneObjectOneMap}
+use Rattle.papaya_seq_map.specs.Given.{agree_from_each, found_by, with_no_values}
+use Rattle.papaya_seq.specs.ReadBack.{OneArrayOneSet, OneObjectOneMap}
 
 -- both or neither
 alike : (a b : Bool) → (a ≡ true → b ≡ true) → (b ≡ true → a ≡ true) → a ≡ b
