@@ -1,5 +1,5 @@
 -- While nobody is there so much waits at most: what a moment of a run calls retired is so in the memory, and that is bounded.
-use Rattle.std.specs.Prelude.{◌≡◌, ℕ, ◌<◌, ◌^◌, true, false, List, [], ◌∷◌}
+use Rattle.std.specs.Prelude.{◌≡◌, ℕ, ◌<◌, ◌^◌, true, false, List, ◌∷◌}
 use Rattle.std.specs.List.{AllByRecursion, list_any}
 use Rattle.papaya_settles.specs.Given.Seize.Law.{is_retired as is_retired_in}
 use Rattle.papaya_settles.specs.Given.Seize.World.{World, Rests, IsOutside, SlotsTaken}
@@ -11,7 +11,6 @@ use Rattle.papaya_settles.specs.Given.Schedules.Views.{is_retired}
 use Rattle.papaya_settles.specs.Given.Callers.Together.{CameAbout}
 use Rattle.papaya_settles.specs.Given.Effects.Known.{Known}
 use Rattle.papaya_settles.specs.Given.Effects.declared.role.Role.TheVariants as role
-use Rattle.papaya_finds.specs.Orderly.{is_left_over, NothingIsRetired}
 
 -- no table is there twice
 abbrev pub TablesApart : List TableThere → Type 0
@@ -43,8 +42,3 @@ abbrev pub LittleWaits : Type 0 → Type 0 → Type 0
 LittleWaits K V =
     (batch_size : ℕ) (m : Moment K V) (known : Known) (w : World (Node K V)) → batch_size < 2 ^ 64 → CameAbout batch_size w → NobodyIsThere w → ShowsRetired m known w
     → IsBounded batch_size m
-
--- And where nothing is retired in the memory, and nothing is left over, nothing is so at the moment.
-abbrev pub NothingRetiredOnceReclaimed : Type 0 → Type 0 → Type 0
-NothingRetiredOnceReclaimed K V =
-    (m : Moment K V) (known : Known) (w : World (Node K V)) → ShowsRetired m known w → ((b : ℕ) → is_retired_in b w.log ≡ false) → ((n : ℕ) → is_left_over (m.place n) ≡ false) → NothingIsRetired m

@@ -1,5 +1,5 @@
 -- What one operation leaves of the values of blocks, by what is told of it.
-use Rattle.std.specs.Prelude.{◌≡◌, ◌≢◌, ℕ, Option, Some, None, Ok, Err, IsSome, if◌then◌else◌, ◌⊎◌}
+use Rattle.std.specs.Prelude.{◌≡◌, ◌≢◌, ℕ, Option, Some, None, Ok, Err, IsSome, ◌⊎◌}
 use Rattle.std.proofs.Common.{refl, ap, sym, subst, ◌∙◌, inl, inr}
 use Rattle.std.proofs.lemmas.Bool.{ne_eqb, eq-eqb, cases_eq}
 use Rattle.papaya_scenes.specs.Given.SeizeWords.declared.at.At.{At}
@@ -39,9 +39,6 @@ module _ {K V : Type 0} (m m2 : Mem (Node K V)) where
 
   wrote : (at : At) (old new : ℕ) → (word_at m at ≡ Some old) × (word_at m2 at ≡ Some new) → IsSome (word_at m at) → m2 ≡ with_word m at new → LeavesBy (changed.Wrote at old new)
   wrote at old new is some e = (is.0, is.1, λ b. ap (λ (n : Mem (Node K V)). value_at n b) e ∙ value_at-with_word m at new b some)
-
-  some_of : (at : At) (word : ℕ) → word_at m at ≡ Some word → IsSome (word_at m at)
-  some_of at word is = subst IsSome (sym is) refl
 
   pub leaves : (op : Op (Node K V)) (out : Out (Node K V)) → Can m op → Took m op out m2 → LeavesBy (told_of op out (seen_of m op out))
   leaves (Load at) out can took = stays_same took.1

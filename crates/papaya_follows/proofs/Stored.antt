@@ -1,5 +1,5 @@
 -- A pair was stored, or took the place of another one, or was removed.
-use Rattle.std.specs.Prelude.{◌≡◌, ◌≢◌, ℕ, suc, ◌+◌, ◌<◌, ◌≤◌, Bool, true, false, cond, eqb, List, [], ◌∷◌, ◌++◌, length, Option, Some, None, ◌⊎◌}
+use Rattle.std.specs.Prelude.{◌≡◌, ◌≢◌, ℕ, suc, ◌+◌, ◌<◌, ◌≤◌, Bool, true, false, cond, eqb, List, ◌∷◌, ◌++◌, length, Option, Some, None, ◌⊎◌}
 use Rattle.std.proofs.Common.{refl, ap, sym, subst, ◌∙◌, arith, inl, inr}
 use Rattle.std.proofs.lemmas.Bool.{ne_eqb, eq-eqb, cases_eq, cases_lt}
 use Rattle.papaya_scenes.specs.Given.SeizeWords.Mem.{Mem, value_at}
@@ -147,9 +147,6 @@ module _ {K V : Type 0} (same : K → K → Bool) (slot caller map : ℕ) (name 
 
     is_linked : WasLinked (went.w2.hand b)
     is_linked = subst WasLinked (sym (ap went.w2.hand its_block ∙ went.map.pairs c.stored current)) tt
-
-    pub some_number : 0 < b
-    some_number = let l = (went.map.map.shows.pair_numbers c.stored last seen_then).0 in omega (arith, l, its_block)
 
     -- it was none that lasts
     pub keeps_stored : KeepsRoles known (with_pair b known)

@@ -1,6 +1,6 @@
 -- Registrations by name and by slot: one that is found, one more, and one less.
-use Rattle.std.specs.Prelude.{filter, ◌==◌, ◌||◌, not, option_map, if◌then◌else◌}
-use Rattle.std.proofs.Common.{◌≡◌, ℕ, ◌+◌, ◌≤◌, Bool, true, false, cond, List, [], ◌∷◌, ◌++◌, Option, Some, None, refl, sym, ap, ◌∙◌, arith, eqb-true}
+use Rattle.std.specs.Prelude.{filter, ◌==◌, ◌||◌, not, option_map}
+use Rattle.std.proofs.Common.{◌≡◌, ℕ, ◌+◌, ◌≤◌, Bool, true, false, cond, List, ◌∷◌, ◌++◌, Option, Some, None, refl, sym, ap, ◌∙◌, arith, eqb-true}
 use Rattle.std.proofs.lemmas.Bool.{eq-eqb, ne_eqb}
 use Rattle.papaya_logged.specs.Given.Runs.declared.holders.Registration.{Registration}
 use Rattle.papaya_logged.specs.Given.Runs.Same.{is_same}
@@ -21,10 +21,6 @@ has_counted slot (r ∷ registrations) = at (r.slot == slot) (has_counted slot r
 pub slot_found : (o : Option Registration) (slot : ℕ) → option_map (λ r. r.slot) o ≡ Some slot → (r : Registration) × (o ≡ Some r) × (r.slot ≡ slot)
 slot_found None slot e = absurd (cc e)
 slot_found (Some r) slot e = (r, refl, cc e)
-
-pub none_found : (o : Option Registration) → option_map (λ r. r.slot) o ≡ None → o ≡ None
-none_found None e = refl
-none_found (Some r) e = absurd (cc e)
 
 -- how many registrations of a name are on this slot
 abbrev pub registered_on : ℕ → List ℕ → List Registration → ℕ

@@ -1,5 +1,5 @@
 -- What a step of a call leaves of the pairs of other maps, and of the numbers that no pair has yet.
-use Rattle.std.specs.Prelude.{◌≡◌, ◌≢◌, ℕ, ◌+◌, ◌<◌, ◌≤◌, Bool, true, false, List, [], ◌∷◌, length, Option, Some, None}
+use Rattle.std.specs.Prelude.{◌≡◌, ◌≢◌, ℕ, ◌+◌, ◌<◌, ◌≤◌, Bool, true, false, List, ◌∷◌, length, Option, Some, None}
 use Rattle.std.proofs.Common.{refl, ap, sym, subst, ◌∙◌, arith, inl, inr}
 use Rattle.std.proofs.lemmas.List.{length-append}
 use Rattle.papaya_others.specs.Given.SeizeWords.Mem.{Mem}
@@ -108,9 +108,6 @@ module _ {K V : Type 0} (same : K → K → Bool) (slot caller map : ℕ) (name 
     (told : Changed) (left : LeavesBy w.memory m2 told) where
   abbrev c : Chart K
   c = s.chart
-
-  abbrev q : Bool
-  q = is_incremental s.setting.mode
 
   abbrev By : Move K → Type 0
   By = DidBy same slot caller map name number s lawful w sight is_sight is_map m2 Told went blocks2 grown sights2 m known shown shown_blocks told left

@@ -1,5 +1,5 @@
 -- What a step of a sweep says, by what it is for: a walk that has come to no pair yet goes on so, or is ready; and one that removes pairs shows none.
-use Rattle.std.specs.Prelude.{◌≡◌, ◌==◌, ◌&&◌, ℕ, nat_lt, Bool, true, false, Ok, Err, if◌then◌else◌}
+use Rattle.std.specs.Prelude.{◌≡◌, ◌==◌, ◌&&◌, ℕ, nat_lt, Bool, true, false, Ok, Err}
 use Rattle.std.proofs.Common.{refl, sym, subst}
 use Rattle.papaya_scheduler.specs.Given.SeizeWords.Op.{Out, Found, Stored, Exchanged, Made, Taken, Roomed}
 use Rattle.papaya_scheduler.specs.Given.SeizeWords.Plan.{plan_as}
@@ -104,22 +104,6 @@ module _ (K V : Type 0) (p : Sweep) (takes : removes p.purpose ≡ true) where
 
   abbrev ShowsSo : Sweep × Swept (Node K V) → Type 0
   ShowsSo (q, end) = Shows end
-
-  telling_not : (q : Sweep) → (q.stands ≡ at.Ready → ⊥) → ShowsSo (telling q)
-  telling_not q never = by q.stands never
-    where
-      by : (stands : Sweeping) → (stands ≡ at.Ready → ⊥) → Shows (told stands)
-      by at.Ready fails = fails refl
-      by at.Reads fails = tt
-      by at.Follows fails = tt
-      by (at.Copies copier) fails = tt
-      by at.Words fails = tt
-      by (at.Asks word) fails = tt
-      by (at.Tries word) fails = tt
-      by (at.Counts removed) fails = tt
-      by (at.Disposes dispose) fails = tt
-      by at.Over fails = tt
-      by (at.Refused fault) fails = tt
 
   begins_not : (q : Sweep) → removes q.purpose ≡ true → ShowsSo (telling (beginning q))
   begins_not q is = subst (λ (b : Bool). Shows (told (if b then at.Words else at.Ready))) (sym is) tt

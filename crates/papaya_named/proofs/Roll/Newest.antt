@@ -2,7 +2,7 @@
 use Rattle.std.specs.Prelude.{◌<◌, ◌+◌, nat_lt, not, position, slice_get, slice_set, cond, ◌||◌, Option, Some, None}
 use Rattle.std.specs.List.{list_any, position_or_len, remove}
 use Rattle.std.proofs.lemmas.Bool.{lt-ltb, le-ltb}
-use Rattle.std.proofs.Common.{◌≡◌, ℕ, zero, suc, Bool, true, false, List, [], ◌∷◌, ◌++◌, length, refl, sym, ap, arith, ◌∙◌}
+use Rattle.std.proofs.Common.{◌≡◌, ℕ, zero, suc, Bool, true, false, List, ◌∷◌, ◌++◌, length, refl, sym, ap, arith, ◌∙◌}
 use Rattle.papaya_present.specs.Crowd.{StandsAt}
 use Rattle.papaya_named.specs.Roll.{newest}
 
@@ -11,11 +11,6 @@ module _ {T : Type 0} where
   newest_more [] t = refl
   newest_more (None ∷ comers) t = newest_more comers t
   newest_more (Some u ∷ comers) t = ap (λ (l : List T). l ++ u ∷ []) (newest_more comers t)
-
-  pub newest_empty : (comers : List (Option T)) → newest (comers ++ (None ∷ [])) ≡ newest comers
-  newest_empty [] = refl
-  newest_empty (None ∷ comers) = newest_empty comers
-  newest_empty (Some u ∷ comers) = ap (λ (l : List T). l ++ u ∷ []) (newest_empty comers)
 
   -- so many are newer than the one at a place
   abbrev pub seat : List (Option T) → ℕ → ℕ

@@ -1,5 +1,5 @@
 -- Between the steps of calls: where a call begins, is told a reply, or has come to an outcome, each has made the table that the moment says.
-use Rattle.std.specs.Prelude.{◌≡◌, ◌≢◌, ℕ, Bool, true, false, List, Option, Some, None, option_map, if◌then◌else◌, nat_lt}
+use Rattle.std.specs.Prelude.{◌≡◌, ◌≢◌, ℕ, Bool, true, false, List, Option, Some, None, option_map, nat_lt}
 use Rattle.std.proofs.Common.{refl, ap, sym, subst, ◌∙◌, inl, inr}
 use Rattle.std.proofs.lemmas.Bool.{cases_eq}
 use Rattle.papaya_moments.specs.Given.SeizeWords.Word.{block_in}
@@ -126,9 +126,6 @@ module _ {K V : Type 0} (name : ℕ → List ℕ) (m : Moment K V) (known : Know
           | inl call ↦ none (block_in t.link) call
           | inr maker ↦ no_maker (block_in t.link) maker
         ])
-
-    abbrev After : ℕ → ℕ → Option (UnderWay K V K)
-    After = with_in s.calls of i (Some next)
 
     others_still : (j b : ℕ) → j ≢ i → HoldsTable s j b → HoldsTable (scene_with of i next s) j b
     others_still j b ne (inl (n, x, there, t, has, named)) = inl (n, x, calls_beside s.calls of i (Some next) n j ne ∙ there, t, has, named)
