@@ -20,7 +20,7 @@ use Rattle.papaya_finds.specs.Given.Schedules.declared.outcome.Outcome.{Outcome}
 use Rattle.papaya_finds.specs.Given.Schedules.After.{comes_to}
 use Rattle.papaya_finds.specs.Given.Schedules.Beginning.{fresh_call, with_call}
 use Rattle.papaya_finds.specs.Given.Schedules.Lists.{OneOf}
-use Rattle.papaya_finds.specs.Given.Schedules.Moment.{Place, MapThere, UnderWay as CallThere, Moment, start}
+use Rattle.papaya_finds.specs.Given.Schedules.Moment.{Place, MapThere, UnderWay as CallThere, Moment}
 use Rattle.papaya_finds.specs.Given.Schedules.Views.{call_of, is_in_map, finite_map, first_or, first_of}
 use Rattle.papaya_finds.specs.Given.Rule.Maps.{spot_of}
 use Rattle.papaya_finds.specs.Given.Callers.OverAll.{CallOverAll, begun_over_all, gone_on}
@@ -61,20 +61,17 @@ use Rattle.papaya_finds.specs.Given.Scenes.Scene.{Scene, slot_of}
 use Rattle.papaya_finds.specs.Given.Schedules.Transition.{Past, further}
 use Rattle.std.specs.List.{AllByRecursion}
 use Rattle.papaya_finds.proofs.Given.Follows.Contents.{Lasts}
+use Rattle.papaya_purposes.proofs.Stored.{first_lasts}
 
 pub purposes_begin : (K V : Type 0) → PurposesBegin K V
 purposes_begin K V same roots name = record {
   past = first_is_past;
-  lasts = λ begun. none_lasts (begun == 0);
+  lasts = first_lasts;
   shown = (runs_begin_so K V same roots name).shown;
   begun = λ n i u is c found. absurd (cc is);
   is_for = λ n i u is c found. absurd (cc is);
   come = λ n i u is st there c found. absurd (cc is);
 }
-  where
-    none_lasts : (b : Bool) → AllByRecursion (λ (x : Moment K V). Lasts x.stored (start {K = K} {V = V}).stored) (if b then start ∷ [] else [])
-    none_lasts true = (λ n pair is. is, tt)
-    none_lasts false = tt
 
 -- an event that is over adds its moment
 module _ {K V : Type 0} (same : K → K → Bool) (log : Past K V) (next : Moment K V) (c : CallThere K V) (before : c.begun ≤ log.entries) where

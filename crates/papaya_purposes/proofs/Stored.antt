@@ -1,11 +1,12 @@
 -- What was stored at a moment of a run has its number still at each later one.
-use Rattle.std.specs.Prelude.{◌≡◌, ℕ, List, [], ◌∷◌, Option, Some, None}
+use Rattle.std.specs.Prelude.{ℕ, ◌==◌, Bool, true, false, List, [], ◌∷◌, Option, Some, None, if◌then◌else◌}
+use Rattle.std.specs.List.{AllByRecursion}
 use Rattle.papaya_finds.specs.Given.Schedules.declared.effect.Effect.{Effect}
 use Rattle.papaya_finds.specs.Given.Schedules.declared.effect.Effect.TheVariants as effect
 use Rattle.papaya_finds.specs.Given.Schedules.Effects.{new_pair, stored_by, with_effect, with_effects}
 use Rattle.papaya_finds.specs.Given.Schedules.Entry.{acting}
-use Rattle.papaya_finds.specs.Given.Schedules.Moment.{UnderWay as CallThere, Moment}
-use Rattle.papaya_finds.specs.Given.Schedules.Transition.{Past}
+use Rattle.papaya_finds.specs.Given.Schedules.Moment.{UnderWay as CallThere, Moment, start}
+use Rattle.papaya_finds.specs.Given.Schedules.Transition.{Past, past}
 use Rattle.papaya_finds.proofs.Given.Follows.Contents.{Lasts, lasts_more}
 use Rattle.papaya_purposes.specs.Purposes.{NumbersLast}
 use Rattle.papaya_purposes.proofs.Lists.{all_on}
@@ -19,6 +20,14 @@ module _ {K V : Type 0} where
   pub effects_stored : (own : Option (List ℕ)) (of : Option ℕ) (effects : List Effect) (m : Moment K V) → Lasts m.stored (with_effects own of effects m).stored
   effects_stored own of [] m n p e = e
   effects_stored own of (f ∷ effects) m n p e = effects_stored own of effects (with_effect own of f m) n p (stored_on (acting own m) f m.stored n p e)
+
+  -- before all events
+  pub first_lasts : NumbersLast {K = K} {V = V} (past []) start
+  first_lasts begun = by (begun == 0)
+    where
+      by : (b : Bool) → AllByRecursion (λ (x : Moment K V). Lasts x.stored (start {K = K} {V = V}).stored) (if b then start ∷ [] else [])
+      by true = (λ n p is. is, tt)
+      by false = tt
 
   -- and so what was stored at each of the moments since an entry
   pub numbers_last : (log : Past K V) (m m2 : Moment K V) → Lasts m.stored m2.stored → NumbersLast log m → NumbersLast log m2

@@ -79,7 +79,7 @@ module _ {K V : Type 0} (same : K → K → Bool) (hash : ℕ → K → ℕ) (na
 
 -- which table a call links, and that it may ask for each block
 module _ {K V : Type 0} (same : K → K → Bool) (hash : ℕ → K → ℕ) (name : ℕ → List ℕ) (log : List (Entry K V)) (m : Moment K V) (known : Known) (s : Scene K V) (old new : Held K V) (at : IsAt same hash old s)
-    (whole : ShowsWhole same name m known s) (tables : ShowsTables name m known s) (finding : ShowsFinding name m known s) (purposes : ShowsPurposes same name log m known s) (map i : ℕ) (said : Progress (Node K V))
+    (whole : ShowsWhole same name m known s) (tables : ShowsTables name m known s) (finding : ShowsFinding name m known s) (purposes : ShowsPurposes same name (past log) m known s) (map i : ℕ) (said : Progress (Node K V))
     (leads : StepLeads same hash i said s old new) (terms : Terms) (c : CallThere K V) (c_is : call_of (name i) m ≡ Some c) where
   abbrev since : List (Moment K V)
   since = moments_from c.begun log
