@@ -10,6 +10,7 @@ use Rattle.papaya_models.proofs.Alike.Changed.{start_alike}
 use Rattle.papaya_grows.proofs.Given.Finds.Runs.{all_in_order_at_first}
 use Rattle.papaya_grows.proofs.Given.Purposes.Tableless.{tableless_at_first}
 use Rattle.papaya_legal.specs.Carried.{RunsBeginIn}
+use Rattle.papaya_grows.proofs.Given.Purposes.Stored.{first_lasts}
 
 pub runs_begin_in : (K V : Type 0) → RunsBeginIn K V
 runs_begin_in K V same terms name known w whole kept came = record {
@@ -48,13 +49,15 @@ runs_begin_in K V same terms name known w whole kept came = record {
     as_called = record { shown = whole.all.shown; each = λ map i u is st there c found. absurd (cc is) };
     questions = questions_begin K V;
     purposes = record {
+      past = first_is_past;
+      lasts = first_lasts;
       shown = whole.all.shown;
       begun = λ n i u is c found. absurd (cc is);
       is_for = λ n i u is c found. absurd (cc is);
       come = λ n i u is st there c found. absurd (cc is);
     };
   };
-  reading = record { begun = λ map i u is c found looks_for. absurd (cc is); reads = λ map i u is c found looks_for st there. absurd (cc is) };
+  reading = record { past = first_is_past; begun = λ map i u is c found looks_for. absurd (cc is); reads = λ map i u is c found looks_for st there. absurd (cc is) };
   sections = (λ own g is. no_guard g is, tt);
   follows = λ alone. inl (record { before = []; came = came; alike = start_alike (HasNumber known []) });
   order = (all_in_order_at_first K V, tt);

@@ -61,7 +61,7 @@ pub record ShowsCalls {K V : Type 0} (same : K → K → Bool) (name : ℕ → L
   pub dues : ShowsDue same name (past log) m known s
   pub as_called : ShowsAsCalled same name m known s
   pub questions : ShowsQuestions m
-  pub purposes : ShowsPurposes same name log m known s
+  pub purposes : ShowsPurposes same name (past log) m known s
 
 -- the waiting sets are those of the model after the log, or a call is in the midst of a row that has told its part
 abbrev pub FollowsOrRows : {K V : Type 0} → Terms → List (Entry K V) → Known → World (Node K V) → Type 0
@@ -76,7 +76,7 @@ LeftIsTold m = (n : ℕ) → is_left_over (m.place n) ≡ is_among n (flat_map (
 -- model, but for a row that is under way; all waits in order; a map that has had no table has counted nothing; once the collector has ended all is back; and what ended maps have left over is told.
 pub record ShowsRun {K V : Type 0} (same : K → K → Bool) (name : ℕ → List ℕ) (terms : Terms) (log : List (Entry K V)) (known : Known) (s : Scene K V) : Type 0 where
   pub calls : ShowsCalls same name log (moment log) known s
-  pub reading : ShowsReading name log (λ i. 0) (moment log) s
+  pub reading : ShowsReading name (past log) (λ i. 0) (moment log) s
   pub sections : SectionsHold (moment log) known s.world
   pub follows : (moment log).is_alone ≡ true → FollowsOrRows terms log known s.world
   pub order : AllIsInOrder (moment log) × ReadyOweNone (moment log)

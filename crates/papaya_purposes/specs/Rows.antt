@@ -3,7 +3,6 @@ use Rattle.std.specs.Prelude.{ℕ, Bool, List, None}
 use Rattle.papaya_finds.specs.Given.Seize.World.{Begin, Step}
 use Rattle.papaya_finds.specs.Given.Tables.declared.node.Node.{Node}
 use Rattle.papaya_finds.specs.Given.Schedules.Effects.{with_effects, AtEachEffect}
-use Rattle.papaya_finds.specs.Given.Schedules.Entry.{Entry}
 use Rattle.papaya_finds.specs.Given.Schedules.Moment.{Moment}
 use Rattle.papaya_finds.specs.Given.Effects.Effects.{effects_of, known_after}
 use Rattle.papaya_finds.specs.Given.Effects.Known.{Known}
@@ -18,19 +17,20 @@ use Rattle.papaya_finds.specs.Given.Scenes.Held.{Held, IsAt}
 use Rattle.papaya_finds.specs.Given.Scenes.OnSlots.{RowBegins, RowLeads}
 use Rattle.papaya_finds.specs.Given.Scenes.Rows.{request_of}
 use Rattle.papaya_finds.specs.Given.Scenes.Scene.{IsOnSlot, Scene, slot_of}
+use Rattle.papaya_finds.specs.Given.Schedules.Transition.{Past}
 
 module _ (K V : Type 0) (same : K → K → Bool) (hash : ℕ → K → ℕ) where
   -- The promises: so it is where a row begins on a slot,
   abbrev pub RowsBeginPurposes : Type 0
   RowsBeginPurposes =
-      (name : ℕ → List ℕ) (log : List (Entry K V)) (m : Moment K V) (known : Known) (s : Scene K V) (old new : Held K V) → IsAt same hash old s → ShowsPurposes same name log m known s
+      (name : ℕ → List ℕ) (log : Past K V) (m : Moment K V) (known : Known) (s : Scene K V) (old new : Held K V) → IsAt same hash old s → ShowsPurposes same name log m known s
       → (called : SlotCall) (i : ℕ) (leads : RowBegins same hash called i s old new)
       → ShowsPurposes same name log m known (scene_then same hash (Begin i (request_of (slot_of i) called)) s old new leads.2)
 
   -- and after a step of it, where a table that it reclaims was retired.
   abbrev pub RowsKeepPurposes : Type 0
   RowsKeepPurposes =
-      (name : ℕ → List ℕ) (log : List (Entry K V)) (m : Moment K V) (known : Known) (s : Scene K V) (old new : Held K V) → IsAt same hash old s → ShowsPurposes same name log m known s
+      (name : ℕ → List ℕ) (log : Past K V) (m : Moment K V) (known : Known) (s : Scene K V) (old new : Held K V) → IsAt same hash old s → ShowsPurposes same name log m known s
       → (i : ℕ) (told : RowTold (Node K V)) (leads : RowLeads same hash i told s old new) (row : SlotRow) (here : IsOnSlot s i row)
       → AtEachEffect WasRetired None None (effects_of Row known new.changed) m
       → ShowsPurposes same name log (with_effects None None (effects_of Row known new.changed) m) (known_after Row new.changed known)
