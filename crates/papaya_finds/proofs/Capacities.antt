@@ -1,5 +1,5 @@
 -- Maps that stand stay made for the capacities that the moment says.
-use Rattle.std.specs.Prelude.{◌≡◌, ℕ, zero, suc, ◌-◌, ◌+◌, ◌^◌, ◌≤◌, ◌==◌, nat_le, nat_lt, max, Bool, true, false, cond, List, ◌∷◌, find, map, Option, Some, None, Result, Ok, Err}
+use Rattle.std.specs.Prelude.{◌≡◌, ℕ, zero, suc, ◌-◌, ◌+◌, ◌^◌, ◌≤◌, ◌==◌, nat_le, nat_lt, max, Bool, true, false, cond, List, [], ◌∷◌, find, map, Option, Some, None, Result, Ok, Err, if◌then◌else◌}
 use Rattle.std.proofs.Common.{refl, ap, sym, subst, ◌∙◌, inl, inr, arith}
 use Rattle.std.proofs.lemmas.Bool.{cases_eq, eqb-true, ltb-false, le-leb}
 use Rattle.std.proofs.lemmas.Nat.{pow_pos}

@@ -1,5 +1,5 @@
 -- What effects find by the promise of their event's life is what they have to find for pairs to be in their places.
-use Rattle.std.specs.Prelude.{◌≡◌, ℕ, ◌+◌, Bool, true, false, List, ◌∷◌, length, Option, Some, None}
+use Rattle.std.specs.Prelude.{◌≡◌, ℕ, ◌+◌, Bool, true, false, List, [], ◌∷◌, length, Option, Some, None}
 use Rattle.std.proofs.Common.{refl, ap, sym, ◌∙◌}
 use Rattle.papaya_settles.specs.Given.Schedules.declared.effect.Effect.{Effect}
 use Rattle.papaya_settles.specs.Given.Schedules.declared.effect.Effect.TheVariants as effect

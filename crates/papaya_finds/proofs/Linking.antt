@@ -1,5 +1,5 @@
 -- The table that a call on one key links has the shape that it must have.
-use Rattle.std.specs.Prelude.{◌≡◌, ℕ, suc, ◌<◌, ◌++◌, Bool, false, List, ◌∷◌, length, Option, Some}
+use Rattle.std.specs.Prelude.{◌≡◌, ℕ, suc, ◌<◌, ◌++◌, Bool, false, List, [], ◌∷◌, length, Option, Some}
 use Rattle.std.proofs.Common.{refl, ap, sym, subst, ◌∙◌, inl, inr, arith}
 use Rattle.papaya_settles.specs.Given.Seize.World.{World}
 use Rattle.papaya_settles.specs.Given.SeizeWords.declared.at.At.{At}

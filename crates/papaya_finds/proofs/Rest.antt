@@ -1,5 +1,5 @@
 -- What is left of what effects of calls find is made up by three parts.
-use Rattle.std.specs.Prelude.{◌≡◌, ℕ, List, ◌∷◌, Option, Some, None}
+use Rattle.std.specs.Prelude.{◌≡◌, ℕ, List, [], ◌∷◌, Option, Some, None}
 use Rattle.papaya_settles.specs.Given.Schedules.declared.effect.Effect.{Effect}
 use Rattle.papaya_settles.specs.Given.Schedules.declared.effect.Effect.TheVariants as effect
 use Rattle.papaya_settles.specs.Given.Schedules.declared.effect.Growth.TheVariants.{ABlock, ABucket}

@@ -1,5 +1,5 @@
 -- While nobody is there so much waits at most: what a moment of a run calls retired is so in the memory, and that is bounded.
-use Rattle.std.specs.Prelude.{◌≡◌, ℕ, ◌<◌, ◌^◌, true, false, List, ◌∷◌}
+use Rattle.std.specs.Prelude.{◌≡◌, ℕ, ◌<◌, ◌^◌, true, false, List, [], ◌∷◌}
 use Rattle.std.specs.List.{AllByRecursion, list_any}
 use Rattle.papaya_settles.specs.Given.Seize.Law.{is_retired as is_retired_in}
 use Rattle.papaya_settles.specs.Given.Seize.World.{World, Rests, IsOutside, SlotsTaken}

@@ -1,5 +1,5 @@
 -- The promise `little` of an event: what waits where nobody is there, while no call is under way, once all was reclaimed, and once the collector has ended.
-use Rattle.std.specs.Prelude.{◌≡◌, ◌<◌, ◌^◌, true, List, ◌∷◌, flat_map}
+use Rattle.std.specs.Prelude.{◌≡◌, ◌<◌, ◌^◌, true, List, [], ◌∷◌, flat_map}
 use Rattle.papaya_settles.specs.Given.Seize.World.{World}
 use Rattle.papaya_settles.specs.Given.Tables.declared.node.Node.{Node}
 use Rattle.papaya_settles.specs.Given.Schedules.declared.event.Event.{Event}

@@ -1,6 +1,6 @@
 -- Where a pair lies that a call has taken out of its map and has in hand, by where its machine stands: no further on than the root; or in the table by which its disposal goes, copied
 -- past an older one. So it is as it is retired, or put behind a table.
-use Rattle.std.specs.Prelude.{◌≡◌, ℕ, ◌+◌, ◌<◌, Bool, true, List, ◌∷◌, length, filter, sum_by, nat_le, Option, Some, None}
+use Rattle.std.specs.Prelude.{◌≡◌, ℕ, ◌+◌, ◌<◌, Bool, true, List, [], ◌∷◌, length, filter, sum_by, nat_le, Option, Some, None}
 use Rattle.papaya_settles.specs.Given.Tables.declared.node.Node.{Node}
 use Rattle.papaya_settles.specs.Given.Resize.Dispose.{disposing}
 use Rattle.papaya_settles.specs.Given.Resize.declared.dispose.Dispose.{Dispose}

@@ -1,6 +1,6 @@
 -- What is so at each moment of a run whose events come to what is right for them, and keep the promise `life`: tables, pairs and calls stay within what their maps have
 -- had. So all that waits does so in order.
-use Rattle.std.specs.Prelude.{◌≡◌, ℕ, ◌+◌, ◌<◌, ◌≤◌, ◌==◌, Bool, true, List, length, Option, Some}
+use Rattle.std.specs.Prelude.{◌≡◌, ℕ, ◌+◌, ◌<◌, ◌≤◌, ◌==◌, Bool, true, List, [], length, Option, Some}
 use Rattle.std.specs.List.{AllByRecursion, list_any}
 use Rattle.papaya_settles.specs.Given.Schedules.declared.effect.Effect.{Effect}
 use Rattle.papaya_settles.specs.Given.Schedules.declared.effect.Table.{Table}

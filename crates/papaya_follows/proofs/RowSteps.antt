@@ -1,5 +1,5 @@
 -- A step of a row within a call: the moment after its effects shows the scene after it, where it takes no block away and hands over what has left its map.
-use Rattle.std.specs.Prelude.{◌&&◌, ◌≡◌, ℕ, nat_lt, Bool, true, false, List, ◌∷◌, Option, Some, None, length, ◌⊎◌}
+use Rattle.std.specs.Prelude.{◌&&◌, ◌≡◌, ℕ, nat_lt, Bool, true, false, List, [], ◌∷◌, Option, Some, None, length, ◌⊎◌, if◌then◌else◌}
 use Rattle.std.proofs.Common.{refl, ap, sym, subst, ◌∙◌, inl, inr}
 use Rattle.papaya_scenes.specs.Given.SeizeWords.Mem.{Mem, value_at}
 use Rattle.papaya_scenes.specs.Given.Seize.World.{World}

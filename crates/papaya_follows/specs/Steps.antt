@@ -1,5 +1,5 @@
 -- Where a step of a call leads: the moment after its effects, and what is noted then, show the scene after it.
-use Rattle.std.specs.Prelude.{◌≡◌, ℕ, ◌<◌, Bool, false, List, ◌∷◌, Option, Some, None, ◌⊎◌}
+use Rattle.std.specs.Prelude.{◌≡◌, ℕ, ◌<◌, Bool, false, List, [], ◌∷◌, Option, Some, None, ◌⊎◌}
 use Rattle.std.proofs.Common.{inl, inr}
 use Rattle.papaya_scenes.specs.Given.SeizeWords.Mem.{Mem, value_at}
 use Rattle.papaya_scenes.specs.Given.SeizeWords.Word.{block_in}

@@ -1,5 +1,5 @@
 -- What stays so where anything else happens than a step of a call: on a slot, to a map that is made or ends, or to a walk that goes on or is given up.
-use Rattle.std.specs.Prelude.{◌≡◌, ℕ, Bool, true, false, List, Option, Some, None}
+use Rattle.std.specs.Prelude.{◌≡◌, ℕ, Bool, true, false, List, [], Option, Some, None}
 use Rattle.papaya_moments.specs.Given.Seize.World.{Begin, Step, with_at}
 use Rattle.papaya_moments.specs.Given.Seize.declared.rows.settle.Settled.{Settled}
 use Rattle.papaya_moments.specs.Given.Tables.declared.node.Node.{Node}

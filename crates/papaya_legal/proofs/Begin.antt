@@ -1,4 +1,5 @@
 -- Before all events all is carried that events need, whatever was chosen of numbers of blocks.
+use Rattle.std.specs.Prelude.{[]}
 use Rattle.std.proofs.Common.{refl, inl}
 use Rattle.papaya_grows.proofs.Given.Moments.NewMaps.{pairs_begin}
 use Rattle.papaya_grows.proofs.Given.Moments.Numbers.{numbers_begin}

@@ -1,5 +1,5 @@
 -- What is so after each event of a run, of the moment and of the scene that it shows: by this each promise is had of the next event.
-use Rattle.std.specs.Prelude.{◌≡◌, ◌⊎◌, ◌≤◌, ℕ, Bool, true, ◌&&◌, List, flat_map}
+use Rattle.std.specs.Prelude.{◌≡◌, ◌⊎◌, ◌≤◌, ℕ, Bool, true, ◌&&◌, List, [], flat_map}
 use Rattle.std.specs.List.{list_all}
 use Rattle.papaya_grows.specs.Given.Seize.World.{World}
 use Rattle.papaya_grows.specs.Given.Tables.Nodes.{deferred_word}

@@ -1,5 +1,5 @@
 -- An event as the chain of the steps that it has taken: what is so where it begins, and stays so by each step, is so where it has come.
-use Rattle.std.specs.Prelude.{◌≡◌, ◌<◌, ◌^◌, ◌+◌, ℕ, Bool, true, false, zero, suc, List, ◌∷◌, ◌++◌, Some, None}
+use Rattle.std.specs.Prelude.{◌≡◌, ◌<◌, ◌^◌, ◌+◌, ℕ, Bool, true, false, zero, suc, List, [], ◌∷◌, ◌++◌, Some, None}
 use Rattle.std.specs.List.{list_all}
 use Rattle.papaya_grows.specs.Given.Seize.World.{World, Request, Begin, Step, Happens, Rests, with_at}
 use Rattle.papaya_grows.specs.Given.Seize.declared.progress.Progress.{Progress as Making}

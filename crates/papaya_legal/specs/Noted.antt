@@ -1,5 +1,5 @@
 -- What a row hands over that begins with a step of a call: it is noted, as a thing that came into a map.
-use Rattle.std.specs.Prelude.{◌≡◌, ℕ, ◌≤◌, Bool, true, List, ◌∷◌, ◌++◌, flat_map, length, Option, Some}
+use Rattle.std.specs.Prelude.{◌≡◌, ℕ, ◌≤◌, Bool, true, List, [], ◌∷◌, ◌++◌, flat_map, length, Option, Some}
 use Rattle.std.specs.List.{AllByRecursion}
 use Rattle.papaya_grows.specs.Given.Seize.World.{World, Request, Begin, Step, Happens}
 use Rattle.papaya_grows.specs.Given.Raw.declared.machines.progress.Progress.{Progress}

@@ -1,5 +1,5 @@
 -- After a step of a call pairs lie behind tables in the order in which they wait there: a row that puts a block in front of a table's list tells that its pair waits behind the table.
-use Rattle.std.specs.Prelude.{◌≡◌, ◌⊎◌, ◌+◌, ℕ, Bool, true, false, List, ◌∷◌, map as each_of, filter, Some, None}
+use Rattle.std.specs.Prelude.{◌≡◌, ◌⊎◌, ◌+◌, ℕ, Bool, true, false, List, [], ◌∷◌, map as each_of, filter, Some, None, if◌then◌else◌}
 use Rattle.std.proofs.Common.{refl, ap, sym, subst, ◌∙◌, inl, inr}
 use Rattle.papaya_settles.specs.Given.SeizeWords.Mem.{Mem}
 use Rattle.papaya_settles.specs.Given.SeizeWords.Word.{block_in}

@@ -1,6 +1,6 @@
 -- In each world that came about from the start, what waits behind a block by the log does so in the state of the collector: so it is retired by no row.
-use Rattle.std.specs.Prelude.{Option, Some, Ok, Err, ◌==◌, ◌⊎◌, ◌++◌, zero, suc}
-use Rattle.std.proofs.Common.{◌≡◌, ℕ, ◌+◌, Bool, true, false, List, ◌∷◌, length, refl, arith, ap, sym, subst, ◌∙◌, inl, inr}
+use Rattle.std.specs.Prelude.{Option, Some, Ok, Err, ◌==◌, ◌⊎◌, ◌++◌, zero, suc, if◌then◌else◌}
+use Rattle.std.proofs.Common.{◌≡◌, ℕ, ◌+◌, Bool, true, false, List, [], ◌∷◌, length, refl, arith, ap, sym, subst, ◌∙◌, inl, inr}
 use Rattle.std.proofs.lemmas.Bool.{cases_eq, eq-eqb, ne_eqb}
 use Rattle.papaya_settles.specs.Given.SeizeWords.Mem.{Mem}
 use Rattle.papaya_settles.specs.Given.SeizeWords.Op.{Out, Found, Stored, Exchanged, Made, Taken, Roomed}

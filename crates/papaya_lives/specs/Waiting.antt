@@ -1,5 +1,5 @@
 -- Which block another one waits behind, by the log of effects.
-use Rattle.std.specs.Prelude.{◌≡◌, ◌≢◌, ℕ, ◌==◌, List, ◌∷◌, Option, Some, None}
+use Rattle.std.specs.Prelude.{◌≡◌, ◌≢◌, ℕ, ◌==◌, List, [], ◌∷◌, Option, Some, None, if◌then◌else◌}
 use Rattle.papaya_settles.specs.Given.Seize.Law.{Effect, Deferred, Taken, LeftOver}
 use Rattle.papaya_settles.specs.Given.Seize.World.{Row, Defers}
 use Rattle.papaya_settles.specs.Given.Seize.Further.{IsWordOf}

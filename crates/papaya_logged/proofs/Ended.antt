@@ -1,5 +1,5 @@
 -- How slots are used once a row has ended: each of its steps leads there.
-use Rattle.std.specs.Prelude.{◌≡◌, ℕ, ◌+◌, ◌==◌, Bool, true, false, List, slice_set, nat_lt, Option, Some, None, Ok, Err}
+use Rattle.std.specs.Prelude.{◌≡◌, ℕ, ◌+◌, ◌==◌, Bool, true, false, List, slice_set, nat_lt, Option, Some, None, Ok, Err, if◌then◌else◌}
 use Rattle.std.proofs.Common.{refl, sym, ap, subst, ◌∙◌}
 use Rattle.papaya_kept.specs.Given.SeizeWords.Mem.{Mem, Took, value_at}
 use Rattle.papaya_kept.specs.Given.SeizeWords.Op.{Out, Found, Exchanged, Roomed}

@@ -1,6 +1,6 @@
 -- An event of a call, whole: from step to step, and its end.
 use Rattle.std.specs.Prelude.{◌≢◌, flat_map, Some}
-use Rattle.std.proofs.Common.{◌≡◌, ℕ, Bool, List, ◌∷◌, ◌++◌, ◌⊎◌, inl, inr, refl, ap, sym, subst, append_assoc, ◌∙◌}
+use Rattle.std.proofs.Common.{◌≡◌, ℕ, Bool, List, [], ◌∷◌, ◌++◌, ◌⊎◌, inl, inr, refl, ap, sym, subst, append_assoc, ◌∙◌}
 use Rattle.std.proofs.lemmas.List.{append-nil}
 use Rattle.std.proofs.lemmas.List.Concat.{flat_map-append, flat_map-cons}
 use Rattle.papaya_histories.specs.Given.Seize.Sequence.{changes}

@@ -1,5 +1,5 @@
 -- Steps of calls, where they come one after another: the waiting sets of blocks are those of the model still, or will be once the row within the call has run.
-use Rattle.std.specs.Prelude.{◌≡◌, ◌≢◌, ℕ, Bool, List, ◌++◌, flat_map, Some, ◌⊎◌}
+use Rattle.std.specs.Prelude.{◌≡◌, ◌≢◌, ℕ, Bool, List, [], ◌++◌, flat_map, Some, ◌⊎◌}
 use Rattle.std.proofs.Common.{refl, ap, sym, subst, ◌∙◌, inl, inr}
 use Rattle.papaya_histories.specs.Given.Seize.Sequence.{changes}
 use Rattle.papaya_histories.specs.Given.Seize.WaitingSets.{Change, Sets, After, all_changed, at_start as sets_at_start}

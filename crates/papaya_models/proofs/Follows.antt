@@ -1,6 +1,6 @@
 -- The waiting sets of the collector are those of the model at first, and stay so by an event that does nothing to them.
 use Rattle.std.specs.Prelude.{flat_map, map, MatchBool}
-use Rattle.std.proofs.Common.{◌≡◌, Bool, true, false, List, ◌∷◌, ◌++◌, ap, sym, ◌∙◌}
+use Rattle.std.proofs.Common.{◌≡◌, Bool, true, false, List, [], ◌∷◌, ◌++◌, ap, sym, ◌∙◌}
 use Rattle.std.proofs.lemmas.List.{append-nil}
 use Rattle.papaya_histories.specs.Given.Seize.WaitingSets.{Change, all_changed}
 use Rattle.papaya_histories.specs.Given.Schedules.After.{after, moment}

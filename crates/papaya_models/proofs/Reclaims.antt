@@ -1,6 +1,6 @@
 -- What a caller reclaims that reclaims all, alone, as it has done with slots.
 use Rattle.std.specs.Prelude.{Option}
-use Rattle.std.proofs.Common.{◌≡◌, ◌<◌, ◌^◌, ◌+◌, ℕ, Bool, List, ◌++◌, refl, ap, sym, subst, ◌∙◌, arith, inl, inr}
+use Rattle.std.proofs.Common.{◌≡◌, ◌<◌, ◌^◌, ◌+◌, ℕ, Bool, List, [], ◌++◌, refl, ap, sym, subst, ◌∙◌, arith, inl, inr}
 use Rattle.std.proofs.lemmas.Bool.{cases_lt}
 use Rattle.std.proofs.lemmas.List.{append-nil}
 use Rattle.papaya_histories.specs.Given.SeizeWords.declared.at.At.TheVariants as name

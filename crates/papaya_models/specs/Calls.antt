@@ -1,6 +1,6 @@
 -- Events of calls, where they come one after another: what a call hands over changes the waiting sets of blocks as it does those of the model, once its row
 -- has run.
-use Rattle.std.specs.Prelude.{◌≡◌, ◌≢◌, ◌≤◌, ◌<◌, ◌^◌, ℕ, List, ◌∷◌, ◌++◌, flat_map}
+use Rattle.std.specs.Prelude.{◌≡◌, ◌≢◌, ◌≤◌, ◌<◌, ◌^◌, ℕ, List, [], ◌∷◌, ◌++◌, flat_map}
 use Rattle.papaya_histories.specs.Given.Seize.Sequence.{changes}
 use Rattle.papaya_histories.specs.Given.Seize.WaitingSets.{Change, Sets, all_changed}
 use Rattle.papaya_histories.specs.Given.Seize.World.{World, Rests, Request, IsInside}

@@ -1,5 +1,5 @@
 -- The waiting sets of the collector are those of the model, where calls come one after another.
-use Rattle.std.specs.Prelude.{◌≡◌, ℕ, List, ◌∷◌}
+use Rattle.std.specs.Prelude.{◌≡◌, ℕ, List, [], ◌∷◌}
 use Rattle.papaya_histories.specs.Given.Seize.WaitingSets.{Change, Sets}
 use Rattle.papaya_histories.specs.Given.Seize.World.{World}
 use Rattle.papaya_histories.specs.Given.Tables.Nodes.{deferred_word}

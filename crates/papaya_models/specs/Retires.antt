@@ -1,5 +1,5 @@
 -- Rows within calls that retire a block: such a row tells that the thing in it is retired, just once.
-use Rattle.std.specs.Prelude.{◌≡◌, ◌≢◌, ◌⊎◌, ℕ, Some, List, ◌∷◌, ◌++◌}
+use Rattle.std.specs.Prelude.{◌≡◌, ◌≢◌, ◌⊎◌, ℕ, Some, List, [], ◌∷◌, ◌++◌}
 use Rattle.papaya_histories.specs.Given.SeizeWords.declared.at.At.TheVariants.{Entry}
 use Rattle.papaya_histories.specs.Given.SeizeWords.Mem.{word_at}
 use Rattle.papaya_histories.specs.Given.SeizeWords.Word.{link_to}

@@ -1,5 +1,5 @@
 -- The effects of an event of a call find what it has made as they must, and at the end of one at which a call has ended, or a walk is ready, the call has made nothing that it has not stored, linked or given up.
-use Rattle.std.specs.Prelude.{◌≡◌, ℕ, Bool, true, false, List, ◌++◌, Option, Some, None, ◌⊎◌, ◌∷◌}
+use Rattle.std.specs.Prelude.{◌≡◌, ℕ, Bool, true, false, List, ◌++◌, Option, Some, None, ◌⊎◌, [], ◌∷◌}
 use Rattle.std.proofs.Common.{refl, ap, sym, subst, ◌∙◌, inl, inr}
 use Rattle.papaya_moments.specs.Given.SeizeWords.declared.fault.Fault.TheVariants.{Memory}
 use Rattle.papaya_moments.specs.Given.Tables.declared.node.Node.{Node}

@@ -1,5 +1,5 @@
 -- A step of a row on a slot takes no block for a pair that is not stored: it takes what was handed to the collector.
-use Rattle.std.specs.Prelude.{◌&&◌, ◌≡◌, ℕ, nat_lt, Bool, List, ◌∷◌, None}
+use Rattle.std.specs.Prelude.{◌&&◌, ◌≡◌, ℕ, nat_lt, Bool, List, [], ◌∷◌, None}
 use Rattle.std.proofs.Common.{refl, subst}
 use Rattle.papaya_moments.specs.Given.SeizeWords.declared.at.At.TheVariants.{Root, Used, Slot, Entry, Word}
 use Rattle.papaya_moments.specs.Given.Seize.World.{Step}

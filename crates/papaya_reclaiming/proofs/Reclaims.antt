@@ -1,5 +1,5 @@
 -- All is reclaimed in the memory of an executor: it begins, each step may be taken, and at the end the executor is there.
-use Rattle.std.specs.Prelude.{◌≡◌, ℕ, Bool, true, false, List, length, Option, None, option_map, slice_index_or}
+use Rattle.std.specs.Prelude.{◌≡◌, ℕ, Bool, true, false, List, length, Option, None, option_map, slice_index_or, if◌then◌else◌}
 use Rattle.std.proofs.Common.{refl, sym, ap, subst, ◌∙◌}
 use Rattle.papaya_scenes.specs.Given.SeizeWords.Mem.{Mem, Took, value_at}
 use Rattle.papaya_scenes.specs.Given.SeizeWords.Plan.{Steps}

@@ -1,5 +1,5 @@
 -- Lists: what is found, and what becomes of it, on two lists of which the same is seen.
-use Rattle.std.specs.Prelude.{◌≡◌, ◌≤◌, ◌<◌, ◌+◌, ℕ, zero, suc, Bool, true, false, not, cond, ◌||◌, ◌&&◌, List, ◌∷◌, length, filter, find, map, is_some, Option, Some, None, option_map, slice_set, slice_get, slice_index_or, nat_lt, position}
+use Rattle.std.specs.Prelude.{◌≡◌, ◌≤◌, ◌<◌, ◌+◌, ℕ, zero, suc, Bool, true, false, not, cond, ◌||◌, ◌&&◌, List, [], ◌∷◌, length, filter, find, map, is_some, Option, Some, None, option_map, slice_set, slice_get, slice_index_or, nat_lt, position, if◌then◌else◌}
 use Rattle.std.specs.List.{AllByRecursion, list_any, list_all, position_or_len, remove}
 use Rattle.std.proofs.lemmas.Bool.{lt-ltb}
 use Rattle.std.proofs.lemmas.List.Folds.{find_at}

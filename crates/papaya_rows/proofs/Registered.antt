@@ -1,6 +1,6 @@
 -- Registrations by name and by slot: one that is found, one more, and one less.
-use Rattle.std.specs.Prelude.{filter, ◌==◌, ◌||◌, not, option_map}
-use Rattle.std.proofs.Common.{◌≡◌, ℕ, ◌+◌, ◌≤◌, Bool, true, false, cond, List, ◌∷◌, ◌++◌, Option, Some, None, refl, sym, ap, ◌∙◌, arith, eqb-true}
+use Rattle.std.specs.Prelude.{filter, ◌==◌, ◌||◌, not, option_map, if◌then◌else◌}
+use Rattle.std.proofs.Common.{◌≡◌, ℕ, ◌+◌, ◌≤◌, Bool, true, false, cond, List, [], ◌∷◌, ◌++◌, Option, Some, None, refl, sym, ap, ◌∙◌, arith, eqb-true}
 use Rattle.std.proofs.lemmas.Bool.{eq-eqb, ne_eqb}
 use Rattle.papaya_logged.specs.Given.Runs.declared.holders.Registration.{Registration}
 use Rattle.papaya_logged.specs.Given.Runs.Same.{is_same}

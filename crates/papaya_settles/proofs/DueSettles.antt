@@ -1,5 +1,5 @@
 -- A step of a row that retires one block does nothing else than to retire it: until it tells its batch of it, it has it in hand; with that it is told; then it has none.
-use Rattle.std.specs.Prelude.{◌≡◌, ◌≢◌, ℕ, ◌==◌, nat_lt, Option, Some, None, Ok, Err, Bool, true, false, List, ◌∷◌}
+use Rattle.std.specs.Prelude.{◌≡◌, ◌≢◌, ℕ, ◌==◌, nat_lt, Option, Some, None, Ok, Err, Bool, true, false, List, [], ◌∷◌, if◌then◌else◌}
 use Rattle.std.proofs.Common.{refl, ap, sym, subst, ◌∙◌, arith, eqb-true}
 use Rattle.std.proofs.lemmas.Bool.{ne_eqb}
 use Rattle.papaya_histories.specs.Given.SeizeWords.declared.at.At.{At}

@@ -1,5 +1,5 @@
 -- What the words of tables say of where pairs lie, and what effects find there.
-use Rattle.std.specs.Prelude.{◌≡◌, ℕ, ◌+◌, ◌<◌, Bool, true, false, List, ◌∷◌, Some}
+use Rattle.std.specs.Prelude.{◌≡◌, ℕ, ◌+◌, ◌<◌, Bool, true, false, List, [], ◌∷◌, Some}
 use Rattle.papaya_others.specs.Given.Tables.declared.node.Node.{Node}
 use Rattle.papaya_others.specs.Given.Raw.declared.machines.progress.Progress.{Progress}
 use Rattle.papaya_others.specs.Given.Schedules.declared.effect.Effect.{Effect}

@@ -1,5 +1,5 @@
 -- What a step of a sweep says, by what it is for: a walk that has come to no pair yet goes on so, or is ready; and one that removes pairs shows none.
-use Rattle.std.specs.Prelude.{◌≡◌, ◌==◌, ◌&&◌, ℕ, nat_lt, Bool, true, false, Ok, Err}
+use Rattle.std.specs.Prelude.{◌≡◌, ◌==◌, ◌&&◌, ℕ, nat_lt, Bool, true, false, Ok, Err, if◌then◌else◌}
 use Rattle.std.proofs.Common.{refl, sym, subst}
 use Rattle.papaya_scheduler.specs.Given.SeizeWords.Op.{Out, Found, Stored, Exchanged, Made, Taken, Roomed}
 use Rattle.papaya_scheduler.specs.Given.SeizeWords.Plan.{plan_as}

@@ -1,5 +1,5 @@
 -- The first table of a map that is being made has the length that its capacity needs, and the last try that goes with it.
-use Rattle.std.specs.Prelude.{◌≡◌, ℕ, Bool, true, List, max, Option, Some, None}
+use Rattle.std.specs.Prelude.{◌≡◌, ℕ, Bool, true, List, [], max, Option, Some, None}
 use Rattle.std.specs.List.{list_all}
 use Rattle.papaya_legal.specs.Given.Seize.World.{with_at}
 use Rattle.papaya_legal.specs.Given.Seize.declared.progress.Progress.{Progress}
