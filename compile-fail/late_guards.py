@@ -19,7 +19,7 @@ ghost use Rattle.std.specs.Prelude.{None};
 
 use seize::rows::Defers;
 use seize_blocks::Home;
-use seize_shared::{Caller, Fixed, LocalGuard, OfRows, Registration};
+use seize_shared::{Caller, Fixed, LocalGuard, OfRows, OwnedGuard, Registration};
 use std::io;
 use std::thread;
 use std::thread::Threads;
@@ -51,6 +51,7 @@ LATE = {"borrow-e0502", "borrow-e0505"}
 # who is sent to another thread, or shared with it, by its type and what is done there; and whether that may be
 SENT = [
     ("caller_sent", "caller: Caller<'_, Plain>", "move || drop(caller)", True),
+    ("owned_sent", "guard: OwnedGuard<'_, Plain>", "move || drop(guard)", True),
     ("guard_sent", "guard: LocalGuard<'_, '_, Plain>", "move || drop(guard)", False),
     ("guard_shared", "guard: &LocalGuard<'_, '_, Plain>", "|| guard.thread_id()", False),
     ("registration_sent", "registration: Registration<'_, Plain>", "move || drop(registration)", False),

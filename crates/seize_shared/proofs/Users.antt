@@ -90,7 +90,8 @@ module _ {T : Type 0} (defers : T → Option ℕ) (fixed : Fixed) (s : State T (
   pub passes_then : (n v : World T) (e : Event T) → IsBetween e → ((j : ℕ) → IsOfOthers j e) → Passes defers fixed s id n
       → Happens defers fixed.batch_size e n v → ArePlain defers v.memory → Passes defers fixed s id v
   passes_then n v e between is before happens plain j ne was now =
-      let mid : IsAloneOnSlot j n = subst (λ (rows : ℕ → Row). IsAloneOnSlot j (record v { row = rows })) (users_rows defers fixed.batch_size n v e between happens) now in
+      let mid : IsAloneOnSlot j n =
+      subst (λ (rows : ℕ → Row). IsAloneOnSlot j (record v { row = rows })) (users_rows defers fixed.batch_size n v e between happens) now in
       let p = before j ne was mid in
       (p.0 ++ e ∷ [], both defers (IsAloneOnSlot j) fixed.batch_size j p.0 (e ∷ []) w n v p.1 (v, is j, happens, plain, now, refl))
 

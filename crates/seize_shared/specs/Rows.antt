@@ -128,7 +128,8 @@ module _ {T : Type 0} where
     pub known : IsKnown w j v
 
 module _ {T : Type 0} (defers : T → Option ℕ) (fixed : Fixed) where
-  -- What a seat settles it has settled within so many steps: the list of its section that has ended is counted down; or its block is retired, or its batch tried.
+  -- What a seat settles it has settled within so many steps: where its section has ended, its list is counted down; else its block is retired, or its batch
+  -- tried.
   abbrev pub IsBounded : World T → ℕ → View T → Type 0
   IsBounded w j (Settles c (Ending size way) seen left) = CountsWithin defers fixed.batch_size j left w
   IsBounded w j (Settles c Retiring seen left) = TriesWithin defers fixed.batch_size j left w

@@ -7,11 +7,12 @@ mod guard;
 mod law;
 mod memory;
 mod rows;
+mod stay;
 mod turns;
 mod view;
 
 pub use caller::Caller;
-pub use guard::{LocalGuard, Registration};
+pub use guard::{LocalGuard, OwnedGuard, Registration};
 pub use law::{batches_are_tried, lists_are_counted, rows_go_on, sections_go_on};
 pub use rows::OfRows;
 pub use view::{Becomes, Fixed, Has, View, Why};

@@ -4,7 +4,7 @@ ghost use Rattle.std.specs.Prelude.{◌≡◌};
 use crate::ground::SIZE;
 use crate::retiring::{Counted, Table, all_are, dropped, table};
 use seize_blocks::{Blocks, Home};
-use seize_shared::{Fixed, OfRows, Registration};
+use seize_shared::{Fixed, OfRows, OwnedGuard, Registration};
 use std::alloc::{AllocError, Global};
 use std::test::Fail;
 use std::thread::Threads;
@@ -31,7 +31,9 @@ fn goes(blocks: &Blocks<Counted, OfRows>, drops: &Table, from: usize) -> Option<
         guard.see(0);
         if let Some(value) = guard.value() {
             let before = dropped(&value.drops, value.place);
-            thread::yield_now();
+            if value.place % 16 == 0 {
+                thread::yield_now();
+            }
             fresh = fresh && before == 0 && dropped(&value.drops, value.place) == 0;
         }
         if let Some(value) = Counted::of(drops, usize::wrapping_add(from, turn)) {
@@ -109,5 +111,40 @@ fn a_slot_is_given_up_as_its_registration_ends(rt: HostRuntime) -> Result<(), Fa
     let home = Home::<Counted, OfRows>::open(rt.alloc(), 1, 0, &CHOSEN)?;
     assert_eq!(rt; visits(&home.blocks), Some(0));
     assert_eq!(rt; visits(&home.blocks), Some(0));
+    Ok(())
+}
+
+/// Puts six values at the root while a guard with a slot of its own is open, which is then sent to another thread, and ends there; tells whether none of
+/// the five that were retired was dropped before, and each once by then.
+fn sends<R: Threads + Sync>(rt: &R, blocks: &Blocks<Counted, OfRows>, drops: &Table) -> Option<bool>
+    requires { blocks.now.words.fixed ≡ record { batch_size = 5; roots = 1 } }
+{
+    let guard = OwnedGuard::enter(blocks, &CHOSEN).ok()?;
+    let mut registration = Registration::new(blocks, &CHOSEN).ok()?;
+    for place in 0..6 {
+        drop(registration.enter().put(0, Counted::of(drops, place)?));
+    }
+    let kept = all_are(drops, 5, 0);
+    thread::join(rt, move || drop(guard), || ());
+    Some(kept && all_are(drops, 5, 1))
+}
+
+/// The same over one memory.
+fn sends_one<R: Threads + Sync>(
+    rt: &R,
+    alloc: Global,
+    drops: &Table,
+) -> Result<Option<bool>, AllocError> {
+    let home = Home::<Counted, OfRows>::open(alloc, 1, 64, &CHOSEN)?;
+    Ok(sends(rt, &home.blocks, drops))
+}
+
+#[test]
+fn an_owned_guard_keeps_what_is_retired_until_it_ends_on_another_thread(
+    rt: HostRuntime,
+) -> Result<(), Fail> {
+    let drops = table(rt.alloc(), 6)?;
+    assert_eq!(rt; sends_one(&rt, rt.alloc(), &drops)?, Some(true));
+    assert!(rt; all_are(&drops, 6, 1));
     Ok(())
 }

@@ -124,8 +124,8 @@ fn leaves(caller: Caller<'_, Numbered>, slot: u64)
     caller.unregister(slot);
 }
 
-/// Is within a section while another one retires a batch, and is then sent to another thread, where it leaves; answers how many came back by the other one's end,
-/// and by its own.
+/// Is within a section while another one retires a batch, and is then sent to another thread, where it leaves; answers how many came back by the other
+/// one's end, and by its own.
 fn sends<R: Threads + Sync>(
     rt: &R,
     ground: &Ground<'_, Numbered>,

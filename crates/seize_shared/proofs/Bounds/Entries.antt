@@ -137,7 +137,8 @@ module _ {T : Type 0} (defers : T → Option ℕ) (size field : ℕ) (w v : Worl
       to h.1 (ap (λ (x : World T). x.memory) h.4 ∙ made_memory defers w i h.1 h.0)
       (subst So (sym h.3.1) (makes field w.hand w.memory value words h.0 h.3.0))
   users_entries (Drops i b) u h =
-      to h.1 (ap (λ (x : World T). x.memory) h.4) (subst So (sym h.3.1) (takes field w.hand w.memory b h.0 (λ c k e. apart_made w.hand b c h.2.0 h.2.1 k e) h.3.0))
+      to h.1 (ap (λ (x : World T). x.memory) h.4)
+      (subst So (sym h.3.1) (takes field w.hand w.memory b h.0 (λ c k e. apart_made w.hand b c h.2.0 h.2.1 k e) h.3.0))
   users_entries (Links i b o) u h = same field w.hand w.memory v.memory (ap (λ (x : World T). x.memory) h.1)
   users_entries (Parts i b) u h = same field w.hand w.memory v.memory (ap (λ (x : World T). x.memory) h.1)
   users_entries (Unlinks i b) u h = same field w.hand w.memory v.memory (ap (λ (x : World T). x.memory) h.1)
@@ -153,7 +154,8 @@ module _ {T : Type 0} (defers : T → Option ℕ) (size field : ℕ) (w v : Worl
       (λ c k. ap (λ (g : At → ℕ). g (Entry c field)) (wrote w.memory (Entry b NEXT) word (left b h.2.0 h.2.1)).words
       ∙ write_apart (words_of w.memory) (Entry b NEXT) word (Entry c field) (other_entry c b field (λ e. apart_left w.hand b c h.2.0 h.2.1 k e))))
   users_entries (Clears i b) u h =
-      to h.1 (ap (λ (x : World T). x.memory) h.5) (subst So (sym h.4.1) (takes field w.hand w.memory b h.0 (λ c k e. apart_left w.hand b c h.2.0 h.2.1 k e) h.4.0))
+      to h.1 (ap (λ (x : World T). x.memory) h.5)
+      (subst So (sym h.4.1) (takes field w.hand w.memory b h.0 (λ c k e. apart_left w.hand b c h.2.0 h.2.1 k e) h.4.0))
   users_entries (Chooses choice) u h = to _ (ap (λ (x : World T). x.memory) h) (λ c k. refl)
 
   -- a slot's word is stored, or room is made, or nothing is written

@@ -1,4 +1,4 @@
--- What a row that settles has in hand is as long as before, whatever one event of the others is; and its slot's batch is as it was, if no other row settles there.
+-- What a row that settles has in hand is as long as before, whatever one event of the others is; and its slot's batch is as it was, if no other settles there.
 use Rattle.std.specs.Prelude.{Option, IsSome}
 use Rattle.std.proofs.Common.{◌≡◌, ℕ, ◌+◌, ◌<◌, Bool, true, false, cond, eqb, List, [], ◌∷◌, length, inl, inr, refl, arith, ap, sym, subst, ◌∙◌}
 use Rattle.seize_words.specs.declared.at.At.TheVariants.{Entry as EntryWord}
@@ -8,8 +8,8 @@ use Rattle.seize.specs.declared.rows.settle.Settle.{Settle}
 use Rattle.seize.specs.declared.rows.leave.Leave.{Leave}
 use Rattle.seize.specs.declared.rows.leave.Leaving.{Leaving}
 use Rattle.seize.specs.declared.rows.leave.Leaving.TheVariants as leaving
-use Rattle.seize.specs.World.{World, Row, Settles, Leaves, Event, Begin, Step, Makes, Drops, Links, Parts, Unlinks, Rewrites, Operates, Ends, LeavesOver, Relinks}
-use Rattle.seize.specs.World.{Clears, Chooses, Happens, Hand, NoBlock, Making, InUse, Parting, Cutting, Handed, LeftTo, Request, Register', Enter', Leave'}
+use Rattle.seize.specs.World.{World, Row, Settles, Leaves, Event, Begin, Step, Makes, Drops, Links, Parts, Unlinks, Rewrites, Operates, Ends, LeavesOver}
+use Rattle.seize.specs.World.{Relinks, Clears, Chooses, Happens, Hand, NoBlock, Making, InUse, Parting, Cutting, Handed, LeftTo, Request, Register', Enter', Leave'}
 use Rattle.seize.specs.World.{LeaveOwned, Refresh, Unregister', Retire, Flush, Defer'}
 use Rattle.seize.specs.Sequence.{IsBetween}
 use Rattle.seize_alone.specs.Given.SeizeWaiting.Held.{count}
@@ -139,13 +139,15 @@ module _ {T : Type 0} (defers : T → Option ℕ) (size j : ℕ) where
       pending_same : SameEntries NEXT w.hand w.memory v.memory → length (good2.state.pending j) ≡ length (good.state.pending j)
       pending_same nexts =
           pending_long (is_popped d.stands) (good.state.pending j) (good2.state.pending j) before.some after.some
-          (chains_agree 0 (omega arith) (view defers w.memory).nexts (view defers v.memory).nexts d.pending (waiting (is_popped d.stands) (good.state.pending j))
+          (chains_agree 0 (omega arith) (view defers w.memory).nexts (view defers v.memory).nexts d.pending
+          (waiting (is_popped d.stands) (good.state.pending j))
           (waiting (is_popped d.stands) (good2.state.pending j))
           (λ b p. nexts b (handed b (behind_count b (is_popped d.stands) (good.state.pending j) p)))
           (pended (view defers w.memory).nexts good.extra good.state before (good.shows.lists.pended j))
           (pended (view defers v.memory).nexts good2.extra good2.state after (good2.shows.lists.pended j)))
         where
-          pended : (f : ℕ → ℕ) (x : Extra) (m : State) → Known (LAST_SLOT + 1) j m x d (is_popped d.stands) → Chain 0 f (x.pends j) (waiting (x.popped j) (m.pending j))
+          pended : (f : ℕ → ℕ) (x : Extra) (m : State) → Known (LAST_SLOT + 1) j m x d (is_popped d.stands)
+              → Chain 0 f (x.pends j) (waiting (x.popped j) (m.pending j))
               → Chain 0 f d.pending (waiting (is_popped d.stands) (m.pending j))
           pended f x m k chain =
               subst (λ (u : ℕ). Chain 0 f u (waiting (is_popped d.stands) (m.pending j))) k.common.pends
@@ -178,7 +180,11 @@ module _ {T : Type 0} (defers : T → Option ℕ) (size j : ℕ) where
 
           by : (request : Request) → BeginTold (LAST_SLOT + 1) i request good.state good2.state → SameLong j good.state good2.state
           by (Retire s b) told = by_state (Moves.begins_retire good.state i b) told
-              (record { loose = refl; left = refl; pending = ap (length) (beside (LAST_SLOT + 1) i j ne good.state good2.state good.state.pending (b ∷ good.state.pending i)) })
+              (record {
+                loose = refl;
+                left = refl;
+                pending = ap (length) (beside (LAST_SLOT + 1) i j ne good.state good2.state good.state.pending (b ∷ good.state.pending i));
+              })
           by (Flush s) told = by_state good.state told (record { loose = refl; left = refl; pending = refl })
           by (Register' enters) told = unmoved told
           by (Enter' s) told = unmoved told

@@ -1,4 +1,4 @@
--- What the moves of a row leave of what it has in hand: where it only tries its batch there is never more to be retired, and more to be taken only at the end of a try.
+-- What the moves of a row leave in its hand: where it only tries its batch there is never more to be retired, and more to be taken only at the end of a try.
 use Rattle.std.proofs.Common.{◌≡◌, ℕ, ◌+◌, ◌≤◌, List, [], ◌∷◌, ◌++◌, length, refl, arith, ap, ◌∙◌}
 use Rattle.seize.specs.declared.rows.settle.Settle.{Settle}
 use Rattle.seize_alone.proofs.Given.SeizeMoves.State.Ghost.{State, Entry, put}
@@ -101,7 +101,8 @@ module _ (n j : ℕ) (m m2 : State) (c : Settle) (p : Part) (c2 : Settle) where
     no_more (Pushes y t f es rest a b k e q r) = kept (Moves.pushed m y t f es rest) e refl refl
     no_more (Misses y t rest a b k e q r) = kept (Moves.missed m y t rest) e refl refl
     no_more (Sums y a b k e q r u) = kept (Moves.summed n m j y) e refl refl
-    no_more (SumsLast y a b k e q r u) = let l = ap (λ (s : State). length (s.pending j)) e in record { pending = omega (arith, l); left = λ np. absurd (np q r) }
+    no_more (SumsLast y a b k e q r u) =
+        let l = ap (λ (s : State). length (s.pending j)) e in record { pending = omega (arith, l); left = λ np. absurd (np q r) }
     no_more (Drains b bs l e q r) = kept (Moves.drained m j b) e refl refl
     no_more (DrainsNone b bs l d e q r) = kept m e refl refl
     no_more (Takes b bs l d e q r) = took (Moves.taken m j b bs) b bs l e refl refl

@@ -58,7 +58,8 @@ module _ (n i s : ℕ) (m m2 : State) (inv : Inv n m) (lt : s < n) where
     other e = ne (same_slot c.slot s (sym (inv.batches.mine c.slot there) ∙ ap m.stage (sym e) ∙ inv.batches.mine s lt))
 
     appended_same : (b : ℕ) (bs : List ℕ) → Same (Moves.appended m i b bs (batch_now c m))
-    appended_same b bs = ap (λ (t : Bool). cond t (m.blocks (batch_now c m) ++ b ∷ []) (m.blocks (m.open_batch s))) (ne_eqb (m.open_batch s) (batch_now c m) other)
+    appended_same b bs =
+        ap (λ (t : Bool). cond t (m.blocks (batch_now c m) ++ b ∷ []) (m.blocks (m.open_batch s))) (ne_eqb (m.open_batch s) (batch_now c m) other)
 
     closed_same : Same (Moves.closed n m i c.slot (batch_now c m))
     closed_same = ap (λ (t : Bool). m.blocks (cond t m.next (m.open_batch s))) (ne_eqb s c.slot (λ e. ne (sym e)))

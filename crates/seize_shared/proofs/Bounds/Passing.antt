@@ -1,8 +1,8 @@
 -- What is so of a row that settles is so after what the others do meanwhile; and each step of it lowers how many are left.
 use Rattle.std.specs.Prelude.{◌++◌, Option}
 use Rattle.std.proofs.Common.{◌≡◌, ℕ, zero, suc, ◌<◌, List, [], ◌∷◌, inl, inr, refl, arith, ap, sym, subst, ◌∙◌}
-use Rattle.seize.specs.World.{World, Row, Event, Begin, Step, Makes, Drops, Links, Parts, Unlinks, Rewrites, Operates, Ends, LeavesOver, Relinks, Clears, Chooses}
-use Rattle.seize.specs.World.{Happens, Steps'}
+use Rattle.seize.specs.World.{World, Row, Event, Begin, Step, Makes, Drops, Links, Parts, Unlinks, Rewrites, Operates, Ends, LeavesOver, Relinks, Clears}
+use Rattle.seize.specs.World.{Chooses, Happens, Steps'}
 use Rattle.seize.specs.Sequence.{IsBetween}
 use Rattle.seize_rule.proofs.Rows.Others.{begins_others, steps_others, users_rows}
 use Rattle.seize_shared.specs.Bounds.{IsOfOthers, IsAny, ArePlain, Meanwhile, Within}

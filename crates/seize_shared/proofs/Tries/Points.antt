@@ -43,7 +43,8 @@ word_is n f m x s v lt free = by (eqb (m.holder s) 0) (v.linkage.batched s lt)
     by true e = e
     by false e = absurd (free e)
 
-module _ {T : Type 0} (defers : T → Option ℕ) (j : ℕ) (mem mem2 : Mem T) (m : State) (x : Extra) (c : Settle) (end : Settle × Settled T) (m2 : State) (x2 : Extra)
+module _ {T : Type 0} (defers : T → Option ℕ) (j : ℕ) (mem mem2 : Mem T) (m : State) (x : Extra) (c : Settle) (end : Settle × Settled T) (m2 : State)
+    (x2 : Extra)
     (v : Shows (LAST_SLOT + 1) (view defers mem) m x) (v2 : Shows (LAST_SLOT + 1) (view defers mem2) m2 x2) (few : length (m2.left j) ≤ MOST)
     (plain : ArePlain defers mem)
     (tries : OnlyTries c)
@@ -79,7 +80,8 @@ module _ {T : Type 0} (defers : T → Option ℕ) (j : ℕ) (mem mem2 : Mem T) (
   goes p q d e is put list seen h = less p (plans.standing d q) Goes e (record { trying = is; put = put; list = list }) seen h
 
   -- what stands behind it does not grow
-  owes_less : (p : Settling) → (part_at c.flushing p ≡ Pushing → part end.0 ≡ Plain → ⊥) → Told (LAST_SLOT + 1) j c (part_at c.flushing p) m end.0 m2 → owes j m2 ≤ owes j m
+  owes_less : (p : Settling) → (part_at c.flushing p ≡ Pushing → part end.0 ≡ Plain → ⊥) → Told (LAST_SLOT + 1) j c (part_at c.flushing p) m end.0 m2
+      → owes j m2 ≤ owes j m
   owes_less p np told =
       let k = no_more (LAST_SLOT + 1) j m m2 c (part_at c.flushing p) end.0 none_loose none_put told in
       let a = k.pending in
@@ -140,7 +142,8 @@ module _ {T : Type 0} (defers : T → Option ℕ) (j : ℕ) (mem mem2 : Mem T) (
       one d.0 (block == 0) refl (owes_less (at.Firsts block) (λ z k. flush_not (eqb block 0) z) told) d.3
     where
       one : (first : ℕ) (t : Bool) → (block == 0) ≡ t → owes j m2 ≤ owes j m
-          → Ends (value_at mem) (if t then plans.to {T = T} (plans.scanning (record c { first = first })) else plans.to (record c { first = first; stands = at.Batches block })) end
+          → Ends (value_at mem) (if t then plans.to {T = T} (plans.scanning (record c { first = first }))
+          else plans.to (record c { first = first; stands = at.Batches block })) end
           → Less (at.Firsts block)
       one first true q a e =
           let k = ap (λ (t : Bool). cond t (TRYING + 1) 5) (eq-eqb block 0 (eqb-true block 0 q)) in
@@ -202,7 +205,8 @@ module _ {T : Type 0} (defers : T → Option ℕ) (j : ℕ) (mem mem2 : Mem T) (
         left = (no_more (LAST_SLOT + 1) j m m2 c Plain end.0 none_loose none_put told).left (λ z k. cc z)
 
         one : (t : Bool) (k : ℕ) → IsSome (word_at mem (Entry (c.first / 2048) COUNT)) → mem2 ≡ with_word mem (Entry (c.first / 2048) COUNT) k
-            → Ends (value_at mem2) (if t then plans.to {T = T} (plans.onward (record c { last = block })) else plans.to (plans.scanning (record c { last = block }))) end
+            → Ends (value_at mem2) (if t then plans.to {T = T} (plans.onward (record c { last = block }))
+            else plans.to (plans.scanning (record c { last = block }))) end
             → Less (at.Counts block)
         one true k some is e =
             let o = onward_tries (record c { last = block }) tries.put tries.list in
@@ -217,7 +221,8 @@ module _ {T : Type 0} (defers : T → Option ℕ) (j : ℕ) (mem mem2 : Mem T) (
 
   -- the batch is tried
 
-  behind_less : (p : Settling) (slot block marks : ℕ) → slot < LAST_SLOT + 1 → end ≡ (plans.standing c (plans.behind slot block marks), Goes) → owes j m2 ≤ owes j m
+  behind_less : (p : Settling) (slot block marks : ℕ) → slot < LAST_SLOT + 1 → end ≡ (plans.standing c (plans.behind slot block marks), Goes)
+      → owes j m2 ≤ owes j m
       → SCANNING * (LAST_SLOT + 1 - slot) + PUSHING * marks + (SHUTTING + 3) < point c.lost p + SCANNING
       → PUSHING * marks + SHUTTING < point c.lost p → Less p
   behind_less p slot block marks lt e a far near = one (nat_lt slot LAST_SLOT) e
@@ -263,7 +268,8 @@ module _ {T : Type 0} (defers : T → Option ℕ) (j : ℕ) (mem mem2 : Mem T) (
       one (marks == 0) (owes_less (at.Closes marks) (λ z k. cc z) told) d.1
     where
       one : (t : Bool) → owes j m2 ≤ owes j m
-          → end ≡ ((if t then record c { last = 0; stands = at.Sums 0 } else record c { last = 0; stands = at.Reads c.first marks 0 }), Goes) → Less (at.Closes marks)
+          → end ≡ ((if t then record c { last = 0; stands = at.Sums 0 } else record c { last = 0; stands = at.Reads c.first marks 0 }), Goes)
+          → Less (at.Closes marks)
       one true a e = goes (at.Closes marks) (at.Sums 0) (record c { last = 0 }) e tt tries.put tries.list tt (omega (arith, a))
       one false a e = goes (at.Closes marks) (at.Reads c.first marks 0) (record c { last = 0 }) e tt tries.put tries.list tt (omega (arith, a))
 
@@ -294,7 +300,8 @@ module _ {T : Type 0} (defers : T → Option ℕ) (j : ℕ) (mem mem2 : Mem T) (
       where
         one : (t : Bool) → nat_lt 1 left ≡ t → end ≡ (plans.standing c (if t then at.Pushed block (left - 1) k else at.Sums k), Goes) → Here
         one true q e =
-            let a = owes_less (at.Pushes block left pushed slot head) (λ z y. still_pushing (plans.standing c (at.Pushed block (left - 1) k)) Goes e refl y) told in
+            let a = owes_less (at.Pushes block left pushed slot head)
+            (λ z y. still_pushing (plans.standing c (at.Pushed block (left - 1) k)) Goes e refl y) told in
             goes (at.Pushes block left pushed slot head) (at.Pushed block (left - 1) k) c e tt tries.put tries.list tt (omega (arith, a, some))
         one false q e =
             let a = owes_less (at.Pushes block left pushed slot head) (λ z y. still_pushing (plans.standing c (at.Sums k)) Goes e refl y) told in
@@ -307,7 +314,8 @@ module _ {T : Type 0} (defers : T → Option ℕ) (j : ℕ) (mem mem2 : Mem T) (
     ]
       where
         one : (w : ℕ) (a b : Bool) → nat_lt c.lost MOST_LOST ≡ b
-            → Ends (value_at mem) (if a || not b then plans.goes {T = T} c (plans.pushed_of block left pushed) else plans.to (record c { lost = c.lost + 1; stands = at.Links block left pushed slot w })) end
+            → Ends (value_at mem) (if a || not b then plans.goes {T = T} c (plans.pushed_of block left pushed)
+            else plans.to (record c { lost = c.lost + 1; stands = at.Links block left pushed slot w })) end
             → Here
         one w true b q e = pushed_less pushed e
         one w false false q e = pushed_less pushed e
@@ -315,7 +323,8 @@ module _ {T : Type 0} (defers : T → Option ℕ) (j : ℕ) (mem mem2 : Mem T) (
             let lt = ltb-true c.lost MOST_LOST q in
             let a = owes_less (at.Pushes block left pushed slot head)
             (λ z y. still_pushing (record c { lost = c.lost + 1; stands = at.Links block left pushed slot w }) Goes e refl y) told in
-            goes (at.Pushes block left pushed slot head) (at.Links block left pushed slot w) (record c { lost = c.lost + 1 }) e tt tries.put tries.list tt (omega (arith, a, lt))
+            goes (at.Pushes block left pushed slot head) (at.Links block left pushed slot w) (record c { lost = c.lost + 1 }) e tt tries.put tries.list tt
+            (omega (arith, a, lt))
 
   pushed_goes : (block left pushed : ℕ) → Told (LAST_SLOT + 1) j c Pushing m end.0 m2 → Steps Took value_at mem (plans.pushed_next c block left pushed) mem2 end
       → Less (at.Pushed block left pushed)
@@ -332,7 +341,8 @@ module _ {T : Type 0} (defers : T → Option ℕ) (j : ℕ) (mem mem2 : Mem T) (
       (subst (λ (q : Mem T). Ends (value_at q) (plans.summed c pushed (Found d.0)) end) (sym d.2) d.3)
     where
       one : (t : Bool) → length (m2.pending j) ≤ length (m.pending j)
-          → Ends (value_at mem2) (if t then plans.to {T = T} (plans.onward (record c { reclaiming = c.first; first = 0 })) else plans.to (plans.onward (record c { first = 0 }))) end
+          → Ends (value_at mem2) (if t then plans.to {T = T} (plans.onward (record c { reclaiming = c.first; first = 0 }))
+          else plans.to (plans.onward (record c { first = 0 }))) end
           → Less (at.Sums pushed)
       one true a e = on (at.Sums pushed) (record c { reclaiming = c.first; first = 0 }) Goes e tries.put tries.list (omega (arith, a, few))
       one false a e = on (at.Sums pushed) (record c { first = 0 }) Goes e tries.put tries.list (omega (arith, a, few))
@@ -348,7 +358,8 @@ module _ {T : Type 0} (defers : T → Option ℕ) (j : ℕ) (mem mem2 : Mem T) (
       let a = owes_less at.Nexts (λ z k. cc z) told in
       goes at.Nexts (at.Takes d.0) c e tt tries.put tries.list tt (omega (arith, a))
 
-  takes_less : (next : ℕ) → c.flushing ≡ false → Told (LAST_SLOT + 1) j c Draining m end.0 m2 → Steps Took value_at mem (plans.takes c next) mem2 end → Less (at.Takes next)
+  takes_less : (next : ℕ) → c.flushing ≡ false → Told (LAST_SLOT + 1) j c Draining m end.0 m2 → Steps Took value_at mem (plans.takes c next) mem2 end
+      → Less (at.Takes next)
   takes_less next once told st =
       let d = taken_value {R = Settle × Settled T} mem (plans.given_back c next) (c.reclaiming / 2048) mem2 end st in
       one d.0 (next == 0) (c.put_first == 0) (ap (λ (k : ℕ). k == 0) tries.put) (c.pending == 0) d.3
@@ -364,7 +375,12 @@ module _ {T : Type 0} (defers : T → Option ℕ) (j : ℕ) (mem mem2 : Mem T) (
           on (at.Takes next) (record c { reclaiming = next }) o e tries.put tries.list (omega (arith, a, b))
 
       one : (value : T) (t u : Bool) → u ≡ true → (z : Bool)
-          → end ≡ ((if t then (if u then plans.onward (record c { reclaiming = next }) else (if z then plans.with_put (record c { reclaiming = next }) else record c { reclaiming = next; stands = at.Puts })) else plans.onward (record c { reclaiming = next })), Gave value)
+          → end ≡ (
+            (if t then (if u then plans.onward (record c { reclaiming = next }) else
+                (if z then plans.with_put (record c { reclaiming = next }) else record c { reclaiming = next; stands = at.Puts })) else
+                plans.onward (record c { reclaiming = next })),
+            Gave value,
+          )
           → Less (at.Takes next)
       one value true true q z e = past (Gave value) e
       one value true false q z e = absurd (cc q)

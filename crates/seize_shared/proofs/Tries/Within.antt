@@ -1,5 +1,4 @@
--- A row that retires a block or tries its batch has done so within a number of its own steps, whatever the others do meanwhile, as long as nobody else settles on
--- its slot.
+-- A row that retires a block or tries its batch has done so within a number of its own steps, whatever the others do, as long as nobody else settles there.
 use Rattle.std.specs.Prelude.{Option}
 use Rattle.std.proofs.Common.{◌≡◌, ℕ, zero, suc, ◌+◌, ◌<◌, Bool, true, false, List, [], ◌∷◌, inl, inr, refl, arith, ap, sym, subst, ◌∙◌, ◌⊎◌}
 use Rattle.std.proofs.lemmas.Bool.{cases_eq}

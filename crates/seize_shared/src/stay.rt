@@ -1,0 +1,147 @@
+//! A slot that is held, and its section, which is open or not.
+ghost use Rattle.std.specs.Prelude.{◌≡◌, None, Some, true, false};
+ghost use Rattle.seize_shared.specs.Standing.{standing};
+
+use crate::caller::Caller;
+use crate::rows::OfRows;
+use crate::view::Fixed;
+use seize::rows::Defers;
+use seize_blocks::Blocks;
+use seize_words::Fault;
+
+/// A caller who holds a slot: whether its section is open, and which block was seen there, 0 for none. The slot is given up as this ends.
+pub(crate) struct Stay<'a, T: Defers + Drop> {
+    caller: Caller<'a, T>,
+    pub(crate) slot: u64,
+    roots: u64,
+    pub(crate) inside: bool,
+    seen: u64,
+    ghost stands: { standing caller.seat.view ≡ Some (slot, inside, seen) },
+    ghost rooted: { caller.blocks.now.words.fixed.roots ≡ roots },
+}
+
+impl<'a, T: Defers + Drop> Stay<'a, T> {
+    /// Takes the first slot that can be taken. What was chosen as the memory was opened is handed in.
+    pub(crate) fn new(blocks: &'a Blocks<T, OfRows>, fixed: &Fixed) -> Result<Self, Fault>
+        requires fixed { blocks.now.words.fixed ≡ fixed.now }
+    {
+        let mut caller = Caller::new(blocks, fixed.batch_size);
+        let slot = caller.register()?;
+        Ok(Stay {
+            caller,
+            slot,
+            roots: fixed.roots,
+            inside: false,
+            seen: 0,
+        })
+    }
+
+    /// Begins a section anew, or opens one.
+    pub(crate) fn refreshes(&mut self)
+        ensures inside { self.new.inside ≡ true }
+        ensures fresh { self.new.seen ≡ 0 }
+    {
+        if self.inside {
+            self.caller.refresh(self.slot);
+        } else {
+            self.caller.enter(self.slot);
+            self.inside = true;
+        }
+        self.seen = 0;
+    }
+
+    /// Ends the section that is open, if one is.
+    pub(crate) fn closes(&mut self)
+        ensures closed { self.new.inside ≡ false }
+    {
+        if self.inside {
+            self.caller.leave(self.slot);
+            self.inside = false;
+        }
+        self.seen = 0;
+    }
+
+    /// Looks which block is at a root, and tells whether one is. What was seen before is not known any more.
+    pub(crate) fn sees(&mut self, root: u64) -> bool {
+        if !self.inside || root >= self.roots {
+            return false;
+        }
+        match self.caller.see(self.slot, root) {
+            Some(block) => {
+                self.seen = block;
+                true
+            }
+            None => {
+                self.seen = 0;
+                false
+            }
+        }
+    }
+
+    /// The value that was seen, if one was.
+    pub(crate) fn value(&self) -> Option<&T> {
+        if self.seen == 0 {
+            None
+        } else {
+            Some(self.caller.value(self.slot, self.seen))
+        }
+    }
+
+    /// Puts a value at a root, and retires the one that was there. It comes back where there is no such root, or no number is free.
+    pub(crate) fn puts(&mut self, root: u64, value: T) -> Result<(), T>
+        requires plain { T.defers value ≡ None }
+    {
+        self.refreshes();
+        if root >= self.roots {
+            return Err(value);
+        }
+        let block = match self.caller.make(self.slot, value) {
+            Ok(block) => block,
+            Err(value) => return Err(value),
+        };
+        if let Some(old) = self.caller.publish(self.slot, root, block) {
+            self.caller.retire(self.slot, old);
+        }
+        Ok(())
+    }
+
+    /// Takes the value from a root, and retires it; tells whether there was one.
+    pub(crate) fn clears(&mut self, root: u64) -> bool {
+        self.refreshes();
+        if root >= self.roots {
+            return false;
+        }
+        match self.caller.remove(self.slot, root) {
+            Some(old) => {
+                self.caller.retire(self.slot, old);
+                true
+            }
+            None => false,
+        }
+    }
+
+    /// Tries the slot's batch, whatever its length.
+    pub(crate) fn flushes(&mut self) {
+        if self.inside {
+            self.caller.flush(self.slot);
+        }
+        self.seen = 0;
+    }
+}
+
+impl<'a, T: Defers + Drop> Drop for Stay<'a, T> {
+    fn drop(self) {
+        let Stay {
+            caller,
+            slot,
+            roots: _,
+            inside,
+            seen: _,
+        } = self;
+        let mut caller = caller;
+        if inside {
+            caller.leave(slot);
+        }
+        caller.unregister(slot);
+    }
+}
