@@ -1,0 +1,2 @@
+//! Lists of acts are played: which memory, machines and history a list comes to, by computation.
+#![tactic(auto)]
