@@ -1,0 +1,5 @@
+mod Alike
+mod Calls
+mod Makings
+mod Rows
+mod All
