@@ -85,7 +85,9 @@ module _ {K V S : Type 0} (same : K → K → Bool) (hash : S → K → ℕ) (ba
   module _ (aborts : V) (x : State K V S) (is : IsOf hash s s.world.row x.now) (n : Scene K V) where
     -- played it comes to the scene to which it has led, and its caller is told the same
     abbrev pub Plays : Act K V S → Answer K V → Type 0
-    Plays act told = (y : State K V S) × (play_act same hash batch_size roots aborts act x ≡ Some y) × IsOf hash n n.world.row y.now × (y.told ≡ x.told ++ told ∷ [])
+    Plays act told =
+        (y : State K V S) × (play_act same hash batch_size roots aborts act x ≡ Some y) × IsOf hash n n.world.row y.now × (y.told ≡ x.told ++ told ∷ [])
+        × (y.now.all ≡ x.now.all)
 
     to : (y : Now K V S) (z : Scene K V) → n ≡ z → IsOf hash z z.world.row y → IsOf hash n n.world.row y
     to y z e so = subst (λ (w : Scene K V). IsOf hash w w.world.row y) (sym e) so
@@ -139,6 +141,7 @@ module _ {K V S : Type 0} (same : K → K → Bool) (hash : S → K → ℕ) (ba
             ap (option_map (call_begun i m hash (call_for wanted) x)) at.1,
             call_alone (Some (begun same slot_of standing i wanted)) (y.now.calls m i) machine (λ none. absurd (cc none)) idle comes,
             says Nothing told none,
+            refl,
           )
 
       -- its step
@@ -183,6 +186,7 @@ module _ {K V S : Type 0} (same : K → K → Bool) (hash : S → K → ℕ) (ba
                   (goes_so it.0 came.machine came.progress ∙ sym (goes_as came.machine came.progress came.did.next came.did.goes_on)) came.did.rests
                   (is.calling m i came.call came.here) came.did.rows),
               says (OfCall came.progress) told came.tells,
+              refl,
             )
 
       -- what it is told, and asked for, and that it is given up
@@ -195,6 +199,7 @@ module _ {K V S : Type 0} (same : K → K → Bool) (hash : S → K → ℕ) (ba
             call_alone (Some next) (y.now.calls m i) (ap (λ (v : Machine K V K). Some (machine_replied v reply).0) it.2 ∙ ap Some (sym machine_is)) (λ none. absurd (cc none))
                 (is.calling m i u here) comes,
             says (OfReply (machine_replied it.0.machine reply).1) told (told_is ∙ ap (λ (v : Machine K V K). OfReply (machine_replied v reply).1) (sym it.2)),
+            refl,
           )
 
       pub asks : (told : Answer K V) → Led same hash batch_size roots slot_of (AsksCall i m) s told n → Plays (AsksCall i m) told
@@ -206,6 +211,7 @@ module _ {K V S : Type 0} (same : K → K → Bool) (hash : S → K → ℕ) (ba
             call_alone (Some next) (y.now.calls m i) (ap (λ (v : Machine K V K). Some (machine_asked v).0) it.2 ∙ ap Some (sym machine_is)) (λ none. absurd (cc none))
                 (is.calling m i u here) comes,
             says (OfAsking (machine_asked it.0.machine).1) told (told_is ∙ ap (λ (v : Machine K V K). OfAsking (machine_asked v).1) (sym it.2)),
+            refl,
           )
 
       pub stops : AllStand same hash batch_size roots slot_of s → (told : Answer K V) → Led same hash batch_size roots slot_of (StopsCall i m) s told n → Plays (StopsCall i m) told
@@ -219,4 +225,5 @@ module _ {K V S : Type 0} (same : K → K → Bool) (hash : S → K → ℕ) (ba
                 (ap (λ (v : Machine K V K). option_map machine_at (unless_stopped (machine_asked v).1 it.0)) it.2 ∙ stopped_so ready it.0 u it.2)
                 (λ none. stop_rests all m i u here ready refl none) (is.calling m i u here) comes,
             says (OfAsking (machine_asked it.0.machine).1) told (told_is ∙ ap (λ (v : Machine K V K). OfAsking (machine_asked v).1) (sym it.2)),
+            refl,
           )

@@ -34,7 +34,9 @@ use Rattle.papaya_played.proofs.Alike.{both_at, there_too}
 module _ {K V S : Type 0} (same : K → K → Bool) (hash : S → K → ℕ) (batch_size roots : ℕ) (s : Scene K V) (aborts : V) (x : State K V S) (is : IsOf hash s s.world.row x.now)
     (n : Scene K V) (i : ℕ) where
   abbrev pub Plays : Act K V S → Answer K V → Type 0
-  Plays act told = (y : State K V S) × (play_act same hash batch_size roots aborts act x ≡ Some y) × IsOf hash n n.world.row y.now × (y.told ≡ x.told ++ told ∷ [])
+  Plays act told =
+      (y : State K V S) × (play_act same hash batch_size roots aborts act x ≡ Some y) × IsOf hash n n.world.row y.now × (y.told ≡ x.told ++ told ∷ [])
+      × (y.now.all ≡ x.now.all)
 
   to : (y : Now K V S) (z : Scene K V) → n ≡ z → IsOf hash z z.world.row y → IsOf hash n n.world.row y
   to y z e so = subst (λ (w : Scene K V). IsOf hash w w.world.row y) (sym e) so
@@ -69,6 +71,7 @@ module _ {K V S : Type 0} (same : K → K → Bool) (hash : S → K → ℕ) (ba
             (others_then s.world s.maps (with_at s.makers i (Some first)) s.enders x.now.memory x.now.maps y.now.makers x.now.enders is.memory (λ j. refl) is.maps
             (both_at (option_map (makes_so hash)) (option_map made_so) x.now.makers s.makers i (Some (record { map = map; hasher = hasher; machine = first.machine })) (Some first) refl is.makers) is.enders),
         says Nothing told none,
+        refl,
       )
 
   -- it takes a step
@@ -114,6 +117,13 @@ module _ {K V S : Type 0} (same : K → K → Bool) (hash : S → K → ℕ) (ba
         (others_then did.step.w2 s.maps (with_at s.makers i None) s.enders m2 x.now.maps (with_at x.now.makers i None) x.now.enders (sym did.step.memory)
         (λ j. ap (λ (r : ℕ → Row). r j) (events_rows batch_size did.step.events s.world did.step.w2 did.step.users did.step.runs)) is.maps (makers_then None None refl) is.enders)
 
+    -- nobody reclaims all, or who does is as far
+    all_is : (told : Progress Setting) → (made_on i it.0 machine told (record x.now { memory = m2 })).all ≡ x.now.all
+    all_is progress.Goes = refl
+    all_is progress.Waits = refl
+    all_is (progress.Done setting) = refl
+    all_is (progress.Refused fault) = refl
+
     pub making_steps_so : (end : Progress Setting) → making_steps same hash batch_size roots slot_of s g b ≡ Some (m2, (machine, end))
         → (did : MakingStepsAmong V same same batch_size roots slot_of s.world s.maps s.calls s.makers s.enders i b m2 (machine, end))
         → MakingCame same hash batch_size roots slot_of s i b did.step.w2 machine n end → (told : Answer K V) → told ≡ OfMaking end → Plays (StepsMaking i g) told
@@ -125,6 +135,7 @@ module _ {K V S : Type 0} (same : K → K → Bool) (hash : S → K → ℕ) (ba
               ∙ ap (option_map (making_stepped i it.0 (changed_of x.now.memory g making) x)) comes_to,
           made end did came,
           says (OfMaking end) told told_is,
+          all_is end,
         )
 
   pub ending_begins : (m : ℕ) (told : Answer K V) → Led same hash batch_size roots slot_of (BeginsEnding i m) s told n → Plays (BeginsEnding i m) told
@@ -140,6 +151,7 @@ module _ {K V S : Type 0} (same : K → K → Bool) (hash : S → K → ℕ) (ba
             (both_at (option_map (λ (f : Ending). f.machine)) (option_map (λ (f : Finishing K V). f.machine)) x.now.enders s.enders i (Some (record { map = m; machine = ending at.0.0 false }))
             (Some (finishing_of standing s.world)) (ap (λ (p : Setting × (K → ℕ)). Some (ending p.0 false)) at.2) is.enders)),
         says Nothing told none,
+        refl,
       )
 
   -- it takes a step
@@ -181,4 +193,5 @@ module _ {K V S : Type 0} (same : K → K → Bool) (hash : S → K → ℕ) (ba
               ∙ ap (option_map (ending_stepped i its.0 (changed_of x.now.memory g finishing) x)) comes_to,
           ended end did came,
           says (OfEnding end) told told_is,
+          refl,
         )

@@ -132,7 +132,9 @@ module _ {K V : Type 0} (i : ℕ) (g : Grant) (w w2 : World (Node K V)) where
 module _ {K V S : Type 0} (same : K → K → Bool) (hash : S → K → ℕ) (batch_size roots : ℕ) (s : Scene K V) (aborts : V) (x : State K V S) (is : IsOf hash s s.world.row x.now)
     (n : Scene K V) (i : ℕ) where
   abbrev pub Plays : Act K V S → Answer K V → Type 0
-  Plays act told = (y : State K V S) × (play_act same hash batch_size roots aborts act x ≡ Some y) × IsOf hash n n.world.row y.now × (y.told ≡ x.told ++ told ∷ [])
+  Plays act told =
+      (y : State K V S) × (play_act same hash batch_size roots aborts act x ≡ Some y) × IsOf hash n n.world.row y.now × (y.told ≡ x.told ++ told ∷ [])
+      × (y.now.all ≡ x.now.all)
 
   -- one caller's row is another one then, and it has no call
   row_then : HasNoCall s i → (w2 : World (Node K V)) (maps2 : ℕ → Option (Standing K)) (m2 : Mem (Node K V)) (row : Option SlotRow) → m2 ≡ w2.memory
@@ -168,6 +170,7 @@ module _ {K V S : Type 0} (same : K → K → Bool) (hash : S → K → ℕ) (ba
         (sym (begun_there deferred_word batch_size i s.world w2 (slot_of i) called (subst (λ (r : Request). Begins deferred_word batch_size i r s.world w2) own happens.1)))
         (λ j ne. begins_others deferred_word batch_size s.world w2 i j ne request happens.1) e,
     says told none,
+    refl,
   )
 
   pub row_steps_so : (g : Grant) → MayBe same hash batch_size roots slot_of (StepsRow i g) s → (told : Answer K V)
@@ -188,4 +191,5 @@ module _ {K V S : Type 0} (same : K → K → Bool) (hash : S → K → ℕ) (ba
             row_then may.0 w2 maps2 to.0.0 (row_on to.0.1.0 to.0.1.1) (sym to.2) as_they_were (sym to.3)
                 (λ j ne. steps_others deferred_word batch_size s.world w2 i j ne (s.world.row i) happens) e,
             says told none,
+            refl,
           )
