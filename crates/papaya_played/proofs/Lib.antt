@@ -3,3 +3,4 @@ mod Calls
 mod Makings
 mod Rows
 mod All
+mod Samples
