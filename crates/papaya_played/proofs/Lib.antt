@@ -3,4 +3,5 @@ mod Calls
 mod Makings
 mod Rows
 mod All
+mod Pairs
 mod Samples

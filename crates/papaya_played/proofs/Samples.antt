@@ -1,20 +1,18 @@
--- A short list of acts, played: a map is made with a table, a slot is taken and entered, a pair is stored and found, removed, and reclaimed once its section has ended. The history is written by hand.
+-- A short list of acts, played: a map is made with a table, a slot is taken and entered, and a pair is stored and found. The history is written by hand. And lists that can't be played.
 use Rattle.std.specs.Prelude.{nat_eq}
 use Rattle.std.proofs.Common.{◌≡◌, ℕ, Bool, true, false, List, [], ◌∷◌, refl, Option, Some, None}
 use Rattle.std.specs.Prelude.{◌++◌, option_map}
-use Rattle.papaya_scenes.specs.Given.Seize.World.{Register', Leave'}
+use Rattle.papaya_scenes.specs.Given.Seize.World.{Register'}
 use Rattle.papaya_scenes.specs.Given.Tables.declared.resize_mode.ResizeMode.TheVariants as mode
 use Rattle.papaya_scenes.specs.Given.Tables.declared.setting.Setting.{Setting}
-use Rattle.papaya_scenes.specs.Given.Tables.Lengths.{entries_of}
 use Rattle.papaya_schedules.specs.declared.call.Answer.TheVariants as answer
 use Rattle.papaya_schedules.specs.declared.call.Call.TheVariants.{On}
 use Rattle.papaya_schedules.specs.declared.call.OneKey.TheVariants as one
 use Rattle.papaya_schedules.specs.declared.effect.Effect.{Effect}
-use Rattle.papaya_schedules.specs.declared.effect.Effect.TheVariants.{Asked, PairMade, TableMade, Linked, Stored, Removed, Counted, Retired, Reclaimed}
+use Rattle.papaya_schedules.specs.declared.effect.Effect.TheVariants.{Asked, PairMade, TableMade, Linked, Stored, Counted}
 use Rattle.papaya_schedules.specs.declared.effect.Growth.TheVariants.{ABlock, ABucket}
 use Rattle.papaya_schedules.specs.declared.effect.Spot.{Spot}
 use Rattle.papaya_schedules.specs.declared.effect.Table.{Table}
-use Rattle.papaya_schedules.specs.declared.effect.Thing.TheVariants.{APair}
 use Rattle.papaya_schedules.specs.declared.outcome.Outcome.{Outcome}
 use Rattle.papaya_schedules.specs.declared.outcome.Outcome.TheVariants.{Done, Goes, Slot, Answered}
 use Rattle.papaya_acts.specs.Acts.{Act, Get, Insert, BeginsCall, StepsCall, BeginsMaking, StepsMaking, BeginsRow, StepsRow}
@@ -38,8 +36,8 @@ entry deed outcome effects = record { deed = deed; outcome = outcome; effects = 
 abbrev does : Act ℕ ℕ ℕ → Doing ℕ ℕ ℕ
 does act = Does act
 
--- a map begins with eight places, so for six pairs; of one, two, four and sixty-four it is so, too
-eight_places : entries_of (pairs_for 8) ≡ entries_of 6
+-- a map begins with eight places, so for six pairs
+eight_places : pairs_for 8 ≡ 6
 eight_places = refl
 
 abbrev given : Setting
