@@ -54,7 +54,7 @@ module _ {K V S : Type 0} (same : K → K → Bool) (hash : S → K → ℕ) (ba
   far p = reclaiming V same hash batch_size roots slot_of p
 
   module _ (p n : Stage V same hash batch_size roots slot_of) (x : State K V S) (is : IsOfStage hash same batch_size roots p x.now) where
-    abbrev PlaysOn : Doing K V S → Answer K V → Type 0
+    abbrev pub PlaysOn : Doing K V S → Answer K V → Type 0
     PlaysOn doing told =
         (y : State K V S) × (play same hash batch_size roots aborts doing x ≡ Some y) × IsOfStage hash same batch_size roots n y.now × (y.told ≡ x.told ++ told ∷ [])
 
@@ -146,7 +146,7 @@ module _ {K V S : Type 0} (same : K → K → Bool) (hash : S → K → ℕ) (ba
             says (OfReclaiming to.end) told to.tells,
           )
 
-    plays_on : (doing : Doing K V S) → IsOnOwn doing → MayDo V same hash batch_size roots slot_of doing p → (told : Answer K V) → HasDone V same hash batch_size roots slot_of doing p told n
+    pub plays_on : (doing : Doing K V S) → IsOnOwn doing → MayDo V same hash batch_size roots slot_of doing p → (told : Answer K V) → HasDone V same hash batch_size roots slot_of doing p told n
         → PlaysOn doing told
     plays_on (Does act) own may told done = by_act act own may told done
     plays_on (BeginsReclaiming i) own (idle, size, free, there) told done =
@@ -155,7 +155,7 @@ module _ {K V S : Type 0} (same : K → K → Bool) (hash : S → K → ℕ) (ba
     plays_on (StepsReclaiming g) own may told done = steps_all g told done
 
   module _ (course : Course V same hash batch_size roots slot_of) where
-    abbrev To : Reached V same hash batch_size roots slot_of → State K V S → Type 0
+    abbrev pub To : Reached V same hash batch_size roots slot_of → State K V S → Type 0
     To x state = IsOfStage hash same batch_size roots x.0 state.now × (state.told ≡ x.1)
 
     played_on : (doings : List (Doing K V S)) (x y : Reached V same hash batch_size roots slot_of) (state : State K V S) → To x state
@@ -168,7 +168,7 @@ module _ {K V S : Type 0} (same : K → K → Bool) (hash : S → K → ℕ) (ba
         let rest = played_on doings next y to.0 (to.2, to.3 ∙ ap (λ (l : List (Answer K V)). l ++ course.told x.0 doing may ∷ []) so.1) led others in
         (rest.0, ap (λ (o : Option (State K V S)). then_on o (play_all same hash batch_size roots aborts doings)) to.1 ∙ rest.1, rest.2, rest.3)
 
-    at_first_so : To (nothing_done V same hash batch_size roots slot_of course) (first_state roots)
+    pub at_first_so : To (nothing_done V same hash batch_size roots slot_of course) (first_state roots)
     at_first_so = (
       record {
         scene = record { memory = refl; maps = λ m. refl; calls = λ m i. refl; makers = λ i. refl; enders = λ i. refl; between = λ i rest. refl; calling = λ m i u has. absurd (cc has) };
