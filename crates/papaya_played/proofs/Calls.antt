@@ -32,7 +32,8 @@ use Rattle.papaya_acts.specs.Leads.{AllStand, CallCame, Led, MayBe}
 use Rattle.papaya_acts.proofs.Calls.{ready_is}
 use Rattle.papaya_acts.proofs.Lists.{all_may_step}
 use Rattle.papaya_named.specs.Machines.{machine_for}
-use Rattle.papaya_played.specs.Play.{Calling, Now, State, call_asked, call_begun, call_for, call_stepped, call_stopped, call_told, going, keeps, play_act, step_call}
+use Rattle.papaya_named.specs.Seen.{kind_of}
+use Rattle.papaya_played.specs.Play.{Calling, Now, State, begun_call, call_asked, call_begun, call_for, call_stepped, call_stopped, call_told, going, keeps, play_act, reply_for, step_call, told_call}
 use Rattle.papaya_played.specs.Reached.{IsOf, row_or_rests, stands_so}
 use Rattle.papaya_played.proofs.Alike.{both_at, its_call, none_rests, others_call, set_up_so, there_too}
 
@@ -62,7 +63,7 @@ machine_at c = c.machine
 goes_so : {K V : Type 0} (c : Calling K V) (machine : Machine K V K) (told : Progress (Node K V)) → option_map machine_at (going c machine told) ≡ going_on machine told
 goes_so {K} {V} c machine told = by (has_ended told)
   where
-    by : (ended : Bool) → option_map (machine_at {K = K} {V = V}) (if ended then None else Some (record c { machine = machine; value = keeps _ told c.value })) ≡ (if ended then None else Some machine)
+    by : (ended : Bool) → option_map (machine_at {K = K} {V = V}) (if ended then None else Some (record c { machine = machine; value = keeps (kind_of c.call) told c.value })) ≡ (if ended then None else Some machine)
     by true = refl
     by false = refl
 
@@ -139,7 +140,7 @@ module _ {K V S : Type 0} (same : K → K → Bool) (hash : S → K → ℕ) (ba
           let idle = none_rests (x.now.rows i) (is.between i free.no_call ∙ rests_is (s.world.row i) rest) in (
             y,
             ap (option_map (call_begun i m hash (call_for wanted) x)) at.1,
-            call_alone (Some (begun same slot_of standing i wanted)) (y.now.calls m i) machine (λ none. absurd (cc none)) idle comes,
+            call_alone (Some (begun same slot_of standing i wanted)) (Some (begun_call i m hash (call_for wanted) at.0)) machine (λ none. absurd (cc none)) idle comes,
             says Nothing told none,
             refl,
           )
@@ -196,7 +197,7 @@ module _ {K V S : Type 0} (same : K → K → Bool) (hash : S → K → ℕ) (ba
           let y = call_told i m aborts reply x it.0 in (
             y,
             ap (option_map (call_told i m aborts reply x)) it.1,
-            call_alone (Some next) (y.now.calls m i) (ap (λ (v : Machine K V K). Some (machine_replied v reply).0) it.2 ∙ ap Some (sym machine_is)) (λ none. absurd (cc none))
+            call_alone (Some next) (Some (told_call (machine_replied it.0.machine reply) (reply_for aborts reply) it.0)) (ap (λ (v : Machine K V K). Some (machine_replied v reply).0) it.2 ∙ ap Some (sym machine_is)) (λ none. absurd (cc none))
                 (is.calling m i u here) comes,
             says (OfReply (machine_replied it.0.machine reply).1) told (told_is ∙ ap (λ (v : Machine K V K). OfReply (machine_replied v reply).1) (sym it.2)),
             refl,
@@ -208,7 +209,7 @@ module _ {K V S : Type 0} (same : K → K → Bool) (hash : S → K → ℕ) (ba
           let y = call_asked i m x it.0 in (
             y,
             ap (option_map (call_asked i m x)) it.1,
-            call_alone (Some next) (y.now.calls m i) (ap (λ (v : Machine K V K). Some (machine_asked v).0) it.2 ∙ ap Some (sym machine_is)) (λ none. absurd (cc none))
+            call_alone (Some next) (Some (record it.0 { machine = (machine_asked it.0.machine).0 })) (ap (λ (v : Machine K V K). Some (machine_asked v).0) it.2 ∙ ap Some (sym machine_is)) (λ none. absurd (cc none))
                 (is.calling m i u here) comes,
             says (OfAsking (machine_asked it.0.machine).1) told (told_is ∙ ap (λ (v : Machine K V K). OfAsking (machine_asked v).1) (sym it.2)),
             refl,

@@ -188,6 +188,10 @@ keeps kind progress value = value
 abbrev pub going : {K V : Type 0} → Calling K V → Machine K V K → CallProgress (Node K V) → Option (Calling K V)
 going c machine told = if has_ended told then None else Some (record c { machine = machine; value = keeps (kind_of c.call) told c.value })
 
+-- one that takes a reply goes on by it, and one that does not take it as it was
+abbrev pub told_call : {K V : Type 0} → Machine K V K × Result Unit (Told V) → Reply V → Calling K V → Calling K V
+told_call to reply c = record c { machine = to.0; value = if is_ok to.1 then aborted_by reply else c.value }
+
 -- of this caller, on this map
 module _ {K V S : Type 0} (i m : ℕ) where
   abbrev pub begun_call : (S → K → ℕ) → Call K V → Setting × S → Calling K V
@@ -200,10 +204,6 @@ module _ {K V S : Type 0} (i m : ℕ) where
   call_stepped c changed s p =
       worked (acting.Call i m) changed (Steps i) (outcome_of (known_after (acting.Call i m) changed s.known) (kind_of c.call) c.value p.1.1) (OfCall p.1.1)
       (record s.now { memory = p.0; calls = with_call s.now.calls m i (going c p.1.0 p.1.1) }) s
-
-  -- one that takes a reply goes on by it, and one that does not take it as it was
-  abbrev pub told_call : Machine K V K × Result Unit (Told V) → Reply V → Calling K V → Calling K V
-  told_call to reply c = record c { machine = to.0; value = if is_ok to.1 then aborted_by reply else c.value }
 
   abbrev pub call_told : V → Told V → State K V S → Calling K V → State K V S
   call_told aborts told s c =
@@ -256,6 +256,13 @@ settled_outcome settled.Done = outcome.Done
 settled_outcome settled.Waits = outcome.Waits
 settled_outcome _ = outcome.Goes
 
+-- an end goes on, or is over
+abbrev pub ended_on : {T : Type 0} → Ending → EndMap → Settled T → Option Ending
+ended_on f machine told = if is_over told then None else Some (record f { machine = machine })
+
+abbrev pub ending_deed : {K V T : Type 0} → Ending → Settled T → Deed K V
+ending_deed f told = if is_over told then MapGoes f.map f.machine.setting.root else Works (Some f.map)
+
 module _ {K V S : Type 0} (i : ℕ) where
   abbrev pub making_begun : ℕ → ℕ → S → Setting → ℕ → State K V S → State K V S
   making_begun roots map hasher given places s =
@@ -274,12 +281,6 @@ module _ {K V S : Type 0} (i : ℕ) where
   abbrev pub ending_begun : ℕ → State K V S → Setting × S → State K V S
   ending_begun m s at =
       began (record s.now { maps = with_at s.now.maps m None; enders = with_at s.now.enders i (Some (record { map = m; machine = ending at.0 false })) }) s
-
-  abbrev pub ended_on : Ending → EndMap → Settled (Node K V) → Option Ending
-  ended_on f machine told = if is_over told then None else Some (record f { machine = machine })
-
-  abbrev pub ending_deed : Ending → Settled (Node K V) → Deed K V
-  ending_deed f told = if is_over told then MapGoes f.map f.machine.setting.root else Works (Some f.map)
 
   abbrev pub ending_stepped : Ending → Changed → State K V S → Mem (Node K V) × (EndMap × Settled (Node K V)) → State K V S
   ending_stepped f changed s p =
@@ -338,6 +339,10 @@ row_on after rows_tell.Waits = Some after
 row_on after (rows_tell.Gave value) = Some after
 row_on after told = None
 
+-- who reclaims all goes on, or is over
+abbrev pub all_on : {T : Type 0} → ReclaimAll → Settled T → Option ReclaimAll
+all_on c told = if is_over told then None else Some c
+
 module _ {K V S : Type 0} where
   abbrev pub row_begun : ℕ → ℕ → State K V S → SlotCall → State K V S
   row_begun batch_size i s called = began (record s.now { rows = with_at s.now.rows i (Some (begun_row (slot_of i) batch_size called)) }) s
@@ -350,9 +355,6 @@ module _ {K V S : Type 0} where
 
   abbrev pub all_begun : ReclaimAll → State K V S → State K V S
   all_begun c s = began (record s.now { all = Some c }) s
-
-  abbrev pub all_on : ReclaimAll → Settled (Node K V) → Option ReclaimAll
-  all_on c told = if is_over told then None else Some c
 
   abbrev pub all_stepped : Changed → State K V S → Mem (Node K V) × (ReclaimAll × Settled (Node K V)) → State K V S
   all_stepped changed s p =
