@@ -32,7 +32,7 @@ use Rattle.papaya_played.specs.Reached.{IsOfStage, IsOnOwn}
 use Rattle.papaya_played.proofs.All.{at_first_so, plays_on}
 
 -- Keys have a hash by each hasher, and each map has one by its number.
-module _ {K V S : Type 0} (same : K → K → Bool) (by_hasher : S → K → ℕ) (hash : ℕ → K → ℕ) (batch_size roots : ℕ) where
+module _ {K S : Type 0} (V : Type 0) (same : K → K → Bool) (by_hasher : S → K → ℕ) (hash : ℕ → K → ℕ) (batch_size roots : ℕ) where
   abbrev pub At : Type 0
   At = Stage V same by_hasher batch_size roots slot_of
 

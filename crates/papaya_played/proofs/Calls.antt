@@ -5,7 +5,7 @@ use Rattle.std.proofs.Common.{◌≡◌, ℕ, Bool, true, false, List, [], ◌�
 use Rattle.std.proofs.lemmas.Bool.{cases_eq}
 use Rattle.papaya_scenes.specs.Given.SeizeWords.Mem.{Mem}
 use Rattle.papaya_scenes.specs.Given.SeizeWords.Plan.{Plan}
-use Rattle.papaya_scenes.specs.Given.Seize.World.{World, Rests}
+use Rattle.papaya_scenes.specs.Given.Seize.World.{World, Rests, with_at}
 use Rattle.seize_acts.specs.Answers.{Grant, stepped, then_on}
 use Rattle.seize_acts.proofs.Begun.{rests_is}
 use Rattle.papaya_scenes.specs.Given.Tables.declared.node.Node.{Node}
@@ -106,7 +106,7 @@ module _ {K V S : Type 0} (same : K → K → Bool) (hash : S → K → ℕ) (ba
         memory = memory;
         maps = λ k. is.maps k ∙ maps k;
         calls = λ k j. both_at (λ (f : ℕ → Option (Calling K V)). option_map machine_at (f j)) (λ (f : ℕ → Option (UnderWay K V K)). option_map machine_of (f j)) x.now.calls s.calls m
-            (with_at x.now.calls m i c) (with_at s.calls m i u)
+            (with_at (x.now.calls m) i c) (with_at (s.calls m) i u)
             (both_at (option_map machine_at) (option_map machine_of) (x.now.calls m) (s.calls m) i c u machine (is.calls m) j) (λ l. is.calls l j) k;
         makers = is.makers;
         enders = is.enders;

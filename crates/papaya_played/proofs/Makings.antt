@@ -1,6 +1,6 @@
 -- Makings and ends of maps that are played come to where they have led.
 use Rattle.std.specs.Prelude.{◌++◌, Option, Some, None, option_map}
-use Rattle.std.proofs.Common.{◌≡◌, ℕ, Bool, List, [], ◌∷◌, refl, ap, sym, subst, ◌∙◌}
+use Rattle.std.proofs.Common.{◌≡◌, ℕ, Bool, false, List, [], ◌∷◌, refl, ap, sym, subst, ◌∙◌}
 use Rattle.papaya_scenes.specs.Given.SeizeWords.Mem.{Mem}
 use Rattle.papaya_scenes.specs.Given.SeizeWords.Plan.{Plan}
 use Rattle.papaya_scenes.specs.Given.Seize.World.{World, Row, with_at}

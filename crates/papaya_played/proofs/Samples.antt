@@ -63,6 +63,7 @@ made =
     ∷ []
 
 making_is : history_of makes ≡ Some made
+unfolding lib.Count.count_leading_zeros
 making_is = refl
 
 -- It takes slot 0, and enters it.
@@ -78,6 +79,7 @@ entered =
     ∷ made
 
 entering_is : history_of enters ≡ Some entered
+unfolding lib.Count.count_leading_zeros
 entering_is = refl
 
 -- It stores the value 50 with the key 5, in the block 3.
@@ -96,6 +98,7 @@ stored =
     ∷ entered
 
 storing_is : history_of stores ≡ Some stored
+unfolding lib.Count.count_leading_zeros
 storing_is = refl
 
 -- It finds it.
@@ -106,6 +109,7 @@ abbrev found : List (Entry ℕ ℕ)
 found = entry (Steps 0) (Answered (answer.Found 1)) [] ∷ entry (Steps 0) Goes [] ∷ entry (Begins 0 0 0 (On (one.Get 5))) Goes [] ∷ stored
 
 finding_is : history_of finds ≡ Some found
+unfolding lib.Count.count_leading_zeros
 finding_is = refl
 
 -- Wrong: a block that is no block's number, a step of nothing, and a call on a map that is not there yet.

@@ -32,20 +32,21 @@ rows_beside (Some it) rows = λ i. Rests
 abbrev pub made_so : {K : Type 0} → Beginning K → ℕ × ((K → ℕ) × NewMap)
 made_so b = (b.map, (b.hash, b.machine))
 
-module _ {K V S : Type 0} (hash : S → K → ℕ) where
+module _ {K S : Type 0} (hash : S → K → ℕ) where
   abbrev pub makes_so : Making S → ℕ × ((K → ℕ) × NewMap)
   makes_so b = (b.map, (hash b.hasher, b.machine))
 
   abbrev pub stands_so : Setting × S → Setting × (K → ℕ)
   stands_so at = (at.0, hash at.1)
 
+module _ {K V S : Type 0} (hash : S → K → ℕ) where
   -- What is under way is that of a scene, with such rows between calls: it has the memory, what callers know of the maps, and the machines of calls, makings and ends.
   -- A caller that has a call has no row beside it.
   pub record IsOf (s : Scene K V) (rows : ℕ → Row) (x : Now K V S) : Type 0 where
     pub memory : x.memory ≡ s.world.memory
-    pub maps : (m : ℕ) → option_map stands_so (x.maps m) ≡ option_map set_up (s.maps m)
+    pub maps : (m : ℕ) → option_map (stands_so hash) (x.maps m) ≡ option_map set_up (s.maps m)
     pub calls : (m i : ℕ) → option_map (λ c. c.machine) (x.calls m i) ≡ option_map machine_of (s.calls m i)
-    pub makers : (i : ℕ) → option_map makes_so (x.makers i) ≡ option_map made_so (s.makers i)
+    pub makers : (i : ℕ) → option_map (makes_so hash) (x.makers i) ≡ option_map made_so (s.makers i)
     pub enders : (i : ℕ) → option_map (λ f. f.machine) (x.enders i) ≡ option_map (λ f. f.machine) (s.enders i)
     pub between : (i : ℕ) → HasNoCall s i → row_or_rests (x.rows i) ≡ rows i
     pub calling : (m i : ℕ) (u : UnderWay K V K) → s.calls m i ≡ Some u → x.rows i ≡ None
