@@ -136,7 +136,7 @@ module _ {K V S : Type 0} (same : K → K → Bool) (hash : S → K → ℕ) (ba
       begins wanted (free, rest, within, stands_there, few) told (standing, stands, none, comes) =
           let at = there_too (stands_so hash) set_up (x.now.maps m) (s.maps m) (is.maps m) standing stands in
           let y = call_begun i m hash (call_for wanted) x at.0 in
-          let machine = ap (λ (p : Setting × (K → ℕ)). machine_for (in_slot p.0 (slot_of i)) p.1 (call_for wanted)) at.2 ∙ begins_with same standing i wanted in
+          let machine = ap (λ (p : Setting × (K → ℕ)). Some (machine_for (in_slot p.0 (slot_of i)) p.1 (call_for wanted))) at.2 ∙ ap Some (begins_with same standing i wanted) in
           let idle = none_rests (x.now.rows i) (is.between i free.no_call ∙ rests_is (s.world.row i) rest) in (
             y,
             ap (option_map (call_begun i m hash (call_for wanted) x)) at.1,
