@@ -163,14 +163,25 @@ fn map_answers_so(alloc: Global) -> Result<bool, Fault> {
 /// Whether nothing is taken out of a map that was just made with a table.
 fn takes_nothing_out(alloc: Global) -> Result<bool, Fault> {
     let mut map = Map::with_capacity(alloc, 100)?;
-    let so = takes_out(&mut map, 7) == None && takes_both_out(&mut map, 7, 8) == (None, None);
-    Ok(so && map.is_empty())
+    Ok(takes_out(&mut map, 7) == None && map.is_empty())
 }
 
-/// Nor out of one with none.
+/// Nor twice in turn.
+fn takes_neither_out(alloc: Global) -> Result<bool, Fault> {
+    let mut map = Map::with_capacity(alloc, 100)?;
+    Ok(takes_both_out(&mut map, 7, 8) == (None, None) && map.is_empty())
+}
+
+/// Nor out of one with no table.
 fn is_emptied(alloc: Global) -> Result<bool, Fault> {
     let mut map = Map::new(alloc)?;
     empties(&mut map);
+    Ok(map.is_empty())
+}
+
+/// Nor out of one that was emptied.
+fn none_is_left(alloc: Global) -> Result<bool, Fault> {
+    let mut map = Map::new(alloc)?;
     Ok(empties_and_takes_out(&mut map, 7) == None && map.is_empty())
 }
 
@@ -205,6 +216,9 @@ fn answers_lend_what_was_met(rt: HostRuntime) {
 
 #[test]
 fn removals_are_done_where_none_is_behind_the_first_table(rt: HostRuntime) {
-    assert!(rt; takes_nothing_out(rt.alloc()) == Ok(true) && is_emptied(rt.alloc()) == Ok(true));
+    assert!(rt;
+        takes_nothing_out(rt.alloc()) == Ok(true) && takes_neither_out(rt.alloc()) == Ok(true)
+    );
+    assert!(rt; is_emptied(rt.alloc()) == Ok(true) && none_is_left(rt.alloc()) == Ok(true));
     assert!(rt; pairs_are_taken_once(rt.alloc()) == Ok(true));
 }
