@@ -31,6 +31,7 @@ impl<'a, T: Defers + Drop> Registration<'a, T> {
 
     /// Opens a section of the slot. Where a guard was forgotten its section ends first.
     pub fn enter<'r>(&'r mut self) -> LocalGuard<'r, 'a, T>
+        ensures inside { result.registration.now.stay.inside ≡ true }
         ensures slot { result.registration.now.stay.slot ≡ self.old.stay.slot }
         ensures fresh { result.registration.now.stay.seen ≡ 0 }
     {
@@ -42,7 +43,6 @@ impl<'a, T: Defers + Drop> Registration<'a, T> {
 /// A section that is open as long as this lives. What it has seen is there until its next step. It stays on its thread.
 pub struct LocalGuard<'r, 'a, T: Defers + Drop> {
     registration: &'r mut Registration<'a, T>,
-    ghost within: { registration.now.stay.inside ≡ true },
 }
 
 impl<'r, 'a, T: Defers + Drop> LocalGuard<'r, 'a, T> {
@@ -56,6 +56,7 @@ impl<'r, 'a, T: Defers + Drop> LocalGuard<'r, 'a, T> {
     /// Ends the section and begins the next one. A value that is reclaimed is dropped.
     pub fn refresh(&mut self)
         ensures slot { self.new.registration.now.stay.slot ≡ self.old.registration.now.stay.slot }
+        ensures inside { self.new.registration.now.stay.inside ≡ true }
         ensures fresh { self.new.registration.now.stay.seen ≡ 0 }
     {
         self.registration.stay.refreshes();
@@ -64,6 +65,7 @@ impl<'r, 'a, T: Defers + Drop> LocalGuard<'r, 'a, T> {
     /// Looks which value is at a root, and tells whether one is.
     pub fn see(&mut self, root: u64) -> bool
         ensures slot { self.new.registration.now.stay.slot ≡ self.old.registration.now.stay.slot }
+        ensures inside { self.new.registration.now.stay.inside ≡ self.old.registration.now.stay.inside }
         ensures seen { result ≡ true → self.new.registration.now.stay.seen ≢ 0 }
     {
         self.registration.stay.sees(root)
@@ -82,6 +84,7 @@ impl<'r, 'a, T: Defers + Drop> LocalGuard<'r, 'a, T> {
     pub fn put(&mut self, root: u64, value: T) -> Result<(), T>
         requires plain { T.defers value ≡ None }
         ensures slot { self.new.registration.now.stay.slot ≡ self.old.registration.now.stay.slot }
+        ensures inside { self.new.registration.now.stay.inside ≡ true }
         ensures fresh { self.new.registration.now.stay.seen ≡ 0 }
         ensures back { IfErr result (λ back. back ≡ value) }
     {
@@ -91,6 +94,7 @@ impl<'r, 'a, T: Defers + Drop> LocalGuard<'r, 'a, T> {
     /// Takes the value from a root, and retires it; tells whether there was one. The section is begun anew.
     pub fn clear(&mut self, root: u64) -> bool
         ensures slot { self.new.registration.now.stay.slot ≡ self.old.registration.now.stay.slot }
+        ensures inside { self.new.registration.now.stay.inside ≡ true }
         ensures fresh { self.new.registration.now.stay.seen ≡ 0 }
     {
         self.registration.stay.clears(root)
@@ -99,6 +103,7 @@ impl<'r, 'a, T: Defers + Drop> LocalGuard<'r, 'a, T> {
     /// Tries the slot's batch, whatever its length. A value that is reclaimed is dropped. What it has seen it doesn't know any more.
     pub fn flush(&mut self)
         ensures slot { self.new.registration.now.stay.slot ≡ self.old.registration.now.stay.slot }
+        ensures inside { self.new.registration.now.stay.inside ≡ self.old.registration.now.stay.inside }
         ensures fresh { self.new.registration.now.stay.seen ≡ 0 }
     {
         self.registration.stay.flushes();

@@ -64,14 +64,13 @@ impl<'a, T: Defers + Drop> Stay<'a, T> {
         self.seen = 0;
     }
 
-    /// Looks within the section which block is at a root, and tells whether one is. Where there is such a root, what was seen before is not known any more.
+    /// Looks which block is at a root, and tells whether one is, where its section is open. What was seen before is not known any more, if there is such a root.
     pub(crate) fn sees(&mut self, root: u64) -> bool
-        requires inside { self.old.inside ≡ true }
         ensures slot { self.new.slot ≡ self.old.slot }
-        ensures inside { self.new.inside ≡ true }
+        ensures inside { self.new.inside ≡ self.old.inside }
         ensures seen { result ≡ true → self.new.seen ≢ 0 }
     {
-        if root >= self.roots {
+        if !self.inside || root >= self.roots {
             return false;
         }
         match self.caller.see(self.slot, root) {
