@@ -130,7 +130,7 @@ module _ {T : Type 0} (defers : T → Option ℕ) (fixed : Fixed) (s : State T (
         plain = plain_same m here.1;
         passes = passes_one defers fixed s id t (Makes id value words) n (λ j. tt)
             (out, m, subst (λ (o : Option ℕ). HasListWord defers o words) (sym list) tt, here, refl) (plain_same m here.1);
-      }) (told defers (Inside t Nothing) op out) (Nothing, refl, refl)
+      }) (told defers (Inside t Nothing) op out) (Nothing, (took.0, refl), refl)
   makes none value words list (Found x) m took = absurd took.0
   makes none value words list Stored m took = absurd took.0
   makes none value words list (Exchanged x) m took = absurd took.0

@@ -32,7 +32,7 @@ cut_in word = if block_in word == 0 then Nothing else Cut (block_in word)
 -- what a seat within a section comes to know: it makes a block, takes it away again, or puts it at a root; sees what a root names, or takes it from there
 abbrev pub has_told : {T : Type 0} → Has → Op T → Out T → Has → Type 0
 has_told Nothing (Make value words) (OutMade (Ok b)) after = (b < 2 ^ 53) × (after ≡ Made b)
-has_told Nothing (Make value words) (OutMade (Err back)) after = after ≡ Nothing
+has_told Nothing (Make value words) (OutMade (Err back)) after = (back ≡ value) × (after ≡ Nothing)
 has_told (Made b) (Take c) (Taken value) after = after ≡ Nothing
 has_told (Made b) (Swap (Root r) word) (Found old) after = after ≡ cut_in old
 has_told Nothing (Swap (Root r) word) (Found old) after = after ≡ cut_in old
