@@ -114,9 +114,9 @@ logs_grow K V same name log e known s all = record {
   kept = all.kept;
   finding = all.finding;
   sources = all.sources;
-  nexts = nexts_grow name log e (moment (e ∷ log)) s all.purposes.begun all.nexts;
-  limits = limits_grow name log e (moment (e ∷ log)) s all.purposes.begun all.limits;
-  tries = tries_grow name log e (moment (e ∷ log)) s all.purposes.begun all.tries;
+  nexts = nexts_grow name (past log) (moment (e ∷ log)) (moment (e ∷ log)) s all.purposes.begun all.nexts;
+  limits = limits_grow name (past log) (moment (e ∷ log)) (moment (e ∷ log)) s all.purposes.begun all.limits;
+  tries = tries_grow name (past log) (moment (e ∷ log)) (moment (e ∷ log)) s all.purposes.begun all.tries;
   counters = all.counters;
   uncounted = all.uncounted;
   dues = events_keep_due K V same name (past log) (moment (e ∷ log)) known s all.dues (events_are (e ∷ log));
@@ -273,9 +273,9 @@ module _ (K V : Type 0) (same : K → K → Bool) (hash : ℕ → K → ℕ) whe
           puts = puts_begun known s map i u (none_at_first same standing i u begins).1 all.finding.puts;
         };
         sources = sources_so K V same name m v known known s then_at all.sources whole.all.shown refl refl refl (λ n st is. is);
-        nexts = calls_begin_nexts same name log m s all.nexts map i u guard call standing begins none;
-        limits = calls_begin_limits same name log m s all.limits map i u guard call standing begins none;
-        tries = calls_begin_tries same name log m s all.tries map i u guard call standing begins none;
+        nexts = calls_begin_nexts same name (past log) m s all.nexts map i u guard call standing begins none;
+        limits = calls_begin_limits same name (past log) m s all.limits map i u guard call standing begins none;
+        tries = calls_begin_tries same name (past log) m s all.tries map i u guard call standing begins none;
         counters = calls_begin_counters K V name m s all.counters map i u call guard none (uncounted_at_first K V same standing i u begins);
         uncounted = all.uncounted;
         dues = calls_begin_due K V same hash name (past log) m known s old at all.dues map i u call guard standing there (began_now same standing i u begins) (unchanged same standing i u begins) none right.called
@@ -301,9 +301,9 @@ module _ (K V : Type 0) (same : K → K → Bool) (hash : ℕ → K → ℕ) whe
           puts = puts_on K V same name m (told (name i) is_told m) known s map i u here next all.whole.all.shown.calls all.kept.owed kept.owed stays goes all.finding.puts;
         };
         sources = sources_so K V same name m (told (name i) is_told m) known known s (scene_with map i next s) all.sources whole.all.shown refl refl refl (λ n st is. is);
-        nexts = calls_take_nexts same name log m s all.nexts map i u here all.whole.all.shown.calls next is_told (as_told is_told) next_is;
-        limits = calls_take_limits same name log m s all.limits map i u here all.whole.all.shown.calls next is_told (as_told is_told) next_is;
-        tries = calls_take_tries same name log m s all.tries map i u here all.whole.all.shown.calls next is_told (as_told is_told) next_is;
+        nexts = calls_take_nexts same name (past log) m s all.nexts map i u here all.whole.all.shown.calls next is_told (as_told is_told) next_is;
+        limits = calls_take_limits same name (past log) m s all.limits map i u here all.whole.all.shown.calls next is_told (as_told is_told) next_is;
+        tries = calls_take_tries same name (past log) m s all.tries map i u here all.whole.all.shown.calls next is_told (as_told is_told) next_is;
         counters = calls_take_counters K V same name m known s all.whole all.counters map i u here (as_told is_told) next next_is is_told;
         uncounted = all.uncounted;
         dues = calls_take_due K V same hash name (past log) m known s old at all.dues map i u here c c_is question asks standing there is_told next next_is takes told_kind taken;
@@ -338,9 +338,9 @@ module _ (K V : Type 0) (same : K → K → Bool) (hash : ℕ → K → ℕ) whe
     };
     sources = sources_so K V same name m m known known s (scene_with map i next s) all.sources (walks_go_on_whole K V same hash name m known s old new all.whole i leads map (OverAll o) here).all.shown refl refl refl
         (λ n st is. is);
-    nexts = walks_go_on_nexts same name log m s all.nexts map i (OverAll o) here all.whole.all.shown.calls next (leads map (OverAll o) here).1;
-    limits = walks_go_on_limits same name log m s all.limits map i (OverAll o) here all.whole.all.shown.calls next (leads map (OverAll o) here).1;
-    tries = walks_go_on_tries same name log m s all.tries map i (OverAll o) here all.whole.all.shown.calls next (leads map (OverAll o) here).1;
+    nexts = walks_go_on_nexts same name (past log) m s all.nexts map i (OverAll o) here all.whole.all.shown.calls next (leads map (OverAll o) here).1;
+    limits = walks_go_on_limits same name (past log) m s all.limits map i (OverAll o) here all.whole.all.shown.calls next (leads map (OverAll o) here).1;
+    tries = walks_go_on_tries same name (past log) m s all.tries map i (OverAll o) here all.whole.all.shown.calls next (leads map (OverAll o) here).1;
     counters = on_counters name m s map i (Some next) its all.counters;
     uncounted = all.uncounted;
     dues = (dues_stay K V same hash name (past log)).walks m known s old new at all.whole all.dues i leads map o here is;
@@ -373,9 +373,9 @@ module _ (K V : Type 0) (same : K → K → Bool) (hash : ℕ → K → ℕ) whe
     kept = kept;
     finding = fewer_find stopped kept.owed;
     sources = given_sources stopped (walks_stop_whole K V same hash name m known s old new all.whole i stopped leads map u here none).all.shown;
-    nexts = walks_stop_nexts same name log m s all.nexts map i u here all.whole.all.shown.calls u stopped none;
-    limits = walks_stop_limits same name log m s all.limits map i u here all.whole.all.shown.calls u stopped none;
-    tries = walks_stop_tries same name log m s all.tries map i u here all.whole.all.shown.calls u stopped none;
+    nexts = walks_stop_nexts same name (past log) m s all.nexts map i u here all.whole.all.shown.calls u stopped none;
+    limits = walks_stop_limits same name (past log) m s all.limits map i u here all.whole.all.shown.calls u stopped none;
+    tries = walks_stop_tries same name (past log) m s all.tries map i u here all.whole.all.shown.calls u stopped none;
     counters = by stopped none;
     uncounted = given_uncounted (name i) m stopped all.uncounted;
     dues = (dues_stay K V same hash name (past log)).walks_stop m known s old new at all.whole all.dues i stopped leads map u here none;

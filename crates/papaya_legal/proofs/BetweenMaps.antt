@@ -40,9 +40,9 @@ module _ (K V : Type 0) (same : K → K → Bool) (hash : ℕ → K → ℕ) whe
           kept = stays_kept K V name m (with_map there m) known s s all.kept refl refl refl refl refl refl refl refl refl;
           finding = finding_where same hash name m (with_map there m) known s e at still refl refl refl refl refl refl all.finding;
           sources = sources_so K V same name m (with_map there m) known known s s all.sources (maps_come_whole K V same name m known s all.whole there come.1).all.shown refl refl refl (λ n st is. is);
-          nexts = nexts_where same hash name log m (with_map there m) s e at all.nexts still refl refl;
-          limits = limits_where same hash name log m (with_map there m) s e at all.limits still refl refl;
-          tries = tries_where same hash name log m (with_map there m) s e at all.tries still (record { stored = refl; place = refl; born = refl; spot = refl }) refl refl;
+          nexts = nexts_where same hash name (past log) m (with_map there m) s e at all.nexts still refl refl;
+          limits = limits_where same hash name (past log) m (with_map there m) s e at all.limits still refl refl;
+          tries = tries_where same hash name (past log) m (with_map there m) s e at all.tries still (record { stored = refl; place = refl; born = refl; spot = refl }) refl refl;
           counters = counters_stay K V name m (with_map there m) s s all.counters refl refl refl refl refl (λ of j x is removed adds. (x, is, adds));
           uncounted = λ of low. (let l : m.made ≤ of = omega (arith, low) in all.uncounted of l);
           dues = (dues_stay K V same hash name (past log)).maps_come m known s e e at all.whole all.dues there come.1;
@@ -110,9 +110,9 @@ module _ (K V : Type 0) (same : K → K → Bool) (hash : ℕ → K → ℕ) whe
     finding = finding_where same hash name m (without_map own remains m) known s e at still refl refl refl refl refl refl all.finding;
     sources = sources_so K V same name m (without_map own remains m) known known s s all.sources (endings_are_over_whole K V same name m known s all.whole own remains all.numbers.0.found apart).all.shown refl refl refl
         (λ n st is. is);
-    nexts = nexts_where same hash name log m (without_map own remains m) s e at all.nexts still refl refl;
-    limits = limits_where same hash name log m (without_map own remains m) s e at all.limits still refl refl;
-    tries = tries_where same hash name log m (without_map own remains m) s e at all.tries still (record { stored = refl; place = refl; born = refl; spot = refl }) refl refl;
+    nexts = nexts_where same hash name (past log) m (without_map own remains m) s e at all.nexts still refl refl;
+    limits = limits_where same hash name (past log) m (without_map own remains m) s e at all.limits still refl refl;
+    tries = tries_where same hash name (past log) m (without_map own remains m) s e at all.tries still (record { stored = refl; place = refl; born = refl; spot = refl }) refl refl;
     counters = counters_stay K V name m (without_map own remains m) s s all.counters refl refl refl refl refl (λ of j x is removed adds. (x, is, adds));
     uncounted = all.uncounted;
     dues = (dues_stay K V same hash name (past log)).endings_over m known s e e at all.whole all.dues own remains apart;

@@ -83,9 +83,9 @@ call_events_begin_so K V same hash name terms log beginning begins maps tables s
   of_call = caller_is;
   event_so = events_begin K V same hash name (past log) beginning begins known s x at all.whole all.dues all.as_called map i u here c c_is;
   calls = all;
-  others = others_at_first name log i beginning s maps tables all.purposes.begun all.nexts;
-  other_limits = limits_at_first name log i beginning s maps tables all.purposes.begun all.limits;
-  other_tries = tries_at_first name log i beginning s (record { stored = sym begins.1; place = sym begins.0; born = sym born; spot = sym spot }) maps tables all.purposes.begun all.tries;
+  others = others_at_first name (past log) all.purposes.past i beginning s maps tables all.purposes.begun all.nexts;
+  other_limits = limits_at_first name (past log) all.purposes.past i beginning s maps tables all.purposes.begun all.limits;
+  other_tries = tries_at_first name (past log) all.purposes.past i beginning s (record { stored = sym begins.1; place = sym begins.0; born = sym born; spot = sym spot }) maps tables all.purposes.begun all.tries;
   tables = many_same (moment log) beginning tables;
   worked = refl;
   few = let none : 0 ≤ 0 = omega arith in none;
@@ -146,9 +146,9 @@ call_events_go_on_so K V same hash name terms log event beginning map i c steps 
     kept = calls_keep_kept K V same hash name m known s old new at whole midst.calls.kept map i u here said leads;
     finding = calls_keep_finding K V same hash name m known s old new at whole midst.calls.kept midst.calls.finding map i u here said leads;
     sources = calls_keep_sources K V same hash name m known s old new at whole midst.calls.sources map i u here said leads;
-    nexts = nexts_go_on same hash name log m known s old new at whole map i u here said leads midst.others midst.calls.nexts (whole.all.shown.calls map i u here).0 (whole.all.shown.calls map i u here).1;
-    tries = tries_go_on same hash name log m known s old new at whole map i u here said leads midst.calls.sources midst.calls.tries (whole.all.shown.calls map i u here).0 (whole.all.shown.calls map i u here).1 midst.other_tries;
-    limits = limits_go_on same hash name log m known s old new at whole map i u here said leads midst.calls.limits midst.calls.finding.capacities (whole.all.shown.calls map i u here).0 (whole.all.shown.calls map i u here).1 midst.other_limits;
+    nexts = nexts_go_on same hash name (past log) m known s old new at whole map i u here said leads midst.others midst.calls.nexts (whole.all.shown.calls map i u here).0 (whole.all.shown.calls map i u here).1;
+    tries = tries_go_on same hash name (past log) m known s old new at whole map i u here said leads midst.calls.sources midst.calls.tries (whole.all.shown.calls map i u here).0 (whole.all.shown.calls map i u here).1 midst.other_tries;
+    limits = limits_go_on same hash name (past log) m known s old new at whole map i u here said leads midst.calls.limits midst.calls.finding.capacities (whole.all.shown.calls map i u here).0 (whole.all.shown.calls map i u here).1 midst.other_limits;
     counters = calls_keep_counters K V same hash name m known s old new at whole midst.calls.kept.counts midst.calls.counters map i u here said leads;
     uncounted = calls_leave_uncounted same hash name m known s old new at whole midst.calls.kept midst.calls.counters midst.calls.uncounted map i u here said leads below;
     dues = all.1;
@@ -160,9 +160,9 @@ call_events_go_on_so K V same hash name terms log event beginning map i c steps 
         (changes_first same hash name log beginning map i c done m known s old new at said leads u midst.event_so)
         (reads_shards K V same hash name log m known s old new at whole midst.calls.counters map i u here said leads midst.unadded) none;
   };
-  others = others_go_on same hash name log m known s old new at whole map i u here said leads midst.others;
-  other_limits = limits_others same hash name log m known s old new at whole map i u here said leads midst.other_limits;
-  other_tries = tries_others same hash name log m known s old new at whole map i u here said leads midst.other_tries;
+  others = others_go_on same hash name (past log) m known s old new at whole map i u here said leads midst.others;
+  other_limits = limits_others same hash name (past log) m known s old new at whole map i u here said leads midst.other_limits;
+  other_tries = tries_others same hash name (past log) m known s old new at whole map i u here said leads midst.other_tries;
   tables = λ of. (let had = midst.tables of in let more = tables_have_been K V (Some (name i)) (Some map) effects m of in omega (arith, had, more));
   worked = ap (λ (x : Moment K V). with_effects (Some (name i)) (Some map) effects x) midst.worked ∙ sym (effects_after (Some (name i)) (Some map) done effects beginning);
   few = parts_add_up steps 1 done effects midst.few (operations_are_single (acts.Call i map) known new.changed).0;

@@ -139,9 +139,9 @@ making_events_go_on_so K V same hash name terms log event beginning done m known
           (made_at same hash s old new at i b here said leads) then_whole.all.shown;
       finding = finding_by finds;
       sources = making_sources K V same hash name m known then_known s old new i b here (Some b.map) effects aside midst.0.calls.sources midst.2 said leads then_whole.all.shown;
-      nexts = makings_keep_nexts K V same hash name log m known s old new midst.0.calls.nexts at whole i said leads b here was_new;
-      tries = makings_keep_tries K V same hash name log m known s old new midst.0.calls.sources midst.0.calls.tries at whole i said leads b here was_new (made_at same hash s old new at i b here said leads) then_whole;
-      limits = makings_keep_limits K V same hash name log m known s old new midst.0.calls.limits at whole i said leads b here was_new;
+      nexts = makings_keep_nexts K V same hash name (past log) m known s old new midst.0.calls.nexts at whole i said leads b here was_new;
+      tries = makings_keep_tries K V same hash name (past log) m known s old new midst.0.calls.sources midst.0.calls.tries at whole i said leads b here was_new (made_at same hash s old new at i b here said leads) then_whole;
+      limits = makings_keep_limits K V same hash name (past log) m known s old new midst.0.calls.limits at whole i said leads b here was_new;
       counters = makings_keep_counters K V same hash name m known s old new at whole midst.0.calls.counters i said leads b here (Some b.map);
       uncounted = none_counted None (Some b.map) effects m midst.0.calls.uncounted (none_shards (Some b.map) effects m);
       dues = (dues_stay K V same hash name (past log)).makings m known s old new at whole midst.0.calls.dues i said leads b here (Some b.map) was_new;
@@ -251,9 +251,9 @@ end_events_go_on_so K V same hash name terms log event map beginning first done 
       sources = so_aside K V same name m known then_known s (ended same hash s old new i f here said leads) None (Some map) effects
           (endings_aside same hash name m known s old new at whole i said leads f here map not_there) midst.0.calls.sources then_whole.all.shown
           (λ n st is. ap (λ (maps : ℕ → Option (Standing K)). maps n) (sym (ended_maps same hash s old new i f here said leads)) ∙ is);
-      nexts = endings_keep_nexts K V same hash name log m known s old new midst.0.calls.nexts at whole i f here said leads map not_there;
-      tries = endings_keep_tries K V same hash name log m known s old new midst.0.calls.sources midst.0.calls.tries at whole i f here said leads map not_there (ended_at same hash s old new i f here said leads) then_whole;
-      limits = endings_keep_limits K V same hash name log m known s old new midst.0.calls.limits at whole i f here said leads map not_there;
+      nexts = endings_keep_nexts K V same hash name (past log) m known s old new midst.0.calls.nexts at whole i f here said leads map not_there;
+      tries = endings_keep_tries K V same hash name (past log) m known s old new midst.0.calls.sources midst.0.calls.tries at whole i f here said leads map not_there (ended_at same hash s old new i f here said leads) then_whole;
+      limits = endings_keep_limits K V same hash name (past log) m known s old new midst.0.calls.limits at whole i f here said leads map not_there;
       counters = endings_keep_counters K V same hash name m known s old new at midst.0.calls.counters i said leads f here map;
       uncounted = none_counted None (Some map) effects m midst.0.calls.uncounted (none_shards (Some map) effects m);
       dues = (dues_stay K V same hash name (past log)).endings m known s old new at whole midst.0.calls.dues i said leads f here map not_there its;

@@ -97,9 +97,9 @@ slot_events_begin_so K V same hash name terms log known s old new at size run ev
         kept = rows_begin_kept K V same hash name m known s old new at run.calls.kept called i leads;
         finding = rows_begin_finding K V same hash name m known s old new run.calls.finding called i leads whole2;
         sources = sources_same K V same name m m known known s (scene_then same hash (Begin i request) s old new to) run.calls.sources whole2.all.shown refl refl refl to.3;
-        nexts = rows_begin_nexts K V same hash name log m known s old new run.calls.nexts called i leads;
-        tries = rows_begin_tries K V same hash name log m known s old new run.calls.sources run.calls.tries called i leads whole2;
-        limits = rows_begin_limits K V same hash name log m known s old new run.calls.limits called i leads;
+        nexts = rows_begin_nexts K V same hash name (past log) m known s old new run.calls.nexts called i leads;
+        tries = rows_begin_tries K V same hash name (past log) m known s old new run.calls.sources run.calls.tries called i leads whole2;
+        limits = rows_begin_limits K V same hash name (past log) m known s old new run.calls.limits called i leads;
         counters = rows_begin_counters K V same hash name m s old new at run.calls.counters called i leads;
         uncounted = run.calls.uncounted;
         dues = (dues_stay K V same hash name (past log)).rows_begin m known s old new at run.calls.whole run.calls.dues called i leads;
@@ -128,9 +128,9 @@ slot_events_go_on_so K V same hash name terms log event i called first began don
     finding = rows_keep_finding K V same hash name m known s old new at whole midst.calls.finding i said leads row here whole2;
     sources = same_maps_aside K V same name m known (known_after acts.Row new.changed known) s (scene_then same hash (Step i) s old new (leads row here).2) None None effects
         (rows_aside same hash name m known s old new at i said leads row here) midst.calls.sources whole2.all.shown (leads row here).2.3;
-    nexts = rows_keep_nexts K V same hash name log m known s old new midst.calls.nexts at whole i said leads row here;
-    tries = rows_keep_tries K V same hash name log m known s old new midst.calls.sources midst.calls.tries at whole i said leads row here whole2;
-    limits = rows_keep_limits K V same hash name log m known s old new midst.calls.limits at whole i said leads row here;
+    nexts = rows_keep_nexts K V same hash name (past log) m known s old new midst.calls.nexts at whole i said leads row here;
+    tries = rows_keep_tries K V same hash name (past log) m known s old new midst.calls.sources midst.calls.tries at whole i said leads row here whole2;
+    limits = rows_keep_limits K V same hash name (past log) m known s old new midst.calls.limits at whole i said leads row here;
     counters = rows_keep_counters K V same hash name m known s old new at whole midst.calls.counters i said leads row here;
     uncounted = none_counted None None effects m midst.calls.uncounted (none_shards None effects m);
     dues = (dues_stay K V same hash name (past log)).rows m known s old new at whole midst.calls.dues i said leads row here found.0;

@@ -74,11 +74,11 @@ module _ {K V : Type 0} (same : K → K → Bool) (name : ℕ → List ℕ) (ter
     pub event_so : InEvent same name (past log) beginning map i c done m known s u
     pub calls : ShowsCalls same name log m known s
     -- where the copier of another call makes a table its map had a second one at a moment of the log
-    pub others : OthersHadNext name log i m s
+    pub others : OthersHadNext name (past log) i m s
     -- and where it can have no further table one at the limit
-    pub other_limits : OthersHadLimit name log i m s
+    pub other_limits : OthersHadLimit name (past log) i m s
     -- what each other one has met at tries it has met at moments of the log, and no map has fewer tables than then
-    pub other_tries : OthersHadTried name log i m s
+    pub other_tries : OthersHadTried name (past log) i m s
     pub tables : (of : ℕ) → many_of of (moment log) ≤ many_of of m
     pub worked : m ≡ with_effects (Some (name i)) (Some map) done beginning
     -- steps: each did one thing at most, and had what it made granted; a lookup has read so many words

@@ -52,9 +52,9 @@ pub record ShowsCalls {K V : Type 0} (same : K → K → Bool) (name : ℕ → L
   pub numbers : NumbersMaps m × PairsAreBelow m
   pub kept : ShowsKept name m known s
   pub finding : ShowsFinding name m known s
-  pub nexts : ShowsNexts name log m s
-  pub limits : ShowsLimits name log m s
-  pub tries : ShowsTries name log m s
+  pub nexts : ShowsNexts name (past log) m s
+  pub limits : ShowsLimits name (past log) m s
+  pub tries : ShowsTries name (past log) m s
   pub sources : ShowsSources same name m known s
   pub counters : ShowsCounters name m s
   pub uncounted : NoneCounted m
