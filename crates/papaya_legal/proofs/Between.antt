@@ -9,7 +9,6 @@ use Rattle.papaya_grows.specs.Given.Sweeps.declared.sweep.Sweeping.TheVariants a
 use Rattle.papaya_grows.specs.Given.Raw.declared.machines.machine.Machine.{Machine}
 use Rattle.papaya_grows.specs.Given.Points.FactsCalls.{Unchanged}
 use Rattle.papaya_grows.specs.Given.Schedules.declared.effect.Thing.TheVariants.{APair}
-use Rattle.papaya_grows.specs.Given.Schedules.After.{moment}
 use Rattle.papaya_grows.specs.Given.Schedules.Beginning.{with_call}
 use Rattle.papaya_grows.specs.Given.Schedules.declared.outcome.Outcome.TheVariants.{Refused}
 use Rattle.papaya_grows.specs.Given.Schedules.Moment.{UnderWay as CallThere, Stands, Asking, Moment}
@@ -37,7 +36,6 @@ use Rattle.papaya_grows.specs.Given.Histories.Asking.{IsToldQuestion}
 use Rattle.papaya_grows.specs.Given.Histories.Histories.{ShowsHistory, began_of}
 use Rattle.papaya_grows.proofs.Given.Histories.AnyCall.Whole.{all_stays_shown}
 use Rattle.papaya_grows.proofs.Given.Histories.Aside.Stays.{as_called_stays, dues_stay}
-use Rattle.papaya_grows.proofs.Given.Histories.Logs.{events_are}
 use Rattle.papaya_grows.proofs.Given.Histories.DueOn.{calls_begin_due, calls_take_due, events_keep_due}
 use Rattle.papaya_grows.proofs.Given.Histories.NoKey.AsCalledOn.{calls_begin_as_called, calls_take_as_called}
 use Rattle.papaya_grows.proofs.Given.Histories.Questions.{calls_begin_questions, calls_come_to_questions, calls_take_questions}
@@ -86,10 +84,10 @@ likes_show K V same name log m v known s all like = subst (λ (x : Moment K V). 
   tries = all.tries;
   counters = counters_stay K V name m other s s all.counters refl refl refl refl refl (λ of j x is removed adds. (x, is, adds));
   uncounted = all.uncounted;
-  dues = (dues_stay K V same (λ n k. 0) name (past log)).alike m other known s all.dues alike;
+  dues = (dues_stay K V same (λ n k. 0) name log).alike m other known s all.dues alike;
   as_called = (as_called_stays K V same (λ n k. 0) name).alike m other known s all.as_called alike;
   questions = all.questions;
-  purposes = (purposes_stay K V same (λ n k. 0) name (past log)).alike m other known s all.purposes alike;
+  purposes = (purposes_stay K V same (λ n k. 0) name log).alike m other known s all.purposes alike;
 })
   where
     other : Moment K V
@@ -108,21 +106,21 @@ likes_show K V same name log m v known s all like = subst (λ (x : Moment K V). 
     alike = record { place = refl; born = refl; stored = refl; maps = refl; tables = refl; calls = refl }
 
 pub logs_grow : (K V : Type 0) (same : K → K → Bool) → LogsGrow K V same
-logs_grow K V same name log e known s all = record {
+logs_grow K V same name log m known s all counted = record {
   whole = all.whole;
   numbers = all.numbers;
   kept = all.kept;
   finding = all.finding;
   sources = all.sources;
-  nexts = nexts_grow name (past log) (moment (e ∷ log)) (moment (e ∷ log)) s all.purposes.begun all.nexts;
-  limits = limits_grow name (past log) (moment (e ∷ log)) (moment (e ∷ log)) s all.purposes.begun all.limits;
-  tries = tries_grow name (past log) (moment (e ∷ log)) (moment (e ∷ log)) s all.purposes.begun all.tries;
+  nexts = nexts_grow name log m m s all.purposes.begun all.nexts;
+  limits = limits_grow name log m m s all.purposes.begun all.limits;
+  tries = tries_grow name log m m s all.purposes.begun all.tries;
   counters = all.counters;
   uncounted = all.uncounted;
-  dues = events_keep_due K V same name (past log) (moment (e ∷ log)) known s all.dues (events_are (e ∷ log));
+  dues = events_keep_due K V same name log m known s all.dues counted;
   as_called = all.as_called;
   questions = all.questions;
-  purposes = events_keep_purposes K V same name (past log) (moment (e ∷ log)) known s all.purposes (events_are (e ∷ log));
+  purposes = events_keep_purposes K V same name log m known s all.purposes counted;
 }
 
 -- a call by another name is that by its name
@@ -175,7 +173,7 @@ names_change K V same name name2 log m known s agree all = record {
     as_named : (map i : ℕ) (u : UnderWay K V K) → s.calls map i ≡ Some u → (c : CallThere K V) → call_of (name2 i) m ≡ Some c → call_of (name i) m ≡ Some c
     as_named map i u is c c_is = named_as name name2 m s agree map i u is c c_is
 
-    history : ShowsHistory same name2 (past log) m known s
+    history : ShowsHistory same name2 log m known s
     history = record {
       past = all.dues.history.past;
       shown = shows same name name2 m known s agree all.dues.history.shown;
@@ -257,7 +255,7 @@ module _ {K V : Type 0} (own : List ℕ) (m : Moment K V) where
 module _ (K V : Type 0) (same : K → K → Bool) (hash : ℕ → K → ℕ) where
   pub calls_begin : CallsBegin K V same hash
   calls_begin name log known s old new at all map i standing there u call guard begins right none rests at2 =
-      let m = moment log in
+      let m = log.now in
       let v = with_call (name i) guard call (Some map) m in
       let then_at = scene_with map i u s in
       let whole = calls_begin_whole K V same name m known s all.whole map i u call guard none right.called right.given rests in
@@ -273,16 +271,16 @@ module _ (K V : Type 0) (same : K → K → Bool) (hash : ℕ → K → ℕ) whe
           puts = puts_begun known s map i u (none_at_first same standing i u begins).1 all.finding.puts;
         };
         sources = sources_so K V same name m v known known s then_at all.sources whole.all.shown refl refl refl (λ n st is. is);
-        nexts = calls_begin_nexts same name (past log) m s all.nexts map i u guard call standing begins none;
-        limits = calls_begin_limits same name (past log) m s all.limits map i u guard call standing begins none;
-        tries = calls_begin_tries same name (past log) m s all.tries map i u guard call standing begins none;
+        nexts = calls_begin_nexts same name log m s all.nexts map i u guard call standing begins none;
+        limits = calls_begin_limits same name log m s all.limits map i u guard call standing begins none;
+        tries = calls_begin_tries same name log m s all.tries map i u guard call standing begins none;
         counters = calls_begin_counters K V name m s all.counters map i u call guard none (uncounted_at_first K V same standing i u begins);
         uncounted = all.uncounted;
-        dues = calls_begin_due K V same hash name (past log) m known s old at all.dues map i u call guard standing there (began_now same standing i u begins) (unchanged same standing i u begins) none right.called
-            right.given (events_are log);
+        dues = calls_begin_due K V same hash name log m known s old at all.dues map i u call guard standing there (began_now same standing i u begins) (unchanged same standing i u begins) none right.called
+            right.given all.purposes.past.counted;
         as_called = calls_begin_as_called K V same name m known s all.as_called map i u call guard none right.called right.swept;
         questions = calls_begin_questions K V (name i) guard call (Some map) m all.questions;
-        purposes = calls_begin_purposes K V same hash name (past log) m known s old at all.purposes map i u call guard standing there begins none right.called right.aim (events_are log) refl;
+        purposes = calls_begin_purposes K V same hash name log m known s old at all.purposes map i u call guard standing there begins none right.called right.aim all.purposes.past.counted refl;
       }
 
   pub calls_take : CallsTake K V same hash
@@ -301,15 +299,15 @@ module _ (K V : Type 0) (same : K → K → Bool) (hash : ℕ → K → ℕ) whe
           puts = puts_on K V same name m (told (name i) is_told m) known s map i u here next all.whole.all.shown.calls all.kept.owed kept.owed stays goes all.finding.puts;
         };
         sources = sources_so K V same name m (told (name i) is_told m) known known s (scene_with map i next s) all.sources whole.all.shown refl refl refl (λ n st is. is);
-        nexts = calls_take_nexts same name (past log) m s all.nexts map i u here all.whole.all.shown.calls next is_told (as_told is_told) next_is;
-        limits = calls_take_limits same name (past log) m s all.limits map i u here all.whole.all.shown.calls next is_told (as_told is_told) next_is;
-        tries = calls_take_tries same name (past log) m s all.tries map i u here all.whole.all.shown.calls next is_told (as_told is_told) next_is;
+        nexts = calls_take_nexts same name log m s all.nexts map i u here all.whole.all.shown.calls next is_told (as_told is_told) next_is;
+        limits = calls_take_limits same name log m s all.limits map i u here all.whole.all.shown.calls next is_told (as_told is_told) next_is;
+        tries = calls_take_tries same name log m s all.tries map i u here all.whole.all.shown.calls next is_told (as_told is_told) next_is;
         counters = calls_take_counters K V same name m known s all.whole all.counters map i u here (as_told is_told) next next_is is_told;
         uncounted = all.uncounted;
-        dues = calls_take_due K V same hash name (past log) m known s old at all.dues map i u here c c_is question asks standing there is_told next next_is takes told_kind taken;
+        dues = calls_take_due K V same hash name log m known s old at all.dues map i u here c c_is question asks standing there is_told next next_is takes told_kind taken;
         as_called = calls_take_as_called K V same hash name m known s old at all.whole all.as_called map i u here c c_is question asks standing there is_told next next_is takes told_kind;
         questions = calls_take_questions K V (name i) is_told m all.questions;
-        purposes = calls_take_purposes K V same hash name (past log) m known s old at all.whole all.purposes map i u here c c_is question asks (asks_about known u question about) standing there is_told next takes told_kind;
+        purposes = calls_take_purposes K V same hash name log m known s old at all.whole all.purposes map i u here c c_is question asks (asks_about known u question about) standing there is_told next takes told_kind;
       }
     where
       stays : in_hand known (machine_of next) ≡ in_hand known (machine_of u)
@@ -338,15 +336,15 @@ module _ (K V : Type 0) (same : K → K → Bool) (hash : ℕ → K → ℕ) whe
     };
     sources = sources_so K V same name m m known known s (scene_with map i next s) all.sources (walks_go_on_whole K V same hash name m known s old new all.whole i leads map (OverAll o) here).all.shown refl refl refl
         (λ n st is. is);
-    nexts = walks_go_on_nexts same name (past log) m s all.nexts map i (OverAll o) here all.whole.all.shown.calls next (leads map (OverAll o) here).1;
-    limits = walks_go_on_limits same name (past log) m s all.limits map i (OverAll o) here all.whole.all.shown.calls next (leads map (OverAll o) here).1;
-    tries = walks_go_on_tries same name (past log) m s all.tries map i (OverAll o) here all.whole.all.shown.calls next (leads map (OverAll o) here).1;
+    nexts = walks_go_on_nexts same name log m s all.nexts map i (OverAll o) here all.whole.all.shown.calls next (leads map (OverAll o) here).1;
+    limits = walks_go_on_limits same name log m s all.limits map i (OverAll o) here all.whole.all.shown.calls next (leads map (OverAll o) here).1;
+    tries = walks_go_on_tries same name log m s all.tries map i (OverAll o) here all.whole.all.shown.calls next (leads map (OverAll o) here).1;
     counters = on_counters name m s map i (Some next) its all.counters;
     uncounted = all.uncounted;
-    dues = (dues_stay K V same hash name (past log)).walks m known s old new at all.whole all.dues i leads map o here is;
+    dues = (dues_stay K V same hash name log).walks m known s old new at all.whole all.dues i leads map o here is;
     as_called = (as_called_stays K V same hash name).walks m known s old new at all.whole all.as_called i leads map o here is;
     questions = all.questions;
-    purposes = (purposes_stay K V same hash name (past log)).walks m known s old new at all.whole all.purposes i leads map o here is;
+    purposes = (purposes_stay K V same hash name log).walks m known s old new at all.whole all.purposes i leads map o here is;
   }
     where
       next : UnderWay K V K
@@ -373,15 +371,15 @@ module _ (K V : Type 0) (same : K → K → Bool) (hash : ℕ → K → ℕ) whe
     kept = kept;
     finding = fewer_find stopped kept.owed;
     sources = given_sources stopped (walks_stop_whole K V same hash name m known s old new all.whole i stopped leads map u here none).all.shown;
-    nexts = walks_stop_nexts same name (past log) m s all.nexts map i u here all.whole.all.shown.calls u stopped none;
-    limits = walks_stop_limits same name (past log) m s all.limits map i u here all.whole.all.shown.calls u stopped none;
-    tries = walks_stop_tries same name (past log) m s all.tries map i u here all.whole.all.shown.calls u stopped none;
+    nexts = walks_stop_nexts same name log m s all.nexts map i u here all.whole.all.shown.calls u stopped none;
+    limits = walks_stop_limits same name log m s all.limits map i u here all.whole.all.shown.calls u stopped none;
+    tries = walks_stop_tries same name log m s all.tries map i u here all.whole.all.shown.calls u stopped none;
     counters = by stopped none;
     uncounted = given_uncounted (name i) m stopped all.uncounted;
-    dues = (dues_stay K V same hash name (past log)).walks_stop m known s old new at all.whole all.dues i stopped leads map u here none;
+    dues = (dues_stay K V same hash name log).walks_stop m known s old new at all.whole all.dues i stopped leads map u here none;
     as_called = (as_called_stays K V same hash name).walks_stop m known s old new at all.whole all.as_called i stopped leads map u here none;
     questions = given_questions (name i) m stopped all.questions;
-    purposes = (purposes_stay K V same hash name (past log)).walks_stop m known s old new at all.whole all.purposes i stopped leads map u here none;
+    purposes = (purposes_stay K V same hash name log).walks_stop m known s old new at all.whole all.purposes i stopped leads map u here none;
   }
     where
       at_end : Bool → Scene K V
