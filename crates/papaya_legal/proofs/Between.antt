@@ -69,7 +69,6 @@ use Rattle.papaya_grows.proofs.Finding.Between.{asked_same, fewer_calls, none_at
 use Rattle.papaya_grows.specs.Given.Scenes.Beginning.{Begins}
 use Rattle.papaya_grows.specs.Given.Scenes.Replying.{scene_with, unless_stopped}
 use Rattle.papaya_grows.specs.Given.Scenes.Scene.{HasCall, Scene}
-use Rattle.papaya_grows.specs.Given.Schedules.Transition.{past}
 
 pub likes_show : (K V : Type 0) (same : K → K → Bool) → LikesShow K V same
 likes_show K V same name log m v known s all like = subst (λ (x : Moment K V). ShowsCalls same name log x known s) (sym like) (record {
