@@ -1,0 +1,46 @@
+-- What a moment shows of calls where one takes a step of its own, whoever tells of it: after the step, and where it comes to an outcome.
+use Rattle.std.specs.Prelude.{◌≡◌, ℕ, Bool, true, List, Option, Some}
+use Rattle.papaya_grows.specs.Given.Tables.declared.node.Node.{Node}
+use Rattle.papaya_grows.specs.Given.Runs.Same.{is_same}
+use Rattle.papaya_grows.specs.Given.Raw.declared.machines.progress.Progress.{Progress}
+use Rattle.papaya_grows.specs.Given.Schedules.declared.outcome.Outcome.{Outcome}
+use Rattle.papaya_grows.specs.Given.Schedules.Effects.{with_effects}
+use Rattle.papaya_grows.specs.Given.Schedules.Entry.{ends_call}
+use Rattle.papaya_grows.specs.Given.Schedules.Moment.{Moment, UnderWay as CallThere}
+use Rattle.papaya_grows.specs.Given.Schedules.Transition.{Past}
+use Rattle.papaya_grows.specs.Given.Schedules.Views.{call_of}
+use Rattle.papaya_grows.specs.Given.Callers.Together.{UnderWay}
+use Rattle.papaya_grows.specs.Given.Effects.Effects.{effects_of, known_after}
+use Rattle.papaya_grows.specs.Given.Effects.Known.{Known}
+use Rattle.papaya_grows.specs.Given.Effects.declared.acting.Acting.TheVariants as acts
+use Rattle.papaya_grows.specs.Given.Follows.Calling.{NoneNamed, come_to}
+use Rattle.papaya_grows.specs.Given.Hands.Calling.{AsksJust}
+use Rattle.papaya_grows.specs.Given.Histories.AsCalled.{AsksAsCalled}
+use Rattle.papaya_grows.specs.Given.Histories.Questions.{AsksStill}
+use Rattle.papaya_grows.specs.Given.Purposes.Kept.{ShowsNone, TellsNone}
+use Rattle.papaya_grows.specs.Given.Purposes.Tableless.{TablelessUncounted}
+use Rattle.papaya_grows.specs.Given.Scenes.Held.{Held, IsAt}
+use Rattle.papaya_grows.specs.Given.Scenes.Scene.{Scene}
+use Rattle.papaya_grows.specs.Given.Scenes.Stepping.{StepLeads, scene_after}
+use Rattle.papaya_legal.specs.Carried.{ShowsCalls}
+
+module _ (K V : Type 0) (same : K → K → Bool) (hash : ℕ → K → ℕ) where
+  -- The promises: so it is after a step of a call, whoever's, that shows no pair of a walk, where nothing was done since the last entry,
+  abbrev pub CallsStep : Type 0
+  CallsStep =
+      (name : ℕ → List ℕ) (log : Past K V) (known : Known) (s : Scene K V) (old new : Held K V) → IsAt same hash old s → ShowsCalls same name log log.now known s → TablelessUncounted log.now
+      → (map i : ℕ) (u : UnderWay K V K) (here : s.calls map i ≡ Some u) (said : Progress (Node K V)) (leads : StepLeads same hash i said s old new) → ShowsNone said
+      → (let to = leads map u here in
+      ShowsCalls same name log (with_effects (Some (name i)) (Some map) (effects_of (acts.Call i map) known new.changed) log.now) (known_after (acts.Call i map) new.changed known)
+      (scene_after same s old new map i to.0 u to.1 said to.4))
+
+module _ (K V : Type 0) (same : K → K → Bool) where
+  -- and where a call comes to an outcome that tells of no pair, if it asks as it was called, and does not go on by itself while it asks.
+  abbrev pub CallsComeTo : Type 0
+  CallsComeTo =
+      (name : ℕ → List ℕ) (log : Past K V) (m : Moment K V) (known : Known) (s : Scene K V) → ShowsCalls same name log m known s
+      → (own : List ℕ) (outcome : Outcome V) (steps : ℕ) → TellsNone outcome → (ends_call outcome ≡ true → NoneNamed name own s)
+      → ((map i : ℕ) (u : UnderWay K V K) → s.calls map i ≡ Some u → is_same (name i) own ≡ true → AsksJust known u outcome)
+      → ((map i : ℕ) (u : UnderWay K V K) → s.calls map i ≡ Some u → is_same (name i) own ≡ true → AsksAsCalled known u outcome)
+      → ((c : CallThere K V) → call_of own m ≡ Some c → AsksStill c.stands outcome)
+      → ShowsCalls same name log (come_to own outcome steps m) known s
