@@ -18,7 +18,7 @@ use Rattle.papaya_purposes.proofs.Still.{for_still}
 use Rattle.papaya_finds.specs.Given.Scenes.Held.{Held, IsAt}
 use Rattle.papaya_finds.specs.Given.Scenes.Scene.{Scene}
 use Rattle.papaya_finds.specs.Given.Scenes.Stepping.{StepLeads}
-use Rattle.papaya_finds.specs.Given.Schedules.Transition.{past, Past}
+use Rattle.papaya_finds.specs.Given.Schedules.Transition.{Past}
 use Rattle.papaya_purposes.proofs.Stored.{effects_stored, numbers_last}
 use Rattle.papaya_finds.specs.Given.Effects.Effects.{effects_of}
 use Rattle.papaya_finds.specs.Given.Effects.declared.acting.Acting.TheVariants as acts

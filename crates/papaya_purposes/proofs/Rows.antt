@@ -32,7 +32,7 @@ use Rattle.papaya_purposes.proofs.Present.{now_stored, now_there, absent}
 use Rattle.papaya_purposes.proofs.Shown.{same_still}
 use Rattle.papaya_finds.specs.Given.Scenes.Held.{Held, IsAt}
 use Rattle.papaya_finds.specs.Given.Scenes.Scene.{Scene, slot_of}
-use Rattle.papaya_finds.specs.Given.Schedules.Transition.{past, Past}
+use Rattle.papaya_finds.specs.Given.Schedules.Transition.{Past}
 use Rattle.papaya_finds.proofs.Given.Follows.Contents.{lasts_same}
 use Rattle.papaya_purposes.proofs.Stored.{numbers_last}
 

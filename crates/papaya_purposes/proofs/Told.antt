@@ -53,7 +53,7 @@ use Rattle.papaya_purposes.proofs.Still.{within_still, classes_still, come_still
 use Rattle.papaya_finds.specs.Given.Scenes.Held.{Held, IsAt}
 use Rattle.papaya_finds.specs.Given.Scenes.Replying.{scene_with}
 use Rattle.papaya_finds.specs.Given.Scenes.Scene.{Scene, slot_of}
-use Rattle.papaya_finds.specs.Given.Schedules.Transition.{past, Past}
+use Rattle.papaya_finds.specs.Given.Schedules.Transition.{Past}
 
 -- a pair that is not among them is none of them
 apart_step : (p x : ℕ) (xs : List ℕ) → times p (x ∷ xs) ≡ 0 → (x ≢ p) × (times p xs ≡ 0)

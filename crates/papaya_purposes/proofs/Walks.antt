@@ -67,7 +67,7 @@ use Rattle.papaya_purposes.proofs.Still.{within_still, classes_still, come_still
 use Rattle.papaya_finds.specs.Given.Scenes.Held.{Held, IsAt}
 use Rattle.papaya_finds.specs.Given.Scenes.Scene.{Scene, slot_of}
 use Rattle.papaya_finds.specs.Given.Scenes.Stepping.{StepLeads, StepsFrom}
-use Rattle.papaya_finds.specs.Given.Schedules.Transition.{past, Past}
+use Rattle.papaya_finds.specs.Given.Schedules.Transition.{Past}
 
 module _ {K : Type 0} (hash : K → ℕ) (c : Chart K) (blocks : Blocks) (done done2 : List ℕ) (entered entered2 word : ℕ) where
   -- one that shows a pair has read its word at a place of its table, and has done one pair more

@@ -28,7 +28,7 @@ use Rattle.papaya_purposes.specs.Keys.{KeysAt, AreKeyed}
 use Rattle.papaya_purposes.specs.Needs.{NeedsAt}
 use Rattle.papaya_finds.specs.Given.Named.Machines.{IsBefore}
 use Rattle.papaya_finds.specs.Given.Scenes.Scene.{Scene}
-use Rattle.papaya_finds.specs.Given.Schedules.Transition.{past, Past}
+use Rattle.papaya_finds.specs.Given.Schedules.Transition.{Past}
 use Rattle.papaya_finds.specs.Given.Runs.Log.{pair_at}
 
 -- by key, what a sweep that is a walk has come to in its map
