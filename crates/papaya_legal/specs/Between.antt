@@ -1,6 +1,6 @@
 -- Between the steps of events what a moment shows of calls is so on: where a call begins, takes a reply, goes on as a walk, or is given up; where a map comes, or goes; by other names of callers that
 -- have no call; at a moment that is like it; and where an event is over.
-use Rattle.std.specs.Prelude.{◌≡◌, ℕ, Bool, true, false, List, ◌∷◌, Option, Some, None, Ok, suc}
+use Rattle.std.specs.Prelude.{◌≡◌, ℕ, Bool, true, false, List, Option, Some, None, Ok, suc}
 use Rattle.papaya_grows.specs.Given.Seize.World.{Rests, with_at}
 use Rattle.papaya_grows.specs.Given.Runs.Same.{is_same}
 use Rattle.papaya_grows.specs.Given.Schedules.declared.call.Call.{Call}

@@ -1,5 +1,6 @@
--- What a moment shows of calls where one takes a step of its own, whoever tells of it: after the step, and where it comes to an outcome.
-use Rattle.std.specs.Prelude.{◌≡◌, ℕ, Bool, true, List, Option, Some}
+-- What a moment shows of calls, whoever tells of it: after a step of a call, where it comes to an outcome, where a row begins on a slot, and after a step of that.
+use Rattle.std.specs.Prelude.{◌≡◌, ℕ, Bool, true, List, Some, None}
+use Rattle.papaya_grows.specs.Given.Seize.World.{Begin, Step}
 use Rattle.papaya_grows.specs.Given.Tables.declared.node.Node.{Node}
 use Rattle.papaya_grows.specs.Given.Runs.Same.{is_same}
 use Rattle.papaya_grows.specs.Given.Raw.declared.machines.progress.Progress.{Progress}
@@ -17,10 +18,16 @@ use Rattle.papaya_grows.specs.Given.Follows.Calling.{NoneNamed, come_to}
 use Rattle.papaya_grows.specs.Given.Hands.Calling.{AsksJust}
 use Rattle.papaya_grows.specs.Given.Histories.AsCalled.{AsksAsCalled}
 use Rattle.papaya_grows.specs.Given.Histories.Questions.{AsksStill}
+use Rattle.papaya_grows.specs.Given.Others.Rows.{scene_then}
 use Rattle.papaya_grows.specs.Given.Purposes.Kept.{ShowsNone, TellsNone}
 use Rattle.papaya_grows.specs.Given.Purposes.Tableless.{TablelessUncounted}
 use Rattle.papaya_grows.specs.Given.Scenes.Held.{Held, IsAt}
-use Rattle.papaya_grows.specs.Given.Scenes.Scene.{Scene}
+use Rattle.papaya_grows.specs.Given.Scenes.declared.row.RowTold.{RowTold}
+use Rattle.papaya_grows.specs.Given.Scenes.declared.row.SlotCall.{SlotCall}
+use Rattle.papaya_grows.specs.Given.Scenes.declared.row.SlotRow.{SlotRow}
+use Rattle.papaya_grows.specs.Given.Scenes.OnSlots.{RowBegins, RowLeads}
+use Rattle.papaya_grows.specs.Given.Scenes.Rows.{request_of}
+use Rattle.papaya_grows.specs.Given.Scenes.Scene.{IsOnSlot, Scene, slot_of}
 use Rattle.papaya_grows.specs.Given.Scenes.Stepping.{StepLeads, scene_after}
 use Rattle.papaya_legal.specs.Carried.{ShowsCalls}
 
@@ -33,6 +40,20 @@ module _ (K V : Type 0) (same : K → K → Bool) (hash : ℕ → K → ℕ) whe
       → (let to = leads map u here in
       ShowsCalls same name log (with_effects (Some (name i)) (Some map) (effects_of (acts.Call i map) known new.changed) log.now) (known_after (acts.Call i map) new.changed known)
       (scene_after same s old new map i to.0 u to.1 said to.4))
+
+  -- where a row begins on a slot,
+  abbrev pub RowsBegin : Type 0
+  RowsBegin =
+      (name : ℕ → List ℕ) (log : Past K V) (m : Moment K V) (known : Known) (s : Scene K V) (old new : Held K V) → IsAt same hash old s → ShowsCalls same name log m known s
+      → (called : SlotCall) (i : ℕ) (leads : RowBegins same hash called i s old new)
+      → ShowsCalls same name log m known (scene_then same hash (Begin i (request_of (slot_of i) called)) s old new leads.2)
+
+  -- and after each step of it;
+  abbrev pub RowsStep : Type 0
+  RowsStep =
+      (name : ℕ → List ℕ) (log : Past K V) (m : Moment K V) (known : Known) (s : Scene K V) (old new : Held K V) → IsAt same hash old s → ShowsCalls same name log m known s
+      → (i : ℕ) (said : RowTold (Node K V)) (leads : RowLeads same hash i said s old new) (row : SlotRow) (here : IsOnSlot s i row)
+      → ShowsCalls same name log (with_effects None None (effects_of acts.Row known new.changed) m) (known_after acts.Row new.changed known) (scene_then same hash (Step i) s old new (leads row here).2)
 
 module _ (K V : Type 0) (same : K → K → Bool) where
   -- and where a call comes to an outcome that tells of no pair, if it asks as it was called, and does not go on by itself while it asks.

@@ -1,5 +1,5 @@
 -- A step of a counting that is under way, in the words of a run.
-use Rattle.std.specs.Prelude.{◌≡◌, ℕ, suc, ◌≤◌, Bool, List, Option, Some}
+use Rattle.std.specs.Prelude.{◌≡◌, ℕ, suc, ◌≤◌, Bool, Option, Some}
 use Rattle.std.proofs.Common.{ap, sym, subst, ◌∙◌}
 use Rattle.papaya_finds.specs.Given.SeizeWords.Mem.{Mem, word_at}
 use Rattle.papaya_finds.specs.Given.SeizeWords.declared.at.At.TheVariants.{Word}

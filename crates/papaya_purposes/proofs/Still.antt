@@ -1,5 +1,5 @@
 -- Where only calls have changed, and this one has been told and has shown what it was told and had shown, it has come to what it had come to.
-use Rattle.std.specs.Prelude.{◌≡◌, ℕ, Bool, List, ◌∷◌}
+use Rattle.std.specs.Prelude.{◌≡◌, ℕ, Bool, ◌∷◌}
 use Rattle.std.proofs.Common.{refl, ap, sym, subst, ◌∙◌, inl, inr}
 use Rattle.papaya_finds.specs.Given.Schedules.declared.call.Call.{Call}
 use Rattle.papaya_finds.specs.Given.Schedules.Lists.{OneOf}

@@ -1,5 +1,5 @@
 -- Where a run goes on, the moment says what calls on whole maps have come to, and what they are for.
-use Rattle.std.specs.Prelude.{◌≡◌, ℕ, Bool, true, List, [], ◌∷◌, Option, Some, Ok, ◌⊎◌, suc}
+use Rattle.std.specs.Prelude.{◌≡◌, ℕ, Bool, true, List, [], Option, Some, Ok, ◌⊎◌, suc}
 use Rattle.papaya_finds.specs.Given.Tables.declared.node.Node.{Node}
 use Rattle.papaya_finds.specs.Given.Sweeps.SweepPoints.{after_next}
 use Rattle.papaya_finds.specs.Given.Sweeps.declared.sweep.Sweeping.TheVariants as at

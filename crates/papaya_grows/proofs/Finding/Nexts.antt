@@ -1,5 +1,5 @@
 -- Whatever happens, where a copier makes a table its map has a second table, or had one at a moment since the call began.
-use Rattle.std.specs.Prelude.{◌≡◌, ◌<◌, ◌≤◌, ◌==◌, ℕ, Bool, true, List, ◌∷◌, find, Option, Some}
+use Rattle.std.specs.Prelude.{◌≡◌, ◌<◌, ◌≤◌, ◌==◌, ℕ, Bool, true, List, find, Option, Some}
 use Rattle.std.proofs.Common.{ap, sym, subst, inl, inr}
 use Rattle.papaya_purposes.specs.Given.SeizeWords.Mem.{Mem, word_at}
 use Rattle.papaya_purposes.specs.Given.SeizeWords.Plan.{Do, Now, Plan, Seeing, Sure, Then, Turn}

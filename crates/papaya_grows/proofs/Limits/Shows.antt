@@ -1,5 +1,5 @@
 -- Whatever happens between the steps of calls, where a call can have no further table, one of its map's is at the limit, or was at a moment since it began.
-use Rattle.std.specs.Prelude.{◌≡◌, ◌⊎◌, ◌≤◌, ℕ, Bool, true, List, ◌∷◌, Option, Some, None}
+use Rattle.std.specs.Prelude.{◌≡◌, ◌⊎◌, ◌≤◌, ℕ, Bool, true, List, Option, Some, None}
 use Rattle.std.proofs.Common.{ap, sym, subst, ◌∙◌}
 use Rattle.papaya_purposes.specs.Given.Seize.World.{Begin, Step}
 use Rattle.papaya_purposes.specs.Given.Seize.declared.progress.Progress.{Progress as Making}

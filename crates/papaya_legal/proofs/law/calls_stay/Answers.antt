@@ -1,7 +1,7 @@
 -- What is shown of calls is shown between the steps of events.
 use Rattle.papaya_legal.proofs.Between.{calls_begin, calls_take, likes_show, logs_grow, names_change, walks_go_on, walks_stop}
 use Rattle.papaya_legal.proofs.BetweenMaps.{ends_begin, makings_begin, maps_come, maps_gone}
-use Rattle.papaya_legal.proofs.OneStep.{calls_come_to, calls_step}
+use Rattle.papaya_legal.proofs.OneStep.{calls_come_to, calls_step, rows_begin, rows_step}
 use Rattle.papaya_legal.proofs.law.calls_stay.Goals as goal
 
 pub returns : goal.returns
@@ -19,4 +19,6 @@ returns c d = record {
   maps_go = maps_gone _ _;
   steps = calls_step _ _;
   come_to = calls_come_to _ _;
+  rows_begin = rows_begin _ _;
+  rows = rows_step _ _;
 }
