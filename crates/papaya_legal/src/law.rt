@@ -2,7 +2,7 @@
 ghost use Rattle.std.specs.Prelude.{ℕ, Bool};
 ghost use Rattle.papaya_legal.specs.AllEvents.{AllChain, AllEventsBegin, AllFindPairs, AllReclaimBySets, AllRunsToItsEnd, BehindIsTold, SlotsLeaveRoots};
 ghost use Rattle.papaya_legal.specs.Between.{CallsBegin, CallsTake, EndsBegin, LikesShow, LogsGrow, MakingsBegin, MapsCome, MapsGo, NamesChange, WalksGoOn, WalksStop};
-ghost use Rattle.papaya_legal.specs.OneStep.{CallsComeTo, CallsStep, RowsBegin, RowsStep};
+ghost use Rattle.papaya_legal.specs.OneStep.{CallsComeTo, CallsStep, EndsStep, MakingsStep, RowsBegin, RowsStep};
 ghost use Rattle.papaya_legal.specs.Carried.{EventsTellLeft, RunsBegin, RunsBeginIn};
 ghost use Rattle.papaya_legal.specs.CallEvents.{CallEventsAreLegal, CallEventsBegin, CallEventsEnd, CallEventsFollow, CallEventsGoOn, NextsBegin, WholeCallsBegin};
 ghost use Rattle.papaya_legal.specs.CallRuns.{CallEventsRun, CallsLeaveNothing, StepsFindAll};
@@ -29,7 +29,7 @@ pub fn runs_begin<K, V>()
 
 /// What a moment shows of calls it shows, too, where a call begins as the next event does, takes a reply, is asked as a walk for its next pair, or is given up; where a map comes, its making begins,
 /// its end begins, and where it is there no more; at a moment that is like it; once the moment is one of the log; and by other names of callers that have no call. So it does, too, whoever tells of
-/// the history, after a step of a call where nothing was done since the last entry, where a call comes to an outcome, where a row begins on a slot, and after a step of that.
+/// the history, after a step of a call where nothing was done since the last entry, where a call comes to an outcome, where a row begins on a slot, and after a step of that, of a making, and of an end.
 pub fn calls_stay<K, V>()
     ensures like { (same : K → K → Bool) → LikesShow K V same }
     ensures grows { (same : K → K → Bool) → LogsGrow K V same }
@@ -46,6 +46,8 @@ pub fn calls_stay<K, V>()
     ensures come_to { (same : K → K → Bool) → CallsComeTo K V same }
     ensures rows_begin { (same : K → K → Bool) (hash : ℕ → K → ℕ) → RowsBegin K V same hash }
     ensures rows { (same : K → K → Bool) (hash : ℕ → K → ℕ) → RowsStep K V same hash }
+    ensures making { (same : K → K → Bool) (hash : ℕ → K → ℕ) → MakingsStep K V same hash }
+    ensures ending { (same : K → K → Bool) (hash : ℕ → K → ℕ) → EndsStep K V same hash }
 {}
 
 /// Where an event has begun what it begins, and a call goes on by it, it is in the midst of it, and has done nothing yet: a call that is under way, one that the event begins, or a walk that it asks

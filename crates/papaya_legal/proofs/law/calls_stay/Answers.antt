@@ -1,6 +1,7 @@
 -- What is shown of calls is shown between the steps of events.
 use Rattle.papaya_legal.proofs.Between.{calls_begin, calls_take, likes_show, logs_grow, names_change, walks_go_on, walks_stop}
 use Rattle.papaya_legal.proofs.BetweenMaps.{ends_begin, makings_begin, maps_come, maps_gone}
+use Rattle.papaya_legal.proofs.Maps.{ends_step, makings_step}
 use Rattle.papaya_legal.proofs.OneStep.{calls_come_to, calls_step, rows_begin, rows_step}
 use Rattle.papaya_legal.proofs.law.calls_stay.Goals as goal
 
@@ -21,4 +22,6 @@ returns c d = record {
   come_to = calls_come_to _ _;
   rows_begin = rows_begin _ _;
   rows = rows_step _ _;
+  making = makings_step _ _;
+  ending = ends_step _ _;
 }
