@@ -11,7 +11,7 @@ use Rattle.papaya_grows.specs.Given.Schedules.Lists.{is_among}
 use Rattle.papaya_grows.specs.Given.Schedules.Model.{sets_in, things_in}
 use Rattle.papaya_grows.specs.Given.Schedules.Moment.{Moment, start}
 use Rattle.papaya_grows.specs.Given.Schedules.Terms.{Terms}
-use Rattle.papaya_grows.specs.Given.Effects.Known.{Known, nothing_known}
+use Rattle.papaya_grows.specs.Given.Effects.Known.{Known}
 use Rattle.papaya_grows.specs.Given.Moments.Numbers.{NumbersMaps, PairsAreBelow}
 use Rattle.papaya_grows.specs.Given.Moments.Whole.{ShowsWhole}
 use Rattle.papaya_grows.specs.Given.Histories.AsCalled.{ShowsAsCalled}
@@ -89,11 +89,7 @@ abbrev pub EventsTellLeft : Type 0 → Type 0 → Type 0
 EventsTellLeft K V =
     (terms : Terms) (log : List (Entry K V)) (e : Entry K V) → GoesInOrder terms log e → ReclaimsAll log e → AllIsInOrder (moment log) → LeftIsTold (moment log) → LeftIsTold (after e (moment log))
 
--- so it is before all events;
-abbrev pub RunsBegin : Type 0 → Type 0 → Type 0
-RunsBegin K V = (same : K → K → Bool) (terms : Terms) (name : ℕ → List ℕ) → ShowsRun {K = K} {V = V} same name terms [] nothing_known (at_first terms.roots)
-
--- and in any world that came about by what happens between rows, if it is shown that nothing is under way there: so whatever was chosen of numbers of blocks.
+-- and all this is so before all events in any world that came about by what happens between rows, if it is shown that nothing is under way there: so whatever was chosen of numbers of blocks.
 abbrev pub RunsBeginIn : Type 0 → Type 0 → Type 0
 RunsBeginIn K V =
     (same : K → K → Bool) (terms : Terms) (name : ℕ → List ℕ) (known : Known) (w : World (Node K V))

@@ -78,7 +78,7 @@ fn forgets(blocks: &Blocks<Counted, OfRows>, drops: &Table) -> Option<()>
     Some(())
 }
 
-/// The same over one memory; answers how many of the five that were retired were dropped as the registration ended, and before the memory does.
+/// The same over one memory. It tells whether the five that were retired were dropped as the registration ended, and the last one is still there.
 fn forgets_all(alloc: Global, drops: &Table) -> Result<bool, AllocError> {
     let home = Home::<Counted, OfRows>::open(alloc, 1, 64, &CHOSEN)?;
     let went = forgets(&home.blocks, drops).is_some();
