@@ -66,7 +66,7 @@ use Rattle.papaya_purposes.proofs.Stored.{first_lasts}
 pub purposes_begin : (K V : Type 0) → PurposesBegin K V
 purposes_begin K V same roots name = record {
   past = first_is_past;
-  lasts = first_lasts;
+  lasts = first_lasts K V;
   shown = (runs_begin_so K V same roots name).shown;
   begun = λ n i u is c found. absurd (cc is);
   is_for = λ n i u is c found. absurd (cc is);

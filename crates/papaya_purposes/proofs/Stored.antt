@@ -21,15 +21,15 @@ module _ {K V : Type 0} where
   effects_stored own of [] m n p e = e
   effects_stored own of (f ∷ effects) m n p e = effects_stored own of effects (with_effect own of f m) n p (stored_on (acting own m) f m.stored n p e)
 
-  -- before all events
-  pub first_lasts : NumbersLast {K = K} {V = V} (past []) start
-  first_lasts begun = by (begun == 0)
-    where
-      by : (b : Bool) → AllByRecursion (λ (x : Moment K V). Lasts x.stored (start {K = K} {V = V}).stored) (if b then start ∷ [] else [])
-      by true = (λ n p is. is, tt)
-      by false = tt
-
   -- and so what was stored at each of the moments since an entry
   pub numbers_last : (log : Past K V) (m m2 : Moment K V) → Lasts m.stored m2.stored → NumbersLast log m → NumbersLast log m2
   numbers_last log m m2 lasts all begun =
       all_on (λ (x : Moment K V). Lasts x.stored m.stored) (λ (x : Moment K V). Lasts x.stored m2.stored) (λ x was n p is. lasts n p (was n p is)) (log.since begun) (all begun)
+
+-- so it is before all events
+pub first_lasts : (K V : Type 0) → NumbersLast {K = K} {V = V} (past []) start
+first_lasts K V begun = by (begun == 0)
+  where
+    by : (b : Bool) → AllByRecursion (λ (x : Moment K V). Lasts x.stored (start {K = K} {V = V}).stored) (if b then start ∷ [] else [])
+    by true = (λ n p is. is, tt)
+    by false = tt
