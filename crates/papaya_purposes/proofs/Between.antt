@@ -60,20 +60,6 @@ use Rattle.papaya_finds.specs.Given.Scenes.Scene.{Scene, slot_of}
 use Rattle.papaya_finds.specs.Given.Schedules.Transition.{Past, further}
 use Rattle.std.specs.List.{AllByRecursion}
 use Rattle.papaya_finds.proofs.Given.Follows.Contents.{Lasts}
-<<<<<<< HEAD
-use Rattle.papaya_purposes.proofs.Stored.{first_lasts}
-
-pub purposes_begin : (K V : Type 0) → PurposesBegin K V
-purposes_begin K V same roots name = record {
-  past = first_is_past;
-  lasts = first_lasts K V;
-  shown = (runs_begin_so K V same roots name).shown;
-  begun = λ n i u is c found. absurd (cc is);
-  is_for = λ n i u is c found. absurd (cc is);
-  come = λ n i u is st there c found. absurd (cc is);
-}
-=======
->>>>>>> try57
 
 -- an event that is over adds its moment
 module _ {K V : Type 0} (same : K → K → Bool) (log : Past K V) (next : Moment K V) (c : CallThere K V) (before : c.begun ≤ log.entries) where
