@@ -1,25 +1,16 @@
--- Where a copier makes a further table the map has a second one, or the root has left one.
-use Rattle.std.specs.Prelude.{◌≡◌, ℕ, zero, suc, ◌+◌, ◌<◌, ◌≤◌, nat_le, Bool, true, false, List, [], ◌∷◌, ◌++◌, length, filter, Some, ◌⊎◌, if◌then◌else◌}
+-- A map whose chart has a table past the first one has a second one at the moment.
+use Rattle.std.specs.Prelude.{◌≡◌, ℕ, zero, suc, ◌+◌, ◌<◌, ◌≤◌, nat_le, Bool, true, false, List, [], ◌∷◌, ◌++◌, length, filter, ◌⊎◌, if◌then◌else◌}
 use Rattle.std.proofs.Common.{refl, ap, ◌∙◌, arith, length-append}
 use Rattle.std.proofs.lemmas.Bool.{leb-false}
 use Rattle.std.proofs.lemmas.List.Elements.{filter-append}
-use Rattle.papaya_purposes.specs.Given.Seize.World.{World}
-use Rattle.papaya_purposes.specs.Given.Tables.declared.node.Node.{Node}
-use Rattle.papaya_purposes.specs.Given.Tables.declared.setting.Setting.{Setting}
-use Rattle.papaya_purposes.specs.Given.Resize.declared.new_table.NewTable.{NewTable}
 use Rattle.papaya_purposes.specs.Given.Schedules.Growing.{HasNext}
 use Rattle.papaya_purposes.specs.Given.Schedules.Moment.{Stage, TableThere, Moment}
 use Rattle.papaya_purposes.specs.Given.Schedules.Views.{first_of, chain_of}
 use Rattle.papaya_purposes.specs.Given.Rule.Chart.{Chart}
-use Rattle.papaya_purposes.specs.Given.Rule.Words.{Blocks}
-use Rattle.papaya_purposes.specs.Given.Callers.Sights.{seen_by}
 use Rattle.papaya_purposes.specs.Given.Effects.Known.{Known}
 use Rattle.papaya_purposes.specs.Given.Finishes.Maps.{Standing}
 use Rattle.papaya_purposes.specs.Given.Follows.Maps.{table_of, shape_at, tables_to, ShowsMap}
-use Rattle.papaya_purposes.specs.Given.Follows.Shows.{Shows}
 use Rattle.papaya_purposes.proofs.Given.Follows.Finds.{first_is}
-use Rattle.papaya_purposes.specs.Given.Scenes.Held.{Held, IsAt}
-use Rattle.papaya_purposes.specs.Given.Scenes.Scene.{Scene, slot_of}
 
 -- Of so many tables of a map no more lie before a turn than that says.
 
@@ -51,15 +42,3 @@ second_there map number s m known shown ahead =
     let from : length (chain_of map m) ≡ length (filter (from_first map s.chart shown.tables.stage s.chart.first) (tables_to map s.chart shown.tables.stage s.chart.past)) =
     listed ∙ ap (λ (f : ℕ). length (filter (λ (u : TableThere). nat_le f u.table.turn) (tables_to map s.chart shown.tables.stage s.chart.past))) (first_is map number s m known shown) in
     let many = many_from map s.chart shown.tables.stage s.chart.first s.chart.past in omega (arith, ahead, from, many)
-
--- By the points of each copier.
-
-module _ {K V : Type 0} (same : K → K → Bool) (hash : K → ℕ) (w : World (Node K V)) (caller : ℕ) (setting : Setting) (c : Chart K) (blocks : Blocks) (n : NewTable) where
-  module _ (began : ℕ) where
-      -- by the points of each kind of call
-
-module _ {K V : Type 0} (same : K → K → Bool) (hash : ℕ → K → ℕ) (name : ℕ → List ℕ) (m : Moment K V) (known : Known) (s : Scene K V) (e : Held K V) (at : IsAt same hash e s)
-    (shown : Shows same name m known s) (map i : ℕ) (n : NewTable) where
-  module _ (st : Standing K) (there : s.maps map ≡ Some st) where
-    abbrev seen : Blocks
-    seen = seen_by st.blocks (st.sights (slot_of i))

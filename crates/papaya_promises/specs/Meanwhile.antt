@@ -1,5 +1,5 @@
 -- What lookups under way have read, where calls begin, step and come to an outcome meanwhile.
-use Rattle.std.specs.Prelude.{◌≡◌, ℕ, Bool, true, false, List, Some, None, if◌then◌else◌, Option, []}
+use Rattle.std.specs.Prelude.{◌≡◌, ℕ, Bool, true, false, List, Some, None, if◌then◌else◌, Option}
 use Rattle.papaya_histories.specs.Given.Runs.Same.{is_same}
 use Rattle.papaya_histories.specs.Given.Tables.declared.node.Node.{Node}
 use Rattle.papaya_histories.specs.Given.Resize.declared.lookup.Lookup.{Lookup}
@@ -12,7 +12,7 @@ use Rattle.papaya_histories.specs.Given.Schedules.declared.outcome.Outcome.{Outc
 use Rattle.papaya_histories.specs.Given.Schedules.Beginning.{with_call}
 use Rattle.papaya_histories.specs.Given.Schedules.Effects.{with_effects}
 use Rattle.papaya_histories.specs.Given.Schedules.Entry.{ends_call}
-use Rattle.papaya_histories.specs.Given.Schedules.Moment.{UnderWay as CallThere, Moment, start}
+use Rattle.papaya_histories.specs.Given.Schedules.Moment.{UnderWay as CallThere, Moment}
 use Rattle.papaya_histories.specs.Given.Schedules.Views.{call_of}
 use Rattle.papaya_histories.specs.Given.Callers.Together.{CallOnKey, UnderWay, OnKey}
 use Rattle.papaya_histories.specs.Given.Effects.Effects.{effects_of}
@@ -28,9 +28,9 @@ use Rattle.papaya_promises.specs.Reading.{looks, HasStood, ShowsReading}
 use Rattle.papaya_histories.specs.Given.Scenes.Held.{Held, IsAt}
 use Rattle.papaya_histories.specs.Given.Scenes.OnSlots.{HappensAt}
 use Rattle.papaya_histories.specs.Given.Scenes.Replying.{scene_with}
-use Rattle.papaya_histories.specs.Given.Scenes.Scene.{Scene, at_first}
+use Rattle.papaya_histories.specs.Given.Scenes.Scene.{Scene}
 use Rattle.papaya_histories.specs.Given.Scenes.Stepping.{StepLeads, scene_after}
-use Rattle.papaya_histories.specs.Given.Schedules.Transition.{past, Past}
+use Rattle.papaya_histories.specs.Given.Schedules.Transition.{Past}
 
 module _ (K V : Type 0) (same : K → K → Bool) where
   -- The promises: so it is where a call has come to an outcome by the steps that it has made, if it is a lookup, and no other one has made some,
@@ -54,11 +54,7 @@ module _ (K V : Type 0) (same : K → K → Bool) where
       → (map i : ℕ) (u : UnderWay K V K) (call : Call K V) (guard : List ℕ) → NoneNamed name (name i) s → BeginsToLook u call → m.events ≡ log.entries
       → ShowsReading name log (λ i. 0) (with_call (name i) guard call (Some map) m) (scene_with map i u s)
 
--- So it is before all events,
-abbrev pub ReadingsBegin : Type 0 → Type 0 → Type 0
-ReadingsBegin K V = (roots : ℕ) (name : ℕ → List ℕ) → ShowsReading {K = K} {V = V} name (past []) (λ i. 0) start (at_first roots)
-
--- and where a call that is no lookup is told a reply.
+-- So it is where a call that is no lookup is told a reply.
 abbrev pub CallsTakeReadings : Type 0 → Type 0 → Type 0
 CallsTakeReadings K V =
     (name : ℕ → List ℕ) (log : Past K V) (made : ℕ → ℕ) (m : Moment K V) (s : Scene K V) → ShowsReading name log made m s

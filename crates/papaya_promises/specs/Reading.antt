@@ -81,14 +81,7 @@ module _ (K V : Type 0) (name : ℕ → List ℕ) where
       → ShowsReading name (further next log) made m s
 
 module _ (K V : Type 0) (same : K → K → Bool) (hash : ℕ → K → ℕ) where
-  -- A step of a call leaves the tables that maps have had.
-  abbrev pub StepsLeaveTables : Type 0
-  StepsLeaveTables =
-      (s : Scene K V) (old new : Held K V) → IsAt same hash old s
-      → (map i : ℕ) (u : UnderWay K V K) (here : s.calls map i ≡ Some u) (said : Progress (Node K V)) (leads : StepLeads same hash i said s old new)
-      → (n : ℕ) (standing : Standing K) → (leads map u here).4.maps2 n ≡ Some standing → HasStood s.maps n standing
-
-  -- One of a lookup does nothing to pairs, tables and blocks.
+  -- A step of a lookup does nothing to pairs, tables and blocks.
   abbrev pub LookupsDoNothing : Type 0
   LookupsDoNothing =
       (known : Known) (s : Scene K V) (old new : Held K V) (i : ℕ) (said : Progress (Node K V)) → StepLeads same hash i said s old new

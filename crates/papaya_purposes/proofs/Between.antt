@@ -34,16 +34,15 @@ use Rattle.papaya_finds.proofs.Given.Follows.Called.{called_as, some_is, sweep_c
 use Rattle.papaya_finds.proofs.Given.Follows.Calling.{is_same_refl, come, begins_with, come_with}
 use Rattle.papaya_finds.proofs.Given.Follows.Steps.{one_of}
 use Rattle.papaya_finds.proofs.Given.Hands.Asking.{which}
-use Rattle.papaya_finds.proofs.Given.Hands.Beginning.{runs_begin_so}
 use Rattle.papaya_finds.specs.Given.Histories.Had.{HadThen}
 use Rattle.papaya_finds.specs.Given.Histories.Histories.{IsWithin}
 use Rattle.papaya_finds.proofs.Given.Histories.Calling.{came_so}
 use Rattle.papaya_finds.proofs.Given.Histories.Found.{map_alike}
-use Rattle.papaya_finds.proofs.Given.Histories.Logs.{now_there, grows, further_is_past, first_is_past}
+use Rattle.papaya_finds.proofs.Given.Histories.Logs.{now_there, grows, further_is_past}
 use Rattle.papaya_finds.proofs.Given.Histories.Now.{now_had}
 use Rattle.papaya_finds.specs.Given.Others.After.{ShowsAfter}
 use Rattle.papaya_finds.proofs.Given.Others.Walks.{fewer_calls, with_calls}
-use Rattle.papaya_purposes.specs.Kept.{TellsNone, PurposesBegin, CallsBeginPurposes, WalksGoOnPurposes, CallsComeToPurposes, EventsKeepPurposes, FirstStepsChangePairsFirst, StillStepsChangePairsFirst, RemovalsChangePairsFirst}
+use Rattle.papaya_purposes.specs.Kept.{TellsNone, CallsBeginPurposes, WalksGoOnPurposes, CallsComeToPurposes, EventsKeepPurposes, FirstStepsChangePairsFirst}
 use Rattle.papaya_purposes.specs.Purposes.{IsFor, HasAdded, RoomAt, HasMet, TellsDone, KeysOf, HasSwept, HasCome}
 use Rattle.papaya_finds.specs.Given.Named.Machines.{IsBefore}
 use Rattle.papaya_purposes.proofs.For.{sweep_for}
@@ -61,17 +60,6 @@ use Rattle.papaya_finds.specs.Given.Scenes.Scene.{Scene, slot_of}
 use Rattle.papaya_finds.specs.Given.Schedules.Transition.{Past, further}
 use Rattle.std.specs.List.{AllByRecursion}
 use Rattle.papaya_finds.proofs.Given.Follows.Contents.{Lasts}
-use Rattle.papaya_purposes.proofs.Stored.{first_lasts}
-
-pub purposes_begin : (K V : Type 0) → PurposesBegin K V
-purposes_begin K V same roots name = record {
-  past = first_is_past;
-  lasts = first_lasts K V;
-  shown = (runs_begin_so K V same roots name).shown;
-  begun = λ n i u is c found. absurd (cc is);
-  is_for = λ n i u is c found. absurd (cc is);
-  come = λ n i u is st there c found. absurd (cc is);
-}
 
 -- an event that is over adds its moment
 module _ {K V : Type 0} (same : K → K → Bool) (log : Past K V) (next : Moment K V) (c : CallThere K V) (before : c.begun ≤ log.entries) where
@@ -329,17 +317,5 @@ walks_go_on_purposes K V same name log m known s purposes of i o here ready = re
         (own n st d (purposes.come n j (OverAll o) (ap (λ (k : ℕ). s.calls k j) a.0 ∙ ap (s.calls of) a.1 ∙ here) st st_is d d_is))
     come_one n j x st st_is d d_is (inr was) = purposes.come n j x was.1 st st_is d d_is
 
-module _ (K V : Type 0) where
-  pub first_steps_change_pairs_first : FirstStepsChangePairsFirst K V
-  first_steps_change_pairs_first log m v of begun n = inr (ap (λ (f : ℕ → Place). is_in_map of (f n)) begun.0)
-
-  pub still_steps_change_pairs_first : StillStepsChangePairsFirst K V
-  still_steps_change_pairs_first log m v of still n = inl (still n)
-
-  pub removals_change_pairs_first : RemovalsChangePairsFirst K V
-  removals_change_pairs_first log m v of none less n = by (is_in_map of (v.place n)) (is_in_map of (m.place n)) (is_in_map of (log.now.place n)) (none n) (less n)
-    where
-      by : (a b c : Bool) → (b ≡ true → c ≡ true) → (a ≡ true → b ≡ true) → (a ≡ b) ⊎ (b ≡ c)
-      by a true c was went = inr (sym (was refl))
-      by true false c was went = inl (sym (went refl))
-      by false false c was went = inl refl
+pub first_steps_change_pairs_first : (K V : Type 0) → FirstStepsChangePairsFirst K V
+first_steps_change_pairs_first K V log m v of begun n = inr (ap (λ (f : ℕ → Place). is_in_map of (f n)) begun.0)

@@ -12,10 +12,7 @@ use Rattle.papaya_finds.specs.Given.Callers.Together.{UnderWay, OverAll}
 use Rattle.papaya_finds.specs.Given.Effects.Known.{Known}
 use Rattle.papaya_finds.specs.Given.Finishes.Maps.{Standing}
 use Rattle.papaya_finds.specs.Given.Others.After.{ShowsAfter}
-use Rattle.papaya_finds.proofs.Given.Others.RowBegins.{rows_begin_shown}
-use Rattle.papaya_finds.proofs.Given.Others.Rows.{rows_on_slots_are_shown}
 use Rattle.papaya_finds.proofs.Given.Moments.Beside.{IsBeside, StoodSo, StandsNew}
-use Rattle.papaya_finds.proofs.Given.Moments.OnSlots.{row_beside, rows_begin_beside}
 use Rattle.papaya_finds.proofs.Given.Follows.Steps.{one_of}
 use Rattle.papaya_finds.specs.Given.Histories.Had.{HadThen}
 use Rattle.papaya_finds.specs.Given.Histories.Histories.{since, IsWithin}
@@ -24,7 +21,6 @@ use Rattle.papaya_finds.proofs.Given.Histories.Now.{now_had}
 use Rattle.papaya_finds.proofs.Given.Histories.Within.{within_on}
 use Rattle.papaya_finds.proofs.Given.Histories.Later.{IsLater, same_later}
 use Rattle.papaya_purposes.specs.Purposes.{KeysOf, HasSwept, HasCome, ShowsPurposes}
-use Rattle.papaya_purposes.specs.Rows.{RowsBeginPurposes, RowsKeepPurposes}
 use Rattle.papaya_purposes.proofs.Alike.{alike}
 use Rattle.papaya_purposes.proofs.KeysCarried.{StandsMoved, keys_kept}
 use Rattle.papaya_purposes.proofs.Over.{come_over}
@@ -121,16 +117,3 @@ module _ {K V : Type 0} (same : K → K → Bool) (hash : ℕ → K → ℕ) (na
           → StoodSo known known2 s s2 n st ⊎ StandsNew known known2 s s2 n → HasCome same n st (after.shows.number n) log m2 x c
       come_so n j x is st there c found (inl stood) = stood_come n j x is st there c found stood
       come_so n j x is st there c found (inr new_map) = absurd (let none = new_map.0 j in cc (none, is))
-
-module _ (K V : Type 0) (same : K → K → Bool) (hash : ℕ → K → ℕ) where
-  pub rows_begin_purposes : RowsBeginPurposes K V same hash
-  rows_begin_purposes name log m known s old new at purposes called i leads =
-      let to = leads.2 in
-      beside_purposes same hash name log m m known known s _ old new at to.4 purposes (rows_begin_shown K V same hash name m known s old new at purposes.shown called i leads)
-      (rows_begin_beside K V same hash m known s old new called i leads)
-
-  pub rows_keep_purposes : RowsKeepPurposes K V same hash
-  rows_keep_purposes name log m known s old new at purposes i told leads row here retired =
-      let to = leads row here in
-      beside_purposes same hash name log m _ known _ s _ old new at to.2.4 purposes (rows_on_slots_are_shown K V same hash name m known s old new at purposes.shown i told leads row here retired)
-      (row_beside same hash m known s old new at i row here (to.0, told) to.1 to.2)

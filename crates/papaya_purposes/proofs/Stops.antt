@@ -14,7 +14,6 @@ use Rattle.papaya_finds.proofs.Given.Hands.Asking.{which}
 use Rattle.papaya_finds.specs.Given.Others.After.{ShowsAfter}
 use Rattle.papaya_finds.specs.Given.Others.Walks.{given_up}
 use Rattle.papaya_finds.proofs.Given.Others.Walks.{fewer_calls, with_calls}
-use Rattle.papaya_purposes.specs.Kept.{WalksStopPurposes}
 use Rattle.papaya_purposes.specs.Purposes.{HasCome, ShowsPurposes}
 use Rattle.papaya_purposes.proofs.Between.{calls_come_to_purposes}
 use Rattle.papaya_finds.specs.Given.Scenes.Replying.{unless_stopped}
@@ -48,6 +47,3 @@ module _ {K V : Type 0} (same : K → K → Bool) (name : ℕ → List ℕ) (log
   stops true none =
       calls_come_to_purposes K V same name log m known (record s { calls = with_in s.calls of i None }) (fewer_purposes None (λ x e. absurd (cc e))) (name i) (Refused Memory) 0 tt (λ ends. none refl)
   stops false none = fewer_purposes (Some u) (λ x e. one_of u x e)
-
-pub walks_stop_purposes : (K V : Type 0) (same : K → K → Bool) (hash : ℕ → K → ℕ) → WalksStopPurposes K V same hash
-walks_stop_purposes K V same hash name log m known s old new purposes i stopped leads of u here none = stops same name log m known s purposes of i u here stopped none

@@ -26,7 +26,7 @@ module _ {K V : Type 0} where
   numbers_last log m m2 lasts all begun =
       all_on (λ (x : Moment K V). Lasts x.stored m.stored) (λ (x : Moment K V). Lasts x.stored m2.stored) (λ x was n p is. lasts n p (was n p is)) (log.since begun) (all begun)
 
--- so it is before all events
+-- before all events
 pub first_lasts : (K V : Type 0) → NumbersLast {K = K} {V = V} (past []) start
 first_lasts K V begun = by (begun == 0)
   where

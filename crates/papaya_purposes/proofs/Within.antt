@@ -7,7 +7,7 @@ use Rattle.papaya_finds.specs.Given.Schedules.Moment.{Moment}
 use Rattle.papaya_finds.specs.Given.Schedules.Views.{is_in_map}
 use Rattle.papaya_finds.specs.Given.Finishes.Maps.{Standing}
 use Rattle.papaya_finds.proofs.Given.Histories.Later.{IsLater}
-use Rattle.papaya_finds.proofs.Given.Histories.Logs.{each_of, now_there as last_there}
+use Rattle.papaya_finds.proofs.Given.Histories.Logs.{each_of, now_there as now_is_there}
 use Rattle.papaya_purposes.specs.Purposes.{PairsWithin}
 use Rattle.papaya_finds.specs.Given.Histories.Histories.{IsPast}
 use Rattle.papaya_finds.specs.Given.Schedules.Transition.{Past}
@@ -30,7 +30,7 @@ module _ {K V : Type 0} (of : ℕ) (s s2 : Standing K) (number number2 : ℕ →
     here : Then m → OneOf Then (v ∷ log.since begun)
     here h = elim (changes (number2 n)) as (λ _. OneOf Then (v ∷ log.since begun)) [
       | inl kept ↦ inl (kept ∙ h)
-      | inr was ↦ inr (last_there log is_past Then begun before (sym was ∙ h))
+      | inr was ↦ inr (now_is_there log is_past Then begun before (sym was ∙ h))
     ]
 
     old : n < s.chart.stored → time ≤ s.chart.now → OneOf Then (v ∷ log.since begun)

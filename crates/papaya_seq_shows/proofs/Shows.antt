@@ -169,12 +169,6 @@ module _ {K V : Type 0} (same : K → K → Bool) (hash : K → ℕ) (setting : 
   either_rests (Ok x) ys zs done refused = (ys, done)
   either_rests (Err e) ys zs done refused = (zs, refused)
 
-  pub each_rests : {T F E : Type 0} (A B : Type 0) (r : Result (Result T F) E) (ys zs : List (K × V)) → IfOk r (λ tried. OnOk tried (A × Holds same hash setting m ys))
-      → IfOk r (λ tried. OnErr tried (B × Holds same hash setting m zs)) → OnErr r (Holds same hash setting m zs) → Rests
-  each_rests A B (Ok (Ok x)) ys zs stored found refused = (ys, stored.1)
-  each_rests A B (Ok (Err f)) ys zs stored found refused = (zs, found.1)
-  each_rests A B (Err e) ys zs stored found refused = (zs, refused)
-
   pub some_rest : {T E : Type 0} (P : List (K × V) → Type 0) (r : Result T E) (zs : List (K × V)) → OnOk r ((ys : List (K × V)) × P ys × Holds same hash setting m ys)
       → OnErr r (Holds same hash setting m zs) → Rests
   some_rest P (Ok x) zs done refused = (done.0, done.2)

@@ -30,14 +30,13 @@ use Rattle.papaya_histories.proofs.Given.Hands.Calling.{caller_is}
 use Rattle.papaya_histories.proofs.Begun.{effects_begun, comes_begun, if_begun, replied_begun}
 use Rattle.papaya_histories.specs.Given.Others.Rows.{scene_then}
 use Rattle.papaya_promises.specs.Brief.{ReadsSince}
-use Rattle.papaya_promises.specs.Meanwhile.{CallsComeToReadings, CallsBeginReadings, OthersKeepReadings, OtherWorkKeepsReadings, RowsKeepReadings, ReadingsBegin, CallsTakeReadings}
+use Rattle.papaya_promises.specs.Meanwhile.{CallsComeToReadings, CallsBeginReadings, OthersKeepReadings, OtherWorkKeepsReadings, RowsKeepReadings, CallsTakeReadings}
 use Rattle.papaya_promises.specs.Reading.{looks, HasLooked, HasStood}
 use Rattle.papaya_promises.proofs.Brief.Maps.{same_stood, maps_stood}
 use Rattle.papaya_promises.proofs.Brief.Stays.{same_tables, readings_stay}
 use Rattle.papaya_histories.specs.Given.Scenes.Replying.{scene_with}
 use Rattle.papaya_histories.specs.Given.Scenes.Scene.{Scene}
 use Rattle.papaya_histories.specs.Given.Scenes.Stepping.{scene_after}
-use Rattle.papaya_histories.proofs.Logs.{first_is_past}
 
 module _ {K V : Type 0} where
   asks_steps : (question : Option ℕ) (c : CallThere K V) (stands : Stands) → (asks_on question c stands).steps ≡ c.steps
@@ -250,13 +249,6 @@ pub rows_keep_readings : (K V : Type 0) (same : K → K → Bool) (hash : ℕ �
 rows_keep_readings K V same hash name log made m s old new event happened effects reading =
     other_work_keeps_readings K V name log made m s (scene_then same hash event s old new happened) None effects (λ n j x is. is)
     (λ n j x is st there. same_stood s.maps n (happened.2 n) (happened.3 n) st there) reading
-
-pub readings_begin : (K V : Type 0) → ReadingsBegin K V
-readings_begin K V roots name = record {
-  past = first_is_past;
-  begun = λ n i u is c found_is looks_for. absurd (cc is);
-  reads = λ n i u is c found_is looks_for standing there. absurd (cc is);
-}
 
 -- a reply leaves what began the call, and its steps
 reply_steps : {K V : Type 0} (reply : Reply V) (c : CallThere K V) (stands : Stands) → (replied reply c stands).steps ≡ c.steps
