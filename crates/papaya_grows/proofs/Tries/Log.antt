@@ -58,14 +58,15 @@ module _ {K V : Type 0} where
   pub tables_last : (log : List (Entry K V)) → TablesLast (past log)
   tables_last [] begun = by (begun == 0)
     where
-      by : (q : Bool) → AllByRecursion (λ v. (map : ℕ) → many_of map v ≤ many_of map (start {K = K} {V = V})) (if q then start ∷ [] else [])
+      by : (q : Bool) → AllByRecursion (λ (v : Moment K V). (map : ℕ) → many_of map v ≤ many_of map (start {K = K} {V = V})) (if q then start ∷ [] else [])
       by true = (λ map. omega arith, tt)
       by false = tt
-  tables_last (e ∷ log) begun = by (nat_lt (length (e ∷ log)) begun)
+  tables_last (e ∷ log) begun = by (nat_lt (length (e ∷ log)) begun) (tables_last log begun)
     where
-      by : (q : Bool) → AllByRecursion (λ v. (map : ℕ) → many_of map v ≤ many_of map (moment (e ∷ log))) (if q then [] else moment (e ∷ log) ∷ moments_from begun log)
-      by true = tt
-      by false = (λ map. omega arith, more_last e (moment log) (moments_from begun log) (tables_last log begun))
+      by : (q : Bool) → AllByRecursion (λ (v : Moment K V). (map : ℕ) → many_of map v ≤ many_of map (moment log)) (moments_from begun log)
+          → AllByRecursion (λ (v : Moment K V). (map : ℕ) → many_of map v ≤ many_of map (moment (e ∷ log))) (if q then [] else moment (e ∷ log) ∷ moments_from begun log)
+      by true before = tt
+      by false before = (λ map. omega arith, more_last e (moment log) (moments_from begun log) before)
 
   -- what was so at a moment was so where the map had no more tables than later
   one_late : (map : ℕ) (P : Moment K V → Type 0) (now : Moment K V) (moments : List (Moment K V)) → AllByRecursion (λ v. (of : ℕ) → many_of of v ≤ many_of of now) moments → OneOf P moments
