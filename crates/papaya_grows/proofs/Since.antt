@@ -1,5 +1,5 @@
 -- What is so of each call under way by what is so of its map, or was at a moment since it began, whatever happens.
-use Rattle.std.specs.Prelude.{◌≡◌, ◌≢◌, ◌⊎◌, ◌≤◌, ◌+◌, ◌==◌, ℕ, Bool, true, false, cond, not, List, ◌∷◌, find, length, map as list_map, Some, if◌then◌else◌}
+use Rattle.std.specs.Prelude.{◌≡◌, ◌≢◌, ◌⊎◌, ◌≤◌, ◌+◌, ◌==◌, ℕ, Bool, true, false, cond, not, List, find, map as list_map, Some, if◌then◌else◌}
 use Rattle.std.proofs.Common.{refl, ap, sym, subst, ◌∙◌, arith, inl, inr}
 use Rattle.papaya_purposes.specs.Given.Tables.declared.node.Node.{Node}
 use Rattle.papaya_purposes.specs.Given.Raw.Machine.{machine_asked, machine_replied}
@@ -11,10 +11,10 @@ use Rattle.papaya_purposes.specs.Given.Schedules.declared.call.Call.{Call}
 use Rattle.papaya_purposes.specs.Given.Schedules.declared.call.Reply.{Reply}
 use Rattle.papaya_purposes.specs.Given.Schedules.declared.effect.Effect.{Effect}
 use Rattle.papaya_purposes.specs.Given.Schedules.declared.outcome.Outcome.{Outcome}
-use Rattle.papaya_purposes.specs.Given.Schedules.After.{moment, moments_from, replied, without_call}
+use Rattle.papaya_purposes.specs.Given.Schedules.After.{replied, without_call}
 use Rattle.papaya_purposes.specs.Given.Schedules.Beginning.{fresh_call, with_call}
 use Rattle.papaya_purposes.specs.Given.Schedules.Effects.{with_effects}
-use Rattle.papaya_purposes.specs.Given.Schedules.Entry.{Entry, ends_call}
+use Rattle.papaya_purposes.specs.Given.Schedules.Entry.{ends_call}
 use Rattle.papaya_purposes.specs.Given.Schedules.Lists.{OneOf}
 use Rattle.papaya_purposes.specs.Given.Schedules.Moment.{MapThere, Moment, UnderWay as CallThere}
 use Rattle.papaya_purposes.specs.Given.Schedules.Views.{call_of, map_at}
@@ -34,7 +34,7 @@ use Rattle.papaya_purposes.proofs.Given.Hands.Calling.{caller_is}
 use Rattle.papaya_purposes.specs.Given.Others.Walks.{given_up}
 use Rattle.papaya_purposes.specs.Given.Moments.Whole.{ShowsWhole}
 use Rattle.papaya_purposes.proofs.Given.Histories.Begun.{comes_begun, effects_begun, if_begun, replied_begun}
-use Rattle.papaya_purposes.proofs.Given.Histories.Logs.{last_there, moments_grow}
+use Rattle.papaya_purposes.proofs.Given.Histories.Logs.{grows, now_there}
 use Rattle.papaya_purposes.proofs.Given.Owes.Calls.{goes_as_one}
 use Rattle.papaya_grows.proofs.Finding.Between.{fewer_calls}
 use Rattle.papaya_purposes.proofs.Given.Scenes.May.{standing_is}
@@ -42,6 +42,8 @@ use Rattle.papaya_purposes.specs.Given.Scenes.Held.{Held, IsAt}
 use Rattle.papaya_purposes.specs.Given.Scenes.Replying.{scene_with, unless_stopped}
 use Rattle.papaya_purposes.specs.Given.Scenes.Scene.{Scene}
 use Rattle.papaya_purposes.specs.Given.Scenes.Stepping.{StepLeads, scene_after}
+use Rattle.papaya_purposes.specs.Given.Schedules.Transition.{Past, further}
+use Rattle.papaya_purposes.specs.Given.Histories.Histories.{IsPast}
 
 -- pairs are where they were
 pub record HasSamePairs {K V : Type 0} (m v : Moment K V) : Type 0 where
@@ -55,17 +57,17 @@ module _ {K V X : Type 0} (Of : (X → Type 0) → Machine K V K → Type 0) (mo
     (So : ℕ → X → Moment K V → Type 0) (Alike : Moment K V → Moment K V → Type 0) (alike : (m v : Moment K V) → HasSamePairs m v → Alike m v)
     (so_where : (m v : Moment K V) → Alike m v → v.tables ≡ m.tables → (n : ℕ) → map_at n v ≡ map_at n m → (x : X) → So n x m → So n x v) where
   -- it was so at a moment of the log since then, or is so now
-  abbrev pub HadSo : ℕ → ℕ → List (Entry K V) → X → Type 0
-  HadSo map begun log x = OneOf (So map x) (moments_from begun log)
+  abbrev pub HadSo : ℕ → ℕ → Past K V → X → Type 0
+  HadSo map begun log x = OneOf (So map x) (log.since begun)
 
-  abbrev pub HasSo : ℕ → ℕ → List (Entry K V) → Moment K V → X → Type 0
+  abbrev pub HasSo : ℕ → ℕ → Past K V → Moment K V → X → Type 0
   HasSo map begun log m x = HadSo map begun log x ⊎ So map x m
 
-  abbrev pub ShowsSo : (ℕ → List ℕ) → List (Entry K V) → Moment K V → Scene K V → Type 0
+  abbrev pub ShowsSo : (ℕ → List ℕ) → Past K V → Moment K V → Scene K V → Type 0
   ShowsSo name log m s =
       (map i : ℕ) (u : UnderWay K V K) → s.calls map i ≡ Some u → (c : CallThere K V) → call_of (name i) m ≡ Some c → Of (HasSo map c.begun log m) (machine_of u)
 
-  abbrev pub OthersSo : (ℕ → List ℕ) → List (Entry K V) → ℕ → Moment K V → Scene K V → Type 0
+  abbrev pub OthersSo : (ℕ → List ℕ) → Past K V → ℕ → Moment K V → Scene K V → Type 0
   OthersSo name log i m s =
       (map j : ℕ) (u : UnderWay K V K) → s.calls map j ≡ Some u → j ≢ i → (c : CallThere K V) → call_of (name j) m ≡ Some c → Of (HadSo map c.begun log) (machine_of u)
 
@@ -76,7 +78,7 @@ module _ {K V X : Type 0} (Of : (X → Type 0) → Machine K V K → Type 0) (mo
   found_same : (m v : Moment K V) → v.calls ≡ m.calls → (own : List ℕ) (d : CallThere K V) → call_of own v ≡ Some d → call_of own m ≡ Some d
   found_same m v calls own d is = ap (λ (l : List (CallThere K V)). find (λ y. is_same y.caller own) l) (sym calls) ∙ is
 
-  module _ (log : List (Entry K V)) (m v : Moment K V) where
+  module _ (log : Past K V) (m v : Moment K V) where
     -- so it is of the same machine, on a map that has a second table still, and of a call that began with the same event
     moved : (n n2 b b2 : ℕ) (machine machine2 : Machine K V K) → n2 ≡ n → b2 ≡ b → machine2 ≡ machine → ((x : X) → So n x m → So n x v) → Of (HasSo n b log m) machine
         → Of (HasSo n2 b2 log v) machine2
@@ -90,7 +92,7 @@ module _ {K V X : Type 0} (Of : (X → Type 0) → Machine K V K → Type 0) (mo
         follow x (inl had) = inl had
         follow x (inr now) = inr (keeps x now)
 
-  module _ (name : ℕ → List ℕ) (log : List (Entry K V)) (m v : Moment K V) (s t : Scene K V) (shows : ShowsSo name log m s) where
+  module _ (name : ℕ → List ℕ) (log : Past K V) (m v : Moment K V) (s t : Scene K V) (shows : ShowsSo name log m s) where
     -- where calls are as they were, or are under way no more
     pub so_stay : ((n j : ℕ) (x : UnderWay K V K) → t.calls n j ≡ Some x → (y : X) → So n y m → So n y v) → ((n j : ℕ) (x : UnderWay K V K) → t.calls n j ≡ Some x → s.calls n j ≡ Some x)
         → ((n j : ℕ) (x : UnderWay K V K) → t.calls n j ≡ Some x → (d : CallThere K V) → call_of (name j) v ≡ Some d → (c : CallThere K V) × (call_of (name j) m ≡ Some c) × (d.begun ≡ c.begun)) → ShowsSo name log v t
@@ -101,25 +103,25 @@ module _ {K V X : Type 0} (Of : (X → Type 0) → Machine K V K → Type 0) (mo
     so_alike calls keeps was = so_stay keeps was (λ n j x is d d_is. (d, found_same m v calls (name j) d d_is, refl))
 
   -- at a moment with other maps, where those that stand are found as they were
-  pub so_where_found : (same : K → K → Bool) (hash : ℕ → K → ℕ) (name : ℕ → List ℕ) (log : List (Entry K V)) (m v : Moment K V) (s : Scene K V) (e : Held K V) → IsAt same hash e s → ShowsSo name log m s
+  pub so_where_found : (same : K → K → Bool) (hash : ℕ → K → ℕ) (name : ℕ → List ℕ) (log : Past K V) (m v : Moment K V) (s : Scene K V) (e : Held K V) → IsAt same hash e s → ShowsSo name log m s
       → ((n : ℕ) (st : Standing K) → s.maps n ≡ Some st → map_at n v ≡ map_at n m) → Alike m v → v.tables ≡ m.tables → v.calls ≡ m.calls → ShowsSo name log v s
   so_where_found same hash name log m v s e at shows still pairs tables calls n j x is d d_is =
       let st = standing_is same hash e s at n j x is in
       moved log m v n n d.begun d.begun (machine_of x) (machine_of x) refl refl refl (so_where m v pairs tables n (still n st.0 st.1)) (shows n j x is d (found_same m v calls (name j) d d_is))
 
   -- with a further event of the log
-  pub so_grow : (name : ℕ → List ℕ) (log : List (Entry K V)) (e : Entry K V) (m : Moment K V) (s : Scene K V)
-      → ((map i : ℕ) (u : UnderWay K V K) → s.calls map i ≡ Some u → (c : CallThere K V) → call_of (name i) m ≡ Some c → c.begun ≤ length log) → ShowsSo name log m s → ShowsSo name (e ∷ log) m s
-  so_grow name log e m s begun shows n j x is c c_is =
-      more (HasSo n c.begun log m) (HasSo n c.begun (e ∷ log) m) (λ y so. follow y so) (machine_of x) (shows n j x is c c_is)
+  pub so_grow : (name : ℕ → List ℕ) (log : Past K V) (next : Moment K V) (m : Moment K V) (s : Scene K V)
+      → ((map i : ℕ) (u : UnderWay K V K) → s.calls map i ≡ Some u → (c : CallThere K V) → call_of (name i) m ≡ Some c → c.begun ≤ log.entries) → ShowsSo name log m s → ShowsSo name (further next log) m s
+  so_grow name log next m s begun shows n j x is c c_is =
+      more (HasSo n c.begun log m) (HasSo n c.begun (further next log) m) (λ y so. follow y so) (machine_of x) (shows n j x is c c_is)
     where
-      follow : (y : X) → HasSo n c.begun log m y → HasSo n c.begun (e ∷ log) m y
-      follow y (inl had) = inl (subst (OneOf (So n y)) (sym (moments_grow c.begun e log (let b = begun n j x is c c_is in omega (arith, b)))) (inr had))
+      follow : (y : X) → HasSo n c.begun log m y → HasSo n c.begun (further next log) m y
+      follow y (inl had) = inl (subst (OneOf (So n y)) (sym (grows next log c.begun (let b = begun n j x is c c_is in omega (arith, b)))) (inr had))
       follow y (inr now) = inr now
 
   -- Where a call begins, is told, is asked for its next pair, or is given up.
 
-  module _ (same : K → K → Bool) (name : ℕ → List ℕ) (log : List (Entry K V)) (m : Moment K V) (s : Scene K V) (shows : ShowsSo name log m s) (map i : ℕ) (u : UnderWay K V K) where
+  module _ (same : K → K → Bool) (name : ℕ → List ℕ) (log : Past K V) (m : Moment K V) (s : Scene K V) (shows : ShowsSo name log m s) (map i : ℕ) (u : UnderWay K V K) where
     pub calls_begin_so : (guard : List ℕ) (its : Call K V) → ((Why : X → Type 0) → Of Why (machine_of u)) → NoneNamed name (name i) s
         → ShowsSo name log (with_call (name i) guard its (Some map) m) (scene_with map i u s)
     calls_begin_so guard its none apart n j x is d d_is =
@@ -183,7 +185,7 @@ module _ {K V X : Type 0} (Of : (X → Type 0) → Machine K V K → Type 0) (mo
               let now = found_kept (λ (y : CallThere K V). is_same y.caller (name j)) (λ (y : CallThere K V). not (is_same y.caller (name i))) m.calls had.0 had.1 kept in had.1 ∙ sym now ∙ d_is
 
   -- Where a call comes to an outcome.
-  module _ (same : K → K → Bool) (name : ℕ → List ℕ) (log : List (Entry K V)) (m : Moment K V) (s : Scene K V) (shows : ShowsSo name log m s) (shown : IsThere same name m s.calls) (own : List ℕ) (o : Outcome V)
+  module _ (same : K → K → Bool) (name : ℕ → List ℕ) (log : Past K V) (m : Moment K V) (s : Scene K V) (shows : ShowsSo name log m s) (shown : IsThere same name m s.calls) (own : List ℕ) (o : Outcome V)
       (steps : ℕ) (ended : ends_call o ≡ true → NoneNamed name own s) where
     came : (n j : ℕ) (x : UnderWay K V K) → s.calls n j ≡ Some x → (c : CallThere K V) → call_of (name j) m ≡ Some c → (d : CallThere K V) → call_of (name j) (come_to own o steps m) ≡ Some d
         → d ≡ (if is_same (name j) own then come o steps c else c)
@@ -216,7 +218,7 @@ module _ {K V X : Type 0} (Of : (X → Type 0) → Machine K V K → Type 0) (mo
 
   -- A step of a call.
 
-  module _ (same : K → K → Bool) (hash : ℕ → K → ℕ) (name : ℕ → List ℕ) (log : List (Entry K V)) (m : Moment K V) (known : Known) (s : Scene K V) (old new : Held K V) (at : IsAt same hash old s)
+  module _ (same : K → K → Bool) (hash : ℕ → K → ℕ) (name : ℕ → List ℕ) (log : Past K V) (m : Moment K V) (known : Known) (s : Scene K V) (old new : Held K V) (at : IsAt same hash old s)
       (whole : ShowsWhole same name m known s) (map i : ℕ) (u : UnderWay K V K) (here : s.calls map i ≡ Some u) (said : Progress (Node K V)) (leads : StepLeads same hash i said s old new)
       (others : OthersSo name log i m s) where
     abbrev to : WentTo same hash name m known s old new at whole.all.shown map i u here said leads
@@ -261,11 +263,11 @@ module _ {K V X : Type 0} (Of : (X → Type 0) → Machine K V K → Type 0) (mo
     ]
 
   -- Where an event of a call begins, others are as the log says.
-  pub others_at_first : (name : ℕ → List ℕ) (log : List (Entry K V)) (i : ℕ) (m : Moment K V) (s : Scene K V) → Alike m (moment log) → m.maps ≡ (moment log).maps → m.tables ≡ (moment log).tables
-      → ((map j : ℕ) (u : UnderWay K V K) → s.calls map j ≡ Some u → (c : CallThere K V) → call_of (name j) m ≡ Some c → c.begun ≤ length log) → ShowsSo name log m s → OthersSo name log i m s
-  others_at_first name log i m s pairs maps tables begun shows n j x is ne c c_is =
+  pub others_at_first : (name : ℕ → List ℕ) (log : Past K V) (is_past : IsPast log) (i : ℕ) (m : Moment K V) (s : Scene K V) → Alike m log.now → m.maps ≡ log.now.maps → m.tables ≡ log.now.tables
+      → ((map j : ℕ) (u : UnderWay K V K) → s.calls map j ≡ Some u → (c : CallThere K V) → call_of (name j) m ≡ Some c → c.begun ≤ log.entries) → ShowsSo name log m s → OthersSo name log i m s
+  others_at_first name log is_past i m s pairs maps tables begun shows n j x is ne c c_is =
       more (HasSo n c.begun log m) (HadSo n c.begun log) (λ y so. had y so) (machine_of x) (shows n j x is c c_is)
     where
       had : (y : X) → HasSo n c.begun log m y → HadSo n c.begun log y
       had y (inl before) = before
-      had y (inr now) = last_there (So n y) c.begun log (begun n j x is c c_is) (so_same m (moment log) pairs (sym maps) (sym tables) n y now)
+      had y (inr now) = now_there log is_past (So n y) c.begun (begun n j x is c c_is) (so_same m log.now pairs (sym maps) (sym tables) n y now)

@@ -11,9 +11,7 @@ use Rattle.papaya_purposes.specs.Given.Raw.declared.machines.machine.Machine.{Ma
 use Rattle.papaya_purposes.specs.Given.Raw.declared.machines.machine.Machine.TheVariants as kinds
 use Rattle.papaya_purposes.specs.Given.Raw.declared.machines.progress.Progress.{Progress}
 use Rattle.papaya_purposes.specs.Given.Raw.declared.machines.progress.Progress.TheVariants as progress
-use Rattle.papaya_purposes.specs.Given.Schedules.After.{moments_from}
 use Rattle.papaya_purposes.specs.Given.Schedules.Coming.{is_at_limit}
-use Rattle.papaya_purposes.specs.Given.Schedules.Entry.{Entry}
 use Rattle.papaya_purposes.specs.Given.Schedules.Lists.{OneOf}
 use Rattle.papaya_purposes.specs.Given.Schedules.Moment.{Moment, UnderWay as CallThere}
 use Rattle.papaya_purposes.specs.Given.Schedules.Views.{call_of}
@@ -21,6 +19,7 @@ use Rattle.papaya_purposes.specs.Given.Late.Faults.{StandsInCalling, StandsInRes
 use Rattle.papaya_purposes.specs.Given.Callers.Together.{UnderWay}
 use Rattle.papaya_purposes.specs.Given.Finishes.Machines.{machine_of}
 use Rattle.papaya_purposes.specs.Given.Scenes.Scene.{Scene}
+use Rattle.papaya_purposes.specs.Given.Schedules.Transition.{Past}
 
 -- a call is refused for the length of a table for this alone,
 abbrev pub IsFor : Type 0 → Fault → Type 0
@@ -54,18 +53,18 @@ module _ {K V : Type 0} where
   IsAtLimit map m = is_at_limit map m ≡ true
 
   -- it was so at a moment of the log since then, or is so now
-  abbrev pub HadLimit : ℕ → ℕ → List (Entry K V) → Type 0
-  HadLimit map begun log = OneOf (IsAtLimit map) (moments_from begun log)
+  abbrev pub HadLimit : ℕ → ℕ → Past K V → Type 0
+  HadLimit map begun log = OneOf (IsAtLimit map) (log.since begun)
 
-  abbrev pub HasLimit : ℕ → ℕ → List (Entry K V) → Moment K V → Type 0
+  abbrev pub HasLimit : ℕ → ℕ → Past K V → Moment K V → Type 0
   HasLimit map begun log m = HadLimit map begun log ⊎ IsAtLimit map m
 
   -- so it is of each call that is under way;
-  abbrev pub ShowsLimits : (ℕ → List ℕ) → List (Entry K V) → Moment K V → Scene K V → Type 0
+  abbrev pub ShowsLimits : (ℕ → List ℕ) → Past K V → Moment K V → Scene K V → Type 0
   ShowsLimits name log m s =
       (map i : ℕ) (u : UnderWay K V K) → s.calls map i ≡ Some u → (c : CallThere K V) → call_of (name i) m ≡ Some c → MachineEnds (HasLimit map c.begun log m) (machine_of u)
 
   -- in the midst of an event of caller i, by the log alone of each other call
-  abbrev pub OthersHadLimit : (ℕ → List ℕ) → List (Entry K V) → ℕ → Moment K V → Scene K V → Type 0
+  abbrev pub OthersHadLimit : (ℕ → List ℕ) → Past K V → ℕ → Moment K V → Scene K V → Type 0
   OthersHadLimit name log i m s =
       (map j : ℕ) (u : UnderWay K V K) → s.calls map j ≡ Some u → j ≢ i → (c : CallThere K V) → call_of (name j) m ≡ Some c → MachineEnds (HadLimit map c.begun log) (machine_of u)

@@ -3,8 +3,6 @@ use Rattle.std.specs.Prelude.{◌≡◌, ℕ, ◌+◌, Bool, List, ◌∷◌, So
 use Rattle.papaya_purposes.specs.Given.Tables.declared.node.Node.{Node}
 use Rattle.papaya_purposes.specs.Given.Resize.declared.new_table.NewTable.{NewTable}
 use Rattle.papaya_purposes.specs.Given.Raw.declared.machines.progress.Progress.{Progress}
-use Rattle.papaya_purposes.specs.Given.Schedules.After.{moments_from}
-use Rattle.papaya_purposes.specs.Given.Schedules.Entry.{Entry}
 use Rattle.papaya_purposes.specs.Given.Schedules.Growing.{HasNext}
 use Rattle.papaya_purposes.specs.Given.Schedules.Lists.{OneOf}
 use Rattle.papaya_purposes.specs.Given.Schedules.Moment.{UnderWay as CallThere, Moment}
@@ -27,17 +25,17 @@ use Rattle.papaya_grows.specs.Finding.{ShowsFinding}
 use Rattle.papaya_purposes.specs.Given.Scenes.Held.{Held, IsAt}
 use Rattle.papaya_purposes.specs.Given.Scenes.Scene.{Scene}
 use Rattle.papaya_purposes.specs.Given.Scenes.Stepping.{StepLeads}
-use Rattle.papaya_purposes.specs.Given.Schedules.Transition.{past}
+use Rattle.papaya_purposes.specs.Given.Schedules.Transition.{Past}
 
 -- The promise, of a step of a call, at a moment at which all is in order, where the map of each copier that makes a table has a second one, or had one, and a call on one key that
 -- makes one behind the newest has found that full.
 abbrev pub StepsFindRest : (K V : Type 0) (same : K → K → Bool) (hash : ℕ → K → ℕ) → Type 0
 StepsFindRest K V same hash =
-    (name : ℕ → List ℕ) (log : List (Entry K V)) (m : Moment K V) (known : Known) (s : Scene K V) (old new : Held K V) → IsAt same hash old s → ShowsWhole same name m known s
-    → ShowsKept name m known s → ShowsFinding name m known s → ShowsSources same name m known s → AllIsInOrder m → ShowsPurposes same name (past log) m known s
+    (name : ℕ → List ℕ) (log : Past K V) (m : Moment K V) (known : Known) (s : Scene K V) (old new : Held K V) → IsAt same hash old s → ShowsWhole same name m known s
+    → ShowsKept name m known s → ShowsFinding name m known s → ShowsSources same name m known s → AllIsInOrder m → ShowsPurposes same name log m known s
     → (map i : ℕ) (u : UnderWay K V K) (here : s.calls map i ≡ Some u) (said : Progress (Node K V)) (leads : StepLeads same hash i said s old new)
     → (terms : Terms) (c : CallThere K V) → call_of (name i) m ≡ Some c → (leads map u here).0.setting.mask + 1 ≡ shards_of terms
     → (let effects = effects_of (acts.Call i map) known new.changed in
-    let moments = moments_from c.begun log in
+    let moments = log.since c.begun in
     ((n : NewTable) → making_of_copier (machine_of u) ≡ Some n → OneOf (HasNext map) (m ∷ moments)) → FoundFull map (many_of map m) (m ∷ moments) u
     → FindRest terms moments (name i) map effects m)

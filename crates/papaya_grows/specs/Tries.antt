@@ -10,8 +10,6 @@ use Rattle.papaya_purposes.specs.Given.Raw.declared.machines.call.KeyCall.{KeyCa
 use Rattle.papaya_purposes.specs.Given.Raw.declared.machines.machine.Machine.{Machine}
 use Rattle.papaya_purposes.specs.Given.Raw.declared.machines.machine.Machine.TheVariants as kinds
 use Rattle.papaya_purposes.specs.Given.Schedules.declared.effect.Spot.{Spot}
-use Rattle.papaya_purposes.specs.Given.Schedules.After.{moments_from}
-use Rattle.papaya_purposes.specs.Given.Schedules.Entry.{Entry}
 use Rattle.papaya_purposes.specs.Given.Schedules.Lists.{OneOf}
 use Rattle.papaya_purposes.specs.Given.Schedules.Moment.{Moment, UnderWay as CallThere}
 use Rattle.papaya_purposes.specs.Given.Schedules.Tries.{try_at, FindsTaken}
@@ -20,6 +18,8 @@ use Rattle.papaya_purposes.specs.Given.Callers.Together.{UnderWay}
 use Rattle.papaya_purposes.specs.Given.Finishes.Machines.{machine_of}
 use Rattle.papaya_purposes.specs.Given.Finds.Within.{many_of}
 use Rattle.papaya_purposes.specs.Given.Scenes.Scene.{Scene}
+use Rattle.papaya_purposes.specs.Given.Schedules.Transition.{Past}
+use Rattle.std.specs.List.{AllByRecursion}
 
 -- By what is so of a place and of so many pairs there:
 module _ (Why : Spot × ℕ → Type 0) where
@@ -64,19 +64,23 @@ module _ {K V : Type 0} where
   abbrev pub TakenOrPassed : ℕ → Spot × ℕ → Moment K V → Type 0
   TakenOrPassed map x m = FindsTaken map x.0 m x.1 ⊎ (suc x.0.turn < many_of map m)
 
-  -- so it was at a moment of the log since the call began, or is so now
-  abbrev pub HadTaken : ℕ → ℕ → List (Entry K V) → Spot × ℕ → Type 0
-  HadTaken map begun log x = OneOf (TakenOrPassed map x) (moments_from begun log)
+  -- no map had more tables at any of the moments since an entry than at the last one
+  abbrev pub TablesLast : Past K V → Type 0
+  TablesLast log = (begun : ℕ) → AllByRecursion (λ v. (map : ℕ) → many_of map v ≤ many_of map log.now) (log.since begun)
 
-  abbrev pub HasTaken : ℕ → ℕ → List (Entry K V) → Moment K V → Spot × ℕ → Type 0
+  -- so it was at a moment of the log since the call began, or is so now
+  abbrev pub HadTaken : ℕ → ℕ → Past K V → Spot × ℕ → Type 0
+  HadTaken map begun log x = OneOf (TakenOrPassed map x) (log.since begun)
+
+  abbrev pub HasTaken : ℕ → ℕ → Past K V → Moment K V → Spot × ℕ → Type 0
   HasTaken map begun log m x = HadTaken map begun log x ⊎ TakenOrPassed map x m
 
   -- so it is of each call that is under way;
-  abbrev pub ShowsTries : (ℕ → List ℕ) → List (Entry K V) → Moment K V → Scene K V → Type 0
+  abbrev pub ShowsTries : (ℕ → List ℕ) → Past K V → Moment K V → Scene K V → Type 0
   ShowsTries name log m s =
       (map i : ℕ) (u : UnderWay K V K) → s.calls map i ≡ Some u → (c : CallThere K V) → call_of (name i) m ≡ Some c → MachineTried (HasTaken map c.begun log m) (machine_of u)
 
   -- in the midst of an event of caller i, by the log alone of each other call
-  abbrev pub OthersHadTried : (ℕ → List ℕ) → List (Entry K V) → ℕ → Moment K V → Scene K V → Type 0
+  abbrev pub OthersHadTried : (ℕ → List ℕ) → Past K V → ℕ → Moment K V → Scene K V → Type 0
   OthersHadTried name log i m s =
       (map j : ℕ) (u : UnderWay K V K) → s.calls map j ≡ Some u → j ≢ i → (c : CallThere K V) → call_of (name j) m ≡ Some c → MachineTried (HadTaken map c.begun log) (machine_of u)

@@ -57,8 +57,8 @@ module _ (K V : Type 0) (same : K → K → Bool) (hash : ℕ → K → ℕ) whe
       legal : IsLegalBut same terms log e
       legal = (idle_events_are_legal K V same terms log known s.world e refl tt run.sections tt refl refl tt (no_calls_are_swept K V same terms (past log) (transition log e) refl) tt tt).0
 
-      shown : ShowsCalls same name log (with_call (name i) guard call (Some map) (moment log)) known (scene_with map i u s)
-      shown = calls_begin K V same hash name log known s old new at run.calls map i standing there u call guard begins right none rests at2
+      shown : ShowsCalls same name (past log) (with_call (name i) guard call (Some map) (moment log)) known (scene_with map i u s)
+      shown = calls_begin K V same hash name (past log) known s old new at run.calls map i standing there u call guard begins right none rests at2
 
       reading : ShowsReading name (past log) (λ j. 0) (with_call (name i) guard call (Some map) (moment log)) (scene_with map i u s)
       reading = calls_begin_readings K V same name (past log) (moment log) known s run.calls.whole run.reading map i u call guard none right.looks (events_are log)
@@ -103,8 +103,8 @@ module _ (K V : Type 0) (same : K → K → Bool) (hash : ℕ → K → ℕ) whe
       legal : IsLegalBut same terms log e
       legal = (idle_events_are_legal K V same terms log known s.world e refl tt run.sections tt refl refl tt (no_calls_are_swept K V same terms (past log) (transition log e) refl) tt tt).0
 
-      shown : ShowsCalls same name log (told (name i) is_told (moment log)) known (scene_with map i next s)
-      shown = calls_take K V same hash name log (moment log) known s old new at run.calls map i u here c c_is question asks standing there is_told next next_is takes told_kind taken at2
+      shown : ShowsCalls same name (past log) (told (name i) is_told (moment log)) known (scene_with map i next s)
+      shown = calls_take K V same hash name (past log) (moment log) known s old new at run.calls map i u here c c_is question asks standing there is_told next next_is takes told_kind taken at2
 
       no_look : looks c.call ≡ false
       no_look = by (looks c.call) refl
@@ -133,8 +133,8 @@ module _ (K V : Type 0) (same : K → K → Bool) (hash : ℕ → K → ℕ) whe
       at_end : Scene K V
       at_end = record s { calls = with_call_of s.calls map i (unless_stopped true u) }
 
-      shown : ShowsCalls same name log (given_up (name i) true (moment log)) known at_end
-      shown = walks_stop K V same hash name log (moment log) known s old new at run.calls i true leads map u here (λ e. none)
+      shown : ShowsCalls same name (past log) (given_up (name i) true (moment log)) known at_end
+      shown = walks_stop K V same hash name (past log) (moment log) known s old new at run.calls i true leads map u here (λ e. none)
 
       -- the calls that are left were there, as they were
       left : (n j : ℕ) (x : UnderWay K V K) → at_end.calls n j ≡ Some x → s.calls n j ≡ Some x

@@ -9,7 +9,6 @@ use Rattle.papaya_grows.specs.Given.Sweeps.declared.sweep.Sweeping.TheVariants a
 use Rattle.papaya_grows.specs.Given.Raw.declared.machines.machine.Machine.{Machine}
 use Rattle.papaya_grows.specs.Given.Points.FactsCalls.{Unchanged}
 use Rattle.papaya_grows.specs.Given.Schedules.declared.effect.Thing.TheVariants.{APair}
-use Rattle.papaya_grows.specs.Given.Schedules.After.{moment}
 use Rattle.papaya_grows.specs.Given.Schedules.Beginning.{with_call}
 use Rattle.papaya_grows.specs.Given.Schedules.declared.outcome.Outcome.TheVariants.{Refused}
 use Rattle.papaya_grows.specs.Given.Schedules.Moment.{UnderWay as CallThere, Stands, Asking, Moment}
@@ -37,7 +36,6 @@ use Rattle.papaya_grows.specs.Given.Histories.Asking.{IsToldQuestion}
 use Rattle.papaya_grows.specs.Given.Histories.Histories.{ShowsHistory, began_of}
 use Rattle.papaya_grows.proofs.Given.Histories.AnyCall.Whole.{all_stays_shown}
 use Rattle.papaya_grows.proofs.Given.Histories.Aside.Stays.{as_called_stays, dues_stay}
-use Rattle.papaya_grows.proofs.Given.Histories.Logs.{events_are}
 use Rattle.papaya_grows.proofs.Given.Histories.DueOn.{calls_begin_due, calls_take_due, events_keep_due}
 use Rattle.papaya_grows.proofs.Given.Histories.NoKey.AsCalledOn.{calls_begin_as_called, calls_take_as_called}
 use Rattle.papaya_grows.proofs.Given.Histories.Questions.{calls_begin_questions, calls_come_to_questions, calls_take_questions}
@@ -71,7 +69,6 @@ use Rattle.papaya_grows.proofs.Finding.Between.{asked_same, fewer_calls, none_at
 use Rattle.papaya_grows.specs.Given.Scenes.Beginning.{Begins}
 use Rattle.papaya_grows.specs.Given.Scenes.Replying.{scene_with, unless_stopped}
 use Rattle.papaya_grows.specs.Given.Scenes.Scene.{HasCall, Scene}
-use Rattle.papaya_grows.specs.Given.Schedules.Transition.{past}
 
 pub likes_show : (K V : Type 0) (same : K → K → Bool) → LikesShow K V same
 likes_show K V same name log m v known s all like = subst (λ (x : Moment K V). ShowsCalls same name log x known s) (sym like) (record {
@@ -86,10 +83,10 @@ likes_show K V same name log m v known s all like = subst (λ (x : Moment K V). 
   tries = all.tries;
   counters = counters_stay K V name m other s s all.counters refl refl refl refl refl (λ of j x is removed adds. (x, is, adds));
   uncounted = all.uncounted;
-  dues = (dues_stay K V same (λ n k. 0) name (past log)).alike m other known s all.dues alike;
+  dues = (dues_stay K V same (λ n k. 0) name log).alike m other known s all.dues alike;
   as_called = (as_called_stays K V same (λ n k. 0) name).alike m other known s all.as_called alike;
   questions = all.questions;
-  purposes = (purposes_stay K V same (λ n k. 0) name (past log)).alike m other known s all.purposes alike;
+  purposes = (purposes_stay K V same (λ n k. 0) name log).alike m other known s all.purposes alike;
 })
   where
     other : Moment K V
@@ -108,21 +105,21 @@ likes_show K V same name log m v known s all like = subst (λ (x : Moment K V). 
     alike = record { place = refl; born = refl; stored = refl; maps = refl; tables = refl; calls = refl }
 
 pub logs_grow : (K V : Type 0) (same : K → K → Bool) → LogsGrow K V same
-logs_grow K V same name log e known s all = record {
+logs_grow K V same name log m known s all counted = record {
   whole = all.whole;
   numbers = all.numbers;
   kept = all.kept;
   finding = all.finding;
   sources = all.sources;
-  nexts = nexts_grow name log e (moment (e ∷ log)) s all.purposes.begun all.nexts;
-  limits = limits_grow name log e (moment (e ∷ log)) s all.purposes.begun all.limits;
-  tries = tries_grow name log e (moment (e ∷ log)) s all.purposes.begun all.tries;
+  nexts = nexts_grow name log m m s all.purposes.begun all.nexts;
+  limits = limits_grow name log m m s all.purposes.begun all.limits;
+  tries = tries_grow name log m m s all.purposes.begun all.tries;
   counters = all.counters;
   uncounted = all.uncounted;
-  dues = events_keep_due K V same name (past log) (moment (e ∷ log)) known s all.dues (events_are (e ∷ log));
+  dues = events_keep_due K V same name log m known s all.dues counted;
   as_called = all.as_called;
   questions = all.questions;
-  purposes = events_keep_purposes K V same name (past log) (moment (e ∷ log)) known s all.purposes (events_are (e ∷ log));
+  purposes = events_keep_purposes K V same name log m known s all.purposes counted;
 }
 
 -- a call by another name is that by its name
@@ -175,7 +172,7 @@ names_change K V same name name2 log m known s agree all = record {
     as_named : (map i : ℕ) (u : UnderWay K V K) → s.calls map i ≡ Some u → (c : CallThere K V) → call_of (name2 i) m ≡ Some c → call_of (name i) m ≡ Some c
     as_named map i u is c c_is = named_as name name2 m s agree map i u is c c_is
 
-    history : ShowsHistory same name2 (past log) m known s
+    history : ShowsHistory same name2 log m known s
     history = record {
       past = all.dues.history.past;
       shown = shows same name name2 m known s agree all.dues.history.shown;
@@ -257,7 +254,7 @@ module _ {K V : Type 0} (own : List ℕ) (m : Moment K V) where
 module _ (K V : Type 0) (same : K → K → Bool) (hash : ℕ → K → ℕ) where
   pub calls_begin : CallsBegin K V same hash
   calls_begin name log known s old new at all map i standing there u call guard begins right none rests at2 =
-      let m = moment log in
+      let m = log.now in
       let v = with_call (name i) guard call (Some map) m in
       let then_at = scene_with map i u s in
       let whole = calls_begin_whole K V same name m known s all.whole map i u call guard none right.called right.given rests in
@@ -278,11 +275,11 @@ module _ (K V : Type 0) (same : K → K → Bool) (hash : ℕ → K → ℕ) whe
         tries = calls_begin_tries same name log m s all.tries map i u guard call standing begins none;
         counters = calls_begin_counters K V name m s all.counters map i u call guard none (uncounted_at_first K V same standing i u begins);
         uncounted = all.uncounted;
-        dues = calls_begin_due K V same hash name (past log) m known s old at all.dues map i u call guard standing there (began_now same standing i u begins) (unchanged same standing i u begins) none right.called
-            right.given (events_are log);
+        dues = calls_begin_due K V same hash name log m known s old at all.dues map i u call guard standing there (began_now same standing i u begins) (unchanged same standing i u begins) none right.called
+            right.given all.purposes.past.counted;
         as_called = calls_begin_as_called K V same name m known s all.as_called map i u call guard none right.called right.swept;
         questions = calls_begin_questions K V (name i) guard call (Some map) m all.questions;
-        purposes = calls_begin_purposes K V same hash name (past log) m known s old at all.purposes map i u call guard standing there begins none right.called right.aim (events_are log) refl;
+        purposes = calls_begin_purposes K V same hash name log m known s old at all.purposes map i u call guard standing there begins none right.called right.aim all.purposes.past.counted refl;
       }
 
   pub calls_take : CallsTake K V same hash
@@ -306,10 +303,10 @@ module _ (K V : Type 0) (same : K → K → Bool) (hash : ℕ → K → ℕ) whe
         tries = calls_take_tries same name log m s all.tries map i u here all.whole.all.shown.calls next is_told (as_told is_told) next_is;
         counters = calls_take_counters K V same name m known s all.whole all.counters map i u here (as_told is_told) next next_is is_told;
         uncounted = all.uncounted;
-        dues = calls_take_due K V same hash name (past log) m known s old at all.dues map i u here c c_is question asks standing there is_told next next_is takes told_kind taken;
+        dues = calls_take_due K V same hash name log m known s old at all.dues map i u here c c_is question asks standing there is_told next next_is takes told_kind taken;
         as_called = calls_take_as_called K V same hash name m known s old at all.whole all.as_called map i u here c c_is question asks standing there is_told next next_is takes told_kind;
         questions = calls_take_questions K V (name i) is_told m all.questions;
-        purposes = calls_take_purposes K V same hash name (past log) m known s old at all.whole all.purposes map i u here c c_is question asks (asks_about known u question about) standing there is_told next takes told_kind;
+        purposes = calls_take_purposes K V same hash name log m known s old at all.whole all.purposes map i u here c c_is question asks (asks_about known u question about) standing there is_told next takes told_kind;
       }
     where
       stays : in_hand known (machine_of next) ≡ in_hand known (machine_of u)
@@ -343,10 +340,10 @@ module _ (K V : Type 0) (same : K → K → Bool) (hash : ℕ → K → ℕ) whe
     tries = walks_go_on_tries same name log m s all.tries map i (OverAll o) here all.whole.all.shown.calls next (leads map (OverAll o) here).1;
     counters = on_counters name m s map i (Some next) its all.counters;
     uncounted = all.uncounted;
-    dues = (dues_stay K V same hash name (past log)).walks m known s old new at all.whole all.dues i leads map o here is;
+    dues = (dues_stay K V same hash name log).walks m known s old new at all.whole all.dues i leads map o here is;
     as_called = (as_called_stays K V same hash name).walks m known s old new at all.whole all.as_called i leads map o here is;
     questions = all.questions;
-    purposes = (purposes_stay K V same hash name (past log)).walks m known s old new at all.whole all.purposes i leads map o here is;
+    purposes = (purposes_stay K V same hash name log).walks m known s old new at all.whole all.purposes i leads map o here is;
   }
     where
       next : UnderWay K V K
@@ -378,10 +375,10 @@ module _ (K V : Type 0) (same : K → K → Bool) (hash : ℕ → K → ℕ) whe
     tries = walks_stop_tries same name log m s all.tries map i u here all.whole.all.shown.calls u stopped none;
     counters = by stopped none;
     uncounted = given_uncounted (name i) m stopped all.uncounted;
-    dues = (dues_stay K V same hash name (past log)).walks_stop m known s old new at all.whole all.dues i stopped leads map u here none;
+    dues = (dues_stay K V same hash name log).walks_stop m known s old new at all.whole all.dues i stopped leads map u here none;
     as_called = (as_called_stays K V same hash name).walks_stop m known s old new at all.whole all.as_called i stopped leads map u here none;
     questions = given_questions (name i) m stopped all.questions;
-    purposes = (purposes_stay K V same hash name (past log)).walks_stop m known s old new at all.whole all.purposes i stopped leads map u here none;
+    purposes = (purposes_stay K V same hash name log).walks_stop m known s old new at all.whole all.purposes i stopped leads map u here none;
   }
     where
       at_end : Bool → Scene K V

@@ -28,7 +28,6 @@ use Rattle.papaya_grows.proofs.Tries.Shows.{tries_where}
 use Rattle.papaya_grows.proofs.Finding.Nexts.{nexts_where}
 use Rattle.papaya_grows.proofs.Finding.Between.{finding_where, found_beside, found_kept}
 use Rattle.papaya_grows.specs.Given.Scenes.Ending.{ending_begun}
-use Rattle.papaya_grows.specs.Given.Schedules.Transition.{past}
 
 module _ (K V : Type 0) (same : K → K → Bool) (hash : ℕ → K → ℕ) where
   pub maps_come : MapsCome K V same hash
@@ -45,10 +44,10 @@ module _ (K V : Type 0) (same : K → K → Bool) (hash : ℕ → K → ℕ) whe
           tries = tries_where same hash name log m (with_map there m) s e at all.tries still (record { stored = refl; place = refl; born = refl; spot = refl }) refl refl;
           counters = counters_stay K V name m (with_map there m) s s all.counters refl refl refl refl refl (λ of j x is removed adds. (x, is, adds));
           uncounted = λ of low. (let l : m.made ≤ of = omega (arith, low) in all.uncounted of l);
-          dues = (dues_stay K V same hash name (past log)).maps_come m known s e e at all.whole all.dues there come.1;
+          dues = (dues_stay K V same hash name log).maps_come m known s e e at all.whole all.dues there come.1;
           as_called = (as_called_stays K V same hash name).maps_come m known s e e at all.whole all.as_called there come.1;
           questions = all.questions;
-          purposes = (purposes_stay K V same hash name (past log)).maps_come m known s e e at all.whole all.purposes there come.1;
+          purposes = (purposes_stay K V same hash name log).maps_come m known s e e at all.whole all.purposes there come.1;
         },
         (let l : m.made ≤ there.number = omega (arith, number) in all.uncounted there.number l),
       )
@@ -71,10 +70,10 @@ module _ (K V : Type 0) (same : K → K → Bool) (hash : ℕ → K → ℕ) whe
     tries = all.tries;
     counters = makings_begin_counters K V name m s all.counters i b not_made uncounted;
     uncounted = all.uncounted;
-    dues = (dues_stay K V same hash name (past log)).makings_begin m known s old new at all.whole all.dues i b at2;
+    dues = (dues_stay K V same hash name log).makings_begin m known s old new at all.whole all.dues i b at2;
     as_called = (as_called_stays K V same hash name).makings_begin m known s old new at all.whole all.as_called i b at2;
     questions = all.questions;
-    purposes = (purposes_stay K V same hash name (past log)).makings_begin m known s old new at all.whole all.purposes i b at2;
+    purposes = (purposes_stay K V same hash name log).makings_begin m known s old new at all.whole all.purposes i b at2;
   }
 
   pub ends_begin : EndsBegin K V same hash
@@ -90,10 +89,10 @@ module _ (K V : Type 0) (same : K → K → Bool) (hash : ℕ → K → ℕ) whe
     tries = all.tries;
     counters = endings_begin_counters K V name m s all.counters map i standing;
     uncounted = all.uncounted;
-    dues = (dues_stay K V same hash name (past log)).endings_begin m known s old new at all.whole all.dues map i standing there at2;
+    dues = (dues_stay K V same hash name log).endings_begin m known s old new at all.whole all.dues map i standing there at2;
     as_called = (as_called_stays K V same hash name).endings_begin m known s old new at all.whole all.as_called map i standing there at2;
     questions = all.questions;
-    purposes = (purposes_stay K V same hash name (past log)).endings_begin m known s old new at all.whole all.purposes map i standing there at2;
+    purposes = (purposes_stay K V same hash name log).endings_begin m known s old new at all.whole all.purposes map i standing there at2;
   }
     where
       kept : ShowsKept name m known (ending_begun map i standing s)
@@ -115,10 +114,10 @@ module _ (K V : Type 0) (same : K → K → Bool) (hash : ℕ → K → ℕ) whe
     tries = tries_where same hash name log m (without_map own remains m) s e at all.tries still (record { stored = refl; place = refl; born = refl; spot = refl }) refl refl;
     counters = counters_stay K V name m (without_map own remains m) s s all.counters refl refl refl refl refl (λ of j x is removed adds. (x, is, adds));
     uncounted = all.uncounted;
-    dues = (dues_stay K V same hash name (past log)).endings_over m known s e e at all.whole all.dues own remains apart;
+    dues = (dues_stay K V same hash name log).endings_over m known s e e at all.whole all.dues own remains apart;
     as_called = (as_called_stays K V same hash name).endings_over m known s e e at all.whole all.as_called own remains apart;
     questions = all.questions;
-    purposes = (purposes_stay K V same hash name (past log)).endings_over m known s e e at all.whole all.purposes own remains apart;
+    purposes = (purposes_stay K V same hash name log).endings_over m known s e e at all.whole all.purposes own remains apart;
   }
     where
       still : (n : ℕ) (st : Standing K) → s.maps n ≡ Some st → map_at n (without_map own remains m) ≡ map_at n m

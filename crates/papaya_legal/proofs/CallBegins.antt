@@ -40,7 +40,7 @@ pub whole_calls_begin : (K V : Type 0) (same : K → K → Bool) (hash : ℕ →
 whole_calls_begin K V same hash name terms log known s old new at run map i standing there u call guard begins right none rests at2 named on only = (
   c_is,
   call_events_begin_so K V same hash name terms log (with_call (name i) guard call (Some map) (moment log)) (refl, refl) refl refl refl refl refl run.tableless known (scene_with map i u s) new at2
-      (calls_begin K V same hash name log known s old new at run.calls map i standing there u call guard begins right none rests at2)
+      (calls_begin K V same hash name (past log) known s old new at run.calls map i standing there u call guard begins right none rests at2)
       (calls_begin_readings K V same name (past log) (moment log) known s run.calls.whole run.reading map i u call guard none right.looks (events_are log))
       run.sections run.follows (OneCall guard on call) map i (ap (λ (own : List ℕ). Some own) (sym named)) u (now_there s map i u)
       (fresh_call (name i) guard call map (moment log).events) c_is only,
@@ -63,8 +63,8 @@ nexts_begin K V same hash name terms log known s old new at run i leads map o he
     next : UnderWay K V K
     next = (leads map (OverAll o) here).0
 
-    shown : ShowsCalls same name log (moment log) known (scene_with map i next s)
-    shown = walks_go_on K V same hash name log (moment log) known s old new at run.calls i leads map o here is
+    shown : ShowsCalls same name (past log) (moment log) known (scene_with map i next s)
+    shown = walks_go_on K V same hash name (past log) (moment log) known s old new at run.calls i leads map o here is
 
     -- it is none, and all others are as they were
     no_lookup : (n j : ℕ) (x : UnderWay K V K) → (scene_with map i next s).calls n j ≡ Some x → ◌≡◌ {A = Option (UnderWay K V K)} (Some next) (Some x) → (d : CallThere K V)

@@ -21,15 +21,10 @@ use Rattle.papaya_grows.specs.Given.Effects.Known.{Known}
 use Rattle.papaya_grows.specs.Given.Effects.declared.acting.Acting.TheVariants as acts
 use Rattle.papaya_grows.specs.Given.Moments.Whole.{ShowsWhole}
 use Rattle.papaya_grows.proofs.Given.Moments.After.{effects_after}
-use Rattle.papaya_grows.proofs.Given.Moments.NewMaps.{effects_keep_pairs}
-use Rattle.papaya_grows.proofs.Given.Moments.Numbers.{numbers_are_below, steps_keep_numbers}
-use Rattle.papaya_grows.proofs.Given.Kept.Calls.{calls_keep_kept}
-use Rattle.papaya_grows.proofs.Given.Shards.ShardCalls.{calls_keep_counters}
+use Rattle.papaya_grows.proofs.Given.Moments.Numbers.{numbers_are_below}
 use Rattle.papaya_grows.specs.Given.Histories.AsCalled.{ShowsAsCalled}
 use Rattle.papaya_grows.specs.Given.Histories.Due.{ShowsDue}
 use Rattle.papaya_grows.specs.Given.Histories.InEvent.{here_of}
-use Rattle.papaya_grows.proofs.Given.Histories.Questions.{effects_keep_questions}
-use Rattle.papaya_grows.proofs.Given.Purposes.Kept.{calls_keep_purposes}
 use Rattle.papaya_grows.proofs.Given.Histories.AnyCall.InEvent.{events_begin, events_go_on, events_keep_all}
 use Rattle.papaya_models.specs.CallEvents.{FollowsInEvent, IsInItsRow}
 use Rattle.papaya_models.proofs.CallEvents.{call_events_begin, call_events_go_on}
@@ -50,19 +45,17 @@ use Rattle.papaya_legal.proofs.CallChanges.{changes_first, reads_shards, unadded
 use Rattle.papaya_grows.proofs.Given.Histories.Several.{stands}
 use Rattle.papaya_legal.proofs.CallPairs.{begun_so, each_is_its_own, own_alike, pairs_first}
 use Rattle.papaya_legal.proofs.CallReads.{does_nothing, readings_go_on}
-use Rattle.papaya_grows.proofs.Given.Sources.Steps.{calls_keep_sources}
-use Rattle.papaya_grows.proofs.Finding.Calls.{calls_keep_finding}
 use Rattle.papaya_grows.proofs.Limits.Shows.{limits_at_first}
-use Rattle.papaya_grows.proofs.Limits.Steps.{limits_go_on, limits_others}
+use Rattle.papaya_grows.proofs.Limits.Steps.{limits_others}
 use Rattle.papaya_grows.proofs.Tries.Shows.{tries_at_first}
-use Rattle.papaya_grows.proofs.Tries.Steps.{tries_go_on, tries_others}
+use Rattle.papaya_grows.proofs.Tries.Steps.{tries_others}
 use Rattle.papaya_grows.proofs.Finding.Alike.{many_same}
 use Rattle.papaya_grows.proofs.Given.Finds.Grows.Steps.{tables_have_been}
-use Rattle.papaya_grows.proofs.Finding.Nexts.{nexts_go_on, others_at_first, others_go_on}
-use Rattle.papaya_legal.proofs.Uncounted.{calls_leave_uncounted}
+use Rattle.papaya_grows.proofs.Finding.Nexts.{others_at_first, others_go_on}
 use Rattle.papaya_grows.specs.Given.Scenes.Scene.{Scene, slot_of}
 use Rattle.papaya_grows.specs.Given.Scenes.Stepping.{scene_after}
 use Rattle.papaya_grows.specs.Given.Schedules.Transition.{past}
+use Rattle.papaya_legal.proofs.OneStep.{calls_show_on}
 
 -- no steps, whoever's
 none_made : (q : Bool) → ◌≡◌ {A = ℕ} 0 (if q then 0 else 0)
@@ -83,9 +76,9 @@ call_events_begin_so K V same hash name terms log beginning begins maps tables s
   of_call = caller_is;
   event_so = events_begin K V same hash name (past log) beginning begins known s x at all.whole all.dues all.as_called map i u here c c_is;
   calls = all;
-  others = others_at_first name log i beginning s maps tables all.purposes.begun all.nexts;
-  other_limits = limits_at_first name log i beginning s maps tables all.purposes.begun all.limits;
-  other_tries = tries_at_first name log i beginning s (record { stored = sym begins.1; place = sym begins.0; born = sym born; spot = sym spot }) maps tables all.purposes.begun all.tries;
+  others = others_at_first name (past log) all.purposes.past i beginning s maps tables all.purposes.begun all.nexts;
+  other_limits = limits_at_first name (past log) all.purposes.past i beginning s maps tables all.purposes.begun all.limits;
+  other_tries = tries_at_first name (past log) all.purposes.past i beginning s (record { stored = sym begins.1; place = sym begins.0; born = sym born; spot = sym spot }) maps tables all.purposes.begun all.tries;
   tables = many_same (moment log) beginning tables;
   worked = refl;
   few = let none : 0 ≤ 0 = omega arith in none;
@@ -137,32 +130,14 @@ pub call_events_go_on_so : (K V : Type 0) (same : K → K → Bool) (hash : ℕ 
 call_events_go_on_so K V same hash name terms log event beginning map i c steps done m known s u midst old new at size said leads none noted next next_is = record {
   of_call = midst.of_call;
   event_so = events_go_on K V same hash name (past log) beginning map i c done m known s u midst.event_so old new at said leads next next_is;
-  calls = record {
-    whole = all.0;
-    numbers = (
-      steps_keep_numbers K V m midst.calls.numbers.0 (Some (name i)) (Some map) (acts.Call i map) known new.changed below,
-      effects_keep_pairs K V m midst.calls.numbers.1 (Some (name i)) (Some map) effects (λ n is. let one : map ≡ n = cc is in subst (λ (k : ℕ). k < m.made) one below),
-    );
-    kept = calls_keep_kept K V same hash name m known s old new at whole midst.calls.kept map i u here said leads;
-    finding = calls_keep_finding K V same hash name m known s old new at whole midst.calls.kept midst.calls.finding map i u here said leads;
-    sources = calls_keep_sources K V same hash name m known s old new at whole midst.calls.sources map i u here said leads;
-    nexts = nexts_go_on same hash name log m known s old new at whole map i u here said leads midst.others midst.calls.nexts (whole.all.shown.calls map i u here).0 (whole.all.shown.calls map i u here).1;
-    tries = tries_go_on same hash name log m known s old new at whole map i u here said leads midst.calls.sources midst.calls.tries (whole.all.shown.calls map i u here).0 (whole.all.shown.calls map i u here).1 midst.other_tries;
-    limits = limits_go_on same hash name log m known s old new at whole map i u here said leads midst.calls.limits midst.calls.finding.capacities (whole.all.shown.calls map i u here).0 (whole.all.shown.calls map i u here).1 midst.other_limits;
-    counters = calls_keep_counters K V same hash name m known s old new at whole midst.calls.kept.counts midst.calls.counters map i u here said leads;
-    uncounted = calls_leave_uncounted same hash name m known s old new at whole midst.calls.kept midst.calls.counters midst.calls.uncounted map i u here said leads below;
-    dues = all.1;
-    as_called = all.2;
-    questions = effects_keep_questions K V (Some (name i)) (Some map) effects m midst.calls.questions;
-    purposes = calls_keep_purposes K V same hash name (past log) m known s old new at whole midst.calls.purposes map i u here said leads
-        (pairs_first same hash name log beginning map i c done m known s whole old new at said leads u midst.event_so
-        (begun_so same name log beginning map i c done m known s u midst.event_so) midst.worked midst.its_own)
-        (changes_first same hash name log beginning map i c done m known s old new at said leads u midst.event_so)
-        (reads_shards K V same hash name log m known s old new at whole midst.calls.counters map i u here said leads midst.unadded) none;
-  };
-  others = others_go_on same hash name log m known s old new at whole map i u here said leads midst.others;
-  other_limits = limits_others same hash name log m known s old new at whole map i u here said leads midst.other_limits;
-  other_tries = tries_others same hash name log m known s old new at whole map i u here said leads midst.other_tries;
+  calls = calls_show_on same hash name (past log) m known s old new at midst.calls map i u here said leads midst.others midst.other_tries midst.other_limits
+      (pairs_first same hash name log beginning map i c done m known s whole old new at said leads u midst.event_so (begun_so same name log beginning map i c done m known s u midst.event_so) midst.worked
+      midst.its_own)
+      (changes_first same hash name log beginning map i c done m known s old new at said leads u midst.event_so)
+      (reads_shards K V same hash name log m known s old new at whole midst.calls.counters map i u here said leads midst.unadded) none;
+  others = others_go_on same hash name (past log) m known s old new at whole map i u here said leads midst.others;
+  other_limits = limits_others same hash name (past log) m known s old new at whole map i u here said leads midst.other_limits;
+  other_tries = tries_others same hash name (past log) m known s old new at whole map i u here said leads midst.other_tries;
   tables = λ of. (let had = midst.tables of in let more = tables_have_been K V (Some (name i)) (Some map) effects m of in omega (arith, had, more));
   worked = ap (λ (x : Moment K V). with_effects (Some (name i)) (Some map) effects x) midst.worked ∙ sym (effects_after (Some (name i)) (Some map) done effects beginning);
   few = parts_add_up steps 1 done effects midst.few (operations_are_single (acts.Call i map) known new.changed).0;

@@ -97,10 +97,10 @@ call_events_end_so K V same hash name terms log beginning map i c first before r
         (ap (λ (x : Moment K V). x.spot) worked_is) alike.stored (calls_keep_finding K V same hash name m known s old new at whole midst.calls.kept midst.calls.finding map i u here said leads);
     sources = sources_so K V same name v last then_known then_known s2 s2 (calls_keep_sources K V same hash name m known s old new at whole midst.calls.sources map i u here said leads) over.0.all.shown
         alike.stored alike.born (ap (λ (x : Moment K V). x.spot) worked_is) (λ n st is. is);
-    nexts = nexts_alike name (e ∷ log) come last s2 s2 (nexts_grow name log e come s2 purposes.begun come_nexts) alike.calls (next_same come last alike.maps alike.tables) (λ n j x is. is);
-    tries = tries_alike name (e ∷ log) come last s2 s2 (tries_grow name log e come s2 purposes.begun come_tries) alike.calls
+    nexts = nexts_alike name (past (e ∷ log)) come last s2 s2 (nexts_grow name (past log) (moment (e ∷ log)) come s2 purposes.begun come_nexts) alike.calls (next_same come last alike.maps alike.tables) (λ n j x is. is);
+    tries = tries_alike name (past (e ∷ log)) come last s2 s2 (tries_grow name (past log) (moment (e ∷ log)) come s2 purposes.begun come_tries) alike.calls
         (record { stored = alike.stored; place = alike.place; born = alike.born; spot = ap (λ (x : Moment K V). x.spot) worked_is }) alike.maps alike.tables (λ n j x is. is);
-    limits = limits_alike name (e ∷ log) come last s2 s2 (limits_grow name log e come s2 purposes.begun come_limits) alike.calls (limit_same come last alike.maps alike.tables) (λ n j x is. is);
+    limits = limits_alike name (past (e ∷ log)) come last s2 s2 (limits_grow name (past log) (moment (e ∷ log)) come s2 purposes.begun come_limits) alike.calls (limit_same come last alike.maps alike.tables) (λ n j x is. is);
     counters = counters_stay K V name come last s2 s2
         (calls_come_to_counters K V same name v then_known s2 all.0 (calls_keep_counters K V same hash name m known s old new at whole midst.calls.kept.counts midst.calls.counters map i u here said leads) (name i) e.outcome
         e.steps none)
@@ -166,22 +166,22 @@ call_events_end_so K V same hash name terms log beginning map i c first before r
     alike : HasSame come last
     alike = like_over log e (name i) v midst.of_call worked_is
 
-    come_nexts : ShowsNexts name log come s2
+    come_nexts : ShowsNexts name (past log) come s2
     come_nexts =
-        calls_come_to_nexts same name log v s2
-        (nexts_go_on same hash name log m known s old new at whole map i u here said leads midst.others midst.calls.nexts (whole.all.shown.calls map i u here).0 (whole.all.shown.calls map i u here).1)
+        calls_come_to_nexts same name (past log) v s2
+        (nexts_go_on same hash name (past log) m known s old new at whole map i u here said leads midst.others midst.calls.nexts (whole.all.shown.calls map i u here).0 (whole.all.shown.calls map i u here).1)
         all.0.all.shown.calls (name i) e.outcome e.steps none
 
-    come_limits : ShowsLimits name log come s2
+    come_limits : ShowsLimits name (past log) come s2
     come_limits =
-        calls_come_to_limits same name log v s2
-        (limits_go_on same hash name log m known s old new at whole map i u here said leads midst.calls.limits midst.calls.finding.capacities (whole.all.shown.calls map i u here).0 (whole.all.shown.calls map i u here).1 midst.other_limits)
+        calls_come_to_limits same name (past log) v s2
+        (limits_go_on same hash name (past log) m known s old new at whole map i u here said leads midst.calls.limits midst.calls.finding.capacities (whole.all.shown.calls map i u here).0 (whole.all.shown.calls map i u here).1 midst.other_limits)
         all.0.all.shown.calls (name i) e.outcome e.steps none
 
-    come_tries : ShowsTries name log come s2
+    come_tries : ShowsTries name (past log) come s2
     come_tries =
-        calls_come_to_tries same name log v s2
-        (tries_go_on same hash name log m known s old new at whole map i u here said leads midst.calls.sources midst.calls.tries (whole.all.shown.calls map i u here).0 (whole.all.shown.calls map i u here).1 midst.other_tries)
+        calls_come_to_tries same name (past log) v s2
+        (tries_go_on same hash name (past log) m known s old new at whole map i u here said leads midst.calls.sources midst.calls.tries (whole.all.shown.calls map i u here).0 (whole.all.shown.calls map i u here).1 midst.other_tries)
         all.0.all.shown.calls (name i) e.outcome e.steps none
 
     kept_then : ShowsKept name v then_known s2

@@ -38,7 +38,7 @@ module _ {K V : Type 0} (choice : ℕ) (same : K → K → Bool) (name : ℕ →
   abbrev shown_then : Shows same name m known s → Shows same name m known (scene_chosen choice s)
   shown_then shown = record { blocks = whole.all.shown.blocks; number = shown.number; maps = shown.maps; calls = shown.calls }
 
-  calls_then : ShowsCalls same name log m known s → ShowsCalls same name log m known (scene_chosen choice s)
+  calls_then : ShowsCalls same name (past log) m known s → ShowsCalls same name (past log) m known (scene_chosen choice s)
   calls_then all = record {
     whole = whole;
     numbers = all.numbers;
@@ -99,6 +99,6 @@ choices_end K V same name terms log known s run choice alone whole kept steps ri
     runs : ShowsRun same name terms (its ∷ log) known (scene_chosen choice s)
     runs =
         runs_go_on K V same name name terms log known known s (scene_chosen choice s) run its right legal.0.life tt tt
-        (likes_show K V same name log (moment log) (moment (its ∷ log)) known (scene_chosen choice s) (calls_then choice same name log (moment log) known s whole kept run.calls) refl)
+        (likes_show K V same name (past log) (moment log) (moment (its ∷ log)) known (scene_chosen choice s) (calls_then choice same name log (moment log) known s whole kept run.calls) refl)
         (reading_like name log (λ i. 0) (moment log) (moment (its ∷ log)) (scene_chosen choice s) (reading_then choice same name log (moment log) known s whole kept run.reading) refl) legal.1
         (λ is_alone. follows_then terms log known s choice steps (alone is_alone))

@@ -4,6 +4,7 @@ pub mod Uncounted
 pub mod Sourced
 pub mod Between
 pub mod BetweenMaps
+pub mod OneStep
 pub mod CallChanges
 pub mod CallPairs
 pub mod CallReads

@@ -70,6 +70,7 @@ use Rattle.papaya_grows.specs.Given.Scenes.Held.{Held, IsAt}
 use Rattle.papaya_grows.specs.Given.Scenes.Making.{MakingLeads}
 use Rattle.papaya_grows.specs.Given.Scenes.Scene.{Scene}
 use Rattle.papaya_grows.specs.Given.Schedules.Transition.{past}
+use Rattle.papaya_legal.specs.OneStep.{EndsStep, MakingsStep}
 
 -- a map that stands as it does
 pub stands_so : {K : Type 0} (maps : ℕ → Option (Standing K)) (n : ℕ) (st : Standing K) → maps n ≡ Some st → HasStood maps n st
@@ -128,27 +129,65 @@ module _ {K V : Type 0} (same : K → K → Bool) (hash : ℕ → K → ℕ) (s 
   ]
   made_stood (progress.Refused fault) leads n j x is st there = stands_so s.maps n st there
 
+pub makings_step : (K V : Type 0) (same : K → K → Bool) (hash : ℕ → K → ℕ) → MakingsStep K V same hash
+makings_step K V same hash name log m known s old new at calls i said leads b here was_new none_born finds = record {
+  whole = then_whole;
+  numbers = numbers_by finds;
+  kept = makings_keep_kept K V same hash name m known s old new at whole calls.kept i said leads b here (Some b.map) was_new
+      (made_at same hash s old new at i b here said leads) then_whole.all.shown;
+  finding = finding_by finds;
+  sources = making_sources K V same hash name m known then_known s old new i b here (Some b.map) effects aside calls.sources none_born said leads then_whole.all.shown;
+  nexts = makings_keep_nexts K V same hash name log m known s old new calls.nexts at whole i said leads b here was_new;
+  tries = makings_keep_tries K V same hash name log m known s old new calls.sources calls.tries at whole i said leads b here was_new (made_at same hash s old new at i b here said leads) then_whole;
+  limits = makings_keep_limits K V same hash name log m known s old new calls.limits at whole i said leads b here was_new;
+  counters = makings_keep_counters K V same hash name m known s old new at whole calls.counters i said leads b here (Some b.map);
+  uncounted = none_counted None (Some b.map) effects m calls.uncounted (none_shards (Some b.map) effects m);
+  dues = (dues_stay K V same hash name log).makings m known s old new at whole calls.dues i said leads b here (Some b.map) was_new;
+  as_called = (as_called_stays K V same hash name).makings m known s old new at whole calls.as_called i said leads b here (Some b.map) was_new;
+  questions = effects_keep_questions K V None (Some b.map) effects m calls.questions;
+  purposes = (purposes_stay K V same hash name log).makings m known s old new at whole calls.purposes i said leads b here (Some b.map) was_new;
+}
+  where
+    whole : ShowsWhole same name m known s
+    whole = calls.whole
+
+    effects : List Effect
+    effects = effects_of (acts.Making b.map) known new.changed
+
+    v : Moment K V
+    v = with_effects None (Some b.map) effects m
+
+    then_known : Known
+    then_known = known_after (acts.Making b.map) new.changed known
+
+    aside : AllAside effects
+    aside = makings_aside same hash name m known s old new at whole.all.shown i said leads b here (Some b.map)
+
+    then_whole : ShowsWhole same name v then_known (led same hash s old new at i b here said leads)
+    then_whole = makings_keep_whole K V same hash name m known s old new at whole i said leads b here (Some b.map) was_new
+
+    -- the map is there by its number, or the moment is as it was
+    numbers_by : FindsItsMap b said effects m → NumbersMaps v × PairsAreBelow v
+    numbers_by (inl there) = numbers_then m calls.numbers b.map there.0 (acts.Making b.map) refl known new.changed
+    numbers_by (inr asks) = subst (λ (x : Moment K V). NumbersMaps x × PairsAreBelow x) (sym (growths_leave (Some b.map) effects m asks.1)) calls.numbers
+
+    -- it was made for its capacity, or maps stand as they stood
+    finding_by : FindsItsMap b said effects m → ShowsFinding name v then_known (led same hash s old new at i b here said leads)
+    finding_by (inl there) =
+        makings_keep_finding K V same hash name m known s old new at whole calls.finding i said leads b here was_new there.1 (made_at same hash s old new at i b here said leads) then_whole
+    finding_by (inr asks) =
+        finding_beside same hash name m v known then_known s (led same hash s old new at i b here said leads) new (made_at same hash s old new at i b here said leads) then_whole
+        (makings_go_beside K V same hash name m known s old new at whole i said leads b here (Some b.map) was_new) calls.finding
+        (makings_leave_spots same hash name m known s old new at whole.all.shown i said leads b here (Some b.map)) (tables_have_been K V None (Some b.map) effects m)
+        (effects_keep_lengths None (Some b.map) effects m)
+        (capacities_stay K V m v s (led same hash s old new at i b here said leads) calls.finding.capacities (λ n st is. effects_keep_capacities K V None (Some b.map) effects m n)
+        (stood_as s (led same hash s old new at i b here said leads) (unmade_maps same hash s old new at i b here said leads asks.0)))
+
 pub making_events_go_on_so : (K V : Type 0) (same : K → K → Bool) (hash : ℕ → K → ℕ) → MakingEventsGoOn K V same hash
 making_events_go_on_so K V same hash name terms log event beginning done m known s i b here midst old new at size said leads was_new finds = (
   record {
     of_maps = midst.0.of_maps;
-    calls = record {
-      whole = then_whole;
-      numbers = numbers_by finds;
-      kept = makings_keep_kept K V same hash name m known s old new at whole midst.0.calls.kept i said leads b here (Some b.map) was_new
-          (made_at same hash s old new at i b here said leads) then_whole.all.shown;
-      finding = finding_by finds;
-      sources = making_sources K V same hash name m known then_known s old new i b here (Some b.map) effects aside midst.0.calls.sources midst.2 said leads then_whole.all.shown;
-      nexts = makings_keep_nexts K V same hash name log m known s old new midst.0.calls.nexts at whole i said leads b here was_new;
-      tries = makings_keep_tries K V same hash name log m known s old new midst.0.calls.sources midst.0.calls.tries at whole i said leads b here was_new (made_at same hash s old new at i b here said leads) then_whole;
-      limits = makings_keep_limits K V same hash name log m known s old new midst.0.calls.limits at whole i said leads b here was_new;
-      counters = makings_keep_counters K V same hash name m known s old new at whole midst.0.calls.counters i said leads b here (Some b.map);
-      uncounted = none_counted None (Some b.map) effects m midst.0.calls.uncounted (none_shards (Some b.map) effects m);
-      dues = (dues_stay K V same hash name (past log)).makings m known s old new at whole midst.0.calls.dues i said leads b here (Some b.map) was_new;
-      as_called = (as_called_stays K V same hash name).makings m known s old new at whole midst.0.calls.as_called i said leads b here (Some b.map) was_new;
-      questions = effects_keep_questions K V None (Some b.map) effects m midst.0.calls.questions;
-      purposes = (purposes_stay K V same hash name (past log)).makings m known s old new at whole midst.0.calls.purposes i said leads b here (Some b.map) was_new;
-    };
+    calls = makings_step K V same hash name (past log) m known s old new at midst.0.calls i said leads b here was_new midst.2 finds;
     reading = other_work_keeps_readings K V name (past log) (λ j. 0) m s (led same hash s old new at i b here said leads) (Some b.map) effects (made_calls same hash s old new at i b here said leads)
         (made_stood same hash s old new at i b here said leads) midst.0.reading;
     worked = ap (λ (x : Moment K V). with_effects None (Some b.map) effects x) midst.0.worked ∙ sym (effects_after None (Some b.map) done effects beginning);
@@ -178,26 +217,6 @@ making_events_go_on_so K V same hash name terms log event beginning done m known
 
     aside : AllAside effects
     aside = makings_aside same hash name m known s old new at whole.all.shown i said leads b here (Some b.map)
-
-    then_whole : ShowsWhole same name v then_known (led same hash s old new at i b here said leads)
-    then_whole = makings_keep_whole K V same hash name m known s old new at whole i said leads b here (Some b.map) was_new
-
-    -- the map is there by its number, or the moment is as it was
-    numbers_by : FindsItsMap b said effects m → NumbersMaps v × PairsAreBelow v
-    numbers_by (inl there) = numbers_then m midst.0.calls.numbers b.map there.0 (acts.Making b.map) refl known new.changed
-    numbers_by (inr asks) = subst (λ (x : Moment K V). NumbersMaps x × PairsAreBelow x) (sym (growths_leave (Some b.map) effects m asks.1)) midst.0.calls.numbers
-
-    -- it was made for its capacity, or maps stand as they stood
-    finding_by : FindsItsMap b said effects m → ShowsFinding name v then_known (led same hash s old new at i b here said leads)
-    finding_by (inl there) =
-        makings_keep_finding K V same hash name m known s old new at whole midst.0.calls.finding i said leads b here was_new there.1 (made_at same hash s old new at i b here said leads) then_whole
-    finding_by (inr asks) =
-        finding_beside same hash name m v known then_known s (led same hash s old new at i b here said leads) new (made_at same hash s old new at i b here said leads) then_whole
-        (makings_go_beside K V same hash name m known s old new at whole i said leads b here (Some b.map) was_new) midst.0.calls.finding
-        (makings_leave_spots same hash name m known s old new at whole.all.shown i said leads b here (Some b.map)) (tables_have_been K V None (Some b.map) effects m)
-        (effects_keep_lengths None (Some b.map) effects m)
-        (capacities_stay K V m v s (led same hash s old new at i b here said leads) midst.0.calls.finding.capacities (λ n st is. effects_keep_capacities K V None (Some b.map) effects m n)
-        (stood_as s (led same hash s old new at i b here said leads) (unmade_maps same hash s old new at i b here said leads asks.0)))
 
 -- A step of an end.
 
@@ -239,28 +258,47 @@ module _ {K V : Type 0} (same : K → K → Bool) (hash : ℕ → K → ℕ) (s 
   ended_stood (settled.Gave value) leads n j x is st there = stands_so s.maps n st there
   ended_stood settled.Done leads n j x is st there = stands_so s.maps n st there
 
+pub ends_step : (K V : Type 0) (same : K → K → Bool) (hash : ℕ → K → ℕ) → EndsStep K V same hash
+ends_step K V same hash name log m known s old new at calls i said leads f here map not_there below its = record {
+  whole = then_whole;
+  numbers = numbers_then m calls.numbers map below (acts.Ending map) refl known new.changed;
+  kept = endings_keep_kept K V same hash name m known s old new at whole calls.kept i said leads f here map not_there (ended_at same hash s old new i f here said leads);
+  finding = endings_keep_finding K V same hash name m known s old new at whole calls.finding i f here said leads map not_there (ended_at same hash s old new i f here said leads) then_whole;
+  sources = so_aside K V same name m known then_known s (ended same hash s old new i f here said leads) None (Some map) effects
+      (endings_aside same hash name m known s old new at whole i said leads f here map not_there) calls.sources then_whole.all.shown
+      (λ n st is. ap (λ (maps : ℕ → Option (Standing K)). maps n) (sym (ended_maps same hash s old new i f here said leads)) ∙ is);
+  nexts = endings_keep_nexts K V same hash name log m known s old new calls.nexts at whole i f here said leads map not_there;
+  tries = endings_keep_tries K V same hash name log m known s old new calls.sources calls.tries at whole i f here said leads map not_there (ended_at same hash s old new i f here said leads) then_whole;
+  limits = endings_keep_limits K V same hash name log m known s old new calls.limits at whole i f here said leads map not_there;
+  counters = endings_keep_counters K V same hash name m known s old new at calls.counters i said leads f here map;
+  uncounted = none_counted None (Some map) effects m calls.uncounted (none_shards (Some map) effects m);
+  dues = (dues_stay K V same hash name log).endings m known s old new at whole calls.dues i said leads f here map not_there its;
+  as_called = (as_called_stays K V same hash name).endings m known s old new at whole calls.as_called i said leads f here map not_there its;
+  questions = effects_keep_questions K V None (Some map) effects m calls.questions;
+  purposes = (purposes_stay K V same hash name log).endings m known s old new at whole calls.purposes i said leads f here map not_there its;
+}
+  where
+    whole : ShowsWhole same name m known s
+    whole = calls.whole
+
+    effects : List Effect
+    effects = effects_of (acts.Ending map) known new.changed
+
+    v : Moment K V
+    v = with_effects None (Some map) effects m
+
+    then_known : Known
+    then_known = known_after (acts.Ending map) new.changed known
+
+    then_whole : ShowsWhole same name v then_known (ended same hash s old new i f here said leads)
+    then_whole = endings_keep_whole K V same hash name m known s old new at whole i said leads f here map not_there its
+        (endings_find_kept K V same hash name m known s old new at whole calls.kept i said leads f here map not_there)
+
 pub end_events_go_on_so : (K V : Type 0) (same : K → K → Bool) (hash : ℕ → K → ℕ) → EndEventsGoOn K V same hash
 end_events_go_on_so K V same hash name terms log event map beginning first done m known s i f here not_there midst old new at size below said leads its = (
   record {
     of_maps = midst.0.of_maps;
-    calls = record {
-      whole = then_whole;
-      numbers = numbers_then m midst.0.calls.numbers map below (acts.Ending map) refl known new.changed;
-      kept = endings_keep_kept K V same hash name m known s old new at whole midst.0.calls.kept i said leads f here map not_there (ended_at same hash s old new i f here said leads);
-      finding = endings_keep_finding K V same hash name m known s old new at whole midst.0.calls.finding i f here said leads map not_there (ended_at same hash s old new i f here said leads) then_whole;
-      sources = so_aside K V same name m known then_known s (ended same hash s old new i f here said leads) None (Some map) effects
-          (endings_aside same hash name m known s old new at whole i said leads f here map not_there) midst.0.calls.sources then_whole.all.shown
-          (λ n st is. ap (λ (maps : ℕ → Option (Standing K)). maps n) (sym (ended_maps same hash s old new i f here said leads)) ∙ is);
-      nexts = endings_keep_nexts K V same hash name log m known s old new midst.0.calls.nexts at whole i f here said leads map not_there;
-      tries = endings_keep_tries K V same hash name log m known s old new midst.0.calls.sources midst.0.calls.tries at whole i f here said leads map not_there (ended_at same hash s old new i f here said leads) then_whole;
-      limits = endings_keep_limits K V same hash name log m known s old new midst.0.calls.limits at whole i f here said leads map not_there;
-      counters = endings_keep_counters K V same hash name m known s old new at midst.0.calls.counters i said leads f here map;
-      uncounted = none_counted None (Some map) effects m midst.0.calls.uncounted (none_shards (Some map) effects m);
-      dues = (dues_stay K V same hash name (past log)).endings m known s old new at whole midst.0.calls.dues i said leads f here map not_there its;
-      as_called = (as_called_stays K V same hash name).endings m known s old new at whole midst.0.calls.as_called i said leads f here map not_there its;
-      questions = effects_keep_questions K V None (Some map) effects m midst.0.calls.questions;
-      purposes = (purposes_stay K V same hash name (past log)).endings m known s old new at whole midst.0.calls.purposes i said leads f here map not_there its;
-    };
+    calls = ends_step K V same hash name (past log) m known s old new at midst.0.calls i said leads f here map not_there below its;
     reading = other_work_keeps_readings K V name (past log) (λ j. 0) m s (ended same hash s old new i f here said leads) (Some map) effects (ended_calls same hash s old new i f here said leads)
         (ended_stood same hash s old new i f here said leads) midst.0.reading;
     worked = ap (λ (x : Moment K V). with_effects None (Some map) effects x) midst.0.worked ∙ sym (effects_after None (Some map) done effects beginning);
@@ -286,7 +324,3 @@ end_events_go_on_so K V same hash name terms log event map beginning first done 
 
     then_known : Known
     then_known = known_after (acts.Ending map) new.changed known
-
-    then_whole : ShowsWhole same name v then_known (ended same hash s old new i f here said leads)
-    then_whole = endings_keep_whole K V same hash name m known s old new at whole i said leads f here map not_there its
-        (endings_find_kept K V same hash name m known s old new at whole midst.0.calls.kept i said leads f here map not_there)

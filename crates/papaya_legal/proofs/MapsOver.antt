@@ -51,7 +51,7 @@ module _ (K V : Type 0) (same : K → K → Bool) (hash : ℕ → K → ℕ) whe
   making_events_begin_so name terms log known s old new at run own mode capacity there number i b idle map_is not_made before at2 = (
     record {
       of_maps = refl;
-      calls = makings_begin K V same hash name log (with_map there (moment log)) known s old new at come.0 i b idle not_made
+      calls = makings_begin K V same hash name (past log) (with_map there (moment log)) known s old new at come.0 i b idle not_made
           (subst (λ (n : ℕ). IsUncounted n (with_map there (moment log))) (sym map_is) come.1) at2;
       reading = record { past = run.reading.past; begun = run.reading.begun; reads = run.reading.reads };
       worked = refl;
@@ -62,8 +62,8 @@ module _ (K V : Type 0) (same : K → K → Bool) (hash : ℕ → K → ℕ) whe
     subst (λ (n : ℕ). NoneBorn n (with_map there (moment log))) (sym map_is) (none_born K V (moment log) run.order.0 run.calls.numbers.0 there number),
   )
     where
-      come : ShowsCalls same name log (with_map there (moment log)) known s × IsUncounted there.number (with_map there (moment log))
-      come = maps_come K V same hash name log (moment log) known s old at run.calls there number
+      come : ShowsCalls same name (past log) (with_map there (moment log)) known s × IsUncounted there.number (with_map there (moment log))
+      come = maps_come K V same hash name (past log) (moment log) known s old at run.calls there number
 
       hold : SectionsHold (with_map there (moment log)) known s.world
       hold = (sections_go_on K V (moment log) known s.world run.sections).1.comes there
@@ -72,7 +72,7 @@ module _ (K V : Type 0) (same : K → K → Bool) (hash : ℕ → K → ℕ) whe
   end_events_begin_so name terms log known s old new at run small own map i standing there idle at2 before = (
     record {
       of_maps = refl;
-      calls = ends_begin K V same hash name log (moment log) known s old new at run.calls map i standing there idle at2;
+      calls = ends_begin K V same hash name (past log) (moment log) known s old new at run.calls map i standing there idle at2;
       reading = other_work_keeps_readings K V name (past log) (λ j. 0) (moment log) s (ending_begun map i standing s) (Some map) [] (λ n j x is. is) (λ n j x is st stands. stood n st stands) run.reading;
       worked = refl;
       granted = refl;
@@ -139,7 +139,7 @@ module _ (K V : Type 0) (same : K → K → Bool) where
   making_events_end_so name terms log map beginning m first known before s own mode capacity outcome steps effects midst begins acted run right life sections follows =
       runs_go_on K V same name name terms log first known before s run e right life
       (each_store None (acted_on e.event (at_work e (moment log))) (may_do e.event (moment log)) (making_stores None (acted_on e.event (at_work e (moment log)))) effects (at_work e (moment log)) life.may) tt
-      (likes_show K V same name log m (moment (e ∷ log)) known s midst.calls like) (reading_like name log (λ j. 0) m (moment (e ∷ log)) s midst.reading like) sections (λ alone. inl (follows alone))
+      (likes_show K V same name (past log) m (moment (e ∷ log)) known s midst.calls like) (reading_like name log (λ j. 0) m (moment (e ∷ log)) s midst.reading like) sections (λ alone. inl (follows alone))
     where
       e : Entry K V
       e = record { event = MakeMap own mode capacity; outcome = outcome; steps = steps; effects = effects }
@@ -155,7 +155,7 @@ module _ (K V : Type 0) (same : K → K → Bool) (hash : ℕ → K → ℕ) whe
   end_events_end_so name terms log map m first known before s x at own steps effects midst number apart run right life sections follows =
       runs_go_on K V same name name terms log first known before s run e right life
       (each_store None (acted_on e.event (moment log)) (may_do e.event (moment log)) (ending_stores None (acted_on e.event (moment log))) effects (moment log) life.may) tt
-      (likes_show K V same name log gone (moment (e ∷ log)) known s shown like) (reading_like name log (λ j. 0) gone (moment (e ∷ log)) s reading like) sections (λ alone. inl (follows alone))
+      (likes_show K V same name (past log) gone (moment (e ∷ log)) known s shown like) (reading_like name log (λ j. 0) gone (moment (e ∷ log)) s reading like) sections (λ alone. inl (follows alone))
     where
       e : Entry K V
       e = record { event = EndMap own; outcome = Done; steps = steps; effects = effects }
@@ -163,8 +163,8 @@ module _ (K V : Type 0) (same : K → K → Bool) (hash : ℕ → K → ℕ) whe
       gone : Moment K V
       gone = without_map own (remains_on e.event Done effects (moment log)) m
 
-      shown : ShowsCalls same name log gone known s
-      shown = maps_gone K V same hash name log m known s x at midst.calls own (remains_on e.event Done effects (moment log)) apart
+      shown : ShowsCalls same name (past log) gone known s
+      shown = maps_gone K V same hash name (past log) m known s x at midst.calls own (remains_on e.event Done effects (moment log)) apart
 
       reading : ShowsReading name (past log) (λ j. 0) gone s
       reading = record { past = midst.reading.past; begun = midst.reading.begun; reads = midst.reading.reads }

@@ -44,7 +44,7 @@ use Rattle.papaya_grows.proofs.Given.Histories.Logs.{events_are}
 
 pub runs_go_on : (K V : Type 0) (same : K → K → Bool) → RunsGoOn K V same
 runs_go_on K V same name name2 terms log first known before s run e right life stores reclaims all reading sections follows = record {
-  calls = logs_grow K V same name2 log e known s all;
+  calls = logs_grow K V same name2 (past log) (moment (e ∷ log)) known s all (events_are (e ∷ log));
   reading = events_keep_readings K V name2 (past log) (moment (e ∷ log)) (λ j. 0) (moment (e ∷ log)) s reading (events_are (e ∷ log));
   sections = sections;
   follows = follows;
@@ -59,7 +59,7 @@ runs_go_on K V same name name2 terms log first known before s run e right life s
 
 pub runs_by_other_names : (K V : Type 0) (same : K → K → Bool) → RunsByOtherNames K V same
 runs_by_other_names K V same name name2 terms log known s agree run = record {
-  calls = names_change K V same name name2 log (moment log) known s agree run.calls;
+  calls = names_change K V same name name2 (past log) (moment log) known s agree run.calls;
   reading = record {
     past = run.reading.past;
     begun = λ map i u is c c_is. run.reading.begun map i u is c (as_named map i u is c c_is);
@@ -95,7 +95,7 @@ module _ {K V : Type 0} (terms : Terms) (known : Known) (w : World (Node K V)) w
 
 pub quiet_events_end : (K V : Type 0) (same : K → K → Bool) → QuietEventsEnd K V same
 quiet_events_end K V same name terms log known before s run e right life nothing unchanged none_left reclaims v all reading like world sections =
-    runs_go_on K V same name name terms log known known before s run e right life stores reclaims (likes_show K V same name log v (moment (e ∷ log)) known s all like)
+    runs_go_on K V same name name terms log known known before s run e right life stores reclaims (likes_show K V same name (past log) v (moment (e ∷ log)) known s all like)
     (reading_like name log (λ j. 0) v (moment (e ∷ log)) s reading like) sections follows
   where
     stores : AtEachEffect (StoresOne (caller_of e.event)) (caller_of e.event) (acted_on e.event (at_work e (moment log))) e.effects (at_work e (moment log))

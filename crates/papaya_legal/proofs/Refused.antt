@@ -55,7 +55,7 @@ module _ (K V : Type 0) (same : K → K → Bool) (hash : ℕ → K → ℕ) (na
   refused_begins idle map_is not_made before at2 = (
     record {
       of_maps = refl;
-      calls = makings_begin K V same hash name log (moment log) known s old new at run.calls i b idle not_made (run.calls.uncounted b.map (omega (arith, map_is, number))) at2;
+      calls = makings_begin K V same hash name (past log) (moment log) known s old new at run.calls i b idle not_made (run.calls.uncounted b.map (omega (arith, map_is, number))) at2;
       reading = record { past = run.reading.past; begun = run.reading.begun; reads = run.reading.reads };
       worked = refl;
       granted = refl;
@@ -136,5 +136,5 @@ module _ (K V : Type 0) (same : K → K → Bool) (name : ℕ → List ℕ) (ter
   refused_ends right = (
     legal,
     runs_go_on K V same name name terms log known known2 before s run e right legal.life (asks_store terms (acted_on e.event m) effects m asks) tt
-        (likes_show K V same name log m (moment (e ∷ log)) known2 s midst.0.calls like) (reading_like name log (λ j. 0) m (moment (e ∷ log)) s midst.0.reading like) safe.1 (λ alone. inl (follows.1 alone)),
+        (likes_show K V same name (past log) m (moment (e ∷ log)) known2 s midst.0.calls like) (reading_like name log (λ j. 0) m (moment (e ∷ log)) s midst.0.reading like) safe.1 (λ alone. inl (follows.1 alone)),
   )

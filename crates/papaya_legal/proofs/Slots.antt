@@ -17,19 +17,8 @@ use Rattle.papaya_grows.specs.Given.Effects.Known.{Known}
 use Rattle.papaya_grows.specs.Given.Effects.declared.acting.Acting.TheVariants as acts
 use Rattle.papaya_grows.specs.Given.Scenes.declared.row.SlotCall.{SlotCall}
 use Rattle.papaya_grows.specs.Given.Scenes.declared.row.SlotCall.TheVariants as call
-use Rattle.papaya_grows.specs.Given.Others.Rows.{scene_then}
-use Rattle.papaya_grows.specs.Given.Moments.OnSlots.{HadRetired}
 use Rattle.papaya_grows.specs.Given.Moments.Whole.{ShowsWhole}
 use Rattle.papaya_grows.proofs.Given.Moments.After.{effects_after}
-use Rattle.papaya_grows.proofs.Given.Moments.NewMaps.{effects_keep_pairs}
-use Rattle.papaya_grows.proofs.Given.Moments.Numbers.{rows_keep_numbers}
-use Rattle.papaya_grows.proofs.Given.Moments.OnSlots.{rows_begin_whole, rows_keep_whole}
-use Rattle.papaya_grows.specs.Given.Spots.OnSlots.{WaitUnreclaimed}
-use Rattle.papaya_grows.proofs.Given.Kept.Others.{rows_begin_kept, rows_find_kept, rows_keep_kept}
-use Rattle.papaya_grows.proofs.Given.Shards.ShardOthers.{rows_begin_counters, rows_keep_counters}
-use Rattle.papaya_grows.proofs.Given.Histories.Aside.Stays.{as_called_stays, dues_stay}
-use Rattle.papaya_grows.proofs.Given.Histories.Questions.{effects_keep_questions}
-use Rattle.papaya_grows.proofs.Given.Purposes.Elsewhere.{purposes_stay}
 use Rattle.papaya_promises.specs.Protected.{InMidst, is_of_slots}
 use Rattle.papaya_promises.specs.Sheltered.{SectionsHold}
 use Rattle.papaya_promises.proofs.Brief.Meanwhile.{rows_keep_readings}
@@ -40,17 +29,10 @@ use Rattle.papaya_models.specs.OnSlots.{FollowsInRow}
 use Rattle.papaya_models.proofs.MapEvents.{moments_note_once}
 use Rattle.papaya_models.proofs.OnSlots.{slot_events_begin, slot_events_go_on}
 use Rattle.papaya_legal.specs.SlotEvents.{SlotEventsBegin, SlotEventsGoOn}
-use Rattle.papaya_grows.proofs.Given.Shards.ShardKept.{none_shards}
-use Rattle.papaya_grows.proofs.Limits.Shows.{rows_begin_limits, rows_keep_limits}
-use Rattle.papaya_grows.proofs.Tries.Others.{rows_begin_tries, rows_keep_tries}
-use Rattle.papaya_legal.proofs.Sourced.{same_maps_aside, sources_same}
-use Rattle.papaya_grows.proofs.Finding.Aside.{rows_aside}
-use Rattle.papaya_grows.proofs.Finding.NextsOthers.{rows_begin_nexts, rows_keep_nexts}
-use Rattle.papaya_grows.proofs.Finding.Others.{rows_begin_finding, rows_keep_finding}
-use Rattle.papaya_legal.proofs.Uncounted.{none_counted}
 use Rattle.papaya_grows.specs.Given.Scenes.Rows.{request_of}
-use Rattle.papaya_grows.specs.Given.Scenes.Scene.{Scene, slot_of}
+use Rattle.papaya_grows.specs.Given.Scenes.Scene.{slot_of}
 use Rattle.papaya_grows.specs.Given.Schedules.Transition.{past}
+use Rattle.papaya_legal.proofs.OneStep.{rows_begin, rows_step}
 
 -- each row on a slot is one
 of_slots : (slot : ℕ) (called : SlotCall) → IsOfSlots (request_of slot called)
@@ -87,26 +69,10 @@ slot_events_begin_so K V same hash name terms log known s old new at size run ev
     let m = moment log in
     let request = request_of (slot_of i) called in
     let to = leads.2 in
-    let whole2 = rows_begin_whole K V same hash name m known s old new at run.calls.whole called i leads in
     record {
       of_slots = on;
       once = moments_note_once K V same name m known s run.calls.whole;
-      calls = record {
-        whole = whole2;
-        numbers = run.calls.numbers;
-        kept = rows_begin_kept K V same hash name m known s old new at run.calls.kept called i leads;
-        finding = rows_begin_finding K V same hash name m known s old new run.calls.finding called i leads whole2;
-        sources = sources_same K V same name m m known known s (scene_then same hash (Begin i request) s old new to) run.calls.sources whole2.all.shown refl refl refl to.3;
-        nexts = rows_begin_nexts K V same hash name log m known s old new run.calls.nexts called i leads;
-        tries = rows_begin_tries K V same hash name log m known s old new run.calls.sources run.calls.tries called i leads whole2;
-        limits = rows_begin_limits K V same hash name log m known s old new run.calls.limits called i leads;
-        counters = rows_begin_counters K V same hash name m s old new at run.calls.counters called i leads;
-        uncounted = run.calls.uncounted;
-        dues = (dues_stay K V same hash name (past log)).rows_begin m known s old new at run.calls.whole run.calls.dues called i leads;
-        as_called = (as_called_stays K V same hash name).rows_begin m known s old new at run.calls.whole run.calls.as_called called i leads;
-        questions = run.calls.questions;
-        purposes = (purposes_stay K V same hash name (past log)).rows_begin m known s old new at run.calls.whole run.calls.purposes called i leads;
-      };
+      calls = rows_begin K V same hash name (past log) m known s old new at run.calls called i leads;
       reading = rows_keep_readings K V same hash name (past log) (λ j. 0) m s old new (Begin i request) to [] run.reading;
       worked = refl;
       granted = refl;
@@ -121,23 +87,7 @@ pub slot_events_go_on_so : (K V : Type 0) (same : K → K → Bool) (hash : ℕ 
 slot_events_go_on_so K V same hash name terms log event i called first began done m known s midst old new at size said leads row here = record {
   of_slots = midst.of_slots;
   once = midst.once;
-  calls = record {
-    whole = whole2;
-    numbers = (rows_keep_numbers K V same hash m midst.calls.numbers.0 known s old new i said leads row here, effects_keep_pairs K V m midst.calls.numbers.1 None None effects (λ n is. absurd (cc is)));
-    kept = rows_keep_kept K V same hash name m known s old new at whole midst.calls.kept i said leads row here;
-    finding = rows_keep_finding K V same hash name m known s old new at whole midst.calls.finding i said leads row here whole2;
-    sources = same_maps_aside K V same name m known (known_after acts.Row new.changed known) s (scene_then same hash (Step i) s old new (leads row here).2) None None effects
-        (rows_aside same hash name m known s old new at i said leads row here) midst.calls.sources whole2.all.shown (leads row here).2.3;
-    nexts = rows_keep_nexts K V same hash name log m known s old new midst.calls.nexts at whole i said leads row here;
-    tries = rows_keep_tries K V same hash name log m known s old new midst.calls.sources midst.calls.tries at whole i said leads row here whole2;
-    limits = rows_keep_limits K V same hash name log m known s old new midst.calls.limits at whole i said leads row here;
-    counters = rows_keep_counters K V same hash name m known s old new at whole midst.calls.counters i said leads row here;
-    uncounted = none_counted None None effects m midst.calls.uncounted (none_shards None effects m);
-    dues = (dues_stay K V same hash name (past log)).rows m known s old new at whole midst.calls.dues i said leads row here found.0;
-    as_called = (as_called_stays K V same hash name).rows m known s old new at whole midst.calls.as_called i said leads row here found.0;
-    questions = effects_keep_questions K V None None effects m midst.calls.questions;
-    purposes = (purposes_stay K V same hash name (past log)).rows m known s old new at whole midst.calls.purposes i said leads row here found.0;
-  };
+  calls = rows_step K V same hash name (past log) m known s old new at midst.calls i said leads row here;
   reading = rows_keep_readings K V same hash name (past log) (λ j. 0) m s old new (Step i) (leads row here).2 effects midst.reading;
   worked = ap (λ (x : Moment K V). with_effects None None effects x) midst.worked ∙ sym (effects_after None None done effects (moment log));
   granted = grants_add_up done effects midst.granted (operations_are_single acts.Row known new.changed).1;
@@ -156,15 +106,3 @@ slot_events_go_on_so K V same hash name terms log event i called first began don
 
     effects : List Effect
     effects = effects_of acts.Row known new.changed
-
-    v : Moment K V
-    v = with_effects None None effects m
-
-    led : Scene K V
-    led = scene_then same hash (Step i) s old new (leads row here).2
-
-    found : AtEachEffect HadRetired None None effects m × AtEachEffect WaitUnreclaimed None None effects m
-    found = rows_find_kept K V same hash name m known s old new at whole midst.calls.kept i said leads row here
-
-    whole2 : ShowsWhole same name v (known_after acts.Row new.changed known) led
-    whole2 = rows_keep_whole K V same hash name m known s old new at whole i said leads row here found.0 found.1

@@ -21,6 +21,7 @@ use Rattle.papaya_legal.specs.Between.{IsLike}
 use Rattle.papaya_legal.specs.SlotEvents.{SlotEventsEnd}
 use Rattle.papaya_legal.proofs.Between.{likes_show}
 use Rattle.papaya_legal.proofs.Over.{reading_like, runs_go_on}
+use Rattle.papaya_grows.specs.Given.Schedules.Transition.{past}
 
 -- Its effects store nothing.
 
@@ -77,7 +78,7 @@ pub slot_events_end_so : (K V : Type 0) (same : K → K → Bool) → SlotEvents
 slot_events_end_so K V same name terms log i called first began m known before s e midst run right but sections follows reclaims =
     runs_go_on K V same name name terms log first known before s run e right but.life
     (each_stores e.event (moment log) midst.of_slots (caller_of e.event) (acted_on e.event (at_work e (moment log))) e.effects (at_work e (moment log)) but.life.may) reclaims
-    (likes_show K V same name log m (moment (e ∷ log)) known s midst.calls is_like) (reading_like name log (λ j. 0) m (moment (e ∷ log)) s midst.reading is_like) sections (λ alone. inl (follows alone))
+    (likes_show K V same name (past log) m (moment (e ∷ log)) known s midst.calls is_like) (reading_like name log (λ j. 0) m (moment (e ∷ log)) s midst.reading is_like) sections (λ alone. inl (follows alone))
   where
     is_like : IsLike m (moment (e ∷ log))
     is_like = subst (λ (x : Moment K V). IsLike x (moment (e ∷ log))) (sym midst.worked) (like log e.outcome e.steps e.effects e.event midst.of_slots)

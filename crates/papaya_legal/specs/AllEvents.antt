@@ -96,7 +96,7 @@ module _ {K V : Type 0} (same : K → K → Bool) (name : ℕ → List ℕ) (ter
   -- In the midst of an event that reclaims all, which began so, and has done this: it reclaims alone, each table as one that was retired; and each pair that is left over is behind a root still.
   pub record InAllEvent (done : List Effect) (m : Moment K V) (known : Known) (s : Scene K V) (all : ReclaimAll) (lists : ℕ → List ℕ) : Type 0 where
     pub once : EachIsOnce first
-    pub calls : ShowsCalls same name log m known s
+    pub calls : ShowsCalls same name (past log) m known s
     pub reading : ShowsReading name (past log) (λ j. 0) m s
     pub worked : m ≡ with_effects None None done (moment log)
     pub granted : is_granted false done ≡ true

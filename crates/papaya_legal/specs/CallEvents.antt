@@ -72,13 +72,13 @@ module _ {K V : Type 0} (same : K → K → Bool) (name : ℕ → List ℕ) (ter
   pub record InCallEvent (steps : ℕ) (done : List Effect) (m : Moment K V) (known : Known) (s : Scene K V) (u : UnderWay K V K) : Type 0 where
     pub of_call : caller_of event ≡ Some (name i)
     pub event_so : InEvent same name (past log) beginning map i c done m known s u
-    pub calls : ShowsCalls same name log m known s
+    pub calls : ShowsCalls same name (past log) m known s
     -- where the copier of another call makes a table its map had a second one at a moment of the log
-    pub others : OthersHadNext name log i m s
+    pub others : OthersHadNext name (past log) i m s
     -- and where it can have no further table one at the limit
-    pub other_limits : OthersHadLimit name log i m s
+    pub other_limits : OthersHadLimit name (past log) i m s
     -- what each other one has met at tries it has met at moments of the log, and no map has fewer tables than then
-    pub other_tries : OthersHadTried name log i m s
+    pub other_tries : OthersHadTried name (past log) i m s
     pub tables : (of : ℕ) → many_of of (moment log) ≤ many_of of m
     pub worked : m ≡ with_effects (Some (name i)) (Some map) done beginning
     -- steps: each did one thing at most, and had what it made granted; a lookup has read so many words
@@ -114,7 +114,7 @@ module _ (K V : Type 0) (same : K → K → Bool) (hash : ℕ → K → ℕ) whe
   CallEventsBegin =
       (name : ℕ → List ℕ) (terms : Terms) (log : List (Entry K V)) (beginning : Moment K V) → HasJustBegun (past log) beginning → beginning.maps ≡ (moment log).maps → beginning.tables ≡ (moment log).tables
       → beginning.shards ≡ (moment log).shards → beginning.born ≡ (moment log).born → beginning.spot ≡ (moment log).spot → TablelessUncounted (moment log)
-      → (known : Known) (s : Scene K V) (x : Held K V) → IsAt same hash x s → ShowsCalls same name log beginning known s → ShowsReading name (past log) (λ j. 0) beginning s
+      → (known : Known) (s : Scene K V) (x : Held K V) → IsAt same hash x s → ShowsCalls same name (past log) beginning known s → ShowsReading name (past log) (λ j. 0) beginning s
       → SectionsHold beginning known s.world → ((moment log).is_alone ≡ true → FollowsOrRows terms log known s.world)
       → (event : Event K V) (map i : ℕ) → caller_of event ≡ Some (name i) → (u : UnderWay K V K) → s.calls map i ≡ Some u → (c : CallThere K V) → call_of (name i) beginning ≡ Some c
       → (ComesAlone event log → (j : ℕ) → s.world.row j ≢ Rests → j ≡ i) → InCallEvent same name terms log event beginning map i c 0 [] beginning known s u

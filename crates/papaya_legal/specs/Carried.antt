@@ -35,7 +35,7 @@ use Rattle.papaya_grows.specs.Limits.{ShowsLimits}
 use Rattle.papaya_grows.specs.Nexts.{ShowsNexts}
 use Rattle.papaya_grows.specs.Tries.{ShowsTries}
 use Rattle.papaya_grows.specs.Given.Scenes.Scene.{Scene, at_first, slot_of}
-use Rattle.papaya_grows.specs.Given.Schedules.Transition.{past}
+use Rattle.papaya_grows.specs.Given.Schedules.Transition.{past, Past}
 
 -- calls came one after another so far, and the event is one of those that do
 abbrev pub ComesAlone : {K V : Type 0} → Event K V → List (Entry K V) → Type 0
@@ -47,7 +47,7 @@ NoneCounted m = (of : ℕ) → m.made ≤ of → IsUncounted of m
 
 -- What a moment shows beside who is there, wherever in an event it is, so far since the log: numbers of maps; what every step keeps; by what steps of calls find what they must, for what copiers make tables, where calls can have no further one, and what they have met at tries; the shards of maps;
 -- what calls owe as answers, are called for, have asked, and are for.
-pub record ShowsCalls {K V : Type 0} (same : K → K → Bool) (name : ℕ → List ℕ) (log : List (Entry K V)) (m : Moment K V) (known : Known) (s : Scene K V) : Type 0 where
+pub record ShowsCalls {K V : Type 0} (same : K → K → Bool) (name : ℕ → List ℕ) (log : Past K V) (m : Moment K V) (known : Known) (s : Scene K V) : Type 0 where
   pub whole : ShowsWhole same name m known s
   pub numbers : NumbersMaps m × PairsAreBelow m
   pub kept : ShowsKept name m known s
@@ -58,10 +58,10 @@ pub record ShowsCalls {K V : Type 0} (same : K → K → Bool) (name : ℕ → L
   pub sources : ShowsSources same name m known s
   pub counters : ShowsCounters name m s
   pub uncounted : NoneCounted m
-  pub dues : ShowsDue same name (past log) m known s
+  pub dues : ShowsDue same name log m known s
   pub as_called : ShowsAsCalled same name m known s
   pub questions : ShowsQuestions m
-  pub purposes : ShowsPurposes same name (past log) m known s
+  pub purposes : ShowsPurposes same name log m known s
 
 -- the waiting sets are those of the model after the log, or a call is in the midst of a row that has told its part
 abbrev pub FollowsOrRows : {K V : Type 0} → Terms → List (Entry K V) → Known → World (Node K V) → Type 0
@@ -75,7 +75,7 @@ LeftIsTold m = (n : ℕ) → is_left_over (m.place n) ≡ is_among n (flat_map (
 -- And once an event is over: no lookup has read more than the moment says; sections hold what they shelter; where calls came one after another so far, the waiting sets are those of the
 -- model, but for a row that is under way; all waits in order; a map that has had no table has counted nothing; once the collector has ended all is back; and what ended maps have left over is told.
 pub record ShowsRun {K V : Type 0} (same : K → K → Bool) (name : ℕ → List ℕ) (terms : Terms) (log : List (Entry K V)) (known : Known) (s : Scene K V) : Type 0 where
-  pub calls : ShowsCalls same name log (moment log) known s
+  pub calls : ShowsCalls same name (past log) (moment log) known s
   pub reading : ShowsReading name (past log) (λ i. 0) (moment log) s
   pub sections : SectionsHold (moment log) known s.world
   pub follows : (moment log).is_alone ≡ true → FollowsOrRows terms log known s.world

@@ -1,5 +1,6 @@
 pub mod Carried
 pub mod Between
+pub mod OneStep
 pub mod CallEvents
 pub mod CallRuns
 pub mod CallSwept

@@ -43,7 +43,7 @@ module _ {K V : Type 0} (same : K → K → Bool) (name : ℕ → List ℕ) (ter
   pub record InSlotEvent (done : List Effect) (m : Moment K V) (known : Known) (s : Scene K V) : Type 0 where
     pub of_slots : is_of_slots event ≡ true
     pub once : EachIsOnce first
-    pub calls : ShowsCalls same name log m known s
+    pub calls : ShowsCalls same name (past log) m known s
     pub reading : ShowsReading name (past log) (λ j. 0) m s
     pub worked : m ≡ with_effects None None done (moment log)
     pub granted : is_granted false done ≡ true

@@ -29,7 +29,7 @@ use Rattle.papaya_folded.specs.Given.Grows.Nexts.{MayFollow}
 use Rattle.papaya_folded.proofs.Given.Legal.CallFinds.{steps_find_all}
 use Rattle.papaya_folded.proofs.Given.Grows.Finding.Links.{such_of_making}
 use Rattle.papaya_folded.proofs.Given.Grows.Finding.Rest.{steps_find_rest}
-use Rattle.papaya_folded.proofs.Given.Grows.Tries.Log.{found_full_so}
+use Rattle.papaya_folded.proofs.Given.Grows.Tries.Log.{found_full_so, tables_last}
 use Rattle.papaya_folded.specs.Given.Named.Seen.{Seen, seen}
 use Rattle.papaya_folded.proofs.Given.Rows.Lists.{both_some, found_alike}
 use Rattle.papaya_scheduler.specs.declared.scheduler.Scheduler.{Scheduler}
@@ -37,6 +37,7 @@ use Rattle.papaya_stepping.specs.Stepping.{GoneFor}
 use Rattle.papaya_stepping.proofs.AfterEffects.{calls_seen}
 use Rattle.papaya_events.proofs.OfCalls.Steps.{HasCome, IsStep, as_told, did, follows, has_come, its_here, leads, the}
 use Rattle.papaya_scheduler.specs.Given.Executor.IsThere.{held_by}
+use Rattle.papaya_folded.specs.Given.Schedules.Transition.{past}
 
 module _ {K V : Type 0} (name : ℕ → List ℕ) (terms : Terms) (map i : ℕ) (c : CallThere K V) (moments : List (Moment K V)) where
   abbrev All : List Effect → Moment K V → Type 0
@@ -82,7 +83,7 @@ module _ {K V S : Type 0} (same : K → K → Bool) (hash : K → ℕ) (name : �
     -- where its copier makes a table, its map has a second one, or had one since the call began
     nexts : (k : NewTable) → making_of_copier (machine_of come.under) ≡ Some k → OneOf (HasNext map) (come.now ∷ moments_from its.0.begun log)
     nexts k is =
-        elim (such_of_making (λ (x : NewTable). MayFollow map its.0.begun log come.now) k (machine_of come.under) is (come.midst.calls.nexts map i come.under here its.0 its.1)) as
+        elim (such_of_making (λ (x : NewTable). MayFollow map its.0.begun (past log) come.now) k (machine_of come.under) is (come.midst.calls.nexts map i come.under here its.0 its.1)) as
         (λ _. OneOf (HasNext map) (come.now ∷ moments_from its.0.begun log)) [
           | inl had ↦ inr had
           | inr now ↦ inl now
@@ -111,9 +112,9 @@ module _ {K V S : Type 0} (same : K → K → Bool) (hash : K → ℕ) (name : �
         steps_find_all K V same (λ map. hash) name come.now (known p.logged.notes) come.scene (held_by p.logged.executor) (held_by new.logged.executor) come.shown.is_at.held come.midst.calls.whole come.midst.calls.kept map i come.under
         here step.said led terms its_mask its.0 its.1 (come.slot its.0 its.1) (moments_from c.begun log)
         (subst (λ (b : ℕ). FindRest terms (moments_from b log) (name i) map its_did come.now) same_begun
-        (steps_find_rest K V same (λ map. hash) name log come.now (known p.logged.notes) come.scene (held_by p.logged.executor) (held_by new.logged.executor) come.shown.is_at.held come.midst.calls.whole come.midst.calls.kept
+        (steps_find_rest K V same (λ map. hash) name (past log) come.now (known p.logged.notes) come.scene (held_by p.logged.executor) (held_by new.logged.executor) come.shown.is_at.held come.midst.calls.whole come.midst.calls.kept
         come.midst.calls.finding come.midst.calls.sources here_order come.midst.calls.purposes map i come.under here step.said led terms its.0 its.1 its_mask nexts
-        (found_full_so name log come.now come.scene come.midst.calls.tries map i (come.midst.tables map) come.under here its.0 its.1)))
+        (found_full_so name (past log) (tables_last log) come.now come.scene come.midst.calls.tries map i (come.midst.tables map) come.under here its.0 its.1)))
 
     -- and so do all, where those before do
     pub all_find : All name terms map i c (moments_from c.begun log) mid beginning → All name terms map i c (moments_from c.begun log) after beginning

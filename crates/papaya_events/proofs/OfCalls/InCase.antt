@@ -37,6 +37,7 @@ use Rattle.papaya_events.proofs.OfCalls.Found.{mask_is}
 use Rattle.papaya_events.proofs.OfCalls.Steps.{HasCome, IsStep, as_told, did, follows, its_here, leads, the}
 use Rattle.papaya_events.proofs.OfCalls.Worth.{effects_say}
 use Rattle.papaya_scheduler.specs.Given.Executor.IsThere.{held_by}
+use Rattle.papaya_folded.specs.Given.Schedules.Transition.{past}
 
 -- what is told as a refusal was said as one
 refused_said : {K V : Type 0} (by : Known) (kind : Kind) (value : Option V) (said : Progress (Node K V)) (fault : Fault) → outcome_of by kind value said ≡ Refused fault → said ≡ progress.Refused fault
@@ -121,7 +122,7 @@ module _ {K V S : Type 0} (same : K → K → Bool) (hash : K → ℕ) (name : �
       capacity_then : step.said ≡ progress.Refused Capacity → IsInCase terms d (moments_from d.begun log) v (Refused Capacity)
       capacity_then is =
           let led = leads same hash name terms log event beginning map i c place n mid played.effects.items p new come its in
-          steps_in_case same (λ map. hash) name log come.now (known p.logged.notes) come.scene (held_by p.logged.executor) (held_by new.logged.executor) come.shown.is_at.held come.midst.calls.whole map i step.said led come.midst.calls.limits
+          steps_in_case same (λ map. hash) name (past log) come.now (known p.logged.notes) come.scene (held_by p.logged.executor) (held_by new.logged.executor) come.shown.is_at.held come.midst.calls.whole map i step.said led come.midst.calls.limits
           come.midst.calls.finding.capacities come.midst.calls.purposes terms own.0 own.1 d call_then map_then begun_then come.under here mask
           (reads_shards K V same (λ map. hash) name log come.now (known p.logged.notes) come.scene (held_by p.logged.executor) (held_by new.logged.executor) come.shown.is_at.held come.midst.calls.whole come.midst.calls.counters map i come.under here
           step.said led come.midst.unadded) is

@@ -1,5 +1,5 @@
 -- Whatever happens, where a copier makes a table its map has a second table, or had one at a moment since the call began.
-use Rattle.std.specs.Prelude.{◌≡◌, ◌<◌, ◌≤◌, ◌==◌, ℕ, Bool, true, List, ◌∷◌, find, length, Option, Some}
+use Rattle.std.specs.Prelude.{◌≡◌, ◌<◌, ◌≤◌, ◌==◌, ℕ, Bool, true, List, find, Option, Some}
 use Rattle.std.proofs.Common.{ap, sym, subst, inl, inr}
 use Rattle.papaya_purposes.specs.Given.SeizeWords.Mem.{Mem, word_at}
 use Rattle.papaya_purposes.specs.Given.SeizeWords.Plan.{Do, Now, Plan, Seeing, Sure, Then, Turn}
@@ -17,10 +17,9 @@ use Rattle.papaya_purposes.specs.Given.Schedules.declared.call.Call.{Call}
 use Rattle.papaya_purposes.specs.Given.Schedules.declared.call.Reply.{Reply}
 use Rattle.papaya_purposes.specs.Given.Schedules.declared.effect.Effect.{Effect}
 use Rattle.papaya_purposes.specs.Given.Schedules.declared.outcome.Outcome.{Outcome}
-use Rattle.papaya_purposes.specs.Given.Schedules.After.{moment}
 use Rattle.papaya_purposes.specs.Given.Schedules.Beginning.{with_call}
 use Rattle.papaya_purposes.specs.Given.Schedules.Effects.{with_effects}
-use Rattle.papaya_purposes.specs.Given.Schedules.Entry.{Entry, ends_call}
+use Rattle.papaya_purposes.specs.Given.Schedules.Entry.{ends_call}
 use Rattle.papaya_purposes.specs.Given.Schedules.Growing.{HasNext}
 use Rattle.papaya_purposes.specs.Given.Schedules.Moment.{MapThere, Moment, TableThere, UnderWay as CallThere}
 use Rattle.papaya_purposes.specs.Given.Schedules.Views.{call_of, first_of, first_or, map_at}
@@ -54,6 +53,8 @@ use Rattle.papaya_purposes.specs.Given.Scenes.Held.{Held, IsAt}
 use Rattle.papaya_purposes.specs.Given.Scenes.Replying.{scene_with, unless_stopped}
 use Rattle.papaya_purposes.specs.Given.Scenes.Scene.{Scene}
 use Rattle.papaya_purposes.specs.Given.Scenes.Stepping.{StepLeads, scene_after}
+use Rattle.papaya_purposes.specs.Given.Schedules.Transition.{Past, further}
+use Rattle.papaya_purposes.specs.Given.Histories.Histories.{IsPast}
 
 -- A map has a second table where it is there with the same root, and the same tables.
 
@@ -88,24 +89,24 @@ module _ (K V : Type 0) where
   AnyPairs m v = Unit {0}
 
 -- where calls are as they were, or are under way no more
-pub nexts_alike : {K V : Type 0} (name : ℕ → List ℕ) (log : List (Entry K V)) (m v : Moment K V) (s t : Scene K V) → ShowsNexts name log m s → v.calls ≡ m.calls → ((n : ℕ) → HasNext n m → HasNext n v)
+pub nexts_alike : {K V : Type 0} (name : ℕ → List ℕ) (log : Past K V) (m v : Moment K V) (s t : Scene K V) → ShowsNexts name log m s → v.calls ≡ m.calls → ((n : ℕ) → HasNext n m → HasNext n v)
     → ((n j : ℕ) (x : UnderWay K V K) → t.calls n j ≡ Some x → s.calls n j ≡ Some x) → ShowsNexts name log v t
 nexts_alike {K} {V} name log m v s t nexts calls keeps was = since.so_alike (Of K V) (more K V) (replies K V) (asked K V) (So K V) (AnyPairs K V) (λ m v pairs. tt) (so_where K V) name log m v s t nexts calls (λ n j x is y has. keeps n has) was
 
 -- at a moment with other maps, where those that stand are found as they were
-pub nexts_where : {K V : Type 0} (same : K → K → Bool) (hash : ℕ → K → ℕ) (name : ℕ → List ℕ) (log : List (Entry K V)) (m v : Moment K V) (s : Scene K V) (e : Held K V) → IsAt same hash e s → ShowsNexts name log m s
+pub nexts_where : {K V : Type 0} (same : K → K → Bool) (hash : ℕ → K → ℕ) (name : ℕ → List ℕ) (log : Past K V) (m v : Moment K V) (s : Scene K V) (e : Held K V) → IsAt same hash e s → ShowsNexts name log m s
     → ((n : ℕ) (st : Standing K) → s.maps n ≡ Some st → map_at n v ≡ map_at n m) → v.tables ≡ m.tables → v.calls ≡ m.calls → ShowsNexts name log v s
 nexts_where {K} {V} same hash name log m v s e at nexts still tables calls =
     since.so_where_found (Of K V) (more K V) (replies K V) (asked K V) (So K V) (AnyPairs K V) (λ m v pairs. tt) (so_where K V) same hash name log m v s e at nexts still tt tables calls
 
 -- with a further event of the log
-pub nexts_grow : {K V : Type 0} (name : ℕ → List ℕ) (log : List (Entry K V)) (e : Entry K V) (m : Moment K V) (s : Scene K V)
-    → ((map i : ℕ) (u : UnderWay K V K) → s.calls map i ≡ Some u → (c : CallThere K V) → call_of (name i) m ≡ Some c → c.begun ≤ length log) → ShowsNexts name log m s → ShowsNexts name (e ∷ log) m s
-nexts_grow {K} {V} name log e m s begun nexts = since.so_grow (Of K V) (more K V) (replies K V) (asked K V) (So K V) (AnyPairs K V) (λ m v pairs. tt) (so_where K V) name log e m s begun nexts
+pub nexts_grow : {K V : Type 0} (name : ℕ → List ℕ) (log : Past K V) (next : Moment K V) (m : Moment K V) (s : Scene K V)
+    → ((map i : ℕ) (u : UnderWay K V K) → s.calls map i ≡ Some u → (c : CallThere K V) → call_of (name i) m ≡ Some c → c.begun ≤ log.entries) → ShowsNexts name log m s → ShowsNexts name (further next log) m s
+nexts_grow {K} {V} name log next m s begun nexts = since.so_grow (Of K V) (more K V) (replies K V) (asked K V) (So K V) (AnyPairs K V) (λ m v pairs. tt) (so_where K V) name log next m s begun nexts
 
 -- Where a call begins, is told, is asked for its next pair, or is given up.
 
-module _ {K V : Type 0} (same : K → K → Bool) (name : ℕ → List ℕ) (log : List (Entry K V)) (m : Moment K V) (s : Scene K V) (nexts : ShowsNexts name log m s) (map i : ℕ) (u : UnderWay K V K) where
+module _ {K V : Type 0} (same : K → K → Bool) (name : ℕ → List ℕ) (log : Past K V) (m : Moment K V) (s : Scene K V) (nexts : ShowsNexts name log m s) (map i : ℕ) (u : UnderWay K V K) where
   pub calls_begin_nexts : (guard : List ℕ) (its : Call K V) (standing : Standing K) → Begins same standing i u → NoneNamed name (name i) s
       → ShowsNexts name log (with_call (name i) guard its (Some map) m) (scene_with map i u s)
   calls_begin_nexts guard its standing begins apart =
@@ -125,7 +126,7 @@ module _ {K V : Type 0} (same : K → K → Bool) (name : ℕ → List ℕ) (log
     walks_stop_nexts q none = since.walks_stop_so (Of K V) (more K V) (replies K V) (asked K V) (So K V) (AnyPairs K V) (λ m v pairs. tt) (so_where K V) same name log m s nexts map i u here shown next q none
 
 -- Where a call comes to an outcome.
-pub calls_come_to_nexts : {K V : Type 0} (same : K → K → Bool) (name : ℕ → List ℕ) (log : List (Entry K V)) (m : Moment K V) (s : Scene K V) → ShowsNexts name log m s → IsThere same name m s.calls → (own : List ℕ) (o : Outcome V) (steps : ℕ)
+pub calls_come_to_nexts : {K V : Type 0} (same : K → K → Bool) (name : ℕ → List ℕ) (log : Past K V) (m : Moment K V) (s : Scene K V) → ShowsNexts name log m s → IsThere same name m s.calls → (own : List ℕ) (o : Outcome V) (steps : ℕ)
     → (ends_call o ≡ true → NoneNamed name own s) → ShowsNexts name log (come_to own o steps m) s
 calls_come_to_nexts {K} {V} same name log m s nexts shown own o steps ended =
     since.calls_come_to_so (Of K V) (more K V) (replies K V) (asked K V) (So K V) (AnyPairs K V) (λ m v pairs. tt) (so_where K V) same name log m s nexts shown own o steps ended
@@ -143,7 +144,7 @@ module _ {T A : Type 0} (P : Type 0) (so : P) where
   so_of_each (Turn rest) = so_of_rest rest
   so_of_each (Do op rest) = λ out. so_of_rest (rest out)
 
-module _ {K V : Type 0} (same : K → K → Bool) (hash : ℕ → K → ℕ) (name : ℕ → List ℕ) (log : List (Entry K V)) (m : Moment K V) (known : Known) (s : Scene K V) (old new : Held K V) (at : IsAt same hash old s)
+module _ {K V : Type 0} (same : K → K → Bool) (hash : ℕ → K → ℕ) (name : ℕ → List ℕ) (log : Past K V) (m : Moment K V) (known : Known) (s : Scene K V) (old new : Held K V) (at : IsAt same hash old s)
     (whole : ShowsWhole same name m known s) (map i : ℕ) (u : UnderWay K V K) (here : s.calls map i ≡ Some u) (said : Progress (Node K V)) (leads : StepLeads same hash i said s old new)
     (others : OthersHadNext name log i m s) where
   abbrev to : WentTo same hash name m known s old new at whole.all.shown map i u here said leads
@@ -205,7 +206,7 @@ module _ {K V : Type 0} (same : K → K → Bool) (hash : ℕ → K → ℕ) (na
         since.so_go_on (Of K V) (more K V) (replies K V) (asked K V) (So K V) (AnyPairs K V) (λ m v pairs. tt) (so_where K V) same hash name log m known s old new at whole map i u here said leads others c c_is (λ x is. own_makes)
 
 -- Where an event of a call begins, others are as the log says.
-pub others_at_first : {K V : Type 0} (name : ℕ → List ℕ) (log : List (Entry K V)) (i : ℕ) (m : Moment K V) (s : Scene K V) → m.maps ≡ (moment log).maps → m.tables ≡ (moment log).tables
-    → ((map j : ℕ) (u : UnderWay K V K) → s.calls map j ≡ Some u → (c : CallThere K V) → call_of (name j) m ≡ Some c → c.begun ≤ length log) → ShowsNexts name log m s → OthersHadNext name log i m s
-others_at_first {K} {V} name log i m s maps tables begun nexts =
-    since.others_at_first (Of K V) (more K V) (replies K V) (asked K V) (So K V) (AnyPairs K V) (λ m v pairs. tt) (so_where K V) name log i m s tt maps tables begun nexts
+pub others_at_first : {K V : Type 0} (name : ℕ → List ℕ) (log : Past K V) (is_past : IsPast log) (i : ℕ) (m : Moment K V) (s : Scene K V) → m.maps ≡ log.now.maps → m.tables ≡ log.now.tables
+    → ((map j : ℕ) (u : UnderWay K V K) → s.calls map j ≡ Some u → (c : CallThere K V) → call_of (name j) m ≡ Some c → c.begun ≤ log.entries) → ShowsNexts name log m s → OthersHadNext name log i m s
+others_at_first {K} {V} name log is_past i m s maps tables begun nexts =
+    since.others_at_first (Of K V) (more K V) (replies K V) (asked K V) (So K V) (AnyPairs K V) (λ m v pairs. tt) (so_where K V) name log is_past i m s tt maps tables begun nexts

@@ -24,7 +24,6 @@ use Rattle.papaya_purposes.specs.Given.Moments.Whole.{ShowsWhole}
 use Rattle.papaya_purposes.proofs.Given.Moments.Ends.{end_beside}
 use Rattle.papaya_purposes.proofs.Given.Moments.MakingSteps.{makings_go_beside}
 use Rattle.papaya_purposes.proofs.Given.Moments.OnSlots.{row_beside, rows_begin_beside}
-use Rattle.papaya_purposes.specs.Given.Schedules.Entry.{Entry}
 use Rattle.papaya_purposes.specs.Given.Schedules.Growing.{HasNext}
 use Rattle.papaya_purposes.proofs.Given.Moments.Beside.{IsBeside}
 use Rattle.papaya_grows.specs.Nexts.{ShowsNexts}
@@ -37,13 +36,14 @@ use Rattle.papaya_purposes.specs.Given.Scenes.Making.{MakingLeads}
 use Rattle.papaya_purposes.specs.Given.Scenes.OnSlots.{RowBegins, RowLeads}
 use Rattle.papaya_purposes.specs.Given.Scenes.Rows.{request_of}
 use Rattle.papaya_purposes.specs.Given.Scenes.Scene.{IsOnSlot, Scene, slot_of}
+use Rattle.papaya_purposes.specs.Given.Schedules.Transition.{Past}
 
 -- where calls and maps are as they were
-nexts_beside : {K V : Type 0} (name : ℕ → List ℕ) (log : List (Entry K V)) (m v : Moment K V) (known known2 : Known) (s t : Scene K V) → IsBeside m v known known2 s t → ((n : ℕ) → HasNext n m → HasNext n v) → ShowsNexts name log m s
+nexts_beside : {K V : Type 0} (name : ℕ → List ℕ) (log : Past K V) (m v : Moment K V) (known known2 : Known) (s t : Scene K V) → IsBeside m v known known2 s t → ((n : ℕ) → HasNext n m → HasNext n v) → ShowsNexts name log m s
     → ShowsNexts name log v t
 nexts_beside {K} {V} name log m v known known2 s t beside keeps nexts = nexts_alike name log m v s t nexts beside.calls keeps (λ n j x is. ap (λ (f : ℕ → ℕ → Option (UnderWay K V K)). f n j) (sym beside.same_calls) ∙ is)
 
-module _ (K V : Type 0) (same : K → K → Bool) (hash : ℕ → K → ℕ) (name : ℕ → List ℕ) (log : List (Entry K V)) (m : Moment K V) (known : Known) (s : Scene K V) (old new : Held K V) (nexts : ShowsNexts name log m s) where
+module _ (K V : Type 0) (same : K → K → Bool) (hash : ℕ → K → ℕ) (name : ℕ → List ℕ) (log : Past K V) (m : Moment K V) (known : Known) (s : Scene K V) (old new : Held K V) (nexts : ShowsNexts name log m s) where
   -- a row begins on a slot
   pub rows_begin_nexts : (called : SlotCall) (i : ℕ) (leads : RowBegins same hash called i s old new)
       → ShowsNexts name log m (scene_then same hash (Begin i (request_of (slot_of i) called)) s old new leads.2)

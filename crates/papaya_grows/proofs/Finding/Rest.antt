@@ -10,8 +10,6 @@ use Rattle.papaya_purposes.specs.Given.Raw.declared.machines.call.Calling.{Calli
 use Rattle.papaya_purposes.specs.Given.Raw.declared.machines.call.Calling.TheVariants as calling
 use Rattle.papaya_purposes.specs.Given.Raw.declared.machines.progress.Progress.{Progress}
 use Rattle.papaya_purposes.specs.Given.Schedules.declared.effect.Effect.{Effect}
-use Rattle.papaya_purposes.specs.Given.Schedules.After.{moments_from}
-use Rattle.papaya_purposes.specs.Given.Schedules.Entry.{Entry}
 use Rattle.papaya_purposes.specs.Given.Schedules.Growing.{HasNext, MayGrow}
 use Rattle.papaya_purposes.specs.Given.Schedules.Lists.{OneOf}
 use Rattle.papaya_purposes.specs.Given.Schedules.Moment.{UnderWay as CallThere, Moment}
@@ -42,7 +40,6 @@ use Rattle.papaya_purposes.proofs.Given.Finds.Waits.Handed.{calls_hand_past, pas
 use Rattle.papaya_purposes.proofs.Given.Finds.Waits.Next.{calls_put_behind}
 use Rattle.papaya_purposes.specs.Given.Finds.Waits.{FindPast, FindBehind}
 use Rattle.papaya_sources.proofs.Space.{calls_find_space}
-use Rattle.papaya_purposes.specs.Given.Schedules.Transition.{past}
 use Rattle.papaya_purposes.specs.Purposes.{ShowsPurposes}
 use Rattle.papaya_grows.specs.Finding.{ShowsFinding}
 use Rattle.papaya_grows.specs.Rests.{StepsFindRest}
@@ -51,6 +48,7 @@ use Rattle.papaya_grows.proofs.Finding.Rooms.{room_asks, room_links}
 use Rattle.papaya_purposes.specs.Given.Scenes.Held.{Held, IsAt}
 use Rattle.papaya_purposes.specs.Given.Scenes.Scene.{Scene}
 use Rattle.papaya_purposes.specs.Given.Scenes.Stepping.{StepLeads}
+use Rattle.papaya_purposes.specs.Given.Schedules.Transition.{Past}
 
 -- whether a call on one key copies pairs
 copies_or : (q : Calling) → IsCopying q ⊎ (IsCopying q → ⊥)
@@ -79,11 +77,11 @@ module _ {K V : Type 0} (same : K → K → Bool) (hash : ℕ → K → ℕ) (na
     sum_asks = may_ask same hash name m known s old new at whole map i (Counting sum) here said leads terms moments c c_is none_asked
 
 -- which table a call links, and that it may ask for each block
-module _ {K V : Type 0} (same : K → K → Bool) (hash : ℕ → K → ℕ) (name : ℕ → List ℕ) (log : List (Entry K V)) (m : Moment K V) (known : Known) (s : Scene K V) (old new : Held K V) (at : IsAt same hash old s)
-    (whole : ShowsWhole same name m known s) (tables : ShowsTables name m known s) (finding : ShowsFinding name m known s) (purposes : ShowsPurposes same name (past log) m known s) (map i : ℕ) (said : Progress (Node K V))
+module _ {K V : Type 0} (same : K → K → Bool) (hash : ℕ → K → ℕ) (name : ℕ → List ℕ) (log : Past K V) (m : Moment K V) (known : Known) (s : Scene K V) (old new : Held K V) (at : IsAt same hash old s)
+    (whole : ShowsWhole same name m known s) (tables : ShowsTables name m known s) (finding : ShowsFinding name m known s) (purposes : ShowsPurposes same name log m known s) (map i : ℕ) (said : Progress (Node K V))
     (leads : StepLeads same hash i said s old new) (terms : Terms) (c : CallThere K V) (c_is : call_of (name i) m ≡ Some c) where
   abbrev since : List (Moment K V)
-  since = moments_from c.begun log
+  since = log.since c.begun
 
   abbrev Linked : Type 0
   Linked = FindShapes terms since (name i) map (effects_of (acts.Call i map) known new.changed) m
@@ -120,7 +118,7 @@ module _ {K V : Type 0} (same : K → K → Bool) (hash : ℕ → K → ℕ) (na
 
 pub steps_find_rest : (K V : Type 0) (same : K → K → Bool) (hash : ℕ → K → ℕ) → StepsFindRest K V same hash
 steps_find_rest K V same hash name log m known s old new at whole kept finding sources order purposes map i u here said leads terms c c_is mask_is nexts full =
-    rest_is_all K V terms (moments_from c.begun log) (name i) map effects m
+    rest_is_all K V terms (log.since c.begun) (name i) map effects m
     (call_asks same hash name log m known s old new at whole kept.tables finding purposes map i said leads terms c c_is u here mask_is nexts)
     (call_links same hash name log m known s old new at whole kept.tables finding purposes map i said leads terms c c_is u here mask_is nexts full)
     (past_is_handed K V (name i) map effects m found_past behind_it

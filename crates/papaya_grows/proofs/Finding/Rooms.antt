@@ -28,10 +28,8 @@ use Rattle.papaya_purposes.specs.Given.Schedules.declared.call.Call.{Call}
 use Rattle.papaya_purposes.specs.Given.Schedules.declared.call.Call.TheVariants as call
 use Rattle.papaya_purposes.specs.Given.Schedules.declared.effect.Effect.{Effect}
 use Rattle.papaya_purposes.specs.Given.Schedules.declared.effect.Effect.TheVariants as effect
-use Rattle.papaya_purposes.specs.Given.Schedules.After.{moments_from}
 use Rattle.papaya_purposes.specs.Given.Schedules.Counts.{Counts}
 use Rattle.papaya_purposes.specs.Given.Schedules.Effects.{AtEachEffect}
-use Rattle.papaya_purposes.specs.Given.Schedules.Entry.{Entry}
 use Rattle.papaya_purposes.specs.Given.Schedules.Growing.{Follows, Has, HasNext, IsFirstOf, MayGrow, MayMakeFor, is_too_many}
 use Rattle.papaya_purposes.specs.Given.Schedules.Lists.{OneOf}
 use Rattle.papaya_purposes.specs.Given.Schedules.Moment.{Moment, TableThere, UnderWay as CallThere}
@@ -79,7 +77,7 @@ use Rattle.papaya_grows.proofs.Finding.Making.Lengths.{table_length}
 use Rattle.papaya_purposes.specs.Given.Scenes.Held.{Held, IsAt}
 use Rattle.papaya_purposes.specs.Given.Scenes.Scene.{Scene, slot_of}
 use Rattle.papaya_purposes.specs.Given.Scenes.Stepping.{StepLeads}
-use Rattle.papaya_purposes.specs.Given.Schedules.Transition.{past}
+use Rattle.papaya_purposes.specs.Given.Schedules.Transition.{Past}
 
 -- what a reservation is called for
 pub its_more : {K V : Type 0} (r : CallForRoom) (its : Call K V) → IsFor (ForRoom r) its → its ≡ call.Reserve r.reserve.additional
@@ -129,11 +127,11 @@ few_first p n (makes.Drops table found) mem mem2 told end is step asks = few_of 
 few_first p n (makes.Over table) mem mem2 told end is step asks = absurd (asks_some told asks step.2)
 few_first p n (makes.Refused fault) mem mem2 told end is step asks = absurd (asks_some told asks step.2)
 
-module _ {K V : Type 0} (same : K → K → Bool) (hash : ℕ → K → ℕ) (name : ℕ → List ℕ) (log : List (Entry K V)) (m : Moment K V) (known : Known) (s : Scene K V) (old new : Held K V) (at : IsAt same hash old s)
-    (whole : ShowsWhole same name m known s) (purposes : ShowsPurposes same name (past log) m known s) (map i : ℕ) (r : CallForRoom) (here : s.calls map i ≡ Some (ForRoom r)) (said : Progress (Node K V))
+module _ {K V : Type 0} (same : K → K → Bool) (hash : ℕ → K → ℕ) (name : ℕ → List ℕ) (log : Past K V) (m : Moment K V) (known : Known) (s : Scene K V) (old new : Held K V) (at : IsAt same hash old s)
+    (whole : ShowsWhole same name m known s) (purposes : ShowsPurposes same name log m known s) (map i : ℕ) (r : CallForRoom) (here : s.calls map i ≡ Some (ForRoom r)) (said : Progress (Node K V))
     (leads : StepLeads same hash i said s old new) (terms : Terms) (c : CallThere K V) (c_is : call_of (name i) m ≡ Some c) (mask_is : (leads map (ForRoom r) here).0.setting.mask + 1 ≡ shards_of terms) where
   abbrev moments : List (Moment K V)
-  moments = moments_from c.begun log
+  moments = log.since c.begun
 
   abbrev st : Standing K
   st = (leads map (ForRoom r) here).0

@@ -1,5 +1,5 @@
 -- Whatever happens between the steps of calls, where a call can have no further table, one of its map's is at the limit, or was at a moment since it began.
-use Rattle.std.specs.Prelude.{◌≡◌, ◌⊎◌, ◌≤◌, ℕ, Bool, true, List, ◌∷◌, Option, Some, None, length}
+use Rattle.std.specs.Prelude.{◌≡◌, ◌⊎◌, ◌≤◌, ℕ, Bool, true, List, Option, Some, None}
 use Rattle.std.proofs.Common.{ap, sym, subst, ◌∙◌}
 use Rattle.papaya_purposes.specs.Given.Seize.World.{Begin, Step}
 use Rattle.papaya_purposes.specs.Given.Seize.declared.progress.Progress.{Progress as Making}
@@ -12,10 +12,9 @@ use Rattle.papaya_purposes.specs.Given.Raw.declared.machines.machine.Machine.{Ma
 use Rattle.papaya_purposes.specs.Given.Schedules.declared.call.Call.{Call}
 use Rattle.papaya_purposes.specs.Given.Schedules.declared.call.Reply.{Reply}
 use Rattle.papaya_purposes.specs.Given.Schedules.declared.outcome.Outcome.{Outcome}
-use Rattle.papaya_purposes.specs.Given.Schedules.After.{moment}
 use Rattle.papaya_purposes.specs.Given.Schedules.Beginning.{with_call}
 use Rattle.papaya_purposes.specs.Given.Schedules.Effects.{with_effects}
-use Rattle.papaya_purposes.specs.Given.Schedules.Entry.{Entry, ends_call}
+use Rattle.papaya_purposes.specs.Given.Schedules.Entry.{ends_call}
 use Rattle.papaya_purposes.specs.Given.Schedules.Moment.{Moment, UnderWay as CallThere}
 use Rattle.papaya_purposes.specs.Given.Schedules.Views.{call_of, map_at}
 use Rattle.papaya_purposes.specs.Given.Callers.OverAll.{CallOverAll}
@@ -58,6 +57,8 @@ use Rattle.papaya_purposes.specs.Given.Scenes.OnSlots.{RowBegins, RowLeads}
 use Rattle.papaya_purposes.specs.Given.Scenes.Replying.{scene_with, unless_stopped}
 use Rattle.papaya_purposes.specs.Given.Scenes.Rows.{request_of}
 use Rattle.papaya_purposes.specs.Given.Scenes.Scene.{IsOnSlot, Scene, slot_of}
+use Rattle.papaya_purposes.specs.Given.Schedules.Transition.{Past, further}
+use Rattle.papaya_purposes.specs.Given.Histories.Histories.{IsPast}
 
 -- A call that begins has not come so far.
 module _ {K V : Type 0} (same : K → K → Bool) (Why : Type 0) where
@@ -102,25 +103,25 @@ module _ (K V : Type 0) where
   abbrev pub AnyPairs : Moment K V → Moment K V → Type 0
   AnyPairs m v = Unit {0}
 
-module _ {K V : Type 0} (name : ℕ → List ℕ) (log : List (Entry K V)) (m v : Moment K V) (s t : Scene K V) (limits : ShowsLimits name log m s) where
+module _ {K V : Type 0} (name : ℕ → List ℕ) (log : Past K V) (m v : Moment K V) (s t : Scene K V) (limits : ShowsLimits name log m s) where
   -- where calls are as they were, or are under way no more
   pub limits_alike : v.calls ≡ m.calls → ((n : ℕ) → IsAtLimit n m → IsAtLimit n v) → ((n j : ℕ) (x : UnderWay K V K) → t.calls n j ≡ Some x → s.calls n j ≡ Some x) → ShowsLimits name log v t
   limits_alike calls keeps was = since.so_alike (Of K V) (more K V) (replies K V) (asked K V) (So K V) (AnyPairs K V) (λ m v pairs. tt) (so_where K V) name log m v s t limits calls (λ n j x is y has. keeps n has) was
 
 -- at a moment with other maps, where those that stand are found as they were
-pub limits_where : {K V : Type 0} (same : K → K → Bool) (hash : ℕ → K → ℕ) (name : ℕ → List ℕ) (log : List (Entry K V)) (m v : Moment K V) (s : Scene K V) (e : Held K V) → IsAt same hash e s → ShowsLimits name log m s
+pub limits_where : {K V : Type 0} (same : K → K → Bool) (hash : ℕ → K → ℕ) (name : ℕ → List ℕ) (log : Past K V) (m v : Moment K V) (s : Scene K V) (e : Held K V) → IsAt same hash e s → ShowsLimits name log m s
     → ((n : ℕ) (st : Standing K) → s.maps n ≡ Some st → map_at n v ≡ map_at n m) → v.tables ≡ m.tables → v.calls ≡ m.calls → ShowsLimits name log v s
 limits_where {K} {V} same hash name log m v s e at limits still tables calls =
     since.so_where_found (Of K V) (more K V) (replies K V) (asked K V) (So K V) (AnyPairs K V) (λ m v pairs. tt) (so_where K V) same hash name log m v s e at limits still tt tables calls
 
 -- with a further event of the log
-pub limits_grow : {K V : Type 0} (name : ℕ → List ℕ) (log : List (Entry K V)) (e : Entry K V) (m : Moment K V) (s : Scene K V)
-    → ((map i : ℕ) (u : UnderWay K V K) → s.calls map i ≡ Some u → (c : CallThere K V) → call_of (name i) m ≡ Some c → c.begun ≤ length log) → ShowsLimits name log m s → ShowsLimits name (e ∷ log) m s
-limits_grow {K} {V} name log e m s begun limits = since.so_grow (Of K V) (more K V) (replies K V) (asked K V) (So K V) (AnyPairs K V) (λ m v pairs. tt) (so_where K V) name log e m s begun limits
+pub limits_grow : {K V : Type 0} (name : ℕ → List ℕ) (log : Past K V) (next : Moment K V) (m : Moment K V) (s : Scene K V)
+    → ((map i : ℕ) (u : UnderWay K V K) → s.calls map i ≡ Some u → (c : CallThere K V) → call_of (name i) m ≡ Some c → c.begun ≤ log.entries) → ShowsLimits name log m s → ShowsLimits name (further next log) m s
+limits_grow {K} {V} name log next m s begun limits = since.so_grow (Of K V) (more K V) (replies K V) (asked K V) (So K V) (AnyPairs K V) (λ m v pairs. tt) (so_where K V) name log next m s begun limits
 
 -- Where a call begins, is told, is asked for its next pair, or is given up.
 
-module _ {K V : Type 0} (same : K → K → Bool) (name : ℕ → List ℕ) (log : List (Entry K V)) (m : Moment K V) (s : Scene K V) (limits : ShowsLimits name log m s) (map i : ℕ) (u : UnderWay K V K) where
+module _ {K V : Type 0} (same : K → K → Bool) (name : ℕ → List ℕ) (log : Past K V) (m : Moment K V) (s : Scene K V) (limits : ShowsLimits name log m s) (map i : ℕ) (u : UnderWay K V K) where
   pub calls_begin_limits : (guard : List ℕ) (its : Call K V) (standing : Standing K) → Begins same standing i u → NoneNamed name (name i) s
       → ShowsLimits name log (with_call (name i) guard its (Some map) m) (scene_with map i u s)
   calls_begin_limits guard its standing begins apart =
@@ -141,25 +142,25 @@ module _ {K V : Type 0} (same : K → K → Bool) (name : ℕ → List ℕ) (log
     walks_stop_limits q none = since.walks_stop_so (Of K V) (more K V) (replies K V) (asked K V) (So K V) (AnyPairs K V) (λ m v pairs. tt) (so_where K V) same name log m s limits map i u here shown next q none
 
 -- Where a call comes to an outcome.
-pub calls_come_to_limits : {K V : Type 0} (same : K → K → Bool) (name : ℕ → List ℕ) (log : List (Entry K V)) (m : Moment K V) (s : Scene K V) → ShowsLimits name log m s → IsThere same name m s.calls → (own : List ℕ) (o : Outcome V) (steps : ℕ)
+pub calls_come_to_limits : {K V : Type 0} (same : K → K → Bool) (name : ℕ → List ℕ) (log : Past K V) (m : Moment K V) (s : Scene K V) → ShowsLimits name log m s → IsThere same name m s.calls → (own : List ℕ) (o : Outcome V) (steps : ℕ)
     → (ends_call o ≡ true → NoneNamed name own s) → ShowsLimits name log (come_to own o steps m) s
 calls_come_to_limits {K} {V} same name log m s limits shown own o steps ended =
     since.calls_come_to_so (Of K V) (more K V) (replies K V) (asked K V) (So K V) (AnyPairs K V) (λ m v pairs. tt) (so_where K V) same name log m s limits shown own o steps ended
 
 -- Where an event of a call begins, others are as the log says.
-pub limits_at_first : {K V : Type 0} (name : ℕ → List ℕ) (log : List (Entry K V)) (i : ℕ) (m : Moment K V) (s : Scene K V) → m.maps ≡ (moment log).maps → m.tables ≡ (moment log).tables
-    → ((map j : ℕ) (u : UnderWay K V K) → s.calls map j ≡ Some u → (c : CallThere K V) → call_of (name j) m ≡ Some c → c.begun ≤ length log) → ShowsLimits name log m s → OthersHadLimit name log i m s
-limits_at_first {K} {V} name log i m s maps tables begun limits =
-    since.others_at_first (Of K V) (more K V) (replies K V) (asked K V) (So K V) (AnyPairs K V) (λ m v pairs. tt) (so_where K V) name log i m s tt maps tables begun limits
+pub limits_at_first : {K V : Type 0} (name : ℕ → List ℕ) (log : Past K V) (is_past : IsPast log) (i : ℕ) (m : Moment K V) (s : Scene K V) → m.maps ≡ log.now.maps → m.tables ≡ log.now.tables
+    → ((map j : ℕ) (u : UnderWay K V K) → s.calls map j ≡ Some u → (c : CallThere K V) → call_of (name j) m ≡ Some c → c.begun ≤ log.entries) → ShowsLimits name log m s → OthersHadLimit name log i m s
+limits_at_first {K} {V} name log is_past i m s maps tables begun limits =
+    since.others_at_first (Of K V) (more K V) (replies K V) (asked K V) (So K V) (AnyPairs K V) (λ m v pairs. tt) (so_where K V) name log is_past i m s tt maps tables begun limits
 
 -- After each step of what is no call.
 
 -- where calls and maps are as they were
-limits_beside : {K V : Type 0} (name : ℕ → List ℕ) (log : List (Entry K V)) (m v : Moment K V) (known known2 : Known) (s t : Scene K V) → IsBeside m v known known2 s t → ((n : ℕ) → IsAtLimit n m → IsAtLimit n v) → ShowsLimits name log m s
+limits_beside : {K V : Type 0} (name : ℕ → List ℕ) (log : Past K V) (m v : Moment K V) (known known2 : Known) (s t : Scene K V) → IsBeside m v known known2 s t → ((n : ℕ) → IsAtLimit n m → IsAtLimit n v) → ShowsLimits name log m s
     → ShowsLimits name log v t
 limits_beside {K} {V} name log m v known known2 s t beside keeps limits = limits_alike name log m v s t limits beside.calls keeps (λ n j x is. ap (λ (f : ℕ → ℕ → Option (UnderWay K V K)). f n j) (sym beside.same_calls) ∙ is)
 
-module _ (K V : Type 0) (same : K → K → Bool) (hash : ℕ → K → ℕ) (name : ℕ → List ℕ) (log : List (Entry K V)) (m : Moment K V) (known : Known) (s : Scene K V) (old new : Held K V) (limits : ShowsLimits name log m s) where
+module _ (K V : Type 0) (same : K → K → Bool) (hash : ℕ → K → ℕ) (name : ℕ → List ℕ) (log : Past K V) (m : Moment K V) (known : Known) (s : Scene K V) (old new : Held K V) (limits : ShowsLimits name log m s) where
   -- a row begins on a slot
   pub rows_begin_limits : (called : SlotCall) (i : ℕ) (leads : RowBegins same hash called i s old new)
       → ShowsLimits name log m (scene_then same hash (Begin i (request_of (slot_of i) called)) s old new leads.2)

@@ -14,7 +14,6 @@ use Rattle.papaya_purposes.specs.Given.Raw.declared.machines.machine.Machine.The
 use Rattle.papaya_purposes.specs.Given.Raw.declared.machines.progress.Progress.{Progress}
 use Rattle.papaya_purposes.specs.Given.Raw.declared.machines.progress.Progress.TheVariants as progress
 use Rattle.papaya_purposes.specs.Given.Schedules.Effects.{with_effects}
-use Rattle.papaya_purposes.specs.Given.Schedules.Entry.{Entry}
 use Rattle.papaya_purposes.specs.Given.Schedules.Growing.{Has}
 use Rattle.papaya_purposes.specs.Given.Schedules.Moment.{Moment, UnderWay as CallThere}
 use Rattle.papaya_purposes.specs.Given.Schedules.Views.{call_of, capacity_or, map_at}
@@ -43,6 +42,7 @@ use Rattle.papaya_purposes.proofs.Given.Scenes.Told.{as_step}
 use Rattle.papaya_purposes.specs.Given.Scenes.Held.{Held, IsAt}
 use Rattle.papaya_purposes.specs.Given.Scenes.Scene.{Scene, slot_of}
 use Rattle.papaya_purposes.specs.Given.Scenes.Stepping.{StepLeads, has_ended, scene_after}
+use Rattle.papaya_purposes.specs.Given.Schedules.Transition.{Past}
 
 -- a map is made with no more places than a table can have
 entries_few : (pairs initial : ℕ) → Has (entries_of pairs) initial → initial ≤ 2 ^ 48
@@ -58,7 +58,7 @@ goes_yet machine (progress.Done answer) next goes x is = absurd (let none = sym 
 goes_yet machine (progress.Refused fault) next goes x is = absurd (let none = sym goes ∙ is in cc none)
 goes_yet machine _ next goes x is = refl
 
-module _ {K V : Type 0} (same : K → K → Bool) (hash : ℕ → K → ℕ) (name : ℕ → List ℕ) (log : List (Entry K V)) (m : Moment K V) (known : Known) (s : Scene K V) (old new : Held K V) (at : IsAt same hash old s)
+module _ {K V : Type 0} (same : K → K → Bool) (hash : ℕ → K → ℕ) (name : ℕ → List ℕ) (log : Past K V) (m : Moment K V) (known : Known) (s : Scene K V) (old new : Held K V) (at : IsAt same hash old s)
     (whole : ShowsWhole same name m known s) (map i : ℕ) (u : UnderWay K V K) (here : s.calls map i ≡ Some u) (said : Progress (Node K V)) (leads : StepLeads same hash i said s old new) where
   abbrev to : WentTo same hash name m known s old new at whole.all.shown map i u here said leads
   to = went_to same hash name m known s old new at whole.all.shown map i u here said leads

@@ -20,9 +20,11 @@ use Rattle.papaya_purposes.proofs.Given.Histories.Logs.{each_of}
 use Rattle.papaya_purposes.specs.Given.Finds.Linking.{FoundFull, HasFoundFull}
 use Rattle.papaya_purposes.specs.Given.Finds.Within.{many_of}
 use Rattle.papaya_purposes.proofs.Given.Finds.Grows.Steps.{tables_have_been}
-use Rattle.papaya_grows.specs.Tries.{HasTaken, MeetsBy, ShowsTries, TakenOrPassed, TriedAt}
+use Rattle.papaya_grows.specs.Tries.{HasTaken, MeetsBy, ShowsTries, TakenOrPassed, TriedAt, TablesLast}
 use Rattle.papaya_grows.proofs.Finding.Alike.{many_same}
 use Rattle.papaya_purposes.specs.Given.Scenes.Scene.{Scene}
+use Rattle.papaya_purposes.specs.Given.Schedules.Transition.{Past, past}
+use Rattle.std.specs.List.{AllByRecursion}
 
 module _ {K V : Type 0} (map : ℕ) where
   call_tables : (caller guard : List ℕ) (call : Call K V) (o : Option ℕ) (m : Moment K V) → (with_call caller guard call o m).tables ≡ m.tables
@@ -46,32 +48,37 @@ module _ {K V : Type 0} (map : ℕ) where
       let works = tables_have_been K V (caller_of e.event) (acted_on e.event (at_work e m)) e.effects (at_work e m) map in
       omega (arith, begins, works)
 
-  -- what was so at a moment of the log was so where the map had no more tables than at the last one
-  module _ (P : Moment K V → Type 0) where
-    abbrev Late : List (Entry K V) → Moment K V → Type 0
-    Late log x = P x × (many_of map x ≤ many_of map (moment log))
+-- so in a run no map had more tables at any moment than at the last one
+module _ {K V : Type 0} where
+  more_last : (e : Entry K V) (m : Moment K V) (moments : List (Moment K V)) → AllByRecursion (λ v. (map : ℕ) → many_of map v ≤ many_of map m) moments
+      → AllByRecursion (λ v. (map : ℕ) → many_of map v ≤ many_of map (after e m)) moments
+  more_last e m [] last = tt
+  more_last e m (x ∷ moments) last = (λ map. (let few = last.0 map in let more = many_grows map e m in omega (arith, few, more)), more_last e m moments last.1)
 
-    none_late : (q : Bool) → OneOf P (if q then start ∷ [] else []) → OneOf (Late []) (if q then start ∷ [] else [])
-    none_late true (inl so) = inl (so, omega arith)
-    none_late true (inr none) = inr none
-    none_late false none = none
+  pub tables_last : (log : List (Entry K V)) → TablesLast (past log)
+  tables_last [] begun = by (begun == 0)
+    where
+      by : (q : Bool) → AllByRecursion (λ (v : Moment K V). (map : ℕ) → many_of map v ≤ many_of map (start {K = K} {V = V})) (if q then start ∷ [] else [])
+      by true = (λ map. omega arith, tt)
+      by false = tt
+  tables_last (e ∷ log) begun = by (nat_lt (length (e ∷ log)) begun) (tables_last log begun)
+    where
+      by : (q : Bool) → AllByRecursion (λ (v : Moment K V). (map : ℕ) → many_of map v ≤ many_of map (moment log)) (moments_from begun log)
+          → AllByRecursion (λ (v : Moment K V). (map : ℕ) → many_of map v ≤ many_of map (moment (e ∷ log))) (if q then [] else moment (e ∷ log) ∷ moments_from begun log)
+      by true before = tt
+      by false before = (λ map. omega arith, more_last e (moment log) (moments_from begun log) before)
 
-    -- with one more event
-    more_late : (e : Entry K V) (log : List (Entry K V)) (ms : List (Moment K V)) → (OneOf P ms → OneOf (Late log) ms) → (q : Bool) → OneOf P (if q then [] else moment (e ∷ log) ∷ ms)
-        → OneOf (Late (e ∷ log)) (if q then [] else moment (e ∷ log) ∷ ms)
-    more_late e log ms late true none = none
-    more_late e log ms late false (inl so) = inl (so, omega arith)
-    more_late e log ms late false (inr there) =
-        let more = many_grows e (moment log) in inr (each_of (Late log) (Late (e ∷ log)) ms (λ x so. (so.0, (let few = so.1 in omega (arith, few, more)))) (late there))
-
-    pub one_late : (begun : ℕ) (log : List (Entry K V)) → OneOf P (moments_from begun log) → OneOf (Late log) (moments_from begun log)
-    one_late begun [] one = none_late (begun == 0) one
-    one_late begun (e ∷ log) one = more_late e log (moments_from begun log) (one_late begun log) (nat_lt (length (e ∷ log)) begun) one
+  -- what was so at a moment was so where the map had no more tables than later
+  one_late : (map : ℕ) (P : Moment K V → Type 0) (now : Moment K V) (moments : List (Moment K V)) → AllByRecursion (λ v. (of : ℕ) → many_of of v ≤ many_of of now) moments → OneOf P moments
+      → OneOf (λ x. P x × (many_of map x ≤ many_of map now)) moments
+  one_late map P now [] last none = none
+  one_late map P now (x ∷ moments) last (inl so) = inl (so, last.0 map)
+  one_late map P now (x ∷ moments) last (inr there) = inr (one_late map P now moments last.1 there)
 
 -- so tries at the last table meet what they meet at these moments
-module _ {K V : Type 0} (map begun : ℕ) (log : List (Entry K V)) (m : Moment K V) (more : many_of map (moment log) ≤ many_of map m) (turn len hash : ℕ) (last : suc turn ≡ many_of map m) where
+module _ {K V : Type 0} (map begun : ℕ) (log : Past K V) (since_last : TablesLast log) (m : Moment K V) (more : many_of map log.now ≤ many_of map m) (turn len hash : ℕ) (last : suc turn ≡ many_of map m) where
   abbrev moments : List (Moment K V)
-  moments = m ∷ moments_from begun log
+  moments = m ∷ log.since begun
 
   module _ (try met before pairs : ℕ) (rest : Meets map turn len hash moments try before) (sum : met ≡ before + pairs) where
     abbrev Found : Moment K V → Type 0
@@ -84,21 +91,21 @@ module _ {K V : Type 0} (map begun : ℕ) (log : List (Entry K V)) (m : Moment K
     found_one : HasTaken map begun log m (try_at turn len hash try, pairs) → OneOf Found moments
     found_one (inr now) = inl (found_at m (omega arith) now)
     found_one (inl had) =
-        inr (each_of (λ x. TakenOrPassed map (try_at turn len hash try, pairs) x × (many_of map x ≤ many_of map (moment log))) Found (moments_from begun log)
-        (λ x so. found_at x (let few = so.1 in omega (arith, few, more)) so.0) (one_late map (λ x. TakenOrPassed map (try_at turn len hash try, pairs) x) begun log had))
+        inr (each_of (λ x. TakenOrPassed map (try_at turn len hash try, pairs) x × (many_of map x ≤ many_of map log.now)) Found (log.since begun)
+        (λ x so. found_at x (let few = so.1 in omega (arith, few, more)) so.0) (one_late map (λ x. TakenOrPassed map (try_at turn len hash try, pairs) x) log.now (log.since begun) (since_last begun) had))
 
   meets_so : (tries met : ℕ) → MeetsBy (HasTaken map begun log m) turn len hash tries met → Meets map turn len hash moments tries met
   meets_so zero met so = so
   meets_so (suc try) met (before, pairs, rest, why, sum) = found_one try met before pairs (meets_so try before rest) sum why
 
 -- The promise: what a call finds full it has found full since it began.
-pub found_full_so : {K V : Type 0} (name : ℕ → List ℕ) (log : List (Entry K V)) (m : Moment K V) (s : Scene K V) → ShowsTries name log m s → (map i : ℕ) → many_of map (moment log) ≤ many_of map m
-    → (u : UnderWay K V K) → s.calls map i ≡ Some u → (c : CallThere K V) → call_of (name i) m ≡ Some c → FoundFull map (many_of map m) (m ∷ moments_from c.begun log) u
-found_full_so name log m s tries map i more (OnKey u) here c c_is = by u.call.stands (tries map i (OnKey u) here c c_is)
+pub found_full_so : {K V : Type 0} (name : ℕ → List ℕ) (log : Past K V) → TablesLast log → (m : Moment K V) (s : Scene K V) → ShowsTries name log m s → (map i : ℕ) → many_of map log.now ≤ many_of map m
+    → (u : UnderWay K V K) → s.calls map i ≡ Some u → (c : CallThere K V) → call_of (name i) m ≡ Some c → FoundFull map (many_of map m) (m ∷ log.since c.begun) u
+found_full_so name log since_last m s tries map i more (OnKey u) here c c_is = by u.call.stands (tries map i (OnKey u) here c c_is)
   where
-    by : (stands : Calling) → TriedAt (HasTaken map c.begun log m) u.call stands → HasFoundFull map (many_of map m) (m ∷ moments_from c.begun log) u.call stands
-    by (at.Allocs making) so = λ last. (u.call.hash, meets_so map c.begun log m more u.call.trial.table.turn u.call.trial.table.len u.call.hash last (suc u.call.trial.table.limit) u.call.trial.met so.1)
+    by : (stands : Calling) → TriedAt (HasTaken map c.begun log m) u.call stands → HasFoundFull map (many_of map m) (m ∷ log.since c.begun) u.call stands
+    by (at.Allocs making) so = λ last. (u.call.hash, meets_so map c.begun log since_last m more u.call.trial.table.turn u.call.trial.table.len u.call.hash last (suc u.call.trial.table.limit) u.call.trial.met so.1)
     by _ so = tt
-found_full_so name log m s tries map i more (ForRoom r) here c c_is = tt
-found_full_so name log m s tries map i more (Counting sum) here c c_is = tt
-found_full_so name log m s tries map i more (OverAll o) here c c_is = tt
+found_full_so name log since_last m s tries map i more (ForRoom r) here c c_is = tt
+found_full_so name log since_last m s tries map i more (Counting sum) here c c_is = tt
+found_full_so name log since_last m s tries map i more (OverAll o) here c c_is = tt

@@ -7,7 +7,6 @@ use Rattle.papaya_purposes.specs.Given.Seize.declared.rows.settle.Settled.{Settl
 use Rattle.papaya_purposes.specs.Given.Tables.declared.node.Node.{Node}
 use Rattle.papaya_purposes.specs.Given.Tables.declared.setting.Setting.{Setting}
 use Rattle.papaya_purposes.specs.Given.Schedules.Effects.{with_effects}
-use Rattle.papaya_purposes.specs.Given.Schedules.Entry.{Entry}
 use Rattle.papaya_purposes.specs.Given.Schedules.Moment.{Moment}
 use Rattle.papaya_purposes.specs.Given.Effects.Effects.{effects_of, known_after}
 use Rattle.papaya_purposes.specs.Given.Effects.Known.{Known}
@@ -38,8 +37,9 @@ use Rattle.papaya_purposes.specs.Given.Scenes.Making.{MakingLeads}
 use Rattle.papaya_purposes.specs.Given.Scenes.OnSlots.{RowBegins, RowLeads}
 use Rattle.papaya_purposes.specs.Given.Scenes.Rows.{request_of}
 use Rattle.papaya_purposes.specs.Given.Scenes.Scene.{IsOnSlot, Scene, slot_of}
+use Rattle.papaya_purposes.specs.Given.Schedules.Transition.{Past}
 
-module _ (K V : Type 0) (same : K → K → Bool) (hash : ℕ → K → ℕ) (name : ℕ → List ℕ) (log : List (Entry K V)) (m : Moment K V) (known : Known) (s : Scene K V) (old new : Held K V)
+module _ (K V : Type 0) (same : K → K → Bool) (hash : ℕ → K → ℕ) (name : ℕ → List ℕ) (log : Past K V) (m : Moment K V) (known : Known) (s : Scene K V) (old new : Held K V)
     (sources : ShowsSources same name m known s) (tries : ShowsTries name log m s) where
   -- a row begins on a slot
   pub rows_begin_tries : (called : SlotCall) (i : ℕ) (leads : RowBegins same hash called i s old new)

@@ -1,5 +1,5 @@
 -- Whatever happens between the steps of calls, a call has met what its tries meet, at moments since it began.
-use Rattle.std.specs.Prelude.{◌≡◌, ◌≤◌, ◌==◌, ℕ, Bool, true, List, ◌∷◌, find, Option, Some, length}
+use Rattle.std.specs.Prelude.{◌≡◌, ◌≤◌, ◌==◌, ℕ, Bool, true, List, find, Option, Some}
 use Rattle.std.proofs.Common.{ap, sym, ◌∙◌, inl, inr}
 use Rattle.papaya_purposes.specs.Given.Raw.Machine.{machine_asked, machine_replied}
 use Rattle.papaya_purposes.specs.Given.Raw.declared.machines.asking.Reply.{Reply as MachineReply}
@@ -9,9 +9,8 @@ use Rattle.papaya_purposes.specs.Given.Schedules.declared.call.Call.{Call}
 use Rattle.papaya_purposes.specs.Given.Schedules.declared.call.Reply.{Reply}
 use Rattle.papaya_purposes.specs.Given.Schedules.declared.effect.Spot.{Spot}
 use Rattle.papaya_purposes.specs.Given.Schedules.declared.outcome.Outcome.{Outcome}
-use Rattle.papaya_purposes.specs.Given.Schedules.After.{moment}
 use Rattle.papaya_purposes.specs.Given.Schedules.Beginning.{with_call}
-use Rattle.papaya_purposes.specs.Given.Schedules.Entry.{Entry, ends_call}
+use Rattle.papaya_purposes.specs.Given.Schedules.Entry.{ends_call}
 use Rattle.papaya_purposes.specs.Given.Schedules.Moment.{MapThere, Moment, UnderWay as CallThere}
 use Rattle.papaya_purposes.specs.Given.Schedules.Views.{call_of, map_at}
 use Rattle.papaya_purposes.specs.Given.Callers.Pairs.{Given}
@@ -36,6 +35,8 @@ use Rattle.papaya_purposes.specs.Given.Scenes.Beginning.{Begins}
 use Rattle.papaya_purposes.specs.Given.Scenes.Held.{Held, IsAt}
 use Rattle.papaya_purposes.specs.Given.Scenes.Replying.{scene_with, unless_stopped}
 use Rattle.papaya_purposes.specs.Given.Scenes.Scene.{Scene, slot_of}
+use Rattle.papaya_purposes.specs.Given.Schedules.Transition.{Past, further}
+use Rattle.papaya_purposes.specs.Given.Histories.Histories.{IsPast}
 
 -- A call that begins has made no try.
 module _ {K V : Type 0} (same : K → K → Bool) (Why : Spot × ℕ → Type 0) where
@@ -79,7 +80,7 @@ module _ (K V : Type 0) where
   pub so_where : (m v : Moment K V) → Alike m v → v.tables ≡ m.tables → (n : ℕ) → map_at n v ≡ map_at n m → (x : Spot × ℕ) → So n x m → So n x v
   so_where m v pairs tables n there x so = taken_where m v pairs tables n there x so
 
-module _ {K V : Type 0} (name : ℕ → List ℕ) (log : List (Entry K V)) (m v : Moment K V) (s t : Scene K V) (tries : ShowsTries name log m s) where
+module _ {K V : Type 0} (name : ℕ → List ℕ) (log : Past K V) (m v : Moment K V) (s t : Scene K V) (tries : ShowsTries name log m s) where
   -- where calls are as they were, or are under way no more
   pub tries_alike : v.calls ≡ m.calls → HasSamePairs m v → v.maps ≡ m.maps → v.tables ≡ m.tables → ((n j : ℕ) (x : UnderWay K V K) → t.calls n j ≡ Some x → s.calls n j ≡ Some x) → ShowsTries name log v t
   tries_alike calls pairs maps tables was =
@@ -87,19 +88,19 @@ module _ {K V : Type 0} (name : ℕ → List ℕ) (log : List (Entry K V)) (m v 
       (λ n j x is y so. taken_where m v pairs tables n (ap (λ (fs : List MapThere). find (λ f. f.number == n) fs) maps) y so) was
 
 -- at a moment with other maps, where those that stand are found as they were
-pub tries_where : {K V : Type 0} (same : K → K → Bool) (hash : ℕ → K → ℕ) (name : ℕ → List ℕ) (log : List (Entry K V)) (m v : Moment K V) (s : Scene K V) (e : Held K V) → IsAt same hash e s → ShowsTries name log m s
+pub tries_where : {K V : Type 0} (same : K → K → Bool) (hash : ℕ → K → ℕ) (name : ℕ → List ℕ) (log : Past K V) (m v : Moment K V) (s : Scene K V) (e : Held K V) → IsAt same hash e s → ShowsTries name log m s
     → ((n : ℕ) (st : Standing K) → s.maps n ≡ Some st → map_at n v ≡ map_at n m) → HasSamePairs m v → v.tables ≡ m.tables → v.calls ≡ m.calls → ShowsTries name log v s
 tries_where {K} {V} same hash name log m v s e at tries still pairs tables calls =
     since.so_where_found (Of K V) (more K V) (replies K V) (asked K V) (So K V) (Alike K V) (λ m v pairs. pairs) (so_where K V) same hash name log m v s e at tries still pairs tables calls
 
 -- with a further event of the log
-pub tries_grow : {K V : Type 0} (name : ℕ → List ℕ) (log : List (Entry K V)) (e : Entry K V) (m : Moment K V) (s : Scene K V)
-    → ((map i : ℕ) (u : UnderWay K V K) → s.calls map i ≡ Some u → (c : CallThere K V) → call_of (name i) m ≡ Some c → c.begun ≤ length log) → ShowsTries name log m s → ShowsTries name (e ∷ log) m s
-tries_grow {K} {V} name log e m s begun tries = since.so_grow (Of K V) (more K V) (replies K V) (asked K V) (So K V) (Alike K V) (λ m v pairs. pairs) (so_where K V) name log e m s begun tries
+pub tries_grow : {K V : Type 0} (name : ℕ → List ℕ) (log : Past K V) (next : Moment K V) (m : Moment K V) (s : Scene K V)
+    → ((map i : ℕ) (u : UnderWay K V K) → s.calls map i ≡ Some u → (c : CallThere K V) → call_of (name i) m ≡ Some c → c.begun ≤ log.entries) → ShowsTries name log m s → ShowsTries name (further next log) m s
+tries_grow {K} {V} name log next m s begun tries = since.so_grow (Of K V) (more K V) (replies K V) (asked K V) (So K V) (Alike K V) (λ m v pairs. pairs) (so_where K V) name log next m s begun tries
 
 -- Where a call begins, is told, is asked for its next pair, or is given up.
 
-module _ {K V : Type 0} (same : K → K → Bool) (name : ℕ → List ℕ) (log : List (Entry K V)) (m : Moment K V) (s : Scene K V) (tries : ShowsTries name log m s) (map i : ℕ) (u : UnderWay K V K) where
+module _ {K V : Type 0} (same : K → K → Bool) (name : ℕ → List ℕ) (log : Past K V) (m : Moment K V) (s : Scene K V) (tries : ShowsTries name log m s) (map i : ℕ) (u : UnderWay K V K) where
   pub calls_begin_tries : (guard : List ℕ) (its : Call K V) (standing : Standing K) → Begins same standing i u → NoneNamed name (name i) s
       → ShowsTries name log (with_call (name i) guard its (Some map) m) (scene_with map i u s)
   calls_begin_tries guard its standing begins apart =
@@ -120,19 +121,19 @@ module _ {K V : Type 0} (same : K → K → Bool) (name : ℕ → List ℕ) (log
     walks_stop_tries q none = since.walks_stop_so (Of K V) (more K V) (replies K V) (asked K V) (So K V) (Alike K V) (λ m v pairs. pairs) (so_where K V) same name log m s tries map i u here shown next q none
 
 -- Where a call comes to an outcome.
-pub calls_come_to_tries : {K V : Type 0} (same : K → K → Bool) (name : ℕ → List ℕ) (log : List (Entry K V)) (m : Moment K V) (s : Scene K V) → ShowsTries name log m s → IsThere same name m s.calls → (own : List ℕ) (o : Outcome V) (steps : ℕ)
+pub calls_come_to_tries : {K V : Type 0} (same : K → K → Bool) (name : ℕ → List ℕ) (log : Past K V) (m : Moment K V) (s : Scene K V) → ShowsTries name log m s → IsThere same name m s.calls → (own : List ℕ) (o : Outcome V) (steps : ℕ)
     → (ends_call o ≡ true → NoneNamed name own s) → ShowsTries name log (come_to own o steps m) s
 calls_come_to_tries {K} {V} same name log m s tries shown own o steps ended =
     since.calls_come_to_so (Of K V) (more K V) (replies K V) (asked K V) (So K V) (Alike K V) (λ m v pairs. pairs) (so_where K V) same name log m s tries shown own o steps ended
 
 -- Where an event of a call begins, others are as the log says.
-pub tries_at_first : {K V : Type 0} (name : ℕ → List ℕ) (log : List (Entry K V)) (i : ℕ) (m : Moment K V) (s : Scene K V) → HasSamePairs m (moment log) → m.maps ≡ (moment log).maps → m.tables ≡ (moment log).tables
-    → ((map j : ℕ) (u : UnderWay K V K) → s.calls map j ≡ Some u → (c : CallThere K V) → call_of (name j) m ≡ Some c → c.begun ≤ length log) → ShowsTries name log m s → OthersHadTried name log i m s
-tries_at_first {K} {V} name log i m s pairs maps tables begun tries =
-    since.others_at_first (Of K V) (more K V) (replies K V) (asked K V) (So K V) (Alike K V) (λ m v pairs. pairs) (so_where K V) name log i m s pairs maps tables begun tries
+pub tries_at_first : {K V : Type 0} (name : ℕ → List ℕ) (log : Past K V) (is_past : IsPast log) (i : ℕ) (m : Moment K V) (s : Scene K V) → HasSamePairs m log.now → m.maps ≡ log.now.maps → m.tables ≡ log.now.tables
+    → ((map j : ℕ) (u : UnderWay K V K) → s.calls map j ≡ Some u → (c : CallThere K V) → call_of (name j) m ≡ Some c → c.begun ≤ log.entries) → ShowsTries name log m s → OthersHadTried name log i m s
+tries_at_first {K} {V} name log is_past i m s pairs maps tables begun tries =
+    since.others_at_first (Of K V) (more K V) (replies K V) (asked K V) (So K V) (Alike K V) (λ m v pairs. pairs) (so_where K V) name log is_past i m s pairs maps tables begun tries
 
 -- After each step of what is no call: where calls and maps are as they were, and each map of a call has the tables that it had.
-module _ {K V : Type 0} (same : K → K → Bool) (hash : ℕ → K → ℕ) (name : ℕ → List ℕ) (log : List (Entry K V)) (m v : Moment K V) (known known2 : Known) (s t : Scene K V) (new : Held K V) (at2 : IsAt same hash new t)
+module _ {K V : Type 0} (same : K → K → Bool) (hash : ℕ → K → ℕ) (name : ℕ → List ℕ) (log : Past K V) (m v : Moment K V) (known known2 : Known) (s t : Scene K V) (new : Held K V) (at2 : IsAt same hash new t)
     (beside : IsBeside m v known known2 s t) (spot : v.spot ≡ m.spot) (more_tables : (map : ℕ) → many_of map m ≤ many_of map v) (sources : ShowsSources same name m known s) (shown2 : Shows same name v known2 t)
     (tries : ShowsTries name log m s) where
   pub tries_beside : ShowsTries name log v t

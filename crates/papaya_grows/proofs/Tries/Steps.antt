@@ -32,7 +32,6 @@ use Rattle.papaya_purposes.specs.Given.Raw.declared.machines.progress.Progress.{
 use Rattle.papaya_purposes.specs.Given.Schedules.declared.effect.Effect.{Effect}
 use Rattle.papaya_purposes.specs.Given.Schedules.declared.effect.Spot.{Spot}
 use Rattle.papaya_purposes.specs.Given.Schedules.Effects.{with_effects}
-use Rattle.papaya_purposes.specs.Given.Schedules.Entry.{Entry}
 use Rattle.papaya_purposes.specs.Given.Schedules.Moment.{Moment, UnderWay as CallThere}
 use Rattle.papaya_purposes.specs.Given.Schedules.Tries.{FindsTaken, try_at}
 use Rattle.papaya_purposes.specs.Given.Schedules.Views.{call_of}
@@ -77,6 +76,7 @@ use Rattle.papaya_grows.proofs.Tries.Walk.{OfNone, OffWords, call_tried}
 use Rattle.papaya_purposes.specs.Given.Scenes.Held.{Held, IsAt}
 use Rattle.papaya_purposes.specs.Given.Scenes.Scene.{Scene, slot_of}
 use Rattle.papaya_purposes.specs.Given.Scenes.Stepping.{StepLeads, scene_after}
+use Rattle.papaya_purposes.specs.Given.Schedules.Transition.{Past}
 
 -- a call is at a try
 abbrev Tries : Calling → Type 0
@@ -86,7 +86,7 @@ Tries stands = (calling.Probes ≡ stands) ⊎ ((word new : ℕ) × (calling.Tri
 of_key_tried : {K V : Type 0} (Why : Spot × ℕ → Type 0) (e : KeyCall K V K × Called (Node K V)) → Tried Why e → MachineTried Why (of_key {K = K} {V = V} {Q = K} e).0
 of_key_tried Why (p, told) so = so
 
-module _ {K V : Type 0} (same : K → K → Bool) (hash : ℕ → K → ℕ) (name : ℕ → List ℕ) (log : List (Entry K V)) (m : Moment K V) (known : Known) (s : Scene K V) (old new : Held K V) (at : IsAt same hash old s)
+module _ {K V : Type 0} (same : K → K → Bool) (hash : ℕ → K → ℕ) (name : ℕ → List ℕ) (log : Past K V) (m : Moment K V) (known : Known) (s : Scene K V) (old new : Held K V) (at : IsAt same hash old s)
     (whole : ShowsWhole same name m known s) (map i : ℕ) (u : UnderWay K V K) (here : s.calls map i ≡ Some u) (said : Progress (Node K V)) (leads : StepLeads same hash i said s old new) where
   abbrev to : WentTo same hash name m known s old new at whole.all.shown map i u here said leads
   to = went_to same hash name m known s old new at whole.all.shown map i u here said leads

@@ -59,6 +59,7 @@ use Rattle.papaya_legal.proofs.Over.{reading_like, runs_go_on}
 use Rattle.papaya_legal.proofs.SlotsAfter.{each_stores, like}
 use Rattle.papaya_legal.proofs.SlotsEnd.{slots_are_legal_but}
 use Rattle.papaya_grows.specs.Given.Scenes.Held.{IsAt}
+use Rattle.papaya_grows.specs.Given.Schedules.Transition.{past}
 
 -- What such an event is.
 
@@ -249,5 +250,5 @@ module _ (K V : Type 0) (same : K → K → Bool) (hash : ℕ → K → ℕ) whe
       ran =
           runs_go_on K V same name name terms log known over.come.notes s over.come.scene run e right but.life
           (each_stores its (moment log) on (caller_of its) (acted_on its (at_work e (moment log))) effects (at_work e (moment log)) may) reclaims
-          (likes_show K V same name log over.come.now (moment (e ∷ log)) over.come.notes over.come.scene at_over.calls is_like)
+          (likes_show K V same name (past log) over.come.now (moment (e ∷ log)) over.come.notes over.come.scene at_over.calls is_like)
           (reading_like name log (λ j. 0) over.come.now (moment (e ∷ log)) over.come.scene at_over.reading is_like) safe.1 (λ alone. inl (followed alone).1)

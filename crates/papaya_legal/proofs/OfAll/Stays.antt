@@ -17,7 +17,6 @@ use Rattle.papaya_grows.specs.Given.Schedules.declared.effect.Table.{Table}
 use Rattle.papaya_grows.specs.Given.Schedules.declared.effect.Thing.{Thing}
 use Rattle.papaya_grows.specs.Given.Schedules.declared.effect.Thing.TheVariants.{APair, ATable}
 use Rattle.papaya_grows.specs.Given.Schedules.Effects.{at_stage, with_effect, with_effects}
-use Rattle.papaya_grows.specs.Given.Schedules.Entry.{Entry}
 use Rattle.papaya_grows.specs.Given.Schedules.Moment.{IsReclaimed, Moment, TableThere}
 use Rattle.papaya_grows.specs.Given.Schedules.Things.{same_table}
 use Rattle.papaya_grows.specs.Given.Teller.declared.changed.Changed.{Changed}
@@ -49,7 +48,7 @@ use Rattle.papaya_legal.proofs.OfAll.Tells.{gone_by, it_reclaims, none_under_way
 use Rattle.papaya_legal.proofs.Uncounted.{none_counted}
 use Rattle.papaya_grows.specs.Given.Scenes.Held.{Held}
 use Rattle.papaya_grows.specs.Given.Scenes.Scene.{Scene}
-use Rattle.papaya_grows.specs.Given.Schedules.Transition.{past}
+use Rattle.papaya_grows.specs.Given.Schedules.Transition.{Past}
 use Rattle.papaya_grows.proofs.Given.Purposes.Stored.{effects_stored, numbers_last}
 
 -- Maps have their numbers still once something is reclaimed.
@@ -79,7 +78,7 @@ nowhere : (known : Known) (x : Changed) → TellsRow x ⊎ EmptiesRoot x → Cou
 nowhere known x (inl tells) b field old new of is counter = absurd (subst TellsRow is tells)
 nowhere known x (inr empties) b field old new of is counter = absurd (subst EmptiesRoot is empties)
 
-module _ {K V : Type 0} (same : K → K → Bool) (hash : ℕ → K → ℕ) (name : ℕ → List ℕ) (log : List (Entry K V)) (m : Moment K V) (known : Known) (s : Scene K V) (calls : ShowsCalls same name log m known s)
+module _ {K V : Type 0} (same : K → K → Bool) (hash : ℕ → K → ℕ) (name : ℕ → List ℕ) (log : Past K V) (m : Moment K V) (known : Known) (s : Scene K V) (calls : ShowsCalls same name log m known s)
     (old new : Held K V) (i : ℕ) (lists : ℕ → List ℕ) (before after : ReclaimAll) (told : Settled (Node K V)) (under_way : IsReclaiming same hash old s i lists before)
     (leads : ReclaimingLeads same hash s i lists old new before after told) where
   abbrev x : Changed
@@ -161,7 +160,7 @@ module _ {K V : Type 0} (same : K → K → Bool) (hash : ℕ → K → ℕ) (na
     questions = effects_keep_questions K V None None effects m calls.questions;
     purposes = record {
       past = calls.purposes.past;
-      lasts = numbers_last (past log) m v (effects_stored None None effects m) calls.purposes.lasts;
+      lasts = numbers_last log m v (effects_stored None None effects m) calls.purposes.lasts;
       shown = whole_then.all.shown;
       begun = λ n j u is c found. none n j u is;
       is_for = λ n j u is c found. none n j u is;
@@ -169,5 +168,5 @@ module _ {K V : Type 0} (same : K → K → Bool) (hash : ℕ → K → ℕ) (na
     };
   }
 
-  pub reading_then : ShowsReading name (past log) (λ j. 0) v t
+  pub reading_then : ShowsReading name log (λ j. 0) v t
   reading_then = record { past = calls.dues.history.past; begun = λ n j u is c found looks. none n j u is; reads = λ n j u is c found looks st there. none n j u is }

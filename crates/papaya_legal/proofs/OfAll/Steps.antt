@@ -37,6 +37,7 @@ use Rattle.papaya_legal.proofs.OfAll.Turns.{left_stays, takes_in_turn}
 use Rattle.papaya_legal.proofs.Slots.{each_join}
 use Rattle.papaya_grows.specs.Given.Scenes.Held.{Held}
 use Rattle.papaya_grows.specs.Given.Scenes.Scene.{Scene}
+use Rattle.papaya_grows.specs.Given.Schedules.Transition.{past}
 
 both_reclaim : (done more : List Effect) → list_all is_reclaiming done ≡ true → list_all is_reclaiming more ≡ true → list_all is_reclaiming (done ++ more) ≡ true
 both_reclaim [] more first later = later
@@ -66,8 +67,8 @@ module _ {K V : Type 0} (same : K → K → Bool) (hash : ℕ → K → ℕ) (na
       leads.1.lists2
   goes_on = record {
     once = midst.once;
-    calls = calls_then same hash name log m known s midst.calls old new i lists before after told under_way leads;
-    reading = reading_then same hash name log m known s midst.calls old new i lists before after told under_way leads;
+    calls = calls_then same hash name (past log) m known s midst.calls old new i lists before after told under_way leads;
+    reading = reading_then same hash name (past log) m known s midst.calls old new i lists before after told under_way leads;
     worked = ap (λ (z : Moment K V). with_effects None None effects z) midst.worked ∙ sym (effects_after None None done effects (moment log));
     granted = grants_add_up done effects midst.granted (operations_are_single Row known new.changed).1;
     may = both_reclaim done effects midst.may
