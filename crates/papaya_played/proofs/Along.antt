@@ -1,7 +1,6 @@
 -- What is so at first, and after each kind of act, is so wherever a list of acts has led that is played: by this what is promised of steps is had of lists.
-use Rattle.std.specs.Prelude.{◌<◌, ◌^◌, ◌++◌, Option, Some, None, option_map}
-use Rattle.std.specs.Option.{is_none}
-use Rattle.std.proofs.Common.{◌≡◌, ◌⊎◌, ℕ, Bool, true, List, [], ◌∷◌, inl, inr, refl, ap, sym, subst, ◌∙◌}
+use Rattle.std.specs.Prelude.{◌<◌, ◌^◌, Option, Some, None}
+use Rattle.std.proofs.Common.{◌≡◌, ℕ, Bool, List, [], ◌∷◌, inl, inr, refl, ap, sym, subst, ◌∙◌}
 use Rattle.papaya_scenes.specs.Given.Seize.ReclaimAll.{clearing, reclaim_all_plan, reclaiming_all}
 use Rattle.papaya_scenes.specs.Given.Seize.declared.rows.reclaim_all.ReclaimAll.{ReclaimAll}
 use Rattle.papaya_scenes.specs.Given.Seize.declared.rows.settle.Settled.{Settled}
@@ -23,7 +22,7 @@ use Rattle.papaya_scenes.specs.Scene.{Scene, slot_of}
 use Rattle.papaya_acts.specs.Acts.{Act, Answer, BeginsRow}
 use Rattle.papaya_acts.specs.AsSteps.{IsOwn, LeadsAs, changed_by, changed_of, held_in}
 use Rattle.papaya_acts.specs.Doings.{Doing, Does, BeginsReclaiming, BeginsClearing, StepsReclaiming, AllAreFree, HasDone, HasStepped, MayDo, Stage, behind, reclaiming, still}
-use Rattle.papaya_acts.specs.Leads.{AllStand, MayBe}
+use Rattle.papaya_acts.specs.Leads.{MayBe}
 use Rattle.papaya_acts.specs.Lists.{Course, Reached, LedOn, nothing_done, on_by}
 use Rattle.papaya_acts.proofs.AsSteps.All.{acts_lead_as_steps}
 use Rattle.papaya_acts.proofs.AsSteps.Reclaiming.{reclaiming_leads_as_steps}

@@ -1,6 +1,6 @@
 -- A short list of acts, played: a map is made with a table, a slot is taken and entered, and a pair is stored and found. The history is written by hand. And lists that can't be played.
 use Rattle.std.specs.Prelude.{nat_eq}
-use Rattle.std.proofs.Common.{◌≡◌, ℕ, Bool, true, false, List, [], ◌∷◌, refl, Option, Some, None}
+use Rattle.std.proofs.Common.{◌≡◌, ℕ, true, List, [], ◌∷◌, refl, Option, Some, None}
 use Rattle.std.specs.Prelude.{◌++◌, option_map}
 use Rattle.papaya_scenes.specs.Given.Seize.World.{Register'}
 use Rattle.papaya_scenes.specs.Given.Tables.declared.resize_mode.ResizeMode.TheVariants as mode
