@@ -14,7 +14,11 @@ use Rattle.papaya_scenes.specs.Given.Seize.declared.states.TheConstants.{ACTIVE}
 use Rattle.papaya_scenes.specs.Given.Tables.declared.node.Node.{Node}
 use Rattle.papaya_scenes.specs.Given.Tables.declared.setting.Setting.{Setting}
 use Rattle.papaya_scenes.specs.Given.Resize.declared.new_map.NewMap.{NewMap}
-use Rattle.papaya_scenes.specs.Given.Raw.Machine.{machine_asked, machine_replied}
+use Rattle.papaya_scenes.specs.Given.Seize.ReclaimAll.{reclaim_all_plan}
+use Rattle.papaya_scenes.specs.Given.Tables.Nodes.{deferred_word, was_left}
+use Rattle.papaya_scenes.specs.Given.Resize.NewMap.{new_map_plan}
+use Rattle.papaya_scenes.specs.Given.Raw.EndMap.{end_map_plan}
+use Rattle.papaya_scenes.specs.Given.Raw.Machine.{machine_asked, machine_plan, machine_replied}
 use Rattle.papaya_scenes.specs.Given.Raw.declared.machines.progress.Progress.{Progress as CallProgress}
 use Rattle.papaya_scenes.specs.Given.Raw.declared.machines.progress.Progress.TheVariants as comes
 use Rattle.papaya_scenes.specs.Given.Finishes.Maps.{with_call}
@@ -25,7 +29,7 @@ use Rattle.papaya_scenes.proofs.NoCall.{none_is}
 use Rattle.papaya_scenes.specs.Replying.{unless_stopped}
 use Rattle.seize_acts.specs.Answers.{Grant}
 use Rattle.seize_acts.proofs.Answers.{same_some}
-use Rattle.papaya_scenes.specs.Scene.{slot_of}
+use Rattle.papaya_scenes.specs.Scene.{row_of, slot_of}
 use Rattle.papaya_scenes.specs.Stepping.{has_ended}
 use Rattle.papaya_scenes.specs.declared.row.RowTold.{RowTold}
 use Rattle.papaya_scenes.specs.declared.row.RowTold.TheVariants as rows_tell
@@ -43,17 +47,20 @@ use Rattle.papaya_schedules.specs.Effects.{call_by, with_effect, with_effects}
 use Rattle.papaya_schedules.specs.Entry.{ends_call}
 use Rattle.papaya_schedules.specs.Moment.{Stands, Going, Asking, Told, IsReady, UnderWay, Moment}
 use Rattle.papaya_schedules.specs.Views.{call_of}
+use Rattle.papaya_effects.specs.Effects.{effects_of, known_after}
 use Rattle.papaya_effects.specs.Known.{Known}
+use Rattle.papaya_effects.specs.declared.acting.Acting.TheVariants as acting
 use Rattle.papaya_follows.proofs.Calling.{apart_back, found_kept, found_passes, is_same_is, is_same_refl, replied_same}
 use Rattle.papaya_follows.proofs.Calls.{IsOfSame, changed, changed_same, found, of_same}
 use Rattle.papaya_named.specs.declared.kind.Kind.{Kind}
 use Rattle.papaya_named.specs.Seen.{kind_of}
 use Rattle.papaya_deeds.specs.Deeds.{Deed, Begins, Steps, Replies, Stops, Opens, Shuts, MapComes, MapGoes, Works, ReclaimsAll, Entry, acted_on, after, at_work, begun, caller_of, calls_on, moment, named, worked}
 use Rattle.papaya_acts.specs.Acts.{Act, BeginsCall, StepsCall, TellsCall, AsksCall, StopsCall, BeginsMaking, StepsMaking, BeginsEnding, StepsEnding, BeginsRow, StepsRow}
+use Rattle.papaya_acts.specs.AsSteps.{changed_of, row_changed}
 use Rattle.papaya_acts.specs.Doings.{Doing, Does, BeginsReclaiming, BeginsClearing, StepsReclaiming}
 use Rattle.papaya_acts.specs.Leads.{MayBe}
 use Rattle.papaya_acts.specs.Lists.{Course, Reached, LedOn, nothing_done}
-use Rattle.papaya_played.specs.Play.{Calling, Making, Ending, Now, State, begun_call, call_for, ending_deed, first_state, has_root, is_over, keeps, leaves_as, made_on, making_deed, outcome_of, play_all, registers_as, reply_for, row_deed, told_call}
+use Rattle.papaya_played.specs.Play.{Calling, Making, Ending, Now, State, begun_call, call_for, ending_deed, first_state, has_root, is_over, keeps, leaves_as, made_on, making_deed, making_outcome, outcome_of, pairs_for, play_all, registers_as, reply_for, row_deed, row_outcome, settled_outcome, told_call}
 use Rattle.papaya_played.proofs.Alike.{its_call, others_call}
 use Rattle.papaya_played.proofs.PlayedAs.{PlayedAs, ReclaimedAs, played_as, reclaimed_as}
 use Rattle.papaya_played.proofs.Along.{AllFit, AreOfTheirOwn, At, Is, StaysSo, wherever}
@@ -141,10 +148,11 @@ module _ {K V : Type 0} where
   opens : (s : ℕ) → OfNoCall (Opens s)
   opens s = (λ o calls. refl, λ m. refl)
 
-  making_none : (on : ℕ) (before then : NewMap) → OfNoCall (making_deed on before then)
-  making_none on before then = by (has_root before.stands) (has_root then.stands)
+  making_none : (on : ℕ) (before next : NewMap) → OfNoCall (making_deed on before next)
+  making_none on before next = by (has_root before.stands) (has_root next.stands)
     where
-      by : (b c : Bool) → OfNoCall (if b then (if c then Works (Some on) else MapGoes on before.setting.root) else (if c then MapComes on then.setting.root then.setting.mode _ else Works (Some on)))
+      by : (b c : Bool)
+          → OfNoCall (if b then (if c then Works (Some on) else MapGoes on before.setting.root) else (if c then MapComes on next.setting.root next.setting.mode (pairs_for next.setting.initial) else Works (Some on)))
       by true true = works (Some on)
       by true false = (λ o calls. refl, λ m. refl)
       by false true = (λ o calls. refl, λ m. refl)
@@ -262,14 +270,15 @@ module _ {K V S : Type 0} where
   went_on c c2 d told is has = by (has_ended told) refl has
     where
       by : (b : Bool) → has_ended told ≡ b → (if b then None else Some c2) ≡ Some d → (has_ended told ≡ false) × (d.call ≡ c.call)
-      by true e none = absurd (cc none)
+      by true e none = absurd (let both : None ≡ Some d = none in cc both)
       by false e some = (e, ap (λ (v : Calling K V). v.call) (sym (same_some c2 d some)) ∙ is)
 
   module _ (x : State K V S) (noted : CallsAreNoted x) where
     -- an entry of no call
-    worked_noted : (now : Now K V S) (e : Entry K V) → OfNoCall e.deed → ((on i : ℕ) → now.calls on i ≡ x.now.calls on i) → (on i : ℕ) (c : Calling K V) → now.calls on i ≡ Some c
-        → IsNoted (after e (moment x.history)) on i c.call
-    worked_noted now e none as_before on i c has = of_none e (moment x.history) none on i c.call (noted on i c (sym (as_before on i) ∙ has))
+    worked_noted : (calls : ℕ → ℕ → Option (Calling K V)) (d : Deed K V) (o : Outcome V) (effects : List Effect) → OfNoCall d → ((on i : ℕ) → calls on i ≡ x.now.calls on i)
+        → (on i : ℕ) (c : Calling K V) → calls on i ≡ Some c → IsNoted (after (record { deed = d; outcome = o; effects = effects }) (moment x.history)) on i c.call
+    worked_noted calls d o effects none as_before on i c has =
+        of_none (record { deed = d; outcome = o; effects = effects }) (moment x.history) none on i c.call (noted on i c (sym (as_before on i) ∙ has))
 
     module _ (i m : ℕ) where
       begins_noted : (call : Call K V) (c : Calling K V) → c.call ≡ call → ((k : ℕ) → x.now.calls k i ≡ None) → (on j : ℕ) (d : Calling K V) → with_call x.now.calls m i (Some c) on j ≡ Some d
@@ -341,7 +350,7 @@ module _ {K V S : Type 0} where
             by (inl e) (inl f) = absurd (let both : None ≡ Some d = sym (at_it x.now.calls m i None on j f e) ∙ has in cc both)
 
   -- a making that goes on leaves calls as they are
-  made_calls : (i : ℕ) (b : Making S) (machine : NewMap) (told : Progress Setting) (now : Now K V S) (on j : ℕ) → (made_on {K = K} {V = V} i b machine told now).calls on j ≡ now.calls on j
+  made_calls : (i : ℕ) (b : Making S) (machine : NewMap) (told : Progress Setting) (now : Now K V S) (on j : ℕ) → (made_on i b machine told now).calls on j ≡ now.calls on j
   made_calls i b machine progress.Goes now on j = refl
   made_calls i b machine progress.Waits now on j = refl
   made_calls i b machine (progress.Done setting) now on j = refl
@@ -351,26 +360,38 @@ module _ {K V S : Type 0} (same : K → K → Bool) (hash : S → K → ℕ) (ba
   -- So it is after each act.
   pub acts_note : (act : Act K V S) → PlayedAs same hash batch_size roots aborts x y act → IsFreeToBegin x act → CallsAreNoted y
   acts_note (BeginsCall i m wanted) (at, there, is) free = subst CallsAreNoted (sym is) (begins_noted x noted i m (call_for wanted) (begun_call i m hash (call_for wanted) at) refl free)
-  acts_note (StepsCall i m g) (at, stands, c, here, end, stepped, is) free =
+  acts_note (StepsCall i m g) (at, stands, c, here, end, came, is) free =
+      let change = changed_of x.now.memory g (machine_plan same same (hash at.1) c.machine) in
       subst CallsAreNoted (sym is)
-      (steps_noted x noted i m c here _ end.1.1 _ (record c { machine = end.1.0; value = keeps (kind_of c.call) end.1.1 c.value }) refl)
+      (steps_noted x noted i m c here (known_after (acting.Call i m) change x.known) end.1.1 (effects_of (acting.Call i m) x.known change)
+      (record c { machine = end.1.0; value = keeps (kind_of c.call) end.1.1 c.value }) refl)
   acts_note (TellsCall i m reply) (c, here, is) free =
       subst CallsAreNoted (sym is)
       (tells_noted x noted i m c here (is_ok (machine_replied c.machine reply).1) (reply_for aborts reply) (told_call (machine_replied c.machine reply) (reply_for aborts reply) c) refl)
   acts_note (AsksCall i m) (c, here, is) free = subst CallsAreNoted (sym is) (same_call x noted i m c here (record c { machine = (machine_asked c.machine).0 }) refl)
   acts_note (StopsCall i m) (c, here, is) free = subst CallsAreNoted (sym is) (stops_noted x noted i m c here (machine_asked c.machine).1)
   acts_note (BeginsMaking i on hasher given places) is free = subst CallsAreNoted (sym is) noted
-  acts_note (StepsMaking i g) (b, here, end, stepped, is) free =
+  acts_note (StepsMaking i g) (b, here, end, came, is) free =
+      let next = made_on i b end.1.0 end.1.1 (record x.now { memory = end.0 }) in
       subst CallsAreNoted (sym is)
-      (worked_noted x noted (made_on i b end.1.0 end.1.1 (record x.now { memory = end.0 })) _ (making_none b.map b.machine end.1.0) (made_calls i b end.1.0 end.1.1 (record x.now { memory = end.0 })))
+      (worked_noted x noted next.calls (making_deed b.map b.machine end.1.0) (making_outcome end.1.1)
+      (effects_of (acting.Making b.map) x.known (changed_of x.now.memory g (new_map_plan {K = K} {V = V} b.machine))) (making_none b.map b.machine end.1.0)
+      (made_calls i b end.1.0 end.1.1 (record x.now { memory = end.0 })))
   acts_note (BeginsEnding i m) (at, there, is) free = subst CallsAreNoted (sym is) noted
-  acts_note (StepsEnding i g) (f, here, end, stepped, is) free =
-      subst CallsAreNoted (sym is) (worked_noted x noted _ _ (ending_none f end.1.1) (λ on j. refl))
+  acts_note (StepsEnding i g) (f, here, end, came, is) free =
+      subst CallsAreNoted (sym is)
+      (worked_noted x noted x.now.calls (ending_deed f end.1.1) (settled_outcome end.1.1)
+      (effects_of (acting.Ending f.map) x.known (changed_of x.now.memory g (end_map_plan {K = K} {V = V} f.machine))) (ending_none f end.1.1) (λ on j. refl))
   acts_note (BeginsRow i request) (called, there, is) free = subst CallsAreNoted (sym is) noted
-  acts_note (StepsRow i g) (row, here, end, stepped, is) free = subst CallsAreNoted (sym is) (worked_noted x noted _ _ (row_none row end.1.1) (λ on j. refl))
+  acts_note (StepsRow i g) (row, here, end, came, is) free =
+      subst CallsAreNoted (sym is)
+      (worked_noted x noted x.now.calls (row_deed row end.1.1) (row_outcome end.1.1) (effects_of acting.Row x.known (row_changed (row_of row) g x.now.memory)) (row_none row end.1.1) (λ on j. refl))
 
   pub reclaiming_notes : (g : Grant) → ReclaimedAs same hash batch_size roots aborts x y g → CallsAreNoted y
-  reclaiming_notes g (c, here, end, stepped, is) = subst CallsAreNoted (sym is) (worked_noted x noted _ _ (λ o calls. refl, λ m. refl) (λ on j. refl))
+  reclaiming_notes g (c, here, end, came, is) =
+      subst CallsAreNoted (sym is)
+      (worked_noted x noted x.now.calls (ReclaimsAll (is_over end.1.1)) (settled_outcome end.1.1)
+      (effects_of acting.Row x.known (changed_of x.now.memory g (reclaim_all_plan deferred_word was_left c))) (λ o calls. refl, λ m. refl) (λ on j. refl))
 
 -- So it is wherever a list has led.
 module _ {K S : Type 0} (V : Type 0) (same : K → K → Bool) (by_hasher : S → K → ℕ) (hash : ℕ → K → ℕ) (batch_size roots : ℕ) (aborts : V) where
