@@ -65,6 +65,14 @@ use Rattle.papaya_played.proofs.Alike.{its_call, others_call}
 use Rattle.papaya_played.proofs.PlayedAs.{PlayedAs, ReclaimedAs, played_as, reclaimed_as}
 use Rattle.papaya_played.proofs.Along.{AllFit, AreOfTheirOwn, At, Is, StaysSo, wherever}
 
+-- numbers that differ are names that do
+apart : (i j : ℕ) → j ≢ i → is_same (named i) (named j) ≡ false
+apart i j ne = by (i == j) refl
+  where
+    by : (q : Bool) → (i == j) ≡ q → is_same (named i) (named j) ≡ false
+    by true e = absurd (let same : i ≡ j = grind (arith, e) in ne (sym same))
+    by false e = ap (λ (b : Bool). b && true) e
+
 module _ {K V : Type 0} where
   -- the moment has a call of this caller, on this map, and this was called
   abbrev pub IsNoted : Moment K V → ℕ → ℕ → Call K V → Type 0
@@ -117,16 +125,6 @@ module _ {K V : Type 0} where
   come_same (outcome.Answered a) c = (refl, refl, refl)
   come_same (outcome.Shape tables) c = (refl, refl, refl)
   come_same (outcome.Refused fault) c = (refl, refl, refl)
-
-  -- numbers that differ are names that do
-  apart : (i j : ℕ) → j ≢ i → is_same (named i) (named j) ≡ false
-  apart i j ne = by (i == j) refl
-    where
-      by : (q : Bool) → (i == j) ≡ q → is_same (named i) (named j) ≡ false
-      by true e = absurd (let same : i ≡ j = grind (arith, e) in ne (sym same))
-      by false e = ap (λ (b : Bool). b && true) e
-
-  -- Entries.
 
   -- one that is of no call leaves calls as they are
   abbrev pub OfNoCall : Deed K V → Type 0
@@ -249,6 +247,15 @@ module _ {K V : Type 0} where
   moved : (m : Moment K V) (on other i j : ℕ) (call called : Call K V) → on ≡ other → i ≡ j → call ≡ called → IsNoted m other j called → IsNoted m on i call
   moved m on other i j call called e f is (u, here, map_is, call_is) = (u, ap (λ (k : ℕ). call_of (named k) m) f ∙ here, map_is ∙ sym e, call_is ∙ sym is)
 
+module _ {K V : Type 0} where
+  -- it has gone on, and is what it was
+  went_on : (c c2 d : Calling K V) (told : CallProgress (Node K V)) → c2.call ≡ c.call → (if has_ended told then None else Some c2) ≡ Some d → (has_ended told ≡ false) × (d.call ≡ c.call)
+  went_on c c2 d told is has = by (has_ended told) refl has
+    where
+      by : (b : Bool) → has_ended told ≡ b → (if b then None else Some c2) ≡ Some d → (has_ended told ≡ false) × (d.call ≡ c.call)
+      by true e none = absurd (let both : None ≡ Some d = none in cc both)
+      by false e some = (e, ap (λ (v : Calling K V). v.call) (sym (same_some c2 d some)) ∙ is)
+
 module _ {X : Type 0} (calls : ℕ → ℕ → Option X) (m i : ℕ) (it : Option X) (on j : ℕ) where
   at_it : on ≡ m → j ≡ i → with_call calls m i it on j ≡ it
   at_it e f = ap (λ (k : ℕ). with_call calls m i it k j) e ∙ ap (λ (k : ℕ). with_call calls m i it m k) f ∙ its_call calls m i it
@@ -264,14 +271,6 @@ module _ {K V S : Type 0} where
   abbrev pub IsFreeToBegin : State K V S → Act K V S → Type 0
   IsFreeToBegin x (BeginsCall i m wanted) = (k : ℕ) → x.now.calls k i ≡ None
   IsFreeToBegin x act = Unit {0}
-
-  -- it has gone on, and is what it was
-  went_on : (c c2 d : Calling K V) (told : CallProgress (Node K V)) → c2.call ≡ c.call → (if has_ended told then None else Some c2) ≡ Some d → (has_ended told ≡ false) × (d.call ≡ c.call)
-  went_on c c2 d told is has = by (has_ended told) refl has
-    where
-      by : (b : Bool) → has_ended told ≡ b → (if b then None else Some c2) ≡ Some d → (has_ended told ≡ false) × (d.call ≡ c.call)
-      by true e none = absurd (let both : None ≡ Some d = none in cc both)
-      by false e some = (e, ap (λ (v : Calling K V). v.call) (sym (same_some c2 d some)) ∙ is)
 
   module _ (x : State K V S) (noted : CallsAreNoted x) where
     -- an entry of no call
@@ -404,7 +403,8 @@ module _ {K S : Type 0} (V : Type 0) (same : K → K → Bool) (by_hasher : S �
 
   free : (p : At V same by_hasher hash batch_size roots) (x : State K V S) → Is V same by_hasher hash batch_size roots aborts p x → (act : Act K V S) → MayBe same by_hasher batch_size roots slot_of act p.0
       → IsFreeToBegin x act
-  free p x is (BeginsCall i m wanted) may k = none_mapped (x.now.calls k i) (is.scene.calls k i ∙ ap (option_map machine_of) (none_is (p.0.calls k i) (may.0.no_call k)))
+  free p x is (BeginsCall i m wanted) may =
+      λ k. none_mapped (x.now.calls k i) (is.scene.calls k i ∙ ap (option_map machine_of) (none_is (p.0.calls k i) (may.0.no_call k)))
   free p x is act may = tt
 
   notes_stay : StaysSo V same by_hasher hash batch_size roots aborts Anything (λ p x. CallsAreNoted x)
