@@ -359,7 +359,7 @@ module _ {K V S : Type 0} (same : K → K → Bool) (hash : S → K → ℕ) (ba
   -- So it is after each act.
   pub acts_note : (act : Act K V S) → PlayedAs same hash batch_size roots aborts x y act → IsFreeToBegin x act → CallsAreNoted y
   acts_note (BeginsCall i m wanted) (at, there, is) free = subst CallsAreNoted (sym is) (begins_noted x noted i m (call_for wanted) (begun_call i m hash (call_for wanted) at) refl free)
-  acts_note (StepsCall i m g) (at, stands, c, here, end, came, is) free =
+  acts_note (StepsCall i m g) (at, stands, (c, here, end, came, is)) free =
       let change = changed_of x.now.memory g (machine_plan same same (hash at.1) c.machine) in
       subst CallsAreNoted (sym is)
       (steps_noted x noted i m c here (known_after (acting.Call i m) change x.known) end.1.1 (effects_of (acting.Call i m) x.known change)
