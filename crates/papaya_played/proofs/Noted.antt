@@ -1,5 +1,5 @@
 -- Of each call under way that is played the history says so: by its caller, on its map, and what was called.
-use Rattle.std.specs.Prelude.{◌≢◌, ◌⊎◌, ◌<◌, ◌^◌, ◌+◌, ◌==◌, cond, not, ◌&&◌, filter, find, map, Option, Some, None, option_map, is_ok, if◌then◌else◌}
+use Rattle.std.specs.Prelude.{◌≢◌, ◌⊎◌, ◌<◌, ◌^◌, ◌+◌, ◌==◌, cond, not, ◌&&◌, find, map, Option, Some, None, option_map, is_ok, if◌then◌else◌}
 use Rattle.std.proofs.Common.{◌≡◌, ℕ, Bool, true, false, List, [], ◌∷◌, inl, inr, refl, ap, sym, subst, ◌∙◌, arith}
 use Rattle.std.proofs.lemmas.Bool.{cases_eq}
 use Rattle.papaya_scenes.specs.Given.Seize.declared.progress.Progress.{Progress}
@@ -22,7 +22,7 @@ use Rattle.papaya_scenes.specs.Given.Raw.Machine.{machine_asked, machine_plan, m
 use Rattle.papaya_scenes.specs.Given.Raw.declared.machines.progress.Progress.{Progress as CallProgress}
 use Rattle.papaya_scenes.specs.Given.Raw.declared.machines.progress.Progress.TheVariants as comes
 use Rattle.papaya_scenes.specs.Given.Finishes.Maps.{with_call}
-use Rattle.papaya_scenes.proofs.Given.Callers.Together.At.{at_other, at_same}
+use Rattle.papaya_scenes.proofs.Given.Callers.Together.At.{at_other}
 use Rattle.papaya_scenes.specs.Given.Seize.World.{with_at}
 use Rattle.papaya_scenes.specs.Given.Finishes.Machines.{machine_of}
 use Rattle.papaya_scenes.proofs.NoCall.{none_is}
@@ -54,7 +54,7 @@ use Rattle.papaya_follows.proofs.Calling.{apart_back, found_kept, found_passes, 
 use Rattle.papaya_follows.proofs.Calls.{IsOfSame, changed, changed_same, found, of_same}
 use Rattle.papaya_named.specs.declared.kind.Kind.{Kind}
 use Rattle.papaya_named.specs.Seen.{kind_of}
-use Rattle.papaya_deeds.specs.Deeds.{Deed, Begins, Steps, Replies, Stops, Opens, Shuts, MapComes, MapGoes, Works, ReclaimsAll, Entry, acted_on, after, at_work, begun, caller_of, calls_on, moment, named, worked}
+use Rattle.papaya_deeds.specs.Deeds.{Deed, Begins, Steps, Replies, Stops, Opens, MapComes, MapGoes, Works, ReclaimsAll, Entry, acted_on, after, at_work, begun, caller_of, calls_on, moment, named, worked}
 use Rattle.papaya_acts.specs.Acts.{Act, BeginsCall, StepsCall, TellsCall, AsksCall, StopsCall, BeginsMaking, StepsMaking, BeginsEnding, StepsEnding, BeginsRow, StepsRow}
 use Rattle.papaya_acts.specs.AsSteps.{changed_of, row_changed}
 use Rattle.papaya_acts.specs.Doings.{Doing, Does, BeginsReclaiming, BeginsClearing, StepsReclaiming}

@@ -13,7 +13,7 @@ use Rattle.papaya_scenes.specs.Scene.{row_of}
 use Rattle.papaya_acts.specs.Acts.{Act, BeginsCall, StepsCall, TellsCall, AsksCall, StopsCall, BeginsMaking, StepsMaking, BeginsEnding, StepsEnding, BeginsRow, StepsRow}
 use Rattle.papaya_acts.specs.AsSteps.{changed_of, row_changed}
 use Rattle.papaya_acts.specs.Doings.{StepsReclaiming}
-use Rattle.papaya_played.specs.Play.{State, all_stepped, call_asked, call_begun, call_for, call_stepped, call_stopped, call_told, ending_begun, ending_stepped, making_begun, making_stepped, play, play_act, row_begun, row_stepped, slot_call_of, slot_row_steps, step_all, step_call, step_ending, step_making, step_row}
+use Rattle.papaya_played.specs.Play.{State, all_stepped, call_asked, call_begun, call_for, call_stepped, call_stopped, call_told, ending_begun, ending_stepped, making_begun, making_stepped, play, play_act, row_begun, row_stepped, slot_call_of, slot_row_steps, step_call}
 
 module _ {K V S : Type 0} (same : K → K → Bool) (hash : S → K → ℕ) (batch_size roots : ℕ) (aborts : V) (x y : State K V S) where
   -- something was there, and by it the state is this then
