@@ -1,8 +1,8 @@
 -- What is told alike of two things is told alike of them after the same changes.
 use Rattle.std.specs.Prelude.{◌≢◌, ◌⊎◌, Option, Some, None, option_map}
-use Rattle.std.proofs.Common.{◌≡◌, ℕ, Bool, true, false, inl, inr, refl, ap, sym, ◌∙◌}
+use Rattle.std.proofs.Common.{◌≡◌, ℕ, inl, inr, refl, ap, sym, ◌∙◌}
 use Rattle.std.proofs.lemmas.Bool.{cases_eq}
-use Rattle.papaya_scenes.specs.Given.Seize.World.{Row, Rests, with_at}
+use Rattle.papaya_scenes.specs.Given.Seize.World.{Rests, with_at}
 use Rattle.seize_acts.proofs.Answers.{same_some}
 use Rattle.papaya_scenes.proofs.Given.Callers.Together.At.{at_same, at_other}
 use Rattle.papaya_scenes.specs.Given.Finishes.Maps.{Standing, IsSameMap, with_call}

@@ -14,14 +14,14 @@ use Rattle.seize_acts.proofs.Begun.{rests_is}
 use Rattle.papaya_scenes.specs.Given.Tables.Nodes.{deferred_word, was_left}
 use Rattle.papaya_scenes.specs.Given.Tables.declared.node.Node.{Node}
 use Rattle.papaya_scenes.proofs.NoCall.{none_is}
-use Rattle.papaya_scenes.specs.Scene.{Scene, HasNoCall, at_first, slot_of}
+use Rattle.papaya_scenes.specs.Scene.{Scene, slot_of}
 use Rattle.papaya_acts.specs.Acts.{Act, Answer, Nothing, OfReclaiming, BeginsCall, StepsCall, TellsCall, AsksCall, StopsCall, BeginsMaking, StepsMaking, BeginsEnding, StepsEnding, BeginsRow, StepsRow}
 use Rattle.papaya_acts.specs.AsSteps.{changed_of}
-use Rattle.papaya_acts.specs.Doings.{Doing, Does, BeginsReclaiming, BeginsClearing, StepsReclaiming, AllAreFree, HasBegun, HasDone, HasStepped, MayDo, Stage, behind, reclaiming, still}
+use Rattle.papaya_acts.specs.Doings.{Doing, Does, BeginsReclaiming, BeginsClearing, StepsReclaiming, AllAreFree, HasBegun, HasDone, HasStepped, MayDo, Stage, reclaiming, still}
 use Rattle.papaya_acts.specs.Leads.{AllStand, Led, MayBe}
 use Rattle.papaya_acts.specs.Lists.{Course, Reached, LedOn, nothing_done, on_by}
-use Rattle.papaya_played.specs.Play.{Now, State, all_begun, all_on, all_stepped, first_state, play, play_act, play_all, step_all}
-use Rattle.papaya_played.specs.Reached.{AreOnOwn, IsOf, IsOfStage, IsOnOwn, ListsArePlayed, row_or_rests, rows_beside}
+use Rattle.papaya_played.specs.Play.{State, all_begun, all_on, all_stepped, first_state, play, play_act, play_all, step_all}
+use Rattle.papaya_played.specs.Reached.{AreOnOwn, IsOf, IsOfStage, IsOnOwn, ListsArePlayed, rows_beside}
 use Rattle.papaya_played.proofs.Alike.{set_up_so}
 use Rattle.papaya_played.proofs.Calls.{asks, begins, steps, stops, tells}
 use Rattle.papaya_played.proofs.Makings.{ending_begins, ending_steps_so, making_begins, making_steps_so}

@@ -1,7 +1,6 @@
 -- What is so at first, and after each kind of act, is so wherever a list of acts has led that is played: by this what is promised of steps is had of lists.
-use Rattle.std.specs.Prelude.{◌<◌, ◌^◌, ◌++◌, Option, Some, None, option_map}
-use Rattle.std.specs.Option.{is_none}
-use Rattle.std.proofs.Common.{◌≡◌, ◌⊎◌, ℕ, Bool, true, List, [], ◌∷◌, inl, inr, refl, ap, sym, subst, ◌∙◌}
+use Rattle.std.specs.Prelude.{◌<◌, ◌^◌, Option, Some, None}
+use Rattle.std.proofs.Common.{◌≡◌, ℕ, Bool, List, [], ◌∷◌, inl, inr, refl, ap, sym, subst, ◌∙◌}
 use Rattle.papaya_scenes.specs.Given.Seize.ReclaimAll.{clearing, reclaim_all_plan, reclaiming_all}
 use Rattle.papaya_scenes.specs.Given.Seize.declared.rows.reclaim_all.ReclaimAll.{ReclaimAll}
 use Rattle.papaya_scenes.specs.Given.Seize.declared.rows.settle.Settled.{Settled}
@@ -23,7 +22,7 @@ use Rattle.papaya_scenes.specs.Scene.{Scene, slot_of}
 use Rattle.papaya_acts.specs.Acts.{Act, Answer, BeginsRow}
 use Rattle.papaya_acts.specs.AsSteps.{IsOwn, LeadsAs, changed_by, changed_of, held_in}
 use Rattle.papaya_acts.specs.Doings.{Doing, Does, BeginsReclaiming, BeginsClearing, StepsReclaiming, AllAreFree, HasDone, HasStepped, MayDo, Stage, behind, reclaiming, still}
-use Rattle.papaya_acts.specs.Leads.{AllStand, MayBe}
+use Rattle.papaya_acts.specs.Leads.{MayBe}
 use Rattle.papaya_acts.specs.Lists.{Course, Reached, LedOn, nothing_done, on_by}
 use Rattle.papaya_acts.proofs.AsSteps.All.{acts_lead_as_steps}
 use Rattle.papaya_acts.proofs.AsSteps.Reclaiming.{reclaiming_leads_as_steps}
@@ -63,11 +62,22 @@ module _ {K S : Type 0} (V : Type 0) (same : K → K → Bool) (by_hasher : S �
     abbrev pub Is : At → State K V S → Type 0
     Is p x = IsOfStage by_hasher same batch_size roots p x.now
 
-    -- something stays so by each kind of act
-    pub record StaysSo (P : At → State K V S → Type 0) : Type 0 where
-      pub acts : (p n : At) (x y : State K V S) (act : Act K V S) (told : Answer K V) → far p ≡ None → far n ≡ None → Is p x → Is n y → IsAt same hash (held NoChange p) p.0
-          → MayBe same by_hasher batch_size roots slot_of act p.0 → LeadsAs same by_hasher hash act p.0 told (held NoChange p) (held (changed_by same act p.0) n)
-          → IsAt same hash (held (changed_by same act p.0) n) n.0 → play_act same by_hasher batch_size roots aborts act x ≡ Some y → P p x → P n y
+    -- Of an act something more may be asked, by the state in which it is done: so of each act of a list.
+    abbrev pub FitsIn : (State K V S → Act K V S → Type 0) → State K V S → Doing K V S → Type 0
+    FitsIn Fits x (Does act) = Fits x act
+    FitsIn Fits x doing = Unit {0}
+
+    abbrev pub AllFit : (State K V S → Act K V S → Type 0) → List (Doing K V S) → State K V S → Type 0
+    AllFit Fits [] x = Unit {0}
+    AllFit Fits (doing ∷ doings) x =
+        FitsIn Fits x doing × ((y : State K V S) → play same by_hasher batch_size roots aborts doing x ≡ Some y → AllFit Fits doings y)
+
+    -- something stays so by each kind of act that fits
+    pub record StaysSo (Fits : State K V S → Act K V S → Type 0) (P : At → State K V S → Type 0) : Type 0 where
+      pub acts : (p n : At) (x y : State K V S) (act : Act K V S) (told : Answer K V) → IsOwn by_hasher hash act → Fits x act → far p ≡ None → far n ≡ None → Is p x → Is n y
+          → IsAt same hash (held NoChange p) p.0 → MayBe same by_hasher batch_size roots slot_of act p.0
+          → LeadsAs same by_hasher hash act p.0 told (held NoChange p) (held (changed_by same act p.0) n) → IsAt same hash (held (changed_by same act p.0) n) n.0
+          → play_act same by_hasher batch_size roots aborts act x ≡ Some y → P p x → P n y
       pub begins : (p n : At) (x : State K V S) (i : ℕ) (c : ReclaimAll) → far p ≡ None → far n ≡ Some (i, c) → n.0 ≡ p.0 → AllAreFree p.0 → Is p x → Is n (all_begun c x)
           → IsAt same hash (held NoChange p) p.0 → P p x → P n (all_begun c x)
       pub steps : (p n : At) (x y : State K V S) (i : ℕ) (c c2 : ReclaimAll) (g : Grant) (end : Settled (Node K V)) → far p ≡ Some (i, c) → far n ≡ still end (i, c2) → Is p x → Is n y
@@ -121,14 +131,14 @@ module _ {K S : Type 0} (V : Type 0) (same : K → K → Bool) (by_hasher : S �
   on_own (Does (BeginsRow i request)) own = own
   on_own doing own = tt
 
-  module _ (size : batch_size < 2 ^ 64) (aborts : V) (P : At → State K V S → Type 0) (so : StaysSo aborts P) where
+  module _ (size : batch_size < 2 ^ 64) (aborts : V) (Fits : State K V S → Act K V S → Type 0) (P : At → State K V S → Type 0) (so : StaysSo aborts Fits P) where
     abbrev pub Stays : At → Doing K V S → State K V S → Type 0
     Stays n doing x =
         (y : State K V S) × (play same by_hasher batch_size roots aborts doing x ≡ Some y) × Is aborts n y × StandsBy n (far n) × P n y
 
-    next_so : (p n : At) (x : State K V S) → Is aborts p x → StandsBy p (far p) → P p x → (doing : Doing K V S) → IsOfItsOwn doing
+    next_so : (p n : At) (x : State K V S) → Is aborts p x → StandsBy p (far p) → P p x → (doing : Doing K V S) → IsOfItsOwn doing → FitsIn aborts Fits x doing
         → MayDo V same by_hasher batch_size roots slot_of doing p → (told : Answer K V) → HasDone V same by_hasher batch_size roots slot_of doing p told n → Stays n doing x
-    next_so p n x is stand here (Does act) own may told done =
+    next_so p n x is stand here (Does act) own fits may told done =
         let none : far p ≡ None = none_is (far p) may.0 in
         let at : IsAt same hash (held NoChange p) p.0 = subst (StandsBy p) none stand in
         let led = by_act size p n act told own may done at in
@@ -137,22 +147,22 @@ module _ {K S : Type 0} (V : Type 0) (same : K → K → Bool) (by_hasher : S �
           to.1,
           to.2,
           subst (StandsBy n) (sym done.1) (at_any (changed_by same act p.0) NoChange n led.1),
-          so.acts p n x to.0 act told none done.1 is to.2 at may.1 led.0 led.1 to.1 here,
+          so.acts p n x to.0 act told own fits none done.1 is to.2 at may.1 led.0 led.1 to.1 here,
         )
-    next_so p n x is stand here (BeginsReclaiming i) own (idle, word, free, there) told done =
+    next_so p n x is stand here (BeginsReclaiming i) own fits (idle, word, free, there) told done =
         let none : far p ≡ None = none_is (far p) idle in
         let at : IsAt same hash (held NoChange p) p.0 = subst (StandsBy p) none stand in
         let c = reclaiming_all batch_size roots in
         let to = plays_on same by_hasher batch_size roots aborts p n x is (BeginsReclaiming i) tt (idle, word, free, there) told done in
         let is_then : Is aborts n (all_begun c x) = subst (Is aborts n) (sym (same_some (all_begun c x) to.0 to.1)) to.2 in
         (all_begun c x, refl, is_then, begun_by size p n i c done.1 done.3 at, so.begins p n x i c none done.3 done.1 free is is_then at here)
-    next_so p n x is stand here (BeginsClearing i) own (idle, word, free, slots) told done =
+    next_so p n x is stand here (BeginsClearing i) own fits (idle, word, free, slots) told done =
         let none : far p ≡ None = none_is (far p) idle in
         let at : IsAt same hash (held NoChange p) p.0 = subst (StandsBy p) none stand in
         let to = plays_on same by_hasher batch_size roots aborts p n x is (BeginsClearing i) tt (idle, word, free, slots) told done in
         let is_then : Is aborts n (all_begun (clearing roots) x) = subst (Is aborts n) (sym (same_some (all_begun (clearing roots) x) to.0 to.1)) to.2 in
         (all_begun (clearing roots) x, refl, is_then, begun_by size p n i (clearing roots) done.1 done.3 at, so.begins p n x i (clearing roots) none done.3 done.1 free is is_then at here)
-    next_so p n x is stand here (StepsReclaiming g) own may told done =
+    next_so p n x is stand here (StepsReclaiming g) own fits may told done =
         let at : IsReclaiming same hash (held NoChange p) p.0 done.caller (lists_at p) done.machine = subst (StandsBy p) done.here stand in
         let leads = reclaiming_leads_as_steps V same hash batch_size roots p.0 n.0 NoChange done.caller (lists_at p) done.machine at g done.end done.lists done.next done.did in
         let to = plays_on same by_hasher batch_size roots aborts p n x is (StepsReclaiming g) tt may told done in (
@@ -165,20 +175,20 @@ module _ {K S : Type 0} (V : Type 0) (same : K → K → Bool) (by_hasher : S �
 
     module _ (course : Course V same by_hasher batch_size roots slot_of) where
       along : (doings : List (Doing K V S)) (x y : Reached V same by_hasher batch_size roots slot_of) (state : State K V S) → Is aborts x.0 state → StandsBy x.0 (far x.0) → P x.0 state
-          → LedOn V same by_hasher batch_size roots slot_of course doings x y → AreOfTheirOwn doings
+          → LedOn V same by_hasher batch_size roots slot_of course doings x y → AreOfTheirOwn doings → AllFit aborts Fits doings state
           → (after : State K V S) × (play_all same by_hasher batch_size roots aborts doings state ≡ Some after) × P y.0 after
-      along [] x y state is stand here led own = (state, refl, subst (λ (z : Reached V same by_hasher batch_size roots slot_of). P z.0 state) (sym led) here)
-      along (doing ∷ doings) x y state is stand here (may, led) (own, others) =
+      along [] x y state is stand here led own fit = (state, refl, subst (λ (z : Reached V same by_hasher batch_size roots slot_of). P z.0 state) (sym led) here)
+      along (doing ∷ doings) x y state is stand here (may, led) (own, others) (fits, fit) =
           let next = on_by V same by_hasher batch_size roots slot_of course x doing may in
-          let to = next_so x.0 next.0 state is stand here doing own may (course.told x.0 doing may) (course.leads x.0 doing may) in
-          let rest = along doings next y to.0 to.2 to.3 to.4 led others in
+          let to = next_so x.0 next.0 state is stand here doing own fits may (course.told x.0 doing may) (course.leads x.0 doing may) in
+          let rest = along doings next y to.0 to.2 to.3 to.4 led others (fit to.0 to.1) in
           (rest.0, ap (λ (o : Option (State K V S)). then_on o (play_all same by_hasher batch_size roots aborts doings)) to.1 ∙ rest.1, rest.2)
 
-      -- So it is wherever a list has led, if it is so at first.
+      -- So it is wherever a list has led, if it is so at first, and each act fits.
       pub wherever : (doings : List (Doing K V S)) (y : Reached V same by_hasher batch_size roots slot_of)
           → LedOn V same by_hasher batch_size roots slot_of course doings (nothing_done V same by_hasher batch_size roots slot_of course) y → AreOfTheirOwn doings
-          → P (nothing_done V same by_hasher batch_size roots slot_of course).0 (first_state roots)
+          → P (nothing_done V same by_hasher batch_size roots slot_of course).0 (first_state roots) → AllFit aborts Fits doings (first_state roots)
           → (after : State K V S) × (play_all same by_hasher batch_size roots aborts doings (first_state roots) ≡ Some after) × P y.0 after
-      wherever doings y led own first =
+      wherever doings y led own first fit =
           along doings (nothing_done V same by_hasher batch_size roots slot_of course) y (first_state roots) (at_first_so same by_hasher batch_size roots aborts course).0
-          (record { memory = refl; together = course.first; hashes = λ m standing has. absurd (cc has); hashes_made = λ i b has. absurd (cc has); on_slots = λ i. tt; small = size }) first led own
+          (record { memory = refl; together = course.first; hashes = λ m standing has. absurd (cc has); hashes_made = λ i b has. absurd (cc has); on_slots = λ i. tt; small = size }) first led own fit

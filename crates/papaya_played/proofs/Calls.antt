@@ -1,7 +1,7 @@
 -- Calls that are played come to where they have led.
-use Rattle.std.specs.Prelude.{◌≢◌, ◌⊎◌, ◌++◌, Option, Some, None, option_map, Result, if◌then◌else◌}
+use Rattle.std.specs.Prelude.{◌≢◌, ◌⊎◌, ◌++◌, Option, Some, None, option_map, if◌then◌else◌}
 use Rattle.std.specs.Option.{is_none}
-use Rattle.std.proofs.Common.{◌≡◌, ℕ, Bool, true, false, List, [], ◌∷◌, inl, inr, refl, ap, sym, subst, ◌∙◌}
+use Rattle.std.proofs.Common.{◌≡◌, ℕ, Bool, true, false, [], ◌∷◌, inl, inr, refl, ap, sym, subst, ◌∙◌}
 use Rattle.std.proofs.lemmas.Bool.{cases_eq}
 use Rattle.papaya_scenes.specs.Given.SeizeWords.Mem.{Mem}
 use Rattle.papaya_scenes.specs.Given.SeizeWords.Plan.{Plan}
@@ -21,8 +21,8 @@ use Rattle.papaya_scenes.specs.Given.Finishes.Maps.{Standing, with_call}
 use Rattle.papaya_scenes.proofs.Given.Finishes.Among.Sweeps.{walks_stop_among}
 use Rattle.papaya_scenes.proofs.Goes.{goes_as}
 use Rattle.papaya_scenes.proofs.NoCall.{none_is}
-use Rattle.papaya_scenes.specs.Replying.{scene_with, unless_stopped}
-use Rattle.papaya_scenes.specs.Scene.{Scene, HasNoCall, slot_of}
+use Rattle.papaya_scenes.specs.Replying.{unless_stopped}
+use Rattle.papaya_scenes.specs.Scene.{Scene, slot_of}
 use Rattle.papaya_scenes.specs.Stepping.{going_on, has_ended}
 use Rattle.papaya_acts.specs.Acts.{Act, Answer, Nothing, OfCall, OfReply, OfAsking, BeginsCall, StepsCall, TellsCall, AsksCall, StopsCall, begun}
 use Rattle.papaya_acts.specs.Acts.{Wanted, Get, Remove, Insert, TryToInsert, Compute, Update, UpdateOrInsert, TryToInsertWith, RemoveIf, MakeRoom, Count, GoOver}

@@ -4,5 +4,7 @@ mod Makings
 mod Rows
 mod All
 pub mod Along
+pub mod PlayedAs
+pub mod Noted
 mod Pairs
 mod Samples

@@ -1,6 +1,6 @@
 -- Makings and ends of maps that are played come to where they have led.
 use Rattle.std.specs.Prelude.{◌++◌, Option, Some, None, option_map}
-use Rattle.std.proofs.Common.{◌≡◌, ℕ, Bool, false, List, [], ◌∷◌, refl, ap, sym, subst, ◌∙◌}
+use Rattle.std.proofs.Common.{◌≡◌, ℕ, Bool, false, [], ◌∷◌, refl, ap, sym, subst, ◌∙◌}
 use Rattle.papaya_scenes.specs.Given.SeizeWords.Mem.{Mem}
 use Rattle.papaya_scenes.specs.Given.SeizeWords.Plan.{Plan}
 use Rattle.papaya_scenes.specs.Given.Seize.World.{World, Row, with_at}
@@ -17,7 +17,6 @@ use Rattle.papaya_scenes.specs.Given.Raw.EndMap.{ending, end_map_plan}
 use Rattle.papaya_scenes.specs.Given.Raw.declared.machines.end_map.EndMap.{EndMap}
 use Rattle.papaya_scenes.proofs.Given.Callers.Together.Users.{events_rows}
 use Rattle.papaya_scenes.specs.Given.Finishes.Endings.{Finishing, StepsOfEnding, MakingStepsAmong, finishing_of, waiting_by}
-use Rattle.papaya_scenes.specs.Given.Finishes.FactsEnds.{Deed}
 use Rattle.papaya_scenes.specs.Given.Finishes.Makings.{Beginning}
 use Rattle.papaya_scenes.specs.Given.Finishes.Maps.{Standing}
 use Rattle.papaya_scenes.specs.Ending.{ending_begun as scene_ending}

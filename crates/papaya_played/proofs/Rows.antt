@@ -1,10 +1,9 @@
 -- Rows on slots that are played come to where they have led.
 use Rattle.std.specs.Prelude.{◌≢◌, ◌⊎◌, ◌++◌, Option, Some, None, option_map}
-use Rattle.std.specs.Option.{is_none}
-use Rattle.std.proofs.Common.{◌≡◌, ℕ, Bool, true, List, [], ◌∷◌, inl, inr, refl, ap, sym, subst, ◌∙◌}
+use Rattle.std.proofs.Common.{◌≡◌, ℕ, Bool, [], ◌∷◌, inl, inr, refl, ap, sym, subst, ◌∙◌}
 use Rattle.std.proofs.lemmas.Bool.{cases_eq}
 use Rattle.papaya_scenes.specs.Given.SeizeWords.Mem.{Mem, after}
-use Rattle.papaya_scenes.specs.Given.SeizeWords.Op.{Op, Out, Store}
+use Rattle.papaya_scenes.specs.Given.SeizeWords.Op.{Op, Store}
 use Rattle.papaya_scenes.specs.Given.SeizeWords.Plan.{Plan}
 use Rattle.papaya_scenes.specs.Given.SeizeWords.declared.at.At.TheVariants.{Slot}
 use Rattle.papaya_scenes.specs.Given.Seize.Enter.{enter_plan, unregister_plan}
@@ -12,7 +11,7 @@ use Rattle.papaya_scenes.specs.Given.Seize.Law.{Entered}
 use Rattle.papaya_scenes.specs.Given.Seize.Leave.{leave_plan}
 use Rattle.papaya_scenes.specs.Given.Seize.Register.{register_plan}
 use Rattle.papaya_scenes.specs.Given.Seize.Settle.{settle_plan}
-use Rattle.papaya_scenes.specs.Given.Seize.World.{World, Row, Rests, Inside, Vacant, Request, Begins, after_step, left_row, registers_on, settles_on, leaves_on, with_at, with_use}
+use Rattle.papaya_scenes.specs.Given.Seize.World.{World, Row, Rests, Inside, Vacant, Request, Begins, after_step, registers_on, settles_on, leaves_on, with_at, with_use}
 use Rattle.papaya_scenes.specs.Given.Seize.declared.progress.Progress.{Progress}
 use Rattle.papaya_scenes.specs.Given.Seize.declared.progress.Progress.TheVariants as progress
 use Rattle.papaya_scenes.specs.Given.Seize.declared.rows.enter.Enter.{Enter}
@@ -45,7 +44,7 @@ use Rattle.papaya_scenes.specs.declared.row.SlotRow.TheVariants as rows
 use Rattle.papaya_acts.specs.Acts.{Act, Answer, Nothing, BeginsRow, StepsRow}
 use Rattle.papaya_acts.specs.AsSteps.{row_changed}
 use Rattle.papaya_acts.specs.Leads.{Led, MayBe}
-use Rattle.papaya_played.specs.Play.{Now, State, play_act, row_begun, row_on, row_stepped, slot_call_of, slot_row_steps, step_row}
+use Rattle.papaya_played.specs.Play.{State, play_act, row_begun, row_on, row_stepped, slot_call_of, slot_row_steps, step_row}
 use Rattle.papaya_played.specs.Reached.{IsOf, row_or_rests}
 use Rattle.papaya_played.proofs.Alike.{set_up_so}
 

@@ -1,6 +1,8 @@
 -- A short list of acts, played: a map is made with a table, a slot is taken and entered, and a pair is stored and found. The history is written by hand. And lists that can't be played.
+mod Removal
+mod Ending
 use Rattle.std.specs.Prelude.{nat_eq}
-use Rattle.std.proofs.Common.{◌≡◌, ℕ, Bool, true, false, List, [], ◌∷◌, refl, Option, Some, None}
+use Rattle.std.proofs.Common.{◌≡◌, ℕ, true, List, [], ◌∷◌, refl, Option, Some, None}
 use Rattle.std.specs.Prelude.{◌++◌, option_map}
 use Rattle.papaya_scenes.specs.Given.Seize.World.{Register'}
 use Rattle.papaya_scenes.specs.Given.Tables.declared.resize_mode.ResizeMode.TheVariants as mode
@@ -20,30 +22,30 @@ use Rattle.papaya_acts.specs.Doings.{Doing, Does}
 use Rattle.papaya_deeds.specs.Deeds.{Deed, Begins, Steps, Opens, MapComes, Works, Entry}
 use Rattle.papaya_played.specs.Play.{State, first_state, pairs_for, play_all}
 
-abbrev Doings : Type 0
+abbrev pub Doings : Type 0
 Doings = List (Doing ℕ ℕ ℕ)
 
 -- maps with numbers as keys, which are their own hashes; batches of one block, and one root
-abbrev plays : Doings → Option (State ℕ ℕ ℕ)
+abbrev pub plays : Doings → Option (State ℕ ℕ ℕ)
 plays doings = play_all nat_eq (λ hasher key. key) 1 1 0 doings (first_state 1)
 
-abbrev history_of : Doings → Option (List (Entry ℕ ℕ))
+abbrev pub history_of : Doings → Option (List (Entry ℕ ℕ))
 history_of doings = option_map (λ s. s.history) (plays doings)
 
-abbrev entry : Deed ℕ ℕ → Outcome ℕ → List Effect → Entry ℕ ℕ
+abbrev pub entry : Deed ℕ ℕ → Outcome ℕ → List Effect → Entry ℕ ℕ
 entry deed outcome effects = record { deed = deed; outcome = outcome; effects = effects }
 
-abbrev does : Act ℕ ℕ ℕ → Doing ℕ ℕ ℕ
+abbrev pub does : Act ℕ ℕ ℕ → Doing ℕ ℕ ℕ
 does act = Does act
 
 -- a map begins with eight places, so for six pairs
 eight_places : pairs_for 8 ≡ 6
 eight_places = refl
 
-abbrev given : Setting
+abbrev pub given : Setting
 given = record { slot = 0; batch_size = 1; root = 0; mode = mode.Incremental 64; counter = 0; mask = 0; initial = 8 }
 
-abbrev first : Table
+abbrev pub first : Table
 first = record { map = 0; turn = 0 }
 
 abbrev at : ℕ → Spot
@@ -102,10 +104,10 @@ unfolding lib.Count.count_leading_zeros
 storing_is = refl
 
 -- It finds it.
-abbrev finds : Doings
+abbrev pub finds : Doings
 finds = stores ++ does (BeginsCall 0 0 (Get 5)) ∷ does (StepsCall 0 0 None) ∷ does (StepsCall 0 0 None) ∷ []
 
-abbrev found : List (Entry ℕ ℕ)
+abbrev pub found : List (Entry ℕ ℕ)
 found = entry (Steps 0) (Answered (answer.Found 1)) [] ∷ entry (Steps 0) Goes [] ∷ entry (Begins 0 0 0 (On (one.Get 5))) Goes [] ∷ stored
 
 finding_is : history_of finds ≡ Some found

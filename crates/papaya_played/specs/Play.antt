@@ -59,7 +59,6 @@ use Rattle.papaya_schedules.specs.declared.call.Reply.{Reply}
 use Rattle.papaya_schedules.specs.declared.call.Reply.TheVariants as reply
 use Rattle.papaya_schedules.specs.declared.outcome.Outcome.{Outcome}
 use Rattle.papaya_schedules.specs.declared.outcome.Outcome.TheVariants as outcome
-use Rattle.papaya_schedules.specs.declared.effect.Effect.{Effect}
 use Rattle.papaya_effects.specs.Effects.{effects_of, known_after}
 use Rattle.papaya_effects.specs.Known.{Known, nothing_known}
 use Rattle.papaya_effects.specs.declared.acting.Acting.{Acting}

@@ -4,7 +4,6 @@ use Rattle.papaya_acts.specs.Acts.{BeginsRow}
 use Rattle.papaya_acts.specs.Courses.{set_up}
 use Rattle.papaya_acts.specs.Doings.{Doing, Does, Stage, reclaiming}
 use Rattle.papaya_acts.specs.Lists.{Course, Reached, LedTo}
-use Rattle.papaya_scenes.specs.Given.Points.Steps.{AreLawful}
 use Rattle.papaya_scenes.specs.Given.Callers.Together.{UnderWay}
 use Rattle.papaya_scenes.specs.Given.Finishes.Machines.{machine_of}
 use Rattle.papaya_scenes.specs.Given.Finishes.Makings.{Beginning}

@@ -1,0 +1,62 @@
+-- A short list of acts, played: a map ends with its pair; and one is refused as it is made.
+use Rattle.std.specs.Prelude.{◌++◌, replicate}
+use Rattle.std.proofs.Common.{◌≡◌, ℕ, List, [], ◌∷◌, refl, Some, None}
+use Rattle.papaya_scenes.specs.Given.SeizeWords.declared.fault.Fault.TheVariants.{Memory}
+use Rattle.papaya_scenes.specs.Given.Seize.World.{Leave'}
+use Rattle.papaya_scenes.specs.Given.Tables.declared.resize_mode.ResizeMode.TheVariants as mode
+use Rattle.papaya_schedules.specs.declared.effect.Effect.TheVariants.{Asked, Ended, Taken}
+use Rattle.papaya_schedules.specs.declared.effect.Growth.TheVariants.{ABlock}
+use Rattle.papaya_schedules.specs.declared.outcome.Outcome.TheVariants.{Done, Goes, Refused}
+use Rattle.papaya_schedules.specs.Views.{size_of}
+use Rattle.papaya_acts.specs.Acts.{BeginsMaking, StepsMaking, BeginsEnding, StepsEnding, BeginsRow, StepsRow}
+use Rattle.papaya_deeds.specs.Deeds.{Shuts, MapComes, MapGoes, Works, Entry, moment}
+use Rattle.papaya_played.proofs.Samples.{Doings, does, entry, finds, first, found, given, history_of}
+
+-- a step that has no effect
+abbrev quiet : Entry ℕ ℕ
+quiet = entry (Works (Some 0)) Goes []
+
+-- Caller 0 leaves, and ends the map: its eight places are read, of which one has the pair, then the table and the counter go, and the root is given up.
+abbrev ends : Doings
+ends = finds ++ does (BeginsRow 0 (Leave' 0)) ∷ does (StepsRow 0 None) ∷ does (StepsRow 0 None) ∷ does (BeginsEnding 0 0) ∷ replicate 17 (does (StepsEnding 0 None))
+
+abbrev ended : List (Entry ℕ ℕ)
+ended =
+    entry (MapGoes 0 0) Done []
+    ∷ quiet
+    ∷ quiet
+    ∷ entry (Works (Some 0)) Goes (Taken first ∷ [])
+    ∷ replicate 5 quiet
+    ++ entry (Works (Some 0)) Goes (Ended 1 ∷ [])
+    ∷ replicate 7 quiet
+    ++ entry (Works None) Done []
+    ∷ entry (Shuts 0) Goes []
+    ∷ found
+
+ending_is : history_of ends ≡ Some ended
+unfolding lib.Count.count_leading_zeros
+ending_is = refl
+
+-- the map had its pair, and then none, and is there no more
+had_one : size_of 0 (moment found) ≡ 1
+had_one = refl
+
+has_none : size_of 0 (moment ended) ≡ 0
+has_none = refl
+
+is_gone : (moment ended).maps ≡ []
+is_gone = refl
+
+-- A counter is refused to a map that is made: the root is given up.
+abbrev is_refused : Doings
+is_refused = does (BeginsMaking 0 0 7 given 8) ∷ replicate 3 (does (StepsMaking 0 None))
+
+abbrev refused : List (Entry ℕ ℕ)
+refused =
+    entry (MapGoes 0 0) (Refused Memory) []
+    ∷ entry (Works (Some 0)) Goes (Asked ABlock ∷ [])
+    ∷ entry (MapComes 0 0 (mode.Incremental 64) 6) Goes []
+    ∷ []
+
+refusal_is : history_of is_refused ≡ Some refused
+refusal_is = refl
