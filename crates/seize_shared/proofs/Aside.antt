@@ -4,7 +4,7 @@ use Rattle.std.proofs.Common.{◌≡◌, ℕ, refl, subst, ap}
 use Rattle.seize.specs.World.{World, Row, Use}
 use Rattle.seize.specs.World as world
 use Rattle.seize_acts.specs.Waits.{SettlesOn}
-use Rattle.seize_shared.specs.Bounds.{IsAloneOnSlot}
+use Rattle.seize_bounds.specs.Bounds.{IsAloneOnSlot}
 use Rattle.seize_shared.specs.Rows.{row_of, use_of}
 use Rattle.seize_shared.specs.declared.view.View.{View}
 use Rattle.seize_shared.specs.declared.view.View.TheVariants.{Rests, Registers, Outside, Enters, Inside, Settles, Leaves, Left, Frees}

@@ -25,7 +25,7 @@ use Rattle.seize_acts.proofs.Answers.{same_some}
 use Rattle.seize_seats.specs.State.{State, view_of, Turns, Comes, Starts}
 use Rattle.seize_acts.specs.Waits.{SettlesOn}
 use Rattle.seize_shared.specs.Begun.{IsBegun}
-use Rattle.seize_shared.specs.Bounds.{IsToTry, IsAloneOnSlot, ArePlain, TriesWithin}
+use Rattle.seize_bounds.specs.Bounds.{IsToTry, IsAloneOnSlot, ArePlain, TriesWithin}
 use Rattle.seize_shared.specs.Rows.{row_of, use_of, leave_of, counting, IsShort, IsUsed, IsKnown, Fits, Came, IsBounded, Holds, Keeps}
 use Rattle.seize_shared.specs.Promises.{IsNext, IsFree, IsLeft, RulesStart, SeatsCome, RowsTurn, SettlingsBegin}
 use Rattle.seize_shared.specs.declared.view.View.{View}
@@ -41,7 +41,7 @@ use Rattle.seize_shared.proofs.Aside.{has_it}
 use Rattle.seize_shared.proofs.Moved.{moved, used_so}
 use Rattle.seize_shared.proofs.Steps.{alone, begun, came_then, stepped, world_plain}
 use Rattle.seize_shared.proofs.Operations.{used_as, slot_of, same_slot}
-use Rattle.seize_shared.proofs.Tries.Within.{batches_are_tried}
+use Rattle.seize_bounds.proofs.Tries.Within.{batches_are_tried}
 
 not_making_cutting : (j i : ℕ) → world.Making j ≡ world.Cutting i → ⊥
 not_making_cutting j i e = cc e

@@ -1,6 +1,4 @@
 pub mod Aside
-pub mod Bounds
-pub mod Tries
 pub mod Lists
 pub mod Reclaims
 pub mod Moved

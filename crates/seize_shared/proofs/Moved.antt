@@ -9,7 +9,7 @@ use Rattle.seize.specs.World as world
 use Rattle.seize_rule.proofs.World.Kept.{rows_may}
 use Rattle.seize_acts.proofs.Answers.{same_some}
 use Rattle.seize_seats.specs.State.{State, view_of, Goes}
-use Rattle.seize_shared.specs.Bounds.{HasCounted, HasTried, IsAloneOnSlot, IsAny, ArePlain, Meanwhile}
+use Rattle.seize_bounds.specs.Bounds.{HasCounted, HasTried, IsAloneOnSlot, IsAny, ArePlain, Meanwhile}
 use Rattle.seize_shared.specs.Rows.{use_of, row_of, settles_for, IsUsed, IsKnown, RootsNameLinked, Fits, Came, IsBounded, Holds, Keeps}
 use Rattle.seize_shared.specs.declared.view.View.{View}
 use Rattle.seize_shared.specs.declared.view.View.TheVariants.{Rests, Registers, Outside, Enters, Inside, Settles, Leaves, Left, Frees}
@@ -18,7 +18,7 @@ use Rattle.seize_shared.specs.declared.view.Has.TheVariants.{Nothing, Made, Seen
 use Rattle.seize_shared.specs.declared.view.Why.TheVariants.{Retiring, Ending}
 use Rattle.seize_shared.specs.declared.view.Fixed.{Fixed}
 use Rattle.seize_shared.proofs.Aside.{alone_on_slot}
-use Rattle.seize_shared.proofs.Bounds.Passing.{any, still_within}
+use Rattle.seize_bounds.proofs.Bounds.Passing.{any, still_within}
 use Rattle.seize_shared.proofs.Lists.{there, elsewhere}
 use Rattle.seize_shared.proofs.Reclaims.{reclaiming_there}
 

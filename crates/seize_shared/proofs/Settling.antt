@@ -29,7 +29,7 @@ use Rattle.seize_acts.proofs.Answers.{same_some, ended}
 use Rattle.seize_acts.proofs.Steps.{sees_end}
 use Rattle.seize_ends.proofs.Batches.Rows.{settles_memory}
 use Rattle.seize_seats.specs.State.{State, view_of, Goes as GoesOnBy}
-use Rattle.seize_shared.specs.Bounds.{HasCounted, HasTried, IsAloneOnSlot, IsAny, ArePlain, CountsWithin, TriesWithin}
+use Rattle.seize_bounds.specs.Bounds.{HasCounted, HasTried, IsAloneOnSlot, IsAny, ArePlain, CountsWithin, TriesWithin}
 use Rattle.seize_shared.specs.Rows.{settles_for, used_for, leave_of, counting, IsLooked, IsBounded, Holds, Keeps}
 use Rattle.seize_shared.specs.Told.{shown_by, FollowsBy, told}
 use Rattle.seize_shared.specs.Promises.{op_in}
@@ -39,7 +39,7 @@ use Rattle.seize_shared.specs.declared.view.View.TheVariants.{Settles}
 use Rattle.seize_shared.specs.declared.view.Why.{Why}
 use Rattle.seize_shared.specs.declared.view.Why.TheVariants.{Retiring, Ending}
 use Rattle.seize_shared.specs.declared.view.Fixed.{Fixed}
-use Rattle.seize_shared.proofs.Bounds.Passing.{steps_within}
+use Rattle.seize_bounds.proofs.Bounds.Passing.{steps_within}
 use Rattle.seize_shared.proofs.Moved.{moved}
 use Rattle.seize_shared.proofs.Steps.{reached, alone, step_of, step_plain, stepped}
 use Rattle.seize_shared.proofs.Operations.{may, used_as, slot_of}

@@ -20,7 +20,7 @@ use Rattle.seize_alone.proofs.Histories.Reached.{Reached, runs_reached}
 use Rattle.seize_alone.proofs.Histories.NotTaken.{IsHad, still_held, kept_hand, taken_gone, did}
 use Rattle.seize_alone.proofs.Histories.Uses.{uses_kept}
 use Rattle.seize_seats.specs.State.{State, view_of}
-use Rattle.seize_shared.specs.Bounds.{ArePlain}
+use Rattle.seize_bounds.specs.Bounds.{ArePlain}
 use Rattle.seize_shared.specs.Rows.{row_of, use_of, IsSeeking, IsShort, IsUsed, RootsNameLinked, Fits, Came, IsBounded, Holds}
 use Rattle.seize_shared.specs.declared.view.View.{View}
 use Rattle.seize_shared.specs.declared.view.View.TheVariants.{Rests, Registers, Outside, Enters, Inside, Settles, Leaves, Left, Frees}

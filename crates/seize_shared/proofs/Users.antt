@@ -14,13 +14,13 @@ use Rattle.seize_rule.proofs.Points.Aside.{HandFits}
 use Rattle.seize_rule.proofs.Rows.Others.{with_other, users_rows}
 use Rattle.seize_alone.proofs.Histories.Reached.{Reached}
 use Rattle.seize_seats.specs.State.{State, view_of, Goes}
-use Rattle.seize_shared.specs.Bounds.{IsOfOthers, IsAloneOnSlot, ArePlain}
+use Rattle.seize_bounds.specs.Bounds.{IsOfOthers, IsAloneOnSlot, ArePlain}
 use Rattle.seize_shared.specs.Rows.{use_of, IsInHand, RootsNameLinked, Fits, Came, Holds, Keeps}
 use Rattle.seize_shared.specs.declared.view.View.{View}
 use Rattle.seize_shared.specs.declared.view.View.TheVariants.{Inside}
 use Rattle.seize_shared.specs.declared.view.Has.{Has}
 use Rattle.seize_shared.specs.declared.view.Fixed.{Fixed}
-use Rattle.seize_shared.proofs.Bounds.Passing.{both}
+use Rattle.seize_bounds.proofs.Bounds.Passing.{both}
 use Rattle.seize_shared.proofs.Moved.{StillHas, Passes, moved, still_used}
 use Rattle.seize_shared.proofs.Steps.{alone}
 

@@ -17,7 +17,7 @@ use Rattle.seize.specs.Law.{holds, is_over}
 use Rattle.seize.specs.World.{World, Row, Hand, Event, Use, Runs, at_start}
 use Rattle.seize.specs.World as world
 use Rattle.seize_seats.specs.State.{State, view_of}
-use Rattle.seize_shared.specs.Bounds.{ArePlain, CountsWithin, TriesWithin}
+use Rattle.seize_bounds.specs.Bounds.{ArePlain, CountsWithin, TriesWithin}
 use Rattle.seize_shared.specs.declared.view.View.{View}
 use Rattle.seize_shared.specs.declared.view.Becomes.{Becomes}
 use Rattle.seize_shared.specs.declared.view.Becomes.TheVariants.{Idle, Active}

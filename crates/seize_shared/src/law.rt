@@ -1,5 +1,4 @@
 //! What is promised of the rule of the collector's rows.
-ghost use Rattle.seize_shared.specs.Bounds.{ListsAreCounted, BatchesAreTried};
 ghost use Rattle.seize_shared.specs.Promises.{RulesStart, SeatsCome, RowsGoOn, RowsTurn, SettlingsBegin, LookedAreShown};
 ghost use Rattle.seize_shared.specs.Promises.{BlocksAreMade, MadeAreTaken, MadeAreLinked, RootsAreSeen, RootsAreCleared, KnownAreShown};
 
@@ -24,16 +23,4 @@ pub fn sections_go_on<T: Defers>()
     ensures seen { RootsAreSeen T T.defers }
     ensures cleared { RootsAreCleared T T.defers }
     ensures known { KnownAreShown T T.defers }
-{}
-
-/// A list that was taken from a slot, as a section ends or is refreshed, is counted down within a number of steps of its row, whatever the others
-/// do meanwhile, as long as no value keeps a list.
-pub fn lists_are_counted<T: Defers>()
-    ensures counted { ListsAreCounted T.defers }
-{}
-
-/// A block is retired, and a batch tried, within a number of steps of its row, whatever the others do meanwhile, as long as no value keeps a list and
-/// nobody else settles on the slot.
-pub fn batches_are_tried<T: Defers>()
-    ensures tried { BatchesAreTried T.defers }
 {}
