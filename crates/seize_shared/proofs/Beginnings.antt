@@ -33,7 +33,7 @@ use Rattle.seize_shared.specs.declared.view.Becomes.{Becomes}
 use Rattle.seize_shared.specs.declared.view.Becomes.TheVariants.{Idle, Active}
 use Rattle.seize_shared.specs.declared.view.View.TheVariants.{Rests, Registers, Outside, Enters, Inside, Settles, Leaves, Left, Frees}
 use Rattle.seize_shared.specs.declared.view.Has.{Has}
-use Rattle.seize_shared.specs.declared.view.Has.TheVariants.{Nothing, Made, Seen, Cut}
+use Rattle.seize_shared.specs.declared.view.Has.TheVariants.{Nothing, Made, Seen, Both, Cut}
 use Rattle.seize_shared.specs.declared.view.Why.TheVariants.{Retiring, Ending}
 use Rattle.seize_shared.specs.declared.view.Fixed.{Fixed}
 use Rattle.seize_shared.proofs.Lists.{with_last, none_before}
@@ -286,6 +286,7 @@ module _ {T : Type 0} (defers : T → Option ℕ) (fixed : Fixed) where
   turns id (Inside t (Seen b)) u is = goes_free id t (Seen b) u is
   turns id (Inside t (Cut b)) u is = absurd is
   turns id (Inside t (Made b)) u is = absurd is
+  turns id (Inside t (Both b a)) u is = absurd is
   turns id (Settles c Retiring seen left) u is =
       subst (λ (y : View T). Turns H Keeps id (Settles c Retiring seen left) (λ x. x ≡ y)) (sym is.1) (settled_ends id c seen left is.0)
   turns id (Settles c (Ending size way) seen left) u is =
@@ -368,6 +369,7 @@ module _ (T : Type 0) (defers : T → Option ℕ) where
   settlings_begin fixed id (Inside t (Seen b)) c is =
       subst (λ (d : Settle). Turns (Holds defers fixed) Keeps id (Inside t (Seen b)) (IsBegun d)) (sym is) (flushes defers fixed id t (Seen b))
   settlings_begin fixed id (Inside t (Made b)) c is = absurd is
+  settlings_begin fixed id (Inside t (Both b a)) c is = absurd is
   settlings_begin fixed id Rests c is = absurd is
   settlings_begin fixed id (Registers d) c is = absurd is
   settlings_begin fixed id (Outside t) c is = absurd is

@@ -14,7 +14,7 @@ use Rattle.seize_shared.specs.Rows.{use_of, row_of, settles_for, IsUsed, IsKnown
 use Rattle.seize_shared.specs.declared.view.View.{View}
 use Rattle.seize_shared.specs.declared.view.View.TheVariants.{Rests, Registers, Outside, Enters, Inside, Settles, Leaves, Left, Frees}
 use Rattle.seize_shared.specs.declared.view.Has.{Has}
-use Rattle.seize_shared.specs.declared.view.Has.TheVariants.{Nothing, Made, Seen, Cut}
+use Rattle.seize_shared.specs.declared.view.Has.TheVariants.{Nothing, Made, Seen, Both, Cut}
 use Rattle.seize_shared.specs.declared.view.Why.TheVariants.{Retiring, Ending}
 use Rattle.seize_shared.specs.declared.view.Fixed.{Fixed}
 use Rattle.seize_shared.proofs.Aside.{alone_on_slot}
@@ -87,6 +87,7 @@ module _ {T : Type 0} (defers : T → Option ℕ) (fixed : Fixed) (s : State T (
     known j (Inside t Nothing) ne row f = tt
     known j (Inside t (Made b)) ne row f = (mo.hands j b ne).0 f.known
     known j (Inside t (Seen b)) ne row f = mo.held t b (inside_of s.world t (Seen b) f.slot) f.known
+    known j (Inside t (Both b a)) ne row f = ((mo.hands j b ne).0 f.known.0, mo.held t a (inside_of s.world t (Both b a) f.slot) f.known.1)
     known j (Inside t (Cut b)) ne row f = (mo.hands j b ne).1 f.known
     known j (Settles c why None left) ne row f = tt
     known j (Settles c why (Some seen) left) ne row f =

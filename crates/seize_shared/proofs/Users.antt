@@ -19,6 +19,7 @@ use Rattle.seize_shared.specs.Rows.{use_of, IsInHand, RootsNameLinked, Fits, Cam
 use Rattle.seize_shared.specs.declared.view.View.{View}
 use Rattle.seize_shared.specs.declared.view.View.TheVariants.{Inside}
 use Rattle.seize_shared.specs.declared.view.Has.{Has}
+use Rattle.seize_shared.specs.declared.view.Has.TheVariants.{Nothing, Made, Seen, Both, Cut}
 use Rattle.seize_shared.specs.declared.view.Fixed.{Fixed}
 use Rattle.seize_bounds.proofs.Bounds.Passing.{both}
 use Rattle.seize_shared.proofs.Moved.{StillHas, Passes, moved, still_used}
@@ -53,6 +54,15 @@ module _ {T : Type 0} where
   pub world_took : (s : State T (View T) (World T)) → s.memory ≡ s.world.memory → (op : Op T) (out : Out T) (m : Mem T) → Took s.memory op out m
       → Took s.world.memory op out m
   world_took s is op out m took = subst (λ (x : Mem T). Took x op out m) is took
+
+  -- what is known of a block stays known where hands are as they were, and what the section holds is held
+  pub same_hand : (w n : World T) (j t : ℕ) → n.hand ≡ w.hand → ((b : ℕ) → holds t b w.log ≡ true → holds t b n.log ≡ true) → (has : Has) → IsInHand w j t has
+      → IsInHand n j t has
+  same_hand w n j t hand held Nothing is = tt
+  same_hand w n j t hand held (Made b) is = ap (λ (f : ℕ → Hand). f b) hand ∙ is
+  same_hand w n j t hand held (Seen b) is = held b is
+  same_hand w n j t hand held (Both b a) is = (ap (λ (f : ℕ → Hand). f b) hand ∙ is.0, held a is.1)
+  same_hand w n j t hand held (Cut b) is = ap (λ (f : ℕ → Hand). f b) hand ∙ is
 
   -- a block that its maker has no section holds
   pub making_not_held : (defers : T → Option ℕ) (size : ℕ) (w : World T) (r : Reached defers size w) (id a b c : ℕ) → holds a c w.log ≡ true

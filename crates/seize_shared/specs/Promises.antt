@@ -2,7 +2,7 @@
 -- blocks within its section.
 use Rattle.std.specs.Prelude.{◌≡◌, ◌<◌, ◌⊎◌, ℕ, false, Option, Some, None}
 use Rattle.seize_words.specs.Word.{link_to}
-use Rattle.seize_words.specs.Op.{Op, Load, Store, Swap, Make, Take}
+use Rattle.seize_words.specs.Op.{Op, Load, Store, Swap, Exchange, Make, Take}
 use Rattle.seize_words.specs.Plan.{Plan, Turn, Do}
 use Rattle.seize_words.specs.declared.at.At.TheVariants.{Root, Slot}
 use Rattle.seize.specs.declared.states.TheConstants.{HEAD, FREE, ACTIVE}
@@ -21,7 +21,7 @@ use Rattle.seize_shared.specs.declared.view.Becomes.{Becomes}
 use Rattle.seize_shared.specs.declared.view.Becomes.TheVariants.{Idle, Active}
 use Rattle.seize_shared.specs.declared.view.View.TheVariants.{Rests, Registers, Outside, Enters, Inside, Settles, Leaves, Left, Frees}
 use Rattle.seize_shared.specs.declared.view.Has.{Has}
-use Rattle.seize_shared.specs.declared.view.Has.TheVariants.{Nothing, Made, Seen, Cut}
+use Rattle.seize_shared.specs.declared.view.Has.TheVariants.{Nothing, Made, Seen, Both, Cut}
 use Rattle.seize_shared.specs.declared.view.Why.{Why}
 use Rattle.seize_shared.specs.declared.view.Why.TheVariants.{Retiring, Ending}
 use Rattle.seize_shared.specs.declared.view.Fixed.{Fixed}
@@ -68,12 +68,19 @@ IsToSettle fixed (Inside t Nothing) c = c ≡ flushing t fixed.batch_size
 IsToSettle fixed (Inside t (Seen b)) c = c ≡ flushing t fixed.batch_size
 IsToSettle fixed _ c = ⊥
 
--- the block that is known
+-- the block that is known, or one of both
 abbrev pub Names : Has → ℕ → Type 0
 Names Nothing b = ⊥
 Names (Made c) b = c ≡ b
 Names (Seen c) b = c ≡ b
+Names (Both c a) b = (c ≡ b) ⊎ (a ≡ b)
 Names (Cut c) b = c ≡ b
+
+-- the block that was made
+abbrev pub HasMade : Has → ℕ → Type 0
+HasMade (Made c) b = c ≡ b
+HasMade (Both c a) b = c ≡ b
+HasMade _ b = ⊥
 
 -- a block was seen, or none is known
 abbrev pub IsLooking : Has → Type 0
@@ -106,19 +113,26 @@ module _ (T : Type 0) (defers : T → Option ℕ) where
   abbrev pub MayInside : Has → Op T → Type 0
   MayInside has op = (fixed : Fixed) (id t : ℕ) → Allows (Holds defers fixed) Keeps id (Inside t has) op (told defers (Inside t has) op)
 
-  -- a block of a value that keeps no list may be made, and taken away by whoever has made it
+  -- a block of a value that keeps no list may be made by whoever has none in its hand, and taken away by whoever has made it
   abbrev pub BlocksAreMade : Type 0
-  BlocksAreMade = (value : T) (words : ℕ) → defers value ≡ None → MayInside Nothing (Make value words)
+  BlocksAreMade = (has : Has) (value : T) (words : ℕ) → IsLooking has → defers value ≡ None → MayInside has (Make value words)
 
   abbrev pub MadeAreTaken : Type 0
-  MadeAreTaken = (b : ℕ) → MayInside (Made b) (Take b)
+  MadeAreTaken = (has : Has) (b : ℕ) → HasMade has b → MayInside has (Take b)
 
-  -- it may be put at a root, in place of what is there; what a root names may be seen, and taken from there
+  -- it may be put at a root in place of what is there, or only in place of this word
   abbrev pub MadeAreLinked : Type 0
   MadeAreLinked =
       (b r : ℕ) (fixed : Fixed) (id t : ℕ) → r < fixed.roots
       → Allows (Holds defers fixed) Keeps id (Inside t (Made b)) (Swap (Root r) (link_to b)) (told defers (Inside t (Made b)) (Swap (Root r) (link_to b)))
 
+  abbrev pub MadeAreExchanged : Type 0
+  MadeAreExchanged =
+      (has : Has) (b r old : ℕ) (fixed : Fixed) (id t : ℕ) → HasMade has b → r < fixed.roots
+      → Allows (Holds defers fixed) Keeps id (Inside t has) (Exchange (Root r) old (link_to b))
+      (told defers (Inside t has) (Exchange (Root r) old (link_to b)))
+
+  -- what a root names may be seen, and taken from there
   abbrev pub RootsAreSeen : Type 0
   RootsAreSeen =
       (has : Has) (r : ℕ) (fixed : Fixed) (id t : ℕ) → IsLooking has → r < fixed.roots

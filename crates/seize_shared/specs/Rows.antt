@@ -23,7 +23,7 @@ use Rattle.seize_shared.specs.declared.view.Becomes.{Becomes}
 use Rattle.seize_shared.specs.declared.view.Becomes.TheVariants.{Idle, Active}
 use Rattle.seize_shared.specs.declared.view.View.TheVariants.{Rests, Registers, Outside, Enters, Inside, Settles, Leaves, Left, Frees}
 use Rattle.seize_shared.specs.declared.view.Has.{Has}
-use Rattle.seize_shared.specs.declared.view.Has.TheVariants.{Nothing, Made, Seen, Cut}
+use Rattle.seize_shared.specs.declared.view.Has.TheVariants.{Nothing, Made, Seen, Both, Cut}
 use Rattle.seize_shared.specs.declared.view.Why.{Why}
 use Rattle.seize_shared.specs.declared.view.Why.TheVariants.{Retiring, Ending}
 use Rattle.seize_shared.specs.declared.view.Fixed.{Fixed}
@@ -104,6 +104,7 @@ module _ {T : Type 0} where
   IsInHand w j t Nothing = Unit {0}
   IsInHand w j t (Made b) = w.hand b ≡ world.Making j
   IsInHand w j t (Seen b) = holds t b w.log ≡ true
+  IsInHand w j t (Both b a) = (w.hand b ≡ world.Making j) × (holds t a w.log ≡ true)
   IsInHand w j t (Cut b) = w.hand b ≡ world.Cutting j
 
   -- the block that a settling is to look at is the one that it is about to reclaim, and has this value

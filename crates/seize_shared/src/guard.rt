@@ -68,6 +68,14 @@ impl<'r, 'a, T: Defers + Drop> LocalGuard<'r, 'a, T> {
         self.registration.stay.puts(root, value)
     }
 
+    /// Puts a value at a root if what it has seen last is there, or nothing where it has seen nothing, and retires that. Else the value comes back, and it has
+    /// seen what is there. It comes back, too, where there is no such root, or no number is free.
+    pub fn exchange(&mut self, root: u64, value: T) -> Result<(), T>
+        requires plain { T.defers value ≡ None }
+    {
+        self.registration.stay.exchanges(root, value)
+    }
+
     /// Takes the value from a root, and retires it; tells whether there was one. The section is begun anew.
     pub fn clear(&mut self, root: u64) -> bool {
         self.registration.stay.clears(root)
@@ -130,6 +138,14 @@ impl<'a, T: Defers + Drop> OwnedGuard<'a, T> {
         requires plain { T.defers value ≡ None }
     {
         self.stay.puts(root, value)
+    }
+
+    /// Puts a value at a root if what it has seen last is there, or nothing where it has seen nothing, and retires that. Else the value comes back, and it has
+    /// seen what is there. It comes back, too, where there is no such root, or no number is free.
+    pub fn exchange(&mut self, root: u64, value: T) -> Result<(), T>
+        requires plain { T.defers value ≡ None }
+    {
+        self.stay.exchanges(root, value)
     }
 
     /// Takes the value from a root, and retires it; tells whether there was one. The section is begun anew.

@@ -1,5 +1,5 @@
 //! A slot that is held, and its section, which is open or not.
-ghost use Rattle.std.specs.Prelude.{◌≡◌, None, Some, true, false};
+ghost use Rattle.std.specs.Prelude.{◌≡◌, ◌<◌, ◌^◌, None, Some, true, false};
 ghost use Rattle.seize_shared.specs.Standing.{standing};
 
 use crate::caller::Caller;
@@ -18,6 +18,7 @@ pub(crate) struct Stay<'a, T: Defers + Drop> {
     seen: u64,
     ghost stands: { standing caller.seat.view ≡ Some (slot, inside, seen) },
     ghost rooted: { caller.blocks.now.words.fixed.roots ≡ roots },
+    ghost fits: { seen < 2 ^ 53 },
 }
 
 impl<'a, T: Defers + Drop> Stay<'a, T> {
@@ -103,6 +104,34 @@ impl<'a, T: Defers + Drop> Stay<'a, T> {
             self.caller.retire(self.slot, old);
         }
         Ok(())
+    }
+
+    /// Puts a value at a root if what was seen is there, or nothing where nothing was seen, and retires that. Else the value comes back, and what is there
+    /// was seen. It comes back, too, where there is no such root, no number is free, or no section is open.
+    pub(crate) fn exchanges(&mut self, root: u64, value: T) -> Result<(), T>
+        requires plain { T.defers value ≡ None }
+    {
+        if !self.inside || root >= self.roots {
+            return Err(value);
+        }
+        let block = match self.caller.make_beside(self.slot, self.seen, value) {
+            Ok(block) => block,
+            Err(value) => return Err(value),
+        };
+        match self.caller.exchange(self.slot, root, self.seen, block) {
+            Ok(()) => {
+                if self.seen != 0 {
+                    self.caller.retire(self.slot, self.seen);
+                    self.seen = 0;
+                }
+                Ok(())
+            }
+            Err(now) => {
+                let value = self.caller.take_beside(self.slot, now, block);
+                self.seen = now;
+                Err(value)
+            }
+        }
     }
 
     /// Takes the value from a root, and retires it; tells whether there was one.

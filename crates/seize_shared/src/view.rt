@@ -32,6 +32,8 @@ pub enum Has {
     Made(u64),
     /// It has seen this one, which its section holds.
     Seen(u64),
+    /// It has made the first one, which nobody else can reach, and seen the second one, which its section holds.
+    Both(u64, u64),
     /// It has unlinked this one, and is to retire it.
     Cut(u64),
 }

@@ -1,6 +1,6 @@
 use Rattle.seize_shared.specs.contracts.law.sections_go_on.{T-type}
 use Rattle.seize_shared.proofs.Blocks.{blocks_are_made, made_are_taken, known_are_shown}
-use Rattle.seize_shared.proofs.Roots.{made_are_linked, roots_are_seen, roots_are_cleared}
+use Rattle.seize_shared.proofs.Roots.{made_are_linked, made_are_exchanged, roots_are_seen, roots_are_cleared}
 use Rattle.seize_shared.proofs.law.sections_go_on.Goals as goal
 
 pub returns-clause-made : goal.returns-clause-made
@@ -11,6 +11,9 @@ returns-clause-taken g c = made_are_taken (T-type g.row.T) g.T.Defers.defers
 
 pub returns-clause-linked : goal.returns-clause-linked
 returns-clause-linked g c = made_are_linked (T-type g.row.T) g.T.Defers.defers
+
+pub returns-clause-exchanged : goal.returns-clause-exchanged
+returns-clause-exchanged g c = made_are_exchanged (T-type g.row.T) g.T.Defers.defers
 
 pub returns-clause-seen : goal.returns-clause-seen
 returns-clause-seen g c = roots_are_seen (T-type g.row.T) g.T.Defers.defers
