@@ -6,6 +6,8 @@ mod counting;
 #[cfg(test)]
 mod crowd;
 #[cfg(test)]
+mod exchanging;
+#[cfg(test)]
 mod ground;
 #[cfg(test)]
 mod guards;
