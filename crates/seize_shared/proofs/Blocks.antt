@@ -90,7 +90,7 @@ module _ {T : Type 0} (defers : T → Option ℕ) (fixed : Fixed) (s : State T (
       let n : World T = made_by defers w id m out in
       let here = world_took s h.memory op out m took in
       let free = (made_one w.memory value words b here.0.0).was_free in
-      users defers fixed s id t had h at m n (after b) (record {
+      users defers fixed s id t h had at m n (after b) (record {
         came =
             came_then defers fixed w n (Makes id value words) h.came
             (out, m, subst (λ (o : Option ℕ). HasListWord defers o words) (sym list) tt, here, refl);
@@ -117,7 +117,7 @@ module _ {T : Type 0} (defers : T → Option ℕ) (fixed : Fixed) (s : State T (
       let op : Op T = Make value words in let out : Out T = OutMade (Err back) in
       let n : World T = made_by defers w id m out in
       let here = world_took s h.memory op out m took in
-      users defers fixed s id t had h at m n had (record {
+      users defers fixed s id t h had at m n had (record {
         came =
             came_then defers fixed w n (Makes id value words) h.came
             (out, m, subst (λ (o : Option ℕ). HasListWord defers o words) (sym list) tt, here, refl);
@@ -166,7 +166,7 @@ module _ {T : Type 0} (defers : T → Option ℕ) (fixed : Fixed) (s : State T (
       let op : Op T = Take b in let out : Out T = Taken value in
       let n : World T = with_effect (with_hand (record w { memory = m }) b world.NoBlock) (Dropped b) in
       let here = world_took s h.memory op out m took in
-      users defers fixed s id t had h at m n after (record {
+      users defers fixed s id t h had at m n after (record {
         came = came_then defers fixed w n (Drops id b) h.came (out, m, (id, mine), here, refl);
         memory = refl;
         row = refl;

@@ -14,11 +14,11 @@ use Rattle.seize_shared.specs.Begun.{leaving, refreshes, IsBegun, Retires, Flush
 use Rattle.seize_shared.specs.Made.{IsSettling}
 use Rattle.seize_shared.specs.Promises.{Names, HasMade, IsLooking, IsNext, op_of}
 use Rattle.seize_shared.specs.Rows.{Holds, Keeps}
-use Rattle.seize_shared.specs.Told.{list_taken, cut_in, seen_in, seen_as, cut_as, made_beside, told}
+use Rattle.seize_shared.specs.Told.{list_taken, owes_in, cut_in, seen_in, seen_as, cut_as, made_beside, told}
 use Rattle.seize_shared.specs.declared.view.View.{View}
 use Rattle.seize_shared.specs.declared.view.Becomes.{Becomes}
 use Rattle.seize_shared.specs.declared.view.Becomes.TheVariants.{Idle, Active}
-use Rattle.seize_shared.specs.declared.view.View.TheVariants.{Inside, Settles, Leaves, Left}
+use Rattle.seize_shared.specs.declared.view.View.TheVariants.{Outside, Owes, Inside, Settles, Leaves, Left}
 use Rattle.seize_shared.specs.declared.view.Has.{Has}
 use Rattle.seize_shared.specs.declared.view.Has.TheVariants.{Nothing, Made, Seen, Both, Cut}
 use Rattle.seize_shared.specs.declared.view.Why.TheVariants.{Retiring, Ending}
@@ -26,7 +26,8 @@ use Rattle.seize_shared.specs.declared.view.Fixed.{Fixed}
 use Rattle.seize_shared.proofs.Beginnings.{rows_turn, settlings_begin}
 use Rattle.seize_shared.proofs.GoesOn.{rows_go_on}
 use Rattle.seize_shared.proofs.Blocks.{blocks_are_made, made_are_taken, known_are_shown}
-use Rattle.seize_shared.proofs.Roots.{block_of_link, made_are_linked, made_are_exchanged, roots_are_cleared, roots_are_seen}
+use Rattle.seize_shared.proofs.Roots.{made_are_linked, made_are_exchanged, roots_are_cleared, roots_are_seen, roots_are_withdrawn}
+use Rattle.seize_shared.proofs.Written.{block_of_link}
 
 -- the word that links to a block whose number is small enough
 pub whole_link : (b : ℕ) → b < 2 ^ 53 → link_to b % 2 ^ 64 ≡ link_to b
@@ -47,11 +48,16 @@ module _ {T : Type 0} (defers : T → Option ℕ) (fixed : Fixed) (id : ℕ) (v 
   pub may_retire : (b : ℕ) → v ≡ Inside slot (Cut b) → Turns (Holds defers fixed) Keeps id v (Retires fixed v)
   may_retire b is =
       subst (λ (x : View T). Turns (Holds defers fixed) Keeps id x (Retires fixed x)) (sym is)
-      (settlings_begin T defers fixed id (Inside slot (Cut b)) (retiring slot fixed.batch_size (link_to b)) refl)
+      (settlings_begin T defers fixed id (Inside slot (Cut b)) Active (retiring slot fixed.batch_size (link_to b)) refl)
+
+  pub may_retire_idle : (b : ℕ) → v ≡ Owes slot b → Turns (Holds defers fixed) Keeps id v (Retires fixed v)
+  may_retire_idle b is =
+      subst (λ (x : View T). Turns (Holds defers fixed) Keeps id x (Retires fixed x)) (sym is)
+      (settlings_begin T defers fixed id (Owes slot b) Idle (retiring slot fixed.batch_size (link_to b)) refl)
 
   flushes_by : (has : Has) → IsLooking has → Turns (Holds defers fixed) Keeps id (Inside slot has) (Flushes fixed (Inside slot has))
-  flushes_by Nothing looks = settlings_begin T defers fixed id (Inside slot Nothing) (flushing slot fixed.batch_size) refl
-  flushes_by (Seen b) looks = settlings_begin T defers fixed id (Inside slot (Seen b)) (flushing slot fixed.batch_size) refl
+  flushes_by Nothing looks = settlings_begin T defers fixed id (Inside slot Nothing) Active (flushing slot fixed.batch_size) refl
+  flushes_by (Seen b) looks = settlings_begin T defers fixed id (Inside slot (Seen b)) Active (flushing slot fixed.batch_size) refl
   flushes_by (Made b) looks = absurd looks
   flushes_by (Both b a) looks = absurd looks
   flushes_by (Cut b) looks = absurd looks
@@ -59,23 +65,43 @@ module _ {T : Type 0} (defers : T → Option ℕ) (fixed : Fixed) (id : ℕ) (v 
   pub may_flush : (has : Has) → IsLooking has → v ≡ Inside slot has → Turns (Holds defers fixed) Keeps id v (Flushes fixed v)
   may_flush has looks is = subst (λ (x : View T). Turns (Holds defers fixed) Keeps id x (Flushes fixed x)) (sym is) (flushes_by has looks)
 
-module _ {T : Type 0} (fixed : Fixed) (v u : View T) (slot : ℕ) where
-  pub retires_told : (b : ℕ) → v ≡ Inside slot (Cut b) → Retires fixed v u → IsBegun (retiring slot fixed.batch_size (link_to b)) u
-  retires_told b is so = subst (λ (x : View T). Retires fixed x u) is so
+  pub may_flush_idle : v ≡ Outside slot → Turns (Holds defers fixed) Keeps id v (Flushes fixed v)
+  may_flush_idle is =
+      subst (λ (x : View T). Turns (Holds defers fixed) Keeps id x (Flushes fixed x)) (sym is)
+      (settlings_begin T defers fixed id (Outside slot) Idle (flushing slot fixed.batch_size) refl)
 
-  flushes_so : (has : Has) → IsLooking has → Flushes fixed (Inside slot has) u → IsBegun (flushing slot fixed.batch_size) u
+module _ {T : Type 0} (fixed : Fixed) (v u : View T) (slot : ℕ) where
+  -- and the row that was made for it has begun then
+
+  begun_by : (way : Becomes) (c row : Settle) → IsBegun way c u → row ≡ c → IsBegun way row u
+  begun_by way c row is same = subst (λ (r : Settle). IsBegun way r u) (sym same) is
+
+  pub retires_told : (b : ℕ) (row : Settle) → v ≡ Inside slot (Cut b) → Retires fixed v u → row ≡ retiring slot fixed.batch_size (link_to b) → IsBegun Active row u
+  retires_told b row is so same =
+      begun_by Active (retiring slot fixed.batch_size (link_to b)) row (subst (λ (x : View T). Retires fixed x u) is so) same
+
+  pub retires_idle_told : (b : ℕ) (row : Settle) → v ≡ Owes slot b → Retires fixed v u → row ≡ retiring slot fixed.batch_size (link_to b) → IsBegun Idle row u
+  retires_idle_told b row is so same =
+      begun_by Idle (retiring slot fixed.batch_size (link_to b)) row (subst (λ (x : View T). Retires fixed x u) is so) same
+
+  flushes_so : (has : Has) → IsLooking has → Flushes fixed (Inside slot has) u → IsBegun Active (flushing slot fixed.batch_size) u
   flushes_so Nothing looks so = so
   flushes_so (Seen b) looks so = so
   flushes_so (Made b) looks so = absurd looks
   flushes_so (Both b a) looks so = absurd looks
   flushes_so (Cut b) looks so = absurd looks
 
-  pub flushes_told : (has : Has) → IsLooking has → v ≡ Inside slot has → Flushes fixed v u → IsBegun (flushing slot fixed.batch_size) u
-  flushes_told has looks is so = flushes_so has looks (subst (λ (x : View T). Flushes fixed x u) is so)
+  pub flushes_told : (has : Has) (row : Settle) → IsLooking has → v ≡ Inside slot has → Flushes fixed v u → row ≡ flushing slot fixed.batch_size
+      → IsBegun Active row u
+  flushes_told has row looks is so same =
+      begun_by Active (flushing slot fixed.batch_size) row (flushes_so has looks (subst (λ (x : View T). Flushes fixed x u) is so)) same
 
--- a settling that has begun is the row that was made for it
-pub settling_row : {T : Type 0} (c row : Settle) (u : View T) → IsBegun c u → row ≡ c → IsSettling Retiring row u
-settling_row c row u is same = (None, is.0, is.1 ∙ ap (λ (r : Settle). Settles r Retiring None is.0) (sym same))
+  pub flushes_idle_told : (row : Settle) → v ≡ Outside slot → Flushes fixed v u → row ≡ flushing slot fixed.batch_size → IsBegun Idle row u
+  flushes_idle_told row is so same = begun_by Idle (flushing slot fixed.batch_size) row (subst (λ (x : View T). Flushes fixed x u) is so) same
+
+-- a settling that has begun is under way
+pub settling_row : {T : Type 0} (way : Becomes) (row : Settle) (u : View T) → IsBegun way row u → IsSettling (Retiring way) row u
+settling_row way row u is = (None, is.0, is.1)
 
 module _ {T : Type 0} (defers : T → Option ℕ) (fixed : Fixed) (id : ℕ) (v : View T) (slot : ℕ) where
   abbrev MayMake : Op T → Type 0
@@ -122,6 +148,9 @@ module _ {T : Type 0} (defers : T → Option ℕ) (fixed : Fixed) (id : ℕ) (v 
 
   pub may_clear : (r : ℕ) → v ≡ Inside slot Nothing → r < fixed.roots → MayMake (Swap (Root r) 0)
   may_clear r is lt = by_view (Inside slot Nothing) (Swap (Root r) 0) is (roots_are_cleared T defers r fixed id slot lt)
+
+  pub may_withdraw : (r : ℕ) → v ≡ Outside slot → r < fixed.roots → MayMake (Swap (Root r) 0)
+  may_withdraw r is lt = by_view (Outside slot) (Swap (Root r) 0) is (roots_are_withdrawn T defers r fixed id slot lt)
 
   pub may_see : (has : Has) (r : ℕ) → IsLooking has → v ≡ Inside slot has → r < fixed.roots → MayMake (Load (Root r))
   may_see has r looks is lt = by_view (Inside slot has) (Load (Root r)) is (roots_are_seen T defers has r fixed id slot looks lt)
@@ -187,7 +216,17 @@ seen_some word b is ne = ap (λ (y : Bool). if y then Nothing else Seen (block_i
 pub seen_none : (word : ℕ) → block_in word ≡ 0 → seen_in word ≡ Nothing
 seen_none word e = ap (λ (y : Bool). if y then Nothing else Seen (block_in word)) (eq-eqb (block_in word) 0 e)
 
+pub owes_some : (T : Type 0) (slot word b : ℕ) → b ≡ block_in word → (b ≡ 0 → ⊥) → owes_in {T = T} slot word ≡ Owes slot b
+owes_some T slot word b is ne =
+    ap (λ (y : Bool). if y then Outside slot else Owes slot (block_in word)) (ne_eqb (block_in word) 0 (λ e. ne (is ∙ e))) ∙ ap (Owes slot) (sym is)
+
+pub owes_none : (T : Type 0) (slot word : ℕ) → block_in word ≡ 0 → owes_in {T = T} slot word ≡ Outside slot
+owes_none T slot word e = ap (λ (y : Bool). if y then Outside slot else Owes slot (block_in word)) (eq-eqb (block_in word) 0 e)
+
 module _ {T : Type 0} (defers : T → Option ℕ) (v w : View T) (slot : ℕ) where
+  pub withdrawn_told : (r word old : ℕ) → v ≡ Outside slot → told defers v (Swap (Root r) word) (Found old) w → w ≡ owes_in slot old
+  withdrawn_told r word old is so = subst (λ (x : View T). told defers x (Swap (Root r) word) (Found old) w) is so
+
   pub cut_told : (b r word old : ℕ) → v ≡ Inside slot (Made b) → told defers v (Swap (Root r) word) (Found old) w → w ≡ Inside slot (cut_in old)
   cut_told b r word old is so =
       let k = subst (λ (x : View T). told defers x (Swap (Root r) word) (Found old) w) is so in k.2 ∙ ap (Inside slot) k.1

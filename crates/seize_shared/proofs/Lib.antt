@@ -11,6 +11,7 @@ pub mod Settling
 pub mod GoesOn
 pub mod Users
 pub mod Blocks
+pub mod Written
 pub mod Roots
 pub mod Calls
 pub mod Drives

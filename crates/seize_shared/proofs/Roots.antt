@@ -22,9 +22,9 @@ use Rattle.seize_seats.specs.State.{State, view_of, Goes}
 use Rattle.seize_bounds.specs.Bounds.{ArePlain}
 use Rattle.seize_shared.specs.Rows.{IsInHand, RootsNameLinked, Fits, Came, Holds, Keeps}
 use Rattle.seize_shared.specs.Told.{seen_in, cut_in, made_beside, told}
-use Rattle.seize_shared.specs.Promises.{HasMade, MadeAreLinked, MadeAreExchanged, RootsAreSeen, RootsAreCleared}
+use Rattle.seize_shared.specs.Promises.{HasMade, MadeAreLinked, MadeAreExchanged, RootsAreSeen, RootsAreCleared, RootsAreWithdrawn}
 use Rattle.seize_shared.specs.declared.view.View.{View}
-use Rattle.seize_shared.specs.declared.view.View.TheVariants.{Inside}
+use Rattle.seize_shared.specs.declared.view.View.TheVariants.{Outside, Owes, Inside}
 use Rattle.seize_shared.specs.declared.view.Has.{Has}
 use Rattle.seize_shared.specs.declared.view.Has.TheVariants.{Nothing, Made, Seen, Both, Cut}
 use Rattle.seize_shared.specs.declared.view.Fixed.{Fixed}
@@ -32,22 +32,8 @@ use Rattle.seize_shared.proofs.Lists.{there, elsewhere}
 use Rattle.seize_shared.proofs.Moved.{Passes}
 use Rattle.seize_shared.proofs.Steps.{came_then, reached, world_plain}
 use Rattle.seize_shared.proofs.Users.{apart_making, cutting_making, use_making, making_use, cutting_use, same_use}
-use Rattle.seize_shared.proofs.Users.{beside, world_took, making_not_held, passes_one, passes_then, Users, users}
-
--- a root is there
-root_there : (l : List ℕ) (r : ℕ) → r < length l → IsSome (slice_get l r)
-root_there [] r lt = absurd (omega (arith, lt))
-root_there (x ∷ l) zero lt = refl
-root_there (x ∷ l) (suc r) lt = root_there l r (omega (arith, lt))
-
-length_set : (l : List ℕ) (r x : ℕ) → length (slice_set l r x) ≡ length l
-length_set [] r x = refl
-length_set (y ∷ l) zero x = refl
-length_set (y ∷ l) (suc r) x = ap suc (length_set l r x)
-
--- a link names its block
-pub block_of_link : (b : ℕ) → block_in (link_to b) ≡ b
-block_of_link b = omega arith
+use Rattle.seize_shared.proofs.Users.{beside, making_not_held, passes_then, users, users_outside, users_owe}
+use Rattle.seize_shared.proofs.Written.{Wrote, Cuts, block_of_link, wrote, rooted_still, roots_now, fresh, root_can, unlinked, clears}
 
 module _ {T : Type 0} (defers : T → Option ℕ) (fixed : Fixed) (s : State T (View T) (World T)) (id t : ℕ) (had : Has) (h : Holds defers fixed s)
     (at : view_of s id ≡ Some (Inside t had)) where
@@ -102,7 +88,7 @@ module _ {T : Type 0} (defers : T → Option ℕ) (fixed : Fixed) (s : State T (
   -- what is known of blocks changes, and nothing else
   looks : (m : Mem T) (has : Has) → m ≡ s.memory → IsInHand w id t has → (so : View T → Type 0) → so (Inside t has) → Goes H Keeps s m id so
   looks m has same known so is =
-      users defers fixed s id t had h at m w has (record {
+      users defers fixed s id t h had at m w has (record {
         came = h.came;
         memory = same ∙ h.memory;
         row = refl;
@@ -127,130 +113,18 @@ module _ {T : Type 0} (defers : T → Option ℕ) (fixed : Fixed) (s : State T (
   sees a (Taken x) m took so is = absurd took.0
   sees a (Roomed x) m took so is = absurd took.0
 
-  -- a word is written at a root, in place of this one
-  record Wrote (a word old : ℕ) (m : Mem T) : Type 0 where
-    there : word_at s.memory (Root a) ≡ Some old
-    roots : m.roots ≡ slice_set s.memory.roots a word
-    came : Came defers fixed (record w { memory = m })
-    values : (b : ℕ) → value_at m b ≡ value_at w.memory b
-    plain : ArePlain defers m
-    passes : Passes defers fixed s id (record w { memory = m })
-
-  wrote : (a word old : ℕ) (m : Mem T) (op : Op T) (out : Out T) → IsOwnOp defers w.memory op → Took s.memory op out m → word_at s.memory (Root a) ≡ Some old
-      → m ≡ with_word s.memory (Root a) word → Wrote a word old m
-  wrote a word old m op out own took found is =
-      let here : Took w.memory op out m = world_took s h.memory op out m took in
-      let values : (b : ℕ) → value_at m b ≡ value_at w.memory b =
-      (λ b. ap (λ (x : Mem T). value_at x b) here.1 ∙ own_op_value defers w.memory b op out own) in
-      let plain : ArePlain defers m = (λ b x e. world_plain defers fixed s id (Inside t had) h at b x (sym (values b) ∙ e)) in
-      record {
-        there = found;
-        roots = ap (λ (x : Mem T). x.roots) is;
-        came = came_then defers fixed w (record w { memory = m }) (Operates op) h.came (out, m, own, here, refl);
-        values = values;
-        plain = plain;
-        passes = passes_one defers fixed s id t (Operates op) (record w { memory = m }) (λ j. tt) (out, m, own, here, refl) plain;
-      }
-
-  rooted_still : (a word old : ℕ) (m : Mem T) → Wrote a word old m → length m.roots ≡ fixed.roots
-  rooted_still a word old m wrote = ap length wrote.roots ∙ length_set s.memory.roots a word ∙ h.rooted
-
-  -- where a root names a block from now on, each other root is as it was
-  roots_now : (a word old : ℕ) (m : Mem T) (hand : ℕ → Hand) → Wrote a word old m → (block_in word ≡ 0) ⊎ (hand (block_in word) ≡ world.InUse a)
-      → ((b c : ℕ) → c ≢ a → w.hand b ≡ world.InUse c → hand b ≡ world.InUse c) → RootsNameLinked m hand
-  roots_now a word old m hand wrote named others c found e =
-      by (cases_eq c a) (subst (λ (l : List ℕ). slice_get l c ≡ Some found) wrote.roots e)
-    where
-      by : (c ≡ a) ⊎ (c ≢ a) → slice_get (slice_set s.memory.roots a word) c ≡ Some found → (block_in found ≡ 0) ⊎ (hand (block_in found) ≡ world.InUse c)
-      by (inl is) q =
-          let set = subst (λ (k : ℕ). slice_get (slice_set s.memory.roots a word) k ≡ Some found) is q in
-          let same : word ≡ found = same_some word found (sym (there s.memory.roots a word old wrote.there) ∙ set) in
-          subst (λ (k : ℕ). (block_in found ≡ 0) ⊎ (hand (block_in found) ≡ world.InUse k)) (sym is)
-          (subst (λ (k : ℕ). (block_in k ≡ 0) ⊎ (hand (block_in k) ≡ world.InUse a)) same named)
-      by (inr ne) q =
-          let was = h.roots c found (sym (elsewhere s.memory.roots a c word ne) ∙ q) in
-          elim was as (λ _. (block_in found ≡ 0) ⊎ (hand (block_in found) ≡ world.InUse c)) [
-            | inl none ↦ inl none
-            | inr is ↦ inr (others (block_in found) c ne is)
-          ]
-
-  -- the block that was at the root, if there was one, is unlinked; `n` is the world before that, in which it is linked there
-  unlinked : (a old : ℕ) (m : Mem T) (n : World T) (so : View T → Type 0) → so (Inside t (cut_in old)) → Users defers fixed s id t m n Nothing
-      → RootsNameLinked m n.hand
-      → ((b : ℕ) → w.hand b ≡ world.InUse a → n.hand b ≡ world.InUse a)
-      → (block_in old ≡ 0) ⊎ (w.hand (block_in old) ≡ world.InUse a)
-      → ((c found : ℕ) → word_at m (Root c) ≡ Some found → (block_in found ≡ 0) ⊎ (block_in found ≢ block_in old))
-      → Goes H Keeps s m id so
-  unlinked a old m n so is u named still was fresh = by (block_in old == 0) refl was
+  -- the block that is taken from a root is in the seat's hand
+  cuts : (a old : ℕ) (m : Mem T) (so : View T → Type 0) → so (Inside t (cut_in old)) → Cuts defers fixed s id t m old so
+  cuts a old m so is = record {
+    none = λ e n u. users defers fixed s id t h had at m n Nothing u so (at_view true e);
+    cut = λ e n u. users defers fixed s id t h had at m n (Cut (block_in old)) u so (at_view false e);
+  }
     where
       at_view : (y : Bool) → (block_in old == 0) ≡ y → so (Inside t (if y then Nothing else Cut (block_in old)))
       at_view y e = subst (λ (z : Bool). so (Inside t (if z then Nothing else Cut (block_in old)))) e is
 
-      by : (y : Bool) → (block_in old == 0) ≡ y → (block_in old ≡ 0) ⊎ (w.hand (block_in old) ≡ world.InUse a) → Goes H Keeps s m id so
-      by true e was = users defers fixed s id t had h at m n Nothing u so (at_view true e)
-      by false e (inl none) = absurd (let k = eq-eqb (block_in old) 0 none in cc (k, e))
-      by false e (inr linked) =
-          let mine : n.hand (block_in old) ≡ world.InUse a = still (block_in old) linked in
-          let v : World T = with_effect (with_hand n (block_in old) (world.Cutting id)) (Unlinked (block_in old)) in
-          let keep : (b : ℕ) (k : Hand) → (k ≡ world.InUse a → ⊥) → n.hand b ≡ k → v.hand b ≡ k =
-          (λ b k ne f. with_other n.hand (block_in old) b (world.Cutting id) (λ q. ne (sym f ∙ ap n.hand q ∙ mine)) ∙ f) in
-          users defers fixed s id t had h at m v (Cut (block_in old)) (record {
-            came = came_then defers fixed n v (Unlinks id (block_in old)) u.came (subst (λ (k : Hand). MayCut id k) (sym mine) tt, refl);
-            memory = u.memory;
-            row = u.row;
-            uses = u.uses;
-            in_hand = with_here n.hand (block_in old) (world.Cutting id);
-            hands = λ j b ne. (
-              λ f. keep b (world.Making j) (making_use j a) ((u.hands j b ne).0 f),
-              λ f. keep b (world.Cutting j) (cutting_use j a) ((u.hands j b ne).1 f),
-            );
-            values = u.values;
-            held = λ c b held. held_on c b (Unlinked (block_in old)) n.log tt (u.held c b held);
-            over = u.over;
-            roots = λ c found e. elim (fresh c found e) as (λ _. (block_in found ≡ 0) ⊎ (v.hand (block_in found) ≡ world.InUse c)) [
-              | inl none ↦ inl none
-              | inr ne ↦ other c found (named c found e) ne
-            ];
-            rooted = u.rooted;
-            plain = u.plain;
-            passes = passes_then defers fixed s id t n v (Unlinks id (block_in old)) tt (λ j. tt) u.passes
-                (subst (λ (k : Hand). MayCut id k) (sym mine) tt, refl) u.plain;
-          }) so (at_view false e)
-        where
-          other : (c found : ℕ) → (block_in found ≡ 0) ⊎ (n.hand (block_in found) ≡ world.InUse c) → block_in found ≢ (block_in old)
-              → (block_in found ≡ 0) ⊎ (with_at n.hand (block_in old) (world.Cutting id) (block_in found) ≡ world.InUse c)
-          other c found (inl none) ne = inl none
-          other c found (inr f) ne = inr (with_other n.hand (block_in old) (block_in found) (world.Cutting id) ne ∙ f)
-
-  -- no root names the block that was taken from one
-  fresh : (a word old : ℕ) (m : Mem T) → Wrote a word old m → (block_in old ≡ 0) ⊎ (w.hand (block_in old) ≡ world.InUse a)
-      → (block_in word ≡ 0) ⊎ (block_in word ≢ block_in old)
-      → (c found : ℕ) → word_at m (Root c) ≡ Some found → (block_in found ≡ 0) ⊎ (block_in found ≢ block_in old)
-  fresh a word old m wrote was new c found e = by (cases_eq c a) (subst (λ (l : List ℕ). slice_get l c ≡ Some found) wrote.roots e)
-    where
-      was_linked : c ≢ a → w.hand (block_in found) ≡ world.InUse c → (block_in old ≡ 0) ⊎ (w.hand (block_in old) ≡ world.InUse a)
-          → (block_in found ≡ 0) ⊎ (block_in found ≢ block_in old)
-      was_linked ne is (inr linked) = inr (λ q. ne (same_use c a (sym is ∙ ap w.hand q ∙ linked)))
-      was_linked ne is (inl none) = elim (cases_eq (block_in found) 0) as (λ _. (block_in found ≡ 0) ⊎ (block_in found ≢ block_in old)) [
-        | inl z ↦ inl z
-        | inr nz ↦ inr (λ q. nz (q ∙ none))
-      ]
-
-      by : (c ≡ a) ⊎ (c ≢ a) → slice_get (slice_set s.memory.roots a word) c ≡ Some found → (block_in found ≡ 0) ⊎ (block_in found ≢ block_in old)
-      by (inl is) q =
-          let set = subst (λ (k : ℕ). slice_get (slice_set s.memory.roots a word) k ≡ Some found) is q in
-          let same : word ≡ found = same_some word found (sym (there s.memory.roots a word old wrote.there) ∙ set) in
-          subst (λ (k : ℕ). (block_in k ≡ 0) ⊎ (block_in k ≢ block_in old)) same new
-      by (inr ne) q = elim (h.roots c found (sym (elsewhere s.memory.roots a c word ne) ∙ q)) as (λ _. (block_in found ≡ 0) ⊎ (block_in found ≢ block_in old)) [
-        | inl none ↦ inl none
-        | inr is ↦ was_linked ne is was
-      ]
-
-  root_can : (a : ℕ) → a < fixed.roots → IsSome (word_at s.memory (Root a))
-  root_can a lt = root_there s.memory.roots a (subst (λ (k : ℕ). a < k) (sym h.rooted) lt)
-
   -- the block that was made is put at a root
-  links : (b a : ℕ) → w.hand b ≡ world.Making id → (old : ℕ) (m : Mem T) → Wrote a (link_to b) old m → (so : View T → Type 0) → so (Inside t (cut_in old))
+  links : (b a : ℕ) → w.hand b ≡ world.Making id → (old : ℕ) (m : Mem T) → Wrote defers fixed s id a (link_to b) old m → (so : View T → Type 0) → so (Inside t (cut_in old))
       → Goes H Keeps s m id so
   links b a mine old m wrote so tells =
       let word : ℕ = link_to b in
@@ -259,10 +133,10 @@ module _ {T : Type 0} (defers : T → Option ℕ) (fixed : Fixed) (s : State T (
       (λ c k ne f. beside w b c (world.InUse a) k (λ e. ne (e ∙ mine)) f) in
       let was = h.roots a old wrote.there in
       let named : RootsNameLinked m n.hand =
-      roots_now a word old m n.hand wrote (inr (ap n.hand (block_of_link b) ∙ with_here w.hand b (world.InUse a)))
+      roots_now defers fixed s id (Inside t had) h at a word old m n.hand wrote (inr (ap n.hand (block_of_link b) ∙ with_here w.hand b (world.InUse a)))
       (λ c e ne f. other c (world.InUse e) (use_making e id) f) in
       let is_new : (block_in word ≡ 0) ⊎ (block_in word ≢ block_in old) = new_block b a old mine was (cases_eq b 0) in
-      unlinked a old m n so tells (record {
+      unlinked defers fixed s id (Inside t had) h at t a old m n so (cuts a old m so tells) (record {
         came = came_then defers fixed (record w { memory = m }) n (Links id b a) wrote.came ((id, mine), refl);
         memory = refl;
         row = refl;
@@ -273,10 +147,10 @@ module _ {T : Type 0} (defers : T → Option ℕ) (fixed : Fixed) (s : State T (
         held = λ e c held. held_on e c (Linked b a) w.log tt held;
         over = λ e c held. ap (λ (y : Bool). cond y false (is_over c w.log)) (ne_eqb c b (making_not_held defers fixed.batch_size w r id e b c held mine));
         roots = named;
-        rooted = rooted_still a word old m wrote;
+        rooted = rooted_still defers fixed s id (Inside t had) h at a word old m wrote;
         plain = wrote.plain;
         passes = passes_then defers fixed s id t (record w { memory = m }) n (Links id b a) tt (λ j. tt) wrote.passes ((id, mine), refl) wrote.plain;
-      }) named (λ c f. other c (world.InUse a) (use_making a id) f) was (fresh a word old m wrote was is_new)
+      }) named (λ c f. other c (world.InUse a) (use_making a id) f) was (fresh defers fixed s id (Inside t had) h at a word old m wrote was is_new)
     where
       new_block : (b a old : ℕ) → w.hand b ≡ world.Making id → (block_in old ≡ 0) ⊎ (w.hand (block_in old) ≡ world.InUse a) → (b ≡ 0) ⊎ (b ≢ 0)
           → (block_in (link_to b) ≡ 0) ⊎ (block_in (link_to b) ≢ block_in old)
@@ -285,29 +159,6 @@ module _ {T : Type 0} (defers : T → Option ℕ) (fixed : Fixed) (s : State T (
       new_block b a old mine (inr linked) (inr nz) =
           inr (λ e. making_use id a (sym mine ∙ ap w.hand (sym (block_of_link b) ∙ e) ∙ linked))
 
-  -- a root is cleared
-  clears : (a old : ℕ) (m : Mem T) → Wrote a 0 old m → (so : View T → Type 0) → so (Inside t (cut_in old))
-      → Goes H Keeps s m id so
-  clears a old m wrote so tells =
-      let n : World T = record w { memory = m } in
-      let was = h.roots a old wrote.there in
-      let named : RootsNameLinked m n.hand = roots_now a 0 old m n.hand wrote (inl refl) (λ c e ne f. f) in
-      unlinked a old m n so tells (record {
-        came = wrote.came;
-        memory = refl;
-        row = refl;
-        uses = refl;
-        in_hand = tt;
-        hands = λ j c ne. (λ f. f, λ f. f);
-        values = λ c some some2. wrote.values c;
-        held = λ e c held. held;
-        over = λ e c held. refl;
-        roots = named;
-        rooted = rooted_still a 0 old m wrote;
-        plain = wrote.plain;
-        passes = wrote.passes;
-      }) named (λ c f. f) was (fresh a 0 old m wrote was (inl refl))
-
   -- the block that was made is put at a root in place of this word, or what is there is seen
   exchanges : (b a old : ℕ) → w.hand b ≡ world.Making id → (so : Out T → View T → Type 0) → so (Exchanged (Ok old)) (Inside t (cut_in old))
       → ((word : ℕ) → so (Exchanged (Err word)) (Inside t (made_beside b (block_in word)))) → (out : Out T) (m : Mem T)
@@ -315,7 +166,7 @@ module _ {T : Type 0} (defers : T → Option ℕ) (fixed : Fixed) (s : State T (
   exchanges b a old mine so cut other (Exchanged (Ok word)) m took =
       subst (λ (k : ℕ). Goes H Keeps s m id (so (Exchanged (Ok k)))) (sym took.0.1)
       (links b a mine old m
-      (wrote a (link_to b) old m (Exchange (Root a) old (link_to b)) (Exchanged (Ok word)) tt took (took.0.0 ∙ ap Some took.0.1) took.1)
+      (wrote defers fixed s id (Inside t had) h at a (link_to b) old m (Exchange (Root a) old (link_to b)) (Exchanged (Ok word)) tt took (took.0.0 ∙ ap Some took.0.1) took.1)
       (so (Exchanged (Ok old))) cut)
   exchanges b a old mine so cut other (Exchanged (Err word)) m took =
       looks m (made_beside b (block_in word)) took.1 (beside_known b a word mine took.0.0 (block_in word == 0) refl) (so (Exchanged (Err word))) (other word)
@@ -328,12 +179,12 @@ module _ {T : Type 0} (defers : T → Option ℕ) (fixed : Fixed) (s : State T (
 module _ (T : Type 0) (defers : T → Option ℕ) where
   pub roots_are_seen : RootsAreSeen T defers
   roots_are_seen Nothing a fixed id t looks lt s h at = (
-    root_can defers fixed s id t Nothing h at a lt,
+    root_can defers fixed s id (Inside t Nothing) h at a lt,
     λ out m took. sees defers fixed s id t Nothing h at a out m took (told defers (Inside t Nothing) (Load (Root a)) out)
         (λ word e. subst (λ (o : Out T). told defers (Inside t Nothing) (Load (Root a)) o (Inside t (seen_in word))) (sym e) (seen_in word, refl, refl)),
   )
   roots_are_seen (Seen b) a fixed id t looks lt s h at = (
-    root_can defers fixed s id t (Seen b) h at a lt,
+    root_can defers fixed s id (Inside t (Seen b)) h at a lt,
     λ out m took. sees defers fixed s id t (Seen b) h at a out m took (told defers (Inside t (Seen b)) (Load (Root a)) out)
         (λ word e. subst (λ (o : Out T). told defers (Inside t (Seen b)) (Load (Root a)) o (Inside t (seen_in word))) (sym e) (seen_in word, refl, refl)),
   )
@@ -342,13 +193,13 @@ module _ (T : Type 0) (defers : T → Option ℕ) where
   roots_are_seen (Cut b) a fixed id t looks lt s h at = absurd looks
 
   pub made_are_linked : MadeAreLinked T defers
-  made_are_linked b a fixed id t lt s h at = (root_can defers fixed s id t (Made b) h at a lt, λ out m took. by out m took)
+  made_are_linked b a fixed id t lt s h at = (root_can defers fixed s id (Inside t (Made b)) h at a lt, λ out m took. by out m took)
     where
       by : (out : Out T) (m : Mem T) → Took s.memory (Swap (Root a) (link_to b)) out m
           → Goes (Holds defers fixed) Keeps s m id (told defers (Inside t (Made b)) (Swap (Root a) (link_to b)) out)
       by (Found old) m took =
           links defers fixed s id t (Made b) h at b a (h.seats id (Inside t (Made b)) at).known old m
-          (wrote defers fixed s id t (Made b) h at a (link_to b) old m (Swap (Root a) (link_to b)) (Found old) tt took took.0 took.1)
+          (wrote defers fixed s id (Inside t (Made b)) h at a (link_to b) old m (Swap (Root a) (link_to b)) (Found old) tt took took.0 took.1)
           (told defers (Inside t (Made b)) (Swap (Root a) (link_to b)) (Found old)) (cut_in old, refl, refl)
       by Stored m took = absurd took.0
       by (Exchanged x) m took = absurd took.0
@@ -358,13 +209,13 @@ module _ (T : Type 0) (defers : T → Option ℕ) where
 
   pub made_are_exchanged : MadeAreExchanged T defers
   made_are_exchanged (Made c) b a old fixed id t is lt s h at = (
-    root_can defers fixed s id t (Made c) h at a lt,
+    root_can defers fixed s id (Inside t (Made c)) h at a lt,
     exchanges defers fixed s id t (Made c) h at b a old (subst (λ (k : ℕ). s.world.hand k ≡ world.Making id) is (h.seats id (Inside t (Made c)) at).known)
         (told defers (Inside t (Made c)) (Exchange (Root a) old (link_to b))) (cut_in old, refl, refl)
         (λ word. (made_beside b (block_in word), ap (λ (k : ℕ). made_beside k (block_in word)) (sym is), refl)),
   )
   made_are_exchanged (Both c d) b a old fixed id t is lt s h at = (
-    root_can defers fixed s id t (Both c d) h at a lt,
+    root_can defers fixed s id (Inside t (Both c d)) h at a lt,
     exchanges defers fixed s id t (Both c d) h at b a old (subst (λ (k : ℕ). s.world.hand k ≡ world.Making id) is (h.seats id (Inside t (Both c d)) at).known.0)
         (told defers (Inside t (Both c d)) (Exchange (Root a) old (link_to b))) (cut_in old, refl, refl)
         (λ word. (made_beside b (block_in word), ap (λ (k : ℕ). made_beside k (block_in word)) (sym is), refl)),
@@ -374,14 +225,41 @@ module _ (T : Type 0) (defers : T → Option ℕ) where
   made_are_exchanged (Cut c) b a old fixed id t is lt s h at = absurd is
 
   pub roots_are_cleared : RootsAreCleared T defers
-  roots_are_cleared a fixed id t lt s h at = (root_can defers fixed s id t Nothing h at a lt, λ out m took. by out m took)
+  roots_are_cleared a fixed id t lt s h at = (root_can defers fixed s id (Inside t Nothing) h at a lt, λ out m took. by out m took)
     where
       by : (out : Out T) (m : Mem T) → Took s.memory (Swap (Root a) 0) out m
           → Goes (Holds defers fixed) Keeps s m id (told defers (Inside t Nothing) (Swap (Root a) 0) out)
       by (Found old) m took =
-          clears defers fixed s id t Nothing h at a old m
-          (wrote defers fixed s id t Nothing h at a 0 old m (Swap (Root a) 0) (Found old) tt took took.0 took.1)
-          (told defers (Inside t Nothing) (Swap (Root a) 0) (Found old)) (cut_in old, refl, refl)
+          clears defers fixed s id (Inside t Nothing) h at t a old m
+          (wrote defers fixed s id (Inside t Nothing) h at a 0 old m (Swap (Root a) 0) (Found old) tt took took.0 took.1)
+          (told defers (Inside t Nothing) (Swap (Root a) 0) (Found old))
+          (cuts defers fixed s id t Nothing h at a old m (told defers (Inside t Nothing) (Swap (Root a) 0) (Found old)) (cut_in old, refl, refl))
+      by Stored m took = absurd took.0
+      by (Exchanged x) m took = absurd took.0
+      by (OutMade x) m took = absurd took.0
+      by (Taken x) m took = absurd took.0
+      by (Roomed x) m took = absurd took.0
+
+  pub roots_are_withdrawn : RootsAreWithdrawn T defers
+  roots_are_withdrawn a fixed id t lt s h at = (root_can defers fixed s id (Outside t) h at a lt, λ out m took. by out m took)
+    where
+      owes : (old : ℕ) (m : Mem T) → Cuts defers fixed s id t m old (told defers (Outside t) (Swap (Root a) 0) (Found old))
+      owes old m = record {
+        none = λ e n u. users_outside defers fixed s id t h at m n u (told defers (Outside t) (Swap (Root a) 0) (Found old)) (at_view true e);
+        cut = λ e n u.
+            users_owe defers fixed s id t h at m n (block_in old) u (told defers (Outside t) (Swap (Root a) 0) (Found old)) (at_view false e);
+      }
+        where
+          at_view : (y : Bool) → (block_in old == 0) ≡ y
+              → told defers (Outside t) (Swap (Root a) 0) (Found old) (if y then Outside t else Owes t (block_in old))
+          at_view y e = subst (λ (z : Bool). told defers (Outside t) (Swap (Root a) 0) (Found old) (if z then Outside t else Owes t (block_in old))) e refl
+
+      by : (out : Out T) (m : Mem T) → Took s.memory (Swap (Root a) 0) out m
+          → Goes (Holds defers fixed) Keeps s m id (told defers (Outside t) (Swap (Root a) 0) out)
+      by (Found old) m took =
+          clears defers fixed s id (Outside t) h at t a old m
+          (wrote defers fixed s id (Outside t) h at a 0 old m (Swap (Root a) 0) (Found old) tt took took.0 took.1)
+          (told defers (Outside t) (Swap (Root a) 0) (Found old)) (owes old m)
       by Stored m took = absurd took.0
       by (Exchanged x) m took = absurd took.0
       by (OutMade x) m took = absurd took.0

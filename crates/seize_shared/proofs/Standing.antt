@@ -7,7 +7,7 @@ use Rattle.seize_shared.specs.Standing.{standing}
 use Rattle.seize_shared.specs.Told.{seen_as}
 use Rattle.seize_shared.specs.Promises.{IsLooking}
 use Rattle.seize_shared.specs.declared.view.View.{View}
-use Rattle.seize_shared.specs.declared.view.View.TheVariants.{Rests, Registers, Outside, Enters, Inside, Settles, Leaves, Left, Frees}
+use Rattle.seize_shared.specs.declared.view.View.TheVariants.{Rests, Registers, Outside, Owes, Enters, Inside, Settles, Leaves, Left, Frees}
 use Rattle.seize_shared.specs.declared.view.Has.{Has}
 use Rattle.seize_shared.specs.declared.view.Has.TheVariants.{Nothing, Made, Seen, Both, Cut}
 
@@ -65,6 +65,7 @@ module _ {T : Type 0} (t : ℕ) where
   is_outside k (Inside s (Made b)) e = absurd (cc e)
   is_outside k (Inside s (Both b a)) e = absurd (cc e)
   is_outside k (Inside s (Cut b)) e = absurd (cc e)
+  is_outside k (Owes s b) e = absurd (cc e)
   is_outside k Rests e = absurd (cc e)
   is_outside k (Registers c) e = absurd (cc e)
   is_outside k (Enters s) e = absurd (cc e)
@@ -85,6 +86,7 @@ module _ {T : Type 0} (t : ℕ) where
   inside k (Inside s (Made b)) e = absurd (cc e)
   inside k (Inside s (Both b a)) e = absurd (cc e)
   inside k (Inside s (Cut b)) e = absurd (cc e)
+  inside k (Owes s b) e = absurd (cc e)
   inside k Rests e = absurd (cc e)
   inside k (Registers c) e = absurd (cc e)
   inside k (Enters s) e = absurd (cc e)

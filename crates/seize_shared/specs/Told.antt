@@ -16,7 +16,7 @@ use Rattle.seize.specs.Settle.{counting_down, settle_plan}
 use Rattle.seize_shared.specs.Rows.{IsShort}
 use Rattle.seize_shared.specs.declared.view.View.{View}
 use Rattle.seize_shared.specs.declared.view.Becomes.{Becomes}
-use Rattle.seize_shared.specs.declared.view.View.TheVariants.{Rests, Registers, Outside, Enters, Inside, Settles, Leaves, Left, Frees}
+use Rattle.seize_shared.specs.declared.view.View.TheVariants.{Rests, Registers, Outside, Owes, Enters, Inside, Settles, Leaves, Left, Frees}
 use Rattle.seize_shared.specs.declared.view.Has.{Has}
 use Rattle.seize_shared.specs.declared.view.Has.TheVariants.{Nothing, Made, Seen, Both, Cut}
 use Rattle.seize_shared.specs.declared.view.Why.{Why}
@@ -58,6 +58,10 @@ has_told Nothing (Load (Root r)) (Found word) after = after ≡ seen_in word
 has_told (Seen b) (Load (Root r)) (Found word) after = after ≡ seen_in word
 has_told _ op out after = ⊥
 
+-- and what one outside of a section knows that has taken from a root what this word names
+abbrev pub owes_in : {T : Type 0} → ℕ → ℕ → View T
+owes_in t word = if block_in word == 0 then Outside t else Owes t (block_in word)
+
 -- what was looked at
 abbrev pub shown_by : {T : Type 0} → Option (ℕ × T) → ℕ → Option T
 shown_by None b = None
@@ -97,6 +101,7 @@ module _ {T : Type 0} (defers : T → Option ℕ) where
 
   abbrev pub told : View T → Op T → Out T → View T → Type 0
   told (Registers c) op out w = (end : Register × Progress ℕ) × ComesTo (register_plan {T = T} c) out end × (w ≡ left_by end) × IsShort w
+  told (Outside t) (Swap (Root r) word) (Found old) w = w ≡ owes_in t old
   told (Enters t) op out w = w ≡ Inside t Nothing
   told (Inside t has) op out w = (after : Has) × has_told has op out after × (w ≡ Inside t after)
   told (Settles c why seen left) op out w = GoesOn c why left out w

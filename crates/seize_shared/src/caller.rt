@@ -8,7 +8,7 @@ ghost use Rattle.seize_shared.specs.Promises.{IsLooking};
 ghost use Rattle.seize_shared.specs.Rows.{Holds};
 ghost use Rattle.seize_shared.specs.Seeking.{row_at, seeks};
 ghost use Rattle.seize_shared.specs.Told.{seen_as, cut_as, made_beside};
-ghost use Rattle.seize_shared.specs.declared.view.View.TheVariants.{Rests, Registers, Outside, Inside};
+ghost use Rattle.seize_shared.specs.declared.view.View.TheVariants.{Rests, Registers, Outside, Owes, Inside};
 ghost use Rattle.seize_shared.specs.declared.view.Has.{Has};
 ghost use Rattle.seize_shared.specs.declared.view.Has.TheVariants.{Nothing, Made, Seen, Cut};
 
@@ -205,6 +205,18 @@ impl<'a, T: Defers> Caller<'a, T> {
         requires root { root < self.old.blocks.now.words.fixed.roots }
         ensures cut { IfSome result (λ old. (self.new.seat.view ≡ Inside _slot (Cut old)) × (old < 2 ^ 53)) }
         ensures none { IfNone result (self.new.seat.view ≡ Inside _slot Nothing) }
+        ensures blocks { self.new.blocks ≡ self.old.blocks }
+    {
+        let old = self.blocks.swap(&mut self.seat, At::Root(root), 0);
+        named(old)
+    }
+
+    /// Takes the block from a root while no section of its slot is open, and answers which one was there, and is to be retired.
+    pub fn withdraw(&mut self, _slot: u64, root: u64) -> Option<u64>
+        requires outside { self.old.seat.view ≡ Outside _slot }
+        requires root { root < self.old.blocks.now.words.fixed.roots }
+        ensures owes { IfSome result (λ old. (self.new.seat.view ≡ Owes _slot old) × (old < 2 ^ 53)) }
+        ensures none { IfNone result (self.new.seat.view ≡ Outside _slot) }
         ensures blocks { self.new.blocks ≡ self.old.blocks }
     {
         let old = self.blocks.swap(&mut self.seat, At::Root(root), 0);

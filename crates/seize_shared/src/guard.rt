@@ -28,6 +28,17 @@ impl<'a, T: Defers + Drop> Registration<'a, T> {
         })
     }
 
+    /// Takes the value from a root, and retires it, without a section; tells whether there was one. Where a guard was forgotten its section ends first.
+    pub fn clear(&mut self, root: u64) -> bool {
+        self.stay.withdraws(root)
+    }
+
+    /// Tries the slot's batch, whatever its length, without a section. A value that is reclaimed is dropped. Where a guard was forgotten its section ends first.
+    pub fn flush(&mut self) {
+        self.stay.closes();
+        self.stay.flushes();
+    }
+
     /// Opens a section of the slot. Where a guard was forgotten its section ends first.
     pub fn enter<'r>(&'r mut self) -> LocalGuard<'r, 'a, T> {
         self.stay.refreshes();

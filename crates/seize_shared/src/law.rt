@@ -1,6 +1,6 @@
 //! What is promised of the rule of the collector's rows.
 ghost use Rattle.seize_shared.specs.Promises.{RulesStart, SeatsCome, RowsGoOn, RowsTurn, SettlingsBegin, LookedAreShown};
-ghost use Rattle.seize_shared.specs.Promises.{BlocksAreMade, MadeAreTaken, MadeAreLinked, MadeAreExchanged, RootsAreSeen, RootsAreCleared, KnownAreShown};
+ghost use Rattle.seize_shared.specs.Promises.{BlocksAreMade, MadeAreTaken, MadeAreLinked, MadeAreExchanged, RootsAreSeen, RootsAreCleared, RootsAreWithdrawn, KnownAreShown};
 
 use seize::rows::Defers;
 
@@ -15,7 +15,7 @@ pub fn rows_go_on<T: Defers>()
 {}
 
 /// Within a section a block may be made, taken away by its maker, put at a root, whatever is there or only in place of what was seen, seen there, and taken
-/// from there, and a block that is known may be looked at.
+/// from there, which may be done outside of a section, too; and a block that is known may be looked at.
 pub fn sections_go_on<T: Defers>()
     ensures made { BlocksAreMade T T.defers }
     ensures taken { MadeAreTaken T T.defers }
@@ -23,5 +23,6 @@ pub fn sections_go_on<T: Defers>()
     ensures exchanged { MadeAreExchanged T T.defers }
     ensures seen { RootsAreSeen T T.defers }
     ensures cleared { RootsAreCleared T T.defers }
+    ensures withdrawn { RootsAreWithdrawn T T.defers }
     ensures known { KnownAreShown T T.defers }
 {}

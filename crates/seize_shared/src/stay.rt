@@ -134,6 +134,21 @@ impl<'a, T: Defers + Drop> Stay<'a, T> {
         }
     }
 
+    /// Takes the value from a root, and retires it, while no section is open; tells whether there was one.
+    pub(crate) fn withdraws(&mut self, root: u64) -> bool {
+        self.closes();
+        if root >= self.roots {
+            return false;
+        }
+        match self.caller.withdraw(self.slot, root) {
+            Some(old) => {
+                self.caller.retire_idle(self.slot, old);
+                true
+            }
+            None => false,
+        }
+    }
+
     /// Takes the value from a root, and retires it; tells whether there was one.
     pub(crate) fn clears(&mut self, root: u64) -> bool {
         self.refreshes();
@@ -153,6 +168,8 @@ impl<'a, T: Defers + Drop> Stay<'a, T> {
     pub(crate) fn flushes(&mut self) {
         if self.inside {
             self.caller.flush(self.slot);
+        } else {
+            self.caller.flush_idle(self.slot);
         }
         self.seen = 0;
     }
