@@ -11,17 +11,17 @@ use std::thread::Threads;
 use std::{mem, thread};
 
 /// How often each of them goes about.
-const TIMES: usize = 20_000;
+pub(crate) const TIMES: usize = 20_000;
 
 /// What is chosen for the memory.
-const CHOSEN: Fixed = Fixed {
+pub(crate) const CHOSEN: Fixed = Fixed {
     batch_size: SIZE,
     roots: 1,
 };
 
 /// Looks at the root and puts a value there within each of so many sections, and takes then away what is there. It tells whether no value that it saw had been
 /// dropped.
-fn goes(blocks: &Blocks<Counted, OfRows>, drops: &Table, from: usize) -> Option<bool>
+pub(crate) fn goes(blocks: &Blocks<Counted, OfRows>, drops: &Table, from: usize) -> Option<bool>
     requires { blocks.now.words.fixed ≡ record { batch_size = 5; roots = 1 } }
 {
     let mut registration = Registration::new(blocks, &CHOSEN).ok()?;

@@ -12,6 +12,8 @@ mod ground;
 #[cfg(test)]
 mod guards;
 #[cfg(test)]
+mod idle;
+#[cfg(test)]
 mod lending;
 #[cfg(test)]
 mod looking;
