@@ -31,7 +31,9 @@ pub(crate) fn goes(blocks: &Blocks<Counted, OfRows>, drops: &Table, from: usize)
         guard.see(0);
         if let Some(value) = guard.value() {
             let before = dropped(&value.drops, value.place);
-            thread::yield_now();
+            if value.place % 16 == 0 {
+                thread::yield_now();
+            }
             fresh = fresh && before == 0 && dropped(&value.drops, value.place) == 0;
         }
         if let Some(value) = Counted::of(drops, usize::wrapping_add(from, turn)) {

@@ -130,7 +130,9 @@ pub(crate) fn looks(caller: &mut Caller<'_, Counted>, slot: u64) -> Option<bool>
     };
     let value = caller.value(slot, block);
     let before = dropped(&value.drops, value.place);
-    thread::yield_now();
+    if value.place % 16 == 0 {
+        thread::yield_now();
+    }
     let stale = before != 0 || dropped(&value.drops, value.place) != 0;
     caller.leave(slot);
     Some(stale)
