@@ -72,6 +72,14 @@ impl Defers for Tally {
     }
 }
 
+/// The number of a value that was seen, and 0 where none was.
+fn number(seen: Option<&Tally>) -> u64 {
+    match seen {
+        Some(tally) => tally.number,
+        None => 0,
+    }
+}
+
 /// Sees the number at the root again and again, and puts the next one in its place if it is there still; answers how often it was.
 fn goes(blocks: &Blocks<Tally, OfRows>, counts: &Table) -> Option<u64>
     requires { blocks.now.words.fixed ≡ record { batch_size = 5; roots = 1 } }
@@ -81,12 +89,12 @@ fn goes(blocks: &Blocks<Tally, OfRows>, counts: &Table) -> Option<u64>
     for turn in 0..TIMES {
         let mut guard = registration.enter();
         guard.see(0);
-        let number = guard.value().map_or(0, |seen| seen.number);
+        let seen = number(guard.value());
         if turn % 16 == 0 {
             thread::yield_now();
         }
         if guard
-            .exchange(0, Tally::of(counts, u64::wrapping_add(number, 1))?)
+            .exchange(0, Tally::of(counts, u64::wrapping_add(seen, 1))?)
             .is_ok()
         {
             done = u64::wrapping_add(done, 1);
@@ -102,7 +110,7 @@ fn last(blocks: &Blocks<Tally, OfRows>) -> Option<u64>
     let mut registration = Registration::new(blocks, &CHOSEN).ok()?;
     let mut guard = registration.enter();
     guard.see(0);
-    guard.value().map(|seen| seen.number)
+    Some(number(guard.value()))
 }
 
 /// Two of them over one memory, which ends then; answers how often both of them counted on, and the last number.
@@ -144,16 +152,10 @@ fn takes_turns(
     let mut second = two.enter();
     let put = first.exchange(0, Tally::of(counts, 1)?).is_ok();
     let refused = second.exchange(0, Tally::of(counts, 2)?).is_err();
-    let seen = second.value().map_or(0, |seen| seen.number);
+    let seen = number(second.value());
     let replaced = second.exchange(0, Tally::of(counts, 3)?).is_ok();
     first.see(0);
-    Some((
-        put,
-        refused,
-        seen,
-        replaced,
-        first.value().map_or(0, |seen| seen.number),
-    ))
+    Some((put, refused, seen, replaced, number(first.value())))
 }
 
 #[test]
