@@ -148,8 +148,9 @@ module _ {T : Type 0} (defers : T → Option ℕ) (fixed : Fixed) (s : State T (
   known_there (Made c) b is names =
       subst (λ (a : ℕ). IsSome (value_at w.memory a)) names (kept_there defers fixed.batch_size w r c (IsHad (of_users w.hand c (world.Making id) tt is)))
   known_there (Seen c) b is names = subst (λ (a : ℕ). IsSome (value_at w.memory a)) names (kept_there defers fixed.batch_size w r c (IsHeld t is))
-  known_there (Both c a) b is (inl names) = known_there (Made c) b is.0 names
-  known_there (Both c a) b is (inr names) = known_there (Seen a) b is.1 names
+  known_there (Both c a) b is (inl names) =
+      subst (λ (k : ℕ). IsSome (value_at w.memory k)) names (kept_there defers fixed.batch_size w r c (IsHad (of_users w.hand c (world.Making id) tt is.0)))
+  known_there (Both c a) b is (inr names) = subst (λ (k : ℕ). IsSome (value_at w.memory k)) names (kept_there defers fixed.batch_size w r a (IsHeld t is.1))
   known_there (Cut c) b is names =
       subst (λ (a : ℕ). IsSome (value_at w.memory a)) names (kept_there defers fixed.batch_size w r c (IsHad (of_users w.hand c (world.Cutting id) tt is)))
 

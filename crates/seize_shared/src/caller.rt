@@ -189,10 +189,11 @@ impl<'a, T: Defers> Caller<'a, T> {
         ensures other { IfErr result (λ now. (self.new.seat.view ≡ Inside _slot (made_beside block now)) × (now < 2 ^ 53)) }
         ensures blocks { self.new.blocks ≡ self.old.blocks }
     {
-        let (old, new) = (Link::to(seen), Link::to(block));
+        let there = Link::to(seen);
+        let word = Link::to(block);
         match self
             .blocks
-            .exchange(&mut self.seat, At::Root(root), old, new)
+            .exchange(&mut self.seat, At::Root(root), there, word)
         {
             Ok(_) => Ok(()),
             Err(word) => Err(Link::block_of(word)),
