@@ -72,6 +72,7 @@ module _ {T : Type 0} (defers : T → Option ℕ) where
   none_rewrites Rests = tt
   none_rewrites (Registers c) = registering_none c c.stands
   none_rewrites (Outside t) = tt
+  none_rewrites (Owes t b) = tt
   none_rewrites (Enters t) = tt
   none_rewrites (Inside t has) = tt
   none_rewrites (Settles c why seen left) = settling_none c c.stands
