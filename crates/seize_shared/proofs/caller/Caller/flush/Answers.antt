@@ -11,11 +11,11 @@ turn-requires-clause-may g c =
     let x = c.args.self.now in let i = c.requires.inside in
     may_flush g.T.Defers.defers x.blocks.now.words.fixed x.seat.id x.seat.view c.args.slot i.0 i.1 i.2
 
-pub ends-requires-clause-begun : goal.ends-requires-clause-begun
-ends-requires-clause-begun g c =
+pub ends-requires : goal.ends-requires
+ends-requires g c =
     let x = c.args.self.now in let fixed = x.blocks.now.words.fixed in let i = c.requires.inside in
     let row : c.flush.result ≡ flushing c.args.slot fixed.batch_size = c.flush.ensures ∙ ap (flushing c.args.slot) (sym x.sized) in
-    (Active, flushes_told fixed x.seat.view c.turn.new.seat.view c.args.slot i.0 c.flush.result i.1 i.2 c.turn.ensures.goes row)
+    record { begun = (Active, flushes_told fixed x.seat.view c.turn.new.seat.view c.args.slot i.0 c.flush.result i.1 i.2 c.turn.ensures.goes row) }
 
 pub returns-clause-inside : goal.returns-clause-inside
 returns-clause-inside g c =

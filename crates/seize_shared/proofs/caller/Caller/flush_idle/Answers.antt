@@ -11,11 +11,11 @@ turn-requires-clause-may g c =
     let x = c.args.self.now in let i = c.requires.outside in
     may_flush_idle g.T.Defers.defers x.blocks.now.words.fixed x.seat.id x.seat.view c.args.slot i
 
-pub ends-requires-clause-begun : goal.ends-requires-clause-begun
-ends-requires-clause-begun g c =
+pub ends-requires : goal.ends-requires
+ends-requires g c =
     let x = c.args.self.now in let fixed = x.blocks.now.words.fixed in let i = c.requires.outside in
     let row : c.flush.result ≡ flushing c.args.slot fixed.batch_size = c.flush.ensures ∙ ap (flushing c.args.slot) (sym x.sized) in
-    (Idle, flushes_idle_told fixed x.seat.view c.turn.new.seat.view c.args.slot c.flush.result i c.turn.ensures.goes row)
+    record { begun = (Idle, flushes_idle_told fixed x.seat.view c.turn.new.seat.view c.args.slot c.flush.result i c.turn.ensures.goes row) }
 
 pub returns-clause-outside : goal.returns-clause-outside
 returns-clause-outside g c =

@@ -11,13 +11,13 @@ pub turn-requires-clause-may : goal.turn-requires-clause-may
 turn-requires-clause-may g c =
     let x = c.args.self.now in may_retire_idle g.T.Defers.defers x.blocks.now.words.fixed x.seat.id x.seat.view c.args.slot c.args.block c.requires.owes
 
-pub ends-requires-clause-begun : goal.ends-requires-clause-begun
-ends-requires-clause-begun g c =
+pub ends-requires : goal.ends-requires
+ends-requires g c =
     let x = c.args.self.now in let fixed = x.blocks.now.words.fixed in
     let row : c.retire.result ≡ retiring c.args.slot fixed.batch_size (link_to c.args.block) =
     c.retire.ensures ∙ ap (λ (n : ℕ). retiring c.args.slot n c.to.result) (sym x.sized)
     ∙ ap (retiring c.args.slot fixed.batch_size) (c.to.ensures ∙ whole_link c.args.block c.requires.fits) in
-    (Idle, retires_idle_told fixed x.seat.view c.turn.new.seat.view c.args.slot c.args.block c.retire.result c.requires.owes c.turn.ensures.goes row)
+    record { begun = (Idle, retires_idle_told fixed x.seat.view c.turn.new.seat.view c.args.slot c.args.block c.retire.result c.requires.owes c.turn.ensures.goes row) }
 
 pub returns-clause-outside : goal.returns-clause-outside
 returns-clause-outside g c =
