@@ -22,7 +22,7 @@ use Rattle.papaya_folded.specs.Given.Schedules.declared.outcome.Outcome.TheVaria
 use Rattle.papaya_folded.specs.Given.Schedules.After.{moment, slots_on}
 use Rattle.papaya_folded.specs.Given.Schedules.Beginning.{begun}
 use Rattle.papaya_folded.specs.Given.Schedules.Effects.{AtEachEffect}
-use Rattle.papaya_folded.specs.Given.Schedules.Entry.{Entry, acted_on, speaker}
+use Rattle.papaya_folded.specs.Given.Schedules.Entry.{Entry, speaker}
 use Rattle.papaya_folded.specs.Given.Schedules.Handing.{asks_for_bucket, gives_all, is_only, is_reclaiming, may_do}
 use Rattle.papaya_folded.specs.Given.Schedules.InTurn.{ComesRight}
 use Rattle.papaya_folded.specs.Given.Schedules.Lives.{Finds}
@@ -95,17 +95,6 @@ module _ {K V : Type 0} where
   all_facts_of (Flush guard) of on = (refl, refl)
   all_facts_of (DropGuard guard) of on = (refl, refl)
   all_facts_of _ of on = absurd (cc (of, on))
-
-  -- it begins nothing, acts on no map, and leaves what it is asked when everything is reclaimed
-  on_no_map : (event : Event K V) (outcome : Outcome V) (m : Moment K V) → is_of_rows event ≡ true → is_of_slots event ≡ true → (begun event outcome m ≡ m) × (acted_on event m ≡ None)
-  on_no_map (Register registration) outcome m of on = (refl, refl)
-  on_no_map (Unregister registration) outcome m of on = (refl, refl)
-  on_no_map (Enter guard registration) outcome m of on = (refl, refl)
-  on_no_map (Own guard) outcome m of on = (refl, refl)
-  on_no_map (Refresh guard) outcome m of on = (refl, refl)
-  on_no_map (Flush guard) outcome m of on = (refl, refl)
-  on_no_map (DropGuard guard) outcome m of on = (refl, refl)
-  on_no_map _ outcome m of on = absurd (cc (of, on))
 
   -- what it may do is to reclaim, or to ask for a bucket
   one_of_row : (event : Event K V) → is_of_rows event ≡ true → is_of_slots event ≡ true → (m : Moment K V) (f : Effect) → may_do event m f ≡ true → (is_reclaiming f || asks_for_bucket f) ≡ true

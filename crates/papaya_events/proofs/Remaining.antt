@@ -29,7 +29,6 @@ use Rattle.papaya_scheduler.specs.Reclaiming.{MayGiveAll}
 use Rattle.papaya_folded.specs.Given.Named.Seen.{named, named_of}
 use Rattle.papaya_scheduler.specs.declared.scheduler.Scheduler.{Scheduler}
 use Rattle.papaya_mapping.proofs.MapLists.{all_back, all_seen}
-use Rattle.papaya_events.specs.Asked.{Holds}
 use Rattle.papaya_scheduler.specs.Given.Executor.IsThere.{IsThere, held_by}
 use Rattle.papaya_folded.specs.Given.Scenes.Scene.{Scene}
 
@@ -136,9 +135,3 @@ module _ {K V S : Type 0} (same : K → K → Bool) (hash : K → ℕ) (terms : 
           ending = λ j f is. absurd (let none = enders_here j in cc (none, is));
         };
       }
-
--- What holds of a scheduler holds in whichever scene it stands for the moment.
-pub holds_in : {K V S : Type 0} (same : K → K → Bool) (hash : K → ℕ) (terms : Terms) (m : Moment K V) (p : Scheduler K V S) → Holds same hash terms m p → (plays : StandsFor same hash terms m p)
-    → (there : Holds same hash terms m p) × (there.stands ≡ plays)
-holds_in same hash terms m p holds plays =
-    (record { stands = plays; lawful = holds.lawful; counts = holds.counts; gives = gives_all same hash terms m p plays holds.counts.apart.numbers.found }, refl)

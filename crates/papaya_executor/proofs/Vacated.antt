@@ -20,11 +20,3 @@ one_more before slots slots2 k so is = (λ t below. by t below (cases_eq t k), a
     by : (t : ℕ) → t < k + 1 → (t ≡ k) ⊎ (t ≢ k) → slice_index_or slots2 t Vacant ≡ Vacant
     by t below (inl e) = ap (λ xs. slice_index_or xs t Vacant) is ∙ ap (λ (x : ℕ). slice_index_or (slice_set slots k Vacant) x Vacant) e ∙ set_vacant slots k (cases_lt k (length slots))
     by t below (inr ne) = ap (λ xs. slice_index_or xs t Vacant) is ∙ get_or-set_other slots k t Vacant Vacant ne ∙ so.0 t (omega (arith, below, ne))
-
--- at the end all are
-pub all_vacant : (before slots : List SlotUse) (k : ℕ) → length before ≤ k → AreVacant k before slots → (t : ℕ) → slice_index_or slots t Vacant ≡ Vacant
-all_vacant before slots k long so t = by (cases_lt t k)
-  where
-    by : (t < k) ⊎ (k ≤ t) → slice_index_or slots t Vacant ≡ Vacant
-    by (inl below) = so.0 t below
-    by (inr past) = get_or_past slots t Vacant (omega (arith, past, long, so.1))

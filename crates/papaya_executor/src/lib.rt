@@ -4,7 +4,6 @@
 pub mod beginning;
 pub mod ending;
 pub mod executor;
-pub mod law;
 pub mod making;
 pub mod on_slots;
 pub mod replying;

@@ -1,5 +1,5 @@
 -- What is retired at a moment of a run is in as many blocks, each of which is retired in the memory: so it is bounded as these are.
-use Rattle.std.specs.Prelude.{◌≡◌, ℕ, zero, suc, ◌+◌, ◌-◌, ◌*◌, ◌<◌, ◌≤◌, ◌==◌, ◌⊎◌, max, Bool, true, false, not, cond, ◌||◌, List, [], ◌∷◌, length, filter}
+use Rattle.std.specs.Prelude.{◌≡◌, ℕ, zero, suc, ◌+◌, ◌-◌, ◌*◌, ◌<◌, ◌≤◌, ◌==◌, ◌⊎◌, max, Bool, true, false, cond, ◌||◌, List, [], ◌∷◌, length, filter}
 use Rattle.std.specs.List.{AllByRecursion, list_any}
 use Rattle.std.proofs.Common.{refl, ap, sym, subst, ◌∙◌, arith, inl, inr}
 use Rattle.std.proofs.lemmas.Bool.{cases_eq, eq-eqb, ne_eqb}
@@ -17,8 +17,7 @@ use Rattle.papaya_settles.proofs.Given.Spots.Unreclaimed.{same_itself}
 use Rattle.papaya_settles.specs.Given.Effects.Known.{Known}
 use Rattle.papaya_settles.specs.Given.Effects.declared.role.Role.TheVariants as role
 use Rattle.papaya_finds.specs.Waiting.{once_if}
-use Rattle.papaya_finds.specs.Bounded.{TablesApart, HasRetiredTable, ShowsRetired, LittleWaits, NothingRetiredOnceReclaimed}
-use Rattle.papaya_finds.proofs.Lists.{all_so, each_passes}
+use Rattle.papaya_finds.specs.Bounded.{TablesApart, HasRetiredTable, ShowsRetired, LittleWaits}
 
 -- so many blocks, none of them twice, of each of which this is so
 record Blocks (Q : ℕ → Type 0) (many : ℕ) : Type 0 where
@@ -146,19 +145,3 @@ little_waits K V batch_size m known w word came nobody shows =
     (λ b some. retired m known w shows (length m.stored) pairs m.tables b (all.each b some)) in
     let same : max (max batch_size m.slots) 1 ≡ max batch_size (max m.slots 1) = omega arith in
     subst (λ (q : ℕ). waiting_things m ≤ m.slots * (q - 1)) same (subst (λ (q : ℕ). q ≤ m.slots * (max (max batch_size m.slots) 1 - 1)) all.counted most)
-
-pub nothing_retired_once_reclaimed : (K V : Type 0) → NothingRetiredOnceReclaimed K V
-nothing_retired_once_reclaimed K V m known w shows none left = record {
-  pairs = λ n. pair n (is_handed (m.place n)) refl;
-  tables = each_passes (λ u. not (is_retired u.stage)) m.tables
-      (all_so (λ u. is_retired u.stage ≡ true → HasRetiredTable m known w u) (λ u. not (is_retired u.stage) ≡ true) (λ u has. table u has (is_retired u.stage) refl) m.tables shows.tables);
-  left = left;
-}
-  where
-    pair : (n : ℕ) (q : Bool) → is_handed (m.place n) ≡ q → is_handed (m.place n) ≡ false
-    pair n true e = absurd (let has = shows.pairs n e in let is = has.2 in let is_not = none has.0 in cc (is, is_not))
-    pair n false e = e
-
-    table : (u : TableThere) → (is_retired u.stage ≡ true → HasRetiredTable m known w u) → (q : Bool) → is_retired u.stage ≡ q → not (is_retired u.stage) ≡ true
-    table u has true e = absurd (let its = has e in let is = its.3 in let is_not = none its.0 in cc (is, is_not))
-    table u has false e = ap not e

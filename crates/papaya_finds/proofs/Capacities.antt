@@ -32,7 +32,7 @@ use Rattle.papaya_settles.specs.Given.Finishes.Machines.{StandsOn}
 use Rattle.papaya_settles.specs.Given.Finishes.Maps.{Standing, IsSameMap}
 use Rattle.papaya_settles.proofs.Given.Follows.Steps.{one_of}
 use Rattle.papaya_settles.specs.Given.Others.Makings.{making_after}
-use Rattle.papaya_finds.specs.Capacities.{ShowsCapacities, StoodSo, GivenAreFor, CapacitiesBegin, CapacitiesStay, EffectsKeepCapacities, SameMapsStood, CallsKeepCapacities, MakingsKeepCapacities}
+use Rattle.papaya_finds.specs.Capacities.{ShowsCapacities, StoodSo, GivenAreFor, CapacitiesStay, EffectsKeepCapacities, SameMapsStood, CallsKeepCapacities, MakingsKeepCapacities}
 use Rattle.papaya_finds.specs.Linking.{IsMadeFor}
 use Rattle.papaya_settles.specs.Given.Scenes.Held.{Held}
 use Rattle.papaya_settles.specs.Given.Scenes.Making.{MakingComesTo}
@@ -82,9 +82,6 @@ given_are_for K V m number f is none given initial_is =
     (subst (Has (entries_of f.capacity)) (sym initial_is) (places_are_for f.mode f.capacity none))
 
 -- So it stays.
-
-pub capacities_begin : (K V : Type 0) → CapacitiesBegin K V
-capacities_begin K V roots map standing is = absurd (cc is)
 
 -- it is made for a capacity with so many entries
 made_as : (capacity other initial entries : ℕ) → other ≡ capacity → entries ≡ initial → Has (entries_of capacity) initial → Has (entries_of other) entries

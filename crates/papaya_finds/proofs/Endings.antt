@@ -28,7 +28,7 @@ use Rattle.papaya_settles.proofs.Given.Follows.Calling.{is_same_refl, is_same_is
 use Rattle.papaya_settles.proofs.Given.Others.EndBegins.{found_still}
 use Rattle.papaya_settles.proofs.Given.Others.Leads.{same_parts}
 use Rattle.papaya_settles.proofs.Given.Spots.Unreclaimed.{same_itself}
-use Rattle.papaya_finds.specs.Endings.{AreNamed, MakesNew, NamedAtFirst, EventsKeepNamed, EventsKeepRoots, EventsKeepSomewhere}
+use Rattle.papaya_finds.specs.Endings.{AreNamed, MakesNew, EventsKeepNamed, EventsKeepRoots, EventsKeepSomewhere}
 use Rattle.papaya_finds.specs.TornDown.{StoredAreSomewhere}
 use Rattle.papaya_finds.specs.Waiting.{is_unborn, once_if, PairsArePlaced}
 use Rattle.papaya_finds.proofs.Lists.{any_kept, any_kept_among, all_so, all_both, each_is, each_among}
@@ -93,9 +93,6 @@ number_at f = f.number
 
 abbrev pub same_number : ℕ → ℕ → Bool
 same_number a b = a == b
-
-pub named_at_first : (K V : Type 0) → NamedAtFirst K V
-named_at_first K V = tt
 
 module _ {K V : Type 0} where
   pub one_named : (caller : Option (List ℕ)) (acted : Option ℕ) (f : Effect) (m : Moment K V) → AreNamed m → AreNamed (with_effect caller acted f m)

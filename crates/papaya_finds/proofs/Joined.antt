@@ -20,7 +20,6 @@ use Rattle.papaya_settles.specs.Given.Schedules.Views.{call_of}
 use Rattle.papaya_settles.specs.Given.Follows.Finds.{FindsMap}
 use Rattle.papaya_settles.proofs.Given.Follows.Calls.{changed_same}
 use Rattle.papaya_owes.specs.Events.{FindsMade}
-use Rattle.papaya_owes.proofs.Effects.{value_there}
 use Rattle.papaya_owes.proofs.Events.{several_find}
 use Rattle.papaya_owes.proofs.Fields.{its_effect}
 use Rattle.papaya_settles.specs.Owing.{FindsOwed}
@@ -28,7 +27,7 @@ use Rattle.papaya_settles.specs.Shards.{is_counting}
 use Rattle.papaya_settles.proofs.Given.Spots.Unreclaimed.{and_both}
 use Rattle.papaya_finds.proofs.Life.{each_so}
 use Rattle.papaya_finds.proofs.Over.{acts}
-use Rattle.papaya_finds.specs.Joined.{FindParts, PartsAreAll, SeveralFindAll, EventsFindAll, PairsAreAskedFor}
+use Rattle.papaya_finds.specs.Joined.{FindParts, PartsAreAll, SeveralFindAll, EventsFindAll}
 use Rattle.papaya_finds.specs.Parts.{FindsPlace, FindsAhead, FindsRest, FindsAll, FindOwed, FindRest, FindAll}
 
 module _ {K V : Type 0} (terms : Terms) (moments : List (Moment K V)) where
@@ -110,21 +109,3 @@ module _ {K V : Type 0} (terms : Terms) (moments : List (Moment K V)) where
   pub valued_grows : (its : Call K V) (c : CallThere K V) → has_value_for its c ≡ true → MayGrow terms its c moments
   valued_grows (call.Reserve more) c e = absurd (cc e)
   valued_grows _ c e = inl e
-
-pub pairs_are_asked_for : (K V : Type 0) → PairsAreAskedFor K V
-pairs_are_asked_for K V terms moments all own map m c c_is made = (
-  valued_grows terms all c.call c valued,
-  (
-    subst (ByCall (FindsRest terms moments m (effect.Asked ABlock))) (sym c_is) (valued_grows terms (m ∷ moments) c.call c valued),
-    (subst (ByCall (FindsRest terms moments made_at effect.PairMade)) (sym made_is) tt, tt),
-  ),
-)
-  where
-    made_at : Moment K V
-    made_at = with_effect (Some own) (Some map) (effect.Asked ABlock) m
-
-    made_is : call_of own made_at ≡ Some (call_by m (effect.Asked ABlock) c)
-    made_is = its_effect own map (effect.Asked ABlock) m c c_is
-
-    valued : has_value_for c.call c ≡ true
-    valued = value_there ABlock m c.call c ∙ (subst (ByCall (FindsMade terms moments made_at effect.PairMade)) made_is made.1.0).2

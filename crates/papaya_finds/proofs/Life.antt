@@ -13,9 +13,8 @@ use Rattle.papaya_settles.specs.Given.Schedules.Moment.{Place, Unborn, InMap, Ou
 use Rattle.papaya_settles.specs.Given.Schedules.Terms.{Terms}
 use Rattle.papaya_settles.specs.Given.Schedules.Things.{same_thing}
 use Rattle.papaya_settles.specs.Given.Schedules.Views.{is_in_a_map}
-use Rattle.papaya_finds.specs.Life.{StoresOne, LifeFindsPlaced, LifeKeepsPlaced}
+use Rattle.papaya_finds.specs.Life.{StoresOne, LifeFindsPlaced}
 use Rattle.papaya_finds.specs.Waiting.{is_let_go, FindsPlaced}
-use Rattle.papaya_finds.proofs.Placed.{effects_keep_placed}
 
 let_go : (everything : Bool) (p : Place) → MayReclaim everything p → is_let_go p ≡ true
 let_go everything Handed may = refl
@@ -104,9 +103,3 @@ pub each_so : {K V : Type 0} (P Q : Moment K V → Effect → Type 0) → ((m : 
     → AtEachEffect P caller acted effects m → AtEachEffect Q caller acted effects m
 each_so P Q so caller acted [] m all = tt
 each_so P Q so caller acted (f ∷ effects) m all = (so m f all.0, each_so P Q so caller acted effects (with_effect caller acted f m) all.1)
-
-pub life_keeps_placed : (K V : Type 0) → LifeKeepsPlaced K V
-life_keeps_placed K V terms caller acted everything moments effects m finds h =
-    effects_keep_placed K V caller acted effects m
-    (each_so (λ v f. Finds terms caller acted everything moments v f × StoresOne caller v f) (FindsPlaced caller) (λ v f its. life_finds_placed K V terms caller acted everything moments v f its.0 its.1)
-    caller acted effects m finds) h

@@ -256,9 +256,6 @@ module _ {K V : Type 0} (same : K → K → Bool) (hash : ℕ → K → ℕ) (na
   on_map : AtEachEffect (FindsMap map) (Some (name i)) (Some map) effects m
   on_map = (steps_find_places K V same hash name m known s old new at whole map i (OnKey u) here said leads).0
 
-  abbrev IsTheirs : Effect → Type 0
-  IsTheirs f = FindsShape terms moments m f c
-
   module _ (p : Planned) (effects_are : effects ≡ effect.Linked (of_map map p) (shape_of p) ∷ []) (had : table_made (making_in_calling u.call.stands) ≡ Some p) where
     -- it comes next
     turn_is : p.turn ≡ many_of map m

@@ -1,5 +1,5 @@
 -- The promise `little` of an event, by what is so of the moment after it.
-use Rattle.std.specs.Prelude.{◌≡◌, ◌<◌, ◌^◌, Bool, true, false, MatchBool, List, [], ◌∷◌, flat_map}
+use Rattle.std.specs.Prelude.{◌≡◌, ◌<◌, ◌^◌, Bool, true, false, MatchBool, List, ◌∷◌, flat_map}
 use Rattle.std.proofs.Common.{refl}
 use Rattle.papaya_settles.specs.Given.Seize.World.{World}
 use Rattle.papaya_settles.specs.Given.Tables.declared.node.Node.{Node}
@@ -8,7 +8,7 @@ use Rattle.papaya_settles.specs.Given.Schedules.declared.event.Event.{Event}
 use Rattle.papaya_settles.specs.Given.Schedules.declared.event.Event.TheVariants.{ReclaimAll, Close}
 use Rattle.papaya_settles.specs.Given.Schedules.declared.outcome.Outcome.{Outcome}
 use Rattle.papaya_settles.specs.Given.Schedules.declared.outcome.Outcome.TheVariants.{Done}
-use Rattle.papaya_settles.specs.Given.Schedules.After.{after, moment, AtEachEvent}
+use Rattle.papaya_settles.specs.Given.Schedules.After.{after, moment}
 use Rattle.papaya_settles.specs.Given.Schedules.Entry.{Entry}
 use Rattle.papaya_settles.specs.Given.Schedules.Lists.{is_empty}
 use Rattle.papaya_settles.specs.Given.Schedules.Model.{thing_back, all_left}
@@ -16,10 +16,9 @@ use Rattle.papaya_settles.specs.Given.Schedules.Moment.{Moment}
 use Rattle.papaya_settles.specs.Given.Schedules.Reclaims.{is_quiescent, ComesLast, IsBounded, IsOrderly, IsEmptied, IsTornDown, IfAll, LeavesLittle}
 use Rattle.papaya_settles.specs.Given.Schedules.Terms.{Terms}
 use Rattle.papaya_settles.specs.Given.Effects.Known.{Known}
-use Rattle.papaya_finds.specs.Little.{WhereAll, AllIsBack, ReclaimsAll, OverIsBack, ShowsNobody, EventsLeaveLittle, RunsLeaveLittle}
-use Rattle.papaya_finds.specs.Within.{AllIsInOrder, GoesInOrder}
-use Rattle.papaya_finds.proofs.Closed.{none_there, over_stays_back}
-use Rattle.papaya_finds.proofs.Runs.{runs_are_in_order}
+use Rattle.papaya_finds.specs.Little.{WhereAll, AllIsBack, ReclaimsAll, OverIsBack, ShowsNobody, EventsLeaveLittle}
+use Rattle.papaya_finds.specs.Within.{AllIsInOrder}
+use Rattle.papaya_finds.proofs.Closed.{none_there}
 use Rattle.papaya_finds.specs.Orderly.{WaitsInOrder}
 use Rattle.papaya_finds.proofs.Bounded.{little_waits}
 use Rattle.papaya_finds.proofs.Orderly.{orderly_at_rest, emptied_once_reclaimed}
@@ -64,17 +63,3 @@ module _ {K V : Type 0} where
 
 pub events_leave_little : (K V : Type 0) → EventsLeaveLittle K V
 events_leave_little K V terms log e known w word h reclaims over shows = leaves terms log e known w word h reclaims over shows
-
-module _ {K V : Type 0} (terms : Terms) where
-  -- so it is once the collector has ended, at each moment
-  over_at_each : (log : List (Entry K V)) → AtEachEvent (λ before f. GoesInOrder terms before f × ReclaimsAll before f) log → OverIsBack (moment log)
-  over_at_each [] all closed = absurd (cc closed)
-  over_at_each (e ∷ log) all closed = over_stays_back K V terms log e all.0.0 all.0.1 (over_at_each log all.1) closed
-
-  only_order : (log : List (Entry K V)) → AtEachEvent (λ before f. GoesInOrder terms before f × ReclaimsAll before f) log → AtEachEvent (GoesInOrder terms) log
-  only_order [] all = tt
-  only_order (e ∷ log) all = (all.0.0, only_order log all.1)
-
-pub runs_leave_little : (K V : Type 0) → RunsLeaveLittle K V
-runs_leave_little K V terms log e known w word all shows =
-    events_leave_little K V terms log e known w word (runs_are_in_order K V terms (e ∷ log) (only_order terms (e ∷ log) all)).0 all.0.1 (over_at_each terms (e ∷ log) all) shows

@@ -22,7 +22,7 @@ use Rattle.papaya_settles.proofs.Given.Spots.Effects.{aside_all, spot_copied_oth
 use Rattle.papaya_settles.proofs.Given.Spots.Elsewhere.{stored_grows}
 use Rattle.papaya_finds.specs.Parts.{FindsPlace, FindPlacesOf}
 use Rattle.papaya_finds.proofs.Grown.{comes_on}
-use Rattle.papaya_finds.specs.Past.{HasLeftMaps, IsPastRoot, FindsOnward, EffectsLeavePast, CallsFindOnward}
+use Rattle.papaya_finds.specs.Past.{HasLeftMaps, FindsOnward, CallsFindOnward}
 
 itself : (n : ℕ) → n ≤ n
 itself n = omega arith
@@ -93,21 +93,6 @@ module _ {K V : Type 0} (who : Option (List ℕ)) (acted : Option ℕ) where
   left_still f m finds n left =
       let more : length m.stored ≤ length (with_effect who acted f m).stored = stored_grows who acted (f ∷ []) m in
       ((let l = left.0 in omega (arith, l, more)), stays_out acted f m finds n left.0 left.1)
-
-  one_past : (f : Effect) (m : Moment K V) → FindsNumbers m f → FindsOnward acted m f → (map n : ℕ) → HasLeftMaps m n → IsPastRoot map m n
-      → HasLeftMaps (with_effect who acted f m) n × IsPastRoot map (with_effect who acted f m) n
-  one_past f m finds on map n left past =
-      let same = kept f m finds on n left in (
-        left_still f m finds n left,
-        subst (λ (s : Spot). IsPast ((with_effect who acted f m).born n).turn s.turn (first_of map (with_effect who acted f m))) (sym same.1)
-            (subst (λ (b : Table). IsPast b.turn (m.spot n).turn (first_of map (with_effect who acted f m))) (sym same.0)
-            (past_on (m.born n).turn (m.spot n).turn (first_of map m) (first_of map (with_effect who acted f m)) (goes_on f m on map) past)),
-      )
-
-pub effects_leave_past : (K V : Type 0) → EffectsLeavePast K V
-effects_leave_past K V who acted [] m finds on map n left past = (left, past)
-effects_leave_past K V who acted (f ∷ fs) m finds on map n left past =
-    let one = one_past who acted f m finds.0 on.0 map n left past in effects_leave_past K V who acted fs (with_effect who acted f m) finds.1 on.1 map n one.0 one.1
 
 module _ {K V : Type 0} (own : List ℕ) (map : ℕ) where
   one_onward : (f : Effect) (m : Moment K V) (c : CallThere K V) → FindsMap map m f → FindsPlace map m f c → FindsOnward (Some map) m f

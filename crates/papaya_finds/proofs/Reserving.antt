@@ -38,7 +38,7 @@ use Rattle.papaya_settles.proofs.Given.Follows.Steps.{one_of}
 use Rattle.papaya_settles.proofs.Given.Others.Outcomes.{told_in}
 use Rattle.papaya_owes.specs.Making.{making_in_reserving}
 use Rattle.papaya_owes.proofs.Walks.{reserve_makes}
-use Rattle.papaya_finds.specs.Reserving.{FitsAt, ReservesAt, SumTells, MakesFirst, RoomsKeepCount, RoomsCountOn, RoomsMayAsk}
+use Rattle.papaya_finds.specs.Reserving.{FitsAt, ReservesAt, SumTells, MakesFirst, RoomsKeepCount, RoomsMayAsk}
 use Rattle.papaya_finds.proofs.Grows.Asked.{Asks, made_of, may_ask}
 use Rattle.papaya_settles.proofs.Given.Scenes.Told.{as_step}
 
@@ -49,11 +49,6 @@ module _ {X : Type 0} where
   one_as P Q each (x ∷ xs) (inl here) = inl (each x here)
   one_as P Q each (x ∷ xs) (inr there) = inr (one_as P Q each xs there)
 
-  one_before : (P : X → Type 0) (xs : List X) (y : X) → OneOf P xs → OneOf P (xs ++ y ∷ [])
-  one_before P [] y one = absurd one
-  one_before P (x ∷ xs) y (inl here) = inl here
-  one_before P (x ∷ xs) y (inr there) = inr (one_before P xs y there)
-
 module _ {K V : Type 0} (of : ℕ) (moments : List (Moment K V)) (x : Moment K V) where
   pub adds_after : (s sum : ℕ) → AddsUp of moments s sum → AddsUp of (x ∷ moments) s sum
   adds_after zero sum adds = adds
@@ -61,24 +56,8 @@ module _ {K V : Type 0} (of : ℕ) (moments : List (Moment K V)) (x : Moment K V
       inr (one_as (λ m. (rest : ℕ) × AddsUp of moments s rest × (sum ≡ rest + m.shards of s)) (λ m. (rest : ℕ) × AddsUp of (x ∷ moments) s rest × (sum ≡ rest + m.shards of s))
       (λ m it. (it.0, adds_after s it.0 it.1, it.2)) moments adds)
 
-  adds_before : (s sum : ℕ) → AddsUp of moments s sum → AddsUp of (moments ++ x ∷ []) s sum
-  adds_before zero sum adds = adds
-  adds_before (suc s) sum adds =
-      one_before (λ m. (rest : ℕ) × AddsUp of (moments ++ x ∷ []) s rest × (sum ≡ rest + m.shards of s)) moments x
-      (one_as (λ m. (rest : ℕ) × AddsUp of moments s rest × (sum ≡ rest + m.shards of s)) (λ m. (rest : ℕ) × AddsUp of (moments ++ x ∷ []) s rest × (sum ≡ rest + m.shards of s))
-      (λ m it. (it.0, adds_before s it.0 it.1, it.2)) moments adds)
-
   fits_after : (p : Reserve) → FitsAt of moments p → FitsAt of (x ∷ moments) p
   fits_after p (n, counts, few) = (n, (counts.0, adds_after (suc p.setting.mask) counts.0 counts.1, counts.2), few)
-
-  fits_before : (p : Reserve) → FitsAt of moments p → FitsAt of (moments ++ x ∷ []) p
-  fits_before p (n, counts, few) = (n, (counts.0, adds_before (suc p.setting.mask) counts.0 counts.1, counts.2), few)
-
-pub rooms_count_on : (K V : Type 0) → RoomsCountOn K V
-rooms_count_on K V of moments x p (at.Follows table need) fits = (fits_after of moments x p fits, fits_before of moments x p fits)
-rooms_count_on K V of moments x p (at.Grows table making) fits = (fits_after of moments x p fits, fits_before of moments x p fits)
-rooms_count_on K V of moments x p (at.Copies copier) fits = (fits_after of moments x p fits, fits_before of moments x p fits)
-rooms_count_on K V of moments x p _ fits = (tt, tt)
 
 not_less : (a b : ℕ) → b ≤ a → nat_lt a b ≡ false
 not_less a b l = grind (arith, l)

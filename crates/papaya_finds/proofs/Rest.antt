@@ -1,23 +1,17 @@
 -- What is left of what effects of calls find is made up by three parts.
-use Rattle.std.specs.Prelude.{◌≡◌, ℕ, false, List, [], ◌∷◌, Option, Some, None}
-use Rattle.std.specs.List.{list_any}
-use Rattle.std.proofs.Common.{sym, subst}
+use Rattle.std.specs.Prelude.{◌≡◌, ℕ, List, [], ◌∷◌, Option, Some, None}
 use Rattle.papaya_settles.specs.Given.Schedules.declared.effect.Effect.{Effect}
 use Rattle.papaya_settles.specs.Given.Schedules.declared.effect.Effect.TheVariants as effect
 use Rattle.papaya_settles.specs.Given.Schedules.declared.effect.Growth.TheVariants.{ABlock, ABucket}
 use Rattle.papaya_settles.specs.Given.Schedules.declared.effect.Thing.TheVariants.{APair, ATable}
-use Rattle.papaya_settles.specs.Given.Schedules.Effects.{call_by, with_effect}
+use Rattle.papaya_settles.specs.Given.Schedules.Effects.{with_effect}
 use Rattle.papaya_settles.specs.Given.Schedules.Entry.{ByCall, acting}
 use Rattle.papaya_settles.specs.Given.Schedules.Moment.{UnderWay as CallThere, Moment}
 use Rattle.papaya_settles.specs.Given.Schedules.Terms.{Terms}
-use Rattle.papaya_settles.specs.Given.Schedules.Views.{call_of}
-use Rattle.papaya_owes.proofs.Fields.{its_effect}
-use Rattle.papaya_settles.specs.Owing.{hands_over}
 use Rattle.papaya_finds.specs.Growing.{FindsAsked, FindAsked}
 use Rattle.papaya_finds.specs.Linking.{FindsShape, FindShapes}
 use Rattle.papaya_finds.specs.Parts.{FindsRest, FindRest}
-use Rattle.papaya_finds.specs.Rest.{FindsHanded, FindHanded, RestIsAll, OthersHandNone}
-use Rattle.papaya_finds.proofs.Quiet.{neither}
+use Rattle.papaya_finds.specs.Rest.{FindsHanded, FindHanded, RestIsAll}
 
 module _ {K V : Type 0} (terms : Terms) (moments : List (Moment K V)) where
   -- by the kind of effect
@@ -43,21 +37,3 @@ module _ {K V : Type 0} (terms : Terms) (moments : List (Moment K V)) where
 
 pub rest_is_all : (K V : Type 0) → RestIsAll K V
 rest_is_all K V terms moments own map effects m asks shape handed = all_joined terms moments own map effects m asks shape handed
-
-module _ {K V : Type 0} where
-  hands_none : (m : Moment K V) (f : Effect) (c : CallThere K V) → hands_over f ≡ false → FindsHanded m f c
-  hands_none m (effect.Deferred n t) c e = absurd (cc e)
-  hands_none m (effect.Retired (APair n)) c e = absurd (cc e)
-  hands_none m (effect.Retired (ATable t)) c e = tt
-  hands_none m _ c e = tt
-
-  all_none : (own : List ℕ) (map : ℕ) (effects : List Effect) (m : Moment K V) (c : CallThere K V) → call_of own m ≡ Some c → list_any hands_over effects ≡ false → FindHanded own map effects m
-  all_none own map [] m c c_is e = tt
-  all_none own map (f ∷ fs) m c c_is e =
-      let both = neither (hands_over f) (list_any hands_over fs) e in (
-        subst (ByCall (FindsHanded m f)) (sym c_is) (hands_none m f c both.0),
-        all_none own map fs (with_effect (Some own) (Some map) f m) (call_by m f c) (its_effect own map f m c c_is) both.1,
-      )
-
-pub others_hand_none : (K V : Type 0) → OthersHandNone K V
-others_hand_none K V own map effects m c c_is e = all_none own map effects m c c_is e

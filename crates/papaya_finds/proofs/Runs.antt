@@ -25,7 +25,7 @@ use Rattle.papaya_settles.proofs.Given.Follows.Calls.{changed_same, changed, of_
 use Rattle.papaya_finds.specs.Endings.{EndsWhole}
 use Rattle.papaya_finds.specs.Events.{ended_by, EndedOwesNone}
 use Rattle.papaya_finds.specs.Life.{StoresOne}
-use Rattle.papaya_finds.specs.Within.{ReadyOweNone, many_of, HasItsMap, AllIsInOrder, ActsOn, GoesInOrder, AllInOrderAtFirst, LifeKeepsOrder, EventsKeepOrder, RunsAreInOrder}
+use Rattle.papaya_finds.specs.Within.{ReadyOweNone, many_of, HasItsMap, AllIsInOrder, ActsOn, GoesInOrder, AllInOrderAtFirst, LifeKeepsOrder, EventsKeepOrder}
 use Rattle.papaya_finds.proofs.Begun.{makes_new, ends_uncalled, all_begun}
 use Rattle.papaya_finds.proofs.Endings.{entry, number_at, same_number, fewer_found, ends_leave_maps, events_keep_named, events_keep_roots, events_keep_somewhere}
 use Rattle.papaya_finds.proofs.Events.{events_keep_placed, events_keep_tables}
@@ -211,7 +211,3 @@ module _ {K V : Type 0} (terms : Terms) (log : List (Entry K V)) where
 pub events_keep_order : (K V : Type 0) → EventsKeepOrder K V
 events_keep_order K V terms log e goes h =
     (then_after terms log e goes h.0 h.1, after_ready terms log e.event e.outcome e.steps e.effects goes h.1 (then_worked terms log e goes h.0 h.1).waits.placed.apart)
-
-pub runs_are_in_order : (K V : Type 0) → RunsAreInOrder K V
-runs_are_in_order K V terms [] all = (all_in_order_at_first K V, tt)
-runs_are_in_order K V terms (e ∷ log) all = events_keep_order K V terms log e all.0 (runs_are_in_order K V terms log all.1)

@@ -11,7 +11,6 @@ use Rattle.papaya_settles.specs.Given.Schedules.Views.{is_retired}
 use Rattle.papaya_settles.specs.Given.Callers.Together.{CameAbout}
 use Rattle.papaya_settles.specs.Given.Effects.Known.{Known}
 use Rattle.papaya_settles.specs.Given.Effects.declared.role.Role.TheVariants as role
-use Rattle.papaya_finds.specs.Orderly.{is_left_over, NothingIsRetired}
 
 -- no table is there twice
 abbrev pub TablesApart : List TableThere → Type 0
@@ -43,8 +42,3 @@ abbrev pub LittleWaits : Type 0 → Type 0 → Type 0
 LittleWaits K V =
     (batch_size : ℕ) (m : Moment K V) (known : Known) (w : World (Node K V)) → batch_size < 2 ^ 64 → CameAbout batch_size w → NobodyIsThere w → ShowsRetired m known w
     → IsBounded batch_size m
-
--- And where nothing is retired in the memory, and nothing is left over, nothing is so at the moment.
-abbrev pub NothingRetiredOnceReclaimed : Type 0 → Type 0 → Type 0
-NothingRetiredOnceReclaimed K V =
-    (m : Moment K V) (known : Known) (w : World (Node K V)) → ShowsRetired m known w → ((b : ℕ) → is_retired_in b w.log ≡ false) → ((n : ℕ) → is_left_over (m.place n) ≡ false) → NothingIsRetired m

@@ -7,7 +7,7 @@ use Rattle.papaya_settles.specs.Given.Raw.declared.machines.progress.Progress.{P
 use Rattle.papaya_settles.specs.Given.Runs.Runs.{map_fault}
 use Rattle.papaya_settles.specs.Given.Schedules.declared.effect.Effect.{Effect}
 use Rattle.papaya_settles.specs.Given.Schedules.Effects.{with_effects}
-use Rattle.papaya_settles.specs.Given.Schedules.Moment.{MapThere, Moment, start}
+use Rattle.papaya_settles.specs.Given.Schedules.Moment.{MapThere, Moment}
 use Rattle.papaya_settles.specs.Given.Schedules.Views.{map_at, capacity_or}
 use Rattle.papaya_settles.specs.Given.Callers.Together.{UnderWay}
 use Rattle.papaya_named.specs.Places.{first_places}
@@ -20,7 +20,7 @@ use Rattle.papaya_settles.specs.Given.Others.Makings.{making_after}
 use Rattle.papaya_finds.specs.Linking.{IsMadeFor}
 use Rattle.papaya_settles.specs.Given.Scenes.Held.{Held}
 use Rattle.papaya_settles.specs.Given.Scenes.Making.{MakingLeads}
-use Rattle.papaya_settles.specs.Given.Scenes.Scene.{Scene, at_first}
+use Rattle.papaya_settles.specs.Given.Scenes.Scene.{Scene}
 use Rattle.papaya_settles.specs.Given.Scenes.Stepping.{StepLeads, scene_after}
 
 abbrev pub ShowsCapacities : {K V : Type 0} → Moment K V → Scene K V → Type 0
@@ -41,11 +41,7 @@ module _ (K V : Type 0) where
       (m : Moment K V) (map : ℕ) (f : MapThere) → map_at map m ≡ Some f → map_fault f.mode f.capacity ≡ None
       → (given : Setting) → given.initial ≡ max (first_places f.capacity) 1 → IsMadeFor map m given
 
-  -- So it is as a run begins,
-  abbrev pub CapacitiesBegin : Type 0
-  CapacitiesBegin = (roots : ℕ) → ShowsCapacities {K = K} {V = V} start (at_first roots)
-
-  -- as long as maps stand that stood before, and have the capacities that they had, as where maps end, or come by other numbers, and where calls begin or are over;
+  -- So it stays as long as maps stand that stood before, and have the capacities that they had, as where maps end, or come by other numbers, and where calls begin or are over;
   abbrev pub CapacitiesStay : Type 0
   CapacitiesStay = (m v : Moment K V) (s t : Scene K V) → ShowsCapacities m s → KeepsCapacities s m v → StoodSo s t → ShowsCapacities v t
 

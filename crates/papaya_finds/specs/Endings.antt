@@ -10,7 +10,7 @@ use Rattle.papaya_settles.specs.Given.Schedules.After.{after}
 use Rattle.papaya_settles.specs.Given.Schedules.Effects.{worked}
 use Rattle.papaya_settles.specs.Given.Schedules.Entry.{Entry}
 use Rattle.papaya_settles.specs.Given.Schedules.Handing.{may_do, IsWhole}
-use Rattle.papaya_settles.specs.Given.Schedules.Moment.{Moment, start}
+use Rattle.papaya_settles.specs.Given.Schedules.Moment.{Moment}
 use Rattle.papaya_settles.specs.Given.Schedules.Reclaims.{is_kept}
 use Rattle.papaya_settles.specs.Given.Schedules.Views.{map_of}
 use Rattle.papaya_settles.specs.Given.Moments.Numbers.{AreFound}
@@ -34,11 +34,7 @@ module _ {K V : Type 0} where
     pub may : list_all (may_do e.event m) e.effects ≡ true
     pub whole : IsWhole e.event e.outcome e.effects m (worked e m)
 
--- The promises: maps are named before all events,
-abbrev pub NamedAtFirst : Type 0 → Type 0 → Type 0
-NamedAtFirst K V = AreNamed (start {K = K} {V = V})
-
--- and after each;
+-- The promises: so it is after each event;
 abbrev pub EventsKeepNamed : Type 0 → Type 0 → Type 0
 EventsKeepNamed K V = (e : Entry K V) (m : Moment K V) → AreNamed m → MakesNew e.event e.outcome m → AreNamed (after e m)
 

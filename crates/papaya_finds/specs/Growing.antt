@@ -1,5 +1,5 @@
 -- For what a call on one key makes a table: it has what it stores where its key is missing, and so it may ask for each block that it makes.
-use Rattle.std.specs.Prelude.{◌≡◌, ◌≢◌, ℕ, suc, ◌<◌, ◌≤◌, Bool, false, List, ◌∷◌, Option, Some, None, ◌⊎◌}
+use Rattle.std.specs.Prelude.{◌≡◌, ◌≢◌, ℕ, suc, ◌<◌, ◌≤◌, Bool, false, List, ◌∷◌, Option, Some, ◌⊎◌}
 use Rattle.papaya_settles.specs.Given.Tables.Chunks.{is_incremental}
 use Rattle.papaya_settles.specs.Given.Tables.declared.node.Node.{Node}
 use Rattle.papaya_settles.specs.Given.Raw.Machine.{machine_asked, machine_replied}
@@ -17,7 +17,7 @@ use Rattle.papaya_settles.specs.Given.Schedules.declared.effect.Growth.TheVarian
 use Rattle.papaya_settles.specs.Given.Schedules.Effects.{with_effects, AtEachEffect}
 use Rattle.papaya_settles.specs.Given.Schedules.Entry.{ByCall, acting}
 use Rattle.papaya_settles.specs.Given.Schedules.Growing.{MayGrow}
-use Rattle.papaya_settles.specs.Given.Schedules.Moment.{UnderWay as CallThere, Moment, start}
+use Rattle.papaya_settles.specs.Given.Schedules.Moment.{UnderWay as CallThere, Moment}
 use Rattle.papaya_settles.specs.Given.Schedules.Terms.{Terms}
 use Rattle.papaya_settles.specs.Given.Points.FactsCalls.{IsCopying}
 use Rattle.papaya_settles.specs.Given.Callers.Together.{CallOnKey, UnderWay, OnKey}
@@ -25,14 +25,14 @@ use Rattle.papaya_settles.specs.Given.Effects.Effects.{effects_of}
 use Rattle.papaya_settles.specs.Given.Effects.Known.{Known}
 use Rattle.papaya_settles.specs.Given.Effects.declared.acting.Acting.TheVariants as acts
 use Rattle.papaya_settles.specs.Given.Finishes.Machines.{machine_of}
-use Rattle.papaya_settles.specs.Given.Finishes.Maps.{Standing, with_call as with_in}
+use Rattle.papaya_settles.specs.Given.Finishes.Maps.{Standing}
 use Rattle.papaya_settles.specs.Given.Moments.Whole.{ShowsWhole}
 use Rattle.papaya_finds.specs.Shaping.{IsFirstMaking, IsNextMaking}
 use Rattle.papaya_finds.specs.Within.{many_of}
 use Rattle.papaya_settles.specs.Given.Scenes.Beginning.{Begins}
 use Rattle.papaya_settles.specs.Given.Scenes.Held.{Held, IsAt}
 use Rattle.papaya_settles.specs.Given.Scenes.Replying.{scene_with}
-use Rattle.papaya_settles.specs.Given.Scenes.Scene.{Scene, at_first}
+use Rattle.papaya_settles.specs.Given.Scenes.Scene.{Scene}
 use Rattle.papaya_settles.specs.Given.Scenes.Stepping.{StepLeads, scene_after}
 
 -- It has what it stores there: it began with that; or it asks what to do there, and was told what to store.
@@ -66,11 +66,7 @@ module _ {K V : Type 0} (terms : Terms) where
   FindAsked moments own map effects m = AtEachEffect (λ v f. ByCall (FindsAsked moments v f) (acting (Some own) v)) (Some own) (Some map) effects m
 
 module _ (K V : Type 0) where
-  -- The promises: so it is as a run begins;
-  abbrev pub GrowingBegins : Type 0
-  GrowingBegins = (roots : ℕ) → ShowsGrowing {K = K} {V = V} start (at_first roots)
-
-  -- as long as calls on one key are as they were, and no map has had fewer tables, as where others take steps, a call comes to an outcome, or an event is over;
+  -- The promises: so it stays as long as calls on one key are as they were, and no map has had fewer tables, as where others take steps, a call comes to an outcome, or an event is over;
   abbrev pub GrowingStays : Type 0
   GrowingStays = (m v : Moment K V) (s t : Scene K V) → ShowsGrowing m s → ((map : ℕ) → many_of map m ≤ many_of map v) → KeepsKeyCalls s t → ShowsGrowing v t
 
@@ -90,14 +86,11 @@ module _ (K V : Type 0) where
       → (map i : ℕ) (u : UnderWay K V K) → s.calls map i ≡ Some u → (reply : MachineReply V) (next : UnderWay K V K) → machine_of next ≡ (machine_replied (machine_of u) reply).0
       → ShowsGrowing m (scene_with map i next s)
 
-  -- and where a walk goes on to its next pair, or whatever is under way with a caller is so no more.
+  -- and where a walk goes on to its next pair.
   abbrev pub WalksGoOnGrowing : Type 0
   WalksGoOnGrowing =
       (m : Moment K V) (s : Scene K V) → ShowsGrowing m s
       → (map i : ℕ) (u : UnderWay K V K) → s.calls map i ≡ Some u → (next : UnderWay K V K) → machine_of next ≡ (machine_asked (machine_of u)).0 → ShowsGrowing m (scene_with map i next s)
-
-  abbrev pub CallsGoGrowing : Type 0
-  CallsGoGrowing = (m : Moment K V) (s : Scene K V) → ShowsGrowing m s → (map i : ℕ) → ShowsGrowing m (record s { calls = with_in s.calls map i None })
 
 module _ (K V : Type 0) (same : K → K → Bool) (hash : ℕ → K → ℕ) where
   -- The promise, of a step of a call, whichever it is, and whether of a row or none: so it is of each call after it.

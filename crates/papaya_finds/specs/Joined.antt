@@ -1,13 +1,10 @@
 -- What is promised of the parts of what effects of a call find: they make up all of it, over the steps of an event, and so for the event.
-use Rattle.std.specs.Prelude.{◌≡◌, ℕ, true, List, [], ◌∷◌, ◌++◌, Some}
+use Rattle.std.specs.Prelude.{◌≡◌, ℕ, true, List, ◌∷◌, ◌++◌, Some}
 use Rattle.std.specs.List.{list_all}
 use Rattle.papaya_settles.specs.Given.Schedules.declared.effect.Effect.{Effect}
-use Rattle.papaya_settles.specs.Given.Schedules.declared.effect.Effect.TheVariants.{Asked, PairMade}
-use Rattle.papaya_settles.specs.Given.Schedules.declared.effect.Growth.TheVariants.{ABlock}
 use Rattle.papaya_settles.specs.Given.Schedules.After.{moments_from}
 use Rattle.papaya_settles.specs.Given.Schedules.Effects.{with_effects, AtEachEffect}
 use Rattle.papaya_settles.specs.Given.Schedules.Entry.{Entry, caller_of}
-use Rattle.papaya_settles.specs.Given.Schedules.Growing.{MayGrow}
 use Rattle.papaya_settles.specs.Given.Schedules.Handing.{is_call_effect, AllFind}
 use Rattle.papaya_settles.specs.Given.Schedules.Moment.{UnderWay as CallThere, Moment}
 use Rattle.papaya_settles.specs.Given.Schedules.Terms.{Terms}
@@ -45,10 +42,3 @@ abbrev pub EventsFindAll : Type 0 → Type 0 → Type 0
 EventsFindAll K V =
     (terms : Terms) (log : List (Entry K V)) (e : Entry K V) (b : Moment K V) (own : List ℕ) (c : CallThere K V) → caller_of e.event ≡ Some own → call_of own b ≡ Some c
     → FindAll terms (moments_from c.begun log) own c.map e.effects b → AllFind terms log e b
-
--- A call that makes a block for a pair may ask for it, at whatever moments: it has a value for the pair. So for the effects of that nothing is left.
-abbrev pub PairsAreAskedFor : Type 0 → Type 0 → Type 0
-PairsAreAskedFor K V =
-    (terms : Terms) (moments all : List (Moment K V)) (own : List ℕ) (map : ℕ) (m : Moment K V) (c : CallThere K V) → call_of own m ≡ Some c
-    → FindMade terms moments own map (Asked ABlock ∷ PairMade ∷ []) m
-    → MayGrow terms c.call c all × FindRest terms moments own map (Asked ABlock ∷ PairMade ∷ []) m

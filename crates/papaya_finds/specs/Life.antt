@@ -2,12 +2,12 @@
 use Rattle.std.specs.Prelude.{◌≡◌, ℕ, ◌+◌, Bool, List, length, Option}
 use Rattle.papaya_settles.specs.Given.Schedules.declared.effect.Effect.{Effect}
 use Rattle.papaya_settles.specs.Given.Schedules.declared.effect.Effect.TheVariants.{Stored}
-use Rattle.papaya_settles.specs.Given.Schedules.Effects.{stored_by, with_effects, AtEachEffect}
+use Rattle.papaya_settles.specs.Given.Schedules.Effects.{stored_by}
 use Rattle.papaya_settles.specs.Given.Schedules.Entry.{acting}
 use Rattle.papaya_settles.specs.Given.Schedules.Lives.{Finds}
 use Rattle.papaya_settles.specs.Given.Schedules.Moment.{Moment}
 use Rattle.papaya_settles.specs.Given.Schedules.Terms.{Terms}
-use Rattle.papaya_finds.specs.Waiting.{PairsArePlaced, FindsPlaced}
+use Rattle.papaya_finds.specs.Waiting.{FindsPlaced}
 
 module _ {K V : Type 0} where
   -- an effect that stores a pair is of a call that has one to store
@@ -15,15 +15,8 @@ module _ {K V : Type 0} where
   StoresOne caller m (Stored n s) = length (stored_by (acting caller m) (Stored n s) m.stored) ≡ length m.stored + 1
   StoresOne caller m _ = Unit {0}
 
--- The promises: so it is of each effect,
+-- The promise: so it is of each effect.
 abbrev pub LifeFindsPlaced : Type 0 → Type 0 → Type 0
 LifeFindsPlaced K V =
     (terms : Terms) (caller : Option (List ℕ)) (acted : Option ℕ) (everything : Bool) (moments : List (Moment K V)) (m : Moment K V) (f : Effect)
     → Finds terms caller acted everything moments m f → StoresOne caller m f → FindsPlaced caller m f
-
--- and so an event that keeps the promise leaves pairs in their places.
-abbrev pub LifeKeepsPlaced : Type 0 → Type 0 → Type 0
-LifeKeepsPlaced K V =
-    (terms : Terms) (caller : Option (List ℕ)) (acted : Option ℕ) (everything : Bool) (moments : List (Moment K V)) (effects : List Effect) (m : Moment K V)
-    → AtEachEffect (λ v f. Finds terms caller acted everything moments v f × StoresOne caller v f) caller acted effects m → PairsArePlaced m
-    → PairsArePlaced (with_effects caller acted effects m)

@@ -6,7 +6,7 @@ use Rattle.papaya_settles.specs.Given.Schedules.declared.event.Event.{Event}
 use Rattle.papaya_settles.specs.Given.Schedules.declared.event.Event.TheVariants.{ReclaimAll, Close}
 use Rattle.papaya_settles.specs.Given.Schedules.declared.outcome.Outcome.{Outcome}
 use Rattle.papaya_settles.specs.Given.Schedules.declared.outcome.Outcome.TheVariants.{Done}
-use Rattle.papaya_settles.specs.Given.Schedules.After.{after, moment, AtEachEvent}
+use Rattle.papaya_settles.specs.Given.Schedules.After.{after, moment}
 use Rattle.papaya_settles.specs.Given.Schedules.Entry.{Entry}
 use Rattle.papaya_settles.specs.Given.Schedules.Model.{thing_back, all_left}
 use Rattle.papaya_settles.specs.Given.Schedules.Moment.{Moment}
@@ -49,13 +49,7 @@ EventsLeaveLittle K V =
     (terms : Terms) (log : List (Entry K V)) (e : Entry K V) (known : Known) (w : World (Node K V)) → terms.batch_size < 2 ^ 64 → AllIsInOrder (after e (moment log))
     → ReclaimsAll log e → OverIsBack (after e (moment log)) → ShowsNobody terms (after e (moment log)) known w → LeavesLittle terms log e
 
--- after the collector has ended nothing comes any more,
+-- and after the collector has ended nothing comes any more.
 abbrev pub OverStaysBack : Type 0 → Type 0 → Type 0
 OverStaysBack K V =
     (terms : Terms) (log : List (Entry K V)) (e : Entry K V) → GoesInOrder terms log e → ReclaimsAll log e → OverIsBack (moment log) → OverIsBack (after e (moment log))
-
--- and so each event of a run leaves little, if its events go in order, and reclaim all where they reclaim all.
-abbrev pub RunsLeaveLittle : Type 0 → Type 0 → Type 0
-RunsLeaveLittle K V =
-    (terms : Terms) (log : List (Entry K V)) (e : Entry K V) (known : Known) (w : World (Node K V)) → terms.batch_size < 2 ^ 64
-    → AtEachEvent (λ before f. GoesInOrder terms before f × ReclaimsAll before f) (e ∷ log) → ShowsNobody terms (after e (moment log)) known w → LeavesLittle terms log e

@@ -2,12 +2,11 @@
 use Rattle.std.specs.Prelude.{◌≡◌, ℕ, ◌≤◌, true, false, List, length, Option, Some}
 use Rattle.papaya_settles.specs.Given.Schedules.declared.effect.Effect.{Effect}
 use Rattle.papaya_settles.specs.Given.Schedules.declared.effect.Effect.TheVariants.{Promoted, Copied}
-use Rattle.papaya_settles.specs.Given.Schedules.Effects.{is_chunked, with_effects, AtEachEffect}
+use Rattle.papaya_settles.specs.Given.Schedules.Effects.{is_chunked, AtEachEffect}
 use Rattle.papaya_settles.specs.Given.Schedules.Lives.{IsPast}
 use Rattle.papaya_settles.specs.Given.Schedules.Moment.{UnderWay as CallThere, Moment}
 use Rattle.papaya_settles.specs.Given.Schedules.Views.{call_of, is_in_a_map, first_of}
 use Rattle.papaya_settles.specs.Given.Follows.Finds.{FindsMap}
-use Rattle.papaya_settles.specs.Given.Spots.Deferred.{FindsNumbers}
 use Rattle.papaya_finds.specs.Parts.{FindPlacesOf}
 
 module _ {K V : Type 0} where
@@ -25,14 +24,7 @@ module _ {K V : Type 0} where
   FindsOnward acted m (Promoted t) = first_of t.map m ≤ t.turn
   FindsOnward acted m _ = Unit {0}
 
--- The promise of any effects, whoever makes them,
-abbrev pub EffectsLeavePast : Type 0 → Type 0 → Type 0
-EffectsLeavePast K V =
-    (who : Option (List ℕ)) (acted : Option ℕ) (effects : List Effect) (m : Moment K V) → AtEachEffect FindsNumbers who acted effects m → AtEachEffect (FindsOnward acted) who acted effects m
-    → (map n : ℕ) → HasLeftMaps m n → IsPastRoot map m n
-    → HasLeftMaps (with_effects who acted effects m) n × IsPastRoot map (with_effects who acted effects m) n
-
--- and of those of a call, by what they find of pairs and tables.
+-- The promise: so it is of the effects of a call, by what they find of pairs and tables.
 abbrev pub CallsFindOnward : Type 0 → Type 0 → Type 0
 CallsFindOnward K V =
     (own : List ℕ) (map : ℕ) (effects : List Effect) (m : Moment K V) (c : CallThere K V) → call_of own m ≡ Some c → AtEachEffect (FindsMap map) (Some own) (Some map) effects m

@@ -6,7 +6,7 @@ use Rattle.papaya_settles.specs.Given.Tables.declared.node.Node.{Node}
 use Rattle.papaya_settles.specs.Given.Raw.declared.machines.progress.Progress.{Progress}
 use Rattle.papaya_settles.specs.Given.Callers.Together.{UnderWay}
 use Rattle.papaya_settles.specs.Given.Effects.Effects.{effects_of, known_after}
-use Rattle.papaya_settles.specs.Given.Effects.Known.{Known, nothing_known}
+use Rattle.papaya_settles.specs.Given.Effects.Known.{Known}
 use Rattle.papaya_settles.specs.Given.Effects.declared.acting.Acting.TheVariants as acts
 use Rattle.papaya_settles.specs.Given.Effects.declared.role.Role.TheVariants as role
 use Rattle.papaya_settles.specs.Given.Finishes.Machines.{machine_of}
@@ -17,7 +17,7 @@ use Rattle.papaya_settles.specs.Entries.{ShowsEntries}
 use Rattle.papaya_settles.specs.Hand.{ShowsOwed}
 use Rattle.papaya_finds.specs.Waits.{waits_in, ShowsWaits, FindBehind}
 use Rattle.papaya_settles.specs.Given.Scenes.Held.{Held, IsAt}
-use Rattle.papaya_settles.specs.Given.Scenes.Scene.{Scene, at_first}
+use Rattle.papaya_settles.specs.Given.Scenes.Scene.{Scene}
 use Rattle.papaya_settles.specs.Given.Scenes.Stepping.{StepLeads, scene_after}
 
 -- the place is in the block that is noted as the table of the map with the turn before this one
@@ -31,11 +31,7 @@ ShowsPuts {K} {V} known s =
     (map i : ℕ) (u : UnderWay K V K) → s.calls map i ≡ Some u → (word : ℕ) (place : At) → due_in_row (machine_of u) ≡ Some (ToPut word place) → IsBehindNext known map place (waits_in (machine_of u))
 
 module _ (K V : Type 0) where
-  -- The promises: so it is as a run begins,
-  abbrev pub PutsBegin : Type 0
-  PutsBegin = (roots : ℕ) → ShowsPuts {K = K} {V = V} nothing_known (at_first roots)
-
-  -- and as long as each call that is to put a pair behind a table was so before, as the same machine, and the table is noted as it was.
+  -- So it stays as long as each call that is to put a pair behind a table was so before, as the same machine, and the table is noted as it was.
   abbrev pub PutsStay : Type 0
   PutsStay =
       (known known2 : Known) (s t : Scene K V) → ShowsPuts known s

@@ -1,5 +1,5 @@
 -- What a reservation knows once it has counted: with so many further pairs a table can be had. So it may ask for the blocks of a table that follows another one.
-use Rattle.std.specs.Prelude.{◌≡◌, ℕ, suc, ◌+◌, Bool, false, List, [], ◌∷◌, ◌++◌, Some}
+use Rattle.std.specs.Prelude.{◌≡◌, ℕ, suc, ◌+◌, Bool, false, List, ◌∷◌, ◌++◌, Some}
 use Rattle.papaya_settles.specs.Given.SeizeWords.Mem.{Mem}
 use Rattle.papaya_settles.specs.Given.Seize.declared.progress.Progress.{Progress}
 use Rattle.papaya_settles.specs.Given.Seize.declared.progress.Progress.TheVariants as progress
@@ -57,18 +57,12 @@ MakesFirst (reserving.Makes making) = Unit {0}
 MakesFirst _ = ⊥
 
 module _ (K V : Type 0) where
-  -- The promises: so it is after each step of a reservation, if one that is done with counting has counted so many;
+  -- The promises: so it is after each step of a reservation, if one that is done with counting has counted so many.
   abbrev pub RoomsKeepCount : Type 0
   RoomsKeepCount =
       (hash : K → ℕ) (of : ℕ) (moments : List (Moment K V)) (p : Reserve) (m m2 : Mem (Node K V)) (told : Changed) (end : Reserve × Outcome (Node K V) Unit)
       → ReservesAt of moments p p.stands → SumTells of moments p m m2 told → StepsTold K V (Reserve × Outcome (Node K V) Unit) m changed.Nothing (reserve_plan hash p) m2 told end
       → ReservesAt of moments end.0 end.0.stands
-
-  -- and with further moments.
-  abbrev pub RoomsCountOn : Type 0
-  RoomsCountOn =
-      (of : ℕ) (moments : List (Moment K V)) (x : Moment K V) (p : Reserve) (q : Reserving) → ReservesAt of moments p q
-      → ReservesAt of (x ∷ moments) p q × ReservesAt of (moments ++ x ∷ []) p q
 
 module _ (K V : Type 0) (same : K → K → Bool) (hash : ℕ → K → ℕ) where
   -- So for each block for which it asks in a step it may ask, unless it makes the first table of its map.

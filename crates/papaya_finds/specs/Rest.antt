@@ -1,7 +1,5 @@
--- What is left of what effects of calls find, by three parts: why a block is asked for, which table is linked, and where a pair is handed over. They make it up, and only rows
--- hand pairs over.
-use Rattle.std.specs.Prelude.{◌≡◌, ℕ, false, List, Some}
-use Rattle.std.specs.List.{list_any}
+-- What is left of what effects of calls find, by three parts: why a block is asked for, which table is linked, and where a pair is handed over. They make it up.
+use Rattle.std.specs.Prelude.{◌≡◌, ℕ, List, Some}
 use Rattle.papaya_settles.specs.Given.Schedules.declared.effect.Effect.{Effect}
 use Rattle.papaya_settles.specs.Given.Schedules.declared.effect.Effect.TheVariants.{Deferred, Retired}
 use Rattle.papaya_settles.specs.Given.Schedules.declared.effect.Thing.TheVariants.{APair}
@@ -10,8 +8,7 @@ use Rattle.papaya_settles.specs.Given.Schedules.Entry.{ByCall, acting}
 use Rattle.papaya_settles.specs.Given.Schedules.Lives.{IsPast, MayDefer}
 use Rattle.papaya_settles.specs.Given.Schedules.Moment.{UnderWay as CallThere, Moment}
 use Rattle.papaya_settles.specs.Given.Schedules.Terms.{Terms}
-use Rattle.papaya_settles.specs.Given.Schedules.Views.{call_of, first_of}
-use Rattle.papaya_settles.specs.Owing.{hands_over}
+use Rattle.papaya_settles.specs.Given.Schedules.Views.{first_of}
 use Rattle.papaya_finds.specs.Growing.{FindAsked}
 use Rattle.papaya_finds.specs.Linking.{FindShapes}
 use Rattle.papaya_finds.specs.Parts.{FindRest}
@@ -26,13 +23,8 @@ module _ {K V : Type 0} where
   abbrev pub FindHanded : List ℕ → ℕ → List Effect → Moment K V → Type 0
   FindHanded own map effects m = AtEachEffect (λ v f. ByCall (FindsHanded v f) (acting (Some own) v)) (Some own) (Some map) effects m
 
--- The promises: the three are all that is left,
+-- The promise: the three are all that is left.
 abbrev pub RestIsAll : Type 0 → Type 0 → Type 0
 RestIsAll K V =
     (terms : Terms) (moments : List (Moment K V)) (own : List ℕ) (map : ℕ) (effects : List Effect) (m : Moment K V)
     → FindAsked terms moments own map effects m → FindShapes terms moments own map effects m → FindHanded own map effects m → FindRest terms moments own map effects m
-
--- and such effects as hand nothing over need find nothing of the third.
-abbrev pub OthersHandNone : Type 0 → Type 0 → Type 0
-OthersHandNone K V =
-    (own : List ℕ) (map : ℕ) (effects : List Effect) (m : Moment K V) (c : CallThere K V) → call_of own m ≡ Some c → list_any hands_over effects ≡ false → FindHanded own map effects m

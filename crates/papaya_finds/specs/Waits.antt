@@ -23,7 +23,7 @@ use Rattle.papaya_settles.specs.Given.Schedules.Beginning.{with_call}
 use Rattle.papaya_settles.specs.Given.Schedules.Effects.{with_effects, AtEachEffect}
 use Rattle.papaya_settles.specs.Given.Schedules.Entry.{ByCall, acting}
 use Rattle.papaya_settles.specs.Given.Schedules.Lives.{IsPast}
-use Rattle.papaya_settles.specs.Given.Schedules.Moment.{UnderWay as CallThere, Moment, start}
+use Rattle.papaya_settles.specs.Given.Schedules.Moment.{UnderWay as CallThere, Moment}
 use Rattle.papaya_settles.specs.Given.Schedules.Views.{call_of, first_of, is_stage, is_there, map_at, grows_in_chunks, behind, tables_of}
 use Rattle.papaya_settles.specs.Given.Callers.Together.{UnderWay}
 use Rattle.papaya_settles.specs.Given.Effects.Effects.{effects_of}
@@ -32,17 +32,16 @@ use Rattle.papaya_settles.specs.Given.Effects.declared.acting.Acting.TheVariants
 use Rattle.papaya_settles.specs.Given.Finishes.Machines.{machine_of}
 use Rattle.papaya_settles.specs.Given.Follows.Calling.{NoneNamed}
 use Rattle.papaya_settles.specs.Given.Follows.Calls.{ShowsCalls}
-use Rattle.papaya_settles.specs.Given.Spots.Deferred.{FindsNumbers}
 use Rattle.papaya_settles.specs.Given.Moments.Whole.{ShowsWhole}
 use Rattle.papaya_settles.specs.Due.{OwnAreMade}
 use Rattle.papaya_settles.specs.Entries.{ShowsEntries}
 use Rattle.papaya_settles.specs.Hand.{SameInHand, ShowsOwed}
 use Rattle.papaya_settles.specs.InHand.{pair_in_calling, pair_in_sweeping}
-use Rattle.papaya_finds.specs.Past.{HasLeftMaps, IsPastRoot, FindsOnward}
+use Rattle.papaya_finds.specs.Past.{HasLeftMaps, IsPastRoot}
 use Rattle.papaya_finds.specs.Rest.{FindHanded}
 use Rattle.papaya_settles.specs.Given.Scenes.Held.{Held, IsAt}
 use Rattle.papaya_settles.specs.Given.Scenes.Replying.{scene_with}
-use Rattle.papaya_settles.specs.Given.Scenes.Scene.{Scene, at_first}
+use Rattle.papaya_settles.specs.Given.Scenes.Scene.{Scene}
 use Rattle.papaya_settles.specs.Given.Scenes.Stepping.{StepLeads, scene_after}
 
 -- the turn of the table in which the pair of a disposal lies that may have to wait, as an older one may be the root still
@@ -136,11 +135,7 @@ module _ {K V : Type 0} where
   FindSpace own map effects m = AtEachEffect (λ v f. ByCall (FindsSpace v f) (acting (Some own) v)) (Some own) (Some map) effects m
 
 module _ (K V : Type 0) where
-  -- The promises: nobody has a pair in hand as a run begins;
-  abbrev pub WaitsBegin : Type 0
-  WaitsBegin = (name : ℕ → List ℕ) (roots : ℕ) → ShowsWaits {K = K} {V = V} name start (at_first roots)
-
-  -- where calls have in hand what they had, and such pairs lie where they lay, it is so still, as where others take steps, or an event is over;
+  -- The promises: where calls have in hand what they had, and such pairs lie where they lay, it is so still, as where others take steps, or an event is over;
   abbrev pub WaitsStay : Type 0
   WaitsStay =
       (name : ℕ → List ℕ) (m v : Moment K V) (s t : Scene K V) → ShowsWaits name m s → LeavesInHand t m v → KeepsHands name m s v t → ShowsWaits name v t
@@ -155,24 +150,12 @@ module _ (K V : Type 0) where
       → (x : UnderWay K V K) × (s.calls map i ≡ Some x) × (machine_of x ≡ machine_of u) × SameInHand known known2 (machine_of x))
       → ShowsWaits name v t
 
-  -- and such pairs do, after any effects, whoever makes them, that find the number of the pair that is stored next, copy what is in a map, and bring no root back.
-  abbrev pub EffectsLeaveHeld : Type 0
-  EffectsLeaveHeld =
-      (who : Option (List ℕ)) (acted : Option ℕ) (effects : List Effect) (m : Moment K V) → AtEachEffect FindsNumbers who acted effects m → AtEachEffect (FindsOnward acted) who acted effects m
-      → LeavesHeld m (with_effects who acted effects m)
-
   -- So it is where a call begins that has no pair in hand, by a name that no call under way has,
   abbrev pub CallsBeginWaits : Type 0
   CallsBeginWaits =
       (name : ℕ → List ℕ) (m : Moment K V) (s : Scene K V) → ShowsWaits name m s
       → (map i : ℕ) (u : UnderWay K V K) (call : Call K V) (guard : List ℕ) → NoneNamed name (name i) s → pair_in (machine_of u) ≡ None
       → ShowsWaits name (with_call (name i) guard call (Some map) m) (scene_with map i u s)
-
-  -- and where one goes on otherwise, and has none in hand then.
-  abbrev pub WaitsGoOn : Type 0
-  WaitsGoOn =
-      (name : ℕ → List ℕ) (m : Moment K V) (s : Scene K V) → ShowsWaits name m s
-      → (map i : ℕ) (next : UnderWay K V K) → pair_in (machine_of next) ≡ None → ShowsWaits name m (scene_with map i next s)
 
   -- These parts make up all that effects must find that hand a pair over.
   abbrev pub PastIsHanded : Type 0

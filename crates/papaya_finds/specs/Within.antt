@@ -8,7 +8,7 @@ use Rattle.papaya_settles.specs.Given.Schedules.declared.event.Event.{Event}
 use Rattle.papaya_settles.specs.Given.Schedules.declared.event.Event.TheVariants.{Stop}
 use Rattle.papaya_settles.specs.Given.Schedules.declared.outcome.Outcome.{Outcome}
 use Rattle.papaya_settles.specs.Given.Schedules.declared.outcome.Outcome.TheVariants.{Done}
-use Rattle.papaya_settles.specs.Given.Schedules.After.{moment, after, AtEachEvent}
+use Rattle.papaya_settles.specs.Given.Schedules.After.{moment, after}
 use Rattle.papaya_settles.specs.Given.Schedules.Beginning.{at_work}
 use Rattle.papaya_settles.specs.Given.Schedules.Coming.{is_ready}
 use Rattle.papaya_settles.specs.Given.Schedules.Effects.{with_effects, AtEachEffect}
@@ -94,10 +94,6 @@ LifeKeepsOrder K V =
     → AtEachEffect (λ v f. Finds terms caller acted everything moments v f × StoresOne caller v f) caller acted effects m → ActsOn caller acted m → AllIsInOrder m
     → AllIsInOrder (with_effects caller acted effects m)
 
--- after each event that goes in order,
+-- and after each event that goes in order.
 abbrev pub EventsKeepOrder : Type 0 → Type 0 → Type 0
 EventsKeepOrder K V = (terms : Terms) (log : List (Entry K V)) (e : Entry K V) → GoesInOrder terms log e → AllIsInOrder (moment log) × ReadyOweNone (moment log) → AllIsInOrder (after e (moment log)) × ReadyOweNone (after e (moment log))
-
--- and so at each moment of a run.
-abbrev pub RunsAreInOrder : Type 0 → Type 0 → Type 0
-RunsAreInOrder K V = (terms : Terms) (log : List (Entry K V)) → AtEachEvent (GoesInOrder terms) log → AllIsInOrder (moment log) × ReadyOweNone (moment log)

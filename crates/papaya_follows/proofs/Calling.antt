@@ -22,7 +22,7 @@ use Rattle.papaya_scenes.specs.Given.Finishes.Maps.{Standing, with_call as with_
 use Rattle.papaya_effects.specs.Known.{Known}
 use Rattle.papaya_follows.specs.Blocks.{HasRole}
 use Rattle.papaya_follows.specs.Calls.{IsCalled, ShowsCalls}
-use Rattle.papaya_follows.specs.Calling.{NoneNamed, told, come_to, CallsBegin, CallsAreTold, CallsComeTo}
+use Rattle.papaya_follows.specs.Calling.{NoneNamed, told, come_to, CallsComeTo}
 use Rattle.papaya_follows.specs.Shows.{Shows}
 use Rattle.papaya_follows.proofs.Alike.{AreSame, alike_same}
 use Rattle.papaya_follows.proofs.Called.{some_is, called_as, key_called, sweep_called}
@@ -232,12 +232,5 @@ module _ {K V : Type 0} (same : K → K → Bool) (name : ℕ → List ℕ) (m :
       by false e = changed_calls same (come o steps) (come_of_same o steps) own name m s.calls shown.calls
 
 module _ (K V : Type 0) (same : K → K → Bool) where
-  pub calls_begin : CallsBegin K V same
-  calls_begin name m known s shown of i u call guard apart called = (begins_with same name m known s shown of i u call guard apart called).0
-
-  pub calls_are_told : CallsAreTold K V same
-  calls_are_told name m known s shown of i u here batch_size roots standing reply next goes is_told =
-      (told_with same name m known s shown of i u here batch_size roots standing reply next goes is_told).0
-
   pub calls_come_to : CallsComeTo K V same
   calls_come_to name m known s shown own o steps ended = (come_with same name m known s shown own o steps ended).0

@@ -29,9 +29,6 @@ out_linked (Cutting i) out = tt
 out_linked Handed out = tt
 out_linked (LeftTo i) out = absurd out
 
-pub was_out : (h h2 : Hand) → h2 ≡ h → IsOut h → WasLinked h2
-was_out h h2 e out = subst WasLinked (sym e) (out_linked h out)
-
 -- a table with places is the same
 stays_table : {K V : Type 0} (len limit turn : ℕ) (value : Node K V) → len ≢ 0 → StaysTable (Some (node.Table len limit turn)) (Some value) → value ≡ node.Table len limit turn
 stays_table zero limit turn value some stays = absurd (some refl)

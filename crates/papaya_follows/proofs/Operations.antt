@@ -40,9 +40,6 @@ module _ {K V : Type 0} (m m2 : Mem (Node K V)) where
   wrote : (at : At) (old new : ℕ) → (word_at m at ≡ Some old) × (word_at m2 at ≡ Some new) → IsSome (word_at m at) → m2 ≡ with_word m at new → LeavesBy (changed.Wrote at old new)
   wrote at old new is some e = (is.0, is.1, λ b. ap (λ (n : Mem (Node K V)). value_at n b) e ∙ value_at-with_word m at new b some)
 
-  some_of : (at : At) (word : ℕ) → word_at m at ≡ Some word → IsSome (word_at m at)
-  some_of at word is = subst IsSome (sym is) refl
-
   pub leaves : (op : Op (Node K V)) (out : Out (Node K V)) → Can m op → Took m op out m2 → LeavesBy (told_of op out (seen_of m op out))
   leaves (Load at) out can took = stays_same took.1
   leaves (Store at word) out can took = wrote at _ word (seen_kept m m2 at _ word (Store at word) out can took refl) can took.1

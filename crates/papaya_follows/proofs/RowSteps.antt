@@ -24,7 +24,7 @@ use Rattle.papaya_follows.specs.Blocks.{HasRole, ShowsBlocks}
 use Rattle.papaya_follows.specs.Calls.{ShowsCalls}
 use Rattle.papaya_follows.specs.Maps.{ShowsMap}
 use Rattle.papaya_follows.specs.Shows.{Shows}
-use Rattle.papaya_follows.specs.Steps.{HandTheirs, TakesNone, RowsAreShown}
+use Rattle.papaya_follows.specs.Steps.{HandTheirs, TakesNone}
 use Rattle.papaya_follows.proofs.Alike.{alike_same}
 use Rattle.papaya_follows.proofs.Going.{ShowsOn}
 use Rattle.papaya_follows.proofs.Handed.{hands_shown, hands_same, hands_alike}
@@ -181,7 +181,3 @@ module _ {K V : Type 0} (same : K → K → Bool) (hash : ℕ → K → ℕ) (na
       by (OverAll x) (p2, end, machine_is, told_is, inr (row, stayed)) other =
           row_shown same hash m known s old new at name shown map i to.0 to.2 (name i) (made_so same hash name m known s old new at shown map i u here told leads) none hands row.step.w2 row.step.memory row.step.happened
           to.4.w2 to.4.maps2 stayed.0 stayed.1 (scene_after same s old new map i to.0 u to.1 told to.4) (calls_then same hash name m known s old new at shown map i u here told leads)
-
-pub rows_are_shown : (K V : Type 0) (same : K → K → Bool) (hash : ℕ → K → ℕ) → RowsAreShown K V same hash
-rows_are_shown K V same hash name m known s old new at shown map i u here told leads not_own none hands =
-    (row_step_shown same hash name m known s old new at shown map i u here told leads not_own none hands).shows

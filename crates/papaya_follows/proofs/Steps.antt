@@ -50,7 +50,7 @@ use Rattle.papaya_follows.specs.Calls.{ShowsCalls}
 use Rattle.papaya_follows.specs.Finds.{FindsMap}
 use Rattle.papaya_follows.specs.Maps.{ShowsMap}
 use Rattle.papaya_follows.specs.Shows.{Shows}
-use Rattle.papaya_follows.specs.Steps.{named_now, StoreTheirs, Did, IsOfNoRow, CallsAreShown}
+use Rattle.papaya_follows.specs.Steps.{named_now, StoreTheirs, Did, IsOfNoRow}
 use Rattle.papaya_follows.proofs.Alike.{AreSame, AlikePairs, alike_same, still_all}
 use Rattle.papaya_follows.proofs.Called.{called_on}
 use Rattle.papaya_follows.proofs.Calls.{calls_on}
@@ -138,9 +138,6 @@ module _ {K V : Type 0} (same : K → K → Bool) (hash : ℕ → K → ℕ) (m 
 
     module _ (Told : World (Node K V) → Chart K → Blocks → Type 0) (had : Went same standing.hash setting i w standing.chart (seen_by standing.blocks sight) m2 Told)
         (blocks2 : Blocks) (grown : IsGrown standing.chart standing.blocks had.blocks2 blocks2) (sights2 : ℕ → Sight) where
-      abbrev None2 : World (Node K V) → Chart K → Blocks → Type 0
-      None2 w2 c2 blocks2 = Unit {0}
-
       abbrev went : Went same standing.hash setting i w standing.chart (seen_by standing.blocks sight) m2 (λ w2 c2 blocks2. Unit {0})
       went = went_as same standing.hash setting i w standing.chart (seen_by standing.blocks sight) m2 Told (λ w2 c2 blocks2. Unit {0}) (λ w2 c2 blocks2 map moved alike told. tt) had
 
@@ -405,7 +402,3 @@ module _ {K V : Type 0} (same : K → K → Bool) (hash : ℕ → K → ℕ) (na
           moved_shown same hash m known s old new at name shown map i went_to.0 went_to.2 (name i) made_so step.step.inside _ step.step.went step.step.blocks2 step.step.grown step.step.sights2 stores went_to.4.w2 went_to.4.maps2 moved.0 moved.1
           (scene_after same s old new map i went_to.0 u went_to.1 told went_to.4) calls_then
       by (OverAll x) (p2, end, machine_is, told_is, inr row) own = absurd own
-
-pub calls_are_shown : (K V : Type 0) (same : K → K → Bool) (hash : ℕ → K → ℕ) → CallsAreShown K V same hash
-calls_are_shown K V same hash name m known s old new at shown map i u here told leads own stores =
-    let step = step_shown same hash name m known s old new at shown map i u here told leads own stores in (step.0, step.1.shows)

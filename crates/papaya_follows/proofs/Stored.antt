@@ -148,9 +148,6 @@ module _ {K V : Type 0} (same : K → K → Bool) (slot caller map : ℕ) (name 
     is_linked : WasLinked (went.w2.hand b)
     is_linked = subst WasLinked (sym (ap went.w2.hand its_block ∙ went.map.pairs c.stored current)) tt
 
-    pub some_number : 0 < b
-    some_number = let l = (went.map.map.shows.pair_numbers c.stored last seen_then).0 in omega (arith, l, its_block)
-
     -- it was none that lasts
     pub keeps_stored : KeepsRoles known (with_pair b known)
     keeps_stored x lasting = put_elsewhere b (role.Pair (known.stored + 1)) known.roles x (λ e. subst IsLasting (ap known.roles e ∙ was_own.1) lasting)

@@ -12,24 +12,17 @@ use Rattle.papaya_effects.specs.Given.Schedules.declared.effect.Effect.{Effect}
 use Rattle.papaya_effects.specs.Given.Schedules.declared.effect.Effect.TheVariants.{Stored, Deferred, Retired}
 use Rattle.papaya_effects.specs.Given.Schedules.declared.effect.Thing.TheVariants.{APair, ATable}
 use Rattle.papaya_effects.specs.Given.Schedules.Entry.{acting}
-use Rattle.papaya_effects.specs.Given.Schedules.Effects.{new_pair, with_effects, AtEachEffect}
+use Rattle.papaya_effects.specs.Given.Schedules.Effects.{new_pair, AtEachEffect}
 use Rattle.papaya_effects.specs.Given.Schedules.Moment.{UnderWay as CallThere, MapThere, Moment}
 use Rattle.papaya_effects.specs.Given.Schedules.Views.{is_in_a_map, map_at}
 use Rattle.papaya_scenes.specs.Given.Teller.declared.changed.Changed.{Changed}
 use Rattle.papaya_scenes.specs.Given.Teller.declared.changed.Changed.TheVariants as changed
-use Rattle.papaya_effects.specs.Effects.{effects_of, known_after}
-use Rattle.papaya_effects.specs.Known.{Known}
-use Rattle.papaya_effects.specs.declared.acting.Acting.TheVariants.{Call}
 use Rattle.papaya_scenes.specs.Given.Callers.Together.{UnderWay, OnKey, ForRoom, Counting, OverAll}
 use Rattle.papaya_scenes.specs.Given.Finishes.Endings.{Finishing}
 use Rattle.papaya_scenes.specs.Given.Finishes.Machines.{DidOfKind}
 use Rattle.papaya_scenes.specs.Given.Finishes.Makings.{Beginning}
 use Rattle.papaya_scenes.specs.Given.Finishes.Maps.{Standing}
-use Rattle.papaya_follows.specs.Finds.{FindsMap}
-use Rattle.papaya_follows.specs.Shows.{Shows}
-use Rattle.papaya_scenes.specs.Held.{Held, IsAt}
-use Rattle.papaya_scenes.specs.Scene.{Scene, slot_of}
-use Rattle.papaya_scenes.specs.Stepping.{StepLeads, scene_after}
+use Rattle.papaya_scenes.specs.Scene.{slot_of}
 
 -- the block that a word names which was written
 abbrev pub named_now : Changed → ℕ
@@ -83,28 +76,3 @@ module _ {K V : Type 0} (same : K → K → Bool) (batch_size roots : ℕ) (w : 
   IsOfNoRow (ForRoom r) machine told did = IsFirst did.4
   IsOfNoRow (Counting sum) machine told did = Unit {0}
   IsOfNoRow (OverAll o) machine told did = IsFirst did.4
-
-module _ (K V : Type 0) (same : K → K → Bool) (hash : ℕ → K → ℕ) where
-  -- The promise, of a step of a call that is none of a row: where it stores no pair but such as the call has to store, its effects find the map as they
-  -- must, and lead to a moment that shows the scene after it, with what is known after it.
-  abbrev pub CallsAreShown : Type 0
-  CallsAreShown =
-      (name : ℕ → List ℕ) (m : Moment K V) (known : Known) (s : Scene K V) (old new : Held K V) → IsAt same hash old s → Shows same name m known s
-      → (map i : ℕ) (u : UnderWay K V K) (here : s.calls map i ≡ Some u) (told : Progress (Node K V)) (leads : StepLeads same hash i told s old new)
-      → (let to = leads map u here in
-      IsOfNoRow same old.batch_size old.roots s.world s.maps s.calls s.makers s.enders map to.0 i new.memory to.4.w2 to.4.maps2 to.4.next u to.1 told to.4.did
-      → StoreTheirs s.world.memory new.changed (name i) map (effects_of (Call i map) known new.changed) m
-      → AtEachEffect (FindsMap map) (Some (name i)) (Some map) (effects_of (Call i map) known new.changed) m
-      × Shows same name (with_effects (Some (name i)) (Some map) (effects_of (Call i map) known new.changed) m) (known_after (Call i map) new.changed known)
-      (scene_after same s old new map i to.0 u to.1 told to.4))
-
-  -- The promise, of a step of a row within a call: where it takes no block away, and hands over what has left its map alone, it is the same.
-  abbrev pub RowsAreShown : Type 0
-  RowsAreShown =
-      (name : ℕ → List ℕ) (m : Moment K V) (known : Known) (s : Scene K V) (old new : Held K V) → IsAt same hash old s → Shows same name m known s
-      → (map i : ℕ) (u : UnderWay K V K) (here : s.calls map i ≡ Some u) (told : Progress (Node K V)) (leads : StepLeads same hash i told s old new)
-      → (let to = leads map u here in
-      (IsOfNoRow same old.batch_size old.roots s.world s.maps s.calls s.makers s.enders map to.0 i new.memory to.4.w2 to.4.maps2 to.4.next u to.1 told to.4.did → ⊥)
-      → TakesNone new.changed → HandTheirs (name i) map (effects_of (Call i map) known new.changed) m
-      → Shows same name (with_effects (Some (name i)) (Some map) (effects_of (Call i map) known new.changed) m) (known_after (Call i map) new.changed known)
-      (scene_after same s old new map i to.0 u to.1 told to.4))

@@ -1,4 +1,2 @@
 //! How the moment of a run follows the scene.
 #![tactic(auto)]
-
-pub mod law;

@@ -1,7 +1,6 @@
 -- For what a copier makes a further table: the map has a second one then, into which the root's is copied; or, in blocking mode, the root has left a table at the moment of
 -- the map at which the call began, or since. So a call that copies may ask for each block that it makes, if its map had a second table then, or before.
-use Rattle.std.specs.Prelude.{◌≡◌, ℕ, Bool, false, List, ◌∷◌, Option, Some, None, ◌⊎◌}
-use Rattle.papaya_purposes.specs.Given.Tables.Chunks.{is_incremental}
+use Rattle.std.specs.Prelude.{◌≡◌, ℕ, Bool, List, ◌∷◌, Option, Some, None, ◌⊎◌}
 use Rattle.papaya_purposes.specs.Given.Tables.declared.node.Node.{Node}
 use Rattle.papaya_purposes.specs.Given.Resize.declared.new_table.NewTable.{NewTable}
 use Rattle.papaya_purposes.specs.Given.Reserves.declared.reserve.Reserving.{Reserving}
@@ -16,14 +15,11 @@ use Rattle.papaya_purposes.specs.Given.Schedules.Lists.{OneOf}
 use Rattle.papaya_purposes.specs.Given.Schedules.Moment.{Moment}
 use Rattle.papaya_purposes.specs.Given.Schedules.Terms.{Terms}
 use Rattle.papaya_purposes.specs.Given.Points.FactsCalls.{IsCopying}
-use Rattle.papaya_purposes.specs.Given.Late.Left.{Left}
-use Rattle.papaya_purposes.specs.Given.Callers.Together.{UnderWay, OnKey, ForRoom, Counting, OverAll}
+use Rattle.papaya_purposes.specs.Given.Callers.Together.{UnderWay, OnKey, OverAll}
 use Rattle.papaya_purposes.specs.Given.Effects.Effects.{effects_of}
 use Rattle.papaya_purposes.specs.Given.Effects.Known.{Known}
 use Rattle.papaya_purposes.specs.Given.Effects.declared.acting.Acting.TheVariants as acts
 use Rattle.papaya_purposes.specs.Given.Finishes.Machines.{machine_of}
-use Rattle.papaya_purposes.specs.Given.Finishes.Maps.{Standing}
-use Rattle.papaya_purposes.specs.Given.Follows.Shows.{Shows}
 use Rattle.papaya_purposes.specs.Given.Moments.Whole.{ShowsWhole}
 use Rattle.papaya_purposes.specs.Given.Owes.Making.{making_in_copying, making_in_sweeping}
 use Rattle.papaya_purposes.specs.Given.Finds.Growing.{FindAsked}
@@ -49,17 +45,6 @@ making_of_copier (kinds.Reserve r) = copier_in_reserving r.stands
 making_of_copier (kinds.Sweep c) = making_in_sweeping c.stands
 making_of_copier (kinds.Count sum) = None
 
--- the moment of its map at which a call began
-abbrev pub began_of : {K V Q : Type 0} → UnderWay K V Q → ℕ
-began_of (OnKey u) = u.began
-began_of (ForRoom r) = r.began
-began_of (Counting sum) = 0
-began_of (OverAll o) = o.began
-
--- in blocking mode, the root has left a table of the map at the moment of the map at which the call began, or since
-abbrev pub RootHasLeft : {K V : Type 0} → Scene K V → ℕ → UnderWay K V K → Type 0
-RootHasLeft {K} s map u = (standing : Standing K) × (s.maps map ≡ Some standing) × (is_incremental standing.setting.mode ≡ false) × (t : ℕ) × Left standing.chart (began_of u) t
-
 -- what a call makes its copier makes: a call on one key that copies, or a sweep
 abbrev pub MakesByCopier : {K V : Type 0} → UnderWay K V K → Type 0
 MakesByCopier (OnKey u) = IsCopying u.call.stands
@@ -67,13 +52,7 @@ MakesByCopier (OverAll o) = Unit {0}
 MakesByCopier _ = ⊥
 
 module _ (K V : Type 0) (same : K → K → Bool) (hash : ℕ → K → ℕ) where
-  -- The promises: where a copier makes a table, the map has a second one, or the root has left one;
-  abbrev pub CopiersHaveNext : Type 0
-  CopiersHaveNext =
-      (name : ℕ → List ℕ) (m : Moment K V) (known : Known) (s : Scene K V) (e : Held K V) → IsAt same hash e s → Shows same name m known s
-      → (map i : ℕ) (u : UnderWay K V K) → s.calls map i ≡ Some u → (n : NewTable) → making_of_copier (machine_of u) ≡ Some n → HasNext map m ⊎ RootHasLeft s map u
-
-  -- and each block for which such a call asks in a step it may ask for, if its map has a second table then, or had one at one of the moments before.
+  -- The promise: each block for which such a call asks in a step it may ask for, if its map has a second table then, or had one at one of the moments before.
   abbrev pub CopiersMayAsk : Type 0
   CopiersMayAsk =
       (name : ℕ → List ℕ) (m : Moment K V) (known : Known) (s : Scene K V) (old new : Held K V) → IsAt same hash old s → ShowsWhole same name m known s

@@ -27,13 +27,14 @@ use Rattle.papaya_grows.specs.Finding.{ShowsFinding}
 use Rattle.papaya_purposes.specs.Given.Scenes.Held.{Held, IsAt}
 use Rattle.papaya_purposes.specs.Given.Scenes.Scene.{Scene}
 use Rattle.papaya_purposes.specs.Given.Scenes.Stepping.{StepLeads}
+use Rattle.papaya_purposes.specs.Given.Schedules.Transition.{past}
 
 -- The promise, of a step of a call, at a moment at which all is in order, where the map of each copier that makes a table has a second one, or had one, and a call on one key that
 -- makes one behind the newest has found that full.
 abbrev pub StepsFindRest : (K V : Type 0) (same : K → K → Bool) (hash : ℕ → K → ℕ) → Type 0
 StepsFindRest K V same hash =
     (name : ℕ → List ℕ) (log : List (Entry K V)) (m : Moment K V) (known : Known) (s : Scene K V) (old new : Held K V) → IsAt same hash old s → ShowsWhole same name m known s
-    → ShowsKept name m known s → ShowsFinding name m known s → ShowsSources same name m known s → AllIsInOrder m → ShowsPurposes same name log m known s
+    → ShowsKept name m known s → ShowsFinding name m known s → ShowsSources same name m known s → AllIsInOrder m → ShowsPurposes same name (past log) m known s
     → (map i : ℕ) (u : UnderWay K V K) (here : s.calls map i ≡ Some u) (said : Progress (Node K V)) (leads : StepLeads same hash i said s old new)
     → (terms : Terms) (c : CallThere K V) → call_of (name i) m ≡ Some c → (leads map u here).0.setting.mask + 1 ≡ shards_of terms
     → (let effects = effects_of (acts.Call i map) known new.changed in

@@ -17,12 +17,12 @@ use Rattle.papaya_moments.specs.Given.Schedules.declared.outcome.Outcome.TheVari
 use Rattle.papaya_moments.specs.Given.Schedules.Beginning.{with_call}
 use Rattle.papaya_moments.specs.Given.Schedules.Effects.{with_effects}
 use Rattle.papaya_moments.specs.Given.Schedules.Entry.{ends_call}
-use Rattle.papaya_moments.specs.Given.Schedules.Moment.{Asking, UnderWay as CallThere, Moment, start}
+use Rattle.papaya_moments.specs.Given.Schedules.Moment.{Asking, UnderWay as CallThere, Moment}
 use Rattle.papaya_moments.specs.Given.Schedules.Views.{call_of, reply_to}
 use Rattle.papaya_moments.specs.Given.Callers.OverAll.{Verdict, CallOverAll}
 use Rattle.papaya_moments.specs.Given.Callers.Together.{UnderWay, OnKey, OverAll}
 use Rattle.papaya_moments.specs.Given.Effects.Effects.{effects_of, known_after}
-use Rattle.papaya_moments.specs.Given.Effects.Known.{Known, nothing_known}
+use Rattle.papaya_moments.specs.Given.Effects.Known.{Known}
 use Rattle.papaya_moments.specs.Given.Effects.declared.acting.Acting.TheVariants as acts
 use Rattle.papaya_moments.specs.Given.Finishes.Machines.{machine_of, ToldOfKind}
 use Rattle.papaya_moments.specs.Given.Finishes.Maps.{Standing}
@@ -34,7 +34,7 @@ use Rattle.papaya_moments.specs.Whole.{ShowsWhole}
 use Rattle.papaya_histories.specs.Asking.{IsToldQuestion}
 use Rattle.papaya_moments.specs.Given.Scenes.Held.{Held, IsAt}
 use Rattle.papaya_moments.specs.Given.Scenes.Replying.{scene_with}
-use Rattle.papaya_moments.specs.Given.Scenes.Scene.{Scene, at_first, slot_of}
+use Rattle.papaya_moments.specs.Given.Scenes.Scene.{Scene, slot_of}
 use Rattle.papaya_moments.specs.Given.Scenes.Stepping.{StepLeads, scene_after}
 
 -- what a sweep is for that was called so
@@ -88,11 +88,7 @@ module _ {K V : Type 0} where
   AsksAsCalled known _ _ = Unit {0}
 
 module _ (K V : Type 0) (same : K → K → Bool) where
-  -- The promises: so it is before all events,
-  abbrev pub AsCalledBegins : Type 0
-  AsCalledBegins = (roots : ℕ) (name : ℕ → List ℕ) → ShowsAsCalled {K = K} {V = V} same name start nothing_known (at_first roots)
-
-  -- where a call begins by a name that no call under way has,
+  -- The promises: so it is where a call begins by a name that no call under way has,
   abbrev pub CallsBeginAsCalled : Type 0
   CallsBeginAsCalled =
       (name : ℕ → List ℕ) (m : Moment K V) (known : Known) (s : Scene K V) → ShowsAsCalled same name m known s

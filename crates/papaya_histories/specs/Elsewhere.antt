@@ -1,5 +1,5 @@
 -- What stays so where anything else happens than a step of a call: on a slot, to a map that is made or ends, or to a walk that goes on or is given up.
-use Rattle.std.specs.Prelude.{◌≡◌, ℕ, Bool, true, false, List, [], flat_map, Option, Some, None}
+use Rattle.std.specs.Prelude.{◌≡◌, ℕ, Bool, true, false, List, [], Option, Some, None}
 use Rattle.papaya_moments.specs.Given.Seize.World.{Begin, Step, with_at}
 use Rattle.papaya_moments.specs.Given.Seize.declared.rows.settle.Settled.{Settled}
 use Rattle.papaya_moments.specs.Given.Tables.declared.node.Node.{Node}
@@ -8,7 +8,6 @@ use Rattle.papaya_moments.specs.Given.Runs.Same.{is_same}
 use Rattle.papaya_moments.specs.Given.Seize.declared.progress.Progress.{Progress}
 use Rattle.papaya_moments.specs.Given.Schedules.Beginning.{with_map}
 use Rattle.papaya_moments.specs.Given.Schedules.Effects.{with_effects, AtEachEffect}
-use Rattle.papaya_moments.specs.Given.Schedules.Linearizable.{shift_of}
 use Rattle.papaya_moments.specs.Given.Schedules.Moment.{MapThere, Remains, Moment}
 use Rattle.papaya_moments.specs.Given.Schedules.Views.{map_at, tables_of}
 use Rattle.papaya_moments.specs.Given.Sweeps.SweepPoints.{after_next}
@@ -34,7 +33,6 @@ use Rattle.papaya_moments.specs.OnSlots.{HadRetired}
 use Rattle.papaya_moments.specs.Whole.{ShowsWhole}
 use Rattle.papaya_histories.specs.AsCalled.{ShowsAsCalled}
 use Rattle.papaya_histories.specs.Due.{ShowsDue}
-use Rattle.papaya_histories.specs.Histories.{ShowsHistory}
 use Rattle.papaya_moments.specs.Given.Scenes.Ending.{EndingLeads, ending_begun}
 use Rattle.papaya_moments.specs.Given.Scenes.Held.{Held, IsAt}
 use Rattle.papaya_moments.specs.Given.Scenes.Making.{MakingLeads}
@@ -92,35 +90,10 @@ module _ {K V : Type 0} (same : K → K → Bool) (hash : ℕ → K → ℕ) (na
     pub alike : (m m2 : Moment K V) (known : Known) (s : Scene K V) → P m known s → HasSame m m2 → P m2 known s
 
 module _ (K V : Type 0) (same : K → K → Bool) (hash : ℕ → K → ℕ) where
-  -- The promises: so do the histories of maps,
-  abbrev pub HistoriesStay : Type 0
-  HistoriesStay = (name : ℕ → List ℕ) (log : Past K V) → StaysElsewhere same hash name (ShowsHistory same name log)
-
-  -- what calls owe,
+  -- The promises: so does what calls owe,
   abbrev pub DuesStay : Type 0
   DuesStay = (name : ℕ → List ℕ) (log : Past K V) → StaysElsewhere same hash name (ShowsDue same name log)
 
   -- and what those on no key are called for, told and ask.
   abbrev pub AsCalledStays : Type 0
   AsCalledStays = (name : ℕ → List ℕ) → StaysElsewhere {V = V} same hash name (ShowsAsCalled same name)
-
-  -- A walk that is ready goes on as the walk that it was,
-  abbrev pub WalksGoOnThere : Type 0
-  WalksGoOnThere =
-      (s : Scene K V) (old new : Held K V) → IsAt same hash old s → (i : ℕ) → AskLeads same hash i true s old new
-      → (leads : AskLeads same hash i true s old new)
-      × ((map : ℕ) (o : CallOverAll) (here : s.calls map i ≡ Some (OverAll o)) → (leads map (OverAll o) here).0 ≡ OverAll (gone_on o (after_next o.sweep)))
-
-  -- By a step of the making of a map no pair comes or goes,
-  abbrev pub MakingsShiftNone : Type 0
-  MakingsShiftNone =
-      (name : ℕ → List ℕ) (m : Moment K V) (known : Known) (s : Scene K V) (old new : Held K V) → IsAt same hash old s → ShowsWhole same name m known s
-      → (i : ℕ) (told : Progress Setting) → MakingLeads same hash i told s old new → (b : Beginning K) → s.makers i ≡ Some b
-      → flat_map shift_of (effects_of (Making b.map) known new.changed) ≡ []
-
-  -- nor by one of the end of a map.
-  abbrev pub EndingsShiftNone : Type 0
-  EndingsShiftNone =
-      (name : ℕ → List ℕ) (m : Moment K V) (known : Known) (s : Scene K V) (old new : Held K V) → IsAt same hash old s → ShowsWhole same name m known s
-      → (i : ℕ) (told : Settled (Node K V)) → EndingLeads same hash i told s old new → (f : Finishing K V) → s.enders i ≡ Some f → (map : ℕ) → s.maps map ≡ None
-      → flat_map shift_of (effects_of (Ending map) known new.changed) ≡ []

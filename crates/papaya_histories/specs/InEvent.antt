@@ -1,6 +1,5 @@
 -- An event of several steps of a call, whatever its kind, one after another: in its midst, and at its end.
 use Rattle.std.specs.Prelude.{◌≡◌, ℕ, Bool, List, [], ◌∷◌, ◌++◌, Option, Some}
-use Rattle.papaya_moments.specs.Given.Seize.World.{Rests}
 use Rattle.papaya_moments.specs.Given.Tables.declared.node.Node.{Node}
 use Rattle.papaya_moments.specs.Given.Runs.Present.{Present}
 use Rattle.papaya_moments.specs.Given.Raw.declared.machines.progress.Progress.{Progress}
@@ -11,31 +10,25 @@ use Rattle.papaya_moments.specs.Given.Schedules.declared.call.Reply.{Reply}
 use Rattle.papaya_moments.specs.Given.Schedules.declared.effect.Effect.{Effect}
 use Rattle.papaya_moments.specs.Given.Schedules.declared.outcome.Outcome.{Outcome}
 use Rattle.papaya_moments.specs.Given.Schedules.After.{moment}
-use Rattle.papaya_moments.specs.Given.Schedules.Beginning.{at_work, fresh_call, with_call}
+use Rattle.papaya_moments.specs.Given.Schedules.Beginning.{at_work}
 use Rattle.papaya_moments.specs.Given.Schedules.Effects.{with_effects}
 use Rattle.papaya_moments.specs.Given.Schedules.Entry.{Entry, ends_call, caller_of, acted_on}
 use Rattle.papaya_moments.specs.Given.Schedules.Moment.{Remains, Sheltered, UnderWay as CallThere, Moment}
 use Rattle.papaya_moments.specs.Given.Schedules.Views.{call_of}
-use Rattle.papaya_moments.specs.Given.Points.FactsCalls.{Unchanged}
-use Rattle.papaya_moments.specs.Given.Callers.Together.{CallOnKey, UnderWay, OnKey}
+use Rattle.papaya_moments.specs.Given.Callers.Together.{UnderWay, OnKey}
 use Rattle.papaya_moments.specs.Given.Effects.Effects.{effects_of, known_after}
 use Rattle.papaya_moments.specs.Given.Effects.Known.{Known}
 use Rattle.papaya_moments.specs.Given.Effects.declared.acting.Acting.TheVariants as acts
-use Rattle.papaya_moments.specs.Given.Finishes.Maps.{Standing}
-use Rattle.papaya_moments.specs.Given.Follows.Calling.{NoneNamed}
-use Rattle.papaya_moments.specs.Given.Follows.Calls.{IsCalled}
-use Rattle.papaya_moments.specs.Given.Hands.Calling.{IsBegunFor, AsksJust}
+use Rattle.papaya_moments.specs.Given.Hands.Calling.{AsksJust}
 use Rattle.papaya_moments.specs.Whole.{ShowsWhole}
-use Rattle.papaya_histories.specs.AsCalled.{ShowsAsCalled, IsBegunAs, AsksAsCalled}
+use Rattle.papaya_histories.specs.AsCalled.{ShowsAsCalled, AsksAsCalled}
 use Rattle.papaya_histories.specs.Due.{ShowsDue}
 use Rattle.papaya_histories.specs.Events.{ComesToIt}
-use Rattle.papaya_histories.specs.Histories.{began_of}
 use Rattle.papaya_histories.specs.Kept.{HasJustBegun}
 use Rattle.papaya_histories.specs.OtherMidsts.{AsksAsSaid, InOtherMidst}
 use Rattle.papaya_histories.specs.Questions.{ShowsQuestions, AsksOnStill}
 use Rattle.papaya_histories.specs.Several.{InMidst}
 use Rattle.papaya_moments.specs.Given.Scenes.Held.{Held, IsAt}
-use Rattle.papaya_moments.specs.Given.Scenes.Replying.{scene_with}
 use Rattle.papaya_moments.specs.Given.Scenes.Scene.{Scene}
 use Rattle.papaya_moments.specs.Given.Scenes.Stepping.{StepLeads, has_ended, scene_after}
 use Rattle.papaya_moments.specs.Given.Schedules.Transition.{Past, Transition, past}
@@ -68,20 +61,6 @@ module _ (K V : Type 0) (same : K → K → Bool) (hash : ℕ → K → ℕ) whe
       → ShowsWhole same name beginning known s → ShowsDue same name log beginning known s → ShowsAsCalled same name beginning known s
       → (map i : ℕ) (u : UnderWay K V K) → s.calls map i ≡ Some u → (c : CallThere K V) → call_of (name i) beginning ≡ Some c
       → InEvent same name log beginning map i c [] beginning known s u
-
-  -- which may begin the call, too, as it does at this moment of its map, by a name that no call under way has,
-  abbrev pub EventsBeginCalls : Type 0
-  EventsBeginCalls =
-      (name : ℕ → List ℕ) (log : Past K V) (known : Known) (s : Scene K V) (old : Held K V) → IsAt same hash old s
-      → ShowsWhole same name log.now known s → ShowsDue same name log log.now known s → ShowsAsCalled same name log.now known s
-      → (map i : ℕ) (u : UnderWay K V K) (call : Call K V) (guard : List ℕ) (standing : Standing K) → s.maps map ≡ Some standing
-      → ((began : ℕ) → began_of u ≡ Some began → began ≡ standing.chart.now)
-      → ((v : CallOnKey K V K) → u ≡ OnKey v → v.change ≡ Unchanged) → NoneNamed name (name i) s → IsCalled same u call → IsBegunFor u call → IsBegunAs u call
-      → s.world.row i ≡ Rests
-      → (new : Held K V) → IsAt same hash new (scene_with map i u s)
-      → (let beginning = with_call (name i) guard call (Some map) log.now in
-      let c = fresh_call (name i) guard call map log.now.events in
-      (call_of (name i) beginning ≡ Some c) × InEvent same name log beginning map i c [] beginning known (scene_with map i u s) u)
 
   -- after each step of the call, where it goes on;
   abbrev pub EventsGoOn : Type 0

@@ -1,9 +1,8 @@
 -- Where a row on a slot begins, and takes its steps, the histories of maps stay within the moments of the run, and calls owe what they owed.
-use Rattle.std.specs.Prelude.{◌≡◌, ℕ, Bool, List, [], flat_map, None}
+use Rattle.std.specs.Prelude.{◌≡◌, ℕ, Bool, List, None}
 use Rattle.papaya_moments.specs.Given.Seize.World.{Begin, Step}
 use Rattle.papaya_moments.specs.Given.Tables.declared.node.Node.{Node}
 use Rattle.papaya_moments.specs.Given.Schedules.Effects.{with_effects, AtEachEffect}
-use Rattle.papaya_moments.specs.Given.Schedules.Linearizable.{shift_of}
 use Rattle.papaya_moments.specs.Given.Schedules.Moment.{Moment}
 use Rattle.papaya_moments.specs.Given.Effects.Effects.{effects_of, known_after}
 use Rattle.papaya_moments.specs.Given.Effects.Known.{Known}
@@ -52,9 +51,3 @@ module _ (K V : Type 0) (same : K → K → Bool) (hash : ℕ → K → ℕ) whe
       → AtEachEffect WasRetired None None (effects_of Row known new.changed) m
       → ShowsDue same name log (with_effects None None (effects_of Row known new.changed) m) (known_after Row new.changed known)
       (scene_then same hash (Step i) s old new (leads row here).2)
-
-  -- and by a step of a row on a slot no pair comes or goes.
-  abbrev pub RowsShiftNone : Type 0
-  RowsShiftNone =
-      (known : Known) (s : Scene K V) (old new : Held K V) (i : ℕ) (told : RowTold (Node K V)) → RowLeads same hash i told s old new → (row : SlotRow) → IsOnSlot s i row
-      → flat_map shift_of (effects_of Row known new.changed) ≡ []

@@ -157,7 +157,7 @@ module _ (K V : Type 0) (same : K → K → Bool) (hash : ℕ → K → ℕ) (na
 
       brief : ReadsBriefly log e (worked e m)
       brief = subst (λ (v : Moment K V). ReadsBriefly log e v) (sym (stays said))
-          (events_read_briefly K V same hash name log (λ j. 0) m known s x at run.calls.whole run.reading map i u here e of_call (omega arith))
+          (events_read_briefly K V same hash name (past log) (λ j. 0) m known s x at run.calls.whole run.reading map i u here (caller_of e.event) of_call e.steps (omega arith))
 
       leaves : IfCall (LeavesOf (comes_clear said) said) (acting (caller_of its) (worked e m))
       leaves = subst (λ (o : Option (CallThere K V)). IfCall (LeavesOf (comes_clear said) said) o) (sym (its_call (worked e m) (stays said))) (leaves_so said so ready)
@@ -167,7 +167,7 @@ module _ (K V : Type 0) (same : K → K → Bool) (hash : ℕ → K → ℕ) (na
 
       legal : IsLegalBut same terms log e × SectionsHold (moment (e ∷ log)) known s.world
       legal =
-          still_events_are_legal K V same terms log known s.world e refl linear run.sections enters unchanged.0 unchanged.1 brief (other_outcomes_are_swept K V same terms log e says) whole leaves
+          still_events_are_legal K V same terms log known s.world e refl linear run.sections enters unchanged.0 unchanged.1 brief (other_outcomes_are_swept K V same terms (past log) (transition log e) says) whole leaves
 
       said_on : IsLegalBut same terms log e × ShowsRun same name terms (e ∷ log) known s
       said_on = (

@@ -1,22 +1,17 @@
 -- Before all events all is carried that events need, whatever was chosen of numbers of blocks.
 use Rattle.std.specs.Prelude.{[]}
 use Rattle.std.proofs.Common.{refl, inl}
-use Rattle.papaya_grows.specs.Given.Tables.Nodes.{deferred_word}
-use Rattle.papaya_grows.specs.Given.Effects.Known.{nothing_known}
-use Rattle.papaya_grows.proofs.Given.Moments.Calls.{whole_begins}
 use Rattle.papaya_grows.proofs.Given.Moments.NewMaps.{pairs_begin}
 use Rattle.papaya_grows.proofs.Given.Moments.Numbers.{numbers_begin}
-use Rattle.papaya_grows.proofs.Given.Kept.Stays.{begins_kept}
 use Rattle.papaya_grows.proofs.Given.Histories.Logs.{first_is_past}
 use Rattle.papaya_grows.proofs.Given.Histories.Questions.{questions_begin}
 use Rattle.papaya_promises.proofs.Guards.{no_guard}
 use Rattle.papaya_models.specs.Numbers.{HasNumber}
 use Rattle.papaya_models.proofs.Alike.Changed.{start_alike}
-use Rattle.papaya_models.proofs.Turns.{turns_begin}
 use Rattle.papaya_grows.proofs.Given.Finds.Runs.{all_in_order_at_first}
 use Rattle.papaya_grows.proofs.Given.Purposes.Tableless.{tableless_at_first}
-use Rattle.papaya_legal.specs.Carried.{RunsBegin, RunsBeginIn}
-use Rattle.papaya_grows.specs.Given.Scenes.Scene.{at_first}
+use Rattle.papaya_legal.specs.Carried.{RunsBeginIn}
+use Rattle.papaya_grows.proofs.Given.Purposes.Stored.{first_lasts}
 
 pub runs_begin_in : (K V : Type 0) → RunsBeginIn K V
 runs_begin_in K V same terms name known w whole kept came = record {
@@ -55,13 +50,15 @@ runs_begin_in K V same terms name known w whole kept came = record {
     as_called = record { shown = whole.all.shown; each = λ map i u is st there c found. absurd (cc is) };
     questions = questions_begin K V;
     purposes = record {
+      past = first_is_past;
+      lasts = first_lasts K V;
       shown = whole.all.shown;
       begun = λ n i u is c found. absurd (cc is);
       is_for = λ n i u is c found. absurd (cc is);
       come = λ n i u is st there c found. absurd (cc is);
     };
   };
-  reading = record { begun = λ map i u is c found looks_for. absurd (cc is); reads = λ map i u is c found looks_for st there. absurd (cc is) };
+  reading = record { past = first_is_past; begun = λ map i u is c found looks_for. absurd (cc is); reads = λ map i u is c found looks_for st there. absurd (cc is) };
   sections = (λ own g is. no_guard g is, tt);
   follows = λ alone. inl (record { before = []; came = came; alike = start_alike (HasNumber known []) });
   order = (all_in_order_at_first K V, tt);
@@ -69,8 +66,3 @@ runs_begin_in K V same terms name known w whole kept came = record {
   over = λ closed. absurd (cc closed);
   left = λ n. refl;
 }
-
-pub runs_begin : (K V : Type 0) → RunsBegin K V
-runs_begin K V same terms name =
-    runs_begin_in K V same terms name nothing_known (at_first {K = K} {V = V} terms.roots).world (whole_begins K V same terms.roots name) (begins_kept K V terms.roots name)
-    (turns_begin deferred_word terms.batch_size terms.roots)

@@ -41,6 +41,7 @@ use Rattle.papaya_legal.proofs.Maps.{stands_so}
 use Rattle.papaya_legal.proofs.Over.{quiet_events_end}
 use Rattle.papaya_grows.specs.Given.Scenes.Replying.{scene_with, unless_stopped}
 use Rattle.papaya_grows.specs.Given.Scenes.Scene.{Scene}
+use Rattle.papaya_grows.specs.Given.Schedules.Transition.{past, transition}
 
 module _ (K V : Type 0) (same : K → K → Bool) (hash : ℕ → K → ℕ) where
   pub begun_events_end : BegunEventsEnd K V same hash
@@ -54,13 +55,13 @@ module _ (K V : Type 0) (same : K → K → Bool) (hash : ℕ → K → ℕ) whe
       e = record { event = event.Begin (name i) guard on call; outcome = Goes; steps = steps; effects = [] }
 
       legal : IsLegalBut same terms log e
-      legal = (idle_events_are_legal K V same terms log known s.world e refl tt run.sections tt refl refl tt (no_calls_are_swept K V same terms log e refl) tt tt).0
+      legal = (idle_events_are_legal K V same terms log known s.world e refl tt run.sections tt refl refl tt (no_calls_are_swept K V same terms (past log) (transition log e) refl) tt tt).0
 
       shown : ShowsCalls same name log (with_call (name i) guard call (Some map) (moment log)) known (scene_with map i u s)
       shown = calls_begin K V same hash name log known s old new at run.calls map i standing there u call guard begins right none rests at2
 
-      reading : ShowsReading name log (λ j. 0) (with_call (name i) guard call (Some map) (moment log)) (scene_with map i u s)
-      reading = calls_begin_readings K V same name log (moment log) known s run.calls.whole run.reading map i u call guard none right.looks (events_are log)
+      reading : ShowsReading name (past log) (λ j. 0) (with_call (name i) guard call (Some map) (moment log)) (scene_with map i u s)
+      reading = calls_begin_readings K V same name (past log) (moment log) known s run.calls.whole run.reading map i u call guard none right.looks (events_are log)
 
       -- the moment after it, by which map has that name
       named : Option ℕ → Moment K V
@@ -100,7 +101,7 @@ module _ (K V : Type 0) (same : K → K → Bool) (hash : ℕ → K → ℕ) whe
       e = record { event = event.Replied (name i) is_told; outcome = Goes; steps = steps; effects = [] }
 
       legal : IsLegalBut same terms log e
-      legal = (idle_events_are_legal K V same terms log known s.world e refl tt run.sections tt refl refl tt (no_calls_are_swept K V same terms log e refl) tt tt).0
+      legal = (idle_events_are_legal K V same terms log known s.world e refl tt run.sections tt refl refl tt (no_calls_are_swept K V same terms (past log) (transition log e) refl) tt tt).0
 
       shown : ShowsCalls same name log (told (name i) is_told (moment log)) known (scene_with map i next s)
       shown = calls_take K V same hash name log (moment log) known s old new at run.calls map i u here c c_is question asks standing there is_told next next_is takes told_kind taken at2
@@ -113,8 +114,8 @@ module _ (K V : Type 0) (same : K → K → Bool) (hash : ℕ → K → ℕ) whe
           by true is = absurd (takes_none (is_incremental standing.setting.mode) map standing.chart (moments_from c.begun log) (c.steps + 0) (as_told is_told) u
               (run.reading.reads map i u here c c_is is standing there) takes)
 
-      reading : ShowsReading name log (λ j. 0) (told (name i) is_told (moment log)) (scene_with map i next s)
-      reading = calls_take_readings K V name log (λ j. 0) (moment log) s run.reading (λ n j x is. (let d = run.calls.whole.all.shown.calls n j x is in (d.0, d.1))) map i c c_is no_look is_told next
+      reading : ShowsReading name (past log) (λ j. 0) (told (name i) is_told (moment log)) (scene_with map i next s)
+      reading = calls_take_readings K V name (past log) (λ j. 0) (moment log) s run.reading (λ n j x is. (let d = run.calls.whole.all.shown.calls n j x is in (d.0, d.1))) map i c c_is no_look is_told next
 
   pub stopped_events_end : StoppedEventsEnd K V same hash
   stopped_events_end name terms log known s old new at run i leads map u here steps none comes = (
@@ -127,7 +128,7 @@ module _ (K V : Type 0) (same : K → K → Bool) (hash : ℕ → K → ℕ) whe
       e = record { event = event.Stop (name i); outcome = Done; steps = steps; effects = [] }
 
       legal : IsLegalBut same terms log e
-      legal = (idle_events_are_legal K V same terms log known s.world e refl tt run.sections tt refl refl tt (no_calls_are_swept K V same terms log e refl) tt tt).0
+      legal = (idle_events_are_legal K V same terms log known s.world e refl tt run.sections tt refl refl tt (no_calls_are_swept K V same terms (past log) (transition log e) refl) tt tt).0
 
       at_end : Scene K V
       at_end = record s { calls = with_call_of s.calls map i (unless_stopped true u) }
@@ -157,5 +158,5 @@ module _ (K V : Type 0) (same : K → K → Bool) (hash : ℕ → K → ℕ) whe
         maps = λ n j x is st stands. stands_so s.maps n st stands;
       }
 
-      reading : ShowsReading name log (λ j. 0) (given_up (name i) true (moment log)) at_end
-      reading = readings_stay K V name log (λ j. 0) (λ j. 0) (moment log) (given_up (name i) true (moment log)) s at_end stay run.reading
+      reading : ShowsReading name (past log) (λ j. 0) (given_up (name i) true (moment log)) at_end
+      reading = readings_stay K V name (past log) (λ j. 0) (λ j. 0) (moment log) (given_up (name i) true (moment log)) s at_end stay run.reading

@@ -89,7 +89,7 @@ likes_show K V same name log m v known s all like = subst (λ (x : Moment K V). 
   dues = (dues_stay K V same (λ n k. 0) name (past log)).alike m other known s all.dues alike;
   as_called = (as_called_stays K V same (λ n k. 0) name).alike m other known s all.as_called alike;
   questions = all.questions;
-  purposes = (purposes_stay K V same (λ n k. 0) name log).alike m other known s all.purposes alike;
+  purposes = (purposes_stay K V same (λ n k. 0) name (past log)).alike m other known s all.purposes alike;
 })
   where
     other : Moment K V
@@ -122,7 +122,7 @@ logs_grow K V same name log e known s all = record {
   dues = events_keep_due K V same name (past log) (moment (e ∷ log)) known s all.dues (events_are (e ∷ log));
   as_called = all.as_called;
   questions = all.questions;
-  purposes = events_keep_purposes K V same name log e known s all.purposes;
+  purposes = events_keep_purposes K V same name (past log) (moment (e ∷ log)) known s all.purposes (events_are (e ∷ log));
 }
 
 -- a call by another name is that by its name
@@ -163,6 +163,8 @@ names_change K V same name name2 log m known s agree all = record {
   };
   questions = all.questions;
   purposes = record {
+    past = all.purposes.past;
+    lasts = all.purposes.lasts;
     shown = shows same name name2 m known s agree all.purposes.shown;
     begun = λ of i u is c c_is. all.purposes.begun of i u is c (as_named of i u is c c_is);
     is_for = λ of i u is c c_is. all.purposes.is_for of i u is c (as_named of i u is c c_is);
@@ -280,7 +282,7 @@ module _ (K V : Type 0) (same : K → K → Bool) (hash : ℕ → K → ℕ) whe
             right.given (events_are log);
         as_called = calls_begin_as_called K V same name m known s all.as_called map i u call guard none right.called right.swept;
         questions = calls_begin_questions K V (name i) guard call (Some map) m all.questions;
-        purposes = calls_begin_purposes K V same hash name log m known s old at all.purposes map i u call guard standing there begins none right.called right.aim (events_are log) refl;
+        purposes = calls_begin_purposes K V same hash name (past log) m known s old at all.purposes map i u call guard standing there begins none right.called right.aim (events_are log) refl;
       }
 
   pub calls_take : CallsTake K V same hash
@@ -307,7 +309,7 @@ module _ (K V : Type 0) (same : K → K → Bool) (hash : ℕ → K → ℕ) whe
         dues = calls_take_due K V same hash name (past log) m known s old at all.dues map i u here c c_is question asks standing there is_told next next_is takes told_kind taken;
         as_called = calls_take_as_called K V same hash name m known s old at all.whole all.as_called map i u here c c_is question asks standing there is_told next next_is takes told_kind;
         questions = calls_take_questions K V (name i) is_told m all.questions;
-        purposes = calls_take_purposes K V same hash name log m known s old at all.whole all.purposes map i u here c c_is question asks (asks_about known u question about) standing there is_told next takes told_kind;
+        purposes = calls_take_purposes K V same hash name (past log) m known s old at all.whole all.purposes map i u here c c_is question asks (asks_about known u question about) standing there is_told next takes told_kind;
       }
     where
       stays : in_hand known (machine_of next) ≡ in_hand known (machine_of u)
@@ -344,7 +346,7 @@ module _ (K V : Type 0) (same : K → K → Bool) (hash : ℕ → K → ℕ) whe
     dues = (dues_stay K V same hash name (past log)).walks m known s old new at all.whole all.dues i leads map o here is;
     as_called = (as_called_stays K V same hash name).walks m known s old new at all.whole all.as_called i leads map o here is;
     questions = all.questions;
-    purposes = (purposes_stay K V same hash name log).walks m known s old new at all.whole all.purposes i leads map o here is;
+    purposes = (purposes_stay K V same hash name (past log)).walks m known s old new at all.whole all.purposes i leads map o here is;
   }
     where
       next : UnderWay K V K
@@ -379,7 +381,7 @@ module _ (K V : Type 0) (same : K → K → Bool) (hash : ℕ → K → ℕ) whe
     dues = (dues_stay K V same hash name (past log)).walks_stop m known s old new at all.whole all.dues i stopped leads map u here none;
     as_called = (as_called_stays K V same hash name).walks_stop m known s old new at all.whole all.as_called i stopped leads map u here none;
     questions = given_questions (name i) m stopped all.questions;
-    purposes = (purposes_stay K V same hash name log).walks_stop m known s old new at all.whole all.purposes i stopped leads map u here none;
+    purposes = (purposes_stay K V same hash name (past log)).walks_stop m known s old new at all.whole all.purposes i stopped leads map u here none;
   }
     where
       at_end : Bool → Scene K V

@@ -48,7 +48,7 @@ module _ (K V : Type 0) (same : K → K → Bool) (hash : ℕ → K → ℕ) whe
           dues = (dues_stay K V same hash name (past log)).maps_come m known s e e at all.whole all.dues there come.1;
           as_called = (as_called_stays K V same hash name).maps_come m known s e e at all.whole all.as_called there come.1;
           questions = all.questions;
-          purposes = (purposes_stay K V same hash name log).maps_come m known s e e at all.whole all.purposes there come.1;
+          purposes = (purposes_stay K V same hash name (past log)).maps_come m known s e e at all.whole all.purposes there come.1;
         },
         (let l : m.made ≤ there.number = omega (arith, number) in all.uncounted there.number l),
       )
@@ -74,7 +74,7 @@ module _ (K V : Type 0) (same : K → K → Bool) (hash : ℕ → K → ℕ) whe
     dues = (dues_stay K V same hash name (past log)).makings_begin m known s old new at all.whole all.dues i b at2;
     as_called = (as_called_stays K V same hash name).makings_begin m known s old new at all.whole all.as_called i b at2;
     questions = all.questions;
-    purposes = (purposes_stay K V same hash name log).makings_begin m known s old new at all.whole all.purposes i b at2;
+    purposes = (purposes_stay K V same hash name (past log)).makings_begin m known s old new at all.whole all.purposes i b at2;
   }
 
   pub ends_begin : EndsBegin K V same hash
@@ -93,7 +93,7 @@ module _ (K V : Type 0) (same : K → K → Bool) (hash : ℕ → K → ℕ) whe
     dues = (dues_stay K V same hash name (past log)).endings_begin m known s old new at all.whole all.dues map i standing there at2;
     as_called = (as_called_stays K V same hash name).endings_begin m known s old new at all.whole all.as_called map i standing there at2;
     questions = all.questions;
-    purposes = (purposes_stay K V same hash name log).endings_begin m known s old new at all.whole all.purposes map i standing there at2;
+    purposes = (purposes_stay K V same hash name (past log)).endings_begin m known s old new at all.whole all.purposes map i standing there at2;
   }
     where
       kept : ShowsKept name m known (ending_begun map i standing s)
@@ -118,7 +118,7 @@ module _ (K V : Type 0) (same : K → K → Bool) (hash : ℕ → K → ℕ) whe
     dues = (dues_stay K V same hash name (past log)).endings_over m known s e e at all.whole all.dues own remains apart;
     as_called = (as_called_stays K V same hash name).endings_over m known s e e at all.whole all.as_called own remains apart;
     questions = all.questions;
-    purposes = (purposes_stay K V same hash name log).endings_over m known s e e at all.whole all.purposes own remains apart;
+    purposes = (purposes_stay K V same hash name (past log)).endings_over m known s e e at all.whole all.purposes own remains apart;
   }
     where
       still : (n : ℕ) (st : Standing K) → s.maps n ≡ Some st → map_at n (without_map own remains m) ≡ map_at n m

@@ -29,6 +29,7 @@ use Rattle.papaya_legal.proofs.Calls.{call_events_begin_so}
 use Rattle.papaya_legal.proofs.Maps.{stands_so}
 use Rattle.papaya_grows.specs.Given.Scenes.Replying.{scene_with}
 use Rattle.papaya_grows.specs.Given.Scenes.Scene.{Scene}
+use Rattle.papaya_grows.specs.Given.Schedules.Transition.{past}
 
 -- what a caller has under way is there on its map
 pub now_there : {K V : Type 0} (s : Scene K V) (map i : ℕ) (u : UnderWay K V K) → (scene_with map i u s).calls map i ≡ Some u
@@ -40,7 +41,7 @@ whole_calls_begin K V same hash name terms log known s old new at run map i stan
   c_is,
   call_events_begin_so K V same hash name terms log (with_call (name i) guard call (Some map) (moment log)) (refl, refl) refl refl refl refl refl run.tableless known (scene_with map i u s) new at2
       (calls_begin K V same hash name log known s old new at run.calls map i standing there u call guard begins right none rests at2)
-      (calls_begin_readings K V same name log (moment log) known s run.calls.whole run.reading map i u call guard none right.looks (events_are log))
+      (calls_begin_readings K V same name (past log) (moment log) known s run.calls.whole run.reading map i u call guard none right.looks (events_are log))
       run.sections run.follows (OneCall guard on call) map i (ap (λ (own : List ℕ). Some own) (sym named)) u (now_there s map i u)
       (fresh_call (name i) guard call map (moment log).events) c_is only,
 )
@@ -85,5 +86,5 @@ nexts_begin K V same hash name terms log known s old new at run i leads map o he
       maps = λ n j x x_is st there. stands_so s.maps n st there;
     }
 
-    reading : ShowsReading name log (λ j. 0) (moment log) (scene_with map i next s)
-    reading = readings_stay K V name log (λ j. 0) (λ j. 0) (moment log) (moment log) s (scene_with map i next s) stay run.reading
+    reading : ShowsReading name (past log) (λ j. 0) (moment log) (scene_with map i next s)
+    reading = readings_stay K V name (past log) (λ j. 0) (λ j. 0) (moment log) (moment log) s (scene_with map i next s) stay run.reading

@@ -65,14 +65,14 @@ module _ {K V : Type 0} (same : K → K → Bool) (hash : ℕ → K → ℕ) (s 
 
 module _ (K V : Type 0) (same : K → K → Bool) (hash : ℕ → K → ℕ) (name : ℕ → List ℕ) (log : List (Entry K V)) (m : Moment K V) (known : Known) (s : Scene K V) (old new : Held K V)
     (at : IsAt same hash old s) (whole : ShowsWhole same name m known s) (counters : ShowsCounters name m s) (map i : ℕ) (u : UnderWay K V K) (here : s.calls map i ≡ Some u) (said : Progress (Node K V))
-    (leads : StepLeads same hash i said s old new) (unadded : AddsUp u → NoneCounted log m map) where
+    (leads : StepLeads same hash i said s old new) (unadded : AddsUp u → NoneCounted (past log) m map) where
   -- it reads them as they are, if none was counted on before,
-  pub reads_shards : ReadsShards log m s map u
-  reads_shards adds = (steps_read_shards K V same hash name log m known s old new at whole counters map i u here said leads (unadded adds)).0 adds
+  pub reads_shards : ReadsShards (past log) m s map u
+  reads_shards adds = (steps_read_shards K V same hash name (past log) m known s old new at whole counters map i u here said leads (unadded adds)).0 adds
 
   -- and none is by that
   pub unadded_still : (x : UnderWay K V K) → (leads map u here).4.next ≡ Some x → AddsUp x
-      → NoneCounted log (with_effects (Some (name i)) (Some map) (effects_of (acts.Call i map) known new.changed) m) map
+      → NoneCounted (past log) (with_effects (Some (name i)) (Some map) (effects_of (acts.Call i map) known new.changed) m) map
   unadded_still x goes adds =
       let before = added_before same hash s old new map i said leads u here x goes adds in
-      (steps_read_shards K V same hash name log m known s old new at whole counters map i u here said leads (unadded before)).1 before
+      (steps_read_shards K V same hash name (past log) m known s old new at whole counters map i u here said leads (unadded before)).1 before

@@ -109,7 +109,7 @@ module _ {K V : Type 0} (same : K → K → Bool) (hash : ℕ → K → ℕ) (na
   first_class = changes_first same hash name log beginning map i c done m known s old new at said leads u midst
 
   -- by a call on no key none comes
-  pub none_comes : ((k : K) → (finite_map same map v k ≡ finite_map same map beginning k) ⊎ (finite_map same map v k ≡ None)) → NoneCame log v map
+  pub none_comes : ((k : K) → (finite_map same map v k ≡ finite_map same map beginning k) ⊎ (finite_map same map v k ≡ None)) → NoneCame (past log) v map
   none_comes fewer n v_in =
       let own = own_then n v_in in
       elim (fewer own.0.0) as (λ _. is_in_map map ((moment log).place n) ≡ true) [
@@ -118,7 +118,7 @@ module _ {K V : Type 0} (same : K → K → Bool) (hash : ℕ → K → ℕ) (na
         | inr e ↦ absurd (let found = own.2 in cc (e, found))
       ]
 
-  pub pairs_first : PairsChangeFirst log m map v
+  pub pairs_first : PairsChangeFirst (past log) m map v
   pairs_first n = by (is_in_map map (m.place n)) (is_in_map map (v.place n)) refl refl
     where
       First : Type 0

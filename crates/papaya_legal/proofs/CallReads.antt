@@ -105,22 +105,24 @@ module _ (K V : Type 0) (same : K → K → Bool) (hash : ℕ → K → ℕ) (na
       let kept = effects_steps (name i) map (name i) effects m its.0 its.1 in
       let one : d ≡ kept.0 = one_of d kept.0 (sym d_is ∙ kept.1) in ap (λ (x : CallThere K V). looks x.call) one ∙ ap looks kept.3 ∙ looks_same ∙ no_look
 
-  pub readings_go_on : ShowsReading name log (λ j. if j == i then steps + 1 else 0) v s2
+  pub readings_go_on : ShowsReading name (past log) (λ j. if j == i then steps + 1 else 0) v s2
   readings_go_on = by (looks c.call) refl
     where
-      by : (q : Bool) → looks c.call ≡ q → ShowsReading name log (λ j. if j == i then steps + 1 else 0) v s2
+      by : (q : Bool) → looks c.call ≡ q → ShowsReading name (past log) (λ j. if j == i then steps + 1 else 0) v s2
       by true looks_for =
-          let r = lookups_keep_readings K V same hash name log made m known s old new at_old midst.calls.whole midst.reading (midst.quiet looks_for).0 (midst.quiet looks_for).1 map i u here said leads
+          let r = lookups_keep_readings K V same hash name (past log) made m known s old new at_old midst.calls.whole midst.reading (midst.quiet looks_for).0 (midst.quiet looks_for).1 map i u here said leads
           its.0 its.1 (looks_same ∙ looks_for) in
-          subst (λ (x : Moment K V). ShowsReading name log (λ j. if j == i then steps + 1 else 0) x s2) (sym (does_nothing looks_for)) (record {
+          subst (λ (x : Moment K V). ShowsReading name (past log) (λ j. if j == i then steps + 1 else 0) x s2) (sym (does_nothing looks_for)) (record {
+            past = r.past;
             begun = r.begun;
             reads = λ n j x is d d_is d_looks standing there.
                 subst (λ (k : ℕ). HasLooked (is_incremental standing.setting.mode) n standing.chart (moments_from d.begun log) (d.steps + k) x) (one_more_step steps (j == i))
                 (r.reads n j x is d d_is d_looks standing there);
           })
       by false no_look =
-          let r = others_keep_readings K V same hash name log made m known s old new at_old midst.calls.whole midst.reading map i u here said leads its.0 its.1 (looks_same ∙ no_look) in
+          let r = others_keep_readings K V same hash name (past log) made m known s old new at_old midst.calls.whole midst.reading map i u here said leads its.0 its.1 (looks_same ∙ no_look) in
           record {
+            past = r.past;
             begun = r.begun;
             reads = λ n j x is d d_is d_looks standing there. elim (cases_eq j i) as
                 (λ _. HasLooked (is_incremental standing.setting.mode) n standing.chart (moments_from d.begun log) (d.steps + (if j == i then steps + 1 else 0)) x) [
@@ -158,7 +160,7 @@ module _ (K V : Type 0) (same : K → K → Bool) (hash : ℕ → K → ℕ) (na
           ∙ ap (λ (x : Moment K V). with_effects (Some (name i)) (Some map) (effects_of (acts.Call i map) known new.changed) x) (sym midst.worked)
 
       before : ReadsBriefly log e m
-      before = events_read_briefly K V same hash name log (λ j. if j == i then steps else 0) m known s old at_old midst.calls.whole midst.reading map i u had e midst.of_call
+      before = events_read_briefly K V same hash name (past log) (λ j. if j == i then steps else 0) m known s old at_old midst.calls.whole midst.reading map i u had (caller_of e.event) midst.of_call e.steps
           (let made = made_its in omega (arith, few, made))
 
       still : (d : CallThere K V) × (call_of (name i) m ≡ Some d) × IsSameCall c d

@@ -134,29 +134,29 @@ call_events_run K V same hash name terms log beginning map i c c_is first before
     none : ends_call e.outcome ≡ true → NoneNamed name (name i) s2
     none = none_named same hash name log m known s midst.calls.dues map i u here old new said leads e tells_end.ends
 
-    pairs : PairsChangeFirst log m map v
+    pairs : PairsChangeFirst (past log) m map v
     pairs = pairs_first same hash name log beginning map i c done m known s whole old new at said leads u midst.event_so
         (begun_so same name log beginning map i c done m known s u midst.event_so) midst.worked midst.its_own
 
     -- what calls are for, once its call has come to that
-    purposes : ShowsAsTold then_known said e.outcome → ShowsPurposes same name log come then_known s2
-    purposes (inl (silent, tells)) = calls_come_to_purposes K V same name log v then_known s2
-        (calls_keep_purposes K V same hash name log m known s old new at whole midst.calls.purposes map i u here said leads pairs
+    purposes : ShowsAsTold then_known said e.outcome → ShowsPurposes same name (past log) come then_known s2
+    purposes (inl (silent, tells)) = calls_come_to_purposes K V same name (past log) v then_known s2
+        (calls_keep_purposes K V same hash name (past log) m known s old new at whole midst.calls.purposes map i u here said leads pairs
         (changes_first same hash name log beginning map i c done m known s old new at said leads u midst.event_so)
         (reads_shards K V same hash name log m known s old new at whole midst.calls.counters map i u here said leads midst.unadded) silent) (name i) e.outcome e.steps tells none
-    purposes (inr (word, q, said_is, outcome_is, names)) = subst (λ (o : Outcome V). ShowsPurposes same name log (come_to (name i) o e.steps v) then_known s2) (sym outcome_is)
+    purposes (inr (word, q, said_is, outcome_is, names)) = subst (λ (o : Outcome V). ShowsPurposes same name (past log) (come_to (name i) o e.steps v) then_known s2) (sym outcome_is)
         (shown_by said said_is leads)
       where
         shown_by : (told : Progress (Node K V)) → told ≡ progress.Pair word → (led : StepLeads same hash i told s old new)
-            → ShowsPurposes same name log (come_to (name i) (outcome.Shows q) e.steps v) then_known (scene_after same s old new map i (led map u here).0 u (led map u here).1 told (led map u here).4)
+            → ShowsPurposes same name (past log) (come_to (name i) (outcome.Shows q) e.steps v) then_known (scene_after same s old new map i (led map u here).0 u (led map u here).1 told (led map u here).4)
         shown_by told is = subst (λ (x : Progress (Node K V)). (led : StepLeads same hash i x s old new)
-            → ShowsPurposes same name log (come_to (name i) (outcome.Shows q) e.steps v) then_known (scene_after same s old new map i (led map u here).0 u (led map u here).1 x (led map u here).4)) (sym is)
-            (λ led. walks_show_purposes K V same hash name log m known s old new at whole midst.calls.purposes map i u here word led pairs
+            → ShowsPurposes same name (past log) (come_to (name i) (outcome.Shows q) e.steps v) then_known (scene_after same s old new map i (led map u here).0 u (led map u here).1 x (led map u here).4)) (sym is)
+            (λ led. walks_show_purposes K V same hash name (past log) m known s old new at whole midst.calls.purposes map i u here word led pairs
             (changes_first same hash name log beginning map i c done m known s old new at (progress.Pair word) led u midst.event_so) q e.steps names)
 
     -- lookups have made the steps of the event
-    reading : ShowsReading name log (λ j. 0) come s2
-    reading = calls_come_to_readings K V same name log (λ j. if j == i then steps + 1 else 0) v then_known s2 all
+    reading : ShowsReading name (past log) (λ j. 0) come s2
+    reading = calls_come_to_readings K V same name (past log) (λ j. if j == i then steps + 1 else 0) v then_known s2 all
         (readings_go_on K V same hash name terms log e.event beginning map i c steps done m known s u midst old new at said leads) (name i) e.outcome e.steps none made
       where
         -- another call has another name

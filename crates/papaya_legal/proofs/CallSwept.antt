@@ -36,7 +36,7 @@ use Rattle.papaya_legal.proofs.CallChanges.{reads_shards}
 use Rattle.papaya_legal.proofs.CallPairs.{begun_so, none_comes, pairs_first}
 use Rattle.papaya_legal.proofs.CallReads.{there_still}
 use Rattle.papaya_grows.specs.Given.Scenes.Stepping.{StepLeads}
-use Rattle.papaya_grows.specs.Given.Schedules.Transition.{past}
+use Rattle.papaya_grows.specs.Given.Schedules.Transition.{past, transition}
 
 pub calls_are_swept : (K V : Type 0) (same : K → K → Bool) (hash : ℕ → K → ℕ) → CallsAreSwept K V same hash
 calls_are_swept K V same hash name terms log beginning map i c steps done m known s u e midst old new at said leads begins acted effects_are mask tells = by c.call refl tells
@@ -65,11 +65,11 @@ calls_are_swept K V same hash name terms log beginning map i c steps done m know
         ∙ effects_after (Some (name i)) (Some map) done (effects_of (acts.Call i map) known new.changed) beginning
         ∙ ap (λ (x : Moment K V). with_effects (Some (name i)) (Some map) (effects_of (acts.Call i map) known new.changed) x) (sym midst.worked)
 
-    pairs : PairsChangeFirst log m map v
+    pairs : PairsChangeFirst (past log) m map v
     pairs = pairs_first same hash name log beginning map i c done m known s whole old new at said leads u midst.event_so
         (begun_so same name log beginning map i c done m known s u midst.event_so) midst.worked midst.its_own
 
-    shards : ReadsShards log m s map u
+    shards : ReadsShards (past log) m s map u
     shards = reads_shards K V same hash name log m known s old new at whole midst.calls.counters map i u here said leads midst.unadded
 
     -- a walk brings no pair, nor takes one in
@@ -86,25 +86,25 @@ calls_are_swept K V same hash name terms log beginning map i c steps done m know
     by : (call : Call K V) → c.call ≡ call → TellsOf same log m map then_known said e.outcome call → IsSwept same terms log e
     by (On one) is told =
         let kept = effects_steps (name i) map (name i) (effects_of (acts.Call i map) known new.changed) m its.0 its.1 in
-        calls_on_keys_are_swept K V same terms log e kept.0 one
+        calls_on_keys_are_swept K V same terms (past log) (transition log e) kept.0 one
         (ap (λ (who : Option (List ℕ)). acting who (worked e (moment log))) midst.of_call ∙ ap (λ (x : Moment K V). call_of (name i) x) worked_is ∙ kept.1) (kept.3 ∙ its.2.call ∙ is)
-    by Len is (inl silent) = other_outcomes_are_swept K V same terms log e silent
-    by Len is (inr (n, told_is, told)) = countings_are_swept K V same hash n name log m known s old new at whole midst.calls.purposes map i u here said leads its.0 its.1 (its.2.call ∙ is) shards
-        (subst Told told_is told) terms mask e midst.of_call worked_is told_is
-    by (Reserve more) is (inl silent) = other_outcomes_are_swept K V same terms log e silent
-    by (Reserve more) is (inr (told_is, told)) = reservations_are_swept K V same hash more name log m known s old new at whole midst.calls.purposes map i u here said leads its.0 its.1 (its.2.call ∙ is)
-        shards (subst Told told_is told) terms mask e midst.of_call worked_is told_is
-    by Clear is (inl silent) = other_outcomes_are_swept K V same terms log e silent
-    by Clear is (inr (told_is, told)) = clearings_are_swept K V same hash name log m known s old new at whole midst.calls.purposes map i u here said leads its.0 its.1 (its.2.call ∙ is) pairs
-        (subst Told told_is told) terms mask e midst.of_call worked_is told_is
-    by Retain is (inl silent) = other_outcomes_are_swept K V same terms log e silent
-    by Retain is (inr (told_is, told)) = retainings_are_swept K V same hash name log m known s old new at whole midst.calls.purposes map i u here said leads its.0 its.1 (its.2.call ∙ is) pairs
-        (subst Told told_is told) terms mask e midst.of_call worked_is told_is
-    by Walk is (inl silent) = other_outcomes_are_swept K V same terms log e silent
-    by Walk is (inr (inl (n, told_is, told))) = walks_show K V same hash n name log m known s old new at whole midst.calls.purposes map i u here said leads its.0 its.1 (its.2.call ∙ is) (
+    by Len is (inl silent) = other_outcomes_are_swept K V same terms (past log) (transition log e) silent
+    by Len is (inr (n, told_is, told)) = countings_are_swept K V same hash n name (past log) m known s old new at whole midst.calls.purposes map i u here said leads its.0 its.1 (its.2.call ∙ is) shards
+        (subst Told told_is told) terms mask (transition log e) midst.of_call worked_is told_is
+    by (Reserve more) is (inl silent) = other_outcomes_are_swept K V same terms (past log) (transition log e) silent
+    by (Reserve more) is (inr (told_is, told)) = reservations_are_swept K V same hash more name (past log) m known s old new at whole midst.calls.purposes map i u here said leads its.0 its.1 (its.2.call ∙ is)
+        shards (subst Told told_is told) terms mask (transition log e) midst.of_call worked_is told_is
+    by Clear is (inl silent) = other_outcomes_are_swept K V same terms (past log) (transition log e) silent
+    by Clear is (inr (told_is, told)) = clearings_are_swept K V same hash name (past log) m known s old new at whole midst.calls.purposes map i u here said leads its.0 its.1 (its.2.call ∙ is) pairs
+        (subst Told told_is told) terms mask (transition log e) midst.of_call worked_is told_is
+    by Retain is (inl silent) = other_outcomes_are_swept K V same terms (past log) (transition log e) silent
+    by Retain is (inr (told_is, told)) = retainings_are_swept K V same hash name (past log) m known s old new at whole midst.calls.purposes map i u here said leads its.0 its.1 (its.2.call ∙ is) pairs
+        (subst Told told_is told) terms mask (transition log e) midst.of_call worked_is told_is
+    by Walk is (inl silent) = other_outcomes_are_swept K V same terms (past log) (transition log e) silent
+    by Walk is (inr (inl (n, told_is, told))) = walks_show K V same hash n name (past log) m known s old new at whole midst.calls.purposes map i u here said leads its.0 its.1 (its.2.call ∙ is) (
       pairs,
       none_comes same hash name log beginning map i c done m known s whole old new at said leads u midst.event_so (begun_so same name log beginning map i c done m known s u midst.event_so)
           midst.worked midst.its_own (fewer u midst.event_so is),
-    ) (subst Told told_is told) terms mask e midst.of_call worked_is told_is
-    by Walk is (inr (inr (told_is, said_is, loses))) = walks_show_all K V same hash name log m known s old new at whole midst.calls.purposes map i u here
-        (subst (λ (x : Progress (Node K V)). StepLeads same hash i x s old new) said_is leads) its.0 its.1 (its.2.call ∙ is) loses terms e midst.of_call worked_is told_is
+    ) (subst Told told_is told) terms mask (transition log e) midst.of_call worked_is told_is
+    by Walk is (inr (inr (told_is, said_is, loses))) = walks_show_all K V same hash name (past log) m known s old new at whole midst.calls.purposes map i u here
+        (subst (λ (x : Progress (Node K V)). StepLeads same hash i x s old new) said_is leads) its.0 its.1 (its.2.call ∙ is) loses terms (transition log e) midst.of_call worked_is told_is

@@ -91,12 +91,13 @@ call_events_begin_so K V same hash name terms log beginning begins maps tables s
   few = let none : 0 ≤ 0 = omega arith in none;
   granted = refl;
   reading = record {
+    past = reading.past;
     begun = reading.begun;
     reads = λ n j v is d found looks_for standing there.
         subst (λ (steps : ℕ). HasLooked (is_incremental standing.setting.mode) n standing.chart (moments_from d.begun log) (d.steps + steps) v) (none_made (j == i))
         (reading.reads n j v is d found looks_for standing there);
   };
-  unadded = λ adds. events_begin_uncounted K V log beginning map shards tables tableless;
+  unadded = λ adds. events_begin_uncounted K V (past log) beginning map shards tables tableless;
   its_own = own_alike same map beginning (moment log) begins.0 begins.1
       (each_is_its_own same hash name beginning known s x at all.whole map (stands same hash s x at map i u here).0 (stands same hash s x at map i u here).1);
   quiet = λ looks_for. (maps, tables);
@@ -153,7 +154,7 @@ call_events_go_on_so K V same hash name terms log event beginning map i c steps 
     dues = all.1;
     as_called = all.2;
     questions = effects_keep_questions K V (Some (name i)) (Some map) effects m midst.calls.questions;
-    purposes = calls_keep_purposes K V same hash name log m known s old new at whole midst.calls.purposes map i u here said leads
+    purposes = calls_keep_purposes K V same hash name (past log) m known s old new at whole midst.calls.purposes map i u here said leads
         (pairs_first same hash name log beginning map i c done m known s whole old new at said leads u midst.event_so
         (begun_so same name log beginning map i c done m known s u midst.event_so) midst.worked midst.its_own)
         (changes_first same hash name log beginning map i c done m known s old new at said leads u midst.event_so)

@@ -63,6 +63,7 @@ use Rattle.papaya_legal.proofs.Uncounted.{calls_leave_uncounted}
 use Rattle.papaya_grows.specs.Given.Scenes.Scene.{Scene}
 use Rattle.papaya_grows.specs.Given.Scenes.Stepping.{scene_after}
 use Rattle.papaya_grows.specs.Given.Schedules.Transition.{past}
+use Rattle.papaya_grows.proofs.Given.Histories.Logs.{events_are}
 
 -- numbers of maps are those after its effects
 module _ {K V : Type 0} (log : List (Entry K V)) (own : List ℕ) (outcome : Outcome V) (steps : ℕ) (effects : List Effect) where
@@ -109,9 +110,9 @@ call_events_end_so K V same hash name terms log beginning map i c first before r
     dues = over.1;
     as_called = over.2;
     questions = events_keep_questions K V log e run.calls.questions still;
-    purposes = events_keep_purposes K V same name log e then_known s2 ((purposes_stay K V same hash name log).alike come last then_known s2 purposes alike);
+    purposes = events_keep_purposes K V same name (past log) (moment (e ∷ log)) then_known s2 ((purposes_stay K V same hash name (past log)).alike come last then_known s2 purposes alike) (events_are (e ∷ log));
   };
-  reading = events_keep_readings K V name log e (λ j. 0) last s2 (readings_stay K V name log (λ j. 0) (λ j. 0) come last s2 s2 stay reading);
+  reading = events_keep_readings K V name (past log) (moment (e ∷ log)) (λ j. 0) last s2 (readings_stay K V name (past log) (λ j. 0) (λ j. 0) come last s2 s2 stay reading) (events_are (e ∷ log));
   sections = sections;
   follows = follows;
   order = events_keep_order K V terms log e goes run.order;

@@ -9,12 +9,10 @@ use Rattle.papaya_models.specs.Follows.{FollowsModel}
 use Rattle.papaya_grows.specs.Given.Effects.Effects.{effects_of, known_after}
 use Rattle.papaya_grows.specs.Given.Effects.declared.acting.Acting.TheVariants as acts
 use Rattle.papaya_grows.specs.Given.Others.Makings.{making_after}
-use Rattle.papaya_legal.specs.Chains.{CallCome, CallsChain, CallSteps, Chain, Come, EndsChain, EndsRunToTheirEnds, EndSteps, MakingsChain, MakingsRunToTheirEnds, MakingSteps, RowsChain, RowsRunToTheirEnds, RowSteps}
-use Rattle.papaya_grows.specs.Given.Histories.InEvent.{here_of}
-use Rattle.papaya_legal.specs.CallEvents.{InCallEvent, IsLegalBut}
+use Rattle.papaya_legal.specs.Chains.{Chain, Come, EndsChain, EndsRunToTheirEnds, EndSteps, MakingsChain, MakingsRunToTheirEnds, MakingSteps, RowsChain, RowsRunToTheirEnds, RowSteps}
+use Rattle.papaya_legal.specs.CallEvents.{IsLegalBut}
 use Rattle.papaya_legal.specs.MapEvents.{InEndEvent, InMakingEvent}
 use Rattle.papaya_legal.specs.SlotEvents.{InSlotEvent}
-use Rattle.papaya_legal.proofs.Calls.{call_events_go_on_so}
 use Rattle.papaya_legal.proofs.Maps.{end_events_go_on_so, making_events_go_on_so}
 use Rattle.papaya_grows.specs.Given.Schedules.declared.event.Event.TheVariants.{EndMap, MakeMap}
 use Rattle.papaya_grows.specs.Given.Schedules.declared.outcome.Outcome.TheVariants.{Done}
@@ -27,7 +25,6 @@ use Rattle.papaya_legal.proofs.MapsOver.{end_events_begin_so, end_events_end_so,
 use Rattle.papaya_legal.proofs.Slots.{slot_events_begin_so, slot_events_go_on_so}
 use Rattle.papaya_legal.proofs.SlotsAfter.{slot_events_end_so}
 use Rattle.papaya_legal.proofs.SlotsEnd.{slot_events_are_legal}
-use Rattle.papaya_grows.specs.Given.Schedules.Transition.{past}
 
 -- what each step keeps, a chain of them does
 pub chains_keep : {X : Type 0} (P : X → Type 0) (Steps : X → X → Type 0) → ((x y : X) → Steps x y → P x → P y) → (n : ℕ) (from to : X) → Chain Steps n from to → P from → P to
@@ -78,19 +75,6 @@ module _ (K V : Type 0) (same : K → K → Bool) (hash : ℕ → K → ℕ) whe
       keeps x y step midst = subst Midst (sym step.comes)
           (end_events_go_on_so K V same hash name terms log event map beginning first x.did x.now x.notes x.scene i step.ending step.here step.gone midst x.held y.held step.is_at step.size
           step.below step.said step.leads step.its)
-
-  pub calls_chain : CallsChain K V same hash
-  calls_chain name terms log event beginning map i c n from to chain so = chains_keep Midst (CallSteps same hash name terms log map i) keeps n from to chain so
-    where
-      Midst : CallCome K V → Type 0
-      Midst x = InCallEvent same name terms log event beginning map i c x.steps x.come.did x.come.now x.come.notes x.come.scene x.under
-
-      keeps : (x y : CallCome K V) → CallSteps same hash name terms log map i x y → Midst x → Midst y
-      keeps x y step midst =
-          let here = here_of same name (past log) beginning map i c x.come.did x.come.now x.come.notes x.come.scene x.under midst.event_so in
-          subst Midst (sym (step.comes here))
-          (call_events_go_on_so K V same hash name terms log event beginning map i c x.steps x.come.did x.come.now x.come.notes x.come.scene x.under midst x.come.held y.come.held step.is_at
-          step.size step.said step.leads step.none (step.noted here) y.under (step.goes_on here))
 
   pub rows_run_to_their_ends : RowsRunToTheirEnds K V same hash
   rows_run_to_their_ends name terms log known s old new at size small run e on i called leads spares before n to chain did rests ends busy allowed finds is_row right reclaims =

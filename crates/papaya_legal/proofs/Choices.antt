@@ -30,6 +30,7 @@ use Rattle.papaya_legal.proofs.Between.{likes_show}
 use Rattle.papaya_legal.proofs.Idle.{idle_events_are_legal}
 use Rattle.papaya_legal.proofs.Over.{reading_like, runs_go_on, still_follows}
 use Rattle.papaya_grows.specs.Given.Scenes.Scene.{Scene}
+use Rattle.papaya_grows.specs.Given.Schedules.Transition.{past}
 
 -- Calls, maps and words are there as they were.
 module _ {K V : Type 0} (choice : ℕ) (same : K → K → Bool) (name : ℕ → List ℕ) (log : List (Entry K V)) (m : Moment K V) (known : Known) (s : Scene K V) (whole : ShowsWhole same name m known (scene_chosen choice s))
@@ -57,7 +58,7 @@ module _ {K V : Type 0} (choice : ℕ) (same : K → K → Bool) (name : ℕ →
     };
     as_called = record { shown = shown_then all.as_called.shown; each = all.as_called.each };
     questions = all.questions;
-    purposes = record { shown = shown_then all.purposes.shown; begun = all.purposes.begun; is_for = all.purposes.is_for; come = all.purposes.come };
+    purposes = record { past = all.purposes.past; lasts = all.purposes.lasts; shown = shown_then all.purposes.shown; begun = all.purposes.begun; is_for = all.purposes.is_for; come = all.purposes.come };
     finding = record { growing = all.finding.growing; further = all.finding.further; capacities = all.finding.capacities; waits = all.finding.waits; puts = all.finding.puts };
     nexts = all.nexts;
     sources = record { shown = shown_then all.sources.shown; numbered = all.sources.numbered; came = all.sources.came; left = all.sources.left };
@@ -65,8 +66,8 @@ module _ {K V : Type 0} (choice : ℕ) (same : K → K → Bool) (name : ℕ →
     tries = all.tries;
   }
 
-  reading_then : ShowsReading name log (λ i. 0) m s → ShowsReading name log (λ i. 0) m (scene_chosen choice s)
-  reading_then reading = record { begun = reading.begun; reads = reading.reads }
+  reading_then : ShowsReading name (past log) (λ i. 0) m s → ShowsReading name (past log) (λ i. 0) m (scene_chosen choice s)
+  reading_then reading = record { past = reading.past; begun = reading.begun; reads = reading.reads }
 
 module _ {K V : Type 0} (terms : Terms) (log : List (Entry K V)) (known : Known) (s : Scene K V) (choice steps : ℕ) where
   abbrev chosen : World (Node K V)

@@ -49,7 +49,7 @@ use Rattle.papaya_grows.proofs.Given.Spots.Unreclaimed.{or_right, same_itself}
 use Rattle.papaya_grows.proofs.Given.Finds.Lists.{all_so}
 use Rattle.papaya_grows.proofs.Given.Finds.Somewhere.{is_storing, none_stored}
 use Rattle.papaya_models.proofs.Numbers.{still_in}
-use Rattle.papaya_legal.specs.Noted.{HaveCome, CallsBringThings, EventsBeginWithThings, EventsBringThings, NothingHasCome}
+use Rattle.papaya_legal.specs.Noted.{HaveCome, CallsBringThings, EventsBringThings, NothingHasCome}
 
 -- the n-th pair that is stored has the number n
 abbrev pub IsNumbered : {K V : Type 0} → Moment K V → Effect → Type 0
@@ -272,9 +272,6 @@ module _ {K V : Type 0} where
     numbers_found caller acted (f ∷ effects) m finds = (number_found caller acted m f finds.0, numbers_found caller acted effects (with_effect caller acted f m) finds.1)
 
 module _ (K V : Type 0) where
-  pub events_begin_with_things : EventsBeginWithThings K V
-  events_begin_with_things things e m h = begins e.event e.outcome things m h
-
   pub events_bring_things : EventsBringThings K V
   events_bring_things terms log e h finds =
       let b = at_work e (moment log) in

@@ -147,9 +147,9 @@ making_events_go_on_so K V same hash name terms log event beginning done m known
       dues = (dues_stay K V same hash name (past log)).makings m known s old new at whole midst.0.calls.dues i said leads b here (Some b.map) was_new;
       as_called = (as_called_stays K V same hash name).makings m known s old new at whole midst.0.calls.as_called i said leads b here (Some b.map) was_new;
       questions = effects_keep_questions K V None (Some b.map) effects m midst.0.calls.questions;
-      purposes = (purposes_stay K V same hash name log).makings m known s old new at whole midst.0.calls.purposes i said leads b here (Some b.map) was_new;
+      purposes = (purposes_stay K V same hash name (past log)).makings m known s old new at whole midst.0.calls.purposes i said leads b here (Some b.map) was_new;
     };
-    reading = other_work_keeps_readings K V name log (λ j. 0) m s (led same hash s old new at i b here said leads) (Some b.map) effects (made_calls same hash s old new at i b here said leads)
+    reading = other_work_keeps_readings K V name (past log) (λ j. 0) m s (led same hash s old new at i b here said leads) (Some b.map) effects (made_calls same hash s old new at i b here said leads)
         (made_stood same hash s old new at i b here said leads) midst.0.reading;
     worked = ap (λ (x : Moment K V). with_effects None (Some b.map) effects x) midst.0.worked ∙ sym (effects_after None (Some b.map) done effects beginning);
     granted = grants_add_up done effects midst.0.granted (operations_are_single (acts.Making b.map) known new.changed).1;
@@ -259,9 +259,9 @@ end_events_go_on_so K V same hash name terms log event map beginning first done 
       dues = (dues_stay K V same hash name (past log)).endings m known s old new at whole midst.0.calls.dues i said leads f here map not_there its;
       as_called = (as_called_stays K V same hash name).endings m known s old new at whole midst.0.calls.as_called i said leads f here map not_there its;
       questions = effects_keep_questions K V None (Some map) effects m midst.0.calls.questions;
-      purposes = (purposes_stay K V same hash name log).endings m known s old new at whole midst.0.calls.purposes i said leads f here map not_there its;
+      purposes = (purposes_stay K V same hash name (past log)).endings m known s old new at whole midst.0.calls.purposes i said leads f here map not_there its;
     };
-    reading = other_work_keeps_readings K V name log (λ j. 0) m s (ended same hash s old new i f here said leads) (Some map) effects (ended_calls same hash s old new i f here said leads)
+    reading = other_work_keeps_readings K V name (past log) (λ j. 0) m s (ended same hash s old new i f here said leads) (Some map) effects (ended_calls same hash s old new i f here said leads)
         (ended_stood same hash s old new i f here said leads) midst.0.reading;
     worked = ap (λ (x : Moment K V). with_effects None (Some map) effects x) midst.0.worked ∙ sym (effects_after None (Some map) done effects beginning);
     granted = grants_add_up done effects midst.0.granted (operations_are_single (acts.Ending map) known new.changed).1;

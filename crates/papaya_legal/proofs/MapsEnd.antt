@@ -68,7 +68,7 @@ map_events_are_legal K V same name terms log map beginning m known s e midst may
   record {
     brief = subst (λ (o : Option (List ℕ)). IfCall (λ (c : CallThere K V). IsBrief c.call c (moments_from c.begun log) (worked e (moment log)) (c.steps + e.steps)) (acting o (worked e (moment log)))) (sym none) tt;
     linearizable = no_calls_are_linearizable K V same (past log) (transition log e) none (all_shift_none e.event (moment log) e.effects midst.of_maps none may);
-    swept = no_calls_are_swept K V same terms log e none;
+    swept = no_calls_are_swept K V same terms (past log) (transition log e) none;
     life = record {
       finds = all_find;
       may = may;

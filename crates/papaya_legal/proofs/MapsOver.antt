@@ -42,6 +42,7 @@ use Rattle.papaya_legal.proofs.Sourced.{none_born}
 use Rattle.papaya_legal.proofs.Maps.{stands_so}
 use Rattle.papaya_legal.proofs.Over.{reading_like, runs_go_on}
 use Rattle.papaya_grows.specs.Given.Scenes.Ending.{ending_begun}
+use Rattle.papaya_grows.specs.Given.Schedules.Transition.{past}
 
 -- The beginnings.
 
@@ -52,7 +53,7 @@ module _ (K V : Type 0) (same : K → K → Bool) (hash : ℕ → K → ℕ) whe
       of_maps = refl;
       calls = makings_begin K V same hash name log (with_map there (moment log)) known s old new at come.0 i b idle not_made
           (subst (λ (n : ℕ). IsUncounted n (with_map there (moment log))) (sym map_is) come.1) at2;
-      reading = record { begun = run.reading.begun; reads = run.reading.reads };
+      reading = record { past = run.reading.past; begun = run.reading.begun; reads = run.reading.reads };
       worked = refl;
       granted = refl;
       protects = record { inside = hold.0; sheltered = hold.1; spared = refl };
@@ -72,7 +73,7 @@ module _ (K V : Type 0) (same : K → K → Bool) (hash : ℕ → K → ℕ) whe
     record {
       of_maps = refl;
       calls = ends_begin K V same hash name log (moment log) known s old new at run.calls map i standing there idle at2;
-      reading = other_work_keeps_readings K V name log (λ j. 0) (moment log) s (ending_begun map i standing s) (Some map) [] (λ n j x is. is) (λ n j x is st stands. stood n st stands) run.reading;
+      reading = other_work_keeps_readings K V name (past log) (λ j. 0) (moment log) s (ending_begun map i standing s) (Some map) [] (λ n j x is. is) (λ n j x is st stands. stood n st stands) run.reading;
       worked = refl;
       granted = refl;
       protects = record { inside = hold.0; sheltered = hold.1; spared = refl };
@@ -165,8 +166,8 @@ module _ (K V : Type 0) (same : K → K → Bool) (hash : ℕ → K → ℕ) whe
       shown : ShowsCalls same name log gone known s
       shown = maps_gone K V same hash name log m known s x at midst.calls own (remains_on e.event Done effects (moment log)) apart
 
-      reading : ShowsReading name log (λ j. 0) gone s
-      reading = record { begun = midst.reading.begun; reads = midst.reading.reads }
+      reading : ShowsReading name (past log) (λ j. 0) gone s
+      reading = record { past = midst.reading.past; begun = midst.reading.begun; reads = midst.reading.reads }
 
       worked_is : worked e (moment log) ≡ m
       worked_is = ap (λ (o : Option ℕ). with_effects None o effects (moment log)) number ∙ sym midst.worked

@@ -39,11 +39,13 @@ use Rattle.papaya_legal.specs.Over.{IdleEventsEnd, LeavesAll, QuietEventsEnd, Ru
 use Rattle.papaya_legal.proofs.LeftTold.{events_tell_left}
 use Rattle.papaya_legal.proofs.Between.{likes_show, logs_grow, named_as, names_change}
 use Rattle.papaya_grows.specs.Given.Scenes.Scene.{Scene, slot_of}
+use Rattle.papaya_grows.specs.Given.Schedules.Transition.{past}
+use Rattle.papaya_grows.proofs.Given.Histories.Logs.{events_are}
 
 pub runs_go_on : (K V : Type 0) (same : K → K → Bool) → RunsGoOn K V same
 runs_go_on K V same name name2 terms log first known before s run e right life stores reclaims all reading sections follows = record {
   calls = logs_grow K V same name2 log e known s all;
-  reading = events_keep_readings K V name2 log e (λ j. 0) (moment (e ∷ log)) s reading;
+  reading = events_keep_readings K V name2 (past log) (moment (e ∷ log)) (λ j. 0) (moment (e ∷ log)) s reading (events_are (e ∷ log));
   sections = sections;
   follows = follows;
   order = events_keep_order K V terms log e goes run.order;
@@ -59,6 +61,7 @@ pub runs_by_other_names : (K V : Type 0) (same : K → K → Bool) → RunsByOth
 runs_by_other_names K V same name name2 terms log known s agree run = record {
   calls = names_change K V same name name2 log (moment log) known s agree run.calls;
   reading = record {
+    past = run.reading.past;
     begun = λ map i u is c c_is. run.reading.begun map i u is c (as_named map i u is c c_is);
     reads = λ map i u is c c_is. run.reading.reads map i u is c (as_named map i u is c c_is);
   };
@@ -74,10 +77,10 @@ runs_by_other_names K V same name name2 terms log known s agree run = record {
     as_named map i u is c c_is = named_as name name2 (moment log) s agree map i u is c c_is
 
 -- lookups have read as much at a moment that is like this one
-pub reading_like : {K V : Type 0} (name : ℕ → List ℕ) (log : List (Entry K V)) (made : ℕ → ℕ) (m v : Moment K V) (s : Scene K V) → ShowsReading name log made m s → IsLike m v
-    → ShowsReading name log made v s
+pub reading_like : {K V : Type 0} (name : ℕ → List ℕ) (log : List (Entry K V)) (made : ℕ → ℕ) (m v : Moment K V) (s : Scene K V) → ShowsReading name (past log) made m s → IsLike m v
+    → ShowsReading name (past log) made v s
 reading_like {K} {V} name log made m v s reading like =
-    subst (λ (x : Moment K V). ShowsReading name log made x s) (sym like) (record { begun = reading.begun; reads = reading.reads })
+    subst (λ (x : Moment K V). ShowsReading name (past log) made x s) (sym like) (record { past = reading.past; begun = reading.begun; reads = reading.reads })
 
 -- An event that leaves the waiting sets.
 

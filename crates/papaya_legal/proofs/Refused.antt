@@ -56,7 +56,7 @@ module _ (K V : Type 0) (same : K → K → Bool) (hash : ℕ → K → ℕ) (na
     record {
       of_maps = refl;
       calls = makings_begin K V same hash name log (moment log) known s old new at run.calls i b idle not_made (run.calls.uncounted b.map (omega (arith, map_is, number))) at2;
-      reading = record { begun = run.reading.begun; reads = run.reading.reads };
+      reading = record { past = run.reading.past; begun = run.reading.begun; reads = run.reading.reads };
       worked = refl;
       granted = refl;
       protects = record { inside = run.sections.0; sheltered = run.sections.1; spared = refl };
@@ -115,7 +115,7 @@ module _ (K V : Type 0) (same : K → K → Bool) (name : ℕ → List ℕ) (ter
   legal = record {
     brief = tt;
     linearizable = no_calls_are_linearizable K V same (past log) (transition log e) refl (asks_shift effects asks);
-    swept = no_calls_are_swept K V same terms log e refl;
+    swept = no_calls_are_swept K V same terms (past log) (transition log e) refl;
     life = record {
       finds = asks_find terms (acted_on e.event m) effects m asks firsts;
       may = firsts;

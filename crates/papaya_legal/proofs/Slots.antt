@@ -105,9 +105,9 @@ slot_events_begin_so K V same hash name terms log known s old new at size run ev
         dues = (dues_stay K V same hash name (past log)).rows_begin m known s old new at run.calls.whole run.calls.dues called i leads;
         as_called = (as_called_stays K V same hash name).rows_begin m known s old new at run.calls.whole run.calls.as_called called i leads;
         questions = run.calls.questions;
-        purposes = (purposes_stay K V same hash name log).rows_begin m known s old new at run.calls.whole run.calls.purposes called i leads;
+        purposes = (purposes_stay K V same hash name (past log)).rows_begin m known s old new at run.calls.whole run.calls.purposes called i leads;
       };
-      reading = rows_keep_readings K V same hash name log (λ j. 0) m s old new (Begin i request) to [] run.reading;
+      reading = rows_keep_readings K V same hash name (past log) (λ j. 0) m s old new (Begin i request) to [] run.reading;
       worked = refl;
       granted = refl;
       protects = rows_begin_protect K V same hash m known s old new called i leads event spares [] (slots_protected m known s.world run.sections event on);
@@ -136,9 +136,9 @@ slot_events_go_on_so K V same hash name terms log event i called first began don
     dues = (dues_stay K V same hash name (past log)).rows m known s old new at whole midst.calls.dues i said leads row here found.0;
     as_called = (as_called_stays K V same hash name).rows m known s old new at whole midst.calls.as_called i said leads row here found.0;
     questions = effects_keep_questions K V None None effects m midst.calls.questions;
-    purposes = (purposes_stay K V same hash name log).rows m known s old new at whole midst.calls.purposes i said leads row here found.0;
+    purposes = (purposes_stay K V same hash name (past log)).rows m known s old new at whole midst.calls.purposes i said leads row here found.0;
   };
-  reading = rows_keep_readings K V same hash name log (λ j. 0) m s old new (Step i) (leads row here).2 effects midst.reading;
+  reading = rows_keep_readings K V same hash name (past log) (λ j. 0) m s old new (Step i) (leads row here).2 effects midst.reading;
   worked = ap (λ (x : Moment K V). with_effects None None effects x) midst.worked ∙ sym (effects_after None None done effects (moment log));
   granted = grants_add_up done effects midst.granted (operations_are_single acts.Row known new.changed).1;
   protects = rows_protect K V same hash name m known s old new at whole i said leads row here event midst.of_slots done midst.protects;

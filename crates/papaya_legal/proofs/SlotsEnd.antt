@@ -135,7 +135,7 @@ pub slots_are_legal_but : (K V : Type 0) (same : K → K → Bool) (terms : Term
 slots_are_legal_but K V same terms log e on may finds granted busy protected by_model = record {
   brief = subst (λ (o : Option (List ℕ)). IfCall (λ (c : CallThere K V). IsBrief c.call c (moments_from c.begun log) (worked e (moment log)) (c.steps + e.steps)) (acting o (worked e (moment log)))) (sym none) tt;
   linearizable = no_calls_are_linearizable K V same (past log) (transition log e) none (all_shift_none e.event (moment log) e.effects on may);
-  swept = no_calls_are_swept K V same terms log e none;
+  swept = no_calls_are_swept K V same terms (past log) (transition log e) none;
   life = record {
     finds = finds_so terms log e.effects e.event e.outcome e.steps on finds;
     may = may;

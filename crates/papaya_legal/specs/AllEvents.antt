@@ -45,6 +45,7 @@ use Rattle.papaya_legal.specs.Carried.{ComesAlone, LeftIsTold, ShowsCalls, Shows
 use Rattle.papaya_legal.specs.Chains.{Chain, Come}
 use Rattle.papaya_grows.specs.Given.Scenes.Held.{Held}
 use Rattle.papaya_grows.specs.Given.Scenes.Scene.{Scene}
+use Rattle.papaya_grows.specs.Given.Schedules.Transition.{past}
 
 -- How far an event has come that reclaims all: as events do, with its machine, and with these lists behind the roots still.
 pub record AllCome (K V : Type 0) : Type 0 where
@@ -96,7 +97,7 @@ module _ {K V : Type 0} (same : K → K → Bool) (name : ℕ → List ℕ) (ter
   pub record InAllEvent (done : List Effect) (m : Moment K V) (known : Known) (s : Scene K V) (all : ReclaimAll) (lists : ℕ → List ℕ) : Type 0 where
     pub once : EachIsOnce first
     pub calls : ShowsCalls same name log m known s
-    pub reading : ShowsReading name log (λ j. 0) m s
+    pub reading : ShowsReading name (past log) (λ j. 0) m s
     pub worked : m ≡ with_effects None None done (moment log)
     pub granted : is_granted false done ≡ true
     pub may : list_all is_reclaiming done ≡ true

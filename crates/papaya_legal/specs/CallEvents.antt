@@ -84,11 +84,11 @@ module _ {K V : Type 0} (same : K → K → Bool) (name : ℕ → List ℕ) (ter
     -- steps: each did one thing at most, and had what it made granted; a lookup has read so many words
     pub few : AreDoneBy steps done
     pub granted : is_granted false done ≡ true
-    pub reading : ShowsReading name log (λ j. if j == i then steps else 0) m s
+    pub reading : ShowsReading name (past log) (λ j. if j == i then steps else 0) m s
     -- each pair that was in its map as the last event ended was the one of its class
     pub its_own : EachIsItsOwn same map (moment log)
     -- where it adds shards up, none was counted on
-    pub unadded : AddsUp u → NoneAdded log m map
+    pub unadded : AddsUp u → NoneAdded (past log) m map
     -- one that only looks has done nothing
     pub quiet : looks c.call ≡ true → (m.maps ≡ (moment log).maps) × (m.tables ≡ (moment log).tables)
     -- life: of which kind each effect is, and that a pair is stored by who has one
@@ -114,7 +114,7 @@ module _ (K V : Type 0) (same : K → K → Bool) (hash : ℕ → K → ℕ) whe
   CallEventsBegin =
       (name : ℕ → List ℕ) (terms : Terms) (log : List (Entry K V)) (beginning : Moment K V) → HasJustBegun (past log) beginning → beginning.maps ≡ (moment log).maps → beginning.tables ≡ (moment log).tables
       → beginning.shards ≡ (moment log).shards → beginning.born ≡ (moment log).born → beginning.spot ≡ (moment log).spot → TablelessUncounted (moment log)
-      → (known : Known) (s : Scene K V) (x : Held K V) → IsAt same hash x s → ShowsCalls same name log beginning known s → ShowsReading name log (λ j. 0) beginning s
+      → (known : Known) (s : Scene K V) (x : Held K V) → IsAt same hash x s → ShowsCalls same name log beginning known s → ShowsReading name (past log) (λ j. 0) beginning s
       → SectionsHold beginning known s.world → ((moment log).is_alone ≡ true → FollowsOrRows terms log known s.world)
       → (event : Event K V) (map i : ℕ) → caller_of event ≡ Some (name i) → (u : UnderWay K V K) → s.calls map i ≡ Some u → (c : CallThere K V) → call_of (name i) beginning ≡ Some c
       → (ComesAlone event log → (j : ℕ) → s.world.row j ≢ Rests → j ≡ i) → InCallEvent same name terms log event beginning map i c 0 [] beginning known s u
@@ -185,7 +185,7 @@ module _ (K V : Type 0) (same : K → K → Bool) (hash : ℕ → K → ℕ) whe
       let to = leads map u (here_of same name (past log) beginning map i c done m known s u midst.event_so) in
       let s2 = scene_after same s old new map i to.0 u to.1 said to.4 in
       let come = come_to (name i) e.outcome e.steps (with_effects (Some (name i)) (Some map) (effects_of (acts.Call i map) known new.changed) m) in
-      ShowsPurposes same name log come known2 s2 → ShowsReading name log (λ j. 0) come s2 → SectionsHold (after e (moment log)) known2 s2.world
+      ShowsPurposes same name (past log) come known2 s2 → ShowsReading name (past log) (λ j. 0) come s2 → SectionsHold (after e (moment log)) known2 s2.world
       → ((moment (e ∷ log)).is_alone ≡ true → FollowsOrRows terms (e ∷ log) known2 s2.world) → ShowsRun same name terms (e ∷ log) known2 s2)
 
   -- Where it is not kept out, it is by the model, if what a row hands over that begins with its last step is noted, and its slot is active; and the sets are those of the model after it, or the call

@@ -26,6 +26,7 @@ use Rattle.papaya_legal.specs.CallEvents.{InCallEvent}
 use Rattle.papaya_grows.specs.Given.Scenes.Held.{Held, IsAt}
 use Rattle.papaya_grows.specs.Given.Scenes.Scene.{Scene}
 use Rattle.papaya_grows.specs.Given.Scenes.Stepping.{StepLeads}
+use Rattle.papaya_grows.specs.Given.Schedules.Transition.{past}
 
 module _ {K V : Type 0} (same : K → K → Bool) (log : List (Entry K V)) (m : Moment K V) (map : ℕ) (known : Known) (said : Progress (Node K V)) (told : Outcome V) where
   -- what is told of a call on a whole map: nothing, or the answer of its kind, as the last step says; of a walk a pair, or that all were shown, and then no key has lost its pair within the event
@@ -33,7 +34,7 @@ module _ {K V : Type 0} (same : K → K → Bool) (log : List (Entry K V)) (m : 
   TellsOf (On one) = Unit {0}
   TellsOf Len = SaysNothing told ⊎ ((n : ℕ) × (told ≡ Answered (Counted n)) × IsToldSo known said told)
   TellsOf Walk =
-      SaysNothing told ⊎ ((n : ℕ) × (told ≡ Shows n) × IsToldSo known said told) ⊎ ((told ≡ Answered Absent) × (said ≡ progress.Done answers.Swept) × LosesNone same log m map)
+      SaysNothing told ⊎ ((n : ℕ) × (told ≡ Shows n) × IsToldSo known said told) ⊎ ((told ≡ Answered Absent) × (said ≡ progress.Done answers.Swept) × LosesNone same (past log) m map)
   TellsOf _ = SaysNothing told ⊎ ((told ≡ Answered Completed) × IsToldSo known said told)
 
 module _ (K V : Type 0) (same : K → K → Bool) (hash : ℕ → K → ℕ) where

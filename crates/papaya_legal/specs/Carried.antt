@@ -11,7 +11,7 @@ use Rattle.papaya_grows.specs.Given.Schedules.Lists.{is_among}
 use Rattle.papaya_grows.specs.Given.Schedules.Model.{sets_in, things_in}
 use Rattle.papaya_grows.specs.Given.Schedules.Moment.{Moment, start}
 use Rattle.papaya_grows.specs.Given.Schedules.Terms.{Terms}
-use Rattle.papaya_grows.specs.Given.Effects.Known.{Known, nothing_known}
+use Rattle.papaya_grows.specs.Given.Effects.Known.{Known}
 use Rattle.papaya_grows.specs.Given.Moments.Numbers.{NumbersMaps, PairsAreBelow}
 use Rattle.papaya_grows.specs.Given.Moments.Whole.{ShowsWhole}
 use Rattle.papaya_grows.specs.Given.Histories.AsCalled.{ShowsAsCalled}
@@ -61,7 +61,7 @@ pub record ShowsCalls {K V : Type 0} (same : K → K → Bool) (name : ℕ → L
   pub dues : ShowsDue same name (past log) m known s
   pub as_called : ShowsAsCalled same name m known s
   pub questions : ShowsQuestions m
-  pub purposes : ShowsPurposes same name log m known s
+  pub purposes : ShowsPurposes same name (past log) m known s
 
 -- the waiting sets are those of the model after the log, or a call is in the midst of a row that has told its part
 abbrev pub FollowsOrRows : {K V : Type 0} → Terms → List (Entry K V) → Known → World (Node K V) → Type 0
@@ -76,7 +76,7 @@ LeftIsTold m = (n : ℕ) → is_left_over (m.place n) ≡ is_among n (flat_map (
 -- model, but for a row that is under way; all waits in order; a map that has had no table has counted nothing; once the collector has ended all is back; and what ended maps have left over is told.
 pub record ShowsRun {K V : Type 0} (same : K → K → Bool) (name : ℕ → List ℕ) (terms : Terms) (log : List (Entry K V)) (known : Known) (s : Scene K V) : Type 0 where
   pub calls : ShowsCalls same name log (moment log) known s
-  pub reading : ShowsReading name log (λ i. 0) (moment log) s
+  pub reading : ShowsReading name (past log) (λ i. 0) (moment log) s
   pub sections : SectionsHold (moment log) known s.world
   pub follows : (moment log).is_alone ≡ true → FollowsOrRows terms log known s.world
   pub order : AllIsInOrder (moment log) × ReadyOweNone (moment log)
@@ -89,11 +89,7 @@ abbrev pub EventsTellLeft : Type 0 → Type 0 → Type 0
 EventsTellLeft K V =
     (terms : Terms) (log : List (Entry K V)) (e : Entry K V) → GoesInOrder terms log e → ReclaimsAll log e → AllIsInOrder (moment log) → LeftIsTold (moment log) → LeftIsTold (after e (moment log))
 
--- so it is before all events;
-abbrev pub RunsBegin : Type 0 → Type 0 → Type 0
-RunsBegin K V = (same : K → K → Bool) (terms : Terms) (name : ℕ → List ℕ) → ShowsRun {K = K} {V = V} same name terms [] nothing_known (at_first terms.roots)
-
--- and in any world that came about by what happens between rows, if it is shown that nothing is under way there: so whatever was chosen of numbers of blocks.
+-- and all this is so before all events in any world that came about by what happens between rows, if it is shown that nothing is under way there: so whatever was chosen of numbers of blocks.
 abbrev pub RunsBeginIn : Type 0 → Type 0 → Type 0
 RunsBeginIn K V =
     (same : K → K → Bool) (terms : Terms) (name : ℕ → List ℕ) (known : Known) (w : World (Node K V))

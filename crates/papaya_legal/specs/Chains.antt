@@ -10,7 +10,7 @@ use Rattle.papaya_grows.specs.Given.Schedules.declared.effect.Effect.{Effect}
 use Rattle.papaya_grows.specs.Given.Schedules.declared.event.Event.{Event}
 use Rattle.papaya_grows.specs.Given.Schedules.Effects.{with_effects, AtEachEffect, worked}
 use Rattle.papaya_grows.specs.Given.Schedules.Entry.{Entry, is_busy}
-use Rattle.papaya_grows.specs.Given.Schedules.Moment.{Moment, UnderWay as CallThere, MapThere}
+use Rattle.papaya_grows.specs.Given.Schedules.Moment.{Moment, MapThere}
 use Rattle.papaya_grows.specs.Given.Schedules.Terms.{Terms}
 use Rattle.papaya_grows.specs.Given.Effects.Effects.{effects_of, known_after}
 use Rattle.papaya_grows.specs.Given.Effects.Known.{Known}
@@ -30,7 +30,7 @@ use Rattle.papaya_grows.specs.Given.Schedules.Model.{things_in}
 use Rattle.papaya_grows.specs.Given.Callers.Together.{UnderWay, HandsOver}
 use Rattle.papaya_grows.specs.Given.Purposes.Kept.{ShowsNone}
 use Rattle.papaya_models.specs.CallEvents.{IsNoted, things_then}
-use Rattle.papaya_legal.specs.CallEvents.{InCallEvent, IsLegalBut}
+use Rattle.papaya_legal.specs.CallEvents.{IsLegalBut}
 use Rattle.papaya_legal.specs.MapEvents.{FindsItsMap, InEndEvent, InMakingEvent}
 use Rattle.papaya_grows.specs.Given.Schedules.After.{moment}
 use Rattle.papaya_grows.specs.Given.Schedules.Beginning.{at_work, with_map}
@@ -180,14 +180,6 @@ module _ (K V : Type 0) (same : K → K → Bool) (hash : ℕ → K → ℕ) whe
       (name : ℕ → List ℕ) (terms : Terms) (log : List (Entry K V)) (event : Event K V) (i map : ℕ) (beginning : Moment K V) (first : Known) (n : ℕ) (from to : Come K V)
       → Chain (EndSteps same hash terms i map) n from to → InEndEvent same name terms log event map beginning first i from.did from.now from.notes from.scene
       → InEndEvent same name terms log event map beginning first i to.did to.now to.notes to.scene
-
-  -- and one in which a call goes on.
-  abbrev pub CallsChain : Type 0
-  CallsChain =
-      (name : ℕ → List ℕ) (terms : Terms) (log : List (Entry K V)) (event : Event K V) (beginning : Moment K V) (map i : ℕ) (c : CallThere K V) (n : ℕ) (from to : CallCome K V)
-      → Chain (CallSteps same hash name terms log map i) n from to
-      → InCallEvent same name terms log event beginning map i c from.steps from.come.did from.come.now from.come.notes from.come.scene from.under
-      → InCallEvent same name terms log event beginning map i c to.steps to.come.did to.come.now to.come.notes to.come.scene to.under
 
   -- So an event whose row has begun, and has run to its end, is legal but for what it comes to, and a run goes on with it, if what it did it may do, and finds what it must, if it is that row to the
   -- waiting sets, was not kept out, leaves its guards within their sections, and all is back if it reclaims all.

@@ -44,13 +44,14 @@ use Rattle.papaya_grows.specs.Given.Scenes.Ending.{EndingLeads}
 use Rattle.papaya_grows.specs.Given.Scenes.Held.{Held, IsAt}
 use Rattle.papaya_grows.specs.Given.Scenes.Making.{MakingLeads}
 use Rattle.papaya_grows.specs.Given.Scenes.Scene.{Scene}
+use Rattle.papaya_grows.specs.Given.Schedules.Transition.{past}
 
 module _ {K V : Type 0} (same : K → K → Bool) (name : ℕ → List ℕ) (terms : Terms) (log : List (Entry K V)) (event : Event K V) (map : ℕ) (beginning : Moment K V) where
   -- In the midst of an event whose work is that of a map which is made, or ends: what it has done finds what it must.
   pub record InMapEvent (done : List Effect) (m : Moment K V) (known : Known) (s : Scene K V) : Type 0 where
     pub of_maps : is_of_slots event ≡ false
     pub calls : ShowsCalls same name log m known s
-    pub reading : ShowsReading name log (λ j. 0) m s
+    pub reading : ShowsReading name (past log) (λ j. 0) m s
     pub worked : m ≡ with_effects None (Some map) done beginning
     pub granted : is_granted false done ≡ true
     pub protects : InMidst event done m known s.world

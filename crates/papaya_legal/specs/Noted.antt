@@ -45,10 +45,7 @@ module _ (K V : Type 0) where
       (things : List Thing) (m : Moment K V) → HaveCome things m → (known : Known) → known.stored ≡ length m.stored → (i map : ℕ) (told : Changed) (own : Option (List ℕ)) (of : Option ℕ)
       → (let effects = effects_of (Call i map) known told in HaveCome (things ++ flat_map came effects) (with_effects own of effects m))
 
-  -- where an event begins what it begins, and after one whose effects find what they must: of all things that came into maps by then.
-  abbrev pub EventsBeginWithThings : Type 0
-  EventsBeginWithThings = (things : List Thing) (e : Entry K V) (m : Moment K V) → HaveCome things m → HaveCome things (at_work e m)
-
+  -- and after an event whose effects find what they must: of all things that came into maps by then.
   abbrev pub EventsBringThings : Type 0
   EventsBringThings =
       (terms : Terms) (log : List (Entry K V)) (e : Entry K V) → HaveCome (things_in log) (moment log) → AllFind terms log e (at_work e (moment log))

@@ -51,6 +51,7 @@ use Rattle.papaya_grows.specs.Given.Scenes.Ending.{ending_begun}
 use Rattle.papaya_grows.specs.Given.Scenes.Held.{Held, IsAt}
 use Rattle.papaya_grows.specs.Given.Scenes.Replying.{StopLeads, scene_with, unless_stopped}
 use Rattle.papaya_grows.specs.Given.Scenes.Scene.{HasCall, Scene, slot_of}
+use Rattle.papaya_grows.specs.Given.Schedules.Transition.{past}
 
 -- by such an event calls and maps are as they were: it is none that makes or ends a map, begins a call, tells it a reply, gives it up, or takes its steps, or it is kept out
 abbrev pub LeavesAll : {K V : Type 0} → Event K V → Outcome V → ℕ → Type 0
@@ -85,7 +86,7 @@ module _ (K V : Type 0) (same : K → K → Bool) where
       (name name2 : ℕ → List ℕ) (terms : Terms) (log : List (Entry K V)) (first known : Known) (before s : Scene K V) → ShowsRun same name terms log first before
       → (e : Entry K V) → ComesRight terms log e → MovesOn terms log e
       → (let b = at_work e (moment log) in AtEachEffect (StoresOne (caller_of e.event)) (caller_of e.event) (acted_on e.event b) e.effects b) → ReclaimsAll log e
-      → ShowsCalls same name2 log (moment (e ∷ log)) known s → ShowsReading name2 log (λ j. 0) (moment (e ∷ log)) s → SectionsHold (moment (e ∷ log)) known s.world
+      → ShowsCalls same name2 log (moment (e ∷ log)) known s → ShowsReading name2 (past log) (λ j. 0) (moment (e ∷ log)) s → SectionsHold (moment (e ∷ log)) known s.world
       → ((moment (e ∷ log)).is_alone ≡ true → FollowsOrRows terms (e ∷ log) known s.world) → ShowsRun same name2 terms (e ∷ log) known s
 
   -- It goes on by other names of callers that have no call,
@@ -99,7 +100,7 @@ module _ (K V : Type 0) (same : K → K → Bool) where
   QuietEventsEnd =
       (name : ℕ → List ℕ) (terms : Terms) (log : List (Entry K V)) (known : Known) (before s : Scene K V) → ShowsRun same name terms log known before
       → (e : Entry K V) → ComesRight terms log e → MovesOn terms log e → e.effects ≡ [] → changes_of log e ≡ [] → left_last e.event e.outcome (moment log) ≡ [] → ReclaimsAll log e
-      → (v : Moment K V) → ShowsCalls same name log v known s → ShowsReading name log (λ j. 0) v s → IsLike v (moment (e ∷ log)) → s.world ≡ before.world → SectionsHold (moment (e ∷ log)) known s.world
+      → (v : Moment K V) → ShowsCalls same name log v known s → ShowsReading name (past log) (λ j. 0) v s → IsLike v (moment (e ∷ log)) → s.world ≡ before.world → SectionsHold (moment (e ∷ log)) known s.world
       → ShowsRun same name terms (e ∷ log) known s
 
   -- and so with one by which calls and maps are as they were.

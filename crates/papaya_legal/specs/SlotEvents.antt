@@ -36,6 +36,7 @@ use Rattle.papaya_grows.specs.Given.Scenes.Held.{Held, IsAt}
 use Rattle.papaya_grows.specs.Given.Scenes.OnSlots.{RowBegins, RowLeads}
 use Rattle.papaya_grows.specs.Given.Scenes.Rows.{request_of}
 use Rattle.papaya_grows.specs.Given.Scenes.Scene.{IsOnSlot, Scene, slot_of}
+use Rattle.papaya_grows.specs.Given.Schedules.Transition.{past}
 
 module _ {K V : Type 0} (same : K → K → Bool) (name : ℕ → List ℕ) (terms : Terms) (log : List (Entry K V)) (event : Event K V) (i : ℕ) (called : SlotCall) (first : Known) (began : World (Node K V)) where
   -- In the midst of an event whose work is a row of caller i on its slot, which began in that world, and has done this.
@@ -43,7 +44,7 @@ module _ {K V : Type 0} (same : K → K → Bool) (name : ℕ → List ℕ) (ter
     pub of_slots : is_of_slots event ≡ true
     pub once : EachIsOnce first
     pub calls : ShowsCalls same name log m known s
-    pub reading : ShowsReading name log (λ j. 0) m s
+    pub reading : ShowsReading name (past log) (λ j. 0) m s
     pub worked : m ≡ with_effects None None done (moment log)
     pub granted : is_granted false done ≡ true
     pub protects : InMidst event done m known s.world

@@ -1,4 +1,2 @@
 //! What is so after each event of a run, by which the next one keeps its promises.
 #![tactic(auto)]
-
-pub mod law;

@@ -69,7 +69,6 @@ use Rattle.papaya_settles.specs.Entries.{ShowsEntries}
 use Rattle.papaya_settles.proofs.DueCalls.{rows_tell_due}
 use Rattle.papaya_lives.specs.Behind.{IsLeft, LiesBehind, EachWaits, ShowsWaiting, WaitsOnce}
 use Rattle.papaya_lives.specs.Retired.{IsDue, IsToRetire}
-use Rattle.papaya_lives.specs.Steps.{CallRowsKeepWaiting}
 use Rattle.papaya_lives.specs.Waiting.{IsPutting, waits_behind}
 use Rattle.papaya_lives.proofs.Each.{WaitsAt, each_on, found}
 use Rattle.papaya_lives.proofs.Lives.{WaitsIn, OnWay, OnList, TakenOver, in_wait}
@@ -491,7 +490,3 @@ module _ {K V : Type 0} (same : K → K → Bool) (hash : ℕ → K → ℕ) (na
       by (Counting x) step none = absurd (none tt)
       by (OverAll x) (p2, end, machine_is, told_is, inl step) none = absurd (none tt)
       by (OverAll x) (p2, end, machine_is, told_is, inr (row, stayed)) none = (waiting_on row.step.w2 stayed.0 row.step.memory row.step.happened, once_on row.step.w2 stayed.0 row.step.memory row.step.happened)
-
-pub call_rows_keep_waiting : (K V : Type 0) (same : K → K → Bool) (hash : ℕ → K → ℕ) → CallRowsKeepWaiting K V same hash
-call_rows_keep_waiting K V same hash name m known s old new at whole entries owning waiting map i u here told leads other =
-    (row_waits_on same hash name m known s old new at whole entries owning waiting map i u here told leads other).0

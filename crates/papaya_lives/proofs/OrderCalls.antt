@@ -6,7 +6,7 @@ use Rattle.papaya_settles.specs.Given.SeizeWords.Word.{block_in}
 use Rattle.papaya_settles.specs.Given.SeizeWords.declared.at.At.{At}
 use Rattle.papaya_settles.specs.Given.Seize.Further.{IsWordOf, FurtherAre}
 use Rattle.papaya_settles.specs.Given.Seize.declared.states.TheConstants.{LAST_SLOT}
-use Rattle.papaya_settles.specs.Given.Seize.World.{World, Row, Rests, Hand, InUse, Handed, Request, Register', Enter', Leave', LeaveOwned, Refresh, Unregister', Retire, Flush, Defer', Event, Begin, Begins, Runs, Steps', with_at}
+use Rattle.papaya_settles.specs.Given.Seize.World.{World, Rests, Hand, InUse, Handed, Request, Register', Enter', Leave', LeaveOwned, Refresh, Unregister', Retire, Flush, Defer', Event, Begin, Begins, Runs, Steps', with_at}
 use Rattle.papaya_settles.proofs.Given.SeizeRule.Words.Named.{link-block}
 use Rattle.papaya_settles.proofs.Given.SeizeRule.World.Kept.{steps_next}
 use Rattle.papaya_settles.proofs.Given.SeizeAlone.Histories.Reached.{Reached, happens_reached}
@@ -71,10 +71,6 @@ no_more_behind n t x ds other = by (same_table x t) refl
         → each_of (λ (d : Deferral). d.pair) (if q then record { pair = n; behind = x } ∷ filter (λ (d : Deferral). same_table d.behind t) ds else filter (λ (d : Deferral). same_table d.behind t) ds) ≡ behind t ds
     by true is = absurd (other (table_is x t is))
     by false is = refl
-
--- a row that is putting a block behind another one does not rest
-putting_busy : (b c : ℕ) (row : Row) → IsPutting b c row → row ≡ Rests → ⊥
-putting_busy b c row puts is = subst (IsPutting b c) is puts
 
 module _ {K V : Type 0} (same : K → K → Bool) (hash : ℕ → K → ℕ) (name : ℕ → List ℕ) (m : Moment K V) (known : Known) (s : Scene K V) (old new : Held K V) (at : IsAt same hash old s)
     (whole : ShowsWhole same name m known s) (owning : OwnAreMade known s.world) (waiting : ShowsWaiting m known s.world) (lying : ShowsLying m known s.world) (shows : ShowsOrder m known s.world)

@@ -27,7 +27,7 @@ use Rattle.papaya_settles.proofs.Given.SeizeRule.World.Good.{Good, Next}
 use Rattle.papaya_settles.proofs.Given.SeizeRule.World.Kept.{IsStill, steps_next, users_good}
 use Rattle.papaya_settles.proofs.Given.SeizeRule.World.Start.{start_good}
 use Rattle.papaya_settles.proofs.Given.SeizeAlone.Spared.Rows.{RowStepped, row_stepped}
-use Rattle.papaya_lives.specs.Waiting.{IsPutting, waits_behind, WaitUnretired, PutsWait}
+use Rattle.papaya_lives.specs.Waiting.{IsPutting, waits_behind}
 use Rattle.papaya_lives.proofs.Lives.{WaitsIn, OnWay, elsewhere, other_block, in_wait, not_given, as_before, by_unmoved, leaves}
 use Rattle.papaya_lives.proofs.Logs.{unless_is, unless_other, waited, waits_on}
 use Rattle.papaya_lives.proofs.Putting.{puts_onto, putting_life, taken_free, put_before}
@@ -280,11 +280,3 @@ module _ {T : Type 0} (defers : T → Option ℕ) (size : ℕ) where
 
     pub has_it : w.hand b ≡ Handed
     has_it = waiting_hand (w.hand b) (k.good.state.life b) (in_wait k.good.state b t (k.waits b t waits)) (k.good.hands b)
-
-pub wait_unretired : {T : Type 0} (defers : T → Option ℕ) → WaitUnretired defers
-wait_unretired defers size roots events w h b t waits =
-    let k = runs_kept defers size events (at_start defers roots) w (start_kept defers size roots) h in
-    (unretired defers size w k b t waits, has_it defers size w k b t waits)
-
-pub puts_wait : {T : Type 0} (defers : T → Option ℕ) → PutsWait defers
-puts_wait defers size roots events w h = (runs_kept defers size events (at_start defers roots) w (start_kept defers size roots) h).putting

@@ -30,8 +30,6 @@ use Rattle.papaya_settles.specs.Given.Others.Rows.{scene_then}
 use Rattle.papaya_settles.specs.Given.Spots.OnSlots.{WaitUnreclaimed}
 use Rattle.papaya_settles.specs.Given.Moments.Endings.{WaitsOn}
 use Rattle.papaya_settles.specs.Given.Moments.Whole.{ShowsWhole}
-use Rattle.papaya_settles.specs.Due.{OwnAreMade}
-use Rattle.papaya_settles.specs.Entries.{ShowsEntries}
 use Rattle.papaya_lives.specs.Behind.{LiesBehind, ShowsWaiting, WaitsOnce}
 use Rattle.papaya_settles.specs.Given.Scenes.Ending.{EndingLeads, ending_begun}
 use Rattle.papaya_settles.specs.Given.Scenes.Held.{Held, IsAt}
@@ -107,17 +105,6 @@ module _ (K V : Type 0) (same : K → K → Bool) (hash : ℕ → K → ℕ) whe
       → (let to = leads map u here in
       IsOfNoRow same old.batch_size old.roots s.world s.maps s.calls s.makers s.enders map to.0 i new.memory to.4.w2 to.4.maps2 to.4.next u to.1 told to.4.did
       → ShowsWaiting (with_effects (Some (name i)) (Some map) (effects_of (Call i map) known new.changed) m) (known_after (Call i map) new.changed known) to.4.w2)
-
-  -- And after a step of a row within a call: a pair that it puts behind a table waits there.
-  abbrev pub CallRowsKeepWaiting : Type 0
-  CallRowsKeepWaiting =
-      (name : ℕ → List ℕ) (m : Moment K V) (known : Known) (s : Scene K V) (old new : Held K V) → IsAt same hash old s → ShowsWhole same name m known s
-      → ShowsEntries s → OwnAreMade known s.world → ShowsWaiting m known s.world
-      → (map i : ℕ) (u : UnderWay K V K) (here : s.calls map i ≡ Some u) (told : CallTold (Node K V)) (leads : StepLeads same hash i told s old new)
-      → (let to = leads map u here in
-      let v = with_effects (Some (name i)) (Some map) (effects_of (Call i map) known new.changed) m in
-      (IsOfNoRow same old.batch_size old.roots s.world s.maps s.calls s.makers s.enders map to.0 i new.memory to.4.w2 to.4.maps2 to.4.next u to.1 told to.4.did → ⊥)
-      → ShowsWaiting v (known_after (Call i map) new.changed known) to.4.w2)
 
   -- And what waits behind a table is not reclaimed as that ends with its map.
   abbrev pub EndingsFindWaiting : Type 0

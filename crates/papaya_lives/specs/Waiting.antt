@@ -1,7 +1,7 @@
--- Which block another one waits behind, by the log of effects; and that it is not retired while it does.
-use Rattle.std.specs.Prelude.{◌≡◌, ◌≢◌, ℕ, ◌==◌, false, List, [], ◌∷◌, Option, Some, None, if◌then◌else◌}
-use Rattle.papaya_settles.specs.Given.Seize.Law.{Effect, Deferred, Taken, LeftOver, is_retired}
-use Rattle.papaya_settles.specs.Given.Seize.World.{World, Row, Defers, Handed, Event, Runs, at_start}
+-- Which block another one waits behind, by the log of effects.
+use Rattle.std.specs.Prelude.{◌≡◌, ◌≢◌, ℕ, ◌==◌, List, [], ◌∷◌, Option, Some, None, if◌then◌else◌}
+use Rattle.papaya_settles.specs.Given.Seize.Law.{Effect, Deferred, Taken, LeftOver}
+use Rattle.papaya_settles.specs.Given.Seize.World.{Row, Defers}
 use Rattle.papaya_settles.specs.Given.Seize.Further.{IsWordOf}
 use Rattle.papaya_settles.specs.Given.Seize.declared.rows.defer.Deferring.TheVariants as deferring
 use Rattle.papaya_settles.specs.Given.SeizeWords.Word.{link_to}
@@ -23,16 +23,3 @@ waits_behind b (_ ∷ log) = waits_behind b log
 abbrev pub IsPutting : ℕ → ℕ → Row → Type 0
 IsPutting b t (Defers s c) = (c.stands ≢ deferring.Over) × (c.block ≡ link_to b) × IsWordOf t c.table_word
 IsPutting b t _ = ⊥
-
-module _ {T : Type 0} (defers : T → Option ℕ) where
-  -- The promise: whatever has happened, in whatever order, a block that waits behind another one is not retired, and the collector has it.
-  abbrev pub WaitUnretired : Type 0
-  WaitUnretired =
-      (batch_size roots : ℕ) (events : List (Event T)) (w : World T) → Runs defers batch_size events (at_start defers roots) w
-      → (b t : ℕ) → waits_behind b w.log ≡ Some t → (is_retired b w.log ≡ false) × (w.hand b ≡ Handed)
-
-  -- The promise: a block that a row is putting behind another one waits behind that.
-  abbrev pub PutsWait : Type 0
-  PutsWait =
-      (batch_size roots : ℕ) (events : List (Event T)) (w : World T) → Runs defers batch_size events (at_start defers roots) w
-      → (i b t : ℕ) → IsPutting b t (w.row i) → waits_behind b w.log ≡ Some t

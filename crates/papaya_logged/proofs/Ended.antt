@@ -51,9 +51,6 @@ module _ (c : Register) where
   Taken p (c2, progress.Goes) = taken_in_the_end c2 c2.stands ≡ taken_in_the_end c p
   Taken p _ = Unit {0}
 
-  abbrev wanted : SlotUse
-  wanted = if c.enters then used.Inside else used.Outside
-
   further_so : (seen : ℕ) → Taken (registers.Take seen) (register.further c) × Taken registers.Look (register.further c)
   further_so seen = (by (nat_lt c.slot LAST_SLOT), on (nat_lt c.slot LAST_SLOT))
     where
@@ -70,9 +67,6 @@ module _ (c : Register) where
   taking_so seen (Some bucket) = refl
 
   module _ (T : Type 0) (p : Registering) (stands : c.stands ≡ p) where
-    stays : taken_in_the_end c c.stands ≡ taken_in_the_end c p
-    stays = ap (taken_in_the_end c) stands
-
     begun_so : (out : Out T) → p ≡ registers.Begin → Outcomes (Taken registers.Begin) (register.begun c out)
     begun_so (Roomed (Ok made)) e = refl
     begun_so (Roomed (Err fault)) e = tt

@@ -18,7 +18,7 @@ use Rattle.papaya_histories.proofs.Given.Follows.Onward.{IsLasting, KeepsRoles}
 use Rattle.papaya_histories.specs.Given.Moments.Whole.{ShowsWhole}
 use Rattle.papaya_histories.specs.Given.Schedules.After.{moment}
 use Rattle.papaya_histories.specs.Given.Schedules.Beginning.{at_work}
-use Rattle.papaya_histories.specs.Given.Schedules.Model.{IsByModel, came, thing_back, number_in, handing, things_in, sets_in, changes_by, left_last}
+use Rattle.papaya_histories.specs.Given.Schedules.Model.{came, thing_back, number_in, handing, things_in, changes_by, left_last}
 use Rattle.papaya_histories.specs.Given.Schedules.Moment.{Moment}
 use Rattle.papaya_histories.specs.Given.Schedules.declared.effect.Effect.{Effect}
 use Rattle.papaya_histories.specs.Given.Schedules.declared.effect.Effect.TheVariants as effect
@@ -28,10 +28,10 @@ use Rattle.papaya_histories.specs.Given.Schedules.declared.event.Event.TheVarian
 use Rattle.papaya_histories.specs.Given.Schedules.declared.outcome.Outcome.{Outcome}
 use Rattle.papaya_histories.specs.Given.Schedules.declared.effect.Thing.TheVariants.{APair, ATable}
 use Rattle.papaya_models.specs.Alike.{ChangesAlike}
-use Rattle.papaya_models.specs.CallEvents.{IsNoted, HasToldPart, things_then, IsInItsRow, FollowsInEvent, CallEventsBegin, CallEventsGoOn, CallEventsPause, CallEventsEnd, IsOfNoSlot, slot_of_call, OthersHandOver}
+use Rattle.papaya_models.specs.CallEvents.{IsNoted, HasToldPart, things_then, IsInItsRow, FollowsInEvent, CallEventsBegin, CallEventsGoOn, CallEventsPause, IsOfNoSlot, slot_of_call, OthersHandOver}
 use Rattle.papaya_models.specs.Calls.{sets_on, FollowsInCall, EndsNone, EndNone}
 use Rattle.papaya_models.specs.Defers.{AreNoted, HasToldIt}
-use Rattle.papaya_models.specs.Follows.{FollowsModel, FollowsSets}
+use Rattle.papaya_models.specs.Follows.{FollowsSets}
 use Rattle.papaya_models.specs.Numbers.{HasNumber, EachIsOnce, IsOfThings, AreOfThings, NotBack, NoneBack}
 use Rattle.papaya_models.specs.Retires.{HasToldSo}
 use Rattle.papaya_models.proofs.Calls.{OneStep, one_step, no_or, no_row_rests, call_follows, row_begun, row_goes_on, own_keeps, row_keeps, kept_numbers, more_numbers, more_things_follow, rows_within_end}
@@ -339,18 +339,6 @@ call_events_pause K V terms log e slot i known w f are none_left active = (
   subst (λ (x : Sets). FollowsSets terms.batch_size terms.roots (things_in (e ∷ log)) x known w ⊎ IsInItsRow terms.batch_size terms.roots (things_in (e ∷ log)) x slot i known w)
       (sets_then terms log e (flat_map (handing (things_in (e ∷ log)) slot) e.effects) are) f.so,
 )
-
-pub call_events_end : (K V : Type 0) → CallEventsEnd K V
-call_events_end K V terms log e slot i known w f rests are none_left active = (over.0, by over.1)
-  where
-    over : IsByModel terms log e × (FollowsModel terms.batch_size terms.roots (e ∷ log) known w
-        ⊎ IsInItsRow terms.batch_size terms.roots (things_in (e ∷ log)) (sets_in terms.batch_size (e ∷ log)) slot i known w)
-    over = call_events_pause K V terms log e slot i known w f are none_left active
-
-    by : FollowsModel terms.batch_size terms.roots (e ∷ log) known w ⊎ IsInItsRow terms.batch_size terms.roots (things_in (e ∷ log)) (sets_in terms.batch_size (e ∷ log)) slot i known w
-        → FollowsModel terms.batch_size terms.roots (e ∷ log) known w
-    by (inl follows) = follows
-    by (inr row) = absurd (row.goes rests)
 
 pub others_hand_over : (K V : Type 0) → OthersHandOver K V
 others_hand_over K V log e is = (by e.event e.outcome is, last e.event e.outcome is)

@@ -3,7 +3,7 @@ use Rattle.std.specs.Prelude.{◌≡◌, ◌≢◌, ℕ, Bool, List, [], ◌++�
 use Rattle.std.proofs.Common.{refl, ap, sym, subst, ◌∙◌, inl, inr}
 use Rattle.papaya_histories.specs.Given.Seize.Sequence.{changes}
 use Rattle.papaya_histories.specs.Given.Seize.WaitingSets.{Change, Sets, After, all_changed, at_start as sets_at_start}
-use Rattle.papaya_histories.specs.Given.Seize.World.{World, Rests, Request, Begin, Step, Event, Happens, Runs, Row, Steps'}
+use Rattle.papaya_histories.specs.Given.Seize.World.{World, Rests, Request, Begin, Step, Event, Happens, Runs}
 use Rattle.papaya_histories.proofs.Given.SeizeSets.Turns.Append.{changed_append}
 use Rattle.papaya_histories.specs.Given.Raw.declared.machines.progress.Progress.{Progress}
 use Rattle.papaya_histories.specs.Given.Rule.InWorld.{AllUsers}
@@ -28,7 +28,7 @@ use Rattle.papaya_histories.proofs.Given.Hands.Steps.{calls_store_theirs}
 use Rattle.papaya_histories.specs.Given.Moments.Whole.{ShowsWhole}
 use Rattle.papaya_promises.specs.Sheltered.{IsOfThing}
 use Rattle.papaya_models.specs.Alike.{SetsAlike}
-use Rattle.papaya_models.specs.Calls.{sets_on, FollowsInCall, MoreThingsFollow, RowsWithinEnd, CallsFollow, RowsWithinBegin, RowsWithinGoOn}
+use Rattle.papaya_models.specs.Calls.{sets_on, FollowsInCall, MoreThingsFollow, RowsWithinEnd}
 use Rattle.papaya_models.specs.Follows.{FollowsSets}
 use Rattle.papaya_models.specs.Numbers.{HasNumber}
 use Rattle.papaya_models.specs.Turns.{sets_of}
@@ -209,14 +209,6 @@ module _ {K V : Type 0} (same : K → K → Bool) (hash : ℕ → K → ℕ) (na
     sets_are = refl;
   }
 
-  pub row_begins : (NoRow u to.4.did → ⊥) → s.world.row i ≡ Rests → (roots : ℕ) (things : List Thing) (sets : Sets) → FollowsSets old.batch_size roots things sets known s.world → (slot : ℕ)
-      → (request : Request) × FollowsInCall old.batch_size roots things (sets_on old.batch_size things slot effects sets) known2 i request (flat_map (handing things slot) effects) to.4.w2
-  row_begins other rests roots things sets f slot = by (one_step other)
-    where
-      by : OneStep to.4.w2 → (request : Request) × FollowsInCall old.batch_size roots things (sets_on old.batch_size things slot effects sets) known2 i request (flat_map (handing things slot) effects) to.4.w2
-      by (inl step) = absurd (subst (λ (r : Row). Steps' deferred_word i r s.world to.4.w2) rests step)
-      by (inr (request, begun, hands, begins, step)) = (request, row_begun other request begun begins step roots things sets f slot)
-
   -- whether it is one of a row; one that is none is taken while the caller has no row under way
   pub no_or : NoRow u to.4.did ⊎ (NoRow u to.4.did → ⊥)
   no_or = by u to.4.did
@@ -267,16 +259,3 @@ module _ {K V : Type 0} (same : K → K → Bool) (hash : ℕ → K → ℕ) (na
             ∙ sym (ap (λ (a : After). a.sets) (changed_append old.batch_size handed (flat_map (handing things slot) effects) f.first));
       }
       by (inr (request2, begun, hands, begins, step)) = absurd (goes begins.0)
-
-module _ (K V : Type 0) (same : K → K → Bool) (hash : ℕ → K → ℕ) where
-  pub calls_follow : CallsFollow K V same hash
-  calls_follow name m known s old new at whole map i u here told leads own roots things sets f slot =
-      call_follows same hash name m known s old new at whole map i u here told leads own roots things sets f slot
-
-  pub rows_within_begin : RowsWithinBegin K V same hash
-  rows_within_begin name m known s old new at whole map i u here told leads other rests roots things sets f slot =
-      row_begins same hash name m known s old new at whole map i u here told leads other rests roots things sets f slot
-
-  pub rows_within_go_on : RowsWithinGoOn K V same hash
-  rows_within_go_on name m known s old new at whole map i u here told leads other goes roots things sets request handed f slot =
-      row_goes_on same hash name m known s old new at whole map i u here told leads other goes roots things sets request handed f slot

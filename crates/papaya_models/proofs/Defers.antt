@@ -59,7 +59,7 @@ use Rattle.papaya_histories.specs.Given.Schedules.declared.effect.Thing.{Thing}
 use Rattle.papaya_histories.specs.Given.Schedules.declared.effect.Thing.TheVariants.{APair, ATable}
 use Rattle.papaya_histories.proofs.Given.Spots.Handing.{AllKeep}
 use Rattle.papaya_models.specs.Alike.{ChangesAlike}
-use Rattle.papaya_models.specs.Defers.{IsDue, IsDone, IsToDefer, HasDeferred, AreNoted, HasToldIt, DefersAreTold, DeferringBegins, DeferringGoesOn}
+use Rattle.papaya_models.specs.Defers.{IsDue, IsDone, IsToDefer, HasDeferred, AreNoted, HasToldIt, DefersAreTold}
 use Rattle.papaya_models.specs.Numbers.{HasNumber, AreOfThings}
 use Rattle.papaya_models.proofs.Calls.{one_step, kept_numbers}
 use Rattle.papaya_models.proofs.Handing.{nothing_handed, keep_of}
@@ -392,11 +392,3 @@ module _ {K V : Type 0} (same : K → K → Bool) (hash : ℕ → K → ℕ) (na
           → HasToldIt things (known_after (Call i map) new.changed known) i b t (flat_map (handing things under) effects_now) w2)
       by (inl step) = absurd (subst (λ (r : Row). Steps' deferred_word i r s.world w2) rests step)
       by (inr (request, begun, hands, begin, step)) = (request, λ things slot under b t is noted. (begun_tells other request begun begin step things slot under b t is noted).0)
-
-module _ (K V : Type 0) (same : K → K → Bool) (hash : ℕ → K → ℕ) where
-  pub deferring_begins : DeferringBegins K V same hash
-  deferring_begins name m known s old new at whole map i u here told leads other rests = begins same hash name m known s old new at whole map i u here told leads other rests
-
-  pub deferring_goes_on : DeferringGoesOn K V same hash
-  deferring_goes_on name m known s old new at whole map i u here told leads other goes things under b t handed noted so =
-      (goes_on same hash name m known s old new at whole map i u here told leads other goes things under b t handed noted so).0

@@ -3,21 +3,13 @@ use Rattle.std.specs.Prelude.{flat_map, map, MatchBool}
 use Rattle.std.proofs.Common.{◌≡◌, Bool, true, false, List, [], ◌∷◌, ◌++◌, ap, sym, ◌∙◌}
 use Rattle.std.proofs.lemmas.List.{append-nil}
 use Rattle.papaya_histories.specs.Given.Seize.WaitingSets.{Change, all_changed}
-use Rattle.papaya_histories.specs.Given.Tables.Nodes.{deferred_word}
 use Rattle.papaya_histories.specs.Given.Schedules.After.{after, moment}
 use Rattle.papaya_histories.specs.Given.Schedules.Entry.{Entry}
 use Rattle.papaya_histories.specs.Given.Schedules.Model.{IsByModel, came, thing_back, number_in, things_in, sets_in, changes_of, left_last, back_by_model}
 use Rattle.papaya_histories.specs.Given.Schedules.Terms.{Terms}
 use Rattle.papaya_histories.specs.Given.Schedules.declared.effect.Effect.{Effect}
 use Rattle.papaya_histories.specs.Given.Schedules.declared.effect.Thing.{Thing}
-use Rattle.papaya_histories.specs.Given.Effects.Known.{nothing_known}
-use Rattle.papaya_models.specs.Follows.{FollowsAtFirst, IdleEventsFollow}
-use Rattle.papaya_models.specs.Numbers.{HasNumber}
-use Rattle.papaya_models.proofs.Alike.Changed.{start_alike}
-use Rattle.papaya_models.proofs.Turns.{turns_begin}
-
-pub follows_at_first : (K V : Type 0) → FollowsAtFirst K V
-follows_at_first K V batch_size roots = record { before = []; came = turns_begin deferred_word batch_size roots; alike = start_alike (HasNumber nothing_known []) }
+use Rattle.papaya_models.specs.Follows.{IdleEventsFollow}
 
 -- what is so is so in each case
 pub if_alone : (q : Bool) (A : Type 0) → A → MatchBool q A (Unit {0})

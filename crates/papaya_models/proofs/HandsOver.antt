@@ -64,7 +64,7 @@ use Rattle.papaya_promises.specs.Sheltered.{IsOfThing}
 use Rattle.papaya_histories.proofs.Given.Spots.Handing.{AllKeep}
 use Rattle.papaya_models.specs.Alike.{ChangesAlike}
 use Rattle.papaya_models.specs.Numbers.{HasNumber, AreOfThings}
-use Rattle.papaya_models.specs.Retires.{IsToRetireAt, IsToRetire, IsPast, HasRetired, HasToldSo, RetiresAreTold, RetiringBegins, RetiringGoesOn}
+use Rattle.papaya_models.specs.Retires.{IsToRetireAt, IsToRetire, IsPast, HasRetired, HasToldSo, RetiresAreTold}
 use Rattle.papaya_models.proofs.Calls.{NoRow, OneStep, one_step, its_memory, kept_numbers, row_keeps}
 use Rattle.papaya_models.proofs.Handing.{nothing_handed, keep_of}
 use Rattle.papaya_models.proofs.Retires.{to_retire, retires, past_on, goes_row, past_row}
@@ -361,11 +361,3 @@ module _ {K V : Type 0} (same : K → K → Bool) (hash : ℕ → K → ℕ) (na
           → HasToldSo things (known_after (Call i map) new.changed known) i slot b (flat_map (handing things slot) effects_now) to.4.w2)
       by (inl step) = absurd (subst (λ (r : Row). Steps' deferred_word i r s.world to.4.w2) rests step)
       by (inr (request, begun, hands, begin, step)) = (request, λ things slot b k is has. (begun_tells other request begun begin step things slot b k is has).0)
-
-module _ (K V : Type 0) (same : K → K → Bool) (hash : ℕ → K → ℕ) where
-  pub retiring_begins : RetiringBegins K V same hash
-  retiring_begins name m known s old new at whole map i u here told leads other rests = begins same hash name m known s old new at whole map i u here told leads other rests
-
-  pub retiring_goes_on : RetiringGoesOn K V same hash
-  retiring_goes_on name m known s old new at whole map i u here told leads other goes things slot b k handed has so =
-      (goes_on same hash name m known s old new at whole map i u here told leads other goes things slot b k handed has so).0

@@ -6,12 +6,11 @@ use Rattle.std.proofs.lemmas.List.{append-nil}
 use Rattle.papaya_histories.specs.Given.SeizeWords.declared.at.At.TheVariants as name
 use Rattle.papaya_histories.specs.Given.Seize.Sequence.{taken_in}
 use Rattle.papaya_histories.specs.Given.Seize.declared.states.TheConstants.{BATCH, LAST_SLOT}
-use Rattle.papaya_histories.specs.Given.Seize.WaitingSets.{Change, ReclaimsAll, Sets, After, all_reclaimed, quietly, at_start as sets_at_start}
+use Rattle.papaya_histories.specs.Given.Seize.WaitingSets.{Change, Sets, After, all_reclaimed, quietly, at_start as sets_at_start}
 use Rattle.papaya_histories.specs.Given.Seize.World.{World, Vacant, at_start}
 use Rattle.papaya_histories.proofs.Given.SeizeRule.Words.Named.{words_of}
 use Rattle.papaya_histories.proofs.Given.SeizeRule.World.Rested.{start_rested}
 use Rattle.papaya_histories.specs.Given.SeizeSets.Reclaims.{Reclaims, NothingWaits}
-use Rattle.papaya_histories.proofs.Given.SeizeSets.Reclaims.Calls.{reclaims_by_calls}
 use Rattle.papaya_histories.proofs.Given.SeizeSets.Reclaims.Ends.{Left, all_left_so, none_closed}
 use Rattle.papaya_histories.proofs.Given.SeizeSets.Reclaims.NeverTaken.{turns_past}
 use Rattle.papaya_histories.proofs.Given.SeizeSets.Reclaims.Rounds.{reclaimed_quiet}
@@ -19,14 +18,8 @@ use Rattle.papaya_histories.proofs.Given.SeizeSets.Reclaims.Sets.{active_is, is_
 use Rattle.papaya_histories.proofs.Given.SeizeSets.Turns.All.{turns_shown, start_shown}
 use Rattle.papaya_histories.proofs.Given.SeizeSets.Turns.Append.{turns_append, changed_append}
 use Rattle.papaya_histories.proofs.Given.SeizeSets.Turns.Begins.{Shown}
-use Rattle.papaya_histories.specs.Given.Tables.Nodes.{deferred_word}
-use Rattle.papaya_histories.specs.Given.Tables.declared.node.Node.{Node}
-use Rattle.papaya_models.specs.Alike.{SetsAlike}
-use Rattle.papaya_models.specs.Numbers.{HasNumber}
-use Rattle.papaya_models.specs.Reclaims.{HasReclaimed, SlotsReclaim, ReclaimingFollows}
+use Rattle.papaya_models.specs.Reclaims.{HasReclaimed}
 use Rattle.papaya_models.specs.Turns.{sets_of, CameByTurns}
-use Rattle.papaya_models.proofs.Alike.Changed.{changed_alike}
-use Rattle.papaya_models.proofs.Numbers.{has_one}
 
 module _ {T : Type 0} (defers : T → Option ℕ) (left_over : T → Bool) (batch_size roots : ℕ) (small : batch_size < 2 ^ 64) (v : World T) (before : List Change)
     (came : CameByTurns defers batch_size roots v before) (i : ℕ) where
@@ -74,25 +67,3 @@ module _ {T : Type 0} (defers : T → Option ℕ) (left_over : T → Bool) (batc
       sets = sym (ap (λ (a : After). a.sets) quiet);
       waits = (none_open, none_closed defers (LAST_SLOT + 1) batch_size refl v sets shown vacant);
     }
-
-pub slots_reclaim : (T : Type 0) (defers : T → Option ℕ) (left_over : T → Bool) → SlotsReclaim T defers left_over
-slots_reclaim T defers left_over batch_size roots small v before came i steps m runs =
-    let calls = reclaims_by_calls defers left_over batch_size roots came.0 v before i steps m came.1 runs in
-    (calls.0, calls.2, has_reclaimed defers left_over batch_size roots small v before came i calls.0 calls.1)
-
-pub reclaiming_follows : (K V : Type 0) → ReclaimingFollows K V
-reclaiming_follows K V left_over batch_size roots things sets known v small once follows i steps m runs =
-    let done = slots_reclaim (Node K V) deferred_word left_over batch_size roots small v follows.before follows.came i steps m runs in
-    let has : HasReclaimed deferred_word batch_size roots v follows.before done.0 = done.2 in
-    let both = changed_alike (HasNumber known things) (has_one known things once) batch_size ReclaimsAll ReclaimsAll (sets_of batch_size follows.before) sets follows.alike refl in (
-      done.0,
-      done.1,
-      record {
-        back = (all_reclaimed batch_size (sets_of batch_size follows.before)).reclaimed;
-        taken = has.taken;
-        by_model = both.reclaimed;
-        after = has.after;
-        came = has.came;
-        alike = subst (λ (s : Sets). SetsAlike (HasNumber known things) s (all_reclaimed batch_size sets).sets) (sym has.sets) both.sets;
-      },
-    )

@@ -1,34 +1,24 @@
 -- Events of calls, where they come one after another: what a call hands over changes the waiting sets of blocks as it does those of the model, once its row
 -- has run.
-use Rattle.std.specs.Prelude.{◌≡◌, ◌≢◌, ◌≤◌, ◌<◌, ◌^◌, ℕ, Bool, List, [], ◌∷◌, ◌++◌, flat_map, Some}
+use Rattle.std.specs.Prelude.{◌≡◌, ◌≢◌, ◌≤◌, ◌<◌, ◌^◌, ℕ, List, [], ◌∷◌, ◌++◌, flat_map}
 use Rattle.papaya_histories.specs.Given.Seize.Sequence.{changes}
 use Rattle.papaya_histories.specs.Given.Seize.WaitingSets.{Change, Sets, all_changed}
 use Rattle.papaya_histories.specs.Given.Seize.World.{World, Rests, Request, IsInside}
 use Rattle.papaya_histories.specs.Given.SeizeWaiting.Held.{count}
-use Rattle.papaya_histories.specs.Given.Raw.declared.machines.progress.Progress.{Progress}
 use Rattle.papaya_histories.specs.Given.Tables.Nodes.{deferred_word}
 use Rattle.papaya_histories.specs.Given.Tables.declared.node.Node.{Node}
 use Rattle.papaya_histories.specs.Given.Schedules.After.{moment}
 use Rattle.papaya_histories.specs.Given.Schedules.Entry.{Entry}
 use Rattle.papaya_histories.specs.Given.Schedules.Model.{IsByModel, thing_back, handing, things_in, sets_in, changes_of, left_last}
-use Rattle.papaya_histories.specs.Given.Schedules.Moment.{Moment}
 use Rattle.papaya_histories.specs.Given.Schedules.Terms.{Terms}
 use Rattle.papaya_histories.specs.Given.Schedules.declared.effect.Effect.{Effect}
 use Rattle.papaya_histories.specs.Given.Schedules.declared.effect.Effect.TheVariants.{Taken}
 use Rattle.papaya_histories.specs.Given.Schedules.declared.effect.Thing.{Thing}
-use Rattle.papaya_histories.specs.Given.Callers.Together.{UnderWay}
-use Rattle.papaya_histories.specs.Given.Effects.Effects.{effects_of, known_after}
 use Rattle.papaya_histories.specs.Given.Effects.Known.{Known}
-use Rattle.papaya_histories.specs.Given.Effects.declared.acting.Acting.TheVariants.{Call}
-use Rattle.papaya_histories.specs.Given.Follows.Steps.{IsOfNoRow}
-use Rattle.papaya_histories.specs.Given.Moments.Whole.{ShowsWhole}
 use Rattle.papaya_models.specs.Alike.{SetsAlike, ChangesAlike}
 use Rattle.papaya_models.specs.Follows.{FollowsSets}
 use Rattle.papaya_models.specs.Numbers.{HasNumber, EachIsOnce}
 use Rattle.papaya_models.specs.Turns.{sets_of, IsInRow}
-use Rattle.papaya_histories.specs.Given.Scenes.Held.{Held, IsAt}
-use Rattle.papaya_histories.specs.Given.Scenes.Scene.{Scene}
-use Rattle.papaya_histories.specs.Given.Scenes.Stepping.{StepLeads}
 
 -- the sets of the model after these effects of a call under this slot, of which the things are these
 abbrev pub sets_on : ℕ → List Thing → ℕ → List Effect → Sets → Sets
@@ -81,43 +71,3 @@ module _ (K V : Type 0) where
       (terms : Terms) (log : List (Entry K V)) (e : Entry K V) (slot : ℕ) → changes_of log e ≡ flat_map (handing (things_in (e ∷ log)) slot) e.effects
       → left_last e.event e.outcome (moment log) ≡ [] → EndNone e.effects → flat_map thing_back e.effects ≡ [] → 1 ≤ count slot (sets_in terms.batch_size log).active
       → IsByModel terms log e × (1 ≤ count slot (sets_in terms.batch_size (e ∷ log)).active)
-
-module _ (K V : Type 0) (same : K → K → Bool) (hash : ℕ → K → ℕ) where
-  module _ (s : Scene K V) (old new : Held K V) (map i : ℕ) (u : UnderWay K V K) (here : s.calls map i ≡ Some u) (told : Progress (Node K V))
-      (leads : StepLeads same hash i told s old new) where
-    -- the step was none of a row
-    abbrev pub OfNoRow : Type 0
-    OfNoRow =
-        let to = leads map u here in
-        IsOfNoRow same old.batch_size old.roots s.world s.maps s.calls s.makers s.enders map to.0 i new.memory to.4.w2 to.4.maps2 to.4.next u to.1 told to.4.did
-
-  -- After a step of a call that is none of a row the sets are alike still, whatever the slot, since it hands nothing over.
-  abbrev pub CallsFollow : Type 0
-  CallsFollow =
-      (name : ℕ → List ℕ) (m : Moment K V) (known : Known) (s : Scene K V) (old new : Held K V) → IsAt same hash old s → ShowsWhole same name m known s
-      → (map i : ℕ) (u : UnderWay K V K) (here : s.calls map i ≡ Some u) (told : Progress (Node K V)) (leads : StepLeads same hash i told s old new)
-      → OfNoRow s old new map i u here told leads → (roots : ℕ) (things : List Thing) (sets : Sets) → FollowsSets old.batch_size roots things sets known s.world → (slot : ℕ)
-      → (let effects = effects_of (Call i map) known new.changed in
-      FollowsSets old.batch_size roots things (sets_on old.batch_size things slot effects sets) (known_after (Call i map) new.changed known) (leads map u here).4.w2)
-
-  -- One that begins a row is in the midst of that, with what it told,
-  abbrev pub RowsWithinBegin : Type 0
-  RowsWithinBegin =
-      (name : ℕ → List ℕ) (m : Moment K V) (known : Known) (s : Scene K V) (old new : Held K V) → IsAt same hash old s → ShowsWhole same name m known s
-      → (map i : ℕ) (u : UnderWay K V K) (here : s.calls map i ≡ Some u) (told : Progress (Node K V)) (leads : StepLeads same hash i told s old new)
-      → (OfNoRow s old new map i u here told leads → ⊥) → s.world.row i ≡ Rests
-      → (roots : ℕ) (things : List Thing) (sets : Sets) → FollowsSets old.batch_size roots things sets known s.world → (slot : ℕ)
-      → (let effects = effects_of (Call i map) known new.changed in
-      (request : Request) × FollowsInCall old.batch_size roots things (sets_on old.batch_size things slot effects sets) (known_after (Call i map) new.changed known) i request
-      (flat_map (handing things slot) effects) (leads map u here).4.w2)
-
-  -- and goes on so with each step.
-  abbrev pub RowsWithinGoOn : Type 0
-  RowsWithinGoOn =
-      (name : ℕ → List ℕ) (m : Moment K V) (known : Known) (s : Scene K V) (old new : Held K V) → IsAt same hash old s → ShowsWhole same name m known s
-      → (map i : ℕ) (u : UnderWay K V K) (here : s.calls map i ≡ Some u) (told : Progress (Node K V)) (leads : StepLeads same hash i told s old new)
-      → (OfNoRow s old new map i u here told leads → ⊥) → s.world.row i ≢ Rests
-      → (roots : ℕ) (things : List Thing) (sets : Sets) (request : Request) (handed : List Change) → FollowsInCall old.batch_size roots things sets known i request handed s.world → (slot : ℕ)
-      → (let effects = effects_of (Call i map) known new.changed in
-      FollowsInCall old.batch_size roots things (sets_on old.batch_size things slot effects sets) (known_after (Call i map) new.changed known) i request
-      (handed ++ flat_map (handing things slot) effects) (leads map u here).4.w2)

@@ -1,35 +1,24 @@
 -- Rows within calls that defer a pair behind a table: such a row tells just that, once.
-use Rattle.std.specs.Prelude.{◌≡◌, ◌≢◌, ◌⊎◌, ℕ, Bool, true, Some, List, [], ◌∷◌, ◌++◌, flat_map}
+use Rattle.std.specs.Prelude.{◌≡◌, ◌≢◌, ◌⊎◌, ℕ, true, List, [], ◌∷◌, ◌++◌}
 use Rattle.papaya_histories.specs.Given.SeizeWords.declared.at.At.{At}
 use Rattle.papaya_histories.specs.Given.SeizeWords.declared.at.At.TheVariants.{Word}
 use Rattle.papaya_histories.specs.Given.SeizeWords.Word.{link_to}
 use Rattle.papaya_histories.specs.Given.Seize.Sequence.{changes}
 use Rattle.papaya_histories.specs.Given.Seize.WaitingSets.{Change, Defers}
-use Rattle.papaya_histories.specs.Given.Seize.World.{World, Row, Rests, Defers as DefersRow, Use, Request, Defer'}
+use Rattle.papaya_histories.specs.Given.Seize.World.{World, Row, Rests, Defers as DefersRow, Use, Defer'}
 use Rattle.papaya_histories.specs.Given.Seize.declared.rows.defer.Deferring.{Deferring}
 use Rattle.papaya_histories.specs.Given.Seize.declared.rows.defer.Deferring.TheVariants as deferring
-use Rattle.papaya_histories.specs.Given.Raw.declared.machines.progress.Progress.{Progress}
 use Rattle.papaya_histories.specs.Given.Tables.declared.node.Node.{Node}
 use Rattle.papaya_histories.specs.Given.Tables.declared.table_words.TheConstants.{DEFERRED}
-use Rattle.papaya_histories.specs.Given.Callers.Together.{UnderWay}
-use Rattle.papaya_histories.specs.Given.Effects.Effects.{effects_of, known_after}
 use Rattle.papaya_histories.specs.Given.Effects.Known.{Known}
-use Rattle.papaya_histories.specs.Given.Effects.declared.acting.Acting.TheVariants.{Call}
 use Rattle.papaya_histories.specs.Given.Effects.declared.role.Role.TheVariants as role
-use Rattle.papaya_histories.specs.Given.Moments.Whole.{ShowsWhole}
 use Rattle.papaya_histories.specs.Given.Schedules.Lists.{is_in}
-use Rattle.papaya_histories.specs.Given.Schedules.Model.{handing}
-use Rattle.papaya_histories.specs.Given.Schedules.Moment.{Moment}
 use Rattle.papaya_histories.specs.Given.Schedules.Things.{same_thing}
 use Rattle.papaya_histories.specs.Given.Schedules.declared.effect.Table.{Table}
 use Rattle.papaya_histories.specs.Given.Schedules.declared.effect.Thing.{Thing}
 use Rattle.papaya_histories.specs.Given.Schedules.declared.effect.Thing.TheVariants.{APair, ATable}
 use Rattle.papaya_models.specs.Alike.{ChangesAlike}
-use Rattle.papaya_models.specs.Calls.{OfNoRow}
 use Rattle.papaya_models.specs.Numbers.{HasNumber}
-use Rattle.papaya_histories.specs.Given.Scenes.Held.{Held, IsAt}
-use Rattle.papaya_histories.specs.Given.Scenes.Scene.{Scene}
-use Rattle.papaya_histories.specs.Given.Scenes.Stepping.{StepLeads}
 
 -- the block is not on the list still
 abbrev pub IsDue : Deferring → Type 0
@@ -72,23 +61,3 @@ abbrev pub DefersAreTold : Type 0 → Type 0 → Type 0
 DefersAreTold K V =
     (things : List Thing) (known : Known) (i s b t : ℕ) (handed : List Change) (w : World (Node K V)) → HasToldIt things known i b t handed w → w.row i ≡ Rests
     → (before after : ℕ → Use) → ChangesAlike (HasNumber known things) (changes (Defer' s b t) before after) handed
-
-module _ (K V : Type 0) (same : K → K → Bool) (hash : ℕ → K → ℕ) where
-  -- The promises: where a call begins a row, what it tells is so, if it defers a block that is noted as a pair behind one that is noted as a table,
-  abbrev pub DeferringBegins : Type 0
-  DeferringBegins =
-      (name : ℕ → List ℕ) (m : Moment K V) (known : Known) (s : Scene K V) (old new : Held K V) → IsAt same hash old s → ShowsWhole same name m known s
-      → (map i : ℕ) (u : UnderWay K V K) (here : s.calls map i ≡ Some u) (told : Progress (Node K V)) (leads : StepLeads same hash i told s old new)
-      → (OfNoRow K V same hash s old new map i u here told leads → ⊥) → s.world.row i ≡ Rests
-      → (request : Request) × ((things : List Thing) (slot under b t : ℕ) → request ≡ Defer' slot b t → AreNoted things known b t
-      → HasToldIt things (known_after (Call i map) new.changed known) i b t (flat_map (handing things under) (effects_of (Call i map) known new.changed)) (leads map u here).4.w2)
-
-  -- and so it is after each step.
-  abbrev pub DeferringGoesOn : Type 0
-  DeferringGoesOn =
-      (name : ℕ → List ℕ) (m : Moment K V) (known : Known) (s : Scene K V) (old new : Held K V) → IsAt same hash old s → ShowsWhole same name m known s
-      → (map i : ℕ) (u : UnderWay K V K) (here : s.calls map i ≡ Some u) (told : Progress (Node K V)) (leads : StepLeads same hash i told s old new)
-      → (OfNoRow K V same hash s old new map i u here told leads → ⊥) → s.world.row i ≢ Rests
-      → (things : List Thing) (under b t : ℕ) (handed : List Change) → AreNoted things known b t → HasToldIt things known i b t handed s.world
-      → HasToldIt things (known_after (Call i map) new.changed known) i b t (handed ++ flat_map (handing things under) (effects_of (Call i map) known new.changed))
-      (leads map u here).4.w2

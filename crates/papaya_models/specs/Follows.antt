@@ -9,11 +9,10 @@ use Rattle.papaya_histories.specs.Given.Schedules.Entry.{Entry}
 use Rattle.papaya_histories.specs.Given.Schedules.Model.{IsByModel, things_in, sets_in, changes_of, left_last}
 use Rattle.papaya_histories.specs.Given.Schedules.Terms.{Terms}
 use Rattle.papaya_histories.specs.Given.Schedules.declared.effect.Thing.{Thing}
-use Rattle.papaya_histories.specs.Given.Effects.Known.{Known, nothing_known}
+use Rattle.papaya_histories.specs.Given.Effects.Known.{Known}
 use Rattle.papaya_models.specs.Alike.{SetsAlike}
 use Rattle.papaya_models.specs.Numbers.{HasNumber}
 use Rattle.papaya_models.specs.Turns.{sets_of, CameByTurns}
-use Rattle.papaya_histories.specs.Given.Scenes.Scene.{at_first}
 
 module _ {K V : Type 0} (batch_size roots : ℕ) where
   -- No row is under way. The world came about by rows one after another, and the waiting sets of its blocks are these sets of the things that are noted in them.
@@ -31,11 +30,7 @@ module _ {K V : Type 0} (terms : Terms) where
   abbrev pub IsFollowed : List (Entry K V) → Entry K V → Known → World (Node K V) → Type 0
   IsFollowed log e known w = IsByModel terms log e × FollowsModel terms.batch_size terms.roots (e ∷ log) known w
 
--- The promises: so it is before all events,
-abbrev pub FollowsAtFirst : Type 0 → Type 0 → Type 0
-FollowsAtFirst K V = (batch_size roots : ℕ) → FollowsModel {K = K} {V = V} batch_size roots [] nothing_known (at_first {K = K} {V = V} roots).world
-
--- and an event that does nothing, and changes no waiting sets, is by the model, and leaves things and sets as they were.
+-- The promise: an event that does nothing, and changes no waiting sets, is by the model, and leaves things and sets as they were.
 abbrev pub IdleEventsFollow : Type 0 → Type 0 → Type 0
 IdleEventsFollow K V =
     (terms : Terms) (log : List (Entry K V)) (e : Entry K V) → e.effects ≡ [] → changes_of log e ≡ [] → left_last e.event e.outcome (moment log) ≡ []

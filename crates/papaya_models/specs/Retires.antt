@@ -1,31 +1,20 @@
 -- Rows within calls that retire a block: such a row tells that the thing in it is retired, just once.
-use Rattle.std.specs.Prelude.{◌≡◌, ◌≢◌, ◌⊎◌, ℕ, Bool, Some, List, [], ◌∷◌, ◌++◌, flat_map}
+use Rattle.std.specs.Prelude.{◌≡◌, ◌≢◌, ◌⊎◌, ℕ, Some, List, [], ◌∷◌, ◌++◌}
 use Rattle.papaya_histories.specs.Given.SeizeWords.declared.at.At.TheVariants.{Entry}
 use Rattle.papaya_histories.specs.Given.SeizeWords.Mem.{word_at}
 use Rattle.papaya_histories.specs.Given.SeizeWords.Word.{link_to}
 use Rattle.papaya_histories.specs.Given.Seize.Sequence.{changes}
 use Rattle.papaya_histories.specs.Given.Seize.WaitingSets.{Change, Retires}
-use Rattle.papaya_histories.specs.Given.Seize.World.{World, Row, Rests, Settles, Use, Request, Retire}
+use Rattle.papaya_histories.specs.Given.Seize.World.{World, Row, Rests, Settles, Use, Retire}
 use Rattle.papaya_histories.specs.Given.Seize.declared.rows.settle.Settle.{Settle}
 use Rattle.papaya_histories.specs.Given.Seize.declared.rows.settle.Settling.{Settling}
 use Rattle.papaya_histories.specs.Given.Seize.declared.rows.settle.Settling.TheVariants as at
 use Rattle.papaya_histories.specs.Given.Seize.declared.states.TheConstants.{NEXT, FIRST}
-use Rattle.papaya_histories.specs.Given.Raw.declared.machines.progress.Progress.{Progress}
 use Rattle.papaya_histories.specs.Given.Tables.declared.node.Node.{Node}
-use Rattle.papaya_histories.specs.Given.Callers.Together.{UnderWay}
-use Rattle.papaya_histories.specs.Given.Effects.Effects.{effects_of, known_after}
 use Rattle.papaya_histories.specs.Given.Effects.Known.{Known}
-use Rattle.papaya_histories.specs.Given.Effects.declared.acting.Acting.TheVariants.{Call}
-use Rattle.papaya_histories.specs.Given.Moments.Whole.{ShowsWhole}
-use Rattle.papaya_histories.specs.Given.Schedules.Model.{handing}
-use Rattle.papaya_histories.specs.Given.Schedules.Moment.{Moment}
 use Rattle.papaya_histories.specs.Given.Schedules.declared.effect.Thing.{Thing}
 use Rattle.papaya_models.specs.Alike.{ChangesAlike}
-use Rattle.papaya_models.specs.Calls.{OfNoRow}
 use Rattle.papaya_models.specs.Numbers.{HasNumber}
-use Rattle.papaya_histories.specs.Given.Scenes.Held.{Held, IsAt}
-use Rattle.papaya_histories.specs.Given.Scenes.Scene.{Scene}
-use Rattle.papaya_histories.specs.Given.Scenes.Stepping.{StepLeads}
 
 -- it is to retire this block, and has not written into it which batch it is of
 abbrev pub IsToRetireAt : ℕ → Settle → Settling → Type 0
@@ -67,23 +56,3 @@ abbrev pub RetiresAreTold : Type 0 → Type 0 → Type 0
 RetiresAreTold K V =
     (things : List Thing) (known : Known) (i s b : ℕ) (handed : List Change) (w : World (Node K V)) → HasToldSo things known i s b handed w → w.row i ≡ Rests
     → (before after : ℕ → Use) → ChangesAlike (HasNumber known things) (changes (Retire s b) before after) handed
-
-module _ (K V : Type 0) (same : K → K → Bool) (hash : ℕ → K → ℕ) where
-  -- The promises: where a call begins a row, what it tells is so, if it retires a block that is noted as a thing, under this slot,
-  abbrev pub RetiringBegins : Type 0
-  RetiringBegins =
-      (name : ℕ → List ℕ) (m : Moment K V) (known : Known) (s : Scene K V) (old new : Held K V) → IsAt same hash old s → ShowsWhole same name m known s
-      → (map i : ℕ) (u : UnderWay K V K) (here : s.calls map i ≡ Some u) (told : Progress (Node K V)) (leads : StepLeads same hash i told s old new)
-      → (OfNoRow K V same hash s old new map i u here told leads → ⊥) → s.world.row i ≡ Rests
-      → (request : Request) × ((things : List Thing) (slot b k : ℕ) → request ≡ Retire slot b → HasNumber known things b k
-      → HasToldSo things (known_after (Call i map) new.changed known) i slot b (flat_map (handing things slot) (effects_of (Call i map) known new.changed)) (leads map u here).4.w2)
-
-  -- and so it is after each step.
-  abbrev pub RetiringGoesOn : Type 0
-  RetiringGoesOn =
-      (name : ℕ → List ℕ) (m : Moment K V) (known : Known) (s : Scene K V) (old new : Held K V) → IsAt same hash old s → ShowsWhole same name m known s
-      → (map i : ℕ) (u : UnderWay K V K) (here : s.calls map i ≡ Some u) (told : Progress (Node K V)) (leads : StepLeads same hash i told s old new)
-      → (OfNoRow K V same hash s old new map i u here told leads → ⊥) → s.world.row i ≢ Rests
-      → (things : List Thing) (slot b k : ℕ) (handed : List Change) → HasNumber known things b k → HasToldSo things known i slot b handed s.world
-      → HasToldSo things (known_after (Call i map) new.changed known) i slot b (handed ++ flat_map (handing things slot) (effects_of (Call i map) known new.changed))
-      (leads map u here).4.w2

@@ -1,4 +1,2 @@
 //! What a moment of a run shows of a scene, in one piece.
 #![tactic(auto)]
-
-pub mod law;

@@ -24,7 +24,7 @@ use Rattle.papaya_moments.specs.Given.Effects.Known.{Known}
 use Rattle.papaya_moments.specs.Given.Effects.declared.acting.Acting.TheVariants as acts
 use Rattle.papaya_moments.proofs.Given.Follows.Steps.{WentTo, went_to}
 use Rattle.papaya_moments.specs.Whole.{ShowsWhole}
-use Rattle.papaya_owes.specs.Events.{LeavesNothingMade, EventsLeaveNothingMade, FindsMade, FindMade, StepsFindMade, SeveralFindMade}
+use Rattle.papaya_owes.specs.Events.{LeavesNothingMade, EventsLeaveNothingMade, FindsMade, FindMade, StepsFindMade}
 use Rattle.papaya_owes.specs.Made.{ShowsMade}
 use Rattle.papaya_owes.specs.Short.{ShowsShort, FindsGrown, FindGrown}
 use Rattle.papaya_owes.specs.Tables.{ShowsTables, FindsTable, FindTables}
@@ -69,10 +69,6 @@ pub several_find : {K V : Type 0} (P : Moment K V → Effect → Type 0) (own : 
     → AtEachEffect P (Some own) (Some map) (done ++ effects) m
 several_find P own map [] effects m before after = after
 several_find P own map (f ∷ done) effects m before after = (before.0, several_find P own map done effects (with_effect (Some own) (Some map) f m) before.1 after)
-
-pub several_find_made : (K V : Type 0) → SeveralFindMade K V
-several_find_made K V terms moments own map done effects m before after =
-    several_find (λ (v : Moment K V) (f : Effect). ByCall (FindsMade terms moments v f) (call_of own v)) own map done effects m before after
 
 -- who is short of no growth has grown, whatever the outcome
 has_grown : {K V : Type 0} (o : Outcome V) (c : CallThere K V) → c.is_short ≡ false → HasGrown o c

@@ -2,7 +2,7 @@
 use Rattle.std.specs.Prelude.{◌&&◌, ◌≡◌, ℕ, nat_lt, Bool, List, [], ◌∷◌, None}
 use Rattle.std.proofs.Common.{refl, subst}
 use Rattle.papaya_moments.specs.Given.SeizeWords.declared.at.At.TheVariants.{Root, Used, Slot, Entry, Word}
-use Rattle.papaya_moments.specs.Given.Seize.World.{World, Step}
+use Rattle.papaya_moments.specs.Given.Seize.World.{Step}
 use Rattle.papaya_moments.specs.Given.Tables.declared.node.Node.{Node}
 use Rattle.papaya_moments.specs.Given.Schedules.declared.effect.Effect.TheVariants.{Asked}
 use Rattle.papaya_moments.specs.Given.Schedules.declared.effect.Growth.TheVariants.{ABucket}
@@ -35,12 +35,6 @@ use Rattle.papaya_moments.specs.Given.Scenes.Scene.{IsOnSlot, Scene}
 module _ {K V : Type 0} (same : K → K → Bool) (hash : ℕ → K → ℕ) (name : ℕ → List ℕ) (m : Moment K V) (known : Known) (s : Scene K V) (old new : Held K V) (at : IsAt same hash old s)
     (shown : Shows same name m known s) (made : ShowsMade name m known s) (i : ℕ) (row : SlotRow) (here : IsOnSlot s i row) (end : SlotRow × RowTold (Node K V))
     (steps : RowSteps K V row old.memory new.memory new.changed end) (happened : HappensAt same hash (Step i) s old new) where
-  abbrev w : World (Node K V)
-  w = s.world
-
-  abbrev w2 : World (Node K V)
-  w2 = happened.0
-
   abbrev told : Changed
   told = new.changed
 

@@ -47,14 +47,8 @@ module _ {K V : Type 0} (terms : Terms) where
 abbrev pub LeavesNothingMade : {K V : Type 0} → Outcome V → CallThere K V → Type 0
 LeavesNothingMade o c = (c.has_block ≡ false) × (c.table ≡ None) × HasGrown o c
 
--- The promises: so it is for the effects of an event of several steps, if it is for those before and for those of the last step;
-abbrev pub SeveralFindMade : Type 0 → Type 0 → Type 0
-SeveralFindMade K V =
-    (terms : Terms) (moments : List (Moment K V)) (own : List ℕ) (map : ℕ) (done effects : List Effect) (m : Moment K V)
-    → FindMade terms moments own map done m → FindMade terms moments own map effects (with_effects (Some own) (Some map) done m) → FindMade terms moments own map (done ++ effects) m
-
 module _ (K V : Type 0) (same : K → K → Bool) (hash : ℕ → K → ℕ) where
-  -- and for those of a step of a call.
+  -- The promises: so the effects of a step of a call find what it has made.
   abbrev pub StepsFindMade : Type 0
   StepsFindMade =
       (name : ℕ → List ℕ) (m : Moment K V) (known : Known) (s : Scene K V) (old new : Held K V) → IsAt same hash old s

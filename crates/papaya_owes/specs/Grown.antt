@@ -12,10 +12,9 @@ use Rattle.papaya_moments.specs.Given.Raw.declared.machines.progress.Progress.Th
 use Rattle.papaya_moments.specs.Given.Schedules.declared.call.Call.{Call}
 use Rattle.papaya_moments.specs.Given.Schedules.declared.call.Reply.{Reply}
 use Rattle.papaya_moments.specs.Given.Schedules.declared.outcome.Outcome.{Outcome}
-use Rattle.papaya_moments.specs.Given.Schedules.After.{moment}
 use Rattle.papaya_moments.specs.Given.Schedules.Beginning.{with_call}
-use Rattle.papaya_moments.specs.Given.Schedules.Effects.{with_effects, worked}
-use Rattle.papaya_moments.specs.Given.Schedules.Entry.{Entry, IfCall, acting, caller_of, ends_call}
+use Rattle.papaya_moments.specs.Given.Schedules.Effects.{with_effects}
+use Rattle.papaya_moments.specs.Given.Schedules.Entry.{ends_call}
 use Rattle.papaya_moments.specs.Given.Schedules.Moment.{UnderWay as CallThere, Moment, start}
 use Rattle.papaya_moments.specs.Given.Schedules.Views.{call_of}
 use Rattle.papaya_moments.specs.Given.Callers.Together.{UnderWay}
@@ -63,16 +62,6 @@ module _ (K V : Type 0) (same : K → K → Bool) (hash : ℕ → K → ℕ) whe
       let v = with_effects (Some (name i)) (Some map) (effects_of (acts.Call i map) known new.changed) m in
       ShowsGrown name v (scene_after same s old new map i to.0 u to.1 said to.4)
       × (said ≡ progress.Refused Memory → (c : CallThere K V) → call_of (name i) v ≡ Some c → c.is_short ≡ true))
-
-  -- The promise, of an event whose last effects are those of a step of a call that is refused for want of memory.
-  abbrev pub EventsRefuseTheShort : Type 0
-  EventsRefuseTheShort =
-      (name : ℕ → List ℕ) (m : Moment K V) (known : Known) (s : Scene K V) (old new : Held K V) → IsAt same hash old s
-      → ShowsWhole same name m known s → ShowsShort name m s → ShowsGrown name m s
-      → (map i : ℕ) (u : UnderWay K V K) (here : s.calls map i ≡ Some u) → StepLeads same hash i (progress.Refused Memory) s old new
-      → (log : List (Entry K V)) (e : Entry K V) → caller_of e.event ≡ Some (name i)
-      → worked e (moment log) ≡ with_effects (Some (name i)) (Some map) (effects_of (acts.Call i map) known new.changed) m
-      → IfCall (λ c. c.is_short ≡ true) (acting (caller_of e.event) (worked e (moment log)))
 
 module _ (K V : Type 0) where
   -- So it is as a run begins,

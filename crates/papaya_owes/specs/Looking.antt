@@ -65,13 +65,7 @@ module _ (K V : Type 0) (same : K → K → Bool) (hash : ℕ → K → ℕ) whe
       × ShowsLooking name (with_effects (Some (name i)) (Some map) effects m) (scene_after same s old new map i to.0 u to.1 said to.4))
 
 module _ (K V : Type 0) where
-  -- So it is of the effects of an event of several steps,
-  abbrev pub SeveralFindAtWork : Type 0
-  SeveralFindAtWork =
-      (own : List ℕ) (map : ℕ) (done effects : List Effect) (m : Moment K V)
-      → FindAtWork own map done m → FindAtWork own map effects (with_effects (Some own) (Some map) done m) → FindAtWork own map (done ++ effects) m
-
-  -- and of those that look, as a run begins,
+  -- So it is, too, of those that look, as a run begins,
   abbrev pub LookingBegins : Type 0
   LookingBegins = (roots : ℕ) (name : ℕ → List ℕ) → ShowsLooking {K = K} {V = V} name start (at_first roots)
 

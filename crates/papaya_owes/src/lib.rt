@@ -1,4 +1,2 @@
 //! What a call under way has in hand at a moment of a run: the blocks that it has made.
 #![tactic(auto)]
-
-pub mod law;

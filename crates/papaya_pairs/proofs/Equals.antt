@@ -154,10 +154,6 @@ module _ {K V : Type 0} (same : K → K → Bool) (classes : IsEquivalence same)
                 | inr k ↦ agree_at_equals same equal classes xs ys q k.0 k.1 ∙ k.2
               ]
 
-    all_at : ((q : K) → agree_at same equal xs ys q ≡ true) → (part : List (K × V)) → AreFound part
-    all_at each [] = tt
-    all_at each (x ∷ part) = (each x.0, all_at each part)
-
 module _ {K V : Type 0} (same : K → K → Bool) (classes : IsEquivalence same) (equal : V → V → Bool) (xs ys : List (K × V)) where
   there_from : (zs ws : List (K × V)) → ((q : K) → is_some (found_by (same q) zs) ≡ true → is_some (found_by (same q) ws) ≡ true) → AreThere same classes ws zs
   there_from zs ws so = each_so (λ x. is_some (found_by (same x.0) zs) ≡ true) (λ x. is_some (found_by (same x.0) ws) ≡ true) (λ x. so x.0) zs (own_there same classes zs)

@@ -4,4 +4,3 @@ pub mod Equals
 pub mod Laws
 pub mod Orders
 pub mod Puts
-pub mod ReadBack

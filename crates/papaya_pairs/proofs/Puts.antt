@@ -12,11 +12,6 @@ use Rattle.papaya_owned.specs.Owned.{found_by, left_by}
 use Rattle.papaya_pairs.specs.Puts.{put, put_all, last_put, last_taken, ClonesAreSame, IsCloneOf}
 use Rattle.papaya_pairs.proofs.Orders.{left_and}
 
--- what holds of each, holds of the one in the midst
-pub in_midst : {X : Type 0} (P : X → Type 0) (xs : List X) (y : X) (zs : List X) → AllByRecursion P (xs ++ (y ∷ zs)) → P y
-in_midst P [] y zs so = so.0
-in_midst P (x ∷ xs) y zs so = in_midst P xs y zs so.1
-
 pub in_midst_of_keys : {K V : Type 0} (P : K → Type 0) (xs : List (K × V)) (y : K × V) (zs : List (K × V)) → AllByRecursion P (keys_of (xs ++ (y ∷ zs))) → P y.0
 in_midst_of_keys P [] y zs so = so.0
 in_midst_of_keys P (x ∷ xs) y zs so = in_midst_of_keys P xs y zs so.1
@@ -28,10 +23,6 @@ module _ {K V : Type 0} (same : K → K → Bool) where
 
   pub put_in_any_order : (xs ys : List (K × V)) (y : K × V) → IsPermutation xs ys → IsPermutation (put same xs y) (put same ys y)
   put_in_any_order xs ys y order = left_and (same y.0) xs ys (y ∷ []) order
-
-  pub put_all_in_any_order : (zs xs ys : List (K × V)) → IsPermutation xs ys → IsPermutation (put_all same xs zs) (put_all same ys zs)
-  put_all_in_any_order [] xs ys order = order
-  put_all_in_any_order (z ∷ zs) xs ys order = put_all_in_any_order zs (put same xs z) (put same ys z) (put_in_any_order xs ys z order)
 
   -- one more was put
   pub puts_more : (old given new newer : List (K × V)) (x : K × V) → IsPermutation new (put_all same old given) → IsPermutation newer (put same new x)

@@ -3,4 +3,3 @@ pub mod Equals
 pub mod Puts
 pub mod Each
 pub mod Elements
-pub mod ReadBack

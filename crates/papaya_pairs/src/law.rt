@@ -1,9 +1,8 @@
-//! What is promised of the pairs of a map and the elements of a set: in another order, as after a change, of what is found then, and of what is read.
+//! What is promised of the pairs of a map and the elements of a set: in another order, as after a change, and of what is found then.
 ghost use Rattle.papaya_pairs.specs.Each.{FoundPasses};
 ghost use Rattle.papaya_pairs.specs.Elements.{ElementInAnyOrder, ElementsApartInAnyOrder, LeftElementsInAnyOrder, OtherElementsStay, PutElementIsFound};
 ghost use Rattle.papaya_pairs.specs.Equals.{AgreeAtEachKey, AgreeInAnyOrder};
 ghost use Rattle.papaya_pairs.specs.Puts.{LastIsFound};
-ghost use Rattle.papaya_pairs.specs.ReadBack.{OneArrayOneSet, OneObjectOneMap};
 ghost use Rattle.papaya_pairs.specs.Orders.{FoundInAnyOrder, LeftInAnyOrder, ApartInAnyOrder, PutIsFound, OthersStay};
 
 /// Where no two keys are equal, the pair of a key is the same one in any order. So is what is left without it, but for the order, and no two
@@ -35,16 +34,6 @@ pub fn changes_are_found<K, V>()
 /// The pair that is found has a key that passes the test. What holds of every pair is kept by each call: the lemmas of `specs/Each` say so of any property.
 pub fn what_is_found_passes<K, V>()
     ensures { FoundPasses K V }
-{}
-
-/// Sets that one array has are equal: what is read of the array that a set was written as equals that set.
-pub fn sets_are_read_back<K>()
-    ensures { OneArrayOneSet K }
-{}
-
-/// Maps that one object has are equal: what is read of the object that a map was written as equals that map.
-pub fn maps_are_read_back<K, V>()
-    ensures { OneObjectOneMap K V }
 {}
 
 /// Where no two elements are equal, the same one of a class is found in any order. So is what is left without those that pass, but for the order, and

@@ -20,7 +20,7 @@ use Rattle.papaya_histories.specs.Given.Schedules.After.{there_on, unsheltered, 
 use Rattle.papaya_histories.specs.Given.Schedules.Moment.{Sheltered}
 use Rattle.papaya_histories.specs.Given.Effects.Known.{Known}
 use Rattle.papaya_histories.proofs.Given.Follows.Steps.{one_of}
-use Rattle.papaya_promises.specs.Guards.{EntersInside, GuardsComeAndGo, OthersStayInside, OneIsInsideAgain, OnlyGuardsLeaveNobody}
+use Rattle.papaya_promises.specs.Guards.{EntersInside, GuardsComeAndGo, OneIsInsideAgain, OnlyGuardsLeaveNobody}
 use Rattle.papaya_promises.specs.Sheltered.{GuardsAreInside, IsSheltered, AreSheltered}
 use Rattle.papaya_promises.proofs.Lists.{all_of}
 
@@ -218,9 +218,6 @@ only_guards_leave_nobody there names guard g is one =
 module _ (K V : Type 0) where
   pub guards_come_and_go : GuardsComeAndGo K V
   guards_come_and_go w known there xs inside all event outcome in_it = come_and_go w known there xs inside all event outcome in_it
-
-  pub others_stay_inside : OthersStayInside K V
-  others_stay_inside w known there xs inside all guard = drops_stay w known there xs inside all guard
 
   pub one_is_inside_again : OneIsInsideAgain K V
   one_is_inside_again w known there xs guard g is in_it inside all = (again_inside w known there guard g is in_it inside, again_sheltered w known there guard xs all)

@@ -43,6 +43,7 @@ use Rattle.papaya_promises.proofs.Shelters.Events.{steps_protect, events_are_pro
 use Rattle.papaya_promises.proofs.Shelters.Makings.{makings_shelter}
 use Rattle.papaya_promises.proofs.Shelters.Outs.{KeepsIn, room_keeps, keep_all}
 use Rattle.papaya_promises.proofs.Shelters.Rows.{none_back, rows_shelter}
+use Rattle.papaya_histories.specs.Given.Schedules.Transition.{transition}
 
 -- what work begins, and what it does, leaves who is there
 
@@ -254,7 +255,7 @@ module _ (K V : Type 0) where
   events_end_protected log e known w midst so =
       let v = worked e (moment log) in
       let ends = subst (EndsInside w e.event e.outcome) (sym (worked_there e (moment log))) so in (
-        events_are_protected K V log e
+        events_are_protected K V (transition log e)
             (subst (NoneIsBack e.effects) (same_left w known v.there v.sheltered e.event e.outcome ends)
             (spared_all (is_of_slots e.event) e.effects (sheltered_on e.event Done v.sheltered) midst.spared)),
         ends_in w known v.there v.sheltered e.event e.outcome ends midst.inside midst.sheltered,
@@ -289,7 +290,7 @@ module _ (K V : Type 0) where
       let before = begun_as e.event e.outcome m in
       let there : v.there ≡ m.there = worked_there e m in
       let sheltered : v.sheltered ≡ m.sheltered = ap (λ (fs : List Effect). (with_effects (caller_of e.event) (acted_on e.event b) fs b).sheltered) none ∙ before.1 in (
-        events_are_protected K V log e (spares_all (flat_map thing_back e.effects) (ap (flat_map thing_back) none) (after e m).sheltered),
+        events_are_protected K V (transition log e) (spares_all (flat_map thing_back e.effects) (ap (flat_map thing_back) none) (after e m).sheltered),
         guards_come_and_go K V w known v.there v.sheltered (subst (λ (p : Present). GuardsAreInside p w) (sym there) hold.0)
             (subst (AreSheltered v.there w known) (sym sheltered) (subst (λ (p : Present). AreSheltered p w known m.sheltered) (sym there) hold.1)) e.event e.outcome
             (subst (EntersInside w e.event e.outcome) (sym there) so),

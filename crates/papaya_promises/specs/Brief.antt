@@ -16,7 +16,6 @@ use Rattle.papaya_histories.specs.Given.Rule.Words.{Blocks}
 use Rattle.papaya_histories.specs.Given.Rule.Maps.{IsClass, IsMap}
 use Rattle.papaya_histories.specs.Given.Points.FactsLooks.{LookupFacts}
 use Rattle.papaya_histories.specs.Given.Points.Steps.{AreLawful}
-use Rattle.papaya_histories.specs.Given.Late.LateLooks.{LateLookupFacts}
 use Rattle.papaya_histories.specs.Given.Finishes.Maps.{Standing}
 use Rattle.papaya_histories.specs.Given.Schedules.Lists.{OneOf}
 use Rattle.papaya_histories.specs.Given.Schedules.Lives.{IsFrom}
@@ -73,15 +72,6 @@ module _ (K V : Type 0) (same : K → K → Bool) (hash : K → ℕ) where
       AreLawful same hash → (mode : ResizeMode) (root : ℕ) (keys : K → Bool) (code : ℕ) (m : Mem (Node K V)) (c : Chart K) (blocks : Blocks) (l : Lookup)
       → IsClass same hash keys code → IsMap same hash mode root m c blocks → LookupFacts same hash mode root keys code c blocks l
       → (first steps : ℕ) → IsRootOf c first l.stands → ReadsAt (is_incremental mode) c first steps l.stands
-      → (m2 : Mem (Node K V)) (end : Lookup × Progress (Option ℕ)) → Steps Took value_at m (lookup_plan keys l) m2 end
-      → ReadsOn (is_incremental mode) c first (suc steps) end
-
-  -- and so it has in a table that the root has left in blocking mode;
-  abbrev pub LateLookupsReadOn : Type 0
-  LateLookupsReadOn =
-      AreLawful same hash → (mode : ResizeMode) (root : ℕ) (keys : K → Bool) (code began : ℕ) (m : Mem (Node K V)) (c : Chart K) (blocks : Blocks) (l : Lookup)
-      → IsClass same hash keys code → IsMap same hash mode root m c blocks → LateLookupFacts same hash keys code c blocks began mode root l
-      → (first steps : ℕ) → ReadsAt (is_incremental mode) c first steps l.stands
       → (m2 : Mem (Node K V)) (end : Lookup × Progress (Option ℕ)) → Steps Took value_at m (lookup_plan keys l) m2 end
       → ReadsOn (is_incremental mode) c first (suc steps) end
 

@@ -8,12 +8,11 @@ use Rattle.papaya_histories.specs.Given.Schedules.declared.event.Event.{Event}
 use Rattle.papaya_histories.specs.Given.Schedules.declared.event.Event.TheVariants.{Enter, Own}
 use Rattle.papaya_histories.specs.Given.Schedules.declared.outcome.Outcome.{Outcome}
 use Rattle.papaya_histories.specs.Given.Schedules.declared.outcome.Outcome.TheVariants.{Done, Slot}
-use Rattle.papaya_histories.specs.Given.Schedules.After.{there_on, unsheltered, sheltered_on}
-use Rattle.papaya_histories.specs.Given.Schedules.Moment.{Sheltered, start}
-use Rattle.papaya_histories.specs.Given.Effects.Known.{Known, nothing_known}
+use Rattle.papaya_histories.specs.Given.Schedules.After.{there_on, sheltered_on}
+use Rattle.papaya_histories.specs.Given.Schedules.Moment.{Sheltered}
+use Rattle.papaya_histories.specs.Given.Effects.Known.{Known}
 use Rattle.papaya_promises.specs.Others.{NobodyOn}
-use Rattle.papaya_promises.specs.Sheltered.{GuardsAreInside, AreSheltered, SectionsHold}
-use Rattle.papaya_histories.specs.Given.Scenes.Scene.{at_first}
+use Rattle.papaya_promises.specs.Sheltered.{GuardsAreInside, AreSheltered}
 
 module _ {K V : Type 0} (w : World (Node K V)) where
   -- a guard that enters has a slot that is within a section
@@ -23,22 +22,12 @@ module _ {K V : Type 0} (w : World (Node K V)) where
   EntersInside _ _ there = Unit {0}
 
 module _ (K V : Type 0) where
-  -- The promises: so it is before all events,
-  abbrev pub SectionsHoldAtFirst : Type 0
-  SectionsHoldAtFirst = (roots : ℕ) → SectionsHold {K = K} {V = V} start nothing_known (at_first {K = K} {V = V} roots).world
-
-  -- after an event by which guards come or go,
+  -- The promises: so it is after an event by which guards come or go,
   abbrev pub GuardsComeAndGo : Type 0
   GuardsComeAndGo =
       (w : World (Node K V)) (known : Known) (there : Present) (sheltered : List Sheltered) → GuardsAreInside there w → AreSheltered there w known sheltered
       → (event : Event K V) (outcome : Outcome V) → EntersInside w event outcome there
       → GuardsAreInside (there_on event outcome there) w × AreSheltered (there_on event outcome there) w known (sheltered_on event outcome sheltered)
-
-  -- and of all others, while one is without a section,
-  abbrev pub OthersStayInside : Type 0
-  OthersStayInside =
-      (w : World (Node K V)) (known : Known) (there : Present) (sheltered : List Sheltered) → GuardsAreInside there w → AreSheltered there w known sheltered
-      → (guard : List ℕ) → GuardsAreInside (drops guard there) w × AreSheltered (drops guard there) w known (unsheltered guard sheltered)
 
   -- and of that one, too, once its section is open again.
   abbrev pub OneIsInsideAgain : Type 0

@@ -1,5 +1,5 @@
 -- What lookups under way have read, where calls begin, step and come to an outcome meanwhile.
-use Rattle.std.specs.Prelude.{◌≡◌, ℕ, Bool, true, false, List, length, Some, None, if◌then◌else◌, Option, []}
+use Rattle.std.specs.Prelude.{◌≡◌, ℕ, Bool, true, false, List, Some, None, if◌then◌else◌, Option}
 use Rattle.papaya_histories.specs.Given.Runs.Same.{is_same}
 use Rattle.papaya_histories.specs.Given.Tables.declared.node.Node.{Node}
 use Rattle.papaya_histories.specs.Given.Resize.declared.lookup.Lookup.{Lookup}
@@ -11,8 +11,8 @@ use Rattle.papaya_histories.specs.Given.Schedules.declared.call.Reply.{Reply}
 use Rattle.papaya_histories.specs.Given.Schedules.declared.outcome.Outcome.{Outcome}
 use Rattle.papaya_histories.specs.Given.Schedules.Beginning.{with_call}
 use Rattle.papaya_histories.specs.Given.Schedules.Effects.{with_effects}
-use Rattle.papaya_histories.specs.Given.Schedules.Entry.{Entry, ends_call}
-use Rattle.papaya_histories.specs.Given.Schedules.Moment.{UnderWay as CallThere, Moment, start}
+use Rattle.papaya_histories.specs.Given.Schedules.Entry.{ends_call}
+use Rattle.papaya_histories.specs.Given.Schedules.Moment.{UnderWay as CallThere, Moment}
 use Rattle.papaya_histories.specs.Given.Schedules.Views.{call_of}
 use Rattle.papaya_histories.specs.Given.Callers.Together.{CallOnKey, UnderWay, OnKey}
 use Rattle.papaya_histories.specs.Given.Effects.Effects.{effects_of}
@@ -28,14 +28,15 @@ use Rattle.papaya_promises.specs.Reading.{looks, HasStood, ShowsReading}
 use Rattle.papaya_histories.specs.Given.Scenes.Held.{Held, IsAt}
 use Rattle.papaya_histories.specs.Given.Scenes.OnSlots.{HappensAt}
 use Rattle.papaya_histories.specs.Given.Scenes.Replying.{scene_with}
-use Rattle.papaya_histories.specs.Given.Scenes.Scene.{Scene, at_first}
+use Rattle.papaya_histories.specs.Given.Scenes.Scene.{Scene}
 use Rattle.papaya_histories.specs.Given.Scenes.Stepping.{StepLeads, scene_after}
+use Rattle.papaya_histories.specs.Given.Schedules.Transition.{Past}
 
 module _ (K V : Type 0) (same : K → K → Bool) where
   -- The promises: so it is where a call has come to an outcome by the steps that it has made, if it is a lookup, and no other one has made some,
   abbrev pub CallsComeToReadings : Type 0
   CallsComeToReadings =
-      (name : ℕ → List ℕ) (log : List (Entry K V)) (made : ℕ → ℕ) (m : Moment K V) (known : Known) (s : Scene K V) → ShowsWhole same name m known s → ShowsReading name log made m s
+      (name : ℕ → List ℕ) (log : Past K V) (made : ℕ → ℕ) (m : Moment K V) (known : Known) (s : Scene K V) → ShowsWhole same name m known s → ShowsReading name log made m s
       → (own : List ℕ) (outcome : Outcome V) (steps : ℕ) → (ends_call outcome ≡ true → NoneNamed name own s)
       → ((map i : ℕ) (u : UnderWay K V K) → s.calls map i ≡ Some u → (c : CallThere K V) → call_of (name i) m ≡ Some c → looks c.call ≡ true
       → made i ≡ (if is_same (name i) own then steps else 0))
@@ -49,18 +50,14 @@ module _ (K V : Type 0) (same : K → K → Bool) where
   -- and where one begins within the next event, by a name that no call under way has.
   abbrev pub CallsBeginReadings : Type 0
   CallsBeginReadings =
-      (name : ℕ → List ℕ) (log : List (Entry K V)) (m : Moment K V) (known : Known) (s : Scene K V) → ShowsWhole same name m known s → ShowsReading name log (λ i. 0) m s
-      → (map i : ℕ) (u : UnderWay K V K) (call : Call K V) (guard : List ℕ) → NoneNamed name (name i) s → BeginsToLook u call → m.events ≡ length log
+      (name : ℕ → List ℕ) (log : Past K V) (m : Moment K V) (known : Known) (s : Scene K V) → ShowsWhole same name m known s → ShowsReading name log (λ i. 0) m s
+      → (map i : ℕ) (u : UnderWay K V K) (call : Call K V) (guard : List ℕ) → NoneNamed name (name i) s → BeginsToLook u call → m.events ≡ log.entries
       → ShowsReading name log (λ i. 0) (with_call (name i) guard call (Some map) m) (scene_with map i u s)
 
--- So it is before all events,
-abbrev pub ReadingsBegin : Type 0 → Type 0 → Type 0
-ReadingsBegin K V = (roots : ℕ) (name : ℕ → List ℕ) → ShowsReading {K = K} {V = V} name [] (λ i. 0) start (at_first roots)
-
--- and where a call that is no lookup is told a reply.
+-- So it is where a call that is no lookup is told a reply.
 abbrev pub CallsTakeReadings : Type 0 → Type 0 → Type 0
 CallsTakeReadings K V =
-    (name : ℕ → List ℕ) (log : List (Entry K V)) (made : ℕ → ℕ) (m : Moment K V) (s : Scene K V) → ShowsReading name log made m s
+    (name : ℕ → List ℕ) (log : Past K V) (made : ℕ → ℕ) (m : Moment K V) (s : Scene K V) → ShowsReading name log made m s
     → (shown : (map i : ℕ) (u : UnderWay K V K) → s.calls map i ≡ Some u → (c : CallThere K V) × (call_of (name i) m ≡ Some c))
     → (map i : ℕ) (c : CallThere K V) → call_of (name i) m ≡ Some c → looks c.call ≡ false → (is_told : Reply V) (next : UnderWay K V K)
     → ShowsReading name log made (told (name i) is_told m) (scene_with map i next s)
@@ -69,7 +66,7 @@ module _ (K V : Type 0) (same : K → K → Bool) (hash : ℕ → K → ℕ) whe
   -- So it is after a step of a call that is no lookup.
   abbrev pub OthersKeepReadings : Type 0
   OthersKeepReadings =
-      (name : ℕ → List ℕ) (log : List (Entry K V)) (made : ℕ → ℕ) (m : Moment K V) (known : Known) (s : Scene K V) (old new : Held K V) → IsAt same hash old s
+      (name : ℕ → List ℕ) (log : Past K V) (made : ℕ → ℕ) (m : Moment K V) (known : Known) (s : Scene K V) (old new : Held K V) → IsAt same hash old s
       → ShowsWhole same name m known s → ShowsReading name log made m s
       → (map i : ℕ) (u : UnderWay K V K) (here : s.calls map i ≡ Some u) (said : Progress (Node K V)) (leads : StepLeads same hash i said s old new)
       → (c : CallThere K V) → call_of (name i) m ≡ Some c → looks c.call ≡ false
@@ -80,14 +77,14 @@ module _ (K V : Type 0) (same : K → K → Bool) (hash : ℕ → K → ℕ) whe
   -- So it is where a row on a slot begins, or takes a step.
   abbrev pub RowsKeepReadings : Type 0
   RowsKeepReadings =
-      (name : ℕ → List ℕ) (log : List (Entry K V)) (made : ℕ → ℕ) (m : Moment K V) (s : Scene K V) (old new : Held K V) (event : WorldEvent (Node K V))
+      (name : ℕ → List ℕ) (log : Past K V) (made : ℕ → ℕ) (m : Moment K V) (s : Scene K V) (old new : Held K V) (event : WorldEvent (Node K V))
       (happened : HappensAt same hash event s old new) (effects : List Effect) → ShowsReading name log made m s
       → ShowsReading name log made (with_effects None None effects m) (scene_then same hash event s old new happened)
 
 -- And so it is by the work of no call, as that of makings and ends, which leaves calls, and the maps that have some.
 abbrev pub OtherWorkKeepsReadings : Type 0 → Type 0 → Type 0
 OtherWorkKeepsReadings K V =
-    (name : ℕ → List ℕ) (log : List (Entry K V)) (made : ℕ → ℕ) (m : Moment K V) (s s2 : Scene K V) (of : Option ℕ) (effects : List Effect)
+    (name : ℕ → List ℕ) (log : Past K V) (made : ℕ → ℕ) (m : Moment K V) (s s2 : Scene K V) (of : Option ℕ) (effects : List Effect)
     → ((map i : ℕ) (u : UnderWay K V K) → s2.calls map i ≡ Some u → s.calls map i ≡ Some u)
     → ((map i : ℕ) (u : UnderWay K V K) → s2.calls map i ≡ Some u → (standing : Standing K) → s2.maps map ≡ Some standing → HasStood s.maps map standing)
     → ShowsReading name log made m s → ShowsReading name log made (with_effects None of effects m) s2

@@ -1,5 +1,5 @@
 -- Lookups that are under way at a moment of a run: what they have read so far.
-use Rattle.std.specs.Prelude.{◌≡◌, ℕ, suc, ◌+◌, ◌==◌, ◌≤◌, Bool, true, false, List, [], ◌∷◌, length, Option, Some, if◌then◌else◌}
+use Rattle.std.specs.Prelude.{◌≡◌, ℕ, suc, ◌+◌, ◌==◌, ◌≤◌, Bool, true, false, List, [], Option, Some, if◌then◌else◌}
 use Rattle.papaya_histories.specs.Given.Tables.Chunks.{is_incremental}
 use Rattle.papaya_histories.specs.Given.Tables.declared.node.Node.{Node}
 use Rattle.papaya_histories.specs.Given.Resize.declared.lookup.Lookup.{Lookup}
@@ -8,11 +8,8 @@ use Rattle.papaya_histories.specs.Given.Raw.declared.machines.progress.Progress.
 use Rattle.papaya_histories.specs.Given.Rule.Chart.{Chart}
 use Rattle.papaya_histories.specs.Given.Schedules.declared.call.Call.{Call}
 use Rattle.papaya_histories.specs.Given.Schedules.declared.call.Call.TheVariants.{On}
-use Rattle.papaya_histories.specs.Given.Schedules.After.{moment, moments_from}
-use Rattle.papaya_histories.specs.Given.Schedules.Entry.{Entry, caller_of}
 use Rattle.papaya_histories.specs.Given.Schedules.Moment.{UnderWay as CallThere, Moment}
 use Rattle.papaya_histories.specs.Given.Schedules.Sequential.{is_lookup}
-use Rattle.papaya_histories.specs.Given.Schedules.Steps.{ReadsBriefly}
 use Rattle.papaya_histories.specs.Given.Schedules.Views.{call_of}
 use Rattle.papaya_histories.specs.Given.Callers.Together.{UnderWay, OnKey}
 use Rattle.papaya_histories.specs.Given.Finishes.Maps.{Standing}
@@ -24,6 +21,10 @@ use Rattle.papaya_promises.specs.Brief.{TablesLast, ReadsSince}
 use Rattle.papaya_histories.specs.Given.Scenes.Held.{Held, IsAt}
 use Rattle.papaya_histories.specs.Given.Scenes.Scene.{Scene}
 use Rattle.papaya_histories.specs.Given.Scenes.Stepping.{StepLeads, scene_after}
+use Rattle.papaya_histories.specs.Given.Schedules.Transition.{Past, further}
+use Rattle.papaya_histories.specs.Histories.{IsPast}
+use Rattle.papaya_histories.specs.Given.Schedules.Entry.{IfCall, acting}
+use Rattle.papaya_histories.specs.Given.Schedules.Steps.{IsBrief}
 
 module _ {K V : Type 0} where
   -- the call is a lookup
@@ -36,13 +37,18 @@ module _ {K V : Type 0} where
   HasLooked incremental map c moments steps (OnKey u) = (l : Lookup) × (u.call.stands ≡ at.Looks l) × ReadsSince incremental map c moments steps l.stands
   HasLooked incremental map c moments steps _ = ⊥
 
+  -- with so many steps more the call of this caller has read few words
+  abbrev pub HasReadFew : Past K V → Option (List ℕ) → ℕ → Moment K V → Type 0
+  HasReadFew log caller steps m = IfCall (λ c. IsBrief c.call c (log.since c.begun) m (c.steps + steps)) (acting caller m)
+
 -- Each lookup that is under way has made the steps of its moment, and those that its event has made so far, and has read no more than these. It began with an
 -- event of the log, or with the next one.
-pub record ShowsReading {K V : Type 0} (name : ℕ → List ℕ) (log : List (Entry K V)) (made : ℕ → ℕ) (m : Moment K V) (s : Scene K V) : Type 0 where
-  pub begun : (map i : ℕ) (u : UnderWay K V K) → s.calls map i ≡ Some u → (c : CallThere K V) → call_of (name i) m ≡ Some c → looks c.call ≡ true → c.begun ≤ length log
+pub record ShowsReading {K V : Type 0} (name : ℕ → List ℕ) (log : Past K V) (made : ℕ → ℕ) (m : Moment K V) (s : Scene K V) : Type 0 where
+  pub past : IsPast log
+  pub begun : (map i : ℕ) (u : UnderWay K V K) → s.calls map i ≡ Some u → (c : CallThere K V) → call_of (name i) m ≡ Some c → looks c.call ≡ true → c.begun ≤ log.entries
   pub reads : (map i : ℕ) (u : UnderWay K V K) → s.calls map i ≡ Some u → (c : CallThere K V) → call_of (name i) m ≡ Some c → looks c.call ≡ true
       → (standing : Standing K) → s.maps map ≡ Some standing
-      → HasLooked (is_incremental standing.setting.mode) map standing.chart (moments_from c.begun log) (c.steps + made i) u
+      → HasLooked (is_incremental standing.setting.mode) map standing.chart (log.since c.begun) (c.steps + made i) u
 
 -- the steps that a caller has made, with one more of this one
 abbrev pub one_more_of : ℕ → (ℕ → ℕ) → ℕ → ℕ
@@ -65,23 +71,17 @@ module _ (K V : Type 0) (name : ℕ → List ℕ) where
   -- The promises: so lookups have read what they had read,
   abbrev pub ReadingsStay : Type 0
   ReadingsStay =
-      (log : List (Entry K V)) (made made2 : ℕ → ℕ) (m m2 : Moment K V) (s s2 : Scene K V) → LookupsStay name made m s made2 m2 s2 → ShowsReading name log made m s
+      (log : Past K V) (made made2 : ℕ → ℕ) (m m2 : Moment K V) (s s2 : Scene K V) → LookupsStay name made m s made2 m2 s2 → ShowsReading name log made m s
       → ShowsReading name log made2 m2 s2
 
   -- and where an event is over, and its moment is one of the log.
   abbrev pub EventsKeepReadings : Type 0
   EventsKeepReadings =
-      (log : List (Entry K V)) (e : Entry K V) (made : ℕ → ℕ) (m : Moment K V) (s : Scene K V) → ShowsReading name log made m s → ShowsReading name (e ∷ log) made m s
+      (log : Past K V) (next : Moment K V) (made : ℕ → ℕ) (m : Moment K V) (s : Scene K V) → ShowsReading name log made m s → next.events ≡ suc log.entries
+      → ShowsReading name (further next log) made m s
 
 module _ (K V : Type 0) (same : K → K → Bool) (hash : ℕ → K → ℕ) where
-  -- A step of a call leaves the tables that maps have had.
-  abbrev pub StepsLeaveTables : Type 0
-  StepsLeaveTables =
-      (s : Scene K V) (old new : Held K V) → IsAt same hash old s
-      → (map i : ℕ) (u : UnderWay K V K) (here : s.calls map i ≡ Some u) (said : Progress (Node K V)) (leads : StepLeads same hash i said s old new)
-      → (n : ℕ) (standing : Standing K) → (leads map u here).4.maps2 n ≡ Some standing → HasStood s.maps n standing
-
-  -- One of a lookup does nothing to pairs, tables and blocks.
+  -- A step of a lookup does nothing to pairs, tables and blocks.
   abbrev pub LookupsDoNothing : Type 0
   LookupsDoNothing =
       (known : Known) (s : Scene K V) (old new : Held K V) (i : ℕ) (said : Progress (Node K V)) → StepLeads same hash i said s old new
@@ -91,17 +91,17 @@ module _ (K V : Type 0) (same : K → K → Bool) (hash : ℕ → K → ℕ) whe
   -- By it the lookup has read no more than by a step more, where maps and tables are as they were at the end of the last event.
   abbrev pub LookupsKeepReadings : Type 0
   LookupsKeepReadings =
-      (name : ℕ → List ℕ) (log : List (Entry K V)) (made : ℕ → ℕ) (m : Moment K V) (known : Known) (s : Scene K V) (old new : Held K V) → IsAt same hash old s
-      → ShowsWhole same name m known s → ShowsReading name log made m s → m.maps ≡ (moment log).maps → m.tables ≡ (moment log).tables
+      (name : ℕ → List ℕ) (log : Past K V) (made : ℕ → ℕ) (m : Moment K V) (known : Known) (s : Scene K V) (old new : Held K V) → IsAt same hash old s
+      → ShowsWhole same name m known s → ShowsReading name log made m s → m.maps ≡ log.now.maps → m.tables ≡ log.now.tables
       → (map i : ℕ) (u : UnderWay K V K) (here : s.calls map i ≡ Some u) (said : Progress (Node K V)) (leads : StepLeads same hash i said s old new)
       → (c : CallThere K V) → call_of (name i) m ≡ Some c → looks c.call ≡ true
       → (let to = leads map u here in
       ShowsReading name log (one_more_of i made) m (scene_after same s old new map i to.0 u to.1 said to.4))
 
-  -- And with its next step it has read few words, by the moments of its call; so an event of which that is the last step reads briefly.
+  -- And with its next step it has read few words, by the moments of its call; so what has that as its last step reads briefly.
   abbrev pub EventsReadBriefly : Type 0
   EventsReadBriefly =
-      (name : ℕ → List ℕ) (log : List (Entry K V)) (made : ℕ → ℕ) (m : Moment K V) (known : Known) (s : Scene K V) (e : Held K V) → IsAt same hash e s
+      (name : ℕ → List ℕ) (log : Past K V) (made : ℕ → ℕ) (m : Moment K V) (known : Known) (s : Scene K V) (e : Held K V) → IsAt same hash e s
       → ShowsWhole same name m known s → ShowsReading name log made m s
       → (map i : ℕ) (u : UnderWay K V K) → s.calls map i ≡ Some u
-      → (entry : Entry K V) → caller_of entry.event ≡ Some (name i) → entry.steps ≤ suc (made i) → ReadsBriefly log entry m
+      → (caller : Option (List ℕ)) → caller ≡ Some (name i) → (steps : ℕ) → steps ≤ suc (made i) → HasReadFew log caller steps m

@@ -6,13 +6,10 @@ use Rattle.papaya_histories.specs.Given.Tables.declared.node.Node.{Node}
 use Rattle.papaya_histories.specs.Given.Raw.declared.machines.progress.Progress.{Progress}
 use Rattle.papaya_histories.specs.Given.Runs.Present.{Present}
 use Rattle.papaya_histories.specs.Given.Schedules.declared.effect.Effect.{Effect}
-use Rattle.papaya_histories.specs.Given.Schedules.After.{after, moment}
 use Rattle.papaya_histories.specs.Given.Schedules.Effects.{with_effects}
-use Rattle.papaya_histories.specs.Given.Schedules.Entry.{Entry}
 use Rattle.papaya_histories.specs.Given.Schedules.Lists.{is_in}
 use Rattle.papaya_histories.specs.Given.Schedules.Model.{thing_back}
 use Rattle.papaya_histories.specs.Given.Schedules.Moment.{Sheltered, Moment}
-use Rattle.papaya_histories.specs.Given.Schedules.Reclaims.{IsProtected}
 use Rattle.papaya_histories.specs.Given.Schedules.Things.{same_thing}
 use Rattle.papaya_histories.specs.Given.Callers.Together.{UnderWay}
 use Rattle.papaya_histories.specs.Given.Effects.Effects.{effects_of, known_after}
@@ -27,6 +24,8 @@ use Rattle.papaya_histories.specs.Given.Scenes.Held.{Held, IsAt}
 use Rattle.papaya_histories.specs.Given.Scenes.OnSlots.{RowLeads}
 use Rattle.papaya_histories.specs.Given.Scenes.Scene.{IsOnSlot, Scene}
 use Rattle.papaya_histories.specs.Given.Scenes.Stepping.{StepLeads}
+use Rattle.papaya_histories.specs.Given.Schedules.Transition.{Transition}
+use Rattle.papaya_histories.specs.Given.Schedules.Reclaims.{Protects}
 
 -- none of these things is reclaimed by the effects
 abbrev pub NoneIsBack : List Effect → List Sheltered → Type 0
@@ -36,9 +35,9 @@ NoneIsBack effects sheltered = AllByRecursion (λ x. is_in same_thing x.thing (f
 abbrev pub StepsProtect : Type 0
 StepsProtect = (effects more : List Effect) (sheltered : List Sheltered) → NoneIsBack effects sheltered → NoneIsBack more sheltered → NoneIsBack (effects ++ more) sheltered
 
--- and an event whose effects reclaim nothing that is sheltered after it is as it is to be.
+-- and where nothing is reclaimed that is sheltered after what is done, it is as it is to be.
 abbrev pub EventsAreProtected : Type 0 → Type 0 → Type 0
-EventsAreProtected K V = (log : List (Entry K V)) (e : Entry K V) → NoneIsBack e.effects (after e (moment log)).sheltered → IsProtected log e
+EventsAreProtected K V = (t : Transition K V) → NoneIsBack t.effects t.left.sheltered → Protects t
 
 module _ (K V : Type 0) (same : K → K → Bool) (hash : ℕ → K → ℕ) where
   -- A step of a call leaves guards within their sections, and shelters what it takes out of its map; it reclaims nothing.

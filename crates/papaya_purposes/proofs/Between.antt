@@ -1,5 +1,5 @@
 -- Before all events, between the steps of calls, and where an event is over, the moment says what calls on whole maps have come to, and what they are for.
-use Rattle.std.specs.Prelude.{◌≡◌, ℕ, ◌+◌, ◌≤◌, ◌==◌, nat_lt, Bool, true, false, cond, List, [], ◌∷◌, length, find, Option, Some, if◌then◌else◌, ◌⊎◌}
+use Rattle.std.specs.Prelude.{◌≡◌, ℕ, ◌+◌, ◌≤◌, ◌==◌, nat_lt, Bool, true, false, cond, List, [], ◌∷◌, find, Option, Some, if◌then◌else◌, ◌⊎◌, suc}
 use Rattle.std.proofs.Common.{refl, ap, sym, subst, ◌∙◌, arith, inl, inr}
 use Rattle.papaya_finds.specs.Given.Tables.Chunks.{is_incremental}
 use Rattle.papaya_finds.specs.Given.Tables.declared.setting.Setting.{Setting}
@@ -17,9 +17,8 @@ use Rattle.papaya_finds.specs.Given.Runs.Same.{is_same}
 use Rattle.papaya_finds.specs.Given.Schedules.declared.call.Call.{Call}
 use Rattle.papaya_finds.specs.Given.Schedules.declared.call.Call.TheVariants as call
 use Rattle.papaya_finds.specs.Given.Schedules.declared.outcome.Outcome.{Outcome}
-use Rattle.papaya_finds.specs.Given.Schedules.After.{moment, moments_from, comes_to}
+use Rattle.papaya_finds.specs.Given.Schedules.After.{comes_to}
 use Rattle.papaya_finds.specs.Given.Schedules.Beginning.{fresh_call, with_call}
-use Rattle.papaya_finds.specs.Given.Schedules.Entry.{Entry}
 use Rattle.papaya_finds.specs.Given.Schedules.Lists.{OneOf}
 use Rattle.papaya_finds.specs.Given.Schedules.Moment.{Place, MapThere, UnderWay as CallThere, Moment}
 use Rattle.papaya_finds.specs.Given.Schedules.Views.{call_of, is_in_map, finite_map, first_or, first_of}
@@ -35,16 +34,15 @@ use Rattle.papaya_finds.proofs.Given.Follows.Called.{called_as, some_is, sweep_c
 use Rattle.papaya_finds.proofs.Given.Follows.Calling.{is_same_refl, come, begins_with, come_with}
 use Rattle.papaya_finds.proofs.Given.Follows.Steps.{one_of}
 use Rattle.papaya_finds.proofs.Given.Hands.Asking.{which}
-use Rattle.papaya_finds.proofs.Given.Hands.Beginning.{runs_begin_so}
 use Rattle.papaya_finds.specs.Given.Histories.Had.{HadThen}
 use Rattle.papaya_finds.specs.Given.Histories.Histories.{IsWithin}
 use Rattle.papaya_finds.proofs.Given.Histories.Calling.{came_so}
 use Rattle.papaya_finds.proofs.Given.Histories.Found.{map_alike}
-use Rattle.papaya_finds.proofs.Given.Histories.Logs.{last_there, moments_grow}
+use Rattle.papaya_finds.proofs.Given.Histories.Logs.{now_there, grows, further_is_past}
 use Rattle.papaya_finds.proofs.Given.Histories.Now.{now_had}
 use Rattle.papaya_finds.specs.Given.Others.After.{ShowsAfter}
 use Rattle.papaya_finds.proofs.Given.Others.Walks.{fewer_calls, with_calls}
-use Rattle.papaya_purposes.specs.Kept.{TellsNone, PurposesBegin, CallsBeginPurposes, WalksGoOnPurposes, CallsComeToPurposes, EventsKeepPurposes, FirstStepsChangePairsFirst, StillStepsChangePairsFirst, RemovalsChangePairsFirst}
+use Rattle.papaya_purposes.specs.Kept.{TellsNone, CallsBeginPurposes, WalksGoOnPurposes, CallsComeToPurposes, EventsKeepPurposes, FirstStepsChangePairsFirst}
 use Rattle.papaya_purposes.specs.Purposes.{IsFor, HasAdded, RoomAt, HasMet, TellsDone, KeysOf, HasSwept, HasCome}
 use Rattle.papaya_finds.specs.Given.Named.Machines.{IsBefore}
 use Rattle.papaya_purposes.proofs.For.{sweep_for}
@@ -59,43 +57,38 @@ use Rattle.papaya_finds.specs.Given.Scenes.Beginning.{Begins}
 use Rattle.papaya_finds.specs.Given.Scenes.Held.{Held, IsAt}
 use Rattle.papaya_finds.specs.Given.Scenes.Replying.{scene_with}
 use Rattle.papaya_finds.specs.Given.Scenes.Scene.{Scene, slot_of}
-
-pub purposes_begin : (K V : Type 0) → PurposesBegin K V
-purposes_begin K V same roots name = record {
-  shown = (runs_begin_so K V same roots name).shown;
-  begun = λ n i u is c found. absurd (cc is);
-  is_for = λ n i u is c found. absurd (cc is);
-  come = λ n i u is st there c found. absurd (cc is);
-}
+use Rattle.papaya_finds.specs.Given.Schedules.Transition.{Past, further}
+use Rattle.std.specs.List.{AllByRecursion}
+use Rattle.papaya_finds.proofs.Given.Follows.Contents.{Lasts}
 
 -- an event that is over adds its moment
-module _ {K V : Type 0} (same : K → K → Bool) (log : List (Entry K V)) (e : Entry K V) (c : CallThere K V) (before : c.begun ≤ length log) where
-  wider : (P : Moment K V → Type 0) → OneOf P (moments_from c.begun log) → OneOf P (moments_from c.begun (e ∷ log))
-  wider P there = subst (OneOf P) (sym (moments_grow c.begun e log (omega (arith, before)))) (inr there)
+module _ {K V : Type 0} (same : K → K → Bool) (log : Past K V) (next : Moment K V) (c : CallThere K V) (before : c.begun ≤ log.entries) where
+  wider : (P : Moment K V → Type 0) → OneOf P (log.since c.begun) → OneOf P ((further next log).since c.begun)
+  wider P there = subst (OneOf P) (sym (grows next log c.begun (omega (arith, before)))) (inr there)
 
-  pub event_come : (of : ℕ) (st : Standing K) (number : ℕ → ℕ) (m : Moment K V) (u : UnderWay K V K) → HasCome same of st number log m u c → HasCome same of st number (e ∷ log) m u c
+  pub event_come : (of : ℕ) (st : Standing K) (number : ℕ → ℕ) (m : Moment K V) (u : UnderWay K V K) → HasCome same of st number log m u c → HasCome same of st number (further next log) m u c
   event_come of st number m (OnKey u) h = tt
   event_come of st number m (ForRoom r) h = record {
     low = h.low;
     was = wider (λ x. first_of of x ≤ h.low) h.was;
     root = h.root;
     point = point r.reserve.stands h.point;
-    reserves = reserves_wider of (moments_from c.begun log) (moments_from c.begun (e ∷ log)) wider r.reserve r.reserve.stands h.reserves;
-    needs = needs_wider of (moments_from c.begun log) (moments_from c.begun (e ∷ log)) wider r.reserve r.reserve.stands h.needs;
+    reserves = reserves_wider of (log.since c.begun) ((further next log).since c.begun) wider r.reserve r.reserve.stands h.reserves;
+    needs = needs_wider of (log.since c.begun) ((further next log).since c.begun) wider r.reserve r.reserve.stands h.needs;
   }
     where
-      point : (stands : Reserving) → RoomAt of (moments_from c.begun log) h.low stands → RoomAt of (moments_from c.begun (e ∷ log)) h.low stands
+      point : (stands : Reserving) → RoomAt of (log.since c.begun) h.low stands → RoomAt of ((further next log).since c.begun) h.low stands
       point reserving.Reads is = is
-      point (reserving.Makes making) is = (is.0, λ n. counts_wider of (moments_from c.begun log) (moments_from c.begun (e ∷ log)) wider n 0 (is.1 n))
-      point (reserving.Sums table sum) is = (is.0, added_wider of (moments_from c.begun log) (moments_from c.begun (e ∷ log)) wider sum.setting.mask sum.stands is.1)
+      point (reserving.Makes making) is = (is.0, λ n. counts_wider of (log.since c.begun) ((further next log).since c.begun) wider n 0 (is.1 n))
+      point (reserving.Sums table sum) is = (is.0, added_wider of (log.since c.begun) ((further next log).since c.begun) wider sum.setting.mask sum.stands is.1)
       point (reserving.Follows table need) is = is
       point (reserving.Grows table making) is = is
       point (reserving.Copies copier) is = is
       point reserving.Over is = is
       point (reserving.Refused fault) is = is
-  event_come of st number m (Counting sum) h = added_wider of (moments_from c.begun log) (moments_from c.begun (e ∷ log)) wider sum.setting.mask sum.stands h
+  event_come of st number m (Counting sum) h = added_wider of (log.since c.begun) ((further next log).since c.begun) wider sum.setting.mask sum.stands h
   event_come of st number m (OverAll o) h = record {
-    within = pairs_within_moments of st number (m ∷ moments_from c.begun log) (m ∷ moments_from c.begun (e ∷ log)) o.began (λ n q one. more n q one) h.within;
+    within = pairs_within_moments of st number (m ∷ log.since c.begun) (m ∷ (further next log).since c.begun) o.began (λ n q one. more n q one) h.within;
     stored = h.stored;
     tells = h.tells;
     none = h.none;
@@ -103,25 +96,32 @@ module _ {K V : Type 0} (same : K → K → Bool) (log : List (Entry K V)) (e : 
     classes = classes;
   }
     where
-      more : (n : ℕ) (q : Bool) → OneOf (λ (x : Moment K V). is_in_map of (x.place n) ≡ q) (m ∷ moments_from c.begun log) → OneOf (λ (x : Moment K V). is_in_map of (x.place n) ≡ q) (m ∷ moments_from c.begun (e ∷ log))
+      more : (n : ℕ) (q : Bool) → OneOf (λ (x : Moment K V). is_in_map of (x.place n) ≡ q) (m ∷ log.since c.begun) → OneOf (λ (x : Moment K V). is_in_map of (x.place n) ≡ q) (m ∷ (further next log).since c.begun)
       more n q (inl is) = inl is
       more n q (inr there) = inr (wider (λ x. is_in_map of (x.place n) ≡ q) there)
 
-      classes : IsWithin same of st number (m ∷ moments_from c.begun (e ∷ log)) o.began
+      classes : IsWithin same of st number (m ∷ (further next log).since c.begun) o.began
       classes time from to k = by (h.classes time from to k)
         where
-          by : OneOf (λ (x : Moment K V). HadThen same st number time k (finite_map same of x k)) (m ∷ moments_from c.begun log)
-              → OneOf (λ (x : Moment K V). HadThen same st number time k (finite_map same of x k)) (m ∷ moments_from c.begun (e ∷ log))
+          by : OneOf (λ (x : Moment K V). HadThen same st number time k (finite_map same of x k)) (m ∷ log.since c.begun)
+              → OneOf (λ (x : Moment K V). HadThen same st number time k (finite_map same of x k)) (m ∷ (further next log).since c.begun)
           by (inl is) = inl is
           by (inr there) = inr (wider (λ x. HadThen same st number time k (finite_map same of x k)) there)
 
 pub events_keep_purposes : (K V : Type 0) (same : K → K → Bool) → EventsKeepPurposes K V same
-events_keep_purposes K V same name log e known s purposes = record {
+events_keep_purposes K V same name log m known s purposes counted = record {
+  past = further_is_past m log counted;
+  lasts = λ begun. further_lasts (nat_lt (suc log.entries) begun) (log.since begun) (purposes.lasts begun);
   shown = purposes.shown;
   begun = λ n i u is c found. (let b = purposes.begun n i u is c found in omega (arith, b));
   is_for = purposes.is_for;
-  come = λ n i u is st there c found. event_come same log e c (purposes.begun n i u is c found) n st (purposes.shown.number n) (moment (e ∷ log)) u (purposes.come n i u is st there c found);
+  come = λ n i u is st there c found. event_come same log m c (purposes.begun n i u is c found) n st (purposes.shown.number n) m u (purposes.come n i u is st there c found);
 }
+  where
+    further_lasts : (b : Bool) (moments : List (Moment K V)) → AllByRecursion (λ (x : Moment K V). Lasts x.stored m.stored) moments
+        → AllByRecursion (λ (x : Moment K V). Lasts x.stored m.stored) (if b then [] else m ∷ moments)
+    further_lasts true moments all = tt
+    further_lasts false moments all = (λ n pair is. is, all)
 
 -- a call that comes to an outcome that tells of no pair
 come_so : {K V : Type 0} (named : Type 0) (o : Outcome V) → TellsNone o → (steps : ℕ) (c d : CallThere K V) → (d ≡ c) ⊎ ((d ≡ come o steps c) × named) → IsStill c d
@@ -136,8 +136,10 @@ come_so {K} {V} named o none steps c d (inr e) = subst (IsStill c) (sym e.0) so
 
 pub calls_come_to_purposes : (K V : Type 0) (same : K → K → Bool) → CallsComeToPurposes K V same
 calls_come_to_purposes K V same name log m known s purposes own o steps none ended = record {
+  past = purposes.past;
+  lasts = purposes.lasts;
   shown = b.0;
-  begun = λ n j x is d d_is. (let c = purposes.shown.calls n j x is in subst (λ (z : ℕ). z ≤ length log) (sym (still n j x is c.0 c.1 d d_is).begun) (purposes.begun n j x is c.0 c.1));
+  begun = λ n j x is d d_is. (let c = purposes.shown.calls n j x is in subst (λ (z : ℕ). z ≤ log.entries) (sym (still n j x is c.0 c.1 d d_is).begun) (purposes.begun n j x is c.0 c.1));
   is_for = λ n j x is d d_is. (let c = purposes.shown.calls n j x is in for_still c.0 d (still n j x is c.0 c.1 d d_is) x (purposes.is_for n j x is c.0 c.1));
   come = λ n j x is st there d d_is.
       let c = purposes.shown.calls n j x is in
@@ -152,9 +154,9 @@ calls_come_to_purposes K V same name log m known s purposes own o steps none end
     still n j x is c c_is d d_is = come_so (is_same (name j) own ≡ true) o none steps c d (came_so same name m s own o steps ended n j x is c c_is d d_is)
 
 -- a call that begins
-module _ {K V : Type 0} (same : K → K → Bool) (hash : ℕ → K → ℕ) (name : ℕ → List ℕ) (log : List (Entry K V)) (m : Moment K V) (known : Known) (s : Scene K V) (e : Held K V)
+module _ {K V : Type 0} (same : K → K → Bool) (hash : ℕ → K → ℕ) (name : ℕ → List ℕ) (log : Past K V) (m : Moment K V) (known : Known) (s : Scene K V) (e : Held K V)
     (at : IsAt same hash e s) (shown : Shows same name m known s) (of i : ℕ) (st : Standing K) (there : s.maps of ≡ Some st) (m2 : Moment K V) (place : m2.place ≡ m.place) (stored : m2.stored ≡ m.stored)
-    (c : CallThere K V) (shows : c.shown ≡ []) (was : OneOf (λ x. first_of of x ≤ st.chart.first) (moments_from c.begun log)) where
+    (c : CallThere K V) (shows : c.shown ≡ []) (was : OneOf (λ x. first_of of x ≤ st.chart.first) (log.since c.begun)) where
   none_told : (its : Call K V) (number : ℕ → ℕ) → TellsDone its number [] c
   none_told (call.On one) number = tt
   none_told (call.Reserve n) number = tt
@@ -163,7 +165,7 @@ module _ {K V : Type 0} (same : K → K → Bool) (hash : ℕ → K → ℕ) (na
   none_told call.Len number = tt
   none_told call.Walk number = shows
 
-  sum_begins : (setting : Setting) → HasAdded of (moments_from c.begun log) (summing setting).setting.mask (summing setting).stands
+  sum_begins : (setting : Setting) → HasAdded of (log.since c.begun) (summing setting).setting.mask (summing setting).stands
   sum_begins setting = (0, refl, omega arith)
 
   now_then : (k : K) → HadThen same st (shown.number of) st.chart.now k (finite_map same of m2 k)
@@ -171,9 +173,9 @@ module _ {K V : Type 0} (same : K → K → Bool) (hash : ℕ → K → ℕ) (na
       subst (HadThen same st (shown.number of) st.chart.now k) (sym (map_alike same of k m m2 place stored))
       (now_had same of (shown.number of) st m known s.world (s.calls of) (at.together.makings.standing.fit of st there).0 (at.together.makings.standing.each of st there) (shown.maps of st there).pairs shown.blocks k)
 
-  sweep_begins : (setting : Setting) (purpose : Purpose) → HasSwept same of st (shown.number of) (m2 ∷ moments_from c.begun log) (begun_over_all st.chart.now setting purpose) c
+  sweep_begins : (setting : Setting) (purpose : Purpose) → HasSwept same of st (shown.number of) (m2 ∷ log.since c.begun) (begun_over_all st.chart.now setting purpose) c
   sweep_begins setting purpose = record {
-    within = begins_within same hash name m known s e at shown of st there m2 (moments_from c.begun log) place;
+    within = begins_within same hash name m known s e at shown of st there m2 (log.since c.begun) place;
     stored = tt;
     tells = none_told c.call (shown.number of);
     none = λ walks first. refl;
@@ -184,13 +186,15 @@ module _ {K V : Type 0} (same : K → K → Bool) (hash : ℕ → K → ℕ) (na
   pub begins_come : (u : UnderWay K V K) → Begins same st i u → HasCome same of st (shown.number of) log m2 u c
   begins_come (OnKey u) begins = tt
   begins_come (ForRoom r) (additional, is) =
-      subst (λ (x : CallForRoom). HasMet of st (moments_from c.begun log) x) (sym is) (record { low = st.chart.first; was = was; root = omega arith; point = tt; reserves = tt; needs = tt })
-  begins_come (Counting sum) begins = subst (λ (x : Sum). HasAdded of (moments_from c.begun log) x.setting.mask x.stands) (sym begins) (sum_begins (in_slot st.setting (slot_of i)))
+      subst (λ (x : CallForRoom). HasMet of st (log.since c.begun) x) (sym is) (record { low = st.chart.first; was = was; root = omega arith; point = tt; reserves = tt; needs = tt })
+  begins_come (Counting sum) begins = subst (λ (x : Sum). HasAdded of (log.since c.begun) x.setting.mask x.stands) (sym begins) (sum_begins (in_slot st.setting (slot_of i)))
   begins_come (OverAll o) (purpose, is) =
-      subst (λ (x : CallOverAll). HasSwept same of st (shown.number of) (m2 ∷ moments_from c.begun log) x c) (sym is) (sweep_begins (in_slot st.setting (slot_of i)) purpose)
+      subst (λ (x : CallOverAll). HasSwept same of st (shown.number of) (m2 ∷ log.since c.begun) x c) (sym is) (sweep_begins (in_slot st.setting (slot_of i)) purpose)
 
 pub calls_begin_purposes : (K V : Type 0) (same : K → K → Bool) (hash : ℕ → K → ℕ) → CallsBeginPurposes K V same hash
 calls_begin_purposes K V same hash name log m known s e at purposes of i u its guard standing there begins apart called is_for events same_maps = record {
+  past = purposes.past;
+  lasts = purposes.lasts;
   shown = b.0;
   begun = λ n j x is d d_is. begun_one n j x d (which_call n j x d d_is (which s.calls of i (Some u) n j x is));
   is_for = λ n j x is d d_is. for_one n j x d (which_call n j x d d_is (which s.calls of i (Some u) n j x is));
@@ -208,12 +212,12 @@ calls_begin_purposes K V same hash name log m known s e at purposes of i u its g
     b = begins_with same name m known s purposes.shown of i u its guard apart called
 
     -- the root is where it was as the last event ended
-    first_was : OneOf (λ x. first_of of x ≤ standing.chart.first) (moments_from m.events log)
+    first_was : OneOf (λ x. first_of of x ≤ standing.chart.first) (log.since m.events)
     first_was =
         let shows = (purposes.shown.maps of standing there).there in
-        let is : first_of of (moment log) ≡ standing.chart.first =
+        let is : first_of of log.now ≡ standing.chart.first =
         ap (λ (fs : List MapThere). first_or (find (λ f. f.number == of) fs)) (sym same_maps) ∙ ap first_or shows.is ∙ shows.first in
-        last_there (λ x. first_of of x ≤ standing.chart.first) m.events log (omega (arith, events)) (omega (arith, is))
+        now_there log purposes.past (λ x. first_of of x ≤ standing.chart.first) m.events (omega (arith, events)) (omega (arith, is))
 
     -- it is this one, or was there
     One : ℕ → ℕ → UnderWay K V K → CallThere K V → Type 0
@@ -228,7 +232,7 @@ calls_begin_purposes K V same hash name log m known s e at purposes of i u its g
         inl (a.0, one_of x u (sym a.2), one_of d fresh (sym (found_now j true (ap (λ (k : ℕ). is_same (name i) (name k)) a.1 ∙ is_same_refl (name i)) d d_is)))
     which_call n j x d d_is (inr was) = inr (was.1, found_now j false (apart n j x was.1) d d_is)
 
-    begun_one : (n j : ℕ) (x : UnderWay K V K) (d : CallThere K V) → One n j x d → d.begun ≤ length log
+    begun_one : (n j : ℕ) (x : UnderWay K V K) (d : CallThere K V) → One n j x d → d.begun ≤ log.entries
     begun_one n j x d (inl a) = (let one = ap (λ (z : CallThere K V). z.begun) a.2 in omega (arith, one, events))
     begun_one n j x d (inr was) = purposes.begun n j x was.0 d was.1
 
@@ -267,6 +271,8 @@ next_purpose p = by p.stands
 
 pub walks_go_on_purposes : (K V : Type 0) (same : K → K → Bool) → WalksGoOnPurposes K V same
 walks_go_on_purposes K V same name log m known s purposes of i o here ready = record {
+  past = purposes.past;
+  lasts = purposes.lasts;
   shown = b.shows;
   begun = λ n j x is d d_is. (let was = which_call n j x (which s.calls of i (Some next) n j x is) in purposes.begun n j was.0 was.1 d d_is);
   is_for = λ n j x is d d_is. for_one n j x d d_is (which s.calls of i (Some next) n j x is);
@@ -298,10 +304,10 @@ walks_go_on_purposes K V same name log m known s purposes of i o here ready = re
         (sweep_for d.call o o2 (next_purpose o.sweep) (purposes.is_for n j (OverAll o) (ap (λ (k : ℕ). s.calls k j) a.0 ∙ ap (s.calls of) a.1 ∙ here) d d_is))
     for_one n j x d d_is (inr was) = purposes.is_for n j x was.1 d d_is
 
-    own : (n : ℕ) (st : Standing K) (d : CallThere K V) → HasSwept same n st (purposes.shown.number n) (m ∷ moments_from d.begun log) o d → HasSwept same n st (purposes.shown.number n) (m ∷ moments_from d.begun log) o2 d
+    own : (n : ℕ) (st : Standing K) (d : CallThere K V) → HasSwept same n st (purposes.shown.number n) (m ∷ log.since d.begun) o d → HasSwept same n st (purposes.shown.number n) (m ∷ log.since d.begun) o2 d
     own n st d h = record { within = h.within; stored = h.stored; tells = h.tells; none = λ walks first. absurd (next_over o.sweep ready first); keys = keys st h; classes = h.classes }
       where
-        keys : (st : Standing K) → HasSwept same n st (purposes.shown.number n) (m ∷ moments_from d.begun log) o d → o2.sweep.purpose ≡ Walks → KeysOf same st o2
+        keys : (st : Standing K) → HasSwept same n st (purposes.shown.number n) (m ∷ log.since d.begun) o d → o2.sweep.purpose ≡ Walks → KeysOf same st o2
         keys st h walks =
             let it = h.keys (sym (next_purpose o.sweep) ∙ walks) in (keys_next same (spot_of st.hash) (is_incremental st.setting.mode) st.chart o.began o.done o.sweep ready it.0, it.1)
 
@@ -311,17 +317,5 @@ walks_go_on_purposes K V same name log m known s purposes of i o here ready = re
         (own n st d (purposes.come n j (OverAll o) (ap (λ (k : ℕ). s.calls k j) a.0 ∙ ap (s.calls of) a.1 ∙ here) st st_is d d_is))
     come_one n j x st st_is d d_is (inr was) = purposes.come n j x was.1 st st_is d d_is
 
-module _ (K V : Type 0) where
-  pub first_steps_change_pairs_first : FirstStepsChangePairsFirst K V
-  first_steps_change_pairs_first log m v of begun n = inr (ap (λ (f : ℕ → Place). is_in_map of (f n)) begun.0)
-
-  pub still_steps_change_pairs_first : StillStepsChangePairsFirst K V
-  still_steps_change_pairs_first log m v of still n = inl (still n)
-
-  pub removals_change_pairs_first : RemovalsChangePairsFirst K V
-  removals_change_pairs_first log m v of none less n = by (is_in_map of (v.place n)) (is_in_map of (m.place n)) (is_in_map of ((moment log).place n)) (none n) (less n)
-    where
-      by : (a b c : Bool) → (b ≡ true → c ≡ true) → (a ≡ true → b ≡ true) → (a ≡ b) ⊎ (b ≡ c)
-      by a true c was went = inr (sym (was refl))
-      by true false c was went = inl (sym (went refl))
-      by false false c was went = inl refl
+pub first_steps_change_pairs_first : (K V : Type 0) → FirstStepsChangePairsFirst K V
+first_steps_change_pairs_first K V log m v of begun n = inr (ap (λ (f : ℕ → Place). is_in_map of (f n)) begun.0)

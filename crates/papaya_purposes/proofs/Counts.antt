@@ -1,5 +1,5 @@
 -- A step of a counting that is under way, in the words of a run.
-use Rattle.std.specs.Prelude.{◌≡◌, ℕ, suc, ◌≤◌, Bool, List, length, Option, Some}
+use Rattle.std.specs.Prelude.{◌≡◌, ℕ, suc, ◌≤◌, Bool, Option, Some}
 use Rattle.std.proofs.Common.{ap, sym, subst, ◌∙◌}
 use Rattle.papaya_finds.specs.Given.SeizeWords.Mem.{Mem, word_at}
 use Rattle.papaya_finds.specs.Given.SeizeWords.declared.at.At.TheVariants.{Word}
@@ -16,16 +16,14 @@ use Rattle.papaya_finds.specs.Given.Raw.declared.machines.machine.Machine.TheVar
 use Rattle.papaya_finds.specs.Given.Raw.declared.machines.progress.Answer.TheVariants as answers
 use Rattle.papaya_finds.specs.Given.Raw.declared.machines.progress.Progress.{Progress}
 use Rattle.papaya_finds.specs.Given.Raw.declared.machines.progress.Progress.TheVariants as progress
-use Rattle.papaya_finds.specs.Given.Schedules.After.{moment, moments_from}
 use Rattle.papaya_finds.specs.Given.Schedules.Counts.{Counts}
-use Rattle.papaya_finds.specs.Given.Schedules.Entry.{Entry}
 use Rattle.papaya_finds.specs.Given.Schedules.Moment.{UnderWay as CallThere, Moment}
 use Rattle.papaya_finds.specs.Given.Points.FactsTables.{CountsShards, SumFacts}
 use Rattle.papaya_finds.specs.Given.Callers.Together.{UnderWay, Counting, in_slot}
 use Rattle.papaya_finds.specs.Given.Finishes.Machines.{GoesOnAs}
 use Rattle.papaya_finds.specs.Given.Finishes.Maps.{Standing}
 use Rattle.papaya_finds.specs.Given.Teller.declared.changed.Changed.TheVariants.{Nothing}
-use Rattle.papaya_finds.proofs.Given.Histories.Logs.{last_there}
+use Rattle.papaya_finds.proofs.Given.Histories.Logs.{now_there}
 use Rattle.papaya_shards.specs.ShardWords.{ShowsShards}
 use Rattle.papaya_purposes.specs.Purposes.{HasAdded}
 use Rattle.papaya_purposes.specs.Shards.{NoneCounted}
@@ -34,10 +32,12 @@ use Rattle.papaya_finds.proofs.Given.Scenes.Told.{as_step}
 use Rattle.papaya_finds.specs.Given.Scenes.Held.{Held, IsAt}
 use Rattle.papaya_finds.specs.Given.Scenes.Scene.{Scene, slot_of}
 use Rattle.papaya_finds.specs.Given.Scenes.Stepping.{StepsFrom}
+use Rattle.papaya_finds.specs.Given.Histories.Histories.{IsPast}
+use Rattle.papaya_finds.specs.Given.Schedules.Transition.{Past}
 
-module _ {K V : Type 0} (same : K → K → Bool) (hash : ℕ → K → ℕ) (log : List (Entry K V)) (m : Moment K V) (s : Scene K V) (old new : Held K V) (at : IsAt same hash old s)
-    (of i : ℕ) (sum : Sum) (here : s.calls of i ≡ Some (Counting sum)) (st : Standing K) (there : s.maps of ≡ Some st) (c : CallThere K V) (before : c.begun ≤ length log)
-    (shards : ShowsShards m s) (none : NoneCounted log m of) (has : HasAdded of (moments_from c.begun log) sum.setting.mask sum.stands)
+module _ {K V : Type 0} (same : K → K → Bool) (hash : ℕ → K → ℕ) (log : Past K V) (is_past : IsPast log) (m : Moment K V) (s : Scene K V) (old new : Held K V) (at : IsAt same hash old s)
+    (of i : ℕ) (sum : Sum) (here : s.calls of i ≡ Some (Counting sum)) (st : Standing K) (there : s.maps of ≡ Some st) (c : CallThere K V) (before : c.begun ≤ log.entries)
+    (shards : ShowsShards m s) (none : NoneCounted log m of) (has : HasAdded of (log.since c.begun) sum.setting.mask sum.stands)
     (machine : Machine K V K) (said : Progress (Node K V)) (steps : StepsFrom same st.hash (kinds.Count sum) old new machine said) where
   abbrev mem : Mem (Node K V)
   mem = old.memory
@@ -45,49 +45,49 @@ module _ {K V : Type 0} (same : K → K → Bool) (hash : ℕ → K → ℕ) (lo
   facts : SumFacts (in_slot st.setting (slot_of i)) sum
   facts = ((at.together.makings.standing.each of st there).stand i (Counting sum) here).1
 
-  reads : (shard : ℕ) → shard ≤ sum.setting.mask → word_at mem (Word sum.setting.counter shard) ≡ Some ((moment log).shards of shard)
+  reads : (shard : ℕ) → shard ≤ sum.setting.mask → word_at mem (Word sum.setting.counter shard) ≡ Some (log.now.shards of shard)
   reads shard few =
       ap (λ (x : Mem (Node K V)). word_at x (Word sum.setting.counter shard)) (sym at.memory)
       ∙ ap (λ (x : Setting). word_at s.world.memory (Word x.counter shard)) facts.0
       ∙ shards of st there shard (subst (λ (x : Setting). shard ≤ x.mask) facts.0 few) ∙ ap Some (none.0 shard)
 
   abbrev Came : Sum × Counted ℕ → Type 0
-  Came end = After of (moments_from c.begun log) mem sum (moment log) (λ P p. last_there P c.begun log before p) reads end
+  Came end = After of (log.since c.begun) mem sum log.now (λ P p. now_there log is_past P c.begun before p) reads end
 
   its_step : (end : Sum × Counted ℕ) × Came end × ((machine, said) ≡ counted end)
   its_step =
       let d = steps_back counted mem new.memory (sum_plan sum) (machine, said) (as_step mem Nothing (machine_plan same same st.hash (kinds.Count sum)) new.memory new.changed (machine, said) steps) in (
         d.0,
-        counting_on of (moments_from c.begun log) mem sum (moment log) (λ P p. last_there P c.begun log before p) reads
+        counting_on of (log.since c.begun) mem sum log.now (λ P p. now_there log is_past P c.begun before p) reads
             (subst (λ (x : Setting). CountsShards x sum.stands) (sym facts.0) facts.1) has new.memory d.0 d.1,
         d.2,
       )
 
   -- where it goes on
   pub counts_on : (next : Option (UnderWay K V K)) → GoesOnAs machine said next → (x : UnderWay K V K) → next ≡ Some x → (sum2 : Sum) → machine ≡ kinds.Count sum2
-      → HasAdded of (moments_from c.begun log) sum2.setting.mask sum2.stands
+      → HasAdded of (log.since c.begun) sum2.setting.mask sum2.stands
   counts_on next goes x e sum2 machine_is = by its_step
     where
-      by : (end : Sum × Counted ℕ) × Came end × ((machine, said) ≡ counted end) → HasAdded of (moments_from c.begun log) sum2.setting.mask sum2.stands
+      by : (end : Sum × Counted ℕ) × Came end × ((machine, said) ≡ counted end) → HasAdded of (log.since c.begun) sum2.setting.mask sum2.stands
       by ((c2, counting.Goes), came, is) =
           let same_one : c2 ≡ sum2 = (let one = ap (λ z. z.0) is in cc (one, machine_is)) in
-          subst (λ (z : Sum). HasAdded of (moments_from c.begun log) z.setting.mask z.stands) same_one
-          (subst (λ (z : Setting). HasAdded of (moments_from c.begun log) z.mask c2.stands) (sym came.0) came.1)
+          subst (λ (z : Sum). HasAdded of (log.since c.begun) z.setting.mask z.stands) same_one
+          (subst (λ (z : Setting). HasAdded of (log.since c.begun) z.mask c2.stands) (sym came.0) came.1)
       by ((c2, counting.Waits), came, is) = absurd came
       by ((c2, counting.Done count), came, is) =
           absurd (let gone : next ≡ _ = subst (λ (p : Progress (Node K V)). GoesOnAs machine p next) (ap (λ z. z.1) is) goes in cc (gone, e))
       by ((c2, counting.Refused fault), came, is) = absurd came
 
   -- where it ends
-  pub counts_end : (count : ℕ) → said ≡ progress.Done (answers.Count count) → Counts (suc sum.setting.mask) of (moments_from c.begun log) count
+  pub counts_end : (count : ℕ) → said ≡ progress.Done (answers.Count count) → Counts (suc sum.setting.mask) of (log.since c.begun) count
   counts_end count done = by its_step
     where
-      by : (end : Sum × Counted ℕ) × Came end × ((machine, said) ≡ counted end) → Counts (suc sum.setting.mask) of (moments_from c.begun log) count
+      by : (end : Sum × Counted ℕ) × Came end × ((machine, said) ≡ counted end) → Counts (suc sum.setting.mask) of (log.since c.begun) count
       by ((c2, counting.Goes), came, is) = absurd (let told = ap (λ z. z.1) is in cc (told, done))
       by ((c2, counting.Waits), came, is) = absurd came
       by ((c2, counting.Done count2), came, is) =
           let same_count : count2 ≡ count = (let told = ap (λ z. z.1) is in cc (told, done)) in
-          subst (λ (z : ℕ). Counts (suc sum.setting.mask) of (moments_from c.begun log) z) same_count came
+          subst (λ (z : ℕ). Counts (suc sum.setting.mask) of (log.since c.begun) z) same_count came
       by ((c2, counting.Refused fault), came, is) = absurd came
 
   -- its shards are those of its map

@@ -4,7 +4,6 @@ use Rattle.std.proofs.Common.{ap, sym, subst, ◌∙◌}
 use Rattle.papaya_finds.specs.Given.SeizeWords.declared.fault.Fault.TheVariants.{Memory}
 use Rattle.papaya_finds.specs.Given.Runs.Same.{is_same}
 use Rattle.papaya_finds.specs.Given.Schedules.declared.outcome.Outcome.TheVariants.{Refused}
-use Rattle.papaya_finds.specs.Given.Schedules.Entry.{Entry}
 use Rattle.papaya_finds.specs.Given.Schedules.Moment.{UnderWay as CallThere, Moment}
 use Rattle.papaya_finds.specs.Given.Schedules.Views.{call_of}
 use Rattle.papaya_finds.specs.Given.Callers.Together.{UnderWay}
@@ -19,9 +18,12 @@ use Rattle.papaya_purposes.proofs.Rows.{beside_purposes}
 use Rattle.papaya_purposes.proofs.Shown.{same_still}
 use Rattle.papaya_purposes.proofs.Still.{come_still}
 use Rattle.papaya_finds.specs.Given.Scenes.Scene.{Scene}
+use Rattle.papaya_finds.specs.Given.Schedules.Transition.{Past}
+use Rattle.papaya_finds.proofs.Given.Follows.Contents.{lasts_same}
+use Rattle.papaya_purposes.proofs.Stored.{numbers_last}
 
 -- the same pairs were stored and lie where they lay, and no call comes
-module _ {K V : Type 0} (same : K → K → Bool) (name : ℕ → List ℕ) (log : List (Entry K V)) (m m2 : Moment K V) (known : Known) (s s2 : Scene K V) (purposes : ShowsPurposes same name log m known s)
+module _ {K V : Type 0} (same : K → K → Bool) (name : ℕ → List ℕ) (log : Past K V) (m m2 : Moment K V) (known : Known) (s s2 : Scene K V) (purposes : ShowsPurposes same name log m known s)
     (place : m2.place ≡ m.place) (stored : m2.stored ≡ m.stored) (calls : m2.calls ≡ m.calls) (after : ShowsAfter same name m known s purposes.shown m2 known s2)
     (fewer : (n j : ℕ) (x : UnderWay K V K) → s2.calls n j ≡ Some x → s.calls n j ≡ Some x) (maps : s2.maps ≡ s.maps) where
   was_called : (j : ℕ) (c : CallThere K V) → call_of (name j) m2 ≡ Some c → call_of (name j) m ≡ Some c
@@ -32,6 +34,8 @@ module _ {K V : Type 0} (same : K → K → Bool) (name : ℕ → List ℕ) (log
 
   between_purposes : ShowsPurposes same name log m2 known s2
   between_purposes = record {
+    past = purposes.past;
+    lasts = numbers_last log m m2 (lasts_same m.stored m2.stored stored) purposes.lasts;
     shown = after.shows;
     begun = λ n j x is c found. purposes.begun n j x (fewer n j x is) c (was_called j c found);
     is_for = λ n j x is c found. purposes.is_for n j x (fewer n j x is) c (was_called j c found);

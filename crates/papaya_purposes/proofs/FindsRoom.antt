@@ -15,9 +15,7 @@ use Rattle.papaya_finds.specs.Given.Schedules.declared.call.Answer.TheVariants.{
 use Rattle.papaya_finds.specs.Given.Schedules.declared.call.Call.{Call}
 use Rattle.papaya_finds.specs.Given.Schedules.declared.call.Call.TheVariants as call
 use Rattle.papaya_finds.specs.Given.Schedules.declared.outcome.Outcome.TheVariants.{Answered}
-use Rattle.papaya_finds.specs.Given.Schedules.After.{moments_from}
 use Rattle.papaya_finds.specs.Given.Schedules.Counts.{Counts}
-use Rattle.papaya_finds.specs.Given.Schedules.Entry.{Entry}
 use Rattle.papaya_finds.specs.Given.Schedules.Lists.{OneOf}
 use Rattle.papaya_finds.specs.Given.Schedules.Moment.{UnderWay as CallThere, Stage, TableThere, Moment}
 use Rattle.papaya_finds.specs.Given.Schedules.Steps.{met_from}
@@ -50,6 +48,7 @@ use Rattle.papaya_purposes.proofs.Swept.{v, then_call, then_is, still, on_map, s
 use Rattle.papaya_finds.specs.Given.Scenes.Held.{Held, IsAt}
 use Rattle.papaya_finds.specs.Given.Scenes.Scene.{Scene, slot_of}
 use Rattle.papaya_finds.specs.Given.Scenes.Stepping.{StepLeads, StepsFrom}
+use Rattle.papaya_finds.specs.Given.Schedules.Transition.{Past}
 
 module _ {X : Type 0} where
   one_left : (P : X → Type 0) (xs ys : List X) → OneOf P xs → OneOf P (xs ++ ys)
@@ -86,7 +85,7 @@ one_table of c stage P (suc p) t l here = step (λ k. one_table of c stage P p t
       | inr ne ↦ one_left P (tables_to of c stage p) _ (rest (omega (arith, l, ne)))
     ]
 
-module _ {K V : Type 0} (same : K → K → Bool) (hash : ℕ → K → ℕ) (name : ℕ → List ℕ) (log : List (Entry K V)) (m : Moment K V) (known : Known) (s : Scene K V) (old new : Held K V)
+module _ {K V : Type 0} (same : K → K → Bool) (hash : ℕ → K → ℕ) (name : ℕ → List ℕ) (log : Past K V) (m : Moment K V) (known : Known) (s : Scene K V) (old new : Held K V)
     (at : IsAt same hash old s) (whole : ShowsWhole same name m known s) (purposes : ShowsPurposes same name log m known s) (of i : ℕ) (u : UnderWay K V K) (here : s.calls of i ≡ Some u)
     (said : Progress (Node K V)) (leads : StepLeads same hash i said s old new) (c : CallThere K V) (c_is : call_of (name i) m ≡ Some c) where
   abbrev to : WentTo same hash name m known s old new at purposes.shown of i u here said leads
@@ -137,14 +136,14 @@ module _ {K V : Type 0} (same : K → K → Bool) (hash : ℕ → K → ℕ) (na
   module _ (terms : Terms) (mask : (standing : Standing K) → s.maps of ≡ Some standing → suc standing.setting.mask ≡ shards_of terms) (more : ℕ) (r : CallForRoom)
       (r_is : s.calls of i ≡ Some (ForRoom r)) (additional : r.reserve.additional ≡ more) (reads : ReadsShards log m s of (ForRoom r))
       (steps : StepsFrom same to.0.hash (machine_of (ForRoom r)) old new to.1 said) (done : said ≡ progress.Done answers.Reserved) (on_it : StandsOn) where
-    met : HasMet of to.0 (moments_from c.begun log) r
+    met : HasMet of to.0 (log.since c.begun) r
     met = purposes.come of i (ForRoom r) r_is to.0 to.2 c c_is
 
     abbrev Ended : Type 0
-    Ended = EndsSo same hash log m s old new at of i r r_is to.0 to.2 c (purposes.begun of i (ForRoom r) r_is c c_is) reads met to.1 said steps
+    Ended = EndsSo same hash log purposes.past m s old new at of i r r_is to.0 to.2 c (purposes.begun of i (ForRoom r) r_is c c_is) reads met to.1 said steps
 
     ended : Ended
-    ended = room_ends same hash log m s old new at of i r r_is to.0 to.2 c (purposes.begun of i (ForRoom r) r_is c c_is) reads met to.1 said steps done
+    ended = room_ends same hash log purposes.past m s old new at of i r r_is to.0 to.2 c (purposes.begun of i (ForRoom r) r_is c c_is) reads met to.1 said steps done
 
     -- the root is where the map has it
     first_now : first_of of now ≡ on_it.st.chart.first
@@ -177,24 +176,24 @@ module _ {K V : Type 0} (same : K → K → Bool) (hash : ℕ → K → ℕ) (na
     Room moments on_map =
         (n : ℕ) × Counts (shards_of terms) on_map moments n × OneOf (λ x. OneOf (λ t. Fits (len_of (n + more)) t.shape.len) (roots_since (first_of on_map x) on_map now)) moments
 
-    found : Room (now ∷ moments_from c.begun log) of
+    found : Room (now ∷ log.since c.begun) of
     found = (
       ended.0,
-      subst (λ (x : ℕ). Counts x of (now ∷ moments_from c.begun log) ended.0) (mask to.0 to.2)
-          (counts_wider of (moments_from c.begun log) (now ∷ moments_from c.begun log) (λ P one. inr one) (suc to.0.setting.mask) ended.0 ended.1),
-      inr (each_of (λ x. first_of of x ≤ met.low) (λ x. OneOf Long (roots_since (first_of of x) of now)) (moments_from c.begun log) finds met.was),
+      subst (λ (x : ℕ). Counts x of (now ∷ log.since c.begun) ended.0) (mask to.0 to.2)
+          (counts_wider of (log.since c.begun) (now ∷ log.since c.begun) (λ P one. inr one) (suc to.0.setting.mask) ended.0 ended.1),
+      inr (each_of (λ x. first_of of x ≤ met.low) (λ x. OneOf Long (roots_since (first_of of x) of now)) (log.since c.begun) finds met.was),
     )
 
-    pub finds_room : FindsRoom terms more d (now ∷ moments_from d.begun log) now
+    pub finds_room : FindsRoom terms more d (now ∷ log.since d.begun) now
     finds_room =
         let is = still same hash name log m known s old new at whole purposes of i u here said leads c c_is in
-        subst (λ (b : ℕ). Room (now ∷ moments_from b log) d.map) (sym is.begun)
-        (subst (Room (now ∷ moments_from c.begun log)) (sym (on_map same hash name log m known s old new at whole purposes of i u here said leads c c_is)) found)
+        subst (λ (b : ℕ). Room (now ∷ log.since b) d.map) (sym is.begun)
+        (subst (Room (now ∷ log.since c.begun)) (sym (on_map same hash name log m known s old new at whole purposes of i u here said leads c c_is)) found)
 
   -- of a reservation
   pub room_found : (terms : Terms) → ((standing : Standing K) → s.maps of ≡ Some standing → suc standing.setting.mask ≡ shards_of terms) → (more : ℕ) → (y : UnderWay K V K) → s.calls of i ≡ Some y
       → IsFor y (call.Reserve more) → ReadsShards log m s of y → StepsFrom same to.0.hash (machine_of y) old new to.1 said → said ≡ progress.Done answers.Reserved
-      → Did same hash name log m known s old new at whole purposes of i u here said leads y → FindsRoom terms more d (now ∷ moments_from d.begun log) now
+      → Did same hash name log m known s old new at whole purposes of i u here said leads y → FindsRoom terms more d (now ∷ log.since d.begun) now
   room_found terms mask more (OnKey z) y_is is reads steps done did = absurd is
   room_found terms mask more (ForRoom r) y_is is reads steps done did = finds_room terms mask more r y_is is reads steps done (stands_on r did)
   room_found terms mask more (Counting sum) y_is is reads steps done did = absurd is
@@ -210,11 +209,11 @@ none_swept (outcome.Refused fault) e = cc e
 
 module _ (K V : Type 0) (same : K → K → Bool) (hash : ℕ → K → ℕ) where
   pub reservations_are_swept : ReservationsAreSwept K V same hash
-  reservations_are_swept more name log m known s old new at whole purposes of i u here said leads c c_is is_reserve reads comes terms mask e caller worked_is outcome =
+  reservations_are_swept more name log m known s old new at whole purposes of i u here said leads c c_is is_reserve reads comes terms mask t caller worked_is outcome =
       let to = went same hash name log m known s old new at whole purposes of i u here said leads in
       let is = still same hash name log m known s old new at whole purposes of i u here said leads c c_is in
       let is_for = subst (λ (x : Call K V). IsFor u x) is_reserve (purposes.is_for of i u here c c_is) in
-      swept_by same terms log e (name i) (v same hash name log m known s old new at whole purposes of i u here said leads c c_is)
+      swept_by same terms log t (name i) (v same hash name log m known s old new at whole purposes of i u here said leads c c_is)
       (then_call same hash name log m known s old new at whole purposes of i u here said leads c c_is) caller worked_is
       (then_is same hash name log m known s old new at whole purposes of i u here said leads c c_is) (call.Reserve more) (is.call ∙ is_reserve) (Answered Completed) outcome
       (room_found same hash name log m known s old new at whole purposes of i u here said leads c c_is terms mask more u here is_for reads to.3

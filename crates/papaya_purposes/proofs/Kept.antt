@@ -1,9 +1,8 @@
 -- After each step of a call the moment says what calls on whole maps have come to, and what they are for.
-use Rattle.std.specs.Prelude.{◌≡◌, ℕ, ◌≤◌, Bool, List, length, Option, Some, ◌⊎◌}
+use Rattle.std.specs.Prelude.{◌≡◌, ℕ, ◌≤◌, Bool, List, Option, Some, ◌⊎◌}
 use Rattle.std.proofs.Common.{ap, sym, subst, ◌∙◌, inl, inr}
 use Rattle.papaya_finds.specs.Given.Tables.declared.node.Node.{Node}
 use Rattle.papaya_finds.specs.Given.Raw.declared.machines.progress.Progress.{Progress}
-use Rattle.papaya_finds.specs.Given.Schedules.Entry.{Entry}
 use Rattle.papaya_finds.specs.Given.Schedules.Moment.{UnderWay as CallThere, Moment}
 use Rattle.papaya_finds.specs.Given.Schedules.Views.{call_of}
 use Rattle.papaya_finds.specs.Given.Callers.Together.{UnderWay}
@@ -13,15 +12,18 @@ use Rattle.papaya_finds.proofs.Given.Hands.Asking.{which}
 use Rattle.papaya_finds.specs.Given.Moments.Whole.{ShowsWhole}
 use Rattle.papaya_finds.specs.Given.Histories.Kept.{ChangesFirst}
 use Rattle.papaya_purposes.specs.Kept.{PairsChangeFirst, CallsKeepPurposes}
-use Rattle.papaya_purposes.specs.Purposes.{IsFor, HasCome, ShowsPurposes}
+use Rattle.papaya_purposes.specs.Purposes.{IsFor, HasCome, ShowsPurposes, NumbersLast}
 use Rattle.papaya_purposes.proofs.Steps.{went, on, v2, scene2, same_call, kept_come, own_come, own_for}
 use Rattle.papaya_purposes.proofs.Still.{for_still}
 use Rattle.papaya_finds.specs.Given.Scenes.Held.{Held, IsAt}
 use Rattle.papaya_finds.specs.Given.Scenes.Scene.{Scene}
 use Rattle.papaya_finds.specs.Given.Scenes.Stepping.{StepLeads}
-use Rattle.papaya_finds.specs.Given.Schedules.Transition.{past}
+use Rattle.papaya_finds.specs.Given.Schedules.Transition.{Past}
+use Rattle.papaya_purposes.proofs.Stored.{effects_stored, numbers_last}
+use Rattle.papaya_finds.specs.Given.Effects.Effects.{effects_of}
+use Rattle.papaya_finds.specs.Given.Effects.declared.acting.Acting.TheVariants as acts
 
-module _ {K V : Type 0} (same : K → K → Bool) (hash : ℕ → K → ℕ) (name : ℕ → List ℕ) (log : List (Entry K V)) (m : Moment K V) (known : Known) (s : Scene K V) (old new : Held K V)
+module _ {K V : Type 0} (same : K → K → Bool) (hash : ℕ → K → ℕ) (name : ℕ → List ℕ) (log : Past K V) (m : Moment K V) (known : Known) (s : Scene K V) (old new : Held K V)
     (at : IsAt same hash old s) (whole : ShowsWhole same name m known s) (purposes : ShowsPurposes same name log m known s) (of i : ℕ) (u : UnderWay K V K) (here : s.calls of i ≡ Some u)
     (said : Progress (Node K V)) (leads : StepLeads same hash i said s old new) where
   abbrev pub then_at : Scene K V
@@ -47,11 +49,14 @@ module _ {K V : Type 0} (same : K → K → Bool) (hash : ℕ → K → ℕ) (na
   was_there n j x (inl its) = (u, ap (λ (k : ℕ). s.calls k j) its.0 ∙ ap (s.calls of) its.1 ∙ here)
   was_there n j x (inr other) = (x, other.1)
 
-  pub begun_then : (n j : ℕ) (x : UnderWay K V K) (d : CallThere K V) → call_of (name j) v ≡ Some d → Which n j x → d.begun ≤ length log
+  pub lasts_then : NumbersLast log v
+  lasts_then = numbers_last log m v (effects_stored (Some (name i)) (Some of) (effects_of (acts.Call i of) known new.changed) m) purposes.lasts
+
+  pub begun_then : (n j : ℕ) (x : UnderWay K V K) (d : CallThere K V) → call_of (name j) v ≡ Some d → Which n j x → d.begun ≤ log.entries
   begun_then n j x d d_is w =
       let y = was_there n j x w in
       let c = purposes.shown.calls n j y.0 y.1 in
-      subst (λ (b : ℕ). b ≤ length log) (sym (same_call same hash name log m known s old new at whole purposes of i u here said leads j c.0 d c.1 d_is).begun) (purposes.begun n j y.0 y.1 c.0 c.1)
+      subst (λ (b : ℕ). b ≤ log.entries) (sym (same_call same hash name log m known s old new at whole purposes of i u here said leads j c.0 d c.1 d_is).begun) (purposes.begun n j y.0 y.1 c.0 c.1)
 
   pub for_then : (n j : ℕ) (x : UnderWay K V K) (d : CallThere K V) → call_of (name j) v ≡ Some d → Which n j x → IsFor x d.call
   for_then n j x d d_is (inl its) =
@@ -63,7 +68,7 @@ module _ {K V : Type 0} (same : K → K → Bool) (hash : ℕ → K → ℕ) (na
       let c = purposes.shown.calls n j x other.1 in
       for_still c.0 d (same_call same hash name log m known s old new at whole purposes of i u here said leads j c.0 d c.1 d_is) x (purposes.is_for n j x other.1 c.0 c.1)
 
-  module _ (changes : PairsChangeFirst log m of v) (class_first : ChangesFirst (past log) m same of v) where
+  module _ (changes : PairsChangeFirst log m of v) (class_first : ChangesFirst log m same of v) where
     pub other_come : (n j : ℕ) (x : UnderWay K V K) → s.calls n j ≡ Some x → (st : Standing K) → then_at.maps n ≡ Some st → (d : CallThere K V) → call_of (name j) v ≡ Some d
         → HasCome same n st (number2 n) log v x d
     other_come n j x is st there d d_is =
@@ -80,6 +85,8 @@ module _ {K V : Type 0} (same : K → K → Bool) (hash : ℕ → K → ℕ) (na
 pub calls_keep_purposes : (K V : Type 0) (same : K → K → Bool) (hash : ℕ → K → ℕ) → CallsKeepPurposes K V same hash
 calls_keep_purposes K V same hash name log m known s old new at whole purposes of i u here said leads changes class_first reads none =
     record {
+      past = purposes.past;
+      lasts = lasts_then same hash name log m known s old new at whole purposes of i u here said leads;
       shown = (on same hash name log m known s old new at whole purposes of i u here said leads).shows;
       begun = λ n j x is d d_is. begun_then same hash name log m known s old new at whole purposes of i u here said leads n j x d d_is
           (which_is same hash name log m known s old new at whole purposes of i u here said leads n j x is);

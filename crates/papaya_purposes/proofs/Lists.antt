@@ -59,9 +59,6 @@ maps_alike f g (x ∷ xs) all = cons_alike (f x) (g x) (map f xs) (map g xs) all
 is_other : (a b : ℕ) → a ≢ b → (a == b) ≡ false
 is_other a b ne = grind (arith, ne)
 
-is_it : (a b : ℕ) → (a == b) ≡ true → a ≡ b
-is_it a b e = grind (arith, e)
-
 is_self : (a : ℕ) → (a == a) ≡ true
 is_self a = grind arith
 

@@ -7,7 +7,6 @@ use Rattle.papaya_finds.specs.Given.Tables.declared.node.Node.{Node}
 use Rattle.papaya_finds.specs.Given.Sweeps.declared.sweep.Sweep.{Sweep}
 use Rattle.papaya_finds.specs.Given.Sweeps.declared.sweep.Swept.{Swept}
 use Rattle.papaya_finds.specs.Given.Raw.declared.machines.progress.Progress.{Progress}
-use Rattle.papaya_finds.specs.Given.Schedules.Entry.{Entry}
 use Rattle.papaya_finds.specs.Given.Schedules.Moment.{Moment}
 use Rattle.papaya_finds.specs.Given.Late.Covers.{NamesPair}
 use Rattle.papaya_finds.specs.Given.Callers.OverAll.{CallOverAll}
@@ -27,8 +26,9 @@ use Rattle.papaya_purposes.proofs.Steps.{went, on, known2}
 use Rattle.papaya_finds.specs.Given.Scenes.Held.{Held, IsAt}
 use Rattle.papaya_finds.specs.Given.Scenes.Scene.{Scene, slot_of}
 use Rattle.papaya_finds.specs.Given.Scenes.Stepping.{StepLeads}
+use Rattle.papaya_finds.specs.Given.Schedules.Transition.{Past}
 
-module _ {K V : Type 0} (same : K → K → Bool) (hash : ℕ → K → ℕ) (name : ℕ → List ℕ) (log : List (Entry K V)) (m : Moment K V) (known : Known) (s : Scene K V) (old new : Held K V)
+module _ {K V : Type 0} (same : K → K → Bool) (hash : ℕ → K → ℕ) (name : ℕ → List ℕ) (log : Past K V) (m : Moment K V) (known : Known) (s : Scene K V) (old new : Held K V)
     (at : IsAt same hash old s) (whole : ShowsWhole same name m known s) (purposes : ShowsPurposes same name log m known s) (of i : ℕ) (u : UnderWay K V K) (here : s.calls of i ≡ Some u)
     (said : Progress (Node K V)) (leads : StepLeads same hash i said s old new) where
   abbrev st : Standing K

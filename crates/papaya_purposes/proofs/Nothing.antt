@@ -5,13 +5,12 @@ use Rattle.papaya_finds.specs.Given.Schedules.declared.call.Call.{Call}
 use Rattle.papaya_finds.specs.Given.Schedules.declared.call.Call.TheVariants as call
 use Rattle.papaya_finds.specs.Given.Schedules.declared.outcome.Outcome.{Outcome}
 use Rattle.papaya_finds.specs.Given.Schedules.declared.outcome.Outcome.TheVariants as outcome
-use Rattle.papaya_finds.specs.Given.Schedules.After.{moment, moments_from}
-use Rattle.papaya_finds.specs.Given.Schedules.Effects.{worked}
-use Rattle.papaya_finds.specs.Given.Schedules.Entry.{IfCall, acting, caller_of}
+use Rattle.papaya_finds.specs.Given.Schedules.Entry.{IfCall, acting}
 use Rattle.papaya_finds.specs.Given.Schedules.Moment.{UnderWay as CallThere, Moment}
 use Rattle.papaya_finds.specs.Given.Schedules.Sweeps.{Sweeps}
 use Rattle.papaya_finds.specs.Given.Schedules.Terms.{Terms}
 use Rattle.papaya_purposes.specs.Swept.{SaysNothing, OtherOutcomesAreSwept, CallsOnKeysAreSwept, NoCallsAreSwept}
+use Rattle.papaya_finds.specs.Given.Schedules.Transition.{call_left, worked_by}
 
 module _ {K V : Type 0} (same : K → K → Bool) (terms : Terms) (c : CallThere K V) (moments : List (Moment K V)) (now : Moment K V) where
   by_walk : (o : Outcome V) → SaysNothing o → Sweeps same terms call.Walk c moments now o
@@ -52,18 +51,18 @@ module _ {K V : Type 0} (same : K → K → Bool) (terms : Terms) (c : CallThere
 
 module _ (K V : Type 0) (same : K → K → Bool) where
   pub other_outcomes_are_swept : OtherOutcomesAreSwept K V same
-  other_outcomes_are_swept terms log e says = by (acting (caller_of e.event) (worked e (moment log)))
+  other_outcomes_are_swept terms log t says = by (call_left t)
     where
-      by : (x : Option (CallThere K V)) → IfCall (λ c. Sweeps same terms c.call c (moments_from c.begun log) (worked e (moment log)) e.outcome) x
+      by : (x : Option (CallThere K V)) → IfCall (λ c. Sweeps same terms c.call c (log.since c.begun) (worked_by t) t.outcome) x
       by None = tt
-      by (Some c) = nothing_said same terms c (moments_from c.begun log) (worked e (moment log)) c.call e.outcome says
+      by (Some c) = nothing_said same terms c (log.since c.begun) (worked_by t) c.call t.outcome says
 
   pub calls_on_keys_are_swept : CallsOnKeysAreSwept K V same
-  calls_on_keys_are_swept terms log e c one is call_is =
-      subst (λ (x : Option (CallThere K V)). IfCall (λ c. Sweeps same terms c.call c (moments_from c.begun log) (worked e (moment log)) e.outcome) x) (sym is)
-      (subst (λ (x : Call K V). Sweeps same terms x c (moments_from c.begun log) (worked e (moment log)) e.outcome) (sym call_is) tt)
+  calls_on_keys_are_swept terms log t c one is call_is =
+      subst (λ (x : Option (CallThere K V)). IfCall (λ c. Sweeps same terms c.call c (log.since c.begun) (worked_by t) t.outcome) x) (sym is)
+      (subst (λ (x : Call K V). Sweeps same terms x c (log.since c.begun) (worked_by t) t.outcome) (sym call_is) tt)
 
   pub no_calls_are_swept : NoCallsAreSwept K V same
-  no_calls_are_swept terms log e none =
-      subst (λ (x : Option (CallThere K V)). IfCall (λ c. Sweeps same terms c.call c (moments_from c.begun log) (worked e (moment log)) e.outcome) x)
-      (sym (ap (λ (o : Option (List ℕ)). acting o (worked e (moment log))) none)) tt
+  no_calls_are_swept terms log t none =
+      subst (λ (x : Option (CallThere K V)). IfCall (λ c. Sweeps same terms c.call c (log.since c.begun) (worked_by t) t.outcome) x)
+      (sym (ap (λ (o : Option (List ℕ)). acting o (worked_by t)) none)) tt

@@ -1,5 +1,5 @@
 -- A step of a reservation that is under way, in the words of a run.
-use Rattle.std.specs.Prelude.{◌≡◌, ℕ, zero, suc, ◌+◌, ◌^◌, ◌<◌, ◌≤◌, nat_lt, Bool, false, List, length, Option, Some, None, Result, Ok, Err}
+use Rattle.std.specs.Prelude.{◌≡◌, ℕ, zero, suc, ◌+◌, ◌^◌, ◌<◌, ◌≤◌, nat_lt, Bool, false, List, Option, Some, None, Result, Ok, Err}
 use Rattle.std.proofs.Common.{refl, ap, sym, subst, ◌∙◌, arith}
 use Rattle.papaya_finds.specs.Given.SeizeWords.Mem.{Mem, Took, value_at, word_at}
 use Rattle.papaya_finds.specs.Given.SeizeWords.Plan.{Steps}
@@ -25,9 +25,7 @@ use Rattle.papaya_finds.specs.Given.Raw.declared.machines.machine.Machine.TheVar
 use Rattle.papaya_finds.specs.Given.Raw.declared.machines.progress.Answer.TheVariants as answers
 use Rattle.papaya_finds.specs.Given.Raw.declared.machines.progress.Progress.{Progress}
 use Rattle.papaya_finds.specs.Given.Raw.declared.machines.progress.Progress.TheVariants as progress
-use Rattle.papaya_finds.specs.Given.Schedules.After.{moment, moments_from}
 use Rattle.papaya_finds.specs.Given.Schedules.Counts.{AddsUp, Counts}
-use Rattle.papaya_finds.specs.Given.Schedules.Entry.{Entry}
 use Rattle.papaya_finds.specs.Given.Schedules.Lists.{OneOf}
 use Rattle.papaya_finds.specs.Given.Schedules.Moment.{UnderWay as CallThere, Moment}
 use Rattle.papaya_finds.specs.Given.Schedules.Sweeps.{Fits}
@@ -42,7 +40,7 @@ use Rattle.papaya_finds.specs.Given.Finishes.Maps.{Standing}
 use Rattle.papaya_finds.specs.Given.Late.ToldReserves.{IsRowOfReserve}
 use Rattle.papaya_finds.specs.Given.Teller.declared.changed.Changed.TheVariants.{Nothing}
 use Rattle.papaya_finds.proofs.Given.Others.Outcomes.{told_in}
-use Rattle.papaya_finds.proofs.Given.Histories.Logs.{last_there}
+use Rattle.papaya_finds.proofs.Given.Histories.Logs.{now_there}
 use Rattle.papaya_finds.specs.Reserving.{ReservesAt, SumTells}
 use Rattle.papaya_finds.proofs.Reserving.{rooms_keep_count}
 use Rattle.papaya_purposes.specs.Needs.{NeedsAt}
@@ -56,15 +54,17 @@ use Rattle.papaya_finds.proofs.Given.Scenes.Told.{as_step}
 use Rattle.papaya_finds.specs.Given.Scenes.Held.{Held, IsAt}
 use Rattle.papaya_finds.specs.Given.Scenes.Scene.{Scene, slot_of}
 use Rattle.papaya_finds.specs.Given.Scenes.Stepping.{StepsFrom}
+use Rattle.papaya_finds.specs.Given.Histories.Histories.{IsPast}
+use Rattle.papaya_finds.specs.Given.Schedules.Transition.{Past}
 
 -- a table that is not too short, for a length that can be had
 fits_so : (o : Result ℕ Fault) (len : ℕ) → nat_lt (2 ^ 48) (or_too_long o) ≡ false → nat_lt len (or_too_long o) ≡ false → Fits o len
 fits_so (Ok need) len many short = grind (arith, short)
 fits_so (Err fault) len many short = absurd (grind (arith, many))
 
-module _ {K V : Type 0} (same : K → K → Bool) (hash : ℕ → K → ℕ) (log : List (Entry K V)) (m : Moment K V) (s : Scene K V) (old new : Held K V) (at : IsAt same hash old s)
-    (of i : ℕ) (r : CallForRoom) (here : s.calls of i ≡ Some (ForRoom r)) (st : Standing K) (there : s.maps of ≡ Some st) (c : CallThere K V) (before : c.begun ≤ length log)
-    (shards : ReadsShards log m s of (ForRoom r)) (has : HasMet of st (moments_from c.begun log) r)
+module _ {K V : Type 0} (same : K → K → Bool) (hash : ℕ → K → ℕ) (log : Past K V) (is_past : IsPast log) (m : Moment K V) (s : Scene K V) (old new : Held K V) (at : IsAt same hash old s)
+    (of i : ℕ) (r : CallForRoom) (here : s.calls of i ≡ Some (ForRoom r)) (st : Standing K) (there : s.maps of ≡ Some st) (c : CallThere K V) (before : c.begun ≤ log.entries)
+    (shards : ReadsShards log m s of (ForRoom r)) (has : HasMet of st (log.since c.begun) r)
     (machine : Machine K V K) (said : Progress (Node K V)) (steps : StepsFrom same st.hash (kinds.Reserve r.reserve) old new machine said) where
   abbrev mem : Mem (Node K V)
   mem = s.world.memory
@@ -73,7 +73,7 @@ module _ {K V : Type 0} (same : K → K → Bool) (hash : ℕ → K → ℕ) (lo
   p = r.reserve
 
   abbrev moments : List (Moment K V)
-  moments = moments_from c.begun log
+  moments = log.since c.begun
 
   each : Together V same st.hash same st.setting slot_of s.world st.chart st.blocks st.sights (s.calls of)
   each = at.together.makings.standing.each of st there
@@ -104,7 +104,7 @@ module _ {K V : Type 0} (same : K → K → Bool) (hash : ℕ → K → ℕ) (lo
     pub few : CountsShards sum.setting sum.stands
     few = subst (λ (x : Setting). CountsShards x sum.stands) (sym known.0.0) known.0.1
 
-    pub reads : (shard : ℕ) → shard ≤ sum.setting.mask → word_at mem (Word sum.setting.counter shard) ≡ Some ((moment log).shards of shard)
+    pub reads : (shard : ℕ) → shard ≤ sum.setting.mask → word_at mem (Word sum.setting.counter shard) ≡ Some (log.now.shards of shard)
     reads shard l =
         ap (λ (x : Setting). word_at mem (Word x.counter shard)) known.0.0
         ∙ (shards tt).0 of st there shard (subst (λ (x : Setting). shard ≤ x.mask) known.0.0 l) ∙ ap Some ((shards tt).1.0 shard)
@@ -122,8 +122,8 @@ module _ {K V : Type 0} (same : K → K → Bool) (hash : ℕ → K → ℕ) (lo
       subst (Fits (len_of (count + p.additional))) (ap (λ (x : Table). x.len) known.2.is) (fits_so (len_of (count + p.additional)) table.len many short),
     )
 
-  last : (P : Moment K V → Type 0) → P (moment log) → OneOf P moments
-  last P it = last_there P c.begun log before it
+  last : (P : Moment K V → Type 0) → P log.now → OneOf P moments
+  last P it = now_there log is_past P c.begun before it
 
   -- what it knows outside of rows
   knows_at : (x : Reserving) → (IsRowOfReserve x → ⊥) → p.stands ≡ x → Knows p.stands
@@ -136,7 +136,7 @@ module _ {K V : Type 0} (same : K → K → Bool) (hash : ℕ → K → ℕ) (lo
   counts_then table sum sum2 count is mem2 step =
       let here = knows_at (reserving.Sums table sum) (λ row. row) is in
       subst (λ (x : Setting). Counts (suc x.mask) of moments count) ((known table sum is here).0.0 ∙ sym setting_is)
-      (counting_on of moments mem sum (moment log) last (reads table sum is here) (few table sum is here) (subst (RoomAt of moments has.low) is has.point).1 mem2 (sum2, counting.Done count) step)
+      (counting_on of moments mem sum log.now last (reads table sum is here) (few table sum is here) (subst (RoomAt of moments has.low) is has.point).1 mem2 (sum2, counting.Done count) step)
 
   -- and so has one that is
   tells : SumTells of moments p old.memory new.memory new.changed
@@ -171,11 +171,11 @@ module _ {K V : Type 0} (same : K → K → Bool) (hash : ℕ → K → ℕ) (lo
     where
       by : (x : Reserving) → p.stands ≡ x → RoomAt of moments has.low x → Step x end → Led of moments has.low EndsSo end
       by reserving.Reads is h step =
-          reads_lead of moments has.low EndsSo same st.hash st.setting s.world st.chart st.blocks its_map has.root (moment log) last p (ap (λ (x : Setting). x.root) setting_is)
+          reads_lead of moments has.low EndsSo same st.hash st.setting s.world st.chart st.blocks its_map has.root log.now last p (ap (λ (x : Setting). x.root) setting_is)
           counted_none new.memory end step
       by (reserving.Makes making) is h step = makes_lead of moments has.low EndsSo st.hash p making h mem new.memory end step
       by (reserving.Sums table sum) is h step =
-          sums_lead of moments has.low EndsSo same st.hash st.setting s.world st.chart st.blocks its_map has.root (moment log) last p (ap (λ (x : Setting). x.root) setting_is) table sum h.0
+          sums_lead of moments has.low EndsSo same st.hash st.setting s.world st.chart st.blocks its_map has.root log.now last p (ap (λ (x : Setting). x.root) setting_is) table sum h.0
           (reads table sum is (knows_at (reserving.Sums table sum) (λ row. row) is)) (few table sum is (knows_at (reserving.Sums table sum) (λ row. row) is)) h.1
           (ends table sum is (knows_at (reserving.Sums table sum) (λ row. row) is) h.0) new.memory end step
       by (reserving.Follows table need) is h step =

@@ -4,7 +4,6 @@ use Rattle.std.proofs.Common.{ap, sym, subst, ◌∙◌, arith, inl, inr}
 use Rattle.papaya_finds.specs.Given.Tables.Chunks.{is_incremental}
 use Rattle.papaya_finds.specs.Given.Sweeps.declared.sweep.Purpose.TheVariants.{Walks}
 use Rattle.papaya_finds.specs.Given.Runs.Same.{is_same}
-use Rattle.papaya_finds.specs.Given.Schedules.Entry.{Entry}
 use Rattle.papaya_finds.specs.Given.Schedules.Moment.{MapThere, UnderWay as CallThere, Moment}
 use Rattle.papaya_finds.specs.Given.Schedules.Views.{call_of, is_in_map, finite_map}
 use Rattle.papaya_finds.specs.Given.Rule.Chart.{Chart}
@@ -13,20 +12,15 @@ use Rattle.papaya_finds.specs.Given.Callers.Together.{UnderWay, OverAll}
 use Rattle.papaya_finds.specs.Given.Effects.Known.{Known}
 use Rattle.papaya_finds.specs.Given.Finishes.Maps.{Standing}
 use Rattle.papaya_finds.specs.Given.Others.After.{ShowsAfter}
-use Rattle.papaya_finds.proofs.Given.Others.RowBegins.{rows_begin_shown}
-use Rattle.papaya_finds.proofs.Given.Others.Rows.{rows_on_slots_are_shown}
 use Rattle.papaya_finds.proofs.Given.Moments.Beside.{IsBeside, StoodSo, StandsNew}
-use Rattle.papaya_finds.proofs.Given.Moments.OnSlots.{row_beside, rows_begin_beside}
 use Rattle.papaya_finds.proofs.Given.Follows.Steps.{one_of}
 use Rattle.papaya_finds.specs.Given.Histories.Had.{HadThen}
 use Rattle.papaya_finds.specs.Given.Histories.Histories.{since, IsWithin}
 use Rattle.papaya_finds.proofs.Given.Histories.Had.{had_on, had_one}
 use Rattle.papaya_finds.proofs.Given.Histories.Now.{now_had}
-use Rattle.papaya_finds.proofs.Given.Histories.Logs.{past_is}
 use Rattle.papaya_finds.proofs.Given.Histories.Within.{within_on}
 use Rattle.papaya_finds.proofs.Given.Histories.Later.{IsLater, same_later}
 use Rattle.papaya_purposes.specs.Purposes.{KeysOf, HasSwept, HasCome, ShowsPurposes}
-use Rattle.papaya_purposes.specs.Rows.{RowsBeginPurposes, RowsKeepPurposes}
 use Rattle.papaya_purposes.proofs.Alike.{alike}
 use Rattle.papaya_purposes.proofs.KeysCarried.{StandsMoved, keys_kept}
 use Rattle.papaya_purposes.proofs.Over.{come_over}
@@ -34,9 +28,11 @@ use Rattle.papaya_purposes.proofs.Present.{now_stored, now_there, absent}
 use Rattle.papaya_purposes.proofs.Shown.{same_still}
 use Rattle.papaya_finds.specs.Given.Scenes.Held.{Held, IsAt}
 use Rattle.papaya_finds.specs.Given.Scenes.Scene.{Scene, slot_of}
-use Rattle.papaya_finds.specs.Given.Schedules.Transition.{past}
+use Rattle.papaya_finds.specs.Given.Schedules.Transition.{Past}
+use Rattle.papaya_finds.proofs.Given.Follows.Contents.{lasts_same}
+use Rattle.papaya_purposes.proofs.Stored.{numbers_last}
 
-module _ {K V : Type 0} (same : K → K → Bool) (hash : ℕ → K → ℕ) (name : ℕ → List ℕ) (log : List (Entry K V)) (m m2 : Moment K V) (known known2 : Known) (s s2 : Scene K V) (old new : Held K V)
+module _ {K V : Type 0} (same : K → K → Bool) (hash : ℕ → K → ℕ) (name : ℕ → List ℕ) (log : Past K V) (m m2 : Moment K V) (known known2 : Known) (s s2 : Scene K V) (old new : Held K V)
     (at : IsAt same hash old s) (at2 : IsAt same hash new s2) (purposes : ShowsPurposes same name log m known s) (after : ShowsAfter same name m known s purposes.shown m2 known2 s2)
     (beside : IsBeside m m2 known known2 s s2) where
   was_here : (n j : ℕ) (x : UnderWay K V K) → s2.calls n j ≡ Some x → s.calls n j ≡ Some x
@@ -67,7 +63,7 @@ module _ {K V : Type 0} (same : K → K → Bool) (hash : ℕ → K → ℕ) (na
 
     stood_come : HasCome same n st (after.shows.number n) log m2 x c
     stood_come =
-        come_over same n before st (purposes.shown.number n) (after.shows.number n) later first numbers log m m2 c c (same_still c) (purposes.begun n j x (was_here n j x is) c (was_called j c found))
+        come_over same n before st (purposes.shown.number n) (after.shows.number n) later first numbers log purposes.past m m2 c c (same_still c) (purposes.begun n j x (was_here n j x is) c (was_called j c found))
         (λ q. inl (same_pairs q)) (now_stored same hash name m2 known2 s2 new at2 after.shows n st there) (now_there same hash name m2 known2 s2 new at2 after.shows n st there)
         (absent same hash name m known s old at purposes.shown n before stood.1 (after.shows.number n) st.chart.stored (after.shows.maps n st there).pairs.rising numbers) x keys classes
         (purposes.come n j x (was_here n j x is) before stood.1 c (was_called j c found))
@@ -96,18 +92,20 @@ module _ {K V : Type 0} (same : K → K → Bool) (hash : ℕ → K → ℕ) (na
             (now_had same n (purposes.shown.number n) before m known s.world (s.calls n) (at.together.makings.standing.fit n before stood.1).0 (at.together.makings.standing.each n before stood.1)
             (purposes.shown.maps n before stood.1).pairs purposes.shown.blocks k)))
 
-        classes : (began : ℕ) → IsWithin same n before (purposes.shown.number n) (since (past log) m c) began → IsWithin same n st (after.shows.number n) (since (past log) m2 c) began
+        classes : (began : ℕ) → IsWithin same n before (purposes.shown.number n) (since log m c) began → IsWithin same n st (after.shows.number n) (since log m2 c) began
         classes began =
-            within_on same n before st (purposes.shown.number n) (after.shows.number n) later numbers (past log) (past_is log) m m2 c.begun (purposes.begun n j x (was_here n j x is) c (was_called j c found))
+            within_on same n before st (purposes.shown.number n) (after.shows.number n) later numbers log purposes.past m m2 c.begun (purposes.begun n j x (was_here n j x is) c (was_called j c found))
             (λ k. inl (same_then k)) now_then began
 
-        keys : (o : CallOverAll) → x ≡ OverAll o → HasSwept same n before (purposes.shown.number n) (since (past log) m c) o c → o.sweep.purpose ≡ Walks → KeysOf same st o
+        keys : (o : CallOverAll) → x ≡ OverAll o → HasSwept same n before (purposes.shown.number n) (since log m c) o c → o.sweep.purpose ≡ Walks → KeysOf same st o
         keys o o_is h walks =
             keys_kept same 0 before st how (at.together.makings.standing.fit n before stood.1).0 (at.together.makings.standing.fit n before stood.1).1 slot_of s.world (s.calls n)
             (at.together.makings.standing.each n before stood.1) j o (was_here n j x is ∙ ap Some o_is) h.within.stored h.stored (h.keys walks)
 
   pub beside_purposes : ShowsPurposes same name log m2 known2 s2
   beside_purposes = record {
+    past = purposes.past;
+    lasts = numbers_last log m m2 (lasts_same m.stored m2.stored beside.stored) purposes.lasts;
     shown = after.shows;
     begun = λ n j x is c found. purposes.begun n j x (was_here n j x is) c (was_called j c found);
     is_for = λ n j x is c found. purposes.is_for n j x (was_here n j x is) c (was_called j c found);
@@ -119,16 +117,3 @@ module _ {K V : Type 0} (same : K → K → Bool) (hash : ℕ → K → ℕ) (na
           → StoodSo known known2 s s2 n st ⊎ StandsNew known known2 s s2 n → HasCome same n st (after.shows.number n) log m2 x c
       come_so n j x is st there c found (inl stood) = stood_come n j x is st there c found stood
       come_so n j x is st there c found (inr new_map) = absurd (let none = new_map.0 j in cc (none, is))
-
-module _ (K V : Type 0) (same : K → K → Bool) (hash : ℕ → K → ℕ) where
-  pub rows_begin_purposes : RowsBeginPurposes K V same hash
-  rows_begin_purposes name log m known s old new at purposes called i leads =
-      let to = leads.2 in
-      beside_purposes same hash name log m m known known s _ old new at to.4 purposes (rows_begin_shown K V same hash name m known s old new at purposes.shown called i leads)
-      (rows_begin_beside K V same hash m known s old new called i leads)
-
-  pub rows_keep_purposes : RowsKeepPurposes K V same hash
-  rows_keep_purposes name log m known s old new at purposes i told leads row here retired =
-      let to = leads row here in
-      beside_purposes same hash name log m _ known _ s _ old new at to.2.4 purposes (rows_on_slots_are_shown K V same hash name m known s old new at purposes.shown i told leads row here retired)
-      (row_beside same hash m known s old new at i row here (to.0, told) to.1 to.2)

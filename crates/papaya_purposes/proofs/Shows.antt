@@ -1,5 +1,5 @@
 -- A walk shows pairs that were in the map at a moment of it, and none twice.
-use Rattle.std.specs.Prelude.{◌≡◌, ℕ, ◌<◌, ◌≤◌, Bool, true, false, cond, eqb, List, ◌∷◌, length, map, Option, Some}
+use Rattle.std.specs.Prelude.{◌≡◌, ℕ, ◌<◌, ◌≤◌, Bool, true, false, cond, eqb, List, ◌∷◌, map, Option, Some}
 use Rattle.std.proofs.Common.{refl, ap, sym, subst, ◌∙◌, arith, inl, inr}
 use Rattle.std.proofs.lemmas.Bool.{eq-eqb}
 use Rattle.papaya_finds.specs.Given.Seize.World.{World, with_at}
@@ -14,8 +14,6 @@ use Rattle.papaya_finds.specs.Given.Raw.declared.machines.progress.Progress.TheV
 use Rattle.papaya_finds.specs.Given.Schedules.declared.call.Call.{Call}
 use Rattle.papaya_finds.specs.Given.Schedules.declared.call.Call.TheVariants as call
 use Rattle.papaya_finds.specs.Given.Schedules.declared.outcome.Outcome.TheVariants.{Shows as ShowsOne}
-use Rattle.papaya_finds.specs.Given.Schedules.After.{moment, moments_from}
-use Rattle.papaya_finds.specs.Given.Schedules.Entry.{Entry}
 use Rattle.papaya_finds.specs.Given.Schedules.Lists.{OneOf, is_among}
 use Rattle.papaya_finds.specs.Given.Schedules.Moment.{UnderWay as CallThere, Moment}
 use Rattle.papaya_finds.specs.Given.Schedules.Sweeps.{MayShow}
@@ -33,7 +31,7 @@ use Rattle.papaya_finds.specs.Given.Finishes.Maps.{Standing}
 use Rattle.papaya_finds.specs.Given.Finishes.Sweeps.{SweepStepsAmong}
 use Rattle.papaya_finds.specs.Given.Histories.Answers.{NamesPair}
 use Rattle.papaya_finds.specs.Given.Histories.Histories.{since}
-use Rattle.papaya_finds.proofs.Given.Histories.Logs.{each_of, last_there}
+use Rattle.papaya_finds.proofs.Given.Histories.Logs.{each_of, now_there}
 use Rattle.papaya_finds.specs.Given.Moments.Whole.{ShowsWhole}
 use Rattle.papaya_purposes.specs.Kept.{NoneCame, PairsChangeFirst}
 use Rattle.papaya_purposes.specs.Purposes.{IsFor, PairsWithin, TellsDone, HasSwept, ShowsPurposes}
@@ -49,7 +47,7 @@ use Rattle.papaya_purposes.proofs.Walks.{adds_one}
 use Rattle.papaya_finds.specs.Given.Scenes.Held.{Held, IsAt}
 use Rattle.papaya_finds.specs.Given.Scenes.Scene.{Scene, slot_of}
 use Rattle.papaya_finds.specs.Given.Scenes.Stepping.{StepLeads}
-use Rattle.papaya_finds.specs.Given.Schedules.Transition.{past}
+use Rattle.papaya_finds.specs.Given.Schedules.Transition.{Past}
 
 -- a sweep that is ready has shown each pair that it has done once
 module _ {K : Type 0} (hash : K → ℕ) (c : Chart K) (blocks : Blocks) (p : Sweep) (entered : ℕ) (done : List ℕ) where
@@ -62,7 +60,7 @@ module _ {K : Type 0} (V : Type 0) (same : K → K → Bool) (st : Standing K) (
   stands_shown {w} {seen} (inl k) = ready_shown st.hash st.chart seen o.sweep o.entered o.done (subst (CoversAt st.hash st.chart seen o.sweep o.entered o.done) ready k.1.covers)
   stands_shown {w} {seen} (inr k) = absurd (subst IsRowOfSweep ready k.1)
 
-module _ {K V : Type 0} (same : K → K → Bool) (hash : ℕ → K → ℕ) (name : ℕ → List ℕ) (log : List (Entry K V)) (m : Moment K V) (known : Known) (s : Scene K V) (old new : Held K V)
+module _ {K V : Type 0} (same : K → K → Bool) (hash : ℕ → K → ℕ) (name : ℕ → List ℕ) (log : Past K V) (m : Moment K V) (known : Known) (s : Scene K V) (old new : Held K V)
     (at : IsAt same hash old s) (whole : ShowsWhole same name m known s) (purposes : ShowsPurposes same name log m known s) (of i : ℕ) (u : UnderWay K V K) (here : s.calls of i ≡ Some u)
     (word : ℕ) (leads : StepLeads same hash i (progress.Pair word) s old new) (c : CallThere K V) (c_is : call_of (name i) m ≡ Some c)
     (changes : PairsChangeFirst log m of (v2 same hash name log m known s old new at whole purposes of i u here (progress.Pair word) leads))
@@ -138,13 +136,13 @@ module _ {K V : Type 0} (same : K → K → Bool) (hash : ℕ → K → ℕ) (na
     q_is : q ≡ number2 p
     q_is = number_told same hash name log m known s old new at whole purposes of i u here (progress.Pair word) leads o p2 end step moved word p q one.1.1 names
 
-    within : PairsWithin of st2 number2 (since (past log) v d) o.began
+    within : PairsWithin of st2 number2 (since log v d) o.began
     within = own_within same hash name log m known s old new at whole purposes of i u here (progress.Pair word) leads changes o o_is st2 there2 c d c_is d_is
 
     abbrev There : Moment K V → Type 0
     There x = is_in_map d.map (x.place q) ≡ true
 
-    was_there : OneOf There (moments_from d.begun log)
+    was_there : OneOf There (log.since d.begun)
     was_there = by was.3 (within.within was.0 p (let f = step.step.from in let a = was.1 in omega (arith, f, a)) was.2 one.1.1.0)
       where
         was : (time : ℕ) × (step.step.entered2 ≤ time) × (time ≤ st2.chart.now) × (st2.chart.was time p ≡ true)
@@ -153,17 +151,17 @@ module _ {K V : Type 0} (same : K → K → Bool) (hash : ℕ → K → ℕ) (na
         so : (x : Moment K V) → is_in_map of (x.place (number2 p)) ≡ true → There x
         so x h = ap (λ (z : ℕ). is_in_map z (x.place q)) d_map ∙ ap (λ (z : ℕ). is_in_map of (x.place z)) q_is ∙ h
 
-        begun : d.begun ≤ length log
-        begun = subst (λ (z : ℕ). z ≤ length log) (sym (still same hash name log m known s old new at whole purposes of i u here (progress.Pair word) leads c c_is).begun)
+        begun : d.begun ≤ log.entries
+        begun = subst (λ (z : ℕ). z ≤ log.entries) (sym (still same hash name log m known s old new at whole purposes of i u here (progress.Pair word) leads c c_is).begun)
             (purposes.begun of i (OverAll o) o_is c c_is)
 
-        by : st2.chart.was was.0 p ≡ true → OneOf (λ (x : Moment K V). is_in_map of (x.place (number2 p)) ≡ st2.chart.was was.0 p) (v ∷ moments_from d.begun log) → OneOf There (moments_from d.begun log)
-        by w (inl now) = last_there There d.begun log begun (so (moment log) (came (number2 p) (now ∙ w)))
+        by : st2.chart.was was.0 p ≡ true → OneOf (λ (x : Moment K V). is_in_map of (x.place (number2 p)) ≡ st2.chart.was was.0 p) (v ∷ log.since d.begun) → OneOf There (log.since d.begun)
+        by w (inl now) = now_there log purposes.past There d.begun begun (so log.now (came (number2 p) (now ∙ w)))
         by w (inr before) =
-            each_of (λ (x : Moment K V). is_in_map of (x.place (number2 p)) ≡ st2.chart.was was.0 p) There (moments_from d.begun log) (λ x h. so x (h ∙ w)) before
+            each_of (λ (x : Moment K V). is_in_map of (x.place (number2 p)) ≡ st2.chart.was was.0 p) There (log.since d.begun) (λ x h. so x (h ∙ w)) before
 
     abbrev before : HasSwept same of (its_before same hash name log m known s old new at whole purposes of i u here (progress.Pair word) leads changes o o_is st2 there2 c d c_is d_is)
-        (purposes.shown.number of) (since (past log) m c) o c
+        (purposes.shown.number of) (since log m c) o c
     before = had same hash name log m known s old new at whole purposes of i u here (progress.Pair word) leads changes o o_is st2 there2 c d c_is d_is
 
     not_shown : is_among q d.shown ≡ false
@@ -179,11 +177,11 @@ module _ {K V : Type 0} (same : K → K → Bool) (hash : ℕ → K → ℕ) (na
         (all_on (λ n. n < b.0.chart.stored) (λ n. number2 n ≡ number2 p → n ≡ p)
         (λ n l. numbers_apart number2 st2.chart.stored pairs.rising n p (let g = b.2.stored in omega (arith, l, g)) one.1.1.0) o.done before.stored) fresh
 
-    pub may_show : MayShow d (moments_from d.begun log) q
+    pub may_show : MayShow d (log.since d.begun) q
     may_show = (was_there, not_shown)
 
   pub walk_shows : c.call ≡ call.Walk → (y : UnderWay K V K) → s.calls of i ≡ Some y → IsFor y call.Walk
-      → Did same hash name log m known s old new at whole purposes of i u here (progress.Pair word) leads y → MayShow d (moments_from d.begun log) q
+      → Did same hash name log m known s old new at whole purposes of i u here (progress.Pair word) leads y → MayShow d (log.since d.begun) q
   walk_shows is_walk (OnKey z) y_is is did = absurd is
   walk_shows is_walk (ForRoom r) y_is is did = absurd is
   walk_shows is_walk (Counting sum) y_is is did = absurd is
@@ -199,13 +197,13 @@ none_answered K V known n answers.Swept comes = comes
 none_answered K V known n (answers.Count count) comes = comes
 
 pub walks_show : (K V : Type 0) (same : K → K → Bool) (hash : ℕ → K → ℕ) → WalksShow K V same hash
-walks_show K V same hash n name log m known s old new at whole purposes of i u here (progress.Pair word) leads c c_is is_walk asks names terms mask e caller worked_is outcome =
+walks_show K V same hash n name log m known s old new at whole purposes of i u here (progress.Pair word) leads c c_is is_walk asks names terms mask t caller worked_is outcome =
     let stays = still same hash name log m known s old new at whole purposes of i u here (progress.Pair word) leads c c_is in
-    swept_by same terms log e (name i) (v2 same hash name log m known s old new at whole purposes of i u here (progress.Pair word) leads)
+    swept_by same terms log t (name i) (v2 same hash name log m known s old new at whole purposes of i u here (progress.Pair word) leads)
     (then_call same hash name log m known s old new at whole purposes of i u here (progress.Pair word) leads c c_is) caller worked_is
     (then_is same hash name log m known s old new at whole purposes of i u here (progress.Pair word) leads c c_is) call.Walk (stays.call ∙ is_walk) (ShowsOne n) outcome
     (walk_shows same hash name log m known s old new at whole purposes of i u here word leads c c_is asks.0 asks.1 n names is_walk u here
     (subst (λ (x : Call K V). IsFor u x) is_walk (purposes.is_for of i u here c c_is)) (went same hash name log m known s old new at whole purposes of i u here (progress.Pair word) leads).4.did)
-walks_show K V same hash n name log m known s old new at whole purposes of i u here (progress.Done answer) leads c c_is is_walk asks comes terms mask e caller worked_is outcome =
+walks_show K V same hash n name log m known s old new at whole purposes of i u here (progress.Done answer) leads c c_is is_walk asks comes terms mask t caller worked_is outcome =
     absurd (none_answered K V (known2 same hash name log m known s old new at whole purposes of i u here (progress.Done answer) leads) n answer comes)
-walks_show K V same hash n name log m known s old new at whole purposes of i u here _ leads c c_is is_walk asks comes terms mask e caller worked_is outcome = absurd comes
+walks_show K V same hash n name log m known s old new at whole purposes of i u here _ leads c c_is is_walk asks comes terms mask t caller worked_is outcome = absurd comes

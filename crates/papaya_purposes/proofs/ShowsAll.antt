@@ -18,9 +18,6 @@ use Rattle.papaya_finds.specs.Given.Schedules.declared.call.Answer.TheVariants.{
 use Rattle.papaya_finds.specs.Given.Schedules.declared.call.Call.{Call}
 use Rattle.papaya_finds.specs.Given.Schedules.declared.call.Call.TheVariants as call
 use Rattle.papaya_finds.specs.Given.Schedules.declared.outcome.Outcome.TheVariants.{Answered}
-use Rattle.papaya_finds.specs.Given.Schedules.After.{moment, moments_from}
-use Rattle.papaya_finds.specs.Given.Schedules.Effects.{worked}
-use Rattle.papaya_finds.specs.Given.Schedules.Entry.{Entry}
 use Rattle.papaya_finds.specs.Given.Schedules.Lists.{OneOf}
 use Rattle.papaya_finds.specs.Given.Schedules.Moment.{UnderWay as CallThere, Moment}
 use Rattle.papaya_finds.specs.Given.Schedules.Sweeps.{with_key, HasBeen, ShowsAll}
@@ -41,7 +38,7 @@ use Rattle.papaya_finds.proofs.Given.Follows.Contents.{Lasts}
 use Rattle.papaya_finds.specs.Given.Histories.Had.{Had, HadJust, HadThen}
 use Rattle.papaya_finds.specs.Given.Histories.Histories.{since}
 use Rattle.papaya_finds.proofs.Given.Histories.Found.{FoundIn, found}
-use Rattle.papaya_finds.proofs.Given.Histories.Logs.{last_there}
+use Rattle.papaya_finds.proofs.Given.Histories.Logs.{now_there}
 use Rattle.papaya_finds.proofs.Given.Histories.Now.{both_true}
 use Rattle.papaya_finds.specs.Given.Moments.Whole.{ShowsWhole}
 use Rattle.papaya_purposes.specs.Keys.{HasClass, HadAlways, of_class, KeysCame, KeysAt}
@@ -51,12 +48,12 @@ use Rattle.papaya_purposes.proofs.KeysCarried.{row_over, done_was}
 use Rattle.papaya_purposes.proofs.KeysMoved.{are, each, took, said_is, sweep_is, none_shown}
 use Rattle.papaya_purposes.proofs.Lists.{all_among, each_among, one_with}
 use Rattle.papaya_purposes.proofs.Steps.{went, v2, Did}
-use Rattle.papaya_purposes.proofs.Stored.{effects_stored, worked_stored, all_stored}
+use Rattle.papaya_purposes.proofs.Stored.{effects_stored}
 use Rattle.papaya_purposes.proofs.Swept.{then_call, then_is, still, on_map, swept_by, done_swept}
 use Rattle.papaya_finds.specs.Given.Scenes.Held.{Held, IsAt}
 use Rattle.papaya_finds.specs.Given.Scenes.Scene.{Scene, slot_of}
 use Rattle.papaya_finds.specs.Given.Scenes.Stepping.{StepLeads, StepsFrom}
-use Rattle.papaya_finds.specs.Given.Schedules.Transition.{past}
+use Rattle.papaya_finds.specs.Given.Schedules.Transition.{Past}
 
 -- the pair of a number has such a key
 key_some : {K V : Type 0} (same : K → K → Bool) (k : K) (o : Option (K × V)) → is_key same o k ≡ true → (p : K × V) × (o ≡ Some p) × (same p.0 k ≡ true)
@@ -103,7 +100,7 @@ module _ {K V : Type 0} (same : K → K → Bool) (of : ℕ) (st : Standing K) (
           let key = key_some same k (pair_at x.stored q) (both_true (is_in_map of (x.place q)) (is_key same (pair_at x.stored q) k) its.2).1 in
           (key.0, ap (pair_at x.stored) number_is ∙ key.1, key.2)
 
-module _ {K V : Type 0} (same : K → K → Bool) (hash : ℕ → K → ℕ) (name : ℕ → List ℕ) (log : List (Entry K V)) (m : Moment K V) (known : Known) (s : Scene K V) (old new : Held K V)
+module _ {K V : Type 0} (same : K → K → Bool) (hash : ℕ → K → ℕ) (name : ℕ → List ℕ) (log : Past K V) (m : Moment K V) (known : Known) (s : Scene K V) (old new : Held K V)
     (at : IsAt same hash old s) (whole : ShowsWhole same name m known s) (purposes : ShowsPurposes same name log m known s) (of i : ℕ) (u : UnderWay K V K) (here : s.calls of i ≡ Some u)
     (leads : StepLeads same hash i (progress.Done answers.Swept) s old new) (c : CallThere K V) (c_is : call_of (name i) m ≡ Some c) (is_walk : c.call ≡ call.Walk)
     (loses : LosesNone same log m of) where
@@ -120,15 +117,15 @@ module _ {K V : Type 0} (same : K → K → Bool) (hash : ℕ → K → ℕ) (na
   number = purposes.shown.number of
 
   abbrev moments : List (Moment K V)
-  moments = moments_from c.begun log
+  moments = log.since c.begun
 
   module _ (o : CallOverAll) (o_is : s.calls of i ≡ Some (OverAll o)) (walks : o.sweep.purpose ≡ Walks)
       (steps : StepsFrom same (went same hash name log m known s old new at whole purposes of i u here said leads).0.hash (machine_of (OverAll o)) old new (went same hash name log m known s old new at whole purposes of i u here said leads).1 said)
-      (did : Did same hash name log m known s old new at whole purposes of i u here said leads (OverAll o)) (worked_is : (e : Entry K V) × (worked e (moment log) ≡ v)) where
-    its : HasSwept same of st number (since (past log) m c) o c
+      (did : Did same hash name log m known s old new at whole purposes of i u here said leads (OverAll o)) where
+    its : HasSwept same of st number (since log m c) o c
     its = purposes.come of i (OverAll o) o_is st (went same hash name log m known s old new at whole purposes of i u here said leads).2 c c_is
 
-    begun : c.begun ≤ length log
+    begun : c.begun ≤ log.entries
     begun = purposes.begun of i (OverAll o) o_is c c_is
 
     abbrev Of : K → ℕ → Bool
@@ -166,9 +163,9 @@ module _ {K V : Type 0} (same : K → K → Bool) (hash : ℕ → K → ℕ) (na
     had_always : (k : K) → HasBeen same k of moments → HadAlways same (spot_of st.hash) (is_incremental st.setting.mode) st.chart o.began k
     had_always k been time from to = by (its.classes time from to k)
       where
-        last : is_some (finite_map same of (moment log) k) ≡ true
+        last : is_some (finite_map same of log.now k) ≡ true
         last =
-            let x = one_with (λ (x : Moment K V). x ≡ moment log) (λ (x : Moment K V). is_some (finite_map same of x k) ≡ true) moments been (last_there (λ (x : Moment K V). x ≡ moment log) c.begun log begun refl) in
+            let x = one_with (λ (x : Moment K V). x ≡ log.now) (λ (x : Moment K V). is_some (finite_map same of x k) ≡ true) moments been (now_there log purposes.past (λ (x : Moment K V). x ≡ log.now) c.begun begun refl) in
             ap (λ (y : Moment K V). is_some (finite_map same of y k)) (sym x.1) ∙ x.2
 
         by : OneOf (λ (x : Moment K V). HadThen same st number time k (finite_map same of x k)) (m ∷ moments) → HasClass same (spot_of st.hash) (is_incremental st.setting.mode) st.chart time k
@@ -201,14 +198,11 @@ module _ {K V : Type 0} (same : K → K → Bool) (hash : ℕ → K → ℕ) (na
         on_now : Lasts m.stored v.stored
         on_now = effects_stored (Some (name i)) (Some of) (effects_of (acts.Call i of) known new.changed) m
 
-        on_last : Lasts (moment log).stored v.stored
-        on_last n pair is = subst (λ (x : Moment K V). pair_at x.stored n ≡ Some pair) worked_is.1 (worked_stored worked_is.0 (moment log) n pair is)
-
         by : OneOf (λ (x : Moment K V). HadThen same st number was.0 k (finite_map same of x k)) (m ∷ moments) → (pair : K × V) × (pair_at v.stored (number p) ≡ Some pair) × (same pair.0 k ≡ true)
         by (inl now) = let it = stored_then same of st number was.0 k p had m now in (it.0, on_now (number p) it.0 it.1, it.2)
         by (inr before) =
-            let x = one_with (λ (x : Moment K V). HadThen same st number was.0 k (finite_map same of x k)) (λ (x : Moment K V). Lasts x.stored (moment log).stored) moments (all_stored c.begun log) before in
-            let it = stored_then same of st number was.0 k p had x.0 x.1 in (it.0, on_last (number p) it.0 (x.2 (number p) it.0 it.1), it.2)
+            let x = one_with (λ (x : Moment K V). HadThen same st number was.0 k (finite_map same of x k)) (λ (x : Moment K V). Lasts x.stored m.stored) moments (purposes.lasts c.begun) before in
+            let it = stored_then same of st number was.0 k p had x.0 x.1 in (it.0, on_now (number p) it.0 (x.2 (number p) it.0 it.1), it.2)
 
     alike : (k : K) (p : ℕ) → 0 < times p o.done → is_key same (pair_at v.stored (number p)) k ≡ Of k p
     alike k p l =
@@ -226,32 +220,32 @@ module _ {K V : Type 0} (same : K → K → Bool) (hash : ℕ → K → ℕ) (na
     abbrev d : CallThere K V
     d = then_call same hash name log m known s old new at whole purposes of i u here said leads c c_is
 
-    pub shows_all : ShowsAll same d (moments_from d.begun log) v
+    pub shows_all : ShowsAll same d (log.since d.begun) v
     shows_all k been =
         let stays = still same hash name log m known s old new at whole purposes of i u here said leads c c_is in
         let shown : d.shown ≡ map number o.done = stays.shown ∙ subst (λ (x : Call K V). TellsDone x number o.done c) is_walk its.tells in
         let been_here : HasBeen same k of moments =
         subst (λ (x : ℕ). HasBeen same k x moments) (on_map same hash name log m known s old new at whole purposes of i u here said leads c c_is)
-        (subst (λ (x : ℕ). HasBeen same k d.map (moments_from x log)) stays.begun been) in
+        (subst (λ (x : ℕ). HasBeen same k d.map (log.since x)) stays.begun been) in
         ap (with_key same k v.stored) shown ∙ shows_each k been_here
 
   -- whichever call it is
   pub all_shown : (y : UnderWay K V K) → s.calls of i ≡ Some y → IsFor y call.Walk
       → StepsFrom same (went same hash name log m known s old new at whole purposes of i u here said leads).0.hash (machine_of y) old new (went same hash name log m known s old new at whole purposes of i u here said leads).1 said
-      → Did same hash name log m known s old new at whole purposes of i u here said leads y → (e : Entry K V) × (worked e (moment log) ≡ v)
+      → Did same hash name log m known s old new at whole purposes of i u here said leads y
       → ShowsAll same (then_call same hash name log m known s old new at whole purposes of i u here said leads c c_is)
-      (moments_from (then_call same hash name log m known s old new at whole purposes of i u here said leads c c_is).begun log) v
-  all_shown (OnKey z) y_is is steps did worked_is = absurd is
-  all_shown (ForRoom r) y_is is steps did worked_is = absurd is
-  all_shown (Counting sum) y_is is steps did worked_is = absurd is
-  all_shown (OverAll o) y_is is steps did worked_is = shows_all o y_is is steps did worked_is
+      (log.since (then_call same hash name log m known s old new at whole purposes of i u here said leads c c_is).begun) v
+  all_shown (OnKey z) y_is is steps did = absurd is
+  all_shown (ForRoom r) y_is is steps did = absurd is
+  all_shown (Counting sum) y_is is steps did = absurd is
+  all_shown (OverAll o) y_is is steps did = shows_all o y_is is steps did
 
 pub walks_show_all : (K V : Type 0) (same : K → K → Bool) (hash : ℕ → K → ℕ) → WalksShowAll K V same hash
-walks_show_all K V same hash name log m known s old new at whole purposes of i u here leads c c_is is_walk loses terms e caller worked_is outcome =
+walks_show_all K V same hash name log m known s old new at whole purposes of i u here leads c c_is is_walk loses terms t caller worked_is outcome =
     let to = went same hash name log m known s old new at whole purposes of i u here (progress.Done answers.Swept) leads in
     let stays = still same hash name log m known s old new at whole purposes of i u here (progress.Done answers.Swept) leads c c_is in
-    swept_by same terms log e (name i) (v2 same hash name log m known s old new at whole purposes of i u here (progress.Done answers.Swept) leads)
+    swept_by same terms log t (name i) (v2 same hash name log m known s old new at whole purposes of i u here (progress.Done answers.Swept) leads)
     (then_call same hash name log m known s old new at whole purposes of i u here (progress.Done answers.Swept) leads c c_is) caller worked_is
     (then_is same hash name log m known s old new at whole purposes of i u here (progress.Done answers.Swept) leads c c_is) call.Walk (stays.call ∙ is_walk) (Answered Absent) outcome
     (all_shown same hash name log m known s old new at whole purposes of i u here leads c c_is is_walk loses u here
-    (subst (λ (x : Call K V). IsFor u x) is_walk (purposes.is_for of i u here c c_is)) to.3 to.4.did (e, worked_is))
+    (subst (λ (x : Call K V). IsFor u x) is_walk (purposes.is_for of i u here c c_is)) to.3 to.4.did)

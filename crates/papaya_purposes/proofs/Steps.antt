@@ -1,5 +1,5 @@
 -- A step of a call, whoever's: what calls on whole maps have come to then.
-use Rattle.std.specs.Prelude.{◌≡◌, ◌≢◌, ℕ, ◌<◌, ◌≤◌, Bool, List, [], ◌∷◌, length, Option, Some, ◌⊎◌}
+use Rattle.std.specs.Prelude.{◌≡◌, ◌≢◌, ℕ, ◌<◌, ◌≤◌, Bool, List, [], ◌∷◌, Option, Some, ◌⊎◌}
 use Rattle.std.specs.List.{AllByRecursion}
 use Rattle.std.proofs.Common.{refl, ap, sym, subst, ◌∙◌, arith, inl, inr}
 use Rattle.std.proofs.lemmas.Bool.{cases_eq}
@@ -14,8 +14,6 @@ use Rattle.papaya_finds.specs.Given.Raw.declared.machines.machine.Machine.{Machi
 use Rattle.papaya_finds.specs.Given.Raw.declared.machines.machine.Machine.TheVariants as kinds
 use Rattle.papaya_finds.specs.Given.Raw.declared.machines.progress.Progress.{Progress}
 use Rattle.papaya_finds.specs.Given.Schedules.declared.call.Call.{Call}
-use Rattle.papaya_finds.specs.Given.Schedules.After.{moment, moments_from}
-use Rattle.papaya_finds.specs.Given.Schedules.Entry.{Entry}
 use Rattle.papaya_finds.specs.Given.Schedules.Moment.{UnderWay as CallThere, Moment}
 use Rattle.papaya_finds.specs.Given.Schedules.Views.{call_of, is_in_map, finite_map}
 use Rattle.papaya_finds.specs.Given.Rule.Chart.{Chart}
@@ -39,7 +37,6 @@ use Rattle.papaya_finds.specs.Given.Histories.Histories.{since, IsWithin}
 use Rattle.papaya_finds.specs.Given.Histories.Kept.{ChangesFirst}
 use Rattle.papaya_finds.proofs.Given.Histories.Later.{IsLater}
 use Rattle.papaya_finds.proofs.Given.Histories.Steps.{to, led_on, v, after, s2, maps_later, now_then, same_elsewhere}
-use Rattle.papaya_finds.proofs.Given.Histories.Logs.{past_is}
 use Rattle.papaya_finds.proofs.Given.Histories.Within.{within_on}
 use Rattle.papaya_finds.proofs.Given.Histories.NoKey.Sweeps.{SweepsOn, sweeps_on}
 use Rattle.papaya_purposes.specs.Keys.{KeysAt, AreKeyed}
@@ -67,9 +64,9 @@ use Rattle.papaya_purposes.proofs.Shown.{IsStill, effects_still}
 use Rattle.papaya_finds.specs.Given.Scenes.Held.{Held, IsAt}
 use Rattle.papaya_finds.specs.Given.Scenes.Scene.{Scene, slot_of}
 use Rattle.papaya_finds.specs.Given.Scenes.Stepping.{StepLeads, StepsFrom}
-use Rattle.papaya_finds.specs.Given.Schedules.Transition.{past}
+use Rattle.papaya_finds.specs.Given.Schedules.Transition.{Past}
 
-module _ {K V : Type 0} (same : K → K → Bool) (hash : ℕ → K → ℕ) (name : ℕ → List ℕ) (log : List (Entry K V)) (m : Moment K V) (known : Known) (s : Scene K V) (old new : Held K V)
+module _ {K V : Type 0} (same : K → K → Bool) (hash : ℕ → K → ℕ) (name : ℕ → List ℕ) (log : Past K V) (m : Moment K V) (known : Known) (s : Scene K V) (old new : Held K V)
     (at : IsAt same hash old s) (whole : ShowsWhole same name m known s) (purposes : ShowsPurposes same name log m known s) (of i : ℕ) (u : UnderWay K V K) (here : s.calls of i ≡ Some u)
     (said : Progress (Node K V)) (leads : StepLeads same hash i said s old new) where
   abbrev shown : Shows same name m known s
@@ -119,15 +116,15 @@ module _ {K V : Type 0} (same : K → K → Bool) (hash : ℕ → K → ℕ) (na
         (ap (λ (c : Chart K). c.stored) it.2) (ap (λ (c : Chart K). c.current) it.2) (on.numbers n it.0 it.1) q
 
     changes_then : (n : ℕ) (st : Standing K) → scene2.maps n ≡ Some st → PairsChangeFirst log m n v2
-    changes_then n st there q = elim (cases_eq n of) as (λ _. (is_in_map n (v2.place q) ≡ is_in_map n (m.place q)) ⊎ (is_in_map n (m.place q) ≡ is_in_map n ((moment log).place q))) [
-      | inl e ↦ subst (λ (z : ℕ). (is_in_map z (v2.place q) ≡ is_in_map z (m.place q)) ⊎ (is_in_map z (m.place q) ≡ is_in_map z ((moment log).place q))) (sym e) (changes q)
+    changes_then n st there q = elim (cases_eq n of) as (λ _. (is_in_map n (v2.place q) ≡ is_in_map n (m.place q)) ⊎ (is_in_map n (m.place q) ≡ is_in_map n (log.now.place q))) [
+      | inl e ↦ subst (λ (z : ℕ). (is_in_map z (v2.place q) ≡ is_in_map z (m.place q)) ⊎ (is_in_map z (m.place q) ≡ is_in_map z (log.now.place q))) (sym e) (changes q)
       | inr ne ↦ inl (elsewhere n ne st there q)
     ]
 
-    class_changes : ChangesFirst (past log) m same of v2 → (n : ℕ) (st : Standing K) → scene2.maps n ≡ Some st → ChangesFirst (past log) m same n v2
+    class_changes : ChangesFirst log m same of v2 → (n : ℕ) (st : Standing K) → scene2.maps n ≡ Some st → ChangesFirst log m same n v2
     class_changes first n st there k =
-        elim (cases_eq n of) as (λ _. (finite_map same n v2 k ≡ finite_map same n m k) ⊎ (finite_map same n m k ≡ finite_map same n (moment log) k)) [
-          | inl e ↦ subst (λ (z : ℕ). (finite_map same z v2 k ≡ finite_map same z m k) ⊎ (finite_map same z m k ≡ finite_map same z (moment log) k)) (sym e) (first k)
+        elim (cases_eq n of) as (λ _. (finite_map same n v2 k ≡ finite_map same n m k) ⊎ (finite_map same n m k ≡ finite_map same n log.now k)) [
+          | inl e ↦ subst (λ (z : ℕ). (finite_map same z v2 k ≡ finite_map same z m k) ⊎ (finite_map same z m k ≡ finite_map same z log.now k)) (sym e) (first k)
           | inr ne ↦ inl (same_elsewhere same hash name m known s old new at whole shown of i u here said leads n ne st there k)
         ]
 
@@ -140,31 +137,31 @@ module _ {K V : Type 0} (same : K → K → Bool) (hash : ℕ → K → ℕ) (na
       pub had_come : HasCome same n before_st (shown.number n) log m y c
       had_come = purposes.come n j y y_is before_st (before_then n st there).1 c c_is
 
-      pub within_then : (began : ℕ) → PairsWithin n before_st (shown.number n) (since (past log) m c) began → PairsWithin n st (on.shows.number n) (since (past log) v2 d) began
+      pub within_then : (began : ℕ) → PairsWithin n before_st (shown.number n) (since log m c) began → PairsWithin n st (on.shows.number n) (since log v2 d) began
       within_then =
-          within_over same n before_st st (shown.number n) (on.shows.number n) (before_then n st there).2 (first_then n st there) (on.numbers n before_st (before_then n st there).1) log m v2 c d
+          within_over same n before_st st (shown.number n) (on.shows.number n) (before_then n st there).2 (first_then n st there) (on.numbers n before_st (before_then n st there).1) log purposes.past m v2 c d
           (same_call j c d c_is d_is) (purposes.begun n j y y_is c c_is) (changes_then n st there) (now_stored same hash name v2 known2 scene2 new went.5 on.shows n st there)
           (now_there same hash name v2 known2 scene2 new went.5 on.shows n st there)
           (absent same hash name m known s old at shown n before_st (before_then n st there).1 (on.shows.number n) st.chart.stored (on.shows.maps n st there).pairs.rising
           (on.numbers n before_st (before_then n st there).1))
 
       -- class by class, too
-      pub classes_then : ChangesFirst (past log) m same of v2 → (began : ℕ) → IsWithin same n before_st (shown.number n) (since (past log) m c) began → IsWithin same n st (on.shows.number n) (since (past log) v2 d) began
+      pub classes_then : ChangesFirst log m same of v2 → (began : ℕ) → IsWithin same n before_st (shown.number n) (since log m c) began → IsWithin same n st (on.shows.number n) (since log v2 d) began
       classes_then changes began within =
-          subst (λ (b : ℕ). IsWithin same n st (on.shows.number n) (v2 ∷ moments_from b log) began) (sym (same_call j c d c_is d_is).begun)
-          (within_on same n before_st st (shown.number n) (on.shows.number n) (before_then n st there).2 (on.numbers n before_st (before_then n st there).1) (past log) (past_is log) m v2 c.begun
+          subst (λ (b : ℕ). IsWithin same n st (on.shows.number n) (v2 ∷ log.since b) began) (sym (same_call j c d c_is d_is).begun)
+          (within_on same n before_st st (shown.number n) (on.shows.number n) (before_then n st there).2 (on.numbers n before_st (before_then n st there).1) log purposes.past m v2 c.begun
           (purposes.begun n j y y_is c c_is) (class_changes changes n st there) (now_then same hash name m known s old new at whole shown of i u here said leads n st there) began within)
 
       -- of a call that is another one's
-      pub kept_come : ChangesFirst (past log) m same of v2 → HasCome same n st (on.shows.number n) log v2 y d
+      pub kept_come : ChangesFirst log m same of v2 → HasCome same n st (on.shows.number n) log v2 y d
       kept_come class_first =
-          come_over same n before_st st (shown.number n) (on.shows.number n) (before_then n st there).2 (first_then n st there) (on.numbers n before_st (before_then n st there).1) log m v2 c d
+          come_over same n before_st st (shown.number n) (on.shows.number n) (before_then n st there).2 (first_then n st there) (on.numbers n before_st (before_then n st there).1) log purposes.past m v2 c d
           (same_call j c d c_is d_is) (purposes.begun n j y y_is c c_is) (changes_then n st there) (now_stored same hash name v2 known2 scene2 new went.5 on.shows n st there)
           (now_there same hash name v2 known2 scene2 new went.5 on.shows n st there)
           (absent same hash name m known s old at shown n before_st (before_then n st there).1 (on.shows.number n) st.chart.stored (on.shows.maps n st there).pairs.rising
           (on.numbers n before_st (before_then n st there).1)) y keys_other (classes_then class_first) had_come
         where
-          keys_other : (o : CallOverAll) → y ≡ OverAll o → HasSwept same n before_st (shown.number n) (since (past log) m c) o c → o.sweep.purpose ≡ Walks → KeysOf same st o
+          keys_other : (o : CallOverAll) → y ≡ OverAll o → HasSwept same n before_st (shown.number n) (since log m c) o c → o.sweep.purpose ≡ Walks → KeysOf same st o
           keys_other o is h walks =
               keys_kept same i before_st st (stands_moved same hash name m known s old new at whole shown of i u here said leads n st before_st there (before_then n st there).1)
               (at.together.makings.standing.fit n before_st (before_then n st there).1).0 (at.together.makings.standing.fit n before_st (before_then n st there).1).1 slot_of s.world (s.calls n)
@@ -176,10 +173,10 @@ module _ {K V : Type 0} (same : K → K → Bool) (hash : ℕ → K → ℕ) (na
       abbrev pub its_before : Standing K
       its_before = before_st of i (OverAll o) o_is st there c d c_is d_is
 
-      pub had : HasSwept same of its_before (shown.number of) (since (past log) m c) o c
+      pub had : HasSwept same of its_before (shown.number of) (since log m c) o c
       had = had_come of i (OverAll o) o_is st there c d c_is d_is
 
-      pub own_within : PairsWithin of st (on.shows.number of) (since (past log) v2 d) o.began
+      pub own_within : PairsWithin of st (on.shows.number of) (since log v2 d) o.began
       own_within = within_then of i (OverAll o) o_is st there c d c_is d_is o.began had.within
 
       pub below_then : (done : List ℕ) → AllByRecursion (λ k. k < its_before.chart.stored) done → AllByRecursion (λ k. k < st.chart.stored) done
@@ -187,18 +184,18 @@ module _ {K V : Type 0} (same : K → K → Bool) (hash : ℕ → K → ℕ) (na
           all_on (λ k. k < its_before.chart.stored) (λ k. k < st.chart.stored) (λ k l. (let g = (before_then of st there).2.stored in omega (arith, l, g))) done below
 
       -- that has done what it had done, or nothing, where it does not go over a table yet
-      sweep_come : ChangesFirst (past log) m same of v2 → (x : CallOverAll) → x.began ≡ o.began → Comes o x.done (shown.number of) c → (x.sweep.purpose ≡ Walks → IsBefore x.sweep.stands → x.done ≡ [])
-          → (x.sweep.purpose ≡ Walks → KeysOf same st x) → HasSwept same of st (on.shows.number of) (since (past log) v2 d) x d
+      sweep_come : ChangesFirst log m same of v2 → (x : CallOverAll) → x.began ≡ o.began → Comes o x.done (shown.number of) c → (x.sweep.purpose ≡ Walks → IsBefore x.sweep.stands → x.done ≡ [])
+          → (x.sweep.purpose ≡ Walks → KeysOf same st x) → HasSwept same of st (on.shows.number of) (since log v2 d) x d
       sweep_come class_first x began comes none keys =
           let below = next_below o x.done (shown.number of) c its_before.chart.stored comes had.stored in
           record {
-            within = subst (PairsWithin of st (on.shows.number of) (since (past log) v2 d)) (sym began) own_within;
+            within = subst (PairsWithin of st (on.shows.number of) (since log v2 d)) (sym began) own_within;
             stored = below_then x.done below;
             tells = tells_kept (shown.number of) (on.shows.number of) its_before.chart.stored (on.numbers of its_before (before_then of st there).1) c d (same_call i c d c_is d_is) x.done below
                 (next_tells o x.done (shown.number of) c c.call (purposes.is_for of i (OverAll o) o_is c c_is) had.none comes had.tells);
             none = none;
             keys = keys;
-            classes = subst (IsWithin same of st (on.shows.number of) (since (past log) v2 d)) (sym began)
+            classes = subst (IsWithin same of st (on.shows.number of) (since log v2 d)) (sym began)
                 (classes_then of i (OverAll o) o_is st there c d c_is d_is class_first o.began had.classes);
           }
 
@@ -216,7 +213,7 @@ module _ {K V : Type 0} (same : K → K → Bool) (hash : ℕ → K → ℕ) (na
             keyed_then same hash name m known s old new at whole shown of i u here said leads o o_is walked steps (its.keys walked) (its.none walked) st there o.done its.stored (its.keys walked).1,
           ))
         where
-          its : HasSwept same of went.0 (shown.number of) (since (past log) m c) o c
+          its : HasSwept same of went.0 (shown.number of) (since log m c) o c
           its = purposes.come of i (OverAll o) o_is went.0 went.2 c c_is
 
           walked : o.sweep.purpose ≡ Walks
@@ -247,8 +244,8 @@ module _ {K V : Type 0} (same : K → K → Bool) (hash : ℕ → K → ℕ) (na
           by (inl b) (inr kept) = kept ∙ had.none (sym purpose ∙ walks) b
           by (inr over) so = absurd (goes_over over before)
 
-      pub own_sweep : ChangesFirst (past log) m same of v2 → ShowsNone said → StepsFrom same went.0.hash (machine_of (OverAll o)) old new went.1 said → (x : CallOverAll) → went.1 ≡ machine_of (OverAll x) → x.began ≡ o.began
-          → Comes o x.done (shown.number of) c → HasSwept same of st (on.shows.number of) (since (past log) v2 d) x d
+      pub own_sweep : ChangesFirst log m same of v2 → ShowsNone said → StepsFrom same went.0.hash (machine_of (OverAll o)) old new went.1 said → (x : CallOverAll) → went.1 ≡ machine_of (OverAll x) → x.began ≡ o.began
+          → Comes o x.done (shown.number of) c → HasSwept same of st (on.shows.number of) (since log v2 d) x d
       own_sweep class_first none steps x is began comes = sweep_come class_first x began comes (none_on steps x is comes) (keys_on none steps x is began comes)
 
     -- a reservation, the caller's own
@@ -258,10 +255,10 @@ module _ {K V : Type 0} (same : K → K → Bool) (hash : ℕ → K → ℕ) (na
       abbrev r2 : CallForRoom
       r2 = record { began = r.began; reserve = p2 }
 
-      begun : c.begun ≤ length log
+      begun : c.begun ≤ log.entries
       begun = purposes.begun of i (ForRoom r) r_is c c_is
 
-      met : HasMet of went.0 (moments_from c.begun log) r
+      met : HasMet of went.0 (log.since c.begun) r
       met = purposes.come of i (ForRoom r) r_is went.0 went.2 c c_is
 
       root : met.low ≤ st.chart.first
@@ -272,12 +269,12 @@ module _ {K V : Type 0} (same : K → K → Bool) (hash : ℕ → K → ℕ) (na
           let on_it = first_then of st there in omega (arith, l, same_before, on_it)
 
       abbrev ItsEnds : Type 0
-      ItsEnds = EndsSo same hash log m s old new at of i r r_is went.0 went.2 c begun reads met went.1 said steps
+      ItsEnds = EndsSo same hash log purposes.past m s old new at of i r r_is went.0 went.2 c begun reads met went.1 said steps
 
-      led : LedAt of (moments_from c.begun log) met.low ItsEnds p2.stands
-      led = room_goes same hash log m s old new at of i r r_is went.0 went.2 c begun reads met went.1 said steps went.4.next went.4.goes_on (ForRoom r2) goes p2 machine_is
+      led : LedAt of (log.since c.begun) met.low ItsEnds p2.stands
+      led = room_goes same hash log purposes.past m s old new at of i r r_is went.0 went.2 c begun reads met went.1 said steps went.4.next went.4.goes_on (ForRoom r2) goes p2 machine_is
 
-      point : (stands : Reserving) → p2.stands ≡ stands → LedAt of (moments_from c.begun log) met.low ItsEnds stands → RoomAt of (moments_from c.begun log) met.low stands
+      point : (stands : Reserving) → p2.stands ≡ stands → LedAt of (log.since c.begun) met.low ItsEnds stands → RoomAt of (log.since c.begun) met.low stands
       point reserving.Reads is h = h
       point (reserving.Makes making) is h = h
       point (reserving.Sums table sum) is h = h
@@ -292,12 +289,12 @@ module _ {K V : Type 0} (same : K → K → Bool) (hash : ℕ → K → ℕ) (na
       point reserving.Over is h = h
       point (reserving.Refused fault) is h = h
 
-      keeps : ReservesAt of (moments_from c.begun log) p2 p2.stands × NeedsAt of (moments_from c.begun log) p2 p2.stands
-      keeps = room_keeps same hash log m s old new at of i r r_is went.0 went.2 c begun reads met went.1 said steps p2 machine_is
+      keeps : ReservesAt of (log.since c.begun) p2 p2.stands × NeedsAt of (log.since c.begun) p2 p2.stands
+      keeps = room_keeps same hash log purposes.past m s old new at of i r r_is went.0 went.2 c begun reads met went.1 said steps p2 machine_is
 
-      own_room : HasMet of st (moments_from d.begun log) r2
+      own_room : HasMet of st (log.since d.begun) r2
       own_room =
-          subst (λ (b : ℕ). HasMet of st (moments_from b log) r2) (sym (same_call i c d c_is d_is).begun) (record {
+          subst (λ (b : ℕ). HasMet of st (log.since b) r2) (sym (same_call i c d c_is d_is).begun) (record {
             low = met.low;
             was = met.was;
             root = root;
@@ -307,7 +304,7 @@ module _ {K V : Type 0} (same : K → K → Bool) (hash : ℕ → K → ℕ) (na
           })
 
     -- the caller's own
-    pub own_come : ChangesFirst (past log) m same of v2 → ShowsNone said → (y : UnderWay K V K) → s.calls of i ≡ Some y → ReadsShards log m s of y → StepsFrom same went.0.hash (machine_of y) old new went.1 said → Did y
+    pub own_come : ChangesFirst log m same of v2 → ShowsNone said → (y : UnderWay K V K) → s.calls of i ≡ Some y → ReadsShards log m s of y → StepsFrom same went.0.hash (machine_of y) old new went.1 said → Did y
         → (x : UnderWay K V K) → went.4.next ≡ Some x → (st : Standing K) → scene2.maps of ≡ Some st → (c d : CallThere K V) → call_of (name i) m ≡ Some c → call_of (name i) v2 ≡ Some d
         → HasCome same of st (on.shows.number of) log v2 x d
     own_come class_first none (OnKey z) y_is its steps (p2, end, machine_is, told_is, inl (step, moved)) x e st there c d c_is d_is =
@@ -323,8 +320,8 @@ module _ {K V : Type 0} (same : K → K → Bool) (hash : ℕ → K → ℕ) (na
     own_come class_first none (Counting sum) y_is its steps (sum2, end, machine_is, told_is, still, stayed) x e st there c d c_is d_is =
         let before = before_then of st there in
         subst (λ (y : UnderWay K V K). HasCome same of st (on.shows.number of) log v2 y d) (sym (counting_goes_on sum2 end x (sym stayed.2 ∙ e)))
-        (subst (λ (b : ℕ). HasAdded of (moments_from b log) sum2.setting.mask sum2.stands) (sym (same_call i c d c_is d_is).begun)
-        (counts_on same hash log m s old new at of i sum y_is went.0 went.2 c (purposes.begun of i (Counting sum) y_is c c_is) (its tt).0 (its tt).1
+        (subst (λ (b : ℕ). HasAdded of (log.since b) sum2.setting.mask sum2.stands) (sym (same_call i c d c_is d_is).begun)
+        (counts_on same hash log purposes.past m s old new at of i sum y_is went.0 went.2 c (purposes.begun of i (Counting sum) y_is c c_is) (its tt).0 (its tt).1
         (purposes.come of i (Counting sum) y_is before.0 before.1 c c_is) went.1 said steps went.4.next went.4.goes_on x e sum2 machine_is))
     own_come class_first none (OverAll o) y_is its steps (p2, end, machine_is, told_is, inl (step, moved)) x e st there c d c_is d_is =
         subst (λ (y : UnderWay K V K). HasCome same of st (on.shows.number of) log v2 y d) (sym (sweep_goes_on _ end x (sym moved.2 ∙ e)))

@@ -1,9 +1,7 @@
 -- Where only calls have changed, and this one has been told and has shown what it was told and had shown, it has come to what it had come to.
-use Rattle.std.specs.Prelude.{◌≡◌, ℕ, Bool, List, ◌∷◌}
+use Rattle.std.specs.Prelude.{◌≡◌, ℕ, Bool, ◌∷◌}
 use Rattle.std.proofs.Common.{refl, ap, sym, subst, ◌∙◌, inl, inr}
 use Rattle.papaya_finds.specs.Given.Schedules.declared.call.Call.{Call}
-use Rattle.papaya_finds.specs.Given.Schedules.After.{moments_from}
-use Rattle.papaya_finds.specs.Given.Schedules.Entry.{Entry}
 use Rattle.papaya_finds.specs.Given.Schedules.Lists.{OneOf}
 use Rattle.papaya_finds.specs.Given.Schedules.Moment.{Place, UnderWay as CallThere, Moment}
 use Rattle.papaya_finds.specs.Given.Schedules.Views.{is_in_map}
@@ -16,27 +14,28 @@ use Rattle.papaya_purposes.specs.Purposes.{PairsWithin, IsFor, HasAdded, HasMet,
 use Rattle.papaya_purposes.proofs.Done.{tells_kept}
 use Rattle.papaya_purposes.proofs.Shown.{IsStill}
 use Rattle.papaya_purposes.proofs.Within.{pairs_within_moments}
+use Rattle.papaya_finds.specs.Given.Schedules.Transition.{Past}
 
-module _ {K V : Type 0} (same : K → K → Bool) (of : ℕ) (st : Standing K) (number : ℕ → ℕ) (log : List (Entry K V)) (m m2 : Moment K V) (place : m2.place ≡ m.place) (stored : m2.stored ≡ m.stored) (c d : CallThere K V) where
-  pub within_still : d.begun ≡ c.begun → (began : ℕ) → PairsWithin of st number (m ∷ moments_from c.begun log) began → PairsWithin of st number (m2 ∷ moments_from d.begun log) began
+module _ {K V : Type 0} (same : K → K → Bool) (of : ℕ) (st : Standing K) (number : ℕ → ℕ) (log : Past K V) (m m2 : Moment K V) (place : m2.place ≡ m.place) (stored : m2.stored ≡ m.stored) (c d : CallThere K V) where
+  pub within_still : d.begun ≡ c.begun → (began : ℕ) → PairsWithin of st number (m ∷ log.since c.begun) began → PairsWithin of st number (m2 ∷ log.since d.begun) began
   within_still begun began within =
-      subst (λ (b : ℕ). PairsWithin of st number (m2 ∷ moments_from b log) began) (sym begun)
-      (pairs_within_moments of st number (m ∷ moments_from c.begun log) (m2 ∷ moments_from c.begun log) began more within)
+      subst (λ (b : ℕ). PairsWithin of st number (m2 ∷ log.since b) began) (sym begun)
+      (pairs_within_moments of st number (m ∷ log.since c.begun) (m2 ∷ log.since c.begun) began more within)
     where
-      more : (n : ℕ) (q : Bool) → OneOf (λ (x : Moment K V). is_in_map of (x.place n) ≡ q) (m ∷ moments_from c.begun log) → OneOf (λ (x : Moment K V). is_in_map of (x.place n) ≡ q) (m2 ∷ moments_from c.begun log)
+      more : (n : ℕ) (q : Bool) → OneOf (λ (x : Moment K V). is_in_map of (x.place n) ≡ q) (m ∷ log.since c.begun) → OneOf (λ (x : Moment K V). is_in_map of (x.place n) ≡ q) (m2 ∷ log.since c.begun)
       more n q (inl h) = inl (ap (λ (f : ℕ → Place). is_in_map of (f n)) place ∙ h)
       more n q (inr h) = inr h
 
   -- class by class, too
-  pub classes_still : d.begun ≡ c.begun → (began : ℕ) → IsWithin same of st number (m ∷ moments_from c.begun log) began → IsWithin same of st number (m2 ∷ moments_from d.begun log) began
+  pub classes_still : d.begun ≡ c.begun → (began : ℕ) → IsWithin same of st number (m ∷ log.since c.begun) began → IsWithin same of st number (m2 ∷ log.since d.begun) began
   classes_still begun began within =
-      subst (λ (b : ℕ). IsWithin same of st number (m2 ∷ moments_from b log) began) (sym begun)
-      (within_alike same of st number (moments_from c.begun log) m m2 began (λ k. map_alike same of k m m2 place stored) within)
+      subst (λ (b : ℕ). IsWithin same of st number (m2 ∷ log.since b) began) (sym begun)
+      (within_alike same of st number (log.since c.begun) m m2 began (λ k. map_alike same of k m m2 place stored) within)
 
   pub come_still : IsStill c d → (u : UnderWay K V K) → HasCome same of st number log m u c → HasCome same of st number log m2 u d
   come_still still (OnKey u) h = tt
-  come_still still (ForRoom r) h = subst (λ (b : ℕ). HasMet of st (moments_from b log) r) (sym still.begun) h
-  come_still still (Counting sum) h = subst (λ (b : ℕ). HasAdded of (moments_from b log) sum.setting.mask sum.stands) (sym still.begun) h
+  come_still still (ForRoom r) h = subst (λ (b : ℕ). HasMet of st (log.since b) r) (sym still.begun) h
+  come_still still (Counting sum) h = subst (λ (b : ℕ). HasAdded of (log.since b) sum.setting.mask sum.stands) (sym still.begun) h
   come_still still (OverAll o) h = record {
     within = within_still still.begun o.began h.within;
     stored = h.stored;

@@ -3,7 +3,6 @@ use Rattle.std.specs.Prelude.{◌≡◌, ℕ, Bool, true, false, List, Option, S
 use Rattle.std.proofs.Common.{refl, ap, sym, subst, ◌∙◌, inl, inr}
 use Rattle.papaya_finds.specs.Given.SeizeWords.declared.fault.Fault.TheVariants.{Memory}
 use Rattle.papaya_finds.specs.Given.Schedules.declared.outcome.Outcome.TheVariants.{Refused}
-use Rattle.papaya_finds.specs.Given.Schedules.Entry.{Entry}
 use Rattle.papaya_finds.specs.Given.Schedules.Moment.{Moment}
 use Rattle.papaya_finds.specs.Given.Callers.Together.{UnderWay}
 use Rattle.papaya_finds.specs.Given.Effects.Known.{Known}
@@ -15,17 +14,19 @@ use Rattle.papaya_finds.proofs.Given.Hands.Asking.{which}
 use Rattle.papaya_finds.specs.Given.Others.After.{ShowsAfter}
 use Rattle.papaya_finds.specs.Given.Others.Walks.{given_up}
 use Rattle.papaya_finds.proofs.Given.Others.Walks.{fewer_calls, with_calls}
-use Rattle.papaya_purposes.specs.Kept.{WalksStopPurposes}
 use Rattle.papaya_purposes.specs.Purposes.{HasCome, ShowsPurposes}
 use Rattle.papaya_purposes.proofs.Between.{calls_come_to_purposes}
 use Rattle.papaya_finds.specs.Given.Scenes.Replying.{unless_stopped}
 use Rattle.papaya_finds.specs.Given.Scenes.Scene.{Scene}
+use Rattle.papaya_finds.specs.Given.Schedules.Transition.{Past}
 
-module _ {K V : Type 0} (same : K → K → Bool) (name : ℕ → List ℕ) (log : List (Entry K V)) (m : Moment K V) (known : Known) (s : Scene K V) (purposes : ShowsPurposes same name log m known s)
+module _ {K V : Type 0} (same : K → K → Bool) (name : ℕ → List ℕ) (log : Past K V) (m : Moment K V) (known : Known) (s : Scene K V) (purposes : ShowsPurposes same name log m known s)
     (of i : ℕ) (u : UnderWay K V K) (here : s.calls of i ≡ Some u) where
   -- where this call is what it was, or is under way no more
   fewer_purposes : (next : Option (UnderWay K V K)) → ((x : UnderWay K V K) → next ≡ Some x → u ≡ x) → ShowsPurposes same name log m known (record s { calls = with_in s.calls of i next })
   fewer_purposes next same_it = record {
+    past = purposes.past;
+    lasts = purposes.lasts;
     shown = b.shows;
     begun = λ n j x is c c_is. purposes.begun n j x (was n j x (which s.calls of i next n j x is)) c c_is;
     is_for = λ n j x is c c_is. purposes.is_for n j x (was n j x (which s.calls of i next n j x is)) c c_is;
@@ -46,6 +47,3 @@ module _ {K V : Type 0} (same : K → K → Bool) (name : ℕ → List ℕ) (log
   stops true none =
       calls_come_to_purposes K V same name log m known (record s { calls = with_in s.calls of i None }) (fewer_purposes None (λ x e. absurd (cc e))) (name i) (Refused Memory) 0 tt (λ ends. none refl)
   stops false none = fewer_purposes (Some u) (λ x e. one_of u x e)
-
-pub walks_stop_purposes : (K V : Type 0) (same : K → K → Bool) (hash : ℕ → K → ℕ) → WalksStopPurposes K V same hash
-walks_stop_purposes K V same hash name log m known s old new purposes i stopped leads of u here none = stops same name log m known s purposes of i u here stopped none

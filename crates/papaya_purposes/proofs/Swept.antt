@@ -18,13 +18,11 @@ use Rattle.papaya_finds.specs.Given.Schedules.declared.call.Call.{Call}
 use Rattle.papaya_finds.specs.Given.Schedules.declared.call.Call.TheVariants as call
 use Rattle.papaya_finds.specs.Given.Schedules.declared.outcome.Outcome.{Outcome}
 use Rattle.papaya_finds.specs.Given.Schedules.declared.outcome.Outcome.TheVariants.{Answered}
-use Rattle.papaya_finds.specs.Given.Schedules.After.{moment, moments_from}
 use Rattle.papaya_finds.specs.Given.Schedules.Counts.{Counts}
-use Rattle.papaya_finds.specs.Given.Schedules.Effects.{worked}
-use Rattle.papaya_finds.specs.Given.Schedules.Entry.{Entry, IfCall, acting, caller_of}
+use Rattle.papaya_finds.specs.Given.Schedules.Entry.{IfCall, acting}
 use Rattle.papaya_finds.specs.Given.Schedules.Lists.{numbers_from}
 use Rattle.papaya_finds.specs.Given.Schedules.Moment.{UnderWay as CallThere, Moment}
-use Rattle.papaya_finds.specs.Given.Schedules.Sweeps.{is_yes, stays, ClearsAll, RetainsOnly, Sweeps, IsSwept}
+use Rattle.papaya_finds.specs.Given.Schedules.Sweeps.{is_yes, stays, ClearsAll, RetainsOnly, Sweeps, SweepsRight}
 use Rattle.papaya_finds.specs.Given.Schedules.Terms.{Terms, shards_of}
 use Rattle.papaya_finds.specs.Given.Schedules.Views.{call_of, is_in_map, reply_to}
 use Rattle.papaya_finds.specs.Given.Rule.Chart.{Chart}
@@ -56,20 +54,20 @@ use Rattle.papaya_purposes.proofs.Steps.{went, on, v2, known2, scene2, Did, same
 use Rattle.papaya_finds.specs.Given.Scenes.Held.{Held, IsAt}
 use Rattle.papaya_finds.specs.Given.Scenes.Scene.{Scene}
 use Rattle.papaya_finds.specs.Given.Scenes.Stepping.{StepLeads, StepsFrom}
-use Rattle.papaya_finds.specs.Given.Schedules.Transition.{past}
+use Rattle.papaya_finds.specs.Given.Schedules.Transition.{Past, Transition, call_left, worked_by}
 
 -- what is so of the call is so of the event
-module _ {K V : Type 0} (same : K → K → Bool) (terms : Terms) (log : List (Entry K V)) (e : Entry K V) (own : List ℕ) (v : Moment K V) (d : CallThere K V) (caller : caller_of e.event ≡ Some own)
-    (worked_is : worked e (moment log) ≡ v) (d_is : call_of own v ≡ Some d) where
-  acting_is : acting (caller_of e.event) (worked e (moment log)) ≡ Some d
-  acting_is = ap (λ (o : Option (List ℕ)). acting o (worked e (moment log))) caller ∙ ap (call_of own) worked_is ∙ d_is
+module _ {K V : Type 0} (same : K → K → Bool) (terms : Terms) (log : Past K V) (t : Transition K V) (own : List ℕ) (v : Moment K V) (d : CallThere K V) (caller : t.caller ≡ Some own)
+    (worked_is : worked_by t ≡ v) (d_is : call_of own v ≡ Some d) where
+  acting_is : call_left t ≡ Some d
+  acting_is = ap (λ (o : Option (List ℕ)). acting o (worked_by t)) caller ∙ ap (call_of own) worked_is ∙ d_is
 
-  pub swept_by : (its : Call K V) → d.call ≡ its → (o : Outcome V) → e.outcome ≡ o → Sweeps same terms its d (moments_from d.begun log) v o → IsSwept same terms log e
+  pub swept_by : (its : Call K V) → d.call ≡ its → (o : Outcome V) → t.outcome ≡ o → Sweeps same terms its d (log.since d.begun) v o → SweepsRight same terms log t
   swept_by its call_is o o_is sweeps =
-      subst (λ (x : Option (CallThere K V)). IfCall (λ c. Sweeps same terms c.call c (moments_from c.begun log) (worked e (moment log)) e.outcome) x) (sym acting_is)
-      (subst (λ (x : Moment K V). Sweeps same terms d.call d (moments_from d.begun log) x e.outcome) (sym worked_is)
-      (subst (λ (x : Outcome V). Sweeps same terms d.call d (moments_from d.begun log) v x) (sym o_is)
-      (subst (λ (x : Call K V). Sweeps same terms x d (moments_from d.begun log) v o) (sym call_is) sweeps)))
+      subst (λ (x : Option (CallThere K V)). IfCall (λ c. Sweeps same terms c.call c (log.since c.begun) (worked_by t) t.outcome) x) (sym acting_is)
+      (subst (λ (x : Moment K V). Sweeps same terms d.call d (log.since d.begun) x t.outcome) (sym worked_is)
+      (subst (λ (x : Outcome V). Sweeps same terms d.call d (log.since d.begun) v x) (sym o_is)
+      (subst (λ (x : Call K V). Sweeps same terms x d (log.since d.begun) v o) (sym call_is) sweeps)))
 
 -- what a step says where the event comes to that
 module _ {K V : Type 0} (known : Known) where
@@ -117,7 +115,7 @@ pub same_map : {K : Type 0} (o o2 : Option (Standing K)) (st : Standing K) → o
 same_map None o2 st is same = absurd (cc is)
 same_map (Some before) o2 st is (blocks, sights, here, part) = (record before { blocks = blocks; sights = sights }, here, ap (λ (x : Standing _). x.chart) (one_of before st is))
 
-module _ {K V : Type 0} (same : K → K → Bool) (hash : ℕ → K → ℕ) (name : ℕ → List ℕ) (log : List (Entry K V)) (m : Moment K V) (known : Known) (s : Scene K V) (old new : Held K V)
+module _ {K V : Type 0} (same : K → K → Bool) (hash : ℕ → K → ℕ) (name : ℕ → List ℕ) (log : Past K V) (m : Moment K V) (known : Known) (s : Scene K V) (old new : Held K V)
     (at : IsAt same hash old s) (whole : ShowsWhole same name m known s) (purposes : ShowsPurposes same name log m known s) (of i : ℕ) (u : UnderWay K V K) (here : s.calls of i ≡ Some u)
     (said : Progress (Node K V)) (leads : StepLeads same hash i said s old new) (c : CallThere K V) (c_is : call_of (name i) m ≡ Some c) where
   abbrev pub v : Moment K V
@@ -140,18 +138,18 @@ module _ {K V : Type 0} (same : K → K → Bool) (hash : ℕ → K → ℕ) (na
   module _ (terms : Terms) (mask : (standing : Standing K) → s.maps of ≡ Some standing → suc standing.setting.mask ≡ shards_of terms) (n : ℕ) (done : said ≡ progress.Done (answers.Count n)) where
     pub counts : (y : UnderWay K V K) → s.calls of i ≡ Some y → IsFor y call.Len → ReadsShards log m s of y
         → StepsFrom same (went same hash name log m known s old new at whole purposes of i u here said leads).0.hash (machine_of y) old new (went same hash name log m known s old new at whole purposes of i u here said leads).1 said
-        → Counts (shards_of terms) then_call.map (moments_from then_call.begun log) n
+        → Counts (shards_of terms) then_call.map (log.since then_call.begun) n
     counts (OnKey z) y_is is reads steps = absurd is
     counts (ForRoom r) y_is is reads steps = absurd is
     counts (Counting sum) y_is is reads steps =
         let to = went same hash name log m known s old new at whole purposes of i u here said leads in
         let begun = purposes.begun of i (Counting sum) y_is c c_is in
         let had_added = purposes.come of i (Counting sum) y_is to.0 to.2 c c_is in
-        let counted = counts_end same hash log m s old new at of i sum y_is to.0 to.2 c begun (reads tt).0 (reads tt).1 had_added to.1 said steps n done in
-        let masks = mask_is same hash log m s old new at of i sum y_is to.0 to.2 c begun (reads tt).0 (reads tt).1 had_added to.1 said steps in
-        subst (λ (x : ℕ). Counts x then_call.map (moments_from then_call.begun log) n) (ap suc masks ∙ mask to.0 to.2)
-        (subst (λ (x : ℕ). Counts (suc sum.setting.mask) x (moments_from then_call.begun log) n) (sym on_map)
-        (subst (λ (x : ℕ). Counts (suc sum.setting.mask) of (moments_from x log) n) (sym still.begun) counted))
+        let counted = counts_end same hash log purposes.past m s old new at of i sum y_is to.0 to.2 c begun (reads tt).0 (reads tt).1 had_added to.1 said steps n done in
+        let masks = mask_is same hash log purposes.past m s old new at of i sum y_is to.0 to.2 c begun (reads tt).0 (reads tt).1 had_added to.1 said steps in
+        subst (λ (x : ℕ). Counts x then_call.map (log.since then_call.begun) n) (ap suc masks ∙ mask to.0 to.2)
+        (subst (λ (x : ℕ). Counts (suc sum.setting.mask) x (log.since then_call.begun) n) (sym on_map)
+        (subst (λ (x : ℕ). Counts (suc sum.setting.mask) of (log.since x) n) (sym still.begun) counted))
     counts (OverAll o) y_is is reads steps = absurd is
 
   -- what a sweep that has ended has come to, in its map as it is then
@@ -169,7 +167,7 @@ module _ {K V : Type 0} (same : K → K → Bool) (hash : ℕ → K → ℕ) (na
       abbrev number2 : ℕ → ℕ
       number2 = (on same hash name log m known s old new at whole purposes of i u here said leads).shows.number of
 
-      within : PairsWithin of ended.st number2 (since (past log) v then_call) o.began
+      within : PairsWithin of ended.st number2 (since log v then_call) o.began
       within = own_within same hash name log m known s old new at whole purposes of i u here said leads changes o o_is ended.st ended.there c then_call c_is then_is
 
       both : (a b : Bool) → (a && b) ≡ true → (a ≡ true) × (b ≡ true)
@@ -177,41 +175,41 @@ module _ {K V : Type 0} (same : K → K → Bool) (hash : ℕ → K → ℕ) (na
       both false b e = absurd (cc e)
 
       -- a pair that was in the map at all moments was so in its history
-      pub always : (n : ℕ) → stays of (moments_from then_call.begun log) v n ≡ true → (p : ℕ) × (p < ended.st.chart.stored) × (n ≡ number2 p) × WasAlways ended.st.chart ended.entered p
+      pub always : (n : ℕ) → stays of (log.since then_call.begun) v n ≡ true → (p : ℕ) × (p < ended.st.chart.stored) × (n ≡ number2 p) × WasAlways ended.st.chart ended.entered p
       always n stayed =
-          let two = both (list_all (λ (x : Moment K V). is_in_map of (x.place n)) (moments_from then_call.begun log)) (is_in_map of (v.place n)) stayed in
+          let two = both (list_all (λ (x : Moment K V). is_in_map of (x.place n)) (log.since then_call.begun)) (is_in_map of (v.place n)) stayed in
           let it = ((on same hash name log m known s old new at whole purposes of i u here said leads).shows.maps of ended.st ended.there).pairs.all n (in_map_true of (v.place n) two.1) in
           (it.0, it.1, it.2, λ time from to. was it.0 it.1 it.2 two.0 two.1 time from to)
         where
-          was : (p : ℕ) → p < ended.st.chart.stored → n ≡ number2 p → list_all (λ (x : Moment K V). is_in_map of (x.place n)) (moments_from then_call.begun log) ≡ true → is_in_map of (v.place n) ≡ true
+          was : (p : ℕ) → p < ended.st.chart.stored → n ≡ number2 p → list_all (λ (x : Moment K V). is_in_map of (x.place n)) (log.since then_call.begun) ≡ true → is_in_map of (v.place n) ≡ true
               → (time : ℕ) → ended.entered ≤ time → time ≤ ended.st.chart.now → ended.st.chart.was time p ≡ true
           was p l n_is all now time from to =
               let began : o.began ≤ time = (let f = ended.from in omega (arith, from, f)) in
-              let x = one_passes (λ (x : Moment K V). is_in_map of (x.place n)) (λ (x : Moment K V). is_in_map of (x.place (number2 p)) ≡ ended.st.chart.was time p) (v ∷ moments_from then_call.begun log)
-              (ap (λ q. q && list_all (λ (x : Moment K V). is_in_map of (x.place n)) (moments_from then_call.begun log)) now ∙ all) (within.within time p began to l) in
+              let x = one_passes (λ (x : Moment K V). is_in_map of (x.place n)) (λ (x : Moment K V). is_in_map of (x.place (number2 p)) ≡ ended.st.chart.was time p) (v ∷ log.since then_call.begun)
+              (ap (λ q. q && list_all (λ (x : Moment K V). is_in_map of (x.place n)) (log.since then_call.begun)) now ∙ all) (within.within time p began to l) in
               sym x.1 ∙ ap (λ (q : ℕ). is_in_map of (x.0.place q)) (sym n_is) ∙ x.2
 
       -- so a clearing leaves none of these,
-      pub clears : o.sweep.purpose ≡ Clears → ClearsAll then_call (moments_from then_call.begun log) v
-      clears purpose = all_pass (λ n. not (stays then_call.map (moments_from then_call.begun log) v n)) none (numbers_from 1 (length v.stored))
+      pub clears : o.sweep.purpose ≡ Clears → ClearsAll then_call (log.since then_call.begun) v
+      clears purpose = all_pass (λ n. not (stays then_call.map (log.since then_call.begun) v n)) none (numbers_from 1 (length v.stored))
         where
-          gone : (n : ℕ) → stays of (moments_from then_call.begun log) v n ≡ true → ⊥
+          gone : (n : ℕ) → stays of (log.since then_call.begun) v n ≡ true → ⊥
           gone n stayed = let it = always n stayed in subst (λ (x : Purpose). IsKept x it.0 ended.done) purpose (ended.came.all it.0 it.3)
 
-          none : (n : ℕ) → not (stays then_call.map (moments_from then_call.begun log) v n) ≡ true
-          none n = ap (λ (x : ℕ). not (stays x (moments_from then_call.begun log) v n)) on_map ∙ by (stays of (moments_from then_call.begun log) v n) (gone n)
+          none : (n : ℕ) → not (stays then_call.map (log.since then_call.begun) v n) ≡ true
+          none n = ap (λ (x : ℕ). not (stays x (log.since then_call.begun) v n)) on_map ∙ by (stays of (log.since then_call.begun) v n) (gone n)
             where
               by : (q : Bool) → (q ≡ true → ⊥) → not q ≡ true
               by false never = refl
               by true never = absurd (never refl)
 
       -- and a retaining those about which the last reply was yes
-      pub retains : o.sweep.purpose ≡ Retains → then_call.call ≡ call.Retain → RetainsOnly then_call (moments_from then_call.begun log) v
+      pub retains : o.sweep.purpose ≡ Retains → then_call.call ≡ call.Retain → RetainsOnly then_call (log.since then_call.begun) v
       retains purpose call_is =
-          all_pass (λ n. not (stays then_call.map (moments_from then_call.begun log) v n) || is_yes (reply_to (Some n) then_call.replies)) each (numbers_from 1 (length v.stored))
+          all_pass (λ n. not (stays then_call.map (log.since then_call.begun) v n) || is_yes (reply_to (Some n) then_call.replies)) each (numbers_from 1 (length v.stored))
         where
           before : HasSwept same of (its_before same hash name log m known s old new at whole purposes of i u here said leads changes o o_is ended.st ended.there c then_call c_is then_is)
-              (purposes.shown.number of) (since (past log) m c) o c
+              (purposes.shown.number of) (since log m c) o c
           before = had same hash name log m known s old new at whole purposes of i u here said leads changes o o_is ended.st ended.there c then_call c_is then_is
 
           said_yes : AllByRecursion (λ p. is_yes (reply_to (Some (number2 p)) then_call.replies) ≡ true) o.done
@@ -221,7 +219,7 @@ module _ {K V : Type 0} (same : K → K → Bool) (hash : ℕ → K → ℕ) (na
               (tells_kept (purposes.shown.number of) number2 b.0.chart.stored ((on same hash name log m known s old new at whole purposes of i u here said leads).numbers of b.0 b.1) c then_call still o.done
               before.stored before.tells)
 
-          kept : (n : ℕ) → stays of (moments_from then_call.begun log) v n ≡ true → is_yes (reply_to (Some n) then_call.replies) ≡ true
+          kept : (n : ℕ) → stays of (log.since then_call.begun) v n ≡ true → is_yes (reply_to (Some n) then_call.replies) ≡ true
           kept n stayed =
               let it = always n stayed in
               ap (λ (q : ℕ). is_yes (reply_to (Some q) then_call.replies)) it.2
@@ -231,10 +229,10 @@ module _ {K V : Type 0} (same : K → K → Bool) (hash : ℕ → K → ℕ) (na
               by p (inl empty) l = absurd (let none = subst (λ (x : List ℕ). 0 < times p x) empty l in omega (arith, none))
               by p (inr same_done) l = all_among (λ p. is_yes (reply_to (Some (number2 p)) then_call.replies) ≡ true) p o.done said_yes (subst (λ (x : List ℕ). 0 < times p x) same_done l)
 
-          each : (n : ℕ) → (not (stays then_call.map (moments_from then_call.begun log) v n) || is_yes (reply_to (Some n) then_call.replies)) ≡ true
+          each : (n : ℕ) → (not (stays then_call.map (log.since then_call.begun) v n) || is_yes (reply_to (Some n) then_call.replies)) ≡ true
           each n =
-              ap (λ (x : ℕ). not (stays x (moments_from then_call.begun log) v n) || is_yes (reply_to (Some n) then_call.replies)) on_map
-              ∙ by (stays of (moments_from then_call.begun log) v n) (kept n)
+              ap (λ (x : ℕ). not (stays x (log.since then_call.begun) v n) || is_yes (reply_to (Some n) then_call.replies)) on_map
+              ∙ by (stays of (log.since then_call.begun) v n) (kept n)
             where
               by : (q : Bool) → (q ≡ true → is_yes (reply_to (Some n) then_call.replies) ≡ true) → (not q || is_yes (reply_to (Some n) then_call.replies)) ≡ true
               by false told = refl
@@ -290,14 +288,14 @@ module _ {K V : Type 0} (same : K → K → Bool) (hash : ℕ → K → ℕ) (na
   -- so it is with a clearing, and a retaining
   module _ (changes : PairsChangeFirst log m of v) (done : (said ≡ progress.Done answers.Reserved) ⊎ (said ≡ progress.Done answers.Swept)) where
     pub clearing : (y : UnderWay K V K) → s.calls of i ≡ Some y → IsFor y call.Clear → Did same hash name log m known s old new at whole purposes of i u here said leads y
-        → ClearsAll then_call (moments_from then_call.begun log) v
+        → ClearsAll then_call (log.since then_call.begun) v
     clearing (OnKey z) y_is is did = absurd is
     clearing (ForRoom r) y_is is did = absurd is
     clearing (Counting sum) y_is is did = absurd is
     clearing (OverAll o) y_is is did = clears changes o y_is (ended done o y_is did) is
 
     pub retaining : then_call.call ≡ call.Retain → (y : UnderWay K V K) → s.calls of i ≡ Some y → IsFor y call.Retain
-        → Did same hash name log m known s old new at whole purposes of i u here said leads y → RetainsOnly then_call (moments_from then_call.begun log) v
+        → Did same hash name log m known s old new at whole purposes of i u here said leads y → RetainsOnly then_call (log.since then_call.begun) v
     retaining call_is (OnKey z) y_is is did = absurd is
     retaining call_is (ForRoom r) y_is is did = absurd is
     retaining call_is (Counting sum) y_is is did = absurd is
@@ -305,30 +303,30 @@ module _ {K V : Type 0} (same : K → K → Bool) (hash : ℕ → K → ℕ) (na
 
 module _ (K V : Type 0) (same : K → K → Bool) (hash : ℕ → K → ℕ) where
   pub countings_are_swept : CountingsAreSwept K V same hash
-  countings_are_swept n name log m known s old new at whole purposes of i u here said leads c c_is is_len reads comes terms mask e caller worked_is outcome =
+  countings_are_swept n name log m known s old new at whole purposes of i u here said leads c c_is is_len reads comes terms mask t caller worked_is outcome =
       let told = counted_said (known2 same hash name log m known s old new at whole purposes of i u here said leads) n said comes in
       let is = still same hash name log m known s old new at whole purposes of i u here said leads c c_is in
-      swept_by same terms log e (name i) (v same hash name log m known s old new at whole purposes of i u here said leads c c_is)
+      swept_by same terms log t (name i) (v same hash name log m known s old new at whole purposes of i u here said leads c c_is)
       (then_call same hash name log m known s old new at whole purposes of i u here said leads c c_is) caller worked_is
       (then_is same hash name log m known s old new at whole purposes of i u here said leads c c_is) call.Len (is.call ∙ is_len) (Answered (Counted n)) outcome
       (counts same hash name log m known s old new at whole purposes of i u here said leads c c_is terms mask n told u here
       (subst (λ (x : Call K V). IsFor u x) is_len (purposes.is_for of i u here c c_is)) reads (went same hash name log m known s old new at whole purposes of i u here said leads).3)
 
   pub clearings_are_swept : ClearingsAreSwept K V same hash
-  clearings_are_swept name log m known s old new at whole purposes of i u here said leads c c_is is_clear changes comes terms mask e caller worked_is outcome =
+  clearings_are_swept name log m known s old new at whole purposes of i u here said leads c c_is is_clear changes comes terms mask t caller worked_is outcome =
       let told = completed_said (known2 same hash name log m known s old new at whole purposes of i u here said leads) said comes in
       let is = still same hash name log m known s old new at whole purposes of i u here said leads c c_is in
-      swept_by same terms log e (name i) (v same hash name log m known s old new at whole purposes of i u here said leads c c_is)
+      swept_by same terms log t (name i) (v same hash name log m known s old new at whole purposes of i u here said leads c c_is)
       (then_call same hash name log m known s old new at whole purposes of i u here said leads c c_is) caller worked_is
       (then_is same hash name log m known s old new at whole purposes of i u here said leads c c_is) call.Clear (is.call ∙ is_clear) (Answered Completed) outcome
       (clearing same hash name log m known s old new at whole purposes of i u here said leads c c_is changes told u here
       (subst (λ (x : Call K V). IsFor u x) is_clear (purposes.is_for of i u here c c_is)) (went same hash name log m known s old new at whole purposes of i u here said leads).4.did)
 
   pub retainings_are_swept : RetainingsAreSwept K V same hash
-  retainings_are_swept name log m known s old new at whole purposes of i u here said leads c c_is is_retain changes comes terms mask e caller worked_is outcome =
+  retainings_are_swept name log m known s old new at whole purposes of i u here said leads c c_is is_retain changes comes terms mask t caller worked_is outcome =
       let told = completed_said (known2 same hash name log m known s old new at whole purposes of i u here said leads) said comes in
       let is = still same hash name log m known s old new at whole purposes of i u here said leads c c_is in
-      swept_by same terms log e (name i) (v same hash name log m known s old new at whole purposes of i u here said leads c c_is)
+      swept_by same terms log t (name i) (v same hash name log m known s old new at whole purposes of i u here said leads c c_is)
       (then_call same hash name log m known s old new at whole purposes of i u here said leads c c_is) caller worked_is
       (then_is same hash name log m known s old new at whole purposes of i u here said leads c c_is) call.Retain (is.call ∙ is_retain) (Answered Completed) outcome
       (retaining same hash name log m known s old new at whole purposes of i u here said leads c c_is changes told (is.call ∙ is_retain) u here

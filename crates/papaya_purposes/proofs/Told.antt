@@ -1,5 +1,5 @@
 -- A retaining that takes what it is told: the last reply about each pair that it has done is yes.
-use Rattle.std.specs.Prelude.{◌≡◌, ◌≢◌, ℕ, ◌+◌, ◌<◌, ◌≤◌, Bool, true, false, cond, List, [], ◌∷◌, length, Option, Some, Ok, if◌then◌else◌, ◌⊎◌}
+use Rattle.std.specs.Prelude.{◌≡◌, ◌≢◌, ℕ, ◌+◌, ◌<◌, ◌≤◌, Bool, true, false, cond, List, [], ◌∷◌, Option, Some, Ok, if◌then◌else◌, ◌⊎◌}
 use Rattle.std.specs.List.{AllByRecursion}
 use Rattle.std.proofs.Common.{refl, ap, sym, subst, ◌∙◌, arith, inl, inr}
 use Rattle.std.proofs.lemmas.Bool.{cases_order, eq-eqb}
@@ -16,8 +16,7 @@ use Rattle.papaya_finds.specs.Given.Schedules.declared.call.Call.{Call}
 use Rattle.papaya_finds.specs.Given.Schedules.declared.call.Call.TheVariants as call
 use Rattle.papaya_finds.specs.Given.Schedules.declared.call.Reply.{Reply}
 use Rattle.papaya_finds.specs.Given.Schedules.declared.call.Reply.TheVariants.{Gives, Removes, Aborts, Decides}
-use Rattle.papaya_finds.specs.Given.Schedules.After.{moments_from, replied}
-use Rattle.papaya_finds.specs.Given.Schedules.Entry.{Entry}
+use Rattle.papaya_finds.specs.Given.Schedules.After.{replied}
 use Rattle.papaya_finds.specs.Given.Schedules.Moment.{Asking, Told, UnderWay as CallThere, Moment}
 use Rattle.papaya_finds.specs.Given.Schedules.Sweeps.{is_yes}
 use Rattle.papaya_finds.specs.Given.Schedules.Views.{call_of, reply_to}
@@ -54,7 +53,7 @@ use Rattle.papaya_purposes.proofs.Still.{within_still, classes_still, come_still
 use Rattle.papaya_finds.specs.Given.Scenes.Held.{Held, IsAt}
 use Rattle.papaya_finds.specs.Given.Scenes.Replying.{scene_with}
 use Rattle.papaya_finds.specs.Given.Scenes.Scene.{Scene, slot_of}
-use Rattle.papaya_finds.specs.Given.Schedules.Transition.{past}
+use Rattle.papaya_finds.specs.Given.Schedules.Transition.{Past}
 
 -- a pair that is not among them is none of them
 apart_step : (p x : ℕ) (xs : List ℕ) → times p (x ∷ xs) ≡ 0 → (x ≢ p) × (times p xs ≡ 0)
@@ -98,7 +97,7 @@ reply_purpose p keeps = by p.stands keeps
     by _ q = refl
 
 -- what is so of a retaining that asks about the pair of a word
-module _ {K V : Type 0} (same : K → K → Bool) (hash : ℕ → K → ℕ) (name : ℕ → List ℕ) (log : List (Entry K V)) (m : Moment K V) (known : Known) (s : Scene K V) (e : Held K V)
+module _ {K V : Type 0} (same : K → K → Bool) (hash : ℕ → K → ℕ) (name : ℕ → List ℕ) (log : Past K V) (m : Moment K V) (known : Known) (s : Scene K V) (e : Held K V)
     (at : IsAt same hash e s) (shown : Shows same name m known s) (of i : ℕ) (o : CallOverAll) (here : s.calls of i ≡ Some (OverAll o)) (st : Standing K) (there : s.maps of ≡ Some st)
     (word : ℕ) (stands : o.sweep.stands ≡ sweeping.Asks word) (q : ℕ) (names : NamesNumber known word q) where
   each : Together V same st.hash same st.setting slot_of s.world st.chart st.blocks st.sights (s.calls of)
@@ -147,7 +146,7 @@ module _ {K V : Type 0} (same : K → K → Bool) (hash : ℕ → K → ℕ) (na
 
   -- once it is told about that pair
   module _ (c d : CallThere K V) (told_so : Reply V) (m2 : Moment K V) (place : m2.place ≡ m.place) (stored : m2.stored ≡ m.stored) (same_call : d.call ≡ c.call) (begun : d.begun ≡ c.begun)
-      (replies : d.replies ≡ (Some q, told_so) ∷ c.replies) (is_for : IsFor (OverAll o) c.call) (had : HasSwept same of st number (since (past log) m c) o c) where
+      (replies : d.replies ≡ (Some q, told_so) ∷ c.replies) (is_for : IsFor (OverAll o) c.call) (had : HasSwept same of st number (since log m c) o c) where
     -- it has done that, by yes, or no more
     abbrev pub Does : List ℕ → Type 0
     Does done2 = (done2 ≡ o.done) ⊎ ((p : ℕ) × (done2 ≡ p ∷ o.done) × (p < st.chart.stored) × (number p ≡ q) × (told_so ≡ Decides true))
@@ -182,17 +181,17 @@ module _ {K V : Type 0} (same : K → K → Bool) (hash : ℕ → K → ℕ) (na
     below_done done2 (inl kept) = subst (AllByRecursion (λ n. n < st.chart.stored)) (sym kept) had.stored
     below_done done2 (inr (p, is, below, number_p, told_yes)) = subst (AllByRecursion (λ n. n < st.chart.stored)) (sym is) (below, had.stored)
 
-    pub told_come : (x : CallOverAll) → x.began ≡ o.began → x.sweep.purpose ≡ o.sweep.purpose → Does x.done → HasSwept same of st number (since (past log) m2 d) x d
+    pub told_come : (x : CallOverAll) → x.began ≡ o.began → x.sweep.purpose ≡ o.sweep.purpose → Does x.done → HasSwept same of st number (since log m2 d) x d
     told_come x began purpose does = record {
-      within = subst (PairsWithin of st number (since (past log) m2 d)) (sym began) (within_still same of st number log m m2 place stored c d begun o.began had.within);
+      within = subst (PairsWithin of st number (since log m2 d)) (sym began) (within_still same of st number log m m2 place stored c d begun o.began had.within);
       stored = below_done x.done does;
       tells = subst (λ (y : Call K V). TellsDone y number x.done d) (sym same_call) (tells c.call is_for had.tells x.done does);
       none = λ walks first. absurd (let r = retains in cc (walks, purpose, r));
       keys = λ walks. absurd (let r = retains in cc (walks, purpose, r));
-      classes = subst (IsWithin same of st number (since (past log) m2 d)) (sym began) (classes_still same of st number log m m2 place stored c d begun o.began had.classes);
+      classes = subst (IsWithin same of st number (since log m2 d)) (sym began) (classes_still same of st number log m m2 place stored c d begun o.began had.classes);
     }
 
-module _ {K V : Type 0} (same : K → K → Bool) (hash : ℕ → K → ℕ) (name : ℕ → List ℕ) (log : List (Entry K V)) (m : Moment K V) (known : Known) (s : Scene K V) (e : Held K V)
+module _ {K V : Type 0} (same : K → K → Bool) (hash : ℕ → K → ℕ) (name : ℕ → List ℕ) (log : Past K V) (m : Moment K V) (known : Known) (s : Scene K V) (e : Held K V)
     (at : IsAt same hash e s) (whole : ShowsWhole same name m known s) (purposes : ShowsPurposes same name log m known s) (of i : ℕ) (u : UnderWay K V K) (here : s.calls of i ≡ Some u)
     (c : CallThere K V) (c_is : call_of (name i) m ≡ Some c) (question : Option ℕ) (c_asks : c.stands ≡ Asking question) (about : AsksAboutIt known u question) (st : Standing K)
     (there : s.maps of ≡ Some st) (is_told : Reply V) (next : UnderWay K V K) (taken : (machine_replied (machine_of u) (as_told is_told)).1 ≡ Ok tt)
@@ -248,13 +247,13 @@ module _ {K V : Type 0} (same : K → K → Bool) (hash : ℕ → K → ℕ) (na
       asked : (q : ℕ) × (question ≡ Some q) × NamesNumber known asks.0 q
       asked = about o u_is asks.0 asks.1
 
-      had : HasSwept same of st (purposes.shown.number of) (since (past log) m c) o c
+      had : HasSwept same of st (purposes.shown.number of) (since log m c) o c
       had = purposes.come of i (OverAll o) o_is st there c c_is
 
       abbrev DoesNow : List ℕ → Type 0
       DoesNow done2 = (done2 ≡ o.done) ⊎ ((p : ℕ) × (done2 ≡ p ∷ o.done) × (p < st.chart.stored) × (purposes.shown.number of p ≡ asked.0) × (is_told ≡ Decides true))
 
-      come_by : (x : CallOverAll) → x.began ≡ o.began → x.sweep.purpose ≡ o.sweep.purpose → DoesNow x.done → HasSwept same of st (purposes.shown.number of) (since (past log) v d) x d
+      come_by : (x : CallOverAll) → x.began ≡ o.began → x.sweep.purpose ≡ o.sweep.purpose → DoesNow x.done → HasSwept same of st (purposes.shown.number of) (since log v d) x d
       come_by x began purpose does =
           told_come same hash name log m known s e at purposes.shown of i o o_is st there asks.0 asks.1 asked.0 asked.2 c d is_told v refl refl (ap (λ (f : CallThere K V). f.call) d_is)
           (ap (λ (f : CallThere K V). f.begun) d_is)
@@ -281,10 +280,10 @@ module _ {K V : Type 0} (same : K → K → Bool) (hash : ℕ → K → ℕ) (na
     own_come (OnKey z) y_is u_is (inr next_is) = subst (λ (y : UnderWay K V K). HasCome same of st (purposes.shown.number of) log v y d) (sym next_is) tt
     own_come (ForRoom r) y_is u_is next_is =
         subst (λ (y : UnderWay K V K). HasCome same of st (purposes.shown.number of) log v y d) (sym next_is)
-        (subst (λ (z : ℕ). HasMet of st (moments_from z log) r) (sym (ap (λ (f : CallThere K V). f.begun) d_is)) (purposes.come of i (ForRoom r) y_is st there c c_is))
+        (subst (λ (z : ℕ). HasMet of st (log.since z) r) (sym (ap (λ (f : CallThere K V). f.begun) d_is)) (purposes.come of i (ForRoom r) y_is st there c c_is))
     own_come (Counting sum) y_is u_is next_is =
         subst (λ (y : UnderWay K V K). HasCome same of st (purposes.shown.number of) log v y d) (sym next_is)
-        (subst (λ (z : ℕ). HasAdded of (moments_from z log) sum.setting.mask sum.stands) (sym (ap (λ (f : CallThere K V). f.begun) d_is)) (purposes.come of i (Counting sum) y_is st there c c_is))
+        (subst (λ (z : ℕ). HasAdded of (log.since z) sum.setting.mask sum.stands) (sym (ap (λ (f : CallThere K V). f.begun) d_is)) (purposes.come of i (Counting sum) y_is st there c c_is))
     own_come (OverAll o) y_is u_is to = own_sweep o y_is u_is to
 
   abbrev Which : ℕ → ℕ → UnderWay K V K → Type 0
@@ -293,11 +292,11 @@ module _ {K V : Type 0} (same : K → K → Bool) (hash : ℕ → K → ℕ) (na
   own_is : (n j : ℕ) (d : CallThere K V) → call_of (name j) v ≡ Some d → j ≡ i → d ≡ after
   own_is n j d d_is e = one_of d after (sym d_is ∙ ap (λ (k : ℕ). call_of (name k) v) e ∙ own_found)
 
-  begun_one : (n j : ℕ) (x : UnderWay K V K) (d : CallThere K V) → call_of (name j) v ≡ Some d → Which n j x → d.begun ≤ length log
-  begun_one n j x d d_is (inl a) = subst (λ (f : CallThere K V). f.begun ≤ length log) (sym (own_is n j d d_is a.1)) (purposes.begun of i u here c c_is)
+  begun_one : (n j : ℕ) (x : UnderWay K V K) (d : CallThere K V) → call_of (name j) v ≡ Some d → Which n j x → d.begun ≤ log.entries
+  begun_one n j x d d_is (inl a) = subst (λ (f : CallThere K V). f.begun ≤ log.entries) (sym (own_is n j d d_is a.1)) (purposes.begun of i u here c c_is)
   begun_one n j x d d_is (inr was) =
       let f = purposes.shown.calls n j x was.1 in
-      subst (λ (y : CallThere K V). y.begun ≤ length log) (sym (other_same n j x was.0 was.1 f.0 d f.1 d_is)) (purposes.begun n j x was.1 f.0 f.1)
+      subst (λ (y : CallThere K V). y.begun ≤ log.entries) (sym (other_same n j x was.0 was.1 f.0 d f.1 d_is)) (purposes.begun n j x was.1 f.0 f.1)
 
   for_one : (n j : ℕ) (x : UnderWay K V K) (d : CallThere K V) → call_of (name j) v ≡ Some d → Which n j x → IsFor x d.call
   for_one n j x d d_is (inl a) = subst (λ (y : UnderWay K V K). IsFor y d.call) (one_of next x a.2) (own_for d (own_is n j d d_is a.1) u (purposes.is_for of i u here c c_is) goes)
@@ -318,6 +317,8 @@ module _ {K V : Type 0} (same : K → K → Bool) (hash : ℕ → K → ℕ) (na
 
   pub told_purposes : ShowsPurposes same name log v known (scene_with of i next s)
   told_purposes = record {
+    past = purposes.past;
+    lasts = purposes.lasts;
     shown = b.0;
     begun = λ n j x is d d_is. begun_one n j x d d_is (which s.calls of i (Some next) n j x is);
     is_for = λ n j x is d d_is. for_one n j x d d_is (which s.calls of i (Some next) n j x is);

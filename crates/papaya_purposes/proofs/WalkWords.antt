@@ -13,7 +13,6 @@ use Rattle.papaya_finds.specs.Given.Raw.declared.machines.progress.Progress.{Pro
 use Rattle.papaya_finds.specs.Given.Raw.declared.machines.progress.Progress.TheVariants as progress
 use Rattle.papaya_finds.specs.Given.Schedules.declared.call.Call.{Call}
 use Rattle.papaya_finds.specs.Given.Schedules.declared.call.Call.TheVariants as call
-use Rattle.papaya_finds.specs.Given.Schedules.Entry.{Entry}
 use Rattle.papaya_finds.specs.Given.Schedules.Moment.{Moment}
 use Rattle.papaya_finds.specs.Given.Late.CoversSweeps.{Adds, DoneAt}
 use Rattle.papaya_finds.specs.Given.Late.ToldSweeps.{TellsSo}
@@ -33,6 +32,7 @@ use Rattle.papaya_purposes.proofs.Walks.{adds_one}
 use Rattle.papaya_finds.specs.Given.Scenes.Held.{Held, IsAt}
 use Rattle.papaya_finds.specs.Given.Scenes.Scene.{Scene, slot_of}
 use Rattle.papaya_finds.specs.Given.Scenes.Stepping.{StepLeads}
+use Rattle.papaya_finds.specs.Given.Schedules.Transition.{Past}
 
 -- a sweep answers that it is over
 over_swept : {T : Type 0} (end : Swept T) (answer : Answer) → of_swept end ≡ progress.Done answer → answer ≡ answers.Swept
@@ -45,7 +45,7 @@ over_swept (swept.Asks word) answer e = absurd (cc e)
 over_swept swept.Done answer e = let its : answers.Swept ≡ answer = cc e in sym its
 over_swept (swept.Refused fault) answer e = absurd (cc e)
 
-module _ {K V : Type 0} (same : K → K → Bool) (hash : ℕ → K → ℕ) (name : ℕ → List ℕ) (log : List (Entry K V)) (m : Moment K V) (known : Known) (s : Scene K V) (old new : Held K V)
+module _ {K V : Type 0} (same : K → K → Bool) (hash : ℕ → K → ℕ) (name : ℕ → List ℕ) (log : Past K V) (m : Moment K V) (known : Known) (s : Scene K V) (old new : Held K V)
     (at : IsAt same hash old s) (whole : ShowsWhole same name m known s) (purposes : ShowsPurposes same name log m known s) (of i : ℕ) (u : UnderWay K V K) (here : s.calls of i ≡ Some u)
     (said : Progress (Node K V)) (leads : StepLeads same hash i said s old new) where
   abbrev its : Standing K

@@ -1,5 +1,5 @@
 -- A step that shows a pair of a walk, whose event has come to that.
-use Rattle.std.specs.Prelude.{◌≡◌, ℕ, ◌<◌, ◌≤◌, Bool, true, false, List, ◌∷◌, length, map, Option, Some, if◌then◌else◌}
+use Rattle.std.specs.Prelude.{◌≡◌, ℕ, ◌<◌, ◌≤◌, Bool, true, false, List, ◌∷◌, map, Option, Some, if◌then◌else◌}
 use Rattle.std.specs.List.{AllByRecursion}
 use Rattle.std.proofs.Common.{refl, ap, sym, subst, ◌∙◌, inl, inr}
 use Rattle.papaya_finds.specs.Given.Seize.World.{World}
@@ -22,7 +22,6 @@ use Rattle.papaya_finds.specs.Given.Runs.Same.{is_same}
 use Rattle.papaya_finds.specs.Given.Schedules.declared.call.Call.{Call}
 use Rattle.papaya_finds.specs.Given.Schedules.declared.call.Call.TheVariants as call
 use Rattle.papaya_finds.specs.Given.Schedules.declared.outcome.Outcome.TheVariants.{Shows as ShowsOne}
-use Rattle.papaya_finds.specs.Given.Schedules.Entry.{Entry}
 use Rattle.papaya_finds.specs.Given.Schedules.Moment.{UnderWay as CallThere, Moment}
 use Rattle.papaya_finds.specs.Given.Schedules.Views.{call_of}
 use Rattle.papaya_finds.specs.Given.Rule.Chart.{Chart}
@@ -57,7 +56,7 @@ use Rattle.papaya_purposes.specs.Kept.{PairsChangeFirst, WalksShowPurposes}
 use Rattle.papaya_purposes.specs.Purposes.{IsFor, TellsDone, KeysOf, HasSwept, HasCome, ShowsPurposes}
 use Rattle.papaya_finds.specs.Given.Named.Machines.{IsBefore}
 use Rattle.papaya_purposes.proofs.Done.{maps_kept}
-use Rattle.papaya_purposes.proofs.Kept.{then_at, v, next, number2, Which, which_is, begun_then, for_then, other_come}
+use Rattle.papaya_purposes.proofs.Kept.{then_at, v, next, number2, Which, which_is, begun_then, for_then, other_come, lasts_then}
 use Rattle.papaya_purposes.proofs.KeysMoved.{one_shown, carried, keyed_then, names_keyed}
 use Rattle.papaya_purposes.proofs.KeysOn.{StandsLow}
 use Rattle.papaya_purposes.proofs.Pairs.{pair_swept}
@@ -68,7 +67,7 @@ use Rattle.papaya_purposes.proofs.Still.{within_still, classes_still, come_still
 use Rattle.papaya_finds.specs.Given.Scenes.Held.{Held, IsAt}
 use Rattle.papaya_finds.specs.Given.Scenes.Scene.{Scene, slot_of}
 use Rattle.papaya_finds.specs.Given.Scenes.Stepping.{StepLeads, StepsFrom}
-use Rattle.papaya_finds.specs.Given.Schedules.Transition.{past}
+use Rattle.papaya_finds.specs.Given.Schedules.Transition.{Past}
 
 module _ {K : Type 0} (hash : K → ℕ) (c : Chart K) (blocks : Blocks) (done done2 : List ℕ) (entered entered2 word : ℕ) where
   -- one that shows a pair has read its word at a place of its table, and has done one pair more
@@ -98,11 +97,11 @@ none_room word (outcome.Gave value) e = cc e
 none_room word (outcome.Done end) e = cc e
 none_room word (outcome.Refused fault) e = cc e
 
-module _ {K V : Type 0} (same : K → K → Bool) (hash : ℕ → K → ℕ) (name : ℕ → List ℕ) (log : List (Entry K V)) (m : Moment K V) (known : Known) (s : Scene K V) (old new : Held K V)
+module _ {K V : Type 0} (same : K → K → Bool) (hash : ℕ → K → ℕ) (name : ℕ → List ℕ) (log : Past K V) (m : Moment K V) (known : Known) (s : Scene K V) (old new : Held K V)
     (at : IsAt same hash old s) (whole : ShowsWhole same name m known s) (purposes : ShowsPurposes same name log m known s) (of i : ℕ) (u : UnderWay K V K) (here : s.calls of i ≡ Some u)
     (word : ℕ) (leads : StepLeads same hash i (progress.Pair word) s old new)
     (changes : PairsChangeFirst log m of (v same hash name log m known s old new at whole purposes of i u here (progress.Pair word) leads))
-    (class_first : ChangesFirst (past log) m same of (v same hash name log m known s old new at whole purposes of i u here (progress.Pair word) leads)) (q steps : ℕ)
+    (class_first : ChangesFirst log m same of (v same hash name log m known s old new at whole purposes of i u here (progress.Pair word) leads)) (q steps : ℕ)
     (names : NamesPair (known2 same hash name log m known s old new at whole purposes of i u here (progress.Pair word) leads) word q) where
   abbrev then_there : Scene K V
   then_there = then_at same hash name log m known s old new at whole purposes of i u here (progress.Pair word) leads
@@ -151,7 +150,7 @@ module _ {K V : Type 0} (same : K → K → Bool) (hash : ℕ → K → ℕ) (na
       (d_is : call_of (name i) v1 ≡ Some d) (p2 : Sweep) (n entered2 : ℕ) (done2 : List ℕ) (done_is : done2 ≡ n ∷ o.done) (below : n < st.chart.stored) (told : q ≡ numbers2 of n)
       (purpose : p2.purpose ≡ o.sweep.purpose) (walks : p2.purpose ≡ Walks) (ready : p2.stands ≡ sweeping.Ready) (keys : KeysOf same st (came_to o entered2 done2 p2)) where
     abbrev before : HasSwept same of (its_before same hash name log m known s old new at whole purposes of i u here (progress.Pair word) leads changes o o_is st there c d c_is d_is)
-        (purposes.shown.number of) (since (past log) m c) o c
+        (purposes.shown.number of) (since log m c) o c
     before = had same hash name log m known s old new at whole purposes of i u here (progress.Pair word) leads changes o o_is st there c d c_is d_is
 
     still : IsStill c d
@@ -175,7 +174,7 @@ module _ {K V : Type 0} (same : K → K → Bool) (hash : ℕ → K → ℕ) (na
     tells call.Walk is has =
         cons_both q (numbers2 of n) d.shown (map (numbers2 of) o.done) told (still.shown ∙ has ∙ sym numbers_of) ∙ ap (map (numbers2 of)) (sym done_is)
 
-    pub own_shows : HasSwept same of st (numbers2 of) (since (past log) v3 (come (ShowsOne q) steps d)) (came_to o entered2 done2 p2) (come (ShowsOne q) steps d)
+    pub own_shows : HasSwept same of st (numbers2 of) (since log v3 (come (ShowsOne q) steps d)) (came_to o entered2 done2 p2) (come (ShowsOne q) steps d)
     own_shows = record {
       within = within_still same of st (numbers2 of) log v1 v3 refl refl d (come (ShowsOne q) steps d) refl o.began
           (own_within same hash name log m known s old new at whole purposes of i u here (progress.Pair word) leads changes o o_is st there c d c_is d_is);
@@ -232,7 +231,7 @@ module _ {K V : Type 0} (same : K → K → Bool) (hash : ℕ → K → ℕ) (na
       walked : o.sweep.purpose ≡ Walks
       walked = sym step.step.went.told.stands.purpose ∙ walks
 
-      was : HasSwept same of its (purposes.shown.number of) (since (past log) m c) o c
+      was : HasSwept same of its (purposes.shown.number of) (since log m c) o c
       was = purposes.come of i (OverAll o) y_is its (went same hash name log m known s old new at whole purposes of i u here (progress.Pair word) leads).2 c c_is
 
       -- the pair that it shows is the one that stands at its place
@@ -266,7 +265,7 @@ module _ {K V : Type 0} (same : K → K → Bool) (hash : ℕ → K → ℕ) (na
                 ),
           )
 
-      so : HasSwept same of st (numbers2 of) (since (past log) v3 (come (ShowsOne q) steps d)) (came_to o step.step.entered2 step.step.done2 p2) (come (ShowsOne q) steps d)
+      so : HasSwept same of st (numbers2 of) (since log v3 (come (ShowsOne q) steps d)) (came_to o step.step.entered2 step.step.done2 p2) (come (ShowsOne q) steps d)
       so =
           own_shows o y_is st there c d c_is d_is p2 one.1.0 step.step.entered2 step.step.done2 one.1.2 (subst (λ (z : Standing K). one.1.0 < z.chart.stored) then_is one.1.1.0)
           (number_told same hash name log m known s old new at whole purposes of i u here (progress.Pair word) leads o p2 end step moved.1 word one.1.0 q one.1.1 names)
@@ -306,10 +305,12 @@ module _ {K V : Type 0} (same : K → K → Bool) (hash : ℕ → K → ℕ) (na
 
   pub shows_purposes : ShowsPurposes same name log v3 known_then then_there
   shows_purposes = record {
+    past = purposes.past;
+    lasts = lasts_then same hash name log m known s old new at whole purposes of i u here (progress.Pair word) leads;
     shown = b.0;
     begun = λ n j x is e e_is.
         let d = was_called n j x is e e_is in
-        subst (λ (z : ℕ). z ≤ length log) (sym (same_calls d.0 e d.2).1)
+        subst (λ (z : ℕ). z ≤ log.entries) (sym (same_calls d.0 e d.2).1)
         (begun_then same hash name log m known s old new at whole purposes of i u here (progress.Pair word) leads n j x d.0 d.1 (which_then n j x is));
     is_for = λ n j x is e e_is.
         let d = was_called n j x is e e_is in

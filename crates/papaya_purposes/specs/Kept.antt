@@ -1,5 +1,5 @@
 -- Where a run goes on, the moment says what calls on whole maps have come to, and what they are for.
-use Rattle.std.specs.Prelude.{◌≡◌, ℕ, Bool, true, List, [], ◌∷◌, length, Option, Some, Ok, ◌⊎◌}
+use Rattle.std.specs.Prelude.{◌≡◌, ℕ, Bool, true, List, Option, Some, Ok, ◌⊎◌, suc}
 use Rattle.papaya_finds.specs.Given.Tables.declared.node.Node.{Node}
 use Rattle.papaya_finds.specs.Given.Sweeps.SweepPoints.{after_next}
 use Rattle.papaya_finds.specs.Given.Sweeps.declared.sweep.Sweeping.TheVariants as at
@@ -10,34 +10,32 @@ use Rattle.papaya_finds.specs.Given.Schedules.declared.call.Call.{Call}
 use Rattle.papaya_finds.specs.Given.Schedules.declared.call.Reply.{Reply}
 use Rattle.papaya_finds.specs.Given.Schedules.declared.outcome.Outcome.{Outcome}
 use Rattle.papaya_finds.specs.Given.Schedules.declared.outcome.Outcome.TheVariants.{Shows}
-use Rattle.papaya_finds.specs.Given.Schedules.After.{moment}
 use Rattle.papaya_finds.specs.Given.Schedules.Beginning.{with_call}
 use Rattle.papaya_finds.specs.Given.Schedules.Effects.{with_effects}
-use Rattle.papaya_finds.specs.Given.Schedules.Entry.{Entry, ends_call}
-use Rattle.papaya_finds.specs.Given.Schedules.Moment.{Asking, UnderWay as CallThere, Moment, start}
+use Rattle.papaya_finds.specs.Given.Schedules.Entry.{ends_call}
+use Rattle.papaya_finds.specs.Given.Schedules.Moment.{Asking, UnderWay as CallThere, Moment}
 use Rattle.papaya_finds.specs.Given.Schedules.Views.{call_of, is_in_map}
 use Rattle.papaya_finds.specs.Given.Callers.OverAll.{CallOverAll, gone_on}
 use Rattle.papaya_finds.specs.Given.Callers.Together.{UnderWay, OverAll}
 use Rattle.papaya_finds.specs.Given.Effects.Effects.{effects_of, known_after}
-use Rattle.papaya_finds.specs.Given.Effects.Known.{Known, nothing_known}
+use Rattle.papaya_finds.specs.Given.Effects.Known.{Known}
 use Rattle.papaya_finds.specs.Given.Effects.declared.acting.Acting.TheVariants as acts
 use Rattle.papaya_finds.specs.Given.Finishes.Machines.{machine_of, ToldOfKind}
-use Rattle.papaya_finds.specs.Given.Finishes.Maps.{Standing, with_call as with_in}
+use Rattle.papaya_finds.specs.Given.Finishes.Maps.{Standing}
 use Rattle.papaya_finds.specs.Given.Follows.Calling.{NoneNamed, told, come_to}
 use Rattle.papaya_finds.specs.Given.Follows.Calls.{IsCalled}
 use Rattle.papaya_finds.specs.Given.Hands.Asked.{as_told}
 use Rattle.papaya_finds.specs.Given.Histories.Answers.{NamesPair}
 use Rattle.papaya_finds.specs.Given.Histories.Kept.{HasJustBegun, ChangesFirst}
 use Rattle.papaya_finds.specs.Given.Moments.Whole.{ShowsWhole}
-use Rattle.papaya_finds.specs.Given.Others.Walks.{given_up}
 use Rattle.papaya_purposes.specs.Purposes.{IsFor, ShowsPurposes}
 use Rattle.papaya_purposes.specs.Shards.{ReadsShards}
 use Rattle.papaya_finds.specs.Given.Scenes.Beginning.{Begins}
 use Rattle.papaya_finds.specs.Given.Scenes.Held.{Held, IsAt}
-use Rattle.papaya_finds.specs.Given.Scenes.Replying.{StopLeads, scene_with, unless_stopped}
-use Rattle.papaya_finds.specs.Given.Scenes.Scene.{Scene, at_first, slot_of}
+use Rattle.papaya_finds.specs.Given.Scenes.Replying.{scene_with}
+use Rattle.papaya_finds.specs.Given.Scenes.Scene.{Scene, slot_of}
 use Rattle.papaya_finds.specs.Given.Scenes.Stepping.{StepLeads, scene_after}
-use Rattle.papaya_finds.specs.Given.Schedules.Transition.{past}
+use Rattle.papaya_finds.specs.Given.Schedules.Transition.{Past, further}
 
 -- the step shows no pair of a walk
 abbrev pub ShowsNone : {T : Type 0} → Progress T → Type 0
@@ -51,31 +49,27 @@ TellsNone _ = Unit {0}
 
 module _ {K V : Type 0} where
   -- A pair that comes into this map then, or leaves it, was in it, or not, as at the end of the last event: none changes twice within one event.
-  abbrev pub PairsChangeFirst : List (Entry K V) → Moment K V → ℕ → Moment K V → Type 0
+  abbrev pub PairsChangeFirst : Past K V → Moment K V → ℕ → Moment K V → Type 0
   PairsChangeFirst log m of v =
-      (n : ℕ) → (is_in_map of (v.place n) ≡ is_in_map of (m.place n)) ⊎ (is_in_map of (m.place n) ≡ is_in_map of ((moment log).place n))
+      (n : ℕ) → (is_in_map of (v.place n) ≡ is_in_map of (m.place n)) ⊎ (is_in_map of (m.place n) ≡ is_in_map of (log.now.place n))
 
   -- no pair has come into this map since the last event of the log
-  abbrev pub NoneCame : List (Entry K V) → Moment K V → ℕ → Type 0
-  NoneCame log m of = (n : ℕ) → is_in_map of (m.place n) ≡ true → is_in_map of ((moment log).place n) ≡ true
+  abbrev pub NoneCame : Past K V → Moment K V → ℕ → Type 0
+  NoneCame log m of = (n : ℕ) → is_in_map of (m.place n) ≡ true → is_in_map of (log.now.place n) ≡ true
 
   -- what a retaining asks about, which stands at a word, is the pair that the word names
   abbrev pub AsksAboutIt : Known → UnderWay K V K → Option ℕ → Type 0
   AsksAboutIt known u question = (o : CallOverAll) → u ≡ OverAll o → (word : ℕ) → o.sweep.stands ≡ at.Asks word → (q : ℕ) × (question ≡ Some q) × NamesPair known word q
 
--- The promises: so it is before all events,
-abbrev pub PurposesBegin : Type 0 → Type 0 → Type 0
-PurposesBegin K V = (same : K → K → Bool) (roots : ℕ) (name : ℕ → List ℕ) → ShowsPurposes {K = K} {V = V} same name [] start nothing_known (at_first roots)
-
 module _ (K V : Type 0) (same : K → K → Bool) (hash : ℕ → K → ℕ) where
-  -- after each step of a call, whoever's, which shows no pair of a walk, if no pair comes and goes, and no class changes twice, within one event by it; one that counts reads shards as they are,
+  -- The promises: so it is after each step of a call, whoever's, which shows no pair of a walk, if no pair comes and goes, and no class changes twice, within one event by it; one that counts reads shards as they are,
   abbrev pub CallsKeepPurposes : Type 0
   CallsKeepPurposes =
-      (name : ℕ → List ℕ) (log : List (Entry K V)) (m : Moment K V) (known : Known) (s : Scene K V) (old new : Held K V) → IsAt same hash old s
+      (name : ℕ → List ℕ) (log : Past K V) (m : Moment K V) (known : Known) (s : Scene K V) (old new : Held K V) → IsAt same hash old s
       → ShowsWhole same name m known s → ShowsPurposes same name log m known s
       → (of i : ℕ) (u : UnderWay K V K) (here : s.calls of i ≡ Some u) (said : Progress (Node K V)) (leads : StepLeads same hash i said s old new)
       → PairsChangeFirst log m of (with_effects (Some (name i)) (Some of) (effects_of (acts.Call i of) known new.changed) m)
-      → ChangesFirst (past log) m same of (with_effects (Some (name i)) (Some of) (effects_of (acts.Call i of) known new.changed) m) → ReadsShards log m s of u → ShowsNone said
+      → ChangesFirst log m same of (with_effects (Some (name i)) (Some of) (effects_of (acts.Call i of) known new.changed) m) → ReadsShards log m s of u → ShowsNone said
       → (let to = leads of u here in
       ShowsPurposes same name log (with_effects (Some (name i)) (Some of) (effects_of (acts.Call i of) known new.changed) m) (known_after (acts.Call i of) new.changed known)
       (scene_after same s old new of i to.0 u to.1 said to.4))
@@ -83,11 +77,11 @@ module _ (K V : Type 0) (same : K → K → Bool) (hash : ℕ → K → ℕ) whe
   -- after one that shows a pair of a walk, where the event has come to that,
   abbrev pub WalksShowPurposes : Type 0
   WalksShowPurposes =
-      (name : ℕ → List ℕ) (log : List (Entry K V)) (m : Moment K V) (known : Known) (s : Scene K V) (old new : Held K V) → IsAt same hash old s
+      (name : ℕ → List ℕ) (log : Past K V) (m : Moment K V) (known : Known) (s : Scene K V) (old new : Held K V) → IsAt same hash old s
       → ShowsWhole same name m known s → ShowsPurposes same name log m known s
       → (of i : ℕ) (u : UnderWay K V K) (here : s.calls of i ≡ Some u) (word : ℕ) (leads : StepLeads same hash i (progress.Pair word) s old new)
       → PairsChangeFirst log m of (with_effects (Some (name i)) (Some of) (effects_of (acts.Call i of) known new.changed) m)
-      → ChangesFirst (past log) m same of (with_effects (Some (name i)) (Some of) (effects_of (acts.Call i of) known new.changed) m)
+      → ChangesFirst log m same of (with_effects (Some (name i)) (Some of) (effects_of (acts.Call i of) known new.changed) m)
       → (q steps : ℕ) → NamesPair (known_after (acts.Call i of) new.changed known) word q
       → (let to = leads of u here in
       ShowsPurposes same name log (come_to (name i) (Shows q) steps (with_effects (Some (name i)) (Some of) (effects_of (acts.Call i of) known new.changed) m))
@@ -96,15 +90,15 @@ module _ (K V : Type 0) (same : K → K → Bool) (hash : ℕ → K → ℕ) whe
   -- where a call begins, by a name that no call under way has, as the next event begins,
   abbrev pub CallsBeginPurposes : Type 0
   CallsBeginPurposes =
-      (name : ℕ → List ℕ) (log : List (Entry K V)) (m : Moment K V) (known : Known) (s : Scene K V) (e : Held K V) → IsAt same hash e s → ShowsPurposes same name log m known s
+      (name : ℕ → List ℕ) (log : Past K V) (m : Moment K V) (known : Known) (s : Scene K V) (e : Held K V) → IsAt same hash e s → ShowsPurposes same name log m known s
       → (of i : ℕ) (u : UnderWay K V K) (call : Call K V) (guard : List ℕ) (standing : Standing K) → s.maps of ≡ Some standing → Begins same standing i u
-      → NoneNamed name (name i) s → IsCalled same u call → IsFor u call → m.events ≡ length log → m.maps ≡ (moment log).maps
+      → NoneNamed name (name i) s → IsCalled same u call → IsFor u call → m.events ≡ log.entries → m.maps ≡ log.now.maps
       → ShowsPurposes same name log (with_call (name i) guard call (Some of) m) known (scene_with of i u s)
 
   -- where one that asks takes what it is told about that,
   abbrev pub CallsTakePurposes : Type 0
   CallsTakePurposes =
-      (name : ℕ → List ℕ) (log : List (Entry K V)) (m : Moment K V) (known : Known) (s : Scene K V) (e : Held K V) → IsAt same hash e s
+      (name : ℕ → List ℕ) (log : Past K V) (m : Moment K V) (known : Known) (s : Scene K V) (e : Held K V) → IsAt same hash e s
       → ShowsWhole same name m known s → ShowsPurposes same name log m known s
       → (of i : ℕ) (u : UnderWay K V K) → s.calls of i ≡ Some u → (c : CallThere K V) → call_of (name i) m ≡ Some c → (question : Option ℕ) → c.stands ≡ Asking question
       → AsksAboutIt known u question
@@ -112,43 +106,27 @@ module _ (K V : Type 0) (same : K → K → Bool) (hash : ℕ → K → ℕ) whe
       → (machine_replied (machine_of u) (as_told is_told)).1 ≡ Ok tt → ToldOfKind V same same e.batch_size e.roots slot_of standing i u (as_told is_told) next
       → ShowsPurposes same name log (told (name i) is_told m) known (scene_with of i next s)
 
-  -- where a walk that is ready is given up, and no call that is under way then has its name,
-  abbrev pub WalksStopPurposes : Type 0
-  WalksStopPurposes =
-      (name : ℕ → List ℕ) (log : List (Entry K V)) (m : Moment K V) (known : Known) (s : Scene K V) (old new : Held K V) → ShowsPurposes same name log m known s
-      → (i : ℕ) (stopped : Bool) → StopLeads same hash i stopped s old new → (of : ℕ) (u : UnderWay K V K) → s.calls of i ≡ Some u
-      → (let after = record s { calls = with_in s.calls of i (unless_stopped stopped u) } in
-      (stopped ≡ true → NoneNamed name (name i) after) → ShowsPurposes same name log (given_up (name i) stopped m) known after)
-
 module _ (K V : Type 0) (same : K → K → Bool) where
   -- where a walk that is ready is asked for its next pair,
   abbrev pub WalksGoOnPurposes : Type 0
   WalksGoOnPurposes =
-      (name : ℕ → List ℕ) (log : List (Entry K V)) (m : Moment K V) (known : Known) (s : Scene K V) → ShowsPurposes same name log m known s
+      (name : ℕ → List ℕ) (log : Past K V) (m : Moment K V) (known : Known) (s : Scene K V) → ShowsPurposes same name log m known s
       → (of i : ℕ) (o : CallOverAll) → s.calls of i ≡ Some (OverAll o) → o.sweep.stands ≡ at.Ready
       → ShowsPurposes same name log m known (scene_with of i (OverAll (gone_on o (after_next o.sweep))) s)
 
   -- where one comes to an outcome that tells of no pair,
   abbrev pub CallsComeToPurposes : Type 0
   CallsComeToPurposes =
-      (name : ℕ → List ℕ) (log : List (Entry K V)) (m : Moment K V) (known : Known) (s : Scene K V) → ShowsPurposes same name log m known s
+      (name : ℕ → List ℕ) (log : Past K V) (m : Moment K V) (known : Known) (s : Scene K V) → ShowsPurposes same name log m known s
       → (own : List ℕ) (outcome : Outcome V) (steps : ℕ) → TellsNone outcome → (ends_call outcome ≡ true → NoneNamed name own s)
       → ShowsPurposes same name log (come_to own outcome steps m) known s
 
   -- and where an event is over, and its moment is one of the log.
   abbrev pub EventsKeepPurposes : Type 0
   EventsKeepPurposes =
-      (name : ℕ → List ℕ) (log : List (Entry K V)) (e : Entry K V) (known : Known) (s : Scene K V) → ShowsPurposes same name log (moment (e ∷ log)) known s
-      → ShowsPurposes same name (e ∷ log) (moment (e ∷ log)) known s
+      (name : ℕ → List ℕ) (log : Past K V) (m : Moment K V) (known : Known) (s : Scene K V) → ShowsPurposes same name log m known s → m.events ≡ suc log.entries
+      → ShowsPurposes same name (further m log) m known s
 
-module _ (K V : Type 0) where
-  -- The first step of an event changes no pair twice; nor does one by which none comes or goes; nor one by which some only go, where none has come before.
-  abbrev pub FirstStepsChangePairsFirst : Type 0
-  FirstStepsChangePairsFirst = (log : List (Entry K V)) (m v : Moment K V) (of : ℕ) → HasJustBegun (past log) m → PairsChangeFirst log m of v
-
-  abbrev pub StillStepsChangePairsFirst : Type 0
-  StillStepsChangePairsFirst = (log : List (Entry K V)) (m v : Moment K V) (of : ℕ) → ((n : ℕ) → is_in_map of (v.place n) ≡ is_in_map of (m.place n)) → PairsChangeFirst log m of v
-
-  abbrev pub RemovalsChangePairsFirst : Type 0
-  RemovalsChangePairsFirst =
-      (log : List (Entry K V)) (m v : Moment K V) (of : ℕ) → NoneCame log m of → ((n : ℕ) → is_in_map of (v.place n) ≡ true → is_in_map of (m.place n) ≡ true) → PairsChangeFirst log m of v
+-- The first step of an event changes no pair twice.
+abbrev pub FirstStepsChangePairsFirst : Type 0 → Type 0 → Type 0
+FirstStepsChangePairsFirst K V = (log : Past K V) (m v : Moment K V) (of : ℕ) → HasJustBegun log m → PairsChangeFirst log m of v

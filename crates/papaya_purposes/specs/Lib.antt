@@ -4,7 +4,6 @@ pub mod Tableless
 pub mod Purposes
 pub mod Shards
 pub mod Kept
-pub mod Rows
 pub mod Swept
 pub mod Elsewhere
 pub mod Given

@@ -1,6 +1,6 @@
 -- What a call on a whole map has come to, in the words of a run: what it has counted, which pairs it has shown or was told to keep, and that it is for what was
 -- called.
-use Rattle.std.specs.Prelude.{◌≡◌, ℕ, suc, ◌<◌, ◌≤◌, ◌%◌, ◌^◌, Bool, true, List, [], length, map, Some}
+use Rattle.std.specs.Prelude.{◌≡◌, ℕ, suc, ◌<◌, ◌≤◌, ◌%◌, ◌^◌, Bool, true, List, [], map, Some}
 use Rattle.std.specs.List.{AllByRecursion}
 use Rattle.papaya_finds.specs.Given.Tables.Chunks.{is_incremental}
 use Rattle.papaya_finds.specs.Given.Resize.declared.sum.Summing.{Summing}
@@ -10,9 +10,7 @@ use Rattle.papaya_finds.specs.Given.Reserves.declared.reserve.Reserving.TheVaria
 use Rattle.papaya_finds.specs.Given.Sweeps.declared.sweep.Purpose.TheVariants.{Walks, Clears, Retains}
 use Rattle.papaya_finds.specs.Given.Schedules.declared.call.Call.{Call}
 use Rattle.papaya_finds.specs.Given.Schedules.declared.call.Call.TheVariants.{On, Reserve, Clear, Retain, Len, Walk}
-use Rattle.papaya_finds.specs.Given.Schedules.After.{moments_from}
 use Rattle.papaya_finds.specs.Given.Schedules.Counts.{AddsUp, Counts}
-use Rattle.papaya_finds.specs.Given.Schedules.Entry.{Entry}
 use Rattle.papaya_finds.specs.Given.Schedules.Lists.{OneOf}
 use Rattle.papaya_finds.specs.Given.Schedules.Moment.{UnderWay as CallThere, Moment}
 use Rattle.papaya_finds.specs.Given.Schedules.Sweeps.{is_yes}
@@ -24,13 +22,14 @@ use Rattle.papaya_finds.specs.Given.Callers.Together.{UnderWay, OnKey, ForRoom, 
 use Rattle.papaya_finds.specs.Given.Effects.Known.{Known}
 use Rattle.papaya_finds.specs.Given.Finishes.Maps.{Standing}
 use Rattle.papaya_finds.specs.Given.Follows.Shows.{Shows}
-use Rattle.papaya_finds.specs.Given.Histories.Histories.{since, IsWithin}
+use Rattle.papaya_finds.specs.Given.Histories.Histories.{since, IsWithin, IsPast}
 use Rattle.papaya_finds.specs.Reserving.{ReservesAt}
 use Rattle.papaya_purposes.specs.Keys.{KeysAt, AreKeyed}
 use Rattle.papaya_purposes.specs.Needs.{NeedsAt}
 use Rattle.papaya_finds.specs.Given.Named.Machines.{IsBefore}
 use Rattle.papaya_finds.specs.Given.Scenes.Scene.{Scene}
-use Rattle.papaya_finds.specs.Given.Schedules.Transition.{past}
+use Rattle.papaya_finds.specs.Given.Schedules.Transition.{Past}
+use Rattle.papaya_finds.specs.Given.Runs.Log.{pair_at}
 
 -- by key, what a sweep that is a walk has come to in its map
 abbrev pub KeysOf : {K : Type 0} → (K → K → Bool) → Standing K → CallOverAll → Type 0
@@ -92,17 +91,25 @@ module _ {K V : Type 0} where
     pub reserves : ReservesAt of moments r.reserve r.reserve.stands
     pub needs : NeedsAt of moments r.reserve r.reserve.stands
 
-  -- what a call has come to
-  abbrev pub HasCome : (K → K → Bool) → ℕ → Standing K → (ℕ → ℕ) → List (Entry K V) → Moment K V → UnderWay K V K → CallThere K V → Type 0
-  HasCome same of s number log m (OnKey u) c = Unit {0}
-  HasCome same of s number log m (ForRoom r) c = HasMet of s (moments_from c.begun log) r
-  HasCome same of s number log m (Counting sum) c = HasAdded of (moments_from c.begun log) sum.setting.mask sum.stands
-  HasCome same of s number log m (OverAll o) c = HasSwept same of s number (since (past log) m c) o c
+  -- what was stored at any of the moments since an entry has its number still at this one
+  abbrev pub NumbersLast : Past K V → Moment K V → Type 0
+  NumbersLast log m =
+      (begun : ℕ) → AllByRecursion (λ v. (n : ℕ) (pair : K × V) → pair_at v.stored n ≡ Some pair → pair_at m.stored n ≡ Some pair) (log.since begun)
 
--- The moment shows the scene. The event that began a call is one of the log or the next one; each call is for what was called, and has come to what it says.
-pub record ShowsPurposes {K V : Type 0} (same : K → K → Bool) (name : ℕ → List ℕ) (log : List (Entry K V)) (m : Moment K V) (known : Known) (s : Scene K V) : Type 0 where
+  -- what a call has come to
+  abbrev pub HasCome : (K → K → Bool) → ℕ → Standing K → (ℕ → ℕ) → Past K V → Moment K V → UnderWay K V K → CallThere K V → Type 0
+  HasCome same of s number log m (OnKey u) c = Unit {0}
+  HasCome same of s number log m (ForRoom r) c = HasMet of s (log.since c.begun) r
+  HasCome same of s number log m (Counting sum) c = HasAdded of (log.since c.begun) sum.setting.mask sum.stands
+  HasCome same of s number log m (OverAll o) c = HasSwept same of s number (since log m c) o c
+
+-- The moment shows the scene, and has each pair that was stored at one before by the number that it had. The event that began a call is one of the log or the next one;
+-- each call is for what was called, and has come to what it says.
+pub record ShowsPurposes {K V : Type 0} (same : K → K → Bool) (name : ℕ → List ℕ) (log : Past K V) (m : Moment K V) (known : Known) (s : Scene K V) : Type 0 where
+  pub past : IsPast log
+  pub lasts : NumbersLast log m
   pub shown : Shows same name m known s
-  pub begun : (of i : ℕ) (u : UnderWay K V K) → s.calls of i ≡ Some u → (c : CallThere K V) → call_of (name i) m ≡ Some c → c.begun ≤ length log
+  pub begun : (of i : ℕ) (u : UnderWay K V K) → s.calls of i ≡ Some u → (c : CallThere K V) → call_of (name i) m ≡ Some c → c.begun ≤ log.entries
   pub is_for : (of i : ℕ) (u : UnderWay K V K) → s.calls of i ≡ Some u → (c : CallThere K V) → call_of (name i) m ≡ Some c → IsFor u c.call
   pub come : (of i : ℕ) (u : UnderWay K V K) → s.calls of i ≡ Some u → (standing : Standing K) → s.maps of ≡ Some standing → (c : CallThere K V) → call_of (name i) m ≡ Some c
       → HasCome same of standing (shown.number of) log m u c

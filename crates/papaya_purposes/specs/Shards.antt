@@ -2,9 +2,7 @@
 use Rattle.std.specs.Prelude.{◌≡◌, ℕ, Bool, List, Some}
 use Rattle.papaya_finds.specs.Given.Tables.declared.node.Node.{Node}
 use Rattle.papaya_finds.specs.Given.Raw.declared.machines.progress.Progress.{Progress}
-use Rattle.papaya_finds.specs.Given.Schedules.After.{moment}
 use Rattle.papaya_finds.specs.Given.Schedules.Effects.{with_effects}
-use Rattle.papaya_finds.specs.Given.Schedules.Entry.{Entry}
 use Rattle.papaya_finds.specs.Given.Schedules.Moment.{Moment}
 use Rattle.papaya_finds.specs.Given.Callers.Together.{UnderWay}
 use Rattle.papaya_finds.specs.Given.Effects.Effects.{effects_of}
@@ -19,29 +17,30 @@ use Rattle.papaya_purposes.specs.Tableless.{TablelessUncounted}
 use Rattle.papaya_finds.specs.Given.Scenes.Held.{Held, IsAt}
 use Rattle.papaya_finds.specs.Given.Scenes.Scene.{Scene}
 use Rattle.papaya_finds.specs.Given.Scenes.Stepping.{StepLeads}
+use Rattle.papaya_finds.specs.Given.Schedules.Transition.{Past}
 
 module _ {K V : Type 0} where
   -- no shard of this map has changed since the last event of the log, and they said nothing if the map has had no table
-  abbrev pub NoneCounted : List (Entry K V) → Moment K V → ℕ → Type 0
-  NoneCounted log m of = ((shard : ℕ) → m.shards of shard ≡ (moment log).shards of shard) × (many_of of m ≡ 0 → (shard : ℕ) → (moment log).shards of shard ≡ 0)
+  abbrev pub NoneCounted : Past K V → Moment K V → ℕ → Type 0
+  NoneCounted log m of = ((shard : ℕ) → m.shards of shard ≡ log.now.shards of shard) × (many_of of m ≡ 0 → (shard : ℕ) → log.now.shards of shard ≡ 0)
 
   -- so it is where the map stands and has had none
-  abbrev pub SaysNothing : List (Entry K V) → Scene K V → ℕ → Type 0
-  SaysNothing log s of = (standing : Standing K) → s.maps of ≡ Some standing → standing.chart.past ≡ 0 → (shard : ℕ) → (moment log).shards of shard ≡ 0
+  abbrev pub SaysNothing : Past K V → Scene K V → ℕ → Type 0
+  SaysNothing log s of = (standing : Standing K) → s.maps of ≡ Some standing → standing.chart.past ≡ 0 → (shard : ℕ) → log.now.shards of shard ≡ 0
 
   -- what a call that adds shards up may read: those that the moment says, and that it said as the last event of the log ended
-  abbrev pub ReadsShards : List (Entry K V) → Moment K V → Scene K V → ℕ → UnderWay K V K → Type 0
+  abbrev pub ReadsShards : Past K V → Moment K V → Scene K V → ℕ → UnderWay K V K → Type 0
   ReadsShards log m s of u = AddsUp u → ShowsShards m s × NoneCounted log m of × SaysNothing log s of
 
 -- The promises: as an event begins nothing has been counted in it,
 abbrev pub EventsBeginUncounted : Type 0 → Type 0 → Type 0
-EventsBeginUncounted K V = (log : List (Entry K V)) (m : Moment K V) (of : ℕ) → m.shards ≡ (moment log).shards → m.tables ≡ (moment log).tables → TablelessUncounted (moment log) → NoneCounted log m of
+EventsBeginUncounted K V = (log : Past K V) (m : Moment K V) (of : ℕ) → m.shards ≡ log.now.shards → m.tables ≡ log.now.tables → TablelessUncounted log.now → NoneCounted log m of
 
 module _ (K V : Type 0) (same : K → K → Bool) (hash : ℕ → K → ℕ) where
   -- and until something is, a call reads what it may; by its steps nothing is counted, if it adds shards up.
   abbrev pub StepsReadShards : Type 0
   StepsReadShards =
-      (name : ℕ → List ℕ) (log : List (Entry K V)) (m : Moment K V) (known : Known) (s : Scene K V) (old new : Held K V) → IsAt same hash old s
+      (name : ℕ → List ℕ) (log : Past K V) (m : Moment K V) (known : Known) (s : Scene K V) (old new : Held K V) → IsAt same hash old s
       → ShowsWhole same name m known s → ShowsCounters name m s
       → (of i : ℕ) (u : UnderWay K V K) (here : s.calls of i ≡ Some u) (said : Progress (Node K V)) (leads : StepLeads same hash i said s old new) → NoneCounted log m of
       → ReadsShards log m s of u × (AddsUp u → NoneCounted log (with_effects (Some (name i)) (Some of) (effects_of (acts.Call i of) known new.changed) m) of)

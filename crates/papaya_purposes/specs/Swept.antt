@@ -10,11 +10,8 @@ use Rattle.papaya_finds.specs.Given.Schedules.declared.call.Call.TheVariants.{On
 use Rattle.papaya_finds.specs.Given.Schedules.declared.call.OneKey.{OneKey}
 use Rattle.papaya_finds.specs.Given.Schedules.declared.outcome.Outcome.{Outcome}
 use Rattle.papaya_finds.specs.Given.Schedules.declared.outcome.Outcome.TheVariants.{Shows, Answered}
-use Rattle.papaya_finds.specs.Given.Schedules.After.{moment}
-use Rattle.papaya_finds.specs.Given.Schedules.Effects.{with_effects, worked}
-use Rattle.papaya_finds.specs.Given.Schedules.Entry.{Entry, acting, caller_of}
+use Rattle.papaya_finds.specs.Given.Schedules.Effects.{with_effects}
 use Rattle.papaya_finds.specs.Given.Schedules.Moment.{UnderWay as CallThere, Moment}
-use Rattle.papaya_finds.specs.Given.Schedules.Sweeps.{IsSwept}
 use Rattle.papaya_finds.specs.Given.Schedules.Terms.{Terms, shards_of}
 use Rattle.papaya_finds.specs.Given.Schedules.Views.{call_of, finite_map}
 use Rattle.papaya_finds.specs.Given.Callers.Together.{UnderWay}
@@ -30,6 +27,8 @@ use Rattle.papaya_purposes.specs.Shards.{ReadsShards}
 use Rattle.papaya_finds.specs.Given.Scenes.Held.{Held, IsAt}
 use Rattle.papaya_finds.specs.Given.Scenes.Scene.{Scene}
 use Rattle.papaya_finds.specs.Given.Scenes.Stepping.{StepLeads}
+use Rattle.papaya_finds.specs.Given.Schedules.Transition.{Past, Transition, call_left, worked_by}
+use Rattle.papaya_finds.specs.Given.Schedules.Sweeps.{SweepsRight}
 
 -- what a call has ended with is told as this
 abbrev pub ComesSo : {K V : Type 0} → Known → Progress (Node K V) → Outcome V → Type 0
@@ -63,8 +62,8 @@ module _ {K V : Type 0} where
   Keeps c = c.call ≡ Retain
 
 -- each key that had a pair in this map as the last event of the log ended has one still
-abbrev pub LosesNone : {K V : Type 0} → (K → K → Bool) → List (Entry K V) → Moment K V → ℕ → Type 0
-LosesNone {K} same log m of = (k : K) → is_some (finite_map same of (moment log) k) ≡ true → is_some (finite_map same of m k) ≡ true
+abbrev pub LosesNone : {K V : Type 0} → (K → K → Bool) → Past K V → Moment K V → ℕ → Type 0
+LosesNone {K} same log m of = (k : K) → is_some (finite_map same of log.now k) ≡ true → is_some (finite_map same of m k) ≡ true
 
 -- What a step of a walk says: a pair that it shows is one of the run, by its number; and where it answers, its sweep is over.
 pub record SaysAsWalk {K V : Type 0} (known : Known) (said : Progress (Node K V)) : Type 0 where
@@ -73,16 +72,16 @@ pub record SaysAsWalk {K V : Type 0} (known : Known) (said : Progress (Node K V)
 
 -- The promises, of an event whose effects before a last step have led to this moment, and which comes to what that step comes to.
 module _ (K V : Type 0) (same : K → K → Bool) (hash : ℕ → K → ℕ) where
-  abbrev pub Ends : (CallThere K V → Type 0) → (List (Entry K V) → Moment K V → Moment K V → Scene K V → ℕ → UnderWay K V K → Type 0) → Outcome V → Type 0
+  abbrev pub Ends : (CallThere K V → Type 0) → (Past K V → Moment K V → Moment K V → Scene K V → ℕ → UnderWay K V K → Type 0) → Outcome V → Type 0
   Ends OfKind Asks outcome =
-      (name : ℕ → List ℕ) (log : List (Entry K V)) (m : Moment K V) (known : Known) (s : Scene K V) (old new : Held K V) → IsAt same hash old s
+      (name : ℕ → List ℕ) (log : Past K V) (m : Moment K V) (known : Known) (s : Scene K V) (old new : Held K V) → IsAt same hash old s
       → ShowsWhole same name m known s → ShowsPurposes same name log m known s
       → (of i : ℕ) (u : UnderWay K V K) (here : s.calls of i ≡ Some u) (said : Progress (Node K V)) (leads : StepLeads same hash i said s old new)
       → (c : CallThere K V) → call_of (name i) m ≡ Some c → OfKind c
       → (let v = with_effects (Some (name i)) (Some of) (effects_of (acts.Call i of) known new.changed) m in
       Asks log m v s of u → ComesSo (known_after (acts.Call i of) new.changed known) said outcome
       → (terms : Terms) → ((standing : Standing K) → s.maps of ≡ Some standing → suc standing.setting.mask ≡ shards_of terms)
-      → (e : Entry K V) → caller_of e.event ≡ Some (name i) → worked e (moment log) ≡ v → e.outcome ≡ outcome → IsSwept same terms log e)
+      → (t : Transition K V) → t.caller ≡ Some (name i) → worked_by t ≡ v → t.outcome ≡ outcome → SweepsRight same terms log t)
 
   -- `len` answers a count of shards, each as it was at a moment of the call, if it reads them as they are;
   abbrev pub CountingsAreSwept : Type 0
@@ -107,18 +106,18 @@ module _ (K V : Type 0) (same : K → K → Bool) (hash : ℕ → K → ℕ) whe
   -- A walk that answers that there is no pair has shown one pair of each key that had one at each moment of it, if no key has lost its pair within the event.
   abbrev pub WalksShowAll : Type 0
   WalksShowAll =
-      (name : ℕ → List ℕ) (log : List (Entry K V)) (m : Moment K V) (known : Known) (s : Scene K V) (old new : Held K V) → IsAt same hash old s
+      (name : ℕ → List ℕ) (log : Past K V) (m : Moment K V) (known : Known) (s : Scene K V) (old new : Held K V) → IsAt same hash old s
       → ShowsWhole same name m known s → ShowsPurposes same name log m known s
       → (of i : ℕ) (u : UnderWay K V K) (here : s.calls of i ≡ Some u) (leads : StepLeads same hash i (progress.Done answers.Swept) s old new)
       → (c : CallThere K V) → call_of (name i) m ≡ Some c → IsWalk c
       → LosesNone same log m of
-      → (terms : Terms) (e : Entry K V) → caller_of e.event ≡ Some (name i)
-      → worked e (moment log) ≡ with_effects (Some (name i)) (Some of) (effects_of (acts.Call i of) known new.changed) m → e.outcome ≡ Answered Absent → IsSwept same terms log e
+      → (terms : Terms) (t : Transition K V) → t.caller ≡ Some (name i)
+      → worked_by t ≡ with_effects (Some (name i)) (Some of) (effects_of (acts.Call i of) known new.changed) m → t.outcome ≡ Answered Absent → SweepsRight same terms log t
 
   -- So each step of a walk says.
   abbrev pub WalksHaveWords : Type 0
   WalksHaveWords =
-      (name : ℕ → List ℕ) (log : List (Entry K V)) (m : Moment K V) (known : Known) (s : Scene K V) (old new : Held K V) → IsAt same hash old s
+      (name : ℕ → List ℕ) (log : Past K V) (m : Moment K V) (known : Known) (s : Scene K V) (old new : Held K V) → IsAt same hash old s
       → ShowsWhole same name m known s → ShowsPurposes same name log m known s
       → (of i : ℕ) (u : UnderWay K V K) → s.calls of i ≡ Some u → (said : Progress (Node K V)) → StepLeads same hash i said s old new
       → (c : CallThere K V) → call_of (name i) m ≡ Some c → IsWalk c → SaysAsWalk (known_after (acts.Call i of) new.changed known) said
@@ -126,12 +125,12 @@ module _ (K V : Type 0) (same : K → K → Bool) (hash : ℕ → K → ℕ) whe
 module _ (K V : Type 0) (same : K → K → Bool) where
   -- Nothing is promised of an event that comes to neither an answer nor a pair that is shown, of one of a call on one key, and of one that is of no call.
   abbrev pub OtherOutcomesAreSwept : Type 0
-  OtherOutcomesAreSwept = (terms : Terms) (log : List (Entry K V)) (e : Entry K V) → SaysNothing e.outcome → IsSwept same terms log e
+  OtherOutcomesAreSwept = (terms : Terms) (log : Past K V) (t : Transition K V) → SaysNothing t.outcome → SweepsRight same terms log t
 
   abbrev pub CallsOnKeysAreSwept : Type 0
   CallsOnKeysAreSwept =
-      (terms : Terms) (log : List (Entry K V)) (e : Entry K V) (c : CallThere K V) (one : OneKey K V) → acting (caller_of e.event) (worked e (moment log)) ≡ Some c → c.call ≡ On one
-      → IsSwept same terms log e
+      (terms : Terms) (log : Past K V) (t : Transition K V) (c : CallThere K V) (one : OneKey K V) → call_left t ≡ Some c → c.call ≡ On one
+      → SweepsRight same terms log t
 
   abbrev pub NoCallsAreSwept : Type 0
-  NoCallsAreSwept = (terms : Terms) (log : List (Entry K V)) (e : Entry K V) → caller_of e.event ≡ None → IsSwept same terms log e
+  NoCallsAreSwept = (terms : Terms) (log : Past K V) (t : Transition K V) → t.caller ≡ None → SweepsRight same terms log t

@@ -50,19 +50,6 @@ module _ {K V S : Type 0} (same : K → K → Bool) (hash : K → ℕ) (e : Exec
     under_way false may =
         (reclaiming_begins {Q = K} V same same e.batch_size e.roots slot_of s.maps s.calls s.makers s.enders s.world i lists at.held.small idle resting may.0).1 may.1
 
-    pub begins : (taken : Bool) → MayReclaim e s lists taken → (all : ReclaimAll) → all ≡ (if taken then reclaiming_all e.batch_size e.roots else clearing e.roots) → IsReclaimingThere same hash e s i lists all
-    begins taken may all is = record {
-      held = record {
-        memory = at.held.memory;
-        under_way = subst (λ (x : ReclaimAll). ReclaimingTogether V same same e.batch_size e.roots slot_of s.maps s.calls s.makers s.enders s.world i lists x) (sym is) (under_way taken may);
-        hashes = at.held.hashes;
-        small = at.held.small;
-      };
-      nobody = nobody;
-      maps = at.maps;
-      slots = at.slots;
-    }
-
 module _ {K V S : Type 0} (same : K → K → Bool) (hash : K → ℕ) (e : Executor K V S) (s : Scene K V) (i : ℕ) (lists : ℕ → List ℕ) (all : ReclaimAll) (at : IsReclaimingThere same hash e s i lists all) where
   module _ (e1 : Executor K V S) (after : ReclaimAll) (told : Settled (Node K V))
       (steps : StepsTold K V (ReclaimAll × Settled (Node K V)) e.memory.memory Nothing (reclaim_all_plan deferred_word was_left all) e1.memory.memory e1.memory.changed (after, told))

@@ -1,4 +1,2 @@
 //! What ended maps have left over: it is behind the roots that a moment of a run says, while others go on.
 #![tactic(auto)]
-
-pub mod law;

@@ -23,10 +23,6 @@ module _ {K V : Type 0} (same : K → K → Bool) (hash : K → ℕ) (setting : 
   look_found keys code class l is found so =
       finds_word same hash setting m xs h keys code class found (subst (λ (x : Lookup). Finds same hash keys h.chart h.blocks x found) is so)
 
-  -- the one shard says how many pairs there are
-  pub shard_there : (count : ℕ) × (word_at m (Word setting.counter 0) ≡ Some count)
-  shard_there = let s = h.rests.together.ground.map.shards 0 (omega arith) in (s.0, subst (λ (x : Mem (Node K V)). word_at x (Word setting.counter 0) ≡ Some s.0) h.memory s.1)
-
   pub counted_so : (total : ℕ) → total < 2 ^ 64 → word_at m (Word setting.counter 0) ≡ Some total → count_in total ≡ length xs
   counted_so total fits is =
       ap count_in (one_word total fits (ap (shards_sum h.world.memory setting.counter) (ap suc h.one_shard) ∙ one_sum)) ∙ countings_come_to same hash setting h.world h.chart h.blocks h.rests.together.ground.map h.counted xs h.are

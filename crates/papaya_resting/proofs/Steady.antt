@@ -1,4 +1,4 @@
--- What stores nothing is done, where the map had one table at most before the refresh.
+-- What stores nothing is done, where the map had one table at most before the refresh, and it has one at most then.
 use Rattle.std.specs.Prelude.{◌≡◌, ℕ, Bool, true, List, Result, Ok, Err, IsOk}
 use Rattle.std.proofs.Common.{refl, sym, subst}
 use denote.Ref.{Bor}
@@ -29,11 +29,11 @@ module _ {K V S : Type 0} (same : K → K → Bool) (hashes : S → K → ℕ) (
   one_then = refreshes_keep_one_table K V same (hashes b.now) setting m0 xs h0 one refreshed.0 m1 refreshed.1 refreshed.2
 
   pub removal_steady : {Q : Type 0} (asks : Q → K → Bool) (keys : K → Bool) (given : Given K V) → OnlyRemoves (kind_of given) → (result : Result Stop Fault) → HasStopped asks same hashes b setting m1 keys given m2 result
-      → IsOk result
-  removal_steady {Q} asks keys given only result ran = (removals_are_steady K V Q S asks same hashes b setting m1 xs h1 one_then keys given only m2 result ran).0
+      → IsOk result × HasOneTable setting m2
+  removal_steady {Q} asks keys given only result ran = removals_are_steady K V Q S asks same hashes b setting m1 xs h1 one_then keys given only m2 result ran
 
-  pub sweep_steady : (purpose : Purpose) → removes purpose ≡ true → (result : Result Unit Fault) → HasSwept hashes b setting purpose m1 m2 result → IsOk result
-  sweep_steady purpose removing result ran = (sweeps_are_steady K V S same hashes b setting m1 xs h1 one_then purpose removing m2 result ran).0
+  pub sweep_steady : (purpose : Purpose) → removes purpose ≡ true → (result : Result Unit Fault) → HasSwept hashes b setting purpose m1 m2 result → IsOk result × HasOneTable setting m2
+  sweep_steady purpose removing result ran = sweeps_are_steady K V S same hashes b setting m1 xs h1 one_then purpose removing m2 result ran
 
 -- a call that was not refused has done something, or nothing
 ended_ok : (r : Result KeyAnswer Fault) → IsOk (stop_by (λ fault. fault) r) → IsOk (ended_by r)

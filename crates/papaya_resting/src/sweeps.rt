@@ -19,7 +19,7 @@ use seize_words::{Fault, Plain};
 use std::hash::{BuildHasher, Hash};
 
 /// Removes all pairs, after a refresh. The faults are `Fault::Capacity`, where no table can follow the map's last one, and `Fault::Memory`. While the map has
-/// one table at most, it is done.
+/// one table at most, it is done, and the map has one at most then.
 pub fn clear<K: Eq + Hash + Drop, V: Drop, S: BuildHasher>(
     memory: &mut Plain<Node<K, V>>,
     setting: Setting,
@@ -33,6 +33,7 @@ pub fn clear<K: Eq + Hash + Drop, V: Drop, S: BuildHasher>(
     ensures fault { IfErr result IsRoom }
     ensures capacity { (xs : List (K × V)) → Holds K.eq (hashed_by S.Hasher.finish S.Hasher.write S.build_hasher K.hash_input hasher.now) setting memory.old xs → IfErr result (λ fault. fault ≡ Capacity → CannotGrowIn memory.new setting) }
     ensures steady { (xs : List (K × V)) → Holds K.eq (hashed_by S.Hasher.finish S.Hasher.write S.build_hasher K.hash_input hasher.now) setting memory.old xs → HasOneTable setting memory.old → IsOk result }
+    ensures steady_then { (xs : List (K × V)) → Holds K.eq (hashed_by S.Hasher.finish S.Hasher.write S.build_hasher K.hash_input hasher.now) setting memory.old xs → HasOneTable setting memory.old → HasOneTable setting memory.new }
     ensures ran { OnceRefreshed setting memory.old (λ m. HasSwept (hashed_by S.Hasher.finish S.Hasher.write S.build_hasher K.hash_input) hasher.entry setting Clears m memory.new result) }
     ensures keeps { (xs : List (K × V)) → Holds K.eq (hashed_by S.Hasher.finish S.Hasher.write S.build_hasher K.hash_input hasher.now) setting memory.old xs
         → HoldsOn [] xs (held_in memory.old) (held_in memory.new) }
@@ -42,7 +43,7 @@ pub fn clear<K: Eq + Hash + Drop, V: Drop, S: BuildHasher>(
 }
 
 /// Keeps just the pairs for which the closure answers `true`, after a refresh. The faults are `Fault::Capacity`, where no table can follow the map's
-/// last one, and `Fault::Memory`. While the map has one table at most, it is done.
+/// last one, and `Fault::Memory`. While the map has one table at most, it is done, and the map has one at most then.
 pub fn retain<K: Eq + Hash + Drop, V: Drop, S: BuildHasher, F: FnMut(&K, &V) -> bool>(
     memory: &mut Plain<Node<K, V>>,
     setting: Setting,
@@ -58,6 +59,7 @@ pub fn retain<K: Eq + Hash + Drop, V: Drop, S: BuildHasher, F: FnMut(&K, &V) -> 
     ensures fault { IfErr result IsRoom }
     ensures capacity { (xs : List (K × V)) → Holds K.eq (hashed_by S.Hasher.finish S.Hasher.write S.build_hasher K.hash_input hasher.now) setting memory.old xs → IfErr result (λ fault. fault ≡ Capacity → CannotGrowIn memory.new setting) }
     ensures steady { (xs : List (K × V)) → Holds K.eq (hashed_by S.Hasher.finish S.Hasher.write S.build_hasher K.hash_input hasher.now) setting memory.old xs → HasOneTable setting memory.old → IsOk result }
+    ensures steady_then { (xs : List (K × V)) → Holds K.eq (hashed_by S.Hasher.finish S.Hasher.write S.build_hasher K.hash_input hasher.now) setting memory.old xs → HasOneTable setting memory.old → HasOneTable setting memory.new }
     ensures ran { OnceRefreshed setting memory.old (λ m. HasSwept (hashed_by S.Hasher.finish S.Hasher.write S.build_hasher K.hash_input) hasher.entry setting Retains m memory.new result) }
     ensures keeps { (xs : List (K × V)) → Holds K.eq (hashed_by S.Hasher.finish S.Hasher.write S.build_hasher K.hash_input hasher.now) setting memory.old xs
         → HoldsOn [] xs (held_in memory.old) (held_in memory.new) }

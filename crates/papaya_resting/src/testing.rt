@@ -22,7 +22,8 @@ use papaya_tables::{Equivalent, Node, Setting};
 use seize_words::{Fault, Plain};
 use std::hash::{BuildHasher, Hash};
 
-/// Removes the pair of a key, after a refresh, if a test of it answers yes. While the map has one table at most, it is done.
+/// Removes the pair of a key, after a refresh, if a test of it answers yes. While the map has one table at most, it is done, and the map
+/// has one at most then.
 pub fn remove_if<
     K: Eq + Hash + Drop,
     V: Drop,
@@ -43,6 +44,7 @@ pub fn remove_if<
         → ComesToIt (Q.Equivalent.equivalent asked.now) None (Removing (TestsAs F.FnOnce test)) xs (RestsWith K.eq (hashed_by S.Hasher.finish S.Hasher.write S.build_hasher K.hash_input hasher.now) setting memory.new last.new) (λ fault. fault) result }
     ensures capacity { (xs : List (K × V)) → Holds K.eq (hashed_by S.Hasher.finish S.Hasher.write S.build_hasher K.hash_input hasher.now) setting memory.old xs → IfErr result (λ fault. fault ≡ Capacity → CannotGrowIn memory.new setting) }
     ensures steady { (xs : List (K × V)) → Holds K.eq (hashed_by S.Hasher.finish S.Hasher.write S.build_hasher K.hash_input hasher.now) setting memory.old xs → HasOneTable setting memory.old → IsOk result }
+    ensures steady_then { (xs : List (K × V)) → Holds K.eq (hashed_by S.Hasher.finish S.Hasher.write S.build_hasher K.hash_input hasher.now) setting memory.old xs → HasOneTable setting memory.old → HasOneTable setting memory.new }
     ensures because { IfErr result (λ fault. OnceRefreshed setting memory.old (λ m. HasStopped (by_lent Q.Equivalent.equivalent) K.eq (hashed_by S.Hasher.finish S.Hasher.write S.build_hasher K.hash_input) hasher.entry setting m (Q.Equivalent.equivalent asked.now) (IsTold removes_if None []) memory.new (Err fault))) }
     ensures keeps { (xs : List (K × V)) → Holds K.eq (hashed_by S.Hasher.finish S.Hasher.write S.build_hasher K.hash_input hasher.now) setting memory.old xs
         → HoldsOn [] xs (held_in memory.old) (held_in memory.new) }

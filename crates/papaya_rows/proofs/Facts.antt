@@ -66,9 +66,6 @@ module _ {K V S : Type 0} (same : K → K → Bool) (hash : K → ℕ) (e : Exec
 
   -- one that has nothing under way has none in the scene
   module _ (i : ℕ) (none : work_of e i ≡ None) where
-    pub no_call_of : (n : ℕ) → s.calls n i ≡ None
-    no_call_of n = none_of machine_of (s.calls n i) (at.calls n i ∙ ap (λ (o : Option (Work K V)). call_in o n) none)
-
     pub no_making_of : s.makers i ≡ None
     no_making_of = none_of _ (s.makers i) (at.makers i ∙ ap making_in none)
 

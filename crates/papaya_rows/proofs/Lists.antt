@@ -1,6 +1,6 @@
 -- Lists: what is found, and what becomes of it, on two lists of which the same is seen.
 use Rattle.std.specs.Prelude.{◌≡◌, ◌≤◌, ◌<◌, ◌+◌, ℕ, zero, suc, Bool, true, false, not, cond, ◌||◌, ◌&&◌, List, [], ◌∷◌, length, filter, find, map, is_some, Option, Some, None, option_map, slice_set, slice_get, slice_index_or, nat_lt, position, if◌then◌else◌}
-use Rattle.std.specs.List.{AllByRecursion, list_any, list_all, position_or_len, remove, insert}
+use Rattle.std.specs.List.{AllByRecursion, list_any, list_all, position_or_len, remove}
 use Rattle.std.proofs.lemmas.Bool.{lt-ltb}
 use Rattle.std.proofs.lemmas.List.Folds.{find_at}
 use Rattle.std.proofs.Common.{refl, ap, sym, subst, ◌∙◌, arith}
@@ -54,19 +54,6 @@ module _ {X : Type 0} where
   pub all_so : (P Q : X → Type 0) → ((x : X) → P x → Q x) → (xs : List X) → AllByRecursion P xs → AllByRecursion Q xs
   all_so P Q so [] all = tt
   all_so P Q so (x ∷ xs) all = (so x all.0, all_so P Q so xs all.1)
-
-  -- a test that says the same
-  pub any_same : (p q : X → Bool) → ((x : X) → p x ≡ q x) → (xs : List X) → list_any p xs ≡ list_any q xs
-  any_same p q same [] = refl
-  any_same p q same (x ∷ xs) = ap (λ (b : Bool). b || list_any p xs) (same x) ∙ ap (λ (b : Bool). q x || b) (any_same p q same xs)
-
-  pub all_same : (p q : X → Bool) → ((x : X) → p x ≡ q x) → (xs : List X) → list_all p xs ≡ list_all q xs
-  all_same p q same [] = refl
-  all_same p q same (x ∷ xs) = ap (λ (b : Bool). b && list_all p xs) (same x) ∙ ap (λ (b : Bool). q x && b) (all_same p q same xs)
-
-  pub first_put : (x : X) (xs : List X) → insert xs 0 x ≡ x ∷ xs
-  first_put x [] = refl
-  first_put x (y ∷ xs) = refl
 
 -- what is read at a place where one stands
 pub got : {X : Type 0} (xs : List X) (k : ℕ) (x z : X) → slice_get xs k ≡ Some x → slice_index_or xs k z ≡ x
@@ -396,12 +383,6 @@ module _ {X : Type 0} where
   set_position p xs k old new is same =
       ap (λ (n : ℕ). cond (nat_lt n (length (slice_set xs k new))) (Some n) None) (set_first p xs k old new is same)
       ∙ ap (λ (n : ℕ). cond (nat_lt (position_or_len p xs) n) (Some (position_or_len p xs)) None) (set_long xs k new)
-
--- where one stands there is a place
-pub got_within : {X : Type 0} (xs : List X) (k : ℕ) (x : X) → slice_get xs k ≡ Some x → k < length xs
-got_within [] k x e = absurd (cc e)
-got_within (y ∷ xs) zero x e = omega arith
-got_within (y ∷ xs) (suc k) x e = let l = got_within xs k x e in omega (arith, l)
 
 -- the first one, where it passes, is found at once
 pub first_position : {X : Type 0} (p : X → Bool) (x : X) (xs : List X) → p x ≡ true → Some 0 ≡ position p (x ∷ xs)

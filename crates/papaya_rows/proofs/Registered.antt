@@ -22,10 +22,6 @@ pub slot_found : (o : Option Registration) (slot : ℕ) → option_map (λ r. r.
 slot_found None slot e = absurd (cc e)
 slot_found (Some r) slot e = (r, refl, cc e)
 
-pub none_found : (o : Option Registration) → option_map (λ r. r.slot) o ≡ None → o ≡ None
-none_found None e = refl
-none_found (Some r) e = absurd (cc e)
-
 -- how many registrations of a name are on this slot
 abbrev pub registered_on : ℕ → List ℕ → List Registration → ℕ
 registered_on slot name [] = 0

@@ -46,23 +46,6 @@ apart a b e is = grind (arith, e, is)
 one_class : {K : Type 0} {eq : K → K → Bool} → IsEquivalence eq → (a b q : K) → eq a q ≡ true → eq b q ≡ true → eq a b ≡ true
 one_class laws a b q ea eb = laws.congr a q b ea ∙ laws.symm q b ∙ eb
 
--- the stored pairs by their numbers, as one more is stored
-module _ {K V : Type 0} where
-  pair_at-next : (stored : List (K × V)) (x : K × V) → pair_at (stored ++ x ∷ []) (suc (length stored)) ≡ Some x
-  pair_at-next [] x = refl
-  pair_at-next (s ∷ stored) x = pair_at-next stored x
-
-  pair_at-past : (stored : List (K × V)) → pair_at stored (suc (length stored)) ≡ None
-  pair_at-past [] = refl
-  pair_at-past (s ∷ stored) = pair_at-past stored
-
-  pair_at-other : (stored : List (K × V)) (x : K × V) (n : ℕ) → n ≢ suc (length stored) → pair_at (stored ++ x ∷ []) n ≡ pair_at stored n
-  pair_at-other stored x zero other = refl
-  pair_at-other [] x (suc zero) other = absurd (other refl)
-  pair_at-other [] x (suc (suc n)) other = refl
-  pair_at-other (s ∷ stored) x (suc zero) other = refl
-  pair_at-other (s ∷ stored) x (suc (suc n)) other = pair_at-other stored x (suc n) (λ e. other (ap suc e))
-
 -- pairs come into maps by what is stored alone
 
 abbrev stores : Effect → Bool

@@ -4,7 +4,6 @@
 pub mod event;
 pub mod holders;
 pub mod key_hash;
-pub mod law;
 pub mod outcome;
 pub mod pair_list;
 pub mod record;

@@ -1,6 +1,6 @@
 -- What has led to a scene of one kind has led to one of another kind, where each of the first kind is of the second.
-use Rattle.std.specs.Prelude.{ℕ, Bool, List, Result}
-use Rattle.seize.specs.World.{World, Event, Begin, Step}
+use Rattle.std.specs.Prelude.{ℕ, Bool, List}
+use Rattle.seize.specs.World.{World, Event, Begin}
 use Rattle.seize.specs.declared.progress.Progress.{Progress as Making}
 use Rattle.seize.specs.declared.progress.Progress.TheVariants as making
 use Rattle.seize.specs.declared.rows.reclaim_all.ReclaimAll.{ReclaimAll}
@@ -9,7 +9,6 @@ use Rattle.seize.specs.declared.rows.settle.Settled.TheVariants as settled
 use Rattle.papaya_finishes.specs.Given.Tables.declared.node.Node.{Node}
 use Rattle.papaya_finishes.specs.Given.Tables.declared.setting.Setting.{Setting}
 use Rattle.papaya_finishes.specs.Given.Resize.declared.new_map.NewMap.{NewMap}
-use Rattle.papaya_raw.specs.declared.machines.asking.Reply.{Reply}
 use Rattle.papaya_raw.specs.declared.machines.end_map.EndMap.{EndMap}
 use Rattle.papaya_raw.specs.declared.machines.progress.Progress.{Progress}
 use Rattle.papaya_finishes.specs.Endings.{Finishing}
@@ -18,21 +17,17 @@ use Rattle.papaya_finishes.specs.Makings.{Beginning}
 use Rattle.papaya_scenes.specs.Ending.{EndingComesToThere, EndingLeadsTo}
 use Rattle.papaya_scenes.specs.Held.{Held}
 use Rattle.papaya_scenes.specs.Making.{MakingComesToThere, MakingLeadsTo}
-use Rattle.papaya_scenes.specs.OnSlots.{HappensTo, RowBeginsTo, RowLeadsTo}
+use Rattle.papaya_scenes.specs.OnSlots.{HappensTo, RowBeginsTo}
 use Rattle.papaya_scenes.specs.Reclaiming.{ReclaimingComesToThere, ReclaimingLeadsTo}
-use Rattle.papaya_scenes.specs.Replying.{ReplyLeadsTo, AskLeadsTo, StopLeadsTo}
+use Rattle.papaya_scenes.specs.Replying.{AskLeadsTo, StopLeadsTo}
 use Rattle.papaya_scenes.specs.Rows.{request_of}
 use Rattle.papaya_scenes.specs.Scene.{Scene, slot_of}
 use Rattle.papaya_scenes.specs.Stepping.{StepLeadsTo}
-use Rattle.papaya_scenes.specs.declared.row.RowTold.{RowTold}
 use Rattle.papaya_scenes.specs.declared.row.SlotCall.{SlotCall}
 
 module _ {K V : Type 0} (same : K → K → Bool) (One Other : Scene K V → Type 0) (each : (n : Scene K V) → One n → Other n) (i : ℕ) (s : Scene K V) (old new : Held K V) where
   abbrev pub step_leads : (told : Progress (Node K V)) → StepLeadsTo same One i told s old new → StepLeadsTo same Other i told s old new
   step_leads told leads = λ m u here. (let to = leads m u here in (to.0, to.1, to.2, to.3, to.4, each _ to.5))
-
-  abbrev pub reply_leads : (told : Reply V) (result : Result Unit (Reply V)) → ReplyLeadsTo same One i told result s old new → ReplyLeadsTo same Other i told result s old new
-  reply_leads told result leads = λ m u here. (let to = leads m u here in (to.0, to.1, to.2, to.3, to.4, to.5, to.6, each _ to.7))
 
   abbrev pub ask_leads : (ready : Bool) → AskLeadsTo same One i ready s old new → AskLeadsTo same Other i ready s old new
   ask_leads ready leads = λ m u here. (let to = leads m u here in (to.0, to.1, to.2, to.3, each _ to.4))
@@ -65,9 +60,6 @@ module _ {K V : Type 0} (same : K → K → Bool) (One Other : Scene K V → Typ
 
   abbrev pub row_begins : (called : SlotCall) → RowBeginsTo One called i s old new → RowBeginsTo Other called i s old new
   row_begins called to = (to.0, to.1, happens (Begin i (request_of (slot_of i) called)) to.2)
-
-  abbrev pub row_leads : (told : RowTold (Node K V)) → RowLeadsTo One i told s old new → RowLeadsTo Other i told s old new
-  row_leads told leads = λ row here. (let to = leads row here in (to.0, to.1, happens (Step i) to.2, to.3))
 
 module _ {K V : Type 0} (same : K → K → Bool) (s : Scene K V) (i : ℕ) (lists : ℕ → List ℕ) (One Other : Scene K V → Type 0) (each : (n : Scene K V) → One n → Other n)
     (Goes Goes2 : Scene K V → (ℕ → List ℕ) → ReclaimAll → Type 0) (goes_too : (n : Scene K V) (lists2 : ℕ → List ℕ) (all : ReclaimAll) → Goes n lists2 all → Goes2 n lists2 all) (old new : Held K V) where

@@ -31,9 +31,6 @@ module _ {K V S : Type 0} (same : K → K → Bool) (hash : K → ℕ) (terms : 
   abbrev calls : List (Caller V)
   calls = p.calls
 
-  abbrev three : Bool
-  three = not (is_some (call_of own m)) && is_living guard m.there && is_some (map_of name m)
-
   -- another call has the name
   pub is_named_so : (place : Option ℕ) → place ≡ position (is_named own) calls → is_some place ≡ true → BeginsSo same hash terms m own guard name call false p p
   is_named_so place is some =

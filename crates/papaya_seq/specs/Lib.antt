@@ -3,3 +3,4 @@ pub mod Stored
 pub mod Pairs
 pub mod Each
 pub mod Json
+pub mod ReadBack

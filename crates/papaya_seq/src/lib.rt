@@ -3,6 +3,7 @@
 
 mod json;
 mod map;
+pub mod read_back;
 mod set;
 
 pub use json::{FromJson, ToJson};

@@ -4,6 +4,5 @@ pub use Rattle.papaya_pairs.proofs.Elements.{element_in_any_order, elements_apar
 pub use Rattle.papaya_pairs.proofs.Equals.{no_values}
 pub use Rattle.papaya_pairs.proofs.Laws.{apart_in_any_order, found_in_any_order, last_is_found, left_in_any_order, others_stay, put_is_found}
 pub use Rattle.papaya_pairs.proofs.Orders.{kept_in_any_order, left_and, lifts}
-pub use Rattle.papaya_pairs.proofs.ReadBack.{one_array_one_set, one_object_one_map}
 pub use Rattle.papaya_pairs.proofs.Puts.{put_is_last}
 pub use Rattle.papaya_seq_shows.proofs.Walked

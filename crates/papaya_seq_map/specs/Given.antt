@@ -7,7 +7,7 @@ pub use Rattle.papaya_sifts.specs.Given.Owned.Rooms.{NeedTooMany, tables_for}
 pub use Rattle.papaya_shown.specs.Chain.{CannotGrow, FirstHas}
 pub use Rattle.papaya_pairs.specs.Each.{found_is_so, left_are_so, ordered_are_so, put_are_so, puts_are_so, value_is_so}
 pub use Rattle.papaya_pairs.specs.Elements.{left_in}
-pub use Rattle.papaya_pairs.specs.Equals.{agree, agree_itself, agree_through, agree_turned, with_no_values}
+pub use Rattle.papaya_pairs.specs.Equals.{agree, agree_from_each, agree_itself, agree_through, agree_turned, with_no_values}
 pub use Rattle.papaya_seq_shows.specs.Maps
 pub use Rattle.papaya_seq_shows.specs.Stored
 pub use Rattle.papaya_seq_shows.specs.Stored.{ClonesAreEqual}

@@ -15,7 +15,7 @@ use std::hash::{BuildHasher, Hash};
 
 impl<K: Eq + Hash + Drop, V: Drop, S: BuildHasher, R: Receiver<(K, V)>> HashMap<K, V, S, R> {
     /// Removes all pairs. The faults are `Fault::Capacity`, where no table can follow the map's last one, and `Fault::Memory`: a growth that was under
-    /// way could not be seen through. Then no pair has changed. While the map has one table at most, it is not refused.
+    /// way could not be seen through. Then no pair has changed. While the map has one table at most, it is not refused, and the map has one at most then.
     pub fn clear(&mut self) -> Result<(), Fault>
         ensures done { OnOk result (self.new.pairs ≡ []) }
         ensures refused { OnErr result (IsPermutation self.new.pairs self.old.pairs) }
@@ -23,6 +23,7 @@ impl<K: Eq + Hash + Drop, V: Drop, S: BuildHasher, R: Receiver<(K, V)>> HashMap<
         ensures fault { IfErr result IsRoom }
         ensures capacity { IfErr result (λ fault. fault ≡ Capacity → CannotGrow self.new.tables) }
         ensures steady { length self.old.tables ≤ 1 → IsOk result }
+        ensures steady_then { length self.old.tables ≤ 1 → length self.new.tables ≤ 1 }
         ensures hasher { self.new.hasher ≡ self.old.hasher }
         ensures keeps { Keeps [] self.old self.new }
     {
@@ -32,7 +33,7 @@ impl<K: Eq + Hash + Drop, V: Drop, S: BuildHasher, R: Receiver<(K, V)>> HashMap<
 
     /// Keeps just the pairs for which the closure answers `true`. It is called with each pair once, in which order is not said. The faults are
     /// `Fault::Capacity`, where no table can follow the map's last one, and `Fault::Memory`: a growth that was under way could not be seen through.
-    /// Then no pair has changed. While the map has one table at most, it is not refused.
+    /// Then no pair has changed. While the map has one table at most, it is not refused, and the map has one at most then.
     pub fn retain<F: FnMut(&K, &V) -> bool>(&mut self, keep: F) -> Result<(), Fault>
         requires callable { F.IsAlwaysCallable keep }
         ensures done { OnOk result ((kept : List (K × V)) × KeepsOf F.FnMut keep self.old.pairs kept × IsPermutation self.new.pairs kept) }
@@ -42,6 +43,7 @@ impl<K: Eq + Hash + Drop, V: Drop, S: BuildHasher, R: Receiver<(K, V)>> HashMap<
         ensures fault { IfErr result IsRoom }
         ensures capacity { IfErr result (λ fault. fault ≡ Capacity → CannotGrow self.new.tables) }
         ensures steady { length self.old.tables ≤ 1 → IsOk result }
+        ensures steady_then { length self.old.tables ≤ 1 → length self.new.tables ≤ 1 }
         ensures hasher { self.new.hasher ≡ self.old.hasher }
         ensures keeps { Keeps [] self.old self.new }
     {

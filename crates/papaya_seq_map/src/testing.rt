@@ -20,7 +20,7 @@ use std::hash::{BuildHasher, Hash};
 
 /// Removes the pair of a key, if a test of it answers yes. The test is called where the key is there, and else not at all. It answers `Removed`, `Kept` or
 /// `Missing`. The faults are `Fault::Capacity`, where no table can follow the map's last one, and `Fault::Memory`; then no pair has changed.
-/// While the map has one table at most, it is not refused.
+/// While the map has one table at most, it is not refused, and the map has one at most then.
 fn take_if<
     K: Eq + Hash + Drop,
     V: Drop,
@@ -35,6 +35,7 @@ fn take_if<
     ensures fault { IfErr result IsRoom }
     ensures capacity { IfErr result (λ fault. fault ≡ Capacity → CannotGrow map.new.tables) }
     ensures steady { length map.old.tables ≤ 1 → IsOk result }
+    ensures steady_then { length map.old.tables ≤ 1 → length map.new.tables ≤ 1 }
     ensures hasher { map.new.hasher ≡ map.old.hasher }
     ensures keeps { Keeps [] map.old map.new }
 {
@@ -54,7 +55,7 @@ impl<K: Eq + Hash + Drop, V: Drop, S: BuildHasher, R: Receiver<(K, V)>> HashMap<
     /// Removes the pair of a key, if a test of it answers yes, and lends it, or, where it answers no, the pair that stays; or nothing, where the key is not
     /// there. The test is called where it is there, and else not at all. The faults are `Fault::Capacity`, where no table can follow the map's last one, and
     /// `Fault::Memory`; then no pair has changed.
-    /// While the map has one table at most, it is not refused.
+    /// While the map has one table at most, it is not refused, and the map has one at most then.
     pub fn remove_if<Q: Equivalent<K>, F: FnOnce(&K, &V) -> bool>(
         &mut self,
         asked: &Q,
@@ -64,7 +65,7 @@ impl<K: Eq + Hash + Drop, V: Drop, S: BuildHasher, R: Receiver<(K, V)>> HashMap<
         ensures* after { sem 𝓛 (EndsSo K.row V.row S.row R.row S.Hasher.row K.Hash S.BuildHasher S.Hasher.Hasher self.entry (λ map. MatchResult result (λ gone. MatchResult gone
             (λ _. MatchOption (found_by (Q.Equivalent.equivalent asked.now) self.old.pairs) (IsLeft self.old map None) (λ x. TestsAs F.FnOnce test x true × HasRemoved self.old map (Q.Equivalent.equivalent asked.now) x))
             (λ _. MatchOption (found_by (Q.Equivalent.equivalent asked.now) self.old.pairs) ⊥ (λ x. TestsAs F.FnOnce test x false × IsLeft self.old map (Some x))) × (map.hasher ≡ self.old.hasher))
-            (λ fault. IsRefused self.old map fault))) }
+            (λ fault. IsRefused self.old map fault) × (length self.old.tables ≤ 1 → length map.tables ≤ 1))) }
         ensures pair { IfOk result (λ gone. MatchResult gone (λ was. option_map (λ x. (x.0.now, x.1.now)) was ≡ found_by (Q.Equivalent.equivalent asked.now) self.old.pairs) (λ x. Some (x.0.now, x.1.now) ≡ found_by (Q.Equivalent.equivalent asked.now) self.old.pairs)) }
         ensures fault { IfErr result IsRoom }
         ensures steady { length self.old.tables ≤ 1 → IsOk result }

@@ -153,6 +153,12 @@ unfolding tables_shown
 one_shown {K} {V} {S} m setting tables map is few =
     (tables, subst (λ (n : ℕ). n ≤ 1) (shapes_len m tables.0 (root_link m setting)) (subst (λ (x : Map K V S). length x.tables ≤ 1) (sym is) few))
 
+-- and where the map has no more, they show no more
+pub few_shown : {K V : Type 0} (m : Mem (Node K V)) (setting : Setting) (tables : CountsTables m (root_link m setting)) → HasOneTable setting m → length (tables_shown m setting tables) ≤ 1
+unfolding tables_shown
+few_shown m setting tables (counted, few) =
+    subst (λ (n : ℕ). n ≤ 1) (one_count m counted.0 tables.0 (root_link m setting) counted.1 tables.1 ∙ sym (shapes_len m tables.0 (root_link m setting))) few
+
 -- for that a change is refused for the length of a table
 pub capacity_shown : {K V T E : Type 0} (m : Mem (Node K V)) (setting : Setting) (tables : CountsTables m (root_link m setting)) (fault_of : E → Fault) (r : Result T E)
     → IfErr r (λ e. fault_of e ≡ Capacity → CannotGrowIn m setting) → IfErr r (λ e. fault_of e ≡ Capacity → CannotGrow (tables_shown m setting tables))
@@ -168,12 +174,6 @@ module _ {K V : Type 0} (same : K → K → Bool) (hash : K → ℕ) (setting : 
   pub either_rests : {T E : Type 0} (r : Result T E) (ys zs : List (K × V)) → OnOk r (Holds same hash setting m ys) → OnErr r (Holds same hash setting m zs) → Rests
   either_rests (Ok x) ys zs done refused = (ys, done)
   either_rests (Err e) ys zs done refused = (zs, refused)
-
-  pub each_rests : {T F E : Type 0} (A B : Type 0) (r : Result (Result T F) E) (ys zs : List (K × V)) → IfOk r (λ tried. OnOk tried (A × Holds same hash setting m ys))
-      → IfOk r (λ tried. OnErr tried (B × Holds same hash setting m zs)) → OnErr r (Holds same hash setting m zs) → Rests
-  each_rests A B (Ok (Ok x)) ys zs stored found refused = (ys, stored.1)
-  each_rests A B (Ok (Err f)) ys zs stored found refused = (zs, found.1)
-  each_rests A B (Err e) ys zs stored found refused = (zs, refused)
 
   pub some_rest : {T E : Type 0} (P : List (K × V) → Type 0) (r : Result T E) (zs : List (K × V)) → OnOk r ((ys : List (K × V)) × P ys × Holds same hash setting m ys)
       → OnErr r (Holds same hash setting m zs) → Rests

@@ -103,6 +103,26 @@ fn empties(map: &mut Map)
     }
 }
 
+/// Removes the pairs of two keys from such a map, one after the other, and answers their values. Then it has one table at most still.
+fn takes_both_out(map: &mut Map, one: u64, other: u64) -> (Option<u64>, Option<u64>)
+    requires few { length map.old.tables ≤ 1 }
+    ensures first { result.0 ≡ option_map (λ x. x.1) (found_by (nat_eq one) map.old.pairs) }
+    ensures few { length map.new.tables ≤ 1 }
+{
+    let first = map.remove(&one).unwrap().copied();
+    let second = map.remove(&other).unwrap().copied();
+    (first, second)
+}
+
+/// Removes all pairs of such a map, and then the pair of a key, of which there is none.
+fn empties_and_takes_out(map: &mut Map, key: u64) -> Option<u64>
+    requires few { length map.old.tables ≤ 1 }
+    ensures none { result ≡ None }
+{
+    map.clear().unwrap();
+    map.remove(&key).unwrap().copied()
+}
+
 /// The value of a key, if it is there.
 fn value_of(map: &Map, key: u64) -> Option<u64>
     ensures { result ≡ option_map (λ x. x.1) (found_by (nat_eq key) map.now.pairs) }
@@ -143,14 +163,33 @@ fn map_answers_so(alloc: Global) -> Result<bool, Fault> {
 /// Whether nothing is taken out of a map that was just made with a table.
 fn takes_nothing_out(alloc: Global) -> Result<bool, Fault> {
     let mut map = Map::with_capacity(alloc, 100)?;
-    Ok(takes_out(&mut map, 7) == None && map.is_empty())
+    let so = takes_out(&mut map, 7) == None && takes_both_out(&mut map, 7, 8) == (None, None);
+    Ok(so && map.is_empty())
 }
 
 /// Nor out of one with none.
 fn is_emptied(alloc: Global) -> Result<bool, Fault> {
     let mut map = Map::new(alloc)?;
     empties(&mut map);
-    Ok(map.is_empty())
+    Ok(empties_and_takes_out(&mut map, 7) == None && map.is_empty())
+}
+
+/// Whether the pair of 7 and that of 8 are taken out once, and then no more, of a map with no pair at first.
+fn takes_once(map: &mut Map) -> Result<bool, Fault> {
+    map.extend([(7, 1), (8, 2)])?;
+    let mut so = map.remove(&7)?.copied() == Some(1) && map.remove(&7)? == None;
+    so = so && map.len() == 1;
+    if let Some((key, value)) = map.remove_entry(&8)? {
+        so = so && *key == 8 && *value == 2;
+    } else {
+        so = false;
+    }
+    Ok(so && map.remove_entry(&8)?.is_none() && map.is_empty())
+}
+
+fn pairs_are_taken_once(alloc: Global) -> Result<bool, Fault> {
+    let mut map = Map::new(alloc)?;
+    takes_once(&mut map)
 }
 
 fn set_is_walked(alloc: Global) -> Result<bool, Fault> {
@@ -167,4 +206,5 @@ fn answers_lend_what_was_met(rt: HostRuntime) {
 #[test]
 fn removals_are_done_where_none_is_behind_the_first_table(rt: HostRuntime) {
     assert!(rt; takes_nothing_out(rt.alloc()) == Ok(true) && is_emptied(rt.alloc()) == Ok(true));
+    assert!(rt; pairs_are_taken_once(rt.alloc()) == Ok(true));
 }

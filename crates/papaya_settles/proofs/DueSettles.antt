@@ -6,7 +6,7 @@ use Rattle.papaya_histories.specs.Given.SeizeWords.declared.at.At.{At}
 use Rattle.papaya_histories.specs.Given.SeizeWords.declared.at.At.TheVariants as name
 use Rattle.papaya_histories.specs.Given.SeizeWords.Op.{Op, Out, Load, Store, Swap, Add, Or, Exchange, Make, Take, Rewrite, Room, Found, Exchanged}
 use Rattle.papaya_histories.specs.Given.SeizeWords.Mem.{Mem, value_at, word_at}
-use Rattle.papaya_histories.specs.Given.SeizeWords.Plan.{Plan, Then, Turn, Do, Now, Seeing, Sure, Ends, plan_as}
+use Rattle.papaya_histories.specs.Given.SeizeWords.Plan.{Plan, Then, Turn, Do, Now, Seeing, Sure, Ends}
 use Rattle.papaya_histories.specs.Given.SeizeWords.Word.{block_in}
 use Rattle.papaya_histories.specs.Given.Seize.declared.states.TheConstants.{HELD, ACTIVE, FIRST}
 use Rattle.papaya_histories.specs.Given.Seize.declared.rows.settle.Settle.{Settle}
@@ -55,10 +55,6 @@ IsQuietOp _ = ⊥
 abbrev pub IsQuietPlan : {T R : Type 0} → Plan T R → Type 0
 IsQuietPlan (Turn rest) = Unit {0}
 IsQuietPlan (Do op rest) = IsQuietOp op
-
-pub quiet_as : {T A B : Type 0} (f : A → B) (plan : Plan T A) → IsQuietPlan plan → IsQuietPlan (plan_as f plan)
-quiet_as f (Turn rest) quiet = quiet
-quiet_as f (Do op rest) quiet = quiet
 
 module _ (caller map : ℕ) (known : Known) where
   abbrev pub effects_by : Changed → List Effect

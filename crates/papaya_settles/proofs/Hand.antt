@@ -13,8 +13,4 @@ pub mod KeyCopies
 pub mod Rooms
 pub mod Sweeps
 pub mod All
-pub mod Lives
-pub mod There
-pub mod Others
-pub mod Ends
 pub mod Held

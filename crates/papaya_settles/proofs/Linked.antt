@@ -26,11 +26,6 @@ IsNoCopier (at.Helps copier goal) = ⊥
 IsNoCopier (at.Copies copier) = ⊥
 IsNoCopier _ = Unit {0}
 
-pub no_copier_links : (p : Calling) → IsNoCopier p → call_has_unlinked p ≡ false
-no_copier_links (at.Helps copier goal) none = absurd none
-no_copier_links (at.Copies copier) none = absurd none
-no_copier_links _ none = refl
-
 module _ {K V : Type 0} where
   -- it has unlinked none
   abbrev HasNone : KeyCall K V K × Called (Node K V) → Type 0

@@ -1,5 +1,5 @@
 -- What a call owes follows the effects of its steps.
-use Rattle.std.specs.Prelude.{◌≡◌, ℕ, ◌+◌, ◌==◌, ◌&&◌, ◌||◌, Bool, true, false, MatchBool, List, [], ◌∷◌, length, Option, Some, if◌then◌else◌}
+use Rattle.std.specs.Prelude.{◌≡◌, ℕ, ◌+◌, ◌==◌, ◌&&◌, ◌||◌, Bool, true, false, MatchBool, List, [], ◌∷◌, Option, Some, if◌then◌else◌}
 use Rattle.std.proofs.Common.{refl, ap, sym, subst, ◌∙◌}
 use Rattle.std.proofs.lemmas.Bool.{eq-eqb}
 use Rattle.papaya_histories.specs.Given.Schedules.declared.call.Call.{Call}
@@ -17,7 +17,7 @@ use Rattle.papaya_histories.specs.Given.Schedules.Moment.{UnderWay as CallThere,
 use Rattle.papaya_histories.specs.Given.Schedules.Things.{same_table, same_thing}
 use Rattle.papaya_histories.specs.Given.Schedules.Views.{call_of}
 use Rattle.papaya_histories.proofs.Changes.{acted_on}
-use Rattle.papaya_settles.specs.Owing.{hands_over, HandsOver, leaves_owed, AllLeave, handed_after, OwesGo, KeepsOwed, TakesOut, PutsOver, Passes, HandsFirst, FindsOwed, OwesFollow, HandingFollows}
+use Rattle.papaya_settles.specs.Owing.{HandsOver, leaves_owed, AllLeave, OwesGo, KeepsOwed, TakesOut, PutsOver, Passes, HandsFirst, FindsOwed, OwesFollow}
 
 table_itself : (t : Table) → same_table t t ≡ true
 table_itself t = ap (λ (q : Bool). q && (t.turn == t.turn)) (eq-eqb t.map t.map refl) ∙ eq-eqb t.turn t.turn refl
@@ -122,34 +122,5 @@ module _ {K V : Type 0} where
     follows effects m c is after (HandsFirst f x are hands owes) =
         let it = hands_found f x m c after hands owes in subst (λ (l : List Effect). Follows l m after) (sym are) (one_follows f m c is after it.0 it.1)
 
-    handed_one : (m : Moment K V) (f : Effect) (c : CallThere K V) → (call_by m f c).has_handed ≡ (if hands_over f then true else c.has_handed)
-    handed_one m (effect.Asked growth) c = refl
-    handed_one m effect.PairMade c = refl
-    handed_one m effect.PairGivenUp c = refl
-    handed_one m (effect.TableMade t) c = refl
-    handed_one m (effect.TableGivenUp t) c = refl
-    handed_one m (effect.Linked t shape) c = refl
-    handed_one m (effect.Promoted t) c = refl
-    handed_one m (effect.Copied n s) c = refl
-    handed_one m (effect.Stored n s) c = (due_owes c.call c c.replacing n).1
-    handed_one m (effect.Replaced n) c = refl
-    handed_one m (effect.Removed n) c = (due_owes c.call c (Some n) (length m.stored + 1)).1
-    handed_one m (effect.Counted s) c = refl
-    handed_one m (effect.Deferred n t) c = refl
-    handed_one m (effect.Retired x) c = refl
-    handed_one m (effect.Reclaimed x) c = refl
-    handed_one m (effect.Ended n) c = refl
-    handed_one m (effect.Taken t) c = refl
-
-    handing : (effects : List Effect) (m : Moment K V) (c : CallThere K V) → call_of own m ≡ Some c
-        → (d : CallThere K V) × (call_of own (with_effects (Some own) (Some map) effects m) ≡ Some d) × (d.has_handed ≡ handed_after effects c.has_handed)
-    handing [] m c is = (c, is, refl)
-    handing (f ∷ fs) m c is =
-        let rest = handing fs (with_effect (Some own) (Some map) f m) (call_by m f c) (acted_on own map f m c is) in
-        (rest.0, rest.1, rest.2 ∙ ap (handed_after fs) (handed_one m f c))
-
 pub owes_follow : (K V : Type 0) → OwesFollow K V
 owes_follow K V own map effects m c is after go = follows own map effects m c is after go
-
-pub handing_follows : (K V : Type 0) → HandingFollows K V
-handing_follows K V own map effects m c is = handing own map effects m c is

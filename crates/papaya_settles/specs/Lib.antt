@@ -9,5 +9,4 @@ pub mod InHand
 pub mod Hand
 pub mod Owed
 pub mod Handing
-pub mod OwedBeside
 pub mod Given

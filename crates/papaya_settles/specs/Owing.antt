@@ -1,5 +1,5 @@
 -- What effects of a call do to what it owes: they take something out of its map, or hand over what it owes first, which they find there.
-use Rattle.std.specs.Prelude.{◌≡◌, ℕ, Bool, true, false, MatchBool, List, [], ◌∷◌, ◌++◌, Some, if◌then◌else◌}
+use Rattle.std.specs.Prelude.{◌≡◌, ℕ, Bool, true, false, MatchBool, List, [], ◌∷◌, ◌++◌, Some}
 use Rattle.std.specs.List.{list_any}
 use Rattle.papaya_histories.specs.Given.Tables.declared.node.Node.{Node}
 use Rattle.papaya_histories.specs.Given.Raw.declared.machines.progress.Progress.{Progress}
@@ -51,11 +51,6 @@ abbrev pub AllLeave : List Effect → Type 0
 AllLeave [] = Unit {0}
 AllLeave (f ∷ fs) = (leaves_owed f ≡ true) × AllLeave fs
 
--- whether a call has handed something over after these, if it had before as this says
-abbrev pub handed_after : List Effect → Bool → Bool
-handed_after [] had = had
-handed_after (f ∷ fs) had = handed_after fs (if hands_over f then true else had)
-
 module _ {K V : Type 0} where
   -- what a call owes goes with the effects of a step from this to that
   pub data OwesGo (m : Moment K V) (effects : List Effect) (before after : List Thing) : Type 0 where
@@ -78,12 +73,6 @@ OwesFollow K V =
     (own : List ℕ) (map : ℕ) (effects : List Effect) (m : Moment K V) (c : CallThere K V) → call_of own m ≡ Some c → (after : List Thing) → OwesGo m effects c.owes after
     → AtEachEffect (λ v f. ByCall (FindsOwed v f) (acting (Some own) v)) (Some own) (Some map) effects m
     × (d : CallThere K V) × (call_of own (with_effects (Some own) (Some map) effects m) ≡ Some d) × (d.owes ≡ after)
-
--- and it has handed something over just if they did, or it had.
-abbrev pub HandingFollows : Type 0 → Type 0 → Type 0
-HandingFollows K V =
-    (own : List ℕ) (map : ℕ) (effects : List Effect) (m : Moment K V) (c : CallThere K V) → call_of own m ≡ Some c
-    → (d : CallThere K V) × (call_of own (with_effects (Some own) (Some map) effects m) ≡ Some d) × (d.has_handed ≡ handed_after effects c.has_handed)
 
 -- The promise, of a step of a call that is none of a row: it hands nothing over, and what it takes out comes behind what the call owed.
 abbrev pub StepsTakeOut : (K V : Type 0) (same : K → K → Bool) (hash : ℕ → K → ℕ) → Type 0

@@ -1,6 +1,6 @@
 -- Nothing was counted on a number that no map has had yet.
 use Rattle.std.specs.Prelude.{◌≡◌, ◌≢◌, ℕ, Bool, List, Some}
-use Rattle.std.proofs.Common.{refl, ap, ◌∙◌, arith}
+use Rattle.std.proofs.Common.{refl, ◌∙◌}
 use Rattle.papaya_settles.specs.Given.Tables.declared.node.Node.{Node}
 use Rattle.papaya_settles.specs.Given.Raw.declared.machines.progress.Progress.{Progress}
 use Rattle.papaya_settles.specs.Given.Schedules.Effects.{with_effects}
@@ -9,30 +9,15 @@ use Rattle.papaya_settles.specs.Given.Callers.Together.{UnderWay, OnKey, ForRoom
 use Rattle.papaya_settles.specs.Given.Effects.Effects.{effects_of}
 use Rattle.papaya_settles.specs.Given.Effects.Known.{Known}
 use Rattle.papaya_settles.specs.Given.Effects.declared.acting.Acting.TheVariants as acts
-use Rattle.papaya_settles.specs.Given.Finishes.Maps.{Standing}
-use Rattle.papaya_settles.specs.Given.Moments.Numbers.{MapsAreBelow}
 use Rattle.papaya_settles.specs.Given.Moments.Whole.{ShowsWhole}
 use Rattle.papaya_settles.specs.Counts.{ShowsCounts}
-use Rattle.papaya_shards.specs.ShardSteps.{CallsKeepNumbers, NumbersStay}
-use Rattle.papaya_shards.specs.ShardWords.{NumbersUncounted, ShowsCounters}
+use Rattle.papaya_shards.specs.ShardWords.{ShowsCounters}
 use Rattle.papaya_shards.proofs.KeyAdds.{key_adds}
 use Rattle.papaya_shards.proofs.RestAdds.{room_adds, sum_adds, sweep_adds}
 use Rattle.papaya_shards.proofs.ShardCalls.{others_then}
 use Rattle.papaya_settles.specs.Given.Scenes.Held.{Held, IsAt}
 use Rattle.papaya_settles.specs.Given.Scenes.Scene.{Scene}
 use Rattle.papaya_settles.specs.Given.Scenes.Stepping.{StepLeads}
-
--- where no shard of another map is another one
-module _ {K V : Type 0} (same : K → K → Bool) (hash : ℕ → K → ℕ) (name : ℕ → List ℕ) (m : Moment K V) (known : Known) (s : Scene K V) (old new : Held K V) (at_old : IsAt same hash old s)
-    (count : ℕ) (below : MapsAreBelow count s) (numbers : NumbersUncounted count m) (map i : ℕ) (st : Standing K) (there : s.maps map ≡ Some st) where
-  abbrev v : Moment K V
-  v = with_effects (Some (name i)) (Some map) (effects_of (acts.Call i map) known new.changed) m
-
-  numbers_then : ((n : ℕ) → n ≢ map → v.shards n ≡ m.shards n) → NumbersUncounted count v
-  numbers_then others n past shard =
-      let low = below.standing map st there in
-      let ne : n ≢ map = (λ e. absurd (omega (arith, low, past, e))) in
-      ap (λ (f : ℕ → ℕ). f shard) (others n ne) ∙ numbers n past shard
 
 -- a step of a call counts on its map alone
 pub calls_spare_others : {K V : Type 0} (same : K → K → Bool) (hash : ℕ → K → ℕ) (name : ℕ → List ℕ) (m : Moment K V) (known : Known) (s : Scene K V) (old new : Held K V) → IsAt same hash old s
@@ -51,11 +36,3 @@ calls_spare_others same hash name m known s old new at_old whole counts counters
 calls_spare_others same hash name m known s old new at_old whole counts counters map i (OverAll x) here said leads =
     others_then same hash name m known s old new at_old whole counts counters map i (OverAll x) here said leads
     (sweep_adds same hash name m known s old new at_old whole.all.shown map i (OverAll x) here said leads x refl (leads map (OverAll x) here).4.did)
-
-pub calls_keep_numbers : (K V : Type 0) (same : K → K → Bool) (hash : ℕ → K → ℕ) → CallsKeepNumbers K V same hash
-calls_keep_numbers K V same hash name m known s old new at_old whole counts counters count below numbers map i u here said leads =
-    numbers_then same hash name m known s old new at_old count below numbers map i (leads map u here).0 (leads map u here).2
-    (calls_spare_others same hash name m known s old new at_old whole counts counters map i u here said leads)
-
-pub numbers_stay : (K V : Type 0) → NumbersStay K V
-numbers_stay K V m v count more numbers same as_many of past shard = ap (λ (f : ℕ → ℕ → ℕ). f of shard) same ∙ numbers of (omega (arith, as_many, past)) shard

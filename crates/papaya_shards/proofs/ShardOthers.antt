@@ -28,7 +28,7 @@ use Rattle.papaya_settles.specs.Given.Others.Endings.{ending_after}
 use Rattle.papaya_settles.specs.Given.Others.Rows.{scene_then}
 use Rattle.papaya_settles.proofs.Given.Others.RowPlans.{TellsRow, row_tells, row_operated}
 use Rattle.papaya_settles.proofs.Given.Histories.Aside.Elsewhere.{ending_at}
-use Rattle.papaya_shards.specs.ShardSteps.{CountersBegin, RowsBeginCounters, RowsKeepCounters, EndingsKeepCounters, MakingsBeginCounters, EndingsBeginCounters}
+use Rattle.papaya_shards.specs.ShardSteps.{RowsBeginCounters, RowsKeepCounters, EndingsKeepCounters, MakingsBeginCounters, EndingsBeginCounters}
 use Rattle.papaya_shards.specs.ShardWords.{ShowsShards, IsUncounted, MakesUncounted, ShowsCounters}
 use Rattle.papaya_settles.proofs.Gains.{none_changed}
 use Rattle.papaya_shards.proofs.ShardKept.{none_shards, same_setting, word_kept, shards_kept, makes_kept, adds_kept}
@@ -40,13 +40,6 @@ use Rattle.papaya_settles.specs.Given.Scenes.Held.{Held, IsAt}
 use Rattle.papaya_settles.specs.Given.Scenes.OnSlots.{HappensAt, RowSteps}
 use Rattle.papaya_settles.specs.Given.Scenes.Rows.{request_of}
 use Rattle.papaya_settles.specs.Given.Scenes.Scene.{IsOnSlot, Scene, slot_of}
-
-pub counters_begin : (K V : Type 0) → CountersBegin K V
-counters_begin K V roots name = record {
-  shards = λ n st is shard few. absurd (cc is);
-  makes = λ i b is. absurd (cc is);
-  adds = λ n i u is removed to_add c found. absurd (cc is);
-}
 
 -- in the same memory words are the same
 memory_kept : {K V : Type 0} (m m2 : Mem (Node K V)) → m2 ≡ m → (c f x y : ℕ) → word_at m (Word c f) ≡ Some x → word_at m2 (Word c f) ≡ Some y → y ≡ x

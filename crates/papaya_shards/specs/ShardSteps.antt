@@ -14,7 +14,7 @@ use Rattle.papaya_settles.specs.Given.Schedules.declared.outcome.Outcome.{Outcom
 use Rattle.papaya_settles.specs.Given.Schedules.Beginning.{with_call}
 use Rattle.papaya_settles.specs.Given.Schedules.Effects.{with_effects}
 use Rattle.papaya_settles.specs.Given.Schedules.Entry.{ends_call}
-use Rattle.papaya_settles.specs.Given.Schedules.Moment.{Moment, start}
+use Rattle.papaya_settles.specs.Given.Schedules.Moment.{Moment}
 use Rattle.papaya_settles.specs.Given.Callers.Together.{UnderWay, ForRoom, Counting}
 use Rattle.papaya_settles.specs.Given.Effects.Effects.{effects_of}
 use Rattle.papaya_settles.specs.Given.Effects.Known.{Known}
@@ -27,26 +27,21 @@ use Rattle.papaya_settles.specs.Given.Finishes.Machines.{machine_of}
 use Rattle.papaya_settles.specs.Given.Finishes.Makings.{Beginning, HasMade}
 use Rattle.papaya_settles.specs.Given.Finishes.Maps.{Standing}
 use Rattle.papaya_settles.specs.Given.Follows.Calling.{NoneNamed, told, come_to}
-use Rattle.papaya_settles.specs.Given.Moments.Numbers.{MapsAreBelow}
 use Rattle.papaya_settles.specs.Given.Moments.Whole.{ShowsWhole}
 use Rattle.papaya_settles.specs.Given.Others.Endings.{ending_after}
 use Rattle.papaya_settles.specs.Given.Others.Makings.{making_after}
 use Rattle.papaya_settles.specs.Given.Others.Rows.{scene_then}
 use Rattle.papaya_shards.specs.Adds.{adds_of}
 use Rattle.papaya_settles.specs.Counts.{is_to_count, ShowsCounts}
-use Rattle.papaya_shards.specs.ShardWords.{IsUncounted, NumbersUncounted, ShowsCounters}
+use Rattle.papaya_shards.specs.ShardWords.{IsUncounted, ShowsCounters}
 use Rattle.papaya_settles.specs.Given.Scenes.Ending.{EndingLeads, ending_begun}
 use Rattle.papaya_settles.specs.Given.Scenes.Held.{Held, IsAt}
 use Rattle.papaya_settles.specs.Given.Scenes.Making.{MakingLeads}
 use Rattle.papaya_settles.specs.Given.Scenes.OnSlots.{RowBegins, RowLeads}
 use Rattle.papaya_settles.specs.Given.Scenes.Replying.{scene_with}
 use Rattle.papaya_settles.specs.Given.Scenes.Rows.{request_of}
-use Rattle.papaya_settles.specs.Given.Scenes.Scene.{IsOnSlot, Scene, at_first, slot_of}
+use Rattle.papaya_settles.specs.Given.Scenes.Scene.{IsOnSlot, Scene, slot_of}
 use Rattle.papaya_settles.specs.Given.Scenes.Stepping.{StepLeads, scene_after}
-
--- The promises: so it is as a run begins,
-abbrev pub CountersBegin : Type 0 → Type 0 → Type 0
-CountersBegin K V = (roots : ℕ) (name : ℕ → List ℕ) → ShowsCounters {K = K} {V = V} name start (at_first roots)
 
 -- it adds shards up, or may
 abbrev pub AddsUp : {K V : Type 0} → UnderWay K V K → Type 0
@@ -55,7 +50,7 @@ AddsUp (Counting sum) = Unit {0}
 AddsUp _ = ⊥
 
 module _ (K V : Type 0) (same : K → K → Bool) (hash : ℕ → K → ℕ) where
-  -- after each step of a call, whoever's: one that counts changes its shard alone, to what the moment says of it then,
+  -- The promises: so it is after each step of a call, whoever's: one that counts changes its shard alone, to what the moment says of it then,
   abbrev pub CallsKeepCounters : Type 0
   CallsKeepCounters =
       (name : ℕ → List ℕ) (m : Moment K V) (known : Known) (s : Scene K V) (old new : Held K V) → IsAt same hash old s
@@ -63,14 +58,6 @@ module _ (K V : Type 0) (same : K → K → Bool) (hash : ℕ → K → ℕ) whe
       → (map i : ℕ) (u : UnderWay K V K) (here : s.calls map i ≡ Some u) (said : Progress (Node K V)) (leads : StepLeads same hash i said s old new)
       → (let to = leads map u here in
       ShowsCounters name (with_effects (Some (name i)) (Some map) (effects_of (acts.Call i map) known new.changed) m) (scene_after same s old new map i to.0 u to.1 said to.4))
-
-  -- nothing is counted on a number that no map has had yet,
-  abbrev pub CallsKeepNumbers : Type 0
-  CallsKeepNumbers =
-      (name : ℕ → List ℕ) (m : Moment K V) (known : Known) (s : Scene K V) (old new : Held K V) → IsAt same hash old s
-      → ShowsWhole same name m known s → ShowsCounts name m s → ShowsCounters name m s → (count : ℕ) → MapsAreBelow count s → NumbersUncounted count m
-      → (map i : ℕ) (u : UnderWay K V K) (here : s.calls map i ≡ Some u) (said : Progress (Node K V)) (leads : StepLeads same hash i said s old new)
-      → NumbersUncounted count (with_effects (Some (name i)) (Some map) (effects_of (acts.Call i map) known new.changed) m)
 
   -- and a reservation and a counting count nothing,
   abbrev pub RoomsCountNothing : Type 0
@@ -147,11 +134,3 @@ module _ (K V : Type 0) where
       → t.world.memory ≡ s.world.memory → t.maps ≡ s.maps → t.makers ≡ s.makers
       → ((of i : ℕ) (u : UnderWay K V K) → t.calls of i ≡ Some u → (removed : ℕ) → adds_of (machine_of u) ≡ Some removed
       → (before : UnderWay K V K) × (s.calls of i ≡ Some before) × (adds_of (machine_of before) ≡ Some removed)) → ShowsCounters name v t
-
-module _ (K V : Type 0) where
-  -- Nothing was counted on a number that no map has had yet as a run begins, and as long as shards are as they were, and there are as many maps, or more.
-  abbrev pub NumbersBegin : Type 0
-  NumbersBegin = (count : ℕ) → NumbersUncounted {K = K} {V = V} count start
-
-  abbrev pub NumbersStay : Type 0
-  NumbersStay = (m v : Moment K V) (count more : ℕ) → NumbersUncounted count m → v.shards ≡ m.shards → count ≤ more → NumbersUncounted more v

@@ -19,10 +19,6 @@ module _ {K V : Type 0} where
   abbrev pub IsUncounted : ℕ → Moment K V → Type 0
   IsUncounted of m = (shard : ℕ) → m.shards of shard ≡ 0
 
-  -- nothing was counted on a map of this number or a higher one
-  abbrev pub NumbersUncounted : ℕ → Moment K V → Type 0
-  NumbersUncounted count m = (of : ℕ) → count ≤ of → IsUncounted of m
-
   -- nothing was counted on a map that is being made, and each shard that was made for it says so
   abbrev pub MakesUncounted : Moment K V → Scene K V → Type 0
   MakesUncounted m s =

@@ -7,7 +7,6 @@ mod Own
 mod Left
 pub mod New
 mod Rising
-pub mod Begin
 pub mod Stays
 mod Frame
 pub mod Steps

@@ -19,9 +19,6 @@ module _ {K : Type 0} (same : K → K → Bool) (spot : ℕ → K → ℕ → �
   NamedBehind = (u : ℕ) × (j : ℕ) × (phase : Phase) × (borrowed : Bool) × (c.first < u) × (c.place u j ≡ Holds n phase borrowed)
 
   module _ (t i : ℕ) (m : Moving (c.place t i)) where
-    same_place : (f : ℕ → ℕ → Place) → f t i ≡ c.place t i → Moving (f t i)
-    same_place f is = subst Moving (sym is) m
-
     -- one place was written: another one, or this one so that it names the pair still
     written : (t2 i2 : ℕ) (v : Place) → (c.place t2 i2 ≡ Holds n m.phase m.borrowed → Moving v) → Moving (put_in c.place t2 i2 v t i)
     written t2 i2 v here = elim (put_in_cases c.place t2 i2 v t i) as (λ _. Moving (put_in c.place t2 i2 v t i)) [

@@ -1,13 +1,13 @@
 -- Where pairs were copied from is so still wherever tables are as they were, and pairs lie where they lay.
 use Rattle.std.specs.Prelude.{◌≡◌, ◌≢◌, ◌⊎◌, ℕ, ◌<◌, ◌≤◌, Bool, List, length, Some}
 use Rattle.papaya_finds.specs.Given.Tables.Chunks.{is_incremental}
-use Rattle.papaya_finds.specs.Given.Schedules.Moment.{Moment, start}
-use Rattle.papaya_finds.specs.Given.Effects.Known.{Known, nothing_known}
+use Rattle.papaya_finds.specs.Given.Schedules.Moment.{Moment}
+use Rattle.papaya_finds.specs.Given.Effects.Known.{Known}
 use Rattle.papaya_finds.specs.Given.Finishes.Maps.{Standing}
 use Rattle.papaya_finds.specs.Given.Rule.Chart.{Tombstone}
 use Rattle.papaya_finds.specs.Given.Follows.Shows.{Shows}
 use Rattle.papaya_sources.specs.Sources.{ShowsSources}
-use Rattle.papaya_finds.specs.Given.Scenes.Scene.{Scene, at_first}
+use Rattle.papaya_finds.specs.Given.Scenes.Scene.{Scene}
 
 module _ {K V : Type 0} where
   -- pairs were stored where they were stored, and lie where they lay, and none has come
@@ -26,13 +26,7 @@ module _ {K V : Type 0} where
       ((st : Standing K) × (s.maps map ≡ Some st) × (st2.chart ≡ st.chart) × (is_incremental st.setting.mode ≡ is_incremental st2.setting.mode))
       ⊎ ((st2.chart.stored ≡ 0) × NoneBorn map v × ((t i : ℕ) (mark : Bool) → st2.chart.place t i ≢ Tombstone mark))
 
--- The promises: so it is as a run begins,
-abbrev pub SourcesBegin : Type 0 → Type 0 → Type 0
-SourcesBegin K V =
-    (same : K → K → Bool) (name : ℕ → List ℕ) (roots : ℕ) → Shows {K = K} {V = V} same name start nothing_known (at_first roots)
-    → ShowsSources {K = K} {V = V} same name start nothing_known (at_first roots)
-
--- and wherever maps stand that stood before, with the tables that they had, or are new, and pairs lie where they lay.
+-- The promise: so it stays wherever maps stand that stood before, with the tables that they had, or are new, and pairs lie where they lay.
 abbrev pub SourcesStay : Type 0 → Type 0 → Type 0
 SourcesStay K V =
     (same : K → K → Bool) (name : ℕ → List ℕ) (m v : Moment K V) (known known2 : Known) (s t : Scene K V) → ShowsSources same name m known s → Shows same name v known2 t → PairsStay m v

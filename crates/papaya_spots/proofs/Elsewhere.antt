@@ -109,9 +109,6 @@ module _ {K V : Type 0} (same : K → K → Bool) (slot caller map : ℕ) (name 
   abbrev c : Chart K
   c = s.chart
 
-  abbrev q : Bool
-  q = is_incremental s.setting.mode
-
   abbrev By : Move K → Type 0
   By = DidBy same slot caller map name number s lawful w sight is_sight is_map m2 Told went blocks2 grown sights2 m known shown shown_blocks told left
 

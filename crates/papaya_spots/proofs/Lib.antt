@@ -26,5 +26,4 @@ pub mod Begins
 pub mod Steps
 pub mod OnSlots
 pub mod Makings
-pub mod There
 pub mod Given

@@ -1,16 +1,10 @@
 -- Which blocks are not reclaimed at a moment of a run: those of the pairs and the tables that were not given back.
-use Rattle.std.specs.Prelude.{◌≡◌, ℕ, Bool, true, false, List, Some}
-use Rattle.papaya_others.specs.Given.SeizeWords.Mem.{value_at}
-use Rattle.papaya_others.specs.Given.Tables.declared.node.Node.TheVariants as node
-use Rattle.papaya_others.specs.Given.Runs.Log.{pair_at}
+use Rattle.std.specs.Prelude.{◌≡◌, ℕ, Bool, true, false}
 use Rattle.papaya_others.specs.Given.Schedules.declared.effect.Table.{Table}
 use Rattle.papaya_others.specs.Given.Schedules.Moment.{Place, Unborn, GivenBack, Moment}
 use Rattle.papaya_others.specs.Given.Schedules.Views.{is_there, is_stage}
 use Rattle.papaya_others.specs.Given.Effects.Known.{Known}
 use Rattle.papaya_others.specs.Given.Effects.declared.role.Role.TheVariants as role
-use Rattle.papaya_others.specs.Given.Follows.Blocks.{WasLinked}
-use Rattle.papaya_others.specs.Given.Follows.Shows.{Shows}
-use Rattle.papaya_others.specs.Given.Scenes.Scene.{Scene}
 
 -- the pair was stored, and is not reclaimed
 abbrev pub is_unreclaimed : Place → Bool
@@ -25,11 +19,3 @@ pub record ShowsUnreclaimed {K V : Type 0} (m : Moment K V) (known : Known) : Ty
   pub tables : (b len : ℕ) (t : Table) → known.roles b ≡ role.Table t len → is_stage is_there t m ≡ true
   pub tables_there : (t : Table) → is_stage is_there t m ≡ true → (b : ℕ) × (len : ℕ) × (known.roles b ≡ role.Table t len)
   pub tables_once : (b d len len2 : ℕ) (t : Table) → known.roles b ≡ role.Table t len → known.roles d ≡ role.Table t len2 → b ≡ d
-
--- The promise: what is not reclaimed is in the memory, in a block that was linked and that nobody has taken away.
-abbrev pub UnreclaimedAreThere : (K V : Type 0) → (K → K → Bool) → Type 0
-UnreclaimedAreThere K V same =
-    (name : ℕ → List ℕ) (m : Moment K V) (known : Known) (s : Scene K V) → Shows same name m known s → ShowsUnreclaimed m known
-    → ((n : ℕ) → is_unreclaimed (m.place n) ≡ true
-    → (b : ℕ) × (k : K) × (v : V) × (pair_at m.stored n ≡ Some (k, v)) × (value_at s.world.memory b ≡ Some (node.Pair k v)) × WasLinked (s.world.hand b))
-    × ((t : Table) → is_stage is_there t m ≡ true → (b : ℕ) × (len : ℕ) × (limit : ℕ) × (value_at s.world.memory b ≡ Some (node.Table len limit t.turn)) × WasLinked (s.world.hand b))

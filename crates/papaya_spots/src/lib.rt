@@ -1,4 +1,2 @@
 //! Where the pairs of maps lie at a moment of a run, and which blocks are not reclaimed yet.
 #![tactic(auto)]
-
-pub mod law;

@@ -105,22 +105,6 @@ module _ (K V : Type 0) (p : Sweep) (takes : removes p.purpose ≡ true) where
   abbrev ShowsSo : Sweep × Swept (Node K V) → Type 0
   ShowsSo (q, end) = Shows end
 
-  telling_not : (q : Sweep) → (q.stands ≡ at.Ready → ⊥) → ShowsSo (telling q)
-  telling_not q never = by q.stands never
-    where
-      by : (stands : Sweeping) → (stands ≡ at.Ready → ⊥) → Shows (told stands)
-      by at.Ready fails = fails refl
-      by at.Reads fails = tt
-      by at.Follows fails = tt
-      by (at.Copies copier) fails = tt
-      by at.Words fails = tt
-      by (at.Asks word) fails = tt
-      by (at.Tries word) fails = tt
-      by (at.Counts removed) fails = tt
-      by (at.Disposes dispose) fails = tt
-      by at.Over fails = tt
-      by (at.Refused fault) fails = tt
-
   begins_not : (q : Sweep) → removes q.purpose ≡ true → ShowsSo (telling (beginning q))
   begins_not q is = subst (λ (b : Bool). Shows (told (if b then at.Words else at.Ready))) (sym is) tt
 

@@ -2,5 +2,4 @@
 #![tactic(auto)]
 
 pub mod changed;
-pub mod law;
 pub mod teller;

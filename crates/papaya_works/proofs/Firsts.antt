@@ -57,7 +57,7 @@ use Rattle.papaya_legal.proofs.Given.Owes.Tables.Held.{shape_of, some_making}
 use Rattle.papaya_legal.proofs.Given.Owes.Tables.Leaves.{Stays, IsMade, IsGivenUp, IsLinked}
 use Rattle.papaya_legal.proofs.Given.Owes.Tables.MakingsOfMaps.{left_tables}
 use Rattle.papaya_legal.proofs.Given.Owes.Tables.Roles.{of_table, NoneOfTable}
-use Rattle.papaya_works.specs.Firsts.{IsForPlaces, OpensFor, ShowsOpenings, FindsFirst, OpeningsBegin, OpeningsStay, MakingsOpen, FirstsAreAll, MakingsGoOn, MakingsLinkFirst}
+use Rattle.papaya_works.specs.Firsts.{IsForPlaces, OpensFor, ShowsOpenings, FindsFirst, MakingsOpen, FirstsAreAll, MakingsGoOn, MakingsLinkFirst}
 use Rattle.papaya_legal.specs.Given.Finds.Shaping.{ShapedAt}
 use Rattle.papaya_legal.proofs.Given.Finds.Capacities.{few_places, no_fault}
 use Rattle.papaya_legal.proofs.Given.Finds.Grown.{found_of, number_is}
@@ -137,12 +137,6 @@ module _ (c : NewMap) where
         always_steps GoesSo m m2 (new_map_plan c) end (by_point K V c.stands so so) (as_step m changed.Nothing (new_map_plan c) m2 told end s)
 
 -- So makings are so at each moment.
-
-pub openings_begin : (K V : Type 0) → OpeningsBegin K V
-openings_begin K V roots i b is = absurd (cc is)
-
-pub openings_stay : (K V : Type 0) → OpeningsStay K V
-openings_stay K V s t shows were i b is = shows i b (were i b is)
 
 module _ {K V : Type 0} (s : Scene K V) (shows : ShowsOpenings s) (i : ℕ) where
   -- one goes on, or begins

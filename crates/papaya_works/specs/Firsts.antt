@@ -29,7 +29,7 @@ use Rattle.papaya_legal.specs.Given.Owes.TablesBeside.{MakesFirst}
 use Rattle.papaya_legal.specs.Given.Finds.Shaping.{ShapedAt}
 use Rattle.papaya_legal.specs.Given.Scenes.Held.{Held, IsAt}
 use Rattle.papaya_legal.specs.Given.Scenes.Making.{MakingLeads}
-use Rattle.papaya_legal.specs.Given.Scenes.Scene.{Scene, at_first}
+use Rattle.papaya_legal.specs.Given.Scenes.Scene.{Scene}
 
 -- a table for so many places, of which there are eight at least
 abbrev pub IsForPlaces : ℕ → Planned → Type 0
@@ -49,15 +49,7 @@ FindsFirst map m (Linked t shape) = (tables_of map m ≡ []) × IsMapsFirst (map
 FindsFirst map m _ = Unit {0}
 
 module _ (K V : Type 0) where
-  -- The promises: so makings are as a run begins,
-  abbrev pub OpeningsBegin : Type 0
-  OpeningsBegin = (roots : ℕ) → ShowsOpenings {K = K} {V = V} (at_first roots)
-
-  -- as long as those under way were so before,
-  abbrev pub OpeningsStay : Type 0
-  OpeningsStay = (s t : Scene K V) → ShowsOpenings s → ((i : ℕ) (b : Beginning K) → t.makers i ≡ Some b → s.makers i ≡ Some b) → ShowsOpenings t
-
-  -- and where one begins.
+  -- The promises: so makings are where one begins.
   abbrev pub MakingsOpen : Type 0
   MakingsOpen =
       (s : Scene K V) → ShowsOpenings s → (i : ℕ) (b : Beginning K) (given : Setting) (roots places : ℕ) → b.machine ≡ opening given roots places → ShowsOpenings (record s { makers = with_at s.makers i (Some b) })

@@ -83,7 +83,7 @@ module _ {T : Type 0} (defers : T → Option ℕ) (fixed : Fixed) (s : State T (
   makes : (value : T) (words : ℕ) → defers value ≡ None → (after : ℕ → Has)
       → ((b : ℕ) (n : World T) → n.hand b ≡ world.Making id → ((c : ℕ) → holds t c w.log ≡ true → holds t c n.log ≡ true) → IsInHand n id t (after b))
       → (so : Out T → View T → Type 0) → ((b : ℕ) → b < 2 ^ 53 → so (OutMade (Ok b)) (Inside t (after b)))
-      → ((back : T) → so (OutMade (Err back)) (Inside t had)) → (out : Out T) (m : Mem T) → Took s.memory (Make value words) out m
+      → ((back : T) → back ≡ value → so (OutMade (Err back)) (Inside t had)) → (out : Out T) (m : Mem T) → Took s.memory (Make value words) out m
       → Goes H Keeps s m id (so out)
   makes value words list after hand so tells refused (OutMade (Ok b)) m took =
       let op : Op T = Make value words in let out : Out T = OutMade (Ok b) in
@@ -134,7 +134,7 @@ module _ {T : Type 0} (defers : T → Option ℕ) (fixed : Fixed) (s : State T (
         plain = plain_same m here.1;
         passes = passes_one defers fixed s id t (Makes id value words) n (λ j. tt)
             (out, m, subst (λ (o : Option ℕ). HasListWord defers o words) (sym list) tt, here, refl) (plain_same m here.1);
-      }) (so out) (refused back)
+      }) (so out) (refused back took.0)
   makes value words list after hand so tells refused (Found x) m took = absurd took.0
   makes value words list after hand so tells refused Stored m took = absurd took.0
   makes value words list after hand so tells refused (Exchanged x) m took = absurd took.0
@@ -197,12 +197,12 @@ module _ (T : Type 0) (defers : T → Option ℕ) where
   blocks_are_made Nothing value words looks list fixed id t s h at = (
     tt,
     makes defers fixed s id t Nothing h at value words list Made (λ b n mine held. mine) (told defers (Inside t Nothing) (Make value words))
-        (λ b lt. (Made b, (lt, refl), refl)) (λ back. (Nothing, refl, refl)),
+        (λ b lt. (Made b, (lt, refl), refl)) (λ back same. (Nothing, (same, refl), refl)),
   )
   blocks_are_made (Seen a) value words looks list fixed id t s h at = (
     tt,
     makes defers fixed s id t (Seen a) h at value words list (λ b. Both b a) (λ b n mine held. (mine, held a (h.seats id (Inside t (Seen a)) at).known))
-        (told defers (Inside t (Seen a)) (Make value words)) (λ b lt. (Both b a, (lt, refl), refl)) (λ back. (Seen a, refl, refl)),
+        (told defers (Inside t (Seen a)) (Make value words)) (λ b lt. (Both b a, (lt, refl), refl)) (λ back same. (Seen a, (same, refl), refl)),
   )
   blocks_are_made (Made b) value words looks list fixed id t s h at = absurd looks
   blocks_are_made (Both b a) value words looks list fixed id t s h at = absurd looks

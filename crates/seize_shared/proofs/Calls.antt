@@ -262,9 +262,9 @@ module _ {T : Type 0} (defers : T → Option ℕ) (v w : View T) (slot : ℕ) wh
   refused_told : (a : ℕ) (value back : T) (y : Bool) → v ≡ Inside slot (if y then Nothing else Seen a)
       → told defers v (Make value 0) (OutMade (Err back)) w → w ≡ Inside slot (if y then Nothing else Seen a)
   refused_told a value back true is so =
-      let k = subst (λ (x : View T). told defers x (Make value 0) (OutMade (Err back)) w) is so in k.2 ∙ ap (Inside slot) k.1
+      let k = subst (λ (x : View T). told defers x (Make value 0) (OutMade (Err back)) w) is so in k.2 ∙ ap (Inside slot) k.1.1
   refused_told a value back false is so =
-      let k = subst (λ (x : View T). told defers x (Make value 0) (OutMade (Err back)) w) is so in k.2 ∙ ap (Inside slot) k.1
+      let k = subst (λ (x : View T). told defers x (Make value 0) (OutMade (Err back)) w) is so in k.2 ∙ ap (Inside slot) k.1.1
 
   pub not_made_told : (a : ℕ) (value back : T) → v ≡ Inside slot (seen_as a) → told defers v (Make value 0) (OutMade (Err back)) w
       → w ≡ Inside slot (seen_as a)

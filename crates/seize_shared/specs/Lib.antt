@@ -5,3 +5,4 @@ pub mod Begun
 pub mod Seeking
 pub mod Made
 pub mod Standing
+pub mod Lent

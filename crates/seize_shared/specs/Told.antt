@@ -43,9 +43,9 @@ cut_in word = cut_as (block_in word)
 -- sees what a root names, or takes it from there
 abbrev pub has_told : {T : Type 0} → Has → Op T → Out T → Has → Type 0
 has_told Nothing (Make value words) (OutMade (Ok b)) after = (b < 2 ^ 53) × (after ≡ Made b)
-has_told Nothing (Make value words) (OutMade (Err back)) after = after ≡ Nothing
+has_told Nothing (Make value words) (OutMade (Err back)) after = (back ≡ value) × (after ≡ Nothing)
 has_told (Seen a) (Make value words) (OutMade (Ok b)) after = (b < 2 ^ 53) × (after ≡ Both b a)
-has_told (Seen a) (Make value words) (OutMade (Err back)) after = after ≡ Seen a
+has_told (Seen a) (Make value words) (OutMade (Err back)) after = (back ≡ value) × (after ≡ Seen a)
 has_told (Made b) (Take c) (Taken value) after = after ≡ Nothing
 has_told (Both b a) (Take c) (Taken value) after = after ≡ Seen a
 has_told (Made b) (Swap (Root r) word) (Found old) after = after ≡ cut_in old

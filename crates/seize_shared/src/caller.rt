@@ -130,6 +130,7 @@ impl<'a, T: Defers> Caller<'a, T> {
         requires plain { T.defers value ≡ None }
         ensures made { IfOk result (λ block. (self.new.seat.view ≡ Inside _slot (Made block)) × (block < 2 ^ 53)) }
         ensures refused { IfErr result (λ back. self.new.seat.view ≡ Inside _slot Nothing) }
+        ensures back { IfErr result (λ back. back ≡ value) }
         ensures blocks { self.new.blocks ≡ self.old.blocks }
     {
         self.blocks.make(&mut self.seat, value, 0)

@@ -1,5 +1,6 @@
 //! Guards of sections: one of a slot that stays on its thread, and one with a slot of its own that may be sent.
-ghost use Rattle.std.specs.Prelude.{◌≡◌, None, false};
+ghost use Rattle.std.specs.Prelude.{◌≡◌, ◌≢◌, None, IfOk, IfErr, IfNone, IfSome, true, false};
+ghost use Rattle.seize_shared.specs.Lent.{IsLent};
 
 use crate::rows::OfRows;
 use crate::stay::Stay;
@@ -29,18 +30,28 @@ impl<'a, T: Defers + Drop> Registration<'a, T> {
     }
 
     /// Takes the value from a root, and retires it, without a section; tells whether there was one. Where a guard was forgotten its section ends first.
-    pub fn clear(&mut self, root: u64) -> bool {
+    pub fn clear(&mut self, root: u64) -> bool
+        ensures slot { self.new.stay.slot ≡ self.old.stay.slot }
+        ensures closed { self.new.stay.inside ≡ false }
+    {
         self.stay.withdraws(root)
     }
 
     /// Tries the slot's batch, whatever its length, without a section. A value that is reclaimed is dropped. Where a guard was forgotten its section ends first.
-    pub fn flush(&mut self) {
+    pub fn flush(&mut self)
+        ensures slot { self.new.stay.slot ≡ self.old.stay.slot }
+        ensures closed { self.new.stay.inside ≡ false }
+    {
         self.stay.closes();
         self.stay.flushes();
     }
 
     /// Opens a section of the slot. Where a guard was forgotten its section ends first.
-    pub fn enter<'r>(&'r mut self) -> LocalGuard<'r, 'a, T> {
+    pub fn enter<'r>(&'r mut self) -> LocalGuard<'r, 'a, T>
+        ensures inside { result.registration.now.stay.inside ≡ true }
+        ensures slot { result.registration.now.stay.slot ≡ self.old.stay.slot }
+        ensures fresh { result.registration.now.stay.seen ≡ 0 }
+    {
         self.stay.refreshes();
         LocalGuard { registration: self }
     }
@@ -53,28 +64,46 @@ pub struct LocalGuard<'r, 'a, T: Defers + Drop> {
 
 impl<'r, 'a, T: Defers + Drop> LocalGuard<'r, 'a, T> {
     /// The number of its slot.
-    pub fn thread_id(&self) -> u64 {
+    pub fn thread_id(&self) -> u64
+        ensures { result ≡ self.now.registration.now.stay.slot }
+    {
         self.registration.stay.slot
     }
 
     /// Ends the section and begins the next one. A value that is reclaimed is dropped.
-    pub fn refresh(&mut self) {
+    pub fn refresh(&mut self)
+        ensures slot { self.new.registration.now.stay.slot ≡ self.old.registration.now.stay.slot }
+        ensures inside { self.new.registration.now.stay.inside ≡ true }
+        ensures fresh { self.new.registration.now.stay.seen ≡ 0 }
+    {
         self.registration.stay.refreshes();
     }
 
     /// Looks which value is at a root, and tells whether one is.
-    pub fn see(&mut self, root: u64) -> bool {
+    pub fn see(&mut self, root: u64) -> bool
+        ensures slot { self.new.registration.now.stay.slot ≡ self.old.registration.now.stay.slot }
+        ensures inside { self.new.registration.now.stay.inside ≡ self.old.registration.now.stay.inside }
+        ensures seen { result ≡ true → self.new.registration.now.stay.seen ≢ 0 }
+    {
         self.registration.stay.sees(root)
     }
 
     /// The value that it has seen, if it has seen one since it began, or was refreshed.
-    pub fn value(&self) -> Option<&T> {
+    pub fn value(&self) -> Option<&T>
+        ensures lent { IfSome result (λ value. IsLent T.defers self.now.registration.now.stay.caller self.now.registration.now.stay.seen value.now) }
+        ensures some { IfSome result (λ value. self.now.registration.now.stay.seen ≢ 0) }
+        ensures none { IfNone result (self.now.registration.now.stay.seen ≡ 0) }
+    {
         self.registration.stay.value()
     }
 
     /// Puts a value at a root, and retires the one that was there. It comes back where there is no such root, or no number is free. The section is begun anew.
     pub fn put(&mut self, root: u64, value: T) -> Result<(), T>
         requires plain { T.defers value ≡ None }
+        ensures slot { self.new.registration.now.stay.slot ≡ self.old.registration.now.stay.slot }
+        ensures inside { self.new.registration.now.stay.inside ≡ true }
+        ensures fresh { self.new.registration.now.stay.seen ≡ 0 }
+        ensures back { IfErr result (λ back. back ≡ value) }
     {
         self.registration.stay.puts(root, value)
     }
@@ -83,17 +112,27 @@ impl<'r, 'a, T: Defers + Drop> LocalGuard<'r, 'a, T> {
     /// seen what is there. It comes back, too, where there is no such root, or no number is free.
     pub fn exchange(&mut self, root: u64, value: T) -> Result<(), T>
         requires plain { T.defers value ≡ None }
+        ensures slot { self.new.registration.now.stay.slot ≡ self.old.registration.now.stay.slot }
+        ensures inside { self.new.registration.now.stay.inside ≡ self.old.registration.now.stay.inside }
     {
         self.registration.stay.exchanges(root, value)
     }
 
     /// Takes the value from a root, and retires it; tells whether there was one. The section is begun anew.
-    pub fn clear(&mut self, root: u64) -> bool {
+    pub fn clear(&mut self, root: u64) -> bool
+        ensures slot { self.new.registration.now.stay.slot ≡ self.old.registration.now.stay.slot }
+        ensures inside { self.new.registration.now.stay.inside ≡ true }
+        ensures fresh { self.new.registration.now.stay.seen ≡ 0 }
+    {
         self.registration.stay.clears(root)
     }
 
     /// Tries the slot's batch, whatever its length. A value that is reclaimed is dropped. What it has seen it doesn't know any more.
-    pub fn flush(&mut self) {
+    pub fn flush(&mut self)
+        ensures slot { self.new.registration.now.stay.slot ≡ self.old.registration.now.stay.slot }
+        ensures inside { self.new.registration.now.stay.inside ≡ self.old.registration.now.stay.inside }
+        ensures fresh { self.new.registration.now.stay.seen ≡ 0 }
+    {
         self.registration.stay.flushes();
     }
 }
@@ -112,12 +151,14 @@ impl<'r, 'a, T: Defers + Drop> Drop for LocalGuard<'r, 'a, T> {
 #[derive(Drop)]
 pub struct OwnedGuard<'a, T: Defers + Drop> {
     stay: Stay<'a, T>,
+    ghost within: { stay.inside ≡ true },
 }
 
 impl<'a, T: Defers + Drop> OwnedGuard<'a, T> {
     /// Takes the first slot that can be taken, and opens a section of it. What was chosen as the memory was opened is handed in.
     pub fn enter(blocks: &'a Blocks<T, OfRows>, fixed: &Fixed) -> Result<Self, Fault>
         requires fixed { blocks.now.words.fixed ≡ fixed.now }
+        ensures fresh { IfOk result (λ guard. guard.stay.seen ≡ 0) }
     {
         let mut stay = Stay::new(blocks, fixed)?;
         stay.refreshes();
@@ -125,28 +166,43 @@ impl<'a, T: Defers + Drop> OwnedGuard<'a, T> {
     }
 
     /// The number of its slot.
-    pub fn thread_id(&self) -> u64 {
+    pub fn thread_id(&self) -> u64
+        ensures { result ≡ self.now.stay.slot }
+    {
         self.stay.slot
     }
 
     /// Ends the section and begins the next one. A value that is reclaimed is dropped.
-    pub fn refresh(&mut self) {
+    pub fn refresh(&mut self)
+        ensures slot { self.new.stay.slot ≡ self.old.stay.slot }
+        ensures fresh { self.new.stay.seen ≡ 0 }
+    {
         self.stay.refreshes();
     }
 
     /// Looks which value is at a root, and tells whether one is.
-    pub fn see(&mut self, root: u64) -> bool {
+    pub fn see(&mut self, root: u64) -> bool
+        ensures slot { self.new.stay.slot ≡ self.old.stay.slot }
+        ensures seen { result ≡ true → self.new.stay.seen ≢ 0 }
+    {
         self.stay.sees(root)
     }
 
     /// The value that it has seen, if it has seen one since it began, or was refreshed.
-    pub fn value(&self) -> Option<&T> {
+    pub fn value(&self) -> Option<&T>
+        ensures lent { IfSome result (λ value. IsLent T.defers self.now.stay.caller self.now.stay.seen value.now) }
+        ensures some { IfSome result (λ value. self.now.stay.seen ≢ 0) }
+        ensures none { IfNone result (self.now.stay.seen ≡ 0) }
+    {
         self.stay.value()
     }
 
     /// Puts a value at a root, and retires the one that was there. It comes back where there is no such root, or no number is free. The section is begun anew.
     pub fn put(&mut self, root: u64, value: T) -> Result<(), T>
         requires plain { T.defers value ≡ None }
+        ensures slot { self.new.stay.slot ≡ self.old.stay.slot }
+        ensures fresh { self.new.stay.seen ≡ 0 }
+        ensures back { IfErr result (λ back. back ≡ value) }
     {
         self.stay.puts(root, value)
     }
@@ -155,17 +211,24 @@ impl<'a, T: Defers + Drop> OwnedGuard<'a, T> {
     /// seen what is there. It comes back, too, where there is no such root, or no number is free.
     pub fn exchange(&mut self, root: u64, value: T) -> Result<(), T>
         requires plain { T.defers value ≡ None }
+        ensures slot { self.new.stay.slot ≡ self.old.stay.slot }
     {
         self.stay.exchanges(root, value)
     }
 
     /// Takes the value from a root, and retires it; tells whether there was one. The section is begun anew.
-    pub fn clear(&mut self, root: u64) -> bool {
+    pub fn clear(&mut self, root: u64) -> bool
+        ensures slot { self.new.stay.slot ≡ self.old.stay.slot }
+        ensures fresh { self.new.stay.seen ≡ 0 }
+    {
         self.stay.clears(root)
     }
 
     /// Tries the slot's batch, whatever its length. A value that is reclaimed is dropped. What it has seen it doesn't know any more.
-    pub fn flush(&mut self) {
+    pub fn flush(&mut self)
+        ensures slot { self.new.stay.slot ≡ self.old.stay.slot }
+        ensures fresh { self.new.stay.seen ≡ 0 }
+    {
         self.stay.flushes();
     }
 }

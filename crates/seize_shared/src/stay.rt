@@ -1,5 +1,6 @@
 //! A slot that is held, and its section, which is open or not.
-ghost use Rattle.std.specs.Prelude.{◌≡◌, ◌<◌, ◌^◌, None, Some, true, false};
+ghost use Rattle.std.specs.Prelude.{◌≡◌, ◌≢◌, ◌<◌, ◌^◌, None, Some, IfErr, IfNone, IfSome, true, false};
+ghost use Rattle.seize_shared.specs.Lent.{IsLent};
 ghost use Rattle.seize_shared.specs.Standing.{standing};
 
 use crate::caller::Caller;
@@ -39,6 +40,7 @@ impl<'a, T: Defers + Drop> Stay<'a, T> {
 
     /// Begins a section anew, or opens one.
     pub(crate) fn refreshes(&mut self)
+        ensures slot { self.new.slot ≡ self.old.slot }
         ensures inside { self.new.inside ≡ true }
         ensures fresh { self.new.seen ≡ 0 }
     {
@@ -53,6 +55,7 @@ impl<'a, T: Defers + Drop> Stay<'a, T> {
 
     /// Ends the section that is open, if one is.
     pub(crate) fn closes(&mut self)
+        ensures slot { self.new.slot ≡ self.old.slot }
         ensures closed { self.new.inside ≡ false }
     {
         if self.inside {
@@ -62,8 +65,12 @@ impl<'a, T: Defers + Drop> Stay<'a, T> {
         self.seen = 0;
     }
 
-    /// Looks which block is at a root, and tells whether one is. What was seen before is not known any more.
-    pub(crate) fn sees(&mut self, root: u64) -> bool {
+    /// Looks which block is at a root, and tells whether one is, where its section is open. What was seen before is not known any more, if there is such a root.
+    pub(crate) fn sees(&mut self, root: u64) -> bool
+        ensures slot { self.new.slot ≡ self.old.slot }
+        ensures inside { self.new.inside ≡ self.old.inside }
+        ensures seen { result ≡ true → self.new.seen ≢ 0 }
+    {
         if !self.inside || root >= self.roots {
             return false;
         }
@@ -80,7 +87,11 @@ impl<'a, T: Defers + Drop> Stay<'a, T> {
     }
 
     /// The value that was seen, if one was.
-    pub(crate) fn value(&self) -> Option<&T> {
+    pub(crate) fn value(&self) -> Option<&T>
+        ensures lent { IfSome result (λ value. IsLent T.defers self.now.caller self.now.seen value.now) }
+        ensures some { IfSome result (λ value. self.now.seen ≢ 0) }
+        ensures none { IfNone result (self.now.seen ≡ 0) }
+    {
         if self.seen == 0 {
             None
         } else {
@@ -91,6 +102,10 @@ impl<'a, T: Defers + Drop> Stay<'a, T> {
     /// Puts a value at a root, and retires the one that was there. It comes back where there is no such root, or no number is free.
     pub(crate) fn puts(&mut self, root: u64, value: T) -> Result<(), T>
         requires plain { T.defers value ≡ None }
+        ensures slot { self.new.slot ≡ self.old.slot }
+        ensures inside { self.new.inside ≡ true }
+        ensures fresh { self.new.seen ≡ 0 }
+        ensures back { IfErr result (λ back. back ≡ value) }
     {
         self.refreshes();
         if root >= self.roots {
@@ -110,6 +125,8 @@ impl<'a, T: Defers + Drop> Stay<'a, T> {
     /// was seen. It comes back, too, where there is no such root, no number is free, or no section is open.
     pub(crate) fn exchanges(&mut self, root: u64, value: T) -> Result<(), T>
         requires plain { T.defers value ≡ None }
+        ensures slot { self.new.slot ≡ self.old.slot }
+        ensures inside { self.new.inside ≡ self.old.inside }
     {
         if !self.inside || root >= self.roots {
             return Err(value);
@@ -135,7 +152,10 @@ impl<'a, T: Defers + Drop> Stay<'a, T> {
     }
 
     /// Takes the value from a root, and retires it, while no section is open; tells whether there was one.
-    pub(crate) fn withdraws(&mut self, root: u64) -> bool {
+    pub(crate) fn withdraws(&mut self, root: u64) -> bool
+        ensures slot { self.new.slot ≡ self.old.slot }
+        ensures closed { self.new.inside ≡ false }
+    {
         self.closes();
         if root >= self.roots {
             return false;
@@ -150,7 +170,11 @@ impl<'a, T: Defers + Drop> Stay<'a, T> {
     }
 
     /// Takes the value from a root, and retires it; tells whether there was one.
-    pub(crate) fn clears(&mut self, root: u64) -> bool {
+    pub(crate) fn clears(&mut self, root: u64) -> bool
+        ensures slot { self.new.slot ≡ self.old.slot }
+        ensures inside { self.new.inside ≡ true }
+        ensures fresh { self.new.seen ≡ 0 }
+    {
         self.refreshes();
         if root >= self.roots {
             return false;
@@ -164,8 +188,12 @@ impl<'a, T: Defers + Drop> Stay<'a, T> {
         }
     }
 
-    /// Tries the slot's batch, whatever its length.
-    pub(crate) fn flushes(&mut self) {
+    /// Tries the slot's batch, whatever its length, where its section is open.
+    pub(crate) fn flushes(&mut self)
+        ensures slot { self.new.slot ≡ self.old.slot }
+        ensures inside { self.new.inside ≡ self.old.inside }
+        ensures fresh { self.new.seen ≡ 0 }
+    {
         if self.inside {
             self.caller.flush(self.slot);
         } else {

@@ -4,7 +4,7 @@ ghost use Rattle.std.specs.Prelude.{◌≡◌};
 use crate::ground::SIZE;
 use crate::retiring::{Counted, Table, all_are, dropped, table};
 use seize_blocks::{Blocks, Home};
-use seize_shared::{Fixed, OfRows, OwnedGuard, Registration};
+use seize_shared::{Fixed, LocalGuard, OfRows, OwnedGuard, Registration};
 use std::alloc::{AllocError, Global};
 use std::test::Fail;
 use std::thread::Threads;
@@ -19,13 +19,19 @@ pub(crate) const CHOSEN: Fixed = Fixed {
     roots: 1,
 };
 
-/// Looks at the root and puts a value there within each of so many sections, and takes then away what is there. It tells whether no value that it saw had been
-/// dropped.
-pub(crate) fn goes(blocks: &Blocks<Counted, OfRows>, drops: &Table, from: usize) -> Option<bool>
+/// Looks at the root and puts a value there within each of so many sections, and takes then away what is there. It answers how many values it has seen, and how
+/// many it has put, or none where one that it saw had been dropped.
+pub(crate) fn goes(
+    blocks: &Blocks<Counted, OfRows>,
+    drops: &Table,
+    from: usize,
+) -> Option<(u64, u64)>
     requires { blocks.now.words.fixed ≡ record { batch_size = 5; roots = 1 } }
 {
     let mut registration = Registration::new(blocks, &CHOSEN).ok()?;
     let mut fresh = true;
+    let mut seen = 0;
+    let mut put = 0;
     for turn in 0..TIMES {
         let mut guard = registration.enter();
         guard.see(0);
@@ -35,17 +41,28 @@ pub(crate) fn goes(blocks: &Blocks<Counted, OfRows>, drops: &Table, from: usize)
                 thread::yield_now();
             }
             fresh = fresh && before == 0 && dropped(&value.drops, value.place) == 0;
+            seen = u64::wrapping_add(seen, 1);
         }
         if let Some(value) = Counted::of(drops, usize::wrapping_add(from, turn)) {
-            drop(guard.put(0, value));
+            if guard.put(0, value).is_ok() {
+                put = u64::wrapping_add(put, 1);
+            }
         }
     }
     let mut guard = registration.enter();
     guard.clear(0);
-    Some(fresh)
+    if fresh { Some((seen, put)) } else { None }
 }
 
-/// Two of them over one memory, which ends then; tells whether none of them saw a value that had been dropped.
+/// Whether one of them has seen values, and has put some.
+pub(crate) fn went(met: Option<(u64, u64)>) -> bool {
+    match met {
+        Some((seen, put)) => seen > 0 && put > 0,
+        None => false,
+    }
+}
+
+/// Two of them over one memory, which ends then; tells whether both saw values and put some, and none of those that they saw had been dropped.
 fn both<R: Threads + Sync>(rt: &R, alloc: Global, drops: &Table) -> Result<bool, AllocError> {
     let home = Home::<Counted, OfRows>::open(alloc, 1, 4096, &CHOSEN)?;
     let blocks = &home.blocks;
@@ -54,7 +71,7 @@ fn both<R: Threads + Sync>(rt: &R, alloc: Global, drops: &Table) -> Result<bool,
         || goes(blocks, drops, 0),
         || goes(blocks, drops, TIMES),
     );
-    Ok(first == Some(true) && second == Some(true))
+    Ok(went(first) && went(second))
 }
 
 #[test]
@@ -80,7 +97,7 @@ fn forgets(blocks: &Blocks<Counted, OfRows>, drops: &Table) -> Option<()>
     Some(())
 }
 
-/// The same over one memory; answers how many of the five that were retired were dropped as the registration ended, and before the memory does.
+/// The same over one memory. It tells whether the five that were retired were dropped as the registration ended, and the last one is still there.
 fn forgets_all(alloc: Global, drops: &Table) -> Result<bool, AllocError> {
     let home = Home::<Counted, OfRows>::open(alloc, 1, 64, &CHOSEN)?;
     let went = forgets(&home.blocks, drops).is_some();
@@ -146,5 +163,56 @@ fn an_owned_guard_keeps_what_is_retired_until_it_ends_on_another_thread(
     let drops = table(rt.alloc(), 6)?;
     assert_eq!(rt; sends_one(&rt, rt.alloc(), &drops)?, Some(true));
     assert!(rt; all_are(&drops, 6, 1));
+    Ok(())
+}
+
+/// The place of the value that a guard has seen.
+fn seen(guard: &LocalGuard<'_, '_, Counted>) -> Option<usize> {
+    match guard.value() {
+        Some(value) => Some(value.place),
+        None => None,
+    }
+}
+
+/// Looks at the root, where nothing is, puts a value there and sees it, begins the section anew, and puts one at a root that is not there; tells whether each
+/// call answers so.
+fn puts_and_sees(guard: &mut LocalGuard<'_, '_, Counted>, drops: &Table) -> Option<bool> {
+    let empty = !guard.see(0) && seen(guard).is_none();
+    let put = guard.put(0, Counted::of(drops, 0)?).is_ok() && seen(guard).is_none();
+    let sees = guard.see(0) && seen(guard) == Some(0);
+    guard.refresh();
+    let forgets = seen(guard).is_none();
+    let back = match guard.put(1, Counted::of(drops, 1)?) {
+        Ok(()) => false,
+        Err(value) => value.place == 1,
+    };
+    Some(empty && put && sees && forgets && back)
+}
+
+/// Takes the value from the root, once, tries the batch, and begins the section anew; tells whether the value was dropped just then.
+fn takes(guard: &mut LocalGuard<'_, '_, Counted>, drops: &Table) -> bool {
+    let taken = guard.clear(0) && !guard.clear(0);
+    guard.flush();
+    let kept = dropped(drops, 0) == 0;
+    guard.refresh();
+    taken && kept && dropped(drops, 0) == 1
+}
+
+/// One after the other, under one guard.
+fn calls(blocks: &Blocks<Counted, OfRows>, drops: &Table) -> Option<bool>
+    requires { blocks.now.words.fixed ≡ record { batch_size = 5; roots = 1 } }
+{
+    let mut registration = Registration::new(blocks, &CHOSEN).ok()?;
+    let mut guard = registration.enter();
+    let put = puts_and_sees(&mut guard, drops)?;
+    Some(takes(&mut guard, drops) && put)
+}
+
+#[test]
+fn a_guard_sees_what_it_has_put_and_drops_what_it_has_taken(rt: HostRuntime) -> Result<(), Fail> {
+    let drops = table(rt.alloc(), 2)?;
+    let home = Home::<Counted, OfRows>::open(rt.alloc(), 1, 64, &CHOSEN)?;
+    assert_eq!(rt; calls(&home.blocks, &drops), Some(true));
+    assert!(rt; all_are(&drops, 2, 1));
     Ok(())
 }

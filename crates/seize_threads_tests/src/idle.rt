@@ -1,7 +1,7 @@
 //! Values that are taken from a root and retired while no section of the slot is open, beside guards that see them, on one thread and on two.
 ghost use Rattle.std.specs.Prelude.{◌≡◌};
 
-use crate::guards::{CHOSEN, TIMES, goes};
+use crate::guards::{CHOSEN, TIMES, goes, went};
 use crate::retiring::{Counted, Table, all_are, dropped, table};
 use seize_blocks::{Blocks, Home};
 use seize_shared::{OfRows, OwnedGuard, Registration};
@@ -27,13 +27,13 @@ fn sweeps(blocks: &Blocks<Counted, OfRows>) -> Option<u64>
     Some(taken)
 }
 
-/// One who sees and puts values under guards, and one who takes them away without any, over one memory, which ends then; tells whether no value that was
-/// seen had been dropped.
+/// One who sees and puts values under guards, and one who takes them away without any, over one memory, which ends then; tells whether values were seen
+/// and put, and none of those that were seen had been dropped.
 fn both<R: Threads + Sync>(rt: &R, alloc: Global, drops: &Table) -> Result<bool, AllocError> {
     let home = Home::<Counted, OfRows>::open(alloc, 1, 4096, &CHOSEN)?;
     let blocks = &home.blocks;
-    let (fresh, taken) = thread::join(rt, || goes(blocks, drops, 0), || sweeps(blocks));
-    Ok(fresh == Some(true) && taken.is_some())
+    let (met, taken) = thread::join(rt, || goes(blocks, drops, 0), || sweeps(blocks));
+    Ok(went(met) && taken.is_some())
 }
 
 #[test]

@@ -63,9 +63,6 @@ module _ {V : Type 0} (told : Reply V) where
   pub never_none : (n : ℕ) → last_told None (only (Some n)) ≡ Some reply.Remove → ⊥
   never_none n e = cc e
 
-  pub never_pair : (o : ℕ) (other : Reply V) → last_told (Some o) (only None) ≡ Some other → ⊥
-  never_pair o other e = cc e
-
   pub removes_none : last_told None (only None) ≡ Some reply.Remove → reply.Remove ≡ meant told
   removes_none e = means reply.Remove (told_none reply.Remove e)
 

@@ -35,6 +35,7 @@ use Rattle.papaya_events.proofs.OfCalls.Worth.{busy_says}
 use Rattle.papaya_events.specs.OfCalls.{Runs, RunsOn}
 use Rattle.papaya_events.proofs.OfCalls.AsBefore.{as_before}
 use Rattle.papaya_scheduler.specs.Given.Executor.IsThere.{held_by}
+use Rattle.papaya_folded.specs.Given.Schedules.Transition.{past, transition}
 
 -- whatever call there is, nothing is asked of it
 nothing_asked : {K V : Type 0} (o : Option (CallThere K V)) → IfCall (λ (c : CallThere K V). Unit {0}) o
@@ -66,8 +67,8 @@ module _ {K V S : Type 0} (same : K → K → Bool) (hash : K → ℕ) (terms : 
       by None is = none_there (none_of (call_of own m) (there_is same hash terms m old runs.stands own None is))
       by (Some place) is =
           let here = here_at same hash terms m old runs.stands own place is in
-          events_read_briefly K V same (λ map. hash) runs.stands.name log (λ j. 0) m (known old.logged.notes) runs.stands.scene (held_by old.logged.executor) runs.stands.shown.is_at.held runs.stands.shown.shows runs.shows.reading
-          here.caller.map here.caller.number here.way.0 here.way.1 e (of_call ∙ ap Some (sym (here.way.2 ∙ here.named))) (omega arith)
+          events_read_briefly K V same (λ map. hash) runs.stands.name (past log) (λ j. 0) m (known old.logged.notes) runs.stands.scene (held_by old.logged.executor) runs.stands.shown.is_at.held runs.stands.shown.shows runs.shows.reading
+          here.caller.map here.caller.number here.way.0 here.way.1 (caller_of event) (of_call ∙ ap Some (sym (here.way.2 ∙ here.named))) 0 (omega arith)
 
   module _ (reads : ReadsBriefly log e m) (no_slot : IsOfNoSlot event) (stays : worked e m ≡ m) (enters : EntersInside runs.stands.scene.world event (Refused Busy) m.there)
       (whole : IsWhole event (Refused Busy) [] m (worked e m)) (reclaims : ReclaimsAll log e) (leaves : LeavesAll event (Refused Busy) 0) (right : ComesRight terms log e)
@@ -75,7 +76,7 @@ module _ {K V S : Type 0} (same : K → K → Bool) (hash : K → ℕ) (terms : 
     legal : IsLegalBut same terms log e × SectionsHold (moment (e ∷ log)) (known old.logged.notes) runs.stands.scene.world
     legal =
         idle_events_are_legal K V same terms log (known old.logged.notes) runs.stands.scene.world e refl tt runs.shows.sections enters (others_hand_over K V log e no_slot).0
-        (others_hand_over K V log e no_slot).1 (subst (λ (x : Moment K V). ReadsBriefly log e x) (sym stays) reads) (other_outcomes_are_swept K V same terms log e tt) whole
+        (others_hand_over K V log e no_slot).1 (subst (λ (x : Moment K V). ReadsBriefly log e x) (sym stays) reads) (other_outcomes_are_swept K V same terms (past log) (transition log e) tt) whole
         (nothing_asked (acting (caller_of event) (worked e m)))
 
     run : ShowsRun same runs.stands.name terms (e ∷ log) (known old.logged.notes) runs.stands.scene

@@ -80,6 +80,7 @@ use Rattle.papaya_scheduler.specs.Given.Executor.Replying.{AsksThere}
 use Rattle.papaya_folded.specs.Given.Scenes.Replying.{scene_with}
 use Rattle.papaya_folded.specs.Given.Scenes.Scene.{Scene}
 use Rattle.papaya_scheduler.specs.Given.Executor.IsThere.{held_by}
+use Rattle.papaya_folded.specs.Given.Schedules.Transition.{past}
 
 -- a word of a pair names the one of its number
 named_so : (by : Known) (word : ℕ) → (n : ℕ) × NamesPair by word n → NamesPair by word (number_by by word)
@@ -100,7 +101,7 @@ module _ {K V : Type 0} (by : Known) (value : Option V) where
   walk_shows (progress.Done answer) says next = inl (tt, tt)
   walk_shows _ says next = absurd next
 
-  walk_tells : (same : K → K → Bool) (log : List (Entry K V)) (m : Moment K V) (map : ℕ) → LosesNone same log m map → (said : Progress (Node K V)) → SaysAsWalk by said → IsNext (Told said)
+  walk_tells : (same : K → K → Bool) (log : List (Entry K V)) (m : Moment K V) (map : ℕ) → LosesNone same (past log) m map → (said : Progress (Node K V)) → SaysAsWalk by said → IsNext (Told said)
       → TellsOf same log m map by said (Told said) Walk
   walk_tells same log m map loses (progress.Pair word) says next = inr (inl (number_by by word, refl, named_so by word (says.pairs word refl)))
   walk_tells same log m map loses (progress.Done answer) says next =
@@ -295,7 +296,7 @@ module _ {K V S : Type 0} (same : K → K → Bool) (hash : K → ℕ) (terms : 
   says : SaysAsWalk then_known walked.last.said
   says =
       let there = there_still same name log m map i c walked.mid come.now (known walked.led.logged.notes) come.scene come.under come.midst.event_so in
-      walks_have_words K V same (λ map. hash) name log come.now (known walked.led.logged.notes) come.scene (held_by walked.led.logged.executor) (held_by new.logged.executor) come.shown.is_at.held come.midst.calls.whole
+      walks_have_words K V same (λ map. hash) name (past log) come.now (known walked.led.logged.notes) come.scene (held_by walked.led.logged.executor) (held_by new.logged.executor) come.shown.is_at.held come.midst.calls.whole
       come.midst.calls.purposes map i come.under (its_here same hash name terms log event m map i c place walked.steps walked.mid played.effects.items walked.led new come step) walked.last.said
       (leads same hash name terms log event m map i c place walked.steps walked.mid played.effects.items walked.led new come step) there.0 there.1 (there.2.call ∙ is_walk)
 
@@ -312,7 +313,7 @@ module _ {K V S : Type 0} (same : K → K → Bool) (hash : K → ℕ) (terms : 
         (none_before walked.mid (did same hash name terms log event m map i c place walked.steps walked.mid played.effects.items walked.led new come step)
         (sym (follows same hash name terms log event m map i c place walked.steps walked.mid played.effects.items walked.led new come step) ∙ idle))
 
-    loses : LosesNone same log come.now map
+    loses : LosesNone same (past log) come.now map
     loses k had = subst (λ (x : Moment K V). is_some (finite_map same map x k) ≡ true) (sym now_is) had
 
     outcome_is : played.outcome ≡ Told then_known walked.last.caller.value walked.last.said

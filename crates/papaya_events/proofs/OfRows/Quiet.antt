@@ -76,7 +76,7 @@ module _ {K V : Type 0} where
       brief = subst (λ (o : Option (List ℕ)). IfCall (λ (c : CallThere K V). IsBrief c.call c (moments_from c.begun log) (worked e (moment log)) (c.steps + e.steps)) (acting o (worked e (moment log))))
           (sym still.caller) tt;
       linearizable = no_calls_are_linearizable K V same (past log) (transition log e) still.caller (ap (flat_map shift_of) nothing);
-      swept = no_calls_are_swept K V same terms log e still.caller;
+      swept = no_calls_are_swept K V same terms (past log) (transition log e) still.caller;
       life = record {
         finds = subst (λ (fs : List Effect). AtEachEffect (Finds terms (caller_of e.event) (acted_on e.event (at_work e (moment log))) (gives_all e.event)
             (moments_of terms log (acting (caller_of e.event) (at_work e (moment log))))) (caller_of e.event) (acted_on e.event (at_work e (moment log))) fs (at_work e (moment log))) (sym nothing) tt;

@@ -12,16 +12,12 @@ use Rattle.papaya_settles.specs.Given.Callers.Together.{CallOnKey, UnderWay, OnK
 use Rattle.papaya_settles.specs.Given.Finishes.Machines.{machine_of}
 use Rattle.papaya_settles.specs.Given.Finishes.Maps.{Standing}
 use Rattle.papaya_settles.proofs.Given.Hands.Asking.{which}
-use Rattle.papaya_owes.proofs.Kept.{calls_without}
-use Rattle.papaya_finds.specs.Growing.{GrowsAt, ShowsGrowing, GrowingBegins, GrowingStays, CallsBeginGrowing, CallsTakeGrowing, WalksGoOnGrowing, CallsGoGrowing}
+use Rattle.papaya_finds.specs.Growing.{GrowsAt, ShowsGrowing, GrowingStays, CallsBeginGrowing, CallsTakeGrowing, WalksGoOnGrowing}
 use Rattle.papaya_finds.specs.Within.{many_of}
 use Rattle.papaya_finds.proofs.Grows.On.{grows_later, reply_grows}
 use Rattle.papaya_settles.specs.Given.Scenes.Beginning.{Begins}
 use Rattle.papaya_settles.specs.Given.Scenes.Replying.{scene_with}
 use Rattle.papaya_settles.specs.Given.Scenes.Scene.{Scene, slot_of}
-
-pub growing_begins : (K V : Type 0) → GrowingBegins K V
-growing_begins K V roots map i u is = absurd (cc is)
 
 pub growing_stays : (K V : Type 0) → GrowingStays K V
 growing_stays K V m v s t growing later keeps map i u is =
@@ -91,6 +87,3 @@ walks_go_on_growing K V m s growing map i u here next goes = goes_on m s growing
     by (ForRoom r) is on = no_key (many_of map m) next (kinds.Reserve r.reserve) (λ p e. cc e) on
     by (Counting sum) is on = no_key (many_of map m) next (kinds.Count sum) (λ p e. cc e) on
     by (OverAll o) is on = no_key (many_of map m) next (kinds.Sweep (sweep_asked o.sweep).0) (λ p e. cc e) on
-
-pub calls_go_growing : (K V : Type 0) → CallsGoGrowing K V
-calls_go_growing K V m s growing map i n j y is = growing n j y (calls_without s.calls map i n j (OnKey y) is)

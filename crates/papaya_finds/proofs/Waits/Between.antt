@@ -12,10 +12,7 @@ use Rattle.papaya_settles.proofs.Given.Follows.Steps.{one_of}
 use Rattle.papaya_settles.proofs.Given.Hands.Asking.{which}
 use Rattle.papaya_settles.specs.Hand.{in_hand}
 use Rattle.papaya_settles.proofs.Hand.Roles.{hand_same}
-use Rattle.papaya_finds.specs.Waits.{waits_in, pair_in, IsHeldPast, KeepsHands, WaitsBegin, WaitsStay, WaitsFollowOwed, CallsBeginWaits, WaitsGoOn}
-
-pub waits_begin : (K V : Type 0) → WaitsBegin K V
-waits_begin K V name roots map i u is = absurd (cc is)
+use Rattle.papaya_finds.specs.Waits.{waits_in, pair_in, IsHeldPast, KeepsHands, WaitsStay, WaitsFollowOwed, CallsBeginWaits}
 
 pub waits_stay : (K V : Type 0) → WaitsStay K V
 waits_stay K V name m v s t waits leaves keeps map i u is word some d d_is k owed =
@@ -36,12 +33,6 @@ calls_begin_waits K V name m s waits of i u call guard apart none n j x is word 
     -- another one is found as before
     beside : is_same (name i) (name j) ≡ false → call_of (name j) (with_call (name i) guard call (Some of) m) ≡ call_of (name j) m
     beside e = ap (λ z. cond z (Some fresh) (find (λ y. is_same y.caller (name j)) m.calls)) e
-
-pub waits_go_on : (K V : Type 0) → WaitsGoOn K V
-waits_go_on K V name m s waits of i next none n j x is word some c c_is k owed = elim (which s.calls of i (Some next) n j x is) as (λ _. IsHeldPast n m k (waits_in (machine_of x))) [
-  | inl it ↦ absurd (let one : next ≡ x = one_of next x it.2 in let nothing : pair_in (machine_of x) ≡ None = ap (λ (z : UnderWay K V K). pair_in (machine_of z)) (sym one) ∙ none in cc (nothing, some))
-  | inr was ↦ waits n j x was.1 word some c c_is k owed
-]
 
 -- what a call owes is what it has in hand, before and after
 pub waits_follow_owed : (K V : Type 0) → WaitsFollowOwed K V

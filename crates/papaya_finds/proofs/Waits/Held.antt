@@ -17,7 +17,7 @@ use Rattle.papaya_settles.proofs.Given.Spots.Effects.{aside_all}
 use Rattle.papaya_settles.proofs.Given.Spots.Elsewhere.{stored_grows}
 use Rattle.papaya_settles.specs.InHand.{TakesPair}
 use Rattle.papaya_finds.specs.Past.{HasLeftMaps, FindsOnward}
-use Rattle.papaya_finds.specs.Waits.{LiesFor, IsHeldPast, LeavesHeld, EffectsLeaveHeld}
+use Rattle.papaya_finds.specs.Waits.{LiesFor, IsHeldPast, LeavesHeld}
 use Rattle.papaya_finds.proofs.Capacities.{effect_leaves}
 use Rattle.papaya_finds.proofs.Past.{past_on, kept, goes_on, left_still}
 
@@ -39,11 +39,6 @@ module _ {K V : Type 0} (who : Option (List ℕ)) (acted : Option ℕ) where
         lies_same map m (with_effect who acted f m) k waits same.0 same.1 (goes_on who acted f m on map)
             (effect_leaves grows_in_chunks (λ g n. refl) who acted f m map) held.1,
       )
-
-pub effects_leave_held : (K V : Type 0) → EffectsLeaveHeld K V
-effects_leave_held K V who acted [] m finds on map k waits held = held
-effects_leave_held K V who acted (f ∷ fs) m finds on map k waits held =
-    effects_leave_held K V who acted fs (with_effect who acted f m) finds.1 on.1 map k waits (one_held who acted f m finds.0 on.0 map k waits held)
 
 itself : (n : ℕ) → n ≤ n
 itself n = omega arith

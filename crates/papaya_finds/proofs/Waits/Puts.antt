@@ -44,7 +44,7 @@ use Rattle.papaya_settles.proofs.Given.Callers.Together.Users.{events_rows}
 use Rattle.papaya_settles.proofs.Given.Follows.Onward.{IsLasting, KeepsRoles}
 use Rattle.papaya_settles.proofs.Given.Histories.Steps.{led_on}
 use Rattle.papaya_settles.proofs.Given.Moments.Calls.{calls_keep_whole}
-use Rattle.papaya_finds.specs.Puts.{IsBehindNext, ShowsPuts, PutsBegin, PutsStay, CallsKeepPuts}
+use Rattle.papaya_finds.specs.Puts.{IsBehindNext, ShowsPuts, PutsStay, CallsKeepPuts}
 use Rattle.papaya_finds.proofs.Waits.Behind.{IsBehind, key_behind, sweep_behind, room_never, call_put, sweep_put}
 use Rattle.papaya_settles.specs.Given.Scenes.Held.{Held, IsAt}
 use Rattle.papaya_settles.specs.Given.Scenes.Scene.{Scene, slot_of}
@@ -252,9 +252,6 @@ calls_keep_puts K V same hash name m known s old new at_old whole entries owning
     puts_then same hash name m known s old new at_old whole entries owning puts map i (Counting sum) here said leads
     (none_puts same hash name m known s old new at_old whole entries owning puts map i (Counting sum) here said leads
     (λ word place due. sum_has_none same (leads map (Counting sum) here).0.hash old new (leads map (Counting sum) here).1 said word place sum (leads map (Counting sum) here).3 due))
-
-pub puts_begin : (K V : Type 0) → PutsBegin K V
-puts_begin K V roots map i u is = absurd (cc is)
 
 pub puts_stay : (K V : Type 0) → PutsStay K V
 puts_stay K V earlier later s t puts keeps map i u is word place due =

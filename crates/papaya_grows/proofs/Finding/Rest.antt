@@ -42,6 +42,7 @@ use Rattle.papaya_purposes.proofs.Given.Finds.Waits.Handed.{calls_hand_past, pas
 use Rattle.papaya_purposes.proofs.Given.Finds.Waits.Next.{calls_put_behind}
 use Rattle.papaya_purposes.specs.Given.Finds.Waits.{FindPast, FindBehind}
 use Rattle.papaya_sources.proofs.Space.{calls_find_space}
+use Rattle.papaya_purposes.specs.Given.Schedules.Transition.{past}
 use Rattle.papaya_purposes.specs.Purposes.{ShowsPurposes}
 use Rattle.papaya_grows.specs.Finding.{ShowsFinding}
 use Rattle.papaya_grows.specs.Rests.{StepsFindRest}
@@ -79,7 +80,7 @@ module _ {K V : Type 0} (same : K → K → Bool) (hash : ℕ → K → ℕ) (na
 
 -- which table a call links, and that it may ask for each block
 module _ {K V : Type 0} (same : K → K → Bool) (hash : ℕ → K → ℕ) (name : ℕ → List ℕ) (log : List (Entry K V)) (m : Moment K V) (known : Known) (s : Scene K V) (old new : Held K V) (at : IsAt same hash old s)
-    (whole : ShowsWhole same name m known s) (tables : ShowsTables name m known s) (finding : ShowsFinding name m known s) (purposes : ShowsPurposes same name log m known s) (map i : ℕ) (said : Progress (Node K V))
+    (whole : ShowsWhole same name m known s) (tables : ShowsTables name m known s) (finding : ShowsFinding name m known s) (purposes : ShowsPurposes same name (past log) m known s) (map i : ℕ) (said : Progress (Node K V))
     (leads : StepLeads same hash i said s old new) (terms : Terms) (c : CallThere K V) (c_is : call_of (name i) m ≡ Some c) where
   abbrev since : List (Moment K V)
   since = moments_from c.begun log
@@ -122,8 +123,8 @@ steps_find_rest K V same hash name log m known s old new at whole kept finding s
     rest_is_all K V terms (moments_from c.begun log) (name i) map effects m
     (call_asks same hash name log m known s old new at whole kept.tables finding purposes map i said leads terms c c_is u here mask_is nexts)
     (call_links same hash name log m known s old new at whole kept.tables finding purposes map i said leads terms c c_is u here mask_is nexts full)
-    (past_is_handed K V (name i) map effects m past behind_it
-    (calls_find_space K V same hash name m known s old new at whole kept.entries owning kept.owed sources order map i u here said leads past behind_it))
+    (past_is_handed K V (name i) map effects m found_past behind_it
+    (calls_find_space K V same hash name m known s old new at whole kept.entries owning kept.owed sources order map i u here said leads found_past behind_it))
   where
     effects : List Effect
     effects = effects_of (acts.Call i map) known new.changed
@@ -131,8 +132,8 @@ steps_find_rest K V same hash name log m known s old new at whole kept finding s
     owning : OwnAreMade known s.world
     owning = own_made K V same hash name m known s old at whole kept
 
-    past : FindPast (name i) map effects m
-    past = calls_hand_past K V same hash name m known s old new at whole kept.entries owning kept.owed finding.waits map i u here said leads
+    found_past : FindPast (name i) map effects m
+    found_past = calls_hand_past K V same hash name m known s old new at whole kept.entries owning kept.owed finding.waits map i u here said leads
 
     behind_it : FindBehind (name i) map effects m
     behind_it = calls_put_behind K V same hash name m known s old new at whole kept.entries owning kept.owed finding.waits finding.puts map i u here said leads

@@ -79,6 +79,7 @@ use Rattle.papaya_grows.proofs.Finding.Making.Lengths.{table_length}
 use Rattle.papaya_purposes.specs.Given.Scenes.Held.{Held, IsAt}
 use Rattle.papaya_purposes.specs.Given.Scenes.Scene.{Scene, slot_of}
 use Rattle.papaya_purposes.specs.Given.Scenes.Stepping.{StepLeads}
+use Rattle.papaya_purposes.specs.Given.Schedules.Transition.{past}
 
 -- what a reservation is called for
 pub its_more : {K V : Type 0} (r : CallForRoom) (its : Call K V) → IsFor (ForRoom r) its → its ≡ call.Reserve r.reserve.additional
@@ -129,7 +130,7 @@ few_first p n (makes.Over table) mem mem2 told end is step asks = absurd (asks_s
 few_first p n (makes.Refused fault) mem mem2 told end is step asks = absurd (asks_some told asks step.2)
 
 module _ {K V : Type 0} (same : K → K → Bool) (hash : ℕ → K → ℕ) (name : ℕ → List ℕ) (log : List (Entry K V)) (m : Moment K V) (known : Known) (s : Scene K V) (old new : Held K V) (at : IsAt same hash old s)
-    (whole : ShowsWhole same name m known s) (purposes : ShowsPurposes same name log m known s) (map i : ℕ) (r : CallForRoom) (here : s.calls map i ≡ Some (ForRoom r)) (said : Progress (Node K V))
+    (whole : ShowsWhole same name m known s) (purposes : ShowsPurposes same name (past log) m known s) (map i : ℕ) (r : CallForRoom) (here : s.calls map i ≡ Some (ForRoom r)) (said : Progress (Node K V))
     (leads : StepLeads same hash i said s old new) (terms : Terms) (c : CallThere K V) (c_is : call_of (name i) m ≡ Some c) (mask_is : (leads map (ForRoom r) here).0.setting.mask + 1 ≡ shards_of terms) where
   abbrev moments : List (Moment K V)
   moments = moments_from c.begun log

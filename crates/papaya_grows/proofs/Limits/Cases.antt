@@ -52,6 +52,7 @@ use Rattle.papaya_grows.proofs.Limits.Walk.{SummedAt}
 use Rattle.papaya_purposes.specs.Given.Scenes.Held.{Held, IsAt}
 use Rattle.papaya_purposes.specs.Given.Scenes.Scene.{Scene, slot_of}
 use Rattle.papaya_purposes.specs.Given.Scenes.Stepping.{StepLeads}
+use Rattle.papaya_purposes.specs.Given.Schedules.Transition.{past}
 
 -- Where pairs need more places than a table can have, they are too many.
 module _ (count additional : ℕ) where
@@ -95,7 +96,7 @@ room_shards {K} {V} same hash s e at map i r here st there n mask_is =
 
 module _ {K V : Type 0} (same : K → K → Bool) (hash : ℕ → K → ℕ) (name : ℕ → List ℕ) (log : List (Entry K V)) (m : Moment K V) (known : Known) (s : Scene K V) (old new : Held K V) (at : IsAt same hash old s)
     (whole : ShowsWhole same name m known s) (map i : ℕ) (said : Progress (Node K V)) (leads : StepLeads same hash i said s old new) (limits : ShowsLimits name log m s) (capacities : ShowsCapacities m s)
-    (purposes : ShowsPurposes same name log m known s) (terms : Terms) (c : CallThere K V) (c_is : call_of (name i) m ≡ Some c) (d : CallThere K V) (d_call : d.call ≡ c.call) (d_map : d.map ≡ map)
+    (purposes : ShowsPurposes same name (past log) m known s) (terms : Terms) (c : CallThere K V) (c_is : call_of (name i) m ≡ Some c) (d : CallThere K V) (d_call : d.call ≡ c.call) (d_map : d.map ≡ map)
     (d_begun : d.begun ≡ c.begun) where
   abbrev pub v : Moment K V
   v = with_effects (Some (name i)) (Some map) (effects_of (acts.Call i map) known new.changed) m
@@ -119,7 +120,7 @@ module _ {K V : Type 0} (same : K → K → Bool) (hash : ℕ → K → ℕ) (na
   none_summed (inr none) = absurd none
 
   -- of a reservation
-  module _ (r : CallForRoom) (here : s.calls map i ≡ Some (ForRoom r)) (shards_are : suc r.reserve.setting.mask ≡ shards_of terms) (shards : ReadsShards log m s map (ForRoom r)) where
+  module _ (r : CallForRoom) (here : s.calls map i ≡ Some (ForRoom r)) (shards_are : suc r.reserve.setting.mask ≡ shards_of terms) (shards : ReadsShards (past log) m s map (ForRoom r)) where
     abbrev st : Standing K
     st = (leads map (ForRoom r) here).0
 
@@ -135,7 +136,7 @@ module _ {K V : Type 0} (same : K → K → Bool) (hash : ℕ → K → ℕ) (na
     summed_at (reserving.Sums table sum) is (after, count, step, many) =
         counts_many count
         (count_on map v moments (suc r.reserve.setting.mask) count
-        (counts_then same hash log m s old new at map i r here st (leads map (ForRoom r) here).2 c (purposes.begun map i (ForRoom r) here c c_is) shards
+        (counts_then same hash (past log) purposes.past m s old new at map i r here st (leads map (ForRoom r) here).2 c (purposes.begun map i (ForRoom r) here c c_is) shards
         (purposes.come map i (ForRoom r) here st (leads map (ForRoom r) here).2 c c_is) (leads map (ForRoom r) here).1 said (leads map (ForRoom r) here).3 table sum after count is new.memory
         (subst (λ (q : Mem (Node K V)). Steps Took value_at q (sum_plan sum) new.memory (after, counting.Done count)) (sym at.memory) step)))
         (too_many count r.reserve.additional many)
@@ -149,7 +150,7 @@ module _ {K V : Type 0} (same : K → K → Bool) (hash : ℕ → K → ℕ) (na
     room_in_case (inl (inr summed)) = summed_at r.reserve.stands refl summed
     room_in_case (inr needs) = needs_more needs
 
-  by_kind : (u : UnderWay K V K) (here : s.calls map i ≡ Some u) → ((r : CallForRoom) → u ≡ ForRoom r → suc r.reserve.setting.mask ≡ shards_of terms) → ReadsShards log m s map u → said ≡ progress.Refused Capacity → InCase
+  by_kind : (u : UnderWay K V K) (here : s.calls map i ≡ Some u) → ((r : CallForRoom) → u ≡ ForRoom r → suc r.reserve.setting.mask ≡ shards_of terms) → ReadsShards (past log) m s map u → said ≡ progress.Refused Capacity → InCase
   by_kind (OnKey x) here mask shards is = none_summed (refused_for same hash name log m known s old new at whole map i (OnKey x) here said leads limits capacities c c_is is)
   by_kind (OverAll o) here mask shards is = none_summed (refused_for same hash name log m known s old new at whole map i (OverAll o) here said leads limits capacities c c_is is)
   by_kind (Counting sum) here mask shards is = none_summed (refused_for same hash name log m known s old new at whole map i (Counting sum) here said leads limits capacities c c_is is)
@@ -157,6 +158,6 @@ module _ {K V : Type 0} (same : K → K → Bool) (hash : ℕ → K → ℕ) (na
       room_in_case r here (mask r refl) shards (refused_for same hash name log m known s old new at whole map i (ForRoom r) here said leads limits capacities c c_is is)
 
   -- The promise.
-  pub steps_in_case : (u : UnderWay K V K) (here : s.calls map i ≡ Some u) → ((r : CallForRoom) → u ≡ ForRoom r → suc r.reserve.setting.mask ≡ shards_of terms) → ReadsShards log m s map u → said ≡ progress.Refused Capacity
+  pub steps_in_case : (u : UnderWay K V K) (here : s.calls map i ≡ Some u) → ((r : CallForRoom) → u ≡ ForRoom r → suc r.reserve.setting.mask ≡ shards_of terms) → ReadsShards (past log) m s map u → said ≡ progress.Refused Capacity
       → CountsTooMany terms d.call d (v ∷ moments_from d.begun log) ⊎ OneOf (λ x. IsAtLimit d.map x) (v ∷ moments_from d.begun log)
   steps_in_case u here mask shards is = subst InCaseSince (sym d_begun) (by_kind u here mask shards is)

@@ -1,7 +1,6 @@
 -- An event of several steps of a call, whatever its kind, is linearizable: what was proved of calls on one key, and of all others, in one.
-use Rattle.std.specs.Prelude.{◌≡◌, ℕ, Bool, List, [], ◌++◌, Option, Some}
+use Rattle.std.specs.Prelude.{◌≡◌, ℕ, Bool, List, ◌++◌, Option, Some}
 use Rattle.std.proofs.Common.{refl, ap, sym, subst, ◌∙◌, inl, inr}
-use Rattle.papaya_moments.specs.Given.Seize.World.{Rests}
 use Rattle.papaya_moments.specs.Given.Tables.declared.node.Node.{Node}
 use Rattle.papaya_moments.specs.Given.Raw.declared.machines.progress.Progress.{Progress}
 use Rattle.papaya_moments.specs.Given.Raw.declared.machines.progress.Progress.TheVariants as progress
@@ -12,46 +11,37 @@ use Rattle.papaya_moments.specs.Given.Schedules.declared.call.Reply.{Reply}
 use Rattle.papaya_moments.specs.Given.Schedules.declared.effect.Effect.{Effect}
 use Rattle.papaya_moments.specs.Given.Schedules.declared.outcome.Outcome.{Outcome}
 use Rattle.papaya_moments.specs.Given.Schedules.declared.outcome.Outcome.TheVariants as outcome
-use Rattle.papaya_moments.specs.Given.Schedules.Beginning.{fresh_call, with_call}
 use Rattle.papaya_moments.specs.Given.Schedules.Effects.{with_effects}
 use Rattle.papaya_moments.specs.Given.Schedules.Linearizable.{Linearizes}
 use Rattle.papaya_moments.specs.Given.Schedules.Moment.{UnderWay as CallThere, Moment}
 use Rattle.papaya_moments.specs.Given.Schedules.Views.{call_of}
-use Rattle.papaya_moments.specs.Given.Points.FactsCalls.{Unchanged}
 use Rattle.papaya_moments.specs.Given.Callers.Together.{CallOnKey, UnderWay, OnKey, ForRoom, Counting, OverAll}
 use Rattle.papaya_moments.specs.Given.Effects.Effects.{effects_of, known_after}
 use Rattle.papaya_moments.specs.Given.Effects.Known.{Known}
 use Rattle.papaya_moments.specs.Given.Effects.declared.acting.Acting.TheVariants as acts
-use Rattle.papaya_moments.specs.Given.Finishes.Maps.{Standing}
-use Rattle.papaya_moments.specs.Given.Follows.Calling.{NoneNamed}
 use Rattle.papaya_moments.specs.Given.Follows.Calls.{IsCalled}
 use Rattle.papaya_moments.specs.Given.Follows.Shows.{Shows}
 use Rattle.papaya_moments.specs.Given.Follows.Steps.{Did}
 use Rattle.papaya_moments.proofs.Given.Follows.Called.{key_goes_on, room_goes_on, counting_goes_on, sweep_goes_on}
 use Rattle.papaya_moments.proofs.Given.Follows.Steps.{one_of}
-use Rattle.papaya_moments.specs.Given.Hands.Calling.{IsBegunFor}
 use Rattle.papaya_moments.specs.Whole.{ShowsWhole}
 use Rattle.papaya_moments.proofs.Calls.{calls_keep_whole}
-use Rattle.papaya_histories.specs.AsCalled.{ShowsAsCalled, IsBegunAs}
+use Rattle.papaya_histories.specs.AsCalled.{ShowsAsCalled}
 use Rattle.papaya_histories.specs.Due.{ShowsDue}
 use Rattle.papaya_histories.specs.Events.{ComesToIt}
-use Rattle.papaya_histories.specs.Histories.{began_of}
-use Rattle.papaya_histories.specs.InEvent.{ComesSo, InEvent, EventsBegin, EventsBeginCalls, EventsGoOn, EventsKeepAll, EventsHaveWords, EventsEnd}
+use Rattle.papaya_histories.specs.InEvent.{ComesSo, InEvent, EventsBegin, EventsGoOn, EventsKeepAll, EventsHaveWords, EventsEnd}
 use Rattle.papaya_histories.specs.OtherCalls.{IsOnNoKey}
 use Rattle.papaya_histories.specs.OtherMidsts.{AsksAsSaid, InOtherMidst}
 use Rattle.papaya_histories.specs.Questions.{ShowsQuestions, AsksOnStill}
 use Rattle.papaya_histories.specs.Several.{InMidst}
 use Rattle.papaya_histories.proofs.NoKey.AsCalled.{calls_keep_as_called}
-use Rattle.papaya_histories.proofs.NoKey.AsCalledOn.{calls_begin_as_called}
-use Rattle.papaya_histories.proofs.BeginsCall.{midsts_begin_calls}
 use Rattle.papaya_histories.proofs.Due.{calls_keep_due}
 use Rattle.papaya_histories.proofs.Events.{midsts_end, midsts_ask_still}
 use Rattle.papaya_histories.proofs.AnyCall.HasWords.{questions_have_words, steps_have_words}
 use Rattle.papaya_histories.proofs.NoKey.OtherEvents.{other_midsts_end, other_midsts_ask_still}
-use Rattle.papaya_histories.proofs.OtherMidsts.{other_midsts_begin, other_midsts_begin_calls, other_midsts_go_on, other_midsts_keep_due}
+use Rattle.papaya_histories.proofs.OtherMidsts.{other_midsts_begin, other_midsts_go_on, other_midsts_keep_due}
 use Rattle.papaya_histories.proofs.Several.{first_change, midsts_begin, midsts_go_on}
 use Rattle.papaya_moments.specs.Given.Scenes.Held.{Held, IsAt}
-use Rattle.papaya_moments.specs.Given.Scenes.Replying.{scene_with}
 use Rattle.papaya_moments.specs.Given.Scenes.Scene.{Scene}
 use Rattle.papaya_moments.specs.Given.Scenes.Stepping.{StepLeads, scene_after}
 use Rattle.papaya_moments.specs.Given.Schedules.Transition.{Past, Transition}
@@ -146,45 +136,6 @@ module _ (K V : Type 0) (same : K → K → Bool) (hash : ℕ → K → ℕ) whe
   events_begin name log beginning begins known s e at_e whole dues called map i (OverAll o) here c c_is =
       other_midsts_begin K V same name log beginning begins known s whole dues called map i (OverAll o) here c c_is
       (on_none same (OverAll o) c.call tt (called_so same name beginning known s dues.history.shown map i (OverAll o) here c c_is))
-
-  module _ (name : ℕ → List ℕ) (log : Past K V) (known : Known) (s : Scene K V) (old : Held K V) (at_old : IsAt same hash old s)
-      (whole : ShowsWhole same name log.now known s) (dues : ShowsDue same name log log.now known s) (all : ShowsAsCalled same name log.now known s)
-      (map i : ℕ) (guard : List ℕ) (standing : Standing K) (there : s.maps map ≡ Some standing) (apart : NoneNamed name (name i) s) (rests : s.world.row i ≡ Rests) where
-    abbrev Begins : UnderWay K V K → Call K V → Type 0
-    Begins x y =
-        (let beginning = with_call (name i) guard y (Some map) log.now in
-        let c = fresh_call (name i) guard y map log.now.events in
-        (call_of (name i) beginning ≡ Some c) × InEvent same name log beginning map i c [] beginning known (scene_with map i x s) x)
-
-    abbrev BeganNow : UnderWay K V K → Type 0
-    BeganNow x = (began : ℕ) → began_of x ≡ Some began → began ≡ standing.chart.now
-
-    others_begin : (x : UnderWay K V K) (its : Call K V) → IsOther same x → BeganNow x → IsCalled same x its → IsBegunAs x its → Begins x its
-    others_begin x its other now called begun_as =
-        let it = other_midsts_begin_calls K V same hash name log known s old at_old whole dues all map i x its guard standing there now apart called (on_none same x its other called) begun_as rests in (
-          it.0,
-          of_other same name log (with_call (name i) guard its (Some map) log.now) map i (fresh_call (name i) guard its map log.now.events) [] (with_call (name i) guard its (Some map) log.now)
-              known (scene_with map i x s) x other it.1,
-        )
-
-    key_begins : (x : CallOnKey K V K) (one : OneKey K V) → BeganNow (OnKey x) → x.change ≡ Unchanged → IsCalled same (OnKey x) (call.On one) → IsBegunFor (OnKey x) (call.On one) → (new : Held K V)
-        → IsAt same hash new (scene_with map i (OnKey x) s) → Begins (OnKey x) (call.On one)
-    key_begins x one now unchanged called begun new at_new =
-        let it = midsts_begin_calls K V same hash name log known s old at_old whole dues map i x one guard standing there (now x.began refl) unchanged apart called begun rests new at_new in
-        (it.0, (one, refl, it.1, calls_begin_as_called K V same name log.now known s all map i (OnKey x) (call.On one) guard apart called tt))
-
-  pub events_begin_calls : EventsBeginCalls K V same hash
-  events_begin_calls name log known s old at_old whole dues all map i (OnKey x) its guard standing there now unchanged apart called begun begun_as rests new at_new =
-      let on = on_a_key same x its called in
-      subst (λ (y : Call K V). Begins name log known s old at_old whole dues all map i guard standing there apart rests (OnKey x) y) (sym on.1)
-      (key_begins name log known s old at_old whole dues all map i guard standing there apart rests x on.0 now (unchanged x refl) (subst (λ (y : Call K V). IsCalled same (OnKey x) y) on.1 called)
-      (subst (λ (y : Call K V). IsBegunFor (OnKey x) y) on.1 begun) new at_new)
-  events_begin_calls name log known s old at_old whole dues all map i (ForRoom r) its guard standing there now unchanged apart called begun begun_as rests new at_new =
-      others_begin name log known s old at_old whole dues all map i guard standing there apart rests (ForRoom r) its tt now called begun_as
-  events_begin_calls name log known s old at_old whole dues all map i (Counting sum) its guard standing there now unchanged apart called begun begun_as rests new at_new =
-      others_begin name log known s old at_old whole dues all map i guard standing there apart rests (Counting sum) its tt now called begun_as
-  events_begin_calls name log known s old at_old whole dues all map i (OverAll o) its guard standing there now unchanged apart called begun begun_as rests new at_new =
-      others_begin name log known s old at_old whole dues all map i guard standing there apart rests (OverAll o) its tt now called begun_as
 
   module _ (name : ℕ → List ℕ) (log : Past K V) (beginning : Moment K V) (map i : ℕ) (c : CallThere K V) (done : List Effect) (m : Moment K V) (known : Known) (s : Scene K V)
       (old new : Held K V) (at_old : IsAt same hash old s) (said : Progress (Node K V)) (leads : StepLeads same hash i said s old new) where

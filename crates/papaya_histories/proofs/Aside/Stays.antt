@@ -29,17 +29,16 @@ use Rattle.papaya_moments.proofs.Walks.{asks_nothing}
 use Rattle.papaya_moments.proofs.Beside.{IsBeside, StoodSo, StandsNew}
 use Rattle.papaya_histories.specs.AsCalled.{SweepAsks, IsAsCalled, ShowsAsCalled, AsksAsCalled}
 use Rattle.papaya_histories.specs.Due.{Owes, ShowsDue}
-use Rattle.papaya_histories.specs.Elsewhere.{HistoriesStay, DuesStay, AsCalledStays}
+use Rattle.papaya_histories.specs.Elsewhere.{DuesStay, AsCalledStays}
 use Rattle.papaya_histories.specs.Histories.{since, IsWithin, ShowsHistory}
 use Rattle.papaya_histories.proofs.NoKey.AsCalled.{as_called_kept}
 use Rattle.papaya_histories.proofs.NoKey.AsCalledOn.{calls_come_to_as_called}
-use Rattle.papaya_histories.proofs.Calling.{calls_come_to_histories}
 use Rattle.papaya_histories.proofs.DueOn.{calls_come_to_due}
 use Rattle.papaya_histories.proofs.Aside.Elsewhere.{stays_elsewhere}
 use Rattle.papaya_histories.proofs.Found.{map_alike}
-use Rattle.papaya_histories.proofs.Others.{beside_history, beside_due}
+use Rattle.papaya_histories.proofs.Others.{beside_due}
 use Rattle.papaya_histories.proofs.Roles.{named_by}
-use Rattle.papaya_histories.proofs.Aside.WalksOn.{walk_history, walk_due, walk_as_called}
+use Rattle.papaya_histories.proofs.Aside.WalksOn.{walk_due, walk_as_called}
 use Rattle.papaya_histories.proofs.Within.{within_alike}
 use Rattle.papaya_moments.specs.Given.Scenes.Held.{Held, IsAt}
 use Rattle.papaya_moments.specs.Given.Scenes.Scene.{Scene, slot_of}
@@ -147,13 +146,6 @@ refused_as_called known (Counting sum) = tt
 refused_as_called known (OverAll o) = tt
 
 module _ (K V : Type 0) (same : K → K → Bool) (hash : ℕ → K → ℕ) where
-  pub histories_stay : HistoriesStay K V same hash
-  histories_stay name log = stays_elsewhere same hash name (ShowsHistory same name log)
-      (λ m m2 known known2 s s2 old new at_old at_new history after beside. beside_history same hash name log m m2 known known2 s s2 old new at_old at_new beside history (after history.shown))
-      (λ m m2 known s s2 history place stored calls after fewer maps. between_history same name m m2 known s s2 calls fewer maps place stored log history (after history.shown))
-      (λ m known s history map i o here ready. walk_history same name m known s map i o here log history)
-      (λ m known s history own none. (calls_come_to_histories K V same name log m known s history own (Refused Memory) 0 (λ ends. none) (λ n j u is named. asks_nothing known u)).0)
-
   pub dues_stay : DuesStay K V same hash
   dues_stay name log = stays_elsewhere same hash name (ShowsDue same name log)
       (λ m m2 known known2 s s2 old new at_old at_new dues after beside. beside_due same hash name log m m2 known known2 s s2 old new at_old at_new beside dues (after dues.history.shown))

@@ -70,9 +70,6 @@ module _ {K V : Type 0} (same : K → K → Bool) (name : ℕ → List ℕ) (m :
       walk_stays = calls_changed same name log m m known s history refl refl (with_call s.calls map i (Some walk)) (then_shown history.shown) refl asked_then
           (λ n j x is d found. inl (let was = was_there n j x (which_is n j x is) in (was.0, was.1, was.2, d, found, refl)))
 
-    pub walk_history : ShowsHistory same name log m known s → ShowsHistory same name log m known s2
-    walk_history history = (walk_stays history).0
-
     pub walk_due : ShowsDue same name log m known s → ShowsDue same name log m known s2
     walk_due dues = record {
       history = (walk_stays dues.history).0;

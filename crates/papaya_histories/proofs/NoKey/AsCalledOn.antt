@@ -36,19 +36,14 @@ use Rattle.papaya_moments.proofs.Given.Follows.Calls.{found}
 use Rattle.papaya_moments.proofs.Given.Follows.Steps.{one_of}
 use Rattle.papaya_moments.specs.Given.Hands.Asked.{as_told}
 use Rattle.papaya_moments.proofs.Given.Hands.Asking.{which}
-use Rattle.papaya_moments.proofs.Given.Hands.Beginning.{runs_begin_so}
 use Rattle.papaya_moments.proofs.Given.Hands.Calling.{caller_is}
-use Rattle.papaya_histories.specs.AsCalled.{purpose_of, SweepAsks, IsLastTold, IsSweptAs, IsAsCalled, ShowsAsCalled, IsBegunAs, AsksAsCalled, AsCalledBegins, CallsBeginAsCalled, CallsComeToAsCalled, CallsTakeAsCalled}
+use Rattle.papaya_histories.specs.AsCalled.{purpose_of, SweepAsks, IsLastTold, IsSweptAs, IsAsCalled, ShowsAsCalled, IsBegunAs, AsksAsCalled, CallsBeginAsCalled, CallsComeToAsCalled, CallsTakeAsCalled}
 use Rattle.papaya_histories.proofs.Calling.{came_so}
 use Rattle.papaya_histories.proofs.DueOn.{comes_owed}
 use Rattle.papaya_histories.proofs.Roles.{named_by}
 use Rattle.papaya_moments.specs.Given.Scenes.Held.{Held, IsAt}
 use Rattle.papaya_moments.specs.Given.Scenes.Replying.{scene_with}
 use Rattle.papaya_moments.specs.Given.Scenes.Scene.{Scene, slot_of}
-
-module _ (K V : Type 0) (same : K → K → Bool) where
-  pub as_called_begins : AsCalledBegins K V same
-  as_called_begins roots name = record { shown = (runs_begin_so K V same roots name).shown; each = λ map i u is st there c found. absurd (cc is) }
 
 -- where one begins
 

@@ -49,6 +49,8 @@ use Rattle.papaya_legal.proofs.OfAll.Tells.{gone_by, it_reclaims, none_under_way
 use Rattle.papaya_legal.proofs.Uncounted.{none_counted}
 use Rattle.papaya_grows.specs.Given.Scenes.Held.{Held}
 use Rattle.papaya_grows.specs.Given.Scenes.Scene.{Scene}
+use Rattle.papaya_grows.specs.Given.Schedules.Transition.{past}
+use Rattle.papaya_grows.proofs.Given.Purposes.Stored.{effects_stored, numbers_last}
 
 -- Maps have their numbers still once something is reclaimed.
 
@@ -158,6 +160,8 @@ module _ {K V : Type 0} (same : K → K → Bool) (hash : ℕ → K → ℕ) (na
     as_called = record { shown = whole_then.all.shown; each = λ n j u is st there c found. none n j u is };
     questions = effects_keep_questions K V None None effects m calls.questions;
     purposes = record {
+      past = calls.purposes.past;
+      lasts = numbers_last (past log) m v (effects_stored None None effects m) calls.purposes.lasts;
       shown = whole_then.all.shown;
       begun = λ n j u is c found. none n j u is;
       is_for = λ n j u is c found. none n j u is;
@@ -165,5 +169,5 @@ module _ {K V : Type 0} (same : K → K → Bool) (hash : ℕ → K → ℕ) (na
     };
   }
 
-  pub reading_then : ShowsReading name log (λ j. 0) v t
-  reading_then = record { begun = λ n j u is c found looks. none n j u is; reads = λ n j u is c found looks st there. none n j u is }
+  pub reading_then : ShowsReading name (past log) (λ j. 0) v t
+  reading_then = record { past = calls.dues.history.past; begun = λ n j u is c found looks. none n j u is; reads = λ n j u is c found looks st there. none n j u is }

@@ -12,11 +12,6 @@ module _ {T : Type 0} where
   newest_more (None ∷ comers) t = newest_more comers t
   newest_more (Some u ∷ comers) t = ap (λ (l : List T). l ++ u ∷ []) (newest_more comers t)
 
-  pub newest_empty : (comers : List (Option T)) → newest (comers ++ (None ∷ [])) ≡ newest comers
-  newest_empty [] = refl
-  newest_empty (None ∷ comers) = newest_empty comers
-  newest_empty (Some u ∷ comers) = ap (λ (l : List T). l ++ u ∷ []) (newest_empty comers)
-
   -- so many are newer than the one at a place
   abbrev pub seat : List (Option T) → ℕ → ℕ
   seat [] place = 0

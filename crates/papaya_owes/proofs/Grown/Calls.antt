@@ -1,5 +1,5 @@
 -- A step of a call, of whichever kind: who is short of no growth has nothing to tell of memory after it, and who is refused for want of memory is short of one.
-use Rattle.std.specs.Prelude.{◌≡◌, ℕ, Bool, true, false, not, List, Option, Some, None}
+use Rattle.std.specs.Prelude.{◌≡◌, ℕ, Bool, true, false, not, List, Some}
 use Rattle.std.proofs.Common.{refl, ap, sym, subst, ◌∙◌, inl, inr}
 use Rattle.papaya_moments.specs.Given.SeizeWords.declared.fault.Fault.TheVariants.{Memory}
 use Rattle.papaya_moments.specs.Given.Tables.declared.node.Node.{Node}
@@ -8,9 +8,7 @@ use Rattle.papaya_moments.specs.Given.Raw.declared.machines.progress.Progress.{P
 use Rattle.papaya_moments.specs.Given.Raw.declared.machines.progress.Progress.TheVariants as progress
 use Rattle.papaya_moments.specs.Given.Runs.Same.{is_same}
 use Rattle.papaya_moments.specs.Given.Schedules.declared.effect.Effect.{Effect}
-use Rattle.papaya_moments.specs.Given.Schedules.After.{moment}
-use Rattle.papaya_moments.specs.Given.Schedules.Effects.{with_effects, worked}
-use Rattle.papaya_moments.specs.Given.Schedules.Entry.{IfCall, acting}
+use Rattle.papaya_moments.specs.Given.Schedules.Effects.{with_effects}
 use Rattle.papaya_moments.specs.Given.Schedules.Moment.{UnderWay as CallThere, Moment}
 use Rattle.papaya_moments.specs.Given.Schedules.Views.{call_of}
 use Rattle.papaya_moments.specs.Given.Callers.Together.{UnderWay}
@@ -25,7 +23,7 @@ use Rattle.papaya_moments.specs.Given.Finishes.Machines.{machine_of}
 use Rattle.papaya_moments.proofs.Given.Follows.Steps.{WentTo, went_to}
 use Rattle.papaya_moments.proofs.Given.Hands.Asking.{which}
 use Rattle.papaya_moments.specs.Whole.{ShowsWhole}
-use Rattle.papaya_owes.specs.Grown.{SoInMachine, IsOther, ShowsGrown, CallsKeepGrown, EventsRefuseTheShort}
+use Rattle.papaya_owes.specs.Grown.{SoInMachine, IsOther, ShowsGrown, CallsKeepGrown}
 use Rattle.papaya_owes.specs.Short.{ShowsShort}
 use Rattle.papaya_owes.proofs.Calls.{goes_as_one}
 use Rattle.papaya_owes.proofs.Fields.{all_by, field_own, field_other}
@@ -125,16 +123,3 @@ module _ {K V : Type 0} (same : K → K → Bool) (hash : ℕ → K → ℕ) (na
 
 pub calls_keep_grown : (K V : Type 0) (same : K → K → Bool) (hash : ℕ → K → ℕ) → CallsKeepGrown K V same hash
 calls_keep_grown K V same hash name m known s old new at whole short grown map i u here said leads = step_keeps_grown same hash name m known s old new at whole short grown map i u here said leads
-
--- an event whose last step is refused so
-pub events_refuse_the_short : (K V : Type 0) (same : K → K → Bool) (hash : ℕ → K → ℕ) → EventsRefuseTheShort K V same hash
-events_refuse_the_short K V same hash name m known s old new at whole short grown map i u here leads log e caller worked_is =
-    subst (λ (who : Option (List ℕ)). IfCall (λ (d : CallThere K V). d.is_short ≡ true) (acting who (worked e (moment log)))) (sym caller)
-    (subst (λ (x : Moment K V). IfCall (λ (d : CallThere K V). d.is_short ≡ true) (call_of (name i) x)) (sym worked_is) (by (call_of (name i) after) refl))
-  where
-    after : Moment K V
-    after = with_effects (Some (name i)) (Some map) (effects_of (acts.Call i map) known new.changed) m
-
-    by : (found : Option (CallThere K V)) → call_of (name i) after ≡ found → IfCall (λ (d : CallThere K V). d.is_short ≡ true) found
-    by None none = tt
-    by (Some d) is = (step_keeps_grown same hash name m known s old new at whole short grown map i u here (progress.Refused Memory) leads).1 refl d is

@@ -22,9 +22,8 @@ use Rattle.papaya_moments.proofs.Given.Follows.Calls.{changed_same}
 use Rattle.papaya_moments.proofs.Given.Follows.Steps.{WentTo, went_to}
 use Rattle.papaya_moments.proofs.Given.Hands.Asking.{which}
 use Rattle.papaya_moments.specs.Whole.{ShowsWhole}
-use Rattle.papaya_owes.specs.Looking.{IsLooking, ShowsLooking, FindAtWork, CallsKeepLooking, SeveralFindAtWork}
+use Rattle.papaya_owes.specs.Looking.{IsLooking, ShowsLooking, FindAtWork, CallsKeepLooking}
 use Rattle.papaya_owes.proofs.Calls.{goes_as_one}
-use Rattle.papaya_owes.proofs.Events.{several_find}
 use Rattle.papaya_owes.proofs.Fields.{all_by, field_own, field_other, its_effect}
 use Rattle.papaya_owes.proofs.Looking.Leaves.{looking_stays}
 use Rattle.papaya_moments.specs.Given.Scenes.Held.{Held, IsAt}
@@ -49,10 +48,6 @@ module _ {K V : Type 0} where
     subst (ByCall (λ (d : CallThere K V). only_looks d.call ≡ false)) (sym is) works,
     at_work own map effects (with_effect (Some own) (Some map) f m) (call_by m f c) (its_effect own map f m c is) (ap only_looks (effect_same m f c) ∙ works),
   )
-
-pub several_find_at_work : (K V : Type 0) → SeveralFindAtWork K V
-several_find_at_work K V own map done effects m before after =
-    several_find (λ (v : Moment K V) (f : Effect). ByCall (λ (c : CallThere K V). only_looks c.call ≡ false) (call_of own v)) own map done effects m before after
 
 module _ {K V : Type 0} (same : K → K → Bool) (hash : ℕ → K → ℕ) (name : ℕ → List ℕ) (m : Moment K V) (known : Known) (s : Scene K V) (old new : Held K V) (at : IsAt same hash old s)
     (whole : ShowsWhole same name m known s) (looking : ShowsLooking name m s) (map i : ℕ) (u : UnderWay K V K) (here : s.calls map i ≡ Some u) (said : Progress (Node K V))

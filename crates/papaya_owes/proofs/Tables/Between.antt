@@ -127,9 +127,6 @@ module _ {K V : Type 0} (name : ℕ → List ℕ) (m : Moment K V) (known : Know
           | inr maker ↦ no_maker (block_in t.link) maker
         ])
 
-    abbrev After : ℕ → ℕ → Option (UnderWay K V K)
-    After = with_in s.calls of i (Some next)
-
     others_still : (j b : ℕ) → j ≢ i → HoldsTable s j b → HoldsTable (scene_with of i next s) j b
     others_still j b ne (inl (n, x, there, t, has, named)) = inl (n, x, calls_beside s.calls of i (Some next) n j ne ∙ there, t, has, named)
     others_still j b ne (inr maker) = inr maker

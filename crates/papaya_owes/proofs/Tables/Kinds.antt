@@ -34,7 +34,7 @@ use Rattle.papaya_moments.specs.Given.Points.Told.{IsRowOfCall}
 use Rattle.papaya_moments.specs.Given.Late.LateCalls.{LateCalling}
 use Rattle.papaya_moments.specs.Given.Seize.World.{World}
 use Rattle.papaya_owes.specs.Making.{making_of, making_in_calling, making_in_reserving, making_in_sweeping}
-use Rattle.papaya_owes.proofs.Walks.{IsToMake, PlanMakesSo, IsToOwn, so_as, so_more, plan_made_so, plan_unmade_so, plan_no_room, call_makes, reserve_makes, sweep_makes, sum_at}
+use Rattle.papaya_owes.proofs.Walks.{IsToMake, PlanMakesSo, IsToOwn, so_as, so_more, plan_made_so, plan_no_room, call_makes, reserve_makes, sweep_makes, sum_at}
 
 module _ {K V : Type 0} where
   abbrev IsPairKind : Node K V → Type 0
@@ -112,9 +112,6 @@ module _ {K V : Type 0} where
           by : (value : Node K V) × IsWhich before value × (kind_of value ≡ k) → MakesWhich before k
           by (value, inl pair, is) = inl (sym is ∙ pair)
           by (value, inr to_make, is) = inr (value, to_make, is)
-
-      pub which_unmade : (k : Kind) → told ≡ changed.Unmade k → (value : Node K V) × IsWhich before value
-      which_unmade k unmade = plan_unmade_so (IsWhich before) m m2 told (machine_plan asks same hash before) (machine, said) s (makes_which before has) k unmade
 
       pub no_room : (bucket : ℕ) (had : Bool) → told ≡ changed.Roomed bucket had → ⊥
       no_room bucket had roomed = plan_no_room (IsWhich before) m m2 told (machine_plan asks same hash before) (machine, said) s (makes_which before has) bucket had roomed

@@ -1,35 +1,27 @@
 -- An event of a lookup reads briefly.
-use Rattle.std.specs.Prelude.{◌≡◌, ℕ, suc, ◌+◌, ◌≤◌, ◌==◌, Bool, true, false, List, [], ◌∷◌, length, Option, Some, None, MatchBool, if◌then◌else◌}
+use Rattle.std.specs.Prelude.{◌≡◌, ℕ, suc, ◌+◌, ◌≤◌, Bool, true, false, List, ◌∷◌, Option, Some, None, MatchBool}
 use Rattle.std.proofs.Common.{refl, ap, sym, subst, ◌∙◌, arith}
 use Rattle.papaya_histories.specs.Given.Tables.Chunks.{is_incremental}
 use Rattle.papaya_histories.specs.Given.Schedules.declared.call.Call.{Call}
 use Rattle.papaya_histories.specs.Given.Schedules.declared.call.Call.TheVariants as call
-use Rattle.papaya_histories.specs.Given.Schedules.After.{moment, moments_from}
-use Rattle.papaya_histories.specs.Given.Schedules.Entry.{Entry, IfCall, acting}
+use Rattle.papaya_histories.specs.Given.Schedules.Entry.{IfCall, acting}
 use Rattle.papaya_histories.specs.Given.Schedules.Lists.{OneOf}
-use Rattle.papaya_histories.specs.Given.Schedules.Moment.{UnderWay as CallThere, Moment, start}
+use Rattle.papaya_histories.specs.Given.Schedules.Moment.{UnderWay as CallThere, Moment}
 use Rattle.papaya_histories.specs.Given.Schedules.Sequential.{is_lookup}
-use Rattle.papaya_histories.specs.Given.Schedules.Steps.{ReadsFew, IsBrief, ReadsBriefly}
+use Rattle.papaya_histories.specs.Given.Schedules.Steps.{ReadsFew, IsBrief}
 use Rattle.papaya_histories.specs.Given.Schedules.Views.{map_at, grows_in_chunks}
 use Rattle.papaya_histories.specs.Given.Callers.Together.{UnderWay, OnKey, ForRoom, Counting, OverAll}
 use Rattle.papaya_histories.specs.Given.Finishes.Maps.{Standing}
 use Rattle.papaya_histories.specs.Given.Effects.Known.{Known}
 use Rattle.papaya_histories.specs.Given.Follows.Maps.{ShowsThere, ShowsTables}
-use Rattle.papaya_histories.proofs.Logs.{moments_grow}
 use Rattle.papaya_promises.specs.Brief.{ReadsSince}
-use Rattle.papaya_promises.specs.Reading.{looks, HasLooked, EventsReadBriefly}
+use Rattle.papaya_promises.specs.Reading.{looks, HasLooked, EventsReadBriefly, HasReadFew}
 use Rattle.papaya_promises.proofs.Brief.Shown.{one_as, readings_are_few}
-
--- the moments since an event of the log are those of the last one, and others
-pub moments_are : {K V : Type 0} (begun : ℕ) (log : List (Entry K V)) → begun ≤ length log → (rest : List (Moment K V)) × (moments_from begun log ≡ moment log ∷ rest)
-moments_are begun [] l = ([], ap (λ (q : Bool). if q then start ∷ [] else []) none)
-  where
-    none : (begun == 0) ≡ true
-    none = grind (arith, l)
-moments_are begun (e ∷ log) l = (moments_from begun log, moments_grow begun e log l)
+use Rattle.papaya_histories.specs.Given.Schedules.Transition.{Past}
+use Rattle.papaya_histories.specs.Histories.{IsPast}
 
 module _ {K V : Type 0} (map : ℕ) (s : Standing K) (m : Moment K V) (known : Known) (there : ShowsThere map s m known) (tables : ShowsTables map s m known) (c : CallThere K V) (c_map : c.map ≡ map)
-    (log : List (Entry K V)) (begun : c.begun ≤ length log) (steps : ℕ) where
+    (log : Past K V) (is_past : IsPast log) (begun : c.begun ≤ log.entries) (steps : ℕ) where
   -- its map is in the mode of the moment
   mode_is : grows_in_chunks (map_at c.map m) ≡ is_incremental s.setting.mode
   mode_is = ap (λ (n : ℕ). grows_in_chunks (map_at n m)) c_map ∙ ap grows_in_chunks there.is ∙ ap is_incremental there.mode
@@ -39,21 +31,21 @@ module _ {K V : Type 0} (map : ℕ) (s : Standing K) (m : Moment K V) (known : K
   fewer false more l v few = omega (arith, l, few)
 
   -- with its next step
-  next_few : (more : ℕ) → more ≤ suc steps → (u : UnderWay K V K) → HasLooked (is_incremental s.setting.mode) map s.chart (moments_from c.begun log) steps u
-      → OneOf (ReadsFew (grows_in_chunks (map_at c.map m)) c m more) (moments_from c.begun log)
+  next_few : (more : ℕ) → more ≤ suc steps → (u : UnderWay K V K) → HasLooked (is_incremental s.setting.mode) map s.chart (log.since c.begun) steps u
+      → OneOf (ReadsFew (grows_in_chunks (map_at c.map m)) c m more) (log.since c.begun)
   next_few more l (ForRoom r) h = absurd h
   next_few more l (Counting sum) h = absurd h
   next_few more l (OverAll o) h = absurd h
   next_few more l (OnKey k) h =
-      subst (λ (b : Bool). OneOf (ReadsFew b c m more) (moments_from c.begun log)) (sym mode_is)
-      (one_as (ReadsFew (is_incremental s.setting.mode) c m (suc steps)) (ReadsFew (is_incremental s.setting.mode) c m more) (fewer (is_incremental s.setting.mode) more l) (moments_from c.begun log)
+      subst (λ (b : Bool). OneOf (ReadsFew b c m more) (log.since c.begun)) (sym mode_is)
+      (one_as (ReadsFew (is_incremental s.setting.mode) c m (suc steps)) (ReadsFew (is_incremental s.setting.mode) c m more) (fewer (is_incremental s.setting.mode) more l) (log.since c.begun)
       (subst (OneOf (ReadsFew (is_incremental s.setting.mode) c m (suc steps))) (sym moments.1)
-      (readings_are_few K V s m (moment log) known c moments.0 steps h.0.stands (subst (λ (n : ℕ). ShowsTables n s m known) (sym c_map) tables)
-      (subst (λ (n : ℕ). ReadsSince (is_incremental s.setting.mode) n s.chart (moment log ∷ moments.0) steps h.0.stands) (sym c_map)
+      (readings_are_few K V s m log.now known c moments.0 steps h.0.stands (subst (λ (n : ℕ). ShowsTables n s m known) (sym c_map) tables)
+      (subst (λ (n : ℕ). ReadsSince (is_incremental s.setting.mode) n s.chart (log.now ∷ moments.0) steps h.0.stands) (sym c_map)
       (subst (λ (vs : List (Moment K V)). ReadsSince (is_incremental s.setting.mode) map s.chart vs steps h.0.stands) moments.1 h.2)))))
     where
-      moments : (rest : List (Moment K V)) × (moments_from c.begun log ≡ moment log ∷ rest)
-      moments = moments_are c.begun log begun
+      moments : (rest : List (Moment K V)) × (log.since c.begun ≡ log.now ∷ rest)
+      moments = is_past.last c.begun begun
 
 -- what is brief, by what was called
 brief_as : {K V : Type 0} (c : CallThere K V) (moments : List (Moment K V)) (m : Moment K V) (steps : ℕ)
@@ -77,18 +69,18 @@ brief_as {K} {V} c moments m steps few = by c.call few
 
 module _ (K V : Type 0) (same : K → K → Bool) (hash : ℕ → K → ℕ) where
   pub events_read_briefly : EventsReadBriefly K V same hash
-  events_read_briefly name log made m known s e at whole reading map i u here entry its l = by (s.maps map) refl
+  events_read_briefly name log made m known s e at whole reading map i u here caller its steps l = by (s.maps map) refl
     where
-      stands : (standing : Standing K) → s.maps map ≡ Some standing → ReadsBriefly log entry m
+      stands : (standing : Standing K) → s.maps map ≡ Some standing → HasReadFew log caller steps m
       stands standing there =
           let c = whole.all.shown.calls map i u here in
           let shows = whole.all.shown.maps map standing there in
-          subst (λ (o : Option (CallThere K V)). IfCall (λ x. IsBrief x.call x (moments_from x.begun log) m (x.steps + entry.steps)) o)
+          subst (λ (o : Option (CallThere K V)). IfCall (λ x. IsBrief x.call x (log.since x.begun) m (x.steps + steps)) o)
           (sym (ap (λ (x : Option (List ℕ)). acting x m) its ∙ c.1))
-          (brief_as c.0 (moments_from c.0.begun log) m (c.0.steps + entry.steps) (λ looks_for.
-          next_few map standing m known shows.there shows.tables c.0 c.2 log (reading.begun map i u here c.0 c.1 looks_for) (c.0.steps + made i)
-          (c.0.steps + entry.steps) (omega (arith, l)) u (reading.reads map i u here c.0 c.1 looks_for standing there)))
+          (brief_as c.0 (log.since c.0.begun) m (c.0.steps + steps) (λ looks_for.
+          next_few map standing m known shows.there shows.tables c.0 c.2 log reading.past (reading.begun map i u here c.0 c.1 looks_for) (c.0.steps + made i)
+          (c.0.steps + steps) (omega (arith, l)) u (reading.reads map i u here c.0 c.1 looks_for standing there)))
 
-      by : (o : Option (Standing K)) → s.maps map ≡ o → ReadsBriefly log entry m
+      by : (o : Option (Standing K)) → s.maps map ≡ o → HasReadFew log caller steps m
       by (Some standing) is = stands standing is
       by None is = absurd (let none = at.together.makings.standing.only map i is in cc (none, here))

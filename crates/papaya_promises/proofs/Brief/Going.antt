@@ -37,7 +37,7 @@ use Rattle.papaya_histories.specs.Given.Points.Steps.{AreLawful}
 use Rattle.papaya_histories.proofs.Given.Points.Lookups.Reads.{SeesPlace, sees_place, probes_tell}
 use Rattle.papaya_histories.specs.Given.Late.LateLooks.{LateLooking, LateLookupFacts}
 use Rattle.papaya_histories.specs.Given.Schedules.Lives.{IsFrom}
-use Rattle.papaya_promises.specs.Brief.{read_to, HasRead, ReadsAt, ReadsOn, IsRootOf, LookupsReadOn, LateLookupsReadOn}
+use Rattle.papaya_promises.specs.Brief.{read_to, HasRead, ReadsAt, ReadsOn, IsRootOf, LookupsReadOn}
 use Rattle.papaya_promises.proofs.Brief.Sums.{one_more}
 
 module _ {K : Type 0} (c : Chart K) (blocks : Blocks) where
@@ -49,9 +49,6 @@ module _ {K : Type 0} (c : Chart K) (blocks : Blocks) where
   low : (trial : Trial) (code t j : ℕ) → IsTrial c blocks trial code t j → trial.probe.len ≤ c.limit trial.table.turn
   low trial code t j tries =
       subst (λ (u : ℕ). trial.probe.len ≤ c.limit u) (sym (turn_is trial.table t tries.table)) (let try = tries.try in let most = tries.most in omega (arith, try, most))
-
-  made_by : (table : Table) (t : ℕ) → IsTable c blocks table t → table.turn < c.past
-  made_by table t entered = subst (λ (u : ℕ). u < c.past) (sym (turn_is table t entered)) entered.made
 
   module _ (incremental : Bool) (first steps : ℕ) where
     -- the root was read: it is at the first try of its table
@@ -205,7 +202,3 @@ module _ (K V : Type 0) (same : K → K → Bool) (hash : K → ℕ) where
           probes_read same hash are.fits mode root asked code class m c blocks map first steps l facts.hash_is trial point.0 point.1 point.2 reads.0 m2 end s
       by (at.Nexts table) point reads s = absurd point
       by (at.Over found) point reads s = absurd point
-
-  pub late_lookups_read_on : LateLookupsReadOn K V same hash
-  late_lookups_read_on are mode root keys code began m c blocks l class map facts first steps reads m2 end s =
-      late_reads_on are mode root keys keys code began m c blocks l class map facts first steps reads m2 end s

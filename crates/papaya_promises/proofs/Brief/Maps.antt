@@ -18,7 +18,7 @@ use Rattle.papaya_histories.specs.Given.Finishes.Machines.{DidOfKind}
 use Rattle.papaya_histories.specs.Given.Finishes.Maps.{Standing, IsSameMap}
 use Rattle.papaya_histories.proofs.Given.Follows.Steps.{one_of}
 use Rattle.papaya_promises.specs.Brief.{TablesLast}
-use Rattle.papaya_promises.specs.Reading.{HasStood, StepsLeaveTables}
+use Rattle.papaya_promises.specs.Reading.{HasStood}
 use Rattle.papaya_promises.proofs.Brief.Stays.{same_tables}
 use Rattle.papaya_histories.specs.Given.Scenes.Held.{Held, IsAt}
 use Rattle.papaya_histories.specs.Given.Scenes.Scene.{Scene, slot_of}
@@ -90,6 +90,3 @@ module _ {K V : Type 0} (same : K → K → Bool) (hash : ℕ → K → ℕ) (s 
     | inl e ↦ its n e after is u (leads map u here).4.did
     | inr ne ↦ same_stood s.maps n ((leads map u here).4.maps2 n) ((leads map u here).4.others n ne) after is
   ]
-
-pub steps_leave_tables : (K V : Type 0) (same : K → K → Bool) (hash : ℕ → K → ℕ) → StepsLeaveTables K V same hash
-steps_leave_tables K V same hash s old new at_old map i u here said leads n after is = maps_stood same hash s old new at_old map i u here said leads n after is

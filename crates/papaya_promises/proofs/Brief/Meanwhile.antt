@@ -1,5 +1,5 @@
 -- What lookups under way have read, where calls begin, step and come to an outcome meanwhile.
-use Rattle.std.specs.Prelude.{◌≡◌, ℕ, ◌+◌, ◌≤◌, Bool, true, false, cond, not, List, [], ◌∷◌, length, find, map, Option, Some, None, ◌⊎◌, if◌then◌else◌}
+use Rattle.std.specs.Prelude.{◌≡◌, ℕ, ◌+◌, ◌≤◌, Bool, true, false, cond, not, List, [], ◌∷◌, find, map, Option, Some, None, ◌⊎◌, if◌then◌else◌}
 use Rattle.std.proofs.Common.{refl, ap, sym, subst, ◌∙◌, arith, inl, inr}
 use Rattle.papaya_histories.specs.Given.Runs.Same.{is_same}
 use Rattle.papaya_histories.specs.Given.Schedules.declared.call.Call.{Call}
@@ -10,7 +10,7 @@ use Rattle.papaya_histories.specs.Given.Schedules.declared.outcome.Outcome.{Outc
 use Rattle.papaya_histories.specs.Given.Schedules.declared.outcome.Outcome.TheVariants as outcome
 use Rattle.papaya_histories.specs.Given.Tables.Chunks.{is_incremental}
 use Rattle.papaya_histories.specs.Given.Rule.Chart.{Chart}
-use Rattle.papaya_histories.specs.Given.Schedules.After.{moments_from, asks_on, comes_to, without_call, replied}
+use Rattle.papaya_histories.specs.Given.Schedules.After.{asks_on, comes_to, without_call, replied}
 use Rattle.papaya_histories.specs.Given.Schedules.Beginning.{fresh_call, with_call}
 use Rattle.papaya_histories.specs.Given.Schedules.Effects.{due_for, call_by, with_effect, with_effects}
 use Rattle.papaya_histories.specs.Given.Schedules.Entry.{ends_call}
@@ -30,7 +30,7 @@ use Rattle.papaya_histories.proofs.Given.Hands.Calling.{caller_is}
 use Rattle.papaya_histories.proofs.Begun.{effects_begun, comes_begun, if_begun, replied_begun}
 use Rattle.papaya_histories.specs.Given.Others.Rows.{scene_then}
 use Rattle.papaya_promises.specs.Brief.{ReadsSince}
-use Rattle.papaya_promises.specs.Meanwhile.{CallsComeToReadings, CallsBeginReadings, OthersKeepReadings, OtherWorkKeepsReadings, RowsKeepReadings, ReadingsBegin, CallsTakeReadings}
+use Rattle.papaya_promises.specs.Meanwhile.{CallsComeToReadings, CallsBeginReadings, OthersKeepReadings, OtherWorkKeepsReadings, RowsKeepReadings, CallsTakeReadings}
 use Rattle.papaya_promises.specs.Reading.{looks, HasLooked, HasStood}
 use Rattle.papaya_promises.proofs.Brief.Maps.{same_stood, maps_stood}
 use Rattle.papaya_promises.proofs.Brief.Stays.{same_tables, readings_stay}
@@ -159,6 +159,7 @@ calls_come_to_readings K V same name log made m known s whole reading own o step
 
 pub calls_begin_readings : (K V : Type 0) (same : K → K → Bool) → CallsBeginReadings K V same
 calls_begin_readings K V same name log m known s whole reading map i u its guard apart begins events = record {
+  past = reading.past;
   begun = λ n j x is d d_is d_looks. begun_then n j x d d_is d_looks (which s.calls map i (Some u) n j x is);
   reads = λ n j x is d d_is d_looks standing there. reads_then n j x d d_is d_looks standing there (which s.calls map i (Some u) n j x is);
 }
@@ -177,7 +178,7 @@ calls_begin_readings K V same name log m known s whole reading map i u its guard
 
     begun_then : (n j : ℕ) (x : UnderWay K V K) (d : CallThere K V) → call_of (name j) (with_call (name i) guard its (Some map) m) ≡ Some d → looks d.call ≡ true
         → ((n ≡ map) × (j ≡ i) × (◌≡◌ {A = Option (UnderWay K V K)} (Some u) (Some x))) ⊎ ((n ≡ map → j ≡ i → ⊥) × (s.calls n j ≡ Some x))
-        → d.begun ≤ length log
+        → d.begun ≤ log.entries
     begun_then n j x d d_is d_looks (inl now) = let one = ap (λ (y : CallThere K V). y.begun) (is_fresh j now.1 d d_is) in omega (arith, one, events)
     begun_then n j x d d_is d_looks (inr was) = reading.begun n j x was.1 d (found_now j false (apart n j x was.1) d d_is) d_looks
 
@@ -189,11 +190,11 @@ calls_begin_readings K V same name log m known s whole reading map i u its guard
     reads_then : (n j : ℕ) (x : UnderWay K V K) (d : CallThere K V) → call_of (name j) (with_call (name i) guard its (Some map) m) ≡ Some d → looks d.call ≡ true
         → (standing : Standing K) → s.maps n ≡ Some standing
         → ((n ≡ map) × (j ≡ i) × (◌≡◌ {A = Option (UnderWay K V K)} (Some u) (Some x))) ⊎ ((n ≡ map → j ≡ i → ⊥) × (s.calls n j ≡ Some x))
-        → HasLooked (is_incremental standing.setting.mode) n standing.chart (moments_from d.begun log) (d.steps + 0) x
+        → HasLooked (is_incremental standing.setting.mode) n standing.chart (log.since d.begun) (d.steps + 0) x
     reads_then n j x d d_is d_looks standing there (inl now) =
         let one = is_fresh j now.1 d d_is in
-        subst (HasLooked (is_incremental standing.setting.mode) n standing.chart (moments_from d.begun log) (d.steps + 0)) (one_of u x now.2)
-        (looks_first (is_incremental standing.setting.mode) n standing.chart (moments_from d.begun log) (d.steps + 0)
+        subst (HasLooked (is_incremental standing.setting.mode) n standing.chart (log.since d.begun) (d.steps + 0)) (one_of u x now.2)
+        (looks_first (is_incremental standing.setting.mode) n standing.chart (log.since d.begun) (d.steps + 0)
         (let none = ap (λ (y : CallThere K V). y.steps) one in omega (arith, none)) (ap (λ (y : CallThere K V). looks y.call) (sym one) ∙ d_looks))
     reads_then n j x d d_is d_looks standing there (inr was) = reading.reads n j x was.1 d (found_now j false (apart n j x was.1) d d_is) d_looks standing there
 
@@ -248,12 +249,6 @@ pub rows_keep_readings : (K V : Type 0) (same : K → K → Bool) (hash : ℕ �
 rows_keep_readings K V same hash name log made m s old new event happened effects reading =
     other_work_keeps_readings K V name log made m s (scene_then same hash event s old new happened) None effects (λ n j x is. is)
     (λ n j x is st there. same_stood s.maps n (happened.2 n) (happened.3 n) st there) reading
-
-pub readings_begin : (K V : Type 0) → ReadingsBegin K V
-readings_begin K V roots name = record {
-  begun = λ n i u is c found_is looks_for. absurd (cc is);
-  reads = λ n i u is c found_is looks_for standing there. absurd (cc is);
-}
 
 -- a reply leaves what began the call, and its steps
 reply_steps : {K V : Type 0} (reply : Reply V) (c : CallThere K V) (stands : Stands) → (replied reply c stands).steps ≡ c.steps

@@ -1,21 +1,20 @@
 -- Lookups that are under way as they were have read what they had read.
-use Rattle.std.specs.Prelude.{◌≡◌, ℕ, ◌+◌, ◌<◌, ◌≤◌, Bool, true, false, List, ◌∷◌, length}
+use Rattle.std.specs.Prelude.{◌≡◌, ℕ, ◌+◌, ◌<◌, ◌≤◌, Bool, true, false, List}
 use Rattle.std.proofs.Common.{refl, ap, sym, subst, arith, inr}
 use Rattle.papaya_histories.specs.Given.Tables.Chunks.{is_incremental}
 use Rattle.papaya_histories.specs.Given.Tables.declared.setting.Setting.{Setting}
 use Rattle.papaya_histories.specs.Given.Resize.declared.lookup.Looking.{Looking}
 use Rattle.papaya_histories.specs.Given.Resize.declared.lookup.Looking.TheVariants as looking
 use Rattle.papaya_histories.specs.Given.Rule.Chart.{Chart}
-use Rattle.papaya_histories.specs.Given.Schedules.After.{moments_from}
-use Rattle.papaya_histories.specs.Given.Schedules.Entry.{Entry}
 use Rattle.papaya_histories.specs.Given.Schedules.Lists.{OneOf}
 use Rattle.papaya_histories.specs.Given.Schedules.Lives.{IsFrom}
 use Rattle.papaya_histories.specs.Given.Schedules.Moment.{Moment}
 use Rattle.papaya_histories.specs.Given.Callers.Together.{UnderWay, OnKey, ForRoom, Counting, OverAll}
-use Rattle.papaya_histories.proofs.Logs.{moments_grow}
+use Rattle.papaya_histories.proofs.Logs.{grows, further_is_past}
 use Rattle.papaya_promises.specs.Brief.{HasRead, TablesLast, WasRoot, ReadsSince}
 use Rattle.papaya_promises.specs.Reading.{HasLooked, ReadingsStay, EventsKeepReadings}
 use Rattle.papaya_promises.proofs.Brief.Shown.{one_as, readings_last}
+use Rattle.papaya_histories.specs.Given.Schedules.Transition.{Past, further}
 
 -- the first of the tables is one that the map has had
 pub first_made : {K : Type 0} (incremental : Bool) (c : Chart K) (first turn steps most : ℕ) → HasRead incremental c first turn steps most → first < c.past
@@ -60,33 +59,35 @@ module _ {K V : Type 0} (incremental : Bool) (map : ℕ) (c c2 : Chart K) (last 
   looked_on (OverAll o) h = absurd h
 
 -- in the same mode, by the same event, with as many steps
-pub looked_as : {K V : Type 0} (incremental incremental2 : Bool) (map : ℕ) (c : Chart K) (log : List (Entry K V)) (begun begun2 steps steps2 : ℕ) (u : UnderWay K V K)
-    → incremental2 ≡ incremental → begun2 ≡ begun → steps2 ≡ steps → HasLooked incremental map c (moments_from begun log) steps u → HasLooked incremental2 map c (moments_from begun2 log) steps2 u
+pub looked_as : {K V : Type 0} (incremental incremental2 : Bool) (map : ℕ) (c : Chart K) (log : Past K V) (begun begun2 steps steps2 : ℕ) (u : UnderWay K V K)
+    → incremental2 ≡ incremental → begun2 ≡ begun → steps2 ≡ steps → HasLooked incremental map c (log.since begun) steps u → HasLooked incremental2 map c (log.since begun2) steps2 u
 looked_as incremental incremental2 map c log begun begun2 steps steps2 u mode event count h =
-    subst (λ (b : Bool). HasLooked b map c (moments_from begun2 log) steps2 u) (sym mode)
-    (subst (λ (n : ℕ). HasLooked incremental map c (moments_from n log) steps2 u) (sym event)
-    (subst (λ (n : ℕ). HasLooked incremental map c (moments_from begun log) n u) (sym count) h))
+    subst (λ (b : Bool). HasLooked b map c (log.since begun2) steps2 u) (sym mode)
+    (subst (λ (n : ℕ). HasLooked incremental map c (log.since n) steps2 u) (sym event)
+    (subst (λ (n : ℕ). HasLooked incremental map c (log.since begun) n u) (sym count) h))
 
 module _ (K V : Type 0) (name : ℕ → List ℕ) where
   pub readings_stay : ReadingsStay K V name
   readings_stay log made made2 m m2 s s2 stay h = record {
+    past = h.past;
     begun = λ map i u is d d_is looks_for.
         let it = stay.calls map i u is d d_is looks_for in
-        subst (λ (n : ℕ). n ≤ length log) (sym it.4) (h.begun map i u it.0 it.1 it.2 it.3);
+        subst (λ (n : ℕ). n ≤ log.entries) (sym it.4) (h.begun map i u it.0 it.1 it.2 it.3);
     reads = λ map i u is d d_is looks_for standing there.
         let it = stay.calls map i u is d d_is looks_for in
         let was = stay.maps map i u is standing there in
         let before = h.reads map i u it.0 it.1 it.2 it.3 was.0 was.1 in
         looked_as (is_incremental was.0.setting.mode) (is_incremental standing.setting.mode) map standing.chart log it.1.begun d.begun (it.1.steps + made i) (d.steps + made2 i) u
         (ap (λ (x : Setting). is_incremental x.mode) was.2) it.4 it.5
-        (looked_on (is_incremental was.0.setting.mode) map was.0.chart standing.chart was.3 (moments_from it.1.begun log) (moments_from it.1.begun log) (λ P one. one) (it.1.steps + made i) u before);
+        (looked_on (is_incremental was.0.setting.mode) map was.0.chart standing.chart was.3 (log.since it.1.begun) (log.since it.1.begun) (λ P one. one) (it.1.steps + made i) u before);
   }
 
   pub events_keep_readings : EventsKeepReadings K V name
-  events_keep_readings log e made m s h = record {
+  events_keep_readings log next made m s h counted = record {
+    past = further_is_past next log counted;
     begun = λ map i u is c c_is looks_for. (let b = h.begun map i u is c c_is looks_for in omega (arith, b));
     reads = λ map i u is c c_is looks_for standing there.
         let b = h.begun map i u is c c_is looks_for in
-        looked_on (is_incremental standing.setting.mode) map standing.chart standing.chart (same_tables standing.chart) (moments_from c.begun log) (moments_from c.begun (e ∷ log))
-        (λ P one. subst (OneOf P) (sym (moments_grow c.begun e log (omega (arith, b)))) (inr one)) (c.steps + made i) u (h.reads map i u is c c_is looks_for standing there);
+        looked_on (is_incremental standing.setting.mode) map standing.chart standing.chart (same_tables standing.chart) (log.since c.begun) ((further next log).since c.begun)
+        (λ P one. subst (OneOf P) (sym (grows next log c.begun (omega (arith, b)))) (inr one)) (c.steps + made i) u (h.reads map i u is c c_is looks_for standing there);
   }

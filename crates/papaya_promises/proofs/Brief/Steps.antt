@@ -1,5 +1,5 @@
 -- Where a lookup has taken a step, all lookups have read what they may.
-use Rattle.std.specs.Prelude.{◌≡◌, ℕ, suc, ◌+◌, ◌<◌, ◌≤◌, Bool, true, List, length, Option, Some, None, if◌then◌else◌}
+use Rattle.std.specs.Prelude.{◌≡◌, ℕ, suc, ◌+◌, ◌<◌, ◌≤◌, Bool, true, List, Option, Some, None, if◌then◌else◌}
 use Rattle.std.proofs.Common.{refl, ap, sym, subst, ◌∙◌, arith, inl, inr}
 use Rattle.std.proofs.lemmas.Bool.{eq-eqb, ne_eqb}
 use Rattle.papaya_histories.specs.Given.Seize.declared.progress.Progress.{Progress as Stepped}
@@ -18,7 +18,6 @@ use Rattle.papaya_histories.specs.Given.Raw.declared.machines.machine.Machine.{M
 use Rattle.papaya_histories.specs.Given.Raw.declared.machines.machine.Machine.TheVariants as kinds
 use Rattle.papaya_histories.specs.Given.Raw.declared.machines.progress.Progress.{Progress}
 use Rattle.papaya_histories.specs.Given.Rule.Chart.{Chart}
-use Rattle.papaya_histories.specs.Given.Schedules.After.{moment, moments_from}
 use Rattle.papaya_histories.specs.Given.Schedules.Lists.{OneOf}
 use Rattle.papaya_histories.specs.Given.Schedules.Moment.{UnderWay as CallThere, MapThere, TableThere, Moment}
 use Rattle.papaya_histories.specs.Given.Schedules.Views.{call_of}
@@ -26,7 +25,7 @@ use Rattle.papaya_histories.specs.Given.Callers.Together.{CallOnKey, UnderWay, O
 use Rattle.papaya_histories.specs.Given.Finishes.Machines.{GoesOnAs, machine_of}
 use Rattle.papaya_histories.specs.Given.Finishes.Maps.{Standing}
 use Rattle.papaya_histories.proofs.Given.Hands.Asking.{which}
-use Rattle.papaya_histories.proofs.Logs.{last_there}
+use Rattle.papaya_histories.proofs.Logs.{now_there}
 use Rattle.papaya_promises.specs.Brief.{ReadsAt, ReadsOn, IsRootOf, TablesLast, WasRoot, ReadsSince}
 use Rattle.papaya_promises.specs.Reading.{looks, HasLooked, one_more_of, LookupsKeepReadings}
 use Rattle.papaya_promises.proofs.Brief.Maps.{maps_stood}
@@ -127,49 +126,49 @@ module _ {K V : Type 0} (same : K → K → Bool) (hash : ℕ → K → ℕ) (s 
 module _ (K V : Type 0) (same : K → K → Bool) (hash : ℕ → K → ℕ) where
   pub lookups_keep_readings : LookupsKeepReadings K V same hash
   lookups_keep_readings name log made m known s old new at_old whole reading maps tables map i u here said leads c c_is looks_for =
-      record { begun = begun_then; reads = reads_then }
+      record { past = reading.past; begun = begun_then; reads = reads_then }
     where
       same_call : (d : CallThere K V) → call_of (name i) m ≡ Some d → d ≡ c
       same_call d is = cc (is, c_is)
 
       begun_then : (n j : ℕ) (x : UnderWay K V K) → (scene_after same s old new map i (leads map u here).0 u (leads map u here).1 said (leads map u here).4).calls n j ≡ Some x
-          → (d : CallThere K V) → call_of (name j) m ≡ Some d → looks d.call ≡ true → d.begun ≤ length log
-      begun_then n j x is d d_is d_looks = elim (which s.calls map i (leads map u here).4.next n j x is) as (λ _. d.begun ≤ length log) [
+          → (d : CallThere K V) → call_of (name j) m ≡ Some d → looks d.call ≡ true → d.begun ≤ log.entries
+      begun_then n j x is d d_is d_looks = elim (which s.calls map i (leads map u here).4.next n j x is) as (λ _. d.begun ≤ log.entries) [
         | inl its ↦
-            subst (λ (v : CallThere K V). v.begun ≤ length log) (sym (same_call d (ap (λ (k : ℕ). call_of (name k) m) (sym its.1) ∙ d_is))) (reading.begun map i u here c c_is looks_for)
+            subst (λ (v : CallThere K V). v.begun ≤ log.entries) (sym (same_call d (ap (λ (k : ℕ). call_of (name k) m) (sym its.1) ∙ d_is))) (reading.begun map i u here c c_is looks_for)
         | inr other ↦ reading.begun n j x other.1 d d_is d_looks
       ]
 
       -- the root, as the last event left it
       root : (leads map u here).0.chart.first < (leads map u here).0.chart.past
-          → OneOf (WasRoot (is_incremental (leads map u here).0.setting.mode) map (leads map u here).0.chart (leads map u here).0.chart.first) (moments_from c.begun log)
+          → OneOf (WasRoot (is_incremental (leads map u here).0.setting.mode) map (leads map u here).0.chart (leads map u here).0.chart.first) (log.since c.begun)
       root made_one =
           let shows = whole.all.shown.maps map (leads map u here).0 (leads map u here).2 in
-          last_there (WasRoot (is_incremental (leads map u here).0.setting.mode) map (leads map u here).0.chart (leads map u here).0.chart.first) c.begun log
+          now_there log reading.past (WasRoot (is_incremental (leads map u here).0.setting.mode) map (leads map u here).0.chart (leads map u here).0.chart.first) c.begun
           (reading.begun map i u here c c_is looks_for)
-          (was_alike (is_incremental (leads map u here).0.setting.mode) map (leads map u here).0.chart (leads map u here).0.chart.first m (moment log) maps tables
+          (was_alike (is_incremental (leads map u here).0.setting.mode) map (leads map u here).0.chart (leads map u here).0.chart.first m log.now maps tables
           (roots_are_shown K V map (leads map u here).0 m known shows.there shows.tables made_one))
 
       own : (x : UnderWay K V K) → (leads map u here).4.next ≡ Some x
-          → HasLooked (is_incremental (leads map u here).0.setting.mode) map (leads map u here).0.chart (moments_from c.begun log) (suc (c.steps + made i)) x
+          → HasLooked (is_incremental (leads map u here).0.setting.mode) map (leads map u here).0.chart (log.since c.begun) (suc (c.steps + made i)) x
       own x next =
-          looked_then same hash s old new at_old map i said leads (moments_from c.begun log) (c.steps + made i) u here root
+          looked_then same hash s old new at_old map i said leads (log.since c.begun) (c.steps + made i) u here root
           (reading.reads map i u here c c_is looks_for (leads map u here).0 (leads map u here).2) x next
 
       -- with the tables that there are then
       moved : (n : ℕ) (before : Standing K) (after : Standing K) → after.setting ≡ before.setting → TablesLast before.chart after.chart → (d : CallThere K V) (steps steps2 : ℕ) → steps2 ≡ steps
-          → (x : UnderWay K V K) → HasLooked (is_incremental before.setting.mode) n before.chart (moments_from d.begun log) steps x
-          → HasLooked (is_incremental after.setting.mode) n after.chart (moments_from d.begun log) steps2 x
+          → (x : UnderWay K V K) → HasLooked (is_incremental before.setting.mode) n before.chart (log.since d.begun) steps x
+          → HasLooked (is_incremental after.setting.mode) n after.chart (log.since d.begun) steps2 x
       moved n before after setting last d steps steps2 count x h =
           looked_as (is_incremental before.setting.mode) (is_incremental after.setting.mode) n after.chart log d.begun d.begun steps steps2 x
           (ap (λ (y : Setting). is_incremental y.mode) setting) refl count
-          (looked_on (is_incremental before.setting.mode) n before.chart after.chart last (moments_from d.begun log) (moments_from d.begun log) (λ P one. one) steps x h)
+          (looked_on (is_incremental before.setting.mode) n before.chart after.chart last (log.since d.begun) (log.since d.begun) (λ P one. one) steps x h)
 
       own_count : c.steps + one_more_of i made i ≡ suc (c.steps + made i)
       own_count = let more = ap (λ (b : Bool). if b then suc (made i) else made i) (eq-eqb i i refl) in omega (arith, more)
 
       its_own : (x : UnderWay K V K) → (leads map u here).4.next ≡ Some x → (after : Standing K) → (leads map u here).4.maps2 map ≡ Some after
-          → HasLooked (is_incremental after.setting.mode) map after.chart (moments_from c.begun log) (c.steps + one_more_of i made i) x
+          → HasLooked (is_incremental after.setting.mode) map after.chart (log.since c.begun) (c.steps + one_more_of i made i) x
       its_own x next after is =
           let stood = maps_stood same hash s old new at_old map i u here said leads map after is in
           let one : stood.0 ≡ (leads map u here).0 = (let there = stood.1 in let st = (leads map u here).2 in cc (there, st)) in
@@ -184,7 +183,7 @@ module _ (K V : Type 0) (same : K → K → Bool) (hash : ℕ → K → ℕ) whe
 
       others : (n j : ℕ) (x : UnderWay K V K) → (n ≡ map → j ≡ i → ⊥) → s.calls n j ≡ Some x → (d : CallThere K V) → call_of (name j) m ≡ Some d → looks d.call ≡ true
           → (after : Standing K) → (leads map u here).4.maps2 n ≡ Some after
-          → HasLooked (is_incremental after.setting.mode) n after.chart (moments_from d.begun log) (d.steps + one_more_of i made j) x
+          → HasLooked (is_incremental after.setting.mode) n after.chart (log.since d.begun) (d.steps + one_more_of i made j) x
       others n j x apart was d d_is d_looks after is =
           let stood = maps_stood same hash s old new at_old map i u here said leads n after is in
           moved n stood.0 after stood.2 stood.3 d (d.steps + made j) (d.steps + one_more_of i made j) (ap (λ (z : ℕ). d.steps + z) (other_count n j x apart was)) x
@@ -193,12 +192,12 @@ module _ (K V : Type 0) (same : K → K → Bool) (hash : ℕ → K → ℕ) whe
       reads_then : (n j : ℕ) (x : UnderWay K V K) → (scene_after same s old new map i (leads map u here).0 u (leads map u here).1 said (leads map u here).4).calls n j ≡ Some x
           → (d : CallThere K V) → call_of (name j) m ≡ Some d → looks d.call ≡ true → (after : Standing K)
           → (scene_after same s old new map i (leads map u here).0 u (leads map u here).1 said (leads map u here).4).maps n ≡ Some after
-          → HasLooked (is_incremental after.setting.mode) n after.chart (moments_from d.begun log) (d.steps + one_more_of i made j) x
-      reads_then n j x is d d_is d_looks after there = elim (which s.calls map i (leads map u here).4.next n j x is) as (λ _. HasLooked (is_incremental after.setting.mode) n after.chart (moments_from d.begun log) (d.steps + one_more_of i made j) x) [
+          → HasLooked (is_incremental after.setting.mode) n after.chart (log.since d.begun) (d.steps + one_more_of i made j) x
+      reads_then n j x is d d_is d_looks after there = elim (which s.calls map i (leads map u here).4.next n j x is) as (λ _. HasLooked (is_incremental after.setting.mode) n after.chart (log.since d.begun) (d.steps + one_more_of i made j) x) [
         | inl its ↦
-            subst (λ (k : ℕ). HasLooked (is_incremental after.setting.mode) k after.chart (moments_from d.begun log) (d.steps + one_more_of i made j) x) (sym its.0)
-            (subst (λ (k : ℕ). HasLooked (is_incremental after.setting.mode) map after.chart (moments_from d.begun log) (d.steps + one_more_of i made k) x) (sym its.1)
-            (subst (λ (v : CallThere K V). HasLooked (is_incremental after.setting.mode) map after.chart (moments_from v.begun log) (v.steps + one_more_of i made i) x)
+            subst (λ (k : ℕ). HasLooked (is_incremental after.setting.mode) k after.chart (log.since d.begun) (d.steps + one_more_of i made j) x) (sym its.0)
+            (subst (λ (k : ℕ). HasLooked (is_incremental after.setting.mode) map after.chart (log.since d.begun) (d.steps + one_more_of i made k) x) (sym its.1)
+            (subst (λ (v : CallThere K V). HasLooked (is_incremental after.setting.mode) map after.chart (log.since v.begun) (v.steps + one_more_of i made i) x)
             (sym (same_call d (ap (λ (k : ℕ). call_of (name k) m) (sym its.1) ∙ d_is)))
             (its_own x its.2 after (ap (leads map u here).4.maps2 (sym its.0) ∙ there))))
         | inr other ↦ others n j x other.0 other.1 d d_is d_looks after there

@@ -5,7 +5,6 @@ use Rattle.std.proofs.Common.{refl, sym, subst, ap, ◌∙◌}
 use Rattle.std.proofs.lemmas.Grind.{flat_map-append}
 use Rattle.papaya_histories.specs.Given.Schedules.declared.effect.Effect.{Effect}
 use Rattle.papaya_histories.specs.Given.Schedules.declared.effect.Thing.{Thing}
-use Rattle.papaya_histories.specs.Given.Schedules.After.{after, moment}
 use Rattle.papaya_histories.specs.Given.Schedules.Lists.{is_in}
 use Rattle.papaya_histories.specs.Given.Schedules.Model.{thing_back}
 use Rattle.papaya_histories.specs.Given.Schedules.Moment.{Sheltered}
@@ -35,4 +34,4 @@ none_any effects (x ∷ xs) none =
     ap (λ (q : Bool). q || list_any (λ s. is_in same_thing s.thing (flat_map thing_back effects)) xs) none.0 ∙ none_any effects xs none.1
 
 pub events_are_protected : (K V : Type 0) → EventsAreProtected K V
-events_are_protected K V log e none = none_any e.effects (after e (moment log)).sheltered none
+events_are_protected K V t none = none_any t.effects t.left.sheltered none

@@ -37,7 +37,7 @@ impl<K: Eq + Hash + Drop, S: BuildHasher, R: Receiver<(K, ())>> HashSet<K, S, R>
 
     /// Removes the element that this asks for, and answers whether it was there; `taken` shows it until the next change. The faults are
     /// `Fault::Capacity`, where no table can follow the set's last one, and `Fault::Memory`; then no element has changed.
-    /// While the set has one table at most, it is not refused.
+    /// While the set has one table at most, it is not refused, and the set has one at most then.
     pub fn remove<Q: Equivalent<K>>(&mut self, asked: &Q) -> Result<bool, Fault>
         ensures some { IfOk result (λ was. was ≡ is_some (find (Q.Equivalent.equivalent asked.now) self.old.elements)) }
         ensures removed { OnOk result (IsPermutation self.new.elements (left_in (Q.Equivalent.equivalent asked.now) self.old.elements)) }
@@ -46,6 +46,7 @@ impl<K: Eq + Hash + Drop, S: BuildHasher, R: Receiver<(K, ())>> HashSet<K, S, R>
         ensures fault { IfErr result IsRoom }
         ensures capacity { IfErr result (λ fault. fault ≡ Capacity → CannotGrow self.new.tables) }
         ensures steady { length self.old.tables ≤ 1 → IsOk result }
+        ensures steady_then { length self.old.tables ≤ 1 → length self.new.tables ≤ 1 }
         ensures hasher { self.new.hasher ≡ self.old.hasher }
         ensures keeps { KeepsIn [] self.old self.new }
     {

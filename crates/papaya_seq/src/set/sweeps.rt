@@ -13,7 +13,7 @@ use std::hash::{BuildHasher, Hash};
 
 impl<K: Eq + Hash + Drop, S: BuildHasher, R: Receiver<(K, ())>> HashSet<K, S, R> {
     /// Removes all elements. The faults are `Fault::Capacity`, where no table can follow the set's last one, and `Fault::Memory`: a growth that was under
-    /// way could not be seen through. Then no element has changed. While the set has one table at most, it is not refused.
+    /// way could not be seen through. Then no element has changed. While the set has one table at most, it is not refused, and the set has one at most then.
     pub fn clear(&mut self) -> Result<(), Fault>
         ensures done { OnOk result (self.new.elements ≡ []) }
         ensures refused { OnErr result (IsPermutation self.new.elements self.old.elements) }
@@ -21,6 +21,7 @@ impl<K: Eq + Hash + Drop, S: BuildHasher, R: Receiver<(K, ())>> HashSet<K, S, R>
         ensures fault { IfErr result IsRoom }
         ensures capacity { IfErr result (λ fault. fault ≡ Capacity → CannotGrow self.new.tables) }
         ensures steady { length self.old.tables ≤ 1 → IsOk result }
+        ensures steady_then { length self.old.tables ≤ 1 → length self.new.tables ≤ 1 }
         ensures hasher { self.new.hasher ≡ self.old.hasher }
         ensures keeps { KeepsIn [] self.old self.new }
     {
@@ -29,7 +30,7 @@ impl<K: Eq + Hash + Drop, S: BuildHasher, R: Receiver<(K, ())>> HashSet<K, S, R>
 
     /// Keeps just the elements for which the closure answers `true`. It is called with each once, in which order is not said. The faults are
     /// `Fault::Capacity`, where no table can follow the set's last one, and `Fault::Memory`: a growth that was under way could not be seen through.
-    /// Then no element has changed. While the set has one table at most, it is not refused.
+    /// Then no element has changed. While the set has one table at most, it is not refused, and the set has one at most then.
     pub fn retain<F: FnMut(&K) -> bool>(&mut self, mut keep: F) -> Result<(), Fault>
         requires callable { F.IsAlwaysCallable keep }
         ensures done { OnOk result ((kept : List K) × KeepsElements F.FnMut keep self.old.elements kept × IsPermutation self.new.elements kept) }
@@ -39,6 +40,7 @@ impl<K: Eq + Hash + Drop, S: BuildHasher, R: Receiver<(K, ())>> HashSet<K, S, R>
         ensures fault { IfErr result IsRoom }
         ensures capacity { IfErr result (λ fault. fault ≡ Capacity → CannotGrow self.new.tables) }
         ensures steady { length self.old.tables ≤ 1 → IsOk result }
+        ensures steady_then { length self.old.tables ≤ 1 → length self.new.tables ≤ 1 }
         ensures hasher { self.new.hasher ≡ self.old.hasher }
         ensures keeps { KeepsIn [] self.old self.new }
     {

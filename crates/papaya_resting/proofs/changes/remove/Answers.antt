@@ -40,4 +40,12 @@ returns-in-Err-clause-because g c = (_, c.refresh.ensures.ran, c.in-Err.ensures.
 
 pub returns-in-Err-clause-steady : goal.returns-in-Err-clause-steady
 returns-in-Err-clause-steady g c = λ xs has one.
-    removal_steady g.K.PartialEq.eq (hashed_by g.S.Hasher.Hasher.finish g.S.Hasher.Hasher.write g.S.BuildHasher.build_hasher g.K.Hash.hash_input) c.args.hasher c.args.setting _ xs has one _ c.refresh.ensures.ran (c.refresh.ensures.holds xs has) _ _ _ _ (inl refl) _ c.in-Err.ensures.ran
+    (removal_steady g.K.PartialEq.eq (hashed_by g.S.Hasher.Hasher.finish g.S.Hasher.Hasher.write g.S.BuildHasher.build_hasher g.K.Hash.hash_input) c.args.hasher c.args.setting _ xs has one _ c.refresh.ensures.ran (c.refresh.ensures.holds xs has) _ _ _ _ (inl refl) _ c.in-Err.ensures.ran).0
+
+pub returns-in-Ok-clause-steady_then : goal.returns-in-Ok-clause-steady_then
+returns-in-Ok-clause-steady_then g c = λ xs has one.
+    (removal_steady g.K.PartialEq.eq (hashed_by g.S.Hasher.Hasher.finish g.S.Hasher.Hasher.write g.S.BuildHasher.build_hasher g.K.Hash.hash_input) c.args.hasher c.args.setting _ xs has one _ c.refresh.ensures.ran (c.refresh.ensures.holds xs has) _ _ _ _ (inl refl) _ c.in-Ok.ensures.ran).1
+
+pub returns-in-Err-clause-steady_then : goal.returns-in-Err-clause-steady_then
+returns-in-Err-clause-steady_then g c = λ xs has one.
+    (removal_steady g.K.PartialEq.eq (hashed_by g.S.Hasher.Hasher.finish g.S.Hasher.Hasher.write g.S.BuildHasher.build_hasher g.K.Hash.hash_input) c.args.hasher c.args.setting _ xs has one _ c.refresh.ensures.ran (c.refresh.ensures.holds xs has) _ _ _ _ (inl refl) _ c.in-Err.ensures.ran).1

@@ -24,4 +24,8 @@ returns-clause-ran g c = (_, c.refresh.ensures.ran, c.empty.ensures.ran)
 
 pub returns-clause-steady : goal.returns-clause-steady
 returns-clause-steady g c = λ xs has one.
-    sweep_steady g.K.PartialEq.eq (hashed_by g.S.Hasher.Hasher.finish g.S.Hasher.Hasher.write g.S.BuildHasher.build_hasher g.K.Hash.hash_input) c.args.hasher c.args.setting _ xs has one _ c.refresh.ensures.ran (c.refresh.ensures.holds xs has) _ Clears refl _ c.empty.ensures.ran
+    (sweep_steady g.K.PartialEq.eq (hashed_by g.S.Hasher.Hasher.finish g.S.Hasher.Hasher.write g.S.BuildHasher.build_hasher g.K.Hash.hash_input) c.args.hasher c.args.setting _ xs has one _ c.refresh.ensures.ran (c.refresh.ensures.holds xs has) _ Clears refl _ c.empty.ensures.ran).0
+
+pub returns-clause-steady_then : goal.returns-clause-steady_then
+returns-clause-steady_then g c = λ xs has one.
+    (sweep_steady g.K.PartialEq.eq (hashed_by g.S.Hasher.Hasher.finish g.S.Hasher.Hasher.write g.S.BuildHasher.build_hasher g.K.Hash.hash_input) c.args.hasher c.args.setting _ xs has one _ c.refresh.ensures.ran (c.refresh.ensures.holds xs has) _ Clears refl _ c.empty.ensures.ran).1

@@ -42,5 +42,9 @@ returns-clause-because g c =
 pub returns-clause-steady : goal.returns-clause-steady
 returns-clause-steady g c = λ xs has one.
     done_ok c.remove_if.result
-    (removal_steady g.K.PartialEq.eq (hashed_by g.S.Hasher.Hasher.finish g.S.Hasher.Hasher.write g.S.BuildHasher.build_hasher g.K.Hash.hash_input) c.args.hasher c.args.setting _ xs has one _ c.refresh.ensures.ran (c.refresh.ensures.holds xs has) _ _ _ _ (inr refl) _ c.remove_if.ensures.ran)
+    (removal_steady g.K.PartialEq.eq (hashed_by g.S.Hasher.Hasher.finish g.S.Hasher.Hasher.write g.S.BuildHasher.build_hasher g.K.Hash.hash_input) c.args.hasher c.args.setting _ xs has one _ c.refresh.ensures.ran (c.refresh.ensures.holds xs has) _ _ _ _ (inr refl) _ c.remove_if.ensures.ran).0
     c.ended.result c.ended.ensures.done
+
+pub returns-clause-steady_then : goal.returns-clause-steady_then
+returns-clause-steady_then g c = λ xs has one.
+    (removal_steady g.K.PartialEq.eq (hashed_by g.S.Hasher.Hasher.finish g.S.Hasher.Hasher.write g.S.BuildHasher.build_hasher g.K.Hash.hash_input) c.args.hasher c.args.setting _ xs has one _ c.refresh.ensures.ran (c.refresh.ensures.holds xs has) _ _ _ _ (inr refl) _ c.remove_if.ensures.ran).1

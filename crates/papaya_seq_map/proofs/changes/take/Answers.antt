@@ -2,7 +2,7 @@
 use Rattle.std.specs.Prelude.{[]}
 use Rattle.papaya_pairs.proofs.Orders.{left_same}
 use Rattle.papaya_seq_shows.proofs.Kept.{either_rested, either_shown, holds_err, holds_ok}
-use Rattle.papaya_seq_shows.proofs.Shows.{one_shown, capacity_shown, counts, seen_first, seen_held, seen_keeps, shows_done, shows_refused, told_same}
+use Rattle.papaya_seq_shows.proofs.Shows.{one_shown, capacity_shown, counts, few_shown, seen_first, seen_held, seen_keeps, shows_done, shows_refused, told_same}
 use Rattle.papaya_tables.proofs.Classes.{one_class}
 use Rattle.papaya_seq_map.proofs.changes.take.Goals as goal
 
@@ -53,3 +53,7 @@ returns-clause-capacity g c =
 pub returns-clause-steady : goal.returns-clause-steady
 returns-clause-steady g c = λ few.
     let held = c.map.invariant in c.remove.ensures.steady held.0 held.1 (one_shown _ _ c.map.inside.resting.tables _ c.map.view_is few)
+
+pub returns-clause-steady_then : goal.returns-clause-steady_then
+returns-clause-steady_then g c = λ few.
+    let held = c.map.invariant in few_shown _ _ _ (c.remove.ensures.steady_then held.0 held.1 (one_shown _ _ c.map.inside.resting.tables _ c.map.view_is few))

@@ -5,7 +5,7 @@ use Rattle.papaya_asks.specs.Closures.{Removing, TestsAs}
 use Rattle.seize_words.specs.declared.fault.Fault.{Fault}
 use Rattle.papaya_resting.specs.Given.{hashed_by}
 use Rattle.papaya_seq_shows.proofs.Done.{comes_rests, room_alone, shows_changed, shows_unchanged}
-use Rattle.papaya_seq_shows.proofs.Shows.{one_shown, capacity_shown, counts, seen_first, seen_held, seen_keeps}
+use Rattle.papaya_seq_shows.proofs.Shows.{one_shown, capacity_shown, counts, few_shown, seen_first, seen_held, seen_keeps}
 use Rattle.papaya_tables.proofs.Classes.{one_class}
 use Rattle.papaya_seq_map.proofs.testing.take_if.Goals as goal
 
@@ -62,3 +62,7 @@ returns-clause-keeps g c =
 pub returns-clause-steady : goal.returns-clause-steady
 returns-clause-steady g c = λ few.
     let held = c.map.invariant in c.remove_if.ensures.steady held.0 held.1 (one_shown _ _ c.map.inside.resting.tables _ c.map.view_is few)
+
+pub returns-clause-steady_then : goal.returns-clause-steady_then
+returns-clause-steady_then g c = λ few.
+    let held = c.map.invariant in few_shown _ _ _ (c.remove_if.ensures.steady_then held.0 held.1 (one_shown _ _ c.map.inside.resting.tables _ c.map.view_is few))

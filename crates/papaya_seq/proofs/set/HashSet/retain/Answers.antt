@@ -49,3 +49,6 @@ returns-clause-keeps g c =
 
 pub returns-clause-steady : goal.returns-clause-steady
 returns-clause-steady g c = λ few. c.retain.ensures.steady (subst (λ (x : Set g.row.K.Denot g.row.S.Denot). length x.tables ≤ 1) (sym c.self.view_is) few)
+
+pub returns-clause-steady_then : goal.returns-clause-steady_then
+returns-clause-steady_then g c = λ few. c.retain.ensures.steady_then (subst (λ (x : Set g.row.K.Denot g.row.S.Denot). length x.tables ≤ 1) (sym c.self.view_is) few)

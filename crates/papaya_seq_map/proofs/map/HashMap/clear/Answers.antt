@@ -1,7 +1,7 @@
 -- By what the clearing comes to.
 use Rattle.std.specs.Prelude.{[]}
 use Rattle.papaya_resting.proofs.Lasts.{none_in, none_named}
-use Rattle.papaya_seq_shows.proofs.Shows.{one_shown, capacity_shown, counts, either_rests, seen_held, seen_keeps, shows_none, shows_refused}
+use Rattle.papaya_seq_shows.proofs.Shows.{one_shown, capacity_shown, counts, few_shown, either_rests, seen_held, seen_keeps, shows_none, shows_refused}
 use Rattle.papaya_seq_map.proofs.map.HashMap.clear.Goals as goal
 
 pub clear-requires : goal.clear-requires
@@ -45,3 +45,7 @@ returns-clause-keeps g c =
 pub returns-clause-steady : goal.returns-clause-steady
 returns-clause-steady g c = λ few.
     let held = c.self.invariant in c.clear.ensures.steady held.0 held.1 (one_shown _ _ c.self.inside.resting.tables _ c.self.view_is few)
+
+pub returns-clause-steady_then : goal.returns-clause-steady_then
+returns-clause-steady_then g c = λ few.
+    let held = c.self.invariant in few_shown _ _ _ (c.clear.ensures.steady_then held.0 held.1 (one_shown _ _ c.self.inside.resting.tables _ c.self.view_is few))

@@ -9,4 +9,4 @@ returns-in-Some g c =
     let at = c.in-Ok-Kept in
     let e = at.ensures in
     let so = stays c.args.self.now c.take_if.new.map (g.Q.Equivalent.equivalent c.args.asked.now) (TestsAs g.F.FnOnce c.args.test) at.field-0 at.field-0-is e.done e.keeps in
-    ((refl, λ _. tt, (so.3, e.hasher)), record { after = tt; pair = c.in-Some.ensures ∙ so.2 ∙ sym so.1; fault = tt; steady = λ few. refl })
+    ((refl, λ _. tt, ((so.3, e.hasher), e.steady_then)), record { after = tt; pair = c.in-Some.ensures ∙ so.2 ∙ sym so.1; fault = tt; steady = λ few. refl })

@@ -2,7 +2,7 @@
 use Rattle.std.specs.Prelude.{[]}
 use Rattle.papaya_resting.specs.Given.{KeepsOf}
 use Rattle.papaya_resting.proofs.Lasts.{none_in, none_named}
-use Rattle.papaya_seq_shows.proofs.Shows.{one_shown, capacity_shown, counts, seen_held, seen_keeps, shows_kept, shows_passing, shows_refused, some_rest}
+use Rattle.papaya_seq_shows.proofs.Shows.{one_shown, capacity_shown, counts, few_shown, seen_held, seen_keeps, shows_kept, shows_passing, shows_refused, some_rest}
 use Rattle.papaya_seq_map.proofs.map.HashMap.retain.Goals as goal
 
 pub retain-requires-clause-holds : goal.retain-requires-clause-holds
@@ -51,3 +51,7 @@ returns-clause-keeps g c =
 pub returns-clause-steady : goal.returns-clause-steady
 returns-clause-steady g c = λ few.
     let held = c.self.invariant in c.retain.ensures.steady held.0 held.1 (one_shown _ _ c.self.inside.resting.tables _ c.self.view_is few)
+
+pub returns-clause-steady_then : goal.returns-clause-steady_then
+returns-clause-steady_then g c = λ few.
+    let held = c.self.invariant in few_shown _ _ _ (c.retain.ensures.steady_then held.0 held.1 (one_shown _ _ c.self.inside.resting.tables _ c.self.view_is few))

@@ -1,6 +1,0 @@
--- By the lemma on lists.
-use Rattle.papaya_pairs.proofs.ReadBack.{one_object_one_map}
-use Rattle.papaya_pairs.proofs.law.maps_are_read_back.Goals as goal
-
-pub returns : goal.returns
-returns g c = one_object_one_map _ _

@@ -1,6 +1,0 @@
--- By the lemma on lists.
-use Rattle.papaya_pairs.proofs.ReadBack.{one_array_one_set}
-use Rattle.papaya_pairs.proofs.law.sets_are_read_back.Goals as goal
-
-pub returns : goal.returns
-returns g c = one_array_one_set _

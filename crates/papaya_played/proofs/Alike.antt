@@ -1,0 +1,46 @@
+-- What is told alike of two things is told alike of them after the same changes.
+use Rattle.std.specs.Prelude.{◌≢◌, ◌⊎◌, Option, Some, None, option_map}
+use Rattle.std.proofs.Common.{◌≡◌, ℕ, Bool, true, false, inl, inr, refl, ap, sym, ◌∙◌}
+use Rattle.std.proofs.lemmas.Bool.{cases_eq}
+use Rattle.papaya_scenes.specs.Given.Seize.World.{Row, Rests, with_at}
+use Rattle.seize_acts.proofs.Answers.{same_some}
+use Rattle.papaya_scenes.proofs.Given.Callers.Together.At.{at_same, at_other}
+use Rattle.papaya_scenes.specs.Given.Finishes.Maps.{Standing, IsSameMap, with_call}
+use Rattle.papaya_scenes.proofs.Rows.{never_rests}
+use Rattle.papaya_acts.specs.Courses.{set_up}
+use Rattle.papaya_scenes.specs.declared.row.SlotRow.{SlotRow}
+use Rattle.papaya_played.specs.Reached.{row_or_rests}
+
+-- what is there in one is there in the other
+pub there_too : {A B C : Type 0} (f : A → C) (g : B → C) (o : Option A) (p : Option B) → option_map f o ≡ option_map g p → (b : B) → p ≡ Some b → (a : A) × (o ≡ Some a) × (f a ≡ g b)
+there_too f g None p is b e = (let none : None ≡ Some (g b) = is ∙ ap (option_map g) e in absurd (cc none))
+there_too f g (Some a) p is b e = (a, refl, same_some (f a) (g b) (is ∙ ap (option_map g) e))
+
+pub both_at : {X Y Z : Type 0} (f : X → Z) (g : Y → Z) (a : ℕ → X) (b : ℕ → Y) (k : ℕ) (v : X) (w : Y) → f v ≡ g w → ((j : ℕ) → f (a j) ≡ g (b j)) → (j : ℕ) → f (with_at a k v j) ≡ g (with_at b k w j)
+both_at f g a b k v w here others j = by (cases_eq j k)
+  where
+    by : (j ≡ k) ⊎ (j ≢ k) → f (with_at a k v j) ≡ g (with_at b k w j)
+    by (inl e) = ap f (at_same a k v j e) ∙ here ∙ ap g (sym (at_same b k w j e))
+    by (inr ne) = ap f (at_other a k v j ne) ∙ others j ∙ ap g (sym (at_other b k w j ne))
+
+-- the call that has changed, and those of other callers
+module _ {X : Type 0} (calls : ℕ → ℕ → Option X) (m i : ℕ) (it : Option X) where
+  pub its_call : with_call calls m i it m i ≡ it
+  its_call = ap (λ (f : ℕ → Option X). f i) (at_same calls m (with_at (calls m) i it) m refl) ∙ at_same (calls m) i it i refl
+
+  pub others_call : (k j : ℕ) → j ≢ i → with_call calls m i it k j ≡ calls k j
+  others_call k j ne = by (cases_eq k m)
+    where
+      by : (k ≡ m) ⊎ (k ≢ m) → with_call calls m i it k j ≡ calls k j
+      by (inl e) = ap (λ (f : ℕ → Option X). f j) (at_same calls m (with_at (calls m) i it) k e) ∙ at_other (calls m) i it j ne ∙ ap (λ (l : ℕ). calls l j) (sym e)
+      by (inr ne) = ap (λ (f : ℕ → Option X). f j) (at_other calls m (with_at (calls m) i it) k ne)
+
+-- a map that stands as it stood is set up as it was
+pub set_up_so : {K : Type 0} (o p : Option (Standing K)) → IsSameMap o p → option_map set_up o ≡ option_map set_up p
+set_up_so None p is = ap (option_map set_up) (sym is)
+set_up_so (Some s) p (blocks, sights, is, part) = ap (option_map set_up) (sym is)
+
+-- a row that rests is none
+pub none_rests : (o : Option SlotRow) → row_or_rests o ≡ Rests → o ≡ None
+none_rests None e = refl
+none_rests (Some row) e = absurd (never_rests row e)

@@ -1,0 +1,2 @@
+pub mod Play
+pub mod Reached
