@@ -76,7 +76,8 @@ module _ {T : Type 0} (fixed : Fixed) (v u : View T) (slot : ℕ) where
   begun_by : (way : Becomes) (c row : Settle) → IsBegun way c u → row ≡ c → IsBegun way row u
   begun_by way c row is same = subst (λ (r : Settle). IsBegun way r u) (sym same) is
 
-  pub retires_told : (b : ℕ) (row : Settle) → v ≡ Inside slot (Cut b) → Retires fixed v u → row ≡ retiring slot fixed.batch_size (link_to b) → IsBegun Active row u
+  pub retires_told : (b : ℕ) (row : Settle) → v ≡ Inside slot (Cut b) → Retires fixed v u → row ≡ retiring slot fixed.batch_size (link_to b)
+      → IsBegun Active row u
   retires_told b row is so same =
       begun_by Active (retiring slot fixed.batch_size (link_to b)) row (subst (λ (x : View T). Retires fixed x u) is so) same
 

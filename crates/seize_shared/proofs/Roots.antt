@@ -124,7 +124,8 @@ module _ {T : Type 0} (defers : T → Option ℕ) (fixed : Fixed) (s : State T (
       at_view y e = subst (λ (z : Bool). so (Inside t (if z then Nothing else Cut (block_in old)))) e is
 
   -- the block that was made is put at a root
-  links : (b a : ℕ) → w.hand b ≡ world.Making id → (old : ℕ) (m : Mem T) → Wrote defers fixed s id a (link_to b) old m → (so : View T → Type 0) → so (Inside t (cut_in old))
+  links : (b a : ℕ) → w.hand b ≡ world.Making id → (old : ℕ) (m : Mem T) → Wrote defers fixed s id a (link_to b) old m → (so : View T → Type 0)
+      → so (Inside t (cut_in old))
       → Goes H Keeps s m id so
   links b a mine old m wrote so tells =
       let word : ℕ = link_to b in
@@ -166,7 +167,8 @@ module _ {T : Type 0} (defers : T → Option ℕ) (fixed : Fixed) (s : State T (
   exchanges b a old mine so cut other (Exchanged (Ok word)) m took =
       subst (λ (k : ℕ). Goes H Keeps s m id (so (Exchanged (Ok k)))) (sym took.0.1)
       (links b a mine old m
-      (wrote defers fixed s id (Inside t had) h at a (link_to b) old m (Exchange (Root a) old (link_to b)) (Exchanged (Ok word)) tt took (took.0.0 ∙ ap Some took.0.1) took.1)
+      (wrote defers fixed s id (Inside t had) h at a (link_to b) old m (Exchange (Root a) old (link_to b)) (Exchanged (Ok word)) tt took
+      (took.0.0 ∙ ap Some took.0.1) took.1)
       (so (Exchanged (Ok old))) cut)
   exchanges b a old mine so cut other (Exchanged (Err word)) m took =
       looks m (made_beside b (block_in word)) took.1 (beside_known b a word mine took.0.0 (block_in word == 0) refl) (so (Exchanged (Err word))) (other word)

@@ -72,8 +72,8 @@ module _ {T : Type 0} (defers : T → Option ℕ) (fixed : Fixed) (s : State T (
   abbrev H : State T (View T) (World T) → Type 0
   H = Holds defers fixed
 
-  pub wrote : (a word old : ℕ) (m : Mem T) (op : Op T) (out : Out T) → IsOwnOp defers w.memory op → Took s.memory op out m → word_at s.memory (Root a) ≡ Some old
-      → m ≡ with_word s.memory (Root a) word → Wrote defers fixed s id a word old m
+  pub wrote : (a word old : ℕ) (m : Mem T) (op : Op T) (out : Out T) → IsOwnOp defers w.memory op → Took s.memory op out m
+      → word_at s.memory (Root a) ≡ Some old → m ≡ with_word s.memory (Root a) word → Wrote defers fixed s id a word old m
   wrote a word old m op out own took found is =
       let here : Took w.memory op out m = world_took s h.memory op out m took in
       let values : (b : ℕ) → value_at m b ≡ value_at w.memory b =
@@ -92,8 +92,8 @@ module _ {T : Type 0} (defers : T → Option ℕ) (fixed : Fixed) (s : State T (
   rooted_still a word old m wrote = ap length wrote.roots ∙ length_set s.memory.roots a word ∙ h.rooted
 
   -- where a root names a block from now on, each other root is as it was
-  pub roots_now : (a word old : ℕ) (m : Mem T) (hand : ℕ → Hand) → Wrote defers fixed s id a word old m → (block_in word ≡ 0) ⊎ (hand (block_in word) ≡ world.InUse a)
-      → ((b c : ℕ) → c ≢ a → w.hand b ≡ world.InUse c → hand b ≡ world.InUse c) → RootsNameLinked m hand
+  pub roots_now : (a word old : ℕ) (m : Mem T) (hand : ℕ → Hand) → Wrote defers fixed s id a word old m
+      → (block_in word ≡ 0) ⊎ (hand (block_in word) ≡ world.InUse a) → ((b c : ℕ) → c ≢ a → w.hand b ≡ world.InUse c → hand b ≡ world.InUse c) → RootsNameLinked m hand
   roots_now a word old m hand wrote named others c found e =
       by (cases_eq c a) (subst (λ (l : List ℕ). slice_get l c ≡ Some found) wrote.roots e)
     where
@@ -138,7 +138,8 @@ module _ {T : Type 0} (defers : T → Option ℕ) (fixed : Fixed) (s : State T (
   root_can a lt = root_there s.memory.roots a (subst (λ (k : ℕ). a < k) (sym h.rooted) lt)
 
   -- the block that was at the root, if there was one, is unlinked; `n` is the world before that, in which it is linked there
-  pub unlinked : (t a old : ℕ) (m : Mem T) (n : World T) (so : View T → Type 0) → Cuts defers fixed s id t m old so → Users defers fixed s id t m n Nothing → RootsNameLinked m n.hand
+  pub unlinked : (t a old : ℕ) (m : Mem T) (n : World T) (so : View T → Type 0) → Cuts defers fixed s id t m old so → Users defers fixed s id t m n Nothing
+      → RootsNameLinked m n.hand
       → ((b : ℕ) → w.hand b ≡ world.InUse a → n.hand b ≡ world.InUse a)
       → (block_in old ≡ 0) ⊎ (w.hand (block_in old) ≡ world.InUse a)
       → ((c found : ℕ) → word_at m (Root c) ≡ Some found → (block_in found ≡ 0) ⊎ (block_in found ≢ block_in old))
@@ -182,7 +183,8 @@ module _ {T : Type 0} (defers : T → Option ℕ) (fixed : Fixed) (s : State T (
           other c found (inr f) ne = inr (with_other n.hand (block_in old) (block_in found) (world.Cutting id) ne ∙ f)
 
   -- a root is cleared
-  pub clears : (t a old : ℕ) (m : Mem T) → Wrote defers fixed s id a 0 old m → (so : View T → Type 0) → Cuts defers fixed s id t m old so → Goes H Keeps s m id so
+  pub clears : (t a old : ℕ) (m : Mem T) → Wrote defers fixed s id a 0 old m → (so : View T → Type 0) → Cuts defers fixed s id t m old so
+      → Goes H Keeps s m id so
   clears t a old m wrote so goes =
       let n : World T = record w { memory = m } in
       let was = h.roots a old wrote.there in

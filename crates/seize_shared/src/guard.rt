@@ -37,7 +37,8 @@ impl<'a, T: Defers + Drop> Registration<'a, T> {
         self.stay.withdraws(root)
     }
 
-    /// Tries the slot's batch, whatever its length, without a section. A value that is reclaimed is dropped. Where a guard was forgotten its section ends first.
+    /// Tries the slot's batch, whatever its length, without a section. A value that is reclaimed is dropped. Where a guard was forgotten its section ends
+    /// first.
     pub fn flush(&mut self)
         ensures slot { self.new.stay.slot ≡ self.old.stay.slot }
         ensures closed { self.new.stay.inside ≡ false }

@@ -1,6 +1,7 @@
 //! What is promised of the rule of the collector's rows.
 ghost use Rattle.seize_shared.specs.Promises.{RulesStart, SeatsCome, RowsGoOn, RowsTurn, SettlingsBegin, LookedAreShown};
-ghost use Rattle.seize_shared.specs.Promises.{BlocksAreMade, MadeAreTaken, MadeAreLinked, MadeAreExchanged, RootsAreSeen, RootsAreCleared, RootsAreWithdrawn, KnownAreShown};
+ghost use Rattle.seize_shared.specs.Promises.{BlocksAreMade, MadeAreTaken, MadeAreLinked, MadeAreExchanged, KnownAreShown};
+ghost use Rattle.seize_shared.specs.Promises.{RootsAreSeen, RootsAreCleared, RootsAreWithdrawn};
 
 use seize::rows::Defers;
 

@@ -65,7 +65,8 @@ impl<'a, T: Defers + Drop> Stay<'a, T> {
         self.seen = 0;
     }
 
-    /// Looks which block is at a root, and tells whether one is, where its section is open. What was seen before is not known any more, if there is such a root.
+    /// Looks which block is at a root, and tells whether one is, where its section is open. What was seen before is not known any more, if there is such a
+    /// root.
     pub(crate) fn sees(&mut self, root: u64) -> bool
         ensures slot { self.new.slot ≡ self.old.slot }
         ensures inside { self.new.inside ≡ self.old.inside }

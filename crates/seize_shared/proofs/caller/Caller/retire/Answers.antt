@@ -17,7 +17,8 @@ ends-requires g c =
     let row : c.retire.result ≡ retiring c.args.slot fixed.batch_size (link_to c.args.block) =
     c.retire.ensures ∙ ap (λ (n : ℕ). retiring c.args.slot n c.to.result) (sym x.sized)
     ∙ ap (retiring c.args.slot fixed.batch_size) (c.to.ensures ∙ whole_link c.args.block c.requires.fits) in
-    record { begun = (Active, retires_told fixed x.seat.view c.turn.new.seat.view c.args.slot c.args.block c.retire.result c.requires.cut c.turn.ensures.goes row) }
+    let begun = retires_told fixed x.seat.view c.turn.new.seat.view c.args.slot c.args.block c.retire.result c.requires.cut c.turn.ensures.goes row in
+    record { begun = (Active, begun) }
 
 pub returns-clause-inside : goal.returns-clause-inside
 returns-clause-inside g c =

@@ -17,7 +17,8 @@ ends-requires g c =
     let row : c.retire.result ≡ retiring c.args.slot fixed.batch_size (link_to c.args.block) =
     c.retire.ensures ∙ ap (λ (n : ℕ). retiring c.args.slot n c.to.result) (sym x.sized)
     ∙ ap (retiring c.args.slot fixed.batch_size) (c.to.ensures ∙ whole_link c.args.block c.requires.fits) in
-    record { begun = (Idle, retires_idle_told fixed x.seat.view c.turn.new.seat.view c.args.slot c.args.block c.retire.result c.requires.owes c.turn.ensures.goes row) }
+    let begun = retires_idle_told fixed x.seat.view c.turn.new.seat.view c.args.slot c.args.block c.retire.result c.requires.owes c.turn.ensures.goes row in
+    record { begun = (Idle, begun) }
 
 pub returns-clause-outside : goal.returns-clause-outside
 returns-clause-outside g c =
