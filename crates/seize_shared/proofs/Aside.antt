@@ -4,10 +4,10 @@ use Rattle.std.proofs.Common.{◌≡◌, ℕ, refl, subst, ap}
 use Rattle.seize.specs.World.{World, Row, Use}
 use Rattle.seize.specs.World as world
 use Rattle.seize_acts.specs.Waits.{SettlesOn}
-use Rattle.seize_shared.specs.Bounds.{IsAloneOnSlot}
-use Rattle.seize_shared.specs.Rows.{row_of, use_of}
+use Rattle.seize_bounds.specs.Bounds.{IsAloneOnSlot}
+use Rattle.seize_shared.specs.Rows.{row_of, use_of, used_for}
 use Rattle.seize_shared.specs.declared.view.View.{View}
-use Rattle.seize_shared.specs.declared.view.View.TheVariants.{Rests, Registers, Outside, Enters, Inside, Settles, Leaves, Left, Frees}
+use Rattle.seize_shared.specs.declared.view.View.TheVariants.{Rests, Registers, Outside, Owes, Enters, Inside, Settles, Leaves, Left, Frees}
 use Rattle.seize_shared.specs.declared.view.Why.TheVariants.{Retiring, Ending}
 
 -- the slot that the row of a seat settles on is the seat's
@@ -15,9 +15,10 @@ pub settles_used : {T : Type 0} (v : View T) (s : ℕ) → SettlesOn s (row_of v
 settles_used Rests s on = absurd on
 settles_used (Registers c) s on = absurd on
 settles_used (Outside t) s on = absurd on
+settles_used (Owes t b) s on = absurd on
 settles_used (Enters t) s on = absurd on
 settles_used (Inside t has) s on = absurd on
-settles_used (Settles c Retiring seen left) s on = (world.Inside 1, ap (λ (k : ℕ). Some (k, world.Inside 1)) on)
+settles_used (Settles c (Retiring way) seen left) s on = (used_for (Retiring way), ap (λ (k : ℕ). Some (k, used_for (Retiring way))) on)
 settles_used (Settles c (Ending size way) seen left) s on = (world.Changing, ap (λ (k : ℕ). Some (k, world.Changing)) on)
 settles_used (Leaves t size way) s on = (world.Changing, ap (λ (k : ℕ). Some (k, world.Changing)) on)
 settles_used (Left t size way) s on = (world.Changing, ap (λ (k : ℕ). Some (k, world.Changing)) on)

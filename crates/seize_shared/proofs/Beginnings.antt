@@ -24,16 +24,16 @@ use Rattle.seize_rule.proofs.Rows.Others.{with_here, with_other}
 use Rattle.seize_acts.proofs.Answers.{same_some}
 use Rattle.seize_seats.specs.State.{State, view_of, Turns, Comes, Starts}
 use Rattle.seize_acts.specs.Waits.{SettlesOn}
-use Rattle.seize_shared.specs.Begun.{IsBegun}
-use Rattle.seize_shared.specs.Bounds.{IsToTry, IsAloneOnSlot, ArePlain, TriesWithin}
-use Rattle.seize_shared.specs.Rows.{row_of, use_of, leave_of, counting, IsShort, IsUsed, IsKnown, Fits, Came, IsBounded, Holds, Keeps}
-use Rattle.seize_shared.specs.Promises.{IsNext, IsFree, IsLeft, RulesStart, SeatsCome, RowsTurn, SettlingsBegin}
+use Rattle.seize_shared.specs.Begun.{IsBegun, left_with}
+use Rattle.seize_bounds.specs.Bounds.{IsToTry, IsAloneOnSlot, ArePlain, TriesWithin}
+use Rattle.seize_shared.specs.Rows.{row_of, use_of, used_for, leave_of, counting, IsShort, IsUsed, IsKnown, Fits, Came, IsBounded, Holds, Keeps}
+use Rattle.seize_shared.specs.Promises.{IsNext, IsFree, RulesStart, SeatsCome, RowsTurn, SettlingsBegin}
 use Rattle.seize_shared.specs.declared.view.View.{View}
 use Rattle.seize_shared.specs.declared.view.Becomes.{Becomes}
 use Rattle.seize_shared.specs.declared.view.Becomes.TheVariants.{Idle, Active}
-use Rattle.seize_shared.specs.declared.view.View.TheVariants.{Rests, Registers, Outside, Enters, Inside, Settles, Leaves, Left, Frees}
+use Rattle.seize_shared.specs.declared.view.View.TheVariants.{Rests, Registers, Outside, Owes, Enters, Inside, Settles, Leaves, Left, Frees}
 use Rattle.seize_shared.specs.declared.view.Has.{Has}
-use Rattle.seize_shared.specs.declared.view.Has.TheVariants.{Nothing, Made, Seen, Cut}
+use Rattle.seize_shared.specs.declared.view.Has.TheVariants.{Nothing, Made, Seen, Both, Cut}
 use Rattle.seize_shared.specs.declared.view.Why.TheVariants.{Retiring, Ending}
 use Rattle.seize_shared.specs.declared.view.Fixed.{Fixed}
 use Rattle.seize_shared.proofs.Lists.{with_last, none_before}
@@ -41,7 +41,7 @@ use Rattle.seize_shared.proofs.Aside.{has_it}
 use Rattle.seize_shared.proofs.Moved.{moved, used_so}
 use Rattle.seize_shared.proofs.Steps.{alone, begun, came_then, stepped, world_plain}
 use Rattle.seize_shared.proofs.Operations.{used_as, slot_of, same_slot}
-use Rattle.seize_shared.proofs.Tries.Within.{batches_are_tried}
+use Rattle.seize_bounds.proofs.Tries.Within.{batches_are_tried}
 
 not_making_cutting : (j i : ℕ) → world.Making j ≡ world.Cutting i → ⊥
 not_making_cutting j i e = cc e
@@ -141,59 +141,80 @@ module _ {T : Type 0} (defers : T → Option ℕ) (fixed : Fixed) where
           let b = has_it s.world (view_of s) (λ j x e. (h.seats j x e).row) h.unborn h.apart i slot (subst (λ (r : Row). SettlesOn slot r) (rows i ne) other) in
           ne (h.apart i id slot b.1 a b.0 v b.2 at_id b.3 (mine ∙ ap (λ (k : ℕ). used_as k a) (sym on ∙ p)))
 
+  -- how a slot is used on which no row works
+  abbrev resting : Becomes → Use
+  resting Idle = world.Outside 0
+  resting Active = world.Inside 0
+
+  resting_taken : (way : Becomes) → IsTaken (resting way)
+  resting_taken Idle = tt
+  resting_taken Active = tt
+
+  one_works : (way : Becomes) → one_more (resting way) ≡ used_for (Retiring way)
+  one_works Idle = refl
+  one_works Active = refl
+
   -- a block is retired that the seat has unlinked
-  retires : (id t b : ℕ) → Turns H Keeps id (Inside t (Cut b)) (IsBegun (retiring t fixed.batch_size (link_to b)))
-  retires id t b s h at_id =
+  retires : (id t b : ℕ) (way : Becomes) (v : View T) → use_of v ≡ used_as t (resting way) → row_of v ≡ world.Rests
+      → ((w : World T) → IsKnown w id v → w.hand b ≡ world.Cutting id) → Turns H Keeps id v (IsBegun way (retiring t fixed.batch_size (link_to b)))
+  retires id t b way v mine rests cuts s h at_id =
       let c : Settle = retiring t fixed.batch_size (link_to b) in
-      let f = h.seats id (Inside t (Cut b)) at_id in
+      let f = h.seats id v at_id in
+      let slot : s.world.uses t ≡ resting way = used_so s.world (use_of v) t (resting way) f.slot mine in
+      let cut : s.world.hand b ≡ world.Cutting id = cuts s.world f.known in
       let n : World T = with_hand (with_use (with_row s.world id (world.Settles c)) t (one_more (s.world.uses t))) b world.Handed in
       let happens : Happens defers fixed.batch_size (Begin id (Retire t b)) s.world n =
-      (f.row, (subst (λ (a : Use). IsTaken a) (sym f.slot) tt, (id, f.known), refl)) in
-      let k = settles_within s h id t (Inside t (Cut b)) (world.Inside 0) at_id refl c n refl (inl (t, link_to b, refl))
+      (f.row ∙ rests, (subst (λ (a : Use). IsTaken a) (sym slot) (resting_taken way), (id, cut), refl)) in
+      let k = settles_within s h id t v (resting way) at_id mine c n refl (inl (t, link_to b, refl))
       (came_then defers fixed s.world n (Begin id (Retire t b)) h.came happens) (with_here s.world.row id (world.Settles c))
-      (λ j ne. with_other s.world.row id j (world.Settles c) ne) (world_plain defers fixed s id (Inside t (Cut b)) h at_id) in
-      let u : View T = Settles c Retiring None k.0 in
-      moved defers fixed s id (Inside t (Cut b)) u s.memory n (IsBegun c) h at_id
-      (begun defers fixed s id (Inside t (Cut b)) h at_id (Retire t b) u n happens refl refl
+      (λ j ne. with_other s.world.row id j (world.Settles c) ne) (world_plain defers fixed s id v h at_id) in
+      let u : View T = Settles c (Retiring way) None k.0 in
+      moved defers fixed s id v u s.memory n (IsBegun way c) h at_id
+      (begun defers fixed s id v h at_id (Retire t b) u n happens refl refl
       (λ j c ne. (
-        λ is. beside s.world.hand b c (world.Making j) (λ e. not_making_cutting j id (sym is ∙ ap s.world.hand e ∙ f.known)) is,
-        λ is. beside s.world.hand b c (world.Cutting j) (λ e. ne (same_cutting j id (sym is ∙ ap s.world.hand e ∙ f.known))) is,
+        λ is. beside s.world.hand b c (world.Making j) (λ e. not_making_cutting j id (sym is ∙ ap s.world.hand e ∙ cut)) is,
+        λ is. beside s.world.hand b c (world.Cutting j) (λ e. ne (same_cutting j id (sym is ∙ ap s.world.hand e ∙ cut))) is,
       ))
-      (λ c r is. beside s.world.hand b c (world.InUse r) (λ e. not_use_cutting r id (sym is ∙ ap s.world.hand e ∙ f.known)) is)
+      (λ c r is. beside s.world.hand b c (world.InUse r) (λ e. not_use_cutting r id (sym is ∙ ap s.world.hand e ∙ cut)) is)
       (λ j ne. with_other s.world.row id j (world.Settles c) ne)
-      (λ x apart. with_other s.world.uses t x (one_more (s.world.uses t)) (λ e. apart (world.Inside 0) (ap (λ (k : ℕ). used_as k (world.Inside 0)) (sym e))))
+      (λ x apart. with_other s.world.uses t x (one_more (s.world.uses t))
+      (λ e. apart (resting way) (mine ∙ ap (λ (k : ℕ). used_as k (resting way)) (sym e))))
       (record {
         row = with_here s.world.row id (world.Settles c);
-        slot = with_here s.world.uses t (one_more (s.world.uses t)) ∙ ap one_more f.slot;
+        slot = with_here s.world.uses t (one_more (s.world.uses t)) ∙ ap one_more slot ∙ one_works way;
         short = tt;
         known = tt;
       })
-      (λ x a e. same_slot t x (world.Inside 1) a (world.Inside 0) e) k.1)
+      (λ x a e. (resting way, mine ∙ ap (λ (k : ℕ). used_as k (resting way)) (slot_of (t, used_for (Retiring way)) (x, a) e))) k.1)
       (k.0, refl)
 
   -- the batch is tried
-  flushes : (id t : ℕ) (has : Has) → Turns H Keeps id (Inside t has) (IsBegun (flushing t fixed.batch_size))
-  flushes id t has s h at_id =
+  flushes : (id t : ℕ) (way : Becomes) (v : View T) → use_of v ≡ used_as t (resting way) → row_of v ≡ world.Rests
+      → Turns H Keeps id v (IsBegun way (flushing t fixed.batch_size))
+  flushes id t way v mine rests s h at_id =
       let c : Settle = flushing t fixed.batch_size in
-      let f = h.seats id (Inside t has) at_id in
+      let f = h.seats id v at_id in
+      let slot : s.world.uses t ≡ resting way = used_so s.world (use_of v) t (resting way) f.slot mine in
       let n : World T = with_use (with_row s.world id (world.Settles c)) t (one_more (s.world.uses t)) in
-      let happens : Happens defers fixed.batch_size (Begin id (Flush t)) s.world n = (f.row, (subst (λ (a : Use). IsTaken a) (sym f.slot) tt, refl)) in
-      let k = settles_within s h id t (Inside t has) (world.Inside 0) at_id refl c n refl (inr (t, refl))
+      let happens : Happens defers fixed.batch_size (Begin id (Flush t)) s.world n =
+      (f.row ∙ rests, (subst (λ (a : Use). IsTaken a) (sym slot) (resting_taken way), refl)) in
+      let k = settles_within s h id t v (resting way) at_id mine c n refl (inr (t, refl))
       (came_then defers fixed s.world n (Begin id (Flush t)) h.came happens) (with_here s.world.row id (world.Settles c))
-      (λ j ne. with_other s.world.row id j (world.Settles c) ne) (world_plain defers fixed s id (Inside t has) h at_id) in
-      let u : View T = Settles c Retiring None k.0 in
-      moved defers fixed s id (Inside t has) u s.memory n (IsBegun c) h at_id
-      (begun defers fixed s id (Inside t has) h at_id (Flush t) u n happens refl refl
+      (λ j ne. with_other s.world.row id j (world.Settles c) ne) (world_plain defers fixed s id v h at_id) in
+      let u : View T = Settles c (Retiring way) None k.0 in
+      moved defers fixed s id v u s.memory n (IsBegun way c) h at_id
+      (begun defers fixed s id v h at_id (Flush t) u n happens refl refl
       (λ j c ne. (λ is. is, λ is. is)) (λ c r is. is)
       (λ j ne. with_other s.world.row id j (world.Settles c) ne)
-      (λ x apart. with_other s.world.uses t x (one_more (s.world.uses t)) (λ e. apart (world.Inside 0) (ap (λ (k : ℕ). used_as k (world.Inside 0)) (sym e))))
+      (λ x apart. with_other s.world.uses t x (one_more (s.world.uses t))
+      (λ e. apart (resting way) (mine ∙ ap (λ (k : ℕ). used_as k (resting way)) (sym e))))
       (record {
         row = with_here s.world.row id (world.Settles c);
-        slot = with_here s.world.uses t (one_more (s.world.uses t)) ∙ ap one_more f.slot;
+        slot = with_here s.world.uses t (one_more (s.world.uses t)) ∙ ap one_more slot ∙ one_works way;
         short = tt;
         known = tt;
       })
-      (λ x a e. same_slot t x (world.Inside 1) a (world.Inside 0) e) k.1)
+      (λ x a e. (resting way, mine ∙ ap (λ (k : ℕ). used_as k (resting way)) (slot_of (t, used_for (Retiring way)) (x, a) e))) k.1)
       (k.0, refl)
 
   goes_free : (id t : ℕ) (has : Has) (u : View T) → IsFree fixed t u → Turns H Keeps id (Inside t has) (λ x. x ≡ u)
@@ -214,23 +235,33 @@ module _ {T : Type 0} (defers : T → Option ℕ) (fixed : Fixed) where
       (λ t b e. absurd (cc e)) tt)
       refl
 
-  -- a settling that is over ends
-  settled_ends : (id : ℕ) (c : Settle) (seen : Option (ℕ × T)) (left : ℕ) → c.stands ≡ settling_at.Over
-      → Turns H Keeps id (Settles c Retiring seen left) (λ x. x ≡ Inside c.slot Nothing)
-  settled_ends id c seen left over s h at_id =
-      let v : View T = Settles c Retiring seen left in let u : View T = Inside c.slot Nothing in
+  -- a settling that is over ends, and its seat stands as before
+  ended_slot : (way : Becomes) (w n : World T) (id t : ℕ) → n.uses t ≡ one_less (w.uses t) → w.uses t ≡ used_for (Retiring way) → n.row id ≡ world.Rests
+      → Fits n id (left_with {T = T} way t)
+  ended_slot Idle w n id t after is row = record { row = row; slot = after ∙ ap one_less is; short = tt; known = tt }
+  ended_slot Active w n id t after is row = record { row = row; slot = after ∙ ap one_less is; short = tt; known = tt }
+
+  ended_use : (way : Becomes) (t x : ℕ) (b : Use) → use_of {T = T} (left_with way t) ≡ used_as x b
+      → (d : Use) × (used_as t (used_for (Retiring way)) ≡ used_as x d)
+  ended_use Idle t x b e = same_slot t x (world.Outside 0) b (world.Outside 1) e
+  ended_use Active t x b e = same_slot t x (world.Inside 0) b (world.Inside 1) e
+
+  ended_bound : (way : Becomes) (w : World T) (id t : ℕ) → IsBounded defers fixed w id (left_with way t)
+  ended_bound Idle w id t = tt
+  ended_bound Active w id t = tt
+
+  settled_ends : (id : ℕ) (c : Settle) (way : Becomes) (seen : Option (ℕ × T)) (left : ℕ) (u : View T) → c.stands ≡ settling_at.Over → u ≡ left_with way c.slot
+      → Turns H Keeps id (Settles c (Retiring way) seen left) (λ x. x ≡ u)
+  settled_ends id c way seen left u over is s h at_id =
+      let v : View T = Settles c (Retiring way) seen left in let x : View T = left_with way c.slot in
       let n : World T = settles_on s.world id c s.world.memory (c, settled.Done) in
-      moved defers fixed s id v u s.memory n (λ x. x ≡ u) h at_id
-      (stepped defers fixed s id v h at_id u s.memory n
+      moved defers fixed s id v x s.memory n (λ y. y ≡ u) h at_id
+      (stepped defers fixed s id v h at_id x s.memory n
       (s.world.memory, (c, settled.Done), over_step defers c s.world.memory (c, settled.Done) over (refl, refl), refl) h.memory
-      (record {
-        row = with_here s.world.row id world.Rests;
-        slot = with_here s.world.uses c.slot (one_less (s.world.uses c.slot)) ∙ ap one_less (h.seats id v at_id).slot;
-        short = tt;
-        known = tt;
-      })
-      (alone defers fixed s id v h at_id u (λ x b e. same_slot c.slot x (world.Inside 0) b (world.Inside 1) e)) tt)
-      refl
+      (ended_slot way s.world n id c.slot (with_here s.world.uses c.slot (one_less (s.world.uses c.slot))) (h.seats id v at_id).slot
+      (with_here s.world.row id world.Rests))
+      (alone defers fixed s id v h at_id x (λ t b e. ended_use way c.slot t b e)) (ended_bound way n id c.slot))
+      (sym is)
 
   counted_ends : (id : ℕ) (c : Settle) (size : ℕ) (way : Becomes) (seen : Option (ℕ × T)) (left : ℕ) → c.stands ≡ settling_at.Over
       → Turns H Keeps id (Settles c (Ending size way) seen left) (λ x. x ≡ Left c.slot size way)
@@ -256,7 +287,7 @@ module _ {T : Type 0} (defers : T → Option ℕ) (fixed : Fixed) where
       refl
 
   -- the row of a seat that has left ends
-  ends : (id t size : ℕ) (way : Becomes) (u : View T) → IsLeft way t u → Turns H Keeps id (Left t size way) (λ x. x ≡ u)
+  ends : (id t size : ℕ) (way : Becomes) (u : View T) → u ≡ left_with way t → Turns H Keeps id (Left t size way) (λ x. x ≡ u)
   ends id t size Idle u is s h at_id =
       let v : View T = Left t size Idle in
       let d : Leave = standing (leave_of t size Idle) leaving_at.Over in
@@ -286,8 +317,9 @@ module _ {T : Type 0} (defers : T → Option ℕ) (fixed : Fixed) where
   turns id (Inside t (Seen b)) u is = goes_free id t (Seen b) u is
   turns id (Inside t (Cut b)) u is = absurd is
   turns id (Inside t (Made b)) u is = absurd is
-  turns id (Settles c Retiring seen left) u is =
-      subst (λ (y : View T). Turns H Keeps id (Settles c Retiring seen left) (λ x. x ≡ y)) (sym is.1) (settled_ends id c seen left is.0)
+  turns id (Inside t (Both b a)) u is = absurd is
+  turns id (Owes t b) u is = absurd is
+  turns id (Settles c (Retiring way) seen left) u is = settled_ends id c way seen left u is.0 is.1
   turns id (Settles c (Ending size way) seen left) u is =
       subst (λ (y : View T). Turns H Keeps id (Settles c (Ending size way) seen left) (λ x. x ≡ y)) (sym is.1) (counted_ends id c size way seen left is.0)
   turns id (Leaves t size way) u is = absurd is
@@ -361,18 +393,32 @@ module _ (T : Type 0) (defers : T → Option ℕ) where
   rows_turn fixed id v u is = turns defers fixed id v u is
 
   pub settlings_begin : SettlingsBegin T defers
-  settlings_begin fixed id (Inside t (Cut b)) c is =
-      subst (λ (d : Settle). Turns (Holds defers fixed) Keeps id (Inside t (Cut b)) (IsBegun d)) (sym is) (retires defers fixed id t b)
-  settlings_begin fixed id (Inside t Nothing) c is =
-      subst (λ (d : Settle). Turns (Holds defers fixed) Keeps id (Inside t Nothing) (IsBegun d)) (sym is) (flushes defers fixed id t Nothing)
-  settlings_begin fixed id (Inside t (Seen b)) c is =
-      subst (λ (d : Settle). Turns (Holds defers fixed) Keeps id (Inside t (Seen b)) (IsBegun d)) (sym is) (flushes defers fixed id t (Seen b))
-  settlings_begin fixed id (Inside t (Made b)) c is = absurd is
-  settlings_begin fixed id Rests c is = absurd is
-  settlings_begin fixed id (Registers d) c is = absurd is
-  settlings_begin fixed id (Outside t) c is = absurd is
-  settlings_begin fixed id (Enters t) c is = absurd is
-  settlings_begin fixed id (Settles d why seen left) c is = absurd is
-  settlings_begin fixed id (Leaves t size way) c is = absurd is
-  settlings_begin fixed id (Left t size way) c is = absurd is
-  settlings_begin fixed id (Frees t) c is = absurd is
+  settlings_begin fixed id (Inside t (Cut b)) Active c is =
+      subst (λ (d : Settle). Turns (Holds defers fixed) Keeps id (Inside t (Cut b)) (IsBegun Active d)) (sym is)
+      (retires defers fixed id t b Active (Inside t (Cut b)) refl refl (λ w known. known))
+  settlings_begin fixed id (Inside t Nothing) Active c is =
+      subst (λ (d : Settle). Turns (Holds defers fixed) Keeps id (Inside t Nothing) (IsBegun Active d)) (sym is)
+      (flushes defers fixed id t Active (Inside t Nothing) refl refl)
+  settlings_begin fixed id (Inside t (Seen b)) Active c is =
+      subst (λ (d : Settle). Turns (Holds defers fixed) Keeps id (Inside t (Seen b)) (IsBegun Active d)) (sym is)
+      (flushes defers fixed id t Active (Inside t (Seen b)) refl refl)
+  settlings_begin fixed id (Owes t b) Idle c is =
+      subst (λ (d : Settle). Turns (Holds defers fixed) Keeps id (Owes t b) (IsBegun Idle d)) (sym is)
+      (retires defers fixed id t b Idle (Owes t b) refl refl (λ w known. known))
+  settlings_begin fixed id (Outside t) Idle c is =
+      subst (λ (d : Settle). Turns (Holds defers fixed) Keeps id (Outside t) (IsBegun Idle d)) (sym is)
+      (flushes defers fixed id t Idle (Outside t) refl refl)
+  settlings_begin fixed id (Inside t (Cut b)) Idle c is = absurd is
+  settlings_begin fixed id (Inside t Nothing) Idle c is = absurd is
+  settlings_begin fixed id (Inside t (Seen b)) Idle c is = absurd is
+  settlings_begin fixed id (Inside t (Made b)) way c is = absurd is
+  settlings_begin fixed id (Inside t (Both b a)) way c is = absurd is
+  settlings_begin fixed id (Owes t b) Active c is = absurd is
+  settlings_begin fixed id (Outside t) Active c is = absurd is
+  settlings_begin fixed id Rests way c is = absurd is
+  settlings_begin fixed id (Registers d) way c is = absurd is
+  settlings_begin fixed id (Enters t) way c is = absurd is
+  settlings_begin fixed id (Settles d why seen left) way c is = absurd is
+  settlings_begin fixed id (Leaves t size x) way c is = absurd is
+  settlings_begin fixed id (Left t size x) way c is = absurd is
+  settlings_begin fixed id (Frees t) way c is = absurd is

@@ -1,5 +1,5 @@
 -- Within a section a block is made, looked at, and taken away.
-use Rattle.std.specs.Prelude.{◌≢◌, Option, Some, None, IsSome, Ok, Err, length}
+use Rattle.std.specs.Prelude.{◌≢◌, ◌<◌, ◌^◌, Option, Some, None, IsSome, Ok, Err, length}
 use Rattle.std.proofs.Common.{◌≡◌, ℕ, Bool, true, false, cond, eqb, ◌⊎◌, inl, inr, refl, sym, subst, ap, ◌∙◌}
 use Rattle.std.proofs.lemmas.Bool.{cases_eq}
 use Rattle.seize_words.specs.Mem.{Mem, Took, value_at}
@@ -16,17 +16,18 @@ use Rattle.seize_alone.proofs.Histories.Reached.{Reached}
 use Rattle.seize_alone.proofs.Histories.NotTaken.{IsHad, IsHeld, kept_there}
 use Rattle.seize_acts.proofs.Answers.{same_some}
 use Rattle.seize_seats.specs.State.{State, view_of, Goes}
-use Rattle.seize_shared.specs.Bounds.{ArePlain}
+use Rattle.seize_bounds.specs.Bounds.{ArePlain}
 use Rattle.seize_shared.specs.Rows.{IsInHand, Fits, Holds, Keeps}
 use Rattle.seize_shared.specs.Told.{told}
 use Rattle.seize_shared.specs.Promises.{Names, BlocksAreMade, MadeAreTaken, KnownAreShown}
+use Rattle.seize.specs.Law.{holds}
 use Rattle.seize_shared.specs.declared.view.View.{View}
 use Rattle.seize_shared.specs.declared.view.View.TheVariants.{Inside}
 use Rattle.seize_shared.specs.declared.view.Has.{Has}
-use Rattle.seize_shared.specs.declared.view.Has.TheVariants.{Nothing, Made, Seen, Cut}
+use Rattle.seize_shared.specs.declared.view.Has.TheVariants.{Nothing, Made, Seen, Both, Cut}
 use Rattle.seize_shared.specs.declared.view.Fixed.{Fixed}
 use Rattle.seize_shared.proofs.Steps.{came_then, of_users, reached, roots_kept, world_roots, world_rooted, world_plain}
-use Rattle.seize_shared.proofs.Users.{apart_making, cutting_making, use_making, beside, world_took, making_not_held, passes_one, users}
+use Rattle.seize_shared.proofs.Users.{apart_making, cutting_making, use_making, beside, same_hand, world_took, making_not_held, passes_one, users}
 
 module _ {T : Type 0} (defers : T → Option ℕ) where
   taken_none : (m : Mem T) (b : ℕ) (x : T) (m2 : Mem T) → Took m (Take b) (Taken x) m2 → value_at m2 b ≡ None
@@ -77,23 +78,26 @@ module _ {T : Type 0} (defers : T → Option ℕ) (fixed : Fixed) (s : State T (
   plain_left b value m took c x e =
       world_plain defers fixed s id (Inside t had) h at c x (sym (value_left defers w.memory b c value m took (subst IsSome (sym e) refl) (cases_eq c b)) ∙ e)
 
-  -- a block is made
+  -- a block is made, beside what the seat knew
 
-  makes : had ≡ Nothing → (value : T) (words : ℕ) → defers value ≡ None → (out : Out T) (m : Mem T) → Took s.memory (Make value words) out m
-      → Goes H Keeps s m id (told defers (Inside t Nothing) (Make value words) out)
-  makes none value words list (OutMade (Ok b)) m took =
+  makes : (value : T) (words : ℕ) → defers value ≡ None → (after : ℕ → Has)
+      → ((b : ℕ) (n : World T) → n.hand b ≡ world.Making id → ((c : ℕ) → holds t c w.log ≡ true → holds t c n.log ≡ true) → IsInHand n id t (after b))
+      → (so : Out T → View T → Type 0) → ((b : ℕ) → b < 2 ^ 53 → so (OutMade (Ok b)) (Inside t (after b)))
+      → ((back : T) → back ≡ value → so (OutMade (Err back)) (Inside t had)) → (out : Out T) (m : Mem T) → Took s.memory (Make value words) out m
+      → Goes H Keeps s m id (so out)
+  makes value words list after hand so tells refused (OutMade (Ok b)) m took =
       let op : Op T = Make value words in let out : Out T = OutMade (Ok b) in
       let n : World T = made_by defers w id m out in
       let here = world_took s h.memory op out m took in
       let free = (made_one w.memory value words b here.0.0).was_free in
-      users defers fixed s id t had h at m n (Made b) (record {
+      users defers fixed s id t h had at m n (after b) (record {
         came =
             came_then defers fixed w n (Makes id value words) h.came
             (out, m, subst (λ (o : Option ℕ). HasListWord defers o words) (sym list) tt, here, refl);
         memory = refl;
         row = refl;
         uses = refl;
-        in_hand = with_here w.hand b (world.Making id);
+        in_hand = hand b n (with_here w.hand b (world.Making id)) (λ c held. held);
         hands = λ j c ne. (
           λ is. beside w b c (world.Making id) (world.Making j) (λ e. free_hand b (world.Making j) tt free e) is,
           λ is. beside w b c (world.Making id) (world.Cutting j) (λ e. free_hand b (world.Cutting j) tt free e) is,
@@ -108,19 +112,19 @@ module _ {T : Type 0} (defers : T → Option ℕ) (fixed : Fixed) (s : State T (
         plain = plain_made b value words m list here;
         passes = passes_one defers fixed s id t (Makes id value words) n (λ j. tt)
             (out, m, subst (λ (o : Option ℕ). HasListWord defers o words) (sym list) tt, here, refl) (plain_made b value words m list here);
-      }) (told defers (Inside t Nothing) op out) (Made b, (took.0.1, refl), refl)
-  makes none value words list (OutMade (Err back)) m took =
+      }) (so out) (tells b took.0.1)
+  makes value words list after hand so tells refused (OutMade (Err back)) m took =
       let op : Op T = Make value words in let out : Out T = OutMade (Err back) in
       let n : World T = made_by defers w id m out in
       let here = world_took s h.memory op out m took in
-      users defers fixed s id t had h at m n Nothing (record {
+      users defers fixed s id t h had at m n had (record {
         came =
             came_then defers fixed w n (Makes id value words) h.came
             (out, m, subst (λ (o : Option ℕ). HasListWord defers o words) (sym list) tt, here, refl);
         memory = refl;
         row = refl;
         uses = refl;
-        in_hand = tt;
+        in_hand = same_hand w n id t refl (λ c held. held) had fit.known;
         hands = λ j c ne. (λ is. is, λ is. is);
         values = λ c some some2. made_value defers w.memory c value words out m some here;
         held = λ a c held. held;
@@ -130,12 +134,12 @@ module _ {T : Type 0} (defers : T → Option ℕ) (fixed : Fixed) (s : State T (
         plain = plain_same m here.1;
         passes = passes_one defers fixed s id t (Makes id value words) n (λ j. tt)
             (out, m, subst (λ (o : Option ℕ). HasListWord defers o words) (sym list) tt, here, refl) (plain_same m here.1);
-      }) (told defers (Inside t Nothing) op out) (Nothing, (took.0, refl), refl)
-  makes none value words list (Found x) m took = absurd took.0
-  makes none value words list Stored m took = absurd took.0
-  makes none value words list (Exchanged x) m took = absurd took.0
-  makes none value words list (Taken x) m took = absurd took.0
-  makes none value words list (Roomed x) m took = absurd took.0
+      }) (so out) (refused back took.0)
+  makes value words list after hand so tells refused (Found x) m took = absurd took.0
+  makes value words list after hand so tells refused Stored m took = absurd took.0
+  makes value words list after hand so tells refused (Exchanged x) m took = absurd took.0
+  makes value words list after hand so tells refused (Taken x) m took = absurd took.0
+  makes value words list after hand so tells refused (Roomed x) m took = absurd took.0
 
   -- the block that is known is there
 
@@ -144,26 +148,31 @@ module _ {T : Type 0} (defers : T → Option ℕ) (fixed : Fixed) (s : State T (
   known_there (Made c) b is names =
       subst (λ (a : ℕ). IsSome (value_at w.memory a)) names (kept_there defers fixed.batch_size w r c (IsHad (of_users w.hand c (world.Making id) tt is)))
   known_there (Seen c) b is names = subst (λ (a : ℕ). IsSome (value_at w.memory a)) names (kept_there defers fixed.batch_size w r c (IsHeld t is))
+  known_there (Both c a) b is (inl names) =
+      subst (λ (k : ℕ). IsSome (value_at w.memory k)) names (kept_there defers fixed.batch_size w r c (IsHad (of_users w.hand c (world.Making id) tt is.0)))
+  known_there (Both c a) b is (inr names) = subst (λ (k : ℕ). IsSome (value_at w.memory k)) names (kept_there defers fixed.batch_size w r a (IsHeld t is.1))
   known_there (Cut c) b is names =
       subst (λ (a : ℕ). IsSome (value_at w.memory a)) names (kept_there defers fixed.batch_size w r c (IsHad (of_users w.hand c (world.Cutting id) tt is)))
 
   shown : (b : ℕ) → Names had b → IsSome (value_at s.memory b)
   shown b names = subst (λ (m : Mem T). IsSome (value_at m b)) (sym h.memory) (known_there had b fit.known names)
 
-  -- the block that was made is taken away
+  -- the block that was made is taken away, and the seat knows what it knew beside
 
-  takes : (b : ℕ) → had ≡ Made b → (out : Out T) (m : Mem T) → Took s.memory (Take b) out m → Goes H Keeps s m id (told defers (Inside t (Made b)) (Take b) out)
-  takes b is (Taken value) m took =
+  takes : (b : ℕ) → w.hand b ≡ world.Making id → (after : Has)
+      → ((n : World T) → ((c : ℕ) → holds t c w.log ≡ true → holds t c n.log ≡ true) → IsInHand n id t after)
+      → (so : Out T → View T → Type 0) → ((value : T) → so (Taken value) (Inside t after)) → (out : Out T) (m : Mem T) → Took s.memory (Take b) out m
+      → Goes H Keeps s m id (so out)
+  takes b mine after hand so tells (Taken value) m took =
       let op : Op T = Take b in let out : Out T = Taken value in
-      let mine : w.hand b ≡ world.Making id = subst (λ (a : Has). IsInHand w id t a) is fit.known in
       let n : World T = with_effect (with_hand (record w { memory = m }) b world.NoBlock) (Dropped b) in
       let here = world_took s h.memory op out m took in
-      users defers fixed s id t had h at m n Nothing (record {
+      users defers fixed s id t h had at m n after (record {
         came = came_then defers fixed w n (Drops id b) h.came (out, m, (id, mine), here, refl);
         memory = refl;
         row = refl;
         uses = refl;
-        in_hand = tt;
+        in_hand = hand n (λ c held. held_beside t c b w.log (making_not_held defers fixed.batch_size w r id t b c held mine) held);
         hands = λ j c ne. (
           λ had. beside w b c world.NoBlock (world.Making j) (λ e. ne (apart_making j id (e ∙ mine))) had,
           λ had. beside w b c world.NoBlock (world.Cutting j) (λ e. cutting_making j id (e ∙ mine)) had,
@@ -176,20 +185,45 @@ module _ {T : Type 0} (defers : T → Option ℕ) (fixed : Fixed) (s : State T (
         rooted = ap (λ (x : Mem T). length x.roots) here.1 ∙ world_rooted defers fixed s id (Inside t had) h at;
         plain = plain_left b value m here;
         passes = passes_one defers fixed s id t (Drops id b) n (λ j. tt) (out, m, (id, mine), here, refl) (plain_left b value m here);
-      }) (told defers (Inside t (Made b)) op out) (Nothing, refl, refl)
-  takes b is (Found x) m took = absurd took.0
-  takes b is Stored m took = absurd took.0
-  takes b is (Exchanged x) m took = absurd took.0
-  takes b is (OutMade x) m took = absurd took.0
-  takes b is (Roomed x) m took = absurd took.0
+      }) (so out) (tells value)
+  takes b mine after hand so tells (Found x) m took = absurd took.0
+  takes b mine after hand so tells Stored m took = absurd took.0
+  takes b mine after hand so tells (Exchanged x) m took = absurd took.0
+  takes b mine after hand so tells (OutMade x) m took = absurd took.0
+  takes b mine after hand so tells (Roomed x) m took = absurd took.0
 
 module _ (T : Type 0) (defers : T → Option ℕ) where
   pub blocks_are_made : BlocksAreMade T defers
-  blocks_are_made value words list fixed id t s h at = (tt, λ out m took. makes defers fixed s id t Nothing h at refl value words list out m took)
+  blocks_are_made Nothing value words looks list fixed id t s h at = (
+    tt,
+    makes defers fixed s id t Nothing h at value words list Made (λ b n mine held. mine) (told defers (Inside t Nothing) (Make value words))
+        (λ b lt. (Made b, (lt, refl), refl)) (λ back same. (Nothing, (same, refl), refl)),
+  )
+  blocks_are_made (Seen a) value words looks list fixed id t s h at = (
+    tt,
+    makes defers fixed s id t (Seen a) h at value words list (λ b. Both b a) (λ b n mine held. (mine, held a (h.seats id (Inside t (Seen a)) at).known))
+        (told defers (Inside t (Seen a)) (Make value words)) (λ b lt. (Both b a, (lt, refl), refl)) (λ back same. (Seen a, (same, refl), refl)),
+  )
+  blocks_are_made (Made b) value words looks list fixed id t s h at = absurd looks
+  blocks_are_made (Both b a) value words looks list fixed id t s h at = absurd looks
+  blocks_are_made (Cut b) value words looks list fixed id t s h at = absurd looks
 
   pub made_are_taken : MadeAreTaken T defers
-  made_are_taken b fixed id t s h at =
-      (shown defers fixed s id t (Made b) h at b refl, λ out m took. takes defers fixed s id t (Made b) h at b refl out m took)
+  made_are_taken (Made c) b is fixed id t s h at =
+      let mine = subst (λ (k : ℕ). s.world.hand k ≡ world.Making id) is (h.seats id (Inside t (Made c)) at).known in (
+        shown defers fixed s id t (Made c) h at b is,
+        takes defers fixed s id t (Made c) h at b mine Nothing (λ n held. tt) (told defers (Inside t (Made c)) (Take b)) (λ value. (Nothing, refl, refl)),
+      )
+  made_are_taken (Both c a) b is fixed id t s h at =
+      let known = (h.seats id (Inside t (Both c a)) at).known in
+      let mine = subst (λ (k : ℕ). s.world.hand k ≡ world.Making id) is known.0 in (
+        shown defers fixed s id t (Both c a) h at b (inl is),
+        takes defers fixed s id t (Both c a) h at b mine (Seen a) (λ n held. held a known.1) (told defers (Inside t (Both c a)) (Take b))
+            (λ value. (Seen a, refl, refl)),
+      )
+  made_are_taken Nothing b is fixed id t s h at = absurd is
+  made_are_taken (Seen a) b is fixed id t s h at = absurd is
+  made_are_taken (Cut a) b is fixed id t s h at = absurd is
 
   pub known_are_shown : KnownAreShown T defers
   known_are_shown has b fixed id t names s h at = shown defers fixed s id t has h at b names

@@ -1,8 +1,8 @@
 -- What a call of the shared memory asks for: by what the seat knows, its turn or operation is next.
-use Rattle.std.specs.Prelude.{◌<◌, ◌≤◌, Option, Some, None, nat_lt, if◌then◌else◌}
+use Rattle.std.specs.Prelude.{◌<◌, ◌≤◌, ◌==◌, Option, Some, None, Ok, Err, nat_lt, if◌then◌else◌}
 use Rattle.std.proofs.Common.{◌≡◌, ℕ, ◌^◌, ◌%◌, Bool, true, false, refl, sym, subst, ap, ◌∙◌, arith}
 use Rattle.std.proofs.lemmas.Bool.{eq-eqb, ne_eqb}
-use Rattle.seize_words.specs.Op.{Op, Load, Swap, Make, Take, Found}
+use Rattle.seize_words.specs.Op.{Op, Load, Swap, Exchange, Make, Take, Found, Exchanged, Made as OutMade, Taken}
 use Rattle.seize_words.specs.Word.{block_in, link_to}
 use Rattle.seize_words.specs.declared.at.At.TheVariants.{Root, Slot}
 use Rattle.seize.specs.declared.states.TheConstants.{HEAD, ACTIVE}
@@ -12,21 +12,22 @@ use Rattle.seize_seats.specs.Lendings.{Shown}
 use Rattle.seize_seats.specs.State.{Allows, Turns}
 use Rattle.seize_shared.specs.Begun.{leaving, refreshes, IsBegun, Retires, Flushes, Makes}
 use Rattle.seize_shared.specs.Made.{IsSettling}
-use Rattle.seize_shared.specs.Promises.{Names, IsLooking, IsNext, op_of}
+use Rattle.seize_shared.specs.Promises.{Names, HasMade, IsLooking, IsNext, op_of}
 use Rattle.seize_shared.specs.Rows.{Holds, Keeps}
-use Rattle.seize_shared.specs.Told.{list_taken, cut_in, seen_in, told}
+use Rattle.seize_shared.specs.Told.{list_taken, owes_in, cut_in, seen_in, seen_as, cut_as, made_beside, told}
 use Rattle.seize_shared.specs.declared.view.View.{View}
 use Rattle.seize_shared.specs.declared.view.Becomes.{Becomes}
 use Rattle.seize_shared.specs.declared.view.Becomes.TheVariants.{Idle, Active}
-use Rattle.seize_shared.specs.declared.view.View.TheVariants.{Inside, Settles, Leaves, Left}
+use Rattle.seize_shared.specs.declared.view.View.TheVariants.{Outside, Owes, Inside, Settles, Leaves, Left}
 use Rattle.seize_shared.specs.declared.view.Has.{Has}
-use Rattle.seize_shared.specs.declared.view.Has.TheVariants.{Nothing, Made, Seen, Cut}
+use Rattle.seize_shared.specs.declared.view.Has.TheVariants.{Nothing, Made, Seen, Both, Cut}
 use Rattle.seize_shared.specs.declared.view.Why.TheVariants.{Retiring, Ending}
 use Rattle.seize_shared.specs.declared.view.Fixed.{Fixed}
 use Rattle.seize_shared.proofs.Beginnings.{rows_turn, settlings_begin}
 use Rattle.seize_shared.proofs.GoesOn.{rows_go_on}
 use Rattle.seize_shared.proofs.Blocks.{blocks_are_made, made_are_taken, known_are_shown}
-use Rattle.seize_shared.proofs.Roots.{made_are_linked, roots_are_cleared, roots_are_seen}
+use Rattle.seize_shared.proofs.Roots.{made_are_linked, made_are_exchanged, roots_are_cleared, roots_are_seen, roots_are_withdrawn}
+use Rattle.seize_shared.proofs.Written.{block_of_link}
 
 -- the word that links to a block whose number is small enough
 pub whole_link : (b : ℕ) → b < 2 ^ 53 → link_to b % 2 ^ 64 ≡ link_to b
@@ -47,33 +48,61 @@ module _ {T : Type 0} (defers : T → Option ℕ) (fixed : Fixed) (id : ℕ) (v 
   pub may_retire : (b : ℕ) → v ≡ Inside slot (Cut b) → Turns (Holds defers fixed) Keeps id v (Retires fixed v)
   may_retire b is =
       subst (λ (x : View T). Turns (Holds defers fixed) Keeps id x (Retires fixed x)) (sym is)
-      (settlings_begin T defers fixed id (Inside slot (Cut b)) (retiring slot fixed.batch_size (link_to b)) refl)
+      (settlings_begin T defers fixed id (Inside slot (Cut b)) Active (retiring slot fixed.batch_size (link_to b)) refl)
+
+  pub may_retire_idle : (b : ℕ) → v ≡ Owes slot b → Turns (Holds defers fixed) Keeps id v (Retires fixed v)
+  may_retire_idle b is =
+      subst (λ (x : View T). Turns (Holds defers fixed) Keeps id x (Retires fixed x)) (sym is)
+      (settlings_begin T defers fixed id (Owes slot b) Idle (retiring slot fixed.batch_size (link_to b)) refl)
 
   flushes_by : (has : Has) → IsLooking has → Turns (Holds defers fixed) Keeps id (Inside slot has) (Flushes fixed (Inside slot has))
-  flushes_by Nothing looks = settlings_begin T defers fixed id (Inside slot Nothing) (flushing slot fixed.batch_size) refl
-  flushes_by (Seen b) looks = settlings_begin T defers fixed id (Inside slot (Seen b)) (flushing slot fixed.batch_size) refl
+  flushes_by Nothing looks = settlings_begin T defers fixed id (Inside slot Nothing) Active (flushing slot fixed.batch_size) refl
+  flushes_by (Seen b) looks = settlings_begin T defers fixed id (Inside slot (Seen b)) Active (flushing slot fixed.batch_size) refl
   flushes_by (Made b) looks = absurd looks
+  flushes_by (Both b a) looks = absurd looks
   flushes_by (Cut b) looks = absurd looks
 
   pub may_flush : (has : Has) → IsLooking has → v ≡ Inside slot has → Turns (Holds defers fixed) Keeps id v (Flushes fixed v)
   may_flush has looks is = subst (λ (x : View T). Turns (Holds defers fixed) Keeps id x (Flushes fixed x)) (sym is) (flushes_by has looks)
 
-module _ {T : Type 0} (fixed : Fixed) (v u : View T) (slot : ℕ) where
-  pub retires_told : (b : ℕ) → v ≡ Inside slot (Cut b) → Retires fixed v u → IsBegun (retiring slot fixed.batch_size (link_to b)) u
-  retires_told b is so = subst (λ (x : View T). Retires fixed x u) is so
+  pub may_flush_idle : v ≡ Outside slot → Turns (Holds defers fixed) Keeps id v (Flushes fixed v)
+  may_flush_idle is =
+      subst (λ (x : View T). Turns (Holds defers fixed) Keeps id x (Flushes fixed x)) (sym is)
+      (settlings_begin T defers fixed id (Outside slot) Idle (flushing slot fixed.batch_size) refl)
 
-  flushes_so : (has : Has) → IsLooking has → Flushes fixed (Inside slot has) u → IsBegun (flushing slot fixed.batch_size) u
+module _ {T : Type 0} (fixed : Fixed) (v u : View T) (slot : ℕ) where
+  -- and the row that was made for it has begun then
+
+  begun_by : (way : Becomes) (c row : Settle) → IsBegun way c u → row ≡ c → IsBegun way row u
+  begun_by way c row is same = subst (λ (r : Settle). IsBegun way r u) (sym same) is
+
+  pub retires_told : (b : ℕ) (row : Settle) → v ≡ Inside slot (Cut b) → Retires fixed v u → row ≡ retiring slot fixed.batch_size (link_to b)
+      → IsBegun Active row u
+  retires_told b row is so same =
+      begun_by Active (retiring slot fixed.batch_size (link_to b)) row (subst (λ (x : View T). Retires fixed x u) is so) same
+
+  pub retires_idle_told : (b : ℕ) (row : Settle) → v ≡ Owes slot b → Retires fixed v u → row ≡ retiring slot fixed.batch_size (link_to b) → IsBegun Idle row u
+  retires_idle_told b row is so same =
+      begun_by Idle (retiring slot fixed.batch_size (link_to b)) row (subst (λ (x : View T). Retires fixed x u) is so) same
+
+  flushes_so : (has : Has) → IsLooking has → Flushes fixed (Inside slot has) u → IsBegun Active (flushing slot fixed.batch_size) u
   flushes_so Nothing looks so = so
   flushes_so (Seen b) looks so = so
   flushes_so (Made b) looks so = absurd looks
+  flushes_so (Both b a) looks so = absurd looks
   flushes_so (Cut b) looks so = absurd looks
 
-  pub flushes_told : (has : Has) → IsLooking has → v ≡ Inside slot has → Flushes fixed v u → IsBegun (flushing slot fixed.batch_size) u
-  flushes_told has looks is so = flushes_so has looks (subst (λ (x : View T). Flushes fixed x u) is so)
+  pub flushes_told : (has : Has) (row : Settle) → IsLooking has → v ≡ Inside slot has → Flushes fixed v u → row ≡ flushing slot fixed.batch_size
+      → IsBegun Active row u
+  flushes_told has row looks is so same =
+      begun_by Active (flushing slot fixed.batch_size) row (flushes_so has looks (subst (λ (x : View T). Flushes fixed x u) is so)) same
 
--- a settling that has begun is the row that was made for it
-pub settling_row : {T : Type 0} (c row : Settle) (u : View T) → IsBegun c u → row ≡ c → IsSettling Retiring row u
-settling_row c row u is same = (None, is.0, is.1 ∙ ap (λ (r : Settle). Settles r Retiring None is.0) (sym same))
+  pub flushes_idle_told : (row : Settle) → v ≡ Outside slot → Flushes fixed v u → row ≡ flushing slot fixed.batch_size → IsBegun Idle row u
+  flushes_idle_told row is so same = begun_by Idle (flushing slot fixed.batch_size) row (subst (λ (x : View T). Flushes fixed x u) is so) same
+
+-- a settling that has begun is under way
+pub settling_row : {T : Type 0} (way : Becomes) (row : Settle) (u : View T) → IsBegun way row u → IsSettling (Retiring way) row u
+settling_row way row u is = (None, is.0, is.1)
 
 module _ {T : Type 0} (defers : T → Option ℕ) (fixed : Fixed) (id : ℕ) (v : View T) (slot : ℕ) where
   abbrev MayMake : Op T → Type 0
@@ -83,10 +112,35 @@ module _ {T : Type 0} (defers : T → Option ℕ) (fixed : Fixed) (id : ℕ) (v 
   by_view w op is may = subst (λ (x : View T). Allows (Holds defers fixed) Keeps id x op (told defers x op)) (sym is) may
 
   pub may_make : v ≡ Inside slot Nothing → (value : T) → defers value ≡ None → MayMake (Make value 0)
-  may_make is value list = by_view (Inside slot Nothing) (Make value 0) is (blocks_are_made T defers value 0 list fixed id slot)
+  may_make is value list = by_view (Inside slot Nothing) (Make value 0) is (blocks_are_made T defers Nothing value 0 tt list fixed id slot)
 
   pub may_take : (b : ℕ) → v ≡ Inside slot (Made b) → MayMake (Take b)
-  may_take b is = by_view (Inside slot (Made b)) (Take b) is (made_are_taken T defers b fixed id slot)
+  may_take b is = by_view (Inside slot (Made b)) (Take b) is (made_are_taken T defers (Made b) b refl fixed id slot)
+
+  -- beside a block that was seen, or none
+
+  is_looking : (a : ℕ) (y : Bool) → IsLooking (if y then Nothing else Seen a)
+  is_looking a true = tt
+  is_looking a false = tt
+
+  pub may_make_beside : (a : ℕ) → v ≡ Inside slot (seen_as a) → (value : T) → defers value ≡ None → MayMake (Make value 0)
+  may_make_beside a is value list =
+      by_view (Inside slot (seen_as a)) (Make value 0) is (blocks_are_made T defers (seen_as a) value 0 (is_looking a (a == 0)) list fixed id slot)
+
+  has_made : (b a : ℕ) (y : Bool) → HasMade (if y then Made b else Both b a) b
+  has_made b a true = refl
+  has_made b a false = refl
+
+  pub may_take_beside : (b a : ℕ) → v ≡ Inside slot (made_beside b a) → MayMake (Take b)
+  may_take_beside b a is =
+      by_view (Inside slot (made_beside b a)) (Take b) is (made_are_taken T defers (made_beside b a) b (has_made b a (a == 0)) fixed id slot)
+
+  pub may_exchange : (b a r old word : ℕ) → v ≡ Inside slot (made_beside b a) → r < fixed.roots → b < 2 ^ 53 → word ≡ link_to b % 2 ^ 64
+      → MayMake (Exchange (Root r) old word)
+  may_exchange b a r old word is lt fits link =
+      subst (λ (w : ℕ). MayMake (Exchange (Root r) old w)) (sym (link ∙ whole_link b fits))
+      (by_view (Inside slot (made_beside b a)) (Exchange (Root r) old (link_to b)) is
+      (made_are_exchanged T defers (made_beside b a) b r old fixed id slot (has_made b a (a == 0)) lt))
 
   pub may_link : (b r word : ℕ) → v ≡ Inside slot (Made b) → r < fixed.roots → b < 2 ^ 53 → word ≡ link_to b % 2 ^ 64 → MayMake (Swap (Root r) word)
   may_link b r word is lt fits link =
@@ -95,6 +149,9 @@ module _ {T : Type 0} (defers : T → Option ℕ) (fixed : Fixed) (id : ℕ) (v 
 
   pub may_clear : (r : ℕ) → v ≡ Inside slot Nothing → r < fixed.roots → MayMake (Swap (Root r) 0)
   may_clear r is lt = by_view (Inside slot Nothing) (Swap (Root r) 0) is (roots_are_cleared T defers r fixed id slot lt)
+
+  pub may_withdraw : (r : ℕ) → v ≡ Outside slot → r < fixed.roots → MayMake (Swap (Root r) 0)
+  may_withdraw r is lt = by_view (Outside slot) (Swap (Root r) 0) is (roots_are_withdrawn T defers r fixed id slot lt)
 
   pub may_see : (has : Has) (r : ℕ) → IsLooking has → v ≡ Inside slot has → r < fixed.roots → MayMake (Load (Root r))
   may_see has r looks is lt = by_view (Inside slot has) (Load (Root r)) is (roots_are_seen T defers has r fixed id slot looks lt)
@@ -108,12 +165,14 @@ module _ (T : Type 0) (fixed : Fixed) (slot : ℕ) where
   leaves_next Nothing looks = (Idle, refl)
   leaves_next (Seen b) looks = (Idle, refl)
   leaves_next (Made b) looks = absurd looks
+  leaves_next (Both b a) looks = absurd looks
   leaves_next (Cut b) looks = absurd looks
 
   pub leaves_so : (has : Has) → IsLooking has → leaving {T = T} fixed (Inside slot has) ≡ Leaves slot fixed.batch_size Idle
   leaves_so Nothing looks = refl
   leaves_so (Seen b) looks = refl
   leaves_so (Made b) looks = absurd looks
+  leaves_so (Both b a) looks = absurd looks
   leaves_so (Cut b) looks = absurd looks
 
   -- and so is refreshing
@@ -121,12 +180,14 @@ module _ (T : Type 0) (fixed : Fixed) (slot : ℕ) where
   refreshes_next Nothing looks = (Active, refl)
   refreshes_next (Seen b) looks = (Active, refl)
   refreshes_next (Made b) looks = absurd looks
+  refreshes_next (Both b a) looks = absurd looks
   refreshes_next (Cut b) looks = absurd looks
 
   pub refreshes_so : (has : Has) → IsLooking has → refreshes {T = T} fixed (Inside slot has) ≡ Leaves slot fixed.batch_size Active
   refreshes_so Nothing looks = refl
   refreshes_so (Seen b) looks = refl
   refreshes_so (Made b) looks = absurd looks
+  refreshes_so (Both b a) looks = absurd looks
   refreshes_so (Cut b) looks = absurd looks
 
 -- a list with entries is counted down, and an empty one is settled
@@ -156,7 +217,17 @@ seen_some word b is ne = ap (λ (y : Bool). if y then Nothing else Seen (block_i
 pub seen_none : (word : ℕ) → block_in word ≡ 0 → seen_in word ≡ Nothing
 seen_none word e = ap (λ (y : Bool). if y then Nothing else Seen (block_in word)) (eq-eqb (block_in word) 0 e)
 
+pub owes_some : (T : Type 0) (slot word b : ℕ) → b ≡ block_in word → (b ≡ 0 → ⊥) → owes_in {T = T} slot word ≡ Owes slot b
+owes_some T slot word b is ne =
+    ap (λ (y : Bool). if y then Outside slot else Owes slot (block_in word)) (ne_eqb (block_in word) 0 (λ e. ne (is ∙ e))) ∙ ap (Owes slot) (sym is)
+
+pub owes_none : (T : Type 0) (slot word : ℕ) → block_in word ≡ 0 → owes_in {T = T} slot word ≡ Outside slot
+owes_none T slot word e = ap (λ (y : Bool). if y then Outside slot else Owes slot (block_in word)) (eq-eqb (block_in word) 0 e)
+
 module _ {T : Type 0} (defers : T → Option ℕ) (v w : View T) (slot : ℕ) where
+  pub withdrawn_told : (r word old : ℕ) → v ≡ Outside slot → told defers v (Swap (Root r) word) (Found old) w → w ≡ owes_in slot old
+  withdrawn_told r word old is so = subst (λ (x : View T). told defers x (Swap (Root r) word) (Found old) w) is so
+
   pub cut_told : (b r word old : ℕ) → v ≡ Inside slot (Made b) → told defers v (Swap (Root r) word) (Found old) w → w ≡ Inside slot (cut_in old)
   cut_told b r word old is so =
       let k = subst (λ (x : View T). told defers x (Swap (Root r) word) (Found old) w) is so in k.2 ∙ ap (Inside slot) k.1
@@ -169,7 +240,68 @@ module _ {T : Type 0} (defers : T → Option ℕ) (v w : View T) (slot : ℕ) wh
   seen_told Nothing r word looks is so = let k = subst (λ (x : View T). told defers x (Load (Root r)) (Found word) w) is so in k.2 ∙ ap (Inside slot) k.1
   seen_told (Seen b) r word looks is so = let k = subst (λ (x : View T). told defers x (Load (Root r)) (Found word) w) is so in k.2 ∙ ap (Inside slot) k.1
   seen_told (Made b) r word looks is so = absurd looks
+  seen_told (Both b a) r word looks is so = absurd looks
   seen_told (Cut b) r word looks is so = absurd looks
+
+  -- what a making tells beside a block that was seen, a taking away, and an exchange
+
+  made_told : (a b : ℕ) (value : T) (y : Bool) → v ≡ Inside slot (if y then Nothing else Seen a) → told defers v (Make value 0) (OutMade (Ok b)) w
+      → w ≡ Inside slot (if y then Made b else Both b a)
+  made_told a b value true is so =
+      let k = subst (λ (x : View T). told defers x (Make value 0) (OutMade (Ok b)) w) is so in k.2 ∙ ap (Inside slot) k.1.1
+  made_told a b value false is so =
+      let k = subst (λ (x : View T). told defers x (Make value 0) (OutMade (Ok b)) w) is so in k.2 ∙ ap (Inside slot) k.1.1
+
+  fits_told : (a b : ℕ) (value : T) (y : Bool) → v ≡ Inside slot (if y then Nothing else Seen a) → told defers v (Make value 0) (OutMade (Ok b)) w → b < 2 ^ 53
+  fits_told a b value true is so = let k = subst (λ (x : View T). told defers x (Make value 0) (OutMade (Ok b)) w) is so in k.1.0
+  fits_told a b value false is so = let k = subst (λ (x : View T). told defers x (Make value 0) (OutMade (Ok b)) w) is so in k.1.0
+
+  pub made_beside_told : (a b : ℕ) (value : T) → v ≡ Inside slot (seen_as a) → told defers v (Make value 0) (OutMade (Ok b)) w
+      → (w ≡ Inside slot (made_beside b a)) × (b < 2 ^ 53)
+  made_beside_told a b value is so = (made_told a b value (a == 0) is so, fits_told a b value (a == 0) is so)
+
+  refused_told : (a : ℕ) (value back : T) (y : Bool) → v ≡ Inside slot (if y then Nothing else Seen a)
+      → told defers v (Make value 0) (OutMade (Err back)) w → w ≡ Inside slot (if y then Nothing else Seen a)
+  refused_told a value back true is so =
+      let k = subst (λ (x : View T). told defers x (Make value 0) (OutMade (Err back)) w) is so in k.2 ∙ ap (Inside slot) k.1.1
+  refused_told a value back false is so =
+      let k = subst (λ (x : View T). told defers x (Make value 0) (OutMade (Err back)) w) is so in k.2 ∙ ap (Inside slot) k.1.1
+
+  pub not_made_told : (a : ℕ) (value back : T) → v ≡ Inside slot (seen_as a) → told defers v (Make value 0) (OutMade (Err back)) w
+      → w ≡ Inside slot (seen_as a)
+  not_made_told a value back is so = refused_told a value back (a == 0) is so
+
+  taken_so : (a b : ℕ) (value : T) (y : Bool) → v ≡ Inside slot (if y then Made b else Both b a) → told defers v (Take b) (Taken value) w
+      → w ≡ Inside slot (if y then Nothing else Seen a)
+  taken_so a b value true is so = let k = subst (λ (x : View T). told defers x (Take b) (Taken value) w) is so in k.2 ∙ ap (Inside slot) k.1
+  taken_so a b value false is so = let k = subst (λ (x : View T). told defers x (Take b) (Taken value) w) is so in k.2 ∙ ap (Inside slot) k.1
+
+  pub taken_told : (a b : ℕ) (value : T) → v ≡ Inside slot (made_beside b a) → told defers v (Take b) (Taken value) w → w ≡ Inside slot (seen_as a)
+  taken_told a b value is so = taken_so a b value (a == 0) is so
+
+  module _ (r old word : ℕ) where
+    exchanged : (a b was : ℕ) (y : Bool) → v ≡ Inside slot (if y then Made b else Both b a) → told defers v (Exchange (Root r) old word) (Exchanged (Ok was)) w
+        → w ≡ Inside slot (cut_in old)
+    exchanged a b was true is so =
+        let k = subst (λ (x : View T). told defers x (Exchange (Root r) old word) (Exchanged (Ok was)) w) is so in k.2 ∙ ap (Inside slot) k.1
+    exchanged a b was false is so =
+        let k = subst (λ (x : View T). told defers x (Exchange (Root r) old word) (Exchanged (Ok was)) w) is so in k.2 ∙ ap (Inside slot) k.1
+
+    pub exchanged_told : (a b was : ℕ) → v ≡ Inside slot (made_beside b a) → a < 2 ^ 53 → old ≡ link_to a % 2 ^ 64
+        → told defers v (Exchange (Root r) old word) (Exchanged (Ok was)) w → w ≡ Inside slot (cut_as a)
+    exchanged_told a b was is fits link so =
+        exchanged a b was (a == 0) is so ∙ ap (λ (k : ℕ). Inside slot (cut_as k)) (ap block_in (link ∙ whole_link a fits) ∙ block_of_link a)
+
+    lost : (a b now : ℕ) (y : Bool) → v ≡ Inside slot (if y then Made b else Both b a) → told defers v (Exchange (Root r) old word) (Exchanged (Err now)) w
+        → w ≡ Inside slot (made_beside b (block_in now))
+    lost a b now true is so =
+        let k = subst (λ (x : View T). told defers x (Exchange (Root r) old word) (Exchanged (Err now)) w) is so in k.2 ∙ ap (Inside slot) k.1
+    lost a b now false is so =
+        let k = subst (λ (x : View T). told defers x (Exchange (Root r) old word) (Exchanged (Err now)) w) is so in k.2 ∙ ap (Inside slot) k.1
+
+    pub other_told : (a b now : ℕ) → v ≡ Inside slot (made_beside b a) → told defers v (Exchange (Root r) old word) (Exchanged (Err now)) w
+        → w ≡ Inside slot (made_beside b (block_in now))
+    other_told a b now is so = lost a b now (a == 0) is so
 
   -- what the taking of a list tells
   pub list_told : (size : ℕ) (way : Becomes) (word head : ℕ) → v ≡ Leaves slot size way → told defers v (Swap (Slot slot HEAD) word) (Found head) w

@@ -22,7 +22,7 @@ use Rattle.seize_shared.specs.Told.{shown_by, FollowsBy, GoesOn, told}
 use Rattle.seize_shared.specs.Promises.{op_in, op_of, LookedAreShown}
 use Rattle.seize_shared.specs.Made.{shown_in, shown_of, left_in, CanMake, HasAlone, HasMade, IsSettling}
 use Rattle.seize_shared.specs.declared.view.View.{View}
-use Rattle.seize_shared.specs.declared.view.View.TheVariants.{Rests, Registers, Outside, Enters, Inside, Settles, Leaves, Left, Frees}
+use Rattle.seize_shared.specs.declared.view.View.TheVariants.{Rests, Registers, Outside, Owes, Enters, Inside, Settles, Leaves, Left, Frees}
 use Rattle.seize_shared.specs.declared.view.Why.{Why}
 use Rattle.seize_shared.specs.declared.view.Fixed.{Fixed}
 use Rattle.seize_shared.specs.declared.caller.Caller.{Caller}
@@ -72,6 +72,7 @@ module _ {T : Type 0} (defers : T → Option ℕ) where
   none_rewrites Rests = tt
   none_rewrites (Registers c) = registering_none c c.stands
   none_rewrites (Outside t) = tt
+  none_rewrites (Owes t b) = tt
   none_rewrites (Enters t) = tt
   none_rewrites (Inside t has) = tt
   none_rewrites (Settles c why seen left) = settling_none c c.stands
@@ -146,6 +147,7 @@ module _ {T : Type 0} (defers : T → Option ℕ) (fixed : Fixed) (id : ℕ) whe
   is_looked Rests b is = absurd (cc is)
   is_looked (Registers c) b is = absurd (cc is)
   is_looked (Outside t) b is = absurd (cc is)
+  is_looked (Owes t d) b is = absurd (cc is)
   is_looked (Enters t) b is = absurd (cc is)
   is_looked (Inside t has) b is = absurd (cc is)
   is_looked (Leaves t size way) b is = absurd (cc is)

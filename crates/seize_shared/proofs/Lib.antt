@@ -1,6 +1,4 @@
 pub mod Aside
-pub mod Bounds
-pub mod Tries
 pub mod Lists
 pub mod Reclaims
 pub mod Moved
@@ -13,6 +11,7 @@ pub mod Settling
 pub mod GoesOn
 pub mod Users
 pub mod Blocks
+pub mod Written
 pub mod Roots
 pub mod Calls
 pub mod Drives

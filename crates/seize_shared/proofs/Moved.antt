@@ -9,16 +9,17 @@ use Rattle.seize.specs.World as world
 use Rattle.seize_rule.proofs.World.Kept.{rows_may}
 use Rattle.seize_acts.proofs.Answers.{same_some}
 use Rattle.seize_seats.specs.State.{State, view_of, Goes}
-use Rattle.seize_shared.specs.Bounds.{HasCounted, HasTried, IsAloneOnSlot, IsAny, ArePlain, Meanwhile}
+use Rattle.seize_bounds.specs.Bounds.{HasCounted, HasTried, IsAloneOnSlot, IsAny, ArePlain, Meanwhile}
 use Rattle.seize_shared.specs.Rows.{use_of, row_of, settles_for, IsUsed, IsKnown, RootsNameLinked, Fits, Came, IsBounded, Holds, Keeps}
 use Rattle.seize_shared.specs.declared.view.View.{View}
-use Rattle.seize_shared.specs.declared.view.View.TheVariants.{Rests, Registers, Outside, Enters, Inside, Settles, Leaves, Left, Frees}
+use Rattle.seize_shared.specs.declared.view.View.TheVariants.{Rests, Registers, Outside, Owes, Enters, Inside, Settles, Leaves, Left, Frees}
 use Rattle.seize_shared.specs.declared.view.Has.{Has}
-use Rattle.seize_shared.specs.declared.view.Has.TheVariants.{Nothing, Made, Seen, Cut}
+use Rattle.seize_shared.specs.declared.view.Has.TheVariants.{Nothing, Made, Seen, Both, Cut}
 use Rattle.seize_shared.specs.declared.view.Why.TheVariants.{Retiring, Ending}
+use Rattle.seize_shared.specs.declared.view.Becomes.TheVariants.{Idle, Active}
 use Rattle.seize_shared.specs.declared.view.Fixed.{Fixed}
 use Rattle.seize_shared.proofs.Aside.{alone_on_slot}
-use Rattle.seize_shared.proofs.Bounds.Passing.{any, still_within}
+use Rattle.seize_bounds.proofs.Bounds.Passing.{any, still_within}
 use Rattle.seize_shared.proofs.Lists.{there, elsewhere}
 use Rattle.seize_shared.proofs.Reclaims.{reclaiming_there}
 
@@ -33,9 +34,11 @@ not_vacant {T} x t a e v = by x e
     by Rests f = cc f
     by (Registers c) f = cc f
     by (Outside s) f = let k = so (s, world.Outside 0) (t, a) f in cc (k, v)
+    by (Owes s b) f = let k = so (s, world.Outside 0) (t, a) f in cc (k, v)
     by (Enters s) f = let k = so (s, world.Changing) (t, a) f in cc (k, v)
     by (Inside s has) f = let k = so (s, world.Inside 0) (t, a) f in cc (k, v)
-    by (Settles c Retiring seen left) f = let k = so (c.slot, world.Inside 1) (t, a) f in cc (k, v)
+    by (Settles c (Retiring Idle) seen left) f = let k = so (c.slot, world.Outside 1) (t, a) f in cc (k, v)
+    by (Settles c (Retiring Active) seen left) f = let k = so (c.slot, world.Inside 1) (t, a) f in cc (k, v)
     by (Settles c (Ending size way) seen left) f = let k = so (c.slot, world.Changing) (t, a) f in cc (k, v)
     by (Leaves s size way) f = let k = so (s, world.Changing) (t, a) f in cc (k, v)
     by (Left s size way) f = let k = so (s, world.Changing) (t, a) f in cc (k, v)
@@ -87,6 +90,7 @@ module _ {T : Type 0} (defers : T → Option ℕ) (fixed : Fixed) (s : State T (
     known j (Inside t Nothing) ne row f = tt
     known j (Inside t (Made b)) ne row f = (mo.hands j b ne).0 f.known
     known j (Inside t (Seen b)) ne row f = mo.held t b (inside_of s.world t (Seen b) f.slot) f.known
+    known j (Inside t (Both b a)) ne row f = ((mo.hands j b ne).0 f.known.0, mo.held t a (inside_of s.world t (Both b a) f.slot) f.known.1)
     known j (Inside t (Cut b)) ne row f = (mo.hands j b ne).1 f.known
     known j (Settles c why None left) ne row f = tt
     known j (Settles c why (Some seen) left) ne row f =
@@ -98,13 +102,14 @@ module _ {T : Type 0} (defers : T → Option ℕ) (fixed : Fixed) (s : State T (
     known j Rests ne row f = tt
     known j (Registers c) ne row f = tt
     known j (Outside t) ne row f = tt
+    known j (Owes t b) ne row f = (mo.hands j b ne).1 f.known
     known j (Enters t) ne row f = tt
     known j (Leaves t size way) ne row f = tt
     known j (Left t size way) ne row f = tt
     known j (Frees t) ne row f = tt
 
     bound : (j : ℕ) (x : View T) → j ≢ id → IsAloneOnSlot j n → IsBounded defers fixed s.world j x → IsBounded defers fixed n j x
-    bound j (Settles c Retiring seen left) ne after b =
+    bound j (Settles c (Retiring way) seen left) ne after b =
         let p = mo.passes j ne (alone_on_slot s.world (view_of s) (λ i y e. (h.seats i y e).row) h.unborn h.apart j) after in
         still_within defers (IsAloneOnSlot j) HasTried fixed.batch_size j left s.world n p.0 p.1 b
     bound j (Settles c (Ending size way) seen left) ne after b =
@@ -113,6 +118,7 @@ module _ {T : Type 0} (defers : T → Option ℕ) (fixed : Fixed) (s : State T (
     bound j Rests ne after b = tt
     bound j (Registers c) ne after b = tt
     bound j (Outside t) ne after b = tt
+    bound j (Owes t d) ne after b = tt
     bound j (Enters t) ne after b = tt
     bound j (Inside t has) ne after b = tt
     bound j (Leaves t size way) ne after b = tt

@@ -26,7 +26,7 @@ use Rattle.seize_shared.specs.declared.view.View.TheVariants.{Rests, Enters, Ins
 use Rattle.seize_shared.specs.declared.view.Has.TheVariants.{Nothing}
 use Rattle.seize_shared.specs.declared.view.Why.TheVariants.{Ending}
 use Rattle.seize_shared.specs.declared.view.Fixed.{Fixed}
-use Rattle.seize_shared.proofs.Bounds.Within.{counted_within}
+use Rattle.seize_bounds.proofs.Bounds.Within.{counted_within}
 use Rattle.seize_shared.proofs.Moved.{moved}
 use Rattle.seize_shared.proofs.Steps.{alone, reached, step_of, step_plain, stepped}
 

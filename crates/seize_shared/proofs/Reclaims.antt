@@ -24,7 +24,7 @@ some_value (Some x) word is = refl
 module _ {T : Type 0} (defers : T → Option ℕ) (c : Settle) where
   -- whatever it is for, the step of a settling may be taken
   pub may_settle : (why : Why) (m : Mem T) → MayStep defers (settles_for why c) m → May Can Took value_at m (settle_plan defers c)
-  may_settle Retiring m may = may
+  may_settle (Retiring way) m may = may
   may_settle (Ending size way) m may = may_as (settled (counting size way c)) Can Took value_at m (settle_plan defers c) may
 
   at_point : (p : Settling) (m : Mem T) → May Can Took value_at m (plan_at defers c p) → IsReclaiming p → IsSome (value_at m (block_in c.reclaiming))

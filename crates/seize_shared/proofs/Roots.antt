@@ -1,13 +1,13 @@
--- Within a section a block is put at a root, seen there, and taken from there.
-use Rattle.std.specs.Prelude.{◌≢◌, ◌<◌, ◌==◌, Option, Some, IsSome, length, slice_get, slice_set, if◌then◌else◌}
+-- Within a section a block is put at a root, whatever is there or in place of what was seen, seen there, and taken from there.
+use Rattle.std.specs.Prelude.{◌≢◌, ◌<◌, ◌==◌, Option, Some, IsSome, Ok, Err, length, slice_get, slice_set, if◌then◌else◌}
 use Rattle.std.proofs.Common.{◌≡◌, ℕ, zero, suc, List, [], ◌∷◌, Bool, true, false, cond, ◌⊎◌, inl, inr, refl, sym, subst, ap, ◌∙◌, arith}
 use Rattle.std.proofs.lemmas.Bool.{cases_eq, eq-eqb, ne_eqb}
-use Rattle.seize_words.specs.Mem.{Mem, Took, value_at, word_at}
+use Rattle.seize_words.specs.Mem.{Mem, Took, value_at, word_at, with_word}
 use Rattle.seize_words.specs.Word.{block_in, link_to}
-use Rattle.seize_words.specs.Op.{Out, Load, Swap, Found, Stored, Exchanged, Made as OutMade, Taken, Roomed}
+use Rattle.seize_words.specs.Op.{Op, Out, Load, Swap, Exchange, Found, Stored, Exchanged, Made as OutMade, Taken, Roomed}
 use Rattle.seize_words.specs.declared.at.At.TheVariants.{Root}
 use Rattle.seize.specs.Law.{Effect, Linked, Unlinked, holds, is_over, is_open, reachable, is_somewhere}
-use Rattle.seize.specs.World.{World, Use, Hand, Operates, Links, Unlinks, MayCut, with_at, with_hand, with_effect}
+use Rattle.seize.specs.World.{World, Use, Hand, Operates, Links, Unlinks, MayCut, IsOwnOp, with_at, with_hand, with_effect}
 use Rattle.seize.specs.World as world
 use Rattle.seize_alone.proofs.Given.SeizeMoves.State.Ghost.{Life, IsLinked, emptied, place_of}
 use Rattle.seize_rule.proofs.Points.Aside.{HandFits}
@@ -19,34 +19,21 @@ use Rattle.seize_rule.proofs.World.Values.{own_op_value}
 use Rattle.seize_alone.proofs.Histories.Reached.{Reached}
 use Rattle.seize_acts.proofs.Answers.{same_some}
 use Rattle.seize_seats.specs.State.{State, view_of, Goes}
-use Rattle.seize_shared.specs.Bounds.{ArePlain}
+use Rattle.seize_bounds.specs.Bounds.{ArePlain}
 use Rattle.seize_shared.specs.Rows.{IsInHand, RootsNameLinked, Fits, Came, Holds, Keeps}
-use Rattle.seize_shared.specs.Told.{seen_in, cut_in, told}
-use Rattle.seize_shared.specs.Promises.{MadeAreLinked, RootsAreSeen, RootsAreCleared}
+use Rattle.seize_shared.specs.Told.{seen_in, cut_in, made_beside, told}
+use Rattle.seize_shared.specs.Promises.{HasMade, MadeAreLinked, MadeAreExchanged, RootsAreSeen, RootsAreCleared, RootsAreWithdrawn}
 use Rattle.seize_shared.specs.declared.view.View.{View}
-use Rattle.seize_shared.specs.declared.view.View.TheVariants.{Inside}
+use Rattle.seize_shared.specs.declared.view.View.TheVariants.{Outside, Owes, Inside}
 use Rattle.seize_shared.specs.declared.view.Has.{Has}
-use Rattle.seize_shared.specs.declared.view.Has.TheVariants.{Nothing, Made, Seen, Cut}
+use Rattle.seize_shared.specs.declared.view.Has.TheVariants.{Nothing, Made, Seen, Both, Cut}
 use Rattle.seize_shared.specs.declared.view.Fixed.{Fixed}
 use Rattle.seize_shared.proofs.Lists.{there, elsewhere}
 use Rattle.seize_shared.proofs.Moved.{Passes}
 use Rattle.seize_shared.proofs.Steps.{came_then, reached, world_plain}
 use Rattle.seize_shared.proofs.Users.{apart_making, cutting_making, use_making, making_use, cutting_use, same_use}
-use Rattle.seize_shared.proofs.Users.{beside, world_took, making_not_held, passes_one, passes_then, Users, users}
-
--- a root is there
-root_there : (l : List ℕ) (r : ℕ) → r < length l → IsSome (slice_get l r)
-root_there [] r lt = absurd (omega (arith, lt))
-root_there (x ∷ l) zero lt = refl
-root_there (x ∷ l) (suc r) lt = root_there l r (omega (arith, lt))
-
-length_set : (l : List ℕ) (r x : ℕ) → length (slice_set l r x) ≡ length l
-length_set [] r x = refl
-length_set (y ∷ l) zero x = refl
-length_set (y ∷ l) (suc r) x = ap suc (length_set l r x)
-
-block_of_link : (b : ℕ) → block_in (link_to b) ≡ b
-block_of_link b = omega arith
+use Rattle.seize_shared.proofs.Users.{beside, making_not_held, passes_then, users, users_outside, users_owe}
+use Rattle.seize_shared.proofs.Written.{Wrote, Cuts, block_of_link, wrote, rooted_still, roots_now, fresh, root_can, unlinked, clears}
 
 module _ {T : Type 0} (defers : T → Option ℕ) (fixed : Fixed) (s : State T (View T) (World T)) (id t : ℕ) (had : Has) (h : Holds defers fixed s)
     (at : view_of s id ≡ Some (Inside t had)) where
@@ -81,189 +68,90 @@ module _ {T : Type 0} (defers : T → Option ℕ) (fixed : Fixed) (s : State T (
       reached_held t b w.log reach is_open_here
 
   -- what a root names is held by the section from now on
-  seen_known : (a word : ℕ) → word_at s.memory (Root a) ≡ Some word → (y : Bool) → (block_in word == 0) ≡ y
-      → IsInHand w id t (if y then Nothing else Seen (block_in word))
-  seen_known a word e true is = tt
-  seen_known a word e false is = elim (h.roots a word e) as (λ _. holds t (block_in word) w.log ≡ true) [
+  root_held : (a word : ℕ) → word_at s.memory (Root a) ≡ Some word → (block_in word == 0) ≡ false → holds t (block_in word) w.log ≡ true
+  root_held a word e is = elim (h.roots a word e) as (λ _. holds t (block_in word) w.log ≡ true) [
     | inl none ↦ absurd (let k = eq-eqb (block_in word) 0 none in cc (k, is))
     | inr linked ↦ linked_held (block_in word) a linked
   ]
 
-  sees : (a : ℕ) (out : Out T) (m : Mem T) → Took s.memory (Load (Root a)) out m → (so : View T → Type 0)
-      → ((word : ℕ) → out ≡ Found word → so (Inside t (seen_in word))) → Goes H Keeps s m id so
-  sees a (Found word) m took so is =
-      users defers fixed s id t had h at m w (seen_in word) (record {
+  seen_known : (a word : ℕ) → word_at s.memory (Root a) ≡ Some word → (y : Bool) → (block_in word == 0) ≡ y
+      → IsInHand w id t (if y then Nothing else Seen (block_in word))
+  seen_known a word e true is = tt
+  seen_known a word e false is = root_held a word e is
+
+  -- and is known beside a block that was made
+  beside_known : (b a word : ℕ) → w.hand b ≡ world.Making id → word_at s.memory (Root a) ≡ Some word → (y : Bool) → (block_in word == 0) ≡ y
+      → IsInHand w id t (if y then Made b else Both b (block_in word))
+  beside_known b a word mine e true is = mine
+  beside_known b a word mine e false is = (mine, root_held a word e is)
+
+  -- what is known of blocks changes, and nothing else
+  looks : (m : Mem T) (has : Has) → m ≡ s.memory → IsInHand w id t has → (so : View T → Type 0) → so (Inside t has) → Goes H Keeps s m id so
+  looks m has same known so is =
+      users defers fixed s id t h had at m w has (record {
         came = h.came;
-        memory = took.1 ∙ h.memory;
+        memory = same ∙ h.memory;
         row = refl;
         uses = refl;
-        in_hand = seen_known a word took.0 (block_in word == 0) refl;
+        in_hand = known;
         hands = λ j c ne. (λ is. is, λ is. is);
         values = λ c some some2. refl;
         held = λ b c held. held;
         over = λ a c held. refl;
-        roots = subst (λ (x : Mem T). RootsNameLinked x w.hand) (sym took.1) h.roots;
-        rooted = ap (λ (x : Mem T). length x.roots) took.1 ∙ h.rooted;
+        roots = subst (λ (x : Mem T). RootsNameLinked x w.hand) (sym same) h.roots;
+        rooted = ap (λ (x : Mem T). length x.roots) same ∙ h.rooted;
         plain = world_plain defers fixed s id (Inside t had) h at;
         passes = λ j ne was now. ([], refl);
-      }) so (is word refl)
+      }) so is
+
+  sees : (a : ℕ) (out : Out T) (m : Mem T) → Took s.memory (Load (Root a)) out m → (so : View T → Type 0)
+      → ((word : ℕ) → out ≡ Found word → so (Inside t (seen_in word))) → Goes H Keeps s m id so
+  sees a (Found word) m took so is = looks m (seen_in word) took.1 (seen_known a word took.0 (block_in word == 0) refl) so (is word refl)
   sees a Stored m took so is = absurd took.0
   sees a (Exchanged x) m took so is = absurd took.0
   sees a (OutMade x) m took so is = absurd took.0
   sees a (Taken x) m took so is = absurd took.0
   sees a (Roomed x) m took so is = absurd took.0
 
-  -- a word is written at a root
-
-  swapped : (a word old : ℕ) (m : Mem T) → Took s.memory (Swap (Root a) word) (Found old) m → m.roots ≡ slice_set s.memory.roots a word
-  swapped a word old m took = ap (λ (x : Mem T). x.roots) took.1
-
-  rooted_still : (a word old : ℕ) (m : Mem T) → Took s.memory (Swap (Root a) word) (Found old) m → length m.roots ≡ fixed.roots
-  rooted_still a word old m took = ap length (swapped a word old m took) ∙ length_set s.memory.roots a word ∙ h.rooted
-
-  -- where a root names a block from now on, each other root is as it was
-  roots_now : (a word old : ℕ) (m : Mem T) (hand : ℕ → Hand) → Took s.memory (Swap (Root a) word) (Found old) m
-      → (block_in word ≡ 0) ⊎ (hand (block_in word) ≡ world.InUse a)
-      → ((b c : ℕ) → c ≢ a → w.hand b ≡ world.InUse c → hand b ≡ world.InUse c) → RootsNameLinked m hand
-  roots_now a word old m hand took named others c found e =
-      by (cases_eq c a) (subst (λ (l : List ℕ). slice_get l c ≡ Some found) (swapped a word old m took) e)
-    where
-      by : (c ≡ a) ⊎ (c ≢ a) → slice_get (slice_set s.memory.roots a word) c ≡ Some found → (block_in found ≡ 0) ⊎ (hand (block_in found) ≡ world.InUse c)
-      by (inl is) q =
-          let set = subst (λ (k : ℕ). slice_get (slice_set s.memory.roots a word) k ≡ Some found) is q in
-          let same : word ≡ found = same_some word found (sym (there s.memory.roots a word old took.0) ∙ set) in
-          subst (λ (k : ℕ). (block_in found ≡ 0) ⊎ (hand (block_in found) ≡ world.InUse k)) (sym is)
-          (subst (λ (k : ℕ). (block_in k ≡ 0) ⊎ (hand (block_in k) ≡ world.InUse a)) same named)
-      by (inr ne) q =
-          let was = h.roots c found (sym (elsewhere s.memory.roots a c word ne) ∙ q) in
-          elim was as (λ _. (block_in found ≡ 0) ⊎ (hand (block_in found) ≡ world.InUse c)) [
-            | inl none ↦ inl none
-            | inr is ↦ inr (others (block_in found) c ne is)
-          ]
-
-  wrote : (a word old : ℕ) (m : Mem T) → Took s.memory (Swap (Root a) word) (Found old) m → Came defers fixed (record w { memory = m })
-  wrote a word old m took =
-      came_then defers fixed w (record w { memory = m }) (Operates (Swap (Root a) word)) h.came
-      (Found old, m, tt, world_took s h.memory (Swap (Root a) word) (Found old) m took, refl)
-
-  value_written : (a word old : ℕ) (m : Mem T) → Took s.memory (Swap (Root a) word) (Found old) m → (b : ℕ) → value_at m b ≡ value_at w.memory b
-  value_written a word old m took b =
-      ap (λ (x : Mem T). value_at x b) (world_took s h.memory (Swap (Root a) word) (Found old) m took).1
-      ∙ own_op_value defers w.memory b (Swap (Root a) word) (Found old) tt
-
-  written_plain : (a word old : ℕ) (m : Mem T) → Took s.memory (Swap (Root a) word) (Found old) m → ArePlain defers m
-  written_plain a word old m took b x e = world_plain defers fixed s id (Inside t had) h at b x (sym (value_written a word old m took b) ∙ e)
-
-  written_passes : (a word old : ℕ) (m : Mem T) → Took s.memory (Swap (Root a) word) (Found old) m → Passes defers fixed s id (record w { memory = m })
-  written_passes a word old m took =
-      passes_one defers fixed s id t (Operates (Swap (Root a) word)) (record w { memory = m }) (λ j. tt)
-      (Found old, m, tt, world_took s h.memory (Swap (Root a) word) (Found old) m took, refl) (written_plain a word old m took)
-
-  -- the block that was at the root, if there was one, is unlinked; `n` is the world before that, in which it is linked there
-  unlinked : (a old : ℕ) (m : Mem T) (n : World T) (so : View T → Type 0) → so (Inside t (cut_in old)) → Users defers fixed s id t m n Nothing
-      → RootsNameLinked m n.hand
-      → ((b : ℕ) → w.hand b ≡ world.InUse a → n.hand b ≡ world.InUse a)
-      → (block_in old ≡ 0) ⊎ (w.hand (block_in old) ≡ world.InUse a)
-      → ((c found : ℕ) → word_at m (Root c) ≡ Some found → (block_in found ≡ 0) ⊎ (block_in found ≢ block_in old))
-      → Goes H Keeps s m id so
-  unlinked a old m n so is u named still was fresh = by (block_in old == 0) refl was
+  -- the block that is taken from a root is in the seat's hand
+  cuts : (a old : ℕ) (m : Mem T) (so : View T → Type 0) → so (Inside t (cut_in old)) → Cuts defers fixed s id t m old so
+  cuts a old m so is = record {
+    none = λ e n u. users defers fixed s id t h had at m n Nothing u so (at_view true e);
+    cut = λ e n u. users defers fixed s id t h had at m n (Cut (block_in old)) u so (at_view false e);
+  }
     where
       at_view : (y : Bool) → (block_in old == 0) ≡ y → so (Inside t (if y then Nothing else Cut (block_in old)))
       at_view y e = subst (λ (z : Bool). so (Inside t (if z then Nothing else Cut (block_in old)))) e is
 
-      by : (y : Bool) → (block_in old == 0) ≡ y → (block_in old ≡ 0) ⊎ (w.hand (block_in old) ≡ world.InUse a) → Goes H Keeps s m id so
-      by true e was = users defers fixed s id t had h at m n Nothing u so (at_view true e)
-      by false e (inl none) = absurd (let k = eq-eqb (block_in old) 0 none in cc (k, e))
-      by false e (inr linked) =
-          let mine : n.hand (block_in old) ≡ world.InUse a = still (block_in old) linked in
-          let v : World T = with_effect (with_hand n (block_in old) (world.Cutting id)) (Unlinked (block_in old)) in
-          let keep : (b : ℕ) (k : Hand) → (k ≡ world.InUse a → ⊥) → n.hand b ≡ k → v.hand b ≡ k =
-          (λ b k ne f. with_other n.hand (block_in old) b (world.Cutting id) (λ q. ne (sym f ∙ ap n.hand q ∙ mine)) ∙ f) in
-          users defers fixed s id t had h at m v (Cut (block_in old)) (record {
-            came = came_then defers fixed n v (Unlinks id (block_in old)) u.came (subst (λ (k : Hand). MayCut id k) (sym mine) tt, refl);
-            memory = u.memory;
-            row = u.row;
-            uses = u.uses;
-            in_hand = with_here n.hand (block_in old) (world.Cutting id);
-            hands = λ j b ne. (
-              λ f. keep b (world.Making j) (making_use j a) ((u.hands j b ne).0 f),
-              λ f. keep b (world.Cutting j) (cutting_use j a) ((u.hands j b ne).1 f),
-            );
-            values = u.values;
-            held = λ c b held. held_on c b (Unlinked (block_in old)) n.log tt (u.held c b held);
-            over = u.over;
-            roots = λ c found e. elim (fresh c found e) as (λ _. (block_in found ≡ 0) ⊎ (v.hand (block_in found) ≡ world.InUse c)) [
-              | inl none ↦ inl none
-              | inr ne ↦ other c found (named c found e) ne
-            ];
-            rooted = u.rooted;
-            plain = u.plain;
-            passes = passes_then defers fixed s id t n v (Unlinks id (block_in old)) tt (λ j. tt) u.passes
-                (subst (λ (k : Hand). MayCut id k) (sym mine) tt, refl) u.plain;
-          }) so (at_view false e)
-        where
-          other : (c found : ℕ) → (block_in found ≡ 0) ⊎ (n.hand (block_in found) ≡ world.InUse c) → block_in found ≢ (block_in old)
-              → (block_in found ≡ 0) ⊎ (with_at n.hand (block_in old) (world.Cutting id) (block_in found) ≡ world.InUse c)
-          other c found (inl none) ne = inl none
-          other c found (inr f) ne = inr (with_other n.hand (block_in old) (block_in found) (world.Cutting id) ne ∙ f)
-
-  -- no root names the block that was taken from one
-  fresh : (a word old : ℕ) (m : Mem T) → Took s.memory (Swap (Root a) word) (Found old) m → (block_in old ≡ 0) ⊎ (w.hand (block_in old) ≡ world.InUse a)
-      → (block_in word ≡ 0) ⊎ (block_in word ≢ block_in old)
-      → (c found : ℕ) → word_at m (Root c) ≡ Some found → (block_in found ≡ 0) ⊎ (block_in found ≢ block_in old)
-  fresh a word old m took was new c found e = by (cases_eq c a) (subst (λ (l : List ℕ). slice_get l c ≡ Some found) (swapped a word old m took) e)
-    where
-      was_linked : c ≢ a → w.hand (block_in found) ≡ world.InUse c → (block_in old ≡ 0) ⊎ (w.hand (block_in old) ≡ world.InUse a)
-          → (block_in found ≡ 0) ⊎ (block_in found ≢ block_in old)
-      was_linked ne is (inr linked) = inr (λ q. ne (same_use c a (sym is ∙ ap w.hand q ∙ linked)))
-      was_linked ne is (inl none) = elim (cases_eq (block_in found) 0) as (λ _. (block_in found ≡ 0) ⊎ (block_in found ≢ block_in old)) [
-        | inl z ↦ inl z
-        | inr nz ↦ inr (λ q. nz (q ∙ none))
-      ]
-
-      by : (c ≡ a) ⊎ (c ≢ a) → slice_get (slice_set s.memory.roots a word) c ≡ Some found → (block_in found ≡ 0) ⊎ (block_in found ≢ block_in old)
-      by (inl is) q =
-          let set = subst (λ (k : ℕ). slice_get (slice_set s.memory.roots a word) k ≡ Some found) is q in
-          let same : word ≡ found = same_some word found (sym (there s.memory.roots a word old took.0) ∙ set) in
-          subst (λ (k : ℕ). (block_in k ≡ 0) ⊎ (block_in k ≢ block_in old)) same new
-      by (inr ne) q = elim (h.roots c found (sym (elsewhere s.memory.roots a c word ne) ∙ q)) as (λ _. (block_in found ≡ 0) ⊎ (block_in found ≢ block_in old)) [
-        | inl none ↦ inl none
-        | inr is ↦ was_linked ne is was
-      ]
-
-  root_can : (a : ℕ) → a < fixed.roots → IsSome (word_at s.memory (Root a))
-  root_can a lt = root_there s.memory.roots a (subst (λ (k : ℕ). a < k) (sym h.rooted) lt)
-
   -- the block that was made is put at a root
-  links : (b a : ℕ) → had ≡ Made b → (old : ℕ) (m : Mem T) → Took s.memory (Swap (Root a) (link_to b)) (Found old) m → (so : View T → Type 0)
-      → so (Inside t (cut_in old)) → Goes H Keeps s m id so
-  links b a is old m took so tells =
+  links : (b a : ℕ) → w.hand b ≡ world.Making id → (old : ℕ) (m : Mem T) → Wrote defers fixed s id a (link_to b) old m → (so : View T → Type 0)
+      → so (Inside t (cut_in old))
+      → Goes H Keeps s m id so
+  links b a mine old m wrote so tells =
       let word : ℕ = link_to b in
-      let mine : w.hand b ≡ world.Making id = subst (λ (x : Has). IsInHand w id t x) is fit.known in
       let n : World T = with_effect (with_hand (record w { memory = m }) b (world.InUse a)) (Linked b a) in
       let other : (c : ℕ) (k : Hand) → (k ≡ world.Making id → ⊥) → w.hand c ≡ k → n.hand c ≡ k =
       (λ c k ne f. beside w b c (world.InUse a) k (λ e. ne (e ∙ mine)) f) in
-      let was = h.roots a old took.0 in
+      let was = h.roots a old wrote.there in
       let named : RootsNameLinked m n.hand =
-      roots_now a word old m n.hand took (inr (ap n.hand (block_of_link b) ∙ with_here w.hand b (world.InUse a)))
+      roots_now defers fixed s id (Inside t had) h at a word old m n.hand wrote (inr (ap n.hand (block_of_link b) ∙ with_here w.hand b (world.InUse a)))
       (λ c e ne f. other c (world.InUse e) (use_making e id) f) in
       let is_new : (block_in word ≡ 0) ⊎ (block_in word ≢ block_in old) = new_block b a old mine was (cases_eq b 0) in
-      unlinked a old m n so tells (record {
-        came = came_then defers fixed (record w { memory = m }) n (Links id b a) (wrote a word old m took) ((id, mine), refl);
+      unlinked defers fixed s id (Inside t had) h at t a old m n so (cuts a old m so tells) (record {
+        came = came_then defers fixed (record w { memory = m }) n (Links id b a) wrote.came ((id, mine), refl);
         memory = refl;
         row = refl;
         uses = refl;
         in_hand = tt;
         hands = λ j c ne. (λ f. other c (world.Making j) (λ e. ne (apart_making j id e)) f, λ f. other c (world.Cutting j) (cutting_making j id) f);
-        values = λ c some some2. value_written a word old m took c;
+        values = λ c some some2. wrote.values c;
         held = λ e c held. held_on e c (Linked b a) w.log tt held;
         over = λ e c held. ap (λ (y : Bool). cond y false (is_over c w.log)) (ne_eqb c b (making_not_held defers fixed.batch_size w r id e b c held mine));
         roots = named;
-        rooted = rooted_still a word old m took;
-        plain = written_plain a word old m took;
-        passes = passes_then defers fixed s id t (record w { memory = m }) n (Links id b a) tt (λ j. tt) (written_passes a word old m took) ((id, mine), refl)
-            (written_plain a word old m took);
-      }) named (λ c f. other c (world.InUse a) (use_making a id) f) was (fresh a word old m took was is_new)
+        rooted = rooted_still defers fixed s id (Inside t had) h at a word old m wrote;
+        plain = wrote.plain;
+        passes = passes_then defers fixed s id t (record w { memory = m }) n (Links id b a) tt (λ j. tt) wrote.passes ((id, mine), refl) wrote.plain;
+      }) named (λ c f. other c (world.InUse a) (use_making a id) f) was (fresh defers fixed s id (Inside t had) h at a word old m wrote was is_new)
     where
       new_block : (b a old : ℕ) → w.hand b ≡ world.Making id → (block_in old ≡ 0) ⊎ (w.hand (block_in old) ≡ world.InUse a) → (b ≡ 0) ⊎ (b ≢ 0)
           → (block_in (link_to b) ≡ 0) ⊎ (block_in (link_to b) ≢ block_in old)
@@ -272,65 +160,108 @@ module _ {T : Type 0} (defers : T → Option ℕ) (fixed : Fixed) (s : State T (
       new_block b a old mine (inr linked) (inr nz) =
           inr (λ e. making_use id a (sym mine ∙ ap w.hand (sym (block_of_link b) ∙ e) ∙ linked))
 
-  -- a root is cleared
-  clears : (a old : ℕ) (m : Mem T) → Took s.memory (Swap (Root a) 0) (Found old) m → (so : View T → Type 0) → so (Inside t (cut_in old))
-      → Goes H Keeps s m id so
-  clears a old m took so tells =
-      let n : World T = record w { memory = m } in
-      let was = h.roots a old took.0 in
-      let named : RootsNameLinked m n.hand = roots_now a 0 old m n.hand took (inl refl) (λ c e ne f. f) in
-      unlinked a old m n so tells (record {
-        came = wrote a 0 old m took;
-        memory = refl;
-        row = refl;
-        uses = refl;
-        in_hand = tt;
-        hands = λ j c ne. (λ f. f, λ f. f);
-        values = λ c some some2. value_written a 0 old m took c;
-        held = λ e c held. held;
-        over = λ e c held. refl;
-        roots = named;
-        rooted = rooted_still a 0 old m took;
-        plain = written_plain a 0 old m took;
-        passes = written_passes a 0 old m took;
-      }) named (λ c f. f) was (fresh a 0 old m took was (inl refl))
+  -- the block that was made is put at a root in place of this word, or what is there is seen
+  exchanges : (b a old : ℕ) → w.hand b ≡ world.Making id → (so : Out T → View T → Type 0) → so (Exchanged (Ok old)) (Inside t (cut_in old))
+      → ((word : ℕ) → so (Exchanged (Err word)) (Inside t (made_beside b (block_in word)))) → (out : Out T) (m : Mem T)
+      → Took s.memory (Exchange (Root a) old (link_to b)) out m → Goes H Keeps s m id (so out)
+  exchanges b a old mine so cut other (Exchanged (Ok word)) m took =
+      subst (λ (k : ℕ). Goes H Keeps s m id (so (Exchanged (Ok k)))) (sym took.0.1)
+      (links b a mine old m
+      (wrote defers fixed s id (Inside t had) h at a (link_to b) old m (Exchange (Root a) old (link_to b)) (Exchanged (Ok word)) tt took
+      (took.0.0 ∙ ap Some took.0.1) took.1)
+      (so (Exchanged (Ok old))) cut)
+  exchanges b a old mine so cut other (Exchanged (Err word)) m took =
+      looks m (made_beside b (block_in word)) took.1 (beside_known b a word mine took.0.0 (block_in word == 0) refl) (so (Exchanged (Err word))) (other word)
+  exchanges b a old mine so cut other (Found x) m took = absurd took.0
+  exchanges b a old mine so cut other Stored m took = absurd took.0
+  exchanges b a old mine so cut other (OutMade x) m took = absurd took.0
+  exchanges b a old mine so cut other (Taken x) m took = absurd took.0
+  exchanges b a old mine so cut other (Roomed x) m took = absurd took.0
 
 module _ (T : Type 0) (defers : T → Option ℕ) where
   pub roots_are_seen : RootsAreSeen T defers
   roots_are_seen Nothing a fixed id t looks lt s h at = (
-    root_can defers fixed s id t Nothing h at a lt,
+    root_can defers fixed s id (Inside t Nothing) h at a lt,
     λ out m took. sees defers fixed s id t Nothing h at a out m took (told defers (Inside t Nothing) (Load (Root a)) out)
         (λ word e. subst (λ (o : Out T). told defers (Inside t Nothing) (Load (Root a)) o (Inside t (seen_in word))) (sym e) (seen_in word, refl, refl)),
   )
   roots_are_seen (Seen b) a fixed id t looks lt s h at = (
-    root_can defers fixed s id t (Seen b) h at a lt,
+    root_can defers fixed s id (Inside t (Seen b)) h at a lt,
     λ out m took. sees defers fixed s id t (Seen b) h at a out m took (told defers (Inside t (Seen b)) (Load (Root a)) out)
         (λ word e. subst (λ (o : Out T). told defers (Inside t (Seen b)) (Load (Root a)) o (Inside t (seen_in word))) (sym e) (seen_in word, refl, refl)),
   )
   roots_are_seen (Made b) a fixed id t looks lt s h at = absurd looks
+  roots_are_seen (Both b c) a fixed id t looks lt s h at = absurd looks
   roots_are_seen (Cut b) a fixed id t looks lt s h at = absurd looks
 
   pub made_are_linked : MadeAreLinked T defers
-  made_are_linked b a fixed id t lt s h at = (root_can defers fixed s id t (Made b) h at a lt, λ out m took. by out m took)
+  made_are_linked b a fixed id t lt s h at = (root_can defers fixed s id (Inside t (Made b)) h at a lt, λ out m took. by out m took)
     where
       by : (out : Out T) (m : Mem T) → Took s.memory (Swap (Root a) (link_to b)) out m
           → Goes (Holds defers fixed) Keeps s m id (told defers (Inside t (Made b)) (Swap (Root a) (link_to b)) out)
       by (Found old) m took =
-          links defers fixed s id t (Made b) h at b a refl old m took (told defers (Inside t (Made b)) (Swap (Root a) (link_to b)) (Found old))
-          (cut_in old, refl, refl)
+          links defers fixed s id t (Made b) h at b a (h.seats id (Inside t (Made b)) at).known old m
+          (wrote defers fixed s id (Inside t (Made b)) h at a (link_to b) old m (Swap (Root a) (link_to b)) (Found old) tt took took.0 took.1)
+          (told defers (Inside t (Made b)) (Swap (Root a) (link_to b)) (Found old)) (cut_in old, refl, refl)
       by Stored m took = absurd took.0
       by (Exchanged x) m took = absurd took.0
       by (OutMade x) m took = absurd took.0
       by (Taken x) m took = absurd took.0
       by (Roomed x) m took = absurd took.0
 
+  pub made_are_exchanged : MadeAreExchanged T defers
+  made_are_exchanged (Made c) b a old fixed id t is lt s h at = (
+    root_can defers fixed s id (Inside t (Made c)) h at a lt,
+    exchanges defers fixed s id t (Made c) h at b a old (subst (λ (k : ℕ). s.world.hand k ≡ world.Making id) is (h.seats id (Inside t (Made c)) at).known)
+        (told defers (Inside t (Made c)) (Exchange (Root a) old (link_to b))) (cut_in old, refl, refl)
+        (λ word. (made_beside b (block_in word), ap (λ (k : ℕ). made_beside k (block_in word)) (sym is), refl)),
+  )
+  made_are_exchanged (Both c d) b a old fixed id t is lt s h at = (
+    root_can defers fixed s id (Inside t (Both c d)) h at a lt,
+    exchanges defers fixed s id t (Both c d) h at b a old (subst (λ (k : ℕ). s.world.hand k ≡ world.Making id) is (h.seats id (Inside t (Both c d)) at).known.0)
+        (told defers (Inside t (Both c d)) (Exchange (Root a) old (link_to b))) (cut_in old, refl, refl)
+        (λ word. (made_beside b (block_in word), ap (λ (k : ℕ). made_beside k (block_in word)) (sym is), refl)),
+  )
+  made_are_exchanged Nothing b a old fixed id t is lt s h at = absurd is
+  made_are_exchanged (Seen c) b a old fixed id t is lt s h at = absurd is
+  made_are_exchanged (Cut c) b a old fixed id t is lt s h at = absurd is
+
   pub roots_are_cleared : RootsAreCleared T defers
-  roots_are_cleared a fixed id t lt s h at = (root_can defers fixed s id t Nothing h at a lt, λ out m took. by out m took)
+  roots_are_cleared a fixed id t lt s h at = (root_can defers fixed s id (Inside t Nothing) h at a lt, λ out m took. by out m took)
     where
       by : (out : Out T) (m : Mem T) → Took s.memory (Swap (Root a) 0) out m
           → Goes (Holds defers fixed) Keeps s m id (told defers (Inside t Nothing) (Swap (Root a) 0) out)
       by (Found old) m took =
-          clears defers fixed s id t Nothing h at a old m took (told defers (Inside t Nothing) (Swap (Root a) 0) (Found old)) (cut_in old, refl, refl)
+          clears defers fixed s id (Inside t Nothing) h at t a old m
+          (wrote defers fixed s id (Inside t Nothing) h at a 0 old m (Swap (Root a) 0) (Found old) tt took took.0 took.1)
+          (told defers (Inside t Nothing) (Swap (Root a) 0) (Found old))
+          (cuts defers fixed s id t Nothing h at a old m (told defers (Inside t Nothing) (Swap (Root a) 0) (Found old)) (cut_in old, refl, refl))
+      by Stored m took = absurd took.0
+      by (Exchanged x) m took = absurd took.0
+      by (OutMade x) m took = absurd took.0
+      by (Taken x) m took = absurd took.0
+      by (Roomed x) m took = absurd took.0
+
+  pub roots_are_withdrawn : RootsAreWithdrawn T defers
+  roots_are_withdrawn a fixed id t lt s h at = (root_can defers fixed s id (Outside t) h at a lt, λ out m took. by out m took)
+    where
+      owes : (old : ℕ) (m : Mem T) → Cuts defers fixed s id t m old (told defers (Outside t) (Swap (Root a) 0) (Found old))
+      owes old m = record {
+        none = λ e n u. users_outside defers fixed s id t h at m n u (told defers (Outside t) (Swap (Root a) 0) (Found old)) (at_view true e);
+        cut = λ e n u.
+            users_owe defers fixed s id t h at m n (block_in old) u (told defers (Outside t) (Swap (Root a) 0) (Found old)) (at_view false e);
+      }
+        where
+          at_view : (y : Bool) → (block_in old == 0) ≡ y
+              → told defers (Outside t) (Swap (Root a) 0) (Found old) (if y then Outside t else Owes t (block_in old))
+          at_view y e = subst (λ (z : Bool). told defers (Outside t) (Swap (Root a) 0) (Found old) (if z then Outside t else Owes t (block_in old))) e refl
+
+      by : (out : Out T) (m : Mem T) → Took s.memory (Swap (Root a) 0) out m
+          → Goes (Holds defers fixed) Keeps s m id (told defers (Outside t) (Swap (Root a) 0) out)
+      by (Found old) m took =
+          clears defers fixed s id (Outside t) h at t a old m
+          (wrote defers fixed s id (Outside t) h at a 0 old m (Swap (Root a) 0) (Found old) tt took took.0 took.1)
+          (told defers (Outside t) (Swap (Root a) 0) (Found old)) (owes old m)
       by Stored m took = absurd took.0
       by (Exchanged x) m took = absurd took.0
       by (OutMade x) m took = absurd took.0

@@ -29,7 +29,7 @@ use Rattle.seize_acts.proofs.Answers.{same_some, ended}
 use Rattle.seize_acts.proofs.Steps.{sees_end}
 use Rattle.seize_ends.proofs.Batches.Rows.{settles_memory}
 use Rattle.seize_seats.specs.State.{State, view_of, Goes as GoesOnBy}
-use Rattle.seize_shared.specs.Bounds.{HasCounted, HasTried, IsAloneOnSlot, IsAny, ArePlain, CountsWithin, TriesWithin}
+use Rattle.seize_bounds.specs.Bounds.{HasCounted, HasTried, IsAloneOnSlot, IsAny, ArePlain, CountsWithin, TriesWithin}
 use Rattle.seize_shared.specs.Rows.{settles_for, used_for, leave_of, counting, IsLooked, IsBounded, Holds, Keeps}
 use Rattle.seize_shared.specs.Told.{shown_by, FollowsBy, told}
 use Rattle.seize_shared.specs.Promises.{op_in}
@@ -39,7 +39,7 @@ use Rattle.seize_shared.specs.declared.view.View.TheVariants.{Settles}
 use Rattle.seize_shared.specs.declared.view.Why.{Why}
 use Rattle.seize_shared.specs.declared.view.Why.TheVariants.{Retiring, Ending}
 use Rattle.seize_shared.specs.declared.view.Fixed.{Fixed}
-use Rattle.seize_shared.proofs.Bounds.Passing.{steps_within}
+use Rattle.seize_bounds.proofs.Bounds.Passing.{steps_within}
 use Rattle.seize_shared.proofs.Moved.{moved}
 use Rattle.seize_shared.proofs.Steps.{reached, alone, step_of, step_plain, stepped}
 use Rattle.seize_shared.proofs.Operations.{may, used_as, slot_of}
@@ -88,7 +88,7 @@ module _ {T : Type 0} (defers : T → Option ℕ) (fixed : Fixed) (s : State T (
   -- what the settling relies on
   fits_for : (y : Why) → FitsRow (LAST_SLOT + 1) id (view defers w.memory) r.good.state r.good.extra (length w.memory.slots) (settles_for y c)
       → FitsSettle (LAST_SLOT + 1) id (view defers w.memory) r.good.state r.good.extra c
-  fits_for Retiring f = f
+  fits_for (Retiring x) f = f
   fits_for (Ending size way) f = f.settles
 
   fits : FitsSettle (LAST_SLOT + 1) id (view defers w.memory) r.good.state r.good.extra c
@@ -97,18 +97,18 @@ module _ {T : Type 0} (defers : T → Option ℕ) (fixed : Fixed) (s : State T (
 
   -- the world after a step, by what it is for
   abbrev after : Why → Mem T → Settle × Settled T → World T
-  after Retiring m end = settles_on w id c m end
+  after (Retiring x) m end = settles_on w id c m end
   after (Ending size way) m end = leaves_on w id (counting size way c) m (leave_settled (counting size way c) end)
 
   steps : (y : Why) (m : Mem T) (end : Settle × Settled T) → Steps Took value_at w.memory (settle_plan defers c) m end
       → Steps' defers id (settles_for y c) w (after y m end)
-  steps Retiring m end st = (m, end, st, refl)
+  steps (Retiring x) m end st = (m, end, st, refl)
   steps (Ending size way) m end st =
       let d : Leave = counting size way c in
       (m, leave_settled d end, steps_as (leave_settled d) Can Took value_at w.memory m (settle_plan defers c) end st, refl)
 
   memory : (y : Why) (m : Mem T) (end : Settle × Settled T) → m ≡ (after y m end).memory
-  memory Retiring m end = sym (settles_memory w id m c end.0 end.1)
+  memory (Retiring x) m end = sym (settles_memory w id m c end.0 end.1)
   memory (Ending size way) m end = refl
 
   ending : (size : ℕ) (way : Becomes) (d : Settle) → d.slot ≡ c.slot
@@ -119,10 +119,10 @@ module _ {T : Type 0} (defers : T → Option ℕ) (fixed : Fixed) (s : State T (
 
   -- the row goes on
   row : (y : Why) (m : Mem T) (d : Settle) (p : Settled T) → IsGoing p → d.slot ≡ c.slot → (after y m (d, p)).row id ≡ settles_for y d
-  row Retiring m d Goes going slot = with_here w.row id (world.Settles d)
-  row Retiring m d Waits going slot = with_here w.row id (world.Settles d)
-  row Retiring m d (Gave value) going slot = with_here w.row id (world.Settles d)
-  row Retiring m d Done going slot = absurd going
+  row (Retiring x) m d Goes going slot = with_here w.row id (world.Settles d)
+  row (Retiring x) m d Waits going slot = with_here w.row id (world.Settles d)
+  row (Retiring x) m d (Gave value) going slot = with_here w.row id (world.Settles d)
+  row (Retiring x) m d Done going slot = absurd going
   row (Ending size way) m d Goes going slot = ending size way d slot
   row (Ending size way) m d Waits going slot = ending size way d slot
   row (Ending size way) m d (Gave value) going slot = ending size way d slot
@@ -130,10 +130,10 @@ module _ {T : Type 0} (defers : T → Option ℕ) (fixed : Fixed) (s : State T (
 
   used : (y : Why) (m : Mem T) (d : Settle) (p : Settled T) → IsGoing p → d.slot ≡ c.slot → w.uses c.slot ≡ used_for y
       → (after y m (d, p)).uses d.slot ≡ used_for y
-  used Retiring m d Goes going slot is = ap w.uses slot ∙ is
-  used Retiring m d Waits going slot is = ap w.uses slot ∙ is
-  used Retiring m d (Gave value) going slot is = ap w.uses slot ∙ is
-  used Retiring m d Done going slot is = absurd going
+  used (Retiring x) m d Goes going slot is = ap w.uses slot ∙ is
+  used (Retiring x) m d Waits going slot is = ap w.uses slot ∙ is
+  used (Retiring x) m d (Gave value) going slot is = ap w.uses slot ∙ is
+  used (Retiring x) m d Done going slot is = absurd going
   used (Ending size way) m d Done going slot is = absurd going
   used (Ending size way) m d _ going slot is =
       ap (λ (t : ℕ). with_at w.uses c.slot (w.uses c.slot) t) slot ∙ with_here w.uses c.slot (w.uses c.slot) ∙ is
@@ -145,13 +145,13 @@ module _ {T : Type 0} (defers : T → Option ℕ) (fixed : Fixed) (s : State T (
     pub bounded : (d : Settle) (look : Option (ℕ × T)) → IsBounded defers fixed n id (Settles d y look now)
 
   next : (y : Why) → why ≡ y → (n : World T) → Steps' defers id (w.row id) w n → ArePlain defers n.memory → is_over c.stands ≡ false → Next y n
-  next Retiring e n step plain on =
+  next (Retiring x) e n step plain on =
       let had : TriesWithin defers fixed.batch_size id left w =
       subst (λ (y : Why). IsBounded defers fixed w id (Settles c y seen left)) e (h.bounded id v at_id) in
       let k = steps_within defers (IsAloneOnSlot id) HasTried fixed.batch_size id left w n had not_tried step plain in
       record { now = k.0; falls = k.1; bounded = λ d look. k.2 }
     where
-      tried : HasTried (settles_for Retiring c) → c.stands ≡ at.Over
+      tried : HasTried (settles_for (Retiring x) c) → c.stands ≡ at.Over
       tried is = is
 
       not_tried : HasTried (w.row id) → ⊥

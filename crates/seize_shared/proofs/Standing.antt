@@ -1,14 +1,15 @@
 -- What a seat knows that stands so.
 use Rattle.std.specs.Prelude.{Some, None, ◌==◌, if◌then◌else◌}
-use Rattle.std.proofs.Common.{◌≡◌, ℕ, Bool, true, false, refl, ap, sym, ◌∙◌}
-use Rattle.std.proofs.lemmas.Bool.{eqb-false, ne_eqb}
+use Rattle.std.proofs.Common.{◌≡◌, ℕ, Bool, true, false, inl, inr, refl, ap, sym, subst, ◌∙◌}
+use Rattle.std.proofs.lemmas.Bool.{eqb-false, ne_eqb, eq-eqb, cases_eq}
 use Rattle.seize_acts.proofs.Answers.{same_some}
 use Rattle.seize_shared.specs.Standing.{standing}
+use Rattle.seize_shared.specs.Told.{seen_as}
 use Rattle.seize_shared.specs.Promises.{IsLooking}
 use Rattle.seize_shared.specs.declared.view.View.{View}
-use Rattle.seize_shared.specs.declared.view.View.TheVariants.{Rests, Registers, Outside, Enters, Inside, Settles, Leaves, Left, Frees}
+use Rattle.seize_shared.specs.declared.view.View.TheVariants.{Rests, Registers, Outside, Owes, Enters, Inside, Settles, Leaves, Left, Frees}
 use Rattle.seize_shared.specs.declared.view.Has.{Has}
-use Rattle.seize_shared.specs.declared.view.Has.TheVariants.{Nothing, Made, Seen, Cut}
+use Rattle.seize_shared.specs.declared.view.Has.TheVariants.{Nothing, Made, Seen, Both, Cut}
 
 abbrev Standing : Type 0
 Standing = ℕ × Bool × ℕ
@@ -31,19 +32,26 @@ looking : (has : Has) (k : ℕ) → Knows has k → IsLooking has
 looking Nothing k knows = tt
 looking (Seen b) k knows = tt
 looking (Made b) k knows = knows
+looking (Both b a) k knows = knows
 looking (Cut b) k knows = knows
 
 none_seen : (has : Has) → Knows has 0 → has ≡ Nothing
 none_seen Nothing knows = refl
 none_seen (Seen b) knows = absurd (knows.1 knows.0)
 none_seen (Made b) knows = absurd knows
+none_seen (Both b a) knows = absurd knows
 none_seen (Cut b) knows = absurd knows
 
 some_seen : (has : Has) (k : ℕ) → Knows has k → (k ≡ 0 → ⊥) → has ≡ Seen k
 some_seen Nothing k knows ne = absurd (ne knows)
 some_seen (Seen b) k knows ne = ap Seen knows.0
 some_seen (Made b) k knows ne = absurd knows
+some_seen (Both b a) k knows ne = absurd knows
 some_seen (Cut b) k knows ne = absurd knows
+
+-- one that has seen a block stands so
+pub stands_seen : (T : Type 0) (t b : ℕ) → (b ≡ 0 → ⊥) → standing {T = T} (Inside t (Seen b)) ≡ Some (stands t true b)
+stands_seen T t b ne = ap (λ (y : Bool). if y then None else Some (stands t true b)) (ne_eqb b 0 ne)
 
 module _ {T : Type 0} (t : ℕ) where
   pub is_outside : (k : ℕ) (v : View T) → standing v ≡ Some (stands t false k) → v ≡ Outside t
@@ -55,7 +63,9 @@ module _ {T : Type 0} (t : ℕ) where
       by true f = cc f
       by false f = let p = (same t s k b true false f).1 in cc p
   is_outside k (Inside s (Made b)) e = absurd (cc e)
+  is_outside k (Inside s (Both b a)) e = absurd (cc e)
   is_outside k (Inside s (Cut b)) e = absurd (cc e)
+  is_outside k (Owes s b) e = absurd (cc e)
   is_outside k Rests e = absurd (cc e)
   is_outside k (Registers c) e = absurd (cc e)
   is_outside k (Enters s) e = absurd (cc e)
@@ -74,7 +84,9 @@ module _ {T : Type 0} (t : ℕ) where
       by v at false is f = let p = same t s k b true true f in (Seen b, (p.2, eqb-false b 0 is), at ∙ ap (λ (n : ℕ). Inside n (Seen b)) p.0)
   inside k (Outside s) e = absurd (let p = (same t s k 0 false true e).1 in cc p)
   inside k (Inside s (Made b)) e = absurd (cc e)
+  inside k (Inside s (Both b a)) e = absurd (cc e)
   inside k (Inside s (Cut b)) e = absurd (cc e)
+  inside k (Owes s b) e = absurd (cc e)
   inside k Rests e = absurd (cc e)
   inside k (Registers c) e = absurd (cc e)
   inside k (Enters s) e = absurd (cc e)
@@ -97,6 +109,17 @@ module _ {T : Type 0} (t : ℕ) where
       none : (k : ℕ) (v : View T) → standing v ≡ Some (stands t false k) → k ≡ 0
       none k v e = let o = is_outside k v e in sym (same t t k 0 false false (ap standing (sym o) ∙ e)).2
 
--- one that has seen a block stands so
-pub stands_seen : (T : Type 0) (t b : ℕ) → (b ≡ 0 → ⊥) → standing {T = T} (Inside t (Seen b)) ≡ Some (stands t true b)
-stands_seen T t b ne = ap (λ (y : Bool). if y then None else Some (stands t true b)) (ne_eqb b 0 ne)
+  -- who is inside knows of the block that it has seen, or of none
+  pub knows_seen : (k : ℕ) (v : View T) → standing v ≡ Some (stands t true k) → v ≡ Inside t (seen_as k)
+  knows_seen k v e = elim (cases_eq k 0) as (λ _. v ≡ Inside t (seen_as k)) [
+    | inl z ↦
+        subst (λ (n : ℕ). v ≡ Inside t (seen_as n)) (sym z) (has_nothing v (subst (λ (n : ℕ). standing v ≡ Some (stands t true n)) z e))
+    | inr nz ↦ has_seen true k v e nz ∙ sym (ap (λ (y : Bool). Inside t (if y then Nothing else Seen k)) (ne_eqb k 0 nz))
+  ]
+
+  -- and stands so
+  pub stands_as : (k : ℕ) (v : View T) → v ≡ Inside t (seen_as k) → standing v ≡ Some (stands t true k)
+  stands_as k v e = elim (cases_eq k 0) as (λ _. standing v ≡ Some (stands t true k)) [
+    | inl z ↦ ap standing (e ∙ ap (λ (n : ℕ). Inside t (seen_as n)) z) ∙ ap (λ (n : ℕ). Some (stands t true n)) (sym z)
+    | inr nz ↦ ap standing (e ∙ ap (λ (y : Bool). Inside t (if y then Nothing else Seen k)) (ne_eqb k 0 nz)) ∙ stands_seen T t k nz
+  ]

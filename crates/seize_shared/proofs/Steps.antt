@@ -20,10 +20,10 @@ use Rattle.seize_alone.proofs.Histories.Reached.{Reached, runs_reached}
 use Rattle.seize_alone.proofs.Histories.NotTaken.{IsHad, still_held, kept_hand, taken_gone, did}
 use Rattle.seize_alone.proofs.Histories.Uses.{uses_kept}
 use Rattle.seize_seats.specs.State.{State, view_of}
-use Rattle.seize_shared.specs.Bounds.{ArePlain}
-use Rattle.seize_shared.specs.Rows.{row_of, use_of, IsSeeking, IsShort, IsUsed, RootsNameLinked, Fits, Came, IsBounded, Holds}
+use Rattle.seize_bounds.specs.Bounds.{ArePlain}
+use Rattle.seize_shared.specs.Rows.{row_of, use_of, used_for, IsSeeking, IsShort, IsUsed, RootsNameLinked, Fits, Came, IsBounded, Holds}
 use Rattle.seize_shared.specs.declared.view.View.{View}
-use Rattle.seize_shared.specs.declared.view.View.TheVariants.{Rests, Registers, Outside, Enters, Inside, Settles, Leaves, Left, Frees}
+use Rattle.seize_shared.specs.declared.view.View.TheVariants.{Rests, Registers, Outside, Owes, Enters, Inside, Settles, Leaves, Left, Frees}
 use Rattle.seize_shared.specs.declared.view.Why.TheVariants.{Retiring, Ending}
 use Rattle.seize_shared.specs.declared.view.Fixed.{Fixed}
 use Rattle.seize_shared.proofs.Moved.{Moved, not_vacant, used_so, still_used}
@@ -58,9 +58,10 @@ works_on_own (Registers c) short t e = absurd (by c.stands short.1 e)
     by at.Registered seeks f = seeks
     by (at.Refused fault) seeks f = seeks
 works_on_own (Outside s) short t e = absurd (omega (arith, e))
+works_on_own (Owes s b) short t e = absurd (omega (arith, e))
 works_on_own (Enters s) short t e = (world.Changing, ap (λ (k : ℕ). Some (k, world.Changing)) (omega (arith, e)))
 works_on_own (Inside s has) short t e = absurd (omega (arith, e))
-works_on_own (Settles c Retiring seen left) short t e = (world.Inside 1, ap (λ (k : ℕ). Some (k, world.Inside 1)) (omega (arith, e)))
+works_on_own (Settles c (Retiring way) seen left) short t e = (used_for (Retiring way), ap (λ (k : ℕ). Some (k, used_for (Retiring way))) (omega (arith, e)))
 works_on_own (Settles c (Ending size way) seen left) short t e = (world.Changing, ap (λ (k : ℕ). Some (k, world.Changing)) (omega (arith, e)))
 works_on_own (Leaves s size way) short t e = (world.Changing, ap (λ (k : ℕ). Some (k, world.Changing)) (omega (arith, e)))
 works_on_own (Left s size way) short t e = (world.Changing, ap (λ (k : ℕ). Some (k, world.Changing)) (omega (arith, e)))

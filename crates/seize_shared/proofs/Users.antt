@@ -14,13 +14,14 @@ use Rattle.seize_rule.proofs.Points.Aside.{HandFits}
 use Rattle.seize_rule.proofs.Rows.Others.{with_other, users_rows}
 use Rattle.seize_alone.proofs.Histories.Reached.{Reached}
 use Rattle.seize_seats.specs.State.{State, view_of, Goes}
-use Rattle.seize_shared.specs.Bounds.{IsOfOthers, IsAloneOnSlot, ArePlain}
-use Rattle.seize_shared.specs.Rows.{use_of, IsInHand, RootsNameLinked, Fits, Came, Holds, Keeps}
+use Rattle.seize_bounds.specs.Bounds.{IsOfOthers, IsAloneOnSlot, ArePlain}
+use Rattle.seize_shared.specs.Rows.{row_of, use_of, IsShort, IsUsed, IsKnown, IsBounded, IsInHand, RootsNameLinked, Fits, Came, Holds, Keeps}
 use Rattle.seize_shared.specs.declared.view.View.{View}
-use Rattle.seize_shared.specs.declared.view.View.TheVariants.{Inside}
+use Rattle.seize_shared.specs.declared.view.View.TheVariants.{Outside, Owes, Inside}
 use Rattle.seize_shared.specs.declared.view.Has.{Has}
+use Rattle.seize_shared.specs.declared.view.Has.TheVariants.{Nothing, Made, Seen, Both, Cut}
 use Rattle.seize_shared.specs.declared.view.Fixed.{Fixed}
-use Rattle.seize_shared.proofs.Bounds.Passing.{both}
+use Rattle.seize_bounds.proofs.Bounds.Passing.{both}
 use Rattle.seize_shared.proofs.Moved.{StillHas, Passes, moved, still_used}
 use Rattle.seize_shared.proofs.Steps.{alone}
 
@@ -53,6 +54,15 @@ module _ {T : Type 0} where
   pub world_took : (s : State T (View T) (World T)) → s.memory ≡ s.world.memory → (op : Op T) (out : Out T) (m : Mem T) → Took s.memory op out m
       → Took s.world.memory op out m
   world_took s is op out m took = subst (λ (x : Mem T). Took x op out m) is took
+
+  -- what is known of a block stays known where hands are as they were, and what the section holds is held
+  pub same_hand : (w n : World T) (j t : ℕ) → n.hand ≡ w.hand → ((b : ℕ) → holds t b w.log ≡ true → holds t b n.log ≡ true) → (has : Has) → IsInHand w j t has
+      → IsInHand n j t has
+  same_hand w n j t hand held Nothing is = tt
+  same_hand w n j t hand held (Made b) is = ap (λ (f : ℕ → Hand). f b) hand ∙ is
+  same_hand w n j t hand held (Seen b) is = held b is
+  same_hand w n j t hand held (Both b a) is = (ap (λ (f : ℕ → Hand). f b) hand ∙ is.0, held a is.1)
+  same_hand w n j t hand held (Cut b) is = ap (λ (f : ℕ → Hand). f b) hand ∙ is
 
   -- a block that its maker has no section holds
   pub making_not_held : (defers : T → Option ℕ) (size : ℕ) (w : World T) (r : Reached defers size w) (id a b c : ℕ) → holds a c w.log ≡ true
@@ -95,27 +105,28 @@ module _ {T : Type 0} (defers : T → Option ℕ) (fixed : Fixed) (s : State T (
       let p = before j ne was mid in
       (p.0 ++ e ∷ [], both defers (IsAloneOnSlot j) fixed.batch_size j p.0 (e ∷ []) w n v p.1 (v, is j, happens, plain, now, refl))
 
-module _ {T : Type 0} (defers : T → Option ℕ) (fixed : Fixed) (s : State T (View T) (World T)) (id t : ℕ) (had : Has) (h : Holds defers fixed s)
-    (at : view_of s id ≡ Some (Inside t had)) where
-  fit : Fits s.world id (Inside t had)
-  fit = h.seats id (Inside t had) at
+module _ {T : Type 0} (defers : T → Option ℕ) (fixed : Fixed) (s : State T (View T) (World T)) (id t : ℕ) (v x : View T) (h : Holds defers fixed s)
+    (at : view_of s id ≡ Some v) (rests : row_of v ≡ world.Rests) (still : row_of x ≡ world.Rests) (same : use_of x ≡ use_of v) (short : IsShort x) where
+  fit : Fits s.world id v
+  fit = h.seats id v at
 
-  -- the seat goes on from there
-  pub users : (m : Mem T) (n : World T) (has : Has) → Users defers fixed s id t m n has → (so : View T → Type 0) → so (Inside t has)
-      → Goes (Holds defers fixed) Keeps s m id so
-  users m n has u so is =
-      moved defers fixed s id (Inside t had) (Inside t has) m n so h at (record {
+  -- the seat goes on from one view to another, of the same slot
+  pub users_on : (m : Mem T) (n : World T) (has : Has) → Users defers fixed s id t m n has → IsKnown n id x → IsBounded defers fixed n id x
+      → (so : View T → Type 0) → so x → Goes (Holds defers fixed) Keeps s m id so
+  users_on m n has u known bounded so is =
+      moved defers fixed s id v x m n so h at (record {
         came = u.came;
         memory = u.memory;
         rows = λ j ne. ap (λ f. f j) u.row;
         own = record {
-          row = ap (λ f. f id) u.row ∙ fit.row;
-          slot = ap (λ (f : ℕ → Use). f t) u.uses ∙ fit.slot;
-          short = tt;
-          known = u.in_hand;
+          row = ap (λ f. f id) u.row ∙ fit.row ∙ rests ∙ sym still;
+          slot = subst (λ (o : Option (ℕ × Use)). IsUsed n o) (sym same)
+              (still_used s.world n (use_of v) fit.slot (λ a b q. ap (λ (f : ℕ → Use). f a) u.uses));
+          short = short;
+          known = known;
         };
-        others = λ j x ne e. still_used s.world n (use_of x) (h.seats j x e).slot (λ a b q. ap (λ (f : ℕ → Use). f a) u.uses);
-        alone = alone defers fixed s id (Inside t had) h at (Inside t has) (λ a b q. (b, q));
+        others = λ j y ne e. still_used s.world n (use_of y) (h.seats j y e).slot (λ a b q. ap (λ (f : ℕ → Use). f a) u.uses);
+        alone = alone defers fixed s id v h at x (λ a b q. (b, sym same ∙ q));
         hands = u.hands;
         values = u.values;
         held = λ a b inside held. u.held a b held;
@@ -124,5 +135,20 @@ module _ {T : Type 0} (defers : T → Option ℕ) (fixed : Fixed) (s : State T (
         rooted = u.rooted;
         plain = u.plain;
         passes = u.passes;
-        bounded = tt;
+        bounded = bounded;
       }) is
+
+module _ {T : Type 0} (defers : T → Option ℕ) (fixed : Fixed) (s : State T (View T) (World T)) (id t : ℕ) (h : Holds defers fixed s) where
+  -- within its section
+  pub users : (had : Has) → view_of s id ≡ Some (Inside t had) → (m : Mem T) (n : World T) (has : Has) → Users defers fixed s id t m n has
+      → (so : View T → Type 0) → so (Inside t has) → Goes (Holds defers fixed) Keeps s m id so
+  users had at m n has u so is = users_on defers fixed s id t (Inside t had) (Inside t has) h at refl refl refl tt m n has u u.in_hand tt so is
+
+  -- or outside of one, where it knows of no block, or of one that it has unlinked
+  pub users_outside : view_of s id ≡ Some (Outside t) → (m : Mem T) (n : World T) → Users defers fixed s id t m n Nothing → (so : View T → Type 0)
+      → so (Outside t) → Goes (Holds defers fixed) Keeps s m id so
+  users_outside at m n u so is = users_on defers fixed s id t (Outside t) (Outside t) h at refl refl refl tt m n Nothing u tt tt so is
+
+  pub users_owe : view_of s id ≡ Some (Outside t) → (m : Mem T) (n : World T) (b : ℕ) → Users defers fixed s id t m n (Cut b) → (so : View T → Type 0)
+      → so (Owes t b) → Goes (Holds defers fixed) Keeps s m id so
+  users_owe at m n b u so is = users_on defers fixed s id t (Outside t) (Owes t b) h at refl refl refl tt m n (Cut b) u u.in_hand tt so is

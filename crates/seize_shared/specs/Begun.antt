@@ -7,10 +7,15 @@ use Rattle.seize.specs.Settle.{retiring, flushing}
 use Rattle.seize_shared.specs.declared.view.View.{View}
 use Rattle.seize_shared.specs.declared.view.Becomes.{Becomes}
 use Rattle.seize_shared.specs.declared.view.Becomes.TheVariants.{Idle, Active}
-use Rattle.seize_shared.specs.declared.view.View.TheVariants.{Rests, Registers, Outside, Enters, Inside, Settles, Leaves, Left, Frees}
+use Rattle.seize_shared.specs.declared.view.View.TheVariants.{Rests, Registers, Outside, Owes, Enters, Inside, Settles, Leaves, Left, Frees}
 use Rattle.seize_shared.specs.declared.view.Has.TheVariants.{Nothing, Seen, Cut}
 use Rattle.seize_shared.specs.declared.view.Why.TheVariants.{Retiring, Ending}
 use Rattle.seize_shared.specs.declared.view.Fixed.{Fixed}
+
+-- a seat that has a slot whose head is so, and knows of no block
+abbrev pub left_with : {T : Type 0} → Becomes → ℕ → View T
+left_with Idle t = Outside t
+left_with Active t = Inside t Nothing
 
 module _ {T : Type 0} (fixed : Fixed) where
   abbrev pub registering : View T → View T
@@ -31,12 +36,8 @@ module _ {T : Type 0} (fixed : Fixed) where
   refreshes (Inside t (Seen b)) = Leaves t fixed.batch_size Active
   refreshes v = v
 
-  abbrev pub left_with : Becomes → ℕ → View T
-  left_with Idle t = Outside t
-  left_with Active t = Inside t Nothing
-
   abbrev pub ended : View T → View T
-  ended (Settles c Retiring seen left) = Inside c.slot Nothing
+  ended (Settles c (Retiring way) seen left) = left_with way c.slot
   ended (Settles c (Ending size way) seen left) = Left c.slot size way
   ended (Left t size way) = left_with way t
   ended v = v
@@ -45,19 +46,21 @@ module _ {T : Type 0} (fixed : Fixed) where
   freeing (Outside t) = Frees t
   freeing v = v
 
--- a settling begins, which takes so many steps
-abbrev pub IsBegun : {T : Type 0} → Settle → View T → Type 0
-IsBegun c u = (left : ℕ) × (u ≡ Settles c Retiring None left)
+-- a settling begins, within a section or outside of one, which takes so many steps
+abbrev pub IsBegun : {T : Type 0} → Becomes → Settle → View T → Type 0
+IsBegun way c u = (left : ℕ) × (u ≡ Settles c (Retiring way) None left)
 
 -- a block is retired that was unlinked
 abbrev pub Retires : {T : Type 0} → Fixed → View T → View T → Type 0
-Retires fixed (Inside t (Cut b)) u = IsBegun (retiring t fixed.batch_size (link_to b)) u
+Retires fixed (Inside t (Cut b)) u = IsBegun Active (retiring t fixed.batch_size (link_to b)) u
+Retires fixed (Owes t b) u = IsBegun Idle (retiring t fixed.batch_size (link_to b)) u
 Retires fixed v u = u ≡ v
 
 -- the batch is tried, by who has no block in its hand
 abbrev pub Flushes : {T : Type 0} → Fixed → View T → View T → Type 0
-Flushes fixed (Inside t Nothing) u = IsBegun (flushing t fixed.batch_size) u
-Flushes fixed (Inside t (Seen b)) u = IsBegun (flushing t fixed.batch_size) u
+Flushes fixed (Outside t) u = IsBegun Idle (flushing t fixed.batch_size) u
+Flushes fixed (Inside t Nothing) u = IsBegun Active (flushing t fixed.batch_size) u
+Flushes fixed (Inside t (Seen b)) u = IsBegun Active (flushing t fixed.batch_size) u
 Flushes fixed v u = u ≡ v
 
 -- a turn that makes this of a view

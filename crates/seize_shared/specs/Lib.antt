@@ -1,4 +1,3 @@
-pub mod Bounds
 pub mod Rows
 pub mod Told
 pub mod Promises

@@ -2,7 +2,7 @@
 -- blocks within its section.
 use Rattle.std.specs.Prelude.{◌≡◌, ◌<◌, ◌⊎◌, ℕ, false, Option, Some, None}
 use Rattle.seize_words.specs.Word.{link_to}
-use Rattle.seize_words.specs.Op.{Op, Load, Store, Swap, Make, Take}
+use Rattle.seize_words.specs.Op.{Op, Load, Store, Swap, Exchange, Make, Take}
 use Rattle.seize_words.specs.Plan.{Plan, Turn, Do}
 use Rattle.seize_words.specs.declared.at.At.TheVariants.{Root, Slot}
 use Rattle.seize.specs.declared.states.TheConstants.{HEAD, FREE, ACTIVE}
@@ -13,15 +13,15 @@ use Rattle.seize.specs.Register.{register_plan}
 use Rattle.seize.specs.Settle.{retiring, flushing, settle_plan}
 use Rattle.seize_seats.specs.Lendings.{Shown, IsValueOf}
 use Rattle.seize_seats.specs.State.{Starts, Comes, Allows, Turns}
-use Rattle.seize_shared.specs.Begun.{IsBegun}
+use Rattle.seize_shared.specs.Begun.{IsBegun, left_with}
 use Rattle.seize_shared.specs.Rows.{head_of, Holds, Keeps}
 use Rattle.seize_shared.specs.Told.{told}
 use Rattle.seize_shared.specs.declared.view.View.{View}
 use Rattle.seize_shared.specs.declared.view.Becomes.{Becomes}
 use Rattle.seize_shared.specs.declared.view.Becomes.TheVariants.{Idle, Active}
-use Rattle.seize_shared.specs.declared.view.View.TheVariants.{Rests, Registers, Outside, Enters, Inside, Settles, Leaves, Left, Frees}
+use Rattle.seize_shared.specs.declared.view.View.TheVariants.{Rests, Registers, Outside, Owes, Enters, Inside, Settles, Leaves, Left, Frees}
 use Rattle.seize_shared.specs.declared.view.Has.{Has}
-use Rattle.seize_shared.specs.declared.view.Has.TheVariants.{Nothing, Made, Seen, Cut}
+use Rattle.seize_shared.specs.declared.view.Has.TheVariants.{Nothing, Made, Seen, Both, Cut}
 use Rattle.seize_shared.specs.declared.view.Why.{Why}
 use Rattle.seize_shared.specs.declared.view.Why.TheVariants.{Retiring, Ending}
 use Rattle.seize_shared.specs.declared.view.Fixed.{Fixed}
@@ -45,35 +45,39 @@ module _ {T : Type 0} (defers : T → Option ℕ) where
 abbrev pub IsFree : {T : Type 0} → Fixed → ℕ → View T → Type 0
 IsFree fixed t u = (way : Becomes) × (u ≡ Leaves t fixed.batch_size way)
 
--- where a section has ended so
-abbrev pub IsLeft : {T : Type 0} → Becomes → ℕ → View T → Type 0
-IsLeft Idle t u = u ≡ Outside t
-IsLeft Active t u = u ≡ Inside t Nothing
-
 -- what a seat may come to know without an operation: a row begins, or ends
 abbrev pub IsNext : {T : Type 0} → Fixed → View T → View T → Type 0
 IsNext fixed Rests u = u ≡ Registers record { slot = 0; enters = false; stands = at.Begin }
 IsNext fixed (Outside t) u = (u ≡ Enters t) ⊎ (u ≡ Frees t)
 IsNext fixed (Inside t Nothing) u = IsFree fixed t u
 IsNext fixed (Inside t (Seen b)) u = IsFree fixed t u
-IsNext fixed (Settles c Retiring seen left) u = (c.stands ≡ settling_at.Over) × (u ≡ Inside c.slot Nothing)
+IsNext fixed (Settles c (Retiring way) seen left) u = (c.stands ≡ settling_at.Over) × (u ≡ left_with way c.slot)
 IsNext fixed (Settles c (Ending size way) seen left) u = (c.stands ≡ settling_at.Over) × (u ≡ Left c.slot size way)
-IsNext fixed (Left t size way) u = IsLeft way t u
+IsNext fixed (Left t size way) u = u ≡ left_with way t
 IsNext fixed _ u = ⊥
 
--- within a section a settling may begin: of the block that was unlinked, or of the batch
-abbrev pub IsToSettle : {T : Type 0} → Fixed → View T → Settle → Type 0
-IsToSettle fixed (Inside t (Cut b)) c = c ≡ retiring t fixed.batch_size (link_to b)
-IsToSettle fixed (Inside t Nothing) c = c ≡ flushing t fixed.batch_size
-IsToSettle fixed (Inside t (Seen b)) c = c ≡ flushing t fixed.batch_size
-IsToSettle fixed _ c = ⊥
+-- within a section, or outside of one, a settling may begin: of the block that was unlinked, or of the batch
+abbrev pub IsToSettle : {T : Type 0} → Fixed → View T → Becomes → Settle → Type 0
+IsToSettle fixed (Inside t (Cut b)) Active c = c ≡ retiring t fixed.batch_size (link_to b)
+IsToSettle fixed (Inside t Nothing) Active c = c ≡ flushing t fixed.batch_size
+IsToSettle fixed (Inside t (Seen b)) Active c = c ≡ flushing t fixed.batch_size
+IsToSettle fixed (Owes t b) Idle c = c ≡ retiring t fixed.batch_size (link_to b)
+IsToSettle fixed (Outside t) Idle c = c ≡ flushing t fixed.batch_size
+IsToSettle fixed _ way c = ⊥
 
--- the block that is known
+-- the block that is known, or one of both
 abbrev pub Names : Has → ℕ → Type 0
 Names Nothing b = ⊥
 Names (Made c) b = c ≡ b
 Names (Seen c) b = c ≡ b
+Names (Both c a) b = (c ≡ b) ⊎ (a ≡ b)
 Names (Cut c) b = c ≡ b
+
+-- the block that was made
+abbrev pub HasMade : Has → ℕ → Type 0
+HasMade (Made c) b = c ≡ b
+HasMade (Both c a) b = c ≡ b
+HasMade _ b = ⊥
 
 -- a block was seen, or none is known
 abbrev pub IsLooking : Has → Type 0
@@ -100,25 +104,33 @@ module _ (T : Type 0) (defers : T → Option ℕ) where
 
   -- a settling begins, with as many steps left as it takes at most
   abbrev pub SettlingsBegin : Type 0
-  SettlingsBegin = (fixed : Fixed) (id : ℕ) (v : View T) (c : Settle) → IsToSettle fixed v c → Turns (Holds defers fixed) Keeps id v (IsBegun c)
+  SettlingsBegin =
+      (fixed : Fixed) (id : ℕ) (v : View T) (way : Becomes) (c : Settle) → IsToSettle fixed v way c → Turns (Holds defers fixed) Keeps id v (IsBegun way c)
 
   -- within a section of a slot this operation may be made by a seat that knows of this block
   abbrev pub MayInside : Has → Op T → Type 0
   MayInside has op = (fixed : Fixed) (id t : ℕ) → Allows (Holds defers fixed) Keeps id (Inside t has) op (told defers (Inside t has) op)
 
-  -- a block of a value that keeps no list may be made, and taken away by whoever has made it
+  -- a block of a value that keeps no list may be made by whoever has none in its hand, and taken away by whoever has made it
   abbrev pub BlocksAreMade : Type 0
-  BlocksAreMade = (value : T) (words : ℕ) → defers value ≡ None → MayInside Nothing (Make value words)
+  BlocksAreMade = (has : Has) (value : T) (words : ℕ) → IsLooking has → defers value ≡ None → MayInside has (Make value words)
 
   abbrev pub MadeAreTaken : Type 0
-  MadeAreTaken = (b : ℕ) → MayInside (Made b) (Take b)
+  MadeAreTaken = (has : Has) (b : ℕ) → HasMade has b → MayInside has (Take b)
 
-  -- it may be put at a root, in place of what is there; what a root names may be seen, and taken from there
+  -- it may be put at a root in place of what is there, or only in place of this word
   abbrev pub MadeAreLinked : Type 0
   MadeAreLinked =
       (b r : ℕ) (fixed : Fixed) (id t : ℕ) → r < fixed.roots
       → Allows (Holds defers fixed) Keeps id (Inside t (Made b)) (Swap (Root r) (link_to b)) (told defers (Inside t (Made b)) (Swap (Root r) (link_to b)))
 
+  abbrev pub MadeAreExchanged : Type 0
+  MadeAreExchanged =
+      (has : Has) (b r old : ℕ) (fixed : Fixed) (id t : ℕ) → HasMade has b → r < fixed.roots
+      → Allows (Holds defers fixed) Keeps id (Inside t has) (Exchange (Root r) old (link_to b))
+      (told defers (Inside t has) (Exchange (Root r) old (link_to b)))
+
+  -- what a root names may be seen, and taken from there
   abbrev pub RootsAreSeen : Type 0
   RootsAreSeen =
       (has : Has) (r : ℕ) (fixed : Fixed) (id t : ℕ) → IsLooking has → r < fixed.roots
@@ -128,6 +140,12 @@ module _ (T : Type 0) (defers : T → Option ℕ) where
   RootsAreCleared =
       (r : ℕ) (fixed : Fixed) (id t : ℕ) → r < fixed.roots
       → Allows (Holds defers fixed) Keeps id (Inside t Nothing) (Swap (Root r) 0) (told defers (Inside t Nothing) (Swap (Root r) 0))
+
+  -- outside of a section, too
+  abbrev pub RootsAreWithdrawn : Type 0
+  RootsAreWithdrawn =
+      (r : ℕ) (fixed : Fixed) (id t : ℕ) → r < fixed.roots
+      → Allows (Holds defers fixed) Keeps id (Outside t) (Swap (Root r) 0) (told defers (Outside t) (Swap (Root r) 0))
 
   -- and the block that a seat knows of is there
   abbrev pub KnownAreShown : Type 0

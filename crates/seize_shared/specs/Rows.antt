@@ -17,13 +17,13 @@ use Rattle.seize.specs.Law.{holds, is_over}
 use Rattle.seize.specs.World.{World, Row, Hand, Event, Use, Runs, at_start}
 use Rattle.seize.specs.World as world
 use Rattle.seize_seats.specs.State.{State, view_of}
-use Rattle.seize_shared.specs.Bounds.{ArePlain, CountsWithin, TriesWithin}
+use Rattle.seize_bounds.specs.Bounds.{ArePlain, CountsWithin, TriesWithin}
 use Rattle.seize_shared.specs.declared.view.View.{View}
 use Rattle.seize_shared.specs.declared.view.Becomes.{Becomes}
 use Rattle.seize_shared.specs.declared.view.Becomes.TheVariants.{Idle, Active}
-use Rattle.seize_shared.specs.declared.view.View.TheVariants.{Rests, Registers, Outside, Enters, Inside, Settles, Leaves, Left, Frees}
+use Rattle.seize_shared.specs.declared.view.View.TheVariants.{Rests, Registers, Outside, Owes, Enters, Inside, Settles, Leaves, Left, Frees}
 use Rattle.seize_shared.specs.declared.view.Has.{Has}
-use Rattle.seize_shared.specs.declared.view.Has.TheVariants.{Nothing, Made, Seen, Cut}
+use Rattle.seize_shared.specs.declared.view.Has.TheVariants.{Nothing, Made, Seen, Both, Cut}
 use Rattle.seize_shared.specs.declared.view.Why.{Why}
 use Rattle.seize_shared.specs.declared.view.Why.TheVariants.{Retiring, Ending}
 use Rattle.seize_shared.specs.declared.view.Fixed.{Fixed}
@@ -42,12 +42,13 @@ counting size way c = standing (leave_of c.slot size way) (leaving_at.Settles c)
 
 -- the row of a seat that settles
 abbrev pub settles_for : Why → Settle → Row
-settles_for Retiring c = world.Settles c
+settles_for (Retiring way) c = world.Settles c
 settles_for (Ending size way) c = world.Leaves (counting size way c)
 
 -- how its slot is used meanwhile
 abbrev pub used_for : Why → Use
-used_for Retiring = world.Inside 1
+used_for (Retiring Idle) = world.Outside 1
+used_for (Retiring Active) = world.Inside 1
 used_for (Ending size way) = world.Changing
 
 -- the row that a seat has under way
@@ -55,6 +56,7 @@ abbrev pub row_of : {T : Type 0} → View T → Row
 row_of Rests = world.Rests
 row_of (Registers c) = world.Registers c
 row_of (Outside t) = world.Rests
+row_of (Owes t b) = world.Rests
 row_of (Enters t) = world.Enters record { slot = t }
 row_of (Inside t has) = world.Rests
 row_of (Settles c why seen left) = settles_for why c
@@ -67,6 +69,7 @@ abbrev pub use_of : {T : Type 0} → View T → Option (ℕ × Use)
 use_of Rests = None
 use_of (Registers c) = None
 use_of (Outside t) = Some (t, world.Outside 0)
+use_of (Owes t b) = Some (t, world.Outside 0)
 use_of (Enters t) = Some (t, world.Changing)
 use_of (Inside t has) = Some (t, world.Inside 0)
 use_of (Settles c why seen left) = Some (c.slot, used_for why)
@@ -104,6 +107,7 @@ module _ {T : Type 0} where
   IsInHand w j t Nothing = Unit {0}
   IsInHand w j t (Made b) = w.hand b ≡ world.Making j
   IsInHand w j t (Seen b) = holds t b w.log ≡ true
+  IsInHand w j t (Both b a) = (w.hand b ≡ world.Making j) × (holds t a w.log ≡ true)
   IsInHand w j t (Cut b) = w.hand b ≡ world.Cutting j
 
   -- the block that a settling is to look at is the one that it is about to reclaim, and has this value
@@ -112,6 +116,7 @@ module _ {T : Type 0} where
   IsLooked m c (Some seen) = IsReclaiming c.stands × (seen.0 ≡ block_in c.reclaiming) × (value_at m seen.0 ≡ Some seen.1)
 
   abbrev pub IsKnown : World T → ℕ → View T → Type 0
+  IsKnown w j (Owes t b) = w.hand b ≡ world.Cutting j
   IsKnown w j (Inside t has) = IsInHand w j t has
   IsKnown w j (Settles c why seen left) = IsLooked w.memory c seen
   IsKnown w j _ = Unit {0}
@@ -132,7 +137,7 @@ module _ {T : Type 0} (defers : T → Option ℕ) (fixed : Fixed) where
   -- tried.
   abbrev pub IsBounded : World T → ℕ → View T → Type 0
   IsBounded w j (Settles c (Ending size way) seen left) = CountsWithin defers fixed.batch_size j left w
-  IsBounded w j (Settles c Retiring seen left) = TriesWithin defers fixed.batch_size j left w
+  IsBounded w j (Settles c (Retiring way) seen left) = TriesWithin defers fixed.batch_size j left w
   IsBounded w j _ = Unit {0}
 
   -- the world came about from the start

@@ -2,7 +2,7 @@
 use Rattle.std.specs.Prelude.{◌≡◌, ◌<◌, ◌^◌, ℕ, ◌==◌, Option, Some, None, Ok, Err, nat_lt, if◌then◌else◌}
 use Rattle.seize_words.specs.Mem.{Mem, Took, value_at}
 use Rattle.seize_words.specs.Word.{block_in}
-use Rattle.seize_words.specs.Op.{Op, Out, Load, Swap, Make, Take, Found, Made as OutMade, Taken}
+use Rattle.seize_words.specs.Op.{Op, Out, Load, Swap, Exchange, Make, Take, Found, Made as OutMade, Taken, Exchanged}
 use Rattle.seize_words.specs.Plan.{Plan, Turn, Do, Ends}
 use Rattle.seize_words.specs.declared.at.At.TheVariants.{Root}
 use Rattle.seize.specs.declared.states.TheConstants.{ACTIVE}
@@ -16,29 +16,51 @@ use Rattle.seize.specs.Settle.{counting_down, settle_plan}
 use Rattle.seize_shared.specs.Rows.{IsShort}
 use Rattle.seize_shared.specs.declared.view.View.{View}
 use Rattle.seize_shared.specs.declared.view.Becomes.{Becomes}
-use Rattle.seize_shared.specs.declared.view.View.TheVariants.{Rests, Registers, Outside, Enters, Inside, Settles, Leaves, Left, Frees}
+use Rattle.seize_shared.specs.declared.view.View.TheVariants.{Rests, Registers, Outside, Owes, Enters, Inside, Settles, Leaves, Left, Frees}
 use Rattle.seize_shared.specs.declared.view.Has.{Has}
-use Rattle.seize_shared.specs.declared.view.Has.TheVariants.{Nothing, Made, Seen, Cut}
+use Rattle.seize_shared.specs.declared.view.Has.TheVariants.{Nothing, Made, Seen, Both, Cut}
 use Rattle.seize_shared.specs.declared.view.Why.{Why}
 use Rattle.seize_shared.specs.declared.view.Why.TheVariants.{Ending}
 
+-- what a seat within a section knows that has seen this block, or unlinked it, or made the first one and seen the second one; 0 is none
+abbrev pub seen_as : ℕ → Has
+seen_as b = if b == 0 then Nothing else Seen b
+
+abbrev pub cut_as : ℕ → Has
+cut_as b = if b == 0 then Nothing else Cut b
+
+abbrev pub made_beside : ℕ → ℕ → Has
+made_beside b a = if a == 0 then Made b else Both b a
+
 -- the block that a word of a root names, if it names one, as it was seen, or unlinked
 abbrev pub seen_in : ℕ → Has
-seen_in word = if block_in word == 0 then Nothing else Seen (block_in word)
+seen_in word = seen_as (block_in word)
 
 abbrev pub cut_in : ℕ → Has
-cut_in word = if block_in word == 0 then Nothing else Cut (block_in word)
+cut_in word = cut_as (block_in word)
 
--- what a seat within a section comes to know: it makes a block, takes it away again, or puts it at a root; sees what a root names, or takes it from there
+-- what a seat within a section comes to know: it makes a block, takes it away again, or puts it at a root, whatever is there or only in place of this word;
+-- sees what a root names, or takes it from there
 abbrev pub has_told : {T : Type 0} → Has → Op T → Out T → Has → Type 0
 has_told Nothing (Make value words) (OutMade (Ok b)) after = (b < 2 ^ 53) × (after ≡ Made b)
 has_told Nothing (Make value words) (OutMade (Err back)) after = (back ≡ value) × (after ≡ Nothing)
+has_told (Seen a) (Make value words) (OutMade (Ok b)) after = (b < 2 ^ 53) × (after ≡ Both b a)
+has_told (Seen a) (Make value words) (OutMade (Err back)) after = (back ≡ value) × (after ≡ Seen a)
 has_told (Made b) (Take c) (Taken value) after = after ≡ Nothing
+has_told (Both b a) (Take c) (Taken value) after = after ≡ Seen a
 has_told (Made b) (Swap (Root r) word) (Found old) after = after ≡ cut_in old
 has_told Nothing (Swap (Root r) word) (Found old) after = after ≡ cut_in old
+has_told (Made b) (Exchange (Root r) old new) (Exchanged (Ok was)) after = after ≡ cut_in old
+has_told (Made b) (Exchange (Root r) old new) (Exchanged (Err word)) after = after ≡ made_beside b (block_in word)
+has_told (Both b a) (Exchange (Root r) old new) (Exchanged (Ok was)) after = after ≡ cut_in old
+has_told (Both b a) (Exchange (Root r) old new) (Exchanged (Err word)) after = after ≡ made_beside b (block_in word)
 has_told Nothing (Load (Root r)) (Found word) after = after ≡ seen_in word
 has_told (Seen b) (Load (Root r)) (Found word) after = after ≡ seen_in word
 has_told _ op out after = ⊥
+
+-- and what one outside of a section knows that has taken from a root what this word names
+abbrev pub owes_in : {T : Type 0} → ℕ → ℕ → View T
+owes_in t word = if block_in word == 0 then Outside t else Owes t (block_in word)
 
 -- what was looked at
 abbrev pub shown_by : {T : Type 0} → Option (ℕ × T) → ℕ → Option T
@@ -79,6 +101,7 @@ module _ {T : Type 0} (defers : T → Option ℕ) where
 
   abbrev pub told : View T → Op T → Out T → View T → Type 0
   told (Registers c) op out w = (end : Register × Progress ℕ) × ComesTo (register_plan {T = T} c) out end × (w ≡ left_by end) × IsShort w
+  told (Outside t) (Swap (Root r) word) (Found old) w = w ≡ owes_in t old
   told (Enters t) op out w = w ≡ Inside t Nothing
   told (Inside t has) op out w = (after : Has) × has_told has op out after × (w ≡ Inside t after)
   told (Settles c why seen left) op out w = GoesOn c why left out w

@@ -7,7 +7,8 @@ ghost use Rattle.seize_seats.specs.Lendings.{IsValueOf};
 ghost use Rattle.seize_shared.specs.Promises.{IsLooking};
 ghost use Rattle.seize_shared.specs.Rows.{Holds};
 ghost use Rattle.seize_shared.specs.Seeking.{row_at, seeks};
-ghost use Rattle.seize_shared.specs.declared.view.View.TheVariants.{Rests, Registers, Outside, Inside};
+ghost use Rattle.seize_shared.specs.Told.{seen_as, cut_as, made_beside};
+ghost use Rattle.seize_shared.specs.declared.view.View.TheVariants.{Rests, Registers, Outside, Owes, Inside};
 ghost use Rattle.seize_shared.specs.declared.view.Has.{Has};
 ghost use Rattle.seize_shared.specs.declared.view.Has.TheVariants.{Nothing, Made, Seen, Cut};
 
@@ -135,6 +136,26 @@ impl<'a, T: Defers> Caller<'a, T> {
         self.blocks.make(&mut self.seat, value, 0)
     }
 
+    /// Makes a block of a value that keeps no list, beside the one that it has seen, or none, which is 0. Where no number is free the value comes back.
+    pub fn make_beside(&mut self, _slot: u64, _seen: u64, value: T) -> Result<u64, T>
+        requires inside { self.old.seat.view ≡ Inside _slot (seen_as _seen) }
+        requires plain { T.defers value ≡ None }
+        ensures made { IfOk result (λ block. (self.new.seat.view ≡ Inside _slot (made_beside block _seen)) × (block < 2 ^ 53)) }
+        ensures refused { IfErr result (λ back. self.new.seat.view ≡ Inside _slot (seen_as _seen)) }
+        ensures blocks { self.new.blocks ≡ self.old.blocks }
+    {
+        self.blocks.make(&mut self.seat, value, 0)
+    }
+
+    /// Takes the block away that it has made beside the one that it has seen.
+    pub fn take_beside(&mut self, _slot: u64, _seen: u64, block: u64) -> T
+        requires has { self.old.seat.view ≡ Inside _slot (made_beside block _seen) }
+        ensures taken { self.new.seat.view ≡ Inside _slot (seen_as _seen) }
+        ensures blocks { self.new.blocks ≡ self.old.blocks }
+    {
+        self.blocks.take(&mut self.seat, block)
+    }
+
     /// Takes the block away that it has made.
     pub fn take(&mut self, _slot: u64, block: u64) -> T
         requires has { self.old.seat.view ≡ Inside _slot (Made block) }
@@ -159,6 +180,27 @@ impl<'a, T: Defers> Caller<'a, T> {
         named(old)
     }
 
+    /// Puts the block that it has made at a root if the one that it has seen is there, or none where that is 0, which is then to be retired. Else it answers
+    /// which one is there, 0 for none, and has seen that one.
+    pub fn exchange(&mut self, _slot: u64, root: u64, seen: u64, block: u64) -> Result<(), u64>
+        requires has { self.old.seat.view ≡ Inside _slot (made_beside block seen) }
+        requires root { root < self.old.blocks.now.words.fixed.roots }
+        requires fits { (block < 2 ^ 53) × (seen < 2 ^ 53) }
+        ensures cut { IfOk result (λ _. self.new.seat.view ≡ Inside _slot (cut_as seen)) }
+        ensures other { IfErr result (λ now. (self.new.seat.view ≡ Inside _slot (made_beside block now)) × (now < 2 ^ 53)) }
+        ensures blocks { self.new.blocks ≡ self.old.blocks }
+    {
+        let there = Link::to(seen);
+        let word = Link::to(block);
+        match self
+            .blocks
+            .exchange(&mut self.seat, At::Root(root), there, word)
+        {
+            Ok(_) => Ok(()),
+            Err(word) => Err(Link::block_of(word)),
+        }
+    }
+
     /// Takes the block from a root, and answers which one was there, and is to be retired.
     pub fn remove(&mut self, _slot: u64, root: u64) -> Option<u64>
         requires inside { self.old.seat.view ≡ Inside _slot Nothing }
@@ -171,12 +213,24 @@ impl<'a, T: Defers> Caller<'a, T> {
         named(old)
     }
 
+    /// Takes the block from a root while no section of its slot is open, and answers which one was there, and is to be retired.
+    pub fn withdraw(&mut self, _slot: u64, root: u64) -> Option<u64>
+        requires outside { self.old.seat.view ≡ Outside _slot }
+        requires root { root < self.old.blocks.now.words.fixed.roots }
+        ensures owes { IfSome result (λ old. (self.new.seat.view ≡ Owes _slot old) × (old < 2 ^ 53)) }
+        ensures none { IfNone result (self.new.seat.view ≡ Outside _slot) }
+        ensures blocks { self.new.blocks ≡ self.old.blocks }
+    {
+        let old = self.blocks.swap(&mut self.seat, At::Root(root), 0);
+        named(old)
+    }
+
     /// Sees which block is at a root. Its section holds it from now on. What it has seen before it doesn't know any more.
     pub fn see(&mut self, _slot: u64, root: u64) -> Option<u64>
         requires inside { (has : Has) × IsLooking has × (self.old.seat.view ≡ Inside _slot has) }
         requires root { root < self.old.blocks.now.words.fixed.roots }
         ensures seen { IfSome result (λ block. self.new.seat.view ≡ Inside _slot (Seen block)) }
-        ensures some { IfSome result (λ block. block ≢ 0) }
+        ensures some { IfSome result (λ block. (block ≢ 0) × (block < 2 ^ 53)) }
         ensures none { IfNone result (self.new.seat.view ≡ Inside _slot Nothing) }
         ensures blocks { self.new.blocks ≡ self.old.blocks }
     {

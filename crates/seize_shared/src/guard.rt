@@ -29,6 +29,24 @@ impl<'a, T: Defers + Drop> Registration<'a, T> {
         })
     }
 
+    /// Takes the value from a root, and retires it, without a section; tells whether there was one. Where a guard was forgotten its section ends first.
+    pub fn clear(&mut self, root: u64) -> bool
+        ensures slot { self.new.stay.slot ≡ self.old.stay.slot }
+        ensures closed { self.new.stay.inside ≡ false }
+    {
+        self.stay.withdraws(root)
+    }
+
+    /// Tries the slot's batch, whatever its length, without a section. A value that is reclaimed is dropped. Where a guard was forgotten its section ends
+    /// first.
+    pub fn flush(&mut self)
+        ensures slot { self.new.stay.slot ≡ self.old.stay.slot }
+        ensures closed { self.new.stay.inside ≡ false }
+    {
+        self.stay.closes();
+        self.stay.flushes();
+    }
+
     /// Opens a section of the slot. Where a guard was forgotten its section ends first.
     pub fn enter<'r>(&'r mut self) -> LocalGuard<'r, 'a, T>
         ensures inside { result.registration.now.stay.inside ≡ true }
@@ -89,6 +107,16 @@ impl<'r, 'a, T: Defers + Drop> LocalGuard<'r, 'a, T> {
         ensures back { IfErr result (λ back. back ≡ value) }
     {
         self.registration.stay.puts(root, value)
+    }
+
+    /// Puts a value at a root if what it has seen last is there, or nothing where it has seen nothing, and retires that. Else the value comes back, and it has
+    /// seen what is there. It comes back, too, where there is no such root, or no number is free.
+    pub fn exchange(&mut self, root: u64, value: T) -> Result<(), T>
+        requires plain { T.defers value ≡ None }
+        ensures slot { self.new.registration.now.stay.slot ≡ self.old.registration.now.stay.slot }
+        ensures inside { self.new.registration.now.stay.inside ≡ self.old.registration.now.stay.inside }
+    {
+        self.registration.stay.exchanges(root, value)
     }
 
     /// Takes the value from a root, and retires it; tells whether there was one. The section is begun anew.
@@ -178,6 +206,15 @@ impl<'a, T: Defers + Drop> OwnedGuard<'a, T> {
         ensures back { IfErr result (λ back. back ≡ value) }
     {
         self.stay.puts(root, value)
+    }
+
+    /// Puts a value at a root if what it has seen last is there, or nothing where it has seen nothing, and retires that. Else the value comes back, and it has
+    /// seen what is there. It comes back, too, where there is no such root, or no number is free.
+    pub fn exchange(&mut self, root: u64, value: T) -> Result<(), T>
+        requires plain { T.defers value ≡ None }
+        ensures slot { self.new.stay.slot ≡ self.old.stay.slot }
+    {
+        self.stay.exchanges(root, value)
     }
 
     /// Takes the value from a root, and retires it; tells whether there was one. The section is begun anew.

@@ -1,7 +1,7 @@
 //! What is promised of the rule of the collector's rows.
-ghost use Rattle.seize_shared.specs.Bounds.{ListsAreCounted, BatchesAreTried};
 ghost use Rattle.seize_shared.specs.Promises.{RulesStart, SeatsCome, RowsGoOn, RowsTurn, SettlingsBegin, LookedAreShown};
-ghost use Rattle.seize_shared.specs.Promises.{BlocksAreMade, MadeAreTaken, MadeAreLinked, RootsAreSeen, RootsAreCleared, KnownAreShown};
+ghost use Rattle.seize_shared.specs.Promises.{BlocksAreMade, MadeAreTaken, MadeAreLinked, MadeAreExchanged, KnownAreShown};
+ghost use Rattle.seize_shared.specs.Promises.{RootsAreSeen, RootsAreCleared, RootsAreWithdrawn};
 
 use seize::rows::Defers;
 
@@ -15,25 +15,15 @@ pub fn rows_go_on<T: Defers>()
     ensures looked { LookedAreShown T T.defers }
 {}
 
-/// Within a section a block may be made, taken away by its maker, put at a root, seen there, and taken from there, and the block that is known may be
-/// looked at.
+/// Within a section a block may be made, taken away by its maker, put at a root, whatever is there or only in place of what was seen, seen there, and taken
+/// from there, which may be done outside of a section, too; and a block that is known may be looked at.
 pub fn sections_go_on<T: Defers>()
     ensures made { BlocksAreMade T T.defers }
     ensures taken { MadeAreTaken T T.defers }
     ensures linked { MadeAreLinked T T.defers }
+    ensures exchanged { MadeAreExchanged T T.defers }
     ensures seen { RootsAreSeen T T.defers }
     ensures cleared { RootsAreCleared T T.defers }
+    ensures withdrawn { RootsAreWithdrawn T T.defers }
     ensures known { KnownAreShown T T.defers }
-{}
-
-/// A list that was taken from a slot, as a section ends or is refreshed, is counted down within a number of steps of its row, whatever the others
-/// do meanwhile, as long as no value keeps a list.
-pub fn lists_are_counted<T: Defers>()
-    ensures counted { ListsAreCounted T.defers }
-{}
-
-/// A block is retired, and a batch tried, within a number of steps of its row, whatever the others do meanwhile, as long as no value keeps a list and
-/// nobody else settles on the slot.
-pub fn batches_are_tried<T: Defers>()
-    ensures tried { BatchesAreTried T.defers }
 {}

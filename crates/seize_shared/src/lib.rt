@@ -13,6 +13,6 @@ mod view;
 
 pub use caller::Caller;
 pub use guard::{LocalGuard, OwnedGuard, Registration};
-pub use law::{batches_are_tried, lists_are_counted, rows_go_on, sections_go_on};
+pub use law::{rows_go_on, sections_go_on};
 pub use rows::OfRows;
 pub use view::{Becomes, Fixed, Has, View, Why};

@@ -1,13 +1,14 @@
 //! A caller as the memory of the rows that it has under way: it retires blocks, and leaves.
 ghost use Rattle.std.specs.Prelude.{◌≡◌, ◌≢◌, ◌<◌, ◌^◌, ℕ, true, false};
 ghost use Rattle.seize.specs.declared.rows.settle.Settling.TheVariants.{Over};
+ghost use Rattle.seize_shared.specs.Begun.{IsBegun, left_with};
 ghost use Rattle.seize_shared.specs.Made.{IsSettling, left_in};
 ghost use Rattle.seize_shared.specs.Promises.{IsLooking};
 ghost use Rattle.seize_shared.specs.Told.{list_taken};
 ghost use Rattle.seize_shared.specs.declared.view.Becomes.{Becomes};
 ghost use Rattle.seize_shared.specs.declared.view.Has.{Has};
 ghost use Rattle.seize_shared.specs.declared.view.Has.TheVariants.{Nothing, Cut};
-ghost use Rattle.seize_shared.specs.declared.view.View.TheVariants.{Outside, Inside, Left};
+ghost use Rattle.seize_shared.specs.declared.view.View.TheVariants.{Outside, Owes, Inside, Left};
 ghost use Rattle.seize_shared.specs.declared.view.Why.{Why};
 
 use crate::caller::Caller;
@@ -54,6 +55,17 @@ impl<'a, T: Defers + Drop> Caller<'a, T> {
         while !is_over(row) {
             drop(self.steps(row));
         }
+    }
+
+    /// Takes a settling to its end that has begun as a block is retired, or a batch tried.
+    fn ends(&mut self, row: Settle)
+        requires begun { (way : Becomes) × IsBegun way row self.old.seat.view }
+        ensures rests { (way : Becomes) → IsBegun way row self.old.seat.view → self.new.seat.view ≡ left_with way row.slot }
+        ensures blocks { self.new.blocks ≡ self.old.blocks }
+    {
+        let mut row = row;
+        self.settles(&mut row);
+        self.blocks.turn::<Ending>(&mut self.seat);
     }
 
     /// Counts a list down that was taken from its slot.
@@ -104,9 +116,17 @@ impl<'a, T: Defers + Drop> Caller<'a, T> {
         ensures blocks { self.new.blocks ≡ self.old.blocks }
     {
         self.blocks.turn::<Flushing>(&mut self.seat);
-        let mut row = Settle::flush(slot, self.batch_size);
-        self.settles(&mut row);
-        self.blocks.turn::<Ending>(&mut self.seat);
+        self.ends(Settle::flush(slot, self.batch_size));
+    }
+
+    /// Tries its batch, whatever its length, while no section of its slot is open. A value that is reclaimed is dropped.
+    pub fn flush_idle(&mut self, slot: u64)
+        requires outside { self.old.seat.view ≡ Outside slot }
+        ensures outside { self.new.seat.view ≡ Outside slot }
+        ensures blocks { self.new.blocks ≡ self.old.blocks }
+    {
+        self.blocks.turn::<Flushing>(&mut self.seat);
+        self.ends(Settle::flush(slot, self.batch_size));
     }
 
     /// Retires the block that it has taken from a root. A value that is reclaimed is dropped.
@@ -117,9 +137,18 @@ impl<'a, T: Defers + Drop> Caller<'a, T> {
         ensures blocks { self.new.blocks ≡ self.old.blocks }
     {
         self.blocks.turn::<Retiring>(&mut self.seat);
-        let mut row = Settle::retire(slot, self.batch_size, Link::to(block));
-        self.settles(&mut row);
-        self.blocks.turn::<Ending>(&mut self.seat);
+        self.ends(Settle::retire(slot, self.batch_size, Link::to(block)));
+    }
+
+    /// Retires the block that it has taken from a root while no section of its slot was open, nor is. A value that is reclaimed is dropped.
+    pub fn retire_idle(&mut self, slot: u64, block: u64)
+        requires owes { self.old.seat.view ≡ Owes slot block }
+        requires fits { block < 2 ^ 53 }
+        ensures outside { self.new.seat.view ≡ Outside slot }
+        ensures blocks { self.new.blocks ≡ self.old.blocks }
+    {
+        self.blocks.turn::<Retiring>(&mut self.seat);
+        self.ends(Settle::retire(slot, self.batch_size, Link::to(block)));
     }
 }
 

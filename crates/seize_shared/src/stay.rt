@@ -1,5 +1,5 @@
 //! A slot that is held, and its section, which is open or not.
-ghost use Rattle.std.specs.Prelude.{◌≡◌, ◌≢◌, None, Some, IfErr, IfNone, IfSome, true, false};
+ghost use Rattle.std.specs.Prelude.{◌≡◌, ◌≢◌, ◌<◌, ◌^◌, None, Some, IfErr, IfNone, IfSome, true, false};
 ghost use Rattle.seize_shared.specs.Lent.{IsLent};
 ghost use Rattle.seize_shared.specs.Standing.{standing};
 
@@ -19,6 +19,7 @@ pub(crate) struct Stay<'a, T: Defers + Drop> {
     seen: u64,
     ghost stands: { standing caller.seat.view ≡ Some (slot, inside, seen) },
     ghost rooted: { caller.blocks.now.words.fixed.roots ≡ roots },
+    ghost fits: { seen < 2 ^ 53 },
 }
 
 impl<'a, T: Defers + Drop> Stay<'a, T> {
@@ -64,7 +65,8 @@ impl<'a, T: Defers + Drop> Stay<'a, T> {
         self.seen = 0;
     }
 
-    /// Looks which block is at a root, and tells whether one is, where its section is open. What was seen before is not known any more, if there is such a root.
+    /// Looks which block is at a root, and tells whether one is, where its section is open. What was seen before is not known any more, if there is such a
+    /// root.
     pub(crate) fn sees(&mut self, root: u64) -> bool
         ensures slot { self.new.slot ≡ self.old.slot }
         ensures inside { self.new.inside ≡ self.old.inside }
@@ -120,6 +122,54 @@ impl<'a, T: Defers + Drop> Stay<'a, T> {
         Ok(())
     }
 
+    /// Puts a value at a root if what was seen is there, or nothing where nothing was seen, and retires that. Else the value comes back, and what is there
+    /// was seen. It comes back, too, where there is no such root, no number is free, or no section is open.
+    pub(crate) fn exchanges(&mut self, root: u64, value: T) -> Result<(), T>
+        requires plain { T.defers value ≡ None }
+        ensures slot { self.new.slot ≡ self.old.slot }
+        ensures inside { self.new.inside ≡ self.old.inside }
+    {
+        if !self.inside || root >= self.roots {
+            return Err(value);
+        }
+        let block = match self.caller.make_beside(self.slot, self.seen, value) {
+            Ok(block) => block,
+            Err(value) => return Err(value),
+        };
+        match self.caller.exchange(self.slot, root, self.seen, block) {
+            Ok(()) => {
+                if self.seen != 0 {
+                    self.caller.retire(self.slot, self.seen);
+                    self.seen = 0;
+                }
+                Ok(())
+            }
+            Err(now) => {
+                let value = self.caller.take_beside(self.slot, now, block);
+                self.seen = now;
+                Err(value)
+            }
+        }
+    }
+
+    /// Takes the value from a root, and retires it, while no section is open; tells whether there was one.
+    pub(crate) fn withdraws(&mut self, root: u64) -> bool
+        ensures slot { self.new.slot ≡ self.old.slot }
+        ensures closed { self.new.inside ≡ false }
+    {
+        self.closes();
+        if root >= self.roots {
+            return false;
+        }
+        match self.caller.withdraw(self.slot, root) {
+            Some(old) => {
+                self.caller.retire_idle(self.slot, old);
+                true
+            }
+            None => false,
+        }
+    }
+
     /// Takes the value from a root, and retires it; tells whether there was one.
     pub(crate) fn clears(&mut self, root: u64) -> bool
         ensures slot { self.new.slot ≡ self.old.slot }
@@ -147,6 +197,8 @@ impl<'a, T: Defers + Drop> Stay<'a, T> {
     {
         if self.inside {
             self.caller.flush(self.slot);
+        } else {
+            self.caller.flush_idle(self.slot);
         }
         self.seen = 0;
     }

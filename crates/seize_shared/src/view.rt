@@ -9,6 +9,8 @@ pub enum View<T> {
     Registers(Register),
     /// It holds this slot, of which no section is open.
     Outside(u64),
+    /// It holds this slot, of which no section is open, and is to retire this block, which it has unlinked.
+    Owes(u64, u64),
     /// It is about to open a section of it.
     Enters(u64),
     /// It holds this slot, and its section is open; and it knows of a block, or of none.
@@ -32,23 +34,25 @@ pub enum Has {
     Made(u64),
     /// It has seen this one, which its section holds.
     Seen(u64),
+    /// It has made the first one, which nobody else can reach, and seen the second one, which its section holds.
+    Both(u64, u64),
     /// It has unlinked this one, and is to retire it.
     Cut(u64),
 }
 
 /// Why a seat settles.
 pub enum Why {
-    /// A block is retired, or its batch is tried, within its section.
-    Retiring,
+    /// A block is retired, or its batch is tried, while the head of its slot is so.
+    Retiring(Becomes),
     /// Its section has ended, and the list of its slot is counted down; batches have this size, and the head became so.
     Ending(u64, Becomes),
 }
 
-/// What the head of a slot becomes whose section ends.
+/// What the head of a slot is, or becomes as its section ends.
 pub enum Becomes {
     /// No section is open then.
     Idle,
-    /// The next one is.
+    /// One is; the next one, where one ends.
     Active,
 }
 

@@ -11,17 +11,21 @@ use std::thread::Threads;
 use std::{mem, thread};
 
 /// How often each of them goes about.
-const TIMES: usize = 20_000;
+pub(crate) const TIMES: usize = 20_000;
 
 /// What is chosen for the memory.
-const CHOSEN: Fixed = Fixed {
+pub(crate) const CHOSEN: Fixed = Fixed {
     batch_size: SIZE,
     roots: 1,
 };
 
 /// Looks at the root and puts a value there within each of so many sections, and takes then away what is there. It answers how many values it has seen, and how
 /// many it has put, or none where one that it saw had been dropped.
-fn goes(blocks: &Blocks<Counted, OfRows>, drops: &Table, from: usize) -> Option<(u64, u64)>
+pub(crate) fn goes(
+    blocks: &Blocks<Counted, OfRows>,
+    drops: &Table,
+    from: usize,
+) -> Option<(u64, u64)>
     requires { blocks.now.words.fixed ≡ record { batch_size = 5; roots = 1 } }
 {
     let mut registration = Registration::new(blocks, &CHOSEN).ok()?;
@@ -51,7 +55,7 @@ fn goes(blocks: &Blocks<Counted, OfRows>, drops: &Table, from: usize) -> Option<
 }
 
 /// Whether one of them has seen values, and has put some.
-fn went(met: Option<(u64, u64)>) -> bool {
+pub(crate) fn went(met: Option<(u64, u64)>) -> bool {
     match met {
         Some((seen, put)) => seen > 0 && put > 0,
         None => false,

@@ -6,9 +6,13 @@ mod counting;
 #[cfg(test)]
 mod crowd;
 #[cfg(test)]
+mod exchanging;
+#[cfg(test)]
 mod ground;
 #[cfg(test)]
 mod guards;
+#[cfg(test)]
+mod idle;
 #[cfg(test)]
 mod lending;
 #[cfg(test)]

@@ -1,11 +1,9 @@
-use Rattle.std.proofs.Common.{◌≡◌, ℕ, refl, ap, sym, ◌∙◌}
+use Rattle.std.proofs.Common.{◌≡◌, ap, sym, ◌∙◌}
 use Rattle.seize.specs.declared.rows.settle.Settle.{Settle}
 use Rattle.seize.specs.Settle.{flushing}
-use Rattle.seize_shared.specs.Begun.{ended}
-use Rattle.seize_shared.specs.declared.view.View.TheVariants.{Inside, Settles}
-use Rattle.seize_shared.specs.declared.view.Has.TheVariants.{Nothing}
-use Rattle.seize_shared.specs.declared.view.Why.TheVariants.{Retiring}
-use Rattle.seize_shared.proofs.Calls.{may_turn, may_flush, flushes_told, settling_row}
+use Rattle.seize_shared.specs.Begun.{left_with}
+use Rattle.seize_shared.specs.declared.view.Becomes.TheVariants.{Active}
+use Rattle.seize_shared.proofs.Calls.{may_flush, flushes_told}
 use Rattle.seize_shared.proofs.caller.Caller.flush.Goals as goal
 
 pub turn-requires-clause-may : goal.turn-requires-clause-may
@@ -13,28 +11,16 @@ turn-requires-clause-may g c =
     let x = c.args.self.now in let i = c.requires.inside in
     may_flush g.T.Defers.defers x.blocks.now.words.fixed x.seat.id x.seat.view c.args.slot i.0 i.1 i.2
 
-pub settles-requires : goal.settles-requires
-settles-requires g c =
+pub ends-requires : goal.ends-requires
+ends-requires g c =
     let x = c.args.self.now in let fixed = x.blocks.now.words.fixed in let i = c.requires.inside in
-    let row : c.flush-row.result ≡ flushing c.args.slot fixed.batch_size = c.flush-row.ensures ∙ ap (flushing c.args.slot) (sym x.sized) in
-    let begins = flushes_told fixed x.seat.view c.turn.new.seat.view c.args.slot i.0 i.1 i.2 c.turn.ensures.goes in
-    record { settling = (Retiring, settling_row (flushing c.args.slot fixed.batch_size) c.flush-row.result c.turn.new.seat.view begins row) }
-
-pub turn-requires-2-clause-may : goal.turn-requires-2-clause-may
-turn-requires-2-clause-may g c =
-    let x = c.args.self.now in let fixed = x.blocks.now.words.fixed in let i = c.requires.inside in
-    let row : c.flush-row.result ≡ flushing c.args.slot fixed.batch_size = c.flush-row.ensures ∙ ap (flushing c.args.slot) (sym x.sized) in
-    let begins = flushes_told fixed x.seat.view c.turn.new.seat.view c.args.slot i.0 i.1 i.2 c.turn.ensures.goes in
-    let k = c.settles.ensures.settling Retiring (settling_row (flushing c.args.slot fixed.batch_size) c.flush-row.result c.turn.new.seat.view begins row) in
-    let n = c.settles.new.self in
-    may_turn g.T.Defers.defers n.blocks.now.words.fixed n.seat.id n.seat.view (Settles c.settles.new.row Retiring k.0 k.1) k.2 ended
-    (c.settles.ensures.over, refl)
+    let row : c.flush.result ≡ flushing c.args.slot fixed.batch_size = c.flush.ensures ∙ ap (flushing c.args.slot) (sym x.sized) in
+    record { begun = (Active, flushes_told fixed x.seat.view c.turn.new.seat.view c.args.slot i.0 c.flush.result i.1 i.2 c.turn.ensures.goes row) }
 
 pub returns-clause-inside : goal.returns-clause-inside
 returns-clause-inside g c =
     let x = c.args.self.now in let fixed = x.blocks.now.words.fixed in let i = c.requires.inside in
-    let row : c.flush-row.result ≡ flushing c.args.slot fixed.batch_size = c.flush-row.ensures ∙ ap (flushing c.args.slot) (sym x.sized) in
-    let begins = flushes_told fixed x.seat.view c.turn.new.seat.view c.args.slot i.0 i.1 i.2 c.turn.ensures.goes in
-    let k = c.settles.ensures.settling Retiring (settling_row (flushing c.args.slot fixed.batch_size) c.flush-row.result c.turn.new.seat.view begins row) in
-    c.turn-2.ensures.goes ∙ ap (ended c.settles.new.self.blocks.now.words.fixed) k.2
-    ∙ ap (λ (t : ℕ). Inside t Nothing) (c.settles.ensures.slot ∙ ap (λ (r : Settle). r.slot) row)
+    let row : c.flush.result ≡ flushing c.args.slot fixed.batch_size = c.flush.ensures ∙ ap (flushing c.args.slot) (sym x.sized) in
+    c.ends.ensures.rests Active
+    (flushes_told fixed x.seat.view c.turn.new.seat.view c.args.slot i.0 c.flush.result i.1 i.2 c.turn.ensures.goes row)
+    ∙ ap (λ (r : Settle). left_with Active r.slot) row

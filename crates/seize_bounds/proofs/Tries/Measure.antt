@@ -9,8 +9,8 @@ use Rattle.seize.specs.Settle.{onward, with_batch, standing}
 use Rattle.seize_alone.proofs.Given.SeizeMoves.State.Ghost.{State}
 use Rattle.seize_rule.proofs.Words.Named.{link}
 use Rattle.seize_rule.proofs.Words.Chains.{last_of}
-use Rattle.seize_shared.proofs.Bounds.Knows.{is_popped}
-use Rattle.seize_shared.proofs.Bounds.Machine.{MOST}
+use Rattle.seize_bounds.proofs.Bounds.Knows.{is_popped}
+use Rattle.seize_bounds.proofs.Bounds.Machine.{MOST}
 
 -- what it costs to take the most blocks that there can be, and to push one entry, which loses no more exchanges than that
 

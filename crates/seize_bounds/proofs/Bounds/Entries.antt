@@ -30,7 +30,7 @@ use Rattle.seize_rule.proofs.Words.Rewritten.{rewritten_words}
 use Rattle.seize_rule.proofs.World.Events.{missing}
 use Rattle.seize_rule.proofs.Rows.Told.{IsSettled, IsLooking}
 use Rattle.seize_ends.proofs.Batches.Rows.{made_memory, registers_memory, defers_memory}
-use Rattle.seize_shared.proofs.Bounds.Beside.{IsAsideRow}
+use Rattle.seize_bounds.proofs.Bounds.Beside.{IsAsideRow}
 
 -- a word of a block's entry
 abbrev pub entry_of : {T : Type 0} → ℕ → Mem T → ℕ → ℕ

@@ -22,13 +22,13 @@ use Rattle.seize_rule.proofs.Words.View.{View, view, view_count}
 use Rattle.seize_rule.proofs.Words.Shows.{Extra, Shows}
 use Rattle.seize_rule.proofs.Points.Told.{Plain, Pushing, Draining, part, part_at, flush_part, Told, onward_part}
 use Rattle.seize_rule.proofs.Points.Known.{FitsAt, Fits, Counts as CountsKnown, bare}
-use Rattle.seize_shared.specs.Bounds.{ArePlain}
-use Rattle.seize_shared.proofs.Bounds.Hands.{chains_agree}
-use Rattle.seize_shared.proofs.Bounds.Knows.{is_popped, known_at}
-use Rattle.seize_shared.proofs.Bounds.Machine.{MOST}
-use Rattle.seize_shared.proofs.Bounds.Moves.{taken_off, no_more}
-use Rattle.seize_shared.proofs.Tries.Measure.{PUSHING, SHUTTING, SCANNING, TRYING, point, ahead, here, owes, IsTrying, OnlyTries, SeenAt, HasSeen}
-use Rattle.seize_shared.proofs.Tries.Measure.{onward_tries}
+use Rattle.seize_bounds.specs.Bounds.{ArePlain}
+use Rattle.seize_bounds.proofs.Bounds.Hands.{chains_agree}
+use Rattle.seize_bounds.proofs.Bounds.Knows.{is_popped, known_at}
+use Rattle.seize_bounds.proofs.Bounds.Machine.{MOST}
+use Rattle.seize_bounds.proofs.Bounds.Moves.{taken_off, no_more}
+use Rattle.seize_bounds.proofs.Tries.Measure.{PUSHING, SHUTTING, SCANNING, TRYING, point, ahead, here, owes, IsTrying, OnlyTries, SeenAt, HasSeen}
+use Rattle.seize_bounds.proofs.Tries.Measure.{onward_tries}
 
 flush_not : (g : Bool) → flush_part g ≡ Pushing → ⊥
 flush_not true e = cc e

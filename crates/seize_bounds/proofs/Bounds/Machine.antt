@@ -12,7 +12,7 @@ use Rattle.seize_rule.proofs.Points.Passed.{passed_rest}
 use Rattle.seize_rule.proofs.Points.Told.{Part, Plain, Pushing, Draining, part, batch_now, Told, Stays, Holds, HoldsNone, Gives, Begins, Appends, Fills, Skips}
 use Rattle.seize_rule.proofs.Points.Told.{Passes, Finds, Marks, GivesUp, Closes, Pushes, Misses, Sums, SumsLast, Drains, DrainsNone, Takes, TakesLast, Joins}
 use Rattle.seize_rule.proofs.Points.Told.{Counts, CountsLast}
-use Rattle.seize_shared.proofs.Bounds.Moves.{put_here, taken_off}
+use Rattle.seize_bounds.proofs.Bounds.Moves.{put_here, taken_off}
 
 -- it counts its list, or reclaims, or is over
 abbrev pub IsCounting : Settling → Type 0

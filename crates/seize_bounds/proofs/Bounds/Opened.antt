@@ -19,7 +19,7 @@ use Rattle.seize_rule.proofs.Rows.Told.{RowTold, SettleGoes, SettleEnds, LeaveSw
 use Rattle.seize_rule.proofs.Rows.Told.{RegisterTakes, RegisterEnters, EntersSlot, FreesSlot, DeferGoes, DeferPushes, DeferEnds, list_off}
 use Rattle.seize_rule.proofs.World.Good.{Good}
 use Rattle.seize_acts.specs.Waits.{SettlesOn}
-use Rattle.seize_shared.proofs.Bounds.Knows.{known_at}
+use Rattle.seize_bounds.proofs.Bounds.Knows.{known_at}
 
 same_slot : (a b : ℕ) → Open a ≡ Open b → a ≡ b
 same_slot a b e = cc e

@@ -30,10 +30,10 @@ use Rattle.seize_rule.proofs.World.Good.{Good}
 use Rattle.seize_rule.proofs.World.Kept.{steps_next}
 use Rattle.seize_rule.proofs.World.Start.{start_good, words_good}
 use Rattle.seize_alone.proofs.Histories.Reached.{Reached, runs_reached}
-use Rattle.seize_shared.specs.Bounds.{HasCounted, IsCountedAt, IsAny, ArePlain, Meanwhile, CountsWithin, ListsAreCounted}
-use Rattle.seize_shared.proofs.Bounds.Machine.{IsCounting, OnlyCounts, MOST, point, each, weight}
-use Rattle.seize_shared.proofs.Bounds.Hands.{after_event, leaving_fits}
-use Rattle.seize_shared.proofs.Bounds.Steps.{step_less}
+use Rattle.seize_bounds.specs.Bounds.{HasCounted, IsCountedAt, IsAny, ArePlain, Meanwhile, CountsWithin, ListsAreCounted}
+use Rattle.seize_bounds.proofs.Bounds.Machine.{IsCounting, OnlyCounts, MOST, point, each, weight}
+use Rattle.seize_bounds.proofs.Bounds.Hands.{after_event, leaving_fits}
+use Rattle.seize_bounds.proofs.Bounds.Steps.{step_less}
 
 -- what a step of a row that leaves tells, where it settles
 

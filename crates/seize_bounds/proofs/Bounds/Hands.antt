@@ -33,12 +33,12 @@ use Rattle.seize_rule.proofs.World.Kept.{IsStill, steps_next, users_good}
 use Rattle.seize_ends.proofs.Batches.Rows.{begins_memory}
 use Rattle.seize_alone.proofs.Histories.Reached.{Reached}
 use Rattle.seize_acts.specs.Waits.{SettlesOn}
-use Rattle.seize_shared.specs.Bounds.{IsOfOthers}
-use Rattle.seize_shared.proofs.Bounds.Beside.{SameHand, beside, row_same}
-use Rattle.seize_shared.proofs.Bounds.Knows.{Known, known_at, is_popped, pending_long, behind_count, pending_handed}
-use Rattle.seize_shared.proofs.Bounds.Opened.{works_there, row_opened}
-use Rattle.seize_shared.proofs.Bounds.Passing.{event_row}
-use Rattle.seize_shared.proofs.Bounds.Entries.{entry_of, SameEntries, users_entries, row_entries}
+use Rattle.seize_bounds.specs.Bounds.{IsOfOthers}
+use Rattle.seize_bounds.proofs.Bounds.Beside.{SameHand, beside, row_same}
+use Rattle.seize_bounds.proofs.Bounds.Knows.{Known, known_at, is_popped, pending_long, behind_count, pending_handed}
+use Rattle.seize_bounds.proofs.Bounds.Opened.{works_there, row_opened}
+use Rattle.seize_bounds.proofs.Bounds.Passing.{event_row}
+use Rattle.seize_bounds.proofs.Bounds.Entries.{entry_of, SameEntries, users_entries, row_entries}
 
 -- words that agree on its blocks make the same chain
 pub chains_agree : (end : ℕ) → end < 2048 → (f g : ℕ → ℕ) (w : ℕ) (l k : List ℕ) → ((c : ℕ) → 0 < count c l → g c ≡ f c) → Chain end f w l → Chain end g w k

@@ -33,13 +33,13 @@ use Rattle.seize_alone.proofs.Histories.Reached.{Reached, runs_reached}
 use Rattle.seize_alone.specs.Given.SeizeEnds.Holders.{has_batch}
 use Rattle.seize_ends.proofs.Batches.Rows.{HeldByRows, has_on, happens_held, runs_held, settles_memory, start_held}
 use Rattle.seize_acts.specs.Waits.{SettlesOn}
-use Rattle.seize_shared.specs.Bounds.{HasTried, IsToTry, IsAloneOnSlot, ArePlain, Meanwhile, TriesWithin, BatchesAreTried}
-use Rattle.seize_shared.proofs.Bounds.Hands.{after_event, settling_fits}
-use Rattle.seize_shared.proofs.Bounds.Knows.{Known, known_at, is_popped}
-use Rattle.seize_shared.proofs.Bounds.Opened.{WorksThere, works_there}
-use Rattle.seize_shared.proofs.Bounds.Within.{few_left, start_reached}
-use Rattle.seize_shared.proofs.Tries.Measure.{here, owes, OnlyTries, SeenAt, HasSeen}
-use Rattle.seize_shared.proofs.Tries.Points.{step_less}
+use Rattle.seize_bounds.specs.Bounds.{HasTried, IsToTry, IsAloneOnSlot, ArePlain, Meanwhile, TriesWithin, BatchesAreTried}
+use Rattle.seize_bounds.proofs.Bounds.Hands.{after_event, settling_fits}
+use Rattle.seize_bounds.proofs.Bounds.Knows.{Known, known_at, is_popped}
+use Rattle.seize_bounds.proofs.Bounds.Opened.{WorksThere, works_there}
+use Rattle.seize_bounds.proofs.Bounds.Within.{few_left, start_reached}
+use Rattle.seize_bounds.proofs.Tries.Measure.{here, owes, OnlyTries, SeenAt, HasSeen}
+use Rattle.seize_bounds.proofs.Tries.Points.{step_less}
 
 -- a list whose word is the one that ends it is empty
 empty : (e : ℕ) → e < 2048 → (f : ℕ → ℕ) (w : ℕ) (l : List ℕ) → w ≡ e → Chain e f w l → l ≡ []

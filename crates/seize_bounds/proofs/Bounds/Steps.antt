@@ -22,10 +22,10 @@ use Rattle.seize_rule.proofs.Words.Shows.{Extra, Shows}
 use Rattle.seize_rule.proofs.Points.Told.{Plain, Pushing, Draining, part, part_at, Told}
 use Rattle.seize_rule.proofs.Points.Known.{FitsAt, Fits, Downs, bare, list_word}
 use Rattle.seize_rule.proofs.Points.Down.{word_of_list}
-use Rattle.seize_shared.specs.Bounds.{ArePlain}
-use Rattle.seize_shared.proofs.Bounds.Machine.{IsCounting, OnlyCounts, onward_counts, without_counts, point, weight, less_loose, no_more, taken_less}
-use Rattle.seize_shared.proofs.Bounds.Hands.{chains_agree}
-use Rattle.seize_shared.proofs.Bounds.Knows.{known_at}
+use Rattle.seize_bounds.specs.Bounds.{ArePlain}
+use Rattle.seize_bounds.proofs.Bounds.Machine.{IsCounting, OnlyCounts, onward_counts, without_counts, point, weight, less_loose, no_more, taken_less}
+use Rattle.seize_bounds.proofs.Bounds.Hands.{chains_agree}
+use Rattle.seize_bounds.proofs.Bounds.Knows.{known_at}
 
 module _ {T : Type 0} (defers : T → Option ℕ) (n most j : ℕ) (mem mem2 : Mem T) (m : State) (x : Extra) (c : Settle) (end : Settle × Settled T) (m2 : State)
     (x2 : Extra)

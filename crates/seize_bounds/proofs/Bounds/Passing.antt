@@ -5,7 +5,7 @@ use Rattle.seize.specs.World.{World, Row, Event, Begin, Step, Makes, Drops, Link
 use Rattle.seize.specs.World.{Chooses, Happens, Steps'}
 use Rattle.seize.specs.Sequence.{IsBetween}
 use Rattle.seize_rule.proofs.Rows.Others.{begins_others, steps_others, users_rows}
-use Rattle.seize_shared.specs.Bounds.{IsOfOthers, IsAny, ArePlain, Meanwhile, Within}
+use Rattle.seize_bounds.specs.Bounds.{IsOfOthers, IsAny, ArePlain, Meanwhile, Within}
 
 module _ {T : Type 0} (defers : T → Option ℕ) (so : World T → Type 0) (size j : ℕ) where
   -- one after another

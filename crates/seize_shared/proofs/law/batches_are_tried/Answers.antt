@@ -1,5 +1,0 @@
-use Rattle.seize_shared.proofs.Tries.Within.{batches_are_tried}
-use Rattle.seize_shared.proofs.law.batches_are_tried.Goals as goal
-
-pub returns : goal.returns
-returns g c = record { tried = batches_are_tried g.T.Defers.defers }
