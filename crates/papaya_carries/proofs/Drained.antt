@@ -1,15 +1,13 @@
 -- A wrong plan: what is put behind a block is handed on as the block is unlinked, and not as it is reclaimed. So what is put there a step later is lost: refused
 -- by `NothingIsLost` of `seize_acts`, and by `NothingElseWaits` here.
 use Rattle.std.specs.Prelude.{Option, Some, None, ◌++◌}
-use Rattle.std.proofs.Common.{◌≡◌, ℕ, false, [], ◌∷◌, refl}
+use Rattle.std.proofs.Common.{◌≡◌, ℕ, [], ◌∷◌}
 use Rattle.papaya_scenes.specs.Given.SeizeWords.Word.{link_to}
 use Rattle.papaya_scenes.specs.Given.SeizeWords.declared.at.At.TheVariants.{Root}
-use Rattle.papaya_scenes.specs.Given.SeizeWords.Mem.{value_at}
 use Rattle.papaya_scenes.specs.Given.SeizeWords.Op.{Store, Make}
-use Rattle.papaya_scenes.specs.Given.Seize.Law.{is_retired}
-use Rattle.papaya_scenes.specs.Given.Seize.World.{World, Rests, NoBlock, Handed, Leave', Retire, Defer', at_start}
+use Rattle.papaya_scenes.specs.Given.Seize.World.{World, Leave', Retire, Defer', at_start}
 use Rattle.seize_acts.specs.Acts.{Begin, Operate, Links, Unlinks}
-use Rattle.seize_acts.proofs.Samples.Base.{plain, lists, after, on, enters}
+use Rattle.seize_acts.proofs.Samples.Base.{lists, after, on, enters}
 
 -- Block 1 has a list, which is empty as caller 0 unlinks the block: there is nothing to hand on. Then caller 1 defers block 2 on it, and caller 0 retires block 1.
 abbrev drained : World ℕ
@@ -21,18 +19,3 @@ drained =
 -- the section of slot 0 ends, and block 1 is reclaimed by a row for which no block has a list, or by one that looks
 abbrev left_by : (ℕ → Option ℕ) → World ℕ
 left_by defers = on defers 1 30 0 (after defers 1 (Begin 0 (Leave' 0) None ∷ []) drained)
-
--- both callers rest, and nobody else has acted
-late_rests : ((left_by plain).row 0 ≡ Rests) × ((left_by plain).row 1 ≡ Rests)
-late_rests = (refl, refl)
-
-late_handed : (left_by plain).hand 2 ≡ Handed
-late_handed = refl
-
--- Block 2 is retired no more than block 1 is there; and the one other block that was made, itself, has no list.
-late_is_lost : (is_retired 2 (left_by plain).log ≡ false) × (value_at (left_by plain).memory 1 ≡ None) × (value_at (left_by plain).memory 2 ≡ Some 8) × (lists 8 ≡ None)
-late_is_lost = (refl, refl, refl, refl)
-
--- The right row hands it on, and reclaims it, too.
-right_hands_on : (left_by lists).hand 2 ≡ NoBlock
-right_hands_on = refl

@@ -1,7 +1,5 @@
 -- In which order a map that ends reclaims what it has: its pairs, then table by table the pairs that a table carries and the table, then its counter.
 use Rattle.std.specs.Prelude.{ℕ, zero, suc, ◌-◌, ◌<◌, ◌≤◌, Bool, true, false, cond, List, [], ◌∷◌, ◌++◌, map, if◌then◌else◌, ◌&&◌}
-use Rattle.papaya_callers.specs.Given.Seize.WaitingSets.{Change, Ends}
-use Rattle.papaya_callers.specs.Given.Seize.World.{times}
 use Rattle.papaya_callers.specs.Given.Rule.Chart.{Place, Holds, Chart, is_marked}
 use Rattle.papaya_callers.specs.Given.Rule.Words.{Blocks}
 
@@ -22,11 +20,6 @@ given_of owns list = if owns then list else []
 
 abbrev pub waits_of : Bool → List ℕ → List ℕ
 waits_of owns list = if owns then [] else list
-
--- and waits no more behind the table
-abbrev pub change_of : ℕ → List ℕ → List Change
-change_of b [] = []
-change_of b (x ∷ list) = Ends b ∷ []
 
 module _ {K : Type 0} (incremental : Bool) (c : Chart K) where
   -- the pairs of so many places of a table, from this one on
@@ -59,23 +52,12 @@ module _ (table : ℕ → ℕ) (lists : ℕ → List ℕ) (owns : Bool) where
   waits_in t zero = []
   waits_in t (suc tables) = waits_of owns (lists t) ++ waits_in (suc t) tables
 
-  -- what changes in the waiting sets
-  abbrev pub changes_in : ℕ → ℕ → List Change
-  changes_in t zero = []
-  changes_in t (suc tables) = change_of (table t) (lists t) ++ changes_in (suc t) tables
-
 module _ {K : Type 0} (c : Chart K) (blocks : Blocks) (lists : ℕ → List ℕ) where
-  -- a block is left over, with one of the tables before this one
-  abbrev pub IsLeftBefore : ℕ → ℕ → Type 0
-  IsLeftBefore past x = (t : ℕ) × (c.first ≤ t) × (t < past) × (0 < times x (blocks.table t ∷ lists t))
 
   module _ (owns : Bool) where
     -- what waits from this table on, and what changes in the waiting sets
     abbrev pub waits_from : ℕ → List ℕ
     waits_from t = waits_in blocks.table lists owns t (c.past - t)
-
-    abbrev pub changes_from : ℕ → List Change
-    changes_from t = changes_in blocks.table lists owns t (c.past - t)
 
     module _ (counter : ℕ) where
       -- what is reclaimed from this table on

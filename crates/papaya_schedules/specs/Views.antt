@@ -126,11 +126,6 @@ module _ {K V : Type 0} where
 abbrev pub behind : Table → List Deferral → List ℕ
 behind t deferred = map (λ d. d.pair) (filter (λ d. same_table d.behind t) deferred)
 
--- the length of the root's table
-abbrev pub root_length : List TableThere → ℕ
-root_length [] = 0
-root_length (t ∷ tables) = t.shape.len
-
 -- the newest one of these
 abbrev pub last_of : TableThere → List TableThere → TableThere
 last_of t [] = t

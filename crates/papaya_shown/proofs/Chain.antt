@@ -54,40 +54,10 @@ module _ {K : Type 0} (c : Chart K) (blocks : Blocks) where
   on_goes t zero table rest e = absurd (cc)
   on_goes t (suc j) table rest e = (j, refl, cc, cc)
 
-  -- a table that stands first is linked
-  pub root_linked : (root : Option Table) → root ≡ table_at c blocks c.first → (table : Table) → root ≡ Some table → IsLinked table
-  root_linked root is table some = let m = made_at c blocks c.first table root is some in linked_of table c.first (omega arith) m.0 m.1
-
   -- so many of them were passed, and these are left
   abbrev pub Left : ℕ → List Table → Type 0
   Left k rest = (k ≤ c.past - c.first) × (rest ≡ tables_on c blocks (c.first + k) (c.past - c.first - k))
 
-  pub left_begins : (tables : List Table) → tables ≡ tables_on c blocks c.first (c.past - c.first) → Left 0 tables
-  left_begins tables is =
-      let a : c.first ≡ c.first + 0 = omega arith in
-      let b : c.past - c.first ≡ c.past - c.first - 0 = omega arith in
-      (omega arith, is ∙ ap (λ t. tables_on c blocks t (c.past - c.first)) a ∙ ap (tables_on c blocks (c.first + 0)) b)
-
   module _ (k : ℕ) (table : Table) (rest : List Table) (left : Left k (table ∷ rest)) where
     goes : (j : ℕ) × (c.past - c.first - k ≡ suc j) × (table ≡ table_of c blocks (c.first + k)) × (rest ≡ tables_on c blocks (suc (c.first + k)) j)
     goes = on_goes (c.first + k) (c.past - c.first - k) table rest (sym left.1)
-
-    pub left_is : table ≡ table_of c blocks (c.first + k)
-    left_is = goes.2
-
-    pub left_linked : IsLinked table
-    left_linked = let g = goes.1 in linked_of table (c.first + k) (omega arith) (omega (arith, g)) goes.2
-
-    pub left_goes : Left (suc k) rest
-    left_goes =
-        let g = goes.1 in
-        let a : suc (c.first + k) ≡ c.first + suc k = omega arith in
-        let b : goes.0 ≡ c.past - c.first - suc k = omega (arith, g) in
-        (omega (arith, g), goes.3 ∙ ap (λ t. tables_on c blocks t goes.0) a ∙ ap (tables_on c blocks (c.first + suc k)) b)
-
-  pub left_ends : (k : ℕ) → Left k [] → k ≡ c.past - c.first
-  left_ends k left = by (c.past - c.first - k) refl
-    where
-      by : (j : ℕ) → c.past - c.first - k ≡ j → k ≡ c.past - c.first
-      by zero e = let l = left.0 in omega (arith, l, e)
-      by (suc j) e = let d = left.1 ∙ ap (tables_on c blocks (c.first + k)) e in absurd (cc d)

@@ -1,14 +1,14 @@
 -- The numbers at the places of a map's tables are those of its pairs, each once, where none is on its way.
 use Rattle.std.specs.Prelude.{◌-◌}
 use Rattle.std.specs.Cmp.{IsEquivalence}
-use Rattle.std.proofs.Common.{◌≡◌, ℕ, suc, ◌+◌, ◌<◌, ◌≤◌, Bool, true, false, cond, [], Some, ◌⊎◌, inl, inr, refl, ap, sym, subst, arith}
+use Rattle.std.proofs.Common.{◌≡◌, ℕ, suc, ◌+◌, ◌<◌, ◌≤◌, Bool, true, false, cond, Some, ◌⊎◌, inl, inr, refl, ap, sym, subst, arith}
 use Rattle.std.proofs.lemmas.Bool.{cases_lt}
 use Rattle.papaya_rule.specs.Chart.{Empty, Chart}
-use Rattle.papaya_rule.specs.Rule.{Rule, Common, Incremental, Blocking}
+use Rattle.papaya_rule.specs.Rule.{Rule, Common, Incremental}
 use Rattle.papaya_rule.specs.Given.Seize.World.{times}
-use Rattle.papaya_shown.specs.Shown.{NoneMoves, AreOfCurrent, pair_there, numbers_there, numbers_from}
-use Rattle.papaya_shown.proofs.Counted.{zero_in, zero_from, none_in, one_in, none_from, one_from}
-use Rattle.papaya_shown.proofs.Standing.{current_there, stands_there, one_place, one_try, current_blocking, stands_blocking, one_try_blocking}
+use Rattle.papaya_shown.specs.Shown.{NoneMoves, AreOfCurrent, pair_there, numbers_from}
+use Rattle.papaya_shown.proofs.Counted.{zero_from, none_from, one_from}
+use Rattle.papaya_shown.proofs.Standing.{current_there, stands_there, one_place, one_try}
 
 module _ {K : Type 0} (same : K → K → Bool) (spot : ℕ → K → ℕ → ℕ) (incremental : Bool) (c : Chart K) (common : Common same spot incremental c) where
   nothing_there : (t i n : ℕ) → pair_there incremental (c.place t i) ≡ Some n → c.place t i ≡ Empty false → ⊥
@@ -30,10 +30,6 @@ module _ {K : Type 0} (same : K → K → Bool) (spot : ℕ → K → ℕ → �
       by (inr l) = absurd (nothing_there t i n e (common.outside t i (there_made t i n e) l))
 
 module _ {K : Type 0} (same : K → K → Bool) (spot : ℕ → K → ℕ → ℕ) (classes : IsEquivalence same) (c : Chart K) where
-  -- each pair of a linked table that counts is one of the map
-  pub current_linked : (incremental : Bool) → Rule same spot incremental c → (t i n : ℕ) → c.first ≤ t → pair_there incremental (c.place t i) ≡ Some n → c.current n ≡ true
-  current_linked true rule t i n linked e = current_there same spot classes c rule.common rule.in_mode t i n linked e
-  current_linked false rule t i n linked e = current_blocking same spot classes c rule.common rule.in_mode t i n linked e
 
   module _ (common : Common same spot true c) (mode : Incremental same spot true c) (none : NoneMoves true c) where
     at_place : (n t i k : ℕ) → c.first ≤ t → t ≡ c.first + k → pair_there true (c.place t i) ≡ Some n → times (suc n) (numbers_from true c (c.past - c.first)) ≡ 1
@@ -55,39 +51,7 @@ module _ {K : Type 0} (same : K → K → Bool) (spot : ℕ → K → ℕ → �
         by n false other =
             none_from true c n (c.past - c.first) (λ k i l e. let d = current_there same spot classes c common mode (c.first + k) i n (omega arith) e in cc)
 
-  module _ (common : Common same spot false c) (mode : Blocking same spot false c) where
-    -- in blocking mode they are in the root
-    pub lists_blocking : AreOfCurrent c (numbers_there false c c.first (c.len c.first))
-    lists_blocking = (zero_in false c c.first (c.len c.first), λ n. by n (c.current n) refl)
-      where
-        by : (n : ℕ) (b : Bool) → c.current n ≡ b → times (suc n) (numbers_there false c c.first (c.len c.first)) ≡ cond b 1 0
-        by n true current =
-            let s = stands_blocking same spot classes c common mode n current in
-            one_in false c n c.first (c.len c.first) s.0 (there_inside same spot false c common c.first s.0 n s.1) s.1
-            (λ j l d. one_try_blocking same spot classes c common mode j s.0 n d s.1)
-        by n false other =
-            none_in false c n c.first (c.len c.first) (λ i l e. let d = current_blocking same spot classes c common mode c.first i n (omega arith) e in cc)
-
-    -- where there is no table there is no pair
-    pub lists_none : c.past ≤ c.first → AreOfCurrent c []
-    lists_none none = (refl, λ n. by n (c.current n) refl)
-      where
-        by : (n : ℕ) (b : Bool) → c.current n ≡ b → times (suc n) [] ≡ cond b 1 0
-        by n true current =
-            let s = stands_blocking same spot classes c common mode n current in
-            let made = there_made same spot false c common c.first s.0 n s.1 in
-            absurd (omega (arith, made, none))
-        by n false other = refl
-
   -- in the mode of the map
   pub lists_all : (incremental : Bool) → Rule same spot incremental c → NoneMoves incremental c → incremental ≡ true → AreOfCurrent c (numbers_from incremental c (c.past - c.first))
   lists_all true rule none e = lists_incremental rule.common rule.in_mode none
   lists_all false rule none e = absurd (cc)
-
-  pub lists_root : (incremental : Bool) → Rule same spot incremental c → incremental ≡ false → AreOfCurrent c (numbers_there incremental c c.first (c.len c.first))
-  lists_root true rule e = absurd (cc)
-  lists_root false rule e = lists_blocking rule.common rule.in_mode
-
-  pub lists_no_root : (incremental : Bool) → Rule same spot incremental c → incremental ≡ false → c.past ≤ c.first → AreOfCurrent c []
-  lists_no_root true rule e none = absurd (cc)
-  lists_no_root false rule e none = lists_none rule.common rule.in_mode none

@@ -7,22 +7,13 @@ use Rattle.seize_words.specs.declared.at.At.TheVariants.{Word}
 use Rattle.seize_words.specs.Mem.{Mem, value_at, word_at}
 use Rattle.papaya_tables.specs.declared.node.Node.{Node}
 use Rattle.papaya_tables.specs.declared.table_words.TheConstants.{NEXT}
-use Rattle.papaya_shown.specs.Chain.{word_or_none, places_of, behind, pairs_at, pairs_on, pairs_left, HasTables, CountsTables, IsTableAt, CanBeRead, one_count}
+use Rattle.papaya_shown.specs.Chain.{word_or_none, places_of, behind, pairs_at, pairs_on, pairs_left, HasTables, CanBeRead, one_count}
 
 module _ {K V : Type 0} (m : Mem (Node K V)) (link : ℕ) (some : link ≢ 0) where
-  -- the table at the link can be read
-  pub table_here : (tables : ℕ) → HasTables m tables link → CanBeRead m tables link → IsTableAt m link
-  table_here zero has read = absurd (some has)
-  table_here (suc tables) has read = read.0
 
   module _ (next : ℕ) (is : word_at m (Word (block_in link) NEXT) ≡ Some next) where
     is_behind : behind m link ≡ next
     is_behind = ap word_or_none is
-
-    -- and those behind it
-    pub behind_counts : (tables : ℕ) → HasTables m tables link → CountsTables m next
-    behind_counts zero has = absurd (some has)
-    behind_counts (suc tables) has = (tables, subst (HasTables m tables) is_behind has.1)
 
     pub behind_fewer : (tables : ℕ) → HasTables m tables link → (n : ℕ) → HasTables m n next → n < tables
     behind_fewer zero has n counts = absurd (some has)

@@ -39,9 +39,6 @@ module _ {K : Type 0} (c : Chart K) (blocks : Blocks) (t : ℕ) where
       by (inl l) = let at = ap (λ q. if q then Some (table_of c blocks t) else None) (lt-ltb t c.past l) in (l, cc)
       by (inr l) = let at = ap (λ q. if q then Some (table_of c blocks t) else None) (le-ltb t c.past l) in absurd (cc)
 
-  pub turn_at : (table : Table) (result : Option Table) → result ≡ table_at c blocks t → result ≡ Some table → table.turn ≡ t
-  turn_at table result is some = ap (λ (x : Table). x.turn) (made_at table result is some).1
-
   -- and where there is none
   pub unmade_at : (result : Option Table) → result ≡ table_at c blocks t → result ≡ None → c.past ≤ t
   unmade_at result is none = by (cases_lt t c.past)
@@ -80,14 +77,6 @@ module _ {K V : Type 0} (eq : K → K → Bool) (hash : K → ℕ) (m : Mem (Nod
   pub root_leads_on : (link : ℕ) → word_at m (Root setting.root) ≡ Some link → LeadsTo c blocks link c.first
   root_leads_on link read = roots_lead eq hash setting.mode setting.root m c blocks stands.map link read
 
-  -- a map has no table only where the root has turn 0
-  pub no_turn_at : (result : Option Table) → result ≡ table_at c blocks c.first → result ≡ None → 0 ≡ c.first
-  no_turn_at result is none = by (cases_lt 0 c.past)
-    where
-      by : (0 < c.past) ⊎ (c.past ≤ 0) → 0 ≡ c.first
-      by (inl l) = let u = unmade_at c blocks c.first result is none in let r = stands.map.rule.common.rooted l in absurd (omega arith)
-      by (inr l) = sym (stands.map.rule.common.rootless (omega arith))
-
   module _ (table : Table) (linked : c.first ≤ table.turn) (made : table.turn < c.past) (is : table ≡ table_of c blocks table.turn) where
     -- a linked table can be looked at
     pub is_entered : IsTable c blocks table table.turn
@@ -111,9 +100,6 @@ module _ {K V : Type 0} (eq : K → K → Bool) (hash : K → ℕ) (m : Mem (Nod
     pub place_read : (i : ℕ) → i < table.len → word_at m (Word (table.link / 2048) (i + PLACES)) ≡ Some (place_word hash c blocks (c.place table.turn i))
     place_read i inside =
         ap (λ b. word_at m (Word b (i + PLACES))) block_is ∙ (stands.map.shows.tables table.turn made is_entered.known).places i (subst (λ l. i < l) len_is inside)
-
-    pub place_shown : (i : ℕ) → i < table.len → IsSome (word_at m (Word (table.link / 2048) (i + PLACES)))
-    place_shown i inside = is_some_of _ (place_word hash c blocks (c.place table.turn i)) (place_read i inside)
 
     pub is_word : (i : ℕ) → i < table.len → (word : ℕ) → word_at m (Word (table.link / 2048) (i + PLACES)) ≡ Some word → word ≡ place_word hash c blocks (c.place table.turn i)
     is_word i inside word read = cc (place_read i inside)

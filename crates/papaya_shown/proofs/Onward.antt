@@ -1,13 +1,13 @@
 -- The pairs that are still to come of a table, and of those behind it.
 use Rattle.std.specs.Prelude.{◌-◌, Option, None}
-use Rattle.std.proofs.Common.{◌≡◌, ℕ, zero, suc, ◌+◌, ◌<◌, ◌≤◌, Bool, List, [], ◌∷◌, ◌++◌, Some, refl, ap, sym, ◌∙◌, arith}
+use Rattle.std.proofs.Common.{◌≡◌, ℕ, suc, ◌+◌, ◌<◌, ◌≤◌, Bool, List, [], ◌∷◌, ◌++◌, Some, ap, sym, ◌∙◌, arith}
 use Rattle.std.specs.Borrow.{Bor}
 use Rattle.seize_words.specs.Word.{block_in}
 use Rattle.seize_words.specs.declared.at.At.TheVariants.{Word}
-use Rattle.seize_words.specs.Mem.{Mem, value_at, word_at}
+use Rattle.seize_words.specs.Mem.{Mem, word_at}
 use Rattle.papaya_tables.specs.declared.node.Node.{Node}
 use Rattle.papaya_tables.specs.declared.table_words.TheConstants.{PLACES}
-use Rattle.papaya_shown.specs.Chain.{word_or_none, places_of, behind, pair_by, pairs_at, pairs_on, pairs_left}
+use Rattle.papaya_shown.specs.Chain.{word_or_none, pair_by, pairs_at}
 use Rattle.papaya_shown.specs.Lent.{shown}
 
 module _ {K V : Type 0} (m : Mem (Node K V)) (incremental : Bool) (link : ℕ) where
@@ -34,10 +34,3 @@ module _ {K V : Type 0} (m : Mem (Node K V)) (incremental : Bool) (link : ℕ) w
   -- behind the last place there is none
   pub none_left : (len at : ℕ) → len ≤ at → Left len at ≡ []
   none_left len at le = let e : len - at ≡ 0 = omega (arith, le) in ap (pairs_at m incremental link at) e
-
-module _ {K V : Type 0} (m : Mem (Node K V)) (incremental : Bool) where
-  -- at the first place all are still to come
-  pub all_left : (tables link : ℕ) → pairs_left m incremental tables link 0 ≡ pairs_on m incremental tables link
-  all_left zero link = refl
-  all_left (suc tables) link =
-      ap (λ n. pairs_at m incremental link 0 n ++ pairs_on m incremental tables (behind m link)) (let e : places_of (value_at m (block_in link)) - 0 ≡ places_of (value_at m (block_in link)) = omega arith in e)

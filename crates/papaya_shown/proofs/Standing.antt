@@ -1,9 +1,9 @@
 -- Which pairs of a map stand at its places, where none is on its way: each of its pairs stands at just one place where it counts.
 use Rattle.std.specs.Cmp.{IsEquivalence}
-use Rattle.std.proofs.Common.{◌≡◌, ◌≢◌, ℕ, ◌<◌, ◌≤◌, Bool, true, false, Some, ◌⊎◌, inl, inr, refl, ap, sym, ◌∙◌, arith}
+use Rattle.std.proofs.Common.{◌≡◌, ◌≢◌, ℕ, ◌<◌, ◌≤◌, Bool, true, false, Some, ◌⊎◌, inl, inr, refl, ap, ◌∙◌, arith}
 use Rattle.std.proofs.lemmas.Bool.{cases_order}
 use Rattle.papaya_rule.specs.Chart.{Phase, Still, Copying, Copied, Place, Empty, Tombstone, Holds, Chart, is_marked}
-use Rattle.papaya_rule.specs.Rule.{Common, Incremental, Blocking, Shut, IsMoving, is_of}
+use Rattle.papaya_rule.specs.Rule.{Common, Incremental, Shut, IsMoving, is_of}
 use Rattle.papaya_shown.specs.Shown.{NoneMoves}
 use Rattle.papaya_shown.specs.Shown.{pair_there}
 
@@ -84,32 +84,3 @@ module _ {K : Type 0} (same : K → K → Bool) (spot : ℕ → K → ℕ → �
           let k = common.keyed t i n h.0 h.1 h.2 in
           let is = ap (is_of same spot true k.1) k.2 ∙ classes.refl k.1 in
           common.once t i j n n h.0 g.0 h.1 g.1 k.1 (mode.never_aborted t) h.2 g.2 is is
-
-  -- in blocking mode
-  module _ (c : Chart K) (common : Common same spot false c) (mode : Blocking same spot false c) where
-    -- each pair of a linked table is one of the map
-    pub current_blocking : (t i n : ℕ) → c.first ≤ t → pair_there false (c.place t i) ≡ Some n → c.current n ≡ true
-    current_blocking t i n linked e =
-        let h = there_holds false (c.place t i) n e in
-        by h.0 h.1 h.2 (cases_order c.first t)
-      where
-        by : (phase : Phase) (borrowed : Bool) → c.place t i ≡ Holds n phase borrowed → (c.first ≡ t) ⊎ ((c.first < t) ⊎ (t < c.first)) → c.current n ≡ true
-        by phase borrowed h (inl s) = common.is_current t i n phase borrowed h (mode.plain t i n phase borrowed h).0 (sym s)
-        by phase borrowed h (inr (inl s)) =
-            let r = mode.sources t i n phase borrowed s h in
-            common.is_current c.first r.0 n Copying false r.1 (mode.plain c.first r.0 n Copying false r.1).0 refl
-        by phase borrowed h (inr (inr s)) = absurd (omega arith)
-
-    -- and stands in the root
-    pub stands_blocking : (n : ℕ) → c.current n ≡ true → (i : ℕ) × (pair_there false (c.place c.first i) ≡ Some n)
-    stands_blocking n current =
-        let s = common.stands n current in
-        (s.1, ap (λ t. pair_there false (c.place t s.1)) (sym s.6) ∙ ap (pair_there false) s.4 ∙ holds_there false n s.2 s.3 (λ b. absurd (cc)))
-
-    pub one_try_blocking : (i j n : ℕ) → pair_there false (c.place c.first i) ≡ Some n → pair_there false (c.place c.first j) ≡ Some n → i ≡ j
-    one_try_blocking i j n e d =
-        let h = there_holds false (c.place c.first i) n e in
-        let g = there_holds false (c.place c.first j) n d in
-        let k = common.keyed c.first i n h.0 h.1 h.2 in
-        let is = ap (is_of same spot false k.1) k.2 ∙ classes.refl k.1 in
-        common.once c.first i j n n h.0 g.0 h.1 g.1 k.1 common.live h.2 g.2 is is

@@ -59,16 +59,6 @@ no_promote : (stands : Point) → IsAside stands → stands ≡ at.Promotes → 
 no_promote at.Promotes its e = its
 no_promote _ its e = cc e
 
--- there it is neither to end a copying nor to give one up
-no_end : {K : Type 0} (c : Chart K) (p : Copier) (stands : Point) → IsAside stands → (t : ℕ) → EndsAt c p stands t → ⊥
-no_end c p at.Promotes its t own = its
-no_end c p at.Announces its t own = its
-no_end c p _ its t own = own
-
-no_abort : {K : Type 0} (c : Chart K) (p : Copier) (stands : Point) → IsAside stands → (t : ℕ) → AbortsAt c p stands t → ⊥
-no_abort c p at.Aborts its t own = its
-no_abort c p _ its t own = own
-
 module _ {K V : Type 0} (same : K → K → Bool) (hash : K → ℕ) (caller : ℕ) (setting : Setting) (mode : is_incremental setting.mode ≡ false) (w : World (Node K V)) (c : Chart K)
     (blocks : Blocks) (map : IsMapIn same hash setting w c blocks) (p : Copier) (m2 : Mem (Node K V)) (d : Chart K) (blocks2 : Blocks)
     (r : Reached same hash setting mode w caller c blocks map m2 d blocks2) where

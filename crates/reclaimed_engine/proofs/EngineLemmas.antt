@@ -1,26 +1,11 @@
 -- How the endings of the engine fit together.
-use Rattle.std.proofs.Common.{◌≡◌, ℕ, Bool, true, false, List, Option, Some, None, Ok, refl, subst, inl, inr, ⊎_elim}
-use Rattle.std.specs.Prelude.{IfSome, codes}
-use Rattle.std.specs.Io.KnownBytes.{Keeps, Appends}
+use Rattle.std.proofs.Common.{◌≡◌, ℕ, Bool, true, false, List, Option, Some, None, Ok, subst, inl, inr, ⊎_elim}
+use Rattle.std.specs.Prelude.{IfSome}
+use Rattle.std.specs.Io.KnownBytes.{Appends}
 use Rattle.reclaimed_script.specs.declared.parser.Script.{Script}
 use Rattle.reclaimed_engine.specs.Engine.{EndsWith, IsTextFor, TellsFailure}
 use Rattle.reclaimed_text.specs.Output.{Writes}
 use Rattle.reclaimed_script.specs.Reading.{Answers}
-
-keeps_itself : (x : Option (List ℕ)) → Keeps x x
-keeps_itself None = tt
-keeps_itself (Some bytes) = refl
-
--- where nothing is written on the errors, and no write has failed
-pub tells_nothing : (failed errors_failed : Bool) (errors : Option (List ℕ)) → failed ≡ false → TellsFailure failed errors_failed errors errors
-tells_nothing true errors_failed errors none = absurd (cc none)
-tells_nothing false errors_failed errors none = keeps_itself errors
-
--- and where a failure is told
-pub tells_so : (failed errors_failed : Bool) (before after : Option (List ℕ)) → failed ≡ true → (errors_failed ≡ false → Appends before after (codes "write failed\n"))
-    → TellsFailure failed errors_failed before after
-tells_so true errors_failed before after some says = says
-tells_so false errors_failed before after some says = absurd (cc some)
 
 -- where the script was read and its text was written, or that write failed
 pub written : (before left : Option (List ℕ)) (script : Script) (status : ℕ) (text : List ℕ) (failed : Bool) (output_before output_after errors_before errors_after : Option (List ℕ)) (errors_failed : Bool)

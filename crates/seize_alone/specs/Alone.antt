@@ -58,9 +58,6 @@ linked b o = with_hand_of b (InUse o) (Linked b o ∷ [])
 abbrev pub unlinked : ℕ → History → History
 unlinked b = with_hand_of b (Cutting 0) (Unlinked b ∷ [])
 
-abbrev pub dropped : ℕ → History → History
-dropped b = with_hand_of b NoBlock (Dropped b ∷ [])
-
 -- a block that was left over is taken away
 abbrev pub cleared : ℕ → History → History
 cleared b = with_hand_of b NoBlock (Dropped b ∷ [])

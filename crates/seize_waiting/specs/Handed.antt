@@ -15,18 +15,6 @@ put_by (Flushes s ∷ changes) = put_by changes
 put_by (Ends n ∷ changes) = put_by changes
 put_by (ReclaimsAll ∷ changes) = put_by changes
 
--- what they put it behind
-abbrev pub behind_by : List Change → List ℕ
-behind_by [] = []
-behind_by (Defers n behind ∷ changes) = behind ∷ behind_by changes
-behind_by (Retires s n ∷ changes) = behind_by changes
-behind_by (Enters s ∷ changes) = behind_by changes
-behind_by (Leaves s ∷ changes) = behind_by changes
-behind_by (Refreshes s ∷ changes) = behind_by changes
-behind_by (Flushes s ∷ changes) = behind_by changes
-behind_by (Ends n ∷ changes) = behind_by changes
-behind_by (ReclaimsAll ∷ changes) = behind_by changes
-
 -- what waits behind others after they put theirs there, the newest first
 abbrev pub further_by : List Change → List Further → List Further
 further_by [] further = further

@@ -1,5 +1,4 @@
 pub mod Changes
-pub mod Every
 pub mod Following
 pub mod Handed
 pub mod Held

@@ -1,15 +1,11 @@
 -- The beginning of a row that is given no block keeps a map and its blocks.
-use Rattle.std.proofs.Common.{◌≡◌, ℕ, Bool, ap, sym, ◌∙◌}
+use Rattle.std.proofs.Common.{◌≡◌, ℕ, Bool, ◌∙◌}
 use Rattle.papaya_late.specs.Given.Seize.World.{World, Row, Use}
 use Rattle.papaya_late.specs.Given.Tables.declared.node.Node.{Node}
 use Rattle.papaya_late.specs.Given.Tables.declared.setting.Setting.{Setting}
 use Rattle.papaya_late.specs.Given.Rule.Chart.{Chart}
 use Rattle.papaya_late.specs.Given.Rule.Words.{Blocks}
 use Rattle.papaya_late.specs.Given.Rule.InWorld.{IsMapIn}
-
-module _ {K V : Type 0} (setting : Setting) (w w2 : World (Node K V)) where
-  comes : (row : ℕ → Row) (uses : ℕ → Use) → w2 ≡ record w { row = row; uses = uses } → w2 ≡ record w { row = w2.row; uses = w2.uses }
-  comes row uses e = e ∙ sym (ap (λ (v : World (Node K V)). record w { row = v.row; uses = v.uses }) e)
 
 module _ {K V : Type 0} (same : K → K → Bool) (hash : K → ℕ) (setting : Setting) (w : World (Node K V)) (c : Chart K) (blocks : Blocks)
     (map : IsMapIn same hash setting w c blocks) where

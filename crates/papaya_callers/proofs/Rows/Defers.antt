@@ -2,7 +2,7 @@
 use Rattle.std.specs.Prelude.{Option}
 use Rattle.std.proofs.Common.{◌≡◌, ◌≢◌, ℕ, suc, ◌<◌, ◌≤◌, Bool, true, false, cond, ◌∷◌, inl, inr, refl, arith, ap, sym, subst, ◌∙◌}
 use Rattle.std.proofs.lemmas.Bool.{cases_eq, eq-eqb, ne_eqb}
-use Rattle.papaya_late.specs.Given.Seize.Law.{Place, Standing, Nowhere, With, Deferred, where_is, is_standing, is_somewhere, reachable}
+use Rattle.papaya_late.specs.Given.Seize.Law.{Place, Standing, Nowhere, With, Deferred, where_is, is_standing}
 use Rattle.papaya_late.specs.Given.Seize.World.{World, Row, Use, Hand, InUse, Parting, Handed, Defer', Begins, with_at}
 use Rattle.papaya_late.proofs.Given.SeizeMoves.State.Ghost.{place_of}
 use Rattle.papaya_late.proofs.Given.SeizeRule.Points.Aside.{HandFits, IsStanding, standing_life}
@@ -17,7 +17,6 @@ use Rattle.papaya_late.specs.Given.Points.FactsDisposes.{StandsBefore, StandsNow
 use Rattle.papaya_late.proofs.Given.Rule.World.Hands.{Hands, at_cases, hand_kept, standing_kept, current_known, named_known}
 use Rattle.papaya_late.proofs.Given.Rule.Words.TablesSeen.{pair_apart}
 use Rattle.papaya_late.proofs.Given.Rule.World.WentWrote.{map_in, counter_of}
-use Rattle.papaya_callers.specs.Kept.{IsUsersOwn, IsKeptBlock}
 
 -- what is in use, or parting, can be reached from a root
 stands_at : {T : Type 0} (defers : T → Option ℕ) (size : ℕ) (w : World T) → Reached defers size w → (b : ℕ) (hand : Hand) → w.hand b ≡ hand → IsStanding hand → where_is b w.log ≡ Standing
@@ -95,23 +94,10 @@ module _ {K V : Type 0} (same : K → K → Bool) (hash : K → ℕ) (setting : 
   abbrev t : ℕ
   t = blocks.table u
 
-  abbrev later_world : (ℕ → Row) → (ℕ → Use) → World (Node K V)
-  later_world row uses = deferred same hash setting w c blocks map n t was known left row uses
-
   put_behind : where_is b (Deferred b t ∷ w.log) ≡ With t
   put_behind =
       ap (λ (e : Bool). cond e (cond (is_standing (where_is t w.log)) (With t) Nowhere) (where_is b w.log)) (eq-eqb b b refl)
       ∙ ap (λ (p : Place). cond (is_standing p) (With t) Nowhere) (used_stands deferred_word setting.batch_size w r t (map.tables u l made))
-
-  block_stays : (row : ℕ → Row) (uses : ℕ → Use) (x : ℕ) → IsKeptBlock w x → IsKeptBlock (later_world row uses) x
-  block_stays row uses x k = elim (cases_eq x b) as (λ _. IsKeptBlock (later_world row uses) x) [
-    | inl e ↦ inr (subst (λ (y : ℕ). reachable y (Deferred b t ∷ w.log) ≡ true) (sym e) (ap is_somewhere put_behind))
-    | inr ne ↦ other ne k
-  ]
-    where
-      other : x ≢ b → IsKeptBlock w x → IsKeptBlock (later_world row uses) x
-      other ne (inl own) = inl (subst IsUsersOwn (sym (hand_kept w.hand b Handed (w.hand x) x ne refl)) own)
-      other ne (inr reached) = inr (ap is_somewhere (elsewhere same hash setting w c blocks map n t was known left x ne) ∙ reached)
 
   module _ (i s : ℕ) (w2 : World (Node K V)) (before : StandsBefore w i setting c blocks n (suc u))
       (begins : Begins deferred_word setting.batch_size i (Defer' s (blocks.pair n) (blocks.table u)) w w2) where

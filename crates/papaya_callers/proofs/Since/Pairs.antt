@@ -93,8 +93,6 @@ module _ {K V Q : Type 0} (same : K → K → Bool) (hash : K → ℕ) (setting 
   stored_on (Removed o) h = h
 
   module _ (p2 : KeyCall K V Q) (change2 : Change) where
-    abbrev Knows2 : Calling → Type 0
-    Knows2 stands = CallingFacts same hash asks w2 caller setting c2 blocks2 keys change2 p2 stands
 
     abbrev Keeps2 : Calling → Type 0
     Keeps2 stands = KeepsIt w2.memory c2 blocks2 pair change2 p2 stands
@@ -232,9 +230,6 @@ module _ {K V Q : Type 0} (same : K → K → Bool) (hash : K → ℕ) (setting 
       -- its own block
       its : (stands : Calling) → p.stands ≡ stands → KeepsIt w.memory c blocks pair change p stands
       its stands here = subst (KeepsIt w.memory c blocks pair change p) here keeps
-
-      knows : (stands : Calling) → p.stands ≡ stands → CallingFacts same hash asks w caller setting c blocks keys change p stands
-      knows stands here = subst (CallingFacts same hash asks w caller setting c blocks keys change p) here facts.point
 
       module _ (so : IsSought p.stands) where
         has : HasIt w.memory c blocks pair p.own

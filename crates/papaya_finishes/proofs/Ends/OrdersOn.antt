@@ -6,8 +6,8 @@ use Rattle.papaya_callers.specs.Given.Tables.Chunks.{is_incremental}
 use Rattle.papaya_callers.specs.Given.Tables.declared.setting.Setting.{Setting}
 use Rattle.papaya_callers.specs.Given.Rule.Chart.{Chart}
 use Rattle.papaya_callers.specs.Given.Rule.Words.{Blocks}
-use Rattle.papaya_finishes.specs.Orders.{pair_at, with_pairs, given_of, waits_of, change_of, pairs_from, pairs_in, pairs_behind, tables_in, waits_in, changes_in, changes_from, pairs_of}
-use Rattle.papaya_finishes.specs.FactsEnds.{back_of, from_table, from_place, wait_from, wait_before}
+use Rattle.papaya_finishes.specs.Orders.{pair_at, with_pairs, given_of, waits_of, pairs_from, pairs_in, pairs_behind, tables_in, waits_in, pairs_of}
+use Rattle.papaya_finishes.specs.FactsEnds.{back_of, from_table, from_place, wait_before}
 use Rattle.papaya_callers.specs.Given.Seize.World.{times}
 use Rattle.papaya_finishes.proofs.Ends.CountedBlocks.{some_last, some_first, some_here, some_of_two}
 use Rattle.std.proofs.lemmas.Bool.{cases_eq}
@@ -92,15 +92,6 @@ module _ {K : Type 0} (setting : Setting) (c : Chart K) (blocks : Blocks) (lists
 
   pub table_over : (t : ℕ) → c.past ≤ t → from_table setting c blocks lists owns t ≡ setting.counter ∷ []
   table_over t l = ap (λ (k : ℕ). tables_in blocks.table lists owns t k ++ setting.counter ∷ []) (none t c.past l)
-
-  pub wait_on : (t : ℕ) → t < c.past → wait_from setting c blocks lists owns t ≡ waits_of owns (lists t) ++ wait_from setting c blocks lists owns (suc t)
-  wait_on t l = ap (λ (k : ℕ). waits_in blocks.table lists owns t k) (less t c.past l)
-
-  pub change_on : (t : ℕ) → t < c.past → changes_from c blocks lists owns t ≡ change_of (blocks.table t) (lists t) ++ changes_from c blocks lists owns (suc t)
-  change_on t l = ap (λ (k : ℕ). changes_in blocks.table lists owns t k) (less t c.past l)
-
-  pub change_over : (t : ℕ) → c.past ≤ t → changes_from c blocks lists owns t ≡ []
-  change_over t l = ap (λ (k : ℕ). changes_in blocks.table lists owns t k) (none t c.past l)
 
   -- each table is reclaimed
   pub table_in : (t u tables : ℕ) → u ≤ t → t < u + tables → 0 < times (blocks.table t) (tables_in blocks.table lists owns u tables)

@@ -1,15 +1,11 @@
 -- What the laws promise, clause by clause, as far as crates above cite it in proofs.
 use Rattle.papaya_late.specs.Faults.{ReservesRefuseRoom, ReservesAskOn, SweepsRefuseRoom, ToldSweepsRefuseRoom}
-use Rattle.papaya_late.specs.Kinds.{CallsKeepTheirKind, RepliesKeepTheKind, LookupsLeaveTheMemory}
+use Rattle.papaya_late.specs.Kinds.{CallsKeepTheirKind, RepliesKeepTheKind}
 use Rattle.papaya_late.proofs.KindsKept.Calls.Asked.{replies_kept}
 use Rattle.papaya_late.proofs.KindsKept.Calls.Kept.{kinds_kept}
-use Rattle.papaya_late.proofs.KindsKept.Calls.Lookups.{lookup_leaves}
 use Rattle.papaya_late.proofs.KindsKept.Rooms.Asks.{reserve_asks}
 use Rattle.papaya_late.proofs.KindsKept.Rooms.Reserving.{reserve_rooms}
 use Rattle.papaya_late.proofs.KindsKept.Rooms.Sweeping.{sweep_rooms, told_rooms}
-
-pub lookups_leave_the_memory : {K V Q : Type 0} → LookupsLeaveTheMemory K V Q
-lookups_leave_the_memory = lookup_leaves
 
 pub calls_keep_their_kind : {K V Q : Type 0} → CallsKeepTheirKind K V Q
 calls_keep_their_kind {K} {V} {Q} = kinds_kept K V Q

@@ -47,9 +47,6 @@ module _ {K V Q : Type 0} (same : K → K → Bool) (hash : K → ℕ) (asks : Q
   rule : Rule same (spot_of hash) false c
   rule = subst (λ (x : Bool). Rule same (spot_of hash) x c) blocking map.map.rule
 
-  rule2 : Rule same (spot_of hash) false c2
-  rule2 = subst (λ (x : Bool). Rule same (spot_of hash) x c2) blocking map2.map.rule
-
   leaves : Leaves same (spot_of hash) false caller c c2
   leaves = subst (λ (x : Bool). Leaves same (spot_of hash) x caller c c2) blocking others.leaves
 

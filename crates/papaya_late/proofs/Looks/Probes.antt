@@ -23,7 +23,7 @@ use Rattle.papaya_points.specs.Given.Rule.Maps.{spot_at, spot_of, IsClass, IsMap
 use Rattle.papaya_points.specs.Given.Rule.Moments.{Moments}
 use Rattle.papaya_points.proofs.Given.Rule.Words.PlacesShown.{AreStored, are_stored, shown_byte, shown_known}
 use Rattle.papaya_points.proofs.Given.Rule.Words.WordsSeen.{Tells, Says, says}
-use Rattle.papaya_points.proofs.Given.Rule.Keys.TriesSeen.{IsNext, next_is, spot_inside}
+use Rattle.papaya_points.proofs.Given.Rule.Keys.TriesSeen.{IsNext, next_is}
 use Rattle.papaya_points.proofs.Given.Rule.Keys.ClassesSeen.{passed_further}
 use Rattle.papaya_points.proofs.Lookups.Reads.{SeesPlace, sees_place, probes_tell}
 use Rattle.papaya_late.specs.Left.{Left}
@@ -46,9 +46,6 @@ module _ {K V : Type 0} (same : K → K → Bool) (hash : K → ℕ) (lawful : I
 
   abbrev here : Place
   here = c.place t (spot_at (c.len t) code j)
-
-  inside : spot_at (c.len t) code j < c.len t
-  inside = spot_inside (c.len t) code j (rule.common.lens t tries.table.made).0
 
   sees : SeesPlace hash keys code m c blocks trial t (c.place t (spot_at (c.len t) code j))
   sees = sees_place same hash fits mode root keys code class m c blocks map trial t j tries

@@ -42,7 +42,7 @@ use Rattle.papaya_whole.specs.Given.Rule.Words.{Blocks}
 use Rattle.papaya_whole.specs.Given.Alone.Counted.{HasAdded}
 use Rattle.papaya_whole.specs.Given.Alone.Counting.{IsCounted}
 use Rattle.papaya_whole.specs.Given.Callers.Sights.{Sight}
-use Rattle.papaya_whole.specs.Given.Callers.Together.{CameAbout, Together, AllStand}
+use Rattle.papaya_whole.specs.Given.Callers.Together.{Together, AllStand}
 use Rattle.papaya_whole.proofs.Given.Callers.Rows.Keep.{kept_block, used_kept}
 use Rattle.papaya_whole.proofs.Given.Callers.Together.Came.{came_reached}
 use Rattle.papaya_whole.proofs.Given.Callers.Together.Guards.{guards_stand_together}
@@ -150,9 +150,6 @@ module _ {K V : Type 0} (same : K → K → Bool) (hash : K → ℕ) (setting : 
 
       stand2 : AllStand {K = K} {Q = K} V same hash same setting slot_of w2 h.chart at.blocks (λ i. None)
       stand2 = (guards_stand_together {Q = K} same hash same setting slot_of h.lawful at.w h.chart at.blocks at.sights (λ i. None) at.together 0 refl).2 w2 happens
-
-      came2 : CameAbout setting.batch_size w2
-      came2 = stand2.2.ground.came
 
       map_there : IsMapIn same hash setting w2 h.chart at.blocks
       map_there = map2 {Q = K} same hash same setting slot_of h.lawful at.w h.chart at.blocks at.sights (λ i. None) at.together 0 w2 happens

@@ -4,7 +4,7 @@ use Rattle.std.specs.Int.{IsPowerOfTwo}
 use Rattle.std.proofs.Common.{refl, ap, sym, subst, inl, inr}
 use Rattle.papaya_rule.specs.Given.SeizeWords.declared.fault.Fault.TheVariants.{RemoveNothing}
 use Rattle.papaya_rule.specs.Given.Seize.World.{World}
-use Rattle.papaya_raw.specs.CallAsks.{with_absent, with_present, replied}
+use Rattle.papaya_raw.specs.CallAsks.{with_absent, with_present}
 use Rattle.papaya_raw.specs.CallPoints.{going, over, ending, burying, storing, following_made, at_gap}
 use Rattle.papaya_raw.specs.Replies.{value_told}
 use Rattle.papaya_rule.specs.Given.Tables.declared.marks.TheConstants.{TOMBSTONE}
@@ -21,7 +21,6 @@ use Rattle.papaya_raw.specs.declared.machines.asking.Asking.TheVariants as askin
 use Rattle.papaya_raw.specs.declared.machines.asking.Gap.{Gap}
 use Rattle.papaya_raw.specs.declared.machines.asking.Gap.TheVariants as gaps
 use Rattle.papaya_raw.specs.declared.machines.asking.Replies.{Replies}
-use Rattle.papaya_raw.specs.declared.machines.asking.Reply.{Reply}
 use Rattle.papaya_raw.specs.declared.machines.asking.Takes.{Takes}
 use Rattle.papaya_raw.specs.declared.machines.asking.Takes.TheVariants as takes
 use Rattle.papaya_raw.specs.declared.machines.asking.Told.{Told}
@@ -190,9 +189,6 @@ module _ {K V Q : Type 0} (same : K → K → Bool) (hash : K → ℕ) (asks : Q
       last_goes gaps.NoTable value k s last = absurd last
       last_goes gaps.Free value k s last = absurd last
       last_goes gaps.Past value k s last = absurd last
-
-  pub reply_so : (r : Reply V) → So (replied p r).0
-  reply_so = replied_so p So taken
 
 module _ {K Q : Type 0} (V : Type 0) (same : K → K → Bool) (hash : K → ℕ) (asks : Q → K → Bool) where
   pub replies_are_taken : RepliesAreTaken V same hash asks

@@ -6,7 +6,6 @@ use Rattle.papaya_raw.specs.CallAsks.{with_absent, with_present, absent_told, pr
 use Rattle.papaya_raw.specs.CallPoints.{standing, ending, answering, burying, at_gap}
 use Rattle.papaya_raw.specs.declared.machines.answer.End.TheVariants as ends
 use Rattle.papaya_raw.specs.declared.machines.answer.KeyAnswer.TheVariants as answers
-use Rattle.papaya_raw.specs.declared.machines.asking.Asking.{Asking}
 use Rattle.papaya_raw.specs.declared.machines.asking.Asking.TheVariants as asking
 use Rattle.papaya_raw.specs.declared.machines.asking.Gap.{Gap}
 use Rattle.papaya_raw.specs.declared.machines.asking.Reply.{Reply}
@@ -97,17 +96,3 @@ module _ {K V Q : Type 0} (p : KeyCall K V Q) (So : KeyCall K V Q → Type 0) wh
 
     pub replied_so : (r : Reply V) → So (replied p r).0
     replied_so r = told_so p.stands refl r
-
--- one that asks for nothing, or never asks, stays as it is
-module _ {K V Q : Type 0} (p : KeyCall K V Q) where
-  pub replied_same : ((asks_at : Asking) → p.stands ≡ at.Asks asks_at → ⊥) → (r : Reply V) → (replied p r).0 ≡ p
-  replied_same none = replied_so p (λ q. q ≡ p) (record {
-    asks_on = refl;
-    stores = λ gap value here more. absurd (none (asking.Absent gap) here);
-    removes_none = λ gap here e. absurd (none (asking.Absent gap) here);
-    answers_none = λ gap here e. absurd (none (asking.Absent gap) here);
-    replaces = λ word value here more. absurd (none (asking.Present word) here);
-    removes = λ word here e. absurd (none (asking.Present word) here);
-    buries = λ word here e. absurd (none (asking.Present word) here);
-    answers = λ word here. absurd (none (asking.Present word) here);
-  })

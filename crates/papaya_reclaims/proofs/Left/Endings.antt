@@ -213,9 +213,6 @@ module _ {K Q : Type 0} (V : Type 0) (same : K → K → Bool) (asks : Q → K �
       abbrev root : ℕ
       root = f.setting.root
 
-      abbrev lists2 : ℕ → List ℕ
-      lists2 = with_at lists f.setting.root f.waits
-
       abbrev Over : ℕ → Type 0
       Over r = IsSomebodys maps makers (with_at enders i None) r
 

@@ -16,7 +16,6 @@ use Rattle.papaya_finishes.proofs.Given.SeizeRule.Words.Room.{slot_there}
 use Rattle.papaya_finishes.proofs.Given.SeizeRule.World.Rested.{Rested}
 use Rattle.papaya_finishes.proofs.Given.SeizeRule.World.Start.{start_good}
 use Rattle.papaya_finishes.proofs.Given.SeizeEnds.Batches.Rows.{HeldByRows, runs_held, start_held}
-use Rattle.papaya_finishes.specs.Given.SeizeAlone.Alone.{TakesSteps}
 use Rattle.papaya_finishes.proofs.Given.SeizeSets.Reclaims.Ends.{none_retired}
 use Rattle.papaya_finishes.proofs.Given.SeizeSets.Reclaims.Sets.{open_none}
 use Rattle.papaya_finishes.proofs.Given.SeizeSets.Turns.Begins.{Shown}
@@ -49,11 +48,6 @@ no_length [] e = refl
 no_length (b ∷ l) e = absurd (omega (arith, e))
 
 module _ {K V : Type 0} (size : ℕ) where
-  -- steps of a row, as events
-  pub steps_run : (i steps : ℕ) (w n : World (Node K V)) → TakesSteps deferred_word steps i w n
-      → (events : List (Event (Node K V))) × AreItsRows i events × Runs deferred_word size events w n
-  steps_run i zero w n h = ([], tt, h)
-  steps_run i (suc steps) w n h = let k = steps_run i steps h.0 n h.2 in (Step i ∷ k.0, (refl, k.1), (h.0, h.1, k.2))
 
   runs_run : (i steps : ℕ) (w n : World (Node K V)) → RunsOn deferred_word steps i w n
       → (events : List (Event (Node K V))) × AreItsRows i events × Runs deferred_word size events w n

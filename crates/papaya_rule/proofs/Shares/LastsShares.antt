@@ -1,5 +1,5 @@
 -- In incremental mode: what steps of others leave of a caller's part in a copying.
-use Rattle.std.specs.Prelude.{◌≡◌, ◌≢◌, ℕ, zero, suc, ◌<◌, Bool, true, false, cond, eqb, ◌⊎◌}
+use Rattle.std.specs.Prelude.{◌≡◌, ◌≢◌, ℕ, zero, suc, ◌<◌, Bool, true, false, cond, ◌⊎◌}
 use Rattle.std.proofs.Common.{refl, ap, sym, ◌∙◌, inl, inr, arith}
 use Rattle.std.proofs.lemmas.Bool.{cases_lt, eq-eqb}
 use Rattle.papaya_tables.specs.declared.status.TheConstants.Status.{ABORTED}
@@ -25,13 +25,6 @@ module _ (caller : ℕ) where
   done_none (Done other) e = ap {B = ℕ} (λ (q : Bool). cond q 1 0) e
   done_none Counted e = refl
   done_none Lost e = refl
-
-  own_claimed : (s : Share) → is_of_caller caller s ≡ true → is_done_by caller s ≡ 0 → s ≡ Claimed caller
-  own_claimed Free e none = absurd (cc e)
-  own_claimed (Claimed other) e none = grind (arith, e)
-  own_claimed (Done other) e none = absurd (let one : cond (eqb other caller) 1 0 ≡ 1 = ap {B = ℕ} (λ (q : Bool). cond q 1 0) e in omega (arith, one, none))
-  own_claimed Counted e none = absurd (cc e)
-  own_claimed Lost e none = absurd (cc e)
 
   pub claimed_own : (s : Share) → s ≡ Claimed caller → is_of_caller caller s ≡ true
   claimed_own s e = ap (is_of_caller caller) e ∙ eq-eqb caller caller refl

@@ -4,7 +4,7 @@ use Rattle.std.proofs.Common.{◌≡◌, ℕ, ◌+◌, true, false, List, ◌∷
 use Rattle.seize_words.specs.declared.at.At.TheVariants as name
 use Rattle.seize_words.specs.Mem.{value_at, word_at}
 use Rattle.seize.specs.declared.states.TheConstants.{LAST_SLOT}
-use Rattle.seize.specs.Law.{Effect, Taken, is_somewhere, where_is, reachable, is_open, is_retired, holds, IsSound}
+use Rattle.seize.specs.Law.{Effect, Taken, is_somewhere, where_is, reachable, is_retired, holds, IsSound}
 use Rattle.seize.specs.World.{World, Steps', times, IsInside, IsOwn, Hand, NoBlock, Making, InUse, Parting, Cutting, Handed, LeftTo}
 use Rattle.seize.specs.Sequence.{taken_in}
 use Rattle.seize_moves.proofs.State.Ghost.{Debt, State, Life, IsFree, IsOwned, IsLinked, IsUnlinked, IsDeferring, IsDeferred, IsPending, IsIn, IsDoomed, IsLeft, is_given, place_of}
@@ -12,7 +12,7 @@ use Rattle.seize_moves.proofs.State.Rule.{IsGuarded}
 use Rattle.seize_rule.proofs.Words.Shows.{lives}
 use Rattle.seize_rule.proofs.Words.There.{value_there}
 use Rattle.seize_rule.proofs.Points.Aside.{HandFits}
-use Rattle.seize_moves.proofs.State.Held.{held_through, open_through}
+use Rattle.seize_moves.proofs.State.Held.{held_through}
 use Rattle.seize_alone.specs.Alone.{IsOfUsers}
 use Rattle.seize_alone.proofs.Spared.Users.{own_kept}
 use Rattle.seize_rule.proofs.Rows.Effects.{one_not_taken, hand_kept, place_kept, taken_hand}
@@ -147,9 +147,6 @@ module _ {T : Type 0} (defers : T → Option ℕ) (size : ℕ) (w : World T) (r 
 
     pub still_held : (s b : ℕ) → IsInside (w.uses s) → holds s b w.log ≡ true → holds s b w2.log ≡ true
     still_held s b inside h = ap (holds s b) did.logged ∙ held_through s b did.effects w.log (did.goes_on s inside) h
-
-    pub still_open : (s : ℕ) → IsInside (w.uses s) → is_open s w.log ≡ true → is_open s w2.log ≡ true
-    still_open s inside h = ap (is_open s) did.logged ∙ open_through s did.effects w.log (did.goes_on s inside) h
 
 module _ {T : Type 0} (defers : T → Option ℕ) (size : ℕ) (w : World T) (r : Reached defers size w) (i : ℕ) (w2 : World T) (step : Steps' defers i (w.row i) w w2) where
   -- a block that is taken is gone

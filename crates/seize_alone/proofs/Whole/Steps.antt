@@ -249,10 +249,6 @@ module _ {T : Type 0} (defers : T → Option ℕ) (batch_size roots : ℕ) (m : 
       subst (λ (k : Mem T). MayStep defers row k) mid.memory_now
       (row_may defers (LAST_SLOT + 1) batch_size refl mid.now since.lone.good 0 row mid.row_now)
 
-  -- a block that is left to a caller has the link that it had
-  pub midway_left : (b j : ℕ) → h.hand b ≡ LeftTo j → SameNext b m m2
-  midway_left b j is = subst (λ (k : Mem T). SameNext b m k) mid.memory_now (since.left b j is).1
-
   -- the world after a step
   module _ (n : World T) (m3 : Mem T) (step : Steps' defers 0 (mid.now.row 0) mid.now n) (memory : n.memory ≡ m3) (effects : List Effect) (logged : n.log ≡ effects ++ mid.now.log) where
     runs : TakesSteps defers (suc mid.steps) 0 mid.begun n

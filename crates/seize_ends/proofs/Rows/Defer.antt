@@ -7,14 +7,14 @@ use Rattle.seize_words.specs.declared.at.At.TheVariants.{Entry}
 use Rattle.seize_words.specs.Mem.{Mem, value_at, word_at, with_word, same_at, Took}
 use Rattle.seize_words.specs.Plan.{Steps}
 use Rattle.seize_words.proofs.OneOwner.Operations.{loaded, stored, exchanged}
-use Rattle.seize.specs.declared.states.TheConstants.{NEXT, LAST_SLOT}
+use Rattle.seize.specs.declared.states.TheConstants.{NEXT}
 use Rattle.seize.specs.declared.progress.Progress.{Progress}
 use Rattle.seize.specs.declared.progress.Progress.TheVariants.{Goes, Done}
 use Rattle.seize.specs.declared.rows.defer.Defer.{Defer}
 use Rattle.seize.specs.declared.rows.defer.Deferring.{Deferring}
 use Rattle.seize.specs.declared.rows.defer.Deferring.TheVariants as at
 use Rattle.seize.specs.Defer.{defer_plan, plan_at, head_read, push_told, goes, standing}
-use Rattle.seize.specs.World.{World, Row, Defers, defers_on}
+use Rattle.seize.specs.World.{World, Row, Defers}
 use Rattle.seize_rule.proofs.Words.Named.{words_of, has, word_found, wrote, write_apart}
 use Rattle.seize_rule.proofs.Words.View.{view}
 use Rattle.seize_rule.proofs.Words.Shows.{lives}
@@ -22,7 +22,6 @@ use Rattle.seize_rule.proofs.Rows.Known.{FitsDefer, FitsRow, OnWay}
 use Rattle.seize_rule.proofs.Words.There.{some_of}
 use Rattle.seize_rule.proofs.World.Good.{Good}
 use Rattle.seize_rule.proofs.Points.Retire.{of_link}
-use Rattle.seize_rule.proofs.Rows.Others.{with_here}
 
 -- By the head of the list, and where the row stands: a block that is linked to another head is to be linked once more.
 abbrev pub to_go : ℕ → Deferring → ℕ
@@ -100,7 +99,3 @@ module _ {T : Type 0} {size : ℕ} (defers : T → Option ℕ) (n : ℕ) (w : Wo
   pub defer_ends : (mem2 : Mem T) (end : Defer × Progress Unit) → Steps Took value_at w.memory (defer_plan c) mem2 end → Lower (defer_to_go w.memory c) mem2 end
   defer_ends mem2 end st =
       at_point c.stands (subst (λ (row : Row). FitsRow n i (view defers w.memory) good.state good.extra (length w.memory.slots) row) is (good.rows i)) mem2 end st
-
-module _ {T : Type 0} (defers : T → Option ℕ) (n size : ℕ) (last : n ≡ LAST_SLOT + 1) (i s : ℕ) where
-  after_goes : (w : World T) (m : Mem T) (end : Defer × Progress Unit) → end.1 ≡ Goes → ((defers_on w i s m end).row i ≡ Defers s end.0) × ((defers_on w i s m end).memory ≡ m)
-  after_goes w m end e = subst (λ (o : Progress Unit). ((defers_on w i s m (end.0, o)).row i ≡ Defers s end.0) × ((defers_on w i s m (end.0, o)).memory ≡ m)) (sym e) (with_here w.row i (Defers s end.0), refl)

@@ -4,7 +4,7 @@ use Rattle.seize_moves.proofs.State.Ghost.{Entry, Loose, Closing, State, was_put
 use Rattle.seize_moves.proofs.State.Rule.{Inv, Moved, Pending}
 use Rattle.seize_moves.proofs.Moves.Pushes.{summed_moves, counted_moves, closed_at_zero}
 use Rattle.seize_moves.proofs.Moves.Takes.{gives_up_moves}
-use Rattle.seize_moves.proofs.State.Moves.{closed, summed, counted, gives_up}
+use Rattle.seize_moves.proofs.State.Moves.{summed, counted, gives_up}
 use Rattle.seize_moves.proofs.State.Together.{then}
 
 -- what the other moves leave
@@ -41,6 +41,3 @@ pub counted_gives_up_pending : (i : ℕ) (m : State) (e : Entry) (es : List Entr
 counted_gives_up_pending i m e es p y k = grind (arith, p y)
 
 -- where no slot is active, an open batch is reclaimed at once
-
-abbrev pub cleared : ℕ → State → ℕ → ℕ → ℕ → State
-cleared n m i s x = gives_up (summed n (closed n m i s x) i x) i x

@@ -47,20 +47,6 @@ on_comes batch_size s target rest rest2 so_far numbers passed to_come h e =
     inner = ap (λ (p : List ℕ). record { sets = (then_also rest2 (rest_counted batch_size s passed to_come)).sets; reclaimed = p })
         (append_assoc numbers rest2.reclaimed (rest_counted batch_size s passed to_come rest2.sets).reclaimed)
 
--- a move: these numbers are given back by it, and the sets go from these to those, with what stands aside
-pub goes_on : (batch_size n s : ℕ) (m m2 : State) (order order2 : List ℕ) (target : After) (sets sets2 : Sets) (rest rest2 : After) (numbers : List ℕ)
-    → Working batch_size n s m order target sets rest
-    → ((aside : List Batch) → Models n m order (with_closed sets (sets.closed ++ aside)) → Models n m2 order2 (with_closed sets2 (sets2.closed ++ aside)))
-    → rest ≡ after_these numbers rest2
-    → Working batch_size n s m2 order2 target sets2 rest2
-goes_on batch_size n s m m2 order order2 target sets sets2 rest rest2 numbers k h e = record {
-  so_far = k.so_far ++ numbers;
-  passed = k.passed;
-  to_come = k.to_come;
-  models = h (k.passed ++ k.to_come) k.models;
-  comes = on_comes batch_size s target rest rest2 k.so_far numbers k.passed k.to_come k.comes e;
-}
-
 -- batches that wait for others than the slot, and go on waiting
 
 abbrev pub AllWait : ℕ → List Batch → Type 0

@@ -1,7 +1,7 @@
 -- An open section goes on through all that happens save its end, and holds what it holds until then, or until that is taken away.
 use Rattle.std.proofs.Common.{◌≡◌, ℕ, true, List, [], ◌∷◌, ◌++◌, arith}
-use Rattle.seize.specs.Law.{Effect, Entered, Left, Made, Linked, Unlinked, Deferred, Retired, Taken, Dropped, Ended, LeftOver, reachable, is_open, holds}
-use Rattle.seize_moves.proofs.State.Logs.{held_open, reached_held}
+use Rattle.seize.specs.Law.{Effect, Entered, Left, Made, Linked, Unlinked, Deferred, Retired, Taken, Dropped, Ended, LeftOver, holds}
+use Rattle.seize_moves.proofs.State.Logs.{held_open}
 
 -- the effect ends no section of this slot, and takes no block away that a section may hold
 abbrev pub NotLeft : ℕ → Effect → Type 0
@@ -13,24 +13,6 @@ NotLeft s _ = Unit {0}
 abbrev pub NoneLeft : ℕ → List Effect → Type 0
 NoneLeft s [] = Unit {0}
 NoneLeft s (e ∷ effects) = NotLeft s e × NoneLeft s effects
-
--- an open section stays open
-pub open_on : (s : ℕ) (e : Effect) (log : List Effect) → NotLeft s e → is_open s log ≡ true → is_open s (e ∷ log) ≡ true
-open_on s (Entered t) log n o = grind (arith, o)
-open_on s (Left t) log n o = grind (arith, n, o)
-open_on s (Made c) log n o = o
-open_on s (Linked c w) log n o = o
-open_on s (Unlinked c) log n o = o
-open_on s (Deferred c t) log n o = o
-open_on s (Retired c) log n o = o
-open_on s (Taken c) log n o = o
-open_on s (Dropped c) log n o = o
-open_on s (Ended w) log n o = o
-open_on s (LeftOver c further) log n o = o
-
-pub open_through : (s : ℕ) (effects log : List Effect) → NoneLeft s effects → is_open s log ≡ true → is_open s (effects ++ log) ≡ true
-open_through s [] log n o = o
-open_through s (e ∷ effects) log n o = open_on s e (effects ++ log) n.0 (open_through s effects log n.1 o)
 
 -- what an open section holds it goes on holding, also where it is entered once more
 pub held_on : (s b : ℕ) (e : Effect) (log : List Effect) → NotLeft s e → holds s b log ≡ true → holds s b (e ∷ log) ≡ true
@@ -49,10 +31,6 @@ held_on s b (LeftOver c further) log n h = h
 pub held_through : (s b : ℕ) (effects log : List Effect) → NoneLeft s effects → holds s b log ≡ true → holds s b (effects ++ log) ≡ true
 held_through s b [] log n h = h
 held_through s b (e ∷ effects) log n h = held_on s b e (effects ++ log) n.0 (held_through s b effects log n.1 h)
-
--- an open section goes on holding what could be reached, also where it is unlinked or deferred now
-pub reached_on : (s b : ℕ) (e : Effect) (log : List Effect) → NotLeft s e → reachable b log ≡ true → is_open s log ≡ true → holds s b (e ∷ log) ≡ true
-reached_on s b e log n r o = held_on s b e log n (reached_held s b log r o)
 
 -- where another block is taken away
 pub held_beside : (s b c : ℕ) (log : List Effect) → (b ≡ c → ⊥) → holds s b log ≡ true → holds s b (Dropped c ∷ log) ≡ true

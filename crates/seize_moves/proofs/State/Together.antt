@@ -1,7 +1,7 @@
 -- The rule at the start, moves one after another, and what a row may rely on within a section.
 use Rattle.std.proofs.Common.{◌≡◌, ℕ, ◌≤◌, ◌+◌, Bool, true, false, eqb, [], refl, arith, ◌∙◌, eqb-true}
 use Rattle.std.proofs.lemmas.Bool.{eqb-false}
-use Rattle.seize_moves.proofs.State.Ghost.{State, Stage, Unused, Open, Closing, Closed, Dead, is_never, IsDoomed, Marked, was_put, start, list_of}
+use Rattle.seize_moves.proofs.State.Ghost.{State, Stage, Unused, Open, Closing, Closed, Dead, IsDoomed, Marked, was_put, start, list_of}
 use Rattle.seize_moves.proofs.State.Rule.{Inv, IsOf, SameRow, SameBatch, SameSlot, row_of, batch_of, slot_of, same_row, same_batch, same_slot, Grows, Keeps, Moved, Pending, not_longer}
 use Rattle.seize_moves.proofs.State.Grown.{grows_then}
 use Rattle.seize_moves.proofs.State.Sums.{total_none}
@@ -135,7 +135,3 @@ then n i s m m2 m3 a b k = record {
         at false p q = cc ((a.keeps.rows j (q refl)).section, e)
 
 -- within a section
-
--- where a slot was taken, so were all below it
-pub taken_below : (n s : ℕ) (m : State) → Inv n m → is_never (m.head s) ≡ false → (t : ℕ) → t ≤ s → is_never (m.head t) ≡ false
-taken_below n s m inv h t l = grind (arith, inv.slots.prefix t s)

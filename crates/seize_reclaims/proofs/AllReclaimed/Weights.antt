@@ -34,9 +34,6 @@ use Rattle.seize_alone.proofs.Whole.Ends.{call_ends}
 lt_of : (a b : ℕ) → nat_lt a b ≡ true → a < b
 lt_of a b l = grind (arith, l)
 
-le_of : (a b : ℕ) → nat_lt a b ≡ false → b ≤ a
-le_of a b l = grind (arith, l)
-
 abbrev pub weight : ReclaimAll → ℕ
 weight c = weight_at c c.stands
 

@@ -1,6 +1,6 @@
 -- What one step of a row adds to the log.
 use Rattle.std.specs.Prelude.{if◌then◌else◌, ◌==◌}
-use Rattle.std.proofs.Common.{◌≡◌, ℕ, zero, suc, ◌∙◌, Bool, true, false, List, [], ◌∷◌, ◌++◌, refl, arith, sym, subst}
+use Rattle.std.proofs.Common.{◌≡◌, ℕ, ◌∙◌, Bool, true, false, List, [], ◌∷◌, ◌++◌, refl, arith, sym, subst}
 use Rattle.seize.specs.declared.states.TheConstants.{ACTIVE}
 use Rattle.seize.specs.declared.rows.settle.Settle.{Settle}
 use Rattle.seize.specs.declared.rows.settle.Settling.{Settling}
@@ -12,7 +12,7 @@ use Rattle.seize.specs.declared.rows.register.Register.{Register}
 use Rattle.seize.specs.declared.rows.register.Registering.{Registering}
 use Rattle.seize.specs.declared.rows.register.Registering.TheVariants as registering
 use Rattle.seize.specs.Law.{Effect, Entered, Left, Linked, Unlinked, Deferred, Retired, Taken, Dropped, Ended, where_is, owner_of, IsSound, Made, LeftOver}
-use Rattle.seize.specs.World.{Hand, NoBlock, InUse, times, with_at, handed_by, settle_effects, leave_effects, register_effects}
+use Rattle.seize.specs.World.{Hand, NoBlock, times, with_at, handed_by, settle_effects, leave_effects, register_effects}
 use Rattle.seize.specs.Sequence.{taken_in}
 use Rattle.seize_moves.proofs.State.Held.{NoneLeft}
 
@@ -233,11 +233,3 @@ owner_kept b (Dropped c ∷ []) log one = absurd one
 owner_kept b (Ended w ∷ []) log one = absurd one
 owner_kept b (LeftOver c further ∷ []) log one = absurd one
 owner_kept b (e ∷ f ∷ effects) log one = absurd one
-
--- a block that is in use after a step of a row was so before it
-pub used_before : (b o : ℕ) (effects : List Effect) (hand : ℕ → Hand) → IsOneStep effects → handed_by effects hand b ≡ InUse o → hand b ≡ InUse o
-used_before b o effects hand one used = by (times b (taken_in effects)) refl
-  where
-    by : (n : ℕ) → times b (taken_in effects) ≡ n → hand b ≡ InUse o
-    by zero none = sym (hand_kept b effects hand none one) ∙ used
-    by (suc n) some = absurd (let gone = taken_hand b effects hand one (λ none. omega (arith, some, none)) in cc (gone, used))

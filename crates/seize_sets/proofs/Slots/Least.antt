@@ -98,18 +98,6 @@ module _ {T : Type 0} (defers : T → Option ℕ) (n size : ℕ) (last : n ≡ L
   least_taken i s (Flush t) w w2 r h v ne = absurd (ne (calls_still i s (Flush t) w w2 tt v h))
   least_taken i s (Defer' t b onto) w w2 r h v ne = absurd (ne (calls_still i s (Defer' t b onto) w w2 tt v h))
 
--- The same from the other side: what a call that registers comes to, and what it is told.
-module _ {T : Type 0} (defers : T → Option ℕ) where
-  -- the row of this caller takes so many steps
-  abbrev pub GoesTo : ℕ → ℕ → World T → World T → Type 0
-  GoesTo zero i w n = n ≡ w
-  GoesTo (suc steps) i w n = (v : World T) × Steps' defers i (w.row i) w v × GoesTo steps i v n
-
-module _ {T : Type 0} (defers : T → Option ℕ) (n size : ℕ) (last : n ≡ LAST_SLOT + 1) (i : ℕ) (uses : ℕ → Use) (enters : Bool) where
-  none_after : (steps : ℕ) (w u : World T) (c : Register) → w.row i ≡ Rests → GoesTo defers steps i w u → u.row i ≡ Registers c → ⊥
-  none_after zero w u c e h is = let k = ap (λ (x : World T). x.row i) h in cc (k, e, is)
-  none_after (suc steps) w u c e h is = subst (λ (r : Row). Steps' defers i r w h.0) e h.1
-
 pub new_slots_least : {T : Type 0} (defers : T → Option ℕ) → NewSlotsAreLeast defers
 new_slots_least defers size roots turns w w2 before i s request turned h v ne =
     least_taken defers (LAST_SLOT + 1) size refl i s request w w2

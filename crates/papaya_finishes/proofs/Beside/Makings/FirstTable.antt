@@ -12,7 +12,7 @@ use Rattle.papaya_callers.specs.Given.Tables.Nodes.{deferred_word}
 use Rattle.papaya_callers.specs.Given.Tables.declared.node.Node.{Node}
 use Rattle.papaya_callers.specs.Given.Tables.declared.setting.Setting.{Setting}
 use Rattle.papaya_callers.specs.Given.Tables.declared.status.TheConstants.Status.{ABORTED}
-use Rattle.papaya_callers.specs.Given.Rule.Chart.{Free, Chart}
+use Rattle.papaya_callers.specs.Given.Rule.Chart.{Chart}
 use Rattle.papaya_callers.specs.Given.Rule.InWorld.{IsMapIn}
 use Rattle.papaya_callers.specs.Given.Rule.Maps.{spot_of}
 use Rattle.papaya_callers.specs.Given.Rule.Moments.{Moments}
@@ -24,7 +24,7 @@ use Rattle.papaya_callers.specs.Given.Points.FactsCopies.{HasDone, ClaimsNone}
 use Rattle.papaya_callers.specs.Given.Points.FactsCopiesBlocking.{HasNoShares}
 use Rattle.papaya_callers.specs.Claims.{AreFew, ClaimsFit}
 use Rattle.papaya_callers.specs.Kept.{IsUsersOwn, IsMaking, IsKeptBy, IsWithin}
-use Rattle.papaya_callers.specs.Sights.{SeesSources, Sight, IsSight}
+use Rattle.papaya_callers.specs.Sights.{SeesSources, IsSight}
 use Rattle.papaya_callers.specs.Together.{UnderWay, HasCall, ToClaim, CameAbout, in_slot, Together}
 use Rattle.papaya_callers.proofs.Rows.Defers.{used_stands}
 use Rattle.papaya_callers.proofs.Together.Came.{came_reached}
@@ -60,9 +60,6 @@ module _ {K V Q : Type 0} (same : K → K → Bool) (hash : K → ℕ) (asks : Q
     kept : IsKeptBy w (blocks.table 0)
     kept = inl (inl (subst IsUsersOwn (sym used) tt))
 
-    abbrev sees : Sight
-    sees = record { tables = blocks.table_known; pairs = blocks.pair_known }
-
     sources : SeesSources first blocks.table_known
     sources = at_first (λ t. blocks.table_known t ≡ true → first.status t ≡ ABORTED → blocks.table_known (first.from t) ≡ true) (λ known aborted. known)
 
@@ -84,9 +81,6 @@ module _ {K V Q : Type 0} (same : K → K → Bool) (hash : K → ℕ) (asks : Q
       pairs = λ n was known. absurd (omega (arith, was));
       counter = making;
     }
-
-    free_place : (u j : ℕ) → first.share u j ≡ Free
-    free_place u j = refl
 
     idle : (i : ℕ) (b : Bool) → cond b (HasDone same hash w i (in_slot setting (slot i)) first blocks 0 × ClaimsNone same hash w i (in_slot setting (slot i)) first blocks)
         (HasNoShares same hash w i (in_slot setting (slot i)) first blocks)

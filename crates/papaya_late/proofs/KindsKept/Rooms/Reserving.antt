@@ -35,7 +35,7 @@ use Rattle.papaya_points.specs.Given.Reserves.declared.reserve.Reserving.TheVari
 use Rattle.papaya_points.specs.Given.Resize.declared.sum.Sum.{Sum}
 use Rattle.papaya_points.proofs.Given.Rule.Keys.Always.{Always, AlwaysOf, always_ends, always_steps}
 use Rattle.papaya_late.specs.Ends.{EndsInReserving}
-use Rattle.papaya_late.specs.Faults.{AnyTable, IsRoom, RoomInReserving, RefusesSo, SoInCopying, SoInReserving, StandsInCopying, StandsInReserving}
+use Rattle.papaya_late.specs.Faults.{AnyTable, IsRoom, RoomInReserving, RefusesSo, SoInReserving, StandsInCopying, StandsInReserving}
 use Rattle.papaya_late.proofs.KindsKept.Rooms.Copying.{CopiesAs, CopiesFor, copier_as, copying_ends}
 use Rattle.papaya_late.proofs.KindsKept.Rooms.Making.{CountsOn, sum_counts, MakesAs, MakesFor, always_long, always_where, at_least, new_table_as, first_table_as, table_reserved_as}
 
@@ -191,9 +191,6 @@ module _ (Is : Fault → Type 0) (Last : Table → Reason → Type 0) (short : I
 module _ (Is : Fault → Type 0) where
   abbrev pub ReservesFor : {T : Type 0} → Reserve × Outcome T Unit → Type 0
   ReservesFor end = ReservesAs Is AnyTable end
-
-  pub copying_so : (setting : Setting) (source target : Table) → SoInCopying Is (copying_all setting source target).stands
-  copying_so setting source target = copying_as Is AnyTable setting source target
 
   module _ (long : Is Capacity) (K V : Type 0) (hash : K → ℕ) (p : Reserve) where
     abbrev RoomsFor : Reserve × Outcome (Node K V) Unit → Type 0
