@@ -112,13 +112,13 @@ module _ {K V : Type 0} where
   replied_same reply c Told = (refl, refl, refl)
   replied_same reply c IsReady = (refl, refl, refl)
 
-  asked_same : (question : Option ℕ) (c : CallThere K V) (stands : Stands) → IsOfSame c (asks_on question c stands)
+  pub asked_same : (question : Option ℕ) (c : CallThere K V) (stands : Stands) → IsOfSame c (asks_on question c stands)
   asked_same question c Going = (refl, refl, refl)
   asked_same question c (Asking q) = (refl, refl, refl)
   asked_same question c Told = (refl, refl, refl)
   asked_same question c IsReady = (refl, refl, refl)
 
-  come_same : (o : Outcome V) (c : CallThere K V) → IsOfSame c (comes_to o c)
+  pub come_same : (o : Outcome V) (c : CallThere K V) → IsOfSame c (comes_to o c)
   come_same outcome.Done c = (refl, refl, refl)
   come_same (outcome.Slot n) c = (refl, refl, refl)
   come_same outcome.Goes c = (refl, refl, refl)

@@ -41,16 +41,16 @@ use Rattle.papaya_schedules.specs.declared.call.Reply.{Reply}
 use Rattle.papaya_schedules.specs.declared.effect.Effect.{Effect}
 use Rattle.papaya_schedules.specs.declared.outcome.Outcome.{Outcome}
 use Rattle.papaya_schedules.specs.declared.outcome.Outcome.TheVariants as outcome
-use Rattle.papaya_schedules.specs.After.{asks_on, comes_to, replied, without_call}
+use Rattle.papaya_schedules.specs.After.{comes_to, replied, without_call}
 use Rattle.papaya_schedules.specs.Beginning.{fresh_call}
 use Rattle.papaya_schedules.specs.Effects.{call_by, with_effect, with_effects}
 use Rattle.papaya_schedules.specs.Entry.{ends_call}
-use Rattle.papaya_schedules.specs.Moment.{Stands, Going, Asking, Told, IsReady, UnderWay, Moment}
+use Rattle.papaya_schedules.specs.Moment.{UnderWay, Moment}
 use Rattle.papaya_schedules.specs.Views.{call_of}
 use Rattle.papaya_effects.specs.Effects.{effects_of, known_after}
 use Rattle.papaya_effects.specs.Known.{Known}
 use Rattle.papaya_effects.specs.declared.acting.Acting.TheVariants as acting
-use Rattle.papaya_follows.proofs.Calling.{apart_back, found_kept, found_passes, is_same_is, is_same_refl, replied_same}
+use Rattle.papaya_follows.proofs.Calling.{apart_back, found_kept, found_passes, is_same_is, is_same_refl, come_same, replied_same}
 use Rattle.papaya_follows.proofs.Calls.{IsOfSame, changed, changed_same, found, of_same}
 use Rattle.papaya_named.specs.declared.kind.Kind.{Kind}
 use Rattle.papaya_named.specs.Seen.{kind_of}
@@ -106,25 +106,6 @@ module _ {K V : Type 0} where
       let is_its = is_same_is u.caller (named i) (found_passes (λ c. is_same c.caller (named i)) (λ c. true) m.calls u here) in
       let kept : not (is_same u.caller (named own)) ≡ true = ap (λ (l : List ℕ). not (is_same l (named own))) is_its ∙ ap not (apart_back (named own) (named i) apart) in
       (u, found_kept (λ c. is_same c.caller (named i)) (λ c. not (is_same c.caller (named own))) m.calls u here kept, map_is, call_is)
-
-  -- a call has come to something, and is the same one
-  asked_same : (question : Option ℕ) (c : UnderWay K V) (stands : Stands) → IsOfSame c (asks_on question c stands)
-  asked_same question c Going = (refl, refl, refl)
-  asked_same question c (Asking q) = (refl, refl, refl)
-  asked_same question c Told = (refl, refl, refl)
-  asked_same question c IsReady = (refl, refl, refl)
-
-  come_same : (o : Outcome V) (c : UnderWay K V) → IsOfSame c (comes_to o c)
-  come_same outcome.Done c = (refl, refl, refl)
-  come_same (outcome.Slot n) c = (refl, refl, refl)
-  come_same outcome.Goes c = (refl, refl, refl)
-  come_same (outcome.Asks question) c = asked_same question c c.stands
-  come_same outcome.Waits c = (refl, refl, refl)
-  come_same outcome.Ready c = (refl, refl, refl)
-  come_same (outcome.Shows n) c = (refl, refl, refl)
-  come_same (outcome.Answered a) c = (refl, refl, refl)
-  come_same (outcome.Shape tables) c = (refl, refl, refl)
-  come_same (outcome.Refused fault) c = (refl, refl, refl)
 
   -- one that is of no call leaves calls as they are
   abbrev pub OfNoCall : Deed K V → Type 0
