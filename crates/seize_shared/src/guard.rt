@@ -106,7 +106,8 @@ pub trait Guard<T: Defers> {
     fn exchange(&mut self, root: u64, value: T) -> Result<(), T>
         requires plain { T.defers value ≡ None }
         ensures slot { slot self.new ≡ slot self.old }
-        ensures inside { inside self.new ≡ inside self.old };
+        ensures inside { inside self.new ≡ inside self.old }
+        ensures back { IfErr result (λ back. back ≡ value) };
 
     /// Takes the value from a root, and retires it; tells whether there was one. The section is begun anew.
     fn clear(&mut self, root: u64) -> bool
