@@ -22,7 +22,7 @@ use Rattle.seize_shared.specs.Told.{shown_by, FollowsBy, GoesOn, told}
 use Rattle.seize_shared.specs.Promises.{op_in, op_of, LookedAreShown}
 use Rattle.seize_shared.specs.Made.{shown_in, shown_of, left_in, CanMake, HasAlone, HasMade, IsSettling}
 use Rattle.seize_shared.specs.declared.view.View.{View}
-use Rattle.seize_shared.specs.declared.view.View.TheVariants.{Rests, Registers, Outside, Owes, Enters, Inside, Settles, Leaves, Left, Frees}
+use Rattle.seize_shared.specs.declared.view.View.TheVariants.{Rests, Registers, Outside, Owes, Enters, Inside, Settles, Leaves, Left, Frees, Brings, Bears}
 use Rattle.seize_shared.specs.declared.view.Why.{Why}
 use Rattle.seize_shared.specs.declared.view.Fixed.{Fixed}
 use Rattle.seize_shared.specs.declared.caller.Caller.{Caller}
@@ -79,6 +79,8 @@ module _ {T : Type 0} (defers : T → Option ℕ) where
   none_rewrites (Leaves t size way) = tt
   none_rewrites (Left t size way) = tt
   none_rewrites (Frees t) = tt
+  none_rewrites (Brings b x) = tt
+  none_rewrites (Bears b) = tt
 
   -- so it needs no block to itself
   has_alone : (caller : Caller T) (op : Op T) → IsNoRewrite (Some op) → HasAlone defers caller op
@@ -153,3 +155,5 @@ module _ {T : Type 0} (defers : T → Option ℕ) (fixed : Fixed) (id : ℕ) whe
   is_looked (Leaves t size way) b is = absurd (cc is)
   is_looked (Left t size way) b is = absurd (cc is)
   is_looked (Frees t) b is = absurd (cc is)
+  is_looked (Brings c x) b is = absurd (cc is)
+  is_looked (Bears c) b is = absurd (cc is)

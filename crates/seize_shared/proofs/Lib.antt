@@ -14,6 +14,7 @@ pub mod Users
 pub mod Blocks
 pub mod Written
 pub mod Roots
+pub mod Handing
 pub mod Calls
 pub mod Drives
 pub mod Seen

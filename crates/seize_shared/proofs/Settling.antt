@@ -192,7 +192,7 @@ module _ {T : Type 0} (defers : T → Option ℕ) (fixed : Fixed) (s : State T (
         known = subst (λ (x : Mem T). IsLooked x end.0 look.0) (memory why m end) look.2;
       })
       (alone defers fixed s id v h at_id u
-      (λ t b e. (used_for why, ap (λ (k : ℕ). used_as k (used_for why)) (sym slot ∙ slot_of (end.0.slot, used_for why) (t, b) e)))) (k.bounded end.0 look.0))
+      (λ t b e. (used_for why, ap (λ (k : ℕ). used_as k (used_for why)) (sym slot ∙ slot_of (end.0.slot, used_for why) (t, b) e)))) refl (k.bounded end.0 look.0))
       (record {
         end = end;
         seen = look.0;

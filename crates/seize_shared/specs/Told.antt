@@ -16,7 +16,7 @@ use Rattle.seize.specs.Settle.{counting_down, settle_plan}
 use Rattle.seize_shared.specs.Rows.{IsShort}
 use Rattle.seize_shared.specs.declared.view.View.{View}
 use Rattle.seize_shared.specs.declared.view.Becomes.{Becomes}
-use Rattle.seize_shared.specs.declared.view.View.TheVariants.{Rests, Registers, Outside, Owes, Enters, Inside, Settles, Leaves, Left, Frees}
+use Rattle.seize_shared.specs.declared.view.View.TheVariants.{Rests, Registers, Outside, Owes, Enters, Inside, Settles, Leaves, Left, Frees, Brings, Bears}
 use Rattle.seize_shared.specs.declared.view.Has.{Has}
 use Rattle.seize_shared.specs.declared.view.Has.TheVariants.{Nothing, Made, Seen, Both, Cut}
 use Rattle.seize_shared.specs.declared.view.Why.{Why}
@@ -57,6 +57,14 @@ has_told (Both b x a) (Exchange (Root r) old new) (Exchanged (Err word)) after =
 has_told Nothing (Load (Root r)) (Found word) after = after ≡ seen_in word
 has_told (Seen b) (Load (Root r)) (Found word) after = after ≡ seen_in word
 has_told _ op out after = ⊥
+
+-- how a seat stands that has no slot, and knows so of a block
+abbrev pub alone_with : {T : Type 0} → Has T → View T
+alone_with Nothing = Rests
+alone_with (Made b x) = Brings b x
+alone_with (Seen b) = Rests
+alone_with (Both b x a) = Brings b x
+alone_with (Cut b) = Bears b
 
 -- and what one outside of a section knows that has taken from a root what this word names
 abbrev pub owes_in : {T : Type 0} → ℕ → ℕ → View T
@@ -103,6 +111,8 @@ module _ {T : Type 0} (defers : T → Option ℕ) where
   told (Registers c) op out w = (end : Register × Progress ℕ) × ComesTo (register_plan {T = T} c) out end × (w ≡ left_by end) × IsShort w
   told (Outside t) (Swap (Root r) word) (Found old) w = w ≡ owes_in t old
   told (Enters t) op out w = w ≡ Inside t Nothing
+  told Rests op out w = (after : Has T) × has_told Nothing op out after × (w ≡ alone_with after)
+  told (Brings b x) op out w = (after : Has T) × has_told (Made b x) op out after × (w ≡ alone_with after)
   told (Inside t has) op out w = (after : Has T) × has_told has op out after × (w ≡ Inside t after)
   told (Settles c why seen left) op out w = GoesOn c why left out w
   told (Leaves t size way) op (Found head) w = (left : ℕ) × (w ≡ list_taken t size way head left)
