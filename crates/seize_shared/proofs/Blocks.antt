@@ -44,8 +44,8 @@ module _ {T : Type 0} (defers : T → Option ℕ) where
       let none = taken_none m b x m2 took in let there = subst (λ (a : ℕ). IsSome (value_at m2 a)) e some in absurd (cc (there, none))
   value_left m b c x m2 took some (inr ne) = taken_value defers m c b (Taken x) m2 took ne
 
-module _ {T : Type 0} (defers : T → Option ℕ) (fixed : Fixed) (s : State T (View T) (World T)) (id t : ℕ) (as : Has T → View T) (carries : Carries t as)
-    (had : Has T) (h : Holds defers fixed s) (at : view_of s id ≡ Some (as had)) (is_so : IsInHand s.world t had) where
+module _ {T : Type 0} (defers : T → Option ℕ) (fixed : Fixed) (s : State T (View T) (World T)) (id t : ℕ) (place : Has T → View T) (carries : Carries t place)
+    (had : Has T) (h : Holds defers fixed s) (at : view_of s id ≡ Some (place had)) (is_so : IsInHand s.world t had) where
   abbrev w : World T
   w = s.world
 
@@ -63,7 +63,7 @@ module _ {T : Type 0} (defers : T → Option ℕ) (fixed : Fixed) (s : State T (
   -- no value keeps a list: where the memory is the same, a value comes that keeps none, or one goes
 
   plain_same : (m : Mem T) → m ≡ w.memory → ArePlain defers m
-  plain_same m is = subst (λ (x : Mem T). ArePlain defers x) (sym is) (world_plain defers fixed s id (as had) h at)
+  plain_same m is = subst (λ (x : Mem T). ArePlain defers x) (sym is) (world_plain defers fixed s id (place had) h at)
 
   plain_made : (b : ℕ) (value : T) (words : ℕ) (m : Mem T) → defers value ≡ None → Took w.memory (Make value words) (OutMade (Ok b)) m → ArePlain defers m
   plain_made b value words m list took c x e =
@@ -71,11 +71,11 @@ module _ {T : Type 0} (defers : T → Option ℕ) (fixed : Fixed) (s : State T (
     where
       by : (y : Bool) → cond y (Some value) (value_at w.memory c) ≡ Some x → defers x ≡ None
       by true is = ap defers (sym (same_some value x is)) ∙ list
-      by false is = world_plain defers fixed s id (as had) h at c x is
+      by false is = world_plain defers fixed s id (place had) h at c x is
 
   plain_left : (b : ℕ) (value : T) (m : Mem T) → Took w.memory (Take b) (Taken value) m → ArePlain defers m
   plain_left b value m took c x e =
-      world_plain defers fixed s id (as had) h at c x (sym (value_left defers w.memory b c value m took (subst IsSome (sym e) refl) (cases_eq c b)) ∙ e)
+      world_plain defers fixed s id (place had) h at c x (sym (value_left defers w.memory b c value m took (subst IsSome (sym e) refl) (cases_eq c b)) ∙ e)
 
   -- a block is made, beside what the seat knew
 
@@ -91,15 +91,15 @@ module _ {T : Type 0} (defers : T → Option ℕ) (fixed : Fixed) (s : State T (
 
   makes : (value : T) (words : ℕ) → defers value ≡ None → (after : ℕ → Has T) → ((b : ℕ) → had_in (after b) ≡ Some b)
       → ((b : ℕ) (n : World T) → IsMade n b value → ((c : ℕ) → holds t c w.log ≡ true → holds t c n.log ≡ true) → IsInHand n t (after b))
-      → (so : Out T → View T → Type 0) → ((b : ℕ) → b < 2 ^ 53 → so (OutMade (Ok b)) (as (after b)))
-      → ((back : T) → back ≡ value → so (OutMade (Err back)) (as had)) → (out : Out T) (m : Mem T) → Took s.memory (Make value words) out m
+      → (so : Out T → View T → Type 0) → ((b : ℕ) → b < 2 ^ 53 → so (OutMade (Ok b)) (place (after b)))
+      → ((back : T) → back ≡ value → so (OutMade (Err back)) (place had)) → (out : Out T) (m : Mem T) → Took s.memory (Make value words) out m
       → Goes H Keeps s m id (so out)
   makes value words list after made_hand hand so tells refused (OutMade (Ok b)) m took =
       let op : Op T = Make value words in let out : Out T = OutMade (Ok b) in
       let n : World T = made_by defers w id m out in
       let here = world_took s h.memory op out m took in
       let free = (made_one w.memory value words b here.0.0).was_free in
-      users defers fixed s id t h as carries had at m n (after b) (record {
+      users defers fixed s id t h place carries had at m n (after b) (record {
         came =
             came_then defers fixed w n (Makes id value words) h.came
             (out, m, subst (λ (o : Option ℕ). HasListWord defers o words) (sym list) tt, here, refl);
@@ -114,8 +114,8 @@ module _ {T : Type 0} (defers : T → Option ℕ) (fixed : Fixed) (s : State T (
         over = λ a c held. refl;
         roots = roots_kept w.memory m w.hand n.hand (ap (λ (x : Mem T). x.roots) here.1)
             (λ c a is. beside w b c (world.Making id) (world.InUse a) (λ e. free_hand b (world.InUse a) tt free e) is)
-            (world_roots defers fixed s id (as had) h at);
-        rooted = ap (λ (x : Mem T). length x.roots) here.1 ∙ world_rooted defers fixed s id (as had) h at;
+            (world_roots defers fixed s id (place had) h at);
+        rooted = ap (λ (x : Mem T). length x.roots) here.1 ∙ world_rooted defers fixed s id (place had) h at;
         plain = plain_made b value words m list here;
         passes = passes_one defers fixed s id t (Makes id value words) n (λ j. tt)
             (out, m, subst (λ (o : Option ℕ). HasListWord defers o words) (sym list) tt, here, refl) (plain_made b value words m list here);
@@ -124,7 +124,7 @@ module _ {T : Type 0} (defers : T → Option ℕ) (fixed : Fixed) (s : State T (
       let op : Op T = Make value words in let out : Out T = OutMade (Err back) in
       let n : World T = made_by defers w id m out in
       let here = world_took s h.memory op out m took in
-      users defers fixed s id t h as carries had at m n had (record {
+      users defers fixed s id t h place carries had at m n had (record {
         came =
             came_then defers fixed w n (Makes id value words) h.came
             (out, m, subst (λ (o : Option ℕ). HasListWord defers o words) (sym list) tt, here, refl);
@@ -133,12 +133,12 @@ module _ {T : Type 0} (defers : T → Option ℕ) (fixed : Fixed) (s : State T (
         uses = refl;
         in_hand = same_hand w n t refl here.1 (λ c held. held) had is_so;
         hands = λ j c x ne e q. refl;
-        sole = λ j c x ne e q p. ne (h.sole j id c x (as had) e at q (carries.hand had ∙ p));
+        sole = λ j c x ne e q p. ne (h.sole j id c x (place had) e at q (carries.hand had ∙ p));
         values = λ c some some2. made_value defers w.memory c value words out m some here;
         held = λ a c held. held;
         over = λ a c held. refl;
-        roots = roots_kept w.memory m w.hand n.hand (ap (λ (x : Mem T). x.roots) here.1) (λ c a is. is) (world_roots defers fixed s id (as had) h at);
-        rooted = ap (λ (x : Mem T). length x.roots) here.1 ∙ world_rooted defers fixed s id (as had) h at;
+        roots = roots_kept w.memory m w.hand n.hand (ap (λ (x : Mem T). x.roots) here.1) (λ c a is. is) (world_roots defers fixed s id (place had) h at);
+        rooted = ap (λ (x : Mem T). length x.roots) here.1 ∙ world_rooted defers fixed s id (place had) h at;
         plain = plain_same m here.1;
         passes = passes_one defers fixed s id t (Makes id value words) n (λ j. tt)
             (out, m, subst (λ (o : Option ℕ). HasListWord defers o words) (sym list) tt, here, refl) (plain_same m here.1);
@@ -169,28 +169,28 @@ module _ {T : Type 0} (defers : T → Option ℕ) (fixed : Fixed) (s : State T (
 
   takes : (b : ℕ) (x : T) → IsMade w b x → had_in had ≡ Some b → (after : Has T) → had_in after ≡ None
       → ((n : World T) → ((c : ℕ) → holds t c w.log ≡ true → holds t c n.log ≡ true) → IsInHand n t after)
-      → (so : Out T → View T → Type 0) → ((value : T) → value ≡ x → so (Taken value) (as after)) → (out : Out T) (m : Mem T)
+      → (so : Out T → View T → Type 0) → ((value : T) → value ≡ x → so (Taken value) (place after)) → (out : Out T) (m : Mem T)
       → Took s.memory (Take b) out m
       → Goes H Keeps s m id (so out)
   takes b x made had_it after gone hand so tells (Taken value) m took =
       let op : Op T = Take b in let out : Out T = Taken value in
       let n : World T = with_effect (with_hand (record w { memory = m }) b world.NoBlock) (Dropped b) in
       let here = world_took s h.memory op out m took in
-      users defers fixed s id t h as carries had at m n after (record {
+      users defers fixed s id t h place carries had at m n after (record {
         came = came_then defers fixed w n (Drops id b) h.came (out, m, made.0, here, refl);
         memory = refl;
         row = refl;
         uses = refl;
         in_hand = hand n (λ c held. held_beside t c b w.log (making_not_held defers fixed.batch_size w r made.0.0 t b c held made.0.1) held);
         hands = λ j c y ne e q. with_other w.hand b c world.NoBlock
-            (λ k. ne (h.sole j id b y (as had) e at (q ∙ ap Some k) (carries.hand had ∙ had_it)));
+            (λ k. ne (h.sole j id b y (place had) e at (q ∙ ap Some k) (carries.hand had ∙ had_it)));
         sole = λ j c y ne e q p. cc (gone, p);
         values = λ c some some2. value_left defers w.memory b c value m here some2 (cases_eq c b);
         held = λ a c held. held_beside a c b w.log (making_not_held defers fixed.batch_size w r made.0.0 a b c held made.0.1) held;
         over = λ a c held. refl;
         roots = roots_kept w.memory m w.hand n.hand (ap (λ (x : Mem T). x.roots) here.1)
-            (λ c a had. beside w b c world.NoBlock (world.InUse a) (λ e. use_making a made.0.0 (e ∙ made.0.1)) had) (world_roots defers fixed s id (as had) h at);
-        rooted = ap (λ (x : Mem T). length x.roots) here.1 ∙ world_rooted defers fixed s id (as had) h at;
+            (λ c a had. beside w b c world.NoBlock (world.InUse a) (λ e. use_making a made.0.0 (e ∙ made.0.1)) had) (world_roots defers fixed s id (place had) h at);
+        rooted = ap (λ (x : Mem T). length x.roots) here.1 ∙ world_rooted defers fixed s id (place had) h at;
         plain = plain_left b value m here;
         passes = passes_one defers fixed s id t (Drops id b) n (λ j. tt) (out, m, made.0, here, refl) (plain_left b value m here);
       }) (so out) (tells value (same_some value x (sym here.0 ∙ made.1)))

@@ -15,6 +15,7 @@ pub mod Blocks
 pub mod Written
 pub mod Roots
 pub mod Handing
+pub mod Owning
 pub mod Calls
 pub mod Drives
 pub mod Seen

@@ -80,8 +80,8 @@ module _ {T : Type 0} (defers : T → Option ℕ) (fixed : Fixed) (s : State T (
   beside_known b x a word made e true is = made
   beside_known b x a word made e false is = (made, root_held a word e is)
 
-module _ {T : Type 0} (defers : T → Option ℕ) (fixed : Fixed) (s : State T (View T) (World T)) (id t : ℕ) (as : Has T → View T) (carries : Carries t as)
-    (had : Has T) (h : Holds defers fixed s) (at : view_of s id ≡ Some (as had)) where
+module _ {T : Type 0} (defers : T → Option ℕ) (fixed : Fixed) (s : State T (View T) (World T)) (id t : ℕ) (place : Has T → View T) (carries : Carries t place)
+    (had : Has T) (h : Holds defers fixed s) (at : view_of s id ≡ Some (place had)) where
   abbrev w : World T
   w = s.world
 
@@ -92,39 +92,39 @@ module _ {T : Type 0} (defers : T → Option ℕ) (fixed : Fixed) (s : State T (
   r = reached defers fixed w h.came
 
   -- what is known of blocks changes, and nothing else
-  looks : (m : Mem T) (has : Has T) → m ≡ s.memory → IsInHand w t has → had_in has ≡ had_in had → (so : View T → Type 0) → so (as has)
+  looks : (m : Mem T) (has : Has T) → m ≡ s.memory → IsInHand w t has → had_in has ≡ had_in had → (so : View T → Type 0) → so (place has)
       → Goes H Keeps s m id so
   looks m has same known still so is =
-      users defers fixed s id t h as carries had at m w has (record {
+      users defers fixed s id t h place carries had at m w has (record {
         came = h.came;
         memory = same ∙ h.memory;
         row = refl;
         uses = refl;
         in_hand = known;
         hands = λ j c x ne e q. refl;
-        sole = λ j c x ne e q p. ne (h.sole j id c x (as had) e at q (carries.hand had ∙ sym still ∙ p));
+        sole = λ j c x ne e q p. ne (h.sole j id c x (place had) e at q (carries.hand had ∙ sym still ∙ p));
         values = λ c some some2. refl;
         held = λ b c held. held;
         over = λ a c held. refl;
         roots = subst (λ (x : Mem T). RootsNameLinked x w.hand) (sym same) h.roots;
         rooted = ap (λ (x : Mem T). length x.roots) same ∙ h.rooted;
-        plain = world_plain defers fixed s id (as had) h at;
+        plain = world_plain defers fixed s id (place had) h at;
         passes = λ j ne was now. ([], refl);
       }) so is
 
   -- the block that is taken from a root is in the seat's hand
-  cuts : (a old : ℕ) (m : Mem T) (so : View T → Type 0) → so (as (cut_in old)) → Cuts defers fixed s id t m old so
+  cuts : (a old : ℕ) (m : Mem T) (so : View T → Type 0) → so (place (cut_in old)) → Cuts defers fixed s id t m old so
   cuts a old m so is = record {
-    none = λ e n u. users defers fixed s id t h as carries had at m n Nothing u so (at_view true e);
-    cut = λ e n u. users defers fixed s id t h as carries had at m n (Cut (block_in old)) u so (at_view false e);
+    none = λ e n u. users defers fixed s id t h place carries had at m n Nothing u so (at_view true e);
+    cut = λ e n u. users defers fixed s id t h place carries had at m n (Cut (block_in old)) u so (at_view false e);
   }
     where
-      at_view : (y : Bool) → (block_in old == 0) ≡ y → so (as (if y then Nothing else Cut (block_in old)))
-      at_view y e = subst (λ (z : Bool). so (as (if z then Nothing else Cut (block_in old)))) e is
+      at_view : (y : Bool) → (block_in old == 0) ≡ y → so (place (if y then Nothing else Cut (block_in old)))
+      at_view y e = subst (λ (z : Bool). so (place (if z then Nothing else Cut (block_in old)))) e is
 
   -- the block that was made is put at a root
   links : (b a i : ℕ) → w.hand b ≡ world.Making i → had_in had ≡ Some b → (old : ℕ) (m : Mem T) → Wrote defers fixed s id a (link_to b) old m
-      → (so : View T → Type 0) → so (as (cut_in old)) → Goes H Keeps s m id so
+      → (so : View T → Type 0) → so (place (cut_in old)) → Goes H Keeps s m id so
   links b a i mine had_it old m wrote so tells =
       let word : ℕ = link_to b in
       let n : World T = with_effect (with_hand (record w { memory = m }) b (world.InUse a)) (Linked b a) in
@@ -132,26 +132,26 @@ module _ {T : Type 0} (defers : T → Option ℕ) (fixed : Fixed) (s : State T (
       (λ c k ne f. beside w b c (world.InUse a) k (λ e. ne (e ∙ mine)) f) in
       let was = h.roots a old wrote.there in
       let named : RootsNameLinked m n.hand =
-      roots_now defers fixed s id (as had) h at a word old m n.hand wrote (inr (ap n.hand (block_of_link b) ∙ with_here w.hand b (world.InUse a)))
+      roots_now defers fixed s id (place had) h at a word old m n.hand wrote (inr (ap n.hand (block_of_link b) ∙ with_here w.hand b (world.InUse a)))
       (λ c e ne f. other c (world.InUse e) (use_making e i) f) in
       let is_new : (block_in word ≡ 0) ⊎ (block_in word ≢ block_in old) = new_block b a old mine was (cases_eq b 0) in
-      unlinked defers fixed s id (as had) h at t a old m n so (cuts a old m so tells) (record {
+      unlinked defers fixed s id (place had) h at t a old m n so (cuts a old m so tells) (record {
         came = came_then defers fixed (record w { memory = m }) n (Links id b a) wrote.came ((i, mine), refl);
         memory = refl;
         row = refl;
         uses = refl;
         in_hand = tt;
         hands = λ j c x ne e q. with_other w.hand b c (world.InUse a)
-            (λ k. ne (h.sole j id b x (as had) e at (q ∙ ap Some k) (carries.hand had ∙ had_it)));
+            (λ k. ne (h.sole j id b x (place had) e at (q ∙ ap Some k) (carries.hand had ∙ had_it)));
         sole = λ j c x ne e q p. cc p;
         values = λ c some some2. wrote.values c;
         held = λ e c held. held_on e c (Linked b a) w.log tt held;
         over = λ e c held. ap (λ (y : Bool). cond y false (is_over c w.log)) (ne_eqb c b (making_not_held defers fixed.batch_size w r i e b c held mine));
         roots = named;
-        rooted = rooted_still defers fixed s id (as had) h at a word old m wrote;
+        rooted = rooted_still defers fixed s id (place had) h at a word old m wrote;
         plain = wrote.plain;
         passes = passes_then defers fixed s id t (record w { memory = m }) n (Links id b a) tt (λ j. tt) wrote.passes ((i, mine), refl) wrote.plain;
-      }) named (λ c f. other c (world.InUse a) (use_making a i) f) was (fresh defers fixed s id (as had) h at a word old m wrote was is_new)
+      }) named (λ c f. other c (world.InUse a) (use_making a i) f) was (fresh defers fixed s id (place had) h at a word old m wrote was is_new)
     where
       new_block : (b a old : ℕ) → w.hand b ≡ world.Making i → (block_in old ≡ 0) ⊎ (w.hand (block_in old) ≡ world.InUse a) → (b ≡ 0) ⊎ (b ≢ 0)
           → (block_in (link_to b) ≡ 0) ⊎ (block_in (link_to b) ≢ block_in old)
@@ -162,14 +162,14 @@ module _ {T : Type 0} (defers : T → Option ℕ) (fixed : Fixed) (s : State T (
 
   -- the block that was made is put at a root in place of this word, or what is there is seen
   exchanges : (b : ℕ) (x : T) (a old : ℕ) → IsMade w b x → had_in had ≡ Some b → (so : Out T → View T → Type 0)
-      → so (Exchanged (Ok old)) (as (cut_in old))
-      → ((word : ℕ) → word_at s.memory (Root a) ≡ Some word → (has : Has T) × IsInHand w t has × (had_in has ≡ had_in had) × so (Exchanged (Err word)) (as has))
+      → so (Exchanged (Ok old)) (place (cut_in old))
+      → ((word : ℕ) → word_at s.memory (Root a) ≡ Some word → (has : Has T) × IsInHand w t has × (had_in has ≡ had_in had) × so (Exchanged (Err word)) (place has))
       → (out : Out T) (m : Mem T)
       → Took s.memory (Exchange (Root a) old (link_to b)) out m → Goes H Keeps s m id (so out)
   exchanges b x a old made had_it so cut other (Exchanged (Ok word)) m took =
       subst (λ (k : ℕ). Goes H Keeps s m id (so (Exchanged (Ok k)))) (sym took.0.1)
       (links b a made.0.0 made.0.1 had_it old m
-      (wrote defers fixed s id (as had) h at a (link_to b) old m (Exchange (Root a) old (link_to b)) (Exchanged (Ok word)) tt took
+      (wrote defers fixed s id (place had) h at a (link_to b) old m (Exchange (Root a) old (link_to b)) (Exchanged (Ok word)) tt took
       (took.0.0 ∙ ap Some took.0.1) took.1)
       (so (Exchanged (Ok old))) cut)
   exchanges b x a old made had_it so cut other (Exchanged (Err word)) m took =
@@ -181,11 +181,11 @@ module _ {T : Type 0} (defers : T → Option ℕ) (fixed : Fixed) (s : State T (
   exchanges b x a old made had_it so cut other (Roomed y) m took = absurd took.0
 
   -- or whatever is there
-  swaps : (b : ℕ) (x : T) (a : ℕ) → IsMade w b x → had_in had ≡ Some b → (so : Out T → View T → Type 0) → ((old : ℕ) → so (Found old) (as (cut_in old)))
+  swaps : (b : ℕ) (x : T) (a : ℕ) → IsMade w b x → had_in had ≡ Some b → (so : Out T → View T → Type 0) → ((old : ℕ) → so (Found old) (place (cut_in old)))
       → (out : Out T) (m : Mem T) → Took s.memory (Swap (Root a) (link_to b)) out m → Goes H Keeps s m id (so out)
   swaps b x a made had_it so tells (Found old) m took =
       links b a made.0.0 made.0.1 had_it old m
-      (wrote defers fixed s id (as had) h at a (link_to b) old m (Swap (Root a) (link_to b)) (Found old) tt took took.0 took.1) (so (Found old)) (tells old)
+      (wrote defers fixed s id (place had) h at a (link_to b) old m (Swap (Root a) (link_to b)) (Found old) tt took took.0 took.1) (so (Found old)) (tells old)
   swaps b x a made had_it so tells Stored m took = absurd took.0
   swaps b x a made had_it so tells (Exchanged y) m took = absurd took.0
   swaps b x a made had_it so tells (OutMade y) m took = absurd took.0

@@ -136,13 +136,13 @@ module _ {T : Type 0} (defers : T → Option ℕ) (fixed : Fixed) (s : State T (
       }) is
 
 -- a view for each thing that is known of a block, of a seat that stays where it is, and has no row under way
-pub record Carries {T : Type 0} (t : ℕ) (as : Has T → View T) : Type 0 where
-  pub rests : (has : Has T) → row_of (as has) ≡ world.Rests
-  pub stays : (has other : Has T) → use_of (as has) ≡ use_of (as other)
-  pub short : (has : Has T) → IsShort (as has)
-  pub hand : (has : Has T) → hand_of (as has) ≡ had_in has
-  pub known : (w : World T) (has : Has T) → IsInHand w t has → IsKnown w (as has)
-  pub bounded : (defers : T → Option ℕ) (fixed : Fixed) (w : World T) (j : ℕ) (has : Has T) → IsBounded defers fixed w j (as has)
+pub record Carries {T : Type 0} (t : ℕ) (place : Has T → View T) : Type 0 where
+  pub rests : (has : Has T) → row_of (place has) ≡ world.Rests
+  pub stays : (has other : Has T) → use_of (place has) ≡ use_of (place other)
+  pub short : (has : Has T) → IsShort (place has)
+  pub hand : (has : Has T) → hand_of (place has) ≡ had_in has
+  pub known : (w : World T) (has : Has T) → IsInHand w t has → IsKnown w (place has)
+  pub bounded : (defers : T → Option ℕ) (fixed : Fixed) (w : World T) (j : ℕ) (has : Has T) → IsBounded defers fixed w j (place has)
 
 -- as one within a section of this slot does, or one without a slot
 
@@ -203,10 +203,10 @@ alone_carries {T} = record { rests = rests; stays = λ has other. none has ∙ s
 
 module _ {T : Type 0} (defers : T → Option ℕ) (fixed : Fixed) (s : State T (View T) (World T)) (id t : ℕ) (h : Holds defers fixed s) where
   -- where it is, it knows something else of a block
-  pub users : (as : Has T → View T) → Carries t as → (had : Has T) → view_of s id ≡ Some (as had) → (m : Mem T) (n : World T) (has : Has T)
-      → Users defers fixed s id t m n has → (so : View T → Type 0) → so (as has) → Goes (Holds defers fixed) Keeps s m id so
-  users as c had at m n has u so is =
-      users_on defers fixed s id t (as had) (as has) h at (c.rests had) (c.rests has) (c.stays has had) (c.short has) m n has u (c.hand has)
+  pub users : (place : Has T → View T) → Carries t place → (had : Has T) → view_of s id ≡ Some (place had) → (m : Mem T) (n : World T) (has : Has T)
+      → Users defers fixed s id t m n has → (so : View T → Type 0) → so (place has) → Goes (Holds defers fixed) Keeps s m id so
+  users place c had at m n has u so is =
+      users_on defers fixed s id t (place had) (place has) h at (c.rests had) (c.rests has) (c.stays has had) (c.short has) m n has u (c.hand has)
       (c.known n has u.in_hand) (c.bounded defers fixed n id has) so is
 
   -- or outside of one, where it knows of no block, or of one that it has unlinked

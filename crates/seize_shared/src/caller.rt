@@ -4,16 +4,16 @@ ghost use Rattle.seize_words.specs.Word.{block_in};
 ghost use Rattle.seize.specs.declared.states.TheConstants.{LAST_SLOT};
 ghost use Rattle.seize.specs.declared.rows.register.Registering.TheVariants.{Take};
 ghost use Rattle.seize_seats.specs.Lendings.{IsValueOf};
-ghost use Rattle.seize_shared.specs.Promises.{IsLooking};
+ghost use Rattle.seize_shared.specs.Promises.{IsLooking, IsTaker};
 ghost use Rattle.seize_shared.specs.Rows.{Holds};
 ghost use Rattle.seize_shared.specs.Seeking.{row_at, seeks};
 ghost use Rattle.seize_shared.specs.Told.{seen_as, cut_as, made_beside};
-ghost use Rattle.seize_shared.specs.declared.view.View.TheVariants.{Rests, Registers, Outside, Owes, Inside};
+ghost use Rattle.seize_shared.specs.declared.view.View.TheVariants.{Rests, Registers, Outside, Owes, Inside, Bears};
 ghost use Rattle.seize_shared.specs.declared.view.Has.{Has};
 ghost use Rattle.seize_shared.specs.declared.view.Has.TheVariants.{Nothing, Made, Seen, Cut};
 
 use crate::rows::OfRows;
-use crate::turns::{Entering, Freeing, Registering};
+use crate::turns::{Entering, Freeing, Handing, Registering};
 use seize::rows::{Defers, needed_bucket};
 use seize::states::{ACTIVE, FREE, HEAD, IDLE, LAST_SLOT, NEVER};
 use seize_blocks::{Blocks, Seat};
@@ -228,6 +228,18 @@ impl<'a, T: Defers> Caller<'a, T> {
     {
         let old = self.blocks.swap(&mut self.seat, At::Root(root), 0);
         named(old)
+    }
+
+    /// Takes over a block that another seat has unlinked, which has no slot. What it has seen it doesn't know any more.
+    pub(crate) fn takes_over(&mut self, _slot: u64, seat: &mut Seat<T, OfRows>, _block: u64)
+        requires own { seat.old.base ≡ self.old.blocks.now.words.id.views_name }
+        requires bears { seat.old.view ≡ Bears _block }
+        requires takes { IsTaker self.old.seat.view }
+        ensures outside { self.old.seat.view ≡ Outside _slot → self.new.seat.view ≡ Owes _slot _block }
+        ensures inside { (has : Has T) → IsLooking has → self.old.seat.view ≡ Inside _slot has → self.new.seat.view ≡ Inside _slot (Cut _block) }
+        ensures blocks { self.new.blocks ≡ self.old.blocks }
+    {
+        self.blocks.meet::<Handing>(seat, &mut self.seat);
     }
 
     /// Sees which block is at a root. Its section holds it from now on. What it has seen before it doesn't know any more.
