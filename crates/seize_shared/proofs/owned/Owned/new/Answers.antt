@@ -1,0 +1,11 @@
+use Rattle.seize_shared.proofs.Beginnings.{seats_come}
+use Rattle.seize_shared.proofs.Owning.{may_make_own}
+use Rattle.seize_shared.proofs.owned.Owned.new.Goals as goal
+
+pub seat-seat-requires : goal.seat-seat-requires
+seat-seat-requires g c = seats_come g.row.T.Denot g.T.Defers.defers c.args.blocks.now.words.fixed
+
+pub make-requires-clause-may : goal.make-requires-clause-may
+make-requires-clause-may g c =
+    let x = c.seat-seat.result in
+    may_make_own g.T.Defers.defers c.args.blocks.now.words.fixed x.id x.view c.seat-seat.ensures.1 c.args.value c.requires.plain
