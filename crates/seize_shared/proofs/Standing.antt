@@ -5,7 +5,7 @@ use Rattle.std.proofs.lemmas.Bool.{eqb-false, ne_eqb, eq-eqb, cases_eq}
 use Rattle.seize_acts.proofs.Answers.{same_some}
 use Rattle.seize_shared.specs.Standing.{standing}
 use Rattle.seize_shared.specs.Told.{seen_as}
-use Rattle.seize_shared.specs.Promises.{IsLooking}
+use Rattle.seize_shared.specs.Promises.{IsLooking, IsTaker}
 use Rattle.seize_shared.specs.declared.view.View.{View}
 use Rattle.seize_shared.specs.declared.view.View.TheVariants.{Rests, Registers, Outside, Owes, Enters, Inside, Settles, Leaves, Left, Frees, Brings, Bears}
 use Rattle.seize_shared.specs.declared.view.Has.{Has}
@@ -101,6 +101,10 @@ module _ {T : Type 0} (t : ℕ) where
 
   pub is_inside : (k : ℕ) (v : View T) → standing v ≡ Some (stands t true k) → (has : Has T) × IsLooking has × (v ≡ Inside t has)
   is_inside k v e = let i = inside k v e in (i.0, looking i.0 k i.1, i.2)
+
+  pub is_taker : (open_so : Bool) (k : ℕ) (v : View T) → standing v ≡ Some (stands t open_so k) → IsTaker v
+  is_taker true k v e = let i = is_inside k v e in subst IsTaker (sym i.2) i.1
+  is_taker false k v e = subst IsTaker (sym (is_outside k v e)) tt
 
   pub has_nothing : (v : View T) → standing v ≡ Some (stands t true 0) → v ≡ Inside t Nothing
   has_nothing v e = let i = inside 0 v e in i.2 ∙ ap (Inside t) (none_seen i.0 i.1)

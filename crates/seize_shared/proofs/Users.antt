@@ -135,71 +135,72 @@ module _ {T : Type 0} (defers : T → Option ℕ) (fixed : Fixed) (s : State T (
         bounded = bounded;
       }) is
 
--- a view for each thing that is known of a block, of a seat that stays where it is, and has no row under way
-pub record Carries {T : Type 0} (t : ℕ) (place : Has T → View T) : Type 0 where
-  pub rests : (has : Has T) → row_of (place has) ≡ world.Rests
-  pub stays : (has other : Has T) → use_of (place has) ≡ use_of (place other)
-  pub short : (has : Has T) → IsShort (place has)
-  pub hand : (has : Has T) → hand_of (place has) ≡ had_in has
-  pub known : (w : World T) (has : Has T) → IsInHand w t has → IsKnown w (place has)
-  pub bounded : (defers : T → Option ℕ) (fixed : Fixed) (w : World T) (j : ℕ) (has : Has T) → IsBounded defers fixed w j (place has)
+module _ {T : Type 0} where
+  -- a view for each thing that is known of a block, of a seat that stays where it is, and has no row under way
+  pub record Carries (t : ℕ) (place : Has T → View T) : Type 0 where
+    pub rests : (has : Has T) → row_of (place has) ≡ world.Rests
+    pub stays : (has other : Has T) → use_of (place has) ≡ use_of (place other)
+    pub short : (has : Has T) → IsShort (place has)
+    pub hand : (has : Has T) → hand_of (place has) ≡ had_in has
+    pub known : (w : World T) (has : Has T) → IsInHand w t has → IsKnown w (place has)
+    pub bounded : (defers : T → Option ℕ) (fixed : Fixed) (w : World T) (j : ℕ) (has : Has T) → IsBounded defers fixed w j (place has)
 
--- as one within a section of this slot does, or one without a slot
+  -- as one within a section of this slot does, or one without a slot
 
-pub within : {T : Type 0} (t : ℕ) → Carries {T = T} t (Inside t)
-within t = record {
-  rests = λ has. refl;
-  stays = λ has other. refl;
-  short = λ has. tt;
-  hand = λ has. refl;
-  known = λ w has is. is;
-  bounded = λ defers fixed w j has. tt;
-}
+  pub within : (t : ℕ) → Carries t (Inside t)
+  within t = record {
+    rests = λ has. refl;
+    stays = λ has other. refl;
+    short = λ has. tt;
+    hand = λ has. refl;
+    known = λ w has is. is;
+    bounded = λ defers fixed w j has. tt;
+  }
 
-pub alone_carries : {T : Type 0} → Carries {T = T} 0 alone_with
-alone_carries {T} = record { rests = rests; stays = λ has other. none has ∙ sym (none other); short = short; hand = hand; known = known; bounded = bounded }
-  where
-    rests : (has : Has T) → row_of (alone_with has) ≡ world.Rests
-    rests Nothing = refl
-    rests (Made b x) = refl
-    rests (Seen b) = refl
-    rests (Both b x a) = refl
-    rests (Cut b) = refl
+  pub alone_carries : Carries 0 alone_with
+  alone_carries = record { rests = rests; stays = λ has other. none has ∙ sym (none other); short = short; hand = hand; known = known; bounded = bounded }
+    where
+      rests : (has : Has T) → row_of (alone_with has) ≡ world.Rests
+      rests Nothing = refl
+      rests (Made b x) = refl
+      rests (Seen b) = refl
+      rests (Both b x a) = refl
+      rests (Cut b) = refl
 
-    none : (has : Has T) → use_of (alone_with has) ≡ None
-    none Nothing = refl
-    none (Made b x) = refl
-    none (Seen b) = refl
-    none (Both b x a) = refl
-    none (Cut b) = refl
+      none : (has : Has T) → use_of (alone_with has) ≡ None
+      none Nothing = refl
+      none (Made b x) = refl
+      none (Seen b) = refl
+      none (Both b x a) = refl
+      none (Cut b) = refl
 
-    short : (has : Has T) → IsShort (alone_with has)
-    short Nothing = tt
-    short (Made b x) = tt
-    short (Seen b) = tt
-    short (Both b x a) = tt
-    short (Cut b) = tt
+      short : (has : Has T) → IsShort (alone_with has)
+      short Nothing = tt
+      short (Made b x) = tt
+      short (Seen b) = tt
+      short (Both b x a) = tt
+      short (Cut b) = tt
 
-    hand : (has : Has T) → hand_of (alone_with has) ≡ had_in has
-    hand Nothing = refl
-    hand (Made b x) = refl
-    hand (Seen b) = refl
-    hand (Both b x a) = refl
-    hand (Cut b) = refl
+      hand : (has : Has T) → hand_of (alone_with has) ≡ had_in has
+      hand Nothing = refl
+      hand (Made b x) = refl
+      hand (Seen b) = refl
+      hand (Both b x a) = refl
+      hand (Cut b) = refl
 
-    known : (w : World T) (has : Has T) → IsInHand w 0 has → IsKnown w (alone_with has)
-    known w Nothing is = tt
-    known w (Made b x) is = is
-    known w (Seen b) is = tt
-    known w (Both b x a) is = is.0
-    known w (Cut b) is = is
+      known : (w : World T) (has : Has T) → IsInHand w 0 has → IsKnown w (alone_with has)
+      known w Nothing is = tt
+      known w (Made b x) is = is
+      known w (Seen b) is = tt
+      known w (Both b x a) is = is.0
+      known w (Cut b) is = is
 
-    bounded : (defers : T → Option ℕ) (fixed : Fixed) (w : World T) (j : ℕ) (has : Has T) → IsBounded defers fixed w j (alone_with has)
-    bounded defers fixed w j Nothing = tt
-    bounded defers fixed w j (Made b x) = tt
-    bounded defers fixed w j (Seen b) = tt
-    bounded defers fixed w j (Both b x a) = tt
-    bounded defers fixed w j (Cut b) = tt
+      bounded : (defers : T → Option ℕ) (fixed : Fixed) (w : World T) (j : ℕ) (has : Has T) → IsBounded defers fixed w j (alone_with has)
+      bounded defers fixed w j Nothing = tt
+      bounded defers fixed w j (Made b x) = tt
+      bounded defers fixed w j (Seen b) = tt
+      bounded defers fixed w j (Both b x a) = tt
+      bounded defers fixed w j (Cut b) = tt
 
 module _ {T : Type 0} (defers : T → Option ℕ) (fixed : Fixed) (s : State T (View T) (World T)) (id t : ℕ) (h : Holds defers fixed s) where
   -- where it is, it knows something else of a block
