@@ -1,5 +1,7 @@
 //! Blocks that have seats of their own, and so need no slot: one that was made, and one that was unlinked.
 ghost use Rattle.std.specs.Prelude.{◌≡◌, ◌<◌, ◌^◌, None, Some, IfOk, IfErr, IfSome};
+ghost use Rattle.seize_seats.specs.Lendings.{IsValueOf};
+ghost use Rattle.seize_shared.specs.Rows.{Holds};
 ghost use Rattle.seize_shared.specs.Standing.{brought_by, borne_by};
 ghost use Rattle.seize_shared.specs.declared.view.View.TheVariants.{Brings};
 
@@ -130,7 +132,9 @@ impl<'a, T: Defers> Owned<'a, T> {
 
 impl<'a, T: Defers> Unlinked<'a, T> {
     /// Its value, for as long as it is borrowed: others may look at it still, so it is only lent.
-    pub fn value(&self) -> &T {
+    pub fn value(&self) -> &T
+        ensures { IsValueOf (Holds T.defers self.now.blocks.now.words.fixed) self.now.seat.id self.now.seat.view self.now.block result.now }
+    {
         self.blocks.value(&self.seat, self.block)
     }
 }
