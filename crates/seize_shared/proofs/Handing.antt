@@ -18,7 +18,7 @@ use Rattle.seize_shared.proofs.Lists.{there, elsewhere}
 module _ {T : Type 0} (defers : T → Option ℕ) (fixed : Fixed) (s : State T (View T) (World T)) (i j : ℕ) (v u : View T) (h : Holds defers fixed s)
     (at_i : view_of s i ≡ Some v) (at_j : view_of s j ≡ Some u) (apart : i ≢ j) where
   -- what both know then: the same slots, and the blocks that one of them had in its hand
-  record Meeting (p q : View T) : Type 0 where
+  pub record Meeting (p q : View T) : Type 0 where
     pub one : Fits s.world i p
     pub other : Fits s.world j q
     pub one_bound : IsBounded defers fixed s.world i p
@@ -137,8 +137,7 @@ module _ {T : Type 0} (defers : T → Option ℕ) (fixed : Fixed) (i j t b : ℕ
           one_hand = refl;
           other_hand = λ c e. inl e;
         }),
-        refl,
-        refl,
+        (refl, refl),
       )
 
   -- who is within one has it in its hand
@@ -161,9 +160,9 @@ module _ (T : Type 0) (defers : T → Option ℕ) where
   pub borne_are_handed_on : BorneAreHandedOn T defers
   borne_are_handed_on fixed i j b (Outside t) takes = owes defers fixed i j t b
   borne_are_handed_on fixed i j b (Inside t Nothing) takes =
-      λ s h at_i at_j apart. (Rests, Inside t (Cut b), cuts defers fixed i j t b Nothing s h at_i at_j apart, refl, refl)
+      λ s h at_i at_j apart. (Rests, Inside t (Cut b), cuts defers fixed i j t b Nothing s h at_i at_j apart, (refl, refl))
   borne_are_handed_on fixed i j b (Inside t (Seen a)) takes =
-      λ s h at_i at_j apart. (Rests, Inside t (Cut b), cuts defers fixed i j t b (Seen a) s h at_i at_j apart, refl, refl)
+      λ s h at_i at_j apart. (Rests, Inside t (Cut b), cuts defers fixed i j t b (Seen a) s h at_i at_j apart, (refl, refl))
   borne_are_handed_on fixed i j b (Inside t (Made c x)) takes = absurd takes
   borne_are_handed_on fixed i j b (Inside t (Both c x a)) takes = absurd takes
   borne_are_handed_on fixed i j b (Inside t (Cut c)) takes = absurd takes

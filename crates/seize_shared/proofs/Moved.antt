@@ -49,6 +49,10 @@ not_vacant {T} x t a e v = by x e
     by (Brings b y) f = cc f
     by (Bears b) f = cc f
 
+-- a block is some caller's, and is not linked
+abbrev pub IsAside : Hand → Type 0
+IsAside k = IsOfUsers k × ((r : ℕ) → k ≡ world.InUse r → ⊥)
+
 module _ {T : Type 0} where
   pub used_so : (w : World T) (o : Option (ℕ × Use)) (t : ℕ) (a : Use) → IsUsed w o → o ≡ Some (t, a) → w.uses t ≡ a
   used_so w o t a is e = subst (λ (p : Option (ℕ × Use)). IsUsed w p) e is
@@ -57,10 +61,7 @@ module _ {T : Type 0} where
   still_used w n None is same = tt
   still_used w n (Some slot) is same = same slot.0 slot.1 refl ∙ is
 
-  -- what is in a seat's hand is some caller's, and is not linked
-
-  abbrev IsAside : Hand → Type 0
-  IsAside k = IsOfUsers k × ((r : ℕ) → k ≡ world.InUse r → ⊥)
+  -- what is in a seat's hand is such a one
 
   had_users : (w : World T) (t : ℕ) (has : Has T) (b : ℕ) → IsInHand w t has → had_in has ≡ Some b → IsAside (w.hand b)
   had_users w t (Made c x) b is e = subst IsAside (sym (ap w.hand (sym (same_some c b e)) ∙ is.0.1)) (tt, λ r q. cc q)

@@ -38,45 +38,45 @@ use Rattle.seize_shared.proofs.Written.{Wrote, Cuts, block_of_link, wrote, roote
 
 module _ {T : Type 0} (defers : T → Option ℕ) (fixed : Fixed) (s : State T (View T) (World T)) (t : ℕ) (h : Holds defers fixed s)
     (open_here : s.world.uses t ≡ world.Inside 0) where
-  abbrev w : World T
-  w = s.world
+  abbrev here : World T
+  here = s.world
 
-  r : Reached defers fixed.batch_size w
-  r = reached defers fixed w h.came
+  sound : Reached defers fixed.batch_size here
+  sound = reached defers fixed here h.came
 
   -- a root is seen
 
-  is_open_here : is_open t w.log ≡ true
-  is_open_here = subst (λ (l : List Effect). is_open t l ≡ true) r.good.logged (by (w.uses t) open_here (r.good.used.fits t))
+  is_open_here : is_open t here.log ≡ true
+  is_open_here = subst (λ (l : List Effect). is_open t l ≡ true) sound.good.logged (by (here.uses t) open_here (sound.good.used.fits t))
     where
       by : (u : Use) → u ≡ world.Inside 0
-          → UseFits u (emptied (r.good.state.head t)) (length (r.good.used.team t)) (is_open t r.good.state.log) → is_open t r.good.state.log ≡ true
+          → UseFits u (emptied (sound.good.state.head t)) (length (sound.good.used.team t)) (is_open t sound.good.state.log) → is_open t sound.good.state.log ≡ true
       by u e f =
-          (subst (λ (x : Use). UseFits x (emptied (r.good.state.head t)) (length (r.good.used.team t)) (is_open t r.good.state.log)) e f).2
+          (subst (λ (x : Use). UseFits x (emptied (sound.good.state.head t)) (length (sound.good.used.team t)) (is_open t sound.good.state.log)) e f).2
 
-  linked_held : (b a : ℕ) → w.hand b ≡ world.InUse a → holds t b w.log ≡ true
+  linked_held : (b a : ℕ) → here.hand b ≡ world.InUse a → holds t b here.log ≡ true
   linked_held b a is =
-      let life : r.good.state.life b ≡ IsLinked = subst (λ (k : Hand). HandFits k (r.good.state.life b)) is (r.good.hands b) in
-      let reach : reachable b w.log ≡ true =
-      ap (reachable b) (sym r.good.logged) ∙ ap is_somewhere (r.good.inv.logged.reaches b)
-      ∙ ap (λ (l : Life). is_somewhere (place_of r.good.state.life l)) life in
-      reached_held t b w.log reach is_open_here
+      let life : sound.good.state.life b ≡ IsLinked = subst (λ (k : Hand). HandFits k (sound.good.state.life b)) is (sound.good.hands b) in
+      let reach : reachable b here.log ≡ true =
+      ap (reachable b) (sym sound.good.logged) ∙ ap is_somewhere (sound.good.inv.logged.reaches b)
+      ∙ ap (λ (l : Life). is_somewhere (place_of sound.good.state.life l)) life in
+      reached_held t b here.log reach is_open_here
 
   -- what a root names is held by the section from now on
-  root_held : (a word : ℕ) → word_at s.memory (Root a) ≡ Some word → (block_in word == 0) ≡ false → holds t (block_in word) w.log ≡ true
-  root_held a word e is = elim (h.roots a word e) as (λ _. holds t (block_in word) w.log ≡ true) [
+  root_held : (a word : ℕ) → word_at s.memory (Root a) ≡ Some word → (block_in word == 0) ≡ false → holds t (block_in word) here.log ≡ true
+  root_held a word e is = elim (h.roots a word e) as (λ _. holds t (block_in word) here.log ≡ true) [
     | inl none ↦ absurd (let k = eq-eqb (block_in word) 0 none in cc (k, is))
     | inr linked ↦ linked_held (block_in word) a linked
   ]
 
   seen_known : (a word : ℕ) → word_at s.memory (Root a) ≡ Some word → (y : Bool) → (block_in word == 0) ≡ y
-      → IsInHand w t (if y then Nothing else Seen (block_in word))
+      → IsInHand here t (if y then Nothing else Seen (block_in word))
   seen_known a word e true is = tt
   seen_known a word e false is = root_held a word e is
 
   -- and is known beside a block that was made
-  beside_known : (b : ℕ) (x : T) (a word : ℕ) → IsMade w b x → word_at s.memory (Root a) ≡ Some word → (y : Bool) → (block_in word == 0) ≡ y
-      → IsInHand w t (if y then Made b x else Both b x (block_in word))
+  beside_known : (b : ℕ) (x : T) (a word : ℕ) → IsMade here b x → word_at s.memory (Root a) ≡ Some word → (y : Bool) → (block_in word == 0) ≡ y
+      → IsInHand here t (if y then Made b x else Both b x (block_in word))
   beside_known b x a word made e true is = made
   beside_known b x a word made e false is = (made, root_held a word e is)
 
@@ -194,9 +194,9 @@ module _ {T : Type 0} (defers : T → Option ℕ) (fixed : Fixed) (s : State T (
 
 -- what is in the hand of who has seen what is there, or has made a block beside it
 
-seen_hand : {T : Type 0} (b : ℕ) (y : Bool) → had_in {T = T} (if y then Nothing else Seen b) ≡ None
-seen_hand b true = refl
-seen_hand b false = refl
+seen_hand : (T : Type 0) (b : ℕ) (y : Bool) → had_in {T = T} (if y then Nothing else Seen b) ≡ None
+seen_hand T b true = refl
+seen_hand T b false = refl
 
 beside_hand : {T : Type 0} (b : ℕ) (x : T) (a : ℕ) (y : Bool) → had_in (if y then Made b x else Both b x a) ≡ Some b
 beside_hand b x a true = refl
@@ -213,7 +213,7 @@ module _ {T : Type 0} (defers : T → Option ℕ) (fixed : Fixed) (s : State T (
   sees a (Found word) m took so is =
       looks defers fixed s id t (Inside t) (within t) had h at m (seen_in word) took.1
       (seen_known defers fixed s t h (h.seats id (Inside t had) at).slot a word took.0 (block_in word == 0) refl)
-      (seen_hand (block_in word) (block_in word == 0) ∙ sym none) so (is word refl)
+      (seen_hand T (block_in word) (block_in word == 0) ∙ sym none) so (is word refl)
   sees a Stored m took so is = absurd took.0
   sees a (Exchanged x) m took so is = absurd took.0
   sees a (OutMade x) m took so is = absurd took.0
@@ -222,19 +222,19 @@ module _ {T : Type 0} (defers : T → Option ℕ) (fixed : Fixed) (s : State T (
 
 module _ (T : Type 0) (defers : T → Option ℕ) where
   pub roots_are_seen : RootsAreSeen T defers
-  roots_are_seen Nothing a fixed id t looks lt s h at = (
+  roots_are_seen Nothing a fixed id t free lt s h at = (
     root_can defers fixed s id (Inside t Nothing) h at a lt,
     λ out m took. sees defers fixed s id t Nothing refl h at a out m took (told defers (Inside t Nothing) (Load (Root a)) out)
         (λ word e. subst (λ (o : Out T). told defers (Inside t Nothing) (Load (Root a)) o (Inside t (seen_in word))) (sym e) (seen_in word, refl, refl)),
   )
-  roots_are_seen (Seen b) a fixed id t looks lt s h at = (
+  roots_are_seen (Seen b) a fixed id t free lt s h at = (
     root_can defers fixed s id (Inside t (Seen b)) h at a lt,
     λ out m took. sees defers fixed s id t (Seen b) refl h at a out m took (told defers (Inside t (Seen b)) (Load (Root a)) out)
         (λ word e. subst (λ (o : Out T). told defers (Inside t (Seen b)) (Load (Root a)) o (Inside t (seen_in word))) (sym e) (seen_in word, refl, refl)),
   )
-  roots_are_seen (Made b x) a fixed id t looks lt s h at = absurd looks
-  roots_are_seen (Both b x c) a fixed id t looks lt s h at = absurd looks
-  roots_are_seen (Cut b) a fixed id t looks lt s h at = absurd looks
+  roots_are_seen (Made b x) a fixed id t free lt s h at = absurd free
+  roots_are_seen (Both b x c) a fixed id t free lt s h at = absurd free
+  roots_are_seen (Cut b) a fixed id t free lt s h at = absurd free
 
   pub made_are_linked : MadeAreLinked T defers
   made_are_linked b x a fixed id t lt s h at = (

@@ -199,7 +199,13 @@ impl<'r, 'a, T: Defers + Drop> Guard<T> for LocalGuard<'r, 'a, T> {
         self.registration.stay.clears(root)
     }
 
-    fn retire<'u>(&mut self, old: Unlinked<'u, T>) {
+    fn retire<'u>(&mut self, old: Unlinked<'u, T>)
+        requires home { old.blocks.now.words.id.views_name ≡ self.old.registration.now.stay.caller.blocks.now.words.id.views_name }
+        ensures home { self.new.registration.now.stay.caller.blocks.now.words.id.views_name ≡ self.old.registration.now.stay.caller.blocks.now.words.id.views_name }
+        ensures slot { self.new.registration.now.stay.slot ≡ self.old.registration.now.stay.slot }
+        ensures inside { self.new.registration.now.stay.inside ≡ self.old.registration.now.stay.inside }
+        ensures fresh { self.new.registration.now.stay.seen ≡ 0 }
+    {
         self.registration.stay.retires(old);
     }
 
@@ -279,7 +285,13 @@ impl<'a, T: Defers + Drop> Guard<T> for OwnedGuard<'a, T> {
         self.stay.clears(root)
     }
 
-    fn retire<'u>(&mut self, old: Unlinked<'u, T>) {
+    fn retire<'u>(&mut self, old: Unlinked<'u, T>)
+        requires home { old.blocks.now.words.id.views_name ≡ self.old.stay.caller.blocks.now.words.id.views_name }
+        ensures home { self.new.stay.caller.blocks.now.words.id.views_name ≡ self.old.stay.caller.blocks.now.words.id.views_name }
+        ensures slot { self.new.stay.slot ≡ self.old.stay.slot }
+        ensures inside { self.new.stay.inside ≡ self.old.stay.inside }
+        ensures fresh { self.new.stay.seen ≡ 0 }
+    {
         self.stay.retires(old);
     }
 
