@@ -104,7 +104,7 @@ module _ {T : Type 0} (defers : T → Option ℕ) (v w : View T) where
   pub own_taken_told : (b : ℕ) (x value : T) → v ≡ Brings b x → told defers v (Take b) (Taken value) w → value ≡ x
   own_taken_told b x value is so = (subst (λ (y : View T). told defers y (Take b) (Taken value) w) is so).1.0
 
-  pub own_linked_told : (b r word old : ℕ) → brought_by v ≡ Some b → told defers v (Swap (Root r) word) (Found old) w → w ≡ alone_with (cut_in old)
+  own_linked_told : (b r word old : ℕ) → brought_by v ≡ Some b → told defers v (Swap (Root r) word) (Found old) w → w ≡ alone_with (cut_in old)
   own_linked_told b r word old e so =
       let k = brings b v e in
       let t = subst (λ (x : View T). told defers x (Swap (Root r) word) (Found old) w) k.1 so in t.2 ∙ ap alone_with t.1
@@ -124,9 +124,15 @@ module _ {T : Type 0} (defers : T → Option ℕ) (v w : View T) where
   still_brings b r old word now e so = let k = brings b v e in ap brought_by (own_lost_told b k.0 r old word now k.1 so)
 
 -- a block that was taken from a root is borne
-pub borne_block : (T : Type 0) (word b : ℕ) → b ≡ block_in word → (b ≡ 0 → ⊥) → borne_by {T = T} (alone_with (cut_in word)) ≡ Some b
+borne_block : (T : Type 0) (word b : ℕ) → b ≡ block_in word → (b ≡ 0 → ⊥) → borne_by {T = T} (alone_with (cut_in word)) ≡ Some b
 borne_block T word b is ne =
     ap (λ (y : Bool). borne_by {T = T} (alone_with (if y then Nothing else Cut (block_in word)))) (ne_eqb (block_in word) 0 (λ e. ne (is ∙ e))) ∙ ap Some (sym is)
+
+module _ {T : Type 0} (defers : T → Option ℕ) (v w : View T) where
+  -- and its seat bears it
+  pub linked_bears : (b r word old c : ℕ) → brought_by v ≡ Some b → told defers v (Swap (Root r) word) (Found old) w → c ≡ block_in old → (c ≡ 0 → ⊥)
+      → borne_by w ≡ Some c
+  linked_bears b r word old c e so is ne = ap borne_by (own_linked_told defers v w b r word old e so) ∙ borne_block T old c is ne
 
 module _ {T : Type 0} (fixed : Fixed) (v u v2 u2 : View T) (slot b : ℕ) where
   -- who took it over owes it, or has it in its hand

@@ -106,6 +106,11 @@ module _ {T : Type 0} (t : ℕ) where
   is_taker true k v e = let i = is_inside k v e in subst IsTaker (sym i.2) i.1
   is_taker false k v e = subst IsTaker (sym (is_outside k v e)) tt
 
+  -- and what is said of who is within a section, or is not, is so of who stands so
+
+  pub takes_inside : (k : ℕ) (v : View T) (X : Type 0) → standing v ≡ Some (stands t true k) → ((has : Has T) → IsLooking has → v ≡ Inside t has → X) → X
+  takes_inside k v X e so = let i = is_inside k v e in so i.0 i.1 i.2
+
   pub has_nothing : (v : View T) → standing v ≡ Some (stands t true 0) → v ≡ Inside t Nothing
   has_nothing v e = let i = inside 0 v e in i.2 ∙ ap (Inside t) (none_seen i.0 i.1)
 

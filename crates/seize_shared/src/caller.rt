@@ -294,7 +294,7 @@ impl<'a, T: Defers> Drop for Caller<'a, T> {
 }
 
 /// The block that a word of a root names.
-fn named(word: u64) -> Option<u64>
+pub(crate) fn named(word: u64) -> Option<u64>
     ensures some { IfSome result (λ block. (block ≡ block_in word) × (block < 2 ^ 53) × (block ≢ 0)) }
     ensures none { IfNone result (block_in word ≡ 0) }
 {

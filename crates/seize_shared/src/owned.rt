@@ -5,6 +5,7 @@ ghost use Rattle.seize_shared.specs.Rows.{Holds};
 ghost use Rattle.seize_shared.specs.Standing.{brought_by, borne_by};
 ghost use Rattle.seize_shared.specs.declared.view.View.TheVariants.{Brings};
 
+use crate::caller::named;
 use crate::rows::OfRows;
 use crate::view::Fixed;
 use seize::rows::Defers;
@@ -90,15 +91,14 @@ impl<'a, T: Defers> Owned<'a, T> {
             block,
         } = self;
         let mut seat = seat;
-        let old = Link::block_of(blocks.swap(&mut seat, At::Root(root), Link::to(block)));
-        if old == 0 {
-            Ok(None)
-        } else {
-            Ok(Some(Unlinked {
+        let word = blocks.swap(&mut seat, At::Root(root), Link::to(block));
+        match named(word) {
+            Some(old) => Ok(Some(Unlinked {
                 blocks,
                 seat,
                 block: old,
-            }))
+            })),
+            None => Ok(None),
         }
     }
 
