@@ -17,7 +17,7 @@ use Rattle.seize.specs.declared.rows.settle.Settled.{Settled}
 use Rattle.seize.specs.declared.rows.settle.Settled.TheVariants as settled
 use Rattle.seize.specs.Leave.{standing, settled as leave_settled}
 use Rattle.seize.specs.Settle.{retiring, flushing, settle_plan, plan_at}
-use Rattle.seize.specs.World.{World, Row, Use, Hand, Event, Begin, Happens, Request, Register', Enter', Leave', Refresh, Unregister', Retire}
+use Rattle.seize.specs.World.{World, Row, Use, Hand, Begin, Happens, Request, Register', Enter', Leave', Refresh, Unregister', Retire}
 use Rattle.seize.specs.World.{Flush, IsTaken, one_more, one_less, with_at, with_row, with_use, with_hand, settles_on, leaves_on, at_start}
 use Rattle.seize.specs.World as world
 use Rattle.seize_rule.proofs.Rows.Others.{with_here, with_other}

@@ -1,5 +1,5 @@
 -- What a seat does within its section that is no step of a row, and that it goes on from there.
-use Rattle.std.specs.Prelude.{◌≢◌, ◌++◌, Option, Some, None, IsSome, length}
+use Rattle.std.specs.Prelude.{◌++◌, Option, Some, None, IsSome, length}
 use Rattle.std.proofs.Common.{◌≡◌, ℕ, ◌+◌, List, [], ◌∷◌, true, false, refl, sym, subst, ap, ◌∙◌}
 use Rattle.seize_words.specs.Mem.{Mem, Took, value_at}
 use Rattle.seize_words.specs.Op.{Op, Out}
@@ -18,7 +18,7 @@ use Rattle.seize_bounds.specs.Bounds.{IsOfOthers, IsAloneOnSlot, ArePlain}
 use Rattle.seize_shared.specs.Rows.{row_of, use_of, hand_of, had_in, IsShort, IsUsed, IsKnown, IsBounded, IsMade, IsInHand, RootsNameLinked, Fits, Came, Holds, Keeps}
 use Rattle.seize_shared.specs.Told.{alone_with}
 use Rattle.seize_shared.specs.declared.view.View.{View}
-use Rattle.seize_shared.specs.declared.view.View.TheVariants.{Rests, Outside, Owes, Inside, Brings, Bears}
+use Rattle.seize_shared.specs.declared.view.View.TheVariants.{Rests, Outside, Owes, Inside}
 use Rattle.seize_shared.specs.declared.view.Has.{Has}
 use Rattle.seize_shared.specs.declared.view.Has.TheVariants.{Nothing, Made, Seen, Both, Cut}
 use Rattle.seize_shared.specs.declared.view.Fixed.{Fixed}
