@@ -1,6 +1,6 @@
 -- What a seat without a slot may do with the block that it has, and what it knows then.
 use Rattle.std.specs.Prelude.{◌<◌, ◌==◌, Option, Some, None, Ok, Err, if◌then◌else◌}
-use Rattle.std.proofs.Common.{◌≡◌, ℕ, ◌^◌, ◌%◌, Bool, true, false, refl, sym, subst, ap, ◌∙◌}
+use Rattle.std.proofs.Common.{◌≡◌, ℕ, ◌^◌, ◌%◌, Bool, sym, subst, ap, ◌∙◌}
 use Rattle.std.proofs.lemmas.Bool.{ne_eqb}
 use Rattle.seize_words.specs.Op.{Op, Swap, Exchange, Make, Take, Found, Exchanged, Made as OutMade, Taken}
 use Rattle.seize_words.specs.Word.{block_in, link_to}
@@ -21,7 +21,7 @@ use Rattle.seize_shared.specs.declared.view.Fixed.{Fixed}
 use Rattle.seize_shared.proofs.Blocks.{own_are_made, own_are_taken, own_are_shown, borne_are_shown}
 use Rattle.seize_shared.proofs.Calls.{whole_link}
 use Rattle.seize_shared.proofs.Handing.{borne_are_handed_on}
-use Rattle.seize_shared.proofs.Roots.{own_are_linked, own_are_exchanged}
+use Rattle.seize_shared.proofs.Roots.{beside_alone, own_are_linked, own_are_exchanged}
 
 module _ {T : Type 0} where
   -- which view it has
@@ -109,15 +109,11 @@ module _ {T : Type 0} (defers : T → Option ℕ) (v w : View T) where
       let k = brings b v e in
       let t = subst (λ (x : View T). told defers x (Swap (Root r) word) (Found old) w) k.1 so in t.2 ∙ ap alone_with t.1
 
-  lost_view : (b : ℕ) (x : T) (a : ℕ) (y : Bool) → alone_with (if y then Made b x else Both b x a) ≡ Brings b x
-  lost_view b x a true = refl
-  lost_view b x a false = refl
-
   pub own_lost_told : (b : ℕ) (x : T) (r old word now : ℕ) → v ≡ Brings b x → told defers v (Exchange (Root r) old word) (Exchanged (Err now)) w
       → w ≡ Brings b x
   own_lost_told b x r old word now is so =
       let t = subst (λ (y : View T). told defers y (Exchange (Root r) old word) (Exchanged (Err now)) w) is so in
-      t.2 ∙ ap alone_with t.1 ∙ lost_view b x (block_in now) (block_in now == 0)
+      t.2 ∙ ap alone_with t.1 ∙ sym (beside_alone b x (block_in now) (block_in now == 0))
 
   pub still_brings : (b r old word now : ℕ) → brought_by v ≡ Some b → told defers v (Exchange (Root r) old word) (Exchanged (Err now)) w
       → brought_by w ≡ Some b

@@ -198,7 +198,7 @@ beside_hand : {T : Type 0} (b : ℕ) (x : T) (a : ℕ) (y : Bool) → had_in (if
 beside_hand b x a true = refl
 beside_hand b x a false = refl
 
-beside_alone : {T : Type 0} (b : ℕ) (x : T) (a : ℕ) (y : Bool) → Brings b x ≡ alone_with (if y then Made b x else Both b x a)
+pub beside_alone : {T : Type 0} (b : ℕ) (x : T) (a : ℕ) (y : Bool) → Brings b x ≡ alone_with (if y then Made b x else Both b x a)
 beside_alone b x a true = refl
 beside_alone b x a false = refl
 
