@@ -28,7 +28,8 @@ use Rattle.seize_shared.specs.declared.view.Why.TheVariants.{Ending}
 use Rattle.seize_shared.specs.declared.view.Fixed.{Fixed}
 use Rattle.seize_bounds.proofs.Bounds.Within.{counted_within}
 use Rattle.seize_shared.proofs.Moved.{moved}
-use Rattle.seize_shared.proofs.Steps.{alone, reached, step_of, step_plain, stepped}
+use Rattle.seize_shared.proofs.Came.{reached}
+use Rattle.seize_shared.proofs.Steps.{alone, step_of, step_plain, stepped}
 
 -- the slot of one is that of the other
 pub slot_of : (p q : ℕ × Use) → Some p ≡ Some q → p.0 ≡ q.0

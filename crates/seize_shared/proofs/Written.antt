@@ -30,7 +30,8 @@ use Rattle.seize_shared.specs.declared.view.Has.TheVariants.{Nothing, Made, Seen
 use Rattle.seize_shared.specs.declared.view.Fixed.{Fixed}
 use Rattle.seize_shared.proofs.Lists.{there, elsewhere}
 use Rattle.seize_shared.proofs.Moved.{Passes}
-use Rattle.seize_shared.proofs.Steps.{came_then, reached, world_plain}
+use Rattle.seize_shared.proofs.Came.{reached, came_then}
+use Rattle.seize_shared.proofs.Steps.{world_plain}
 use Rattle.seize_shared.proofs.Users.{apart_making, cutting_making, use_making, making_use, cutting_use, same_use}
 use Rattle.seize_shared.proofs.Users.{beside, world_took, making_not_held, passes_one, passes_then, Users, users}
 

@@ -128,6 +128,7 @@ impl<'a, T: Defers + Drop> Stay<'a, T> {
         requires plain { T.defers value ≡ None }
         ensures slot { self.new.slot ≡ self.old.slot }
         ensures inside { self.new.inside ≡ self.old.inside }
+        ensures back { IfErr result (λ back. back ≡ value) }
     {
         if !self.inside || root >= self.roots {
             return Err(value);
