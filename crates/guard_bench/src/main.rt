@@ -7,10 +7,9 @@ mod turns;
 use seize_blocks::Home;
 use seize_shared::OfRows;
 use std::alloc::Global;
-use std::io;
-use std::thread;
 use std::thread::Threads;
 use std::time::{Clock, Duration, Instant};
+use std::{io, thread};
 use turns::{CHOSEN, Number, ROOTS, takes};
 
 /// How long so many turns take on each of so many threads, over one memory, and how many came to what they should.
@@ -25,9 +24,12 @@ fn timed<R: Clock + Threads + Sync>(
     let home = Home::<Number, OfRows>::open(alloc, ROOTS, numbers.min(1_000_000_000), &CHOSEN)?;
     let blocks = &home.blocks;
     let start = Instant::now(rt)?;
-    let counts = thread::map_indices(rt, alloc, threads, &|thread: usize| {
-        takes(blocks, kind, thread as u64, turns)
-    })?;
+    let counts = thread::map_indices(
+        rt,
+        alloc,
+        threads,
+        &|thread: usize| { takes(blocks, kind, thread as u64, turns) },
+    )?;
     let took = start.elapsed(rt)?;
     let mut sum = 0;
     for count in counts {

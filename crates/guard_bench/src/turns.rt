@@ -59,12 +59,7 @@ fn puts(guard: &mut LocalGuard<'_, '_, Number>, root: u64, turns: u64) -> u64 {
 
 /// Takes so many turns with a slot of its own, and answers how many came to what they should: a section is opened and ended; or, all within one section, a root
 /// is looked at, where a value is; or a value is put at a root, the same one for all threads, or one of the thread's own.
-pub(crate) fn takes(
-    blocks: &Blocks<Number, OfRows>,
-    kind: &str,
-    thread: u64,
-    turns: u64,
-) -> u64
+pub(crate) fn takes(blocks: &Blocks<Number, OfRows>, kind: &str, thread: u64, turns: u64) -> u64
     requires { blocks.now.words.fixed ≡ record { batch_size = 32; roots = 4 } }
 {
     let Ok(mut registration) = Registration::new(blocks, &CHOSEN) else {
