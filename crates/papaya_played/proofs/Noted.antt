@@ -64,7 +64,7 @@ use Rattle.papaya_played.proofs.PlayedAs.{PlayedAs, ReclaimedAs, played_as, recl
 use Rattle.papaya_played.proofs.Along.{AllFit, AreOfTheirOwn, At, Is, StaysSo, wherever}
 
 -- numbers that differ are names that do
-apart : (i j : ℕ) → j ≢ i → is_same (named i) (named j) ≡ false
+pub apart : (i j : ℕ) → j ≢ i → is_same (named i) (named j) ≡ false
 apart i j ne = by (i == j) refl
   where
     by : (q : Bool) → (i == j) ≡ q → is_same (named i) (named j) ≡ false
@@ -154,9 +154,7 @@ module _ {K V : Type 0} where
   leaves_none c leaves.Swaps = (λ o calls. refl, λ m. refl)
   leaves_none c (leaves.Settles settle) = leaves_slot c.slot
   leaves_none c leaves.Frees = leaves_slot c.slot
-  leaves_none c leaves.Over =
-      if_none c.frees (Leaves c.slot) (if c.becomes == ACTIVE then Opens c.slot else Leaves c.slot) (leaves_slot c.slot)
-      (if_none (c.becomes == ACTIVE) (Opens c.slot) (Leaves c.slot) (opens c.slot) (leaves_slot c.slot))
+  leaves_none c leaves.Over = if_none (c.becomes == ACTIVE) (Opens c.slot) (Leaves c.slot) (opens c.slot) (leaves_slot c.slot)
 
   row_none : (row : SlotRow) → OfNoCall (row_deed row)
   row_none (rows.Registers c) = registers_none c.stands c.slot
