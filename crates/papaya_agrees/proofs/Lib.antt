@@ -5,4 +5,7 @@ mod Opens
 mod Rows
 mod Slots
 pub mod Guards
+pub mod Entries
 pub mod Calls
+pub mod Grants
+pub mod Agree

@@ -22,7 +22,6 @@ use Rattle.papaya_scenes.specs.Making.{making_begun}
 use Rattle.papaya_scenes.specs.Scene.{Scene, slot_of}
 use Rattle.papaya_acts.specs.Acts.{Act, Answer, BeginsCall, StepsCall, TellsCall, AsksCall, StopsCall, BeginsMaking, StepsMaking, BeginsEnding, StepsEnding, BeginsRow, StepsRow}
 use Rattle.papaya_acts.specs.Leads.{EndingCame, Led, MakingCame}
-use Rattle.papaya_played.specs.Play.{State}
 use Rattle.papaya_played.proofs.Along.{StaysSo}
 use Rattle.papaya_agrees.specs.Shards.{AsksShards, ShardsAre}
 
@@ -101,9 +100,9 @@ module _ {K S : Type 0} (V : Type 0) (same : K → K → Bool) (by_hasher : S �
   ended_on i f w2 deed machine settled.Done (none, finished, is) = is_so _ is (record { standing = here.standing; made = here.made })
 
   -- So it is after each act.
-  acts_so : (x : State K V S) (act : Act K V S) → AsksShards shards x act → (told : Answer K V) → Led same by_hasher batch_size roots slot_of act s told n → ShardsAre shards n
-  acts_so x (BeginsCall i m wanted) asks told (standing, stands, none, is) = is_so _ is (record { standing = here.standing; made = here.made })
-  acts_so x (StepsCall i m g) asks told came =
+  acts_so : (act : Act K V S) → AsksShards shards act → (told : Answer K V) → Led same by_hasher batch_size roots slot_of act s told n → ShardsAre shards n
+  acts_so (BeginsCall i m wanted) asks told (standing, stands, none, is) = is_so _ is (record { standing = here.standing; made = here.made })
+  acts_so (StepsCall i m g) asks told came =
       is_so _ came.comes (maps_so shards s here came.did.w2 came.did.maps2 _ kept refl refl)
     where
       kept : (k : ℕ) → setting_of (came.did.maps2 k) ≡ setting_of (s.maps k)
@@ -114,26 +113,26 @@ module _ {K S : Type 0} (V : Type 0) (same : K → K → Bool) (by_hasher : S �
               subst (λ (j : ℕ). setting_of (came.did.maps2 j) ≡ setting_of (s.maps j)) (sym e)
               (moved_map_keeps (hash m) came.standing (s.maps m) (came.did.maps2 m) came.stands (hashes m came.standing came.stands) came.did.its_map).setting
           by (inr ne) = (same_map_keeps (hash k) (s.maps k) (came.did.maps2 k) (hashes k) (came.did.others k ne)).setting
-  acts_so x (TellsCall i m reply) asks told (standing, stands, u, next, has, machine_is, told_is, kind, is) = is_so _ is (record { standing = here.standing; made = here.made })
-  acts_so x (AsksCall i m) asks told (u, next, has, machine_is, told_is, is) = is_so _ is (record { standing = here.standing; made = here.made })
-  acts_so x (StopsCall i m) asks told (u, has, told_is, is) = is_so _ is (record { standing = here.standing; made = here.made })
-  acts_so x (BeginsMaking i map hasher given places) asks told (none, is) =
+  acts_so (TellsCall i m reply) asks told (standing, stands, u, next, has, machine_is, told_is, kind, is) = is_so _ is (record { standing = here.standing; made = here.made })
+  acts_so (AsksCall i m) asks told (u, next, has, machine_is, told_is, is) = is_so _ is (record { standing = here.standing; made = here.made })
+  acts_so (StopsCall i m) asks told (u, has, told_is, is) = is_so _ is (record { standing = here.standing; made = here.made })
+  acts_so (BeginsMaking i map hasher given places) asks told (none, is) =
       is_so _ is
       (record {
         standing = here.standing;
         made = made_so shards s here i (Some (making_begun (by_hasher hasher) roots map given places))
             (λ b is_it. ap (λ (c : Beginning K). c.given.mask + 1) (sym (same_some (making_begun (by_hasher hasher) roots map given places) b is_it)) ∙ asks);
       })
-  acts_so x (StepsMaking i g) asks told (b, makes, m2, machine, end, computed, told_is, did, came) = made_on i b makes did.step.w2 machine end came
-  acts_so x (BeginsEnding i m) asks told (standing, stands, none, is) = is_so _ is (record { standing = one_so shards s here m None (λ st none_is. absurd (cc none_is)); made = here.made })
-  acts_so x (StepsEnding i g) asks told (f, ends, m2, machine, end, computed, told_is, did, came) = ended_on i f did.w2 did.deed machine end came
-  acts_so x (BeginsRow i request) asks told (w2, happens, maps2, as_they_were, none, is) = seen_so w2 maps2 as_they_were is
-  acts_so x (StepsRow i g) asks told (w2, computed, happens, maps2, as_they_were, none, is) = seen_so w2 maps2 as_they_were is
+  acts_so (StepsMaking i g) asks told (b, makes, m2, machine, end, computed, told_is, did, came) = made_on i b makes did.step.w2 machine end came
+  acts_so (BeginsEnding i m) asks told (standing, stands, none, is) = is_so _ is (record { standing = one_so shards s here m None (λ st none_is. absurd (cc none_is)); made = here.made })
+  acts_so (StepsEnding i g) asks told (f, ends, m2, machine, end, computed, told_is, did, came) = ended_on i f did.w2 did.deed machine end came
+  acts_so (BeginsRow i request) asks told (w2, happens, maps2, as_they_were, none, is) = seen_so w2 maps2 as_they_were is
+  acts_so (StepsRow i g) asks told (w2, computed, happens, maps2, as_they_were, none, is) = seen_so w2 maps2 as_they_were is
 
 module _ {K S : Type 0} (V : Type 0) (same : K → K → Bool) (by_hasher : S → K → ℕ) (hash : ℕ → K → ℕ) (batch_size roots shards : ℕ) (aborts : V) where
-  pub shards_stay : StaysSo V same by_hasher hash batch_size roots aborts (AsksShards shards) (λ p x. ShardsAre shards p.0)
+  pub shards_stay : StaysSo V same by_hasher hash batch_size roots aborts (λ x. AsksShards shards) (λ p x. ShardsAre shards p.0)
   shards_stay = record {
-    acts = λ p n x y act told own fits none none_then is is_then at may led leads at_then played here. acts_so V same by_hasher hash batch_size roots shards p.0 n.0 here at.hashes x act fits told led;
+    acts = λ p n x y act told own fits none none_then is is_then at may led leads at_then played here. acts_so V same by_hasher hash batch_size roots shards p.0 n.0 here at.hashes act fits told led;
     begins = λ p n x i c none begun same_scene all_free is is_then at here. subst (ShardsAre shards) (sym same_scene) here;
     steps = λ p n x y told g st is is_then at leads played here. seen_so V same by_hasher hash batch_size roots shards p.0 n.0 here at.hashes st.did.did.w2 st.did.did.maps2 st.did.did.as_they_were st.did.comes;
   }

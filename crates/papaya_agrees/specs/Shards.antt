@@ -4,7 +4,6 @@ use Rattle.papaya_scenes.specs.Given.Finishes.Makings.{Beginning}
 use Rattle.papaya_scenes.specs.Given.Finishes.Maps.{Standing}
 use Rattle.papaya_scenes.specs.Scene.{Scene}
 use Rattle.papaya_acts.specs.Acts.{Act, BeginsMaking}
-use Rattle.papaya_played.specs.Play.{State}
 
 -- each map that stands has so many, and each that is made
 pub record ShardsAre {K V : Type 0} (shards : ℕ) (s : Scene K V) : Type 0 where
@@ -12,6 +11,6 @@ pub record ShardsAre {K V : Type 0} (shards : ℕ) (s : Scene K V) : Type 0 wher
   pub made : (i : ℕ) (b : Beginning K) → s.makers i ≡ Some b → b.given.mask + 1 ≡ shards
 
 -- a making is asked for with so many
-abbrev pub AsksShards : {K V S : Type 0} → ℕ → State K V S → Act K V S → Type 0
-AsksShards shards x (BeginsMaking i map hasher given places) = given.mask + 1 ≡ shards
-AsksShards shards x act = Unit {0}
+abbrev pub AsksShards : {K V S : Type 0} → ℕ → Act K V S → Type 0
+AsksShards shards (BeginsMaking i map hasher given places) = given.mask + 1 ≡ shards
+AsksShards shards act = Unit {0}

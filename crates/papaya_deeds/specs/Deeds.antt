@@ -57,6 +57,10 @@ abbrev pub if_more : ℕ → List ℕ → List Remains → List Remains
 if_more root [] remains = remains
 if_more root (n ∷ pairs) remains = with_more (record { root = root; pairs = n ∷ pairs }) remains
 
+-- without the map of this number
+abbrev pub without_map : ℕ → List MapThere → List MapThere
+without_map n maps = filter (λ f. not (is_same f.name (named n))) maps
+
 module _ {K V : Type 0} where
   -- whose call takes a step
   abbrev pub caller_of : Deed K V → Option (List ℕ)
@@ -111,9 +115,6 @@ module _ {K V : Type 0} where
   calls_on (Stops i) Goes calls = calls
   calls_on (Stops i) outcome calls = without_call (named i) calls
   calls_on deed outcome calls = stepped (caller_of deed) outcome 1 calls
-
-  abbrev pub without_map : ℕ → List MapThere → List MapThere
-  without_map map maps = filter (λ f. not (is_same f.name (named map))) maps
 
   abbrev pub maps_on : Deed K V → List MapThere → List MapThere
   maps_on (MapFails map) maps = without_map map maps
