@@ -1,14 +1,14 @@
 -- Wherever a list has led, its history agrees with what is so there.
-use Rattle.std.specs.Prelude.{◌<◌, ◌^◌, Bool, Some}
+use Rattle.std.specs.Prelude.{Bool}
 use Rattle.std.specs.List.{AllByRecursion}
-use Rattle.std.proofs.Common.{◌≡◌, ℕ, List, [], ◌∷◌, refl}
+use Rattle.std.proofs.Common.{ℕ, List, [], ◌∷◌}
 use Rattle.papaya_acts.specs.Acts.{Act}
 use Rattle.papaya_acts.specs.Doings.{Doing, Does, BeginsReclaiming, BeginsClearing, StepsReclaiming}
 use Rattle.papaya_deeds.specs.Deeds.{moment}
 use Rattle.papaya_played.specs.Play.{State, first_state}
 use Rattle.papaya_played.proofs.Along.{AllFit, AreOfTheirOwn, At, StaysSo, wherever}
 use Rattle.papaya_played.proofs.Noted.{Anything}
-use Rattle.papaya_agrees.specs.Agree.{Agrees, Asks, ListsAgree}
+use Rattle.papaya_agrees.specs.Agree.{Asks, ListsAgree}
 use Rattle.papaya_agrees.specs.Grants.{EachRefuses}
 use Rattle.papaya_agrees.specs.Guards.{CallsHaveGuards}
 use Rattle.papaya_agrees.specs.Shards.{AsksShards, ShardsAre}

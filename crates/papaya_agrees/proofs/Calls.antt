@@ -1,5 +1,5 @@
 -- Wherever a list has led, each call that its history has under way has the guard of its caller's slot.
-use Rattle.std.specs.Prelude.{◌+◌, not, filter, map, Bool, true, false, Option, Some, None, if◌then◌else◌}
+use Rattle.std.specs.Prelude.{◌+◌, not, filter, length, map, Bool, true, false, Option, Some, None, if◌then◌else◌}
 use Rattle.std.specs.List.{AllByRecursion}
 use Rattle.std.proofs.Common.{◌≡◌, ℕ, List, [], ◌∷◌, refl, ap, ◌∙◌}
 use Rattle.papaya_runs.specs.Same.{is_same}
@@ -48,7 +48,7 @@ module _ {K V : Type 0} where
 
   effect_same : (m : Moment K V) (f : Effect) (c : UnderWay K V) → AsIts c (call_by m f c)
   effect_same m (effect.Stored n s) c = due_same c.call c c.replacing n
-  effect_same m (effect.Removed n) c = due_same c.call c (Some n) _
+  effect_same m (effect.Removed n) c = due_same c.call c (Some n) (length m.stored + 1)
   effect_same m _ c = (refl, refl)
 
   one_effect : (caller : Option (List ℕ)) (acted : Option ℕ) (f : Effect) (m : Moment K V) → CallsHaveGuards m → CallsHaveGuards (with_effect caller acted f m)

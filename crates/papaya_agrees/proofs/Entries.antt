@@ -1,5 +1,5 @@
 -- What is so of a history, and of each entry that one step makes of it, is so wherever a list has led.
-use Rattle.std.specs.Prelude.{◌==◌, Bool, true, false, Option, Some, None, is_ok, if◌then◌else◌}
+use Rattle.std.specs.Prelude.{◌==◌, Bool, true, false, is_ok, if◌then◌else◌}
 use Rattle.std.proofs.Common.{◌≡◌, ℕ, List, [], ◌∷◌, refl, sym, subst}
 use Rattle.seize_acts.specs.Answers.{Grant}
 use Rattle.papaya_scenes.specs.Given.Seize.ReclaimAll.{reclaim_all_plan}

@@ -1,6 +1,6 @@
 -- Wherever a list has led, each entry of its history that was refused a growth has asked for it, and made nothing.
-use Rattle.std.specs.Prelude.{Bool, true, false}
-use Rattle.std.proofs.Common.{ℕ, refl}
+use Rattle.std.specs.Prelude.{true, false}
+use Rattle.std.proofs.Common.{refl}
 use Rattle.papaya_scenes.specs.Given.Teller.declared.changed.Changed.{Changed}
 use Rattle.papaya_scenes.specs.Given.Teller.declared.changed.Changed.TheVariants as changes
 use Rattle.papaya_effects.specs.Effects.{effects_of}

@@ -3,16 +3,20 @@ use Rattle.std.specs.Prelude.{Bool, true, false, Option, Some, None, option_map,
 use Rattle.std.proofs.Common.{◌≡◌, ℕ, List, [], ◌∷◌, refl, ap, sym, subst, ◌∙◌}
 use Rattle.seize_acts.specs.Acts.{row_steps}
 use Rattle.seize_acts.proofs.Answers.{same_some}
-use Rattle.papaya_scenes.specs.Given.Seize.World.{World, Row, Rests, Begins as BeginsSo, IsInside, Request, Use, with_at}
+use Rattle.papaya_scenes.specs.Given.Seize.World.{World, Row, Rests, Begins as BeginsSo, IsInside, Request, with_at}
+use Rattle.papaya_scenes.specs.Given.Seize.ReclaimAll.{reclaim_all_plan}
 use Rattle.papaya_scenes.specs.Given.Seize.declared.progress.Progress.{Progress}
 use Rattle.papaya_scenes.specs.Given.Seize.declared.progress.Progress.TheVariants as progress
 use Rattle.papaya_scenes.specs.Given.Seize.declared.rows.reclaim_all.ReclaimAll.{ReclaimAll}
 use Rattle.papaya_scenes.specs.Given.Seize.declared.rows.settle.Settled.{Settled}
 use Rattle.papaya_scenes.specs.Given.Seize.declared.rows.settle.Settled.TheVariants as settled
-use Rattle.papaya_scenes.specs.Given.Tables.Nodes.{deferred_word}
+use Rattle.papaya_scenes.specs.Given.Tables.Nodes.{deferred_word, was_left}
 use Rattle.papaya_scenes.specs.Given.Tables.declared.node.Node.{Node}
 use Rattle.papaya_scenes.specs.Given.Tables.declared.setting.Setting.{Setting}
+use Rattle.papaya_scenes.specs.Given.Resize.NewMap.{new_map_plan}
 use Rattle.papaya_scenes.specs.Given.Resize.declared.new_map.NewMap.{NewMap}
+use Rattle.papaya_scenes.specs.Given.Raw.EndMap.{end_map_plan}
+use Rattle.papaya_scenes.specs.Given.Raw.Machine.{machine_asked, machine_plan, machine_replied}
 use Rattle.papaya_scenes.specs.Given.Raw.declared.machines.end_map.EndMap.{EndMap}
 use Rattle.papaya_scenes.specs.Given.Callers.Rows.{IsUsedAlike}
 use Rattle.papaya_scenes.specs.Given.Callers.Together.{CameAbout}
@@ -21,7 +25,7 @@ use Rattle.papaya_scenes.specs.Given.Finishes.FactsEnds.{Deed as EndDeed}
 use Rattle.papaya_scenes.specs.Given.Finishes.Makings.{Beginning}
 use Rattle.papaya_scenes.proofs.Given.Callers.Together.Came.{came_reached}
 use Rattle.papaya_scenes.proofs.Given.Callers.Together.Users.{events_uses}
-use Rattle.papaya_scenes.specs.Rows.{request_of}
+use Rattle.papaya_scenes.specs.Rows.{begun_row, request_of}
 use Rattle.papaya_scenes.specs.Scene.{Scene, at_first, row_of, slot_of}
 use Rattle.papaya_scenes.specs.declared.row.SlotCall.{SlotCall}
 use Rattle.papaya_scenes.specs.declared.row.SlotRow.{SlotRow}
@@ -29,15 +33,18 @@ use Rattle.papaya_scenes.specs.declared.row.SlotRow.TheVariants as rows
 use Rattle.papaya_runs.specs.Present.{Present, nobody}
 use Rattle.papaya_schedules.specs.declared.outcome.Outcome.TheVariants as outcome
 use Rattle.papaya_acts.specs.Acts.{Act, Answer, BeginsCall, StepsCall, TellsCall, AsksCall, StopsCall, BeginsMaking, StepsMaking, BeginsEnding, StepsEnding, BeginsRow, StepsRow}
-use Rattle.papaya_acts.specs.AsSteps.{IsOwn}
+use Rattle.papaya_effects.specs.Effects.{effects_of, known_after}
+use Rattle.papaya_effects.specs.declared.acting.Acting.TheVariants as acting
+use Rattle.papaya_named.specs.Seen.{kind_of}
+use Rattle.papaya_acts.specs.AsSteps.{IsOwn, changed_of, row_changed}
 use Rattle.papaya_acts.specs.Doings.{still as goes_still}
 use Rattle.papaya_acts.specs.Leads.{EndingCame, Led, MakingCame, MayBe}
-use Rattle.papaya_deeds.specs.Deeds.{Begins, Entry, Replies, Stops, moment, there_on}
-use Rattle.papaya_played.specs.Play.{Making, Now, State, all_begun, first_state, is_over, made_on, reply_for, slot_call_of}
+use Rattle.papaya_deeds.specs.Deeds.{Begins, Entry, ReclaimsAll, Replies, Steps, Stops, moment}
+use Rattle.papaya_played.specs.Play.{Making, Now, State, all_begun, call_for, ending_deed, first_state, is_over, is_refusal, made_on, making_deed, making_outcome, outcome_of, reply_for, row_deed, row_on, row_outcome, settled_outcome, slot_call_of}
 use Rattle.papaya_played.specs.Reached.{IsOf, row_or_rests, rows_beside}
 use Rattle.papaya_played.proofs.Along.{At, StaysSo, far}
 use Rattle.papaya_played.proofs.Noted.{Anything}
-use Rattle.papaya_played.proofs.PlayedAs.{PlayedAs, ReclaimedAs, played_as, reclaimed_as}
+use Rattle.papaya_played.proofs.PlayedAs.{PlayedAs, played_as, reclaimed_as}
 use Rattle.papaya_played.proofs.Rows.{called_is}
 use Rattle.papaya_agrees.specs.Guards.{GuardsAgree, GuardsAre, UnlessReclaimed}
 use Rattle.papaya_agrees.proofs.Leads.{LeavesThere, ending_leaves, making_leaves, there_after, there_as_before}
@@ -97,48 +104,73 @@ module _ {K V S : Type 0} (same : K → K → Bool) (by_hasher : S → K → ℕ
       → Led same by_hasher batch_size roots slot_of act s told n → GuardsAgree y n.world.uses
   acts_agree (BeginsCall i m wanted) own (at, there, is) may told (standing, stands, none, e) =
       calm (ap (λ (v : Scene K V). v.world.uses) e) (ap (λ (v : State K V S). v.now.rows) is)
-      (ap (λ (v : State K V S). (moment v.history).there) is ∙ there_as_before _ x.history (λ there. refl))
+      (ap (λ (v : State K V S). (moment v.history).there) is
+      ∙ there_as_before (record { deed = Begins i (slot_of i) m (call_for wanted); outcome = outcome.Goes; effects = []; refused = false }) x.history (λ there. refl))
   acts_agree (StepsCall i m g) own (at, stands, (c, has, end, comes, is)) may told led =
+      let change = changed_of x.now.memory g (machine_plan same same (by_hasher at.1) c.machine) in
       quiet x s.world.uses here y n.world.uses (ap (λ (v : State K V S). v.now.rows) is)
       (subst (λ (v : Scene K V). (t : ℕ) → IsUsedAlike (s.world.uses t) (v.world.uses t)) (sym led.comes) led.did.slots.uses)
-      (ap (λ (v : State K V S). (moment v.history).there) is ∙ there_as_before _ x.history (λ there. refl))
+      (ap (λ (v : State K V S). (moment v.history).there) is
+      ∙ there_as_before (record {
+        deed = Steps i;
+        outcome = outcome_of (known_after (acting.Call i m) change x.known) (kind_of c.call) c.value end.1.1;
+        effects = effects_of (acting.Call i m) x.known change;
+        refused = is_refusal change;
+      }) x.history (λ there. refl))
   acts_agree (TellsCall i m reply) own (c, has, is) may told (standing, stands, u, next, here_call, machine_is, told_is, kind, e) =
       calm (ap (λ (v : Scene K V). v.world.uses) e) (ap (λ (v : State K V S). v.now.rows) is)
       (ap (λ (v : State K V S). (moment v.history).there) is
-      ∙ perhaps _ (record { deed = Replies i (reply_for aborts reply); outcome = outcome.Goes; effects = []; refused = false }) x.history (λ there. refl))
+      ∙ perhaps (is_ok (machine_replied c.machine reply).1) (record { deed = Replies i (reply_for aborts reply); outcome = outcome.Goes; effects = []; refused = false }) x.history (λ there. refl))
   acts_agree (AsksCall i m) own (c, has, is) may told (u, next, here_call, machine_is, told_is, e) =
       calm (ap (λ (v : Scene K V). v.world.uses) e) (ap (λ (v : State K V S). v.now.rows) is) (ap (λ (v : State K V S). (moment v.history).there) is)
   acts_agree (StopsCall i m) own (c, has, is) may told (u, here_call, told_is, e) =
       calm (ap (λ (v : Scene K V). v.world.uses) e) (ap (λ (v : State K V S). v.now.rows) is)
       (ap (λ (v : State K V S). (moment v.history).there) is
-      ∙ perhaps _ (record { deed = Stops i; outcome = outcome.Done; effects = []; refused = false }) x.history (λ there. refl))
+      ∙ perhaps (machine_asked c.machine).1 (record { deed = Stops i; outcome = outcome.Done; effects = []; refused = false }) x.history (λ there. refl))
   acts_agree (BeginsMaking i map hasher given places) own is may told (none, e) =
       calm (ap (λ (v : Scene K V). v.world.uses) e) (ap (λ (v : State K V S). v.now.rows) is) (ap (λ (v : State K V S). (moment v.history).there) is)
   acts_agree (StepsMaking i g) own (b, has, end, comes, is) may told (making, makes, m2, machine, progress_is, computed, told_is, did, went) =
+      let change = changed_of x.now.memory g (new_map_plan {K = K} {V = V} b.machine) in
       calm
       (uses_by did.step.w2 (making_world i making did.step.w2 machine progress_is went) (events_uses batch_size did.step.events s.world did.step.w2 did.step.users did.step.runs))
       (ap (λ (v : State K V S). v.now.rows) is ∙ made_rows i b end.1.0 end.1.1 (record x.now { memory = end.0 }))
-      (ap (λ (v : State K V S). (moment v.history).there) is ∙ there_as_before _ x.history (making_leaves b.map b.machine end.1.0))
+      (ap (λ (v : State K V S). (moment v.history).there) is
+      ∙ there_as_before (record {
+        deed = making_deed b.map b.machine end.1.0;
+        outcome = making_outcome end.1.1;
+        effects = effects_of (acting.Making b.map) x.known change;
+        refused = is_refusal change;
+      }) x.history (making_leaves b.map b.machine end.1.0))
   acts_agree (BeginsEnding i m) own (at, there, is) may told (standing, stands, none, e) =
       calm (ap (λ (v : Scene K V). v.world.uses) e) (ap (λ (v : State K V S). v.now.rows) is) (ap (λ (v : State K V S). (moment v.history).there) is)
   acts_agree (StepsEnding i g) own (f, has, end, comes, is) may told (finishing, ends, m2, machine, settled_is, computed, told_is, did, went) =
+      let change = changed_of x.now.memory g (end_map_plan {K = K} {V = V} f.machine) in
       calm (uses_by did.w2 (ending_world i finishing did.w2 did.deed machine settled_is went) did.spares.uses) (ap (λ (v : State K V S). v.now.rows) is)
-      (ap (λ (v : State K V S). (moment v.history).there) is ∙ there_as_before _ x.history (ending_leaves f end.1.1))
+      (ap (λ (v : State K V S). (moment v.history).there) is
+      ∙ there_as_before (record {
+        deed = ending_deed f end.1.1;
+        outcome = settled_outcome end.1.1;
+        effects = effects_of (acting.Ending f.map) x.known change;
+        refused = is_refusal change;
+      }) x.history (ending_leaves f end.1.1))
   acts_agree (BeginsRow i request) (called, own) (it, there, is) may told (w2, happens, maps2, as_they_were, none, e) =
       let same_call : called ≡ it = same_some called it (sym (called_is (slot_of i) called) ∙ ap slot_call_of (sym own) ∙ there) in
       let begins : BeginsSo deferred_word batch_size i (request_of (slot_of i) it) s.world w2 =
       subst (λ (c : SlotCall). BeginsSo deferred_word batch_size i (request_of (slot_of i) c) s.world w2) same_call (subst (λ (r : Request). BeginsSo deferred_word batch_size i r s.world w2) own happens.1) in
       let rests : row_or_rests (x.now.rows i) ≡ Rests = is_of.between i may.0 ∙ happens.0 in
       subst (λ (v : State K V S). GuardsAgree v n.world.uses) (sym is)
-      (subst (λ (v : Scene K V). GuardsAre (with_at x.now.rows i (Some _)) v.world.uses (moment x.history).there.guards) (sym e)
+      (subst (λ (v : Scene K V). GuardsAre (with_at x.now.rows i (Some (begun_row (slot_of i) batch_size it))) v.world.uses (moment x.history).there.guards) (sym e)
       (row_begun_so x s.world.uses here i (slot_of i) batch_size s.world w2 refl (idle i rests) it begins))
   acts_agree (StepsRow i g) own (row, has, end, comes, is) may told (w2, computed, happens, maps2, as_they_were, none, e) =
       let its : s.world.row i ≡ row_of row = sym (is_of.between i may.0) ∙ ap row_or_rests has in
       let by = rows_by i s.world g w2 row (subst (λ (r : Row). row_steps deferred_word i r g s.world ≡ Some w2) its computed) in
-      let so = row_so x s.world.uses here i s.world w2 batch_size (came_reached batch_size s.world came) refl row has its happens _ by in
+      let change = row_changed (row_of row) g x.now.memory in
+      let entry : Entry K V = record { deed = row_deed row; outcome = row_outcome end.1.1; effects = effects_of acting.Row x.known change; refused = is_refusal change } in
+      let rows2 = with_at x.now.rows i (row_on end.1.0 end.1.1) in
+      let so = row_so x s.world.uses here i s.world w2 batch_size (came_reached batch_size s.world came) refl row has its happens (row_on end.1.0 end.1.1) by in
       subst (λ (v : State K V S). GuardsAgree v n.world.uses) (sym is)
-      (subst (λ (v : Scene K V). GuardsAgree _ v.world.uses) (sym e)
-      (subst (λ (there : Present). GuardsAre (with_at x.now.rows i _) w2.uses there.guards) (sym (there_after _ (moment x.history))) so))
+      (subst (λ (v : Scene K V). GuardsAre rows2 v.world.uses (moment (entry ∷ x.history)).there.guards) (sym e)
+      (subst (λ (there : Present). GuardsAre rows2 w2.uses there.guards) (sym (there_after entry (moment x.history))) so))
 
 -- who reclaims all is over where it goes on no more
 over_is : {T : Type 0} (told : Settled T) (it : ℕ × ReclaimAll) → goes_still told it ≡ None → told ≡ settled.Done
@@ -180,9 +212,11 @@ module _ {K S : Type 0} (V : Type 0) (same : K → K → Bool) (by_hasher : S �
         (λ none.
         let it = reclaimed_as same by_hasher batch_size roots aborts x y g played in
         let done : st.end ≡ settled.Done = over_is st.end (st.caller, st.next) (sym st.goes_on ∙ none) in
-        let last = all_over it.2.0.1.0 it.2.0.1.1 (ap (λ (v : State K V S). v.now.all) (sym it.4) ∙ is_then.all ∙ ap (option_map (λ (o : ℕ × ReclaimAll). o.1)) none) in
+        let last = all_over it.2.1.0 it.2.1.1 (ap (λ (v : State K V S). v.now.all) (sym it.4) ∙ is_then.all ∙ ap (option_map (λ (o : ℕ × ReclaimAll). o.1)) none) in
+        let change = changed_of x.now.memory g (reclaim_all_plan deferred_word was_left it.0) in
+        let entry : Entry K V = record { deed = ReclaimsAll (is_over it.2.1.1); outcome = settled_outcome it.2.1.1; effects = effects_of acting.Row x.known change; refused = is_refusal change } in
         let nobody_there : (moment y.history).there ≡ nobody =
-        ap (λ (v : State K V S). (moment v.history).there) it.4 ∙ there_after _ (moment x.history) ∙ ap (λ (q : Bool). if q then nobody else (moment x.history).there) last in
+        ap (λ (v : State K V S). (moment v.history).there) it.4 ∙ there_after entry (moment x.history) ∙ ap (λ (q : Bool). if q then nobody else (moment x.history).there) last in
         subst (λ (there : Present). GuardsAre y.now.rows n.0.world.uses there.guards) (sym nobody_there)
         (record {
           each = tt;

@@ -1,7 +1,7 @@
 -- What is so of each guard of a list, and which guard is found there.
 use Rattle.std.specs.Prelude.{cond, filter, find, Some}
 use Rattle.std.specs.List.{AllByRecursion}
-use Rattle.std.proofs.Common.{◌≡◌, ℕ, Bool, true, false, List, [], ◌∷◌, ◌++◌, refl, ap, sym, subst, ◌∙◌}
+use Rattle.std.proofs.Common.{◌≡◌, Bool, true, false, List, [], ◌∷◌, ◌++◌, refl, ap, sym, subst, ◌∙◌}
 
 module _ {X : Type 0} where
   -- so it is of one more

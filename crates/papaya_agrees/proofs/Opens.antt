@@ -1,8 +1,7 @@
 -- Guards are those of open sections still, where sections go on, where one begins, and where one ends.
-use Rattle.std.specs.Prelude.{◌≢◌, ◌⊎◌, cond, not, filter, find, option_or, Option, Some, None}
-use Rattle.std.specs.List.{AllByRecursion}
-use Rattle.std.proofs.Common.{◌≡◌, ℕ, Bool, true, false, List, [], ◌∷◌, ◌++◌, inl, inr, refl, ap, sym, subst, ◌∙◌}
-use Rattle.std.proofs.lemmas.Bool.{cases_eq}
+use Rattle.std.specs.Prelude.{◌≢◌, ◌⊎◌, cond, not, filter, find, Option, Some, None}
+use Rattle.std.specs.Option.{option_or}
+use Rattle.std.proofs.Common.{◌≡◌, ℕ, Bool, true, List, [], ◌∷◌, ◌++◌, inl, inr, refl, ap, sym, subst, ◌∙◌}
 use Rattle.std.proofs.lemmas.List.Folds.{find-append}
 use Rattle.papaya_follows.proofs.Calling.{is_same_is, is_same_refl}
 use Rattle.papaya_scenes.specs.Given.Seize.World.{IsInside, Use}

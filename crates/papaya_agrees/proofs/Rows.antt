@@ -1,6 +1,6 @@
 -- How slots are in use after a step of a row, and after the beginning of one: who is within a section was so before, or the step is that by which the section begins.
-use Rattle.std.specs.Prelude.{◌≢◌, ◌⊎◌, ◌==◌, ◌+◌, Option, Some, None, if◌then◌else◌}
-use Rattle.std.proofs.Common.{◌≡◌, ℕ, Bool, true, false, [], ◌∷◌, inl, inr, refl, ap, sym, subst, ◌∙◌}
+use Rattle.std.specs.Prelude.{◌≢◌, ◌⊎◌, ◌==◌, Some, if◌then◌else◌}
+use Rattle.std.proofs.Common.{◌≡◌, ℕ, Bool, true, false, [], ◌∷◌, inl, inr, refl, sym, subst}
 use Rattle.std.proofs.lemmas.Bool.{cases_eq}
 use Rattle.seize_acts.specs.Acts.{row_steps}
 use Rattle.seize_acts.specs.Answers.{Grant, stepped, then_on}
@@ -31,7 +31,7 @@ use Rattle.papaya_scenes.proofs.Given.Callers.Together.At.{at_other, at_same}
 use Rattle.papaya_scenes.specs.Scene.{row_of}
 use Rattle.papaya_scenes.specs.declared.row.SlotRow.{SlotRow}
 use Rattle.papaya_scenes.specs.declared.row.SlotRow.TheVariants as rows
-use Rattle.papaya_deeds.specs.Deeds.{Deed, Leaves, Opens, Registers, Shuts, Tends}
+use Rattle.papaya_deeds.specs.Deeds.{Deed, Leaves, Opens, Registers}
 use Rattle.papaya_played.specs.Play.{leaves_as, registers_as, row_deed}
 
 -- Who is within a section after a deed was so, or the section began by it; and where it ends one nobody is within that.

@@ -1,5 +1,5 @@
 -- The guards of a history are the slots within sections: each by its slot's name.
-use Rattle.std.specs.Prelude.{◌≡◌, ◌⊎◌, ℕ, Bool, true, false, List, Option, Some, None}
+use Rattle.std.specs.Prelude.{◌≡◌, ◌⊎◌, ℕ, false, List, Option, Some, None}
 use Rattle.std.specs.List.{AllByRecursion}
 use Rattle.papaya_scenes.specs.Given.Seize.World.{IsInside, Use}
 use Rattle.papaya_scenes.specs.Given.Seize.declared.rows.leave.Leave.{Leave}

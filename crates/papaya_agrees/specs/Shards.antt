@@ -1,5 +1,5 @@
 -- Each map has as many shards of its count as the terms say.
-use Rattle.std.specs.Prelude.{◌≡◌, ℕ, ◌+◌, Option, Some}
+use Rattle.std.specs.Prelude.{◌≡◌, ℕ, ◌+◌, Some}
 use Rattle.papaya_scenes.specs.Given.Finishes.Makings.{Beginning}
 use Rattle.papaya_scenes.specs.Given.Finishes.Maps.{Standing}
 use Rattle.papaya_scenes.specs.Scene.{Scene}

@@ -7,7 +7,7 @@ use Rattle.papaya_schedules.specs.declared.call.Call.{Call}
 use Rattle.papaya_schedules.specs.declared.call.Reply.{Reply}
 use Rattle.papaya_schedules.specs.declared.effect.Effect.{Effect}
 use Rattle.papaya_schedules.specs.declared.outcome.Outcome.{Outcome}
-use Rattle.papaya_schedules.specs.declared.outcome.Outcome.TheVariants.{Goes, Slot}
+use Rattle.papaya_schedules.specs.declared.outcome.Outcome.TheVariants.{Goes}
 use Rattle.papaya_schedules.specs.After.{moment_by, replied, root_or, slots_on, stepped, tables_taken, unsheltered, without_call}
 use Rattle.papaya_schedules.specs.Beginning.{fresh_call}
 use Rattle.papaya_schedules.specs.Effects.{with_effects}

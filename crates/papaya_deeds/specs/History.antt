@@ -1,5 +1,5 @@
 -- What is promised of each entry of a history: linearizability, the life of pairs, tables and blocks, protection and sweeps, by what is promised of what an entry does.
-use Rattle.std.specs.Prelude.{◌≡◌, ◌⊎◌, ℕ, ◌+◌, ◌==◌, ◌&&◌, Bool, true, false, not, List, [], ◌∷◌, ◌++◌, filter, length, Option, Some, None, if◌then◌else◌}
+use Rattle.std.specs.Prelude.{◌≡◌, ◌⊎◌, ℕ, ◌+◌, ◌==◌, ◌&&◌, Bool, true, false, not, List, [], ◌∷◌, ◌++◌, filter, length, Option, Some, if◌then◌else◌}
 use Rattle.std.specs.List.{list_all, list_any}
 use Rattle.papaya_raw.specs.Given.Seize.Register.{bucket_needed}
 use Rattle.papaya_schedules.specs.declared.call.Answer.{Answer}
@@ -25,7 +25,7 @@ use Rattle.papaya_schedules.specs.Terms.{Terms}
 use Rattle.papaya_schedules.specs.Things.{is_before, same_table}
 use Rattle.papaya_schedules.specs.Transition.{Past, Transition, call_left, worked_by}
 use Rattle.papaya_schedules.specs.Views.{capacity_or, chain_of, is_in_map, is_linked, map_at, size_of, tables_of}
-use Rattle.papaya_deeds.specs.Deeds.{Deed, Entry, Ends, Leaves, Makes, MapFails, MapGoes, Opens, ReclaimsAll, Registers, Shuts, Steps, acted_on, after, at_work, caller_of, moment}
+use Rattle.papaya_deeds.specs.Deeds.{Deed, Entry, Ends, Leaves, Makes, MapFails, MapGoes, ReclaimsAll, Registers, Steps, acted_on, after, at_work, caller_of, moment}
 
 module _ {K V : Type 0} where
   -- the moments since so many entries had come, the newest first
