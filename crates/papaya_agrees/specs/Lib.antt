@@ -1,4 +1,0 @@
-pub mod Shards
-pub mod Guards
-pub mod Grants
-pub mod Agree
