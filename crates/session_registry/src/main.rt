@@ -56,38 +56,24 @@ fn moment(word: &str) -> io::Result<u64> {
         .map_err(|_| io::Error::other("a moment is a number"))
 }
 
-/// Opens a session, and prints whose it is.
-fn begin<R: Print>(rt: &R, sessions: &mut Sessions, words: (Text, Text, &str)) -> io::Result<()> {
-    let (token, owner, until) = words;
-    let said = owner.clone()?;
-    open(sessions, token, owner, moment(until)?)?;
-    println!(rt; "{said} has it")
-}
-
-/// Prints how many sessions last past a moment.
-fn outlast<R: Print>(rt: &R, sessions: &mut Sessions, now: &str) -> io::Result<()> {
-    expire(sessions, moment(now)?)?;
-    println!(rt; "{} are left", sessions.len())
-}
-
-/// Prints whose a session is.
-fn tell<R: Print>(rt: &R, sessions: &Sessions, token: &str) -> io::Result<()> {
-    match sessions.get(&token) {
-        Some(session) => println!(rt; "{token} is of {}", session.owner),
-        None => println!(rt; "{token} is nobody's"),
-    }
-}
-
 /// Does what a line says, and prints what it came to.
 fn obey<R: Print>(rt: &R, alloc: Global, sessions: &mut Sessions, line: &str) -> io::Result<()> {
     let mut words = line.split_whitespace();
     match (words.next(), words.next(), words.next(), words.next()) {
         (Some("open"), Some(token), Some(owner), Some(until)) => {
-            begin(rt, sessions, (Text::new(alloc, token)?, Text::new(alloc, owner)?, until))
+            let (key, whose) = (Text::new(alloc, token)?, Text::new(alloc, owner)?);
+            open(sessions, key, whose, moment(until)?)?;
+            println!(rt; "{owner} has {token}")
         }
         (Some("end"), Some(token), None, None) => println!(rt; "ended: {}", end(sessions, token)?),
-        (Some("expire"), Some(now), None, None) => outlast(rt, sessions, now),
-        (Some("whose"), Some(token), None, None) => tell(rt, sessions, token),
+        (Some("expire"), Some(now), None, None) => {
+            expire(sessions, moment(now)?)?;
+            println!(rt; "{} are left", sessions.len())
+        }
+        (Some("whose"), Some(token), None, None) => match sessions.get(&token) {
+            Some(session) => println!(rt; "{token} is of {}", session.owner),
+            None => println!(rt; "{token} is nobody's"),
+        },
         _ => Err(io::Error::other("open TOKEN OWNER UNTIL, end TOKEN, expire NOW, whose TOKEN")),
     }
 }
