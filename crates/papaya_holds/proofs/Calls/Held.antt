@@ -48,9 +48,6 @@ module _ {K V Q S : Type 0} (asks : Q → K → Bool) (same : K → K → Bool) 
   abbrev slot_of : ℕ → ℕ
   slot_of i = setting.slot
 
-  abbrev it : KeyCall K V Q → Option (Node K V) → OnKey K V Q S
-  it p unstored = record { call = p; hasher = b; unstored = unstored }
-
   abbrev AloneIn : World (Node K V) → Chart K → Blocks → (ℕ → Sight) → CallOnKey K V Q → Type 0
   AloneIn w c blocks sights u = IsAlone same hash asks setting slot_of w c blocks sights (OnKeyOf u)
 

@@ -39,9 +39,6 @@ module _ {K V S : Type 0} (same : K → K → Bool) (hashes : S → K → ℕ) (
   abbrev slot_of : ℕ → ℕ
   slot_of i = setting.slot
 
-  abbrev it : Sweep → OverPairs S
-  it p = record { sweep = p; hasher = b }
-
   abbrev AloneIn : World (Node K V) → Chart K → Blocks → (ℕ → Sight) → CallOverAll → Type 0
   AloneIn w c blocks sights o = IsAlone {Q = K} same hash same setting slot_of w c blocks sights (OverAll o)
 

@@ -4,7 +4,6 @@ use Rattle.std.proofs.Common.{refl, sym, ap, subst, inl, inr}
 use denote.Ref.{Bor}
 use Rattle.papaya_sifts.specs.Given.SeizeWords.Mem.{Mem}
 use Rattle.papaya_sifts.specs.Given.SeizeWords.declared.fault.Fault.{Fault}
-use Rattle.papaya_sifts.specs.Given.Seize.World.{World}
 use Rattle.papaya_sifts.specs.Given.Tables.declared.node.Node.{Node}
 use Rattle.papaya_sifts.specs.Given.Tables.declared.setting.Setting.{Setting}
 use Rattle.papaya_sifts.specs.Given.Raw.declared.machines.answer.There.TheVariants as there
@@ -14,9 +13,7 @@ use Rattle.papaya_sifts.specs.Given.Rule.Chart.{Chart}
 use Rattle.papaya_sifts.specs.Given.Rule.Words.{Blocks, root_word}
 use Rattle.papaya_sifts.specs.Given.Callers.Kind.{Kind, computes, gets, inserts, tries_to_insert, tries_to_insert_with, updates, updates_or_inserts}
 use Rattle.papaya_sifts.specs.Given.Callers.Pairs.{Given, kind_of}
-use Rattle.papaya_sifts.specs.Given.Callers.Sights.{Sight}
-use Rattle.papaya_sifts.specs.Given.Callers.Together.{CallOnKey, OnKey as OnKeyOf, IsBegun, Gets, Removes, Inserts, TriesToInsert, Computes, Updates, UpdatesOrInserts, TriesToInsertWith, RemovesIf, begun_at}
-use Rattle.papaya_sifts.specs.Given.Whole.Owner.{IsAlone}
+use Rattle.papaya_sifts.specs.Given.Callers.Together.{CallOnKey, IsBegun, Gets, Removes, Inserts, TriesToInsert, Computes, Updates, UpdatesOrInserts, TriesToInsertWith, RemovesIf, begun_at}
 use Rattle.papaya_sifts.specs.Given.Owned.Calling.{IsCalling}
 use Rattle.papaya_sifts.specs.Given.Owned.Ending.{RunsTo}
 use Rattle.papaya_sifts.specs.Given.Owned.Machines.{on_key_plan}
@@ -37,9 +34,6 @@ module _ {K V Q S : Type 0} (asks : Q → K → Bool) (same : K → K → Bool) 
 
   abbrev slot_of : ℕ → ℕ
   slot_of i = setting.slot
-
-  abbrev AloneIn : World (Node K V) → Chart K → Blocks → (ℕ → Sight) → CallOnKey K V Q → Type 0
-  AloneIn w c blocks sights u = IsAlone same hash asks setting slot_of w c blocks sights (OnKeyOf u)
 
   -- where the root leads all the while
   abbrev link : ℕ
