@@ -8,6 +8,7 @@ use Rattle.papaya_histories.specs.Given.Schedules.declared.effect.Table.{Table}
 use Rattle.papaya_histories.specs.Given.Schedules.Handing.{is_granted}
 use Rattle.papaya_histories.specs.Given.Schedules.Steps.{weight}
 use Rattle.papaya_histories.specs.Given.Effects.Effects.{pair_taken, table_taken}
+use Rattle.papaya_histories.specs.Given.Effects.Known.{Known}
 use Rattle.papaya_histories.specs.Given.Effects.declared.acting.Acting.{Acting}
 use Rattle.papaya_histories.specs.Given.Effects.declared.acting.Acting.TheVariants.{Ending}
 use Rattle.papaya_promises.specs.Weights.{AreDoneBy, OperationsAreSingle, PartsAddUp, GrantsAddUp}

@@ -6,6 +6,7 @@ use Rattle.papaya_sifts.specs.Given.SeizeWords.Mem.{Mem}
 use Rattle.papaya_sifts.specs.Given.SeizeWords.declared.fault.Fault.{Fault}
 use Rattle.papaya_sifts.specs.Given.Tables.declared.node.Node.{Node}
 use Rattle.papaya_sifts.specs.Given.Tables.declared.setting.Setting.{Setting}
+use Rattle.papaya_sifts.specs.Given.Raw.declared.machines.answer.KeyAnswer.{KeyAnswer}
 use Rattle.papaya_sifts.specs.Given.Raw.declared.machines.answer.There.TheVariants as there
 use Rattle.papaya_sifts.specs.Given.Raw.declared.machines.asking.Takes.TheVariants as takes
 use Rattle.papaya_sifts.specs.Given.Raw.declared.machines.call.KeyCall.{KeyCall}
