@@ -1,26 +1,26 @@
 -- One door of all: that of a strip which is there, or one that is null. Assumes `Logic`.
-use Rattle.std.specs.Prelude.{slice_get}
-use Rattle.std.proofs.Common.{◌≡◌, ℕ, zero, suc, ◌+◌, ◌*◌, ◌<◌, ◌≤◌, List, [], ◌∷◌, ◌++◌, length, sym, refl, arith, Some}
+use Rattle.std.specs.Prelude.{slice_get, replicate}
+use Rattle.std.proofs.Common.{◌≡◌, ℕ, zero, suc, ◌+◌, ◌*◌, ◌<◌, ◌≤◌, List, [], ◌∷◌, ◌++◌, length, sym, refl, ap, arith, Some}
 use seplogic.Ra.Ura.{Ura}
 use base.Share
-use base.Logic.{SProp, ent, sep, wand, all, apply∗, all_e}
+use base.Logic.{SProp, ent, sep, wand, ex, all, guard, apply∗, all_e}
 use base.Fml.{Share, Fml, ftrue}
 use types.Logic.{Logic, sem}
-use types.Kit.{‵, raw, ◌⊛◌, ◌$◌, ◌∵◌, !, qed, move, split, frame, each, assume, fsplit3, fjoin3, fpick, fpack, drop, use1, use2, rewrite, done}
-use denote.RawPtr.{null_ptr}
+use types.Kit.{‵, raw, ◌⊛◌, some, given, ◌$◌, ◌∵◌, !, qed, move, split, frame, each, assume, pick, learn, show, check, fsplit, fjoin, fsplit3, fjoin3, fpick, fpack, drop, use1, use2, rewrite, done}
+use denote.RawPtr.{Ptr, null_ptr}
 use denote.Steps.{nothing}
 use Rattle.core.specs.Sync.RawAtomic.Pointer.{cell}
 use Rattle.seize_seats.specs.Seen.{seen}
 use Rattle.seize_seats.specs.Strips.{Strip, strip_coded}
-use Rattle.seize_seats.specs.Doors.{IsAddress, stays, behind, door, doors}
+use Rattle.seize_seats.specs.Doors.{pointers, stays, behind, door, doors}
 use Rattle.seize_seats.proofs.Ledgers as Ledgers
 
-module _ {M : Type 1} {𝓤 : Ura M} (𝓛 : Logic 𝓤) (σ : ℕ) (right : Strip → Fml) (b : ℕ) where
+module _ {M : Type 1} {𝓤 : Ura M} (𝓛 : Logic 𝓤) (σ : ℕ) (Is : ℕ → Strip → Type 0) (right : Strip → Fml) (b : ℕ) where
   abbrev Doors : ℕ → ℕ → ℕ → List Strip → Fml
-  Doors o n k ss = doors σ right b o n k ss
+  Doors o n k ss = doors σ Is right b o n k ss
 
   abbrev Door : ℕ → ℕ → Strip → Fml
-  Door o k s = door σ right b o k s
+  Door o k s = door σ Is right b o k s
 
   abbrev Null : ℕ → Fml
   Null o = cell b o null_ptr
@@ -79,8 +79,30 @@ module _ {M : Type 1} {𝓤 : Ura M} (𝓛 : Logic 𝓤) (σ : ℕ) (right : Str
       move ! (1 ∷ 0 ∷ []) $ done !)
 
   -- what stands behind a door tells its strip to whoever looks
-  pub tells : (k : ℕ) (s : Strip) → ent 𝓤 (sem 𝓛 (behind σ right k s)) (sep 𝓤 (sem 𝓛 (behind σ right k s)) (sem 𝓛 (stays σ right k s)))
+  pub tells : (k : ℕ) (s : Strip) → ent 𝓤 (sem 𝓛 (behind σ Is right k s)) (sep 𝓤 (sem 𝓛 (behind σ Is right k s)) (sem 𝓛 (stays σ Is right k s)))
   tells k s = let Sh : Share → Fml = λ q. seen strip_coded.code σ q k s in
-      qed 𝓛 (‵ (behind σ right k s) ∷ []) ∵ fsplit3 ! $ fpick ! (λ is. drop ! $ fpick ! (λ q. let q₁ : Share = Share.left q in let q₂ : Share = Share.right q in
+      qed 𝓛 (‵ (behind σ Is right k s) ∷ []) ∵ fsplit3 ! $ fpick ! (λ is. drop ! $ fpick ! (λ q. let q₁ : Share = Share.left q in let q₂ : Share = Share.right q in
       use1 𝓛 (‵ (Sh q₁) ⊛ ‵ (Sh q₂)) ((Ledgers.view_halves 𝓛 strip_coded σ k s).cut q) $ split ! $ fpack ! Share Sh q₁ $ move ! (1 ∷ []) $ fpack ! Share Sh q₂ $
-      nothing ! $ fpack ! (IsAddress s) (λ _. ftrue) is $ move ! (0 ∷ 2 ∷ 3 ∷ []) $ fjoin3 ! $ done !))
+      nothing ! $ fpack ! (Is k s) (λ _. ftrue) is $ move ! (0 ∷ 2 ∷ 3 ∷ []) $ fjoin3 ! $ done !))
+
+  abbrev plain_item : ℕ → ℕ → types.Kit.Item 𝓤
+  plain_item o n = some (λ (ps : List Ptr). given (length ps ≡ n) (‵ (pointers b o ps)))
+
+  -- where all are null there is no strip behind them
+  pub nulls : (n o k : ℕ) → ent 𝓤 (sem 𝓛 (pointers b o (replicate n null_ptr))) (sem 𝓛 (Doors o n k []))
+  nulls zero o k = qed 𝓛 (‵ ftrue ∷ []) ∵ done !
+  nulls (suc n) o k = qed 𝓛 (‵ (Null o) ∷ ‵ (pointers b (o + 8) (replicate n null_ptr)) ∷ []) ∵ move ! (1 ∷ []) $
+      use1 𝓛 (‵ (Doors (o + 8) n (suc k) [])) (nulls n (o + 8) (suc k)) $ move ! (1 ∷ 0 ∷ []) $ fjoin ! $ done !
+
+  -- at the end they are pointers again
+  abbrev pub Plain : ℕ → ℕ → List Ptr → SProp 𝓤
+  Plain o n ps = guard 𝓤 (length ps ≡ n) (sem 𝓛 (pointers b o ps))
+
+  pub plain : (n o k : ℕ) (ss : List Strip) → ent 𝓤 (sem 𝓛 (Doors o n k ss)) (ex 𝓤 (Plain o n))
+  plain zero o k ss = qed 𝓛 (‵ ftrue ∷ []) ∵ show ! (Plain o zero) [] $ check ! refl $ done !
+  plain (suc n) o k [] = qed 𝓛 (‵ (Null o) ∷ ‵ (Doors (o + 8) n (suc k) []) ∷ []) ∵ move ! (1 ∷ []) $
+      use1 𝓛 (plain_item (o + 8) n) (plain n (o + 8) (suc k) []) $ pick ! (λ ps. learn ! (λ long.
+      show ! (Plain o (suc n)) (null_ptr ∷ ps) $ check ! (ap suc long) $ move ! (1 ∷ 0 ∷ []) $ fjoin ! $ done !))
+  plain (suc n) o k (s ∷ ss) = qed 𝓛 (‵ (Door o k s) ∷ ‵ (Doors (o + 8) n (suc k) ss) ∷ []) ∵ move ! (1 ∷ []) $
+      use1 𝓛 (plain_item (o + 8) n) (plain n (o + 8) (suc k) ss) $ pick ! (λ ps. learn ! (λ long. move ! (1 ∷ []) $ fsplit ! $ move ! (1 ∷ []) $ drop ! $
+      show ! (Plain o (suc n)) (s.words ∷ ps) $ check ! (ap suc long) $ fjoin ! $ done !))
