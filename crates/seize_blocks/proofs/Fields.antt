@@ -98,6 +98,22 @@ pair_good (block_ptr b o) null_ptr = (tt, ((tt, tt), (((Ptr-Good null_ptr).1, tt
 pair_good null_ptr (block_ptr c u) = (tt, (((Ptr-Good null_ptr).1, tt), ((tt, tt), tt)))
 pair_good null_ptr null_ptr = (tt, (((Ptr-Good null_ptr).1, tt), (((Ptr-Good null_ptr).1, tt), tt)))
 
+three_typed : (p q r : Ptr) → T (has_ty (ty_struct [] (tcons (ty_struct [] (tcons ty_ptr tnil)) (tcons (ty_struct [] (tcons ty_ptr tnil)) (tcons (ty_struct [] (tcons ty_ptr tnil)) tnil))))
+    (vstruct (vcons (one_of p) (vcons (one_of q) (vcons (one_of r) vnil)))))
+three_typed (block_ptr b o) (block_ptr c u) (block_ptr d v) = tt
+three_typed (block_ptr b o) (block_ptr c u) null_ptr = tt
+three_typed (block_ptr b o) null_ptr (block_ptr d v) = tt
+three_typed (block_ptr b o) null_ptr null_ptr = tt
+three_typed null_ptr (block_ptr c u) (block_ptr d v) = tt
+three_typed null_ptr (block_ptr c u) null_ptr = tt
+three_typed null_ptr null_ptr (block_ptr d v) = tt
+three_typed null_ptr null_ptr null_ptr = tt
+
+pub three_good : (p q r : Ptr) → T (has_ty (ty_struct [] (tcons (ty_struct [] (tcons ty_ptr tnil)) (tcons (ty_struct [] (tcons ty_ptr tnil)) (tcons (ty_struct [] (tcons ty_ptr tnil)) tnil))))
+    (vstruct (vcons (one_of p) (vcons (one_of q) (vcons (one_of r) vnil)))))
+    × WT (vstruct (vcons (one_of p) (vcons (one_of q) (vcons (one_of r) vnil))))
+three_good p q r = (three_typed p q r, ((one_good p).1, ((one_good q).1, ((one_good r).1, tt))))
+
 pub hand_good : (p : Ptr) → T (has_ty (ty_struct [] (tcons ty_ptr (tcons (ty_struct [] tnil) tnil))) (hand_of p)) × WT (hand_of p)
 hand_good (block_ptr b o) = (tt, (tt, (tt, tt)))
 hand_good null_ptr = (tt, ((Ptr-Good null_ptr).1, (tt, tt)))

@@ -8,7 +8,7 @@ ghost use Rattle.seize_seats.specs.Lendings.{Shown, ShownToBoth, IsValueOf, IsVa
 ghost use Rattle.seize_blocks.specs.Placed.{IsItsPlace, IsItsIndex};
 
 use crate::claim::Claim;
-use crate::place::Place;
+use crate::place::{Doors, Place};
 use crate::rule::{Meeting, Rule, Turn};
 use crate::seat::Seat;
 use crate::strip::Strip;
@@ -24,9 +24,10 @@ pub struct Blocks<T, R: Rule<T>> {
     pub(crate) roots: u64,
     pub(crate) count: u64,
     pub(crate) values: Place<T>,
+    pub(crate) doors: Doors,
     pub(crate) next: AtomicU64,
     ghost counted: { (words.id.roots ≡ roots) × (words.id.count ≡ count) },
-    ghost lies: { words.id.values ≡ values.at },
+    ghost lies: { (words.id.values ≡ values.at) × (words.id.doors ≡ doors.at) },
     ghost strip: { IsFirst words.words words.id × (words.id.size ≡ count) },
     ghost few: { (roots ≤ 65536) × (count ≤ 2 ^ 32) },
 }
@@ -111,7 +112,7 @@ impl<T, R: Rule<T>> Blocks<T, R> {
         requires ends { Renews (R.holds self.old.words.fixed) }
         ensures same { (self.new.words.words ≡ self.old.words.words) × (self.new.words.fixed ≡ self.old.words.fixed) }
         ensures names { (self.new.words.id.roots ≡ self.old.words.id.roots) × (self.new.words.id.count ≡ self.old.words.id.count)
-            × (self.new.words.id.values ≡ self.old.words.id.values) }
+            × (self.new.words.id.values ≡ self.old.words.id.values) × (self.new.words.id.doors ≡ self.old.words.id.doors) }
     {
         self.words.renew()
     }

@@ -1,5 +1,6 @@
 //! The words, and what one step of a seat does to them: one atomic operation on a word, or none.
 ghost use Rattle.std.specs.Prelude.{◌≡◌, ℕ, ◌+◌, ◌-◌, ◌*◌, ◌^◌, ◌<◌, ◌≤◌, Some, None, Ok, Err, length, slice_index, slice_index_or};
+ghost use denote.RawPtr.{null_ptr};
 ghost use Rattle.seize_words.specs.Op.{Load, Store, Swap, Add, Or, Exchange, Make, Take, Rewrite, Room, Found, Stored, Exchanged, Made, Taken, Roomed};
 ghost use Rattle.seize_seats.specs.State.{Allows, Owns, Turns, Comes, Meets, Renews, Starts};
 ghost use Rattle.seize_seats.specs.Lines.{whole};
@@ -38,17 +39,20 @@ impl<T, R: Rule<T>> Words<T, R> {
     pub(crate) fn open(
         row: Row<u64>,
         values: Row<Option<T>>,
+        doors: Row<*mut u64>,
         _roots: u64,
         _count: u64,
         fixed: &R::Fixed,
     ) -> (Self, Place<T>)
         requires { ((k : ℕ) → slice_index row.items k ≡ 0) × (length row.items ≡ whole _roots _count) × Starts (R.holds fixed.now) _roots
-            × ((k : ℕ) → slice_index_or values.items k None ≡ None) × (length values.items ≡ _count) }
+            × ((k : ℕ) → slice_index_or values.items k None ≡ None) × (length values.items ≡ _count)
+            × ((k : ℕ) → slice_index_or doors.items k null_ptr ≡ null_ptr) × (length doors.items ≡ 32) }
         ensures { (result.0.words ≡ row.at) × (result.0.id.roots ≡ _roots) × (result.0.id.count ≡ _count) × (result.0.id.values ≡ values.at)
-            × (result.0.id.size ≡ _count) × IsFirst row.at result.0.id × (result.0.fixed ≡ fixed.now) × (result.1.at ≡ values.at) }
+            × (result.0.id.size ≡ _count) × (result.0.id.least ≡ _count) × (result.0.id.doors ≡ doors.at) × IsFirst row.at result.0.id × (result.0.fixed ≡ fixed.now) × (result.1.at ≡ values.at) }
     {
         let Row { at } = row;
         let Row { at: places } = values;
+        let Row { at: _ } = doors;
         (
             Words {
                 words: at,
@@ -58,14 +62,18 @@ impl<T, R: Rule<T>> Words<T, R> {
         )
     }
 
-    /// The words and the values come back from under the rule.
-    pub(crate) fn close(self, values: *mut Option<T>) -> (Row<u64>, Row<Option<T>>)
-        requires { (values ≡ self.id.values) × IsFirst self.words self.id }
+    /// The words, the values and the doors come back from under the rule.
+    pub(crate) fn close(
+        self,
+        values: *mut Option<T>,
+        doors: *mut *mut u64,
+    ) -> (Row<u64>, Row<Option<T>>, Row<*mut u64>)
+        requires { (values ≡ self.id.values) × (doors ≡ self.id.doors) × IsFirst self.words self.id }
         ensures { (result.0.at ≡ self.words) × (length result.0.items ≡ whole self.id.roots self.id.size) × (result.1.at ≡ values)
-            × (length result.1.items ≡ self.id.size) }
+            × (length result.1.items ≡ self.id.size) × (result.2.at ≡ doors) × (length result.2.items ≡ 32) }
     {
         let Words { words, marker: _ } = self;
-        (Row { at: words }, Row { at: values })
+        (Row { at: words }, Row { at: values }, Row { at: doors })
     }
 
     /// A seat more.
