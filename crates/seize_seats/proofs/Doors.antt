@@ -79,7 +79,7 @@ module _ {M : Type 1} {𝓤 : Ura M} (𝓛 : Logic 𝓤) (σ : ℕ) (Is : ℕ �
       move ! (1 ∷ 0 ∷ []) $ done !)
 
   -- what stands behind a door tells its strip to whoever looks
-  pub tells : (k : ℕ) (s : Strip) → ent 𝓤 (sem 𝓛 (behind σ Is right k s)) (sep 𝓤 (sem 𝓛 (behind σ Is right k s)) (sem 𝓛 (stays σ Is right k s)))
+  pub tells : (k : ℕ) (s : Strip) → ent 𝓤 (sem 𝓛 (behind σ Is right k s)) (sep 𝓤 (sem 𝓛 (behind σ Is right k s)) (sem 𝓛 (stays σ k s)))
   tells k s = let Sh : Share → Fml = λ q. seen strip_coded.code σ q k s in
       qed 𝓛 (‵ (behind σ Is right k s) ∷ []) ∵ fsplit3 ! $ fpick ! (λ is. drop ! $ fpick ! (λ q. let q₁ : Share = Share.left q in let q₂ : Share = Share.right q in
       use1 𝓛 (‵ (Sh q₁) ⊛ ‵ (Sh q₂)) ((Ledgers.view_halves 𝓛 strip_coded σ k s).cut q) $ split ! $ fpack ! Share Sh q₁ $ move ! (1 ∷ []) $ fpack ! Share Sh q₂ $

@@ -18,6 +18,8 @@ pub mod Steps
 pub mod Opening
 pub mod Joining
 pub mod Doors
+pub mod Looks
+pub mod Offers
 pub mod Meetings
 pub mod Renewal
 pub mod Shares

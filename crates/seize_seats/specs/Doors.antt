@@ -39,14 +39,14 @@ module _ (R : RattleType) where
   abbrev pub right_to : Strip → Fml
   right_to s = chunk (block_type s.size) s.words
 
+-- the strip is the k-th of the list of this name, and stays so
+abbrev pub stays : ℕ → ℕ → Strip → Fml
+stays σ k s = fex Share (λ q. seen strip_coded.code σ q k s)
+
 -- σ: the name of the list of the strips; Is: what is so of the strip of the k-th place; right: the right to give its memory back
 module _ (σ : ℕ) (Is : ℕ → Strip → Type 0) (right : Strip → Fml) where
-  -- the strip is the k-th of the list, and stays so
-  abbrev pub stays : ℕ → Strip → Fml
-  stays k s = fex Share (λ q. seen strip_coded.code σ q k s)
-
   abbrev pub behind : ℕ → Strip → Fml
-  behind k s = fsep (fact (Is k s)) (fsep (stays k s) (right s))
+  behind k s = fsep (fact (Is k s)) (fsep (stays σ k s) (right s))
 
   -- the door of the k-th strip
   abbrev pub door : ℕ → ℕ → ℕ → Strip → Fml
