@@ -253,7 +253,7 @@ module _ {M : Type 1} {𝓤 : Ura M} (𝓛 : Logic 𝓤) (R : RattleType) {V W :
         use2 𝓛 (given (slice_get ss j ≡ Some before) (‵ (Led ss) ⊛ ‵ (Sh r))) (Ledgers.sits 𝓛 strip_coded σ no_strip ss j r before) $ learn ! (λ has. split ! $
         move ! (1 ∷ []) $ drop ! $ fjoin ! $
         -- [the list and the hands; the doors; the strips; the words; the views; the facts; one's own]
-        move ! (5 ∷ []) $ fpick ! (λ sound. drop ! $ by ! (cases t ss sound are.0 has (Looks.at_or_not (further ss) j)))))))
+        move ! (5 ∷ []) $ fpick ! (λ sound. drop ! $ by ! (cases t ss sound are.0 has (Looks.at_or_not (further ss) j))))))))
       where
         cases : (t : Inside R.Denot V W) (ss : List Strip) (sound : holds record { memory = memory_of z.roots t.parts; views = t.views; world = t.world } × AreLaid z.roots z.count t.parts)
             → AreStrips 0 ss (length t.parts.cells) → slice_get ss j ≡ Some before → ((r : Strip) × (slice_get (further ss) j ≡ Some r)) ⊎ (length (further ss) ≤ j)
