@@ -1,6 +1,6 @@
 -- Whoever looks at a door finds null, or the words of a further strip, and can tell from then on that it is one of the list. Assumes `Logic`.
 use Rattle.std.specs.Prelude.{slice_get}
-use Rattle.std.proofs.Common.{◌≡◌, ◌⊎◌, inl, inr, ℕ, zero, suc, ◌+◌, ◌*◌, ◌<◌, ◌≤◌, List, [], ◌∷◌, length, sym, refl, ap, arith, Some}
+use Rattle.std.proofs.Common.{◌≡◌, ◌⊎◌, inl, inr, ℕ, zero, suc, ◌+◌, ◌*◌, ◌^◌, ◌<◌, ◌≤◌, List, [], ◌∷◌, length, sym, refl, ap, ◌∙◌, subst, arith, Some}
 use seplogic.Ra.Ura.{Ura}
 use base.Stored.{Coded}
 use base.Logic.{SProp, ent, sep, wand, ex, upd, emp, apply∗, upd_i}
@@ -8,17 +8,17 @@ use base.Fml.{Lft, Share, Fml, ftrue, fsep, fex, flft, fbor, finv}
 use types.Logic.{Logic, sem}
 use types.Kit.{‵, raw, ◌⊛◌, some as items, ◌$◌, ◌∵◌, !, qed, by, move, drop, split, fsplit, fsplit3, fjoin, fjoin3, fpick, fpack, pick, show, frame, assume, suffices, use1, use2, rewrite, done}
 use denote.RattleType.{RattleType}
-use denote.RawPtr.{Ptr, block_ptr, null_ptr, block_of, count_of, at_block}
+use denote.RawPtr.{Ptr, InBlock, block_ptr, null_ptr, block_of, count_of, at_block}
 use denote.Steps.{nothing}
 use Rattle.core.specs.Sync.RawAtomic.Pointer.{cell, asks_ptr}
 use Rattle.core.proofs.raw_atomic.Asked.{borrowed_ptr, PtrLies}
 use Rattle.seize_seats.specs.State.{State}
-use Rattle.seize_seats.specs.Seen.{fact}
+use Rattle.seize_seats.specs.Seen.{fact, seen}
 use Rattle.seize_seats.specs.Cells.{Cell}
-use Rattle.seize_seats.specs.Strips.{Strip, further}
-use Rattle.seize_seats.specs.Doors.{IsFurther, right_to, stays, behind, door}
+use Rattle.seize_seats.specs.Strips.{Strip, strip_coded, further}
+use Rattle.seize_seats.specs.Doors.{apart, IsFurther, right_to, stays, behind, door}
 use Rattle.seize_seats.specs.Stretches.{IsEven}
-use Rattle.seize_seats.specs.Owned.{doors_of, listed, BaseId, Inside, age, core_of, book_of, lent_here, had_here, standing_in, everything, told}
+use Rattle.seize_seats.specs.Owned.{doors_of, listed, BaseId, Inside, age, core_of, book_of, strip_of, strip_told, IsPlaced, stride, lent_here, had_here, standing_in, everything, told}
 use Rattle.seize_seats.proofs.Stretches as Stretches
 use Rattle.seize_seats.proofs.Doors as Doors
 
@@ -102,6 +102,36 @@ module _ {M : Type 1} {𝓤 : Ura M} (𝓛 : Logic 𝓤) (R : RattleType) {V W :
     abbrev pub glimpse : Ptr → Fml
     glimpse null_ptr = ftrue
     glimpse (block_ptr c u) = fex Strip (shown (block_ptr c u))
+
+    -- how many numbers it has, and how many come before
+    abbrev many : ℕ
+    many = z.least * 2 ^ j
+
+    -- which words they are that lie there
+    abbrev pub at_door : Ptr → BaseId
+    at_door w =
+        record z { place = suc j; skip = 0; values = block_ptr (block_of w) (apart R many + count_of w); first = many; size = many }
+
+    is_strip : (w : Ptr) (s : Strip) → Found w s → s ≡ strip_of w (at_door w)
+    is_strip w s so = λ i. record {
+      words = so.0 i;
+      skip = so.1.2 i;
+      values = (so.1.3 ∙ (λ k. block_ptr (block_of (so.0 k)) (apart R (sized k) + count_of (so.0 k)))) i;
+      first = so.1.4 i;
+      size = sized i;
+    }
+      where
+        sized : s.size ≡ many
+        sized = so.1.5 ∙ so.1.4
+
+    pub tells_strip : InBlock z.doors → (w : Ptr) → ⟦ glimpse w ⟧ ⊢ ⟦ strip_told R w (at_door w) ⟧
+    tells_strip door null_ptr = qed 𝓛 (‵ ftrue ∷ []) ∵ done !
+    tells_strip door (block_ptr c u) = let w : Ptr = block_ptr c u in let y : BaseId = at_door w in let Sh : Strip → Share → Fml = λ s r. seen strip_coded.code z.strips_name r (suc j) s in
+        qed 𝓛 (‵ (glimpse w) ∷ []) ∵ fpick ! (λ s. fsplit ! $ fpick ! (λ so. drop ! $ fpick ! (λ r.
+        let same : s ≡ strip_of w y = is_strip w s so in let size : s.size ≡ many = so.1.5 ∙ so.1.4 in let few = so.1.6 in
+        let placed : IsPlaced R w y = (tt, subst (λ (n : ℕ). (0 + n * 5) * 8 < 2 ^ 63) size (omega (arith, few)), tt, subst (λ (n : ℕ). n * stride R < 2 ^ 63) size so.1.7, door) in
+        rewrite ! 0 (λ (s' : Strip). ‵ (Sh s' r)) same refl $ fpack ! Share (Sh (strip_of w y)) r $
+        nothing ! $ fpack ! (IsPlaced R w y) (λ _. ftrue) placed $ fjoin ! $ done !)))
 
     abbrev F : Ptr → Pr
     F = PtrLies 𝓛 α q E b e Ptr (λ r. r) (λ r. r) (λ _. ftrue) glimpse

@@ -10,7 +10,7 @@ use base.Fml.{Lft, Share, Fml, ftrue, fsep, fex, flft, flent, fbor, fshr_bor}
 use types.Keyed.{entries_from}
 use denote.RattleType.{RattleType}
 use denote.Memory.{part_at, lone}
-use denote.RawPtr.{Ptr, block_of, count_of, InBlock, coded_ptr}
+use denote.RawPtr.{Ptr, block_ptr, null_ptr, block_of, count_of, InBlock, coded_ptr}
 use Rattle.core.specs.contracts.option.Option.{the_row as OptionOf}
 use Rattle.core.specs.Sync.RawAtomic.{word}
 pub use Rattle.seize_seats.specs.Seen.{fact, itself, shared_view, seen, number_share_coded}
@@ -278,8 +278,13 @@ abbrev pub is_listed : Ptr → BaseId → Fml
 is_listed p z = fex Share (λ q. seen strip_coded.code z.strips_name q z.place (strip_of p z))
 
 -- what shows that a strip is one of a memory's
+abbrev pub strip_there : RattleType → Ptr → BaseId → Fml
+strip_there R p z = fsep (fact (IsPlaced R p z)) (is_listed p z)
+
+-- where there is an address
 abbrev pub strip_told : RattleType → Ptr → BaseId → Fml
-strip_told R p z = fsep (fact (IsPlaced R p z)) (is_listed p z)
+strip_told R null_ptr z = ftrue
+strip_told R (block_ptr b o) z = strip_there R (block_ptr b o) z
 
 abbrev pub strip_owns : RattleType → Ptr → BaseId → Fml
 strip_owns R p z = fsep (strip_told R p z) ftrue

@@ -56,7 +56,7 @@ by_spec 𝓤 𝓛 𝓜 𝓡 wired X P U F LX LP LU LF g d _ =
     let cv = R₂.coded in let holds = g.holds t.fixed in
     let t' : Row.Denot = record { words = q; marker = t.marker; id = y; fixed = t.fixed } in
     let others : Fml = fsep (flft κs.1.0 qs.1.0) (fsep (flft κs.1.1.0 qs.1.1.0) (fsep (flft κs.1.1.1.0 qs.1.1.1.0) (fsep (flft κs.1.1.1.1.0 qs.1.1.1.1.0) ftrue))) in
-    let Asked : Type 0 = core_of y ≡ core_of z in let Inv : Core → Fml = λ k. invariant IsEven (fbor (k.atom ∷ []) (everything R₀ cv.code holds k)) in
+    let Asked : Type 0 = (core_of y ≡ core_of z) × InBlock q in let Inv : Core → Fml = λ k. invariant IsEven (fbor (k.atom ∷ []) (everything R₀ cv.code holds k)) in
     let Lasts : Core → Fml = λ k. fshr_bor κ (λ u. flft (k.atom ∷ []) u) in
     let w : (walk_of 𝓛 En hs c).Ghost = ((κs, qs, bounds, a, (vptr b o ∷ [], (vptr b' o' ∷ [], tt))), gh) in
     let Post : Val → SProp 𝓤 = (walk_of 𝓛 En hs c).post w in
@@ -72,10 +72,10 @@ by_spec 𝓤 𝓛 𝓜 𝓡 wired X P U F LX LP LU LF g d _ =
     []))).coded) (words.the_heap R₀ R₁ R₂ R₃ g) (words.the_lent R₀ R₁ R₂ R₃ g) κ t b o) $
     split ! $ drop ! $ unhide ! $ fsplit ! $ move ! (1 ∷ []) $ fsplit ! $ drop ! $ fsplit ! $ drop ! $
     -- [the invariant; its lifetime lasts; the strip; the token; the others]
-    rewrite ! 0 (λ (k : Core). ‵ (Inv k)) (sym asked) refl $ rewrite ! 1 (λ (k : Core). ‵ (Lasts k)) (sym asked) refl $ move ! (2 ∷ []) $
+    rewrite ! 0 (λ (k : Core). ‵ (Inv k)) (sym asked.0) refl $ rewrite ! 1 (λ (k : Core). ‵ (Lasts k)) (sym asked.0) refl $ move ! (2 ∷ []) $
     use1 𝓛 (‵ (hidden_shr Ds κ (q, (tt, tt)) b' o') ⊛ ‵ (fhide (strip_told R₀ q y)))
     (lent_out 𝓛 (strip.struct R₀) (strip.the_codes X.Denot R₀.coded (marker.the_row R₀).coded) (strip.the_heap R₀) (strip.the_lent R₀) κ s b' o') $
-    split ! $ move ! (1 ∷ []) $ unhide ! $ fsplit ! $
+    split ! $ move ! (1 ∷ []) $ unhide ! $ rewrite ! 0 (λ (f : Fml). ‵ f) (told_there R₀ q y asked.1) refl $ fsplit ! $
     -- [it is placed; it is listed; the address; the invariant; its lifetime lasts; the token; the others]
     move ! (1 ∷ 3 ∷ []) $ fjoin ! $ move ! (1 ∷ 0 ∷ []) $ fjoin ! $ move ! (2 ∷ 0 ∷ []) $ fjoin ! $
     -- [what words share; the address; the token; the others]
