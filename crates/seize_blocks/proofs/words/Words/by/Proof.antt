@@ -1,5 +1,5 @@
 -- `by` takes the address of a strip for that of words: what lasts is told by the words, and where they lie by the strip.
-use Rattle.std.proofs.Common.{◌≡◌, ℕ, List, [], ◌∷◌, sym, refl}
+use Rattle.std.proofs.Common.{◌≡◌, ℕ, List, [], ◌∷◌, sym, refl, ap}
 use mir.Syntax.{dcons, dnil, a_type, named}
 use mir.MapTy.{inst_fn}
 use mir.Val.{Val, vptr}
@@ -87,8 +87,8 @@ by_spec 𝓤 𝓛 𝓜 𝓡 wired X P U F LX LP LU LF g d _ =
     sets_last ! (addr ! (through ! refl (stop !))) refl (tt, tt) $ exec ! 𝓣.C 𝓣.Λ Ev (tail fn.body) (at_ret Ev Post) $
     sets ! (of_opd ! (get ! refl)) refl (tt, tt) $
     move ! (1 ∷ 2 ∷ []) $ join ! $ move ! (1 ∷ []) $ feq_i ! (List Val) (vptr b' o' ∷ []) (vptr b' o' ∷ []) refl $ fjoin ! $
-    let Told : Type 0 = (q ≡ q) × (y ≡ y) × (t.fixed ≡ t.fixed) in
-    use0 𝓛 (raw (fact 𝓤 Told)) (fact_i 𝓤 Told (emp 𝓤) (refl, refl, refl)) $
+    let Told : Type 0 = (q ≡ q) × (y ≡ y) × (t.fixed ≡ t.fixed) × (y.views_name ≡ z.views_name) × (y.hands_name ≡ z.hands_name) in
+    use0 𝓛 (raw (fact 𝓤 Told)) (fact_i 𝓤 Told (emp 𝓤) (refl, refl, refl, ap (λ (k : Core). k.views_name) asked, ap (λ (k : Core). k.hands_name) asked)) $
     nothing ! $ nothing ! $ fjoin ! $ nothing ! $ fjoin ! $
     returns ! (look_at ! 0 refl) $ free_all ! refl $ keep ! (3 ∷ 0 ∷ 2 ∷ 1 ∷ []) $
     by ! (leaves 𝓛 En hs c w (vptr b' o') (record { ref_ptr = (b', o'); now = t' }) (tt, (tt, tt)) (tt, (tt, tt))))))
