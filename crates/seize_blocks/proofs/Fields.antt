@@ -14,7 +14,10 @@ use denote.RawPtr.{Ptr, block_ptr, null_ptr, ptr_val}
 use denote.Laws.{Is}
 use denote.Opens.{Opens}
 use denote.Copied.{Struct-Copied}
-use denote.Struct.Laws.{RawPtr-copy, field_copy}
+use denote.Param.Laws.{Laws, of_field}
+use denote.Param.Shared.{copy_shared}
+use denote.Struct.Field.{u64-field}
+use denote.Struct.Laws.{RawPtr-copy, field_copy, u64-laws, u64-copy}
 use denote.Struct.Struct.{Struct, within}
 use denote.Struct.Owning.{shape}
 use denote.Struct.Tuple.{Tuple}
@@ -27,6 +30,9 @@ use Rattle.seize_blocks.specs.contracts.row.Row as row
 use Rattle.seize_blocks.specs.contracts.claim.Claim as claim
 use Rattle.seize_blocks.specs.contracts.strip.Strip as strip
 use Rattle.seize_blocks.specs.contracts.place.Place as place
+
+pub word_laws : Laws u64
+word_laws = of_field u64-field u64-laws refl (copy_shared u64-field u64-copy)
 
 -- an address and no more
 abbrev pub hand_of : Ptr → Val

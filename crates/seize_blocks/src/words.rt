@@ -1,9 +1,10 @@
 //! The words, and what one step of a seat does to them: one atomic operation on a word, or none.
 ghost use Rattle.std.specs.Prelude.{◌≡◌, ℕ, ◌+◌, ◌-◌, ◌*◌, ◌^◌, ◌<◌, ◌≤◌, Some, None, Ok, Err, length, slice_index, slice_index_or};
-ghost use denote.RawPtr.{null_ptr};
+ghost use denote.RawPtr.{InBlock, Testable, block_ptr, null_ptr, block_of, count_of};
 ghost use Rattle.seize_words.specs.Op.{Load, Store, Swap, Add, Or, Exchange, Make, Take, Rewrite, Room, Found, Stored, Exchanged, Made, Taken, Roomed};
 ghost use Rattle.seize_seats.specs.State.{Allows, Owns, Turns, Comes, Meets, Renews, Starts};
 ghost use Rattle.seize_seats.specs.Lines.{whole};
+ghost use Rattle.seize_seats.specs.Doors.{apart};
 ghost use Rattle.seize_seats.specs.Steps.{roomed};
 ghost use Rattle.seize_seats.specs.Lendings.{ShownToBoth, IsValueOfBoth};
 ghost use Rattle.seize_seats.specs.Owned.{BaseId, base_id_coded, core_of, IsFirst, IsLike, words_own, words_share};
@@ -109,7 +110,7 @@ impl<T, R: Rule<T>> Words<T, R> {
 
     /// The strip by which these words are had.
     pub(crate) fn strip(&self) -> Strip<T>
-        ensures { (result.words ≡ self.now.words) × (result.id ≡ self.now.id) }
+        ensures { (result.words ≡ self.now.words) × (result.id ≡ self.now.id) × InBlock result.words }
     {
         Strip {
             words: self.words,
@@ -117,9 +118,23 @@ impl<T, R: Rule<T>> Words<T, R> {
         }
     }
 
+    /// The strip behind a door, or no address where the door is null.
+    pub(crate) fn look(&self, doors: *mut *mut u64, index: u64) -> Strip<T>
+        requires { (doors ≡ self.now.id.doors) × (index < 32) }
+        ensures { (core_of result.id ≡ core_of self.now.id) × (result.id.skip ≡ 0)
+            × (result.id.values ≡ block_ptr (block_of result.words) (apart T.row result.id.size + count_of result.words))
+            × (result.id.first ≡ self.now.id.least * 2 ^ index) × (result.id.size ≡ result.id.first) }
+    {
+        let words = unsafe { raw::ptr::load::<u64, Brand>(doors.add(index as usize), SeqCst) };
+        Strip {
+            words,
+            marker: PhantomData,
+        }
+    }
+
     /// The words of a strip of the same memory, for as long as both are borrowed.
     pub(crate) fn by<'g>(&'g self, strip: &'g Strip<T>) -> &'g Words<T, R>
-        requires { core_of strip.now.id ≡ core_of self.now.id }
+        requires { (core_of strip.now.id ≡ core_of self.now.id) × InBlock strip.now.words }
         ensures { (result.now.words ≡ strip.now.words) × (result.now.id ≡ strip.now.id) × (result.now.fixed ≡ self.now.fixed)
             × (strip.now.id.views_name ≡ self.now.id.views_name) × (strip.now.id.hands_name ≡ self.now.id.hands_name) }
     {
@@ -224,7 +239,7 @@ impl<T, R: Rule<T>> Words<T, R> {
         index: u64,
         values: *mut Option<T>,
     ) -> &'g Option<T>
-        requires { (core_of strip.now.id ≡ core_of self.now.id)
+        requires { (core_of strip.now.id ≡ core_of self.now.id) × InBlock strip.now.words
             × (guard.now.base ≡ self.now.id.views_name) × (owner.now.base ≡ self.now.id.views_name)
             × IsItsIndex strip.now.id _block index × (values ≡ strip.now.id.values)
             × ShownToBoth (R.holds self.now.fixed) guard.now.id guard.now.view owner.now.id owner.now.view _block }

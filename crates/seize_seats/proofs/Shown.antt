@@ -1,5 +1,5 @@
 -- What a `&` to the words shows: the invariant, and that the words are lent on. Assumes `Logic`.
-use Rattle.std.proofs.Common.{ℕ, [], ◌∷◌}
+use Rattle.std.proofs.Common.{◌≡◌, ℕ, [], ◌∷◌, refl}
 use seplogic.Ra.Ura.{Ura}
 use base.Fraction.{full_share}
 use base.Stored.{Coded}
@@ -9,7 +9,7 @@ use types.Logic.{Logic, sem}
 use types.Kit.{‵, ◌⊛◌, ◌$◌, ◌∵◌, !, qed, move, drop, split, fsplit, fjoin, fpick, fpack, check, use1, done}
 use base.Logic.{guard}
 use denote.RattleType.{RattleType}
-use denote.RawPtr.{Ptr}
+use denote.RawPtr.{Ptr, block_ptr, null_ptr, InBlock}
 use denote.Sharing.{ShrLaws, one, said, beside}
 use denote.SharingLaws.{beside_shr_laws, one_shr_laws}
 use denote.Steps.{nothing}

@@ -13,7 +13,7 @@ use contract.Monad.{fact, fact_i}
 use denote.Exit.{yes}
 use denote.RattleType.{RattleType, owns}
 use denote.Signature.{types_at, plain}
-use denote.RawPtr.{Ptr}
+use denote.RawPtr.{Ptr, InBlock}
 use denote.Ref.{shr_vals, shr_Tells}
 use denote.Steps.{nothing, heard}
 use denote.Opens.{unhide}
@@ -30,6 +30,7 @@ use Rattle.std.specs.contracts.marker.PhantomData as marker
 use Rattle.std.proofs.raw_atomic.Walks.{proved, leaves}
 use Rattle.seize_seats.specs.Stretches.{IsEven, invariant}
 use Rattle.seize_seats.specs.Owned.{Core, BaseId, core_of, age, everything, strip_told, words_share}
+use Rattle.seize_seats.proofs.Shown.{told_there}
 use Rattle.seize_blocks.specs.contracts.words.Words as words
 use Rattle.seize_blocks.specs.contracts.strip.Strip as strip
 use Rattle.seize_blocks.proofs.Fields.{Data}
@@ -88,7 +89,7 @@ by_spec 𝓤 𝓛 𝓜 𝓡 wired X P U F LX LP LU LF g d _ =
     sets ! (of_opd ! (get ! refl)) refl (tt, tt) $
     move ! (1 ∷ 2 ∷ []) $ join ! $ move ! (1 ∷ []) $ feq_i ! (List Val) (vptr b' o' ∷ []) (vptr b' o' ∷ []) refl $ fjoin ! $
     let Told : Type 0 = (q ≡ q) × (y ≡ y) × (t.fixed ≡ t.fixed) × (y.views_name ≡ z.views_name) × (y.hands_name ≡ z.hands_name) in
-    use0 𝓛 (raw (fact 𝓤 Told)) (fact_i 𝓤 Told (emp 𝓤) (refl, refl, refl, ap (λ (k : Core). k.views_name) asked, ap (λ (k : Core). k.hands_name) asked)) $
+    use0 𝓛 (raw (fact 𝓤 Told)) (fact_i 𝓤 Told (emp 𝓤) (refl, refl, refl, ap (λ (k : Core). k.views_name) asked.0, ap (λ (k : Core). k.hands_name) asked.0)) $
     nothing ! $ nothing ! $ fjoin ! $ nothing ! $ fjoin ! $
     returns ! (look_at ! 0 refl) $ free_all ! refl $ keep ! (3 ∷ 0 ∷ 2 ∷ 1 ∷ []) $
     by ! (leaves 𝓛 En hs c w (vptr b' o') (record { ref_ptr = (b', o'); now = t' }) (tt, (tt, tt)) (tt, (tt, tt))))))
