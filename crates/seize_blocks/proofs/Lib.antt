@@ -2,3 +2,4 @@ pub mod Fields
 pub mod Exchanged
 pub mod Placing
 pub mod Values
+pub mod By

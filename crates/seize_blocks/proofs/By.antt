@@ -1,0 +1,36 @@
+-- What is asked of the words of a strip is what is known of the strip.
+use Rattle.std.proofs.Common.{◌≡◌, ℕ, refl, sym, ◌∙◌, subst, ◌*◌, ◌+◌, ◌<◌, ◌^◌}
+use denote.RawPtr.{Ptr}
+use Rattle.seize_words.specs.Op.{Op, Out, Take, Rewrite}
+use Rattle.seize_words.specs.declared.at.At.{At}
+use Rattle.seize_seats.specs.State.{State, Allows, Owns}
+use Rattle.seize_seats.specs.Owned.{BaseId}
+use Rattle.seize_blocks.specs.Placed.{IsItsPlace, IsItsIndex}
+
+module _ {T V W F : Type 0} (holds : F → State T V W → Type 0) (keeps : V → V → W → ℕ → Type 0) where
+  -- what `by` ensures
+  abbrev Same : Ptr → Ptr → BaseId → BaseId → BaseId → F → F → Type 0
+  Same p q y z x f h = (p ≡ q) × (y ≡ z) × (f ≡ h) × (z.views_name ≡ x.views_name) × (z.hands_name ≡ x.hands_name)
+
+  pub on_word : (base id place : ℕ) (v : V) (at : At) (op : Op T) (so : Out T → V → Type 0) (p q : Ptr) (y z x : BaseId) (f h : F) → Same p q y z x f h
+      → base ≡ x.views_name → IsItsPlace q z at place → Allows (holds h) keeps id v op so
+      → (base ≡ y.views_name) × IsItsPlace p y at place × Allows (holds f) keeps id v op so
+  on_word base id place v at op so p q y z x f h e own lies may =
+      subst (λ (u : Ptr × BaseId × F). (base ≡ u.1.views_name) × IsItsPlace u.0 u.1 at place × Allows (holds u.2) keeps id v op so)
+      (λ i. (sym e.0 i, sym e.1 i, sym e.2 i)) (own ∙ sym e.3, lies, may)
+
+  pub on_take : (base id block index first : ℕ) (v : V) (at p q : Ptr) (y z x : BaseId) (f h : F) (so : Out T → V → Type 0) → Same p q y z x f h → base ≡ x.views_name
+      → IsItsIndex z block index → at ≡ z.values → first ≡ index * 5 + z.skip → first + 4 < 2 ^ 60 → Allows (holds h) keeps id v (Take block) so
+      → (base ≡ y.views_name) × IsItsIndex y block index × (at ≡ y.values) × (first ≡ index * 5 + y.skip) × (first + 1 ≡ first + 1) × (first + 2 ≡ first + 2)
+      × (first + 3 ≡ first + 3) × (first + 4 ≡ first + 4) × (first + 4 < 2 ^ 60) × Allows (holds f) keeps id v (Take block) so
+  on_take base id block index first v at p q y z x f h so e own lies values is few may =
+      subst (λ (u : BaseId × F). (base ≡ u.0.views_name) × IsItsIndex u.0 block index × (at ≡ u.0.values) × (first ≡ index * 5 + u.0.skip) × (first + 1 ≡ first + 1)
+      × (first + 2 ≡ first + 2) × (first + 3 ≡ first + 3) × (first + 4 ≡ first + 4) × (first + 4 < 2 ^ 60) × Allows (holds u.1) keeps id v (Take block) so)
+      (λ i. (sym e.1 i, sym e.2 i)) (own ∙ sym e.3, lies, values, is, refl, refl, refl, refl, few, may)
+
+  pub on_rewrite : (base id block index : ℕ) (v : V) (value : T) (at p q : Ptr) (y z x : BaseId) (f h : F) (so : Out T → V → Type 0) → Same p q y z x f h
+      → base ≡ x.views_name → IsItsIndex z block index → at ≡ z.values → Owns (holds h) keeps id v block → Allows (holds h) keeps id v (Rewrite block value) so
+      → (base ≡ y.views_name) × IsItsIndex y block index × (at ≡ y.values) × Owns (holds f) keeps id v block × Allows (holds f) keeps id v (Rewrite block value) so
+  on_rewrite base id block index v value at p q y z x f h so e own lies values alone may =
+      subst (λ (u : BaseId × F). (base ≡ u.0.views_name) × IsItsIndex u.0 block index × (at ≡ u.0.values) × Owns (holds u.1) keeps id v block
+      × Allows (holds u.1) keeps id v (Rewrite block value) so) (λ i. (sym e.1 i, sym e.2 i)) (own ∙ sym e.3, lies, values, alone, may)

@@ -1,0 +1,8 @@
+use Rattle.seize_words.specs.Op.{Add}
+use Rattle.seize_blocks.proofs.By.{on_word}
+use Rattle.seize_blocks.proofs.blocks.Blocks.add.Goals as goal
+
+pub add-requires : goal.add-requires
+add-requires g c =
+    on_word g.R.Rule.holds g.R.Rule.keeps c.args.seat.now.base c.args.seat.now.id c.place_of-strip.result.1 c.args.seat.now.view c.args.at (Add c.args.at c.args.by)
+    (g.R.Rule.then c.args.seat.now.view (Add c.args.at c.args.by)) _ _ _ _ _ _ _ c.by.ensures c.requires.own c.place_of-strip.ensures.1 c.requires.may
