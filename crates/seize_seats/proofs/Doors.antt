@@ -79,10 +79,10 @@ module _ {M : Type 1} {𝓤 : Ura M} (𝓛 : Logic 𝓤) (σ : ℕ) (Is : ℕ �
       move ! (1 ∷ 0 ∷ []) $ done !)
 
   -- what stands behind a door tells its strip to whoever looks
-  pub tells : (k : ℕ) (s : Strip) → ent 𝓤 (sem 𝓛 (behind σ Is right k s)) (sep 𝓤 (sem 𝓛 (behind σ Is right k s)) (sem 𝓛 (stays σ k s)))
-  tells k s = let Sh : Share → Fml = λ q. seen strip_coded.code σ q k s in
+  pub tells : (k : ℕ) (s : Strip) → ent 𝓤 (sem 𝓛 (behind σ Is right k s)) (sep 𝓤 (sem 𝓛 (behind σ Is right k s)) (sem 𝓛 (stays σ (suc k) s)))
+  tells k s = let Sh : Share → Fml = λ q. seen strip_coded.code σ q (suc k) s in
       qed 𝓛 (‵ (behind σ Is right k s) ∷ []) ∵ fsplit3 ! $ fpick ! (λ is. drop ! $ fpick ! (λ q. let q₁ : Share = Share.left q in let q₂ : Share = Share.right q in
-      use1 𝓛 (‵ (Sh q₁) ⊛ ‵ (Sh q₂)) ((Ledgers.view_halves 𝓛 strip_coded σ k s).cut q) $ split ! $ fpack ! Share Sh q₁ $ move ! (1 ∷ []) $ fpack ! Share Sh q₂ $
+      use1 𝓛 (‵ (Sh q₁) ⊛ ‵ (Sh q₂)) ((Ledgers.view_halves 𝓛 strip_coded σ (suc k) s).cut q) $ split ! $ fpack ! Share Sh q₁ $ move ! (1 ∷ []) $ fpack ! Share Sh q₂ $
       nothing ! $ fpack ! (Is k s) (λ _. ftrue) is $ move ! (0 ∷ 2 ∷ 3 ∷ []) $ fjoin3 ! $ done !))
 
   abbrev plain_item : ℕ → ℕ → types.Kit.Item 𝓤
@@ -106,3 +106,18 @@ module _ {M : Type 1} {𝓤 : Ura M} (𝓛 : Logic 𝓤) (σ : ℕ) (Is : ℕ �
   plain (suc n) o k (s ∷ ss) = qed 𝓛 (‵ (Door o k s) ∷ ‵ (Doors (o + 8) n (suc k) ss) ∷ []) ∵ move ! (1 ∷ []) $
       use1 𝓛 (plain_item (o + 8) n) (plain n (o + 8) (suc k) ss) $ pick ! (λ ps. learn ! (λ long. move ! (1 ∷ []) $ fsplit ! $ move ! (1 ∷ []) $ drop ! $
       show ! (Plain o (suc n)) (s.words ∷ ps) $ check ! (ap suc long) $ fjoin ! $ done !))
+
+  -- what is so of all strips behind them
+  abbrev pub AllAre : ℕ → List Strip → Type 0
+  AllAre k [] = Unit {0}
+  AllAre k (s ∷ ss) = Is k s × AllAre (suc k) ss
+
+  pub all_are : (ss : List Strip) (o n k : ℕ) → length ss ≤ n → ent 𝓤 (sem 𝓛 (Doors o n k ss)) (guard 𝓤 (AllAre k ss) (sem 𝓛 (Doors o n k ss)))
+  all_are [] o n k le = qed 𝓛 (‵ (Doors o n k []) ∷ []) ∵ check ! tt $ done !
+  all_are (s ∷ ss) o zero k le = absurd (omega (arith, le))
+  all_are (s ∷ ss) o (suc n) k le = let B : Fml = fsep (stays σ (suc k) s) (right s) in
+      qed 𝓛 (‵ (Door o k s) ∷ ‵ (Doors (o + 8) n (suc k) ss) ∷ []) ∵ move ! (1 ∷ []) $
+      use1 𝓛 (given (AllAre (suc k) ss) (‵ (Doors (o + 8) n (suc k) ss))) (all_are ss (o + 8) n (suc k) (omega (arith, le))) $ learn ! (λ rest.
+      move ! (1 ∷ []) $ fsplit3 ! $ move ! (1 ∷ []) $ fpick ! (λ is. drop ! $
+      -- [the cell; it stays, and the right; the others]
+      move ! (1 ∷ []) $ nothing ! $ fpack ! (Is k s) (λ _. ftrue) is $ fjoin ! $ move ! (1 ∷ 0 ∷ []) $ fjoin ! $ check ! (is, rest) $ done !))

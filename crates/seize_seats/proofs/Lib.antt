@@ -20,6 +20,7 @@ pub mod Joining
 pub mod Doors
 pub mod Looks
 pub mod Offers
+pub mod Finds
 pub mod Meetings
 pub mod Renewal
 pub mod Shares

@@ -93,7 +93,7 @@ module _ {M : Type 1} {𝓤 : Ura M} (𝓛 : Logic 𝓤) (R : RattleType) {V W :
   -- one door
   module _ (q : Share) (j e : ℕ) (few : j < 32) (at : e ≡ j * 8 + o) where
     abbrev pub Found : Ptr → Strip → Type 0
-    Found r s = (s.words ≡ r) × Is (suc j) s
+    Found r s = (s.words ≡ r) × Is j s
 
     abbrev pub shown : Ptr → Strip → Fml
     shown r s = fsep (fact (Found r s)) (stays z.strips_name (suc j) s)
@@ -137,20 +137,20 @@ module _ {M : Type 1} {𝓤 : Ura M} (𝓛 : Logic 𝓤) (R : RattleType) {V W :
     F = PtrLies 𝓛 α q E b e Ptr (λ r. r) (λ r. r) (λ _. ftrue) glimpse
 
     abbrev Beh : Strip → Fml
-    Beh s = behind z.strips_name Is (right_to R) (suc j) s
+    Beh s = behind z.strips_name Is (right_to R) j s
 
     abbrev Dr : Strip → Fml
-    Dr s = door z.strips_name Is (right_to R) b e (suc j) s
+    Dr s = door z.strips_name Is (right_to R) b e j s
 
     there : (ss : List Strip) (s : Strip) → slice_get (further ss) j ≡ Some s → Apart ss ⊢ ex 𝓤 F
     there ss s has = let B : Pr = wand 𝓤 ⟦ Dr s ⟧ ⟦ Drs ss ⟧ in let St : Fml = stays z.strips_name (suc j) s in
         qed 𝓛 (‵ (Drs ss) ∷ raw (Rest ss) ∷ []) ∵
-        use1 𝓛 (‵ (Dr s) ⊛ raw B) (Doors.door_at 𝓛 z.strips_name Is (right_to R) b (further ss) o 32 1 j e (suc j) s at refl few has) $ split ! $ fsplit ! $
-        move ! (1 ∷ []) $ use1 𝓛 (‵ (Beh s) ⊛ ‵ St) (Doors.tells 𝓛 z.strips_name Is (right_to R) b (suc j) s) $ split ! $ fsplit ! $ fpick ! (λ is. drop ! $
+        use1 𝓛 (‵ (Dr s) ⊛ raw B) (Doors.door_at 𝓛 z.strips_name Is (right_to R) b (further ss) o 32 0 j e j s at (omega arith) few has) $ split ! $ fsplit ! $
+        move ! (1 ∷ []) $ use1 𝓛 (‵ (Beh s) ⊛ ‵ St) (Doors.tells 𝓛 z.strips_name Is (right_to R) b j s) $ split ! $ fsplit ! $ fpick ! (λ is. drop ! $
         let c : ℕ = block_of s.words in let u : ℕ = count_of s.words in let w : Ptr = block_ptr c u in let here : s.words ≡ w = at_block s.words is.0 in
         let Z : Pr = ⟦ E ⟧ ∗ ⟦ glimpse w ⟧ in
         -- [it stays, and the right; it stays; the cell; the other doors; the rest]
-        nothing ! $ fpack ! (Is (suc j) s) (λ _. ftrue) is $ move ! (0 ∷ 1 ∷ []) $ fjoin ! $ move ! (2 ∷ []) $
+        nothing ! $ fpack ! (Is j s) (λ _. ftrue) is $ move ! (0 ∷ 1 ∷ []) $ fjoin ! $ move ! (2 ∷ []) $
         -- [the cell; what is behind; it stays; the other doors; the rest]
         rewrite ! 0 (λ (r : Ptr). ‵ (cell b e r)) here refl $ show ! F w $ frame ! $ nothing ! $ frame ! $ assume ! (‵ (cell b e w)) $
         rewrite ! 0 (λ (r : Ptr). ‵ (cell b e r)) (sym here) refl $ fjoin ! $ move ! (0 ∷ 2 ∷ []) $ use2 𝓛 (‵ (Drs ss)) (apply∗ 𝓤 ⟦ Dr s ⟧ ⟦ Drs ss ⟧) $
@@ -160,7 +160,7 @@ module _ {M : Type 1} {𝓤 : Ura M} (𝓛 : Logic 𝓤) (R : RattleType) {V W :
     none : (ss : List Strip) → length (further ss) ≤ j → Apart ss ⊢ ex 𝓤 F
     none ss no = let N : Fml = cell b e null_ptr in let B : Pr = wand 𝓤 ⟦ N ⟧ ⟦ Drs ss ⟧ in let Z : Pr = ⟦ E ⟧ ∗ ⟦ glimpse null_ptr ⟧ in
         qed 𝓛 (‵ (Drs ss) ∷ raw (Rest ss) ∷ []) ∵
-        use1 𝓛 (‵ N ⊛ raw B) (Doors.door_null 𝓛 z.strips_name Is (right_to R) b (further ss) o 32 1 j e at few no) $ split ! $
+        use1 𝓛 (‵ N ⊛ raw B) (Doors.door_null 𝓛 z.strips_name Is (right_to R) b (further ss) o 32 0 j e at few no) $ split ! $
         show ! F null_ptr $ frame ! $ nothing ! $ frame ! $ assume ! (‵ N) $ use2 𝓛 (‵ (Drs ss)) (apply∗ 𝓤 ⟦ N ⟧ ⟦ Drs ss ⟧) $
         use2 𝓛 (‵ E) (apply∗ 𝓤 ⟦ Drs ss ⟧ ⟦ E ⟧) $ suffices ! _ (upd_i 𝓤 Z) $ nothing ! $ move ! (1 ∷ 0 ∷ []) $ done !
 

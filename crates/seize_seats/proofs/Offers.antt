@@ -115,7 +115,7 @@ module _ {M : Type 1} {𝓤 : Ura M} (𝓛 : Logic 𝓤) (R : RattleType) {V W :
   All ss cs = strips R α z.hands_name Lt Hd ss cs
 
   -- A strip s is offered at the j-th door. The one before it is there, and its numbers end where those of s begin.
-  module _ (q : Share) (j e : ℕ) (few : j < 32) (at : e ≡ j * 8 + o) (s : Strip) (is : Is (suc j) s) (before : Strip)
+  module _ (q : Share) (j e : ℕ) (few : j < 32) (at : e ≡ j * 8 + o) (s : Strip) (is : Is j s) (before : Strip)
       (follows : before.first + before.size ≡ s.first) (room : s.first + s.size ≤ z.count) where
     abbrev Fives : Fml
     Fives = row (block_of s.words) (s.skip * 8 + count_of s.words) (fives s.size)
@@ -143,22 +143,22 @@ module _ {M : Type 1} {𝓤 : Ura M} (𝓛 : Logic 𝓤) (R : RattleType) {V W :
     F = Compared 𝓛 α q E b e null_ptr s.words won lost
 
     abbrev Beh : Strip → Fml
-    Beh r = behind σ Is (right_to R) (suc j) r
+    Beh r = behind σ Is (right_to R) j r
 
     abbrev Dr : Strip → Fml
-    Dr r = door σ Is (right_to R) b e (suc j) r
+    Dr r = door σ Is (right_to R) b e j r
 
     -- it was set before
     misses : (ss : List Strip) (r : Strip) → slice_get (further ss) j ≡ Some r
         → ⟦ Drs (further ss) ⟧ ∗ wand 𝓤 ⟦ Drs (further ss) ⟧ ⟦ E ⟧ ∗ ⟦ Own ⟧ ⊢ ex 𝓤 F
     misses ss r has = let Ds : Fml = Drs (further ss) in let B : Pr = wand 𝓤 ⟦ Dr r ⟧ ⟦ Ds ⟧ in let St : Fml = stays σ (suc j) r in
         qed 𝓛 (‵ Ds ∷ raw (wand 𝓤 ⟦ Ds ⟧ ⟦ E ⟧) ∷ ‵ Own ∷ []) ∵
-        use1 𝓛 (‵ (Dr r) ⊛ raw B) (Doors.door_at 𝓛 σ Is (right_to R) b (further ss) o 32 1 j e (suc j) r at refl few has) $ split ! $ fsplit ! $
-        move ! (1 ∷ []) $ use1 𝓛 (‵ (Beh r) ⊛ ‵ St) (Doors.tells 𝓛 σ Is (right_to R) b (suc j) r) $ split ! $ fsplit ! $ fpick ! (λ so. drop ! $
+        use1 𝓛 (‵ (Dr r) ⊛ raw B) (Doors.door_at 𝓛 σ Is (right_to R) b (further ss) o 32 0 j e j r at (omega arith) few has) $ split ! $ fsplit ! $
+        move ! (1 ∷ []) $ use1 𝓛 (‵ (Beh r) ⊛ ‵ St) (Doors.tells 𝓛 σ Is (right_to R) b j r) $ split ! $ fsplit ! $ fpick ! (λ so. drop ! $
         let c : ℕ = block_of r.words in let u : ℕ = count_of r.words in let w : Ptr = block_ptr c u in let here : r.words ≡ w = at_block r.words so.0 in
         let Z : Pr = ⟦ E ⟧ ∗ ⟦ lost w ⟧ in let test : Testable w = subst Testable here so.1 in
         -- [it stays, and the right; it stays; the cell; the other doors; the rest; one's own]
-        nothing ! $ fpack ! (Is (suc j) r) (λ _. ftrue) so $ move ! (0 ∷ 1 ∷ []) $ fjoin ! $ move ! (2 ∷ []) $
+        nothing ! $ fpack ! (Is j r) (λ _. ftrue) so $ move ! (0 ∷ 1 ∷ []) $ fjoin ! $ move ! (2 ∷ []) $
         -- [the cell; what is behind; it stays; the other doors; the rest; one's own]
         rewrite ! 0 (λ (v : Ptr). ‵ (cell b e v)) here refl $ show ! F (w, false) $ frame ! $
         use0 𝓛 (‵ (alike w null_ptr false)) (alike_null 𝓛 w test) $ frame ! $ assume ! (‵ (cell b e w)) $
@@ -186,7 +186,7 @@ module _ {M : Type 1} {𝓤 : Ura M} (𝓛 : Logic 𝓤) (R : RattleType) {V W :
       first = let l = last_ends ss 0 (length cs) j before are has long in omega (arith, l, follows)
 
       abbrev Sets : Pr
-      Sets = Doors.Sets 𝓛 σ Is (right_to R) b o 32 1 (further ss) e (suc j) s
+      Sets = Doors.Sets 𝓛 σ Is (right_to R) b o 32 0 (further ss) e j s
 
       abbrev Opens : Pr
       Opens = wand 𝓤 ⟦ stays σ (length ss) s ⟧ ⟦ Drs (further us) ⟧
@@ -196,7 +196,7 @@ module _ {M : Type 1} {𝓤 : Ura M} (𝓛 : Logic 𝓤) (R : RattleType) {V W :
           qed 𝓛 (‵ (cell b e s.words) ∷ raw Sets ∷ ‵ (right_to R s) ∷ []) ∵ assume ! (‵ (stays σ (length ss) s)) $
           rewrite ! 0 (λ (k : ℕ). ‵ (stays σ k s)) long refl $
           -- [it stays; the cell; the other doors; the right]
-          move ! (0 ∷ 3 ∷ []) $ fjoin ! $ nothing ! $ fpack ! (Is (suc j) s) (λ _. ftrue) is $ fjoin ! $ move ! (1 ∷ 0 ∷ []) $ fjoin ! $
+          move ! (0 ∷ 3 ∷ []) $ fjoin ! $ nothing ! $ fpack ! (Is j s) (λ _. ftrue) is $ fjoin ! $ move ! (1 ∷ 0 ∷ []) $ fjoin ! $
           use2 𝓛 (‵ Ds) (apply∗ 𝓤 ⟦ Dr s ⟧ ⟦ Ds ⟧) $ rewrite ! 0 (λ (l : List Strip). ‵ (Drs l)) (sym (further_more ss s j long)) refl $ done !
 
       abbrev grown : Inside R.Denot V W
@@ -209,12 +209,12 @@ module _ {M : Type 1} {𝓤 : Ura M} (𝓛 : Logic 𝓤) (R : RattleType) {V W :
       still = subst (λ (m : Mem R.Denot). holds record { memory = m; views = t.views; world = t.world }) (sym laid.1) sound.0
 
       sets : ⟦ fsep (Led ss) (Hands (length cs)) ⟧ ∗ ⟦ Drs (further ss) ⟧ ∗ ⟦ All ss cs ⟧ ∗ ⟦ Fixed t.parts.words ⟧ ∗ ⟦ Views t ⟧ ∗ ⟦ Own ⟧ ⊢ ex 𝓤 F
-      sets = let P = Doors.Sets 𝓛 σ Is (right_to R) b o 32 1 (further ss) e (suc j) in let N : Fml = cell b e null_ptr in let LH : Fml = fsep (Led ss) (Hands (length cs)) in
+      sets = let P = Doors.Sets 𝓛 σ Is (right_to R) b o 32 0 (further ss) e j in let N : Fml = cell b e null_ptr in let LH : Fml = fsep (Led ss) (Hands (length cs)) in
           let Joined : Fml = Joining.Joined 𝓛 R α z.hands_name Lt Hd (book_of z) Any ss cs s are first tt in let St : Fml = stays σ (length ss) s in
           let Z : Pr = ⟦ E ⟧ ∗ ⟦ won null_ptr ⟧ in
           qed 𝓛 (‵ LH ∷ ‵ (Drs (further ss)) ∷ ‵ (All ss cs) ∷ ‵ (Fixed t.parts.words) ∷ ‵ (Views t) ∷ ‵ Own ∷ []) ∵ move ! (1 ∷ []) $
           use1 𝓛 (‵ N ⊛ raw (all 𝓤 P))
-          (Doors.door_next 𝓛 σ Is (right_to R) b (further ss) o 32 1 e (suc j) (let l = last in omega (arith, at, l)) (let l = last in omega (arith, l)) (let l = last in omega (arith, l, few))) $ split ! $
+          (Doors.door_next 𝓛 σ Is (right_to R) b (further ss) o 32 0 e j (let l = last in omega (arith, at, l)) (let l = last in omega (arith, l)) (let l = last in omega (arith, l, few))) $ split ! $
           show ! F (null_ptr, true) $ frame ! $ use0 𝓛 (‵ (alike null_ptr null_ptr true)) (alike_null 𝓛 null_ptr (lit< tt)) $ frame ! $
           assume ! (‵ (cell b e s.words)) $ move ! (1 ∷ []) $ use1 𝓛 (raw Sets) (all_e 𝓤 P s) $ move ! (6 ∷ []) $ fsplit3 ! $
           -- [the words; the places; the right; the other doors; the cell; the list and the hands; the strips; the first words; the views]

@@ -291,7 +291,7 @@ module _ {M : Type 1} {𝓤 : Ura M} (𝓛 : Logic 𝓤) (R : RattleType) {V W :
         use1 𝓛 (later (‵ Book ⊛ ‵ (Sh three_quarters))) (via 𝓤 _ (Ledgers.comes 𝓛 strip_coded σ no_strip [] s) (basic 𝓛 _)) $ await ! tt $ split ! $
         move ! (1 ∷ []) $ fpack ! Share Sh three_quarters $
         -- [the strip; the list; the hands; the views; the token; the words; the places; the doors]
-        move ! (7 ∷ []) $ use1 𝓛 (‵ Drs) (Doors.nulls 𝓛 σ (IsFurther R count) (right_to R) db 32 d₀ 1) $ move ! (1 ∷ 2 ∷ 3 ∷ 4 ∷ 5 ∷ 6 ∷ 7 ∷ 0 ∷ []) $
+        move ! (7 ∷ []) $ use1 𝓛 (‵ Drs) (Doors.nulls 𝓛 σ (IsFurther R count) (right_to R) db 32 d₀ 0) $ move ! (1 ∷ 2 ∷ 3 ∷ 4 ∷ 5 ∷ 6 ∷ 7 ∷ 0 ∷ []) $
         move ! (5 ∷ []) $ rewrite ! 0 (λ (us : List ℕ). ‵ (row b o us)) (zeros_are (long roots) count ws all none) refl $
         use1 𝓛 (‵ (row b o head) ⊛ ‵ (row b f (fives count))) (row_splits 𝓛 b head (fives count) o f (omega (arith, l))) $ split ! $
         -- [the first words; the others; the strip; the list; the hands; the views; the token; the places; the doors]
@@ -372,7 +372,7 @@ module _ {M : Type 1} {𝓤 : Ura M} (𝓛 : Logic 𝓤) (R : RattleType) {V W :
         let long_is : length (ws ++ u.0) ≡ whole z.roots z.size = length-append ws u.0 ∙ omega (arith, head, l0, size) in
         move ! (2 ∷ 0 ∷ []) $ use2 𝓛 (‵ (row b o (ws ++ u.0))) (row_joins 𝓛 b ws u.0 o f (omega (arith, head, skip))) $ move ! (2 ∷ []) $
         use1 𝓛 (items (λ (ps : List Ptr). given (length ps ≡ 32) (‵ (pointers (block_of z.doors) (count_of z.doors) ps))))
-        (Doors.plain 𝓛 z.strips_name (IsFurther R z.least) (right_to R) (block_of z.doors) 32 (count_of z.doors) 1 ss) $ pick ! (λ ps. learn ! (λ few.
+        (Doors.plain 𝓛 z.strips_name (IsFurther R z.least) (right_to R) (block_of z.doors) 32 (count_of z.doors) 0 ss) $ pick ! (λ ps. learn ! (λ few.
         show ! Closed (ws ++ u.0, u.1, ps) $ check ! (long_is, omega (arith, l1, size), few, placed) $ move ! (1 ∷ 2 ∷ 0 ∷ []) $ done !))))
 
     pub closes : ent 𝓤 ⟦ words_own R cv.code holds p z ⟧ (H.⇛ (ex 𝓤 Closed))

@@ -90,7 +90,7 @@ module _ (σ : ℕ) (Is : ℕ → Strip → Type 0) (right : Strip → Fml) (rig
   doors_keyless b o zero k ss = tt
   doors_keyless b o (suc n) k [] = (tt, doors_keyless b (o + 8) n (suc k) [])
   doors_keyless b o (suc n) k (s ∷ ss) = (
-    (tt, ((λ _. tt), ((λ q. entry_keyless shared_view σ k _), right_keyless s))),
+    (tt, ((λ _. tt), ((λ q. entry_keyless shared_view σ (suc k) _), right_keyless s))),
     doors_keyless b (o + 8) n (suc k) ss,
   )
 
@@ -105,7 +105,7 @@ module _ (R : RattleType) (sent : IsSend (OptionOf R)) (synced : IsSync (OptionO
       λ ss. (
         (
           (ledger_keyless strip_coded.code k.strips_name no_strip ss, entries_keyless shared_view k.hands_name (length t.parts.cells) _),
-          doors_keyless k.strips_name (IsFurther R k.least) (right_to R) (λ s. chunk-Keyless (block_type R s.size) s.words) (block_of k.doors) (count_of k.doors) 32 1 (further ss),
+          doors_keyless k.strips_name (IsFurther R k.least) (right_to R) (λ s. chunk-Keyless (block_type R s.size) s.words) (block_of k.doors) (count_of k.doors) 32 0 (further ss),
         ),
         (
           (λ _. tt),

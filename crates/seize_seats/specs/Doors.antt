@@ -1,6 +1,6 @@
 -- Doors: behind the first strip there is a pointer for each further one, null as long as that is not there. A strip is found by one load, and put by one
 -- exchange.
-use Rattle.std.specs.Prelude.{◌≡◌, ℕ, zero, suc, ◌+◌, ◌-◌, ◌*◌, ◌^◌, ◌<◌, List, [], ◌∷◌}
+use Rattle.std.specs.Prelude.{◌≡◌, ℕ, zero, suc, ◌+◌, ◌*◌, ◌^◌, ◌<◌, List, [], ◌∷◌}
 use mir.Syntax.{Ty, w64, ty_int, ty_array, ty_struct, tcons, tnil}
 use mir.Raw.{raw as bare}
 use prog.Memory.{up, size, align}
@@ -28,12 +28,12 @@ module _ (R : RattleType) where
   abbrev pub apart : ℕ → ℕ
   apart n = up (align (lone (OptionOf R).mir)) (n * 40)
 
-  -- The strip of the k-th place is such a block, whose address can be compared with null. It has as many numbers as come before it; least: how many the
+  -- The strip behind the k-th door is such a block, whose address can be compared with null. It has as many numbers as come before it; least: how many the
   -- first one has.
   abbrev pub IsFurther : ℕ → ℕ → Strip → Type 0
   IsFurther least k s =
       InBlock s.words × Testable s.words × (s.skip ≡ 0) × (s.values ≡ block_ptr (block_of s.words) (apart s.size + count_of s.words))
-      × (s.first ≡ least * 2 ^ (k - 1)) × (s.size ≡ s.first) × (s.size * 5 * 8 < 2 ^ 63) × (s.size * size (lone (OptionOf R).mir) < 2 ^ 63)
+      × (s.first ≡ least * 2 ^ k) × (s.size ≡ s.first) × (s.size * 5 * 8 < 2 ^ 63) × (s.size * size (lone (OptionOf R).mir) < 2 ^ 63)
 
   -- the right to give its memory back
   abbrev pub right_to : Strip → Fml
@@ -43,16 +43,16 @@ module _ (R : RattleType) where
 abbrev pub stays : ℕ → ℕ → Strip → Fml
 stays σ k s = fex Share (λ q. seen strip_coded.code σ q k s)
 
--- σ: the name of the list of the strips; Is: what is so of the strip of the k-th place; right: the right to give its memory back
+-- σ: the name of the list of the strips; Is: what is so of the strip behind the k-th door, which is the next one of the list; right: the right to give its memory back
 module _ (σ : ℕ) (Is : ℕ → Strip → Type 0) (right : Strip → Fml) where
   abbrev pub behind : ℕ → Strip → Fml
-  behind k s = fsep (fact (Is k s)) (fsep (stays σ k s) (right s))
+  behind k s = fsep (fact (Is k s)) (fsep (stays σ (suc k) s) (right s))
 
-  -- the door of the k-th strip
+  -- the k-th door
   abbrev pub door : ℕ → ℕ → ℕ → Strip → Fml
   door b o k s = fsep (cell b o s.words) (behind k s)
 
-  -- so many doors from there on, of the strips from the k-th one on
+  -- so many doors from there on, from the k-th one on
   abbrev pub doors : ℕ → ℕ → ℕ → ℕ → List Strip → Fml
   doors b o zero k ss = ftrue
   doors b o (suc n) k [] = fsep (cell b o null_ptr) (doors b (o + 8) n (suc k) [])

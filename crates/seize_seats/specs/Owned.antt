@@ -70,7 +70,7 @@ claim_owns δ i (suc found) = ftrue
 
 -- the doors of all strips but the first one
 abbrev pub doors_of : RattleType → Book → List Strip → Fml
-doors_of R σ ss = doors σ.name (IsFurther R σ.least) (right_to R) (block_of σ.doors) (count_of σ.doors) 32 1 ss
+doors_of R σ ss = doors σ.name (IsFurther R σ.least) (right_to R) (block_of σ.doors) (count_of σ.doors) 32 0 ss
 
 -- how many bytes a place has, which holds a value or none
 abbrev pub stride : RattleType → ℕ
