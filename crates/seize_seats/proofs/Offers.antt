@@ -114,6 +114,18 @@ module _ {M : Type 1} {𝓤 : Ura M} (𝓛 : Logic 𝓤) (R : RattleType) {V W :
   abbrev All : List Strip → List (Cell R.Denot) → Fml
   All ss cs = strips R α z.hands_name Lt Hd ss cs
 
+  -- with the doors it is all of it
+  pub shuts : (t : Inside R.Denot V W) (ss : List Strip) (sound : holds record { memory = memory_of z.roots t.parts; views = t.views; world = t.world } × AreLaid z.roots z.count t.parts)
+      → AreStrips 0 ss (length t.parts.cells)
+      → ⟦ fsep (Led ss) (Hands (length t.parts.cells)) ⟧ ∗ ⟦ All ss t.parts.cells ⟧ ∗ ⟦ Fixed t.parts.words ⟧ ∗ ⟦ Views t ⟧ ⊢ wand 𝓤 ⟦ Drs (further ss) ⟧ ⟦ E ⟧
+  shuts t ss sound are =
+      qed 𝓛 (‵ (fsep (Led ss) (Hands (length t.parts.cells))) ∷ ‵ (All ss t.parts.cells) ∷ ‵ (Fixed t.parts.words) ∷ ‵ (Views t) ∷ []) ∵
+      assume ! (‵ (Drs (further ss))) $ move ! (1 ∷ 0 ∷ []) $ fjoin ! $
+      nothing ! $ fpack ! (AreStrips 0 ss (length t.parts.cells) × Unit {0}) (λ _. ftrue) (are, tt) $ move ! (1 ∷ 0 ∷ 2 ∷ []) $ fjoin3 ! $
+      fpack ! (List Strip) (listed R α z.hands_name Lt Hd (book_of z) Any t.parts.cells) ss $ move ! (1 ∷ 0 ∷ []) $ fjoin ! $
+      nothing ! $ fpack ! (holds record { memory = memory_of z.roots t.parts; views = t.views; world = t.world } × AreLaid z.roots z.count t.parts) (λ _. ftrue) sound $
+      move ! (1 ∷ 2 ∷ 0 ∷ []) $ fjoin3 ! $ fpack ! (Inside R.Denot V W) (standing_in R cv.code holds (core_of z) Any) t $ done !
+
   -- A strip s is offered at the j-th door. The one before it is there, and its numbers end where those of s begin.
   module _ (q : Share) (j e : ℕ) (few : j < 32) (at : e ≡ j * 8 + o) (s : Strip) (is : Is j s) (before : Strip)
       (follows : before.first + before.size ≡ s.first) (room : s.first + s.size ≤ z.count) where
@@ -228,18 +240,6 @@ module _ {M : Type 1} {𝓤 : Ura M} (𝓛 : Logic 𝓤) (R : RattleType) {V W :
           nothing ! $ fpack ! (holds record { memory = memory_of z.roots grown.parts; views = t.views; world = t.world } × AreLaid z.roots z.count grown.parts) (λ _. ftrue) (still, laid.0) $
           move ! (1 ∷ 3 ∷ 0 ∷ []) $ fjoin3 ! $ fpack ! (Inside R.Denot V W) (standing_in R cv.code holds (core_of z) Any) grown $ frame ! $
           rewrite ! 0 (λ (k : ℕ). ‵ (stays σ k s)) long refl $ done !
-
-    -- with the doors it is all of it
-    shuts : (t : Inside R.Denot V W) (ss : List Strip) (sound : holds record { memory = memory_of z.roots t.parts; views = t.views; world = t.world } × AreLaid z.roots z.count t.parts)
-        → AreStrips 0 ss (length t.parts.cells)
-        → ⟦ fsep (Led ss) (Hands (length t.parts.cells)) ⟧ ∗ ⟦ All ss t.parts.cells ⟧ ∗ ⟦ Fixed t.parts.words ⟧ ∗ ⟦ Views t ⟧ ⊢ wand 𝓤 ⟦ Drs (further ss) ⟧ ⟦ E ⟧
-    shuts t ss sound are =
-        qed 𝓛 (‵ (fsep (Led ss) (Hands (length t.parts.cells))) ∷ ‵ (All ss t.parts.cells) ∷ ‵ (Fixed t.parts.words) ∷ ‵ (Views t) ∷ []) ∵
-        assume ! (‵ (Drs (further ss))) $ move ! (1 ∷ 0 ∷ []) $ fjoin ! $
-        nothing ! $ fpack ! (AreStrips 0 ss (length t.parts.cells) × Unit {0}) (λ _. ftrue) (are, tt) $ move ! (1 ∷ 0 ∷ 2 ∷ []) $ fjoin3 ! $
-        fpack ! (List Strip) (listed R α z.hands_name Lt Hd (book_of z) Any t.parts.cells) ss $ move ! (1 ∷ 0 ∷ []) $ fjoin ! $
-        nothing ! $ fpack ! (holds record { memory = memory_of z.roots t.parts; views = t.views; world = t.world } × AreLaid z.roots z.count t.parts) (λ _. ftrue) sound $
-        move ! (1 ∷ 2 ∷ 0 ∷ []) $ fjoin3 ! $ fpack ! (Inside R.Denot V W) (standing_in R cv.code holds (core_of z) Any) t $ done !
 
     -- the list shows the one before
     abbrev Sh : Share → Fml
