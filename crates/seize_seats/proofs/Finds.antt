@@ -180,7 +180,7 @@ module _ {M : Type 1} {𝓤 : Ura M} (𝓛 : Logic 𝓤) (R : RattleType) {V W :
         (Ledgers.sits 𝓛 strip_coded σ no_strip ss z.place r (strip_of p z)) $ learn ! (λ has. split ! $ move ! (1 ∷ []) $ drop ! $ fjoin ! $
         let some : Has-cell t = has_cell t (Makings.has_block 𝓛 R cv holds keeps p z n t sound.1 (shown (state_of z t) sound.0 sit.0 sit.1)) in
         -- [the list and the hands; the doors; the strips; the words; the views; the seats' views]
-        by ! (cases t ss sound are.0 (subst (λ (m : ℕ). slice_get ss m ≡ Some (strip_of p z)) first has) some (Looks.at_or_not (further ss) j))))))))
+        by ! (cases t ss sound are.0 (subst (λ (m : ℕ). slice_get ss m ≡ Some (strip_of p z)) first has) some (Looks.at_or_not (further ss) j)))))))))
       where
         cases : (t : In) (ss : List Strip) → Sound t → AreStrips 0 ss (length t.parts.cells) → slice_get ss 0 ≡ Some (strip_of p z) → Has-cell t
             → ((s : Strip) × (slice_get (further ss) j ≡ Some s)) ⊎ (length (further ss) ≤ j)
