@@ -132,6 +132,30 @@ impl<T, R: Rule<T>> Words<T, R> {
         }
     }
 
+    /// The strip behind a door, that of a block which the views of two seats show together. These are the words of the first strip.
+    pub(crate) fn find(
+        &self,
+        guard: &Seat<T, R>,
+        owner: &Seat<T, R>,
+        _block: u64,
+        doors: *mut *mut u64,
+        index: u64,
+    ) -> Strip<T>
+        requires { (guard.now.base ≡ self.now.id.views_name) × (owner.now.base ≡ self.now.id.views_name)
+            × (doors ≡ self.now.id.doors) × (index < 32) × (self.now.id.place ≡ 0) × (self.now.id.size ≡ self.now.id.least)
+            × (self.now.id.least * 2 ^ index ≤ _block - 1)
+            × ShownToBoth (R.holds self.now.fixed) guard.now.id guard.now.view owner.now.id owner.now.view _block }
+        ensures { (core_of result.id ≡ core_of self.now.id) × (result.id.skip ≡ 0)
+            × (result.id.values ≡ block_ptr (block_of result.words) (apart T.row result.id.size + count_of result.words))
+            × (result.id.first ≡ self.now.id.least * 2 ^ index) × (result.id.size ≡ result.id.first) × InBlock result.words }
+    {
+        let words = unsafe { raw::ptr::load::<u64, Brand>(doors.add(index as usize), SeqCst) };
+        Strip {
+            words,
+            marker: PhantomData,
+        }
+    }
+
     /// The words of a strip of the same memory, for as long as both are borrowed.
     pub(crate) fn by<'g>(&'g self, strip: &'g Strip<T>) -> &'g Words<T, R>
         requires { (core_of strip.now.id ≡ core_of self.now.id) × InBlock strip.now.words }

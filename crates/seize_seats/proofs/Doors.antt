@@ -4,7 +4,7 @@ use Rattle.std.proofs.Common.{◌≡◌, ℕ, zero, suc, ◌+◌, ◌*◌, ◌<�
 use seplogic.Ra.Ura.{Ura}
 use base.Share
 use base.Logic.{SProp, ent, sep, wand, ex, all, guard, apply∗, all_e}
-use base.Fml.{Share, Fml, ftrue}
+use base.Fml.{Share, Fml, ftrue, fsep}
 use types.Logic.{Logic, sem}
 use types.Kit.{‵, raw, ◌⊛◌, some, given, ◌$◌, ◌∵◌, !, qed, move, split, frame, each, assume, pick, learn, show, check, fsplit, fjoin, fsplit3, fjoin3, fpick, fpack, drop, use1, use2, rewrite, done}
 use denote.RawPtr.{Ptr, null_ptr}

@@ -140,12 +140,12 @@ module _ {M : Type 1} {𝓤 : Ura M} (𝓛 : Logic 𝓤) (R : RattleType) {V W :
     -- there are too few numbers, if its strip is not there
     lacks : (t : In) (ss : List Strip) → AreStrips 0 ss (length t.parts.cells) → slice_get ss 0 ≡ Some (strip_of p z) → length (further ss) ≤ j
         → Doors.AllAre 𝓛 σ Is (right_to R) b 0 (further ss) → Has-cell t → ⊥
-    lacks t [] are has no all some = absurd (cc has)
-    lacks t (s ∷ ss) are has no all some =
+    lacks t [] are has past all some = absurd (cc has)
+    lacks t (s ∷ ss) are has past all some =
         let same : s ≡ strip_of p z = cc has in let size : s.size ≡ z.least = ap (λ (r : Strip). r.size) same ∙ whole in
         let start : 0 + s.size ≡ z.least * 2 ^ 0 = omega (arith, size) in
         let total = grown 𝓛 R σ b z.least ss (0 + s.size) (length t.parts.cells) 0 are.1 all start in
-        let none : length ss + 0 ≤ j = omega (arith, no) in
+        let none : length ss + 0 ≤ j = omega (arith, past) in
         let most : z.least * 2 ^ (length ss + 0) ≤ z.least * 2 ^ j = mul-le-mul_left z.least (pow-le-pow_right (lit< tt) none) in
         let high = is_there t.parts.cells (n - 1) some in omega (arith, total, most, high, low)
 
@@ -189,10 +189,10 @@ module _ {M : Type 1} {𝓤 : Ura M} (𝓛 : Logic 𝓤) (R : RattleType) {V W :
             qed 𝓛 (‵ (LH ss (length t.parts.cells)) ∷ ‵ (Drs ss) ∷ ‵ (All ss t.parts.cells) ∷ ‵ (Fixed t.parts.words) ∷ ‵ (Views t) ∷ ‵ Sn ∷ []) ∵
             move ! (0 ∷ 2 ∷ 3 ∷ 4 ∷ []) $ group ! 4 $ use1 𝓛 (raw (wand 𝓤 ⟦ Drs ss ⟧ ⟦ E ⟧)) (Offers.shuts 𝓛 R cv holds p z t ss sound are) $
             move ! (1 ∷ 0 ∷ []) $ by ! (there ss got.0 got.1)
-        cases t ss sound are has some (inr no) =
+        cases t ss sound are has some (inr past) =
             qed 𝓛 (‵ (LH ss (length t.parts.cells)) ∷ ‵ (Drs ss) ∷ ‵ (All ss t.parts.cells) ∷ ‵ (Fixed t.parts.words) ∷ ‵ (Views t) ∷ ‵ Sn ∷ []) ∵ move ! (1 ∷ []) $
-            use1 𝓛 (given (Doors.AllAre 𝓛 σ Is (right_to R) b 0 (further ss)) (‵ (Drs ss))) (Doors.all_are 𝓛 σ Is (right_to R) b (further ss) o 32 0 (omega (arith, no, few))) $
-            learn ! (λ all. absurd (lacks t ss are has no all some))
+            use1 𝓛 (given (Doors.AllAre 𝓛 σ Is (right_to R) b 0 (further ss)) (‵ (Drs ss))) (Doors.all_are 𝓛 σ Is (right_to R) b (further ss) o 32 0 (omega (arith, past, few))) $
+            learn ! (λ all. absurd (lacks t ss are has past all some))
 
     -- A LOAD of the door
     pub finds : ⟦ Inv ⟧ ∗ (A.lft α q ∗ ⟦ Sn ⟧) ⊢ asks_ptr 𝓛 (block_ptr b e) (λ r. r) (λ r. fsep (flft α q) (met r))

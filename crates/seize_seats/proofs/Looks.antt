@@ -158,15 +158,15 @@ module _ {M : Type 1} {𝓤 : Ura M} (𝓛 : Logic 𝓤) (R : RattleType) {V W :
         nothing ! $ fpack ! (Found w s) (λ _. ftrue) (here, is) $ fjoin ! $ fpack ! Strip (shown w) s $ done !)
 
     none : (ss : List Strip) → length (further ss) ≤ j → Apart ss ⊢ ex 𝓤 F
-    none ss no = let N : Fml = cell b e null_ptr in let B : Pr = wand 𝓤 ⟦ N ⟧ ⟦ Drs ss ⟧ in let Z : Pr = ⟦ E ⟧ ∗ ⟦ glimpse null_ptr ⟧ in
+    none ss past = let N : Fml = cell b e null_ptr in let B : Pr = wand 𝓤 ⟦ N ⟧ ⟦ Drs ss ⟧ in let Z : Pr = ⟦ E ⟧ ∗ ⟦ glimpse null_ptr ⟧ in
         qed 𝓛 (‵ (Drs ss) ∷ raw (Rest ss) ∷ []) ∵
-        use1 𝓛 (‵ N ⊛ raw B) (Doors.door_null 𝓛 z.strips_name Is (right_to R) b (further ss) o 32 0 j e at few no) $ split ! $
+        use1 𝓛 (‵ N ⊛ raw B) (Doors.door_null 𝓛 z.strips_name Is (right_to R) b (further ss) o 32 0 j e at few past) $ split ! $
         show ! F null_ptr $ frame ! $ nothing ! $ frame ! $ assume ! (‵ N) $ use2 𝓛 (‵ (Drs ss)) (apply∗ 𝓤 ⟦ N ⟧ ⟦ Drs ss ⟧) $
         use2 𝓛 (‵ E) (apply∗ 𝓤 ⟦ Drs ss ⟧ ⟦ E ⟧) $ suffices ! _ (upd_i 𝓤 Z) $ nothing ! $ move ! (1 ∷ 0 ∷ []) $ done !
 
     either : (ss : List Strip) → ((s : Strip) × (slice_get (further ss) j ≡ Some s)) ⊎ (length (further ss) ≤ j) → Apart ss ⊢ ex 𝓤 F
     either ss (inl has) = there ss has.0 has.1
-    either ss (inr no) = none ss no
+    either ss (inr past) = none ss past
 
     -- A LOAD of the door
     pub looks : ⟦ Inv ⟧ ∗ (A.lft α q ∗ emp 𝓤) ⊢ asks_ptr 𝓛 (block_ptr b e) (λ r. r) (λ r. fsep (flft α q) (glimpse r))

@@ -181,7 +181,7 @@ module _ {M : Type 1} {𝓤 : Ura M} (𝓛 : Logic 𝓤) (R : RattleType) {V W :
 
     -- it is null: whoever sets it has the strip join
     module _ (t : Inside R.Denot V W) (ss : List Strip) (sound : holds record { memory = memory_of z.roots t.parts; views = t.views; world = t.world } × AreLaid z.roots z.count t.parts)
-        (are : AreStrips 0 ss (length t.parts.cells)) (has : slice_get ss j ≡ Some before) (no : length (further ss) ≤ j) where
+        (are : AreStrips 0 ss (length t.parts.cells)) (has : slice_get ss j ≡ Some before) (past : length (further ss) ≤ j) where
       abbrev cs : List (Cell R.Denot)
       cs = t.parts.cells
 
@@ -189,10 +189,10 @@ module _ {M : Type 1} {𝓤 : Ura M} (𝓛 : Logic 𝓤) (R : RattleType) {V W :
       us = ss ++ s ∷ []
 
       long : length ss ≡ suc j
-      long = (ends_there ss j before has no).0
+      long = (ends_there ss j before has past).0
 
       last : length (further ss) ≡ j
-      last = (ends_there ss j before has no).1
+      last = (ends_there ss j before has past).1
 
       first : s.first ≡ length cs
       first = let l = last_ends ss 0 (length cs) j before are has long in omega (arith, l, follows)
@@ -258,7 +258,7 @@ module _ {M : Type 1} {𝓤 : Ura M} (𝓛 : Logic 𝓤) (R : RattleType) {V W :
         cases : (t : Inside R.Denot V W) (ss : List Strip) (sound : holds record { memory = memory_of z.roots t.parts; views = t.views; world = t.world } × AreLaid z.roots z.count t.parts)
             → AreStrips 0 ss (length t.parts.cells) → slice_get ss j ≡ Some before → ((r : Strip) × (slice_get (further ss) j ≡ Some r)) ⊎ (length (further ss) ≤ j)
             → ⟦ fsep (Led ss) (Hands (length t.parts.cells)) ⟧ ∗ ⟦ Drs (further ss) ⟧ ∗ ⟦ All ss t.parts.cells ⟧ ∗ ⟦ Fixed t.parts.words ⟧ ∗ ⟦ Views t ⟧ ∗ ⟦ Own ⟧ ⊢ ex 𝓤 F
-        cases t ss sound are has (inr no) = sets t ss sound are has no
+        cases t ss sound are has (inr past) = sets t ss sound are has past
         cases t ss sound are has (inl got) =
             qed 𝓛 (‵ (fsep (Led ss) (Hands (length t.parts.cells))) ∷ ‵ (Drs (further ss)) ∷ ‵ (All ss t.parts.cells) ∷ ‵ (Fixed t.parts.words) ∷ ‵ (Views t) ∷ ‵ Own ∷ []) ∵
             move ! (0 ∷ 2 ∷ 3 ∷ 4 ∷ []) $ group ! 4 $ use1 𝓛 (raw (wand 𝓤 ⟦ Drs (further ss) ⟧ ⟦ E ⟧)) (shuts t ss sound are) $ move ! (1 ∷ 0 ∷ []) $
