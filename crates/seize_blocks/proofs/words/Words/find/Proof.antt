@@ -61,9 +61,16 @@ find_spec 𝓤 𝓛 𝓜 𝓡 wired X P U F LX LP LU LF g d _ =
     let self = RefOf (0 ∷ []) tt (plain (λ _. Row)) (λ _. tt) in let one = RefOf (1 ∷ []) tt (plain (λ _. Sr)) (λ _. tt) in
     let other = RefOf (2 ∷ []) tt (plain (λ _. Sr)) (λ _. tt) in let addr = plain (λ _. RawPtr) in let num = plain (λ _. u64) in
     let hs : Stays En.signature.params En.kept = (stay_dropped self yes, (stay_dropped one yes, (stay_dropped other yes, (stay_dropped num yes, (stay_dropped addr yes, (stay_dropped num yes, tt)))))) in
-    proved 𝓛 En hs c 𝓜 𝓡
-    (Goes-dropped 𝓛 7 self yes (λ κs x f. refl), (Goes-dropped 𝓛 7 one yes (λ κs x f. refl), (Goes-dropped 𝓛 7 other yes (λ κs x f. refl),
-    (Goes-dropped 𝓛 7 num yes (λ κs x f. refl), (Goes-dropped 𝓛 7 addr yes (λ κs x f. refl), (Goes-dropped 𝓛 7 num yes (λ κs x f. refl), tt))))))
+    proved 𝓛 En hs c 𝓜 𝓡 (
+      Goes-dropped 𝓛 7 self yes (λ κs x f. refl),
+      (
+        Goes-dropped 𝓛 7 one yes (λ κs x f. refl),
+        (
+          Goes-dropped 𝓛 7 other yes (λ κs x f. refl),
+          (Goes-dropped 𝓛 7 num yes (λ κs x f. refl), (Goes-dropped 𝓛 7 addr yes (λ κs x f. refl), (Goes-dropped 𝓛 7 num yes (λ κs x f. refl), tt))),
+        ),
+      ),
+    )
     (#self inst) fn (code.unfolded 𝓤 H 𝓜 𝓡 wired (X, (P, (U, (F, tt)))) d)
     (λ κs. (shr_vals, (shr_vals, (shr_vals, (uint_vals w64, (rawptr_vals, (uint_vals w64, tt)))))))
     (λ κs. (shr_Tells (named 0) κs.0 Row, (shr_Tells (named 1) κs.1.0 Sr, (shr_Tells (named 2) κs.1.1.0 Sr, (uint_Tells w64, (rawptr_Tells, (uint_Tells w64, tt))))))) (λ κs qs bounds a gh are.
@@ -140,4 +147,4 @@ find_spec 𝓤 𝓛 𝓜 𝓡 wired X P U F LX LP LU LF g d _ =
     move ! (2 ∷ 5 ∷ []) $ join ! $ move ! (3 ∷ 0 ∷ []) $ join ! $ move ! (3 ∷ 0 ∷ []) $ join ! $
     use0 𝓛 (raw (fact 𝓤 Told)) (fact_i 𝓤 Told (emp 𝓤) (refl, refl, refl, refl, refl, found_one)) $
     returns ! (look_at ! 0 refl) $ free_all ! refl $ keep ! (1 ∷ 2 ∷ 3 ∷ 0 ∷ []) $
-    by ! (leaves 𝓛 En hs c y (hand_of w) r (tt, (tt, (tt, (tt, (tt, (tt, tt)))))) (tt, (tt, (tt, (tt, (tt, (tt, tt))))))))))))))))))
+    by ! (leaves 𝓛 En hs c y (hand_of w) r (tt, (tt, (tt, (tt, (tt, (tt, tt)))))) (tt, (tt, (tt, (tt, (tt, (tt, tt)))))))))))))))))
