@@ -130,12 +130,12 @@ module _ {M : Type 1} {𝓤 : Ura M} (𝓛 : Logic 𝓤) (R : RattleType) {V W :
     abbrev Dr : Strip → Fml
     Dr s = door σ Is (right_to R) b e j s
 
-    Has-cell : In → Type 0
+    abbrev Has-cell : In → Type 0
     Has-cell t = cell_at t.parts.cells (n - 1) ≡ Free → ⊥
 
     has_cell : (t : In) → Makings.HasBlock 𝓛 R cv holds keeps p z n t ⊎ Makings.HeldBlock 𝓛 R cv holds keeps p z n t → Has-cell t
     has_cell t (inl th) free = absurd (let c = th.2 in cc (c, free))
-    has_cell t (inr th) free = absurd (let c = th.3 in cc (c, free))
+    has_cell t (inr th) free = absurd (let c = th.4 in cc (c, free))
 
     -- there are too few numbers, if its strip is not there
     lacks : (t : In) (ss : List Strip) → AreStrips 0 ss (length t.parts.cells) → slice_get ss 0 ≡ Some (strip_of p z) → length (further ss) ≤ j
