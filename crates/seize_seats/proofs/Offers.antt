@@ -1,10 +1,10 @@
 -- Who sets a door that is null has a strip more join, and who finds it set keeps its own. Assumes `Logic`.
 use Rattle.std.specs.Prelude.{slice_get, replicate}
-use Rattle.std.proofs.Common.{◌≡◌, ◌⊎◌, inl, inr, ℕ, zero, suc, ◌+◌, ◌*◌, ◌<◌, ◌≤◌, Bool, true, false, List, [], ◌∷◌, ◌++◌, length, sym, refl, ap, ◌∙◌, subst, arith, Some, None, lit<}
+use Rattle.std.proofs.Common.{◌≡◌, ◌⊎◌, inl, inr, ℕ, zero, suc, ◌+◌, ◌*◌, ◌<◌, ◌≤◌, Bool, true, false, List, [], ◌∷◌, ◌++◌, length, sym, refl, ap, subst, arith, Some, None, lit<}
 use seplogic.Ra.Ura.{Ura}
 use base.Stored.{Coded}
 use base.Logic.{SProp, ent, sep, wand, ex, all, upd, apply∗, all_e, upd_i}
-use base.Fml.{Lft, Share, Fml, ftrue, fsep, fex, flft, fbor, finv}
+use base.Fml.{Lft, Share, Fml, ftrue, fsep, flft, fbor, finv}
 use types.Logic.{Logic, sem}
 use types.Kit.{‵, raw, ◌⊛◌, given, ◌$◌, ◌∵◌, !, qed, by, move, drop, split, group, fsplit, fsplit3, fjoin, fjoin3, fpick, fpack, learn, show, frame, assume, suffices, settle, use0, use1, use2, rewrite, done}
 use denote.RattleType.{RattleType}
@@ -14,7 +14,7 @@ use Rattle.core.specs.Sync.RawAtomic.Pointer.{cell, alike, compares}
 use Rattle.core.proofs.raw_atomic.Asked.{borrowed_compares, Compared, alike_null}
 use Rattle.seize_words.specs.Mem.{Mem}
 use Rattle.seize_seats.specs.State.{State}
-use Rattle.seize_seats.specs.Seen.{fact, seen}
+use Rattle.seize_seats.specs.Seen.{seen}
 use Rattle.seize_seats.specs.Cells.{Cell}
 use Rattle.seize_seats.specs.Lines.{memory_of, AreLaid}
 use Rattle.seize_seats.specs.Strips.{Strip, strip_coded, no_strip, further, AreStrips}
