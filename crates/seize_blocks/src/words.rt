@@ -36,19 +36,21 @@ impl<T, R: Rule<T>> Model for Words<T, R> {
 }
 
 impl<T, R: Rule<T>> Words<T, R> {
-    /// The words, each 0, of so many roots go under the rule, with places for so many values, each of them empty.
+    /// The words, each 0, of so many roots go under the rule, with places for so many values, each of them empty. There are `most` numbers at most.
     pub(crate) fn open(
         row: Row<u64>,
         values: Row<Option<T>>,
         doors: Row<*mut u64>,
         _roots: u64,
         _count: u64,
+        _most: u64,
         fixed: &R::Fixed,
     ) -> (Self, Place<T>)
         requires { ((k : ℕ) → slice_index row.items k ≡ 0) × (length row.items ≡ whole _roots _count) × Starts (R.holds fixed.now) _roots
             × ((k : ℕ) → slice_index_or values.items k None ≡ None) × (length values.items ≡ _count)
-            × ((k : ℕ) → slice_index_or doors.items k null_ptr ≡ null_ptr) × (length doors.items ≡ 32) }
-        ensures { (result.0.words ≡ row.at) × (result.0.id.roots ≡ _roots) × (result.0.id.count ≡ _count) × (result.0.id.values ≡ values.at)
+            × ((k : ℕ) → slice_index_or doors.items k null_ptr ≡ null_ptr) × (length doors.items ≡ 32)
+            × (_count ≤ _most) }
+        ensures { (result.0.words ≡ row.at) × (result.0.id.roots ≡ _roots) × (result.0.id.count ≡ _most) × (result.0.id.values ≡ values.at)
             × (result.0.id.size ≡ _count) × (result.0.id.least ≡ _count) × (result.0.id.doors ≡ doors.at) × IsFirst row.at result.0.id × (result.0.fixed ≡ fixed.now) × (result.1.at ≡ values.at) }
     {
         let Row { at } = row;

@@ -1,6 +1,6 @@
 -- Words that are 0 and places without a value go under a rule that holds of them, and come back at the end. Assumes `Logic`.
 use Rattle.std.specs.Prelude.{slice_index, slice_get, replicate}
-use Rattle.std.proofs.Common.{◌≡◌, ℕ, zero, suc, ◌+◌, ◌*◌, List, [], ◌∷◌, ◌++◌, length, take, drop, refl, sym, ap, ◌∙◌, subst, inl, arith, Option, None, Some, length-append}
+use Rattle.std.proofs.Common.{◌≡◌, ℕ, zero, suc, ◌+◌, ◌*◌, ◌≤◌, List, [], ◌∷◌, ◌++◌, length, take, drop, refl, sym, ap, ◌∙◌, subst, inl, arith, Option, None, Some, length-append}
 use Rattle.std.proofs.lemmas.List.{length-replicate, length-take-le, take_all}
 use seplogic.Ra.Ura.{Ura}
 use base.Fraction.{full_share}
@@ -215,15 +215,15 @@ module _ {M : Type 1} {𝓤 : Ura M} (𝓛 : Logic 𝓤) (R : RattleType) {V W :
   abbrev ⟦◌⟧ : Fml → SProp 𝓤
   ⟦ P ⟧ = sem 𝓛 P
 
-  -- which words these are, but for names: those of roots and slots, and of the first strip, which has all numbers
-  abbrev pub named : ℕ → ℕ → ℕ → ℕ → ℕ → ℕ → BaseId
-  named a γ δ σ roots count = record {
+  -- which words these are, but for names: those of roots and slots, and of the first strip
+  abbrev pub named : ℕ → ℕ → ℕ → ℕ → ℕ → ℕ → ℕ → BaseId
+  named a γ δ σ roots count most = record {
     atom = a;
     views_name = γ;
     hands_name = δ;
     strips_name = σ;
     roots = roots;
-    count = count;
+    count = most;
     fixed = p;
     place = 0;
     skip = long roots;
@@ -234,10 +234,10 @@ module _ {M : Type 1} {𝓤 : Ura M} (𝓛 : Logic 𝓤) (R : RattleType) {V W :
     least = count;
   }
 
-  module _ (roots count : ℕ) (blank : V) (ws : List ℕ) (none : AreZeros ws) (all : length ws ≡ whole roots count) (placed : IsPlaced R p (named 0 0 0 0 roots count))
+  module _ (roots count most : ℕ) (within : count ≤ most) (blank : V) (ws : List ℕ) (none : AreZeros ws) (all : length ws ≡ whole roots count) (placed : IsPlaced R p (named 0 0 0 0 roots count most))
       (starts : Starts holds roots) where
     abbrev pub Opened : BaseId → SProp 𝓤
-    Opened z = guard 𝓤 ((z.roots ≡ roots) × (z.count ≡ count) × (z.values ≡ pv) × (z.size ≡ count) × (z.least ≡ count) × (z.doors ≡ dp) × IsFirst p z) ⟦ words_own R cv.code holds p z ⟧
+    Opened z = guard 𝓤 ((z.roots ≡ roots) × (z.count ≡ most) × (z.values ≡ pv) × (z.size ≡ count) × (z.least ≡ count) × (z.doors ≡ dp) × IsFirst p z) ⟦ words_own R cv.code holds p z ⟧
 
     abbrev parts : Parts R.Denot
     parts = record { words = replicate (long roots) 0; slots = 0; cells = replicate count Free; given = 0 }
@@ -245,11 +245,11 @@ module _ {M : Type 1} {𝓤 : Ura M} (𝓛 : Logic 𝓤) (R : RattleType) {V W :
     abbrev first : Inside R.Denot V W
     first = record { parts = parts; blank = blank; views = []; world = starts.0 }
 
-    laid : AreLaid roots count parts
+    laid : AreLaid roots most parts
     laid = record {
       all = length-replicate (long roots) 0;
       slots_are = inl (refl, λ k le. zeros_of (long roots) k);
-      counted = let l = length-replicate {A = Cell R.Denot} count Free in omega (arith, l);
+      counted = let l = length-replicate {A = Cell R.Denot} count Free in omega (arith, l, within);
       within = omega arith;
       rest = λ k le. ap block_in (frees_of count k);
       fours = λ k x e. absurd (let none : block_in (cell_at {T = R.Denot} (replicate count Free) k) ≡ None = ap block_in (frees_of count k) in cc (none, e));
@@ -283,7 +283,7 @@ module _ {M : Type 1} {𝓤 : Ura M} (𝓛 : Logic 𝓤) (R : RattleType) {V W :
         use0 𝓛 (later (items (λ (δ : ℕ). ‵ (unborn hand_coded.code δ 0 resting)))) hands_new $ await ! tt $ pick ! (λ δ.
         use0 𝓛 (later (items (λ (σ : ℕ). ‵ (ledger strip_coded.code σ no_strip [])))) (via 𝓤 _ (Ledgers.begins 𝓛 strip_coded 0 no_strip)
         (basic 𝓛 (ex 𝓤 (λ (σ : ℕ). ⟦ ledger strip_coded.code σ no_strip [] ⟧)))) $ await ! tt $ pick ! (λ σ.
-        let z : BaseId = named a γ δ σ roots count in let E : Fml = everything R cv.code holds (core_of z) in let s : Strip = strip_of p z in
+        let z : BaseId = named a γ δ σ roots count most in let E : Fml = everything R cv.code holds (core_of z) in let s : Strip = strip_of p z in
         let Drs : Fml = doors_of R (book_of z) [] in
         let Book : Fml = ledger strip_coded.code σ no_strip (s ∷ []) in let Sh : Share → Fml = λ q. seen strip_coded.code σ q 0 s in
         let Lt = lent_here R cv.code holds p z in let Hd = had_here R cv.code holds p z in

@@ -57,7 +57,7 @@ open_spec 𝓤 𝓛 𝓜 𝓡 wired X P U F LX LP LU LF g d _ =
       stay_dropped (plain (λ _. Rw)) yes,
       (
         stay_dropped (plain (λ _. Ro)) no,
-        (stay_dropped (plain (λ _. Rd)) yes, (stay_dropped num yes, (stay_dropped num yes, (stay_dropped about yes, tt)))),
+        (stay_dropped (plain (λ _. Rd)) yes, (stay_dropped num yes, (stay_dropped num yes, (stay_dropped num yes, (stay_dropped about yes, tt))))),
       ),
     ) in
     proved 𝓛 En hs c 𝓜 𝓡 (
@@ -68,28 +68,29 @@ open_spec 𝓤 𝓛 𝓜 𝓡 wired X P U F LX LP LU LF g d _ =
           Goes-dropped 𝓛 5 (plain (λ _. Rd)) yes (λ κs x f. refl),
           (
             Goes-dropped 𝓛 5 num yes (λ κs x f. refl),
-            (Goes-dropped 𝓛 5 num yes (λ κs x f. refl), (Goes-dropped 𝓛 5 about yes (λ κs x f. refl), tt)),
+            (Goes-dropped 𝓛 5 num yes (λ κs x f. refl), (Goes-dropped 𝓛 5 num yes (λ κs x f. refl), (Goes-dropped 𝓛 5 about yes (λ κs x f. refl), tt))),
           ),
         ),
       ),
     )
     (#self inst) fn (code.unfolded 𝓤 H 𝓜 𝓡 wired (X, (P, (U, (F, tt)))) d)
-    (λ κs. ((λ x. one_of x.at ∷ []), ((λ x. one_of x.at ∷ []), ((λ x. one_of x.at ∷ []), (uint_vals w64, (uint_vals w64, (shr_vals, tt))))))) (λ κs. (
+    (λ κs. ((λ x. one_of x.at ∷ []), ((λ x. one_of x.at ∷ []), ((λ x. one_of x.at ∷ []), (uint_vals w64, (uint_vals w64, (uint_vals w64, (shr_vals, tt)))))))) (λ κs. (
       (λ x vs so. places_told u64 x.at vs so.0),
       (
         (λ x vs so. places_told (OptionOf R₀) x.at vs so.0),
-        ((λ x vs so. places_told RawPtr x.at vs so.0), (uint_Tells w64, (uint_Tells w64, (shr_Tells (named 0) κs.0 R₃, tt)))),
+        ((λ x vs so. places_told RawPtr x.at vs so.0), (uint_Tells w64, (uint_Tells w64, (uint_Tells w64, (shr_Tells (named 0) κs.0 R₃, tt))))),
       ),
     )) (λ κs qs bounds a gh are.
     let p : Ptr = a.0.at in let ws : List ℕ = a.0.items in let pv : Ptr = a.1.0.at in let xs : List (Option X.Denot) = a.1.0.items in let dp : Ptr = a.1.1.0.at in let ds : List Ptr = a.1.1.0.items in
     let roots : ℕ = a.1.1.1.0 in
-    let count : ℕ = a.1.1.1.1.0 in let b : ℕ = a.1.1.1.1.1.0.ref_ptr.0 in let o : ℕ = a.1.1.1.1.1.0.ref_ptr.1 in let about_is : F.Denot = a.1.1.1.1.1.0.now in
+    let count : ℕ = a.1.1.1.1.0 in let most : ℕ = a.1.1.1.1.1.0 in let b : ℕ = a.1.1.1.1.1.1.0.ref_ptr.0 in let o : ℕ = a.1.1.1.1.1.1.0.ref_ptr.1 in
+    let about_is : F.Denot = a.1.1.1.1.1.1.0.now in
     let cv = R₂.coded in let holds = g.holds about_is in
     let others : Fml = fsep (flft κs.1.0 qs.1.0) (fsep (flft κs.1.1.0 qs.1.1.0) (fsep (flft κs.1.1.1.0 qs.1.1.1.0)
     (fsep (flft κs.1.1.1.1.0 qs.1.1.1.1.0) ftrue))) in
     let Asked : Type 0 = ((k : ℕ) → slice_index ws k ≡ 0) × (length ws ≡ all_words roots count) × Starts holds roots ×
-    ((k : ℕ) → slice_index_or xs k None ≡ None) × (length xs ≡ count) × ((k : ℕ) → slice_index_or ds k null_ptr ≡ null_ptr) × (length ds ≡ 32) in
-    let y : (walk_of 𝓛 En hs c).Ghost = ((κs, qs, bounds, a, (one_of p ∷ [], (one_of pv ∷ [], (one_of dp ∷ [], (vint w64 roots ∷ [], (vint w64 count ∷ [], (vptr b o ∷ [], tt))))))), gh) in
+    ((k : ℕ) → slice_index_or xs k None ≡ None) × (length xs ≡ count) × ((k : ℕ) → slice_index_or ds k null_ptr ≡ null_ptr) × (length ds ≡ 32) × (count ≤ most) in
+    let y : (walk_of 𝓛 En hs c).Ghost = ((κs, qs, bounds, a, (one_of p ∷ [], (one_of pv ∷ [], (one_of dp ∷ [], (vint w64 roots ∷ [], (vint w64 count ∷ [], (vint w64 most ∷ [], (vptr b o ∷ [], tt)))))))), gh) in
     let Post : Val → SProp 𝓤 = (walk_of 𝓛 En hs c).post y in
     qed 𝓛 (((‵ (flft κs.0 qs.0) ⊛ ‵ others) ⊛ ‵ (owns (types_at En.signature.params κs) a y.0.4)) ∷ raw (fact 𝓤 _) ∷ raw (fact 𝓤 _) ∷ raw (fact 𝓤 _) ∷
     raw (fact 𝓤 _) ∷ raw (fact 𝓤 Asked) ∷ []) ∵
@@ -103,18 +104,18 @@ open_spec 𝓤 𝓛 𝓜 𝓡 wired X P U F LX LP LU LF g d _ =
     -- [the words; the places; the doors; the token; the others]
     rewrite ! 2 (λ (qs : List Ptr). ‵ (pointers (block_of dp) (count_of dp) qs)) (nulls_are 32 ds asked.6 asked.5) refl $
     rewrite ! 1 (λ (ys : List (Option X.Denot)). ‵ (places R₀ (block_of pv) (count_of pv) ys)) (nones_are count xs asked.4 asked.3) refl $
-    enter ! 𝓣.C 𝓣.Λ fn (one_of p ∷ one_of pv ∷ one_of dp ∷ vint w64 roots ∷ vint w64 count ∷ vptr b o ∷ []) Post $
+    enter ! 𝓣.C 𝓣.Λ fn (one_of p ∷ one_of pv ∷ one_of dp ∷ vint w64 roots ∷ vint w64 count ∷ vint w64 most ∷ vptr b o ∷ []) Post $
     alloc_all ! (λ l. pass_all ! refl (
       one_good p,
       (
         one_good pv,
-        (one_good dp, ((tt, record { fits = are.1.1.1.0.1 }), ((tt, record { fits = are.1.1.1.1.0.1 }), ((tt, tt), tt)))),
+        (one_good dp, ((tt, record { fits = are.1.1.1.0.1 }), ((tt, record { fits = are.1.1.1.1.0.1 }), ((tt, record { fits = are.1.1.1.1.1.0.1 }), ((tt, tt), tt))))),
       ),
     ) $
     let small : all_words roots count * 8 < 2 ^ 63 = subst (λ (n : ℕ). n * 8 < 2 ^ 63) asked.1 fits.1 in
     let room : count * stride R₀ < 2 ^ 63 = subst (λ (n : ℕ). n * stride R₀ < 2 ^ 63) asked.4 roomy.1 in
-    use3 𝓛 (later (items (λ (z : BaseId). given ((z.roots ≡ roots) × (z.count ≡ count) × (z.values ≡ pv) × (z.size ≡ count) × (z.least ≡ count) × (z.doors ≡ dp) × IsFirst p z) (‵ (words_own R₀ cv.code holds p z)))))
-    (opens 𝓛 R₀ cv holds p pv dp roots count (g.newcomer about_is) ws asked.0 asked.1 (fits.0, small, roomy.0, room, shut) asked.2) $
+    use3 𝓛 (later (items (λ (z : BaseId). given ((z.roots ≡ roots) × (z.count ≡ most) × (z.values ≡ pv) × (z.size ≡ count) × (z.least ≡ count) × (z.doors ≡ dp) × IsFirst p z) (‵ (words_own R₀ cv.code holds p z)))))
+    (opens 𝓛 R₀ cv holds p pv dp roots count most asked.7 (g.newcomer about_is) ws asked.0 asked.1 (fits.0, small, roomy.0, room, shut) asked.2) $
     await ! tt $ pick ! (λ z. learn ! (λ is.
     sets ! (of_opd ! (get_in ! (fld ! refl (stop !)) (sub ! 0 refl (whole !)))) refl (Ptr-Good p) $
     sets ! (of_opd ! (get_in ! (fld ! refl (stop !)) (sub ! 0 refl (whole !)))) refl (Ptr-Good pv) $ sets ! (agg ! (no_more !)) refl (tt, tt) $
@@ -123,12 +124,12 @@ open_spec 𝓤 𝓛 𝓜 𝓡 wired X P U F LX LP LU LF g d _ =
     sets ! (agg ! (and_then ! (get ! refl) (and_then ! (get ! refl) (no_more !)))) refl (words_good p pv) $
     let t : Row.Denot = record { words = p; marker = record {}; id = z; fixed = about_is } in let q : Pl.Denot = record { at = pv } in
     let pair : Val = vstruct (vcons (hand_of p) (vcons (one_of pv) vnil)) in
-    let Told : Type 0 = (p ≡ p) × (z.roots ≡ roots) × (z.count ≡ count) × (z.values ≡ pv) × (z.size ≡ count) × (z.least ≡ count) × (z.doors ≡ dp) × IsFirst p z × (about_is ≡ about_is) × (pv ≡ pv) in
+    let Told : Type 0 = (p ≡ p) × (z.roots ≡ roots) × (z.count ≡ most) × (z.values ≡ pv) × (z.size ≡ count) × (z.least ≡ count) × (z.doors ≡ dp) × IsFirst p z × (about_is ≡ about_is) × (pv ≡ pv) in
     use0 𝓛 (‵ ((Data R₀ R₁ R₂ R₃ g).own_val (p, (tt, tt)) (hand_of p ∷ []))) (hand_made R₀ R₁ R₂ R₃ g 𝓛 p) $ fjoin ! $
     use0 𝓛 (‵ (Pl.own_val q (one_of pv ∷ []))) (place_made R₀ 𝓛 pv) $
     nothing ! $ move ! (2 ∷ 1 ∷ 0 ∷ []) $ fjoin3 ! $ feq_i ! (List Val) (pair ∷ []) (pair ∷ []) refl $ fjoin ! $
     fpack ! (Valss (Row ∷ Pl ∷ [])) (within (declared.shape (tuple_type (Row ∷ Pl ∷ []))) (t, (q, tt)) (pair ∷ [])) (hand_of p ∷ [], (one_of pv ∷ [], tt)) $
-    nothing ! $ nothing ! $ fjoin ! $ nothing ! $ fjoin ! $ nothing ! $ fjoin ! $ nothing ! $ fjoin ! $ nothing ! $ fjoin ! $ nothing ! $ fjoin ! $ move ! (2 ∷ 3 ∷ []) $ join ! $
+    nothing ! $ nothing ! $ fjoin ! $ nothing ! $ fjoin ! $ nothing ! $ fjoin ! $ nothing ! $ fjoin ! $ nothing ! $ fjoin ! $ nothing ! $ fjoin ! $ nothing ! $ fjoin ! $ move ! (2 ∷ 3 ∷ []) $ join ! $
     use0 𝓛 (raw (fact 𝓤 Told)) (fact_i 𝓤 Told (emp 𝓤) (refl, is.0, is.1, is.2, is.3, is.4, is.5, is.6, refl, refl)) $
     returns ! (look_at ! 0 refl) $ free_all ! refl $ keep ! (1 ∷ 2 ∷ 3 ∷ 0 ∷ []) $
-    by ! (leaves 𝓛 En hs c y pair (t, q) (tt, (tt, (tt, (tt, (tt, (tt, tt)))))) (tt, (tt, (tt, (tt, (tt, (tt, tt)))))))))))))))
+    by ! (leaves 𝓛 En hs c y pair (t, q) (tt, (tt, (tt, (tt, (tt, (tt, (tt, tt))))))) (tt, (tt, (tt, (tt, (tt, (tt, (tt, tt))))))))))))))))
