@@ -4,14 +4,14 @@ use Rattle.std.specs.Prelude.{Option, None, slice_index_or, replicate}
 use Rattle.std.proofs.lemmas.List.{length-replicate}
 use seplogic.Ra.Ura.{Ura}
 use mir.Val.{Val, WT, has_ty, vint, vptr, vstruct, of_list}
-use mir.Syntax.{w64, Callee}
+use mir.Syntax.{w64, ty_ptr, Callee}
 use prog.Model.{Model}
 use prog.Wired.{Wired}
 use base.Fraction.{full_share}
 use base.Logic.{SProp, ent, sep, guard, emp, never, via, fst∗, mono∗, id⊢}
 use base.Fml.{Lft, Share, Fml, ftrue, fsep, flft}
 use types.Logic.{Logic, sem}
-use types.Kit.{Item, mean, ‵, raw, ◌⊛◌, some as items, given, later, ◌$◌, ◌∵◌, !, qed, move, keep, drop, use0, use1, split, join, pick, rewrite, fsplit, fsplit3, fjoin, fpick, feq_l, feq_i, flt_i, flt_l, check, show, await, updating, now, done}
+use types.Kit.{Item, mean, ‵, raw, ◌⊛◌, some as items, given, later, ◌$◌, ◌∵◌, !, qed, move, keep, drop, use0, use1, split, join, pick, rewrite, fsplit, fsplit3, fjoin, fpick, fpack, feq_l, feq_i, flt_i, flt_l, check, show, await, updating, now, done}
 use contract.BorrowLft.{◌⊑◌}
 use contract.Monad.{fact, fact_i}
 use contract.Running.{Running, MachineTables, tables}
@@ -19,12 +19,13 @@ use denote.RattleType.{RattleType}
 use denote.Builtin.{usize, u64, RawPtr}
 use denote.Param.{layout}
 use denote.Plain.{uint_in, uint_out}
-use denote.RawPtr.{Ptr, block_ptr, block_of, count_of, at_block, InBlock, in_block, in_a_block}
+use denote.RawPtr.{Ptr, block_ptr, null_ptr, ptr_val, block_of, count_of, at_block, InBlock, in_block, in_a_block}
 use denote.Steps.{only, heard, nothing}
-use denote.Memory.{part_at}
+use denote.Memory.{part_at, part_of, cell_at}
 use denote.Struct.Tuple.{Tuple}
 use denote.Triple.Spec.{triple_of}
 use denote.Triple.Statement.{Contract}
+use Rattle.core.specs.Sync.RawAtomic.Pointer.{cell}
 use Rattle.core.specs.Mem.Slots.Ownership.{owned, slots, Filled}
 use Rattle.core.specs.Mem.Slots.{slots_items, slots_filled, slots_ptr, slots_len, slots_counts, IsFull}
 use Rattle.core.specs.contracts.slots.Slots.from_raw_parts as joining
@@ -39,6 +40,7 @@ use Rattle.core.proofs.mem.Param.{El, R, args, el_x}
 use Rattle.core.proofs.slots.Opens.{Sr, words_val, row_val, row_had, row_made}
 use Rattle.std.proofs.raw_atomic.Calls.{fm}
 use Rattle.core.specs.contracts.option.Option.{the_row as OptionOf}
+use Rattle.seize_seats.specs.Doors.{pointers}
 use Rattle.seize_seats.specs.Owned.{row, stride, places}
 use Rattle.seize_blocks.specs.Placed.{all_full}
 
@@ -205,6 +207,51 @@ module _ {M : Type 1} {𝓤 : Ura M} (𝓛 : Logic 𝓤) (Y : RattleType) where
         use1 𝓛 (‵ (Slotted (block_of p) (count_of p) xs)) (places_in (block_of p) xs (count_of p)) $
         flt_i ! (length xs * stride Y) (2 ^ 63) fits.1 $ fjoin ! $
         rewrite ! 0 (λ (r : Ptr). ‵ (owned (OptionOf Y) r (length xs) xs (all_full (length xs)))) (sym at) refl $ done !
+
+-- places of addresses are pointers side by side, and the other way round
+module _ {M : Type 1} {𝓤 : Ura M} (𝓛 : Logic 𝓤) where
+  pointer_out : (p : Ptr) (b o : ℕ) → ent 𝓤 (sem 𝓛 (part_at RawPtr full_share p b o)) (sem 𝓛 (cell b o p))
+  unfolding part_of
+  pointer_out p b o = qed 𝓛 (‵ (part_at RawPtr full_share p b o) ∷ []) ∵ fpick ! (λ vs. fsplit ! $ move ! (1 ∷ []) $ feq_l ! (λ e.
+      rewrite ! 0 (λ (us : List Val). ‵ (cell_at full_share (ty_ptr ∷ []) us b o)) e refl $ done !))
+
+  pointer_in : (p : Ptr) (b o : ℕ) → ent 𝓤 (sem 𝓛 (cell b o p)) (sem 𝓛 (part_at RawPtr full_share p b o))
+  unfolding part_of
+  pointer_in p b o = qed 𝓛 (‵ (cell b o p) ∷ []) ∵ feq_i ! (List Val) (ptr_val p ∷ []) (ptr_val p ∷ []) refl $ move ! (1 ∷ 0 ∷ []) $ fjoin ! $
+      fpack ! (List Val) (λ vs. fsep (cell_at full_share (ty_ptr ∷ []) vs b o) (RawPtr.own_val p vs)) (ptr_val p ∷ []) $ done !
+
+  abbrev Addresses : ℕ → ℕ → List Ptr → Fml
+  Addresses b o xs = slots RawPtr (block_ptr b o) xs (all_full (length xs))
+
+  addresses_out : (b : ℕ) (xs : List Ptr) (o : ℕ) → ent 𝓤 (sem 𝓛 (Addresses b o xs)) (sem 𝓛 (pointers b o xs))
+  addresses_out b [] o = id⊢ 𝓤 (emp 𝓤)
+  addresses_out b (x ∷ xs) o = mono∗ 𝓤 (pointer_out x b o) (addresses_out b xs (o + 8))
+
+  addresses_in : (b : ℕ) (xs : List Ptr) (o : ℕ) → ent 𝓤 (sem 𝓛 (pointers b o xs)) (sem 𝓛 (Addresses b o xs))
+  addresses_in b [] o = id⊢ 𝓤 (emp 𝓤)
+  addresses_in b (x ∷ xs) o = mono∗ 𝓤 (pointer_in x b o) (addresses_in b xs (o + 8))
+
+  module _ (p : Ptr) (xs : List Ptr) where
+    abbrev pub Doorway : Fml
+    Doorway = owned RawPtr p (length xs) xs (all_full (length xs))
+
+    pub doorway_out : ent 𝓤 (sem 𝓛 Doorway) (guard 𝓤 (InBlock p) (sem 𝓛 (pointers (block_of p) (count_of p) xs)))
+    doorway_out = qed 𝓛 (‵ Doorway ∷ []) ∵ fsplit ! $
+        flt_l ! (λ fit. in_a_block ! p (λ (r : Ptr). in_block r (slots RawPtr r xs (all_full (length xs)))) (id⊢ 𝓤 (never 𝓤)) (λ b o at.
+        check ! (subst InBlock (sym at) tt) $ use1 𝓛 (‵ (pointers b o xs)) (addresses_out b xs o) $
+        rewrite ! 0 (λ (t : ℕ × ℕ). ‵ (pointers t.0 t.1 xs)) (λ i. (block_of (sym at i), count_of (sym at i))) refl $ done !))
+
+    pub doorway_in : InBlock p → length xs * 8 < 2 ^ 63 → ent 𝓤 (sem 𝓛 (pointers (block_of p) (count_of p) xs)) (sem 𝓛 Doorway)
+    doorway_in there few = let at : p ≡ block_ptr (block_of p) (count_of p) = at_block p there in qed 𝓛 (‵ (pointers (block_of p) (count_of p) xs) ∷ []) ∵
+        use1 𝓛 (‵ (Addresses (block_of p) (count_of p) xs)) (addresses_in (block_of p) xs (count_of p)) $
+        flt_i ! (length xs * 8) (2 ^ 63) few $ fjoin ! $
+        rewrite ! 0 (λ (r : Ptr). ‵ (owned RawPtr r (length xs) xs (all_full (length xs)))) (sym at) refl $ done !
+
+pub nulls_are : (n : ℕ) (xs : List Ptr) → length xs ≡ n → ((k : ℕ) → slice_index_or xs k null_ptr ≡ null_ptr) → xs ≡ replicate n null_ptr
+nulls_are zero [] l none = refl
+nulls_are zero (x ∷ xs) l none = absurd (omega (arith, l))
+nulls_are (suc n) [] l none = absurd (omega (arith, l))
+nulls_are (suc n) (x ∷ xs) l none = let first : x ≡ null_ptr = none 0 in let rest = nulls_are n xs (omega (arith, l)) (λ k. none (suc k)) in cc (first, rest)
 
 -- each place holds none
 pub nones_are : {X : Type 0} (n : ℕ) (xs : List (Option X)) → length xs ≡ n → ((k : ℕ) → slice_index_or xs k None ≡ None) → xs ≡ replicate n None

@@ -1,5 +1,6 @@
 //! The memory as a whole, as those use it who share it.
 ghost use Rattle.std.specs.Prelude.{◌≡◌, ◌+◌, ◌-◌, ◌*◌, ◌≤◌, ◌<◌, ◌^◌, IfSome};
+ghost use denote.RawPtr.{InBlock};
 ghost use Rattle.seize_words.specs.Op.{Load, Store, Swap, Add, Or, Exchange, Make, Take, Rewrite, Room, Found, Stored, Exchanged, Made, Taken, Roomed};
 ghost use Rattle.seize_seats.specs.State.{Allows, Owns, Turns, Comes, Meets, Renews};
 ghost use Rattle.seize_seats.specs.Lines.{long};
@@ -8,7 +9,7 @@ ghost use Rattle.seize_seats.specs.Lendings.{Shown, ShownToBoth, IsValueOf, IsVa
 ghost use Rattle.seize_blocks.specs.Placed.{IsItsPlace, IsItsIndex};
 
 use crate::claim::Claim;
-use crate::place::Place;
+use crate::place::{Doors, Place};
 use crate::rule::{Meeting, Rule, Turn};
 use crate::seat::Seat;
 use crate::strip::Strip;
@@ -24,9 +25,10 @@ pub struct Blocks<T, R: Rule<T>> {
     pub(crate) roots: u64,
     pub(crate) count: u64,
     pub(crate) values: Place<T>,
+    pub(crate) doors: Doors,
     pub(crate) next: AtomicU64,
     ghost counted: { (words.id.roots ≡ roots) × (words.id.count ≡ count) },
-    ghost lies: { words.id.values ≡ values.at },
+    ghost lies: { (words.id.values ≡ values.at) × (words.id.doors ≡ doors.at) },
     ghost strip: { IsFirst words.words words.id × (words.id.size ≡ count) },
     ghost few: { (roots ≤ 65536) × (count ≤ 2 ^ 32) },
 }
@@ -34,7 +36,7 @@ pub struct Blocks<T, R: Rule<T>> {
 impl<T, R: Rule<T>> Blocks<T, R> {
     /// Where the word of a name lies: in which strip, and at which place.
     fn place_of(&self, at: At) -> (Strip<T>, u64)
-        ensures { (core_of result.0.id ≡ core_of self.now.words.id) × IsItsPlace result.0.words result.0.id at result.1 }
+        ensures { (core_of result.0.id ≡ core_of self.now.words.id) × InBlock result.0.words × IsItsPlace result.0.words result.0.id at result.1 }
     {
         (self.words.strip(), self.place_in(at))
     }
@@ -65,7 +67,7 @@ impl<T, R: Rule<T>> Blocks<T, R> {
 
     /// In which strip a number is, and its index there, if there is such a block.
     fn index_of(&self, block: u64) -> (Strip<T>, u64)
-        ensures strip { (core_of result.0.id ≡ core_of self.now.words.id) × (result.0.id.skip ≡ long self.now.words.id.roots)
+        ensures strip { (core_of result.0.id ≡ core_of self.now.words.id) × InBlock result.0.words × (result.0.id.skip ≡ long self.now.words.id.roots)
             × (result.0.id.values ≡ self.now.values.at) }
         ensures index { (result.1 < 2 ^ 32) × IsItsIndex result.0.id block result.1 }
     {
@@ -111,7 +113,7 @@ impl<T, R: Rule<T>> Blocks<T, R> {
         requires ends { Renews (R.holds self.old.words.fixed) }
         ensures same { (self.new.words.words ≡ self.old.words.words) × (self.new.words.fixed ≡ self.old.words.fixed) }
         ensures names { (self.new.words.id.roots ≡ self.old.words.id.roots) × (self.new.words.id.count ≡ self.old.words.id.count)
-            × (self.new.words.id.values ≡ self.old.words.id.values) }
+            × (self.new.words.id.values ≡ self.old.words.id.values) × (self.new.words.id.doors ≡ self.old.words.id.doors) }
     {
         self.words.renew()
     }

@@ -1,16 +1,18 @@
 //! The memory with the right to give back what it is made of.
 ghost use Rattle.std.specs.Prelude.{◌≡◌, ℕ, None, ◌+◌, ◌*◌, ◌≤◌, ◌^◌, length, slice_index, slice_index_or, IfOk};
+ghost use denote.RawPtr.{null_ptr};
 ghost use Rattle.core.specs.Mem.Slots.{slots_items, slots_filled, slots_ptr, slots_len, lease_ptr, lease_len, lease_heap, IsFull};
 ghost use Rattle.seize_seats.specs.State.{Starts};
 ghost use Rattle.seize_seats.specs.Lines.{whole};
 
 use crate::blocks::Blocks;
-use crate::place::Place;
+use crate::place::{Doors, Place};
 use crate::row::Row;
 use crate::rule::Rule;
 use crate::words::Words;
 use core::slots::{Lease, Slots, release, reserve};
 use std::alloc::{AllocError, Global};
+use std::ptr::null_mut;
 use std::sync::atomic::AtomicU64;
 
 /// A memory with the right to give its words and places back. It stays with the thread that made it, and lends the memory to others.
@@ -18,8 +20,10 @@ pub struct Home<T: Drop, R: Rule<T>> {
     pub blocks: Blocks<T, R>,
     ground: Ground<u64>,
     places: Ground<Option<T>>,
-    ghost lies: { (lease_ptr ground.lease ≡ blocks.words.words) × (lease_ptr places.lease ≡ blocks.values.at) },
-    ghost size: { (lease_len ground.lease ≡ whole blocks.words.id.roots blocks.words.id.count) × (lease_len places.lease ≡ blocks.words.id.count) },
+    doorway: Ground<*mut u64>,
+    ghost lies: { (lease_ptr ground.lease ≡ blocks.words.words) × (lease_ptr places.lease ≡ blocks.values.at) × (lease_ptr doorway.lease ≡ blocks.doors.at) },
+    ghost size: { (lease_len ground.lease ≡ whole blocks.words.id.roots blocks.words.id.count) × (lease_len places.lease ≡ blocks.words.id.count)
+        × (lease_len doorway.lease ≡ 32) },
 }
 
 /// The right to give memory back.
@@ -50,6 +54,18 @@ fn empty<T>(slots: &mut Slots<Option<T>>, count: usize)
 {
     for index in 0..count {
         slots.put(index, None);
+    }
+}
+
+/// Each place holds no address.
+fn shut(slots: &mut Slots<*mut u64>, count: usize)
+    requires { slots_len slots.old ≡ count }
+    ensures full { IsFull slots.new }
+    ensures nulls { (k : ℕ) → slice_index_or (slots_items slots.new) k null_ptr ≡ null_ptr }
+    ensures same { (slots_ptr slots.new ≡ slots_ptr slots.old) × (slots_len slots.new ≡ slots_len slots.old) }
+{
+    for index in 0..count {
+        slots.put(index, null_mut());
     }
 }
 
@@ -99,6 +115,28 @@ fn lay_empty<T: Drop>(
     Ok((Row::of(slots), Ground { alloc, lease }))
 }
 
+/// So many times no address.
+fn no_addresses(alloc: Global, count: usize) -> Result<Vec<*mut u64>, AllocError>
+    ensures { IfOk result (λ v. length v.items ≡ count) }
+{
+    let mut all = Vec::with_capacity(alloc, count)?;
+    for _ in 0..count {
+        all.push(null_mut())?;
+    }
+    Ok(all)
+}
+
+/// Doors, each of them null, with the right to give them back.
+fn lay_doors(alloc: Global, count: usize) -> Result<(Row<*mut u64>, Ground<*mut u64>), AllocError>
+    ensures nulls { IfOk result (λ p. ((k : ℕ) → slice_index_or p.0.items k null_ptr ≡ null_ptr) × (length p.0.items ≡ count)) }
+    ensures lease { IfOk result (λ p. (lease_ptr p.1.lease ≡ p.0.at) × (lease_len p.1.lease ≡ count)) }
+{
+    let like = no_addresses(alloc, count)?;
+    let (mut slots, lease) = (unsafe { reserve(&alloc, like.as_slice()) })?;
+    shut(&mut slots, count);
+    Ok((Row::of(slots), Ground { alloc, lease }))
+}
+
 /// Gives memory back.
 fn give_back<E>(ground: Ground<E>, slots: Slots<E>)
     requires { (lease_ptr ground.lease ≡ slots_ptr slots) × (lease_len ground.lease ≡ slots_len slots) }
@@ -116,25 +154,39 @@ impl<T: Drop, R: Rule<T>> Home<T, R> {
     {
         let long = ((roots + roots + 32) * 16 + count * 5) as usize;
         let (row, ground) = lay(alloc, long)?;
-        match lay_empty::<T>(alloc, count as usize) {
-            Ok((empty, places)) => {
-                let (words, values) = Words::open(row, empty, roots, count, fixed);
+        let (empty, places) = match lay_empty::<T>(alloc, count as usize) {
+            Ok(laid) => laid,
+            Err(refused) => {
+                give_back(ground, row.into_slots(long));
+                return Err(refused);
+            }
+        };
+        match lay_doors(alloc, 32) {
+            Ok((nulls, doorway)) => {
+                let (words, values, doors) = Words::open(
+                    row, empty, nulls, roots, count, count, fixed,
+                );
                 let next = AtomicU64::new(0);
                 let blocks = Blocks {
                     words,
                     roots,
                     count,
                     values,
+                    doors,
                     next,
                 };
                 Ok(Home {
                     blocks,
                     ground,
                     places,
+                    doorway,
                 })
             }
             Err(refused) => {
                 give_back(ground, row.into_slots(long));
+                let mut slots = empty.into_slots(count as usize);
+                drain(&mut slots, count as usize);
+                give_back(places, slots);
                 Err(refused)
             }
         }
@@ -147,16 +199,20 @@ impl<T: Drop, R: Rule<T>> Drop for Home<T, R> {
             blocks,
             ground,
             places,
+            doorway,
         } = self;
         let Blocks {
             words,
             roots,
             count,
             values,
+            doors,
             next: _,
         } = blocks;
         let Place { at } = values;
-        let (row, kept) = words.close(at);
+        let Doors { at: nulls } = doors;
+        let (row, kept, shut) = words.close(at, nulls);
+        give_back(doorway, shut.into_slots(32));
         give_back(
             ground,
             row.into_slots(((roots + roots + 32) * 16 + count * 5) as usize),

@@ -17,6 +17,10 @@ pub mod Lends
 pub mod Steps
 pub mod Opening
 pub mod Joining
+pub mod Doors
+pub mod Looks
+pub mod Offers
+pub mod Finds
 pub mod Meetings
 pub mod Renewal
 pub mod Shares
