@@ -18,6 +18,10 @@ abbrev pub IsItsIndex : BaseId → ℕ → ℕ → Type 0
 IsItsIndex z block index =
     (0 < block → block ≤ z.count → IsIts z (block - 1)) × (0 < block → IsIts z (block - 1) → index ≡ block - 1 - z.first)
 
+-- the number of this index is one of the strip behind this door, and so many come before those of the strip
+abbrev pub IsBehind : ℕ → ℕ → ℕ → ℕ → Type 0
+IsBehind least index door first = (first ≡ least * 2 ^ door) × (first ≤ index) × (index < first * 2) × (door < 32)
+
 -- of so many places each is full
 abbrev pub all_full : ℕ → List Bool
 all_full n = replicate n true

@@ -1,6 +1,7 @@
 -- The state of a memory that seats share, and what each step of a seat owes to the rule.
-use Rattle.std.specs.Prelude.{◌≡◌, ◌≢◌, ℕ, List, [], ◌∷◌, ◌++◌, Option, Some, slice_get, slice_set, replicate}
-use Rattle.seize_words.specs.Mem.{Mem, Can, Took}
+use Rattle.std.specs.Prelude.{◌≡◌, ◌≢◌, ℕ, List, [], ◌∷◌, ◌++◌, Option, Some, IsSome, slice_get, slice_set, replicate}
+use Rattle.seize_words.specs.declared.at.At.{At}
+use Rattle.seize_words.specs.Mem.{Mem, Can, Took, word_at}
 use Rattle.seize_words.specs.Op.{Op, Out, Take}
 
 -- A seat is known by its number; each has a view, which is plain data: what it knows. The world is what the rule keeps beside these.
@@ -57,6 +58,10 @@ module _ {T V W : Type 0} where
     abbrev pub Allows : ℕ → V → Op T → (Out T → V → Type 0) → Type 0
     Allows id v op so =
         (s : State T V W) → holds s → view_of s id ≡ Some v → Can s.memory op × ((out : Out T) (m : Mem T) → Took s.memory op out m → Goes s m id (so out))
+
+    -- Whatever the state is, if the seat has this view there is such a word.
+    abbrev pub HasWord : ℕ → V → At → Type 0
+    HasWord id v at = (s : State T V W) → holds s → view_of s id ≡ Some v → IsSome (word_at s.memory at)
 
     -- The seat may take the block away. So it has the block to itself: what another seat knows is so, too, where the block is gone.
     abbrev pub Owns : ℕ → V → ℕ → Type 0
