@@ -38,6 +38,10 @@ module _ {T V W : Type 0} where
       (s : State T V W) → holds s → view_of s i ≡ Some v → view_of s j ≡ Some u → i ≢ j
       → (v' u' : V) × holds record { memory = s.memory; views = slice_set (slice_set s.views i v') j u'; world = s.world } × so v' u'
 
+  -- Whatever the state is, if the seat has this view there is such a word.
+  abbrev pub HasWord : (State T V W → Type 0) → ℕ → V → At → Type 0
+  HasWord holds id v at = (s : State T V W) → holds s → view_of s id ≡ Some v → IsSome (word_at s.memory at)
+
   -- The rule holds of the memory as it is with no seat.
   abbrev pub Renews : (State T V W → Type 0) → Type 0
   Renews holds = (s : State T V W) → holds s → (w : W) × holds record { memory = s.memory; views = []; world = w }
@@ -58,10 +62,6 @@ module _ {T V W : Type 0} where
     abbrev pub Allows : ℕ → V → Op T → (Out T → V → Type 0) → Type 0
     Allows id v op so =
         (s : State T V W) → holds s → view_of s id ≡ Some v → Can s.memory op × ((out : Out T) (m : Mem T) → Took s.memory op out m → Goes s m id (so out))
-
-    -- Whatever the state is, if the seat has this view there is such a word.
-    abbrev pub HasWord : ℕ → V → At → Type 0
-    HasWord id v at = (s : State T V W) → holds s → view_of s id ≡ Some v → IsSome (word_at s.memory at)
 
     -- The seat may take the block away. So it has the block to itself: what another seat knows is so, too, where the block is gone.
     abbrev pub Owns : ℕ → V → ℕ → Type 0
