@@ -30,6 +30,7 @@ use Rattle.seize_blocks.specs.contracts.row.Row as row
 use Rattle.seize_blocks.specs.contracts.claim.Claim as claim
 use Rattle.seize_blocks.specs.contracts.strip.Strip as strip
 use Rattle.seize_blocks.specs.contracts.place.Place as place
+use Rattle.seize_blocks.specs.contracts.place.Doors as doors
 
 pub word_laws : Laws u64
 word_laws = of_field u64-field u64-laws refl (copy_shared u64-field u64-copy)
@@ -97,13 +98,6 @@ pub one_good : (p : Ptr) → T (has_ty (ty_struct [] (tcons ty_ptr tnil)) (one_o
 one_good (block_ptr b o) = (tt, (tt, tt))
 one_good null_ptr = (tt, ((Ptr-Good null_ptr).1, tt))
 
-pub pair_good : (p q : Ptr) → T (has_ty (ty_struct [] (tcons (ty_struct [] (tcons ty_ptr tnil)) (tcons (ty_struct [] (tcons ty_ptr tnil)) tnil)))
-    (vstruct (vcons (one_of p) (vcons (one_of q) vnil)))) × WT (vstruct (vcons (one_of p) (vcons (one_of q) vnil)))
-pair_good (block_ptr b o) (block_ptr c u) = (tt, ((tt, tt), ((tt, tt), tt)))
-pair_good (block_ptr b o) null_ptr = (tt, ((tt, tt), (((Ptr-Good null_ptr).1, tt), tt)))
-pair_good null_ptr (block_ptr c u) = (tt, (((Ptr-Good null_ptr).1, tt), ((tt, tt), tt)))
-pair_good null_ptr null_ptr = (tt, (((Ptr-Good null_ptr).1, tt), (((Ptr-Good null_ptr).1, tt), tt)))
-
 three_typed : (p q r : Ptr) → T (has_ty (ty_struct [] (tcons (ty_struct [] (tcons ty_ptr tnil)) (tcons (ty_struct [] (tcons ty_ptr tnil)) (tcons (ty_struct [] (tcons ty_ptr tnil)) tnil))))
     (vstruct (vcons (one_of p) (vcons (one_of q) (vcons (one_of r) vnil)))))
 three_typed (block_ptr b o) (block_ptr c u) (block_ptr d v) = tt
@@ -119,6 +113,18 @@ pub three_good : (p q r : Ptr) → T (has_ty (ty_struct [] (tcons (ty_struct [] 
     (vstruct (vcons (one_of p) (vcons (one_of q) (vcons (one_of r) vnil)))))
     × WT (vstruct (vcons (one_of p) (vcons (one_of q) (vcons (one_of r) vnil))))
 three_good p q r = (three_typed p q r, ((one_good p).1, ((one_good q).1, ((one_good r).1, tt))))
+
+opened_typed : (p q r : Ptr)
+    → T (has_ty (ty_struct [] (tcons (ty_struct [] (tcons ty_ptr (tcons (ty_struct [] tnil) tnil))) (tcons (ty_struct [] (tcons ty_ptr tnil)) (tcons (ty_struct [] (tcons ty_ptr tnil)) tnil))))
+    (vstruct (vcons (hand_of p) (vcons (one_of q) (vcons (one_of r) vnil)))))
+opened_typed (block_ptr b o) (block_ptr c u) (block_ptr d v) = tt
+opened_typed (block_ptr b o) (block_ptr c u) null_ptr = tt
+opened_typed (block_ptr b o) null_ptr (block_ptr d v) = tt
+opened_typed (block_ptr b o) null_ptr null_ptr = tt
+opened_typed null_ptr (block_ptr c u) (block_ptr d v) = tt
+opened_typed null_ptr (block_ptr c u) null_ptr = tt
+opened_typed null_ptr null_ptr (block_ptr d v) = tt
+opened_typed null_ptr null_ptr null_ptr = tt
 
 pub hand_good : (p : Ptr) → T (has_ty (ty_struct [] (tcons ty_ptr (tcons (ty_struct [] tnil) tnil))) (hand_of p)) × WT (hand_of p)
 hand_good (block_ptr b o) = (tt, (tt, (tt, tt)))
@@ -148,6 +154,14 @@ strip_made 𝓛 R p = makes_shadow 𝓛 ((StripData R).own_val (p, (tt, tt)) (ha
   (refl, (refl, ((tt, (refl, tt)), tt))),
 )
 
+pub opened_good : (p q r : Ptr)
+    → T (has_ty (ty_struct [] (tcons (ty_struct [] (tcons ty_ptr (tcons (ty_struct [] tnil) tnil))) (tcons (ty_struct [] (tcons ty_ptr tnil)) (tcons (ty_struct [] (tcons ty_ptr tnil)) tnil))))
+    (vstruct (vcons (hand_of p) (vcons (one_of q) (vcons (one_of r) vnil))))) × WT (vstruct (vcons (hand_of p) (vcons (one_of q) (vcons (one_of r) vnil))))
+opened_good p q r = (opened_typed p q r, ((hand_good p).1, ((one_good q).1, ((one_good r).1, tt))))
+
+pub doors_made : {M : Type 1} {𝓤 : Ura M} (𝓛 : Logic 𝓤) (p : Ptr) → ent 𝓤 (emp 𝓤) (sem 𝓛 (doors.the_row.own_val record { at = p } (one_of p ∷ [])))
+doors_made 𝓛 p = makes_shadow 𝓛 (doors.the_row.own_val record { at = p } (one_of p ∷ [])) (λ vss. (tt, (tt, tt))) ((ptr_val p ∷ [], tt), (refl, (refl, tt)))
+
 -- what an attempt to claim a number found
 abbrev pub claim_of : ℕ → Val
 claim_of n = vstruct (vcons (vint w64 n) vnil)
@@ -167,11 +181,3 @@ claim_made 𝓛 n fits = qed 𝓛 [] ∵ nothing ! $ flt_i ! n (2 ^ 64) fits $ f
 module _ (R : RattleType) where
   pub place_made : {M : Type 1} {𝓤 : Ura M} (𝓛 : Logic 𝓤) (p : Ptr) → ent 𝓤 (emp 𝓤) (sem 𝓛 ((place.the_row R).own_val record { at = p } (one_of p ∷ [])))
   place_made 𝓛 p = makes_shadow 𝓛 ((place.the_row R).own_val record { at = p } (one_of p ∷ [])) (λ vss. (tt, (tt, tt))) ((ptr_val p ∷ [], tt), (refl, (refl, tt)))
-
-pub words_good : (p q : Ptr)
-    → T (has_ty (ty_struct [] (tcons (ty_struct [] (tcons ty_ptr (tcons (ty_struct [] tnil) tnil))) (tcons (ty_struct [] (tcons ty_ptr tnil)) tnil)))
-    (vstruct (vcons (hand_of p) (vcons (one_of q) vnil)))) × WT (vstruct (vcons (hand_of p) (vcons (one_of q) vnil)))
-words_good (block_ptr b o) (block_ptr c u) = (tt, ((tt, (tt, tt)), ((tt, tt), tt)))
-words_good (block_ptr b o) null_ptr = (tt, ((tt, (tt, tt)), (((Ptr-Good null_ptr).1, tt), tt)))
-words_good null_ptr (block_ptr c u) = (tt, (((Ptr-Good null_ptr).1, (tt, tt)), ((tt, tt), tt)))
-words_good null_ptr null_ptr = (tt, (((Ptr-Good null_ptr).1, (tt, tt)), (((Ptr-Good null_ptr).1, tt), tt)))

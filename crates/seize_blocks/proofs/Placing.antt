@@ -11,7 +11,7 @@ use base.Fraction.{full_share}
 use base.Logic.{SProp, ent, sep, guard, emp, never, via, fst∗, mono∗, id⊢}
 use base.Fml.{Lft, Share, Fml, ftrue, fsep, flft}
 use types.Logic.{Logic, sem}
-use types.Kit.{Item, mean, ‵, raw, ◌⊛◌, some as items, given, later, ◌$◌, ◌∵◌, !, qed, move, keep, drop, use0, use1, split, join, pick, rewrite, fsplit, fsplit3, fjoin, fpick, feq_l, feq_i, flt_i, flt_l, check, show, await, updating, now, done}
+use types.Kit.{Item, mean, ‵, raw, ◌⊛◌, some as items, given, later, ◌$◌, ◌∵◌, !, qed, move, keep, drop, use0, use1, split, join, pick, rewrite, fsplit, fsplit3, fjoin, fpick, fpack, feq_l, feq_i, flt_i, flt_l, check, show, await, updating, now, done}
 use contract.BorrowLft.{◌⊑◌}
 use contract.Monad.{fact, fact_i}
 use contract.Running.{Running, MachineTables, tables}

@@ -163,8 +163,9 @@ impl<T: Drop, R: Rule<T>> Home<T, R> {
         };
         match lay_doors(alloc, 32) {
             Ok((nulls, doorway)) => {
-                let doors = Doors { at: nulls.at };
-                let (words, values) = Words::open(row, empty, nulls, roots, count, count, fixed);
+                let (words, values, doors) = Words::open(
+                    row, empty, nulls, roots, count, count, fixed,
+                );
                 let next = AtomicU64::new(0);
                 let blocks = Blocks {
                     words,

@@ -11,7 +11,7 @@ ghost use Rattle.seize_seats.specs.Owned.{BaseId, base_id_coded, core_of, IsFirs
 ghost use Rattle.seize_blocks.specs.Placed.{IsItsPlace, IsItsSign, IsItsIndex};
 
 use crate::claim::Claim;
-use crate::place::Place;
+use crate::place::{Doors, Place};
 use crate::row::Row;
 use crate::rule::{Meeting, Rule, Turn};
 use crate::seat::Seat;
@@ -45,23 +45,25 @@ impl<T, R: Rule<T>> Words<T, R> {
         _count: u64,
         _most: u64,
         fixed: &R::Fixed,
-    ) -> (Self, Place<T>)
+    ) -> (Self, Place<T>, Doors)
         requires { ((k : ℕ) → slice_index row.items k ≡ 0) × (length row.items ≡ whole _roots _count) × Starts (R.holds fixed.now) _roots
             × ((k : ℕ) → slice_index_or values.items k None ≡ None) × (length values.items ≡ _count)
             × ((k : ℕ) → slice_index_or doors.items k null_ptr ≡ null_ptr) × (length doors.items ≡ 32)
             × (_count ≤ _most) }
         ensures { (result.0.words ≡ row.at) × (result.0.id.roots ≡ _roots) × (result.0.id.count ≡ _most) × (result.0.id.values ≡ values.at)
-            × (result.0.id.size ≡ _count) × (result.0.id.least ≡ _count) × (result.0.id.doors ≡ doors.at) × IsFirst row.at result.0.id × (result.0.fixed ≡ fixed.now) × (result.1.at ≡ values.at) }
+            × (result.0.id.size ≡ _count) × (result.0.id.least ≡ _count) × (result.0.id.doors ≡ doors.at) × IsFirst row.at result.0.id × (result.0.fixed ≡ fixed.now) × (result.1.at ≡ values.at)
+            × (result.2.at ≡ doors.at) }
     {
         let Row { at } = row;
         let Row { at: places } = values;
-        let Row { at: _ } = doors;
+        let Row { at: shut } = doors;
         (
             Words {
                 words: at,
                 marker: PhantomData,
             },
             Place { at: places },
+            Doors { at: shut },
         )
     }
 

@@ -1,5 +1,5 @@
 -- `open` puts the words under a new invariant.
-use Rattle.std.proofs.Common.{◌≡◌, ℕ, List, [], ◌∷◌, length, ◌*◌, ◌^◌, ◌<◌, refl, subst, w64}
+use Rattle.std.proofs.Common.{◌≡◌, ℕ, List, [], ◌∷◌, length, ◌*◌, ◌^◌, ◌<◌, ◌≤◌, refl, subst, w64}
 use Rattle.std.specs.Prelude.{slice_index, slice_index_or, Option, None}
 use mir.Syntax.{dcons, dnil, a_type, named}
 use mir.MapTy.{inst_fn}
@@ -35,7 +35,8 @@ use Rattle.seize_seats.specs.Doors.{pointers}
 use Rattle.seize_blocks.specs.contracts.words.Words as words
 use Rattle.seize_blocks.specs.contracts.row.Row as row
 use Rattle.seize_blocks.specs.contracts.place.Place as place
-use Rattle.seize_blocks.proofs.Fields.{hand_of, hand_good, hand_made, one_of, one_good, places_told, place_made, words_good, Data}
+use Rattle.seize_blocks.specs.contracts.place.Doors as doors
+use Rattle.seize_blocks.proofs.Fields.{hand_of, hand_good, hand_made, one_of, one_good, places_told, place_made, doors_made, opened_good, Data}
 use Rattle.seize_blocks.proofs.Placing.{Fits, whole_out, Roomy, values_out, nones_are, doorway_out, nulls_are}
 use Rattle.seize_seats.specs.State.{Starts}
 use Rattle.seize_seats.proofs.Opening.{opens}
@@ -51,7 +52,7 @@ open_spec 𝓤 𝓛 𝓜 𝓡 wired X P U F LX LP LU LF g d _ =
     let En = ended X P U F g d in let c = clauses X P U F g d 𝓛 𝓜.mem 𝓡.returns in
     let inst = bounded (a_type ∷ a_type ∷ a_type ∷ a_type ∷ []) (X, (P, (U, (F, tt)))) (dcons d dnil) in let fn = inst_fn inst code.function in
     let Row : RattleType = words.the_row R₀ R₁ R₂ R₃ g in let Rw : RattleType = row.the_row u64 in let Ro : RattleType = row.the_row (OptionOf R₀) in
-    let Rd : RattleType = row.the_row RawPtr in let Pl : RattleType = place.the_row R₀ in
+    let Rd : RattleType = row.the_row RawPtr in let Pl : RattleType = place.the_row R₀ in let Dd : RattleType = doors.the_row in
     let about = RefOf (0 ∷ []) tt (plain (λ _. R₃)) (λ _. tt) in let num = plain (λ _. u64) in
     let hs : Stays En.signature.params En.kept = (
       stay_dropped (plain (λ _. Rw)) yes,
@@ -118,18 +119,20 @@ open_spec 𝓤 𝓛 𝓜 𝓡 wired X P U F LX LP LU LF g d _ =
     (opens 𝓛 R₀ cv holds p pv dp roots count most asked.7 (g.newcomer about_is) ws asked.0 asked.1 (fits.0, small, roomy.0, room, shut) asked.2) $
     await ! tt $ pick ! (λ z. learn ! (λ is.
     sets ! (of_opd ! (get_in ! (fld ! refl (stop !)) (sub ! 0 refl (whole !)))) refl (Ptr-Good p) $
-    sets ! (of_opd ! (get_in ! (fld ! refl (stop !)) (sub ! 0 refl (whole !)))) refl (Ptr-Good pv) $ sets ! (agg ! (no_more !)) refl (tt, tt) $
+    sets ! (of_opd ! (get_in ! (fld ! refl (stop !)) (sub ! 0 refl (whole !)))) refl (Ptr-Good pv) $
+    sets ! (of_opd ! (get_in ! (fld ! refl (stop !)) (sub ! 0 refl (whole !)))) refl (Ptr-Good dp) $ sets ! (agg ! (no_more !)) refl (tt, tt) $
     sets ! (agg ! (and_then ! (get ! refl) (and_then ! (get ! refl) (no_more !)))) refl (hand_good p) $
-    sets ! (agg ! (and_then ! (get ! refl) (no_more !))) refl (one_good pv) $
-    sets ! (agg ! (and_then ! (get ! refl) (and_then ! (get ! refl) (no_more !)))) refl (words_good p pv) $
-    let t : Row.Denot = record { words = p; marker = record {}; id = z; fixed = about_is } in let q : Pl.Denot = record { at = pv } in
-    let pair : Val = vstruct (vcons (hand_of p) (vcons (one_of pv) vnil)) in
-    let Told : Type 0 = (p ≡ p) × (z.roots ≡ roots) × (z.count ≡ most) × (z.values ≡ pv) × (z.size ≡ count) × (z.least ≡ count) × (z.doors ≡ dp) × IsFirst p z × (about_is ≡ about_is) × (pv ≡ pv) in
+    sets ! (agg ! (and_then ! (get ! refl) (no_more !))) refl (one_good pv) $ sets ! (agg ! (and_then ! (get ! refl) (no_more !))) refl (one_good dp) $
+    sets ! (agg ! (and_then ! (get ! refl) (and_then ! (get ! refl) (and_then ! (get ! refl) (no_more !))))) refl (opened_good p pv dp) $
+    let t : Row.Denot = record { words = p; marker = record {}; id = z; fixed = about_is } in let q : Pl.Denot = record { at = pv } in let dd : Dd.Denot = record { at = dp } in
+    let pair : Val = vstruct (vcons (hand_of p) (vcons (one_of pv) (vcons (one_of dp) vnil))) in
+    let Told : Type 0 = (p ≡ p) × (z.roots ≡ roots) × (z.count ≡ most) × (z.values ≡ pv) × (z.size ≡ count) × (z.least ≡ count) × (z.doors ≡ dp) × IsFirst p z × (about_is ≡ about_is) × (pv ≡ pv) × (dp ≡ dp) in
     use0 𝓛 (‵ ((Data R₀ R₁ R₂ R₃ g).own_val (p, (tt, tt)) (hand_of p ∷ []))) (hand_made R₀ R₁ R₂ R₃ g 𝓛 p) $ fjoin ! $
-    use0 𝓛 (‵ (Pl.own_val q (one_of pv ∷ []))) (place_made R₀ 𝓛 pv) $
-    nothing ! $ move ! (2 ∷ 1 ∷ 0 ∷ []) $ fjoin3 ! $ feq_i ! (List Val) (pair ∷ []) (pair ∷ []) refl $ fjoin ! $
-    fpack ! (Valss (Row ∷ Pl ∷ [])) (within (declared.shape (tuple_type (Row ∷ Pl ∷ []))) (t, (q, tt)) (pair ∷ [])) (hand_of p ∷ [], (one_of pv ∷ [], tt)) $
+    use0 𝓛 (‵ (Pl.own_val q (one_of pv ∷ []))) (place_made R₀ 𝓛 pv) $ use0 𝓛 (‵ (Dd.own_val dd (one_of dp ∷ []))) (doors_made 𝓛 dp) $
+    nothing ! $ move ! (1 ∷ 0 ∷ []) $ fjoin ! $ move ! (2 ∷ 1 ∷ 0 ∷ []) $ fjoin3 ! $ feq_i ! (List Val) (pair ∷ []) (pair ∷ []) refl $ fjoin ! $
+    fpack ! (Valss (Row ∷ Pl ∷ Dd ∷ [])) (within (declared.shape (tuple_type (Row ∷ Pl ∷ Dd ∷ []))) (t, (q, (dd, tt))) (pair ∷ []))
+    (hand_of p ∷ [], (one_of pv ∷ [], (one_of dp ∷ [], tt))) $
     nothing ! $ nothing ! $ fjoin ! $ nothing ! $ fjoin ! $ nothing ! $ fjoin ! $ nothing ! $ fjoin ! $ nothing ! $ fjoin ! $ nothing ! $ fjoin ! $ nothing ! $ fjoin ! $ move ! (2 ∷ 3 ∷ []) $ join ! $
-    use0 𝓛 (raw (fact 𝓤 Told)) (fact_i 𝓤 Told (emp 𝓤) (refl, is.0, is.1, is.2, is.3, is.4, is.5, is.6, refl, refl)) $
+    use0 𝓛 (raw (fact 𝓤 Told)) (fact_i 𝓤 Told (emp 𝓤) (refl, is.0, is.1, is.2, is.3, is.4, is.5, is.6, refl, refl, refl)) $
     returns ! (look_at ! 0 refl) $ free_all ! refl $ keep ! (1 ∷ 2 ∷ 3 ∷ 0 ∷ []) $
-    by ! (leaves 𝓛 En hs c y pair (t, q) (tt, (tt, (tt, (tt, (tt, (tt, (tt, tt))))))) (tt, (tt, (tt, (tt, (tt, (tt, (tt, tt))))))))))))))))
+    by ! (leaves 𝓛 En hs c y pair (t, q, dd) (tt, (tt, (tt, (tt, (tt, (tt, (tt, tt))))))) (tt, (tt, (tt, (tt, (tt, (tt, (tt, tt))))))))))))))))
