@@ -51,8 +51,8 @@ impl<T, R: Rule<T>> Words<T, R> {
             × ((k : ℕ) → slice_index_or doors.items k null_ptr ≡ null_ptr) × (length doors.items ≡ 32)
             × (_count ≤ _most) }
         ensures { (result.0.words ≡ row.at) × (result.0.id.roots ≡ _roots) × (result.0.id.count ≡ _most) × (result.0.id.values ≡ values.at)
-            × (result.0.id.size ≡ _count) × (result.0.id.least ≡ _count) × (result.0.id.doors ≡ doors.at) × IsFirst row.at result.0.id × (result.0.fixed ≡ fixed.now) × (result.1.at ≡ values.at)
-            × (result.2.at ≡ doors.at) }
+            × (result.0.id.size ≡ _count) × (result.0.id.least ≡ _count) × (result.0.id.doors ≡ doors.at) × IsFirst row.at result.0.id
+            × (result.0.fixed ≡ fixed.now) × (result.1.at ≡ values.at) × (result.2.at ≡ doors.at) }
     {
         let Row { at } = row;
         let Row { at: places } = values;

@@ -82,7 +82,8 @@ open_spec 𝓤 𝓛 𝓜 𝓡 wired X P U F LX LP LU LF g d _ =
         ((λ x vs so. places_told RawPtr x.at vs so.0), (uint_Tells w64, (uint_Tells w64, (uint_Tells w64, (shr_Tells (named 0) κs.0 R₃, tt))))),
       ),
     )) (λ κs qs bounds a gh are.
-    let p : Ptr = a.0.at in let ws : List ℕ = a.0.items in let pv : Ptr = a.1.0.at in let xs : List (Option X.Denot) = a.1.0.items in let dp : Ptr = a.1.1.0.at in let ds : List Ptr = a.1.1.0.items in
+    let p : Ptr = a.0.at in let ws : List ℕ = a.0.items in let pv : Ptr = a.1.0.at in let xs : List (Option X.Denot) = a.1.0.items in
+    let dp : Ptr = a.1.1.0.at in let ds : List Ptr = a.1.1.0.items in
     let roots : ℕ = a.1.1.1.0 in
     let count : ℕ = a.1.1.1.1.0 in let most : ℕ = a.1.1.1.1.1.0 in let b : ℕ = a.1.1.1.1.1.1.0.ref_ptr.0 in let o : ℕ = a.1.1.1.1.1.1.0.ref_ptr.1 in
     let about_is : F.Denot = a.1.1.1.1.1.1.0.now in
@@ -91,7 +92,25 @@ open_spec 𝓤 𝓛 𝓜 𝓡 wired X P U F LX LP LU LF g d _ =
     (fsep (flft κs.1.1.1.1.0 qs.1.1.1.1.0) ftrue))) in
     let Asked : Type 0 = ((k : ℕ) → slice_index ws k ≡ 0) × (length ws ≡ all_words roots count) × Starts holds roots ×
     ((k : ℕ) → slice_index_or xs k None ≡ None) × (length xs ≡ count) × ((k : ℕ) → slice_index_or ds k null_ptr ≡ null_ptr) × (length ds ≡ 32) × (count ≤ most) in
-    let y : (walk_of 𝓛 En hs c).Ghost = ((κs, qs, bounds, a, (one_of p ∷ [], (one_of pv ∷ [], (one_of dp ∷ [], (vint w64 roots ∷ [], (vint w64 count ∷ [], (vint w64 most ∷ [], (vptr b o ∷ [], tt)))))))), gh) in
+    let y : (walk_of 𝓛 En hs c).Ghost = (
+      (
+        κs,
+        qs,
+        bounds,
+        a,
+        (
+          one_of p ∷ [],
+          (
+            one_of pv ∷ [],
+            (
+              one_of dp ∷ [],
+              (vint w64 roots ∷ [], (vint w64 count ∷ [], (vint w64 most ∷ [], (vptr b o ∷ [], tt)))),
+            ),
+          ),
+        ),
+      ),
+      gh,
+    ) in
     let Post : Val → SProp 𝓤 = (walk_of 𝓛 En hs c).post y in
     qed 𝓛 (((‵ (flft κs.0 qs.0) ⊛ ‵ others) ⊛ ‵ (owns (types_at En.signature.params κs) a y.0.4)) ∷ raw (fact 𝓤 _) ∷ raw (fact 𝓤 _) ∷ raw (fact 𝓤 _) ∷
     raw (fact 𝓤 _) ∷ raw (fact 𝓤 Asked) ∷ []) ∵
@@ -115,7 +134,8 @@ open_spec 𝓤 𝓛 𝓜 𝓡 wired X P U F LX LP LU LF g d _ =
     ) $
     let small : all_words roots count * 8 < 2 ^ 63 = subst (λ (n : ℕ). n * 8 < 2 ^ 63) asked.1 fits.1 in
     let room : count * stride R₀ < 2 ^ 63 = subst (λ (n : ℕ). n * stride R₀ < 2 ^ 63) asked.4 roomy.1 in
-    use3 𝓛 (later (items (λ (z : BaseId). given ((z.roots ≡ roots) × (z.count ≡ most) × (z.values ≡ pv) × (z.size ≡ count) × (z.least ≡ count) × (z.doors ≡ dp) × IsFirst p z) (‵ (words_own R₀ cv.code holds p z)))))
+    use3 𝓛 (later (items (λ (z : BaseId). given ((z.roots ≡ roots) × (z.count ≡ most) × (z.values ≡ pv) × (z.size ≡ count) × (z.least ≡ count) × (z.doors ≡ dp)
+    × IsFirst p z) (‵ (words_own R₀ cv.code holds p z)))))
     (opens 𝓛 R₀ cv holds p pv dp roots count most asked.7 (g.newcomer about_is) ws asked.0 asked.1 (fits.0, small, roomy.0, room, shut) asked.2) $
     await ! tt $ pick ! (λ z. learn ! (λ is.
     sets ! (of_opd ! (get_in ! (fld ! refl (stop !)) (sub ! 0 refl (whole !)))) refl (Ptr-Good p) $
@@ -126,13 +146,15 @@ open_spec 𝓤 𝓛 𝓜 𝓡 wired X P U F LX LP LU LF g d _ =
     sets ! (agg ! (and_then ! (get ! refl) (and_then ! (get ! refl) (and_then ! (get ! refl) (no_more !))))) refl (opened_good p pv dp) $
     let t : Row.Denot = record { words = p; marker = record {}; id = z; fixed = about_is } in let q : Pl.Denot = record { at = pv } in let dd : Dd.Denot = record { at = dp } in
     let pair : Val = vstruct (vcons (hand_of p) (vcons (one_of pv) (vcons (one_of dp) vnil))) in
-    let Told : Type 0 = (p ≡ p) × (z.roots ≡ roots) × (z.count ≡ most) × (z.values ≡ pv) × (z.size ≡ count) × (z.least ≡ count) × (z.doors ≡ dp) × IsFirst p z × (about_is ≡ about_is) × (pv ≡ pv) × (dp ≡ dp) in
+    let Told : Type 0 = (p ≡ p) × (z.roots ≡ roots) × (z.count ≡ most) × (z.values ≡ pv) × (z.size ≡ count) × (z.least ≡ count) × (z.doors ≡ dp)
+    × IsFirst p z × (about_is ≡ about_is) × (pv ≡ pv) × (dp ≡ dp) in
     use0 𝓛 (‵ ((Data R₀ R₁ R₂ R₃ g).own_val (p, (tt, tt)) (hand_of p ∷ []))) (hand_made R₀ R₁ R₂ R₃ g 𝓛 p) $ fjoin ! $
     use0 𝓛 (‵ (Pl.own_val q (one_of pv ∷ []))) (place_made R₀ 𝓛 pv) $ use0 𝓛 (‵ (Dd.own_val dd (one_of dp ∷ []))) (doors_made 𝓛 dp) $
     nothing ! $ move ! (1 ∷ 0 ∷ []) $ fjoin ! $ move ! (2 ∷ 1 ∷ 0 ∷ []) $ fjoin3 ! $ feq_i ! (List Val) (pair ∷ []) (pair ∷ []) refl $ fjoin ! $
     fpack ! (Valss (Row ∷ Pl ∷ Dd ∷ [])) (within (declared.shape (tuple_type (Row ∷ Pl ∷ Dd ∷ []))) (t, (q, (dd, tt))) (pair ∷ []))
     (hand_of p ∷ [], (one_of pv ∷ [], (one_of dp ∷ [], tt))) $
-    nothing ! $ nothing ! $ fjoin ! $ nothing ! $ fjoin ! $ nothing ! $ fjoin ! $ nothing ! $ fjoin ! $ nothing ! $ fjoin ! $ nothing ! $ fjoin ! $ nothing ! $ fjoin ! $ move ! (2 ∷ 3 ∷ []) $ join ! $
+    nothing ! $ nothing ! $ fjoin ! $ nothing ! $ fjoin ! $ nothing ! $ fjoin ! $ nothing ! $ fjoin ! $ nothing ! $ fjoin ! $
+    nothing ! $ fjoin ! $ nothing ! $ fjoin ! $ move ! (2 ∷ 3 ∷ []) $ join ! $
     use0 𝓛 (raw (fact 𝓤 Told)) (fact_i 𝓤 Told (emp 𝓤) (refl, is.0, is.1, is.2, is.3, is.4, is.5, is.6, refl, refl, refl)) $
     returns ! (look_at ! 0 refl) $ free_all ! refl $ keep ! (1 ∷ 2 ∷ 3 ∷ 0 ∷ []) $
     by ! (leaves 𝓛 En hs c y pair (t, q, dd) (tt, (tt, (tt, (tt, (tt, (tt, (tt, tt))))))) (tt, (tt, (tt, (tt, (tt, (tt, (tt, tt))))))))))))))))
