@@ -6,10 +6,10 @@ use Rattle.seize_words.specs.declared.at.At.{At}
 use Rattle.seize_words.specs.Mem.{block_of, entry_in, value_in}
 use Rattle.seize_words.specs.declared.at.At.TheVariants.{Entry}
 use Rattle.seize_words.specs.declared.block.Block.{Block}
-use Rattle.seize_seats.specs.State.{State, Allows, HasWord, Owns}
+use Rattle.seize_seats.specs.State.{State, Allows, Owns}
 use Rattle.seize_seats.specs.Lendings.{ShownToBoth}
 use Rattle.seize_seats.specs.Owned.{BaseId}
-use Rattle.seize_blocks.specs.Placed.{IsItsPlace, IsItsIndex}
+use Rattle.seize_blocks.specs.Placed.{IsItsPlace, IsItsIndex, HasWord}
 
 module _ {T V W F : Type 0} (holds : F → State T V W → Type 0) (keeps : V → V → W → ℕ → Type 0) where
   -- what `by` ensures

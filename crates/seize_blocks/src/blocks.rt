@@ -2,11 +2,11 @@
 ghost use Rattle.std.specs.Prelude.{◌≡◌, ◌+◌, ◌-◌, ◌*◌, ◌≤◌, ◌<◌, ◌^◌, IfSome};
 ghost use denote.RawPtr.{InBlock};
 ghost use Rattle.seize_words.specs.Op.{Load, Store, Swap, Add, Or, Exchange, Make, Take, Rewrite, Room, Found, Stored, Exchanged, Made, Taken, Roomed};
-ghost use Rattle.seize_seats.specs.State.{Allows, HasWord, Owns, Turns, Comes, Meets, Renews};
+ghost use Rattle.seize_seats.specs.State.{Allows, Owns, Turns, Comes, Meets, Renews};
 ghost use Rattle.seize_seats.specs.Lines.{long, IsNoBlocks};
 ghost use Rattle.seize_seats.specs.Owned.{core_of, IsFirst};
 ghost use Rattle.seize_seats.specs.Lendings.{Shown, ShownToBoth, IsValueOf, IsValueOfBoth};
-ghost use Rattle.seize_blocks.specs.Placed.{IsItsPlace, IsItsIndex, IsBehind};
+ghost use Rattle.seize_blocks.specs.Placed.{IsItsPlace, IsItsIndex, IsBehind, HasWord};
 
 use crate::claim::Claim;
 use crate::place::{Doors, Place};
@@ -245,7 +245,7 @@ impl<T, R: Rule<T>> Blocks<T, R> {
     /// A number that was free and is claimed now, for a block without words of its own. One after the other is tried, from that on which
     /// follows the last one that was claimed.
     fn number(&self, words: u64) -> Option<(u64, Claim)>
-        ensures { IfSome result (λ c. (words ≡ 0) × (c.0 < self.now.words.id.count) × (c.1.found ≡ 0)
+        ensures { IfSome result (λ c. (words ≡ 0) × (c.0 < self.now.words.id.size) × (c.1.found ≡ 0)
             × (c.1.base ≡ self.now.words.id.hands_name) × (c.1.index ≡ c.0)) }
     {
         if words != 0 || self.count == 0 {

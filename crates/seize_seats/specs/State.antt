@@ -1,7 +1,6 @@
 -- The state of a memory that seats share, and what each step of a seat owes to the rule.
-use Rattle.std.specs.Prelude.{◌≡◌, ◌≢◌, ℕ, List, [], ◌∷◌, ◌++◌, Option, Some, IsSome, slice_get, slice_set, replicate}
-use Rattle.seize_words.specs.declared.at.At.{At}
-use Rattle.seize_words.specs.Mem.{Mem, Can, Took, word_at}
+use Rattle.std.specs.Prelude.{◌≡◌, ◌≢◌, ℕ, List, [], ◌∷◌, ◌++◌, Option, Some, slice_get, slice_set, replicate}
+use Rattle.seize_words.specs.Mem.{Mem, Can, Took}
 use Rattle.seize_words.specs.Op.{Op, Out, Take}
 
 -- A seat is known by its number; each has a view, which is plain data: what it knows. The world is what the rule keeps beside these.
@@ -37,10 +36,6 @@ module _ {T V W : Type 0} where
   Meets holds i v j u so =
       (s : State T V W) → holds s → view_of s i ≡ Some v → view_of s j ≡ Some u → i ≢ j
       → (v' u' : V) × holds record { memory = s.memory; views = slice_set (slice_set s.views i v') j u'; world = s.world } × so v' u'
-
-  -- Whatever the state is, if the seat has this view there is such a word.
-  abbrev pub HasWord : (State T V W → Type 0) → ℕ → V → At → Type 0
-  HasWord holds id v at = (s : State T V W) → holds s → view_of s id ≡ Some v → IsSome (word_at s.memory at)
 
   -- The rule holds of the memory as it is with no seat.
   abbrev pub Renews : (State T V W → Type 0) → Type 0
