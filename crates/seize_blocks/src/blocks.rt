@@ -78,13 +78,14 @@ impl<T, R: Rule<T>> Blocks<T, R> {
         requires { (self.now.words.id.least ≤ index) × (index < 2 ^ 32) }
         ensures { IsBehind self.now.words.id.least index result.0 result.1 }
     {
-        let mut door = 0;
         let mut first = self.count;
-        while first * 2 <= index {
+        for door in 0..32 {
+            if index < first * 2 {
+                return (door, first);
+            }
             first = first * 2;
-            door = door + 1;
         }
-        (door, first)
+        unreachable!()
     }
 
     /// In which strip a block is: the strip, where its values lie, the index of the block in it, and where the first of its words lies. The views of two
