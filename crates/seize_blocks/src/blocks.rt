@@ -15,6 +15,7 @@ use crate::seat::Seat;
 use crate::strip::Strip;
 use crate::words::Words;
 use seize_words::{At, Fault};
+use std::mem::size_of;
 use std::sync::atomic::AtomicU64;
 use std::sync::atomic::Ordering::SeqCst;
 
@@ -100,7 +101,7 @@ impl<T, R: Rule<T>> Blocks<T, R> {
         requires shown { ShownToBoth (R.holds self.now.words.fixed) guard.now.id guard.now.view owner.now.id owner.now.view block }
         ensures strip { (core_of result.0.id ≡ core_of self.now.words.id) × InBlock result.0.words × (result.1 ≡ result.0.id.values) }
         ensures index { IsItsIndex result.0.id block result.2 × (result.2 < 2 ^ 32) }
-        ensures words { (result.3 ≡ result.2 * 5 + result.0.id.skip) × (result.3 < 2 ^ 50) }
+        ensures words { (result.3 ≡ result.2 * 5 + result.0.id.skip) × (result.3 < 2 ^ 60 - 8) }
     {
         if block <= self.count || block > MOST {
             let index = if block > 0 && block <= self.count {
@@ -117,9 +118,10 @@ impl<T, R: Rule<T>> Blocks<T, R> {
         }
         let (door, first) = self.door_of(block - 1);
         let strip = self.words.find(guard, owner, block, self.doors.at, door);
-        let values = strip.values(first);
+        let values = strip.words as *mut Option<T>;
+        let skip = (first as usize * size_of::<Option<T>>() + 7) / 8;
         let index = block - 1 - first;
-        (strip, values, index, index * 5)
+        (strip, values, index, index * 5 + skip as u64)
     }
 
     /// A seat more.
