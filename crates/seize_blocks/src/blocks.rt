@@ -101,7 +101,7 @@ impl<T, R: Rule<T>> Blocks<T, R> {
         requires shown { ShownToBoth (R.holds self.now.words.fixed) guard.now.id guard.now.view owner.now.id owner.now.view block }
         ensures strip { (core_of result.0.id ≡ core_of self.now.words.id) × InBlock result.0.words × (result.1 ≡ result.0.id.values) }
         ensures index { IsItsIndex result.0.id block result.2 × (result.2 < 2 ^ 32) }
-        ensures words { (result.3 ≡ result.2 * 5 + result.0.id.skip) × (result.3 < 2 ^ 60 - 8) }
+        ensures words { (result.3 ≡ result.2 * 5 + result.0.id.skip) × (result.3 + 4 < 2 ^ 60) }
     {
         if block <= self.count || block > MOST {
             let index = if block > 0 && block <= self.count {

@@ -152,7 +152,7 @@ impl<T, R: Rule<T>> Words<T, R> {
         ensures { (core_of result.id ≡ core_of self.now.id) × (result.id.skip ≡ before T.row result.id.size)
             × (result.id.values ≡ result.words)
             × (result.id.first ≡ self.now.id.least * 2 ^ index) × (result.id.size ≡ result.id.first) × InBlock result.words
-            × (result.id.size * stride T.row < 2 ^ 63) }
+            × ((result.id.skip + result.id.size * 5) * 8 < 2 ^ 63) × (result.id.size * stride T.row < 2 ^ 63) }
     {
         let words = unsafe { raw::ptr::load::<u64, Brand>(doors.add(index as usize), SeqCst) };
         Strip {

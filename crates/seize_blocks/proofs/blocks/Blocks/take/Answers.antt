@@ -1,4 +1,4 @@
-use Rattle.std.proofs.Common.{sym, ◌+◌, arith}
+use Rattle.std.proofs.Common.{◌+◌}
 use Rattle.seize_words.specs.Op.{Take}
 use Rattle.seize_blocks.proofs.By.{on_take}
 use Rattle.seize_blocks.proofs.blocks.Blocks.take.Goals as goal
@@ -10,4 +10,4 @@ pub take-value-requires : goal.take-value-requires
 take-value-requires g c = let s = c.spot_of-strip in let low = s.ensures.words.1 in
     on_take g.R.Rule.holds g.R.Rule.keeps c.args.seat.now.base c.args.seat.now.id c.args.block s.result.2 s.result.3 c.args.seat.now.view
     s.result.1 _ _ _ _ c.args.self.now.words.id _ _ (g.R.Rule.then c.args.seat.now.view (Take c.args.block)) c.by.ensures c.requires.own s.ensures.index.0
-    s.ensures.strip.2 s.ensures.words.0 (omega (arith, low)) c.requires.may
+    s.ensures.strip.2 s.ensures.words.0 low c.requires.may

@@ -139,7 +139,7 @@ find_spec 𝓤 𝓛 𝓜 𝓡 wired X P U F LX LP LU LF g d _ =
     let y' : BaseId = at_door 𝓛 R₀ cv holds p z s j e asked.3 refl w in let r : St.Denot = record { words = w; marker = record {}; id = y' } in
     let n : ℕ = z.least * 2 ^ j in
     let Told : Type 0 = (core_of y' ≡ core_of z) × (before R₀ n ≡ before R₀ n) × (w ≡ w)
-    × (n ≡ n) × (n ≡ n) × InBlock w × (n * stride R₀ < 2 ^ 63) in
+    × (n ≡ n) × (n ≡ n) × InBlock w × ((before R₀ n + n * 5) * 8 < 2 ^ 63) × (n * stride R₀ < 2 ^ 63) in
     -- [what is told; the three tokens, last first; the others]
     use1 𝓛 (‵ (strip_told R₀ w y')) (tells_strip 𝓛 R₀ cv holds p z s j e asked.3 refl there.4 w) $
     rewrite ! 0 (λ (f₁ : Fml). ‵ f₁) (told_there R₀ w y' found_one) refl $ fsplit ! $ fpick ! (λ lies. drop ! $
@@ -147,6 +147,6 @@ find_spec 𝓤 𝓛 𝓜 𝓡 wired X P U F LX LP LU LF g d _ =
     nothing ! $ move ! (1 ∷ 0 ∷ []) $ fjoin ! $ use0 𝓛 (‵ ((StripData R₀).own_val (w, (tt, tt)) (hand_of w ∷ []))) (strip_made 𝓛 R₀ w) $ fjoin ! $
     nothing ! $ nothing ! $ fjoin ! $ nothing ! $ fjoin ! $ nothing ! $ fjoin ! $ nothing ! $ fjoin ! $ nothing ! $ fjoin ! $ nothing ! $ fjoin ! $
     move ! (2 ∷ 5 ∷ []) $ join ! $ move ! (3 ∷ 0 ∷ []) $ join ! $ move ! (3 ∷ 0 ∷ []) $ join ! $
-    use0 𝓛 (raw (fact 𝓤 Told)) (fact_i 𝓤 Told (emp 𝓤) (refl, refl, refl, refl, refl, found_one, lies.3)) $
+    use0 𝓛 (raw (fact 𝓤 Told)) (fact_i 𝓤 Told (emp 𝓤) (refl, refl, refl, refl, refl, found_one, lies.1, lies.3)) $
     returns ! (look_at ! 0 refl) $ free_all ! refl $ keep ! (1 ∷ 2 ∷ 3 ∷ 0 ∷ []) $
     by ! (leaves 𝓛 En hs c y (hand_of w) r (tt, (tt, (tt, (tt, (tt, (tt, tt)))))) (tt, (tt, (tt, (tt, (tt, (tt, tt))))))))))))))))))
