@@ -1,4 +1,3 @@
-use Rattle.std.proofs.Common.{◌+◌}
 use Rattle.seize_words.specs.Op.{Take}
 use Rattle.seize_blocks.proofs.By.{on_take}
 use Rattle.seize_blocks.proofs.blocks.Blocks.take.Goals as goal
