@@ -1,11 +1,15 @@
 -- What is asked of the words of a strip is what is known of the strip.
-use Rattle.std.proofs.Common.{◌≡◌, ℕ, refl, sym, ◌∙◌, subst, ◌*◌, ◌+◌, ◌<◌, ◌^◌}
+use Rattle.std.proofs.Common.{◌≡◌, ℕ, Option, None, Some, IsSome, refl, sym, ◌∙◌, subst, ◌*◌, ◌+◌, ◌<◌, ◌^◌}
 use denote.RawPtr.{Ptr}
 use Rattle.seize_words.specs.Op.{Op, Out, Take, Rewrite}
 use Rattle.seize_words.specs.declared.at.At.{At}
+use Rattle.seize_words.specs.Mem.{block_of, entry_in, value_in}
+use Rattle.seize_words.specs.declared.at.At.TheVariants.{Entry}
+use Rattle.seize_words.specs.declared.block.Block.{Block}
 use Rattle.seize_seats.specs.State.{State, Allows, Owns}
+use Rattle.seize_seats.specs.Lendings.{ShownToBoth}
 use Rattle.seize_seats.specs.Owned.{BaseId}
-use Rattle.seize_blocks.specs.Placed.{IsItsPlace, IsItsIndex}
+use Rattle.seize_blocks.specs.Placed.{IsItsPlace, IsItsIndex, HasWord}
 
 module _ {T V W F : Type 0} (holds : F → State T V W → Type 0) (keeps : V → V → W → ℕ → Type 0) where
   -- what `by` ensures
@@ -34,3 +38,12 @@ module _ {T V W F : Type 0} (holds : F → State T V W → Type 0) (keeps : V �
   on_rewrite base id block index v value at p q y z x f h so e own lies values alone may =
       subst (λ (u : BaseId × F). (base ≡ u.0.views_name) × IsItsIndex u.0 block index × (at ≡ u.0.values) × Owns (holds u.1) keeps id v block
       × Allows (holds u.1) keeps id v (Rewrite block value) so) (λ i. (sym e.1 i, sym e.2 i)) (own ∙ sym e.3, lies, values, alone, may)
+
+-- a word of an entry is one of a block
+entry_some : {T : Type 0} (x : Option (Block T)) (i : ℕ) → IsSome (entry_in x i) → IsSome (value_in x)
+entry_some None i some = absurd (cc some)
+entry_some (Some x) i some = tt
+
+-- where there is such a word, the view shows its block
+pub shows_block : {T V W : Type 0} (holds : State T V W → Type 0) (id : ℕ) (v : V) (b i : ℕ) → HasWord holds id v (Entry b i) → ShownToBoth holds id v id v b
+shows_block holds id v b i has = λ t h at at'. entry_some (block_of t.memory b) i (has t h at)

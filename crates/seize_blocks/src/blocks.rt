@@ -3,10 +3,10 @@ ghost use Rattle.std.specs.Prelude.{◌≡◌, ◌+◌, ◌-◌, ◌*◌, ◌≤
 ghost use denote.RawPtr.{InBlock};
 ghost use Rattle.seize_words.specs.Op.{Load, Store, Swap, Add, Or, Exchange, Make, Take, Rewrite, Room, Found, Stored, Exchanged, Made, Taken, Roomed};
 ghost use Rattle.seize_seats.specs.State.{Allows, Owns, Turns, Comes, Meets, Renews};
-ghost use Rattle.seize_seats.specs.Lines.{long};
+ghost use Rattle.seize_seats.specs.Lines.{long, IsNoBlocks};
 ghost use Rattle.seize_seats.specs.Owned.{core_of, IsFirst};
 ghost use Rattle.seize_seats.specs.Lendings.{Shown, ShownToBoth, IsValueOf, IsValueOfBoth};
-ghost use Rattle.seize_blocks.specs.Placed.{IsItsPlace, IsItsIndex};
+ghost use Rattle.seize_blocks.specs.Placed.{IsItsPlace, IsItsIndex, IsBehind, HasWord};
 
 use crate::claim::Claim;
 use crate::place::{Doors, Place};
@@ -15,8 +15,12 @@ use crate::seat::Seat;
 use crate::strip::Strip;
 use crate::words::Words;
 use seize_words::{At, Fault};
+use std::mem::size_of;
 use std::sync::atomic::AtomicU64;
 use std::sync::atomic::Ordering::SeqCst;
+
+/// The most numbers that a memory has.
+pub(crate) const MOST: u64 = 4294967296;
 
 /// A memory that threads share under a rule. It has words of roots and of the slots of the first bucket, and numbers for so many blocks, which have no
 /// words of their own yet.
@@ -27,37 +31,42 @@ pub struct Blocks<T, R: Rule<T>> {
     pub(crate) values: Place<T>,
     pub(crate) doors: Doors,
     pub(crate) next: AtomicU64,
-    ghost counted: { (words.id.roots ≡ roots) × (words.id.count ≡ count) },
+    ghost counted: { (words.id.roots ≡ roots) × (words.id.count ≡ 2 ^ 32) × (words.id.least ≡ count) },
     ghost lies: { (words.id.values ≡ values.at) × (words.id.doors ≡ doors.at) },
     ghost strip: { IsFirst words.words words.id × (words.id.size ≡ count) },
-    ghost few: { (roots ≤ 65536) × (count ≤ 2 ^ 32) },
+    ghost few: { (roots ≤ 65536) × (0 < count) × (count ≤ 2 ^ 32) },
 }
 
 impl<T, R: Rule<T>> Blocks<T, R> {
-    /// Where the word of a name lies: in which strip, and at which place.
-    fn place_of(&self, at: At) -> (Strip<T>, u64)
+    /// Where the word of a name lies: in which strip, and at which place. Whatever the state is, if the seat has this view then there is such a word.
+    fn place_of(&self, seat: &Seat<T, R>, at: At) -> (Strip<T>, u64)
+        requires own { seat.now.base ≡ self.now.words.id.views_name }
+        requires there { HasWord (R.holds self.now.words.fixed) seat.now.id seat.now.view at }
         ensures { (core_of result.0.id ≡ core_of self.now.words.id) × InBlock result.0.words × IsItsPlace result.0.words result.0.id at result.1 }
     {
-        (self.words.strip(), self.place_in(at))
+        match at {
+            At::Entry(block, word) if word < 4 => {
+                let (strip, _, _, first) = self.spot_of(seat, seat, block);
+                (strip, first + word)
+            }
+            _ => (self.words.strip(), self.place_in(at)),
+        }
     }
 
-    /// Where it lies in the first strip.
+    /// Where the word of a root or a slot lies.
     fn place_in(&self, at: At) -> u64
-        ensures { IsItsPlace self.now.words.words self.now.words.id at result }
+        ensures { IsNoBlocks at → IsItsPlace self.now.words.words self.now.words.id at result }
     {
         match at {
             At::Root(root) if root < self.roots => root * 16,
             At::Used(root) if root < self.roots => (self.roots + root) * 16,
             At::Slot(slot, field) if slot < 32 && field < 2 => (self.roots + self.roots + slot) * 16
                 + field,
-            At::Entry(block, word) if block > 0 && block <= self.count && word < 4 => self.first_of(
-                block - 1,
-            ) + word,
             _ => 0,
         }
     }
 
-    /// Where the words of a number lie: the first of them.
+    /// Where the words of a number of the first strip lie: the first of them.
     fn first_of(&self, index: u64) -> u64
         requires { index ≤ 2 ^ 32 }
         ensures { result ≡ index * 5 + long self.now.words.id.roots }
@@ -65,18 +74,54 @@ impl<T, R: Rule<T>> Blocks<T, R> {
         index * 5 + (self.roots + self.roots + 32) * 16
     }
 
-    /// In which strip a number is, and its index there, if there is such a block.
-    fn index_of(&self, block: u64) -> (Strip<T>, u64)
-        ensures strip { (core_of result.0.id ≡ core_of self.now.words.id) × InBlock result.0.words × (result.0.id.skip ≡ long self.now.words.id.roots)
-            × (result.0.id.values ≡ self.now.values.at) }
-        ensures index { (result.1 < 2 ^ 32) × IsItsIndex result.0.id block result.1 }
+    /// Behind which door the strip of a number is, and how many numbers come before those of the strip.
+    fn door_of(&self, index: u64) -> (u64, u64)
+        requires { (self.now.words.id.least ≤ index) × (index < 2 ^ 32) }
+        ensures { IsBehind self.now.words.id.least index result.0 result.1 }
     {
-        let index = if block > 0 && block <= self.count {
-            block - 1
-        } else {
-            0
-        };
-        (self.words.strip(), index)
+        let mut first = self.count;
+        for door in 0..32 {
+            if index < first * 2 {
+                return (door, first);
+            }
+            first = first * 2;
+        }
+        unreachable!()
+    }
+
+    /// In which strip a block is: the strip, where its values lie, the index of the block in it, and where the first of its words lies. The views of two
+    /// seats show the block.
+    fn spot_of(
+        &self,
+        guard: &Seat<T, R>,
+        owner: &Seat<T, R>,
+        block: u64,
+    ) -> (Strip<T>, *mut Option<T>, u64, u64)
+        requires own { (guard.now.base ≡ self.now.words.id.views_name) × (owner.now.base ≡ self.now.words.id.views_name) }
+        requires shown { ShownToBoth (R.holds self.now.words.fixed) guard.now.id guard.now.view owner.now.id owner.now.view block }
+        ensures strip { (core_of result.0.id ≡ core_of self.now.words.id) × InBlock result.0.words × (result.1 ≡ result.0.id.values) }
+        ensures index { IsItsIndex result.0.id block result.2 × (result.2 < 2 ^ 32) }
+        ensures words { (result.3 ≡ result.2 * 5 + result.0.id.skip) × (result.3 + 4 < 2 ^ 60) }
+    {
+        if block <= self.count || block > MOST {
+            let index = if block > 0 && block <= self.count {
+                block - 1
+            } else {
+                0
+            };
+            return (
+                self.words.strip(),
+                self.values.at,
+                index,
+                self.first_of(index),
+            );
+        }
+        let (door, first) = self.door_of(block - 1);
+        let strip = self.words.find(guard, owner, block, self.doors.at, door);
+        let values = strip.words as *mut Option<T>;
+        let skip = (first as usize * size_of::<Option<T>>() + 7) / 8;
+        let index = block - 1 - first;
+        (strip, values, index, index * 5 + skip as u64)
     }
 
     /// A seat more.
@@ -141,7 +186,7 @@ impl<T, R: Rule<T>> Blocks<T, R> {
         ensures same { (seat.new.base ≡ seat.old.base) × (seat.new.id ≡ seat.old.id) }
         ensures goes { R.then seat.old.view (Load at) (Found result) seat.new.view }
     {
-        let (strip, place) = self.place_of(at);
+        let (strip, place) = self.place_of(seat, at);
         self.words.by(&strip).load(seat, &at, place)
     }
 
@@ -152,7 +197,7 @@ impl<T, R: Rule<T>> Blocks<T, R> {
         ensures same { (seat.new.base ≡ seat.old.base) × (seat.new.id ≡ seat.old.id) }
         ensures goes { R.then seat.old.view (Store at word) Stored seat.new.view }
     {
-        let (strip, place) = self.place_of(at);
+        let (strip, place) = self.place_of(seat, at);
         self.words.by(&strip).store(seat, &at, place, word)
     }
 
@@ -163,7 +208,7 @@ impl<T, R: Rule<T>> Blocks<T, R> {
         ensures same { (seat.new.base ≡ seat.old.base) × (seat.new.id ≡ seat.old.id) }
         ensures goes { R.then seat.old.view (Swap at word) (Found result) seat.new.view }
     {
-        let (strip, place) = self.place_of(at);
+        let (strip, place) = self.place_of(seat, at);
         self.words.by(&strip).swap(seat, &at, place, word)
     }
 
@@ -174,7 +219,7 @@ impl<T, R: Rule<T>> Blocks<T, R> {
         ensures same { (seat.new.base ≡ seat.old.base) × (seat.new.id ≡ seat.old.id) }
         ensures goes { R.then seat.old.view (Add at by) (Found result) seat.new.view }
     {
-        let (strip, place) = self.place_of(at);
+        let (strip, place) = self.place_of(seat, at);
         self.words.by(&strip).add(seat, &at, place, by)
     }
 
@@ -185,7 +230,7 @@ impl<T, R: Rule<T>> Blocks<T, R> {
         ensures same { (seat.new.base ≡ seat.old.base) × (seat.new.id ≡ seat.old.id) }
         ensures goes { R.then seat.old.view (Or at bits) (Found result) seat.new.view }
     {
-        let (strip, place) = self.place_of(at);
+        let (strip, place) = self.place_of(seat, at);
         self.words.by(&strip).or(seat, &at, place, bits)
     }
 
@@ -196,14 +241,14 @@ impl<T, R: Rule<T>> Blocks<T, R> {
         ensures same { (seat.new.base ≡ seat.old.base) × (seat.new.id ≡ seat.old.id) }
         ensures goes { R.then seat.old.view (Exchange at old new) (Exchanged result) seat.new.view }
     {
-        let (strip, place) = self.place_of(at);
+        let (strip, place) = self.place_of(seat, at);
         self.words.by(&strip).exchange(seat, &at, place, old, new)
     }
 
     /// A number that was free and is claimed now, for a block without words of its own. One after the other is tried, from that on which
     /// follows the last one that was claimed.
     fn number(&self, words: u64) -> Option<(u64, Claim)>
-        ensures { IfSome result (λ c. (words ≡ 0) × (c.0 < self.now.words.id.count) × (c.1.found ≡ 0)
+        ensures { IfSome result (λ c. (words ≡ 0) × (c.0 < self.now.words.id.size) × (c.1.found ≡ 0)
             × (c.1.base ≡ self.now.words.id.hands_name) × (c.1.index ≡ c.0)) }
     {
         if words != 0 || self.count == 0 {
@@ -250,13 +295,12 @@ impl<T, R: Rule<T>> Blocks<T, R> {
         ensures same { (seat.new.base ≡ seat.old.base) × (seat.new.id ≡ seat.old.id) }
         ensures goes { R.then seat.old.view (Take block) (Taken result) seat.new.view }
     {
-        let (strip, index) = self.index_of(block);
-        let first = self.first_of(index);
+        let (strip, values, index, first) = self.spot_of(seat, seat, block);
         let value = self.words.by(&strip).take(
             seat,
             block,
             index,
-            self.values.at,
+            values,
             first,
             first + 1,
             first + 2,
@@ -277,11 +321,11 @@ impl<T, R: Rule<T>> Blocks<T, R> {
         ensures same { (seat.new.base ≡ seat.old.base) × (seat.new.id ≡ seat.old.id) }
         ensures goes { R.then seat.old.view (Rewrite block value) (Taken result) seat.new.view }
     {
-        let (strip, index) = self.index_of(block);
+        let (strip, values, index, _) = self.spot_of(seat, seat, block);
         match self
             .words
             .by(&strip)
-            .rewrite(seat, block, index, self.values.at, value)
+            .rewrite(seat, block, index, values, value)
         {
             Some(before) => before,
             None => unreachable!(),
@@ -309,11 +353,8 @@ impl<T, R: Rule<T>> Blocks<T, R> {
         requires shown { ShownToBoth (R.holds self.now.words.fixed) guard.now.id guard.now.view owner.now.id owner.now.view block }
         ensures { IsValueOfBoth (R.holds self.now.words.fixed) guard.now.id guard.now.view owner.now.id owner.now.view block result.now }
     {
-        let (strip, index) = self.index_of(block);
-        match self
-            .words
-            .value(&strip, guard, owner, block, index, self.values.at)
-        {
+        let (strip, values, index, _) = self.spot_of(guard, owner, block);
+        match self.words.value(&strip, guard, owner, block, index, values) {
             Some(value) => value,
             None => unreachable!(),
         }

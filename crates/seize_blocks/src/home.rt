@@ -5,7 +5,7 @@ ghost use Rattle.core.specs.Mem.Slots.{slots_items, slots_filled, slots_ptr, slo
 ghost use Rattle.seize_seats.specs.State.{Starts};
 ghost use Rattle.seize_seats.specs.Lines.{whole};
 
-use crate::blocks::Blocks;
+use crate::blocks::{Blocks, MOST};
 use crate::place::{Doors, Place};
 use crate::row::Row;
 use crate::rule::Rule;
@@ -22,7 +22,7 @@ pub struct Home<T: Drop, R: Rule<T>> {
     places: Ground<Option<T>>,
     doorway: Ground<*mut u64>,
     ghost lies: { (lease_ptr ground.lease ≡ blocks.words.words) × (lease_ptr places.lease ≡ blocks.values.at) × (lease_ptr doorway.lease ≡ blocks.doors.at) },
-    ghost size: { (lease_len ground.lease ≡ whole blocks.words.id.roots blocks.words.id.count) × (lease_len places.lease ≡ blocks.words.id.count)
+    ghost size: { (lease_len ground.lease ≡ whole blocks.words.id.roots blocks.words.id.size) × (lease_len places.lease ≡ blocks.words.id.size)
         × (lease_len doorway.lease ≡ 32) },
 }
 
@@ -146,12 +146,13 @@ fn give_back<E>(ground: Ground<E>, slots: Slots<E>)
 }
 
 impl<T: Drop, R: Rule<T>> Home<T, R> {
-    /// A memory of so many roots and numbers for blocks, with no seat yet. The slots have no words yet.
+    /// A memory of so many roots, with no seat yet, and numbers for so many blocks, at least one. The slots have no words yet.
     pub fn open(alloc: Global, roots: u64, count: u64, fixed: &R::Fixed) -> Result<Self, AllocError>
         requires few { (roots ≤ 65536) × (count ≤ 2 ^ 32) }
         requires starts { Starts (R.holds fixed.now) roots }
         ensures { IfOk result (λ home. home.blocks.words.fixed ≡ fixed.now) }
     {
+        let count = if count == 0 { 1 } else { count };
         let long = ((roots + roots + 32) * 16 + count * 5) as usize;
         let (row, ground) = lay(alloc, long)?;
         let (empty, places) = match lay_empty::<T>(alloc, count as usize) {

@@ -1,13 +1,13 @@
 //! The words, and what one step of a seat does to them: one atomic operation on a word, or none.
 ghost use Rattle.std.specs.Prelude.{◌≡◌, ℕ, ◌+◌, ◌-◌, ◌*◌, ◌^◌, ◌<◌, ◌≤◌, Some, None, Ok, Err, length, slice_index, slice_index_or};
-ghost use denote.RawPtr.{InBlock, Testable, block_ptr, null_ptr, block_of, count_of};
+ghost use denote.RawPtr.{InBlock, null_ptr};
 ghost use Rattle.seize_words.specs.Op.{Load, Store, Swap, Add, Or, Exchange, Make, Take, Rewrite, Room, Found, Stored, Exchanged, Made, Taken, Roomed};
 ghost use Rattle.seize_seats.specs.State.{Allows, Owns, Turns, Comes, Meets, Renews, Starts};
 ghost use Rattle.seize_seats.specs.Lines.{whole};
-ghost use Rattle.seize_seats.specs.Doors.{apart};
+ghost use Rattle.seize_seats.specs.Doors.{before};
 ghost use Rattle.seize_seats.specs.Steps.{roomed};
 ghost use Rattle.seize_seats.specs.Lendings.{ShownToBoth, IsValueOfBoth};
-ghost use Rattle.seize_seats.specs.Owned.{BaseId, base_id_coded, core_of, IsFirst, IsLike, words_own, words_share};
+ghost use Rattle.seize_seats.specs.Owned.{BaseId, base_id_coded, core_of, stride, IsFirst, IsLike, words_own, words_share};
 ghost use Rattle.seize_blocks.specs.Placed.{IsItsPlace, IsItsSign, IsItsIndex};
 
 use crate::claim::Claim;
@@ -125,8 +125,8 @@ impl<T, R: Rule<T>> Words<T, R> {
     /// The strip behind a door, or no address where the door is null.
     pub(crate) fn look(&self, doors: *mut *mut u64, index: u64) -> Strip<T>
         requires { (doors ≡ self.now.id.doors) × (index < 32) }
-        ensures { (core_of result.id ≡ core_of self.now.id) × (result.id.skip ≡ 0)
-            × (result.id.values ≡ block_ptr (block_of result.words) (apart T.row result.id.size + count_of result.words))
+        ensures { (core_of result.id ≡ core_of self.now.id) × (result.id.skip ≡ before T.row result.id.size)
+            × (result.id.values ≡ result.words)
             × (result.id.first ≡ self.now.id.least * 2 ^ index) × (result.id.size ≡ result.id.first) }
     {
         let words = unsafe { raw::ptr::load::<u64, Brand>(doors.add(index as usize), SeqCst) };
@@ -149,9 +149,10 @@ impl<T, R: Rule<T>> Words<T, R> {
             × (doors ≡ self.now.id.doors) × (index < 32) × (self.now.id.place ≡ 0) × (self.now.id.size ≡ self.now.id.least)
             × (self.now.id.least * 2 ^ index ≤ _block - 1)
             × ShownToBoth (R.holds self.now.fixed) guard.now.id guard.now.view owner.now.id owner.now.view _block }
-        ensures { (core_of result.id ≡ core_of self.now.id) × (result.id.skip ≡ 0)
-            × (result.id.values ≡ block_ptr (block_of result.words) (apart T.row result.id.size + count_of result.words))
-            × (result.id.first ≡ self.now.id.least * 2 ^ index) × (result.id.size ≡ result.id.first) × InBlock result.words }
+        ensures { (core_of result.id ≡ core_of self.now.id) × (result.id.skip ≡ before T.row result.id.size)
+            × (result.id.values ≡ result.words)
+            × (result.id.first ≡ self.now.id.least * 2 ^ index) × (result.id.size ≡ result.id.first) × InBlock result.words
+            × ((result.id.skip + result.id.size * 5) * 8 < 2 ^ 63) × (result.id.size * stride T.row < 2 ^ 63) }
     {
         let words = unsafe { raw::ptr::load::<u64, Brand>(doors.add(index as usize), SeqCst) };
         Strip {

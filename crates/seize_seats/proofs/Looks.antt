@@ -16,7 +16,7 @@ use Rattle.seize_seats.specs.State.{State}
 use Rattle.seize_seats.specs.Seen.{fact, seen}
 use Rattle.seize_seats.specs.Cells.{Cell}
 use Rattle.seize_seats.specs.Strips.{Strip, strip_coded, further}
-use Rattle.seize_seats.specs.Doors.{apart, IsFurther, right_to, stays, behind, door}
+use Rattle.seize_seats.specs.Doors.{before, IsFurther, right_to, stays, behind, door}
 use Rattle.seize_seats.specs.Stretches.{IsEven}
 use Rattle.seize_seats.specs.Owned.{doors_of, listed, BaseId, Inside, age, core_of, book_of, strip_of, strip_told, IsPlaced, stride, lent_here, had_here, standing_in, everything, told}
 use Rattle.seize_seats.proofs.Stretches as Stretches
@@ -110,13 +110,13 @@ module _ {M : Type 1} {𝓤 : Ura M} (𝓛 : Logic 𝓤) (R : RattleType) {V W :
     -- which words they are that lie there
     abbrev pub at_door : Ptr → BaseId
     at_door w =
-        record z { place = suc j; skip = 0; values = block_ptr (block_of w) (apart R many + count_of w); first = many; size = many }
+        record z { place = suc j; skip = before R many; values = w; first = many; size = many }
 
     is_strip : (w : Ptr) (s : Strip) → Found w s → s ≡ strip_of w (at_door w)
     is_strip w s so = λ i. record {
       words = so.0 i;
-      skip = so.1.2 i;
-      values = (so.1.3 ∙ (λ k. block_ptr (block_of (so.0 k)) (apart R (sized k) + count_of (so.0 k)))) i;
+      skip = (so.1.2 ∙ ap (before R) sized) i;
+      values = (so.1.3 ∙ so.0) i;
       first = so.1.4 i;
       size = sized i;
     }
@@ -128,8 +128,8 @@ module _ {M : Type 1} {𝓤 : Ura M} (𝓛 : Logic 𝓤) (R : RattleType) {V W :
     tells_strip door null_ptr = qed 𝓛 (‵ ftrue ∷ []) ∵ done !
     tells_strip door (block_ptr c u) = let w : Ptr = block_ptr c u in let y : BaseId = at_door w in let Sh : Strip → Share → Fml = λ s r. seen strip_coded.code z.strips_name r (suc j) s in
         qed 𝓛 (‵ (glimpse w) ∷ []) ∵ fpick ! (λ s. fsplit ! $ fpick ! (λ so. drop ! $ fpick ! (λ r.
-        let same : s ≡ strip_of w y = is_strip w s so in let size : s.size ≡ many = so.1.5 ∙ so.1.4 in let few = so.1.6 in
-        let placed : IsPlaced R w y = (tt, subst (λ (n : ℕ). (0 + n * 5) * 8 < 2 ^ 63) size (omega (arith, few)), tt, subst (λ (n : ℕ). n * stride R < 2 ^ 63) size so.1.7, door) in
+        let same : s ≡ strip_of w y = is_strip w s so in
+        let placed : IsPlaced R w y = (tt, subst (λ (r : Strip). (r.skip + r.size * 5) * 8 < 2 ^ 63) same so.1.6, tt, subst (λ (r : Strip). r.size * stride R < 2 ^ 63) same so.1.7, door) in
         rewrite ! 0 (λ (s' : Strip). ‵ (Sh s' r)) same refl $ fpack ! Share (Sh (strip_of w y)) r $
         nothing ! $ fpack ! (IsPlaced R w y) (λ _. ftrue) placed $ fjoin ! $ done !)))
 

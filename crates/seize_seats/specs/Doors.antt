@@ -1,13 +1,13 @@
 -- Doors: behind the first strip there is a pointer for each further one, null as long as that is not there. A strip is found by one load, and put by one
 -- exchange.
-use Rattle.std.specs.Prelude.{◌≡◌, ℕ, zero, suc, ◌+◌, ◌*◌, ◌^◌, ◌<◌, List, [], ◌∷◌}
+use Rattle.std.specs.Prelude.{◌≡◌, ℕ, zero, suc, ◌+◌, ◌*◌, ◌/◌, ◌^◌, ◌<◌, List, [], ◌∷◌}
 use mir.Syntax.{Ty, w64, ty_int, ty_array, ty_struct, tcons, tnil}
 use mir.Raw.{raw as bare}
-use prog.Memory.{up, size, align}
+use prog.Memory.{size}
 use base.Fml.{Share, Fml, ftrue, fsep, fex}
 use denote.RattleType.{RattleType}
 use denote.Memory.{lone}
-use denote.RawPtr.{Ptr, block_ptr, null_ptr, block_of, count_of, InBlock, Testable}
+use denote.RawPtr.{Ptr, null_ptr, InBlock, Testable}
 use Rattle.core.specs.contracts.option.Option.{the_row as OptionOf}
 use Rattle.libc.specs.Heap.{chunk}
 use Rattle.core.specs.Sync.RawAtomic.Pointer.{cell}
@@ -19,21 +19,21 @@ abbrev pub pointers : ℕ → ℕ → List Ptr → Fml
 pointers b o [] = ftrue
 pointers b o (p ∷ ps) = fsep (cell b o p) (pointers b (o + 8) ps)
 
--- A further strip of so many numbers is one block: five words for each number, and behind them the places of the values.
+-- A further strip of so many numbers is one block: a place for the value of each number, and behind them five words for each.
 module _ (R : RattleType) where
   abbrev pub block_type : ℕ → Ty
-  block_type n = bare (ty_struct [] (tcons (ty_array (ty_int w64) (n * 5)) (tcons (ty_array (lone (OptionOf R).mir) n) tnil)))
+  block_type n = bare (ty_struct [] (tcons (ty_array (lone (OptionOf R).mir) n) (tcons (ty_array (ty_int w64) (n * 5)) tnil)))
 
-  -- how far the values are from the words
-  abbrev pub apart : ℕ → ℕ
-  apart n = up (align (lone (OptionOf R).mir)) (n * 40)
+  -- how many words would lie where the places do
+  abbrev pub before : ℕ → ℕ
+  before n = (n * size (lone (OptionOf R).mir) + 7) / 8
 
   -- The strip behind the k-th door is such a block, whose address can be compared with null. It has as many numbers as come before it; least: how many the
   -- first one has.
   abbrev pub IsFurther : ℕ → ℕ → Strip → Type 0
   IsFurther least k s =
-      InBlock s.words × Testable s.words × (s.skip ≡ 0) × (s.values ≡ block_ptr (block_of s.words) (apart s.size + count_of s.words))
-      × (s.first ≡ least * 2 ^ k) × (s.size ≡ s.first) × (s.size * 5 * 8 < 2 ^ 63) × (s.size * size (lone (OptionOf R).mir) < 2 ^ 63)
+      InBlock s.words × Testable s.words × (s.skip ≡ before s.size) × (s.values ≡ s.words)
+      × (s.first ≡ least * 2 ^ k) × (s.size ≡ s.first) × ((s.skip + s.size * 5) * 8 < 2 ^ 63) × (s.size * size (lone (OptionOf R).mir) < 2 ^ 63)
 
   -- the right to give its memory back
   abbrev pub right_to : Strip → Fml

@@ -6,7 +6,7 @@ use mir.Val.{Val, vint, vptr}
 use prog.Wp.{WpFn}
 use base.Logic.{SProp, ent, emp, via, id⊢}
 use base.Fml.{Lft, Fml, ftrue, fsep, flft, fhide}
-use types.Kit.{‵, raw, ◌⊛◌, given, mean, at_ret, ◌$◌, ◌∵◌, !, qed, by, move, keep, drop, split, split3, join, fsplit, fsplit3, fjoin, fpick, learn, suffices, rewrite, use0, use1, use3}
+use types.Kit.{‵, raw, ◌⊛◌, given, mean, at_ret, ◌$◌, ◌∵◌, !, qed, by, move, keep, drop, split, split3, join, fsplit, fsplit3, fjoin, fpick, fpack, learn, suffices, rewrite, use0, use1, use3}
 use types.Run.{lit, of_opd, bin, no_more, and_then, first, blocks, exec, Calls-last, returns, enter}
 use types.ByLocal.{alloc_all, pass_all, free_all, look_at, get, sets, env, lands_last}
 use types.Part.{agg}
@@ -33,9 +33,9 @@ use Rattle.std.specs.contracts.marker.PhantomData as marker
 use Rattle.std.proofs.raw_atomic.Walks.{proved, leaves}
 use Rattle.std.proofs.raw_atomic.Calls.{fm, seq_cst}
 use Rattle.std.proofs.raw_atomic.PtrCalls.{found, finds, loads, seq_cst_good}
-use Rattle.seize_seats.specs.Doors.{apart}
-use Rattle.seize_seats.specs.Owned.{BaseId, IsPlaced, age, core_of, common, strip_told, words_share}
-use Rattle.seize_seats.proofs.Shown.{placed}
+use Rattle.seize_seats.specs.Doors.{before}
+use Rattle.seize_seats.specs.Owned.{BaseId, IsPlaced, age, core_of, common, stride, strip_told, words_share}
+use Rattle.seize_seats.proofs.Shown.{placed, told_there}
 use Rattle.seize_seats.specs.Lendings.{ShownToBoth}
 use Rattle.seize_seats.specs.Stretches.{seat_shares}
 use Rattle.seize_seats.proofs.Ledgers.{view_halves}
@@ -138,13 +138,15 @@ find_spec 𝓤 𝓛 𝓜 𝓡 wired X P U F LX LP LU LF g d _ =
     move ! (5 ∷ 0 ∷ []) $ obor_close ! tt $ drop ! $ move ! (4 ∷ 1 ∷ []) $ obor_close ! tt $ drop ! $ move ! (2 ∷ []) $
     let y' : BaseId = at_door 𝓛 R₀ cv holds p z s j e asked.3 refl w in let r : St.Denot = record { words = w; marker = record {}; id = y' } in
     let n : ℕ = z.least * 2 ^ j in
-    let Told : Type 0 = (core_of y' ≡ core_of z) × (0 ≡ 0) × (block_ptr (block_of w) (apart R₀ n + count_of w) ≡ block_ptr (block_of w) (apart R₀ n + count_of w))
-    × (n ≡ n) × (n ≡ n) × InBlock w in
+    let Told : Type 0 = (core_of y' ≡ core_of z) × (before R₀ n ≡ before R₀ n) × (w ≡ w)
+    × (n ≡ n) × (n ≡ n) × InBlock w × ((before R₀ n + n * 5) * 8 < 2 ^ 63) × (n * stride R₀ < 2 ^ 63) in
     -- [what is told; the three tokens, last first; the others]
     use1 𝓛 (‵ (strip_told R₀ w y')) (tells_strip 𝓛 R₀ cv holds p z s j e asked.3 refl there.4 w) $
+    rewrite ! 0 (λ (f₁ : Fml). ‵ f₁) (told_there R₀ w y' found_one) refl $ fsplit ! $ fpick ! (λ lies. drop ! $
+    nothing ! $ fpack ! (IsPlaced R₀ w y') (λ _. ftrue) lies $ fjoin ! $ rewrite ! 0 (λ (f₁ : Fml). ‵ f₁) (sym (told_there R₀ w y' found_one)) refl $
     nothing ! $ move ! (1 ∷ 0 ∷ []) $ fjoin ! $ use0 𝓛 (‵ ((StripData R₀).own_val (w, (tt, tt)) (hand_of w ∷ []))) (strip_made 𝓛 R₀ w) $ fjoin ! $
     nothing ! $ nothing ! $ fjoin ! $ nothing ! $ fjoin ! $ nothing ! $ fjoin ! $ nothing ! $ fjoin ! $ nothing ! $ fjoin ! $ nothing ! $ fjoin ! $
     move ! (2 ∷ 5 ∷ []) $ join ! $ move ! (3 ∷ 0 ∷ []) $ join ! $ move ! (3 ∷ 0 ∷ []) $ join ! $
-    use0 𝓛 (raw (fact 𝓤 Told)) (fact_i 𝓤 Told (emp 𝓤) (refl, refl, refl, refl, refl, found_one)) $
+    use0 𝓛 (raw (fact 𝓤 Told)) (fact_i 𝓤 Told (emp 𝓤) (refl, refl, refl, refl, refl, found_one, lies.1, lies.3)) $
     returns ! (look_at ! 0 refl) $ free_all ! refl $ keep ! (1 ∷ 2 ∷ 3 ∷ 0 ∷ []) $
-    by ! (leaves 𝓛 En hs c y (hand_of w) r (tt, (tt, (tt, (tt, (tt, (tt, tt)))))) (tt, (tt, (tt, (tt, (tt, (tt, tt)))))))))))))))))
+    by ! (leaves 𝓛 En hs c y (hand_of w) r (tt, (tt, (tt, (tt, (tt, (tt, tt)))))) (tt, (tt, (tt, (tt, (tt, (tt, tt))))))))))))))))))

@@ -33,7 +33,7 @@ use Rattle.std.specs.contracts.marker.PhantomData as marker
 use Rattle.std.proofs.raw_atomic.Walks.{proved, leaves}
 use Rattle.std.proofs.raw_atomic.Calls.{fm, seq_cst}
 use Rattle.std.proofs.raw_atomic.PtrCalls.{found, finds, loads, seq_cst_good}
-use Rattle.seize_seats.specs.Doors.{apart}
+use Rattle.seize_seats.specs.Doors.{before}
 use Rattle.seize_seats.specs.Owned.{BaseId, IsPlaced, age, core_of, common, strip_told, words_share}
 use Rattle.seize_seats.proofs.Shown.{placed}
 use Rattle.seize_seats.proofs.Looks.{glimpse, looks, at_door, tells_strip}
@@ -99,7 +99,7 @@ look_spec 𝓤 𝓛 𝓜 𝓡 wired X P U F LX LP LU LF g d _ =
     fsplit ! $ move ! (2 ∷ 0 ∷ []) $ obor_close ! tt $ drop ! $ move ! (1 ∷ []) $
     let y' : BaseId = at_door 𝓛 R₀ cv holds p z s j e asked.1 refl w in let r : St.Denot = record { words = w; marker = record {}; id = y' } in
     let n : ℕ = z.least * 2 ^ j in
-    let Told : Type 0 = (core_of y' ≡ core_of z) × (0 ≡ 0) × (block_ptr (block_of w) (apart R₀ n + count_of w) ≡ block_ptr (block_of w) (apart R₀ n + count_of w))
+    let Told : Type 0 = (core_of y' ≡ core_of z) × (before R₀ n ≡ before R₀ n) × (w ≡ w)
     × (n ≡ n) × (n ≡ n) in
     -- [what is told; the token; the others]
     use1 𝓛 (‵ (strip_told R₀ w y')) (tells_strip 𝓛 R₀ cv holds p z s j e asked.1 refl there.4 w) $
