@@ -44,38 +44,44 @@ use Rattle.seize_seats.specs.Doors.{pointers}
 use Rattle.seize_seats.specs.Owned.{row, stride, places}
 use Rattle.seize_blocks.specs.Placed.{all_full}
 
-full_is : (fs : List Bool) → Filled fs 0 (length fs) → fs ≡ all_full (length fs)
-full_is [] full = refl
-full_is (f ∷ fs) full = let first : f ≡ true = full 0 (omega arith) (omega arith) in
-    let rest = full_is fs (λ k low lt. full (suc k) (omega arith) (omega (arith, lt))) in cc (first, rest)
+pub full_is : (n : ℕ) (fs : List Bool) → length fs ≡ n → Filled fs 0 n → fs ≡ all_full n
+full_is zero [] long full = refl
+full_is zero (f ∷ fs) long full = absurd (omega (arith, long))
+full_is (suc n) [] long full = absurd (omega (arith, long))
+full_is (suc n) (f ∷ fs) long full = let first : f ≡ true = full 0 (omega arith) (omega arith) in
+    let rest = full_is n fs (omega (arith, long)) (λ k low lt. full (suc k) (omega arith) (omega (arith, lt))) in cc (first, rest)
 
 is_full : (n k : ℕ) → k < n → get_or (all_full n) k false ≡ true
 is_full zero k lt = absurd (omega (arith, lt))
 is_full (suc n) zero lt = refl
 is_full (suc n) (suc k) lt = is_full n k (omega (arith, lt))
 
+pub are_full : (n : ℕ) → Filled (all_full n) 0 n
+are_full n k low lt = is_full n k lt
+
 -- a place and a number are a value of a type of two words
 pub is_pair : (R : RattleType) (v : Val) (b o n : ℕ) → T (has_ty (layout R) (row_val b o n)) → n < 2 ^ 64 → v ≡ row_val b o n → T (has_ty (layout R) v) × WT v
 is_pair R v b o n typed fits same = subst (λ (u : Val). T (has_ty (layout R) u) × WT u) (sym same) (typed, (tt, (record { fits = fits }, tt)))
 
 module _ (E : El) where
-  -- the places of n values from there on, each full
-  abbrev pub Full : ℕ → ℕ → List (el_x E) → Fml
-  Full b o xs = owned (R E) (block_ptr b o) (length xs) xs (all_full (length xs))
+  -- the places of values from there on
+  abbrev pub Kept : ℕ → ℕ → List (el_x E) → List Bool → Fml
+  Kept b o xs fs = owned (R E) (block_ptr b o) (length xs) xs fs
 
   -- slots as one value of two words, with the token of a lifetime
   abbrev pub Whole_of : {M : Type 1} {𝓤 : Ura M} → (Sr E).Denot → Val → Lft → Share → Item 𝓤
   Whole_of r v κ q = ‵ ((Sr E).own_val r (v ∷ [])) ⊛ ‵ (flft κ q)
 
   -- what the first call leaves, and what the second one does
-  abbrev pub parted : {M : Type 1} {𝓤 : Ura M} → ℕ → ℕ → List (el_x E) → Lft → Share → Val → Item 𝓤
-  parted b o xs κ q v = later (given (v ≡ row_val b o (length xs)) (‵ (Full b o xs) ⊛ ‵ (flft κ q)))
+  abbrev pub parted : {M : Type 1} {𝓤 : Ura M} → ℕ → ℕ → List (el_x E) → List Bool → Lft → Share → Val → Item 𝓤
+  parted b o xs fs κ q v = later (given (v ≡ row_val b o (length xs)) (‵ (Kept b o xs fs) ⊛ ‵ (flft κ q)))
 
-  abbrev pub Is_of : ℕ → ℕ → List (el_x E) → (Sr E).Denot → Type 0
-  Is_of b o xs r = (slots_ptr r ≡ block_ptr b o) × (slots_len r ≡ length xs) × (slots_items r ≡ xs) × IsFull r
+  abbrev pub Is_of : ℕ → ℕ → List (el_x E) → List Bool → (Sr E).Denot → Type 0
+  Is_of b o xs fs r = (slots_ptr r ≡ block_ptr b o) × (slots_len r ≡ length xs) × (slots_items r ≡ xs) × (slots_filled r ≡ fs)
 
-  abbrev pub joined : {M : Type 1} {𝓤 : Ura M} → ℕ → ℕ → List (el_x E) → Lft → Share → Val → Item 𝓤
-  joined b o xs κ q v = let u : Val = row_val b o (length xs) in later (items (λ (r : (Sr E).Denot). given ((v ≡ u) × Is_of b o xs r) (Whole_of r u κ q)))
+  abbrev pub joined : {M : Type 1} {𝓤 : Ura M} → ℕ → ℕ → List (el_x E) → List Bool → Lft → Share → Val → Item 𝓤
+  joined b o xs fs κ q v = let u : Val = row_val b o (length xs) in
+      later (items (λ (r : (Sr E).Denot). given ((v ≡ u) × Is_of b o xs fs r) (Whole_of r u κ q)))
 
 module _ (E : El) {M : Type 1} {𝓤 : Ura M} (𝓛 : Logic 𝓤) (𝓜 : Model 𝓤 𝓛.H) (𝓡 : Running 𝓤 𝓛.H 𝓜) where
   open 𝓛 use {H, A}
@@ -89,23 +95,21 @@ module _ (E : El) {M : Type 1} {𝓤 : Ura M} (𝓛 : Logic 𝓤) (𝓜 : Model 
       (fm 𝓛 𝓜 𝓡 k vs Q Z (emp 𝓤) (λ v. via 𝓤 (Q v) (fst∗ 𝓤 (Q v) (emp 𝓤)) (turn v)))
 
   module _ (κ : Lft) (q : Share) (le : κ ⊑ E.row.lives) (b o : ℕ) where
-    pub parts : Wired 𝓡.env parting_symbol.code → (r : (Sr E).Denot) → slots_ptr r ≡ block_ptr b o → IsFull r
+    pub parts : Wired 𝓡.env parting_symbol.code → (r : (Sr E).Denot) → slots_ptr r ≡ block_ptr b o
         → ent 𝓤 (mean 𝓛 (Whole_of E r (row_val b o (slots_len r)) κ q))
-        (𝓣.C (parting_key.name (args E)) (row_val b o (slots_len r) ∷ []) (λ v. mean 𝓛 (parted E b o (slots_items r) κ q v)))
-    parts wired r at full = let xs : List (el_x E) = slots_items r in let n : ℕ = slots_len r in let lx : n ≡ length xs = (slots_counts r).0 in
-        let lf : n ≡ length (slots_filled r) = (slots_counts r).1 in
+        (𝓣.C (parting_key.name (args E)) (row_val b o (slots_len r) ∷ []) (λ v. mean 𝓛 (parted E b o (slots_items r) (slots_filled r) κ q v)))
+    parts wired r at = let xs : List (el_x E) = slots_items r in let n : ℕ = slots_len r in let lx : n ≡ length xs = (slots_counts r).0 in
+        let fs : List Bool = slots_filled r in
         let G : Contract 𝓤 = triple_of 𝓛 (parting.signature E.row) (parting.spec E.row 𝓛 𝓜.mem 𝓡.returns) in
         let y : G.Ghost = (((κ, tt), (q, tt), tt, (r, tt), (row_val b o n ∷ [], tt)), tt) in
         let Le : Type 0 = κ ⊑ E.row.lives in let Two : RattleType = Tuple (RawPtr ∷ usize ∷ []) in
         let Are : Two.Denot → Type 0 = λ w. (w.0 ≡ slots_ptr r) × (w.1 ≡ n) in
-        let Left : Fml = owned (R E) (slots_ptr r) n xs (slots_filled r) in
-        let filled : slots_filled r ≡ all_full (length xs) =
-        full_is (slots_filled r) (λ k low lt. full k low (omega (arith, lf, lt))) ∙ ap all_full (sym lf ∙ lx) in
+        let Left : Fml = owned (R E) (slots_ptr r) n xs fs in
         via 𝓤 (G.pre y) (qed 𝓛 (Whole_of E r (row_val b o n) κ q ∷ []) ∵ split ! $ nothing ! $ move ! (1 ∷ 0 ∷ []) $ fjoin ! $ move ! (1 ∷ []) $ nothing ! $
         move ! (1 ∷ 0 ∷ []) $ join ! $
         move ! (0 ∷ 1 ∷ []) $ join ! $ nothing ! $ use0 𝓛 (raw (fact 𝓤 Le)) (fact_i 𝓤 Le (emp 𝓤) le) $ join ! $ move ! (1 ∷ 0 ∷ []) $ join ! $ done !)
         (via 𝓤 _ (parting_met.met 𝓤 𝓛 𝓜 𝓡 wired E.row E.laws y) (weaker (parting_key.name (args E)) (row_val b o n ∷
-        []) (G.post y) (λ v. mean 𝓛 (parted E b o xs κ q v)) (λ v.
+        []) (G.post y) (λ v. mean 𝓛 (parted E b o xs fs κ q v)) (λ v.
         qed 𝓛 (raw (G.post y v) ∷ []) ∵ updating ! $
         use1 𝓛 (later (items (λ (w : Two.Denot). ((‵ (flft κ q) ⊛ ‵ ftrue) ⊛ ‵ (Two.own_val w (v ∷
         []))) ⊛ items (λ (_ : Unit {0} × Unit {0}). ‵ (fsep ftrue ftrue) ⊛ raw (fact 𝓤 (Are w)) ⊛ ‵ Left)))) (id⊢ 𝓤 (G.post y v)) $
@@ -115,34 +119,33 @@ module _ (E : El) {M : Type 1} {𝓤 : Ura M} (𝓛 : Logic 𝓤) (𝓜 : Model 
         move ! (3 ∷ []) $ fpick ! (λ us. fsplit ! $ feq_l ! (λ all. fsplit3 ! $ feq_l ! (λ first. fsplit ! $ feq_l ! (λ second.
         let is : v ≡ row_val b o (length xs) =
         ap only all ∙ ((λ i. vstruct (of_list (first i ++ (second i ++ [])))) ∙ (λ i. words_val ((are.0 ∙ at) i) ((are.1 ∙ lx) i))) in
-        move ! (4 ∷ 2 ∷ []) $ rewrite ! 0 (λ (t : Ptr × ℕ × List Bool). ‵ (owned (R E) t.0 t.1 xs t.2)) (λ i. (at i, lx i, filled i)) refl $
+        move ! (4 ∷ 2 ∷ []) $ rewrite ! 0 (λ (t : Ptr × ℕ). ‵ (owned (R E) t.0 t.1 xs fs)) (λ i. (at i, lx i)) refl $
         now ! $ check ! is $ keep ! (0 ∷ 1 ∷ []) $ done !))))))))))
 
-    pub joins : Wired 𝓡.env joining_symbol.code → (xs : List (el_x E)) → length xs < 2 ^ 64
-        → ent 𝓤 (mean 𝓛 (‵ (Full E b o xs) ⊛ ‵ (flft κ q)))
-        (𝓣.C (joining_key.name (args E)) (vptr b o ∷ vint w64 (length xs) ∷ []) (λ v. mean 𝓛 (joined E b o xs κ q v)))
-    joins wired xs fits = let n : ℕ = length xs in let fs : List Bool = all_full n in
+    pub joins : Wired 𝓡.env joining_symbol.code → (xs : List (el_x E)) (fs : List Bool) → length fs ≡ length xs → length xs < 2 ^ 64
+        → ent 𝓤 (mean 𝓛 (‵ (Kept E b o xs fs) ⊛ ‵ (flft κ q)))
+        (𝓣.C (joining_key.name (args E)) (vptr b o ∷ vint w64 (length xs) ∷ []) (λ v. mean 𝓛 (joined E b o xs fs κ q v)))
+    joins wired xs fs even fits = let n : ℕ = length xs in
         let G : Contract 𝓤 = triple_of 𝓛 (joining.signature E.row) (joining.spec E.row 𝓛 𝓜.mem 𝓡.returns) in
         let y : G.Ghost = (((κ, tt), (q, tt), tt, (block_ptr b o, (n, tt)), (vptr b o ∷ [], (vint w64 n ∷ [], tt))), (xs, fs)) in
         let Le : Type 0 = κ ⊑ E.row.lives in let Long : Type 0 = (n ≡ length xs) × (n ≡ length fs) in
         let Are : (Sr E).Denot → Type 0 = λ r. (slots_ptr r ≡ block_ptr b o) × (slots_len r ≡ n) × (slots_items r ≡ xs) × (slots_filled r ≡ fs) in
-        via 𝓤 (G.pre y) (qed 𝓛 ((‵ (Full E b o xs) ⊛ ‵ (flft κ q)) ∷ []) ∵ split ! $
-        use0 𝓛 (raw (fact 𝓤 Long)) (fact_i 𝓤 Long (emp 𝓤) (refl, sym (length-replicate n true))) $ join ! $
+        via 𝓤 (G.pre y) (qed 𝓛 ((‵ (Kept E b o xs fs) ⊛ ‵ (flft κ q)) ∷ []) ∵ split ! $
+        use0 𝓛 (raw (fact 𝓤 Long)) (fact_i 𝓤 Long (emp 𝓤) (refl, sym even)) $ join ! $
         use0 𝓛 (raw (fact 𝓤 Le)) (fact_i 𝓤 Le (emp 𝓤) le) $ join ! $ nothing ! $ flt_i ! n (2 ^ 64) fits $
         feq_i ! (List Val) (vint w64 n ∷ []) (vint w64 n ∷ []) refl $ fjoin ! $ fjoin ! $
         feq_i ! (List Val) (vptr b o ∷ []) (vptr b o ∷ []) refl $ fjoin ! $ nothing ! $ move ! (3 ∷ 0 ∷ []) $ join ! $ join ! $ done !)
         (via 𝓤 _ (joining_met.met 𝓤 𝓛 𝓜 𝓡 wired E.row E.laws y) (weaker (joining_key.name (args E)) (vptr b o ∷ vint w64 n ∷
-        []) (G.post y) (λ v. mean 𝓛 (joined E b o xs κ q v)) (λ v.
+        []) (G.post y) (λ v. mean 𝓛 (joined E b o xs fs κ q v)) (λ v.
         qed 𝓛 (raw (G.post y v) ∷ []) ∵ updating ! $
         use1 𝓛 (later (items (λ (r : (Sr E).Denot). ((‵ (flft κ q) ⊛ ‵ ftrue) ⊛ ‵ ((Sr E).own_val r (v ∷
         []))) ⊛ items (λ (_ : Unit {0} × (Unit {0} × Unit {0})). ‵ (fsep ftrue (fsep ftrue ftrue)) ⊛ raw (fact 𝓤 (Are r)))))) (id⊢ 𝓤 (G.post y v)) $
         await ! tt $ pick ! (λ r. split ! $ split ! $ move ! (2 ∷ []) $ pick ! (λ _. split ! $ drop ! $ heard ! (Are r) (λ are. split ! $ move ! (2 ∷ []) $
         row_had E ! r (v ∷ []) (λ b' o' at is fits' room. row_made E ! r b' o' at fits' room $
         let there : row_val b' o' (slots_len r) ≡ row_val b o n = λ i. words_val ((sym at ∙ are.0) i) (are.1 i) in
-        let full : IsFull r = λ k low lt. ap (λ (gs : List Bool). get_or gs k false) are.3 ∙ is_full n k (subst (λ (m : ℕ). k < m) are.1 lt) in
         rewrite ! 0 (λ (u : Val). ‵ ((Sr E).own_val r (u ∷ []))) there refl $ now ! $
-        show ! (λ (s : (Sr E).Denot). mean 𝓛 (given ((v ≡ row_val b o n) × Is_of E b o xs s) (Whole_of E s (row_val b o n) κ q))) r $
-        check ! (ap only is ∙ there, (are.0, are.1, are.2, full)) $ keep ! (0 ∷ 1 ∷ []) $ done !)))))))
+        show ! (λ (s : (Sr E).Denot). mean 𝓛 (given ((v ≡ row_val b o n) × Is_of E b o xs fs s) (Whole_of E s (row_val b o n) κ q))) r $
+        check ! (ap only is ∙ there, are) $ keep ! (0 ∷ 1 ∷ []) $ done !)))))))
 
 -- places of words are words side by side, and the other way round
 module _ {M : Type 1} {𝓤 : Ura M} (𝓛 : Logic 𝓤) (b : ℕ) where

@@ -2,6 +2,7 @@
 ghost use Rattle.std.specs.Prelude.{◌≡◌, ℕ, None, ◌+◌, ◌*◌, ◌≤◌, ◌^◌, length, slice_index, slice_index_or, IfOk};
 ghost use denote.RawPtr.{null_ptr};
 ghost use Rattle.core.specs.Mem.Slots.{slots_items, slots_filled, slots_ptr, slots_len, lease_ptr, lease_len, lease_heap, IsFull};
+ghost use Rattle.core.specs.Mem.Slots.Ownership.{Filled};
 ghost use Rattle.seize_seats.specs.State.{Starts};
 ghost use Rattle.seize_seats.specs.Lines.{whole};
 
@@ -82,6 +83,7 @@ fn drain<T: Drop>(slots: &mut Slots<Option<T>>, count: usize)
 /// As many words, each 0, with the right to give them back.
 fn lay(alloc: Global, count: usize) -> Result<(Row<u64>, Ground<u64>), AllocError>
     ensures zeros { IfOk result (λ p. ((k : ℕ) → slice_index p.0.items k ≡ 0) × (length p.0.items ≡ count)) }
+    ensures full { IfOk result (λ p. Filled p.0.filled 0 (length p.0.items)) }
     ensures lease { IfOk result (λ p. (lease_ptr p.1.lease ≡ p.0.at) × (lease_len p.1.lease ≡ count)) }
 {
     let like = vec![in alloc; 0; count]?;
@@ -107,6 +109,7 @@ fn lay_empty<T: Drop>(
     count: usize,
 ) -> Result<(Row<Option<T>>, Ground<Option<T>>), AllocError>
     ensures nones { IfOk result (λ p. ((k : ℕ) → slice_index_or p.0.items k None ≡ None) × (length p.0.items ≡ count)) }
+    ensures full { IfOk result (λ p. Filled p.0.filled 0 (length p.0.items)) }
     ensures lease { IfOk result (λ p. (lease_ptr p.1.lease ≡ p.0.at) × (lease_len p.1.lease ≡ count)) }
 {
     let like = nones::<T>(alloc, count)?;
@@ -129,6 +132,7 @@ fn no_addresses(alloc: Global, count: usize) -> Result<Vec<*mut u64>, AllocError
 /// Doors, each of them null, with the right to give them back.
 fn lay_doors(alloc: Global, count: usize) -> Result<(Row<*mut u64>, Ground<*mut u64>), AllocError>
     ensures nulls { IfOk result (λ p. ((k : ℕ) → slice_index_or p.0.items k null_ptr ≡ null_ptr) × (length p.0.items ≡ count)) }
+    ensures full { IfOk result (λ p. Filled p.0.filled 0 (length p.0.items)) }
     ensures lease { IfOk result (λ p. (lease_ptr p.1.lease ≡ p.0.at) × (lease_len p.1.lease ≡ count)) }
 {
     let like = no_addresses(alloc, count)?;

@@ -1,6 +1,7 @@
 //! The words, and what one step of a seat does to them: one atomic operation on a word, or none.
 ghost use Rattle.std.specs.Prelude.{◌≡◌, ℕ, ◌+◌, ◌-◌, ◌*◌, ◌^◌, ◌<◌, ◌≤◌, Some, None, Ok, Err, length, slice_index, slice_index_or};
 ghost use denote.RawPtr.{InBlock, null_ptr};
+ghost use Rattle.core.specs.Mem.Slots.Ownership.{Filled};
 ghost use Rattle.seize_words.specs.Op.{Load, Store, Swap, Add, Or, Exchange, Make, Take, Rewrite, Room, Found, Stored, Exchanged, Made, Taken, Roomed};
 ghost use Rattle.seize_seats.specs.State.{Allows, Owns, Turns, Comes, Meets, Renews, Starts};
 ghost use Rattle.seize_seats.specs.Lines.{whole};
@@ -49,7 +50,8 @@ impl<T, R: Rule<T>> Words<T, R> {
         requires { ((k : ℕ) → slice_index row.items k ≡ 0) × (length row.items ≡ whole _roots _count) × Starts (R.holds fixed.now) _roots
             × ((k : ℕ) → slice_index_or values.items k None ≡ None) × (length values.items ≡ _count)
             × ((k : ℕ) → slice_index_or doors.items k null_ptr ≡ null_ptr) × (length doors.items ≡ 32)
-            × (_count ≤ _most) }
+            × (_count ≤ _most) × Filled row.filled 0 (length row.items) × Filled values.filled 0 (length values.items)
+            × Filled doors.filled 0 (length doors.items) }
         ensures { (result.0.words ≡ row.at) × (result.0.id.roots ≡ _roots) × (result.0.id.count ≡ _most) × (result.0.id.values ≡ values.at)
             × (result.0.id.size ≡ _count) × (result.0.id.least ≡ _count) × (result.0.id.doors ≡ doors.at) × IsFirst row.at result.0.id
             × (result.0.fixed ≡ fixed.now) × (result.1.at ≡ values.at) × (result.2.at ≡ doors.at) }

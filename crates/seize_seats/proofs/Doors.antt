@@ -1,6 +1,6 @@
 -- One door of all: that of a strip which is there, or one that is null. Assumes `Logic`.
-use Rattle.std.specs.Prelude.{slice_get, replicate}
-use Rattle.std.proofs.Common.{◌≡◌, ℕ, zero, suc, ◌+◌, ◌*◌, ◌<◌, ◌≤◌, List, [], ◌∷◌, ◌++◌, length, sym, refl, ap, arith, Some}
+use Rattle.std.specs.Prelude.{slice_get, slice_index_or, replicate}
+use Rattle.std.proofs.Common.{◌≡◌, ℕ, zero, suc, ◌+◌, ◌*◌, ◌<◌, ◌≤◌, List, [], ◌∷◌, ◌++◌, length, take, sym, refl, ap, arith, Some}
 use seplogic.Ra.Ura.{Ura}
 use base.Share
 use base.Logic.{SProp, ent, sep, wand, ex, all, guard, apply∗, all_e}
@@ -12,7 +12,7 @@ use denote.Steps.{nothing}
 use Rattle.core.specs.Sync.RawAtomic.Pointer.{cell}
 use Rattle.seize_seats.specs.Seen.{seen}
 use Rattle.seize_seats.specs.Strips.{Strip, strip_coded}
-use Rattle.seize_seats.specs.Doors.{pointers, stays, behind, door, doors}
+use Rattle.seize_seats.specs.Doors.{pointers, stays, behind, door, doors, AreBehind}
 use Rattle.seize_seats.proofs.Ledgers as Ledgers
 
 module _ {M : Type 1} {𝓤 : Ura M} (𝓛 : Logic 𝓤) (σ : ℕ) (Is : ℕ → Strip → Type 0) (right : Strip → Fml) (b : ℕ) where
@@ -85,27 +85,41 @@ module _ {M : Type 1} {𝓤 : Ura M} (𝓛 : Logic 𝓤) (σ : ℕ) (Is : ℕ �
       use1 𝓛 (‵ (Sh q₁) ⊛ ‵ (Sh q₂)) ((Ledgers.view_halves 𝓛 strip_coded σ (suc k) s).cut q) $ split ! $ fpack ! Share Sh q₁ $ move ! (1 ∷ []) $ fpack ! Share Sh q₂ $
       nothing ! $ fpack ! (Is k s) (λ _. ftrue) is $ move ! (0 ∷ 2 ∷ 3 ∷ []) $ fjoin3 ! $ done !))
 
-  abbrev plain_item : ℕ → ℕ → types.Kit.Item 𝓤
-  plain_item o n = some (λ (ps : List Ptr). given (length ps ≡ n) (‵ (pointers b o ps)))
-
   -- where all are null there is no strip behind them
   pub nulls : (n o k : ℕ) → ent 𝓤 (sem 𝓛 (pointers b o (replicate n null_ptr))) (sem 𝓛 (Doors o n k []))
   nulls zero o k = qed 𝓛 (‵ ftrue ∷ []) ∵ done !
   nulls (suc n) o k = qed 𝓛 (‵ (Null o) ∷ ‵ (pointers b (o + 8) (replicate n null_ptr)) ∷ []) ∵ move ! (1 ∷ []) $
       use1 𝓛 (‵ (Doors (o + 8) n (suc k) [])) (nulls n (o + 8) (suc k)) $ move ! (1 ∷ 0 ∷ []) $ fjoin ! $ done !
 
-  -- at the end they are pointers again
-  abbrev pub Plain : ℕ → ℕ → List Ptr → SProp 𝓤
-  Plain o n ps = guard 𝓤 (length ps ≡ n) (sem 𝓛 (pointers b o ps))
+  -- the rights to all of these strips
+  abbrev pub rights : List Strip → Fml
+  rights [] = ftrue
+  rights (s ∷ ss) = fsep (right s) (rights ss)
 
-  pub plain : (n o k : ℕ) (ss : List Strip) → ent 𝓤 (sem 𝓛 (Doors o n k ss)) (ex 𝓤 (Plain o n))
-  plain zero o k ss = qed 𝓛 (‵ ftrue ∷ []) ∵ show ! (Plain o zero) [] $ check ! refl $ done !
+  -- At the end they are pointers again, and the rights to what lies behind them come back.
+  abbrev pub Plain : ℕ → ℕ → ℕ → List Strip → List Ptr → SProp 𝓤
+  Plain o n k ss ps = guard 𝓤 ((length ps ≡ n) × AreBehind Is k (take n ss) ps) (sep 𝓤 (sem 𝓛 (pointers b o ps)) (sem 𝓛 (rights (take n ss))))
+
+  abbrev pub plain_item : ℕ → ℕ → ℕ → List Strip → types.Kit.Item 𝓤
+  plain_item o n k ss = some (λ (ps : List Ptr). given ((length ps ≡ n) × AreBehind Is k (take n ss) ps) (‵ (pointers b o ps) ⊛ ‵ (rights (take n ss))))
+
+  pub plain : (n o k : ℕ) (ss : List Strip) → ent 𝓤 (sem 𝓛 (Doors o n k ss)) (ex 𝓤 (Plain o n k ss))
+  plain zero o k ss = qed 𝓛 (‵ ftrue ∷ []) ∵ show ! (Plain o zero k ss) [] $ check ! (refl, λ i. refl) $ nothing ! $ done !
   plain (suc n) o k [] = qed 𝓛 (‵ (Null o) ∷ ‵ (Doors (o + 8) n (suc k) []) ∷ []) ∵ move ! (1 ∷ []) $
-      use1 𝓛 (plain_item (o + 8) n) (plain n (o + 8) (suc k) []) $ pick ! (λ ps. learn ! (λ long.
-      show ! (Plain o (suc n)) (null_ptr ∷ ps) $ check ! (ap suc long) $ move ! (1 ∷ 0 ∷ []) $ fjoin ! $ done !))
+      use1 𝓛 (plain_item (o + 8) n (suc k) []) (plain n (o + 8) (suc k) []) $ pick ! (λ ps. learn ! (λ is.
+      show ! (Plain o (suc n) k []) (null_ptr ∷ ps) $ check ! (ap suc is.0, first n ps is.1) $ split ! $ move ! (1 ∷ []) $ drop ! $
+      move ! (1 ∷ 0 ∷ []) $ fjoin ! $ nothing ! $ move ! (1 ∷ 0 ∷ []) $ done !))
+    where
+      first : (m : ℕ) (ps : List Ptr) → AreBehind Is (suc k) (take m []) ps → (i : ℕ) → slice_index_or (null_ptr ∷ ps) i null_ptr ≡ null_ptr
+      first m ps are zero = refl
+      first zero ps are (suc i) = are i
+      first (suc m) ps are (suc i) = are i
   plain (suc n) o k (s ∷ ss) = qed 𝓛 (‵ (Door o k s) ∷ ‵ (Doors (o + 8) n (suc k) ss) ∷ []) ∵ move ! (1 ∷ []) $
-      use1 𝓛 (plain_item (o + 8) n) (plain n (o + 8) (suc k) ss) $ pick ! (λ ps. learn ! (λ long. move ! (1 ∷ []) $ fsplit ! $ move ! (1 ∷ []) $ drop ! $
-      show ! (Plain o (suc n)) (s.words ∷ ps) $ check ! (ap suc long) $ fjoin ! $ done !))
+      use1 𝓛 (plain_item (o + 8) n (suc k) ss) (plain n (o + 8) (suc k) ss) $ pick ! (λ ps. learn ! (λ behind_are. split ! $ move ! (2 ∷ []) $ fsplit ! $
+      move ! (1 ∷ []) $ fsplit3 ! $ fpick ! (λ is. drop ! $ drop ! $
+      -- [the right; the cell; the other cells; the other rights]
+      show ! (Plain o (suc n) k (s ∷ ss)) (s.words ∷ ps) $ check ! (ap suc behind_are.0, (is, refl, behind_are.1)) $ move ! (0 ∷ 3 ∷ []) $ fjoin ! $
+      move ! (1 ∷ 2 ∷ 0 ∷ []) $ fjoin ! $ done !)))
 
   -- what is so of all strips behind them
   abbrev pub AllAre : ℕ → List Strip → Type 0

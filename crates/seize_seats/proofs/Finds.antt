@@ -3,9 +3,8 @@ use Rattle.std.specs.Prelude.{slice_get}
 use Rattle.std.proofs.Common.{◌≡◌, ◌⊎◌, inl, inr, ℕ, zero, suc, ◌+◌, ◌-◌, ◌*◌, ◌^◌, ◌<◌, ◌≤◌, List, [], ◌∷◌, length, sym, refl, ap, ◌∙◌, subst, arith, lit<, Some}
 use native.Mathlib.Nat.{pow-suc, mul_assoc, mul-le-mul_left, pow-le-pow_right}
 use seplogic.Ra.Ura.{Ura}
-use base.Share
 use base.Stored.{Coded}
-use base.Logic.{SProp, ent, sep, wand, ex, upd, apply∗, upd_i}
+use base.Logic.{SProp, ent, sep, wand, ex, apply∗, upd_i}
 use base.Fml.{Lft, Share, Fml, ftrue, fsep, flft, fbor, finv}
 use types.Logic.{Logic, sem}
 use types.Kit.{‵, raw, ◌⊛◌, given, ◌$◌, ◌∵◌, !, qed, by, move, drop, split, group, fsplit, fsplit3, fjoin, fpick, fpack, learn, show, frame, assume, suffices, use1, use2, rewrite, done}
@@ -16,13 +15,13 @@ use Rattle.core.specs.Sync.RawAtomic.Pointer.{cell, asks_ptr}
 use Rattle.core.proofs.raw_atomic.Asked.{borrowed_ptr, PtrLies}
 use Rattle.seize_seats.specs.State.{State}
 use Rattle.seize_seats.specs.Seen.{fact, seen}
-use Rattle.seize_seats.specs.Cells.{Cell, Free, Has, Held, cell_at}
+use Rattle.seize_seats.specs.Cells.{Cell, Free, cell_at}
 use Rattle.seize_seats.specs.Lines.{memory_of, AreLaid}
 use Rattle.seize_seats.specs.Strips.{Strip, strip_coded, no_strip, further, AreStrips}
 use Rattle.seize_seats.specs.Doors.{IsFurther, right_to, stays, behind, door}
 use Rattle.seize_seats.specs.Stretches.{IsEven}
 use Rattle.seize_seats.specs.Lendings.{ShownToBoth}
-use Rattle.seize_seats.specs.Owned.{row, ledger, unborn, hand_coded, resting, strips, doors_of, listed, BaseId, Inside, age, core_of, book_of, strip_of, is_listed, state_of, lent_here, had_here, everything, told}
+use Rattle.seize_seats.specs.Owned.{row, ledger, unborn, hand_coded, resting, strips, doors_of, BaseId, Inside, age, core_of, book_of, strip_of, is_listed, state_of, lent_here, had_here, everything, told}
 use Rattle.seize_seats.proofs.Stretches as Stretches
 use Rattle.seize_seats.proofs.Ledgers as Ledgers
 use Rattle.seize_seats.proofs.Hands as Hands

@@ -17,6 +17,7 @@ pub mod Lends
 pub mod Steps
 pub mod Opening
 pub mod Joining
+pub mod Plots
 pub mod Doors
 pub mod Looks
 pub mod Offers

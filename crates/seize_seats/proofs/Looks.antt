@@ -3,7 +3,7 @@ use Rattle.std.specs.Prelude.{slice_get}
 use Rattle.std.proofs.Common.{◌≡◌, ◌⊎◌, inl, inr, ℕ, zero, suc, ◌+◌, ◌*◌, ◌^◌, ◌<◌, ◌≤◌, List, [], ◌∷◌, length, sym, refl, ap, ◌∙◌, subst, arith, Some}
 use seplogic.Ra.Ura.{Ura}
 use base.Stored.{Coded}
-use base.Logic.{SProp, ent, sep, wand, ex, upd, emp, apply∗, upd_i}
+use base.Logic.{SProp, ent, sep, wand, ex, emp, apply∗, upd_i}
 use base.Fml.{Lft, Share, Fml, ftrue, fsep, fex, flft, fbor, finv}
 use types.Logic.{Logic, sem}
 use types.Kit.{‵, raw, ◌⊛◌, some as items, ◌$◌, ◌∵◌, !, qed, by, move, drop, split, fsplit, fsplit3, fjoin, fjoin3, fpick, fpack, pick, show, frame, assume, suffices, use1, use2, rewrite, done}
@@ -21,6 +21,7 @@ use Rattle.seize_seats.specs.Stretches.{IsEven}
 use Rattle.seize_seats.specs.Owned.{doors_of, listed, BaseId, Inside, age, core_of, book_of, strip_of, strip_told, IsPlaced, stride, lent_here, had_here, standing_in, everything, told}
 use Rattle.seize_seats.proofs.Stretches as Stretches
 use Rattle.seize_seats.proofs.Doors as Doors
+use Rattle.seize_seats.proofs.Plots as Plots
 
 -- there is such a one, or there are not so many
 pub at_or_not : (ss : List Strip) (i : ℕ) → ((s : Strip) × (slice_get ss i ≡ Some s)) ⊎ (length ss ≤ i)
@@ -129,7 +130,15 @@ module _ {M : Type 1} {𝓤 : Ura M} (𝓛 : Logic 𝓤) (R : RattleType) {V W :
     tells_strip door (block_ptr c u) = let w : Ptr = block_ptr c u in let y : BaseId = at_door w in let Sh : Strip → Share → Fml = λ s r. seen strip_coded.code z.strips_name r (suc j) s in
         qed 𝓛 (‵ (glimpse w) ∷ []) ∵ fpick ! (λ s. fsplit ! $ fpick ! (λ so. drop ! $ fpick ! (λ r.
         let same : s ≡ strip_of w y = is_strip w s so in
-        let placed : IsPlaced R w y = (tt, subst (λ (r : Strip). (r.skip + r.size * 5) * 8 < 2 ^ 63) same so.1.6, tt, subst (λ (r : Strip). r.size * stride R < 2 ^ 63) same so.1.7, door) in
+        let fits = Plots.fits R s.size so.1.6 in
+        let words : (s.skip + s.size * 5) * 8 < 2 ^ 63 = subst (λ (k : ℕ). (k + s.size * 5) * 8 < 2 ^ 63) (sym so.1.2) fits.0 in
+        let placed : IsPlaced R w y = (
+          tt,
+          subst (λ (r : Strip). (r.skip + r.size * 5) * 8 < 2 ^ 63) same words,
+          tt,
+          subst (λ (r : Strip). r.size * stride R < 2 ^ 63) same fits.1,
+          door,
+        ) in
         rewrite ! 0 (λ (s' : Strip). ‵ (Sh s' r)) same refl $ fpack ! Share (Sh (strip_of w y)) r $
         nothing ! $ fpack ! (IsPlaced R w y) (λ _. ftrue) placed $ fjoin ! $ done !)))
 

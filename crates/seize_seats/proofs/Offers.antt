@@ -1,6 +1,6 @@
 -- Who sets a door that is null has a strip more join, and who finds it set keeps its own. Assumes `Logic`.
 use Rattle.std.specs.Prelude.{slice_get, replicate}
-use Rattle.std.proofs.Common.{◌≡◌, ◌⊎◌, inl, inr, ℕ, zero, suc, ◌+◌, ◌*◌, ◌<◌, ◌≤◌, Bool, true, false, List, [], ◌∷◌, ◌++◌, length, sym, refl, ap, subst, arith, Some, None, lit<}
+use Rattle.std.proofs.Common.{◌≡◌, ◌⊎◌, inl, inr, ℕ, zero, suc, ◌+◌, ◌*◌, ◌<◌, ◌≤◌, Bool, true, false, List, [], ◌∷◌, ◌++◌, length, sym, refl, subst, arith, Some, None, lit<}
 use seplogic.Ra.Ura.{Ura}
 use base.Stored.{Coded}
 use base.Logic.{SProp, ent, sep, wand, ex, all, upd, apply∗, all_e, upd_i}

@@ -1,7 +1,7 @@
 -- Words that are 0 and places without a value go under a rule that holds of them, and come back at the end. Assumes `Logic`.
 use Rattle.std.specs.Prelude.{slice_index, slice_get, replicate}
 use Rattle.std.proofs.Common.{◌≡◌, ℕ, zero, suc, ◌+◌, ◌*◌, ◌≤◌, List, [], ◌∷◌, ◌++◌, length, take, drop, refl, sym, ap, ◌∙◌, subst, inl, arith, Option, None, Some, length-append}
-use Rattle.std.proofs.lemmas.List.{length-replicate, length-take-le, take_all}
+use Rattle.std.proofs.lemmas.List.{length-replicate, length-take-le, length-drop, take_all}
 use seplogic.Ra.Ura.{Ura}
 use base.Fraction.{full_share}
 use base.Share.{three_quarters}
@@ -22,14 +22,14 @@ use Rattle.seize_seats.specs.State.{State, Starts}
 use Rattle.seize_seats.specs.Cells.{Cell, Free, Claimed, Out, Has, Held, block_in, cell_at, sign_of}
 use Rattle.seize_seats.specs.Lines.{Parts, column, long, whole, memory_of, AreLaid}
 use Rattle.seize_seats.specs.Strips.{Strip, strip_coded, no_strip, further, AreStrips}
-use Rattle.seize_seats.specs.Doors.{pointers, IsFurther, right_to}
-use Rattle.seize_seats.specs.Seen.{seen}
-use Rattle.seize_seats.specs.Owned.{row, unborn, ledger, shared_view, hand_coded, resting, zeros, stride, place, places, hand, kept, under, numbers, strips, doors_of, listed, BaseId, age, core_of, book_of, strip_of, IsFirst, Inside, state_of, IsPlaced, standing_in, inner, everything, lent_here, had_here, words_own}
+use Rattle.seize_seats.specs.Doors.{pointers, IsFurther, right_to, AreBehind}
+use Rattle.seize_seats.specs.Seen.{seen, fact}
+use Rattle.seize_seats.specs.Owned.{row, unborn, ledger, shared_view, hand_coded, resting, zeros, stride, place, places, stripped, all_alone, hand, kept, under, numbers, strips, doors_of, listed, BaseId, age, core_of, book_of, strip_of, IsFirst, Inside, state_of, IsPlaced, standing_in, inner, everything, lent_here, had_here, words_own}
 use Rattle.seize_seats.specs.Stretches.{IsEven, invariant}
 use Rattle.seize_seats.proofs.Ledgers as Ledgers
 use Rattle.seize_seats.proofs.Stretches as Stretches
 use Rattle.seize_seats.proofs.Lendings as Lendings
-use Rattle.seize_seats.proofs.Strips.{strip_within}
+use Rattle.seize_seats.proofs.Strips.{strips_up, strip_within}
 use Rattle.seize_seats.proofs.Doors as Doors
 use Rattle.seize_seats.proofs.Known as Known
 
@@ -69,6 +69,24 @@ module _ {M : Type 1} {𝓤 : Ura M} (𝓛 : Logic 𝓤) (b : ℕ) where
       rewrite ! 1 (λ (k : ℕ). ‵ (row b k ys)) here refl $ move ! (1 ∷ []) $ keep ! (0 ∷ []) $ done !
   row_joins (x ∷ xs) ys o e is = qed 𝓛 ((‵ (word b o x) ⊛ ‵ (row b (o + 8) xs)) ∷ ‵ (row b e ys) ∷ []) ∵ split ! $ move ! (1 ∷ 2 ∷ []) $
       use2 𝓛 (‵ (row b (o + 8) (xs ++ ys))) (row_joins xs ys (o + 8) e (omega (arith, is))) $ move ! (1 ∷ 0 ∷ []) $ fjoin ! $ done !
+
+-- a block under one of the first numbers, or under one of the others, is there
+module _ {T : Type 0} where
+  taken_cell : (n k : ℕ) (cs : List (Cell T)) (x : Block T) → block_in (cell_at (take n cs) k) ≡ Some x → block_in (cell_at cs k) ≡ Some x
+  taken_cell zero k cs x e = absurd (let none : block_in (cell_at {T = T} [] k) ≡ None = refl in cc (none, e))
+  taken_cell (suc n) k [] x e = e
+  taken_cell (suc n) zero (c ∷ cs) x e = e
+  taken_cell (suc n) (suc k) (c ∷ cs) x e = taken_cell n k cs x e
+
+  dropped_cell : (n k i : ℕ) (cs : List (Cell T)) (x : Block T) → i ≡ n + k → block_in (cell_at (drop n cs) k) ≡ Some x → block_in (cell_at cs i) ≡ Some x
+  dropped_cell zero k i cs x at e = let same : k ≡ i = omega (arith, at) in subst (λ (m : ℕ). block_in (cell_at cs m) ≡ Some x) same e
+  dropped_cell (suc n) k i [] x at e = absurd (let none : block_in (cell_at {T = T} [] k) ≡ None = refl in cc (none, e))
+  dropped_cell (suc n) k zero (c ∷ cs) x at e = absurd (omega (arith, at))
+  dropped_cell (suc n) k (suc i) (c ∷ cs) x at e = dropped_cell n k i cs x (omega (arith, at)) e
+
+  -- each block has four words
+  abbrev pub AreFour : List (Cell T) → Type 0
+  AreFour cs = (k : ℕ) (x : Block T) → block_in (cell_at cs k) ≡ Some x → length x.entry ≡ 4
 
 module _ {M : Type 1} {𝓤 : Ura M} (𝓛 : Logic 𝓤) (R : RattleType) (α : Lft) (δ : ℕ) (lent : ℕ → R.Denot → ℕ → ℕ → Fml) (had : ℕ → ℕ → R.Denot → Fml) where
   abbrev Unborn : ℕ → Fml
@@ -194,6 +212,39 @@ module _ {M : Type 1} {𝓤 : Ura M} (𝓛 : Logic 𝓤) (R : RattleType) (α : 
           move ! (1 ∷ []) $ fsplit3 ! $ move ! (2 ∷ []) $ fsplit ! $ move ! (0 ∷ 5 ∷ []) $ use2 𝓛 (raw (never 𝓤)) (𝓛.lfts.lft-dead α s) $ keep ! (0 ∷ []) $
           by ! (never_e 𝓤 (ex 𝓤 (Torn b b' (suc (length cs)) o o')))
 
+  -- strip by strip
+  abbrev pub all_stripped : List Strip → Fml
+  all_stripped [] = ftrue
+  all_stripped (s ∷ ss) = fsep (stripped R s) (all_stripped ss)
+
+  tears_all : (ss : List Strip) (cs : List (Cell R.Denot)) (j n : ℕ) → AreStrips j ss n → n ≡ j + length cs → AreFour cs
+      → ent 𝓤 (sep 𝓤 (sem 𝓛 (strips R α δ owned had ss cs)) (sem 𝓛 (fdead α))) (sem 𝓛 (all_stripped ss))
+  tears_all [] cs j n are long fours = qed 𝓛 (‵ ftrue ∷ ‵ (fdead α) ∷ []) ∵ leave ! $ leave ! $ nothing ! $ done !
+  tears_all (s ∷ ss) cs j n are long fours =
+      let b : ℕ = block_of s.words in let o : ℕ = s.skip * 8 + count_of s.words in let b' : ℕ = block_of s.values in let o' : ℕ = count_of s.values in
+      let us : List (Cell R.Denot) = take s.size cs in let up = strips_up ss (j + s.size) n are.1 in let le : s.size ≤ length cs = omega (arith, up, long) in
+      let size : length us ≡ s.size = length-take-le s.size cs le in let rest = length-drop s.size cs in
+      let Parts : List ℕ × List (Option R.Denot) → Fml = λ u. fsep (fact ((length u.0 ≡ s.size * 5) × (length u.1 ≡ s.size))) (fsep (row b o u.0) (places R b' o' u.1)) in
+      qed 𝓛 ((‵ (numbers R α δ owned had b o b' o' s.first us) ⊛ ‵ (strips R α δ owned had ss (drop s.size cs))) ∷ ‵ (fdead α) ∷ []) ∵ split ! $ move ! (2 ∷ []) $
+      use1 𝓛 (‵ (fdead α) ⊛ ‵ (fdead α)) (𝓛.lfts.dead_dup α) $ split ! $ move ! (3 ∷ 0 ∷ []) $
+      use2 𝓛 (‵ (all_stripped ss))
+      (tears_all ss (drop s.size cs) (j + s.size) n are.1 (omega (arith, long, rest, le)) (λ k x e. fours (s.size + k) x (dropped_cell s.size k (s.size + k) cs x refl e))) $
+      move ! (2 ∷ 1 ∷ []) $ use2 𝓛 (items (torn_item b b' (length us) o o'))
+      (tears b b' us o o' s.first (λ k x e. fours k x (taken_cell s.size k cs x e))) $ pick ! (λ u. learn ! (λ l. split ! $ fjoin ! $
+      let is : (length u.0 ≡ s.size * 5) × (length u.1 ≡ s.size) = subst (λ (m : ℕ). (length u.0 ≡ m * 5) × (length u.1 ≡ m)) size l in
+      nothing ! $ fpack ! ((length u.0 ≡ s.size * 5) × (length u.1 ≡ s.size)) (λ _. ftrue) is $ fjoin ! $ fpack ! (List ℕ × List (Option R.Denot)) Parts u $
+      fjoin ! $ done !))
+
+  -- with the rights to their blocks
+  all_joined : (σ : ℕ) (Is : ℕ → Strip → Type 0) (b n : ℕ) (ss : List Strip)
+      → ent 𝓤 (sep 𝓤 (sem 𝓛 (all_stripped ss)) (sem 𝓛 (Doors.rights 𝓛 σ Is (right_to R) b (take n ss)))) (sem 𝓛 (all_alone R (take n ss)))
+  all_joined σ Is b zero ss = qed 𝓛 (‵ (all_stripped ss) ∷ ‵ ftrue ∷ []) ∵ leave ! $ done !
+  all_joined σ Is b (suc n) [] = qed 𝓛 (‵ ftrue ∷ ‵ ftrue ∷ []) ∵ leave ! $ done !
+  all_joined σ Is b (suc n) (s ∷ ss) = let Rs : List Strip → Fml = Doors.rights 𝓛 σ Is (right_to R) b in
+      qed 𝓛 ((‵ (stripped R s) ⊛ ‵ (all_stripped ss)) ∷ (‵ (right_to R s) ⊛ ‵ (Rs (take n ss))) ∷ []) ∵ split ! $ move ! (2 ∷ []) $ split ! $
+      -- [the right; the other rights; the strip; the others]
+      move ! (2 ∷ 0 ∷ []) $ fjoin ! $ move ! (2 ∷ 1 ∷ []) $ use2 𝓛 (‵ (all_alone R (take n ss))) (all_joined σ Is b n ss) $ move ! (1 ∷ 0 ∷ []) $ fjoin ! $ done !
+
 zeros_of : (n k : ℕ) → slice_index (replicate n 0) k ≡ 0
 zeros_of zero k = refl
 zeros_of (suc n) zero = refl
@@ -314,19 +365,16 @@ module _ {M : Type 1} {𝓤 : Ura M} (𝓛 : Logic 𝓤) (R : RattleType) {V W :
         nothing ! $ fpack ! (IsPlaced R p z) (λ _. ftrue) placed $ move ! (0 ∷ 1 ∷ []) $ fjoin ! $ move ! (0 ∷ 1 ∷ []) $ fjoin ! $ move ! (1 ∷ 0 ∷ []) $ fjoin ! $
         now ! $ show ! Opened z $ check ! (refl, refl, refl, refl, refl, refl, (refl, refl, refl, refl)) $ done !))))
 
-  -- other cells of so many are the first ones
-  taken_cell : (n k : ℕ) (cs : List (Cell R.Denot)) (x : Block R.Denot) → block_in (cell_at (take n cs) k) ≡ Some x → block_in (cell_at cs k) ≡ Some x
-  taken_cell zero k cs x e = absurd (let none : block_in (cell_at {T = R.Denot} [] k) ≡ None = refl in cc (none, e))
-  taken_cell (suc n) k [] x e = e
-  taken_cell (suc n) zero (c ∷ cs) x e = e
-  taken_cell (suc n) (suc k) (c ∷ cs) x e = taken_cell n k cs x e
-
   module _ (z : BaseId) (is : IsFirst p z) where
-    abbrev pub Closed : List ℕ × List (Option R.Denot) × List Ptr → SProp 𝓤
+    abbrev pub AreClosed : List ℕ × List (Option R.Denot) × List Ptr × List Strip → Type 0
+    AreClosed u =
+        (length u.0 ≡ whole z.roots z.size) × (length u.1 ≡ z.size) × (length u.2 ≡ 32) × IsPlaced R p z × AreBehind (IsFurther R z.least) 0 u.3 u.2
+
+    abbrev pub Closed : List ℕ × List (Option R.Denot) × List Ptr × List Strip → SProp 𝓤
     Closed u =
-        guard 𝓤 ((length u.0 ≡ whole z.roots z.size) × (length u.1 ≡ z.size) × (length u.2 ≡ 32) × IsPlaced R p z)
+        guard 𝓤 (AreClosed u)
         (sep 𝓤 ⟦ row (block_of p) (count_of p) u.0 ⟧ (sep 𝓤 ⟦ places R (block_of z.values) (count_of z.values) u.1 ⟧
-        ⟦ pointers (block_of z.doors) (count_of z.doors) u.2 ⟧))
+        (sep 𝓤 ⟦ pointers (block_of z.doors) (count_of z.doors) u.2 ⟧ ⟦ all_alone R u.3 ⟧)))
 
     abbrev Drs : List Strip → Fml
     Drs ss = doors_of R (book_of z) ss
@@ -349,7 +397,7 @@ module _ {M : Type 1} {𝓤 : Ura M} (𝓛 : Logic 𝓤) (R : RattleType) {V W :
     abbrev Rest : Fml
     Rest = fsep (fdead α) ftrue
 
-    -- the numbers of the first strip
+    -- the first strip, and all others
     gives_back : (t : Inside R.Denot V W) (laid : AreLaid z.roots z.count t.parts) (placed : IsPlaced R p z) (ss : List Strip)
         → AreStrips 0 ss (length t.parts.cells) → slice_get ss 0 ≡ Some (strip_of p z)
         → ent 𝓤 (sep 𝓤 ⟦ strips R α z.hands_name Owned Hd ss t.parts.cells ⟧ (sep 𝓤 ⟦ fdead α ⟧ (sep 𝓤 ⟦ Fixed t.parts.words ⟧ ⟦ Drs (further ss) ⟧))) (ex 𝓤 Closed)
@@ -362,18 +410,28 @@ module _ {M : Type 1} {𝓤 : Ura M} (𝓛 : Logic 𝓤) (R : RattleType) {V W :
         let b : ℕ = block_of p in let o : ℕ = count_of p in let b' : ℕ = block_of z.values in let o' : ℕ = count_of z.values in let f : ℕ = z.skip * 8 + o in
         let size : length us ≡ z.size = length-take-le z.size cs (omega (arith, last)) in let skip = is.1 in let head = laid.all in
         let At : Ptr → Fml = λ r. row (block_of r) (count_of r) ws in
-        qed 𝓛 (‵ (fsep (Of s) (strips R α z.hands_name Owned Hd ss (drop s.size cs))) ∷ ‵ (fdead α) ∷ ‵ (Fixed ws) ∷ ‵ (Drs ss) ∷ []) ∵ fsplit ! $ move ! (1 ∷ []) $ leave ! $
+        let σ : ℕ = z.strips_name in let Is : ℕ → Strip → Type 0 = IsFurther R z.least in let db : ℕ = block_of z.doors in let d₀ : ℕ = count_of z.doors in
+        let le : s.size ≤ length cs = let l = strips_up ss (0 + s.size) (length cs) are.1 in omega (arith, l) in let beyond = length-drop s.size cs in
+        let further_long : length cs ≡ 0 + s.size + length (drop s.size cs) = omega (arith, beyond, le) in
+        let Stripped : Fml = all_stripped 𝓛 R α z.hands_name Lt Hd ss in
+        qed 𝓛 (‵ (fsep (Of s) (strips R α z.hands_name Owned Hd ss (drop s.size cs))) ∷ ‵ (fdead α) ∷ ‵ (Fixed ws) ∷ ‵ (Drs ss) ∷ []) ∵ fsplit ! $
+        move ! (2 ∷ []) $ use1 𝓛 (‵ (fdead α) ⊛ ‵ (fdead α)) (𝓛.lfts.dead_dup α) $ split ! $ move ! (3 ∷ 0 ∷ []) $
+        use2 𝓛 (‵ Stripped)
+        (tears_all 𝓛 R α z.hands_name Lt Hd ss (drop s.size cs) (0 + s.size) (length cs) are.1 further_long (λ k x q. laid.fours (s.size + k) x (dropped_cell s.size k (s.size + k) cs x refl q))) $
+        -- [the others; dead; the first numbers; the first words; the doors]
+        move ! (2 ∷ 1 ∷ 3 ∷ []) $
         rewrite ! 0 (λ (r : Strip). ‵ (Of r)) same refl $
         rewrite ! 2 (λ (r : Ptr). ‵ (At r)) is.0 refl $
         use2 𝓛 (items (torn_item 𝓛 R α z.hands_name Lt Hd b b' (length us) f o'))
         (tears 𝓛 R α z.hands_name Lt Hd b b' us f o' z.first (λ k x e. laid.fours k x (taken_cell z.size k cs x e))) $ pick ! (λ u. learn ! (λ l. split ! $
-        -- [the others; the places; the first words; the doors]
+        -- [its words; its places; the first words; the others; the doors]
         let l0 = l.0 in let l1 = l.1 in
         let long_is : length (ws ++ u.0) ≡ whole z.roots z.size = length-append ws u.0 ∙ omega (arith, head, l0, size) in
-        move ! (2 ∷ 0 ∷ []) $ use2 𝓛 (‵ (row b o (ws ++ u.0))) (row_joins 𝓛 b ws u.0 o f (omega (arith, head, skip))) $ move ! (2 ∷ []) $
-        use1 𝓛 (items (λ (ps : List Ptr). given (length ps ≡ 32) (‵ (pointers (block_of z.doors) (count_of z.doors) ps))))
-        (Doors.plain 𝓛 z.strips_name (IsFurther R z.least) (right_to R) (block_of z.doors) 32 (count_of z.doors) 0 ss) $ pick ! (λ ps. learn ! (λ few.
-        show ! Closed (ws ++ u.0, u.1, ps) $ check ! (long_is, omega (arith, l1, size), few, placed) $ move ! (1 ∷ 2 ∷ 0 ∷ []) $ done !))))
+        move ! (2 ∷ 0 ∷ []) $ use2 𝓛 (‵ (row b o (ws ++ u.0))) (row_joins 𝓛 b ws u.0 o f (omega (arith, head, skip))) $ move ! (3 ∷ []) $
+        use1 𝓛 (Doors.plain_item 𝓛 σ Is (right_to R) db d₀ 32 0 ss) (Doors.plain 𝓛 σ Is (right_to R) db 32 d₀ 0 ss) $ pick ! (λ ps. learn ! (λ few. split ! $
+        -- [the doors; the rights; the words; the places; the others]
+        move ! (4 ∷ 1 ∷ []) $ use2 𝓛 (‵ (all_alone R (take 32 ss))) (all_joined 𝓛 R α z.hands_name Lt Hd σ Is db 32 ss) $
+        show ! Closed (ws ++ u.0, u.1, ps, take 32 ss) $ check ! (long_is, omega (arith, l1, size), few.0, placed, few.1) $ move ! (2 ∷ 3 ∷ 1 ∷ 0 ∷ []) $ done !))))
 
     pub closes : ent 𝓤 ⟦ words_own R cv.code holds p z ⟧ (H.⇛ (ex 𝓤 Closed))
     closes = let E : Fml = everything R cv.code holds (core_of z) in

@@ -105,7 +105,7 @@ module _ (R : RattleType) (sent : IsSend (OptionOf R)) (synced : IsSync (OptionO
       λ ss. (
         (
           (ledger_keyless strip_coded.code k.strips_name no_strip ss, entries_keyless shared_view k.hands_name (length t.parts.cells) _),
-          doors_keyless k.strips_name (IsFurther R k.least) (right_to R) (λ s. chunk-Keyless (block_type R s.size) s.words) (block_of k.doors) (count_of k.doors) 32 0 (further ss),
+          doors_keyless k.strips_name (IsFurther R k.least) (right_to R) (λ s. (chunk-Keyless (block_type R s.size) s.words, ((tt, tt), tt))) (block_of k.doors) (count_of k.doors) 32 0 (further ss),
         ),
         (
           (λ _. tt),

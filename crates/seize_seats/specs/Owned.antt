@@ -131,6 +131,20 @@ abbrev pub places : (R : RattleType) → ℕ → ℕ → List (Option R.Denot) �
 places R b o [] = ftrue
 places R b o (x ∷ xs) = fsep (part_at (OptionOf R) full_share x b o) (places R b (o + stride R) xs)
 
+-- A further strip that stands under no rule: its words and its places, and with them the right to give its block back.
+module _ (R : RattleType) where
+  abbrev pub stripped : Strip → Fml
+  stripped s =
+      fex (List ℕ × List (Option R.Denot)) (λ u. fsep (fact ((length u.0 ≡ s.size * 5) × (length u.1 ≡ s.size)))
+      (fsep (row (block_of s.words) (s.skip * 8 + count_of s.words) u.0) (places R (block_of s.values) (count_of s.values) u.1)))
+
+  abbrev pub alone : Strip → Fml
+  alone s = fsep (stripped s) (right_to R s)
+
+  abbrev pub all_alone : List Strip → Fml
+  all_alone [] = ftrue
+  all_alone (s ∷ ss) = fsep (alone s) (all_alone ss)
+
 -- Which memory: the atom of its lifetime, the names of the views, of the hands and of the strips, how many roots it has and how many numbers there may be, and
 -- where the words of roots and slots lie; where the doors lie, and how many numbers the first strip has.
 pub record Core : Type 0 where

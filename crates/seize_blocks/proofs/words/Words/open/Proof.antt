@@ -1,5 +1,5 @@
 -- `open` puts the words under a new invariant.
-use Rattle.std.proofs.Common.{◌≡◌, ℕ, List, [], ◌∷◌, length, ◌*◌, ◌^◌, ◌<◌, ◌≤◌, refl, subst, w64}
+use Rattle.std.proofs.Common.{◌≡◌, ℕ, Bool, List, [], ◌∷◌, length, ◌*◌, ◌^◌, ◌<◌, ◌≤◌, refl, subst, w64}
 use Rattle.std.specs.Prelude.{slice_index, slice_index_or, Option, None}
 use mir.Syntax.{dcons, dnil, a_type, named}
 use mir.MapTy.{inst_fn}
@@ -37,7 +37,8 @@ use Rattle.seize_blocks.specs.contracts.row.Row as row
 use Rattle.seize_blocks.specs.contracts.place.Place as place
 use Rattle.seize_blocks.specs.contracts.place.Doors as doors
 use Rattle.seize_blocks.proofs.Fields.{hand_of, hand_good, hand_made, one_of, one_good, places_told, place_made, doors_made, opened_good, Data}
-use Rattle.seize_blocks.proofs.Placing.{Fits, whole_out, Roomy, values_out, nones_are, doorway_out, nulls_are}
+use Rattle.core.specs.Mem.Slots.Ownership.{owned, Filled}
+use Rattle.seize_blocks.proofs.Placing.{full_is, Fits, whole_out, Roomy, values_out, nones_are, doorway_out, nulls_are}
 use Rattle.seize_seats.specs.State.{Starts}
 use Rattle.seize_seats.proofs.Opening.{opens}
 use Rattle.seize_blocks.specs.contracts.words.Words.open.{ended, clauses}
@@ -91,7 +92,8 @@ open_spec 𝓤 𝓛 𝓜 𝓡 wired X P U F LX LP LU LF g d _ =
     let others : Fml = fsep (flft κs.1.0 qs.1.0) (fsep (flft κs.1.1.0 qs.1.1.0) (fsep (flft κs.1.1.1.0 qs.1.1.1.0)
     (fsep (flft κs.1.1.1.1.0 qs.1.1.1.1.0) ftrue))) in
     let Asked : Type 0 = ((k : ℕ) → slice_index ws k ≡ 0) × (length ws ≡ all_words roots count) × Starts holds roots ×
-    ((k : ℕ) → slice_index_or xs k None ≡ None) × (length xs ≡ count) × ((k : ℕ) → slice_index_or ds k null_ptr ≡ null_ptr) × (length ds ≡ 32) × (count ≤ most) in
+    ((k : ℕ) → slice_index_or xs k None ≡ None) × (length xs ≡ count) × ((k : ℕ) → slice_index_or ds k null_ptr ≡ null_ptr) × (length ds ≡ 32) × (count ≤ most)
+    × Filled a.0.filled 0 (length ws) × Filled a.1.0.filled 0 (length xs) × Filled a.1.1.0.filled 0 (length ds) in
     let y : (walk_of 𝓛 En hs c).Ghost = (
       (
         κs,
@@ -115,11 +117,14 @@ open_spec 𝓤 𝓛 𝓜 𝓡 wired X P U F LX LP LU LF g d _ =
     qed 𝓛 (((‵ (flft κs.0 qs.0) ⊛ ‵ others) ⊛ ‵ (owns (types_at En.signature.params κs) a y.0.4)) ∷ raw (fact 𝓤 _) ∷ raw (fact 𝓤 _) ∷ raw (fact 𝓤 _) ∷
     raw (fact 𝓤 _) ∷ raw (fact 𝓤 Asked) ∷ []) ∵
     keep ! (5 ∷ 0 ∷ []) $ heard ! Asked (λ asked. split ! $ split ! $ move ! (2 ∷ []) $ fsplit ! $ fsplit ! $ move ! (1 ∷ []) $
+    rewrite ! 0 (λ (fs : List Bool). ‵ (owned u64 p (length ws) ws fs)) (full_is (length ws) a.0.filled a.0.even asked.8) refl $
     use1 𝓛 (given (Fits 𝓛 p ws) (‵ (Owned.row (block_of p) (count_of p) ws))) (whole_out 𝓛 p ws) $ learn ! (λ fits. keep ! (0 ∷ 2 ∷ 3 ∷ 4 ∷ []) $
     move ! (1 ∷ []) $ fsplit ! $ fsplit ! $ move ! (1 ∷ []) $
+    rewrite ! 0 (λ (fs : List Bool). ‵ (owned (OptionOf R₀) pv (length xs) xs fs)) (full_is (length xs) a.1.0.filled a.1.0.even asked.9) refl $
     use1 𝓛 (given (Roomy 𝓛 R₀ pv xs) (‵ (places R₀ (block_of pv) (count_of pv) xs))) (values_out 𝓛 R₀ pv xs) $ learn ! (λ roomy. keep ! (2 ∷ 3 ∷ 0 ∷ 4 ∷ 5 ∷ []) $
     -- [what comes behind; the words; the places; the token; the others]
     fsplit ! $ fsplit ! $ move ! (1 ∷ []) $
+    rewrite ! 0 (λ (fs : List Bool). ‵ (owned RawPtr dp (length ds) ds fs)) (full_is (length ds) a.1.1.0.filled a.1.1.0.even asked.10) refl $
     use1 𝓛 (given (InBlock dp) (‵ (pointers (block_of dp) (count_of dp) ds))) (doorway_out 𝓛 dp ds) $ learn ! (λ shut. keep ! (3 ∷ 4 ∷ 0 ∷ 5 ∷ 6 ∷ []) $
     -- [the words; the places; the doors; the token; the others]
     rewrite ! 2 (λ (qs : List Ptr). ‵ (pointers (block_of dp) (count_of dp) qs)) (nulls_are 32 ds asked.6 asked.5) refl $
