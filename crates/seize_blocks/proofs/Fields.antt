@@ -79,6 +79,32 @@ module _ (X R V F : RattleType) (g : Ghosts R.Denot X.Denot V.Denot F.Denot) whe
     ),
   )
 
+-- what is known of a strip, or a right to its block, which has no bytes
+module _ (X : RattleType) where
+  abbrev pub Mark : RattleType
+  Mark = Struct record { name = []; args = []; types = []; fields = marker.the_row X ∷ [] }
+
+  pub mark_told : (vs : List Val) → Is Mark (record {}, tt) vs → vs ≡ token ∷ []
+  mark_told vs is = is.1.0 ∙ ap (λ (ws : List Val). vstruct (of_list (ws ++ [])) ∷ []) is.1.1.0.1.0
+
+  pub mark_made : {M : Type 1} {𝓤 : Ura M} (𝓛 : Logic 𝓤) → ent 𝓤 (emp 𝓤) (sem 𝓛 (Mark.own_val (record {}, tt) (token ∷ [])))
+  mark_made 𝓛 = makes_shadow 𝓛 (Mark.own_val (record {}, tt) (token ∷ [])) (λ vss. (tt, ((λ uss. (tt, tt)), tt))) (
+    (vstruct vnil ∷ [], tt),
+    (
+      refl,
+      (
+        (
+          tt,
+          (
+            refl,
+            tt,
+          ),
+        ),
+        tt,
+      ),
+    ),
+  )
+
 -- an address alone
 abbrev pub one_of : Ptr → Val
 one_of p = vstruct (vcons (ptr_val p) vnil)
@@ -98,21 +124,25 @@ pub one_good : (p : Ptr) → T (has_ty (ty_struct [] (tcons ty_ptr tnil)) (one_o
 one_good (block_ptr b o) = (tt, (tt, tt))
 one_good null_ptr = (tt, ((Ptr-Good null_ptr).1, tt))
 
-three_typed : (p q r : Ptr) → T (has_ty (ty_struct [] (tcons (ty_struct [] (tcons ty_ptr tnil)) (tcons (ty_struct [] (tcons ty_ptr tnil)) (tcons (ty_struct [] (tcons ty_ptr tnil)) tnil))))
-    (vstruct (vcons (one_of p) (vcons (one_of q) (vcons (one_of r) vnil)))))
-three_typed (block_ptr b o) (block_ptr c u) (block_ptr d v) = tt
-three_typed (block_ptr b o) (block_ptr c u) null_ptr = tt
-three_typed (block_ptr b o) null_ptr (block_ptr d v) = tt
-three_typed (block_ptr b o) null_ptr null_ptr = tt
-three_typed null_ptr (block_ptr c u) (block_ptr d v) = tt
-three_typed null_ptr (block_ptr c u) null_ptr = tt
-three_typed null_ptr null_ptr (block_ptr d v) = tt
-three_typed null_ptr null_ptr null_ptr = tt
+closed_typed : (p q r : Ptr)
+    → T (has_ty (ty_struct [] (tcons (ty_struct [] (tcons ty_ptr tnil)) (tcons (ty_struct [] (tcons ty_ptr tnil)) (tcons (ty_struct [] (tcons ty_ptr tnil))
+    (tcons (ty_struct [] (tcons (ty_struct [] tnil) tnil)) tnil)))))
+    (vstruct (vcons (one_of p) (vcons (one_of q) (vcons (one_of r) (vcons token vnil))))))
+closed_typed (block_ptr b o) (block_ptr c u) (block_ptr d v) = tt
+closed_typed (block_ptr b o) (block_ptr c u) null_ptr = tt
+closed_typed (block_ptr b o) null_ptr (block_ptr d v) = tt
+closed_typed (block_ptr b o) null_ptr null_ptr = tt
+closed_typed null_ptr (block_ptr c u) (block_ptr d v) = tt
+closed_typed null_ptr (block_ptr c u) null_ptr = tt
+closed_typed null_ptr null_ptr (block_ptr d v) = tt
+closed_typed null_ptr null_ptr null_ptr = tt
 
-pub three_good : (p q r : Ptr) → T (has_ty (ty_struct [] (tcons (ty_struct [] (tcons ty_ptr tnil)) (tcons (ty_struct [] (tcons ty_ptr tnil)) (tcons (ty_struct [] (tcons ty_ptr tnil)) tnil))))
-    (vstruct (vcons (one_of p) (vcons (one_of q) (vcons (one_of r) vnil)))))
-    × WT (vstruct (vcons (one_of p) (vcons (one_of q) (vcons (one_of r) vnil))))
-three_good p q r = (three_typed p q r, ((one_good p).1, ((one_good q).1, ((one_good r).1, tt))))
+pub closed_good : (p q r : Ptr)
+    → T (has_ty (ty_struct [] (tcons (ty_struct [] (tcons ty_ptr tnil)) (tcons (ty_struct [] (tcons ty_ptr tnil)) (tcons (ty_struct [] (tcons ty_ptr tnil))
+    (tcons (ty_struct [] (tcons (ty_struct [] tnil) tnil)) tnil)))))
+    (vstruct (vcons (one_of p) (vcons (one_of q) (vcons (one_of r) (vcons token vnil))))))
+    × WT (vstruct (vcons (one_of p) (vcons (one_of q) (vcons (one_of r) (vcons token vnil)))))
+closed_good p q r = (closed_typed p q r, ((one_good p).1, ((one_good q).1, ((one_good r).1, ((tt, tt), tt)))))
 
 opened_typed : (p q r : Ptr)
     → T (has_ty (ty_struct [] (tcons (ty_struct [] (tcons ty_ptr (tcons (ty_struct [] tnil) tnil))) (tcons (ty_struct [] (tcons ty_ptr tnil)) (tcons (ty_struct [] (tcons ty_ptr tnil)) tnil))))

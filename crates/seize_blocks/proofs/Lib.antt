@@ -3,3 +3,5 @@ pub mod Exchanged
 pub mod Placing
 pub mod Values
 pub mod By
+pub mod Holes
+pub mod Plotted

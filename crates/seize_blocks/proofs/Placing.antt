@@ -262,3 +262,8 @@ nones_are zero [] l none = refl
 nones_are zero (x ∷ xs) l none = absurd (omega (arith, l))
 nones_are (suc n) [] l none = absurd (omega (arith, l))
 nones_are (suc n) (x ∷ xs) l none = let first : x ≡ None = none 0 in let rest = nones_are n xs (omega (arith, l)) (λ k. none (suc k)) in cc (first, rest)
+
+pub nones_of : {X : Type 0} (n k : ℕ) → slice_index_or (replicate {A = Option X} n None) k None ≡ None
+nones_of zero k = refl
+nones_of (suc n) zero = refl
+nones_of {X} (suc n) (suc k) = nones_of {X = X} n k

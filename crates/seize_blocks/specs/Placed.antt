@@ -1,10 +1,13 @@
 -- Where the word of a name is looked for, and places that are all full.
-use Rattle.std.specs.Prelude.{◌≡◌, ℕ, ◌+◌, ◌-◌, ◌*◌, ◌<◌, ◌≤◌, ◌^◌, Bool, true, List, replicate, Some, IsSome}
-use denote.RawPtr.{Ptr}
+use Rattle.std.specs.Prelude.{◌≡◌, ℕ, ◌+◌, ◌-◌, ◌*◌, ◌<◌, ◌≤◌, ◌^◌, Bool, true, false, slice_index_or, List, [], ◌∷◌, replicate, Some, IsSome}
+use denote.RattleType.{RattleType}
+use denote.RawPtr.{Ptr, InBlock}
 use Rattle.seize_words.specs.Mem.{word_at}
 use Rattle.seize_words.specs.declared.at.At.{At}
 use Rattle.seize_seats.specs.State.{State, view_of}
 use Rattle.seize_seats.specs.Lines.{IsWord}
+use Rattle.seize_seats.specs.Strips.{Strip}
+use Rattle.seize_seats.specs.Doors.{before}
 use Rattle.seize_seats.specs.Owned.{BaseId, IsIts, IsIn, place_in}
 
 -- the place is that of the name, if there is such a word, and in any case a small number
@@ -28,6 +31,15 @@ HasWord {T} {V} {W} holds id v at = (s : State T V W) → holds s → view_of s 
 abbrev pub IsBehind : ℕ → ℕ → ℕ → ℕ → Type 0
 IsBehind least index door first = (first ≡ least * 2 ^ door) × (first ≤ index) × (index < first * 2) × (door < 32)
 
+-- of so many places none is full
+abbrev pub AreEmpty : List Bool → ℕ → Type 0
+AreEmpty fs n = (k : ℕ) → k < n → slice_index_or fs k false ≡ false
+
 -- of so many places each is full
 abbrev pub all_full : ℕ → List Bool
 all_full n = replicate n true
+
+-- the first of these strips lies there, and has so many numbers
+abbrev pub HasFirst : RattleType → Ptr → ℕ → List Strip → Type 0
+HasFirst R p n [] = ⊥
+HasFirst R p n (s ∷ ss) = (s.words ≡ p) × InBlock p × (s.values ≡ p) × (s.skip ≡ before R n) × (s.size ≡ n)

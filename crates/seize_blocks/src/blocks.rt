@@ -4,18 +4,23 @@ ghost use denote.RawPtr.{InBlock};
 ghost use Rattle.seize_words.specs.Op.{Load, Store, Swap, Add, Or, Exchange, Make, Take, Rewrite, Room, Found, Stored, Exchanged, Made, Taken, Roomed};
 ghost use Rattle.seize_seats.specs.State.{Allows, Owns, Turns, Comes, Meets, Renews};
 ghost use Rattle.seize_seats.specs.Lines.{long, IsNoBlocks};
-ghost use Rattle.seize_seats.specs.Owned.{core_of, IsFirst};
+ghost use Rattle.seize_seats.specs.Owned.{core_of, stride, IsFirst};
 ghost use Rattle.seize_seats.specs.Lendings.{Shown, ShownToBoth, IsValueOf, IsValueOfBoth};
 ghost use Rattle.seize_blocks.specs.Placed.{IsItsPlace, IsItsIndex, IsBehind, HasWord};
+ghost use Rattle.seize_blocks.specs.Parts.{IsPart, IsClaimed};
+ghost use Rattle.seize_seats.specs.Doors.{block_bytes};
 
 use crate::claim::Claim;
+use crate::part::{Part, places_in};
 use crate::place::{Doors, Place};
+use crate::plot::{fits, lay_strip, skip_of, take_back};
 use crate::rule::{Meeting, Rule, Turn};
 use crate::seat::Seat;
 use crate::strip::Strip;
 use crate::words::Words;
 use seize_words::{At, Fault};
-use std::mem::size_of;
+use std::alloc::Global;
+use std::ptr::NonNull;
 use std::sync::atomic::AtomicU64;
 use std::sync::atomic::Ordering::SeqCst;
 
@@ -25,6 +30,7 @@ pub(crate) const MOST: u64 = 4294967296;
 /// A memory that threads share under a rule. It has words of roots and of the slots of the first bucket, and numbers for so many blocks, which have no
 /// words of their own yet.
 pub struct Blocks<T, R: Rule<T>> {
+    pub(crate) alloc: Global,
     pub words: Words<T, R>,
     pub(crate) roots: u64,
     pub(crate) count: u64,
@@ -118,10 +124,10 @@ impl<T, R: Rule<T>> Blocks<T, R> {
         }
         let (door, first) = self.door_of(block - 1);
         let strip = self.words.find(guard, owner, block, self.doors.at, door);
-        let values = strip.words as *mut Option<T>;
-        let skip = (first as usize * size_of::<Option<T>>() + 7) / 8;
+        let values = places_in(&strip);
+        let skip = skip_of::<T>(first as usize) as u64;
         let index = block - 1 - first;
-        (strip, values, index, index * 5 + skip as u64)
+        (strip, values, index, index * 5 + skip)
     }
 
     /// A seat more.
@@ -245,41 +251,168 @@ impl<T, R: Rule<T>> Blocks<T, R> {
         self.words.by(&strip).exchange(seat, &at, place, old, new)
     }
 
-    /// A number that was free and is claimed now, for a block without words of its own. One after the other is tried, from that on which
-    /// follows the last one that was claimed.
-    fn number(&self, words: u64) -> Option<(u64, Claim)>
-        ensures { IfSome result (λ c. (words ≡ 0) × (c.0 < self.now.words.id.size) × (c.1.found ≡ 0)
-            × (c.1.base ≡ self.now.words.id.hands_name) × (c.1.index ≡ c.0)) }
+    /// The first strip.
+    fn first_part(&self) -> Part<T>
+        ensures { IsPart self.now.words.id result 0 }
     {
-        if words != 0 || self.count == 0 {
+        Part {
+            strip: self.words.strip(),
+            values: self.values.at,
+            first: 0,
+            count: self.count,
+            skip: (self.roots + self.roots + 32) * 16,
+        }
+    }
+
+    /// The strip behind a door, if there is one.
+    fn part_behind(&self, door: u64, first: u64) -> Option<Part<T>>
+        requires { (door < 32) × (first ≡ self.now.words.id.least * 2 ^ door) × (first + first ≤ 2 ^ 32) }
+        ensures { IfSome result (λ p. IsPart self.now.words.id p (door + 1)) }
+    {
+        let strip = self.words.look(self.doors.at, door);
+        match NonNull::new(strip.words) {
+            Some(_) => {
+                let values = places_in(&strip);
+                Some(Part {
+                    strip,
+                    values,
+                    first,
+                    count: first,
+                    skip: skip_of::<T>(first as usize) as u64,
+                })
+            }
+            None => None,
+        }
+    }
+
+    /// The strip that follows a strip. Where it is not there it is laid, if there is memory.
+    fn next_part(&self, last: &Part<T>, door: u64) -> Option<Part<T>>
+        requires { IsPart self.now.words.id last.now door }
+        ensures { IfSome result (λ p. IsPart self.now.words.id p (door + 1)) }
+    {
+        let first = last.first + last.count;
+        if door >= 32 || first > MOST / 2 {
             return None;
         }
-        let mut from = self.next.load(SeqCst);
-        for _ in 0..self.count {
-            let index = if from < self.count { from } else { 0 };
-            let (found, claim) = self.words.claim(index, self.first_of(index) + 4);
+        match self.part_behind(door, first) {
+            Some(part) => Some(part),
+            None => {
+                if fits::<T>(first as usize) {
+                    self.lay(last, door, first);
+                    self.part_behind(door, first)
+                } else {
+                    None
+                }
+            }
+        }
+    }
+
+    /// Lays a strip behind a door, if there is memory and the door is null.
+    fn lay(&self, last: &Part<T>, door: u64, first: u64)
+        requires { IsPart self.now.words.id last.now door × (first ≡ last.now.first + last.now.count) × (door < 32) × (first + first ≤ 2 ^ 32)
+            × (block_bytes T.row first < 2 ^ 63) × (first * stride T.row < 2 ^ 63) }
+    {
+        if let Ok((places, words, deed)) = lay_strip::<T>(&self.alloc, first as usize) {
+            let at = places.at;
+            let (found, left) = self
+                .words
+                .offer(&last.strip, self.doors.at, door, places, words, deed);
+            if let Err(_) = found {
+                take_back(&self.alloc, left, at, first as usize);
+            }
+        }
+    }
+
+    /// Claims a number of a strip, if one is free: its index in it. One after the other is tried, from this one on.
+    fn claim_in(&self, part: &Part<T>, from: u64) -> Option<(u64, Claim)>
+        requires { core_of part.now.strip.id ≡ core_of self.now.words.id }
+        ensures { IfSome result (λ c. (c.0 < part.now.count) × (c.1.found ≡ 0) × (c.1.base ≡ self.now.words.id.hands_name)
+            × (c.1.index ≡ part.now.first + c.0)) }
+    {
+        let mut next = from;
+        for _ in 0..part.count {
+            let index = if next < part.count { next } else { 0 };
+            let (found, claim) = self
+                .words
+                .by(&part.strip)
+                .claim(part.first + index, index * 5 + part.skip + 4);
             if found == 0 {
-                self.next.store(index + 1, SeqCst);
+                self.next.store(part.first + index + 1, SeqCst);
                 return Some((index, claim));
             }
-            from = index + 1;
+            next = index + 1;
         }
         None
     }
 
+    /// A number of the strip in which the last one was claimed, if one is free from that one on or before it.
+    fn near(&self) -> Option<(Part<T>, u64, Claim)>
+        ensures { IfSome result (λ c. IsClaimed self.now.words.id c) }
+    {
+        let from = self.next.load(SeqCst);
+        if from >= MOST {
+            return None;
+        }
+        let (part, index) = if from < self.count {
+            (self.first_part(), from)
+        } else {
+            let (door, first) = self.door_of(from);
+            if first > MOST / 2 {
+                return None;
+            }
+            match self.part_behind(door, first) {
+                Some(part) => (part, from - first),
+                None => return None,
+            }
+        };
+        match self.claim_in(&part, index) {
+            Some((index, claim)) => Some((part, index, claim)),
+            None => None,
+        }
+    }
+
+    /// A number of any strip. Where none is free a strip more is laid.
+    fn anywhere(&self) -> Option<(Part<T>, u64, Claim)>
+        ensures { IfSome result (λ c. IsClaimed self.now.words.id c) }
+    {
+        let mut part = self.first_part();
+        for door in 0..33 {
+            if let Some((index, claim)) = self.claim_in(&part, 0) {
+                return Some((part, index, claim));
+            }
+            match self.next_part(&part, door) {
+                Some(next) => part = next,
+                None => return None,
+            }
+        }
+        None
+    }
+
+    /// A number that was free and is claimed now, with its strip and its index in it.
+    fn number(&self) -> Option<(Part<T>, u64, Claim)>
+        ensures { IfSome result (λ c. IsClaimed self.now.words.id c) }
+    {
+        match self.near() {
+            Some(claimed) => Some(claimed),
+            None => self.anywhere(),
+        }
+    }
+
     /// Makes a block of a value and as many words, each 0, and answers its number. There are no blocks with words of their own yet. Where such
-    /// a block is asked for, or no number is free, the value comes back.
+    /// a block is asked for, or no number is free and there is no memory for more, the value comes back.
     pub fn make(&self, seat: &mut Seat<T, R>, value: T, words: u64) -> Result<u64, T>
         requires own { seat.old.base ≡ self.now.words.id.views_name }
         requires may { Allows (R.holds self.now.words.fixed) R.keeps seat.old.id seat.old.view (Make value words) (R.then seat.old.view (Make value words)) }
         ensures same { (seat.new.base ≡ seat.old.base) × (seat.new.id ≡ seat.old.id) }
         ensures goes { R.then seat.old.view (Make value words) (Made result) seat.new.view }
     {
-        match self.number(words) {
-            Some((index, claim)) => {
+        let claimed = if words == 0 { self.number() } else { None };
+        match claimed {
+            Some((part, index, claim)) => {
                 self.words
-                    .put(seat, claim, index, self.values.at, value, words);
-                Ok(index + 1)
+                    .by(&part.strip)
+                    .put(seat, claim, index, part.values, value, words);
+                Ok(part.first + index + 1)
             }
             None => {
                 self.words.refuse(seat, &value, words);

@@ -5,15 +5,18 @@ ghost use Rattle.core.specs.Mem.Slots.{slots_items, slots_filled, slots_ptr, slo
 ghost use Rattle.core.specs.Mem.Slots.Ownership.{Filled};
 ghost use Rattle.seize_seats.specs.State.{Starts};
 ghost use Rattle.seize_seats.specs.Lines.{whole};
+ghost use Rattle.seize_seats.specs.Doors.{IsFurther, AreBehind};
+ghost use Rattle.seize_blocks.specs.Placed.{AreEmpty};
 
 use crate::blocks::{Blocks, MOST};
 use crate::place::{Doors, Place};
+use crate::plot::{Alone, give_up};
 use crate::row::Row;
 use crate::rule::Rule;
 use crate::words::Words;
 use core::slots::{Lease, Slots, release, reserve};
 use std::alloc::{AllocError, Global};
-use std::ptr::null_mut;
+use std::ptr::{NonNull, null_mut};
 use std::sync::atomic::AtomicU64;
 
 /// A memory with the right to give its words and places back. It stays with the thread that made it, and lends the memory to others.
@@ -35,7 +38,7 @@ pub struct Ground<E> {
 }
 
 /// Each place holds 0.
-fn fill(slots: &mut Slots<u64>, count: usize)
+pub(crate) fn fill(slots: &mut Slots<u64>, count: usize)
     requires { slots_len slots.old ≡ count }
     ensures full { IsFull slots.new }
     ensures zeros { (k : ℕ) → slice_index (slots_items slots.new) k ≡ 0 }
@@ -47,7 +50,7 @@ fn fill(slots: &mut Slots<u64>, count: usize)
 }
 
 /// Each place holds none.
-fn empty<T>(slots: &mut Slots<Option<T>>, count: usize)
+pub(crate) fn empty<T>(slots: &mut Slots<Option<T>>, count: usize)
     requires { slots_len slots.old ≡ count }
     ensures full { IsFull slots.new }
     ensures nones { (k : ℕ) → slice_index_or (slots_items slots.new) k None ≡ None }
@@ -71,9 +74,10 @@ fn shut(slots: &mut Slots<*mut u64>, count: usize)
 }
 
 /// What each place holds is dropped.
-fn drain<T: Drop>(slots: &mut Slots<Option<T>>, count: usize)
+pub(crate) fn drain<T: Drop>(slots: &mut Slots<Option<T>>, count: usize)
     requires { (slots_len slots.old ≡ count) × IsFull slots.old }
-    ensures { (slots_ptr slots.new ≡ slots_ptr slots.old) × (slots_len slots.new ≡ slots_len slots.old) }
+    ensures same { (slots_ptr slots.new ≡ slots_ptr slots.old) × (slots_len slots.new ≡ slots_len slots.old) }
+    ensures empty { AreEmpty (slots_filled slots.new) (slots_len slots.new) }
 {
     for index in 0..count {
         drop(slots.take(index));
@@ -149,6 +153,24 @@ fn give_back<E>(ground: Ground<E>, slots: Slots<E>)
     release(&alloc, slots, lease);
 }
 
+/// Gives back all further strips: the doors from the first on have the addresses of as many, each of as many numbers as come before it.
+fn clear<T: Drop>(alloc: &Global, strips: Alone<T>, doors: &mut Slots<*mut u64>, least: u64)
+    requires { IsFull doors.old × (slots_len doors.old ≡ 32) × AreBehind (IsFurther T.row least) 0 strips.strips (slots_items doors.old) }
+    ensures { (slots_ptr doors.new ≡ slots_ptr doors.old) × (slots_len doors.new ≡ slots_len doors.old) }
+{
+    let mut left = strips;
+    let mut count = least;
+    for door in 0..32 {
+        match NonNull::new(doors.take(door)) {
+            Some(at) => {
+                left = give_up(alloc, left, at.cast::<Option<T>>().as_ptr(), count as usize);
+                count = count * 2;
+            }
+            None => return,
+        }
+    }
+}
+
 impl<T: Drop, R: Rule<T>> Home<T, R> {
     /// A memory of so many roots, with no seat yet, and numbers for so many blocks, at least one. The slots have no words yet.
     pub fn open(alloc: Global, roots: u64, count: u64, fixed: &R::Fixed) -> Result<Self, AllocError>
@@ -173,6 +195,7 @@ impl<T: Drop, R: Rule<T>> Home<T, R> {
                 );
                 let next = AtomicU64::new(0);
                 let blocks = Blocks {
+                    alloc,
                     words,
                     roots,
                     count,
@@ -207,6 +230,7 @@ impl<T: Drop, R: Rule<T>> Drop for Home<T, R> {
             doorway,
         } = self;
         let Blocks {
+            alloc,
             words,
             roots,
             count,
@@ -216,8 +240,10 @@ impl<T: Drop, R: Rule<T>> Drop for Home<T, R> {
         } = blocks;
         let Place { at } = values;
         let Doors { at: nulls } = doors;
-        let (row, kept, shut) = words.close(at, nulls);
-        give_back(doorway, shut.into_slots(32));
+        let (row, kept, shut, strips) = words.close(at, nulls);
+        let mut open = shut.into_slots(32);
+        clear(&alloc, strips, &mut open, count);
+        give_back(doorway, open);
         give_back(
             ground,
             row.into_slots(((roots + roots + 32) * 16 + count * 5) as usize),

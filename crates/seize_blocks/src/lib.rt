@@ -4,7 +4,9 @@
 mod blocks;
 mod claim;
 mod home;
+mod part;
 mod place;
+mod plot;
 mod row;
 mod rule;
 mod seat;

@@ -2,6 +2,7 @@
 ghost use Rattle.std.specs.Prelude.{◌≡◌, Bool, List, length};
 ghost use Rattle.core.specs.Mem.Slots.{slots_items, slots_filled, slots_ptr, slots_len, IsFull};
 ghost use Rattle.core.specs.Mem.Slots.Ownership.{owned, Filled};
+ghost use Rattle.seize_blocks.specs.Placed.{AreEmpty};
 
 use core::slots::Slots;
 use std::marker::Model;
@@ -22,7 +23,8 @@ impl<T> Row<T> {
     /// The places of these slots.
     pub(crate) fn of(slots: Slots<T>) -> Row<T>
         ensures { (result.at ≡ slots_ptr slots) × (result.items ≡ slots_items slots) × (length result.items ≡ slots_len slots)
-            × (IsFull slots → Filled result.filled 0 (length result.items)) }
+            × (IsFull slots → Filled result.filled 0 (length result.items))
+            × (AreEmpty (slots_filled slots) (slots_len slots) → AreEmpty result.filled (length result.items)) }
     {
         let parts = unsafe { slots.into_raw_parts() };
         Row { at: parts.0 }

@@ -1,24 +1,27 @@
 //! The words, and what one step of a seat does to them: one atomic operation on a word, or none.
-ghost use Rattle.std.specs.Prelude.{◌≡◌, ℕ, ◌+◌, ◌-◌, ◌*◌, ◌^◌, ◌<◌, ◌≤◌, Some, None, Ok, Err, length, slice_index, slice_index_or};
-ghost use denote.RawPtr.{InBlock, null_ptr};
+ghost use Rattle.std.specs.Prelude.{◌≡◌, ℕ, ◌+◌, ◌-◌, ◌*◌, ◌^◌, ◌<◌, ◌≤◌, Some, None, true, Ok, Err, IfErr, length, slice_index, slice_index_or};
+ghost use denote.RawPtr.{InBlock, Testable, null_ptr};
 ghost use Rattle.core.specs.Mem.Slots.Ownership.{Filled};
 ghost use Rattle.seize_words.specs.Op.{Load, Store, Swap, Add, Or, Exchange, Make, Take, Rewrite, Room, Found, Stored, Exchanged, Made, Taken, Roomed};
 ghost use Rattle.seize_seats.specs.State.{Allows, Owns, Turns, Comes, Meets, Renews, Starts};
 ghost use Rattle.seize_seats.specs.Lines.{whole};
-ghost use Rattle.seize_seats.specs.Doors.{before};
+ghost use Rattle.seize_seats.specs.Doors.{before, block_bytes, words_from, IsFurther, AreBehind};
 ghost use Rattle.seize_seats.specs.Steps.{roomed};
 ghost use Rattle.seize_seats.specs.Lendings.{ShownToBoth, IsValueOfBoth};
 ghost use Rattle.seize_seats.specs.Owned.{BaseId, base_id_coded, core_of, stride, IsFirst, IsLike, words_own, words_share};
-ghost use Rattle.seize_blocks.specs.Placed.{IsItsPlace, IsItsSign, IsItsIndex};
+ghost use Rattle.seize_blocks.specs.Placed.{IsItsPlace, IsItsSign, IsItsIndex, HasFirst};
 
 use crate::claim::Claim;
 use crate::place::{Doors, Place};
+use crate::plot::{Alone, Deed};
 use crate::row::Row;
 use crate::rule::{Meeting, Rule, Turn};
 use crate::seat::Seat;
 use crate::strip::Strip;
 use seize_words::At;
+use std::alloc::Global;
 use std::marker::{Brand, Model, PhantomData};
+use std::ptr::null_mut;
 use std::sync::atomic::Ordering::SeqCst;
 use std::sync::atomic::raw;
 
@@ -69,18 +72,27 @@ impl<T, R: Rule<T>> Words<T, R> {
         )
     }
 
-    /// The words, the values and the doors come back from under the rule.
+    /// The words, the values and the doors come back from under the rule, and all further strips.
     pub(crate) fn close(
         self,
         values: *mut Option<T>,
         doors: *mut *mut u64,
-    ) -> (Row<u64>, Row<Option<T>>, Row<*mut u64>)
+    ) -> (Row<u64>, Row<Option<T>>, Row<*mut u64>, Alone<T>)
         requires { (values ≡ self.id.values) × (doors ≡ self.id.doors) × IsFirst self.words self.id }
         ensures { (result.0.at ≡ self.words) × (length result.0.items ≡ whole self.id.roots self.id.size) × (result.1.at ≡ values)
-            × (length result.1.items ≡ self.id.size) × (result.2.at ≡ doors) × (length result.2.items ≡ 32) }
+            × (length result.1.items ≡ self.id.size) × (result.2.at ≡ doors) × (length result.2.items ≡ 32)
+            × Filled result.0.filled 0 (length result.0.items) × Filled result.1.filled 0 (length result.1.items)
+            × Filled result.2.filled 0 (length result.2.items) × AreBehind (IsFurther T.row self.id.least) 0 result.3.strips result.2.items }
     {
         let Words { words, marker: _ } = self;
-        (Row { at: words }, Row { at: values }, Row { at: doors })
+        (
+            Row { at: words },
+            Row { at: values },
+            Row { at: doors },
+            Alone {
+                marker: PhantomData,
+            },
+        )
     }
 
     /// A seat more.
@@ -129,13 +141,55 @@ impl<T, R: Rule<T>> Words<T, R> {
         requires { (doors ≡ self.now.id.doors) × (index < 32) }
         ensures { (core_of result.id ≡ core_of self.now.id) × (result.id.skip ≡ before T.row result.id.size)
             × (result.id.values ≡ result.words)
-            × (result.id.first ≡ self.now.id.least * 2 ^ index) × (result.id.size ≡ result.id.first) }
+            × (result.id.first ≡ self.now.id.least * 2 ^ index) × (result.id.size ≡ result.id.first)
+            × (result.id.place ≡ index + 1) × Testable result.words
+            × (InBlock result.words → ((result.id.skip + result.id.size * 5) * 8 < 2 ^ 63) × (result.id.size * stride T.row < 2 ^ 63)) }
     {
         let words = unsafe { raw::ptr::load::<u64, Brand>(doors.add(index as usize), SeqCst) };
         Strip {
             words,
             marker: PhantomData,
         }
+    }
+
+    /// Puts a further strip behind a door that is null. Whoever finds it set has the strip back.
+    pub(crate) fn offer(
+        &self,
+        last: &Strip<T>,
+        doors: *mut *mut u64,
+        index: u64,
+        places: Row<Option<T>>,
+        words: Row<u64>,
+        deed: Deed<T, Global>,
+    ) -> (Result<*mut u64, *mut u64>, Alone<T>)
+        requires { (core_of last.now.id ≡ core_of self.now.id) × InBlock last.now.words × (last.now.id.place ≡ index)
+            × (last.now.id.first + last.now.id.size ≡ deed.count) × (deed.count ≡ self.now.id.least * 2 ^ index)
+            × (deed.count + deed.count ≤ self.now.id.count) × (doors ≡ self.now.id.doors) × (index < 32)
+            × (deed.at ≡ places.at) × InBlock places.at × (words.at ≡ words_from T.row deed.count places.at)
+            × (length places.items ≡ deed.count) × (length words.items ≡ deed.count * 5)
+            × Filled places.filled 0 (length places.items) × Filled words.filled 0 (length words.items)
+            × ((k : ℕ) → slice_index_or places.items k None ≡ None) × ((k : ℕ) → slice_index words.items k ≡ 0)
+            × (block_bytes T.row deed.count < 2 ^ 63) }
+        ensures { IfErr result.0 (λ _. HasFirst T.row places.at deed.count result.1.strips × (result.1.fresh ≡ true)) }
+    {
+        let Deed { marker: _ } = deed;
+        let Row { at } = places;
+        let Row { at: _ } = words;
+        let found = unsafe {
+            raw::ptr::compare_exchange::<u64, Brand>(
+                doors.add(index as usize),
+                null_mut(),
+                at as *mut u64,
+                SeqCst,
+                SeqCst,
+            )
+        };
+        (
+            found,
+            Alone {
+                marker: PhantomData,
+            },
+        )
     }
 
     /// The strip behind a door, that of a block which the views of two seats show together. These are the words of the first strip.

@@ -1,14 +1,14 @@
 -- Whoever looks at a door finds null, or the words of a further strip, and can tell from then on that it is one of the list. Assumes `Logic`.
 use Rattle.std.specs.Prelude.{slice_get}
-use Rattle.std.proofs.Common.{◌≡◌, ◌⊎◌, inl, inr, ℕ, zero, suc, ◌+◌, ◌*◌, ◌^◌, ◌<◌, ◌≤◌, List, [], ◌∷◌, length, sym, refl, ap, ◌∙◌, subst, arith, Some}
+use Rattle.std.proofs.Common.{◌≡◌, ◌⊎◌, inl, inr, ℕ, zero, suc, ◌+◌, ◌*◌, ◌^◌, ◌<◌, ◌≤◌, List, [], ◌∷◌, length, sym, refl, ap, ◌∙◌, subst, arith, lit<, Some}
 use seplogic.Ra.Ura.{Ura}
 use base.Stored.{Coded}
-use base.Logic.{SProp, ent, sep, wand, ex, emp, apply∗, upd_i}
+use base.Logic.{SProp, ent, sep, wand, ex, guard, emp, apply∗, upd_i}
 use base.Fml.{Lft, Share, Fml, ftrue, fsep, fex, flft, fbor, finv}
 use types.Logic.{Logic, sem}
-use types.Kit.{‵, raw, ◌⊛◌, some as items, ◌$◌, ◌∵◌, !, qed, by, move, drop, split, fsplit, fsplit3, fjoin, fjoin3, fpick, fpack, pick, show, frame, assume, suffices, use1, use2, rewrite, done}
+use types.Kit.{‵, raw, ◌⊛◌, some as items, given, check, learn, ◌$◌, ◌∵◌, !, qed, by, move, drop, split, fsplit, fsplit3, fjoin, fjoin3, fpick, fpack, pick, show, frame, assume, suffices, use1, use2, rewrite, done}
 use denote.RattleType.{RattleType}
-use denote.RawPtr.{Ptr, InBlock, block_ptr, null_ptr, block_of, count_of, at_block}
+use denote.RawPtr.{Ptr, InBlock, Testable, block_ptr, null_ptr, block_of, count_of, at_block}
 use denote.Steps.{nothing}
 use Rattle.core.specs.Sync.RawAtomic.Pointer.{cell, asks_ptr}
 use Rattle.core.proofs.raw_atomic.Asked.{borrowed_ptr, PtrLies}
@@ -16,7 +16,7 @@ use Rattle.seize_seats.specs.State.{State}
 use Rattle.seize_seats.specs.Seen.{fact, seen}
 use Rattle.seize_seats.specs.Cells.{Cell}
 use Rattle.seize_seats.specs.Strips.{Strip, strip_coded, further}
-use Rattle.seize_seats.specs.Doors.{before, IsFurther, right_to, stays, behind, door}
+use Rattle.seize_seats.specs.Doors.{before, block_bytes, IsFurther, right_to, stays, behind, door}
 use Rattle.seize_seats.specs.Stretches.{IsEven}
 use Rattle.seize_seats.specs.Owned.{doors_of, listed, BaseId, Inside, age, core_of, book_of, strip_of, strip_told, IsPlaced, stride, lent_here, had_here, standing_in, everything, told}
 use Rattle.seize_seats.proofs.Stretches as Stretches
@@ -125,22 +125,23 @@ module _ {M : Type 1} {𝓤 : Ura M} (𝓛 : Logic 𝓤) (R : RattleType) {V W :
         sized : s.size ≡ many
         sized = so.1.5 ∙ so.1.4
 
-    pub tells_strip : InBlock z.doors → (w : Ptr) → ⟦ glimpse w ⟧ ⊢ ⟦ strip_told R w (at_door w) ⟧
-    tells_strip door null_ptr = qed 𝓛 (‵ ftrue ∷ []) ∵ done !
-    tells_strip door (block_ptr c u) = let w : Ptr = block_ptr c u in let y : BaseId = at_door w in let Sh : Strip → Share → Fml = λ s r. seen strip_coded.code z.strips_name r (suc j) s in
+    -- and what is known of it, where there is an address
+    abbrev pub Fits : Ptr → Type 0
+    Fits w = Testable w × (InBlock w → ((before R many + many * 5) * 8 < 2 ^ 63) × (many * stride R < 2 ^ 63))
+
+    pub tells_more : InBlock z.doors → (w : Ptr) → ⟦ glimpse w ⟧ ⊢ guard 𝓤 (Fits w) ⟦ strip_told R w (at_door w) ⟧
+    tells_more door null_ptr = qed 𝓛 (‵ ftrue ∷ []) ∵ check ! (lit< tt, λ e. absurd e) $ done !
+    tells_more door (block_ptr c u) = let w : Ptr = block_ptr c u in let y : BaseId = at_door w in let Sh : Strip → Share → Fml = λ s r. seen strip_coded.code z.strips_name r (suc j) s in
         qed 𝓛 (‵ (glimpse w) ∷ []) ∵ fpick ! (λ s. fsplit ! $ fpick ! (λ so. drop ! $ fpick ! (λ r.
         let same : s ≡ strip_of w y = is_strip w s so in
-        let fits = Plots.fits R s.size so.1.6 in
-        let words : (s.skip + s.size * 5) * 8 < 2 ^ 63 = subst (λ (k : ℕ). (k + s.size * 5) * 8 < 2 ^ 63) (sym so.1.2) fits.0 in
-        let placed : IsPlaced R w y = (
-          tt,
-          subst (λ (r : Strip). (r.skip + r.size * 5) * 8 < 2 ^ 63) same words,
-          tt,
-          subst (λ (r : Strip). r.size * stride R < 2 ^ 63) same fits.1,
-          door,
-        ) in
+        let all : ((before R many + many * 5) * 8 < 2 ^ 63) × (many * stride R < 2 ^ 63) = Plots.fits R many (subst (λ (k : ℕ). block_bytes R k < 2 ^ 63) (so.1.5 ∙ so.1.4) so.1.6) in
+        let placed : IsPlaced R w y = (tt, all.0, tt, all.1, door) in
+        check ! (subst Testable so.0 so.1.1, λ _. all) $
         rewrite ! 0 (λ (s' : Strip). ‵ (Sh s' r)) same refl $ fpack ! Share (Sh (strip_of w y)) r $
         nothing ! $ fpack ! (IsPlaced R w y) (λ _. ftrue) placed $ fjoin ! $ done !)))
+
+    pub tells_strip : InBlock z.doors → (w : Ptr) → ⟦ glimpse w ⟧ ⊢ ⟦ strip_told R w (at_door w) ⟧
+    tells_strip door w = qed 𝓛 (‵ (glimpse w) ∷ []) ∵ use1 𝓛 (given (Fits w) (‵ (strip_told R w (at_door w)))) (tells_more door w) $ learn ! (λ _. done !)
 
     abbrev F : Ptr → Pr
     F = PtrLies 𝓛 α q E b e Ptr (λ r. r) (λ r. r) (λ _. ftrue) glimpse

@@ -1,6 +1,6 @@
 -- Words that are 0 and places without a value go under a rule that holds of them, and come back at the end. Assumes `Logic`.
 use Rattle.std.specs.Prelude.{slice_index, slice_get, replicate}
-use Rattle.std.proofs.Common.{◌≡◌, ℕ, zero, suc, ◌+◌, ◌*◌, ◌≤◌, List, [], ◌∷◌, ◌++◌, length, take, drop, refl, sym, ap, ◌∙◌, subst, inl, arith, Option, None, Some, length-append}
+use Rattle.std.proofs.Common.{◌≡◌, ℕ, zero, suc, ◌+◌, ◌*◌, ◌≤◌, false, List, [], ◌∷◌, ◌++◌, length, take, drop, refl, sym, ap, ◌∙◌, subst, inl, arith, Option, None, Some, length-append}
 use Rattle.std.proofs.lemmas.List.{length-replicate, length-take-le, length-drop, take_all}
 use seplogic.Ra.Ura.{Ura}
 use base.Fraction.{full_share}
@@ -24,7 +24,7 @@ use Rattle.seize_seats.specs.Lines.{Parts, column, long, whole, memory_of, AreLa
 use Rattle.seize_seats.specs.Strips.{Strip, strip_coded, no_strip, further, AreStrips}
 use Rattle.seize_seats.specs.Doors.{pointers, IsFurther, right_to, AreBehind}
 use Rattle.seize_seats.specs.Seen.{seen, fact}
-use Rattle.seize_seats.specs.Owned.{row, unborn, ledger, shared_view, hand_coded, resting, zeros, stride, place, places, stripped, all_alone, hand, kept, under, numbers, strips, doors_of, listed, BaseId, age, core_of, book_of, strip_of, IsFirst, Inside, state_of, IsPlaced, standing_in, inner, everything, lent_here, had_here, words_own}
+use Rattle.seize_seats.specs.Owned.{row, unborn, ledger, shared_view, hand_coded, resting, zeros, stride, place, places, AreOf, stripped, all_alone, hand, kept, under, numbers, strips, doors_of, listed, BaseId, age, core_of, book_of, strip_of, IsFirst, Inside, state_of, IsPlaced, standing_in, inner, everything, lent_here, had_here, words_own}
 use Rattle.seize_seats.specs.Stretches.{IsEven, invariant}
 use Rattle.seize_seats.proofs.Ledgers as Ledgers
 use Rattle.seize_seats.proofs.Stretches as Stretches
@@ -215,7 +215,7 @@ module _ {M : Type 1} {𝓤 : Ura M} (𝓛 : Logic 𝓤) (R : RattleType) (α : 
   -- strip by strip
   abbrev pub all_stripped : List Strip → Fml
   all_stripped [] = ftrue
-  all_stripped (s ∷ ss) = fsep (stripped R s) (all_stripped ss)
+  all_stripped (s ∷ ss) = fsep (stripped R false s) (all_stripped ss)
 
   tears_all : (ss : List Strip) (cs : List (Cell R.Denot)) (j n : ℕ) → AreStrips j ss n → n ≡ j + length cs → AreFour cs
       → ent 𝓤 (sep 𝓤 (sem 𝓛 (strips R α δ owned had ss cs)) (sem 𝓛 (fdead α))) (sem 𝓛 (all_stripped ss))
@@ -224,7 +224,7 @@ module _ {M : Type 1} {𝓤 : Ura M} (𝓛 : Logic 𝓤) (R : RattleType) (α : 
       let b : ℕ = block_of s.words in let o : ℕ = s.skip * 8 + count_of s.words in let b' : ℕ = block_of s.values in let o' : ℕ = count_of s.values in
       let us : List (Cell R.Denot) = take s.size cs in let up = strips_up ss (j + s.size) n are.1 in let le : s.size ≤ length cs = omega (arith, up, long) in
       let size : length us ≡ s.size = length-take-le s.size cs le in let rest = length-drop s.size cs in
-      let Parts : List ℕ × List (Option R.Denot) → Fml = λ u. fsep (fact ((length u.0 ≡ s.size * 5) × (length u.1 ≡ s.size))) (fsep (row b o u.0) (places R b' o' u.1)) in
+      let Parts : List ℕ × List (Option R.Denot) → Fml = λ u. fsep (fact (AreOf R false s u)) (fsep (row b o u.0) (places R b' o' u.1)) in
       qed 𝓛 ((‵ (numbers R α δ owned had b o b' o' s.first us) ⊛ ‵ (strips R α δ owned had ss (drop s.size cs))) ∷ ‵ (fdead α) ∷ []) ∵ split ! $ move ! (2 ∷ []) $
       use1 𝓛 (‵ (fdead α) ⊛ ‵ (fdead α)) (𝓛.lfts.dead_dup α) $ split ! $ move ! (3 ∷ 0 ∷ []) $
       use2 𝓛 (‵ (all_stripped ss))
@@ -232,18 +232,18 @@ module _ {M : Type 1} {𝓤 : Ura M} (𝓛 : Logic 𝓤) (R : RattleType) (α : 
       move ! (2 ∷ 1 ∷ []) $ use2 𝓛 (items (torn_item b b' (length us) o o'))
       (tears b b' us o o' s.first (λ k x e. fours k x (taken_cell s.size k cs x e))) $ pick ! (λ u. learn ! (λ l. split ! $ fjoin ! $
       let is : (length u.0 ≡ s.size * 5) × (length u.1 ≡ s.size) = subst (λ (m : ℕ). (length u.0 ≡ m * 5) × (length u.1 ≡ m)) size l in
-      nothing ! $ fpack ! ((length u.0 ≡ s.size * 5) × (length u.1 ≡ s.size)) (λ _. ftrue) is $ fjoin ! $ fpack ! (List ℕ × List (Option R.Denot)) Parts u $
+      nothing ! $ fpack ! (AreOf R false s u) (λ _. ftrue) (is.0, is.1, λ e. absurd (cc e)) $ fjoin ! $ fpack ! (List ℕ × List (Option R.Denot)) Parts u $
       fjoin ! $ done !))
 
   -- with the rights to their blocks
   all_joined : (σ : ℕ) (Is : ℕ → Strip → Type 0) (b n : ℕ) (ss : List Strip)
-      → ent 𝓤 (sep 𝓤 (sem 𝓛 (all_stripped ss)) (sem 𝓛 (Doors.rights 𝓛 σ Is (right_to R) b (take n ss)))) (sem 𝓛 (all_alone R (take n ss)))
+      → ent 𝓤 (sep 𝓤 (sem 𝓛 (all_stripped ss)) (sem 𝓛 (Doors.rights 𝓛 σ Is (right_to R) b (take n ss)))) (sem 𝓛 (all_alone R false (take n ss)))
   all_joined σ Is b zero ss = qed 𝓛 (‵ (all_stripped ss) ∷ ‵ ftrue ∷ []) ∵ leave ! $ done !
   all_joined σ Is b (suc n) [] = qed 𝓛 (‵ ftrue ∷ ‵ ftrue ∷ []) ∵ leave ! $ done !
   all_joined σ Is b (suc n) (s ∷ ss) = let Rs : List Strip → Fml = Doors.rights 𝓛 σ Is (right_to R) b in
-      qed 𝓛 ((‵ (stripped R s) ⊛ ‵ (all_stripped ss)) ∷ (‵ (right_to R s) ⊛ ‵ (Rs (take n ss))) ∷ []) ∵ split ! $ move ! (2 ∷ []) $ split ! $
+      qed 𝓛 ((‵ (stripped R false s) ⊛ ‵ (all_stripped ss)) ∷ (‵ (right_to R s) ⊛ ‵ (Rs (take n ss))) ∷ []) ∵ split ! $ move ! (2 ∷ []) $ split ! $
       -- [the right; the other rights; the strip; the others]
-      move ! (2 ∷ 0 ∷ []) $ fjoin ! $ move ! (2 ∷ 1 ∷ []) $ use2 𝓛 (‵ (all_alone R (take n ss))) (all_joined σ Is b n ss) $ move ! (1 ∷ 0 ∷ []) $ fjoin ! $ done !
+      move ! (2 ∷ 0 ∷ []) $ fjoin ! $ move ! (2 ∷ 1 ∷ []) $ use2 𝓛 (‵ (all_alone R false (take n ss))) (all_joined σ Is b n ss) $ move ! (1 ∷ 0 ∷ []) $ fjoin ! $ done !
 
 zeros_of : (n k : ℕ) → slice_index (replicate n 0) k ≡ 0
 zeros_of zero k = refl
@@ -374,7 +374,7 @@ module _ {M : Type 1} {𝓤 : Ura M} (𝓛 : Logic 𝓤) (R : RattleType) {V W :
     Closed u =
         guard 𝓤 (AreClosed u)
         (sep 𝓤 ⟦ row (block_of p) (count_of p) u.0 ⟧ (sep 𝓤 ⟦ places R (block_of z.values) (count_of z.values) u.1 ⟧
-        (sep 𝓤 ⟦ pointers (block_of z.doors) (count_of z.doors) u.2 ⟧ ⟦ all_alone R u.3 ⟧)))
+        (sep 𝓤 ⟦ pointers (block_of z.doors) (count_of z.doors) u.2 ⟧ ⟦ all_alone R false u.3 ⟧)))
 
     abbrev Drs : List Strip → Fml
     Drs ss = doors_of R (book_of z) ss
@@ -430,7 +430,7 @@ module _ {M : Type 1} {𝓤 : Ura M} (𝓛 : Logic 𝓤) (R : RattleType) {V W :
         move ! (2 ∷ 0 ∷ []) $ use2 𝓛 (‵ (row b o (ws ++ u.0))) (row_joins 𝓛 b ws u.0 o f (omega (arith, head, skip))) $ move ! (3 ∷ []) $
         use1 𝓛 (Doors.plain_item 𝓛 σ Is (right_to R) db d₀ 32 0 ss) (Doors.plain 𝓛 σ Is (right_to R) db 32 d₀ 0 ss) $ pick ! (λ ps. learn ! (λ few. split ! $
         -- [the doors; the rights; the words; the places; the others]
-        move ! (4 ∷ 1 ∷ []) $ use2 𝓛 (‵ (all_alone R (take 32 ss))) (all_joined 𝓛 R α z.hands_name Lt Hd σ Is db 32 ss) $
+        move ! (4 ∷ 1 ∷ []) $ use2 𝓛 (‵ (all_alone R false (take 32 ss))) (all_joined 𝓛 R α z.hands_name Lt Hd σ Is db 32 ss) $
         show ! Closed (ws ++ u.0, u.1, ps, take 32 ss) $ check ! (long_is, omega (arith, l1, size), few.0, placed, few.1) $ move ! (2 ∷ 3 ∷ 1 ∷ 0 ∷ []) $ done !))))
 
     pub closes : ent 𝓤 ⟦ words_own R cv.code holds p z ⟧ (H.⇛ (ex 𝓤 Closed))

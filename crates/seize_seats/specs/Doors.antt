@@ -56,12 +56,12 @@ module _ (R : RattleType) where
       fwand (fsep (froom (places_type n) (block_of p) (count_of p)) (froom (words_type (n * 5)) (block_of p) (before n * 8 + count_of p)))
       (froom (block_type n) (block_of p) (count_of p))
 
-  -- the right to give the block of so many numbers back, which lies there
-  abbrev pub deed : ℕ → Ptr → Fml
-  deed n p = fsep (chunk (block_type n) p) (fits_again n p)
+  -- the right to give the block of so many numbers back, which lies there; holds: the right to free a block of a type
+  abbrev pub deed : (Ty → Ptr → Fml) → ℕ → Ptr → Fml
+  deed holds n p = fsep (holds (block_type n) p) (fits_again n p)
 
   abbrev pub right_to : Strip → Fml
-  right_to s = deed s.size s.words
+  right_to s = deed chunk s.size s.words
 
 -- the strip is the k-th of the list of this name, and stays so
 abbrev pub stays : ℕ → ℕ → Strip → Fml

@@ -1,7 +1,7 @@
 -- What the words, the places of values and a seat own. The words are lent for a lifetime of their own, whose token stays with whoever owns them, and a `&` to
 -- them shows that it lasts. An invariant has the words, the values, and a quarter of each seat's view; three quarters of it are the seat's. It has the strips
 -- of all numbers; whoever has the words has them by one strip, of which it is known that it is one of them.
-use Rattle.std.specs.Prelude.{◌≡◌, ℕ, zero, suc, ◌+◌, ◌-◌, ◌*◌, ◌^◌, ◌<◌, ◌≤◌, List, [], ◌∷◌, Option, Some, None, length, take, drop, slice_get}
+use Rattle.std.specs.Prelude.{◌≡◌, ℕ, zero, suc, ◌+◌, ◌-◌, ◌*◌, ◌^◌, ◌<◌, ◌≤◌, Bool, true, List, [], ◌∷◌, Option, Some, None, length, replicate, take, drop, slice_get}
 use prog.Memory.{size}
 use base.Fraction.{full_share}
 use base.Share.{quarter, three_quarters}
@@ -131,11 +131,14 @@ abbrev pub places : (R : RattleType) → ℕ → ℕ → List (Option R.Denot) �
 places R b o [] = ftrue
 places R b o (x ∷ xs) = fsep (part_at (OptionOf R) full_share x b o) (places R b (o + stride R) xs)
 
--- A further strip that stands under no rule: its words and its places, and with them the right to give its block back.
-module _ (R : RattleType) where
+-- A further strip that stands under no rule: its words and its places, and with them the right to give its block back. fresh: no place has a value yet.
+module _ (R : RattleType) (fresh : Bool) where
+  abbrev pub AreOf : Strip → List ℕ × List (Option R.Denot) → Type 0
+  AreOf s u = (length u.0 ≡ s.size * 5) × (length u.1 ≡ s.size) × (fresh ≡ true → u.1 ≡ replicate s.size None)
+
   abbrev pub stripped : Strip → Fml
   stripped s =
-      fex (List ℕ × List (Option R.Denot)) (λ u. fsep (fact ((length u.0 ≡ s.size * 5) × (length u.1 ≡ s.size)))
+      fex (List ℕ × List (Option R.Denot)) (λ u. fsep (fact (AreOf s u))
       (fsep (row (block_of s.words) (s.skip * 8 + count_of s.words) u.0) (places R (block_of s.values) (count_of s.values) u.1)))
 
   abbrev pub alone : Strip → Fml

@@ -6,7 +6,7 @@ use mir.Val.{Val, WT}
 use prog.Wp.{WpFn}
 use base.Logic.{SProp, ent, emp, id⊢}
 use base.Fml.{Lft, Share, ftrue, flft}
-use types.Kit.{‵, raw, ◌⊛◌, mean, at_ret, ◌$◌, ◌∵◌, !, qed, by, move, keep, split, join, fsplit, fjoin, learn, use0, use2, await, suffices}
+use types.Kit.{‵, raw, ◌⊛◌, mean, at_ret, ◌$◌, ◌∵◌, !, qed, by, move, keep, drop, split, join, fsplit, fjoin, learn, use0, use2, await, suffices}
 use types.Run.{stop, fld, of_opd, no_more, and_then, first, blocks, exec, Calls-last, returns, enter}
 use types.ByLocal.{alloc_all, pass_all, free_all, look_at, get, get_in, sets, lands_last, is, env}
 use types.Part.{agg, sub, whole}
@@ -29,6 +29,7 @@ use Rattle.core.proofs.mem.Param.{El}
 use Rattle.core.proofs.slots.Opens.{Sr, row_val, row_had, row_made}
 use Rattle.std.proofs.raw_atomic.Walks.{proved_at, leaves}
 use Rattle.std.proofs.raw_atomic.Calls.{fm}
+use Rattle.seize_blocks.specs.Placed.{AreEmpty}
 use Rattle.seize_blocks.specs.contracts.row.Row as row
 use Rattle.seize_blocks.proofs.Fields.{one_of, Places, places_made}
 use Rattle.seize_blocks.proofs.Placing.{is_pair, parted, parts}
@@ -47,7 +48,7 @@ of_spec 𝓤 𝓛 𝓜 𝓡 wired X L =
     let κ : Lft = y.0.0.0 in let q : Share = y.0.1.0 in let r : (Sr E).Denot = y.0.3.0 in let vss = y.0.4 in let xs : List X.Denot = slots_items r in
     let n : ℕ = slots_len r in let fs : List Bool = slots_filled r in let lx : n ≡ length xs = (slots_counts r).0 in let lf : n ≡ length fs = (slots_counts r).1 in
     let Post : Val → SProp 𝓤 = (walk_of 𝓛 En hs c).post y in let Begun : List Val → SProp 𝓤 = λ ws. WpFn 𝓤 H 𝓣.C 𝓣.Λ fn ws Post in
-    qed 𝓛 (((‵ (flft κ q) ⊛ ‵ ftrue) ⊛ ‵ (owns (types_at En.signature.params y.0.0) y.0.3 vss)) ∷ raw (fact 𝓤 (κ ⊑ X.lives)) ∷ ‵ ftrue ∷ []) ∵
+    qed 𝓛 (((‵ (flft κ q) ⊛ ‵ ftrue) ⊛ ‵ (owns (types_at En.signature.params y.0.0) y.0.3 vss)) ∷ raw (fact 𝓤 (κ ⊑ X.lives)) ∷ raw (emp 𝓤) ∷ []) ∵
     move ! (2 ∷ 1 ∷ []) $ drop ! $ heard ! (κ ⊑ X.lives) (λ le. split ! $ split ! $ move ! (2 ∷ []) $ fsplit ! $
     -- [the slots; nothing; the token; nothing]
     row_had E ! r vss.0 (λ b o at vs_are fits room. row_made E ! r b o at fits room $ keep ! (0 ∷ 2 ∷ []) $
@@ -63,7 +64,7 @@ of_spec 𝓤 𝓛 𝓜 𝓡 wired X L =
     sets ! (is ! (of_opd ! (get ! refl)) same) refl (tt, well) $
     sets ! (agg ! (and_then ! (get_in ! (fld ! refl (stop !)) (sub ! 0 refl (whole !))) (no_more !))) refl (tt, (tt, tt)) $
     let new : Rw.Denot = record { at = p; items = xs; filled = fs; even = sym lf ∙ lx } in
-    let Told : Type 0 = (p ≡ slots_ptr r) × (xs ≡ xs) × (length xs ≡ n) × (IsFull r → Filled fs 0 (length xs)) in
+    let Told : Type 0 = (p ≡ slots_ptr r) × (xs ≡ xs) × (length xs ≡ n) × (IsFull r → Filled fs 0 (length xs)) × (AreEmpty fs n → AreEmpty fs (length xs)) in
     use0 𝓛 (‵ ((Places R).own_val (p, tt) (one_of p ∷ []))) (places_made R 𝓛 p) $ fjoin ! $
-    use0 𝓛 (raw (fact 𝓤 Told)) (fact_i 𝓤 Told (emp 𝓤) (sym at, refl, sym lx, λ f k low lt. f k low (subst (λ (j : ℕ). k < j) (sym lx) lt))) $ nothing ! $ move ! (3 ∷ 0 ∷ []) $ join ! $ nothing ! $ nothing ! $ fjoin ! $
+    use0 𝓛 (raw (fact 𝓤 Told)) (fact_i 𝓤 Told (emp 𝓤) (sym at, refl, sym lx, λ f k low lt. f k low (subst (λ (j : ℕ). k < j) (sym lx) lt), λ f k lt. f k (subst (λ (j : ℕ). k < j) (sym lx) lt))) $ nothing ! $ move ! (3 ∷ 0 ∷ []) $ join ! $ nothing ! $ nothing ! $ fjoin ! $
     returns ! (look_at ! 0 refl) $ free_all ! refl $ keep ! (1 ∷ 0 ∷ 3 ∷ 2 ∷ []) $ by ! (leaves 𝓛 En hs c y (one_of p) new (tt, tt) (tt, tt))))))))

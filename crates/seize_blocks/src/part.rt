@@ -1,0 +1,28 @@
+//! A strip with what its numbers are found by.
+ghost use Rattle.std.specs.Prelude.{◌≡◌, ◌+◌, ◌*◌, ◌^◌, ◌<◌, ◌≤◌};
+ghost use denote.RawPtr.{InBlock};
+
+use crate::strip::Strip;
+use std::ptr::NonNull;
+
+/// A strip, where its values lie, how many numbers come before its own and how many it has, and how many words come before theirs.
+#[derive(Drop)]
+pub(crate) struct Part<T> {
+    pub(crate) strip: Strip<T>,
+    pub(crate) values: *mut Option<T>,
+    pub(crate) first: u64,
+    pub(crate) count: u64,
+    pub(crate) skip: u64,
+    ghost is: { (strip.id.values ≡ values) × (strip.id.first ≡ first) × (strip.id.size ≡ count) × (strip.id.skip ≡ skip) },
+    ghost there: { InBlock strip.words × ((skip + count * 5) * 8 < 2 ^ 63) × (first + count ≤ 2 ^ 32) },
+}
+
+/// Where the places of a further strip lie: at its own address.
+pub(crate) fn places_in<T>(strip: &Strip<T>) -> *mut Option<T>
+    requires { InBlock strip.now.words }
+    ensures { result ≡ strip.now.words }
+{
+    (unsafe { NonNull::new_unchecked(strip.words) })
+        .cast::<Option<T>>()
+        .as_ptr()
+}
