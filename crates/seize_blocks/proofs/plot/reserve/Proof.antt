@@ -7,7 +7,7 @@ use mir.Val.{Val, WT, vint, vptr, vstruct, vcons, vnil}
 use prog.Wp.{Wp, after_seq, at_return}
 use base.Logic.{SProp, emp}
 use base.Fml.{Lft, Share, Fml, ftrue, fsep, flft, Incl-trans}
-use types.Kit.{‵, raw, ◌⊛◌, later, at_ret, any_q, ◌$◌, ◌∵◌, !, qed, by, move, keep, split, join, fsplit, fsplit3, fjoin, fjoin3, fpack, feq_i, await, use0, use1, use2}
+use types.Kit.{‵, raw, ◌⊛◌, later, at_ret, any_q, ◌$◌, ◌∵◌, !, qed, by, move, keep, split, join, fsplit, fsplit3, fjoin, fjoin3, fpack, feq_i, await, use0, use1, use2, rewrite}
 use types.Match.{live, vrt, in_variant}
 use types.Run.{stop, fld, lit, of_opd, bin, no_more, and_then, first, blocks, switches_on, exec, returns, enter}
 use types.ByLocal.{alloc_all, pass_all, free_all, look_at, get, get_in, get_tag, sets, sets_last, lands_as, env}
@@ -108,13 +108,14 @@ reserve_spec 𝓤 𝓛 𝓜 𝓡 wired T Al L LA ga da dd met _ =
     sets ! (of_opd ! (get_in ! (vrt ! refl (fld ! refl (stop !))) (in_variant ! 0 0 refl refl (whole !)))) refl (tt, tt) $ sets ! (of_opd ! (get ! refl)) refl (tt, tt) $
     first ! $ blocks ! $ sets ! (of_opd ! (get ! refl)) refl (tt, tt) $
     sets ! (bin ! (get ! refl) (lit ! tt) (record { fits = small })) refl (tt, record { fits = small }) $
-    sets_last ! (bin ! (get ! refl) (get ! refl) tt) refl (tt, tt) $ exec ! 𝓣.C 𝓣.Λ Ev (after 3 (arm_body 0 both)) Then $
+    sets_last ! (bin ! (get ! refl) (get ! refl) tt) refl (tt, tt) $ exec ! 𝓣.C 𝓣.Λ Ev (after 3 (arm_body 0 both)) Then $ sets ! (of_opd ! (get ! refl)) refl (tt, tt) $
     sets ! (agg ! (and_then ! (get ! refl) (no_more !))) refl (tt, (tt, tt)) $ sets ! (agg ! (and_then ! (get ! refl) (no_more !))) refl (tt, (tt, tt)) $
     sets ! (agg ! (no_more !)) refl (tt, tt) $ sets ! (agg ! (and_then ! (get ! refl) (no_more !))) refl (tt, (tt, tt)) $
     sets ! (agg ! (and_then ! (get ! refl) (and_then ! (get ! refl) (and_then ! (get ! refl) (no_more !))))) refl (tt, ((tt, tt), ((tt, tt), ((tt, tt), tt)))) $
     sets_last ! (agg ! (and_then ! (lit ! tt) (and_then ! (get ! refl) (no_more !)))) refl (tt, good) $ exec ! 𝓣.C 𝓣.Λ Ev (after 2 fn.body) (at_ret Ev Post) $
     sets ! (of_opd ! (get ! refl)) refl (tt, good) $
-    use0 𝓛 (‵ ((Places u64).own_val (w, tt) (one_of w ∷ []))) (places_made u64 𝓛 w) $ fjoin ! $ move ! (1 ∷ []) $
+    use0 𝓛 (‵ ((Places u64).own_val (w, tt) (one_of w ∷ []))) (places_made u64 𝓛 w) $ fjoin ! $
+    rewrite ! 0 (λ (t : Val). ‵ (Rw.own_val r₂ (t ∷ []))) (ap one_of (sym at_w)) refl $ move ! (1 ∷ []) $
     use0 𝓛 (‵ ((Mark R).own_val (record {}, tt) (token ∷ []))) (mark_made R 𝓛) $ fjoin ! $ move ! (2 ∷ []) $
     use0 𝓛 (‵ ((Places O).own_val (p, tt) (one_of p ∷ []))) (places_made O 𝓛 p) $ fjoin ! $
     -- [the places; the deed; the words; the tokens]

@@ -34,7 +34,6 @@ use Rattle.core.specs.Mem.Slots.Ownership.{Filled}
 use Rattle.std.specs.contracts.alloc.Global as heap
 use Rattle.std.specs.contracts.impls.GlobalAllocator.TheImpl.{ghosts}
 use Rattle.std.proofs.raw_atomic.Walks.{proved, leaves}
-use Rattle.libc.specs.Heap.{chunk}
 use Rattle.seize_seats.specs.Strips.{Strip, further}
 use Rattle.seize_seats.specs.Doors.{before, block_bytes, words_from, deed}
 use Rattle.seize_seats.specs.Owned.{row, places, stride, stripped, alone, all_alone}
@@ -81,7 +80,7 @@ parted_spec 𝓤 𝓛 𝓜 𝓡 wired T L =
     let has = first_is R p n l asked.0 in let f : ℕ = has.0 in let ss : List Strip = has.1 in let s : Strip = plot R p n f in
     let fit = fits R n asked.2 in let words_fit = fit.0 in let k_is = asked.1 in
     let at_p : p ≡ p' = at_block p has.4 in let small : k * 8 < 2 ^ 64 = omega (arith, k_is, words_fit) in
-    let Parts : List ℕ × List (Option T.Denot) → Fml = λ u. fsep (row b (before R n * 8 + o) u.0) (places R b o u.1) in
+    let w' : Ptr = block_ptr b (k * 8 + o) in let at_w : w' ≡ w = (λ i. block_ptr b (k_is i * 8 + o)) in
     -- [the strips; alive]
     rewrite ! 0 (λ (q : List Strip). ‵ (all_alone R fr q)) has.2 refl $ fsplit ! $ fsplit ! $ fpick ! (λ u. fsplit ! $ fpick ! (λ long. drop ! $ fsplit ! $
     let ws : List ℕ = u.0 in let xs : List (Option T.Denot) = u.1 in let many = long.1 in let more = long.0 in
@@ -93,7 +92,7 @@ parted_spec 𝓤 𝓛 𝓜 𝓡 wired T L =
     enter ! 𝓣.C 𝓣.Λ fn (us p') Post $ alloc_all ! (λ l'. pass_all ! refl ((tt, (tt, tt)), ((tt, tt), (Ptr-Good p', ((tt, record { fits = are.1.1.1.0.1 }), ((tt, record { fits = are.1.1.1.1.0.1 }), tt))))) $
     let Ev = env fn.locals l' in
     first ! $ blocks ! $ sets ! (of_opd ! (get ! refl)) refl (tt, tt) $ sets ! (bin ! (get ! refl) (lit ! tt) (record { fits = small })) refl (tt, record { fits = small }) $
-    sets_last ! (bin ! (get ! refl) (get ! refl) tt) refl (tt, tt) $ exec ! 𝓣.C 𝓣.Λ Ev (tail fn.body) (at_ret Ev Post) $
+    sets_last ! (bin ! (get ! refl) (get ! refl) tt) refl (tt, tt) $ exec ! 𝓣.C 𝓣.Λ Ev (tail fn.body) (at_ret Ev Post) $ sets ! (of_opd ! (get ! refl)) refl (tt, tt) $
     sets ! (agg ! (and_then ! (get ! refl) (no_more !))) refl (tt, (tt, tt)) $
     sets ! (agg ! (and_then ! (get ! refl) (no_more !))) refl (tt, (tt, tt)) $
     sets ! (agg ! (no_more !)) refl (tt, tt) $ sets ! (agg ! (and_then ! (get ! refl) (no_more !))) refl (tt, (tt, tt)) $
@@ -102,19 +101,20 @@ parted_spec 𝓤 𝓛 𝓜 𝓡 wired T L =
     let r₁ : Rv.Denot = record { at = p; items = xs; filled = all_full (length xs); even = length-replicate (length xs) true } in
     let r₂ : Rw.Denot = record { at = w; items = ws; filled = all_full (length ws); even = length-replicate (length ws) true } in
     let r₃ : Dd.Denot = record { marker = record {}; heap = a.1.0.now; at = p; count = n } in let r₄ : Lo.Denot = record { marker = record {}; fresh = fr; strips = ss } in
-    let pair : Val = vstruct (vcons (one_of p') (vcons (one_of w) (vcons token (vcons token vnil)))) in
+    let pair : Val = vstruct (vcons (one_of p') (vcons (one_of w') (vcons token (vcons token vnil)))) in
     let Told : Type 0 = (p ≡ p) × (w ≡ w) × (length xs ≡ n) × (length ws ≡ n * 5) × Filled (all_full (length xs)) 0 (length xs)
     × Filled (all_full (length ws)) 0 (length ws) × (a.1.0.now ≡ a.1.0.now) × (p ≡ p) × (n ≡ n) × (ss ≡ further l) × (fr ≡ true → (i : ℕ) → slice_index_or xs i None ≡ None) in
     let none_is : fr ≡ true → (i : ℕ) → slice_index_or xs i None ≡ None = λ e i. ap (λ (ys : List (Option T.Denot)). slice_index_or ys i None) (long.2 e) ∙ nones_of n i in
     use0 𝓛 (‵ ((Places O).own_val (p, tt) (one_of p ∷ []))) (places_made O 𝓛 p) $ fjoin ! $
     rewrite ! 0 (λ (v : Val). ‵ (Rv.own_val r₁ (v ∷ []))) (ap one_of at_p) refl $ move ! (1 ∷ []) $
-    use0 𝓛 (‵ ((Places u64).own_val (w, tt) (one_of w ∷ []))) (places_made u64 𝓛 w) $ fjoin ! $ move ! (2 ∷ []) $
+    use0 𝓛 (‵ ((Places u64).own_val (w, tt) (one_of w ∷ []))) (places_made u64 𝓛 w) $ fjoin ! $
+    rewrite ! 0 (λ (v : Val). ‵ (Rw.own_val r₂ (v ∷ []))) (ap one_of (sym at_w)) refl $ move ! (2 ∷ []) $
     use0 𝓛 (‵ ((Mark R).own_val (record {}, tt) (token ∷ []))) (mark_made R 𝓛) $ fjoin ! $ move ! (3 ∷ []) $
     use0 𝓛 (‵ ((Mark R).own_val (record {}, tt) (token ∷ []))) (mark_made R 𝓛) $ fjoin ! $
     -- [the others; the right; the words; the places; alive]
     nothing ! $ move ! (1 ∷ 0 ∷ []) $ fjoin ! $ move ! (1 ∷ 0 ∷ []) $ fjoin ! $ move ! (2 ∷ 1 ∷ 0 ∷ []) $ fjoin3 ! $ feq_i ! (List Val) (pair ∷ []) (pair ∷ []) refl $ fjoin ! $
     fpack ! (Valss (Rv ∷ Rw ∷ Dd ∷ Lo ∷ [])) (within (declared.shape (tuple_type (Rv ∷ Rw ∷ Dd ∷ Lo ∷ []))) (r₁, (r₂, (r₃, (r₄, tt)))) (pair ∷ []))
-    (one_of p' ∷ [], (one_of w ∷ [], (token ∷ [], (token ∷ [], tt)))) $
+    (one_of p' ∷ [], (one_of w' ∷ [], (token ∷ [], (token ∷ [], tt)))) $
     use0 𝓛 (raw (fact 𝓤 Told)) (fact_i 𝓤 Told (emp 𝓤) (refl, refl, many, more, are_full (length xs), are_full (length ws), refl, refl, refl, sym has.3, none_is)) $
     nothing ! $ nothing ! $ fjoin ! $ nothing ! $ fjoin ! $ nothing ! $ fjoin ! $ nothing ! $ fjoin ! $ nothing ! $ fjoin ! $
     returns ! (look_at ! 0 refl) $ free_all ! refl $ keep ! (3 ∷ 0 ∷ 2 ∷ 1 ∷ []) $
