@@ -5,10 +5,14 @@ use mir.Val.{Val, vint, vstruct, vcons, vnil, of_list, has_ty, WT}
 use seplogic.Ra.Ura.{Ura}
 use base.Logic.{ent, emp}
 use types.Logic.{Logic, sem}
-use types.Kit.{◌$◌, ◌∵◌, !, qed, fjoin, fpack, feq_i, flt_i, done}
+use types.Kit.{◌$◌, ◌∵◌, !, qed, by, fjoin, fpack, feq_i, flt_i, done}
 use denote.Shadow.{makes_shadow}
 use denote.RattleType.{RattleType, Valss}
-use denote.Builtin.{u64}
+use denote.Builtin.{u64, RawPtr}
+use denote.Param.{layout}
+use Rattle.core.specs.declared.result.Result.TheVariants.{Ok, Err}
+use Rattle.core.proofs.once.Made.{ok_of, err_of}
+use Rattle.std.proofs.raw_atomic.PtrCalls.{Answer, answer_val, answer_good}
 use denote.Steps.{nothing}
 use denote.RawPtr.{Ptr, block_ptr, null_ptr, ptr_val}
 use denote.Laws.{Is}
@@ -211,3 +215,16 @@ claim_made 𝓛 n fits = qed 𝓛 [] ∵ nothing ! $ flt_i ! n (2 ^ 64) fits $ f
 module _ (R : RattleType) where
   pub place_made : {M : Type 1} {𝓤 : Ura M} (𝓛 : Logic 𝓤) (p : Ptr) → ent 𝓤 (emp 𝓤) (sem 𝓛 ((place.the_row R).own_val record { at = p } (one_of p ∷ [])))
   place_made 𝓛 p = makes_shadow 𝓛 ((place.the_row R).own_val record { at = p } (one_of p ∷ [])) (λ vss. (tt, (tt, tt))) ((ptr_val p ∷ [], tt), (refl, (refl, tt)))
+
+-- what an exchange of addresses found, with what is known of a strip
+pub found_good : (r : Answer.Denot)
+    → T (has_ty (ty_struct [] (tcons (layout Answer) (tcons (ty_struct [] (tcons (ty_struct [] tnil) tnil)) tnil))) (vstruct (vcons (answer_val r) (vcons token vnil))))
+    × WT (vstruct (vcons (answer_val r) (vcons token vnil)))
+found_good (Ok (block_ptr b o)) = (tt, ((answer_good (Ok (block_ptr b o))).1, ((tt, tt), tt)))
+found_good (Ok null_ptr) = (tt, ((answer_good (Ok null_ptr)).1, ((tt, tt), tt)))
+found_good (Err (block_ptr b o)) = (tt, ((answer_good (Err (block_ptr b o))).1, ((tt, tt), tt)))
+found_good (Err null_ptr) = (tt, ((answer_good (Err null_ptr)).1, ((tt, tt), tt)))
+
+pub answer_made : {M : Type 1} {𝓤 : Ura M} (𝓛 : Logic 𝓤) (r : Answer.Denot) → ent 𝓤 (emp 𝓤) (sem 𝓛 (Answer.own_val r (answer_val r ∷ [])))
+answer_made 𝓛 (Ok p) = qed 𝓛 [] ∵ feq_i ! (List Val) (ptr_val p ∷ []) (ptr_val p ∷ []) refl $ by ! (ok_of 𝓛 RawPtr RawPtr p (ptr_val p))
+answer_made 𝓛 (Err p) = qed 𝓛 [] ∵ feq_i ! (List Val) (ptr_val p ∷ []) (ptr_val p ∷ []) refl $ by ! (err_of 𝓛 RawPtr RawPtr p (ptr_val p))

@@ -4,4 +4,5 @@ pub mod Placing
 pub mod Values
 pub mod By
 pub mod Holes
+pub mod Behind
 pub mod Plotted

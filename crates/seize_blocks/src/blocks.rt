@@ -11,7 +11,7 @@ ghost use Rattle.seize_blocks.specs.Parts.{IsPart, IsClaimed};
 ghost use Rattle.seize_seats.specs.Doors.{block_bytes};
 
 use crate::claim::Claim;
-use crate::part::{Part, places_in};
+use crate::part::{Part, Spot, places_in};
 use crate::place::{Doors, Place};
 use crate::plot::{fits, lay_strip, skip_of, take_back};
 use crate::rule::{Meeting, Rule, Turn};
@@ -52,8 +52,9 @@ impl<T, R: Rule<T>> Blocks<T, R> {
     {
         match at {
             At::Entry(block, word) if word < 4 => {
-                let (strip, _, _, first) = self.spot_of(seat, seat, block);
-                (strip, first + word)
+                let spot = self.spot_of(seat, seat, block);
+                let first = spot.first;
+                (spot.strip, first + word)
             }
             _ => (self.words.strip(), self.place_in(at)),
         }
@@ -95,19 +96,13 @@ impl<T, R: Rule<T>> Blocks<T, R> {
         unreachable!()
     }
 
-    /// In which strip a block is: the strip, where its values lie, the index of the block in it, and where the first of its words lies. The views of two
-    /// seats show the block.
-    fn spot_of(
-        &self,
-        guard: &Seat<T, R>,
-        owner: &Seat<T, R>,
-        block: u64,
-    ) -> (Strip<T>, *mut Option<T>, u64, u64)
+    /// Where a block is: in which strip, its index there, and where the first of its words lies. The views of two seats show the block.
+    fn spot_of(&self, guard: &Seat<T, R>, owner: &Seat<T, R>, block: u64) -> Spot<T>
         requires own { (guard.now.base ≡ self.now.words.id.views_name) × (owner.now.base ≡ self.now.words.id.views_name) }
         requires shown { ShownToBoth (R.holds self.now.words.fixed) guard.now.id guard.now.view owner.now.id owner.now.view block }
-        ensures strip { (core_of result.0.id ≡ core_of self.now.words.id) × InBlock result.0.words × (result.1 ≡ result.0.id.values) }
-        ensures index { IsItsIndex result.0.id block result.2 × (result.2 < 2 ^ 32) }
-        ensures words { (result.3 ≡ result.2 * 5 + result.0.id.skip) × (result.3 + 4 < 2 ^ 60) }
+        ensures strip { (core_of result.strip.id ≡ core_of self.now.words.id) × InBlock result.strip.words × (result.values ≡ result.strip.id.values) }
+        ensures index { IsItsIndex result.strip.id block result.index × (result.index < 2 ^ 32) }
+        ensures words { (result.first ≡ result.index * 5 + result.strip.id.skip) × (result.first + 4 < 2 ^ 60) }
     {
         if block <= self.count || block > MOST {
             let index = if block > 0 && block <= self.count {
@@ -115,19 +110,24 @@ impl<T, R: Rule<T>> Blocks<T, R> {
             } else {
                 0
             };
-            return (
-                self.words.strip(),
-                self.values.at,
+            return Spot {
+                strip: self.words.strip(),
+                values: self.values.at,
                 index,
-                self.first_of(index),
-            );
+                first: self.first_of(index),
+            };
         }
         let (door, first) = self.door_of(block - 1);
         let strip = self.words.find(guard, owner, block, self.doors.at, door);
-        let values = places_in(&strip);
+        let Place { at } = places_in(&strip);
         let skip = skip_of::<T>(first as usize) as u64;
         let index = block - 1 - first;
-        (strip, values, index, index * 5 + skip)
+        Spot {
+            strip,
+            values: at,
+            index,
+            first: index * 5 + skip,
+        }
     }
 
     /// A seat more.
@@ -272,10 +272,10 @@ impl<T, R: Rule<T>> Blocks<T, R> {
         let strip = self.words.look(self.doors.at, door);
         match NonNull::new(strip.words) {
             Some(_) => {
-                let values = places_in(&strip);
+                let Place { at } = places_in(&strip);
                 Some(Part {
                     strip,
-                    values,
+                    values: at,
                     first,
                     count: first,
                     skip: skip_of::<T>(first as usize) as u64,
@@ -428,12 +428,13 @@ impl<T, R: Rule<T>> Blocks<T, R> {
         ensures same { (seat.new.base ≡ seat.old.base) × (seat.new.id ≡ seat.old.id) }
         ensures goes { R.then seat.old.view (Take block) (Taken result) seat.new.view }
     {
-        let (strip, values, index, first) = self.spot_of(seat, seat, block);
-        let value = self.words.by(&strip).take(
+        let spot = self.spot_of(seat, seat, block);
+        let first = spot.first;
+        let value = self.words.by(&spot.strip).take(
             seat,
             block,
-            index,
-            values,
+            spot.index,
+            spot.values,
             first,
             first + 1,
             first + 2,
@@ -454,11 +455,11 @@ impl<T, R: Rule<T>> Blocks<T, R> {
         ensures same { (seat.new.base ≡ seat.old.base) × (seat.new.id ≡ seat.old.id) }
         ensures goes { R.then seat.old.view (Rewrite block value) (Taken result) seat.new.view }
     {
-        let (strip, values, index, _) = self.spot_of(seat, seat, block);
+        let spot = self.spot_of(seat, seat, block);
         match self
             .words
-            .by(&strip)
-            .rewrite(seat, block, index, values, value)
+            .by(&spot.strip)
+            .rewrite(seat, block, spot.index, spot.values, value)
         {
             Some(before) => before,
             None => unreachable!(),
@@ -486,8 +487,11 @@ impl<T, R: Rule<T>> Blocks<T, R> {
         requires shown { ShownToBoth (R.holds self.now.words.fixed) guard.now.id guard.now.view owner.now.id owner.now.view block }
         ensures { IsValueOfBoth (R.holds self.now.words.fixed) guard.now.id guard.now.view owner.now.id owner.now.view block result.now }
     {
-        let (strip, values, index, _) = self.spot_of(guard, owner, block);
-        match self.words.value(&strip, guard, owner, block, index, values) {
+        let spot = self.spot_of(guard, owner, block);
+        match self
+            .words
+            .value(&spot.strip, guard, owner, block, spot.index, spot.values)
+        {
             Some(value) => value,
             None => unreachable!(),
         }

@@ -2,6 +2,7 @@
 ghost use Rattle.std.specs.Prelude.{◌≡◌, ◌+◌, ◌*◌, ◌^◌, ◌<◌, ◌≤◌};
 ghost use denote.RawPtr.{InBlock};
 
+use crate::place::Place;
 use crate::strip::Strip;
 use std::ptr::NonNull;
 
@@ -17,12 +18,22 @@ pub(crate) struct Part<T> {
     ghost there: { InBlock strip.words × ((skip + count * 5) * 8 < 2 ^ 63) × (first + count ≤ 2 ^ 32) },
 }
 
+/// A block in a strip: where the values of that lie, the index of the block in it, and how many words come before the block's.
+#[derive(Drop)]
+pub(crate) struct Spot<T> {
+    pub(crate) strip: Strip<T>,
+    pub(crate) values: *mut Option<T>,
+    pub(crate) index: u64,
+    pub(crate) first: u64,
+}
+
 /// Where the places of a further strip lie: at its own address.
-pub(crate) fn places_in<T>(strip: &Strip<T>) -> *mut Option<T>
+pub(crate) fn places_in<T>(strip: &Strip<T>) -> Place<T>
     requires { InBlock strip.now.words }
-    ensures { result ≡ strip.now.words }
+    ensures { result.at ≡ strip.now.words }
 {
-    (unsafe { NonNull::new_unchecked(strip.words) })
-        .cast::<Option<T>>()
-        .as_ptr()
+    let words = unsafe { NonNull::new_unchecked(strip.words) };
+    Place {
+        at: words.cast::<Option<T>>().as_ptr(),
+    }
 }

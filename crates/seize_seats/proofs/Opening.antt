@@ -46,7 +46,7 @@ abbrev pub fives : ℕ → List ℕ
 fives zero = []
 fives (suc n) = 0 ∷ 0 ∷ 0 ∷ 0 ∷ 0 ∷ fives n
 
-fives_are : (n : ℕ) (ws : List ℕ) → length ws ≡ n * 5 → AreZeros ws → ws ≡ fives n
+pub fives_are : (n : ℕ) (ws : List ℕ) → length ws ≡ n * 5 → AreZeros ws → ws ≡ fives n
 fives_are zero [] l none = refl
 fives_are zero (a ∷ ws) l none = absurd (omega (arith, l))
 fives_are (suc n) [] l none = absurd (omega (arith, l))
@@ -57,6 +57,10 @@ fives_are (suc n) (a ∷ b ∷ c ∷ d ∷ []) l none = absurd (omega (arith, l)
 fives_are (suc n) (a ∷ b ∷ c ∷ d ∷ e ∷ ws) l none =
     let p : a ≡ 0 = none 0 in let q : b ≡ 0 = none 1 in let r : c ≡ 0 = none 2 in let s : d ≡ 0 = none 3 in let t : e ≡ 0 = none 4 in
     let rest = fives_are n ws (omega (arith, l)) (λ k. none (suc (suc (suc (suc (suc k)))))) in cc (p, q, r, s, t, rest)
+
+pub fives_long : (n : ℕ) → length (fives n) ≡ n * 5
+fives_long zero = refl
+fives_long (suc n) = let r = fives_long n in omega (arith, r)
 
 module _ {M : Type 1} {𝓤 : Ura M} (𝓛 : Logic 𝓤) (b : ℕ) where
   pub row_splits : (xs ys : List ℕ) (o e : ℕ) → e ≡ length xs * 8 + o → ent 𝓤 (sem 𝓛 (row b o (xs ++ ys))) (sep 𝓤 (sem 𝓛 (row b o xs)) (sem 𝓛 (row b e ys)))

@@ -1,6 +1,5 @@
 -- The block of a further strip: how it is laid out, and that its room is room for places and for words, which given back make it again. Assumes `Logic`.
-use Rattle.std.proofs.Common.{◌≡◌, ℕ, ◌+◌, ◌*◌, ◌/◌, ◌^◌, ◌<◌, max, [], ◌∷◌}
-use Rattle.std.proofs.Common.{refl, sym, ap, ◌∙◌, arith, w8, w16, w32, w64}
+use Rattle.std.proofs.Common.{◌≡◌, ℕ, ◌+◌, ◌*◌, ◌/◌, ◌^◌, ◌<◌, max, [], ◌∷◌, refl, sym, ap, ◌∙◌, subst, arith, lit<, w8, w16, w32, w64}
 use seplogic.Ra.Ura.{Ura}
 use mir.Syntax.{Ty, Width, w128, ty_int, ty_array, ty_struct, tcons, tnil}
 use mir.Val.{bytes}
@@ -8,16 +7,18 @@ use prog.Memory.{size, align, capped, up}
 use prog.Capped.{capped_is}
 use prog.RawLaws.{size-raw, align-raw}
 use prog.Align.{align_w, align-bytes}
-use base.Logic.{ent, sep, wand, apply∗}
+use base.Logic.{ent, sep, wand, guard, guard_i, apply∗}
 use base.Fml.{Fml, ftrue, fsep, froom}
 use types.Logic.{Logic, sem}
-use types.Kit.{‵, raw, ◌⊛◌, ◌$◌, ◌∵◌, !, qed, by, split, fsplit, fsplit3, fjoin, fjoin3, frame, assume, use1, use2, rewrite}
+use types.Kit.{‵, raw, ◌⊛◌, given, learn, check, ◌$◌, ◌∵◌, !, qed, by, split, fsplit, fsplit3, fjoin, fjoin3, frame, assume, use1, use2, rewrite, done}
 use denote.RattleType.{RattleType}
 use denote.Memory.{lone}
-use denote.RawPtr.{block_ptr}
+use denote.RawPtr.{Ptr, block_ptr, count_of, Testable}
+use contract.Monad.{fact_use}
+use Rattle.libc.specs.Heap.{chunk, chunk_start}
 use Rattle.core.specs.contracts.option.Option.{the_row as OptionOf}
 use Rattle.core.specs.Allocator.{HasLayout}
-use Rattle.seize_seats.specs.Doors.{places_type, words_type, block_type, before, block_bytes, fits_again}
+use Rattle.seize_seats.specs.Doors.{places_type, words_type, block_type, before, block_bytes, fits_again, deed}
 use Rattle.seize_seats.specs.Owned.{stride}
 
 -- ---- rounded up
@@ -127,3 +128,11 @@ module _ (R : RattleType) (n : ℕ) where
     pub gathers : ent 𝓤 (sep 𝓤 (sem 𝓛 (Places o)) (sep 𝓤 (sem 𝓛 (Words (before R n * 8 + o))) (sem 𝓛 (fits_again R n (block_ptr b o))))) (H.room (block_type R n) b o)
     gathers = qed 𝓛 (‵ (Places o) ∷ ‵ (Words (before R n * 8 + o)) ∷ ‵ (fits_again R n (block_ptr b o)) ∷ []) ∵ fjoin ! $
         by ! (apply∗ 𝓤 (sem 𝓛 (fsep (Places o) (Words (before R n * 8 + o)))) (H.room (block_type R n) b o))
+
+-- whoever may give a block back can compare its address with null
+pub tested : {M : Type 1} {𝓤 : Ura M} (𝓛 : Logic 𝓤) (R : RattleType) (n : ℕ) (p : Ptr)
+    → ent 𝓤 (sem 𝓛 (deed R chunk n p)) (guard 𝓤 (Testable p) (sem 𝓛 (deed R chunk n p)))
+tested {𝓤 = 𝓤} 𝓛 R n p = let D : Fml = chunk (block_type R n) p in
+    qed 𝓛 (‵ (deed R chunk n p) ∷ []) ∵ fsplit ! $
+    use1 𝓛 (given (count_of p ≡ 0) (‵ D)) (fact_use 𝓤 (count_of p ≡ 0) (chunk_start 𝓛 (block_type R n) p) (guard_i 𝓤 (count_of p ≡ 0) (sem 𝓛 D))) $
+    learn ! (λ at. check ! (subst (λ (k : ℕ). k < 2 ^ 63) (sym at) (lit< tt)) $ fjoin ! $ done !)

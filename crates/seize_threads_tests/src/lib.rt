@@ -8,6 +8,8 @@ mod crowd;
 #[cfg(test)]
 mod ground;
 #[cfg(test)]
+mod growing;
+#[cfg(test)]
 mod guards;
 #[cfg(test)]
 mod lending;

@@ -65,8 +65,16 @@ release_spec 𝓤 𝓛 𝓜 𝓡 wired X Al L LA ga da dd met _ =
       ),
     ) (#self inst) fn (code.unfolded 𝓤 H 𝓜 𝓡 wired (X, (Al, tt)) da dd)
     (λ κs. (shr_vals, ((λ x. one_of x.at ∷ []), ((λ x. one_of x.at ∷ []), ((λ _. token ∷ []), (uint_vals w64, tt))))))
-    (λ κs. (shr_Tells (named 0) κs.0 Z, ((λ x vs so. places_told O x.at vs so.0), ((λ x vs so. places_told u64 x.at vs so.0),
-    ((λ x vs so. mark_told (Tuple (R ∷ Z ∷ [])) vs so.0), (uint_Tells w64, tt)))))) (λ κs qs bounds a gh are.
+    (λ κs. (
+      shr_Tells (named 0) κs.0 Z,
+      (
+        (λ x vs so. places_told O x.at vs so.0),
+        (
+          (λ x vs so. places_told u64 x.at vs so.0),
+          ((λ x vs so. mark_told (Tuple (R ∷ Z ∷ [])) vs so.0), (uint_Tells w64, tt)),
+        ),
+      ),
+    )) (λ κs qs bounds a gh are.
     let hp : ℕ × ℕ = a.0.ref_ptr in let heap : Al.Denot = a.0.now in let p : Ptr = a.1.0.at in let xs : List (Option X.Denot) = a.1.0.items in
     let fs : List Bool = a.1.0.filled in let w : Ptr = a.1.1.0.at in let ws : List ℕ = a.1.1.0.items in let gs : List Bool = a.1.1.0.filled in
     let d : Dd.Denot = a.1.1.1.0 in let n : ℕ = d.count in let s : ℕ = a.1.1.1.1.0 in
@@ -107,4 +115,4 @@ release_spec 𝓤 𝓛 𝓜 𝓡 wired X Al L LA ga da dd met _ =
     exec ! 𝓣.C 𝓣.Λ Ev (tail (tail fn.body)) (at_ret Ev Post) $ sets ! (of_opd ! (unit_lit !)) refl (tt, tt) $ join ! $ nothing ! $
     feq_i ! (List Val) (vunit ∷ []) (vunit ∷ []) refl $ nothing ! $ nothing ! $ fjoin ! $ nothing ! $ fjoin ! $ nothing ! $ fjoin ! $ nothing ! $ fjoin ! $
     nothing ! $ fjoin ! $ returns ! (look_at ! 0 refl) $ free_all ! refl $ keep ! (3 ∷ 0 ∷ 1 ∷ 2 ∷ []) $
-    by ! (leaves 𝓛 En hs c y vunit tt (tt, (tt, (tt, (tt, (tt, tt))))) (tt, (tt, (tt, (tt, (tt, tt)))))))))))))
+    by ! (leaves 𝓛 En hs c y vunit tt (tt, (tt, (tt, (tt, (tt, tt))))) (tt, (tt, (tt, (tt, (tt, tt))))))))))))))
