@@ -179,6 +179,16 @@ module _ (R : RattleType) where
   abbrev pub StripData : RattleType
   StripData = Struct (shape (strip.the_type R))
 
+  pub strip_data_told : (p : Ptr) (vs : List Val) → Is StripData (p, (tt, tt)) vs → vs ≡ hand_of p ∷ []
+  strip_data_told p vs is = is.1.0 ∙ ap (λ (ws : List Val). vstruct (of_list (ws ++ (is.0.1.0 ++ []))) ∷
+      []) is.1.1.0 ∙ ap (λ (ws : List Val). vstruct (of_list (ptr_val p ∷ (ws ++ []))) ∷ []) is.1.1.1.0.1.0
+
+  pub strip_opened : {M : Type 1} {𝓤 : Ura M} (𝓛 : Logic 𝓤) → Opens 𝓛 StripData
+  strip_opened {M} {𝓤 = 𝓤} 𝓛 = (Struct-Copied 𝓛 (shape (strip.the_type R)) (refl, (refl, tt)) (
+    RawPtr-copy.copied M 𝓤 𝓛,
+    ((field_copy (marker.the_type R) tt).copied M 𝓤 𝓛, tt),
+  )).opens
+
 pub strip_made : {M : Type 1} {𝓤 : Ura M} (𝓛 : Logic 𝓤) (R : RattleType) (p : Ptr) → ent 𝓤 (emp 𝓤) (sem 𝓛 ((StripData R).own_val (p, (tt, tt)) (hand_of p ∷ [])))
 strip_made 𝓛 R p = makes_shadow 𝓛 ((StripData R).own_val (p, (tt, tt)) (hand_of p ∷ [])) (λ vss. (tt, (tt, ((λ uss. (tt, tt)), tt)))) (
   (

@@ -4,6 +4,7 @@
 mod blocks;
 mod claim;
 mod home;
+mod numbers;
 mod part;
 mod place;
 mod plot;

@@ -4,7 +4,6 @@ ghost use denote.RawPtr.{InBlock};
 
 use crate::place::Place;
 use crate::strip::Strip;
-use std::ptr::NonNull;
 
 /// A strip, where its values lie, how many numbers come before its own and how many it has, and how many words come before theirs.
 #[derive(Drop)]
@@ -32,8 +31,7 @@ pub(crate) fn places_in<T>(strip: &Strip<T>) -> Place<T>
     requires { InBlock strip.now.words }
     ensures { result.at ≡ strip.now.words }
 {
-    let words = unsafe { NonNull::new_unchecked(strip.words) };
     Place {
-        at: words.cast::<Option<T>>().as_ptr(),
+        at: strip.words as *mut Option<T>,
     }
 }

@@ -1,5 +1,5 @@
 -- `look` loads a door: what lies behind is told to whoever finds an address there.
-use Rattle.std.proofs.Common.{◌≡◌, ℕ, List, [], ◌∷◌, ◌+◌, ◌*◌, ◌^◌, ◌<◌, sym, refl, ap, ◌∙◌, subst, w64, arith}
+use Rattle.std.proofs.Common.{◌≡◌, ℕ, suc, List, [], ◌∷◌, ◌+◌, ◌*◌, ◌^◌, ◌<◌, sym, refl, ap, ◌∙◌, subst, w64, arith}
 use mir.Syntax.{dcons, dnil, a_type, named}
 use mir.MapTy.{inst_fn}
 use mir.Val.{Val, vint, vptr}
@@ -17,7 +17,7 @@ use contract.Monad.{fact, fact_i}
 use denote.Exit.{yes}
 use denote.RattleType.{RattleType, owns}
 use denote.Signature.{types_at, plain}
-use denote.RawPtr.{Ptr, block_ptr, block_of, count_of, at_block, ptr_val, rawptr_vals, rawptr_Tells}
+use denote.RawPtr.{Ptr, InBlock, Testable, block_ptr, block_of, count_of, at_block, ptr_val, rawptr_vals, rawptr_Tells}
 use denote.Steps.{nothing, heard}
 use denote.Opens.{unhide}
 use denote.Memory.{hidden_shr}
@@ -34,9 +34,9 @@ use Rattle.std.proofs.raw_atomic.Walks.{proved, leaves}
 use Rattle.std.proofs.raw_atomic.Calls.{fm, seq_cst}
 use Rattle.std.proofs.raw_atomic.PtrCalls.{found, finds, loads, seq_cst_good}
 use Rattle.seize_seats.specs.Doors.{before}
-use Rattle.seize_seats.specs.Owned.{BaseId, IsPlaced, age, core_of, common, strip_told, words_share}
+use Rattle.seize_seats.specs.Owned.{BaseId, IsPlaced, age, core_of, common, stride, strip_told, words_share}
 use Rattle.seize_seats.proofs.Shown.{placed}
-use Rattle.seize_seats.proofs.Looks.{glimpse, looks, at_door, tells_strip}
+use Rattle.seize_seats.proofs.Looks.{glimpse, Fits, looks, at_door, tells_more}
 use Rattle.seize_blocks.specs.contracts.words.Words as words
 use Rattle.seize_blocks.specs.contracts.strip.Strip as strip
 use Rattle.seize_blocks.proofs.Fields.{word_laws, hand_of, hand_good, Data, StripData, strip_made}
@@ -99,12 +99,13 @@ look_spec 𝓤 𝓛 𝓜 𝓡 wired X P U F LX LP LU LF g d _ =
     fsplit ! $ move ! (2 ∷ 0 ∷ []) $ obor_close ! tt $ drop ! $ move ! (1 ∷ []) $
     let y' : BaseId = at_door 𝓛 R₀ cv holds p z s j e asked.1 refl w in let r : St.Denot = record { words = w; marker = record {}; id = y' } in
     let n : ℕ = z.least * 2 ^ j in
-    let Told : Type 0 = (core_of y' ≡ core_of z) × (before R₀ n ≡ before R₀ n) × (w ≡ w)
-    × (n ≡ n) × (n ≡ n) in
+    let Told : Type 0 = (core_of y' ≡ core_of z) × (before R₀ n ≡ before R₀ n) × (w ≡ w) × (n ≡ n) × (n ≡ n) × (suc j ≡ j + 1) × Testable w
+    × (InBlock w → ((before R₀ n + n * 5) * 8 < 2 ^ 63) × (n * stride R₀ < 2 ^ 63)) in
     -- [what is told; the token; the others]
-    use1 𝓛 (‵ (strip_told R₀ w y')) (tells_strip 𝓛 R₀ cv holds p z s j e asked.1 refl there.4 w) $
+    use1 𝓛 (given (Fits 𝓛 R₀ cv holds p z s j e asked.1 refl w) (‵ (strip_told R₀ w y'))) (tells_more 𝓛 R₀ cv holds p z s j e asked.1 refl there.4 w) $ learn ! (λ fit.
+    let next : suc j ≡ j + 1 = omega arith in
     nothing ! $ move ! (1 ∷ 0 ∷ []) $ fjoin ! $ use0 𝓛 (‵ ((StripData R₀).own_val (w, (tt, tt)) (hand_of w ∷ []))) (strip_made 𝓛 R₀ w) $ fjoin ! $
     nothing ! $ nothing ! $ fjoin ! $ nothing ! $ fjoin ! $ nothing ! $ fjoin ! $ move ! (2 ∷ 3 ∷ []) $ join ! $
-    use0 𝓛 (raw (fact 𝓤 Told)) (fact_i 𝓤 Told (emp 𝓤) (refl, refl, refl, refl, refl)) $
+    use0 𝓛 (raw (fact 𝓤 Told)) (fact_i 𝓤 Told (emp 𝓤) (refl, refl, refl, refl, refl, next, fit.0, fit.1)) $
     returns ! (look_at ! 0 refl) $ free_all ! refl $ keep ! (1 ∷ 2 ∷ 3 ∷ 0 ∷ []) $
-    by ! (leaves 𝓛 En hs c y (hand_of w) r (tt, (tt, (tt, tt))) (tt, (tt, (tt, tt)))))))))))
+    by ! (leaves 𝓛 En hs c y (hand_of w) r (tt, (tt, (tt, tt))) (tt, (tt, (tt, tt))))))))))))
