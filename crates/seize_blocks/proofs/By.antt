@@ -69,7 +69,7 @@ module _ {T V W F : Type 0} (holds : F → State T V W → Type 0) (keeps : V �
 -- a word of an entry is one of a block
 entry_some : {T : Type 0} (x : Option (Block T)) (i : ℕ) → IsSome (entry_in x i) → IsSome (value_in x)
 entry_some None i some = absurd (cc some)
-entry_some (Some x) i some = tt
+entry_some (Some x) i some = refl
 
 -- where there is such a word, the view shows its block
 pub shows_block : {T V W : Type 0} (holds : State T V W → Type 0) (id : ℕ) (v : V) (b i : ℕ) → HasWord holds id v (Entry b i) → ShownToBoth holds id v id v b

@@ -191,7 +191,7 @@ impl<T: Drop, R: Rule<T>> Home<T, R> {
         match lay_doors(alloc, 32) {
             Ok((nulls, doorway)) => {
                 let (words, values, doors) = Words::open(
-                    row, empty, nulls, roots, count, count, fixed,
+                    row, empty, nulls, roots, count, MOST, fixed,
                 );
                 let next = AtomicU64::new(0);
                 let blocks = Blocks {

@@ -1,8 +1,8 @@
 //! Numbers that are free: in the strips that are there, or in one more, which is laid where none is free.
 ghost use Rattle.std.specs.Prelude.{◌≡◌, ◌+◌, ◌*◌, ◌≤◌, ◌<◌, ◌^◌, IfSome};
 ghost use Rattle.seize_seats.specs.Doors.{block_bytes};
-ghost use Rattle.seize_seats.specs.Owned.{core_of, stride};
-ghost use Rattle.seize_blocks.specs.Parts.{IsPart, IsClaimed};
+ghost use Rattle.seize_seats.specs.Owned.{stride};
+ghost use Rattle.seize_blocks.specs.Parts.{IsHad, IsPart, IsClaimed};
 
 use crate::blocks::{Blocks, MOST};
 use crate::claim::Claim;
@@ -88,7 +88,7 @@ impl<T, R: Rule<T>> Blocks<T, R> {
 
     /// Claims a number of a strip, if one is free: its index in it. One after the other is tried, from this one on.
     fn claim_in(&self, part: &Part<T>, from: u64) -> Option<(u64, Claim)>
-        requires { core_of part.now.strip.id ≡ core_of self.now.words.id }
+        requires { IsHad self.now.words.id part.now }
         ensures { IfSome result (λ c. (c.0 < part.now.count) × (c.1.found ≡ 0) × (c.1.base ≡ self.now.words.id.hands_name)
             × (c.1.index ≡ part.now.first + c.0)) }
     {

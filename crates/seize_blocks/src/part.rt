@@ -14,7 +14,7 @@ pub(crate) struct Part<T> {
     pub(crate) count: u64,
     pub(crate) skip: u64,
     ghost is: { (strip.id.values ≡ values) × (strip.id.first ≡ first) × (strip.id.size ≡ count) × (strip.id.skip ≡ skip) },
-    ghost there: { InBlock strip.words × ((skip + count * 5) * 8 < 2 ^ 63) × (first + count ≤ 2 ^ 32) },
+    ghost fits: { ((skip + count * 5) * 8 < 2 ^ 63) × (first + count ≤ 2 ^ 32) },
 }
 
 /// A block in a strip: where the values of that lie, the index of the block in it, and how many words come before the block's.

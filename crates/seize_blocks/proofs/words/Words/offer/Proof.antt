@@ -193,7 +193,7 @@ offer_spec 𝓤 𝓛 𝓜 𝓡 wired X P U F LX LP LU LF g d _ =
     (and_then ! (get ! refl) (no_more !)))))) (λ v. hears ! won lost
     (λ r. let found : Val = answer_val (Ok r) in let good = found_good (Ok r) in let pair : Val = vstruct (vcons found (vcons token vnil)) in
     lands_last ! refl (answer_good (Ok r)) $ exec ! 𝓣.C 𝓣.Λ Ev (tail (tail fn.body)) (at_ret Ev Post) $
-    sets ! (of_opd ! (get ! refl)) refl (answer_good (Ok r)) $ sets ! (of_opd ! (get ! refl)) refl (answer_good (Ok r)) $ sets ! (agg ! (no_more !)) refl (tt, tt) $
+    sets ! (of_opd ! (get ! refl)) refl (answer_good (Ok r)) $ sets ! (agg ! (no_more !)) refl (tt, tt) $
     sets ! (agg ! (and_then ! (get ! refl) (no_more !))) refl (tt, (tt, tt)) $ sets ! (agg ! (and_then ! (get ! refl) (and_then ! (get ! refl) (no_more !)))) refl good $
     fsplit ! $ move ! (2 ∷ 0 ∷ []) $ obor_close ! tt $ drop ! $ move ! (1 ∷ []) $ drop ! $
     -- [the two tokens; the others]
@@ -210,7 +210,7 @@ offer_spec 𝓤 𝓛 𝓜 𝓡 wired X P U F LX LP LU LF g d _ =
     by ! (leaves 𝓛 En hs c y' pair (Ok r, r₂) (tt, (tt, (tt, (tt, (tt, (tt, (tt, tt))))))) (tt, (tt, (tt, (tt, (tt, (tt, (tt, tt)))))))))
     (λ r. let found : Val = answer_val (Err r) in let good = found_good (Err r) in let pair : Val = vstruct (vcons found (vcons token vnil)) in
     lands_last ! refl (answer_good (Err r)) $ exec ! 𝓣.C 𝓣.Λ Ev (tail (tail fn.body)) (at_ret Ev Post) $
-    sets ! (of_opd ! (get ! refl)) refl (answer_good (Err r)) $ sets ! (of_opd ! (get ! refl)) refl (answer_good (Err r)) $ sets ! (agg ! (no_more !)) refl (tt, tt) $
+    sets ! (of_opd ! (get ! refl)) refl (answer_good (Err r)) $ sets ! (agg ! (no_more !)) refl (tt, tt) $
     sets ! (agg ! (and_then ! (get ! refl) (no_more !))) refl (tt, (tt, tt)) $ sets ! (agg ! (and_then ! (get ! refl) (and_then ! (get ! refl) (no_more !)))) refl good $
     fsplit ! $ move ! (2 ∷ 0 ∷ []) $ obor_close ! tt $ drop ! $ move ! (1 ∷ []) $ fsplit ! $ move ! (1 ∷ []) $ drop ! $ fsplit3 ! $ move ! (2 ∷ []) $
     -- [the right; the words; the places; the two tokens; the others]
