@@ -226,14 +226,15 @@ module _ (R : RattleType) where
   pub place_made : {M : Type 1} {𝓤 : Ura M} (𝓛 : Logic 𝓤) (p : Ptr) → ent 𝓤 (emp 𝓤) (sem 𝓛 ((place.the_row R).own_val record { at = p } (one_of p ∷ [])))
   place_made 𝓛 p = makes_shadow 𝓛 ((place.the_row R).own_val record { at = p } (one_of p ∷ [])) (λ vss. (tt, (tt, tt))) ((ptr_val p ∷ [], tt), (refl, (refl, tt)))
 
--- what an exchange of addresses found, with what is known of a strip
-pub found_good : (r : Answer.Denot)
-    → T (has_ty (ty_struct [] (tcons (layout Answer) (tcons (ty_struct [] (tcons (ty_struct [] tnil) tnil)) tnil))) (vstruct (vcons (answer_val r) (vcons token vnil))))
-    × WT (vstruct (vcons (answer_val r) (vcons token vnil)))
-found_good (Ok (block_ptr b o)) = (tt, ((answer_good (Ok (block_ptr b o))).1, ((tt, tt), tt)))
-found_good (Ok null_ptr) = (tt, ((answer_good (Ok null_ptr)).1, ((tt, tt), tt)))
-found_good (Err (block_ptr b o)) = (tt, ((answer_good (Err (block_ptr b o))).1, ((tt, tt), tt)))
-found_good (Err null_ptr) = (tt, ((answer_good (Err null_ptr)).1, ((tt, tt), tt)))
+-- what an exchange of addresses found, with an address and what is known of a strip
+pub found_good : (r : Answer.Denot) (b o : ℕ)
+    → T (has_ty (ty_struct [] (tcons (layout Answer) (tcons (ty_struct [] (tcons ty_ptr tnil)) (tcons (ty_struct [] (tcons (ty_struct [] tnil) tnil)) tnil))))
+    (vstruct (vcons (answer_val r) (vcons (one_of (block_ptr b o)) (vcons token vnil)))))
+    × WT (vstruct (vcons (answer_val r) (vcons (one_of (block_ptr b o)) (vcons token vnil))))
+found_good (Ok (block_ptr c u)) b o = (tt, ((answer_good (Ok (block_ptr c u))).1, ((tt, tt), ((tt, tt), tt))))
+found_good (Ok null_ptr) b o = (tt, ((answer_good (Ok null_ptr)).1, ((tt, tt), ((tt, tt), tt))))
+found_good (Err (block_ptr c u)) b o = (tt, ((answer_good (Err (block_ptr c u))).1, ((tt, tt), ((tt, tt), tt))))
+found_good (Err null_ptr) b o = (tt, ((answer_good (Err null_ptr)).1, ((tt, tt), ((tt, tt), tt))))
 
 pub answer_made : {M : Type 1} {𝓤 : Ura M} (𝓛 : Logic 𝓤) (r : Answer.Denot) → ent 𝓤 (emp 𝓤) (sem 𝓛 (Answer.own_val r (answer_val r ∷ [])))
 answer_made 𝓛 (Ok p) = qed 𝓛 [] ∵ feq_i ! (List Val) (ptr_val p ∷ []) (ptr_val p ∷ []) refl $ by ! (ok_of 𝓛 RawPtr RawPtr p (ptr_val p))

@@ -14,5 +14,5 @@ abbrev pub IsPart : {T : Type 0} → BaseId → Part T → ℕ → Type 0
 IsPart z p place = IsHad z p × (p.strip.id.place ≡ place) × (p.first + p.count ≡ z.least * 2 ^ place)
 
 -- a number of a strip, with its index in it, is claimed
-abbrev pub IsClaimed : {T : Type 0} → BaseId → Part T × (ℕ × Claim) → Type 0
-IsClaimed z c = IsHad z c.0 × (c.1.0 < c.0.count) × (c.1.1.found ≡ 0) × (c.1.1.base ≡ z.hands_name) × (c.1.1.index ≡ c.0.first + c.1.0)
+abbrev pub IsClaimed : {T : Type 0} → BaseId → Part T × ℕ × Claim → Type 0
+IsClaimed z c = IsHad z c.0 × (c.1 < c.0.count) × (c.2.found ≡ 0) × (c.2.base ≡ z.hands_name) × (c.2.index ≡ c.0.first + c.1)

@@ -3,7 +3,7 @@ ghost use Rattle.std.specs.Prelude.{◌≡◌, ◌+◌, ◌-◌, ◌*◌, ◌≤
 ghost use denote.RawPtr.{InBlock};
 ghost use Rattle.seize_words.specs.Op.{Load, Store, Swap, Add, Or, Exchange, Make, Take, Rewrite, Room, Found, Stored, Exchanged, Made, Taken, Roomed};
 ghost use Rattle.seize_seats.specs.State.{Allows, Owns, Turns, Comes, Meets, Renews};
-ghost use Rattle.seize_seats.specs.Lines.{long, IsNoBlocks};
+ghost use Rattle.seize_seats.specs.Lines.{long};
 ghost use Rattle.seize_seats.specs.Owned.{core_of, IsFirst};
 ghost use Rattle.seize_seats.specs.Lendings.{Shown, ShownToBoth, IsValueOf, IsValueOfBoth};
 ghost use Rattle.seize_blocks.specs.Placed.{IsItsPlace, IsItsIndex, IsBehind, HasWord};
@@ -46,25 +46,20 @@ impl<T, R: Rule<T>> Blocks<T, R> {
         ensures { (core_of result.0.id ≡ core_of self.now.words.id) × InBlock result.0.words × IsItsPlace result.0.words result.0.id at result.1 }
     {
         match at {
+            At::Root(root) if root < self.roots => (self.words.strip(), root * 16),
+            At::Used(root) if root < self.roots => (self.words.strip(), (self.roots + root) * 16),
+            At::Slot(slot, field) if slot < 32 && field < 2 => {
+                (
+                    self.words.strip(),
+                    (self.roots + self.roots + slot) * 16 + field,
+                )
+            }
             At::Entry(block, word) if word < 4 => {
                 let spot = self.spot_of(seat, seat, block);
                 let first = spot.first;
                 (spot.strip, first + word)
             }
-            _ => (self.words.strip(), self.place_in(at)),
-        }
-    }
-
-    /// Where the word of a root or a slot lies.
-    fn place_in(&self, at: At) -> u64
-        ensures { IsNoBlocks at → IsItsPlace self.now.words.words self.now.words.id at result }
-    {
-        match at {
-            At::Root(root) if root < self.roots => root * 16,
-            At::Used(root) if root < self.roots => (self.roots + root) * 16,
-            At::Slot(slot, field) if slot < 32 && field < 2 => (self.roots + self.roots + slot) * 16
-                + field,
-            _ => 0,
+            _ => (self.words.strip(), 0),
         }
     }
 

@@ -33,9 +33,9 @@ impl<T, R: Rule<T>> Blocks<T, R> {
         ensures { IfSome result (λ p. IsPart self.now.words.id p (door + 1)) }
     {
         let strip = self.words.look(self.doors.at, door);
-        match NonNull::new(strip.words) {
+        let Place { at } = places_in(&strip);
+        match NonNull::new(at) {
             Some(_) => {
-                let Place { at } = places_in(&strip);
                 Some(Part {
                     strip,
                     values: at,
@@ -76,12 +76,11 @@ impl<T, R: Rule<T>> Blocks<T, R> {
             × (block_bytes T.row first < 2 ^ 63) × (first * stride T.row < 2 ^ 63) }
     {
         if let Ok((places, words, deed)) = lay_strip::<T>(&self.alloc, first as usize) {
-            let at = places.at;
-            let (found, left) = self
+            let (found, place, left) = self
                 .words
                 .offer(&last.strip, self.doors.at, door, places, words, deed);
             if let Err(_) = found {
-                take_back(&self.alloc, left, at, first as usize);
+                take_back(&self.alloc, left, place.at, first as usize);
             }
         }
     }

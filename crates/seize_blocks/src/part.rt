@@ -1,6 +1,5 @@
 //! A strip with what its numbers are found by.
 ghost use Rattle.std.specs.Prelude.{◌≡◌, ◌+◌, ◌*◌, ◌^◌, ◌<◌, ◌≤◌};
-ghost use denote.RawPtr.{InBlock};
 
 use crate::place::Place;
 use crate::strip::Strip;
@@ -26,9 +25,8 @@ pub(crate) struct Spot<T> {
     pub(crate) first: u64,
 }
 
-/// Where the places of a further strip lie: at its own address.
+/// Where the places of a further strip lie: at its own address, if it has one.
 pub(crate) fn places_in<T>(strip: &Strip<T>) -> Place<T>
-    requires { InBlock strip.now.words }
     ensures { result.at ≡ strip.now.words }
 {
     Place {

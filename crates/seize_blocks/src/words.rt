@@ -152,7 +152,7 @@ impl<T, R: Rule<T>> Words<T, R> {
         }
     }
 
-    /// Puts a further strip behind a door that is null. Whoever finds it set has the strip back.
+    /// Puts a further strip behind a door that is null. Whoever finds it set has the strip back, which lies there.
     pub(crate) fn offer(
         &self,
         last: &Strip<T>,
@@ -161,7 +161,7 @@ impl<T, R: Rule<T>> Words<T, R> {
         places: Row<Option<T>>,
         words: Row<u64>,
         deed: Deed<T, Global>,
-    ) -> (Result<*mut u64, *mut u64>, Alone<T>)
+    ) -> (Result<*mut u64, *mut u64>, Place<T>, Alone<T>)
         requires { (core_of last.now.id ≡ core_of self.now.id) × InBlock last.now.words × (last.now.id.place ≡ index)
             × (last.now.id.first + last.now.id.size ≡ deed.count) × (deed.count ≡ self.now.id.least * 2 ^ index)
             × (deed.count + deed.count ≤ self.now.id.count) × (doors ≡ self.now.id.doors) × (index < 32)
@@ -170,7 +170,7 @@ impl<T, R: Rule<T>> Words<T, R> {
             × Filled places.filled 0 (length places.items) × Filled words.filled 0 (length words.items)
             × ((k : ℕ) → slice_index_or places.items k None ≡ None) × ((k : ℕ) → slice_index words.items k ≡ 0)
             × (block_bytes T.row deed.count < 2 ^ 63) }
-        ensures { IfErr result.0 (λ _. HasFirst T.row places.at deed.count result.1.strips × (result.1.fresh ≡ true)) }
+        ensures { IfErr result.0 (λ _. HasFirst T.row result.1.at deed.count result.2.strips × (result.2.fresh ≡ true)) }
     {
         let Deed { marker: _ } = deed;
         let Row { at } = places;
@@ -186,6 +186,7 @@ impl<T, R: Rule<T>> Words<T, R> {
         };
         (
             found,
+            Place { at },
             Alone {
                 marker: PhantomData,
             },

@@ -14,8 +14,8 @@ use contract.Monad.{fact, fact_i}
 use denote.Exit.{yes}
 use denote.RattleType.{RattleType, owns}
 use denote.Signature.{types_at, plain}
-use denote.RawPtr.{Ptr, InBlock}
-use denote.Steps.{nothing, peeks, heard, looks, shuts}
+use denote.RawPtr.{Ptr}
+use denote.Steps.{nothing, peeks, looks, shuts}
 use denote.Laws.{Is, shows}
 use denote.Memory.{cell_at, hidden_shr}
 use denote.Param.{param, layouts}
@@ -45,9 +45,9 @@ places_in_spec 𝓤 𝓛 𝓜 𝓡 wired T L =
     proved 𝓛 En hs c 𝓜 𝓡 (Goes-dropped 𝓛 2 self yes (λ κs x f. refl), tt) (#self inst) fn (code.unfolded 𝓤 H 𝓜 𝓡 wired (T, tt))
     (λ κs. (shr_vals, tt)) (λ κs. (shr_Tells (named 0) κs.0 St, tt)) (λ κs qs bounds a gh are.
     let b : ℕ = a.0.ref_ptr.0 in let o : ℕ = a.0.ref_ptr.1 in let κ : Lft = κs.0 in let t : St.Denot = a.0.now in let p : Ptr = t.words in let z : BaseId = t.id in
-    let others : Fml = fsep (flft κs.1.0 qs.1.0) ftrue in let Asked : Type 0 = InBlock p in
+    let others : Fml = fsep (flft κs.1.0 qs.1.0) ftrue in
     let y : (walk_of 𝓛 En hs c).Ghost = ((κs, qs, bounds, a, (vptr b o ∷ [], tt)), gh) in let Post : Val → SProp 𝓤 = (walk_of 𝓛 En hs c).post y in
-    qed 𝓛 (((‵ (flft κs.0 qs.0) ⊛ ‵ others) ⊛ ‵ (owns (types_at En.signature.params κs) a y.0.4)) ∷ raw (fact 𝓤 _) ∷ raw (fact 𝓤 Asked) ∷ []) ∵
+    qed 𝓛 (((‵ (flft κs.0 qs.0) ⊛ ‵ others) ⊛ ‵ (owns (types_at En.signature.params κs) a y.0.4)) ∷ raw (fact 𝓤 _) ∷ raw (emp 𝓤) ∷ []) ∵
     keep ! (0 ∷ []) $ split ! $ split ! $ move ! (2 ∷ []) $ fsplit ! $ fsplit ! $ keep ! (1 ∷ 3 ∷ 4 ∷ []) $
     enter ! 𝓣.C 𝓣.Λ fn (vptr b o ∷ []) Post $ alloc_all ! (λ l. pass_all ! refl ((tt, tt), tt) $
     use1 𝓛 (‵ (hidden_shr D κ (p, (tt, tt)) b o) ⊛ ‵ (fhide (strip_told R p z)))
@@ -60,7 +60,7 @@ places_in_spec 𝓤 𝓛 𝓜 𝓡 wired T L =
     sets ! (of_opd ! (load ! (through ! refl (fld ! refl (stop !))) (look_in ! 1 (sub ! 0 refl (whole !))))) refl (Ptr-Good p) $
     rewrite ! 1 (λ (ws : List Val). ‵ (cell_at q D.mir ws b o)) (sym ev) refl $ move ! (1 ∷ 0 ∷ 2 ∷ []) $ shuts ! tt D q (p, (tt, tt)) vs b o $
     -- [the token; the address; the others]
-    sets ! (agg ! (and_then ! (get ! refl) (no_more !))) refl (one_good p) $ let r : Pl.Denot = record { at = p } in let Told : Type 0 = p ≡ p in
+    sets ! (of_opd ! (get ! refl)) refl (Ptr-Good p) $ sets ! (agg ! (and_then ! (get ! refl) (no_more !))) refl (one_good p) $ let r : Pl.Denot = record { at = p } in let Told : Type 0 = p ≡ p in
     use0 𝓛 (‵ (Pl.own_val r (one_of p ∷ []))) (place_made R 𝓛 p) $ nothing ! $ nothing ! $ fjoin ! $ move ! (2 ∷ 4 ∷ []) $ join ! $
     use0 𝓛 (raw (fact 𝓤 Told)) (fact_i 𝓤 Told (emp 𝓤) refl) $
     returns ! (look_at ! 0 refl) $ free_all ! refl $ keep ! (1 ∷ 2 ∷ 3 ∷ 0 ∷ []) $ by ! (leaves 𝓛 En hs c y (one_of p) r (tt, tt) (tt, tt))))))

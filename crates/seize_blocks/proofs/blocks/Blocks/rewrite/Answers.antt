@@ -2,8 +2,8 @@ use Rattle.seize_words.specs.Op.{Rewrite}
 use Rattle.seize_blocks.proofs.By.{on_rewrite}
 use Rattle.seize_blocks.proofs.blocks.Blocks.rewrite.Goals as goal
 
-pub spot_of-requires-clause-shown : goal.spot_of-requires-clause-shown
-spot_of-requires-clause-shown g c = λ t so is _. (c.requires.alone t so is).0
+pub spot_of-spot-requires-clause-shown : goal.spot_of-spot-requires-clause-shown
+spot_of-spot-requires-clause-shown g c = λ t so is _. (c.requires.alone t so is).0
 
 pub rewrite-requires : goal.rewrite-requires
 rewrite-requires g c = let s = c.spot_of-spot in

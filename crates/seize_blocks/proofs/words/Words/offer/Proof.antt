@@ -1,6 +1,6 @@
 -- `offer` exchanges null at a door for the address of a strip: the strip joins, or it comes back.
 use Rattle.std.specs.Prelude.{slice_index, slice_index_or}
-use Rattle.std.proofs.Common.{◌≡◌, ℕ, ◌+◌, ◌*◌, ◌^◌, ◌<◌, ◌≤◌, Bool, true, List, [], ◌∷◌, length, replicate, sym, refl, ap, ◌∙◌, subst, w64, arith, Option, None, IfErr}
+use Rattle.std.proofs.Common.{◌≡◌, ℕ, ◌+◌, ◌*◌, ◌^◌, ◌<◌, ◌≤◌, Bool, true, List, [], ◌∷◌, length, replicate, sym, refl, ap, ◌∙◌, subst, w64, arith, Option, None}
 use Rattle.std.proofs.lemmas.List.{length-replicate}
 use mir.Syntax.{dcons, dnil, a_type, named}
 use mir.MapTy.{inst_fn}
@@ -58,7 +58,8 @@ use Rattle.seize_blocks.specs.contracts.strip.Strip as strip
 use Rattle.seize_blocks.specs.contracts.row.Row as row
 use Rattle.seize_blocks.specs.contracts.plot.Deed as deed_of
 use Rattle.seize_blocks.specs.contracts.plot.Alone as alone_of
-use Rattle.seize_blocks.proofs.Fields.{token, word_laws, Data, Mark, mark_told, mark_made, one_of, one_good, places_told, found_good, answer_made}
+use Rattle.seize_blocks.specs.contracts.place.Place as place
+use Rattle.seize_blocks.proofs.Fields.{token, word_laws, Data, Mark, mark_told, mark_made, one_of, one_good, places_told, place_made, found_good, answer_made}
 use Rattle.seize_blocks.proofs.Placing.{full_is, Fits, whole_out, Roomy, values_out, nones_are}
 use Rattle.seize_blocks.proofs.Plotted.{plot}
 use Rattle.seize_blocks.specs.contracts.words.Words.offer.{ended, clauses}
@@ -75,7 +76,7 @@ offer_spec 𝓤 𝓛 𝓜 𝓡 wired X P U F LX LP LU LF g d _ =
     let Row : RattleType = words.the_row R₀ R₁ R₂ R₃ g in let St : RattleType = strip.the_row R₀ in let D : RattleType = Data R₀ R₁ R₂ R₃ g in
     let Ds : RattleType = Struct (shape (strip.the_type R₀)) in let O : RattleType = OptionOf R₀ in let Gl : RattleType = heap.the_row in
     let Rv : RattleType = row.the_row O in let Rw : RattleType = row.the_row u64 in let Dd : RattleType = deed_of.the_row R₀ Gl ghosts in
-    let Lo : RattleType = alone_of.the_row R₀ in
+    let Lo : RattleType = alone_of.the_row R₀ in let Pl : RattleType = place.the_row R₀ in
     let self = RefOf (0 ∷ []) tt (plain (λ _. Row)) (λ _. tt) in let other = RefOf (1 ∷ []) tt (plain (λ _. St)) (λ _. tt) in
     let addr = plain (λ _. RawPtr) in let num = plain (λ _. u64) in let kept = plain (λ _. Rv) in let sixty = plain (λ _. Rw) in let right = plain (λ _. Dd) in
     let hs : Stays En.signature.params En.kept = (
@@ -169,7 +170,7 @@ offer_spec 𝓤 𝓛 𝓜 𝓡 wired X P U F LX LP LU LF g d _ =
     move ! (2 ∷ 0 ∷ []) $ fjoin ! $ move ! (1 ∷ 0 ∷ []) $ fjoin ! $
     -- [the strip; the strip before; the invariant; its lifetime lasts; the two tokens; the others]
     let is : IsFurther R₀ z.least j s = (tt, test, refl, refl, asked.4, refl, asked.17) in
-    let prior : Strip = strip_of q y in
+    let prior : Strip = strip_of q y in let r₁ : Pl.Denot = record { at = p' } in
     let at_d : pd ≡ pd' = asked.6 ∙ at_block z.doors there.4 in let few = asked.7 in let small : j * 8 < 2 ^ 64 = omega (arith, few) in
     suffices ! (Run (us (pd', p'))) (subst (λ (r : Ptr × Ptr). ent 𝓤 (Run (us (pd', p'))) (Run (us r))) (λ i. (sym at_d i, sym at_p i)) (id⊢ 𝓤 (Run (us (pd', p'))))) $
     enter ! 𝓣.C 𝓣.Λ fn (us (pd', p')) Post $
@@ -191,42 +192,48 @@ offer_spec 𝓤 𝓛 𝓜 𝓡 wired X P U F LX LP LU LF g d _ =
     sets ! (agg ! (and_then ! (lit ! tt) (no_more !))) refl seq_cst_good $ sets ! (agg ! (and_then ! (lit ! tt) (no_more !))) refl seq_cst_good $
     Calls-last ! (fm 𝓛 𝓜 𝓡) (answered 𝓛 won lost) (and_then ! (get ! refl) (and_then ! (lit ! tt) (and_then ! (get ! refl) (and_then ! (get ! refl)
     (and_then ! (get ! refl) (no_more !)))))) (λ v. hears ! won lost
-    (λ r. let found : Val = answer_val (Ok r) in let good = found_good (Ok r) in let pair : Val = vstruct (vcons found (vcons token vnil)) in
+    (λ r. let found : Val = answer_val (Ok r) in let good = found_good (Ok r) pb po in let pair : Val = vstruct (vcons found (vcons (one_of p') (vcons token vnil))) in
     lands_last ! refl (answer_good (Ok r)) $ exec ! 𝓣.C 𝓣.Λ Ev (tail (tail fn.body)) (at_ret Ev Post) $
-    sets ! (of_opd ! (get ! refl)) refl (answer_good (Ok r)) $ sets ! (agg ! (no_more !)) refl (tt, tt) $
-    sets ! (agg ! (and_then ! (get ! refl) (no_more !))) refl (tt, (tt, tt)) $ sets ! (agg ! (and_then ! (get ! refl) (and_then ! (get ! refl) (no_more !)))) refl good $
+    sets ! (of_opd ! (get ! refl)) refl (answer_good (Ok r)) $ sets ! (agg ! (and_then ! (get ! refl) (no_more !))) refl (tt, (tt, tt)) $ sets ! (agg ! (no_more !)) refl (tt, tt) $
+    sets ! (agg ! (and_then ! (get ! refl) (no_more !))) refl (tt, (tt, tt)) $
+    sets ! (agg ! (and_then ! (get ! refl) (and_then ! (get ! refl) (and_then ! (get ! refl) (no_more !))))) refl good $
     fsplit ! $ move ! (2 ∷ 0 ∷ []) $ obor_close ! tt $ drop ! $ move ! (1 ∷ []) $ drop ! $
     -- [the two tokens; the others]
-    let r₂ : Lo.Denot = record { marker = record {}; fresh = true; strips = [] } in let Told : Type 0 = IfErr (Ok r) (λ _. HasFirst R₀ p n [] × (true ≡ true)) in
+    let r₂ : Lo.Denot = record { marker = record {}; fresh = true; strips = [] } in let Told : Type 0 = Unit {0} in
     move ! (0 ∷ 1 ∷ 2 ∷ []) $ nothing ! $ use0 𝓛 (‵ ((Mark R₀).own_val (record {}, tt) (token ∷ []))) (mark_made R₀ 𝓛) $ fjoin ! $
-    nothing ! $ move ! (1 ∷ 0 ∷ []) $ fjoin ! $ use0 𝓛 (‵ (Answer.own_val (Ok r) (found ∷ []))) (answer_made 𝓛 (Ok r)) $ fjoin ! $
+    nothing ! $ move ! (1 ∷ 0 ∷ []) $ fjoin ! $ use0 𝓛 (‵ (Pl.own_val r₁ (one_of p' ∷ []))) (place_made R₀ 𝓛 p') $ fjoin ! $
+    use0 𝓛 (‵ (Answer.own_val (Ok r) (found ∷ []))) (answer_made 𝓛 (Ok r)) $ fjoin ! $
     feq_i ! (List Val) (pair ∷ []) (pair ∷ []) refl $ fjoin ! $
-    fpack ! (Valss (Answer ∷ Lo ∷ [])) (within (declared.shape (tuple_type (Answer ∷ Lo ∷ []))) (Ok r, (r₂, tt)) (pair ∷ [])) (found ∷ [], (token ∷ [], tt)) $
+    fpack ! (Valss (Answer ∷ Pl ∷ Lo ∷ [])) (within (declared.shape (tuple_type (Answer ∷ Pl ∷ Lo ∷ []))) (Ok r, (r₁, (r₂, tt))) (pair ∷ []))
+    (found ∷ [], (one_of p' ∷ [], (token ∷ [], tt))) $
     nothing ! $ nothing ! $ fjoin ! $ nothing ! $ fjoin ! $ nothing ! $ fjoin ! $ nothing ! $ fjoin ! $ nothing ! $ fjoin ! $ nothing ! $ fjoin ! $
     nothing ! $ fjoin ! $
     -- [what stays; what is answered; the two tokens; the others]
     move ! (3 ∷ 4 ∷ []) $ join ! $ move ! (3 ∷ 0 ∷ []) $ join ! $ use0 𝓛 (raw (fact 𝓤 Told)) (fact_i 𝓤 Told (emp 𝓤) tt) $
     returns ! (look_at ! 0 refl) $ free_all ! refl $ keep ! (1 ∷ 2 ∷ 3 ∷ 0 ∷ []) $
-    by ! (leaves 𝓛 En hs c y' pair (Ok r, r₂) (tt, (tt, (tt, (tt, (tt, (tt, (tt, tt))))))) (tt, (tt, (tt, (tt, (tt, (tt, (tt, tt)))))))))
-    (λ r. let found : Val = answer_val (Err r) in let good = found_good (Err r) in let pair : Val = vstruct (vcons found (vcons token vnil)) in
+    by ! (leaves 𝓛 En hs c y' pair (Ok r, r₁, r₂) (tt, (tt, (tt, (tt, (tt, (tt, (tt, tt))))))) (tt, (tt, (tt, (tt, (tt, (tt, (tt, tt)))))))))
+    (λ r. let found : Val = answer_val (Err r) in let good = found_good (Err r) pb po in let pair : Val = vstruct (vcons found (vcons (one_of p') (vcons token vnil))) in
     lands_last ! refl (answer_good (Err r)) $ exec ! 𝓣.C 𝓣.Λ Ev (tail (tail fn.body)) (at_ret Ev Post) $
-    sets ! (of_opd ! (get ! refl)) refl (answer_good (Err r)) $ sets ! (agg ! (no_more !)) refl (tt, tt) $
-    sets ! (agg ! (and_then ! (get ! refl) (no_more !))) refl (tt, (tt, tt)) $ sets ! (agg ! (and_then ! (get ! refl) (and_then ! (get ! refl) (no_more !)))) refl good $
+    sets ! (of_opd ! (get ! refl)) refl (answer_good (Err r)) $ sets ! (agg ! (and_then ! (get ! refl) (no_more !))) refl (tt, (tt, tt)) $ sets ! (agg ! (no_more !)) refl (tt, tt) $
+    sets ! (agg ! (and_then ! (get ! refl) (no_more !))) refl (tt, (tt, tt)) $
+    sets ! (agg ! (and_then ! (get ! refl) (and_then ! (get ! refl) (and_then ! (get ! refl) (no_more !))))) refl good $
     fsplit ! $ move ! (2 ∷ 0 ∷ []) $ obor_close ! tt $ drop ! $ move ! (1 ∷ []) $ fsplit ! $ move ! (1 ∷ []) $ drop ! $ fsplit3 ! $ move ! (2 ∷ []) $
     -- [the right; the words; the places; the two tokens; the others]
-    let r₂ : Lo.Denot = record { marker = record {}; fresh = true; strips = s ∷ [] } in let Told : Type 0 = HasFirst R₀ p n (s ∷ []) × (true ≡ true) in
+    let r₂ : Lo.Denot = record { marker = record {}; fresh = true; strips = s ∷ [] } in let Told : Type 0 = HasFirst R₀ p' n (s ∷ []) × (true ≡ true) in
     let u₁ : List ℕ × List (Option X.Denot) = (fives n, replicate n None) in
     let Parts : List ℕ × List (Option X.Denot) → Fml = λ f. fsep (so (AreOf R₀ true s f)) (fsep (Owned.row pb (before R₀ n * 8 + po) f.0) (Owned.places R₀ pb po f.1)) in
     move ! (1 ∷ 2 ∷ []) $ fjoin ! $ nothing ! $ fpack ! (AreOf R₀ true s u₁) (λ _. ftrue) (fives_long n, length-replicate n None, λ _. refl) $ fjoin ! $
     fpack ! (List ℕ × List (Option X.Denot)) Parts u₁ $ fjoin ! $ nothing ! $ move ! (1 ∷ 0 ∷ []) $ fjoin ! $
     -- [all that come back; the two tokens; the others]
     use0 𝓛 (‵ ((Mark R₀).own_val (record {}, tt) (token ∷ []))) (mark_made R₀ 𝓛) $ fjoin ! $
-    nothing ! $ move ! (1 ∷ 0 ∷ []) $ fjoin ! $ use0 𝓛 (‵ (Answer.own_val (Err r) (found ∷ []))) (answer_made 𝓛 (Err r)) $ fjoin ! $
+    nothing ! $ move ! (1 ∷ 0 ∷ []) $ fjoin ! $ use0 𝓛 (‵ (Pl.own_val r₁ (one_of p' ∷ []))) (place_made R₀ 𝓛 p') $ fjoin ! $
+    use0 𝓛 (‵ (Answer.own_val (Err r) (found ∷ []))) (answer_made 𝓛 (Err r)) $ fjoin ! $
     feq_i ! (List Val) (pair ∷ []) (pair ∷ []) refl $ fjoin ! $
-    fpack ! (Valss (Answer ∷ Lo ∷ [])) (within (declared.shape (tuple_type (Answer ∷ Lo ∷ []))) (Err r, (r₂, tt)) (pair ∷ [])) (found ∷ [], (token ∷ [], tt)) $
+    fpack ! (Valss (Answer ∷ Pl ∷ Lo ∷ [])) (within (declared.shape (tuple_type (Answer ∷ Pl ∷ Lo ∷ []))) (Err r, (r₁, (r₂, tt))) (pair ∷ []))
+    (found ∷ [], (one_of p' ∷ [], (token ∷ [], tt))) $
     nothing ! $ nothing ! $ fjoin ! $ nothing ! $ fjoin ! $ nothing ! $ fjoin ! $ nothing ! $ fjoin ! $ nothing ! $ fjoin ! $ nothing ! $ fjoin ! $
     nothing ! $ fjoin ! $
     move ! (3 ∷ 4 ∷ []) $ join ! $ move ! (3 ∷ 0 ∷ []) $ join ! $
-    use0 𝓛 (raw (fact 𝓤 Told)) (fact_i 𝓤 Told (emp 𝓤) ((sym at_p, asked.9, sym at_p, refl, refl), refl)) $
+    use0 𝓛 (raw (fact 𝓤 Told)) (fact_i 𝓤 Told (emp 𝓤) ((refl, tt, refl, refl, refl), refl)) $
     returns ! (look_at ! 0 refl) $ free_all ! refl $ keep ! (1 ∷ 2 ∷ 3 ∷ 0 ∷ []) $
-    by ! (leaves 𝓛 En hs c y' pair (Err r, r₂) (tt, (tt, (tt, (tt, (tt, (tt, (tt, tt))))))) (tt, (tt, (tt, (tt, (tt, (tt, (tt, tt))))))))))))))))))
+    by ! (leaves 𝓛 En hs c y' pair (Err r, r₁, r₂) (tt, (tt, (tt, (tt, (tt, (tt, (tt, tt))))))) (tt, (tt, (tt, (tt, (tt, (tt, (tt, tt))))))))))))))))))

@@ -1,5 +1,5 @@
 use Rattle.seize_blocks.specs.Parts.{IsPart}
-use Rattle.seize_blocks.proofs.numbers.Blocks.anywhere.Given as goal
+use Rattle.seize_blocks.proofs.blocks.Blocks.anywhere.Given as goal
 
 -- the strip is that of this place
 abbrev pub invariant-loop-door : goal.invariant-loop-door
