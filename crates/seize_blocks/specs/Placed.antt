@@ -30,16 +30,3 @@ HasWord {T} {V} {W} holds id v at = (s : State T V W) → holds s → view_of s 
 -- the number of this index is one of the strip behind this door, and so many come before those of the strip
 abbrev pub IsBehind : ℕ → ℕ → ℕ → ℕ → Type 0
 IsBehind least index door first = (first ≡ least * 2 ^ door) × (first ≤ index) × (index < first * 2) × (door < 32)
-
--- of so many places none is full
-abbrev pub AreEmpty : List Bool → ℕ → Type 0
-AreEmpty fs n = (k : ℕ) → k < n → slice_index_or fs k false ≡ false
-
--- of so many places each is full
-abbrev pub all_full : ℕ → List Bool
-all_full n = replicate n true
-
--- the first of these strips lies there, and has so many numbers
-abbrev pub HasFirst : RattleType → Ptr → ℕ → List Strip → Type 0
-HasFirst R p n [] = ⊥
-HasFirst R p n (s ∷ ss) = (s.words ≡ p) × InBlock p × (s.values ≡ p) × (s.skip ≡ before R n) × (s.size ≡ n)

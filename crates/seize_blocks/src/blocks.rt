@@ -109,12 +109,13 @@ impl<T, R: Rule<T>> Blocks<T, R> {
         }
         let (door, first) = self.door_of(block - 1);
         let strip = self.words.find(guard, owner, block, self.doors.at, door);
-        let Place { at } = places_in(&strip);
+        let place = places_in(&strip);
+        let values = place.at;
         let skip = skip_of::<T>(first as usize) as u64;
         let index = block - 1 - first;
         Spot {
             strip,
-            values: at,
+            values,
             index,
             first: index * 5 + skip,
         }
@@ -249,8 +250,7 @@ impl<T, R: Rule<T>> Blocks<T, R> {
         ensures same { (seat.new.base ≡ seat.old.base) × (seat.new.id ≡ seat.old.id) }
         ensures goes { R.then seat.old.view (Make value words) (Made result) seat.new.view }
     {
-        let claimed = if words == 0 { self.number() } else { None };
-        match claimed {
+        match self.number(words) {
             Some((part, index, claim)) => {
                 self.words
                     .by(&part.strip)

@@ -6,7 +6,7 @@ ghost use Rattle.core.specs.Mem.Slots.Ownership.{Filled};
 ghost use Rattle.seize_seats.specs.State.{Starts};
 ghost use Rattle.seize_seats.specs.Lines.{whole};
 ghost use Rattle.seize_seats.specs.Doors.{IsFurther, AreBehind};
-ghost use Rattle.seize_blocks.specs.Placed.{AreEmpty};
+ghost use Rattle.seize_seats.specs.Plots.{AreEmpty};
 
 use crate::blocks::{Blocks, MOST};
 use crate::place::{Doors, Place};

@@ -7,11 +7,18 @@ ghost use Rattle.seize_blocks.specs.Parts.{IsHad, IsPart, IsClaimed};
 use crate::blocks::{Blocks, MOST};
 use crate::claim::Claim;
 use crate::part::{Part, places_in};
-use crate::place::Place;
 use crate::plot::{fits, lay_strip, skip_of, take_back};
 use crate::rule::Rule;
 use std::ptr::NonNull;
 use std::sync::atomic::Ordering::SeqCst;
+
+/// The index itself, or the first one where there are not so many.
+fn within(index: u64, count: u64) -> u64
+    requires { 0 < count }
+    ensures { result < count }
+{
+    if index < count { index } else { 0 }
+}
 
 impl<T, R: Rule<T>> Blocks<T, R> {
     /// The first strip.
@@ -33,15 +40,17 @@ impl<T, R: Rule<T>> Blocks<T, R> {
         ensures { IfSome result (λ p. IsPart self.now.words.id p (door + 1)) }
     {
         let strip = self.words.look(self.doors.at, door);
-        let Place { at } = places_in(&strip);
-        match NonNull::new(at) {
+        let place = places_in(&strip);
+        match NonNull::new(place.at) {
             Some(_) => {
+                let skip = skip_of::<T>(first as usize) as u64;
+                let values = place.at;
                 Some(Part {
                     strip,
-                    values: at,
+                    values,
                     first,
                     count: first,
-                    skip: skip_of::<T>(first as usize) as u64,
+                    skip,
                 })
             }
             None => None,
@@ -93,7 +102,7 @@ impl<T, R: Rule<T>> Blocks<T, R> {
     {
         let mut next = from;
         for _ in 0..part.count {
-            let index = if next < part.count { next } else { 0 };
+            let index = within(next, part.count);
             let (found, claim) = self
                 .words
                 .by(&part.strip)
@@ -107,7 +116,22 @@ impl<T, R: Rule<T>> Blocks<T, R> {
         None
     }
 
-    /// A number of the strip in which the last one was claimed, if one is free from that one on or before it.
+    /// The strip of a number, if it is there.
+    fn part_of(&self, number: u64) -> Option<Part<T>>
+        requires { number < 2 ^ 32 }
+        ensures { IfSome result (λ p. IsHad self.now.words.id p) }
+    {
+        if number < self.count {
+            return Some(self.first_part());
+        }
+        let (door, first) = self.door_of(number);
+        if first > MOST / 2 {
+            return None;
+        }
+        self.part_behind(door, first)
+    }
+
+    /// A number of the strip in which the last one was claimed, if one is free there.
     fn near(&self) -> Option<(Part<T>, u64, Claim)>
         ensures { IfSome result (λ c. IsClaimed self.now.words.id c) }
     {
@@ -115,19 +139,10 @@ impl<T, R: Rule<T>> Blocks<T, R> {
         if from >= MOST {
             return None;
         }
-        let (part, index) = if from < self.count {
-            (self.first_part(), from)
-        } else {
-            let (door, first) = self.door_of(from);
-            if first > MOST / 2 {
-                return None;
-            }
-            match self.part_behind(door, first) {
-                Some(part) => (part, from - first),
-                None => return None,
-            }
+        let Some(part) = self.part_of(from) else {
+            return None;
         };
-        match self.claim_in(&part, index) {
+        match self.claim_in(&part, from.wrapping_sub(part.first)) {
             Some((index, claim)) => Some((part, index, claim)),
             None => None,
         }
@@ -150,10 +165,13 @@ impl<T, R: Rule<T>> Blocks<T, R> {
         None
     }
 
-    /// A number that was free and is claimed now, with its strip and its index in it.
-    pub(crate) fn number(&self) -> Option<(Part<T>, u64, Claim)>
-        ensures { IfSome result (λ c. IsClaimed self.now.words.id c) }
+    /// A number that was free and is claimed now, with its strip and its index in it, for a block without words of its own.
+    pub(crate) fn number(&self, words: u64) -> Option<(Part<T>, u64, Claim)>
+        ensures { IfSome result (λ c. (words ≡ 0) × IsClaimed self.now.words.id c) }
     {
+        if words != 0 {
+            return None;
+        }
         match self.near() {
             Some(claimed) => Some(claimed),
             None => self.anywhere(),

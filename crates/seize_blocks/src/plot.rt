@@ -9,7 +9,7 @@ ghost use Rattle.core.specs.Mem.Slots.Ownership.{Filled};
 ghost use Rattle.seize_seats.specs.Strips.{Strip, strip_coded, further};
 ghost use Rattle.seize_seats.specs.Doors.{before, block_bytes, words_from, deed};
 ghost use Rattle.seize_seats.specs.Owned.{stride, all_alone};
-ghost use Rattle.seize_blocks.specs.Placed.{AreEmpty, HasFirst};
+ghost use Rattle.seize_seats.specs.Plots.{AreEmpty, HasFirst};
 
 use crate::home::{drain, empty, fill};
 use crate::row::Row;

@@ -2,7 +2,7 @@
 ghost use Rattle.std.specs.Prelude.{◌≡◌, Bool, List, length};
 ghost use Rattle.core.specs.Mem.Slots.{slots_items, slots_filled, slots_ptr, slots_len, IsFull};
 ghost use Rattle.core.specs.Mem.Slots.Ownership.{owned, Filled};
-ghost use Rattle.seize_blocks.specs.Placed.{AreEmpty};
+ghost use Rattle.seize_seats.specs.Plots.{AreEmpty};
 
 use core::slots::Slots;
 use std::marker::Model;

@@ -9,7 +9,8 @@ ghost use Rattle.seize_seats.specs.Doors.{before, block_bytes, words_from, IsFur
 ghost use Rattle.seize_seats.specs.Steps.{roomed};
 ghost use Rattle.seize_seats.specs.Lendings.{ShownToBoth, IsValueOfBoth};
 ghost use Rattle.seize_seats.specs.Owned.{BaseId, base_id_coded, core_of, stride, IsFirst, IsLike, words_own, words_share};
-ghost use Rattle.seize_blocks.specs.Placed.{IsItsPlace, IsItsSign, IsItsIndex, HasFirst};
+ghost use Rattle.seize_blocks.specs.Placed.{IsItsPlace, IsItsSign, IsItsIndex};
+ghost use Rattle.seize_seats.specs.Plots.{HasFirst};
 
 use crate::claim::Claim;
 use crate::place::{Doors, Place};

@@ -28,3 +28,8 @@ pub mod Shares
 pub mod Shown
 pub mod Rooms
 pub mod Sent
+pub mod Slotted
+pub mod Holes
+pub mod Plotted
+pub mod Behind
+pub mod Exchanged

@@ -3,8 +3,8 @@ use denote.Param.{param}
 use denote.RawPtr.{Ptr, InBlock}
 use Rattle.core.specs.Mem.Slots.{slots_items, slots_filled, slots_len, slots_counts}
 use Rattle.seize_seats.specs.Strips.{Strip}
-use Rattle.seize_blocks.specs.Placed.{HasFirst}
-use Rattle.seize_blocks.proofs.Behind.{Behind, behind, doubles, doubled, full_behind}
+use Rattle.seize_seats.specs.Plots.{HasFirst}
+use Rattle.seize_seats.proofs.Behind.{Behind, behind, doubles, doubled, full_behind}
 use Rattle.seize_blocks.proofs.home.clear.Goals as goal
 
 pub loop-door-init : goal.loop-door-init

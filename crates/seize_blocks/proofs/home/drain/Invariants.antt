@@ -1,7 +1,7 @@
 use Rattle.std.proofs.Common.{◌≡◌}
 use Rattle.core.specs.Mem.Slots.{slots_filled, slots_ptr, slots_len}
 use Rattle.core.specs.Mem.Slots.Ownership.{Filled}
-use Rattle.seize_blocks.specs.Placed.{AreEmpty}
+use Rattle.seize_seats.specs.Plots.{AreEmpty}
 use Rattle.seize_blocks.proofs.home.drain.Given as goal
 
 -- the places from here on hold what they held, and those before hold none

@@ -34,13 +34,13 @@ use Rattle.std.proofs.raw_atomic.Walks.{proved, leaves}
 use Rattle.std.proofs.raw_atomic.Calls.{fm}
 use Rattle.seize_seats.specs.Doors.{block_type, block_bytes, words_from, deed}
 use Rattle.seize_seats.proofs.Plots.{laid_out}
-use Rattle.seize_blocks.specs.Placed.{AreEmpty, all_full}
+use Rattle.seize_seats.specs.Plots.{AreEmpty, all_full}
 use Rattle.seize_blocks.specs.contracts.row.Row as row
 use Rattle.seize_blocks.specs.contracts.plot.Deed as deed_of
 use Rattle.seize_blocks.proofs.Fields.{token, mark_told, one_of, one_good, places_told}
 use Rattle.seize_seats.specs.Owned.{stride}
-use Rattle.seize_blocks.proofs.Placing.{full_is, Whole}
-use Rattle.seize_blocks.proofs.Plotted.{whole as whole_again}
+use Rattle.seize_seats.proofs.Slotted.{full_is, Whole}
+use Rattle.seize_seats.proofs.Plotted.{whole as whole_again}
 use Rattle.seize_blocks.specs.contracts.plot.release.{ended, clauses}
 use Rattle.seize_blocks.specs.contracts.plot.release.Key.{name as #self}
 use Rattle.seize_blocks.proofs.plot.release.Statement.{statement}

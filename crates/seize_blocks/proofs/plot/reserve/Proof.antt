@@ -45,7 +45,7 @@ use Rattle.seize_seats.proofs.Plots.{fits, laid_out}
 use Rattle.seize_blocks.specs.contracts.row.Row as row
 use Rattle.seize_blocks.specs.contracts.plot.Deed as deed_of
 use Rattle.seize_blocks.proofs.Fields.{token, Mark, mark_made, one_of, Places, places_made}
-use Rattle.seize_blocks.proofs.Plotted as plotted
+use Rattle.seize_seats.proofs.Plotted as plotted
 use Rattle.seize_blocks.specs.contracts.plot.reserve.{ended, clauses}
 use Rattle.seize_blocks.specs.contracts.plot.reserve.Key.{name as #self}
 use Rattle.seize_blocks.proofs.plot.reserve.Statement.{statement}

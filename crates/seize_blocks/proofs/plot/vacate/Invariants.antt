@@ -2,7 +2,7 @@ use Rattle.std.proofs.Common.{◌≡◌, ℕ, None}
 use Rattle.std.specs.Prelude.{slice_index_or}
 use Rattle.core.specs.Mem.Slots.{slots_items, slots_filled, slots_ptr, slots_len}
 use Rattle.core.specs.Mem.Slots.Ownership.{Filled}
-use Rattle.seize_blocks.specs.Placed.{AreEmpty}
+use Rattle.seize_seats.specs.Plots.{AreEmpty}
 use Rattle.seize_blocks.proofs.plot.vacate.Given as goal
 
 -- the places from here on are full, those before are not, and none has a value

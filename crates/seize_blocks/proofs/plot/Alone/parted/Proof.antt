@@ -38,13 +38,13 @@ use Rattle.seize_seats.specs.Strips.{Strip, further}
 use Rattle.seize_seats.specs.Doors.{before, block_bytes, words_from, deed}
 use Rattle.seize_seats.specs.Owned.{row, places, stride, stripped, alone, all_alone}
 use Rattle.seize_seats.proofs.Plots.{fits}
-use Rattle.seize_blocks.specs.Placed.{HasFirst, all_full}
+use Rattle.seize_seats.specs.Plots.{HasFirst, all_full}
 use Rattle.seize_blocks.specs.contracts.row.Row as row_of
 use Rattle.seize_blocks.specs.contracts.plot.Deed as deed_of
 use Rattle.seize_blocks.specs.contracts.plot.Alone as alone_of
 use Rattle.seize_blocks.proofs.Fields.{token, Mark, mark_told, mark_made, one_of, Places, places_made}
-use Rattle.seize_blocks.proofs.Placing.{nones_of, Whole, whole_in, Values, values_in, are_full}
-use Rattle.seize_blocks.proofs.Plotted.{plot, first_is}
+use Rattle.seize_seats.proofs.Slotted.{nones_of, Whole, whole_in, Values, values_in, are_full}
+use Rattle.seize_seats.proofs.Plotted.{plot, first_is}
 use Rattle.seize_blocks.specs.contracts.plot.Alone.parted.{ended, clauses}
 use Rattle.seize_blocks.specs.contracts.plot.Alone.parted.Key.{name as #self}
 use Rattle.seize_blocks.proofs.plot.Alone.parted.Statement.{statement}

@@ -29,7 +29,7 @@ use Rattle.core.proofs.mem.Param.{El}
 use Rattle.core.proofs.slots.Opens.{Sr, row_val, row_had, row_made}
 use Rattle.std.proofs.raw_atomic.Walks.{proved_at, leaves}
 use Rattle.std.proofs.raw_atomic.Calls.{fm}
-use Rattle.seize_blocks.specs.Placed.{AreEmpty}
+use Rattle.seize_seats.specs.Plots.{AreEmpty}
 use Rattle.seize_blocks.specs.contracts.row.Row as row
 use Rattle.seize_blocks.proofs.Fields.{one_of, Places, places_made}
 use Rattle.seize_blocks.proofs.Placing.{is_pair, parted, parts}

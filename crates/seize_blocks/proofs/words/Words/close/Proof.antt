@@ -30,15 +30,15 @@ use Rattle.core.specs.Mem.Slots.Ownership.{Filled}
 use Rattle.std.proofs.lemmas.List.{length-replicate}
 use Rattle.seize_seats.specs.Strips.{Strip}
 use Rattle.seize_seats.specs.Owned.{BaseId, IsFirst, stride, places, all_alone}
-use Rattle.seize_blocks.specs.Placed.{all_full}
+use Rattle.seize_seats.specs.Plots.{all_full}
 use Rattle.seize_seats.specs.Owned as Owned
 use Rattle.seize_seats.specs.Doors.{pointers, IsFurther, AreBehind}
 use Rattle.seize_blocks.specs.contracts.words.Words as words
 use Rattle.seize_blocks.specs.contracts.row.Row as row
 use Rattle.seize_blocks.specs.contracts.plot.Alone as alone
 use Rattle.seize_blocks.proofs.Fields.{token, hand_of, told, hand_good, one_of, one_good, closed_good, Mark, mark_made, Places, places_made}
-use Rattle.seize_blocks.proofs.Placing.{are_full, whole_in, Values, values_in, doorway_in}
-use Rattle.seize_blocks.proofs.Placing as Placing
+use Rattle.seize_seats.proofs.Slotted.{are_full, whole_in, Values, values_in, doorway_in}
+use Rattle.seize_seats.proofs.Slotted as Placing
 use Rattle.seize_seats.proofs.Opening.{AreClosed, closes}
 use Rattle.seize_blocks.specs.contracts.words.Words.close.{ended, clauses}
 use Rattle.seize_blocks.specs.contracts.words.Words.close.Key.{name as #self}

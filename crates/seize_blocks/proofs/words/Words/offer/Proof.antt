@@ -52,7 +52,7 @@ use Rattle.seize_seats.proofs.Shown.{placed, told_there}
 use Rattle.seize_seats.proofs.Opening.{fives, fives_are, fives_long}
 use Rattle.seize_seats.proofs.Plots.{tested}
 use Rattle.seize_seats.proofs.Offers as Offers
-use Rattle.seize_blocks.specs.Placed.{HasFirst}
+use Rattle.seize_seats.specs.Plots.{HasFirst}
 use Rattle.seize_blocks.specs.contracts.words.Words as words
 use Rattle.seize_blocks.specs.contracts.strip.Strip as strip
 use Rattle.seize_blocks.specs.contracts.row.Row as row
@@ -60,8 +60,8 @@ use Rattle.seize_blocks.specs.contracts.plot.Deed as deed_of
 use Rattle.seize_blocks.specs.contracts.plot.Alone as alone_of
 use Rattle.seize_blocks.specs.contracts.place.Place as place
 use Rattle.seize_blocks.proofs.Fields.{token, word_laws, Data, Mark, mark_told, mark_made, one_of, one_good, places_told, place_made, found_good, answer_made}
-use Rattle.seize_blocks.proofs.Placing.{full_is, Fits, whole_out, Roomy, values_out, nones_are}
-use Rattle.seize_blocks.proofs.Plotted.{plot}
+use Rattle.seize_seats.proofs.Slotted.{full_is, Fits, whole_out, Roomy, values_out, nones_are}
+use Rattle.seize_seats.proofs.Plotted.{plot}
 use Rattle.seize_blocks.specs.contracts.words.Words.offer.{ended, clauses}
 use Rattle.seize_blocks.specs.contracts.words.Words.offer.Key.{name as #self}
 use Rattle.seize_blocks.proofs.words.Words.offer.Statement.{statement}

@@ -8,7 +8,7 @@ use Rattle.seize_seats.specs.Doors.{block_bytes, IsFurther, AreBehind}
 use Rattle.seize_seats.specs.Owned.{stride}
 use Rattle.seize_seats.proofs.Plots.{fits}
 use Rattle.core.specs.Mem.Slots.Ownership.{Filled}
-use Rattle.seize_blocks.specs.Placed.{HasFirst}
+use Rattle.seize_seats.specs.Plots.{HasFirst}
 
 split_at : (k : ℕ) (ps : List Ptr) (d : Ptr) → k < length ps → drop k ps ≡ slice_index_or ps k d ∷ drop (suc k) ps
 split_at k [] d lt = absurd (omega (arith, lt))

@@ -15,7 +15,7 @@ use denote.Steps.{nothing}
 use Rattle.core.specs.Mem.Slots.Ownership.{bytes_of, slot, slots}
 use Rattle.core.specs.Sync.RawAtomic.{word}
 use Rattle.seize_seats.specs.Owned.{row}
-use Rattle.seize_blocks.specs.Placed.{AreEmpty}
+use Rattle.seize_seats.specs.Plots.{AreEmpty}
 
 module _ {M : Type 1} {𝓤 : Ura M} (𝓛 : Logic 𝓤) (Y : RattleType) (b : ℕ) where
   open 𝓛 use {H}

@@ -17,9 +17,9 @@ use Rattle.seize_seats.specs.Strips.{Strip, further}
 use Rattle.seize_seats.specs.Doors.{places_type, words_type, block_type, before, block_bytes, words_from, fits_again, deed}
 use Rattle.seize_seats.specs.Owned.{stride, row}
 use Rattle.seize_seats.proofs.Plots.{fits, spreads, gathers}
-use Rattle.seize_blocks.specs.Placed.{HasFirst, AreEmpty, all_full}
-use Rattle.seize_blocks.proofs.Holes.{holes_out, holes_in, words_room}
-use Rattle.seize_blocks.proofs.Placing.{Whole, Fits, whole_out}
+use Rattle.seize_seats.specs.Plots.{HasFirst, AreEmpty, all_full}
+use Rattle.seize_seats.proofs.Holes.{holes_out, holes_in, words_room}
+use Rattle.seize_seats.proofs.Slotted.{Whole, Fits, whole_out}
 
 module _ (R : RattleType) where
   abbrev pub plot : Ptr → ℕ → ℕ → Strip
