@@ -22,8 +22,8 @@ use std::sync::atomic::AtomicU64;
 /// The most numbers that a memory has.
 pub(crate) const MOST: u64 = 4294967296;
 
-/// A memory that threads share under a rule. It has words of roots and of the slots of the first bucket, and numbers for so many blocks, which have no
-/// words of their own yet.
+/// A memory that threads share under a rule. It has words of roots and of the slots of the first bucket, and numbers for blocks, which have no words of
+/// their own yet: so many in the first strip, and as many again with each further one, which is laid where it is needed.
 pub struct Blocks<T, R: Rule<T>> {
     pub(crate) alloc: Global,
     pub words: Words<T, R>,

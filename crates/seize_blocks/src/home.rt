@@ -172,7 +172,7 @@ fn clear<T: Drop>(alloc: &Global, strips: Alone<T>, doors: &mut Slots<*mut u64>,
 }
 
 impl<T: Drop, R: Rule<T>> Home<T, R> {
-    /// A memory of so many roots, with no seat yet, and numbers for so many blocks, at least one. The slots have no words yet.
+    /// A memory of so many roots, with no seat yet, and numbers for so many blocks at first, at least one. The slots have no words yet.
     pub fn open(alloc: Global, roots: u64, count: u64, fixed: &R::Fixed) -> Result<Self, AllocError>
         requires few { (roots ≤ 65536) × (count ≤ 2 ^ 32) }
         requires starts { Starts (R.holds fixed.now) roots }
