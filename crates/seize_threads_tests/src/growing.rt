@@ -6,6 +6,7 @@ use seize_blocks::{Blocks, Home};
 use std::alloc::Global;
 use std::test::Fail;
 use std::thread;
+use std::thread::Threads;
 
 /// How many blocks each thread makes.
 const EACH: u64 = 250;
