@@ -8,8 +8,6 @@ mod crowd;
 #[cfg(test)]
 mod ground;
 #[cfg(test)]
-mod growing;
-#[cfg(test)]
 mod guards;
 #[cfg(test)]
 mod lending;
@@ -31,3 +29,5 @@ mod retiring;
 mod rewriting;
 #[cfg(test)]
 mod sections;
+#[cfg(test)]
+mod thousand;
