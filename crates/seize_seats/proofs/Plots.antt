@@ -2,6 +2,7 @@
 use Rattle.std.proofs.Common.{◌≡◌, ℕ, ◌+◌, ◌*◌, ◌/◌, ◌^◌, ◌<◌, max, [], ◌∷◌, refl, sym, ap, ◌∙◌, subst, arith, lit<, w8, w16, w32, w64}
 use seplogic.Ra.Ura.{Ura}
 use mir.Syntax.{Ty, Width, w128, ty_int, ty_array, ty_struct, tcons, tnil}
+use mir.Raw.{raw as bare}
 use mir.Val.{bytes}
 use prog.Memory.{size, align, capped, up}
 use prog.Capped.{capped_is}
@@ -96,7 +97,7 @@ module _ (R : RattleType) (n : ℕ) where
     open 𝓛 use {H}
 
     abbrev Places : ℕ → Fml
-    Places k = froom (places_type R n) b k
+    Places k = froom (bare (places_type R n)) b k
 
     abbrev Words : ℕ → Fml
     Words k = froom (words_type R (n * 5)) b k
@@ -105,7 +106,7 @@ module _ (R : RattleType) (n : ℕ) where
     End = froom (ty_array (ty_int w128) 0) b (o + up 16 (words_at + n * 5 * 8))
 
     abbrev Rooms : Fml
-    Rooms = fsep (Places (o + places_at)) (fsep (Words (o + words_at)) (fsep End ftrue))
+    Rooms = fsep (froom (places_type R n) b (o + places_at)) (fsep (Words (o + words_at)) (fsep End ftrue))
 
     abbrev Whole : Fml
     Whole = froom (ty_struct [] (tcons (places_type R n) (tcons (words_type R (n * 5)) (tcons (ty_array (ty_int w128) 0) tnil)))) b o
@@ -119,9 +120,11 @@ module _ (R : RattleType) (n : ℕ) where
         use1 𝓛 (‵ Rooms ⊛ raw (wand 𝓤 (sem 𝓛 Rooms) (sem 𝓛 Whole)))
         (𝓛.laws.room_fields [] (tcons (places_type R n) (tcons (words_type R (n * 5)) (tcons (ty_array (ty_int w128) 0) tnil))) b o) $ split ! $ fsplit3 ! $
         -- [the places; the words; the end; the way back]
+        use1 𝓛 (‵ (Places (o + places_at))) (𝓛.laws.room-raw (places_type R n) b (o + places_at)) $
         rewrite ! 0 (λ (k : ℕ). ‵ (Places k)) here refl $ rewrite ! 1 (λ (k : ℕ). ‵ (Words k)) there refl $ frame ! $ frame ! $
         assume ! (‵ (fsep (Places o) (Words (before R n * 8 + o)))) $ fsplit ! $
-        rewrite ! 0 (λ (k : ℕ). ‵ (Places k)) (sym here) refl $ rewrite ! 1 (λ (k : ℕ). ‵ (Words k)) (sym there) refl $ fjoin3 ! $
+        rewrite ! 0 (λ (k : ℕ). ‵ (Places k)) (sym here) refl $
+        use1 𝓛 (‵ (froom (places_type R n) b (o + places_at))) (𝓛.laws.raw-room (places_type R n) b (o + places_at)) $ rewrite ! 1 (λ (k : ℕ). ‵ (Words k)) (sym there) refl $ fjoin3 ! $
         use2 𝓛 (‵ Whole) (apply∗ 𝓤 (sem 𝓛 Rooms) (sem 𝓛 Whole)) $ by ! (𝓛.laws.room-raw (ty_struct [] (tcons (places_type R n) (tcons (words_type R (n * 5)) (tcons (ty_array (ty_int w128) 0) tnil)))) b o)
 
     -- the block is whole again

@@ -2,6 +2,7 @@
 use Rattle.std.proofs.Common.{◌≡◌, ℕ, ◌+◌, ◌*◌, ◌^◌, ◌<◌, Bool, true, false, List, [], ◌∷◌, length, replicate, refl, sym, ap, ◌∙◌, subst, arith, Option, None}
 use Rattle.std.proofs.lemmas.List.{length-replicate}
 use seplogic.Ra.Ura.{Ura}
+use mir.Raw.{raw as bare}
 use mir.Syntax.{Ty, ty_array}
 use base.Logic.{SProp, ent, sep}
 use base.Fml.{Fml, fsep, froom}
@@ -64,11 +65,12 @@ module _ {M : Type 1} {𝓤 : Ura M} (𝓛 : Logic 𝓤) (R : RattleType) (holds
       let fit₁ : length nones * stride R < 2 ^ 63 = subst (λ (k : ℕ). k * stride R < 2 ^ 63) (sym many) fit.1 in
       let fit₂ : length naughts * 8 < 2 ^ 63 = omega (arith, more, words) in
       qed 𝓛 (‵ (froom (block_type R n) b o) ∷ ‵ (holds (block_type R n) p) ∷ []) ∵
-      use1 𝓛 (‵ (froom (places_type R n) b o) ⊛ (‵ (froom (words_type R (n * 5)) b e) ⊛ ‵ (fits_again R n p))) (spreads R n 𝓛 b o) $ split ! $ move ! (1 ∷ []) $ split ! $
+      use1 𝓛 (‵ (froom (bare (places_type R n)) b o) ⊛ (‵ (froom (words_type R (n * 5)) b e) ⊛ ‵ (fits_again R n p))) (spreads R n 𝓛 b o) $ split ! $ move ! (1 ∷ []) $ split ! $
       -- [the words; the way back; the places; the right]
       rewrite ! 0 (λ (k : ℕ). ‵ (froom (words_type R k) b e)) (sym more) refl $
       use1 𝓛 (‵ (slots u64 (block_ptr b e) naughts (replicate (length naughts) false))) (holes_out 𝓛 u64 b naughts e) $ flt_i ! (length naughts * 8) (2 ^ 63) fit₂ $ fjoin ! $
-      move ! (2 ∷ []) $ rewrite ! 0 (λ (k : ℕ). ‵ (froom (places_type R k) b o)) (sym many) refl $
+      move ! (2 ∷ []) $ use1 𝓛 (‵ (froom (places_type R n) b o)) (𝓛.laws.raw-room (places_type R n) b o) $
+      rewrite ! 0 (λ (k : ℕ). ‵ (froom (places_type R k) b o)) (sym many) refl $
       use1 𝓛 (‵ (slots O p nones (replicate (length nones) false))) (holes_out 𝓛 O b nones o) $ flt_i ! (length nones * stride R) (2 ^ 63) fit₁ $ fjoin ! $
       frame ! $ frame ! $ move ! (1 ∷ 0 ∷ []) $ fjoin ! $ done !
 
@@ -82,7 +84,8 @@ module _ {M : Type 1} {𝓤 : Ura M} (𝓛 : Logic 𝓤) (R : RattleType) (holds
   whole many even none more = let p : Ptr = block_ptr b o in let e : ℕ = before R n * 8 + o in
       qed 𝓛 (‵ (owned (OptionOf R) p (length xs) xs fs) ∷ ‵ (Whole 𝓛 (words_from R n p) ws) ∷ ‵ (deed R holds n p) ∷ []) ∵
       fsplit ! $ drop ! $ use1 𝓛 (‵ (froom (places_type R (length xs)) b o)) (holes_in 𝓛 (OptionOf R) b xs fs o even none) $
-      rewrite ! 0 (λ (k : ℕ). ‵ (froom (places_type R k) b o)) many refl $ move ! (1 ∷ []) $
+      rewrite ! 0 (λ (k : ℕ). ‵ (froom (places_type R k) b o)) many refl $
+      use1 𝓛 (‵ (froom (bare (places_type R n)) b o)) (𝓛.laws.room-raw (places_type R n) b o) $ move ! (1 ∷ []) $
       use1 𝓛 (given (Fits 𝓛 (words_from R n p) ws) (‵ (row b e ws))) (whole_out 𝓛 (words_from R n p) ws) $ learn ! (λ _.
       use1 𝓛 (‵ (froom (words_type R (length ws)) b e)) (words_room 𝓛 u64 b ws e) $
       rewrite ! 0 (λ (k : ℕ). ‵ (froom (words_type R k) b e)) more refl $ move ! (2 ∷ []) $ fsplit ! $

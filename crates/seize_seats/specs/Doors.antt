@@ -50,10 +50,10 @@ module _ (R : RattleType) where
       InBlock s.words × Testable s.words × (s.skip ≡ before s.size) × (s.values ≡ s.words)
       × (s.first ≡ least * 2 ^ k) × (s.size ≡ s.first) × (block_bytes s.size < 2 ^ 63)
 
-  -- whoever has its places and its words has the block
+  -- whoever has its places and its words has the block (as each type here, without the names of lifetimes)
   abbrev pub fits_again : ℕ → Ptr → Fml
   fits_again n p =
-      fwand (fsep (froom (places_type n) (block_of p) (count_of p)) (froom (words_type (n * 5)) (block_of p) (before n * 8 + count_of p)))
+      fwand (fsep (froom (bare (places_type n)) (block_of p) (count_of p)) (froom (words_type (n * 5)) (block_of p) (before n * 8 + count_of p)))
       (froom (block_type n) (block_of p) (count_of p))
 
   -- the right to give the block of so many numbers back, which lies there; holds: the right to free a block of a type
