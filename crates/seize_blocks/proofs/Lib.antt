@@ -1,5 +1,4 @@
 pub mod Fields
-pub mod Exchanged
 pub mod Placing
 pub mod Values
 pub mod By
