@@ -1,4 +1,3 @@
 pub mod Fields
 pub mod Placing
-pub mod Values
 pub mod By

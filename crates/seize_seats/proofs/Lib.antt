@@ -33,3 +33,4 @@ pub mod Holes
 pub mod Plotted
 pub mod Behind
 pub mod Exchanged
+pub mod Values

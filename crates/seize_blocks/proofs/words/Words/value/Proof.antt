@@ -43,7 +43,7 @@ use Rattle.seize_blocks.specs.contracts.words.Words as words
 use Rattle.seize_blocks.specs.contracts.seat.Seat as seat
 use Rattle.seize_blocks.specs.contracts.strip.Strip as strip
 use Rattle.seize_blocks.proofs.Fields.{Data, Token}
-use Rattle.seize_blocks.proofs.Values.{uncapped, indexed}
+use Rattle.seize_seats.proofs.Values.{uncapped, indexed}
 use Rattle.seize_blocks.specs.contracts.words.Words.value.{ended, clauses}
 use Rattle.seize_blocks.specs.contracts.words.Words.value.Key.{name as #self}
 use Rattle.seize_blocks.proofs.words.Words.value.Statement.{statement}
