@@ -98,7 +98,7 @@ impl<'r, 'a, T: Defers + Drop> LocalGuard<'r, 'a, T> {
         self.registration.stay.value()
     }
 
-    /// Puts a value at a root, and retires the one that was there. It comes back where there is no such root, or no number is free. The section is begun anew.
+    /// Puts a value at a root, and retires the one that was there. It comes back where there is no such root, or memory is refused. The section is begun anew.
     pub fn put(&mut self, root: u64, value: T) -> Result<(), T>
         requires plain { T.defers value ≡ None }
         ensures slot { self.new.registration.now.stay.slot ≡ self.old.registration.now.stay.slot }
@@ -110,7 +110,7 @@ impl<'r, 'a, T: Defers + Drop> LocalGuard<'r, 'a, T> {
     }
 
     /// Puts a value at a root if what it has seen last is there, or nothing where it has seen nothing, and retires that. Else the value comes back, and it has
-    /// seen what is there. It comes back, too, where there is no such root, or no number is free.
+    /// seen what is there. It comes back, too, where there is no such root, or memory is refused.
     pub fn exchange(&mut self, root: u64, value: T) -> Result<(), T>
         requires plain { T.defers value ≡ None }
         ensures slot { self.new.registration.now.stay.slot ≡ self.old.registration.now.stay.slot }
@@ -198,7 +198,7 @@ impl<'a, T: Defers + Drop> OwnedGuard<'a, T> {
         self.stay.value()
     }
 
-    /// Puts a value at a root, and retires the one that was there. It comes back where there is no such root, or no number is free. The section is begun anew.
+    /// Puts a value at a root, and retires the one that was there. It comes back where there is no such root, or memory is refused. The section is begun anew.
     pub fn put(&mut self, root: u64, value: T) -> Result<(), T>
         requires plain { T.defers value ≡ None }
         ensures slot { self.new.stay.slot ≡ self.old.stay.slot }
@@ -209,7 +209,7 @@ impl<'a, T: Defers + Drop> OwnedGuard<'a, T> {
     }
 
     /// Puts a value at a root if what it has seen last is there, or nothing where it has seen nothing, and retires that. Else the value comes back, and it has
-    /// seen what is there. It comes back, too, where there is no such root, or no number is free.
+    /// seen what is there. It comes back, too, where there is no such root, or memory is refused.
     pub fn exchange(&mut self, root: u64, value: T) -> Result<(), T>
         requires plain { T.defers value ≡ None }
         ensures slot { self.new.stay.slot ≡ self.old.stay.slot }
