@@ -1,5 +1,5 @@
 -- Slots give up their places, and places are slots again: one call each. Assumes `Logic`.
-use Rattle.std.proofs.Common.{◌≡◌, ℕ, ◌+◌, ◌^◌, ◌<◌, Bool, T, List, [], ◌∷◌, ◌++◌, length, refl, sym, ap, ◌∙◌, subst}
+use Rattle.std.proofs.Common.{◌≡◌, ℕ, ◌^◌, ◌<◌, Bool, T, List, [], ◌∷◌, ◌++◌, length, refl, sym, ap, ◌∙◌, subst}
 use seplogic.Ra.Ura.{Ura}
 use mir.Val.{Val, WT, has_ty, vint, vptr, vstruct, of_list}
 use mir.Syntax.{w64, Callee}
@@ -33,7 +33,6 @@ use Rattle.core.proofs.slots.Slots.into_raw_parts.Met as parting_met
 use Rattle.core.proofs.mem.Param.{El, R, args, el_x}
 use Rattle.core.proofs.slots.Opens.{Sr, words_val, row_val, row_had, row_made}
 use Rattle.std.proofs.raw_atomic.Calls.{fm}
-use Rattle.seize_seats.specs.Owned.{row}
 
 -- a place and a number are a value of a type of two words
 pub is_pair : (R : RattleType) (v : Val) (b o n : ℕ) → T (has_ty (layout R) (row_val b o n)) → n < 2 ^ 64 → v ≡ row_val b o n → T (has_ty (layout R) v) × WT v
