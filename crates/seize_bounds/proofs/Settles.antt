@@ -5,5 +5,6 @@ pub mod Measure
 pub mod Step
 pub mod Points
 pub mod Reclaims
+pub mod Each
 pub mod Others
 pub mod Within

@@ -19,7 +19,6 @@ use Rattle.seize_alone.proofs.Given.SeizeMoves.State.Moves
 use Rattle.seize_alone.proofs.Given.SeizeMoves.Sets.Unmoved.{Unmoved}
 use Rattle.seize_rule.proofs.Words.Chains.{Chain, blocks_of, count_first, waiting}
 use Rattle.seize_rule.proofs.Words.Sums.{blocks_long}
-use Rattle.seize_rule.proofs.Words.There.{entry_there}
 use Rattle.seize_rule.proofs.Words.View.{view}
 use Rattle.seize_rule.proofs.Words.Shows.{Extra, Spot, Nowhere, Unspent, On, InHands, SpotLife, LinkedIs, stands, is_in_hands, lives}
 use Rattle.seize_rule.proofs.Points.Aside.{HandFits, is_handed}
@@ -39,6 +38,7 @@ use Rattle.seize_bounds.specs.Bounds.{IsOfOthers}
 use Rattle.seize_bounds.proofs.Bounds.Beside.{SameHand, beside, row_same}
 use Rattle.seize_bounds.proofs.Bounds.Knows.{Known, Shutting, known_at, shutting_at, is_popped, popped_word, pending_agree, behind_count, pending_handed, put_handed}
 use Rattle.seize_bounds.proofs.Bounds.Opened.{works_there, row_opened}
+use Rattle.seize_bounds.proofs.Bounds.Values.{left_there}
 use Rattle.seize_bounds.proofs.Bounds.Passing.{event_row}
 use Rattle.seize_bounds.proofs.Bounds.Entries.{entry_of, SameEntries, users_entries, row_entries}
 
@@ -292,9 +292,7 @@ module _ {T : Type 0} (defers : T → Option ℕ) (size j : ℕ) where
         pub opened : StaysOpen j w r.good.state reached.good.state
 
       left : (b i : ℕ) → w.hand b ≡ LeftTo i → IsSome (word_at w.memory (EntryWord b NEXT))
-      left b i e =
-          let life : r.good.state.life b ≡ IsLeft i = subst (λ (k : Hand). HandFits k (r.good.state.life b)) e (r.good.hands b) in
-          entry_there defers (LAST_SLOT + 1) w.memory r.good.state r.good.extra b NEXT r.good.stocked r.good.shows (ap lives life) (omega arith)
+      left b i e = left_there defers size w v r b i e
 
       came : (e : Event T) → Happens defers size e w v → (good2 : Good defers (LAST_SLOT + 1) size v) → v.row j ≡ row → SameInHand j d r.good.state good2.state
           → StaysOpen j w r.good.state good2.state → After

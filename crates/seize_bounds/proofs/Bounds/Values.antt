@@ -1,15 +1,19 @@
 -- What an event leaves of the values of blocks that the collector has: they are as they were, or gone.
 use Rattle.std.specs.Prelude.{Option, Some, None, IsSome}
-use Rattle.std.proofs.Common.{◌≡◌, ◌≢◌, ℕ, ◌+◌, ◌⊎◌, inl, inr, refl, ap, sym, subst, ◌∙◌}
+use Rattle.std.proofs.Common.{◌≡◌, ◌≢◌, ℕ, ◌+◌, ◌⊎◌, inl, inr, refl, arith, ap, sym, subst, ◌∙◌}
 use Rattle.std.proofs.lemmas.Bool.{cases_eq}
 use Rattle.seize_words.specs.declared.at.At.TheVariants.{Entry}
 use Rattle.seize_words.specs.Mem.{Mem, Took, value_at, word_at, with_word}
 use Rattle.seize_words.specs.Op.{Out, Take, Taken}
 use Rattle.seize_words.proofs.OneOwner.AfterWrites.{value_at-with_word}
-use Rattle.seize.specs.declared.states.TheConstants.{NEXT}
+use Rattle.seize.specs.declared.states.TheConstants.{NEXT, LAST_SLOT}
 use Rattle.seize.specs.Sequence.{taken_in}
 use Rattle.seize.specs.World.{World, Event, Begin, Step, Makes, Drops, Links, Parts, Unlinks, Rewrites, Operates, Ends, LeavesOver, Relinks, Clears, Chooses}
 use Rattle.seize.specs.World.{Happens, Hand, Handed, Making, LeftTo, Steps', times}
+use Rattle.seize_alone.proofs.Given.SeizeMoves.State.Ghost.{IsLeft}
+use Rattle.seize_rule.proofs.Words.Shows.{lives}
+use Rattle.seize_rule.proofs.Words.There.{entry_there}
+use Rattle.seize_rule.proofs.Points.Aside.{HandFits}
 use Rattle.seize_rule.proofs.World.Values.{own_op_value, taken_value, made_value, rewritten_value}
 use Rattle.seize_alone.proofs.Spared.Rows.{RowStepped}
 use Rattle.seize_alone.proofs.Histories.Reached.{Reached}
@@ -34,6 +38,12 @@ module _ {T : Type 0} (defers : T → Option ℕ) (size : ℕ) (w v : World T) (
   pub plain_kept : (i : ℕ) → Steps' defers i (w.row i) w v → ArePlain defers w → ArePlain defers v
   plain_kept i step plain b value is = plain b value (sym (step_value i step b (subst IsSome (sym is) refl)) ∙ is)
 
+  -- a block that is left over has the word that links it to the next one
+  pub left_there : (b i : ℕ) → w.hand b ≡ LeftTo i → IsSome (word_at w.memory (Entry b NEXT))
+  left_there b i e =
+      let life : r.good.state.life b ≡ IsLeft i = subst (λ (k : Hand). HandFits k (r.good.state.life b)) e (r.good.hands b) in
+      entry_there defers (LAST_SLOT + 1) w.memory r.good.state r.good.extra b NEXT r.good.stocked r.good.shows (ap lives life) (omega arith)
+
   module _ (c : ℕ) (handed : w.hand c ≡ Handed) (there : IsSome (value_at w.memory c)) where
     abbrev Same : Mem T → Type 0
     Same m = value_at m c ≡ value_at w.memory c
@@ -51,25 +61,24 @@ module _ {T : Type 0} (defers : T → Option ℕ) (size : ℕ) (w v : World T) (
     linked : (b word : ℕ) → IsSome (word_at w.memory (Entry b NEXT)) → Same (with_word w.memory (Entry b NEXT) word)
     linked b word some = value_at-with_word w.memory (Entry b NEXT) word c some
 
-    pub value_kept : (e : Event T) → ((b h : ℕ) → w.hand b ≡ LeftTo h → IsSome (word_at w.memory (Entry b NEXT))) → Happens defers size e w v
-        → IsSome (value_at v.memory c) → Same v.memory
-    value_kept (Begin i request) left h some = at w.memory (begins_memory defers size i request w v h.1) refl
-    value_kept (Step i) left h some = step_value i h c some
-    value_kept (Makes i value words) left h some =
+    pub value_kept : (e : Event T) → Happens defers size e w v → IsSome (value_at v.memory c) → Same v.memory
+    value_kept (Begin i request) h some = at w.memory (begins_memory defers size i request w v h.1) refl
+    value_kept (Step i) h some = step_value i h c some
+    value_kept (Makes i value words) h some =
         at h.1 (ap (λ (x : World T). x.memory) h.4 ∙ made_memory defers w i h.1 h.0) (made_value defers w.memory c value words h.0 h.1 there h.3)
-    value_kept (Drops i b) left h some =
+    value_kept (Drops i b) h some =
         at h.1 (ap (λ (x : World T). x.memory) h.4) (taken_value defers w.memory c b h.0 h.1 h.3 (not_made b h.2))
-    value_kept (Links i b o) left h some = at w.memory (ap (λ (x : World T). x.memory) h.1) refl
-    value_kept (Parts i b) left h some = at w.memory (ap (λ (x : World T). x.memory) h.1) refl
-    value_kept (Unlinks i b) left h some = at w.memory (ap (λ (x : World T). x.memory) h.1) refl
-    value_kept (Rewrites i b value) left h some =
+    value_kept (Links i b o) h some = at w.memory (ap (λ (x : World T). x.memory) h.1) refl
+    value_kept (Parts i b) h some = at w.memory (ap (λ (x : World T). x.memory) h.1) refl
+    value_kept (Unlinks i b) h some = at w.memory (ap (λ (x : World T). x.memory) h.1) refl
+    value_kept (Rewrites i b value) h some =
         at h.1 (ap (λ (x : World T). x.memory) h.5) (rewritten_value defers w.memory c b value h.0 h.1 h.3 (not_made b h.2))
-    value_kept (Operates op) left h some =
+    value_kept (Operates op) h some =
         at h.1 (ap (λ (x : World T). x.memory) h.4) (ap (λ (m : Mem T). value_at m c) h.3.1 ∙ own_op_value defers w.memory c op h.0 h.2)
-    value_kept (Ends i o) left h some = at w.memory (ap (λ (x : World T). x.memory) h) refl
-    value_kept (LeavesOver i b further) left h some = at w.memory (ap (λ (x : World T). x.memory) h.4) refl
-    value_kept (Relinks i b word) left h some =
-        at h.1 (ap (λ (x : World T). x.memory) h.4) (ap (λ (m : Mem T). value_at m c) h.3.1 ∙ linked b word (left b h.2.0 h.2.1))
-    value_kept (Clears i b) left h some =
+    value_kept (Ends i o) h some = at w.memory (ap (λ (x : World T). x.memory) h) refl
+    value_kept (LeavesOver i b further) h some = at w.memory (ap (λ (x : World T). x.memory) h.4) refl
+    value_kept (Relinks i b word) h some =
+        at h.1 (ap (λ (x : World T). x.memory) h.4) (ap (λ (m : Mem T). value_at m c) h.3.1 ∙ linked b word (left_there b h.2.0 h.2.1))
+    value_kept (Clears i b) h some =
         at h.1 (ap (λ (x : World T). x.memory) h.5) (taken_value defers w.memory c b h.0 h.1 h.4 (not_left b h.2))
-    value_kept (Chooses choice) left h some = at _ (ap (λ (x : World T). x.memory) h) refl
+    value_kept (Chooses choice) h some = at _ (ap (λ (x : World T). x.memory) h) refl

@@ -100,7 +100,7 @@ carriers_none : (k : ℕ → Bool) (l : List ℕ) → ((c : ℕ) → 0 < count c
 carriers_none k [] h = refl
 carriers_none k (c ∷ l) h =
     let ih = carriers_none k l (λ d p. h d (omega (arith, p))) in
-    let one = ap (λ (t : Bool). cond t 1 0) (h c (count_first c l)) in
+    let one = ap {B = ℕ} (λ (t : Bool). cond t 1 0) (h c (count_first c l)) in
     omega (arith, ih, one)
 
 -- as many of the same blocks
@@ -108,7 +108,7 @@ pub carriers_same : (k k2 : ℕ → Bool) (l : List ℕ) → ((c : ℕ) → 0 < 
 carriers_same k k2 [] h = refl
 carriers_same k k2 (c ∷ l) h =
     let ih = carriers_same k k2 l (λ d p. h d (omega (arith, p))) in
-    let one = ap (λ (t : Bool). cond t 1 0) (h c (count_first c l)) in
+    let one = ap {B = ℕ} (λ (t : Bool). cond t 1 0) (h c (count_first c l)) in
     omega (arith, ih, one)
 
 -- a block on the list of another one lies with it
@@ -166,7 +166,7 @@ module _ (n j s : ℕ) (m : State) (inv : Inv n m) where
   appended : (b : ℕ) (bs : List ℕ) → m.pending j ≡ b ∷ bs → (p2 : Part) → is_draining p2 ≡ false
       → ((blocks : ℕ → List ℕ) → shut p2 blocks (m.closing j) ≡ []) → Leaves Plain p2 (Moves.appended m j b bs (m.open_batch s))
   appended b bs is p2 none no_shut =
-      parts Plain p2 (Moves.appended m j b bs x)
+      parts Plain p2 (Moves.appended m j b bs (m.open_batch s))
       (let a = ap (carriers k) (put_here m.pending j bs) in
       let o = ap (carriers k) (put_here m.blocks (m.open_batch s) (m.blocks (m.open_batch s) ++ b ∷ [])) ∙ carriers-append k (m.blocks (m.open_batch s)) (b ∷ []) in
       let l = ap (carriers k) is in
@@ -241,7 +241,7 @@ module _ (n j s : ℕ) (m : State) (inv : Inv n m) where
           let f = fewer in
           parts Plain Draining (Moves.drained m j b) (omega (arith, f)) (omega (arith, a, none)) (λ z. same (taking j m)) (same (length (m.loose j)))
       by (c ∷ l) e =
-          let one = ap (λ (t : Bool). cond t 1 0) (on_list b c (subst (λ (d : List ℕ). 0 < count c d) (sym e) (count_first c l))).1 in
+          let one = ap {B = ℕ} (λ (t : Bool). cond t 1 0) (on_list b c (subst (λ (d : List ℕ). 0 < count c d) (sym e) (count_first c l))).1 in
           let f = fewer in
           record {
             lists = omega (arith, f);

@@ -158,7 +158,7 @@ module _ {T : Type 0} {defers : T → Option ℕ} {j : ℕ} {mem mem2 : Mem T} {
         → DRAINING * a2 + FILLING * (p2 + u2) + t2 + FILLING ≤ DRAINING * a + FILLING * (p + u) + t + 0
     filled a a2 p p2 u u2 t t2 f g h i = omega (arith, f, g, h, i)
 
-    counts_less : Told (LAST_SLOT + 1) j c Plain m end.0 m2 → Steps Took value_at mem (plans.counts c block) mem2 end → Less k (at.Counts block)
+    pub counts_less : Told (LAST_SLOT + 1) j c Plain m end.0 m2 → Steps Took value_at mem (plans.counts c block) mem2 end → Less k (at.Counts block)
     counts_less told st =
         let d = added mem (plans.counted c block) (Entry (c.first / 2048) COUNT) 1 mem2 end st in
         one (nat_lt ((d.0 + 1) % 2 ^ 64) c.batch_size) ((d.0 + 1) % 2 ^ 64) (rw (d.1) refl) d.2
@@ -272,7 +272,7 @@ module _ {T : Type 0} {defers : T → Option ℕ} {j : ℕ} {mem mem2 : Mem T} {
             let a = owes_less k (at.Pushes block left pushed slot head) (λ z y. still_pushing k (plans.standing c (at.Sums u)) Goes e refl y) told in
             goes k (at.Pushes block left pushed slot head) (at.Sums u) c e tt a (omega (arith, some))
 
-    pushes_less : Steps Took value_at mem (plans.pushes c block left pushed slot head) mem2 end → Here
+    pub pushes_less : Steps Took value_at mem (plans.pushes c block left pushed slot head) mem2 end → Here
     pushes_less st = elim (exchanged mem (plans.push_told c block left pushed slot) (Slot slot HEAD) head block mem2 end st) as (λ _. Here) [
       | inl d ↦ pushed_less ((pushed + 1) % 2 ^ 64) d.3
       | inr d ↦ one d.0 (nat_lt d.0 ACTIVE) (nat_lt c.lost MOST_LOST) refl d.3

@@ -38,6 +38,10 @@ use Rattle.seize_bounds.proofs.Settles.Step.{Stepping, Less, far, far2, less, on
 not_pushing : Plain ≡ Pushing → ⊥
 not_pushing e = cc e
 
+-- a block is put once
+pub put_once : (j : ℕ) (l : Life) (a b : ℕ) → a + b ≡ is_pending j l → b ≤ 1
+put_once j l a b e = grind (arith, e)
+
 still : (a b : ℕ) → a ≤ b → a + 0 ≤ b + 0
 still a b h = omega (arith, h)
 
@@ -58,9 +62,9 @@ module _ {T : Type 0} {defers : T → Option ℕ} {j : ℕ} {mem mem2 : Mem T} {
 
   -- what comes off it weighs less than the block that kept it
   module _ (b : ℕ) (bs : List ℕ) (left : m.left j ≡ b ∷ bs) (word : ℕ) (lists : (view defers mem).lists b ≡ Some word) where
-    keeps_one : cond (m.carrier b) 1 0 ≡ 1
+    keeps_one : ◌≡◌ {A = ℕ} (cond (m.carrier b) 1 0) 1
     keeps_one =
-        ap (λ (t : Bool). cond t 1 0)
+        ap {B = ℕ} (λ (t : Bool). cond t 1 0)
         (subst (λ (l : Life). CarrierIs l (m.carrier b) ((view defers mem).lists b)) (first_doomed (LAST_SLOT + 1) j m b bs k.inv left) (k.shows.lists.carriers b)
         ∙ ap is_some lists)
 
@@ -124,10 +128,7 @@ module _ {T : Type 0} {defers : T → Option ℕ} {j : ℕ} {mem mem2 : Mem T} {
   -- each block that it goes along is one less
 
   once_puts : (d : ℕ) → count d (m.puts j) ≤ 1
-  once_puts d = one (m.life d) (count d (m.pending j)) (count d (m.puts j)) (k.inv.places.to_retire j d)
-    where
-      one : (l : Life) (a b : ℕ) → a + b ≡ is_pending j l → b ≤ 1
-      one l a b e = grind (arith, e)
+  once_puts d = put_once j (m.life d) (count d (m.pending j)) (count d (m.puts j)) (k.inv.places.to_retire j d)
 
   tails_on : (next w : ℕ) (t : Bool) → (w == 0) ≡ t → Tails (LAST_SLOT + 1) j m x (bare c) next → words_of mem (Entry (c.put_last / 2048) NEXT) ≡ w
       → mem2 ≡ mem → Told (LAST_SLOT + 1) j c Draining m end.0 m2
