@@ -13,14 +13,14 @@ use Rattle.seize.specs.World.{Relinks, Clears, Chooses, Happens, Hand, NoBlock, 
 use Rattle.seize.specs.World.{LeaveOwned, Refresh, Unregister', Retire, Flush, Defer'}
 use Rattle.seize.specs.Sequence.{IsBetween}
 use Rattle.seize_alone.specs.Given.SeizeWaiting.Held.{count}
-use Rattle.seize_alone.proofs.Given.SeizeMoves.State.Ghost.{State, Entry, Stage, Closing, Life, IsLeft, is_in}
+use Rattle.seize_alone.proofs.Given.SeizeMoves.State.Ghost.{State, Entry, Stage, Closing, Life, is_in}
 use Rattle.seize_alone.proofs.Given.SeizeMoves.State.Rule.{SameUnlessDead}
 use Rattle.seize_alone.proofs.Given.SeizeMoves.State.Moves
 use Rattle.seize_alone.proofs.Given.SeizeMoves.Sets.Unmoved.{Unmoved}
 use Rattle.seize_rule.proofs.Words.Chains.{Chain, blocks_of, count_first, waiting}
 use Rattle.seize_rule.proofs.Words.Sums.{blocks_long}
 use Rattle.seize_rule.proofs.Words.View.{view}
-use Rattle.seize_rule.proofs.Words.Shows.{Extra, Spot, Nowhere, Unspent, On, InHands, SpotLife, LinkedIs, stands, is_in_hands, lives}
+use Rattle.seize_rule.proofs.Words.Shows.{Extra, Spot, Nowhere, Unspent, On, InHands, SpotLife, LinkedIs, stands, is_in_hands}
 use Rattle.seize_rule.proofs.Points.Aside.{HandFits, is_handed}
 use Rattle.seize_rule.proofs.Points.Known.{Fits, list_word}
 use Rattle.seize_rule.proofs.Points.Told.{Pushing, part}

@@ -1,10 +1,9 @@
 -- What an event leaves of the values of blocks that the collector has: they are as they were, or gone.
-use Rattle.std.specs.Prelude.{Option, Some, None, IsSome}
+use Rattle.std.specs.Prelude.{Option, IsSome}
 use Rattle.std.proofs.Common.{◌≡◌, ◌≢◌, ℕ, ◌+◌, ◌⊎◌, inl, inr, refl, arith, ap, sym, subst, ◌∙◌}
 use Rattle.std.proofs.lemmas.Bool.{cases_eq}
 use Rattle.seize_words.specs.declared.at.At.TheVariants.{Entry}
-use Rattle.seize_words.specs.Mem.{Mem, Took, value_at, word_at, with_word}
-use Rattle.seize_words.specs.Op.{Out, Take, Taken}
+use Rattle.seize_words.specs.Mem.{Mem, value_at, word_at, with_word}
 use Rattle.seize_words.proofs.OneOwner.AfterWrites.{value_at-with_word}
 use Rattle.seize.specs.declared.states.TheConstants.{NEXT, LAST_SLOT}
 use Rattle.seize.specs.Sequence.{taken_in}

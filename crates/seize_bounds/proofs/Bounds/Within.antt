@@ -8,7 +8,7 @@ use Rattle.seize.specs.declared.rows.settle.Settling.TheVariants as at
 use Rattle.seize.specs.declared.rows.leave.Leave.{Leave}
 use Rattle.seize.specs.Settle.{counting_down}
 use Rattle.seize.specs.World.{World, Row, Event, Steps', at_start}
-use Rattle.seize_alone.proofs.Given.SeizeMoves.State.Ghost.{State, Life, is_doomed}
+use Rattle.seize_alone.proofs.Given.SeizeMoves.State.Ghost.{Life, is_doomed}
 use Rattle.seize_rule.proofs.Words.Sums.{list_below}
 use Rattle.seize_rule.proofs.Words.Shows.{lives}
 use Rattle.seize_rule.proofs.Points.Settle.{is_over}

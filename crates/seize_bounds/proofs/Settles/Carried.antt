@@ -1,11 +1,11 @@
 -- What a settling has in hand weighs, and what its moves leave of that: a block that keeps a list weighs so much that what comes off the list weighs less.
-use Rattle.std.proofs.Common.{◌≡◌, ℕ, zero, suc, ◌+◌, ◌*◌, ◌^◌, ◌<◌, ◌≤◌, Bool, true, false, cond, eqb, List, [], ◌∷◌, ◌++◌, length, length-append, refl}
+use Rattle.std.proofs.Common.{◌≡◌, ℕ, zero, suc, ◌+◌, ◌*◌, ◌<◌, ◌≤◌, Bool, true, false, cond, eqb, List, [], ◌∷◌, ◌++◌, length, length-append, refl}
 use Rattle.std.proofs.Common.{arith, ap, sym, subst, ◌∙◌}
 use Rattle.seize.specs.declared.states.TheConstants.{LAST_SLOT, MOST_LOST}
 use Rattle.seize.specs.declared.rows.settle.Settle.{Settle}
 use Rattle.seize_alone.specs.Given.SeizeWaiting.Held.{count}
-use Rattle.seize_alone.proofs.Given.SeizeMoves.State.Ghost.{State, Entry, Life, Closing, put, is_deferred, lies_with, IsFree, IsOwned, IsLinked, IsUnlinked}
-use Rattle.seize_alone.proofs.Given.SeizeMoves.State.Ghost.{IsDeferring, IsDeferred, IsPending, IsIn, IsDoomed, IsLeft}
+use Rattle.seize_alone.proofs.Given.SeizeMoves.State.Ghost.{State, Entry, Life, Closing, put, is_deferred, lies_with}
+use Rattle.seize_alone.proofs.Given.SeizeMoves.State.Ghost.{IsDeferred}
 use Rattle.seize_alone.proofs.Given.SeizeMoves.State.Rule.{Inv}
 use Rattle.seize_alone.proofs.Given.SeizeMoves.State.Moves
 use Rattle.seize_rule.proofs.Words.Chains.{waiting, count_first}

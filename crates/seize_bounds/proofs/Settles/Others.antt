@@ -1,15 +1,15 @@
 -- What the others do meanwhile leaves as much to a row that settles as before, where no other settles on its slot.
-use Rattle.std.specs.Prelude.{Option, IsSome, is_some}
+use Rattle.std.specs.Prelude.{Option, is_some}
 use Rattle.std.proofs.Common.{◌≡◌, ℕ, suc, ◌+◌, ◌*◌, ◌<◌, Bool, true, List, length, refl, arith, ap, sym, subst, ◌∙◌}
 use Rattle.seize_words.specs.Mem.{value_at}
 use Rattle.seize.specs.declared.states.TheConstants.{LAST_SLOT}
 use Rattle.seize.specs.declared.rows.settle.Settle.{Settle}
 use Rattle.seize.specs.World.{World, Event, Happens}
 use Rattle.seize_alone.specs.Given.SeizeWaiting.Held.{count}
-use Rattle.seize_alone.proofs.Given.SeizeMoves.State.Ghost.{State, Life, IsFree, Stage, Open, Closing, is_doomed, is_in}
+use Rattle.seize_alone.proofs.Given.SeizeMoves.State.Ghost.{State, Life, IsFree, Stage, Closing, is_doomed, is_in}
 use Rattle.seize_alone.proofs.Given.SeizeMoves.State.Rule.{Inv, SameUnlessDead}
 use Rattle.seize_rule.proofs.Words.Chains.{waiting}
-use Rattle.seize_rule.proofs.Words.Shows.{Shows, CarrierIs, lives}
+use Rattle.seize_rule.proofs.Words.Shows.{CarrierIs, lives}
 use Rattle.seize_rule.proofs.Words.There.{value_there}
 use Rattle.seize_rule.proofs.Words.View.{list_in}
 use Rattle.seize_rule.proofs.Points.Aside.{is_handed}
@@ -17,7 +17,6 @@ use Rattle.seize_rule.proofs.Points.Told.{Part, Pushing, part}
 use Rattle.seize_alone.proofs.Histories.Reached.{Reached}
 use Rattle.seize_bounds.proofs.Bounds.Hands.{SameInHand, SameShut, in_batch, in_hand}
 use Rattle.seize_bounds.proofs.Bounds.Knows.{behind_count, pending_handed, put_handed}
-use Rattle.seize_bounds.proofs.Bounds.Machine.{MOST}
 use Rattle.seize_bounds.proofs.Bounds.Values.{value_kept}
 use Rattle.seize_bounds.proofs.Settles.Carried.{FILLING, DRAINING, carriers, carriers_same, carried, retiring, taking, owes, is_draining, shut, shut_at}
 use Rattle.seize_bounds.proofs.Settles.Measure.{here}

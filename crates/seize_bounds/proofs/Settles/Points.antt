@@ -1,5 +1,5 @@
 -- Each step of a settling that retires a block or tries its batch lowers what is left, where the word of its batch stays as it has seen it.
-use Rattle.std.specs.Prelude.{if◌then◌else◌, nat_lt, ◌==◌, ◌||◌, not, ◌/◌, Option, Some, IsSome}
+use Rattle.std.specs.Prelude.{if◌then◌else◌, nat_lt, ◌==◌, ◌||◌, not, ◌/◌, Option, IsSome}
 use Rattle.std.proofs.Common.{◌≡◌, ℕ, ◌+◌, ◌-◌, ◌*◌, ◌%◌, ◌^◌, ◌<◌, ◌≤◌, Bool, true, false, cond, eqb, List, length, refl, arith, ap, sym, subst, inl, inr}
 use Rattle.std.proofs.Common.{eqb-true, ltb-true, ◌∙◌}
 use Rattle.std.proofs.lemmas.Bool.{eqb-false, eq-eqb, ne_eqb}
@@ -28,7 +28,7 @@ use Rattle.seize_bounds.proofs.Bounds.Knows.{is_popped, known_at}
 use Rattle.seize_bounds.proofs.Bounds.Machine.{MOST}
 use Rattle.seize_bounds.proofs.Settles.Carried.{TAKING, PUSHING, SHUTTING, SCANNING, TRYING, FILLING, DRAINING, COUNTING}
 use Rattle.seize_bounds.proofs.Settles.Measure.{point, ahead, behind, SeenAt, goes_onward}
-use Rattle.seize_bounds.proofs.Settles.Step.{Stepping, Less, far, far2, less, on, goes, leaves, owes_less, still_pushing, flush_not}
+use Rattle.seize_bounds.proofs.Settles.Step.{Stepping, Less, far, far2, less, on, goes, leaves, owes_less, still_pushing, flush_not, nothing_more}
 
 -- the word of a slot's batch that is not held
 pub word_is : (n : ℕ) (f : View) (m : State) (x : Extra) (s : ℕ) → Shows n f m x → s < n → (f.batches s ≡ HELD → ⊥)
@@ -38,9 +38,6 @@ word_is n f m x s v lt free = by (eqb (m.holder s) 0) (v.linkage.batched s lt)
     by : (t : Bool) → f.batches s ≡ cond t (link (last_of (m.blocks (m.open_batch s)))) 1 → f.batches s ≡ link (last_of (m.blocks (m.open_batch s)))
     by true e = e
     by false e = absurd (free e)
-
-still : (a b : ℕ) → a ≤ b → a + 0 ≤ b + 0
-still a b h = omega (arith, h)
 
 module _ {T : Type 0} {defers : T → Option ℕ} {j : ℕ} {mem mem2 : Mem T} {m : State} {x : Extra} {c : Settle} {end : Settle × Settled T} {m2 : State} {x2 : Extra}
     (k : Stepping defers j mem mem2 m x c end m2 x2) where
@@ -65,7 +62,7 @@ module _ {T : Type 0} {defers : T → Option ℕ} {j : ℕ} {mem mem2 : Mem T} {
   holds_less held seen told st = elim (exchanged mem (plans.taken_hold c) (Slot c.slot BATCH) c.last HELD mem2 end st) as (λ _. Less k at.Holds) [
     | inl d ↦ (let a = owes_less k at.Holds (λ z y. flush_not c.flushing z) told in
         let h = ap (λ (t : Bool). ahead t false) held in
-        on k at.Holds (record c { held = true }) Goes d.3 0 0 (still (far2 k) (far k at.Holds) a) (omega (arith, h)))
+        on k at.Holds (record c { held = true }) Goes d.3 0 0 (nothing_more (far2 k) (far k at.Holds) a) (omega (arith, h)))
     | inr d ↦ absurd (d.1.1 (sym (word_found mem (Slot c.slot BATCH) d.0 d.1.0)
         ∙ word_is (LAST_SLOT + 1) (view defers mem) m x c.slot k.shows k.there (k.free held) ∙ sym seen))
   ]
@@ -208,7 +205,7 @@ module _ {T : Type 0} {defers : T → Option ℕ} {j : ℕ} {mem mem2 : Mem T} {
           → Less k (at.Scans slot block marks)
       one true u z a e = goes k (at.Scans slot block marks) (at.Closes marks) c e tt a (omega arith)
       one false true z a e = behind_less (at.Scans slot block marks) slot block marks lt e a (omega arith) (omega arith)
-      one false false true a e = on k (at.Scans slot block marks) c Goes e 0 0 (still (far2 k) (far k (at.Scans slot block marks)) a) (omega arith)
+      one false false true a e = on k (at.Scans slot block marks) c Goes e 0 0 (nothing_more (far2 k) (far k (at.Scans slot block marks)) a) (omega arith)
       one false false false a e = goes k (at.Scans slot block marks) (at.Marks slot block marks) c e tt a (omega arith)
 
   pub marks_less : (slot block marks : ℕ) → Told (LAST_SLOT + 1) j c (part_at c.flushing (at.Marks slot block marks)) m end.0 m2

@@ -1,7 +1,6 @@
 -- Each step of a settling that reclaims a batch, takes a list over, or counts an entry lowers what is left.
 use Rattle.std.specs.Prelude.{if◌then◌else◌, ◌==◌, ◌/◌, ◌%◌, ◌^◌, ◌-◌, Option, Some, None, IsSome, is_some}
-use Rattle.std.proofs.Common.{◌≡◌, ℕ, ◌+◌, ◌*◌, ◌<◌, ◌≤◌, Bool, true, false, cond, List, [], ◌∷◌, ◌++◌, length, refl, arith, ap, sym, subst, ◌∙◌, append_assoc}
-use Rattle.std.proofs.Common.{eqb-true}
+use Rattle.std.proofs.Common.{◌≡◌, ℕ, ◌+◌, ◌*◌, ◌≤◌, Bool, true, false, cond, List, [], ◌∷◌, ◌++◌, length, refl, arith, ap, sym, subst, ◌∙◌, append_assoc}
 use Rattle.std.proofs.lemmas.Bool.{eqb-false}
 use Rattle.seize_words.specs.declared.at.At.TheVariants.{Entry, Word}
 use Rattle.seize_words.specs.Mem.{Mem, Took, value_at, word_at, with_word}
@@ -18,14 +17,12 @@ use Rattle.seize.specs.Settle as plans
 use Rattle.seize_alone.specs.Given.SeizeWaiting.Held.{count}
 use Rattle.seize_alone.proofs.Given.SeizeMoves.State.Ghost.{State, Life, is_pending}
 use Rattle.seize_alone.proofs.Given.SeizeMoves.Moves.Takes.{first_doomed}
-use Rattle.seize_rule.proofs.Words.Named.{words_of, word_found, wrote, link, link-block}
-use Rattle.seize_rule.proofs.Words.Chains.{Chain, blocks_of, waiting, chain_behind, chain_cons}
-use Rattle.seize_rule.proofs.Words.Sums.{blocks_long}
-use Rattle.seize_rule.proofs.Words.View.{View, view, view_count}
-use Rattle.seize_rule.proofs.Words.Shows.{Extra, Shows, CarrierIs}
-use Rattle.seize_rule.proofs.Points.Down.{word_of_list}
+use Rattle.seize_rule.proofs.Words.Named.{words_of, word_found, link-block}
+use Rattle.seize_rule.proofs.Words.Chains.{Chain, chain_behind, chain_cons}
+use Rattle.seize_rule.proofs.Words.View.{view}
+use Rattle.seize_rule.proofs.Words.Shows.{Extra, CarrierIs}
 use Rattle.seize_rule.proofs.Points.Told.{Part, Plain, Pushing, Draining, part, part_at, Told, onward_part}
-use Rattle.seize_rule.proofs.Points.Known.{FitsAt, Drains, Joins, Tails, Downs, bare, list_word}
+use Rattle.seize_rule.proofs.Points.Known.{Drains, Joins, Tails, Downs, bare}
 use Rattle.seize_bounds.proofs.Bounds.Hands.{chains_agree}
 use Rattle.seize_bounds.proofs.Bounds.Knows.{known_at}
 use Rattle.seize_bounds.proofs.Bounds.Machine.{MOST}
@@ -33,7 +30,7 @@ use Rattle.seize_bounds.proofs.Bounds.Moves.{taken_off}
 use Rattle.seize_bounds.proofs.Bounds.Steps.{entry_less}
 use Rattle.seize_bounds.proofs.Settles.Carried.{FILLING, DRAINING, COUNTING, carried, retiring, taking, owes, taken_over}
 use Rattle.seize_bounds.proofs.Settles.Measure.{ahead, behind, behind_is, behind_few, point, goes_onward}
-use Rattle.seize_bounds.proofs.Settles.Step.{Stepping, Less, far, far2, less, on, goes, leaves, owes_less}
+use Rattle.seize_bounds.proofs.Settles.Step.{Stepping, Less, far, far2, less, on, goes, leaves, owes_less, nothing_more}
 
 not_pushing : Plain ≡ Pushing → ⊥
 not_pushing e = cc e
@@ -41,9 +38,6 @@ not_pushing e = cc e
 -- a block is put once
 pub put_once : (j : ℕ) (l : Life) (a b : ℕ) → a + b ≡ is_pending j l → b ≤ 1
 put_once j l a b e = grind (arith, e)
-
-still : (a b : ℕ) → a ≤ b → a + 0 ≤ b + 0
-still a b h = omega (arith, h)
 
 module _ {T : Type 0} {defers : T → Option ℕ} {j : ℕ} {mem mem2 : Mem T} {m : State} {x : Extra} {c : Settle} {end : Settle × Settled T} {m2 : State} {x2 : Extra}
     (k : Stepping defers j mem mem2 m x c end m2 x2) where
@@ -215,7 +209,7 @@ module _ {T : Type 0} {defers : T → Option ℕ} {j : ℕ} {mem mem2 : Mem T} {
   puts_less told st =
       let d = stored {R = Settle × Settled T} mem (λ out. plans.to (plans.with_put c)) (Entry (c.put_last / 2048) NEXT) c.pending mem2 end st in
       on k at.Puts (record c { pending = c.put_first; put_first = 0; put_last = 0 }) Goes d.1 0 0
-      (still (far2 k) (far k at.Puts) (owes_less k at.Puts (λ z y. not_pushing z) told)) (omega arith)
+      (nothing_more (far2 k) (far k at.Puts) (owes_less k at.Puts (λ z y. not_pushing z) told)) (omega arith)
 
   -- an entry is counted
 

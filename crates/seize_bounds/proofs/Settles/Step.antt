@@ -1,6 +1,6 @@
 -- A step of a settling: what is known of it, and that it lowers what is left.
 use Rattle.std.specs.Prelude.{◌/◌, Option}
-use Rattle.std.proofs.Common.{◌≡◌, ℕ, ◌+◌, ◌<◌, ◌≤◌, Bool, true, false, length, refl, arith, ap, sym, subst}
+use Rattle.std.proofs.Common.{◌≡◌, ℕ, ◌+◌, ◌<◌, ◌≤◌, Bool, true, false, length, arith, ap, sym, subst}
 use Rattle.seize_words.specs.declared.at.At.TheVariants.{Slot}
 use Rattle.seize_words.specs.Mem.{Mem}
 use Rattle.seize.specs.declared.states.TheConstants.{BATCH, HELD, LAST_SLOT}
@@ -39,7 +39,7 @@ flush_not false e = cc e
 both_fall : (a b c d k l : ℕ) → a + k ≤ b + l → c + l < d + k → a + c < b + d
 both_fall a b c d k l h i = omega (arith, h, i)
 
-nothing_more : (a b : ℕ) → a ≤ b → a + 0 ≤ b + 0
+pub nothing_more : (a b : ℕ) → a ≤ b → a + 0 ≤ b + 0
 nothing_more a b h = omega (arith, h)
 
 module _ {T : Type 0} {defers : T → Option ℕ} {j : ℕ} {mem mem2 : Mem T} {m : State} {x : Extra} {c : Settle} {end : Settle × Settled T} {m2 : State} {x2 : Extra}
