@@ -8,6 +8,7 @@ use Rattle.seize_words.specs.declared.at.At.TheVariants.{Root, Slot}
 use Rattle.seize.specs.declared.states.TheConstants.{HEAD, ACTIVE}
 use Rattle.seize.specs.declared.rows.settle.Settle.{Settle}
 use Rattle.seize.specs.Settle.{retiring, flushing, counting_down}
+use Rattle.seize.specs.World.{HasListWord}
 use Rattle.seize_seats.specs.Lendings.{Shown}
 use Rattle.seize_seats.specs.State.{Allows, Turns}
 use Rattle.seize_shared.specs.Begun.{leaving, refreshes, IsBegun, Retires, Flushes, Makes}
@@ -111,8 +112,8 @@ module _ {T : Type 0} (defers : T → Option ℕ) (fixed : Fixed) (id : ℕ) (v 
   by_view : (w : View T) (op : Op T) → v ≡ w → Allows (Holds defers fixed) Keeps id w op (told defers w op) → MayMake op
   by_view w op is may = subst (λ (x : View T). Allows (Holds defers fixed) Keeps id x op (told defers x op)) (sym is) may
 
-  pub may_make : v ≡ Inside slot Nothing → (value : T) → defers value ≡ None → MayMake (Make value 0)
-  may_make is value list = by_view (Inside slot Nothing) (Make value 0) is (blocks_are_made T defers Nothing value 0 tt list fixed id slot)
+  pub may_make : v ≡ Inside slot Nothing → (value : T) (words : ℕ) → HasListWord defers (defers value) words → MayMake (Make value words)
+  may_make is value words list = by_view (Inside slot Nothing) (Make value words) is (blocks_are_made T defers Nothing value words tt list fixed id slot)
 
   pub may_take : (b : ℕ) → v ≡ Inside slot (Made b) → MayMake (Take b)
   may_take b is = by_view (Inside slot (Made b)) (Take b) is (made_are_taken T defers (Made b) b refl fixed id slot)
@@ -123,9 +124,9 @@ module _ {T : Type 0} (defers : T → Option ℕ) (fixed : Fixed) (id : ℕ) (v 
   is_looking a true = tt
   is_looking a false = tt
 
-  pub may_make_beside : (a : ℕ) → v ≡ Inside slot (seen_as a) → (value : T) → defers value ≡ None → MayMake (Make value 0)
-  may_make_beside a is value list =
-      by_view (Inside slot (seen_as a)) (Make value 0) is (blocks_are_made T defers (seen_as a) value 0 (is_looking a (a == 0)) list fixed id slot)
+  pub may_make_beside : (a : ℕ) → v ≡ Inside slot (seen_as a) → (value : T) (words : ℕ) → HasListWord defers (defers value) words → MayMake (Make value words)
+  may_make_beside a is value words list =
+      by_view (Inside slot (seen_as a)) (Make value words) is (blocks_are_made T defers (seen_as a) value words (is_looking a (a == 0)) list fixed id slot)
 
   has_made : (b a : ℕ) (y : Bool) → HasMade (if y then Made b else Both b a) b
   has_made b a true = refl

@@ -19,7 +19,6 @@ use Rattle.seize_rule.proofs.World.Values.{own_op_value}
 use Rattle.seize_alone.proofs.Histories.Reached.{Reached}
 use Rattle.seize_acts.proofs.Answers.{same_some}
 use Rattle.seize_seats.specs.State.{State, view_of, Goes}
-use Rattle.seize_bounds.specs.Bounds.{ArePlain}
 use Rattle.seize_shared.specs.Rows.{IsInHand, RootsNameLinked, Fits, Came, Holds, Keeps}
 use Rattle.seize_shared.specs.Told.{seen_in, cut_in, made_beside, told}
 use Rattle.seize_shared.specs.Promises.{HasMade, MadeAreLinked, MadeAreExchanged, RootsAreSeen, RootsAreCleared, RootsAreWithdrawn}
@@ -30,7 +29,7 @@ use Rattle.seize_shared.specs.declared.view.Has.TheVariants.{Nothing, Made, Seen
 use Rattle.seize_shared.specs.declared.view.Fixed.{Fixed}
 use Rattle.seize_shared.proofs.Lists.{there, elsewhere}
 use Rattle.seize_shared.proofs.Moved.{Passes}
-use Rattle.seize_shared.proofs.Steps.{came_then, reached, world_plain}
+use Rattle.seize_shared.proofs.Steps.{came_then, reached}
 use Rattle.seize_shared.proofs.Users.{apart_making, cutting_making, use_making, making_use, cutting_use, same_use}
 use Rattle.seize_shared.proofs.Users.{beside, making_not_held, passes_then, users, users_outside, users_owe}
 use Rattle.seize_shared.proofs.Written.{Wrote, Cuts, block_of_link, wrote, rooted_still, roots_now, fresh, root_can, unlinked, clears}
@@ -100,7 +99,6 @@ module _ {T : Type 0} (defers : T → Option ℕ) (fixed : Fixed) (s : State T (
         over = λ a c held. refl;
         roots = subst (λ (x : Mem T). RootsNameLinked x w.hand) (sym same) h.roots;
         rooted = ap (λ (x : Mem T). length x.roots) same ∙ h.rooted;
-        plain = world_plain defers fixed s id (Inside t had) h at;
         passes = λ j ne was now. ([], refl);
       }) so is
 
@@ -149,8 +147,7 @@ module _ {T : Type 0} (defers : T → Option ℕ) (fixed : Fixed) (s : State T (
         over = λ e c held. ap (λ (y : Bool). cond y false (is_over c w.log)) (ne_eqb c b (making_not_held defers fixed.batch_size w r id e b c held mine));
         roots = named;
         rooted = rooted_still defers fixed s id (Inside t had) h at a word old m wrote;
-        plain = wrote.plain;
-        passes = passes_then defers fixed s id t (record w { memory = m }) n (Links id b a) tt (λ j. tt) wrote.passes ((id, mine), refl) wrote.plain;
+        passes = passes_then defers fixed s id t (record w { memory = m }) n (Links id b a) tt (λ j. tt) wrote.passes ((id, mine), refl);
       }) named (λ c f. other c (world.InUse a) (use_making a id) f) was (fresh defers fixed s id (Inside t had) h at a word old m wrote was is_new)
     where
       new_block : (b a old : ℕ) → w.hand b ≡ world.Making id → (block_in old ≡ 0) ⊎ (w.hand (block_in old) ≡ world.InUse a) → (b ≡ 0) ⊎ (b ≢ 0)

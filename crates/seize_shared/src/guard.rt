@@ -98,9 +98,9 @@ impl<'r, 'a, T: Defers + Drop> LocalGuard<'r, 'a, T> {
         self.registration.stay.value()
     }
 
-    /// Puts a value at a root, and retires the one that was there. It comes back where there is no such root, or no number is free. The section is begun anew.
+    /// Puts a value at a root, and retires the one that was there. It comes back where there is no such root, or no block can be made of it. The section is
+    /// begun anew.
     pub fn put(&mut self, root: u64, value: T) -> Result<(), T>
-        requires plain { T.defers value ≡ None }
         ensures slot { self.new.registration.now.stay.slot ≡ self.old.registration.now.stay.slot }
         ensures inside { self.new.registration.now.stay.inside ≡ true }
         ensures fresh { self.new.registration.now.stay.seen ≡ 0 }
@@ -110,9 +110,8 @@ impl<'r, 'a, T: Defers + Drop> LocalGuard<'r, 'a, T> {
     }
 
     /// Puts a value at a root if what it has seen last is there, or nothing where it has seen nothing, and retires that. Else the value comes back, and it has
-    /// seen what is there. It comes back, too, where there is no such root, or no number is free.
+    /// seen what is there. It comes back, too, where there is no such root, or no block can be made of it.
     pub fn exchange(&mut self, root: u64, value: T) -> Result<(), T>
-        requires plain { T.defers value ≡ None }
         ensures slot { self.new.registration.now.stay.slot ≡ self.old.registration.now.stay.slot }
         ensures inside { self.new.registration.now.stay.inside ≡ self.old.registration.now.stay.inside }
     {
@@ -198,9 +197,9 @@ impl<'a, T: Defers + Drop> OwnedGuard<'a, T> {
         self.stay.value()
     }
 
-    /// Puts a value at a root, and retires the one that was there. It comes back where there is no such root, or no number is free. The section is begun anew.
+    /// Puts a value at a root, and retires the one that was there. It comes back where there is no such root, or no block can be made of it. The section is
+    /// begun anew.
     pub fn put(&mut self, root: u64, value: T) -> Result<(), T>
-        requires plain { T.defers value ≡ None }
         ensures slot { self.new.stay.slot ≡ self.old.stay.slot }
         ensures fresh { self.new.stay.seen ≡ 0 }
         ensures back { IfErr result (λ back. back ≡ value) }
@@ -209,9 +208,8 @@ impl<'a, T: Defers + Drop> OwnedGuard<'a, T> {
     }
 
     /// Puts a value at a root if what it has seen last is there, or nothing where it has seen nothing, and retires that. Else the value comes back, and it has
-    /// seen what is there. It comes back, too, where there is no such root, or no number is free.
+    /// seen what is there. It comes back, too, where there is no such root, or no block can be made of it.
     pub fn exchange(&mut self, root: u64, value: T) -> Result<(), T>
-        requires plain { T.defers value ≡ None }
         ensures slot { self.new.stay.slot ≡ self.old.stay.slot }
     {
         self.stay.exchanges(root, value)

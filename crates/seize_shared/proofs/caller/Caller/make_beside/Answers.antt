@@ -4,4 +4,4 @@ use Rattle.seize_shared.proofs.caller.Caller.make_beside.Goals as goal
 pub make-requires-clause-may : goal.make-requires-clause-may
 make-requires-clause-may g c =
     let x = c.args.self.now in
-    may_make_beside g.T.Defers.defers x.blocks.now.words.fixed x.seat.id x.seat.view c.args._slot c.args._seen c.requires.inside c.args.value c.requires.plain
+    may_make_beside g.T.Defers.defers x.blocks.now.words.fixed x.seat.id x.seat.view c.args._slot c.args._seen c.requires.inside c.args.value c.to-words.result c.to-words.ensures
