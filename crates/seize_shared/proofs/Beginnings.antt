@@ -1,8 +1,8 @@
 -- Rows begin and end, the rule starts, and seats come.
-use Rattle.std.specs.Prelude.{◌≢◌, ◌==◌, ◌-◌, Option, Some, None, replicate, slice_get, slice_index_or, if◌then◌else◌}
-use Rattle.std.proofs.Common.{◌≡◌, ℕ, zero, suc, Bool, true, false, [], ◌⊎◌, inl, inr, refl, sym, subst, ap, ◌∙◌}
+use Rattle.std.specs.Prelude.{◌≢◌, Option, Some, None, replicate, slice_get}
+use Rattle.std.proofs.Common.{◌≡◌, ℕ, zero, suc, false, [], ◌⊎◌, inl, inr, refl, sym, subst, ap, ◌∙◌}
 use Rattle.std.proofs.lemmas.List.{length-replicate}
-use Rattle.seize_words.specs.Mem.{Mem, Can, Took, value_in, value_at}
+use Rattle.seize_words.specs.Mem.{Mem, Can, Took, value_at}
 use Rattle.seize_words.specs.Plan.{Steps}
 use Rattle.seize_words.specs.Word.{block_in, link_to}
 use Rattle.seize_words.proofs.Plans.{steps_as}
