@@ -124,7 +124,7 @@ impl<'a, T: Defers> Caller<'a, T> {
             .store(&mut self.seat, At::Slot(slot, HEAD), FREE);
     }
 
-    /// Makes a block within the section of its slot, of a value that keeps no list. Where no number is free the value comes back.
+    /// Makes a block within the section of its slot, of a value that keeps no list. Where memory is refused the value comes back.
     pub fn make(&mut self, _slot: u64, value: T) -> Result<u64, T>
         requires inside { self.old.seat.view ≡ Inside _slot Nothing }
         requires plain { T.defers value ≡ None }
@@ -136,7 +136,7 @@ impl<'a, T: Defers> Caller<'a, T> {
         self.blocks.make(&mut self.seat, value, 0)
     }
 
-    /// Makes a block of a value that keeps no list, beside the one that it has seen, or none, which is 0. Where no number is free the value comes back.
+    /// Makes a block of a value that keeps no list, beside the one that it has seen, or none, which is 0. Where memory is refused the value comes back.
     pub fn make_beside(&mut self, _slot: u64, _seen: u64, value: T) -> Result<u64, T>
         requires inside { self.old.seat.view ≡ Inside _slot (seen_as _seen) }
         requires plain { T.defers value ≡ None }

@@ -100,7 +100,7 @@ impl<'a, T: Defers + Drop> Stay<'a, T> {
         }
     }
 
-    /// Puts a value at a root, and retires the one that was there. It comes back where there is no such root, or no number is free.
+    /// Puts a value at a root, and retires the one that was there. It comes back where there is no such root, or memory is refused.
     pub(crate) fn puts(&mut self, root: u64, value: T) -> Result<(), T>
         requires plain { T.defers value ≡ None }
         ensures slot { self.new.slot ≡ self.old.slot }
@@ -123,7 +123,7 @@ impl<'a, T: Defers + Drop> Stay<'a, T> {
     }
 
     /// Puts a value at a root if what was seen is there, or nothing where nothing was seen, and retires that. Else the value comes back, and what is there
-    /// was seen. It comes back, too, where there is no such root, no number is free, or no section is open.
+    /// was seen. It comes back, too, where there is no such root, memory is refused, or no section is open.
     pub(crate) fn exchanges(&mut self, root: u64, value: T) -> Result<(), T>
         requires plain { T.defers value ≡ None }
         ensures slot { self.new.slot ≡ self.old.slot }
