@@ -3,7 +3,7 @@ ghost use Rattle.std.specs.Prelude.{◌≡◌, None};
 
 use seize::rows::Defers;
 use seize_blocks::Blocks;
-use seize_shared::{Fixed, LocalGuard, OfRows, Registration};
+use seize_shared::{Fixed, Guard, LocalGuard, OfRows, Registration};
 
 /// How many roots there are.
 pub(crate) const ROOTS: u64 = 4;
