@@ -19,8 +19,7 @@ use seize::states::{ACTIVE, FREE, HEAD, IDLE, LAST_SLOT, NEVER};
 use seize_blocks::{Blocks, Seat};
 use seize_words::{At, Fault, Link};
 
-/// One of those who share the memory: a seat of it, with the memory. It is a memory for the rows that it has under way.
-#[derive(Drop)]
+/// One of those who share the memory: a seat of it, with the memory. It is a memory for the rows that it has under way. It may be let go where it holds no slot.
 pub struct Caller<'a, T: Defers> {
     pub(crate) blocks: &'a Blocks<T, OfRows>,
     pub(crate) batch_size: u64,
@@ -267,6 +266,18 @@ impl<'a, T: Defers> Caller<'a, T> {
     {
         let seat = &self.seat;
         self.blocks.value(seat, block)
+    }
+}
+
+impl<'a, T: Defers> Drop for Caller<'a, T> {
+    fn drop(self)
+        requires rests { self.seat.view ≡ Rests }
+    {
+        let Caller {
+            blocks: _,
+            batch_size: _,
+            seat: _,
+        } = self;
     }
 }
 
