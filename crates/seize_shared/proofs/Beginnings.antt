@@ -39,7 +39,8 @@ use Rattle.seize_shared.specs.declared.view.Fixed.{Fixed}
 use Rattle.seize_shared.proofs.Lists.{with_last, none_before}
 use Rattle.seize_shared.proofs.Aside.{alone_after}
 use Rattle.seize_shared.proofs.Moved.{moved, used_so}
-use Rattle.seize_shared.proofs.Steps.{alone, begun, came_then, stepped}
+use Rattle.seize_shared.proofs.Came.{came_then}
+use Rattle.seize_shared.proofs.Steps.{alone, begun, stepped}
 use Rattle.seize_shared.proofs.Operations.{used_as, slot_of, same_slot}
 use Rattle.seize_bounds.proofs.Settles.Within.{batches_are_tried}
 
@@ -118,7 +119,7 @@ module _ {T : Type 0} (defers : T → Option ℕ) (fixed : Fixed) where
       (λ s h. begun_fits id t (Frees t) (world.Frees record { slot = t }) s refl refl tt (λ w. tt)) (λ w. tt)
 
   -- the section ends, or the next one begins at once
-  leaves : (id t : ℕ) (has : Has) (way : Becomes) → Turns H Keeps id (Inside t has) (λ x. x ≡ Leaves t fixed.batch_size way)
+  leaves : (id t : ℕ) (has : Has T) (way : Becomes) → Turns H Keeps id (Inside t has) (λ x. x ≡ Leaves t fixed.batch_size way)
   leaves id t has Idle =
       let c : Leave = leave_of t fixed.batch_size Idle in
       begins_on id t (Inside t has) (Leaves t fixed.batch_size Idle) (world.Inside 0) (world.Leaves c) (Leave' t) refl refl refl refl (λ s e. (e, refl))
@@ -215,7 +216,7 @@ module _ {T : Type 0} (defers : T → Option ℕ) (fixed : Fixed) where
       (λ x a e. (resting way, mine ∙ ap (λ (k : ℕ). used_as k (resting way)) (slot_of (t, used_for (Retiring way)) (x, a) e))) k.1)
       (k.0, refl)
 
-  goes_free : (id t : ℕ) (has : Has) (u : View T) → IsFree fixed t u → Turns H Keeps id (Inside t has) (λ x. x ≡ u)
+  goes_free : (id t : ℕ) (has : Has T) (u : View T) → IsFree fixed t u → Turns H Keeps id (Inside t has) (λ x. x ≡ u)
   goes_free id t has u is = subst (λ (y : View T). Turns H Keeps id (Inside t has) (λ x. x ≡ y)) (sym is.1) (leaves id t has is.0)
 
   -- a slot is looked for
@@ -314,8 +315,8 @@ module _ {T : Type 0} (defers : T → Option ℕ) (fixed : Fixed) where
   turns id (Inside t Nothing) u is = goes_free id t Nothing u is
   turns id (Inside t (Seen b)) u is = goes_free id t (Seen b) u is
   turns id (Inside t (Cut b)) u is = absurd is
-  turns id (Inside t (Made b)) u is = absurd is
-  turns id (Inside t (Both b a)) u is = absurd is
+  turns id (Inside t (Made b x)) u is = absurd is
+  turns id (Inside t (Both b x a)) u is = absurd is
   turns id (Owes t b) u is = absurd is
   turns id (Settles c (Retiring way) seen left) u is = settled_ends id c way seen left u is.0 is.1
   turns id (Settles c (Ending size way) seen left) u is =
@@ -403,8 +404,8 @@ module _ (T : Type 0) (defers : T → Option ℕ) where
   settlings_begin fixed id (Inside t (Cut b)) Idle c is = absurd is
   settlings_begin fixed id (Inside t Nothing) Idle c is = absurd is
   settlings_begin fixed id (Inside t (Seen b)) Idle c is = absurd is
-  settlings_begin fixed id (Inside t (Made b)) way c is = absurd is
-  settlings_begin fixed id (Inside t (Both b a)) way c is = absurd is
+  settlings_begin fixed id (Inside t (Made b x)) way c is = absurd is
+  settlings_begin fixed id (Inside t (Both b x a)) way c is = absurd is
   settlings_begin fixed id (Owes t b) Active c is = absurd is
   settlings_begin fixed id (Outside t) Active c is = absurd is
   settlings_begin fixed id Rests way c is = absurd is

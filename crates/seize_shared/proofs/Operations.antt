@@ -30,7 +30,8 @@ use Rattle.seize_bounds.specs.Bounds.{IsAloneOnSlot}
 use Rattle.seize_bounds.proofs.Settles.Within.{lists_are_settled}
 use Rattle.seize_shared.proofs.Aside.{alone_after}
 use Rattle.seize_shared.proofs.Moved.{moved}
-use Rattle.seize_shared.proofs.Steps.{alone, came_then, step_of, stepped}
+use Rattle.seize_shared.proofs.Came.{came_then}
+use Rattle.seize_shared.proofs.Steps.{alone, step_of, stepped}
 
 -- the slot of one is that of the other
 pub slot_of : (p q : ℕ × Use) → Some p ≡ Some q → p.0 ≡ q.0

@@ -41,7 +41,8 @@ use Rattle.seize_shared.specs.declared.view.Why.TheVariants.{Retiring, Ending}
 use Rattle.seize_shared.specs.declared.view.Fixed.{Fixed}
 use Rattle.seize_bounds.proofs.Bounds.Passing.{steps_within}
 use Rattle.seize_shared.proofs.Moved.{moved}
-use Rattle.seize_shared.proofs.Steps.{reached, alone, step_of, stepped}
+use Rattle.seize_shared.proofs.Came.{reached}
+use Rattle.seize_shared.proofs.Steps.{alone, step_of, stepped}
 use Rattle.seize_shared.proofs.Operations.{may, used_as, slot_of}
 use Rattle.seize_shared.proofs.Reclaims.{may_settle}
 use Rattle.seize_shared.proofs.Looks.{rest_of, looked}

@@ -102,12 +102,16 @@ module _ {T : Type 0} where
   IsUsed w None = Unit {0}
   IsUsed w (Some slot) = w.uses slot.0 ≡ slot.1
 
+  -- this seat has made the block, of this value
+  abbrev pub IsMade : World T → ℕ → ℕ → T → Type 0
+  IsMade w j b x = (w.hand b ≡ world.Making j) × (value_at w.memory b ≡ Some x)
+
   -- what a seat within a section of this slot knows of a block
-  abbrev pub IsInHand : World T → ℕ → ℕ → Has → Type 0
+  abbrev pub IsInHand : World T → ℕ → ℕ → Has T → Type 0
   IsInHand w j t Nothing = Unit {0}
-  IsInHand w j t (Made b) = w.hand b ≡ world.Making j
+  IsInHand w j t (Made b x) = IsMade w j b x
   IsInHand w j t (Seen b) = holds t b w.log ≡ true
-  IsInHand w j t (Both b a) = (w.hand b ≡ world.Making j) × (holds t a w.log ≡ true)
+  IsInHand w j t (Both b x a) = IsMade w j b x × (holds t a w.log ≡ true)
   IsInHand w j t (Cut b) = w.hand b ≡ world.Cutting j
 
   -- the block that a settling is to look at is the one that it is about to reclaim, and has this value
@@ -157,4 +161,4 @@ module _ {T : Type 0} (defers : T → Option ℕ) (fixed : Fixed) where
 module _ {T : Type 0} where
   -- the section of a seat holds the block, which is not over
   abbrev pub Keeps : View T → View T → World T → ℕ → Type 0
-  Keeps u o w b = (t : ℕ) × (has : Has) × (u ≡ Inside t has) × (holds t b w.log ≡ true) × (is_over b w.log ≡ false)
+  Keeps u o w b = (t : ℕ) × (has : Has T) × (u ≡ Inside t has) × (holds t b w.log ≡ true) × (is_over b w.log ≡ false)

@@ -126,6 +126,7 @@ impl<'a, T: Defers + Drop> Stay<'a, T> {
     pub(crate) fn exchanges(&mut self, root: u64, value: T) -> Result<(), T>
         ensures slot { self.new.slot ≡ self.old.slot }
         ensures inside { self.new.inside ≡ self.old.inside }
+        ensures back { IfErr result (λ back. back ≡ value) }
     {
         if !self.inside || root >= self.roots {
             return Err(value);

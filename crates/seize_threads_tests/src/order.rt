@@ -73,18 +73,19 @@ fn puts(caller: &mut Caller<'_, Numbered>, slot: u64, numbers: &Table, place: us
 /// Within one section puts a value at the root for each place from 1 on, and one more, with a flush after each; answers how many came back before it left.
 fn retires(ground: &Ground<'_, Numbered>, numbers: &Table) -> Option<u64> {
     let mut caller = Caller::new(ground.blocks, SIZE);
-    let slot = caller.register().ok()?;
+    let Ok(slot) = caller.register() else {
+        return None;
+    };
     caller.enter(slot);
+    let mut there = true;
     for turn in 0..MANY + 1 {
-        if !puts(&mut caller, slot, numbers, turn + 1) {
-            return None;
-        }
+        there = puts(&mut caller, slot, numbers, turn + 1) && there;
         caller.flush(slot);
     }
     let early = at(numbers, 0);
     caller.leave(slot);
     caller.unregister(slot);
-    Some(early)
+    if there { Some(early) } else { None }
 }
 
 /// Takes the value from the root, if there is one, and retires it.
@@ -102,17 +103,18 @@ fn clears(caller: &mut Caller<'_, Numbered>, slot: u64)
 /// Within one section retires as many values as a batch has, without a flush; answers how many came back by its end.
 fn fills(ground: &Ground<'_, Numbered>, numbers: &Table) -> Option<u64> {
     let mut caller = Caller::new(ground.blocks, SIZE);
-    let slot = caller.register().ok()?;
+    let Ok(slot) = caller.register() else {
+        return None;
+    };
     caller.enter(slot);
+    let mut there = true;
     for turn in 0..SIZE as usize {
-        if !puts(&mut caller, slot, numbers, turn + 1) {
-            return None;
-        }
+        there = puts(&mut caller, slot, numbers, turn + 1) && there;
     }
     clears(&mut caller, slot);
     caller.leave(slot);
     caller.unregister(slot);
-    Some(at(numbers, 0))
+    if there { Some(at(numbers, 0)) } else { None }
 }
 
 /// Ends the section of a caller that was made elsewhere.
@@ -132,24 +134,28 @@ fn sends<R: Threads + Sync>(
     numbers: &Table,
 ) -> Option<(u64, u64)> {
     let mut caller = Caller::new(ground.blocks, SIZE);
-    let slot = caller.register().ok()?;
+    let Ok(slot) = caller.register() else {
+        return None;
+    };
     caller.enter(slot);
-    let early = fills(ground, numbers)?;
+    let early = fills(ground, numbers);
     thread::join(rt, move || leaves(caller, slot), || ());
-    Some((early, at(numbers, 0)))
+    Some((early?, at(numbers, 0)))
 }
 
 /// Is within a section while another one retires a batch, and refreshes it then; answers how many came back by the other one's end, and by the refresh.
 fn refreshes(ground: &Ground<'_, Numbered>, numbers: &Table) -> Option<(u64, u64)> {
     let mut caller = Caller::new(ground.blocks, SIZE);
-    let slot = caller.register().ok()?;
+    let Ok(slot) = caller.register() else {
+        return None;
+    };
     caller.enter(slot);
-    let early = fills(ground, numbers)?;
+    let early = fills(ground, numbers);
     caller.refresh(slot);
     let then = at(numbers, 0);
     caller.leave(slot);
     caller.unregister(slot);
-    Some((early, then))
+    Some((early?, then))
 }
 
 /// A memory of such values.
