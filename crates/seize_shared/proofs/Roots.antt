@@ -1,28 +1,25 @@
 -- Within a section a block is put at a root, whatever is there or in place of what was seen, seen there, and taken from there.
-use Rattle.std.specs.Prelude.{◌≢◌, ◌<◌, ◌==◌, Option, Some, IsSome, Ok, Err, length, slice_get, slice_set, if◌then◌else◌}
-use Rattle.std.proofs.Common.{◌≡◌, ℕ, zero, suc, List, [], ◌∷◌, Bool, true, false, cond, ◌⊎◌, inl, inr, refl, sym, subst, ap, ◌∙◌, arith}
+use Rattle.std.specs.Prelude.{◌≢◌, ◌==◌, Option, Some, Ok, Err, length, if◌then◌else◌}
+use Rattle.std.proofs.Common.{◌≡◌, ℕ, List, [], Bool, true, false, cond, ◌⊎◌, inl, inr, refl, sym, subst, ap, ◌∙◌}
 use Rattle.std.proofs.lemmas.Bool.{cases_eq, eq-eqb, ne_eqb}
-use Rattle.seize_words.specs.Mem.{Mem, Took, value_at, word_at, with_word}
+use Rattle.seize_words.specs.Mem.{Mem, Took, word_at}
 use Rattle.seize_words.specs.Word.{block_in, link_to}
-use Rattle.seize_words.specs.Op.{Op, Out, Load, Swap, Exchange, Found, Stored, Exchanged, Made as OutMade, Taken, Roomed}
+use Rattle.seize_words.specs.Op.{Out, Load, Swap, Exchange, Found, Stored, Exchanged, Made as OutMade, Taken, Roomed}
 use Rattle.seize_words.specs.declared.at.At.TheVariants.{Root}
-use Rattle.seize.specs.Law.{Effect, Linked, Unlinked, holds, is_over, is_open, reachable, is_somewhere}
+use Rattle.seize.specs.Law.{Effect, Linked, holds, is_over, is_open, reachable, is_somewhere}
 use Rattle.seize.specs.World.{World, Use, Hand, Operates, Links, Unlinks, MayCut, IsOwnOp, with_at, with_hand, with_effect}
 use Rattle.seize.specs.World as world
 use Rattle.seize_alone.proofs.Given.SeizeMoves.State.Ghost.{Life, IsLinked, emptied, place_of}
 use Rattle.seize_rule.proofs.Points.Aside.{HandFits}
 use Rattle.seize_alone.proofs.Given.SeizeMoves.State.Held.{held_on}
 use Rattle.seize_alone.proofs.Given.SeizeMoves.State.Logs.{reached_held}
-use Rattle.seize_rule.proofs.Rows.Others.{with_here, with_other}
+use Rattle.seize_rule.proofs.Rows.Others.{with_here}
 use Rattle.seize_rule.proofs.Rows.Teams.{UseFits}
-use Rattle.seize_rule.proofs.World.Values.{own_op_value}
 use Rattle.seize_alone.proofs.Histories.Reached.{Reached}
-use Rattle.seize_acts.proofs.Answers.{same_some}
 use Rattle.seize_seats.specs.State.{State, view_of, Goes}
-use Rattle.seize_bounds.specs.Bounds.{ArePlain}
 use Rattle.seize_shared.specs.Rows.{IsMade, IsInHand, RootsNameLinked, Fits, Came, Holds, Keeps}
 use Rattle.seize_shared.specs.Told.{seen_in, cut_in, made_beside, told}
-use Rattle.seize_shared.specs.Promises.{HasMade, MadeAreLinked, MadeAreExchanged, RootsAreSeen, RootsAreCleared, RootsAreWithdrawn}
+use Rattle.seize_shared.specs.Promises.{MadeAreLinked, MadeAreExchanged, RootsAreSeen, RootsAreCleared, RootsAreWithdrawn}
 use Rattle.seize_shared.specs.declared.view.View.{View}
 use Rattle.seize_shared.specs.declared.view.View.TheVariants.{Outside, Owes, Inside}
 use Rattle.seize_shared.specs.declared.view.Has.{Has}
@@ -31,7 +28,6 @@ use Rattle.seize_shared.specs.declared.view.Fixed.{Fixed}
 use Rattle.seize_shared.proofs.Lists.{there, elsewhere}
 use Rattle.seize_shared.proofs.Moved.{Passes}
 use Rattle.seize_shared.proofs.Came.{reached, came_then}
-use Rattle.seize_shared.proofs.Steps.{world_plain}
 use Rattle.seize_shared.proofs.Users.{apart_making, cutting_making, use_making, making_use, cutting_use, same_use}
 use Rattle.seize_shared.proofs.Users.{beside, making_not_held, passes_then, users, users_outside, users_owe}
 use Rattle.seize_shared.proofs.Written.{Wrote, Cuts, block_of_link, wrote, rooted_still, roots_now, fresh, root_can, unlinked, clears}
@@ -101,7 +97,6 @@ module _ {T : Type 0} (defers : T → Option ℕ) (fixed : Fixed) (s : State T (
         over = λ a c held. refl;
         roots = subst (λ (x : Mem T). RootsNameLinked x w.hand) (sym same) h.roots;
         rooted = ap (λ (x : Mem T). length x.roots) same ∙ h.rooted;
-        plain = world_plain defers fixed s id (Inside t had) h at;
         passes = λ j ne was now. ([], refl);
       }) so is
 
@@ -150,8 +145,7 @@ module _ {T : Type 0} (defers : T → Option ℕ) (fixed : Fixed) (s : State T (
         over = λ e c held. ap (λ (y : Bool). cond y false (is_over c w.log)) (ne_eqb c b (making_not_held defers fixed.batch_size w r id e b c held mine));
         roots = named;
         rooted = rooted_still defers fixed s id (Inside t had) h at a word old m wrote;
-        plain = wrote.plain;
-        passes = passes_then defers fixed s id t (record w { memory = m }) n (Links id b a) tt (λ j. tt) wrote.passes ((id, mine), refl) wrote.plain;
+        passes = passes_then defers fixed s id t (record w { memory = m }) n (Links id b a) tt (λ j. tt) wrote.passes ((id, mine), refl);
       }) named (λ c f. other c (world.InUse a) (use_making a id) f) was (fresh defers fixed s id (Inside t had) h at a word old m wrote was is_new)
     where
       new_block : (b a old : ℕ) → w.hand b ≡ world.Making id → (block_in old ≡ 0) ⊎ (w.hand (block_in old) ≡ world.InUse a) → (b ≡ 0) ⊎ (b ≢ 0)

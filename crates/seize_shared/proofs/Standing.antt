@@ -1,7 +1,7 @@
 -- What a seat knows that stands so.
 use Rattle.std.specs.Prelude.{Some, None, ◌==◌, if◌then◌else◌}
 use Rattle.std.proofs.Common.{◌≡◌, ℕ, Bool, true, false, inl, inr, refl, ap, sym, subst, ◌∙◌}
-use Rattle.std.proofs.lemmas.Bool.{eqb-false, ne_eqb, eq-eqb, cases_eq}
+use Rattle.std.proofs.lemmas.Bool.{eqb-false, ne_eqb, cases_eq}
 use Rattle.seize_acts.proofs.Answers.{same_some}
 use Rattle.seize_shared.specs.Standing.{standing}
 use Rattle.seize_shared.specs.Told.{seen_as}

@@ -11,6 +11,7 @@ use Rattle.seize.specs.declared.rows.settle.Settling.TheVariants as settling_at
 use Rattle.seize.specs.declared.rows.settle.Settle.{Settle}
 use Rattle.seize.specs.Register.{register_plan}
 use Rattle.seize.specs.Settle.{retiring, flushing, settle_plan}
+use Rattle.seize.specs.World.{HasListWord}
 use Rattle.seize_seats.specs.Lendings.{Shown, IsValueOf}
 use Rattle.seize_seats.specs.State.{Starts, Comes, Allows, Turns}
 use Rattle.seize_shared.specs.Begun.{IsBegun, left_with}
@@ -111,9 +112,9 @@ module _ (T : Type 0) (defers : T → Option ℕ) where
   abbrev pub MayInside : Has T → Op T → Type 0
   MayInside has op = (fixed : Fixed) (id t : ℕ) → Allows (Holds defers fixed) Keeps id (Inside t has) op (told defers (Inside t has) op)
 
-  -- a block of a value that keeps no list may be made by whoever has none in its hand, and taken away by whoever has made it
+  -- a block with the words that its value asks for may be made by whoever has none in its hand, and taken away by whoever has made it
   abbrev pub BlocksAreMade : Type 0
-  BlocksAreMade = (has : Has T) (value : T) (words : ℕ) → IsLooking has → defers value ≡ None → MayInside has (Make value words)
+  BlocksAreMade = (has : Has T) (value : T) (words : ℕ) → IsLooking has → HasListWord defers (defers value) words → MayInside has (Make value words)
 
   abbrev pub MadeAreTaken : Type 0
   MadeAreTaken = (has : Has T) (b : ℕ) → HasMade has b → MayInside has (Take b)
